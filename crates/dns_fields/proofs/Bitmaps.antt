@@ -1,0 +1,233 @@
+-- Octets are a bitmap of one set, and the minimal bitmap of a set is one of them.
+use Rattle.std.proofs.Common.{◌≡◌, ◌≢◌, ℕ, zero, suc, ◌+◌, ◌-◌, ◌*◌, ◌/◌, ◌%◌, ◌≤◌, ◌<◌, ◌^◌, ◌==◌, ◌&&◌, ◌||◌, Bool, true, false, cond, ◌⊎◌, inl, inr, ⊎_elim, List, [], ◌∷◌, ◌++◌, length, get_or, map, refl, sym, ap, ◌∙◌, arith, subst, append_assoc}
+use Rattle.std.specs.List.{flat_map, AllByRecursion, list_any, range_with_len}
+use Rattle.std.specs.Int.{bit_at}
+use Rattle.std.proofs.lemmas.List.{length-append}
+use Rattle.std.proofs.lemmas.List.FromFn.{get_or-map-range_with_len, length-map-range_with_len}
+use Rattle.std.proofs.lemmas.Nat.Bits.{bit_at_lowest, bit_at-zero, bit_at_cat_low, bit_at_cat_high}
+use Rattle.std.proofs.lemmas.Bool.Decides.{eqb_tells, nat_tests}
+use Rattle.dns_fields.specs.Bitmaps.{Block, block, IsBlock, has_type, contains, AllAbove, Rises, IsTypeSet, BitmapAt, BitmapWrote, packed, mark, keep, trimmed, types_octet, window, with_block, windows, minimal}
+use Rattle.dns_fields.proofs.Places.{At-same_end, At-appended, At-append}
+use Rattle.dns_fields.proofs.Pieces.{parts}
+
+-- ---- blocks are told by their octets
+
+first_block : (a b : Block) (x y : List ℕ) → block a ++ x ≡ block b ++ y → (a ≡ b) × (x ≡ y)
+first_block a b x y e =
+    let f : a.0 ∷ length a.1 ∷ (a.1 ++ x) ≡ b.0 ∷ length b.1 ∷ (b.1 ++ y) = e in
+    let k : a.0 ≡ b.0 = cc in
+    let n : length a.1 ≡ length b.1 = cc in
+    let t : a.1 ++ x ≡ b.1 ++ y = cc in
+    let h = parts a.1 x b.1 y n t in
+    (ap (λ (z : ℕ). (z, a.1)) k ∙ ap (λ (o : List ℕ). (b.0, o)) h.0, h.1)
+
+blocks_same : (a b : List Block) → flat_map block a ≡ flat_map block b → a ≡ b
+blocks_same [] [] e = refl
+blocks_same [] (b ∷ bs) e = let f : [] ≡ block b ++ flat_map block bs = e in absurd cc
+blocks_same (a ∷ as') [] e = let f : block a ++ flat_map block as' ≡ [] = e in absurd cc
+blocks_same (a ∷ as') (b ∷ bs) e =
+    let h = first_block a b (flat_map block as') (flat_map block bs) e in
+    ap (λ (z : Block). z ∷ as') h.0 ∙ ap (λ (zs : List Block). b ∷ zs) (blocks_same as' bs h.1)
+
+-- ---- a rising list is told by what it contains
+
+itself : (x : ℕ) → (x == x) ≡ true
+itself x = grind (arith, nat_tests)
+
+other : (x t : ℕ) → x ≢ t → (x == t) ≡ false
+other x t n = grind (arith, nat_tests)
+
+above_not : (n : ℕ) (xs : List ℕ) → AllAbove n xs → contains n xs ≡ false
+above_not n [] a = refl
+above_not n (x ∷ xs) a = let e : (x == n) ≡ false = other x n (let h = a.0 in λ q. omega (arith, q, h)) in rw e (above_not n xs a.1)
+
+less_above : (n k : ℕ) (xs : List ℕ) → n < k → AllAbove k xs → AllAbove n xs
+less_above n k [] l a = tt
+less_above n k (x ∷ xs) l a = (omega (arith, a.0), less_above n k xs l a.1)
+
+rising_tail : (x : ℕ) (xs ys : List ℕ) → AllAbove x xs → AllAbove x ys → ((t : ℕ) → contains t (x ∷ xs) ≡ contains t (x ∷ ys)) → (t : ℕ) → contains t xs ≡ contains t ys
+rising_tail x xs ys a b h t = elim (eqb_tells x t) [
+    inl e ↦ subst (λ (z : ℕ). contains z xs ≡ contains z ys) e.1 (above_not x xs a ∙ sym (above_not x ys b))
+  | inr e ↦ (let g : (x == t) || contains t xs ≡ (x == t) || contains t ys = h t in let n : (x == t) ≡ false = e.0 in let goal : contains t xs ≡ contains t ys = rw n at g in goal)
+  ]
+
+heads_equal : (x y : ℕ) (xs ys : List ℕ) → AllAbove x xs → AllAbove y ys → ((t : ℕ) → contains t (x ∷ xs) ≡ contains t (y ∷ ys)) → x < y → ⊥
+heads_equal x y xs ys a b h l =
+    let g : (x == x) || contains x xs ≡ contains x (y ∷ ys) = h x in
+    let no : contains x (y ∷ ys) ≡ false = above_not x (y ∷ ys) (l, less_above x y ys l b) in
+    let f : true ≡ contains x (y ∷ ys) = rw (itself x) at g in
+    let bad : true ≡ false = f ∙ no in
+    cc bad
+
+trichotomy : (x y : ℕ) → (x < y) ⊎ ((x ≡ y) ⊎ (y < x))
+trichotomy x y = elim (eqb_tells x y) [ inl e ↦ inr (inl e.1) | inr e ↦ apart x y e.1 ] where
+  apart : (x y : ℕ) → x ≢ y → (x < y) ⊎ ((x ≡ y) ⊎ (y < x))
+  apart x y n = grind arith
+
+rising_same : (a b : List ℕ) → Rises a → Rises b → ((t : ℕ) → contains t a ≡ contains t b) → a ≡ b
+rising_same [] [] f g h = refl
+rising_same [] (y ∷ ys) f g h = absurd (let e : false ≡ (y == y) || contains y ys = h y in let k : false ≡ true = rw (itself y) at e in cc k)
+rising_same (x ∷ xs) [] f g h = absurd (let e : (x == x) || contains x xs ≡ false = h x in let k : true ≡ false = rw (itself x) at e in cc k)
+rising_same (x ∷ xs) (y ∷ ys) f g h =
+    ⊎_elim (λ (l : x < y). absurd (heads_equal x y xs ys f.0 g.0 h l))
+      (λ s. ⊎_elim
+        (λ (e : x ≡ y).
+          let above : AllAbove x ys = subst (λ (z : ℕ). AllAbove z ys) (sym e) g.0 in
+          let k : (t : ℕ) → contains t (x ∷ xs) ≡ contains t (x ∷ ys) = subst (λ (z : ℕ). (t : ℕ) → contains t (x ∷ xs) ≡ contains t (z ∷ ys)) (sym e) h in
+          ap (λ (z : ℕ). z ∷ xs) e ∙ ap (λ (zs : List ℕ). y ∷ zs) (rising_same xs ys f.1 g.1 (rising_tail x xs ys f.0 above k)))
+        (λ (l : y < x). absurd (heads_equal y x ys xs g.0 f.0 (λ t. sym (h t)) l)) s)
+      (trichotomy x y)
+
+pub bitmap_same : {m : List ℕ} {p : ℕ} {v w : List ℕ} {q : ℕ} → BitmapAt m p v q → BitmapAt m p w q → v ≡ w
+bitmap_same {v = v} {w = w} f g =
+    let e : f.blocks ≡ g.blocks = blocks_same f.blocks g.blocks (At-same_end f.at g.at) in
+    rising_same v w f.set.rises g.set.rises (λ t. f.types t ∙ ap (list_any (has_type t)) e ∙ sym (g.types t))
+
+pub bitmap_append : {m : List ℕ} {p : ℕ} {v : List ℕ} {q : ℕ} (t : List ℕ) → BitmapAt m p v q → BitmapAt (m ++ t) p v q
+bitmap_append t f = record { blocks = f.blocks; at = At-append t f.at; fit = f.fit; set = f.set; types = f.types }
+
+-- ---- the minimal bitmap
+
+packed_small : (f : ℕ → ℕ) → ((b : ℕ) → f b < 2) → (n i : ℕ) → i < n → bit_at (packed f n) (n - 1 - i) ≡ f i
+packed_small f small zero i l = absurd (omega arith)
+packed_small f small (suc n) i l = elim (eqb_tells i n) [
+    inl e ↦ subst (λ (k : ℕ). bit_at (packed f (suc n)) (suc n - 1 - k) ≡ f k) (sym e.1) (
+      let z : suc n - 1 - n ≡ 0 = omega arith in
+      ap (bit_at (packed f (suc n))) z ∙ bit_at_cat_low (packed f n) 1 (f n) 0 (omega arith) ∙ bit_at_lowest (f n) ∙ last (f n) (small n))
+  | inr e ↦ (
+      let h = packed_small f small n i (below i n l e.1) in
+      let z : suc n - 1 - i ≡ suc (n - 1 - i) = place n i (below i n l e.1) in
+      let y : suc (n - 1 - i) - 1 ≡ n - 1 - i = omega arith in
+      let lt : f n < 2 ^ 1 = small n in
+      let some : 1 ≤ suc (n - 1 - i) = omega arith in
+      let goal : bit_at (packed f (suc n)) (suc n - 1 - i) ≡ f i = ap (bit_at (packed f (suc n))) z ∙ bit_at_cat_high (packed f n) 1 (f n) (suc (n - 1 - i)) lt some ∙ ap (bit_at (packed f n)) y ∙ h in goal)
+  ]
+  where
+    last : (n : ℕ) → n < 2 → n % 2 ≡ n
+    last n h = omega arith
+    below : (i n : ℕ) → i < suc n → i ≢ n → i < n
+    below i n l ne = grind arith
+    place : (n i : ℕ) → i < n → suc n - 1 - i ≡ suc (n - 1 - i)
+    place n i l = omega arith
+
+keep_get : (x : ℕ) (xs : List ℕ) (i : ℕ) → get_or (keep x xs) i 0 ≡ get_or (x ∷ xs) i 0
+keep_get zero [] zero = refl
+keep_get zero [] (suc i) = refl
+keep_get (suc n) [] i = refl
+keep_get x (y ∷ ys) i = refl
+
+trimmed_get : (xs : List ℕ) (i : ℕ) → get_or (trimmed xs) i 0 ≡ get_or xs i 0
+trimmed_get [] i = refl
+trimmed_get (x ∷ xs) zero = keep_get x (trimmed xs) zero
+trimmed_get (x ∷ xs) (suc i) = keep_get x (trimmed xs) (suc i) ∙ trimmed_get xs i
+
+keep_length : (x : ℕ) (xs : List ℕ) → length (keep x xs) ≤ suc (length xs)
+keep_length zero [] = omega arith
+keep_length (suc n) [] = omega arith
+keep_length x (y ∷ ys) = omega arith
+
+trimmed_length : (xs : List ℕ) → length (trimmed xs) ≤ length xs
+trimmed_length [] = omega arith
+trimmed_length (x ∷ xs) = omega (arith, keep_length x (trimmed xs), trimmed_length xs)
+
+mark_small : (v : List ℕ) (t : ℕ) → mark v t < 2
+unfolding mark
+mark_small v t = elim (contains t v) as (λ b. cond b 1 0 < 2) [ true ↦ omega arith | false ↦ omega arith ]
+
+mark_contains : (v : List ℕ) (t : ℕ) → (mark v t == 1) ≡ contains t v
+unfolding mark
+mark_contains v t = elim (contains t v) as (λ b. (cond b 1 0 == 1) ≡ b) [ true ↦ refl | false ↦ refl ]
+
+window_bit : (v : List ℕ) (t : ℕ) → bit_at (get_or (window v (t / 256)) (t % 256 / 8) 0) (7 - t % 8) ≡ mark v t
+unfolding window types_octet
+window_bit v t =
+    let j : ℕ = t % 256 / 8 in
+    let k : ℕ = t / 256 in
+    let f : ℕ → ℕ = λ b. mark v (256 * k + (8 * j + b)) in
+    let place : 256 * (t / 256) + (8 * (t % 256 / 8) + t % 8) ≡ t = omega arith in
+    let inside : t % 256 / 8 < 32 = omega arith in
+    let low : t % 8 < 8 = omega arith in
+    ap (λ (o : ℕ). bit_at o (7 - t % 8)) (trimmed_get (map (types_octet v k) (range_with_len 0 32)) j ∙ get_or-map-range_with_len (types_octet v k) 0 32 j j 0 inside (omega arith))
+    ∙ packed_small f (λ b. mark_small v (256 * k + (8 * j + b))) 8 (t % 8) low
+    ∙ ap (mark v) place
+
+-- the block of window k has a type exactly where the set has it and k is its window
+window_has : (v : List ℕ) (t k : ℕ) → has_type t (k, window v k) ≡ (t / 256 == k) && contains t v
+unfolding has_type
+window_has v t k = elim (eqb_tells (t / 256) k) [
+    inl e ↦ subst (λ (z : ℕ). (t / 256 == z) && (bit_at (get_or (window v z) (t % 256 / 8) 0) (7 - t % 8) == 1) ≡ (t / 256 == z) && contains t v) e.1
+      (ap (λ (b : ℕ). (t / 256 == t / 256) && (b == 1)) (window_bit v t) ∙ ap (λ (b : Bool). (t / 256 == t / 256) && b) (mark_contains v t))
+  | inr e ↦ (let n : (t / 256 == k) ≡ false = e.0 in rw n refl)
+  ]
+
+with_has : (t k : ℕ) (w : List ℕ) (bs : List Block) → list_any (has_type t) (with_block k w bs) ≡ has_type t (k, w) || list_any (has_type t) bs
+unfolding has_type
+with_has t k [] bs = let z : bit_at 0 (7 - t % 8) ≡ 0 = bit_at-zero (7 - t % 8) in
+    ap (λ (b : Bool). b || list_any (has_type t) bs) (sym (none (t / 256 == k)) ∙ ap (λ (n : ℕ). (t / 256 == k) && (n == 1)) (sym z))
+  where
+    none : (b : Bool) → b && false ≡ false
+    none true = refl
+    none false = refl
+with_has t k (x ∷ xs) bs = refl
+
+windows_have : (v : List ℕ) (t : ℕ) (ks : List ℕ) → list_any (has_type t) (windows v ks) ≡ list_any (λ k. t / 256 == k) ks && contains t v
+windows_have v t [] = refl
+windows_have v t (k ∷ ks) =
+    with_has t k (window v k) (windows v ks) ∙ ap (λ (b : Bool). b || list_any (has_type t) (windows v ks)) (window_has v t k) ∙ ap (λ (b : Bool). ((t / 256 == k) && contains t v) || b) (windows_have v t ks)
+    ∙ spread (t / 256 == k) (list_any (λ k. t / 256 == k) ks) (contains t v)
+  where
+    spread : (a b c : Bool) → (a && c) || (b && c) ≡ (a || b) && c
+    spread true true true = refl
+    spread true true false = refl
+    spread true false true = refl
+    spread true false false = refl
+    spread false true true = refl
+    spread false true false = refl
+    spread false false true = refl
+    spread false false false = refl
+
+in_range : (a n x : ℕ) → a ≤ x → x < a + n → list_any (λ k. x == k) (range_with_len a n) ≡ true
+in_range a zero x l h = absurd (omega arith)
+in_range a (suc n) x l h = elim (eqb_tells x a) [
+    inl e ↦ (let y : (x == a) ≡ true = e.0 in rw y refl)
+  | inr e ↦ (let y : (x == a) ≡ false = e.0 in let s : a + 1 ≤ x = after a x l e.1 in let k = in_range (a + 1) n x s (omega arith) in rw y k)
+  ]
+  where
+    after : (a x : ℕ) → a ≤ x → x ≢ a → a + 1 ≤ x
+    after a x l n = grind arith
+
+none_great : (v : List ℕ) (t : ℕ) → AllByRecursion (λ t. t < 65536) v → 65536 ≤ t → contains t v ≡ false
+none_great [] t a l = refl
+none_great (x ∷ xs) t a l = let e : (x == t) ≡ false = other x t (let h = a.0 in λ q. omega (arith, q, h)) in rw e (none_great xs t a.1 l)
+
+pub minimal_types : (v : List ℕ) → AllByRecursion (λ t. t < 65536) v → (t : ℕ) → contains t v ≡ list_any (has_type t) (minimal v)
+unfolding minimal
+minimal_types v a t = ⊎_elim
+    (λ (l : t < 65536). let inside : t / 256 < 256 = omega arith in sym (windows_have v t (range_with_len 0 256) ∙ ap (λ (b : Bool). b && contains t v) (in_range 0 256 (t / 256) (omega arith) inside)))
+    (λ (g : 65536 ≤ t). let n = none_great v t a g in n ∙ sym (windows_have v t (range_with_len 0 256) ∙ ap (λ (b : Bool). list_any (λ k. t / 256 == k) (range_with_len 0 256) && b) n ∙ none (list_any (λ k. t / 256 == k) (range_with_len 0 256))))
+    (either t)
+  where
+    none : (b : Bool) → b && false ≡ false
+    none true = refl
+    none false = refl
+    either : (t : ℕ) → (t < 65536) ⊎ (65536 ≤ t)
+    either t = grind arith
+
+with_fit : (k : ℕ) (w : List ℕ) (bs : List Block) → k < 256 → length w ≤ 32 → AllByRecursion IsBlock bs → AllByRecursion IsBlock (with_block k w bs)
+with_fit k [] bs l n h = h
+with_fit k (x ∷ xs) bs l n h = (record { number = l; some = omega arith; most = n }, h)
+
+window_short : (v : List ℕ) (k : ℕ) → length (window v k) ≤ 32
+unfolding window
+window_short v k = let n = length-map-range_with_len (types_octet v k) 0 32 in let h = trimmed_length (map (types_octet v k) (range_with_len 0 32)) in omega (arith, n, h)
+
+windows_fit : (v : List ℕ) (a n : ℕ) → a + n ≤ 256 → AllByRecursion IsBlock (windows v (range_with_len a n))
+windows_fit v a zero l = tt
+windows_fit v a (suc n) l = with_fit a (window v a) (windows v (range_with_len (a + 1) n)) (omega arith) (window_short v a) (windows_fit v (a + 1) n (omega arith))
+
+pub minimal_fit : (v : List ℕ) → AllByRecursion IsBlock (minimal v)
+unfolding minimal
+minimal_fit v = windows_fit v 0 256 (omega arith)
+
+pub minimal_stands : (m v : List ℕ) → IsTypeSet v → BitmapAt (m ++ flat_map block (minimal v)) (length m) v (length (m ++ flat_map block (minimal v)))
+minimal_stands m v s = record { blocks = minimal v; at = At-appended m (flat_map block (minimal v)); fit = minimal_fit v; set = s; types = minimal_types v s.numbers }

@@ -1,0 +1,14 @@
+pub mod Places
+pub mod Numbers
+pub mod Runs
+pub mod Unique
+pub mod Stays
+pub mod NameLaws
+pub mod Multisets
+pub mod Sorted
+pub mod Pieces
+pub mod OptionLaws
+pub mod ParameterLaws
+pub mod Bitmaps
+pub mod FieldLaws
+pub mod Laws

@@ -1,0 +1,14 @@
+use Rattle.dns_fields.proofs.Laws.{stands_law, canonical_law, canonical_stands, wrote_stands}
+use Rattle.dns_fields.proofs.fields_hold.Goals as goal
+
+pub returns-clause-stands : goal.returns-clause-stands
+returns-clause-stands c = stands_law
+
+pub returns-clause-canonical : goal.returns-clause-canonical
+returns-clause-canonical c = canonical_law
+
+pub returns-clause-reads : goal.returns-clause-reads
+returns-clause-reads c = canonical_stands
+
+pub returns-clause-written : goal.returns-clause-written
+returns-clause-written c = wrote_stands

@@ -1,0 +1,236 @@
+-- The grammar of record data: each type is a list of kinds of fields.
+use Rattle.std.specs.Prelude.{◌≡◌, true, ℕ, ◌+◌, ◌<◌, ◌≤◌, ◌^◌, List, [], ◌∷◌, ◌++◌, length}
+use Rattle.std.specs.List.{flat_map, AllByRecursion}
+use Rattle.std.specs.Int.{bytes_high_first}
+use Rattle.std.specs.Prelude.{◌-◌, ◌⊎◌, map}
+use Rattle.std.specs.List.Sorted.{IsPermutation}
+use Rattle.std.specs.Ordering.{nat_cmp}
+use Rattle.std.specs.Cmp.Lexicographic.{slice_cmp}
+use Rattle.dns_fields.specs.Octets.{At}
+use Rattle.dns_fields.specs.Sorting.{sorted}
+use Rattle.dns_fields.specs.declared.RDataEncoding.{RDataEncoding}
+use Rattle.dns_fields.specs.Labels.{DomainName, IsName, lowname}
+use Rattle.dns_fields.specs.Names.{IsNameIn, NameWrote, SameName}
+use Rattle.dns_fields.specs.Pieces.{string, Numbered, piece, pieces, ArePieces, AllHeld, as_piece, HoldThemselves, OptionValue, option_octets, OptionHeld, OptionFits, IsCut, ParameterValue, parameter_octets, ParameterHeld, ParameterFits, Rising}
+use Rattle.dns_fields.specs.Bitmaps.{block, IsTypeSet, BitmapAt, BitmapWrote, minimal}
+
+pub data Kind : Type 0 where
+  -- an unsigned number of so many octets, the highest first
+  Number : ℕ → Kind
+  -- so many octets
+  Octets : ℕ → Kind
+  -- a domain name
+  Name : Kind
+  -- a character string
+  Text : Kind
+  -- character strings to the end
+  Texts : Kind
+  -- every octet to the end
+  Rest : Kind
+  -- options of EDNS, the whole record
+  Options : Kind
+  -- parameters of service binding, to the end
+  Parameters : Kind
+  -- a set of type numbers, to the end
+  Bitmap : Kind
+
+-- what a field of this kind holds
+abbrev pub Value : Kind → Type 0
+Value (Number w) = ℕ
+Value (Octets n) = List ℕ
+Value Name = DomainName
+Value Text = List ℕ
+Value Texts = List (List ℕ)
+Value Rest = List ℕ
+Value Options = List (Numbered OptionValue)
+Value Parameters = List (Numbered ParameterValue)
+Value Bitmap = List ℕ
+
+abbrev pub Values : List Kind → Type 0
+Values [] = Unit {0}
+Values (k ∷ kinds) = Value k × Values kinds
+
+-- the pieces of options and of parameters, as they are written
+abbrev pub option_pieces : List (Numbered OptionValue) → List (Numbered (List ℕ))
+option_pieces v = map (as_piece option_octets) v
+
+abbrev pub parameter_pieces : List (Numbered ParameterValue) → List (Numbered (List ℕ))
+parameter_pieces v = map (as_piece parameter_octets) v
+
+-- the canonical octets of a field; those of options in rising order
+unfoldable pub field_octets : (k : Kind) → Value k → List ℕ
+field_octets (Number w) n = bytes_high_first w n
+field_octets (Octets n) s = s
+field_octets Name x = lowname x
+field_octets Text s = string s
+field_octets Texts ss = flat_map string ss
+field_octets Rest s = s
+field_octets Options v = flat_map (λ x. x) (sorted (slice_cmp nat_cmp) (map piece (option_pieces v)))
+field_octets Parameters v = pieces (parameter_pieces v)
+field_octets Bitmap v = flat_map block (minimal v)
+
+-- a field can hold the value
+abbrev pub Fits : (k : Kind) → Value k → Type 0
+Fits (Number w) n = n < 256 ^ w
+Fits (Octets n) s = length s ≡ n
+Fits Name x = IsName x
+Fits Text s = length s < 256
+Fits Texts ss = AllByRecursion (λ s. length s < 256) ss
+Fits Rest s = Unit {0}
+Fits Options v = AllByRecursion OptionFits v
+Fits Parameters v = AllByRecursion ParameterFits v × Rising v
+Fits Bitmap v = IsTypeSet v
+
+-- a value that a reader can give: one with no parts that only a caller can make
+abbrev pub Lawful : (k : Kind) → Value k → Type 0
+Lawful (Number w) n = Unit {0}
+Lawful (Octets n) s = Unit {0}
+Lawful Name x = Unit {0}
+Lawful Text s = Unit {0}
+Lawful Texts ss = Unit {0}
+Lawful Rest s = Unit {0}
+Lawful Options v = HoldThemselves OptionHeld option_octets v
+Lawful Parameters v = HoldThemselves ParameterHeld parameter_octets v
+Lawful Bitmap v = Unit {0}
+
+-- options from p to q that are all whole
+pub record WholeOptions (m : List ℕ) (p : ℕ) (v : List (Numbered OptionValue)) (q : ℕ) : Type 0 where
+  pub read : List (Numbered (List ℕ))
+  pub at : At m p (pieces read) q
+  pub fit : ArePieces read
+  pub held : AllHeld OptionHeld read v
+
+-- whole options and one that is cut, in a record of n octets
+pub record CutOptions (m : List ℕ) (n p q : ℕ) : Type 0 where
+  pub read : List (Numbered (List ℕ))
+  pub dropped : List (Numbered OptionValue)
+  pub stub : List ℕ
+  pub at : At m p (pieces read ++ stub) q
+  pub fit : ArePieces read
+  pub held : AllHeld OptionHeld read dropped
+  pub cut : IsCut n stub
+
+-- parameters from p to q, their keys strictly rising
+pub record ParametersAt (m : List ℕ) (p : ℕ) (v : List (Numbered ParameterValue)) (q : ℕ) : Type 0 where
+  pub read : List (Numbered (List ℕ))
+  pub at : At m p (pieces read) q
+  pub fit : ArePieces read
+  pub held : AllHeld ParameterHeld read v
+  pub rising : Rising v
+
+-- the value stands as a field of this kind from p to q
+abbrev pub field_is : List ℕ → ℕ → (k : Kind) → Value k → ℕ → Type 0
+field_is m p (Number w) n q = (n < 256 ^ w) × At m p (bytes_high_first w n) q
+field_is m p (Octets n) s q = (length s ≡ n) × At m p s q
+field_is m p Name x q = IsNameIn m p x q
+field_is m p Text s q = (length s < 256) × At m p (string s) q
+field_is m p Texts ss q = AllByRecursion (λ s. length s < 256) ss × At m p (flat_map string ss) q
+field_is m p Rest s q = At m p s q
+field_is m p Options v q = WholeOptions m p v q ⊎ ((v ≡ []) × CutOptions m (q - p) p q)
+field_is m p Parameters v q = ParametersAt m p v q
+field_is m p Bitmap v q = BitmapAt m p v q
+
+pub record Field (m : List ℕ) (p : ℕ) (k : Kind) (v : Value k) (q : ℕ) : Type 0 where
+  pub is : field_is m p k v q
+
+-- the values stand from p to e, each field between two neighbours
+abbrev pub Stands : List ℕ → ℕ → (kinds : List Kind) → Values kinds → ℕ → Type 0
+Stands m p [] vs e = p ≡ e
+Stands m p (k ∷ kinds) vs e = (q : ℕ) × Field m p k vs.0 q × Stands m q kinds vs.1 e
+
+-- the canonical octets
+abbrev pub canonical : (kinds : List Kind) → Values kinds → List ℕ
+canonical [] vs = []
+canonical (k ∷ kinds) vs = field_octets k vs.0 ++ canonical kinds vs.1
+
+abbrev pub AllFit : (kinds : List Kind) → Values kinds → Type 0
+AllFit [] vs = Unit {0}
+AllFit (k ∷ kinds) vs = Fits k vs.0 × AllFit kinds vs.1
+
+abbrev pub AllLawful : (kinds : List Kind) → Values kinds → Type 0
+AllLawful [] vs = Unit {0}
+AllLawful (k ∷ kinds) vs = Lawful k vs.0 × AllLawful kinds vs.1
+
+-- one field written behind the octets m leaves the octets m', names in this mode
+abbrev pub written_is : RDataEncoding → List ℕ → (k : Kind) → Value k → List ℕ → Type 0
+written_is mode m (Number w) n m' = (n < 256 ^ w) × (m' ≡ m ++ bytes_high_first w n)
+written_is mode m (Octets n) s m' = (length s ≡ n) × (m' ≡ m ++ s)
+written_is mode m Name x m' = NameWrote mode m x m'
+written_is mode m Text s m' = (length s < 256) × (m' ≡ m ++ string s)
+written_is mode m Texts ss m' = AllByRecursion (λ s. length s < 256) ss × (m' ≡ m ++ flat_map string ss)
+written_is mode m Rest s m' = m' ≡ m ++ s
+written_is mode m Options v m' = AllByRecursion OptionFits v × (m' ≡ m ++ pieces (option_pieces v))
+written_is mode m Parameters v m' = AllByRecursion ParameterFits v × Rising v × (m' ≡ m ++ pieces (parameter_pieces v))
+written_is mode m Bitmap v m' = BitmapWrote m v m'
+
+pub record WroteField (mode : RDataEncoding) (m : List ℕ) (k : Kind) (v : Value k) (m' : List ℕ) : Type 0 where
+  pub is : written_is mode m k v m'
+
+-- the fields written one behind the other
+abbrev pub Wrote : RDataEncoding → List ℕ → (kinds : List Kind) → Values kinds → List ℕ → Type 0
+Wrote mode m [] vs m' = m' ≡ m
+Wrote mode m (k ∷ kinds) vs m' = (between : List ℕ) × WroteField mode m k vs.0 between × Wrote mode between kinds vs.1 m'
+
+-- the same value: names but for ASCII case, options in any order
+abbrev pub same_is : (k : Kind) → Value k → Value k → Type 0
+same_is (Number w) a b = a ≡ b
+same_is (Octets n) a b = a ≡ b
+same_is Name a b = SameName a b
+same_is Text a b = a ≡ b
+same_is Texts a b = a ≡ b
+same_is Rest a b = a ≡ b
+same_is Options a b = IsPermutation a b
+same_is Parameters a b = a ≡ b
+same_is Bitmap a b = a ≡ b
+
+pub record SameField (k : Kind) (a b : Value k) : Type 0 where
+  pub is : same_is k a b
+
+abbrev pub Same : (kinds : List Kind) → Values kinds → Values kinds → Type 0
+Same [] a b = Unit {0}
+Same (k ∷ kinds) a b = SameField k a.0 b.0 × Same kinds a.1 b.1
+
+-- a field that says itself where it ends
+abbrev pub EndsItself : Kind → Type 0
+EndsItself (Number w) = Unit {0}
+EndsItself (Octets n) = Unit {0}
+EndsItself Name = Unit {0}
+EndsItself Text = Unit {0}
+EndsItself Texts = ⊥
+EndsItself Rest = ⊥
+EndsItself Options = ⊥
+EndsItself Parameters = ⊥
+EndsItself Bitmap = ⊥
+
+-- a field that is never written in more octets than its canonical ones
+abbrev pub IsMeasured : Kind → Type 0
+IsMeasured (Number w) = Unit {0}
+IsMeasured (Octets n) = Unit {0}
+IsMeasured Name = Unit {0}
+IsMeasured Text = Unit {0}
+IsMeasured Texts = Unit {0}
+IsMeasured Rest = Unit {0}
+IsMeasured Options = Unit {0}
+IsMeasured Parameters = Unit {0}
+IsMeasured Bitmap = ⊥
+
+abbrev pub AllMeasured : List Kind → Type 0
+AllMeasured [] = Unit {0}
+AllMeasured (k ∷ kinds) = IsMeasured k × AllMeasured kinds
+
+-- a name is fully qualified
+abbrev pub is_full : (k : Kind) → Value k → Type 0
+is_full (Number w) v = Unit {0}
+is_full (Octets n) v = Unit {0}
+is_full Name x = x.fully_qualified ≡ true
+is_full Text v = Unit {0}
+is_full Texts v = Unit {0}
+is_full Rest v = Unit {0}
+is_full Options v = Unit {0}
+is_full Parameters v = Unit {0}
+is_full Bitmap v = Unit {0}
+
+-- each name is fully qualified
+abbrev pub AllFull : (kinds : List Kind) → Values kinds → Type 0
+AllFull [] vs = Unit {0}
+AllFull (k ∷ kinds) vs = is_full k vs.0 × AllFull kinds vs.1

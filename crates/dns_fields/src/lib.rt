@@ -1,0 +1,28 @@
+//! The grammar of DNS record data.
+#![tactic(auto)]
+
+ghost use Rattle.dns_fields.specs.Laws.{StandsLaw, CanonicalLaw, CanonicalReads, WrittenReads};
+
+/// How domain names in record data are written.
+#[derive(Clone, Copy, Debug, PartialEq, Eq)]
+pub enum RDataEncoding {
+    /// As in the records of RFC 1035: a name may end by a pointer to an earlier one.
+    StandardRecord,
+    /// Whole, each with its own letters.
+    Canonical,
+    /// Whole, each with its own letters.
+    Other,
+}
+
+/// The laws of every list of kinds of fields.
+pub fn fields_hold()
+    // What stands at a place can be emitted and is one value.
+    ensures stands { StandsLaw }
+    // Equal values have equal canonical octets, and no others.
+    ensures canonical { CanonicalLaw }
+    // Canonical octets are read as an equal value.
+    ensures reads { CanonicalReads }
+    // What was written reads there as an equal value, behind any octets and in any mode.
+    ensures written { WrittenReads }
+{
+}
