@@ -44,12 +44,6 @@ pub record BitmapAt (m : List ℕ) (p : ℕ) (v : List ℕ) (q : ℕ) : Type 0 w
   pub set : IsTypeSet v
   pub types : (t : ℕ) → contains t v ≡ list_any (has_type t) blocks
 
--- octets behind m whose types are those of v
-pub record BitmapWrote (m : List ℕ) (v : List ℕ) (m' : List ℕ) : Type 0 where
-  pub tail : List ℕ
-  pub behind : m' ≡ m ++ tail
-  pub stands : BitmapAt m' (length m) v (length m')
-
 -- ---- the minimal bitmap
 
 -- the number whose n bits f gives, the highest first
