@@ -3,7 +3,7 @@ use Rattle.std.proofs.Common.{◌≡◌, ℕ, ◌+◌, ◌≤◌, ◌<◌, List,
 use Rattle.std.proofs.lemmas.List.{length-append, append-nil}
 use Rattle.dns_names_wire.specs.State.{Writing}
 use Rattle.dns_fields.specs.declared.RDataEncoding.{RDataEncoding}
-use Rattle.dns_fields.specs.Fields.{Kind, Value, Values, Wrote, WroteField, canonical, field_octets, Fits, AllFit}
+use Rattle.dns_fields.specs.Fields.{Kind, Octets, Rest, Value, Values, Wrote, WroteField, canonical, field_octets, Fits, AllFit}
 use Rattle.dns_names_wire.specs.Words.{AppendedField, Appended, Keeps, Extends, NoRoomField, NoRoom, UnfitField, Unfit, Because, StoppedField, Stopped, Emits, EmitsAs, EmitsField}
 use Rattle.dns_types.specs.declared.error.ProtoError.{ProtoError}
 use Rattle.dns_types.specs.declared.error.ProtoError.TheVariants as proto
@@ -54,6 +54,18 @@ stopped_first {e} s = record { extends = s.extends; why = because_map e _ _ _ _ 
 
 pub stopped_then : {e : ProtoError} {w b n : Writing} {k : Kind} {v : Value k} {kinds : List Kind} {vs : Values kinds} → AppendedField w k v b → Stopped e b kinds vs n → Stopped e w (k ∷ kinds) (v, vs) n
 stopped_then {e} f s = record { extends = extends_then f s.extends; why = because_map e _ _ _ _ (no_room_then f) unfit_then s.why }
+
+-- ---- a record of one field
+
+pub emits_one : (k : Kind) (v : Value k) (r : Result (Unit {0}) ProtoError) (old new : Writing) → EmitsField k v r old new → Emits (k ∷ []) (v, tt) r old new
+emits_one k v (Ok x) old new h = record { keeps = h.keeps; fields = (new.octets, h.field, refl) }
+emits_one k v (Err e) old new h = stopped_first h
+
+-- octets of a known number are octets
+pub octets_emit : (n : ℕ) (s : List ℕ) (r : Result (Unit {0}) ProtoError) (old new : Writing) → length s ≡ n → EmitsField Rest s r old new → EmitsField (Octets n) s r old new
+unfolding field_octets
+octets_emit n s (Ok x) old new e h = record { keeps = h.keeps; field = record { is = (e, h.field.is) } }
+octets_emit n s (Err e) old new l h = record { extends = h.extends; why = because_map e _ _ _ _ (λ r. record { full = r.full }) (λ u. record { unfit = λ _. u.unfit tt }) h.why }
 
 -- in another mode, and the earlier one put back
 in_mode : (kinds : List Kind) (vs : Values kinds) (mode : RDataEncoding) (r : Result (Unit {0}) ProtoError) (old new : Writing) → Emits kinds vs r (record old { mode = mode }) new → EmitsAs mode kinds vs r old (record new { mode = old.mode })

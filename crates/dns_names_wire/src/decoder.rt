@@ -130,6 +130,7 @@ impl<'a> BinDecoder<'a> {
         requires { 0 < step }
         ensures taken { IfOk result (λ octets. TookField self.old (Octets len) octets.now self.new) }
         ensures lacking { IfErr result (λ e. (e ≡ DecodeError.InsufficientBytes) × LacksOctets self.old len) }
+        ensures inside { self.old.index ≤ length self.old.message }
         ensures message { self.new.message ≡ self.old.message }
         ensures stopped { OnErr result (self.new.index ≡ self.old.index + (length self.old.message - self.old.index) / step * step) }
     {
