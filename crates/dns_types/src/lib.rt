@@ -5,8 +5,10 @@ pub mod error;
 pub mod octets;
 pub mod record_type;
 pub mod restrict;
+pub mod strings;
 
 pub use error::{AddrParseError, DecodeError, ParseError, ProtoError, ProtoResult};
 pub use octets::Octets;
 pub use record_type::RecordType;
 pub use restrict::Restrict;
+pub use strings::Strings;
