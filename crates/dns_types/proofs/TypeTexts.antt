@@ -1,5 +1,5 @@
 -- A text is read as one type at most: a name is no TYPE with a number, and each type has a name of its own.
-use Rattle.std.proofs.Common.{◌≡◌, ℕ, ◌==◌, ◌⊎◌, Bool, true, false, not, ◌&&◌, cond, IsTrue, List, [], ◌∷◌, ◌++◌, length, drop, find, unwrap_or, Option, Some, None, Result, Ok, Err, MatchOption, codes, decimal, refl, sym, ◌∙◌, ap, subst, inl, inr, arith, rules}
+use Rattle.std.proofs.Common.{◌≡◌, ℕ, ◌<◌, ◌^◌, ◌==◌, Bool, true, false, ◌&&◌, cond, List, [], ◌∷◌, ◌++◌, drop, find, Option, Some, None, Result, Ok, Err, MatchOption, codes, decimal, refl, sym, ◌∙◌, ap, subst, inl, inr, lit<, arith}
 use Rattle.std.specs.Cmp.Lexicographic.{pointwise, pointwise_decides}
 use Rattle.std.specs.Cmp.{unsigned_Decides}
 use Rattle.std.specs.Option.{ok_or}
@@ -8,7 +8,9 @@ use Rattle.dns_types.specs.declared.error.DecodeError.{DecodeError}
 use Rattle.dns_types.specs.declared.error.DecodeError.TheVariants.{UnknownRecordTypeStr}
 use Rattle.dns_types.specs.declared.record_type.RecordType.{RecordType}
 use Rattle.dns_types.specs.declared.record_type.RecordType.TheVariants.{Unknown}
-use Rattle.dns_types.specs.RecordTypes.{is_named, named_types, record_type_of, type_text, has_name, IsNameText, IsNumberText, IsTypeText, ReadsType}
+use Rattle.std.proofs.lemmas.Fmt.{decimal_is_IsNumeral, length-decimal-le}
+use Rattle.dns_types.proofs.RecordTypeLaws.{number_of-record_type_of}
+use Rattle.dns_types.specs.RecordTypes.{number_of, is_named, named_types, record_type_of, type_text, has_name, IsNameText, IsNumberText, IsTypeText, ReadsType, ReadsPrinted}
 
 -- what a first match is
 found_at : {X : Type 0} (p : X → Bool) (y x : X) (rest : Option X) (b : Bool) → p y ≡ b → (rest ≡ Some x → p x ≡ true) → cond b (Some y) rest ≡ Some x → p x ≡ true
@@ -67,3 +69,31 @@ reads_number text None e n = (refl, none)
     none : (u : RecordType) → ¬ (IsTypeText text u)
     none u (inl m) = let f = name_match text u m in let bad : ⊥ = cc in bad
     none u (inr m) = n u m
+
+-- what the type of a number prints is a text of that type
+printed_text : (n : ℕ) (t : RecordType) → n < 2 ^ 16 → t ≡ record_type_of n → IsTypeText (type_text t) t
+printed_text n (Unknown m) small e =
+    let same : m ≡ n = ap number_of e ∙ number_of-record_type_of n in
+    let below : m < 2 ^ 16 = omega arith in
+    let wide : m < 2 ^ 64 = omega arith in
+    let written = decimal_is_IsNumeral m wide in
+    let read : digits_value 10 (decimal m) ≡ n = written.1 ∙ same in
+    inr (record {
+      digits = decimal m;
+      spelled = refl;
+      numeral = written.0;
+      few = length-decimal-le 5 m (lit< tt) (omega arith) wide;
+      fits = rw written.1 below;
+      value = rw read e;
+    })
+printed_text n t small e = inl (record { named = refl; printed = refl })
+
+-- a text that is a type's is read as it
+pub reads_text : (text : List ℕ) (r : Result RecordType DecodeError) (t : RecordType) → ReadsType text r → IsTypeText text t → r ≡ Ok t
+reads_text text (Ok u) t reads is = ap Ok (sym (reads.1 t is))
+reads_text text (Err e) t reads is = absurd (reads.1 t is)
+
+pub reads_printed : (text : List ℕ) (r : Result RecordType DecodeError) → ReadsType text r → ReadsPrinted text r
+reads_printed text r reads n small e =
+    reads_text text r (record_type_of n) reads
+    (subst (λ s. IsTypeText s (record_type_of n)) (sym e) (printed_text n (record_type_of n) small refl))

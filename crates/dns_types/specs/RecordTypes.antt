@@ -1,5 +1,5 @@
 -- The types of records: their numbers, their order and their texts.
-use Rattle.std.specs.Prelude.{◌≡◌, ℕ, ◌+◌, ◌*◌, ◌^◌, ◌<◌, ◌≤◌, ◌==◌, ◌⊎◌, ◌&&◌, Bool, true, false, IsTrue, List, [], ◌∷◌, ◌++◌, length, find, unwrap_or, codes, decimal, Result, MatchResult}
+use Rattle.std.specs.Prelude.{◌≡◌, ℕ, ◌+◌, ◌*◌, ◌^◌, ◌<◌, ◌≤◌, ◌==◌, ◌⊎◌, ◌&&◌, Bool, true, false, IsTrue, List, [], ◌∷◌, ◌++◌, length, find, unwrap_or, codes, decimal, Result, Ok, MatchResult}
 use Rattle.std.specs.Cmp.Lexicographic.{pointwise}
 use Rattle.std.specs.Str.Parse.{IsNumeral, digits_value}
 use Rattle.dns_types.specs.declared.error.DecodeError.{DecodeError}
@@ -139,3 +139,7 @@ abbrev pub ReadsType : List ℕ → Result RecordType DecodeError → Type 0
 ReadsType text r = MatchResult r
     (λ t. IsTypeText text t × ((u : RecordType) → IsTypeText text u → u ≡ t))
     (λ e. (e ≡ UnknownRecordTypeStr) × ((u : RecordType) → ¬ (IsTypeText text u)))
+
+-- what the type of a number of 16 bits prints is read as that type
+abbrev pub ReadsPrinted : List ℕ → Result RecordType DecodeError → Type 0
+ReadsPrinted text r = (n : ℕ) → n < 2 ^ 16 → text ≡ type_text (record_type_of n) → r ≡ Ok (record_type_of n)

@@ -1,4 +1,5 @@
-//! Small types below the rest: types of records, errors, octets that a value owns.
+//! Small types below the rest of the workspace: types of records, errors, values that are still to be looked at, and
+//! octets that a value owns.
 #![tactic(auto)]
 
 pub mod error;
@@ -6,6 +7,8 @@ pub mod octets;
 pub mod record_type;
 pub mod restrict;
 pub mod strings;
+#[cfg(test)]
+mod tests;
 
 pub use error::{AddrParseError, DecodeError, ParseError, ProtoError, ProtoResult};
 pub use octets::Octets;

@@ -5,7 +5,7 @@ ghost use Rattle.std.specs.Cmp.{partial_order_from_agreeing_total, unsigned_ties
 ghost use Rattle.std.specs.Cmp.Rules.{comparing, hashing};
 ghost use Rattle.std.specs.Hash as fed;
 ghost use Rattle.std.proofs.Common.{rules};
-ghost use Rattle.dns_types.specs.RecordTypes.{number_of, record_type_of, code_of, is_named, type_text, has_name, named_types, IsNumberText, ReadsType};
+ghost use Rattle.dns_types.specs.RecordTypes.{number_of, record_type_of, code_of, is_named, type_text, has_name, named_types, IsNumberText, ReadsType, ReadsPrinted};
 
 use crate::error::DecodeError;
 use std::cmp::Ordering;
@@ -347,7 +347,7 @@ impl fmt::Display for RecordType {
 impl FromStr for RecordType {
     type Err = DecodeError;
 
-    ghost from_str_gives = { ReadsType };
+    ghost from_str_gives = { λ text r. ReadsType text r × ReadsPrinted text r };
 
     fn from_str(text: &str) -> Result<RecordType, DecodeError> {
         match named(text) {

@@ -1,4 +1,4 @@
-use Rattle.std.proofs.Common.{ℕ, ◌<◌, slice_index_or, Fits, w8, arith}
+use Rattle.std.proofs.Common.{◌<◌, slice_index_or, arith}
 use Rattle.std.proofs.lemmas.Grind.{get_or_default_zero}
 use Rattle.dns_types.proofs.octets.bounded.Goals as goal
 
