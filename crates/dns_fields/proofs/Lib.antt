@@ -12,3 +12,4 @@ pub mod ParameterLaws
 pub mod Bitmaps
 pub mod FieldLaws
 pub mod Laws
+pub mod EqualLaws
