@@ -13,3 +13,4 @@ pub mod Bitmaps
 pub mod FieldLaws
 pub mod Laws
 pub mod EqualLaws
+pub mod OctetLaws

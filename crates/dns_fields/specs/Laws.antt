@@ -4,6 +4,7 @@ use Rattle.dns_fields.specs.declared.RDataEncoding.{RDataEncoding}
 use Rattle.std.specs.Bool.{Decides}
 use Rattle.std.specs.Cmp.{IsEquivalence, IsTotalOrder}
 use Rattle.std.specs.Ordering.{is_eq}
+use Rattle.dns_fields.specs.Octets.{AreOctets}
 use Rattle.dns_fields.specs.Equal.{values_eq}
 use Rattle.dns_fields.specs.Order.{values_cmp}
 use Rattle.dns_fields.specs.Fields.{Kind, Values, Stands, canonical, AllFit, AllLawful, AllFull, Wrote, Same, EndsItself}
@@ -29,6 +30,10 @@ CanonicalReads = (s : List Kind) (a : Values s) → AllFit s a → AllLawful s a
 -- what was written is read as an equal value
 abbrev pub WrittenReads : Type 0
 WrittenReads = (mode : RDataEncoding) (m : List ℕ) (s : List Kind) (a : Values s) (m' : List ℕ) → AllLawful s a → Wrote mode m s a m' → (b : Values s) × Same s a b × Stands m' (length m) s b (length m')
+
+-- canonical octets of what stands in octets are octets
+abbrev pub OctetsLaw : Type 0
+OctetsLaw = (m : List ℕ) (p : ℕ) (s : List Kind) (a : Values s) (e : ℕ) → AreOctets m → Stands m p s a e → AreOctets (canonical s a)
 
 -- `==` tells whether values are the same, where their names are fully qualified, as those that stand are
 abbrev pub EqualLaw : Type 0

@@ -1,7 +1,7 @@
 //! The grammar of DNS record data.
 #![tactic(auto)]
 
-ghost use Rattle.dns_fields.specs.Laws.{StandsLaw, CanonicalLaw, CanonicalReads, WrittenReads, EqualLaw, EquivalenceLaw, OrderLaw, TiesLaw};
+ghost use Rattle.dns_fields.specs.Laws.{StandsLaw, CanonicalLaw, CanonicalReads, WrittenReads, OctetsLaw, EqualLaw, EquivalenceLaw, OrderLaw, TiesLaw};
 
 /// How domain names in record data are written.
 #[derive(Clone, Copy, Debug, PartialEq, Eq)]
@@ -24,6 +24,8 @@ pub fn fields_hold()
     ensures reads { CanonicalReads }
     // What was written reads there as an equal value, behind any octets and in any mode.
     ensures written { WrittenReads }
+    // Canonical octets of what stands in octets are octets.
+    ensures octets { OctetsLaw }
 {
 }
 
