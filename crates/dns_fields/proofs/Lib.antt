@@ -14,3 +14,4 @@ pub mod FieldLaws
 pub mod Laws
 pub mod EqualLaws
 pub mod OctetLaws
+pub mod Examples

@@ -72,7 +72,7 @@ AreOctets-flat_map f (x ∷ xs) a = AreOctets-append (f x) (flat_map f xs) a.0 (
 
 -- ---- names
 
-wire_octets : (labels : List (List ℕ)) → AreOctets (wire labels) → AllByRecursion AreOctets labels
+pub wire_octets : (labels : List (List ℕ)) → AreOctets (wire labels) → AllByRecursion AreOctets labels
 wire_octets [] a = tt
 wire_octets (label ∷ labels) a =
     let t = AreOctets-tail (length label) (label ++ wire labels) a in
@@ -82,7 +82,7 @@ both : (a b : List (List ℕ)) → AllByRecursion AreOctets a → AllByRecursion
 both [] b f g = g
 both (x ∷ a) b f g = (f.0, both a b f.1 g)
 
-labels_octets : {m : List ℕ} {p e : ℕ} {labels : List (List ℕ)} → AreOctets m → LabelsStand m p labels e → AllByRecursion AreOctets labels
+pub labels_octets : {m : List ℕ} {p e : ℕ} {labels : List (List ℕ)} → AreOctets m → LabelsStand m p labels e → AllByRecursion AreOctets labels
 labels_octets {m} {p} {e} {labels} a (whole b h s ends) =
     wire_octets labels (AreOctets-front (wire labels) (0 ∷ b) (AreOctets-same (drop p m) (wire labels ++ 0 ∷ b) s (AreOctets-drop p m a)))
 labels_octets {m} {p} {e} {labels} a (pointed f rest t re b h s lt lp st j ends) =
@@ -92,11 +92,11 @@ labels_octets {m} {p} {e} {labels} a (pointed f rest t re b h s lt lp st j ends)
 lower_octet : (c : ℕ) → c < 256 → to_ascii_lowercase c < 256
 lower_octet c h = grind (arith, nat_tests)
 
-lower_octets : (s : List ℕ) → AreOctets s → AreOctets (map to_ascii_lowercase s)
+pub lower_octets : (s : List ℕ) → AreOctets s → AreOctets (map to_ascii_lowercase s)
 lower_octets [] a = AreOctets-nil
 lower_octets (c ∷ s) a = AreOctets-cons (to_ascii_lowercase c) (map to_ascii_lowercase s) (lower_octet c (AreOctets-head c s a)) (lower_octets s (AreOctets-tail c s a))
 
-lowered_octets : (labels : List (List ℕ)) → AreLabels labels → AllByRecursion AreOctets labels → AreOctets (lowered labels)
+pub lowered_octets : (labels : List (List ℕ)) → AreLabels labels → AllByRecursion AreOctets labels → AreOctets (lowered labels)
 lowered_octets [] h a = AreOctets-cons 0 [] (omega arith) AreOctets-nil
 lowered_octets (label ∷ labels) h a =
     AreOctets-cons (length label) (map to_ascii_lowercase label ++ lowered labels) (omega (arith, h.0.1))
@@ -104,12 +104,12 @@ lowered_octets (label ∷ labels) h a =
 
 -- ---- pieces, options and parameters
 
-piece_octets : (x : Numbered (List ℕ)) → AreOctets x.1 → AreOctets (piece x)
+pub piece_octets : (x : Numbered (List ℕ)) → AreOctets x.1 → AreOctets (piece x)
 piece_octets x a =
     AreOctets-append (bytes_high_first 2 x.0) (bytes_high_first 2 (length x.1) ++ x.1) (AreOctets-number 2 x.0)
       (AreOctets-append (bytes_high_first 2 (length x.1)) x.1 (AreOctets-number 2 (length x.1)) a)
 
-piece_body : (x : Numbered (List ℕ)) → AreOctets (piece x) → AreOctets x.1
+pub piece_body : (x : Numbered (List ℕ)) → AreOctets (piece x) → AreOctets x.1
 piece_body x a = AreOctets-back (bytes_high_first 2 (length x.1)) x.1 (AreOctets-back (bytes_high_first 2 x.0) (bytes_high_first 2 (length x.1) ++ x.1) a)
 
 -- each value that pieces hold has octets, and so has its piece
@@ -138,7 +138,7 @@ body_octets d (Opaque s) h o = AreOctets-same d s h o
 joined_octets : (xs : List (List ℕ)) → AllByRecursion AreOctets xs → AreOctets (flat_map (λ (x : List ℕ). x) xs)
 joined_octets xs a = AreOctets-flat_map (λ (x : List ℕ). x) xs a
 
-pieces_octets : (xs : List (Numbered (List ℕ))) → AllByRecursion AreOctets (map piece xs) → AreOctets (pieces xs)
+pub pieces_octets : (xs : List (Numbered (List ℕ))) → AllByRecursion AreOctets (map piece xs) → AreOctets (pieces xs)
 pieces_octets [] a = AreOctets-nil
 pieces_octets (x ∷ xs) a = AreOctets-append (piece x) (pieces xs) a.0 (pieces_octets xs a.1)
 

@@ -9,3 +9,4 @@ pub mod Comparing
 pub mod Equal
 pub mod Order
 pub mod Laws
+pub mod Examples
