@@ -130,7 +130,7 @@ trimmed_length : (xs : List ℕ) → length (trimmed xs) ≤ length xs
 trimmed_length [] = omega arith
 trimmed_length (x ∷ xs) = omega (arith, keep_length x (trimmed xs), trimmed_length xs)
 
-mark_small : (v : List ℕ) (t : ℕ) → mark v t < 2
+pub mark_small : (v : List ℕ) (t : ℕ) → mark v t < 2
 unfolding mark
 mark_small v t = elim (contains t v) as (λ b. cond b 1 0 < 2) [ true ↦ omega arith | false ↦ omega arith ]
 

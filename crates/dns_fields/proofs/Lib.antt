@@ -12,3 +12,6 @@ pub mod ParameterLaws
 pub mod Bitmaps
 pub mod FieldLaws
 pub mod Laws
+pub mod EqualLaws
+pub mod OctetLaws
+pub mod Examples

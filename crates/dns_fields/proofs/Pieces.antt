@@ -25,7 +25,7 @@ heads_same c d l k x y p q r s e =
     let g = number_first l k x y r s h.1 in
     (h.0, g.0, g.1)
 
-piece_before : (x : Numbered (List ℕ)) (r : List ℕ) → piece x ++ r ≡ bytes_high_first 2 x.0 ++ (bytes_high_first 2 (length x.1) ++ (x.1 ++ r))
+pub piece_before : (x : Numbered (List ℕ)) (r : List ℕ) → piece x ++ r ≡ bytes_high_first 2 x.0 ++ (bytes_high_first 2 (length x.1) ++ (x.1 ++ r))
 piece_before x r = append_assoc (bytes_high_first 2 x.0) (bytes_high_first 2 (length x.1) ++ x.1) r ∙ ap (λ (l : List ℕ). bytes_high_first 2 x.0 ++ l) (append_assoc (bytes_high_first 2 (length x.1)) x.1 r)
 
 pub first_piece : (x y : Numbered (List ℕ)) (r s : List ℕ) → IsPiece x → IsPiece y → piece x ++ r ≡ piece y ++ s → (x ≡ y) × (r ≡ s)
@@ -37,7 +37,7 @@ first_piece x y r s f g e =
 pub length-piece : (x : Numbered (List ℕ)) → length (piece x) ≡ 4 + length x.1
 length-piece x = omega (arith, length-append (bytes_high_first 2 x.0) (bytes_high_first 2 (length x.1) ++ x.1), length-append (bytes_high_first 2 (length x.1)) x.1, length-bytes 2 x.0, length-bytes 2 (length x.1))
 
-no_piece : (x : Numbered (List ℕ)) (r : List ℕ) → [] ≡ piece x ++ r → ⊥
+pub no_piece : (x : Numbered (List ℕ)) (r : List ℕ) → [] ≡ piece x ++ r → ⊥
 no_piece x r e = let n : 0 ≡ length (piece x ++ r) = ap length e in omega (arith, n, length-append (piece x) r, length-piece x)
 
 pub pieces_same : (xs ys : List (Numbered (List ℕ))) → ArePieces xs → ArePieces ys → pieces xs ≡ pieces ys → xs ≡ ys

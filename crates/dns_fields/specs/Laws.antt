@@ -1,7 +1,13 @@
 -- What holds of every list of kinds.
 use Rattle.std.specs.Prelude.{◌≡◌, ◌↔◌, ℕ, List, [], ◌∷◌, ◌++◌, length}
 use Rattle.dns_fields.specs.declared.RDataEncoding.{RDataEncoding}
-use Rattle.dns_fields.specs.Fields.{Kind, Values, Stands, canonical, AllFit, AllLawful, Wrote, Same, EndsItself}
+use Rattle.std.specs.Bool.{Decides}
+use Rattle.std.specs.Cmp.{IsEquivalence, IsTotalOrder}
+use Rattle.std.specs.Ordering.{is_eq}
+use Rattle.dns_fields.specs.Octets.{AreOctets}
+use Rattle.dns_fields.specs.Equal.{values_eq}
+use Rattle.dns_fields.specs.Order.{values_cmp}
+use Rattle.dns_fields.specs.Fields.{Kind, Values, Stands, canonical, AllFit, AllLawful, AllFull, Wrote, Same, EndsItself}
 
 -- each field but the last says where it ends
 abbrev pub IsShape : List Kind → Type 0
@@ -24,3 +30,23 @@ CanonicalReads = (s : List Kind) (a : Values s) → AllFit s a → AllLawful s a
 -- what was written is read as an equal value
 abbrev pub WrittenReads : Type 0
 WrittenReads = (mode : RDataEncoding) (m : List ℕ) (s : List Kind) (a : Values s) (m' : List ℕ) → AllLawful s a → Wrote mode m s a m' → (b : Values s) × Same s a b × Stands m' (length m) s b (length m')
+
+-- canonical octets of what stands in octets are octets
+abbrev pub OctetsLaw : Type 0
+OctetsLaw = (m : List ℕ) (p : ℕ) (s : List Kind) (a : Values s) (e : ℕ) → AreOctets m → Stands m p s a e → AreOctets (canonical s a)
+
+-- `==` tells whether values are the same, where their names are fully qualified, as those that stand are
+abbrev pub EqualLaw : Type 0
+EqualLaw = (s : List Kind) (a b : Values s) → AllFull s a → AllFull s b → Decides (values_eq s a b) (Same s a b)
+
+-- `==` is an equivalence, also of values with relative names
+abbrev pub EquivalenceLaw : Type 0
+EquivalenceLaw = (s : List Kind) → IsEquivalence (values_eq s)
+
+-- the order is total
+abbrev pub OrderLaw : Type 0
+OrderLaw = (s : List Kind) → IsTotalOrder (values_cmp s)
+
+-- the order answers Equal exactly where `==` holds
+abbrev pub TiesLaw : Type 0
+TiesLaw = (s : List Kind) (a b : Values s) → values_eq s a b ≡ is_eq (values_cmp s a b)

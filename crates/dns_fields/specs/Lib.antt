@@ -5,4 +5,8 @@ pub mod Sorting
 pub mod Pieces
 pub mod Bitmaps
 pub mod Fields
+pub mod Comparing
+pub mod Equal
+pub mod Order
 pub mod Laws
+pub mod Examples

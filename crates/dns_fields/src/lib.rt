@@ -1,7 +1,7 @@
 //! The grammar of DNS record data.
 #![tactic(auto)]
 
-ghost use Rattle.dns_fields.specs.Laws.{StandsLaw, CanonicalLaw, CanonicalReads, WrittenReads};
+ghost use Rattle.dns_fields.specs.Laws.{StandsLaw, CanonicalLaw, CanonicalReads, WrittenReads, OctetsLaw, EqualLaw, EquivalenceLaw, OrderLaw, TiesLaw};
 
 /// How domain names in record data are written.
 #[derive(Clone, Copy, Debug, PartialEq, Eq)]
@@ -24,5 +24,20 @@ pub fn fields_hold()
     ensures reads { CanonicalReads }
     // What was written reads there as an equal value, behind any octets and in any mode.
     ensures written { WrittenReads }
+    // Canonical octets of what stands in octets are octets.
+    ensures octets { OctetsLaw }
+{
+}
+
+/// The laws of equality and order of every list of kinds of fields.
+pub fn comparing_holds()
+    // `==` tells whether values are the same, where their names are fully qualified.
+    ensures equal { EqualLaw }
+    // `==` is an equivalence.
+    ensures equivalence { EquivalenceLaw }
+    // The order is total.
+    ensures order { OrderLaw }
+    // The order answers `Equal` exactly where `==` holds.
+    ensures ties { TiesLaw }
 {
 }

@@ -1,4 +1,5 @@
 use Rattle.dns_fields.proofs.Laws.{stands_law, canonical_law, canonical_stands, wrote_stands}
+use Rattle.dns_fields.proofs.OctetLaws.{canonical_octets_are}
 use Rattle.dns_fields.proofs.fields_hold.Goals as goal
 
 pub returns-clause-stands : goal.returns-clause-stands
@@ -12,3 +13,6 @@ returns-clause-reads c = canonical_stands
 
 pub returns-clause-written : goal.returns-clause-written
 returns-clause-written c = wrote_stands
+
+pub returns-clause-octets : goal.returns-clause-octets
+returns-clause-octets c = canonical_octets_are

@@ -1,0 +1,118 @@
+-- `==` of fields tells whether they are the same.
+use Rattle.std.proofs.Common.{◌≡◌, ℕ, zero, suc, ◌↔◌, Bool, true, ◌&&◌, List, [], ◌∷◌, map, nat_eq, refl, sym, ap, ◌∙◌, subst}
+use Rattle.std.specs.Bool.{Decides}
+use Rattle.std.specs.Cmp.{unsigned_Decides, booleans_Decides}
+use Rattle.std.specs.Cmp.Lexicographic.{pointwise, pointwise_decides}
+use Rattle.std.specs.FinMap.{IsAntisymmetric, nat_cmp-IsAntisymmetric, slice_cmp-IsAntisymmetric}
+use Rattle.std.specs.List.Sorted.{IsPermutation}
+use Rattle.std.proofs.lemmas.Bool.Decides.{Decides-and}
+use Rattle.std.proofs.lemmas.List.Sorted.{IsPermutation-map}
+use Rattle.dns_fields.specs.Labels.{lowname}
+use Rattle.dns_fields.specs.Pieces.{Numbered, OptionValue, Subnet, Plain, ParameterValue, Mandatory, Alpn, NoDefaultAlpn, Port, Ipv4Hint, Ipv6Hint, Opaque}
+use Rattle.dns_fields.specs.Fields.{Kind, Number, Octets, Name, Text, Texts, Rest, Options, Parameters, Bitmap, Value, Values, SameField, Same, is_full, AllFull}
+use Rattle.dns_fields.specs.Equal.{Key, key_eq, key_cmp, option_key_of, option_key, option_keys, parameter_key_of, parameter_key, parameter_keys, kind_eq, values_eq}
+use Rattle.dns_fields.specs.Order.{key_total}
+use Rattle.dns_fields.specs.Laws.{EqualLaw}
+use Rattle.dns_fields.proofs.Sorted.{sorted_one, sorted_apart}
+use Rattle.dns_fields.proofs.Laws.{values_refl}
+
+-- ---- a key tells its pair: the pair is read back
+
+option_value : ℕ → List (List ℕ) → OptionValue
+option_value zero ((family ∷ source ∷ scope ∷ []) ∷ address ∷ []) = Subnet family source scope address
+option_value (suc n) (s ∷ []) = Plain s
+option_value n content = Plain []
+
+option_of : Key → Numbered OptionValue
+option_of ((code ∷ variant ∷ []) ∷ content) = (code, option_value variant content)
+option_of key = (0, Plain [])
+
+option_back : (code : ℕ) (v : OptionValue) → option_of (option_key_of code v) ≡ (code, v)
+unfolding option_value option_of
+option_back code (Subnet family source scope address) = refl
+option_back code (Plain s) = refl
+
+parameter_value : ℕ → List (List ℕ) → ParameterValue
+parameter_value zero (keys ∷ []) = Mandatory keys
+parameter_value (suc zero) names = Alpn names
+parameter_value (suc (suc zero)) content = NoDefaultAlpn
+parameter_value (suc (suc (suc zero))) ((n ∷ []) ∷ []) = Port n
+parameter_value (suc (suc (suc (suc zero)))) addresses = Ipv4Hint addresses
+parameter_value (suc (suc (suc (suc (suc zero))))) addresses = Ipv6Hint addresses
+parameter_value (suc (suc (suc (suc (suc (suc n)))))) (s ∷ []) = Opaque s
+parameter_value n content = NoDefaultAlpn
+
+parameter_of : Key → Numbered ParameterValue
+parameter_of ((key ∷ variant ∷ []) ∷ content) = (key, parameter_value variant content)
+parameter_of key = (0, NoDefaultAlpn)
+
+parameter_back : (key : ℕ) (v : ParameterValue) → parameter_of (parameter_key_of key v) ≡ (key, v)
+unfolding parameter_value parameter_of
+parameter_back key (Mandatory keys) = refl
+parameter_back key (Alpn names) = refl
+parameter_back key NoDefaultAlpn = refl
+parameter_back key (Port n) = refl
+parameter_back key (Ipv4Hint addresses) = refl
+parameter_back key (Ipv6Hint addresses) = refl
+parameter_back key (Opaque s) = refl
+
+map_back : {X Y : Type 0} (f : X → Y) (g : Y → X) → ((x : X) → g (f x) ≡ x) → (xs : List X) → map g (map f xs) ≡ xs
+map_back f g back [] = refl
+map_back {X} f g back (x ∷ xs) = ap (λ (z : X). z ∷ map g (map f xs)) (back x) ∙ ap (λ (zs : List X). x ∷ zs) (map_back f g back xs)
+
+options_back : (v : List (Numbered OptionValue)) → map option_of (map option_key v) ≡ v
+options_back v = map_back option_key option_of (λ x. option_back x.0 x.1) v
+
+-- two keys tie only where they are one
+key_same : IsAntisymmetric key_cmp
+key_same = slice_cmp-IsAntisymmetric (slice_cmp-IsAntisymmetric nat_cmp-IsAntisymmetric)
+
+keys_decide : (a b : List Key) → Decides (pointwise key_eq a b) (a ≡ b)
+keys_decide a b = pointwise_decides (pointwise_decides (pointwise_decides unsigned_Decides)) a b
+
+-- options have the same sorted keys exactly where they are permutations
+pub options_decide : (a b : List (Numbered OptionValue)) → (option_keys a ≡ option_keys b) ↔ IsPermutation a b
+options_decide a b =
+    (λ e.
+      let keys : IsPermutation (map option_key a) (map option_key b) = sorted_apart key_cmp (map option_key a) (map option_key b) e in
+      let back : IsPermutation (map option_of (map option_key a)) (map option_of (map option_key b)) = IsPermutation-map option_of (map option_key a) (map option_key b) keys in
+      subst (λ (v : List (Numbered OptionValue)). IsPermutation v b) (options_back a) (subst (λ (v : List (Numbered OptionValue)). IsPermutation (map option_of (map option_key a)) v) (options_back b) back),
+     λ h. sorted_one key_cmp key_total key_same (map option_key a) (map option_key b) (IsPermutation-map option_key a b h))
+
+pub parameters_decide : (a b : List (Numbered ParameterValue)) → (parameter_keys a ≡ parameter_keys b) ↔ (a ≡ b)
+parameters_decide a b =
+    let back = map_back parameter_key parameter_of (λ x. parameter_back x.0 x.1) in
+    (λ e. sym (back a) ∙ ap (map parameter_of) e ∙ back b, λ e. ap parameter_keys e)
+
+-- ---- one field, and all
+
+octets_decide : (a b : List ℕ) → Decides (pointwise nat_eq a b) (a ≡ b)
+octets_decide a b = pointwise_decides unsigned_Decides a b
+
+pub field_decide : (k : Kind) (a b : Value k) → is_full k a → is_full k b → Decides (kind_eq k a b) (SameField k a b)
+field_decide (Number w) a b f g = let d = unsigned_Decides a b in (λ h. record { is = d.0 h }, λ s. d.1 s.is)
+field_decide (Octets n) a b f g = let d = octets_decide a b in (λ h. record { is = d.0 h }, λ s. d.1 s.is)
+field_decide Name a b f g =
+    let d = Decides-and _ _ (octets_decide (lowname a) (lowname b)) (booleans_Decides a.fully_qualified b.fully_qualified) in
+    (λ h. record { is = record { low = (d.0 h).0 } }, λ s. d.1 (s.is.low, f ∙ sym g))
+field_decide Text a b f g = let d = octets_decide a b in (λ h. record { is = d.0 h }, λ s. d.1 s.is)
+field_decide Texts a b f g = let d = pointwise_decides octets_decide a b in (λ h. record { is = d.0 h }, λ s. d.1 s.is)
+field_decide Rest a b f g = let d = octets_decide a b in (λ h. record { is = d.0 h }, λ s. d.1 s.is)
+field_decide Options a b f g =
+    let d = keys_decide (option_keys a) (option_keys b) in
+    let o = options_decide a b in
+    (λ h. record { is = o.0 (d.0 h) }, λ s. d.1 (o.1 s.is))
+field_decide Parameters a b f g =
+    let d = keys_decide (parameter_keys a) (parameter_keys b) in
+    let o = parameters_decide a b in
+    (λ h. record { is = o.0 (d.0 h) }, λ s. d.1 (o.1 s.is))
+field_decide Bitmap a b f g = let d = octets_decide a b in (λ h. record { is = d.0 h }, λ s. d.1 s.is)
+
+-- values whose names are fully qualified are equal exactly where they are the same
+pub values_decide : EqualLaw
+values_decide [] a b f g = (λ h. tt, λ s. refl)
+values_decide (k ∷ s) a b f g = Decides-and _ _ (field_decide k a.0 b.0 f.0 g.0) (values_decide s a.1 b.1 f.1 g.1)
+
+-- what is one value is the same
+pub values_same : (s : List Kind) (a b : Values s) → a ≡ b → Same s a b
+values_same s a b e = subst (λ (v : Values s). Same s a v) e (values_refl s a)

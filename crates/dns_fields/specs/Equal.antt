@@ -1,0 +1,83 @@
+-- When fields are equal: the test, and that it is an equivalence.
+use Rattle.std.specs.Prelude.{ℕ, Bool, true, ◌&&◌, List, [], ◌∷◌, map, nat_eq}
+use Rattle.std.specs.Cmp.{IsEquivalence, and_equiv, on_equiv, bool_eq_equiv, nat_eq_equiv}
+use Rattle.std.specs.Cmp.Derive.{point_equiv}
+use Rattle.std.specs.Cmp.Lexicographic.{pointwise, slice_cmp, lists_equiv, nat_list_eq_equiv, on_texts_equal}
+use Rattle.std.specs.Ordering.{nat_cmp}
+use Rattle.std.specs.declared.cmp.Ordering.{Ordering}
+use Rattle.dns_fields.specs.Sorting.{sorted}
+use Rattle.dns_fields.specs.Labels.{DomainName, lowname}
+use Rattle.dns_fields.specs.Pieces.{Numbered, OptionValue, Subnet, Plain, ParameterValue, Mandatory, Alpn, NoDefaultAlpn, Port, Ipv4Hint, Ipv6Hint, Opaque}
+use Rattle.dns_fields.specs.Comparing.{name_eq, is_qualified}
+use Rattle.dns_fields.specs.Fields.{Kind, Number, Octets, Name, Text, Texts, Rest, Options, Parameters, Bitmap, Value, Values}
+
+-- a pair as lists of numbers: its number and what its value is, and then what the value holds
+abbrev pub Key : Type 0
+Key = List (List ℕ)
+
+abbrev pub key_eq : Key → Key → Bool
+key_eq = pointwise (pointwise nat_eq)
+
+abbrev pub key_cmp : Key → Key → Ordering
+key_cmp = slice_cmp (slice_cmp nat_cmp)
+
+abbrev pub option_key_of : ℕ → OptionValue → Key
+option_key_of code (Subnet family source scope address) = (code ∷ 0 ∷ []) ∷ (family ∷ source ∷ scope ∷ []) ∷ address ∷ []
+option_key_of code (Plain s) = (code ∷ 1 ∷ []) ∷ s ∷ []
+
+abbrev pub option_key : Numbered OptionValue → Key
+option_key x = option_key_of x.0 x.1
+
+abbrev pub parameter_key_of : ℕ → ParameterValue → Key
+parameter_key_of key (Mandatory keys) = (key ∷ 0 ∷ []) ∷ keys ∷ []
+parameter_key_of key (Alpn names) = (key ∷ 1 ∷ []) ∷ names
+parameter_key_of key NoDefaultAlpn = (key ∷ 2 ∷ []) ∷ []
+parameter_key_of key (Port n) = (key ∷ 3 ∷ []) ∷ (n ∷ []) ∷ []
+parameter_key_of key (Ipv4Hint addresses) = (key ∷ 4 ∷ []) ∷ addresses
+parameter_key_of key (Ipv6Hint addresses) = (key ∷ 5 ∷ []) ∷ addresses
+parameter_key_of key (Opaque s) = (key ∷ 6 ∷ []) ∷ s ∷ []
+
+abbrev pub parameter_key : Numbered ParameterValue → Key
+parameter_key x = parameter_key_of x.0 x.1
+
+-- options have no order of their own: their keys in rising order
+abbrev pub option_keys : List (Numbered OptionValue) → List Key
+option_keys v = sorted key_cmp (map option_key v)
+
+abbrev pub parameter_keys : List (Numbered ParameterValue) → List Key
+parameter_keys v = map parameter_key v
+
+-- names but for ASCII case, their marks told apart; options in any order
+abbrev pub kind_eq : (k : Kind) → Value k → Value k → Bool
+kind_eq (Number w) a b = nat_eq a b
+kind_eq (Octets n) a b = pointwise nat_eq a b
+kind_eq Name a b = name_eq a b
+kind_eq Text a b = pointwise nat_eq a b
+kind_eq Texts a b = pointwise (pointwise nat_eq) a b
+kind_eq Rest a b = pointwise nat_eq a b
+kind_eq Options a b = pointwise key_eq (option_keys a) (option_keys b)
+kind_eq Parameters a b = pointwise key_eq (parameter_keys a) (parameter_keys b)
+kind_eq Bitmap a b = pointwise nat_eq a b
+
+-- each field is equal
+abbrev pub values_eq : (kinds : List Kind) → Values kinds → Values kinds → Bool
+values_eq [] a b = true
+values_eq (k ∷ kinds) a b = kind_eq k a.0 b.0 && values_eq kinds a.1 b.1
+
+keys_equiv : IsEquivalence (pointwise key_eq)
+keys_equiv = lists_equiv (lists_equiv nat_list_eq_equiv)
+
+pub kind_equiv : (k : Kind) → IsEquivalence (kind_eq k)
+kind_equiv (Number w) = nat_eq_equiv
+kind_equiv (Octets n) = nat_list_eq_equiv
+kind_equiv Name = and_equiv (on_texts_equal lowname) (on_equiv is_qualified bool_eq_equiv)
+kind_equiv Text = nat_list_eq_equiv
+kind_equiv Texts = lists_equiv nat_list_eq_equiv
+kind_equiv Rest = nat_list_eq_equiv
+kind_equiv Options = on_equiv option_keys keys_equiv
+kind_equiv Parameters = on_equiv parameter_keys keys_equiv
+kind_equiv Bitmap = nat_list_eq_equiv
+
+pub values_equiv : (kinds : List Kind) → IsEquivalence (values_eq kinds)
+values_equiv [] = point_equiv
+values_equiv (k ∷ kinds) = and_equiv (on_equiv (λ (a : Values (k ∷ kinds)). a.0) (kind_equiv k)) (on_equiv (λ (a : Values (k ∷ kinds)). a.1) (values_equiv kinds))
