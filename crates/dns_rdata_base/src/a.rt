@@ -12,7 +12,7 @@ use std::net::Ipv4Addr;
 use std::ops::Deref;
 
 /// An IPv4 address, its four octets in network order (RFC 1035, 3.4.1).
-#[derive(Clone, Copy, Debug, PartialEq, Eq, Hash)]
+#[derive(Clone, Copy, Debug, Hash)]
 pub struct A(pub Ipv4Addr);
 
 impl A {
@@ -75,6 +75,27 @@ impl BinEncodable for A {
     fn emit(&self, encoder: &mut BinEncoder<'_>) -> Result<(), ProtoError> {
         encoder.emit_vec(&self.0.octets())
     }
+}
+
+impl PartialEq for A {
+    ghost use Rattle.std.specs.Cmp.{partial_equiv_from_equiv, on_equiv};
+    ghost use Rattle.dns_fields.specs.Equal.{values_eq, values_equiv};
+
+    ghost eq = { λ a b. values_eq a_shape (a_fields a) (a_fields b) };
+
+    ghost laws = { partial_equiv_from_equiv (on_equiv a_fields (values_equiv a_shape)) };
+
+    #[inline]
+    fn eq(&self, other: &A) -> bool {
+        self.0 == other.0
+    }
+}
+
+impl Eq for A {
+    ghost use Rattle.std.specs.Cmp.{on_equiv};
+    ghost use Rattle.dns_fields.specs.Equal.{values_equiv};
+
+    ghost laws = { on_equiv a_fields (values_equiv a_shape) };
 }
 
 impl From<Ipv4Addr> for A {

@@ -8,11 +8,12 @@ ghost use Rattle.dns_rdata_base.specs.AAAA.{aaaa_shape, aaaa_fields};
 use crate::traits::{RecordDataDecodable, TakesOctet};
 use dns_names_wire::{BinDecodable, BinDecoder, BinEncodable, BinEncoder, DecodeError, ProtoError, Restrict};
 use std::fmt;
+use std::hash::{Hash, Hasher};
 use std::net::Ipv6Addr;
 use std::ops::Deref;
 
 /// An IPv6 address, its sixteen octets in network order (RFC 3596, 2.2).
-#[derive(Clone, Copy, Debug, PartialEq, Eq, Hash)]
+#[derive(Clone, Copy, Debug)]
 pub struct AAAA(pub Ipv6Addr);
 
 impl AAAA {
@@ -75,6 +76,42 @@ impl BinEncodable for AAAA {
     #[inline]
     fn emit(&self, encoder: &mut BinEncoder<'_>) -> Result<(), ProtoError> {
         encoder.emit_vec(&self.0.octets())
+    }
+}
+
+impl PartialEq for AAAA {
+    ghost use Rattle.std.specs.Cmp.{partial_equiv_from_equiv, on_equiv};
+    ghost use Rattle.dns_fields.specs.Equal.{values_eq, values_equiv};
+
+    ghost eq = { λ a b. values_eq aaaa_shape (aaaa_fields a) (aaaa_fields b) };
+
+    ghost laws = { partial_equiv_from_equiv (on_equiv aaaa_fields (values_equiv aaaa_shape)) };
+
+    #[inline]
+    fn eq(&self, other: &AAAA) -> bool {
+        self.0.octets() == other.0.octets()
+    }
+}
+
+impl Eq for AAAA {
+    ghost use Rattle.std.specs.Cmp.{on_equiv};
+    ghost use Rattle.dns_fields.specs.Equal.{values_equiv};
+
+    ghost laws = { on_equiv aaaa_fields (values_equiv aaaa_shape) };
+}
+
+impl Hash for AAAA {
+    ghost use Rattle.std.specs.Hash as fed;
+    ghost use Rattle.std.specs.Net.Addr.{ipv6_octets};
+    ghost use Rattle.std.proofs.Common.{rules};
+    ghost use Rattle.std.specs.Cmp.Rules.{hashing};
+
+    ghost hash_input = { λ a. fed.slice fed.u8 (ipv6_octets a.0) };
+
+    ghost respects_eq = { Prim.search (hashing, rules) };
+
+    fn hash<H: Hasher>(&self, state: &mut H) {
+        self.0.octets().as_slice().hash(state);
     }
 }
 

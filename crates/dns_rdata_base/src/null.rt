@@ -12,7 +12,7 @@ use std::alloc::{AllocError, Global};
 use std::fmt;
 
 /// Octets of any number without a form, all of a record's length (RFC 1035, 3.3.10).
-#[derive(Debug, Drop, PartialEq, Eq, Hash)]
+#[derive(Debug, Drop, Hash)]
 pub struct NULL {
     /// The octets.
     pub anything: Octets,
@@ -44,6 +44,27 @@ impl NULL {
             anything: Octets::from_vec(anything),
         }
     }
+}
+
+impl PartialEq for NULL {
+    ghost use Rattle.std.specs.Cmp.{partial_equiv_from_equiv, on_equiv};
+    ghost use Rattle.dns_fields.specs.Equal.{values_eq, values_equiv};
+
+    ghost eq = { λ a b. values_eq null_shape (null_fields a) (null_fields b) };
+
+    ghost laws = { partial_equiv_from_equiv (on_equiv null_fields (values_equiv null_shape)) };
+
+    #[inline]
+    fn eq(&self, other: &NULL) -> bool {
+        self.anything == other.anything
+    }
+}
+
+impl Eq for NULL {
+    ghost use Rattle.std.specs.Cmp.{on_equiv};
+    ghost use Rattle.dns_fields.specs.Equal.{values_equiv};
+
+    ghost laws = { on_equiv null_fields (values_equiv null_shape) };
 }
 
 impl Clone for NULL {

@@ -1,0 +1,109 @@
+-- Record data of every type: its fields, and when a value fills a window of a message (RFC 1035, 3.2.1).
+use Rattle.std.specs.Prelude.{◌≡◌, ◌≢◌, ℕ, ◌+◌, List, [], ◌∷◌, Result, Ok, Err}
+use Rattle.dns_fields.specs.declared.RDataEncoding.{RDataEncoding}
+use Rattle.dns_fields.specs.Fields.{Kind, Rest, Values, canonical}
+use Rattle.dns_types.specs.declared.record_type.RecordType.{RecordType}
+use Rattle.dns_types.specs.declared.record_type.RecordType.TheVariants as types
+use Rattle.dns_types.specs.declared.error.DecodeError.{DecodeError}
+use Rattle.dns_names_wire.specs.State.{Reading}
+use Rattle.dns_names_wire.specs.Words.{StaysBehind, UnlessMemory, Window, NoWindow}
+use Rattle.dns_rdata_base.specs.A.{a_shape, a_fields}
+use Rattle.dns_rdata_base.specs.AAAA.{aaaa_shape, aaaa_fields}
+use Rattle.dns_rdata_base.specs.NULL.{null_shape, null_fields}
+use Rattle.dns_rdata.specs.declared.record_data.RData.{RData}
+use Rattle.dns_rdata.specs.declared.record_data.RData.TheVariants as rdata
+
+-- the fields of each type; a type without a row has octets of any form
+abbrev pub shape : RecordType → List Kind
+shape types.A = a_shape
+shape types.AAAA = aaaa_shape
+shape types.NULL = null_shape
+shape types.ZERO = []
+shape types.ANY = []
+shape types.AXFR = []
+shape types.IXFR = []
+shape t = Rest ∷ []
+
+-- what is asked of the fields beside that they stand; of types that only questions have, no data is read
+abbrev pub condition : (t : RecordType) → Values (shape t) → Type 0
+condition types.ANY vs = ⊥
+condition types.AXFR vs = ⊥
+condition types.IXFR vs = ⊥
+condition t vs = Unit {0}
+
+-- fields of some kinds
+pub record FieldsOf : Type 0 where
+  pub kinds : List Kind
+  pub values : Values kinds
+
+abbrev pub fields_of : RData → FieldsOf
+fields_of (rdata.A x) = record { kinds = a_shape; values = a_fields x }
+fields_of (rdata.AAAA x) = record { kinds = aaaa_shape; values = aaaa_fields x }
+fields_of (rdata.NULL x) = record { kinds = null_shape; values = null_fields x }
+fields_of (rdata.Unknown code x) = record { kinds = null_shape; values = null_fields x }
+fields_of (rdata.Update0 t) = record { kinds = []; values = tt }
+fields_of rdata.ZERO = record { kinds = []; values = tt }
+
+abbrev pub type_of : RData → RecordType
+type_of (rdata.A x) = types.A
+type_of (rdata.AAAA x) = types.AAAA
+type_of (rdata.NULL x) = types.NULL
+type_of (rdata.Unknown code x) = code
+type_of (rdata.Update0 t) = t
+type_of rdata.ZERO = types.ZERO
+
+-- no row of its own says what the data of the type is
+abbrev pub IsRowless : RecordType → Type 0
+IsRowless types.A = ⊥
+IsRowless types.AAAA = ⊥
+IsRowless types.NULL = ⊥
+IsRowless types.ZERO = ⊥
+IsRowless types.ANY = ⊥
+IsRowless types.AXFR = ⊥
+IsRowless types.IXFR = ⊥
+IsRowless t = Unit {0}
+
+-- A value that data can give: octets of any form are of a type without a row, and an update of no data is never read.
+abbrev pub IsPlain : RData → Type 0
+IsPlain (rdata.Unknown code x) = IsRowless code
+IsPlain (rdata.Update0 t) = ⊥
+IsPlain v = Unit {0}
+
+-- v is the value of the type with these fields
+pub record IsValue (t : RecordType) (vs : Values (shape t)) (v : RData) : Type 0 where
+  pub type : type_of v ≡ t
+  pub fields : fields_of v ≡ record { kinds = shape t; values = vs }
+  pub plain : IsPlain v
+
+-- In the message m, the n octets from p are the data of a record of type t, and v is its value.
+pub record Fills (m : List ℕ) (p n : ℕ) (t : RecordType) (v : RData) : Type 0 where
+  pub values : Values (shape t)
+  pub window : Window m p n (shape t) (condition t) values
+  pub value : IsValue t values v
+
+-- the octets are the data of no value of the type
+pub record NoValue (m : List ℕ) (p n : ℕ) (t : RecordType) : Type 0 where
+  pub none : (v : RData) → Fills m p n t v → ⊥
+
+-- the octets of a value in its one form for comparing: names uncompressed and in lower case (RFC 4034, 6.2)
+abbrev pub data_octets : RData → List ℕ
+data_octets v = canonical (fields_of v).kinds (fields_of v).values
+
+-- how the names of a value are written: in the mode of its type; without names, as the encoder does
+abbrev pub mode_for : RDataEncoding → RData → RDataEncoding
+mode_for own v = own
+
+-- ---- what a reader answers that may stop at another end than the length
+
+pub record TookData (old : Reading) (t : RecordType) (n : ℕ) (v : RData) (new : Reading) : Type 0 where
+  pub behind : StaysBehind old new
+  pub here : new.index ≡ old.index + n → Fills old.message old.index n t v
+  pub elsewhere : new.index ≢ old.index + n → NoWindow old.message old.index n (shape t) (condition t)
+
+pub record RefusedData (e : DecodeError) (old : Reading) (t : RecordType) (n : ℕ) (new : Reading) : Type 0 where
+  pub behind : StaysBehind old new
+  pub none : UnlessMemory e (NoWindow old.message old.index n (shape t) (condition t))
+
+abbrev pub ReadsData : RecordType → ℕ → Result RData DecodeError → Reading → Reading → Type 0
+ReadsData t n (Ok v) old new = TookData old t n v new
+ReadsData t n (Err e) old new = RefusedData e old t n new

@@ -1,0 +1,36 @@
+-- What holds of record data of every type.
+use Rattle.std.specs.Prelude.{◌≡◌, ◌↔◌, ℕ, ◌-◌, ◌<◌, IsTrue, Bool, List, length}
+use Rattle.dns_types.specs.declared.record_type.RecordType.{RecordType}
+use Rattle.dns_names_wire.specs.State.{Writing}
+use Rattle.dns_names_wire.specs.Words.{Window}
+use Rattle.dns_fields.specs.Fields.{Values}
+use Rattle.dns_rdata.specs.declared.record_data.RData.{RData}
+use Rattle.dns_rdata.specs.Data.{shape, condition, Fills, data_octets}
+use Rattle.dns_rdata.specs.Equal.{equal}
+
+-- octets are the data of at most one value of a type
+abbrev pub OneValue : Type 0
+OneValue = (m : List ℕ) (p n : ℕ) (t : RecordType) (v w : RData) → Fills m p n t v → Fills m p n t w → v ≡ w
+
+-- and of one wherever the fields of the type fill them
+abbrev pub EachWindow : Type 0
+EachWindow = (m : List ℕ) (p n : ℕ) (t : RecordType) (vs : Values (shape t)) → Window m p n (shape t) (condition t) vs → (v : RData) × Fills m p n t v
+
+-- the n octets from p are the data of a value of the type that is equal to v
+pub record HasEqual (m : List ℕ) (p n : ℕ) (t : RecordType) (v : RData) : Type 0 where
+  pub value : RData
+  pub fills : Fills m p n t value
+  pub same : IsTrue (equal v value)
+
+-- Two values that were read under one type are equal exactly where their canonical octets are the same.
+abbrev pub TellsApart : RData → RData → Bool → Type 0
+TellsApart v w answer = (t : RecordType) (m : List ℕ) (p n : ℕ) (m' : List ℕ) (p' n' : ℕ) → Fills m p n t v → Fills m' p' n' t w → IsTrue answer ↔ (data_octets v ≡ data_octets w)
+
+-- The canonical octets of a value that was read, where they are at most 65535, are the data of an equal value.
+abbrev pub ReadsCanonical : RecordType → RData → Type 0
+ReadsCanonical t v = length (data_octets v) < 65536 → HasEqual (data_octets v) 0 (length (data_octets v)) t v
+
+-- A value that was read under a type and whose octets were appended, at most 65535 of them, stands there again as an
+-- equal value, behind what was there.
+abbrev pub ReadsBack : RData → Writing → Writing → Type 0
+ReadsBack v old new = (t : RecordType) (m : List ℕ) (p n : ℕ) → Fills m p n t v → length new.octets - length old.octets < 65536 → HasEqual new.octets (length old.octets) (length new.octets - length old.octets) t v

@@ -1,0 +1,15 @@
+pub mod Data
+pub mod Equal
+pub mod Laws
+pub mod Refusals
+pub mod Texts
+pub use Rattle.dns_fields.specs.Octets
+pub use Rattle.dns_fields.specs.Labels
+pub use Rattle.dns_fields.specs.Names
+pub use Rattle.dns_fields.specs.Fields
+pub use Rattle.dns_types.specs.RecordTypes
+pub use Rattle.dns_names_wire.specs.State
+pub use Rattle.dns_names_wire.specs.Words
+pub use Rattle.dns_rdata_base.specs.A
+pub use Rattle.dns_rdata_base.specs.AAAA
+pub use Rattle.dns_rdata_base.specs.NULL

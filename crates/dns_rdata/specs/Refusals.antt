@@ -1,0 +1,42 @@
+-- Why record data is refused.
+use Rattle.std.specs.Prelude.{◌≡◌, ◌≢◌, ℕ, ◌+◌, ◌-◌, ◌==◌, ◌⊎◌, if◌then◌else◌, Result, Ok, Err}
+use Rattle.dns_types.specs.declared.error.DecodeError.{DecodeError}
+use Rattle.dns_types.specs.declared.error.DecodeError.TheVariants as decode
+use Rattle.dns_types.specs.declared.record_type.RecordType.{RecordType}
+use Rattle.dns_types.specs.declared.record_type.RecordType.TheVariants as types
+use Rattle.dns_types.specs.RecordTypes.{number_of}
+use Rattle.dns_names_wire.specs.State.{Reading}
+use Rattle.dns_names_wire.specs.Words.{LacksOctets}
+
+-- types that only questions have (RFC 1035, 3.2.3; RFC 1995, 2)
+abbrev pub IsNeverRead : RecordType → Type 0
+IsNeverRead types.ANY = Unit {0}
+IsNeverRead types.AXFR = Unit {0}
+IsNeverRead types.IXFR = Unit {0}
+IsNeverRead t = ⊥
+
+-- the refusals of the record itself, under the length n, with their cause
+abbrev pub OwnRefusal : RecordType → ℕ → Reading → DecodeError → Type 0
+OwnRefusal types.A n d e = (e ≡ decode.InsufficientBytes) × LacksOctets d 4
+OwnRefusal types.AAAA n d e = (e ≡ decode.InsufficientBytes) × LacksOctets d 16
+OwnRefusal types.ZERO n d e = ⊥
+OwnRefusal types.ANY n d e = ⊥
+OwnRefusal types.AXFR n d e = ⊥
+OwnRefusal types.IXFR n d e = ⊥
+OwnRefusal t n d e = (e ≡ decode.InsufficientBytes) × LacksOctets d n
+
+-- A refusal to read n octets: for memory; of a type that is never read, with its number; because other than n octets
+-- were taken, with both numbers; or by the record itself, where just n were taken.
+abbrev pub IsRefusal : RecordType → ℕ → Reading → Reading → DecodeError → Type 0
+IsRefusal t n old new decode.Memory = Unit {0}
+IsRefusal t n old new (decode.UnknownRecordTypeValue number) = IsNeverRead t × (number ≡ number_of t) × (new ≡ old)
+IsRefusal t n old new (decode.IncorrectRDataLengthRead read len) =
+    ((new.index ≢ old.index + n) × (read ≡ new.index - old.index) × (len ≡ n))
+    ⊎ ((new.index ≡ old.index + n) × OwnRefusal t n old (decode.IncorrectRDataLengthRead read len))
+IsRefusal t n old new e = (new.index ≡ old.index + n) × OwnRefusal t n old e
+
+-- what reading answers, once so many octets were taken of a length
+abbrev pub by_length : {T : Type 0} → Result T DecodeError → ℕ → ℕ → Result T DecodeError
+by_length (Err decode.Memory) read len = Err decode.Memory
+by_length (Err (decode.UnknownRecordTypeValue number)) read len = Err (decode.UnknownRecordTypeValue number)
+by_length outcome read len = if read == len then outcome else Err (decode.IncorrectRDataLengthRead read len)
