@@ -196,15 +196,16 @@ in_range a (suc n) x l h = elim (eqb_tells x a) [
     after : (a x : ℕ) → a ≤ x → x ≢ a → a + 1 ≤ x
     after a x l n = grind arith
 
-none_great : (v : List ℕ) (t : ℕ) → AllByRecursion (λ t. t < 65536) v → 65536 ≤ t → contains t v ≡ false
-none_great [] t a l = refl
-none_great (x ∷ xs) t a l = let e : (x == t) ≡ false = other x t (let h = a.0 in λ q. omega (arith, q, h)) in rw e (none_great xs t a.1 l)
+-- a set has no number past its numbers
+pub none_great : (n : ℕ) (v : List ℕ) (t : ℕ) → AllByRecursion (λ u. u < n) v → n ≤ t → contains t v ≡ false
+none_great n [] t a l = refl
+none_great n (x ∷ xs) t a l = let e : (x == t) ≡ false = other x t (let h = a.0 in λ q. omega (arith, q, h)) in rw e (none_great n xs t a.1 l)
 
 pub minimal_types : (v : List ℕ) → AllByRecursion (λ t. t < 65536) v → (t : ℕ) → contains t v ≡ list_any (has_type t) (minimal v)
 unfolding minimal
 minimal_types v a t = ⊎_elim
     (λ (l : t < 65536). let inside : t / 256 < 256 = omega arith in sym (windows_have v t (range_with_len 0 256) ∙ ap (λ (b : Bool). b && contains t v) (in_range 0 256 (t / 256) (omega arith) inside)))
-    (λ (g : 65536 ≤ t). let n = none_great v t a g in n ∙ sym (windows_have v t (range_with_len 0 256) ∙ ap (λ (b : Bool). list_any (λ k. t / 256 == k) (range_with_len 0 256) && b) n ∙ none (list_any (λ k. t / 256 == k) (range_with_len 0 256))))
+    (λ (g : 65536 ≤ t). let n = none_great 65536 v t a g in n ∙ sym (windows_have v t (range_with_len 0 256) ∙ ap (λ (b : Bool). list_any (λ k. t / 256 == k) (range_with_len 0 256) && b) n ∙ none (list_any (λ k. t / 256 == k) (range_with_len 0 256))))
     (either t)
   where
     none : (b : Bool) → b && false ≡ false
@@ -231,3 +232,41 @@ minimal_fit v = windows_fit v 0 256 (omega arith)
 
 pub minimal_stands : (m v : List ℕ) → IsTypeSet v → BitmapAt (m ++ flat_map block (minimal v)) (length m) v (length (m ++ flat_map block (minimal v)))
 minimal_stands m v s = record { blocks = minimal v; at = At-appended m (flat_map block (minimal v)); fit = minimal_fit v; set = s; types = minimal_types v s.numbers }
+
+-- ---- windows past the last type are none
+
+packed_none : (f : ℕ → ℕ) → ((b : ℕ) → f b ≡ 0) → (n : ℕ) → packed f n ≡ 0
+packed_none f none zero = refl
+packed_none f none (suc n) = let h = packed_none f none n in let k = none n in omega (arith, h, k)
+
+trimmed_none : (f : ℕ → ℕ) → ((j : ℕ) → f j ≡ 0) → (js : List ℕ) → trimmed (map f js) ≡ []
+trimmed_none f none [] = refl
+trimmed_none f none (j ∷ js) = ap (λ (x : ℕ). keep x (trimmed (map f js))) (none j) ∙ ap (keep 0) (trimmed_none f none js)
+
+window_none : (v : List ℕ) (k : ℕ) → AllByRecursion (λ u. u < 256 * k) v → window v k ≡ []
+unfolding window types_octet mark
+window_none v k a =
+    trimmed_none (types_octet v k)
+      (λ j. packed_none (λ b. mark v (256 * k + (8 * j + b))) (λ b. ap (λ (c : Bool). cond c 1 0) (none_great (256 * k) v (256 * k + (8 * j + b)) a (omega arith))) 8)
+      (range_with_len 0 32)
+
+wider : (n k : ℕ) (v : List ℕ) → n ≤ k → AllByRecursion (λ u. u < n) v → AllByRecursion (λ u. u < k) v
+wider n k [] l a = tt
+wider n k (x ∷ xs) l a = (omega (arith, a.0), wider n k xs l a.1)
+
+windows_none : (v : List ℕ) (a n : ℕ) → AllByRecursion (λ u. u < 256 * a) v → windows v (range_with_len a n) ≡ []
+windows_none v a zero h = refl
+windows_none v a (suc n) h = ap (λ (w : List ℕ). with_block a w (windows v (range_with_len (a + 1) n))) (window_none v a h) ∙ windows_none v (a + 1) n (wider (256 * a) (256 * (a + 1)) v (omega arith) h)
+
+windows_first : (v : List ℕ) (a k n : ℕ) → AllByRecursion (λ u. u < 256 * (a + k)) v → windows v (range_with_len a (k + n)) ≡ windows v (range_with_len a k)
+windows_first v a zero n h = windows_none v a (zero + n) (wider (256 * (a + 0)) (256 * a) v (omega arith) h)
+windows_first v a (suc k) n h =
+    let longer : suc k + n ≡ suc (k + n) = omega arith in
+    ap (λ (c : ℕ). windows v (range_with_len a c)) longer ∙ ap (with_block a (window v a)) (windows_first v (a + 1) k n (wider (256 * (a + suc k)) (256 * (a + 1 + k)) v (omega arith) h))
+
+-- the minimal bitmap of a set whose types are below those of window k
+pub minimal_first : (v : List ℕ) (k : ℕ) → k ≤ 256 → AllByRecursion (λ u. u < 256 * k) v → minimal v ≡ windows v (range_with_len 0 k)
+unfolding minimal
+minimal_first v k l h =
+    let all : k + (256 - k) ≡ 256 = omega arith in
+    ap (λ (c : ℕ). windows v (range_with_len 0 c)) (sym all) ∙ windows_first v 0 k (256 - k) (wider (256 * k) (256 * (0 + k)) v (omega arith) h)

@@ -65,6 +65,10 @@ CutPointer = HoldsNone www_twice 5 6 (Name ∷ [])
 abbrev pub PointerToItself : Type 0
 PointerToItself = HoldsNone (0xc0 ∷ 0x00 ∷ []) 0 2 (Name ∷ [])
 
+-- an octet that is neither the length of a label nor of a pointer
+abbrev pub ReservedLabel : Type 0
+ReservedLabel = HoldsNone (0x40 ∷ 0x00 ∷ []) 0 2 (Name ∷ [])
+
 -- 256 "N." and 256 "n.": different letters, the same canonical octets, equal
 abbrev pub LettersRead : Type 0
 LettersRead =
@@ -194,3 +198,20 @@ ZerosDropped = Reads (0x00 ∷ 0x02 ∷ 0x60 ∷ 0x00 ∷ []) 0 4 (Bitmap ∷ []
 -- a window without octets, and one that is longer than what is there
 abbrev pub BrokenWindow : Type 0
 BrokenWindow = HoldsNone (0x00 ∷ 0x00 ∷ []) 0 2 (Bitmap ∷ []) × HoldsNone (0x00 ∷ 0x02 ∷ 0x60 ∷ []) 0 3 (Bitmap ∷ [])
+
+-- ---- all of them
+
+abbrev pub StringExamples : Type 0
+StringExamples = AddressReads × AddressIsFour × TwoTextsRead × EmptyStringsRead × CutString
+
+abbrev pub NameExamples : Type 0
+NameExamples = PointedNameReads × CutPointer × PointerToItself × ReservedLabel × LettersRead × MarksApart × StartOfAuthorityReads
+
+abbrev pub OptionExamples : Type 0
+OptionExamples = CutOptionReads × BrokenOption × OptionsInOrder × OptionsCounted × SubnetReads × SubnetEnds × UnknownFamily
+
+abbrev pub ParameterExamples : Type 0
+ParameterExamples = ServiceReads × NoHintsRead × KeysRise × BrokenParameter
+
+abbrev pub BitmapExamples : Type 0
+BitmapExamples = TypesRead × WindowsRead × ZerosDropped × BrokenWindow
