@@ -27,8 +27,7 @@ pub fn fields_hold()
     ensures written { WrittenReads }
     // Canonical octets of what stands in octets are octets.
     ensures octets { OctetsLaw }
-{
-}
+{}
 
 /// The laws of equality and order of every list of kinds of fields.
 pub fn comparing_holds()
@@ -40,8 +39,7 @@ pub fn comparing_holds()
     ensures order { OrderLaw }
     // The order answers `Equal` exactly where `==` holds.
     ensures ties { TiesLaw }
-{
-}
+{}
 
 /// The grammar at work, on octets that were worked out by hand: some hold values, some hold none.
 pub fn examples_hold()
@@ -55,5 +53,4 @@ pub fn examples_hold()
     ensures parameters { ParameterExamples }
     // Sets of type numbers.
     ensures bitmaps { BitmapExamples }
-{
-}
+{}
