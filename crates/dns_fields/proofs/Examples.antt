@@ -3,15 +3,15 @@ use Rattle.std.proofs.Common.{◌≡◌, ◌≢◌, ℕ, zero, suc, ◌-◌, ◌
 use Rattle.std.specs.List.{flat_map, AllByRecursion, list_any}
 use Rattle.std.specs.Int.{bytes_high_first, bit_at}
 use Rattle.std.specs.Str.{IsAscii}
-use Rattle.std.proofs.lemmas.List.{length-append, take_all}
+use Rattle.std.proofs.lemmas.List.{length-append, take_all, take_at}
 use Rattle.std.proofs.lemmas.Str.{IsUtf8-from_ascii}
 use Rattle.dns_fields.specs.Octets.{At}
 use Rattle.dns_fields.specs.Names.{LabelsStand, IsNameIn}
 use Rattle.dns_fields.specs.Names.LabelsStand.{whole, pointed}
-use Rattle.dns_fields.specs.Pieces.{string, Numbered, piece, pieces, ArePieces, OptionValue, Subnet, Plain, OptionHeld, AllHeld, IsCut, ParameterValue, ParameterHeld, Rising, Port, Mandatory, form_of, Keys, PortNumber}
+use Rattle.dns_fields.specs.Pieces.{IsAddress, string, Numbered, piece, pieces, ArePieces, OptionValue, Subnet, Plain, OptionHeld, AllHeld, IsCut, ParameterValue, ParameterHeld, Rising, Port, Mandatory, form_of, Keys, PortNumber}
 use Rattle.dns_fields.specs.Bitmaps.{Block, block, IsBlock, has_type, minimal, window, types_octet, mark, contains, BitmapAt}
 use Rattle.dns_fields.specs.Fields.{Number, Name, Options, Parameters, Values, Stands, field_octets, WholeOptions, ParametersAt}
-use Rattle.dns_fields.specs.Examples.{HoldsNone, AddressReads, AddressIsFour, TwoTextsRead, EmptyStringsRead, CutString, full, www_label, www_twice, PointedNameReads, CutPointer, PointerToItself, ReservedLabel, LettersRead, MarksApart, example_label, com_label, xxx_label, twenty, StartOfAuthorityReads, CutOptionReads, BrokenOption, OptionsInOrder, OptionsCounted, SubnetReads, SubnetEnds, UnknownFamily, ServiceReads, NoHintsRead, KeysRise, BrokenParameter, TypesRead, WindowsRead, ZerosDropped, BrokenWindow}
+use Rattle.dns_fields.specs.Examples.{HoldsNone, AddressReads, AddressIsFour, TwoTextsRead, EmptyStringsRead, CutString, full, www_label, www_twice, PointedNameReads, CutPointer, PointerToItself, ReservedLabel, LettersRead, MarksApart, example_label, com_label, xxx_label, twenty, StartOfAuthorityReads, CutOptionReads, BrokenOption, OptionsInOrder, OptionsCounted, SubnetReads, SubnetEnds, BrokenSubnet, ServiceReads, NoHintsRead, KeysRise, BrokenParameter, TypesRead, WindowsRead, ZerosDropped, BrokenWindow}
 use Rattle.dns_fields.proofs.Numbers.{length-bytes}
 use Rattle.dns_fields.proofs.Runs.{no_labels}
 use Rattle.dns_fields.proofs.NameLaws.{name_same}
@@ -164,8 +164,8 @@ whole_options m v read e fit held =
     At-all : (x : List ℕ) → At x 0 x (length x)
     At-all x = record { ends = omega arith; within = omega arith; same = take_all (length x) x (omega arith) }
 
-cut_option : (m : List ℕ) → IsCut (length m - 0) m → Stands m 0 (Options ∷ []) ([], tt) (length m)
-cut_option m cut = (
+cut_option : (m rest : List ℕ) → IsCut (length m - 0) m → Stands (m ++ rest) 0 (Options ∷ []) ([], tt) (length m)
+cut_option m rest cut = (
   length m,
   record {
     is = inr (
@@ -174,7 +174,7 @@ cut_option m cut = (
         read = [];
         dropped = [];
         stub = m;
-        at = record { ends = omega arith; within = omega arith; same = take_all (length m) m (omega arith) };
+        at = record { ends = omega arith; within = omega (arith, length-append m rest); same = take_at m rest (length m) refl };
         fit = tt;
         held = tt;
         cut = cut;
@@ -187,9 +187,13 @@ cut_option m cut = (
 pub cut_option_reads : CutOptionReads
 unfolding field_octets
 cut_option_reads = (
-  record { stands = cut_option (0x00 ∷ 0x0a ∷ []) (10, omega arith, inl refl); canonical_octets = refl },
-  record { stands = cut_option (0x00 ∷ 0x0a ∷ 0x00 ∷ 0x05 ∷ 0x01 ∷ 0x02 ∷ []) (10, omega arith, inr (5, 0x01 ∷ 0x02 ∷ [], omega arith, omega arith, omega arith, refl)); canonical_octets = refl },
+  record { stands = cut_option (0x00 ∷ 0x0a ∷ []) [] (10, omega arith, inl refl); canonical_octets = refl },
+  record { stands = cut_option (0x00 ∷ 0x0a ∷ 0x00 ∷ 0x05 ∷ 0x01 ∷ 0x02 ∷ []) [] cut; canonical_octets = refl },
+  record { stands = cut_option (0x00 ∷ 0x0a ∷ 0x00 ∷ 0x05 ∷ 0x01 ∷ 0x02 ∷ []) (0x03 ∷ 0x04 ∷ 0x05 ∷ []) cut; canonical_octets = refl },
 )
+  where
+    cut : IsCut 6 (0x00 ∷ 0x0a ∷ 0x00 ∷ 0x05 ∷ 0x01 ∷ 0x02 ∷ [])
+    cut = (10, omega arith, inr (5, 0x01 ∷ 0x02 ∷ [], omega arith, omega arith, omega arith, refl))
 
 -- no piece begins where a length asks for more octets than there are
 past_end : (c l : ℕ) (y : List ℕ) (x : Numbered (List ℕ)) (r : List ℕ) → c < 256 ^ 2 → l < 256 ^ 2 → length y < l → (x.0 < 256 ^ 2) × (length x.1 < 256 ^ 2) → piece x ++ r ≡ bytes_high_first 2 c ++ (bytes_high_first 2 l ++ y) → ⊥
@@ -275,33 +279,42 @@ subnet_ends = record {
   canonical_octets = refl;
 }
 
-abbrev three_octets : List ℕ
-three_octets = 0x00 ∷ 0x08 ∷ 0x00 ∷ 0x04 ∷ 0x00 ∷ 0x03 ∷ 0x00 ∷ 0x00 ∷ []
-
-abbrev family_three : List (Numbered (List ℕ))
-family_three = (8, 0x00 ∷ 0x03 ∷ 0x00 ∷ 0x00 ∷ []) ∷ []
-
-pub unknown_family : UnknownFamily
-unknown_family v f = ⊎_elim
-    (λ (w : WholeOptions three_octets 0 v.0 f.0).
-    let e : w.read ≡ family_three = pieces_same w.read family_three w.fit fit (At-whole three_octets (pieces w.read) f.0 w.at f.2) in
-    held v.0 (subst (λ (xs : List (Numbered (List ℕ))). AllHeld OptionHeld xs v.0) e w.held))
-    (λ c. whole_or_cut (f.0 - 0) family_three c.1.read c.1.stub fit c.1.fit c.1.cut (sym (At-whole three_octets (pieces c.1.read ++ c.1.stub) f.0 c.1.at f.2)))
+-- pieces that fill the message and hold no options
+no_options : (m : List ℕ) (known : List (Numbered (List ℕ))) → ArePieces known → pieces known ≡ m → ((v : List (Numbered OptionValue)) → AllHeld OptionHeld known v → ⊥) → HoldsNone m 0 (length m) (Options ∷ [])
+no_options m known fit e none v f = ⊎_elim
+    (λ (w : WholeOptions m 0 v.0 f.0).
+    let same : w.read ≡ known = pieces_same w.read known w.fit fit (At-whole m (pieces w.read) f.0 w.at f.2 ∙ sym e) in
+    none v.0 (subst (λ (xs : List (Numbered (List ℕ))). AllHeld OptionHeld xs v.0) same w.held))
+    (λ c. whole_or_cut (f.0 - 0) known c.1.read c.1.stub fit c.1.fit c.1.cut (e ∙ sym (At-whole m (pieces c.1.read ++ c.1.stub) f.0 c.1.at f.2)))
     f.1.is
+
+-- the family, the source prefix and the address of a subnet whose octets begin with these
+subnet_begins : (family source scope : ℕ) (rest : List ℕ) (k : ℕ) (w : OptionValue) → 8 ≡ k → family < 256 ^ 2 → OptionHeld k (bytes_high_first 2 family ++ (source ∷ scope ∷ rest)) w → (address : List ℕ) × IsAddress family source address
+subnet_begins family source scope rest k (Subnet f s c a) e l h =
+    let small : f < 256 ^ 2 = ⊎_elim (λ x. omega (arith, x.0)) (λ x. omega (arith, x.0)) h.1.most in
+    let n = number_first f family (s ∷ c ∷ (a ++ h.2)) (source ∷ scope ∷ rest) small l (sym h.3) in
+    let t : s ∷ c ∷ (a ++ h.2) ≡ source ∷ scope ∷ rest = n.1 in
+    let prefix : s ≡ source = cc in
+    (a, subst (λ (x : ℕ). IsAddress x source a) n.0 (subst (λ (x : ℕ). IsAddress f x a) prefix h.1))
+subnet_begins family source scope rest k (Plain s) e l h = absurd (h.0 (sym e))
+
+pub broken_subnet : BrokenSubnet
+broken_subnet = (
+  no_options (0x00 ∷ 0x08 ∷ 0x00 ∷ 0x04 ∷ 0x00 ∷ 0x03 ∷ 0x00 ∷ 0x00 ∷ []) ((8, 0x00 ∷ 0x03 ∷ 0x00 ∷ 0x00 ∷ []) ∷ []) ((omega arith, omega arith), tt) refl family_three,
+  no_options (0x00 ∷ 0x08 ∷ 0x00 ∷ 0x09 ∷ 0x00 ∷ 0x01 ∷ 0x21 ∷ 0x00 ∷ 0x01 ∷ 0x02 ∷ 0x03 ∷ 0x04 ∷ 0x05 ∷ []) ((8, 0x00 ∷ 0x01 ∷ 0x21 ∷ 0x00 ∷ 0x01 ∷ 0x02 ∷ 0x03 ∷ 0x04 ∷ 0x05 ∷ []) ∷ []) ((omega arith, omega arith), tt) refl prefix_33,
+)
   where
-    fit : ArePieces family_three
-    fit = ((omega arith, omega arith), tt)
+    family_three : (v : List (Numbered OptionValue)) → AllHeld OptionHeld ((8, 0x00 ∷ 0x03 ∷ 0x00 ∷ 0x00 ∷ []) ∷ []) v → ⊥
+    family_three [] h = h
+    family_three (x ∷ xs) h =
+        let b = subnet_begins 3 0 0 [] x.0 x.1 h.0 (omega arith) h.1 in
+        ⊎_elim (λ a. omega (arith, a.0)) (λ a. omega (arith, a.0)) b.1.most
 
-    family : (k : ℕ) (w : OptionValue) → 8 ≡ k → OptionHeld k (0x00 ∷ 0x03 ∷ 0x00 ∷ 0x00 ∷ []) w → ⊥
-    family k (Subnet f s c a) e h =
-        let small : f < 256 ^ 2 = ⊎_elim (λ x. omega (arith, x.0)) (λ x. omega (arith, x.0)) h.1.most in
-        let n = number_first f 3 (s ∷ c ∷ (a ++ h.2)) (0x00 ∷ 0x00 ∷ []) small (omega arith) (sym h.3) in
-        ⊎_elim (λ x. omega (arith, n.0, x.0)) (λ x. omega (arith, n.0, x.0)) h.1.most
-    family k (Plain s) e h = h.0 (sym e)
-
-    held : (v : List (Numbered OptionValue)) → AllHeld OptionHeld family_three v → ⊥
-    held [] h = h
-    held (x ∷ xs) h = family x.0 x.1 h.0 h.1
+    prefix_33 : (v : List (Numbered OptionValue)) → AllHeld OptionHeld ((8, 0x00 ∷ 0x01 ∷ 0x21 ∷ 0x00 ∷ 0x01 ∷ 0x02 ∷ 0x03 ∷ 0x04 ∷ 0x05 ∷ []) ∷ []) v → ⊥
+    prefix_33 [] h = h
+    prefix_33 (x ∷ xs) h =
+        let b = subnet_begins 1 33 0 (0x01 ∷ 0x02 ∷ 0x03 ∷ 0x04 ∷ 0x05 ∷ []) x.0 x.1 h.0 (omega arith) h.1 in
+        ⊎_elim (λ a. omega (arith, a.1, b.1.long)) (λ a. omega (arith, a.0)) b.1.most
 
 -- ---- parameters
 

@@ -108,11 +108,13 @@ StartOfAuthorityReads =
 
 -- ---- options
 
--- a code alone, and an option whose length is at most that of the record and more than what is there, are no options
+-- A code alone, and an option whose length is at most that of the record and more than what is there, are no
+-- options, also where the message goes on behind the record.
 abbrev pub CutOptionReads : Type 0
 CutOptionReads =
     Reads (0x00 ∷ 0x0a ∷ []) 0 2 (Options ∷ []) ([], tt) []
     × Reads (0x00 ∷ 0x0a ∷ 0x00 ∷ 0x05 ∷ 0x01 ∷ 0x02 ∷ []) 0 6 (Options ∷ []) ([], tt) []
+    × Reads (0x00 ∷ 0x0a ∷ 0x00 ∷ 0x05 ∷ 0x01 ∷ 0x02 ∷ 0x03 ∷ 0x04 ∷ 0x05 ∷ []) 0 6 (Options ∷ []) ([], tt) []
 
 -- a length of more than the record's, half a code and half a length
 abbrev pub BrokenOption : Type 0
@@ -150,9 +152,11 @@ SubnetEnds =
     ((8, Subnet 1 25 0 (0xac ∷ 0x01 ∷ 0x01 ∷ 0xff ∷ [])) ∷ [], tt)
     (0x00 ∷ 0x08 ∷ 0x00 ∷ 0x08 ∷ 0x00 ∷ 0x01 ∷ 0x19 ∷ 0x00 ∷ 0xac ∷ 0x01 ∷ 0x01 ∷ 0xff ∷ [])
 
--- a subnet of a family that is neither 1 nor 2
-abbrev pub UnknownFamily : Type 0
-UnknownFamily = HoldsNone (0x00 ∷ 0x08 ∷ 0x00 ∷ 0x04 ∷ 0x00 ∷ 0x03 ∷ 0x00 ∷ 0x00 ∷ []) 0 8 (Options ∷ [])
+-- a subnet of a family that is neither 1 nor 2, and one whose prefix asks for five octets of an address of four
+abbrev pub BrokenSubnet : Type 0
+BrokenSubnet =
+    HoldsNone (0x00 ∷ 0x08 ∷ 0x00 ∷ 0x04 ∷ 0x00 ∷ 0x03 ∷ 0x00 ∷ 0x00 ∷ []) 0 8 (Options ∷ [])
+    × HoldsNone (0x00 ∷ 0x08 ∷ 0x00 ∷ 0x09 ∷ 0x00 ∷ 0x01 ∷ 0x21 ∷ 0x00 ∷ 0x01 ∷ 0x02 ∷ 0x03 ∷ 0x04 ∷ 0x05 ∷ []) 0 13 (Options ∷ [])
 
 -- ---- parameters
 
@@ -208,7 +212,7 @@ abbrev pub NameExamples : Type 0
 NameExamples = PointedNameReads × CutPointer × PointerToItself × ReservedLabel × LettersRead × MarksApart × StartOfAuthorityReads
 
 abbrev pub OptionExamples : Type 0
-OptionExamples = CutOptionReads × BrokenOption × OptionsInOrder × OptionsCounted × SubnetReads × SubnetEnds × UnknownFamily
+OptionExamples = CutOptionReads × BrokenOption × OptionsInOrder × OptionsCounted × SubnetReads × SubnetEnds × BrokenSubnet
 
 abbrev pub ParameterExamples : Type 0
 ParameterExamples = ServiceReads × NoHintsRead × KeysRise × BrokenParameter
