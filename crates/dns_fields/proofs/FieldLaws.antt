@@ -8,7 +8,7 @@ use Rattle.std.proofs.lemmas.List.Sorted.{IsPermutation-refl, IsPermutation-sym,
 use Rattle.dns_fields.specs.Sorting.{sorted}
 use Rattle.dns_fields.specs.Pieces.{string, Numbered, piece, pieces, AllHeld, as_piece, HoldThemselves, OptionValue, option_octets, OptionHeld, OptionFits, ParameterValue, parameter_octets, ParameterHeld, ParameterFits}
 use Rattle.dns_fields.specs.Fields.{Options, Parameters, Lawful, option_pieces, parameter_pieces, WholeOptions, CutOptions}
-use Rattle.dns_fields.specs.Fields.{Bitmap, IsMeasured}
+use Rattle.dns_fields.specs.Fields.{Bitmap}
 use Rattle.dns_fields.specs.Bitmaps.{block, minimal}
 use Rattle.dns_fields.proofs.Bitmaps.{bitmap_same, bitmap_append, minimal_stands}
 use Rattle.dns_fields.proofs.Sorted.{octets_cmp, sorted_same, sorted_permutes, sorted_all, map_sorted, flat_map_all, length_sorted}
@@ -155,22 +155,22 @@ wrote_field {m} {k = Parameters} {v} {m'} h f = (
     };
   },
 )
-wrote_field {k = Bitmap} {v} h f = (v, record { is = refl }, record { is = f.is.stands })
+wrote_field {m} {k = Bitmap} {v} h f = (v, record { is = refl }, record { is = rw f.is.1 (minimal_stands m v f.is.0) })
 
 -- behind what was there, and at most the canonical octets
-pub wrote_tail : {mode : RDataEncoding} {m : List ℕ} {k : Kind} {v : Value k} {m' : List ℕ} → WroteField mode m k v m' → (t : List ℕ) × (m' ≡ m ++ t) × (IsMeasured k → length t ≤ length (field_octets k v))
+pub wrote_tail : {mode : RDataEncoding} {m : List ℕ} {k : Kind} {v : Value k} {m' : List ℕ} → WroteField mode m k v m' → (t : List ℕ) × (m' ≡ m ++ t) × (length t ≤ length (field_octets k v))
 unfolding field_octets
-wrote_tail {m} {k = Number n} {v} f = (bytes_high_first n v, f.is.1, λ _. omega arith)
-wrote_tail {m} {k = Octets n} {v} f = (v, f.is.1, λ _. omega arith)
-wrote_tail {k = Name} f = (f.is.tail, f.is.behind, λ _. f.is.shorter)
-wrote_tail {m} {k = Text} {v} f = (string v, f.is.1, λ _. omega arith)
-wrote_tail {m} {k = Texts} {v} f = (flat_map string v, f.is.1, λ _. omega arith)
-wrote_tail {m} {k = Rest} {v} f = (v, f.is, λ _. omega arith)
+wrote_tail {m} {k = Number n} {v} f = (bytes_high_first n v, f.is.1, omega arith)
+wrote_tail {m} {k = Octets n} {v} f = (v, f.is.1, omega arith)
+wrote_tail {k = Name} f = (f.is.tail, f.is.behind, f.is.shorter)
+wrote_tail {m} {k = Text} {v} f = (string v, f.is.1, omega arith)
+wrote_tail {m} {k = Texts} {v} f = (flat_map string v, f.is.1, omega arith)
+wrote_tail {m} {k = Rest} {v} f = (v, f.is, omega arith)
 wrote_tail {m} {k = Options} {v} f =
     let n : length (flat_map (λ (x : List ℕ). x) (sorted octets_cmp (map piece (option_pieces v)))) ≡ length (pieces (option_pieces v)) = length_sorted octets_cmp (map piece (option_pieces v)) ∙ ap length (flat_map_all piece (option_pieces v)) in
-    (pieces (option_pieces v), f.is.1, λ _. omega (arith, n))
-wrote_tail {m} {k = Parameters} {v} f = (pieces (parameter_pieces v), f.is.2, λ _. omega arith)
-wrote_tail {k = Bitmap} f = (f.is.tail, f.is.behind, λ none. absurd none)
+    (pieces (option_pieces v), f.is.1, omega (arith, n))
+wrote_tail {m} {k = Parameters} {v} f = (pieces (parameter_pieces v), f.is.2, omega arith)
+wrote_tail {m} {k = Bitmap} {v} f = (flat_map block (minimal v), f.is.1, omega arith)
 
 pub wrote_fits : {mode : RDataEncoding} {m : List ℕ} {k : Kind} {v : Value k} {m' : List ℕ} → WroteField mode m k v m' → Fits k v
 wrote_fits {k = Number w} f = f.is.0
@@ -181,7 +181,7 @@ wrote_fits {k = Texts} f = f.is.0
 wrote_fits {k = Rest} f = tt
 wrote_fits {k = Options} f = f.is.0
 wrote_fits {k = Parameters} f = (f.is.0, f.is.1)
-wrote_fits {k = Bitmap} f = f.is.stands.set
+wrote_fits {k = Bitmap} f = f.is.0
 
 -- a value that is written
 pub record Written (mode : RDataEncoding) (m : List ℕ) (k : Kind) (v : Value k) (m' : List ℕ) : Type 0 where
@@ -219,7 +219,7 @@ octets_wrote mode m Options v h l =
       wrote = record { is = (sorted_all R OptionFits v h, ap (λ (o : List ℕ). m ++ o) (options_sorted v)) };
     }
 octets_wrote mode m Parameters v h l = record { value = v; same = record { is = refl }; lawful = l; wrote = record { is = (h.0, h.1, refl) } }
-octets_wrote mode m Bitmap v h l = record { value = v; same = record { is = refl }; lawful = tt; wrote = record { is = record { tail = flat_map block (minimal v); behind = refl; stands = minimal_stands m v h } } }
+octets_wrote mode m Bitmap v h l = record { value = v; same = record { is = refl }; lawful = tt; wrote = record { is = (h, refl) } }
 
 -- the same value has the same canonical octets
 pub octets_same : {k : Kind} {a b : Value k} → SameField k a b → field_octets k a ≡ field_octets k b

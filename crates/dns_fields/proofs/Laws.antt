@@ -1,7 +1,7 @@
 -- The laws of all record data, by induction on the list of kinds.
 use Rattle.std.proofs.Common.{◌≡◌, ℕ, ◌≤◌, List, [], ◌∷◌, ◌++◌, length, refl, sym, ap, ◌∙◌, arith, subst, append_assoc}
 use Rattle.std.proofs.lemmas.List.{length-append, append-nil}
-use Rattle.dns_fields.specs.Fields.{Kind, Value, Values, Field, Stands, Wrote, Same, AllFit, AllLawful, AllMeasured, canonical, field_octets, AllFull}
+use Rattle.dns_fields.specs.Fields.{Kind, Value, Values, Field, Stands, Wrote, Same, AllFit, AllLawful, canonical, field_octets, AllFull}
 use Rattle.dns_fields.specs.declared.RDataEncoding.{RDataEncoding}
 use Rattle.dns_fields.specs.declared.RDataEncoding.TheVariants.{Other}
 use Rattle.dns_fields.specs.Laws.{IsShape, StandsLaw, CanonicalLaw, CanonicalReads}
@@ -38,13 +38,13 @@ pub wrote_fit : (mode : RDataEncoding) (m : List ℕ) (s : List Kind) (a : Value
 wrote_fit mode m [] a m' f = tt
 wrote_fit mode m (k ∷ kinds) a m' f = (wrote_fits f.1, wrote_fit mode f.0 kinds a.1 m' f.2)
 
-pub wrote_behind : (mode : RDataEncoding) (m : List ℕ) (s : List Kind) (a : Values s) (m' : List ℕ) → Wrote mode m s a m' → (t : List ℕ) × (m' ≡ m ++ t) × (AllMeasured s → length t ≤ length (canonical s a))
-wrote_behind mode m [] a m' f = ([], f ∙ sym (append-nil m), λ _. omega arith)
+pub wrote_behind : (mode : RDataEncoding) (m : List ℕ) (s : List Kind) (a : Values s) (m' : List ℕ) → Wrote mode m s a m' → (t : List ℕ) × (m' ≡ m ++ t) × (length t ≤ length (canonical s a))
+wrote_behind mode m [] a m' f = ([], f ∙ sym (append-nil m), omega arith)
 wrote_behind mode m (k ∷ kinds) a m' f =
     let x = wrote_tail f.1 in
     let y = wrote_behind mode f.0 kinds a.1 m' f.2 in
     let joined : m' ≡ m ++ (x.0 ++ y.0) = y.1 ∙ ap (λ (z : List ℕ). z ++ y.0) x.1 ∙ append_assoc m x.0 y.0 in
-    (x.0 ++ y.0, joined, λ h. let a' = x.2 h.0 in let b' = y.2 h.1 in omega (arith, a', b', length-append x.0 y.0, length-append (field_octets k a.0) (canonical kinds a.1)))
+    (x.0 ++ y.0, joined, let a' = x.2 in let b' = y.2 in omega (arith, a', b', length-append x.0 y.0, length-append (field_octets k a.0) (canonical kinds a.1)))
 
 -- what was written reads there as the same values, behind any octets
 pub wrote_stands : (mode : RDataEncoding) (m : List ℕ) (s : List Kind) (a : Values s) (m' : List ℕ) → AllLawful s a → Wrote mode m s a m' → (b : Values s) × Same s a b × Stands m' (length m) s b (length m')

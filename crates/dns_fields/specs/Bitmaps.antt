@@ -1,5 +1,5 @@
 -- Sets of type numbers (RFC 4034, 4.1.2).
-use Rattle.std.specs.Prelude.{◌≡◌, ℕ, zero, suc, ◌+◌, ◌-◌, ◌*◌, ◌/◌, ◌%◌, ◌<◌, ◌≤◌, ◌^◌, ◌==◌, ◌&&◌, Bool, if◌then◌else◌, List, [], ◌∷◌, ◌++◌, length, map, slice_index_or}
+use Rattle.std.specs.Prelude.{◌≡◌, ℕ, zero, suc, ◌+◌, ◌-◌, ◌*◌, ◌/◌, ◌%◌, ◌<◌, ◌≤◌, ◌^◌, ◌==◌, ◌&&◌, Bool, if◌then◌else◌, List, [], ◌∷◌, length, map, slice_index_or}
 use Rattle.std.specs.List.{flat_map, AllByRecursion, list_any, range_with_len}
 use Rattle.std.specs.Int.{bit_at}
 use Rattle.dns_fields.specs.Octets.{At}
@@ -43,12 +43,6 @@ pub record BitmapAt (m : List ℕ) (p : ℕ) (v : List ℕ) (q : ℕ) : Type 0 w
   pub fit : AllByRecursion IsBlock blocks
   pub set : IsTypeSet v
   pub types : (t : ℕ) → contains t v ≡ list_any (has_type t) blocks
-
--- octets behind m whose types are those of v
-pub record BitmapWrote (m : List ℕ) (v : List ℕ) (m' : List ℕ) : Type 0 where
-  pub tail : List ℕ
-  pub behind : m' ≡ m ++ tail
-  pub stands : BitmapAt m' (length m) v (length m')
 
 -- ---- the minimal bitmap
 

@@ -12,7 +12,7 @@ use Rattle.dns_fields.specs.declared.RDataEncoding.{RDataEncoding}
 use Rattle.dns_fields.specs.Labels.{DomainName, IsName, lowname}
 use Rattle.dns_fields.specs.Names.{IsNameIn, NameWrote, SameName}
 use Rattle.dns_fields.specs.Pieces.{string, Numbered, piece, pieces, ArePieces, AllHeld, as_piece, HoldThemselves, OptionValue, option_octets, OptionHeld, OptionFits, IsCut, ParameterValue, parameter_octets, ParameterHeld, ParameterFits, Rising}
-use Rattle.dns_fields.specs.Bitmaps.{block, IsTypeSet, BitmapAt, BitmapWrote, minimal}
+use Rattle.dns_fields.specs.Bitmaps.{block, IsTypeSet, BitmapAt, minimal}
 
 pub data Kind : Type 0 where
   -- an unsigned number of so many octets, the highest first
@@ -161,7 +161,7 @@ written_is mode m Texts ss m' = AllByRecursion (λ s. length s < 256) ss × (m' 
 written_is mode m Rest s m' = m' ≡ m ++ s
 written_is mode m Options v m' = AllByRecursion OptionFits v × (m' ≡ m ++ pieces (option_pieces v))
 written_is mode m Parameters v m' = AllByRecursion ParameterFits v × Rising v × (m' ≡ m ++ pieces (parameter_pieces v))
-written_is mode m Bitmap v m' = BitmapWrote m v m'
+written_is mode m Bitmap v m' = IsTypeSet v × (m' ≡ m ++ flat_map block (minimal v))
 
 pub record WroteField (mode : RDataEncoding) (m : List ℕ) (k : Kind) (v : Value k) (m' : List ℕ) : Type 0 where
   pub is : written_is mode m k v m'
@@ -201,22 +201,6 @@ EndsItself Rest = ⊥
 EndsItself Options = ⊥
 EndsItself Parameters = ⊥
 EndsItself Bitmap = ⊥
-
--- a field that is never written in more octets than its canonical ones
-abbrev pub IsMeasured : Kind → Type 0
-IsMeasured (Number w) = Unit {0}
-IsMeasured (Octets n) = Unit {0}
-IsMeasured Name = Unit {0}
-IsMeasured Text = Unit {0}
-IsMeasured Texts = Unit {0}
-IsMeasured Rest = Unit {0}
-IsMeasured Options = Unit {0}
-IsMeasured Parameters = Unit {0}
-IsMeasured Bitmap = ⊥
-
-abbrev pub AllMeasured : List Kind → Type 0
-AllMeasured [] = Unit {0}
-AllMeasured (k ∷ kinds) = IsMeasured k × AllMeasured kinds
 
 -- a name is fully qualified
 abbrev pub is_full : (k : Kind) → Value k → Type 0

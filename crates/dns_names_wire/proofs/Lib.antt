@@ -1,0 +1,4 @@
+pub mod FieldReads
+pub mod FieldWrites
+pub mod Strings
+pub mod WindowReads

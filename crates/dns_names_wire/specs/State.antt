@@ -1,0 +1,18 @@
+-- What contracts see of a decoder and of an encoder.
+use Rattle.std.specs.Prelude.{ℕ, List, ◌≤◌, length}
+use Rattle.dns_fields.specs.declared.RDataEncoding.{RDataEncoding}
+
+pub record Reading : Type 0 where
+  pub message : List ℕ
+  pub index : ℕ
+
+-- the octets so far, how many there may be, how names are written, and which vector holds the octets
+pub record Writing : Type 0 where
+  pub octets : List ℕ
+  pub limit : ℕ
+  pub mode : RDataEncoding
+  pub target : ℕ
+
+-- the place is in the message, or at its end
+abbrev pub IsInside : Reading → Type 0
+IsInside d = d.index ≤ length d.message

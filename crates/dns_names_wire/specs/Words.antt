@@ -1,0 +1,169 @@
+-- What a reader and an emitter of fields do, exactly.
+use Rattle.std.specs.Prelude.{◌≡◌, ◌≢◌, ℕ, ◌+◌, ◌<◌, ◌≤◌, ◌⊎◌, List, [], ◌∷◌, ◌++◌, length, Result, Ok, Err}
+use Rattle.dns_types.specs.declared.error.DecodeError.{DecodeError}
+use Rattle.dns_types.specs.declared.error.DecodeError.TheVariants as decode
+use Rattle.dns_types.specs.declared.error.ProtoError.{ProtoError}
+use Rattle.dns_types.specs.declared.error.ProtoError.TheVariants as proto
+use Rattle.dns_fields.specs.declared.RDataEncoding.{RDataEncoding}
+use Rattle.dns_fields.specs.Octets.{AreOctets}
+use Rattle.dns_fields.specs.Fields.{Kind, Number, Value, Values, Field, Stands, WroteField, Wrote, Fits, AllFit, canonical, field_octets}
+use Rattle.dns_names_wire.specs.State.{Reading, Writing}
+
+-- ---- reading
+
+-- the value stands as one field from where the decoder was to where it is
+pub record TookField (old : Reading) (k : Kind) (v : Value k) (new : Reading) : Type 0 where
+  pub message : new.message ≡ old.message
+  pub field : Field old.message old.index k v new.index
+
+-- fewer than n octets are left
+abbrev pub LacksOctets : Reading → ℕ → Type 0
+LacksOctets d n = length d.message < d.index + n
+
+-- no value of this kind stands there
+pub record LacksField (d : Reading) (k : Kind) : Type 0 where
+  pub none : (v : Value k) (q : ℕ) → Field d.message d.index k v q → ⊥
+
+-- the values stand one behind the other from where the decoder was to where it is
+pub record Took (old : Reading) (kinds : List Kind) (vs : Values kinds) (new : Reading) : Type 0 where
+  pub message : new.message ≡ old.message
+  pub stands : Stands old.message old.index kinds vs new.index
+
+-- no values stand there under a condition on them and on their end
+pub record Lacks (d : Reading) (kinds : List Kind) (condition : Values kinds → ℕ → Type 0) : Type 0 where
+  pub none : (vs : Values kinds) (e : ℕ) → Stands d.message d.index kinds vs e → condition vs e → ⊥
+
+-- want of memory says nothing
+abbrev pub UnlessMemory : DecodeError → Type 0 → Type 0
+UnlessMemory decode.Memory P = Unit {0}
+UnlessMemory e P = P
+
+-- after a refusal the message is the same, and the index is not before where it was
+pub record StaysBehind (old new : Reading) : Type 0 where
+  pub message : new.message ≡ old.message
+  pub index : old.index ≤ new.index
+
+pub record RefusedField (e : DecodeError) (old : Reading) (k : Kind) (new : Reading) : Type 0 where
+  pub behind : StaysBehind old new
+  pub none : UnlessMemory e (LacksField old k)
+
+pub record Refused (e : DecodeError) (old : Reading) (kinds : List Kind) (condition : Values kinds → ℕ → Type 0) (new : Reading) : Type 0 where
+  pub behind : StaysBehind old new
+  pub none : UnlessMemory e (Lacks old kinds condition)
+
+-- reads a field exactly where one stands
+abbrev pub ReadsField : {T : Type 0} (k : Kind) → (T → Value k) → Result T DecodeError → Reading → Reading → Type 0
+ReadsField k view (Ok x) old new = TookField old k (view x) new
+ReadsField k view (Err e) old new = RefusedField e old k new
+
+-- reads the fields exactly where they stand under the condition
+abbrev pub ReadsIf : {T : Type 0} (kinds : List Kind) → (Values kinds → ℕ → Type 0) → (T → Values kinds) → Result T DecodeError → Reading → Reading → Type 0
+ReadsIf kinds condition view (Ok x) old new = Took old kinds (view x) new × condition (view x) new.index
+ReadsIf kinds condition view (Err e) old new = Refused e old kinds condition new
+
+abbrev pub always : (kinds : List Kind) → Values kinds → ℕ → Type 0
+always kinds vs e = Unit {0}
+
+-- A character string lacks octets: its length octet, or octets behind it.
+abbrev pub LacksText : Reading → Reading → Type 0
+LacksText old new = ((new ≡ old) × LacksOctets old 1) ⊎ ((n : ℕ) × TookField old (Number 1) n new × LacksOctets new n)
+
+-- reads a value exactly where one stands by a relation of message, place, value and end
+abbrev pub ReadsBy : {T : Type 0} → (List ℕ → ℕ → T → ℕ → Type 0) → Result T DecodeError → Reading → Reading → Type 0
+ReadsBy stands (Ok x) old new = StaysBehind old new × stands old.message old.index x new.index
+ReadsBy {T} stands (Err e) old new = StaysBehind old new × UnlessMemory e ((x : T) (end : ℕ) → stands old.message old.index x end → ⊥)
+
+-- ---- the data of a record, of a known length (RFC 1035, 3.2.1)
+
+-- the values fill the n octets from p, under a condition
+pub record Window (m : List ℕ) (p n : ℕ) (kinds : List Kind) (condition : Values kinds → Type 0) (vs : Values kinds) : Type 0 where
+  pub octets : AreOctets m
+  pub short : n < 65536
+  pub within : p + n ≤ length m
+  pub stands : Stands m p kinds vs (p + n)
+  pub holds : condition vs
+
+pub record NoWindow (m : List ℕ) (p n : ℕ) (kinds : List Kind) (condition : Values kinds → Type 0) : Type 0 where
+  pub none : (vs : Values kinds) → Window m p n kinds condition vs → ⊥
+
+-- A reader that may stop at another end than the length: where it stops at the length, the values fill it, and where
+-- it does not, none do.
+pub record TookWindow (old : Reading) (n : ℕ) (kinds : List Kind) (condition : Values kinds → Type 0) (vs : Values kinds) (new : Reading) : Type 0 where
+  pub behind : StaysBehind old new
+  pub here : new.index ≡ old.index + n → Window old.message old.index n kinds condition vs
+  pub elsewhere : new.index ≢ old.index + n → NoWindow old.message old.index n kinds condition
+
+pub record RefusedWindow (e : DecodeError) (old : Reading) (n : ℕ) (kinds : List Kind) (condition : Values kinds → Type 0) (new : Reading) : Type 0 where
+  pub behind : StaysBehind old new
+  pub none : UnlessMemory e (NoWindow old.message old.index n kinds condition)
+
+abbrev pub ReadsWindow : {T : Type 0} (kinds : List Kind) → (Values kinds → Type 0) → (T → Values kinds) → ℕ → Result T DecodeError → Reading → Reading → Type 0
+ReadsWindow kinds condition view n (Ok x) old new = TookWindow old n kinds condition (view x) new
+ReadsWindow kinds condition view n (Err e) old new = RefusedWindow e old n kinds condition new
+
+-- ---- writing
+
+-- the same limit, mode and vector
+pub record Keeps (old new : Writing) : Type 0 where
+  pub limit : new.limit ≡ old.limit
+  pub mode : new.mode ≡ old.mode
+  pub target : new.target ≡ old.target
+
+-- written in the encoder's mode
+pub record AppendedField (old : Writing) (k : Kind) (v : Value k) (new : Writing) : Type 0 where
+  pub keeps : Keeps old new
+  pub field : WroteField old.mode old.octets k v new.octets
+
+pub record Appended (mode : RDataEncoding) (old : Writing) (kinds : List Kind) (vs : Values kinds) (new : Writing) : Type 0 where
+  pub keeps : Keeps old new
+  pub fields : Wrote mode old.octets kinds vs new.octets
+
+-- the octets that were there stand
+pub record Extends (old new : Writing) : Type 0 where
+  pub keeps : Keeps old new
+  pub tail : List ℕ
+  pub octets : new.octets ≡ old.octets ++ tail
+
+pub record NoRoomField (w : Writing) (k : Kind) (v : Value k) : Type 0 where
+  pub full : w.limit < length w.octets + length (field_octets k v)
+
+pub record NoRoom (w : Writing) (kinds : List Kind) (vs : Values kinds) : Type 0 where
+  pub full : w.limit < length w.octets + length (canonical kinds vs)
+
+pub record UnfitField (k : Kind) (v : Value k) : Type 0 where
+  pub unfit : Fits k v → ⊥
+
+pub record Unfit (kinds : List Kind) (vs : Values kinds) : Type 0 where
+  pub unfit : AllFit kinds vs → ⊥
+
+-- why it was refused
+abbrev pub Because : ProtoError → Type 0 → Type 0 → Type 0
+Because proto.Memory room unfit = Unit {0}
+Because proto.MaxBufferSizeExceeded room unfit = room
+Because (proto.Message text) room unfit = unfit
+Because (proto.Decode e) room unfit = ⊥
+
+pub record StoppedField (e : ProtoError) (old : Writing) (k : Kind) (v : Value k) (new : Writing) : Type 0 where
+  pub extends : Extends old new
+  pub why : Because e (NoRoomField old k v) (UnfitField k v)
+
+pub record Stopped (e : ProtoError) (old : Writing) (kinds : List Kind) (vs : Values kinds) (new : Writing) : Type 0 where
+  pub extends : Extends old new
+  pub why : Because e (NoRoom old kinds vs) (Unfit kinds vs)
+
+abbrev pub EmitsField : (k : Kind) → Value k → Result (Unit {0}) ProtoError → Writing → Writing → Type 0
+EmitsField k v (Ok x) old new = AppendedField old k v new
+EmitsField k v (Err e) old new = StoppedField e old k v new
+
+-- emits the fields, the names in this mode
+abbrev pub EmitsAs : RDataEncoding → (kinds : List Kind) → Values kinds → Result (Unit {0}) ProtoError → Writing → Writing → Type 0
+EmitsAs mode kinds vs (Ok x) old new = Appended mode old kinds vs new
+EmitsAs mode kinds vs (Err e) old new = Stopped e old kinds vs new
+
+-- in the encoder's own mode
+abbrev pub Emits : (kinds : List Kind) → Values kinds → Result (Unit {0}) ProtoError → Writing → Writing → Type 0
+Emits kinds vs r old new = EmitsAs old.mode kinds vs r old new
+
+-- reads the fields exactly where they fill so many octets under the condition
+abbrev pub ReadsTo : {T : Type 0} (kinds : List Kind) → (Values kinds → Type 0) → ℕ → (T → Values kinds) → Result T DecodeError → Reading → Reading → Type 0
+ReadsTo kinds condition n view r old new = ReadsIf kinds (λ vs e. (e ≡ old.index + n) × condition vs) view r old new

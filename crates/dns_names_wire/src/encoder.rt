@@ -1,0 +1,239 @@
+//! A message that is being written.
+
+ghost use Rattle.std.specs.Prelude.{◌≡◌, ◌≢◌, ◌+◌, ◌<◌, ◌≤◌, ◌^◌, ◌↔◌, ◌⊎◌, ℕ, IsTrue, IfErr, List, [], ◌∷◌, ◌++◌, length, take, drop, IfOk, OnOk, OnErr};
+ghost use Rattle.std.specs.Int.{cast_unsigned, bytes_high_first, w32};
+ghost use Rattle.dns_fields.specs.Fields.{Number, Rest, Text};
+ghost use Rattle.dns_fields.specs.Octets.{AreOctets};
+ghost use Rattle.dns_names_wire.specs.Words.{EmitsField, AppendedField, StoppedField, Keeps};
+
+use dns_fields::RDataEncoding;
+use dns_types::ProtoError;
+use std::marker::Model;
+
+// The most octets of a message that is sent over TCP (RFC 1035, 4.2.2).
+const MAX_SIZE: usize = 65535;
+
+/// Octets that are written one behind the other to the end of a vector, up to a limit (RFC 1035, 4.1).
+///
+/// Each call appends whole, or it is refused for memory, or for buffer space exactly where the octets would pass the
+/// limit. After a refusal the octets that were there stand.
+#[derive(Drop)]
+pub struct BinEncoder<'a> {
+    octets: &'a mut Vec<u8>,
+    limit: usize,
+    mode: RDataEncoding,
+}
+
+impl<'a> Model for BinEncoder<'a> {
+    ghost use Rattle.std.specs.Prelude.{◌≤◌};
+    ghost use Rattle.dns_fields.specs.Octets.{AreOctets};
+    ghost use Rattle.dns_names_wire.specs.State.{Writing};
+
+    ghost Value = { Writing };
+
+    ghost view = { λ e. record { octets = e.octets.now.items; limit = e.limit; mode = e.mode; target = e.octets.ghost_name } };
+
+    ghost invariant = { λ e. (e.limit ≤ 65535) × AreOctets e.octets.now.items };
+}
+
+/// Where two octets stand that are still to be replaced by a number.
+#[derive(Clone, Copy, Debug, PartialEq, Eq)]
+pub struct Place {
+    /// The place of the first of the two octets.
+    pub index: usize,
+}
+
+impl<'a> BinEncoder<'a> {
+    /// Without an octet, with the limit 65535, and with names as in the records of RFC 1035.
+    #[inline]
+    pub fn new(octets: &'a mut Vec<u8>) -> BinEncoder<'a>
+        requires { octets.old.items ≡ [] }
+        ensures { result ≡ record { octets = []; limit = 65535; mode = RDataEncoding.StandardRecord; target = octets.entry.ghost_name } }
+    {
+        BinEncoder {
+            octets,
+            limit: MAX_SIZE,
+            mode: RDataEncoding::StandardRecord,
+        }
+    }
+
+    /// The vector, with the octets.
+    #[inline]
+    pub fn into_bytes(self) -> &'a mut Vec<u8>
+        ensures same { result.ghost_name ≡ self.entry.target }
+        ensures octets { result.now.items ≡ self.entry.octets }
+    {
+        let BinEncoder { octets, .. } = self;
+        octets
+    }
+
+    /// How many octets were written.
+    #[inline]
+    pub fn len(&self) -> usize
+        ensures value { result ≡ length self.now.octets }
+        ensures octets { AreOctets self.now.octets }
+    {
+        self.octets.len()
+    }
+
+    /// Whether no octet was written.
+    #[inline]
+    pub fn is_empty(&self) -> bool
+        ensures { IsTrue result ↔ (self.now.octets ≡ []) }
+    {
+        self.octets.is_empty()
+    }
+
+    /// Sets how many octets there may be; those that are there stay.
+    #[inline]
+    pub fn set_max_size(&mut self, max: u16)
+        ensures { self.new ≡ record self.old { limit = max } }
+    {
+        self.limit = max as usize;
+    }
+
+    /// Sets how names are written, and answers how they were.
+    #[inline]
+    pub fn with_rdata_behavior(&mut self, mode: RDataEncoding) -> RDataEncoding
+        ensures earlier { result ≡ self.old.mode }
+        ensures set { self.new ≡ record self.old { mode = mode } }
+    {
+        let earlier = self.mode;
+        self.mode = mode;
+        earlier
+    }
+
+    /// Appends octets.
+    #[inline]
+    #[tactic(auto, unfolding(dns_fields::specs::Fields::field_octets))]
+    pub fn emit_vec(&mut self, octets: &[u8]) -> Result<(), ProtoError>
+        ensures emits { EmitsField Rest octets.now result self.old self.new }
+        ensures room { OnOk result (length self.old.octets + length octets.now ≤ self.old.limit) }
+        ensures whole { OnErr result (self.new ≡ self.old) }
+    {
+        if self.octets.len() > self.limit || self.limit - self.octets.len() < octets.len() {
+            return Err(ProtoError::MaxBufferSizeExceeded);
+        }
+        self.octets.extend_from_slice(octets)?;
+        Ok(())
+    }
+
+    /// Appends one octet.
+    #[inline]
+    pub fn emit(&mut self, octet: u8) -> Result<(), ProtoError>
+        ensures emits { EmitsField (Number 1) octet result self.old self.new }
+        ensures room { OnOk result (length self.old.octets + 1 ≤ self.old.limit) }
+        ensures whole { OnErr result (self.new ≡ self.old) }
+    {
+        self.emit_u8(octet)
+    }
+
+    /// Appends one octet, of a number.
+    #[inline]
+    #[tactic(auto, unfolding(dns_fields::specs::Fields::field_octets))]
+    pub fn emit_u8(&mut self, n: u8) -> Result<(), ProtoError>
+        ensures emits { EmitsField (Number 1) n result self.old self.new }
+        ensures room { OnOk result (length self.old.octets + 1 ≤ self.old.limit) }
+        ensures whole { OnErr result (self.new ≡ self.old) }
+    {
+        self.emit_vec(&n.to_be_bytes())?;
+        Ok(())
+    }
+
+    /// Appends the two octets of a number, the higher one first.
+    #[inline]
+    #[tactic(auto, unfolding(dns_fields::specs::Fields::field_octets))]
+    pub fn emit_u16(&mut self, n: u16) -> Result<(), ProtoError>
+        ensures emits { EmitsField (Number 2) n result self.old self.new }
+        ensures room { OnOk result (length self.old.octets + 2 ≤ self.old.limit) }
+        ensures whole { OnErr result (self.new ≡ self.old) }
+    {
+        self.emit_vec(&n.to_be_bytes())?;
+        Ok(())
+    }
+
+    /// Appends the four octets of a number, the highest one first.
+    #[inline]
+    #[tactic(auto, unfolding(dns_fields::specs::Fields::field_octets))]
+    pub fn emit_u32(&mut self, n: u32) -> Result<(), ProtoError>
+        ensures emits { EmitsField (Number 4) n result self.old self.new }
+        ensures room { OnOk result (length self.old.octets + 4 ≤ self.old.limit) }
+        ensures whole { OnErr result (self.new ≡ self.old) }
+    {
+        self.emit_vec(&n.to_be_bytes())?;
+        Ok(())
+    }
+
+    /// Appends the four octets of a signed number in two's complement, the highest one first.
+    #[inline]
+    pub fn emit_i32(&mut self, n: i32) -> Result<(), ProtoError>
+        ensures emits { EmitsField (Number 4) (cast_unsigned w32 n) result self.old self.new }
+        ensures room { OnOk result (length self.old.octets + 4 ≤ self.old.limit) }
+        ensures whole { OnErr result (self.new ≡ self.old) }
+    {
+        self.emit_u32(n.cast_unsigned())
+    }
+
+    /// Appends a character string: its length in one octet, and its octets (RFC 1035, 3.3). One of more than 255
+    /// octets is refused by `Message`.
+    #[inline]
+    #[tactic(auto, unfolding(dns_fields::specs::Fields::field_octets))]
+    pub fn emit_character_data(&mut self, octets: &[u8]) -> Result<(), ProtoError>
+        ensures emits { EmitsField Text octets.now result self.old self.new }
+        ensures room { OnOk result (length self.old.octets + 1 + length octets.now ≤ self.old.limit) }
+        ensures whole { OnErr result (self.new ≡ self.old) }
+    {
+        if octets.len() > 255 {
+            return Err(ProtoError::Message("character data past 255 octets"));
+        }
+        if self.octets.len() >= self.limit || self.limit - self.octets.len() - 1 < octets.len() {
+            return Err(ProtoError::MaxBufferSizeExceeded);
+        }
+        append_string(self.octets, octets)
+    }
+
+    /// Appends the two octets of the number 0, which is to be replaced by another.
+    pub fn place(&mut self) -> Result<Place, ProtoError>
+        ensures placed { IfOk result (λ p. (p.index ≡ length self.old.octets) × AppendedField self.old (Number 2) 0 self.new) }
+        ensures refused { IfErr result (λ e. StoppedField e self.old (Number 2) 0 self.new) }
+        ensures room { OnOk result (length self.old.octets + 2 ≤ self.old.limit) }
+        ensures whole { OnErr result (self.new ≡ self.old) }
+    {
+        let index = self.octets.len();
+        self.emit_u16(0)?;
+        Ok(Place { index })
+    }
+
+    /// Puts the two octets of a number, the higher one first, where the two octets were placed.
+    pub fn replace(&mut self, place: Place, number: u16)
+        requires { place.index + 2 ≤ length self.old.octets }
+        ensures keeps { Keeps self.old self.new }
+        ensures octets { self.new.octets ≡ take place.index self.old.octets ++ (bytes_high_first 2 number ++ drop (place.index + 2) self.old.octets) }
+    {
+        self.octets[place.index..place.index + 2].copy_from_slice(&number.to_be_bytes());
+    }
+
+    /// How many octets were written behind the two that were placed.
+    pub fn len_since_place(&self, place: &Place) -> usize
+        requires { place.now.index + 2 ≤ length self.now.octets }
+        ensures { place.now.index + 2 + result ≡ length self.now.octets }
+    {
+        self.octets.len() - place.index - 2
+    }
+}
+
+// Appends a string's length and octets, or nothing.
+#[inline]
+fn append_string(out: &mut Vec<u8>, octets: &[u8]) -> Result<(), ProtoError>
+    requires { length octets.now < 256 }
+    ensures ok { OnOk result (out.new.items ≡ out.old.items ++ length octets.now ∷ octets.now) }
+    ensures err { OnErr result (out.new.items ≡ out.old.items) }
+    ensures memory { IfErr result (λ e. e ≡ ProtoError.Memory) }
+{
+    out.push(octets.len() as u8)?;
+    if out.extend_from_slice(octets).is_err() {
+        let _length = out.pop();
+        return Err(ProtoError::Memory);
+    }
+    Ok(())
+}

@@ -1,0 +1,13 @@
+//! Domain names and the wire form of DNS messages: a decoder and an encoder.
+#![tactic(auto)]
+
+pub mod binary;
+pub mod decoder;
+pub mod encoder;
+
+pub use binary::{BinDecodable, BinEncodable};
+pub use decoder::BinDecoder;
+pub use encoder::{BinEncoder, Place};
+pub use dns_fields::RDataEncoding;
+pub use dns_types::{error, octets, record_type, restrict};
+pub use dns_types::{AddrParseError, DecodeError, Octets, ParseError, ProtoError, RecordType, Restrict};

@@ -1,0 +1,12 @@
+use Rattle.std.proofs.Common.{◌≡◌, ◌<◌, ◌^◌, length, ℕ, refl, get_or}
+use Rattle.std.proofs.Math.Facts.{Fits-lt-pow}
+use Rattle.std.specs.Net.Addr.{segments_of, octets_of}
+use Rattle.dns_rdata_base.proofs.Addresses.{octets_of-segments_of}
+use Rattle.dns_rdata_base.proofs.aaaa.address_of.Goals as goal
+
+pub returns : goal.returns
+returns c =
+    let h = octets_of-segments_of 8 c.args.octets.now c.requires (λ i. let h : get_or c.args.octets.now i 0 < 2 ^ 8 = Fits-lt-pow (c.type_inv.octets i) in h) in
+    let e = c.in-Some.ensures.cases.same in
+    let f = c.from.ensures in
+    rw (f, e) h

@@ -1,0 +1,118 @@
+//! A: an IPv4 address (RFC 1035, 3.4.1).
+
+ghost use Rattle.std.specs.Prelude.{◌≡◌, ◌+◌, ◌<◌, ◌≤◌, ℕ, List, [], ◌∷◌, length, length as list_length, OnErr, IfErr};
+ghost use Rattle.std.specs.Net.Addr.{ipv4_octets};
+ghost use Rattle.dns_names_wire.specs.Words.{ReadsIf, ReadsBy, ReadsWindow, Emits, LacksOctets, always};
+ghost use Rattle.dns_rdata_base.specs.A.{a_shape, a_fields};
+
+use crate::traits::{RecordDataDecodable, TakesOctet};
+use dns_names_wire::{BinDecodable, BinDecoder, BinEncodable, BinEncoder, DecodeError, ProtoError, Restrict};
+use std::fmt;
+use std::net::Ipv4Addr;
+use std::ops::Deref;
+
+/// An IPv4 address, its four octets in network order (RFC 1035, 3.4.1).
+#[derive(Clone, Copy, Debug, PartialEq, Eq, Hash)]
+pub struct A(pub Ipv4Addr);
+
+impl A {
+    /// The address with these octets, `a.b.c.d`.
+    pub fn new(a: u8, b: u8, c: u8, d: u8) -> A
+        ensures { ipv4_octets result.0 ≡ a ∷ b ∷ c ∷ d ∷ [] }
+    {
+        A(Ipv4Addr::new(a, b, c, d))
+    }
+}
+
+impl BinDecodable for A {
+    ghost use Rattle.dns_fields.specs.Fields.{Stands};
+
+    ghost stands = { λ m p x q. Stands m p a_shape (a_fields x) q };
+
+    /// Reads four octets. Where fewer are left it takes them, and is refused.
+    #[inline]
+    fn read(decoder: &mut BinDecoder<'_>) -> Result<A, DecodeError>
+        ensures reads { ReadsBy (λ m p x q. Stands m p a_shape (a_fields x) q) result decoder.old decoder.new }
+        ensures fields { ReadsIf a_shape (always a_shape) a_fields result decoder.old decoder.new }
+        ensures lacking { IfErr result (λ e. (e ≡ DecodeError.InsufficientBytes) × LacksOctets decoder.old 4) }
+        ensures stopped { OnErr result (decoder.new.index ≡ length decoder.old.message) }
+    {
+        let octets = decoder.read_in_steps(4, 1)?.unverified();
+        Ok(A::new(octets[0], octets[1], octets[2], octets[3]))
+    }
+}
+
+impl TakesOctet for A {
+    ghost use Rattle.dns_rdata_base.specs.A.{a_takes};
+
+    ghost takes = { a_takes };
+}
+
+impl RecordDataDecodable for A {
+    ghost kinds = { a_shape };
+
+    ghost condition = { λ _. Unit {0} };
+
+    ghost fields = { a_fields };
+
+    /// Reads the four octets, whatever the length.
+    #[inline]
+    fn read_data(decoder: &mut BinDecoder<'_>, length: Restrict<u16>) -> Result<A, DecodeError>
+        ensures window { ReadsWindow a_shape (λ _. Unit {0}) a_fields length result decoder.old decoder.new }
+        ensures lacking { IfErr result (λ e. (e ≡ DecodeError.InsufficientBytes) × LacksOctets decoder.old 4) }
+        ensures stopped { OnErr result (decoder.new.index ≡ list_length decoder.old.message) }
+    {
+        let _start = decoder.index();
+        A::read(decoder)
+    }
+}
+
+impl BinEncodable for A {
+    ghost emits = { λ x r old new. Emits a_shape (a_fields x) r old new };
+
+    /// Appends the four octets.
+    #[inline]
+    fn emit(&self, encoder: &mut BinEncoder<'_>) -> Result<(), ProtoError> {
+        encoder.emit_vec(&self.0.octets())
+    }
+}
+
+impl From<Ipv4Addr> for A {
+    ghost from_gives = { λ address a. a.0 ≡ address };
+
+    fn from(address: Ipv4Addr) -> A {
+        A(address)
+    }
+}
+
+impl From<A> for Ipv4Addr {
+    ghost from_gives = { λ a address. address ≡ a.0 };
+
+    fn from(a: A) -> Ipv4Addr {
+        a.0
+    }
+}
+
+impl Deref for A {
+    type Target = Ipv4Addr;
+
+    ghost deref_gives = { λ a address. address ≡ a.0 };
+
+    #[inline]
+    fn deref(&self) -> &Ipv4Addr {
+        &self.0
+    }
+}
+
+impl fmt::Display for A {
+    ghost use Rattle.std.specs.Prelude.{Some};
+    ghost use Rattle.dns_rdata_base.specs.A.{a_text};
+
+    ghost output = { λ a. Some (a_text a) };
+
+    /// The four octets in decimal, a point between: `192.0.2.1`.
+    fn fmt<W: fmt::Write>(&self, f: &mut fmt::Formatter<W>) -> fmt::Result {
+        let address = self.0;
+        write!(f, "{address}")
+    }
+}

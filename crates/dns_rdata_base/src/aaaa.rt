@@ -1,0 +1,132 @@
+//! AAAA: an IPv6 address (RFC 3596, 2.2).
+
+ghost use Rattle.std.specs.Prelude.{◌≡◌, ◌+◌, ◌-◌, ◌*◌, ◌/◌, ◌<◌, ◌≤◌, ℕ, List, [], ◌∷◌, length, length as list_length, OnErr, IfErr};
+ghost use Rattle.std.specs.Net.Addr.{ipv6_segments, ipv6_octets};
+ghost use Rattle.dns_names_wire.specs.Words.{ReadsIf, ReadsBy, ReadsWindow, Emits, LacksOctets, always};
+ghost use Rattle.dns_rdata_base.specs.AAAA.{aaaa_shape, aaaa_fields};
+
+use crate::traits::{RecordDataDecodable, TakesOctet};
+use dns_names_wire::{BinDecodable, BinDecoder, BinEncodable, BinEncoder, DecodeError, ProtoError, Restrict};
+use std::fmt;
+use std::net::Ipv6Addr;
+use std::ops::Deref;
+
+/// An IPv6 address, its sixteen octets in network order (RFC 3596, 2.2).
+#[derive(Clone, Copy, Debug, PartialEq, Eq, Hash)]
+pub struct AAAA(pub Ipv6Addr);
+
+impl AAAA {
+    /// The address of these eight groups of sixteen bits, `a:b:c:d:e:f:g:h`.
+    #[allow(clippy::too_many_arguments)]
+    pub fn new(a: u16, b: u16, c: u16, d: u16, e: u16, f: u16, g: u16, h: u16) -> AAAA
+        ensures { ipv6_segments result.0 ≡ a ∷ b ∷ c ∷ d ∷ e ∷ f ∷ g ∷ h ∷ [] }
+    {
+        AAAA(Ipv6Addr::new(a, b, c, d, e, f, g, h))
+    }
+}
+
+impl BinDecodable for AAAA {
+    ghost use Rattle.dns_fields.specs.Fields.{Stands};
+
+    ghost stands = { λ m p x q. Stands m p aaaa_shape (aaaa_fields x) q };
+
+    /// Reads sixteen octets, two by two. Where fewer are left it takes the pairs that are there, and is refused.
+    #[inline]
+    fn read(decoder: &mut BinDecoder<'_>) -> Result<AAAA, DecodeError>
+        ensures reads { ReadsBy (λ m p x q. Stands m p aaaa_shape (aaaa_fields x) q) result decoder.old decoder.new }
+        ensures fields { ReadsIf aaaa_shape (always aaaa_shape) aaaa_fields result decoder.old decoder.new }
+        ensures lacking { IfErr result (λ e. (e ≡ DecodeError.InsufficientBytes) × LacksOctets decoder.old 16) }
+        ensures stopped { OnErr result (decoder.new.index ≡ decoder.old.index + (length decoder.old.message - decoder.old.index) / 2 * 2) }
+    {
+        let octets = decoder.read_in_steps(16, 2)?.unverified();
+        Ok(AAAA(address_of(octets)))
+    }
+}
+
+impl TakesOctet for AAAA {
+    ghost use Rattle.dns_rdata_base.specs.AAAA.{aaaa_takes};
+
+    ghost takes = { aaaa_takes };
+}
+
+impl RecordDataDecodable for AAAA {
+    ghost kinds = { aaaa_shape };
+
+    ghost condition = { λ _. Unit {0} };
+
+    ghost fields = { aaaa_fields };
+
+    /// Reads the sixteen octets, whatever the length.
+    #[inline]
+    fn read_data(decoder: &mut BinDecoder<'_>, length: Restrict<u16>) -> Result<AAAA, DecodeError>
+        ensures window { ReadsWindow aaaa_shape (λ _. Unit {0}) aaaa_fields length result decoder.old decoder.new }
+        ensures lacking { IfErr result (λ e. (e ≡ DecodeError.InsufficientBytes) × LacksOctets decoder.old 16) }
+        ensures stopped { OnErr result (decoder.new.index ≡ decoder.old.index + (list_length decoder.old.message - decoder.old.index) / 2 * 2) }
+    {
+        let _start = decoder.index();
+        AAAA::read(decoder)
+    }
+}
+
+impl BinEncodable for AAAA {
+    ghost emits = { λ x r old new. Emits aaaa_shape (aaaa_fields x) r old new };
+
+    /// Appends the sixteen octets.
+    #[inline]
+    fn emit(&self, encoder: &mut BinEncoder<'_>) -> Result<(), ProtoError> {
+        encoder.emit_vec(&self.0.octets())
+    }
+}
+
+impl From<Ipv6Addr> for AAAA {
+    ghost from_gives = { λ address a. a.0 ≡ address };
+
+    fn from(address: Ipv6Addr) -> AAAA {
+        AAAA(address)
+    }
+}
+
+impl From<AAAA> for Ipv6Addr {
+    ghost from_gives = { λ a address. address ≡ a.0 };
+
+    fn from(a: AAAA) -> Ipv6Addr {
+        a.0
+    }
+}
+
+impl Deref for AAAA {
+    type Target = Ipv6Addr;
+
+    ghost deref_gives = { λ a address. address ≡ a.0 };
+
+    #[inline]
+    fn deref(&self) -> &Ipv6Addr {
+        &self.0
+    }
+}
+
+impl fmt::Display for AAAA {
+    ghost use Rattle.std.specs.Prelude.{Some};
+    ghost use Rattle.dns_rdata_base.specs.AAAA.{aaaa_text};
+
+    ghost output = { λ a. Some (aaaa_text a) };
+
+    /// Eight groups in hexadecimal, the first longest run of at least two groups of zero as `::`: `2001:db8::1`; an
+    /// IPv4 address that is mapped as `::ffff:192.0.2.1`.
+    fn fmt<W: fmt::Write>(&self, f: &mut fmt::Formatter<W>) -> fmt::Result {
+        let address = self.0;
+        write!(f, "{address}")
+    }
+}
+
+// The address of sixteen octets.
+#[inline]
+fn address_of(octets: &[u8]) -> Ipv6Addr
+    requires { length octets.now ≡ 16 }
+    ensures { ipv6_octets result ≡ octets.now }
+{
+    match octets.as_array::<16>() {
+        Some(octets) => Ipv6Addr::from(*octets),
+        None => unreachable!(),
+    }
+}

@@ -1,0 +1,108 @@
+//! NULL: octets without a form (RFC 1035, 3.3.10).
+
+ghost use Rattle.std.specs.Prelude.{◌≡◌, ◌≢◌, ◌+◌, ◌<◌, ◌⊎◌, List, [], IfErr, IfOk, OnErr};
+ghost use Rattle.dns_names_wire.specs.Words.{ReadsWindow, Emits, LacksOctets};
+ghost use Rattle.dns_rdata_base.specs.NULL.{null_shape, null_fields};
+
+use crate::traits::RecordDataDecodable;
+use base64::display::Base64Display;
+use base64::engine::general_purpose::STANDARD;
+use dns_names_wire::{BinDecoder, BinEncodable, BinEncoder, DecodeError, Octets, ProtoError, Restrict};
+use std::alloc::{AllocError, Global};
+use std::fmt;
+
+/// Octets of any number without a form, all of a record's length (RFC 1035, 3.3.10).
+#[derive(Debug, Drop, PartialEq, Eq, Hash)]
+pub struct NULL {
+    /// The octets.
+    pub anything: Octets,
+}
+
+impl NULL {
+    /// Without an octet.
+    pub fn new(alloc: Global) -> NULL
+        ensures { result.anything ≡ [] }
+    {
+        NULL {
+            anything: Octets::new(alloc),
+        }
+    }
+
+    /// Without an octet.
+    pub fn default(alloc: Global) -> NULL
+        ensures { result.anything ≡ [] }
+    {
+        NULL::new(alloc)
+    }
+
+    /// With these octets, which are not none.
+    pub fn with(anything: Vec<u8>) -> NULL
+        requires { anything.items ≢ [] }
+        ensures { result.anything ≡ anything.items }
+    {
+        NULL {
+            anything: Octets::from_vec(anything),
+        }
+    }
+}
+
+impl Clone for NULL {
+    ghost is_clone = { λ a b. b ≡ a };
+
+    /// The same octets in memory of their own.
+    fn clone(&self) -> Result<NULL, AllocError>
+        ensures { IfOk result (λ copy. copy ≡ self.now) }
+    {
+        Ok(NULL {
+            anything: self.anything.clone()?,
+        })
+    }
+}
+
+impl RecordDataDecodable for NULL {
+    ghost kinds = { null_shape };
+
+    ghost condition = { λ _. Unit {0} };
+
+    ghost fields = { null_fields };
+
+    /// Reads all octets of the length, by one request for memory. Where fewer are left, or memory runs out, it is
+    /// refused, and takes none.
+    #[inline]
+    fn read_data(decoder: &mut BinDecoder<'_>, length: Restrict<u16>) -> Result<NULL, DecodeError>
+        ensures window { ReadsWindow null_shape (λ _. Unit {0}) null_fields length result decoder.old decoder.new }
+        ensures refused { IfErr result (λ e. (e ≡ DecodeError.Memory)
+            ⊎ ((e ≡ DecodeError.InsufficientBytes) × LacksOctets decoder.old length)) }
+        ensures unchanged { OnErr result (decoder.new ≡ decoder.old) }
+    {
+        let _start = decoder.index();
+        let octets = decoder.read_vec(length.unverified() as usize)?;
+        Ok(NULL {
+            anything: Octets::from_vec(octets.unverified()),
+        })
+    }
+}
+
+impl BinEncodable for NULL {
+    ghost emits = { λ x r old new. Emits null_shape (null_fields x) r old new };
+
+    /// Appends the octets.
+    #[inline]
+    fn emit(&self, encoder: &mut BinEncoder<'_>) -> Result<(), ProtoError> {
+        encoder.emit_vec(self.anything.as_slice())
+    }
+}
+
+impl fmt::Display for NULL {
+    ghost use Rattle.std.specs.Prelude.{Some};
+    ghost use Rattle.dns_rdata_base.specs.NULL.{null_text};
+
+    ghost output = { λ x. Some (null_text x) };
+
+    /// Base64 (RFC 4648, 4).
+    fn fmt<W: fmt::Write>(&self, f: &mut fmt::Formatter<W>) -> fmt::Result {
+        let engine = STANDARD;
+        let octets = Base64Display::new(self.anything.as_slice(), &engine);
+        write!(f, "{octets}")
+    }
+}

@@ -1,0 +1,2 @@
+pub mod RecordTypeLaws
+pub mod TypeTexts

@@ -1,0 +1,200 @@
+//! Why octets, values or texts are refused.
+ghost use Rattle.std.specs.Prelude.{◌≡◌};
+ghost use Rattle.dns_types.specs.Errors.{decode_refusal, proto_refusal};
+ghost use Rattle.dns_types.specs.declared.error.DecodeError.TheVariants as decode;
+ghost use Rattle.dns_types.specs.declared.error.ProtoError.TheVariants as proto;
+ghost use Rattle.dns_types.specs.declared.error.ParseError.TheVariants as parse;
+
+use crate::record_type::RecordType;
+use std::alloc::{AllocError, AllocFailed};
+use thiserror::Error;
+
+/// Why octets were not read.
+#[derive(Clone, Copy, Debug, PartialEq, Eq, Error)]
+pub enum DecodeError {
+    /// Octets were missing at the end of the message.
+    #[error("unexpected end of input")]
+    InsufficientBytes,
+    /// Reading took another number of octets than the record's length gives, or a part has a length
+    /// that it can't have.
+    #[error("incorrect length of record data: read {read}, length {len}")]
+    IncorrectRDataLengthRead {
+        /// The octets that were read.
+        read: usize,
+        /// The octets that there should have been.
+        len: usize,
+    },
+    /// Data of the type with this number is never read.
+    #[error("no data is read for record type {0}")]
+    UnknownRecordTypeValue(u16),
+    /// A text is the text of no record type.
+    #[error("unknown record type text")]
+    UnknownRecordTypeStr,
+    /// A domain name is damaged (RFC 1035, 3.1 and 4.1.4).
+    #[error("invalid domain name")]
+    NameInvalid,
+    /// A bitmap of types is damaged (RFC 4034, 4.1.2).
+    #[error("invalid type bitmap")]
+    BitmapInvalid,
+    /// A tag of CAA is not one to 15 ASCII letters and digits (RFC 8659, 4.1).
+    #[error("invalid CAA tag")]
+    CaaTagInvalid,
+    /// A flag of NAPTR is no ASCII letter and no digit (RFC 3403, 4.1).
+    #[error("invalid NAPTR flags")]
+    NaptrFlagsInvalid,
+    /// These flags of CSYNC have bits that are not known (RFC 7477, 2.1.1.2).
+    #[error("unrecognized CSYNC flags: {0}")]
+    UnrecognizedCsyncFlags(u16),
+    /// An address family other than those of IPv4 and IPv6 (RFC 7871, 6).
+    #[error("unknown address family: {0}")]
+    UnknownAddressFamily(u16),
+    /// A parameter that must have a value has none (RFC 9460, 7.1.1 and 8).
+    #[error("missing value of a service parameter")]
+    SvcParamMissingValue,
+    /// The keys of service parameters don't strictly rise (RFC 9460, 2.2).
+    #[error("service parameters out of order")]
+    SvcParamsOutOfOrder,
+    /// Octets are not UTF-8.
+    #[error("invalid UTF-8")]
+    Utf8,
+    /// Memory ran out.
+    #[error("out of memory")]
+    Memory,
+}
+
+impl From<AllocError> for DecodeError {
+    ghost from_gives = { λ _ e. e ≡ decode.Memory };
+
+    fn from(_e: AllocError) -> DecodeError {
+        DecodeError::Memory
+    }
+}
+
+impl<T: Drop> From<AllocFailed<T>> for DecodeError {
+    ghost from_gives = { λ _ e. e ≡ decode.Memory };
+
+    fn from(_e: AllocFailed<T>) -> DecodeError {
+        DecodeError::Memory
+    }
+}
+
+/// Why a value was not emitted or a message not handled.
+#[derive(Clone, Copy, Debug, PartialEq, Eq, Error)]
+pub enum ProtoError {
+    /// The octets would pass the encoder's limit.
+    #[error("maximum buffer size exceeded")]
+    MaxBufferSizeExceeded,
+    /// Octets were not read.
+    #[error("decoding error: {0}")]
+    Decode(DecodeError),
+    /// A value that has no octets; the text says why.
+    #[error("{0}")]
+    Message(&'static str),
+    /// Memory ran out.
+    #[error("out of memory")]
+    Memory,
+}
+
+/// The outcome of what fails by a `ProtoError`.
+pub type ProtoResult<T> = Result<T, ProtoError>;
+
+impl From<AllocError> for ProtoError {
+    ghost from_gives = { λ _ e. e ≡ proto.Memory };
+
+    fn from(_e: AllocError) -> ProtoError {
+        ProtoError::Memory
+    }
+}
+
+impl<T: Drop> From<AllocFailed<T>> for ProtoError {
+    ghost from_gives = { λ _ e. e ≡ proto.Memory };
+
+    fn from(_e: AllocFailed<T>) -> ProtoError {
+        ProtoError::Memory
+    }
+}
+
+/// Want of memory stays want of memory; any other error becomes a `Decode`.
+impl From<DecodeError> for ProtoError {
+    ghost from_gives = { λ inner e. e ≡ decode_refusal inner };
+
+    fn from(e: DecodeError) -> ProtoError {
+        match e {
+            DecodeError::Memory => ProtoError::Memory,
+            other => ProtoError::Decode(other),
+        }
+    }
+}
+
+/// A text is no address, or no net.
+#[derive(Clone, Copy, Debug, PartialEq, Eq, Error)]
+#[error("invalid address syntax")]
+pub struct AddrParseError;
+
+/// Why a text was not read.
+#[derive(Clone, Copy, Debug, PartialEq, Eq, Error)]
+pub enum ParseError {
+    /// A word is missing.
+    #[error("a token is missing")]
+    MissingToken,
+    /// A word or the whole text is wrong; the text says how.
+    #[error("{0}")]
+    Message(&'static str),
+    /// No text is read for this type.
+    #[error("unsupported record type: {0}")]
+    UnsupportedRecordType(RecordType),
+    /// A word is no address.
+    #[error("invalid address")]
+    AddrParse,
+    /// The lower layer refused a name or a value.
+    #[error("proto error: {0}")]
+    Proto(ProtoError),
+    /// Memory ran out.
+    #[error("out of memory")]
+    Memory,
+}
+
+impl From<AllocError> for ParseError {
+    ghost from_gives = { λ _ e. e ≡ parse.Memory };
+
+    fn from(_e: AllocError) -> ParseError {
+        ParseError::Memory
+    }
+}
+
+impl<T: Drop> From<AllocFailed<T>> for ParseError {
+    ghost from_gives = { λ _ e. e ≡ parse.Memory };
+
+    fn from(_e: AllocFailed<T>) -> ParseError {
+        ParseError::Memory
+    }
+}
+
+impl From<AddrParseError> for ParseError {
+    ghost from_gives = { λ _ e. e ≡ parse.AddrParse };
+
+    fn from(_e: AddrParseError) -> ParseError {
+        ParseError::AddrParse
+    }
+}
+
+/// Want of memory, at any depth, stays want of memory; any other error becomes a `Proto`.
+impl From<ProtoError> for ParseError {
+    ghost from_gives = { λ inner e. e ≡ proto_refusal inner };
+
+    fn from(e: ProtoError) -> ParseError {
+        match e {
+            ProtoError::Memory | ProtoError::Decode(DecodeError::Memory) => ParseError::Memory,
+            other => ParseError::Proto(other),
+        }
+    }
+}
+
+/// As through `ProtoError`.
+impl From<DecodeError> for ParseError {
+    ghost from_gives = { λ inner e. e ≡ proto_refusal (decode_refusal inner) };
+
+    fn from(e: DecodeError) -> ParseError {
+        ParseError::from(ProtoError::from(e))
+    }
+}

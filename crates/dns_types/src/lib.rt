@@ -1,0 +1,17 @@
+//! Small types below the rest of the workspace: types of records, errors, values that are still to be looked at, and
+//! octets that a value owns.
+#![tactic(auto)]
+
+pub mod error;
+pub mod octets;
+pub mod record_type;
+pub mod restrict;
+pub mod strings;
+#[cfg(test)]
+mod tests;
+
+pub use error::{AddrParseError, DecodeError, ParseError, ProtoError, ProtoResult};
+pub use octets::Octets;
+pub use record_type::RecordType;
+pub use restrict::Restrict;
+pub use strings::Strings;

@@ -1,0 +1,178 @@
+//! Lists of octet strings that a value owns.
+ghost use Rattle.std.specs.Prelude.{◌≡◌, ◌==◌, ◌++◌, ◌∷◌, ◌↔◌, ℕ, List, [], length, slice_get, OnOk, OnErr, IfOk, IsTrue};
+ghost use Rattle.std.specs.Option.{option_copied};
+ghost use Rattle.std.specs.Cmp.Lexicographic.{pointwise, slice_cmp, texts_ties, lists_ties, lists_total, nat_list_cmp_total, pointwise_decides};
+ghost use Rattle.std.specs.Cmp.{partial_order_from_agreeing_total, unsigned_Decides};
+ghost use Rattle.std.specs.Cmp.Rules.{comparing};
+ghost use Rattle.std.specs.Ordering.{nat_cmp, as_partial_cmp};
+ghost use Rattle.std.specs.Hash as fed;
+ghost use Rattle.std.proofs.Common.{rules, refl, ap};
+
+use crate::octets::Octets;
+use std::alloc::{AllocError, Global};
+use std::cmp::Ordering;
+use std::hash::{Hash, Hasher};
+use std::marker::Model;
+
+/// Strings of octets that a value owns, which contracts see as the list of their lists. They are ordered by the
+/// first string that differs, and a proper beginning is less.
+#[derive(Debug, Drop)]
+pub struct Strings {
+    items: Vec<Octets>,
+}
+
+impl Model for Strings {
+    ghost Value = { List (List ℕ) };
+
+    ghost view = { λ s. s.items.items };
+}
+
+impl Strings {
+    /// No strings. Takes no memory.
+    #[inline]
+    pub fn new(alloc: Global) -> Strings
+        ensures { result ≡ [] }
+    {
+        Strings {
+            items: Vec::new(alloc),
+        }
+    }
+
+    /// No strings, and memory for so many. Fails only for want of memory.
+    #[inline]
+    pub fn with_capacity(alloc: Global, capacity: usize) -> Result<Strings, AllocError>
+        ensures { IfOk result (λ s. s ≡ []) }
+    {
+        Ok(Strings {
+            items: Vec::with_capacity(alloc, capacity)?,
+        })
+    }
+
+    /// The strings of the list, which is moved.
+    #[inline]
+    pub fn from_vec(items: Vec<Octets>) -> Strings
+        ensures { result ≡ items.items }
+    {
+        Strings { items }
+    }
+
+    /// The strings as a list. They are moved.
+    #[inline]
+    pub fn into_vec(self) -> Vec<Octets>
+        ensures { result.items ≡ self }
+    {
+        let Strings { items } = self;
+        items
+    }
+
+    /// Puts the string behind the others. Fails only for want of memory; the others then stand as they were, and
+    /// the string is dropped.
+    #[inline]
+    pub fn push(&mut self, string: Octets) -> Result<(), AllocError>
+        ensures ok { OnOk result (self.new ≡ self.old ++ string ∷ []) }
+        ensures err { OnErr result (self.new ≡ self.old) }
+    {
+        self.items.push(string)?;
+        Ok(())
+    }
+
+    /// The strings, lent.
+    #[inline]
+    pub fn as_slice(&self) -> &[Octets]
+        ensures { result.now ≡ self.now }
+    {
+        self.items.as_slice()
+    }
+
+    /// The octets of the string at the index, from 0 on.
+    #[inline]
+    pub fn get(&self, index: usize) -> Option<&[u8]>
+        ensures { option_copied result ≡ slice_get self.now index }
+    {
+        let string = self.as_slice().get(index)?;
+        Some(string.as_slice())
+    }
+
+    /// How many strings there are.
+    #[inline]
+    pub fn len(&self) -> usize
+        ensures { result ≡ length self.now }
+    {
+        self.as_slice().len()
+    }
+
+    /// Whether there are none.
+    #[inline]
+    pub fn is_empty(&self) -> bool
+        ensures { IsTrue result ↔ (self.now ≡ []) }
+    {
+        self.as_slice().is_empty()
+    }
+
+    /// The allocator of the list.
+    #[inline]
+    pub fn allocator(&self) -> Global {
+        *self.items.allocator()
+    }
+}
+
+impl PartialEq for Strings {
+    ghost eq = { pointwise (pointwise ◌==◌) };
+
+    ghost laws = { Prim.search (comparing, rules) };
+
+    fn eq(&self, other: &Strings) -> bool
+        ensures value { result ≡ pointwise (pointwise ◌==◌) self.now other.now }
+        ensures exact { IsTrue result ↔ (self.now ≡ other.now) }
+    {
+        self.as_slice() == other.as_slice()
+    }
+}
+
+impl Eq for Strings {
+    ghost laws = { Prim.search (comparing, rules) };
+}
+
+impl Hash for Strings {
+    ghost hash_input = { fed.slice (fed.slice fed.u8) };
+
+    ghost respects_eq = { λ a b same. ap (fed.slice (fed.slice fed.u8)) ((pointwise_decides (pointwise_decides unsigned_Decides) a b).0 same) };
+
+    fn hash<H: Hasher>(&self, state: &mut H) {
+        self.as_slice().hash(state);
+    }
+}
+
+impl PartialOrd for Strings {
+    ghost partial_cmp = { as_partial_cmp (slice_cmp (slice_cmp nat_cmp)) };
+
+    ghost laws = { partial_order_from_agreeing_total (slice_cmp (slice_cmp nat_cmp)) (lists_total nat_list_cmp_total) (λ _ _. refl) (lists_ties (slice_cmp nat_cmp) texts_ties) };
+
+    fn partial_cmp(&self, other: &Strings) -> Option<Ordering> {
+        Some(self.cmp(other))
+    }
+}
+
+impl Ord for Strings {
+    ghost cmp = { slice_cmp (slice_cmp nat_cmp) };
+
+    ghost total = { lists_total nat_list_cmp_total };
+
+    ghost matches_partial_cmp = { λ _ _. refl };
+
+    ghost matches_eq = { lists_ties (slice_cmp nat_cmp) texts_ties };
+
+    fn cmp(&self, other: &Strings) -> Ordering {
+        self.as_slice().cmp(other.as_slice())
+    }
+}
+
+impl Clone for Strings {
+    ghost is_clone = { λ a b. b ≡ a };
+
+    fn clone(&self) -> Result<Strings, AllocError> {
+        Ok(Strings {
+            items: self.items.clone()?,
+        })
+    }
+}

@@ -1,0 +1,182 @@
+use crate::error::{AddrParseError, DecodeError, ParseError, ProtoError, ProtoResult};
+use crate::octets::Octets;
+use crate::record_type::RecordType;
+use crate::restrict::Restrict;
+use crate::strings::Strings;
+use std::alloc::AllocError;
+use std::cmp::Ordering;
+
+#[test]
+fn numbers_of_types(rt: HostRuntime) {
+    for (number, kind) in [
+        (0, RecordType::ZERO),
+        (1, RecordType::A),
+        (6, RecordType::SOA),
+        (28, RecordType::AAAA),
+        (41, RecordType::OPT),
+        (62, RecordType::CSYNC),
+        (255, RecordType::ANY),
+        (257, RecordType::CAA),
+        (65305, RecordType::ANAME),
+        (3, RecordType::Unknown(3)),
+        (65535, RecordType::Unknown(65535)),
+    ] {
+        assert_eq!(rt; RecordType::from(number), kind, "from {number}");
+        assert_eq!(rt; u16::from(kind), number, "of {number}");
+    }
+}
+
+#[test]
+fn order_of_types(rt: HostRuntime) {
+    let unknown = RecordType::Unknown(1);
+    assert!(rt; RecordType::A != unknown);
+    assert!(rt; RecordType::A < unknown);
+    assert!(rt; unknown < RecordType::NS);
+    assert_eq!(rt; RecordType::CAA.cmp(&RecordType::TSIG), Ordering::Greater);
+}
+
+// TYPE731 and TYPE62347 are from the examples of RFC 3597.
+#[test]
+fn texts_of_types(rt: HostRuntime) {
+    for (text, kind) in [
+        ("A", RecordType::A),
+        ("AAAA", RecordType::AAAA),
+        ("NSEC3", RecordType::NSEC3),
+        ("NSEC3PARAM", RecordType::NSEC3PARAM),
+        ("SVCB", RecordType::SVCB),
+        ("TYPE731", RecordType::Unknown(731)),
+        ("TYPE62347", RecordType::Unknown(62347)),
+    ] {
+        assert_eq!(rt; text.parse::<RecordType>(), Ok(kind), "{kind}");
+        let printed = format!(in rt.alloc(); "{kind}").unwrap_or_else(|_| String::new(rt.alloc()));
+        assert!(rt; printed.as_str() == text);
+    }
+    for (text, kind) in [
+        ("TYPE1", RecordType::A),
+        ("TYPE00001", RecordType::A),
+        ("TYPE65305", RecordType::ANAME),
+    ] {
+        assert_eq!(rt; text.parse::<RecordType>(), Ok(kind), "{kind}");
+    }
+    for text in [
+        "",
+        "a",
+        "Aaaa",
+        "A ",
+        "NSEC4",
+        "TYPE",
+        "type1",
+        "TYPE+1",
+        "TYPE65536",
+        "TYPE000001",
+        "TYPE1a",
+    ] {
+        assert_eq!(rt;
+            text.parse::<RecordType>(),
+            Err(DecodeError::UnknownRecordTypeStr),
+            "{text}"
+        );
+    }
+}
+
+fn doubled(number: Result<u16, DecodeError>) -> ProtoResult<u32> {
+    Ok(2 * u32::from(number?))
+}
+
+#[test]
+fn errors_upward(rt: HostRuntime) {
+    let utf8 = ProtoError::Decode(DecodeError::Utf8);
+    assert_eq!(rt; doubled(Ok(3)), Ok(6));
+    assert_eq!(rt; doubled(Err(DecodeError::Utf8)), Err(utf8));
+    assert_eq!(rt; doubled(Err(DecodeError::Memory)), Err(ProtoError::Memory));
+    assert_eq!(rt; ParseError::from(utf8), ParseError::Proto(utf8));
+    assert_eq!(rt;
+        ParseError::from(DecodeError::Utf8),
+        ParseError::Proto(utf8)
+    );
+    assert_eq!(rt; ParseError::from(DecodeError::Memory), ParseError::Memory);
+    assert_eq!(rt; ParseError::from(ProtoError::Memory), ParseError::Memory);
+    assert_eq!(rt;
+        ParseError::from(ProtoError::Decode(DecodeError::Memory)),
+        ParseError::Memory
+    );
+    assert_eq!(rt; ParseError::from(AddrParseError), ParseError::AddrParse);
+    assert_eq!(rt; ParseError::from(AllocError), ParseError::Memory);
+    assert_eq!(rt; ProtoError::from(AllocError), ProtoError::Memory);
+    assert_eq!(rt; DecodeError::from(AllocError), DecodeError::Memory);
+}
+
+#[test]
+fn texts_of_errors(rt: HostRuntime) -> Result<(), AllocError> {
+    let length = DecodeError::IncorrectRDataLengthRead { read: 4, len: 3 };
+    let printed = format!(in rt.alloc(); "{}", ProtoError::Decode(length))?;
+    assert_eq!(rt;
+        printed.as_str(),
+        "decoding error: incorrect length of record data: read 4, length 3"
+    );
+    let printed = format!(in rt.alloc();
+        "{}",
+        ParseError::UnsupportedRecordType(RecordType::DNAME)
+    )?;
+    assert_eq!(rt; printed.as_str(), "unsupported record type: DNAME");
+    let printed = format!(in rt.alloc(); "{}", ParseError::Proto(ProtoError::Message("too long")))?;
+    assert_eq!(rt; printed.as_str(), "proto error: too long");
+    let printed = format!(in rt.alloc(); "{AddrParseError}")?;
+    assert_eq!(rt; printed.as_str(), "invalid address syntax");
+    Ok(())
+}
+
+#[test]
+fn restricted_values(rt: HostRuntime) {
+    let length = Restrict::new(7u16);
+    assert_eq!(rt; length.unverified(), 7);
+    assert_eq!(rt; length.map(u32::from).unverified(), 7u32);
+    assert_eq!(rt; length.verify_unwrap(|n| *n < 8), Ok(7));
+    assert_eq!(rt; length.verify_unwrap(|n| *n < 7), Err(7));
+    let octets = Restrict::new(Octets::new(rt.alloc()));
+    assert!(rt; octets.verify_unwrap(|o| o.is_empty()).is_ok());
+}
+
+#[test]
+fn octets(rt: HostRuntime) -> Result<(), AllocError> {
+    let alloc = rt.alloc();
+    let none = Octets::new(alloc);
+    assert!(rt; none.is_empty());
+    let abc = Octets::from_slice(alloc, b"abc")?;
+    assert_eq!(rt; abc.as_slice(), b"abc".as_slice());
+    assert_eq!(rt; abc.len(), 3);
+    assert!(rt; !abc.is_empty());
+    assert!(rt; abc.clone()? == abc);
+    let abd = Octets::from_vec(vec![in alloc; b'a', b'b', b'd']?);
+    assert!(rt; abc != abd);
+    assert!(rt; abc < abd);
+    assert_eq!(rt;
+        abd.cmp(&Octets::from_slice(abd.allocator(), b"abda")?),
+        Ordering::Less
+    );
+    assert_eq!(rt; none.cmp(&abc), Ordering::Less);
+    let boxed = Octets::from_boxed(abd.into_boxed());
+    assert_eq!(rt; boxed.into_vec().as_slice(), b"abd".as_slice());
+    Ok(())
+}
+
+#[test]
+fn strings(rt: HostRuntime) -> Result<(), AllocError> {
+    let alloc = rt.alloc();
+    let mut strings = Strings::new(alloc);
+    assert!(rt; strings.is_empty());
+    strings.push(Octets::from_slice(alloc, b"ab")?)?;
+    let one = strings.clone()?;
+    strings.push(Octets::new(strings.allocator()))?;
+    assert_eq!(rt; strings.len(), 2);
+    assert_eq!(rt; strings.get(0), Some(b"ab".as_slice()));
+    assert_eq!(rt; strings.get(1), Some(b"".as_slice()));
+    assert_eq!(rt; strings.get(2), None);
+    assert!(rt; one != strings);
+    assert_eq!(rt; one.cmp(&strings), Ordering::Less);
+    let mut other = Strings::with_capacity(alloc, 1)?;
+    other.push(Octets::from_slice(alloc, b"ab")?)?;
+    assert!(rt; other == one);
+    assert_eq!(rt; Strings::from_vec(other.into_vec()).as_slice().len(), 1);
+    Ok(())
+}
