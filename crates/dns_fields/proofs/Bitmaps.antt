@@ -1,8 +1,7 @@
 -- Octets are a bitmap of one set, and the minimal bitmap of a set is one of them.
-use Rattle.std.proofs.Common.{◌≡◌, ◌≢◌, ℕ, zero, suc, ◌+◌, ◌-◌, ◌*◌, ◌/◌, ◌%◌, ◌≤◌, ◌<◌, ◌^◌, ◌==◌, ◌&&◌, ◌||◌, Bool, true, false, cond, ◌⊎◌, inl, inr, ⊎_elim, List, [], ◌∷◌, ◌++◌, length, get_or, map, refl, sym, ap, ◌∙◌, arith, subst, append_assoc}
+use Rattle.std.proofs.Common.{◌≡◌, ◌≢◌, ℕ, zero, suc, ◌+◌, ◌-◌, ◌*◌, ◌/◌, ◌%◌, ◌≤◌, ◌<◌, ◌^◌, ◌==◌, ◌&&◌, ◌||◌, Bool, true, false, cond, ◌⊎◌, inl, inr, ⊎_elim, List, [], ◌∷◌, ◌++◌, length, get_or, map, refl, sym, ap, ◌∙◌, arith, subst}
 use Rattle.std.specs.List.{flat_map, AllByRecursion, list_any, range_with_len}
 use Rattle.std.specs.Int.{bit_at}
-use Rattle.std.proofs.lemmas.List.{length-append}
 use Rattle.std.proofs.lemmas.List.FromFn.{get_or-map-range_with_len, length-map-range_with_len}
 use Rattle.std.proofs.lemmas.Nat.Bits.{bit_at_lowest, bit_at-zero, bit_at_cat_low, bit_at_cat_high}
 use Rattle.std.proofs.lemmas.Bool.Decides.{eqb_tells, nat_tests}
@@ -47,9 +46,9 @@ less_above n k (x ∷ xs) l a = (omega (arith, a.0), less_above n k xs l a.1)
 
 rising_tail : (x : ℕ) (xs ys : List ℕ) → AllAbove x xs → AllAbove x ys → ((t : ℕ) → contains t (x ∷ xs) ≡ contains t (x ∷ ys)) → (t : ℕ) → contains t xs ≡ contains t ys
 rising_tail x xs ys a b h t = elim (eqb_tells x t) [
-    inl e ↦ subst (λ (z : ℕ). contains z xs ≡ contains z ys) e.1 (above_not x xs a ∙ sym (above_not x ys b))
+  | inl e ↦ subst (λ (z : ℕ). contains z xs ≡ contains z ys) e.1 (above_not x xs a ∙ sym (above_not x ys b))
   | inr e ↦ (let g : (x == t) || contains t xs ≡ (x == t) || contains t ys = h t in let n : (x == t) ≡ false = e.0 in let goal : contains t xs ≡ contains t ys = rw n at g in goal)
-  ]
+]
 
 heads_equal : (x y : ℕ) (xs ys : List ℕ) → AllAbove x xs → AllAbove y ys → ((t : ℕ) → contains t (x ∷ xs) ≡ contains t (y ∷ ys)) → x < y → ⊥
 heads_equal x y xs ys a b h l =
@@ -70,13 +69,13 @@ rising_same [] (y ∷ ys) f g h = absurd (let e : false ≡ (y == y) || contains
 rising_same (x ∷ xs) [] f g h = absurd (let e : (x == x) || contains x xs ≡ false = h x in let k : true ≡ false = rw (itself x) at e in cc k)
 rising_same (x ∷ xs) (y ∷ ys) f g h =
     ⊎_elim (λ (l : x < y). absurd (heads_equal x y xs ys f.0 g.0 h l))
-      (λ s. ⊎_elim
-        (λ (e : x ≡ y).
-          let above : AllAbove x ys = subst (λ (z : ℕ). AllAbove z ys) (sym e) g.0 in
-          let k : (t : ℕ) → contains t (x ∷ xs) ≡ contains t (x ∷ ys) = subst (λ (z : ℕ). (t : ℕ) → contains t (x ∷ xs) ≡ contains t (z ∷ ys)) (sym e) h in
-          ap (λ (z : ℕ). z ∷ xs) e ∙ ap (λ (zs : List ℕ). y ∷ zs) (rising_same xs ys f.1 g.1 (rising_tail x xs ys f.0 above k)))
-        (λ (l : y < x). absurd (heads_equal y x ys xs g.0 f.0 (λ t. sym (h t)) l)) s)
-      (trichotomy x y)
+    (λ s. ⊎_elim
+    (λ (e : x ≡ y).
+    let above : AllAbove x ys = subst (λ (z : ℕ). AllAbove z ys) (sym e) g.0 in
+    let k : (t : ℕ) → contains t (x ∷ xs) ≡ contains t (x ∷ ys) = subst (λ (z : ℕ). (t : ℕ) → contains t (x ∷ xs) ≡ contains t (z ∷ ys)) (sym e) h in
+    ap (λ (z : ℕ). z ∷ xs) e ∙ ap (λ (zs : List ℕ). y ∷ zs) (rising_same xs ys f.1 g.1 (rising_tail x xs ys f.0 above k)))
+    (λ (l : y < x). absurd (heads_equal y x ys xs g.0 f.0 (λ t. sym (h t)) l)) s)
+    (trichotomy x y)
 
 pub bitmap_same : {m : List ℕ} {p : ℕ} {v w : List ℕ} {q : ℕ} → BitmapAt m p v q → BitmapAt m p w q → v ≡ w
 bitmap_same {v = v} {w = w} f g =
@@ -91,7 +90,7 @@ bitmap_append t f = record { blocks = f.blocks; at = At-append t f.at; fit = f.f
 packed_small : (f : ℕ → ℕ) → ((b : ℕ) → f b < 2) → (n i : ℕ) → i < n → bit_at (packed f n) (n - 1 - i) ≡ f i
 packed_small f small zero i l = absurd (omega arith)
 packed_small f small (suc n) i l = elim (eqb_tells i n) [
-    inl e ↦ subst (λ (k : ℕ). bit_at (packed f (suc n)) (suc n - 1 - k) ≡ f k) (sym e.1) (
+  | inl e ↦ subst (λ (k : ℕ). bit_at (packed f (suc n)) (suc n - 1 - k) ≡ f k) (sym e.1) (
       let z : suc n - 1 - n ≡ 0 = omega arith in
       ap (bit_at (packed f (suc n))) z ∙ bit_at_cat_low (packed f n) 1 (f n) 0 (omega arith) ∙ bit_at_lowest (f n) ∙ last (f n) (small n))
   | inr e ↦ (
@@ -101,12 +100,14 @@ packed_small f small (suc n) i l = elim (eqb_tells i n) [
       let lt : f n < 2 ^ 1 = small n in
       let some : 1 ≤ suc (n - 1 - i) = omega arith in
       let goal : bit_at (packed f (suc n)) (suc n - 1 - i) ≡ f i = ap (bit_at (packed f (suc n))) z ∙ bit_at_cat_high (packed f n) 1 (f n) (suc (n - 1 - i)) lt some ∙ ap (bit_at (packed f n)) y ∙ h in goal)
-  ]
+]
   where
     last : (n : ℕ) → n < 2 → n % 2 ≡ n
     last n h = omega arith
+
     below : (i n : ℕ) → i < suc n → i ≢ n → i < n
     below i n l ne = grind arith
+
     place : (n i : ℕ) → i < n → suc n - 1 - i ≡ suc (n - 1 - i)
     place n i l = omega arith
 
@@ -155,10 +156,10 @@ window_bit v t =
 window_has : (v : List ℕ) (t k : ℕ) → has_type t (k, window v k) ≡ (t / 256 == k) && contains t v
 unfolding has_type
 window_has v t k = elim (eqb_tells (t / 256) k) [
-    inl e ↦ subst (λ (z : ℕ). (t / 256 == z) && (bit_at (get_or (window v z) (t % 256 / 8) 0) (7 - t % 8) == 1) ≡ (t / 256 == z) && contains t v) e.1
+  | inl e ↦ subst (λ (z : ℕ). (t / 256 == z) && (bit_at (get_or (window v z) (t % 256 / 8) 0) (7 - t % 8) == 1) ≡ (t / 256 == z) && contains t v) e.1
       (ap (λ (b : ℕ). (t / 256 == t / 256) && (b == 1)) (window_bit v t) ∙ ap (λ (b : Bool). (t / 256 == t / 256) && b) (mark_contains v t))
   | inr e ↦ (let n : (t / 256 == k) ≡ false = e.0 in rw n refl)
-  ]
+]
 
 with_has : (t k : ℕ) (w : List ℕ) (bs : List Block) → list_any (has_type t) (with_block k w bs) ≡ has_type t (k, w) || list_any (has_type t) bs
 unfolding has_type
@@ -189,27 +190,29 @@ windows_have v t (k ∷ ks) =
 in_range : (a n x : ℕ) → a ≤ x → x < a + n → list_any (λ k. x == k) (range_with_len a n) ≡ true
 in_range a zero x l h = absurd (omega arith)
 in_range a (suc n) x l h = elim (eqb_tells x a) [
-    inl e ↦ (let y : (x == a) ≡ true = e.0 in rw y refl)
+  | inl e ↦ (let y : (x == a) ≡ true = e.0 in rw y refl)
   | inr e ↦ (let y : (x == a) ≡ false = e.0 in let s : a + 1 ≤ x = after a x l e.1 in let k = in_range (a + 1) n x s (omega arith) in rw y k)
-  ]
+]
   where
     after : (a x : ℕ) → a ≤ x → x ≢ a → a + 1 ≤ x
     after a x l n = grind arith
 
-none_great : (v : List ℕ) (t : ℕ) → AllByRecursion (λ t. t < 65536) v → 65536 ≤ t → contains t v ≡ false
-none_great [] t a l = refl
-none_great (x ∷ xs) t a l = let e : (x == t) ≡ false = other x t (let h = a.0 in λ q. omega (arith, q, h)) in rw e (none_great xs t a.1 l)
+-- a set has no number past its numbers
+pub none_great : (n : ℕ) (v : List ℕ) (t : ℕ) → AllByRecursion (λ u. u < n) v → n ≤ t → contains t v ≡ false
+none_great n [] t a l = refl
+none_great n (x ∷ xs) t a l = let e : (x == t) ≡ false = other x t (let h = a.0 in λ q. omega (arith, q, h)) in rw e (none_great n xs t a.1 l)
 
 pub minimal_types : (v : List ℕ) → AllByRecursion (λ t. t < 65536) v → (t : ℕ) → contains t v ≡ list_any (has_type t) (minimal v)
 unfolding minimal
 minimal_types v a t = ⊎_elim
     (λ (l : t < 65536). let inside : t / 256 < 256 = omega arith in sym (windows_have v t (range_with_len 0 256) ∙ ap (λ (b : Bool). b && contains t v) (in_range 0 256 (t / 256) (omega arith) inside)))
-    (λ (g : 65536 ≤ t). let n = none_great v t a g in n ∙ sym (windows_have v t (range_with_len 0 256) ∙ ap (λ (b : Bool). list_any (λ k. t / 256 == k) (range_with_len 0 256) && b) n ∙ none (list_any (λ k. t / 256 == k) (range_with_len 0 256))))
+    (λ (g : 65536 ≤ t). let n = none_great 65536 v t a g in n ∙ sym (windows_have v t (range_with_len 0 256) ∙ ap (λ (b : Bool). list_any (λ k. t / 256 == k) (range_with_len 0 256) && b) n ∙ none (list_any (λ k. t / 256 == k) (range_with_len 0 256))))
     (either t)
   where
     none : (b : Bool) → b && false ≡ false
     none true = refl
     none false = refl
+
     either : (t : ℕ) → (t < 65536) ⊎ (65536 ≤ t)
     either t = grind arith
 
@@ -231,3 +234,41 @@ minimal_fit v = windows_fit v 0 256 (omega arith)
 
 pub minimal_stands : (m v : List ℕ) → IsTypeSet v → BitmapAt (m ++ flat_map block (minimal v)) (length m) v (length (m ++ flat_map block (minimal v)))
 minimal_stands m v s = record { blocks = minimal v; at = At-appended m (flat_map block (minimal v)); fit = minimal_fit v; set = s; types = minimal_types v s.numbers }
+
+-- ---- windows past the last type are none
+
+packed_none : (f : ℕ → ℕ) → ((b : ℕ) → f b ≡ 0) → (n : ℕ) → packed f n ≡ 0
+packed_none f none zero = refl
+packed_none f none (suc n) = let h = packed_none f none n in let k = none n in omega (arith, h, k)
+
+trimmed_none : (f : ℕ → ℕ) → ((j : ℕ) → f j ≡ 0) → (js : List ℕ) → trimmed (map f js) ≡ []
+trimmed_none f none [] = refl
+trimmed_none f none (j ∷ js) = ap (λ (x : ℕ). keep x (trimmed (map f js))) (none j) ∙ ap (keep 0) (trimmed_none f none js)
+
+window_none : (v : List ℕ) (k : ℕ) → AllByRecursion (λ u. u < 256 * k) v → window v k ≡ []
+unfolding window types_octet mark
+window_none v k a =
+    trimmed_none (types_octet v k)
+    (λ j. packed_none (λ b. mark v (256 * k + (8 * j + b))) (λ b. ap (λ (c : Bool). cond c 1 0) (none_great (256 * k) v (256 * k + (8 * j + b)) a (omega arith))) 8)
+    (range_with_len 0 32)
+
+wider : (n k : ℕ) (v : List ℕ) → n ≤ k → AllByRecursion (λ u. u < n) v → AllByRecursion (λ u. u < k) v
+wider n k [] l a = tt
+wider n k (x ∷ xs) l a = (omega (arith, a.0), wider n k xs l a.1)
+
+windows_none : (v : List ℕ) (a n : ℕ) → AllByRecursion (λ u. u < 256 * a) v → windows v (range_with_len a n) ≡ []
+windows_none v a zero h = refl
+windows_none v a (suc n) h = ap (λ (w : List ℕ). with_block a w (windows v (range_with_len (a + 1) n))) (window_none v a h) ∙ windows_none v (a + 1) n (wider (256 * a) (256 * (a + 1)) v (omega arith) h)
+
+windows_first : (v : List ℕ) (a k n : ℕ) → AllByRecursion (λ u. u < 256 * (a + k)) v → windows v (range_with_len a (k + n)) ≡ windows v (range_with_len a k)
+windows_first v a zero n h = windows_none v a (zero + n) (wider (256 * (a + 0)) (256 * a) v (omega arith) h)
+windows_first v a (suc k) n h =
+    let longer : suc k + n ≡ suc (k + n) = omega arith in
+    ap (λ (c : ℕ). windows v (range_with_len a c)) longer ∙ ap (with_block a (window v a)) (windows_first v (a + 1) k n (wider (256 * (a + suc k)) (256 * (a + 1 + k)) v (omega arith) h))
+
+-- the minimal bitmap of a set whose types are below those of window k
+pub minimal_first : (v : List ℕ) (k : ℕ) → k ≤ 256 → AllByRecursion (λ u. u < 256 * k) v → minimal v ≡ windows v (range_with_len 0 k)
+unfolding minimal
+minimal_first v k l h =
+    let all : k + (256 - k) ≡ 256 = omega arith in
+    ap (λ (c : ℕ). windows v (range_with_len 0 c)) (sym all) ∙ windows_first v 0 k (256 - k) (wider (256 * k) (256 * (0 + k)) v (omega arith) h)

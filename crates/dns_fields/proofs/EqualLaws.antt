@@ -1,5 +1,5 @@
 -- `==` of fields tells whether they are the same.
-use Rattle.std.proofs.Common.{◌≡◌, ℕ, zero, suc, ◌↔◌, Bool, true, ◌&&◌, List, [], ◌∷◌, map, nat_eq, refl, sym, ap, ◌∙◌, subst}
+use Rattle.std.proofs.Common.{◌≡◌, ℕ, zero, suc, ◌↔◌, List, [], ◌∷◌, map, nat_eq, refl, sym, ap, ◌∙◌, subst}
 use Rattle.std.specs.Bool.{Decides}
 use Rattle.std.specs.Cmp.{unsigned_Decides, booleans_Decides}
 use Rattle.std.specs.Cmp.Lexicographic.{pointwise, pointwise_decides}
@@ -9,8 +9,8 @@ use Rattle.std.proofs.lemmas.Bool.Decides.{Decides-and}
 use Rattle.std.proofs.lemmas.List.Sorted.{IsPermutation-map}
 use Rattle.dns_fields.specs.Labels.{lowname}
 use Rattle.dns_fields.specs.Pieces.{Numbered, OptionValue, Subnet, Plain, ParameterValue, Mandatory, Alpn, NoDefaultAlpn, Port, Ipv4Hint, Ipv6Hint, Opaque}
-use Rattle.dns_fields.specs.Fields.{Kind, Number, Octets, Name, Text, Texts, Rest, Options, Parameters, Bitmap, Value, Values, SameField, Same, is_full, AllFull}
-use Rattle.dns_fields.specs.Equal.{Key, key_eq, key_cmp, option_key_of, option_key, option_keys, parameter_key_of, parameter_key, parameter_keys, kind_eq, values_eq}
+use Rattle.dns_fields.specs.Fields.{Kind, Number, Octets, Name, Text, Texts, Rest, Options, Parameters, Bitmap, Value, Values, SameField, Same, is_full}
+use Rattle.dns_fields.specs.Equal.{Key, key_eq, key_cmp, option_key_of, option_key, option_keys, parameter_key_of, parameter_key, parameter_keys, kind_eq}
 use Rattle.dns_fields.specs.Order.{key_total}
 use Rattle.dns_fields.specs.Laws.{EqualLaw}
 use Rattle.dns_fields.proofs.Sorted.{sorted_one, sorted_apart}
@@ -72,12 +72,13 @@ keys_decide a b = pointwise_decides (pointwise_decides (pointwise_decides unsign
 
 -- options have the same sorted keys exactly where they are permutations
 pub options_decide : (a b : List (Numbered OptionValue)) → (option_keys a ≡ option_keys b) ↔ IsPermutation a b
-options_decide a b =
-    (λ e.
+options_decide a b = (
+  λ e.
       let keys : IsPermutation (map option_key a) (map option_key b) = sorted_apart key_cmp (map option_key a) (map option_key b) e in
       let back : IsPermutation (map option_of (map option_key a)) (map option_of (map option_key b)) = IsPermutation-map option_of (map option_key a) (map option_key b) keys in
       subst (λ (v : List (Numbered OptionValue)). IsPermutation v b) (options_back a) (subst (λ (v : List (Numbered OptionValue)). IsPermutation (map option_of (map option_key a)) v) (options_back b) back),
-     λ h. sorted_one key_cmp key_total key_same (map option_key a) (map option_key b) (IsPermutation-map option_key a b h))
+  λ h. sorted_one key_cmp key_total key_same (map option_key a) (map option_key b) (IsPermutation-map option_key a b h),
+)
 
 pub parameters_decide : (a b : List (Numbered ParameterValue)) → (parameter_keys a ≡ parameter_keys b) ↔ (a ≡ b)
 parameters_decide a b =

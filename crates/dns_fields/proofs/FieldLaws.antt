@@ -1,27 +1,21 @@
 -- The laws of one field, by cases on its kind.
-use Rattle.std.proofs.Common.{◌≡◌, ℕ, zero, suc, ◌+◌, ◌≤◌, ◌<◌, ◌^◌, List, [], ◌∷◌, ◌++◌, length, take, drop, refl, sym, ap, ◌∙◌, arith, subst}
+use Rattle.std.proofs.Common.{◌≡◌, ℕ, ◌≤◌, List, [], ◌∷◌, ◌++◌, length, refl, sym, ap, ◌∙◌, arith, subst}
 use Rattle.std.specs.List.{flat_map, AllByRecursion}
 use Rattle.std.specs.Int.{bytes_high_first}
-use Rattle.std.proofs.lemmas.List.{length-append, take_at, drop_at}
-use Rattle.std.proofs.lemmas.List.Concat.{flat_map-cons}
-use Rattle.std.proofs.Common.{◌-◌, ◌⊎◌, inl, inr, ⊎_elim, map, append_assoc}
-use Rattle.std.specs.List.Sorted.{IsPermutation}
+use Rattle.std.proofs.Common.{◌-◌, ◌⊎◌, inl, inr, map}
 use Rattle.std.specs.Ordering.{on}
 use Rattle.std.proofs.lemmas.List.Sorted.{IsPermutation-refl, IsPermutation-sym, IsPermutation-trans, IsPermutation-map}
-use Rattle.dns_fields.specs.Octets.{At}
 use Rattle.dns_fields.specs.Sorting.{sorted}
-use Rattle.dns_fields.specs.Pieces.{string, Numbered, piece, pieces, ArePieces, AllHeld, as_piece, HoldThemselves, OptionValue, option_octets, OptionHeld, OptionFits, IsCut, ParameterValue, parameter_octets, ParameterHeld, ParameterFits, Rising}
-use Rattle.dns_fields.specs.Fields.{Options, Parameters, Lawful, option_pieces, parameter_pieces, WholeOptions, CutOptions, ParametersAt}
+use Rattle.dns_fields.specs.Pieces.{string, Numbered, piece, pieces, AllHeld, as_piece, HoldThemselves, OptionValue, option_octets, OptionHeld, OptionFits, ParameterValue, parameter_octets, ParameterHeld, ParameterFits}
+use Rattle.dns_fields.specs.Fields.{Options, Parameters, Lawful, option_pieces, parameter_pieces, WholeOptions, CutOptions}
 use Rattle.dns_fields.specs.Fields.{Bitmap}
 use Rattle.dns_fields.specs.Bitmaps.{block, minimal}
 use Rattle.dns_fields.proofs.Bitmaps.{bitmap_same, bitmap_append, minimal_stands}
 use Rattle.dns_fields.proofs.Sorted.{octets_cmp, sorted_same, sorted_permutes, sorted_all, map_sorted, flat_map_all, length_sorted}
-use Rattle.dns_fields.proofs.Pieces.{parts, pieces_same, whole_or_cut, held_same, held_lawful, held_fit, lawful_held, fit_pieces}
+use Rattle.dns_fields.proofs.Pieces.{pieces_same, whole_or_cut, held_same, held_lawful, held_fit, lawful_held, fit_pieces}
 use Rattle.dns_fields.proofs.OptionLaws.{option_once, option_own, option_fit}
 use Rattle.dns_fields.proofs.ParameterLaws.{strings_same, parameter_once, parameter_own, parameter_fit}
 use Rattle.dns_fields.specs.declared.RDataEncoding.{RDataEncoding}
-use Rattle.dns_fields.specs.Labels.{DomainName, lowname}
-use Rattle.dns_fields.specs.Names.{NameWrote, SameName}
 use Rattle.dns_fields.specs.Fields.{Kind, Number, Octets, Name, Text, Texts, Rest, Value, field_octets, Fits, Field, WroteField, SameField, EndsItself, is_full}
 use Rattle.dns_fields.proofs.Numbers.{length-bytes, same_number}
 use Rattle.dns_fields.proofs.Places.{At-same_end, At-same_head, At-append, At-appended}
@@ -136,19 +130,31 @@ wrote_field {k = Name} h f = (f.is.read, record { is = f.is.same }, record { is 
 wrote_field {m} {k = Text} {v} h f = (v, record { is = refl }, record { is = (f.is.0, rw f.is.1 (At-appended m (string v))) })
 wrote_field {m} {k = Texts} {v} h f = (v, record { is = refl }, record { is = (f.is.0, rw f.is.1 (At-appended m (flat_map string v))) })
 wrote_field {m} {k = Rest} {v} h f = (v, record { is = refl }, record { is = rw f.is (At-appended m v) })
-wrote_field {m} {k = Options} {v} {m'} h f = (v, record { is = IsPermutation-refl v }, record { is = inl (record {
-    read = option_pieces v;
-    at = rw f.is.1 (At-appended m (pieces (option_pieces v)));
-    fit = fit_pieces OptionHeld option_octets OptionFits (λ x fits. fits.0) v f.is.0;
-    held = lawful_held OptionHeld option_octets v h;
-  }) })
-wrote_field {m} {k = Parameters} {v} {m'} h f = (v, record { is = refl }, record { is = record {
-    read = parameter_pieces v;
-    at = rw f.is.2 (At-appended m (pieces (parameter_pieces v)));
-    fit = fit_pieces ParameterHeld parameter_octets ParameterFits (λ x fits. fits.0) v f.is.0;
-    held = lawful_held ParameterHeld parameter_octets v h;
-    rising = f.is.1;
-  } })
+wrote_field {m} {k = Options} {v} {m'} h f = (
+  v,
+  record { is = IsPermutation-refl v },
+  record {
+    is = inl (record {
+      read = option_pieces v;
+      at = rw f.is.1 (At-appended m (pieces (option_pieces v)));
+      fit = fit_pieces OptionHeld option_octets OptionFits (λ x fits. fits.0) v f.is.0;
+      held = lawful_held OptionHeld option_octets v h;
+    });
+  },
+)
+wrote_field {m} {k = Parameters} {v} {m'} h f = (
+  v,
+  record { is = refl },
+  record {
+    is = record {
+      read = parameter_pieces v;
+      at = rw f.is.2 (At-appended m (pieces (parameter_pieces v)));
+      fit = fit_pieces ParameterHeld parameter_octets ParameterFits (λ x fits. fits.0) v f.is.0;
+      held = lawful_held ParameterHeld parameter_octets v h;
+      rising = f.is.1;
+    };
+  },
+)
 wrote_field {m} {k = Bitmap} {v} h f = (v, record { is = refl }, record { is = rw f.is.1 (minimal_stands m v f.is.0) })
 
 -- behind what was there, and at most the canonical octets

@@ -1,12 +1,11 @@
 -- The laws of all record data, by induction on the list of kinds.
-use Rattle.std.proofs.Common.{◌≡◌, ℕ, zero, suc, ◌+◌, ◌≤◌, ◌<◌, List, [], ◌∷◌, ◌++◌, length, refl, sym, ap, ◌∙◌, arith, subst, append_assoc}
+use Rattle.std.proofs.Common.{◌≡◌, ℕ, ◌≤◌, List, [], ◌∷◌, ◌++◌, length, refl, sym, ap, ◌∙◌, arith, subst, append_assoc}
 use Rattle.std.proofs.lemmas.List.{length-append, append-nil}
-use Rattle.dns_fields.specs.Fields.{Kind, Value, Values, Field, Stands, WroteField, Wrote, SameField, Same, Fits, AllFit, AllLawful, canonical, field_octets, EndsItself, AllFull}
-use Rattle.std.proofs.Common.{◌↔◌}
+use Rattle.dns_fields.specs.Fields.{Kind, Value, Values, Field, Stands, Wrote, Same, AllFit, AllLawful, canonical, field_octets, AllFull}
 use Rattle.dns_fields.specs.declared.RDataEncoding.{RDataEncoding}
 use Rattle.dns_fields.specs.declared.RDataEncoding.TheVariants.{Other}
-use Rattle.dns_fields.specs.Laws.{IsShape, StandsLaw, CanonicalLaw, CanonicalReads, WrittenReads}
-use Rattle.dns_fields.proofs.FieldLaws.{field_inside, field_append, field_same, field_end, field_fits, field_lawful, Written, wrote_field, wrote_tail, wrote_fits, octets_wrote, octets_same, same_refl, same_sym, same_then, field_full}
+use Rattle.dns_fields.specs.Laws.{IsShape, StandsLaw, CanonicalLaw, CanonicalReads}
+use Rattle.dns_fields.proofs.FieldLaws.{field_append, field_same, field_end, field_fits, field_lawful, wrote_field, wrote_tail, wrote_fits, octets_wrote, octets_same, same_refl, same_sym, same_then, field_full}
 
 -- at most one list of values fills a window
 pub stands_same : (m : List ℕ) (p : ℕ) (s : List Kind) (a b : Values s) (e : ℕ) → IsShape s → Stands m p s a e → Stands m p s b e → a ≡ b

@@ -1,13 +1,12 @@
 -- The laws of names that the grammar of fields stands on.
-use Rattle.std.proofs.Common.{◌≡◌, ◌≢◌, ℕ, ◌+◌, ◌≤◌, ◌<◌, Bool, true, List, [], ◌∷◌, ◌++◌, length, map, drop, refl, sym, ap, ◌∙◌, arith, append_assoc, subst}
+use Rattle.std.proofs.Common.{◌≡◌, ℕ, ◌+◌, ◌≤◌, Bool, true, List, [], ◌∷◌, ◌++◌, length, map, drop, refl, sym, ap, ◌∙◌, arith, append_assoc}
 use Rattle.std.proofs.lemmas.List.{length-append, length-map, drop_at}
 use Rattle.std.proofs.lemmas.Bool.Decides.{nat_tests}
 use Rattle.std.specs.Char.{to_ascii_lowercase}
 use Rattle.dns_fields.specs.declared.RDataEncoding.{RDataEncoding}
-use Rattle.dns_fields.specs.declared.RDataEncoding.TheVariants as modes
 use Rattle.dns_fields.specs.Labels.{AreLabels, wire, FitsName, DomainName, IsName, lowered, lowname}
 use Rattle.dns_fields.specs.Names.LabelsStand.{whole}
-use Rattle.dns_fields.specs.Names.{LabelsStand, IsNameIn, SameName, NameWrote}
+use Rattle.dns_fields.specs.Names.{IsNameIn, SameName, NameWrote}
 use Rattle.dns_fields.proofs.Stays.{labels_stand, stays_name, end_within}
 use Rattle.dns_fields.proofs.Unique.{unique}
 

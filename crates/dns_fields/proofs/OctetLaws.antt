@@ -1,19 +1,19 @@
 -- Canonical octets of what stands in octets are octets.
-use Rattle.std.proofs.Common.{◌≡◌, ℕ, zero, suc, ◌+◌, ◌*◌, ◌/◌, ◌%◌, ◌≤◌, ◌<◌, ◌^◌, ◌⊎◌, inl, inr, List, [], ◌∷◌, ◌++◌, length, take, drop, map, refl, sym, ap, ◌∙◌, arith, subst, pow-suc}
-use Rattle.std.specs.List.{All, flat_map, AllByRecursion, range_with_len}
+use Rattle.std.proofs.Common.{◌≡◌, ℕ, zero, suc, ◌+◌, ◌*◌, ◌/◌, ◌%◌, ◌<◌, ◌^◌, ◌⊎◌, inl, inr, List, [], ◌∷◌, ◌++◌, length, take, drop, map, refl, sym, arith, subst, pow-suc}
+use Rattle.std.specs.List.{flat_map, AllByRecursion, range_with_len}
 use Rattle.std.specs.Int.{byte_at, bytes_high_first}
 use Rattle.std.specs.Char.{to_ascii_lowercase}
 use Rattle.std.proofs.lemmas.List.{take_at, drop_at}
-use Rattle.std.proofs.lemmas.List.Elements.{All-nil, All-cons, All-head, All-tail, All-same, All-append, All-take, All-drop, All-map}
+use Rattle.std.proofs.lemmas.List.Elements.{All-nil, All-cons, All-head, All-tail, All-same, All-append, All-take, All-drop}
 use Rattle.std.proofs.lemmas.Bool.Decides.{nat_tests}
 use Rattle.dns_fields.specs.Octets.{AreOctets, At}
-use Rattle.dns_fields.specs.Labels.{AreLabels, wire, lowered, lowname}
-use Rattle.dns_fields.specs.Names.{LabelsStand, IsNameIn, pointer}
+use Rattle.dns_fields.specs.Labels.{AreLabels, wire, lowered}
+use Rattle.dns_fields.specs.Names.{LabelsStand, pointer}
 use Rattle.dns_fields.specs.Names.LabelsStand.{whole, pointed}
 use Rattle.dns_fields.specs.Sorting.{sorted}
-use Rattle.dns_fields.specs.Pieces.{string, Numbered, piece, pieces, ArePieces, AllHeld, as_piece, OptionValue, Subnet, Plain, option_octets, OptionHeld, OptionFits, ParameterValue, Mandatory, Alpn, NoDefaultAlpn, Port, Ipv4Hint, Ipv6Hint, Opaque, parameter_octets, IsBody, ParameterHeld}
+use Rattle.dns_fields.specs.Pieces.{string, Numbered, piece, pieces, AllHeld, as_piece, OptionValue, Subnet, Plain, option_octets, OptionHeld, ParameterValue, Mandatory, Alpn, NoDefaultAlpn, Port, Ipv4Hint, Ipv6Hint, Opaque, parameter_octets, IsBody, ParameterHeld}
 use Rattle.dns_fields.specs.Bitmaps.{Block, block, IsBlock, packed, mark, keep, trimmed, types_octet, window, with_block, windows, minimal}
-use Rattle.dns_fields.specs.Fields.{Kind, Number, Octets, Name, Text, Texts, Rest, Options, Parameters, Bitmap, Value, Values, Field, Stands, field_octets, canonical, option_pieces, parameter_pieces, WholeOptions, CutOptions}
+use Rattle.dns_fields.specs.Fields.{Kind, Number, Octets, Name, Text, Texts, Rest, Options, Parameters, Bitmap, Value, Field, field_octets, canonical, option_pieces, parameter_pieces, WholeOptions, CutOptions}
 use Rattle.dns_fields.specs.Laws.{OctetsLaw}
 use Rattle.dns_fields.proofs.Stays.{labels_stand}
 use Rattle.dns_fields.proofs.Sorted.{octets_cmp, sorted_all}
@@ -100,14 +100,14 @@ pub lowered_octets : (labels : List (List ℕ)) → AreLabels labels → AllByRe
 lowered_octets [] h a = AreOctets-cons 0 [] (omega arith) AreOctets-nil
 lowered_octets (label ∷ labels) h a =
     AreOctets-cons (length label) (map to_ascii_lowercase label ++ lowered labels) (omega (arith, h.0.1))
-      (AreOctets-append (map to_ascii_lowercase label) (lowered labels) (lower_octets label a.0) (lowered_octets labels h.1 a.1))
+    (AreOctets-append (map to_ascii_lowercase label) (lowered labels) (lower_octets label a.0) (lowered_octets labels h.1 a.1))
 
 -- ---- pieces, options and parameters
 
 pub piece_octets : (x : Numbered (List ℕ)) → AreOctets x.1 → AreOctets (piece x)
 piece_octets x a =
     AreOctets-append (bytes_high_first 2 x.0) (bytes_high_first 2 (length x.1) ++ x.1) (AreOctets-number 2 x.0)
-      (AreOctets-append (bytes_high_first 2 (length x.1)) x.1 (AreOctets-number 2 (length x.1)) a)
+    (AreOctets-append (bytes_high_first 2 (length x.1)) x.1 (AreOctets-number 2 (length x.1)) a)
 
 pub piece_body : (x : Numbered (List ℕ)) → AreOctets (piece x) → AreOctets x.1
 piece_body x a = AreOctets-back (bytes_high_first 2 (length x.1)) x.1 (AreOctets-back (bytes_high_first 2 x.0) (bytes_high_first 2 (length x.1) ++ x.1) a)
@@ -164,9 +164,11 @@ window_octets v k = trimmed_octets (map (types_octet v k) (range_with_len 0 32))
     keep_octets zero [] h a = AreOctets-nil
     keep_octets (suc n) [] h a = AreOctets-cons (suc n) [] h AreOctets-nil
     keep_octets x (y ∷ ys) h a = AreOctets-cons x (y ∷ ys) h a
+
     trimmed_octets : (xs : List ℕ) → AreOctets xs → AreOctets (trimmed xs)
     trimmed_octets [] a = AreOctets-nil
     trimmed_octets (x ∷ xs) a = keep_octets x (trimmed xs) (AreOctets-head x xs a) (trimmed_octets xs (AreOctets-tail x xs a))
+
     mapped : (js : List ℕ) → AreOctets (map (types_octet v k) js)
     mapped [] = AreOctets-nil
     mapped (j ∷ js) = AreOctets-cons (types_octet v k j) (map (types_octet v k) js) (packed_small (λ b. mark v (256 * k + (8 * j + b))) (λ b. mark_small v (256 * k + (8 * j + b))) 8) (mapped js)

@@ -1,9 +1,8 @@
 -- What an option's octets hold.
-use Rattle.std.proofs.Common.{◌≡◌, ◌≢◌, ℕ, zero, suc, ◌+◌, ◌*◌, ◌/◌, ◌≤◌, ◌<◌, ◌^◌, ◌⊎◌, inl, inr, ⊎_elim, List, [], ◌∷◌, ◌++◌, length, refl, sym, ap, ◌∙◌, arith}
-use Rattle.std.specs.List.{flat_map, AllByRecursion}
+use Rattle.std.proofs.Common.{◌≡◌, ℕ, ◌+◌, ◌/◌, ◌<◌, ◌^◌, ⊎_elim, List, [], ◌∷◌, ◌++◌, length, refl, sym, ap, ◌∙◌, arith}
 use Rattle.std.specs.Int.{bytes_high_first}
 use Rattle.std.proofs.lemmas.List.{length-append, append-nil}
-use Rattle.dns_fields.specs.Pieces.{IsPiece, as_piece, OptionValue, Subnet, Plain, option_octets, IsAddress, OptionHeld, OptionFits}
+use Rattle.dns_fields.specs.Pieces.{OptionValue, Subnet, Plain, option_octets, IsAddress, OptionHeld, OptionFits}
 use Rattle.dns_fields.proofs.Pieces.{parts, number_first}
 
 subnet_same : (f g s t c d : ℕ) (a b u v : List ℕ) → f < 256 ^ 2 → g < 256 ^ 2 → length a ≡ (s + 7) / 8 → length b ≡ (t + 7) / 8 → (bytes_high_first 2 f ++ (s ∷ c ∷ a)) ++ u ≡ (bytes_high_first 2 g ++ (t ∷ d ∷ b)) ++ v → Subnet f s c a ≡ Subnet g t d b

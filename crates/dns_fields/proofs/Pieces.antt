@@ -1,9 +1,8 @@
 -- Pieces are of one list of numbers and octets, and what they hold is one list of values.
-use Rattle.std.proofs.Common.{◌≡◌, ◌≢◌, ℕ, zero, suc, ◌+◌, ◌/◌, ◌≤◌, ◌<◌, ◌^◌, ◌⊎◌, inl, inr, ⊎_elim, List, [], ◌∷◌, ◌++◌, length, take, drop, map, refl, sym, ap, ◌∙◌, arith, subst, append_assoc}
-use Rattle.std.specs.List.{flat_map, AllByRecursion}
+use Rattle.std.proofs.Common.{◌≡◌, ℕ, ◌+◌, ◌<◌, ◌^◌, ⊎_elim, List, [], ◌∷◌, ◌++◌, length, take, drop, map, refl, sym, ap, ◌∙◌, arith, subst, append_assoc}
+use Rattle.std.specs.List.{AllByRecursion}
 use Rattle.std.specs.Int.{bytes_high_first}
-use Rattle.std.proofs.lemmas.List.{length-append, append-nil, take_at, drop_at}
-use Rattle.std.proofs.lemmas.List.Concat.{flat_map-cons}
+use Rattle.std.proofs.lemmas.List.{length-append, take_at, drop_at}
 use Rattle.dns_fields.specs.Pieces.{Numbered, piece, pieces, IsPiece, ArePieces, AllHeld, as_piece, HoldThemselves, IsCut}
 use Rattle.dns_fields.proofs.Numbers.{length-bytes, same_number}
 
@@ -59,9 +58,9 @@ pub cut_piece : (n : ℕ) (x : Numbered (List ℕ)) (r : List ℕ) → IsPiece x
 cut_piece n x r f c = ⊎_elim
     (λ (e : piece x ++ r ≡ bytes_high_first 2 c.0). let k : length (piece x ++ r) ≡ length (bytes_high_first 2 c.0) = ap length e in omega (arith, k, length-append (piece x) r, length-piece x, length-bytes 2 c.0))
     (λ h.
-      let t = heads_same x.0 c.0 (length x.1) h.0 (x.1 ++ r) h.1 f.0 c.1 f.1 h.2 (sym (piece_before x r) ∙ h.5) in
-      let k : length (x.1 ++ r) ≡ length h.1 = ap length t.2 in
-      omega (arith, k, t.1, h.4, length-append x.1 r))
+    let t = heads_same x.0 c.0 (length x.1) h.0 (x.1 ++ r) h.1 f.0 c.1 f.1 h.2 (sym (piece_before x r) ∙ h.5) in
+    let k : length (x.1 ++ r) ≡ length h.1 = ap length t.2 in
+    omega (arith, k, t.1, h.4, length-append x.1 r))
     c.2
 
 -- whole pieces are not pieces and a cut option

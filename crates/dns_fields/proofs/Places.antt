@@ -1,5 +1,5 @@
 -- Octets that stand in a message.
-use Rattle.std.proofs.Common.{◌≡◌, ℕ, ◌+◌, ◌≤◌, List, [], ◌∷◌, ◌++◌, length, take, drop, refl, suc, get_or, sym, ap, ◌∙◌, arith, append_assoc}
+use Rattle.std.proofs.Common.{◌≡◌, ℕ, ◌≤◌, List, [], ◌∷◌, ◌++◌, length, take, drop, refl, suc, get_or, sym, ap, ◌∙◌, arith}
 use Rattle.std.proofs.lemmas.List.{length-append, append-nil, take-append-le, drop-append-le, drop_at, take_at, length-drop}
 use Rattle.dns_fields.specs.Octets.{At}
 
@@ -23,10 +23,10 @@ At-append {m} {p} {q} {x} t a =
 -- octets that were appended stand at the end
 pub At-appended : (m x : List ℕ) → At (m ++ x) (length m) x (length (m ++ x))
 At-appended m x = record {
-    ends = length-append m x;
-    within = omega arith;
-    same = rw (drop_at m x (length m) refl) (ap (λ (y : List ℕ). take (length x) y) (sym (append-nil x)) ∙ take_at x [] (length x) refl);
-  }
+  ends = length-append m x;
+  within = omega arith;
+  same = rw (drop_at m x (length m) refl) (ap (λ (y : List ℕ). take (length x) y) (sym (append-nil x)) ∙ take_at x [] (length x) refl);
+}
 
 front_head : (d : List ℕ) (n : ℕ) (xs : List ℕ) → take (suc (length xs)) d ≡ n ∷ xs → get_or d 0 0 ≡ n
 front_head [] n xs e = absurd cc

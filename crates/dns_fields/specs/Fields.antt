@@ -1,5 +1,5 @@
 -- The grammar of record data: each type is a list of kinds of fields.
-use Rattle.std.specs.Prelude.{◌≡◌, true, ℕ, ◌+◌, ◌<◌, ◌≤◌, ◌^◌, List, [], ◌∷◌, ◌++◌, length}
+use Rattle.std.specs.Prelude.{◌≡◌, true, ℕ, ◌<◌, ◌^◌, List, [], ◌∷◌, ◌++◌, length}
 use Rattle.std.specs.List.{flat_map, AllByRecursion}
 use Rattle.std.specs.Int.{bytes_high_first}
 use Rattle.std.specs.Prelude.{◌-◌, ◌⊎◌, map}

@@ -1,5 +1,5 @@
 -- The order of fields: that it is total, and that it ties exactly where `==` holds.
-use Rattle.std.specs.Prelude.{◌≡◌, ℕ, Bool, true, false, List, [], ◌∷◌, refl}
+use Rattle.std.specs.Prelude.{◌≡◌, Bool, true, false, List, [], ◌∷◌, refl}
 use Rattle.std.specs.Bool.{beq}
 use Rattle.std.specs.Cmp.{IsTotalOrder, then_total, on_total, nat_cmp_total, bool_cmp_total, unsigned_ties, both_tied}
 use Rattle.std.specs.Cmp.Derive.{point_total}

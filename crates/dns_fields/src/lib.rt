@@ -2,6 +2,7 @@
 #![tactic(auto)]
 
 ghost use Rattle.dns_fields.specs.Laws.{StandsLaw, CanonicalLaw, CanonicalReads, WrittenReads, OctetsLaw, EqualLaw, EquivalenceLaw, OrderLaw, TiesLaw};
+ghost use Rattle.dns_fields.specs.Examples.{StringExamples, NameExamples, OptionExamples, ParameterExamples, BitmapExamples};
 
 /// How domain names in record data are written.
 #[derive(Clone, Copy, Debug, PartialEq, Eq)]
@@ -26,8 +27,7 @@ pub fn fields_hold()
     ensures written { WrittenReads }
     // Canonical octets of what stands in octets are octets.
     ensures octets { OctetsLaw }
-{
-}
+{}
 
 /// The laws of equality and order of every list of kinds of fields.
 pub fn comparing_holds()
@@ -39,5 +39,18 @@ pub fn comparing_holds()
     ensures order { OrderLaw }
     // The order answers `Equal` exactly where `==` holds.
     ensures ties { TiesLaw }
-{
-}
+{}
+
+/// The grammar at work, on octets that were worked out by hand: some hold values, some hold none.
+pub fn examples_hold()
+    // Numbers, octets and strings.
+    ensures strings { StringExamples }
+    // Names, whole and with pointers.
+    ensures names { NameExamples }
+    // Options of EDNS.
+    ensures options { OptionExamples }
+    // Parameters of service binding.
+    ensures parameters { ParameterExamples }
+    // Sets of type numbers.
+    ensures bitmaps { BitmapExamples }
+{}
