@@ -5,11 +5,11 @@ use Rattle.dns_fields.specs.Labels.{DomainName}
 use Rattle.dns_fields.specs.Octets.{AreOctets}
 use Rattle.dns_fields.specs.Fields.{Kind, Number, Octets, Name, Text, Texts, Rest, Options, Parameters, Bitmap, Value, Values, Stands}
 use Rattle.dns_fields.specs.Equal.{values_eq}
-use Rattle.dns_fields.proofs.OctetLaws.{At-octets}
+use Rattle.dns_fields.proofs.OctetLaws.{AreOctets-at}
 use Rattle.dns_types.specs.declared.record_type.RecordType.{RecordType}
 use Rattle.dns_types.specs.declared.record_type.RecordType.TheVariants as types
 use Rattle.dns_names_wire.specs.Words.{Window}
-use Rattle.dns_rdata_base.proofs.Addresses.{octets_of-segments_of, segments_of-octets_of}
+use Rattle.dns_rdata_base.proofs.Addresses.{octets_of-segments, segments_of-octets_of}
 use Rattle.dns_rdata.specs.declared.record_data.RData.{RData}
 use Rattle.dns_rdata.specs.declared.record_data.RData.TheVariants as rdata
 use Rattle.dns_rdata.specs.Data.{shape, condition, FieldsOf, fields_of, type_of, IsRowless, IsPlain, IsValue}
@@ -107,7 +107,7 @@ pub window_value : (m : List ℕ) (p n : ℕ) (t : RecordType) (vs : Values (sha
 unfolding value_for
 window_value m p n types.A vs w = record { type = refl; fields = refl; plain = tt }
 window_value m p n types.AAAA vs w =
-    let e : octets_of (segments_of vs.0) ≡ vs.0 = octets_of-segments_of 8 vs.0 w.stands.1.is.0 (At-octets w.octets w.stands.1.is.1) in
+    let e : octets_of (segments_of vs.0) ≡ vs.0 = octets_of-segments 8 vs.0 w.stands.1.is.0 (AreOctets-at m p vs.0 w.stands.0 w.octets w.stands.1.is.1) in
     record { type = refl; fields = ap (λ (o : List ℕ). record { kinds = Octets 16 ∷ []; values = (o, tt) }) e; plain = tt }
 window_value m p n types.NULL vs w = record { type = refl; fields = refl; plain = tt }
 window_value m p n types.ZERO vs w = record { type = refl; fields = refl; plain = tt }

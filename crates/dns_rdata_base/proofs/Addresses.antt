@@ -1,6 +1,7 @@
 -- Addresses by their octets.
-use Rattle.std.proofs.Common.{◌≡◌, ℕ, zero, suc, ◌+◌, ◌*◌, ◌/◌, ◌%◌, ◌<◌, List, [], ◌∷◌, length, get_or, refl, ap, ◌∙◌, sym, arith}
+use Rattle.std.proofs.Common.{◌≡◌, ℕ, zero, suc, ◌+◌, ◌*◌, ◌/◌, ◌%◌, ◌<◌, List, [], ◌∷◌, length, get_or, All, refl, ap, ◌∙◌, sym, arith}
 use Rattle.std.specs.List.{AllByRecursion}
+use Rattle.std.proofs.lemmas.List.Elements.{recursion_from_All}
 use Rattle.std.specs.Net.Addr.{segments_of, octets_of}
 
 -- pairs of octets are the octets of their segments
@@ -21,6 +22,10 @@ small (x ∷ xs) h = (h 0, small xs (λ i. h (suc i)))
 
 pub octets_of-segments_of : (n : ℕ) (xs : List ℕ) → length xs ≡ 2 * n → ((i : ℕ) → get_or xs i 0 < 256) → octets_of (segments_of xs) ≡ xs
 octets_of-segments_of n xs e h = octets_of_each n xs e (small xs h)
+
+-- the same of octets
+pub octets_of-segments : (n : ℕ) (xs : List ℕ) → length xs ≡ 2 * n → All (λ x. x < 256) xs → octets_of (segments_of xs) ≡ xs
+octets_of-segments n xs e h = octets_of_each n xs e (recursion_from_All _ _ h)
 
 -- and segments are told by their octets
 pub segments_of-octets_of : (ss : List ℕ) → segments_of (octets_of ss) ≡ ss
