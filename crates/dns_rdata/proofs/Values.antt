@@ -1,5 +1,6 @@
 -- A value of record data is told by its type and its fields.
 use Rattle.std.proofs.Common.{◌≡◌, ℕ, Bool, true, false, ◌&&◌, List, [], ◌∷◌, length, refl, sym, ap, ◌∙◌, arith, nat_eq, IsTrue, get_or}
+use Rattle.std.proofs.lemmas.Bool.Decides.{nat_tests}
 use Rattle.std.specs.Net.Addr.{segments_of, octets_of}
 use Rattle.dns_fields.specs.Labels.{DomainName}
 use Rattle.dns_fields.specs.Octets.{AreOctets}
@@ -115,3 +116,27 @@ window_value m p n types.ANY vs w = absurd w.holds
 window_value m p n types.AXFR vs w = absurd w.holds
 window_value m p n types.IXFR vs w = absurd w.holds
 window_value m p n t vs w = record { type = refl; fields = refl; plain = tt }
+
+-- ---- values of one type are equal where their fields are
+
+and_true : (b : Bool) → (b && true) ≡ b
+and_true true = refl
+and_true false = refl
+
+type_itself : (t : RecordType) → record_type_eq t t ≡ true
+type_itself (types.Unknown n) = grind (arith, nat_tests)
+type_itself t = refl
+
+abbrev pub fields_for : (t : RecordType) → Values (shape t) → Values (shape t)
+fields_for t vs = values_as (shape t) (fields_of (value_for t vs)).kinds (fields_of (value_for t vs)).values
+
+pub equal_values : (t : RecordType) (vs ws : Values (shape t)) → condition t vs → equal (value_for t vs) (value_for t ws) ≡ values_eq (shape t) (fields_for t vs) (fields_for t ws)
+unfolding value_for values_as value_as
+equal_values types.A vs ws h = and_true (values_eq (shape types.A) (vs.0, tt) (ws.0, tt))
+equal_values types.AAAA vs ws h = and_true _
+equal_values types.NULL vs ws h = and_true _
+equal_values types.ZERO vs ws h = refl
+equal_values types.ANY vs ws h = absurd h
+equal_values types.AXFR vs ws h = absurd h
+equal_values types.IXFR vs ws h = absurd h
+equal_values t vs ws h = rw (type_itself t) (and_true _)

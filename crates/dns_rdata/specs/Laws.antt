@@ -1,10 +1,13 @@
 -- What holds of record data of every type.
-use Rattle.std.specs.Prelude.{◌≡◌, ◌↔◌, ℕ, ◌-◌, ◌<◌, IsTrue, Bool, List, length}
+use Rattle.std.specs.Prelude.{◌≡◌, ◌↔◌, ℕ, ◌-◌, ◌<◌, IsTrue, Bool, Option, Some, None, List, length}
+use Rattle.std.specs.declared.net.ip_addr.IpAddr.{IpAddr}
+use Rattle.std.specs.declared.net.ip_addr.IpAddr.TheVariants.{V4, V6}
 use Rattle.dns_types.specs.declared.record_type.RecordType.{RecordType}
 use Rattle.dns_names_wire.specs.State.{Writing}
 use Rattle.dns_names_wire.specs.Words.{Window}
 use Rattle.dns_fields.specs.Fields.{Values}
 use Rattle.dns_rdata.specs.declared.record_data.RData.{RData}
+use Rattle.dns_rdata.specs.declared.record_data.RData.TheVariants as rdata
 use Rattle.dns_rdata.specs.Data.{shape, condition, Fills, data_octets}
 use Rattle.dns_rdata.specs.Equal.{equal}
 
@@ -34,3 +37,9 @@ ReadsCanonical t v = length (data_octets v) < 65536 → HasEqual (data_octets v)
 -- equal value, behind what was there.
 abbrev pub ReadsBack : RData → Writing → Writing → Type 0
 ReadsBack v old new = (t : RecordType) (m : List ℕ) (p n : ℕ) → Fills m p n t v → length new.octets - length old.octets < 65536 → HasEqual new.octets (length old.octets) (length new.octets - length old.octets) t v
+
+-- the address of A and AAAA
+abbrev pub address_of : RData → Option IpAddr
+address_of (rdata.A x) = Some (V4 x.0)
+address_of (rdata.AAAA x) = Some (V6 x.0)
+address_of v = None

@@ -20,9 +20,9 @@ abbrev pub OwnRefusal : RecordType → ℕ → Reading → DecodeError → Type 
 OwnRefusal types.A n d e = (e ≡ decode.InsufficientBytes) × LacksOctets d 4
 OwnRefusal types.AAAA n d e = (e ≡ decode.InsufficientBytes) × LacksOctets d 16
 OwnRefusal types.ZERO n d e = ⊥
-OwnRefusal types.ANY n d e = ⊥
-OwnRefusal types.AXFR n d e = ⊥
-OwnRefusal types.IXFR n d e = ⊥
+OwnRefusal types.ANY n d e = e ≡ decode.UnknownRecordTypeValue 255
+OwnRefusal types.AXFR n d e = e ≡ decode.UnknownRecordTypeValue 252
+OwnRefusal types.IXFR n d e = e ≡ decode.UnknownRecordTypeValue 251
 OwnRefusal t n d e = (e ≡ decode.InsufficientBytes) × LacksOctets d n
 
 -- A refusal to read n octets: for memory; of a type that is never read, with its number; because other than n octets

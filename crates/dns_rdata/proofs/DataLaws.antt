@@ -1,0 +1,96 @@
+-- The laws of record data of every type.
+use Rattle.std.proofs.Common.{◌≡◌, ℕ, ◌+◌, ◌-◌, ◌<◌, ◌≤◌, ◌↔◌, ◌&&◌, Bool, true, false, IsTrue, List, [], ◌∷◌, ◌++◌, length, nat_eq, refl, sym, ap, ◌∙◌, arith, subst, Result, Ok, Err}
+use Rattle.std.specs.Bool.{Decides}
+use Rattle.std.specs.Result.{IfOk, OnOk}
+use Rattle.std.proofs.lemmas.List.{length-append}
+use Rattle.dns_fields.specs.declared.RDataEncoding.{RDataEncoding}
+use Rattle.dns_fields.specs.Octets.{AreOctets}
+use Rattle.dns_fields.specs.Fields.{Kind, Values, Stands, Same, AllFit, AllFull, AllLawful, Wrote, canonical}
+use Rattle.dns_fields.specs.Equal.{values_eq}
+use Rattle.dns_fields.specs.Laws.{IsShape}
+use Rattle.dns_fields.proofs.EqualLaws.{values_decide}
+use Rattle.dns_fields.proofs.OctetLaws.{canonical_octets_are}
+use Rattle.dns_fields.proofs.Laws.{stands_same, stands_fit, stands_lawful, stands_full, wrote_stands, wrote_behind, canonical_same, canonical_stands, canonical_injective}
+use Rattle.dns_types.specs.declared.error.DecodeError.{DecodeError}
+use Rattle.dns_types.specs.declared.error.ProtoError.{ProtoError}
+use Rattle.dns_types.specs.declared.record_type.RecordType.{RecordType}
+use Rattle.dns_types.specs.declared.record_type.RecordType.TheVariants as types
+use Rattle.dns_names_wire.specs.State.{Writing}
+use Rattle.dns_names_wire.specs.Words.{Window, Appended, EmitsAs}
+use Rattle.dns_rdata.specs.declared.record_data.RData.{RData}
+use Rattle.dns_rdata.specs.Data.{shape, condition, FieldsOf, fields_of, type_of, IsValue, Fills, data_octets}
+use Rattle.dns_rdata.specs.Equal.{equal}
+use Rattle.dns_rdata.specs.Laws.{OneValue, EachWindow, HasEqual, TellsApart, ReadsCanonical, ReadsBack}
+use Rattle.dns_rdata.proofs.Values.{values_as, values_as-same, value_for, value_is, window_value, fields_for, equal_values}
+
+-- each field but the last says where it ends
+shape_is : (t : RecordType) → IsShape (shape t)
+shape_is types.ZERO = tt
+shape_is t = tt
+
+-- what is asked of a value is asked of its equals
+condition_same : (t : RecordType) (a b : Values (shape t)) → Same (shape t) a b → condition t a → condition t b
+condition_same types.ANY a b s h = h
+condition_same t a b s h = h
+
+pub one_value : OneValue
+one_value m p n t v w f g =
+    let same : f.values ≡ g.values = stands_same m p (shape t) f.values g.values (p + n) (shape_is t) f.window.stands g.window.stands in
+    value_is t f.values v f.value ∙ ap (value_for t) same ∙ sym (value_is t g.values w g.value)
+
+pub each_window : EachWindow
+each_window m p n t vs w = (value_for t vs, record { values = vs; window = w; value = window_value m p n t vs w })
+
+-- ---- values of one type are equal where their fields are
+
+fields_for-window : (m : List ℕ) (p n : ℕ) (t : RecordType) (vs : Values (shape t)) → Window m p n (shape t) (condition t) vs → fields_for t vs ≡ vs
+fields_for-window m p n t vs w = ap (λ (f : FieldsOf). values_as (shape t) f.kinds f.values) (window_value m p n t vs w).fields ∙ values_as-same (shape t) vs
+
+-- the test of two values that fill windows of one type
+equal_same : (t : RecordType) (v w : RData) (m : List ℕ) (p n : ℕ) (m' : List ℕ) (p' n' : ℕ) (f : Fills m p n t v) (g : Fills m' p' n' t w) → Decides (equal v w) (Same (shape t) f.values g.values)
+equal_same t v w m p n m' p' n' f g =
+    let a : equal v w ≡ equal (value_for t f.values) (value_for t g.values) = ap (λ (x : RData). equal x w) (value_is t f.values v f.value) ∙ ap (equal (value_for t f.values)) (value_is t g.values w g.value) in
+    let b = equal_values t f.values g.values f.window.holds in
+    let c : values_eq (shape t) (fields_for t f.values) (fields_for t g.values) ≡ values_eq (shape t) f.values g.values = ap (λ (x : Values (shape t)). values_eq (shape t) x (fields_for t g.values)) (fields_for-window m p n t f.values f.window) ∙ ap (values_eq (shape t) f.values) (fields_for-window m' p' n' t g.values g.window) in
+    let d = values_decide (shape t) f.values g.values (stands_full m p (shape t) f.values (p + n) f.window.stands) (stands_full m' p' (shape t) g.values (p' + n') g.window.stands) in
+    subst (λ (x : Bool). Decides x (Same (shape t) f.values g.values)) (sym (a ∙ b ∙ c)) d
+
+abbrev octets_of : FieldsOf → List ℕ
+octets_of f = canonical f.kinds f.values
+
+pub tells_apart : (v w : RData) → TellsApart v w (equal v w)
+tells_apart v w t m p n m' p' n' f g =
+    let d = equal_same t v w m p n m' p' n' f g in
+    let ev : data_octets v ≡ canonical (shape t) f.values = ap octets_of f.value.fields in
+    let ew : data_octets w ≡ canonical (shape t) g.values = ap octets_of g.value.fields in
+    let fs = f.window.stands in
+    let gs = g.window.stands in
+    (λ h. ev ∙ canonical_same (shape t) f.values g.values (d.0 h) ∙ sym ew,
+     λ e. d.1 (canonical_injective (shape t) f.values g.values (shape_is t) (stands_fit m p (shape t) f.values (p + n) fs) (stands_lawful m p (shape t) f.values (p + n) fs) (stands_fit m' p' (shape t) g.values (p' + n') gs) (stands_lawful m' p' (shape t) g.values (p' + n') gs) (sym ev ∙ e ∙ ew)))
+
+-- ---- equal fields that stand elsewhere are of an equal value
+
+equal_window : (m : List ℕ) (p n : ℕ) (t : RecordType) (v : RData) (m' : List ℕ) (p' n' : ℕ) (f : Fills m p n t v) (ws : Values (shape t)) → AreOctets m' → n' < 65536 → p' + n' ≤ length m' → Stands m' p' (shape t) ws (p' + n') → Same (shape t) f.values ws → HasEqual m' p' n' t v
+equal_window m p n t v m' p' n' f ws octets short within stands same =
+    let w : Window m' p' n' (shape t) (condition t) ws = record { octets = octets; short = short; within = within; stands = stands; holds = condition_same t f.values ws same f.window.holds } in
+    let g : Fills m' p' n' t (value_for t ws) = record { values = ws; window = w; value = window_value m' p' n' t ws w } in
+    record { value = value_for t ws; fills = g; same = (equal_same t v (value_for t ws) m p n m' p' n' f g).1 same }
+
+pub reads_back : (v : RData) (mode : RDataEncoding) (old new : Writing) → AreOctets new.octets → Appended mode old (fields_of v).kinds (fields_of v).values new → ReadsBack v old new
+reads_back v mode old new octets a t m p n f short =
+    let w : Wrote mode old.octets (shape t) f.values new.octets = subst (λ (x : FieldsOf). Wrote mode old.octets x.kinds x.values new.octets) f.value.fields a.fields in
+    let b = wrote_stands mode old.octets (shape t) f.values new.octets (stands_lawful m p (shape t) f.values (p + n) f.window.stands) w in
+    let x = wrote_behind mode old.octets (shape t) f.values new.octets w in
+    let e : length old.octets + (length new.octets - length old.octets) ≡ length new.octets = omega (arith, ap length x.1, length-append old.octets x.0) in
+    equal_window m p n t v new.octets (length old.octets) (length new.octets - length old.octets) f b.0 octets short (omega arith) (rw e b.2) b.1
+
+pub reads_canonical : (m : List ℕ) (p n : ℕ) (t : RecordType) (v : RData) → Fills m p n t v → ReadsCanonical t v
+reads_canonical m p n t v f short =
+    let fit = stands_fit m p (shape t) f.values (p + n) f.window.stands in
+    let lawful = stands_lawful m p (shape t) f.values (p + n) f.window.stands in
+    let b = canonical_stands (shape t) f.values fit lawful in
+    let e : canonical (shape t) f.values ≡ data_octets v = ap octets_of (sym f.value.fields) in
+    let whole : Stands (data_octets v) 0 (shape t) b.0 (length (data_octets v)) = subst (λ (x : List ℕ). Stands x 0 (shape t) b.0 (length x)) e b.2 in
+    let z : length (data_octets v) ≡ 0 + length (data_octets v) = omega arith in
+    let octets : AreOctets (data_octets v) = subst AreOctets e (canonical_octets_are m p (shape t) f.values (p + n) f.window.octets f.window.stands) in
+    equal_window m p n t v (data_octets v) 0 (length (data_octets v)) f b.0 octets short (omega arith) (subst (λ (k : ℕ). Stands (data_octets v) 0 (shape t) b.0 k) z whole) b.1
