@@ -18,7 +18,7 @@ use Rattle.dns_types.specs.declared.record_type.RecordType.TheVariants as types
 use Rattle.dns_names_wire.specs.State.{Writing}
 use Rattle.dns_names_wire.specs.Words.{Window, Appended, EmitsAs}
 use Rattle.dns_rdata.specs.declared.record_data.RData.{RData}
-use Rattle.dns_rdata.specs.Data.{shape, condition, FieldsOf, fields_of, type_of, IsValue, Fills, data_octets}
+use Rattle.dns_rdata.specs.Data.{shape, condition, FieldsOf, fields_of, type_of, IsValue, Fills, data_octets, mode_for}
 use Rattle.dns_rdata.specs.Equal.{equal}
 use Rattle.dns_rdata.specs.Laws.{OneValue, EachWindow, HasEqual, TellsApart, ReadsCanonical, ReadsBack}
 use Rattle.dns_rdata.proofs.Values.{values_as, values_as-same, value_for, value_is, window_value, fields_for, equal_values}
@@ -94,3 +94,17 @@ reads_canonical m p n t v f short =
     let z : length (data_octets v) ≡ 0 + length (data_octets v) = omega arith in
     let octets : AreOctets (data_octets v) = subst AreOctets e (canonical_octets_are m p (shape t) f.values (p + n) f.window.octets f.window.stands) in
     equal_window m p n t v (data_octets v) 0 (length (data_octets v)) f b.0 octets short (omega arith) (subst (λ (k : ℕ). Stands (data_octets v) 0 (shape t) b.0 k) z whole) b.1
+
+-- ---- the same as clauses on an outcome
+
+pub canonical_of : (t : RecordType) (m : List ℕ) (p n : ℕ) (r : Result RData DecodeError) → IfOk r (λ v. Fills m p n t v) → IfOk r (ReadsCanonical t)
+canonical_of t m p n (Ok v) f = reads_canonical m p n t v f
+canonical_of t m p n (Err e) f = tt
+
+pub emits_again : (v : RData) (mode : RDataEncoding) (r : Result (Unit {0}) ProtoError) (old new : Writing) → AreOctets new.octets → EmitsAs mode (fields_of v).kinds (fields_of v).values r old new → OnOk r (ReadsBack v old new)
+emits_again v mode (Ok x) old new octets h = reads_back v mode old new octets h
+emits_again v mode (Err e) old new octets h = tt
+
+-- of a value that is known to be w
+pub emits_at : (v w : RData) (r : Result (Unit {0}) ProtoError) (old new : Writing) → v ≡ w → EmitsAs (mode_for old.mode w) (fields_of w).kinds (fields_of w).values r old new → EmitsAs (mode_for old.mode v) (fields_of v).kinds (fields_of v).values r old new
+emits_at v w r old new e h = subst (λ (x : RData). EmitsAs (mode_for old.mode x) (fields_of x).kinds (fields_of x).values r old new) (sym e) h

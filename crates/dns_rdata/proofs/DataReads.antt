@@ -1,5 +1,7 @@
 -- Reading data of each type.
-use Rattle.std.proofs.Common.{◌≡◌, ◌≢◌, ℕ, ◌+◌, ◌<◌, ◌≤◌, List, [], ◌∷◌, length, refl, sym, ap, ◌∙◌, arith, subst, Result, Ok, Err}
+use Rattle.std.proofs.Common.{◌≡◌, ◌≢◌, ℕ, ◌+◌, ◌-◌, ◌<◌, ◌≤◌, ◌==◌, ◌⊎◌, inl, inr, Bool, true, false, cond, List, [], ◌∷◌, length, refl, sym, ap, ◌∙◌, arith, subst, Result, Ok, Err}
+use Rattle.std.specs.Result.{IfOk, IfErr}
+use Rattle.std.proofs.lemmas.Bool.Decides.{nat_tests}
 use Rattle.dns_fields.specs.Octets.{AreOctets}
 use Rattle.dns_fields.specs.Fields.{Kind, Rest, Values, Stands}
 use Rattle.dns_types.specs.declared.error.DecodeError.{DecodeError}
@@ -14,8 +16,8 @@ use Rattle.dns_rdata_base.specs.declared.null.NULL.{NULL}
 use Rattle.dns_rdata_base.specs.NULL.{null_shape, null_fields}
 use Rattle.dns_rdata.specs.declared.record_data.RData.{RData}
 use Rattle.dns_rdata.specs.declared.record_data.RData.TheVariants as rdata
-use Rattle.dns_rdata.specs.Data.{shape, condition, FieldsOf, fields_of, type_of, IsRowless, IsPlain, IsValue, Fills, TookData, RefusedData, ReadsData}
-use Rattle.dns_rdata.specs.Refusals.{IsNeverRead}
+use Rattle.dns_rdata.specs.Data.{shape, condition, FieldsOf, fields_of, type_of, IsRowless, IsPlain, IsValue, Fills, NoValue, TookData, RefusedData, ReadsData}
+use Rattle.dns_rdata.specs.Refusals.{IsNeverRead, OwnRefusal, IsRefusal, by_length}
 
 -- what fills a window as fields fills it as a value
 pub data_took : {old new : Reading} (t : RecordType) (n : ℕ) (v : RData) (vs : Values (shape t)) → IsValue t vs v → TookWindow old n (shape t) (condition t) vs new → TookData old t n v new
@@ -58,3 +60,56 @@ unknown_took types.ANY n x h w = absurd h.rowless
 unknown_took types.AXFR n x h w = absurd h.rowless
 unknown_took types.IXFR n x h w = absurd h.rowless
 unknown_took t n x h w = data_took t n (rdata.Unknown t x) (null_fields x) (record { type = refl; fields = refl; plain = tt }) w
+
+-- ---- what reading answers, once the octets that were taken are counted
+
+by_case : (b : Bool) (P : Bool → Type 0) → (b ≡ true → P true) → (b ≡ false → P false) → P b
+by_case true P f g = f refl
+by_case false P f g = g refl
+
+equal_counts : (a b : ℕ) → (a == b) ≡ true → a ≡ b
+equal_counts a b e = grind (arith, nat_tests)
+
+other_counts : (a b : ℕ) → (a == b) ≡ false → a ≢ b
+other_counts a b e = grind (arith, nat_tests)
+
+-- what is known of the count
+pub record Counted (old new : Reading) (n read len : ℕ) : Type 0 where
+  pub taken : read ≡ new.index - old.index
+  pub wanted : len ≡ n
+
+counted : {old new : Reading} {n read len : ℕ} → StaysBehind old new → Counted old new n read len → (read == len) ≡ true → new.index ≡ old.index + n
+counted {read = read} {len = len} b c e = let h = equal_counts read len e in omega (arith, h, b.index, c.taken, c.wanted)
+
+miscounted : {old new : Reading} {n read len : ℕ} → StaysBehind old new → Counted old new n read len → (read == len) ≡ false → new.index ≢ old.index + n
+miscounted {read = read} {len = len} b c e = let h = other_counts read len e in λ k. h (omega (arith, b.index, c.taken, c.wanted, k))
+
+no_value : {m : List ℕ} {p n : ℕ} (t : RecordType) → NoWindow m p n (shape t) (condition t) → NoValue m p n t
+no_value t w = record { none = λ v f. w.none f.values f.window }
+
+pub data_found : (t : RecordType) (n : ℕ) (o : Result RData DecodeError) (old new : Reading) (read len : ℕ) → ReadsData t n o old new → Counted old new n read len → IfOk (by_length o read len) (λ v. Fills old.message old.index n t v)
+data_found t n (Ok v) old new read len h c = by_case (read == len) (λ b. IfOk (cond b (Ok v) (Err (decode.IncorrectRDataLengthRead read len))) (λ v. Fills old.message old.index n t v)) (λ e. h.here (counted h.behind c e)) (λ e. tt)
+data_found t n (Err decode.Memory) old new read len h c = tt
+data_found t n (Err (decode.UnknownRecordTypeValue k)) old new read len h c = tt
+data_found t n (Err e) old new read len h c = by_case (read == len) (λ b. IfOk (cond b (Err e) (Err (decode.IncorrectRDataLengthRead read len))) (λ v. Fills old.message old.index n t v)) (λ _. tt) (λ _. tt)
+
+pub data_refused : (t : RecordType) (n : ℕ) (o : Result RData DecodeError) (old new : Reading) (read len : ℕ) → ReadsData t n o old new → Counted old new n read len → IfErr (by_length o read len) (λ e. UnlessMemory e (NoValue old.message old.index n t))
+data_refused t n (Ok v) old new read len h c = by_case (read == len) (λ b. IfErr {T = RData} (cond b (Ok v) (Err (decode.IncorrectRDataLengthRead read len))) (λ e. UnlessMemory e (NoValue old.message old.index n t))) (λ e. tt) (λ e. no_value t (h.elsewhere (miscounted h.behind c e)))
+data_refused t n (Err decode.Memory) old new read len h c = tt
+data_refused t n (Err (decode.UnknownRecordTypeValue k)) old new read len h c = no_value t h.none
+data_refused t n (Err e) old new read len h c = by_case (read == len) (λ b. IfErr {T = RData} (cond b (Err e) (Err (decode.IncorrectRDataLengthRead read len))) (λ e. UnlessMemory e (NoValue old.message old.index n t))) (λ _. no_value t h.none) (λ _. no_value t h.none)
+
+-- the refusal by number is that of types that are never read
+own_never : (t : RecordType) (n : ℕ) (d : Reading) (k : ℕ) → OwnRefusal t n d (decode.UnknownRecordTypeValue k) → IsNeverRead t × (k ≡ number_of t)
+own_never types.ANY n d k e = (tt, cc e)
+own_never types.AXFR n d k e = (tt, cc e)
+own_never types.IXFR n d k e = (tt, cc e)
+own_never types.ZERO n d k e = absurd e
+own_never t n d k h = let e = h.0 in absurd (cc e)
+
+pub data_why : (t : RecordType) (n : ℕ) (o : Result RData DecodeError) (old new : Reading) (read len : ℕ) → ReadsData t n o old new → Counted old new n read len → IfErr o (λ e. UnlessMemory e (OwnRefusal t n old e)) → (IsNeverRead t → (new ≡ old) × (o ≡ Err (decode.UnknownRecordTypeValue (number_of t)))) → IfErr (by_length o read len) (IsRefusal t n old new)
+data_why t n (Ok v) old new read len h c own never = by_case (read == len) (λ b. IfErr {T = RData} (cond b (Ok v) (Err (decode.IncorrectRDataLengthRead read len))) (IsRefusal t n old new)) (λ e. tt) (λ e. inl (miscounted h.behind c e, c.taken, c.wanted))
+data_why t n (Err decode.Memory) old new read len h c own never = tt
+data_why t n (Err (decode.UnknownRecordTypeValue k)) old new read len h c own never = let x = own_never t n old k own in (x.0, x.1, (never x.0).0)
+data_why t n (Err (decode.IncorrectRDataLengthRead r l)) old new read len h c own never = by_case (read == len) (λ b. IfErr {T = RData} (cond b (Err (decode.IncorrectRDataLengthRead r l)) (Err (decode.IncorrectRDataLengthRead read len))) (IsRefusal t n old new)) (λ e. inr (counted h.behind c e, own)) (λ e. inl (miscounted h.behind c e, c.taken, c.wanted))
+data_why t n (Err x) old new read len h c own never = by_case (read == len) (λ b. IfErr {T = RData} (cond b (Err x) (Err (decode.IncorrectRDataLengthRead read len))) (IsRefusal t n old new)) (λ e. (counted h.behind c e, own)) (λ e. inl (miscounted h.behind c e, c.taken, c.wanted))

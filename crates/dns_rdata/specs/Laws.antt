@@ -43,3 +43,8 @@ abbrev pub address_of : RData → Option IpAddr
 address_of (rdata.A x) = Some (V4 x.0)
 address_of (rdata.AAAA x) = Some (V6 x.0)
 address_of v = None
+
+-- no data, of a record in an update (RFC 2136, 2.4 and 2.5)
+abbrev pub IsUpdate : RData → Type 0
+IsUpdate (rdata.Update0 t) = Unit {0}
+IsUpdate v = ⊥

@@ -1,6 +1,24 @@
 //! The data of DNS resource records: read, emitted, printed and compared.
 #![tactic(auto)]
 
-pub mod record_data;
+ghost use Rattle.dns_rdata.specs.Laws.{OneValue, EachWindow};
 
+pub mod record_data;
+pub mod traits;
+
+pub use dns_names_wire::{binary, decoder, encoder, error, record_type, restrict};
+pub use dns_names_wire::{
+    BinDecodable, BinDecoder, BinEncodable, BinEncoder, DecodeError, Octets, ParseError, Place, ProtoError,
+    RDataEncoding, RecordType, Restrict,
+};
+pub use dns_rdata_base::{a, aaaa, null};
+pub use dns_rdata_base::{A, AAAA, NULL, RecordDataDecodable, TakesOctet};
 pub use record_data::RData;
+pub use traits::RecordData;
+
+/// Octets are the data of at most one value of a type, and of one wherever the fields of the type fill them.
+pub fn windows_hold()
+    ensures one { OneValue }
+    ensures each { EachWindow }
+{
+}

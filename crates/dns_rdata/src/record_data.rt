@@ -12,7 +12,7 @@ use std::fmt;
 use std::net::{IpAddr, Ipv4Addr, Ipv6Addr};
 
 /// The data of a record (RFC 1035, 3.2.1 and 3.3).
-#[derive(Debug, Drop)]
+#[derive(Debug, Drop, Hash)]
 pub enum RData {
     /// An IPv4 address.
     A(A),
@@ -87,5 +87,217 @@ impl RData {
                 rdata: NULL::read_data(decoder, length)?,
             }),
         }
+    }
+    /// Reads the data of a record of this type, which is all of the `length` octets from the decoder's place.
+    ///
+    /// The type is tested first (of ANY, AXFR and IXFR no data is read), then memory, then whether the octets that were
+    /// taken are as many as the length says, and last whether the record itself refused them. After a refusal the
+    /// message is as it was, and the place is not before the one where the call began; after success it is behind the
+    /// length.
+    pub fn read(
+        decoder: &mut BinDecoder<'_>,
+        record_type: RecordType,
+        length: Restrict<u16>,
+    ) -> Result<RData, DecodeError>
+        // What is read fills the length in the grammar of the type.
+        ensures found { IfOk result (λ v. Fills decoder.old.message decoder.old.index length record_type v) }
+        ensures after { OnOk result (decoder.new.index ≡ decoder.old.index + length) }
+        ensures kind { IfOk result (λ v. type_of v ≡ record_type) }
+        // What is refused, but for memory, no value fills.
+        ensures refused { IfErr result (λ e. UnlessMemory e (NoValue decoder.old.message decoder.old.index length record_type)) }
+        ensures why { IfErr result (IsRefusal record_type length decoder.old decoder.new) }
+        ensures never { IsNeverRead record_type → (decoder.new ≡ decoder.old)
+            × (result ≡ Err (DecodeError.UnknownRecordTypeValue (number_of record_type))) }
+        ensures behind { StaysBehind decoder.old decoder.new }
+        // The canonical octets of what is read are read again as an equal value.
+        ensures canonical { IfOk result (ReadsCanonical record_type) }
+    {
+        let start = decoder.index();
+        let outcome = RData::read_fields(decoder, record_type, length);
+        let read = decoder.index() - start;
+        let len = length.unverified() as usize;
+        by_length(outcome, read, len)
+    }
+}
+
+// What reading answers, once so many octets were taken of a length.
+#[inline]
+fn by_length(
+    outcome: Result<RData, DecodeError>,
+    read: usize,
+    len: usize,
+) -> Result<RData, DecodeError>
+    ensures { result ≡ answer_by_length outcome read len }
+{
+    match outcome {
+        Err(DecodeError::Memory) => Err(DecodeError::Memory),
+        Err(DecodeError::UnknownRecordTypeValue(number)) => {
+            Err(DecodeError::UnknownRecordTypeValue(number))
+        }
+        outcome => {
+            if read == len {
+                outcome
+            } else {
+                Err(DecodeError::IncorrectRDataLengthRead { read, len })
+            }
+        }
+    }
+}
+
+impl BinEncodable for RData {
+    ghost use Rattle.dns_rdata.specs.Data.{fields_of, mode_for};
+    ghost use Rattle.dns_rdata.specs.Laws.{ReadsBack};
+
+    ghost emits = { λ v r old new. EmitsAs (mode_for old.mode v) (fields_of v).kinds (fields_of v).values r old new };
+
+    /// Appends the octets of the value, its names in the mode of its type. After a refusal the octets that were there
+    /// stand, and the encoder is in the mode that it was in.
+    fn emit(&self, encoder: &mut BinEncoder<'_>) -> Result<(), ProtoError>
+        ensures emits { EmitsAs (mode_for encoder.old.mode self.now) (fields_of self.now).kinds (fields_of self.now).values result encoder.old encoder.new }
+        // What was read and is appended reads back as an equal value, behind any octets.
+        ensures again { OnOk result (ReadsBack self.now encoder.old encoder.new) }
+    {
+        let outcome = self.emit_fields(encoder);
+        let _written = encoder.len();
+        outcome
+    }
+}
+
+impl RData {
+    ghost use Rattle.dns_rdata.specs.Data.{fields_of, mode_for};
+
+    // Appends the octets of the value.
+    fn emit_fields(&self, encoder: &mut BinEncoder<'_>) -> Result<(), ProtoError>
+        ensures { EmitsAs (mode_for encoder.old.mode self.now) (fields_of self.now).kinds (fields_of self.now).values result encoder.old encoder.new }
+    {
+        match self {
+            RData::A(a) => a.emit(encoder),
+            RData::AAAA(a) => a.emit(encoder),
+            RData::NULL(rdata) => rdata.emit(encoder),
+            RData::Unknown { rdata, .. } => rdata.emit(encoder),
+            RData::Update0(_) | RData::ZERO => Ok(()),
+        }
+    }
+}
+
+impl RData {
+    ghost use Rattle.dns_rdata.specs.Equal.{equal};
+
+    // Whether both are of one variant, and equal there.
+    fn is_same(&self, other: &RData) -> bool
+        ensures { result ≡ equal self.now other.now }
+    {
+        match (self, other) {
+            (RData::A(a), RData::A(b)) => a == b,
+            (RData::AAAA(a), RData::AAAA(b)) => a == b,
+            (RData::NULL(a), RData::NULL(b)) => a == b,
+            (
+                RData::Unknown { code, rdata },
+                RData::Unknown {
+                    code: other_code,
+                    rdata: other_rdata,
+                },
+            ) => code == other_code && rdata == other_rdata,
+            (RData::Update0(a), RData::Update0(b)) => a == b,
+            (RData::ZERO, RData::ZERO) => true,
+            _ => false,
+        }
+    }
+}
+
+impl PartialEq for RData {
+    ghost use Rattle.std.specs.Cmp.{partial_equiv_from_equiv};
+    ghost use Rattle.dns_rdata.specs.Equal.{equal, equal_equiv};
+    ghost use Rattle.dns_rdata.specs.Laws.{TellsApart};
+
+    ghost eq = { equal };
+
+    ghost laws = { partial_equiv_from_equiv equal_equiv };
+
+    /// Whether both are of one variant and equal there: names but for ASCII case.
+    fn eq(&self, other: &RData) -> bool
+        ensures value { result ≡ equal self.now other.now }
+        // Two values that were read under one type are equal exactly where their canonical octets are the same.
+        ensures canonical { TellsApart self.now other.now result }
+    {
+        self.is_same(other)
+    }
+}
+
+impl Eq for RData {
+    ghost use Rattle.dns_rdata.specs.Equal.{equal_equiv};
+
+    ghost laws = { equal_equiv };
+}
+
+impl Clone for RData {
+    ghost is_clone = { λ a b. b ≡ a };
+
+    /// The same value in memory of its own.
+    fn clone(&self) -> Result<RData, AllocError>
+        ensures { IfOk result (λ copy. copy ≡ self.now) }
+    {
+        Ok(match self {
+            RData::A(a) => RData::A(*a),
+            RData::AAAA(a) => RData::AAAA(*a),
+            RData::NULL(rdata) => RData::NULL(rdata.clone()?),
+            RData::Unknown { code, rdata } => RData::Unknown {
+                code: *code,
+                rdata: rdata.clone()?,
+            },
+            RData::Update0(record_type) => RData::Update0(*record_type),
+            RData::ZERO => RData::ZERO,
+        })
+    }
+}
+
+impl fmt::Display for RData {
+    ghost use Rattle.dns_rdata.specs.Texts.{data_text};
+
+    ghost output = { λ v. Some (data_text v) };
+
+    /// The text of the record; `UPDATE` for no data of an update, and nothing for no data of type 0.
+    fn fmt<W: fmt::Write>(&self, f: &mut fmt::Formatter<W>) -> fmt::Result {
+        match self {
+            RData::A(a) => write!(f, "{a}"),
+            RData::AAAA(a) => write!(f, "{a}"),
+            RData::NULL(rdata) => write!(f, "{rdata}"),
+            RData::Unknown { rdata, .. } => write!(f, "{rdata}"),
+            RData::Update0(_) => write!(f, "UPDATE"),
+            RData::ZERO => Ok(()),
+        }
+    }
+}
+
+impl From<IpAddr> for RData {
+    ghost use Rattle.dns_rdata.specs.Laws.{address_of};
+
+    ghost from_gives = { λ address v. address_of v ≡ Some address };
+
+    fn from(address: IpAddr) -> RData {
+        match address {
+            IpAddr::V4(address) => RData::A(A(address)),
+            IpAddr::V6(address) => RData::AAAA(AAAA(address)),
+        }
+    }
+}
+
+impl From<Ipv4Addr> for RData {
+    ghost use Rattle.dns_rdata.specs.declared.record_data.RData.TheVariants as rdata;
+
+    ghost from_gives = { λ address v. v ≡ rdata.A (record { 0 = address }) };
+
+    fn from(address: Ipv4Addr) -> RData {
+        RData::A(A(address))
+    }
+}
+
+impl From<Ipv6Addr> for RData {
+    ghost use Rattle.dns_rdata.specs.declared.record_data.RData.TheVariants as rdata;
+
+    ghost from_gives = { λ address v. v ≡ rdata.AAAA (record { 0 = address }) };
+
+    fn from(address: Ipv6Addr) -> RData {
+        RData::AAAA(AAAA(address))
     }
 }
