@@ -1,5 +1,7 @@
--- Codes, numbers and texts tell types apart.
-use Rattle.std.proofs.Common.{◌≡◌, ℕ, ◌+◌, ◌*◌, ◌/◌, ◌%◌, ◌==◌, Bool, true, false, cond, IsTrue, List, [], ◌∷◌, find, unwrap_or, Option, Some, eqb-true, refl, sym, ◌∙◌, ap, arith}
+-- Codes and numbers tell types apart.
+use Rattle.std.proofs.Common.{◌≡◌, ℕ, ◌<◌, ◌≤◌, ◌+◌, ◌*◌, ◌/◌, ◌%◌, ◌==◌, Bool, true, false, cond, IsTrue, List, [], ◌∷◌, find, unwrap_or, Option, Some, eqb-true, refl, sym, ◌∙◌, ap, arith}
+use Rattle.std.specs.Bool.{Decides}
+use Rattle.std.specs.Cmp.{unsigned_Decides}
 use Rattle.dns_types.specs.declared.record_type.RecordType.{RecordType}
 use Rattle.dns_types.specs.declared.record_type.RecordType.TheVariants.{Unknown}
 use Rattle.dns_types.specs.RecordTypes.{number_of, is_named, named_types, record_type_of, code_of}
@@ -19,6 +21,27 @@ type_of_code-code_of t = refl
 -- two types of one code are one type
 pub code_of-injective : (a b : RecordType) → code_of a ≡ code_of b → a ≡ b
 code_of-injective a b e = sym (type_of_code-code_of a) ∙ ap type_of_code e ∙ type_of_code-code_of b
+
+-- so the codes' equality is the types'
+pub code_of-Decides : (a b : RecordType) → Decides (code_of a == code_of b) (a ≡ b)
+code_of-Decides a b =
+    let codes = unsigned_Decides (code_of a) (code_of b) in
+    (λ e. code_of-injective a b (codes.0 e), λ e. codes.1 (ap code_of e))
+
+-- codes stand in the order of the numbers
+pub code_of-low : (t : RecordType) → 2 * number_of t ≤ code_of t
+code_of-low (Unknown n) = omega arith
+code_of-low t = omega arith
+
+pub code_of-high : (t : RecordType) → code_of t ≤ 2 * number_of t + 1
+code_of-high (Unknown n) = omega arith
+code_of-high t = omega arith
+
+pub code_of-rises : (a b : RecordType) → number_of a < number_of b → code_of a < code_of b
+code_of-rises a b lower =
+    let high = code_of-high a in
+    let low = code_of-low b in
+    omega arith
 
 named_number : (n : ℕ) (b : Bool) (t rest : RecordType) → (number_of t == n) ≡ b → number_of rest ≡ n → number_of (cond b t rest) ≡ n
 named_number n true t rest e later = eqb-true (number_of t) n e

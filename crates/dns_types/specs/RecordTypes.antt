@@ -56,15 +56,15 @@ is_named (Unknown n) = false
 is_named t = true
 
 abbrev pub named_types : List RecordType
-named_types = ZERO ∷ A ∷ NS ∷ CNAME ∷ SOA ∷ NULL ∷ PTR ∷ HINFO ∷ MX ∷ TXT ∷ SIG ∷ KEY ∷ AAAA ∷ SRV ∷ NAPTR ∷ CERT ∷ DNAME ∷ OPT ∷ DS ∷ SSHFP
-    ∷ RRSIG ∷ NSEC ∷ DNSKEY ∷ NSEC3 ∷ NSEC3PARAM ∷ TLSA ∷ SMIMEA ∷ CDS ∷ CDNSKEY ∷ OPENPGPKEY ∷ CSYNC ∷ SVCB ∷ HTTPS ∷ TSIG ∷ IXFR ∷ AXFR ∷ ANY
-    ∷ CAA ∷ ANAME ∷ []
+named_types = ZERO ∷ A ∷ NS ∷ CNAME ∷ SOA ∷ NULL ∷ PTR ∷ HINFO ∷ MX ∷ TXT ∷ SIG ∷ KEY ∷ AAAA ∷ SRV ∷ NAPTR ∷ CERT
+    ∷ DNAME ∷ OPT ∷ DS ∷ SSHFP ∷ RRSIG ∷ NSEC ∷ DNSKEY ∷ NSEC3 ∷ NSEC3PARAM ∷ TLSA ∷ SMIMEA ∷ CDS ∷ CDNSKEY
+    ∷ OPENPGPKEY ∷ CSYNC ∷ SVCB ∷ HTTPS ∷ TSIG ∷ IXFR ∷ AXFR ∷ ANY ∷ CAA ∷ ANAME ∷ []
 
 -- the named type of a number, or the number itself where none has it
 abbrev pub record_type_of : ℕ → RecordType
 record_type_of n = unwrap_or (find (λ t. number_of t == n) named_types) (Unknown n)
 
--- a number of its own for each value, in their order: by number on the wire, and `Unknown n` after the named type
+-- a number of its own for each value, in their order: by number on the wire, and `Unknown n` behind the named type
 abbrev pub code_of : RecordType → ℕ
 code_of (Unknown n) = 2 * n + 1
 code_of t = 2 * number_of t
@@ -142,4 +142,5 @@ ReadsType text r = MatchResult r
 
 -- what the type of a number of 16 bits prints is read as that type
 abbrev pub ReadsPrinted : List ℕ → Result RecordType DecodeError → Type 0
-ReadsPrinted text r = (n : ℕ) → n < 2 ^ 16 → text ≡ type_text (record_type_of n) → r ≡ Ok (record_type_of n)
+ReadsPrinted text r =
+    (n : ℕ) → n < 2 ^ 16 → text ≡ type_text (record_type_of n) → r ≡ Ok (record_type_of n)

@@ -1,5 +1,5 @@
-//! Small types below the rest of the workspace: types of records, errors, values that are still to be looked at, and
-//! octets that a value owns.
+//! Small types below the rest of the workspace: types of records, errors, values that are still to
+//! be looked at, and octets that a value owns.
 #![tactic(auto)]
 
 pub mod error;

@@ -13,8 +13,8 @@ use std::fmt;
 use std::hash::{Hash, Hasher};
 use std::str::FromStr;
 
-/// The type of a resource record (RFC 1035, 3.2.2, and IANA's list of types). Types are ordered by number,
-/// and `Unknown` stands after the named type of the same number.
+/// The type of a resource record (RFC 1035, 3.2.2, and IANA's list of types). Types are ordered by
+/// number, and `Unknown` stands after the named type of the same number.
 #[derive(Clone, Copy, Debug)]
 pub enum RecordType {
     ZERO,
@@ -60,6 +60,7 @@ pub enum RecordType {
     Unknown(u16),
 }
 
+/// The named type of the number, or `Unknown` where none has it.
 impl From<u16> for RecordType {
     ghost from_gives = { λ number kind. (kind ≡ record_type_of number) × (number_of kind ≡ number) };
 
@@ -110,6 +111,7 @@ impl From<u16> for RecordType {
     }
 }
 
+/// The number on the wire.
 impl From<RecordType> for u16 {
     ghost from_gives = { λ kind number. number ≡ number_of kind };
 
@@ -215,8 +217,10 @@ impl RecordType {
         }
     }
 
+    // The name in capitals, of a type that has one.
     fn name(self) -> Option<&'static str>
-        ensures { MatchOption result (self ≡ RecordType.Unknown (number_of self)) (λ name. IsTrue (is_named self) × (name.now ≡ type_text self)) }
+        ensures { MatchOption result (self ≡ RecordType.Unknown (number_of self))
+            (λ name. IsTrue (is_named self) × (name.now ≡ type_text self)) }
     {
         let name = match self {
             RecordType::ZERO => "ZERO",
@@ -263,6 +267,7 @@ impl RecordType {
         Some(name)
     }
 
+    // Whether the text is the type's name.
     fn has_name(self, text: &str) -> bool
         ensures { result ≡ has_name text.now self }
     {
@@ -305,7 +310,9 @@ impl Hash for RecordType {
 impl PartialOrd for RecordType {
     ghost partial_cmp = { as_partial_cmp (on code_of nat_cmp) };
 
-    ghost laws = { partial_order_from_agreeing_total (on code_of nat_cmp) (on_total code_of nat_cmp_total) (λ _ _. refl) (λ a b. unsigned_ties (code_of a) (code_of b)) };
+    ghost laws = { partial_order_from_agreeing_total (on code_of nat_cmp)
+        (on_total code_of nat_cmp_total) (λ _ _. refl)
+        (λ a b. unsigned_ties (code_of a) (code_of b)) };
 
     #[inline]
     fn partial_cmp(&self, other: &RecordType) -> Option<Ordering> {
@@ -328,6 +335,7 @@ impl Ord for RecordType {
     }
 }
 
+/// The name in capitals, or `TYPE` and the number in decimal (RFC 3597, 5).
 impl fmt::Display for RecordType {
     ghost output = { λ t. Some (type_text t) };
 
@@ -342,8 +350,9 @@ impl fmt::Display for RecordType {
     }
 }
 
-/// The type with the text's name, in capitals, or of the number behind `TYPE` (RFC 3597, 5): one to five decimal
-/// digits. Any other text is refused by `DecodeError::UnknownRecordTypeStr`.
+/// The type whose name the text is, in capitals, or the type of the number behind `TYPE`, in one to
+/// five decimal digits (RFC 3597, 5). Any other text is refused by
+/// `DecodeError::UnknownRecordTypeStr`. Takes no memory.
 impl FromStr for RecordType {
     type Err = DecodeError;
 
@@ -366,7 +375,7 @@ fn named(text: &str) -> Option<RecordType>
 
 // The type of the number that the text has behind TYPE.
 fn numbered(text: &str) -> Option<RecordType>
-    ensures { MatchOption result ((t : _) → ¬ (IsNumberText text.now t)) (λ t. IsNumberText text.now t) }
+    ensures { MatchOption result ((t : _) → ¬ (IsNumberText text.now t)) (IsNumberText text.now) }
 {
     let digits = text.strip_prefix("TYPE")?;
     if digits.len() > 5 || digits.starts_with('+') {

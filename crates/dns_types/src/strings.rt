@@ -1,5 +1,5 @@
 //! Lists of octet strings that a value owns.
-ghost use Rattle.std.specs.Prelude.{◌≡◌, ◌==◌, ◌++◌, ◌∷◌, ◌↔◌, ℕ, List, [], length, slice_get, OnOk, OnErr, IfOk, IsTrue};
+ghost use Rattle.std.specs.Prelude.{◌≡◌, ◌==◌, ◌++◌, ◌∷◌, ◌↔◌, ℕ, List, [], length, slice_get, OnOk, OnErr, IsTrue};
 ghost use Rattle.std.specs.Option.{option_copied};
 ghost use Rattle.std.specs.Cmp.Lexicographic.{pointwise, slice_cmp, texts_ties, lists_ties, lists_total, nat_list_cmp_total, pointwise_decides};
 ghost use Rattle.std.specs.Cmp.{partial_order_from_agreeing_total, unsigned_Decides};
@@ -14,8 +14,8 @@ use std::cmp::Ordering;
 use std::hash::{Hash, Hasher};
 use std::marker::Model;
 
-/// Strings of octets that a value owns, which contracts see as the list of their lists. They are ordered by the
-/// first string that differs, and a proper beginning is less.
+/// Strings of octets that a value owns, which contracts see as the list of their lists. They are
+/// ordered by the first string that differs, and a proper beginning is less.
 #[derive(Debug, Drop)]
 pub struct Strings {
     items: Vec<Octets>,
@@ -38,16 +38,6 @@ impl Strings {
         }
     }
 
-    /// No strings, and memory for so many. Fails only for want of memory.
-    #[inline]
-    pub fn with_capacity(alloc: Global, capacity: usize) -> Result<Strings, AllocError>
-        ensures { IfOk result (λ s. s ≡ []) }
-    {
-        Ok(Strings {
-            items: Vec::with_capacity(alloc, capacity)?,
-        })
-    }
-
     /// The strings of the list, which is moved.
     #[inline]
     pub fn from_vec(items: Vec<Octets>) -> Strings
@@ -65,8 +55,8 @@ impl Strings {
         items
     }
 
-    /// Puts the string behind the others. Fails only for want of memory; the others then stand as they were, and
-    /// the string is dropped.
+    /// Puts the string behind the others. Fails only for want of memory; the others then stand as
+    /// they were, and the string is dropped.
     #[inline]
     pub fn push(&mut self, string: Octets) -> Result<(), AllocError>
         ensures ok { OnOk result (self.new ≡ self.old ++ string ∷ []) }
@@ -136,7 +126,8 @@ impl Eq for Strings {
 impl Hash for Strings {
     ghost hash_input = { fed.slice (fed.slice fed.u8) };
 
-    ghost respects_eq = { λ a b same. ap (fed.slice (fed.slice fed.u8)) ((pointwise_decides (pointwise_decides unsigned_Decides) a b).0 same) };
+    ghost respects_eq = { λ a b same. ap (fed.slice (fed.slice fed.u8))
+        ((pointwise_decides (pointwise_decides unsigned_Decides) a b).0 same) };
 
     fn hash<H: Hasher>(&self, state: &mut H) {
         self.as_slice().hash(state);
@@ -146,7 +137,8 @@ impl Hash for Strings {
 impl PartialOrd for Strings {
     ghost partial_cmp = { as_partial_cmp (slice_cmp (slice_cmp nat_cmp)) };
 
-    ghost laws = { partial_order_from_agreeing_total (slice_cmp (slice_cmp nat_cmp)) (lists_total nat_list_cmp_total) (λ _ _. refl) (lists_ties (slice_cmp nat_cmp) texts_ties) };
+    ghost laws = { partial_order_from_agreeing_total (slice_cmp (slice_cmp nat_cmp))
+        (lists_total nat_list_cmp_total) (λ _ _. refl) (lists_ties (slice_cmp nat_cmp) texts_ties) };
 
     fn partial_cmp(&self, other: &Strings) -> Option<Ordering> {
         Some(self.cmp(other))
