@@ -78,4 +78,9 @@ emitted_as kinds vs mode earlier r old set emitted new e s h n =
     let y : EmitsAs mode kinds vs r old (record emitted { mode = earlier }) = subst (λ (m : RDataEncoding). EmitsAs mode kinds vs r old (record emitted { mode = m })) (sym e) (in_mode kinds vs mode r old emitted x) in
     subst (λ (w : Writing). EmitsAs mode kinds vs r old w) (sym n) y
 
+-- refused or not, limit, mode and vector stay
+pub emits_keeps : (kinds : List Kind) (vs : Values kinds) (mode : RDataEncoding) (r : Result (Unit {0}) ProtoError) (old new : Writing) → EmitsAs mode kinds vs r old new → Keeps old new
+emits_keeps kinds vs mode (Ok x) old new h = h.keeps
+emits_keeps kinds vs mode (Err e) old new h = h.extends.keeps
+
 pub ruleset writing = (appended_last, appended_then)

@@ -8,6 +8,7 @@ ghost use Rattle.dns_names_wire.specs.Words.{EmitsField, AppendedField, StoppedF
 
 use dns_fields::RDataEncoding;
 use dns_types::ProtoError;
+use std::alloc::Global;
 use std::marker::Model;
 
 // The most octets of a message that is sent over TCP (RFC 1035, 4.2.2).
@@ -19,6 +20,7 @@ const MAX_SIZE: usize = 65535;
 /// limit. After a refusal the octets that were there stand.
 #[derive(Drop)]
 pub struct BinEncoder<'a> {
+    alloc: Global,
     octets: &'a mut Vec<u8>,
     limit: usize,
     mode: RDataEncoding,
@@ -44,13 +46,15 @@ pub struct Place {
 }
 
 impl<'a> BinEncoder<'a> {
-    /// Without an octet, with the limit 65535, and with names as in the records of RFC 1035.
+    /// Without an octet, with the limit 65535, and with names as in the records of RFC 1035. What it remembers of names
+    /// takes its memory from `alloc`.
     #[inline]
-    pub fn new(octets: &'a mut Vec<u8>) -> BinEncoder<'a>
+    pub fn new(alloc: Global, octets: &'a mut Vec<u8>) -> BinEncoder<'a>
         requires { octets.old.items ≡ [] }
         ensures { result ≡ record { octets = []; limit = 65535; mode = RDataEncoding.StandardRecord; target = octets.entry.ghost_name } }
     {
         BinEncoder {
+            alloc,
             octets,
             limit: MAX_SIZE,
             mode: RDataEncoding::StandardRecord,
@@ -65,6 +69,12 @@ impl<'a> BinEncoder<'a> {
     {
         let BinEncoder { octets, .. } = self;
         octets
+    }
+
+    /// What gives the memory of what it remembers of names.
+    #[inline]
+    pub fn allocator(&self) -> Global {
+        self.alloc
     }
 
     /// How many octets were written.

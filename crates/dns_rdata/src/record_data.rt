@@ -2,7 +2,7 @@
 
 ghost use Rattle.std.specs.Prelude.{◌≡◌, ◌≢◌, ◌+◌, ◌-◌, ◌<◌, ℕ, List, length as size, IsTrue, ◌↔◌, Some, Err, IfOk, IfErr, OnOk};
 ghost use Rattle.dns_types.specs.RecordTypes.{number_of};
-ghost use Rattle.dns_names_wire.specs.Words.{StaysBehind, UnlessMemory, EmitsAs};
+ghost use Rattle.dns_names_wire.specs.Words.{StaysBehind, UnlessMemory, EmitsAs, Keeps};
 ghost use Rattle.dns_rdata.specs.Refusals.{IsNeverRead, OwnRefusal, IsRefusal, by_length as answer_by_length};
 
 use dns_names_wire::{BinDecoder, BinEncodable, BinEncoder, DecodeError, ProtoError, RecordType, Restrict};
@@ -154,6 +154,7 @@ impl BinEncodable for RData {
     /// stand, and the encoder is in the mode that it was in.
     fn emit(&self, encoder: &mut BinEncoder<'_>) -> Result<(), ProtoError>
         ensures emits { EmitsAs (mode_for encoder.old.mode self.now) (fields_of self.now).kinds (fields_of self.now).values result encoder.old encoder.new }
+        ensures keeps { Keeps encoder.old encoder.new }
         // What was read and is appended reads back as an equal value, behind any octets.
         ensures again { OnOk result (ReadsBack self.now encoder.old encoder.new) }
     {

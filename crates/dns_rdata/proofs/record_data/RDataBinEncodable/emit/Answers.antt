@@ -1,5 +1,9 @@
 use Rattle.dns_rdata.proofs.DataLaws.{emits_again}
+use Rattle.dns_names_wire.proofs.FieldWrites.{emits_keeps}
 use Rattle.dns_rdata.proofs.record_data.RDataBinEncodable.emit.Goals as goal
 
 pub returns-clause-again : goal.returns-clause-again
 returns-clause-again c = emits_again _ _ _ _ _ c.len-written.ensures.octets c.emit_fields-outcome.ensures
+
+pub returns-clause-keeps : goal.returns-clause-keeps
+returns-clause-keeps c = emits_keeps _ _ _ _ _ _ c.emit_fields-outcome.ensures

@@ -1,0 +1,124 @@
+//! The answer to a request.
+
+ghost use Rattle.std.specs.Prelude.{◌≡◌, ◌≢◌, ◌≤◌, ◌<◌, ◌⊎◌, ℕ, List, [], codes, length as size, string_bytes, IfOk, IfErr, OnOk, MatchOption};
+ghost use Rattle.std.specs.Io.KnownBytes.{Appends};
+ghost use Rattle.dns_types.specs.declared.error.DecodeError.{DecodeError as DecodeErrorValue};
+ghost use Rattle.dns_names_wire.specs.Words.{UnlessMemory};
+ghost use Rattle.dns_rdata.specs.Data.{Fills, NoValue};
+ghost use Rattle.dns_rdata.specs.Texts.{data_text};
+ghost use Rattle.rdata.specs.Report.{Emits, EmitsNothing, IsEmittedText, IsReport, Printed};
+
+use crate::request::Request;
+use dns_rdata::{BinDecoder, BinEncodable, BinEncoder, DecodeError, ProtoError, RData, RecordType, Restrict};
+use std::alloc::{AllocError, Global};
+use std::io;
+
+// Reads the data of a record at a place of a message.
+fn read_at(
+    alloc: Global,
+    message: &[u8],
+    place: usize,
+    record_type: RecordType,
+    length: u16,
+) -> Result<RData, DecodeError>
+    requires { place ≤ size message.now }
+    ensures found { IfOk result (λ v. Fills message.now place length record_type v) }
+    ensures refused { IfErr result (λ e. UnlessMemory e (NoValue message.now place length record_type)) }
+{
+    let mut decoder = BinDecoder::new(alloc, message);
+    let _before = decoder.read_slice(place)?;
+    RData::read(&mut decoder, record_type, Restrict::new(length))
+}
+
+// Writes the octets of a value to an empty vector.
+fn emit_to(alloc: Global, octets: &mut Vec<u8>, value: &RData) -> Result<(), ProtoError>
+    requires { octets.old.items ≡ [] }
+    ensures ok { OnOk result (Emits value.now octets.new.items) }
+    ensures refused { IfErr result (λ e. e ≢ ProtoError.Memory → EmitsNothing value.now) }
+{
+    let mut encoder = BinEncoder::new(alloc, octets);
+    let outcome = value.emit(&mut encoder);
+    let _written = encoder.into_bytes();
+    outcome
+}
+
+// The octets of a value at the front of a message; none where it is refused for another cause than memory.
+fn emitted(alloc: Global, value: &RData) -> Result<Option<Vec<u8>>, AllocError>
+    ensures { IfOk result (λ found. MatchOption found (EmitsNothing value.now) (λ octets. Emits value.now octets.items)) }
+{
+    let mut octets = Vec::new(alloc);
+    match emit_to(alloc, &mut octets, value) {
+        Ok(()) => Ok(Some(octets)),
+        Err(ProtoError::Memory) => Err(AllocError),
+        Err(_) => Ok(None),
+    }
+}
+
+fn emitted_text(alloc: Global, value: &RData) -> Result<String, AllocError>
+    ensures { IfOk result (λ text. IsEmittedText value.now (string_bytes text)) }
+{
+    match emitted(alloc, value)? {
+        None => String::from_str(alloc, "none"),
+        Some(octets) => {
+            if octets.len() == 0 {
+                String::from_str(alloc, "-")
+            } else {
+                hex::encode(alloc, octets.as_slice())
+            }
+        }
+    }
+}
+
+fn value_text(alloc: Global, value: &RData) -> Result<String, AllocError>
+    ensures { IfOk result (λ text. string_bytes text ≡ data_text value.now) }
+{
+    value.to_string(alloc)
+}
+
+// The three lines that are printed of a value.
+#[tactic(auto, using(std::proofs::Common::append_assoc))]
+fn lines(alloc: Global, record_type: RecordType, value: &RData) -> Result<String, AllocError>
+    ensures { IfOk result (λ lines. IsReport record_type value.now (string_bytes lines)) }
+{
+    let number = u16::from(record_type);
+    let text = value_text(alloc, value)?;
+    let emitted = emitted_text(alloc, value)?;
+    format!(in alloc; "type {number}\ntext {text}\nemitted {emitted}\n")
+}
+
+/// Writes a text, and answers the status; 4 where the writer refuses it.
+pub fn say<W: io::Write>(out: &mut W, text: &str, status: u8) -> u8
+    ensures { (result ≡ 4) ⊎ ((result ≡ status) × Appends (W.contents out.old) (W.contents out.new) text.now) }
+{
+    match out.write_all(text.as_bytes()) {
+        Ok(()) => status,
+        Err(_) => 4,
+    }
+}
+
+/// Reads what is asked for, writes the answer, and tells the status: 0 with three lines where a value fills the octets,
+/// 1 where none does, 3 where memory runs out, 4 where the writer refuses.
+pub fn serve<W: io::Write>(alloc: Global, request: &Request, out: &mut W) -> u8
+    requires { request.now.place ≤ size request.now.message.items }
+    ensures status { (result ≡ 0) ⊎ (result ≡ 1) ⊎ (result ≡ 3) ⊎ (result ≡ 4) }
+    ensures printed { result ≡ 0 → Printed request.now.message.items request.now.place request.now.length request.now.record_type (W.contents out.old) (W.contents out.new) }
+    ensures refused { result ≡ 1 → NoValue request.now.message.items request.now.place request.now.length request.now.record_type
+        × Appends (W.contents out.old) (W.contents out.new) (codes "refused\n") }
+    ensures memory { result ≡ 3 → Appends (W.contents out.old) (W.contents out.new) (codes "memory\n") }
+{
+    let outcome = read_at(
+        alloc,
+        request.message.as_slice(),
+        request.place,
+        request.record_type,
+        request.length,
+    );
+    match outcome {
+        Err(DecodeError::Memory) => say(out, "memory\n", 3),
+        Err(_) => say(out, "refused\n", 1),
+        Ok(value) => match lines(alloc, request.record_type, &value) {
+            Err(_) => say(out, "memory\n", 3),
+            Ok(text) => say(out, text.as_str(), 0),
+        },
+    }
+}

@@ -1,0 +1,116 @@
+//! What the words of a command ask for.
+
+ghost use Rattle.std.specs.Prelude.{◌≡◌, ◌<◌, ◌≤◌, ℕ, List, [], ◌∷◌, codes, vec_len, IfOk, MatchOption};
+ghost use Rattle.rdata.specs.Request.{texts, IsNumberWord, IsTypeWord, IsOctetsWord, NotRead, Asks, NoRequest};
+
+use dns_rdata::RecordType;
+use hex::FromHexError;
+use std::alloc::{AllocError, Global};
+
+/// Record data in a message.
+#[derive(Drop)]
+pub struct Request {
+    /// The type of the record.
+    pub record_type: RecordType,
+    /// The message.
+    pub message: Vec<u8>,
+    /// The place of the data in the message.
+    pub place: usize,
+    /// How many octets of the message the data has.
+    pub length: u16,
+}
+
+// The number that one to five decimal digits are.
+fn number(word: &str) -> Option<u32>
+    ensures { MatchOption result ((n : ℕ) → ¬ (IsNumberWord word.now n)) (λ n. IsNumberWord word.now n) }
+{
+    if word.len() > 5 || word.starts_with('+') {
+        return None;
+    }
+    word.parse::<u32>().ok()
+}
+
+// The same, of sixteen bits.
+fn short_number(word: &str) -> Option<u16>
+    ensures { MatchOption result ((n : ℕ) → IsNumberWord word.now n → n < 65536 → ⊥) (λ n. IsNumberWord word.now n) }
+{
+    u16::try_from(number(word)?).ok()
+}
+
+// The type that a word names or gives the number of.
+fn record_type(word: &str) -> Option<RecordType>
+    ensures { MatchOption result ((t : _) → ¬ (IsTypeWord word.now t)) (λ t. IsTypeWord word.now t) }
+{
+    match short_number(word) {
+        Some(number) => Some(RecordType::from(number)),
+        None => word.parse::<RecordType>().ok(),
+    }
+}
+
+// The octets that a word spells.
+fn octets(alloc: Global, word: &str) -> Result<Option<Vec<u8>>, AllocError>
+    ensures { IfOk result (λ found. MatchOption found ((m : List ℕ) → ¬ (IsOctetsWord word.now m)) (λ octets. IsOctetsWord word.now octets.items)) }
+{
+    if word == "-" {
+        return Ok(Some(Vec::new(alloc)));
+    }
+    if word.len() == 0 {
+        return Ok(None);
+    }
+    match hex::decode(alloc, word) {
+        Ok(octets) => Ok(Some(octets)),
+        Err(FromHexError::OutOfMemory) => Err(AllocError),
+        Err(_) => Ok(None),
+    }
+}
+
+// The four words behind the command `read`.
+fn read_words(words: &[String]) -> Option<(&str, &str, &str, &str)>
+    ensures { MatchOption result (NotRead (texts words.now))
+        (λ w. texts words.now ≡ codes "read" ∷ w.0.now ∷ w.1.now ∷ w.2.now ∷ w.3.now ∷ []) }
+{
+    let [command, record_type, place, length, octets] = words else {
+        return None;
+    };
+    if command.as_str() != "read" {
+        return None;
+    }
+    Some((
+        record_type.as_str(),
+        place.as_str(),
+        length.as_str(),
+        octets.as_str(),
+    ))
+}
+
+/// What the words ask for: every word is tested before anything is read. Without memory for the message it is refused.
+pub fn parse(alloc: Global, words: &[String]) -> Result<Option<Request>, AllocError>
+    ensures { IfOk result (λ found. MatchOption found (NoRequest (texts words.now))
+        (λ r. Asks (texts words.now) r.record_type r.place r.length r.message.items)) }
+{
+    let Some((type_word, place_word, length_word, octets_word)) = read_words(words) else {
+        return Ok(None);
+    };
+    let Some(record_type) = record_type(type_word) else {
+        return Ok(None);
+    };
+    let Some(place) = number(place_word) else {
+        return Ok(None);
+    };
+    let Some(length) = short_number(length_word) else {
+        return Ok(None);
+    };
+    let Some(message) = octets(alloc, octets_word)? else {
+        return Ok(None);
+    };
+    let place = place as usize;
+    if place > message.len() {
+        return Ok(None);
+    }
+    Ok(Some(Request {
+        record_type,
+        message,
+        place,
+        length,
+    }))
+}
