@@ -1,46 +1,22 @@
 //! Reads the data of one record from a message, and prints it.
 #![tactic(auto)]
 
-ghost use Rattle.std.specs.Prelude.{◌≡◌, ◌≤◌, ◌⊎◌, ℕ, codes};
-ghost use Rattle.std.specs.Io.KnownBytes.{Appends};
-ghost use Rattle.rdata.specs.Request.{texts, NoRequest};
-ghost use Rattle.rdata.specs.Report.{PrintsValue, RefusesValue};
-
-mod report;
-mod request;
-
-use std::alloc::Global;
+use rdata_command::{run, say};
+use std::io::ErrorKind;
 use std::process::ExitCode;
 use std::{env, io};
 
-/// Does what the words ask for, writes the answer, and tells the status.
-///
-/// `read TYPE PLACE LENGTH OCTETS` reads the data of a record: 0 and three lines where a value fills the octets, 1 and
-/// `refused` where none does. Other words: 2 and `usage`. Where memory runs out: 3 and `memory`. Where the writer
-/// refuses: 4.
-pub fn run<W: io::Write>(alloc: Global, words: &[String], out: &mut W) -> u8
-    ensures status { result ≤ 4 }
-    ensures printed { result ≡ 0 → PrintsValue (texts words.now) (W.contents out.old) (W.contents out.new) }
-    ensures refused { result ≡ 1 → RefusesValue (texts words.now)
-        × Appends (W.contents out.old) (W.contents out.new) (codes "refused\n") }
-    ensures usage { result ≡ 2 → NoRequest (texts words.now)
-        × Appends (W.contents out.old) (W.contents out.new) (codes "usage\n") }
-    ensures memory { result ≡ 3 → Appends (W.contents out.old) (W.contents out.new) (codes "memory\n") }
-{
-    match request::parse(alloc, words) {
-        Err(_) => report::say(out, "memory\n", 3),
-        Ok(None) => report::say(out, "usage\n", 2),
-        Ok(Some(request)) => report::serve(alloc, &request, out),
-    }
-}
-
 fn main(rt: HostRuntime) -> ExitCode {
-    let Ok(args) = env::args(&rt) else {
-        return ExitCode::from(4);
-    };
-    let Ok(words) = args.skip(1).collect::<Vec<String>>(rt.alloc()) else {
-        return ExitCode::from(3);
-    };
     let mut out = io::writer(&rt);
-    ExitCode::from(run(rt.alloc(), words.as_slice(), &mut out))
+    let words = match env::args(&rt) {
+        Ok(args) => args.skip(1).collect::<Vec<String>>(rt.alloc()),
+        Err(e) if e.kind() == ErrorKind::OutOfMemory => {
+            return ExitCode::from(say(&mut out, "memory\n", 3));
+        }
+        Err(_) => return ExitCode::from(4),
+    };
+    match words {
+        Ok(words) => ExitCode::from(run(rt.alloc(), words.as_slice(), &mut out)),
+        Err(_) => ExitCode::from(say(&mut out, "memory\n", 3)),
+    }
 }

@@ -1,6 +1,6 @@
 use Rattle.std.proofs.Common.{◌≡◌, ◌∙◌, ap, ℕ, ◌+◌, length, arith}
 use Rattle.dns_names_wire.specs.State.{Reading}
-use Rattle.rdata.proofs.report.read_at.Goals as goal
+use Rattle.rdata_command.proofs.report.read_at.Goals as goal
 
 pub returns-clause-refused : goal.returns-clause-refused
 returns-clause-refused c =

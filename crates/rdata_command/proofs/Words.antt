@@ -8,7 +8,7 @@ use Rattle.hex.specs.Hex.{decode_of}
 use Rattle.dns_types.specs.declared.error.DecodeError.{DecodeError}
 use Rattle.dns_types.specs.declared.record_type.RecordType.{RecordType}
 use Rattle.dns_types.specs.RecordTypes.{record_type_of, IsTypeText, ReadsType}
-use Rattle.rdata.specs.Request.{IsNumberWord, IsTypeWord, IsOctetsWord, Asks, NoRequest}
+use Rattle.rdata_command.specs.Request.{IsNumberWord, IsTypeWord, IsOctetsWord, Asks, NoRequest}
 
 -- a number of five digits is below 100000
 few_digits : (w : List ℕ) → IsNumeral 10 w → length w ≤ 5 → digits_value 10 w < 2 ^ 32
@@ -70,7 +70,9 @@ module _ {words : List (List ℕ)} {a b c d : List ℕ} (is : ReadWords words a 
   no_octets none = record { none = λ t p n m k. none m (subst (λ (w : List ℕ). IsOctetsWord w m) (same_words k).3 k.octets_are) }
 
   pub no_room : {p : ℕ} {m : List ℕ} → IsNumberWord b p → IsOctetsWord d m → length m < p → NoRequest words
-  no_room {p} {m} at octets past = record { none = λ t q n l k.
-    let place : q ≡ p = number_one (subst (λ (w : List ℕ). IsNumberWord w q) (same_words k).1 k.place_is) at in
-    let message : l ≡ m = octets_one d (subst (λ (w : List ℕ). IsOctetsWord w l) (same_words k).3 k.octets_are) octets in
-    omega (arith, k.inside, place, ap length message, past) }
+  no_room {p} {m} at octets past = record {
+    none = λ t q n l k.
+        let place : q ≡ p = number_one (subst (λ (w : List ℕ). IsNumberWord w q) (same_words k).1 k.place_is) at in
+        let message : l ≡ m = octets_one d (subst (λ (w : List ℕ). IsOctetsWord w l) (same_words k).3 k.octets_are) octets in
+        omega (arith, k.inside, place, ap length message, past);
+  }

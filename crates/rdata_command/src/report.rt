@@ -6,10 +6,12 @@ ghost use Rattle.dns_types.specs.declared.error.DecodeError.{DecodeError as Deco
 ghost use Rattle.dns_names_wire.specs.Words.{UnlessMemory};
 ghost use Rattle.dns_rdata.specs.Data.{Fills, NoValue};
 ghost use Rattle.dns_rdata.specs.Texts.{data_text};
-ghost use Rattle.rdata.specs.Report.{Emits, EmitsNothing, IsEmittedText, IsReport, Printed};
+ghost use Rattle.rdata_command.specs.Report.{Emits, EmitsNothing, IsEmittedText, IsReport, Printed};
 
 use crate::request::Request;
-use dns_rdata::{BinDecoder, BinEncodable, BinEncoder, DecodeError, ProtoError, RData, RecordType, Restrict};
+use dns_rdata::{
+    BinDecoder, BinEncodable, BinEncoder, DecodeError, ProtoError, RData, RecordType, Restrict,
+};
 use std::alloc::{AllocError, Global};
 use std::io;
 

@@ -1,7 +1,7 @@
 use Rattle.std.proofs.Common.{◌≡◌, ◌≤◌, ◌<◌, length, List, [], ◌∷◌, ℕ, codes, string_bytes, refl, sym, ap, ◌∙◌, arith, rules}
-use Rattle.rdata.specs.Request.{texts}
-use Rattle.rdata.proofs.Words.{five_items}
-use Rattle.rdata.proofs.request.read_words.Goals as goal
+use Rattle.rdata_command.specs.Request.{texts}
+use Rattle.rdata_command.proofs.Words.{five_items}
+use Rattle.rdata_command.proofs.request.read_words.Goals as goal
 
 pub returns : goal.returns
 returns c =

@@ -1,7 +1,7 @@
 //! What the words of a command ask for.
 
 ghost use Rattle.std.specs.Prelude.{◌≡◌, ◌<◌, ◌≤◌, ℕ, List, [], ◌∷◌, codes, vec_len, IfOk, MatchOption};
-ghost use Rattle.rdata.specs.Request.{texts, IsNumberWord, IsTypeWord, IsOctetsWord, NotRead, Asks, NoRequest};
+ghost use Rattle.rdata_command.specs.Request.{texts, IsNumberWord, IsTypeWord, IsOctetsWord, NotRead, Asks, NoRequest};
 
 use dns_rdata::RecordType;
 use hex::FromHexError;

@@ -11,7 +11,7 @@ use Rattle.dns_names_wire.specs.State.{Writing}
 use Rattle.dns_names_wire.specs.Words.{Appended, Stopped}
 use Rattle.dns_rdata.specs.declared.record_data.RData.{RData}
 use Rattle.dns_rdata.specs.Data.{Fills, NoValue, fields_of, mode_for}
-use Rattle.rdata.specs.Request.{Asks}
+use Rattle.rdata_command.specs.Request.{Asks}
 use Rattle.dns_rdata.specs.Texts.{data_text}
 
 -- octets in hexadecimal, or a dash where there are none

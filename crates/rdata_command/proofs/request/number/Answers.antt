@@ -1,6 +1,6 @@
 use Rattle.std.proofs.Common.{◌≡◌, ◌≤◌, ◌==◌, false, length, slice_index, rules, arith}
-use Rattle.rdata.proofs.Words.{number_read}
-use Rattle.rdata.proofs.request.number.Goals as goal
+use Rattle.rdata_command.proofs.Words.{number_read}
+use Rattle.rdata_command.proofs.request.number.Goals as goal
 
 pub returns : goal.returns
 returns c =

@@ -1,5 +1,5 @@
-use Rattle.rdata.proofs.Words.{no_type, no_place, no_length, no_octets}
-use Rattle.rdata.proofs.request.parse.Goals as goal
+use Rattle.rdata_command.proofs.Words.{no_type, no_place, no_length, no_octets}
+use Rattle.rdata_command.proofs.request.parse.Goals as goal
 
 pub returns-in_default-record_type : goal.returns-in_default-record_type
 returns-in_default-record_type c = no_type c.in-Some.ensures c.in_default-record_type.ensures

@@ -1,0 +1,36 @@
+//! The commands of the program `rdata`.
+#![tactic(auto)]
+
+ghost use Rattle.std.specs.Prelude.{◌≡◌, ◌≤◌, codes};
+ghost use Rattle.std.specs.Io.KnownBytes.{Appends};
+ghost use Rattle.rdata_command.specs.Request.{texts, NoRequest};
+ghost use Rattle.rdata_command.specs.Report.{PrintsValue, RefusesValue};
+
+mod report;
+mod request;
+
+pub use report::say;
+
+use std::alloc::Global;
+use std::io;
+
+/// Does what the words ask for, writes the answer, and tells the status.
+///
+/// `read TYPE PLACE LENGTH OCTETS` reads the data of a record: 0 and three lines where a value fills the octets, 1 and
+/// `refused` where none does. Other words: 2 and `usage`. Where memory runs out: 3 and `memory`. Where the writer
+/// refuses: 4.
+pub fn run<W: io::Write>(alloc: Global, words: &[String], out: &mut W) -> u8
+    ensures status { result ≤ 4 }
+    ensures printed { result ≡ 0 → PrintsValue (texts words.now) (W.contents out.old) (W.contents out.new) }
+    ensures refused { result ≡ 1 → RefusesValue (texts words.now)
+        × Appends (W.contents out.old) (W.contents out.new) (codes "refused\n") }
+    ensures usage { result ≡ 2 → NoRequest (texts words.now)
+        × Appends (W.contents out.old) (W.contents out.new) (codes "usage\n") }
+    ensures memory { result ≡ 3 → Appends (W.contents out.old) (W.contents out.new) (codes "memory\n") }
+{
+    match request::parse(alloc, words) {
+        Err(_) => report::say(out, "memory\n", 3),
+        Ok(None) => report::say(out, "usage\n", 2),
+        Ok(Some(request)) => report::serve(alloc, &request, out),
+    }
+}
