@@ -26,9 +26,9 @@ took_last d = record { message = refl; stands = refl }
 
 pub took_then : {d b e : Reading} {k : Kind} {v : Value k} {kinds : List Kind} {vs : Values kinds} → TookField d k v b → Took b kinds vs e → Took d (k ∷ kinds) (v, vs) e
 took_then {d} {b} {e} {k} {v} {kinds} {vs} f g = record {
-    message = g.message ∙ f.message;
-    stands = (b.index, f.field, subst (λ (m : List ℕ). Stands m b.index kinds vs e.index) f.message g.stands);
-  }
+  message = g.message ∙ f.message;
+  stands = (b.index, f.field, subst (λ (m : List ℕ). Stands m b.index kinds vs e.index) f.message g.stands);
+}
 
 -- nothing stands where the first field does not
 pub lacks_first : {d : Reading} {k : Kind} {kinds : List Kind} {condition : Values (k ∷ kinds) → ℕ → Type 0} → LacksField d k → Lacks d (k ∷ kinds) condition
@@ -37,13 +37,13 @@ lacks_first l = record { none = λ vs e s _. l.none vs.0 s.0 s.1 }
 -- or where nothing stands behind the first field
 pub lacks_then : {d b : Reading} {k : Kind} {v : Value k} {kinds : List Kind} {condition : Values (k ∷ kinds) → ℕ → Type 0} → EndsItself k → TookField d k v b → Lacks b kinds (λ vs e. condition (v, vs) e) → Lacks d (k ∷ kinds) condition
 lacks_then {d} {b} {k} {v} {kinds} {condition} ends f l = record {
-    none = λ vs e s c.
+  none = λ vs e s c.
       let there : s.0 ≡ b.index = field_end ends s.1 f.field in
       let x : Field d.message d.index k vs.0 b.index = rw (← there) s.1 in
       let first : vs.0 ≡ v = field_same x f.field in
       let rest : Stands b.message b.index kinds vs.1 e = subst (λ (m : List ℕ). Stands m b.index kinds vs.1 e) (sym f.message) (subst (λ (q : ℕ). Stands d.message q kinds vs.1 e) there s.2) in
       l.none vs.1 e rest (subst (λ (w : Value k). condition (w, vs.1) e) first c);
-  }
+}
 
 -- or where the condition fails
 pub lacks_if : {d : Reading} {kinds : List Kind} {condition : Values kinds → ℕ → Type 0} → ((vs : Values kinds) (e : ℕ) → condition vs e → ⊥) → Lacks d kinds condition
@@ -62,7 +62,6 @@ took_stays {d} {b} {e} f g = record { message = g.message ∙ f.message; index =
 pub unless_map : (e : DecodeError) (P Q : Type 0) → (P → Q) → UnlessMemory e P → UnlessMemory e Q
 unless_map decode.Memory P Q f h = tt
 unless_map e P Q f h = f h
-
 
 pub unless_all : (e : DecodeError) {P : Type 0} → P → UnlessMemory e P
 unless_all decode.Memory h = tt

@@ -21,16 +21,22 @@ at_front {m} {p} {r} x y a =
 pub at_rest : {m : List ℕ} {p r : ℕ} (x y : List ℕ) → At m p (x ++ y) r → At m (p + length x) y r
 at_rest {m} {p} {r} x y a =
     let n : length (x ++ y) ≡ length x + length y = length-append x y in
-    record { ends = omega (arith, a.ends); within = a.within;
-      same = ap (λ (d : List ℕ). take (length y) d) (sym (drop-drop (length x) p m)) ∙ sym (drop-take (length x) (length y) (drop p m)) ∙ ap (λ (k : ℕ). drop (length x) (take k (drop p m))) (sym n) ∙ ap (drop (length x)) a.same ∙ drop_at x y (length x) refl }
+    record {
+      ends = omega (arith, a.ends);
+      within = a.within;
+      same = ap (λ (d : List ℕ). take (length y) d) (sym (drop-drop (length x) p m)) ∙ sym (drop-take (length x) (length y) (drop p m)) ∙ ap (λ (k : ℕ). drop (length x) (take k (drop p m))) (sym n) ∙ ap (drop (length x)) a.same ∙ drop_at x y (length x) refl;
+    }
 
 pub at_then : {m : List ℕ} {p q r : ℕ} {x y : List ℕ} → At m p x q → At m q y r → At m p (x ++ y) r
-at_then {m} {p} {q} {r} {x} {y} a b = record { ends = omega (arith, a.ends, b.ends, length-append x y); within = b.within;
-      same =
-        let n : length (x ++ y) ≡ length x + length y = length-append x y in
-        let front : take (length x) (take (length x + length y) (drop p m)) ≡ x = take-take (length x) (length x + length y) (drop p m) (omega arith) ∙ a.same in
-        let back : drop (length x) (take (length x + length y) (drop p m)) ≡ y = drop-take (length x) (length y) (drop p m) ∙ ap (take (length y)) (drop-drop (length x) p m ∙ ap (λ (k : ℕ). drop k m) (sym a.ends)) ∙ b.same in
-        ap (λ (k : ℕ). take k (drop p m)) n ∙ sym (take-append-drop (length x) (take (length x + length y) (drop p m))) ∙ ap (λ (z : List ℕ). z ++ drop (length x) (take (length x + length y) (drop p m))) front ∙ ap (λ (z : List ℕ). x ++ z) back }
+at_then {m} {p} {q} {r} {x} {y} a b = record {
+  ends = omega (arith, a.ends, b.ends, length-append x y);
+  within = b.within;
+  same =
+      let n : length (x ++ y) ≡ length x + length y = length-append x y in
+      let front : take (length x) (take (length x + length y) (drop p m)) ≡ x = take-take (length x) (length x + length y) (drop p m) (omega arith) ∙ a.same in
+      let back : drop (length x) (take (length x + length y) (drop p m)) ≡ y = drop-take (length x) (length y) (drop p m) ∙ ap (take (length y)) (drop-drop (length x) p m ∙ ap (λ (k : ℕ). drop k m) (sym a.ends)) ∙ b.same in
+      ap (λ (k : ℕ). take k (drop p m)) n ∙ sym (take-append-drop (length x) (take (length x + length y) (drop p m))) ∙ ap (λ (z : List ℕ). z ++ drop (length x) (take (length x + length y) (drop p m))) front ∙ ap (λ (z : List ℕ). x ++ z) back;
+}
 
 octet_at : {m : List ℕ} {p : ℕ} {n : ℕ} {q : ℕ} → Field m p (Number 1) n q → At m p (n ∷ []) q
 octet_at {m} {p} {n} {q} f = let e : n % 256 ≡ n = mod-eq_of_lt f.is.0 in subst (λ (k : ℕ). At m p (k ∷ []) q) e f.is.1
@@ -45,9 +51,9 @@ text_front {m} {p} {s} {q} f = at_octet f.is.0 (at_front (length s ∷ []) s f.i
 
 pub text_then : {d b e : Reading} {n : ℕ} {s : List ℕ} → TookField d (Number 1) n b → TookField b Rest s e → length s ≡ n → TookField d Text s e
 text_then {d} {b} {e} {n} {s} f g len = record {
-    message = g.message ∙ f.message;
-    field = record { is = (omega (arith, f.field.is.0), at_then (subst (λ (k : ℕ). At d.message d.index (k ∷ []) b.index) (sym len) (octet_at f.field)) (subst (λ (m : List ℕ). At m b.index s e.index) f.message g.field.is)) };
-  }
+  message = g.message ∙ f.message;
+  field = record { is = (omega (arith, f.field.is.0), at_then (subst (λ (k : ℕ). At d.message d.index (k ∷ []) b.index) (sym len) (octet_at f.field)) (subst (λ (m : List ℕ). At m b.index s e.index) f.message g.field.is)) };
+}
 
 -- the octets of the length that was read, behind it
 pub text_taken : {d b e : Reading} {n l : ℕ} {s : List ℕ} → l ≡ n → TookField d (Number 1) n b → TookField b (Octets l) s e → TookField d Text s e
@@ -58,10 +64,10 @@ text_no_octet {d} l = record { none = λ s q f. l.none (length s) (d.index + 1) 
 
 pub text_short : {d b : Reading} {n : ℕ} → TookField d (Number 1) n b → length b.message < b.index + n → LacksField d Text
 text_short {d} {b} {n} f short = record {
-    none = λ s q g.
+  none = λ s q g.
       let len : n ≡ length s = At-same_head (octet_at f.field) g.is.1 in
       omega (arith, g.is.1.ends, g.is.1.within, (octet_at f.field).ends, ap length f.message);
-  }
+}
 
 -- ---- a character string whose length octet was read by itself
 
@@ -72,11 +78,13 @@ text_refused {e} r = record { behind = r.behind; none = unless_map e _ _ text_no
 pub text_none : {e : DecodeError} {d b : Reading} {t : ℕ} {kinds : List Kind} {condition : Values (Text ∷ kinds) → ℕ → Type 0} → TookField d (Number 1) t b
     → ((s : List ℕ) (vs : Values kinds) (q : ℕ) → length s ≡ t → b.index + t ≤ length b.message → b.index + t ≤ q → condition (s, vs) q → ⊥) → Refused e d (Text ∷ kinds) condition b
 text_none {e} {d} {b} {t} {kinds} {condition} f none = record {
-    behind = took_stays f (stays b);
-    none = unless_all e (record { none = λ vs q s c.
-      let len : t ≡ length vs.0 = At-same_head (octet_at f.field) s.1.is.1 in
-      let place : s.0 ≡ b.index + t = omega (arith, s.1.is.1.ends, (octet_at f.field).ends) in
-      let inside : s.0 ≤ length d.message = s.1.is.1.within in
-      let on : s.0 ≤ q = stands_inside d.message s.0 kinds vs.1 q s.2 in
-      none vs.0 vs.1 q (sym len) (omega (arith, ap length f.message)) (omega arith) c });
-  }
+  behind = took_stays f (stays b);
+  none = unless_all e (record {
+    none = λ vs q s c.
+        let len : t ≡ length vs.0 = At-same_head (octet_at f.field) s.1.is.1 in
+        let place : s.0 ≡ b.index + t = omega (arith, s.1.is.1.ends, (octet_at f.field).ends) in
+        let inside : s.0 ≤ length d.message = s.1.is.1.within in
+        let on : s.0 ≤ q = stands_inside d.message s.0 kinds vs.1 q s.2 in
+        none vs.0 vs.1 q (sym len) (omega (arith, ap length f.message)) (omega arith) c;
+  });
+}

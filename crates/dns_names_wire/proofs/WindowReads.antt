@@ -35,26 +35,26 @@ took_behind {old} {new} {s} {vs} f = record { message = f.message; index = stand
 
 refused_window : {e : DecodeError} {old new : Reading} {n : ℕ} {s : List Kind} {condition : Values s → Type 0} (c : Values s → ℕ → Type 0) → ((vs : Values s) → condition vs → c vs (old.index + n)) → Refused e old s c new → RefusedWindow e old n s condition new
 refused_window {e} {old} {n = n} {s = s} c weaker r = record {
-    behind = r.behind;
-    none = unless_map e _ _ (λ (l : Lacks old s c). record { none = λ vs w. l.none vs (old.index + n) w.stands (weaker vs w.holds) }) r.none;
-  }
+  behind = r.behind;
+  none = unless_map e _ _ (λ (l : Lacks old s c). record { none = λ vs w. l.none vs (old.index + n) w.stands (weaker vs w.holds) }) r.none;
+}
 
 -- a record whose fields all say where they end, read without its length
 pub fields_window : {T : Type 0} (s : List Kind) (condition : Values s → Type 0) (view : T → Values s) (r : Result T DecodeError) (old new : Reading) (n : ℕ) → IsLong s → AllEnd s → Given old n → ReadsIf s (λ vs e. condition vs) view r old new → ReadsWindow s condition view n r old new
 fields_window s condition view (Ok x) old new n long ends g h = record {
-    behind = took_behind h.0;
-    here = window_here long g h.0 h.1;
-    elsewhere = λ ne. record { none = λ ws w. ne (stands_end old.message old.index s (view x) ws new.index (old.index + n) ends h.0.stands w.stands) };
-  }
+  behind = took_behind h.0;
+  here = window_here long g h.0 h.1;
+  elsewhere = λ ne. record { none = λ ws w. ne (stands_end old.message old.index s (view x) ws new.index (old.index + n) ends h.0.stands w.stands) };
+}
 fields_window s condition view (Err e) old new n long ends g h = refused_window _ (λ vs holds. holds) h
 
 -- a record that is read to its length
 pub filled_window : {T : Type 0} (s : List Kind) (condition : Values s → Type 0) (view : T → Values s) (r : Result T DecodeError) (old new : Reading) (n : ℕ) → IsLong s → Given old n → ReadsTo s condition n view r old new → ReadsWindow s condition view n r old new
 filled_window s condition view (Ok x) old new n long g h = record {
-    behind = took_behind h.0;
-    here = window_here long g h.0 h.1.1;
-    elsewhere = λ ne. absurd (ne h.1.0);
-  }
+  behind = took_behind h.0;
+  here = window_here long g h.0 h.1.1;
+  elsewhere = λ ne. absurd (ne h.1.0);
+}
 filled_window s condition view (Err e) old new n long g h = refused_window _ (λ vs holds. (refl, holds)) h
 
 -- a record whose fields all say where they end is read by the relation that they stand

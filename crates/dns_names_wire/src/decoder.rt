@@ -126,7 +126,11 @@ impl<'a> BinDecoder<'a> {
     /// The next `len` octets, `step` by `step`: where fewer are left, it takes the whole steps that are there, and is
     /// refused.
     #[inline]
-    pub fn read_in_steps(&mut self, len: usize, step: usize) -> Result<Restrict<&'a [u8]>, DecodeError>
+    pub fn read_in_steps(
+        &mut self,
+        len: usize,
+        step: usize,
+    ) -> Result<Restrict<&'a [u8]>, DecodeError>
         requires { 0 < step }
         ensures taken { IfOk result (λ octets. TookField self.old (Octets len) octets.now self.new) }
         ensures lacking { IfErr result (λ e. (e ≡ DecodeError.InsufficientBytes) × LacksOctets self.old len) }
@@ -185,9 +189,7 @@ impl<'a> BinDecoder<'a> {
         ensures unchanged { OnErr result (self.new ≡ self.old) }
     {
         let octets = self.read_slice(4)?.unverified();
-        Ok(Restrict::new(u32::from_be_bytes([
-            octets[0], octets[1], octets[2], octets[3],
-        ])))
+        Ok(Restrict::new(u32::from_be_bytes([octets[0], octets[1], octets[2], octets[3]])))
     }
 
     /// The signed number in the next four octets, the highest one first, in two's complement.

@@ -7,7 +7,9 @@ pub mod encoder;
 
 pub use binary::{BinDecodable, BinEncodable};
 pub use decoder::BinDecoder;
-pub use encoder::{BinEncoder, Place};
 pub use dns_fields::RDataEncoding;
-pub use dns_types::{error, octets, record_type, restrict};
-pub use dns_types::{AddrParseError, DecodeError, Octets, ParseError, ProtoError, RecordType, Restrict};
+pub use dns_types::{
+    AddrParseError, DecodeError, Octets, ParseError, ProtoError, RecordType, Restrict, error,
+    octets, record_type, restrict,
+};
+pub use encoder::{BinEncoder, Place};

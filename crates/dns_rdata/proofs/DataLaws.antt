@@ -64,9 +64,10 @@ tells_apart v w t m p n m' p' n' f g =
     let ev : data_octets v ≡ canonical (shape t) f.values = ap octets_of f.value.fields in
     let ew : data_octets w ≡ canonical (shape t) g.values = ap octets_of g.value.fields in
     let fs = f.window.stands in
-    let gs = g.window.stands in
-    (λ h. ev ∙ canonical_same (shape t) f.values g.values (d.0 h) ∙ sym ew,
-     λ e. d.1 (canonical_injective (shape t) f.values g.values (shape_is t) (stands_fit m p (shape t) f.values (p + n) fs) (stands_lawful m p (shape t) f.values (p + n) fs) (stands_fit m' p' (shape t) g.values (p' + n') gs) (stands_lawful m' p' (shape t) g.values (p' + n') gs) (sym ev ∙ e ∙ ew)))
+    let gs = g.window.stands in (
+      λ h. ev ∙ canonical_same (shape t) f.values g.values (d.0 h) ∙ sym ew,
+      λ e. d.1 (canonical_injective (shape t) f.values g.values (shape_is t) (stands_fit m p (shape t) f.values (p + n) fs) (stands_lawful m p (shape t) f.values (p + n) fs) (stands_fit m' p' (shape t) g.values (p' + n') gs) (stands_lawful m' p' (shape t) g.values (p' + n') gs) (sym ev ∙ e ∙ ew)),
+    )
 
 -- ---- equal fields that stand elsewhere are of an equal value
 

@@ -22,18 +22,18 @@ use Rattle.dns_rdata.specs.Refusals.{IsNeverRead, OwnRefusal, IsRefusal, by_leng
 -- what fills a window as fields fills it as a value
 pub data_took : {old new : Reading} (t : RecordType) (n : ℕ) (v : RData) (vs : Values (shape t)) → IsValue t vs v → TookWindow old n (shape t) (condition t) vs new → TookData old t n v new
 data_took t n v vs value w = record {
-    behind = w.behind;
-    here = λ e. record { values = vs; window = w.here e; value = value };
-    elsewhere = w.elsewhere;
-  }
+  behind = w.behind;
+  here = λ e. record { values = vs; window = w.here e; value = value };
+  elsewhere = w.elsewhere;
+}
 
 -- no octets are the data of type 0
 pub data_zero : (d : Reading) (n : ℕ) → n < 65536 → d.index ≤ length d.message → AreOctets d.message → TookData d types.ZERO n rdata.ZERO d
 data_zero d n short inside octets = record {
-    behind = stays d;
-    here = λ e. record { values = tt; window = record { octets = octets; short = short; within = rw (← e) inside; stands = e; holds = tt }; value = record { type = refl; fields = refl; plain = tt } };
-    elsewhere = λ ne. record { none = λ vs w. ne w.stands };
-  }
+  behind = stays d;
+  here = λ e. record { values = tt; window = record { octets = octets; short = short; within = rw (← e) inside; stands = e; holds = tt }; value = record { type = refl; fields = refl; plain = tt } };
+  elsewhere = λ ne. record { none = λ vs w. ne w.stands };
+}
 
 -- ---- types without a row
 

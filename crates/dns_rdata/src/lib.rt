@@ -6,13 +6,12 @@ ghost use Rattle.dns_rdata.specs.Laws.{OneValue, EachWindow};
 pub mod record_data;
 pub mod traits;
 
-pub use dns_names_wire::{binary, decoder, encoder, error, record_type, restrict};
 pub use dns_names_wire::{
-    BinDecodable, BinDecoder, BinEncodable, BinEncoder, DecodeError, Octets, ParseError, Place, ProtoError,
-    RDataEncoding, RecordType, Restrict,
+    BinDecodable, BinDecoder, BinEncodable, BinEncoder, DecodeError, Octets, ParseError, Place,
+    ProtoError, RDataEncoding, RecordType, Restrict, binary, decoder, encoder, error, record_type,
+    restrict,
 };
-pub use dns_rdata_base::{a, aaaa, null};
-pub use dns_rdata_base::{A, AAAA, NULL, RecordDataDecodable, TakesOctet};
+pub use dns_rdata_base::{A, AAAA, NULL, RecordDataDecodable, TakesOctet, a, aaaa, null};
 pub use record_data::RData;
 pub use traits::RecordData;
 
@@ -20,5 +19,4 @@ pub use traits::RecordData;
 pub fn windows_hold()
     ensures one { OneValue }
     ensures each { EachWindow }
-{
-}
+{}

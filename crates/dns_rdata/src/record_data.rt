@@ -5,7 +5,9 @@ ghost use Rattle.dns_types.specs.RecordTypes.{number_of};
 ghost use Rattle.dns_names_wire.specs.Words.{StaysBehind, UnlessMemory, EmitsAs, Keeps};
 ghost use Rattle.dns_rdata.specs.Refusals.{IsNeverRead, OwnRefusal, IsRefusal, by_length as answer_by_length};
 
-use dns_names_wire::{BinDecoder, BinEncodable, BinEncoder, DecodeError, ProtoError, RecordType, Restrict};
+use dns_names_wire::{
+    BinDecoder, BinEncodable, BinEncoder, DecodeError, ProtoError, RecordType, Restrict,
+};
 use dns_rdata_base::{A, AAAA, NULL, RecordDataDecodable};
 use std::alloc::AllocError;
 use std::fmt;

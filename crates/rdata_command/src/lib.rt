@@ -10,7 +10,6 @@ mod report;
 mod request;
 
 pub use report::say;
-
 use std::alloc::Global;
 use std::io;
 

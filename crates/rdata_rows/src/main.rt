@@ -1,6 +1,9 @@
 //! Replays runs of the program `rdata` whose answers are known, one a line of `rows.tsv`.
 #![tactic(auto)]
 
+#[cfg(test)]
+mod tests;
+
 use anyhow::{Context, Result};
 use rdata_command::run;
 use std::alloc::{AllocError, Global};
