@@ -1,0 +1,4 @@
+pub mod Labels
+pub mod Reading
+pub mod Comparing
+pub mod Emission

@@ -1,0 +1,10 @@
+//! Domain names as octets: each label's length and its octets in one list, without the 0 at the end.
+#![tactic(auto)]
+
+mod buffer;
+pub mod comparing;
+pub mod error;
+pub mod labels;
+pub mod reading;
+
+pub use error::NameError;
