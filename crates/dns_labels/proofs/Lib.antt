@@ -6,3 +6,4 @@ pub mod ReadingRuns
 pub mod WritingSteps
 pub mod CutSteps
 pub mod Found
+pub mod Wrote

@@ -1,4 +1,4 @@
-//! Why no name was read.
+//! Why no name was read or written.
 
 ghost use Rattle.std.specs.Prelude.{◌≡◌};
 
@@ -30,5 +30,24 @@ impl<T: Drop> From<AllocFailed<T>> for NameError {
 
     fn from(_e: AllocFailed<T>) -> NameError {
         NameError::Memory
+    }
+}
+
+/// Why no name was written.
+#[derive(Clone, Copy, Debug, PartialEq, Eq)]
+pub enum WriteError {
+    /// A request for memory was refused.
+    Memory,
+    /// There are not so many octets as the name needs.
+    Buffer,
+}
+
+impl From<AllocError> for WriteError {
+    ghost use Rattle.dns_labels.specs.declared.error.WriteError.TheVariants.{Memory};
+
+    ghost from_gives = { λ _ e. e ≡ Memory };
+
+    fn from(_e: AllocError) -> WriteError {
+        WriteError::Memory
     }
 }

@@ -5,6 +5,10 @@ mod buffer;
 pub mod comparing;
 pub mod error;
 pub mod labels;
+mod matching;
+pub mod places;
 pub mod reading;
+pub mod writing;
 
-pub use error::NameError;
+pub use error::{NameError, WriteError};
+pub use places::Places;
