@@ -7,3 +7,7 @@ pub mod WritingSteps
 pub mod CutSteps
 pub mod Found
 pub mod Wrote
+pub mod TextSteps
+pub mod LabelSteps
+pub mod NameTexts
+pub mod NameSteps

@@ -2,3 +2,4 @@ pub mod Labels
 pub mod Reading
 pub mod Comparing
 pub mod Emission
+pub mod Text

@@ -5,9 +5,11 @@ mod buffer;
 pub mod comparing;
 pub mod error;
 pub mod labels;
+pub mod laws;
 mod matching;
 pub mod places;
 pub mod reading;
+pub mod text;
 pub mod writing;
 
 pub use error::{NameError, WriteError};
