@@ -1,9 +1,9 @@
 -- A name that was found in a message, and its octets.
-use Rattle.std.proofs.Common.{◌≡◌, ℕ, Bool, true, ◌+◌, ◌≤◌, List, length, refl, sym, ap, subst, arith}
-use Rattle.dns_fields.specs.Labels.{DomainName, IsName, wire}
+use Rattle.std.proofs.Common.{ℕ, Bool, true, List, length, refl, sym, ap, subst, arith}
+use Rattle.dns_fields.specs.Labels.{IsName}
 use Rattle.dns_fields.specs.Names.{LabelsStand, IsNameIn}
 use Rattle.dns_fields.proofs.Stays.{labels_stand}
-use Rattle.dns_labels.specs.Labels.{labels_of, AreNameOctets, name_of}
+use Rattle.dns_labels.specs.Labels.{AreNameOctets, name_of}
 use Rattle.dns_labels.specs.Reading.{IsNameAt}
 use Rattle.dns_labels.proofs.Octets.{labels_from, are_name_octets}
 

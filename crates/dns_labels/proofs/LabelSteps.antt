@@ -1,11 +1,10 @@
 -- The steps of the reader of a label's text.
-use Rattle.std.proofs.Common.{◌≡◌, ◌≢◌, ℕ, zero, suc, ◌+◌, ◌-◌, ◌<◌, ◌≤◌, List, [], ◌∷◌, ◌++◌, length, take, drop, get_or, refl, sym, ◌∙◌, ap, subst, append_assoc, arith, length-append, length-drop}
+use Rattle.std.proofs.Common.{◌≡◌, ◌≢◌, ℕ, ◌+◌, ◌<◌, ◌≤◌, List, [], ◌∷◌, ◌++◌, length, take, drop, get_or, refl, sym, ◌∙◌, ap, subst, append_assoc, arith, length-append, length-drop}
 use Rattle.std.proofs.Math.Seq.{take-add}
 use Rattle.std.proofs.lemmas.List.{append-nil, drop-drop, take-append-drop, append_cancel_left, get_or-drop, drop_more}
 use Rattle.std.proofs.lemmas.Grind.{common_steps}
 use Rattle.dns_labels.specs.Text.{OctetText, LabelText, IsLabelEnd, AddsOctets}
 use Rattle.dns_labels.specs.Text.LabelText.{no_octet, octet}
-use Rattle.dns_labels.specs.Text.OctetText.{plain, decimal, quoted}
 
 -- octets of a label that are still to be read
 pub record LabelLeft (label front text rest : List ℕ) : Type 0 where
@@ -99,9 +98,9 @@ label_full text at old new s h ne label t rest lt e end =
 
 pub label_none : (text old : List ℕ) → LabelSoFar text 0 old old
 label_none text old = record {
-    front = [];
-    octets = sym (append-nil old);
-    within = omega arith;
-    sound = λ label t lt. lt;
-    complete = λ label t rest lt e end. record { others = label; others_text = t; joined = refl; reads = lt; stands = e };
-  }
+  front = [];
+  octets = sym (append-nil old);
+  within = omega arith;
+  sound = λ label t lt. lt;
+  complete = λ label t rest lt e end. record { others = label; others_text = t; joined = refl; reads = lt; stands = e };
+}

@@ -2,15 +2,15 @@
 use Rattle.std.proofs.Common.{◌≡◌, ◌≢◌, ℕ, ◌+◌, ◌-◌, ◌<◌, ◌≤◌, Bool, true, false, List, [], ◌∷◌, ◌++◌, length, take, drop, get_or, refl, sym, ◌∙◌, ap, subst, append_assoc, arith, length-append, length-drop}
 use Rattle.std.specs.Prelude.{slice_set}
 use Rattle.std.proofs.Math.Seq.{set-append_seam}
-use Rattle.std.proofs.lemmas.List.{append-nil, append_cancel_left, drop-drop, drop_all, drop_more, take-append-drop, take_all}
-use Rattle.dns_fields.specs.Labels.{DomainName, IsLabel, AreLabels, IsName, wire, FitsName}
+use Rattle.std.proofs.lemmas.List.{append-nil, append_cancel_left, drop-drop, drop_all, drop_more, take-append-drop}
+use Rattle.dns_fields.specs.Labels.{DomainName, IsLabel, AreLabels, wire, FitsName}
 use Rattle.dns_fields.proofs.Runs.{wire-append, AreLabels-append}
 use Rattle.dns_labels.specs.Labels.{AreNameOctets, labels_of, name_of}
 use Rattle.dns_labels.specs.Text.{LabelText, LabelsText, MarkedText, IsNameText, IsLabelEnd, AddsOctets, AddsLabel}
 use Rattle.dns_labels.specs.Text.LabelsText.{last, dotted, joined}
 use Rattle.dns_labels.specs.Text.MarkedText.{root, nothing, labelled}
 use Rattle.dns_labels.proofs.Octets.{labels_from, are_name_octets}
-use Rattle.dns_labels.proofs.NameTexts.{one_label, first_text, FirstText, BackText, back_ends, labels_no_end}
+use Rattle.dns_labels.proofs.NameTexts.{one_label, first_text, BackText, back_ends}
 use Rattle.dns_labels.proofs.NameTexts.BackText.{at_end, at_dot, further}
 
 -- the length octet is written in front of the label
@@ -46,14 +46,14 @@ pub record NameSoFar (text : List ℕ) (at : ℕ) (octets : List ℕ) : Type 0 w
 
 pub name_none : (text octets : List ℕ) → octets ≡ [] → NameSoFar text 0 octets
 name_none text octets e = record {
-    front = [];
-    are = tt;
-    same = e;
-    within = omega arith;
-    room = omega (arith, ap length e);
-    sound = λ rest mark ls. ls;
-    complete = λ labels mark are ls. record { rest = labels; joined = refl; reads = ls };
-  }
+  front = [];
+  are = tt;
+  same = e;
+  within = omega arith;
+  room = omega (arith, ap length e);
+  sound = λ rest mark ls. ls;
+  complete = λ labels mark are ls. record { rest = labels; joined = refl; reads = ls };
+}
 
 -- the octets with one label more
 record OneMore (text : List ℕ) (at taken : ℕ) (old new : List ℕ) (front : List (List ℕ)) (label : List ℕ) : Type 0 where

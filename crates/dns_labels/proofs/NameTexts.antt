@@ -1,11 +1,10 @@
 -- A text is that of one name, and what is printed of a name is a text of it.
-use Rattle.std.proofs.Common.{◌≡◌, ◌≢◌, ℕ, zero, suc, ◌+◌, ◌<◌, ◌≤◌, Bool, true, false, List, [], ◌∷◌, ◌++◌, All, length, refl, sym, ◌∙◌, ap, subst, append_assoc, arith, length-append}
+use Rattle.std.proofs.Common.{◌≡◌, ℕ, zero, suc, ◌<◌, ◌≤◌, Bool, true, false, List, [], ◌∷◌, ◌++◌, All, length, refl, sym, ◌∙◌, ap, subst, append_assoc, arith}
 use Rattle.std.specs.Prelude.{flat_map}
 use Rattle.std.proofs.lemmas.List.{append-nil, append_cancel_left}
 use Rattle.std.proofs.lemmas.List.Elements.{All-head, All-tail}
-use Rattle.std.proofs.lemmas.Bool.{false≢true}
 use Rattle.dns_fields.specs.Octets.{AreOctets}
-use Rattle.dns_fields.specs.Labels.{DomainName, IsLabel, AreLabels, IsName}
+use Rattle.dns_fields.specs.Labels.{DomainName, AreLabels, IsName}
 use Rattle.dns_labels.specs.Text.{OctetText, LabelText, LabelsText, MarkedText, IsNameText, IsLabelEnd, HasOctets, printed, label_text, joined_text, name_text}
 use Rattle.dns_labels.specs.Text.OctetText.{plain, decimal, quoted}
 use Rattle.dns_labels.specs.Text.LabelText.{no_octet, octet}

@@ -1,11 +1,11 @@
 -- One run after another makes a name.
-use Rattle.std.proofs.Common.{◌≡◌, ℕ, ◌+◌, ◌/◌, ◌%◌, ◌<◌, ◌≤◌, List, [], ◌∷◌, ◌++◌, length, take, Option, Some, None, refl, sym, ◌∙◌, ap, subst, append_assoc, arith, length-append, length-drop}
+use Rattle.std.proofs.Common.{◌≡◌, ℕ, ◌+◌, ◌/◌, ◌%◌, ◌<◌, ◌≤◌, List, [], ◌∷◌, ◌++◌, length, take, Option, Some, None, refl, sym, ◌∙◌, ap, subst, append_assoc, arith, length-append}
 use Rattle.std.proofs.lemmas.List.{append-nil}
-use Rattle.dns_fields.specs.Labels.{AreLabels, wire, FitsName}
-use Rattle.dns_fields.specs.Names.{LabelsStand, pointer}
+use Rattle.dns_fields.specs.Labels.{wire, FitsName}
+use Rattle.dns_fields.specs.Names.{LabelsStand}
 use Rattle.dns_fields.specs.Names.LabelsStand.{whole, pointed}
 use Rattle.dns_labels.specs.Reading.{IsRun, AddsRun, IsNameAt}
-use Rattle.dns_fields.proofs.Runs.{same_run, wire-append, AreLabels-append}
+use Rattle.dns_fields.proofs.Runs.{same_run, wire-append}
 use Rattle.dns_fields.proofs.Unique.{zero_stop, pointer_stop, same_target}
 
 -- these labels stand from where the run that began at this place leads

@@ -1,5 +1,5 @@
 -- A name that was written.
-use Rattle.std.proofs.Common.{◌≡◌, ◌≢◌, ℕ, Bool, true, ◌+◌, ◌<◌, ◌≤◌, sym, subst, append_assoc, List, [], ◌∷◌, ◌++◌, length, take, Option, Some, None, refl, ap, ◌∙◌, arith}
+use Rattle.std.proofs.Common.{◌≡◌, ◌≢◌, ℕ, Bool, true, ◌+◌, ◌<◌, sym, subst, append_assoc, List, [], ◌∷◌, ◌++◌, length, take, Option, None, refl, ap, ◌∙◌, arith}
 use Rattle.std.proofs.lemmas.List.{take_all}
 use Rattle.dns_fields.specs.declared.RDataEncoding.{RDataEncoding}
 use Rattle.dns_fields.specs.declared.RDataEncoding.TheVariants as modes
@@ -20,15 +20,15 @@ wrote_whole old new octets cut target n c t e =
 -- an emission that adds a name wrote it
 pub name_wrote : (mode : RDataEncoding) (old new : List ℕ) (x : DomainName) → IsName x → AddsName old new x.labels → (mode ≢ modes.StandardRecord → new ≡ old ++ (wire x.labels ++ 0 ∷ [])) → NameWrote mode old x new
 name_wrote mode old new x is a w = record {
-    is_name = is;
-    tail = a.added;
-    behind = a.behind;
-    shorter = omega (arith, a.bounded, lowname_length x);
-    read = record { labels = x.labels; fully_qualified = true };
-    same = record { low = refl };
-    stands = record { stands = a.stands; fits = is.fits; qualified = refl };
-    whole = w;
-  }
+  is_name = is;
+  tail = a.added;
+  behind = a.behind;
+  shorter = omega (arith, a.bounded, lowname_length x);
+  read = record { labels = x.labels; fully_qualified = true };
+  same = record { low = refl };
+  stands = record { stands = a.stands; fits = is.fits; qualified = refl };
+  whole = w;
+}
 
 -- the octets up to the cut and what ends them are the name
 pub cut_wrote : (mode : RDataEncoding) (message old part new octets : List ℕ) (cut : ℕ) (target stop : Option ℕ) → message ≡ old → AreNameOctets octets → IsCut message octets cut target → (mode ≢ modes.StandardRecord → (cut ≡ length octets) × (target ≡ None)) → part ≡ old ++ take cut octets → target ≡ stop → new ≡ part ++ stop_octets stop → (mark : Bool) → NameWrote mode old (name_of octets mark) new

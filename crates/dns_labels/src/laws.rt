@@ -8,5 +8,4 @@ ghost use Rattle.dns_labels.specs.Text.{IsNameText, HasOctets, name_text};
 pub fn texts_hold()
     ensures one { (text : List ℕ) (x y : DomainName) → IsNameText x text → IsNameText y text → x ≡ y }
     ensures printed { (x : DomainName) → IsName x → HasOctets x → IsNameText x (name_text x) }
-{
-}
+{}

@@ -14,3 +14,6 @@ pub mod writing;
 
 pub use error::{NameError, WriteError};
 pub use places::Places;
+
+#[cfg(test)]
+mod tests;

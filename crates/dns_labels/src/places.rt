@@ -9,6 +9,7 @@ use std::alloc::{AllocError, Global};
 
 // an odd number, and the one that gives 1 with it as a product of 64 bits
 const FACTOR: u64 = 0x9e37_79b9_7f4a_7c15;
+
 const INVERSE: u64 = 0xf1de_83e1_9937_733d;
 
 /// A pointer has 14 bits for a place (RFC 1035, 4.1.4).

@@ -18,13 +18,7 @@ struct Cut {
 }
 
 /// Where a name is cut: only `StandardRecord` leaves a tail out.
-fn cut_for(
-    places: &Places,
-    mode: RDataEncoding,
-    message: &[u8],
-    name: &[u8],
-    hash: u64,
-) -> Cut
+fn cut_for(places: &Places, mode: RDataEncoding, message: &[u8], name: &[u8], hash: u64) -> Cut
     requires { AreNameOctets name.now }
     ensures cut { IsCut message.now name.now result.written result.target }
     ensures whole { mode ≢ RDataEncoding.StandardRecord → (result.written ≡ length name.now) × (result.target ≡ None) }
@@ -84,9 +78,7 @@ pub fn write_name(
     out.extend_from_slice(front)?;
     match cut.target {
         None => out.extend_from_slice(&[0])?,
-        Some(place) => {
-            out.extend_from_slice(&[(192 + place / 256) as u8, (place % 256) as u8])?
-        }
+        Some(place) => { out.extend_from_slice(&[(192 + place / 256) as u8, (place % 256) as u8])? }
     }
     Ok(())
 }

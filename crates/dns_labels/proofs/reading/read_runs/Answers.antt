@@ -1,4 +1,4 @@
-use Rattle.std.proofs.Common.{◌≡◌, arith, ℕ, ap, length-take, subst, Option}
+use Rattle.std.proofs.Common.{arith, ℕ, length-take, subst, Option}
 use Rattle.dns_labels.proofs.ReadingRuns.{Pending, first_run, next_run, no_more, not_before, first_refused, next_refused}
 use Rattle.dns_labels.proofs.reading.read_runs.Goals as goal
 

@@ -1,7 +1,6 @@
-use Rattle.std.proofs.Common.{sym, subst, List, ℕ, ◌∙◌, ap, ◌≡◌}
-use Rattle.dns_fields.specs.Labels.{DomainName}
+use Rattle.std.proofs.Common.{sym, subst, List, ℕ}
 use Rattle.dns_labels.specs.Labels.{AreNameOctets, name_of}
-use Rattle.dns_labels.specs.Text.{IsNameText, name_text}
+use Rattle.dns_labels.specs.Text.{IsNameText}
 use Rattle.dns_labels.proofs.NameTexts.{one_name, name_reads}
 use Rattle.dns_labels.proofs.text.parse_octets.Goals as goal
 

@@ -16,8 +16,8 @@ labels-init c = (name_none c.args.text.now c.args.octets.now c.requires, omega a
 pub returns-in_err-taken-clause-none : goal.returns-in_err-taken-clause-none
 returns-in_err-taken-clause-none c = rw c.from_residual.ensures (λ name n.
     name_refused c.args.text.now c.labels.at c.labels.octets c.labels.invariant.0 (omega arith)
-      (λ one dot. elim c.else-text-eq1.branch [ else-text-eq1-via-then-text-eq1+else-text-eq46 w ↦ omega arith | else-text-eq1-via-else-text-eq1 w ↦ omega arith ])
-      (rw (take_rest c.args.text.now c.labels.at) at c.in_err-taken.ensures.none) name n)
+    (λ one dot. elim c.else-text-eq1.branch [ else-text-eq1-via-then-text-eq1+else-text-eq46 w ↦ omega arith | else-text-eq1-via-else-text-eq1 w ↦ omega arith ])
+    (rw (take_rest c.args.text.now c.labels.at) at c.in_err-taken.ensures.none) name n)
 
 pub returns-then-at-text-clause-some : goal.returns-then-at-text-clause-some
 returns-then-at-text-clause-some c =

@@ -1,4 +1,4 @@
-use Rattle.std.proofs.Common.{arith, drop, length, length-append}
+use Rattle.std.proofs.Common.{arith, length-append}
 use Rattle.std.proofs.lemmas.List.{take_rest, drop_all}
 use Rattle.dns_labels.proofs.LabelSteps.{label_none, label_done, label_refused, label_more, label_full, at_dot}
 use Rattle.dns_labels.proofs.text.read_octets.Goals as goal
