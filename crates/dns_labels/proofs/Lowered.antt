@@ -1,6 +1,6 @@
 -- A name's lowered octets.
 use Rattle.std.proofs.Common.{◌≡◌, ◌↔◌, IsTrue, ℕ, ◌+◌, ◌<◌, ◌≤◌, take, get_or, Bool, true, false, List, [], ◌∷◌, ◌++◌, length, map, refl, sym, ◌∙◌, ap, append_assoc, arith}
-use Rattle.std.proofs.lemmas.List.{map-append, append_cancel_right, take_more, take_more_set}
+use Rattle.std.proofs.lemmas.List.{length-map, map-append, append_cancel_right, take_more, take_more_set}
 use Rattle.std.specs.Prelude.{slice_set}
 use Rattle.std.proofs.lemmas.Bool.Decides.{nat_tests, same_from_decides}
 use Rattle.std.proofs.lemmas.Slice.Eq.{bytes_eq-Decides}
@@ -14,6 +14,7 @@ use Rattle.std.specs.declared.cmp.Ordering.TheVariants.{Less, Greater}
 use Rattle.dns_fields.specs.Labels.{AreLabels, wire, lowered}
 use Rattle.dns_labels.specs.Labels.{labels_of, AreNameOctets}
 use Rattle.dns_labels.specs.Comparing.{lowered_octets}
+use Rattle.dns_labels.proofs.Octets.{labels_of-wire}
 
 kept : (n : ℕ) → n ≤ 63 → to_ascii_lowercase n ≡ n
 kept n h = grind (arith, nat_tests)
@@ -76,3 +77,23 @@ lowered_more octets low i x h k e v =
     let t : take (i + 1) octets ≡ take i octets ++ get_or octets i 0 ∷ [] = take_more octets i 0 h in
     take_more_set low i x k ∙ ap (λ (y : List ℕ). y ++ x ∷ []) e ∙ ap (λ (y : ℕ). map to_ascii_lowercase (take i octets) ++ y ∷ []) v
     ∙ sym (map-append to_ascii_lowercase (take i octets) (get_or octets i 0 ∷ [])) ∙ ap (λ (y : List ℕ). map to_ascii_lowercase y) (sym t)
+
+low_wire : (labels : List (List ℕ)) → wire (map (map to_ascii_lowercase) labels) ++ 0 ∷ [] ≡ lowered labels
+low_wire [] = refl
+low_wire (l ∷ labels) =
+    let low : List ℕ = map to_ascii_lowercase l in
+    let n : length low ≡ length l = length-map l to_ascii_lowercase in
+    ap (λ (t : List ℕ). length low ∷ t) (append_assoc low (wire (map (map to_ascii_lowercase) labels)) (0 ∷ []))
+    ∙ ap (λ (k : ℕ). k ∷ (low ++ (wire (map (map to_ascii_lowercase) labels) ++ 0 ∷ []))) n
+    ∙ ap (λ (t : List ℕ). length l ∷ (low ++ t)) (low_wire labels)
+
+of_lowered : (a b : List (List ℕ)) → lowered a ≡ lowered b → map (map to_ascii_lowercase) a ≡ map (map to_ascii_lowercase) b
+of_lowered a b e =
+    let x : List (List ℕ) = map (map to_ascii_lowercase) a in
+    let y : List (List ℕ) = map (map to_ascii_lowercase) b in
+    let w : wire x ≡ wire y = append_cancel_right (wire x) (wire y) (0 ∷ []) (low_wire a ∙ e ∙ sym (low_wire b)) in
+    sym (labels_of-wire x) ∙ ap (λ (o : List ℕ). labels_of o) w ∙ labels_of-wire y
+
+-- canonical octets are the same where the lowered labels are
+pub low_labels_same : (a b : List (List ℕ)) → (lowered a ≡ lowered b) ↔ (map (map to_ascii_lowercase) a ≡ map (map to_ascii_lowercase) b)
+low_labels_same a b = (of_lowered a b, λ e. sym (low_wire a) ∙ ap (λ (l : List (List ℕ)). wire l ++ 0 ∷ []) e ∙ low_wire b)
