@@ -11,3 +11,4 @@ pub mod TextSteps
 pub mod LabelSteps
 pub mod NameTexts
 pub mod NameSteps
+pub mod Built

@@ -2,6 +2,7 @@
 #![tactic(auto)]
 
 mod buffer;
+pub mod building;
 pub mod comparing;
 pub mod error;
 pub mod labels;

@@ -1,4 +1,5 @@
 use crate::Places;
+use crate::building::{append_label, append_octets};
 use crate::comparing::{compare_lowered, equal_lowered, hash_lowered};
 use crate::error::{NameError, WriteError};
 use crate::labels::{LabelIter, count_labels};
@@ -398,5 +399,34 @@ fn walks_labels(rt: HostRuntime) -> Result<(), Fail> {
     assert_eq!(rt; labels.next(), Some(b"com".as_slice()));
     assert_eq!(rt; labels.next(), None);
     assert_eq!(rt; labels.next(), None);
+    Ok(())
+}
+
+#[test]
+fn builds_names(rt: HostRuntime) -> Result<(), Fail> {
+    let (mut octets, _) = parse_octets(rt.alloc(), b"www")?;
+    append_label(&mut octets, b"a.b")?;
+    let (other, _) = parse_octets(rt.alloc(), b"example.com.")?;
+    append_octets(&mut octets, other.as_slice())?;
+    assert_eq!(rt;
+        octets.as_slice(),
+        b"\x03www\x03a.b\x07example\x03com".as_slice()
+    );
+    assert_eq!(rt; append_label(&mut octets, b""), Err(NameError::Invalid));
+    assert_eq!(rt;
+        append_label(&mut octets, &[97; 64]),
+        Err(NameError::Invalid)
+    );
+    append_label(&mut octets, &[97; 63])?;
+    append_label(&mut octets, &[97; 63])?;
+    // 148 octets, and 106 more fit
+    assert_eq!(rt; append_octets(&mut octets, &[]), Ok(()));
+    append_label(&mut octets, &[97; 63])?;
+    assert_eq!(rt;
+        append_label(&mut octets, &[97; 42]),
+        Err(NameError::Invalid)
+    );
+    append_label(&mut octets, &[97; 41])?;
+    assert_eq!(rt; octets.len(), 254);
     Ok(())
 }
