@@ -32,7 +32,3 @@ pub record IsCut (message octets : List ℕ) (cut : ℕ) (target : Option ℕ) :
   pub rest_is : drop cut octets ≡ wire rest
   pub within : cut ≤ length octets
   pub leads : LeadsTo message target rest
-
--- the new octets begin with the old ones
-abbrev pub AppendsTo : List ℕ → List ℕ → Type 0
-AppendsTo old new = (x : List ℕ) × (new ≡ old ++ x)

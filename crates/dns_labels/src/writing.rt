@@ -50,8 +50,8 @@ fn stop_len(target: Option<usize>) -> usize
 /// It is written as labels, each a length octet and its octets, and a 0 (RFC 1035, 3.1). In the mode
 /// `StandardRecord` the longest tail with a label that was noted in the same octets at a place below 16384
 /// is left out, and two octets that point to the least such place end the name (4.1.4). The error is
-/// `Buffer` where there would be more octets than the limit, and that many are not there for the whole
-/// name; after an error the octets are as before.
+/// `Buffer` where what is to be written passes the limit, and so does the whole name; after an error the
+/// octets are as before.
 pub fn write_name(
     places: &mut Places,
     out: &mut Vec<u8>,
