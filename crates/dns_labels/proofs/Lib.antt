@@ -1,0 +1,14 @@
+pub mod Octets
+pub mod Lowered
+pub mod ComparingSteps
+pub mod ReadingSteps
+pub mod ReadingRuns
+pub mod WritingSteps
+pub mod CutSteps
+pub mod Found
+pub mod Wrote
+pub mod TextSteps
+pub mod LabelSteps
+pub mod NameTexts
+pub mod NameSteps
+pub mod Built

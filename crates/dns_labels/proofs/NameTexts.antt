@@ -1,0 +1,170 @@
+-- A text is that of one name, and what is printed of a name is a text of it.
+use Rattle.std.proofs.Common.{◌≡◌, ℕ, zero, suc, ◌<◌, ◌≤◌, Bool, true, false, List, [], ◌∷◌, ◌++◌, All, length, refl, sym, ◌∙◌, ap, subst, append_assoc, arith}
+use Rattle.std.specs.Prelude.{flat_map}
+use Rattle.std.proofs.lemmas.List.{append-nil, append_cancel_left}
+use Rattle.std.proofs.lemmas.List.Elements.{All-head, All-tail}
+use Rattle.dns_fields.specs.Octets.{AreOctets}
+use Rattle.dns_fields.specs.Labels.{DomainName, AreLabels, IsName}
+use Rattle.dns_labels.specs.Text.{OctetText, LabelText, LabelsText, MarkedText, IsNameText, IsLabelEnd, HasOctets, printed, label_text, joined_text, name_text}
+use Rattle.dns_labels.specs.Text.OctetText.{plain, decimal, quoted}
+use Rattle.dns_labels.specs.Text.LabelText.{no_octet, octet}
+use Rattle.dns_labels.specs.Text.LabelsText.{last, dotted, joined}
+use Rattle.dns_labels.specs.Text.MarkedText.{root, nothing, labelled}
+use Rattle.dns_labels.proofs.TextSteps.{printed_text}
+use Rattle.dns_labels.proofs.LabelSteps.{one_octet}
+
+-- no label ends where an octet's text begins
+octet_no_end : (n : ℕ) (f z : List ℕ) → OctetText n f → IsLabelEnd (f ++ z) → ⊥
+octet_no_end n f z (plain g a b) e = a e
+octet_no_end n f z (decimal h t o dh dt do' v low) e = absurd (omega arith)
+octet_no_end n f z (quoted g k) e = absurd (omega arith)
+
+-- up to its end a text is that of one label
+pub one_label : {a b s t : List ℕ} (x y : List ℕ) → LabelText a s → LabelText b t → s ++ x ≡ t ++ y → IsLabelEnd x → IsLabelEnd y → (a ≡ b) × (s ≡ t)
+one_label x y no_octet no_octet e ex ey = (refl, refl)
+one_label x y no_octet (octet {n = n} {label = label} f r ot lt w) e ex ey =
+    let z : x ≡ f ++ (r ++ y) = e ∙ ap (λ (u : List ℕ). u ++ y) w ∙ append_assoc f r y in
+    absurd (octet_no_end n f (r ++ y) ot (subst IsLabelEnd z ex))
+one_label x y (octet {n = n} {label = label} f r ot lt w) no_octet e ex ey =
+    let z : y ≡ f ++ (r ++ x) = sym e ∙ ap (λ (u : List ℕ). u ++ x) w ∙ append_assoc f r x in
+    absurd (octet_no_end n f (r ++ x) ot (subst IsLabelEnd z ey))
+one_label x y (octet {n = n} {label = a} f r ot lt w) (octet {n = m} {label = b} g q pt kt v) e ex ey =
+    let z : f ++ (r ++ x) ≡ g ++ (q ++ y) = sym (ap (λ (u : List ℕ). u ++ x) w ∙ append_assoc f r x) ∙ e ∙ ap (λ (u : List ℕ). u ++ y) v ∙ append_assoc g q y in
+    let u = one_octet n m f g (r ++ x) (q ++ y) ot pt z in
+    let u0 : n ≡ m = u.0 in
+    let u1 : f ≡ g = u.1 in
+    let rest : r ++ x ≡ q ++ y = append_cancel_left f (r ++ x) (q ++ y) (z ∙ ap (λ (i : List ℕ). i ++ (q ++ y)) (sym u1)) in
+    let k = one_label x y lt kt rest ex ey in
+    let k0 : a ≡ b = k.0 in
+    let k1 : r ≡ q = k.1 in
+    (cc, cc)
+
+-- what may stand behind a label
+pub data BackText : List (List ℕ) → Bool → List ℕ → Type 0 where
+  at_end : {others : List (List ℕ)} {mark : Bool} {back : List ℕ} → others ≡ [] → mark ≡ false → back ≡ [] → BackText others mark back
+  at_dot : {others : List (List ℕ)} {mark : Bool} {back : List ℕ} → others ≡ [] → mark ≡ true → back ≡ 46 ∷ [] → BackText others mark back
+  further : {others : List (List ℕ)} {mark : Bool} {back : List ℕ} (rest : List ℕ) → back ≡ 46 ∷ rest → LabelsText others mark rest → BackText others mark back
+
+-- the first label, and what is behind it
+pub record FirstText (labels : List (List ℕ)) (mark : Bool) (text : List ℕ) : Type 0 where
+  pub label : List ℕ
+  pub others : List (List ℕ)
+  pub front : List ℕ
+  pub back : List ℕ
+  pub split : labels ≡ label ∷ others
+  pub reads : LabelText label front
+  pub stands : text ≡ front ++ back
+  pub behind : BackText others mark back
+
+pub first_text : {labels : List (List ℕ)} {mark : Bool} {text : List ℕ} → LabelsText labels mark text → FirstText labels mark text
+first_text (last {label = label} {text = text} lt) = record { label = label; others = []; front = text; back = []; split = refl; reads = lt; stands = sym (append-nil text); behind = at_end refl refl refl }
+first_text (dotted {label = label} front lt e) = record { label = label; others = []; front = front; back = 46 ∷ []; split = refl; reads = lt; stands = e; behind = at_dot refl refl refl }
+first_text (joined {label = label} {labels = labels} front rest lt ls e) = record { label = label; others = labels; front = front; back = 46 ∷ rest; split = refl; reads = lt; stands = e; behind = further rest refl ls }
+
+pub back_ends : {others : List (List ℕ)} {mark : Bool} {back : List ℕ} → BackText others mark back → IsLabelEnd back
+back_ends {others} {mark} {back} (at_end o m b) = rw b tt
+back_ends {others} {mark} {back} (at_dot o m b) = rw b refl
+back_ends {others} {mark} {back} (further rest b ls) = rw b refl
+
+label_no_end : {label front : List ℕ} (back : List ℕ) → LabelText label front → 1 ≤ length label → IsLabelEnd (front ++ back) → ⊥
+label_no_end back no_octet h e = absurd (omega arith)
+label_no_end back (octet {n = n} f r ot lt w) h e = octet_no_end n f (r ++ back) ot (subst IsLabelEnd (ap (λ (u : List ℕ). u ++ back) w ∙ append_assoc f r back) e)
+
+-- no text of labels begins with a label's end
+pub labels_no_end : {labels : List (List ℕ)} {mark : Bool} {text : List ℕ} → LabelsText labels mark text → AreLabels labels → IsLabelEnd text → ⊥
+labels_no_end {labels} {mark} {text} ls are e =
+    let k = first_text ls in
+    let a : AreLabels (k.label ∷ k.others) = subst AreLabels k.split are in
+    label_no_end k.back k.reads a.0.0 (subst IsLabelEnd k.stands e)
+
+no_rest : {labels : List (List ℕ)} {mark : Bool} (rest : List ℕ) → LabelsText labels mark rest → AreLabels labels → 46 ∷ [] ≡ 46 ∷ rest → ⊥
+no_rest rest ls are e = let n : rest ≡ [] = cc in labels_no_end ls are (rw n tt)
+
+one_back : {a b : List (List ℕ)} {m n : Bool} {x : List ℕ} → BackText a m x → BackText b n x → AreLabels a → AreLabels b → ((rest : List ℕ) → LabelsText a m rest → LabelsText b n rest → (a ≡ b) × (m ≡ n)) → (a ≡ b) × (m ≡ n)
+one_back (at_end o m b) (at_end p n c) h k same = (cc, cc)
+one_back (at_end o m b) (at_dot p n c) h k same = absurd cc
+one_back (at_end o m b) (further rest c ls) h k same = absurd cc
+one_back (at_dot o m b) (at_end p n c) h k same = absurd cc
+one_back (at_dot o m b) (at_dot p n c) h k same = (cc, cc)
+one_back (at_dot o m b) (further rest c ls) h k same = absurd (no_rest rest ls k (sym b ∙ c))
+one_back (further rest b ls) (at_end p n c) h k same = absurd cc
+one_back (further rest b ls) (at_dot p n c) h k same = absurd (no_rest rest ls h (sym c ∙ b))
+one_back {b = others} {n = n} (further rest b ls) (further rest' c ks) h k same =
+    let e : rest' ≡ rest = cc in
+    same rest ls (subst (λ (u : List ℕ). LabelsText others n u) e ks)
+
+-- a text is that of one list of labels, with one mark
+one_labels : (more : ℕ) {a b : List (List ℕ)} {m n : Bool} {s : List ℕ} → length a ≤ more → LabelsText a m s → LabelsText b n s → AreLabels a → AreLabels b → (a ≡ b) × (m ≡ n)
+one_labels zero {a} {b} {m} {n} {s} size ls ks h k = let f = first_text ls in absurd (omega (arith, ap length f.split))
+one_labels (suc more) {a} {b} {m} {n} {s} size ls ks h k =
+    let f = first_text ls in
+    let g = first_text ks in
+    let ha : AreLabels (f.label ∷ f.others) = subst AreLabels f.split h in
+    let ka : AreLabels (g.label ∷ g.others) = subst AreLabels g.split k in
+    let e : f.front ++ f.back ≡ g.front ++ g.back = sym f.stands ∙ g.stands in
+    let u = one_label f.back g.back f.reads g.reads e (back_ends f.behind) (back_ends g.behind) in
+    let u0 : f.label ≡ g.label = u.0 in
+    let u1 : f.front ≡ g.front = u.1 in
+    let back : g.back ≡ f.back = sym (append_cancel_left f.front f.back g.back (e ∙ ap (λ (i : List ℕ). i ++ g.back) (sym u1))) in
+    let bg : BackText g.others n f.back = subst (λ (x : List ℕ). BackText g.others n x) back g.behind in
+    let fs : a ≡ f.label ∷ f.others = f.split in
+    let gs : b ≡ g.label ∷ g.others = g.split in
+    let r = one_back f.behind bg ha.1 ka.1 (λ rest x y. one_labels more (omega (arith, ap length f.split)) x y ha.1 ka.1) in
+    let r0 : f.others ≡ g.others = r.0 in
+    (cc, r.1)
+
+one_marked : {a b : List (List ℕ)} {m n : Bool} {s : List ℕ} → MarkedText a m s → MarkedText b n s → AreLabels a → AreLabels b → (a ≡ b) × (m ≡ n)
+one_marked root root h k = (refl, refl)
+one_marked root (labelled ls) h k = absurd (labels_no_end ls k refl)
+one_marked nothing nothing h k = (refl, refl)
+one_marked nothing (labelled ls) h k = absurd (labels_no_end ls k tt)
+one_marked (labelled ls) root h k = absurd (labels_no_end ls h refl)
+one_marked (labelled ls) nothing h k = absurd (labels_no_end ls h tt)
+one_marked {a} {b} (labelled ls) (labelled ks) h k = one_labels (length a) (omega arith) ls ks h k
+
+made : (x y : DomainName) → x.labels ≡ y.labels → x.fully_qualified ≡ y.fully_qualified → x ≡ y
+made x y e f = let both : (x.labels, x.fully_qualified) ≡ (y.labels, y.fully_qualified) = cc in ap (λ (p : List (List ℕ) × Bool). record { labels = p.0; fully_qualified = p.1 }) both
+
+pub one_name : (text : List ℕ) (x y : DomainName) → IsNameText x text → IsNameText y text → x ≡ y
+one_name text x y a b = let u = one_marked a.reads b.reads a.is_name.labels b.is_name.labels in made x y u.0 u.1
+
+head_octet : (c : ℕ) (label : List ℕ) → AreOctets (c ∷ label) → c < 256
+head_octet c label h = All-head (λ (x : ℕ). x < 256) c label h
+
+head_label : (label : List ℕ) (labels : List (List ℕ)) → All AreOctets (label ∷ labels) → AreOctets label
+head_label label labels h = All-head AreOctets label labels h
+
+tail_labels : (label : List ℕ) (labels : List (List ℕ)) → All AreOctets (label ∷ labels) → All AreOctets labels
+tail_labels label labels h = All-tail AreOctets label labels h
+
+pub label_reads : (label : List ℕ) → AreOctets label → LabelText label (label_text label)
+label_reads [] h = no_octet
+label_reads (c ∷ label) h = octet (printed c) (label_text label) (printed_text c (head_octet c label h)) (label_reads label (All-tail (λ (x : ℕ). x < 256) c label h)) refl
+
+relative_reads : (label : List ℕ) (labels : List (List ℕ)) → All AreOctets (label ∷ labels) → LabelsText (label ∷ labels) false (joined_text (label ∷ labels))
+relative_reads label [] h = rw (append-nil (label_text label)) (last (label_reads label (head_label label [] h)))
+relative_reads label (next ∷ labels) h = joined (label_text label) (joined_text (next ∷ labels)) (label_reads label (head_label label (next ∷ labels) h)) (relative_reads next labels (tail_labels label (next ∷ labels) h)) refl
+
+qualified_reads : (label : List ℕ) (labels : List (List ℕ)) → All AreOctets (label ∷ labels) → LabelsText (label ∷ labels) true (joined_text (label ∷ labels) ++ 46 ∷ [])
+qualified_reads label [] h = dotted (label_text label) (label_reads label (head_label label [] h)) (ap (λ (t : List ℕ). t ++ 46 ∷ []) (append-nil (label_text label)))
+qualified_reads label (next ∷ labels) h = joined (label_text label) (joined_text (next ∷ labels) ++ 46 ∷ []) (label_reads label (head_label label (next ∷ labels) h)) (qualified_reads next labels (tail_labels label (next ∷ labels) h)) (append_assoc (label_text label) (46 ∷ joined_text (next ∷ labels)) (46 ∷ []))
+
+marked_reads : (labels : List (List ℕ)) (mark : Bool) → All AreOctets labels → MarkedText labels mark (name_text (record { labels = labels; fully_qualified = mark }))
+marked_reads [] true h = root
+marked_reads [] false h = nothing
+marked_reads (label ∷ labels) true h = labelled (qualified_reads label labels h)
+marked_reads (label ∷ labels) false h = labelled (rw (append-nil (joined_text (label ∷ labels))) (relative_reads label labels h))
+
+-- what is printed of a name is a text of it
+pub name_reads : (x : DomainName) → IsName x → HasOctets x → IsNameText x (name_text x)
+name_reads x is h = record { is_name = is; reads = marked_reads x.labels x.fully_qualified h }
+
+-- one label more was written behind a dot
+pub joined_more : (text label : List ℕ) (old rest : List (List ℕ)) (whole : List ℕ) → old ≡ label ∷ rest → text ++ flat_map (λ other. 46 ∷ label_text other) old ≡ whole → ((text ++ 46 ∷ []) ++ label_text label) ++ flat_map (λ other. 46 ∷ label_text other) rest ≡ whole
+joined_more text label old rest whole e w =
+    let dots : List (List ℕ) → List ℕ = λ labels. flat_map (λ other. 46 ∷ label_text other) labels in
+    append_assoc (text ++ 46 ∷ []) (label_text label) (dots rest) ∙ append_assoc text (46 ∷ []) (label_text label ++ dots rest) ∙ ap (λ (l : List (List ℕ)). text ++ dots l) (sym e) ∙ w
+
+-- no label is left
+pub joined_all : (text : List ℕ) (old : List (List ℕ)) (whole : List ℕ) → old ≡ [] → text ++ flat_map (λ other. 46 ∷ label_text other) old ≡ whole → text ≡ whole
+joined_all text old whole e w = sym (append-nil text) ∙ ap (λ (l : List (List ℕ)). text ++ flat_map (λ other. 46 ∷ label_text other) l) (sym e) ∙ w

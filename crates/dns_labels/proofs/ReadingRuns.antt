@@ -1,0 +1,121 @@
+-- One run after another makes a name.
+use Rattle.std.proofs.Common.{◌≡◌, ℕ, ◌+◌, ◌/◌, ◌%◌, ◌<◌, ◌≤◌, List, [], ◌∷◌, ◌++◌, length, take, Option, Some, None, refl, sym, ◌∙◌, ap, subst, append_assoc, arith, length-append}
+use Rattle.std.proofs.lemmas.List.{append-nil}
+use Rattle.dns_fields.specs.Labels.{wire, FitsName}
+use Rattle.dns_fields.specs.Names.{LabelsStand}
+use Rattle.dns_fields.specs.Names.LabelsStand.{whole, pointed}
+use Rattle.dns_labels.specs.Reading.{IsRun, AddsRun, IsNameAt}
+use Rattle.dns_fields.proofs.Runs.{same_run, wire-append}
+use Rattle.dns_fields.proofs.Unique.{zero_stop, pointer_stop, same_target}
+
+-- these labels stand from where the run that began at this place leads
+abbrev pub RestStands : List ℕ → ℕ → Option ℕ → List (List ℕ) → Type 0
+RestStands window place None rest = rest ≡ []
+RestStands window place (Some target) rest = (end : ℕ) × (target < place) × LabelsStand (take place window) target rest end
+
+-- labels in two parts, of which the second stands where a run leads
+pub record Parts (labels front : List (List ℕ)) (window : List ℕ) (place : ℕ) (stop : Option ℕ) : Type 0 where
+  pub rest : List (List ℕ)
+  pub joined : labels ≡ front ++ rest
+  pub stands : RestStands window place stop rest
+
+pub run_stands : {w : List ℕ} {p end : ℕ} {front : List (List ℕ)} (stop : Option ℕ) (rest : List (List ℕ)) → IsRun w p front stop end → RestStands w p stop rest → LabelsStand w p (front ++ rest) end
+run_stands {w} {p} {end} {front} None rest r s =
+    let e : front ++ rest ≡ front = rw s (append-nil front) in
+    rw e (whole r.behind r.are r.stands r.ends)
+run_stands {w} {p} {end} {front} (Some t) rest r s = pointed front rest t s.0 r.behind r.are r.stands r.target s.1 s.2 refl r.ends
+
+pub stands_run : {w : List ℕ} {p end e : ℕ} {front labels : List (List ℕ)} (stop : Option ℕ) → IsRun w p front stop end → LabelsStand w p labels e → Parts labels front w p stop
+stands_run {w} {p} {end} {e} {front} {labels} None r (whole b h s ends) =
+    let k = same_run front labels r.behind b 0 0 r.are h zero_stop zero_stop (sym r.stands ∙ s) in
+    record { rest = []; joined = sym k.0 ∙ sym (append-nil front); stands = refl }
+stands_run {w} {p} {end} {e} {front} {labels} (Some t) r (whole b h s ends) =
+    let k = same_run front labels (t % 256 ∷ r.behind) b (192 + t / 256) 0 r.are h (pointer_stop t) zero_stop (sym r.stands ∙ s) in
+    let bad : 192 + t / 256 ≡ 0 = let w = k.1 in cc in
+    absurd (omega arith)
+stands_run {w} {p} {end} {e} {front} {labels} None r (pointed f rest t re b h s lt lp st j ends) =
+    let k = same_run front f r.behind (t % 256 ∷ b) 0 (192 + t / 256) r.are h zero_stop (pointer_stop t) (sym r.stands ∙ s) in
+    let bad : 0 ≡ 192 + t / 256 = let w = k.1 in cc in
+    absurd (omega arith)
+stands_run {w} {p} {end} {e} {front} {labels} (Some u) r (pointed f rest t re b h s lt lp st j ends) =
+    let k = same_run front f (u % 256 ∷ r.behind) (t % 256 ∷ b) (192 + u / 256) (192 + t / 256) r.are h (pointer_stop u) (pointer_stop t) (sym r.stands ∙ s) in
+    let target : t ≡ u = same_target t u b r.behind (sym k.1) in
+    let moved : LabelsStand (take p w) u rest re = subst (λ (q : ℕ). LabelsStand (take p w) q rest re) target st in
+    record { rest = rest; joined = j ∙ ap (λ (x : List (List ℕ)). x ++ rest) (sym k.0); stands = (re, omega arith, moved) }
+
+-- where a name stands, a run stands
+pub record HasRun (w : List ℕ) (p : ℕ) (labels : List (List ℕ)) : Type 0 where
+  pub front : List (List ℕ)
+  pub stop : Option ℕ
+  pub end : ℕ
+  pub rest : List (List ℕ)
+  pub run : IsRun w p front stop end
+  pub joined : labels ≡ front ++ rest
+
+pub has_run : {w : List ℕ} {p e : ℕ} {labels : List (List ℕ)} → LabelsStand w p labels e → HasRun w p labels
+has_run {w} {p} {e} {labels} (whole b h s ends) = record { front = labels; stop = None; end = e; rest = []; run = record { are = h; behind = b; stands = s; target = tt; ends = ends }; joined = sym (append-nil labels) }
+has_run {w} {p} {e} {labels} (pointed f rest t re b h s lt lp st j ends) = record { front = f; stop = Some t; end = e; rest = rest; run = record { are = h; behind = b; stands = s; target = lt; ends = ends }; joined = j }
+
+-- the runs that were read so far begin the name, and the last one leads on
+pub record Pending (message : List ℕ) (start end : ℕ) (window : List ℕ) (place : ℕ) (next : Option ℕ) (octets : List ℕ) : Type 0 where
+  pub front : List (List ℕ)
+  pub same : octets ≡ wire front
+  pub room : length octets ≤ 254
+  pub within : place ≤ length window
+  pub sound : (rest : List (List ℕ)) → RestStands window place next rest → LabelsStand message start (front ++ rest) end
+  pub complete : (labels : List (List ℕ)) (e : ℕ) → LabelsStand message start labels e → Parts labels front window place next
+
+pub first_run : (message : List ℕ) (start end : ℕ) (stop : Option ℕ) (old octets : List ℕ) → old ≡ [] → start ≤ length message → length octets ≤ 254 → AddsRun message start stop end old octets → Pending message start end message start stop octets
+first_run message start end stop old octets none within room a =
+    record {
+      front = a.front;
+      same = a.octets ∙ ap (λ (t : List ℕ). t ++ wire a.front) none;
+      room = room;
+      within = within;
+      sound = λ rest s. run_stands stop rest a.run s;
+      complete = λ labels e s. stands_run stop a.run s;
+    }
+
+pub next_run : (message : List ℕ) (start end : ℕ) (window : List ℕ) (place target : ℕ) (old new : List ℕ) (stop : Option ℕ) (end' : ℕ) → Pending message start end window place (Some target) old → target < place → length new ≤ 254 → AddsRun (take place window) target stop end' old new → target ≤ length (take place window) → Pending message start end (take place window) target stop new
+next_run message start end window place target old new stop end' p before room a within =
+    let joined = append_assoc p.front a.front in
+    record {
+      front = p.front ++ a.front;
+      same = a.octets ∙ ap (λ (t : List ℕ). t ++ wire a.front) p.same ∙ sym (wire-append p.front a.front);
+      room = room;
+      within = within;
+      sound = λ rest s. subst (λ (x : List (List ℕ)). LabelsStand message start x end) (sym (append_assoc p.front a.front rest)) (p.sound (a.front ++ rest) (end', before, run_stands stop rest a.run s));
+      complete = λ labels e s.
+          let outer = p.complete labels e s in
+          let inner = stands_run stop a.run outer.stands.2 in
+          record { rest = inner.rest; joined = outer.joined ∙ ap (λ (x : List (List ℕ)). p.front ++ x) inner.joined ∙ sym (append_assoc p.front a.front inner.rest); stands = inner.stands };
+    }
+
+pub no_more : (message : List ℕ) (start end : ℕ) (window : List ℕ) (place : ℕ) (octets : List ℕ) → Pending message start end window place None octets → IsNameAt message start octets end
+no_more message start end window place octets p =
+    record {
+      labels = p.front;
+      stands = subst (λ (x : List (List ℕ)). LabelsStand message start x end) (append-nil p.front) (p.sound [] refl);
+      fits = omega (arith, p.room, ap length p.same);
+      same = p.same;
+    }
+
+-- no pointer leads forward
+pub not_before : (message : List ℕ) (start end : ℕ) (window : List ℕ) (place target : ℕ) (octets : List ℕ) → Pending message start end window place (Some target) octets → place ≤ target → (labels : List (List ℕ)) (e : ℕ) → LabelsStand message start labels e → ⊥
+not_before message start end window place target octets p h labels e s = let k = (p.complete labels e s).stands in omega (arith, k.1)
+
+-- where no run can be read, no name stands
+pub first_refused : (message : List ℕ) (start : ℕ) (old : List ℕ) → old ≡ [] → ((front : List (List ℕ)) (stop : Option ℕ) (end : ℕ) → IsRun message start front stop end → length old + length (wire front) ≤ 254 → ⊥) → (labels : List (List ℕ)) (e : ℕ) → LabelsStand message start labels e → FitsName labels → ⊥
+first_refused message start old empty none labels e s fits =
+    let r = has_run s in
+    let n : length (wire labels) ≡ length (wire r.front) + length (wire r.rest) = ap (λ (x : List (List ℕ)). length (wire x)) r.joined ∙ ap length (wire-append r.front r.rest) ∙ length-append (wire r.front) (wire r.rest) in
+    none r.front r.stop r.end r.run (omega (arith, ap length empty))
+
+pub next_refused : (message : List ℕ) (start end : ℕ) (window : List ℕ) (place target : ℕ) (octets : List ℕ) → Pending message start end window place (Some target) octets → ((front : List (List ℕ)) (stop : Option ℕ) (end : ℕ) → IsRun (take place window) target front stop end → length octets + length (wire front) ≤ 254 → ⊥) → (labels : List (List ℕ)) (e : ℕ) → LabelsStand message start labels e → FitsName labels → ⊥
+next_refused message start end window place target octets p none labels e s fits =
+    let k = p.complete labels e s in
+    let r = has_run k.stands.2 in
+    let n : length (wire labels) ≡ length (wire p.front) + length (wire k.rest) = ap (λ (x : List (List ℕ)). length (wire x)) k.joined ∙ ap length (wire-append p.front k.rest) ∙ length-append (wire p.front) (wire k.rest) in
+    let m : length (wire k.rest) ≡ length (wire r.front) + length (wire r.rest) = ap (λ (x : List (List ℕ)). length (wire x)) r.joined ∙ ap length (wire-append r.front r.rest) ∙ length-append (wire r.front) (wire r.rest) in
+    let o : length octets ≡ length (wire p.front) = ap length p.same in
+    none r.front r.stop r.end r.run (omega arith)

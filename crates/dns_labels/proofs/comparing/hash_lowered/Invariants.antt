@@ -1,0 +1,6 @@
+use Rattle.std.proofs.Common.{◌≡◌, length, map, take}
+use Rattle.std.specs.Char.{to_ascii_lowercase}
+use Rattle.dns_labels.proofs.comparing.hash_lowered.Given as goal
+
+abbrev pub invariant-loop-place : goal.invariant-loop-place
+invariant-loop-place g l = (length l.lowered ≡ 255) × (take l.place l.lowered ≡ map to_ascii_lowercase (take l.place l.octets))

@@ -1,0 +1,28 @@
+use Rattle.std.proofs.Common.{◌+◌, ◌<◌, ◌∙◌, ap, ◌++◌, ℕ, List, length, take, arith, length-take}
+use Rattle.dns_labels.specs.Reading.{stop_octets}
+use Rattle.dns_labels.proofs.Wrote.{cut_wrote, lacks_room}
+use Rattle.dns_labels.proofs.writing.write_name.Goals as goal
+use Rattle.dns_labels.proofs.writing.write_name.Goals.{then-start-limit-via-then-start-limit, then-start-limit-via-else-start-limit+then-limit-start}
+
+pub returns-then-start-limit-clause-full : goal.returns-then-start-limit-clause-full
+returns-then-start-limit-clause-full c = λ e.
+    let old = c.args.out.now.items in
+    let cut = c.cut_for-cut.result.written in
+    let target = c.cut_for-cut.result.target in
+    let full : c.args.limit < length old + (cut + length (stop_octets target)) = elim c.then-start-limit.branch [
+      | then-start-limit-via-then-start-limit w ↦ omega (arith, c.len-start.ensures)
+      | then-start-limit-via-else-start-limit+then-limit-start w ↦ omega (arith, c.len-start.ensures, c.stop_len.ensures, length-take cut c.args.name.now)
+    ] in
+    lacks_room c.as_slice.result.now old c.args.name.now cut c.args.limit target c.as_slice.ensures.value c.cut_for-cut.ensures.cut full
+
+pub returns-in_ok-extend_from_slice-in-None-clause-ok : goal.returns-in_ok-extend_from_slice-in-None-clause-ok
+returns-in_ok-extend_from_slice-in-None-clause-ok c =
+    let cut = c.cut_for-cut.result.written in
+    cut_wrote c.args.mode c.as_slice.result.now c.args.out.now.items c.extend_from_slice.new.self.items c.extend_from_slice-in-None.new.self.items c.args.name.now cut c.cut_for-cut.result.target _ c.as_slice.ensures.value c.requires c.cut_for-cut.ensures.cut c.cut_for-cut.ensures.whole
+    (c.in_ok-extend_from_slice.ensures.items ∙ ap (λ (x : List ℕ). x ++ take cut c.args.name.now) c.reserve.ensures.items) c.in-None.is c.in_ok-extend_from_slice-in-None.ensures.items
+
+pub returns-in_ok-extend_from_slice-in-Some-clause-ok : goal.returns-in_ok-extend_from_slice-in-Some-clause-ok
+returns-in_ok-extend_from_slice-in-Some-clause-ok c =
+    let cut = c.cut_for-cut.result.written in
+    cut_wrote c.args.mode c.as_slice.result.now c.args.out.now.items c.extend_from_slice.new.self.items c.extend_from_slice-in-Some.new.self.items c.args.name.now cut c.cut_for-cut.result.target _ c.as_slice.ensures.value c.requires c.cut_for-cut.ensures.cut c.cut_for-cut.ensures.whole
+    (c.in_ok-extend_from_slice.ensures.items ∙ ap (λ (x : List ℕ). x ++ take cut c.args.name.now) c.reserve.ensures.items) c.in-Some.is c.in_ok-extend_from_slice-in-Some.ensures.items

@@ -1,0 +1,5 @@
+pub mod Labels
+pub mod Reading
+pub mod Comparing
+pub mod Emission
+pub mod Text

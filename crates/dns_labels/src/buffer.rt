@@ -1,0 +1,82 @@
+//! A name's octets while they are read, without a request for memory.
+
+ghost use Rattle.std.specs.Prelude.{◌≡◌, ◌+◌, ◌<◌, ◌≤◌, [], ◌++◌, ◌∷◌, length, IfOk, slice_set};
+
+use std::alloc::{AllocError, Global};
+use std::marker::Model;
+
+/// The most octets that a name has before the 0 at its end (RFC 1035, 3.1).
+pub(crate) const MAX_OCTETS: usize = 254;
+
+/// At most as many octets as a name has.
+#[derive(Drop)]
+pub(crate) struct NameBuffer {
+    octets: [u8; 254],
+    len: usize,
+}
+
+impl Model for NameBuffer {
+    ghost use Rattle.std.specs.Prelude.{ℕ, List, take, ◌≤◌};
+
+    ghost Value = { List ℕ };
+
+    ghost view = { λ b. take b.len b.octets };
+
+    ghost invariant = { λ b. b.len ≤ 254 };
+}
+
+impl NameBuffer {
+    /// Without an octet.
+    pub(crate) fn new() -> Self
+        ensures { result ≡ [] }
+    {
+        NameBuffer {
+            octets: [0; 254],
+            len: 0,
+        }
+    }
+
+    /// How many octets there are.
+    pub(crate) fn len(&self) -> usize
+        ensures value { result ≡ length self.now }
+        ensures room { length self.now ≤ 254 }
+    {
+        let _ = &self.octets;
+        self.len
+    }
+
+    /// Adds octets at the end.
+    pub(crate) fn extend(&mut self, part: &[u8])
+        requires { length self.old + length part.now ≤ 254 }
+        ensures { self.new ≡ self.old ++ part.now }
+    {
+        let start = self.len;
+        let end = start + part.len();
+        self.octets[start..end].copy_from_slice(part);
+        self.len = end;
+    }
+
+    /// Adds an octet at the end.
+    pub(crate) fn push(&mut self, octet: u8)
+        requires { length self.old < 254 }
+        ensures { self.new ≡ self.old ++ octet ∷ [] }
+    {
+        self.octets[self.len] = octet;
+        self.len += 1;
+    }
+
+    /// Writes the octet at a place.
+    pub(crate) fn set(&mut self, place: usize, octet: u8)
+        requires { place < length self.old }
+        ensures { self.new ≡ slice_set self.old place octet }
+    {
+        self.octets[place] = octet;
+    }
+
+    /// The octets in a vector of just their size.
+    pub(crate) fn to_vec(&self, alloc: Global) -> Result<Vec<u8>, AllocError>
+        ensures { IfOk result (λ v. v.items ≡ self.now) }
+    {
+        Vec::from_slice(alloc, &self.octets[..self.len])
+    }
+}

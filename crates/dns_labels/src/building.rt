@@ -1,0 +1,50 @@
+//! Names put together from labels and from other names.
+
+ghost use Rattle.std.specs.Prelude.{◌≡◌, [], ◌∷◌, ◌++◌, OnOk, OnErr, Err, true};
+ghost use Rattle.dns_fields.specs.Labels.{IsName};
+ghost use Rattle.dns_labels.specs.Labels.{labels_of, AreNameOctets};
+
+use crate::buffer::MAX_OCTETS;
+use crate::error::NameError;
+
+/// Puts a label behind a name's labels.
+///
+/// The error is `Invalid` where the label has no octet or more than 63, or where there would be more than
+/// 255 octets with the 0 at the end. After an error the octets are as before.
+pub fn append_label(octets: &mut Vec<u8>, label: &[u8]) -> Result<(), NameError>
+    requires { AreNameOctets octets.old.items }
+    ensures ok { OnOk result (labels_of octets.new.items ≡ labels_of octets.old.items ++ label.now ∷ []) }
+    ensures octets { AreNameOctets octets.new.items }
+    ensures refused { result ≡ Err NameError.Invalid →
+        IsName (record { labels = labels_of octets.old.items ++ label.now ∷ []; fully_qualified = true }) → ⊥ }
+    ensures err { OnErr result (octets.new.items ≡ octets.old.items) }
+{
+    let count = label.len();
+    if count == 0 || count > 63 || octets.len() + count >= MAX_OCTETS {
+        return Err(NameError::Invalid);
+    }
+    octets.reserve(count + 1)?;
+    octets.extend_from_slice(&[count as u8])?;
+    octets.extend_from_slice(label)?;
+    Ok(())
+}
+
+/// Puts a name's labels behind another name's.
+///
+/// The error is `Invalid` where there would be more than 255 octets with the 0 at the end. After an error the
+/// octets are as before.
+pub fn append_octets(octets: &mut Vec<u8>, other: &[u8]) -> Result<(), NameError>
+    requires octets { AreNameOctets octets.old.items }
+    requires other { AreNameOctets other.now }
+    ensures ok { OnOk result (labels_of octets.new.items ≡ labels_of octets.old.items ++ labels_of other.now) }
+    ensures octets { AreNameOctets octets.new.items }
+    ensures refused { result ≡ Err NameError.Invalid →
+        IsName (record { labels = labels_of octets.old.items ++ labels_of other.now; fully_qualified = true }) → ⊥ }
+    ensures err { OnErr result (octets.new.items ≡ octets.old.items) }
+{
+    if octets.len() + other.len() > MAX_OCTETS {
+        return Err(NameError::Invalid);
+    }
+    octets.extend_from_slice(other)?;
+    Ok(())
+}

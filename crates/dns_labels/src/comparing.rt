@@ -1,0 +1,48 @@
+//! Names compared and hashed without their case (RFC 4343).
+
+ghost use Rattle.std.specs.Prelude.{◌≡◌, ◌≤◌, ◌↔◌, IsTrue, map, length};
+ghost use Rattle.std.specs.Char.{to_ascii_lowercase};
+ghost use Rattle.std.specs.Cmp.Lexicographic.{slice_cmp};
+ghost use Rattle.std.specs.Ordering.{nat_cmp};
+ghost use Rattle.dns_labels.specs.Comparing.{lowered_octets};
+
+use std::cmp::Ordering;
+use std::hash::Hasher;
+
+/// The first difference decides, with A to Z lowered, and a beginning is less.
+///
+/// A length octet is less than `A`, so this orders names' octets as their canonical octets.
+pub fn compare_lowered(a: &[u8], b: &[u8]) -> Ordering
+    ensures { result ≡ slice_cmp nat_cmp (map to_ascii_lowercase a.now) (map to_ascii_lowercase b.now) }
+{
+    let shorter = a.len().min(b.len());
+    for at in 0..shorter {
+        let x = a[at].to_ascii_lowercase();
+        let y = b[at].to_ascii_lowercase();
+        if x != y {
+            return x.cmp(&y);
+        }
+    }
+    a.len().cmp(&b.len())
+}
+
+/// Whether the octets are the same with A to Z lowered.
+#[inline]
+pub fn equal_lowered(a: &[u8], b: &[u8]) -> bool
+    ensures { IsTrue result ↔ (map to_ascii_lowercase a.now ≡ map to_ascii_lowercase b.now) }
+{
+    a.eq_ignore_ascii_case(b)
+}
+
+/// Feeds a name's canonical octets at once: its octets with A to Z lowered, and the 0 at the end.
+pub fn hash_lowered<H: Hasher>(octets: &[u8], state: &mut H)
+    requires { length octets.now ≤ 254 }
+    ensures { state.new ≡ H.write state.old (lowered_octets octets.now) }
+{
+    let mut lowered = [0u8; 255];
+    for (place, octet) in octets.iter().enumerate() {
+        lowered[place] = octet.to_ascii_lowercase();
+    }
+    lowered[octets.len()] = 0;
+    state.write(&lowered[..octets.len() + 1]);
+}

@@ -1,0 +1,53 @@
+//! Why no name was read or written.
+
+ghost use Rattle.std.specs.Prelude.{◌≡◌};
+
+use std::alloc::{AllocError, AllocFailed};
+
+/// Why no name was read.
+#[derive(Clone, Copy, Debug, PartialEq, Eq)]
+pub enum NameError {
+    /// A request for memory was refused.
+    Memory,
+    /// The octets or the text are no name.
+    Invalid,
+}
+
+impl From<AllocError> for NameError {
+    ghost use Rattle.dns_labels.specs.declared.error.NameError.TheVariants.{Memory};
+
+    ghost from_gives = { λ _ e. e ≡ Memory };
+
+    fn from(_e: AllocError) -> NameError {
+        NameError::Memory
+    }
+}
+
+impl<T: Drop> From<AllocFailed<T>> for NameError {
+    ghost use Rattle.dns_labels.specs.declared.error.NameError.TheVariants.{Memory};
+
+    ghost from_gives = { λ _ e. e ≡ Memory };
+
+    fn from(_e: AllocFailed<T>) -> NameError {
+        NameError::Memory
+    }
+}
+
+/// Why no name was written.
+#[derive(Clone, Copy, Debug, PartialEq, Eq)]
+pub enum WriteError {
+    /// A request for memory was refused.
+    Memory,
+    /// There are not so many octets as the name needs.
+    Buffer,
+}
+
+impl From<AllocError> for WriteError {
+    ghost use Rattle.dns_labels.specs.declared.error.WriteError.TheVariants.{Memory};
+
+    ghost from_gives = { λ _ e. e ≡ Memory };
+
+    fn from(_e: AllocError) -> WriteError {
+        WriteError::Memory
+    }
+}

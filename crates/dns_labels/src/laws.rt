@@ -1,0 +1,33 @@
+//! Laws of names on the wire and of their texts.
+
+ghost use Rattle.std.specs.Prelude.{◌≡◌, ◌↔◌, ℕ, ◌<◌, ◌≤◌, ◌++◌, List, length, map};
+ghost use Rattle.std.specs.Char.{to_ascii_lowercase};
+ghost use Rattle.dns_fields.specs.declared.RDataEncoding.{RDataEncoding};
+ghost use Rattle.dns_fields.specs.Labels.{DomainName, IsName, lowname};
+ghost use Rattle.dns_fields.specs.Names.{IsNameIn, NameWrote, SameName};
+ghost use Rattle.dns_labels.specs.Text.{IsNameText, HasOctets, name_text};
+
+/// Names that stand in messages, that were written, and that are compared.
+pub fn names_hold()
+    // from one place stands at most one name, and it has one end
+    ensures one { (m : List ℕ) (p : ℕ) (x y : DomainName) (e f : ℕ) →
+        IsNameIn m p x e → IsNameIn m p y f → (x ≡ y) × (e ≡ f) }
+    // what stands behind a message changes no name in it
+    ensures stays { (m more : List ℕ) (p : ℕ) (x : DomainName) (e : ℕ) →
+        IsNameIn m p x e → IsNameIn (m ++ more) p x e }
+    // what stands for a name ends behind its place, in the message
+    ensures inside { (m : List ℕ) (p : ℕ) (x : DomainName) (e : ℕ) →
+        IsNameIn m p x e → (p < e) × (e ≤ length m) }
+    // what was written is read as an equal name, behind any octets and whatever follows
+    ensures written { (mode : RDataEncoding) (m octets more : List ℕ) (x : DomainName) → NameWrote mode m x octets →
+        (y : DomainName) × SameName x y × IsNameIn (octets ++ more) (length m) y (length octets) }
+    // canonical octets are the same where the labels are, but for the case of their letters
+    ensures lowered { (x y : DomainName) → (lowname x ≡ lowname y)
+        ↔ (map (map to_ascii_lowercase) x.labels ≡ map (map to_ascii_lowercase) y.labels) }
+{}
+
+/// A text is that of one name, and what is printed of a name is a text of it.
+pub fn texts_hold()
+    ensures one { (text : List ℕ) (x y : DomainName) → IsNameText x text → IsNameText y text → x ≡ y }
+    ensures printed { (x : DomainName) → IsName x → HasOctets x → IsNameText x (name_text x) }
+{}

@@ -1,0 +1,69 @@
+//! Whether a name's octets stand as a name at a place.
+
+ghost use Rattle.std.specs.Prelude.{ℕ, ◌≤◌, [], length, take, IfSome};
+ghost use Rattle.std.specs.Bool.{OnTrue};
+ghost use Rattle.dns_labels.specs.Reading.{AddsRun};
+ghost use Rattle.dns_labels.specs.Emission.{StandsFor};
+
+/// How many of the octets stand as labels in the message, up to an octet 0 or a pointer, and the pointer's
+/// place.
+fn match_run(message: &[u8], place: usize, octets: &[u8]) -> Option<(usize, Option<usize>)>
+    requires place { place ≤ length message.now }
+    requires short { length octets.now ≤ 254 }
+    ensures { IfSome result (λ r. (end : ℕ) × AddsRun message.now place r.1 end [] (take r.0 octets.now) × (r.0 ≤ length octets.now)) }
+{
+    let mut at = place;
+    let mut taken = 0usize;
+    'labels: loop {
+        if at >= message.len() {
+            return None;
+        }
+        let first = message[at];
+        let count = first as usize;
+        if count == 0 {
+            return Some((taken, None));
+        }
+        if count >= 192 {
+            if message.len() - at < 2 {
+                return None;
+            }
+            let second = message[at + 1];
+            return Some((taken, Some((count - 192) * 256 + second as usize)));
+        }
+        if count >= 64 || message.len() - at <= count || octets.len() - taken <= count {
+            return None;
+        }
+        if message[at..at + count + 1] != octets[taken..taken + count + 1] {
+            return None;
+        }
+        at += count + 1;
+        taken += count + 1;
+    }
+}
+
+/// Whether the octets' labels are a name that stands in the message from that place.
+pub(crate) fn stands_at(message: &[u8], place: usize, octets: &[u8]) -> bool
+    requires { length octets.now ≤ 254 }
+    ensures { OnTrue result (StandsFor message.now place octets.now) }
+{
+    if place >= message.len() {
+        return false;
+    }
+    let mut window = message;
+    let mut begin = place;
+    let mut matched = 0usize;
+    'runs: loop {
+        let Some((taken, stop)) = match_run(window, begin, &octets[matched..]) else {
+            return false;
+        };
+        matched += taken;
+        let Some(target) = stop else {
+            return matched == octets.len();
+        };
+        if target >= begin {
+            return false;
+        }
+        window = &window[..begin];
+        begin = target;
+    }
+}

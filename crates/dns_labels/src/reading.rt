@@ -1,0 +1,114 @@
+//! Names read from a message.
+
+ghost use Rattle.std.specs.Prelude.{◌≡◌, ℕ, ◌+◌, ◌≤◌, List, [], length, IfOk, IfSome, IfNone, Option, Err, true};
+ghost use Rattle.dns_fields.specs.Labels.{DomainName, FitsName, wire};
+ghost use Rattle.dns_fields.specs.Names.{LabelsStand, IsNameIn};
+ghost use Rattle.dns_labels.specs.Labels.{AreNameOctets, name_of};
+ghost use Rattle.dns_labels.specs.Reading.{IsRun, AddsRun, IsNameAt};
+
+use crate::buffer::{MAX_OCTETS, NameBuffer};
+use crate::error::NameError;
+use std::alloc::Global;
+
+/// Where labels end that stand one behind the other: at an octet 0, or at a pointer to where the others
+/// stand.
+#[derive(Clone, Copy)]
+struct Run {
+    end: usize,
+    next: Option<usize>,
+}
+
+/// Reads labels up to an octet 0 or a pointer.
+fn read_run(message: &[u8], place: usize, octets: &mut NameBuffer) -> Option<Run>
+    requires { place ≤ length message.now }
+    ensures some { IfSome result (λ r. AddsRun message.now place r.next r.end octets.old octets.new) }
+    ensures end { IfSome result (λ r. r.end ≤ length message.now) }
+    ensures room { length octets.new ≤ 254 }
+    ensures none { IfNone result ((front : List (List ℕ)) (stop : Option ℕ) (end : ℕ) →
+        IsRun message.now place front stop end → length octets.old + length (wire front) ≤ 254 → ⊥) }
+{
+    let mut at = place;
+    let mut len = octets.len();
+    'labels: loop {
+        if at >= message.len() {
+            return None;
+        }
+        let first = message[at];
+        let count = first as usize;
+        if count == 0 {
+            return Some(Run {
+                end: at + 1,
+                next: None,
+            });
+        }
+        if count >= 192 {
+            if message.len() - at < 2 {
+                return None;
+            }
+            let second = message[at + 1];
+            return Some(Run {
+                end: at + 2,
+                next: Some((count - 192) * 256 + second as usize),
+            });
+        }
+        if count >= 64 || message.len() - at <= count || len + count >= MAX_OCTETS {
+            return None;
+        }
+        octets.extend(&message[at..at + count + 1]);
+        at += count + 1;
+        len += count + 1;
+    }
+}
+
+/// Reads the octets of a name, and answers where it ends.
+fn read_runs(message: &[u8], start: usize, octets: &mut NameBuffer) -> Option<usize>
+    requires start { start ≤ length message.now }
+    requires empty { octets.old ≡ [] }
+    ensures some { IfSome result (λ end. IsNameAt message.now start octets.new end) }
+    ensures end { IfSome result (λ end. end ≤ length message.now) }
+    ensures none { IfNone result ((labels : List (List ℕ)) (end : ℕ) →
+        LabelsStand message.now start labels end → FitsName labels → ⊥) }
+{
+    let first = read_run(message, start, octets)?;
+    let end = first.end;
+    let mut window = message;
+    let mut place = start;
+    let mut next = first.next;
+    'runs: while let Some(target) = next {
+        if target >= place {
+            return None;
+        }
+        window = &window[..place];
+        let run = read_run(window, target, octets)?;
+        place = target;
+        next = run.next;
+    }
+    Some(end)
+}
+
+/// The octets of the name that stands in a message from a place, and where what stands for it ends.
+///
+/// The letters are kept. A name is labels, each a length of 1 to 63 and its octets, and then a 0; or, in
+/// place of the 0, two octets with the two highest bits set, whose other 14 bits are an earlier place,
+/// from which the rest stands in what is before this part (RFC 1035, 4.1.4). With the 0 it has at most 255
+/// octets. The error is `Invalid` where no name stands, without a request for memory, and there is one
+/// request for a name.
+pub fn read_octets(
+    alloc: Global,
+    message: &[u8],
+    start: usize,
+) -> Result<(Vec<u8>, usize), NameError>
+    requires { start ≤ length message.now }
+    ensures ok { IfOk result (λ r. IsNameIn message.now start (name_of r.0.items true) r.1) }
+    ensures octets { IfOk result (λ r. AreNameOctets r.0.items) }
+    ensures end { IfOk result (λ r. r.1 ≤ length message.now) }
+    ensures refused { result ≡ Err NameError.Invalid → (name : DomainName) (end : ℕ) →
+        IsNameIn message.now start name end → ⊥ }
+{
+    let mut octets = NameBuffer::new();
+    let Some(end) = read_runs(message, start, &mut octets) else {
+        return Err(NameError::Invalid);
+    };
+    let octets = octets.to_vec(alloc)?;
+    Ok((octets, end))
+}

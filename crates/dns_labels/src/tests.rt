@@ -1,0 +1,432 @@
+use crate::Places;
+use crate::building::{append_label, append_octets};
+use crate::comparing::{compare_lowered, equal_lowered, hash_lowered};
+use crate::error::{NameError, WriteError};
+use crate::labels::{LabelIter, count_labels};
+use crate::reading::read_octets;
+use crate::text::{NameText, parse_octets};
+use crate::writing::write_name;
+use dns_fields::RDataEncoding;
+use std::alloc::Global;
+use std::cmp::Ordering;
+use std::hash::{DefaultHasher, Hasher};
+use std::test::Fail;
+
+fn label(alloc: Global, count: usize) -> Result<String, Fail> {
+    let mut text = String::new(alloc);
+    for _ in 0..count {
+        text.push('a')?;
+    }
+    Ok(text)
+}
+
+#[test]
+fn reads_and_prints_texts(rt: HostRuntime) -> Result<(), Fail> {
+    let rows: [(&[u8], &[u8], bool, &[u8]); 12] = [
+        (b".", b"", true, b"."),
+        (b"", b"", false, b""),
+        (b"a\\.b\\000.", b"\x04a.b\x00", true, b"a\\.b\\000."),
+        (
+            b"www.Example.com.",
+            b"\x03www\x07Example\x03com",
+            true,
+            b"www.Example.com.",
+        ),
+        (b"a.b", b"\x01a\x01b", false, b"a.b"),
+        (b"\\065\\-z", b"\x03A-z", false, b"A-z"),
+        (b"\\255.", b"\x01\xff", true, b"\\255."),
+        (b"\\\\.", b"\x01\\", true, b"\\\\."),
+        (b"\\..", b"\x01.", true, b"\\.."),
+        (b"\\032\\127!~", b"\x04 \x7f!~", false, b"\\032\\127!~"),
+        (b"a\\\"b.", b"\x03a\"b", true, b"a\"b."),
+        (b"\\a.\\@", b"\x01a\x01@", false, b"a.@"),
+    ];
+    for (text, octets, mark, printed) in rows {
+        let (read, is_fqdn) = parse_octets(rt.alloc(), text)?;
+        assert_eq!(rt; read.as_slice(), octets, "of {text:?}");
+        assert_eq!(rt; is_fqdn, mark, "of {text:?}");
+        let again = NameText::new(read.as_slice(), is_fqdn).to_string(rt.alloc())?;
+        assert_eq!(rt; again.as_str().as_bytes(), printed, "of {text:?}");
+    }
+    Ok(())
+}
+
+#[test]
+fn refuses_texts(rt: HostRuntime) -> Result<(), Fail> {
+    let rows: [&[u8]; 17] = [
+        b"\\256",
+        b"\\1",
+        b"\\12",
+        b"\\12x",
+        b"a\\",
+        b"a..b",
+        b".a",
+        b"..",
+        b"a b",
+        b"a\x7f",
+        b"\\ ",
+        b"\xc3\xa4",
+        b"a\n",
+        b"\\999.",
+        b"a.\\",
+        b"a..",
+        b"\t",
+    ];
+    for text in rows {
+        let result = parse_octets(rt.alloc(), text);
+        assert!(rt; matches!(&result, Err(NameError::Invalid)), "{text:?}");
+    }
+    Ok(())
+}
+
+#[test]
+fn limits_texts(rt: HostRuntime) -> Result<(), Fail> {
+    let alloc = rt.alloc();
+    let most = label(alloc, 63)?;
+    let (octets, _) = parse_octets(alloc, most.as_str().as_bytes())?;
+    assert_eq!(rt; octets.len(), 64);
+    let long = label(alloc, 64)?;
+    assert!(rt; parse_octets(alloc, long.as_str().as_bytes()).is_err());
+    let last = label(alloc, 61)?;
+    let whole = format!(in alloc; "{most}.{most}.{most}.{last}.")?;
+    let (octets, _) = parse_octets(alloc, whole.as_str().as_bytes())?;
+    assert_eq!(rt; octets.len(), 254);
+    let past = format!(in alloc; "{most}.{most}.{most}.{last}a.")?;
+    assert!(rt; parse_octets(alloc, past.as_str().as_bytes()).is_err());
+    Ok(())
+}
+
+#[test]
+fn reads_names(rt: HostRuntime) -> Result<(), Fail> {
+    let rows: [(&[u8], usize, &[u8], usize); 7] = [
+        (b"\x03www\x00\xc0\x00", 0, b"\x03www", 5),
+        (b"\x03www\x00\xc0\x00", 5, b"\x03www", 7),
+        (
+            b"\x03WwW\x00\x01a\xc0\x00\x01b\xc0\x05more",
+            9,
+            b"\x01b\x01a\x03WwW",
+            13,
+        ),
+        // into a label, where a name stands too
+        (b"\x02\x01a\x00\xc0\x01", 4, b"\x01a", 6),
+        (b"\x00", 0, b"", 1),
+        (b"\x00\xc0\x00", 1, b"", 3),
+        (b"\x01.\x00", 0, b"\x01.", 3),
+    ];
+    for (message, start, octets, end) in rows {
+        let (read, behind) = read_octets(rt.alloc(), message, start)?;
+        assert_eq!(rt; read.as_slice(), octets, "from {start} of {message:?}");
+        assert_eq!(rt; behind, end, "from {start} of {message:?}");
+    }
+    Ok(())
+}
+
+#[test]
+fn refuses_hostile_names(rt: HostRuntime) -> Result<(), Fail> {
+    let rows: [(&[u8], usize); 16] = [
+        // pointers to themselves, forward and past the end
+        (b"\xc0\x00", 0),
+        (b"\x00\xc0\x01", 1),
+        (b"\xc0\x02\x01a\x00", 0),
+        (b"\x00\xc0\x09", 1),
+        (b"\x00\xff\xff", 1),
+        // to a label in front of them, and so to themselves
+        (b"\x01a\xc0\x00", 0),
+        (b"\x01a\xc0\x00", 2),
+        (b"\x01a\x01b\xc0\x00", 2),
+        // into the middle of a label
+        (b"\x03www\x00\xc0\x01", 5),
+        // two pointers that lead to each other
+        (b"\xc0\x02\xc0\x00", 2),
+        // lengths whose two highest bits are 01 and 10
+        (b"\x40", 0),
+        (
+            b"\x41aaaaaaaaaaaaaaaaaaaaaaaaaaaaaaaaaaaaaaaaaaaaaaaaaaaaaaaaaaaaaaaaaaaa\x00",
+            0,
+        ),
+        (b"\x80\x00\x00", 0),
+        (b"\xbf\x00\x00", 0),
+        // no octet, half a pointer
+        (b"", 0),
+        (b"\x00\xc0", 1),
+    ];
+    for (message, start) in rows {
+        let result = read_octets(rt.alloc(), message, start);
+        assert!(rt;
+            matches!(&result, Err(NameError::Invalid)),
+            "from {start} of {message:?}"
+        );
+    }
+    let whole = b"\x03www\x07example\x03com\x00";
+    for end in 0..whole.len() {
+        assert!(rt;
+            read_octets(rt.alloc(), &whole[..end], 0).is_err(),
+            "cut at {end}"
+        );
+    }
+    Ok(())
+}
+
+#[test]
+fn reads_long_chains(rt: HostRuntime) -> Result<(), Fail> {
+    let mut message = Vec::new(rt.alloc());
+    message.extend_from_slice(b"\x01z\x00")?;
+    let mut target = 0u16;
+    for _ in 0..8000 {
+        let place = message.len();
+        message.extend_from_slice(&(0xc000 | target).to_be_bytes())?;
+        target = u16::try_from(place)?;
+    }
+    let start = target as usize;
+    if start > message.len() {
+        return Ok(());
+    }
+    let (octets, end) = read_octets(rt.alloc(), message.as_slice(), start)?;
+    assert_eq!(rt; octets.as_slice(), b"\x01z".as_slice());
+    assert_eq!(rt; end, message.len());
+    Ok(())
+}
+
+#[test]
+fn limits_names(rt: HostRuntime) -> Result<(), Fail> {
+    // three labels of 63 octets, and then one of 61 or 62 that ends in a pointer to them
+    for (count, fits) in [(61u8, true), (62, false)] {
+        let mut message = Vec::new(rt.alloc());
+        for _ in 0..3 {
+            message.push(63)?;
+            for _ in 0..63 {
+                message.push(97)?;
+            }
+        }
+        message.push(0)?;
+        message.push(count)?;
+        for _ in 0..count {
+            message.push(98)?;
+        }
+        message.extend_from_slice(b"\xc0\x00")?;
+        if message.len() < 193 {
+            return Ok(());
+        }
+        let result = read_octets(rt.alloc(), message.as_slice(), 193);
+        assert_eq!(rt; result.is_ok(), fits, "with {count}");
+    }
+    Ok(())
+}
+
+fn written(
+    alloc: Global,
+    places: &mut Places,
+    out: &mut Vec<u8>,
+    mode: RDataEncoding,
+    text: &[u8],
+) -> Result<(), Fail> {
+    let (octets, _) = parse_octets(alloc, text)?;
+    write_name(places, out, mode, 65535, octets.as_slice())?;
+    Ok(())
+}
+
+#[test]
+fn points_to_the_longest_tail(rt: HostRuntime) -> Result<(), Fail> {
+    let alloc = rt.alloc();
+    let mut places = Places::new(alloc);
+    let mut out = Vec::new(alloc);
+    let texts: [&[u8]; 7] = [
+        b"www.example.com.",
+        b"xxx.example.com.",
+        b"yyy.xxx.example.com.",
+        b"WWW.example.com.",
+        b"www.example.com.",
+        b".",
+        b"www.example.com",
+    ];
+    for text in texts {
+        written(
+            alloc,
+            &mut places,
+            &mut out,
+            RDataEncoding::StandardRecord,
+            text,
+        )?;
+    }
+    assert_eq!(rt;
+        out.as_slice(),
+        b"\x03www\x07example\x03com\x00\x03xxx\xc0\x04\x03yyy\xc0\x11\x03WWW\xc0\x04\xc0\x00\x00\xc0\x00".as_slice()
+    );
+    Ok(())
+}
+
+#[test]
+fn points_to_the_least_place(rt: HostRuntime) -> Result<(), Fail> {
+    let alloc = rt.alloc();
+    let mut places = Places::new(alloc);
+    let mut out = Vec::new(alloc);
+    out.push(7)?;
+    written(
+        alloc,
+        &mut places,
+        &mut out,
+        RDataEncoding::Canonical,
+        b"a.b.",
+    )?;
+    written(alloc, &mut places, &mut out, RDataEncoding::Other, b"a.b.")?;
+    written(
+        alloc,
+        &mut places,
+        &mut out,
+        RDataEncoding::StandardRecord,
+        b"c.a.b.",
+    )?;
+    assert_eq!(rt;
+        out.as_slice(),
+        b"\x07\x01a\x01b\x00\x01a\x01b\x00\x01c\xc0\x01".as_slice()
+    );
+    Ok(())
+}
+
+#[test]
+fn finds_each_of_many_names(rt: HostRuntime) -> Result<(), Fail> {
+    let alloc = rt.alloc();
+    let mut places = Places::new(alloc);
+    let mut out = Vec::new(alloc);
+    let mut starts = Vec::new(alloc);
+    for i in 0..600 {
+        let text = format!(in alloc; "n{i}.zone.")?;
+        starts.push(out.len())?;
+        written(
+            alloc,
+            &mut places,
+            &mut out,
+            RDataEncoding::StandardRecord,
+            text.as_str().as_bytes(),
+        )?;
+    }
+    for (i, start) in starts.iter().enumerate() {
+        let text = format!(in alloc; "n{i}.zone.")?;
+        let len = out.len();
+        written(
+            alloc,
+            &mut places,
+            &mut out,
+            RDataEncoding::StandardRecord,
+            text.as_str().as_bytes(),
+        )?;
+        let pointer = (0xc000 | u16::try_from(*start)?).to_be_bytes();
+        assert_eq!(rt; out.get(len..), Some(pointer.as_slice()), "of {text}");
+    }
+    Ok(())
+}
+
+#[test]
+fn keeps_no_place_past_a_pointer(rt: HostRuntime) -> Result<(), Fail> {
+    let alloc = rt.alloc();
+    let mut places = Places::new(alloc);
+    let mut out = Vec::new(alloc);
+    for _ in 0..16383 {
+        out.push(1)?;
+    }
+    for _ in 0..3 {
+        written(
+            alloc,
+            &mut places,
+            &mut out,
+            RDataEncoding::StandardRecord,
+            b"a.b.",
+        )?;
+    }
+    // the first label stands at the last place that a pointer reaches
+    assert_eq!(rt;
+        out.get(16383..),
+        Some(b"\x01a\x01b\x00\xff\xff\xff\xff".as_slice())
+    );
+    Ok(())
+}
+
+#[test]
+fn keeps_to_the_limit(rt: HostRuntime) -> Result<(), Fail> {
+    let alloc = rt.alloc();
+    let mut places = Places::new(alloc);
+    let mut out = Vec::new(alloc);
+    let (octets, _) = parse_octets(alloc, b"abc.")?;
+    let name = octets.as_slice();
+    let short = write_name(
+        &mut places,
+        &mut out,
+        RDataEncoding::StandardRecord,
+        4,
+        name,
+    );
+    assert_eq!(rt; short, Err(WriteError::Buffer));
+    assert_eq!(rt; out.len(), 0);
+    write_name(
+        &mut places,
+        &mut out,
+        RDataEncoding::StandardRecord,
+        5,
+        name,
+    )?;
+    // the whole name does not fit again, and a pointer does
+    write_name(
+        &mut places,
+        &mut out,
+        RDataEncoding::StandardRecord,
+        7,
+        name,
+    )?;
+    assert_eq!(rt; out.as_slice(), b"\x03abc\x00\xc0\x00".as_slice());
+    Ok(())
+}
+
+#[test]
+fn compares_without_case(rt: HostRuntime) -> Result<(), Fail> {
+    assert!(rt; equal_lowered(b"\x03WwW", b"\x03wWw"));
+    assert_eq!(rt; compare_lowered(b"\x01A", b"\x01b"), Ordering::Less);
+    assert_eq!(rt; compare_lowered(b"\x01a\x01a", b"\x01A"), Ordering::Greater);
+    let mut first = DefaultHasher::new();
+    hash_lowered(b"\x03WwW", &mut first);
+    let mut second = DefaultHasher::new();
+    hash_lowered(b"\x03www", &mut second);
+    assert_eq!(rt; first.finish(), second.finish());
+    Ok(())
+}
+
+#[test]
+fn walks_labels(rt: HostRuntime) -> Result<(), Fail> {
+    let (octets, _) = parse_octets(rt.alloc(), b"www.example.com.")?;
+    assert_eq!(rt; count_labels(octets.as_slice()), 3);
+    let mut labels = LabelIter::new(octets.as_slice());
+    assert_eq!(rt; labels.next(), Some(b"www".as_slice()));
+    assert_eq!(rt; labels.next(), Some(b"example".as_slice()));
+    assert_eq!(rt; labels.next(), Some(b"com".as_slice()));
+    assert_eq!(rt; labels.next(), None);
+    assert_eq!(rt; labels.next(), None);
+    Ok(())
+}
+
+#[test]
+fn builds_names(rt: HostRuntime) -> Result<(), Fail> {
+    let (mut octets, _) = parse_octets(rt.alloc(), b"www")?;
+    append_label(&mut octets, b"a.b")?;
+    let (other, _) = parse_octets(rt.alloc(), b"example.com.")?;
+    append_octets(&mut octets, other.as_slice())?;
+    assert_eq!(rt;
+        octets.as_slice(),
+        b"\x03www\x03a.b\x07example\x03com".as_slice()
+    );
+    assert_eq!(rt; append_label(&mut octets, b""), Err(NameError::Invalid));
+    assert_eq!(rt;
+        append_label(&mut octets, &[97; 64]),
+        Err(NameError::Invalid)
+    );
+    append_label(&mut octets, &[97; 63])?;
+    append_label(&mut octets, &[97; 63])?;
+    // 148 octets, and 106 more fit
+    assert_eq!(rt; append_octets(&mut octets, &[]), Ok(()));
+    append_label(&mut octets, &[97; 63])?;
+    assert_eq!(rt;
+        append_label(&mut octets, &[97; 42]),
+        Err(NameError::Invalid)
+    );
+    append_label(&mut octets, &[97; 41])?;
+    assert_eq!(rt; octets.len(), 254);
+    Ok(())
+}

@@ -1,0 +1,266 @@
+//! Texts of names (RFC 1035, 5.1).
+
+ghost use Rattle.std.specs.Prelude.{◌≡◌, ℕ, ◌+◌, ◌<◌, ◌≤◌, List, [], ◌∷◌, ◌++◌, length, take, drop, IfSome, IfNone, IfOk, MatchResult, Err, Some};
+ghost use Rattle.std.specs.Bool.{OnTrue};
+ghost use Rattle.dns_fields.specs.Labels.{DomainName, IsLabel, IsName};
+ghost use Rattle.dns_labels.specs.Labels.{AreNameOctets, name_of};
+ghost use Rattle.dns_labels.specs.Text.{OctetText as IsOctetText, LabelText as IsLabelText, IsNameText, IsLabelEnd, AddsOctets, AddsLabel, HasOctets, printed, label_text, name_text};
+
+use crate::buffer::{MAX_OCTETS, NameBuffer};
+use crate::error::NameError;
+use crate::labels::LabelIter;
+use std::alloc::Global;
+use std::marker::Model;
+use std::{fmt, str};
+
+/// The most octets of a label (RFC 1035, 3.1).
+const MAX_LABEL: usize = 63;
+
+/// The octet whose text begins the text, and that one's length.
+fn read_octet(text: &[u8]) -> Option<(u8, usize)>
+    ensures length { IfSome result (λ r. (1 ≤ r.1) × (r.1 ≤ length text.now)) }
+    ensures found { IfSome result (λ r. IsOctetText r.0 (take r.1 text.now)) }
+    ensures none { IfNone result ((n : ℕ) (t rest : List ℕ) → IsOctetText n t → text.now ≡ t ++ rest → ⊥) }
+{
+    if text.len() == 0 {
+        return None;
+    }
+    let first = text[0];
+    if first != 92 {
+        if first < 33 || first > 126 || first == 46 {
+            return None;
+        }
+        return Some((first, 1));
+    }
+    if text.len() < 2 {
+        return None;
+    }
+    let second = text[1];
+    if second < 48 || second > 57 {
+        if second < 33 || second > 126 {
+            return None;
+        }
+        return Some((second, 2));
+    }
+    if text.len() < 4 {
+        return None;
+    }
+    let third = text[2];
+    let fourth = text[3];
+    if third < 48 || third > 57 || fourth < 48 || fourth > 57 {
+        return None;
+    }
+    let value = (second as u16 - 48) * 100 + (third as u16 - 48) * 10 + (fourth as u16 - 48);
+    if value > 255 {
+        return None;
+    }
+    Some((value as u8, 4))
+}
+
+/// Reads the octets of a label up to a dot or the text's end, and answers how much of the text they take.
+fn read_octets(text: &[u8], octets: &mut NameBuffer) -> Option<usize>
+    ensures some { IfSome result (λ taken. AddsOctets text.now taken octets.old octets.new) }
+    ensures short { length octets.new ≤ length octets.old + 63 }
+    ensures room { length octets.new ≤ 254 }
+    ensures none { IfNone result ((label t rest : List ℕ) → IsLabelText label t → text.now ≡ t ++ rest →
+        IsLabelEnd rest → length label ≤ 63 → length octets.old + length label ≤ 254 → ⊥) }
+{
+    let mut left = MAX_LABEL.min(MAX_OCTETS - octets.len());
+    let mut at = 0usize;
+    'octets: while at < text.len() && text[at] != 46 {
+        if left == 0 {
+            return None;
+        }
+        let (octet, taken) = read_octet(&text[at..])?;
+        octets.push(octet);
+        left -= 1;
+        at += taken;
+    }
+    Some(at)
+}
+
+/// Reads a label up to a dot or the text's end, with its length octet, and answers how much of the text it
+/// takes.
+fn read_label(text: &[u8], octets: &mut NameBuffer) -> Option<usize>
+    ensures some { IfSome result (λ taken. AddsLabel text.now taken octets.old octets.new) }
+    ensures room { length octets.new ≤ 254 }
+    ensures none { IfNone result ((label t rest : List ℕ) → IsLabelText label t → text.now ≡ t ++ rest →
+        IsLabelEnd rest → IsLabel label → length octets.old + (1 + length label) ≤ 254 → ⊥) }
+{
+    let start = octets.len();
+    if start >= MAX_OCTETS {
+        return None;
+    }
+    octets.push(0);
+    let taken = read_octets(text, octets)?;
+    let count = octets.len() - start - 1;
+    if count == 0 {
+        return None;
+    }
+    octets.set(start, count as u8);
+    Some(taken)
+}
+
+/// Reads the octets of a name, and answers whether it is fully qualified.
+fn read_name(text: &[u8], octets: &mut NameBuffer) -> Option<bool>
+    requires { octets.old ≡ [] }
+    ensures some { IfSome result (λ mark. AreNameOctets octets.new × IsNameText (name_of octets.new mark) text.now) }
+    ensures none { IfNone result ((name : DomainName) → IsNameText name text.now → ⊥) }
+{
+    if text.len() == 0 {
+        return Some(false);
+    }
+    if text.len() == 1 && text[0] == 46 {
+        return Some(true);
+    }
+    let mut at = 0usize;
+    'labels: loop {
+        let taken = read_label(&text[at..], octets)?;
+        at += taken;
+        if at == text.len() {
+            return Some(false);
+        }
+        at += 1;
+        if at == text.len() {
+            return Some(true);
+        }
+    }
+}
+
+/// The octets of the name whose text this is, and whether it is fully qualified.
+///
+/// A dot is the root, and no text the relative name without labels. Every other text is labels joined by
+/// dots, with a dot at the end where the name is fully qualified. An octet of a label is a graphic character
+/// of ASCII but `.` and `\`, or `\` and three digits up to 255, or `\` and a graphic character that is no
+/// digit. A label has 1 to 63 octets, and the labels, each with its length octet, and one octet more are at
+/// most 255. The error is `Invalid` for any other text, without a request for memory, and there is one
+/// request for a name.
+pub fn parse_octets(alloc: Global, text: &[u8]) -> Result<(Vec<u8>, bool), NameError>
+    ensures ok { IfOk result (λ r. IsNameText (name_of r.0.items r.1) text.now) }
+    ensures octets { IfOk result (λ r. AreNameOctets r.0.items) }
+    ensures refused { result ≡ Err NameError.Invalid → (name : DomainName) → IsNameText name text.now → ⊥ }
+    // a name's printed text reads back as that name
+    ensures reads_back { (name : DomainName) → IsName name → HasOctets name → text.now ≡ name_text name →
+        MatchResult result (λ r. name_of r.0.items r.1 ≡ name) (λ e. e ≡ NameError.Memory) }
+{
+    let mut octets = NameBuffer::new();
+    let Some(is_fqdn) = read_name(text, &mut octets) else {
+        return Err(NameError::Invalid);
+    };
+    let octets = octets.to_vec(alloc)?;
+    Ok((octets, is_fqdn))
+}
+
+/// Whether an octet stands for itself in a label's text: a graphic character of ASCII but `.` and `\`.
+#[inline]
+fn is_plain(octet: u8) -> bool
+    ensures { OnTrue result (printed octet ≡ octet ∷ []) }
+{
+    33 <= octet && octet <= 126 && octet != 46 && octet != 92
+}
+
+/// Whether each of a label's octets stands for itself in its text.
+fn is_plain_label(label: &[u8]) -> bool
+    ensures { OnTrue result (label_text label.now ≡ label.now) }
+{
+    for octet in label {
+        if !is_plain(*octet) {
+            return false;
+        }
+    }
+    true
+}
+
+/// A label's octets, as they are printed.
+#[derive(Clone, Copy)]
+struct LabelText<'a>(&'a [u8]);
+
+impl fmt::Display for LabelText<'_> {
+    ghost output = { λ l. Some (label_text l.0.now) };
+
+    fn fmt<W: fmt::Write>(&self, f: &mut fmt::Formatter<W>) -> fmt::Result {
+        let label = self.0;
+        if is_plain_label(label) {
+            return f.write_str(str::from_utf8(label).map_err(|_| fmt::Error)?);
+        }
+        for octet in label {
+            f.write(OctetText(*octet))?;
+        }
+        Ok(())
+    }
+}
+
+/// An octet of a label, as it is printed.
+#[derive(Clone, Copy)]
+struct OctetText(u8);
+
+impl fmt::Display for OctetText {
+    ghost output = { λ o. Some (printed o.0) };
+
+    fn fmt<W: fmt::Write>(&self, f: &mut fmt::Formatter<W>) -> fmt::Result {
+        let octet = self.0;
+        if octet == 46 || octet == 92 {
+            f.write_char('\\')?;
+            return f.write_char(octet as char);
+        }
+        if 33 <= octet && octet <= 126 {
+            return f.write_char(octet as char);
+        }
+        f.write_char('\\')?;
+        f.write_char((48 + octet / 100) as char)?;
+        f.write_char((48 + octet / 10 % 10) as char)?;
+        f.write_char((48 + octet % 10) as char)
+    }
+}
+
+/// A name that prints as its text: its labels joined by dots, with a dot at the end where it is fully
+/// qualified.
+///
+/// In a label `.` and `\` stand behind a `\`, and an octet that is no graphic character of ASCII is `\` and
+/// three digits. The root prints a dot, the relative name without labels nothing. Read again, the text is
+/// that name.
+#[derive(Drop)]
+pub struct NameText<'a> {
+    octets: &'a [u8],
+    is_fqdn: bool,
+}
+
+impl<'a> Model for NameText<'a> {
+    ghost use Rattle.dns_fields.specs.Labels.{DomainName};
+    ghost use Rattle.dns_labels.specs.Labels.{AreNameOctets, name_of};
+
+    ghost Value = { DomainName };
+
+    ghost view = { λ t. name_of t.octets.now t.is_fqdn };
+
+    ghost invariant = { λ t. AreNameOctets t.octets.now };
+}
+
+impl<'a> NameText<'a> {
+    /// The text of the name of these octets.
+    pub fn new(octets: &'a [u8], is_fqdn: bool) -> Self
+        requires { AreNameOctets octets.now }
+        ensures { result ≡ name_of octets.now is_fqdn }
+    {
+        NameText { octets, is_fqdn }
+    }
+}
+
+impl fmt::Display for NameText<'_> {
+    ghost output = { λ t. Some (name_text t) };
+
+    fn fmt<W: fmt::Write>(&self, f: &mut fmt::Formatter<W>) -> fmt::Result {
+        let mut labels = LabelIter::new(self.octets);
+        if let Some(first) = labels.next() {
+            f.write(LabelText(first))?;
+        }
+        for label in labels {
+            f.write_str(".")?;
+            f.write(LabelText(label))?;
+        }
+        if self.is_fqdn {
+            f.write_str(".")?;
+        }
+        Ok(())
+    }
+}

@@ -1,0 +1,84 @@
+//! Names written behind other octets, with a pointer in place of a tail that stands there already.
+
+ghost use Rattle.std.specs.Prelude.{◌≡◌, ◌≢◌, ℕ, ◌+◌, ◌<◌, ◌≤◌, Bool, None, Err, length, OnOk, OnErr};
+ghost use Rattle.dns_fields.specs.Names.{NameWrote};
+ghost use Rattle.dns_labels.specs.Labels.{AreNameOctets, name_of};
+ghost use Rattle.dns_labels.specs.Reading.{stop_octets};
+ghost use Rattle.dns_labels.specs.Emission.{IsCut};
+
+use crate::error::WriteError;
+use crate::places::{Places, octets_hash};
+use dns_fields::RDataEncoding;
+
+/// What is written of a name's octets, and where the rest stands already.
+#[derive(Clone, Copy)]
+struct Cut {
+    written: usize,
+    target: Option<usize>,
+}
+
+/// Where a name is cut: only `StandardRecord` leaves a tail out.
+fn cut_for(places: &Places, mode: RDataEncoding, message: &[u8], name: &[u8], hash: u64) -> Cut
+    requires { AreNameOctets name.now }
+    ensures cut { IsCut message.now name.now result.written result.target }
+    ensures whole { mode ≢ RDataEncoding.StandardRecord → (result.written ≡ length name.now) × (result.target ≡ None) }
+{
+    match mode {
+        RDataEncoding::StandardRecord => {
+            let (written, target) = places.longest_tail(message, name, hash);
+            Cut { written, target }
+        }
+        RDataEncoding::Canonical | RDataEncoding::Other => Cut {
+            written: name.len(),
+            target: None,
+        },
+    }
+}
+
+/// How many octets end labels: one, or a pointer's two.
+fn stop_len(target: Option<usize>) -> usize
+    ensures { result ≡ length (stop_octets target) }
+{
+    match target {
+        None => 1,
+        Some(_) => 2,
+    }
+}
+
+/// Writes a name's octets behind others, and notes where.
+///
+/// It is written as labels, each a length octet and its octets, and a 0 (RFC 1035, 3.1). In the mode
+/// `StandardRecord` the longest tail with a label that was noted in the same octets at a place below 16384
+/// is left out, and two octets that point to the least such place end the name (4.1.4). The error is
+/// `Buffer` where what is to be written passes the limit, and so does the whole name; after an error the
+/// octets are as before.
+pub fn write_name(
+    places: &mut Places,
+    out: &mut Vec<u8>,
+    mode: RDataEncoding,
+    limit: usize,
+    name: &[u8],
+) -> Result<(), WriteError>
+    requires { AreNameOctets name.now }
+    ensures ok { OnOk result ((mark : Bool) → NameWrote mode out.old.items (name_of name.now mark) out.new.items) }
+    ensures within { OnOk result (length out.new.items ≤ limit) }
+    ensures err { OnErr result (out.new.items ≡ out.old.items) }
+    ensures full { result ≡ Err WriteError.Buffer → limit < length out.old.items + (length name.now + 1) }
+{
+    let start = out.len();
+    let hash = octets_hash(name);
+    let cut = cut_for(places, mode, out.as_slice(), name, hash);
+    let front = &name[..cut.written];
+    let len = front.len() + stop_len(cut.target);
+    if start > limit || limit - start < len {
+        return Err(WriteError::Buffer);
+    }
+    out.reserve(len)?;
+    places.note(start, front, hash)?;
+    out.extend_from_slice(front)?;
+    match cut.target {
+        None => out.extend_from_slice(&[0])?,
+        Some(place) => { out.extend_from_slice(&[(192 + place / 256) as u8, (place % 256) as u8])? }
+    }
+    Ok(())
+}
