@@ -1,0 +1,48 @@
+#!/usr/bin/env bash
+# Runs the built programs under a counter of requests for memory (tests/requests.c).
+# 1. How many requests one call makes, from the difference of two numbers of rounds.
+# 2. With the first, the second and each later request refused, until a run meets no refusal: the program must print
+#    `memory` alone, with status 3.
+# The last line is 'N as wanted, M not'.
+set -u
+top=$(cd "$(dirname "$0")/.." && pwd)
+dir=$(mktemp -d)
+trap 'rm -rf "$dir"' EXIT
+good=0 bad=0
+want() { if [ "$2" = "$3" ]; then good=$((good + 1)); else bad=$((bad + 1)); echo "not as wanted: $1: $3 in place of $2"; fi; }
+
+"$top/run" read A 0 0 - >/dev/null
+(cd "$top/crates/rdata_bench" && rt run </dev/null >/dev/null 2>"$dir/bench.log") || cat "$dir/bench.log"
+rdata="$top/crates/rdata/out/rdata"
+bench="$top/crates/rdata_bench/out/rdata_bench"
+cc -shared -fPIC -O1 -o "$dir/requests.so" "$top/tests/requests.c" -ldl || { echo "0 as wanted, 1 not"; exit 1; }
+
+counted() { # ROUNDS CALL SAMPLE
+  printf '%s\n' "$3" | REQUESTS_COUNT="$dir/count" LD_PRELOAD="$dir/requests.so" "$bench" "$1" "$2" >/dev/null
+  cat "$dir/count"
+}
+
+# requests of one call: CALL, how many, SAMPLE
+while read -r call times sample; do
+  case "$call" in ''|'#'*) continue ;; esac
+  none=$(counted 0 "$call" "$sample")
+  many=$(counted 1000 "$call" "$sample")
+  want "requests of 1000 times $call of ${sample%% *}" "$((times * 1000))" "$((many - none))"
+done < "$top/tests/requests.txt"
+
+# each request refused in turn
+while IFS= read -r words; do
+  case "$words" in ''|'#'*) continue ;; esac
+  n=1
+  while [ "$n" -le 400 ]; do
+    # shellcheck disable=SC2086
+    output=$(REQUESTS_REFUSE=$n LD_PRELOAD="$dir/requests.so" "$rdata" $words 2>&1)
+    status=$?
+    # shellcheck disable=SC2086
+    if [ "$output" = "$("$rdata" $words 2>&1)" ]; then break; fi
+    want "$words with request $n refused" "memory 3" "$output $status"
+    n=$((n + 1))
+  done
+  want "$words refuses some request and ends" yes "$([ "$n" -gt 1 ] && [ "$n" -le 400 ] && echo yes)"
+done < "$top/tests/refused.txt"
+echo "$good as wanted, $bad not"
