@@ -1,11 +1,11 @@
 -- The laws of record data of every type.
-use Rattle.std.proofs.Common.{◌≡◌, ℕ, ◌+◌, ◌-◌, ◌<◌, ◌≤◌, ◌↔◌, ◌&&◌, Bool, true, false, IsTrue, List, [], ◌∷◌, ◌++◌, length, nat_eq, refl, sym, ap, ◌∙◌, arith, subst, Result, Ok, Err}
+use Rattle.std.proofs.Common.{◌≡◌, ℕ, ◌+◌, ◌-◌, ◌<◌, ◌≤◌, Bool, List, length, sym, ap, ◌∙◌, arith, subst, Result, Ok, Err}
 use Rattle.std.specs.Bool.{Decides}
 use Rattle.std.specs.Result.{IfOk, OnOk}
 use Rattle.std.proofs.lemmas.List.{length-append}
 use Rattle.dns_fields.specs.declared.RDataEncoding.{RDataEncoding}
 use Rattle.dns_fields.specs.Octets.{AreOctets}
-use Rattle.dns_fields.specs.Fields.{Kind, Values, Stands, Same, AllFit, AllFull, AllLawful, Wrote, canonical}
+use Rattle.dns_fields.specs.Fields.{Values, Stands, Same, Wrote, canonical}
 use Rattle.dns_fields.specs.Equal.{values_eq}
 use Rattle.dns_fields.specs.Laws.{IsShape}
 use Rattle.dns_fields.proofs.EqualLaws.{values_decide}
@@ -18,7 +18,7 @@ use Rattle.dns_types.specs.declared.record_type.RecordType.TheVariants as types
 use Rattle.dns_names_wire.specs.State.{Writing}
 use Rattle.dns_names_wire.specs.Words.{Window, Appended, EmitsAs}
 use Rattle.dns_rdata.specs.declared.record_data.RData.{RData}
-use Rattle.dns_rdata.specs.Data.{shape, condition, FieldsOf, fields_of, type_of, IsValue, Fills, data_octets, mode_for}
+use Rattle.dns_rdata.specs.Data.{shape, condition, FieldsOf, fields_of, Fills, data_octets, mode_for}
 use Rattle.dns_rdata.specs.Equal.{equal}
 use Rattle.dns_rdata.specs.Laws.{OneValue, EachWindow, HasEqual, TellsApart, ReadsCanonical, ReadsBack}
 use Rattle.dns_rdata.proofs.Values.{values_as, values_as-same, value_for, value_is, window_value, fields_for, equal_values}

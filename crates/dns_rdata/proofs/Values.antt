@@ -1,10 +1,8 @@
 -- A value of record data is told by its type and its fields.
-use Rattle.std.proofs.Common.{◌≡◌, ℕ, Bool, true, false, ◌&&◌, List, [], ◌∷◌, length, refl, sym, ap, ◌∙◌, arith, nat_eq, IsTrue, get_or}
+use Rattle.std.proofs.Common.{◌≡◌, ℕ, Bool, true, false, ◌&&◌, List, [], ◌∷◌, refl, sym, ap, ◌∙◌, arith}
 use Rattle.std.proofs.lemmas.Bool.Decides.{nat_tests}
 use Rattle.std.specs.Net.Addr.{segments_of, octets_of}
-use Rattle.dns_fields.specs.Labels.{DomainName}
-use Rattle.dns_fields.specs.Octets.{AreOctets}
-use Rattle.dns_fields.specs.Fields.{Kind, Number, Octets, Name, Text, Texts, Rest, Options, Parameters, Bitmap, Value, Values, Stands}
+use Rattle.dns_fields.specs.Fields.{Kind, Number, Octets, Name, Text, Texts, Rest, Options, Parameters, Bitmap, Value, Values}
 use Rattle.dns_fields.specs.Equal.{values_eq}
 use Rattle.dns_fields.proofs.OctetLaws.{AreOctets-at}
 use Rattle.dns_types.specs.declared.record_type.RecordType.{RecordType}
@@ -13,7 +11,7 @@ use Rattle.dns_names_wire.specs.Words.{Window}
 use Rattle.dns_rdata_base.proofs.Addresses.{octets_of-segments, segments_of-octets_of}
 use Rattle.dns_rdata.specs.declared.record_data.RData.{RData}
 use Rattle.dns_rdata.specs.declared.record_data.RData.TheVariants as rdata
-use Rattle.dns_rdata.specs.Data.{shape, condition, FieldsOf, fields_of, type_of, IsRowless, IsPlain, IsValue}
+use Rattle.dns_rdata.specs.Data.{shape, condition, FieldsOf, fields_of, type_of, IsPlain, IsValue}
 use Rattle.dns_rdata.specs.Equal.{equal, record_type_eq}
 
 -- ---- values as those of other kinds

@@ -1,5 +1,5 @@
 -- When two values of record data are equal, and that it is an equivalence.
-use Rattle.std.specs.Prelude.{ℕ, Bool, Option, Some, None}
+use Rattle.std.specs.Prelude.{Bool, Option, Some, None}
 use Rattle.std.specs.Cmp.{IsEquivalence, and_equiv, on_equiv}
 use Rattle.std.specs.Cmp.Lexicographic.{options_equiv}
 use Rattle.std.specs.Option.{option_eq}

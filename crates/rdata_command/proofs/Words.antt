@@ -1,5 +1,5 @@
 -- Words that are numbers and types.
-use Rattle.std.proofs.Common.{◌≡◌, ◌≢◌, ℕ, ◌+◌, ◌*◌, ◌<◌, ◌≤◌, ◌^◌, ◌==◌, Bool, true, false, cond, List, [], ◌∷◌, length, drop, get_or, Option, Some, None, Result, Ok, Err, MatchOption, refl, sym, ap, ◌∙◌, subst, arith, slice_index, codes, inl, inr, ⊎_elim, lit≤}
+use Rattle.std.proofs.Common.{◌≡◌, ℕ, ◌<◌, ◌≤◌, ◌^◌, ◌==◌, false, List, [], ◌∷◌, length, get_or, Result, Ok, Err, MatchOption, refl, sym, ap, ◌∙◌, subst, arith, slice_index, codes, inl, inr, ⊎_elim}
 use Rattle.std.specs.Result.{result_ok}
 use Rattle.std.specs.Str.Parse.{IsNumeral, digits_value, ParsesUnsigned, without_leading_plus}
 use Rattle.std.proofs.lemmas.Int.Digits.{digits_value-lt}
@@ -7,7 +7,7 @@ use Rattle.std.proofs.Math.Nat.{pow-le-pow_right}
 use Rattle.hex.specs.Hex.{decode_of}
 use Rattle.dns_types.specs.declared.error.DecodeError.{DecodeError}
 use Rattle.dns_types.specs.declared.record_type.RecordType.{RecordType}
-use Rattle.dns_types.specs.RecordTypes.{record_type_of, IsTypeText, ReadsType}
+use Rattle.dns_types.specs.RecordTypes.{record_type_of, ReadsType}
 use Rattle.rdata_command.specs.Request.{IsNumberWord, IsTypeWord, IsOctetsWord, Asks, NoRequest}
 
 -- a number of five digits is below 100000

@@ -1,6 +1,5 @@
-use Rattle.std.proofs.Common.{◌≡◌, ◌<◌, ◌^◌, length, ℕ, refl, get_or}
+use Rattle.std.proofs.Common.{◌<◌, ◌^◌, get_or}
 use Rattle.std.proofs.Math.Facts.{Fits-lt-pow}
-use Rattle.std.specs.Net.Addr.{segments_of, octets_of}
 use Rattle.dns_rdata_base.proofs.Addresses.{octets_of-segments_of}
 use Rattle.dns_rdata_base.proofs.aaaa.address_of.Goals as goal
 

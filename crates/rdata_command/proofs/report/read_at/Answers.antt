@@ -1,4 +1,4 @@
-use Rattle.std.proofs.Common.{◌≡◌, ◌∙◌, ap, ℕ, ◌+◌, length, arith}
+use Rattle.std.proofs.Common.{◌≡◌, ◌∙◌, ap, arith}
 use Rattle.dns_names_wire.specs.State.{Reading}
 use Rattle.rdata_command.proofs.report.read_at.Goals as goal
 

@@ -1,4 +1,4 @@
-use Rattle.std.proofs.Common.{◌≡◌, ◌≤◌, ◌==◌, false, length, slice_index, rules, arith}
+use Rattle.std.proofs.Common.{◌≡◌, ◌==◌, false, slice_index, rules, arith}
 use Rattle.rdata_command.proofs.Words.{number_read}
 use Rattle.rdata_command.proofs.request.number.Goals as goal
 

@@ -1,5 +1,4 @@
-use Rattle.std.proofs.Common.{◌≡◌, ◌≤◌, ◌<◌, length, List, [], ◌∷◌, ℕ, codes, string_bytes, refl, sym, ap, ◌∙◌, arith, rules}
-use Rattle.rdata_command.specs.Request.{texts}
+use Rattle.std.proofs.Common.{◌≡◌, codes, refl, arith, rules}
 use Rattle.rdata_command.proofs.Words.{five_items}
 use Rattle.rdata_command.proofs.request.read_words.Goals as goal
 

@@ -1,4 +1,3 @@
-use Rattle.std.proofs.Common.{◌≡◌}
 use Rattle.rdata_command.proofs.Words.{type_read}
 use Rattle.rdata_command.proofs.request.record_type.Goals as goal
 

@@ -1,5 +1,5 @@
-use Rattle.std.proofs.Common.{◌≡◌, ℕ, ◌+◌, ◌-◌, arith, ap, ◌∙◌}
-use Rattle.dns_rdata.proofs.DataReads.{Counted, data_found, data_refused, data_why}
+use Rattle.std.proofs.Common.{arith}
+use Rattle.dns_rdata.proofs.DataReads.{data_found, data_refused, data_why}
 use Rattle.dns_rdata.proofs.DataLaws.{canonical_of}
 use Rattle.dns_rdata.proofs.record_data.RData.read.Goals as goal
 

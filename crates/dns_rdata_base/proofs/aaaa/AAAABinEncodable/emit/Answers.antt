@@ -1,4 +1,4 @@
-use Rattle.std.proofs.Common.{◌≡◌, length, rules, arith}
+use Rattle.std.proofs.Common.{◌≡◌, length, rules}
 use Rattle.dns_names_wire.proofs.FieldWrites.{emits_one, octets_emit}
 use Rattle.dns_rdata_base.proofs.aaaa.AAAABinEncodable.emit.Goals as goal
 
