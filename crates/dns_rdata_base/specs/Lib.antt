@@ -1,3 +1,7 @@
 pub mod A
 pub mod AAAA
+pub mod HINFO
+pub mod Lossy
 pub mod NULL
+pub mod OPENPGPKEY
+pub mod TXT
