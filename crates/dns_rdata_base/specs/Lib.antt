@@ -3,5 +3,6 @@ pub mod AAAA
 pub mod HINFO
 pub mod Lossy
 pub mod NULL
+pub mod Numbered
 pub mod OPENPGPKEY
 pub mod TXT

@@ -1,0 +1,14 @@
+//! The data of DNS records with certificates, keys and fingerprints.
+#![tactic(auto)]
+
+pub mod cert;
+pub mod hexadecimal;
+pub mod smimea;
+pub mod sshfp;
+pub mod tlsa;
+
+pub use cert::CERT;
+pub use hexadecimal::HEX;
+pub use smimea::SMIMEA;
+pub use sshfp::SSHFP;
+pub use tlsa::TLSA;
