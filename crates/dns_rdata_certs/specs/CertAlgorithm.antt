@@ -65,7 +65,7 @@ unfoldable pub cert_algorithm_of : ℕ → Algorithm
 cert_algorithm_of = numbered_of cert_algorithm_number named_cert_algorithms other_cert_algorithm
 
 -- its name, and its number in parentheses where it has one inside
-abbrev pub cert_algorithm_text : Algorithm → List ℕ
+unfoldable pub cert_algorithm_text : Algorithm → List ℕ
 cert_algorithm_text (Reserved n) = codes "Reserved(" ++ decimal n ++ codes ")"
 cert_algorithm_text RSAMD5 = codes "RSAMD5"
 cert_algorithm_text DH = codes "DH"

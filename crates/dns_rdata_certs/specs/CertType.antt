@@ -52,7 +52,7 @@ unfoldable pub cert_type_of : ℕ → CertType
 cert_type_of = numbered_of cert_type_number named_cert_types other_cert_type
 
 -- its name, and its number in parentheses where it has one inside
-abbrev pub cert_type_text : CertType → List ℕ
+unfoldable pub cert_type_text : CertType → List ℕ
 cert_type_text Reserved0 = codes "Reserved0"
 cert_type_text PKIX = codes "PKIX"
 cert_type_text SPKI = codes "SPKI"

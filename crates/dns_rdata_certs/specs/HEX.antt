@@ -1,6 +1,5 @@
 -- Octets as hexadecimal text.
-use Rattle.std.specs.Prelude.{◌≡◌, ℕ, ◌==◌, ◌||◌, Bool, List, filter, Result, Ok, Err}
-use Rattle.std.specs.Bool.{not}
+use Rattle.std.specs.Prelude.{◌≡◌, ℕ, ◌==◌, ◌||◌, Bool, List, filter, not, Result, Ok, Err}
 use Rattle.std.specs.declared.vec.Vec.{Vec}
 use Rattle.std.specs.declared.alloc.Global.{Global}
 use Rattle.hex.specs.declared.error.FromHexError.{FromHexError}

@@ -67,7 +67,8 @@ impl CERT {
             return Err(DecodeError::IncorrectRDataLengthRead { read, len: 65535 });
         }
         let mut decoder = BinDecoder::new(alloc, octets);
-        CERT::read_data(&mut decoder, Restrict::new(read as u16))
+        let _start = decoder.index();
+        CERT::read_filled(&mut decoder, Restrict::new(read as u16))
     }
 
     // Reads the fields that fill the length.

@@ -1,7 +1,7 @@
 //! The algorithm of a certificate in CERT (RFC 4398, 2).
 
 ghost use Rattle.std.specs.Prelude.{◌≡◌, IfErr, OnErr};
-ghost use Rattle.dns_names_wire.specs.Words.{LacksOctets};
+ghost use Rattle.dns_names_wire.specs.Words.{ReadsBy, LacksOctets};
 ghost use Rattle.dns_rdata_certs.specs.CertAlgorithm.{cert_algorithm_number, cert_algorithm_variant, cert_algorithm_of};
 
 use dns_names_wire::{BinDecodable, BinDecoder, DecodeError};
@@ -232,6 +232,7 @@ impl BinDecodable for Algorithm {
     /// Reads the number in one octet. Where none is left, it is refused, and takes none.
     #[inline]
     fn read(decoder: &mut BinDecoder<'_>) -> Result<Algorithm, DecodeError>
+        ensures reads { ReadsBy (NumberedAt 1 cert_algorithm_number cert_algorithm_of) result decoder.old decoder.new }
         ensures lacking { IfErr result (λ e. (e ≡ DecodeError.InsufficientBytes) × LacksOctets decoder.old 1) }
         ensures unchanged { OnErr result (decoder.new ≡ decoder.old) }
     {
@@ -247,6 +248,7 @@ impl fmt::Display for Algorithm {
     ghost output = { λ e. Some (cert_algorithm_text e) };
 
     /// The variant's name, and its number in parentheses where it has one inside: `RSASHA256`, `Unassigned(18)`.
+    #[tactic(auto, unfolding(crate::specs::CertAlgorithm::cert_algorithm_text))]
     fn fmt<W: fmt::Write>(&self, f: &mut fmt::Formatter<W>) -> fmt::Result {
         match *self {
             Algorithm::Reserved(number) => write!(f, "Reserved({number})"),

@@ -1,7 +1,7 @@
 //! The type of a certificate in CERT (RFC 4398, 2.1).
 
 ghost use Rattle.std.specs.Prelude.{◌≡◌, IfErr, OnErr};
-ghost use Rattle.dns_names_wire.specs.Words.{LacksOctets};
+ghost use Rattle.dns_names_wire.specs.Words.{ReadsBy, LacksOctets};
 ghost use Rattle.dns_rdata_certs.specs.CertType.{cert_type_number, cert_type_variant, cert_type_of};
 
 use dns_names_wire::{BinDecodable, BinDecoder, DecodeError};
@@ -201,6 +201,7 @@ impl BinDecodable for CertType {
     /// Reads the number in two octets, the higher one first. Where fewer are left, it is refused, and takes none.
     #[inline]
     fn read(decoder: &mut BinDecoder<'_>) -> Result<CertType, DecodeError>
+        ensures reads { ReadsBy (NumberedAt 2 cert_type_number cert_type_of) result decoder.old decoder.new }
         ensures lacking { IfErr result (λ e. (e ≡ DecodeError.InsufficientBytes) × LacksOctets decoder.old 2) }
         ensures unchanged { OnErr result (decoder.new ≡ decoder.old) }
     {
@@ -216,6 +217,7 @@ impl fmt::Display for CertType {
     ghost output = { λ e. Some (cert_type_text e) };
 
     /// The variant's name, and its number in parentheses where it has one inside: `PKIX`, `Unassigned(9)`.
+    #[tactic(auto, unfolding(crate::specs::CertType::cert_type_text))]
     fn fmt<W: fmt::Write>(&self, f: &mut fmt::Formatter<W>) -> fmt::Result {
         match *self {
             CertType::Reserved0 => f.write_str("Reserved0"),
