@@ -57,10 +57,10 @@ reads_more {old} {d} {b} {end} {xs} {s} lt r f =
       behind = omega (arith, r.behind, (field_inside g).0);
       took = texts_push r.took g;
       rest = λ ws h.
-        let vs = r.rest ws h in
-        let x = first_text old.message d.index end vs.0 lt vs.1 in
-        let there : d.index + length (string x.0) ≡ b.index = field_end {k = Text} tt x.2 g in
-        (x.1, subst (λ (q : ℕ). Field old.message q Texts x.1 end) there x.3);
+          let vs = r.rest ws h in
+          let x = first_text old.message d.index end vs.0 lt vs.1 in
+          let there : d.index + length (string x.0) ≡ b.index = field_end {k = Text} tt x.2 g in
+          (x.1, subst (λ (q : ℕ). Field old.message q Texts x.1 end) there x.3);
     }
 
 pub longer : {d b : Reading} {s : List ℕ} → TookField d Text s b → d.index < b.index
@@ -74,13 +74,15 @@ taken r = record { message = r.message; field = r.took }
 -- a string is refused on the way
 pub reads_none : {e : DecodeError} {old d b : Reading} {end : ℕ} {xs : List (List ℕ)} (n : ℕ) → end ≡ old.index + n → d.index < end → ReadsOn old end xs d → RefusedField e d Text b → RefusedWindow e old n txt_shape any_strings b
 reads_none {e} {old} {d} {b} {end} {xs} n is lt r f = record {
-    behind = record { message = f.behind.message ∙ r.message; index = omega (arith, r.behind, f.behind.index) };
-    none = unless_map e _ _ (λ (l : LacksField d Text). record { none = λ vs w.
-      let h : Field old.message old.index Texts vs.0 end = rw (is, ← w.stands.2) w.stands.1 in
-      let ws = r.rest vs.0 h in
-      let x = first_text old.message d.index end ws.0 lt ws.1 in
-      l.none x.0 (d.index + length (string x.0)) (subst (λ (m : List ℕ). Field m d.index Text x.0 (d.index + length (string x.0))) (sym r.message) x.2) }) f.none;
-  }
+  behind = record { message = f.behind.message ∙ r.message; index = omega (arith, r.behind, f.behind.index) };
+  none = unless_map e _ _ (λ (l : LacksField d Text). record {
+    none = λ vs w.
+        let h : Field old.message old.index Texts vs.0 end = rw (is, ← w.stands.2) w.stands.1 in
+        let ws = r.rest vs.0 h in
+        let x = first_text old.message d.index end ws.0 lt ws.1 in
+        l.none x.0 (d.index + length (string x.0)) (subst (λ (m : List ℕ). Field m d.index Text x.0 (d.index + length (string x.0))) (sym r.message) x.2);
+  }) f.none;
+}
 
 -- because it lacks octets
 pub reads_lacking : {old d b : Reading} {end : ℕ} {xs : List (List ℕ)} (n : ℕ) → end ≡ old.index + n → d.index < end → ReadsOn old end xs d → LacksText d b → LacksString n old b
@@ -97,12 +99,14 @@ reads_stopped_behind {old} {d} {b} n r f = record { behind = record { message = 
 -- or the end is reached
 pub reads_done : {old d : Reading} {end : ℕ} {xs : List (List ℕ)} (n : ℕ) → Given old n → end ≡ old.index + n → end ≤ d.index → ReadsOn old end xs d → TookWindow old n txt_shape any_strings (xs, tt) d
 reads_done {old} {d} {end} {xs} n g is le r = record {
-    behind = record { message = r.message; index = r.behind };
-    here = λ same.
+  behind = record { message = r.message; index = r.behind };
+  here = λ same.
       let f : Field old.message old.index Texts xs (old.index + n) = subst (λ (q : ℕ). Field old.message old.index Texts xs q) same r.took in
       record { octets = g.octets; short = g.short; within = (field_inside f).1; stands = (old.index + n, f, refl); holds = tt };
-    elsewhere = λ ne. record { none = λ vs w.
-      let h : Field old.message old.index Texts vs.0 end = rw (is, ← w.stands.2) w.stands.1 in
-      let ws = r.rest vs.0 h in
-      ne (omega (arith, (field_inside ws.1).0, is, le)) };
-  }
+  elsewhere = λ ne. record {
+    none = λ vs w.
+        let h : Field old.message old.index Texts vs.0 end = rw (is, ← w.stands.2) w.stands.1 in
+        let ws = r.rest vs.0 h in
+        ne (omega (arith, (field_inside ws.1).0, is, le));
+  };
+}

@@ -28,24 +28,24 @@ no_strings w = record { keeps = keeps_same w; field = record { is = (tt, sym (ap
 pub more_strings : {w b e : Writing} {xs : List (List ℕ)} {s : List ℕ} → AppendedField w Texts xs b → AppendedField b Text s e → AppendedField w Texts (xs ++ s ∷ []) e
 more_strings {w} {b} {e} {xs} {s} f g =
     let octets : e.octets ≡ w.octets ++ flat_map string (xs ++ s ∷ []) =
-      g.field.is.1 ∙ ap (λ (t : List ℕ). t ++ string s) f.field.is.1 ∙ append_assoc w.octets (flat_map string xs) (string s)
-      ∙ ap (λ (t : List ℕ). w.octets ++ t) (sym (joined xs s [] ∙ ap (λ (t : List ℕ). flat_map string xs ++ t) (append-nil (string s)))) in
+    g.field.is.1 ∙ ap (λ (t : List ℕ). t ++ string s) f.field.is.1 ∙ append_assoc w.octets (flat_map string xs) (string s)
+    ∙ ap (λ (t : List ℕ). w.octets ++ t) (sym (joined xs s [] ∙ ap (λ (t : List ℕ). flat_map string xs ++ t) (append-nil (string s)))) in
     record { keeps = keeps_then f.keeps g.keeps; field = record { is = (fits_push xs s f.field.is.0 g.field.is.0, octets) } }
 
 -- a string is refused behind others
 pub stopped_strings : {e : ProtoError} {w b n : Writing} (xs : List (List ℕ)) (s : List ℕ) (ys : List (List ℕ)) → AppendedField w Texts xs b → StoppedField e b Text s n → StoppedField e w Texts (xs ++ s ∷ ys) n
 unfolding field_octets
 stopped_strings {e} {w} {b} {n} xs s ys f g = record {
-    extends = record {
-      keeps = keeps_then f.keeps g.extends.keeps;
-      tail = flat_map string xs ++ g.extends.tail;
-      octets = g.extends.octets ∙ ap (λ (t : List ℕ). t ++ g.extends.tail) f.field.is.1 ∙ append_assoc w.octets (flat_map string xs) g.extends.tail;
-    };
-    why = because_map e _ _ _ _
+  extends = record {
+    keeps = keeps_then f.keeps g.extends.keeps;
+    tail = flat_map string xs ++ g.extends.tail;
+    octets = g.extends.octets ∙ ap (λ (t : List ℕ). t ++ g.extends.tail) f.field.is.1 ∙ append_assoc w.octets (flat_map string xs) g.extends.tail;
+  };
+  why = because_map e _ _ _ _
       (λ (r : NoRoomField b Text s). record { full = omega (arith, r.full, f.keeps.limit, ap length f.field.is.1, length-append w.octets (flat_map string xs), ap length (joined xs s ys), length-append (flat_map string xs) (string s ++ flat_map string ys), length-append (string s) (flat_map string ys)) })
       (λ (u : UnfitField Text s). record { unfit = λ h. u.unfit (fits_inner xs s ys h) })
       g.why;
-  }
+}
 
 -- a list about one of its places
 pub list_at : (i : ℕ) (xs : List (List ℕ)) (x : List ℕ) → x ≡ get_or xs i x → i < length xs → take i xs ++ x ∷ drop (i + 1) xs ≡ xs

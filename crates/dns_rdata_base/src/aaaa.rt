@@ -6,7 +6,9 @@ ghost use Rattle.dns_names_wire.specs.Words.{ReadsIf, ReadsBy, ReadsWindow, Emit
 ghost use Rattle.dns_rdata_base.specs.AAAA.{aaaa_shape, aaaa_fields};
 
 use crate::traits::{RecordDataDecodable, TakesOctet};
-use dns_names_wire::{BinDecodable, BinDecoder, BinEncodable, BinEncoder, DecodeError, ProtoError, Restrict};
+use dns_names_wire::{
+    BinDecodable, BinDecoder, BinEncodable, BinEncoder, DecodeError, ProtoError, Restrict,
+};
 use std::fmt;
 use std::hash::{Hash, Hasher};
 use std::net::Ipv6Addr;

@@ -8,7 +8,9 @@ ghost use Rattle.dns_rdata_base.specs.HINFO.{hinfo_shape, hinfo_fields, hinfo_re
 
 use crate::traits::RecordDataDecodable;
 use bstr::BStr;
-use dns_names_wire::{BinDecodable, BinDecoder, BinEncodable, BinEncoder, DecodeError, Octets, ProtoError, Restrict};
+use dns_names_wire::{
+    BinDecodable, BinDecoder, BinEncodable, BinEncoder, DecodeError, Octets, ProtoError, Restrict,
+};
 use std::alloc::AllocError;
 use std::boxed::BoxedSlice;
 use std::fmt;

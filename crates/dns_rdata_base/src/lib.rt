@@ -6,6 +6,8 @@ pub mod aaaa;
 pub mod hinfo;
 pub mod null;
 pub mod openpgpkey;
+#[cfg(test)]
+mod tests;
 pub mod traits;
 pub mod txt;
 

@@ -7,7 +7,9 @@ ghost use Rattle.dns_rdata_base.specs.NULL.{null_shape, null_fields};
 use crate::traits::RecordDataDecodable;
 use base64::display::Base64Display;
 use base64::engine::general_purpose::STANDARD;
-use dns_names_wire::{BinDecoder, BinEncodable, BinEncoder, DecodeError, Octets, ProtoError, Restrict};
+use dns_names_wire::{
+    BinDecoder, BinEncodable, BinEncoder, DecodeError, Octets, ProtoError, Restrict,
+};
 use std::alloc::{AllocError, Global};
 use std::fmt;
 

@@ -7,7 +7,9 @@ ghost use Rattle.dns_rdata_base.specs.OPENPGPKEY.{openpgpkey_shape, openpgpkey_f
 use crate::traits::RecordDataDecodable;
 use base64::display::Base64Display;
 use base64::engine::general_purpose::STANDARD;
-use dns_names_wire::{BinDecoder, BinEncodable, BinEncoder, DecodeError, Octets, ProtoError, Restrict};
+use dns_names_wire::{
+    BinDecoder, BinEncodable, BinEncoder, DecodeError, Octets, ProtoError, Restrict,
+};
 use std::alloc::AllocError;
 use std::fmt;
 
@@ -73,7 +75,10 @@ impl RecordDataDecodable for OPENPGPKEY {
     /// Reads all octets of the length, by one request for memory. Where fewer are left, or memory runs out, it is
     /// refused, and takes none.
     #[inline]
-    fn read_data(decoder: &mut BinDecoder<'_>, length: Restrict<u16>) -> Result<OPENPGPKEY, DecodeError>
+    fn read_data(
+        decoder: &mut BinDecoder<'_>,
+        length: Restrict<u16>,
+    ) -> Result<OPENPGPKEY, DecodeError>
         ensures window { ReadsWindow openpgpkey_shape (λ _. Unit {0}) openpgpkey_fields length result decoder.old decoder.new }
         ensures refused { IfErr result (λ e. openpgpkey_refusal length decoder.old e decoder.new) }
     {

@@ -8,7 +8,9 @@ ghost use Rattle.dns_rdata_base.specs.TXT.{txt_shape, txt_fields, txt_refusal};
 
 use crate::traits::RecordDataDecodable;
 use bstr::BStr;
-use dns_names_wire::{BinDecoder, BinEncodable, BinEncoder, DecodeError, Octets, ProtoError, Restrict};
+use dns_names_wire::{
+    BinDecoder, BinEncodable, BinEncoder, DecodeError, Octets, ProtoError, Restrict,
+};
 use dns_types::Strings;
 use std::alloc::AllocError;
 use std::fmt;

@@ -45,19 +45,34 @@ tlsa_fields-from vs =
 
 pub tlsa_from-read : (vs : Values tlsa_shape) → IsReadTlsa (tlsa_from vs)
 tlsa_from-read vs = record {
-    usage = sym (ap cert_usage_of (cert_usage_number-of vs.0));
-    selector = sym (ap selector_of (selector_number-of vs.1.0));
-    matching = sym (ap matching_of (matching_number-of vs.1.1.0));
-  }
+  usage = sym (ap cert_usage_of (cert_usage_number-of vs.0));
+  selector = sym (ap selector_of (selector_number-of vs.1.0));
+  matching = sym (ap matching_of (matching_number-of vs.1.1.0));
+}
 
 pub tlsa_keys-same : (a b : TLSA) → IsReadTlsa a → IsReadTlsa b → Same tlsa_key_shape (tlsa_keys a) (tlsa_keys b) ↔ Same tlsa_shape (tlsa_fields a) (tlsa_fields b)
 tlsa_keys-same a b x y = (
-    λ s. (s.0, (s.1.1.0, (s.1.1.1.1.0, (s.1.1.1.1.1.1.0, tt)))),
-    λ s.
-      (s.0, (record { is = ap cert_usage_variant (one_of_number cert_usage_number cert_usage_of a.cert_usage b.cert_usage x.usage y.usage s.0.is) },
-      (s.1.0, (record { is = ap selector_variant (one_of_number selector_number selector_of a.selector b.selector x.selector y.selector s.1.0.is) },
-      (s.1.1.0, (record { is = ap matching_variant (one_of_number matching_number matching_of a.matching b.matching x.matching y.matching s.1.1.0.is) },
-      (s.1.1.1.0, tt))))))))
+  λ s. (s.0, (s.1.1.0, (s.1.1.1.1.0, (s.1.1.1.1.1.1.0, tt)))),
+  λ s. (
+    s.0,
+    (
+      record { is = ap cert_usage_variant (one_of_number cert_usage_number cert_usage_of a.cert_usage b.cert_usage x.usage y.usage s.0.is) },
+      (
+        s.1.0,
+        (
+          record { is = ap selector_variant (one_of_number selector_number selector_of a.selector b.selector x.selector y.selector s.1.0.is) },
+          (
+            s.1.1.0,
+            (
+              record { is = ap matching_variant (one_of_number matching_number matching_of a.matching b.matching x.matching y.matching s.1.1.0.is) },
+              (s.1.1.1.0, tt),
+            ),
+          ),
+        ),
+      ),
+    ),
+  ),
+)
 
 -- ---- SMIMEA
 
@@ -93,17 +108,27 @@ sshfp_fields-from vs =
 
 pub sshfp_from-read : (vs : Values sshfp_shape) → IsReadSshfp (sshfp_from vs)
 sshfp_from-read vs = record {
-    algorithm = sym (ap sshfp_algorithm_of (sshfp_algorithm_number-of vs.0));
-    type = sym (ap fingerprint_type_of (fingerprint_type_number-of vs.1.0));
-  }
+  algorithm = sym (ap sshfp_algorithm_of (sshfp_algorithm_number-of vs.0));
+  type = sym (ap fingerprint_type_of (fingerprint_type_number-of vs.1.0));
+}
 
 pub sshfp_keys-same : (a b : SSHFP) → IsReadSshfp a → IsReadSshfp b → Same sshfp_key_shape (sshfp_keys a) (sshfp_keys b) ↔ Same sshfp_shape (sshfp_fields a) (sshfp_fields b)
 sshfp_keys-same a b x y = (
-    λ s. (s.0, (s.1.1.0, (s.1.1.1.1.0, tt))),
-    λ s.
-      (s.0, (record { is = ap sshfp_algorithm_variant (one_of_number sshfp_algorithm_number sshfp_algorithm_of a.algorithm b.algorithm x.algorithm y.algorithm s.0.is) },
-      (s.1.0, (record { is = ap fingerprint_type_variant (one_of_number fingerprint_type_number fingerprint_type_of a.fingerprint_type b.fingerprint_type x.type y.type s.1.0.is) },
-      (s.1.1.0, tt))))))
+  λ s. (s.0, (s.1.1.0, (s.1.1.1.1.0, tt))),
+  λ s. (
+    s.0,
+    (
+      record { is = ap sshfp_algorithm_variant (one_of_number sshfp_algorithm_number sshfp_algorithm_of a.algorithm b.algorithm x.algorithm y.algorithm s.0.is) },
+      (
+        s.1.0,
+        (
+          record { is = ap fingerprint_type_variant (one_of_number fingerprint_type_number fingerprint_type_of a.fingerprint_type b.fingerprint_type x.type y.type s.1.0.is) },
+          (s.1.1.0, tt),
+        ),
+      ),
+    ),
+  ),
+)
 
 -- ---- CERT
 
@@ -122,15 +147,27 @@ cert_fields-from vs =
 
 pub cert_from-read : (vs : Values cert_shape) → IsReadCert (cert_from vs)
 cert_from-read vs = record {
-    type = sym (ap cert_type_of (cert_type_number-of vs.0));
-    algorithm = sym (ap cert_algorithm_of (cert_algorithm_number-of vs.1.1.0));
-  }
+  type = sym (ap cert_type_of (cert_type_number-of vs.0));
+  algorithm = sym (ap cert_algorithm_of (cert_algorithm_number-of vs.1.1.0));
+}
 
 pub cert_keys-same : (a b : CERT) → IsReadCert a → IsReadCert b → Same cert_key_shape (cert_keys a) (cert_keys b) ↔ Same cert_shape (cert_fields a) (cert_fields b)
 cert_keys-same a b x y = (
-    λ s. (s.0, (s.1.1.0, (s.1.1.1.0, (s.1.1.1.1.1.0, tt)))),
-    λ s.
-      (s.0, (record { is = ap cert_type_variant (one_of_number cert_type_number cert_type_of a.cert_type b.cert_type x.type y.type s.0.is) },
-      (s.1.0,
-      (s.1.1.0, (record { is = ap cert_algorithm_variant (one_of_number cert_algorithm_number cert_algorithm_of a.algorithm b.algorithm x.algorithm y.algorithm s.1.1.0.is) },
-      (s.1.1.1.0, tt)))))))
+  λ s. (s.0, (s.1.1.0, (s.1.1.1.0, (s.1.1.1.1.1.0, tt)))),
+  λ s. (
+    s.0,
+    (
+      record { is = ap cert_type_variant (one_of_number cert_type_number cert_type_of a.cert_type b.cert_type x.type y.type s.0.is) },
+      (
+        s.1.0,
+        (
+          s.1.1.0,
+          (
+            record { is = ap cert_algorithm_variant (one_of_number cert_algorithm_number cert_algorithm_of a.algorithm b.algorithm x.algorithm y.algorithm s.1.1.0.is) },
+            (s.1.1.1.0, tt),
+          ),
+        ),
+      ),
+    ),
+  ),
+)

@@ -27,11 +27,22 @@ abbrev pub cert_key_shape : List Kind
 cert_key_shape = Number 2 ∷ Number 1 ∷ Number 2 ∷ Number 1 ∷ Number 1 ∷ Rest ∷ []
 
 abbrev pub cert_keys : CERT → Values cert_key_shape
-cert_keys x =
-    (cert_type_number x.cert_type, (cert_type_variant x.cert_type,
-    (x.key_tag,
-    (cert_algorithm_number x.algorithm, (cert_algorithm_variant x.algorithm,
-    (x.cert_data, tt))))))
+cert_keys x = (
+  cert_type_number x.cert_type,
+  (
+    cert_type_variant x.cert_type,
+    (
+      x.key_tag,
+      (
+        cert_algorithm_number x.algorithm,
+        (
+          cert_algorithm_variant x.algorithm,
+          (x.cert_data, tt),
+        ),
+      ),
+    ),
+  ),
+)
 
 -- the enums are those of their numbers
 pub record IsReadCert (x : CERT) : Type 0 where

@@ -21,10 +21,19 @@ abbrev pub sshfp_key_shape : List Kind
 sshfp_key_shape = Number 1 ∷ Number 1 ∷ Number 1 ∷ Number 1 ∷ Rest ∷ []
 
 abbrev pub sshfp_keys : SSHFP → Values sshfp_key_shape
-sshfp_keys x =
-    (sshfp_algorithm_number x.algorithm, (sshfp_algorithm_variant x.algorithm,
-    (fingerprint_type_number x.fingerprint_type, (fingerprint_type_variant x.fingerprint_type,
-    (x.fingerprint, tt)))))
+sshfp_keys x = (
+  sshfp_algorithm_number x.algorithm,
+  (
+    sshfp_algorithm_variant x.algorithm,
+    (
+      fingerprint_type_number x.fingerprint_type,
+      (
+        fingerprint_type_variant x.fingerprint_type,
+        (x.fingerprint, tt),
+      ),
+    ),
+  ),
+)
 
 -- the enums are those of their numbers
 pub record IsReadSshfp (x : SSHFP) : Type 0 where

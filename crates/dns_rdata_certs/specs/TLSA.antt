@@ -22,11 +22,25 @@ abbrev pub tlsa_key_shape : List Kind
 tlsa_key_shape = Number 1 ∷ Number 1 ∷ Number 1 ∷ Number 1 ∷ Number 1 ∷ Number 1 ∷ Rest ∷ []
 
 abbrev pub tlsa_keys : TLSA → Values tlsa_key_shape
-tlsa_keys x =
-    (cert_usage_number x.cert_usage, (cert_usage_variant x.cert_usage,
-    (selector_number x.selector, (selector_variant x.selector,
-    (matching_number x.matching, (matching_variant x.matching,
-    (x.cert_data, tt)))))))
+tlsa_keys x = (
+  cert_usage_number x.cert_usage,
+  (
+    cert_usage_variant x.cert_usage,
+    (
+      selector_number x.selector,
+      (
+        selector_variant x.selector,
+        (
+          matching_number x.matching,
+          (
+            matching_variant x.matching,
+            (x.cert_data, tt),
+          ),
+        ),
+      ),
+    ),
+  ),
+)
 
 -- the enums are those of their numbers
 pub record IsReadTlsa (x : TLSA) : Type 0 where

@@ -9,11 +9,12 @@ mod algorithm;
 mod cert_type;
 
 pub use algorithm::Algorithm;
-pub use cert_type::CertType;
-
 use base64::display::Base64Display;
 use base64::engine::general_purpose::STANDARD;
-use dns_names_wire::{BinDecoder, BinEncodable, BinEncoder, DecodeError, Octets, ProtoError, Restrict};
+pub use cert_type::CertType;
+use dns_names_wire::{
+    BinDecoder, BinEncodable, BinEncoder, DecodeError, Octets, ProtoError, Restrict,
+};
 use dns_rdata_base::RecordDataDecodable;
 use std::alloc::{AllocError, Global};
 use std::fmt;

@@ -5,6 +5,8 @@ pub mod cert;
 pub mod hexadecimal;
 pub mod smimea;
 pub mod sshfp;
+#[cfg(test)]
+mod tests;
 pub mod tlsa;
 
 pub use cert::CERT;

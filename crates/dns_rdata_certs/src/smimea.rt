@@ -17,7 +17,12 @@ pub struct SMIMEA(pub TLSA);
 
 impl SMIMEA {
     /// With these fields, which are moved.
-    pub fn new(cert_usage: CertUsage, selector: Selector, matching: Matching, cert_data: Vec<u8>) -> SMIMEA
+    pub fn new(
+        cert_usage: CertUsage,
+        selector: Selector,
+        matching: Matching,
+        cert_data: Vec<u8>,
+    ) -> SMIMEA
         ensures usage { result.0.cert_usage ≡ cert_usage }
         ensures selector { result.0.selector ≡ selector }
         ensures matching { result.0.matching ≡ matching }

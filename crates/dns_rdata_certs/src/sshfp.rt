@@ -7,12 +7,13 @@ ghost use Rattle.dns_rdata_certs.specs.SSHFP.{sshfp_shape, sshfp_fields, sshfp_k
 mod algorithm;
 mod fingerprint_type;
 
-pub use algorithm::Algorithm;
-pub use fingerprint_type::FingerprintType;
-
 use crate::hexadecimal::Hexadecimal;
-use dns_names_wire::{BinDecoder, BinEncodable, BinEncoder, DecodeError, Octets, ProtoError, Restrict};
+pub use algorithm::Algorithm;
+use dns_names_wire::{
+    BinDecoder, BinEncodable, BinEncoder, DecodeError, Octets, ProtoError, Restrict,
+};
 use dns_rdata_base::RecordDataDecodable;
+pub use fingerprint_type::FingerprintType;
 use std::alloc::AllocError;
 use std::fmt;
 
@@ -30,7 +31,11 @@ pub struct SSHFP {
 
 impl SSHFP {
     /// With these fields, which are moved.
-    pub fn new(algorithm: Algorithm, fingerprint_type: FingerprintType, fingerprint: Vec<u8>) -> SSHFP
+    pub fn new(
+        algorithm: Algorithm,
+        fingerprint_type: FingerprintType,
+        fingerprint: Vec<u8>,
+    ) -> SSHFP
         ensures algorithm { result.algorithm ≡ algorithm }
         ensures kind { result.fingerprint_type ≡ fingerprint_type }
         ensures fingerprint { result.fingerprint ≡ fingerprint.items }
@@ -44,7 +49,10 @@ impl SSHFP {
 
     // Reads the fields that fill the length.
     #[tactic(auto, using(dns_names_wire::proofs::FieldReads::reading))]
-    fn read_filled(decoder: &mut BinDecoder<'_>, length: Restrict<u16>) -> Result<SSHFP, DecodeError>
+    fn read_filled(
+        decoder: &mut BinDecoder<'_>,
+        length: Restrict<u16>,
+    ) -> Result<SSHFP, DecodeError>
         ensures fields { ReadsTo sshfp_shape (λ _. Unit {0}) length sshfp_fields result decoder.old decoder.new }
         ensures enums { IfOk result IsReadSshfp }
         ensures refused { IfErr result (λ e. sshfp_refusal length decoder.old e decoder.new) }

@@ -8,13 +8,14 @@ mod cert_usage;
 mod matching;
 mod selector;
 
+use crate::hexadecimal::Hexadecimal;
 pub use cert_usage::CertUsage;
+use dns_names_wire::{
+    BinDecoder, BinEncodable, BinEncoder, DecodeError, Octets, ProtoError, Restrict,
+};
+use dns_rdata_base::RecordDataDecodable;
 pub use matching::Matching;
 pub use selector::Selector;
-
-use crate::hexadecimal::Hexadecimal;
-use dns_names_wire::{BinDecoder, BinEncodable, BinEncoder, DecodeError, Octets, ProtoError, Restrict};
-use dns_rdata_base::RecordDataDecodable;
 use std::alloc::AllocError;
 use std::fmt;
 
@@ -34,7 +35,12 @@ pub struct TLSA {
 
 impl TLSA {
     /// With these fields, which are moved.
-    pub fn new(cert_usage: CertUsage, selector: Selector, matching: Matching, cert_data: Vec<u8>) -> TLSA
+    pub fn new(
+        cert_usage: CertUsage,
+        selector: Selector,
+        matching: Matching,
+        cert_data: Vec<u8>,
+    ) -> TLSA
         ensures usage { result.cert_usage ≡ cert_usage }
         ensures selector { result.selector ≡ selector }
         ensures matching { result.matching ≡ matching }
