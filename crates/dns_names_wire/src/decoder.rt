@@ -1,6 +1,6 @@
 //! A message that is read from its front.
 
-ghost use Rattle.std.specs.Prelude.{◌≡◌, ◌+◌, ◌*◌, ◌-◌, ◌/◌, ◌^◌, ◌<◌, ◌≤◌, ◌⊎◌, ℕ, ◌↔◌, IsTrue, length, slice_get, IfOk, IfErr, OnErr};
+ghost use Rattle.std.specs.Prelude.{◌≡◌, ◌+◌, ◌*◌, ◌-◌, ◌/◌, ◌^◌, ◌<◌, ◌≤◌, ◌⊎◌, ℕ, ◌↔◌, IsTrue, length, drop, slice_get, IfOk, IfErr, OnErr};
 ghost use Rattle.std.specs.Int.{cast_unsigned, w32};
 ghost use Rattle.dns_fields.specs.Fields.{Number, Octets, Text};
 ghost use Rattle.dns_fields.specs.Octets.{AreOctets};
@@ -76,6 +76,14 @@ impl<'a> BinDecoder<'a> {
         ensures { IsTrue result ↔ (self.now.index ≡ length self.now.message) }
     {
         self.index == self.message.len()
+    }
+
+    /// The octets that are left, which stay untaken.
+    #[inline]
+    pub fn unread(&self) -> Restrict<&'a [u8]>
+        ensures { result.now ≡ drop self.now.index self.now.message }
+    {
+        Restrict::new(&self.message[self.index..])
     }
 
     /// The next octet, which stays untaken; none at the message's end.

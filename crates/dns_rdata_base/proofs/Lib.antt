@@ -1,1 +1,4 @@
 pub mod Addresses
+pub mod NumberLaws
+pub mod TextLists
+pub mod TextWrites

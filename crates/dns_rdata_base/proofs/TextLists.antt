@@ -1,0 +1,112 @@
+-- Character strings that are read one after the other.
+use Rattle.std.proofs.Common.{◌≡◌, ◌≢◌, ℕ, ◌+◌, ◌≤◌, ◌<◌, List, [], ◌∷◌, ◌++◌, length, refl, sym, ap, ◌∙◌, arith, subst, Result, Ok, Err}
+use Rattle.std.specs.List.{flat_map, AllByRecursion}
+use Rattle.std.proofs.lemmas.List.{append-nil}
+use Rattle.std.proofs.lemmas.List.Concat.{flat_map-cons}
+use Rattle.std.proofs.lemmas.Grind.{flat_map-append}
+use Rattle.dns_types.specs.declared.error.DecodeError.{DecodeError}
+use Rattle.dns_types.specs.declared.error.DecodeError.TheVariants as decode
+use Rattle.dns_fields.specs.Octets.{At}
+use Rattle.dns_fields.specs.Fields.{Kind, Text, Texts, Field, Stands, Values}
+use Rattle.dns_fields.specs.Pieces.{string}
+use Rattle.dns_fields.proofs.FieldLaws.{field_inside, field_end}
+use Rattle.dns_names_wire.specs.State.{Reading}
+use Rattle.dns_names_wire.specs.Words.{TookField, LacksField, LacksText, StaysBehind, RefusedField, Window, NoWindow, TookWindow, RefusedWindow}
+use Rattle.dns_names_wire.proofs.FieldReads.{unless_map}
+use Rattle.dns_names_wire.proofs.WindowReads.{Given}
+use Rattle.dns_names_wire.proofs.Strings.{at_front, at_rest, at_then}
+use Rattle.dns_rdata_base.specs.TXT.{txt_shape, LacksString, txt_refusal}
+
+abbrev pub any_strings : Values txt_shape → Type 0
+any_strings vs = Unit {0}
+
+-- what a loop has read of the strings up to the end, and what is left of any way to fill it
+pub record ReadsOn (old : Reading) (end : ℕ) (strings : List (List ℕ)) (d : Reading) : Type 0 where
+  pub message : d.message ≡ old.message
+  pub behind : old.index ≤ d.index
+  pub took : Field old.message old.index Texts strings d.index
+  pub rest : (ws : List (List ℕ)) → Field old.message old.index Texts ws end → (vs : List (List ℕ)) × Field old.message d.index Texts vs end
+
+fits_push : (xs : List (List ℕ)) (s : List ℕ) → AllByRecursion (λ s. length s < 256) xs → length s < 256 → AllByRecursion (λ s. length s < 256) (xs ++ s ∷ [])
+fits_push [] s a h = (h, tt)
+fits_push (x ∷ xs) s a h = (a.0, fits_push xs s a.1 h)
+
+joined : (xs : List (List ℕ)) (s : List ℕ) → flat_map string xs ++ string s ≡ flat_map string (xs ++ s ∷ [])
+joined xs s = let e : flat_map string (s ∷ []) ≡ string s ++ flat_map string [] = flat_map-cons string s [] in sym (flat_map-append string xs (s ∷ []) ∙ ap (λ (t : List ℕ). flat_map string xs ++ t) (e ∙ append-nil (string s)))
+
+texts_push : {m : List ℕ} {p q r : ℕ} {xs : List (List ℕ)} {s : List ℕ} → Field m p Texts xs q → Field m q Text s r → Field m p Texts (xs ++ s ∷ []) r
+texts_push {m} {p} {q} {r} {xs} {s} f g = record { is = (fits_push xs s f.is.0 g.is.0, rw (← joined xs s) (at_then f.is.1 g.is.1)) }
+
+no_texts : (d : Reading) → d.index ≤ length d.message → Field d.message d.index Texts [] d.index
+no_texts d inside = record { is = (tt, record { ends = omega arith; within = inside; same = refl }) }
+
+first_text : (m : List ℕ) (q e : ℕ) (vs : List (List ℕ)) → q < e → Field m q Texts vs e → (s : List ℕ) × (ws : List (List ℕ)) × Field m q Text s (q + length (string s)) × Field m (q + length (string s)) Texts ws e
+first_text m q e [] lt f = absurd (omega (arith, f.is.1.ends))
+first_text m q e (s ∷ ws) lt f =
+    let whole : At m q (string s ++ flat_map string ws) e = rw (← flat_map-cons string s ws) f.is.1 in
+    (s, ws, record { is = (f.is.0.0, at_front (string s) (flat_map string ws) whole) }, record { is = (f.is.0.1, at_rest (string s) (flat_map string ws) whole) })
+
+pub reads_first : (d : Reading) (end : ℕ) → d.index ≤ length d.message → ReadsOn d end [] d
+reads_first d end inside = record { message = refl; behind = omega arith; took = no_texts d inside; rest = λ ws f. (ws, f) }
+
+pub reads_more : {old d b : Reading} {end : ℕ} {xs : List (List ℕ)} {s : List ℕ} → d.index < end → ReadsOn old end xs d → TookField d Text s b → ReadsOn old end (xs ++ s ∷ []) b
+reads_more {old} {d} {b} {end} {xs} {s} lt r f =
+    let g : Field old.message d.index Text s b.index = subst (λ (m : List ℕ). Field m d.index Text s b.index) r.message f.field in
+    record {
+      message = f.message ∙ r.message;
+      behind = omega (arith, r.behind, (field_inside g).0);
+      took = texts_push r.took g;
+      rest = λ ws h.
+          let vs = r.rest ws h in
+          let x = first_text old.message d.index end vs.0 lt vs.1 in
+          let there : d.index + length (string x.0) ≡ b.index = field_end {k = Text} tt x.2 g in
+          (x.1, subst (λ (q : ℕ). Field old.message q Texts x.1 end) there x.3);
+    }
+
+pub longer : {d b : Reading} {s : List ℕ} → TookField d Text s b → d.index < b.index
+longer f = omega (arith, f.field.is.1.ends)
+
+pub taken : {old d : Reading} {end : ℕ} {xs : List (List ℕ)} → ReadsOn old end xs d → TookField old Texts xs d
+taken r = record { message = r.message; field = r.took }
+
+-- ---- how a loop ends
+
+-- a string is refused on the way
+pub reads_none : {e : DecodeError} {old d b : Reading} {end : ℕ} {xs : List (List ℕ)} (n : ℕ) → end ≡ old.index + n → d.index < end → ReadsOn old end xs d → RefusedField e d Text b → RefusedWindow e old n txt_shape any_strings b
+reads_none {e} {old} {d} {b} {end} {xs} n is lt r f = record {
+  behind = record { message = f.behind.message ∙ r.message; index = omega (arith, r.behind, f.behind.index) };
+  none = unless_map e _ _ (λ (l : LacksField d Text). record {
+    none = λ vs w.
+        let h : Field old.message old.index Texts vs.0 end = rw (is, ← w.stands.2) w.stands.1 in
+        let ws = r.rest vs.0 h in
+        let x = first_text old.message d.index end ws.0 lt ws.1 in
+        l.none x.0 (d.index + length (string x.0)) (subst (λ (m : List ℕ). Field m d.index Text x.0 (d.index + length (string x.0))) (sym r.message) x.2);
+  }) f.none;
+}
+
+-- because it lacks octets
+pub reads_lacking : {old d b : Reading} {end : ℕ} {xs : List (List ℕ)} (n : ℕ) → end ≡ old.index + n → d.index < end → ReadsOn old end xs d → LacksText d b → LacksString n old b
+reads_lacking {old} {d} {b} {end} {xs} n is lt r l = record { strings = xs; between = d; took = taken r; before = omega (arith, is, lt); lacks = l }
+
+-- memory runs out before a string
+pub reads_stopped : {old d : Reading} {end : ℕ} {xs : List (List ℕ)} (n : ℕ) → ReadsOn old end xs d → RefusedWindow decode.Memory old n txt_shape any_strings d
+reads_stopped {old} {d} n r = record { behind = record { message = r.message; index = r.behind }; none = tt }
+
+-- or behind one
+pub reads_stopped_behind : {old d b : Reading} {end : ℕ} {xs : List (List ℕ)} {s : List ℕ} (n : ℕ) → ReadsOn old end xs d → TookField d Text s b → RefusedWindow decode.Memory old n txt_shape any_strings b
+reads_stopped_behind {old} {d} {b} n r f = record { behind = record { message = f.message ∙ r.message; index = omega (arith, r.behind, longer f) }; none = tt }
+
+-- or the end is reached
+pub reads_done : {old d : Reading} {end : ℕ} {xs : List (List ℕ)} (n : ℕ) → Given old n → end ≡ old.index + n → end ≤ d.index → ReadsOn old end xs d → TookWindow old n txt_shape any_strings (xs, tt) d
+reads_done {old} {d} {end} {xs} n g is le r = record {
+  behind = record { message = r.message; index = r.behind };
+  here = λ same.
+      let f : Field old.message old.index Texts xs (old.index + n) = subst (λ (q : ℕ). Field old.message old.index Texts xs q) same r.took in
+      record { octets = g.octets; short = g.short; within = (field_inside f).1; stands = (old.index + n, f, refl); holds = tt };
+  elsewhere = λ ne. record {
+    none = λ vs w.
+        let h : Field old.message old.index Texts vs.0 end = rw (is, ← w.stands.2) w.stands.1 in
+        let ws = r.rest vs.0 h in
+        ne (omega (arith, (field_inside ws.1).0, is, le));
+  };
+}

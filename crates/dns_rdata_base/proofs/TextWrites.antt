@@ -1,0 +1,52 @@
+-- Character strings that are written one after the other.
+use Rattle.std.proofs.Common.{◌≡◌, ℕ, ◌+◌, ◌≤◌, ◌<◌, List, [], ◌∷◌, ◌++◌, length, take, drop, get_or, refl, sym, ap, ◌∙◌, arith, append_assoc}
+use Rattle.std.specs.List.{flat_map, AllByRecursion}
+use Rattle.std.proofs.lemmas.List.{append-nil, length-append, drop_more, take-append-drop}
+use Rattle.std.proofs.lemmas.List.Concat.{flat_map-cons}
+use Rattle.std.proofs.lemmas.Grind.{flat_map-append}
+use Rattle.dns_types.specs.declared.error.ProtoError.{ProtoError}
+use Rattle.dns_fields.specs.Fields.{Text, Texts, Fits, field_octets}
+use Rattle.dns_fields.specs.Pieces.{string}
+use Rattle.dns_names_wire.specs.State.{Writing}
+use Rattle.dns_names_wire.specs.Words.{AppendedField, StoppedField, NoRoomField, UnfitField}
+use Rattle.dns_names_wire.proofs.FieldWrites.{keeps_same, keeps_then, because_map}
+
+fits_push : (xs : List (List ℕ)) (s : List ℕ) → AllByRecursion (λ s. length s < 256) xs → length s < 256 → AllByRecursion (λ s. length s < 256) (xs ++ s ∷ [])
+fits_push [] s a h = (h, tt)
+fits_push (x ∷ xs) s a h = (a.0, fits_push xs s a.1 h)
+
+fits_inner : (xs : List (List ℕ)) (s : List ℕ) (ys : List (List ℕ)) → AllByRecursion (λ s. length s < 256) (xs ++ s ∷ ys) → length s < 256
+fits_inner [] s ys a = a.0
+fits_inner (x ∷ xs) s ys a = fits_inner xs s ys a.1
+
+joined : (xs : List (List ℕ)) (s : List ℕ) (ys : List (List ℕ)) → flat_map string (xs ++ s ∷ ys) ≡ flat_map string xs ++ (string s ++ flat_map string ys)
+joined xs s ys = flat_map-append string xs (s ∷ ys) ∙ ap (λ (t : List ℕ). flat_map string xs ++ t) (flat_map-cons string s ys)
+
+pub no_strings : (w : Writing) → AppendedField w Texts [] w
+no_strings w = record { keeps = keeps_same w; field = record { is = (tt, sym (append-nil w.octets)) } }
+
+pub more_strings : {w b e : Writing} {xs : List (List ℕ)} {s : List ℕ} → AppendedField w Texts xs b → AppendedField b Text s e → AppendedField w Texts (xs ++ s ∷ []) e
+more_strings {w} {b} {e} {xs} {s} f g =
+    let octets : e.octets ≡ w.octets ++ flat_map string (xs ++ s ∷ []) =
+    g.field.is.1 ∙ ap (λ (t : List ℕ). t ++ string s) f.field.is.1 ∙ append_assoc w.octets (flat_map string xs) (string s)
+    ∙ ap (λ (t : List ℕ). w.octets ++ t) (sym (joined xs s [] ∙ ap (λ (t : List ℕ). flat_map string xs ++ t) (append-nil (string s)))) in
+    record { keeps = keeps_then f.keeps g.keeps; field = record { is = (fits_push xs s f.field.is.0 g.field.is.0, octets) } }
+
+-- a string is refused behind others
+pub stopped_strings : {e : ProtoError} {w b n : Writing} (xs : List (List ℕ)) (s : List ℕ) (ys : List (List ℕ)) → AppendedField w Texts xs b → StoppedField e b Text s n → StoppedField e w Texts (xs ++ s ∷ ys) n
+unfolding field_octets
+stopped_strings {e} {w} {b} {n} xs s ys f g = record {
+  extends = record {
+    keeps = keeps_then f.keeps g.extends.keeps;
+    tail = flat_map string xs ++ g.extends.tail;
+    octets = g.extends.octets ∙ ap (λ (t : List ℕ). t ++ g.extends.tail) f.field.is.1 ∙ append_assoc w.octets (flat_map string xs) g.extends.tail;
+  };
+  why = because_map e _ _ _ _
+      (λ (r : NoRoomField b Text s). record { full = omega (arith, r.full, f.keeps.limit, ap length f.field.is.1, length-append w.octets (flat_map string xs), ap length (joined xs s ys), length-append (flat_map string xs) (string s ++ flat_map string ys), length-append (string s) (flat_map string ys)) })
+      (λ (u : UnfitField Text s). record { unfit = λ h. u.unfit (fits_inner xs s ys h) })
+      g.why;
+}
+
+-- a list about one of its places
+pub list_at : (i : ℕ) (xs : List (List ℕ)) (x : List ℕ) → x ≡ get_or xs i x → i < length xs → take i xs ++ x ∷ drop (i + 1) xs ≡ xs
+list_at i xs x is lt = ap (λ (y : List ℕ). take i xs ++ y ∷ drop (i + 1) xs) is ∙ ap (λ (t : List (List ℕ)). take i xs ++ t) (sym (drop_more xs i x lt)) ∙ take-append-drop i xs

@@ -1,0 +1,27 @@
+-- HINFO: a machine and its system (RFC 1035, 3.3.2).
+use Rattle.std.specs.Prelude.{◌≡◌, ◌⊎◌, ℕ, List, [], ◌∷◌, ◌++◌, codes}
+use Rattle.dns_fields.specs.Fields.{Kind, Text, Values}
+use Rattle.dns_types.specs.declared.error.DecodeError.{DecodeError}
+use Rattle.dns_types.specs.declared.error.DecodeError.TheVariants as decode
+use Rattle.dns_names_wire.specs.State.{Reading}
+use Rattle.dns_names_wire.specs.Words.{TookField, LacksText}
+use Rattle.dns_rdata_base.specs.Lossy.{lossy}
+use Rattle.dns_rdata_base.specs.declared.hinfo.HINFO.{HINFO}
+
+-- cpu, os
+abbrev pub hinfo_shape : List Kind
+hinfo_shape = Text ∷ Text ∷ []
+
+abbrev pub hinfo_fields : HINFO → Values hinfo_shape
+hinfo_fields x = (x.cpu, (x.os, tt))
+
+-- the two strings, a blank between
+abbrev pub hinfo_text : HINFO → List ℕ
+hinfo_text x = lossy x.cpu ++ codes " " ++ lossy x.os
+
+-- the first string lacks octets, or the second one behind it
+abbrev pub LacksTwoTexts : Reading → Reading → Type 0
+LacksTwoTexts old new = LacksText old new ⊎ ((cpu : List ℕ) × (between : Reading) × TookField old Text cpu between × LacksText between new)
+
+abbrev pub hinfo_refusal : Reading → DecodeError → Reading → Type 0
+hinfo_refusal old e new = (e ≡ decode.Memory) ⊎ ((e ≡ decode.InsufficientBytes) × LacksTwoTexts old new)

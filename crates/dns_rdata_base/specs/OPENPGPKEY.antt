@@ -1,0 +1,25 @@
+-- OPENPGPKEY: a public key (RFC 7929, 2.1).
+use Rattle.std.specs.Prelude.{◌≡◌, ◌⊎◌, ℕ, List, [], ◌∷◌}
+use Rattle.base64.specs.Engines.{standard}
+use Rattle.base64.specs.GeneralPurpose.{encode_of}
+use Rattle.dns_fields.specs.Fields.{Kind, Rest, Values}
+use Rattle.dns_types.specs.declared.error.DecodeError.{DecodeError}
+use Rattle.dns_types.specs.declared.error.DecodeError.TheVariants as decode
+use Rattle.dns_names_wire.specs.State.{Reading}
+use Rattle.dns_names_wire.specs.Words.{LacksOctets}
+use Rattle.dns_rdata_base.specs.declared.openpgpkey.OPENPGPKEY.{OPENPGPKEY}
+
+-- all octets are the key
+abbrev pub openpgpkey_shape : List Kind
+openpgpkey_shape = Rest ∷ []
+
+abbrev pub openpgpkey_fields : OPENPGPKEY → Values openpgpkey_shape
+openpgpkey_fields x = (x.public_key, tt)
+
+-- base64 (RFC 4648, 4)
+abbrev pub openpgpkey_text : OPENPGPKEY → List ℕ
+openpgpkey_text x = encode_of standard x.public_key
+
+-- fewer than n octets are left, and none is taken
+abbrev pub openpgpkey_refusal : ℕ → Reading → DecodeError → Reading → Type 0
+openpgpkey_refusal n old e new = (new ≡ old) × ((e ≡ decode.Memory) ⊎ ((e ≡ decode.InsufficientBytes) × LacksOctets old n))

@@ -1,0 +1,32 @@
+-- TXT: character strings (RFC 1035, 3.3.14).
+use Rattle.std.specs.Prelude.{◌≡◌, ◌⊎◌, ◌+◌, ◌<◌, ℕ, List, [], ◌∷◌}
+use Rattle.std.specs.List.{flat_map}
+use Rattle.dns_fields.specs.Fields.{Kind, Texts, Values}
+use Rattle.dns_types.specs.declared.error.DecodeError.{DecodeError}
+use Rattle.dns_types.specs.declared.error.DecodeError.TheVariants as decode
+use Rattle.dns_names_wire.specs.State.{Reading}
+use Rattle.dns_names_wire.specs.Words.{TookField, LacksText}
+use Rattle.dns_rdata_base.specs.Lossy.{lossy}
+use Rattle.dns_rdata_base.specs.declared.txt.TXT.{TXT}
+
+-- none or more, to the end
+abbrev pub txt_shape : List Kind
+txt_shape = Texts ∷ []
+
+abbrev pub txt_fields : TXT → Values txt_shape
+txt_fields x = (x.txt_data, tt)
+
+-- the strings, nothing between
+abbrev pub txt_text : TXT → List ℕ
+txt_text x = flat_map lossy x.txt_data
+
+-- behind some strings, before n octets are taken, the next string lacks octets
+pub record LacksString (n : ℕ) (old new : Reading) : Type 0 where
+  pub strings : List (List ℕ)
+  pub between : Reading
+  pub took : TookField old Texts strings between
+  pub before : between.index < old.index + n
+  pub lacks : LacksText between new
+
+abbrev pub txt_refusal : ℕ → Reading → DecodeError → Reading → Type 0
+txt_refusal n old e new = (e ≡ decode.Memory) ⊎ ((e ≡ decode.InsufficientBytes) × LacksString n old new)

@@ -1,0 +1,176 @@
+//! TXT: character strings (RFC 1035, 3.3.14).
+
+ghost use Rattle.std.specs.Prelude.{◌≡◌, ◌⊎◌, ◌≤◌, ◌+◌, map, length as list_length, IfErr, IfOk};
+ghost use Rattle.std.specs.String.{string_bytes};
+ghost use Rattle.dns_fields.specs.Fields.{Texts};
+ghost use Rattle.dns_names_wire.specs.Words.{TookField, ReadsWindow, Emits};
+ghost use Rattle.dns_rdata_base.specs.TXT.{txt_shape, txt_fields, txt_refusal};
+
+use crate::traits::RecordDataDecodable;
+use bstr::BStr;
+use dns_names_wire::{
+    BinDecoder, BinEncodable, BinEncoder, DecodeError, Octets, ProtoError, Restrict,
+};
+use dns_types::Strings;
+use std::alloc::AllocError;
+use std::fmt;
+use std::hash::{Hash, Hasher};
+
+/// Character strings, none or more, which fill a record's length (RFC 1035, 3.3.14).
+#[derive(Debug, Drop)]
+pub struct TXT {
+    /// The strings, in order.
+    pub txt_data: Strings,
+}
+
+impl TXT {
+    /// With these texts, which are moved. Asks for memory once, for the list.
+    pub fn new(txt_data: Vec<String>) -> Result<TXT, AllocError>
+        ensures { IfOk result (λ x. x.txt_data ≡ map string_bytes txt_data.items) }
+    {
+        let mut strings = Vec::with_capacity(*txt_data.allocator(), txt_data.len())?;
+        for string in txt_data {
+            strings.push(Octets::from_vec(string.into_bytes()))?;
+        }
+        Ok(TXT {
+            txt_data: Strings::from_vec(strings),
+        })
+    }
+
+    /// With copies of these octets. Asks for memory once for the list, and once for each string.
+    pub fn from_bytes(txt_data: Vec<&[u8]>) -> Result<TXT, AllocError>
+        ensures { IfOk result (λ x. x.txt_data ≡ map (λ s. s.now) txt_data.entry.items) }
+    {
+        let alloc = *txt_data.allocator();
+        let mut strings = Vec::with_capacity(alloc, txt_data.len())?;
+        for string in txt_data {
+            strings.push(Octets::from_slice(alloc, string)?)?;
+        }
+        Ok(TXT {
+            txt_data: Strings::from_vec(strings),
+        })
+    }
+}
+
+impl RecordDataDecodable for TXT {
+    ghost kinds = { txt_shape };
+
+    ghost condition = { λ _. Unit {0} };
+
+    ghost fields = { txt_fields };
+
+    /// Reads character strings until the length is reached or passed. Where it is passed, no strings fill it, and the
+    /// value is that of the strings that were taken. Where a string lacks octets it is refused: the strings before it,
+    /// and its length octet where that is there, are taken. Memory is asked for once for the list, and once for each
+    /// string.
+    fn read_data(decoder: &mut BinDecoder<'_>, length: Restrict<u16>) -> Result<TXT, DecodeError>
+        ensures window { ReadsWindow txt_shape (λ _. Unit {0}) txt_fields length result decoder.old decoder.new }
+        ensures taken { IfOk result (λ x. TookField decoder.old Texts x.txt_data decoder.new) }
+        ensures reached { IfOk result (λ x. decoder.old.index + length ≤ decoder.new.index) }
+        ensures refused { IfErr result (λ e. txt_refusal length decoder.old e decoder.new) }
+    {
+        let length = length.unverified() as usize;
+        let end = decoder.index() + length;
+        let alloc = decoder.allocator();
+        let count = strings_within(decoder.unread().unverified(), length);
+        let mut txt_data = Strings::with_capacity(alloc, count)?;
+        while decoder.index() < end {
+            let octets = decoder.read_character_data()?.unverified();
+            txt_data.push(Octets::from_slice(alloc, octets)?)?;
+        }
+        Ok(TXT { txt_data })
+    }
+}
+
+// How many strings begin in the first so many octets.
+fn strings_within(octets: &[u8], length: usize) -> usize
+    ensures { result ≤ length }
+{
+    let mut count = 0;
+    let mut place = 0;
+    while place < length && place < octets.len() {
+        place += 1 + octets[place] as usize;
+        count += 1;
+    }
+    count
+}
+
+impl BinEncodable for TXT {
+    ghost emits = { λ x r old new. Emits txt_shape (txt_fields x) r old new };
+
+    /// Appends the character strings. One of more than 255 octets is refused by `Message`; those before it may then
+    /// stand behind the start.
+    fn emit(&self, encoder: &mut BinEncoder<'_>) -> Result<(), ProtoError> {
+        for string in self.txt_data.as_slice() {
+            encoder.emit_character_data(string.as_slice())?;
+        }
+        Ok(())
+    }
+}
+
+impl PartialEq for TXT {
+    ghost use Rattle.std.specs.Cmp.{partial_equiv_from_equiv, on_equiv};
+    ghost use Rattle.dns_fields.specs.Equal.{values_eq, values_equiv};
+
+    ghost eq = { λ a b. values_eq txt_shape (txt_fields a) (txt_fields b) };
+
+    ghost laws = { partial_equiv_from_equiv (on_equiv txt_fields (values_equiv txt_shape)) };
+
+    #[inline]
+    fn eq(&self, other: &TXT) -> bool {
+        self.txt_data == other.txt_data
+    }
+}
+
+impl Eq for TXT {
+    ghost use Rattle.std.specs.Cmp.{on_equiv};
+    ghost use Rattle.dns_fields.specs.Equal.{values_equiv};
+
+    ghost laws = { on_equiv txt_fields (values_equiv txt_shape) };
+}
+
+impl Hash for TXT {
+    ghost use Rattle.std.specs.Prelude.{true, ◌&&◌};
+    ghost use Rattle.std.specs.Cmp.{unsigned_Decides, first_so};
+    ghost use Rattle.std.specs.Cmp.Lexicographic.{pointwise_decides};
+    ghost use Rattle.std.specs.Hash as fed;
+    ghost use Rattle.std.proofs.Common.{ap};
+
+    ghost hash_input = { λ x. fed.slice (fed.slice fed.u8) x.txt_data };
+
+    ghost respects_eq = { λ a b same. ap (fed.slice (fed.slice fed.u8)) ((pointwise_decides (pointwise_decides unsigned_Decides) a.txt_data b.txt_data).0 (first_so _ true same)) };
+
+    #[inline]
+    fn hash<H: Hasher>(&self, state: &mut H) {
+        self.txt_data.hash(state);
+    }
+}
+
+impl Clone for TXT {
+    ghost is_clone = { λ a b. b ≡ a };
+
+    /// The same strings in memory of their own.
+    fn clone(&self) -> Result<TXT, AllocError>
+        ensures { IfOk result (λ copy. copy ≡ self.now) }
+    {
+        Ok(TXT {
+            txt_data: self.txt_data.clone()?,
+        })
+    }
+}
+
+impl fmt::Display for TXT {
+    ghost use Rattle.std.specs.Prelude.{Some};
+    ghost use Rattle.dns_rdata_base.specs.TXT.{txt_text};
+
+    ghost output = { λ x. Some (txt_text x) };
+
+    /// The strings, nothing between; U+FFFD stands for octets that are not UTF-8.
+    #[tactic(auto, unfolding(crate::specs::Lossy::lossy))]
+    fn fmt<W: fmt::Write>(&self, f: &mut fmt::Formatter<W>) -> fmt::Result {
+        for string in self.txt_data.as_slice() {
+            f.write(BStr::new(string.as_slice()))?;
+        }
+        Ok(())
+    }
+}

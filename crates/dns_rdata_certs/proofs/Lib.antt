@@ -1,0 +1,4 @@
+mod HexText
+pub mod Numbers
+pub mod Values
+mod Wholes

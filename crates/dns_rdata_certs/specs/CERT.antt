@@ -1,0 +1,102 @@
+-- CERT: a certificate (RFC 4398, 2).
+use Rattle.std.specs.Prelude.{◌≡◌, ◌≢◌, ◌⊎◌, ℕ, ◌+◌, ◌-◌, ◌*◌, ◌/◌, ◌<◌, ◌≤◌, List, [], ◌∷◌, ◌++◌, codes, decimal, length, Result, Ok, Err}
+use Rattle.base64.specs.Engines.{standard}
+use Rattle.base64.specs.GeneralPurpose.{encode_of}
+use Rattle.dns_types.specs.declared.error.DecodeError.{DecodeError}
+use Rattle.dns_types.specs.declared.error.DecodeError.TheVariants as decode
+use Rattle.dns_fields.specs.Fields.{Kind, Number, Rest, Values}
+use Rattle.dns_names_wire.specs.State.{Reading}
+use Rattle.dns_names_wire.specs.Words.{LacksOctets, UnlessMemory, Window, NoWindow}
+use Rattle.dns_rdata_certs.specs.CertType.{cert_type_number, cert_type_variant, cert_type_of, cert_type_text}
+use Rattle.dns_rdata_certs.specs.CertAlgorithm.{cert_algorithm_number, cert_algorithm_variant, cert_algorithm_of, cert_algorithm_text}
+use Rattle.dns_rdata_certs.specs.declared.cert.CERT.{CERT}
+
+-- type, key tag, algorithm, certificate
+abbrev pub cert_shape : List Kind
+cert_shape = Number 2 ∷ Number 2 ∷ Number 1 ∷ Rest ∷ []
+
+abbrev pub cert_fields : CERT → Values cert_shape
+cert_fields x = (cert_type_number x.cert_type, (x.key_tag, (cert_algorithm_number x.algorithm, (x.cert_data, tt))))
+
+-- the certificate has octets
+abbrev pub cert_condition : Values cert_shape → Type 0
+cert_condition vs = vs.1.1.1.0 ≢ []
+
+-- what is compared: of each enum the number and then the variant
+abbrev pub cert_key_shape : List Kind
+cert_key_shape = Number 2 ∷ Number 1 ∷ Number 2 ∷ Number 1 ∷ Number 1 ∷ Rest ∷ []
+
+abbrev pub cert_keys : CERT → Values cert_key_shape
+cert_keys x = (
+  cert_type_number x.cert_type,
+  (
+    cert_type_variant x.cert_type,
+    (
+      x.key_tag,
+      (
+        cert_algorithm_number x.algorithm,
+        (
+          cert_algorithm_variant x.algorithm,
+          (x.cert_data, tt),
+        ),
+      ),
+    ),
+  ),
+)
+
+-- the enums are those of their numbers
+pub record IsReadCert (x : CERT) : Type 0 where
+  pub type : x.cert_type ≡ cert_type_of (cert_type_number x.cert_type)
+  pub algorithm : x.algorithm ≡ cert_algorithm_of (cert_algorithm_number x.algorithm)
+
+-- base64 (RFC 4648, 4)
+abbrev pub cert_data_text : CERT → List ℕ
+cert_data_text x = encode_of standard x.cert_data
+
+-- the fields, a blank between
+abbrev pub cert_text : CERT → List ℕ
+cert_text x = cert_type_text x.cert_type ++ codes " " ++ decimal x.key_tag ++ codes " " ++ cert_algorithm_text x.algorithm ++ codes " "
+    ++ cert_data_text x
+
+-- ---- refusals
+
+-- a length without room for a certificate: nothing is taken
+pub record ShortCert (n : ℕ) (old : Reading) (e : DecodeError) (new : Reading) : Type 0 where
+  pub error : e ≡ decode.IncorrectRDataLengthRead n 6
+  pub short : n ≤ 5
+  pub unchanged : new ≡ old
+
+-- the five octets before the certificate are not all there, and the fields that are there are taken
+pub record CutCertFields (n : ℕ) (old : Reading) (e : DecodeError) (new : Reading) : Type 0 where
+  pub error : e ≡ decode.InsufficientBytes
+  pub long : 5 < n
+  pub lacks : LacksOctets old 5
+  pub index : new.index ≡ old.index + (length old.message - old.index) / 2 * 2
+
+-- the fields before the certificate are taken, and it lacks octets
+pub record CutCert (n : ℕ) (old : Reading) (e : DecodeError) (new : Reading) : Type 0 where
+  pub error : e ≡ decode.InsufficientBytes
+  pub long : 5 < n
+  pub lacks : LacksOctets old n
+  pub index : new.index ≡ old.index + 5
+
+-- the fields before the certificate are taken, and memory for it runs out
+pub record NoCertMemory (n : ℕ) (old : Reading) (e : DecodeError) (new : Reading) : Type 0 where
+  pub error : e ≡ decode.Memory
+  pub long : 5 < n
+  pub index : new.index ≡ old.index + 5
+
+abbrev pub cert_refusal : ℕ → Reading → DecodeError → Reading → Type 0
+cert_refusal n old e new = ShortCert n old e new ⊎ (CutCertFields n old e new ⊎ (CutCert n old e new ⊎ NoCertMemory n old e new))
+
+-- the octets are a whole certificate record, and are refused where they are none
+abbrev pub ReadsWholeCert : List ℕ → Result CERT DecodeError → Type 0
+ReadsWholeCert octets (Ok x) = Window octets 0 (length octets) cert_shape cert_condition (cert_fields x)
+ReadsWholeCert octets (Err e) = UnlessMemory e (NoWindow octets 0 (length octets) cert_shape cert_condition)
+
+-- of n octets: too few, or more than a record has
+abbrev pub whole_cert_refusal : ℕ → DecodeError → Type 0
+whole_cert_refusal n e =
+    ((n ≤ 5) × (e ≡ decode.IncorrectRDataLengthRead n 6))
+    ⊎ (((65535 < n) × (e ≡ decode.IncorrectRDataLengthRead n 65535))
+    ⊎ ((5 < n) × (n ≤ 65535) × (e ≡ decode.Memory)))

@@ -1,0 +1,50 @@
+-- SSHFP: the fingerprint of a host's key (RFC 4255, 3.1).
+use Rattle.std.specs.Prelude.{◌≡◌, ℕ, List, [], ◌∷◌, ◌++◌, codes, decimal}
+use Rattle.hex.specs.Hex.{encode_lower}
+use Rattle.dns_types.specs.declared.error.DecodeError.{DecodeError}
+use Rattle.dns_fields.specs.Fields.{Kind, Number, Rest, Values}
+use Rattle.dns_names_wire.specs.State.{Reading}
+use Rattle.dns_rdata_certs.specs.SshfpAlgorithm.{sshfp_algorithm_number, sshfp_algorithm_variant, sshfp_algorithm_of}
+use Rattle.dns_rdata_certs.specs.FingerprintType.{fingerprint_type_number, fingerprint_type_variant, fingerprint_type_of}
+use Rattle.dns_rdata_certs.specs.Rests.{rest_refusal}
+use Rattle.dns_rdata_certs.specs.declared.sshfp.SSHFP.{SSHFP}
+
+-- algorithm, fingerprint type, fingerprint
+abbrev pub sshfp_shape : List Kind
+sshfp_shape = Number 1 ∷ Number 1 ∷ Rest ∷ []
+
+abbrev pub sshfp_fields : SSHFP → Values sshfp_shape
+sshfp_fields x = (sshfp_algorithm_number x.algorithm, (fingerprint_type_number x.fingerprint_type, (x.fingerprint, tt)))
+
+-- what is compared: of each enum the number and then the variant
+abbrev pub sshfp_key_shape : List Kind
+sshfp_key_shape = Number 1 ∷ Number 1 ∷ Number 1 ∷ Number 1 ∷ Rest ∷ []
+
+abbrev pub sshfp_keys : SSHFP → Values sshfp_key_shape
+sshfp_keys x = (
+  sshfp_algorithm_number x.algorithm,
+  (
+    sshfp_algorithm_variant x.algorithm,
+    (
+      fingerprint_type_number x.fingerprint_type,
+      (
+        fingerprint_type_variant x.fingerprint_type,
+        (x.fingerprint, tt),
+      ),
+    ),
+  ),
+)
+
+-- the enums are those of their numbers
+pub record IsReadSshfp (x : SSHFP) : Type 0 where
+  pub algorithm : x.algorithm ≡ sshfp_algorithm_of (sshfp_algorithm_number x.algorithm)
+  pub type : x.fingerprint_type ≡ fingerprint_type_of (fingerprint_type_number x.fingerprint_type)
+
+-- the two numbers and the fingerprint in hexadecimal, a blank between
+abbrev pub sshfp_text : SSHFP → List ℕ
+sshfp_text x = decimal (sshfp_algorithm_number x.algorithm) ++ codes " " ++ decimal (fingerprint_type_number x.fingerprint_type) ++ codes " "
+    ++ encode_lower x.fingerprint
+
+-- two octets of fixed fields
+abbrev pub sshfp_refusal : ℕ → Reading → DecodeError → Reading → Type 0
+sshfp_refusal n old e new = rest_refusal 2 n old e new

@@ -1,0 +1,58 @@
+-- TLSA: a certificate of a service (RFC 6698, 2.1).
+use Rattle.std.specs.Prelude.{◌≡◌, ℕ, List, [], ◌∷◌, ◌++◌, codes, decimal}
+use Rattle.hex.specs.Hex.{encode_lower}
+use Rattle.dns_types.specs.declared.error.DecodeError.{DecodeError}
+use Rattle.dns_fields.specs.Fields.{Kind, Number, Rest, Values}
+use Rattle.dns_names_wire.specs.State.{Reading}
+use Rattle.dns_rdata_certs.specs.CertUsage.{cert_usage_number, cert_usage_variant, cert_usage_of}
+use Rattle.dns_rdata_certs.specs.Selector.{selector_number, selector_variant, selector_of}
+use Rattle.dns_rdata_certs.specs.Matching.{matching_number, matching_variant, matching_of}
+use Rattle.dns_rdata_certs.specs.Rests.{rest_refusal}
+use Rattle.dns_rdata_certs.specs.declared.tlsa.TLSA.{TLSA}
+
+-- usage, selector, matching type, data
+abbrev pub tlsa_shape : List Kind
+tlsa_shape = Number 1 ∷ Number 1 ∷ Number 1 ∷ Rest ∷ []
+
+abbrev pub tlsa_fields : TLSA → Values tlsa_shape
+tlsa_fields x = (cert_usage_number x.cert_usage, (selector_number x.selector, (matching_number x.matching, (x.cert_data, tt))))
+
+-- what is compared: of each enum the number and then the variant
+abbrev pub tlsa_key_shape : List Kind
+tlsa_key_shape = Number 1 ∷ Number 1 ∷ Number 1 ∷ Number 1 ∷ Number 1 ∷ Number 1 ∷ Rest ∷ []
+
+abbrev pub tlsa_keys : TLSA → Values tlsa_key_shape
+tlsa_keys x = (
+  cert_usage_number x.cert_usage,
+  (
+    cert_usage_variant x.cert_usage,
+    (
+      selector_number x.selector,
+      (
+        selector_variant x.selector,
+        (
+          matching_number x.matching,
+          (
+            matching_variant x.matching,
+            (x.cert_data, tt),
+          ),
+        ),
+      ),
+    ),
+  ),
+)
+
+-- the enums are those of their numbers
+pub record IsReadTlsa (x : TLSA) : Type 0 where
+  pub usage : x.cert_usage ≡ cert_usage_of (cert_usage_number x.cert_usage)
+  pub selector : x.selector ≡ selector_of (selector_number x.selector)
+  pub matching : x.matching ≡ matching_of (matching_number x.matching)
+
+-- the three numbers and the data in hexadecimal, a blank between
+abbrev pub tlsa_text : TLSA → List ℕ
+tlsa_text x = decimal (cert_usage_number x.cert_usage) ++ codes " " ++ decimal (selector_number x.selector) ++ codes " "
+    ++ decimal (matching_number x.matching) ++ codes " " ++ encode_lower x.cert_data
+
+-- three octets of fixed fields
+abbrev pub tlsa_refusal : ℕ → Reading → DecodeError → Reading → Type 0
+tlsa_refusal n old e new = rest_refusal 3 n old e new

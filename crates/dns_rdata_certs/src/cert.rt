@@ -1,0 +1,185 @@
+//! CERT: a certificate (RFC 4398, 2).
+
+ghost use Rattle.std.specs.Prelude.{◌≡◌, length as list_length, IfErr, IfOk};
+ghost use Rattle.std.specs.String.{string_bytes};
+ghost use Rattle.dns_names_wire.specs.Words.{ReadsTo, ReadsWindow, Emits};
+ghost use Rattle.dns_rdata_certs.specs.CERT.{cert_shape, cert_fields, cert_condition, cert_key_shape, cert_keys, IsReadCert, cert_data_text, cert_refusal, ReadsWholeCert, whole_cert_refusal};
+
+mod algorithm;
+mod cert_type;
+
+pub use algorithm::Algorithm;
+use base64::display::Base64Display;
+use base64::engine::general_purpose::STANDARD;
+pub use cert_type::CertType;
+use dns_names_wire::{
+    BinDecoder, BinEncodable, BinEncoder, DecodeError, Octets, ProtoError, Restrict,
+};
+use dns_rdata_base::RecordDataDecodable;
+use std::alloc::{AllocError, Global};
+use std::fmt;
+
+/// A certificate (RFC 4398, 2): two octets of its type, two of a key tag, one of an algorithm, and then the certificate
+/// to the end of the record's length. One without octets is emitted, and never read.
+#[derive(Debug, Drop, Hash)]
+pub struct CERT {
+    /// The type of the certificate.
+    pub cert_type: CertType,
+    /// The tag of its key (RFC 4034, B), or 0.
+    pub key_tag: u16,
+    /// The algorithm of its key.
+    pub algorithm: Algorithm,
+    /// The certificate.
+    pub cert_data: Octets,
+}
+
+impl CERT {
+    /// With these fields, which are moved.
+    pub fn new(cert_type: CertType, key_tag: u16, algorithm: Algorithm, cert_data: Vec<u8>) -> CERT
+        ensures kind { result.cert_type ≡ cert_type }
+        ensures tag { result.key_tag ≡ key_tag }
+        ensures algorithm { result.algorithm ≡ algorithm }
+        ensures data { result.cert_data ≡ cert_data.items }
+    {
+        CERT {
+            cert_type,
+            key_tag,
+            algorithm,
+            cert_data: Octets::from_vec(cert_data),
+        }
+    }
+
+    /// The certificate in base64 (RFC 4648, 4). Fails only for want of memory.
+    pub fn cert_base64(&self) -> Result<String, AllocError>
+        ensures { IfOk result (λ text. string_bytes text ≡ cert_data_text self.now) }
+    {
+        STANDARD.encode(self.cert_data.allocator(), self.cert_data.as_slice())
+    }
+
+    /// The record that all these octets are. Refused by `IncorrectRDataLengthRead` of their number and 6 where they
+    /// are fewer than 6, and of their number and 65535 where they are more than that; and for want of memory.
+    pub fn try_from(alloc: Global, octets: &[u8]) -> Result<CERT, DecodeError>
+        ensures reads { ReadsWholeCert octets.now result }
+        ensures enums { IfOk result IsReadCert }
+        ensures refused { IfErr result (λ e. whole_cert_refusal (list_length octets.now) e) }
+    {
+        let read = octets.len();
+        if read > 65535 {
+            return Err(DecodeError::IncorrectRDataLengthRead { read, len: 65535 });
+        }
+        let mut decoder = BinDecoder::new(alloc, octets);
+        let _start = decoder.index();
+        CERT::read_filled(&mut decoder, Restrict::new(read as u16))
+    }
+
+    // Reads the fields that fill the length.
+    #[tactic(auto, using(dns_names_wire::proofs::FieldReads::reading))]
+    fn read_filled(decoder: &mut BinDecoder<'_>, length: Restrict<u16>) -> Result<CERT, DecodeError>
+        ensures fields { ReadsTo cert_shape cert_condition length cert_fields result decoder.old decoder.new }
+        ensures enums { IfOk result IsReadCert }
+        ensures refused { IfErr result (λ e. cert_refusal length decoder.old e decoder.new) }
+    {
+        let _start = decoder.index();
+        let len = length.unverified() as usize;
+        if len < 6 {
+            return Err(DecodeError::IncorrectRDataLengthRead { read: len, len: 6 });
+        }
+        let cert_type = CertType::from(decoder.read_u16()?.unverified());
+        let key_tag = decoder.read_u16()?.unverified();
+        let algorithm = Algorithm::from(decoder.read_u8()?.unverified());
+        let cert_data = decoder.read_vec(len - 5)?.unverified();
+        Ok(CERT::new(cert_type, key_tag, algorithm, cert_data))
+    }
+}
+
+impl RecordDataDecodable for CERT {
+    ghost kinds = { cert_shape };
+
+    ghost condition = { cert_condition };
+
+    ghost fields = { cert_fields };
+
+    /// Reads five octets of numbers, and the rest of the length by one request for memory. A length below 6 is refused
+    /// by `IncorrectRDataLengthRead` of the length and 6, and nothing is taken. Where octets are missing it is refused
+    /// by `InsufficientBytes`, and the numbers that are there are taken.
+    #[inline]
+    fn read_data(decoder: &mut BinDecoder<'_>, length: Restrict<u16>) -> Result<CERT, DecodeError>
+        ensures window { ReadsWindow cert_shape cert_condition cert_fields length result decoder.old decoder.new }
+        ensures enums { IfOk result IsReadCert }
+        ensures refused { IfErr result (λ e. cert_refusal length decoder.old e decoder.new) }
+    {
+        let _start = decoder.index();
+        CERT::read_filled(decoder, length)
+    }
+}
+
+impl BinEncodable for CERT {
+    ghost emits = { λ x r old new. Emits cert_shape (cert_fields x) r old new };
+
+    /// Appends the three numbers and the certificate.
+    #[tactic(auto, using(dns_names_wire::proofs::FieldWrites::writing))]
+    fn emit(&self, encoder: &mut BinEncoder<'_>) -> Result<(), ProtoError> {
+        encoder.emit_u16(u16::from(self.cert_type))?;
+        encoder.emit_u16(self.key_tag)?;
+        encoder.emit_u8(u8::from(self.algorithm))?;
+        encoder.emit_vec(self.cert_data.as_slice())?;
+        Ok(())
+    }
+}
+
+impl PartialEq for CERT {
+    ghost use Rattle.std.specs.Cmp.{partial_equiv_from_equiv, on_equiv};
+    ghost use Rattle.dns_fields.specs.Equal.{values_eq, values_equiv};
+
+    ghost eq = { λ a b. values_eq cert_key_shape (cert_keys a) (cert_keys b) };
+
+    ghost laws = { partial_equiv_from_equiv (on_equiv cert_keys (values_equiv cert_key_shape)) };
+
+    fn eq(&self, other: &CERT) -> bool {
+        self.cert_type == other.cert_type
+            && self.key_tag == other.key_tag
+            && self.algorithm == other.algorithm
+            && self.cert_data == other.cert_data
+    }
+}
+
+impl Eq for CERT {
+    ghost use Rattle.std.specs.Cmp.{on_equiv};
+    ghost use Rattle.dns_fields.specs.Equal.{values_equiv};
+
+    ghost laws = { on_equiv cert_keys (values_equiv cert_key_shape) };
+}
+
+impl Clone for CERT {
+    ghost is_clone = { λ a b. b ≡ a };
+
+    /// The same fields, the certificate in memory of its own.
+    fn clone(&self) -> Result<CERT, AllocError>
+        ensures { IfOk result (λ copy. copy ≡ self.now) }
+    {
+        Ok(CERT {
+            cert_type: self.cert_type,
+            key_tag: self.key_tag,
+            algorithm: self.algorithm,
+            cert_data: self.cert_data.clone()?,
+        })
+    }
+}
+
+impl fmt::Display for CERT {
+    ghost use Rattle.std.specs.Prelude.{Some};
+    ghost use Rattle.dns_rdata_certs.specs.CERT.{cert_text};
+
+    ghost output = { λ x. Some (cert_text x) };
+
+    /// The type, the key tag in decimal, the algorithm and the certificate in base64, a blank between:
+    /// `PKIX 12345 RSASHA256 QVFJRA==`.
+    fn fmt<W: fmt::Write>(&self, f: &mut fmt::Formatter<W>) -> fmt::Result {
+        let cert_type = self.cert_type;
+        let key_tag = self.key_tag;
+        let algorithm = self.algorithm;
+        let engine = STANDARD;
+        let data = Base64Display::new(self.cert_data.as_slice(), &engine);
+        write!(f, "{cert_type} {key_tag} {algorithm} {data}")
+    }
+}

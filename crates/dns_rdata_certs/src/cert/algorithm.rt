@@ -1,0 +1,277 @@
+//! The algorithm of a certificate in CERT (RFC 4398, 2).
+
+ghost use Rattle.std.specs.Prelude.{◌≡◌, IfErr, OnErr};
+ghost use Rattle.dns_names_wire.specs.Words.{ReadsBy, LacksOctets};
+ghost use Rattle.dns_rdata_certs.specs.CertAlgorithm.{cert_algorithm_number, cert_algorithm_variant, cert_algorithm_of};
+
+use dns_names_wire::{BinDecodable, BinDecoder, DecodeError};
+use std::cmp::Ordering;
+use std::fmt;
+use std::hash::{Hash, Hasher};
+
+/// The algorithm of a certificate, with the numbers of DNSSEC's algorithms (RFC 4398, 2; RFC 4034, A.1). Algorithms are ordered by
+/// number, and then as declared here.
+#[derive(Clone, Copy, Debug)]
+pub enum Algorithm {
+    /// Reserved: `from` gives it for 0, 9 and 11.
+    Reserved(u8),
+    /// RSA and MD5 (1).
+    RSAMD5,
+    /// Diffie-Hellman (2).
+    DH,
+    /// DSA and SHA-1 (3).
+    DSA,
+    /// Elliptic curves (4).
+    ECC,
+    /// RSA and SHA-1 (5).
+    RSASHA1,
+    /// Indirect keys (252).
+    INDIRECT,
+    /// Private by a domain name (253).
+    PRIVATEDNS,
+    /// Private by an object identifier (254).
+    PRIVATEOID,
+    /// DSA and SHA-1, with NSEC3 (6).
+    DSANSEC3SHA1,
+    /// RSA and SHA-1, with NSEC3 (7).
+    RSASHA1NSEC3SHA1,
+    /// RSA and SHA-256 (8).
+    RSASHA256,
+    /// RSA and SHA-512 (10).
+    RSASHA512,
+    /// GOST R 34.10-2001 (12).
+    ECCGOST,
+    /// ECDSA on P-256 and SHA-256 (13).
+    ECDSAP256SHA256,
+    /// ECDSA on P-384 and SHA-384 (14).
+    ECDSAP384SHA384,
+    /// Ed25519 (15).
+    ED25519,
+    /// Ed448 (16).
+    ED448,
+    /// SM2 and SM3 (17).
+    SM2SM3,
+    /// GOST R 34.10-2012 (23).
+    ECCGOST12,
+    /// A number that is given to no algorithm: `from` gives it for every other number.
+    Unassigned(u8),
+}
+
+#[tactic(auto, unfolding(crate::specs::CertAlgorithm::cert_algorithm_of))]
+impl From<u8> for Algorithm {
+    ghost from_gives = { λ n e. (e ≡ cert_algorithm_of n) × (cert_algorithm_number e ≡ n) };
+
+    #[inline]
+    fn from(value: u8) -> Algorithm {
+        match value {
+            0 | 9 | 11 => Algorithm::Reserved(value),
+            1 => Algorithm::RSAMD5,
+            2 => Algorithm::DH,
+            3 => Algorithm::DSA,
+            4 => Algorithm::ECC,
+            5 => Algorithm::RSASHA1,
+            6 => Algorithm::DSANSEC3SHA1,
+            7 => Algorithm::RSASHA1NSEC3SHA1,
+            8 => Algorithm::RSASHA256,
+            10 => Algorithm::RSASHA512,
+            12 => Algorithm::ECCGOST,
+            13 => Algorithm::ECDSAP256SHA256,
+            14 => Algorithm::ECDSAP384SHA384,
+            15 => Algorithm::ED25519,
+            16 => Algorithm::ED448,
+            17 => Algorithm::SM2SM3,
+            23 => Algorithm::ECCGOST12,
+            252 => Algorithm::INDIRECT,
+            253 => Algorithm::PRIVATEDNS,
+            254 => Algorithm::PRIVATEOID,
+            _ => Algorithm::Unassigned(value),
+        }
+    }
+}
+
+impl From<Algorithm> for u8 {
+    ghost from_gives = { λ e n. n ≡ cert_algorithm_number e };
+
+    #[inline]
+    fn from(value: Algorithm) -> u8 {
+        match value {
+            Algorithm::Reserved(number) => number,
+            Algorithm::RSAMD5 => 1,
+            Algorithm::DH => 2,
+            Algorithm::DSA => 3,
+            Algorithm::ECC => 4,
+            Algorithm::RSASHA1 => 5,
+            Algorithm::INDIRECT => 252,
+            Algorithm::PRIVATEDNS => 253,
+            Algorithm::PRIVATEOID => 254,
+            Algorithm::DSANSEC3SHA1 => 6,
+            Algorithm::RSASHA1NSEC3SHA1 => 7,
+            Algorithm::RSASHA256 => 8,
+            Algorithm::RSASHA512 => 10,
+            Algorithm::ECCGOST => 12,
+            Algorithm::ECDSAP256SHA256 => 13,
+            Algorithm::ECDSAP384SHA384 => 14,
+            Algorithm::ED25519 => 15,
+            Algorithm::ED448 => 16,
+            Algorithm::SM2SM3 => 17,
+            Algorithm::ECCGOST12 => 23,
+            Algorithm::Unassigned(number) => number,
+        }
+    }
+}
+
+impl Algorithm {
+    // The place in the declaration.
+    #[inline]
+    fn variant(self) -> u8
+        ensures { result ≡ cert_algorithm_variant self }
+    {
+        match self {
+            Algorithm::Reserved(_) => 0,
+            Algorithm::RSAMD5 => 1,
+            Algorithm::DH => 2,
+            Algorithm::DSA => 3,
+            Algorithm::ECC => 4,
+            Algorithm::RSASHA1 => 5,
+            Algorithm::INDIRECT => 6,
+            Algorithm::PRIVATEDNS => 7,
+            Algorithm::PRIVATEOID => 8,
+            Algorithm::DSANSEC3SHA1 => 9,
+            Algorithm::RSASHA1NSEC3SHA1 => 10,
+            Algorithm::RSASHA256 => 11,
+            Algorithm::RSASHA512 => 12,
+            Algorithm::ECCGOST => 13,
+            Algorithm::ECDSAP256SHA256 => 14,
+            Algorithm::ECDSAP384SHA384 => 15,
+            Algorithm::ED25519 => 16,
+            Algorithm::ED448 => 17,
+            Algorithm::SM2SM3 => 18,
+            Algorithm::ECCGOST12 => 19,
+            Algorithm::Unassigned(_) => 20,
+        }
+    }
+}
+
+impl PartialEq for Algorithm {
+    ghost use Rattle.std.specs.Cmp.{partial_equiv_from_equiv};
+    ghost use Rattle.dns_rdata_base.specs.Numbered.{numbered_eq, numbered_equiv};
+
+    ghost eq = { numbered_eq cert_algorithm_number cert_algorithm_variant };
+
+    ghost laws = { partial_equiv_from_equiv (numbered_equiv cert_algorithm_number cert_algorithm_variant) };
+
+    #[inline]
+    fn eq(&self, other: &Algorithm) -> bool {
+        u8::from(*self) == u8::from(*other) && self.variant() == other.variant()
+    }
+}
+
+impl Eq for Algorithm {
+    ghost use Rattle.dns_rdata_base.specs.Numbered.{numbered_equiv};
+
+    ghost laws = { numbered_equiv cert_algorithm_number cert_algorithm_variant };
+}
+
+impl Hash for Algorithm {
+    ghost use Rattle.std.specs.Prelude.{◌++◌};
+    ghost use Rattle.std.specs.Hash as fed;
+    ghost use Rattle.std.specs.Cmp.Rules.{hashing};
+    ghost use Rattle.std.proofs.Common.{rules};
+
+    ghost hash_input = { λ e. fed.u8 (cert_algorithm_number e) ++ fed.u8 (cert_algorithm_variant e) };
+
+    ghost respects_eq = { Prim.search (hashing, rules) };
+
+    #[inline]
+    fn hash<H: Hasher>(&self, state: &mut H) {
+        u8::from(*self).hash(state);
+        self.variant().hash(state);
+    }
+}
+
+impl PartialOrd for Algorithm {
+    ghost use Rattle.std.specs.Prelude.{refl};
+    ghost use Rattle.std.specs.Cmp.{partial_order_from_agreeing_total};
+    ghost use Rattle.std.specs.Ordering.{as_partial_cmp};
+    ghost use Rattle.dns_rdata_base.specs.Numbered.{numbered_cmp, numbered_total, numbered_ties};
+
+    ghost partial_cmp = { as_partial_cmp (numbered_cmp cert_algorithm_number cert_algorithm_variant) };
+
+    ghost laws = { partial_order_from_agreeing_total (numbered_cmp cert_algorithm_number cert_algorithm_variant) (numbered_total cert_algorithm_number cert_algorithm_variant) (λ _ _. refl) (numbered_ties cert_algorithm_number cert_algorithm_variant) };
+
+    #[inline]
+    fn partial_cmp(&self, other: &Algorithm) -> Option<Ordering> {
+        Some(self.cmp(other))
+    }
+}
+
+impl Ord for Algorithm {
+    ghost use Rattle.std.specs.Prelude.{refl};
+    ghost use Rattle.dns_rdata_base.specs.Numbered.{numbered_cmp, numbered_total, numbered_ties};
+
+    ghost cmp = { numbered_cmp cert_algorithm_number cert_algorithm_variant };
+
+    ghost total = { numbered_total cert_algorithm_number cert_algorithm_variant };
+
+    ghost matches_partial_cmp = { λ _ _. refl };
+
+    ghost matches_eq = { numbered_ties cert_algorithm_number cert_algorithm_variant };
+
+    #[inline]
+    fn cmp(&self, other: &Algorithm) -> Ordering {
+        let numbers = u8::from(*self).cmp(&u8::from(*other));
+        numbers.then(self.variant().cmp(&other.variant()))
+    }
+}
+
+impl BinDecodable for Algorithm {
+    ghost use Rattle.dns_rdata_base.specs.Numbered.{NumberedAt};
+
+    ghost stands = { NumberedAt 1 cert_algorithm_number cert_algorithm_of };
+
+    /// Reads the number in one octet. Where none is left, it is refused, and takes none.
+    #[inline]
+    fn read(decoder: &mut BinDecoder<'_>) -> Result<Algorithm, DecodeError>
+        ensures reads { ReadsBy (NumberedAt 1 cert_algorithm_number cert_algorithm_of) result decoder.old decoder.new }
+        ensures lacking { IfErr result (λ e. (e ≡ DecodeError.InsufficientBytes) × LacksOctets decoder.old 1) }
+        ensures unchanged { OnErr result (decoder.new ≡ decoder.old) }
+    {
+        let number = decoder.read_u8()?.unverified();
+        Ok(Algorithm::from(number))
+    }
+}
+
+impl fmt::Display for Algorithm {
+    ghost use Rattle.std.specs.Prelude.{Some};
+    ghost use Rattle.dns_rdata_certs.specs.CertAlgorithm.{cert_algorithm_text};
+
+    ghost output = { λ e. Some (cert_algorithm_text e) };
+
+    /// The variant's name, and its number in parentheses where it has one inside: `RSASHA256`, `Unassigned(18)`.
+    #[tactic(auto, unfolding(crate::specs::CertAlgorithm::cert_algorithm_text))]
+    fn fmt<W: fmt::Write>(&self, f: &mut fmt::Formatter<W>) -> fmt::Result {
+        match *self {
+            Algorithm::Reserved(number) => write!(f, "Reserved({number})"),
+            Algorithm::RSAMD5 => f.write_str("RSAMD5"),
+            Algorithm::DH => f.write_str("DH"),
+            Algorithm::DSA => f.write_str("DSA"),
+            Algorithm::ECC => f.write_str("ECC"),
+            Algorithm::RSASHA1 => f.write_str("RSASHA1"),
+            Algorithm::INDIRECT => f.write_str("INDIRECT"),
+            Algorithm::PRIVATEDNS => f.write_str("PRIVATEDNS"),
+            Algorithm::PRIVATEOID => f.write_str("PRIVATEOID"),
+            Algorithm::DSANSEC3SHA1 => f.write_str("DSANSEC3SHA1"),
+            Algorithm::RSASHA1NSEC3SHA1 => f.write_str("RSASHA1NSEC3SHA1"),
+            Algorithm::RSASHA256 => f.write_str("RSASHA256"),
+            Algorithm::RSASHA512 => f.write_str("RSASHA512"),
+            Algorithm::ECCGOST => f.write_str("ECCGOST"),
+            Algorithm::ECDSAP256SHA256 => f.write_str("ECDSAP256SHA256"),
+            Algorithm::ECDSAP384SHA384 => f.write_str("ECDSAP384SHA384"),
+            Algorithm::ED25519 => f.write_str("ED25519"),
+            Algorithm::ED448 => f.write_str("ED448"),
+            Algorithm::SM2SM3 => f.write_str("SM2SM3"),
+            Algorithm::ECCGOST12 => f.write_str("ECCGOST12"),
+            Algorithm::Unassigned(number) => write!(f, "Unassigned({number})"),
+        }
+    }
+}

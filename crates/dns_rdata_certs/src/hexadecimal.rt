@@ -1,0 +1,80 @@
+//! Octets as hexadecimal text.
+
+ghost use Rattle.std.specs.Prelude.{◌≡◌, IfOk};
+ghost use Rattle.std.specs.String.{string_bytes};
+ghost use Rattle.hex.specs.Hex.{encode_lower};
+ghost use Rattle.dns_rdata_certs.specs.HEX.{is_blank, without_blanks, DecodesHex};
+
+use dns_types::ParseError;
+use hex::FromHexError;
+use std::alloc::{AllocError, Global};
+use std::{fmt, str};
+
+/// Hexadecimal text: two digits for each octet, the higher four bits first.
+#[derive(Clone, Copy, Debug)]
+pub struct HEX;
+
+impl HEX {
+    /// The digits of the octets, in lower case. Fails only for want of memory.
+    pub fn encode(&self, alloc: Global, octets: &[u8]) -> Result<String, AllocError>
+        ensures text { IfOk result (λ text. string_bytes text ≡ encode_lower octets.now) }
+    {
+        hex::encode(alloc, octets)
+    }
+
+    /// The octets of a text of digits of either case, in which spaces, tabs, CR and LF may stand anywhere. An odd
+    /// number of digits or any other octet is refused by `Message`.
+    pub fn decode(&self, alloc: Global, text: &[u8]) -> Result<Vec<u8>, ParseError>
+        ensures decodes { DecodesHex text.now result }
+    {
+        let digits = digits_of(alloc, text)?;
+        match hex::decode(alloc, digits.as_slice()) {
+            Ok(octets) => Ok(octets),
+            Err(FromHexError::OutOfMemory) => Err(ParseError::Memory),
+            Err(_) => Err(ParseError::Message("invalid hexadecimal text")),
+        }
+    }
+}
+
+// The text without its blanks.
+fn digits_of(alloc: Global, text: &[u8]) -> Result<Vec<u8>, AllocError>
+    ensures { IfOk result (λ digits. digits.items ≡ without_blanks text.now) }
+{
+    let mut digits = Vec::with_capacity(alloc, text.len())?;
+    for octet in text {
+        if !is_blank(*octet) {
+            digits.push(*octet)?;
+        }
+    }
+    Ok(digits)
+}
+
+#[inline]
+fn is_blank(octet: u8) -> bool
+    ensures { result ≡ is_blank octet }
+{
+    matches!(octet, b' ' | b'\t' | b'\r' | b'\n')
+}
+
+/// Octets that print as hexadecimal digits in lower case, without memory.
+#[derive(Clone, Copy)]
+pub struct Hexadecimal<'a>(pub &'a [u8]);
+
+impl fmt::Display for Hexadecimal<'_> {
+    ghost use Rattle.std.specs.Prelude.{Some};
+    ghost use Rattle.hex.specs.Hex.{encode_lower};
+
+    ghost output = { λ h. Some (encode_lower h.0.now) };
+
+    /// Two digits for each octet: `3b6b`.
+    fn fmt<W: fmt::Write>(&self, f: &mut fmt::Formatter<W>) -> fmt::Result {
+        let mut digits = [0u8; 2];
+        for octet in self.0 {
+            let Ok(()) = hex::encode_to_slice([*octet].as_slice(), &mut digits) else {
+                return Err(fmt::Error);
+            };
+            f.write_str(str::from_utf8(&digits).map_err(|_| fmt::Error)?)?;
+        }
+        Ok(())
+    }
+}

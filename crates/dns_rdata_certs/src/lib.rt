@@ -1,0 +1,16 @@
+//! The data of DNS records with certificates, keys and fingerprints.
+#![tactic(auto)]
+
+pub mod cert;
+pub mod hexadecimal;
+pub mod smimea;
+pub mod sshfp;
+#[cfg(test)]
+mod tests;
+pub mod tlsa;
+
+pub use cert::CERT;
+pub use hexadecimal::HEX;
+pub use smimea::SMIMEA;
+pub use sshfp::SSHFP;
+pub use tlsa::TLSA;

@@ -1,0 +1,157 @@
+//! SSHFP: the fingerprint of a host's key (RFC 4255, 3.1).
+
+ghost use Rattle.std.specs.Prelude.{◌≡◌, IfErr, IfOk};
+ghost use Rattle.dns_names_wire.specs.Words.{ReadsTo, ReadsWindow, Emits};
+ghost use Rattle.dns_rdata_certs.specs.SSHFP.{sshfp_shape, sshfp_fields, sshfp_key_shape, sshfp_keys, IsReadSshfp, sshfp_refusal};
+
+mod algorithm;
+mod fingerprint_type;
+
+use crate::hexadecimal::Hexadecimal;
+pub use algorithm::Algorithm;
+use dns_names_wire::{
+    BinDecoder, BinEncodable, BinEncoder, DecodeError, Octets, ProtoError, Restrict,
+};
+use dns_rdata_base::RecordDataDecodable;
+pub use fingerprint_type::FingerprintType;
+use std::alloc::AllocError;
+use std::fmt;
+
+/// The fingerprint of a host's key (RFC 4255, 3.1): an octet each for the key's algorithm and the fingerprint's type,
+/// and then the fingerprint to the end of the record's length.
+#[derive(Debug, Drop, Hash)]
+pub struct SSHFP {
+    /// The algorithm of the key.
+    pub algorithm: Algorithm,
+    /// How the fingerprint is made.
+    pub fingerprint_type: FingerprintType,
+    /// The fingerprint.
+    pub fingerprint: Octets,
+}
+
+impl SSHFP {
+    /// With these fields, which are moved.
+    pub fn new(
+        algorithm: Algorithm,
+        fingerprint_type: FingerprintType,
+        fingerprint: Vec<u8>,
+    ) -> SSHFP
+        ensures algorithm { result.algorithm ≡ algorithm }
+        ensures kind { result.fingerprint_type ≡ fingerprint_type }
+        ensures fingerprint { result.fingerprint ≡ fingerprint.items }
+    {
+        SSHFP {
+            algorithm,
+            fingerprint_type,
+            fingerprint: Octets::from_vec(fingerprint),
+        }
+    }
+
+    // Reads the fields that fill the length.
+    #[tactic(auto, using(dns_names_wire::proofs::FieldReads::reading))]
+    fn read_filled(
+        decoder: &mut BinDecoder<'_>,
+        length: Restrict<u16>,
+    ) -> Result<SSHFP, DecodeError>
+        ensures fields { ReadsTo sshfp_shape (λ _. Unit {0}) length sshfp_fields result decoder.old decoder.new }
+        ensures enums { IfOk result IsReadSshfp }
+        ensures refused { IfErr result (λ e. sshfp_refusal length decoder.old e decoder.new) }
+    {
+        let start = decoder.index();
+        let algorithm = Algorithm::from(decoder.read_u8()?.unverified());
+        let fingerprint_type = FingerprintType::from(decoder.read_u8()?.unverified());
+        let read = decoder.index() - start;
+        let len = length.unverified() as usize;
+        if len < read {
+            return Err(DecodeError::IncorrectRDataLengthRead { read, len });
+        }
+        let fingerprint = decoder.read_vec(len - read)?.unverified();
+        Ok(SSHFP::new(algorithm, fingerprint_type, fingerprint))
+    }
+}
+
+impl RecordDataDecodable for SSHFP {
+    ghost kinds = { sshfp_shape };
+
+    ghost condition = { λ _. Unit {0} };
+
+    ghost fields = { sshfp_fields };
+
+    /// Reads two octets of numbers, and the rest of the length by one request for memory. Where the two pass the length
+    /// it is refused by `IncorrectRDataLengthRead` of 2 and the length. Where octets are missing it is refused by
+    /// `InsufficientBytes`, and the numbers that are there are taken.
+    #[inline]
+    fn read_data(decoder: &mut BinDecoder<'_>, length: Restrict<u16>) -> Result<SSHFP, DecodeError>
+        ensures window { ReadsWindow sshfp_shape (λ _. Unit {0}) sshfp_fields length result decoder.old decoder.new }
+        ensures enums { IfOk result IsReadSshfp }
+        ensures refused { IfErr result (λ e. sshfp_refusal length decoder.old e decoder.new) }
+    {
+        let _start = decoder.index();
+        SSHFP::read_filled(decoder, length)
+    }
+}
+
+impl BinEncodable for SSHFP {
+    ghost emits = { λ x r old new. Emits sshfp_shape (sshfp_fields x) r old new };
+
+    /// Appends the two numbers and the fingerprint.
+    #[tactic(auto, using(dns_names_wire::proofs::FieldWrites::writing))]
+    fn emit(&self, encoder: &mut BinEncoder<'_>) -> Result<(), ProtoError> {
+        encoder.emit_u8(u8::from(self.algorithm))?;
+        encoder.emit_u8(u8::from(self.fingerprint_type))?;
+        encoder.emit_vec(self.fingerprint.as_slice())?;
+        Ok(())
+    }
+}
+
+impl PartialEq for SSHFP {
+    ghost use Rattle.std.specs.Cmp.{partial_equiv_from_equiv, on_equiv};
+    ghost use Rattle.dns_fields.specs.Equal.{values_eq, values_equiv};
+
+    ghost eq = { λ a b. values_eq sshfp_key_shape (sshfp_keys a) (sshfp_keys b) };
+
+    ghost laws = { partial_equiv_from_equiv (on_equiv sshfp_keys (values_equiv sshfp_key_shape)) };
+
+    fn eq(&self, other: &SSHFP) -> bool {
+        self.algorithm == other.algorithm
+            && self.fingerprint_type == other.fingerprint_type
+            && self.fingerprint == other.fingerprint
+    }
+}
+
+impl Eq for SSHFP {
+    ghost use Rattle.std.specs.Cmp.{on_equiv};
+    ghost use Rattle.dns_fields.specs.Equal.{values_equiv};
+
+    ghost laws = { on_equiv sshfp_keys (values_equiv sshfp_key_shape) };
+}
+
+impl Clone for SSHFP {
+    ghost is_clone = { λ a b. b ≡ a };
+
+    /// The same fields, the fingerprint in memory of its own.
+    fn clone(&self) -> Result<SSHFP, AllocError>
+        ensures { IfOk result (λ copy. copy ≡ self.now) }
+    {
+        Ok(SSHFP {
+            algorithm: self.algorithm,
+            fingerprint_type: self.fingerprint_type,
+            fingerprint: self.fingerprint.clone()?,
+        })
+    }
+}
+
+impl fmt::Display for SSHFP {
+    ghost use Rattle.std.specs.Prelude.{Some};
+    ghost use Rattle.dns_rdata_certs.specs.SSHFP.{sshfp_text};
+
+    ghost output = { λ x. Some (sshfp_text x) };
+
+    /// The two numbers in decimal and the fingerprint in hexadecimal, a blank between: `2 1 3b6b`.
+    fn fmt<W: fmt::Write>(&self, f: &mut fmt::Formatter<W>) -> fmt::Result {
+        let algorithm = u8::from(self.algorithm);
+        let fingerprint_type = u8::from(self.fingerprint_type);
+        let fingerprint = Hexadecimal(self.fingerprint.as_slice());
+        write!(f, "{algorithm} {fingerprint_type} {fingerprint}")
+    }
+}

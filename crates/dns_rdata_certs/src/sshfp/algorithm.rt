@@ -1,0 +1,151 @@
+//! The algorithm of a key in SSHFP (RFC 4255, 3.1.1).
+
+ghost use Rattle.std.specs.Prelude.{◌≡◌};
+ghost use Rattle.dns_rdata_certs.specs.SshfpAlgorithm.{sshfp_algorithm_number, sshfp_algorithm_variant, sshfp_algorithm_of};
+
+use std::cmp::Ordering;
+use std::hash::{Hash, Hasher};
+
+/// The algorithm of a host's key (RFC 4255, 3.1.1). Algorithms are ordered by number, and then as declared here.
+#[derive(Clone, Copy, Debug)]
+pub enum Algorithm {
+    /// Reserved (0).
+    Reserved,
+    /// RSA (1).
+    RSA,
+    /// DSA (2).
+    DSA,
+    /// ECDSA (3; RFC 6594).
+    ECDSA,
+    /// Ed25519 (4; RFC 7479).
+    Ed25519,
+    /// Ed448 (6; RFC 8709).
+    Ed448,
+    /// A number that is given to no algorithm: `from` gives it for every other number.
+    Unassigned(u8),
+}
+
+#[tactic(auto, unfolding(crate::specs::SshfpAlgorithm::sshfp_algorithm_of))]
+impl From<u8> for Algorithm {
+    ghost from_gives = { λ n e. (e ≡ sshfp_algorithm_of n) × (sshfp_algorithm_number e ≡ n) };
+
+    #[inline]
+    fn from(value: u8) -> Algorithm {
+        match value {
+            0 => Algorithm::Reserved,
+            1 => Algorithm::RSA,
+            2 => Algorithm::DSA,
+            3 => Algorithm::ECDSA,
+            4 => Algorithm::Ed25519,
+            6 => Algorithm::Ed448,
+            _ => Algorithm::Unassigned(value),
+        }
+    }
+}
+
+impl From<Algorithm> for u8 {
+    ghost from_gives = { λ e n. n ≡ sshfp_algorithm_number e };
+
+    #[inline]
+    fn from(value: Algorithm) -> u8 {
+        match value {
+            Algorithm::Reserved => 0,
+            Algorithm::RSA => 1,
+            Algorithm::DSA => 2,
+            Algorithm::ECDSA => 3,
+            Algorithm::Ed25519 => 4,
+            Algorithm::Ed448 => 6,
+            Algorithm::Unassigned(number) => number,
+        }
+    }
+}
+
+impl Algorithm {
+    // The place in the declaration.
+    #[inline]
+    fn variant(self) -> u8
+        ensures { result ≡ sshfp_algorithm_variant self }
+    {
+        match self {
+            Algorithm::Reserved => 0,
+            Algorithm::RSA => 1,
+            Algorithm::DSA => 2,
+            Algorithm::ECDSA => 3,
+            Algorithm::Ed25519 => 4,
+            Algorithm::Ed448 => 5,
+            Algorithm::Unassigned(_) => 6,
+        }
+    }
+}
+
+impl PartialEq for Algorithm {
+    ghost use Rattle.std.specs.Cmp.{partial_equiv_from_equiv};
+    ghost use Rattle.dns_rdata_base.specs.Numbered.{numbered_eq, numbered_equiv};
+
+    ghost eq = { numbered_eq sshfp_algorithm_number sshfp_algorithm_variant };
+
+    ghost laws = { partial_equiv_from_equiv (numbered_equiv sshfp_algorithm_number sshfp_algorithm_variant) };
+
+    #[inline]
+    fn eq(&self, other: &Algorithm) -> bool {
+        u8::from(*self) == u8::from(*other) && self.variant() == other.variant()
+    }
+}
+
+impl Eq for Algorithm {
+    ghost use Rattle.dns_rdata_base.specs.Numbered.{numbered_equiv};
+
+    ghost laws = { numbered_equiv sshfp_algorithm_number sshfp_algorithm_variant };
+}
+
+impl Hash for Algorithm {
+    ghost use Rattle.std.specs.Prelude.{◌++◌};
+    ghost use Rattle.std.specs.Hash as fed;
+    ghost use Rattle.std.specs.Cmp.Rules.{hashing};
+    ghost use Rattle.std.proofs.Common.{rules};
+
+    ghost hash_input = { λ e. fed.u8 (sshfp_algorithm_number e) ++ fed.u8 (sshfp_algorithm_variant e) };
+
+    ghost respects_eq = { Prim.search (hashing, rules) };
+
+    #[inline]
+    fn hash<H: Hasher>(&self, state: &mut H) {
+        u8::from(*self).hash(state);
+        self.variant().hash(state);
+    }
+}
+
+impl PartialOrd for Algorithm {
+    ghost use Rattle.std.specs.Prelude.{refl};
+    ghost use Rattle.std.specs.Cmp.{partial_order_from_agreeing_total};
+    ghost use Rattle.std.specs.Ordering.{as_partial_cmp};
+    ghost use Rattle.dns_rdata_base.specs.Numbered.{numbered_cmp, numbered_total, numbered_ties};
+
+    ghost partial_cmp = { as_partial_cmp (numbered_cmp sshfp_algorithm_number sshfp_algorithm_variant) };
+
+    ghost laws = { partial_order_from_agreeing_total (numbered_cmp sshfp_algorithm_number sshfp_algorithm_variant) (numbered_total sshfp_algorithm_number sshfp_algorithm_variant) (λ _ _. refl) (numbered_ties sshfp_algorithm_number sshfp_algorithm_variant) };
+
+    #[inline]
+    fn partial_cmp(&self, other: &Algorithm) -> Option<Ordering> {
+        Some(self.cmp(other))
+    }
+}
+
+impl Ord for Algorithm {
+    ghost use Rattle.std.specs.Prelude.{refl};
+    ghost use Rattle.dns_rdata_base.specs.Numbered.{numbered_cmp, numbered_total, numbered_ties};
+
+    ghost cmp = { numbered_cmp sshfp_algorithm_number sshfp_algorithm_variant };
+
+    ghost total = { numbered_total sshfp_algorithm_number sshfp_algorithm_variant };
+
+    ghost matches_partial_cmp = { λ _ _. refl };
+
+    ghost matches_eq = { numbered_ties sshfp_algorithm_number sshfp_algorithm_variant };
+
+    #[inline]
+    fn cmp(&self, other: &Algorithm) -> Ordering {
+        let numbers = u8::from(*self).cmp(&u8::from(*other));
+        numbers.then(self.variant().cmp(&other.variant()))
+    }
+}

@@ -1,0 +1,136 @@
+//! The type of a fingerprint in SSHFP (RFC 4255, 3.1.2).
+
+ghost use Rattle.std.specs.Prelude.{◌≡◌};
+ghost use Rattle.dns_rdata_certs.specs.FingerprintType.{fingerprint_type_number, fingerprint_type_variant, fingerprint_type_of};
+
+use std::cmp::Ordering;
+use std::hash::{Hash, Hasher};
+
+/// The type of a fingerprint (RFC 4255, 3.1.2). Types are ordered by number, and then as declared here.
+#[derive(Clone, Copy, Debug)]
+pub enum FingerprintType {
+    /// Reserved (0).
+    Reserved,
+    /// SHA-1 (1).
+    SHA1,
+    /// SHA-256 (2; RFC 6594).
+    SHA256,
+    /// A number that is given to no type: `from` gives it for every other number.
+    Unassigned(u8),
+}
+
+#[tactic(auto, unfolding(crate::specs::FingerprintType::fingerprint_type_of))]
+impl From<u8> for FingerprintType {
+    ghost from_gives = { λ n e. (e ≡ fingerprint_type_of n) × (fingerprint_type_number e ≡ n) };
+
+    #[inline]
+    fn from(value: u8) -> FingerprintType {
+        match value {
+            0 => FingerprintType::Reserved,
+            1 => FingerprintType::SHA1,
+            2 => FingerprintType::SHA256,
+            _ => FingerprintType::Unassigned(value),
+        }
+    }
+}
+
+impl From<FingerprintType> for u8 {
+    ghost from_gives = { λ e n. n ≡ fingerprint_type_number e };
+
+    #[inline]
+    fn from(value: FingerprintType) -> u8 {
+        match value {
+            FingerprintType::Reserved => 0,
+            FingerprintType::SHA1 => 1,
+            FingerprintType::SHA256 => 2,
+            FingerprintType::Unassigned(number) => number,
+        }
+    }
+}
+
+impl FingerprintType {
+    // The place in the declaration.
+    #[inline]
+    fn variant(self) -> u8
+        ensures { result ≡ fingerprint_type_variant self }
+    {
+        match self {
+            FingerprintType::Reserved => 0,
+            FingerprintType::SHA1 => 1,
+            FingerprintType::SHA256 => 2,
+            FingerprintType::Unassigned(_) => 3,
+        }
+    }
+}
+
+impl PartialEq for FingerprintType {
+    ghost use Rattle.std.specs.Cmp.{partial_equiv_from_equiv};
+    ghost use Rattle.dns_rdata_base.specs.Numbered.{numbered_eq, numbered_equiv};
+
+    ghost eq = { numbered_eq fingerprint_type_number fingerprint_type_variant };
+
+    ghost laws = { partial_equiv_from_equiv (numbered_equiv fingerprint_type_number fingerprint_type_variant) };
+
+    #[inline]
+    fn eq(&self, other: &FingerprintType) -> bool {
+        u8::from(*self) == u8::from(*other) && self.variant() == other.variant()
+    }
+}
+
+impl Eq for FingerprintType {
+    ghost use Rattle.dns_rdata_base.specs.Numbered.{numbered_equiv};
+
+    ghost laws = { numbered_equiv fingerprint_type_number fingerprint_type_variant };
+}
+
+impl Hash for FingerprintType {
+    ghost use Rattle.std.specs.Prelude.{◌++◌};
+    ghost use Rattle.std.specs.Hash as fed;
+    ghost use Rattle.std.specs.Cmp.Rules.{hashing};
+    ghost use Rattle.std.proofs.Common.{rules};
+
+    ghost hash_input = { λ e. fed.u8 (fingerprint_type_number e) ++ fed.u8 (fingerprint_type_variant e) };
+
+    ghost respects_eq = { Prim.search (hashing, rules) };
+
+    #[inline]
+    fn hash<H: Hasher>(&self, state: &mut H) {
+        u8::from(*self).hash(state);
+        self.variant().hash(state);
+    }
+}
+
+impl PartialOrd for FingerprintType {
+    ghost use Rattle.std.specs.Prelude.{refl};
+    ghost use Rattle.std.specs.Cmp.{partial_order_from_agreeing_total};
+    ghost use Rattle.std.specs.Ordering.{as_partial_cmp};
+    ghost use Rattle.dns_rdata_base.specs.Numbered.{numbered_cmp, numbered_total, numbered_ties};
+
+    ghost partial_cmp = { as_partial_cmp (numbered_cmp fingerprint_type_number fingerprint_type_variant) };
+
+    ghost laws = { partial_order_from_agreeing_total (numbered_cmp fingerprint_type_number fingerprint_type_variant) (numbered_total fingerprint_type_number fingerprint_type_variant) (λ _ _. refl) (numbered_ties fingerprint_type_number fingerprint_type_variant) };
+
+    #[inline]
+    fn partial_cmp(&self, other: &FingerprintType) -> Option<Ordering> {
+        Some(self.cmp(other))
+    }
+}
+
+impl Ord for FingerprintType {
+    ghost use Rattle.std.specs.Prelude.{refl};
+    ghost use Rattle.dns_rdata_base.specs.Numbered.{numbered_cmp, numbered_total, numbered_ties};
+
+    ghost cmp = { numbered_cmp fingerprint_type_number fingerprint_type_variant };
+
+    ghost total = { numbered_total fingerprint_type_number fingerprint_type_variant };
+
+    ghost matches_partial_cmp = { λ _ _. refl };
+
+    ghost matches_eq = { numbered_ties fingerprint_type_number fingerprint_type_variant };
+
+    #[inline]
+    fn cmp(&self, other: &FingerprintType) -> Ordering {
+        let numbers = u8::from(*self).cmp(&u8::from(*other));
+        numbers.then(self.variant().cmp(&other.variant()))
+    }
+}

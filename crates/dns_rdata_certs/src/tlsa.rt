@@ -1,0 +1,166 @@
+//! TLSA: a certificate of a service (RFC 6698, 2.1).
+
+ghost use Rattle.std.specs.Prelude.{◌≡◌, IfErr, IfOk};
+ghost use Rattle.dns_names_wire.specs.Words.{ReadsTo, ReadsWindow, Emits};
+ghost use Rattle.dns_rdata_certs.specs.TLSA.{tlsa_shape, tlsa_fields, tlsa_key_shape, tlsa_keys, IsReadTlsa, tlsa_refusal};
+
+mod cert_usage;
+mod matching;
+mod selector;
+
+use crate::hexadecimal::Hexadecimal;
+pub use cert_usage::CertUsage;
+use dns_names_wire::{
+    BinDecoder, BinEncodable, BinEncoder, DecodeError, Octets, ProtoError, Restrict,
+};
+use dns_rdata_base::RecordDataDecodable;
+pub use matching::Matching;
+pub use selector::Selector;
+use std::alloc::AllocError;
+use std::fmt;
+
+/// A certificate, or what is compared with one, for a service (RFC 6698, 2.1): an octet each for usage, selector and
+/// matching type, and then the data to the end of the record's length.
+#[derive(Debug, Drop, Hash)]
+pub struct TLSA {
+    /// How the certificate is used.
+    pub cert_usage: CertUsage,
+    /// Which part of it is compared.
+    pub selector: Selector,
+    /// How that part is compared.
+    pub matching: Matching,
+    /// What it is compared with.
+    pub cert_data: Octets,
+}
+
+impl TLSA {
+    /// With these fields, which are moved.
+    pub fn new(
+        cert_usage: CertUsage,
+        selector: Selector,
+        matching: Matching,
+        cert_data: Vec<u8>,
+    ) -> TLSA
+        ensures usage { result.cert_usage ≡ cert_usage }
+        ensures selector { result.selector ≡ selector }
+        ensures matching { result.matching ≡ matching }
+        ensures data { result.cert_data ≡ cert_data.items }
+    {
+        TLSA {
+            cert_usage,
+            selector,
+            matching,
+            cert_data: Octets::from_vec(cert_data),
+        }
+    }
+
+    // Reads the fields that fill the length.
+    #[tactic(auto, using(dns_names_wire::proofs::FieldReads::reading))]
+    fn read_filled(decoder: &mut BinDecoder<'_>, length: Restrict<u16>) -> Result<TLSA, DecodeError>
+        ensures fields { ReadsTo tlsa_shape (λ _. Unit {0}) length tlsa_fields result decoder.old decoder.new }
+        ensures enums { IfOk result IsReadTlsa }
+        ensures refused { IfErr result (λ e. tlsa_refusal length decoder.old e decoder.new) }
+    {
+        let start = decoder.index();
+        let cert_usage = CertUsage::from(decoder.read_u8()?.unverified());
+        let selector = Selector::from(decoder.read_u8()?.unverified());
+        let matching = Matching::from(decoder.read_u8()?.unverified());
+        let read = decoder.index() - start;
+        let len = length.unverified() as usize;
+        if len < read {
+            return Err(DecodeError::IncorrectRDataLengthRead { read, len });
+        }
+        let cert_data = decoder.read_vec(len - read)?.unverified();
+        Ok(TLSA::new(cert_usage, selector, matching, cert_data))
+    }
+}
+
+impl RecordDataDecodable for TLSA {
+    ghost kinds = { tlsa_shape };
+
+    ghost condition = { λ _. Unit {0} };
+
+    ghost fields = { tlsa_fields };
+
+    /// Reads three octets of numbers, and the rest of the length by one request for memory. Where the three pass the
+    /// length it is refused by `IncorrectRDataLengthRead` of 3 and the length. Where octets are missing it is refused by
+    /// `InsufficientBytes`, and the numbers that are there are taken.
+    #[inline]
+    fn read_data(decoder: &mut BinDecoder<'_>, length: Restrict<u16>) -> Result<TLSA, DecodeError>
+        ensures window { ReadsWindow tlsa_shape (λ _. Unit {0}) tlsa_fields length result decoder.old decoder.new }
+        ensures enums { IfOk result IsReadTlsa }
+        ensures refused { IfErr result (λ e. tlsa_refusal length decoder.old e decoder.new) }
+    {
+        let _start = decoder.index();
+        TLSA::read_filled(decoder, length)
+    }
+}
+
+impl BinEncodable for TLSA {
+    ghost emits = { λ x r old new. Emits tlsa_shape (tlsa_fields x) r old new };
+
+    /// Appends the three numbers and the data.
+    #[tactic(auto, using(dns_names_wire::proofs::FieldWrites::writing))]
+    fn emit(&self, encoder: &mut BinEncoder<'_>) -> Result<(), ProtoError> {
+        encoder.emit_u8(u8::from(self.cert_usage))?;
+        encoder.emit_u8(u8::from(self.selector))?;
+        encoder.emit_u8(u8::from(self.matching))?;
+        encoder.emit_vec(self.cert_data.as_slice())?;
+        Ok(())
+    }
+}
+
+impl PartialEq for TLSA {
+    ghost use Rattle.std.specs.Cmp.{partial_equiv_from_equiv, on_equiv};
+    ghost use Rattle.dns_fields.specs.Equal.{values_eq, values_equiv};
+
+    ghost eq = { λ a b. values_eq tlsa_key_shape (tlsa_keys a) (tlsa_keys b) };
+
+    ghost laws = { partial_equiv_from_equiv (on_equiv tlsa_keys (values_equiv tlsa_key_shape)) };
+
+    fn eq(&self, other: &TLSA) -> bool {
+        self.cert_usage == other.cert_usage
+            && self.selector == other.selector
+            && self.matching == other.matching
+            && self.cert_data == other.cert_data
+    }
+}
+
+impl Eq for TLSA {
+    ghost use Rattle.std.specs.Cmp.{on_equiv};
+    ghost use Rattle.dns_fields.specs.Equal.{values_equiv};
+
+    ghost laws = { on_equiv tlsa_keys (values_equiv tlsa_key_shape) };
+}
+
+impl Clone for TLSA {
+    ghost is_clone = { λ a b. b ≡ a };
+
+    /// The same fields, the data in memory of its own.
+    fn clone(&self) -> Result<TLSA, AllocError>
+        ensures { IfOk result (λ copy. copy ≡ self.now) }
+    {
+        Ok(TLSA {
+            cert_usage: self.cert_usage,
+            selector: self.selector,
+            matching: self.matching,
+            cert_data: self.cert_data.clone()?,
+        })
+    }
+}
+
+impl fmt::Display for TLSA {
+    ghost use Rattle.std.specs.Prelude.{Some};
+    ghost use Rattle.dns_rdata_certs.specs.TLSA.{tlsa_text};
+
+    ghost output = { λ x. Some (tlsa_text x) };
+
+    /// The three numbers in decimal and the data in hexadecimal, a blank between: `3 1 1 abcd`.
+    fn fmt<W: fmt::Write>(&self, f: &mut fmt::Formatter<W>) -> fmt::Result {
+        let usage = u8::from(self.cert_usage);
+        let selector = u8::from(self.selector);
+        let matching = u8::from(self.matching);
+        let data = Hexadecimal(self.cert_data.as_slice());
+        write!(f, "{usage} {selector} {matching} {data}")
+    }
+}

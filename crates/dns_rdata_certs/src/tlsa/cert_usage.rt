@@ -1,0 +1,146 @@
+//! The usage of a certificate in TLSA (RFC 6698, 2.1.1).
+
+ghost use Rattle.std.specs.Prelude.{◌≡◌};
+ghost use Rattle.dns_rdata_certs.specs.CertUsage.{cert_usage_number, cert_usage_variant, cert_usage_of};
+
+use std::cmp::Ordering;
+use std::hash::{Hash, Hasher};
+
+/// How a certificate is used (RFC 6698, 2.1.1; names of RFC 7218). Usages are ordered by number, and then as declared here.
+#[derive(Clone, Copy, Debug)]
+pub enum CertUsage {
+    /// An authority, under the checks of PKIX (0).
+    PkixTa,
+    /// The service itself, under the checks of PKIX (1).
+    PkixEe,
+    /// An authority of this record alone (2).
+    DaneTa,
+    /// The service itself, by this record alone (3).
+    DaneEe,
+    /// A number that is given to no usage: `from` gives it for every other number.
+    Unassigned(u8),
+    /// For private use (255).
+    Private,
+}
+
+#[tactic(auto, unfolding(crate::specs::CertUsage::cert_usage_of))]
+impl From<u8> for CertUsage {
+    ghost from_gives = { λ n e. (e ≡ cert_usage_of n) × (cert_usage_number e ≡ n) };
+
+    #[inline]
+    fn from(value: u8) -> CertUsage {
+        match value {
+            0 => CertUsage::PkixTa,
+            1 => CertUsage::PkixEe,
+            2 => CertUsage::DaneTa,
+            3 => CertUsage::DaneEe,
+            255 => CertUsage::Private,
+            _ => CertUsage::Unassigned(value),
+        }
+    }
+}
+
+impl From<CertUsage> for u8 {
+    ghost from_gives = { λ e n. n ≡ cert_usage_number e };
+
+    #[inline]
+    fn from(value: CertUsage) -> u8 {
+        match value {
+            CertUsage::PkixTa => 0,
+            CertUsage::PkixEe => 1,
+            CertUsage::DaneTa => 2,
+            CertUsage::DaneEe => 3,
+            CertUsage::Unassigned(number) => number,
+            CertUsage::Private => 255,
+        }
+    }
+}
+
+impl CertUsage {
+    // The place in the declaration.
+    #[inline]
+    fn variant(self) -> u8
+        ensures { result ≡ cert_usage_variant self }
+    {
+        match self {
+            CertUsage::PkixTa => 0,
+            CertUsage::PkixEe => 1,
+            CertUsage::DaneTa => 2,
+            CertUsage::DaneEe => 3,
+            CertUsage::Unassigned(_) => 4,
+            CertUsage::Private => 5,
+        }
+    }
+}
+
+impl PartialEq for CertUsage {
+    ghost use Rattle.std.specs.Cmp.{partial_equiv_from_equiv};
+    ghost use Rattle.dns_rdata_base.specs.Numbered.{numbered_eq, numbered_equiv};
+
+    ghost eq = { numbered_eq cert_usage_number cert_usage_variant };
+
+    ghost laws = { partial_equiv_from_equiv (numbered_equiv cert_usage_number cert_usage_variant) };
+
+    #[inline]
+    fn eq(&self, other: &CertUsage) -> bool {
+        u8::from(*self) == u8::from(*other) && self.variant() == other.variant()
+    }
+}
+
+impl Eq for CertUsage {
+    ghost use Rattle.dns_rdata_base.specs.Numbered.{numbered_equiv};
+
+    ghost laws = { numbered_equiv cert_usage_number cert_usage_variant };
+}
+
+impl Hash for CertUsage {
+    ghost use Rattle.std.specs.Prelude.{◌++◌};
+    ghost use Rattle.std.specs.Hash as fed;
+    ghost use Rattle.std.specs.Cmp.Rules.{hashing};
+    ghost use Rattle.std.proofs.Common.{rules};
+
+    ghost hash_input = { λ e. fed.u8 (cert_usage_number e) ++ fed.u8 (cert_usage_variant e) };
+
+    ghost respects_eq = { Prim.search (hashing, rules) };
+
+    #[inline]
+    fn hash<H: Hasher>(&self, state: &mut H) {
+        u8::from(*self).hash(state);
+        self.variant().hash(state);
+    }
+}
+
+impl PartialOrd for CertUsage {
+    ghost use Rattle.std.specs.Prelude.{refl};
+    ghost use Rattle.std.specs.Cmp.{partial_order_from_agreeing_total};
+    ghost use Rattle.std.specs.Ordering.{as_partial_cmp};
+    ghost use Rattle.dns_rdata_base.specs.Numbered.{numbered_cmp, numbered_total, numbered_ties};
+
+    ghost partial_cmp = { as_partial_cmp (numbered_cmp cert_usage_number cert_usage_variant) };
+
+    ghost laws = { partial_order_from_agreeing_total (numbered_cmp cert_usage_number cert_usage_variant) (numbered_total cert_usage_number cert_usage_variant) (λ _ _. refl) (numbered_ties cert_usage_number cert_usage_variant) };
+
+    #[inline]
+    fn partial_cmp(&self, other: &CertUsage) -> Option<Ordering> {
+        Some(self.cmp(other))
+    }
+}
+
+impl Ord for CertUsage {
+    ghost use Rattle.std.specs.Prelude.{refl};
+    ghost use Rattle.dns_rdata_base.specs.Numbered.{numbered_cmp, numbered_total, numbered_ties};
+
+    ghost cmp = { numbered_cmp cert_usage_number cert_usage_variant };
+
+    ghost total = { numbered_total cert_usage_number cert_usage_variant };
+
+    ghost matches_partial_cmp = { λ _ _. refl };
+
+    ghost matches_eq = { numbered_ties cert_usage_number cert_usage_variant };
+
+    #[inline]
+    fn cmp(&self, other: &CertUsage) -> Ordering {
+        let numbers = u8::from(*self).cmp(&u8::from(*other));
+        numbers.then(self.variant().cmp(&other.variant()))
+    }
+}

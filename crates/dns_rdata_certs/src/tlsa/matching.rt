@@ -1,0 +1,141 @@
+//! How the data of TLSA is compared (RFC 6698, 2.1.3).
+
+ghost use Rattle.std.specs.Prelude.{◌≡◌};
+ghost use Rattle.dns_rdata_certs.specs.Matching.{matching_number, matching_variant, matching_of};
+
+use std::cmp::Ordering;
+use std::hash::{Hash, Hasher};
+
+/// How the data is compared (RFC 6698, 2.1.3; names of RFC 7218). Ways are ordered by number, and then as declared here.
+#[derive(Clone, Copy, Debug)]
+pub enum Matching {
+    /// The part as it is (0).
+    Raw,
+    /// Its SHA-256 (1).
+    Sha256,
+    /// Its SHA-512 (2).
+    Sha512,
+    /// A number that is given to no way: `from` gives it for every other number.
+    Unassigned(u8),
+    /// For private use (255).
+    Private,
+}
+
+#[tactic(auto, unfolding(crate::specs::Matching::matching_of))]
+impl From<u8> for Matching {
+    ghost from_gives = { λ n e. (e ≡ matching_of n) × (matching_number e ≡ n) };
+
+    #[inline]
+    fn from(value: u8) -> Matching {
+        match value {
+            0 => Matching::Raw,
+            1 => Matching::Sha256,
+            2 => Matching::Sha512,
+            255 => Matching::Private,
+            _ => Matching::Unassigned(value),
+        }
+    }
+}
+
+impl From<Matching> for u8 {
+    ghost from_gives = { λ e n. n ≡ matching_number e };
+
+    #[inline]
+    fn from(value: Matching) -> u8 {
+        match value {
+            Matching::Raw => 0,
+            Matching::Sha256 => 1,
+            Matching::Sha512 => 2,
+            Matching::Unassigned(number) => number,
+            Matching::Private => 255,
+        }
+    }
+}
+
+impl Matching {
+    // The place in the declaration.
+    #[inline]
+    fn variant(self) -> u8
+        ensures { result ≡ matching_variant self }
+    {
+        match self {
+            Matching::Raw => 0,
+            Matching::Sha256 => 1,
+            Matching::Sha512 => 2,
+            Matching::Unassigned(_) => 3,
+            Matching::Private => 4,
+        }
+    }
+}
+
+impl PartialEq for Matching {
+    ghost use Rattle.std.specs.Cmp.{partial_equiv_from_equiv};
+    ghost use Rattle.dns_rdata_base.specs.Numbered.{numbered_eq, numbered_equiv};
+
+    ghost eq = { numbered_eq matching_number matching_variant };
+
+    ghost laws = { partial_equiv_from_equiv (numbered_equiv matching_number matching_variant) };
+
+    #[inline]
+    fn eq(&self, other: &Matching) -> bool {
+        u8::from(*self) == u8::from(*other) && self.variant() == other.variant()
+    }
+}
+
+impl Eq for Matching {
+    ghost use Rattle.dns_rdata_base.specs.Numbered.{numbered_equiv};
+
+    ghost laws = { numbered_equiv matching_number matching_variant };
+}
+
+impl Hash for Matching {
+    ghost use Rattle.std.specs.Prelude.{◌++◌};
+    ghost use Rattle.std.specs.Hash as fed;
+    ghost use Rattle.std.specs.Cmp.Rules.{hashing};
+    ghost use Rattle.std.proofs.Common.{rules};
+
+    ghost hash_input = { λ e. fed.u8 (matching_number e) ++ fed.u8 (matching_variant e) };
+
+    ghost respects_eq = { Prim.search (hashing, rules) };
+
+    #[inline]
+    fn hash<H: Hasher>(&self, state: &mut H) {
+        u8::from(*self).hash(state);
+        self.variant().hash(state);
+    }
+}
+
+impl PartialOrd for Matching {
+    ghost use Rattle.std.specs.Prelude.{refl};
+    ghost use Rattle.std.specs.Cmp.{partial_order_from_agreeing_total};
+    ghost use Rattle.std.specs.Ordering.{as_partial_cmp};
+    ghost use Rattle.dns_rdata_base.specs.Numbered.{numbered_cmp, numbered_total, numbered_ties};
+
+    ghost partial_cmp = { as_partial_cmp (numbered_cmp matching_number matching_variant) };
+
+    ghost laws = { partial_order_from_agreeing_total (numbered_cmp matching_number matching_variant) (numbered_total matching_number matching_variant) (λ _ _. refl) (numbered_ties matching_number matching_variant) };
+
+    #[inline]
+    fn partial_cmp(&self, other: &Matching) -> Option<Ordering> {
+        Some(self.cmp(other))
+    }
+}
+
+impl Ord for Matching {
+    ghost use Rattle.std.specs.Prelude.{refl};
+    ghost use Rattle.dns_rdata_base.specs.Numbered.{numbered_cmp, numbered_total, numbered_ties};
+
+    ghost cmp = { numbered_cmp matching_number matching_variant };
+
+    ghost total = { numbered_total matching_number matching_variant };
+
+    ghost matches_partial_cmp = { λ _ _. refl };
+
+    ghost matches_eq = { numbered_ties matching_number matching_variant };
+
+    #[inline]
+    fn cmp(&self, other: &Matching) -> Ordering {
+        let numbers = u8::from(*self).cmp(&u8::from(*other));
+        numbers.then(self.variant().cmp(&other.variant()))
+    }
+}

@@ -1,0 +1,137 @@
+//! The part of a certificate that TLSA names (RFC 6698, 2.1.2).
+
+ghost use Rattle.std.specs.Prelude.{◌≡◌};
+ghost use Rattle.dns_rdata_certs.specs.Selector.{selector_number, selector_variant, selector_of};
+
+use std::cmp::Ordering;
+use std::hash::{Hash, Hasher};
+
+/// Which part of a certificate is compared (RFC 6698, 2.1.2; names of RFC 7218). Selectors are ordered by number, and then as
+/// declared here.
+#[derive(Clone, Copy, Debug)]
+pub enum Selector {
+    /// The whole certificate (0).
+    Full,
+    /// Its public key (1).
+    Spki,
+    /// A number that is given to no part: `from` gives it for every other number.
+    Unassigned(u8),
+    /// For private use (255).
+    Private,
+}
+
+#[tactic(auto, unfolding(crate::specs::Selector::selector_of))]
+impl From<u8> for Selector {
+    ghost from_gives = { λ n e. (e ≡ selector_of n) × (selector_number e ≡ n) };
+
+    #[inline]
+    fn from(value: u8) -> Selector {
+        match value {
+            0 => Selector::Full,
+            1 => Selector::Spki,
+            255 => Selector::Private,
+            _ => Selector::Unassigned(value),
+        }
+    }
+}
+
+impl From<Selector> for u8 {
+    ghost from_gives = { λ e n. n ≡ selector_number e };
+
+    #[inline]
+    fn from(value: Selector) -> u8 {
+        match value {
+            Selector::Full => 0,
+            Selector::Spki => 1,
+            Selector::Unassigned(number) => number,
+            Selector::Private => 255,
+        }
+    }
+}
+
+impl Selector {
+    // The place in the declaration.
+    #[inline]
+    fn variant(self) -> u8
+        ensures { result ≡ selector_variant self }
+    {
+        match self {
+            Selector::Full => 0,
+            Selector::Spki => 1,
+            Selector::Unassigned(_) => 2,
+            Selector::Private => 3,
+        }
+    }
+}
+
+impl PartialEq for Selector {
+    ghost use Rattle.std.specs.Cmp.{partial_equiv_from_equiv};
+    ghost use Rattle.dns_rdata_base.specs.Numbered.{numbered_eq, numbered_equiv};
+
+    ghost eq = { numbered_eq selector_number selector_variant };
+
+    ghost laws = { partial_equiv_from_equiv (numbered_equiv selector_number selector_variant) };
+
+    #[inline]
+    fn eq(&self, other: &Selector) -> bool {
+        u8::from(*self) == u8::from(*other) && self.variant() == other.variant()
+    }
+}
+
+impl Eq for Selector {
+    ghost use Rattle.dns_rdata_base.specs.Numbered.{numbered_equiv};
+
+    ghost laws = { numbered_equiv selector_number selector_variant };
+}
+
+impl Hash for Selector {
+    ghost use Rattle.std.specs.Prelude.{◌++◌};
+    ghost use Rattle.std.specs.Hash as fed;
+    ghost use Rattle.std.specs.Cmp.Rules.{hashing};
+    ghost use Rattle.std.proofs.Common.{rules};
+
+    ghost hash_input = { λ e. fed.u8 (selector_number e) ++ fed.u8 (selector_variant e) };
+
+    ghost respects_eq = { Prim.search (hashing, rules) };
+
+    #[inline]
+    fn hash<H: Hasher>(&self, state: &mut H) {
+        u8::from(*self).hash(state);
+        self.variant().hash(state);
+    }
+}
+
+impl PartialOrd for Selector {
+    ghost use Rattle.std.specs.Prelude.{refl};
+    ghost use Rattle.std.specs.Cmp.{partial_order_from_agreeing_total};
+    ghost use Rattle.std.specs.Ordering.{as_partial_cmp};
+    ghost use Rattle.dns_rdata_base.specs.Numbered.{numbered_cmp, numbered_total, numbered_ties};
+
+    ghost partial_cmp = { as_partial_cmp (numbered_cmp selector_number selector_variant) };
+
+    ghost laws = { partial_order_from_agreeing_total (numbered_cmp selector_number selector_variant) (numbered_total selector_number selector_variant) (λ _ _. refl) (numbered_ties selector_number selector_variant) };
+
+    #[inline]
+    fn partial_cmp(&self, other: &Selector) -> Option<Ordering> {
+        Some(self.cmp(other))
+    }
+}
+
+impl Ord for Selector {
+    ghost use Rattle.std.specs.Prelude.{refl};
+    ghost use Rattle.dns_rdata_base.specs.Numbered.{numbered_cmp, numbered_total, numbered_ties};
+
+    ghost cmp = { numbered_cmp selector_number selector_variant };
+
+    ghost total = { numbered_total selector_number selector_variant };
+
+    ghost matches_partial_cmp = { λ _ _. refl };
+
+    ghost matches_eq = { numbered_ties selector_number selector_variant };
+
+    #[inline]
+    fn cmp(&self, other: &Selector) -> Ordering {
+        let numbers = u8::from(*self).cmp(&u8::from(*other));
+        numbers.then(self.variant().cmp(&other.variant()))
+    }
+}
