@@ -1,5 +1,5 @@
 //! Lists of octet strings that a value owns.
-ghost use Rattle.std.specs.Prelude.{◌≡◌, ◌==◌, ◌++◌, ◌∷◌, ◌↔◌, ℕ, List, [], length, slice_get, OnOk, OnErr, IsTrue};
+ghost use Rattle.std.specs.Prelude.{◌≡◌, ◌==◌, ◌++◌, ◌∷◌, ◌↔◌, ℕ, List, [], length, slice_get, OnOk, OnErr, IfOk, IsTrue};
 ghost use Rattle.std.specs.Option.{option_copied};
 ghost use Rattle.std.specs.Cmp.Lexicographic.{pointwise, slice_cmp, texts_ties, lists_ties, lists_total, nat_list_cmp_total, pointwise_decides};
 ghost use Rattle.std.specs.Cmp.{partial_order_from_agreeing_total, unsigned_Decides};
@@ -36,6 +36,16 @@ impl Strings {
         Strings {
             items: Vec::new(alloc),
         }
+    }
+
+    /// No strings, and memory for so many. Fails only for want of memory.
+    #[inline]
+    pub fn with_capacity(alloc: Global, capacity: usize) -> Result<Strings, AllocError>
+        ensures { IfOk result (λ s. s ≡ []) }
+    {
+        Ok(Strings {
+            items: Vec::with_capacity(alloc, capacity)?,
+        })
     }
 
     /// The strings of the list, which is moved.

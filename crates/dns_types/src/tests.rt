@@ -174,7 +174,7 @@ fn strings(rt: HostRuntime) -> Result<(), AllocError> {
     assert_eq!(rt; strings.get(2), None);
     assert!(rt; one != strings);
     assert_eq!(rt; one.cmp(&strings), Ordering::Less);
-    let mut other = Strings::new(alloc);
+    let mut other = Strings::with_capacity(alloc, 1)?;
     other.push(Octets::from_slice(alloc, b"ab")?)?;
     assert!(rt; other == one);
     assert_eq!(rt; Strings::from_vec(other.into_vec()).as_slice().len(), 1);
