@@ -25,11 +25,16 @@ use Rattle.dns_rdata.proofs.Values.{values_as, values_as-same, value_for, value_
 
 -- each field but the last says where it ends
 shape_is : (t : RecordType) → IsShape (shape t)
-shape_is types.ZERO = tt
+shape_is types.CERT = (tt, (tt, (tt, tt)))
+shape_is types.HINFO = (tt, tt)
+shape_is types.SMIMEA = (tt, (tt, (tt, tt)))
+shape_is types.SSHFP = (tt, (tt, tt))
+shape_is types.TLSA = (tt, (tt, (tt, tt)))
 shape_is t = tt
 
 -- what is asked of a value is asked of its equals
 condition_same : (t : RecordType) (a b : Values (shape t)) → Same (shape t) a b → condition t a → condition t b
+condition_same types.CERT a b s h = λ e. h (s.1.1.1.0.is ∙ e)
 condition_same types.ANY a b s h = h
 condition_same t a b s h = h
 

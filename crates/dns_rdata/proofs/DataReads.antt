@@ -10,13 +10,14 @@ use Rattle.dns_types.specs.declared.record_type.RecordType.{RecordType}
 use Rattle.dns_types.specs.declared.record_type.RecordType.TheVariants as types
 use Rattle.dns_types.specs.RecordTypes.{number_of}
 use Rattle.dns_names_wire.specs.State.{Reading}
-use Rattle.dns_names_wire.specs.Words.{StaysBehind, UnlessMemory, NoWindow, TookWindow}
+use Rattle.dns_names_wire.specs.Words.{StaysBehind, UnlessMemory, NoWindow, TookWindow, RefusedWindow}
 use Rattle.dns_names_wire.proofs.FieldReads.{stays}
 use Rattle.dns_rdata_base.specs.declared.null.NULL.{NULL}
 use Rattle.dns_rdata_base.specs.NULL.{null_shape, null_fields}
+use Rattle.dns_rdata_certs.specs.Rests.{rest_refusal}
 use Rattle.dns_rdata.specs.declared.record_data.RData.{RData}
 use Rattle.dns_rdata.specs.declared.record_data.RData.TheVariants as rdata
-use Rattle.dns_rdata.specs.Data.{shape, condition, IsRowless, IsValue, Fills, NoValue, TookData, ReadsData}
+use Rattle.dns_rdata.specs.Data.{shape, condition, IsRowless, IsValue, Fills, NoValue, TookData, RefusedData, ReadsData}
 use Rattle.dns_rdata.specs.Refusals.{IsNeverRead, OwnRefusal, IsRefusal, by_length}
 
 -- what fills a window as fields fills it as a value
@@ -26,6 +27,10 @@ data_took t n v vs value w = record {
   here = λ e. record { values = vs; window = w.here e; value = value };
   elsewhere = w.elsewhere;
 }
+
+-- what is refused under a type
+pub data_refuses : {old new : Reading} (t : RecordType) (n : ℕ) (e : DecodeError) → RefusedWindow e old n (shape t) (condition t) new → RefusedData e old t n new
+data_refuses t n e w = record { behind = w.behind; none = w.none }
 
 -- no octets are the data of type 0
 pub data_zero : (d : Reading) (n : ℕ) → n < 65536 → d.index ≤ length d.message → AreOctets d.message → TookData d types.ZERO n rdata.ZERO d
@@ -41,20 +46,34 @@ pub record HasNoRow (t : RecordType) : Type 0 where
   pub rowless : IsRowless t
   pub read : IsNeverRead t → ⊥
 
-pub no_row : (t : RecordType) → t ≢ types.A → t ≢ types.AAAA → t ≢ types.NULL → t ≢ types.ZERO → t ≢ types.ANY → t ≢ types.AXFR → t ≢ types.IXFR → HasNoRow t
-no_row types.A a b c d e f g = absurd (a refl)
-no_row types.AAAA a b c d e f g = absurd (b refl)
-no_row types.NULL a b c d e f g = absurd (c refl)
-no_row types.ZERO a b c d e f g = absurd (d refl)
-no_row types.ANY a b c d e f g = absurd (e refl)
-no_row types.AXFR a b c d e f g = absurd (f refl)
-no_row types.IXFR a b c d e f g = absurd (g refl)
-no_row t a b c d e f g = record { rowless = tt; read = λ h. h }
+pub no_row : (t : RecordType) → t ≢ types.A → t ≢ types.AAAA → t ≢ types.CERT → t ≢ types.HINFO → t ≢ types.NULL → t ≢ types.OPENPGPKEY → t ≢ types.SMIMEA → t ≢ types.SSHFP → t ≢ types.TLSA → t ≢ types.TXT → t ≢ types.ZERO → t ≢ types.ANY → t ≢ types.AXFR → t ≢ types.IXFR → HasNoRow t
+no_row types.A h0 h1 h2 h3 h4 h5 h6 h7 h8 h9 h10 h11 h12 h13 = absurd (h0 refl)
+no_row types.AAAA h0 h1 h2 h3 h4 h5 h6 h7 h8 h9 h10 h11 h12 h13 = absurd (h1 refl)
+no_row types.CERT h0 h1 h2 h3 h4 h5 h6 h7 h8 h9 h10 h11 h12 h13 = absurd (h2 refl)
+no_row types.HINFO h0 h1 h2 h3 h4 h5 h6 h7 h8 h9 h10 h11 h12 h13 = absurd (h3 refl)
+no_row types.NULL h0 h1 h2 h3 h4 h5 h6 h7 h8 h9 h10 h11 h12 h13 = absurd (h4 refl)
+no_row types.OPENPGPKEY h0 h1 h2 h3 h4 h5 h6 h7 h8 h9 h10 h11 h12 h13 = absurd (h5 refl)
+no_row types.SMIMEA h0 h1 h2 h3 h4 h5 h6 h7 h8 h9 h10 h11 h12 h13 = absurd (h6 refl)
+no_row types.SSHFP h0 h1 h2 h3 h4 h5 h6 h7 h8 h9 h10 h11 h12 h13 = absurd (h7 refl)
+no_row types.TLSA h0 h1 h2 h3 h4 h5 h6 h7 h8 h9 h10 h11 h12 h13 = absurd (h8 refl)
+no_row types.TXT h0 h1 h2 h3 h4 h5 h6 h7 h8 h9 h10 h11 h12 h13 = absurd (h9 refl)
+no_row types.ZERO h0 h1 h2 h3 h4 h5 h6 h7 h8 h9 h10 h11 h12 h13 = absurd (h10 refl)
+no_row types.ANY h0 h1 h2 h3 h4 h5 h6 h7 h8 h9 h10 h11 h12 h13 = absurd (h11 refl)
+no_row types.AXFR h0 h1 h2 h3 h4 h5 h6 h7 h8 h9 h10 h11 h12 h13 = absurd (h12 refl)
+no_row types.IXFR h0 h1 h2 h3 h4 h5 h6 h7 h8 h9 h10 h11 h12 h13 = absurd (h13 refl)
+no_row t h0 h1 h2 h3 h4 h5 h6 h7 h8 h9 h10 h11 h12 h13 = record { rowless = tt; read = λ h. h }
 
 pub unknown_took : {old new : Reading} (t : RecordType) (n : ℕ) (x : NULL) → HasNoRow t → TookWindow old n null_shape (λ _. Unit {0}) (null_fields x) new → TookData old t n (rdata.Unknown t x) new
 unknown_took types.A n x h w = absurd h.rowless
 unknown_took types.AAAA n x h w = absurd h.rowless
+unknown_took types.CERT n x h w = absurd h.rowless
+unknown_took types.HINFO n x h w = absurd h.rowless
 unknown_took types.NULL n x h w = absurd h.rowless
+unknown_took types.OPENPGPKEY n x h w = absurd h.rowless
+unknown_took types.SMIMEA n x h w = absurd h.rowless
+unknown_took types.SSHFP n x h w = absurd h.rowless
+unknown_took types.TLSA n x h w = absurd h.rowless
+unknown_took types.TXT n x h w = absurd h.rowless
 unknown_took types.ZERO n x h w = absurd h.rowless
 unknown_took types.ANY n x h w = absurd h.rowless
 unknown_took types.AXFR n x h w = absurd h.rowless
@@ -99,17 +118,36 @@ data_refused t n (Err decode.Memory) old new read len h c = tt
 data_refused t n (Err (decode.UnknownRecordTypeValue k)) old new read len h c = no_value t h.none
 data_refused t n (Err e) old new read len h c = by_case (read == len) (λ b. IfErr {T = RData} (cond b (Err e) (Err (decode.IncorrectRDataLengthRead read len))) (λ e. UnlessMemory e (NoValue old.message old.index n t))) (λ _. no_value t h.none) (λ _. no_value t h.none)
 
--- the refusal by number is that of types that are never read
-own_never : (t : RecordType) (n : ℕ) (d : Reading) (k : ℕ) → OwnRefusal t n d (decode.UnknownRecordTypeValue k) → IsNeverRead t × (k ≡ number_of t)
-own_never types.ANY n d k e = (tt, cc e)
-own_never types.AXFR n d k e = (tt, cc e)
-own_never types.IXFR n d k e = (tt, cc e)
-own_never types.ZERO n d k e = absurd e
-own_never t n d k h = let e = h.0 in absurd (cc e)
+rest_never : (f n : ℕ) (old new : Reading) (k : ℕ) → rest_refusal f n old (decode.UnknownRecordTypeValue k) new → ⊥
+rest_never f n old new k (inl h) = let e = h.error in cc e
+rest_never f n old new k (inr (inl h)) = let e = h.error in cc e
+rest_never f n old new k (inr (inr (inl h))) = let e = h.error in cc e
+rest_never f n old new k (inr (inr (inr h))) = let e = h.error in cc e
 
-pub data_why : (t : RecordType) (n : ℕ) (o : Result RData DecodeError) (old new : Reading) (read len : ℕ) → ReadsData t n o old new → Counted old new n read len → IfErr o (λ e. UnlessMemory e (OwnRefusal t n old e)) → (IsNeverRead t → (new ≡ old) × (o ≡ Err (decode.UnknownRecordTypeValue (number_of t)))) → IfErr (by_length o read len) (IsRefusal t n old new)
+-- the refusal by number is that of types that are never read
+own_never : (t : RecordType) (n : ℕ) (old new : Reading) (k : ℕ) → OwnRefusal t n old new (decode.UnknownRecordTypeValue k) → IsNeverRead t × (k ≡ number_of t)
+own_never types.ANY n old new k e = (tt, cc e)
+own_never types.AXFR n old new k e = (tt, cc e)
+own_never types.IXFR n old new k e = (tt, cc e)
+own_never types.ZERO n old new k e = absurd e
+own_never types.CERT n old new k (inl h) = let e = h.error in absurd (cc e)
+own_never types.CERT n old new k (inr (inl h)) = let e = h.error in absurd (cc e)
+own_never types.CERT n old new k (inr (inr (inl h))) = let e = h.error in absurd (cc e)
+own_never types.CERT n old new k (inr (inr (inr h))) = let e = h.error in absurd (cc e)
+own_never types.HINFO n old new k (inl e) = absurd (cc e)
+own_never types.HINFO n old new k (inr h) = let e = h.0 in absurd (cc e)
+own_never types.OPENPGPKEY n old new k (u, inl e) = absurd (cc e)
+own_never types.OPENPGPKEY n old new k (u, inr h) = let e = h.0 in absurd (cc e)
+own_never types.SMIMEA n old new k h = absurd (rest_never 3 n old new k h)
+own_never types.SSHFP n old new k h = absurd (rest_never 2 n old new k h)
+own_never types.TLSA n old new k h = absurd (rest_never 3 n old new k h)
+own_never types.TXT n old new k (inl e) = absurd (cc e)
+own_never types.TXT n old new k (inr h) = let e = h.0 in absurd (cc e)
+own_never t n old new k h = let e = h.0 in absurd (cc e)
+
+pub data_why : (t : RecordType) (n : ℕ) (o : Result RData DecodeError) (old new : Reading) (read len : ℕ) → ReadsData t n o old new → Counted old new n read len → IfErr o (λ e. UnlessMemory e (OwnRefusal t n old new e)) → (IsNeverRead t → (new ≡ old) × (o ≡ Err (decode.UnknownRecordTypeValue (number_of t)))) → IfErr (by_length o read len) (IsRefusal t n old new)
 data_why t n (Ok v) old new read len h c own never = by_case (read == len) (λ b. IfErr {T = RData} (cond b (Ok v) (Err (decode.IncorrectRDataLengthRead read len))) (IsRefusal t n old new)) (λ e. tt) (λ e. inl (miscounted h.behind c e, c.taken, c.wanted))
 data_why t n (Err decode.Memory) old new read len h c own never = tt
-data_why t n (Err (decode.UnknownRecordTypeValue k)) old new read len h c own never = let x = own_never t n old k own in (x.0, x.1, (never x.0).0)
+data_why t n (Err (decode.UnknownRecordTypeValue k)) old new read len h c own never = let x = own_never t n old new k own in (x.0, x.1, (never x.0).0)
 data_why t n (Err (decode.IncorrectRDataLengthRead r l)) old new read len h c own never = by_case (read == len) (λ b. IfErr {T = RData} (cond b (Err (decode.IncorrectRDataLengthRead r l)) (Err (decode.IncorrectRDataLengthRead read len))) (IsRefusal t n old new)) (λ e. inr (counted h.behind c e, own)) (λ e. inl (miscounted h.behind c e, c.taken, c.wanted))
 data_why t n (Err x) old new read len h c own never = by_case (read == len) (λ b. IfErr {T = RData} (cond b (Err x) (Err (decode.IncorrectRDataLengthRead read len))) (IsRefusal t n old new)) (λ e. (counted h.behind c e, own)) (λ e. inl (miscounted h.behind c e, c.taken, c.wanted))

@@ -1,14 +1,21 @@
 -- A value of record data is told by its type and its fields.
-use Rattle.std.proofs.Common.{◌≡◌, ℕ, Bool, true, false, ◌&&◌, List, [], ◌∷◌, refl, sym, ap, ◌∙◌, arith}
+use Rattle.std.proofs.Common.{◌≡◌, ◌↔◌, ℕ, Bool, true, false, ◌&&◌, List, [], ◌∷◌, refl, sym, ap, ◌∙◌, arith}
 use Rattle.std.proofs.lemmas.Bool.Decides.{nat_tests}
+use Rattle.std.specs.Bool.{Decides}
 use Rattle.std.specs.Net.Addr.{segments_of, octets_of}
-use Rattle.dns_fields.specs.Fields.{Kind, Number, Octets, Name, Text, Texts, Rest, Options, Parameters, Bitmap, Value, Values}
+use Rattle.dns_fields.specs.Fields.{Kind, Number, Octets, Name, Text, Texts, Rest, Options, Parameters, Bitmap, Value, Values, AllFull, Same}
 use Rattle.dns_fields.specs.Equal.{values_eq}
+use Rattle.dns_fields.proofs.EqualLaws.{values_decide}
 use Rattle.dns_fields.proofs.OctetLaws.{AreOctets-at}
 use Rattle.dns_types.specs.declared.record_type.RecordType.{RecordType}
 use Rattle.dns_types.specs.declared.record_type.RecordType.TheVariants as types
 use Rattle.dns_names_wire.specs.Words.{Window}
 use Rattle.dns_rdata_base.proofs.Addresses.{octets_of-segments, segments_of-octets_of}
+use Rattle.dns_rdata_certs.specs.CERT.{cert_shape, cert_fields, cert_key_shape, cert_keys}
+use Rattle.dns_rdata_certs.specs.SMIMEA.{smimea_shape, smimea_fields, smimea_key_shape, smimea_keys}
+use Rattle.dns_rdata_certs.specs.SSHFP.{sshfp_shape, sshfp_fields, sshfp_key_shape, sshfp_keys}
+use Rattle.dns_rdata_certs.specs.TLSA.{tlsa_shape, tlsa_fields, tlsa_key_shape, tlsa_keys}
+use Rattle.dns_rdata_certs.proofs.Values.{cert_from, cert_from-fields, cert_fields-from, cert_from-read, cert_keys-same, smimea_from, smimea_from-fields, smimea_fields-from, smimea_from-read, smimea_keys-same, sshfp_from, sshfp_from-fields, sshfp_fields-from, sshfp_from-read, sshfp_keys-same, tlsa_from, tlsa_from-fields, tlsa_fields-from, tlsa_from-read, tlsa_keys-same}
 use Rattle.dns_rdata.specs.declared.record_data.RData.{RData}
 use Rattle.dns_rdata.specs.declared.record_data.RData.TheVariants as rdata
 use Rattle.dns_rdata.specs.Data.{shape, condition, FieldsOf, fields_of, type_of, IsPlain, IsValue}
@@ -66,7 +73,14 @@ values_as-same (k ∷ s) vs = ap (λ (v : Value k). (v, values_as s s vs.1)) (va
 pub value_for : (t : RecordType) → Values (shape t) → RData
 value_for types.A vs = rdata.A (record { 0 = record { octets = vs.0 } })
 value_for types.AAAA vs = rdata.AAAA (record { 0 = record { segments = segments_of vs.0 } })
+value_for types.CERT vs = rdata.CERT (cert_from vs)
+value_for types.HINFO vs = rdata.HINFO (record { cpu = vs.0; os = vs.1.0 })
 value_for types.NULL vs = rdata.NULL (record { anything = vs.0 })
+value_for types.OPENPGPKEY vs = rdata.OPENPGPKEY (record { public_key = vs.0 })
+value_for types.SMIMEA vs = rdata.SMIMEA (smimea_from vs)
+value_for types.SSHFP vs = rdata.SSHFP (sshfp_from vs)
+value_for types.TLSA vs = rdata.TLSA (tlsa_from vs)
+value_for types.TXT vs = rdata.TXT (record { txt_data = vs.0 })
 value_for types.ZERO vs = rdata.ZERO
 value_for types.ANY vs = rdata.ZERO
 value_for types.AXFR vs = rdata.ZERO
@@ -80,10 +94,24 @@ plain_value : (v : RData) → IsPlain v → v ≡ from_fields (type_of v) (field
 unfolding from_fields value_for values_as value_as
 plain_value (rdata.A x) h = refl
 plain_value (rdata.AAAA x) h = ap (λ (s : List ℕ). rdata.AAAA (record { 0 = record { segments = s } })) (sym (segments_of-octets_of x.0.segments))
+plain_value (rdata.CERT x) h = ap rdata.CERT (cert_from-fields x h)
+plain_value (rdata.HINFO x) h = refl
 plain_value (rdata.NULL x) h = refl
+plain_value (rdata.OPENPGPKEY x) h = refl
+plain_value (rdata.SMIMEA x) h = ap rdata.SMIMEA (smimea_from-fields x h)
+plain_value (rdata.SSHFP x) h = ap rdata.SSHFP (sshfp_from-fields x h)
+plain_value (rdata.TLSA x) h = ap rdata.TLSA (tlsa_from-fields x h)
+plain_value (rdata.TXT x) h = refl
 plain_value (rdata.Unknown types.A x) h = absurd h
 plain_value (rdata.Unknown types.AAAA x) h = absurd h
+plain_value (rdata.Unknown types.CERT x) h = absurd h
+plain_value (rdata.Unknown types.HINFO x) h = absurd h
 plain_value (rdata.Unknown types.NULL x) h = absurd h
+plain_value (rdata.Unknown types.OPENPGPKEY x) h = absurd h
+plain_value (rdata.Unknown types.SMIMEA x) h = absurd h
+plain_value (rdata.Unknown types.SSHFP x) h = absurd h
+plain_value (rdata.Unknown types.TLSA x) h = absurd h
+plain_value (rdata.Unknown types.TXT x) h = absurd h
 plain_value (rdata.Unknown types.ZERO x) h = absurd h
 plain_value (rdata.Unknown types.ANY x) h = absurd h
 plain_value (rdata.Unknown types.AXFR x) h = absurd h
@@ -101,14 +129,27 @@ value_is t vs v h =
     ∙ ap (λ (f : FieldsOf). value_for t (values_as (shape t) f.kinds f.values)) h.fields
     ∙ ap (value_for t) (values_as-same (shape t) vs)
 
+abbrev with_kinds : (s : List Kind) → Values s → FieldsOf
+with_kinds s vs = record { kinds = s; values = vs }
+
+of_kinds : (s : List Kind) {a b : Values s} → a ≡ b → with_kinds s a ≡ with_kinds s b
+of_kinds s e = ap (with_kinds s) e
+
 -- and the fields of a window make one
 pub window_value : (m : List ℕ) (p n : ℕ) (t : RecordType) (vs : Values (shape t)) → Window m p n (shape t) (condition t) vs → IsValue t vs (value_for t vs)
 unfolding value_for
 window_value m p n types.A vs w = record { type = refl; fields = refl; plain = tt }
 window_value m p n types.AAAA vs w =
     let e : octets_of (segments_of vs.0) ≡ vs.0 = octets_of-segments 8 vs.0 w.stands.1.is.0 (AreOctets-at m p vs.0 w.stands.0 w.octets w.stands.1.is.1) in
-    record { type = refl; fields = ap (λ (o : List ℕ). record { kinds = Octets 16 ∷ []; values = (o, tt) }) e; plain = tt }
+    record { type = refl; fields = of_kinds (Octets 16 ∷ []) (ap (λ (o : List ℕ). (o, tt)) e); plain = tt }
+window_value m p n types.CERT vs w = record { type = refl; fields = of_kinds cert_shape (cert_fields-from vs); plain = cert_from-read vs }
+window_value m p n types.HINFO vs w = record { type = refl; fields = refl; plain = tt }
 window_value m p n types.NULL vs w = record { type = refl; fields = refl; plain = tt }
+window_value m p n types.OPENPGPKEY vs w = record { type = refl; fields = refl; plain = tt }
+window_value m p n types.SMIMEA vs w = record { type = refl; fields = of_kinds smimea_shape (smimea_fields-from vs); plain = smimea_from-read vs }
+window_value m p n types.SSHFP vs w = record { type = refl; fields = of_kinds sshfp_shape (sshfp_fields-from vs); plain = sshfp_from-read vs }
+window_value m p n types.TLSA vs w = record { type = refl; fields = of_kinds tlsa_shape (tlsa_fields-from vs); plain = tlsa_from-read vs }
+window_value m p n types.TXT vs w = record { type = refl; fields = refl; plain = tt }
 window_value m p n types.ZERO vs w = record { type = refl; fields = refl; plain = tt }
 window_value m p n types.ANY vs w = absurd w.holds
 window_value m p n types.AXFR vs w = absurd w.holds
@@ -125,6 +166,16 @@ type_itself : (t : RecordType) → record_type_eq t t ≡ true
 type_itself (types.Unknown n) = grind (arith, nat_tests)
 type_itself t = refl
 
+decided_same : (a b : Bool) {P Q : Type 0} → Decides a P → Decides b Q → P ↔ Q → a ≡ b
+decided_same true true d e s = refl
+decided_same false false d e s = refl
+decided_same true false d e s = sym (e.1 (s.0 (d.0 refl)))
+decided_same false true d e s = d.1 (s.1 (e.0 refl))
+
+-- what is compared in place of the fields gives the same test
+equal_keys : (s t : List Kind) (a b : Values s) (c d : Values t) → AllFull s a → AllFull s b → AllFull t c → AllFull t d → Same s a b ↔ Same t c d → values_eq s a b ≡ values_eq t c d
+equal_keys s t a b c d fa fb fc fd same = decided_same (values_eq s a b) (values_eq t c d) (values_decide s a b fa fb) (values_decide t c d fc fd) same
+
 abbrev pub fields_for : (t : RecordType) → Values (shape t) → Values (shape t)
 fields_for t vs = values_as (shape t) (fields_of (value_for t vs)).kinds (fields_of (value_for t vs)).values
 
@@ -132,7 +183,14 @@ pub equal_values : (t : RecordType) (vs ws : Values (shape t)) → condition t v
 unfolding value_for values_as value_as
 equal_values types.A vs ws h = and_true (values_eq (shape types.A) (vs.0, tt) (ws.0, tt))
 equal_values types.AAAA vs ws h = and_true _
+equal_values types.CERT vs ws h = and_true _ ∙ equal_keys cert_key_shape cert_shape (cert_keys (cert_from vs)) (cert_keys (cert_from ws)) (cert_fields (cert_from vs)) (cert_fields (cert_from ws)) (tt, (tt, (tt, (tt, (tt, (tt, tt)))))) (tt, (tt, (tt, (tt, (tt, (tt, tt)))))) (tt, (tt, (tt, (tt, tt)))) (tt, (tt, (tt, (tt, tt)))) (cert_keys-same (cert_from vs) (cert_from ws) (cert_from-read vs) (cert_from-read ws))
+equal_values types.HINFO vs ws h = and_true _
 equal_values types.NULL vs ws h = and_true _
+equal_values types.OPENPGPKEY vs ws h = and_true _
+equal_values types.SMIMEA vs ws h = and_true _ ∙ equal_keys smimea_key_shape smimea_shape (smimea_keys (smimea_from vs)) (smimea_keys (smimea_from ws)) (smimea_fields (smimea_from vs)) (smimea_fields (smimea_from ws)) (tt, (tt, (tt, (tt, (tt, (tt, (tt, tt))))))) (tt, (tt, (tt, (tt, (tt, (tt, (tt, tt))))))) (tt, (tt, (tt, (tt, tt)))) (tt, (tt, (tt, (tt, tt)))) (smimea_keys-same (smimea_from vs) (smimea_from ws) (smimea_from-read vs) (smimea_from-read ws))
+equal_values types.SSHFP vs ws h = and_true _ ∙ equal_keys sshfp_key_shape sshfp_shape (sshfp_keys (sshfp_from vs)) (sshfp_keys (sshfp_from ws)) (sshfp_fields (sshfp_from vs)) (sshfp_fields (sshfp_from ws)) (tt, (tt, (tt, (tt, (tt, tt))))) (tt, (tt, (tt, (tt, (tt, tt))))) (tt, (tt, (tt, tt))) (tt, (tt, (tt, tt))) (sshfp_keys-same (sshfp_from vs) (sshfp_from ws) (sshfp_from-read vs) (sshfp_from-read ws))
+equal_values types.TLSA vs ws h = and_true _ ∙ equal_keys tlsa_key_shape tlsa_shape (tlsa_keys (tlsa_from vs)) (tlsa_keys (tlsa_from ws)) (tlsa_fields (tlsa_from vs)) (tlsa_fields (tlsa_from ws)) (tt, (tt, (tt, (tt, (tt, (tt, (tt, tt))))))) (tt, (tt, (tt, (tt, (tt, (tt, (tt, tt))))))) (tt, (tt, (tt, (tt, tt)))) (tt, (tt, (tt, (tt, tt)))) (tlsa_keys-same (tlsa_from vs) (tlsa_from ws) (tlsa_from-read vs) (tlsa_from-read ws))
+equal_values types.TXT vs ws h = and_true _
 equal_values types.ZERO vs ws h = refl
 equal_values types.ANY vs ws h = absurd h
 equal_values types.AXFR vs ws h = absurd h

@@ -9,7 +9,14 @@ use Rattle.dns_names_wire.specs.State.{Reading}
 use Rattle.dns_names_wire.specs.Words.{StaysBehind, UnlessMemory, Window, NoWindow}
 use Rattle.dns_rdata_base.specs.A.{a_shape, a_fields}
 use Rattle.dns_rdata_base.specs.AAAA.{aaaa_shape, aaaa_fields}
+use Rattle.dns_rdata_certs.specs.CERT.{cert_shape, cert_fields, cert_condition, IsReadCert}
+use Rattle.dns_rdata_base.specs.HINFO.{hinfo_shape, hinfo_fields}
 use Rattle.dns_rdata_base.specs.NULL.{null_shape, null_fields}
+use Rattle.dns_rdata_base.specs.OPENPGPKEY.{openpgpkey_shape, openpgpkey_fields}
+use Rattle.dns_rdata_certs.specs.SMIMEA.{smimea_shape, smimea_fields, IsReadSmimea}
+use Rattle.dns_rdata_certs.specs.SSHFP.{sshfp_shape, sshfp_fields, IsReadSshfp}
+use Rattle.dns_rdata_certs.specs.TLSA.{tlsa_shape, tlsa_fields, IsReadTlsa}
+use Rattle.dns_rdata_base.specs.TXT.{txt_shape, txt_fields}
 use Rattle.dns_rdata.specs.declared.record_data.RData.{RData}
 use Rattle.dns_rdata.specs.declared.record_data.RData.TheVariants as rdata
 
@@ -17,7 +24,14 @@ use Rattle.dns_rdata.specs.declared.record_data.RData.TheVariants as rdata
 abbrev pub shape : RecordType → List Kind
 shape types.A = a_shape
 shape types.AAAA = aaaa_shape
+shape types.CERT = cert_shape
+shape types.HINFO = hinfo_shape
 shape types.NULL = null_shape
+shape types.OPENPGPKEY = openpgpkey_shape
+shape types.SMIMEA = smimea_shape
+shape types.SSHFP = sshfp_shape
+shape types.TLSA = tlsa_shape
+shape types.TXT = txt_shape
 shape types.ZERO = []
 shape types.ANY = []
 shape types.AXFR = []
@@ -26,6 +40,7 @@ shape t = Rest ∷ []
 
 -- what is asked of the fields beside that they stand; of types that only questions have, no data is read
 abbrev pub condition : (t : RecordType) → Values (shape t) → Type 0
+condition types.CERT vs = cert_condition vs
 condition types.ANY vs = ⊥
 condition types.AXFR vs = ⊥
 condition types.IXFR vs = ⊥
@@ -39,7 +54,14 @@ pub record FieldsOf : Type 0 where
 abbrev pub fields_of : RData → FieldsOf
 fields_of (rdata.A x) = record { kinds = a_shape; values = a_fields x }
 fields_of (rdata.AAAA x) = record { kinds = aaaa_shape; values = aaaa_fields x }
+fields_of (rdata.CERT x) = record { kinds = cert_shape; values = cert_fields x }
+fields_of (rdata.HINFO x) = record { kinds = hinfo_shape; values = hinfo_fields x }
 fields_of (rdata.NULL x) = record { kinds = null_shape; values = null_fields x }
+fields_of (rdata.OPENPGPKEY x) = record { kinds = openpgpkey_shape; values = openpgpkey_fields x }
+fields_of (rdata.SMIMEA x) = record { kinds = smimea_shape; values = smimea_fields x }
+fields_of (rdata.SSHFP x) = record { kinds = sshfp_shape; values = sshfp_fields x }
+fields_of (rdata.TLSA x) = record { kinds = tlsa_shape; values = tlsa_fields x }
+fields_of (rdata.TXT x) = record { kinds = txt_shape; values = txt_fields x }
 fields_of (rdata.Unknown code x) = record { kinds = null_shape; values = null_fields x }
 fields_of (rdata.Update0 t) = record { kinds = []; values = tt }
 fields_of rdata.ZERO = record { kinds = []; values = tt }
@@ -47,7 +69,14 @@ fields_of rdata.ZERO = record { kinds = []; values = tt }
 abbrev pub type_of : RData → RecordType
 type_of (rdata.A x) = types.A
 type_of (rdata.AAAA x) = types.AAAA
+type_of (rdata.CERT x) = types.CERT
+type_of (rdata.HINFO x) = types.HINFO
 type_of (rdata.NULL x) = types.NULL
+type_of (rdata.OPENPGPKEY x) = types.OPENPGPKEY
+type_of (rdata.SMIMEA x) = types.SMIMEA
+type_of (rdata.SSHFP x) = types.SSHFP
+type_of (rdata.TLSA x) = types.TLSA
+type_of (rdata.TXT x) = types.TXT
 type_of (rdata.Unknown code x) = code
 type_of (rdata.Update0 t) = t
 type_of rdata.ZERO = types.ZERO
@@ -56,17 +85,29 @@ type_of rdata.ZERO = types.ZERO
 abbrev pub IsRowless : RecordType → Type 0
 IsRowless types.A = ⊥
 IsRowless types.AAAA = ⊥
+IsRowless types.CERT = ⊥
+IsRowless types.HINFO = ⊥
 IsRowless types.NULL = ⊥
+IsRowless types.OPENPGPKEY = ⊥
+IsRowless types.SMIMEA = ⊥
+IsRowless types.SSHFP = ⊥
+IsRowless types.TLSA = ⊥
+IsRowless types.TXT = ⊥
 IsRowless types.ZERO = ⊥
 IsRowless types.ANY = ⊥
 IsRowless types.AXFR = ⊥
 IsRowless types.IXFR = ⊥
 IsRowless t = Unit {0}
 
--- A value that data can give: octets of any form are of a type without a row, and an update of no data is never read.
+-- A value that data can give: octets of any form are of a type without a row, an update of no data is never read, and
+-- of two variants of an enum with one number it is the named one.
 abbrev pub IsPlain : RData → Type 0
 IsPlain (rdata.Unknown code x) = IsRowless code
 IsPlain (rdata.Update0 t) = ⊥
+IsPlain (rdata.CERT x) = IsReadCert x
+IsPlain (rdata.SMIMEA x) = IsReadSmimea x
+IsPlain (rdata.SSHFP x) = IsReadSshfp x
+IsPlain (rdata.TLSA x) = IsReadTlsa x
 IsPlain v = Unit {0}
 
 -- v is the value of the type with these fields

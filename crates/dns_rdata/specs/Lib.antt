@@ -1,5 +1,6 @@
 pub mod Data
 pub mod Equal
+pub mod Hashing
 pub mod Laws
 pub mod Refusals
 pub mod Texts
@@ -10,6 +11,15 @@ pub use Rattle.dns_fields.specs.Fields
 pub use Rattle.dns_types.specs.RecordTypes
 pub use Rattle.dns_names_wire.specs.State
 pub use Rattle.dns_names_wire.specs.Words
+pub use Rattle.dns_rdata_base.specs.Lossy
+pub use Rattle.dns_rdata_certs.specs.Rests
 pub use Rattle.dns_rdata_base.specs.A
 pub use Rattle.dns_rdata_base.specs.AAAA
+pub use Rattle.dns_rdata_certs.specs.CERT
+pub use Rattle.dns_rdata_base.specs.HINFO
 pub use Rattle.dns_rdata_base.specs.NULL
+pub use Rattle.dns_rdata_base.specs.OPENPGPKEY
+pub use Rattle.dns_rdata_certs.specs.SMIMEA
+pub use Rattle.dns_rdata_certs.specs.SSHFP
+pub use Rattle.dns_rdata_certs.specs.TLSA
+pub use Rattle.dns_rdata_base.specs.TXT

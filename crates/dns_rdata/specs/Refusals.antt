@@ -7,6 +7,13 @@ use Rattle.dns_types.specs.declared.record_type.RecordType.TheVariants as types
 use Rattle.dns_types.specs.RecordTypes.{number_of}
 use Rattle.dns_names_wire.specs.State.{Reading}
 use Rattle.dns_names_wire.specs.Words.{LacksOctets}
+use Rattle.dns_rdata_certs.specs.CERT.{cert_refusal}
+use Rattle.dns_rdata_base.specs.HINFO.{hinfo_refusal}
+use Rattle.dns_rdata_base.specs.OPENPGPKEY.{openpgpkey_refusal}
+use Rattle.dns_rdata_certs.specs.SMIMEA.{smimea_refusal}
+use Rattle.dns_rdata_certs.specs.SSHFP.{sshfp_refusal}
+use Rattle.dns_rdata_certs.specs.TLSA.{tlsa_refusal}
+use Rattle.dns_rdata_base.specs.TXT.{txt_refusal}
 
 -- types that only questions have (RFC 1035, 3.2.3; RFC 1995, 2)
 abbrev pub IsNeverRead : RecordType → Type 0
@@ -16,14 +23,21 @@ IsNeverRead types.IXFR = Unit {0}
 IsNeverRead t = ⊥
 
 -- the refusals of the record itself, under the length n, with their cause
-abbrev pub OwnRefusal : RecordType → ℕ → Reading → DecodeError → Type 0
-OwnRefusal types.A n d e = (e ≡ decode.InsufficientBytes) × LacksOctets d 4
-OwnRefusal types.AAAA n d e = (e ≡ decode.InsufficientBytes) × LacksOctets d 16
-OwnRefusal types.ZERO n d e = ⊥
-OwnRefusal types.ANY n d e = e ≡ decode.UnknownRecordTypeValue 255
-OwnRefusal types.AXFR n d e = e ≡ decode.UnknownRecordTypeValue 252
-OwnRefusal types.IXFR n d e = e ≡ decode.UnknownRecordTypeValue 251
-OwnRefusal t n d e = (e ≡ decode.InsufficientBytes) × LacksOctets d n
+abbrev pub OwnRefusal : RecordType → ℕ → Reading → Reading → DecodeError → Type 0
+OwnRefusal types.A n old new e = (e ≡ decode.InsufficientBytes) × LacksOctets old 4
+OwnRefusal types.AAAA n old new e = (e ≡ decode.InsufficientBytes) × LacksOctets old 16
+OwnRefusal types.CERT n old new e = cert_refusal n old e new
+OwnRefusal types.HINFO n old new e = hinfo_refusal old e new
+OwnRefusal types.OPENPGPKEY n old new e = openpgpkey_refusal n old e new
+OwnRefusal types.SMIMEA n old new e = smimea_refusal n old e new
+OwnRefusal types.SSHFP n old new e = sshfp_refusal n old e new
+OwnRefusal types.TLSA n old new e = tlsa_refusal n old e new
+OwnRefusal types.TXT n old new e = txt_refusal n old e new
+OwnRefusal types.ZERO n old new e = ⊥
+OwnRefusal types.ANY n old new e = e ≡ decode.UnknownRecordTypeValue 255
+OwnRefusal types.AXFR n old new e = e ≡ decode.UnknownRecordTypeValue 252
+OwnRefusal types.IXFR n old new e = e ≡ decode.UnknownRecordTypeValue 251
+OwnRefusal t n old new e = (e ≡ decode.InsufficientBytes) × LacksOctets old n
 
 -- A refusal to read n octets: for memory; of a type that is never read, with its number; because other than n octets
 -- were taken, with both numbers; or by the record itself, where just n were taken.
@@ -32,8 +46,8 @@ IsRefusal t n old new decode.Memory = Unit {0}
 IsRefusal t n old new (decode.UnknownRecordTypeValue number) = IsNeverRead t × (number ≡ number_of t) × (new ≡ old)
 IsRefusal t n old new (decode.IncorrectRDataLengthRead read len) =
     ((new.index ≢ old.index + n) × (read ≡ new.index - old.index) × (len ≡ n))
-    ⊎ ((new.index ≡ old.index + n) × OwnRefusal t n old (decode.IncorrectRDataLengthRead read len))
-IsRefusal t n old new e = (new.index ≡ old.index + n) × OwnRefusal t n old e
+    ⊎ ((new.index ≡ old.index + n) × OwnRefusal t n old new (decode.IncorrectRDataLengthRead read len))
+IsRefusal t n old new e = (new.index ≡ old.index + n) × OwnRefusal t n old new e
 
 -- what reading answers, once so many octets were taken of a length
 abbrev pub by_length : {T : Type 0} → Result T DecodeError → ℕ → ℕ → Result T DecodeError

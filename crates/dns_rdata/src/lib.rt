@@ -11,7 +11,11 @@ pub use dns_names_wire::{
     ProtoError, RDataEncoding, RecordType, Restrict, binary, decoder, encoder, error, record_type,
     restrict,
 };
-pub use dns_rdata_base::{A, AAAA, NULL, RecordDataDecodable, TakesOctet, a, aaaa, null};
+pub use dns_rdata_base::{
+    A, AAAA, HINFO, NULL, OPENPGPKEY, RecordDataDecodable, TXT, TakesOctet, a, aaaa, hinfo, null,
+    openpgpkey, txt,
+};
+pub use dns_rdata_certs::{CERT, HEX, SMIMEA, SSHFP, TLSA, cert, smimea, sshfp, tlsa};
 pub use record_data::RData;
 pub use traits::RecordData;
 

@@ -8,20 +8,36 @@ ghost use Rattle.dns_rdata.specs.Refusals.{IsNeverRead, OwnRefusal, IsRefusal, b
 use dns_names_wire::{
     BinDecoder, BinEncodable, BinEncoder, DecodeError, ProtoError, RecordType, Restrict,
 };
-use dns_rdata_base::{A, AAAA, NULL, RecordDataDecodable};
+use dns_rdata_base::{A, AAAA, HINFO, NULL, OPENPGPKEY, RecordDataDecodable, TXT};
+use dns_rdata_certs::{CERT, SMIMEA, SSHFP, TLSA};
 use std::alloc::AllocError;
 use std::fmt;
+use std::hash::{Hash, Hasher};
 use std::net::{IpAddr, Ipv4Addr, Ipv6Addr};
 
 /// The data of a record (RFC 1035, 3.2.1 and 3.3).
-#[derive(Debug, Drop, Hash)]
+#[derive(Debug, Drop)]
 pub enum RData {
     /// An IPv4 address.
     A(A),
     /// An IPv6 address.
     AAAA(AAAA),
+    /// A certificate.
+    CERT(CERT),
+    /// A machine and its system.
+    HINFO(HINFO),
     /// Octets without a form.
     NULL(NULL),
+    /// A public key of OpenPGP.
+    OPENPGPKEY(OPENPGPKEY),
+    /// A certificate of a mail user.
+    SMIMEA(SMIMEA),
+    /// The fingerprint of a host's key.
+    SSHFP(SSHFP),
+    /// A certificate of a service.
+    TLSA(TLSA),
+    /// Character strings.
+    TXT(TXT),
     /// Octets of a type whose data has no form here.
     Unknown {
         /// The type.
@@ -46,7 +62,14 @@ impl RData {
         match self {
             RData::A(_) => RecordType::A,
             RData::AAAA(_) => RecordType::AAAA,
+            RData::CERT(_) => RecordType::CERT,
+            RData::HINFO(_) => RecordType::HINFO,
             RData::NULL(_) => RecordType::NULL,
+            RData::OPENPGPKEY(_) => RecordType::OPENPGPKEY,
+            RData::SMIMEA(_) => RecordType::SMIMEA,
+            RData::SSHFP(_) => RecordType::SSHFP,
+            RData::TLSA(_) => RecordType::TLSA,
+            RData::TXT(_) => RecordType::TXT,
             RData::Unknown { code, .. } => *code,
             RData::Update0(record_type) => *record_type,
             RData::ZERO => RecordType::ZERO,
@@ -71,7 +94,7 @@ impl RData {
         length: Restrict<u16>,
     ) -> Result<RData, DecodeError>
         ensures reads { ReadsData record_type length result decoder.old decoder.new }
-        ensures own { IfErr result (λ e. UnlessMemory e (OwnRefusal record_type length decoder.old e)) }
+        ensures own { IfErr result (λ e. UnlessMemory e (OwnRefusal record_type length decoder.old decoder.new e)) }
         ensures never { IsNeverRead record_type → (decoder.new ≡ decoder.old)
             × (result ≡ Err (DecodeError.UnknownRecordTypeValue (number_of record_type))) }
     {
@@ -79,7 +102,14 @@ impl RData {
         match record_type {
             RecordType::A => Ok(RData::A(A::read_data(decoder, length)?)),
             RecordType::AAAA => Ok(RData::AAAA(AAAA::read_data(decoder, length)?)),
+            RecordType::CERT => Ok(RData::CERT(CERT::read_data(decoder, length)?)),
+            RecordType::HINFO => Ok(RData::HINFO(HINFO::read_data(decoder, length)?)),
             RecordType::NULL => Ok(RData::NULL(NULL::read_data(decoder, length)?)),
+            RecordType::OPENPGPKEY => Ok(RData::OPENPGPKEY(OPENPGPKEY::read_data(decoder, length)?)),
+            RecordType::SMIMEA => Ok(RData::SMIMEA(SMIMEA::read_data(decoder, length)?)),
+            RecordType::SSHFP => Ok(RData::SSHFP(SSHFP::read_data(decoder, length)?)),
+            RecordType::TLSA => Ok(RData::TLSA(TLSA::read_data(decoder, length)?)),
+            RecordType::TXT => Ok(RData::TXT(TXT::read_data(decoder, length)?)),
             RecordType::ZERO => Ok(RData::ZERO),
             RecordType::ANY | RecordType::AXFR | RecordType::IXFR => {
                 Err(DecodeError::UnknownRecordTypeValue(record_type.into()))
@@ -176,7 +206,14 @@ impl RData {
         match self {
             RData::A(a) => a.emit(encoder),
             RData::AAAA(a) => a.emit(encoder),
+            RData::CERT(rdata) => rdata.emit(encoder),
+            RData::HINFO(rdata) => rdata.emit(encoder),
             RData::NULL(rdata) => rdata.emit(encoder),
+            RData::OPENPGPKEY(rdata) => rdata.emit(encoder),
+            RData::SMIMEA(rdata) => rdata.emit(encoder),
+            RData::SSHFP(rdata) => rdata.emit(encoder),
+            RData::TLSA(rdata) => rdata.emit(encoder),
+            RData::TXT(rdata) => rdata.emit(encoder),
             RData::Unknown { rdata, .. } => rdata.emit(encoder),
             RData::Update0(_) | RData::ZERO => Ok(()),
         }
@@ -193,7 +230,14 @@ impl RData {
         match (self, other) {
             (RData::A(a), RData::A(b)) => a == b,
             (RData::AAAA(a), RData::AAAA(b)) => a == b,
+            (RData::CERT(a), RData::CERT(b)) => a == b,
+            (RData::HINFO(a), RData::HINFO(b)) => a == b,
             (RData::NULL(a), RData::NULL(b)) => a == b,
+            (RData::OPENPGPKEY(a), RData::OPENPGPKEY(b)) => a == b,
+            (RData::SMIMEA(a), RData::SMIMEA(b)) => a == b,
+            (RData::SSHFP(a), RData::SSHFP(b)) => a == b,
+            (RData::TLSA(a), RData::TLSA(b)) => a == b,
+            (RData::TXT(a), RData::TXT(b)) => a == b,
             (
                 RData::Unknown { code, rdata },
                 RData::Unknown {
@@ -233,6 +277,33 @@ impl Eq for RData {
     ghost laws = { equal_equiv };
 }
 
+impl Hash for RData {
+    ghost use Rattle.dns_rdata.specs.Hashing.{data_fed, fed_same};
+
+    ghost hash_input = { data_fed };
+
+    ghost respects_eq = { fed_same };
+
+    /// Feeds the type, and then the data.
+    fn hash<H: Hasher>(&self, state: &mut H) {
+        self.record_type().hash(state);
+        match self {
+            RData::A(a) => a.hash(state),
+            RData::AAAA(a) => a.hash(state),
+            RData::CERT(rdata) => rdata.hash(state),
+            RData::HINFO(rdata) => rdata.hash(state),
+            RData::NULL(rdata) => rdata.hash(state),
+            RData::OPENPGPKEY(rdata) => rdata.hash(state),
+            RData::SMIMEA(rdata) => rdata.hash(state),
+            RData::SSHFP(rdata) => rdata.hash(state),
+            RData::TLSA(rdata) => rdata.hash(state),
+            RData::TXT(rdata) => rdata.hash(state),
+            RData::Unknown { rdata, .. } => rdata.hash(state),
+            RData::Update0(_) | RData::ZERO => (),
+        }
+    }
+}
+
 impl Clone for RData {
     ghost is_clone = { λ a b. b ≡ a };
 
@@ -243,7 +314,14 @@ impl Clone for RData {
         Ok(match self {
             RData::A(a) => RData::A(*a),
             RData::AAAA(a) => RData::AAAA(*a),
+            RData::CERT(rdata) => RData::CERT(rdata.clone()?),
+            RData::HINFO(rdata) => RData::HINFO(rdata.clone()?),
             RData::NULL(rdata) => RData::NULL(rdata.clone()?),
+            RData::OPENPGPKEY(rdata) => RData::OPENPGPKEY(rdata.clone()?),
+            RData::SMIMEA(rdata) => RData::SMIMEA(rdata.clone()?),
+            RData::SSHFP(rdata) => RData::SSHFP(rdata.clone()?),
+            RData::TLSA(rdata) => RData::TLSA(rdata.clone()?),
+            RData::TXT(rdata) => RData::TXT(rdata.clone()?),
             RData::Unknown { code, rdata } => RData::Unknown {
                 code: *code,
                 rdata: rdata.clone()?,
@@ -264,7 +342,14 @@ impl fmt::Display for RData {
         match self {
             RData::A(a) => write!(f, "{a}"),
             RData::AAAA(a) => write!(f, "{a}"),
+            RData::CERT(rdata) => write!(f, "{rdata}"),
+            RData::HINFO(rdata) => write!(f, "{rdata}"),
             RData::NULL(rdata) => write!(f, "{rdata}"),
+            RData::OPENPGPKEY(rdata) => write!(f, "{rdata}"),
+            RData::SMIMEA(rdata) => write!(f, "{rdata}"),
+            RData::SSHFP(rdata) => write!(f, "{rdata}"),
+            RData::TLSA(rdata) => write!(f, "{rdata}"),
+            RData::TXT(rdata) => write!(f, "{rdata}"),
             RData::Unknown { rdata, .. } => write!(f, "{rdata}"),
             RData::Update0(_) => write!(f, "UPDATE"),
             RData::ZERO => Ok(()),

@@ -2,7 +2,8 @@
 
 use crate::record_data::RData;
 use dns_names_wire::RecordType;
-use dns_rdata_base::{A, AAAA, NULL};
+use dns_rdata_base::{A, AAAA, HINFO, NULL, OPENPGPKEY, TXT};
+use dns_rdata_certs::{CERT, SMIMEA, SSHFP, TLSA};
 
 /// The data of records of one kind, as a part of [`RData`].
 pub trait RecordData: Sized {
@@ -114,6 +115,78 @@ impl RecordData for AAAA {
     }
 }
 
+impl RecordData for CERT {
+    ghost use Rattle.dns_rdata.specs.Equal.{as_cert};
+    ghost use Rattle.dns_rdata.specs.declared.record_data.RData.TheVariants as rdata;
+    ghost use Rattle.dns_types.specs.declared.record_type.RecordType.TheVariants as types;
+    ghost use Rattle.std.proofs.Common.{rules};
+
+    ghost wrapped = { λ x. rdata.CERT x };
+
+    ghost borrowed = { as_cert };
+
+    ghost kind = { λ _. types.CERT };
+
+    ghost updates = { λ _. ⊥ };
+
+    ghost exactly = { Prim.search rules };
+
+    fn try_borrow(rdata: &RData) -> Option<&CERT> {
+        match rdata {
+            RData::CERT(rdata) => Some(rdata),
+            _ => None,
+        }
+    }
+
+    fn record_type(&self) -> RecordType {
+        RecordType::CERT
+    }
+
+    fn into_rdata(self) -> RData {
+        RData::CERT(self)
+    }
+
+    fn is_update(&self) -> bool {
+        false
+    }
+}
+
+impl RecordData for HINFO {
+    ghost use Rattle.dns_rdata.specs.Equal.{as_hinfo};
+    ghost use Rattle.dns_rdata.specs.declared.record_data.RData.TheVariants as rdata;
+    ghost use Rattle.dns_types.specs.declared.record_type.RecordType.TheVariants as types;
+    ghost use Rattle.std.proofs.Common.{rules};
+
+    ghost wrapped = { λ x. rdata.HINFO x };
+
+    ghost borrowed = { as_hinfo };
+
+    ghost kind = { λ _. types.HINFO };
+
+    ghost updates = { λ _. ⊥ };
+
+    ghost exactly = { Prim.search rules };
+
+    fn try_borrow(rdata: &RData) -> Option<&HINFO> {
+        match rdata {
+            RData::HINFO(rdata) => Some(rdata),
+            _ => None,
+        }
+    }
+
+    fn record_type(&self) -> RecordType {
+        RecordType::HINFO
+    }
+
+    fn into_rdata(self) -> RData {
+        RData::HINFO(self)
+    }
+
+    fn is_update(&self) -> bool {
+        false
+    }
+}
+
 impl RecordData for NULL {
     ghost use Rattle.dns_rdata.specs.Equal.{as_null};
     ghost use Rattle.dns_rdata.specs.declared.record_data.RData.TheVariants as rdata;
@@ -143,6 +216,186 @@ impl RecordData for NULL {
 
     fn into_rdata(self) -> RData {
         RData::NULL(self)
+    }
+
+    fn is_update(&self) -> bool {
+        false
+    }
+}
+
+impl RecordData for OPENPGPKEY {
+    ghost use Rattle.dns_rdata.specs.Equal.{as_openpgpkey};
+    ghost use Rattle.dns_rdata.specs.declared.record_data.RData.TheVariants as rdata;
+    ghost use Rattle.dns_types.specs.declared.record_type.RecordType.TheVariants as types;
+    ghost use Rattle.std.proofs.Common.{rules};
+
+    ghost wrapped = { λ x. rdata.OPENPGPKEY x };
+
+    ghost borrowed = { as_openpgpkey };
+
+    ghost kind = { λ _. types.OPENPGPKEY };
+
+    ghost updates = { λ _. ⊥ };
+
+    ghost exactly = { Prim.search rules };
+
+    fn try_borrow(rdata: &RData) -> Option<&OPENPGPKEY> {
+        match rdata {
+            RData::OPENPGPKEY(rdata) => Some(rdata),
+            _ => None,
+        }
+    }
+
+    fn record_type(&self) -> RecordType {
+        RecordType::OPENPGPKEY
+    }
+
+    fn into_rdata(self) -> RData {
+        RData::OPENPGPKEY(self)
+    }
+
+    fn is_update(&self) -> bool {
+        false
+    }
+}
+
+impl RecordData for SMIMEA {
+    ghost use Rattle.dns_rdata.specs.Equal.{as_smimea};
+    ghost use Rattle.dns_rdata.specs.declared.record_data.RData.TheVariants as rdata;
+    ghost use Rattle.dns_types.specs.declared.record_type.RecordType.TheVariants as types;
+    ghost use Rattle.std.proofs.Common.{rules};
+
+    ghost wrapped = { λ x. rdata.SMIMEA x };
+
+    ghost borrowed = { as_smimea };
+
+    ghost kind = { λ _. types.SMIMEA };
+
+    ghost updates = { λ _. ⊥ };
+
+    ghost exactly = { Prim.search rules };
+
+    fn try_borrow(rdata: &RData) -> Option<&SMIMEA> {
+        match rdata {
+            RData::SMIMEA(rdata) => Some(rdata),
+            _ => None,
+        }
+    }
+
+    fn record_type(&self) -> RecordType {
+        RecordType::SMIMEA
+    }
+
+    fn into_rdata(self) -> RData {
+        RData::SMIMEA(self)
+    }
+
+    fn is_update(&self) -> bool {
+        false
+    }
+}
+
+impl RecordData for SSHFP {
+    ghost use Rattle.dns_rdata.specs.Equal.{as_sshfp};
+    ghost use Rattle.dns_rdata.specs.declared.record_data.RData.TheVariants as rdata;
+    ghost use Rattle.dns_types.specs.declared.record_type.RecordType.TheVariants as types;
+    ghost use Rattle.std.proofs.Common.{rules};
+
+    ghost wrapped = { λ x. rdata.SSHFP x };
+
+    ghost borrowed = { as_sshfp };
+
+    ghost kind = { λ _. types.SSHFP };
+
+    ghost updates = { λ _. ⊥ };
+
+    ghost exactly = { Prim.search rules };
+
+    fn try_borrow(rdata: &RData) -> Option<&SSHFP> {
+        match rdata {
+            RData::SSHFP(rdata) => Some(rdata),
+            _ => None,
+        }
+    }
+
+    fn record_type(&self) -> RecordType {
+        RecordType::SSHFP
+    }
+
+    fn into_rdata(self) -> RData {
+        RData::SSHFP(self)
+    }
+
+    fn is_update(&self) -> bool {
+        false
+    }
+}
+
+impl RecordData for TLSA {
+    ghost use Rattle.dns_rdata.specs.Equal.{as_tlsa};
+    ghost use Rattle.dns_rdata.specs.declared.record_data.RData.TheVariants as rdata;
+    ghost use Rattle.dns_types.specs.declared.record_type.RecordType.TheVariants as types;
+    ghost use Rattle.std.proofs.Common.{rules};
+
+    ghost wrapped = { λ x. rdata.TLSA x };
+
+    ghost borrowed = { as_tlsa };
+
+    ghost kind = { λ _. types.TLSA };
+
+    ghost updates = { λ _. ⊥ };
+
+    ghost exactly = { Prim.search rules };
+
+    fn try_borrow(rdata: &RData) -> Option<&TLSA> {
+        match rdata {
+            RData::TLSA(rdata) => Some(rdata),
+            _ => None,
+        }
+    }
+
+    fn record_type(&self) -> RecordType {
+        RecordType::TLSA
+    }
+
+    fn into_rdata(self) -> RData {
+        RData::TLSA(self)
+    }
+
+    fn is_update(&self) -> bool {
+        false
+    }
+}
+
+impl RecordData for TXT {
+    ghost use Rattle.dns_rdata.specs.Equal.{as_txt};
+    ghost use Rattle.dns_rdata.specs.declared.record_data.RData.TheVariants as rdata;
+    ghost use Rattle.dns_types.specs.declared.record_type.RecordType.TheVariants as types;
+    ghost use Rattle.std.proofs.Common.{rules};
+
+    ghost wrapped = { λ x. rdata.TXT x };
+
+    ghost borrowed = { as_txt };
+
+    ghost kind = { λ _. types.TXT };
+
+    ghost updates = { λ _. ⊥ };
+
+    ghost exactly = { Prim.search rules };
+
+    fn try_borrow(rdata: &RData) -> Option<&TXT> {
+        match rdata {
+            RData::TXT(rdata) => Some(rdata),
+            _ => None,
+        }
+    }
+
+    fn record_type(&self) -> RecordType {
+        RecordType::TXT
+    }
+
+    fn into_rdata(self) -> RData {
+        RData::TXT(self)
     }
 
     fn is_update(&self) -> bool {

@@ -7,8 +7,29 @@ returns-in-A c = emits_at _ _ _ _ _ c.in-A.is c.emit.ensures.emits
 pub returns-in-AAAA : goal.returns-in-AAAA
 returns-in-AAAA c = emits_at _ _ _ _ _ c.in-AAAA.is c.emit-in-AAAA.ensures.emits
 
+pub returns-in-CERT : goal.returns-in-CERT
+returns-in-CERT c = emits_at _ _ _ _ _ c.in-CERT.is c.emit-in-CERT.ensures.emits
+
+pub returns-in-HINFO : goal.returns-in-HINFO
+returns-in-HINFO c = emits_at _ _ _ _ _ c.in-HINFO.is c.emit-in-HINFO.ensures.emits
+
 pub returns-in-NULL : goal.returns-in-NULL
 returns-in-NULL c = emits_at _ _ _ _ _ c.in-NULL.is c.emit-in-NULL.ensures.emits
+
+pub returns-in-OPENPGPKEY : goal.returns-in-OPENPGPKEY
+returns-in-OPENPGPKEY c = emits_at _ _ _ _ _ c.in-OPENPGPKEY.is c.emit-in-OPENPGPKEY.ensures.emits
+
+pub returns-in-SMIMEA : goal.returns-in-SMIMEA
+returns-in-SMIMEA c = emits_at _ _ _ _ _ c.in-SMIMEA.is c.emit-in-SMIMEA.ensures.emits
+
+pub returns-in-SSHFP : goal.returns-in-SSHFP
+returns-in-SSHFP c = emits_at _ _ _ _ _ c.in-SSHFP.is c.emit-in-SSHFP.ensures.emits
+
+pub returns-in-TLSA : goal.returns-in-TLSA
+returns-in-TLSA c = emits_at _ _ _ _ _ c.in-TLSA.is c.emit-in-TLSA.ensures.emits
+
+pub returns-in-TXT : goal.returns-in-TXT
+returns-in-TXT c = emits_at _ _ _ _ _ c.in-TXT.is c.emit-in-TXT.ensures.emits
 
 pub returns-in-Unknown : goal.returns-in-Unknown
 returns-in-Unknown c = emits_at _ _ _ _ _ c.in-Unknown.is c.emit-in-Unknown.ensures.emits

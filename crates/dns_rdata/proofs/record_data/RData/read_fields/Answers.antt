@@ -1,6 +1,7 @@
 use Rattle.std.proofs.Common.{refl, arith}
+use Rattle.std.proofs.lemmas.Result.{err_from_is_err_and}
 use Rattle.dns_types.specs.declared.record_type.RecordType.TheVariants as types
-use Rattle.dns_rdata.proofs.DataReads.{data_took, data_zero, no_row, unknown_took}
+use Rattle.dns_rdata.proofs.DataReads.{data_took, data_refuses, data_zero, no_row, unknown_took}
 use Rattle.dns_rdata.proofs.record_data.RData.read_fields.Goals as goal
 
 pub returns-in_ok-read_data-in-A-clause-reads : goal.returns-in_ok-read_data-in-A-clause-reads
@@ -9,17 +10,48 @@ returns-in_ok-read_data-in-A-clause-reads c = rw c.in-A.is (data_took types.A _ 
 pub returns-in_ok-read_data-in-AAAA-clause-reads : goal.returns-in_ok-read_data-in-AAAA-clause-reads
 returns-in_ok-read_data-in-AAAA-clause-reads c = rw c.in-AAAA.is (data_took types.AAAA _ _ _ (record { type = refl; fields = refl; plain = tt }) c.in_ok-read_data-in-AAAA.ensures.window)
 
+pub returns-in_ok-read_data-in-CERT-clause-reads : goal.returns-in_ok-read_data-in-CERT-clause-reads
+returns-in_ok-read_data-in-CERT-clause-reads c = rw c.in-CERT.is (data_took types.CERT _ _ _ (record { type = refl; fields = refl; plain = c.in_ok-read_data-in-CERT.ensures.enums }) c.in_ok-read_data-in-CERT.ensures.window)
+
+pub returns-in_ok-read_data-in-HINFO-clause-reads : goal.returns-in_ok-read_data-in-HINFO-clause-reads
+returns-in_ok-read_data-in-HINFO-clause-reads c = rw c.in-HINFO.is (data_took types.HINFO _ _ _ (record { type = refl; fields = refl; plain = tt }) c.in_ok-read_data-in-HINFO.ensures.window)
+
 pub returns-in_ok-read_data-in-NULL-clause-reads : goal.returns-in_ok-read_data-in-NULL-clause-reads
 returns-in_ok-read_data-in-NULL-clause-reads c = rw c.in-NULL.is (data_took types.NULL _ _ _ (record { type = refl; fields = refl; plain = tt }) c.in_ok-read_data-in-NULL.ensures.window)
+
+pub returns-in_ok-read_data-in-OPENPGPKEY-clause-reads : goal.returns-in_ok-read_data-in-OPENPGPKEY-clause-reads
+returns-in_ok-read_data-in-OPENPGPKEY-clause-reads c = rw c.in-OPENPGPKEY.is (data_took types.OPENPGPKEY _ _ _ (record { type = refl; fields = refl; plain = tt }) c.in_ok-read_data-in-OPENPGPKEY.ensures.window)
+
+pub returns-in_ok-read_data-in-SMIMEA-clause-reads : goal.returns-in_ok-read_data-in-SMIMEA-clause-reads
+returns-in_ok-read_data-in-SMIMEA-clause-reads c = rw c.in-SMIMEA.is (data_took types.SMIMEA _ _ _ (record { type = refl; fields = refl; plain = c.in_ok-read_data-in-SMIMEA.ensures.enums }) c.in_ok-read_data-in-SMIMEA.ensures.window)
+
+pub returns-in_ok-read_data-in-SSHFP-clause-reads : goal.returns-in_ok-read_data-in-SSHFP-clause-reads
+returns-in_ok-read_data-in-SSHFP-clause-reads c = rw c.in-SSHFP.is (data_took types.SSHFP _ _ _ (record { type = refl; fields = refl; plain = c.in_ok-read_data-in-SSHFP.ensures.enums }) c.in_ok-read_data-in-SSHFP.ensures.window)
+
+pub returns-in_ok-read_data-in-TLSA-clause-reads : goal.returns-in_ok-read_data-in-TLSA-clause-reads
+returns-in_ok-read_data-in-TLSA-clause-reads c = rw c.in-TLSA.is (data_took types.TLSA _ _ _ (record { type = refl; fields = refl; plain = c.in_ok-read_data-in-TLSA.ensures.enums }) c.in_ok-read_data-in-TLSA.ensures.window)
+
+pub returns-in_ok-read_data-in-TXT-clause-reads : goal.returns-in_ok-read_data-in-TXT-clause-reads
+returns-in_ok-read_data-in-TXT-clause-reads c = rw c.in-TXT.is (data_took types.TXT _ _ _ (record { type = refl; fields = refl; plain = tt }) c.in_ok-read_data-in-TXT.ensures.window)
 
 pub returns-in-ZERO-clause-reads : goal.returns-in-ZERO-clause-reads
 returns-in-ZERO-clause-reads c = rw c.in-ZERO.is (data_zero c.args.decoder.now c.args.length (omega arith) c.index-start.ensures.inside c.index-start.ensures.octets)
 
 pub returns-in_ok-read_data-in_default : goal.returns-in_ok-read_data-in_default
 returns-in_ok-read_data-in_default c =
-    let none = no_row c.args.record_type c.in_default.not-A c.in_default.not-AAAA c.in_default.not-NULL c.in_default.not-ZERO c.in_default.not-ANY c.in_default.not-AXFR c.in_default.not-IXFR in
+    let none = no_row c.args.record_type c.in_default.not-A c.in_default.not-AAAA c.in_default.not-CERT c.in_default.not-HINFO c.in_default.not-NULL c.in_default.not-OPENPGPKEY c.in_default.not-SMIMEA c.in_default.not-SSHFP c.in_default.not-TLSA c.in_default.not-TXT c.in_default.not-ZERO c.in_default.not-ANY c.in_default.not-AXFR c.in_default.not-IXFR in
     record {
       reads = unknown_took c.args.record_type _ _ none c.in_ok-read_data-in_default.ensures.window;
       own = tt;
       never = λ h. absurd (none.read h);
     }
+
+pub returns-in_err-read_data-in-CERT-clause-reads : goal.returns-in_err-read_data-in-CERT-clause-reads
+returns-in_err-read_data-in-CERT-clause-reads c =
+    let p = err_from_is_err_and c.from_residual-in_err-read_data-in-CERT.result c.from_residual-in_err-read_data-in-CERT.ensures.1 in
+    rw (c.in-CERT.is, p.1, p.2) (data_refuses types.CERT _ _ c.in_err-read_data-in-CERT.ensures.window)
+
+pub returns-in_err-read_data-in-TXT-clause-reads : goal.returns-in_err-read_data-in-TXT-clause-reads
+returns-in_err-read_data-in-TXT-clause-reads c =
+    let p = err_from_is_err_and c.from_residual-in_err-read_data-in-TXT.result c.from_residual-in_err-read_data-in-TXT.ensures.1 in
+    rw (c.in-TXT.is, p.1, p.2) (data_refuses types.TXT _ _ c.in_err-read_data-in-TXT.ensures.window)
