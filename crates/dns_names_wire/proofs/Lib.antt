@@ -2,3 +2,5 @@ pub mod FieldReads
 pub mod FieldWrites
 pub mod Strings
 pub mod WindowReads
+pub mod Names
+pub mod NameFacts
