@@ -4,3 +4,4 @@ pub mod Strings
 pub mod WindowReads
 pub mod Names
 pub mod NameFacts
+pub mod Building

@@ -13,8 +13,11 @@ IsRefusal proto.Memory fact = Unit {0}
 IsRefusal (proto.Message text) fact = fact
 IsRefusal e fact = ⊥
 
+abbrev pub qualified : List (List ℕ) → DomainName
+qualified labels = record { labels = labels; fully_qualified = true }
+
 abbrev pub root_name : DomainName
-root_name = record { labels = []; fully_qualified = true }
+root_name = qualified []
 
 -- one label more, behind the others
 abbrev pub with_label : DomainName → List ℕ → DomainName
@@ -53,10 +56,10 @@ pub record IsInZone (name zone : DomainName) : Type 0 where
   pub same : low_labels name.labels ≡ front ++ low_labels zone.labels
 
 -- the first label is an asterisk (RFC 4592, 2.1.1)
-abbrev pub is_wildcard : List (List ℕ) → Bool
-is_wildcard [] = false
-is_wildcard (label ∷ labels) = pointwise nat_eq label (42 ∷ [])
+abbrev pub has_asterisk : List (List ℕ) → Bool
+has_asterisk [] = false
+has_asterisk (label ∷ labels) = pointwise nat_eq label (42 ∷ [])
 
 -- the labels without an asterisk in front (RFC 4034, 3.1.3)
 abbrev pub label_count : List (List ℕ) → ℕ
-label_count labels = if is_wildcard labels then length (drop 1 labels) else length labels
+label_count labels = if has_asterisk labels then length (drop 1 labels) else length labels

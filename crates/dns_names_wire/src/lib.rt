@@ -14,5 +14,6 @@ pub use dns_types::{
     octets, record_type, restrict,
 };
 pub use dns_labels::labels::LabelIter;
+pub use dns_labels::laws;
 pub use encoder::{BinEncoder, Place};
 pub use name::Name;

@@ -7,7 +7,7 @@ ghost use Rattle.dns_fields.specs.Fields.{Name as NameKind};
 ghost use Rattle.dns_labels.specs.Labels.{AreNameOctets, name_of};
 ghost use Rattle.dns_labels.specs.Text.{HasOctets};
 ghost use Rattle.dns_names_wire.specs.Words.{ReadsField, ReadsBy, LacksField, EmitsField};
-ghost use Rattle.dns_names_wire.specs.NameValues.{root_name, label_count, is_wildcard};
+ghost use Rattle.dns_names_wire.specs.NameValues.{root_name, label_count, has_asterisk};
 
 mod building;
 mod comparing;
@@ -16,7 +16,7 @@ mod texts;
 use crate::binary::{BinDecodable, BinEncodable};
 use crate::decoder::BinDecoder;
 use crate::encoder::BinEncoder;
-use dns_labels::labels::{LabelIter, count_labels};
+use dns_labels::labels::LabelIter;
 use dns_types::{DecodeError, ProtoError};
 use std::alloc::{AllocError, Global};
 use std::marker::Model;
@@ -108,6 +108,25 @@ impl Name {
         ensures few { length self.now.labels ≤ 127 }
     {
         LabelIter::new(self.octets.as_slice())
+    }
+
+    /// Whether its first label is an asterisk (RFC 4592, 2.1.1).
+    #[inline]
+    pub fn is_wildcard(&self) -> bool
+        ensures { result ≡ has_asterisk self.now.labels }
+    {
+        match self.iter().next() {
+            Some(label) => label == b"*".as_slice(),
+            None => false,
+        }
+    }
+
+    /// How many labels there are, without an asterisk in front (RFC 4034, 3.1.3).
+    pub fn num_labels(&self) -> u8
+        ensures { result ≡ label_count self.now.labels }
+    {
+        let count = self.iter().count() as u8;
+        if self.is_wildcard() { count - 1 } else { count }
     }
 
     /// How many octets it takes on the wire, uncompressed, with the 0 at the end: 1 to 255.
