@@ -17,11 +17,14 @@ use Rattle.dns_labels.proofs.NameTexts.{one_name}
 use Rattle.dns_labels.proofs.Octets.{labels_from, are_name_octets, first_label}
 use Rattle.dns_names_wire.specs.NameValues.{qualified, low_labels, in_lowercase, completed, IsParsed, IsRefusal}
 
+pub wire_low : (octets : List ℕ) → AreNameOctets octets → map to_ascii_lowercase octets ≡ wire (low_labels (labels_of octets))
+wire_low octets n = append_cancel_right (map to_ascii_lowercase octets) (wire (low_labels (labels_of octets))) (0 ∷ []) (sym (lowered-of octets n) ∙ sym (low_wire (labels_of octets)))
+
 -- lowered octets are the lowered labels
-octets_low : (octets : List ℕ) → AreNameOctets octets → AreJoined (map to_ascii_lowercase octets) (low_labels (labels_of octets))
+pub octets_low : (octets : List ℕ) → AreNameOctets octets → AreJoined (map to_ascii_lowercase octets) (low_labels (labels_of octets))
 octets_low octets n =
     let low = low_labels (labels_of octets) in
-    let same : map to_ascii_lowercase octets ≡ wire low = append_cancel_right (map to_ascii_lowercase octets) (wire low) (0 ∷ []) (sym (lowered-of octets n) ∙ sym (low_wire (labels_of octets))) in
+    let same = wire_low octets n in
     let size : length (map to_ascii_lowercase octets) ≡ length octets = length-map octets to_ascii_lowercase in
     record {
       labels_are = labels_from (map to_ascii_lowercase octets) low same;

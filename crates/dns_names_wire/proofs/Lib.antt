@@ -5,3 +5,4 @@ pub mod WindowReads
 pub mod Names
 pub mod NameFacts
 pub mod Building
+pub mod Zones

@@ -1,6 +1,6 @@
 //! Names put together from labels, texts and other names.
 
-ghost use Rattle.std.specs.Prelude.{◌≡◌, true, map, drop, IfOk, IfErr, Err, [], MatchOption};
+ghost use Rattle.std.specs.Prelude.{◌≡◌, ◌≤◌, ◌<◌, map, drop, length, IfOk, IfErr, Err};
 ghost use Rattle.std.specs.Option.{option_copied};
 ghost use Rattle.dns_fields.specs.Labels.{DomainName, IsName};
 ghost use Rattle.dns_labels.specs.Labels.{labels_of, name_of, AreNameOctets};
@@ -114,6 +114,7 @@ pub(super) fn without_first(octets: &[u8]) -> &[u8]
     requires { AreNameOctets octets.now }
     ensures labels { labels_of result.now ≡ drop 1 (labels_of octets.now) }
     ensures octets { AreNameOctets result.now }
+    ensures shorter { 1 ≤ length octets.now → length result.now < length octets.now }
 {
     if octets.len() == 0 {
         return octets;

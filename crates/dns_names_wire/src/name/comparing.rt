@@ -5,9 +5,11 @@ ghost use Rattle.std.proofs.Common.{rules};
 ghost use Rattle.std.specs.Cmp.{partial_order_from_own_ties};
 ghost use Rattle.std.specs.Cmp.Rules.{comparing, hashing};
 ghost use Rattle.std.specs.Ordering.{as_partial_cmp};
+ghost use Rattle.dns_names_wire.specs.NameValues.{IsInZone};
 ghost use Rattle.dns_fields.specs.Comparing.{name_cmp, name_eq, name_fed};
 
 use crate::name::Name;
+use crate::name::building::without_first;
 use dns_labels::comparing::{compare_lowered, equal_lowered, hash_lowered};
 use std::cmp::Ordering;
 use std::hash::{Hash, Hasher};
@@ -75,5 +77,18 @@ impl Name {
         ensures { IsTrue result ↔ (self.now ≡ other.now) }
     {
         self.is_fqdn == other.is_fqdn && self.octets.as_slice() == other.octets.as_slice()
+    }
+
+    /// Whether the other name is this one or below it, but for the case of ASCII letters and the marks: its last labels
+    /// are the labels of this one. Takes no memory.
+    pub fn zone_of(&self, name: &Name) -> bool
+        ensures { IsTrue result ↔ IsInZone name.now self.now }
+    {
+        let zone = self.octets.as_slice();
+        let mut rest = name.octets.as_slice();
+        'labels: while rest.len() > zone.len() {
+            rest = without_first(rest);
+        }
+        equal_lowered(rest, zone)
     }
 }
