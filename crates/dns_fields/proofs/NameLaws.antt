@@ -27,10 +27,10 @@ name_inside a = let w = end_within a.stands in (omega arith, w.1)
 pub name_is : {m : List ℕ} {p q : ℕ} {x : DomainName} → IsNameIn m p x q → IsName x
 name_is a = record { labels = labels_stand a.stands; fits = a.fits }
 
-abbrev low_labels : List (List ℕ) → List (List ℕ)
+abbrev pub low_labels : List (List ℕ) → List (List ℕ)
 low_labels labels = map (map to_ascii_lowercase) labels
 
-low_wire : (labels : List (List ℕ)) → wire (low_labels labels) ++ 0 ∷ [] ≡ lowered labels
+pub low_wire : (labels : List (List ℕ)) → wire (low_labels labels) ++ 0 ∷ [] ≡ lowered labels
 low_wire [] = refl
 low_wire (l ∷ labels) =
     let n : length (map to_ascii_lowercase l) ≡ length l = length-map l to_ascii_lowercase in
@@ -53,7 +53,7 @@ low_twice (l ∷ labels) =
     let t = low_twice labels in
     cc
 
-are_low : (labels : List (List ℕ)) → AreLabels labels → AreLabels (low_labels labels)
+pub are_low : (labels : List (List ℕ)) → AreLabels labels → AreLabels (low_labels labels)
 are_low [] h = tt
 are_low (l ∷ labels) h = let n = length-map l to_ascii_lowercase in let lo = h.0.0 in let hi = h.0.1 in ((omega arith, omega arith), are_low labels h.1)
 

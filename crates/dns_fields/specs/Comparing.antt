@@ -1,5 +1,5 @@
 -- The equality and the order of names, and what they feed a hasher.
-use Rattle.std.specs.Prelude.{ℕ, Bool, List, [], ◌∷◌, ◌++◌, ◌==◌}
+use Rattle.std.specs.Prelude.{ℕ, Bool, List, ◌∷◌, ◌==◌}
 use Rattle.std.specs.Hash.{bool}
 use Rattle.std.specs.Bool.{beq}
 use Rattle.std.specs.Cmp.Lexicographic.{slice_cmp, pointwise}
@@ -18,11 +18,6 @@ name_cmp = then_cmp (on lowname (slice_cmp nat_cmp)) (on is_qualified bool_cmp)
 abbrev pub name_eq : DomainName → DomainName → Bool
 name_eq = eq_of_both (on lowname (pointwise ◌==◌)) (on is_qualified beq)
 
--- each octet is fed by itself
-abbrev pub each_fed : List ℕ → List (List ℕ)
-each_fed [] = []
-each_fed (x ∷ xs) = (x ∷ []) ∷ each_fed xs
-
--- the lowered octets, and then the mark
+-- the lowered octets at once, and then the mark
 abbrev pub name_fed : DomainName → List (List ℕ)
-name_fed name = each_fed (lowname name) ++ bool name.fully_qualified
+name_fed name = lowname name ∷ bool name.fully_qualified

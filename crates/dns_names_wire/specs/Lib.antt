@@ -1,7 +1,10 @@
 pub mod State
 pub mod Words
+pub mod NameValues
 pub use Rattle.dns_fields.specs.Octets
 pub use Rattle.dns_fields.specs.Labels
 pub use Rattle.dns_fields.specs.Names
 pub use Rattle.dns_fields.specs.Fields
 pub use Rattle.dns_types.specs.RecordTypes
+pub use Rattle.dns_fields.specs.Comparing
+pub use Rattle.dns_labels.specs.Text

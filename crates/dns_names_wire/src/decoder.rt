@@ -1,11 +1,14 @@
 //! A message that is read from its front.
 
-ghost use Rattle.std.specs.Prelude.{◌≡◌, ◌+◌, ◌*◌, ◌-◌, ◌/◌, ◌^◌, ◌<◌, ◌≤◌, ◌⊎◌, ℕ, ◌↔◌, IsTrue, length, drop, slice_get, IfOk, IfErr, OnErr};
+ghost use Rattle.std.specs.Prelude.{◌≡◌, true, ◌+◌, ◌*◌, ◌-◌, ◌/◌, ◌^◌, ◌<◌, ◌≤◌, ◌⊎◌, ℕ, ◌↔◌, IsTrue, length, drop, slice_get, IfOk, IfErr, OnErr};
 ghost use Rattle.std.specs.Int.{cast_unsigned, w32};
-ghost use Rattle.dns_fields.specs.Fields.{Number, Octets, Text};
+ghost use Rattle.dns_fields.specs.Fields.{Number, Octets, Text, Name};
 ghost use Rattle.dns_fields.specs.Octets.{AreOctets};
-ghost use Rattle.dns_names_wire.specs.Words.{TookField, ReadsField, LacksOctets, LacksText};
+ghost use Rattle.dns_names_wire.specs.Words.{TookField, LacksField, ReadsField, LacksOctets, LacksText};
+ghost use Rattle.dns_labels.specs.Labels.{AreNameOctets, name_of};
 
+use dns_labels::NameError;
+use dns_labels::reading::read_octets;
 use dns_types::{DecodeError, Restrict};
 use std::alloc::Global;
 use std::marker::Model;
@@ -221,5 +224,22 @@ impl<'a> BinDecoder<'a> {
         let len = self.read_u8()?.unverified();
         let octets = self.read_slice(len as usize)?.unverified();
         Ok(Restrict::new(octets))
+    }
+
+    /// The octets of the name that stands next, without the 0 at its end (RFC 1035, 3.1 and 4.1.4).
+    pub(crate) fn read_name(&mut self) -> Result<Vec<u8>, DecodeError>
+        ensures taken { ReadsField Name (λ octets. name_of octets.items true) result self.old self.new }
+        ensures octets { IfOk result (λ octets. AreNameOctets octets.items) }
+        ensures lacking { IfErr result (λ e. (e ≡ DecodeError.Memory) ⊎ ((e ≡ DecodeError.NameInvalid) × LacksField self.old Name)) }
+        ensures unchanged { OnErr result (self.new ≡ self.old) }
+    {
+        match read_octets(self.alloc, self.message, self.index) {
+            Ok((octets, end)) => {
+                self.index = end;
+                Ok(octets)
+            }
+            Err(NameError::Memory) => Err(DecodeError::Memory),
+            Err(NameError::Invalid) => Err(DecodeError::NameInvalid),
+        }
     }
 }

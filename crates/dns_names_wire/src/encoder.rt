@@ -1,12 +1,16 @@
 //! A message that is being written.
 
-ghost use Rattle.std.specs.Prelude.{◌≡◌, ◌≢◌, ◌+◌, ◌<◌, ◌≤◌, ◌^◌, ◌↔◌, ◌⊎◌, ℕ, IsTrue, IfErr, List, [], ◌∷◌, ◌++◌, length, take, drop, IfOk, OnOk, OnErr};
+ghost use Rattle.std.specs.Prelude.{◌≡◌, ◌≢◌, ◌+◌, ◌<◌, ◌≤◌, ◌^◌, ◌↔◌, ◌⊎◌, ℕ, Bool, IsTrue, IfErr, List, [], ◌∷◌, ◌++◌, length, take, drop, IfOk, OnOk, OnErr};
 ghost use Rattle.std.specs.Int.{cast_unsigned, bytes_high_first, w32};
-ghost use Rattle.dns_fields.specs.Fields.{Number, Rest, Text};
+ghost use Rattle.dns_fields.specs.Fields.{Number, Rest, Text, Name};
 ghost use Rattle.dns_fields.specs.Octets.{AreOctets};
-ghost use Rattle.dns_names_wire.specs.Words.{EmitsField, AppendedField, StoppedField, Keeps};
+ghost use Rattle.dns_names_wire.specs.Words.{EmitsField, AppendedField, StoppedField, Keeps, Because};
+ghost use Rattle.dns_fields.specs.Names.{NameWrote};
+ghost use Rattle.dns_labels.specs.Labels.{AreNameOctets, name_of};
 
 use dns_fields::RDataEncoding;
+use dns_labels::writing::write_name;
+use dns_labels::{Places, WriteError};
 use dns_types::ProtoError;
 use std::alloc::Global;
 use std::marker::Model;
@@ -24,6 +28,8 @@ pub struct BinEncoder<'a> {
     octets: &'a mut Vec<u8>,
     limit: usize,
     mode: RDataEncoding,
+    // where labels of names stand
+    places: Places,
 }
 
 impl<'a> Model for BinEncoder<'a> {
@@ -58,6 +64,7 @@ impl<'a> BinEncoder<'a> {
             octets,
             limit: MAX_SIZE,
             mode: RDataEncoding::StandardRecord,
+            places: Places::new(alloc),
         }
     }
 
@@ -214,6 +221,17 @@ impl<'a> BinEncoder<'a> {
         Ok(Place { index })
     }
 
+    /// Appends the name of these octets, in the encoder's mode.
+    pub(crate) fn emit_name(&mut self, octets: &[u8], is_fqdn: bool) -> Result<(), ProtoError>
+        requires { AreNameOctets octets.now }
+        ensures emits { EmitsField Name (name_of octets.now is_fqdn) result self.old self.new }
+        ensures room { OnOk result (length self.new.octets ≤ self.old.limit) }
+        ensures whole { OnErr result (self.new ≡ self.old) }
+    {
+        let _ = is_fqdn;
+        append_name(&mut self.places, self.octets, self.mode, self.limit, octets)
+    }
+
     /// Puts the two octets of a number, the higher one first, where the two octets were placed.
     pub fn replace(&mut self, place: Place, number: u16)
         requires { place.index + 2 ≤ length self.old.octets }
@@ -246,4 +264,26 @@ fn append_string(out: &mut Vec<u8>, octets: &[u8]) -> Result<(), ProtoError>
         return Err(ProtoError::Memory);
     }
     Ok(())
+}
+
+// Appends a name's octets in a mode, or nothing.
+fn append_name(
+    places: &mut Places,
+    out: &mut Vec<u8>,
+    mode: RDataEncoding,
+    limit: usize,
+    name: &[u8],
+) -> Result<(), ProtoError>
+    requires { AreNameOctets name.now }
+    ensures ok { OnOk result ((mark : Bool) → NameWrote mode out.old.items (name_of name.now mark) out.new.items) }
+    ensures within { OnOk result (length out.new.items ≤ limit) }
+    ensures err { OnErr result (out.new.items ≡ out.old.items) }
+    ensures full { IfErr result (λ e. Because e (limit < length out.old.items + (length name.now + 1)) ⊥) }
+    ensures octets { AreOctets out.new.items }
+{
+    match write_name(places, out, mode, limit, name) {
+        Ok(()) => Ok(()),
+        Err(WriteError::Memory) => Err(ProtoError::Memory),
+        Err(WriteError::Buffer) => Err(ProtoError::MaxBufferSizeExceeded),
+    }
 }

@@ -1,0 +1,54 @@
+-- What a name is by its octets.
+use Rattle.std.proofs.Common.{◌≡◌, ◌↔◌, IsTrue, ℕ, zero, suc, ◌+◌, ◌<◌, ◌≤◌, Bool, true, Option, Some, None, List, [], ◌∷◌, ◌++◌, All, length, map, get_or, slice_get, refl, sym, ap, ◌∙◌, arith, subst}
+use Rattle.std.proofs.lemmas.List.{length-map, length-append}
+use Rattle.std.proofs.lemmas.List.Elements.{All-nil, All-cons}
+use Rattle.std.proofs.lemmas.Option.{slice_get_past, slice_get_read, slice_get-map}
+use Rattle.std.specs.List.{AllByRecursion}
+use Rattle.std.specs.Option.{option_map}
+use Rattle.std.specs.Char.{to_ascii_lowercase}
+use Rattle.std.specs.Cmp.Lexicographic.{slice_cmp}
+use Rattle.std.specs.Ordering.{nat_cmp}
+use Rattle.dns_fields.specs.Octets.{AreOctets}
+use Rattle.dns_fields.specs.Labels.{DomainName, IsName, wire, lowname}
+use Rattle.dns_fields.proofs.OctetLaws.{wire_octets, AreOctets-same}
+use Rattle.dns_labels.specs.Labels.{AreNameOctets, labels_of, name_of}
+use Rattle.dns_labels.specs.Text.{HasOctets}
+use Rattle.dns_labels.specs.Comparing.{lowered_octets}
+use Rattle.dns_labels.proofs.Lowered.{lowered-of}
+
+each_octets : (labels : List (List ℕ)) → AllByRecursion AreOctets labels → All AreOctets labels
+each_octets [] h = All-nil AreOctets
+each_octets (label ∷ labels) h = All-cons AreOctets label labels h.0 (each_octets labels h.1)
+
+pub name_octets : (octets : List ℕ) → AreNameOctets octets → AreOctets octets → All AreOctets (labels_of octets)
+name_octets octets n a = each_octets (labels_of octets) (wire_octets (labels_of octets) (AreOctets-same octets (wire (labels_of octets)) n.same a))
+
+pub name_length : (octets : List ℕ) (mark : Bool) → AreNameOctets octets → length octets + 1 ≡ length (lowname (name_of octets mark))
+name_length octets mark n = omega (arith, ap length (lowered-of octets n), length-append (map to_ascii_lowercase octets) (0 ∷ []), length-map octets to_ascii_lowercase)
+
+get_first : (xs ys : List ℕ) (i : ℕ) → i < length xs → slice_get (xs ++ ys) i ≡ slice_get xs i
+get_first [] ys i h = absurd (omega arith)
+get_first (x ∷ xs) ys zero h = refl
+get_first (x ∷ xs) ys (suc i) h = get_first xs ys i (omega arith)
+
+get_end : (xs : List ℕ) (y i : ℕ) → i ≡ length xs → slice_get (xs ++ y ∷ []) i ≡ Some y
+get_end [] y zero e = refl
+get_end [] y (suc i) e = absurd (omega arith)
+get_end (x ∷ xs) y zero e = absurd (omega arith)
+get_end (x ∷ xs) y (suc i) e = get_end xs y i (omega arith)
+
+-- the canonical octet at a place of the octets, at their end, and past it
+pub octet_within : (octets : List ℕ) (mark : Bool) (i x : ℕ) → AreNameOctets octets → i < length octets → x ≡ get_or octets i x → slice_get (lowname (name_of octets mark)) i ≡ Some (to_ascii_lowercase x)
+octet_within octets mark i x n h e =
+    ap (λ (l : List ℕ). slice_get l i) (lowered-of octets n)
+    ∙ get_first (map to_ascii_lowercase octets) (0 ∷ []) i (omega (arith, length-map octets to_ascii_lowercase))
+    ∙ slice_get-map to_ascii_lowercase octets i
+    ∙ ap (λ (o : Option ℕ). option_map to_ascii_lowercase o) (slice_get_read octets (length octets) i x refl h e)
+
+pub octet_last : (octets : List ℕ) (mark : Bool) (i : ℕ) → AreNameOctets octets → i ≡ length octets → slice_get (lowname (name_of octets mark)) i ≡ Some 0
+octet_last octets mark i n h =
+    ap (λ (l : List ℕ). slice_get l i) (lowered-of octets n)
+    ∙ get_end (map to_ascii_lowercase octets) 0 i (h ∙ sym (length-map octets to_ascii_lowercase))
+
+pub octet_past : (octets : List ℕ) (mark : Bool) (i : ℕ) → AreNameOctets octets → length octets < i → slice_get (lowname (name_of octets mark)) i ≡ None
+octet_past octets mark i n h = slice_get_past (lowname (name_of octets mark)) i (omega (arith, name_length octets mark n))

@@ -1,0 +1,10 @@
+use Rattle.std.proofs.Common.{ap, ◌∙◌}
+use Rattle.std.specs.Ordering.{ordering_then, bool_cmp}
+use Rattle.std.specs.declared.cmp.Ordering.{Ordering}
+use Rattle.dns_labels.proofs.Lowered.{compared}
+use Rattle.dns_names_wire.proofs.name.comparing.NameOrd.cmp.Goals as goal
+
+pub returns : goal.returns
+returns c =
+    let k = compared c.self.inside.octets.items c.other.inside.octets.items c.self.invariant.0 c.other.invariant.0 in
+    rw (← c.self.view_is, ← c.other.view_is) (c.then.ensures ∙ rw (c.compare_lowered.ensures, c.cmp.ensures, c.as_slice.ensures.value, c.as_slice-2.ensures.value) (ap (λ (o : Ordering). ordering_then o (bool_cmp c.self.inside.is_fqdn c.other.inside.is_fqdn)) k))

@@ -1,0 +1,7 @@
+use Rattle.dns_labels.proofs.Lowered.{with_mark}
+use Rattle.dns_names_wire.proofs.name.comparing.NamePartialEq.eq.Goals as goal
+
+pub returns-then-self-other : goal.returns-then-self-other
+returns-then-self-other c =
+    let t = rw (c.as_slice.ensures.value, c.as_slice-then-self-other.ensures.value) at c.equal_lowered.ensures in
+    rw (← c.self.view_is, ← c.other.view_is) (with_mark c.self.inside.octets.items c.other.inside.octets.items c.equal_lowered.result _ c.self.invariant.0 c.other.invariant.0 c.if-self-other.true t)

@@ -1,0 +1,215 @@
+//! Domain names (RFC 1035, 3.1).
+
+ghost use Rattle.std.specs.Prelude.{◌≡◌, ◌≤◌, ◌<◌, ◌↔◌, ◌⊎◌, ℕ, Bool, true, false, [], length, slice_get, IsTrue, IfOk, IfErr, IfSome, OnOk, OnErr};
+ghost use Rattle.dns_fields.specs.Labels.{IsName, lowname};
+ghost use Rattle.dns_fields.specs.Names.{IsNameIn};
+ghost use Rattle.dns_fields.specs.Fields.{Name as NameKind};
+ghost use Rattle.dns_labels.specs.Labels.{AreNameOctets, name_of};
+ghost use Rattle.dns_labels.specs.Text.{HasOctets};
+ghost use Rattle.dns_names_wire.specs.Words.{ReadsField, ReadsBy, LacksField, EmitsField};
+ghost use Rattle.dns_names_wire.specs.NameValues.{root_name, label_count, has_asterisk};
+
+mod building;
+mod comparing;
+mod texts;
+
+use crate::binary::{BinDecodable, BinEncodable};
+use crate::decoder::BinDecoder;
+use crate::encoder::BinEncoder;
+use dns_labels::labels::LabelIter;
+use dns_types::{DecodeError, ProtoError};
+use std::alloc::{AllocError, Global};
+use std::marker::Model;
+
+/// A domain name: labels of 1 to 63 octets, at most 255 octets with their length octets and one octet more, and
+/// whether it is fully qualified.
+///
+/// `==`, `Hash` and `Ord` ignore the case of ASCII letters, tell the mark, and take no memory.
+#[derive(Drop)]
+pub struct Name {
+    // each label's length and its octets, without the 0 at the end
+    octets: Vec<u8>,
+    is_fqdn: bool,
+}
+
+impl Model for Name {
+    ghost use Rattle.dns_fields.specs.Labels.{DomainName};
+    ghost use Rattle.dns_fields.specs.Octets.{AreOctets};
+    ghost use Rattle.dns_labels.specs.Labels.{AreNameOctets, name_of};
+
+    ghost Value = { DomainName };
+
+    ghost view = { λ n. name_of n.octets.items n.is_fqdn };
+
+    ghost invariant = { λ n. AreNameOctets n.octets.items × AreOctets n.octets.items };
+}
+
+impl Name {
+    // The name of these octets.
+    #[inline]
+    fn from_octets(octets: Vec<u8>, is_fqdn: bool) -> Name
+        requires { AreNameOctets octets.items }
+        ensures { result ≡ name_of octets.items is_fqdn }
+    {
+        Name { octets, is_fqdn }
+    }
+
+    /// The relative name without labels. Takes no memory.
+    #[inline]
+    pub fn new(alloc: Global) -> Name
+        ensures { result ≡ record { labels = []; fully_qualified = false } }
+    {
+        Name {
+            octets: Vec::new(alloc),
+            is_fqdn: false,
+        }
+    }
+
+    /// The root: the fully qualified name without labels. Takes no memory.
+    #[inline]
+    pub fn root(alloc: Global) -> Name
+        ensures { result ≡ root_name }
+    {
+        Name {
+            octets: Vec::new(alloc),
+            is_fqdn: true,
+        }
+    }
+
+    /// Whether it is the root: without labels, and fully qualified.
+    #[inline]
+    pub fn is_root(&self) -> bool
+        ensures { IsTrue result ↔ (self.now ≡ root_name) }
+    {
+        self.octets.len() == 0 && self.is_fqdn
+    }
+
+    /// Whether it is fully qualified.
+    #[inline]
+    pub fn is_fqdn(&self) -> bool
+        ensures { result ≡ self.now.fully_qualified }
+    {
+        let _ = &self.octets;
+        self.is_fqdn
+    }
+
+    /// Marks it as fully qualified, or as relative; the labels stay.
+    #[inline]
+    pub fn set_fqdn(&mut self, is_fqdn: bool)
+        ensures { self.new ≡ record self.old { fully_qualified = is_fqdn } }
+    {
+        self.is_fqdn = is_fqdn;
+    }
+
+    /// The labels from the left, each without its length octet. Takes no memory.
+    #[inline]
+    pub fn iter(&self) -> LabelIter<'_>
+        ensures labels { result ≡ self.now.labels }
+        ensures few { length self.now.labels ≤ 127 }
+    {
+        LabelIter::new(self.octets.as_slice())
+    }
+
+    /// Whether its first label is an asterisk (RFC 4592, 2.1.1).
+    #[inline]
+    pub fn is_wildcard(&self) -> bool
+        ensures { result ≡ has_asterisk self.now.labels }
+    {
+        match self.iter().next() {
+            Some(label) => label == b"*".as_slice(),
+            None => false,
+        }
+    }
+
+    /// How many labels there are, without an asterisk in front (RFC 4034, 3.1.3).
+    pub fn num_labels(&self) -> u8
+        ensures { result ≡ label_count self.now.labels }
+    {
+        let count = self.iter().count() as u8;
+        if self.is_wildcard() { count - 1 } else { count }
+    }
+
+    /// How many octets it takes on the wire, uncompressed, with the 0 at the end: 1 to 255.
+    #[inline]
+    pub fn len(&self) -> usize
+        ensures value { result ≡ length (lowname self.now) }
+        ensures some { 1 ≤ result }
+        ensures room { result ≤ 255 }
+        ensures name { IsName self.now }
+        ensures octets { HasOctets self.now }
+    {
+        self.octets.len() + 1
+    }
+
+    /// Always false: even the root takes an octet.
+    #[inline]
+    pub fn is_empty(&self) -> bool
+        ensures { result ≡ false }
+    {
+        self.len() == 0
+    }
+
+    /// The octet at a place of the canonical octets: uncompressed, with A to Z lowered (RFC 4034, 6.2).
+    #[inline]
+    pub fn octet(&self, place: usize) -> Option<u8>
+        ensures value { result ≡ slice_get (lowname self.now) place }
+        ensures room { IfSome result (λ _. place < 255) }
+    {
+        let len = self.octets.len();
+        if place < len {
+            Some(self.octets[place].to_ascii_lowercase())
+        } else if place == len {
+            Some(0)
+        } else {
+            None
+        }
+    }
+
+    /// The allocator of its octets.
+    #[inline]
+    pub fn allocator(&self) -> Global {
+        *self.octets.allocator()
+    }
+}
+
+impl BinDecodable for Name {
+    ghost stands = { IsNameIn };
+
+    /// Reads the name that stands next, its letters kept: labels, and a 0, or a pointer to an earlier place from
+    /// which the rest stands (RFC 1035, 3.1 and 4.1.4). Takes memory once. After a refusal the place is as it was.
+    fn read(decoder: &mut BinDecoder<'_>) -> Result<Name, DecodeError>
+        ensures reads { ReadsBy IsNameIn result decoder.old decoder.new }
+        ensures field { ReadsField NameKind (λ x. x) result decoder.old decoder.new }
+        ensures lacking { IfErr result (λ e. (e ≡ DecodeError.Memory) ⊎ ((e ≡ DecodeError.NameInvalid) × LacksField decoder.old NameKind)) }
+        ensures unchanged { OnErr result (decoder.new ≡ decoder.old) }
+    {
+        let octets = decoder.read_name()?;
+        Ok(Name::from_octets(octets, true))
+    }
+}
+
+impl BinEncodable for Name {
+    ghost emits = { EmitsField NameKind };
+
+    /// Appends the name in the encoder's mode, its letters kept: labels and a 0 (RFC 1035, 3.1), or, in the mode
+    /// `StandardRecord`, with a pointer in place of the longest tail with a label that stands already (4.1.4).
+    fn emit(&self, encoder: &mut BinEncoder<'_>) -> Result<(), ProtoError>
+        ensures emits { EmitsField NameKind self.now result encoder.old encoder.new }
+        ensures room { OnOk result (length encoder.new.octets ≤ encoder.old.limit) }
+        ensures whole { OnErr result (encoder.new ≡ encoder.old) }
+    {
+        encoder.emit_name(self.octets.as_slice(), self.is_fqdn)
+    }
+}
+
+impl Clone for Name {
+    ghost is_clone = { λ a b. b ≡ a };
+
+    /// The same name, its letters kept, in memory that is asked for once.
+    fn clone(&self) -> Result<Name, AllocError> {
+        Ok(Name {
+            octets: Vec::from_slice(self.allocator(), self.octets.as_slice())?,
+            is_fqdn: self.is_fqdn,
+        })
+    }
+}

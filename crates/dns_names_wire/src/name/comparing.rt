@@ -1,0 +1,94 @@
+//! Names compared without the case of ASCII letters.
+
+ghost use Rattle.std.specs.Prelude.{◌≡◌, ◌↔◌, IsTrue};
+ghost use Rattle.std.proofs.Common.{rules};
+ghost use Rattle.std.specs.Cmp.{partial_order_from_own_ties};
+ghost use Rattle.std.specs.Cmp.Rules.{comparing, hashing};
+ghost use Rattle.std.specs.Ordering.{as_partial_cmp};
+ghost use Rattle.dns_names_wire.specs.NameValues.{IsInZone};
+ghost use Rattle.dns_fields.specs.Comparing.{name_cmp, name_eq, name_fed};
+
+use crate::name::Name;
+use crate::name::building::without_first;
+use dns_labels::comparing::{compare_lowered, equal_lowered, hash_lowered};
+use std::cmp::Ordering;
+use std::hash::{Hash, Hasher};
+
+impl PartialEq for Name {
+    ghost eq = { name_eq };
+
+    ghost laws = { Prim.search (comparing, rules) };
+
+    /// Whether the marks are the same, and the labels but for the case of ASCII letters.
+    #[inline]
+    fn eq(&self, other: &Name) -> bool {
+        self.is_fqdn == other.is_fqdn
+            && equal_lowered(self.octets.as_slice(), other.octets.as_slice())
+    }
+}
+
+impl Eq for Name {
+    ghost laws = { Prim.search (comparing, rules) };
+}
+
+impl PartialOrd for Name {
+    ghost partial_cmp = { as_partial_cmp name_cmp };
+
+    ghost laws = { partial_order_from_own_ties (Prim.search (comparing, rules)) (Prim.search (comparing, rules)) };
+
+    #[inline]
+    fn partial_cmp(&self, other: &Name) -> Option<Ordering> {
+        Some(self.cmp(other))
+    }
+}
+
+impl Ord for Name {
+    ghost cmp = { name_cmp };
+
+    ghost total = { Prim.search (comparing, rules) };
+
+    ghost matches_partial_cmp = { Prim.search (comparing, rules) };
+
+    ghost matches_eq = { Prim.search (comparing, rules) };
+
+    /// By the first difference of the canonical octets, and then a relative name first.
+    fn cmp(&self, other: &Name) -> Ordering {
+        compare_lowered(self.octets.as_slice(), other.octets.as_slice())
+            .then(self.is_fqdn.cmp(&other.is_fqdn))
+    }
+}
+
+impl Hash for Name {
+    ghost hash_input = { name_fed };
+
+    ghost respects_eq = { Prim.search (hashing, rules) };
+
+    /// Feeds the canonical octets at once, and the mark.
+    fn hash<H: Hasher>(&self, state: &mut H) {
+        hash_lowered(self.octets.as_slice(), state);
+        self.is_fqdn.hash(state);
+    }
+}
+
+impl Name {
+    /// Whether it is the same name, the case of letters told.
+    #[inline]
+    pub fn eq_case(&self, other: &Name) -> bool
+        ensures { IsTrue result ↔ (self.now ≡ other.now) }
+    {
+        self.is_fqdn == other.is_fqdn && self.octets.as_slice() == other.octets.as_slice()
+    }
+
+    /// Whether the other name is this one or below it, but for the case of ASCII letters and the marks: its last labels
+    /// are the labels of this one. Takes no memory.
+    pub fn zone_of(&self, name: &Name) -> bool
+        ensures { IsTrue result ↔ IsInZone name.now self.now }
+    {
+        let zone = self.octets.as_slice();
+        let mut rest = name.octets.as_slice();
+        'labels: while rest.len() > zone.len() {
+            rest = without_first(rest);
+        }
+        equal_lowered(rest, zone)
+    }
+}
