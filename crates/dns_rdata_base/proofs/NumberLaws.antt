@@ -1,10 +1,10 @@
 -- The number of the variant that a number gives.
-use Rattle.std.proofs.Common.{◌≡◌, ℕ, ◌==◌, Bool, true, false, cond, List, [], ◌∷◌, find, unwrap_or, Option, Some, Ok, Err, Result, eqb-true, refl, sym, subst}
+use Rattle.std.proofs.Common.{◌≡◌, ℕ, ◌==◌, Bool, true, false, cond, List, [], ◌∷◌, find, unwrap_or, Option, Some, Ok, Err, eqb-true, refl, sym, subst}
 use Rattle.dns_types.specs.declared.error.DecodeError.{DecodeError}
 use Rattle.dns_fields.specs.Fields.{Number}
 use Rattle.dns_fields.proofs.FieldLaws.{field_inside}
 use Rattle.dns_names_wire.specs.State.{Reading}
-use Rattle.dns_names_wire.specs.Words.{ReadsField, ReadsBy, LacksField, TookField}
+use Rattle.dns_names_wire.specs.Words.{ReadsField, ReadsBy, TookField}
 use Rattle.dns_names_wire.proofs.FieldReads.{unless_map}
 use Rattle.dns_rdata_base.specs.Numbered.{numbered_of, NumberedAt}
 

@@ -1,21 +1,21 @@
 -- Character strings that are read one after the other.
-use Rattle.std.proofs.Common.{◌≡◌, ◌≢◌, ℕ, ◌+◌, ◌≤◌, ◌<◌, List, [], ◌∷◌, ◌++◌, length, refl, sym, ap, ◌∙◌, arith, subst, Result, Ok, Err}
+use Rattle.std.proofs.Common.{◌≡◌, ℕ, suc, ◌+◌, ◌≤◌, ◌<◌, ◌⊎◌, inl, inr, List, [], ◌∷◌, ◌++◌, length, take, drop, get_or, drop-cons, refl, sym, ap, ◌∙◌, arith, subst}
 use Rattle.std.specs.List.{flat_map, AllByRecursion}
-use Rattle.std.proofs.lemmas.List.{append-nil}
+use Rattle.std.proofs.lemmas.List.{append-nil, length-append}
 use Rattle.std.proofs.lemmas.List.Concat.{flat_map-cons}
 use Rattle.std.proofs.lemmas.Grind.{flat_map-append}
 use Rattle.dns_types.specs.declared.error.DecodeError.{DecodeError}
 use Rattle.dns_types.specs.declared.error.DecodeError.TheVariants as decode
 use Rattle.dns_fields.specs.Octets.{At}
-use Rattle.dns_fields.specs.Fields.{Kind, Text, Texts, Field, Stands, Values}
+use Rattle.dns_fields.specs.Fields.{Text, Texts, Field, Values}
 use Rattle.dns_fields.specs.Pieces.{string}
 use Rattle.dns_fields.proofs.FieldLaws.{field_inside, field_end}
 use Rattle.dns_names_wire.specs.State.{Reading}
-use Rattle.dns_names_wire.specs.Words.{TookField, LacksField, LacksText, StaysBehind, RefusedField, Window, NoWindow, TookWindow, RefusedWindow}
+use Rattle.dns_names_wire.specs.Words.{TookField, LacksField, LacksText, RefusedField, TookWindow, RefusedWindow}
 use Rattle.dns_names_wire.proofs.FieldReads.{unless_map}
 use Rattle.dns_names_wire.proofs.WindowReads.{Given}
 use Rattle.dns_names_wire.proofs.Strings.{at_front, at_rest, at_then}
-use Rattle.dns_rdata_base.specs.TXT.{txt_shape, LacksString, txt_refusal}
+use Rattle.dns_rdata_base.specs.TXT.{txt_shape, LacksString}
 
 abbrev pub any_strings : Values txt_shape → Type 0
 any_strings vs = Unit {0}
@@ -45,6 +45,22 @@ first_text m q e [] lt f = absurd (omega (arith, f.is.1.ends))
 first_text m q e (s ∷ ws) lt f =
     let whole : At m q (string s ++ flat_map string ws) e = rw (← flat_map-cons string s ws) f.is.1 in
     (s, ws, record { is = (f.is.0.0, at_front (string s) (flat_map string ws) whole) }, record { is = (f.is.0.1, at_rest (string s) (flat_map string ws) whole) })
+
+-- the same, with the number of strings
+next_text : (m : List ℕ) (q e : ℕ) (vs : List (List ℕ)) → q < e → Field m q Texts vs e → (s : List ℕ) × (ws : List (List ℕ)) × Field m q Text s (q + length (string s)) × Field m (q + length (string s)) Texts ws e × (length vs ≡ suc (length ws))
+next_text m q e [] lt f = absurd (omega (arith, f.is.1.ends))
+next_text m q e (s ∷ ws) lt f =
+    let whole : At m q (string s ++ flat_map string ws) e = rw (← flat_map-cons string s ws) f.is.1 in
+    (s, ws, record { is = (f.is.0.0, at_front (string s) (flat_map string ws) whole) }, record { is = (f.is.0.1, at_rest (string s) (flat_map string ws) whole) }, refl)
+
+-- none stands at the end, or past the message
+no_text : (m : List ℕ) (q e : ℕ) (vs : List (List ℕ)) → (e ≤ q) ⊎ (length m ≤ q) → Field m q Texts vs e → length vs ≡ 0
+no_text m q e [] past f = refl
+no_text m q e (s ∷ ws) past f =
+    let whole : At m q (string s ++ flat_map string ws) e = rw (← flat_map-cons string s ws) f.is.1 in
+    let front : At m q (string s) (q + length (string s)) = at_front (string s) (flat_map string ws) whole in
+    let rest : q + length (string s) ≤ e = omega (arith, whole.ends, length-append (string s) (flat_map string ws)) in
+    elim past [ inl h ↦ absurd (omega arith) | inr h ↦ absurd (omega (arith, front.within)) ]
 
 pub reads_first : (d : Reading) (end : ℕ) → d.index ≤ length d.message → ReadsOn d end [] d
 reads_first d end inside = record { message = refl; behind = omega arith; took = no_texts d inside; rest = λ ws f. (ws, f) }
@@ -110,3 +126,29 @@ reads_done {old} {d} {end} {xs} n g is le r = record {
         ne (omega (arith, (field_inside ws.1).0, is, le));
   };
 }
+
+-- ---- how many strings there are
+
+-- behind some strings that were counted, the others stand
+pub record CountsOn (m : List ℕ) (end count : ℕ) (q : ℕ) : Type 0 where
+  pub rest : (ws : List (List ℕ)) → Field m 0 Texts ws end → (vs : List (List ℕ)) × Field m q Texts vs end × (count + length vs ≡ length ws)
+
+first_octet : {m : List ℕ} {q r : ℕ} {s : List ℕ} → q < length m → Field m q Text s r → get_or m q 0 ≡ length s
+first_octet {m} {q} {r} {s} lt f =
+    let whole : take (suc (length s)) (get_or m q 0 ∷ drop (suc q) m) ≡ length s ∷ s = ap (λ (d : List ℕ). take (suc (length s)) d) (sym (drop-cons m q 0 lt)) ∙ f.is.1.same in
+    cc
+
+pub counts_first : (m : List ℕ) (end : ℕ) → CountsOn m end 0 0
+counts_first m end = record { rest = λ ws f. (ws, f, omega arith) }
+
+pub counts_more : {m : List ℕ} {end count q : ℕ} → q < end → q < length m → CountsOn m end count q → CountsOn m end (count + 1) (q + (1 + get_or m q 0))
+counts_more {m} {end} {count} {q} lt inside c = record {
+  rest = λ ws f.
+      let vs = c.rest ws f in
+      let split = next_text m q end vs.0 lt vs.1 in
+      let place : q + length (string split.0) ≡ q + (1 + get_or m q 0) = omega (arith, first_octet inside split.2) in
+      (split.1, subst (λ (r : ℕ). Field m r Texts split.1 end) place split.3, omega (arith, vs.2, split.4));
+}
+
+pub counts_all : {m : List ℕ} {end count q : ℕ} → CountsOn m end count q → (end ≤ q) ⊎ (length m ≤ q) → (ws : List (List ℕ)) → Field m 0 Texts ws end → count ≡ length ws
+counts_all {m} {end} {count} {q} c past ws f = let vs = c.rest ws f in omega (arith, vs.2, no_text m q end vs.0 past vs.1)

@@ -1,6 +1,6 @@
 //! OPENPGPKEY: a public key (RFC 7929, 2.1).
 
-ghost use Rattle.std.specs.Prelude.{◌≡◌, ◌⊎◌, IfErr, IfOk};
+ghost use Rattle.std.specs.Prelude.{◌≡◌, ◌⊎◌, IfErr, IfOk, ◌+◌, OnOk};
 ghost use Rattle.dns_names_wire.specs.Words.{ReadsWindow, Emits, LacksOctets};
 ghost use Rattle.dns_rdata_base.specs.OPENPGPKEY.{openpgpkey_shape, openpgpkey_fields, openpgpkey_refusal};
 
@@ -80,6 +80,7 @@ impl RecordDataDecodable for OPENPGPKEY {
         length: Restrict<u16>,
     ) -> Result<OPENPGPKEY, DecodeError>
         ensures window { ReadsWindow openpgpkey_shape (λ _. Unit {0}) openpgpkey_fields length result decoder.old decoder.new }
+        ensures ends { OnOk result (decoder.new.index ≡ decoder.old.index + length) }
         ensures refused { IfErr result (λ e. openpgpkey_refusal length decoder.old e decoder.new) }
     {
         let _start = decoder.index();

@@ -1,8 +1,8 @@
 //! TXT: character strings (RFC 1035, 3.3.14).
 
-ghost use Rattle.std.specs.Prelude.{◌≡◌, ◌⊎◌, ◌≤◌, ◌+◌, map, length as list_length, IfErr, IfOk};
+ghost use Rattle.std.specs.Prelude.{◌≡◌, ◌⊎◌, ◌≤◌, ◌+◌, ℕ, List, map, length as list_length, IfErr, IfOk};
 ghost use Rattle.std.specs.String.{string_bytes};
-ghost use Rattle.dns_fields.specs.Fields.{Texts};
+ghost use Rattle.dns_fields.specs.Fields.{Texts, Field};
 ghost use Rattle.dns_names_wire.specs.Words.{TookField, ReadsWindow, Emits};
 ghost use Rattle.dns_rdata_base.specs.TXT.{txt_shape, txt_fields, txt_refusal};
 
@@ -82,9 +82,10 @@ impl RecordDataDecodable for TXT {
     }
 }
 
-// How many strings begin in the first so many octets.
+// How many strings begin in the first so many octets; where strings fill these, their number.
 fn strings_within(octets: &[u8], length: usize) -> usize
-    ensures { result ≤ length }
+    ensures bounded { result ≤ length }
+    ensures counted { (strings : List (List ℕ)) → Field octets.now 0 Texts strings length → result ≡ list_length strings }
 {
     let mut count = 0;
     let mut place = 0;

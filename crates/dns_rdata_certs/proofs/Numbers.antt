@@ -2,7 +2,6 @@
 use Rattle.std.proofs.Common.{◌≡◌, ℕ, Bool, true, false, if◌then◌else◌, nat_le, refl, sym, ap, ◌∙◌}
 use Rattle.dns_rdata_base.proofs.NumberLaws.{number-numbered_of}
 use Rattle.dns_rdata_certs.specs.CertType.{cert_type_number, named_cert_types, other_cert_type, cert_type_of}
-use Rattle.dns_rdata_certs.specs.declared.cert.cert_type.CertType.{CertType}
 use Rattle.dns_rdata_certs.specs.declared.cert.cert_type.CertType.TheVariants.{Unassigned, Experimental}
 use Rattle.dns_rdata_certs.specs.CertAlgorithm.{cert_algorithm_number, named_cert_algorithms, other_cert_algorithm, cert_algorithm_of}
 use Rattle.dns_rdata_certs.specs.SshfpAlgorithm.{sshfp_algorithm_number, named_sshfp_algorithms, other_sshfp_algorithm, sshfp_algorithm_of}

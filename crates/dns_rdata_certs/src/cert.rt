@@ -1,6 +1,6 @@
 //! CERT: a certificate (RFC 4398, 2).
 
-ghost use Rattle.std.specs.Prelude.{◌≡◌, length as list_length, IfErr, IfOk};
+ghost use Rattle.std.specs.Prelude.{◌≡◌, length as list_length, IfErr, IfOk, ◌+◌, OnOk};
 ghost use Rattle.std.specs.String.{string_bytes};
 ghost use Rattle.dns_names_wire.specs.Words.{ReadsTo, ReadsWindow, Emits};
 ghost use Rattle.dns_rdata_certs.specs.CERT.{cert_shape, cert_fields, cert_condition, cert_key_shape, cert_keys, IsReadCert, cert_data_text, cert_refusal, ReadsWholeCert, whole_cert_refusal};
@@ -105,6 +105,7 @@ impl RecordDataDecodable for CERT {
     #[inline]
     fn read_data(decoder: &mut BinDecoder<'_>, length: Restrict<u16>) -> Result<CERT, DecodeError>
         ensures window { ReadsWindow cert_shape cert_condition cert_fields length result decoder.old decoder.new }
+        ensures ends { OnOk result (decoder.new.index ≡ decoder.old.index + length) }
         ensures enums { IfOk result IsReadCert }
         ensures refused { IfErr result (λ e. cert_refusal length decoder.old e decoder.new) }
     {

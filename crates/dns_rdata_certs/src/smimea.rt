@@ -1,6 +1,6 @@
 //! SMIMEA: a certificate of a mail user (RFC 8162, 2).
 
-ghost use Rattle.std.specs.Prelude.{◌≡◌, IfErr, IfOk};
+ghost use Rattle.std.specs.Prelude.{◌≡◌, IfErr, IfOk, ◌+◌, OnOk};
 ghost use Rattle.dns_names_wire.specs.Words.{ReadsWindow, Emits};
 ghost use Rattle.dns_rdata_certs.specs.SMIMEA.{smimea_shape, smimea_fields, smimea_key_shape, smimea_keys, IsReadSmimea, smimea_refusal};
 
@@ -43,6 +43,7 @@ impl RecordDataDecodable for SMIMEA {
     #[inline]
     fn read_data(decoder: &mut BinDecoder<'_>, length: Restrict<u16>) -> Result<SMIMEA, DecodeError>
         ensures window { ReadsWindow smimea_shape (λ _. Unit {0}) smimea_fields length result decoder.old decoder.new }
+        ensures ends { OnOk result (decoder.new.index ≡ decoder.old.index + length) }
         ensures enums { IfOk result IsReadSmimea }
         ensures refused { IfErr result (λ e. smimea_refusal length decoder.old e decoder.new) }
     {

@@ -1,6 +1,6 @@
 //! SSHFP: the fingerprint of a host's key (RFC 4255, 3.1).
 
-ghost use Rattle.std.specs.Prelude.{◌≡◌, IfErr, IfOk};
+ghost use Rattle.std.specs.Prelude.{◌≡◌, IfErr, IfOk, ◌+◌, OnOk};
 ghost use Rattle.dns_names_wire.specs.Words.{ReadsTo, ReadsWindow, Emits};
 ghost use Rattle.dns_rdata_certs.specs.SSHFP.{sshfp_shape, sshfp_fields, sshfp_key_shape, sshfp_keys, IsReadSshfp, sshfp_refusal};
 
@@ -83,6 +83,7 @@ impl RecordDataDecodable for SSHFP {
     #[inline]
     fn read_data(decoder: &mut BinDecoder<'_>, length: Restrict<u16>) -> Result<SSHFP, DecodeError>
         ensures window { ReadsWindow sshfp_shape (λ _. Unit {0}) sshfp_fields length result decoder.old decoder.new }
+        ensures ends { OnOk result (decoder.new.index ≡ decoder.old.index + length) }
         ensures enums { IfOk result IsReadSshfp }
         ensures refused { IfErr result (λ e. sshfp_refusal length decoder.old e decoder.new) }
     {

@@ -1,6 +1,6 @@
 //! TLSA: a certificate of a service (RFC 6698, 2.1).
 
-ghost use Rattle.std.specs.Prelude.{◌≡◌, IfErr, IfOk};
+ghost use Rattle.std.specs.Prelude.{◌≡◌, IfErr, IfOk, ◌+◌, OnOk};
 ghost use Rattle.dns_names_wire.specs.Words.{ReadsTo, ReadsWindow, Emits};
 ghost use Rattle.dns_rdata_certs.specs.TLSA.{tlsa_shape, tlsa_fields, tlsa_key_shape, tlsa_keys, IsReadTlsa, tlsa_refusal};
 
@@ -88,6 +88,7 @@ impl RecordDataDecodable for TLSA {
     #[inline]
     fn read_data(decoder: &mut BinDecoder<'_>, length: Restrict<u16>) -> Result<TLSA, DecodeError>
         ensures window { ReadsWindow tlsa_shape (λ _. Unit {0}) tlsa_fields length result decoder.old decoder.new }
+        ensures ends { OnOk result (decoder.new.index ≡ decoder.old.index + length) }
         ensures enums { IfOk result IsReadTlsa }
         ensures refused { IfErr result (λ e. tlsa_refusal length decoder.old e decoder.new) }
     {

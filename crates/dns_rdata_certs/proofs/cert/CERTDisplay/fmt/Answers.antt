@@ -1,4 +1,4 @@
-use Rattle.std.proofs.Common.{append_assoc, refl}
+use Rattle.std.proofs.Common.{append_assoc}
 use Rattle.std.proofs.Output.{has_written_of_eq}
 use Rattle.dns_rdata_certs.proofs.cert.CERTDisplay.fmt.Goals as goal
 

@@ -1,7 +1,6 @@
-use Rattle.std.proofs.Common.{rules, sym, ◌<◌, length, arith, ap, ◌∙◌}
-use Rattle.std.specs.Fmt.{HasWritten}
+use Rattle.std.proofs.Common.{rules, sym, arith}
 use Rattle.std.proofs.Output.{has_written_append, has_written_of_eq}
-use Rattle.hex.specs.Hex.{encode_lower, lower_digits}
+use Rattle.hex.specs.Hex.{lower_digits}
 use Rattle.dns_rdata_certs.proofs.HexText.{encode_lower-more, encode_with-none}
 use Rattle.dns_rdata_certs.proofs.hexadecimal.HexadecimalDisplay.fmt.Goals as goal
 

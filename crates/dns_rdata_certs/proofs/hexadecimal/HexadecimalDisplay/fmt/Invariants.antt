@@ -1,4 +1,4 @@
-use Rattle.std.proofs.Common.{◌≡◌, length, take}
+use Rattle.std.proofs.Common.{take}
 use Rattle.std.specs.Fmt.{HasWritten, IsPlainFormatter}
 use Rattle.hex.specs.Hex.{encode_lower}
 use Rattle.dns_rdata_certs.proofs.hexadecimal.HexadecimalDisplay.fmt.Given as goal
