@@ -2,3 +2,5 @@ pub mod Addresses
 pub mod NumberLaws
 pub mod TextLists
 pub mod TextWrites
+pub mod Lacking
+pub mod FieldsBehind

@@ -2,7 +2,13 @@ pub mod A
 pub mod AAAA
 pub mod HINFO
 pub mod Lossy
+pub mod MX
+pub mod NAPTR
 pub mod NULL
+pub mod NameRecords
 pub mod Numbered
 pub mod OPENPGPKEY
+pub mod Refusing
+pub mod SOA
+pub mod SRV
 pub mod TXT

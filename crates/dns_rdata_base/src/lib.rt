@@ -1,11 +1,17 @@
-//! The data of DNS records without certificates: addresses, strings and plain octets.
+//! The data of DNS records without certificates: addresses, names, strings and plain octets.
 #![tactic(auto)]
 
 pub mod a;
 pub mod aaaa;
+pub mod emitting;
 pub mod hinfo;
+pub mod mx;
+pub mod name;
+pub mod naptr;
 pub mod null;
 pub mod openpgpkey;
+pub mod soa;
+pub mod srv;
 #[cfg(test)]
 mod tests;
 pub mod traits;
@@ -13,8 +19,14 @@ pub mod txt;
 
 pub use a::A;
 pub use aaaa::AAAA;
+pub use emitting::{EncodesFields, emit_in};
 pub use hinfo::HINFO;
+pub use mx::MX;
+pub use name::{ANAME, CNAME, NS, PTR};
+pub use naptr::{NAPTR, verify_flags};
 pub use null::NULL;
 pub use openpgpkey::OPENPGPKEY;
+pub use soa::SOA;
+pub use srv::SRV;
 pub use traits::{RecordDataDecodable, TakesOctet};
 pub use txt::TXT;

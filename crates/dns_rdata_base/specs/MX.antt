@@ -1,0 +1,16 @@
+-- MX: a mail exchange (RFC 1035, 3.3.9).
+use Rattle.std.specs.Prelude.{ℕ, List, [], ◌∷◌, ◌++◌, codes, decimal}
+use Rattle.dns_fields.specs.Fields.{Kind, Number, Name, Values}
+use Rattle.dns_labels.specs.Text.{name_text}
+use Rattle.dns_rdata_base.specs.declared.mx.MX.{MX}
+
+-- preference, exchange
+abbrev pub mx_shape : List Kind
+mx_shape = Number 2 ∷ Name ∷ []
+
+abbrev pub mx_fields : MX → Values mx_shape
+mx_fields x = (x.preference, (x.exchange, tt))
+
+-- the fields, a blank between
+abbrev pub mx_text : MX → List ℕ
+mx_text x = decimal x.preference ++ codes " " ++ name_text x.exchange

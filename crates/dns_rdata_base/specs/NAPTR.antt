@@ -1,0 +1,47 @@
+-- NAPTR: a rule that rewrites a name (RFC 3403, 4.1).
+use Rattle.std.specs.Prelude.{◌≡◌, ◌⊎◌, ◌&&◌, ◌||◌, ℕ, Bool, IsTrue, nat_le, List, [], ◌∷◌, ◌++◌, codes, decimal}
+use Rattle.std.specs.List.{list_all}
+use Rattle.dns_types.specs.declared.error.DecodeError.{DecodeError}
+use Rattle.dns_types.specs.declared.error.DecodeError.TheVariants as decode
+use Rattle.dns_fields.specs.Fields.{Kind, Number, Text, Name, Values}
+use Rattle.dns_labels.specs.Text.{name_text}
+use Rattle.dns_names_wire.specs.State.{Reading}
+use Rattle.dns_names_wire.specs.Words.{Took}
+use Rattle.dns_rdata_base.specs.Lossy.{lossy}
+use Rattle.dns_rdata_base.specs.Refusing.{IsLack}
+use Rattle.dns_rdata_base.specs.declared.naptr.NAPTR.{NAPTR}
+
+-- order, preference, flags, services, regexp, replacement
+abbrev pub naptr_shape : List Kind
+naptr_shape = Number 2 ∷ Number 2 ∷ Text ∷ Text ∷ Text ∷ Name ∷ []
+
+abbrev pub naptr_fields : NAPTR → Values naptr_shape
+naptr_fields x = (x.order, (x.preference, (x.flags, (x.services, (x.regexp, (x.replacement, tt))))))
+
+-- a digit or a letter
+abbrev pub is_flag : ℕ → Bool
+is_flag c = (nat_le 48 c && nat_le c 57) || (nat_le 97 c && nat_le c 122) || (nat_le 65 c && nat_le c 90)
+
+abbrev pub AreFlags : List ℕ → Type 0
+AreFlags flags = IsTrue (list_all is_flag flags)
+
+-- the flags are digits and letters
+abbrev pub naptr_condition : Values naptr_shape → Type 0
+naptr_condition vs = AreFlags vs.1.1.0
+
+-- the flags, behind order and preference, have another octet
+pub record BadFlags (old : Reading) (e : DecodeError) (new : Reading) : Type 0 where
+  pub error : e ≡ decode.NaptrFlagsInvalid
+  pub order : ℕ
+  pub preference : ℕ
+  pub flags : List ℕ
+  pub took : Took old (Number 2 ∷ Number 2 ∷ Text ∷ []) (order, (preference, (flags, tt))) new
+  pub bad : AreFlags flags → ⊥
+
+abbrev pub naptr_refusal : Reading → DecodeError → Reading → Type 0
+naptr_refusal old e new = IsLack naptr_shape old e new ⊎ BadFlags old e new
+
+-- the fields, a blank between, the strings in quotes
+abbrev pub naptr_text : NAPTR → List ℕ
+naptr_text x = decimal x.order ++ codes " " ++ decimal x.preference ++ codes " \"" ++ lossy x.flags ++ codes "\" \"" ++ lossy x.services
+    ++ codes "\" \"" ++ lossy x.regexp ++ codes "\" " ++ name_text x.replacement

@@ -1,0 +1,39 @@
+-- Records of one name: CNAME, NS, PTR (RFC 1035, 3.3.1, 3.3.11 and 3.3.12) and ANAME.
+use Rattle.std.specs.Prelude.{ℕ, List, [], ◌∷◌}
+use Rattle.dns_fields.specs.Fields.{Kind, Name, Values}
+use Rattle.dns_fields.specs.Labels.{DomainName}
+use Rattle.dns_labels.specs.Text.{name_text}
+use Rattle.dns_rdata_base.specs.declared.name.CNAME.{CNAME}
+use Rattle.dns_rdata_base.specs.declared.name.NS.{NS}
+use Rattle.dns_rdata_base.specs.declared.name.PTR.{PTR}
+use Rattle.dns_rdata_base.specs.declared.name.ANAME.{ANAME}
+
+abbrev pub name_shape : List Kind
+name_shape = Name ∷ []
+
+abbrev pub name_fields : DomainName → Values name_shape
+name_fields n = (n, tt)
+
+abbrev pub cname_fields : CNAME → Values name_shape
+cname_fields x = name_fields x.0
+
+abbrev pub cname_text : CNAME → List ℕ
+cname_text x = name_text x.0
+
+abbrev pub ns_fields : NS → Values name_shape
+ns_fields x = name_fields x.0
+
+abbrev pub ns_text : NS → List ℕ
+ns_text x = name_text x.0
+
+abbrev pub ptr_fields : PTR → Values name_shape
+ptr_fields x = name_fields x.0
+
+abbrev pub ptr_text : PTR → List ℕ
+ptr_text x = name_text x.0
+
+abbrev pub aname_fields : ANAME → Values name_shape
+aname_fields x = name_fields x.0
+
+abbrev pub aname_text : ANAME → List ℕ
+aname_text x = name_text x.0

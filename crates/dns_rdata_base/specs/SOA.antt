@@ -1,0 +1,30 @@
+-- SOA: the start of a zone of authority (RFC 1035, 3.3.13).
+use Rattle.std.specs.Prelude.{ℕ, ℤ, List, [], ◌∷◌, ◌++◌, codes, decimal}
+use Rattle.dns_fields.specs.Fields.{Kind, Number, Name, Values}
+use Rattle.dns_labels.specs.Text.{name_text}
+use Rattle.std.specs.Fmt.{signed_decimal}
+use Rattle.std.specs.Int.{cast_unsigned, w32}
+use Rattle.dns_rdata_base.specs.declared.soa.SOA.{SOA}
+
+-- serial, refresh, retry, expire, minimum
+abbrev pub soa_numbers_shape : List Kind
+soa_numbers_shape = Number 4 ∷ Number 4 ∷ Number 4 ∷ Number 4 ∷ Number 4 ∷ []
+
+-- refresh, retry and expire in two's complement
+abbrev pub soa_numbers : ℕ × ℤ × ℤ × ℤ × ℕ → Values soa_numbers_shape
+soa_numbers t = (t.0, (cast_unsigned w32 t.1, (cast_unsigned w32 t.2, (cast_unsigned w32 t.3, (t.4, tt)))))
+
+abbrev pub soa_numbers_of : SOA → Values soa_numbers_shape
+soa_numbers_of x = soa_numbers (x.serial, x.refresh, x.retry, x.expire, x.minimum)
+
+-- mname, rname, and the numbers
+abbrev pub soa_shape : List Kind
+soa_shape = Name ∷ Name ∷ soa_numbers_shape
+
+abbrev pub soa_fields : SOA → Values soa_shape
+soa_fields x = (x.mname, (x.rname, soa_numbers_of x))
+
+-- the fields, a blank between
+abbrev pub soa_text : SOA → List ℕ
+soa_text x = name_text x.mname ++ codes " " ++ name_text x.rname ++ codes " " ++ decimal x.serial ++ codes " " ++ signed_decimal x.refresh ++ codes " "
+    ++ signed_decimal x.retry ++ codes " " ++ signed_decimal x.expire ++ codes " " ++ decimal x.minimum

@@ -1,0 +1,16 @@
+-- SRV: a host of a service (RFC 2782).
+use Rattle.std.specs.Prelude.{ℕ, List, [], ◌∷◌, ◌++◌, codes, decimal}
+use Rattle.dns_fields.specs.Fields.{Kind, Number, Name, Values}
+use Rattle.dns_labels.specs.Text.{name_text}
+use Rattle.dns_rdata_base.specs.declared.srv.SRV.{SRV}
+
+-- priority, weight, port, target
+abbrev pub srv_shape : List Kind
+srv_shape = Number 2 ∷ Number 2 ∷ Number 2 ∷ Name ∷ []
+
+abbrev pub srv_fields : SRV → Values srv_shape
+srv_fields x = (x.priority, (x.weight, (x.port, (x.target, tt))))
+
+-- the fields, a blank between
+abbrev pub srv_text : SRV → List ℕ
+srv_text x = decimal x.priority ++ codes " " ++ decimal x.weight ++ codes " " ++ decimal x.port ++ codes " " ++ name_text x.target

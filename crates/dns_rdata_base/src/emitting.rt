@@ -1,0 +1,35 @@
+//! Record data whose names are written in a mode of its type.
+
+ghost use Rattle.std.specs.Prelude.{List};
+ghost use Rattle.dns_fields.specs.Fields.{Kind, Values};
+ghost use Rattle.dns_names_wire.specs.Words.{Emits, EmitsAs, Keeps};
+
+use dns_names_wire::{BinEncoder, ProtoError, RDataEncoding};
+
+/// What is emitted as fields one behind the other.
+pub trait EncodesFields {
+    /// The kinds of its fields, in order.
+    ghost emitted: { List Kind };
+
+    /// Its fields.
+    ghost parts: { Self → Values emitted };
+
+    /// Appends the fields, names in the encoder's mode.
+    fn emit_fields(&self, encoder: &mut BinEncoder<'_>) -> Result<(), ProtoError>
+        ensures emits { Emits emitted (parts self.now) result encoder.old encoder.new };
+}
+
+/// Appends the fields, names in this mode. The encoder is then in the mode that it was in, refused or not.
+pub fn emit_in<T: EncodesFields>(
+    mode: RDataEncoding,
+    data: &T,
+    encoder: &mut BinEncoder<'_>,
+) -> Result<(), ProtoError>
+    ensures emits { EmitsAs mode T.emitted (T.parts data.now) result encoder.old encoder.new }
+    ensures keeps { Keeps encoder.old encoder.new }
+{
+    let earlier = encoder.with_rdata_behavior(mode);
+    let outcome = data.emit_fields(encoder);
+    encoder.with_rdata_behavior(earlier);
+    outcome
+}

@@ -1,0 +1,226 @@
+//! NAPTR: a rule that rewrites a name (RFC 3403, 4).
+
+ghost use Rattle.std.specs.Prelude.{◌≡◌, IfErr, IfOk};
+ghost use Rattle.std.specs.Box.{boxed_slice_items};
+ghost use Rattle.std.specs.List.{list_all};
+ghost use Rattle.dns_fields.specs.Fields.{Stands};
+ghost use Rattle.dns_fields.specs.declared.RDataEncoding.TheVariants as modes;
+ghost use Rattle.dns_names_wire.specs.Words.{ReadsIf, ReadsBy, ReadsWindow, Emits, EmitsAs, Keeps};
+ghost use Rattle.dns_rdata_base.specs.NAPTR.{naptr_shape, naptr_fields, naptr_condition, naptr_refusal, is_flag};
+
+use crate::emitting::{EncodesFields, emit_in};
+use crate::traits::RecordDataDecodable;
+use bstr::BStr;
+use dns_names_wire::{
+    BinDecodable, BinDecoder, BinEncodable, BinEncoder, DecodeError, Name, Octets, ProtoError,
+    RDataEncoding, Restrict,
+};
+use std::alloc::AllocError;
+use std::boxed::BoxedSlice;
+use std::fmt;
+
+/// A rule that rewrites a name (RFC 3403, 4.1).
+#[derive(Debug, Drop, Hash)]
+pub struct NAPTR {
+    /// Lower values are tried first.
+    pub order: u16,
+    /// Lower values are tried first among those of one order.
+    pub preference: u16,
+    /// Letters and digits that say what comes next.
+    pub flags: Octets,
+    /// The services.
+    pub services: Octets,
+    /// The substitution.
+    pub regexp: Octets,
+    /// The name that is asked for next.
+    pub replacement: Name,
+}
+
+/// Whether each octet is a digit or a letter of ASCII.
+pub fn verify_flags(flags: &[u8]) -> bool
+    ensures { result ≡ list_all is_flag flags.now }
+{
+    flags
+        .iter()
+        .all(|c| matches!(*c, b'0'..=b'9' | b'a'..=b'z' | b'A'..=b'Z'))
+}
+
+impl NAPTR {
+    /// With these fields, which are moved.
+    pub fn new(
+        order: u16,
+        preference: u16,
+        flags: BoxedSlice<u8>,
+        services: BoxedSlice<u8>,
+        regexp: BoxedSlice<u8>,
+        replacement: Name,
+    ) -> NAPTR
+        ensures { result ≡ record { order = order; preference = preference; flags = boxed_slice_items flags; services = boxed_slice_items services; regexp = boxed_slice_items regexp; replacement = replacement } }
+    {
+        NAPTR {
+            order,
+            preference,
+            flags: Octets::from_boxed(flags),
+            services: Octets::from_boxed(services),
+            regexp: Octets::from_boxed(regexp),
+            replacement,
+        }
+    }
+}
+
+impl NAPTR {
+    // Reads the fields in order.
+    #[tactic(auto, using(dns_names_wire::proofs::FieldReads::reading))]
+    fn read_in_order(decoder: &mut BinDecoder<'_>) -> Result<NAPTR, DecodeError>
+        ensures fields { ReadsIf naptr_shape (λ vs _. naptr_condition vs) naptr_fields result decoder.old decoder.new }
+        ensures refused { IfErr result (λ e. naptr_refusal decoder.old e decoder.new) }
+    {
+        let alloc = decoder.allocator();
+        let order = decoder.read_u16()?.unverified();
+        let preference = decoder.read_u16()?.unverified();
+        let flags = decoder.read_character_data()?.unverified();
+        if !verify_flags(flags) {
+            return Err(DecodeError::NaptrFlagsInvalid);
+        }
+        let services = decoder.read_character_data()?.unverified();
+        let regexp = decoder.read_character_data()?.unverified();
+        let replacement = Name::read(decoder)?;
+        let flags = Octets::from_slice(alloc, flags)?;
+        let services = Octets::from_slice(alloc, services)?;
+        let regexp = Octets::from_slice(alloc, regexp)?;
+        Ok(NAPTR {
+            order,
+            preference,
+            flags,
+            services,
+            regexp,
+            replacement,
+        })
+    }
+}
+
+impl BinDecodable for NAPTR {
+    ghost stands = { λ m p x q. Stands m p naptr_shape (naptr_fields x) q × naptr_condition (naptr_fields x) };
+
+    /// Reads the fields in order. The flags are tested as soon as they are taken: where an octet of theirs is no letter
+    /// and no digit it is refused by `NaptrFlagsInvalid`. Where a field does not stand it is refused, and those before it
+    /// are taken.
+    fn read(decoder: &mut BinDecoder<'_>) -> Result<NAPTR, DecodeError>
+        ensures reads { ReadsBy (λ m p x q. Stands m p naptr_shape (naptr_fields x) q × naptr_condition (naptr_fields x)) result decoder.old decoder.new }
+        ensures fields { ReadsIf naptr_shape (λ vs _. naptr_condition vs) naptr_fields result decoder.old decoder.new }
+        ensures refused { IfErr result (λ e. naptr_refusal decoder.old e decoder.new) }
+    {
+        NAPTR::read_in_order(decoder)
+    }
+}
+
+impl RecordDataDecodable for NAPTR {
+    ghost kinds = { naptr_shape };
+
+    ghost condition = { naptr_condition };
+
+    ghost fields = { naptr_fields };
+
+    /// As `read`, whatever the length.
+    #[inline]
+    fn read_data(decoder: &mut BinDecoder<'_>, length: Restrict<u16>) -> Result<NAPTR, DecodeError>
+        ensures window { ReadsWindow naptr_shape naptr_condition naptr_fields length result decoder.old decoder.new }
+        ensures refused { IfErr result (λ e. naptr_refusal decoder.old e decoder.new) }
+    {
+        let _start = decoder.index();
+        NAPTR::read(decoder)
+    }
+}
+
+impl EncodesFields for NAPTR {
+    ghost emitted = { naptr_shape };
+
+    ghost parts = { naptr_fields };
+
+    #[tactic(auto, using(dns_names_wire::proofs::FieldWrites::writing))]
+    fn emit_fields(&self, encoder: &mut BinEncoder<'_>) -> Result<(), ProtoError> {
+        encoder.emit_u16(self.order)?;
+        encoder.emit_u16(self.preference)?;
+        encoder.emit_character_data(self.flags.as_slice())?;
+        encoder.emit_character_data(self.services.as_slice())?;
+        encoder.emit_character_data(self.regexp.as_slice())?;
+        self.replacement.emit(encoder)?;
+        Ok(())
+    }
+}
+
+impl BinEncodable for NAPTR {
+    ghost emits = { λ x r old new. EmitsAs modes.Canonical naptr_shape (naptr_fields x) r old new };
+
+    /// Appends the octets, the name uncompressed and in lower case (RFC 4034, 6.2). The encoder is then in the mode that it was in, refused or not.
+    fn emit(&self, encoder: &mut BinEncoder<'_>) -> Result<(), ProtoError>
+        ensures emits { EmitsAs RDataEncoding.Canonical naptr_shape (naptr_fields self.now) result encoder.old encoder.new }
+        ensures keeps { Keeps encoder.old encoder.new }
+    {
+        emit_in(RDataEncoding::Canonical, self, encoder)
+    }
+}
+
+impl PartialEq for NAPTR {
+    ghost use Rattle.std.specs.Cmp.{partial_equiv_from_equiv, on_equiv};
+    ghost use Rattle.dns_fields.specs.Equal.{values_eq, values_equiv};
+
+    ghost eq = { λ a b. values_eq naptr_shape (naptr_fields a) (naptr_fields b) };
+
+    ghost laws = { partial_equiv_from_equiv (on_equiv naptr_fields (values_equiv naptr_shape)) };
+
+    #[inline]
+    fn eq(&self, other: &NAPTR) -> bool {
+        self.order == other.order
+            && self.preference == other.preference
+            && self.flags == other.flags
+            && self.services == other.services
+            && self.regexp == other.regexp
+            && self.replacement == other.replacement
+    }
+}
+
+impl Eq for NAPTR {
+    ghost use Rattle.std.specs.Cmp.{on_equiv};
+    ghost use Rattle.dns_fields.specs.Equal.{values_equiv};
+
+    ghost laws = { on_equiv naptr_fields (values_equiv naptr_shape) };
+}
+
+impl Clone for NAPTR {
+    ghost is_clone = { λ a b. b ≡ a };
+
+    /// The same value in memory of its own.
+    fn clone(&self) -> Result<NAPTR, AllocError>
+        ensures { IfOk result (λ copy. copy ≡ self.now) }
+    {
+        Ok(NAPTR {
+            order: self.order,
+            preference: self.preference,
+            flags: self.flags.clone()?,
+            services: self.services.clone()?,
+            regexp: self.regexp.clone()?,
+            replacement: self.replacement.clone()?,
+        })
+    }
+}
+
+impl fmt::Display for NAPTR {
+    ghost use Rattle.std.specs.Prelude.{Some};
+    ghost use Rattle.dns_rdata_base.specs.NAPTR.{naptr_text};
+
+    ghost output = { λ x. Some (naptr_text x) };
+
+    /// The fields in order, a blank between, the strings in quotes; U+FFFD stands for octets that are not UTF-8.
+    #[tactic(auto, unfolding(crate::specs::Lossy::lossy))]
+    fn fmt<W: fmt::Write>(&self, f: &mut fmt::Formatter<W>) -> fmt::Result {
+        let flags = BStr::new(self.flags.as_slice());
+        let services = BStr::new(self.services.as_slice());
+        let regexp = BStr::new(self.regexp.as_slice());
+        write!(
+            f,
+            "{} {} \"{flags}\" \"{services}\" \"{regexp}\" {}",
+            self.order, self.preference, self.replacement
+        )
+    }
+}

@@ -1,0 +1,227 @@
+//! SOA: the start of a zone of authority (RFC 1035, 3.3.13).
+
+ghost use Rattle.std.specs.Prelude.{◌≡◌, ◌+◌, ◌%◌, IfErr, IfOk};
+ghost use Rattle.dns_fields.specs.Fields.{Stands};
+ghost use Rattle.dns_fields.specs.declared.RDataEncoding.TheVariants as modes;
+ghost use Rattle.dns_names_wire.specs.Words.{ReadsIf, ReadsBy, ReadsWindow, Emits, EmitsAs, Keeps, always};
+ghost use Rattle.dns_rdata_base.specs.Refusing.{IsLack};
+ghost use Rattle.dns_rdata_base.specs.SOA.{soa_shape, soa_fields, soa_numbers_shape, soa_numbers, soa_numbers_of};
+
+use crate::emitting::{EncodesFields, emit_in};
+use crate::traits::RecordDataDecodable;
+use dns_names_wire::{
+    BinDecodable, BinDecoder, BinEncodable, BinEncoder, DecodeError, Name, ProtoError,
+    RDataEncoding, Restrict,
+};
+use std::alloc::AllocError;
+use std::fmt;
+
+/// The start of a zone of authority (RFC 1035, 3.3.13).
+#[derive(Debug, Drop, Hash)]
+pub struct SOA {
+    /// The name server that the data came from.
+    pub mname: Name,
+    /// The mailbox of who is responsible, its first dot in place of the `@`.
+    pub rname: Name,
+    /// The version of the zone.
+    pub serial: u32,
+    /// Seconds until the zone is asked for again.
+    pub refresh: i32,
+    /// Seconds until a refresh that failed is tried again.
+    pub retry: i32,
+    /// Seconds until the zone is no longer authoritative.
+    pub expire: i32,
+    /// Seconds for which an answer that there is none stands (RFC 2308, 4).
+    pub minimum: u32,
+}
+
+impl SOA {
+    /// With these fields.
+    pub fn new(
+        mname: Name,
+        rname: Name,
+        serial: u32,
+        refresh: i32,
+        retry: i32,
+        expire: i32,
+        minimum: u32,
+    ) -> SOA
+        ensures { result ≡ record { mname = mname; rname = rname; serial = serial; refresh = refresh; retry = retry; expire = expire; minimum = minimum } }
+    {
+        SOA {
+            mname,
+            rname,
+            serial,
+            refresh,
+            retry,
+            expire,
+            minimum,
+        }
+    }
+
+    /// Puts the serial up by one; behind 4294967295 stands 0.
+    pub fn increment_serial(&mut self)
+        ensures { self.new ≡ record self.old { serial = (self.old.serial + 1) % 4294967296 } }
+    {
+        self.serial = self.serial.wrapping_add(1);
+    }
+}
+
+impl SOA {
+    // Reads serial, refresh, retry, expire and minimum.
+    #[tactic(auto, using(dns_names_wire::proofs::FieldReads::reading))]
+    fn read_numbers(decoder: &mut BinDecoder<'_>) -> Result<(u32, i32, i32, i32, u32), DecodeError>
+        ensures fields { ReadsIf soa_numbers_shape (always soa_numbers_shape) soa_numbers result decoder.old decoder.new }
+        ensures refused { IfErr result (λ e. IsLack soa_numbers_shape decoder.old e decoder.new) }
+    {
+        let serial = decoder.read_u32()?.unverified();
+        let refresh = decoder.read_i32()?.unverified();
+        let retry = decoder.read_i32()?.unverified();
+        let expire = decoder.read_i32()?.unverified();
+        let minimum = decoder.read_u32()?.unverified();
+        Ok((serial, refresh, retry, expire, minimum))
+    }
+
+    // Appends serial, refresh, retry, expire and minimum.
+    #[tactic(auto, using(dns_names_wire::proofs::FieldWrites::writing))]
+    fn emit_numbers(&self, encoder: &mut BinEncoder<'_>) -> Result<(), ProtoError>
+        ensures emits { Emits soa_numbers_shape (soa_numbers_of self.now) result encoder.old encoder.new }
+    {
+        encoder.emit_u32(self.serial)?;
+        encoder.emit_i32(self.refresh)?;
+        encoder.emit_i32(self.retry)?;
+        encoder.emit_i32(self.expire)?;
+        encoder.emit_u32(self.minimum)?;
+        Ok(())
+    }
+}
+
+impl BinDecodable for SOA {
+    ghost stands = { λ m p x q. Stands m p soa_shape (soa_fields x) q };
+
+    /// Reads the fields in order. Where one does not stand it is refused, and those before it are taken.
+    #[tactic(auto, using(dns_names_wire::proofs::FieldReads::reading))]
+    fn read(decoder: &mut BinDecoder<'_>) -> Result<SOA, DecodeError>
+        ensures reads { ReadsBy (λ m p x q. Stands m p soa_shape (soa_fields x) q) result decoder.old decoder.new }
+        ensures fields { ReadsIf soa_shape (always soa_shape) soa_fields result decoder.old decoder.new }
+        ensures refused { IfErr result (λ e. IsLack soa_shape decoder.old e decoder.new) }
+    {
+        let mname = Name::read(decoder)?;
+        let rname = Name::read(decoder)?;
+        let (serial, refresh, retry, expire, minimum) = SOA::read_numbers(decoder)?;
+        Ok(SOA {
+            mname,
+            rname,
+            serial,
+            refresh,
+            retry,
+            expire,
+            minimum,
+        })
+    }
+}
+
+impl RecordDataDecodable for SOA {
+    ghost kinds = { soa_shape };
+
+    ghost condition = { λ _. Unit {0} };
+
+    ghost fields = { soa_fields };
+
+    /// As `read`, whatever the length.
+    #[inline]
+    fn read_data(decoder: &mut BinDecoder<'_>, length: Restrict<u16>) -> Result<SOA, DecodeError>
+        ensures window { ReadsWindow soa_shape (λ _. Unit {0}) soa_fields length result decoder.old decoder.new }
+        ensures refused { IfErr result (λ e. IsLack soa_shape decoder.old e decoder.new) }
+    {
+        let _start = decoder.index();
+        SOA::read(decoder)
+    }
+}
+
+impl EncodesFields for SOA {
+    ghost emitted = { soa_shape };
+
+    ghost parts = { soa_fields };
+
+    #[tactic(auto, using(dns_names_wire::proofs::FieldWrites::writing))]
+    fn emit_fields(&self, encoder: &mut BinEncoder<'_>) -> Result<(), ProtoError> {
+        self.mname.emit(encoder)?;
+        self.rname.emit(encoder)?;
+        self.emit_numbers(encoder)
+    }
+}
+
+impl BinEncodable for SOA {
+    ghost emits = { λ x r old new. EmitsAs modes.StandardRecord soa_shape (soa_fields x) r old new };
+
+    /// Appends the octets; a name ends with a pointer to an earlier place where it can (RFC 1035, 4.1.4). The encoder is then in the mode that it was in, refused or not.
+    fn emit(&self, encoder: &mut BinEncoder<'_>) -> Result<(), ProtoError>
+        ensures emits { EmitsAs RDataEncoding.StandardRecord soa_shape (soa_fields self.now) result encoder.old encoder.new }
+        ensures keeps { Keeps encoder.old encoder.new }
+    {
+        emit_in(RDataEncoding::StandardRecord, self, encoder)
+    }
+}
+
+impl PartialEq for SOA {
+    ghost use Rattle.std.specs.Cmp.{partial_equiv_from_equiv, on_equiv};
+    ghost use Rattle.dns_fields.specs.Equal.{values_eq, values_equiv};
+
+    ghost eq = { λ a b. values_eq soa_shape (soa_fields a) (soa_fields b) };
+
+    ghost laws = { partial_equiv_from_equiv (on_equiv soa_fields (values_equiv soa_shape)) };
+
+    #[inline]
+    fn eq(&self, other: &SOA) -> bool {
+        self.mname == other.mname
+            && self.rname == other.rname
+            && self.serial == other.serial
+            && self.refresh == other.refresh
+            && self.retry == other.retry
+            && self.expire == other.expire
+            && self.minimum == other.minimum
+    }
+}
+
+impl Eq for SOA {
+    ghost use Rattle.std.specs.Cmp.{on_equiv};
+    ghost use Rattle.dns_fields.specs.Equal.{values_equiv};
+
+    ghost laws = { on_equiv soa_fields (values_equiv soa_shape) };
+}
+
+impl Clone for SOA {
+    ghost is_clone = { λ a b. b ≡ a };
+
+    /// The same value in memory of its own.
+    fn clone(&self) -> Result<SOA, AllocError>
+        ensures { IfOk result (λ copy. copy ≡ self.now) }
+    {
+        Ok(SOA {
+            mname: self.mname.clone()?,
+            rname: self.rname.clone()?,
+            serial: self.serial,
+            refresh: self.refresh,
+            retry: self.retry,
+            expire: self.expire,
+            minimum: self.minimum,
+        })
+    }
+}
+
+impl fmt::Display for SOA {
+    ghost use Rattle.std.specs.Prelude.{Some};
+    ghost use Rattle.dns_rdata_base.specs.SOA.{soa_text};
+
+    ghost output = { λ x. Some (soa_text x) };
+
+    /// The fields in order, a blank between.
+    fn fmt<W: fmt::Write>(&self, f: &mut fmt::Formatter<W>) -> fmt::Result {
+        write!(
+            f,
+            "{} {} {} {} {} {} {}",
+            self.mname, self.rname, self.serial, self.refresh, self.retry, self.expire, self.minimum
+        )
+    }
+}

@@ -1,0 +1,168 @@
+//! SRV: a host of a service (RFC 2782).
+
+ghost use Rattle.std.specs.Prelude.{◌≡◌, IfErr, IfOk};
+ghost use Rattle.dns_fields.specs.Fields.{Stands};
+ghost use Rattle.dns_fields.specs.declared.RDataEncoding.TheVariants as modes;
+ghost use Rattle.dns_names_wire.specs.Words.{ReadsIf, ReadsBy, ReadsWindow, Emits, EmitsAs, Keeps, always};
+ghost use Rattle.dns_rdata_base.specs.Refusing.{IsLack};
+ghost use Rattle.dns_rdata_base.specs.SRV.{srv_shape, srv_fields};
+
+use crate::emitting::{EncodesFields, emit_in};
+use crate::traits::RecordDataDecodable;
+use dns_names_wire::{
+    BinDecodable, BinDecoder, BinEncodable, BinEncoder, DecodeError, Name, ProtoError,
+    RDataEncoding, Restrict,
+};
+use std::alloc::AllocError;
+use std::fmt;
+
+/// A host and port of a service (RFC 2782).
+#[derive(Debug, Drop, Hash)]
+pub struct SRV {
+    /// Lower values are tried first.
+    pub priority: u16,
+    /// The share among those of one priority.
+    pub weight: u16,
+    /// The port.
+    pub port: u16,
+    /// The host.
+    pub target: Name,
+}
+
+impl SRV {
+    /// With these fields.
+    pub fn new(priority: u16, weight: u16, port: u16, target: Name) -> SRV
+        ensures { result ≡ record { priority = priority; weight = weight; port = port; target = target } }
+    {
+        SRV {
+            priority,
+            weight,
+            port,
+            target,
+        }
+    }
+}
+
+impl BinDecodable for SRV {
+    ghost stands = { λ m p x q. Stands m p srv_shape (srv_fields x) q };
+
+    /// Reads the fields in order. Where one does not stand it is refused, and those before it are taken.
+    #[tactic(auto, using(dns_names_wire::proofs::FieldReads::reading))]
+    fn read(decoder: &mut BinDecoder<'_>) -> Result<SRV, DecodeError>
+        ensures reads { ReadsBy (λ m p x q. Stands m p srv_shape (srv_fields x) q) result decoder.old decoder.new }
+        ensures fields { ReadsIf srv_shape (always srv_shape) srv_fields result decoder.old decoder.new }
+        ensures refused { IfErr result (λ e. IsLack srv_shape decoder.old e decoder.new) }
+    {
+        let priority = decoder.read_u16()?.unverified();
+        let weight = decoder.read_u16()?.unverified();
+        let port = decoder.read_u16()?.unverified();
+        let target = Name::read(decoder)?;
+        Ok(SRV {
+            priority,
+            weight,
+            port,
+            target,
+        })
+    }
+}
+
+impl RecordDataDecodable for SRV {
+    ghost kinds = { srv_shape };
+
+    ghost condition = { λ _. Unit {0} };
+
+    ghost fields = { srv_fields };
+
+    /// As `read`, whatever the length.
+    #[inline]
+    fn read_data(decoder: &mut BinDecoder<'_>, length: Restrict<u16>) -> Result<SRV, DecodeError>
+        ensures window { ReadsWindow srv_shape (λ _. Unit {0}) srv_fields length result decoder.old decoder.new }
+        ensures refused { IfErr result (λ e. IsLack srv_shape decoder.old e decoder.new) }
+    {
+        let _start = decoder.index();
+        SRV::read(decoder)
+    }
+}
+
+impl EncodesFields for SRV {
+    ghost emitted = { srv_shape };
+
+    ghost parts = { srv_fields };
+
+    #[tactic(auto, using(dns_names_wire::proofs::FieldWrites::writing))]
+    fn emit_fields(&self, encoder: &mut BinEncoder<'_>) -> Result<(), ProtoError> {
+        encoder.emit_u16(self.priority)?;
+        encoder.emit_u16(self.weight)?;
+        encoder.emit_u16(self.port)?;
+        self.target.emit(encoder)?;
+        Ok(())
+    }
+}
+
+impl BinEncodable for SRV {
+    ghost emits = { λ x r old new. EmitsAs modes.Canonical srv_shape (srv_fields x) r old new };
+
+    /// Appends the octets, the name uncompressed and in lower case (RFC 4034, 6.2). The encoder is then in the mode that it was in, refused or not.
+    fn emit(&self, encoder: &mut BinEncoder<'_>) -> Result<(), ProtoError>
+        ensures emits { EmitsAs RDataEncoding.Canonical srv_shape (srv_fields self.now) result encoder.old encoder.new }
+        ensures keeps { Keeps encoder.old encoder.new }
+    {
+        emit_in(RDataEncoding::Canonical, self, encoder)
+    }
+}
+
+impl PartialEq for SRV {
+    ghost use Rattle.std.specs.Cmp.{partial_equiv_from_equiv, on_equiv};
+    ghost use Rattle.dns_fields.specs.Equal.{values_eq, values_equiv};
+
+    ghost eq = { λ a b. values_eq srv_shape (srv_fields a) (srv_fields b) };
+
+    ghost laws = { partial_equiv_from_equiv (on_equiv srv_fields (values_equiv srv_shape)) };
+
+    #[inline]
+    fn eq(&self, other: &SRV) -> bool {
+        self.priority == other.priority
+            && self.weight == other.weight
+            && self.port == other.port
+            && self.target == other.target
+    }
+}
+
+impl Eq for SRV {
+    ghost use Rattle.std.specs.Cmp.{on_equiv};
+    ghost use Rattle.dns_fields.specs.Equal.{values_equiv};
+
+    ghost laws = { on_equiv srv_fields (values_equiv srv_shape) };
+}
+
+impl Clone for SRV {
+    ghost is_clone = { λ a b. b ≡ a };
+
+    /// The same value in memory of its own.
+    fn clone(&self) -> Result<SRV, AllocError>
+        ensures { IfOk result (λ copy. copy ≡ self.now) }
+    {
+        Ok(SRV {
+            priority: self.priority,
+            weight: self.weight,
+            port: self.port,
+            target: self.target.clone()?,
+        })
+    }
+}
+
+impl fmt::Display for SRV {
+    ghost use Rattle.std.specs.Prelude.{Some};
+    ghost use Rattle.dns_rdata_base.specs.SRV.{srv_text};
+
+    ghost output = { λ x. Some (srv_text x) };
+
+    /// The fields in order, a blank between.
+    fn fmt<W: fmt::Write>(&self, f: &mut fmt::Formatter<W>) -> fmt::Result {
+        write!(
+            f,
+            "{} {} {} {}",
+            self.priority, self.weight, self.port, self.target
+        )
+    }
+}
