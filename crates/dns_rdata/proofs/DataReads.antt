@@ -3,7 +3,7 @@ use Rattle.std.proofs.Common.{◌≡◌, ◌≢◌, ℕ, ◌+◌, ◌-◌, ◌<�
 use Rattle.std.specs.Result.{IfOk, IfErr}
 use Rattle.std.proofs.lemmas.Bool.Decides.{nat_tests}
 use Rattle.dns_fields.specs.Octets.{AreOctets}
-use Rattle.dns_fields.specs.Fields.{Values}
+use Rattle.dns_fields.specs.Fields.{Values, Kind, Number, Name, Text}
 use Rattle.dns_types.specs.declared.error.DecodeError.{DecodeError}
 use Rattle.dns_types.specs.declared.error.DecodeError.TheVariants as decode
 use Rattle.dns_types.specs.declared.record_type.RecordType.{RecordType}
@@ -14,6 +14,12 @@ use Rattle.dns_names_wire.specs.Words.{StaysBehind, UnlessMemory, NoWindow, Took
 use Rattle.dns_names_wire.proofs.FieldReads.{stays}
 use Rattle.dns_rdata_base.specs.declared.null.NULL.{NULL}
 use Rattle.dns_rdata_base.specs.NULL.{null_shape, null_fields}
+use Rattle.dns_rdata_base.specs.Refusing.{FirstLack, IsLack}
+use Rattle.dns_rdata_base.specs.NameRecords.{name_shape}
+use Rattle.dns_rdata_base.specs.MX.{mx_shape}
+use Rattle.dns_rdata_base.specs.NAPTR.{naptr_shape}
+use Rattle.dns_rdata_base.specs.SOA.{soa_shape}
+use Rattle.dns_rdata_base.specs.SRV.{srv_shape}
 use Rattle.dns_rdata_certs.specs.Rests.{rest_refusal}
 use Rattle.dns_rdata.specs.declared.record_data.RData.{RData}
 use Rattle.dns_rdata.specs.declared.record_data.RData.TheVariants as rdata
@@ -46,31 +52,47 @@ pub record HasNoRow (t : RecordType) : Type 0 where
   pub rowless : IsRowless t
   pub read : IsNeverRead t → ⊥
 
-pub no_row : (t : RecordType) → t ≢ types.A → t ≢ types.AAAA → t ≢ types.CERT → t ≢ types.HINFO → t ≢ types.NULL → t ≢ types.OPENPGPKEY → t ≢ types.SMIMEA → t ≢ types.SSHFP → t ≢ types.TLSA → t ≢ types.TXT → t ≢ types.ZERO → t ≢ types.ANY → t ≢ types.AXFR → t ≢ types.IXFR → HasNoRow t
-no_row types.A h0 h1 h2 h3 h4 h5 h6 h7 h8 h9 h10 h11 h12 h13 = absurd (h0 refl)
-no_row types.AAAA h0 h1 h2 h3 h4 h5 h6 h7 h8 h9 h10 h11 h12 h13 = absurd (h1 refl)
-no_row types.CERT h0 h1 h2 h3 h4 h5 h6 h7 h8 h9 h10 h11 h12 h13 = absurd (h2 refl)
-no_row types.HINFO h0 h1 h2 h3 h4 h5 h6 h7 h8 h9 h10 h11 h12 h13 = absurd (h3 refl)
-no_row types.NULL h0 h1 h2 h3 h4 h5 h6 h7 h8 h9 h10 h11 h12 h13 = absurd (h4 refl)
-no_row types.OPENPGPKEY h0 h1 h2 h3 h4 h5 h6 h7 h8 h9 h10 h11 h12 h13 = absurd (h5 refl)
-no_row types.SMIMEA h0 h1 h2 h3 h4 h5 h6 h7 h8 h9 h10 h11 h12 h13 = absurd (h6 refl)
-no_row types.SSHFP h0 h1 h2 h3 h4 h5 h6 h7 h8 h9 h10 h11 h12 h13 = absurd (h7 refl)
-no_row types.TLSA h0 h1 h2 h3 h4 h5 h6 h7 h8 h9 h10 h11 h12 h13 = absurd (h8 refl)
-no_row types.TXT h0 h1 h2 h3 h4 h5 h6 h7 h8 h9 h10 h11 h12 h13 = absurd (h9 refl)
-no_row types.ZERO h0 h1 h2 h3 h4 h5 h6 h7 h8 h9 h10 h11 h12 h13 = absurd (h10 refl)
-no_row types.ANY h0 h1 h2 h3 h4 h5 h6 h7 h8 h9 h10 h11 h12 h13 = absurd (h11 refl)
-no_row types.AXFR h0 h1 h2 h3 h4 h5 h6 h7 h8 h9 h10 h11 h12 h13 = absurd (h12 refl)
-no_row types.IXFR h0 h1 h2 h3 h4 h5 h6 h7 h8 h9 h10 h11 h12 h13 = absurd (h13 refl)
-no_row t h0 h1 h2 h3 h4 h5 h6 h7 h8 h9 h10 h11 h12 h13 = record { rowless = tt; read = λ h. h }
+pub no_row : (t : RecordType) → t ≢ types.A → t ≢ types.AAAA → t ≢ types.ANAME → t ≢ types.CERT → t ≢ types.CNAME → t ≢ types.HINFO → t ≢ types.MX → t ≢ types.NAPTR → t ≢ types.NULL → t ≢ types.NS → t ≢ types.OPENPGPKEY → t ≢ types.PTR → t ≢ types.SMIMEA → t ≢ types.SOA → t ≢ types.SRV → t ≢ types.SSHFP → t ≢ types.TLSA → t ≢ types.TXT → t ≢ types.ZERO → t ≢ types.ANY → t ≢ types.AXFR → t ≢ types.IXFR → HasNoRow t
+no_row types.A h0 h1 h2 h3 h4 h5 h6 h7 h8 h9 h10 h11 h12 h13 h14 h15 h16 h17 h18 h19 h20 h21 = absurd (h0 refl)
+no_row types.AAAA h0 h1 h2 h3 h4 h5 h6 h7 h8 h9 h10 h11 h12 h13 h14 h15 h16 h17 h18 h19 h20 h21 = absurd (h1 refl)
+no_row types.ANAME h0 h1 h2 h3 h4 h5 h6 h7 h8 h9 h10 h11 h12 h13 h14 h15 h16 h17 h18 h19 h20 h21 = absurd (h2 refl)
+no_row types.CERT h0 h1 h2 h3 h4 h5 h6 h7 h8 h9 h10 h11 h12 h13 h14 h15 h16 h17 h18 h19 h20 h21 = absurd (h3 refl)
+no_row types.CNAME h0 h1 h2 h3 h4 h5 h6 h7 h8 h9 h10 h11 h12 h13 h14 h15 h16 h17 h18 h19 h20 h21 = absurd (h4 refl)
+no_row types.HINFO h0 h1 h2 h3 h4 h5 h6 h7 h8 h9 h10 h11 h12 h13 h14 h15 h16 h17 h18 h19 h20 h21 = absurd (h5 refl)
+no_row types.MX h0 h1 h2 h3 h4 h5 h6 h7 h8 h9 h10 h11 h12 h13 h14 h15 h16 h17 h18 h19 h20 h21 = absurd (h6 refl)
+no_row types.NAPTR h0 h1 h2 h3 h4 h5 h6 h7 h8 h9 h10 h11 h12 h13 h14 h15 h16 h17 h18 h19 h20 h21 = absurd (h7 refl)
+no_row types.NULL h0 h1 h2 h3 h4 h5 h6 h7 h8 h9 h10 h11 h12 h13 h14 h15 h16 h17 h18 h19 h20 h21 = absurd (h8 refl)
+no_row types.NS h0 h1 h2 h3 h4 h5 h6 h7 h8 h9 h10 h11 h12 h13 h14 h15 h16 h17 h18 h19 h20 h21 = absurd (h9 refl)
+no_row types.OPENPGPKEY h0 h1 h2 h3 h4 h5 h6 h7 h8 h9 h10 h11 h12 h13 h14 h15 h16 h17 h18 h19 h20 h21 = absurd (h10 refl)
+no_row types.PTR h0 h1 h2 h3 h4 h5 h6 h7 h8 h9 h10 h11 h12 h13 h14 h15 h16 h17 h18 h19 h20 h21 = absurd (h11 refl)
+no_row types.SMIMEA h0 h1 h2 h3 h4 h5 h6 h7 h8 h9 h10 h11 h12 h13 h14 h15 h16 h17 h18 h19 h20 h21 = absurd (h12 refl)
+no_row types.SOA h0 h1 h2 h3 h4 h5 h6 h7 h8 h9 h10 h11 h12 h13 h14 h15 h16 h17 h18 h19 h20 h21 = absurd (h13 refl)
+no_row types.SRV h0 h1 h2 h3 h4 h5 h6 h7 h8 h9 h10 h11 h12 h13 h14 h15 h16 h17 h18 h19 h20 h21 = absurd (h14 refl)
+no_row types.SSHFP h0 h1 h2 h3 h4 h5 h6 h7 h8 h9 h10 h11 h12 h13 h14 h15 h16 h17 h18 h19 h20 h21 = absurd (h15 refl)
+no_row types.TLSA h0 h1 h2 h3 h4 h5 h6 h7 h8 h9 h10 h11 h12 h13 h14 h15 h16 h17 h18 h19 h20 h21 = absurd (h16 refl)
+no_row types.TXT h0 h1 h2 h3 h4 h5 h6 h7 h8 h9 h10 h11 h12 h13 h14 h15 h16 h17 h18 h19 h20 h21 = absurd (h17 refl)
+no_row types.ZERO h0 h1 h2 h3 h4 h5 h6 h7 h8 h9 h10 h11 h12 h13 h14 h15 h16 h17 h18 h19 h20 h21 = absurd (h18 refl)
+no_row types.ANY h0 h1 h2 h3 h4 h5 h6 h7 h8 h9 h10 h11 h12 h13 h14 h15 h16 h17 h18 h19 h20 h21 = absurd (h19 refl)
+no_row types.AXFR h0 h1 h2 h3 h4 h5 h6 h7 h8 h9 h10 h11 h12 h13 h14 h15 h16 h17 h18 h19 h20 h21 = absurd (h20 refl)
+no_row types.IXFR h0 h1 h2 h3 h4 h5 h6 h7 h8 h9 h10 h11 h12 h13 h14 h15 h16 h17 h18 h19 h20 h21 = absurd (h21 refl)
+no_row t h0 h1 h2 h3 h4 h5 h6 h7 h8 h9 h10 h11 h12 h13 h14 h15 h16 h17 h18 h19 h20 h21 = record { rowless = tt; read = λ h. h }
 
 pub unknown_took : {old new : Reading} (t : RecordType) (n : ℕ) (x : NULL) → HasNoRow t → TookWindow old n null_shape (λ _. Unit {0}) (null_fields x) new → TookData old t n (rdata.Unknown t x) new
 unknown_took types.A n x h w = absurd h.rowless
 unknown_took types.AAAA n x h w = absurd h.rowless
+unknown_took types.ANAME n x h w = absurd h.rowless
 unknown_took types.CERT n x h w = absurd h.rowless
+unknown_took types.CNAME n x h w = absurd h.rowless
 unknown_took types.HINFO n x h w = absurd h.rowless
+unknown_took types.MX n x h w = absurd h.rowless
+unknown_took types.NAPTR n x h w = absurd h.rowless
 unknown_took types.NULL n x h w = absurd h.rowless
+unknown_took types.NS n x h w = absurd h.rowless
 unknown_took types.OPENPGPKEY n x h w = absurd h.rowless
+unknown_took types.PTR n x h w = absurd h.rowless
 unknown_took types.SMIMEA n x h w = absurd h.rowless
+unknown_took types.SOA n x h w = absurd h.rowless
+unknown_took types.SRV n x h w = absurd h.rowless
 unknown_took types.SSHFP n x h w = absurd h.rowless
 unknown_took types.TLSA n x h w = absurd h.rowless
 unknown_took types.TXT n x h w = absurd h.rowless
@@ -124,6 +146,18 @@ rest_never f n old new k (inr (inl h)) = let e = h.error in cc e
 rest_never f n old new k (inr (inr (inl h))) = let e = h.error in cc e
 rest_never f n old new k (inr (inr (inr h))) = let e = h.error in cc e
 
+first_never : (kinds : List Kind) (old new : Reading) (k : ℕ) → FirstLack kinds old (decode.UnknownRecordTypeValue k) new → ⊥
+first_never [] old new k h = h
+first_never (Number w ∷ kinds) old new k (inl h) = let e = h.0 in cc e
+first_never (Name ∷ kinds) old new k (inl h) = let e = h.0 in cc e
+first_never (Text ∷ kinds) old new k (inl h) = let e = h.0 in cc e
+first_never (l ∷ kinds) old new k (inl h) = h
+first_never (l ∷ kinds) old new k (inr h) = first_never kinds h.1 new k h.3
+
+lack_never : (kinds : List Kind) (old new : Reading) (k : ℕ) → IsLack kinds old (decode.UnknownRecordTypeValue k) new → ⊥
+lack_never kinds old new k (inl e) = cc e
+lack_never kinds old new k (inr h) = first_never kinds old new k h
+
 -- the refusal by number is that of types that are never read
 own_never : (t : RecordType) (n : ℕ) (old new : Reading) (k : ℕ) → OwnRefusal t n old new (decode.UnknownRecordTypeValue k) → IsNeverRead t × (k ≡ number_of t)
 own_never types.ANY n old new k e = (tt, cc e)
@@ -143,6 +177,15 @@ own_never types.SSHFP n old new k h = absurd (rest_never 2 n old new k h)
 own_never types.TLSA n old new k h = absurd (rest_never 3 n old new k h)
 own_never types.TXT n old new k (inl e) = absurd (cc e)
 own_never types.TXT n old new k (inr h) = let e = h.0 in absurd (cc e)
+own_never types.NAPTR n old new k (inl h) = absurd (lack_never naptr_shape old new k h)
+own_never types.NAPTR n old new k (inr h) = let e = h.error in absurd (cc e)
+own_never types.ANAME n old new k h = absurd (lack_never name_shape old new k h)
+own_never types.CNAME n old new k h = absurd (lack_never name_shape old new k h)
+own_never types.MX n old new k h = absurd (lack_never mx_shape old new k h)
+own_never types.NS n old new k h = absurd (lack_never name_shape old new k h)
+own_never types.PTR n old new k h = absurd (lack_never name_shape old new k h)
+own_never types.SOA n old new k h = absurd (lack_never soa_shape old new k h)
+own_never types.SRV n old new k h = absurd (lack_never srv_shape old new k h)
 own_never t n old new k h = let e = h.0 in absurd (cc e)
 
 pub data_why : (t : RecordType) (n : ℕ) (o : Result RData DecodeError) (old new : Reading) (read len : ℕ) → ReadsData t n o old new → Counted old new n read len → IfErr o (λ e. UnlessMemory e (OwnRefusal t n old new e)) → (IsNeverRead t → (new ≡ old) × (o ≡ Err (decode.UnknownRecordTypeValue (number_of t)))) → IfErr (by_length o read len) (IsRefusal t n old new)

@@ -1,5 +1,5 @@
 -- A value of record data is told by its type and its fields.
-use Rattle.std.proofs.Common.{◌≡◌, ◌↔◌, ℕ, Bool, true, false, ◌&&◌, List, [], ◌∷◌, refl, sym, ap, ◌∙◌, arith}
+use Rattle.std.proofs.Common.{◌≡◌, ◌↔◌, ℕ, ◌+◌, Bool, true, false, ◌&&◌, List, [], ◌∷◌, refl, sym, ap, ◌∙◌, arith}
 use Rattle.std.proofs.lemmas.Bool.Decides.{nat_tests}
 use Rattle.std.specs.Bool.{Decides}
 use Rattle.std.specs.Net.Addr.{segments_of, octets_of}
@@ -10,6 +10,9 @@ use Rattle.dns_fields.proofs.OctetLaws.{AreOctets-at}
 use Rattle.dns_types.specs.declared.record_type.RecordType.{RecordType}
 use Rattle.dns_types.specs.declared.record_type.RecordType.TheVariants as types
 use Rattle.dns_names_wire.specs.Words.{Window}
+use Rattle.dns_fields.proofs.Laws.{stands_fit}
+use Rattle.dns_rdata_base.specs.SOA.{soa_shape}
+use Rattle.dns_rdata_base.proofs.SoaValues.{soa_from, soa_from-fields, soa_fields-from, soa_from-seconds}
 use Rattle.dns_rdata_base.proofs.Addresses.{octets_of-segments, segments_of-octets_of}
 use Rattle.dns_rdata_certs.specs.CERT.{cert_shape, cert_fields, cert_key_shape, cert_keys}
 use Rattle.dns_rdata_certs.specs.SMIMEA.{smimea_shape, smimea_fields, smimea_key_shape, smimea_keys}
@@ -73,11 +76,19 @@ values_as-same (k ∷ s) vs = ap (λ (v : Value k). (v, values_as s s vs.1)) (va
 pub value_for : (t : RecordType) → Values (shape t) → RData
 value_for types.A vs = rdata.A (record { 0 = record { octets = vs.0 } })
 value_for types.AAAA vs = rdata.AAAA (record { 0 = record { segments = segments_of vs.0 } })
+value_for types.ANAME vs = rdata.ANAME (record { 0 = vs.0 })
 value_for types.CERT vs = rdata.CERT (cert_from vs)
+value_for types.CNAME vs = rdata.CNAME (record { 0 = vs.0 })
 value_for types.HINFO vs = rdata.HINFO (record { cpu = vs.0; os = vs.1.0 })
+value_for types.MX vs = rdata.MX (record { preference = vs.0; exchange = vs.1.0 })
+value_for types.NAPTR vs = rdata.NAPTR (record { order = vs.0; preference = vs.1.0; flags = vs.1.1.0; services = vs.1.1.1.0; regexp = vs.1.1.1.1.0; replacement = vs.1.1.1.1.1.0 })
 value_for types.NULL vs = rdata.NULL (record { anything = vs.0 })
+value_for types.NS vs = rdata.NS (record { 0 = vs.0 })
 value_for types.OPENPGPKEY vs = rdata.OPENPGPKEY (record { public_key = vs.0 })
+value_for types.PTR vs = rdata.PTR (record { 0 = vs.0 })
 value_for types.SMIMEA vs = rdata.SMIMEA (smimea_from vs)
+value_for types.SOA vs = rdata.SOA (soa_from vs)
+value_for types.SRV vs = rdata.SRV (record { priority = vs.0; weight = vs.1.0; port = vs.1.1.0; target = vs.1.1.1.0 })
 value_for types.SSHFP vs = rdata.SSHFP (sshfp_from vs)
 value_for types.TLSA vs = rdata.TLSA (tlsa_from vs)
 value_for types.TXT vs = rdata.TXT (record { txt_data = vs.0 })
@@ -94,21 +105,37 @@ plain_value : (v : RData) → IsPlain v → v ≡ from_fields (type_of v) (field
 unfolding from_fields value_for values_as value_as
 plain_value (rdata.A x) h = refl
 plain_value (rdata.AAAA x) h = ap (λ (s : List ℕ). rdata.AAAA (record { 0 = record { segments = s } })) (sym (segments_of-octets_of x.0.segments))
+plain_value (rdata.ANAME x) h = refl
 plain_value (rdata.CERT x) h = ap rdata.CERT (cert_from-fields x h)
+plain_value (rdata.CNAME x) h = refl
 plain_value (rdata.HINFO x) h = refl
+plain_value (rdata.MX x) h = refl
+plain_value (rdata.NAPTR x) h = refl
 plain_value (rdata.NULL x) h = refl
+plain_value (rdata.NS x) h = refl
 plain_value (rdata.OPENPGPKEY x) h = refl
+plain_value (rdata.PTR x) h = refl
 plain_value (rdata.SMIMEA x) h = ap rdata.SMIMEA (smimea_from-fields x h)
+plain_value (rdata.SOA x) h = ap rdata.SOA (soa_from-fields x h)
+plain_value (rdata.SRV x) h = refl
 plain_value (rdata.SSHFP x) h = ap rdata.SSHFP (sshfp_from-fields x h)
 plain_value (rdata.TLSA x) h = ap rdata.TLSA (tlsa_from-fields x h)
 plain_value (rdata.TXT x) h = refl
 plain_value (rdata.Unknown types.A x) h = absurd h
 plain_value (rdata.Unknown types.AAAA x) h = absurd h
+plain_value (rdata.Unknown types.ANAME x) h = absurd h
 plain_value (rdata.Unknown types.CERT x) h = absurd h
+plain_value (rdata.Unknown types.CNAME x) h = absurd h
 plain_value (rdata.Unknown types.HINFO x) h = absurd h
+plain_value (rdata.Unknown types.MX x) h = absurd h
+plain_value (rdata.Unknown types.NAPTR x) h = absurd h
 plain_value (rdata.Unknown types.NULL x) h = absurd h
+plain_value (rdata.Unknown types.NS x) h = absurd h
 plain_value (rdata.Unknown types.OPENPGPKEY x) h = absurd h
+plain_value (rdata.Unknown types.PTR x) h = absurd h
 plain_value (rdata.Unknown types.SMIMEA x) h = absurd h
+plain_value (rdata.Unknown types.SOA x) h = absurd h
+plain_value (rdata.Unknown types.SRV x) h = absurd h
 plain_value (rdata.Unknown types.SSHFP x) h = absurd h
 plain_value (rdata.Unknown types.TLSA x) h = absurd h
 plain_value (rdata.Unknown types.TXT x) h = absurd h
@@ -142,11 +169,21 @@ window_value m p n types.A vs w = record { type = refl; fields = refl; plain = t
 window_value m p n types.AAAA vs w =
     let e : octets_of (segments_of vs.0) ≡ vs.0 = octets_of-segments 8 vs.0 w.stands.1.is.0 (AreOctets-at m p vs.0 w.stands.0 w.octets w.stands.1.is.1) in
     record { type = refl; fields = of_kinds (Octets 16 ∷ []) (ap (λ (o : List ℕ). (o, tt)) e); plain = tt }
+window_value m p n types.ANAME vs w = record { type = refl; fields = refl; plain = tt }
 window_value m p n types.CERT vs w = record { type = refl; fields = of_kinds cert_shape (cert_fields-from vs); plain = cert_from-read vs }
+window_value m p n types.CNAME vs w = record { type = refl; fields = refl; plain = tt }
 window_value m p n types.HINFO vs w = record { type = refl; fields = refl; plain = tt }
+window_value m p n types.MX vs w = record { type = refl; fields = refl; plain = tt }
+window_value m p n types.NAPTR vs w = record { type = refl; fields = refl; plain = tt }
 window_value m p n types.NULL vs w = record { type = refl; fields = refl; plain = tt }
+window_value m p n types.NS vs w = record { type = refl; fields = refl; plain = tt }
 window_value m p n types.OPENPGPKEY vs w = record { type = refl; fields = refl; plain = tt }
+window_value m p n types.PTR vs w = record { type = refl; fields = refl; plain = tt }
 window_value m p n types.SMIMEA vs w = record { type = refl; fields = of_kinds smimea_shape (smimea_fields-from vs); plain = smimea_from-read vs }
+window_value m p n types.SOA vs w =
+    let f = stands_fit m p soa_shape vs (p + n) w.stands in
+    record { type = refl; fields = of_kinds soa_shape (soa_fields-from vs f); plain = soa_from-seconds vs f }
+window_value m p n types.SRV vs w = record { type = refl; fields = refl; plain = tt }
 window_value m p n types.SSHFP vs w = record { type = refl; fields = of_kinds sshfp_shape (sshfp_fields-from vs); plain = sshfp_from-read vs }
 window_value m p n types.TLSA vs w = record { type = refl; fields = of_kinds tlsa_shape (tlsa_fields-from vs); plain = tlsa_from-read vs }
 window_value m p n types.TXT vs w = record { type = refl; fields = refl; plain = tt }
@@ -183,11 +220,19 @@ pub equal_values : (t : RecordType) (vs ws : Values (shape t)) → condition t v
 unfolding value_for values_as value_as
 equal_values types.A vs ws h = and_true (values_eq (shape types.A) (vs.0, tt) (ws.0, tt))
 equal_values types.AAAA vs ws h = and_true _
+equal_values types.ANAME vs ws h = and_true _
 equal_values types.CERT vs ws h = and_true _ ∙ equal_keys cert_key_shape cert_shape (cert_keys (cert_from vs)) (cert_keys (cert_from ws)) (cert_fields (cert_from vs)) (cert_fields (cert_from ws)) (tt, (tt, (tt, (tt, (tt, (tt, tt)))))) (tt, (tt, (tt, (tt, (tt, (tt, tt)))))) (tt, (tt, (tt, (tt, tt)))) (tt, (tt, (tt, (tt, tt)))) (cert_keys-same (cert_from vs) (cert_from ws) (cert_from-read vs) (cert_from-read ws))
+equal_values types.CNAME vs ws h = and_true _
 equal_values types.HINFO vs ws h = and_true _
+equal_values types.MX vs ws h = and_true _
+equal_values types.NAPTR vs ws h = and_true _
 equal_values types.NULL vs ws h = and_true _
+equal_values types.NS vs ws h = and_true _
 equal_values types.OPENPGPKEY vs ws h = and_true _
+equal_values types.PTR vs ws h = and_true _
 equal_values types.SMIMEA vs ws h = and_true _ ∙ equal_keys smimea_key_shape smimea_shape (smimea_keys (smimea_from vs)) (smimea_keys (smimea_from ws)) (smimea_fields (smimea_from vs)) (smimea_fields (smimea_from ws)) (tt, (tt, (tt, (tt, (tt, (tt, (tt, tt))))))) (tt, (tt, (tt, (tt, (tt, (tt, (tt, tt))))))) (tt, (tt, (tt, (tt, tt)))) (tt, (tt, (tt, (tt, tt)))) (smimea_keys-same (smimea_from vs) (smimea_from ws) (smimea_from-read vs) (smimea_from-read ws))
+equal_values types.SOA vs ws h = and_true _
+equal_values types.SRV vs ws h = and_true _
 equal_values types.SSHFP vs ws h = and_true _ ∙ equal_keys sshfp_key_shape sshfp_shape (sshfp_keys (sshfp_from vs)) (sshfp_keys (sshfp_from ws)) (sshfp_fields (sshfp_from vs)) (sshfp_fields (sshfp_from ws)) (tt, (tt, (tt, (tt, (tt, tt))))) (tt, (tt, (tt, (tt, (tt, tt))))) (tt, (tt, (tt, tt))) (tt, (tt, (tt, tt))) (sshfp_keys-same (sshfp_from vs) (sshfp_from ws) (sshfp_from-read vs) (sshfp_from-read ws))
 equal_values types.TLSA vs ws h = and_true _ ∙ equal_keys tlsa_key_shape tlsa_shape (tlsa_keys (tlsa_from vs)) (tlsa_keys (tlsa_from ws)) (tlsa_fields (tlsa_from vs)) (tlsa_fields (tlsa_from ws)) (tt, (tt, (tt, (tt, (tt, (tt, (tt, tt))))))) (tt, (tt, (tt, (tt, (tt, (tt, (tt, tt))))))) (tt, (tt, (tt, (tt, tt)))) (tt, (tt, (tt, (tt, tt)))) (tlsa_keys-same (tlsa_from vs) (tlsa_from ws) (tlsa_from-read vs) (tlsa_from-read ws))
 equal_values types.TXT vs ws h = and_true _

@@ -1,6 +1,7 @@
 -- Record data of every type: its fields, and when a value fills a window of a message (RFC 1035, 3.2.1).
 use Rattle.std.specs.Prelude.{◌≡◌, ◌≢◌, ℕ, ◌+◌, List, [], ◌∷◌, Result, Ok, Err}
 use Rattle.dns_fields.specs.declared.RDataEncoding.{RDataEncoding}
+use Rattle.dns_fields.specs.declared.RDataEncoding.TheVariants as modes
 use Rattle.dns_fields.specs.Fields.{Kind, Rest, Values, canonical}
 use Rattle.dns_types.specs.declared.record_type.RecordType.{RecordType}
 use Rattle.dns_types.specs.declared.record_type.RecordType.TheVariants as types
@@ -9,11 +10,16 @@ use Rattle.dns_names_wire.specs.State.{Reading}
 use Rattle.dns_names_wire.specs.Words.{StaysBehind, UnlessMemory, Window, NoWindow}
 use Rattle.dns_rdata_base.specs.A.{a_shape, a_fields}
 use Rattle.dns_rdata_base.specs.AAAA.{aaaa_shape, aaaa_fields}
+use Rattle.dns_rdata_base.specs.NameRecords.{name_shape, aname_fields, cname_fields, ns_fields, ptr_fields}
 use Rattle.dns_rdata_certs.specs.CERT.{cert_shape, cert_fields, cert_condition, IsReadCert}
 use Rattle.dns_rdata_base.specs.HINFO.{hinfo_shape, hinfo_fields}
+use Rattle.dns_rdata_base.specs.MX.{mx_shape, mx_fields}
+use Rattle.dns_rdata_base.specs.NAPTR.{naptr_shape, naptr_fields, naptr_condition}
 use Rattle.dns_rdata_base.specs.NULL.{null_shape, null_fields}
 use Rattle.dns_rdata_base.specs.OPENPGPKEY.{openpgpkey_shape, openpgpkey_fields}
 use Rattle.dns_rdata_certs.specs.SMIMEA.{smimea_shape, smimea_fields, IsReadSmimea}
+use Rattle.dns_rdata_base.specs.SOA.{soa_shape, soa_fields, HasSeconds}
+use Rattle.dns_rdata_base.specs.SRV.{srv_shape, srv_fields}
 use Rattle.dns_rdata_certs.specs.SSHFP.{sshfp_shape, sshfp_fields, IsReadSshfp}
 use Rattle.dns_rdata_certs.specs.TLSA.{tlsa_shape, tlsa_fields, IsReadTlsa}
 use Rattle.dns_rdata_base.specs.TXT.{txt_shape, txt_fields}
@@ -24,11 +30,19 @@ use Rattle.dns_rdata.specs.declared.record_data.RData.TheVariants as rdata
 abbrev pub shape : RecordType → List Kind
 shape types.A = a_shape
 shape types.AAAA = aaaa_shape
+shape types.ANAME = name_shape
 shape types.CERT = cert_shape
+shape types.CNAME = name_shape
 shape types.HINFO = hinfo_shape
+shape types.MX = mx_shape
+shape types.NAPTR = naptr_shape
 shape types.NULL = null_shape
+shape types.NS = name_shape
 shape types.OPENPGPKEY = openpgpkey_shape
+shape types.PTR = name_shape
 shape types.SMIMEA = smimea_shape
+shape types.SOA = soa_shape
+shape types.SRV = srv_shape
 shape types.SSHFP = sshfp_shape
 shape types.TLSA = tlsa_shape
 shape types.TXT = txt_shape
@@ -41,6 +55,7 @@ shape t = Rest ∷ []
 -- what is asked of the fields beside that they stand; of types that only questions have, no data is read
 abbrev pub condition : (t : RecordType) → Values (shape t) → Type 0
 condition types.CERT vs = cert_condition vs
+condition types.NAPTR vs = naptr_condition vs
 condition types.ANY vs = ⊥
 condition types.AXFR vs = ⊥
 condition types.IXFR vs = ⊥
@@ -54,11 +69,19 @@ pub record FieldsOf : Type 0 where
 abbrev pub fields_of : RData → FieldsOf
 fields_of (rdata.A x) = record { kinds = a_shape; values = a_fields x }
 fields_of (rdata.AAAA x) = record { kinds = aaaa_shape; values = aaaa_fields x }
+fields_of (rdata.ANAME x) = record { kinds = name_shape; values = aname_fields x }
 fields_of (rdata.CERT x) = record { kinds = cert_shape; values = cert_fields x }
+fields_of (rdata.CNAME x) = record { kinds = name_shape; values = cname_fields x }
 fields_of (rdata.HINFO x) = record { kinds = hinfo_shape; values = hinfo_fields x }
+fields_of (rdata.MX x) = record { kinds = mx_shape; values = mx_fields x }
+fields_of (rdata.NAPTR x) = record { kinds = naptr_shape; values = naptr_fields x }
 fields_of (rdata.NULL x) = record { kinds = null_shape; values = null_fields x }
+fields_of (rdata.NS x) = record { kinds = name_shape; values = ns_fields x }
 fields_of (rdata.OPENPGPKEY x) = record { kinds = openpgpkey_shape; values = openpgpkey_fields x }
+fields_of (rdata.PTR x) = record { kinds = name_shape; values = ptr_fields x }
 fields_of (rdata.SMIMEA x) = record { kinds = smimea_shape; values = smimea_fields x }
+fields_of (rdata.SOA x) = record { kinds = soa_shape; values = soa_fields x }
+fields_of (rdata.SRV x) = record { kinds = srv_shape; values = srv_fields x }
 fields_of (rdata.SSHFP x) = record { kinds = sshfp_shape; values = sshfp_fields x }
 fields_of (rdata.TLSA x) = record { kinds = tlsa_shape; values = tlsa_fields x }
 fields_of (rdata.TXT x) = record { kinds = txt_shape; values = txt_fields x }
@@ -69,11 +92,19 @@ fields_of rdata.ZERO = record { kinds = []; values = tt }
 abbrev pub type_of : RData → RecordType
 type_of (rdata.A x) = types.A
 type_of (rdata.AAAA x) = types.AAAA
+type_of (rdata.ANAME x) = types.ANAME
 type_of (rdata.CERT x) = types.CERT
+type_of (rdata.CNAME x) = types.CNAME
 type_of (rdata.HINFO x) = types.HINFO
+type_of (rdata.MX x) = types.MX
+type_of (rdata.NAPTR x) = types.NAPTR
 type_of (rdata.NULL x) = types.NULL
+type_of (rdata.NS x) = types.NS
 type_of (rdata.OPENPGPKEY x) = types.OPENPGPKEY
+type_of (rdata.PTR x) = types.PTR
 type_of (rdata.SMIMEA x) = types.SMIMEA
+type_of (rdata.SOA x) = types.SOA
+type_of (rdata.SRV x) = types.SRV
 type_of (rdata.SSHFP x) = types.SSHFP
 type_of (rdata.TLSA x) = types.TLSA
 type_of (rdata.TXT x) = types.TXT
@@ -85,11 +116,19 @@ type_of rdata.ZERO = types.ZERO
 abbrev pub IsRowless : RecordType → Type 0
 IsRowless types.A = ⊥
 IsRowless types.AAAA = ⊥
+IsRowless types.ANAME = ⊥
 IsRowless types.CERT = ⊥
+IsRowless types.CNAME = ⊥
 IsRowless types.HINFO = ⊥
+IsRowless types.MX = ⊥
+IsRowless types.NAPTR = ⊥
 IsRowless types.NULL = ⊥
+IsRowless types.NS = ⊥
 IsRowless types.OPENPGPKEY = ⊥
+IsRowless types.PTR = ⊥
 IsRowless types.SMIMEA = ⊥
+IsRowless types.SOA = ⊥
+IsRowless types.SRV = ⊥
 IsRowless types.SSHFP = ⊥
 IsRowless types.TLSA = ⊥
 IsRowless types.TXT = ⊥
@@ -100,7 +139,7 @@ IsRowless types.IXFR = ⊥
 IsRowless t = Unit {0}
 
 -- A value that data can give: octets of any form are of a type without a row, an update of no data is never read, and
--- of two variants of an enum with one number it is the named one.
+-- of two variants of an enum with one number it is the named one, and signed numbers have their bits.
 abbrev pub IsPlain : RData → Type 0
 IsPlain (rdata.Unknown code x) = IsRowless code
 IsPlain (rdata.Update0 t) = ⊥
@@ -108,6 +147,7 @@ IsPlain (rdata.CERT x) = IsReadCert x
 IsPlain (rdata.SMIMEA x) = IsReadSmimea x
 IsPlain (rdata.SSHFP x) = IsReadSshfp x
 IsPlain (rdata.TLSA x) = IsReadTlsa x
+IsPlain (rdata.SOA x) = HasSeconds x
 IsPlain v = Unit {0}
 
 -- v is the value of the type with these fields
@@ -132,6 +172,14 @@ data_octets v = canonical (fields_of v).kinds (fields_of v).values
 
 -- how the names of a value are written: in the mode of its type; without names, as the encoder does
 abbrev pub mode_for : RDataEncoding → RData → RDataEncoding
+mode_for own (rdata.ANAME x) = modes.Other
+mode_for own (rdata.CNAME x) = modes.StandardRecord
+mode_for own (rdata.MX x) = modes.StandardRecord
+mode_for own (rdata.NAPTR x) = modes.Canonical
+mode_for own (rdata.NS x) = modes.StandardRecord
+mode_for own (rdata.PTR x) = modes.StandardRecord
+mode_for own (rdata.SOA x) = modes.StandardRecord
+mode_for own (rdata.SRV x) = modes.Canonical
 mode_for own v = own
 
 -- ---- what a reader answers that may stop at another end than the length

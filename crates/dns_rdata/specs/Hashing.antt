@@ -11,16 +11,32 @@ use Rattle.dns_rdata_base.specs.contracts.a.AHash.TheImpl as a_hash
 use Rattle.dns_rdata_base.specs.contracts.a.AHash.TheImpl.Laws as a_hash_laws
 use Rattle.dns_rdata_base.specs.contracts.aaaa.AAAAHash.TheImpl as aaaa_hash
 use Rattle.dns_rdata_base.specs.contracts.aaaa.AAAAHash.TheImpl.Laws as aaaa_hash_laws
+use Rattle.dns_rdata_base.specs.contracts.name.ANAMEHash.TheImpl as aname_hash
+use Rattle.dns_rdata_base.specs.contracts.name.ANAMEHash.TheImpl.Laws as aname_hash_laws
 use Rattle.dns_rdata_certs.specs.contracts.cert.CERTHash.TheImpl as cert_hash
 use Rattle.dns_rdata_certs.specs.contracts.cert.CERTHash.TheImpl.Laws as cert_hash_laws
+use Rattle.dns_rdata_base.specs.contracts.name.CNAMEHash.TheImpl as cname_hash
+use Rattle.dns_rdata_base.specs.contracts.name.CNAMEHash.TheImpl.Laws as cname_hash_laws
 use Rattle.dns_rdata_base.specs.contracts.hinfo.HINFOHash.TheImpl as hinfo_hash
 use Rattle.dns_rdata_base.specs.contracts.hinfo.HINFOHash.TheImpl.Laws as hinfo_hash_laws
+use Rattle.dns_rdata_base.specs.contracts.mx.MXHash.TheImpl as mx_hash
+use Rattle.dns_rdata_base.specs.contracts.mx.MXHash.TheImpl.Laws as mx_hash_laws
+use Rattle.dns_rdata_base.specs.contracts.naptr.NAPTRHash.TheImpl as naptr_hash
+use Rattle.dns_rdata_base.specs.contracts.naptr.NAPTRHash.TheImpl.Laws as naptr_hash_laws
 use Rattle.dns_rdata_base.specs.contracts.null.NULLHash.TheImpl as null_hash
 use Rattle.dns_rdata_base.specs.contracts.null.NULLHash.TheImpl.Laws as null_hash_laws
+use Rattle.dns_rdata_base.specs.contracts.name.NSHash.TheImpl as ns_hash
+use Rattle.dns_rdata_base.specs.contracts.name.NSHash.TheImpl.Laws as ns_hash_laws
 use Rattle.dns_rdata_base.specs.contracts.openpgpkey.OPENPGPKEYHash.TheImpl as openpgpkey_hash
 use Rattle.dns_rdata_base.specs.contracts.openpgpkey.OPENPGPKEYHash.TheImpl.Laws as openpgpkey_hash_laws
+use Rattle.dns_rdata_base.specs.contracts.name.PTRHash.TheImpl as ptr_hash
+use Rattle.dns_rdata_base.specs.contracts.name.PTRHash.TheImpl.Laws as ptr_hash_laws
 use Rattle.dns_rdata_certs.specs.contracts.smimea.SMIMEAHash.TheImpl as smimea_hash
 use Rattle.dns_rdata_certs.specs.contracts.smimea.SMIMEAHash.TheImpl.Laws as smimea_hash_laws
+use Rattle.dns_rdata_base.specs.contracts.soa.SOAHash.TheImpl as soa_hash
+use Rattle.dns_rdata_base.specs.contracts.soa.SOAHash.TheImpl.Laws as soa_hash_laws
+use Rattle.dns_rdata_base.specs.contracts.srv.SRVHash.TheImpl as srv_hash
+use Rattle.dns_rdata_base.specs.contracts.srv.SRVHash.TheImpl.Laws as srv_hash_laws
 use Rattle.dns_rdata_certs.specs.contracts.sshfp.SSHFPHash.TheImpl as sshfp_hash
 use Rattle.dns_rdata_certs.specs.contracts.sshfp.SSHFPHash.TheImpl.Laws as sshfp_hash_laws
 use Rattle.dns_rdata_certs.specs.contracts.tlsa.TLSAHash.TheImpl as tlsa_hash
@@ -30,7 +46,7 @@ use Rattle.dns_rdata_base.specs.contracts.txt.TXTHash.TheImpl.Laws as txt_hash_l
 use Rattle.dns_rdata.specs.declared.record_data.RData.{RData}
 use Rattle.dns_rdata.specs.declared.record_data.RData.TheVariants as rdata
 use Rattle.dns_rdata.specs.Data.{type_of}
-use Rattle.dns_rdata.specs.Equal.{equal, a_eq, aaaa_eq, cert_eq, hinfo_eq, null_eq, openpgpkey_eq, smimea_eq, sshfp_eq, tlsa_eq, txt_eq, record_type_eq}
+use Rattle.dns_rdata.specs.Equal.{equal, a_eq, aaaa_eq, aname_eq, cert_eq, cname_eq, hinfo_eq, mx_eq, naptr_eq, null_eq, ns_eq, openpgpkey_eq, ptr_eq, smimea_eq, soa_eq, srv_eq, sshfp_eq, tlsa_eq, txt_eq, record_type_eq}
 
 abbrev pub type_fed : RecordType → HashWrites
 type_fed = type_hash.ghosts.hash_input
@@ -39,11 +55,19 @@ type_fed = type_hash.ghosts.hash_input
 abbrev pub data_fed : RData → HashWrites
 data_fed (rdata.A x) = type_fed types.A ++ a_hash.ghosts.hash_input x
 data_fed (rdata.AAAA x) = type_fed types.AAAA ++ aaaa_hash.ghosts.hash_input x
+data_fed (rdata.ANAME x) = type_fed types.ANAME ++ aname_hash.ghosts.hash_input x
 data_fed (rdata.CERT x) = type_fed types.CERT ++ cert_hash.ghosts.hash_input x
+data_fed (rdata.CNAME x) = type_fed types.CNAME ++ cname_hash.ghosts.hash_input x
 data_fed (rdata.HINFO x) = type_fed types.HINFO ++ hinfo_hash.ghosts.hash_input x
+data_fed (rdata.MX x) = type_fed types.MX ++ mx_hash.ghosts.hash_input x
+data_fed (rdata.NAPTR x) = type_fed types.NAPTR ++ naptr_hash.ghosts.hash_input x
 data_fed (rdata.NULL x) = type_fed types.NULL ++ null_hash.ghosts.hash_input x
+data_fed (rdata.NS x) = type_fed types.NS ++ ns_hash.ghosts.hash_input x
 data_fed (rdata.OPENPGPKEY x) = type_fed types.OPENPGPKEY ++ openpgpkey_hash.ghosts.hash_input x
+data_fed (rdata.PTR x) = type_fed types.PTR ++ ptr_hash.ghosts.hash_input x
 data_fed (rdata.SMIMEA x) = type_fed types.SMIMEA ++ smimea_hash.ghosts.hash_input x
+data_fed (rdata.SOA x) = type_fed types.SOA ++ soa_hash.ghosts.hash_input x
+data_fed (rdata.SRV x) = type_fed types.SRV ++ srv_hash.ghosts.hash_input x
 data_fed (rdata.SSHFP x) = type_fed types.SSHFP ++ sshfp_hash.ghosts.hash_input x
 data_fed (rdata.TLSA x) = type_fed types.TLSA ++ tlsa_hash.ghosts.hash_input x
 data_fed (rdata.TXT x) = type_fed types.TXT ++ txt_hash.ghosts.hash_input x
@@ -56,16 +80,32 @@ fed_same (rdata.A x) (rdata.A y) h = ap (λ (f : HashWrites). type_fed types.A +
 fed_same (rdata.A x) w h = absurd (true≢false (sym h))
 fed_same (rdata.AAAA x) (rdata.AAAA y) h = ap (λ (f : HashWrites). type_fed types.AAAA ++ f) (aaaa_hash_laws.respects_eq-law x y (first_so (aaaa_eq x y) true h))
 fed_same (rdata.AAAA x) w h = absurd (true≢false (sym h))
+fed_same (rdata.ANAME x) (rdata.ANAME y) h = ap (λ (f : HashWrites). type_fed types.ANAME ++ f) (aname_hash_laws.respects_eq-law x y (first_so (aname_eq x y) true h))
+fed_same (rdata.ANAME x) w h = absurd (true≢false (sym h))
 fed_same (rdata.CERT x) (rdata.CERT y) h = ap (λ (f : HashWrites). type_fed types.CERT ++ f) (cert_hash_laws.respects_eq-law x y (first_so (cert_eq x y) true h))
 fed_same (rdata.CERT x) w h = absurd (true≢false (sym h))
+fed_same (rdata.CNAME x) (rdata.CNAME y) h = ap (λ (f : HashWrites). type_fed types.CNAME ++ f) (cname_hash_laws.respects_eq-law x y (first_so (cname_eq x y) true h))
+fed_same (rdata.CNAME x) w h = absurd (true≢false (sym h))
 fed_same (rdata.HINFO x) (rdata.HINFO y) h = ap (λ (f : HashWrites). type_fed types.HINFO ++ f) (hinfo_hash_laws.respects_eq-law x y (first_so (hinfo_eq x y) true h))
 fed_same (rdata.HINFO x) w h = absurd (true≢false (sym h))
+fed_same (rdata.MX x) (rdata.MX y) h = ap (λ (f : HashWrites). type_fed types.MX ++ f) (mx_hash_laws.respects_eq-law x y (first_so (mx_eq x y) true h))
+fed_same (rdata.MX x) w h = absurd (true≢false (sym h))
+fed_same (rdata.NAPTR x) (rdata.NAPTR y) h = ap (λ (f : HashWrites). type_fed types.NAPTR ++ f) (naptr_hash_laws.respects_eq-law x y (first_so (naptr_eq x y) true h))
+fed_same (rdata.NAPTR x) w h = absurd (true≢false (sym h))
 fed_same (rdata.NULL x) (rdata.NULL y) h = ap (λ (f : HashWrites). type_fed types.NULL ++ f) (null_hash_laws.respects_eq-law x y (first_so (null_eq x y) true h))
 fed_same (rdata.NULL x) w h = absurd (true≢false (sym h))
+fed_same (rdata.NS x) (rdata.NS y) h = ap (λ (f : HashWrites). type_fed types.NS ++ f) (ns_hash_laws.respects_eq-law x y (first_so (ns_eq x y) true h))
+fed_same (rdata.NS x) w h = absurd (true≢false (sym h))
 fed_same (rdata.OPENPGPKEY x) (rdata.OPENPGPKEY y) h = ap (λ (f : HashWrites). type_fed types.OPENPGPKEY ++ f) (openpgpkey_hash_laws.respects_eq-law x y (first_so (openpgpkey_eq x y) true h))
 fed_same (rdata.OPENPGPKEY x) w h = absurd (true≢false (sym h))
+fed_same (rdata.PTR x) (rdata.PTR y) h = ap (λ (f : HashWrites). type_fed types.PTR ++ f) (ptr_hash_laws.respects_eq-law x y (first_so (ptr_eq x y) true h))
+fed_same (rdata.PTR x) w h = absurd (true≢false (sym h))
 fed_same (rdata.SMIMEA x) (rdata.SMIMEA y) h = ap (λ (f : HashWrites). type_fed types.SMIMEA ++ f) (smimea_hash_laws.respects_eq-law x y (first_so (smimea_eq x y) true h))
 fed_same (rdata.SMIMEA x) w h = absurd (true≢false (sym h))
+fed_same (rdata.SOA x) (rdata.SOA y) h = ap (λ (f : HashWrites). type_fed types.SOA ++ f) (soa_hash_laws.respects_eq-law x y (first_so (soa_eq x y) true h))
+fed_same (rdata.SOA x) w h = absurd (true≢false (sym h))
+fed_same (rdata.SRV x) (rdata.SRV y) h = ap (λ (f : HashWrites). type_fed types.SRV ++ f) (srv_hash_laws.respects_eq-law x y (first_so (srv_eq x y) true h))
+fed_same (rdata.SRV x) w h = absurd (true≢false (sym h))
 fed_same (rdata.SSHFP x) (rdata.SSHFP y) h = ap (λ (f : HashWrites). type_fed types.SSHFP ++ f) (sshfp_hash_laws.respects_eq-law x y (first_so (sshfp_eq x y) true h))
 fed_same (rdata.SSHFP x) w h = absurd (true≢false (sym h))
 fed_same (rdata.TLSA x) (rdata.TLSA y) h = ap (λ (f : HashWrites). type_fed types.TLSA ++ f) (tlsa_hash_laws.respects_eq-law x y (first_so (tlsa_eq x y) true h))

@@ -7,8 +7,14 @@ use Rattle.dns_types.specs.declared.record_type.RecordType.TheVariants as types
 use Rattle.dns_types.specs.RecordTypes.{number_of}
 use Rattle.dns_names_wire.specs.State.{Reading}
 use Rattle.dns_names_wire.specs.Words.{LacksOctets}
+use Rattle.dns_rdata_base.specs.Refusing.{IsLack}
+use Rattle.dns_rdata_base.specs.NameRecords.{name_shape}
+use Rattle.dns_rdata_base.specs.MX.{mx_shape}
+use Rattle.dns_rdata_base.specs.SOA.{soa_shape}
+use Rattle.dns_rdata_base.specs.SRV.{srv_shape}
 use Rattle.dns_rdata_certs.specs.CERT.{cert_refusal}
 use Rattle.dns_rdata_base.specs.HINFO.{hinfo_refusal}
+use Rattle.dns_rdata_base.specs.NAPTR.{naptr_refusal}
 use Rattle.dns_rdata_base.specs.OPENPGPKEY.{openpgpkey_refusal}
 use Rattle.dns_rdata_certs.specs.SMIMEA.{smimea_refusal}
 use Rattle.dns_rdata_certs.specs.SSHFP.{sshfp_refusal}
@@ -26,10 +32,18 @@ IsNeverRead t = ⊥
 abbrev pub OwnRefusal : RecordType → ℕ → Reading → Reading → DecodeError → Type 0
 OwnRefusal types.A n old new e = (e ≡ decode.InsufficientBytes) × LacksOctets old 4
 OwnRefusal types.AAAA n old new e = (e ≡ decode.InsufficientBytes) × LacksOctets old 16
+OwnRefusal types.ANAME n old new e = IsLack name_shape old e new
 OwnRefusal types.CERT n old new e = cert_refusal n old e new
+OwnRefusal types.CNAME n old new e = IsLack name_shape old e new
 OwnRefusal types.HINFO n old new e = hinfo_refusal old e new
+OwnRefusal types.MX n old new e = IsLack mx_shape old e new
+OwnRefusal types.NAPTR n old new e = naptr_refusal old e new
+OwnRefusal types.NS n old new e = IsLack name_shape old e new
 OwnRefusal types.OPENPGPKEY n old new e = openpgpkey_refusal n old e new
+OwnRefusal types.PTR n old new e = IsLack name_shape old e new
 OwnRefusal types.SMIMEA n old new e = smimea_refusal n old e new
+OwnRefusal types.SOA n old new e = IsLack soa_shape old e new
+OwnRefusal types.SRV n old new e = IsLack srv_shape old e new
 OwnRefusal types.SSHFP n old new e = sshfp_refusal n old e new
 OwnRefusal types.TLSA n old new e = tlsa_refusal n old e new
 OwnRefusal types.TXT n old new e = txt_refusal n old e new

@@ -8,7 +8,10 @@ ghost use Rattle.dns_rdata.specs.Refusals.{IsNeverRead, OwnRefusal, IsRefusal, b
 use dns_names_wire::{
     BinDecoder, BinEncodable, BinEncoder, DecodeError, ProtoError, RecordType, Restrict,
 };
-use dns_rdata_base::{A, AAAA, HINFO, NULL, OPENPGPKEY, RecordDataDecodable, TXT};
+use dns_rdata_base::{
+    A, AAAA, ANAME, CNAME, HINFO, MX, NAPTR, NS, NULL, OPENPGPKEY, PTR, RecordDataDecodable, SOA, SRV,
+    TXT,
+};
 use dns_rdata_certs::{CERT, SMIMEA, SSHFP, TLSA};
 use std::alloc::AllocError;
 use std::fmt;
@@ -22,16 +25,32 @@ pub enum RData {
     A(A),
     /// An IPv6 address.
     AAAA(AAAA),
+    /// The name whose addresses the owner has.
+    ANAME(ANAME),
     /// A certificate.
     CERT(CERT),
+    /// The canonical name of an alias.
+    CNAME(CNAME),
     /// A machine and its system.
     HINFO(HINFO),
+    /// A mail exchange.
+    MX(MX),
+    /// A rule that rewrites a name.
+    NAPTR(NAPTR),
     /// Octets without a form.
     NULL(NULL),
+    /// A name server.
+    NS(NS),
     /// A public key of OpenPGP.
     OPENPGPKEY(OPENPGPKEY),
+    /// A name that is pointed to.
+    PTR(PTR),
     /// A certificate of a mail user.
     SMIMEA(SMIMEA),
+    /// The start of a zone of authority.
+    SOA(SOA),
+    /// A host of a service.
+    SRV(SRV),
     /// The fingerprint of a host's key.
     SSHFP(SSHFP),
     /// A certificate of a service.
@@ -62,11 +81,19 @@ impl RData {
         match self {
             RData::A(_) => RecordType::A,
             RData::AAAA(_) => RecordType::AAAA,
+            RData::ANAME(_) => RecordType::ANAME,
             RData::CERT(_) => RecordType::CERT,
+            RData::CNAME(_) => RecordType::CNAME,
             RData::HINFO(_) => RecordType::HINFO,
+            RData::MX(_) => RecordType::MX,
+            RData::NAPTR(_) => RecordType::NAPTR,
             RData::NULL(_) => RecordType::NULL,
+            RData::NS(_) => RecordType::NS,
             RData::OPENPGPKEY(_) => RecordType::OPENPGPKEY,
+            RData::PTR(_) => RecordType::PTR,
             RData::SMIMEA(_) => RecordType::SMIMEA,
+            RData::SOA(_) => RecordType::SOA,
+            RData::SRV(_) => RecordType::SRV,
             RData::SSHFP(_) => RecordType::SSHFP,
             RData::TLSA(_) => RecordType::TLSA,
             RData::TXT(_) => RecordType::TXT,
@@ -102,11 +129,19 @@ impl RData {
         match record_type {
             RecordType::A => Ok(RData::A(A::read_data(decoder, length)?)),
             RecordType::AAAA => Ok(RData::AAAA(AAAA::read_data(decoder, length)?)),
+            RecordType::ANAME => Ok(RData::ANAME(ANAME::read_data(decoder, length)?)),
             RecordType::CERT => Ok(RData::CERT(CERT::read_data(decoder, length)?)),
+            RecordType::CNAME => Ok(RData::CNAME(CNAME::read_data(decoder, length)?)),
             RecordType::HINFO => Ok(RData::HINFO(HINFO::read_data(decoder, length)?)),
+            RecordType::MX => Ok(RData::MX(MX::read_data(decoder, length)?)),
+            RecordType::NAPTR => Ok(RData::NAPTR(NAPTR::read_data(decoder, length)?)),
             RecordType::NULL => Ok(RData::NULL(NULL::read_data(decoder, length)?)),
+            RecordType::NS => Ok(RData::NS(NS::read_data(decoder, length)?)),
             RecordType::OPENPGPKEY => Ok(RData::OPENPGPKEY(OPENPGPKEY::read_data(decoder, length)?)),
+            RecordType::PTR => Ok(RData::PTR(PTR::read_data(decoder, length)?)),
             RecordType::SMIMEA => Ok(RData::SMIMEA(SMIMEA::read_data(decoder, length)?)),
+            RecordType::SOA => Ok(RData::SOA(SOA::read_data(decoder, length)?)),
+            RecordType::SRV => Ok(RData::SRV(SRV::read_data(decoder, length)?)),
             RecordType::SSHFP => Ok(RData::SSHFP(SSHFP::read_data(decoder, length)?)),
             RecordType::TLSA => Ok(RData::TLSA(TLSA::read_data(decoder, length)?)),
             RecordType::TXT => Ok(RData::TXT(TXT::read_data(decoder, length)?)),
@@ -206,11 +241,19 @@ impl RData {
         match self {
             RData::A(a) => a.emit(encoder),
             RData::AAAA(a) => a.emit(encoder),
+            RData::ANAME(rdata) => rdata.emit(encoder),
             RData::CERT(rdata) => rdata.emit(encoder),
+            RData::CNAME(rdata) => rdata.emit(encoder),
             RData::HINFO(rdata) => rdata.emit(encoder),
+            RData::MX(rdata) => rdata.emit(encoder),
+            RData::NAPTR(rdata) => rdata.emit(encoder),
             RData::NULL(rdata) => rdata.emit(encoder),
+            RData::NS(rdata) => rdata.emit(encoder),
             RData::OPENPGPKEY(rdata) => rdata.emit(encoder),
+            RData::PTR(rdata) => rdata.emit(encoder),
             RData::SMIMEA(rdata) => rdata.emit(encoder),
+            RData::SOA(rdata) => rdata.emit(encoder),
+            RData::SRV(rdata) => rdata.emit(encoder),
             RData::SSHFP(rdata) => rdata.emit(encoder),
             RData::TLSA(rdata) => rdata.emit(encoder),
             RData::TXT(rdata) => rdata.emit(encoder),
@@ -230,11 +273,19 @@ impl RData {
         match (self, other) {
             (RData::A(a), RData::A(b)) => a == b,
             (RData::AAAA(a), RData::AAAA(b)) => a == b,
+            (RData::ANAME(a), RData::ANAME(b)) => a == b,
             (RData::CERT(a), RData::CERT(b)) => a == b,
+            (RData::CNAME(a), RData::CNAME(b)) => a == b,
             (RData::HINFO(a), RData::HINFO(b)) => a == b,
+            (RData::MX(a), RData::MX(b)) => a == b,
+            (RData::NAPTR(a), RData::NAPTR(b)) => a == b,
             (RData::NULL(a), RData::NULL(b)) => a == b,
+            (RData::NS(a), RData::NS(b)) => a == b,
             (RData::OPENPGPKEY(a), RData::OPENPGPKEY(b)) => a == b,
+            (RData::PTR(a), RData::PTR(b)) => a == b,
             (RData::SMIMEA(a), RData::SMIMEA(b)) => a == b,
+            (RData::SOA(a), RData::SOA(b)) => a == b,
+            (RData::SRV(a), RData::SRV(b)) => a == b,
             (RData::SSHFP(a), RData::SSHFP(b)) => a == b,
             (RData::TLSA(a), RData::TLSA(b)) => a == b,
             (RData::TXT(a), RData::TXT(b)) => a == b,
@@ -290,11 +341,19 @@ impl Hash for RData {
         match self {
             RData::A(a) => a.hash(state),
             RData::AAAA(a) => a.hash(state),
+            RData::ANAME(rdata) => rdata.hash(state),
             RData::CERT(rdata) => rdata.hash(state),
+            RData::CNAME(rdata) => rdata.hash(state),
             RData::HINFO(rdata) => rdata.hash(state),
+            RData::MX(rdata) => rdata.hash(state),
+            RData::NAPTR(rdata) => rdata.hash(state),
             RData::NULL(rdata) => rdata.hash(state),
+            RData::NS(rdata) => rdata.hash(state),
             RData::OPENPGPKEY(rdata) => rdata.hash(state),
+            RData::PTR(rdata) => rdata.hash(state),
             RData::SMIMEA(rdata) => rdata.hash(state),
+            RData::SOA(rdata) => rdata.hash(state),
+            RData::SRV(rdata) => rdata.hash(state),
             RData::SSHFP(rdata) => rdata.hash(state),
             RData::TLSA(rdata) => rdata.hash(state),
             RData::TXT(rdata) => rdata.hash(state),
@@ -314,11 +373,19 @@ impl Clone for RData {
         Ok(match self {
             RData::A(a) => RData::A(*a),
             RData::AAAA(a) => RData::AAAA(*a),
+            RData::ANAME(rdata) => RData::ANAME(rdata.clone()?),
             RData::CERT(rdata) => RData::CERT(rdata.clone()?),
+            RData::CNAME(rdata) => RData::CNAME(rdata.clone()?),
             RData::HINFO(rdata) => RData::HINFO(rdata.clone()?),
+            RData::MX(rdata) => RData::MX(rdata.clone()?),
+            RData::NAPTR(rdata) => RData::NAPTR(rdata.clone()?),
             RData::NULL(rdata) => RData::NULL(rdata.clone()?),
+            RData::NS(rdata) => RData::NS(rdata.clone()?),
             RData::OPENPGPKEY(rdata) => RData::OPENPGPKEY(rdata.clone()?),
+            RData::PTR(rdata) => RData::PTR(rdata.clone()?),
             RData::SMIMEA(rdata) => RData::SMIMEA(rdata.clone()?),
+            RData::SOA(rdata) => RData::SOA(rdata.clone()?),
+            RData::SRV(rdata) => RData::SRV(rdata.clone()?),
             RData::SSHFP(rdata) => RData::SSHFP(rdata.clone()?),
             RData::TLSA(rdata) => RData::TLSA(rdata.clone()?),
             RData::TXT(rdata) => RData::TXT(rdata.clone()?),
@@ -342,11 +409,19 @@ impl fmt::Display for RData {
         match self {
             RData::A(a) => write!(f, "{a}"),
             RData::AAAA(a) => write!(f, "{a}"),
+            RData::ANAME(rdata) => write!(f, "{rdata}"),
             RData::CERT(rdata) => write!(f, "{rdata}"),
+            RData::CNAME(rdata) => write!(f, "{rdata}"),
             RData::HINFO(rdata) => write!(f, "{rdata}"),
+            RData::MX(rdata) => write!(f, "{rdata}"),
+            RData::NAPTR(rdata) => write!(f, "{rdata}"),
             RData::NULL(rdata) => write!(f, "{rdata}"),
+            RData::NS(rdata) => write!(f, "{rdata}"),
             RData::OPENPGPKEY(rdata) => write!(f, "{rdata}"),
+            RData::PTR(rdata) => write!(f, "{rdata}"),
             RData::SMIMEA(rdata) => write!(f, "{rdata}"),
+            RData::SOA(rdata) => write!(f, "{rdata}"),
+            RData::SRV(rdata) => write!(f, "{rdata}"),
             RData::SSHFP(rdata) => write!(f, "{rdata}"),
             RData::TLSA(rdata) => write!(f, "{rdata}"),
             RData::TXT(rdata) => write!(f, "{rdata}"),

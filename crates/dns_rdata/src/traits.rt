@@ -2,7 +2,10 @@
 
 use crate::record_data::RData;
 use dns_names_wire::RecordType;
-use dns_rdata_base::{A, AAAA, HINFO, NULL, OPENPGPKEY, TXT};
+use dns_rdata_base::{
+    A, AAAA, ANAME, CNAME, HINFO, MX, NAPTR, NS, NULL, OPENPGPKEY, PTR, SOA, SRV,
+    TXT,
+};
 use dns_rdata_certs::{CERT, SMIMEA, SSHFP, TLSA};
 
 /// The data of records of one kind, as a part of [`RData`].
@@ -115,6 +118,42 @@ impl RecordData for AAAA {
     }
 }
 
+impl RecordData for ANAME {
+    ghost use Rattle.dns_rdata.specs.Equal.{as_aname};
+    ghost use Rattle.dns_rdata.specs.declared.record_data.RData.TheVariants as rdata;
+    ghost use Rattle.dns_types.specs.declared.record_type.RecordType.TheVariants as types;
+    ghost use Rattle.std.proofs.Common.{rules};
+
+    ghost wrapped = { λ x. rdata.ANAME x };
+
+    ghost borrowed = { as_aname };
+
+    ghost kind = { λ _. types.ANAME };
+
+    ghost updates = { λ _. ⊥ };
+
+    ghost exactly = { Prim.search rules };
+
+    fn try_borrow(rdata: &RData) -> Option<&ANAME> {
+        match rdata {
+            RData::ANAME(rdata) => Some(rdata),
+            _ => None,
+        }
+    }
+
+    fn record_type(&self) -> RecordType {
+        RecordType::ANAME
+    }
+
+    fn into_rdata(self) -> RData {
+        RData::ANAME(self)
+    }
+
+    fn is_update(&self) -> bool {
+        false
+    }
+}
+
 impl RecordData for CERT {
     ghost use Rattle.dns_rdata.specs.Equal.{as_cert};
     ghost use Rattle.dns_rdata.specs.declared.record_data.RData.TheVariants as rdata;
@@ -144,6 +183,42 @@ impl RecordData for CERT {
 
     fn into_rdata(self) -> RData {
         RData::CERT(self)
+    }
+
+    fn is_update(&self) -> bool {
+        false
+    }
+}
+
+impl RecordData for CNAME {
+    ghost use Rattle.dns_rdata.specs.Equal.{as_cname};
+    ghost use Rattle.dns_rdata.specs.declared.record_data.RData.TheVariants as rdata;
+    ghost use Rattle.dns_types.specs.declared.record_type.RecordType.TheVariants as types;
+    ghost use Rattle.std.proofs.Common.{rules};
+
+    ghost wrapped = { λ x. rdata.CNAME x };
+
+    ghost borrowed = { as_cname };
+
+    ghost kind = { λ _. types.CNAME };
+
+    ghost updates = { λ _. ⊥ };
+
+    ghost exactly = { Prim.search rules };
+
+    fn try_borrow(rdata: &RData) -> Option<&CNAME> {
+        match rdata {
+            RData::CNAME(rdata) => Some(rdata),
+            _ => None,
+        }
+    }
+
+    fn record_type(&self) -> RecordType {
+        RecordType::CNAME
+    }
+
+    fn into_rdata(self) -> RData {
+        RData::CNAME(self)
     }
 
     fn is_update(&self) -> bool {
@@ -187,6 +262,78 @@ impl RecordData for HINFO {
     }
 }
 
+impl RecordData for MX {
+    ghost use Rattle.dns_rdata.specs.Equal.{as_mx};
+    ghost use Rattle.dns_rdata.specs.declared.record_data.RData.TheVariants as rdata;
+    ghost use Rattle.dns_types.specs.declared.record_type.RecordType.TheVariants as types;
+    ghost use Rattle.std.proofs.Common.{rules};
+
+    ghost wrapped = { λ x. rdata.MX x };
+
+    ghost borrowed = { as_mx };
+
+    ghost kind = { λ _. types.MX };
+
+    ghost updates = { λ _. ⊥ };
+
+    ghost exactly = { Prim.search rules };
+
+    fn try_borrow(rdata: &RData) -> Option<&MX> {
+        match rdata {
+            RData::MX(rdata) => Some(rdata),
+            _ => None,
+        }
+    }
+
+    fn record_type(&self) -> RecordType {
+        RecordType::MX
+    }
+
+    fn into_rdata(self) -> RData {
+        RData::MX(self)
+    }
+
+    fn is_update(&self) -> bool {
+        false
+    }
+}
+
+impl RecordData for NAPTR {
+    ghost use Rattle.dns_rdata.specs.Equal.{as_naptr};
+    ghost use Rattle.dns_rdata.specs.declared.record_data.RData.TheVariants as rdata;
+    ghost use Rattle.dns_types.specs.declared.record_type.RecordType.TheVariants as types;
+    ghost use Rattle.std.proofs.Common.{rules};
+
+    ghost wrapped = { λ x. rdata.NAPTR x };
+
+    ghost borrowed = { as_naptr };
+
+    ghost kind = { λ _. types.NAPTR };
+
+    ghost updates = { λ _. ⊥ };
+
+    ghost exactly = { Prim.search rules };
+
+    fn try_borrow(rdata: &RData) -> Option<&NAPTR> {
+        match rdata {
+            RData::NAPTR(rdata) => Some(rdata),
+            _ => None,
+        }
+    }
+
+    fn record_type(&self) -> RecordType {
+        RecordType::NAPTR
+    }
+
+    fn into_rdata(self) -> RData {
+        RData::NAPTR(self)
+    }
+
+    fn is_update(&self) -> bool {
+        false
+    }
+}
+
 impl RecordData for NULL {
     ghost use Rattle.dns_rdata.specs.Equal.{as_null};
     ghost use Rattle.dns_rdata.specs.declared.record_data.RData.TheVariants as rdata;
@@ -216,6 +363,42 @@ impl RecordData for NULL {
 
     fn into_rdata(self) -> RData {
         RData::NULL(self)
+    }
+
+    fn is_update(&self) -> bool {
+        false
+    }
+}
+
+impl RecordData for NS {
+    ghost use Rattle.dns_rdata.specs.Equal.{as_ns};
+    ghost use Rattle.dns_rdata.specs.declared.record_data.RData.TheVariants as rdata;
+    ghost use Rattle.dns_types.specs.declared.record_type.RecordType.TheVariants as types;
+    ghost use Rattle.std.proofs.Common.{rules};
+
+    ghost wrapped = { λ x. rdata.NS x };
+
+    ghost borrowed = { as_ns };
+
+    ghost kind = { λ _. types.NS };
+
+    ghost updates = { λ _. ⊥ };
+
+    ghost exactly = { Prim.search rules };
+
+    fn try_borrow(rdata: &RData) -> Option<&NS> {
+        match rdata {
+            RData::NS(rdata) => Some(rdata),
+            _ => None,
+        }
+    }
+
+    fn record_type(&self) -> RecordType {
+        RecordType::NS
+    }
+
+    fn into_rdata(self) -> RData {
+        RData::NS(self)
     }
 
     fn is_update(&self) -> bool {
@@ -259,6 +442,42 @@ impl RecordData for OPENPGPKEY {
     }
 }
 
+impl RecordData for PTR {
+    ghost use Rattle.dns_rdata.specs.Equal.{as_ptr};
+    ghost use Rattle.dns_rdata.specs.declared.record_data.RData.TheVariants as rdata;
+    ghost use Rattle.dns_types.specs.declared.record_type.RecordType.TheVariants as types;
+    ghost use Rattle.std.proofs.Common.{rules};
+
+    ghost wrapped = { λ x. rdata.PTR x };
+
+    ghost borrowed = { as_ptr };
+
+    ghost kind = { λ _. types.PTR };
+
+    ghost updates = { λ _. ⊥ };
+
+    ghost exactly = { Prim.search rules };
+
+    fn try_borrow(rdata: &RData) -> Option<&PTR> {
+        match rdata {
+            RData::PTR(rdata) => Some(rdata),
+            _ => None,
+        }
+    }
+
+    fn record_type(&self) -> RecordType {
+        RecordType::PTR
+    }
+
+    fn into_rdata(self) -> RData {
+        RData::PTR(self)
+    }
+
+    fn is_update(&self) -> bool {
+        false
+    }
+}
+
 impl RecordData for SMIMEA {
     ghost use Rattle.dns_rdata.specs.Equal.{as_smimea};
     ghost use Rattle.dns_rdata.specs.declared.record_data.RData.TheVariants as rdata;
@@ -288,6 +507,78 @@ impl RecordData for SMIMEA {
 
     fn into_rdata(self) -> RData {
         RData::SMIMEA(self)
+    }
+
+    fn is_update(&self) -> bool {
+        false
+    }
+}
+
+impl RecordData for SOA {
+    ghost use Rattle.dns_rdata.specs.Equal.{as_soa};
+    ghost use Rattle.dns_rdata.specs.declared.record_data.RData.TheVariants as rdata;
+    ghost use Rattle.dns_types.specs.declared.record_type.RecordType.TheVariants as types;
+    ghost use Rattle.std.proofs.Common.{rules};
+
+    ghost wrapped = { λ x. rdata.SOA x };
+
+    ghost borrowed = { as_soa };
+
+    ghost kind = { λ _. types.SOA };
+
+    ghost updates = { λ _. ⊥ };
+
+    ghost exactly = { Prim.search rules };
+
+    fn try_borrow(rdata: &RData) -> Option<&SOA> {
+        match rdata {
+            RData::SOA(rdata) => Some(rdata),
+            _ => None,
+        }
+    }
+
+    fn record_type(&self) -> RecordType {
+        RecordType::SOA
+    }
+
+    fn into_rdata(self) -> RData {
+        RData::SOA(self)
+    }
+
+    fn is_update(&self) -> bool {
+        false
+    }
+}
+
+impl RecordData for SRV {
+    ghost use Rattle.dns_rdata.specs.Equal.{as_srv};
+    ghost use Rattle.dns_rdata.specs.declared.record_data.RData.TheVariants as rdata;
+    ghost use Rattle.dns_types.specs.declared.record_type.RecordType.TheVariants as types;
+    ghost use Rattle.std.proofs.Common.{rules};
+
+    ghost wrapped = { λ x. rdata.SRV x };
+
+    ghost borrowed = { as_srv };
+
+    ghost kind = { λ _. types.SRV };
+
+    ghost updates = { λ _. ⊥ };
+
+    ghost exactly = { Prim.search rules };
+
+    fn try_borrow(rdata: &RData) -> Option<&SRV> {
+        match rdata {
+            RData::SRV(rdata) => Some(rdata),
+            _ => None,
+        }
+    }
+
+    fn record_type(&self) -> RecordType {
+        RecordType::SRV
+    }
+
+    fn into_rdata(self) -> RData {
+        RData::SRV(self)
     }
 
     fn is_update(&self) -> bool {

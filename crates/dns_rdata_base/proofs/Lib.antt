@@ -4,3 +4,4 @@ pub mod TextLists
 pub mod TextWrites
 pub mod Lacking
 pub mod FieldsBehind
+pub mod SoaValues

@@ -1,5 +1,5 @@
 -- SOA: the start of a zone of authority (RFC 1035, 3.3.13).
-use Rattle.std.specs.Prelude.{ℕ, ℤ, List, [], ◌∷◌, ◌++◌, codes, decimal}
+use Rattle.std.specs.Prelude.{ℕ, ℤ, FitsSigned, List, [], ◌∷◌, ◌++◌, codes, decimal}
 use Rattle.dns_fields.specs.Fields.{Kind, Number, Name, Values}
 use Rattle.dns_labels.specs.Text.{name_text}
 use Rattle.std.specs.Fmt.{signed_decimal}
@@ -23,6 +23,12 @@ soa_shape = Name ∷ Name ∷ soa_numbers_shape
 
 abbrev pub soa_fields : SOA → Values soa_shape
 soa_fields x = (x.mname, (x.rname, soa_numbers_of x))
+
+-- refresh, retry and expire are numbers of 32 bits
+pub record HasSeconds (x : SOA) : Type 0 where
+  pub refresh : FitsSigned w32 x.refresh
+  pub retry : FitsSigned w32 x.retry
+  pub expire : FitsSigned w32 x.expire
 
 -- the fields, a blank between
 abbrev pub soa_text : SOA → List ℕ

@@ -5,7 +5,7 @@ ghost use Rattle.dns_fields.specs.Fields.{Stands};
 ghost use Rattle.dns_fields.specs.declared.RDataEncoding.TheVariants as modes;
 ghost use Rattle.dns_names_wire.specs.Words.{ReadsIf, ReadsBy, ReadsWindow, Emits, EmitsAs, Keeps, always};
 ghost use Rattle.dns_rdata_base.specs.Refusing.{IsLack};
-ghost use Rattle.dns_rdata_base.specs.SOA.{soa_shape, soa_fields, soa_numbers_shape, soa_numbers, soa_numbers_of};
+ghost use Rattle.dns_rdata_base.specs.SOA.{soa_shape, soa_fields, soa_numbers_shape, soa_numbers, soa_numbers_of, HasSeconds};
 
 use crate::emitting::{EncodesFields, emit_in};
 use crate::traits::RecordDataDecodable;
@@ -104,6 +104,7 @@ impl BinDecodable for SOA {
     fn read(decoder: &mut BinDecoder<'_>) -> Result<SOA, DecodeError>
         ensures reads { ReadsBy (λ m p x q. Stands m p soa_shape (soa_fields x) q) result decoder.old decoder.new }
         ensures fields { ReadsIf soa_shape (always soa_shape) soa_fields result decoder.old decoder.new }
+        ensures seconds { IfOk result HasSeconds }
         ensures refused { IfErr result (λ e. IsLack soa_shape decoder.old e decoder.new) }
     {
         let mname = Name::read(decoder)?;
@@ -132,6 +133,7 @@ impl RecordDataDecodable for SOA {
     #[inline]
     fn read_data(decoder: &mut BinDecoder<'_>, length: Restrict<u16>) -> Result<SOA, DecodeError>
         ensures window { ReadsWindow soa_shape (λ _. Unit {0}) soa_fields length result decoder.old decoder.new }
+        ensures seconds { IfOk result HasSeconds }
         ensures refused { IfErr result (λ e. IsLack soa_shape decoder.old e decoder.new) }
     {
         let _start = decoder.index();
