@@ -53,8 +53,9 @@ impl Ord for Name {
 
     /// By the first difference of the canonical octets, and then a relative name first.
     fn cmp(&self, other: &Name) -> Ordering {
-        compare_lowered(self.octets.as_slice(), other.octets.as_slice())
-            .then(self.is_fqdn.cmp(&other.is_fqdn))
+        compare_lowered(self.octets.as_slice(), other.octets.as_slice()).then(
+            self.is_fqdn.cmp(&other.is_fqdn),
+        )
     }
 }
 
