@@ -8,6 +8,12 @@ use Rattle.std.specs.Option.{option_map}
 use Rattle.std.specs.Char.{to_ascii_lowercase}
 use Rattle.std.specs.Cmp.Lexicographic.{slice_cmp}
 use Rattle.std.specs.Ordering.{nat_cmp}
+use Rattle.std.specs.Bool.{Decides, beq}
+use Rattle.std.specs.Cmp.{booleans_Decides}
+use Rattle.std.specs.Str.{bytes_eq}
+use Rattle.std.proofs.lemmas.Bool.Decides.{Decides-and}
+use Rattle.std.proofs.lemmas.Slice.Eq.{bytes_eq-Decides}
+use Rattle.dns_fields.specs.Comparing.{name_eq}
 use Rattle.dns_fields.specs.Octets.{AreOctets}
 use Rattle.dns_fields.specs.Labels.{DomainName, IsName, wire, lowname}
 use Rattle.dns_fields.proofs.OctetLaws.{wire_octets, AreOctets-same}
@@ -52,3 +58,10 @@ octet_last octets mark i n h =
 
 pub octet_past : (octets : List ℕ) (mark : Bool) (i : ℕ) → AreNameOctets octets → length octets < i → slice_get (lowname (name_of octets mark)) i ≡ None
 octet_past octets mark i n h = slice_get_past (lowname (name_of octets mark)) i (omega (arith, name_length octets mark n))
+
+-- names are equal where their canonical octets and their marks are the same
+name_eq-Decides : (x y : DomainName) → Decides (name_eq x y) ((lowname x ≡ lowname y) × (x.fully_qualified ≡ y.fully_qualified))
+name_eq-Decides x y = Decides-and (bytes_eq (lowname x) (lowname y)) (beq x.fully_qualified y.fully_qualified) (bytes_eq-Decides (lowname x) (lowname y)) (booleans_Decides x.fully_qualified y.fully_qualified)
+
+pub name_eq_exact : (r : Bool) (x y : DomainName) → r ≡ name_eq x y → IsTrue r ↔ ((lowname x ≡ lowname y) × (x.fully_qualified ≡ y.fully_qualified))
+name_eq_exact r x y e = rw e (name_eq-Decides x y)
