@@ -1,10 +1,10 @@
 -- Writing fields one after the other.
-use Rattle.std.proofs.Common.{◌≡◌, ℕ, ◌+◌, ◌≤◌, ◌<◌, List, [], ◌∷◌, ◌++◌, length, refl, sym, ap, ◌∙◌, arith, append_assoc, subst, Result, Ok, Err}
+use Rattle.std.proofs.Common.{◌≡◌, ℕ, List, [], ◌∷◌, ◌++◌, length, refl, sym, ap, ◌∙◌, arith, append_assoc, subst, Result, Ok, Err}
 use Rattle.std.proofs.lemmas.List.{length-append, append-nil}
 use Rattle.std.specs.Result.{IsErrAnd}
 use Rattle.dns_names_wire.specs.State.{Writing}
 use Rattle.dns_fields.specs.declared.RDataEncoding.{RDataEncoding}
-use Rattle.dns_fields.specs.Fields.{Kind, Octets, Rest, Value, Values, Wrote, WroteField, canonical, field_octets, Fits, AllFit}
+use Rattle.dns_fields.specs.Fields.{Kind, Octets, Rest, Value, Values, Wrote, canonical, field_octets}
 use Rattle.dns_names_wire.specs.Words.{AppendedField, Appended, Keeps, Extends, NoRoomField, NoRoom, UnfitField, Unfit, Because, StoppedField, Stopped, Emits, EmitsAs, EmitsField}
 use Rattle.dns_types.specs.declared.error.ProtoError.{ProtoError}
 use Rattle.dns_types.specs.declared.error.ProtoError.TheVariants as proto

@@ -8,7 +8,9 @@
 ghost use Rattle.std.specs.Prelude.{◌≡◌, []};
 
 use anyhow::{Context, Result, bail};
-use dns_names_wire::{BinDecodable, BinDecoder, BinEncodable, BinEncoder, Name, ProtoError, RDataEncoding};
+use dns_names_wire::{
+    BinDecodable, BinDecoder, BinEncodable, BinEncoder, Name, ProtoError, RDataEncoding,
+};
 use std::alloc::Global;
 use std::env;
 use std::rt::{Clock, Env};
