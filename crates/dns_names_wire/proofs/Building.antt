@@ -1,21 +1,21 @@
 -- Names put together.
-use Rattle.std.proofs.Common.{◌≡◌, ℕ, ◌+◌, ◌<◌, ◌≤◌, Bool, true, false, Option, Some, None, List, [], ◌∷◌, ◌++◌, length, map, take, drop, get_or, refl, sym, ap, ◌∙◌, arith, subst, append_assoc}
-use Rattle.std.proofs.lemmas.List.{length-append, length-map, map-append, append_cancel_right, take_at, take_rest, drop_more, take-append-drop}
+use Rattle.std.proofs.Common.{◌≡◌, ℕ, ◌+◌, ◌<◌, ◌≤◌, Option, List, [], ◌∷◌, ◌++◌, length, map, take, drop, get_or, sym, ap, ◌∙◌, arith, subst, append_assoc}
+use Rattle.std.proofs.lemmas.List.{length-append, length-map, map-append, append_cancel_right, take_at, drop_more, take-append-drop}
 use Rattle.std.specs.Char.{to_ascii_lowercase}
 use Rattle.std.proofs.Common.{Result, Ok, Err}
 use Rattle.std.specs.Result.{IfErr}
 use Rattle.dns_types.specs.declared.error.ProtoError.{ProtoError}
 use Rattle.dns_types.specs.declared.error.ProtoError.TheVariants as proto
-use Rattle.dns_fields.specs.Labels.{DomainName, AreLabels, FitsName, IsName, wire}
+use Rattle.dns_fields.specs.Labels.{DomainName, AreLabels, IsName, wire}
 use Rattle.dns_fields.proofs.NameLaws.{are_low, low_wire}
 use Rattle.dns_fields.proofs.Runs.{wire-append}
-use Rattle.dns_labels.specs.Labels.{AreNameOctets, labels_of, name_of}
+use Rattle.dns_labels.specs.Labels.{AreNameOctets, labels_of}
 use Rattle.dns_labels.specs.Text.{IsNameText}
 use Rattle.dns_labels.proofs.Built.{AreJoined}
 use Rattle.dns_labels.proofs.Lowered.{lowered-of}
 use Rattle.dns_labels.proofs.NameTexts.{one_name}
 use Rattle.dns_labels.proofs.Octets.{labels_from, are_name_octets, first_label}
-use Rattle.dns_names_wire.specs.NameValues.{qualified, low_labels, in_lowercase, completed, IsParsed, IsRefusal}
+use Rattle.dns_names_wire.specs.NameValues.{qualified, low_labels, completed, IsParsed, IsRefusal}
 
 pub wire_low : (octets : List ℕ) → AreNameOctets octets → map to_ascii_lowercase octets ≡ wire (low_labels (labels_of octets))
 wire_low octets n = append_cancel_right (map to_ascii_lowercase octets) (wire (low_labels (labels_of octets))) (0 ∷ []) (sym (lowered-of octets n) ∙ sym (low_wire (labels_of octets)))

@@ -1,17 +1,12 @@
 -- Reading fields one after the other.
-use Rattle.std.proofs.Common.{◌≡◌, ℕ, zero, suc, ◌+◌, ◌≤◌, ◌<◌, ◌^◌, List, [], ◌∷◌, ◌++◌, length, take, drop, get_or, refl, sym, ap, ◌∙◌, arith, subst, append_assoc}
-use Rattle.std.specs.Int.{w16, w32, from_be_bytes, bytes_high_first}
-use Rattle.std.proofs.lemmas.List.{length-append, append-nil, length-take, length-drop, drop-drop}
-use Rattle.std.proofs.lemmas.Nat.{be_bytes_2, be_bytes_4}
+use Rattle.std.proofs.Common.{◌≡◌, ℕ, ◌+◌, ◌≤◌, ◌<◌, List, [], ◌∷◌, length, refl, sym, ◌∙◌, arith, subst}
 use Rattle.dns_names_wire.specs.State.{Reading}
-use Rattle.dns_fields.specs.Octets.{At}
-use Rattle.dns_fields.specs.Fields.{Kind, Number, Name, Text, Texts, Rest, Value, Values, Field, Stands, EndsItself}
+use Rattle.dns_fields.specs.Fields.{Kind, Number, Value, Values, Field, Stands, EndsItself}
 use Rattle.std.proofs.Common.{Result, Ok, Err}
 use Rattle.std.specs.Result.{IsErrAnd}
 use Rattle.dns_types.specs.declared.error.DecodeError.{DecodeError}
 use Rattle.dns_types.specs.declared.error.DecodeError.TheVariants as decode
 use Rattle.dns_names_wire.specs.Words.{TookField, LacksField, Took, Lacks, StaysBehind, UnlessMemory, RefusedField, Refused, ReadsIf, ReadsField}
-use Rattle.dns_fields.proofs.Places.{At-same_head, At-same_end}
 use Rattle.dns_fields.proofs.Numbers.{length-bytes}
 use Rattle.dns_fields.proofs.FieldLaws.{field_inside, field_same, field_end}
 

@@ -1,9 +1,10 @@
 -- Writing fields one after the other.
-use Rattle.std.proofs.Common.{◌≡◌, ℕ, ◌+◌, ◌≤◌, ◌<◌, List, [], ◌∷◌, ◌++◌, length, refl, sym, ap, ◌∙◌, arith, append_assoc, subst, Result, Ok, Err}
+use Rattle.std.proofs.Common.{◌≡◌, ℕ, List, [], ◌∷◌, ◌++◌, length, refl, sym, ap, ◌∙◌, arith, append_assoc, subst, Result, Ok, Err}
 use Rattle.std.proofs.lemmas.List.{length-append, append-nil}
+use Rattle.std.specs.Result.{IsErrAnd}
 use Rattle.dns_names_wire.specs.State.{Writing}
 use Rattle.dns_fields.specs.declared.RDataEncoding.{RDataEncoding}
-use Rattle.dns_fields.specs.Fields.{Kind, Octets, Rest, Value, Values, Wrote, WroteField, canonical, field_octets, Fits, AllFit}
+use Rattle.dns_fields.specs.Fields.{Kind, Octets, Rest, Value, Values, Wrote, canonical, field_octets}
 use Rattle.dns_names_wire.specs.Words.{AppendedField, Appended, Keeps, Extends, NoRoomField, NoRoom, UnfitField, Unfit, Because, StoppedField, Stopped, Emits, EmitsAs, EmitsField}
 use Rattle.dns_types.specs.declared.error.ProtoError.{ProtoError}
 use Rattle.dns_types.specs.declared.error.ProtoError.TheVariants as proto
@@ -54,6 +55,11 @@ stopped_first {e} s = record { extends = s.extends; why = because_map e _ _ _ _ 
 
 pub stopped_then : {e : ProtoError} {w b n : Writing} {k : Kind} {v : Value k} {kinds : List Kind} {vs : Values kinds} → AppendedField w k v b → Stopped e b kinds vs n → Stopped e w (k ∷ kinds) (v, vs) n
 stopped_then {e} f s = record { extends = extends_then f s.extends; why = because_map e _ _ _ _ (no_room_then f) unfit_then s.why }
+
+-- a refusal on the way, handed on by `?`
+pub exit_emit : {kinds : List Kind} {vs : Values kinds} {old new : Writing} (r : Result (Unit {0}) ProtoError) (e : ProtoError) → IsErrAnd r (λ y. y ≡ e) → Stopped e old kinds vs new → Emits kinds vs r old new
+exit_emit (Ok x) e h f = elim h [ ]
+exit_emit {kinds = kinds} {vs = vs} {old = old} {new = new} (Err y) e h f = subst (λ (z : ProtoError). Stopped z old kinds vs new) (sym h) f
 
 -- ---- a record of one field
 

@@ -1,19 +1,21 @@
 -- What a name is by its octets.
-use Rattle.std.proofs.Common.{◌≡◌, ◌↔◌, IsTrue, ℕ, zero, suc, ◌+◌, ◌<◌, ◌≤◌, Bool, true, Option, Some, None, List, [], ◌∷◌, ◌++◌, All, length, map, get_or, slice_get, refl, sym, ap, ◌∙◌, arith, subst}
+use Rattle.std.proofs.Common.{◌≡◌, ◌↔◌, IsTrue, ℕ, zero, suc, ◌+◌, ◌<◌, Bool, Option, Some, None, List, [], ◌∷◌, ◌++◌, All, length, map, get_or, slice_get, refl, sym, ap, ◌∙◌, arith}
 use Rattle.std.proofs.lemmas.List.{length-map, length-append}
 use Rattle.std.proofs.lemmas.List.Elements.{All-nil, All-cons}
 use Rattle.std.proofs.lemmas.Option.{slice_get_past, slice_get_read, slice_get-map}
 use Rattle.std.specs.List.{AllByRecursion}
 use Rattle.std.specs.Option.{option_map}
 use Rattle.std.specs.Char.{to_ascii_lowercase}
-use Rattle.std.specs.Cmp.Lexicographic.{slice_cmp}
-use Rattle.std.specs.Ordering.{nat_cmp}
+use Rattle.std.specs.Bool.{Decides, beq}
+use Rattle.std.specs.Cmp.{booleans_Decides}
+use Rattle.std.specs.Str.{bytes_eq}
+use Rattle.std.proofs.lemmas.Bool.Decides.{Decides-and}
+use Rattle.std.proofs.lemmas.Slice.Eq.{bytes_eq-Decides}
+use Rattle.dns_fields.specs.Comparing.{name_eq}
 use Rattle.dns_fields.specs.Octets.{AreOctets}
-use Rattle.dns_fields.specs.Labels.{DomainName, IsName, wire, lowname}
+use Rattle.dns_fields.specs.Labels.{DomainName, wire, lowname}
 use Rattle.dns_fields.proofs.OctetLaws.{wire_octets, AreOctets-same}
 use Rattle.dns_labels.specs.Labels.{AreNameOctets, labels_of, name_of}
-use Rattle.dns_labels.specs.Text.{HasOctets}
-use Rattle.dns_labels.specs.Comparing.{lowered_octets}
 use Rattle.dns_labels.proofs.Lowered.{lowered-of}
 
 each_octets : (labels : List (List ℕ)) → AllByRecursion AreOctets labels → All AreOctets labels
@@ -52,3 +54,10 @@ octet_last octets mark i n h =
 
 pub octet_past : (octets : List ℕ) (mark : Bool) (i : ℕ) → AreNameOctets octets → length octets < i → slice_get (lowname (name_of octets mark)) i ≡ None
 octet_past octets mark i n h = slice_get_past (lowname (name_of octets mark)) i (omega (arith, name_length octets mark n))
+
+-- names are equal where their canonical octets and their marks are the same
+name_eq-Decides : (x y : DomainName) → Decides (name_eq x y) ((lowname x ≡ lowname y) × (x.fully_qualified ≡ y.fully_qualified))
+name_eq-Decides x y = Decides-and (bytes_eq (lowname x) (lowname y)) (beq x.fully_qualified y.fully_qualified) (bytes_eq-Decides (lowname x) (lowname y)) (booleans_Decides x.fully_qualified y.fully_qualified)
+
+pub name_eq_exact : (r : Bool) (x y : DomainName) → r ≡ name_eq x y → IsTrue r ↔ ((lowname x ≡ lowname y) × (x.fully_qualified ≡ y.fully_qualified))
+name_eq_exact r x y e = rw e (name_eq-Decides x y)

@@ -1,5 +1,5 @@
 -- Names that are read by a decoder and written by an encoder.
-use Rattle.std.proofs.Common.{◌≡◌, ℕ, Bool, ◌+◌, ◌<◌, length, List, [], ◌++◌, Result, Ok, Err, ◌∙◌, ap, sym, arith, subst, refl}
+use Rattle.std.proofs.Common.{◌≡◌, ℕ, Bool, ◌+◌, ◌<◌, length, List, [], Result, Ok, Err, ◌∙◌, ap, sym, arith, subst, refl}
 use Rattle.std.specs.Result.{OnOk, OnErr, IfErr}
 use Rattle.std.proofs.lemmas.List.{append-nil}
 use Rattle.dns_labels.specs.Labels.{AreNameOctets, name_of}

@@ -1,14 +1,13 @@
 -- A character string by its octets.
-use Rattle.std.proofs.Common.{◌≡◌, ℕ, zero, suc, ◌+◌, ◌≤◌, ◌<◌, ◌^◌, ◌%◌, List, [], ◌∷◌, ◌++◌, length, take, drop, refl, sym, ap, ◌∙◌, arith, subst, append_assoc, true}
-use Rattle.std.proofs.lemmas.List.{length-append, length-take, length-drop, drop-drop, take-append-le, take-take, take_at, drop_at, drop-take, take-append-drop}
+use Rattle.std.proofs.Common.{◌≡◌, ℕ, ◌+◌, ◌≤◌, ◌<◌, ◌%◌, List, [], ◌∷◌, ◌++◌, length, take, drop, refl, sym, ap, ◌∙◌, arith, subst}
+use Rattle.std.proofs.lemmas.List.{length-append, drop-drop, take-take, take_at, drop_at, drop-take, take-append-drop}
 use Rattle.std.proofs.Math.Nat.{mod-eq_of_lt}
-use Rattle.dns_names_wire.specs.State.{Reading, Writing}
-use Rattle.dns_fields.specs.Fields.{Kind, Number, Octets, Text, Rest, Value, Values, Stands, Field}
-use Rattle.dns_fields.specs.Pieces.{string}
-use Rattle.dns_names_wire.specs.Words.{RefusedField, Refused, TookField, LacksField, StaysBehind, UnlessMemory}
+use Rattle.dns_names_wire.specs.State.{Reading}
+use Rattle.dns_fields.specs.Fields.{Kind, Number, Octets, Text, Rest, Values, Field}
+use Rattle.dns_names_wire.specs.Words.{RefusedField, Refused, TookField, LacksField}
 use Rattle.dns_fields.specs.Octets.{At}
 use Rattle.dns_types.specs.declared.error.DecodeError.{DecodeError}
-use Rattle.dns_fields.proofs.Places.{At-same_head, At-same_end}
+use Rattle.dns_fields.proofs.Places.{At-same_head}
 use Rattle.dns_names_wire.proofs.FieldReads.{unless_map, unless_all, took_stays, stays, stands_inside}
 
 -- the front and the rest of octets that stand

@@ -1,12 +1,12 @@
 -- From fields that were read to the data of a known length.
-use Rattle.std.proofs.Common.{◌≡◌, ◌≢◌, ℕ, ◌+◌, ◌<◌, ◌≤◌, List, [], ◌∷◌, length, refl, sym, ap, ◌∙◌, arith, subst, Result, Ok, Err}
+use Rattle.std.proofs.Common.{◌≡◌, ℕ, ◌+◌, ◌<◌, List, [], ◌∷◌, refl, sym, ◌∙◌, Result, Ok, Err}
 use Rattle.dns_types.specs.declared.error.DecodeError.{DecodeError}
 use Rattle.dns_fields.specs.Octets.{AreOctets}
 use Rattle.dns_fields.specs.Fields.{Kind, Values, Stands, EndsItself}
 use Rattle.dns_fields.proofs.FieldLaws.{field_end}
 use Rattle.dns_names_wire.specs.State.{Reading}
-use Rattle.dns_names_wire.specs.Words.{Took, Lacks, Refused, StaysBehind, UnlessMemory, ReadsIf, ReadsTo, ReadsBy, Window, NoWindow, TookWindow, RefusedWindow, ReadsWindow}
-use Rattle.dns_names_wire.proofs.FieldReads.{stands_inside, stands_within, unless_map, stays, IsLong}
+use Rattle.dns_names_wire.specs.Words.{Took, Lacks, Refused, StaysBehind, ReadsIf, ReadsTo, ReadsBy, Window, RefusedWindow, ReadsWindow}
+use Rattle.dns_names_wire.proofs.FieldReads.{stands_inside, stands_within, unless_map, IsLong}
 
 abbrev pub AllEnd : List Kind → Type 0
 AllEnd [] = Unit {0}

@@ -1,5 +1,5 @@
 -- The steps by which a name is found to be in a zone.
-use Rattle.std.proofs.Common.{◌≡◌, ◌↔◌, IsTrue, ℕ, Bool, ◌+◌, ◌<◌, ◌≤◌, List, [], ◌∷◌, ◌++◌, length, map, drop, refl, sym, ap, ◌∙◌, arith, subst, append_assoc}
+use Rattle.std.proofs.Common.{◌≡◌, ◌↔◌, IsTrue, ℕ, Bool, ◌<◌, ◌≤◌, List, [], ◌∷◌, ◌++◌, length, map, drop, refl, sym, ap, ◌∙◌, arith, append_assoc}
 use Rattle.std.proofs.lemmas.List.{length-append, length-map}
 use Rattle.std.specs.Char.{to_ascii_lowercase}
 use Rattle.dns_fields.specs.Labels.{DomainName, wire}
@@ -53,10 +53,10 @@ none_before (x ∷ g) all zone h e = absurd (omega (arith, h, ap (λ (y : List (
 pub zone_found : (name : DomainName) (zone rest : List ℕ) (mark test : Bool) → AreNameOctets zone → ZoneSoFar name.labels (labels_of zone) rest → length rest ≤ length zone → (IsTrue test ↔ (map to_ascii_lowercase rest ≡ map to_ascii_lowercase zone)) → IsTrue test ↔ IsInZone name (name_of zone mark)
 zone_found name zone rest mark test z s h t =
     let forth : map to_ascii_lowercase rest ≡ map to_ascii_lowercase zone → IsInZone name (name_of zone mark) = λ e.
-        let same : low_labels (labels_of rest) ≡ low_labels (labels_of zone) = sym (octets_low rest s.are).labels_are ∙ ap (λ (x : List ℕ). labels_of x) e ∙ (octets_low zone z).labels_are in
-        record { front = s.front; same = s.sound ∙ ap (λ (x : List (List ℕ)). s.front ++ x) same } in
+    let same : low_labels (labels_of rest) ≡ low_labels (labels_of zone) = sym (octets_low rest s.are).labels_are ∙ ap (λ (x : List ℕ). labels_of x) e ∙ (octets_low zone z).labels_are in
+    record { front = s.front; same = s.sound ∙ ap (λ (x : List (List ℕ)). s.front ++ x) same } in
     let back : IsInZone name (name_of zone mark) → map to_ascii_lowercase rest ≡ map to_ascii_lowercase zone = λ i.
-        let g = s.complete i.front i.same in
-        let same = none_before g.0 (low_labels (labels_of rest)) (low_labels (labels_of zone)) (omega (arith, h, low_size zone z, low_size rest s.are)) g.1 in
-        wire_low rest s.are ∙ ap (λ (x : List (List ℕ)). wire x) same ∙ sym (wire_low zone z) in
+    let g = s.complete i.front i.same in
+    let same = none_before g.0 (low_labels (labels_of rest)) (low_labels (labels_of zone)) (omega (arith, h, low_size zone z, low_size rest s.are)) g.1 in
+    wire_low rest s.are ∙ ap (λ (x : List (List ℕ)). wire x) same ∙ sym (wire_low zone z) in
     (λ x. forth (t.0 x), λ i. t.1 (back i))

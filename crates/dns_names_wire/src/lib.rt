@@ -5,15 +5,17 @@ pub mod binary;
 pub mod decoder;
 pub mod encoder;
 pub mod name;
+#[cfg(test)]
+mod tests;
 
 pub use binary::{BinDecodable, BinEncodable};
 pub use decoder::BinDecoder;
 pub use dns_fields::RDataEncoding;
-pub use dns_types::{
-    AddrParseError, DecodeError, Octets, ParseError, ProtoError, ProtoResult, RecordType, Restrict, error,
-    octets, record_type, restrict,
-};
 pub use dns_labels::labels::LabelIter;
 pub use dns_labels::laws;
+pub use dns_types::{
+    AddrParseError, DecodeError, Octets, ParseError, ProtoError, ProtoResult, RecordType, Restrict,
+    error, octets, record_type, restrict,
+};
 pub use encoder::{BinEncoder, Place};
 pub use name::Name;

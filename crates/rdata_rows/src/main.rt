@@ -1,4 +1,6 @@
-//! Replays runs of the program `rdata` whose answers are known, one a line of `rows.tsv`.
+//! Replays runs of the program `rdata` whose answers are known, one a line: `rows.tsv` has small ones, worked by hand
+//! from the RFCs, and `real.tsv` record data as name servers and DNS tools write it, with the text and the octets on which
+//! independent implementations agree.
 #![tactic(auto)]
 
 #[cfg(test)]
@@ -62,8 +64,8 @@ fn holds(alloc: Global, row: &Row) -> bool {
     status == row.status && out.as_slice() == row.output.as_bytes()
 }
 
-fn replay(rt: &(impl Files + AllocGlobal + Print)) -> Result<()> {
-    let text = fs::read_to_string(rt, "rows.tsv").context("reading the rows")?;
+fn replay(rt: &(impl Files + AllocGlobal + Print), file: &str) -> Result<()> {
+    let text = fs::read_to_string(rt, file).context("reading the runs")?;
     let mut passed = 0u64;
     for line in text.lines() {
         if holds(rt.alloc(), &read_row(rt.alloc(), line)?) {
@@ -72,10 +74,11 @@ fn replay(rt: &(impl Files + AllocGlobal + Print)) -> Result<()> {
             println!(rt; "not as wanted: {line}")?;
         }
     }
-    println!(rt; "{passed} rows as wanted")?;
+    println!(rt; "{file}: {passed} as wanted")?;
     Ok(())
 }
 
 fn main(rt: HostRuntime) -> Result<()> {
-    replay(&rt)
+    replay(&rt, "rows.tsv")?;
+    replay(&rt, "real.tsv")
 }

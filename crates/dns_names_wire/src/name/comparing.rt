@@ -6,6 +6,7 @@ ghost use Rattle.std.specs.Cmp.{partial_order_from_own_ties};
 ghost use Rattle.std.specs.Cmp.Rules.{comparing, hashing};
 ghost use Rattle.std.specs.Ordering.{as_partial_cmp};
 ghost use Rattle.dns_names_wire.specs.NameValues.{IsInZone};
+ghost use Rattle.dns_fields.specs.Labels.{lowname};
 ghost use Rattle.dns_fields.specs.Comparing.{name_cmp, name_eq, name_fed};
 
 use crate::name::Name;
@@ -21,7 +22,10 @@ impl PartialEq for Name {
 
     /// Whether the marks are the same, and the labels but for the case of ASCII letters.
     #[inline]
-    fn eq(&self, other: &Name) -> bool {
+    fn eq(&self, other: &Name) -> bool
+        ensures value { result ≡ name_eq self.now other.now }
+        ensures exact { IsTrue result ↔ ((lowname self.now ≡ lowname other.now) × (self.now.fully_qualified ≡ other.now.fully_qualified)) }
+    {
         self.is_fqdn == other.is_fqdn
             && equal_lowered(self.octets.as_slice(), other.octets.as_slice())
     }
@@ -53,8 +57,9 @@ impl Ord for Name {
 
     /// By the first difference of the canonical octets, and then a relative name first.
     fn cmp(&self, other: &Name) -> Ordering {
-        compare_lowered(self.octets.as_slice(), other.octets.as_slice())
-            .then(self.is_fqdn.cmp(&other.is_fqdn))
+        compare_lowered(self.octets.as_slice(), other.octets.as_slice()).then(
+            self.is_fqdn.cmp(&other.is_fqdn),
+        )
     }
 }
 
@@ -76,7 +81,7 @@ impl Name {
     pub fn eq_case(&self, other: &Name) -> bool
         ensures { IsTrue result ↔ (self.now ≡ other.now) }
     {
-        self.is_fqdn == other.is_fqdn && self.octets.as_slice() == other.octets.as_slice()
+        other.is_fqdn == self.is_fqdn && self.octets.as_slice() == other.octets.as_slice()
     }
 
     /// Whether the other name is this one or below it, but for the case of ASCII letters and the marks: its last labels

@@ -1,4 +1,3 @@
-use Rattle.std.proofs.Common.{◌≡◌, sym, ap, ◌∙◌}
 use Rattle.dns_names_wire.proofs.Strings.{text_taken}
 use Rattle.dns_names_wire.proofs.decoder.BinDecoder.read_character_data.Goals as goal
 

@@ -1,6 +1,5 @@
 use Rattle.std.proofs.Common.{◌∙◌, sym, subst, arith, ap, ℕ, List, ◌≡◌}
-use Rattle.dns_fields.specs.Labels.{DomainName}
-use Rattle.dns_labels.specs.Labels.{AreNameOctets, labels_of, name_of}
+use Rattle.dns_labels.specs.Labels.{AreNameOctets, name_of}
 use Rattle.dns_names_wire.proofs.Zones.{zone_more, zone_found}
 use Rattle.dns_names_wire.proofs.name.Name.zone_of.Goals as goal
 

@@ -1,0 +1,320 @@
+ghost use Rattle.std.specs.Prelude.{◌≡◌, []};
+
+use crate::binary::{BinDecodable, BinEncodable};
+use crate::{BinDecoder, BinEncoder, DecodeError, Name, ProtoError, RDataEncoding};
+use std::alloc::{AllocError, Global};
+use std::cmp::Ordering;
+use std::hash::{DefaultHasher, Hash, Hasher};
+use std::test::Fail;
+
+mod record;
+
+fn name(alloc: Global, text: &str) -> Result<Name, ProtoError> {
+    Name::from_ascii(alloc, text)
+}
+
+fn hash_of(name: &Name) -> u64 {
+    let mut state = DefaultHasher::new();
+    name.hash(&mut state);
+    state.finish()
+}
+
+// Writes names one behind the other, behind octets that stand already.
+fn emit_all(
+    alloc: Global,
+    octets: &mut Vec<u8>,
+    before: &[u8],
+    names: &[&str],
+    mode: RDataEncoding,
+) -> Result<(), ProtoError>
+    requires { octets.old.items ≡ [] }
+{
+    let mut encoder = BinEncoder::new(alloc, octets);
+    encoder.with_rdata_behavior(mode);
+    encoder.emit_vec(before)?;
+    for text in names {
+        name(alloc, text)?.emit(&mut encoder)?;
+    }
+    encoder.into_bytes();
+    Ok(())
+}
+
+#[test]
+fn reads_and_prints_texts(rt: HostRuntime) -> Result<(), Fail> {
+    let alloc = rt.alloc();
+    // text, fully qualified, labels, octets on the wire, printed again
+    let rows: [(&str, bool, u8, usize, &str); 9] = [
+        (".", true, 0, 1, "."),
+        ("", false, 0, 1, ""),
+        ("a\\.b\\000.", true, 1, 6, "a\\.b\\000."),
+        ("www.Example.com.", true, 3, 17, "www.Example.com."),
+        ("www.example.com", false, 3, 17, "www.example.com"),
+        ("\\065\\-z", false, 1, 5, "A-z"),
+        ("*.example.", true, 1, 11, "*.example."),
+        ("\\255.", true, 1, 3, "\\255."),
+        ("\\@.\\032.", true, 2, 5, "@.\\032."),
+    ];
+    for (text, is_fqdn, labels, len, printed) in rows {
+        let read = name(alloc, text)?;
+        assert_eq!(rt; read.is_fqdn(), is_fqdn, "of {text:?}");
+        assert_eq!(rt; read.num_labels(), labels, "of {text:?}");
+        assert_eq!(rt; read.len(), len, "of {text:?}");
+        assert_eq!(rt; read.to_ascii()?.as_str(), printed, "of {text:?}");
+        assert_eq!(rt; read.to_string(alloc)?.as_str(), printed, "of {text:?}");
+        assert!(rt;
+            Name::from_str(alloc, printed)?.eq_case(&read),
+            "of {text:?}"
+        );
+    }
+    assert_eq!(rt;
+        format!(in alloc; "{:?}", name(alloc, "a.B.")?)?.as_str(),
+        "Name(\"a.B.\")"
+    );
+    Ok(())
+}
+
+#[test]
+fn refuses_texts(rt: HostRuntime) -> Result<(), Fail> {
+    let rows = ["a..b", ".a", "..", "\\256", "\\1", "a\\", "a b", "ä", "a\n"];
+    for text in rows {
+        let result = Name::from_ascii(rt.alloc(), text);
+        assert!(rt; matches!(&result, Err(ProtoError::Message(_))), "{text:?}");
+        let result = Name::parse(rt.alloc(), text, None);
+        assert!(rt; matches!(&result, Err(ProtoError::Message(_))), "{text:?}");
+    }
+    Ok(())
+}
+
+// A name of 255 octets: three labels of 63 octets, and one of 61.
+fn longest(alloc: Global, last: usize) -> Result<Name, ProtoError> {
+    let most = [b'a'; 63];
+    let labels = [&most[..], &most[..], &most[..], &most[..last.min(63)]];
+    Name::from_labels(alloc, &labels)
+}
+
+#[test]
+fn builds_names(rt: HostRuntime) -> Result<(), Fail> {
+    let alloc = rt.alloc();
+    let example = name(alloc, "Example.com.")?;
+    let labels = [b"www".as_slice(), b"Example".as_slice(), b"com".as_slice()];
+    let www = Name::from_labels(alloc, &labels)?;
+    assert!(rt; www.eq_case(&name(alloc, "www.Example.com.")?));
+    assert!(rt; www.clone()?.eq_case(&www));
+    assert!(rt;
+        Name::new(alloc)
+            .append_label(b"www")?
+            .append_name(&example)?
+            .eq_case(&www)
+    );
+    assert!(rt;
+        name(alloc, "www.Example")?
+            .append_domain(&name(alloc, "com")?)?
+            .eq_case(&www)
+    );
+    assert!(rt; Name::parse(alloc, "www", Some(&example))?.eq_case(&www));
+    assert!(rt; Name::parse(alloc, "www.", Some(&example))?.eq_case(&name(alloc, "www.")?));
+    assert!(rt; Name::parse(alloc, "www", None)?.eq_case(&name(alloc, "www")?));
+    assert!(rt; Name::parse(alloc, "", Some(&example))?.eq_case(&example));
+    assert!(rt;
+        www.to_lowercase()?
+            .eq_case(&name(alloc, "www.example.com.")?)
+    );
+    assert!(rt; www.base_name()?.eq_case(&example));
+    assert!(rt; Name::root(alloc).base_name()?.is_root());
+    assert!(rt; !Name::new(alloc).is_root() && !example.is_root() && !example.is_empty());
+    let mut relative = www.clone()?;
+    relative.set_fqdn(false);
+    assert!(rt; relative.eq_case(&name(alloc, "www.Example.com")?));
+    assert_eq!(rt; longest(alloc, 61)?.len(), 255);
+    assert!(rt; matches!(&longest(alloc, 62), Err(ProtoError::Message(_))));
+    assert!(rt; matches!(&longest(alloc, 0), Err(ProtoError::Message(_))));
+    let result = name(alloc, "a")?.append_name(&longest(alloc, 60)?);
+    assert!(rt; matches!(&result, Err(ProtoError::Message(_))));
+    let result = Name::parse(alloc, "a", Some(&longest(alloc, 60)?));
+    assert!(rt; matches!(&result, Err(ProtoError::Message(_))));
+    assert_eq!(rt;
+        name(alloc, "a")?.append_name(&longest(alloc, 59)?)?.len(),
+        255
+    );
+    let result = Name::root(alloc).append_label(&[b'a'; 64]);
+    assert!(rt; matches!(&result, Err(ProtoError::Message(_))));
+    Ok(())
+}
+
+#[test]
+fn compares_names(rt: HostRuntime) -> Result<(), Fail> {
+    let alloc = rt.alloc();
+    // in rising order
+    let rows = [
+        "",
+        ".",
+        "\\[.",
+        "a",
+        "A.",
+        "a.b.",
+        "z.",
+        "aa.",
+        "www.a.",
+        "example.com",
+        "EXAMPLE.com.",
+    ];
+    for (at, text) in rows.iter().enumerate() {
+        let left = name(alloc, text)?;
+        for (other, text) in rows.iter().enumerate() {
+            let right = name(alloc, text)?.to_lowercase()?;
+            assert_eq!(rt; left.cmp(&right), at.cmp(&other), "{at} and {other}");
+            assert_eq!(rt; left == right, at == other, "{at} and {other}");
+            if at == other {
+                assert_eq!(rt; hash_of(&left), hash_of(&right), "{at}");
+            }
+        }
+    }
+    let zone = name(alloc, "Example.com.")?;
+    let inside = ["example.com.", "www.EXAMPLE.com", "a.b.example.COM."];
+    for text in inside {
+        assert!(rt; zone.zone_of(&name(alloc, text)?), "{text}");
+    }
+    let outside = [
+        "com.",
+        "xexample.com.",
+        "example.com.x.",
+        "\\007example.com.",
+    ];
+    for text in outside {
+        assert!(rt; !zone.zone_of(&name(alloc, text)?), "{text}");
+    }
+    assert!(rt; Name::root(alloc).zone_of(&zone) && !zone.zone_of(&Name::root(alloc)));
+    assert_eq!(rt; zone.octet(1), Some(b'e'));
+    assert_eq!(rt; zone.octet(12), Some(0));
+    assert_eq!(rt; zone.octet(13), None);
+    assert_eq!(rt; name(alloc, "a.")?.partial_cmp(&zone), Some(Ordering::Less));
+    Ok(())
+}
+
+#[test]
+fn reads_names(rt: HostRuntime) -> Result<(), Fail> {
+    let alloc = rt.alloc();
+    let rows: [(&[u8], usize, &str, usize); 5] = [
+        (b"\x03WwW\x00\x01a\xc0\x00", 5, "a.WwW.", 9),
+        (b"\x00\xc0\x00", 1, ".", 3),
+        // a chain of pointers, and a label behind one
+        (b"\x01c\x00\xc0\x00\xc0\x03\x01b\xc0\x05", 7, "b.c.", 11),
+        // into a label, where a name stands too
+        (b"\x02\x01a\x00\xc0\x01", 4, "a.", 6),
+        (b"\x01.\x00more", 0, "\\..", 3),
+    ];
+    for (message, place, text, end) in rows {
+        let mut decoder = BinDecoder::new(alloc, message);
+        decoder.read_slice(place)?;
+        let read = Name::read(&mut decoder)?;
+        assert!(rt; read.eq_case(&name(alloc, text)?), "of {message:?}");
+        assert_eq!(rt; decoder.index(), end, "of {message:?}");
+    }
+    Ok(())
+}
+
+#[test]
+fn refuses_hostile_names(rt: HostRuntime) -> Result<(), Fail> {
+    let rows: [(&[u8], usize); 14] = [
+        // pointers to themselves, forward and past the end
+        (b"\xc0\x00", 0),
+        (b"\x00\xc0\x01", 1),
+        (b"\xc0\x02\x01a\x00", 0),
+        (b"\x00\xff\xff", 1),
+        // to a label in front of them, and so to themselves
+        (b"\x01a\xc0\x00", 0),
+        (b"\x01a\xc0\x00", 2),
+        // into the middle of a label, and to each other
+        (b"\x03www\x00\xc0\x01", 5),
+        (b"\xc0\x02\xc0\x00", 2),
+        // the two highest bits 01 and 10
+        (b"\x41a\x00", 0),
+        (b"\x81a\x00", 0),
+        // cut
+        (b"", 0),
+        (b"\x03ww", 0),
+        (b"\x03www", 0),
+        (b"\x00\xc0", 1),
+    ];
+    for (message, place) in rows {
+        let mut decoder = BinDecoder::new(rt.alloc(), message);
+        decoder.read_slice(place)?;
+        let result = Name::read(&mut decoder);
+        assert!(rt;
+            matches!(&result, Err(DecodeError::NameInvalid)),
+            "of {message:?}"
+        );
+        // the place stays, and the octets can still be read
+        assert_eq!(rt; decoder.index(), place, "of {message:?}");
+        let rest = decoder.read_slice(message.len() - place)?.unverified();
+        assert_eq!(rt; rest, &message[place..], "of {message:?}");
+    }
+    Ok(())
+}
+
+#[test]
+fn limits_names(rt: HostRuntime) -> Result<(), Fail> {
+    let alloc = rt.alloc();
+    // 124 labels of one octet, one of three or four, and a pointer to `a.`: 255 octets or 256
+    for (more, room) in [(3u8, true), (4u8, false)] {
+        let mut message = Vec::new(alloc);
+        message.extend_from_slice(b"\x01a\x00")?;
+        for _ in 0..124 {
+            message.extend_from_slice(b"\x01b")?;
+        }
+        message.push(more)?;
+        message.extend_from_slice(&b"wxyz"[..more.min(4) as usize])?;
+        message.extend_from_slice(b"\xc0\x00")?;
+        let mut decoder = BinDecoder::new(alloc, message.as_slice());
+        decoder.read_slice(3)?;
+        match Name::read(&mut decoder) {
+            Ok(read) => assert!(rt; room && read.len() == 255),
+            Err(e) => assert!(rt; !room && e == DecodeError::NameInvalid),
+        }
+    }
+    Ok(())
+}
+
+#[test]
+fn points_to_the_longest_tail(rt: HostRuntime) -> Result<(), Fail> {
+    let alloc = rt.alloc();
+    let names = ["a.b.", "x.a.b.", "y.x.a.b.", "x.a.b.", "c.b.", "A.b.", "."];
+    let mut octets = Vec::new(alloc);
+    emit_all(
+        alloc,
+        &mut octets,
+        b"\x01b\x00",
+        &names,
+        RDataEncoding::StandardRecord,
+    )?;
+    let wanted: &[u8] =
+        b"\x01b\x00\x01a\x01b\x00\x01x\xc0\x03\x01y\xc0\x08\xc0\x08\x01c\xc0\x05\x01A\xc0\x05\x00";
+    assert_eq!(rt; octets.as_slice(), wanted);
+    for mode in [RDataEncoding::Canonical, RDataEncoding::Other] {
+        let mut octets = Vec::new(alloc);
+        emit_all(alloc, &mut octets, b"", &names[..2], mode)?;
+        assert_eq!(rt;
+            octets.as_slice(),
+            b"\x01a\x01b\x00\x01x\x01a\x01b\x00".as_slice()
+        );
+    }
+    Ok(())
+}
+
+#[test]
+fn limits_emission(rt: HostRuntime) -> Result<(), Fail> {
+    let alloc = rt.alloc();
+    let mut octets = Vec::new(alloc);
+    let mut encoder = BinEncoder::new(alloc, &mut octets);
+    encoder.set_max_size(6);
+    name(alloc, "a.")?.emit(&mut encoder)?;
+    let result = name(alloc, "bc.")?.emit(&mut encoder);
+    assert_eq!(rt; result, Err(ProtoError::MaxBufferSizeExceeded));
+    assert_eq!(rt; encoder.len(), 3);
+    // two octets point to the first name
+    name(alloc, "a.")?.emit(&mut encoder)?;
+    Name::root(alloc).emit(&mut encoder)?;
+    let octets = encoder.into_bytes();
+    assert_eq!(rt; octets.as_slice(), b"\x01a\x00\xc0\x00\x00".as_slice());
+    Ok(())
+}

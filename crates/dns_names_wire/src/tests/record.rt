@@ -1,0 +1,55 @@
+//! A record of a number and a name, put together by the words of fields alone.
+
+ghost use Rattle.std.specs.Prelude.{[], ◌∷◌};
+ghost use Rattle.dns_fields.specs.Fields.{Number, Name as NameKind};
+ghost use Rattle.dns_names_wire.specs.Words.{ReadsIf, Emits, always};
+
+use crate::binary::{BinDecodable, BinEncodable};
+use crate::{BinDecoder, BinEncoder, DecodeError, Name, ProtoError};
+use std::test::Fail;
+
+/// The host that takes mail (RFC 1035, 3.3.9).
+#[derive(Drop)]
+struct Exchange {
+    preference: u16,
+    host: Name,
+}
+
+impl Exchange {
+    fn read(decoder: &mut BinDecoder<'_>) -> Result<Exchange, DecodeError>
+        ensures { ReadsIf (Number 2 ∷ NameKind ∷ []) (always (Number 2 ∷ NameKind ∷ [])) (λ x. (x.preference, (x.host, tt))) result decoder.old decoder.new }
+    {
+        let preference = decoder.read_u16()?.unverified();
+        let host = Name::read(decoder)?;
+        Ok(Exchange { preference, host })
+    }
+
+    #[tactic(auto, using(crate::proofs::FieldWrites::writing))]
+    fn emit(&self, encoder: &mut BinEncoder<'_>) -> Result<(), ProtoError>
+        ensures { Emits (Number 2 ∷ NameKind ∷ []) (self.now.preference, (self.now.host, tt)) result encoder.old encoder.new }
+    {
+        encoder.emit_u16(self.preference)?;
+        self.host.emit(encoder)?;
+        Ok(())
+    }
+}
+
+#[test]
+fn reads_and_emits(rt: HostRuntime) -> Result<(), Fail> {
+    let alloc = rt.alloc();
+    let message: &[u8] = b"\x00\x0a\x02mx\x00\xff\xff\xc0\x02";
+    let mut decoder = BinDecoder::new(alloc, message);
+    let first = Exchange::read(&mut decoder)?;
+    let second = Exchange::read(&mut decoder)?;
+    assert!(rt; Exchange::read(&mut decoder).is_err());
+    assert_eq!(rt; decoder.index(), 10);
+    assert_eq!(rt; first.preference, 10);
+    assert_eq!(rt; second.preference, 65535);
+    assert!(rt; second.host.eq_case(&Name::from_ascii(alloc, "mx.")?));
+    let mut octets = Vec::new(alloc);
+    let mut encoder = BinEncoder::new(alloc, &mut octets);
+    first.emit(&mut encoder)?;
+    second.emit(&mut encoder)?;
+    assert_eq!(rt; encoder.into_bytes().as_slice(), message);
+    Ok(())
+}
