@@ -7,14 +7,14 @@ pub mod record_data;
 pub mod traits;
 
 pub use dns_names_wire::{
-    BinDecodable, BinDecoder, BinEncodable, BinEncoder, DecodeError, Name, Octets, ParseError, Place,
-    ProtoError, RDataEncoding, RecordType, Restrict, binary, decoder, encoder, error, record_type,
-    restrict,
+    BinDecodable, BinDecoder, BinEncodable, BinEncoder, DecodeError, Name, Octets, ParseError,
+    Place, ProtoError, RDataEncoding, RecordType, Restrict, binary, decoder, encoder, error,
+    record_type, restrict,
 };
 pub use dns_rdata_base::{
     A, AAAA, ANAME, CNAME, EncodesFields, HINFO, MX, NAPTR, NS, NULL, OPENPGPKEY, PTR,
-    RecordDataDecodable, SOA, SRV, TXT, TakesOctet, a, aaaa, hinfo, mx, name, naptr, null, openpgpkey,
-    soa, srv, txt, verify_flags,
+    RecordDataDecodable, SOA, SRV, TXT, TakesOctet, a, aaaa, hinfo, mx, name, naptr, null,
+    openpgpkey, soa, srv, txt, verify_flags,
 };
 pub use dns_rdata_certs::{CERT, HEX, SMIMEA, SSHFP, TLSA, cert, smimea, sshfp, tlsa};
 pub use record_data::RData;

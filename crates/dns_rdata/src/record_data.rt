@@ -9,8 +9,8 @@ use dns_names_wire::{
     BinDecoder, BinEncodable, BinEncoder, DecodeError, ProtoError, RecordType, Restrict,
 };
 use dns_rdata_base::{
-    A, AAAA, ANAME, CNAME, HINFO, MX, NAPTR, NS, NULL, OPENPGPKEY, PTR, RecordDataDecodable, SOA, SRV,
-    TXT,
+    A, AAAA, ANAME, CNAME, HINFO, MX, NAPTR, NS, NULL, OPENPGPKEY, PTR, RecordDataDecodable, SOA,
+    SRV, TXT,
 };
 use dns_rdata_certs::{CERT, SMIMEA, SSHFP, TLSA};
 use std::alloc::AllocError;
@@ -137,7 +137,9 @@ impl RData {
             RecordType::NAPTR => Ok(RData::NAPTR(NAPTR::read_data(decoder, length)?)),
             RecordType::NULL => Ok(RData::NULL(NULL::read_data(decoder, length)?)),
             RecordType::NS => Ok(RData::NS(NS::read_data(decoder, length)?)),
-            RecordType::OPENPGPKEY => Ok(RData::OPENPGPKEY(OPENPGPKEY::read_data(decoder, length)?)),
+            RecordType::OPENPGPKEY => Ok(RData::OPENPGPKEY(OPENPGPKEY::read_data(
+                decoder, length,
+            )?)),
             RecordType::PTR => Ok(RData::PTR(PTR::read_data(decoder, length)?)),
             RecordType::SMIMEA => Ok(RData::SMIMEA(SMIMEA::read_data(decoder, length)?)),
             RecordType::SOA => Ok(RData::SOA(SOA::read_data(decoder, length)?)),

@@ -3,8 +3,7 @@
 use crate::record_data::RData;
 use dns_names_wire::RecordType;
 use dns_rdata_base::{
-    A, AAAA, ANAME, CNAME, HINFO, MX, NAPTR, NS, NULL, OPENPGPKEY, PTR, SOA, SRV,
-    TXT,
+    A, AAAA, ANAME, CNAME, HINFO, MX, NAPTR, NS, NULL, OPENPGPKEY, PTR, SOA, SRV, TXT,
 };
 use dns_rdata_certs::{CERT, SMIMEA, SSHFP, TLSA};
 

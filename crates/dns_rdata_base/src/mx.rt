@@ -109,8 +109,7 @@ impl PartialEq for MX {
 
     #[inline]
     fn eq(&self, other: &MX) -> bool {
-        self.preference == other.preference
-            && self.exchange == other.exchange
+        self.preference == other.preference && self.exchange == other.exchange
     }
 }
 
@@ -143,10 +142,6 @@ impl fmt::Display for MX {
 
     /// The fields in order, a blank between.
     fn fmt<W: fmt::Write>(&self, f: &mut fmt::Formatter<W>) -> fmt::Result {
-        write!(
-            f,
-            "{} {}",
-            self.preference, self.exchange
-        )
+        write!(f, "{} {}", self.preference, self.exchange)
     }
 }

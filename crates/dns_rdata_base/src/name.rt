@@ -410,7 +410,7 @@ impl EncodesFields for ANAME {
 impl BinEncodable for ANAME {
     ghost emits = { λ x r old new. EmitsAs modes.Other name_shape (aname_fields x) r old new };
 
-    /// Appends the octets, the name uncompressed, its letters kept (RFC 3597, 4). The encoder is then in the mode that it was in, refused or not.
+    /// Appends the octets, the name whole, its letters kept. The encoder is then in the mode that it was in, refused or not.
     fn emit(&self, encoder: &mut BinEncoder<'_>) -> Result<(), ProtoError>
         ensures emits { EmitsAs RDataEncoding.Other name_shape (aname_fields self.now) result encoder.old encoder.new }
         ensures keeps { Keeps encoder.old encoder.new }

@@ -102,7 +102,7 @@ impl EncodesFields for SRV {
 impl BinEncodable for SRV {
     ghost emits = { λ x r old new. EmitsAs modes.Canonical srv_shape (srv_fields x) r old new };
 
-    /// Appends the octets, the name uncompressed and in lower case (RFC 4034, 6.2). The encoder is then in the mode that it was in, refused or not.
+    /// Appends the octets, the name whole, its letters kept. The encoder is then in the mode that it was in, refused or not.
     fn emit(&self, encoder: &mut BinEncoder<'_>) -> Result<(), ProtoError>
         ensures emits { EmitsAs RDataEncoding.Canonical srv_shape (srv_fields self.now) result encoder.old encoder.new }
         ensures keeps { Keeps encoder.old encoder.new }

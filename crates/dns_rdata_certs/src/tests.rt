@@ -21,7 +21,7 @@ fn is_emitted<T: BinEncodable>(
     octets: &[u8],
 ) -> Result<bool, ProtoError> {
     let mut out = Vec::new(alloc);
-    let mut encoder = BinEncoder::new(&mut out);
+    let mut encoder = BinEncoder::new(alloc, &mut out);
     value.emit(&mut encoder)?;
     Ok(encoder.into_bytes().as_slice() == octets)
 }

@@ -1,3 +1,6 @@
+mod lengths;
+mod names;
+
 use dns_rdata::{
     A, AAAA, BinDecodable, BinDecoder, BinEncodable, BinEncoder, DecodeError, NULL, ProtoError,
     RData, RecordData, RecordDataDecodable, RecordType, Restrict,

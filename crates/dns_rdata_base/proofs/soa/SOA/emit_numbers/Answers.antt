@@ -1,5 +1,4 @@
 use Rattle.std.proofs.Common.{SFits, w32, rules}
-
 use Rattle.std.proofs.lemmas.Int.{to_z-of_z}
 use Rattle.std.proofs.lemmas.Result.{err_from_is_err_and}
 use Rattle.dns_names_wire.proofs.FieldWrites.{stopped_then, stopped_first}
