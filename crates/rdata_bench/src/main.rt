@@ -113,15 +113,31 @@ fn equals(value: &RData, other: &RData, rounds: u64) -> Result<u64> {
     Ok(same)
 }
 
+fn clones_of(alloc: Global, sample: &Sample, rounds: u64) -> Result<u64> {
+    clones(&read_value(alloc, sample)?, rounds)
+}
+
+fn emits_of(alloc: Global, sample: &Sample, rounds: u64) -> Result<u64> {
+    emits(alloc, &read_value(alloc, sample)?, rounds)
+}
+
+fn prints_of(alloc: Global, sample: &Sample, rounds: u64) -> Result<u64> {
+    prints(alloc, &read_value(alloc, sample)?, rounds)
+}
+
+fn equals_of(alloc: Global, sample: &Sample, rounds: u64) -> Result<u64> {
+    let value = read_value(alloc, sample)?;
+    equals(&value, &read_value(alloc, sample)?, rounds)
+}
+
 // One column: so many rounds of the call.
 fn column(alloc: Global, sample: &Sample, name: &str, rounds: u64) -> Result<u64> {
-    let value = read_value(alloc, sample)?;
     match name {
         "read" => reads(alloc, sample, rounds),
-        "emit" => emits(alloc, &value, rounds),
-        "print" => prints(alloc, &value, rounds),
-        "clone" => clones(&value, rounds),
-        "equal" => equals(&value, &read_value(alloc, sample)?, rounds),
+        "emit" => emits_of(alloc, sample, rounds),
+        "print" => prints_of(alloc, sample, rounds),
+        "clone" => clones_of(alloc, sample, rounds),
+        "equal" => equals_of(alloc, sample, rounds),
         _ => Ok(0),
     }
 }
