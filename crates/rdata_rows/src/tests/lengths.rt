@@ -1,4 +1,4 @@
-use super::read;
+use super::refused;
 use dns_rdata::RecordType;
 
 // A type, its data, and from how many octets on the first of them are data too.
@@ -38,13 +38,15 @@ fn samples() -> [Sample; 18] {
 #[test]
 fn each_length_and_each_cut(rt: HostRuntime) {
     for (record_type, octets, least) in samples() {
-        for cut in 0..=octets.len() {
-            for length in 0..=octets.len() {
-                let whole = length == octets.len();
-                let fills = length <= cut && (whole || least.is_some_and(|n| n <= length));
-                let (result, index) = read(rt.alloc(), &octets[..cut], record_type, length as u16);
-                assert_eq!(rt; result.is_ok(), fills);
-                assert!(rt; index <= cut);
+        for cut in 0..64usize {
+            let message = &octets[..cut.min(octets.len())];
+            for length in 0..64u16 {
+                let n = length as usize;
+                let whole = n == octets.len();
+                let fills = n <= message.len() && (whole || least.is_some_and(|least| least <= n));
+                let (error, index) = refused(rt.alloc(), message, record_type, length);
+                assert_eq!(rt; error.is_none(), fills);
+                assert!(rt; index <= message.len());
             }
         }
     }
