@@ -39,6 +39,21 @@ fn emit_all(
     Ok(())
 }
 
+// Whether it is the name of the text, letters and mark alike.
+fn is_name(alloc: Global, built: Result<Name, ProtoError>, text: &str) -> Result<bool, ProtoError> {
+    let built = built?;
+    Ok(built.eq_case(&name(alloc, text)?))
+}
+
+fn is_refused(built: Result<Name, ProtoError>) -> bool {
+    matches!(&built, Err(ProtoError::Message(_)))
+}
+
+// Whether both texts are this one.
+fn prints(alloc: Global, name: &Name, text: &str) -> Result<bool, Fail> {
+    Ok(name.to_ascii()?.as_str() == text && name.to_string(alloc)?.as_str() == text)
+}
+
 #[test]
 fn reads_and_prints_texts(rt: HostRuntime) -> Result<(), Fail> {
     let alloc = rt.alloc();
@@ -59,91 +74,171 @@ fn reads_and_prints_texts(rt: HostRuntime) -> Result<(), Fail> {
         assert_eq!(rt; read.is_fqdn(), is_fqdn, "of {text:?}");
         assert_eq!(rt; read.num_labels(), labels, "of {text:?}");
         assert_eq!(rt; read.len(), len, "of {text:?}");
-        assert_eq!(rt; read.to_ascii()?.as_str(), printed, "of {text:?}");
-        assert_eq!(rt; read.to_string(alloc)?.as_str(), printed, "of {text:?}");
+        assert!(rt; prints(alloc, &read, printed)?, "of {text:?}");
         assert!(rt;
-            Name::from_str(alloc, printed)?.eq_case(&read),
+            is_name(alloc, Name::from_str(alloc, printed), text)?,
             "of {text:?}"
         );
     }
+    Ok(())
+}
+
+#[test]
+fn shows_names(rt: HostRuntime) -> Result<(), Fail> {
+    let shown = name(rt.alloc(), "a.B.")?;
     assert_eq!(rt;
-        format!(in alloc; "{:?}", name(alloc, "a.B.")?)?.as_str(),
+        format!(in rt.alloc(); "{shown:?}")?.as_str(),
         "Name(\"a.B.\")"
     );
     Ok(())
 }
 
 #[test]
-fn refuses_texts(rt: HostRuntime) -> Result<(), Fail> {
+fn refuses_texts(rt: HostRuntime) {
     let rows = ["a..b", ".a", "..", "\\256", "\\1", "a\\", "a b", "ä", "a\n"];
     for text in rows {
-        let result = Name::from_ascii(rt.alloc(), text);
-        assert!(rt; matches!(&result, Err(ProtoError::Message(_))), "{text:?}");
-        let result = Name::parse(rt.alloc(), text, None);
-        assert!(rt; matches!(&result, Err(ProtoError::Message(_))), "{text:?}");
+        assert!(rt; is_refused(Name::from_ascii(rt.alloc(), text)), "{text:?}");
+        assert!(rt; is_refused(Name::parse(rt.alloc(), text, None)), "{text:?}");
     }
+}
+
+fn joined(alloc: Global, front: &str, back: &str) -> Result<Name, ProtoError> {
+    let back = name(alloc, back)?;
+    name(alloc, front)?.append_name(&back)
+}
+
+fn in_domain(alloc: Global, front: &str, domain: &str) -> Result<Name, ProtoError> {
+    let domain = name(alloc, domain)?;
+    name(alloc, front)?.append_domain(&domain)
+}
+
+#[test]
+fn joins_names(rt: HostRuntime) -> Result<(), Fail> {
+    let alloc = rt.alloc();
+    let labels = [b"www".as_slice(), b"Example".as_slice(), b"com".as_slice()];
+    assert!(rt; is_name(alloc, Name::from_labels(alloc, &labels), "www.Example.com.")?);
+    assert!(rt; is_name(alloc, Name::new(alloc).append_label(b"www"), "www")?);
+    assert!(rt;
+        is_name(
+            alloc,
+            joined(alloc, "www", "Example.com."),
+            "www.Example.com."
+        )?
+    );
+    assert!(rt;
+        is_name(
+            alloc,
+            in_domain(alloc, "www.Example", "com"),
+            "www.Example.com."
+        )?
+    );
+    assert!(rt; is_refused(Name::root(alloc).append_label(&[b'a'; 64])));
     Ok(())
 }
 
-// A name of 255 octets: three labels of 63 octets, and one of 61.
+fn parsed(alloc: Global, text: &str, origin: &str) -> Result<Name, ProtoError> {
+    Name::parse(alloc, text, Some(&name(alloc, origin)?))
+}
+
+#[test]
+fn completes_names(rt: HostRuntime) -> Result<(), Fail> {
+    let alloc = rt.alloc();
+    let rows = [
+        ("www", "www.Example.com."),
+        ("www.", "www."),
+        ("", "Example.com."),
+    ];
+    for (text, whole) in rows {
+        assert!(rt;
+            is_name(alloc, parsed(alloc, text, "Example.com."), whole)?,
+            "{text:?}"
+        );
+    }
+    assert!(rt; is_name(alloc, Name::parse(alloc, "www", None), "www")?);
+    Ok(())
+}
+
+fn without_mark(alloc: Global, text: &str) -> Result<Name, ProtoError> {
+    let mut relative = name(alloc, text)?;
+    relative.set_fqdn(false);
+    Ok(relative)
+}
+
+#[test]
+fn changes_names(rt: HostRuntime) -> Result<(), Fail> {
+    let alloc = rt.alloc();
+    let www = name(alloc, "www.Example.com.")?;
+    assert!(rt; www.clone()?.eq_case(&www));
+    assert!(rt;
+        www.to_lowercase()?
+            .eq_case(&name(alloc, "www.example.com.")?)
+    );
+    assert!(rt; www.base_name()?.eq_case(&name(alloc, "Example.com.")?));
+    assert!(rt;
+        is_name(
+            alloc,
+            without_mark(alloc, "www.Example.com."),
+            "www.Example.com"
+        )?
+    );
+    Ok(())
+}
+
+#[test]
+fn tells_roots(rt: HostRuntime) -> Result<(), Fail> {
+    let alloc = rt.alloc();
+    let example = name(alloc, "Example.com.")?;
+    assert!(rt; Name::root(alloc).is_root() && Name::root(alloc).base_name()?.is_root());
+    assert!(rt; !Name::new(alloc).is_root() && !example.is_root() && !example.is_empty());
+    Ok(())
+}
+
+// Three labels of 63 octets, and one of so many: of 255 octets with one of 61.
 fn longest(alloc: Global, last: usize) -> Result<Name, ProtoError> {
     let most = [b'a'; 63];
     let labels = [&most[..], &most[..], &most[..], &most[..last.min(63)]];
     Name::from_labels(alloc, &labels)
 }
 
+fn with_longest(alloc: Global, last: usize) -> Result<Name, ProtoError> {
+    let back = longest(alloc, last)?;
+    name(alloc, "a")?.append_name(&back)
+}
+
 #[test]
-fn builds_names(rt: HostRuntime) -> Result<(), Fail> {
+fn limits_lengths(rt: HostRuntime) -> Result<(), Fail> {
     let alloc = rt.alloc();
-    let example = name(alloc, "Example.com.")?;
-    let labels = [b"www".as_slice(), b"Example".as_slice(), b"com".as_slice()];
-    let www = Name::from_labels(alloc, &labels)?;
-    assert!(rt; www.eq_case(&name(alloc, "www.Example.com.")?));
-    assert!(rt; www.clone()?.eq_case(&www));
-    assert!(rt;
-        Name::new(alloc)
-            .append_label(b"www")?
-            .append_name(&example)?
-            .eq_case(&www)
-    );
-    assert!(rt;
-        name(alloc, "www.Example")?
-            .append_domain(&name(alloc, "com")?)?
-            .eq_case(&www)
-    );
-    assert!(rt; Name::parse(alloc, "www", Some(&example))?.eq_case(&www));
-    assert!(rt; Name::parse(alloc, "www.", Some(&example))?.eq_case(&name(alloc, "www.")?));
-    assert!(rt; Name::parse(alloc, "www", None)?.eq_case(&name(alloc, "www")?));
-    assert!(rt; Name::parse(alloc, "", Some(&example))?.eq_case(&example));
-    assert!(rt;
-        www.to_lowercase()?
-            .eq_case(&name(alloc, "www.example.com.")?)
-    );
-    assert!(rt; www.base_name()?.eq_case(&example));
-    assert!(rt; Name::root(alloc).base_name()?.is_root());
-    assert!(rt; !Name::new(alloc).is_root() && !example.is_root() && !example.is_empty());
-    let mut relative = www.clone()?;
-    relative.set_fqdn(false);
-    assert!(rt; relative.eq_case(&name(alloc, "www.Example.com")?));
     assert_eq!(rt; longest(alloc, 61)?.len(), 255);
-    assert!(rt; matches!(&longest(alloc, 62), Err(ProtoError::Message(_))));
-    assert!(rt; matches!(&longest(alloc, 0), Err(ProtoError::Message(_))));
-    let result = name(alloc, "a")?.append_name(&longest(alloc, 60)?);
-    assert!(rt; matches!(&result, Err(ProtoError::Message(_))));
-    let result = Name::parse(alloc, "a", Some(&longest(alloc, 60)?));
-    assert!(rt; matches!(&result, Err(ProtoError::Message(_))));
-    assert_eq!(rt;
-        name(alloc, "a")?.append_name(&longest(alloc, 59)?)?.len(),
-        255
-    );
-    let result = Name::root(alloc).append_label(&[b'a'; 64]);
-    assert!(rt; matches!(&result, Err(ProtoError::Message(_))));
+    assert!(rt; is_refused(longest(alloc, 62)));
+    assert!(rt; is_refused(longest(alloc, 0)));
+    assert_eq!(rt; with_longest(alloc, 59)?.len(), 255);
+    assert!(rt; is_refused(with_longest(alloc, 60)));
+    assert!(rt; is_refused(Name::parse(alloc, "a", Some(&longest(alloc, 60)?))));
     Ok(())
+}
+
+// The order, whether they are equal, and whether they feed a hasher the same.
+fn compared(left: &Name, right: &Name) -> (Ordering, bool, bool) {
+    (
+        left.cmp(right),
+        left == right,
+        hash_of(left) == hash_of(right),
+    )
+}
+
+// A name, and one in lower case.
+fn compared_texts(
+    alloc: Global,
+    left: &str,
+    right: &str,
+) -> Result<(Ordering, bool, bool), ProtoError> {
+    let left = name(alloc, left)?;
+    let right = name(alloc, right)?.to_lowercase()?;
+    Ok(compared(&left, &right))
 }
 
 #[test]
 fn compares_names(rt: HostRuntime) -> Result<(), Fail> {
-    let alloc = rt.alloc();
     // in rising order
     let rows = [
         "",
@@ -158,36 +253,57 @@ fn compares_names(rt: HostRuntime) -> Result<(), Fail> {
         "example.com",
         "EXAMPLE.com.",
     ];
-    for (at, text) in rows.iter().enumerate() {
-        let left = name(alloc, text)?;
-        for (other, text) in rows.iter().enumerate() {
-            let right = name(alloc, text)?.to_lowercase()?;
-            assert_eq!(rt; left.cmp(&right), at.cmp(&other), "{at} and {other}");
-            assert_eq!(rt; left == right, at == other, "{at} and {other}");
-            if at == other {
-                assert_eq!(rt; hash_of(&left), hash_of(&right), "{at}");
-            }
+    for (at, left) in rows.iter().enumerate() {
+        for (other, right) in rows.iter().enumerate() {
+            let (order, equal, fed_same) = compared_texts(rt.alloc(), left, right)?;
+            assert_eq!(rt; order, at.cmp(&other), "{at} and {other}");
+            assert_eq!(rt; equal, at == other, "{at} and {other}");
+            assert!(rt; fed_same || at != other, "{at} and {other}");
         }
     }
-    let zone = name(alloc, "Example.com.")?;
-    let inside = ["example.com.", "www.EXAMPLE.com", "a.b.example.COM."];
-    for text in inside {
-        assert!(rt; zone.zone_of(&name(alloc, text)?), "{text}");
+    Ok(())
+}
+
+fn is_inside(alloc: Global, zone: &str, text: &str) -> Result<bool, ProtoError> {
+    let zone = name(alloc, zone)?;
+    Ok(zone.zone_of(&name(alloc, text)?))
+}
+
+#[test]
+fn tells_zones(rt: HostRuntime) -> Result<(), Fail> {
+    let alloc = rt.alloc();
+    for text in ["example.com.", "www.EXAMPLE.com", "a.b.example.COM."] {
+        assert!(rt; is_inside(alloc, "Example.com.", text)?, "{text}");
+        assert!(rt; is_inside(alloc, ".", text)?, "{text}");
     }
-    let outside = [
+    for text in [
         "com.",
         "xexample.com.",
         "example.com.x.",
         "\\007example.com.",
-    ];
-    for text in outside {
-        assert!(rt; !zone.zone_of(&name(alloc, text)?), "{text}");
+        ".",
+    ] {
+        assert!(rt; !is_inside(alloc, "Example.com.", text)?, "{text}");
     }
-    assert!(rt; Name::root(alloc).zone_of(&zone) && !zone.zone_of(&Name::root(alloc)));
+    Ok(())
+}
+
+#[test]
+fn gives_octets(rt: HostRuntime) -> Result<(), Fail> {
+    let zone = name(rt.alloc(), "Example.com.")?;
     assert_eq!(rt; zone.octet(1), Some(b'e'));
     assert_eq!(rt; zone.octet(12), Some(0));
     assert_eq!(rt; zone.octet(13), None);
-    assert_eq!(rt; name(alloc, "a.")?.partial_cmp(&zone), Some(Ordering::Less));
+    Ok(())
+}
+
+#[test]
+fn orders_names(rt: HostRuntime) -> Result<(), Fail> {
+    let zone = name(rt.alloc(), "Example.com.")?;
+    assert_eq!(rt;
+        Name::root(rt.alloc()).partial_cmp(&zone),
+        Some(Ordering::Less)
+    );
     Ok(())
 }
 
@@ -252,19 +368,24 @@ fn refuses_hostile_names(rt: HostRuntime) -> Result<(), Fail> {
     Ok(())
 }
 
+// `a.`, and then 124 labels of one octet, one of so many, and a pointer to `a.`: 255 octets with one of three.
+fn long_message(alloc: Global, more: u8) -> Result<Vec<u8>, AllocError> {
+    let mut message = Vec::new(alloc);
+    message.extend_from_slice(b"\x01a\x00")?;
+    for _ in 0..124 {
+        message.extend_from_slice(b"\x01b")?;
+    }
+    message.push(more)?;
+    message.extend_from_slice(&b"wxyz"[..more.min(4) as usize])?;
+    message.extend_from_slice(b"\xc0\x00")?;
+    Ok(message)
+}
+
 #[test]
 fn limits_names(rt: HostRuntime) -> Result<(), Fail> {
     let alloc = rt.alloc();
-    // 124 labels of one octet, one of three or four, and a pointer to `a.`: 255 octets or 256
     for (more, room) in [(3u8, true), (4u8, false)] {
-        let mut message = Vec::new(alloc);
-        message.extend_from_slice(b"\x01a\x00")?;
-        for _ in 0..124 {
-            message.extend_from_slice(b"\x01b")?;
-        }
-        message.push(more)?;
-        message.extend_from_slice(&b"wxyz"[..more.min(4) as usize])?;
-        message.extend_from_slice(b"\xc0\x00")?;
+        let message = long_message(alloc, more)?;
         let mut decoder = BinDecoder::new(alloc, message.as_slice());
         decoder.read_slice(3)?;
         match Name::read(&mut decoder) {
@@ -290,9 +411,15 @@ fn points_to_the_longest_tail(rt: HostRuntime) -> Result<(), Fail> {
     let wanted: &[u8] =
         b"\x01b\x00\x01a\x01b\x00\x01x\xc0\x03\x01y\xc0\x08\xc0\x08\x01c\xc0\x05\x01A\xc0\x05\x00";
     assert_eq!(rt; octets.as_slice(), wanted);
+    Ok(())
+}
+
+#[test]
+fn writes_names_whole(rt: HostRuntime) -> Result<(), Fail> {
+    let alloc = rt.alloc();
     for mode in [RDataEncoding::Canonical, RDataEncoding::Other] {
         let mut octets = Vec::new(alloc);
-        emit_all(alloc, &mut octets, b"", &names[..2], mode)?;
+        emit_all(alloc, &mut octets, b"", &["a.b.", "x.a.b."], mode)?;
         assert_eq!(rt;
             octets.as_slice(),
             b"\x01a\x01b\x00\x01x\x01a\x01b\x00".as_slice()

@@ -1,5 +1,6 @@
 mod lengths;
 mod names;
+mod values;
 
 use dns_rdata::{BinDecoder, DecodeError, RData, RecordType, Restrict};
 use rdata_command::run;
@@ -16,6 +17,13 @@ fn refused(
     let mut decoder = BinDecoder::new(alloc, message);
     let error = RData::read(&mut decoder, record_type, Restrict::new(length)).err();
     (error, decoder.index())
+}
+
+// The value whose data these octets are.
+fn value_of(alloc: Global, octets: &[u8], record_type: RecordType) -> Result<RData, DecodeError> {
+    let mut decoder = BinDecoder::new(alloc, octets);
+    let length = octets.len().min(65535) as u16;
+    RData::read(&mut decoder, record_type, Restrict::new(length))
 }
 
 #[test]
