@@ -1,0 +1,2 @@
+mod CaaReads
+pub mod CaaValues

@@ -1,0 +1,208 @@
+//! CAA: a property of a domain's issuers of certificates (RFC 8659).
+
+ghost use Rattle.std.specs.Prelude.{◌≡◌, ◌≤◌, ◌<◌, ◌+◌, false, take, get_or, length as list_length, IfErr, IfOk, OnOk};
+ghost use Rattle.std.specs.Char.{is_ascii_alphanumeric};
+ghost use Rattle.dns_fields.specs.Fields.{Octets as OctetsKind};
+ghost use Rattle.dns_names_wire.specs.Words.{ReadsTo, ReadsWindow, TookField, StaysBehind, Emits};
+ghost use Rattle.dns_rdata_sets.specs.CAA.{caa_shape, caa_flags, caa_fields, caa_condition, caa_key_shape, caa_keys, AreTagOctets, IsTag, IsReadCaa, tag_refusal, caa_refusal};
+
+use bstr::BStr;
+use dns_names_wire::{
+    BinDecoder, BinEncodable, BinEncoder, DecodeError, Octets, ProtoError, Restrict,
+};
+use dns_rdata_base::RecordDataDecodable;
+use std::alloc::AllocError;
+use std::fmt;
+
+/// A property of a domain's issuers of certificates (RFC 8659, 4.1): an octet of flags, a tag behind an octet of its
+/// length, and a value to the end of the record's length.
+#[derive(Debug, Drop, Hash)]
+pub struct CAA {
+    /// Whether an issuer that does not know the tag may not issue: bit 128 of the flags.
+    pub issuer_critical: bool,
+    /// The other flags. The wire has their low seven bits.
+    pub reserved_flags: u8,
+    /// The tag. Those that are read are 1 to 15 letters and digits of ASCII.
+    pub tag: Octets,
+    /// The value.
+    pub value: Octets,
+}
+
+impl CAA {
+    /// The flags as one octet: 128 where critical, and the low seven bits of the reserved flags.
+    #[inline]
+    pub fn flags(&self) -> u8
+        ensures { result ≡ caa_flags self.now }
+    {
+        let _ = &self.tag;
+        let low = self.reserved_flags % 128;
+        if self.issuer_critical { low + 128 } else { low }
+    }
+
+    // Reads the fields that fill the length.
+    #[tactic(auto, using(dns_names_wire::proofs::FieldReads::reading))]
+    fn read_filled(decoder: &mut BinDecoder<'_>, length: Restrict<u16>) -> Result<CAA, DecodeError>
+        ensures fields { ReadsTo caa_shape caa_condition length caa_fields result decoder.old decoder.new }
+        ensures flags { IfOk result IsReadCaa }
+        ensures refused { IfErr result (λ e. caa_refusal length decoder.old e decoder.new) }
+    {
+        let alloc = decoder.allocator();
+        let _start = decoder.index();
+        let flags = decoder.read_u8()?.unverified();
+        let size = decoder.read_u8()?.unverified() as usize;
+        let len = length.unverified() as usize;
+        let tag = read_tag(decoder, len, size)?;
+        let tag = Octets::from_slice(alloc, tag)?;
+        let value = decoder.read_vec(len - size - 2)?.unverified();
+        Ok(CAA {
+            issuer_critical: flags >= 128,
+            reserved_flags: flags % 128,
+            tag,
+            value: Octets::from_vec(value),
+        })
+    }
+}
+
+// Reads a tag of this size in a record of this length, octet by octet.
+fn read_tag<'a>(
+    decoder: &mut BinDecoder<'a>,
+    len: usize,
+    size: usize,
+) -> Result<&'a [u8], DecodeError>
+    requires { size ≤ 255 }
+    ensures taken { IfOk result (λ tag. TookField decoder.old (OctetsKind size) tag.now decoder.new) }
+    ensures tag { IfOk result (λ tag. IsTag tag.now × (size + 2 ≤ len)) }
+    ensures refused { IfErr result (λ e. tag_refusal len size decoder.old e decoder.new) }
+    ensures behind { StaysBehind decoder.old decoder.new }
+{
+    if len < size + 2 {
+        return Err(DecodeError::IncorrectRDataLengthRead {
+            read: len,
+            len: size + 2,
+        });
+    }
+    if size == 0 || size > 15 {
+        return Err(DecodeError::CaaTagInvalid);
+    }
+    let left = decoder.unread().unverified();
+    let there = &left[..size.min(left.len())];
+    let letters = count_letters(there);
+    if letters < there.len() {
+        let _taken = decoder.read_slice(letters + 1)?;
+        return Err(DecodeError::CaaTagInvalid);
+    }
+    Ok(decoder.read_in_steps(size, 1)?.unverified())
+}
+
+// How many letters and digits of ASCII stand in front.
+fn count_letters(octets: &[u8]) -> usize
+    ensures within { result ≤ list_length octets.now }
+    ensures letters { AreTagOctets (take result octets.now) }
+    ensures stops { result < list_length octets.now → is_ascii_alphanumeric (get_or octets.now result 0) ≡ false }
+{
+    let mut count = 0;
+    for octet in octets {
+        if !octet.is_ascii_alphanumeric() {
+            break;
+        }
+        count += 1;
+    }
+    count
+}
+
+impl RecordDataDecodable for CAA {
+    ghost kinds = { caa_shape };
+
+    ghost condition = { caa_condition };
+
+    ghost fields = { caa_fields };
+
+    /// Reads an octet of flags, the tag, and the rest of the length, by one request for memory for the tag and one for
+    /// the value.
+    ///
+    /// Where flags or the tag's length are missing it is refused by `InsufficientBytes`, and the flags are taken where
+    /// they are there. Where a tag of that length passes the record's it is refused by `IncorrectRDataLengthRead` of the
+    /// record's length and the tag's and 2. A tag of no octet or more than 15 is refused by `CaaTagInvalid`. Then the
+    /// tag is taken octet by octet: one that is no letter and no digit of ASCII is the last taken, and `CaaTagInvalid`
+    /// refuses the tag. Where octets of tag or value are missing it is refused by `InsufficientBytes`; the tag's octets
+    /// that are there are taken, and the value's are not.
+    #[inline]
+    fn read_data(decoder: &mut BinDecoder<'_>, length: Restrict<u16>) -> Result<CAA, DecodeError>
+        ensures window { ReadsWindow caa_shape caa_condition caa_fields length result decoder.old decoder.new }
+        ensures ends { OnOk result (decoder.new.index ≡ decoder.old.index + length) }
+        ensures flags { IfOk result IsReadCaa }
+        ensures refused { IfErr result (λ e. caa_refusal length decoder.old e decoder.new) }
+    {
+        let _start = decoder.index();
+        CAA::read_filled(decoder, length)
+    }
+}
+
+impl BinEncodable for CAA {
+    ghost emits = { λ x r old new. Emits caa_shape (caa_fields x) r old new };
+
+    /// Appends the flags, the tag behind its length, and the value. A tag of more than 255 octets is refused by
+    /// `Message`.
+    #[tactic(auto, using(dns_names_wire::proofs::FieldWrites::writing))]
+    fn emit(&self, encoder: &mut BinEncoder<'_>) -> Result<(), ProtoError> {
+        encoder.emit_u8(self.flags())?;
+        encoder.emit_character_data(self.tag.as_slice())?;
+        encoder.emit_vec(self.value.as_slice())?;
+        Ok(())
+    }
+}
+
+impl PartialEq for CAA {
+    ghost use Rattle.std.specs.Cmp.{partial_equiv_from_equiv, on_equiv};
+    ghost use Rattle.dns_fields.specs.Equal.{values_eq, values_equiv};
+
+    ghost eq = { λ a b. values_eq caa_key_shape (caa_keys a) (caa_keys b) };
+
+    ghost laws = { partial_equiv_from_equiv (on_equiv caa_keys (values_equiv caa_key_shape)) };
+
+    fn eq(&self, other: &CAA) -> bool {
+        self.issuer_critical == other.issuer_critical
+            && self.reserved_flags == other.reserved_flags
+            && self.tag == other.tag
+            && self.value == other.value
+    }
+}
+
+impl Eq for CAA {
+    ghost use Rattle.std.specs.Cmp.{on_equiv};
+    ghost use Rattle.dns_fields.specs.Equal.{values_equiv};
+
+    ghost laws = { on_equiv caa_keys (values_equiv caa_key_shape) };
+}
+
+impl Clone for CAA {
+    ghost is_clone = { λ a b. b ≡ a };
+
+    /// The same fields, tag and value in memory of their own.
+    fn clone(&self) -> Result<CAA, AllocError>
+        ensures { IfOk result (λ copy. copy ≡ self.now) }
+    {
+        Ok(CAA {
+            issuer_critical: self.issuer_critical,
+            reserved_flags: self.reserved_flags,
+            tag: self.tag.clone()?,
+            value: self.value.clone()?,
+        })
+    }
+}
+
+impl fmt::Display for CAA {
+    ghost use Rattle.std.specs.Prelude.{Some};
+    ghost use Rattle.dns_rdata_sets.specs.CAA.{caa_text};
+
+    ghost output = { λ x. Some (caa_text x) };
+
+    /// The flags in decimal, the tag, and the value in quotes: `128 issue ";"`. U+FFFD stands for octets that are not
+    /// UTF-8.
+    #[tactic(auto, unfolding(dns_rdata_base::specs::Lossy::lossy))]
+    fn fmt<W: fmt::Write>(&self, f: &mut fmt::Formatter<W>) -> fmt::Result {
+        let tag = BStr::new(self.tag.as_slice());
+        let value = BStr::new(self.value.as_slice());
+        write!(f, "{} {tag} \"{value}\"", self.flags())
+    }
+}
