@@ -19,6 +19,8 @@ use Rattle.dns_rdata_certs.specs.SMIMEA.{smimea_shape, smimea_fields, smimea_key
 use Rattle.dns_rdata_certs.specs.SSHFP.{sshfp_shape, sshfp_fields, sshfp_key_shape, sshfp_keys}
 use Rattle.dns_rdata_certs.specs.TLSA.{tlsa_shape, tlsa_fields, tlsa_key_shape, tlsa_keys}
 use Rattle.dns_rdata_certs.proofs.Values.{cert_from, cert_from-fields, cert_fields-from, cert_from-read, cert_keys-same, smimea_from, smimea_from-fields, smimea_fields-from, smimea_from-read, smimea_keys-same, sshfp_from, sshfp_from-fields, sshfp_fields-from, sshfp_from-read, sshfp_keys-same, tlsa_from, tlsa_from-fields, tlsa_fields-from, tlsa_from-read, tlsa_keys-same}
+use Rattle.dns_rdata_sets.specs.CAA.{caa_shape, caa_fields, caa_key_shape, caa_keys}
+use Rattle.dns_rdata_sets.proofs.CaaValues.{caa_from, caa_from-fields, caa_fields-from, caa_from-read, caa_keys-same}
 use Rattle.dns_rdata.specs.declared.record_data.RData.{RData}
 use Rattle.dns_rdata.specs.declared.record_data.RData.TheVariants as rdata
 use Rattle.dns_rdata.specs.Data.{shape, condition, FieldsOf, fields_of, type_of, IsPlain, IsValue}
@@ -77,6 +79,7 @@ pub value_for : (t : RecordType) → Values (shape t) → RData
 value_for types.A vs = rdata.A (record { 0 = record { octets = vs.0 } })
 value_for types.AAAA vs = rdata.AAAA (record { 0 = record { segments = segments_of vs.0 } })
 value_for types.ANAME vs = rdata.ANAME (record { 0 = vs.0 })
+value_for types.CAA vs = rdata.CAA (caa_from vs)
 value_for types.CERT vs = rdata.CERT (cert_from vs)
 value_for types.CNAME vs = rdata.CNAME (record { 0 = vs.0 })
 value_for types.HINFO vs = rdata.HINFO (record { cpu = vs.0; os = vs.1.0 })
@@ -106,6 +109,7 @@ unfolding from_fields value_for values_as value_as
 plain_value (rdata.A x) h = refl
 plain_value (rdata.AAAA x) h = ap (λ (s : List ℕ). rdata.AAAA (record { 0 = record { segments = s } })) (sym (segments_of-octets_of x.0.segments))
 plain_value (rdata.ANAME x) h = refl
+plain_value (rdata.CAA x) h = ap rdata.CAA (caa_from-fields x h)
 plain_value (rdata.CERT x) h = ap rdata.CERT (cert_from-fields x h)
 plain_value (rdata.CNAME x) h = refl
 plain_value (rdata.HINFO x) h = refl
@@ -124,6 +128,7 @@ plain_value (rdata.TXT x) h = refl
 plain_value (rdata.Unknown types.A x) h = absurd h
 plain_value (rdata.Unknown types.AAAA x) h = absurd h
 plain_value (rdata.Unknown types.ANAME x) h = absurd h
+plain_value (rdata.Unknown types.CAA x) h = absurd h
 plain_value (rdata.Unknown types.CERT x) h = absurd h
 plain_value (rdata.Unknown types.CNAME x) h = absurd h
 plain_value (rdata.Unknown types.HINFO x) h = absurd h
@@ -170,6 +175,9 @@ window_value m p n types.AAAA vs w =
     let e : octets_of (segments_of vs.0) ≡ vs.0 = octets_of-segments 8 vs.0 w.stands.1.is.0 (AreOctets-at m p vs.0 w.stands.0 w.octets w.stands.1.is.1) in
     record { type = refl; fields = of_kinds (Octets 16 ∷ []) (ap (λ (o : List ℕ). (o, tt)) e); plain = tt }
 window_value m p n types.ANAME vs w = record { type = refl; fields = refl; plain = tt }
+window_value m p n types.CAA vs w =
+    let f = stands_fit m p caa_shape vs (p + n) w.stands in
+    record { type = refl; fields = of_kinds caa_shape (caa_fields-from vs f); plain = caa_from-read vs }
 window_value m p n types.CERT vs w = record { type = refl; fields = of_kinds cert_shape (cert_fields-from vs); plain = cert_from-read vs }
 window_value m p n types.CNAME vs w = record { type = refl; fields = refl; plain = tt }
 window_value m p n types.HINFO vs w = record { type = refl; fields = refl; plain = tt }
@@ -221,6 +229,7 @@ unfolding value_for values_as value_as
 equal_values types.A vs ws h = and_true (values_eq (shape types.A) (vs.0, tt) (ws.0, tt))
 equal_values types.AAAA vs ws h = and_true _
 equal_values types.ANAME vs ws h = and_true _
+equal_values types.CAA vs ws h = and_true _ ∙ equal_keys caa_key_shape caa_shape (caa_keys (caa_from vs)) (caa_keys (caa_from ws)) (caa_fields (caa_from vs)) (caa_fields (caa_from ws)) (tt, (tt, (tt, (tt, tt)))) (tt, (tt, (tt, (tt, tt)))) (tt, (tt, (tt, tt))) (tt, (tt, (tt, tt))) (caa_keys-same (caa_from vs) (caa_from ws) (caa_from-read vs) (caa_from-read ws))
 equal_values types.CERT vs ws h = and_true _ ∙ equal_keys cert_key_shape cert_shape (cert_keys (cert_from vs)) (cert_keys (cert_from ws)) (cert_fields (cert_from vs)) (cert_fields (cert_from ws)) (tt, (tt, (tt, (tt, (tt, (tt, tt)))))) (tt, (tt, (tt, (tt, (tt, (tt, tt)))))) (tt, (tt, (tt, (tt, tt)))) (tt, (tt, (tt, (tt, tt)))) (cert_keys-same (cert_from vs) (cert_from ws) (cert_from-read vs) (cert_from-read ws))
 equal_values types.CNAME vs ws h = and_true _
 equal_values types.HINFO vs ws h = and_true _

@@ -23,6 +23,7 @@ use Rattle.dns_rdata_base.specs.SRV.{srv_shape, srv_fields}
 use Rattle.dns_rdata_certs.specs.SSHFP.{sshfp_shape, sshfp_fields, IsReadSshfp}
 use Rattle.dns_rdata_certs.specs.TLSA.{tlsa_shape, tlsa_fields, IsReadTlsa}
 use Rattle.dns_rdata_base.specs.TXT.{txt_shape, txt_fields}
+use Rattle.dns_rdata_sets.specs.CAA.{caa_shape, caa_fields, caa_condition, IsReadCaa}
 use Rattle.dns_rdata.specs.declared.record_data.RData.{RData}
 use Rattle.dns_rdata.specs.declared.record_data.RData.TheVariants as rdata
 
@@ -31,6 +32,7 @@ abbrev pub shape : RecordType → List Kind
 shape types.A = a_shape
 shape types.AAAA = aaaa_shape
 shape types.ANAME = name_shape
+shape types.CAA = caa_shape
 shape types.CERT = cert_shape
 shape types.CNAME = name_shape
 shape types.HINFO = hinfo_shape
@@ -56,6 +58,7 @@ shape t = Rest ∷ []
 abbrev pub condition : (t : RecordType) → Values (shape t) → Type 0
 condition types.CERT vs = cert_condition vs
 condition types.NAPTR vs = naptr_condition vs
+condition types.CAA vs = caa_condition vs
 condition types.ANY vs = ⊥
 condition types.AXFR vs = ⊥
 condition types.IXFR vs = ⊥
@@ -70,6 +73,7 @@ abbrev pub fields_of : RData → FieldsOf
 fields_of (rdata.A x) = record { kinds = a_shape; values = a_fields x }
 fields_of (rdata.AAAA x) = record { kinds = aaaa_shape; values = aaaa_fields x }
 fields_of (rdata.ANAME x) = record { kinds = name_shape; values = aname_fields x }
+fields_of (rdata.CAA x) = record { kinds = caa_shape; values = caa_fields x }
 fields_of (rdata.CERT x) = record { kinds = cert_shape; values = cert_fields x }
 fields_of (rdata.CNAME x) = record { kinds = name_shape; values = cname_fields x }
 fields_of (rdata.HINFO x) = record { kinds = hinfo_shape; values = hinfo_fields x }
@@ -93,6 +97,7 @@ abbrev pub type_of : RData → RecordType
 type_of (rdata.A x) = types.A
 type_of (rdata.AAAA x) = types.AAAA
 type_of (rdata.ANAME x) = types.ANAME
+type_of (rdata.CAA x) = types.CAA
 type_of (rdata.CERT x) = types.CERT
 type_of (rdata.CNAME x) = types.CNAME
 type_of (rdata.HINFO x) = types.HINFO
@@ -117,6 +122,7 @@ abbrev pub IsRowless : RecordType → Type 0
 IsRowless types.A = ⊥
 IsRowless types.AAAA = ⊥
 IsRowless types.ANAME = ⊥
+IsRowless types.CAA = ⊥
 IsRowless types.CERT = ⊥
 IsRowless types.CNAME = ⊥
 IsRowless types.HINFO = ⊥
@@ -148,6 +154,7 @@ IsPlain (rdata.SMIMEA x) = IsReadSmimea x
 IsPlain (rdata.SSHFP x) = IsReadSshfp x
 IsPlain (rdata.TLSA x) = IsReadTlsa x
 IsPlain (rdata.SOA x) = HasSeconds x
+IsPlain (rdata.CAA x) = IsReadCaa x
 IsPlain v = Unit {0}
 
 -- v is the value of the type with these fields

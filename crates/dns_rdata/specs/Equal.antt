@@ -26,6 +26,7 @@ use Rattle.dns_rdata_base.specs.declared.srv.SRV.{SRV}
 use Rattle.dns_rdata_certs.specs.declared.sshfp.SSHFP.{SSHFP}
 use Rattle.dns_rdata_certs.specs.declared.tlsa.TLSA.{TLSA}
 use Rattle.dns_rdata_base.specs.declared.txt.TXT.{TXT}
+use Rattle.dns_rdata_sets.specs.declared.caa.CAA.{CAA}
 use Rattle.dns_rdata_base.specs.A.{a_shape, a_fields}
 use Rattle.dns_rdata_base.specs.AAAA.{aaaa_shape, aaaa_fields}
 use Rattle.dns_rdata_base.specs.NameRecords.{name_shape, aname_fields, cname_fields, ns_fields, ptr_fields}
@@ -41,6 +42,7 @@ use Rattle.dns_rdata_base.specs.SRV.{srv_shape, srv_fields}
 use Rattle.dns_rdata_certs.specs.SSHFP.{sshfp_key_shape, sshfp_keys}
 use Rattle.dns_rdata_certs.specs.TLSA.{tlsa_key_shape, tlsa_keys}
 use Rattle.dns_rdata_base.specs.TXT.{txt_shape, txt_fields}
+use Rattle.dns_rdata_sets.specs.CAA.{caa_key_shape, caa_keys}
 use Rattle.dns_rdata.specs.declared.record_data.RData.{RData}
 use Rattle.dns_rdata.specs.declared.record_data.RData.TheVariants as rdata
 
@@ -56,6 +58,10 @@ as_aaaa v = None
 abbrev pub as_aname : RData → Option ANAME
 as_aname (rdata.ANAME x) = Some x
 as_aname v = None
+
+abbrev pub as_caa : RData → Option CAA
+as_caa (rdata.CAA x) = Some x
+as_caa v = None
 
 abbrev pub as_cert : RData → Option CERT
 as_cert (rdata.CERT x) = Some x
@@ -138,6 +144,9 @@ aaaa_eq = on aaaa_fields (values_eq aaaa_shape)
 abbrev pub aname_eq : ANAME → ANAME → Bool
 aname_eq = on aname_fields (values_eq name_shape)
 
+abbrev pub caa_eq : CAA → CAA → Bool
+caa_eq = on caa_keys (values_eq caa_key_shape)
+
 abbrev pub cert_eq : CERT → CERT → Bool
 cert_eq = on cert_keys (values_eq cert_key_shape)
 
@@ -192,6 +201,7 @@ equal =
     eq_of_both (on as_a (option_eq a_eq))
     (eq_of_both (on as_aaaa (option_eq aaaa_eq))
     (eq_of_both (on as_aname (option_eq aname_eq))
+    (eq_of_both (on as_caa (option_eq caa_eq))
     (eq_of_both (on as_cert (option_eq cert_eq))
     (eq_of_both (on as_cname (option_eq cname_eq))
     (eq_of_both (on as_hinfo (option_eq hinfo_eq))
@@ -209,13 +219,14 @@ equal =
     (eq_of_both (on as_txt (option_eq txt_eq))
     (eq_of_both (on as_unknown_code (option_eq record_type_eq))
     (eq_of_both (on as_unknown (option_eq null_eq))
-    (on as_update (option_eq record_type_eq)))))))))))))))))))))
+    (on as_update (option_eq record_type_eq))))))))))))))))))))))
 
 pub equal_equiv : IsEquivalence equal
 equal_equiv =
     and_equiv (on_equiv as_a (options_equiv (on_equiv a_fields (values_equiv a_shape))))
     (and_equiv (on_equiv as_aaaa (options_equiv (on_equiv aaaa_fields (values_equiv aaaa_shape))))
     (and_equiv (on_equiv as_aname (options_equiv (on_equiv aname_fields (values_equiv name_shape))))
+    (and_equiv (on_equiv as_caa (options_equiv (on_equiv caa_keys (values_equiv caa_key_shape))))
     (and_equiv (on_equiv as_cert (options_equiv (on_equiv cert_keys (values_equiv cert_key_shape))))
     (and_equiv (on_equiv as_cname (options_equiv (on_equiv cname_fields (values_equiv name_shape))))
     (and_equiv (on_equiv as_hinfo (options_equiv (on_equiv hinfo_fields (values_equiv hinfo_shape))))
@@ -233,4 +244,4 @@ equal_equiv =
     (and_equiv (on_equiv as_txt (options_equiv (on_equiv txt_fields (values_equiv txt_shape))))
     (and_equiv (on_equiv as_unknown_code (options_equiv type_laws.laws-law))
     (and_equiv (on_equiv as_unknown (options_equiv (on_equiv null_fields (values_equiv null_shape))))
-    (on_equiv as_update (options_equiv type_laws.laws-law)))))))))))))))))))))
+    (on_equiv as_update (options_equiv type_laws.laws-law))))))))))))))))))))))

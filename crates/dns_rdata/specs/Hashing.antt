@@ -43,10 +43,12 @@ use Rattle.dns_rdata_certs.specs.contracts.tlsa.TLSAHash.TheImpl as tlsa_hash
 use Rattle.dns_rdata_certs.specs.contracts.tlsa.TLSAHash.TheImpl.Laws as tlsa_hash_laws
 use Rattle.dns_rdata_base.specs.contracts.txt.TXTHash.TheImpl as txt_hash
 use Rattle.dns_rdata_base.specs.contracts.txt.TXTHash.TheImpl.Laws as txt_hash_laws
+use Rattle.dns_rdata_sets.specs.contracts.caa.CAAHash.TheImpl as caa_hash
+use Rattle.dns_rdata_sets.specs.contracts.caa.CAAHash.TheImpl.Laws as caa_hash_laws
 use Rattle.dns_rdata.specs.declared.record_data.RData.{RData}
 use Rattle.dns_rdata.specs.declared.record_data.RData.TheVariants as rdata
 use Rattle.dns_rdata.specs.Data.{type_of}
-use Rattle.dns_rdata.specs.Equal.{equal, a_eq, aaaa_eq, aname_eq, cert_eq, cname_eq, hinfo_eq, mx_eq, naptr_eq, null_eq, ns_eq, openpgpkey_eq, ptr_eq, smimea_eq, soa_eq, srv_eq, sshfp_eq, tlsa_eq, txt_eq, record_type_eq}
+use Rattle.dns_rdata.specs.Equal.{equal, a_eq, aaaa_eq, aname_eq, caa_eq, cert_eq, cname_eq, hinfo_eq, mx_eq, naptr_eq, null_eq, ns_eq, openpgpkey_eq, ptr_eq, smimea_eq, soa_eq, srv_eq, sshfp_eq, tlsa_eq, txt_eq, record_type_eq}
 
 abbrev pub type_fed : RecordType → HashWrites
 type_fed = type_hash.ghosts.hash_input
@@ -56,6 +58,7 @@ abbrev pub data_fed : RData → HashWrites
 data_fed (rdata.A x) = type_fed types.A ++ a_hash.ghosts.hash_input x
 data_fed (rdata.AAAA x) = type_fed types.AAAA ++ aaaa_hash.ghosts.hash_input x
 data_fed (rdata.ANAME x) = type_fed types.ANAME ++ aname_hash.ghosts.hash_input x
+data_fed (rdata.CAA x) = type_fed types.CAA ++ caa_hash.ghosts.hash_input x
 data_fed (rdata.CERT x) = type_fed types.CERT ++ cert_hash.ghosts.hash_input x
 data_fed (rdata.CNAME x) = type_fed types.CNAME ++ cname_hash.ghosts.hash_input x
 data_fed (rdata.HINFO x) = type_fed types.HINFO ++ hinfo_hash.ghosts.hash_input x
@@ -82,6 +85,8 @@ fed_same (rdata.AAAA x) (rdata.AAAA y) h = ap (λ (f : HashWrites). type_fed typ
 fed_same (rdata.AAAA x) w h = absurd (true≢false (sym h))
 fed_same (rdata.ANAME x) (rdata.ANAME y) h = ap (λ (f : HashWrites). type_fed types.ANAME ++ f) (aname_hash_laws.respects_eq-law x y (first_so (aname_eq x y) true h))
 fed_same (rdata.ANAME x) w h = absurd (true≢false (sym h))
+fed_same (rdata.CAA x) (rdata.CAA y) h = ap (λ (f : HashWrites). type_fed types.CAA ++ f) (caa_hash_laws.respects_eq-law x y (first_so (caa_eq x y) true h))
+fed_same (rdata.CAA x) w h = absurd (true≢false (sym h))
 fed_same (rdata.CERT x) (rdata.CERT y) h = ap (λ (f : HashWrites). type_fed types.CERT ++ f) (cert_hash_laws.respects_eq-law x y (first_so (cert_eq x y) true h))
 fed_same (rdata.CERT x) w h = absurd (true≢false (sym h))
 fed_same (rdata.CNAME x) (rdata.CNAME y) h = ap (λ (f : HashWrites). type_fed types.CNAME ++ f) (cname_hash_laws.respects_eq-law x y (first_so (cname_eq x y) true h))

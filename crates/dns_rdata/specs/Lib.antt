@@ -29,3 +29,4 @@ pub use Rattle.dns_rdata_base.specs.SRV
 pub use Rattle.dns_rdata_certs.specs.SSHFP
 pub use Rattle.dns_rdata_certs.specs.TLSA
 pub use Rattle.dns_rdata_base.specs.TXT
+pub use Rattle.dns_rdata_sets.specs.CAA

@@ -15,6 +15,7 @@ use Rattle.dns_rdata_base.specs.SRV.{srv_text}
 use Rattle.dns_rdata_certs.specs.SSHFP.{sshfp_text}
 use Rattle.dns_rdata_certs.specs.TLSA.{tlsa_text}
 use Rattle.dns_rdata_base.specs.TXT.{txt_text}
+use Rattle.dns_rdata_sets.specs.CAA.{caa_text}
 use Rattle.dns_rdata.specs.declared.record_data.RData.{RData}
 use Rattle.dns_rdata.specs.declared.record_data.RData.TheVariants as rdata
 
@@ -22,6 +23,7 @@ abbrev pub data_text : RData → List ℕ
 data_text (rdata.A x) = a_text x
 data_text (rdata.AAAA x) = aaaa_text x
 data_text (rdata.ANAME x) = aname_text x
+data_text (rdata.CAA x) = caa_text x
 data_text (rdata.CERT x) = cert_text x
 data_text (rdata.CNAME x) = cname_text x
 data_text (rdata.HINFO x) = hinfo_text x

@@ -13,6 +13,7 @@ use dns_rdata_base::{
     SRV, TXT,
 };
 use dns_rdata_certs::{CERT, SMIMEA, SSHFP, TLSA};
+use dns_rdata_sets::CAA;
 use std::alloc::AllocError;
 use std::fmt;
 use std::hash::{Hash, Hasher};
@@ -27,6 +28,8 @@ pub enum RData {
     AAAA(AAAA),
     /// The name whose addresses the owner has.
     ANAME(ANAME),
+    /// A property of a domain's issuers of certificates.
+    CAA(CAA),
     /// A certificate.
     CERT(CERT),
     /// The canonical name of an alias.
@@ -82,6 +85,7 @@ impl RData {
             RData::A(_) => RecordType::A,
             RData::AAAA(_) => RecordType::AAAA,
             RData::ANAME(_) => RecordType::ANAME,
+            RData::CAA(_) => RecordType::CAA,
             RData::CERT(_) => RecordType::CERT,
             RData::CNAME(_) => RecordType::CNAME,
             RData::HINFO(_) => RecordType::HINFO,
@@ -130,6 +134,7 @@ impl RData {
             RecordType::A => Ok(RData::A(A::read_data(decoder, length)?)),
             RecordType::AAAA => Ok(RData::AAAA(AAAA::read_data(decoder, length)?)),
             RecordType::ANAME => Ok(RData::ANAME(ANAME::read_data(decoder, length)?)),
+            RecordType::CAA => Ok(RData::CAA(CAA::read_data(decoder, length)?)),
             RecordType::CERT => Ok(RData::CERT(CERT::read_data(decoder, length)?)),
             RecordType::CNAME => Ok(RData::CNAME(CNAME::read_data(decoder, length)?)),
             RecordType::HINFO => Ok(RData::HINFO(HINFO::read_data(decoder, length)?)),
@@ -157,6 +162,7 @@ impl RData {
             }),
         }
     }
+
     /// Reads the data of a record of this type, which is all of the `length` octets from the decoder's place.
     ///
     /// The type is tested first (of ANY, AXFR and IXFR no data is read), then memory, then whether the octets that were
@@ -244,6 +250,7 @@ impl RData {
             RData::A(a) => a.emit(encoder),
             RData::AAAA(a) => a.emit(encoder),
             RData::ANAME(rdata) => rdata.emit(encoder),
+            RData::CAA(rdata) => rdata.emit(encoder),
             RData::CERT(rdata) => rdata.emit(encoder),
             RData::CNAME(rdata) => rdata.emit(encoder),
             RData::HINFO(rdata) => rdata.emit(encoder),
@@ -276,6 +283,7 @@ impl RData {
             (RData::A(a), RData::A(b)) => a == b,
             (RData::AAAA(a), RData::AAAA(b)) => a == b,
             (RData::ANAME(a), RData::ANAME(b)) => a == b,
+            (RData::CAA(a), RData::CAA(b)) => a == b,
             (RData::CERT(a), RData::CERT(b)) => a == b,
             (RData::CNAME(a), RData::CNAME(b)) => a == b,
             (RData::HINFO(a), RData::HINFO(b)) => a == b,
@@ -344,6 +352,7 @@ impl Hash for RData {
             RData::A(a) => a.hash(state),
             RData::AAAA(a) => a.hash(state),
             RData::ANAME(rdata) => rdata.hash(state),
+            RData::CAA(rdata) => rdata.hash(state),
             RData::CERT(rdata) => rdata.hash(state),
             RData::CNAME(rdata) => rdata.hash(state),
             RData::HINFO(rdata) => rdata.hash(state),
@@ -376,6 +385,7 @@ impl Clone for RData {
             RData::A(a) => RData::A(*a),
             RData::AAAA(a) => RData::AAAA(*a),
             RData::ANAME(rdata) => RData::ANAME(rdata.clone()?),
+            RData::CAA(rdata) => RData::CAA(rdata.clone()?),
             RData::CERT(rdata) => RData::CERT(rdata.clone()?),
             RData::CNAME(rdata) => RData::CNAME(rdata.clone()?),
             RData::HINFO(rdata) => RData::HINFO(rdata.clone()?),
@@ -412,6 +422,7 @@ impl fmt::Display for RData {
             RData::A(a) => write!(f, "{a}"),
             RData::AAAA(a) => write!(f, "{a}"),
             RData::ANAME(rdata) => write!(f, "{rdata}"),
+            RData::CAA(rdata) => write!(f, "{rdata}"),
             RData::CERT(rdata) => write!(f, "{rdata}"),
             RData::CNAME(rdata) => write!(f, "{rdata}"),
             RData::HINFO(rdata) => write!(f, "{rdata}"),

@@ -6,6 +6,7 @@ use dns_rdata_base::{
     A, AAAA, ANAME, CNAME, HINFO, MX, NAPTR, NS, NULL, OPENPGPKEY, PTR, SOA, SRV, TXT,
 };
 use dns_rdata_certs::{CERT, SMIMEA, SSHFP, TLSA};
+use dns_rdata_sets::CAA;
 
 /// The data of records of one kind, as a part of [`RData`].
 pub trait RecordData: Sized {
@@ -146,6 +147,42 @@ impl RecordData for ANAME {
 
     fn into_rdata(self) -> RData {
         RData::ANAME(self)
+    }
+
+    fn is_update(&self) -> bool {
+        false
+    }
+}
+
+impl RecordData for CAA {
+    ghost use Rattle.dns_rdata.specs.Equal.{as_caa};
+    ghost use Rattle.dns_rdata.specs.declared.record_data.RData.TheVariants as rdata;
+    ghost use Rattle.dns_types.specs.declared.record_type.RecordType.TheVariants as types;
+    ghost use Rattle.std.proofs.Common.{rules};
+
+    ghost wrapped = { λ x. rdata.CAA x };
+
+    ghost borrowed = { as_caa };
+
+    ghost kind = { λ _. types.CAA };
+
+    ghost updates = { λ _. ⊥ };
+
+    ghost exactly = { Prim.search rules };
+
+    fn try_borrow(rdata: &RData) -> Option<&CAA> {
+        match rdata {
+            RData::CAA(rdata) => Some(rdata),
+            _ => None,
+        }
+    }
+
+    fn record_type(&self) -> RecordType {
+        RecordType::CAA
+    }
+
+    fn into_rdata(self) -> RData {
+        RData::CAA(self)
     }
 
     fn is_update(&self) -> bool {

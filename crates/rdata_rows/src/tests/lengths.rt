@@ -4,11 +4,12 @@ use dns_rdata::RecordType;
 // A type, its data, and from how many octets on the first of them are data too.
 type Sample = (RecordType, &'static [u8], Option<usize>);
 
-fn samples() -> [Sample; 18] {
+fn samples() -> [Sample; 19] {
     [
         (RecordType::A, b"\x01\x02\x03\x04", None),
         (RecordType::AAAA, b"0123456789abcdef", None),
         (RecordType::ANAME, b"\x01a\x00", None),
+        (RecordType::CAA, b"\x00\x05issueab", Some(7)),
         (RecordType::CERT, b"\x00\x01\x30\x39\x08AQ", Some(6)),
         (RecordType::CNAME, b"\x01a\x00", None),
         (RecordType::HINFO, b"\x03cpu\x02os", None),

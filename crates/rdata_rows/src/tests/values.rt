@@ -9,7 +9,7 @@ use std::test::Fail;
 // A type, its data, and the text of it.
 type Sample = (RecordType, &'static [u8], &'static str);
 
-fn samples() -> [Sample; 22] {
+fn samples() -> [Sample; 23] {
     [
         (RecordType::A, b"\xc0\x00\x02\x21", "192.0.2.33"),
         (
@@ -23,6 +23,11 @@ fn samples() -> [Sample; 22] {
             "::ffff:1.2.3.4",
         ),
         (RecordType::ANAME, b"\x01b\x00", "b."),
+        (
+            RecordType::CAA,
+            b"\x80\x05issue; a=1",
+            "128 issue \"; a=1\"",
+        ),
         (
             RecordType::CERT,
             b"\x00\x01\x30\x39\x08AQID",

@@ -10,6 +10,9 @@ returns-in-AAAA c = emits_at _ _ _ _ _ c.in-AAAA.is c.emit-in-AAAA.ensures.emits
 pub returns-in-ANAME : goal.returns-in-ANAME
 returns-in-ANAME c = emits_at _ _ _ _ _ c.in-ANAME.is c.emit-in-ANAME.ensures.emits
 
+pub returns-in-CAA : goal.returns-in-CAA
+returns-in-CAA c = emits_at _ _ _ _ _ c.in-CAA.is c.emit-in-CAA.ensures.emits
+
 pub returns-in-CERT : goal.returns-in-CERT
 returns-in-CERT c = emits_at _ _ _ _ _ c.in-CERT.is c.emit-in-CERT.ensures.emits
 
