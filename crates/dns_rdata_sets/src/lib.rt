@@ -1,3 +1,8 @@
 //! The data of DNS records with sets of record types and with properties of a zone's issuers: CSYNC, CAA.
 #![tactic(auto)]
 
+pub mod record_type_set;
+#[cfg(test)]
+mod tests;
+
+pub use record_type_set::RecordTypeSet;
