@@ -1,2 +1,4 @@
 pub mod Numbers
 pub mod Blocks
+pub mod Windows
+pub mod SetWrites

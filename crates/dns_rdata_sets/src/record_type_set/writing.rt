@@ -2,6 +2,7 @@
 
 ghost use Rattle.std.specs.Prelude.{◌≡◌, ◌≢◌, ◌+◌, ◌-◌, ◌*◌, ◌/◌, ◌%◌, ◌<◌, ◌≤◌, ◌==◌, ℕ, if◌then◌else◌, length, take, slice_index};
 ghost use Rattle.std.specs.Int.{bit_at};
+ghost use Rattle.dns_fields.specs.Octets.{AreOctets};
 ghost use Rattle.dns_fields.specs.Bitmaps.{IsTypeSet, Rises, mark, window};
 ghost use Rattle.dns_fields.specs.Fields.{Bitmap};
 ghost use Rattle.dns_names_wire.specs.Words.{Emits, EmitsField};
@@ -44,12 +45,23 @@ fn emit_block(encoder: &mut BinEncoder<'_>, run: &[u16]) -> Result<(), ProtoErro
     requires some { 0 < length run.now }
     requires rises { Rises run.now }
     requires run { AreOfWindow (slice_index run.now 0 / 256) run.now }
-    ensures { Emits block_shape (block_fields (slice_index run.now 0 / 256, window run.now (slice_index run.now 0 / 256))) result encoder.old encoder.new }
+    ensures some { 0 < length (window run.now (slice_index run.now 0 / 256)) }
+    ensures few { length (window run.now (slice_index run.now 0 / 256)) ≤ 32 }
+    ensures emits { Emits block_shape (block_fields (slice_index run.now 0 / 256, window run.now (slice_index run.now 0 / 256))) result encoder.old encoder.new }
 {
     let number = (run[0] / 256) as u8;
     let len = run[run.len() - 1] as usize % 256 / 8 + 1;
     let octets = window_octets(run);
-    emit_parts(encoder, number, &octets[..len])
+    emit_parts(encoder, number, &as_octets(&octets)[..len])
+}
+
+// The slice as it is, with what its type says of each item.
+#[inline]
+fn as_octets(octets: &[u8]) -> &[u8]
+    ensures value { result.now ≡ octets.now }
+    ensures octets { AreOctets octets.now }
+{
+    octets
 }
 
 // Appends a block of these parts.
