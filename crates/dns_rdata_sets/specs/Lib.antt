@@ -1,1 +1,2 @@
+pub mod CSYNC
 pub mod RecordTypeSet

@@ -1,8 +1,10 @@
 //! The data of DNS records with sets of record types and with properties of a zone's issuers: CSYNC, CAA.
 #![tactic(auto)]
 
+pub mod csync;
 pub mod record_type_set;
 #[cfg(test)]
 mod tests;
 
+pub use csync::CSYNC;
 pub use record_type_set::RecordTypeSet;
