@@ -2,3 +2,5 @@ pub mod Numbers
 pub mod Blocks
 pub mod Windows
 pub mod SetWrites
+pub mod Flags
+pub mod CsyncReads
