@@ -1,2 +1,8 @@
 mod CaaReads
 pub mod CaaValues
+pub mod Numbers
+pub mod Blocks
+pub mod Windows
+pub mod SetWrites
+pub mod Flags
+pub mod CsyncReads

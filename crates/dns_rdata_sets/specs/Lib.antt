@@ -1,1 +1,3 @@
 pub mod CAA
+pub mod CSYNC
+pub mod RecordTypeSet

@@ -2,5 +2,11 @@
 #![tactic(auto)]
 
 pub mod caa;
+pub mod csync;
+pub mod record_type_set;
+#[cfg(test)]
+mod tests;
 
 pub use caa::CAA;
+pub use csync::CSYNC;
+pub use record_type_set::RecordTypeSet;

@@ -1,0 +1,21 @@
+use Rattle.std.proofs.Common.{◌≡◌, ◌+◌, arith}
+use Rattle.std.proofs.lemmas.Result.{err_from_is_err_and}
+use Rattle.dns_names_wire.proofs.FieldReads.{took_number}
+use Rattle.dns_rdata_sets.proofs.CsyncReads.{types_refused, types_refusal}
+use Rattle.dns_rdata_sets.proofs.csync.CSYNC.read_filled.Goals as goal
+
+pub returns-in_err-type_bit_maps-clause-fields : goal.returns-in_err-type_bit_maps-clause-fields
+returns-in_err-type_bit_maps-clause-fields c =
+    let p = err_from_is_err_and c.from_residual-in_err-type_bit_maps.result c.from_residual-in_err-type_bit_maps.ensures.1 in
+    let f = c.in_ok-read_u32.ensures.taken in
+    let g = c.in_ok-read_u16.ensures.taken in
+    let all : c.new.result + 6 ≡ c.args.length = omega (arith, took_number f, took_number g) in
+    rw (p.1, p.2) (types_refused c.new.result c.args.length f g all c.in_err-type_bit_maps.ensures.fields)
+
+pub returns-in_err-type_bit_maps-clause-refused : goal.returns-in_err-type_bit_maps-clause-refused
+returns-in_err-type_bit_maps-clause-refused c =
+    let p = err_from_is_err_and c.from_residual-in_err-type_bit_maps.result c.from_residual-in_err-type_bit_maps.ensures.1 in
+    let f = c.in_ok-read_u32.ensures.taken in
+    let g = c.in_ok-read_u16.ensures.taken in
+    let all : c.new.result + 6 ≡ c.args.length = omega (arith, took_number f, took_number g) in
+    rw (p.1, p.2) (types_refusal c.new.result c.args.length f g all (rw c.unverified-flags.ensures at c.if-flags-ne0.false) c.in_err-type_bit_maps.ensures.refused)

@@ -1,0 +1,99 @@
+-- Sets of record types: what stands for one, and what their readers and emitters do (RFC 4034, 4.1.2).
+use Rattle.std.specs.Prelude.{◌≡◌, ℕ, ◌+◌, ◌-◌, ◌*◌, ◌/◌, ◌%◌, ◌<◌, ◌==◌, ◌&&◌, ◌||◌, ◌⊎◌, Bool, List, [], ◌∷◌, ◌++◌, length, slice_index}
+use Rattle.std.specs.List.{flat_map, AllByRecursion, list_any}
+use Rattle.std.specs.Int.{bit_at}
+use Rattle.dns_fields.specs.Bitmaps.{Block, block, IsBlock, has_type, contains, IsTypeSet, BitmapAt, window}
+use Rattle.dns_fields.specs.Fields.{Kind, Bitmap, Number, Octets, Rest, Values}
+use Rattle.dns_types.specs.declared.error.DecodeError.{DecodeError}
+use Rattle.dns_types.specs.declared.error.DecodeError.TheVariants as decode
+use Rattle.dns_names_wire.specs.State.{Reading}
+use Rattle.dns_names_wire.specs.Words.{LacksOctets, StaysBehind}
+
+-- v is the set of these numbers
+pub record IsSetOf (numbers v : List ℕ) : Type 0 where
+  pub set : IsTypeSet v
+  pub same : (t : ℕ) → contains t v ≡ contains t numbers
+
+-- a bitmap alone
+abbrev pub set_shape : List Kind
+set_shape = Bitmap ∷ []
+
+abbrev pub set_fields : List ℕ → Values set_shape
+set_fields v = (v, tt)
+
+-- ---- reading
+
+-- the octets from p to q are no bitmap
+pub record IsNoBitmap (m : List ℕ) (p q : ℕ) : Type 0 where
+  pub none : (v : List ℕ) → BitmapAt m p v q → ⊥
+
+-- n octets are missing, and none is taken
+pub record CutBitmap (n : ℕ) (old : Reading) (e : DecodeError) (new : Reading) : Type 0 where
+  pub error : e ≡ decode.InsufficientBytes
+  pub lacks : LacksOctets old n
+  pub stays : new ≡ old
+
+-- n octets are there and taken, and they are no bitmap
+pub record WrongBitmap (n : ℕ) (old : Reading) (e : DecodeError) (new : Reading) : Type 0 where
+  pub error : e ≡ decode.BitmapInvalid
+  pub none : IsNoBitmap old.message old.index (old.index + n)
+  pub message : new.message ≡ old.message
+  pub index : new.index ≡ old.index + n
+
+-- n octets are there and taken, and memory for the set runs out
+pub record NoMemoryForSet (n : ℕ) (old : Reading) (e : DecodeError) (new : Reading) : Type 0 where
+  pub error : e ≡ decode.Memory
+  pub message : new.message ≡ old.message
+  pub index : new.index ≡ old.index + n
+
+-- a bitmap of n octets is refused
+abbrev pub bitmap_refusal : ℕ → Reading → DecodeError → Reading → Type 0
+bitmap_refusal n old e new = CutBitmap n old e new ⊎ (WrongBitmap n old e new ⊎ NoMemoryForSet n old e new)
+
+-- ---- its parts
+
+-- new has the numbers of old, and those that the test passes
+pub record Adds (test : ℕ → Bool) (old new : List ℕ) : Type 0 where
+  pub types : (t : ℕ) → contains t new ≡ (contains t old || test t)
+
+-- octet g of all octets has the type's bit: the types 8 g to 8 g + 7, from its highest bit on
+abbrev pub octet_has : ℕ → ℕ → ℕ → Bool
+octet_has g octet t = (t / 8 == g) && (bit_at octet (7 - t % 8) == 1)
+
+-- a block stands in front of the rest, and its types were added
+pub record TookBlock (octets rest : List ℕ) (old new : List ℕ) : Type 0 where
+  pub taken : Block
+  pub is : IsBlock taken
+  pub front : octets ≡ block taken ++ rest
+  pub adds : Adds (λ t. has_type t taken) old new
+
+-- no block stands in front
+pub record NoBlock (octets : List ℕ) : Type 0 where
+  pub none : (b : Block) (rest : List ℕ) → IsBlock b → octets ≡ block b ++ rest → ⊥
+
+-- the octets are blocks, whose types are these numbers
+pub record AreBlocks (octets numbers : List ℕ) : Type 0 where
+  pub blocks : List Block
+  pub fit : AllByRecursion IsBlock blocks
+  pub spelled : octets ≡ flat_map block blocks
+  pub adds : Adds (λ t. list_any (has_type t) blocks) [] numbers
+
+-- they are not
+pub record NoBlocks (octets : List ℕ) : Type 0 where
+  pub none : (blocks : List Block) → AllByRecursion IsBlock blocks → octets ≡ flat_map block blocks → ⊥
+
+abbrev pub block_refusal : DecodeError → Type 0 → Type 0
+block_refusal e wrong = (e ≡ decode.Memory) ⊎ ((e ≡ decode.BitmapInvalid) × wrong)
+
+-- ---- emitting
+
+-- each number is of window k
+abbrev pub AreOfWindow : ℕ → List ℕ → Type 0
+AreOfWindow k numbers = AllByRecursion (λ t. t / 256 ≡ k) numbers
+
+-- a block's number, length and octets
+abbrev pub block_shape : List Kind
+block_shape = Number 1 ∷ Number 1 ∷ Rest ∷ []
+
+abbrev pub block_fields : Block → Values block_shape
+block_fields b = (b.0, (length b.1, (b.1, tt)))

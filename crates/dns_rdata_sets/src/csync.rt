@@ -1,0 +1,212 @@
+//! CSYNC: which records of a child zone its parent copies (RFC 7477, 2.1).
+
+ghost use Rattle.std.specs.Prelude.{◌≡◌, IfErr, IfOk, ◌+◌, OnOk, List, map};
+ghost use Rattle.std.specs.Iterator.{Drains, IsFinite};
+ghost use Rattle.dns_types.specs.RecordTypes.{number_of};
+ghost use Rattle.dns_types.specs.declared.record_type.RecordType.{RecordType as RecordTypeValue};
+ghost use Rattle.dns_names_wire.specs.Words.{ReadsTo, ReadsWindow, Emits};
+ghost use Rattle.dns_rdata_sets.specs.RecordTypeSet.{IsSetOf};
+ghost use Rattle.dns_rdata_sets.specs.CSYNC.{csync_shape, csync_flags, csync_fields, csync_condition, csync_key_shape, csync_keys, IsReadCsync, csync_refusal};
+
+use crate::record_type_set::RecordTypeSet;
+use dns_names_wire::{
+    BinDecoder, BinEncodable, BinEncoder, DecodeError, ProtoError, RecordType, Restrict,
+};
+use dns_rdata_base::RecordDataDecodable;
+use std::alloc::{AllocError, Global};
+use std::fmt;
+
+const IMMEDIATE: u16 = 1;
+const SOA_MINIMUM: u16 = 2;
+// The bits of flags that have no field of their own.
+const RESERVED: u16 = 0xFFFC;
+// Bits that are refused.
+const UNKNOWN: u16 = 0x00FC;
+
+/// What a parent copies from a child zone (RFC 7477, 2.1): a serial in four octets, flags in two, and then a bitmap of
+/// record types to the end of the record's length.
+#[derive(Debug, Drop, Hash)]
+pub struct CSYNC {
+    /// The child's serial, below which nothing is copied where `soa_minimum` is set.
+    pub soa_serial: u32,
+    /// Whether the parent copies without confirmation of another way: bit 0 of the flags.
+    pub immediate: bool,
+    /// Whether the child's serial must not be below `soa_serial`: bit 1 of the flags.
+    pub soa_minimum: bool,
+    /// The other flags. Their two lowest bits are not used.
+    pub reserved_flags: u16,
+    /// The types that are copied.
+    pub type_bit_maps: RecordTypeSet,
+}
+
+impl CSYNC {
+    /// With these fields, no reserved flags, and the set of these types. Fails only for want of memory.
+    pub fn new<I: Iterator<Item = RecordType> + Drop>(
+        alloc: Global,
+        soa_serial: u32,
+        immediate: bool,
+        soa_minimum: bool,
+        types: I,
+    ) -> Result<CSYNC, AllocError>
+        requires can { I.can_next types }
+        requires ends { IsFinite (I.remaining types) }
+        ensures serial { IfOk result (λ x. x.soa_serial ≡ soa_serial) }
+        ensures immediate { IfOk result (λ x. x.immediate ≡ immediate) }
+        ensures soa_minimum { IfOk result (λ x. x.soa_minimum ≡ soa_minimum) }
+        ensures reserved { IfOk result (λ x. x.reserved_flags ≡ 0) }
+        ensures types { IfOk result (λ x. (kinds : List RecordTypeValue)
+            × Drains I.next_gives types kinds × IsSetOf (map number_of kinds) x.type_bit_maps) }
+    {
+        Ok(CSYNC {
+            soa_serial,
+            immediate,
+            soa_minimum,
+            reserved_flags: 0,
+            type_bit_maps: RecordTypeSet::new(alloc, types)?,
+        })
+    }
+
+    /// The flags as a number: those that are reserved without their two lowest bits, and the two that have fields.
+    #[inline]
+    pub fn flags(&self) -> u16
+        ensures { result ≡ csync_flags self.now }
+    {
+        let reserved = self.reserved_flags & RESERVED;
+        reserved + SOA_MINIMUM * u16::from(self.soa_minimum) + IMMEDIATE * u16::from(self.immediate)
+    }
+
+    // With the flags as a number.
+    #[inline]
+    fn with_flags(soa_serial: u32, flags: u16, type_bit_maps: RecordTypeSet) -> CSYNC
+        ensures fields { csync_fields result ≡ (soa_serial, (flags, (type_bit_maps, tt))) }
+        ensures read { IsReadCsync result }
+    {
+        CSYNC {
+            soa_serial,
+            immediate: flags & IMMEDIATE == IMMEDIATE,
+            soa_minimum: flags & SOA_MINIMUM == SOA_MINIMUM,
+            reserved_flags: flags & RESERVED,
+            type_bit_maps,
+        }
+    }
+
+    // Reads the fields that fill the length.
+    #[tactic(auto, using(dns_names_wire::proofs::FieldReads::reading))]
+    fn read_filled(
+        decoder: &mut BinDecoder<'_>,
+        length: Restrict<u16>,
+    ) -> Result<CSYNC, DecodeError>
+        ensures fields { ReadsTo csync_shape csync_condition length csync_fields result decoder.old decoder.new }
+        ensures read { IfOk result IsReadCsync }
+        ensures refused { IfErr result (λ e. csync_refusal length decoder.old e decoder.new) }
+    {
+        let start = decoder.index();
+        let soa_serial = decoder.read_u32()?.unverified();
+        let flags = decoder.read_u16()?.unverified();
+        if flags & UNKNOWN != 0 {
+            return Err(DecodeError::UnrecognizedCsyncFlags(flags));
+        }
+        let read = decoder.index() - start;
+        let len = length.unverified() as usize;
+        if len < read {
+            return Err(DecodeError::IncorrectRDataLengthRead { read, len });
+        }
+        let type_bit_maps = RecordTypeSet::read_data(decoder, Restrict::new((len - read) as u16))?;
+        Ok(CSYNC::with_flags(soa_serial, flags, type_bit_maps))
+    }
+}
+
+impl RecordDataDecodable for CSYNC {
+    ghost kinds = { csync_shape };
+
+    ghost condition = { csync_condition };
+
+    ghost fields = { csync_fields };
+
+    /// Reads serial and flags, and the types to the end of the length. Flags with one of the bits 2 to 7 are refused by
+    /// `UnrecognizedCsyncFlags` as soon as they are taken; then a length below 6, by `IncorrectRDataLengthRead` of 6 and
+    /// the length; then octets that are no bitmap, by `BitmapInvalid`. Where octets are missing it is refused by
+    /// `InsufficientBytes`, and the numbers that are there are taken.
+    #[inline]
+    fn read_data(decoder: &mut BinDecoder<'_>, length: Restrict<u16>) -> Result<CSYNC, DecodeError>
+        ensures window { ReadsWindow csync_shape csync_condition csync_fields length result decoder.old decoder.new }
+        ensures ends { OnOk result (decoder.new.index ≡ decoder.old.index + length) }
+        ensures read { IfOk result IsReadCsync }
+        ensures refused { IfErr result (λ e. csync_refusal length decoder.old e decoder.new) }
+    {
+        let _start = decoder.index();
+        CSYNC::read_filled(decoder, length)
+    }
+}
+
+impl BinEncodable for CSYNC {
+    ghost emits = { λ x r old new. Emits csync_shape (csync_fields x) r old new };
+
+    /// Appends serial, flags and the shortest bitmap of the types.
+    #[tactic(auto, using(dns_names_wire::proofs::FieldWrites::writing))]
+    fn emit(&self, encoder: &mut BinEncoder<'_>) -> Result<(), ProtoError> {
+        encoder.emit_u32(self.soa_serial)?;
+        encoder.emit_u16(self.flags())?;
+        self.type_bit_maps.emit(encoder)?;
+        Ok(())
+    }
+}
+
+impl PartialEq for CSYNC {
+    ghost use Rattle.std.specs.Cmp.{partial_equiv_from_equiv, on_equiv};
+    ghost use Rattle.dns_fields.specs.Equal.{values_eq, values_equiv};
+
+    ghost eq = { λ a b. values_eq csync_key_shape (csync_keys a) (csync_keys b) };
+
+    ghost laws = { partial_equiv_from_equiv (on_equiv csync_keys (values_equiv csync_key_shape)) };
+
+    fn eq(&self, other: &CSYNC) -> bool {
+        self.soa_serial == other.soa_serial
+            && self.immediate == other.immediate
+            && self.soa_minimum == other.soa_minimum
+            && self.reserved_flags == other.reserved_flags
+            && self.type_bit_maps == other.type_bit_maps
+    }
+}
+
+impl Eq for CSYNC {
+    ghost use Rattle.std.specs.Cmp.{on_equiv};
+    ghost use Rattle.dns_fields.specs.Equal.{values_equiv};
+
+    ghost laws = { on_equiv csync_keys (values_equiv csync_key_shape) };
+}
+
+impl Clone for CSYNC {
+    ghost is_clone = { λ a b. b ≡ a };
+
+    /// The same fields, the types in memory of their own.
+    fn clone(&self) -> Result<CSYNC, AllocError>
+        ensures { IfOk result (λ copy. copy ≡ self.now) }
+    {
+        Ok(CSYNC {
+            soa_serial: self.soa_serial,
+            immediate: self.immediate,
+            soa_minimum: self.soa_minimum,
+            reserved_flags: self.reserved_flags,
+            type_bit_maps: self.type_bit_maps.clone()?,
+        })
+    }
+}
+
+impl fmt::Display for CSYNC {
+    ghost use Rattle.std.specs.Prelude.{Some};
+    ghost use Rattle.dns_rdata_sets.specs.CSYNC.{csync_text};
+
+    ghost output = { λ x. Some (csync_text x) };
+
+    /// Serial and flags in decimal, and each type in rising order by number, a blank between: `123 3 A NS AAAA`.
+    fn fmt<W: fmt::Write>(&self, f: &mut fmt::Formatter<W>) -> fmt::Result {
+        let serial = self.soa_serial;
+        let flags = self.flags();
+        write!(f, "{serial} {flags}")?;
+        for kind in self.type_bit_maps.iter() {
+            write!(f, " {kind}")?;
+        }
+        Ok(())
+    }
+}

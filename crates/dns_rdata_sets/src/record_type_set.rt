@@ -1,0 +1,216 @@
+//! Sets of record types, as bitmaps of their numbers (RFC 4034, 4.1.2).
+ghost use Rattle.std.specs.Prelude.{◌≡◌, ◌==◌, ◌↔◌, ℕ, List, [], map, length as list_length, IsTrue, IfOk, IfErr};
+ghost use Rattle.std.specs.Iterator.{Drains, IsFinite, YieldsFirst, item_count};
+ghost use Rattle.std.specs.Cmp.Lexicographic.{pointwise};
+ghost use Rattle.std.specs.Cmp.Rules.{comparing, hashing};
+ghost use Rattle.std.specs.Hash as fed;
+ghost use Rattle.std.proofs.Common.{rules};
+ghost use Rattle.dns_types.specs.RecordTypes.{number_of, record_type_of};
+ghost use Rattle.dns_types.specs.declared.record_type.RecordType.{RecordType as RecordTypeValue};
+ghost use Rattle.dns_fields.specs.Bitmaps.{IsTypeSet, contains};
+ghost use Rattle.dns_fields.specs.Fields.{Bitmap};
+ghost use Rattle.dns_names_wire.specs.Words.{ReadsTo, EmitsField};
+ghost use Rattle.dns_rdata_sets.specs.RecordTypeSet.{IsSetOf, set_shape, set_fields, bitmap_refusal};
+
+mod reading;
+mod writing;
+
+use dns_names_wire::{
+    BinDecoder, BinEncodable, BinEncoder, DecodeError, ProtoError, RecordType, Restrict,
+};
+use std::alloc::{AllocError, Global};
+use std::hash::{Hash, Hasher};
+use std::marker::Model;
+
+/// A set of record types. Contracts see the list of their numbers, each once, in rising order.
+///
+/// On the wire it is a bitmap (RFC 4034, 4.1.2): blocks, each of them the number of a window of 256 types, a length of 1
+/// to 32, and so many octets; type 0 of the window is the highest bit of the first octet.
+#[derive(Debug, Drop)]
+pub struct RecordTypeSet {
+    // rising, each once
+    numbers: Vec<u16>,
+}
+
+impl Model for RecordTypeSet {
+    ghost use Rattle.std.specs.Prelude.{ℕ, List};
+    ghost use Rattle.dns_fields.specs.Bitmaps.{IsTypeSet};
+
+    ghost Value = { List ℕ };
+
+    ghost view = { λ s. s.numbers.items };
+
+    ghost invariant = { λ s. IsTypeSet s.numbers.items };
+}
+
+impl RecordTypeSet {
+    /// The set of these types, in any order, also where one comes repeatedly. Fails only for want of memory.
+    pub fn new<I: Iterator<Item = RecordType> + Drop>(
+        alloc: Global,
+        types: I,
+    ) -> Result<RecordTypeSet, AllocError>
+        requires can { I.can_next types }
+        requires ends { IsFinite (I.remaining types) }
+        ensures { IfOk result (λ set. (kinds : List RecordTypeValue)
+            × Drains I.next_gives types kinds × IsSetOf (map number_of kinds) set) }
+    {
+        let mut numbers = Vec::new(alloc);
+        for kind in types {
+            numbers.push(u16::from(kind))?;
+        }
+        Ok(RecordTypeSet::of_numbers(numbers))
+    }
+
+    // The set of these numbers. Takes no memory.
+    fn of_numbers(mut numbers: Vec<u16>) -> RecordTypeSet
+        ensures { IsSetOf numbers.items result }
+    {
+        numbers.sort_unstable();
+        numbers.dedup();
+        RecordTypeSet { numbers }
+    }
+
+    /// Reads the bitmap that has exactly this length. The blocks may stand in any order, two may be of one window, and
+    /// bits that are all 0 are read too. Where the octets are missing, it is refused by `InsufficientBytes` and takes
+    /// none; where they are no bitmap, by `BitmapInvalid`, and they are taken.
+    pub fn read_data(
+        decoder: &mut BinDecoder<'_>,
+        length: Restrict<u16>,
+    ) -> Result<RecordTypeSet, DecodeError>
+        ensures fields { ReadsTo set_shape (λ _. Unit {0}) length set_fields result decoder.old decoder.new }
+        ensures refused { IfErr result (λ e. bitmap_refusal length decoder.old e decoder.new) }
+    {
+        let octets = decoder
+            .read_slice(length.unverified() as usize)?
+            .unverified();
+        let numbers = reading::read_blocks(decoder.allocator(), octets)?;
+        Ok(RecordTypeSet::of_numbers(numbers))
+    }
+
+    /// The types in rising order by number, each once. Takes no memory.
+    #[inline]
+    pub fn iter(&self) -> RecordTypes<'_>
+        ensures { result ≡ map record_type_of self.now }
+    {
+        RecordTypes {
+            numbers: self.numbers.as_slice(),
+        }
+    }
+
+    /// Whether a type of this number is in the set. Takes no memory.
+    #[inline]
+    pub fn contains(&self, kind: RecordType) -> bool
+        ensures { result ≡ contains (number_of kind) self.now }
+    {
+        self.numbers.contains(&u16::from(kind))
+    }
+
+    /// How many types there are.
+    #[inline]
+    pub fn len(&self) -> usize
+        ensures count { result ≡ list_length self.now }
+        ensures set { IsTypeSet self.now }
+    {
+        self.numbers.len()
+    }
+
+    /// Whether there are none.
+    #[inline]
+    pub fn is_empty(&self) -> bool
+        ensures { IsTrue result ↔ (self.now ≡ []) }
+    {
+        self.numbers.is_empty()
+    }
+
+    /// The allocator of the set.
+    #[inline]
+    pub fn allocator(&self) -> Global {
+        *self.numbers.allocator()
+    }
+}
+
+impl BinEncodable for RecordTypeSet {
+    ghost emits = { λ set r old new. EmitsField Bitmap set r old new };
+
+    /// Appends the shortest bitmap of the set: rising windows, none of them empty, no octet 0 at a block's end. So no
+    /// octet stands for the empty set.
+    fn emit(&self, encoder: &mut BinEncoder<'_>) -> Result<(), ProtoError> {
+        let _set = self.len();
+        writing::emit_blocks(encoder, self.numbers.as_slice())
+    }
+}
+
+impl PartialEq for RecordTypeSet {
+    ghost eq = { λ a b. pointwise ◌==◌ a b };
+
+    ghost laws = { Prim.search (comparing, rules) };
+
+    #[inline]
+    fn eq(&self, other: &RecordTypeSet) -> bool
+        ensures value { result ≡ pointwise ◌==◌ self.now other.now }
+        ensures exact { IsTrue result ↔ (self.now ≡ other.now) }
+    {
+        self.numbers == other.numbers
+    }
+}
+
+impl Eq for RecordTypeSet {
+    ghost laws = { Prim.search (comparing, rules) };
+}
+
+impl Hash for RecordTypeSet {
+    ghost hash_input = { λ s. fed.slice fed.u16 s };
+
+    ghost respects_eq = { Prim.search (hashing, rules) };
+
+    #[inline]
+    fn hash<H: Hasher>(&self, state: &mut H) {
+        self.numbers.as_slice().hash(state);
+    }
+}
+
+impl Clone for RecordTypeSet {
+    ghost is_clone = { λ a b. b ≡ a };
+
+    /// The same types in memory of their own, by one request.
+    fn clone(&self) -> Result<RecordTypeSet, AllocError>
+        ensures { IfOk result (λ copy. copy ≡ self.now) }
+    {
+        let numbers = Vec::from_slice(self.allocator(), self.numbers.as_slice())?;
+        Ok(RecordTypeSet { numbers })
+    }
+}
+
+/// The types of a set, in rising order by number.
+#[derive(Drop)]
+pub struct RecordTypes<'a> {
+    numbers: &'a [u16],
+}
+
+impl<'a> Model for RecordTypes<'a> {
+    ghost use Rattle.std.specs.Prelude.{List, map};
+    ghost use Rattle.dns_types.specs.RecordTypes.{record_type_of};
+    ghost use Rattle.dns_types.specs.declared.record_type.RecordType.{RecordType};
+
+    ghost Value = { List RecordType };
+
+    ghost view = { λ s. map record_type_of s.numbers.now };
+}
+
+impl<'a> Iterator for RecordTypes<'a> {
+    type Item = RecordType;
+
+    ghost next_gives = { YieldsFirst (λ s. s) };
+
+    ghost remaining = { item_count (λ s. s) };
+
+    #[inline]
+    fn next(&mut self) -> Option<RecordType> {
+        let numbers = self.numbers;
+        if numbers.len() == 0 {
+            return None;
+        }
+        self.numbers = &numbers[1..];
+        Some(RecordType::from(numbers[0]))
+    }
+}

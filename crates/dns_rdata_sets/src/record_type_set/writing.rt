@@ -1,0 +1,100 @@
+//! The shortest bitmap of numbers.
+
+ghost use Rattle.std.specs.Prelude.{◌≡◌, ◌≢◌, ◌+◌, ◌-◌, ◌*◌, ◌/◌, ◌%◌, ◌<◌, ◌≤◌, ◌==◌, ℕ, if◌then◌else◌, length, take, slice_index};
+ghost use Rattle.std.specs.Int.{bit_at};
+ghost use Rattle.dns_fields.specs.Octets.{AreOctets};
+ghost use Rattle.dns_fields.specs.Bitmaps.{IsTypeSet, Rises, mark, window};
+ghost use Rattle.dns_fields.specs.Fields.{Bitmap};
+ghost use Rattle.dns_names_wire.specs.Words.{Emits, EmitsField};
+ghost use Rattle.dns_rdata_sets.specs.RecordTypeSet.{AreOfWindow, block_shape, block_fields};
+
+use dns_names_wire::{BinEncoder, ProtoError};
+
+// Appends the blocks of a set's numbers, which rise.
+pub(super) fn emit_blocks(encoder: &mut BinEncoder<'_>, numbers: &[u16]) -> Result<(), ProtoError>
+    requires { IsTypeSet numbers.now }
+    ensures { EmitsField Bitmap numbers.now result encoder.old encoder.new }
+{
+    let mut rest = numbers;
+    while rest.len() > 0 {
+        let end = run_len(rest);
+        emit_block(encoder, &rest[..end])?;
+        rest = &rest[end..];
+    }
+    Ok(())
+}
+
+// How many numbers in front are of the first one's window.
+fn run_len(numbers: &[u16]) -> usize
+    requires { 0 < length numbers.now }
+    ensures some { 0 < result }
+    ensures within { result ≤ length numbers.now }
+    ensures run { AreOfWindow (slice_index numbers.now 0 / 256) (take result numbers.now) }
+    ensures next { result < length numbers.now → slice_index numbers.now result / 256 ≢ slice_index numbers.now 0 / 256 }
+{
+    let window = numbers[0] / 256;
+    let mut end = 1;
+    while end < numbers.len() && numbers[end] / 256 == window {
+        end += 1;
+    }
+    end
+}
+
+// Appends the block of a window whose types these are.
+fn emit_block(encoder: &mut BinEncoder<'_>, run: &[u16]) -> Result<(), ProtoError>
+    requires some { 0 < length run.now }
+    requires rises { Rises run.now }
+    requires run { AreOfWindow (slice_index run.now 0 / 256) run.now }
+    ensures some { 0 < length (window run.now (slice_index run.now 0 / 256)) }
+    ensures few { length (window run.now (slice_index run.now 0 / 256)) ≤ 32 }
+    ensures emits { Emits block_shape (block_fields (slice_index run.now 0 / 256, window run.now (slice_index run.now 0 / 256))) result encoder.old encoder.new }
+{
+    let number = (run[0] / 256) as u8;
+    let len = run[run.len() - 1] as usize % 256 / 8 + 1;
+    let octets = window_octets(run);
+    emit_parts(encoder, number, &as_octets(&octets)[..len])
+}
+
+// The slice as it is, with what its type says of each item.
+#[inline]
+fn as_octets(octets: &[u8]) -> &[u8]
+    ensures value { result.now ≡ octets.now }
+    ensures octets { AreOctets octets.now }
+{
+    octets
+}
+
+// Appends a block of these parts.
+#[tactic(auto, using(dns_names_wire::proofs::FieldWrites::writing))]
+fn emit_parts(encoder: &mut BinEncoder<'_>, number: u8, octets: &[u8]) -> Result<(), ProtoError>
+    requires { length octets.now ≤ 32 }
+    ensures { Emits block_shape (block_fields (number, octets.now)) result encoder.old encoder.new }
+{
+    encoder.emit_u8(number)?;
+    encoder.emit_u8(octets.len() as u8)?;
+    encoder.emit_vec(octets)?;
+    Ok(())
+}
+
+// The 32 octets of a window whose types these are, zeros at the end too.
+fn window_octets(run: &[u16]) -> [u8; 32]
+    requires some { 0 < length run.now }
+    requires run { AreOfWindow (slice_index run.now 0 / 256) run.now }
+    ensures { (n : ℕ) → n < 256 → bit_at (slice_index result (n / 8)) (7 - n % 8) ≡ mark run.now (256 * (slice_index run.now 0 / 256) + n) }
+{
+    let mut octets = [0u8; 32];
+    for t in run {
+        mark_bit(&mut octets, (*t % 256) as usize);
+    }
+    octets
+}
+
+// Sets bit b of a window, the highest of its octet first.
+#[inline]
+fn mark_bit(octets: &mut [u8], b: usize)
+    requires bit { b < 256 }
+    requires window { length octets.old ≡ 32 }
+    ensures { (n : ℕ) → n < 256 → bit_at (slice_index octets.new (n / 8)) (7 - n % 8) ≡ (if b == n then 1 else bit_at (slice_index octets.old (n / 8)) (7 - n % 8)) }
+{
+    octets[b / 8] |= 1 << (7 - b % 8);
+}
