@@ -19,6 +19,7 @@ use Rattle.dns_names_wire.specs.State.{Writing}
 use Rattle.dns_names_wire.specs.Words.{Window, Appended, EmitsAs}
 use Rattle.dns_rdata_base.specs.NAPTR.{AreFlags}
 use Rattle.dns_rdata_sets.specs.CAA.{IsTag}
+use Rattle.dns_rdata_sets.specs.CSYNC.{AreKnownFlags}
 use Rattle.dns_rdata.specs.declared.record_data.RData.{RData}
 use Rattle.dns_rdata.specs.Data.{shape, condition, FieldsOf, fields_of, Fills, data_octets, mode_for}
 use Rattle.dns_rdata.specs.Equal.{equal}
@@ -37,6 +38,7 @@ shape_is types.SRV = (tt, (tt, (tt, tt)))
 shape_is types.SOA = (tt, (tt, (tt, (tt, (tt, (tt, tt))))))
 shape_is types.NAPTR = (tt, (tt, (tt, (tt, (tt, tt)))))
 shape_is types.CAA = (tt, (tt, tt))
+shape_is types.CSYNC = (tt, (tt, tt))
 shape_is t = tt
 
 -- what is asked of a value is asked of its equals
@@ -44,6 +46,7 @@ condition_same : (t : RecordType) (a b : Values (shape t)) → Same (shape t) a 
 condition_same types.CERT a b s h = λ e. h (s.1.1.1.0.is ∙ e)
 condition_same types.NAPTR a b s h = subst AreFlags s.1.1.0.is h
 condition_same types.CAA a b s h = subst IsTag s.1.0.is h
+condition_same types.CSYNC a b s h = subst AreKnownFlags s.1.0.is h
 condition_same types.ANY a b s h = h
 condition_same t a b s h = h
 

@@ -22,6 +22,7 @@ use Rattle.dns_rdata_base.specs.SOA.{soa_shape}
 use Rattle.dns_rdata_base.specs.SRV.{srv_shape}
 use Rattle.dns_rdata_certs.specs.Rests.{rest_refusal}
 use Rattle.dns_rdata_sets.specs.CAA.{tag_refusal}
+use Rattle.dns_rdata_sets.specs.RecordTypeSet.{bitmap_refusal}
 use Rattle.dns_rdata.specs.declared.record_data.RData.{RData}
 use Rattle.dns_rdata.specs.declared.record_data.RData.TheVariants as rdata
 use Rattle.dns_rdata.specs.Data.{shape, condition, IsRowless, IsValue, Fills, NoValue, TookData, RefusedData, ReadsData}
@@ -53,31 +54,32 @@ pub record HasNoRow (t : RecordType) : Type 0 where
   pub rowless : IsRowless t
   pub read : IsNeverRead t → ⊥
 
-pub no_row : (t : RecordType) → t ≢ types.A → t ≢ types.AAAA → t ≢ types.ANAME → t ≢ types.CAA → t ≢ types.CERT → t ≢ types.CNAME → t ≢ types.HINFO → t ≢ types.MX → t ≢ types.NAPTR → t ≢ types.NULL → t ≢ types.NS → t ≢ types.OPENPGPKEY → t ≢ types.PTR → t ≢ types.SMIMEA → t ≢ types.SOA → t ≢ types.SRV → t ≢ types.SSHFP → t ≢ types.TLSA → t ≢ types.TXT → t ≢ types.ZERO → t ≢ types.ANY → t ≢ types.AXFR → t ≢ types.IXFR → HasNoRow t
-no_row types.A h0 h1 h2 h3 h4 h5 h6 h7 h8 h9 h10 h11 h12 h13 h14 h15 h16 h17 h18 h19 h20 h21 h22 = absurd (h0 refl)
-no_row types.AAAA h0 h1 h2 h3 h4 h5 h6 h7 h8 h9 h10 h11 h12 h13 h14 h15 h16 h17 h18 h19 h20 h21 h22 = absurd (h1 refl)
-no_row types.ANAME h0 h1 h2 h3 h4 h5 h6 h7 h8 h9 h10 h11 h12 h13 h14 h15 h16 h17 h18 h19 h20 h21 h22 = absurd (h2 refl)
-no_row types.CAA h0 h1 h2 h3 h4 h5 h6 h7 h8 h9 h10 h11 h12 h13 h14 h15 h16 h17 h18 h19 h20 h21 h22 = absurd (h3 refl)
-no_row types.CERT h0 h1 h2 h3 h4 h5 h6 h7 h8 h9 h10 h11 h12 h13 h14 h15 h16 h17 h18 h19 h20 h21 h22 = absurd (h4 refl)
-no_row types.CNAME h0 h1 h2 h3 h4 h5 h6 h7 h8 h9 h10 h11 h12 h13 h14 h15 h16 h17 h18 h19 h20 h21 h22 = absurd (h5 refl)
-no_row types.HINFO h0 h1 h2 h3 h4 h5 h6 h7 h8 h9 h10 h11 h12 h13 h14 h15 h16 h17 h18 h19 h20 h21 h22 = absurd (h6 refl)
-no_row types.MX h0 h1 h2 h3 h4 h5 h6 h7 h8 h9 h10 h11 h12 h13 h14 h15 h16 h17 h18 h19 h20 h21 h22 = absurd (h7 refl)
-no_row types.NAPTR h0 h1 h2 h3 h4 h5 h6 h7 h8 h9 h10 h11 h12 h13 h14 h15 h16 h17 h18 h19 h20 h21 h22 = absurd (h8 refl)
-no_row types.NULL h0 h1 h2 h3 h4 h5 h6 h7 h8 h9 h10 h11 h12 h13 h14 h15 h16 h17 h18 h19 h20 h21 h22 = absurd (h9 refl)
-no_row types.NS h0 h1 h2 h3 h4 h5 h6 h7 h8 h9 h10 h11 h12 h13 h14 h15 h16 h17 h18 h19 h20 h21 h22 = absurd (h10 refl)
-no_row types.OPENPGPKEY h0 h1 h2 h3 h4 h5 h6 h7 h8 h9 h10 h11 h12 h13 h14 h15 h16 h17 h18 h19 h20 h21 h22 = absurd (h11 refl)
-no_row types.PTR h0 h1 h2 h3 h4 h5 h6 h7 h8 h9 h10 h11 h12 h13 h14 h15 h16 h17 h18 h19 h20 h21 h22 = absurd (h12 refl)
-no_row types.SMIMEA h0 h1 h2 h3 h4 h5 h6 h7 h8 h9 h10 h11 h12 h13 h14 h15 h16 h17 h18 h19 h20 h21 h22 = absurd (h13 refl)
-no_row types.SOA h0 h1 h2 h3 h4 h5 h6 h7 h8 h9 h10 h11 h12 h13 h14 h15 h16 h17 h18 h19 h20 h21 h22 = absurd (h14 refl)
-no_row types.SRV h0 h1 h2 h3 h4 h5 h6 h7 h8 h9 h10 h11 h12 h13 h14 h15 h16 h17 h18 h19 h20 h21 h22 = absurd (h15 refl)
-no_row types.SSHFP h0 h1 h2 h3 h4 h5 h6 h7 h8 h9 h10 h11 h12 h13 h14 h15 h16 h17 h18 h19 h20 h21 h22 = absurd (h16 refl)
-no_row types.TLSA h0 h1 h2 h3 h4 h5 h6 h7 h8 h9 h10 h11 h12 h13 h14 h15 h16 h17 h18 h19 h20 h21 h22 = absurd (h17 refl)
-no_row types.TXT h0 h1 h2 h3 h4 h5 h6 h7 h8 h9 h10 h11 h12 h13 h14 h15 h16 h17 h18 h19 h20 h21 h22 = absurd (h18 refl)
-no_row types.ZERO h0 h1 h2 h3 h4 h5 h6 h7 h8 h9 h10 h11 h12 h13 h14 h15 h16 h17 h18 h19 h20 h21 h22 = absurd (h19 refl)
-no_row types.ANY h0 h1 h2 h3 h4 h5 h6 h7 h8 h9 h10 h11 h12 h13 h14 h15 h16 h17 h18 h19 h20 h21 h22 = absurd (h20 refl)
-no_row types.AXFR h0 h1 h2 h3 h4 h5 h6 h7 h8 h9 h10 h11 h12 h13 h14 h15 h16 h17 h18 h19 h20 h21 h22 = absurd (h21 refl)
-no_row types.IXFR h0 h1 h2 h3 h4 h5 h6 h7 h8 h9 h10 h11 h12 h13 h14 h15 h16 h17 h18 h19 h20 h21 h22 = absurd (h22 refl)
-no_row t h0 h1 h2 h3 h4 h5 h6 h7 h8 h9 h10 h11 h12 h13 h14 h15 h16 h17 h18 h19 h20 h21 h22 = record { rowless = tt; read = λ h. h }
+pub no_row : (t : RecordType) → t ≢ types.A → t ≢ types.AAAA → t ≢ types.ANAME → t ≢ types.CAA → t ≢ types.CERT → t ≢ types.CNAME → t ≢ types.CSYNC → t ≢ types.HINFO → t ≢ types.MX → t ≢ types.NAPTR → t ≢ types.NULL → t ≢ types.NS → t ≢ types.OPENPGPKEY → t ≢ types.PTR → t ≢ types.SMIMEA → t ≢ types.SOA → t ≢ types.SRV → t ≢ types.SSHFP → t ≢ types.TLSA → t ≢ types.TXT → t ≢ types.ZERO → t ≢ types.ANY → t ≢ types.AXFR → t ≢ types.IXFR → HasNoRow t
+no_row types.A h0 h1 h2 h3 h4 h5 h6 h7 h8 h9 h10 h11 h12 h13 h14 h15 h16 h17 h18 h19 h20 h21 h22 h23 = absurd (h0 refl)
+no_row types.AAAA h0 h1 h2 h3 h4 h5 h6 h7 h8 h9 h10 h11 h12 h13 h14 h15 h16 h17 h18 h19 h20 h21 h22 h23 = absurd (h1 refl)
+no_row types.ANAME h0 h1 h2 h3 h4 h5 h6 h7 h8 h9 h10 h11 h12 h13 h14 h15 h16 h17 h18 h19 h20 h21 h22 h23 = absurd (h2 refl)
+no_row types.CAA h0 h1 h2 h3 h4 h5 h6 h7 h8 h9 h10 h11 h12 h13 h14 h15 h16 h17 h18 h19 h20 h21 h22 h23 = absurd (h3 refl)
+no_row types.CERT h0 h1 h2 h3 h4 h5 h6 h7 h8 h9 h10 h11 h12 h13 h14 h15 h16 h17 h18 h19 h20 h21 h22 h23 = absurd (h4 refl)
+no_row types.CNAME h0 h1 h2 h3 h4 h5 h6 h7 h8 h9 h10 h11 h12 h13 h14 h15 h16 h17 h18 h19 h20 h21 h22 h23 = absurd (h5 refl)
+no_row types.CSYNC h0 h1 h2 h3 h4 h5 h6 h7 h8 h9 h10 h11 h12 h13 h14 h15 h16 h17 h18 h19 h20 h21 h22 h23 = absurd (h6 refl)
+no_row types.HINFO h0 h1 h2 h3 h4 h5 h6 h7 h8 h9 h10 h11 h12 h13 h14 h15 h16 h17 h18 h19 h20 h21 h22 h23 = absurd (h7 refl)
+no_row types.MX h0 h1 h2 h3 h4 h5 h6 h7 h8 h9 h10 h11 h12 h13 h14 h15 h16 h17 h18 h19 h20 h21 h22 h23 = absurd (h8 refl)
+no_row types.NAPTR h0 h1 h2 h3 h4 h5 h6 h7 h8 h9 h10 h11 h12 h13 h14 h15 h16 h17 h18 h19 h20 h21 h22 h23 = absurd (h9 refl)
+no_row types.NULL h0 h1 h2 h3 h4 h5 h6 h7 h8 h9 h10 h11 h12 h13 h14 h15 h16 h17 h18 h19 h20 h21 h22 h23 = absurd (h10 refl)
+no_row types.NS h0 h1 h2 h3 h4 h5 h6 h7 h8 h9 h10 h11 h12 h13 h14 h15 h16 h17 h18 h19 h20 h21 h22 h23 = absurd (h11 refl)
+no_row types.OPENPGPKEY h0 h1 h2 h3 h4 h5 h6 h7 h8 h9 h10 h11 h12 h13 h14 h15 h16 h17 h18 h19 h20 h21 h22 h23 = absurd (h12 refl)
+no_row types.PTR h0 h1 h2 h3 h4 h5 h6 h7 h8 h9 h10 h11 h12 h13 h14 h15 h16 h17 h18 h19 h20 h21 h22 h23 = absurd (h13 refl)
+no_row types.SMIMEA h0 h1 h2 h3 h4 h5 h6 h7 h8 h9 h10 h11 h12 h13 h14 h15 h16 h17 h18 h19 h20 h21 h22 h23 = absurd (h14 refl)
+no_row types.SOA h0 h1 h2 h3 h4 h5 h6 h7 h8 h9 h10 h11 h12 h13 h14 h15 h16 h17 h18 h19 h20 h21 h22 h23 = absurd (h15 refl)
+no_row types.SRV h0 h1 h2 h3 h4 h5 h6 h7 h8 h9 h10 h11 h12 h13 h14 h15 h16 h17 h18 h19 h20 h21 h22 h23 = absurd (h16 refl)
+no_row types.SSHFP h0 h1 h2 h3 h4 h5 h6 h7 h8 h9 h10 h11 h12 h13 h14 h15 h16 h17 h18 h19 h20 h21 h22 h23 = absurd (h17 refl)
+no_row types.TLSA h0 h1 h2 h3 h4 h5 h6 h7 h8 h9 h10 h11 h12 h13 h14 h15 h16 h17 h18 h19 h20 h21 h22 h23 = absurd (h18 refl)
+no_row types.TXT h0 h1 h2 h3 h4 h5 h6 h7 h8 h9 h10 h11 h12 h13 h14 h15 h16 h17 h18 h19 h20 h21 h22 h23 = absurd (h19 refl)
+no_row types.ZERO h0 h1 h2 h3 h4 h5 h6 h7 h8 h9 h10 h11 h12 h13 h14 h15 h16 h17 h18 h19 h20 h21 h22 h23 = absurd (h20 refl)
+no_row types.ANY h0 h1 h2 h3 h4 h5 h6 h7 h8 h9 h10 h11 h12 h13 h14 h15 h16 h17 h18 h19 h20 h21 h22 h23 = absurd (h21 refl)
+no_row types.AXFR h0 h1 h2 h3 h4 h5 h6 h7 h8 h9 h10 h11 h12 h13 h14 h15 h16 h17 h18 h19 h20 h21 h22 h23 = absurd (h22 refl)
+no_row types.IXFR h0 h1 h2 h3 h4 h5 h6 h7 h8 h9 h10 h11 h12 h13 h14 h15 h16 h17 h18 h19 h20 h21 h22 h23 = absurd (h23 refl)
+no_row t h0 h1 h2 h3 h4 h5 h6 h7 h8 h9 h10 h11 h12 h13 h14 h15 h16 h17 h18 h19 h20 h21 h22 h23 = record { rowless = tt; read = λ h. h }
 
 pub unknown_took : {old new : Reading} (t : RecordType) (n : ℕ) (x : NULL) → HasNoRow t → TookWindow old n null_shape (λ _. Unit {0}) (null_fields x) new → TookData old t n (rdata.Unknown t x) new
 unknown_took types.A n x h w = absurd h.rowless
@@ -86,6 +88,7 @@ unknown_took types.ANAME n x h w = absurd h.rowless
 unknown_took types.CAA n x h w = absurd h.rowless
 unknown_took types.CERT n x h w = absurd h.rowless
 unknown_took types.CNAME n x h w = absurd h.rowless
+unknown_took types.CSYNC n x h w = absurd h.rowless
 unknown_took types.HINFO n x h w = absurd h.rowless
 unknown_took types.MX n x h w = absurd h.rowless
 unknown_took types.NAPTR n x h w = absurd h.rowless
@@ -171,6 +174,11 @@ either_never : (k : ℕ) {P : Type 0} → (decode.UnknownRecordTypeValue k ≡ d
 either_never k (inl e) = cc e
 either_never k (inr h) = let e = h.0 in cc e
 
+bitmap_never : (n : ℕ) (old new : Reading) (k : ℕ) → bitmap_refusal n old (decode.UnknownRecordTypeValue k) new → ⊥
+bitmap_never n old new k (inl h) = let e = h.error in cc e
+bitmap_never n old new k (inr (inl h)) = let e = h.error in cc e
+bitmap_never n old new k (inr (inr h)) = let e = h.error in cc e
+
 -- the refusal by number is that of types that are never read
 own_never : (t : RecordType) (n : ℕ) (old new : Reading) (k : ℕ) → OwnRefusal t n old new (decode.UnknownRecordTypeValue k) → IsNeverRead t × (k ≡ number_of t)
 own_never types.ANY n old new k e = (tt, cc e)
@@ -202,6 +210,10 @@ own_never types.SRV n old new k h = absurd (lack_never srv_shape old new k h)
 own_never types.CAA n old new k (inl h) = let e = h.error in absurd (cc e)
 own_never types.CAA n old new k (inr (inl h)) = absurd (tag_never n h.size h.between new k h.refused)
 own_never types.CAA n old new k (inr (inr h)) = absurd (either_never k h.error)
+own_never types.CSYNC n old new k (inl h) = absurd (first_never (Number 4 ∷ Number 2 ∷ []) old new k h)
+own_never types.CSYNC n old new k (inr (inl h)) = let e = h.error in absurd (cc e)
+own_never types.CSYNC n old new k (inr (inr (inl h))) = let e = h.error in absurd (cc e)
+own_never types.CSYNC n old new k (inr (inr (inr h))) = absurd (bitmap_never (n - 6) h.between new k h.refused)
 own_never t n old new k h = let e = h.0 in absurd (cc e)
 
 pub data_why : (t : RecordType) (n : ℕ) (o : Result RData DecodeError) (old new : Reading) (read len : ℕ) → ReadsData t n o old new → Counted old new n read len → IfErr o (λ e. UnlessMemory e (OwnRefusal t n old new e)) → (IsNeverRead t → (new ≡ old) × (o ≡ Err (decode.UnknownRecordTypeValue (number_of t)))) → IfErr (by_length o read len) (IsRefusal t n old new)

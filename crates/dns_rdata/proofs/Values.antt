@@ -21,6 +21,8 @@ use Rattle.dns_rdata_certs.specs.TLSA.{tlsa_shape, tlsa_fields, tlsa_key_shape, 
 use Rattle.dns_rdata_certs.proofs.Values.{cert_from, cert_from-fields, cert_fields-from, cert_from-read, cert_keys-same, smimea_from, smimea_from-fields, smimea_fields-from, smimea_from-read, smimea_keys-same, sshfp_from, sshfp_from-fields, sshfp_fields-from, sshfp_from-read, sshfp_keys-same, tlsa_from, tlsa_from-fields, tlsa_fields-from, tlsa_from-read, tlsa_keys-same}
 use Rattle.dns_rdata_sets.specs.CAA.{caa_shape, caa_fields, caa_key_shape, caa_keys}
 use Rattle.dns_rdata_sets.proofs.CaaValues.{caa_from, caa_from-fields, caa_fields-from, caa_from-read, caa_keys-same}
+use Rattle.dns_rdata_sets.specs.CSYNC.{csync_shape, csync_fields, csync_key_shape, csync_keys}
+use Rattle.dns_rdata_sets.proofs.CsyncValues.{csync_from, csync_from-fields, csync_fields-from, csync_from-read, csync_keys-same}
 use Rattle.dns_rdata.specs.declared.record_data.RData.{RData}
 use Rattle.dns_rdata.specs.declared.record_data.RData.TheVariants as rdata
 use Rattle.dns_rdata.specs.Data.{shape, condition, FieldsOf, fields_of, type_of, IsPlain, IsValue}
@@ -82,6 +84,7 @@ value_for types.ANAME vs = rdata.ANAME (record { 0 = vs.0 })
 value_for types.CAA vs = rdata.CAA (caa_from vs)
 value_for types.CERT vs = rdata.CERT (cert_from vs)
 value_for types.CNAME vs = rdata.CNAME (record { 0 = vs.0 })
+value_for types.CSYNC vs = rdata.CSYNC (csync_from vs)
 value_for types.HINFO vs = rdata.HINFO (record { cpu = vs.0; os = vs.1.0 })
 value_for types.MX vs = rdata.MX (record { preference = vs.0; exchange = vs.1.0 })
 value_for types.NAPTR vs = rdata.NAPTR (record { order = vs.0; preference = vs.1.0; flags = vs.1.1.0; services = vs.1.1.1.0; regexp = vs.1.1.1.1.0; replacement = vs.1.1.1.1.1.0 })
@@ -112,6 +115,7 @@ plain_value (rdata.ANAME x) h = refl
 plain_value (rdata.CAA x) h = ap rdata.CAA (caa_from-fields x h)
 plain_value (rdata.CERT x) h = ap rdata.CERT (cert_from-fields x h)
 plain_value (rdata.CNAME x) h = refl
+plain_value (rdata.CSYNC x) h = ap rdata.CSYNC (csync_from-fields x h)
 plain_value (rdata.HINFO x) h = refl
 plain_value (rdata.MX x) h = refl
 plain_value (rdata.NAPTR x) h = refl
@@ -131,6 +135,7 @@ plain_value (rdata.Unknown types.ANAME x) h = absurd h
 plain_value (rdata.Unknown types.CAA x) h = absurd h
 plain_value (rdata.Unknown types.CERT x) h = absurd h
 plain_value (rdata.Unknown types.CNAME x) h = absurd h
+plain_value (rdata.Unknown types.CSYNC x) h = absurd h
 plain_value (rdata.Unknown types.HINFO x) h = absurd h
 plain_value (rdata.Unknown types.MX x) h = absurd h
 plain_value (rdata.Unknown types.NAPTR x) h = absurd h
@@ -180,6 +185,7 @@ window_value m p n types.CAA vs w =
     record { type = refl; fields = of_kinds caa_shape (caa_fields-from vs f); plain = caa_from-read vs }
 window_value m p n types.CERT vs w = record { type = refl; fields = of_kinds cert_shape (cert_fields-from vs); plain = cert_from-read vs }
 window_value m p n types.CNAME vs w = record { type = refl; fields = refl; plain = tt }
+window_value m p n types.CSYNC vs w = record { type = refl; fields = of_kinds csync_shape (csync_fields-from vs); plain = csync_from-read vs }
 window_value m p n types.HINFO vs w = record { type = refl; fields = refl; plain = tt }
 window_value m p n types.MX vs w = record { type = refl; fields = refl; plain = tt }
 window_value m p n types.NAPTR vs w = record { type = refl; fields = refl; plain = tt }
@@ -232,6 +238,7 @@ equal_values types.ANAME vs ws h = and_true _
 equal_values types.CAA vs ws h = and_true _ ∙ equal_keys caa_key_shape caa_shape (caa_keys (caa_from vs)) (caa_keys (caa_from ws)) (caa_fields (caa_from vs)) (caa_fields (caa_from ws)) (tt, (tt, (tt, (tt, tt)))) (tt, (tt, (tt, (tt, tt)))) (tt, (tt, (tt, tt))) (tt, (tt, (tt, tt))) (caa_keys-same (caa_from vs) (caa_from ws) (caa_from-read vs) (caa_from-read ws))
 equal_values types.CERT vs ws h = and_true _ ∙ equal_keys cert_key_shape cert_shape (cert_keys (cert_from vs)) (cert_keys (cert_from ws)) (cert_fields (cert_from vs)) (cert_fields (cert_from ws)) (tt, (tt, (tt, (tt, (tt, (tt, tt)))))) (tt, (tt, (tt, (tt, (tt, (tt, tt)))))) (tt, (tt, (tt, (tt, tt)))) (tt, (tt, (tt, (tt, tt)))) (cert_keys-same (cert_from vs) (cert_from ws) (cert_from-read vs) (cert_from-read ws))
 equal_values types.CNAME vs ws h = and_true _
+equal_values types.CSYNC vs ws h = and_true _ ∙ equal_keys csync_key_shape csync_shape (csync_keys (csync_from vs)) (csync_keys (csync_from ws)) (csync_fields (csync_from vs)) (csync_fields (csync_from ws)) (tt, (tt, (tt, (tt, (tt, tt))))) (tt, (tt, (tt, (tt, (tt, tt))))) (tt, (tt, (tt, tt))) (tt, (tt, (tt, tt))) (csync_keys-same (csync_from vs) (csync_from ws) (csync_from-read vs) (csync_from-read ws))
 equal_values types.HINFO vs ws h = and_true _
 equal_values types.MX vs ws h = and_true _
 equal_values types.NAPTR vs ws h = and_true _

@@ -24,6 +24,7 @@ use Rattle.dns_rdata_certs.specs.SSHFP.{sshfp_shape, sshfp_fields, IsReadSshfp}
 use Rattle.dns_rdata_certs.specs.TLSA.{tlsa_shape, tlsa_fields, IsReadTlsa}
 use Rattle.dns_rdata_base.specs.TXT.{txt_shape, txt_fields}
 use Rattle.dns_rdata_sets.specs.CAA.{caa_shape, caa_fields, caa_condition, IsReadCaa}
+use Rattle.dns_rdata_sets.specs.CSYNC.{csync_shape, csync_fields, csync_condition, IsReadCsync}
 use Rattle.dns_rdata.specs.declared.record_data.RData.{RData}
 use Rattle.dns_rdata.specs.declared.record_data.RData.TheVariants as rdata
 
@@ -35,6 +36,7 @@ shape types.ANAME = name_shape
 shape types.CAA = caa_shape
 shape types.CERT = cert_shape
 shape types.CNAME = name_shape
+shape types.CSYNC = csync_shape
 shape types.HINFO = hinfo_shape
 shape types.MX = mx_shape
 shape types.NAPTR = naptr_shape
@@ -59,6 +61,7 @@ abbrev pub condition : (t : RecordType) → Values (shape t) → Type 0
 condition types.CERT vs = cert_condition vs
 condition types.NAPTR vs = naptr_condition vs
 condition types.CAA vs = caa_condition vs
+condition types.CSYNC vs = csync_condition vs
 condition types.ANY vs = ⊥
 condition types.AXFR vs = ⊥
 condition types.IXFR vs = ⊥
@@ -76,6 +79,7 @@ fields_of (rdata.ANAME x) = record { kinds = name_shape; values = aname_fields x
 fields_of (rdata.CAA x) = record { kinds = caa_shape; values = caa_fields x }
 fields_of (rdata.CERT x) = record { kinds = cert_shape; values = cert_fields x }
 fields_of (rdata.CNAME x) = record { kinds = name_shape; values = cname_fields x }
+fields_of (rdata.CSYNC x) = record { kinds = csync_shape; values = csync_fields x }
 fields_of (rdata.HINFO x) = record { kinds = hinfo_shape; values = hinfo_fields x }
 fields_of (rdata.MX x) = record { kinds = mx_shape; values = mx_fields x }
 fields_of (rdata.NAPTR x) = record { kinds = naptr_shape; values = naptr_fields x }
@@ -100,6 +104,7 @@ type_of (rdata.ANAME x) = types.ANAME
 type_of (rdata.CAA x) = types.CAA
 type_of (rdata.CERT x) = types.CERT
 type_of (rdata.CNAME x) = types.CNAME
+type_of (rdata.CSYNC x) = types.CSYNC
 type_of (rdata.HINFO x) = types.HINFO
 type_of (rdata.MX x) = types.MX
 type_of (rdata.NAPTR x) = types.NAPTR
@@ -125,6 +130,7 @@ IsRowless types.ANAME = ⊥
 IsRowless types.CAA = ⊥
 IsRowless types.CERT = ⊥
 IsRowless types.CNAME = ⊥
+IsRowless types.CSYNC = ⊥
 IsRowless types.HINFO = ⊥
 IsRowless types.MX = ⊥
 IsRowless types.NAPTR = ⊥
@@ -155,6 +161,7 @@ IsPlain (rdata.SSHFP x) = IsReadSshfp x
 IsPlain (rdata.TLSA x) = IsReadTlsa x
 IsPlain (rdata.SOA x) = HasSeconds x
 IsPlain (rdata.CAA x) = IsReadCaa x
+IsPlain (rdata.CSYNC x) = IsReadCsync x
 IsPlain v = Unit {0}
 
 -- v is the value of the type with these fields

@@ -27,6 +27,7 @@ use Rattle.dns_rdata_certs.specs.declared.sshfp.SSHFP.{SSHFP}
 use Rattle.dns_rdata_certs.specs.declared.tlsa.TLSA.{TLSA}
 use Rattle.dns_rdata_base.specs.declared.txt.TXT.{TXT}
 use Rattle.dns_rdata_sets.specs.declared.caa.CAA.{CAA}
+use Rattle.dns_rdata_sets.specs.declared.csync.CSYNC.{CSYNC}
 use Rattle.dns_rdata_base.specs.A.{a_shape, a_fields}
 use Rattle.dns_rdata_base.specs.AAAA.{aaaa_shape, aaaa_fields}
 use Rattle.dns_rdata_base.specs.NameRecords.{name_shape, aname_fields, cname_fields, ns_fields, ptr_fields}
@@ -43,6 +44,7 @@ use Rattle.dns_rdata_certs.specs.SSHFP.{sshfp_key_shape, sshfp_keys}
 use Rattle.dns_rdata_certs.specs.TLSA.{tlsa_key_shape, tlsa_keys}
 use Rattle.dns_rdata_base.specs.TXT.{txt_shape, txt_fields}
 use Rattle.dns_rdata_sets.specs.CAA.{caa_key_shape, caa_keys}
+use Rattle.dns_rdata_sets.specs.CSYNC.{csync_key_shape, csync_keys}
 use Rattle.dns_rdata.specs.declared.record_data.RData.{RData}
 use Rattle.dns_rdata.specs.declared.record_data.RData.TheVariants as rdata
 
@@ -70,6 +72,10 @@ as_cert v = None
 abbrev pub as_cname : RData → Option CNAME
 as_cname (rdata.CNAME x) = Some x
 as_cname v = None
+
+abbrev pub as_csync : RData → Option CSYNC
+as_csync (rdata.CSYNC x) = Some x
+as_csync v = None
 
 abbrev pub as_hinfo : RData → Option HINFO
 as_hinfo (rdata.HINFO x) = Some x
@@ -153,6 +159,9 @@ cert_eq = on cert_keys (values_eq cert_key_shape)
 abbrev pub cname_eq : CNAME → CNAME → Bool
 cname_eq = on cname_fields (values_eq name_shape)
 
+abbrev pub csync_eq : CSYNC → CSYNC → Bool
+csync_eq = on csync_keys (values_eq csync_key_shape)
+
 abbrev pub hinfo_eq : HINFO → HINFO → Bool
 hinfo_eq = on hinfo_fields (values_eq hinfo_shape)
 
@@ -204,6 +213,7 @@ equal =
     (eq_of_both (on as_caa (option_eq caa_eq))
     (eq_of_both (on as_cert (option_eq cert_eq))
     (eq_of_both (on as_cname (option_eq cname_eq))
+    (eq_of_both (on as_csync (option_eq csync_eq))
     (eq_of_both (on as_hinfo (option_eq hinfo_eq))
     (eq_of_both (on as_mx (option_eq mx_eq))
     (eq_of_both (on as_naptr (option_eq naptr_eq))
@@ -219,7 +229,7 @@ equal =
     (eq_of_both (on as_txt (option_eq txt_eq))
     (eq_of_both (on as_unknown_code (option_eq record_type_eq))
     (eq_of_both (on as_unknown (option_eq null_eq))
-    (on as_update (option_eq record_type_eq))))))))))))))))))))))
+    (on as_update (option_eq record_type_eq)))))))))))))))))))))))
 
 pub equal_equiv : IsEquivalence equal
 equal_equiv =
@@ -229,6 +239,7 @@ equal_equiv =
     (and_equiv (on_equiv as_caa (options_equiv (on_equiv caa_keys (values_equiv caa_key_shape))))
     (and_equiv (on_equiv as_cert (options_equiv (on_equiv cert_keys (values_equiv cert_key_shape))))
     (and_equiv (on_equiv as_cname (options_equiv (on_equiv cname_fields (values_equiv name_shape))))
+    (and_equiv (on_equiv as_csync (options_equiv (on_equiv csync_keys (values_equiv csync_key_shape))))
     (and_equiv (on_equiv as_hinfo (options_equiv (on_equiv hinfo_fields (values_equiv hinfo_shape))))
     (and_equiv (on_equiv as_mx (options_equiv (on_equiv mx_fields (values_equiv mx_shape))))
     (and_equiv (on_equiv as_naptr (options_equiv (on_equiv naptr_fields (values_equiv naptr_shape))))
@@ -244,4 +255,4 @@ equal_equiv =
     (and_equiv (on_equiv as_txt (options_equiv (on_equiv txt_fields (values_equiv txt_shape))))
     (and_equiv (on_equiv as_unknown_code (options_equiv type_laws.laws-law))
     (and_equiv (on_equiv as_unknown (options_equiv (on_equiv null_fields (values_equiv null_shape))))
-    (on_equiv as_update (options_equiv type_laws.laws-law))))))))))))))))))))))
+    (on_equiv as_update (options_equiv type_laws.laws-law)))))))))))))))))))))))

@@ -45,10 +45,12 @@ use Rattle.dns_rdata_base.specs.contracts.txt.TXTHash.TheImpl as txt_hash
 use Rattle.dns_rdata_base.specs.contracts.txt.TXTHash.TheImpl.Laws as txt_hash_laws
 use Rattle.dns_rdata_sets.specs.contracts.caa.CAAHash.TheImpl as caa_hash
 use Rattle.dns_rdata_sets.specs.contracts.caa.CAAHash.TheImpl.Laws as caa_hash_laws
+use Rattle.dns_rdata_sets.specs.contracts.csync.CSYNCHash.TheImpl as csync_hash
+use Rattle.dns_rdata_sets.specs.contracts.csync.CSYNCHash.TheImpl.Laws as csync_hash_laws
 use Rattle.dns_rdata.specs.declared.record_data.RData.{RData}
 use Rattle.dns_rdata.specs.declared.record_data.RData.TheVariants as rdata
 use Rattle.dns_rdata.specs.Data.{type_of}
-use Rattle.dns_rdata.specs.Equal.{equal, a_eq, aaaa_eq, aname_eq, caa_eq, cert_eq, cname_eq, hinfo_eq, mx_eq, naptr_eq, null_eq, ns_eq, openpgpkey_eq, ptr_eq, smimea_eq, soa_eq, srv_eq, sshfp_eq, tlsa_eq, txt_eq, record_type_eq}
+use Rattle.dns_rdata.specs.Equal.{equal, a_eq, aaaa_eq, aname_eq, caa_eq, cert_eq, cname_eq, csync_eq, hinfo_eq, mx_eq, naptr_eq, null_eq, ns_eq, openpgpkey_eq, ptr_eq, smimea_eq, soa_eq, srv_eq, sshfp_eq, tlsa_eq, txt_eq, record_type_eq}
 
 abbrev pub type_fed : RecordType → HashWrites
 type_fed = type_hash.ghosts.hash_input
@@ -61,6 +63,7 @@ data_fed (rdata.ANAME x) = type_fed types.ANAME ++ aname_hash.ghosts.hash_input 
 data_fed (rdata.CAA x) = type_fed types.CAA ++ caa_hash.ghosts.hash_input x
 data_fed (rdata.CERT x) = type_fed types.CERT ++ cert_hash.ghosts.hash_input x
 data_fed (rdata.CNAME x) = type_fed types.CNAME ++ cname_hash.ghosts.hash_input x
+data_fed (rdata.CSYNC x) = type_fed types.CSYNC ++ csync_hash.ghosts.hash_input x
 data_fed (rdata.HINFO x) = type_fed types.HINFO ++ hinfo_hash.ghosts.hash_input x
 data_fed (rdata.MX x) = type_fed types.MX ++ mx_hash.ghosts.hash_input x
 data_fed (rdata.NAPTR x) = type_fed types.NAPTR ++ naptr_hash.ghosts.hash_input x
@@ -91,6 +94,8 @@ fed_same (rdata.CERT x) (rdata.CERT y) h = ap (λ (f : HashWrites). type_fed typ
 fed_same (rdata.CERT x) w h = absurd (true≢false (sym h))
 fed_same (rdata.CNAME x) (rdata.CNAME y) h = ap (λ (f : HashWrites). type_fed types.CNAME ++ f) (cname_hash_laws.respects_eq-law x y (first_so (cname_eq x y) true h))
 fed_same (rdata.CNAME x) w h = absurd (true≢false (sym h))
+fed_same (rdata.CSYNC x) (rdata.CSYNC y) h = ap (λ (f : HashWrites). type_fed types.CSYNC ++ f) (csync_hash_laws.respects_eq-law x y (first_so (csync_eq x y) true h))
+fed_same (rdata.CSYNC x) w h = absurd (true≢false (sym h))
 fed_same (rdata.HINFO x) (rdata.HINFO y) h = ap (λ (f : HashWrites). type_fed types.HINFO ++ f) (hinfo_hash_laws.respects_eq-law x y (first_so (hinfo_eq x y) true h))
 fed_same (rdata.HINFO x) w h = absurd (true≢false (sym h))
 fed_same (rdata.MX x) (rdata.MX y) h = ap (λ (f : HashWrites). type_fed types.MX ++ f) (mx_hash_laws.respects_eq-law x y (first_so (mx_eq x y) true h))

@@ -21,6 +21,7 @@ use Rattle.dns_rdata_certs.specs.SSHFP.{sshfp_refusal}
 use Rattle.dns_rdata_certs.specs.TLSA.{tlsa_refusal}
 use Rattle.dns_rdata_base.specs.TXT.{txt_refusal}
 use Rattle.dns_rdata_sets.specs.CAA.{caa_refusal}
+use Rattle.dns_rdata_sets.specs.CSYNC.{csync_refusal}
 
 -- types that only questions have (RFC 1035, 3.2.3; RFC 1995, 2)
 abbrev pub IsNeverRead : RecordType → Type 0
@@ -37,6 +38,7 @@ OwnRefusal types.ANAME n old new e = IsLack name_shape old e new
 OwnRefusal types.CAA n old new e = caa_refusal n old e new
 OwnRefusal types.CERT n old new e = cert_refusal n old e new
 OwnRefusal types.CNAME n old new e = IsLack name_shape old e new
+OwnRefusal types.CSYNC n old new e = csync_refusal n old e new
 OwnRefusal types.HINFO n old new e = hinfo_refusal old e new
 OwnRefusal types.MX n old new e = IsLack mx_shape old e new
 OwnRefusal types.NAPTR n old new e = naptr_refusal old e new

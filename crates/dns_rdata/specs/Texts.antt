@@ -16,6 +16,7 @@ use Rattle.dns_rdata_certs.specs.SSHFP.{sshfp_text}
 use Rattle.dns_rdata_certs.specs.TLSA.{tlsa_text}
 use Rattle.dns_rdata_base.specs.TXT.{txt_text}
 use Rattle.dns_rdata_sets.specs.CAA.{caa_text}
+use Rattle.dns_rdata_sets.specs.CSYNC.{csync_text}
 use Rattle.dns_rdata.specs.declared.record_data.RData.{RData}
 use Rattle.dns_rdata.specs.declared.record_data.RData.TheVariants as rdata
 
@@ -26,6 +27,7 @@ data_text (rdata.ANAME x) = aname_text x
 data_text (rdata.CAA x) = caa_text x
 data_text (rdata.CERT x) = cert_text x
 data_text (rdata.CNAME x) = cname_text x
+data_text (rdata.CSYNC x) = csync_text x
 data_text (rdata.HINFO x) = hinfo_text x
 data_text (rdata.MX x) = mx_text x
 data_text (rdata.NAPTR x) = naptr_text x

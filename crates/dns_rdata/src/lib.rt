@@ -17,7 +17,7 @@ pub use dns_rdata_base::{
     openpgpkey, soa, srv, txt, verify_flags,
 };
 pub use dns_rdata_certs::{CERT, HEX, SMIMEA, SSHFP, TLSA, cert, smimea, sshfp, tlsa};
-pub use dns_rdata_sets::{CAA, caa};
+pub use dns_rdata_sets::{CAA, CSYNC, RecordTypeSet, caa, csync, record_type_set};
 pub use record_data::RData;
 pub use traits::RecordData;
 

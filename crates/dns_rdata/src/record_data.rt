@@ -13,7 +13,7 @@ use dns_rdata_base::{
     SRV, TXT,
 };
 use dns_rdata_certs::{CERT, SMIMEA, SSHFP, TLSA};
-use dns_rdata_sets::CAA;
+use dns_rdata_sets::{CAA, CSYNC};
 use std::alloc::AllocError;
 use std::fmt;
 use std::hash::{Hash, Hasher};
@@ -34,6 +34,8 @@ pub enum RData {
     CERT(CERT),
     /// The canonical name of an alias.
     CNAME(CNAME),
+    /// What a parent copies from a child zone.
+    CSYNC(CSYNC),
     /// A machine and its system.
     HINFO(HINFO),
     /// A mail exchange.
@@ -88,6 +90,7 @@ impl RData {
             RData::CAA(_) => RecordType::CAA,
             RData::CERT(_) => RecordType::CERT,
             RData::CNAME(_) => RecordType::CNAME,
+            RData::CSYNC(_) => RecordType::CSYNC,
             RData::HINFO(_) => RecordType::HINFO,
             RData::MX(_) => RecordType::MX,
             RData::NAPTR(_) => RecordType::NAPTR,
@@ -137,6 +140,7 @@ impl RData {
             RecordType::CAA => Ok(RData::CAA(CAA::read_data(decoder, length)?)),
             RecordType::CERT => Ok(RData::CERT(CERT::read_data(decoder, length)?)),
             RecordType::CNAME => Ok(RData::CNAME(CNAME::read_data(decoder, length)?)),
+            RecordType::CSYNC => Ok(RData::CSYNC(CSYNC::read_data(decoder, length)?)),
             RecordType::HINFO => Ok(RData::HINFO(HINFO::read_data(decoder, length)?)),
             RecordType::MX => Ok(RData::MX(MX::read_data(decoder, length)?)),
             RecordType::NAPTR => Ok(RData::NAPTR(NAPTR::read_data(decoder, length)?)),
@@ -253,6 +257,7 @@ impl RData {
             RData::CAA(rdata) => rdata.emit(encoder),
             RData::CERT(rdata) => rdata.emit(encoder),
             RData::CNAME(rdata) => rdata.emit(encoder),
+            RData::CSYNC(rdata) => rdata.emit(encoder),
             RData::HINFO(rdata) => rdata.emit(encoder),
             RData::MX(rdata) => rdata.emit(encoder),
             RData::NAPTR(rdata) => rdata.emit(encoder),
@@ -286,6 +291,7 @@ impl RData {
             (RData::CAA(a), RData::CAA(b)) => a == b,
             (RData::CERT(a), RData::CERT(b)) => a == b,
             (RData::CNAME(a), RData::CNAME(b)) => a == b,
+            (RData::CSYNC(a), RData::CSYNC(b)) => a == b,
             (RData::HINFO(a), RData::HINFO(b)) => a == b,
             (RData::MX(a), RData::MX(b)) => a == b,
             (RData::NAPTR(a), RData::NAPTR(b)) => a == b,
@@ -355,6 +361,7 @@ impl Hash for RData {
             RData::CAA(rdata) => rdata.hash(state),
             RData::CERT(rdata) => rdata.hash(state),
             RData::CNAME(rdata) => rdata.hash(state),
+            RData::CSYNC(rdata) => rdata.hash(state),
             RData::HINFO(rdata) => rdata.hash(state),
             RData::MX(rdata) => rdata.hash(state),
             RData::NAPTR(rdata) => rdata.hash(state),
@@ -388,6 +395,7 @@ impl Clone for RData {
             RData::CAA(rdata) => RData::CAA(rdata.clone()?),
             RData::CERT(rdata) => RData::CERT(rdata.clone()?),
             RData::CNAME(rdata) => RData::CNAME(rdata.clone()?),
+            RData::CSYNC(rdata) => RData::CSYNC(rdata.clone()?),
             RData::HINFO(rdata) => RData::HINFO(rdata.clone()?),
             RData::MX(rdata) => RData::MX(rdata.clone()?),
             RData::NAPTR(rdata) => RData::NAPTR(rdata.clone()?),
@@ -425,6 +433,7 @@ impl fmt::Display for RData {
             RData::CAA(rdata) => write!(f, "{rdata}"),
             RData::CERT(rdata) => write!(f, "{rdata}"),
             RData::CNAME(rdata) => write!(f, "{rdata}"),
+            RData::CSYNC(rdata) => write!(f, "{rdata}"),
             RData::HINFO(rdata) => write!(f, "{rdata}"),
             RData::MX(rdata) => write!(f, "{rdata}"),
             RData::NAPTR(rdata) => write!(f, "{rdata}"),

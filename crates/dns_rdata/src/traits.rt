@@ -6,7 +6,7 @@ use dns_rdata_base::{
     A, AAAA, ANAME, CNAME, HINFO, MX, NAPTR, NS, NULL, OPENPGPKEY, PTR, SOA, SRV, TXT,
 };
 use dns_rdata_certs::{CERT, SMIMEA, SSHFP, TLSA};
-use dns_rdata_sets::CAA;
+use dns_rdata_sets::{CAA, CSYNC};
 
 /// The data of records of one kind, as a part of [`RData`].
 pub trait RecordData: Sized {
@@ -255,6 +255,42 @@ impl RecordData for CNAME {
 
     fn into_rdata(self) -> RData {
         RData::CNAME(self)
+    }
+
+    fn is_update(&self) -> bool {
+        false
+    }
+}
+
+impl RecordData for CSYNC {
+    ghost use Rattle.dns_rdata.specs.Equal.{as_csync};
+    ghost use Rattle.dns_rdata.specs.declared.record_data.RData.TheVariants as rdata;
+    ghost use Rattle.dns_types.specs.declared.record_type.RecordType.TheVariants as types;
+    ghost use Rattle.std.proofs.Common.{rules};
+
+    ghost wrapped = { λ x. rdata.CSYNC x };
+
+    ghost borrowed = { as_csync };
+
+    ghost kind = { λ _. types.CSYNC };
+
+    ghost updates = { λ _. ⊥ };
+
+    ghost exactly = { Prim.search rules };
+
+    fn try_borrow(rdata: &RData) -> Option<&CSYNC> {
+        match rdata {
+            RData::CSYNC(rdata) => Some(rdata),
+            _ => None,
+        }
+    }
+
+    fn record_type(&self) -> RecordType {
+        RecordType::CSYNC
+    }
+
+    fn into_rdata(self) -> RData {
+        RData::CSYNC(self)
     }
 
     fn is_update(&self) -> bool {

@@ -66,9 +66,9 @@ tag_none start n t d b new e place f (inl r) vs q p g on c =
 tag_none start n t d b new e place f (inr (inl r)) vs q p g on c =
     let x = string_behind f g in
     bad_length r.length x.0 c.1 where
-  bad_length : (t ≡ 0) ⊎ (15 < t) → length vs.0 ≡ t → IsTag vs.0 → ⊥
-  bad_length (inl z) l k = omega (arith, z, l, k.some)
-  bad_length (inr z) l k = omega (arith, z, l, k.short)
+      bad_length : (t ≡ 0) ⊎ (15 < t) → length vs.0 ≡ t → IsTag vs.0 → ⊥
+      bad_length (inl z) l k = omega (arith, z, l, k.some)
+      bad_length (inr z) l k = omega (arith, z, l, k.short)
 tag_none start n t d b new e place f (inr (inr (inl r))) vs q p g on c =
     let x = string_behind f g in
     let within : length r.front < length vs.0 = omega (arith, r.within, x.0) in

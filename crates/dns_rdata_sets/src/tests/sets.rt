@@ -1,7 +1,9 @@
 ghost use Rattle.std.specs.Prelude.{◌<◌, length};
 
 use crate::RecordTypeSet;
-use dns_names_wire::{BinDecoder, BinEncodable, BinEncoder, DecodeError, ProtoError, RecordType, Restrict};
+use dns_names_wire::{
+    BinDecoder, BinEncodable, BinEncoder, DecodeError, ProtoError, RecordType, Restrict,
+};
 use std::alloc::Global;
 
 fn whole(alloc: Global, octets: &[u8]) -> Result<RecordTypeSet, DecodeError>
@@ -26,9 +28,20 @@ fn emitted_sets(rt: HostRuntime) -> Result<(), ProtoError> {
     assert!(rt; is_emitted(alloc, &set, b"\x00\x04\x60\x00\x00\x08")?);
     assert!(rt; set.contains(RecordType::AAAA));
     assert!(rt; !set.contains(RecordType::MX));
-    let kinds = [RecordType::CAA, RecordType::A, RecordType::A, RecordType::ANAME];
+    let kinds = [
+        RecordType::CAA,
+        RecordType::A,
+        RecordType::A,
+        RecordType::ANAME,
+    ];
     let set = RecordTypeSet::new(alloc, kinds.into_iter())?;
-    assert!(rt; is_emitted(alloc, &set, b"\x00\x01\x40\x01\x01\x40\xff\x04\x00\x00\x00\x40")?);
+    assert!(rt;
+        is_emitted(
+            alloc,
+            &set,
+            b"\x00\x01\x40\x01\x01\x40\xff\x04\x00\x00\x00\x40"
+        )?
+    );
     let mut types = set.iter();
     assert_eq!(rt; types.next(), Some(RecordType::A));
     assert_eq!(rt; types.next(), Some(RecordType::CAA));

@@ -4,7 +4,7 @@ use dns_rdata::RecordType;
 // A type, its data, and from how many octets on the first of them are data too.
 type Sample = (RecordType, &'static [u8], Option<usize>);
 
-fn samples() -> [Sample; 19] {
+fn samples() -> [Sample; 20] {
     [
         (RecordType::A, b"\x01\x02\x03\x04", None),
         (RecordType::AAAA, b"0123456789abcdef", None),
@@ -12,6 +12,7 @@ fn samples() -> [Sample; 19] {
         (RecordType::CAA, b"\x00\x05issueab", Some(7)),
         (RecordType::CERT, b"\x00\x01\x30\x39\x08AQ", Some(6)),
         (RecordType::CNAME, b"\x01a\x00", None),
+        (RecordType::CSYNC, b"\x00\x00\x00\x7b\x00\x03", None),
         (RecordType::HINFO, b"\x03cpu\x02os", None),
         (RecordType::MX, b"\x00\x01\x01a\x00", None),
         (

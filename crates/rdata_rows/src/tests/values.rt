@@ -9,7 +9,7 @@ use std::test::Fail;
 // A type, its data, and the text of it.
 type Sample = (RecordType, &'static [u8], &'static str);
 
-fn samples() -> [Sample; 23] {
+fn samples() -> [Sample; 24] {
     [
         (RecordType::A, b"\xc0\x00\x02\x21", "192.0.2.33"),
         (
@@ -34,6 +34,11 @@ fn samples() -> [Sample; 23] {
             "PKIX 12345 RSASHA256 QVFJRA==",
         ),
         (RecordType::CNAME, b"\x01b\x00", "b."),
+        (
+            RecordType::CSYNC,
+            b"\x00\x00\x00\x7b\x00\x03\x00\x04\x60\x00\x00\x08",
+            "123 3 A NS AAAA",
+        ),
         (RecordType::HINFO, b"\x03cpu\x02os", "cpu os"),
         (RecordType::MX, b"\x00\x01\x01b\x00", "1 b."),
         (

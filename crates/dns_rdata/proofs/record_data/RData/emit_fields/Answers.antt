@@ -19,6 +19,9 @@ returns-in-CERT c = emits_at _ _ _ _ _ c.in-CERT.is c.emit-in-CERT.ensures.emits
 pub returns-in-CNAME : goal.returns-in-CNAME
 returns-in-CNAME c = emits_at _ _ _ _ _ c.in-CNAME.is c.emit-in-CNAME.ensures.emits
 
+pub returns-in-CSYNC : goal.returns-in-CSYNC
+returns-in-CSYNC c = emits_at _ _ _ _ _ c.in-CSYNC.is c.emit-in-CSYNC.ensures.emits
+
 pub returns-in-HINFO : goal.returns-in-HINFO
 returns-in-HINFO c = emits_at _ _ _ _ _ c.in-HINFO.is c.emit-in-HINFO.ensures.emits
 
