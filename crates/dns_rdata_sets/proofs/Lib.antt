@@ -1,2 +1,4 @@
 mod CaaReads
 pub mod CaaValues
+mod IssuerSteps
+mod Splitting

@@ -1,1 +1,2 @@
 pub mod CAA
+pub mod Issuer

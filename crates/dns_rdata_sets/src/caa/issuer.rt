@@ -1,0 +1,211 @@
+//! The values of issuer properties (RFC 8659, 4.2).
+
+ghost use Rattle.std.specs.Prelude.{◌≡◌, ◌↔◌, ◌++◌, ◌==◌, ◌||◌, ◌⊎◌, ℕ, List, not, IsTrue, IfOk, IfErr, MatchResult};
+ghost use Rattle.std.specs.List.{list_all};
+ghost use Rattle.std.specs.Option.{option_copied};
+ghost use Rattle.std.specs.Str.{IsUtf8};
+ghost use Rattle.std.specs.Char.{is_ascii_alphanumeric};
+ghost use Rattle.std.specs.Cmp.Lexicographic.{pointwise};
+ghost use Rattle.std.specs.Cmp.Rules.{comparing, hashing};
+ghost use Rattle.std.specs.Hash as fed;
+ghost use Rattle.std.proofs.Common.{rules};
+ghost use Rattle.dns_types.specs.declared.error.DecodeError.TheVariants as decode;
+ghost use Rattle.dns_types.specs.declared.error.ProtoError.TheVariants as proto;
+ghost use Rattle.dns_names_wire.specs.NameValues.{IsRefusal};
+ghost use Rattle.dns_rdata_sets.specs.Issuer.{Parameter, is_blank, is_key_octet, is_value_octet, is_no_semicolon, AllOf, Splits, IsKey, IsParameter, parameter_octets, AreParameters, IsIssuerName, IsIssuer, issuer_refusal, issuer_value};
+
+use dns_names_wire::{DecodeError, Name, ProtoError, ProtoResult};
+use std::alloc::{AllocError, Global};
+use std::hash::{Hash, Hasher};
+use std::marker::Model;
+
+/// A parameter of an issuer: a key and its value (RFC 8659, 4.2). Any texts can be given; those that are read are in
+/// the grammar.
+#[derive(Debug, Drop)]
+pub struct KeyValue {
+    key: String,
+    value: String,
+}
+
+impl Model for KeyValue {
+    ghost use Rattle.std.specs.String.{string_bytes};
+    ghost use Rattle.dns_rdata_sets.specs.Issuer.{Parameter};
+
+    ghost Value = { Parameter };
+
+    ghost view = { λ x. record { key = string_bytes x.key; value = string_bytes x.value } };
+}
+
+impl KeyValue {
+    ghost use Rattle.std.specs.String.{string_bytes};
+
+    /// With these texts, which are moved.
+    #[inline]
+    pub fn new(key: String, value: String) -> KeyValue
+        ensures { result ≡ record { key = string_bytes key; value = string_bytes value } }
+    {
+        KeyValue { key, value }
+    }
+
+    /// The key.
+    #[inline]
+    pub fn key(&self) -> &str
+        ensures { result.now ≡ self.now.key }
+    {
+        self.key.as_str()
+    }
+
+    /// The value.
+    #[inline]
+    pub fn value(&self) -> &str
+        ensures { result.now ≡ self.now.value }
+    {
+        self.value.as_str()
+    }
+}
+
+impl PartialEq for KeyValue {
+    ghost use Rattle.std.specs.Prelude.{◌&&◌};
+
+    ghost eq = { λ a b. pointwise ◌==◌ a.key b.key && pointwise ◌==◌ a.value b.value };
+
+    ghost laws = { Prim.search (comparing, rules) };
+
+    fn eq(&self, other: &KeyValue) -> bool
+        ensures { IsTrue result ↔ (self.now ≡ other.now) }
+    {
+        self.key() == other.key() && self.value() == other.value()
+    }
+}
+
+impl Eq for KeyValue {
+    ghost laws = { Prim.search (comparing, rules) };
+}
+
+impl Hash for KeyValue {
+    ghost hash_input = { λ x. fed.str x.key ++ fed.str x.value };
+
+    ghost respects_eq = { Prim.search (hashing, rules) };
+
+    fn hash<H: Hasher>(&self, state: &mut H) {
+        self.key().hash(state);
+        self.value().hash(state);
+    }
+}
+
+impl Clone for KeyValue {
+    ghost is_clone = { λ a b. b ≡ a };
+
+    fn clone(&self) -> Result<KeyValue, AllocError> {
+        Ok(KeyValue {
+            key: self.key.clone()?,
+            value: self.value.clone()?,
+        })
+    }
+}
+
+const MALFORMED: ProtoError = ProtoError::Message("not the value of an issuer property");
+
+fn is_blank_octet(octet: u8) -> bool
+    ensures { result ≡ is_blank octet }
+{
+    matches!(octet, b';' | b' ' | b'\t')
+}
+
+// What stands behind the blanks in front.
+fn skip_blanks(octets: &[u8]) -> &[u8]
+    ensures { (front : List ℕ) × Splits is_blank octets.now front result.now }
+{
+    let mut rest = octets;
+    'blanks: while let Some((first, others)) = rest.split_first() {
+        if !is_blank_octet(*first) {
+            break;
+        }
+        rest = others;
+    }
+    rest
+}
+
+// What stands in front of the first such octet, and from it on.
+fn cut_at(octets: &[u8], stop: u8) -> (&[u8], &[u8])
+    ensures { Splits (λ c. not (c == stop)) octets.now result.0.now result.1.now }
+{
+    let mut len = 0;
+    for octet in octets {
+        if *octet == stop {
+            break;
+        }
+        len += 1;
+    }
+    octets.split_at(len)
+}
+
+fn are_key_octets(octets: &[u8]) -> bool
+    ensures { result ≡ list_all is_key_octet octets.now }
+{
+    octets
+        .iter()
+        .all(|c| c.is_ascii_alphanumeric() || *c == b'-')
+}
+
+fn are_value_octets(octets: &[u8]) -> bool
+    ensures { result ≡ list_all is_value_octet octets.now }
+{
+    octets
+        .iter()
+        .all(|c| matches!(*c, 0x21..=0x3a | 0x3c..=0x7e))
+}
+
+fn is_key(octets: &[u8]) -> bool
+    ensures { IsTrue result ↔ IsKey octets.now }
+{
+    let Some((first, rest)) = octets.split_first() else {
+        return false;
+    };
+    if !first.is_ascii_alphanumeric() {
+        return false;
+    }
+    let Some((second, others)) = rest.split_first() else {
+        return true;
+    };
+    if !second.is_ascii_alphanumeric() {
+        return false;
+    }
+    are_key_octets(others)
+}
+
+// The pair that all these octets are.
+fn read_pair(alloc: Global, octets: &[u8]) -> ProtoResult<KeyValue>
+    ensures read { IfOk result (λ x. (octets.now ≡ parameter_octets x) × IsParameter x) }
+    ensures refused { IfErr result (λ e. IsRefusal e ((x : Parameter) → octets.now ≡ parameter_octets x → IsParameter x → ⊥)) }
+{
+    let (key, rest) = cut_at(octets, b'=');
+    let Some((_, value)) = rest.split_first() else {
+        return Err(MALFORMED);
+    };
+    if !is_key(key) {
+        return Err(MALFORMED);
+    }
+    if !are_value_octets(value) {
+        return Err(MALFORMED);
+    }
+    // both are ASCII
+    let key = String::from_utf8_lossy(alloc, key)?;
+    let value = String::from_utf8_lossy(alloc, value)?;
+    Ok(KeyValue { key, value })
+}
+
+// The pairs behind the name and its semicolon.
+fn read_pairs(alloc: Global, octets: &[u8]) -> ProtoResult<Vec<KeyValue>>
+    ensures read { IfOk result (λ v. AreParameters octets.now v.items) }
+    ensures refused { IfErr result (λ e. IsRefusal e ((xs : List Parameter) → AreParameters octets.now xs → ⊥)) }
+{
+    let mut pairs = Vec::new(alloc);
+    let mut rest = skip_blanks(octets);
+    'pairs: while rest.len() > 0 {
+        let (pair, behind) = cut_at(rest, b';');
+        pairs.push(read_pair(alloc, pair)?)?;
+        rest = skip_blanks(behind);
+    }
+    Ok(pairs)
+}
