@@ -113,15 +113,15 @@ no_parameters (x ∷ xs) ([], behind, e, all, is, more) = absurd (some_octets x 
 no_parameters (x ∷ xs) (d ∷ b, behind, e, all, is, more) = cc
 
 -- what follows a parameter in the grammar
-abbrev Follow : List ℕ → List Parameter → Type 0
+abbrev pub Follow : List ℕ → List Parameter → Type 0
 Follow behind xs = ((behind ≡ []) × (xs ≡ [])) ⊎ ((more : List ℕ) × (behind ≡ 59 ∷ more) × AreParameters more xs)
 
 -- may stand alone
-follow_alone : (behind : List ℕ) (xs : List Parameter) → Follow behind xs → AreParameters behind xs
+pub follow_alone : (behind : List ℕ) (xs : List Parameter) → Follow behind xs → AreParameters behind xs
 follow_alone behind xs (inl h) = rw (h.0, h.1) refl
 follow_alone behind xs (inr h) = subst (λ (l : List ℕ). AreParameters l xs) (sym h.1) (blanks_before (59 ∷ []) h.0 xs refl h.2)
 
-alone_follow : (behind : List ℕ) (xs : List Parameter) → StartsWithout is_no_semicolon behind → AreParameters behind xs → Follow behind xs
+pub alone_follow : (behind : List ℕ) (xs : List Parameter) → StartsWithout is_no_semicolon behind → AreParameters behind xs → Follow behind xs
 alone_follow [] xs s h = inl (refl, no_parameters xs h)
 alone_follow (c ∷ more) xs s h =
     let e : c ≡ 59 = no_semicolon_is c s in

@@ -1,4 +1,5 @@
 mod CaaReads
 pub mod CaaValues
 mod IssuerSteps
+mod Issuers
 mod Splitting

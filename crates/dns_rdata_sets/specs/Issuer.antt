@@ -6,8 +6,8 @@ use Rattle.std.specs.Str.{IsUtf8}
 use Rattle.dns_types.specs.declared.error.DecodeError.TheVariants as decode
 use Rattle.dns_types.specs.declared.error.ProtoError.{ProtoError}
 use Rattle.dns_types.specs.declared.error.ProtoError.TheVariants as proto
-use Rattle.dns_fields.specs.Labels.{DomainName}
-use Rattle.dns_labels.specs.Text.{IsNameText, name_text}
+use Rattle.dns_fields.specs.Labels.{DomainName, IsName}
+use Rattle.dns_labels.specs.Text.{IsNameText, HasOctets, name_text}
 
 -- a key and its value
 pub record Parameter : Type 0 where
@@ -69,6 +69,13 @@ abbrev pub IsIssuerName : List ℕ → Option DomainName → Type 0
 IsIssuerName octets None = octets ≡ []
 IsIssuerName octets (Some name) = (octets ≢ []) × IsUtf8 octets × IsNameText name octets
 
+-- memory ran out; or they are not UTF-8; or they are, and a message says that they are the text of no name
+abbrev pub name_refusal : List ℕ → ProtoError → Type 0
+name_refusal octets proto.Memory = Unit {0}
+name_refusal octets (proto.Decode e) = (e ≡ decode.Utf8) × (IsUtf8 octets → ⊥) × (octets ≢ [])
+name_refusal octets (proto.Message text) = IsUtf8 octets × (octets ≢ []) × ((name : DomainName) → IsNameText name octets → ⊥)
+name_refusal octets e = ⊥
+
 -- a name in front of the first semicolon, and behind that semicolon, where there is one, parameters
 pub record IsIssuer (octets : List ℕ) (name : Option DomainName) (xs : List Parameter) : Type 0 where
   pub front : List ℕ
@@ -107,3 +114,8 @@ issuer_value name xs = issuer_name_text name ++ parameters_text xs
 abbrev pub IsWritable : Option DomainName → Type 0
 IsWritable None = Unit {0}
 IsWritable (Some name) = (name_text name ≢ []) × AllOf is_no_semicolon (name_text name)
+
+-- a name that a value of type `Name` can be
+abbrev pub IsNamed : Option DomainName → Type 0
+IsNamed None = Unit {0}
+IsNamed (Some name) = IsName name × HasOctets name

@@ -1,6 +1,6 @@
 //! The values of issuer properties (RFC 8659, 4.2).
 
-ghost use Rattle.std.specs.Prelude.{◌≡◌, ◌↔◌, ◌++◌, ◌==◌, ◌||◌, ◌⊎◌, ℕ, List, not, IsTrue, IfOk, IfErr, MatchResult};
+ghost use Rattle.std.specs.Prelude.{◌≡◌, ◌↔◌, ◌++◌, ◌∷◌, ◌==◌, ◌⊎◌, ℕ, List, not, IsTrue, IfOk, IfErr, OnOk};
 ghost use Rattle.std.specs.List.{list_all};
 ghost use Rattle.std.specs.Option.{option_copied};
 ghost use Rattle.std.specs.Str.{IsUtf8};
@@ -12,7 +12,7 @@ ghost use Rattle.std.proofs.Common.{rules};
 ghost use Rattle.dns_types.specs.declared.error.DecodeError.TheVariants as decode;
 ghost use Rattle.dns_types.specs.declared.error.ProtoError.TheVariants as proto;
 ghost use Rattle.dns_names_wire.specs.NameValues.{IsRefusal};
-ghost use Rattle.dns_rdata_sets.specs.Issuer.{Parameter, is_blank, is_key_octet, is_value_octet, is_no_semicolon, AllOf, Splits, IsKey, IsParameter, parameter_octets, AreParameters, IsIssuerName, IsIssuer, issuer_refusal, issuer_value};
+ghost use Rattle.dns_rdata_sets.specs.Issuer.{Parameter, is_blank, is_key_octet, is_value_octet, is_no_semicolon, AllOf, Splits, IsKey, IsParameter, parameter_octets, AreParameters, IsIssuerName, name_refusal, IsIssuer, issuer_refusal, IsNamed, issuer_name_text, parameters_text, issuer_value};
 
 use dns_names_wire::{DecodeError, Name, ProtoError, ProtoResult};
 use std::alloc::{AllocError, Global};
@@ -208,4 +208,100 @@ fn read_pairs(alloc: Global, octets: &[u8]) -> ProtoResult<Vec<KeyValue>>
         rest = skip_blanks(behind);
     }
     Ok(pairs)
+}
+
+// The name that all these octets are the text of, or none.
+fn read_name(alloc: Global, octets: &[u8]) -> ProtoResult<Option<Name>>
+    ensures read { IfOk result (λ x. IsIssuerName octets.now x) }
+    ensures refused { IfErr result (λ e. name_refusal octets.now e) }
+{
+    if octets.len() == 0 {
+        return Ok(None);
+    }
+    match str::from_utf8(octets) {
+        Ok(text) => Ok(Some(Name::from_ascii(alloc, text)?)),
+        Err(_) => Err(ProtoError::Decode(DecodeError::Utf8)),
+    }
+}
+
+/// The name and the parameters that the value of an issuer property has (RFC 8659, 4.2).
+///
+/// The octets in front of the first `;`, or all where there is none, are a name by `Name::from_ascii`; no octets are
+/// no name. Behind that `;` stand parameters with a `;` between, which is followed by any number of `;`, spaces and
+/// tabs, as are the front and a `;` at the end. A parameter is a key, `=` and a value: a key one ASCII letter or digit, or two and then
+/// any number of letters, digits and `-`; a value any number of octets 0x21 to 0x3A and 0x3C to 0x7E.
+///
+/// A name's octets that are not UTF-8 are refused by `Decode` of `Utf8`, anything else by `Message`.
+pub fn read_issuer(alloc: Global, octets: &[u8]) -> ProtoResult<(Option<Name>, Vec<KeyValue>)>
+    ensures read { IfOk result (λ x. IsIssuer octets.now x.0 x.1.items) }
+    ensures refused { IfErr result (λ e. issuer_refusal octets.now e) }
+{
+    let (name, rest) = cut_at(octets, b';');
+    let name = read_name(alloc, name)?;
+    let pairs = read_pairs(alloc, rest)?;
+    Ok((name, pairs))
+}
+
+/// The text of a URL for incident reports (RFC 8659, 4.4), as it is. Refused by `Decode` of `Utf8` exactly where it is
+/// not UTF-8. Takes no memory.
+pub fn read_iodef(url: &[u8]) -> ProtoResult<&str>
+    ensures read { IfOk result (λ text. (text.now ≡ url.now) × IsUtf8 url.now) }
+    ensures refused { IfErr result (λ e. (e ≡ proto.Decode decode.Utf8) × (IsUtf8 url.now → ⊥)) }
+{
+    match str::from_utf8(url) {
+        Ok(text) => Ok(text),
+        Err(_) => Err(ProtoError::Decode(DecodeError::Utf8)),
+    }
+}
+
+// The printed text of a name, or nothing.
+fn name_octets(alloc: Global, name: Option<&Name>) -> Result<Vec<u8>, AllocError>
+    ensures text { IfOk result (λ v. v.items ≡ issuer_name_text (option_copied name.entry)) }
+    ensures name { IsNamed (option_copied name.entry) }
+{
+    match name {
+        Some(name) => {
+            let _len = name.len();
+            Ok(name.to_ascii()?.into_bytes())
+        }
+        None => Ok(Vec::new(alloc)),
+    }
+}
+
+// Appends a parameter behind a semicolon and a space.
+fn append_pair(out: &mut Vec<u8>, pair: &KeyValue) -> Result<(), AllocError>
+    ensures { OnOk result (out.new.items ≡ out.old.items ++ 59 ∷ 32 ∷ parameter_octets pair.now) }
+{
+    out.extend_from_slice(b"; ")?;
+    out.extend_from_slice(pair.key().as_bytes())?;
+    out.push(b'=')?;
+    out.extend_from_slice(pair.value().as_bytes())?;
+    Ok(())
+}
+
+fn append_pairs(out: &mut Vec<u8>, pairs: &[KeyValue]) -> Result<(), AllocError>
+    ensures { OnOk result (out.new.items ≡ out.old.items ++ parameters_text pairs.now) }
+{
+    for pair in pairs {
+        append_pair(out, pair)?;
+    }
+    Ok(())
+}
+
+// The value of an issuer property.
+pub(super) fn issuer_octets(
+    alloc: Global,
+    name: Option<&Name>,
+    pairs: &[KeyValue],
+) -> Result<Vec<u8>, AllocError>
+    ensures value { IfOk result (λ v. v.items ≡ issuer_value (option_copied name.entry) pairs.now) }
+    ensures name { IsNamed (option_copied name.entry) }
+{
+    let mut out = name_octets(alloc, name)?;
+    if name.is_none() && pairs.len() == 0 {
+        out.push(b';')?;
+        return Ok(out);
+    }
+    append_pairs(&mut out, pairs)?;
+    Ok(out)
 }
