@@ -1,7 +1,7 @@
 //! The values of issuer properties (RFC 8659, 4.2).
 
-ghost use Rattle.std.specs.Prelude.{◌≡◌, ◌↔◌, ◌++◌, ◌∷◌, ◌==◌, ◌⊎◌, ℕ, List, not, IsTrue, IfOk, IfErr, OnOk};
-ghost use Rattle.std.specs.List.{list_all};
+ghost use Rattle.std.specs.Prelude.{◌≡◌, ◌↔◌, ◌++◌, ◌∷◌, ◌==◌, ◌⊎◌, ℕ, List, not, IsTrue, IfOk, IfErr, OnOk, Option};
+ghost use Rattle.std.specs.List.{list_all, AllByRecursion};
 ghost use Rattle.std.specs.Option.{option_copied};
 ghost use Rattle.std.specs.Str.{IsUtf8};
 ghost use Rattle.std.specs.Char.{is_ascii_alphanumeric};
@@ -11,8 +11,9 @@ ghost use Rattle.std.specs.Hash as fed;
 ghost use Rattle.std.proofs.Common.{rules};
 ghost use Rattle.dns_types.specs.declared.error.DecodeError.TheVariants as decode;
 ghost use Rattle.dns_types.specs.declared.error.ProtoError.TheVariants as proto;
+ghost use Rattle.dns_fields.specs.Labels.{DomainName};
 ghost use Rattle.dns_names_wire.specs.NameValues.{IsRefusal};
-ghost use Rattle.dns_rdata_sets.specs.Issuer.{Parameter, is_blank, is_key_octet, is_value_octet, is_no_semicolon, AllOf, Splits, IsKey, IsParameter, parameter_octets, AreParameters, IsIssuerName, name_refusal, IsIssuer, issuer_refusal, IsNamed, issuer_name_text, parameters_text, issuer_value};
+ghost use Rattle.dns_rdata_sets.specs.Issuer.{Parameter, is_blank, is_key_octet, is_value_octet, is_no_semicolon, AllOf, Splits, IsKey, IsParameter, parameter_octets, AreParameters, IsIssuerName, name_refusal, IsIssuer, issuer_refusal, IsNamed, IsWritable, issuer_name_text, parameters_text, issuer_value};
 
 use dns_names_wire::{DecodeError, Name, ProtoError, ProtoResult};
 use std::alloc::{AllocError, Global};
@@ -288,8 +289,7 @@ fn append_pairs(out: &mut Vec<u8>, pairs: &[KeyValue]) -> Result<(), AllocError>
     Ok(())
 }
 
-// The value of an issuer property.
-pub(super) fn issuer_octets(
+fn value_octets(
     alloc: Global,
     name: Option<&Name>,
     pairs: &[KeyValue],
@@ -305,3 +305,25 @@ pub(super) fn issuer_octets(
     append_pairs(&mut out, pairs)?;
     Ok(out)
 }
+
+// The value of an issuer property.
+pub(super) fn issuer_octets(
+    alloc: Global,
+    name: Option<&Name>,
+    pairs: &[KeyValue],
+) -> Result<Vec<u8>, AllocError>
+    ensures value { IfOk result (λ v. v.items ≡ issuer_value (option_copied name.entry) pairs.now) }
+    ensures reads_back { IsWritable (option_copied name.entry) → AllByRecursion IsParameter pairs.now →
+        IfOk result (λ v. IsIssuer v.items (option_copied name.entry) pairs.now) }
+{
+    let value = value_octets(alloc, name, pairs)?;
+    Ok(value)
+}
+
+/// Octets are the value of an issuer property in at most one way, and what is written reads back.
+pub fn issuers_hold()
+    ensures one { (octets : List ℕ) (a b : Option DomainName) (xs ys : List Parameter) →
+        IsIssuer octets a xs → IsIssuer octets b ys → (a ≡ b) × (xs ≡ ys) }
+    ensures written { (name : Option DomainName) (xs : List Parameter) →
+        IsNamed name → IsWritable name → AllByRecursion IsParameter xs → IsIssuer (issuer_value name xs) name xs }
+{}
