@@ -45,7 +45,7 @@ flags_same : (r s m n i j : ℕ) → i ≡ j → m ≡ n → r ≡ s → r / 4 *
 flags_same r s m n i j x y z = rw (x, y, z) refl
 
 parts_same : (r s m n i j : ℕ) → r % 4 ≡ 0 → s % 4 ≡ 0 → m < 2 → n < 2 → i < 2 → j < 2 → r / 4 * 4 + 2 * m + i ≡ s / 4 * 4 + 2 * n + j → (i ≡ j) × (m ≡ n) × (r ≡ s)
-parts_same r s m n i j a b c d e f h = (omega (arith, a, b, c, d, e, f, h), (omega (arith, a, b, c, d, e, f, h), omega (arith, a, b, c, d, e, f, h)))
+parts_same r s m n i j a b c d e f h = (omega (arith, a, b, c, d, e, f, h), omega (arith, a, b, c, d, e, f, h), omega (arith, a, b, c, d, e, f, h))
 
 -- ---- records
 
@@ -72,5 +72,5 @@ csync_keys-same a b x y = (
   ),
   λ s.
       let k = parts_same a.reserved_flags b.reserved_flags (bit a.soa_minimum) (bit b.soa_minimum) (bit a.immediate) (bit b.immediate) x.reserved y.reserved (bit_lt a.soa_minimum) (bit_lt b.soa_minimum) (bit_lt a.immediate) (bit_lt b.immediate) s.1.0.is in
-      (s.0, (record { is = k.0 }, (record { is = k.1.0 }, (record { is = k.1.1 }, (s.1.1.0, tt))))),
+      (s.0, (record { is = k.0 }, (record { is = k.1 }, (record { is = k.2 }, (s.1.1.0, tt))))),
 )

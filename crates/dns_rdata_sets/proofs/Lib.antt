@@ -7,3 +7,6 @@ pub mod SetWrites
 pub mod Flags
 pub mod CsyncReads
 pub mod CsyncValues
+mod IssuerSteps
+mod Issuers
+mod Splitting

@@ -1,13 +1,17 @@
 -- CAA: a property of a domain's issuers of certificates (RFC 8659, 4.1).
-use Rattle.std.specs.Prelude.{◌≡◌, ◌⊎◌, ℕ, ◌+◌, ◌%◌, ◌<◌, ◌≤◌, Bool, true, false, if◌then◌else◌, List, [], ◌∷◌, ◌++◌, codes, decimal, length, drop}
+use Rattle.std.specs.Prelude.{◌≡◌, ◌⊎◌, ℕ, ◌+◌, ◌%◌, ◌<◌, ◌≤◌, Bool, true, false, if◌then◌else◌, List, [], ◌∷◌, ◌++◌, codes, decimal, length, drop, map}
 use Rattle.std.specs.List.{list_all}
-use Rattle.std.specs.Char.{is_ascii_alphanumeric}
+use Rattle.std.specs.Char.{is_ascii_alphanumeric, to_ascii_lowercase}
+use Rattle.std.specs.Str.{IsUtf8}
 use Rattle.dns_types.specs.declared.error.DecodeError.{DecodeError}
 use Rattle.dns_types.specs.declared.error.DecodeError.TheVariants as decode
+use Rattle.dns_types.specs.declared.error.ProtoError.{ProtoError}
+use Rattle.dns_types.specs.declared.error.ProtoError.TheVariants as proto
 use Rattle.dns_fields.specs.Fields.{Kind, Number, Octets, Text, Rest, Values}
 use Rattle.dns_names_wire.specs.State.{Reading}
 use Rattle.dns_names_wire.specs.Words.{Took, TookField, LacksOctets}
 use Rattle.dns_rdata_base.specs.Lossy.{lossy}
+use Rattle.dns_rdata_sets.specs.Issuer.{issuer_refusal}
 use Rattle.dns_rdata_sets.specs.declared.caa.CAA.{CAA}
 
 -- flags, tag, value
@@ -52,6 +56,31 @@ IsReadCaa x = x.reserved_flags < 128
 -- the flags in decimal, the tag, and the value in quotes, a blank between
 abbrev pub caa_text : CAA → List ℕ
 caa_text x = decimal (caa_flags x) ++ codes " " ++ lossy x.tag ++ codes " \"" ++ lossy x.value ++ codes "\""
+
+-- ---- tags
+
+-- A to Z lowered
+abbrev pub low_tag : List ℕ → List ℕ
+low_tag tag = map to_ascii_lowercase tag
+
+-- a tag whose value names an issuer (RFC 8659, 4.2 and 4.3), and one whose value is a URL (4.4)
+abbrev pub IsIssuerTag : List ℕ → Type 0
+IsIssuerTag tag = (low_tag tag ≡ codes "issue") ⊎ (low_tag tag ≡ codes "issuewild")
+
+abbrev pub IsIodefTag : List ℕ → Type 0
+IsIodefTag tag = low_tag tag ≡ codes "iodef"
+
+abbrev pub IsMessage : ProtoError → Type 0
+IsMessage (proto.Message text) = Unit {0}
+IsMessage e = ⊥
+
+-- no tag of an issuer; or one, and a value that is refused
+abbrev pub issuer_value_refusal : CAA → ProtoError → Type 0
+issuer_value_refusal x e = (IsMessage e × (IsIssuerTag x.tag → ⊥)) ⊎ (IsIssuerTag x.tag × issuer_refusal x.value e)
+
+-- no tag of a URL; or one, and a value that is not UTF-8
+abbrev pub iodef_value_refusal : CAA → ProtoError → Type 0
+iodef_value_refusal x e = (IsMessage e × (IsIodefTag x.tag → ⊥)) ⊎ (IsIodefTag x.tag × (e ≡ proto.Decode decode.Utf8) × (IsUtf8 x.value → ⊥))
 
 -- ---- refusals
 

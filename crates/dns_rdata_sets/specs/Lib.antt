@@ -1,3 +1,4 @@
 pub mod CAA
 pub mod CSYNC
 pub mod RecordTypeSet
+pub mod Issuer

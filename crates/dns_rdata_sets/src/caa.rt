@@ -6,11 +6,15 @@ ghost use Rattle.dns_fields.specs.Fields.{Octets as OctetsKind};
 ghost use Rattle.dns_names_wire.specs.Words.{ReadsTo, ReadsWindow, TookField, StaysBehind, Emits};
 ghost use Rattle.dns_rdata_sets.specs.CAA.{caa_shape, caa_flags, caa_fields, caa_condition, caa_key_shape, caa_keys, AreTagOctets, IsTag, IsReadCaa, tag_refusal, caa_refusal};
 
+mod issuer;
+mod values;
+
 use bstr::BStr;
 use dns_names_wire::{
     BinDecoder, BinEncodable, BinEncoder, DecodeError, Octets, ProtoError, Restrict,
 };
 use dns_rdata_base::RecordDataDecodable;
+pub use issuer::{KeyValue, issuers_hold, read_iodef, read_issuer};
 use std::alloc::AllocError;
 use std::fmt;
 
