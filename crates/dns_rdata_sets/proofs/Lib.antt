@@ -4,3 +4,4 @@ pub mod Windows
 pub mod SetWrites
 pub mod Flags
 pub mod CsyncReads
+pub mod Values

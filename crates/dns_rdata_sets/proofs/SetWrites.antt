@@ -1,18 +1,17 @@
 -- Blocks written one behind the other are the shortest bitmap.
-use Rattle.std.proofs.Common.{◌≡◌, ◌≢◌, ℕ, zero, suc, ◌+◌, ◌-◌, ◌*◌, ◌/◌, ◌%◌, ◌<◌, ◌≤◌, ◌==◌, ◌||◌, Bool, true, false, cond, inl, inr, ◌⊎◌, ⊎_elim, List, [], ◌∷◌, ◌++◌, length, get_or, take, drop, map, take-append-drop, append_assoc, length-append, length-drop, Result, Ok, Err, refl, sym, ap, ◌∙◌, subst, arith}
-use Rattle.std.specs.List.{list_any, AllByRecursion, range_with_len, flat_map}
+use Rattle.std.proofs.Common.{◌≡◌, ◌≢◌, ℕ, zero, suc, ◌+◌, ◌-◌, ◌*◌, ◌/◌, ◌%◌, ◌<◌, ◌≤◌, ◌==◌, ◌||◌, Bool, true, false, cond, List, [], ◌∷◌, ◌++◌, length, get_or, take, drop, map, take-append-drop, append_assoc, length-append, length-drop, refl, sym, ap, ◌∙◌, subst, arith}
+use Rattle.std.specs.List.{AllByRecursion, range_with_len, flat_map}
 use Rattle.std.specs.Int.{bytes_high_first}
 use Rattle.std.proofs.lemmas.List.{append-nil, get_or-drop, get_or-take}
 use Rattle.std.proofs.lemmas.Bool.Decides.{nat_tests}
 use Rattle.std.proofs.lemmas.List.Folds.{list_any-append}
 use Rattle.dns_types.specs.declared.error.ProtoError.{ProtoError}
 use Rattle.dns_fields.specs.declared.RDataEncoding.{RDataEncoding}
-use Rattle.dns_fields.specs.Bitmaps.{Block, block, contains, AllAbove, Rises, IsTypeSet, packed, mark, keep, trimmed, types_octet, window, with_block, windows, minimal}
+use Rattle.dns_fields.specs.Bitmaps.{Block, block, contains, AllAbove, Rises, IsTypeSet, packed, mark, trimmed, types_octet, window, with_block, windows, minimal}
 use Rattle.dns_fields.specs.Fields.{Bitmap, canonical, field_octets}
 use Rattle.dns_fields.proofs.Bitmaps.{none_great}
-use Rattle.dns_fields.proofs.Numbers.{length-bytes}
 use Rattle.dns_names_wire.specs.State.{Writing}
-use Rattle.dns_names_wire.specs.Words.{Keeps, Extends, Appended, Stopped, AppendedField, StoppedField, EmitsField, Emits}
+use Rattle.dns_names_wire.specs.Words.{Keeps, Appended, Stopped, AppendedField, StoppedField}
 use Rattle.dns_names_wire.proofs.FieldWrites.{keeps_same, keeps_then, because_map}
 use Rattle.dns_rdata_sets.specs.RecordTypeSet.{AreOfWindow, block_shape, block_fields}
 
@@ -231,8 +230,8 @@ next_block {v} {rest} {e} {k} f h some full =
     let place : f.k + d ≡ k = omega (arith, l) in
     let w : window v k ≡ window (take e rest) k = window_same v (take e rest) k (same_types f h l) in
     let skip : windows v (range_with_len f.k f.n) ≡ with_block k (window (take e rest) k) (windows v (range_with_len (k + 1) n)) =
-      ap (λ (c : ℕ). windows v (range_with_len f.k c)) count ∙ windows_skip v f.k d (suc n) (λ u p q. skipped f h u p (omega (arith, q, place)))
-      ∙ ap (λ (b : ℕ). windows v (range_with_len b (suc n))) place ∙ ap (λ (x : List ℕ). with_block k x (windows v (range_with_len (k + 1) n))) w in
+    ap (λ (c : ℕ). windows v (range_with_len f.k c)) count ∙ windows_skip v f.k d (suc n) (λ u p q. skipped f h u p (omega (arith, q, place)))
+    ∙ ap (λ (b : ℕ). windows v (range_with_len b (suc n))) place ∙ ap (λ (x : List ℕ). with_block k x (windows v (range_with_len (k + 1) n))) w in
     record { n = n; all = omega (arith, h.small); is = ap (flat_map block) skip ∙ with_some k (window (take e rest) k) (windows v (range_with_len (k + 1) n)) full }
 
 -- ---- a block as its octets
@@ -287,7 +286,7 @@ left_stopped {v} {rest} {e} {k} {old} {now} {new} error f h some full few s =
     let next = next_block f h some full in
     let rest_of = flat_map block (windows v (range_with_len (k + 1) next.n)) in
     let total : length f.written + (length (block b) + length rest_of) ≡ length (flat_map block (minimal v)) =
-      sym (length-append f.written (block b ++ rest_of) ∙ ap (λ (n : ℕ). length f.written + n) (length-append (block b) rest_of)) ∙ ap length (ap (λ (x : List ℕ). f.written ++ x) (sym next.is) ∙ f.left) in
+    sym (length-append f.written (block b ++ rest_of) ∙ ap (λ (n : ℕ). length f.written + n) (length-append (block b) rest_of)) ∙ ap length (ap (λ (x : List ℕ). f.written ++ x) (sym next.is) ∙ f.left) in
     let before : length now.octets ≡ length old.octets + length f.written = ap length f.octets ∙ length-append old.octets f.written in
     record {
       extends = record {
@@ -296,8 +295,8 @@ left_stopped {v} {rest} {e} {k} {old} {now} {new} error f h some full few s =
         octets = s.extends.octets ∙ ap (λ (x : List ℕ). x ++ s.extends.tail) f.octets ∙ append_assoc old.octets f.written s.extends.tail;
       };
       why = because_map error _ _ _ _
-        (λ n. record { full = omega (arith, n.full, f.keeps.limit, total, before, block_length b) })
-        (λ u. absurd (u.unfit (h.small, (omega (arith, few), (tt, tt))))) s.why;
+          (λ n. record { full = omega (arith, n.full, f.keeps.limit, total, before, block_length b) })
+          (λ u. absurd (u.unfit (h.small, (omega (arith, few), (tt, tt))))) s.why;
     }
 
 -- ---- the end
@@ -305,8 +304,8 @@ left_stopped {v} {rest} {e} {k} {old} {now} {new} error f h some full few s =
 pub left_none : {v rest : List ℕ} {old now : Writing} → IsTypeSet v → length rest ≡ 0 → LeftWindows v rest old now → AppendedField old Bitmap v now
 left_none {v} {rest} {old} {now} set e f =
     let nothing : (u : ℕ) → f.k ≤ u / 256 → u / 256 < f.k + f.n → contains u v ≡ false = (λ u l m.
-      ap (contains u) f.split ∙ list_any-append (λ t. t == u) f.done rest
-      ∙ or_none (contains u f.done) (contains u rest) (none_great (256 * f.k) f.done u f.below (omega arith)) ∙ empty rest u e) in
+    ap (contains u) f.split ∙ list_any-append (λ t. t == u) f.done rest
+    ∙ or_none (contains u f.done) (contains u rest) (none_great (256 * f.k) f.done u f.below (omega arith)) ∙ empty rest u e) in
     let zero_more : f.n ≡ f.n + 0 = omega arith in
     let none : windows v (range_with_len f.k f.n) ≡ [] = ap (λ (c : ℕ). windows v (range_with_len f.k c)) zero_more ∙ windows_skip v f.k f.n 0 nothing in
     record {

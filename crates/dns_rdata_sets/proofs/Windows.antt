@@ -1,11 +1,11 @@
 -- The octets of a window, from the numbers of its types.
-use Rattle.std.proofs.Common.{◌≡◌, ◌≢◌, ℕ, zero, suc, ◌+◌, ◌-◌, ◌*◌, ◌/◌, ◌%◌, ◌<◌, ◌≤◌, ◌^◌, ◌==◌, ◌||◌, ◌&&◌, Bool, true, false, cond, inl, inr, ◌⊎◌, ⊎_elim, List, [], ◌∷◌, ◌++◌, length, get_or, take, drop, map, replicate, bit_or, refl, sym, ap, ◌∙◌, subst, pow-suc, arith}
-use Rattle.std.specs.List.{list_any, AllByRecursion, range_with_len}
+use Rattle.std.proofs.Common.{◌≡◌, ◌≢◌, ℕ, zero, suc, ◌+◌, ◌-◌, ◌*◌, ◌/◌, ◌%◌, ◌<◌, ◌≤◌, ◌^◌, ◌==◌, ◌||◌, Bool, true, false, cond, inl, inr, ◌⊎◌, ⊎_elim, List, [], ◌∷◌, length, get_or, take, map, replicate, bit_or, refl, sym, ap, ◌∙◌, subst, pow-suc, arith}
+use Rattle.std.specs.List.{AllByRecursion, range_with_len}
 use Rattle.std.specs.Int.{bit_at}
 use Rattle.std.proofs.Math.ListN.{set}
 use Rattle.std.proofs.lemmas.Bool.Decides.{eqb_tells, nat_tests}
 use Rattle.std.proofs.lemmas.List.{get_or-set_same, get_or-set_other, get_or-replicate, get_or_past}
-use Rattle.std.proofs.lemmas.List.Folds.{list_any-append, list_any_more}
+use Rattle.std.proofs.lemmas.List.Folds.{list_any_more}
 use Rattle.std.proofs.lemmas.List.FromFn.{get_or-map-range_with_len, length-map-range_with_len}
 use Rattle.std.proofs.lemmas.Nat.Bits.{bit_at_set_same, bit_at_set_other, bit_at-zero, bit_at_lowest, bit_at_cat_low, bit_at_cat_high, same_from_bits_below}
 use Rattle.dns_fields.specs.Octets.{AreOctets}
@@ -24,12 +24,12 @@ pub marked : (out : List ℕ) (b n : ℕ) → length out ≡ 32 → b < 256 → 
 marked out b n l h k =
     let v : ℕ = bit_or (get_or out (b / 8) 0) (1 * 2 ^ (7 - b % 8) % 2 ^ 8) in
     elim (eqb_tells b n) [
-      inl t ↦ subst (λ (m : ℕ). bit_at (get_or (set out (b / 8) v) (m / 8) 0) (7 - m % 8) ≡ cond (b == m) 1 (bit_at (get_or out (m / 8) 0) (7 - m % 8))) t.1
+      | inl t ↦ subst (λ (m : ℕ). bit_at (get_or (set out (b / 8) v) (m / 8) 0) (7 - m % 8) ≡ cond (b == m) 1 (bit_at (get_or out (m / 8) 0) (7 - m % 8))) t.1
           (ap (λ (x : ℕ). bit_at x (7 - b % 8)) (marked_same out b b l h (λ i. b / 8) v) ∙ bit_at_set_same w8 (get_or out (b / 8) 0) (7 - b % 8) (omega arith) ∙ sym (ap (λ (c : Bool). cond c 1 (bit_at (get_or out (b / 8) 0) (7 - b % 8))) (ap (λ (m : ℕ). b == m) t.1 ∙ t.0)))
-    | inr t ↦ elim (eqb_tells (n / 8) (b / 8)) [
-          inl e ↦ ap (λ (x : ℕ). bit_at x (7 - n % 8)) (marked_same out b n l h e.1 v) ∙ bit_at_set_other w8 (get_or out (b / 8) 0) (7 - b % 8) (omega arith) (7 - n % 8) (let ne = t.1 in let q = e.1 in omega arith) ∙ ap (λ (m : ℕ). bit_at (get_or out m 0) (7 - n % 8)) (sym e.1) ∙ sym (ap (λ (c : Bool). cond c 1 (bit_at (get_or out (n / 8) 0) (7 - n % 8))) t.0)
+      | inr t ↦ elim (eqb_tells (n / 8) (b / 8)) [
+        | inl e ↦ ap (λ (x : ℕ). bit_at x (7 - n % 8)) (marked_same out b n l h e.1 v) ∙ bit_at_set_other w8 (get_or out (b / 8) 0) (7 - b % 8) (omega arith) (7 - n % 8) (let ne = t.1 in let q = e.1 in omega arith) ∙ ap (λ (m : ℕ). bit_at (get_or out m 0) (7 - n % 8)) (sym e.1) ∙ sym (ap (λ (c : Bool). cond c 1 (bit_at (get_or out (n / 8) 0) (7 - n % 8))) t.0)
         | inr e ↦ ap (λ (x : ℕ). bit_at x (7 - n % 8)) (get_or-set_other out (b / 8) (n / 8) v 0 e.1) ∙ sym (ap (λ (c : Bool). cond c 1 (bit_at (get_or out (n / 8) 0) (7 - n % 8))) t.0)
-        ]
+      ]
     ]
 
 -- ---- the bits of all types of a run
@@ -63,9 +63,11 @@ mark_more run i u l = both (contains u (take i run)) (get_or run i 0 == u) ∙ a
 pub marks_more : (octets new run : List ℕ) (i k : ℕ) → i < length run → get_or run i 0 / 256 ≡ k → HasMarks octets (take i run) k
     → ((n : ℕ) → n < 256 → bit_at (get_or new (n / 8) 0) (7 - n % 8) ≡ cond (get_or run i 0 % 256 == n) 1 (bit_at (get_or octets (n / 8) 0) (7 - n % 8)))
     → HasMarks new (take (i + 1) run) k
-marks_more octets new run i k l e a f = record { bits = λ n h.
-    f n h ∙ ap (λ (x : ℕ). cond (get_or run i 0 % 256 == n) 1 x) (a.bits n h) ∙ ap (λ (b : Bool). cond b 1 (mark (take i run) (256 * k + n))) (in_window (get_or run i 0) k n h e)
-    ∙ mark_more run i (256 * k + n) l }
+marks_more octets new run i k l e a f = record {
+  bits = λ n h.
+      f n h ∙ ap (λ (x : ℕ). cond (get_or run i 0 % 256 == n) 1 x) (a.bits n h) ∙ ap (λ (b : Bool). cond b 1 (mark (take i run) (256 * k + n))) (in_window (get_or run i 0) k n h e)
+      ∙ mark_more run i (256 * k + n) l;
+}
 
 -- ---- octets by their bits
 
@@ -102,15 +104,15 @@ unfolding types_octet
 octet_is octets run k j a l small =
     let f : ℕ → ℕ = λ b. mark run (256 * k + (8 * j + b)) in
     same_from_bits_below 8 (get_or octets j 0) (packed f 8) small (packed_less f (λ b. mark_small run (256 * k + (8 * j + b))) 8) (λ i m.
-        let n : ℕ = 8 * j + (7 - i) in
-        let inside : n < 256 = omega arith in
-        let of : n / 8 ≡ j = omega arith in
-        let bit : 7 - n % 8 ≡ i = omega arith in
-        let back : 8 - 1 - (7 - i) ≡ i = omega arith in
-        let h : bit_at (get_or octets (n / 8) 0) (7 - n % 8) ≡ mark run (256 * k + n) = a.bits n inside in
-        let g : bit_at (get_or octets j 0) i ≡ mark run (256 * k + n) = subst (λ (q : ℕ). bit_at (get_or octets q 0) i ≡ mark run (256 * k + n)) of (subst (λ (b : ℕ). bit_at (get_or octets (n / 8) 0) b ≡ mark run (256 * k + n)) bit h) in
-        let p : bit_at (packed f 8) i ≡ mark run (256 * k + n) = subst (λ (b : ℕ). bit_at (packed f 8) b ≡ mark run (256 * k + n)) back (packed_bit f (λ b. mark_small run (256 * k + (8 * j + b))) 8 (7 - i) (omega arith)) in
-        g ∙ sym p)
+    let n : ℕ = 8 * j + (7 - i) in
+    let inside : n < 256 = omega arith in
+    let of : n / 8 ≡ j = omega arith in
+    let bit : 7 - n % 8 ≡ i = omega arith in
+    let back : 8 - 1 - (7 - i) ≡ i = omega arith in
+    let h : bit_at (get_or octets (n / 8) 0) (7 - n % 8) ≡ mark run (256 * k + n) = a.bits n inside in
+    let g : bit_at (get_or octets j 0) i ≡ mark run (256 * k + n) = subst (λ (q : ℕ). bit_at (get_or octets q 0) i ≡ mark run (256 * k + n)) of (subst (λ (b : ℕ). bit_at (get_or octets (n / 8) 0) b ≡ mark run (256 * k + n)) bit h) in
+    let p : bit_at (packed f 8) i ≡ mark run (256 * k + n) = subst (λ (b : ℕ). bit_at (packed f 8) b ≡ mark run (256 * k + n)) back (packed_bit f (λ b. mark_small run (256 * k + (8 * j + b))) 8 (7 - i) (omega arith)) in
+    g ∙ sym p)
 
 list_same : (a b : List ℕ) → length a ≡ length b → ((i : ℕ) → i < length a → get_or a i 0 ≡ get_or b i 0) → a ≡ b
 list_same [] [] n h = refl
@@ -190,13 +192,13 @@ zeros_behind : (octets run : List ℕ) (k i last : ℕ) → HasMarks octets run 
     → get_or octets i 0 ≡ 0
 zeros_behind octets run k i last a len small all of m = ⊎_elim
     (λ (within : i < 32). same_from_bits_below 8 (get_or octets i 0) 0 (small i) (omega arith) (λ b lt.
-        let q : ℕ = 8 * i + (7 - b) in
-        let low : q < 256 = omega arith in
-        let o : q / 8 ≡ i = omega arith in
-        let c : 7 - q % 8 ≡ b = omega arith in
-        let past : last + 1 ≤ 256 * k + q = omega (arith, of, m) in
-        let h : bit_at (get_or octets (q / 8) 0) (7 - q % 8) ≡ 0 = a.bits q low ∙ mark_no run (256 * k + q) (none_great (last + 1) run (256 * k + q) all past) in
-        subst (λ (z : ℕ). bit_at (get_or octets z 0) b ≡ 0) o (subst (λ (z : ℕ). bit_at (get_or octets (q / 8) 0) z ≡ 0) c h) ∙ sym (bit_at-zero b)))
+    let q : ℕ = 8 * i + (7 - b) in
+    let low : q < 256 = omega arith in
+    let o : q / 8 ≡ i = omega arith in
+    let c : 7 - q % 8 ≡ b = omega arith in
+    let past : last + 1 ≤ 256 * k + q = omega (arith, of, m) in
+    let h : bit_at (get_or octets (q / 8) 0) (7 - q % 8) ≡ 0 = a.bits q low ∙ mark_no run (256 * k + q) (none_great (last + 1) run (256 * k + q) all past) in
+    subst (λ (z : ℕ). bit_at (get_or octets z 0) b ≡ 0) o (subst (λ (z : ℕ). bit_at (get_or octets (q / 8) 0) z ≡ 0) c h) ∙ sym (bit_at-zero b)))
     (λ (past : 32 ≤ i). get_or_past octets i 0 (omega (arith, len)))
     (inside i)
 

@@ -17,6 +17,7 @@ use std::alloc::{AllocError, Global};
 use std::fmt;
 
 const IMMEDIATE: u16 = 1;
+
 const SOA_MINIMUM: u16 = 2;
 // The bits of flags that have no field of their own.
 const RESERVED: u16 = 0xFFFC;

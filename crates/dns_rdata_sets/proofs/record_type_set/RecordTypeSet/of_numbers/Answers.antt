@@ -1,4 +1,4 @@
-use Rattle.std.proofs.Common.{◌∙◌, ap, arith}
+use Rattle.std.proofs.Common.{arith}
 use Rattle.std.proofs.lemmas.List.Filters.{dedup_is}
 use Rattle.dns_rdata_sets.proofs.Numbers.{is_type_set, same_numbers}
 use Rattle.dns_rdata_sets.proofs.record_type_set.RecordTypeSet.of_numbers.Goals as goal
