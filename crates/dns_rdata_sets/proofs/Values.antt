@@ -1,7 +1,7 @@
 -- CSYNC by its fields: each one that was read is told by them, and any fields make one. What is compared of two that
 -- were read is the same exactly where their fields are.
-use Rattle.std.proofs.Common.{◌≡◌, ◌↔◌, ℕ, zero, suc, ◌+◌, ◌*◌, ◌/◌, ◌%◌, ◌<◌, ◌==◌, Bool, true, false, refl, sym, ap, ◌∙◌, arith}
-use Rattle.dns_fields.specs.Fields.{Values, Same, SameField, Number}
+use Rattle.std.proofs.Common.{◌≡◌, ◌↔◌, ℕ, zero, suc, ◌*◌, ◌/◌, ◌%◌, ◌<◌, ◌==◌, Bool, true, false, refl, sym, ap, ◌∙◌, arith}
+use Rattle.dns_fields.specs.Fields.{Values, Same}
 use Rattle.dns_rdata_sets.specs.CSYNC.{csync_shape, csync_flags, csync_fields, csync_key_shape, csync_keys, bit, IsReadCsync}
 use Rattle.dns_rdata_sets.specs.declared.csync.CSYNC.{CSYNC}
 
