@@ -24,6 +24,6 @@ types_refusal {e} {between = between} {new = new} {serial = serial} {flags = fla
       between = between;
       known = known;
       fits = omega (arith, all);
-      taken = record { serial = serial; took = took_then f (took_then g (took_last between)) };
+      taken = record { serial = serial; took = took_then f (took_then g (took_last between)); index = omega (arith, took_number f, took_number g) };
       refused = subst (λ (k : ℕ). bitmap_refusal k between e new) left r;
     })))
