@@ -1,5 +1,5 @@
 use Rattle.std.proofs.Common.{arith}
-use Rattle.dns_rdata_sets.proofs.Blocks.{bit_within, bit_taken, bits_taken}
+use Rattle.dns_rdata_sets.proofs.Blocks.{bit_within, bit_taken}
 use Rattle.dns_rdata_sets.proofs.record_type_set.reading.add_octet.Goals as goal
 
 pub overflow_sub-left-in-loop-left : goal.overflow_sub-left-in-loop-left
