@@ -1,7 +1,7 @@
 -- A refused bitmap behind serial and flags.
-use Rattle.std.proofs.Common.{◌≡◌, ℕ, ◌+◌, ◌-◌, [], ◌∷◌, inr, sym, subst, arith}
+use Rattle.std.proofs.Common.{◌≡◌, ℕ, ◌+◌, ◌-◌, inr, subst, arith}
 use Rattle.dns_types.specs.declared.error.DecodeError.{DecodeError}
-use Rattle.dns_fields.specs.Fields.{Number, Values}
+use Rattle.dns_fields.specs.Fields.{Number}
 use Rattle.dns_names_wire.specs.State.{Reading}
 use Rattle.dns_names_wire.specs.Words.{TookField, Refused}
 use Rattle.dns_names_wire.proofs.FieldReads.{refused_then, unless_map, took_then, took_last, took_number}
@@ -24,6 +24,6 @@ types_refusal {e} {between = between} {new = new} {serial = serial} {flags = fla
       between = between;
       known = known;
       fits = omega (arith, all);
-      taken = record { serial = serial; took = took_then f (took_then g (took_last between)) };
+      taken = record { serial = serial; took = took_then f (took_then g (took_last between)); index = omega (arith, took_number f, took_number g) };
       refused = subst (λ (k : ℕ). bitmap_refusal k between e new) left r;
     })))

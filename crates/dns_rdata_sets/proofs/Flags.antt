@@ -1,10 +1,8 @@
 -- The flags of CSYNC and the fields that they give, and a record by its fields.
-use Rattle.std.proofs.Common.{◌≡◌, ◌↔◌, ℕ, zero, suc, ◌+◌, ◌-◌, ◌*◌, ◌/◌, ◌%◌, ◌^◌, ◌<◌, ◌==◌, Bool, true, false, cond, bit_and, inl, inr, refl, sym, ap, ◌∙◌, arith}
+use Rattle.std.proofs.Common.{◌≡◌, ℕ, zero, suc, ◌+◌, ◌*◌, ◌/◌, ◌%◌, ◌<◌, ◌==◌, bit_and, refl, ap, ◌∙◌, arith}
 use Rattle.std.specs.Int.{bit_at}
 use Rattle.std.proofs.lemmas.Nat.Bits.{and_pow, and_high_mask, bit_at-lt, bit_at_lowest}
-use Rattle.dns_fields.specs.Fields.{Values, Same}
-use Rattle.dns_rdata_sets.specs.CSYNC.{csync_shape, csync_flags, csync_fields, csync_key_shape, csync_keys, bit, IsReadCsync}
-use Rattle.dns_rdata_sets.specs.declared.csync.CSYNC.{CSYNC}
+use Rattle.dns_rdata_sets.specs.CSYNC.{bit}
 
 lowest : (n : ℕ) → bit (bit_and n 1 == 1) ≡ n % 2
 lowest n = let e : bit_and n 1 ≡ n % 2 = omega (arith, and_pow n 0, bit_at_lowest n) in ap (λ (x : ℕ). bit (x == 1)) e ∙ of_bit (n % 2) (omega arith)

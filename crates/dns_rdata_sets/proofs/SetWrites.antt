@@ -1,18 +1,17 @@
 -- Blocks written one behind the other are the shortest bitmap.
-use Rattle.std.proofs.Common.{◌≡◌, ◌≢◌, ℕ, zero, suc, ◌+◌, ◌-◌, ◌*◌, ◌/◌, ◌%◌, ◌<◌, ◌≤◌, ◌==◌, ◌||◌, Bool, true, false, cond, inl, inr, ◌⊎◌, ⊎_elim, List, [], ◌∷◌, ◌++◌, length, get_or, take, drop, map, take-append-drop, append_assoc, length-append, length-drop, Result, Ok, Err, refl, sym, ap, ◌∙◌, subst, arith}
-use Rattle.std.specs.List.{list_any, AllByRecursion, range_with_len, flat_map}
+use Rattle.std.proofs.Common.{◌≡◌, ◌≢◌, ℕ, zero, suc, ◌+◌, ◌-◌, ◌*◌, ◌/◌, ◌%◌, ◌<◌, ◌≤◌, ◌==◌, ◌||◌, Bool, true, false, cond, List, [], ◌∷◌, ◌++◌, length, get_or, take, drop, map, take-append-drop, append_assoc, length-append, length-drop, refl, sym, ap, ◌∙◌, subst, arith}
+use Rattle.std.specs.List.{AllByRecursion, range_with_len, flat_map}
 use Rattle.std.specs.Int.{bytes_high_first}
 use Rattle.std.proofs.lemmas.List.{append-nil, get_or-drop, get_or-take}
 use Rattle.std.proofs.lemmas.Bool.Decides.{nat_tests}
 use Rattle.std.proofs.lemmas.List.Folds.{list_any-append}
 use Rattle.dns_types.specs.declared.error.ProtoError.{ProtoError}
 use Rattle.dns_fields.specs.declared.RDataEncoding.{RDataEncoding}
-use Rattle.dns_fields.specs.Bitmaps.{Block, block, contains, AllAbove, Rises, IsTypeSet, packed, mark, keep, trimmed, types_octet, window, with_block, windows, minimal}
+use Rattle.dns_fields.specs.Bitmaps.{Block, block, contains, AllAbove, Rises, IsTypeSet, packed, mark, trimmed, types_octet, window, with_block, windows, minimal}
 use Rattle.dns_fields.specs.Fields.{Bitmap, canonical, field_octets}
 use Rattle.dns_fields.proofs.Bitmaps.{none_great}
-use Rattle.dns_fields.proofs.Numbers.{length-bytes}
 use Rattle.dns_names_wire.specs.State.{Writing}
-use Rattle.dns_names_wire.specs.Words.{Keeps, Extends, Appended, Stopped, AppendedField, StoppedField, EmitsField, Emits}
+use Rattle.dns_names_wire.specs.Words.{Keeps, Appended, Stopped, AppendedField, StoppedField}
 use Rattle.dns_names_wire.proofs.FieldWrites.{keeps_same, keeps_then, because_map}
 use Rattle.dns_rdata_sets.specs.RecordTypeSet.{AreOfWindow, block_shape, block_fields}
 

@@ -53,10 +53,11 @@ csync_text x = decimal x.soa_serial ++ codes " " ++ decimal (csync_flags x) ++ t
 
 -- ---- refusals
 
--- the serial and these flags stand and are taken
+-- the serial and these flags stand and are taken, six octets
 pub record TookFlags (old : Reading) (flags : ℕ) (new : Reading) : Type 0 where
   pub serial : ℕ
   pub took : Took old (Number 4 ∷ Number 2 ∷ []) (serial, (flags, tt)) new
+  pub index : new.index ≡ old.index + 6
 
 -- flags that are not known are taken
 pub record UnknownFlags (old : Reading) (e : DecodeError) (new : Reading) : Type 0 where

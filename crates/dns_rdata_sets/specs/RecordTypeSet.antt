@@ -1,13 +1,13 @@
 -- Sets of record types: what stands for one, and what their readers and emitters do (RFC 4034, 4.1.2).
-use Rattle.std.specs.Prelude.{◌≡◌, ℕ, ◌+◌, ◌-◌, ◌*◌, ◌/◌, ◌%◌, ◌<◌, ◌==◌, ◌&&◌, ◌||◌, ◌⊎◌, Bool, List, [], ◌∷◌, ◌++◌, length, slice_index}
+use Rattle.std.specs.Prelude.{◌≡◌, ℕ, ◌+◌, ◌-◌, ◌/◌, ◌%◌, ◌≤◌, ◌==◌, ◌&&◌, ◌||◌, ◌⊎◌, Bool, List, [], ◌∷◌, ◌++◌, length, slice_index}
 use Rattle.std.specs.List.{flat_map, AllByRecursion, list_any}
 use Rattle.std.specs.Int.{bit_at}
 use Rattle.dns_fields.specs.Bitmaps.{Block, block, IsBlock, has_type, contains, IsTypeSet, BitmapAt, window}
-use Rattle.dns_fields.specs.Fields.{Kind, Bitmap, Number, Octets, Rest, Values}
+use Rattle.dns_fields.specs.Fields.{Kind, Bitmap, Number, Rest, Values}
 use Rattle.dns_types.specs.declared.error.DecodeError.{DecodeError}
 use Rattle.dns_types.specs.declared.error.DecodeError.TheVariants as decode
 use Rattle.dns_names_wire.specs.State.{Reading}
-use Rattle.dns_names_wire.specs.Words.{LacksOctets, StaysBehind}
+use Rattle.dns_names_wire.specs.Words.{LacksOctets}
 
 -- v is the set of these numbers
 pub record IsSetOf (numbers v : List ℕ) : Type 0 where
@@ -36,6 +36,7 @@ pub record CutBitmap (n : ℕ) (old : Reading) (e : DecodeError) (new : Reading)
 -- n octets are there and taken, and they are no bitmap
 pub record WrongBitmap (n : ℕ) (old : Reading) (e : DecodeError) (new : Reading) : Type 0 where
   pub error : e ≡ decode.BitmapInvalid
+  pub within : old.index + n ≤ length old.message
   pub none : IsNoBitmap old.message old.index (old.index + n)
   pub message : new.message ≡ old.message
   pub index : new.index ≡ old.index + n
@@ -43,6 +44,7 @@ pub record WrongBitmap (n : ℕ) (old : Reading) (e : DecodeError) (new : Readin
 -- n octets are there and taken, and memory for the set runs out
 pub record NoMemoryForSet (n : ℕ) (old : Reading) (e : DecodeError) (new : Reading) : Type 0 where
   pub error : e ≡ decode.Memory
+  pub within : old.index + n ≤ length old.message
   pub message : new.message ≡ old.message
   pub index : new.index ≡ old.index + n
 
@@ -90,6 +92,14 @@ block_refusal e wrong = (e ≡ decode.Memory) ⊎ ((e ≡ decode.BitmapInvalid) 
 -- each number is of window k
 abbrev pub AreOfWindow : ℕ → List ℕ → Type 0
 AreOfWindow k numbers = AllByRecursion (λ t. t / 256 ≡ k) numbers
+
+-- the window of the first number
+abbrev pub first_window : List ℕ → ℕ
+first_window numbers = slice_index numbers 0 / 256
+
+-- the shortest block of numbers of one window
+abbrev pub window_block : List ℕ → Block
+window_block run = (first_window run, window run (first_window run))
 
 -- a block's number, length and octets
 abbrev pub block_shape : List Kind

@@ -28,11 +28,11 @@ const UNKNOWN: u16 = 0x00FC;
 /// record types to the end of the record's length.
 #[derive(Debug, Drop, Hash)]
 pub struct CSYNC {
-    /// The child's serial, below which nothing is copied where `soa_minimum` is set.
+    /// A serial of the child zone: where `soa_minimum` is set, nothing is copied while the zone has a lower one.
     pub soa_serial: u32,
-    /// Whether the parent copies without confirmation of another way: bit 0 of the flags.
+    /// Whether the parent copies without waiting for another approval: bit 0 of the flags.
     pub immediate: bool,
-    /// Whether the child's serial must not be below `soa_serial`: bit 1 of the flags.
+    /// Whether the child's serial must be at least `soa_serial`: bit 1 of the flags.
     pub soa_minimum: bool,
     /// The other flags. Their two lowest bits are not used.
     pub reserved_flags: u16,

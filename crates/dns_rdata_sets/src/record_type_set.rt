@@ -1,6 +1,7 @@
 //! Sets of record types, as bitmaps of their numbers (RFC 4034, 4.1.2).
 ghost use Rattle.std.specs.Prelude.{◌≡◌, ◌==◌, ◌↔◌, ℕ, List, [], map, length as list_length, IsTrue, IfOk, IfErr};
 ghost use Rattle.std.specs.Iterator.{Drains, IsFinite, YieldsFirst, item_count};
+ghost use Rattle.std.specs.List.Sorted.{IsStrictlyIncreasing};
 ghost use Rattle.std.specs.Cmp.Lexicographic.{pointwise};
 ghost use Rattle.std.specs.Cmp.Rules.{comparing, hashing};
 ghost use Rattle.std.specs.Hash as fed;
@@ -65,8 +66,10 @@ impl RecordTypeSet {
     fn of_numbers(mut numbers: Vec<u16>) -> RecordTypeSet
         ensures { IsSetOf numbers.items result }
     {
-        numbers.sort_unstable();
-        numbers.dedup();
+        if !rises(numbers.as_slice()) {
+            numbers.sort_unstable();
+            numbers.dedup();
+        }
         RecordTypeSet { numbers }
     }
 
@@ -102,7 +105,7 @@ impl RecordTypeSet {
     pub fn contains(&self, kind: RecordType) -> bool
         ensures { result ≡ contains (number_of kind) self.now }
     {
-        self.numbers.contains(&u16::from(kind))
+        self.numbers.binary_search(&u16::from(kind)).is_ok()
     }
 
     /// How many types there are.
@@ -127,6 +130,19 @@ impl RecordTypeSet {
     pub fn allocator(&self) -> Global {
         *self.numbers.allocator()
     }
+}
+
+// Whether each number is below the next.
+#[inline]
+fn rises(numbers: &[u16]) -> bool
+    ensures { IsTrue result ↔ IsStrictlyIncreasing numbers.now }
+{
+    for i in 1..numbers.len() {
+        if numbers[i - 1] >= numbers[i] {
+            return false;
+        }
+    }
+    true
 }
 
 impl BinEncodable for RecordTypeSet {

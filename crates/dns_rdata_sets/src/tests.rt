@@ -1,1 +1,2 @@
+mod csync;
 mod sets;

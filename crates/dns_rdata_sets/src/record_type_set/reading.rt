@@ -56,12 +56,11 @@ fn add_octet(numbers: &mut Vec<u16>, g: usize, octet: u8) -> Result<(), AllocErr
     requires { g < 8192 }
     ensures { OnOk result (Adds (octet_has g octet) numbers.old.items numbers.new.items) }
 {
-    if octet != 0 {
-        for bit in 0..8 {
-            if (octet >> (7 - bit)) & 1 == 1 {
-                numbers.push((g * 8 + bit) as u16)?;
-            }
-        }
+    let mut left = octet;
+    while left != 0 {
+        let bit = left.leading_zeros();
+        numbers.push((g * 8 + bit as usize) as u16)?;
+        left -= 1 << (7 - bit);
     }
     Ok(())
 }

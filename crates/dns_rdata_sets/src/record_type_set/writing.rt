@@ -3,10 +3,10 @@
 ghost use Rattle.std.specs.Prelude.{◌≡◌, ◌≢◌, ◌+◌, ◌-◌, ◌*◌, ◌/◌, ◌%◌, ◌<◌, ◌≤◌, ◌==◌, ℕ, if◌then◌else◌, length, take, slice_index};
 ghost use Rattle.std.specs.Int.{bit_at};
 ghost use Rattle.dns_fields.specs.Octets.{AreOctets};
-ghost use Rattle.dns_fields.specs.Bitmaps.{IsTypeSet, Rises, mark, window};
+ghost use Rattle.dns_fields.specs.Bitmaps.{IsBlock, IsTypeSet, Rises, mark};
 ghost use Rattle.dns_fields.specs.Fields.{Bitmap};
 ghost use Rattle.dns_names_wire.specs.Words.{Emits, EmitsField};
-ghost use Rattle.dns_rdata_sets.specs.RecordTypeSet.{AreOfWindow, block_shape, block_fields};
+ghost use Rattle.dns_rdata_sets.specs.RecordTypeSet.{AreOfWindow, first_window, window_block, block_shape, block_fields};
 
 use dns_names_wire::{BinEncoder, ProtoError};
 
@@ -29,8 +29,8 @@ fn run_len(numbers: &[u16]) -> usize
     requires { 0 < length numbers.now }
     ensures some { 0 < result }
     ensures within { result ≤ length numbers.now }
-    ensures run { AreOfWindow (slice_index numbers.now 0 / 256) (take result numbers.now) }
-    ensures next { result < length numbers.now → slice_index numbers.now result / 256 ≢ slice_index numbers.now 0 / 256 }
+    ensures run { AreOfWindow (first_window numbers.now) (take result numbers.now) }
+    ensures next { result < length numbers.now → slice_index numbers.now result / 256 ≢ first_window numbers.now }
 {
     let window = numbers[0] / 256;
     let mut end = 1;
@@ -44,10 +44,9 @@ fn run_len(numbers: &[u16]) -> usize
 fn emit_block(encoder: &mut BinEncoder<'_>, run: &[u16]) -> Result<(), ProtoError>
     requires some { 0 < length run.now }
     requires rises { Rises run.now }
-    requires run { AreOfWindow (slice_index run.now 0 / 256) run.now }
-    ensures some { 0 < length (window run.now (slice_index run.now 0 / 256)) }
-    ensures few { length (window run.now (slice_index run.now 0 / 256)) ≤ 32 }
-    ensures emits { Emits block_shape (block_fields (slice_index run.now 0 / 256, window run.now (slice_index run.now 0 / 256))) result encoder.old encoder.new }
+    requires run { AreOfWindow (first_window run.now) run.now }
+    ensures block { IsBlock (window_block run.now) }
+    ensures emits { Emits block_shape (block_fields (window_block run.now)) result encoder.old encoder.new }
 {
     let number = (run[0] / 256) as u8;
     let len = run[run.len() - 1] as usize % 256 / 8 + 1;
@@ -79,8 +78,8 @@ fn emit_parts(encoder: &mut BinEncoder<'_>, number: u8, octets: &[u8]) -> Result
 // The 32 octets of a window whose types these are, zeros at the end too.
 fn window_octets(run: &[u16]) -> [u8; 32]
     requires some { 0 < length run.now }
-    requires run { AreOfWindow (slice_index run.now 0 / 256) run.now }
-    ensures { (n : ℕ) → n < 256 → bit_at (slice_index result (n / 8)) (7 - n % 8) ≡ mark run.now (256 * (slice_index run.now 0 / 256) + n) }
+    requires run { AreOfWindow (first_window run.now) run.now }
+    ensures { (n : ℕ) → n < 256 → bit_at (slice_index result (n / 8)) (7 - n % 8) ≡ mark run.now (256 * first_window run.now + n) }
 {
     let mut octets = [0u8; 32];
     for t in run {

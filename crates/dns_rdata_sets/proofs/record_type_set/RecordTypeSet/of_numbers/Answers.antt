@@ -1,17 +1,18 @@
-use Rattle.std.proofs.Common.{◌∙◌, ap, arith}
+use Rattle.std.proofs.Common.{arith}
 use Rattle.std.proofs.lemmas.List.Filters.{dedup_is}
-use Rattle.dns_rdata_sets.proofs.Numbers.{is_type_set, same_numbers}
+use Rattle.dns_rdata_sets.specs.RecordTypeSet.{IsSetOf}
+use Rattle.dns_rdata_sets.proofs.Numbers.{rising_set, sorted_set}
 use Rattle.dns_rdata_sets.proofs.record_type_set.RecordTypeSet.of_numbers.Goals as goal
+use Rattle.dns_rdata_sets.proofs.record_type_set.RecordTypeSet.of_numbers.Goals.{then-not-rises, else-not-rises}
+
+set : (c : goal.Joined-not-rises) → IsSetOf c.args.numbers.items c.if-not-rises.numbers.items
+set c = elim c.if-not-rises.branch [
+  | then-not-rises w ↦ rw (w.numbers-is, dedup_is _ _ _ w.dedup.ensures.filtered) (sorted_set c.args.numbers.items w.sort_unstable.new.self.items (λ k d l. omega arith) w.sort_unstable.ensures.permutation w.sort_unstable.ensures.sorted)
+  | else-not-rises w ↦ rw w.numbers-is (rising_set c.args.numbers.items (λ k d l. omega arith) (rw c.as_slice.ensures.value at (c.rises.ensures.0 w.if-not-rises.false)))
+]
 
 pub invariant_of-result : goal.invariant_of-result
-invariant_of-result c =
-    let e = dedup_is _ _ _ c.dedup.ensures.filtered in
-    rw e (is_type_set c.args.numbers.items c.sort_unstable.new.self.items (λ k d l. omega arith) c.sort_unstable.ensures.permutation c.sort_unstable.ensures.sorted)
+invariant_of-result c = (set c).set
 
 pub returns : goal.returns
-returns c =
-    let e = dedup_is _ _ _ c.dedup.ensures.filtered in
-    rw e (record {
-      set = is_type_set c.args.numbers.items c.sort_unstable.new.self.items (λ k d l. omega arith) c.sort_unstable.ensures.permutation c.sort_unstable.ensures.sorted;
-      same = λ t. same_numbers c.args.numbers.items c.sort_unstable.new.self.items t c.sort_unstable.ensures.permutation;
-    })
+returns c = set c

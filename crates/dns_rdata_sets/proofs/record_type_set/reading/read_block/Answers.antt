@@ -1,4 +1,4 @@
-use Rattle.std.proofs.Common.{◌≡◌, ℕ, List, ◌+◌, ◌-◌, get_or, length, take, drop, length-drop, subst, arith}
+use Rattle.std.proofs.Common.{◌≡◌, ℕ, ◌+◌, ◌-◌, get_or, length, take, drop, length-drop, subst, arith}
 use Rattle.std.proofs.lemmas.List.{take_all}
 use Rattle.dns_fields.specs.Bitmaps.{has_type}
 use Rattle.dns_rdata_sets.specs.RecordTypeSet.{Adds}

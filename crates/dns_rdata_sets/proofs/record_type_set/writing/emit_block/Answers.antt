@@ -16,7 +16,6 @@ returns c =
     let count : length (take (j + 1) octets) ≡ length (window run k) = ap length same in
     let cut = length-take (j + 1) octets in
     record {
-      some = omega (arith, count, cut, long);
-      few = omega (arith, count, cut, long);
+      block = record { number = omega (arith, c.type_inv.run 0); some = omega (arith, count, cut, long); most = omega (arith, count, cut, long) };
       emits = subst (λ (w : List ℕ). Emits block_shape (block_fields (k, w)) c.emit_parts.result c.args.encoder.now c.emit_parts.new.encoder) same (rw c.as_octets.ensures.value at c.emit_parts.ensures);
     }
