@@ -2,5 +2,7 @@
 #![tactic(auto)]
 
 pub mod caa;
+#[cfg(test)]
+mod tests;
 
 pub use caa::CAA;
