@@ -92,8 +92,8 @@ fn issuers_with_name(rt: HostRuntime) -> Result<(), ProtoError> {
 fn pairs_are_values(rt: HostRuntime) -> Result<(), ProtoError> {
     let alloc = rt.alloc();
     let one = pair(alloc, "account", "230123")?;
-    assert_eq!(rt; one.key(), "account");
-    assert_eq!(rt; one.value(), "230123");
+    assert!(rt; one.key() == "account");
+    assert!(rt; one.value() == "230123");
     assert!(rt; one.clone()? == one);
     assert!(rt; pair(alloc, "account", "230124")? != one);
     assert!(rt;
@@ -195,7 +195,7 @@ fn issuers_are_set(rt: HostRuntime) -> Result<(), ProtoError> {
 fn urls(rt: HostRuntime) -> Result<(), ProtoError> {
     let alloc = rt.alloc();
     let mut value = whole(alloc, b"\x00\x05iodefa")?;
-    assert_eq!(rt; value.value_as_iodef()?, "a");
+    assert!(rt; value.value_as_iodef()? == "a");
     value.set_iodef_value("mailto:a@b")?;
     assert!(rt; is_emitted(alloc, &value, b"\x00\x05iodefmailto:a@b")?);
     assert!(rt; matches!(value.value_as_issue(), Err(ProtoError::Message(_))));
