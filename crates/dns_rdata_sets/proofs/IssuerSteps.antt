@@ -1,5 +1,5 @@
 -- The grammar of issuer parameters: at most one list of parameters, read from the front.
-use Rattle.std.proofs.Common.{◌≡◌, ◌≢◌, ℕ, Bool, true, false, not, ◌⊎◌, inl, inr, List, [], ◌∷◌, ◌++◌, refl, ap, sym, subst, ◌∙◌, arith, append_assoc, ◌==◌, ◌<◌, ◌≤◌, All, length}
+use Rattle.std.proofs.Common.{◌≡◌, ℕ, Bool, true, false, not, ◌⊎◌, inl, inr, List, [], ◌∷◌, ◌++◌, refl, ap, sym, subst, ◌∙◌, arith, append_assoc, ◌==◌, ◌<◌, ◌≤◌, All, length}
 use Rattle.std.proofs.lemmas.Bool.Decides.{nat_tests}
 use Rattle.std.proofs.lemmas.List.{append-nil}
 use Rattle.std.proofs.lemmas.List.Elements.{All-nil, All-cons}
@@ -69,7 +69,7 @@ some_octets x rest e = by_key x.key x.value e where
 no_semicolon : (x : Parameter) → IsParameter x → AllOf is_no_semicolon (parameter_octets x)
 no_semicolon x h =
     all_append is_no_semicolon x.key (61 ∷ x.value) (key_all is_no_semicolon alphanumeric_no_semicolon key_octet_no_semicolon x.key h.key)
-        (all_cons is_no_semicolon 61 x.value refl (all_weaker is_value_octet is_no_semicolon value_octet_no_semicolon x.value h.value))
+    (all_cons is_no_semicolon 61 x.value refl (all_weaker is_value_octet is_no_semicolon value_octet_no_semicolon x.value h.value))
 
 -- it is cut at its first equals sign
 pub parameter_cut : (octets key rest : List ℕ) (x : Parameter) → Splits is_no_equals octets key rest → octets ≡ parameter_octets x → IsParameter x → (key ≡ x.key) × (rest ≡ 61 ∷ x.value)
@@ -81,8 +81,8 @@ parameter_same x y a b e =
     let p = split_once is_no_equals x.key (61 ∷ x.value) y.key (61 ∷ y.value) e (none x a) refl (none y b) refl in
     let v : x.value ≡ y.value = tail p.1 in
     ap (λ (k : List ℕ). record x { key = k }) p.0 ∙ ap (λ (w : List ℕ). record { key = y.key; value = w }) v where
-  tail : {v w : List ℕ} → 61 ∷ v ≡ 61 ∷ w → v ≡ w
-  tail e = cc
+      tail : {v w : List ℕ} → 61 ∷ v ≡ 61 ∷ w → v ≡ w
+      tail e = cc
 
 -- ---- parameters
 
@@ -174,9 +174,11 @@ pending_then octets read c others front behind blanks rest x p t e is s = record
   complete = λ ys h.
       let k = p.complete ys h in
       let f = first_parameter c others front behind k.0 p.starts t k.2 in
-      let same : f.0 ≡ x = parameter_same f.0 x f.4 is (sym f.3 ∙ e) in
-      (f.1, k.1 ∙ ap (λ (l : List Parameter). read ++ l) (f.2 ∙ ap (λ (z : Parameter). z ∷ f.1) same) ∙ sym (append_assoc read (x ∷ []) f.1),
-      blanks_behind blanks rest f.1 s.passes s.stops (subst (λ (l : List ℕ). AreParameters l f.1) s.whole f.5));
+      let same : f.0 ≡ x = parameter_same f.0 x f.4 is (sym f.3 ∙ e) in (
+        f.1,
+        k.1 ∙ ap (λ (l : List Parameter). read ++ l) (f.2 ∙ ap (λ (z : Parameter). z ∷ f.1) same) ∙ sym (append_assoc read (x ∷ []) f.1),
+        blanks_behind blanks rest f.1 s.passes s.stops (subst (λ (l : List ℕ). AreParameters l f.1) s.whole f.5),
+      );
 }
 
 pub pending_last : (octets : List ℕ) (read : List Parameter) (rest : List ℕ) → Pending octets read rest → length rest ≤ 0 → AreParameters octets read
@@ -255,6 +257,7 @@ pub parameter_read : (octets key rest : List ℕ) (first : ℕ) (value : List �
 parameter_read octets key rest first value {x} s e is-key is-value a b =
     let stop : is_no_equals first ≡ false = subst (λ (l : List ℕ). StartsWithout is_no_equals l) e s.stops in
     let sign : first ≡ 61 = no_equals_is first stop in
-    let text : octets ≡ key ++ 61 ∷ value = s.whole ∙ ap (λ (l : List ℕ). key ++ l) (e ∙ ap (λ (d : ℕ). d ∷ value) sign) in
-    (text ∙ ap (λ (k : List ℕ). k ++ 61 ∷ value) (sym a) ∙ ap (λ (v : List ℕ). x.key ++ 61 ∷ v) (sym b),
-    record { key = subst (λ (k : List ℕ). IsKey k) (sym a) is-key; value = subst (λ (v : List ℕ). AllOf is_value_octet v) (sym b) is-value })
+    let text : octets ≡ key ++ 61 ∷ value = s.whole ∙ ap (λ (l : List ℕ). key ++ l) (e ∙ ap (λ (d : ℕ). d ∷ value) sign) in (
+      text ∙ ap (λ (k : List ℕ). k ++ 61 ∷ value) (sym a) ∙ ap (λ (v : List ℕ). x.key ++ 61 ∷ v) (sym b),
+      record { key = subst (λ (k : List ℕ). IsKey k) (sym a) is-key; value = subst (λ (v : List ℕ). AllOf is_value_octet v) (sym b) is-value },
+    )

@@ -14,7 +14,7 @@ use Rattle.dns_labels.specs.Text.OctetText.{plain, decimal, quoted}
 use Rattle.dns_labels.proofs.TextSteps.{printed_text}
 use Rattle.dns_labels.proofs.NameTexts.{one_name, name_reads}
 use Rattle.dns_names_wire.specs.NameValues.{IsRefusal}
-use Rattle.dns_rdata_sets.specs.Issuer.{Parameter, is_no_semicolon, IsParameter, IsNamed, IsWritable, StartsWithout, parameter_octets, Splits, AreParameters, IsIssuerName, name_refusal, IsIssuer, NoIssuer, issuer_refusal, issuer_name_text, parameters_text, issuer_value}
+use Rattle.dns_rdata_sets.specs.Issuer.{Parameter, is_no_semicolon, IsParameter, IsNamed, IsWritable, StartsWithout, parameter_octets, Splits, AreParameters, IsIssuerName, name_refusal, IsIssuer, issuer_refusal, parameters_text, issuer_value}
 use Rattle.dns_rdata_sets.proofs.Splitting.{same_split}
 use Rattle.dns_rdata_sets.proofs.IssuerSteps.{Follow, follow_alone, alone_follow, one_list}
 
@@ -63,9 +63,10 @@ one_issuer_name front (Some x) (Some y) h k = ap (λ (z : DomainName). Some z) (
 
 pub one_issuer : (octets : List ℕ) (a b : Option DomainName) (xs ys : List Parameter) → IsIssuer octets a xs → IsIssuer octets b ys → (a ≡ b) × (xs ≡ ys)
 one_issuer octets a b xs ys h k =
-    let s = same_split is_no_semicolon octets h.front h.rest k.front k.rest h.splits k.splits in
-    (one_issuer_name k.front a b (subst (λ (l : List ℕ). IsIssuerName l a) s.0 h.is_name) k.is_name,
-    one_list k.rest xs ys (subst (λ (l : List ℕ). AreParameters l xs) s.1 (follow_alone h.rest xs h.parameters)) (follow_alone k.rest ys k.parameters))
+    let s = same_split is_no_semicolon octets h.front h.rest k.front k.rest h.splits k.splits in (
+      one_issuer_name k.front a b (subst (λ (l : List ℕ). IsIssuerName l a) s.0 h.is_name) k.is_name,
+      one_list k.rest xs ys (subst (λ (l : List ℕ). AreParameters l xs) s.1 (follow_alone h.rest xs h.parameters)) (follow_alone k.rest ys k.parameters),
+    )
 
 -- ---- what is written
 
@@ -83,7 +84,7 @@ labels_ascii : (labels : List (List ℕ)) → All AreOctets labels → All (λ b
 labels_ascii [] h = All-nil (λ b. b < 128)
 labels_ascii (label ∷ labels) h =
     All-cons (λ b. b < 128) 46 (label_text label ++ flat_map (λ other. 46 ∷ label_text other) labels) (omega arith)
-        (All-append (λ b. b < 128) (label_text label) (flat_map (λ other. 46 ∷ label_text other) labels) (label_ascii label (All-head AreOctets label labels h)) (labels_ascii labels (All-tail AreOctets label labels h)))
+    (All-append (λ b. b < 128) (label_text label) (flat_map (λ other. 46 ∷ label_text other) labels) (label_ascii label (All-head AreOctets label labels h)) (labels_ascii labels (All-tail AreOctets label labels h)))
 
 joined_ascii : (labels : List (List ℕ)) → All AreOctets labels → All (λ b. b < 128) (joined_text labels)
 joined_ascii [] h = All-nil (λ b. b < 128)

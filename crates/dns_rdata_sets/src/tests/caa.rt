@@ -76,7 +76,14 @@ fn issuers_with_name(rt: HostRuntime) -> Result<(), ProtoError> {
     let name = Some("ca.example");
     assert!(rt; is_read(alloc, b"ca.example", name, &[])?);
     assert!(rt; is_read(alloc, b"ca.example;", name, &[])?);
-    assert!(rt; is_read(alloc, b"ca.example; ab-=1", name, &[pair(alloc, "ab-", "1")?])?);
+    assert!(rt;
+        is_read(
+            alloc,
+            b"ca.example; ab-=1",
+            name,
+            &[pair(alloc, "ab-", "1")?]
+        )?
+    );
     assert!(rt; is_malformed(alloc, b"ca.example; a-b=1"));
     assert!(rt; is_malformed(alloc, b"ca..example"));
     assert!(rt;
@@ -199,7 +206,12 @@ fn urls(rt: HostRuntime) -> Result<(), ProtoError> {
     value.set_iodef_value("mailto:a@b")?;
     assert!(rt; is_emitted(alloc, &value, b"\x00\x05iodefmailto:a@b")?);
     assert!(rt; matches!(value.value_as_issue(), Err(ProtoError::Message(_))));
-    assert!(rt; matches!(value.set_issuer_value(None, &[]), Err(ProtoError::Message(_))));
+    assert!(rt;
+        matches!(
+            value.set_issuer_value(None, &[]),
+            Err(ProtoError::Message(_))
+        )
+    );
     assert!(rt; value.value_as_iodef()? == "mailto:a@b");
     let made = CAA::new_iodef(false, String::from_str(alloc, "mailto:a@b")?)?;
     assert!(rt; made == value);
