@@ -1,5 +1,5 @@
 -- Reading a CAA record: flags, tag, value.
-use Rattle.std.proofs.Common.{◌≡◌, ◌⊎◌, inl, inr, ℕ, ◌+◌, ◌%◌, ◌≤◌, ◌<◌, Bool, true, false, ◌&&◌, cond, nat_le, List, [], ◌∷◌, ◌++◌, length, take, drop, refl, sym, ap, ◌∙◌, arith, subst, ◌-◌}
+use Rattle.std.proofs.Common.{◌≡◌, ◌⊎◌, inl, inr, ℕ, ◌+◌, ◌%◌, ◌≤◌, ◌<◌, true, false, cond, nat_le, List, [], ◌∷◌, ◌++◌, length, take, drop, refl, sym, ap, ◌∙◌, arith, subst, ◌-◌}
 use Rattle.std.proofs.lemmas.List.{length-append, take-take, take-append-drop}
 use Rattle.std.proofs.lemmas.Bool.{and_parts}
 use Rattle.std.proofs.Math.Nat.{mod-eq_of_lt}
@@ -11,14 +11,14 @@ use Rattle.std.specs.Char.{is_ascii_alphanumeric}
 use Rattle.dns_types.specs.declared.error.DecodeError.{DecodeError}
 use Rattle.dns_types.specs.declared.error.DecodeError.TheVariants as decode
 use Rattle.dns_fields.specs.Octets.{At}
-use Rattle.dns_fields.specs.Fields.{Kind, Number, Octets, Text, Rest, Values, Field}
+use Rattle.dns_fields.specs.Fields.{Number, Octets, Text, Rest, Values, Field}
 use Rattle.dns_names_wire.specs.State.{Reading}
 use Rattle.dns_names_wire.specs.Words.{TookField, Took, Refused, StaysBehind, LacksOctets}
-use Rattle.dns_names_wire.proofs.FieldReads.{unless_all, took_stays, took_then, took_last, took_number, refused_then}
+use Rattle.dns_names_wire.proofs.FieldReads.{unless_all, took_stays, took_then, took_last, took_number}
 use Rattle.dns_names_wire.proofs.Strings.{text_taken, at_rest}
 use Rattle.dns_fields.proofs.Places.{At-same_head}
 use Rattle.dns_fields.proofs.FieldLaws.{field_inside}
-use Rattle.dns_rdata_sets.specs.CAA.{caa_shape, caa_fields, AreTagOctets, IsTag, PassedCaaLength, BadTagLength, BadTagOctet, CutTag, tag_refusal, caa_refusal}
+use Rattle.dns_rdata_sets.specs.CAA.{caa_shape, caa_fields, AreTagOctets, IsTag, tag_refusal, caa_refusal}
 
 -- the flags' two parts make them again
 pub flags_back : (f : ℕ) → f < 256 → f ≡ f % 128 % 128 + cond (nat_le 128 f) 128 0

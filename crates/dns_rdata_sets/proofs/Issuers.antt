@@ -14,7 +14,7 @@ use Rattle.dns_labels.specs.Text.OctetText.{plain, decimal, quoted}
 use Rattle.dns_labels.proofs.TextSteps.{printed_text}
 use Rattle.dns_labels.proofs.NameTexts.{one_name, name_reads}
 use Rattle.dns_names_wire.specs.NameValues.{IsRefusal}
-use Rattle.dns_rdata_sets.specs.Issuer.{Parameter, is_no_semicolon, IsParameter, IsNamed, IsWritable, StartsWithout, parameter_octets, Splits, AreParameters, IsIssuerName, name_refusal, IsIssuer, NoIssuer, issuer_refusal, issuer_name_text, parameters_text, issuer_value}
+use Rattle.dns_rdata_sets.specs.Issuer.{Parameter, is_no_semicolon, IsParameter, IsNamed, IsWritable, StartsWithout, parameter_octets, Splits, AreParameters, IsIssuerName, name_refusal, IsIssuer, issuer_refusal, parameters_text, issuer_value}
 use Rattle.dns_rdata_sets.proofs.Splitting.{same_split}
 use Rattle.dns_rdata_sets.proofs.IssuerSteps.{Follow, follow_alone, alone_follow, one_list}
 

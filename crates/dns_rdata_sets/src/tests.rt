@@ -1,2 +1,3 @@
+mod caa;
 mod csync;
 mod sets;

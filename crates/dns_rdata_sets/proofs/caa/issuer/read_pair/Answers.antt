@@ -1,4 +1,4 @@
-use Rattle.std.proofs.Common.{List, ℕ, ◌≡◌, [], ◌∷◌, sym, subst, ap, ◌∙◌, arith, true}
+use Rattle.std.proofs.Common.{List, ℕ, ◌≡◌, ◌∷◌, sym, subst, ap, ◌∙◌, arith, true}
 use Rattle.std.specs.List.{list_all}
 use Rattle.std.proofs.lemmas.Grind.{common_steps}
 use Rattle.dns_rdata_sets.specs.Issuer.{IsKey, is_value_octet}

@@ -1,6 +1,6 @@
 use Rattle.std.proofs.Common.{List, ℕ, ◌≡◌, [], ◌∷◌, ◌++◌, refl, ap, sym, ◌∙◌, append_assoc, arith}
 use Rattle.std.proofs.lemmas.Grind.{common_steps}
-use Rattle.dns_rdata_sets.specs.Issuer.{is_blank, AllOf}
+use Rattle.dns_rdata_sets.specs.Issuer.{is_blank}
 use Rattle.dns_rdata_sets.proofs.Splitting.{all_append, all_cons}
 use Rattle.dns_rdata_sets.proofs.caa.issuer.skip_blanks.Goals as goal
 
