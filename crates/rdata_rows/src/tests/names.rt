@@ -50,14 +50,22 @@ fn is_mx(value: &RData, preference: u16, exchange: Name) -> bool {
     *value == RData::MX(MX::new(preference, exchange))
 }
 
+fn reads_mx(alloc: Global, octets: &[u8], preference: u16, exchange: &str) -> Result<bool, Fail> {
+    let exchange = name(alloc, exchange)?;
+    Ok(is_mx(
+        &value_of(alloc, octets, RecordType::MX)?,
+        preference,
+        exchange,
+    ))
+}
+
 #[test]
 fn letters_of_either_case(rt: HostRuntime) -> Result<(), Fail> {
-    let alloc = rt.alloc();
-    let value = value_of(alloc, b"\x01\x00\x01N\x00", RecordType::MX)?;
-    assert!(rt; is_mx(&value, 256, name(alloc, "N.")?));
-    assert!(rt; is_mx(&value, 256, name(alloc, "n.")?));
-    assert!(rt; !is_mx(&value, 256, name(alloc, "m.")?));
-    assert!(rt; !is_mx(&value, 255, name(alloc, "n.")?));
+    let octets = b"\x01\x00\x01N\x00";
+    assert!(rt; reads_mx(rt.alloc(), octets, 256, "N.")?);
+    assert!(rt; reads_mx(rt.alloc(), octets, 256, "n.")?);
+    assert!(rt; !reads_mx(rt.alloc(), octets, 256, "m.")?);
+    assert!(rt; !reads_mx(rt.alloc(), octets, 255, "n.")?);
     Ok(())
 }
 
