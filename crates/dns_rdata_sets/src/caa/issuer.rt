@@ -239,9 +239,10 @@ fn read_parts(alloc: Global, octets: &[u8]) -> ProtoResult<(Option<Name>, Vec<Ke
 /// The name and the parameters that the value of an issuer property has (RFC 8659, 4.2).
 ///
 /// The octets in front of the first `;`, or all where there is none, are a name by `Name::from_ascii`; no octets are
-/// no name. Behind that `;` stand parameters with a `;` between, which is followed by any number of `;`, spaces and
-/// tabs, as are the front and a `;` at the end. A parameter is a key, `=` and a value: a key one ASCII letter or digit, or two and then
-/// any number of letters, digits and `-`; a value any number of octets 0x21 to 0x3A and 0x3C to 0x7E.
+/// no name. Behind that `;` stand blanks, which are any number of `;`, spaces and tabs; or blanks and a parameter; or
+/// blanks, a parameter, a `;`, and again such octets. A parameter is a key, `=` and a value: a key one ASCII letter or
+/// digit, or two and then any number of letters, digits and `-`; a value any number of octets 0x21 to 0x3A and 0x3C to
+/// 0x7E.
 ///
 /// A name's octets that are not UTF-8 are refused by `Decode` of `Utf8`, anything else by `Message`.
 pub fn read_issuer(alloc: Global, octets: &[u8]) -> ProtoResult<(Option<Name>, Vec<KeyValue>)>
