@@ -1,9 +1,15 @@
 -- CAA by its fields: a record that was read is told by them, and fields that fit make one.
-use Rattle.std.proofs.Common.{◌≡◌, ◌↔◌, ◌<◌, ℕ, ◌+◌, ◌%◌, Bool, true, false, cond, nat_le, refl, sym, ap, ◌∙◌, arith}
+use Rattle.std.proofs.Common.{◌≡◌, ◌↔◌, ◌⊎◌, inl, inr, ◌<◌, ℕ, ◌+◌, ◌%◌, Bool, true, false, cond, nat_le, nat_lt, length, Result, Ok, Err, refl, sym, ap, ◌∙◌, arith, ltb-true}
+use Rattle.std.specs.Prelude.{IfErr}
 use Rattle.std.proofs.lemmas.Grind.{common_steps}
 use Rattle.std.proofs.lemmas.Bool.Decides.{nat_tests}
+use Rattle.dns_types.specs.declared.error.DecodeError.TheVariants as decode
+use Rattle.dns_types.specs.declared.error.ProtoError.{ProtoError}
+use Rattle.dns_types.specs.declared.error.ProtoError.TheVariants as proto
+use Rattle.dns_names_wire.specs.State.{Reading, Writing}
+use Rattle.dns_names_wire.specs.Words.{Emits}
 use Rattle.dns_fields.specs.Fields.{Values, AllFit, Same}
-use Rattle.dns_rdata_sets.specs.CAA.{caa_shape, caa_fields, caa_flags, caa_key_shape, caa_keys, critical_number, IsReadCaa}
+use Rattle.dns_rdata_sets.specs.CAA.{IsMessage, tag_refusal, caa_refusal, caa_shape, caa_fields, caa_flags, caa_key_shape, caa_keys, critical_number, IsReadCaa}
 use Rattle.dns_rdata_sets.specs.declared.caa.CAA.{CAA}
 use Rattle.dns_rdata_sets.proofs.CaaReads.{flags_back}
 
@@ -49,3 +55,40 @@ caa_keys-same a b x y = (
       let k = critical_same a.issuer_critical b.issuer_critical a.reserved_flags b.reserved_flags x y s.0.is in
       (record { is = k.0 }, (record { is = k.1 }, s.1)),
 )
+
+-- ---- the refusal by a type's number is none of CAA's
+
+tag_never : (n t : ℕ) (d new : Reading) (k : ℕ) → tag_refusal n t d (decode.UnknownRecordTypeValue k) new → ⊥
+tag_never n t d new k (inl h) = let e = h.error in cc e
+tag_never n t d new k (inr (inl h)) = let e = h.error in cc e
+tag_never n t d new k (inr (inr (inl h))) = let e = h.error in cc e
+tag_never n t d new k (inr (inr (inr h))) = let e = h.error in cc e
+
+value_never : (k : ℕ) (P : Type 0) → (decode.UnknownRecordTypeValue k ≡ decode.Memory) ⊎ ((decode.UnknownRecordTypeValue k ≡ decode.InsufficientBytes) × P) → ⊥
+value_never k P (inl e) = cc e
+value_never k P (inr h) = let e = h.0 in cc e
+
+pub caa_never : (n : ℕ) (old new : Reading) (k : ℕ) → caa_refusal n old (decode.UnknownRecordTypeValue k) new → ⊥
+caa_never n old new k (inl h) = let e = h.error in cc e
+caa_never n old new k (inr (inl h)) = tag_never n h.size h.between new k h.refused
+caa_never n old new k (inr (inr h)) = value_never k _ h.error
+
+-- ---- what is emitted
+
+flags_fit : (b : Bool) (r : ℕ) → r % 128 + cond b 128 0 < 256
+flags_fit true r = omega arith
+flags_fit false r = omega arith
+
+not_long : (n : ℕ) → nat_lt 255 n ≡ false → n < 256
+not_long n e = grind (arith, nat_tests)
+
+-- a message refuses a tag of more than 255 octets
+pub long_tag : (x : CAA) (r : Result (Unit {0}) ProtoError) (old new : Writing) → Emits caa_shape (caa_fields x) r old new → IfErr r (λ e. IsMessage e → 255 < length x.tag)
+long_tag x (Ok u) old new h = tt
+long_tag x (Err (proto.Message t)) old new h = λ m. past (nat_lt 255 (length x.tag)) refl where
+  past : (b : Bool) → nat_lt 255 (length x.tag) ≡ b → 255 < length x.tag
+  past true e = ltb-true 255 (length x.tag) e
+  past false e = absurd (h.why.unfit (flags_fit x.issuer_critical x.reserved_flags, (not_long (length x.tag) e, (tt, tt))))
+long_tag x (Err proto.Memory) old new h = λ m. absurd m
+long_tag x (Err proto.MaxBufferSizeExceeded) old new h = λ m. absurd m
+long_tag x (Err (proto.Decode d)) old new h = λ m. absurd m

@@ -1,8 +1,9 @@
 -- Values of issuer properties: read, and written.
-use Rattle.std.proofs.Common.{◌≡◌, ◌≢◌, ℕ, ◌+◌, ◌<◌, Bool, true, false, cond, All, inl, inr, List, [], ◌∷◌, ◌++◌, flat_map, Option, Some, None, refl, ap, sym, subst, arith}
+use Rattle.std.proofs.Common.{◌≡◌, ◌≢◌, ℕ, ◌+◌, ◌<◌, Bool, true, false, cond, All, inl, inr, List, [], ◌∷◌, ◌++◌, flat_map, Option, Some, None, Result, Ok, Err, refl, ap, sym, subst, arith}
 use Rattle.std.proofs.lemmas.List.Elements.{All-nil, All-cons, All-head, All-tail, All-append}
 use Rattle.std.proofs.lemmas.Str.{IsUtf8-nil, IsUtf8-from_ascii}
 use Rattle.std.proofs.lemmas.Str.Ascii.{IsAscii-from_all}
+use Rattle.std.specs.Prelude.{IfOk, IfErr, MatchResult}
 use Rattle.std.specs.List.{AllByRecursion}
 use Rattle.std.specs.Str.{IsUtf8}
 use Rattle.dns_types.specs.declared.error.ProtoError.{ProtoError}
@@ -121,3 +122,12 @@ issuer_written (Some name) xs n w h = record {
   is_name = (w.0, name_text_utf8 name n.1, name_reads name n.0 n.1);
   parameters = written_parameters xs h;
 }
+
+-- a value that is read, or refused, is read as the name and the parameters that it has
+pub issuer_again : {T : Type 0} (octets : List ℕ) (view : T → Option DomainName × List Parameter) (r : Result T ProtoError) → IfOk r (λ x. IsIssuer octets (view x).0 (view x).1) → IfErr r (λ e. issuer_refusal octets e)
+    → (name : Option DomainName) (xs : List Parameter) → IsIssuer octets name xs → MatchResult r (λ x. ((view x).0 ≡ name) × ((view x).1 ≡ xs)) (λ e. e ≡ proto.Memory)
+issuer_again octets view (Ok x) h k name xs i = one_issuer octets (view x).0 name (view x).1 xs h i
+issuer_again octets view (Err proto.Memory) h k name xs i = refl
+issuer_again octets view (Err proto.MaxBufferSizeExceeded) h k name xs i = absurd k
+issuer_again octets view (Err (proto.Decode d)) h k name xs i = absurd (k.1 name xs i)
+issuer_again octets view (Err (proto.Message t)) h k name xs i = absurd (k.0 name xs i)

@@ -4,7 +4,7 @@ ghost use Rattle.std.specs.Prelude.{◌≡◌, ◌≤◌, ◌<◌, ◌+◌, fals
 ghost use Rattle.std.specs.Char.{is_ascii_alphanumeric};
 ghost use Rattle.dns_fields.specs.Fields.{Octets as OctetsKind};
 ghost use Rattle.dns_names_wire.specs.Words.{ReadsTo, ReadsWindow, TookField, StaysBehind, Emits};
-ghost use Rattle.dns_rdata_sets.specs.CAA.{caa_shape, caa_flags, caa_fields, caa_condition, caa_key_shape, caa_keys, AreTagOctets, IsTag, IsReadCaa, tag_refusal, caa_refusal};
+ghost use Rattle.dns_rdata_sets.specs.CAA.{caa_shape, caa_flags, caa_fields, caa_condition, caa_key_shape, caa_keys, AreTagOctets, IsTag, IsReadCaa, IsMessage, tag_refusal, caa_refusal};
 
 mod issuer;
 mod values;
@@ -38,9 +38,19 @@ impl CAA {
     pub fn flags(&self) -> u8
         ensures { result ≡ caa_flags self.now }
     {
-        let _ = &self.tag;
         let low = self.reserved_flags % 128;
         if self.issuer_critical { low + 128 } else { low }
+    }
+
+    // Appends the fields in order.
+    #[tactic(auto, using(dns_names_wire::proofs::FieldWrites::writing))]
+    fn emit_in_order(&self, encoder: &mut BinEncoder<'_>) -> Result<(), ProtoError>
+        ensures { Emits caa_shape (caa_fields self.now) result encoder.old encoder.new }
+    {
+        encoder.emit_u8(self.flags())?;
+        encoder.emit_character_data(self.tag.as_slice())?;
+        encoder.emit_vec(self.value.as_slice())?;
+        Ok(())
     }
 
     // Reads the fields that fill the length.
@@ -145,14 +155,14 @@ impl RecordDataDecodable for CAA {
 impl BinEncodable for CAA {
     ghost emits = { λ x r old new. Emits caa_shape (caa_fields x) r old new };
 
-    /// Appends the flags, the tag behind its length, and the value. A tag of more than 255 octets is refused by
-    /// `Message`.
-    #[tactic(auto, using(dns_names_wire::proofs::FieldWrites::writing))]
-    fn emit(&self, encoder: &mut BinEncoder<'_>) -> Result<(), ProtoError> {
-        encoder.emit_u8(self.flags())?;
-        encoder.emit_character_data(self.tag.as_slice())?;
-        encoder.emit_vec(self.value.as_slice())?;
-        Ok(())
+    /// Appends the flags, the tag behind its length, and the value. A tag of more than 255 octets is refused, and no other
+    /// is refused by `Message`.
+    #[inline]
+    fn emit(&self, encoder: &mut BinEncoder<'_>) -> Result<(), ProtoError>
+        ensures emits { Emits caa_shape (caa_fields self.now) result encoder.old encoder.new }
+        ensures message { IfErr result (λ e. IsMessage e → 255 < list_length self.now.tag) }
+    {
+        self.emit_in_order(encoder)
     }
 }
 

@@ -1,6 +1,6 @@
 //! The values of issuer properties (RFC 8659, 4.2).
 
-ghost use Rattle.std.specs.Prelude.{◌≡◌, ◌↔◌, ◌++◌, ◌∷◌, ◌==◌, ◌⊎◌, ℕ, List, not, IsTrue, IfOk, IfErr, OnOk, Option};
+ghost use Rattle.std.specs.Prelude.{◌≡◌, ◌↔◌, ◌++◌, ◌∷◌, ◌==◌, ◌⊎◌, ℕ, List, not, IsTrue, IfOk, IfErr, OnOk, MatchResult, Option};
 ghost use Rattle.std.specs.List.{list_all, AllByRecursion};
 ghost use Rattle.std.specs.Option.{option_copied};
 ghost use Rattle.std.specs.Str.{IsUtf8};
@@ -225,15 +225,8 @@ fn read_name(alloc: Global, octets: &[u8]) -> ProtoResult<Option<Name>>
     }
 }
 
-/// The name and the parameters that the value of an issuer property has (RFC 8659, 4.2).
-///
-/// The octets in front of the first `;`, or all where there is none, are a name by `Name::from_ascii`; no octets are
-/// no name. Behind that `;` stand parameters with a `;` between, which is followed by any number of `;`, spaces and
-/// tabs, as are the front and a `;` at the end. A parameter is a key, `=` and a value: a key one ASCII letter or digit, or two and then
-/// any number of letters, digits and `-`; a value any number of octets 0x21 to 0x3A and 0x3C to 0x7E.
-///
-/// A name's octets that are not UTF-8 are refused by `Decode` of `Utf8`, anything else by `Message`.
-pub fn read_issuer(alloc: Global, octets: &[u8]) -> ProtoResult<(Option<Name>, Vec<KeyValue>)>
+// The name and the parameters of an issuer.
+fn read_parts(alloc: Global, octets: &[u8]) -> ProtoResult<(Option<Name>, Vec<KeyValue>)>
     ensures read { IfOk result (λ x. IsIssuer octets.now x.0 x.1.items) }
     ensures refused { IfErr result (λ e. issuer_refusal octets.now e) }
 {
@@ -241,6 +234,25 @@ pub fn read_issuer(alloc: Global, octets: &[u8]) -> ProtoResult<(Option<Name>, V
     let name = read_name(alloc, name)?;
     let pairs = read_pairs(alloc, rest)?;
     Ok((name, pairs))
+}
+
+/// The name and the parameters that the value of an issuer property has (RFC 8659, 4.2).
+///
+/// The octets in front of the first `;`, or all where there is none, are a name by `Name::from_ascii`; no octets are
+/// no name. Behind that `;` stand blanks, which are any number of `;`, spaces and tabs; or blanks and a parameter; or
+/// blanks, a parameter, a `;`, and again such octets. A parameter is a key, `=` and a value: a key one ASCII letter or
+/// digit, or two and then any number of letters, digits and `-`; a value any number of octets 0x21 to 0x3A and 0x3C to
+/// 0x7E.
+///
+/// A name's octets that are not UTF-8 are refused by `Decode` of `Utf8`, anything else by `Message`.
+pub fn read_issuer(alloc: Global, octets: &[u8]) -> ProtoResult<(Option<Name>, Vec<KeyValue>)>
+    ensures read { IfOk result (λ x. IsIssuer octets.now x.0 x.1.items) }
+    ensures refused { IfErr result (λ e. issuer_refusal octets.now e) }
+    // the value of a name and parameters is read as these
+    ensures reads_back { (name : Option DomainName) (xs : List Parameter) → IsIssuer octets.now name xs →
+        MatchResult result (λ x. (x.0 ≡ name) × (x.1.items ≡ xs)) (λ e. e ≡ ProtoError.Memory) }
+{
+    read_parts(alloc, octets)
 }
 
 /// The text of a URL for incident reports (RFC 8659, 4.4), as it is. Refused by `Decode` of `Utf8` exactly where it is
