@@ -155,8 +155,8 @@ impl RecordDataDecodable for CAA {
 impl BinEncodable for CAA {
     ghost emits = { λ x r old new. Emits caa_shape (caa_fields x) r old new };
 
-    /// Appends the flags, the tag behind its length, and the value. A tag of more than 255 octets is refused, and no other
-    /// is refused by `Message`.
+    /// Appends the flags, the tag behind its length, and the value. A tag of more than 255 octets is refused, and no
+    /// other is refused by `Message`.
     #[inline]
     fn emit(&self, encoder: &mut BinEncoder<'_>) -> Result<(), ProtoError>
         ensures emits { Emits caa_shape (caa_fields self.now) result encoder.old encoder.new }

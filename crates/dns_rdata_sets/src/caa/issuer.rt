@@ -301,7 +301,8 @@ fn append_pairs(out: &mut Vec<u8>, pairs: &[KeyValue]) -> Result<(), AllocError>
     Ok(())
 }
 
-fn value_octets(
+// The value of an issuer property.
+pub(super) fn issuer_octets(
     alloc: Global,
     name: Option<&Name>,
     pairs: &[KeyValue],
@@ -316,20 +317,6 @@ fn value_octets(
     }
     append_pairs(&mut out, pairs)?;
     Ok(out)
-}
-
-// The value of an issuer property.
-pub(super) fn issuer_octets(
-    alloc: Global,
-    name: Option<&Name>,
-    pairs: &[KeyValue],
-) -> Result<Vec<u8>, AllocError>
-    ensures value { IfOk result (λ v. v.items ≡ issuer_value (option_copied name.entry) pairs.now) }
-    ensures reads_back { IsWritable (option_copied name.entry) → AllByRecursion IsParameter pairs.now →
-        IfOk result (λ v. IsIssuer v.items (option_copied name.entry) pairs.now) }
-{
-    let value = value_octets(alloc, name, pairs)?;
-    Ok(value)
 }
 
 /// Octets are the value of an issuer property in at most one way, and what is written reads back.

@@ -138,8 +138,8 @@ impl CAA {
         read_issuer(self.value.allocator(), self.value.as_slice())
     }
 
-    /// The URL where incidents are reported, by `read_iodef`. A tag other than `iodef`, the case of ASCII letters ignored,
-    /// is refused by `Message`. Takes no memory.
+    /// The URL where incidents are reported, by `read_iodef`. A tag other than `iodef`, the case of ASCII letters
+    /// ignored, is refused by `Message`. Takes no memory.
     pub fn value_as_iodef(&self) -> ProtoResult<&str>
         ensures read { IfOk result (λ text. (text.now ≡ self.now.value) × IsUtf8 self.now.value) }
         ensures tag { OnOk result (IsIodefTag self.now.tag) }
