@@ -1,11 +1,13 @@
 -- The laws of record data of every type.
-use Rattle.std.proofs.Common.{◌≡◌, ℕ, ◌+◌, ◌-◌, ◌<◌, ◌≤◌, Bool, List, length, sym, ap, ◌∙◌, arith, subst, Result, Ok, Err}
+use Rattle.std.proofs.Common.{◌≡◌, ℕ, ◌+◌, ◌-◌, ◌<◌, ◌≤◌, Bool, true, nat_le, List, [], ◌∷◌, length, refl, sym, ap, ◌∙◌, arith, subst, Result, Ok, Err}
+use Rattle.std.proofs.lemmas.Bool.Decides.{nat_tests}
+use Rattle.std.specs.List.{list_all, AllByRecursion}
 use Rattle.std.specs.Bool.{Decides}
 use Rattle.std.specs.Result.{IfOk, OnOk}
 use Rattle.std.proofs.lemmas.List.{length-append}
 use Rattle.dns_fields.specs.declared.RDataEncoding.{RDataEncoding}
 use Rattle.dns_fields.specs.Octets.{AreOctets}
-use Rattle.dns_fields.specs.Fields.{Values, Stands, Same, Wrote, canonical}
+use Rattle.dns_fields.specs.Fields.{Kind, Text, Texts, Value, Values, Fits, AllFit, Stands, Same, Wrote, canonical}
 use Rattle.dns_fields.specs.Equal.{values_eq}
 use Rattle.dns_fields.specs.Laws.{IsShape}
 use Rattle.dns_fields.proofs.EqualLaws.{values_decide}
@@ -21,7 +23,7 @@ use Rattle.dns_rdata_base.specs.NAPTR.{AreFlags}
 use Rattle.dns_rdata_sets.specs.CAA.{IsTag}
 use Rattle.dns_rdata_sets.specs.CSYNC.{AreKnownFlags}
 use Rattle.dns_rdata.specs.declared.record_data.RData.{RData}
-use Rattle.dns_rdata.specs.Data.{shape, condition, FieldsOf, fields_of, Fills, data_octets, mode_for}
+use Rattle.dns_rdata.specs.Data.{shape, condition, FieldsOf, fields_of, Fills, is_emittable, all_emittable, octets_of, data_octets, mode_for}
 use Rattle.dns_rdata.specs.Equal.{equal}
 use Rattle.dns_rdata.specs.Laws.{OneValue, EachWindow, HasEqual, TellsApart, ReadsCanonical, ReadsBack}
 use Rattle.dns_rdata.proofs.Values.{values_as, values_as-same, value_for, value_is, window_value, fields_for, equal_values}
@@ -72,14 +74,34 @@ equal_same t v w m p n m' p' n' f g =
     let d = values_decide (shape t) f.values g.values (stands_full m p (shape t) f.values (p + n) f.window.stands) (stands_full m' p' (shape t) g.values (p' + n') g.window.stands) in
     subst (λ (x : Bool). Decides x (Same (shape t) f.values g.values)) (sym (a ∙ b ∙ c)) d
 
-abbrev octets_of : FieldsOf → List ℕ
-octets_of f = canonical f.kinds f.values
+-- what fits can be emitted
+
+short_strings : (ss : List (List ℕ)) → AllByRecursion (λ s. length s < 256) ss → list_all (λ s. nat_le (length s) 255) ss ≡ true
+short_strings [] h = refl
+short_strings (s ∷ ss) h = let a : nat_le (length s) 255 ≡ true = short_string s h.0 in rw a (short_strings ss h.1) where
+  short_string : (s : List ℕ) → length s < 256 → nat_le (length s) 255 ≡ true
+  short_string s h = grind (arith, nat_tests)
+
+fits_emittable : (k : Kind) (v : Value k) → Fits k v → is_emittable k v ≡ true
+fits_emittable Text s h = grind (arith, nat_tests)
+fits_emittable Texts ss h = short_strings ss h
+fits_emittable k v h = refl
+
+all_fit_emittable : (kinds : List Kind) (vs : Values kinds) → AllFit kinds vs → all_emittable kinds vs ≡ true
+all_fit_emittable [] vs h = refl
+all_fit_emittable (k ∷ kinds) vs h = rw (fits_emittable k vs.0 h.0) (all_fit_emittable kinds vs.1 h.1)
+
+octets_fit : (kinds : List Kind) (vs : Values kinds) → AllFit kinds vs → octets_of (record { kinds = kinds; values = vs }) ≡ canonical kinds vs
+octets_fit kinds vs h = rw (all_fit_emittable kinds vs h) refl
+
+filled_octets : {m : List ℕ} {p n : ℕ} {t : RecordType} {v : RData} (f : Fills m p n t v) → data_octets v ≡ canonical (shape t) f.values
+filled_octets {m} {p} {n} {t} f = ap octets_of f.value.fields ∙ octets_fit (shape t) f.values (stands_fit m p (shape t) f.values (p + n) f.window.stands)
 
 pub tells_apart : (v w : RData) → TellsApart v w (equal v w)
 tells_apart v w t m p n m' p' n' f g =
     let d = equal_same t v w m p n m' p' n' f g in
-    let ev : data_octets v ≡ canonical (shape t) f.values = ap octets_of f.value.fields in
-    let ew : data_octets w ≡ canonical (shape t) g.values = ap octets_of g.value.fields in
+    let ev : data_octets v ≡ canonical (shape t) f.values = filled_octets f in
+    let ew : data_octets w ≡ canonical (shape t) g.values = filled_octets g in
     let fs = f.window.stands in
     let gs = g.window.stands in (
       λ h. ev ∙ canonical_same (shape t) f.values g.values (d.0 h) ∙ sym ew,
@@ -107,7 +129,7 @@ reads_canonical m p n t v f short =
     let fit = stands_fit m p (shape t) f.values (p + n) f.window.stands in
     let lawful = stands_lawful m p (shape t) f.values (p + n) f.window.stands in
     let b = canonical_stands (shape t) f.values fit lawful in
-    let e : canonical (shape t) f.values ≡ data_octets v = ap octets_of (sym f.value.fields) in
+    let e : canonical (shape t) f.values ≡ data_octets v = sym (filled_octets f) in
     let whole : Stands (data_octets v) 0 (shape t) b.0 (length (data_octets v)) = subst (λ (x : List ℕ). Stands x 0 (shape t) b.0 (length x)) e b.2 in
     let z : length (data_octets v) ≡ 0 + length (data_octets v) = omega arith in
     let octets : AreOctets (data_octets v) = subst AreOctets e (canonical_octets_are m p (shape t) f.values (p + n) f.window.octets f.window.stands) in

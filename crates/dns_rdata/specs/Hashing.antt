@@ -1,5 +1,5 @@
 -- What values of record data feed a hasher: equal values the same.
-use Rattle.std.specs.Prelude.{◌≡◌, Bool, true, ◌&&◌, ◌++◌, []}
+use Rattle.std.specs.Prelude.{◌≡◌, true, ◌&&◌, ◌++◌}
 use Rattle.std.specs.Cmp.{first_so, second_so}
 use Rattle.std.specs.Hash.{HashWrites}
 use Rattle.std.proofs.Common.{ap, ◌∙◌, refl, true≢false, sym}
@@ -49,7 +49,6 @@ use Rattle.dns_rdata_sets.specs.contracts.csync.CSYNCHash.TheImpl as csync_hash
 use Rattle.dns_rdata_sets.specs.contracts.csync.CSYNCHash.TheImpl.Laws as csync_hash_laws
 use Rattle.dns_rdata.specs.declared.record_data.RData.{RData}
 use Rattle.dns_rdata.specs.declared.record_data.RData.TheVariants as rdata
-use Rattle.dns_rdata.specs.Data.{type_of}
 use Rattle.dns_rdata.specs.Equal.{equal, a_eq, aaaa_eq, aname_eq, caa_eq, cert_eq, cname_eq, csync_eq, hinfo_eq, mx_eq, naptr_eq, null_eq, ns_eq, openpgpkey_eq, ptr_eq, smimea_eq, soa_eq, srv_eq, sshfp_eq, tlsa_eq, txt_eq, record_type_eq}
 
 abbrev pub type_fed : RecordType → HashWrites
