@@ -41,41 +41,70 @@ fn whole<T: RecordDataDecodable>(alloc: Global, octets: &[u8]) -> Result<T, Deco
     T::read_data(&mut decoder, Restrict::new(octets.len() as u16))
 }
 
+// Whether a value is printed and emitted so, and its clone is equal to it.
+fn is_shown<T: BinEncodable + fmt::Display + Clone + PartialEq + Drop>(
+    alloc: Global,
+    value: &T,
+    text: &str,
+    octets: &[u8],
+) -> Result<bool, ProtoError> {
+    Ok(
+        is_printed(alloc, value, text)?
+            && is_emitted(alloc, value, octets)?
+            && value.clone()? == *value,
+    )
+}
+
+// Whether the octets are read as this value.
+fn is_read_as<T: RecordDataDecodable + PartialEq + Drop>(
+    alloc: Global,
+    octets: &[u8],
+    value: &T,
+) -> Result<bool, DecodeError>
+    requires { length octets.now < 65536 }
+{
+    Ok(whole::<T>(alloc, octets)? == *value)
+}
+
+fn is_too_long<T: BinEncodable>(alloc: Global, value: &T) -> bool {
+    matches!(is_emitted(alloc, value, b""), Err(ProtoError::Message(_)))
+}
+
 #[test]
 fn machines(rt: HostRuntime) -> Result<(), ProtoError> {
+    let octets = b"\x03cpu\x02os";
+    let value: HINFO = whole(rt.alloc(), octets)?;
+    assert!(rt; is_shown(rt.alloc(), &value, "cpu os", octets)?);
+    Ok(())
+}
+
+fn machine(alloc: Global, cpu: &str, os: &str) -> Result<HINFO, ProtoError> {
+    let cpu = String::from_str(alloc, cpu)?;
+    Ok(HINFO::new(cpu, String::from_str(alloc, os)?))
+}
+
+fn machine_of_octets(alloc: Global, cpu: &[u8], os: &[u8]) -> Result<HINFO, ProtoError> {
+    let cpu = Vec::from_slice(alloc, cpu)?.into_boxed_slice();
+    let os = Vec::from_slice(alloc, os)?.into_boxed_slice();
+    Ok(HINFO::from_bytes(cpu, os))
+}
+
+#[test]
+fn machines_that_are_made(rt: HostRuntime) -> Result<(), ProtoError> {
     let alloc = rt.alloc();
     let octets = b"\x03cpu\x02os";
-    let value: HINFO = whole(alloc, octets)?;
-    assert!(rt; is_printed(rt.alloc(), &value, "cpu os")?);
-    assert!(rt; is_emitted(alloc, &value, octets)?);
-    let made = HINFO::new(
-        String::from_str(alloc, "cpu")?,
-        String::from_str(alloc, "os")?,
-    );
-    assert!(rt; made == value);
-    assert!(rt; value.clone()? == value);
-    let other = HINFO::from_bytes(
-        vec![in alloc; b'c', b'p', b'u']?.into_boxed_slice(),
-        vec![in alloc; b'o', b't']?.into_boxed_slice(),
-    );
-    assert!(rt; other != value);
-    let mut decoder = BinDecoder::new(alloc, b"\x01\xff\x00\x07");
-    let value = HINFO::read(&mut decoder)?;
-    assert_eq!(rt; decoder.index(), 3);
-    assert!(rt; is_printed(rt.alloc(), &value, "\u{fffd} ")?);
+    assert!(rt; is_read_as(alloc, octets, &machine(alloc, "cpu", "os")?)?);
+    assert!(rt; is_read_as(alloc, octets, &machine_of_octets(alloc, b"cpu", b"os")?)?);
+    assert!(rt; !is_read_as(alloc, octets, &machine_of_octets(alloc, b"cpu", b"ot")?)?);
     Ok(())
 }
 
 #[test]
-fn long_strings(rt: HostRuntime) -> Result<(), ProtoError> {
-    let alloc = rt.alloc();
-    let none = String::new(alloc);
-    let most = HINFO::new(String::new(alloc), repeated(alloc, 255)?);
-    assert_eq!(rt; emitted_len(alloc, &most)?, 257);
-    let more = HINFO::new(none, repeated(alloc, 256)?);
-    assert!(rt; matches!(is_emitted(alloc, &more, b""), Err(ProtoError::Message(_))));
-    let more = TXT::new(vec![in alloc; repeated(alloc, 255)?, repeated(alloc, 256)?]?)?;
-    assert!(rt; matches!(is_emitted(alloc, &more, b""), Err(ProtoError::Message(_))));
+fn machines_that_are_no_text(rt: HostRuntime) -> Result<(), ProtoError> {
+    let mut decoder = BinDecoder::new(rt.alloc(), b"\x01\xff\x00\x07");
+    let value = HINFO::read(&mut decoder)?;
+    assert_eq!(rt; decoder.index(), 3);
+    assert!(rt; is_printed(rt.alloc(), &value, "\u{fffd} ")?);
     Ok(())
 }
 
@@ -88,28 +117,48 @@ fn repeated(alloc: Global, count: usize) -> Result<String, ProtoError> {
     Ok(text)
 }
 
+// A machine whose system has so many letters.
+fn long_machine(alloc: Global, count: usize) -> Result<HINFO, ProtoError> {
+    Ok(HINFO::new(String::new(alloc), repeated(alloc, count)?))
+}
+
+// A text of one string with so many letters.
+fn long_text(alloc: Global, count: usize) -> Result<TXT, ProtoError> {
+    let text = repeated(alloc, count)?;
+    Ok(TXT::new(vec![in alloc; text]?)?)
+}
+
+#[test]
+fn long_strings(rt: HostRuntime) -> Result<(), ProtoError> {
+    let alloc = rt.alloc();
+    assert_eq!(rt; emitted_len(alloc, &long_machine(alloc, 255)?)?, 257);
+    assert!(rt; is_too_long(alloc, &long_machine(alloc, 256)?));
+    assert_eq!(rt; emitted_len(alloc, &long_text(alloc, 255)?)?, 256);
+    assert!(rt; is_too_long(alloc, &long_text(alloc, 256)?));
+    Ok(())
+}
+
+fn text_of(alloc: Global, parts: &[&[u8]]) -> Result<TXT, ProtoError> {
+    Ok(TXT::from_bytes(Vec::from_slice(alloc, parts)?)?)
+}
+
 #[test]
 fn texts(rt: HostRuntime) -> Result<(), ProtoError> {
     let alloc = rt.alloc();
     let octets = b"\x06abcdef\x03ghi\x00\x01j";
-    let parts: Vec<&[u8]> = vec![in alloc;
-        b"abcdef".as_slice(),
-        b"ghi".as_slice(),
-        b"".as_slice(),
-        b"j".as_slice(),
-    ]?;
-    let value = TXT::from_bytes(parts)?;
-    assert!(rt; is_emitted(alloc, &value, octets)?);
-    assert!(rt; is_printed(rt.alloc(), &value, "abcdefghij")?);
-    let read: TXT = whole(alloc, octets)?;
-    assert!(rt; read == value);
-    assert!(rt; read.clone()? == value);
-    let none: TXT = whole(alloc, b"")?;
-    assert_eq!(rt; none.txt_data.len(), 0);
-    let empty: TXT = whole(alloc, b"\x00")?;
-    assert_eq!(rt; empty.txt_data.len(), 1);
-    assert!(rt; none != empty);
-    assert!(rt; empty == TXT::new(vec![in alloc; String::new(alloc)]?)?);
+    let parts: [&[u8]; 4] = [b"abcdef", b"ghi", b"", b"j"];
+    let value = text_of(alloc, &parts)?;
+    assert!(rt; is_shown(alloc, &value, "abcdefghij", octets)?);
+    assert!(rt; is_read_as(alloc, octets, &value)?);
+    Ok(())
+}
+
+#[test]
+fn texts_without_letters(rt: HostRuntime) -> Result<(), ProtoError> {
+    let alloc = rt.alloc();
+    assert!(rt; is_read_as(alloc, b"", &text_of(alloc, &[])?)?);
+    assert!(rt; is_read_as(alloc, b"\x00", &long_text(alloc, 0)?)?);
+    assert!(rt; !is_read_as(alloc, b"\x00", &text_of(alloc, &[])?)?);
     Ok(())
 }
 
@@ -132,15 +181,17 @@ fn damaged_texts(rt: HostRuntime) -> Result<(), ProtoError> {
 fn public_keys(rt: HostRuntime) -> Result<(), ProtoError> {
     let alloc = rt.alloc();
     let octets = b"trust_dns is awesome";
-    let value: OPENPGPKEY = whole(alloc, octets)?;
+    let value = OPENPGPKEY::new(Vec::from_slice(alloc, octets)?);
     assert!(rt; value.public_key.as_slice() == octets.as_slice());
-    assert!(rt; is_printed(rt.alloc(), &value, "dHJ1c3RfZG5zIGlzIGF3ZXNvbWU=")?);
-    assert!(rt; is_emitted(alloc, &value, octets)?);
-    assert!(rt; OPENPGPKEY::new(Vec::from_slice(alloc, octets)?) == value);
-    assert!(rt; value.clone()? == value);
-    let mut decoder = BinDecoder::new(alloc, b"ab");
+    assert!(rt; is_shown(alloc, &value, "dHJ1c3RfZG5zIGlzIGF3ZXNvbWU=", octets)?);
+    assert!(rt; is_read_as(alloc, octets, &value)?);
+    Ok(())
+}
+
+#[test]
+fn cut_public_keys(rt: HostRuntime) {
+    let mut decoder = BinDecoder::new(rt.alloc(), b"ab");
     let cut = OPENPGPKEY::read_data(&mut decoder, Restrict::new(3));
     assert!(rt; matches!(cut, Err(DecodeError::InsufficientBytes)));
     assert_eq!(rt; decoder.index(), 0);
-    Ok(())
 }
