@@ -1,5 +1,6 @@
 mod lengths;
 mod names;
+mod sets;
 mod values;
 
 use dns_rdata::{BinDecoder, DecodeError, RData, RecordType, Restrict};
