@@ -4,7 +4,7 @@ use Rattle.std.proofs.lemmas.List.{length-append, append-nil}
 use Rattle.dns_fields.specs.Fields.{Kind, Value, Values, Field, Stands, Wrote, Same, AllFit, AllLawful, canonical, field_octets, AllFull}
 use Rattle.dns_fields.specs.declared.RDataEncoding.{RDataEncoding}
 use Rattle.dns_fields.specs.declared.RDataEncoding.TheVariants.{Other}
-use Rattle.dns_fields.specs.Laws.{IsShape, StandsLaw, CanonicalLaw, CanonicalReads}
+use Rattle.dns_fields.specs.Laws.{IsShape, StandsLaw, OneEnd, CanonicalLaw, CanonicalReads}
 use Rattle.dns_fields.proofs.FieldLaws.{field_append, field_same, field_end, field_fits, field_lawful, wrote_field, wrote_tail, wrote_fits, octets_wrote, octets_same, same_refl, same_sym, same_then, field_full}
 
 -- at most one list of values fills a window
@@ -104,6 +104,9 @@ canonical_injective s a b shape h l g n e =
 
 pub stands_law : StandsLaw
 stands_law m p s a e shape f = (stands_fit m p s a e f, stands_lawful m p s a e f, λ b g. stands_same m p s a b e shape f g)
+
+pub one_end : OneEnd
+one_end m p k a b e f h g = field_end h g
 
 pub canonical_law : CanonicalLaw
 canonical_law s a b shape h l g n = (canonical_injective s a b shape h l g n, canonical_same s a b)

@@ -12,6 +12,8 @@ pub mod ParameterLaws
 pub mod Bitmaps
 pub mod FieldLaws
 pub mod Laws
+pub mod Equivalences
+pub mod Orders
 pub mod EqualLaws
 pub mod OctetLaws
 pub mod Examples

@@ -81,7 +81,8 @@ impl BinEncodable for A {
 
 impl PartialEq for A {
     ghost use Rattle.std.specs.Cmp.{partial_equiv_from_equiv, on_equiv};
-    ghost use Rattle.dns_fields.specs.Equal.{values_eq, values_equiv};
+    ghost use Rattle.dns_fields.specs.Equal.{values_eq};
+    ghost use Rattle.dns_fields.proofs.Equivalences.{values_equiv};
 
     ghost eq = { λ a b. values_eq a_shape (a_fields a) (a_fields b) };
 
@@ -95,7 +96,7 @@ impl PartialEq for A {
 
 impl Eq for A {
     ghost use Rattle.std.specs.Cmp.{on_equiv};
-    ghost use Rattle.dns_fields.specs.Equal.{values_equiv};
+    ghost use Rattle.dns_fields.proofs.Equivalences.{values_equiv};
 
     ghost laws = { on_equiv a_fields (values_equiv a_shape) };
 }

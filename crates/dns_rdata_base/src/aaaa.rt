@@ -83,7 +83,8 @@ impl BinEncodable for AAAA {
 
 impl PartialEq for AAAA {
     ghost use Rattle.std.specs.Cmp.{partial_equiv_from_equiv, on_equiv};
-    ghost use Rattle.dns_fields.specs.Equal.{values_eq, values_equiv};
+    ghost use Rattle.dns_fields.specs.Equal.{values_eq};
+    ghost use Rattle.dns_fields.proofs.Equivalences.{values_equiv};
 
     ghost eq = { λ a b. values_eq aaaa_shape (aaaa_fields a) (aaaa_fields b) };
 
@@ -97,7 +98,7 @@ impl PartialEq for AAAA {
 
 impl Eq for AAAA {
     ghost use Rattle.std.specs.Cmp.{on_equiv};
-    ghost use Rattle.dns_fields.specs.Equal.{values_equiv};
+    ghost use Rattle.dns_fields.proofs.Equivalences.{values_equiv};
 
     ghost laws = { on_equiv aaaa_fields (values_equiv aaaa_shape) };
 }

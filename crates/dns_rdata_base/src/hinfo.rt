@@ -103,7 +103,8 @@ impl BinEncodable for HINFO {
 
 impl PartialEq for HINFO {
     ghost use Rattle.std.specs.Cmp.{partial_equiv_from_equiv, on_equiv};
-    ghost use Rattle.dns_fields.specs.Equal.{values_eq, values_equiv};
+    ghost use Rattle.dns_fields.specs.Equal.{values_eq};
+    ghost use Rattle.dns_fields.proofs.Equivalences.{values_equiv};
 
     ghost eq = { λ a b. values_eq hinfo_shape (hinfo_fields a) (hinfo_fields b) };
 
@@ -117,7 +118,7 @@ impl PartialEq for HINFO {
 
 impl Eq for HINFO {
     ghost use Rattle.std.specs.Cmp.{on_equiv};
-    ghost use Rattle.dns_fields.specs.Equal.{values_equiv};
+    ghost use Rattle.dns_fields.proofs.Equivalences.{values_equiv};
 
     ghost laws = { on_equiv hinfo_fields (values_equiv hinfo_shape) };
 }

@@ -101,7 +101,8 @@ impl BinEncodable for MX {
 
 impl PartialEq for MX {
     ghost use Rattle.std.specs.Cmp.{partial_equiv_from_equiv, on_equiv};
-    ghost use Rattle.dns_fields.specs.Equal.{values_eq, values_equiv};
+    ghost use Rattle.dns_fields.specs.Equal.{values_eq};
+    ghost use Rattle.dns_fields.proofs.Equivalences.{values_equiv};
 
     ghost eq = { λ a b. values_eq mx_shape (mx_fields a) (mx_fields b) };
 
@@ -115,7 +116,7 @@ impl PartialEq for MX {
 
 impl Eq for MX {
     ghost use Rattle.std.specs.Cmp.{on_equiv};
-    ghost use Rattle.dns_fields.specs.Equal.{values_equiv};
+    ghost use Rattle.dns_fields.proofs.Equivalences.{values_equiv};
 
     ghost laws = { on_equiv mx_fields (values_equiv mx_shape) };
 }

@@ -89,7 +89,8 @@ impl Deref for CNAME {
 
 impl PartialEq for CNAME {
     ghost use Rattle.std.specs.Cmp.{partial_equiv_from_equiv, on_equiv};
-    ghost use Rattle.dns_fields.specs.Equal.{values_eq, values_equiv};
+    ghost use Rattle.dns_fields.specs.Equal.{values_eq};
+    ghost use Rattle.dns_fields.proofs.Equivalences.{values_equiv};
 
     ghost eq = { λ a b. values_eq name_shape (cname_fields a) (cname_fields b) };
 
@@ -103,7 +104,7 @@ impl PartialEq for CNAME {
 
 impl Eq for CNAME {
     ghost use Rattle.std.specs.Cmp.{on_equiv};
-    ghost use Rattle.dns_fields.specs.Equal.{values_equiv};
+    ghost use Rattle.dns_fields.proofs.Equivalences.{values_equiv};
 
     ghost laws = { on_equiv cname_fields (values_equiv name_shape) };
 }
@@ -203,7 +204,8 @@ impl Deref for NS {
 
 impl PartialEq for NS {
     ghost use Rattle.std.specs.Cmp.{partial_equiv_from_equiv, on_equiv};
-    ghost use Rattle.dns_fields.specs.Equal.{values_eq, values_equiv};
+    ghost use Rattle.dns_fields.specs.Equal.{values_eq};
+    ghost use Rattle.dns_fields.proofs.Equivalences.{values_equiv};
 
     ghost eq = { λ a b. values_eq name_shape (ns_fields a) (ns_fields b) };
 
@@ -217,7 +219,7 @@ impl PartialEq for NS {
 
 impl Eq for NS {
     ghost use Rattle.std.specs.Cmp.{on_equiv};
-    ghost use Rattle.dns_fields.specs.Equal.{values_equiv};
+    ghost use Rattle.dns_fields.proofs.Equivalences.{values_equiv};
 
     ghost laws = { on_equiv ns_fields (values_equiv name_shape) };
 }
@@ -317,7 +319,8 @@ impl Deref for PTR {
 
 impl PartialEq for PTR {
     ghost use Rattle.std.specs.Cmp.{partial_equiv_from_equiv, on_equiv};
-    ghost use Rattle.dns_fields.specs.Equal.{values_eq, values_equiv};
+    ghost use Rattle.dns_fields.specs.Equal.{values_eq};
+    ghost use Rattle.dns_fields.proofs.Equivalences.{values_equiv};
 
     ghost eq = { λ a b. values_eq name_shape (ptr_fields a) (ptr_fields b) };
 
@@ -331,7 +334,7 @@ impl PartialEq for PTR {
 
 impl Eq for PTR {
     ghost use Rattle.std.specs.Cmp.{on_equiv};
-    ghost use Rattle.dns_fields.specs.Equal.{values_equiv};
+    ghost use Rattle.dns_fields.proofs.Equivalences.{values_equiv};
 
     ghost laws = { on_equiv ptr_fields (values_equiv name_shape) };
 }
@@ -431,7 +434,8 @@ impl Deref for ANAME {
 
 impl PartialEq for ANAME {
     ghost use Rattle.std.specs.Cmp.{partial_equiv_from_equiv, on_equiv};
-    ghost use Rattle.dns_fields.specs.Equal.{values_eq, values_equiv};
+    ghost use Rattle.dns_fields.specs.Equal.{values_eq};
+    ghost use Rattle.dns_fields.proofs.Equivalences.{values_equiv};
 
     ghost eq = { λ a b. values_eq name_shape (aname_fields a) (aname_fields b) };
 
@@ -445,7 +449,7 @@ impl PartialEq for ANAME {
 
 impl Eq for ANAME {
     ghost use Rattle.std.specs.Cmp.{on_equiv};
-    ghost use Rattle.dns_fields.specs.Equal.{values_equiv};
+    ghost use Rattle.dns_fields.proofs.Equivalences.{values_equiv};
 
     ghost laws = { on_equiv aname_fields (values_equiv name_shape) };
 }

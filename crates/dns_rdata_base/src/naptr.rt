@@ -163,7 +163,8 @@ impl BinEncodable for NAPTR {
 
 impl PartialEq for NAPTR {
     ghost use Rattle.std.specs.Cmp.{partial_equiv_from_equiv, on_equiv};
-    ghost use Rattle.dns_fields.specs.Equal.{values_eq, values_equiv};
+    ghost use Rattle.dns_fields.specs.Equal.{values_eq};
+    ghost use Rattle.dns_fields.proofs.Equivalences.{values_equiv};
 
     ghost eq = { λ a b. values_eq naptr_shape (naptr_fields a) (naptr_fields b) };
 
@@ -182,7 +183,7 @@ impl PartialEq for NAPTR {
 
 impl Eq for NAPTR {
     ghost use Rattle.std.specs.Cmp.{on_equiv};
-    ghost use Rattle.dns_fields.specs.Equal.{values_equiv};
+    ghost use Rattle.dns_fields.proofs.Equivalences.{values_equiv};
 
     ghost laws = { on_equiv naptr_fields (values_equiv naptr_shape) };
 }

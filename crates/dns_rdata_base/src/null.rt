@@ -50,7 +50,8 @@ impl NULL {
 
 impl PartialEq for NULL {
     ghost use Rattle.std.specs.Cmp.{partial_equiv_from_equiv, on_equiv};
-    ghost use Rattle.dns_fields.specs.Equal.{values_eq, values_equiv};
+    ghost use Rattle.dns_fields.specs.Equal.{values_eq};
+    ghost use Rattle.dns_fields.proofs.Equivalences.{values_equiv};
 
     ghost eq = { λ a b. values_eq null_shape (null_fields a) (null_fields b) };
 
@@ -64,7 +65,7 @@ impl PartialEq for NULL {
 
 impl Eq for NULL {
     ghost use Rattle.std.specs.Cmp.{on_equiv};
-    ghost use Rattle.dns_fields.specs.Equal.{values_equiv};
+    ghost use Rattle.dns_fields.proofs.Equivalences.{values_equiv};
 
     ghost laws = { on_equiv null_fields (values_equiv null_shape) };
 }

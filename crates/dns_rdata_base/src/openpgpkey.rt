@@ -33,7 +33,8 @@ impl OPENPGPKEY {
 
 impl PartialEq for OPENPGPKEY {
     ghost use Rattle.std.specs.Cmp.{partial_equiv_from_equiv, on_equiv};
-    ghost use Rattle.dns_fields.specs.Equal.{values_eq, values_equiv};
+    ghost use Rattle.dns_fields.specs.Equal.{values_eq};
+    ghost use Rattle.dns_fields.proofs.Equivalences.{values_equiv};
 
     ghost eq = { λ a b. values_eq openpgpkey_shape (openpgpkey_fields a) (openpgpkey_fields b) };
 
@@ -47,7 +48,7 @@ impl PartialEq for OPENPGPKEY {
 
 impl Eq for OPENPGPKEY {
     ghost use Rattle.std.specs.Cmp.{on_equiv};
-    ghost use Rattle.dns_fields.specs.Equal.{values_equiv};
+    ghost use Rattle.dns_fields.proofs.Equivalences.{values_equiv};
 
     ghost laws = { on_equiv openpgpkey_fields (values_equiv openpgpkey_shape) };
 }

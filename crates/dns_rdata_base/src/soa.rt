@@ -168,7 +168,8 @@ impl BinEncodable for SOA {
 
 impl PartialEq for SOA {
     ghost use Rattle.std.specs.Cmp.{partial_equiv_from_equiv, on_equiv};
-    ghost use Rattle.dns_fields.specs.Equal.{values_eq, values_equiv};
+    ghost use Rattle.dns_fields.specs.Equal.{values_eq};
+    ghost use Rattle.dns_fields.proofs.Equivalences.{values_equiv};
 
     ghost eq = { λ a b. values_eq soa_shape (soa_fields a) (soa_fields b) };
 
@@ -188,7 +189,7 @@ impl PartialEq for SOA {
 
 impl Eq for SOA {
     ghost use Rattle.std.specs.Cmp.{on_equiv};
-    ghost use Rattle.dns_fields.specs.Equal.{values_equiv};
+    ghost use Rattle.dns_fields.proofs.Equivalences.{values_equiv};
 
     ghost laws = { on_equiv soa_fields (values_equiv soa_shape) };
 }

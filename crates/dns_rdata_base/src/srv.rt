@@ -113,7 +113,8 @@ impl BinEncodable for SRV {
 
 impl PartialEq for SRV {
     ghost use Rattle.std.specs.Cmp.{partial_equiv_from_equiv, on_equiv};
-    ghost use Rattle.dns_fields.specs.Equal.{values_eq, values_equiv};
+    ghost use Rattle.dns_fields.specs.Equal.{values_eq};
+    ghost use Rattle.dns_fields.proofs.Equivalences.{values_equiv};
 
     ghost eq = { λ a b. values_eq srv_shape (srv_fields a) (srv_fields b) };
 
@@ -130,7 +131,7 @@ impl PartialEq for SRV {
 
 impl Eq for SRV {
     ghost use Rattle.std.specs.Cmp.{on_equiv};
-    ghost use Rattle.dns_fields.specs.Equal.{values_equiv};
+    ghost use Rattle.dns_fields.proofs.Equivalences.{values_equiv};
 
     ghost laws = { on_equiv srv_fields (values_equiv srv_shape) };
 }

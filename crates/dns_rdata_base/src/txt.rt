@@ -111,7 +111,8 @@ impl BinEncodable for TXT {
 
 impl PartialEq for TXT {
     ghost use Rattle.std.specs.Cmp.{partial_equiv_from_equiv, on_equiv};
-    ghost use Rattle.dns_fields.specs.Equal.{values_eq, values_equiv};
+    ghost use Rattle.dns_fields.specs.Equal.{values_eq};
+    ghost use Rattle.dns_fields.proofs.Equivalences.{values_equiv};
 
     ghost eq = { λ a b. values_eq txt_shape (txt_fields a) (txt_fields b) };
 
@@ -125,7 +126,7 @@ impl PartialEq for TXT {
 
 impl Eq for TXT {
     ghost use Rattle.std.specs.Cmp.{on_equiv};
-    ghost use Rattle.dns_fields.specs.Equal.{values_equiv};
+    ghost use Rattle.dns_fields.proofs.Equivalences.{values_equiv};
 
     ghost laws = { on_equiv txt_fields (values_equiv txt_shape) };
 }

@@ -168,7 +168,8 @@ impl BinEncodable for CAA {
 
 impl PartialEq for CAA {
     ghost use Rattle.std.specs.Cmp.{partial_equiv_from_equiv, on_equiv};
-    ghost use Rattle.dns_fields.specs.Equal.{values_eq, values_equiv};
+    ghost use Rattle.dns_fields.specs.Equal.{values_eq};
+    ghost use Rattle.dns_fields.proofs.Equivalences.{values_equiv};
 
     ghost eq = { λ a b. values_eq caa_key_shape (caa_keys a) (caa_keys b) };
 
@@ -184,7 +185,7 @@ impl PartialEq for CAA {
 
 impl Eq for CAA {
     ghost use Rattle.std.specs.Cmp.{on_equiv};
-    ghost use Rattle.dns_fields.specs.Equal.{values_equiv};
+    ghost use Rattle.dns_fields.proofs.Equivalences.{values_equiv};
 
     ghost laws = { on_equiv caa_keys (values_equiv caa_key_shape) };
 }

@@ -155,7 +155,8 @@ impl BinEncodable for CSYNC {
 
 impl PartialEq for CSYNC {
     ghost use Rattle.std.specs.Cmp.{partial_equiv_from_equiv, on_equiv};
-    ghost use Rattle.dns_fields.specs.Equal.{values_eq, values_equiv};
+    ghost use Rattle.dns_fields.specs.Equal.{values_eq};
+    ghost use Rattle.dns_fields.proofs.Equivalences.{values_equiv};
 
     ghost eq = { λ a b. values_eq csync_key_shape (csync_keys a) (csync_keys b) };
 
@@ -172,7 +173,7 @@ impl PartialEq for CSYNC {
 
 impl Eq for CSYNC {
     ghost use Rattle.std.specs.Cmp.{on_equiv};
-    ghost use Rattle.dns_fields.specs.Equal.{values_equiv};
+    ghost use Rattle.dns_fields.proofs.Equivalences.{values_equiv};
 
     ghost laws = { on_equiv csync_keys (values_equiv csync_key_shape) };
 }
