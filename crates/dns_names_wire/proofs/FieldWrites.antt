@@ -90,3 +90,20 @@ emits_keeps kinds vs mode (Ok x) old new h = h.keeps
 emits_keeps kinds vs mode (Err e) old new h = h.extends.keeps
 
 pub ruleset writing = (appended_last, appended_then)
+
+-- ---- what was there stands
+
+pub field_extends : (k : Kind) (v : Value k) (r : Result (Unit {0}) ProtoError) (old new : Writing) → EmitsField k v r old new → Extends old new
+field_extends k v (Ok x) old new h = let t = wrote_tail h.field in record { keeps = h.keeps; tail = t.0; octets = t.1 }
+field_extends k v (Err e) old new h = h.extends
+
+all_tail : (mode : RDataEncoding) (kinds : List Kind) (vs : Values kinds) (m m' : List ℕ) → Wrote mode m kinds vs m' → (t : List ℕ) × (m' ≡ m ++ t)
+all_tail mode [] vs m m' h = ([], h ∙ sym (append-nil m))
+all_tail mode (k ∷ kinds) vs m m' h =
+    let t = wrote_tail h.1 in
+    let u = all_tail mode kinds vs.1 h.0 m' h.2 in
+    (t.0 ++ u.0, u.1 ∙ ap (λ (x : List ℕ). x ++ u.0) t.1 ∙ append_assoc m t.0 u.0)
+
+pub emits_extend : (mode : RDataEncoding) (kinds : List Kind) (vs : Values kinds) (r : Result (Unit {0}) ProtoError) (old new : Writing) → EmitsAs mode kinds vs r old new → Extends old new
+emits_extend mode kinds vs (Ok x) old new h = let t = all_tail mode kinds vs old.octets new.octets h.fields in record { keeps = h.keeps; tail = t.0; octets = t.1 }
+emits_extend mode kinds vs (Err e) old new h = h.extends

@@ -6,7 +6,7 @@ ghost use Rattle.dns_fields.specs.Names.{IsNameIn};
 ghost use Rattle.dns_fields.specs.Fields.{Name as NameKind};
 ghost use Rattle.dns_labels.specs.Labels.{AreNameOctets, name_of};
 ghost use Rattle.dns_labels.specs.Text.{HasOctets};
-ghost use Rattle.dns_names_wire.specs.Words.{ReadsField, ReadsBy, LacksField, EmitsField};
+ghost use Rattle.dns_names_wire.specs.Words.{ReadsField, ReadsBy, LacksField, EmitsField, Extends};
 ghost use Rattle.dns_names_wire.specs.NameValues.{root_name, label_count, has_asterisk};
 
 mod building;
@@ -195,6 +195,7 @@ impl BinEncodable for Name {
     /// `StandardRecord`, with a pointer in place of the longest tail with a label that stands already (4.1.4).
     fn emit(&self, encoder: &mut BinEncoder<'_>) -> Result<(), ProtoError>
         ensures emits { EmitsField NameKind self.now result encoder.old encoder.new }
+        ensures extends { Extends encoder.old encoder.new }
         ensures room { OnOk result (length encoder.new.octets ≤ encoder.old.limit) }
         ensures whole { OnErr result (encoder.new ≡ encoder.old) }
     {
