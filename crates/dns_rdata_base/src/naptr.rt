@@ -5,7 +5,7 @@ ghost use Rattle.std.specs.Box.{boxed_slice_items};
 ghost use Rattle.std.specs.List.{list_all};
 ghost use Rattle.dns_fields.specs.Fields.{Stands};
 ghost use Rattle.dns_fields.specs.declared.RDataEncoding.TheVariants as modes;
-ghost use Rattle.dns_names_wire.specs.Words.{ReadsIf, ReadsBy, ReadsWindow, Emits, EmitsAs, Keeps};
+ghost use Rattle.dns_names_wire.specs.Words.{ReadsIf, ReadsBy, ReadsWindow, Emits, EmitsAs, Extends, Keeps};
 ghost use Rattle.dns_rdata_base.specs.NAPTR.{naptr_shape, naptr_fields, naptr_condition, naptr_refusal, is_flag};
 
 use crate::emitting::{EncodesFields, emit_in};
@@ -155,6 +155,7 @@ impl BinEncodable for NAPTR {
     /// Appends the octets, the name whole, its letters kept. The encoder is then in the mode that it was in, refused or not.
     fn emit(&self, encoder: &mut BinEncoder<'_>) -> Result<(), ProtoError>
         ensures emits { EmitsAs RDataEncoding.Canonical naptr_shape (naptr_fields self.now) result encoder.old encoder.new }
+        ensures extends { Extends encoder.old encoder.new }
         ensures keeps { Keeps encoder.old encoder.new }
     {
         emit_in(RDataEncoding::Canonical, self, encoder)

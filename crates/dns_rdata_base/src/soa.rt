@@ -3,7 +3,7 @@
 ghost use Rattle.std.specs.Prelude.{◌≡◌, ◌+◌, ◌%◌, IfErr, IfOk};
 ghost use Rattle.dns_fields.specs.Fields.{Stands};
 ghost use Rattle.dns_fields.specs.declared.RDataEncoding.TheVariants as modes;
-ghost use Rattle.dns_names_wire.specs.Words.{ReadsIf, ReadsBy, ReadsWindow, Emits, EmitsAs, Keeps, always};
+ghost use Rattle.dns_names_wire.specs.Words.{ReadsIf, ReadsBy, ReadsWindow, Emits, EmitsAs, Extends, Keeps, always};
 ghost use Rattle.dns_rdata_base.specs.Refusing.{IsLack};
 ghost use Rattle.dns_rdata_base.specs.SOA.{soa_shape, soa_fields, soa_numbers_shape, soa_numbers, soa_numbers_of, HasSeconds};
 
@@ -160,6 +160,7 @@ impl BinEncodable for SOA {
     /// Appends the octets; a name ends with a pointer to an earlier place where it can (RFC 1035, 4.1.4). The encoder is then in the mode that it was in, refused or not.
     fn emit(&self, encoder: &mut BinEncoder<'_>) -> Result<(), ProtoError>
         ensures emits { EmitsAs RDataEncoding.StandardRecord soa_shape (soa_fields self.now) result encoder.old encoder.new }
+        ensures extends { Extends encoder.old encoder.new }
         ensures keeps { Keeps encoder.old encoder.new }
     {
         emit_in(RDataEncoding::StandardRecord, self, encoder)
