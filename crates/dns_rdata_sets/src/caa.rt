@@ -3,7 +3,7 @@
 ghost use Rattle.std.specs.Prelude.{◌≡◌, ◌≤◌, ◌<◌, ◌+◌, false, take, get_or, length as list_length, IfErr, IfOk, OnOk};
 ghost use Rattle.std.specs.Char.{is_ascii_alphanumeric};
 ghost use Rattle.dns_fields.specs.Fields.{Octets as OctetsKind};
-ghost use Rattle.dns_names_wire.specs.Words.{ReadsTo, ReadsWindow, TookField, StaysBehind, Emits};
+ghost use Rattle.dns_names_wire.specs.Words.{ReadsTo, ReadsWindow, TookField, StaysBehind, Emits, Extends};
 ghost use Rattle.dns_rdata_sets.specs.CAA.{caa_shape, caa_flags, caa_fields, caa_condition, caa_key_shape, caa_keys, AreTagOctets, IsTag, IsReadCaa, IsMessage, tag_refusal, caa_refusal};
 
 mod issuer;
@@ -160,6 +160,7 @@ impl BinEncodable for CAA {
     #[inline]
     fn emit(&self, encoder: &mut BinEncoder<'_>) -> Result<(), ProtoError>
         ensures emits { Emits caa_shape (caa_fields self.now) result encoder.old encoder.new }
+        ensures extends { Extends encoder.old encoder.new }
         ensures message { IfErr result (λ e. IsMessage e → 255 < list_length self.now.tag) }
     {
         self.emit_in_order(encoder)
