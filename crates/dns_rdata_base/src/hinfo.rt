@@ -6,6 +6,7 @@ ghost use Rattle.std.specs.String.{string_bytes};
 ghost use Rattle.dns_names_wire.specs.Words.{ReadsIf, ReadsBy, ReadsWindow, Emits, always};
 ghost use Rattle.dns_rdata_base.specs.HINFO.{hinfo_shape, hinfo_fields, hinfo_refusal};
 
+use crate::decoding::{DecodesFields, read_whole};
 use crate::traits::RecordDataDecodable;
 use bstr::BStr;
 use dns_names_wire::{
@@ -70,6 +71,25 @@ impl BinDecodable for HINFO {
     }
 }
 
+impl DecodesFields for HINFO {
+    ghost decoded = { hinfo_shape };
+
+    ghost asked = { λ _. Unit {0} };
+
+    ghost taken = { hinfo_fields };
+
+    ghost refusal = { λ old e new. hinfo_refusal old e new };
+
+    ghost made = { λ _. Unit {0} };
+
+    ghost ends = { (tt, (tt, (tt, tt))) };
+
+    #[inline]
+    fn read_fields(decoder: &mut BinDecoder<'_>) -> Result<HINFO, DecodeError> {
+        HINFO::read(decoder)
+    }
+}
+
 impl RecordDataDecodable for HINFO {
     ghost kinds = { hinfo_shape };
 
@@ -81,10 +101,10 @@ impl RecordDataDecodable for HINFO {
     #[inline]
     fn read_data(decoder: &mut BinDecoder<'_>, length: Restrict<u16>) -> Result<HINFO, DecodeError>
         ensures window { ReadsWindow hinfo_shape (λ _. Unit {0}) hinfo_fields length result decoder.old decoder.new }
+        ensures fields { ReadsIf hinfo_shape (always hinfo_shape) hinfo_fields result decoder.old decoder.new }
         ensures refused { IfErr result (λ e. hinfo_refusal decoder.old e decoder.new) }
     {
-        let _start = decoder.index();
-        HINFO::read(decoder)
+        read_whole(decoder, length)
     }
 }
 

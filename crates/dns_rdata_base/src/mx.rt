@@ -7,6 +7,7 @@ ghost use Rattle.dns_names_wire.specs.Words.{ReadsIf, ReadsBy, ReadsWindow, Emit
 ghost use Rattle.dns_rdata_base.specs.Refusing.{IsLack};
 ghost use Rattle.dns_rdata_base.specs.MX.{mx_shape, mx_fields};
 
+use crate::decoding::{DecodesFields, read_whole};
 use crate::emitting::{EncodesFields, emit_in};
 use crate::traits::RecordDataDecodable;
 use dns_names_wire::{
@@ -56,6 +57,25 @@ impl BinDecodable for MX {
     }
 }
 
+impl DecodesFields for MX {
+    ghost decoded = { mx_shape };
+
+    ghost asked = { λ _. Unit {0} };
+
+    ghost taken = { mx_fields };
+
+    ghost refusal = { λ old e new. IsLack mx_shape old e new };
+
+    ghost made = { λ _. Unit {0} };
+
+    ghost ends = { (tt, (tt, (tt, tt))) };
+
+    #[inline]
+    fn read_fields(decoder: &mut BinDecoder<'_>) -> Result<MX, DecodeError> {
+        MX::read(decoder)
+    }
+}
+
 impl RecordDataDecodable for MX {
     ghost kinds = { mx_shape };
 
@@ -67,10 +87,10 @@ impl RecordDataDecodable for MX {
     #[inline]
     fn read_data(decoder: &mut BinDecoder<'_>, length: Restrict<u16>) -> Result<MX, DecodeError>
         ensures window { ReadsWindow mx_shape (λ _. Unit {0}) mx_fields length result decoder.old decoder.new }
+        ensures fields { ReadsIf mx_shape (always mx_shape) mx_fields result decoder.old decoder.new }
         ensures refused { IfErr result (λ e. IsLack mx_shape decoder.old e decoder.new) }
     {
-        let _start = decoder.index();
-        MX::read(decoder)
+        read_whole(decoder, length)
     }
 }
 

@@ -7,6 +7,7 @@ ghost use Rattle.dns_names_wire.specs.Words.{ReadsIf, ReadsBy, ReadsWindow, Emit
 ghost use Rattle.dns_rdata_base.specs.Refusing.{IsLack};
 ghost use Rattle.dns_rdata_base.specs.NameRecords.{name_shape, cname_fields, ns_fields, ptr_fields, aname_fields};
 
+use crate::decoding::{DecodesFields, read_whole};
 use crate::emitting::{EncodesFields, emit_in};
 use crate::traits::RecordDataDecodable;
 use dns_names_wire::{
@@ -35,6 +36,25 @@ impl BinDecodable for CNAME {
     }
 }
 
+impl DecodesFields for CNAME {
+    ghost decoded = { name_shape };
+
+    ghost asked = { λ _. Unit {0} };
+
+    ghost taken = { cname_fields };
+
+    ghost refusal = { λ old e new. IsLack name_shape old e new };
+
+    ghost made = { λ _. Unit {0} };
+
+    ghost ends = { (tt, (tt, tt)) };
+
+    #[inline]
+    fn read_fields(decoder: &mut BinDecoder<'_>) -> Result<CNAME, DecodeError> {
+        CNAME::read(decoder)
+    }
+}
+
 impl RecordDataDecodable for CNAME {
     ghost kinds = { name_shape };
 
@@ -46,10 +66,10 @@ impl RecordDataDecodable for CNAME {
     #[inline]
     fn read_data(decoder: &mut BinDecoder<'_>, length: Restrict<u16>) -> Result<CNAME, DecodeError>
         ensures window { ReadsWindow name_shape (λ _. Unit {0}) cname_fields length result decoder.old decoder.new }
+        ensures fields { ReadsIf name_shape (always name_shape) cname_fields result decoder.old decoder.new }
         ensures refused { IfErr result (λ e. IsLack name_shape decoder.old e decoder.new) }
     {
-        let _start = decoder.index();
-        CNAME::read(decoder)
+        read_whole(decoder, length)
     }
 }
 
@@ -151,6 +171,25 @@ impl BinDecodable for NS {
     }
 }
 
+impl DecodesFields for NS {
+    ghost decoded = { name_shape };
+
+    ghost asked = { λ _. Unit {0} };
+
+    ghost taken = { ns_fields };
+
+    ghost refusal = { λ old e new. IsLack name_shape old e new };
+
+    ghost made = { λ _. Unit {0} };
+
+    ghost ends = { (tt, (tt, tt)) };
+
+    #[inline]
+    fn read_fields(decoder: &mut BinDecoder<'_>) -> Result<NS, DecodeError> {
+        NS::read(decoder)
+    }
+}
+
 impl RecordDataDecodable for NS {
     ghost kinds = { name_shape };
 
@@ -162,10 +201,10 @@ impl RecordDataDecodable for NS {
     #[inline]
     fn read_data(decoder: &mut BinDecoder<'_>, length: Restrict<u16>) -> Result<NS, DecodeError>
         ensures window { ReadsWindow name_shape (λ _. Unit {0}) ns_fields length result decoder.old decoder.new }
+        ensures fields { ReadsIf name_shape (always name_shape) ns_fields result decoder.old decoder.new }
         ensures refused { IfErr result (λ e. IsLack name_shape decoder.old e decoder.new) }
     {
-        let _start = decoder.index();
-        NS::read(decoder)
+        read_whole(decoder, length)
     }
 }
 
@@ -267,6 +306,25 @@ impl BinDecodable for PTR {
     }
 }
 
+impl DecodesFields for PTR {
+    ghost decoded = { name_shape };
+
+    ghost asked = { λ _. Unit {0} };
+
+    ghost taken = { ptr_fields };
+
+    ghost refusal = { λ old e new. IsLack name_shape old e new };
+
+    ghost made = { λ _. Unit {0} };
+
+    ghost ends = { (tt, (tt, tt)) };
+
+    #[inline]
+    fn read_fields(decoder: &mut BinDecoder<'_>) -> Result<PTR, DecodeError> {
+        PTR::read(decoder)
+    }
+}
+
 impl RecordDataDecodable for PTR {
     ghost kinds = { name_shape };
 
@@ -278,10 +336,10 @@ impl RecordDataDecodable for PTR {
     #[inline]
     fn read_data(decoder: &mut BinDecoder<'_>, length: Restrict<u16>) -> Result<PTR, DecodeError>
         ensures window { ReadsWindow name_shape (λ _. Unit {0}) ptr_fields length result decoder.old decoder.new }
+        ensures fields { ReadsIf name_shape (always name_shape) ptr_fields result decoder.old decoder.new }
         ensures refused { IfErr result (λ e. IsLack name_shape decoder.old e decoder.new) }
     {
-        let _start = decoder.index();
-        PTR::read(decoder)
+        read_whole(decoder, length)
     }
 }
 
@@ -383,6 +441,25 @@ impl BinDecodable for ANAME {
     }
 }
 
+impl DecodesFields for ANAME {
+    ghost decoded = { name_shape };
+
+    ghost asked = { λ _. Unit {0} };
+
+    ghost taken = { aname_fields };
+
+    ghost refusal = { λ old e new. IsLack name_shape old e new };
+
+    ghost made = { λ _. Unit {0} };
+
+    ghost ends = { (tt, (tt, tt)) };
+
+    #[inline]
+    fn read_fields(decoder: &mut BinDecoder<'_>) -> Result<ANAME, DecodeError> {
+        ANAME::read(decoder)
+    }
+}
+
 impl RecordDataDecodable for ANAME {
     ghost kinds = { name_shape };
 
@@ -394,10 +471,10 @@ impl RecordDataDecodable for ANAME {
     #[inline]
     fn read_data(decoder: &mut BinDecoder<'_>, length: Restrict<u16>) -> Result<ANAME, DecodeError>
         ensures window { ReadsWindow name_shape (λ _. Unit {0}) aname_fields length result decoder.old decoder.new }
+        ensures fields { ReadsIf name_shape (always name_shape) aname_fields result decoder.old decoder.new }
         ensures refused { IfErr result (λ e. IsLack name_shape decoder.old e decoder.new) }
     {
-        let _start = decoder.index();
-        ANAME::read(decoder)
+        read_whole(decoder, length)
     }
 }
 

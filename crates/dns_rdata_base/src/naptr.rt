@@ -8,6 +8,7 @@ ghost use Rattle.dns_fields.specs.declared.RDataEncoding.TheVariants as modes;
 ghost use Rattle.dns_names_wire.specs.Words.{ReadsIf, ReadsBy, ReadsWindow, Emits, EmitsAs, Extends, Keeps};
 ghost use Rattle.dns_rdata_base.specs.NAPTR.{naptr_shape, naptr_fields, naptr_condition, naptr_refusal, is_flag};
 
+use crate::decoding::{DecodesFields, read_whole};
 use crate::emitting::{EncodesFields, emit_in};
 use crate::traits::RecordDataDecodable;
 use bstr::BStr;
@@ -114,6 +115,25 @@ impl BinDecodable for NAPTR {
     }
 }
 
+impl DecodesFields for NAPTR {
+    ghost decoded = { naptr_shape };
+
+    ghost asked = { naptr_condition };
+
+    ghost taken = { naptr_fields };
+
+    ghost refusal = { λ old e new. naptr_refusal old e new };
+
+    ghost made = { λ _. Unit {0} };
+
+    ghost ends = { (tt, (tt, (tt, (tt, (tt, (tt, (tt, tt))))))) };
+
+    #[inline]
+    fn read_fields(decoder: &mut BinDecoder<'_>) -> Result<NAPTR, DecodeError> {
+        NAPTR::read(decoder)
+    }
+}
+
 impl RecordDataDecodable for NAPTR {
     ghost kinds = { naptr_shape };
 
@@ -125,10 +145,10 @@ impl RecordDataDecodable for NAPTR {
     #[inline]
     fn read_data(decoder: &mut BinDecoder<'_>, length: Restrict<u16>) -> Result<NAPTR, DecodeError>
         ensures window { ReadsWindow naptr_shape naptr_condition naptr_fields length result decoder.old decoder.new }
+        ensures fields { ReadsIf naptr_shape (λ vs _. naptr_condition vs) naptr_fields result decoder.old decoder.new }
         ensures refused { IfErr result (λ e. naptr_refusal decoder.old e decoder.new) }
     {
-        let _start = decoder.index();
-        NAPTR::read(decoder)
+        read_whole(decoder, length)
     }
 }
 

@@ -1,6 +1,6 @@
 //! NULL: octets without a form (RFC 1035, 3.3.10).
 
-ghost use Rattle.std.specs.Prelude.{◌≡◌, ◌≢◌, ◌+◌, ◌<◌, ◌⊎◌, List, [], IfErr, IfOk, OnErr};
+ghost use Rattle.std.specs.Prelude.{◌≡◌, ◌≢◌, ◌+◌, ◌<◌, ◌⊎◌, List, [], IfErr, IfOk, OnOk, OnErr};
 ghost use Rattle.dns_names_wire.specs.Words.{ReadsWindow, Emits, LacksOctets};
 ghost use Rattle.dns_rdata_base.specs.NULL.{null_shape, null_fields};
 
@@ -95,10 +95,12 @@ impl RecordDataDecodable for NULL {
     #[inline]
     fn read_data(decoder: &mut BinDecoder<'_>, length: Restrict<u16>) -> Result<NULL, DecodeError>
         ensures window { ReadsWindow null_shape (λ _. Unit {0}) null_fields length result decoder.old decoder.new }
+        ensures ends { OnOk result (decoder.new.index ≡ decoder.old.index + length) }
         ensures refused { IfErr result (λ e. (e ≡ DecodeError.Memory)
             ⊎ ((e ≡ DecodeError.InsufficientBytes) × LacksOctets decoder.old length)) }
         ensures unchanged { OnErr result (decoder.new ≡ decoder.old) }
     {
+        // Called for its clauses: the message is octets.
         let _start = decoder.index();
         let octets = decoder.read_vec(length.unverified() as usize)?;
         Ok(NULL {

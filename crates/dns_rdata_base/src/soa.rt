@@ -7,6 +7,7 @@ ghost use Rattle.dns_names_wire.specs.Words.{ReadsIf, ReadsBy, ReadsWindow, Emit
 ghost use Rattle.dns_rdata_base.specs.Refusing.{IsLack};
 ghost use Rattle.dns_rdata_base.specs.SOA.{soa_shape, soa_fields, soa_numbers_shape, soa_numbers, soa_numbers_of, HasSeconds};
 
+use crate::decoding::{DecodesFields, read_whole};
 use crate::emitting::{EncodesFields, emit_in};
 use crate::traits::RecordDataDecodable;
 use dns_names_wire::{
@@ -122,6 +123,25 @@ impl BinDecodable for SOA {
     }
 }
 
+impl DecodesFields for SOA {
+    ghost decoded = { soa_shape };
+
+    ghost asked = { λ _. Unit {0} };
+
+    ghost taken = { soa_fields };
+
+    ghost refusal = { λ old e new. IsLack soa_shape old e new };
+
+    ghost made = { HasSeconds };
+
+    ghost ends = { (tt, (tt, (tt, (tt, (tt, (tt, (tt, (tt, tt)))))))) };
+
+    #[inline]
+    fn read_fields(decoder: &mut BinDecoder<'_>) -> Result<SOA, DecodeError> {
+        SOA::read(decoder)
+    }
+}
+
 impl RecordDataDecodable for SOA {
     ghost kinds = { soa_shape };
 
@@ -133,11 +153,11 @@ impl RecordDataDecodable for SOA {
     #[inline]
     fn read_data(decoder: &mut BinDecoder<'_>, length: Restrict<u16>) -> Result<SOA, DecodeError>
         ensures window { ReadsWindow soa_shape (λ _. Unit {0}) soa_fields length result decoder.old decoder.new }
+        ensures fields { ReadsIf soa_shape (always soa_shape) soa_fields result decoder.old decoder.new }
         ensures seconds { IfOk result HasSeconds }
         ensures refused { IfErr result (λ e. IsLack soa_shape decoder.old e decoder.new) }
     {
-        let _start = decoder.index();
-        SOA::read(decoder)
+        read_whole(decoder, length)
     }
 }
 

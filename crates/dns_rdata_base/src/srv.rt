@@ -7,6 +7,7 @@ ghost use Rattle.dns_names_wire.specs.Words.{ReadsIf, ReadsBy, ReadsWindow, Emit
 ghost use Rattle.dns_rdata_base.specs.Refusing.{IsLack};
 ghost use Rattle.dns_rdata_base.specs.SRV.{srv_shape, srv_fields};
 
+use crate::decoding::{DecodesFields, read_whole};
 use crate::emitting::{EncodesFields, emit_in};
 use crate::traits::RecordDataDecodable;
 use dns_names_wire::{
@@ -66,6 +67,25 @@ impl BinDecodable for SRV {
     }
 }
 
+impl DecodesFields for SRV {
+    ghost decoded = { srv_shape };
+
+    ghost asked = { λ _. Unit {0} };
+
+    ghost taken = { srv_fields };
+
+    ghost refusal = { λ old e new. IsLack srv_shape old e new };
+
+    ghost made = { λ _. Unit {0} };
+
+    ghost ends = { (tt, (tt, (tt, (tt, (tt, tt))))) };
+
+    #[inline]
+    fn read_fields(decoder: &mut BinDecoder<'_>) -> Result<SRV, DecodeError> {
+        SRV::read(decoder)
+    }
+}
+
 impl RecordDataDecodable for SRV {
     ghost kinds = { srv_shape };
 
@@ -77,10 +97,10 @@ impl RecordDataDecodable for SRV {
     #[inline]
     fn read_data(decoder: &mut BinDecoder<'_>, length: Restrict<u16>) -> Result<SRV, DecodeError>
         ensures window { ReadsWindow srv_shape (λ _. Unit {0}) srv_fields length result decoder.old decoder.new }
+        ensures fields { ReadsIf srv_shape (always srv_shape) srv_fields result decoder.old decoder.new }
         ensures refused { IfErr result (λ e. IsLack srv_shape decoder.old e decoder.new) }
     {
-        let _start = decoder.index();
-        SRV::read(decoder)
+        read_whole(decoder, length)
     }
 }
 
