@@ -10,6 +10,7 @@ pub mod Pieces
 pub mod OptionLaws
 pub mod ParameterLaws
 pub mod Bitmaps
+pub mod Emittable
 pub mod FieldLaws
 pub mod Laws
 pub mod Equivalences

@@ -1,12 +1,12 @@
 -- What a reader and an emitter of fields do, exactly.
-use Rattle.std.specs.Prelude.{◌≡◌, ◌≢◌, ℕ, ◌+◌, ◌<◌, ◌≤◌, ◌⊎◌, List, [], ◌∷◌, ◌++◌, length, Result, Ok, Err}
+use Rattle.std.specs.Prelude.{◌≡◌, ◌≢◌, ℕ, ◌+◌, ◌<◌, ◌≤◌, ◌⊎◌, false, List, [], ◌∷◌, ◌++◌, length, Result, Ok, Err}
 use Rattle.dns_types.specs.declared.error.DecodeError.{DecodeError}
 use Rattle.dns_types.specs.declared.error.DecodeError.TheVariants as decode
 use Rattle.dns_types.specs.declared.error.ProtoError.{ProtoError}
 use Rattle.dns_types.specs.declared.error.ProtoError.TheVariants as proto
 use Rattle.dns_fields.specs.declared.RDataEncoding.{RDataEncoding}
 use Rattle.dns_fields.specs.Octets.{AreOctets}
-use Rattle.dns_fields.specs.Fields.{Kind, Number, Value, Values, Field, Stands, WroteField, Wrote, Fits, AllFit, EndsItself, canonical, field_octets}
+use Rattle.dns_fields.specs.Fields.{Kind, Number, Value, Values, Field, Stands, WroteField, Wrote, is_emittable, all_emittable, EndsItself, canonical, field_octets}
 use Rattle.dns_names_wire.specs.State.{Reading, Writing}
 
 -- ---- reading
@@ -141,10 +141,10 @@ pub record NoRoom (w : Writing) (kinds : List Kind) (vs : Values kinds) : Type 0
   pub full : w.limit < length w.octets + length (canonical kinds vs)
 
 pub record UnfitField (k : Kind) (v : Value k) : Type 0 where
-  pub unfit : Fits k v → ⊥
+  pub unfit : is_emittable k v ≡ false
 
 pub record Unfit (kinds : List Kind) (vs : Values kinds) : Type 0 where
-  pub unfit : AllFit kinds vs → ⊥
+  pub unfit : all_emittable kinds vs ≡ false
 
 -- why it was refused
 abbrev pub Because : ProtoError → Type 0 → Type 0 → Type 0
