@@ -114,3 +114,8 @@ canonical_law s a b shape h l g n = (canonical_injective s a b shape h l g n, ca
 pub stands_full : (m : List ℕ) (p : ℕ) (s : List Kind) (a : Values s) (e : ℕ) → Stands m p s a e → AllFull s a
 stands_full m p [] a e f = tt
 stands_full m p (k ∷ kinds) a e f = (field_full f.1, stands_full m f.0 kinds a.1 e f.2)
+
+-- what was written fits its fields
+pub wrote_all_fit : (mode : RDataEncoding) (m : List ℕ) (s : List Kind) (a : Values s) (m' : List ℕ) → Wrote mode m s a m' → AllFit s a
+wrote_all_fit mode m [] a m' f = tt
+wrote_all_fit mode m (k ∷ kinds) a m' f = (wrote_fits f.1, wrote_all_fit mode f.0 kinds a.1 m' f.2)

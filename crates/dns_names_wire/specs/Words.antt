@@ -146,6 +146,10 @@ pub record UnfitField (k : Kind) (v : Value k) : Type 0 where
 pub record Unfit (kinds : List Kind) (vs : Values kinds) : Type 0 where
   pub unfit : all_emittable kinds vs ≡ false
 
+abbrev pub IsMessage : ProtoError → Type 0
+IsMessage (proto.Message text) = Unit {0}
+IsMessage e = ⊥
+
 -- why it was refused
 abbrev pub Because : ProtoError → Type 0 → Type 0 → Type 0
 Because proto.Memory room unfit = Unit {0}

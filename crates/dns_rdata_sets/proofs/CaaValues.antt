@@ -7,9 +7,9 @@ use Rattle.dns_types.specs.declared.error.DecodeError.TheVariants as decode
 use Rattle.dns_types.specs.declared.error.ProtoError.{ProtoError}
 use Rattle.dns_types.specs.declared.error.ProtoError.TheVariants as proto
 use Rattle.dns_names_wire.specs.State.{Reading, Writing}
-use Rattle.dns_names_wire.specs.Words.{Emits}
+use Rattle.dns_names_wire.specs.Words.{Emits, IsMessage}
 use Rattle.dns_fields.specs.Fields.{Values, AllFit, Same}
-use Rattle.dns_rdata_sets.specs.CAA.{IsMessage, tag_refusal, caa_refusal, caa_shape, caa_fields, caa_flags, caa_key_shape, caa_keys, critical_number, IsReadCaa}
+use Rattle.dns_rdata_sets.specs.CAA.{tag_refusal, caa_refusal, caa_shape, caa_fields, caa_flags, caa_key_shape, caa_keys, critical_number, IsReadCaa}
 use Rattle.dns_rdata_sets.specs.declared.caa.CAA.{CAA}
 use Rattle.dns_rdata_sets.proofs.CaaReads.{flags_back}
 

@@ -3,8 +3,8 @@
 ghost use Rattle.std.specs.Prelude.{◌≡◌, ◌≤◌, ◌<◌, ◌+◌, false, take, get_or, length as list_length, IfErr, IfOk, OnOk};
 ghost use Rattle.std.specs.Char.{is_ascii_alphanumeric};
 ghost use Rattle.dns_fields.specs.Fields.{Octets as OctetsKind};
-ghost use Rattle.dns_names_wire.specs.Words.{ReadsTo, ReadsWindow, TookField, StaysBehind, Emits, Extends};
-ghost use Rattle.dns_rdata_sets.specs.CAA.{caa_shape, caa_flags, caa_fields, caa_condition, caa_key_shape, caa_keys, AreTagOctets, IsTag, IsReadCaa, IsMessage, tag_refusal, caa_refusal};
+ghost use Rattle.dns_names_wire.specs.Words.{ReadsTo, ReadsWindow, TookField, StaysBehind, Emits, Extends, IsMessage};
+ghost use Rattle.dns_rdata_sets.specs.CAA.{caa_shape, caa_flags, caa_fields, caa_condition, caa_key_shape, caa_keys, AreTagOctets, IsTag, IsReadCaa, tag_refusal, caa_refusal};
 
 mod issuer;
 mod values;
