@@ -6,7 +6,9 @@
 #![tactic(auto)]
 
 use anyhow::{Context, Result};
-use dns_rdata::{BinDecoder, BinEncodable, BinEncoder, RData, RecordType, Restrict};
+use dns_rdata::{
+    BinDecoder, BinEncodable, BinEncoder, DecodeError, RData, RecordType, Restrict,
+};
 use std::alloc::Global;
 use std::fmt::Write;
 use std::io;
@@ -41,20 +43,25 @@ fn read_sample(alloc: Global, line: &str) -> Result<Sample> {
     })
 }
 
-fn read_value(alloc: Global, sample: &Sample) -> Result<RData> {
+// What one reading answers, as it is: an error of `anyhow` is larger than the data, and would be copied with it.
+fn read_data(alloc: Global, sample: &Sample) -> std::result::Result<RData, DecodeError> {
     let mut decoder = BinDecoder::new(alloc, sample.message.as_slice());
     let _before = decoder.read_slice(sample.place)?;
-    Ok(RData::read(
+    RData::read(
         &mut decoder,
         sample.record_type,
         Restrict::new(sample.length),
-    )?)
+    )
+}
+
+fn read_value(alloc: Global, sample: &Sample) -> Result<RData> {
+    Ok(read_data(alloc, sample)?)
 }
 
 fn reads(alloc: Global, sample: &Sample, rounds: u64) -> Result<u64> {
     let mut answered = 0u64;
     for _ in 0..rounds {
-        if read_value(alloc, sample).is_ok() {
+        if read_data(alloc, sample).is_ok() {
             answered = answered.saturating_add(1);
         }
     }
@@ -79,6 +86,23 @@ fn emits(alloc: Global, value: &RData, rounds: u64) -> Result<u64> {
         left = left.saturating_sub(1);
     }
     Ok(left)
+}
+
+fn emits_fresh(alloc: Global, value: &RData, rounds: u64) -> Result<u64> {
+    let mut octets = Vec::with_capacity(alloc, KEPT)?;
+    let mut done = 0u64;
+    for _ in 0..rounds {
+        octets.clear();
+        let mut encoder = BinEncoder::new(alloc, &mut octets);
+        if value.emit(&mut encoder).is_ok() {
+            done = done.saturating_add(1);
+        }
+    }
+    Ok(done)
+}
+
+fn fresh_of(alloc: Global, sample: &Sample, rounds: u64) -> Result<u64> {
+    emits_fresh(alloc, &read_value(alloc, sample)?, rounds)
 }
 
 fn prints(alloc: Global, value: &RData, rounds: u64) -> Result<u64> {
@@ -135,6 +159,7 @@ fn column(alloc: Global, sample: &Sample, name: &str, rounds: u64) -> Result<u64
     match name {
         "read" => reads(alloc, sample, rounds),
         "emit" => emits_of(alloc, sample, rounds),
+        "fresh" => fresh_of(alloc, sample, rounds),
         "print" => prints_of(alloc, sample, rounds),
         "clone" => clones_of(alloc, sample, rounds),
         "equal" => equals_of(alloc, sample, rounds),
@@ -144,7 +169,7 @@ fn column(alloc: Global, sample: &Sample, name: &str, rounds: u64) -> Result<u64
 
 fn measure(rt: &(impl Clock + AllocGlobal + Print), sample: &Sample, rounds: u64) -> Result<()> {
     print!(rt; "{}", sample.record_type)?;
-    for name in ["read", "emit", "print", "clone", "equal"] {
+    for name in ["read", "emit", "fresh", "print", "clone", "equal"] {
         let begin = Instant::now(rt)?;
         let _answered = column(rt.alloc(), sample, name, rounds)?;
         let nanos = begin.elapsed(rt)?.as_nanos();
