@@ -86,6 +86,29 @@ fn read_runs(message: &[u8], start: usize, octets: &mut NameBuffer) -> Option<us
     Some(end)
 }
 
+/// The octets of labels that stand whole up to an octet 0; none where a pointer ends them, or where no name stands.
+#[inline]
+fn plain_octets(message: &[u8], start: usize) -> Option<&[u8]>
+    requires { start ≤ length message.now }
+    ensures some { IfSome result (λ octets. IsNameAt message.now start octets.now (start + length octets.now + 1)) }
+    ensures end { IfSome result (λ octets. start + length octets.now + 1 ≤ length message.now) }
+{
+    let mut at = start;
+    'labels: loop {
+        if at >= message.len() {
+            return None;
+        }
+        let count = message[at] as usize;
+        if count == 0 {
+            return Some(&message[start..at]);
+        }
+        if count >= 64 || message.len() - at <= count || at - start + count >= MAX_OCTETS {
+            return None;
+        }
+        at += count + 1;
+    }
+}
+
 /// The octets of the name that stands in a message from a place, and where what stands for it ends.
 ///
 /// The letters are kept. A name is labels, each a length of 1 to 63 and its octets, and then a 0; or, in
@@ -105,6 +128,10 @@ pub fn read_octets(
     ensures refused { result ≡ Err NameError.Invalid → (name : DomainName) (end : ℕ) →
         IsNameIn message.now start name end → ⊥ }
 {
+    if let Some(octets) = plain_octets(message, start) {
+        let end = start + octets.len() + 1;
+        return Ok((Vec::from_slice(alloc, octets)?, end));
+    }
     let mut octets = NameBuffer::new();
     let Some(end) = read_runs(message, start, &mut octets) else {
         return Err(NameError::Invalid);
