@@ -5,6 +5,7 @@ ghost use Rattle.dns_labels.specs.Labels.{AreNameOctets};
 ghost use Rattle.dns_labels.specs.Emission.{StandsFor, IsCut};
 
 use crate::matching::stands_at;
+use smallvec::SmallVec;
 use std::alloc::{AllocError, Global};
 
 // odd numbers without a pattern, one for each distance of an octet from the end of its name
@@ -57,7 +58,7 @@ fn short_hash(hash: u64) -> u32 {
 
 /// A place where a label begins, a hash of the name's octets from there on, and the next entry of its
 /// bucket.
-#[derive(Clone, Copy)]
+#[derive(Clone, Copy, Default)]
 struct Entry {
     hash: u32,
     place: u16,
@@ -76,7 +77,8 @@ struct Bucket {
 /// They are hints: a place is used only where the octets that stand there are the name's.
 #[derive(Drop)]
 pub struct Places {
-    entries: Vec<Entry>,
+    // the first ones stand in the value itself
+    entries: SmallVec<Entry, 8>,
     // none while the entries are few
     buckets: Vec<Bucket>,
 }
@@ -85,7 +87,7 @@ impl Places {
     /// Without a place; takes no memory.
     pub fn new(alloc: Global) -> Self {
         Places {
-            entries: Vec::new(alloc),
+            entries: SmallVec::new(alloc),
             buckets: Vec::new(alloc),
         }
     }
@@ -105,11 +107,12 @@ impl Places {
         ensures { IfSome result (λ q. (q < 16384) × StandsFor message.now q octets.now) }
     {
         let mut at = self.first(hash);
-        for _ in 0..self.entries.len() {
-            if at >= self.entries.len() {
+        let entries = self.entries.as_slice();
+        for _ in 0..entries.len() {
+            if at >= entries.len() {
                 return None;
             }
-            let entry = self.entries[at];
+            let entry = entries[at];
             let place = entry.place as usize;
             if entry.hash == hash && place < PLACES && stands_at(message, place, octets) {
                 return Some(place);
@@ -131,13 +134,16 @@ impl Places {
     {
         let mut hash = hash;
         let mut cut = 0usize;
+        let some = self.entries.len() > 0;
         'labels: while cut < octets.len() {
-            if let Some(target) = self.find(message, &octets[cut..], short_hash(hash)) {
-                return (cut, Some(target));
-            }
             let count = octets[cut] as usize + 1;
-            let label = &octets[cut..cut + count];
-            hash = hash.wrapping_sub(octets_hash(label, octets.len() - cut));
+            if some {
+                if let Some(target) = self.find(message, &octets[cut..], short_hash(hash)) {
+                    return (cut, Some(target));
+                }
+                let label = &octets[cut..cut + count];
+                hash = hash.wrapping_sub(octets_hash(label, octets.len() - cut));
+            }
             cut += count;
         }
         (cut, None)
@@ -206,19 +212,19 @@ impl Places {
     /// Puts an entry at the end of its bucket, where there are buckets.
     fn link(&mut self, at: usize) {
         let count = self.buckets.len();
-        if count == 0 || at >= self.entries.len() || at >= NONE as usize {
+        let entries = self.entries.as_mut_slice();
+        if count == 0 || at >= entries.len() || at >= NONE as usize {
             return;
         }
-        let entry = &mut self.entries[at];
-        entry.next = NONE;
-        let hash = entry.hash;
+        entries[at].next = NONE;
+        let hash = entries[at].hash;
         let bucket = &mut self.buckets[hash as usize % count];
         let last = bucket.last as usize;
         bucket.last = at as u16;
         if bucket.first == NONE {
             bucket.first = at as u16;
-        } else if last < self.entries.len() {
-            self.entries[last].next = at as u16;
+        } else if last < entries.len() {
+            entries[last].next = at as u16;
         }
     }
 }
