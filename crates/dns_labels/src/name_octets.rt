@@ -160,7 +160,10 @@ impl NameOctets {
 impl Drop for NameOctets {
     #[inline]
     fn drop(self) {
-        let NameOctets { alloc: _, kept: _kept } = self;
+        let NameOctets {
+            alloc: _,
+            kept: _kept,
+        } = self;
     }
 }
 

@@ -7,8 +7,8 @@ ghost use Rattle.dns_fields.specs.Octets.{AreOctets};
 ghost use Rattle.dns_names_wire.specs.Words.{TookField, LacksField, ReadsField, LacksOctets, LacksText};
 ghost use Rattle.dns_labels.specs.Labels.{AreNameOctets, name_of};
 
-use dns_labels::{NameError, NameOctets};
 use dns_labels::reading::read_octets;
+use dns_labels::{NameError, NameOctets};
 use dns_types::{DecodeError, Restrict};
 use std::alloc::Global;
 use std::marker::Model;

@@ -6,9 +6,7 @@
 #![tactic(auto)]
 
 use anyhow::{Context, Result};
-use dns_rdata::{
-    BinDecoder, BinEncodable, BinEncoder, DecodeError, RData, RecordType, Restrict,
-};
+use dns_rdata::{BinDecoder, BinEncodable, BinEncoder, DecodeError, RData, RecordType, Restrict};
 use std::alloc::Global;
 use std::fmt::Write;
 use std::io;

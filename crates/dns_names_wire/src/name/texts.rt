@@ -6,8 +6,8 @@ ghost use Rattle.dns_labels.specs.Text.{IsNameText, HasOctets, name_text};
 ghost use Rattle.dns_names_wire.specs.NameValues.{IsRefusal};
 
 use crate::name::Name;
-use dns_labels::{NameError, NameOctets};
 use dns_labels::text::{NameText, parse_octets};
+use dns_labels::{NameError, NameOctets};
 use dns_types::{ProtoError, ProtoResult};
 use std::alloc::{AllocError, Global};
 use std::fmt;
