@@ -11,7 +11,7 @@ const KEPT: usize = 60000;
 // How many equal values there are, so that no call is the same as the one before.
 const COPIES: u64 = 8;
 
-/// Record data in a message, equal values of it and as many others that a call may replace, and what is written into.
+/// Record data in a message, equal values of it and as many others, and what is written into.
 #[derive(Drop)]
 pub struct Row {
     record_type: RecordType,
@@ -22,6 +22,8 @@ pub struct Row {
     others: Vec<RData>,
     octets: Vec<u8>,
     text: String,
+    // whether what is made is compared
+    compares: bool,
 }
 
 impl Row {
@@ -32,6 +34,7 @@ impl Row {
         message: Vec<u8>,
         place: usize,
         length: u16,
+        compares: bool,
     ) -> Result<Row> {
         let mut row = Row {
             record_type,
@@ -42,6 +45,7 @@ impl Row {
             others: Vec::new(alloc),
             octets: Vec::with_capacity(alloc, 65536)?,
             text: String::with_capacity(alloc, 4096)?,
+            compares,
         };
         for _ in 0..COPIES {
             let value = row.read(alloc)?;
@@ -64,14 +68,19 @@ impl Row {
     }
 }
 
-fn reads(alloc: Global, row: &mut Row, passes: u64) -> Result<()> {
-    let mut kept = std::mem::replace(&mut row.others, Vec::new(alloc));
+// Takes a value as used. Since it could be compared here, all of it has to be made.
+#[inline(never)]
+fn is_used(value: &RData, other: &RData, compares: bool) -> bool {
+    !compares || value == other
+}
+
+fn reads(alloc: Global, row: &Row, passes: u64) -> Result<()> {
     for _ in 0..passes {
-        for slot in kept.as_mut_slice() {
-            *slot = row.read(alloc)?;
+        for other in &row.others {
+            let value = row.read(alloc)?;
+            anyhow::ensure!(is_used(&value, other, row.compares), "read otherwise");
         }
     }
-    row.others = kept;
     Ok(())
 }
 
@@ -120,11 +129,11 @@ fn prints(row: &mut Row, passes: u64) -> Result<()> {
     Ok(())
 }
 
-fn clones(row: &mut Row, passes: u64) -> Result<()> {
-    let Row { values, others, .. } = row;
+fn clones(row: &Row, passes: u64) -> Result<()> {
     for _ in 0..passes {
-        for (slot, value) in others.iter_mut().zip(values.iter()) {
-            *slot = value.clone()?;
+        for value in &row.values {
+            let copy = value.clone()?;
+            anyhow::ensure!(is_used(&copy, value, row.compares), "cloned otherwise");
         }
     }
     Ok(())

@@ -2,11 +2,10 @@
 //!
 //! The first argument is the number of rounds. The first line names the columns, with tabs between: the type, and the
 //! nanoseconds of one call, in tenths: read, emit into an encoder that is kept, emit into a fresh encoder over a vector that
-//! is kept, print into a text that is kept, clone, and `==`. Each is the least of five parts of the rounds, and each value
-//! that is read or cloned is put into a list.
+//! is kept, print into a text that is kept, clone, and `==`. Each is the least of five parts of the rounds.
 //!
 //! A second argument, one of these words, takes that column alone and prints nothing: for runs under a counter of requests
-//! for memory. In place of the number the word `growth` prints how the time grows with names, pointers, strings and windows.
+//! for memory. With a third, each value that is read or cloned is compared. In place of the number the word `growth` prints how the time grows with names, pointers, strings and windows.
 #![tactic(auto)]
 
 mod columns;
@@ -25,7 +24,7 @@ const PARTS: u64 = 5;
 
 const COLUMNS: [&str; 6] = ["read", "emit", "fresh", "print", "clone", "equal"];
 
-fn read_row(alloc: Global, line: &str) -> Result<Row> {
+fn read_row(alloc: Global, line: &str, compares: bool) -> Result<Row> {
     let mut words = line.split_whitespace();
     let kind = words.next().context("a type")?;
     let record_type = match kind.parse::<u16>() {
@@ -35,7 +34,7 @@ fn read_row(alloc: Global, line: &str) -> Result<Row> {
     let place = words.next().context("a place")?.parse::<usize>()?;
     let length = words.next().context("a length")?.parse::<u16>()?;
     let message = hex::decode(alloc, words.next().context("octets")?)?;
-    Row::new(alloc, record_type, message, place, length)
+    Row::new(alloc, record_type, message, place, length, compares)
 }
 
 // The tenths of a nanosecond of one call in the quickest part.
@@ -76,11 +75,12 @@ fn main(rt: HostRuntime) -> Result<()> {
     };
     let rounds = word.parse::<u64>()?;
     let only = args.next();
+    let compares = args.next().is_some();
     if only.is_none() {
         print_names(&rt)?;
     }
     for line in io::BufReader::new(rt.alloc(), rt.reader())?.lines(rt.alloc()) {
-        let mut row = read_row(rt.alloc(), line?.as_str())?;
+        let mut row = read_row(rt.alloc(), line?.as_str(), compares)?;
         match &only {
             Some(name) => column(rt.alloc(), &mut row, name.as_str(), rounds)?,
             None => measure(&rt, &mut row, rounds)?,
