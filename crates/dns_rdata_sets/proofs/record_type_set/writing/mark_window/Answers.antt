@@ -1,5 +1,5 @@
 use Rattle.dns_rdata_sets.proofs.Windows.{blank, marks_more, of_window}
-use Rattle.dns_rdata_sets.proofs.record_type_set.writing.window_octets.Goals as goal
+use Rattle.dns_rdata_sets.proofs.record_type_set.writing.mark_window.Goals as goal
 
 pub loop-t-init : goal.loop-t-init
 loop-t-init c = blank c.args.run.now _
