@@ -32,7 +32,7 @@ impl BinDecodable for A {
 
     ghost stands = { λ m p x q. Stands m p a_shape (a_fields x) q };
 
-    /// Reads four octets. Where fewer are left it takes them, and is refused.
+    /// Reads four octets. Where fewer are left it takes them, and is refused by `InsufficientBytes`.
     #[inline]
     fn read(decoder: &mut BinDecoder<'_>) -> Result<A, DecodeError>
         ensures reads { ReadsBy (λ m p x q. Stands m p a_shape (a_fields x) q) result decoder.old decoder.new }

@@ -34,7 +34,8 @@ impl BinDecodable for AAAA {
 
     ghost stands = { λ m p x q. Stands m p aaaa_shape (aaaa_fields x) q };
 
-    /// Reads sixteen octets, two by two. Where fewer are left it takes the pairs that are there, and is refused.
+    /// Reads sixteen octets, two by two. Where fewer are left it takes the pairs that are there, and is refused
+    /// by `InsufficientBytes`.
     #[inline]
     fn read(decoder: &mut BinDecoder<'_>) -> Result<AAAA, DecodeError>
         ensures reads { ReadsBy (λ m p x q. Stands m p aaaa_shape (aaaa_fields x) q) result decoder.old decoder.new }

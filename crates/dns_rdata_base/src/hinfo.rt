@@ -19,9 +19,9 @@ use std::fmt;
 /// A machine and its system, each a character string (RFC 1035, 3.3.2).
 #[derive(Debug, Drop, Hash)]
 pub struct HINFO {
-    /// The machine.
+    /// The machine; at most 255 octets are emitted.
     pub cpu: Octets,
-    /// The operating system.
+    /// The operating system; at most 255 octets are emitted.
     pub os: Octets,
 }
 
@@ -54,7 +54,7 @@ impl BinDecodable for HINFO {
 
     ghost stands = { λ m p x q. Stands m p hinfo_shape (hinfo_fields x) q };
 
-    /// Reads two character strings. Where one lacks octets it is refused: the strings before it, and its length octet
+    /// Reads two character strings. Where one lacks octets it is refused by `InsufficientBytes`: the strings before it, and its length octet
     /// where that is there, are taken. Memory is asked for once for each string, when both were read.
     #[tactic(auto, using(dns_names_wire::proofs::FieldReads::reading))]
     fn read(decoder: &mut BinDecoder<'_>) -> Result<HINFO, DecodeError>

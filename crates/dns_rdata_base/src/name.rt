@@ -18,14 +18,15 @@ use std::alloc::AllocError;
 use std::fmt;
 use std::ops::Deref;
 
-/// The canonical name of an alias (RFC 1035, 3.3.1).
+/// The canonical name of an alias: a name to the end (RFC 1035, 3.3.1).
 #[derive(Debug, Drop, Hash)]
 pub struct CNAME(pub Name);
 
 impl BinDecodable for CNAME {
     ghost stands = { λ m p x q. Stands m p name_shape (cname_fields x) q };
 
-    /// Reads the name. Where none stands it is refused, and the place is as it was.
+    /// Reads the name. Where none stands it is refused by `NameInvalid`, where memory runs out by `Memory`; the place
+    /// is then as it was.
     #[tactic(auto, using(dns_names_wire::proofs::FieldReads::reading))]
     fn read(decoder: &mut BinDecoder<'_>) -> Result<CNAME, DecodeError>
         ensures reads { ReadsBy (λ m p x q. Stands m p name_shape (cname_fields x) q) result decoder.old decoder.new }
@@ -88,7 +89,9 @@ impl EncodesFields for CNAME {
 impl BinEncodable for CNAME {
     ghost emits = { λ x r old new. EmitsAs modes.StandardRecord name_shape (cname_fields x) r old new };
 
-    /// Appends the octets; a name ends with a pointer to an earlier place where it can (RFC 1035, 4.1.4). The encoder is then in the mode that it was in, refused or not.
+    /// Appends the octets; a name ends with a pointer to an earlier place where it can (RFC 1035, 4.1.4). It is
+    /// refused by `MaxBufferSizeExceeded` or `Memory` alone. The encoder is then in the mode that it was in, refused or
+    /// not.
     fn emit(&self, encoder: &mut BinEncoder<'_>) -> Result<(), ProtoError>
         ensures emits { EmitsAs RDataEncoding.StandardRecord name_shape (cname_fields self.now) result encoder.old encoder.new }
         ensures extends { Extends encoder.old encoder.new }
@@ -153,14 +156,15 @@ impl fmt::Display for CNAME {
     }
 }
 
-/// A name server of the zone (RFC 1035, 3.3.11).
+/// A name server of the zone: a name to the end (RFC 1035, 3.3.11).
 #[derive(Debug, Drop, Hash)]
 pub struct NS(pub Name);
 
 impl BinDecodable for NS {
     ghost stands = { λ m p x q. Stands m p name_shape (ns_fields x) q };
 
-    /// Reads the name. Where none stands it is refused, and the place is as it was.
+    /// Reads the name. Where none stands it is refused by `NameInvalid`, where memory runs out by `Memory`; the place
+    /// is then as it was.
     #[tactic(auto, using(dns_names_wire::proofs::FieldReads::reading))]
     fn read(decoder: &mut BinDecoder<'_>) -> Result<NS, DecodeError>
         ensures reads { ReadsBy (λ m p x q. Stands m p name_shape (ns_fields x) q) result decoder.old decoder.new }
@@ -223,7 +227,9 @@ impl EncodesFields for NS {
 impl BinEncodable for NS {
     ghost emits = { λ x r old new. EmitsAs modes.StandardRecord name_shape (ns_fields x) r old new };
 
-    /// Appends the octets; a name ends with a pointer to an earlier place where it can (RFC 1035, 4.1.4). The encoder is then in the mode that it was in, refused or not.
+    /// Appends the octets; a name ends with a pointer to an earlier place where it can (RFC 1035, 4.1.4). It is
+    /// refused by `MaxBufferSizeExceeded` or `Memory` alone. The encoder is then in the mode that it was in, refused or
+    /// not.
     fn emit(&self, encoder: &mut BinEncoder<'_>) -> Result<(), ProtoError>
         ensures emits { EmitsAs RDataEncoding.StandardRecord name_shape (ns_fields self.now) result encoder.old encoder.new }
         ensures extends { Extends encoder.old encoder.new }
@@ -288,14 +294,15 @@ impl fmt::Display for NS {
     }
 }
 
-/// The name that is pointed to (RFC 1035, 3.3.12).
+/// The name that is pointed to: a name to the end (RFC 1035, 3.3.12).
 #[derive(Debug, Drop, Hash)]
 pub struct PTR(pub Name);
 
 impl BinDecodable for PTR {
     ghost stands = { λ m p x q. Stands m p name_shape (ptr_fields x) q };
 
-    /// Reads the name. Where none stands it is refused, and the place is as it was.
+    /// Reads the name. Where none stands it is refused by `NameInvalid`, where memory runs out by `Memory`; the place
+    /// is then as it was.
     #[tactic(auto, using(dns_names_wire::proofs::FieldReads::reading))]
     fn read(decoder: &mut BinDecoder<'_>) -> Result<PTR, DecodeError>
         ensures reads { ReadsBy (λ m p x q. Stands m p name_shape (ptr_fields x) q) result decoder.old decoder.new }
@@ -358,7 +365,9 @@ impl EncodesFields for PTR {
 impl BinEncodable for PTR {
     ghost emits = { λ x r old new. EmitsAs modes.StandardRecord name_shape (ptr_fields x) r old new };
 
-    /// Appends the octets; a name ends with a pointer to an earlier place where it can (RFC 1035, 4.1.4). The encoder is then in the mode that it was in, refused or not.
+    /// Appends the octets; a name ends with a pointer to an earlier place where it can (RFC 1035, 4.1.4). It is
+    /// refused by `MaxBufferSizeExceeded` or `Memory` alone. The encoder is then in the mode that it was in, refused or
+    /// not.
     fn emit(&self, encoder: &mut BinEncoder<'_>) -> Result<(), ProtoError>
         ensures emits { EmitsAs RDataEncoding.StandardRecord name_shape (ptr_fields self.now) result encoder.old encoder.new }
         ensures extends { Extends encoder.old encoder.new }
@@ -423,14 +432,15 @@ impl fmt::Display for PTR {
     }
 }
 
-/// The name whose addresses the owner has (draft-ietf-dnsop-aname).
+/// The name whose addresses the owner has: a name to the end (draft-ietf-dnsop-aname).
 #[derive(Debug, Drop, Hash)]
 pub struct ANAME(pub Name);
 
 impl BinDecodable for ANAME {
     ghost stands = { λ m p x q. Stands m p name_shape (aname_fields x) q };
 
-    /// Reads the name. Where none stands it is refused, and the place is as it was.
+    /// Reads the name. Where none stands it is refused by `NameInvalid`, where memory runs out by `Memory`; the place
+    /// is then as it was.
     #[tactic(auto, using(dns_names_wire::proofs::FieldReads::reading))]
     fn read(decoder: &mut BinDecoder<'_>) -> Result<ANAME, DecodeError>
         ensures reads { ReadsBy (λ m p x q. Stands m p name_shape (aname_fields x) q) result decoder.old decoder.new }
@@ -493,7 +503,8 @@ impl EncodesFields for ANAME {
 impl BinEncodable for ANAME {
     ghost emits = { λ x r old new. EmitsAs modes.Other name_shape (aname_fields x) r old new };
 
-    /// Appends the octets, the name whole, its letters kept. The encoder is then in the mode that it was in, refused or not.
+    /// Appends the octets, the name whole, its letters kept. It is refused by `MaxBufferSizeExceeded` or `Memory`
+    /// alone. The encoder is then in the mode that it was in, refused or not.
     fn emit(&self, encoder: &mut BinEncoder<'_>) -> Result<(), ProtoError>
         ensures emits { EmitsAs RDataEncoding.Other name_shape (aname_fields self.now) result encoder.old encoder.new }
         ensures extends { Extends encoder.old encoder.new }

@@ -20,18 +20,19 @@ use std::alloc::AllocError;
 use std::boxed::BoxedSlice;
 use std::fmt;
 
-/// A rule that rewrites a name (RFC 3403, 4.1).
+/// A rule that rewrites a name: order and preference of two octets each, three character strings and a name (RFC 3403,
+/// 4.1).
 #[derive(Debug, Drop, Hash)]
 pub struct NAPTR {
-    /// Lower values are tried first.
+    /// Lower values are tried first; 16 bits.
     pub order: u16,
-    /// Lower values are tried first among those of one order.
+    /// Lower values are tried first among those of one order; 16 bits.
     pub preference: u16,
-    /// Letters and digits that say what comes next.
+    /// Letters and digits that say what comes next; at most 255 octets are emitted.
     pub flags: Octets,
-    /// The services.
+    /// The services; at most 255 octets are emitted.
     pub services: Octets,
-    /// The substitution.
+    /// The substitution, a regular expression; at most 255 octets are emitted.
     pub regexp: Octets,
     /// The name that is asked for next.
     pub replacement: Name,
@@ -104,8 +105,8 @@ impl BinDecodable for NAPTR {
     ghost stands = { λ m p x q. Stands m p naptr_shape (naptr_fields x) q × naptr_condition (naptr_fields x) };
 
     /// Reads the fields in order. The flags are tested as soon as they are taken: where an octet of theirs is no letter
-    /// and no digit it is refused by `NaptrFlagsInvalid`. Where a field does not stand it is refused, and those before it
-    /// are taken.
+    /// and no digit it is refused by `NaptrFlagsInvalid`. Where a field does not stand it is refused by
+    /// `InsufficientBytes` or `NameInvalid`, and those before it are taken; where memory runs out by `Memory`.
     fn read(decoder: &mut BinDecoder<'_>) -> Result<NAPTR, DecodeError>
         ensures reads { ReadsBy (λ m p x q. Stands m p naptr_shape (naptr_fields x) q × naptr_condition (naptr_fields x)) result decoder.old decoder.new }
         ensures fields { ReadsIf naptr_shape (λ vs _. naptr_condition vs) naptr_fields result decoder.old decoder.new }
@@ -172,7 +173,9 @@ impl EncodesFields for NAPTR {
 impl BinEncodable for NAPTR {
     ghost emits = { λ x r old new. EmitsAs modes.Canonical naptr_shape (naptr_fields x) r old new };
 
-    /// Appends the octets, the name whole, its letters kept. The encoder is then in the mode that it was in, refused or not.
+    /// Appends the octets, the name whole, its letters kept. A string of more than 255 octets is refused by `Message`;
+    /// what comes before it may then stand behind the start. The encoder is then in the mode that it was in, refused or
+    /// not.
     fn emit(&self, encoder: &mut BinEncoder<'_>) -> Result<(), ProtoError>
         ensures emits { EmitsAs RDataEncoding.Canonical naptr_shape (naptr_fields self.now) result encoder.old encoder.new }
         ensures extends { Extends encoder.old encoder.new }

@@ -37,7 +37,7 @@ impl NULL {
         NULL::new(alloc)
     }
 
-    /// With these octets, which are not none.
+    /// With these octets. The caller owes at least one.
     pub fn with(anything: Vec<u8>) -> NULL
         requires { anything.items ≢ [] }
         ensures { result.anything ≡ anything.items }
@@ -90,8 +90,8 @@ impl RecordDataDecodable for NULL {
 
     ghost fields = { null_fields };
 
-    /// Reads all octets of the length, by one request for memory. Where fewer are left, or memory runs out, it is
-    /// refused, and takes none.
+    /// Reads all octets of the length, by one request for memory. Where fewer are left it is refused by
+    /// `InsufficientBytes`, where memory runs out by `Memory`; it then takes none.
     #[inline]
     fn read_data(decoder: &mut BinDecoder<'_>, length: Restrict<u16>) -> Result<NULL, DecodeError>
         ensures window { ReadsWindow null_shape (λ _. Unit {0}) null_fields length result decoder.old decoder.new }

@@ -73,8 +73,8 @@ impl RecordDataDecodable for OPENPGPKEY {
 
     ghost fields = { openpgpkey_fields };
 
-    /// Reads all octets of the length, by one request for memory. Where fewer are left, or memory runs out, it is
-    /// refused, and takes none.
+    /// Reads all octets of the length, by one request for memory. Where fewer are left it is refused by
+    /// `InsufficientBytes`, where memory runs out by `Memory`; it then takes none.
     #[inline]
     fn read_data(
         decoder: &mut BinDecoder<'_>,

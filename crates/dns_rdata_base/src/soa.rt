@@ -17,22 +17,23 @@ use dns_names_wire::{
 use std::alloc::AllocError;
 use std::fmt;
 
-/// The start of a zone of authority (RFC 1035, 3.3.13).
+/// The start of a zone of authority: two names, and five numbers of four octets each (RFC 1035, 3.3.13). Refresh, retry
+/// and expire are read as signed numbers, in two's complement.
 #[derive(Debug, Drop, Hash)]
 pub struct SOA {
     /// The name server that the data came from.
     pub mname: Name,
     /// The mailbox of who is responsible, its first dot in place of the `@`.
     pub rname: Name,
-    /// The version of the zone.
+    /// The version of the zone, 32 bits, compared as a circle (RFC 1982).
     pub serial: u32,
-    /// Seconds until the zone is asked for again.
+    /// Seconds until the zone is asked for again; 32 bits, signed.
     pub refresh: i32,
-    /// Seconds until a refresh that failed is tried again.
+    /// Seconds until a refresh that failed is tried again; 32 bits, signed.
     pub retry: i32,
-    /// Seconds until the zone is no longer authoritative.
+    /// Seconds until the zone is no longer authoritative; 32 bits, signed.
     pub expire: i32,
-    /// Seconds for which an answer that there is none stands (RFC 2308, 4).
+    /// Seconds for which an answer that there is none stands (RFC 2308, 4); 32 bits.
     pub minimum: u32,
 }
 
@@ -100,7 +101,8 @@ impl SOA {
 impl BinDecodable for SOA {
     ghost stands = { λ m p x q. Stands m p soa_shape (soa_fields x) q };
 
-    /// Reads the fields in order. Where one does not stand it is refused, and those before it are taken.
+    /// Reads the fields in order. Where one does not stand it is refused, and those before it are taken: by
+    /// `InsufficientBytes` where a number lacks octets, `NameInvalid` where no name stands, `Memory` where memory runs out.
     #[tactic(auto, using(dns_names_wire::proofs::FieldReads::reading))]
     fn read(decoder: &mut BinDecoder<'_>) -> Result<SOA, DecodeError>
         ensures reads { ReadsBy (λ m p x q. Stands m p soa_shape (soa_fields x) q) result decoder.old decoder.new }
@@ -177,7 +179,9 @@ impl EncodesFields for SOA {
 impl BinEncodable for SOA {
     ghost emits = { λ x r old new. EmitsAs modes.StandardRecord soa_shape (soa_fields x) r old new };
 
-    /// Appends the octets; a name ends with a pointer to an earlier place where it can (RFC 1035, 4.1.4). The encoder is then in the mode that it was in, refused or not.
+    /// Appends the octets; a name ends with a pointer to an earlier place where it can (RFC 1035, 4.1.4). It is
+    /// refused by `MaxBufferSizeExceeded` or `Memory` alone. The encoder is then in the mode that it was in, refused or
+    /// not.
     fn emit(&self, encoder: &mut BinEncoder<'_>) -> Result<(), ProtoError>
         ensures emits { EmitsAs RDataEncoding.StandardRecord soa_shape (soa_fields self.now) result encoder.old encoder.new }
         ensures extends { Extends encoder.old encoder.new }

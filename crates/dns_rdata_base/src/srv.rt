@@ -17,16 +17,16 @@ use dns_names_wire::{
 use std::alloc::AllocError;
 use std::fmt;
 
-/// A host and port of a service (RFC 2782).
+/// A host and port of a service: priority, weight and port of two octets each, and a name (RFC 2782).
 #[derive(Debug, Drop, Hash)]
 pub struct SRV {
-    /// Lower values are tried first.
+    /// Lower values are tried first; 16 bits.
     pub priority: u16,
-    /// The share among those of one priority.
+    /// The share among those of one priority; 16 bits.
     pub weight: u16,
-    /// The port.
+    /// The port, of 16 bits, in the protocol that the owner names.
     pub port: u16,
-    /// The host.
+    /// The host; the root where the service is not offered.
     pub target: Name,
 }
 
@@ -47,7 +47,8 @@ impl SRV {
 impl BinDecodable for SRV {
     ghost stands = { λ m p x q. Stands m p srv_shape (srv_fields x) q };
 
-    /// Reads the fields in order. Where one does not stand it is refused, and those before it are taken.
+    /// Reads the fields in order. Where one does not stand it is refused, and those before it are taken: by
+    /// `InsufficientBytes` where a number lacks octets, `NameInvalid` where no name stands, `Memory` where memory runs out.
     #[tactic(auto, using(dns_names_wire::proofs::FieldReads::reading))]
     fn read(decoder: &mut BinDecoder<'_>) -> Result<SRV, DecodeError>
         ensures reads { ReadsBy (λ m p x q. Stands m p srv_shape (srv_fields x) q) result decoder.old decoder.new }
@@ -122,7 +123,8 @@ impl EncodesFields for SRV {
 impl BinEncodable for SRV {
     ghost emits = { λ x r old new. EmitsAs modes.Canonical srv_shape (srv_fields x) r old new };
 
-    /// Appends the octets, the name whole, its letters kept. The encoder is then in the mode that it was in, refused or not.
+    /// Appends the octets, the name whole, its letters kept. It is refused by `MaxBufferSizeExceeded` or `Memory`
+    /// alone. The encoder is then in the mode that it was in, refused or not.
     fn emit(&self, encoder: &mut BinEncoder<'_>) -> Result<(), ProtoError>
         ensures emits { EmitsAs RDataEncoding.Canonical srv_shape (srv_fields self.now) result encoder.old encoder.new }
         ensures extends { Extends encoder.old encoder.new }

@@ -41,7 +41,8 @@ pub struct CSYNC {
 }
 
 impl CSYNC {
-    /// With these fields, no reserved flags, and the set of these types. Fails only for want of memory.
+    /// With these fields, no reserved flags, and the set of these types. Fails only for want of memory. The caller owes an
+    /// iterator that may be asked and that ends, as every iterator of a list is.
     pub fn new<I: Iterator<Item = RecordType> + Drop>(
         alloc: Global,
         soa_serial: u32,

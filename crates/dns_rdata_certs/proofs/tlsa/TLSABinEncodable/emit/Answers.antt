@@ -19,4 +19,3 @@ returns-in_err-emit_vec c =
     let p = err_from_is_err_and c.from_residual-in_err-emit_vec.result c.from_residual-in_err-emit_vec.ensures.1 in
     let e = stopped_then (rw c.from.ensures at c.in_ok-emit_u8.ensures.emits) (stopped_then (rw c.from-2.ensures at c.in_ok-emit_u8-2.ensures.emits) (stopped_then (rw c.from-3.ensures at c.in_ok-emit_u8-3.ensures.emits) (stopped_first (rw c.as_slice.ensures.value at c.in_err-emit_vec.ensures.emits)))) in
     rw (p.1, p.2) (record { emits = e; extends = e.extends })
-
