@@ -122,7 +122,7 @@ impl RData {
     }
 
     // Reads the fields of a type, whatever the length is in the end.
-    fn read_fields(
+    fn read_by_type(
         decoder: &mut BinDecoder<'_>,
         record_type: RecordType,
         length: Restrict<u16>,
@@ -194,7 +194,7 @@ impl RData {
         ensures emittable { IfOk result IsEmittable }
     {
         let start = decoder.index();
-        let outcome = RData::read_fields(decoder, record_type, length);
+        let outcome = RData::read_by_type(decoder, record_type, length);
         let read = decoder.index() - start;
         let len = length.unverified() as usize;
         by_length(outcome, read, len)
@@ -244,7 +244,7 @@ impl BinEncodable for RData {
         ensures fits { OnOk result (IsEmittable self.now) }
         ensures unfit { IfErr result (λ e. IsMessage e → ¬ (IsEmittable self.now)) }
     {
-        let outcome = self.emit_fields(encoder);
+        let outcome = self.emit_by_type(encoder);
         let _written = encoder.len();
         outcome
     }
@@ -254,7 +254,7 @@ impl RData {
     ghost use Rattle.dns_rdata.specs.Data.{fields_of, mode_for};
 
     // Appends the octets of the value.
-    fn emit_fields(&self, encoder: &mut BinEncoder<'_>) -> Result<(), ProtoError>
+    fn emit_by_type(&self, encoder: &mut BinEncoder<'_>) -> Result<(), ProtoError>
         ensures { EmitsAs (mode_for encoder.old.mode self.now) (fields_of self.now).kinds (fields_of self.now).values result encoder.old encoder.new }
     {
         match self {
