@@ -26,7 +26,8 @@ use Rattle.dns_rdata_sets.specs.RecordTypeSet.{bitmap_refusal}
 use Rattle.dns_rdata.specs.declared.record_data.RData.{RData}
 use Rattle.dns_rdata.specs.declared.record_data.RData.TheVariants as rdata
 use Rattle.dns_rdata.specs.Data.{shape, condition, IsRowless, IsValue, Fills, NoValue, TookData, RefusedData, ReadsData}
-use Rattle.dns_rdata.specs.Refusals.{IsNeverRead, OwnRefusal, IsRefusal, by_length}
+use Rattle.dns_rdata.specs.Data.{IsNeverRead}
+use Rattle.dns_rdata.specs.Refusals.{OwnRefusal, IsRefusal, by_length}
 
 -- what fills a window as fields fills it as a value
 pub data_took : {old new : Reading} (t : RecordType) (n : ℕ) (v : RData) (vs : Values (shape t)) → IsValue t vs v → TookWindow old n (shape t) (condition t) vs new → TookData old t n v new

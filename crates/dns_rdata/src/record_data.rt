@@ -3,7 +3,8 @@
 ghost use Rattle.std.specs.Prelude.{◌≡◌, ◌≢◌, ◌+◌, ◌-◌, ◌<◌, ℕ, List, length as size, IsTrue, ◌↔◌, Some, Err, IfOk, IfErr, OnOk};
 ghost use Rattle.dns_types.specs.RecordTypes.{number_of};
 ghost use Rattle.dns_names_wire.specs.Words.{StaysBehind, UnlessMemory, EmitsAs, Extends, Keeps, IsMessage};
-ghost use Rattle.dns_rdata.specs.Refusals.{IsNeverRead, OwnRefusal, IsRefusal, by_length as answer_by_length};
+ghost use Rattle.dns_rdata.specs.Data.{IsNeverRead};
+ghost use Rattle.dns_rdata.specs.Refusals.{OwnRefusal, IsRefusal, by_length as answer_by_length};
 
 use dns_names_wire::{
     BinDecoder, BinEncodable, BinEncoder, DecodeError, ProtoError, RecordType, Restrict,
