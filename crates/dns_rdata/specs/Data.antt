@@ -35,7 +35,7 @@ pub data Row : Type 1 where
   -- fields in order, what is asked of them beside that they stand, and why the record itself refuses n octets of data
   row : (kinds : List Kind) → (Values kinds → Type 0) → (ℕ → Reading → DecodeError → Reading → Type 0) → Row
   -- no data is read: a type that only questions have (RFC 1035, 3.2.3; RFC 1995, 2)
-  never : Row
+  unread : Row
   -- octets of any form
   rowless : Row
 
@@ -73,19 +73,19 @@ row_of types.SSHFP = row sshfp_shape (anything sshfp_shape) sshfp_refusal
 row_of types.TLSA = row tlsa_shape (anything tlsa_shape) tlsa_refusal
 row_of types.TXT = row txt_shape (anything txt_shape) txt_refusal
 row_of types.ZERO = row [] (anything []) (λ n old e new. ⊥)
-row_of types.ANY = never
-row_of types.AXFR = never
-row_of types.IXFR = never
+row_of types.ANY = unread
+row_of types.AXFR = unread
+row_of types.IXFR = unread
 row_of t = rowless
 
 abbrev pub kinds_of : Row → List Kind
 kinds_of (row kinds asked refusal) = kinds
-kinds_of never = []
+kinds_of unread = []
 kinds_of rowless = Rest ∷ []
 
 abbrev pub condition_of : (r : Row) → Values (kinds_of r) → Type 0
 condition_of (row kinds asked refusal) vs = asked vs
-condition_of never vs = ⊥
+condition_of unread vs = ⊥
 condition_of rowless vs = Unit {0}
 
 -- the kinds of the fields of each type, in order
@@ -98,12 +98,12 @@ condition t vs = condition_of (row_of t) vs
 
 abbrev pub is_never : Row → Type 0
 is_never (row kinds asked refusal) = ⊥
-is_never never = Unit {0}
+is_never unread = Unit {0}
 is_never rowless = ⊥
 
 abbrev pub is_rowless : Row → Type 0
 is_rowless (row kinds asked refusal) = ⊥
-is_rowless never = ⊥
+is_rowless unread = ⊥
 is_rowless rowless = Unit {0}
 
 -- no data of the type is read

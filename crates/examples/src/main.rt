@@ -59,11 +59,13 @@ fn write_message(alloc: Global, octets: &mut Vec<u8>) -> ProtoResult<()>
     Ok(())
 }
 
-/// Prints the records behind the header.
+/// Prints the records behind the header, as many as it says.
 fn print_records(rt: &(impl AllocGlobal + Print), message: &[u8]) -> Result<()> {
     let mut decoder = BinDecoder::new(rt.alloc(), message);
-    let _header = decoder.read_slice(12)?;
-    while !decoder.is_empty() {
+    let _id_and_questions = decoder.read_slice(6)?;
+    let answers = decoder.read_u16()?.unverified();
+    let _other_records = decoder.read_slice(4)?;
+    for _ in 0..answers {
         let owner = Name::read(&mut decoder)?;
         let kind = RecordType::read(&mut decoder)?;
         let _class_and_ttl = decoder.read_slice(6)?;
