@@ -1,0 +1,2 @@
+pub mod Subnets
+pub mod OctetWrites

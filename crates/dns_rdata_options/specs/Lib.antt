@@ -1,0 +1,5 @@
+pub mod EdnsCode
+pub mod IpNet
+pub mod ClientSubnet
+pub mod EdnsOption
+pub mod Words
