@@ -1,2 +1,5 @@
 pub mod Subnets
 pub mod OctetWrites
+pub mod OptionLists
+pub mod OptionCounts
+pub mod OptionValues

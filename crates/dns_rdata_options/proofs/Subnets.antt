@@ -113,7 +113,7 @@ address_known f source s a = most a.most where
   most (inl h) = (inl h.0, rw h.0 (h.1))
   most (inr h) = (inr h.0, rw h.0 (h.1))
 
-at_zero : (s x r : List ℕ) → s ≡ x ++ r → At s 0 x (length x)
+pub at_zero : (s x r : List ℕ) → s ≡ x ++ r → At s 0 x (length x)
 at_zero s x r e = record { ends = omega arith; within = omega (arith, ap length e, length-append x r); same = ap (take (length x)) e ∙ take_at x r (length x) refl }
 
 pub subnet_stands : (s : List ℕ) (f : ℕ) (x : ClientSubnet) → 4 ≤ length s → Eights s → f ≡ from_be_bytes w16 (get_or s 0 0 ∷ get_or s 1 0 ∷ []) → IsFamily f → prefix_octets (get_or s 2 0) ≤ family_octets f → prefix_octets (get_or s 2 0) ≤ length s - 4
@@ -140,10 +140,10 @@ subnet_stands s f x n b e known most enough is =
 -- ---- where no subnet stands
 
 -- the octets that a subnet begins
-begun : {s x : List ℕ} {q : ℕ} → At s 0 x q → s ≡ x ++ drop (length x) s
+pub begun : {s x : List ℕ} {q : ℕ} → At s 0 x q → s ≡ x ++ drop (length x) s
 begun {s} {x} a = sym (take-append-drop (length x) s) ∙ ap (λ (o : List ℕ). o ++ drop (length x) s) a.same
 
-family_small : (f source : ℕ) (s : List ℕ) → IsAddress f source s → f < 256 ^ 2
+pub family_small : (f source : ℕ) (s : List ℕ) → IsAddress f source s → f < 256 ^ 2
 family_small f source s a = small (address_known f source s a).0 where
   small : IsFamily f → f < 256 ^ 2
   small (inl e) = omega (arith, e)

@@ -2,4 +2,6 @@ pub mod EdnsCode
 pub mod IpNet
 pub mod ClientSubnet
 pub mod EdnsOption
+pub mod OPT
+pub mod OptionReads
 pub mod Words
