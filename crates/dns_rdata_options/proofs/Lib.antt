@@ -3,3 +3,4 @@ pub mod OctetWrites
 pub mod OptionLists
 pub mod OptionCounts
 pub mod OptionValues
+pub mod OptionLoops

@@ -131,3 +131,60 @@ fn read_pair(
         None => Ok(None),
     }
 }
+
+// Reads the options of a record in which none is cut, this many.
+fn read_whole(
+    decoder: &mut BinDecoder<'_>,
+    length: u16,
+    count: usize,
+) -> Result<OPT, DecodeError>
+    ensures fields { ReadsTo opt_shape (λ _. Unit {0}) length opt_fields result decoder.old decoder.new }
+    ensures read { IfOk result IsReadOpt }
+    ensures refused { IfErr result (λ e. opt_refusal length decoder.old e decoder.new) }
+{
+    let start = decoder.index();
+    let end = start + length as usize;
+    let alloc = decoder.allocator();
+    let mut options = Vec::with_capacity(alloc, count)?;
+    while decoder.index() < end {
+        match read_pair(decoder, start, length)? {
+            Some(pair) => options.push(pair)?,
+            None => return Ok(OPT::new(Vec::new(alloc))),
+        }
+    }
+    Ok(OPT::new(options))
+}
+
+// Reads the options of a record in which one is cut. None is kept, so that no memory is taken.
+fn read_cut(decoder: &mut BinDecoder<'_>, length: u16) -> Result<OPT, DecodeError>
+    requires none { NoWhole decoder.old.message decoder.old.index (decoder.old.index + length) }
+    ensures fields { ReadsTo opt_shape (λ _. Unit {0}) length opt_fields result decoder.old decoder.new }
+    ensures read { IfOk result IsReadOpt }
+    ensures refused { IfErr result (λ e. opt_refusal length decoder.old e decoder.new) }
+{
+    let start = decoder.index();
+    let end = start + length as usize;
+    while decoder.index() < end {
+        match check_pair(decoder, start, length)? {
+            Some(()) => {}
+            None => return Ok(OPT::new(Vec::new(decoder.allocator()))),
+        }
+    }
+    Ok(OPT::new(Vec::new(decoder.allocator())))
+}
+
+// Reads the options that fill the length, or are cut at its end.
+pub(crate) fn read_options(
+    decoder: &mut BinDecoder<'_>,
+    length: u16,
+) -> Result<OPT, DecodeError>
+    ensures fields { ReadsTo opt_shape (λ _. Unit {0}) length opt_fields result decoder.old decoder.new }
+    ensures read { IfOk result IsReadOpt }
+    ensures refused { IfErr result (λ e. opt_refusal length decoder.old e decoder.new) }
+{
+    let _place = decoder.index();
+    match count_options(decoder.unread().unverified(), length as usize) {
+        Some(count) => read_whole(decoder, length, count),
+        None => read_cut(decoder, length),
+    }
+}
