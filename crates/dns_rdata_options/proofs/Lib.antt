@@ -4,3 +4,4 @@ pub mod OptionLists
 pub mod OptionCounts
 pub mod OptionValues
 pub mod OptionLoops
+pub mod Pairs

@@ -1,5 +1,5 @@
 -- Plain octets that are appended in parts.
-use Rattle.std.proofs.Common.{◌≡◌, ℕ, ◌+◌, ◌<◌, List, ◌++◌, length, refl, sym, ap, ◌∙◌, arith, append_assoc, subst}
+use Rattle.std.proofs.Common.{◌≡◌, ℕ, ◌+◌, ◌<◌, ◌≤◌, List, ◌++◌, length, refl, sym, ap, ◌∙◌, arith, append_assoc, subst}
 use Rattle.std.proofs.lemmas.List.{length-append}
 use Rattle.dns_types.specs.declared.error.ProtoError.{ProtoError}
 use Rattle.dns_types.specs.declared.error.ProtoError.TheVariants as proto
@@ -31,4 +31,12 @@ stopped_two {e} {old} {mid} s t whole f g is = record {
       (λ (r : NoRoomField mid Rest t). omega (arith, r.full, f.keeps.limit, ap length f.field.is, length-append old.octets s, ap length is, length-append s t))
       (λ (u : UnfitField Rest t) _. u.unfit tt)
       g.why;
+}
+
+-- more than four octets begin by four
+pub stopped_front : {e : ProtoError} {old new : Writing} {asked : Type 0} (s whole : List ℕ) → StoppedField e old Rest s new → length s ≤ length whole → StoppedOctets e asked whole old new
+unfolding field_octets
+stopped_front {e} {old} s whole f le = record {
+  extends = f.extends;
+  why = because_map e _ _ _ _ (λ (r : NoRoomField old Rest s). omega (arith, r.full, le)) (λ (u : UnfitField Rest s) _. u.unfit tt) f.why;
 }

@@ -1,6 +1,12 @@
 //! OPT: the options of EDNS (RFC 6891).
 
-ghost use Rattle.std.specs.Prelude.{◌≡◌};
+ghost use Rattle.std.specs.Prelude.{◌≡◌, ◌+◌, ◌++◌, ◌∷◌, [], map, slice_get, IfOk, IfErr, OnOk, OnErr};
+ghost use Rattle.std.specs.Option.{option_copied};
+ghost use Rattle.dns_fields.specs.Pieces.{piece, as_piece, option_octets, OptionFits};
+ghost use Rattle.dns_names_wire.specs.Words.{ReadsWindow, Emits};
+ghost use Rattle.dns_rdata_options.specs.Words.{EmitsOctets};
+ghost use Rattle.dns_rdata_options.specs.EdnsOption.{code_of};
+ghost use Rattle.dns_rdata_options.specs.OPT.{opt_shape, opt_fields, pair_value, IsReadOpt, options_of, without, opt_refusal};
 
 mod code;
 mod net;
@@ -10,14 +16,22 @@ mod reading;
 mod subnet;
 
 pub use code::EdnsCode;
+use dns_names_wire::{
+    BinDecoder, BinEncodable, BinEncoder, DecodeError, ProtoError, Restrict,
+};
+use dns_rdata_base::RecordDataDecodable;
 pub use net::IpNet;
 pub use option::EdnsOption;
 pub use payload::NSIDPayload;
+use std::alloc::{AllocError, Global};
+use std::fmt;
+use std::marker::Model;
 pub use subnet::ClientSubnet;
 
-use std::marker::Model;
-
-/// The options of EDNS with their codes (RFC 6891, 6.1.2), which contracts see as the list of pairs.
+/// The options of EDNS with their codes (RFC 6891, 6.1.2), which contracts see as the list of pairs. Each option stands
+/// as its code and its length in two octets each, and so many octets; they fill the record's length.
+///
+/// Two records are equal where every pair stands equally often in both, in whatever order.
 #[derive(Debug, Drop)]
 pub struct OPT {
     /// The options, in order; a code may stand more than once.
@@ -41,5 +55,153 @@ impl OPT {
         ensures { result ≡ options.items }
     {
         OPT { options }
+    }
+
+    /// Without options. Takes no memory.
+    #[inline]
+    pub fn default(alloc: Global) -> OPT
+        ensures { result ≡ [] }
+    {
+        OPT {
+            options: Vec::new(alloc),
+        }
+    }
+
+    /// The first option with this code.
+    pub fn get(&self, code: EdnsCode) -> Option<&EdnsOption>
+        ensures { option_copied result ≡ slice_get (options_of code self.now) 0 }
+    {
+        for pair in self.options.as_slice() {
+            if code == pair.0 {
+                return Some(&pair.1);
+            }
+        }
+        None
+    }
+
+    /// All options with this code, in order. Fails only for want of memory.
+    pub fn get_all(&self, code: EdnsCode) -> Result<Vec<&EdnsOption>, AllocError>
+        ensures { IfOk result (λ found. map (λ option. option.now) found.items ≡ options_of code self.now) }
+    {
+        let mut found = Vec::new(*self.options.allocator());
+        for pair in self.options.as_slice() {
+            if code == pair.0 {
+                found.push(&pair.1)?;
+            }
+        }
+        Ok(found)
+    }
+
+    /// Appends an option, with the code of its own. Fails only for want of memory: the options then stay as they were.
+    pub fn insert(&mut self, option: EdnsOption) -> Result<(), AllocError>
+        ensures ok { OnOk result (self.new ≡ self.old ++ (code_of option, option) ∷ []) }
+        ensures err { OnErr result (self.new ≡ self.old) }
+    {
+        let code = EdnsCode::from(&option);
+        self.options.push((code, option))?;
+        Ok(())
+    }
+
+    /// Takes all options with this code away; the others keep their order.
+    pub fn remove(&mut self, code: EdnsCode)
+        ensures { self.new ≡ without code self.old }
+    {
+        self.options.retain(|pair| code != pair.0);
+    }
+
+    /// The options with their codes, lent.
+    #[inline]
+    pub fn as_ref(&self) -> &[(EdnsCode, EdnsOption)]
+        ensures { result.now ≡ self.now }
+    {
+        self.options.as_slice()
+    }
+}
+
+impl RecordDataDecodable for OPT {
+    ghost kinds = { opt_shape };
+
+    ghost condition = { λ _. Unit {0} };
+
+    ghost fields = { opt_fields };
+
+    /// Reads options to the end of the length, and keeps their order. A record that ends behind a code, or behind a
+    /// code, a length of at most the record's and fewer octets, is cut: it has no options, and takes no memory. Else
+    /// memory is asked for once for the list, and once for each option that is no subnet.
+    ///
+    /// It is refused for the first of these: by `InsufficientBytes` where the message ends within a code, a length or
+    /// the octets of an option, of which those that are there are taken; by `IncorrectRDataLengthRead` of what is taken
+    /// and the record's length, where a code or a length goes past the record's end; by `IncorrectRDataLengthRead` of
+    /// the record's length and the option's, where the option's is greater; as `EdnsOption::try_from`, behind the
+    /// option's octets.
+    #[inline]
+    fn read_data(decoder: &mut BinDecoder<'_>, length: Restrict<u16>) -> Result<OPT, DecodeError>
+        ensures window { ReadsWindow opt_shape (λ _. Unit {0}) opt_fields length result decoder.old decoder.new }
+        ensures ends { OnOk result (decoder.new.index ≡ decoder.old.index + length) }
+        ensures read { IfOk result IsReadOpt }
+        ensures refused { IfErr result (λ e. opt_refusal length decoder.old e decoder.new) }
+    {
+        let _start = decoder.index();
+        reading::read_options(decoder, length.unverified())
+    }
+}
+
+// Appends code, length and octets of an option.
+fn emit_pair(
+    encoder: &mut BinEncoder<'_>,
+    code: EdnsCode,
+    option: &EdnsOption,
+) -> Result<(), ProtoError>
+    ensures { EmitsOctets (OptionFits (pair_value (code, option.now))) (piece (as_piece option_octets (pair_value (code, option.now)))) result encoder.old encoder.new }
+{
+    let len = option.octets_len();
+    if len > 65535 {
+        return Err(ProtoError::Message("option past 65535 octets"));
+    }
+    let [code_high, code_low] = u16::from(code).to_be_bytes();
+    let [len_high, len_low] = (len as u16).to_be_bytes();
+    encoder.emit_vec(&[code_high, code_low, len_high, len_low])?;
+    option.emit(encoder)?;
+    Ok(())
+}
+
+impl BinEncodable for OPT {
+    ghost emits = { λ x r old new. Emits opt_shape (opt_fields x) r old new };
+
+    /// Appends the options in their order, each its code, its length and its octets. An option of more than 65535
+    /// octets and a subnet whose prefix asks for more octets than its address has are refused by `Message`; the options
+    /// before it may then stand behind the start.
+    fn emit(&self, encoder: &mut BinEncoder<'_>) -> Result<(), ProtoError> {
+        for pair in self.options.as_slice() {
+            emit_pair(encoder, pair.0, &pair.1)?;
+        }
+        Ok(())
+    }
+}
+
+impl Clone for OPT {
+    ghost is_clone = { λ a b. b ≡ a };
+
+    /// The same options in the same order, in memory of their own.
+    fn clone(&self) -> Result<OPT, AllocError>
+        ensures { IfOk result (λ copy. copy ≡ self.now) }
+    {
+        let alloc = *self.options.allocator();
+        let mut options = Vec::with_capacity(alloc, self.options.len())?;
+        for pair in self.options.as_slice() {
+            options.push((pair.0, pair.1.clone()?))?;
+        }
+        Ok(OPT { options })
+    }
+}
+
+impl fmt::Display for OPT {
+    ghost use Rattle.std.specs.Prelude.{None};
+
+    ghost output = { λ _. None };
+
+    /// The text that `Debug` gives.
+    fn fmt<W: fmt::Write>(&self, f: &mut fmt::Formatter<W>) -> fmt::Result {
+        fmt::Debug::fmt(self, f)
     }
 }
