@@ -5,3 +5,4 @@ pub mod OptionCounts
 pub mod OptionValues
 pub mod OptionLoops
 pub mod Pairs
+pub mod Selection
