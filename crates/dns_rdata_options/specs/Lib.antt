@@ -3,6 +3,7 @@ pub mod IpNet
 pub mod ClientSubnet
 pub mod EdnsOption
 pub mod OPT
+pub mod Order
 pub mod Places
 pub mod OptionReads
 pub mod Words

@@ -23,9 +23,12 @@ use dns_names_wire::{
 use dns_rdata_base::RecordDataDecodable;
 pub use net::IpNet;
 pub use option::EdnsOption;
+use order::{hash_sorted, sorted_cmp};
 pub use payload::NSIDPayload;
 use std::alloc::{AllocError, Global};
+use std::cmp::Ordering;
 use std::fmt;
+use std::hash::{Hash, Hasher};
 use std::marker::Model;
 pub use subnet::ClientSubnet;
 
@@ -177,6 +180,82 @@ impl BinEncodable for OPT {
             emit_pair(encoder, pair.0, &pair.1)?;
         }
         Ok(())
+    }
+}
+
+impl PartialEq for OPT {
+    ghost use Rattle.std.specs.Prelude.{◌≡◌, ◌↔◌, IsTrue, count_by};
+    ghost use Rattle.std.specs.Cmp.{partial_equiv_from_equiv};
+    ghost use Rattle.dns_rdata_options.specs.OPT.{Pair};
+    ghost use Rattle.dns_rdata_options.specs.Order.{pair_eq, opt_eq, opt_equiv};
+
+    ghost eq = { opt_eq };
+
+    ghost laws = { partial_equiv_from_equiv opt_equiv };
+
+    /// Whether every pair stands equally often in both. Takes no memory; linear in the options that stand in one order.
+    fn eq(&self, other: &OPT) -> bool
+        ensures answer { result ≡ opt_eq self.now other.now }
+        ensures multiset { IsTrue result ↔ ((p : Pair) → count_by (pair_eq p) self.now ≡ count_by (pair_eq p) other.now) }
+    {
+        sorted_cmp(self.options.as_slice(), other.options.as_slice()).is_eq()
+    }
+}
+
+impl Eq for OPT {
+    ghost use Rattle.dns_rdata_options.specs.Order.{opt_equiv};
+
+    ghost laws = { opt_equiv };
+}
+
+impl PartialOrd for OPT {
+    ghost use Rattle.std.specs.Prelude.{refl};
+    ghost use Rattle.std.specs.Ordering.{as_partial_cmp};
+    ghost use Rattle.std.specs.Cmp.{partial_order_from_agreeing_total};
+    ghost use Rattle.dns_rdata_options.specs.Order.{opt_cmp, opt_total, opt_ties};
+
+    ghost partial_cmp = { as_partial_cmp opt_cmp };
+
+    ghost laws = { partial_order_from_agreeing_total opt_cmp opt_total (λ _ _. refl) opt_ties };
+
+    #[inline]
+    fn partial_cmp(&self, other: &OPT) -> Option<Ordering> {
+        Some(self.cmp(other))
+    }
+}
+
+impl Ord for OPT {
+    ghost use Rattle.std.specs.Prelude.{refl};
+    ghost use Rattle.dns_rdata_options.specs.Order.{opt_cmp, opt_total, opt_ties};
+
+    ghost cmp = { opt_cmp };
+
+    ghost total = { opt_total };
+
+    ghost matches_partial_cmp = { λ _ _. refl };
+
+    ghost matches_eq = { opt_ties };
+
+    /// The order of the pairs in rising order, by the first that differs. Takes no memory.
+    fn cmp(&self, other: &OPT) -> Ordering {
+        sorted_cmp(self.options.as_slice(), other.options.as_slice())
+    }
+}
+
+impl Hash for OPT {
+    ghost use Rattle.std.specs.Hash.{slice, on_Alike, items_Alike, and-Alike};
+    ghost use Rattle.dns_rdata_options.specs.OPT.{Pair};
+    ghost use Rattle.dns_rdata_options.specs.Order.{risen};
+    ghost use Rattle.dns_rdata_options.specs.contracts.opt.code.EdnsCodeHash.TheImpl.Laws.{respects_eq-law as code_fed};
+    ghost use Rattle.dns_rdata_options.specs.contracts.opt.option.EdnsOptionHash.TheImpl.Laws.{respects_eq-law as option_fed};
+
+    ghost hash_input = { λ o. slice ⟦<(EdnsCode, EdnsOption) as Hash>⟧.hash_input (risen o) };
+
+    ghost respects_eq = { (on_Alike risen (items_Alike (and-Alike (on_Alike (λ (t : Pair). t.0) (record { fed = code_fed })) (on_Alike (λ (t : Pair). t.1) (record { fed = option_fed }))))).fed };
+
+    /// Feeds the number of the pairs, and the pairs in rising order. Takes no memory.
+    fn hash<H: Hasher>(&self, state: &mut H) {
+        hash_sorted(self.options.as_slice(), state);
     }
 }
 
