@@ -6,3 +6,4 @@ pub mod OptionValues
 pub mod OptionLoops
 pub mod Pairs
 pub mod Selection
+pub mod Values

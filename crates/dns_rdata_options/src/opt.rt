@@ -185,6 +185,7 @@ impl BinEncodable for OPT {
 
 impl PartialEq for OPT {
     ghost use Rattle.std.specs.Prelude.{◌≡◌, ◌↔◌, IsTrue, count_by};
+    ghost use Rattle.std.specs.List.Sorted.{IsPermutation};
     ghost use Rattle.std.specs.Cmp.{partial_equiv_from_equiv};
     ghost use Rattle.dns_rdata_options.specs.OPT.{Pair};
     ghost use Rattle.dns_rdata_options.specs.Order.{pair_eq, opt_eq, opt_equiv};
@@ -196,6 +197,7 @@ impl PartialEq for OPT {
     /// Whether every pair stands equally often in both. Takes no memory; linear in the options that stand in one order.
     fn eq(&self, other: &OPT) -> bool
         ensures answer { result ≡ opt_eq self.now other.now }
+        ensures permutation { IsTrue result ↔ IsPermutation self.now other.now }
         ensures multiset { IsTrue result ↔ ((p : Pair) → count_by (pair_eq p) self.now ≡ count_by (pair_eq p) other.now) }
     {
         sorted_cmp(self.options.as_slice(), other.options.as_slice()).is_eq()
