@@ -6,4 +6,6 @@ pub mod OptionValues
 pub mod OptionLoops
 pub mod Pairs
 pub mod Selection
+pub mod Least
+pub mod Walks
 pub mod Values

@@ -5,5 +5,6 @@ pub mod EdnsOption
 pub mod OPT
 pub mod Order
 pub mod Places
+pub mod Walking
 pub mod OptionReads
 pub mod Words
