@@ -8,4 +8,5 @@ pub mod Pairs
 pub mod Selection
 pub mod Least
 pub mod Walks
+pub mod InOrder
 pub mod Values
