@@ -4,7 +4,7 @@ use Rattle.std.proofs.lemmas.List.{length-append, length-map, drop_at}
 use Rattle.std.proofs.lemmas.Bool.Decides.{nat_tests}
 use Rattle.std.specs.Char.{to_ascii_lowercase}
 use Rattle.dns_fields.specs.declared.RDataEncoding.{RDataEncoding}
-use Rattle.dns_fields.specs.Labels.{AreLabels, wire, FitsName, DomainName, IsName, lowered, lowname}
+use Rattle.dns_fields.specs.Labels.{AreLabels, wire, FitsName, DomainName, IsName, low_labels, lowered, lowname}
 use Rattle.dns_fields.specs.Names.LabelsStand.{whole}
 use Rattle.dns_fields.specs.Names.{IsNameIn, SameName, NameWrote}
 use Rattle.dns_fields.proofs.Stays.{labels_stand, stays_name, end_within}
@@ -26,9 +26,6 @@ name_inside a = let w = end_within a.stands in (omega arith, w.1)
 
 pub name_is : {m : List ℕ} {p q : ℕ} {x : DomainName} → IsNameIn m p x q → IsName x
 name_is a = record { labels = labels_stand a.stands; fits = a.fits }
-
-abbrev pub low_labels : List (List ℕ) → List (List ℕ)
-low_labels labels = map (map to_ascii_lowercase) labels
 
 pub low_wire : (labels : List (List ℕ)) → wire (low_labels labels) ++ 0 ∷ [] ≡ lowered labels
 low_wire [] = refl
@@ -76,7 +73,6 @@ low_name_same x = record { low = sym (low_twice x.labels) }
 pub low_name_wrote : (mode : RDataEncoding) (m : List ℕ) (x : DomainName) → IsName x → NameWrote mode m (low_name x) (m ++ lowname x)
 unfolding low_name
 low_name_wrote mode m x h =
-    let y : DomainName = record { labels = low_labels x.labels; fully_qualified = true } in
     let are : AreLabels (low_labels x.labels) = are_low x.labels h.labels in
     let fits : FitsName (low_labels x.labels) = omega (arith, low_length x.labels, h.fits) in
     let e : lowname x ≡ wire (low_labels x.labels) ++ 0 ∷ [] = sym (low_wire x.labels) in
@@ -88,8 +84,6 @@ low_name_wrote mode m x h =
       tail = lowname x;
       behind = refl;
       shorter = omega (arith, ap length (low_twice x.labels));
-      read = y;
-      same = record { low = refl };
       stands = record { stands = whole [] are d (omega (arith, n, k, ap length e)); fits = fits; qualified = refl };
       whole = λ other. ap (λ (t : List ℕ). m ++ t) e;
     }

@@ -4,7 +4,7 @@ ghost use Rattle.std.specs.Prelude.{◌≡◌, ◌≢◌, ℕ, ◌+◌, ◌<◌,
 ghost use Rattle.dns_fields.specs.Names.{NameWrote};
 ghost use Rattle.dns_labels.specs.Labels.{AreNameOctets, name_of};
 ghost use Rattle.dns_labels.specs.Reading.{stop_octets};
-ghost use Rattle.dns_labels.specs.Emission.{IsCut};
+ghost use Rattle.dns_labels.specs.Emission.{IsNameCut};
 
 use crate::error::WriteError;
 use crate::places::{Places, octets_hash};
@@ -20,7 +20,7 @@ struct Cut {
 /// Where a name is cut: only `StandardRecord` leaves a tail out.
 fn cut_for(places: &Places, mode: RDataEncoding, message: &[u8], name: &[u8], hash: u64) -> Cut
     requires { AreNameOctets name.now }
-    ensures cut { IsCut message.now name.now result.written result.target }
+    ensures cut { IsNameCut message.now name.now result.written result.target }
     ensures whole { mode ≢ RDataEncoding.StandardRecord → (result.written ≡ length name.now) × (result.target ≡ None) }
 {
     match mode {
@@ -66,7 +66,7 @@ pub fn write_name(
     ensures full { result ≡ Err WriteError.Buffer → limit < length out.old.items + (length name.now + 1) }
 {
     let start = out.len();
-    let hash = octets_hash(name);
+    let hash = octets_hash(name, name.len());
     let cut = cut_for(places, mode, out.as_slice(), name, hash);
     let front = &name[..cut.written];
     let len = front.len() + stop_len(cut.target);
@@ -74,7 +74,7 @@ pub fn write_name(
         return Err(WriteError::Buffer);
     }
     out.reserve(len)?;
-    places.note(start, front, hash)?;
+    places.note(start, front, hash, name.len())?;
     out.extend_from_slice(front)?;
     match cut.target {
         None => out.extend_from_slice(&[0])?,

@@ -2,8 +2,9 @@
 
 ghost use Rattle.std.specs.Prelude.{◌≡◌, ◌≢◌, ◌+◌, ◌-◌, ◌<◌, ℕ, List, length as size, IsTrue, ◌↔◌, Some, Err, IfOk, IfErr, OnOk};
 ghost use Rattle.dns_types.specs.RecordTypes.{number_of};
-ghost use Rattle.dns_names_wire.specs.Words.{StaysBehind, UnlessMemory, EmitsAs, Keeps};
-ghost use Rattle.dns_rdata.specs.Refusals.{IsNeverRead, OwnRefusal, IsRefusal, by_length as answer_by_length};
+ghost use Rattle.dns_names_wire.specs.Words.{StaysBehind, UnlessMemory, EmitsAs, Extends, Keeps, IsMessage};
+ghost use Rattle.dns_rdata.specs.Data.{IsNeverRead};
+ghost use Rattle.dns_rdata.specs.Refusals.{OwnRefusal, IsRefusal, by_length as answer_by_length};
 
 use dns_names_wire::{
     BinDecoder, BinEncodable, BinEncoder, DecodeError, ProtoError, RecordType, Restrict,
@@ -76,7 +77,7 @@ pub enum RData {
 }
 
 impl RData {
-    ghost use Rattle.dns_rdata.specs.Data.{Fills, NoValue, ReadsData, fields_of, mode_for, type_of, data_octets};
+    ghost use Rattle.dns_rdata.specs.Data.{Fills, NoValue, ReadsData, IsEmittable, fields_of, mode_for, type_of, data_octets};
     ghost use Rattle.dns_rdata.specs.Laws.{ReadsCanonical, address_of};
 
     /// The type of the record that has this data.
@@ -122,7 +123,7 @@ impl RData {
     }
 
     // Reads the fields of a type, whatever the length is in the end.
-    fn read_fields(
+    fn read_by_type(
         decoder: &mut BinDecoder<'_>,
         record_type: RecordType,
         length: Restrict<u16>,
@@ -190,9 +191,11 @@ impl RData {
         ensures behind { StaysBehind decoder.old decoder.new }
         // The canonical octets of what is read are read again as an equal value.
         ensures canonical { IfOk result (ReadsCanonical record_type) }
+        // What is read can be emitted: it is refused for memory or for buffer space alone.
+        ensures emittable { IfOk result IsEmittable }
     {
         let start = decoder.index();
-        let outcome = RData::read_fields(decoder, record_type, length);
+        let outcome = RData::read_by_type(decoder, record_type, length);
         let read = decoder.index() - start;
         let len = length.unverified() as usize;
         by_length(outcome, read, len)
@@ -224,7 +227,7 @@ fn by_length(
 }
 
 impl BinEncodable for RData {
-    ghost use Rattle.dns_rdata.specs.Data.{fields_of, mode_for};
+    ghost use Rattle.dns_rdata.specs.Data.{IsEmittable, fields_of, mode_for};
     ghost use Rattle.dns_rdata.specs.Laws.{ReadsBack};
 
     ghost emits = { λ v r old new. EmitsAs (mode_for old.mode v) (fields_of v).kinds (fields_of v).values r old new };
@@ -236,8 +239,13 @@ impl BinEncodable for RData {
         ensures keeps { Keeps encoder.old encoder.new }
         // What was read and is appended reads back as an equal value, behind any octets.
         ensures again { OnOk result (ReadsBack self.now encoder.old encoder.new) }
+        // The octets that were there stand.
+        ensures extends { Extends encoder.old encoder.new }
+        // What is emitted can be, and what is refused by a message cannot.
+        ensures fits { OnOk result (IsEmittable self.now) }
+        ensures unfit { IfErr result (λ e. IsMessage e → ¬ (IsEmittable self.now)) }
     {
-        let outcome = self.emit_fields(encoder);
+        let outcome = self.emit_by_type(encoder);
         let _written = encoder.len();
         outcome
     }
@@ -247,7 +255,7 @@ impl RData {
     ghost use Rattle.dns_rdata.specs.Data.{fields_of, mode_for};
 
     // Appends the octets of the value.
-    fn emit_fields(&self, encoder: &mut BinEncoder<'_>) -> Result<(), ProtoError>
+    fn emit_by_type(&self, encoder: &mut BinEncoder<'_>) -> Result<(), ProtoError>
         ensures { EmitsAs (mode_for encoder.old.mode self.now) (fields_of self.now).kinds (fields_of self.now).values result encoder.old encoder.new }
     {
         match self {

@@ -3,7 +3,7 @@
 ghost use Rattle.std.specs.Prelude.{◌≡◌, IfOk};
 ghost use Rattle.std.specs.String.{string_bytes};
 ghost use Rattle.hex.specs.Hex.{encode_lower};
-ghost use Rattle.dns_rdata_certs.specs.HEX.{is_blank, without_blanks, DecodesHex};
+ghost use Rattle.dns_rdata_certs.specs.HEX.{is_white_space, without_blanks, DecodesHex};
 
 use dns_types::ParseError;
 use hex::FromHexError;
@@ -42,7 +42,7 @@ fn digits_of(alloc: Global, text: &[u8]) -> Result<Vec<u8>, AllocError>
 {
     let mut digits = Vec::with_capacity(alloc, text.len())?;
     for octet in text {
-        if !is_blank(*octet) {
+        if !is_white_space(*octet) {
             digits.push(*octet)?;
         }
     }
@@ -50,13 +50,13 @@ fn digits_of(alloc: Global, text: &[u8]) -> Result<Vec<u8>, AllocError>
 }
 
 #[inline]
-fn is_blank(octet: u8) -> bool
-    ensures { result ≡ is_blank octet }
+fn is_white_space(octet: u8) -> bool
+    ensures { result ≡ is_white_space octet }
 {
     matches!(octet, b' ' | b'\t' | b'\r' | b'\n')
 }
 
-/// Octets that print as hexadecimal digits in lower case, without memory.
+/// Octets that print as hexadecimal digits in lower case, without memory, 32 at a time.
 #[derive(Clone, Copy)]
 pub struct Hexadecimal<'a>(pub &'a [u8]);
 
@@ -68,12 +68,16 @@ impl fmt::Display for Hexadecimal<'_> {
 
     /// Two digits for each octet: `3b6b`.
     fn fmt<W: fmt::Write>(&self, f: &mut fmt::Formatter<W>) -> fmt::Result {
-        let mut digits = [0u8; 2];
-        for octet in self.0 {
-            let Ok(()) = hex::encode_to_slice([*octet].as_slice(), &mut digits) else {
+        let mut digits = [0u8; 64];
+        for chunk in self.0.chunks(32) {
+            let text = &mut digits[..2 * chunk.len()];
+            let Ok(()) = hex::encode_to_slice(chunk, text) else {
                 return Err(fmt::Error);
             };
-            f.write_str(str::from_utf8(&digits).map_err(|_| fmt::Error)?)?;
+            let Ok(text) = str::from_utf8(text) else {
+                return Err(fmt::Error);
+            };
+            f.write_str(text)?;
         }
         Ok(())
     }

@@ -4,10 +4,10 @@ ghost use Rattle.std.specs.Prelude.{◌≡◌, ◌≤◌, ◌<◌, map, drop, le
 ghost use Rattle.std.specs.Option.{option_copied};
 ghost use Rattle.dns_fields.specs.Labels.{DomainName, IsName};
 ghost use Rattle.dns_labels.specs.Labels.{labels_of, name_of, AreNameOctets};
-ghost use Rattle.dns_names_wire.specs.NameValues.{IsRefusal, IsParsed, with_label, joined_name, completed, qualified, in_lowercase, parent_name};
+ghost use Rattle.dns_names_wire.specs.NameValues.{IsTextRefusal, IsParsed, with_label, joined_name, completed, qualified, in_lowercase, parent_name};
 
 use crate::name::Name;
-use dns_labels::{NameError, building};
+use dns_labels::{NameError, NameOctets, building};
 use dns_types::{ProtoError, ProtoResult};
 use std::alloc::{AllocError, Global};
 
@@ -16,10 +16,10 @@ impl Name {
     /// more than 63, or the name would have more than 255.
     pub fn from_labels(alloc: Global, labels: &[&[u8]]) -> ProtoResult<Name>
         ensures ok { IfOk result (λ x. x ≡ qualified (map (λ label. label.now) labels.now)) }
-        ensures refused { IfErr result (λ e. IsRefusal e (IsName (qualified (map (λ label. label.now) labels.now)) → ⊥)) }
+        ensures refused { IfErr result (λ e. IsTextRefusal e (IsName (qualified (map (λ label. label.now) labels.now)) → ⊥)) }
     {
         match join_labels(alloc, labels) {
-            Ok(octets) => Ok(Name::from_octets(octets, true)),
+            Ok(octets) => Ok(Name::from_octets(NameOctets::from_vec(octets), true)),
             Err(NameError::Memory) => Err(ProtoError::Memory),
             Err(NameError::Invalid) => Err(ProtoError::Message("not the labels of a domain name")),
         }
@@ -29,14 +29,12 @@ impl Name {
     /// octet or more than 63, or the name would have more than 255.
     pub fn append_label(self, label: &[u8]) -> ProtoResult<Name>
         ensures ok { IfOk result (λ x. x ≡ with_label self label.now) }
-        ensures refused { IfErr result (λ e. IsRefusal e (IsName (with_label self label.now) → ⊥)) }
+        ensures refused { IfErr result (λ e. IsTextRefusal e (IsName (with_label self label.now) → ⊥)) }
     {
-        let Name {
-            mut octets,
-            is_fqdn,
-        } = self;
+        let Name { octets, is_fqdn } = self;
+        let mut octets = octets.into_vec()?;
         match building::append_label(&mut octets, label) {
-            Ok(()) => Ok(Name::from_octets(octets, is_fqdn)),
+            Ok(()) => Ok(Name::from_octets(NameOctets::from_vec(octets), is_fqdn)),
             Err(NameError::Memory) => Err(ProtoError::Memory),
             Err(NameError::Invalid) => Err(ProtoError::Message("label does not fit a domain name")),
         }
@@ -46,11 +44,12 @@ impl Name {
     /// octets.
     pub fn append_name(self, other: &Name) -> ProtoResult<Name>
         ensures ok { IfOk result (λ x. x ≡ joined_name self other.now) }
-        ensures refused { IfErr result (λ e. IsRefusal e (IsName (joined_name self other.now) → ⊥)) }
+        ensures refused { IfErr result (λ e. IsTextRefusal e (IsName (joined_name self other.now) → ⊥)) }
     {
-        let Name { mut octets, .. } = self;
+        let Name { octets, .. } = self;
+        let mut octets = octets.into_vec()?;
         match building::append_octets(&mut octets, other.octets.as_slice()) {
-            Ok(()) => Ok(Name::from_octets(octets, other.is_fqdn)),
+            Ok(()) => Ok(Name::from_octets(NameOctets::from_vec(octets), other.is_fqdn)),
             Err(NameError::Memory) => Err(ProtoError::Memory),
             Err(NameError::Invalid) => Err(ProtoError::Message("domain name past 255 octets")),
         }
@@ -59,7 +58,7 @@ impl Name {
     /// The labels of both names, fully qualified. Refused as `append_name`.
     pub fn append_domain(self, domain: &Name) -> ProtoResult<Name>
         ensures ok { IfOk result (λ x. x ≡ qualified (joined_name self domain.now).labels) }
-        ensures refused { IfErr result (λ e. IsRefusal e (IsName (joined_name self domain.now) → ⊥)) }
+        ensures refused { IfErr result (λ e. IsTextRefusal e (IsName (joined_name self domain.now) → ⊥)) }
     {
         let mut name = self.append_name(domain)?;
         name.set_fqdn(true);
@@ -69,7 +68,7 @@ impl Name {
     // A relative name gets labels and mark of the origin, where there is one.
     fn complete(self, origin: Option<&Name>) -> ProtoResult<Name>
         ensures ok { IfOk result (λ x. x ≡ completed self (option_copied origin.entry)) }
-        ensures refused { IfErr result (λ e. IsRefusal e (IsName (completed self (option_copied origin.entry)) → ⊥)) }
+        ensures refused { IfErr result (λ e. IsTextRefusal e (IsName (completed self (option_copied origin.entry)) → ⊥)) }
     {
         if self.is_fqdn() {
             return Ok(self);
@@ -84,7 +83,7 @@ impl Name {
     /// Refused by `Message` where it is no text of a name, or where there would be more than 255 octets.
     pub fn parse(alloc: Global, text: &str, origin: Option<&Name>) -> ProtoResult<Name>
         ensures found { IfOk result (λ x. IsParsed text.now (option_copied origin.entry) x) }
-        ensures refused { IfErr result (λ e. IsRefusal e ((x : DomainName) → IsParsed text.now (option_copied origin.entry) x → ⊥)) }
+        ensures refused { IfErr result (λ e. IsTextRefusal e ((x : DomainName) → IsParsed text.now (option_copied origin.entry) x → ⊥)) }
     {
         Name::from_str(alloc, text)?.complete(origin)
     }
@@ -95,7 +94,7 @@ impl Name {
     {
         let mut octets = Vec::from_slice(self.allocator(), self.octets.as_slice())?;
         octets.as_mut_slice().make_ascii_lowercase();
-        Ok(Name::from_octets(octets, self.is_fqdn))
+        Ok(Name::from_octets(NameOctets::from_vec(octets), self.is_fqdn))
     }
 
     /// The name without its first label, its mark kept; of a name without labels that name. Fails only for want of
@@ -104,7 +103,7 @@ impl Name {
         ensures { IfOk result (λ x. x ≡ parent_name self.now) }
     {
         let rest = without_first(self.octets.as_slice());
-        let octets = Vec::from_slice(self.allocator(), rest)?;
+        let octets = NameOctets::from_slice(self.allocator(), rest)?;
         Ok(Name::from_octets(octets, self.is_fqdn))
     }
 }

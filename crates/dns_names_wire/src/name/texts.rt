@@ -3,11 +3,11 @@
 ghost use Rattle.std.specs.Prelude.{◌≡◌, ◌⊎◌, string_bytes, IfOk, IfErr, MatchResult, Some};
 ghost use Rattle.dns_fields.specs.Labels.{DomainName, IsName};
 ghost use Rattle.dns_labels.specs.Text.{IsNameText, HasOctets, name_text};
-ghost use Rattle.dns_names_wire.specs.NameValues.{IsRefusal};
+ghost use Rattle.dns_names_wire.specs.NameValues.{IsTextRefusal};
 
 use crate::name::Name;
-use dns_labels::NameError;
 use dns_labels::text::{NameText, parse_octets};
+use dns_labels::{NameError, NameOctets};
 use dns_types::{ProtoError, ProtoResult};
 use std::alloc::{AllocError, Global};
 use std::fmt;
@@ -21,13 +21,13 @@ impl Name {
     /// other text is refused by `Message`. Takes memory once.
     pub fn from_ascii(alloc: Global, text: &str) -> ProtoResult<Name>
         ensures found { IfOk result (λ x. IsNameText x text.now) }
-        ensures refused { IfErr result (λ e. IsRefusal e ((x : DomainName) → IsNameText x text.now → ⊥)) }
+        ensures refused { IfErr result (λ e. IsTextRefusal e ((x : DomainName) → IsNameText x text.now → ⊥)) }
         // a name's printed text reads back as that name
         ensures reads_back { (x : DomainName) → IsName x → HasOctets x → text.now ≡ name_text x →
             MatchResult result (λ n. n ≡ x) (λ e. e ≡ ProtoError.Memory) }
     {
         match parse_octets(alloc, text.as_bytes()) {
-            Ok((octets, is_fqdn)) => Ok(Name::from_octets(octets, is_fqdn)),
+            Ok((octets, is_fqdn)) => Ok(Name::from_octets(NameOctets::from_vec(octets), is_fqdn)),
             Err(NameError::Memory) => Err(ProtoError::Memory),
             Err(NameError::Invalid) => Err(ProtoError::Message("not the text of a domain name")),
         }
@@ -36,7 +36,7 @@ impl Name {
     /// The name of a text, as `from_ascii`.
     pub fn from_str(alloc: Global, text: &str) -> ProtoResult<Name>
         ensures found { IfOk result (λ x. IsNameText x text.now) }
-        ensures refused { IfErr result (λ e. IsRefusal e ((x : DomainName) → IsNameText x text.now → ⊥)) }
+        ensures refused { IfErr result (λ e. IsTextRefusal e ((x : DomainName) → IsNameText x text.now → ⊥)) }
         ensures reads_back { (x : DomainName) → IsName x → HasOctets x → text.now ≡ name_text x →
             MatchResult result (λ n. n ≡ x) (λ e. e ≡ ProtoError.Memory) }
     {
