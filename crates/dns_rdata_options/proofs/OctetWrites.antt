@@ -20,7 +20,7 @@ pub stopped_one : {e : ProtoError} {old new : Writing} {asked : Type 0} (s t who
 unfolding field_octets
 stopped_one {e} {old} s t whole f is = record {
   extends = f.extends;
-  why = because_map e _ _ _ _ (λ (r : NoRoomField old Rest s). omega (arith, r.full, ap length is, length-append s t)) (λ (u : UnfitField Rest s) _. u.unfit tt) f.why;
+  why = because_map e _ _ _ _ (λ (r : NoRoomField old Rest s). omega (arith, r.full, ap length is, length-append s t)) (λ (u : UnfitField Rest s) _. let e = u.unfit in cc e) f.why;
 }
 
 pub stopped_two : {e : ProtoError} {old mid new : Writing} {asked : Type 0} (s t whole : List ℕ) → AppendedField old Rest s mid → StoppedField e mid Rest t new → s ++ t ≡ whole → StoppedOctets e asked whole old new
@@ -29,7 +29,7 @@ stopped_two {e} {old} {mid} s t whole f g is = record {
   extends = extends_then f g.extends;
   why = because_map e _ _ _ _
       (λ (r : NoRoomField mid Rest t). omega (arith, r.full, f.keeps.limit, ap length f.field.is, length-append old.octets s, ap length is, length-append s t))
-      (λ (u : UnfitField Rest t) _. u.unfit tt)
+      (λ (u : UnfitField Rest t) _. let e = u.unfit in cc e)
       g.why;
 }
 
@@ -38,5 +38,5 @@ pub stopped_front : {e : ProtoError} {old new : Writing} {asked : Type 0} (s who
 unfolding field_octets
 stopped_front {e} {old} s whole f le = record {
   extends = f.extends;
-  why = because_map e _ _ _ _ (λ (r : NoRoomField old Rest s). omega (arith, r.full, le)) (λ (u : UnfitField Rest s) _. u.unfit tt) f.why;
+  why = because_map e _ _ _ _ (λ (r : NoRoomField old Rest s). omega (arith, r.full, le)) (λ (u : UnfitField Rest s) _. let e = u.unfit in cc e) f.why;
 }

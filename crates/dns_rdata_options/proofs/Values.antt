@@ -26,7 +26,8 @@ use Rattle.dns_rdata_options.specs.EdnsCode.{edns_code_number, edns_code_variant
 use Rattle.dns_rdata_options.specs.ClientSubnet.{subnet_value, subnet_of}
 use Rattle.dns_rdata_options.specs.EdnsOption.{option_value}
 use Rattle.dns_rdata_options.specs.OPT.{Pair, pair_value, option_of, pair_of, opt_shape, opt_fields, opt_from, IsReadOpt, code_eq}
-use Rattle.dns_rdata_options.specs.Order.{pair_eq, pair_cmp, pair_total, pair_ties, opt_eq, opt_ties}
+use Rattle.dns_rdata_options.specs.Order.{pair_eq, pair_cmp, opt_eq}
+use Rattle.dns_rdata_options.specs.OrderLaws.{pair_total, pair_ties, opt_ties}
 use Rattle.dns_rdata_options.specs.declared.opt.code.EdnsCode.{EdnsCode}
 use Rattle.dns_rdata_options.specs.declared.opt.code.EdnsCode.TheVariants as codes
 use Rattle.dns_rdata_options.specs.declared.opt.option.EdnsOption.{EdnsOption}

@@ -4,6 +4,7 @@ pub mod ClientSubnet
 pub mod EdnsOption
 pub mod OPT
 pub mod Order
+pub mod OrderLaws
 pub mod Places
 pub mod Walking
 pub mod OptionReads

@@ -1,13 +1,8 @@
--- What an emitter of plain octets does, exactly, and a refusal by a message.
+-- What an emitter of plain octets does, exactly.
 use Rattle.std.specs.Prelude.{◌≡◌, ◌+◌, ◌<◌, ℕ, List, ◌++◌, length, Result, Ok, Err}
 use Rattle.dns_types.specs.declared.error.ProtoError.{ProtoError}
-use Rattle.dns_types.specs.declared.error.ProtoError.TheVariants as proto
 use Rattle.dns_names_wire.specs.State.{Writing}
 use Rattle.dns_names_wire.specs.Words.{Keeps, Extends, Because}
-
-abbrev pub IsMessage : ProtoError → Type 0
-IsMessage (proto.Message text) = Unit {0}
-IsMessage e = ⊥
 
 -- the octets stand behind those that were there, and meet what is asked of them
 pub record AppendedOctets (asked : Type 0) (s : List ℕ) (old new : Writing) : Type 0 where

@@ -1,10 +1,11 @@
 //! OPT: the options of EDNS (RFC 6891).
 
-ghost use Rattle.std.specs.Prelude.{◌≡◌, ◌+◌, ◌++◌, ◌∷◌, [], map, slice_get, IfOk, IfErr, OnOk, OnErr};
+ghost use Rattle.std.specs.Prelude.{◌≡◌, ◌+◌, ◌<◌, ◌++◌, ◌∷◌, [], map, slice_get, IfOk, IfErr, OnOk, OnErr};
 ghost use Rattle.std.specs.Option.{option_copied};
 ghost use Rattle.dns_fields.specs.Pieces.{piece, as_piece, option_octets, OptionFits};
 ghost use Rattle.dns_names_wire.specs.Words.{ReadsWindow, Emits};
 ghost use Rattle.dns_rdata_options.specs.Words.{EmitsOctets};
+ghost use Rattle.dns_rdata_options.specs.EdnsCode.{edns_code_number};
 ghost use Rattle.dns_rdata_options.specs.EdnsOption.{code_of};
 ghost use Rattle.dns_rdata_options.specs.OPT.{opt_shape, opt_fields, pair_value, IsReadOpt, options_of, without, opt_refusal};
 
@@ -156,7 +157,8 @@ fn emit_pair(
     code: EdnsCode,
     option: &EdnsOption,
 ) -> Result<(), ProtoError>
-    ensures { EmitsOctets (OptionFits (pair_value (code, option.now))) (piece (as_piece option_octets (pair_value (code, option.now)))) result encoder.old encoder.new }
+    ensures small { edns_code_number code < 65536 }
+    ensures emits { EmitsOctets (OptionFits (pair_value (code, option.now))) (piece (as_piece option_octets (pair_value (code, option.now)))) result encoder.old encoder.new }
 {
     let len = option.octets_len();
     if len > 65535 {
@@ -188,7 +190,8 @@ impl PartialEq for OPT {
     ghost use Rattle.std.specs.List.Sorted.{IsPermutation};
     ghost use Rattle.std.specs.Cmp.{partial_equiv_from_equiv};
     ghost use Rattle.dns_rdata_options.specs.OPT.{Pair};
-    ghost use Rattle.dns_rdata_options.specs.Order.{pair_eq, opt_eq, opt_equiv};
+    ghost use Rattle.dns_rdata_options.specs.Order.{pair_eq, opt_eq};
+    ghost use Rattle.dns_rdata_options.specs.OrderLaws.{opt_equiv};
 
     ghost eq = { opt_eq };
 
@@ -205,7 +208,7 @@ impl PartialEq for OPT {
 }
 
 impl Eq for OPT {
-    ghost use Rattle.dns_rdata_options.specs.Order.{opt_equiv};
+    ghost use Rattle.dns_rdata_options.specs.OrderLaws.{opt_equiv};
 
     ghost laws = { opt_equiv };
 }
@@ -214,7 +217,8 @@ impl PartialOrd for OPT {
     ghost use Rattle.std.specs.Prelude.{refl};
     ghost use Rattle.std.specs.Ordering.{as_partial_cmp};
     ghost use Rattle.std.specs.Cmp.{partial_order_from_agreeing_total};
-    ghost use Rattle.dns_rdata_options.specs.Order.{opt_cmp, opt_total, opt_ties};
+    ghost use Rattle.dns_rdata_options.specs.Order.{opt_cmp};
+    ghost use Rattle.dns_rdata_options.specs.OrderLaws.{opt_total, opt_ties};
 
     ghost partial_cmp = { as_partial_cmp opt_cmp };
 
@@ -228,7 +232,8 @@ impl PartialOrd for OPT {
 
 impl Ord for OPT {
     ghost use Rattle.std.specs.Prelude.{refl};
-    ghost use Rattle.dns_rdata_options.specs.Order.{opt_cmp, opt_total, opt_ties};
+    ghost use Rattle.dns_rdata_options.specs.Order.{opt_cmp};
+    ghost use Rattle.dns_rdata_options.specs.OrderLaws.{opt_total, opt_ties};
 
     ghost cmp = { opt_cmp };
 

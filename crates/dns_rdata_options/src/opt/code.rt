@@ -1,6 +1,13 @@
 //! The codes of EDNS options (RFC 6891, 9).
 
-ghost use Rattle.std.specs.Prelude.{◌≡◌};
+ghost use Rattle.std.specs.Prelude.{◌≡◌, ◌++◌, refl};
+ghost use Rattle.std.specs.Cmp.{partial_equiv_from_equiv, partial_order_from_agreeing_total};
+ghost use Rattle.std.specs.Cmp.Rules.{hashing};
+ghost use Rattle.std.specs.Hash as fed;
+ghost use Rattle.std.specs.Ordering.{as_partial_cmp};
+ghost use Rattle.std.proofs.Common.{rules};
+ghost use Rattle.dns_rdata_base.specs.Numbered.{numbered_eq, numbered_cmp};
+ghost use Rattle.dns_rdata_base.proofs.NumberedLaws.{numbered_equiv, numbered_total, numbered_ties};
 ghost use Rattle.dns_rdata_options.specs.EdnsCode.{edns_code_number, edns_code_variant, edns_code_of};
 
 use std::cmp::Ordering;
@@ -113,9 +120,6 @@ impl EdnsCode {
     }
 }
 impl PartialEq for EdnsCode {
-    ghost use Rattle.std.specs.Cmp.{partial_equiv_from_equiv};
-    ghost use Rattle.dns_rdata_base.specs.Numbered.{numbered_eq, numbered_equiv};
-
     ghost eq = { numbered_eq edns_code_number edns_code_variant };
 
     ghost laws = { partial_equiv_from_equiv (numbered_equiv edns_code_number edns_code_variant) };
@@ -127,17 +131,10 @@ impl PartialEq for EdnsCode {
 }
 
 impl Eq for EdnsCode {
-    ghost use Rattle.dns_rdata_base.specs.Numbered.{numbered_equiv};
-
     ghost laws = { numbered_equiv edns_code_number edns_code_variant };
 }
 
 impl Hash for EdnsCode {
-    ghost use Rattle.std.specs.Prelude.{◌++◌};
-    ghost use Rattle.std.specs.Hash as fed;
-    ghost use Rattle.std.specs.Cmp.Rules.{hashing};
-    ghost use Rattle.std.proofs.Common.{rules};
-
     ghost hash_input = { λ e. fed.u16 (edns_code_number e) ++ fed.u8 (edns_code_variant e) };
 
     ghost respects_eq = { Prim.search (hashing, rules) };
@@ -150,11 +147,6 @@ impl Hash for EdnsCode {
 }
 
 impl PartialOrd for EdnsCode {
-    ghost use Rattle.std.specs.Prelude.{refl};
-    ghost use Rattle.std.specs.Cmp.{partial_order_from_agreeing_total};
-    ghost use Rattle.std.specs.Ordering.{as_partial_cmp};
-    ghost use Rattle.dns_rdata_base.specs.Numbered.{numbered_cmp, numbered_total, numbered_ties};
-
     ghost partial_cmp = { as_partial_cmp (numbered_cmp edns_code_number edns_code_variant) };
 
     ghost laws = { partial_order_from_agreeing_total (numbered_cmp edns_code_number edns_code_variant) (numbered_total edns_code_number edns_code_variant) (λ _ _. refl) (numbered_ties edns_code_number edns_code_variant) };
@@ -166,9 +158,6 @@ impl PartialOrd for EdnsCode {
 }
 
 impl Ord for EdnsCode {
-    ghost use Rattle.std.specs.Prelude.{refl};
-    ghost use Rattle.dns_rdata_base.specs.Numbered.{numbered_cmp, numbered_total, numbered_ties};
-
     ghost cmp = { numbered_cmp edns_code_number edns_code_variant };
 
     ghost total = { numbered_total edns_code_number edns_code_variant };

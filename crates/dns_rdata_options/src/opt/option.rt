@@ -2,7 +2,8 @@
 
 ghost use Rattle.std.specs.Prelude.{◌≡◌, ◌⊎◌, ◌≤◌, ◌<◌, ◌↔◌, ℕ, [], length, IsTrue, IfOk, IfErr};
 ghost use Rattle.dns_fields.specs.Pieces.{option_octets, IsEmittableOption};
-ghost use Rattle.dns_rdata_options.specs.Words.{IsMessage, EmitsOctets};
+ghost use Rattle.dns_names_wire.specs.Words.{IsMessage};
+ghost use Rattle.dns_rdata_options.specs.Words.{EmitsOctets};
 ghost use Rattle.dns_rdata_options.specs.EdnsOption.{option_value, option_len, code_of, ReadsOption};
 
 use crate::opt::code::EdnsCode;

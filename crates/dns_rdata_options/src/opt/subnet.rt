@@ -2,8 +2,8 @@
 
 ghost use Rattle.std.specs.Prelude.{◌≡◌, ◌+◌, ◌<◌, ◌≤◌, ◌/◌, ◌⊎◌, ◌↔◌, IsTrue, Bool, false, length, drop, take, Result, IfOk, IfErr, OnErr};
 ghost use Rattle.dns_fields.specs.Pieces.{option_octets, IsEmittableOption, IsAddress, Subnet as SubnetValue};
-ghost use Rattle.dns_names_wire.specs.Words.{ReadsBy};
-ghost use Rattle.dns_rdata_options.specs.Words.{IsMessage, EmitsOctets};
+ghost use Rattle.dns_names_wire.specs.Words.{ReadsBy, IsMessage};
+ghost use Rattle.dns_rdata_options.specs.Words.{EmitsOctets};
 ghost use Rattle.dns_rdata_options.specs.ClientSubnet.{subnet_value, SubnetAt, NoSubnet, subnet_refusal, ReadsSubnet, prefix_octets, family_octets, address_of, address_octets, family_of, padded, IsFamily};
 
 use crate::opt::net::IpNet;

@@ -1,7 +1,8 @@
 use Rattle.std.proofs.Common.{◌≡◌, ◌∙◌, sym, ap}
 use Rattle.std.specs.Ordering.{is_eq}
 use Rattle.dns_fields.proofs.Multisets.{counts_decide}
-use Rattle.dns_rdata_options.specs.Order.{pair_eq, pair_cmp, pair_total, pair_ties, opt_cmp, opt_ties}
+use Rattle.dns_rdata_options.specs.Order.{pair_eq, pair_cmp, opt_cmp}
+use Rattle.dns_rdata_options.specs.OrderLaws.{pair_total, pair_ties, opt_ties}
 use Rattle.dns_rdata_options.proofs.Values.{opt_permutes}
 use Rattle.dns_rdata_options.specs.Order.{opt_eq}
 use Rattle.dns_rdata_options.proofs.opt.OPTPartialEq.eq.Goals as goal
