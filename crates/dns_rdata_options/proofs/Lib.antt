@@ -5,6 +5,7 @@ pub mod OptionCounts
 pub mod OptionValues
 pub mod OptionLoops
 pub mod Pairs
+pub mod Refusals
 pub mod Selection
 pub mod Least
 pub mod Walks

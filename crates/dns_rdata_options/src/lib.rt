@@ -3,4 +3,4 @@
 
 pub mod opt;
 
-
+pub use opt::OPT;
