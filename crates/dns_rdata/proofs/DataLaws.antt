@@ -69,7 +69,7 @@ fields_for-window m p n t vs w = ap (λ (f : FieldsOf). values_as (shape t) f.ki
 equal_same : (t : RecordType) (v w : RData) (m : List ℕ) (p n : ℕ) (m' : List ℕ) (p' n' : ℕ) (f : Fills m p n t v) (g : Fills m' p' n' t w) → Decides (equal v w) (Same (shape t) f.values g.values)
 equal_same t v w m p n m' p' n' f g =
     let a : equal v w ≡ equal (value_for t f.values) (value_for t g.values) = ap (λ (x : RData). equal x w) (value_is t f.values v f.value) ∙ ap (equal (value_for t f.values)) (value_is t g.values w g.value) in
-    let b = equal_values t f.values g.values f.window.holds in
+    let b = equal_values t f.values g.values f.window.holds (window_value m p n t f.values f.window).plain (window_value m' p' n' t g.values g.window).plain in
     let c : values_eq (shape t) (fields_for t f.values) (fields_for t g.values) ≡ values_eq (shape t) f.values g.values = ap (λ (x : Values (shape t)). values_eq (shape t) x (fields_for t g.values)) (fields_for-window m p n t f.values f.window) ∙ ap (values_eq (shape t) f.values) (fields_for-window m' p' n' t g.values g.window) in
     let d = values_decide (shape t) f.values g.values (stands_full m p (shape t) f.values (p + n) f.window.stands) (stands_full m' p' (shape t) g.values (p' + n') g.window.stands) in
     subst (λ (x : Bool). Decides x (Same (shape t) f.values g.values)) (sym (a ∙ b ∙ c)) d

@@ -23,6 +23,8 @@ use Rattle.dns_rdata_sets.specs.CAA.{caa_shape, caa_fields, caa_key_shape, caa_k
 use Rattle.dns_rdata_sets.proofs.CaaValues.{caa_from, caa_from-fields, caa_fields-from, caa_from-read, caa_keys-same}
 use Rattle.dns_rdata_sets.specs.CSYNC.{csync_shape, csync_fields, csync_key_shape, csync_keys}
 use Rattle.dns_rdata_sets.proofs.CsyncValues.{csync_from, csync_from-fields, csync_fields-from, csync_from-read, csync_keys-same}
+use Rattle.dns_rdata_options.specs.OPT.{opt_shape, opt_from}
+use Rattle.dns_rdata_options.proofs.Values.{opt_from-fields, opt_fields-from, opt_from-read, opt_equal}
 use Rattle.dns_rdata_base.specs.declared.null.NULL.{NULL}
 use Rattle.dns_rdata.specs.declared.record_data.RData.{RData}
 use Rattle.dns_rdata.specs.declared.record_data.RData.TheVariants as rdata
@@ -92,6 +94,7 @@ value_for types.NAPTR vs = rdata.NAPTR (record { order = vs.0; preference = vs.1
 value_for types.NULL vs = rdata.NULL (record { anything = vs.0 })
 value_for types.NS vs = rdata.NS (record { 0 = vs.0 })
 value_for types.OPENPGPKEY vs = rdata.OPENPGPKEY (record { public_key = vs.0 })
+value_for types.OPT vs = rdata.OPT (opt_from vs)
 value_for types.PTR vs = rdata.PTR (record { 0 = vs.0 })
 value_for types.SMIMEA vs = rdata.SMIMEA (smimea_from vs)
 value_for types.SOA vs = rdata.SOA (soa_from vs)
@@ -119,6 +122,7 @@ plain_value (rdata.AAAA x) h = ap (λ (s : List ℕ). rdata.AAAA (record { 0 = r
 plain_value (rdata.CAA x) h = ap rdata.CAA (caa_from-fields x h)
 plain_value (rdata.CERT x) h = ap rdata.CERT (cert_from-fields x h)
 plain_value (rdata.CSYNC x) h = ap rdata.CSYNC (csync_from-fields x h)
+plain_value (rdata.OPT x) h = ap rdata.OPT (opt_from-fields x h)
 plain_value (rdata.SMIMEA x) h = ap rdata.SMIMEA (smimea_from-fields x h)
 plain_value (rdata.SOA x) h = ap rdata.SOA (soa_from-fields x h)
 plain_value (rdata.SSHFP x) h = ap rdata.SSHFP (sshfp_from-fields x h)
@@ -153,6 +157,7 @@ window_value m p n types.CAA vs w =
     record { type = refl; fields = of_kinds caa_shape (caa_fields-from vs f); plain = caa_from-read vs }
 window_value m p n types.CERT vs w = record { type = refl; fields = of_kinds cert_shape (cert_fields-from vs); plain = cert_from-read vs }
 window_value m p n types.CSYNC vs w = record { type = refl; fields = of_kinds csync_shape (csync_fields-from vs); plain = csync_from-read vs }
+window_value m p n types.OPT vs w = record { type = refl; fields = of_kinds opt_shape (opt_fields-from m p vs (p + n) w.octets w.stands); plain = opt_from-read m p vs (p + n) w.octets w.stands }
 window_value m p n types.SMIMEA vs w = record { type = refl; fields = of_kinds smimea_shape (smimea_fields-from vs); plain = smimea_from-read vs }
 window_value m p n types.SOA vs w =
     let f = stands_fit m p soa_shape vs (p + n) w.stands in
@@ -187,30 +192,31 @@ equal_keys s t a b c d fa fb fc fd same = decided_same (values_eq s a b) (values
 abbrev pub fields_for : (t : RecordType) → Values (shape t) → Values (shape t)
 fields_for t vs = values_as (shape t) (fields_of (value_for t vs)).kinds (fields_of (value_for t vs)).values
 
-pub equal_values : (t : RecordType) (vs ws : Values (shape t)) → condition t vs → equal (value_for t vs) (value_for t ws) ≡ values_eq (shape t) (fields_for t vs) (fields_for t ws)
+pub equal_values : (t : RecordType) (vs ws : Values (shape t)) → condition t vs → IsPlain (value_for t vs) → IsPlain (value_for t ws) → equal (value_for t vs) (value_for t ws) ≡ values_eq (shape t) (fields_for t vs) (fields_for t ws)
 unfolding value_for values_as value_as
-equal_values types.CAA vs ws h = and_true _ ∙ equal_keys caa_key_shape caa_shape (caa_keys (caa_from vs)) (caa_keys (caa_from ws)) (caa_fields (caa_from vs)) (caa_fields (caa_from ws)) (tt, (tt, (tt, (tt, tt)))) (tt, (tt, (tt, (tt, tt)))) (tt, (tt, (tt, tt))) (tt, (tt, (tt, tt))) (caa_keys-same (caa_from vs) (caa_from ws) (caa_from-read vs) (caa_from-read ws))
-equal_values types.CERT vs ws h = and_true _ ∙ equal_keys cert_key_shape cert_shape (cert_keys (cert_from vs)) (cert_keys (cert_from ws)) (cert_fields (cert_from vs)) (cert_fields (cert_from ws)) (tt, (tt, (tt, (tt, (tt, (tt, tt)))))) (tt, (tt, (tt, (tt, (tt, (tt, tt)))))) (tt, (tt, (tt, (tt, tt)))) (tt, (tt, (tt, (tt, tt)))) (cert_keys-same (cert_from vs) (cert_from ws) (cert_from-read vs) (cert_from-read ws))
-equal_values types.CSYNC vs ws h = and_true _ ∙ equal_keys csync_key_shape csync_shape (csync_keys (csync_from vs)) (csync_keys (csync_from ws)) (csync_fields (csync_from vs)) (csync_fields (csync_from ws)) (tt, (tt, (tt, (tt, (tt, tt))))) (tt, (tt, (tt, (tt, (tt, tt))))) (tt, (tt, (tt, tt))) (tt, (tt, (tt, tt))) (csync_keys-same (csync_from vs) (csync_from ws) (csync_from-read vs) (csync_from-read ws))
-equal_values types.SMIMEA vs ws h = and_true _ ∙ equal_keys smimea_key_shape smimea_shape (smimea_keys (smimea_from vs)) (smimea_keys (smimea_from ws)) (smimea_fields (smimea_from vs)) (smimea_fields (smimea_from ws)) (tt, (tt, (tt, (tt, (tt, (tt, (tt, tt))))))) (tt, (tt, (tt, (tt, (tt, (tt, (tt, tt))))))) (tt, (tt, (tt, (tt, tt)))) (tt, (tt, (tt, (tt, tt)))) (smimea_keys-same (smimea_from vs) (smimea_from ws) (smimea_from-read vs) (smimea_from-read ws))
-equal_values types.SSHFP vs ws h = and_true _ ∙ equal_keys sshfp_key_shape sshfp_shape (sshfp_keys (sshfp_from vs)) (sshfp_keys (sshfp_from ws)) (sshfp_fields (sshfp_from vs)) (sshfp_fields (sshfp_from ws)) (tt, (tt, (tt, (tt, (tt, tt))))) (tt, (tt, (tt, (tt, (tt, tt))))) (tt, (tt, (tt, tt))) (tt, (tt, (tt, tt))) (sshfp_keys-same (sshfp_from vs) (sshfp_from ws) (sshfp_from-read vs) (sshfp_from-read ws))
-equal_values types.TLSA vs ws h = and_true _ ∙ equal_keys tlsa_key_shape tlsa_shape (tlsa_keys (tlsa_from vs)) (tlsa_keys (tlsa_from ws)) (tlsa_fields (tlsa_from vs)) (tlsa_fields (tlsa_from ws)) (tt, (tt, (tt, (tt, (tt, (tt, (tt, tt))))))) (tt, (tt, (tt, (tt, (tt, (tt, (tt, tt))))))) (tt, (tt, (tt, (tt, tt)))) (tt, (tt, (tt, (tt, tt)))) (tlsa_keys-same (tlsa_from vs) (tlsa_from ws) (tlsa_from-read vs) (tlsa_from-read ws))
-equal_values types.A vs ws h = and_true (values_eq (shape types.A) (vs.0, tt) (ws.0, tt))
-equal_values types.AAAA vs ws h = and_true _
-equal_values types.ANAME vs ws h = and_true _
-equal_values types.CNAME vs ws h = and_true _
-equal_values types.HINFO vs ws h = and_true _
-equal_values types.MX vs ws h = and_true _
-equal_values types.NAPTR vs ws h = and_true _
-equal_values types.NULL vs ws h = and_true _
-equal_values types.NS vs ws h = and_true _
-equal_values types.OPENPGPKEY vs ws h = and_true _
-equal_values types.PTR vs ws h = and_true _
-equal_values types.SOA vs ws h = and_true _
-equal_values types.SRV vs ws h = and_true _
-equal_values types.TXT vs ws h = and_true _
-equal_values types.ZERO vs ws h = refl
-equal_values types.ANY vs ws h = absurd h
-equal_values types.AXFR vs ws h = absurd h
-equal_values types.IXFR vs ws h = absurd h
-equal_values t vs ws h = rw (type_itself t) (and_true _)
+equal_values types.CAA vs ws h a b = and_true _ ∙ equal_keys caa_key_shape caa_shape (caa_keys (caa_from vs)) (caa_keys (caa_from ws)) (caa_fields (caa_from vs)) (caa_fields (caa_from ws)) (tt, (tt, (tt, (tt, tt)))) (tt, (tt, (tt, (tt, tt)))) (tt, (tt, (tt, tt))) (tt, (tt, (tt, tt))) (caa_keys-same (caa_from vs) (caa_from ws) (caa_from-read vs) (caa_from-read ws))
+equal_values types.CERT vs ws h a b = and_true _ ∙ equal_keys cert_key_shape cert_shape (cert_keys (cert_from vs)) (cert_keys (cert_from ws)) (cert_fields (cert_from vs)) (cert_fields (cert_from ws)) (tt, (tt, (tt, (tt, (tt, (tt, tt)))))) (tt, (tt, (tt, (tt, (tt, (tt, tt)))))) (tt, (tt, (tt, (tt, tt)))) (tt, (tt, (tt, (tt, tt)))) (cert_keys-same (cert_from vs) (cert_from ws) (cert_from-read vs) (cert_from-read ws))
+equal_values types.CSYNC vs ws h a b = and_true _ ∙ equal_keys csync_key_shape csync_shape (csync_keys (csync_from vs)) (csync_keys (csync_from ws)) (csync_fields (csync_from vs)) (csync_fields (csync_from ws)) (tt, (tt, (tt, (tt, (tt, tt))))) (tt, (tt, (tt, (tt, (tt, tt))))) (tt, (tt, (tt, tt))) (tt, (tt, (tt, tt))) (csync_keys-same (csync_from vs) (csync_from ws) (csync_from-read vs) (csync_from-read ws))
+equal_values types.OPT vs ws h a b = and_true _ ∙ opt_equal (opt_from vs) (opt_from ws) a b
+equal_values types.SMIMEA vs ws h a b = and_true _ ∙ equal_keys smimea_key_shape smimea_shape (smimea_keys (smimea_from vs)) (smimea_keys (smimea_from ws)) (smimea_fields (smimea_from vs)) (smimea_fields (smimea_from ws)) (tt, (tt, (tt, (tt, (tt, (tt, (tt, tt))))))) (tt, (tt, (tt, (tt, (tt, (tt, (tt, tt))))))) (tt, (tt, (tt, (tt, tt)))) (tt, (tt, (tt, (tt, tt)))) (smimea_keys-same (smimea_from vs) (smimea_from ws) (smimea_from-read vs) (smimea_from-read ws))
+equal_values types.SSHFP vs ws h a b = and_true _ ∙ equal_keys sshfp_key_shape sshfp_shape (sshfp_keys (sshfp_from vs)) (sshfp_keys (sshfp_from ws)) (sshfp_fields (sshfp_from vs)) (sshfp_fields (sshfp_from ws)) (tt, (tt, (tt, (tt, (tt, tt))))) (tt, (tt, (tt, (tt, (tt, tt))))) (tt, (tt, (tt, tt))) (tt, (tt, (tt, tt))) (sshfp_keys-same (sshfp_from vs) (sshfp_from ws) (sshfp_from-read vs) (sshfp_from-read ws))
+equal_values types.TLSA vs ws h a b = and_true _ ∙ equal_keys tlsa_key_shape tlsa_shape (tlsa_keys (tlsa_from vs)) (tlsa_keys (tlsa_from ws)) (tlsa_fields (tlsa_from vs)) (tlsa_fields (tlsa_from ws)) (tt, (tt, (tt, (tt, (tt, (tt, (tt, tt))))))) (tt, (tt, (tt, (tt, (tt, (tt, (tt, tt))))))) (tt, (tt, (tt, (tt, tt)))) (tt, (tt, (tt, (tt, tt)))) (tlsa_keys-same (tlsa_from vs) (tlsa_from ws) (tlsa_from-read vs) (tlsa_from-read ws))
+equal_values types.A vs ws h a b = and_true (values_eq (shape types.A) (vs.0, tt) (ws.0, tt))
+equal_values types.AAAA vs ws h a b = and_true _
+equal_values types.ANAME vs ws h a b = and_true _
+equal_values types.CNAME vs ws h a b = and_true _
+equal_values types.HINFO vs ws h a b = and_true _
+equal_values types.MX vs ws h a b = and_true _
+equal_values types.NAPTR vs ws h a b = and_true _
+equal_values types.NULL vs ws h a b = and_true _
+equal_values types.NS vs ws h a b = and_true _
+equal_values types.OPENPGPKEY vs ws h a b = and_true _
+equal_values types.PTR vs ws h a b = and_true _
+equal_values types.SOA vs ws h a b = and_true _
+equal_values types.SRV vs ws h a b = and_true _
+equal_values types.TXT vs ws h a b = and_true _
+equal_values types.ZERO vs ws h a b = refl
+equal_values types.ANY vs ws h a b = absurd h
+equal_values types.AXFR vs ws h a b = absurd h
+equal_values types.IXFR vs ws h a b = absurd h
+equal_values t vs ws h a b = rw (type_itself t) (and_true _)

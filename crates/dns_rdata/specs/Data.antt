@@ -25,6 +25,7 @@ use Rattle.dns_rdata_base.specs.SRV.{srv_shape, srv_fields}
 use Rattle.dns_rdata_certs.specs.SSHFP.{sshfp_shape, sshfp_fields, sshfp_refusal, IsReadSshfp}
 use Rattle.dns_rdata_certs.specs.TLSA.{tlsa_shape, tlsa_fields, tlsa_refusal, IsReadTlsa}
 use Rattle.dns_rdata_base.specs.TXT.{txt_shape, txt_fields, txt_refusal}
+use Rattle.dns_rdata_options.specs.OPT.{opt_shape, opt_fields, opt_refusal, IsReadOpt}
 use Rattle.dns_rdata_sets.specs.CAA.{caa_shape, caa_fields, caa_condition, caa_refusal, IsReadCaa}
 use Rattle.dns_rdata_sets.specs.CSYNC.{csync_shape, csync_fields, csync_condition, csync_refusal, IsReadCsync}
 use Rattle.dns_rdata.specs.declared.record_data.RData.{RData}
@@ -65,6 +66,7 @@ row_of types.NAPTR = row naptr_shape naptr_condition (λ n. naptr_refusal)
 row_of types.NULL = row null_shape (anything null_shape) short_refusal
 row_of types.NS = row name_shape (anything name_shape) (lacking name_shape)
 row_of types.OPENPGPKEY = row openpgpkey_shape (anything openpgpkey_shape) openpgpkey_refusal
+row_of types.OPT = row opt_shape (anything opt_shape) opt_refusal
 row_of types.PTR = row name_shape (anything name_shape) (lacking name_shape)
 row_of types.SMIMEA = row smimea_shape (anything smimea_shape) smimea_refusal
 row_of types.SOA = row soa_shape (anything soa_shape) (lacking soa_shape)
@@ -133,6 +135,7 @@ fields_of (rdata.NAPTR x) = record { kinds = naptr_shape; values = naptr_fields 
 fields_of (rdata.NULL x) = record { kinds = null_shape; values = null_fields x }
 fields_of (rdata.NS x) = record { kinds = name_shape; values = ns_fields x }
 fields_of (rdata.OPENPGPKEY x) = record { kinds = openpgpkey_shape; values = openpgpkey_fields x }
+fields_of (rdata.OPT x) = record { kinds = opt_shape; values = opt_fields x }
 fields_of (rdata.PTR x) = record { kinds = name_shape; values = ptr_fields x }
 fields_of (rdata.SMIMEA x) = record { kinds = smimea_shape; values = smimea_fields x }
 fields_of (rdata.SOA x) = record { kinds = soa_shape; values = soa_fields x }
@@ -158,6 +161,7 @@ type_of (rdata.NAPTR x) = types.NAPTR
 type_of (rdata.NULL x) = types.NULL
 type_of (rdata.NS x) = types.NS
 type_of (rdata.OPENPGPKEY x) = types.OPENPGPKEY
+type_of (rdata.OPT x) = types.OPT
 type_of (rdata.PTR x) = types.PTR
 type_of (rdata.SMIMEA x) = types.SMIMEA
 type_of (rdata.SOA x) = types.SOA
@@ -181,6 +185,7 @@ IsPlain (rdata.TLSA x) = IsReadTlsa x
 IsPlain (rdata.SOA x) = HasSeconds x
 IsPlain (rdata.CAA x) = IsReadCaa x
 IsPlain (rdata.CSYNC x) = IsReadCsync x
+IsPlain (rdata.OPT x) = IsReadOpt x
 IsPlain v = Unit {0}
 
 -- v is the value of the type with these fields

@@ -27,6 +27,9 @@ use Rattle.dns_rdata_base.specs.declared.srv.SRV.{SRV}
 use Rattle.dns_rdata_certs.specs.declared.sshfp.SSHFP.{SSHFP}
 use Rattle.dns_rdata_certs.specs.declared.tlsa.TLSA.{TLSA}
 use Rattle.dns_rdata_base.specs.declared.txt.TXT.{TXT}
+use Rattle.dns_rdata_options.specs.declared.opt.OPT.{OPT}
+use Rattle.dns_rdata_options.specs.Order.{opt_eq}
+use Rattle.dns_rdata_options.specs.OrderLaws.{opt_equiv}
 use Rattle.dns_rdata_sets.specs.declared.caa.CAA.{CAA}
 use Rattle.dns_rdata_sets.specs.declared.csync.CSYNC.{CSYNC}
 use Rattle.dns_rdata_base.specs.A.{a_shape, a_fields}
@@ -101,6 +104,10 @@ as_ns v = None
 abbrev pub as_openpgpkey : RData → Option OPENPGPKEY
 as_openpgpkey (rdata.OPENPGPKEY x) = Some x
 as_openpgpkey v = None
+
+abbrev pub as_opt : RData → Option OPT
+as_opt (rdata.OPT x) = Some x
+as_opt v = None
 
 abbrev pub as_ptr : RData → Option PTR
 as_ptr (rdata.PTR x) = Some x
@@ -221,6 +228,7 @@ equal =
     (eq_of_both (on as_null (option_eq null_eq))
     (eq_of_both (on as_ns (option_eq ns_eq))
     (eq_of_both (on as_openpgpkey (option_eq openpgpkey_eq))
+    (eq_of_both (on as_opt (option_eq opt_eq))
     (eq_of_both (on as_ptr (option_eq ptr_eq))
     (eq_of_both (on as_smimea (option_eq smimea_eq))
     (eq_of_both (on as_soa (option_eq soa_eq))
@@ -230,7 +238,7 @@ equal =
     (eq_of_both (on as_txt (option_eq txt_eq))
     (eq_of_both (on as_unknown_code (option_eq record_type_eq))
     (eq_of_both (on as_unknown (option_eq null_eq))
-    (on as_update (option_eq record_type_eq)))))))))))))))))))))))
+    (on as_update (option_eq record_type_eq))))))))))))))))))))))))
 
 pub equal_equiv : IsEquivalence equal
 equal_equiv =
@@ -247,6 +255,7 @@ equal_equiv =
     (and_equiv (on_equiv as_null (options_equiv (on_equiv null_fields (values_equiv null_shape))))
     (and_equiv (on_equiv as_ns (options_equiv (on_equiv ns_fields (values_equiv name_shape))))
     (and_equiv (on_equiv as_openpgpkey (options_equiv (on_equiv openpgpkey_fields (values_equiv openpgpkey_shape))))
+    (and_equiv (on_equiv as_opt (options_equiv opt_equiv))
     (and_equiv (on_equiv as_ptr (options_equiv (on_equiv ptr_fields (values_equiv name_shape))))
     (and_equiv (on_equiv as_smimea (options_equiv (on_equiv smimea_keys (values_equiv smimea_key_shape))))
     (and_equiv (on_equiv as_soa (options_equiv (on_equiv soa_fields (values_equiv soa_shape))))
@@ -256,4 +265,4 @@ equal_equiv =
     (and_equiv (on_equiv as_txt (options_equiv (on_equiv txt_fields (values_equiv txt_shape))))
     (and_equiv (on_equiv as_unknown_code (options_equiv type_laws.laws-law))
     (and_equiv (on_equiv as_unknown (options_equiv (on_equiv null_fields (values_equiv null_shape))))
-    (on_equiv as_update (options_equiv type_laws.laws-law)))))))))))))))))))))))
+    (on_equiv as_update (options_equiv type_laws.laws-law))))))))))))))))))))))))

@@ -43,6 +43,9 @@ use Rattle.dns_rdata_certs.specs.contracts.tlsa.TLSAHash.TheImpl as tlsa_hash
 use Rattle.dns_rdata_certs.specs.contracts.tlsa.TLSAHash.TheImpl.Laws as tlsa_hash_laws
 use Rattle.dns_rdata_base.specs.contracts.txt.TXTHash.TheImpl as txt_hash
 use Rattle.dns_rdata_base.specs.contracts.txt.TXTHash.TheImpl.Laws as txt_hash_laws
+use Rattle.dns_rdata_options.specs.Order.{opt_eq}
+use Rattle.dns_rdata_options.specs.contracts.opt.OPTHash.TheImpl as opt_hash
+use Rattle.dns_rdata_options.specs.contracts.opt.OPTHash.TheImpl.Laws as opt_hash_laws
 use Rattle.dns_rdata_sets.specs.contracts.caa.CAAHash.TheImpl as caa_hash
 use Rattle.dns_rdata_sets.specs.contracts.caa.CAAHash.TheImpl.Laws as caa_hash_laws
 use Rattle.dns_rdata_sets.specs.contracts.csync.CSYNCHash.TheImpl as csync_hash
@@ -69,6 +72,7 @@ data_fed (rdata.NAPTR x) = type_fed types.NAPTR ++ naptr_hash.ghosts.hash_input 
 data_fed (rdata.NULL x) = type_fed types.NULL ++ null_hash.ghosts.hash_input x
 data_fed (rdata.NS x) = type_fed types.NS ++ ns_hash.ghosts.hash_input x
 data_fed (rdata.OPENPGPKEY x) = type_fed types.OPENPGPKEY ++ openpgpkey_hash.ghosts.hash_input x
+data_fed (rdata.OPT x) = type_fed types.OPT ++ opt_hash.ghosts.hash_input x
 data_fed (rdata.PTR x) = type_fed types.PTR ++ ptr_hash.ghosts.hash_input x
 data_fed (rdata.SMIMEA x) = type_fed types.SMIMEA ++ smimea_hash.ghosts.hash_input x
 data_fed (rdata.SOA x) = type_fed types.SOA ++ soa_hash.ghosts.hash_input x
@@ -107,6 +111,8 @@ fed_same (rdata.NS x) (rdata.NS y) h = ap (λ (f : HashWrites). type_fed types.N
 fed_same (rdata.NS x) w h = absurd (true≢false (sym h))
 fed_same (rdata.OPENPGPKEY x) (rdata.OPENPGPKEY y) h = ap (λ (f : HashWrites). type_fed types.OPENPGPKEY ++ f) (openpgpkey_hash_laws.respects_eq-law x y (first_so (openpgpkey_eq x y) true h))
 fed_same (rdata.OPENPGPKEY x) w h = absurd (true≢false (sym h))
+fed_same (rdata.OPT x) (rdata.OPT y) h = ap (λ (f : HashWrites). type_fed types.OPT ++ f) (opt_hash_laws.respects_eq-law x y (first_so (opt_eq x y) true h))
+fed_same (rdata.OPT x) w h = absurd (true≢false (sym h))
 fed_same (rdata.PTR x) (rdata.PTR y) h = ap (λ (f : HashWrites). type_fed types.PTR ++ f) (ptr_hash_laws.respects_eq-law x y (first_so (ptr_eq x y) true h))
 fed_same (rdata.PTR x) w h = absurd (true≢false (sym h))
 fed_same (rdata.SMIMEA x) (rdata.SMIMEA y) h = ap (λ (f : HashWrites). type_fed types.SMIMEA ++ f) (smimea_hash_laws.respects_eq-law x y (first_so (smimea_eq x y) true h))

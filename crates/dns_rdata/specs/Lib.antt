@@ -29,6 +29,7 @@ pub use Rattle.dns_rdata_base.specs.SRV
 pub use Rattle.dns_rdata_certs.specs.SSHFP
 pub use Rattle.dns_rdata_certs.specs.TLSA
 pub use Rattle.dns_rdata_base.specs.TXT
+pub use Rattle.dns_rdata_options.specs.OPT
 pub use Rattle.dns_rdata_sets.specs.CAA
 pub use Rattle.dns_rdata_sets.specs.CSYNC
 pub use Rattle.dns_rdata_sets.specs.RecordTypeSet

@@ -1,5 +1,5 @@
 -- The printed texts of record data.
-use Rattle.std.specs.Prelude.{ℕ, List, [], codes}
+use Rattle.std.specs.Prelude.{ℕ, Option, Some, None, List, [], codes}
 use Rattle.dns_rdata_base.specs.A.{a_text}
 use Rattle.dns_rdata_base.specs.AAAA.{aaaa_text}
 use Rattle.dns_rdata_base.specs.NameRecords.{aname_text, cname_text, ns_text, ptr_text}
@@ -20,27 +20,34 @@ use Rattle.dns_rdata_sets.specs.CSYNC.{csync_text}
 use Rattle.dns_rdata.specs.declared.record_data.RData.{RData}
 use Rattle.dns_rdata.specs.declared.record_data.RData.TheVariants as rdata
 
-abbrev pub data_text : RData → List ℕ
-data_text (rdata.A x) = a_text x
-data_text (rdata.AAAA x) = aaaa_text x
-data_text (rdata.ANAME x) = aname_text x
-data_text (rdata.CAA x) = caa_text x
-data_text (rdata.CERT x) = cert_text x
-data_text (rdata.CNAME x) = cname_text x
-data_text (rdata.CSYNC x) = csync_text x
-data_text (rdata.HINFO x) = hinfo_text x
-data_text (rdata.MX x) = mx_text x
-data_text (rdata.NAPTR x) = naptr_text x
-data_text (rdata.NULL x) = null_text x
-data_text (rdata.NS x) = ns_text x
-data_text (rdata.OPENPGPKEY x) = openpgpkey_text x
-data_text (rdata.PTR x) = ptr_text x
-data_text (rdata.SMIMEA x) = smimea_text x
-data_text (rdata.SOA x) = soa_text x
-data_text (rdata.SRV x) = srv_text x
-data_text (rdata.SSHFP x) = sshfp_text x
-data_text (rdata.TLSA x) = tlsa_text x
-data_text (rdata.TXT x) = txt_text x
-data_text (rdata.Unknown code x) = null_text x
-data_text (rdata.Update0 t) = codes "UPDATE"
-data_text rdata.ZERO = []
+-- the text of each value but those of OPT
+abbrev pub text_of : RData → List ℕ
+text_of (rdata.A x) = a_text x
+text_of (rdata.AAAA x) = aaaa_text x
+text_of (rdata.ANAME x) = aname_text x
+text_of (rdata.CAA x) = caa_text x
+text_of (rdata.CERT x) = cert_text x
+text_of (rdata.CNAME x) = cname_text x
+text_of (rdata.CSYNC x) = csync_text x
+text_of (rdata.HINFO x) = hinfo_text x
+text_of (rdata.MX x) = mx_text x
+text_of (rdata.NAPTR x) = naptr_text x
+text_of (rdata.NULL x) = null_text x
+text_of (rdata.NS x) = ns_text x
+text_of (rdata.OPENPGPKEY x) = openpgpkey_text x
+text_of (rdata.OPT x) = []
+text_of (rdata.PTR x) = ptr_text x
+text_of (rdata.SMIMEA x) = smimea_text x
+text_of (rdata.SOA x) = soa_text x
+text_of (rdata.SRV x) = srv_text x
+text_of (rdata.SSHFP x) = sshfp_text x
+text_of (rdata.TLSA x) = tlsa_text x
+text_of (rdata.TXT x) = txt_text x
+text_of (rdata.Unknown code x) = null_text x
+text_of (rdata.Update0 t) = codes "UPDATE"
+text_of rdata.ZERO = []
+
+-- OPT has no text
+abbrev pub data_text : RData → Option (List ℕ)
+data_text (rdata.OPT x) = None
+data_text v = Some (text_of v)

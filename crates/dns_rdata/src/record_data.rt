@@ -14,6 +14,7 @@ use dns_rdata_base::{
     SRV, TXT,
 };
 use dns_rdata_certs::{CERT, SMIMEA, SSHFP, TLSA};
+use dns_rdata_options::OPT;
 use dns_rdata_sets::{CAA, CSYNC};
 use std::alloc::AllocError;
 use std::fmt;
@@ -49,6 +50,8 @@ pub enum RData {
     NS(NS),
     /// A public key of OpenPGP.
     OPENPGPKEY(OPENPGPKEY),
+    /// Options of EDNS.
+    OPT(OPT),
     /// A name that is pointed to.
     PTR(PTR),
     /// A certificate of a mail user.
@@ -98,6 +101,7 @@ impl RData {
             RData::NULL(_) => RecordType::NULL,
             RData::NS(_) => RecordType::NS,
             RData::OPENPGPKEY(_) => RecordType::OPENPGPKEY,
+            RData::OPT(_) => RecordType::OPT,
             RData::PTR(_) => RecordType::PTR,
             RData::SMIMEA(_) => RecordType::SMIMEA,
             RData::SOA(_) => RecordType::SOA,
@@ -151,6 +155,7 @@ impl RData {
             RecordType::OPENPGPKEY => Ok(RData::OPENPGPKEY(OPENPGPKEY::read_data(
                 decoder, length,
             )?)),
+            RecordType::OPT => Ok(RData::OPT(OPT::read_data(decoder, length)?)),
             RecordType::PTR => Ok(RData::PTR(PTR::read_data(decoder, length)?)),
             RecordType::SMIMEA => Ok(RData::SMIMEA(SMIMEA::read_data(decoder, length)?)),
             RecordType::SOA => Ok(RData::SOA(SOA::read_data(decoder, length)?)),
@@ -274,6 +279,7 @@ impl RData {
             RData::NULL(rdata) => rdata.emit(encoder),
             RData::NS(rdata) => rdata.emit(encoder),
             RData::OPENPGPKEY(rdata) => rdata.emit(encoder),
+            RData::OPT(rdata) => rdata.emit(encoder),
             RData::PTR(rdata) => rdata.emit(encoder),
             RData::SMIMEA(rdata) => rdata.emit(encoder),
             RData::SOA(rdata) => rdata.emit(encoder),
@@ -308,6 +314,7 @@ impl RData {
             (RData::NULL(a), RData::NULL(b)) => a == b,
             (RData::NS(a), RData::NS(b)) => a == b,
             (RData::OPENPGPKEY(a), RData::OPENPGPKEY(b)) => a == b,
+            (RData::OPT(a), RData::OPT(b)) => a == b,
             (RData::PTR(a), RData::PTR(b)) => a == b,
             (RData::SMIMEA(a), RData::SMIMEA(b)) => a == b,
             (RData::SOA(a), RData::SOA(b)) => a == b,
@@ -378,6 +385,7 @@ impl Hash for RData {
             RData::NULL(rdata) => rdata.hash(state),
             RData::NS(rdata) => rdata.hash(state),
             RData::OPENPGPKEY(rdata) => rdata.hash(state),
+            RData::OPT(rdata) => rdata.hash(state),
             RData::PTR(rdata) => rdata.hash(state),
             RData::SMIMEA(rdata) => rdata.hash(state),
             RData::SOA(rdata) => rdata.hash(state),
@@ -412,6 +420,7 @@ impl Clone for RData {
             RData::NULL(rdata) => RData::NULL(rdata.clone()?),
             RData::NS(rdata) => RData::NS(rdata.clone()?),
             RData::OPENPGPKEY(rdata) => RData::OPENPGPKEY(rdata.clone()?),
+            RData::OPT(rdata) => RData::OPT(rdata.clone()?),
             RData::PTR(rdata) => RData::PTR(rdata.clone()?),
             RData::SMIMEA(rdata) => RData::SMIMEA(rdata.clone()?),
             RData::SOA(rdata) => RData::SOA(rdata.clone()?),
@@ -432,9 +441,10 @@ impl Clone for RData {
 impl fmt::Display for RData {
     ghost use Rattle.dns_rdata.specs.Texts.{data_text};
 
-    ghost output = { λ v. Some (data_text v) };
+    ghost output = { data_text };
 
-    /// The text of the record; `UPDATE` for no data of an update, and nothing for no data of type 0.
+    /// The text of the record; `UPDATE` for no data of an update, and nothing for no data of type 0. OPT has no text:
+    /// it is refused.
     fn fmt<W: fmt::Write>(&self, f: &mut fmt::Formatter<W>) -> fmt::Result {
         match self {
             RData::A(a) => write!(f, "{a}"),
@@ -450,6 +460,7 @@ impl fmt::Display for RData {
             RData::NULL(rdata) => write!(f, "{rdata}"),
             RData::NS(rdata) => write!(f, "{rdata}"),
             RData::OPENPGPKEY(rdata) => write!(f, "{rdata}"),
+            RData::OPT(_) => Err(fmt::Error),
             RData::PTR(rdata) => write!(f, "{rdata}"),
             RData::SMIMEA(rdata) => write!(f, "{rdata}"),
             RData::SOA(rdata) => write!(f, "{rdata}"),

@@ -6,7 +6,7 @@ ghost use Rattle.dns_rdata.specs.declared.record_data.RData.{RData as Data};
 ghost use Rattle.dns_rdata.specs.declared.record_data.RData.TheVariants as rdata;
 ghost use Rattle.dns_rdata.specs.Data.{type_of};
 ghost use Rattle.dns_rdata.specs.Laws.{IsUpdate};
-ghost use Rattle.dns_rdata.specs.Equal.{as_a, as_aaaa, as_aname, as_caa, as_cert, as_cname, as_csync, as_hinfo, as_mx, as_naptr, as_null, as_ns, as_openpgpkey, as_ptr, as_smimea, as_soa, as_srv, as_sshfp, as_tlsa, as_txt};
+ghost use Rattle.dns_rdata.specs.Equal.{as_a, as_aaaa, as_aname, as_caa, as_cert, as_cname, as_csync, as_hinfo, as_mx, as_naptr, as_null, as_ns, as_openpgpkey, as_opt, as_ptr, as_smimea, as_soa, as_srv, as_sshfp, as_tlsa, as_txt};
 
 use crate::record_data::RData;
 use dns_names_wire::RecordType;
@@ -14,6 +14,7 @@ use dns_rdata_base::{
     A, AAAA, ANAME, CNAME, HINFO, MX, NAPTR, NS, NULL, OPENPGPKEY, PTR, SOA, SRV, TXT,
 };
 use dns_rdata_certs::{CERT, SMIMEA, SSHFP, TLSA};
+use dns_rdata_options::OPT;
 use dns_rdata_sets::{CAA, CSYNC};
 
 /// The data of records of one kind, as a part of [`RData`].
@@ -388,6 +389,33 @@ impl RecordData for OPENPGPKEY {
 
     fn into_rdata(self) -> RData {
         RData::OPENPGPKEY(self)
+    }
+
+    fn is_update(&self) -> bool {
+        false
+    }
+}
+
+impl RecordData for OPT {
+    ghost wrapped = { λ x. rdata.OPT x };
+
+    ghost borrowed = { as_opt };
+
+    ghost exactly = { Prim.search rules };
+
+    fn try_borrow(rdata: &RData) -> Option<&OPT> {
+        match rdata {
+            RData::OPT(rdata) => Some(rdata),
+            _ => None,
+        }
+    }
+
+    fn record_type(&self) -> RecordType {
+        RecordType::OPT
+    }
+
+    fn into_rdata(self) -> RData {
+        RData::OPT(self)
     }
 
     fn is_update(&self) -> bool {

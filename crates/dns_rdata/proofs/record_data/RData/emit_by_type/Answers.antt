@@ -40,6 +40,9 @@ returns-in-NS c = emits_at _ _ _ _ _ c.in-NS.is c.emit-in-NS.ensures.emits
 pub returns-in-OPENPGPKEY : goal.returns-in-OPENPGPKEY
 returns-in-OPENPGPKEY c = emits_at _ _ _ _ _ c.in-OPENPGPKEY.is c.emit-in-OPENPGPKEY.ensures.emits
 
+pub returns-in-OPT : goal.returns-in-OPT
+returns-in-OPT c = emits_at _ _ _ _ _ c.in-OPT.is c.emit-in-OPT.ensures.emits
+
 pub returns-in-PTR : goal.returns-in-PTR
 returns-in-PTR c = emits_at _ _ _ _ _ c.in-PTR.is c.emit-in-PTR.ensures.emits
 

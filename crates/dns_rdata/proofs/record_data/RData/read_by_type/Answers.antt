@@ -43,6 +43,9 @@ returns-in_ok-read_data-in-NS-clause-reads c = rw c.in-NS.is (data_took types.NS
 pub returns-in_ok-read_data-in-OPENPGPKEY-clause-reads : goal.returns-in_ok-read_data-in-OPENPGPKEY-clause-reads
 returns-in_ok-read_data-in-OPENPGPKEY-clause-reads c = rw c.in-OPENPGPKEY.is (data_took types.OPENPGPKEY _ _ _ (record { type = refl; fields = refl; plain = tt }) c.in_ok-read_data-in-OPENPGPKEY.ensures.window)
 
+pub returns-in_ok-read_data-in-OPT-clause-reads : goal.returns-in_ok-read_data-in-OPT-clause-reads
+returns-in_ok-read_data-in-OPT-clause-reads c = rw c.in-OPT.is (data_took types.OPT _ _ _ (record { type = refl; fields = refl; plain = c.in_ok-read_data-in-OPT.ensures.read }) c.in_ok-read_data-in-OPT.ensures.window)
+
 pub returns-in_ok-read_data-in-PTR-clause-reads : goal.returns-in_ok-read_data-in-PTR-clause-reads
 returns-in_ok-read_data-in-PTR-clause-reads c = rw c.in-PTR.is (data_took types.PTR _ _ _ (record { type = refl; fields = refl; plain = tt }) c.in_ok-read_data-in-PTR.ensures.window)
 
@@ -69,7 +72,7 @@ returns-in-ZERO-clause-reads c = rw c.in-ZERO.is (data_zero c.args.decoder.now c
 
 pub returns-in_ok-read_data-in_default : goal.returns-in_ok-read_data-in_default
 returns-in_ok-read_data-in_default c =
-    let none = no_row c.args.record_type c.in_default.not-A c.in_default.not-AAAA c.in_default.not-ANAME c.in_default.not-CAA c.in_default.not-CERT c.in_default.not-CNAME c.in_default.not-CSYNC c.in_default.not-HINFO c.in_default.not-MX c.in_default.not-NAPTR c.in_default.not-NULL c.in_default.not-NS c.in_default.not-OPENPGPKEY c.in_default.not-PTR c.in_default.not-SMIMEA c.in_default.not-SOA c.in_default.not-SRV c.in_default.not-SSHFP c.in_default.not-TLSA c.in_default.not-TXT c.in_default.not-ZERO c.in_default.not-ANY c.in_default.not-AXFR c.in_default.not-IXFR in
+    let none = no_row c.args.record_type c.in_default.not-A c.in_default.not-AAAA c.in_default.not-ANAME c.in_default.not-CAA c.in_default.not-CERT c.in_default.not-CNAME c.in_default.not-CSYNC c.in_default.not-HINFO c.in_default.not-MX c.in_default.not-NAPTR c.in_default.not-NULL c.in_default.not-NS c.in_default.not-OPENPGPKEY c.in_default.not-OPT c.in_default.not-PTR c.in_default.not-SMIMEA c.in_default.not-SOA c.in_default.not-SRV c.in_default.not-SSHFP c.in_default.not-TLSA c.in_default.not-TXT c.in_default.not-ZERO c.in_default.not-ANY c.in_default.not-AXFR c.in_default.not-IXFR in
     record {
       reads = unknown_took c.args.record_type _ _ none c.in_ok-read_data-in_default.ensures.window;
       own = tt;
@@ -135,3 +138,8 @@ pub returns-in_err-read_data-in-CSYNC-clause-reads : goal.returns-in_err-read_da
 returns-in_err-read_data-in-CSYNC-clause-reads c =
     let p = err_from_is_err_and c.from_residual-in_err-read_data-in-CSYNC.result c.from_residual-in_err-read_data-in-CSYNC.ensures.1 in
     rw (c.in-CSYNC.is, p.1, p.2) (data_refuses types.CSYNC _ _ c.in_err-read_data-in-CSYNC.ensures.window)
+
+pub returns-in_err-read_data-in-OPT-clause-reads : goal.returns-in_err-read_data-in-OPT-clause-reads
+returns-in_err-read_data-in-OPT-clause-reads c =
+    let p = err_from_is_err_and c.from_residual-in_err-read_data-in-OPT.result c.from_residual-in_err-read_data-in-OPT.ensures.1 in
+    rw (c.in-OPT.is, p.1, p.2) (data_refuses types.OPT _ _ c.in_err-read_data-in-OPT.ensures.window)

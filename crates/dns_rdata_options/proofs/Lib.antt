@@ -1,0 +1,13 @@
+pub mod Subnets
+pub mod OctetWrites
+pub mod OptionLists
+pub mod OptionCounts
+pub mod OptionValues
+pub mod OptionLoops
+pub mod Pairs
+pub mod Refusals
+pub mod Selection
+pub mod Least
+pub mod Walks
+pub mod InOrder
+pub mod Values

@@ -1,0 +1,174 @@
+-- Records of options by their fields: one that was read is told by them, and fields that stand make one. `==` of records
+-- tells whether one is the other in another order; of two that were read, whether their fields are.
+use Rattle.std.proofs.Common.{◌≡◌, ◌≢◌, ◌↔◌, ◌⊎◌, inl, inr, ℕ, ◌+◌, ◌-◌, ◌<◌, ◌==◌, ◌&&◌, Bool, true, false, cond, List, [], ◌∷◌, ◌++◌, map, IsTrue, count_by, refl, sym, ap, ◌∙◌, arith, subst}
+use Rattle.std.specs.Bool.{Decides}
+use Rattle.std.specs.Cmp.{unsigned_Decides}
+use Rattle.std.specs.Cmp.Lexicographic.{pointwise, pointwise_decides, slice_cmp}
+use Rattle.std.specs.Ordering.{is_eq, eq_by_cmp}
+use Rattle.std.specs.declared.cmp.Ordering.{Ordering}
+use Rattle.std.specs.declared.cmp.Ordering.TheVariants.{Equal}
+use Rattle.std.specs.FinMap.{IsAntisymmetric}
+use Rattle.std.specs.List.Sorted.{IsPermutation}
+use Rattle.std.proofs.lemmas.List.Sorted.{IsPermutation-map}
+use Rattle.std.specs.Int.{bytes_high_first}
+use Rattle.std.specs.declared.net.ip_addr.IpAddr.{IpAddr}
+use Rattle.std.specs.declared.net.ip_addr.IpAddr.TheVariants.{V4, V6}
+use Rattle.std.specs.contracts.net.ip_addr.IpAddrPartialEq.TheImpl as equal_addresses
+use Rattle.dns_fields.specs.Octets.{AreOctets, At}
+use Rattle.dns_fields.specs.Pieces.{Numbered, piece, pieces, AllHeld, OptionValue, Subnet, Plain, option_octets, OptionHeld}
+use Rattle.dns_fields.specs.Fields.{Values, WholeOptions, CutOptions, Field, Options, Stands, Same}
+use Rattle.dns_fields.specs.Equal.{values_eq}
+use Rattle.dns_fields.proofs.EqualLaws.{values_decide}
+use Rattle.dns_fields.proofs.OctetLaws.{AreOctets-at, AreOctets-front, AreOctets-back, AreOctets-same, AreOctets-tail}
+use Rattle.dns_fields.proofs.Multisets.{count_ext, counts_decide}
+use Rattle.dns_fields.proofs.Sorted.{permutation_counts}
+use Rattle.dns_rdata_options.specs.EdnsCode.{edns_code_number, edns_code_variant, edns_code_of}
+use Rattle.dns_rdata_options.specs.ClientSubnet.{subnet_value, subnet_of}
+use Rattle.dns_rdata_options.specs.EdnsOption.{option_value}
+use Rattle.dns_rdata_options.specs.OPT.{Pair, pair_value, option_of, pair_of, opt_shape, opt_fields, opt_from, IsReadOpt, code_eq}
+use Rattle.dns_rdata_options.specs.Order.{pair_eq, pair_cmp, opt_eq}
+use Rattle.dns_rdata_options.specs.OrderLaws.{pair_total, pair_ties, opt_ties}
+use Rattle.dns_rdata_options.specs.declared.opt.code.EdnsCode.{EdnsCode}
+use Rattle.dns_rdata_options.specs.declared.opt.code.EdnsCode.TheVariants as codes
+use Rattle.dns_rdata_options.specs.declared.opt.option.EdnsOption.{EdnsOption}
+use Rattle.dns_rdata_options.specs.declared.opt.option.EdnsOption.TheVariants as edns
+use Rattle.dns_rdata_options.specs.declared.opt.subnet.ClientSubnet.{ClientSubnet}
+use Rattle.dns_rdata_options.specs.contracts.opt.option.EdnsOptionPartialEq.TheImpl as equal_options
+use Rattle.dns_rdata_options.specs.contracts.opt.subnet.ClientSubnetPartialEq.TheImpl as equal_subnets
+use Rattle.dns_rdata_options.proofs.OptionValues.{edns_code_number-of}
+use Rattle.dns_rdata_options.proofs.Subnets.{address_known, value_back}
+
+-- ---- values that were read
+
+held_value : (n : ℕ) (s : List ℕ) (v : OptionValue) → AreOctets s → OptionHeld n s v → option_value (option_of n v) ≡ v
+held_value n s (Subnet f source scope a) are h =
+    let octets : AreOctets a = AreOctets-tail scope a (AreOctets-tail source (scope ∷ a) (AreOctets-back (bytes_high_first 2 f) (source ∷ scope ∷ a) (AreOctets-front (option_octets (Subnet f source scope a)) h.2 (AreOctets-same s _ h.3 are)))) in
+    let k = address_known f source a h.1 in
+    value_back f source scope a k.0 h.1.long k.1 octets
+held_value n s (Plain t) are h = either (n == 3) where
+  either : (b : Bool) → option_value (cond b (edns.NSID t) (edns.Unknown n t)) ≡ Plain t
+  either true = refl
+  either false = refl
+
+pairs_back : (read : List (Numbered (List ℕ))) (v : List (Numbered OptionValue)) → AreOctets (pieces read) → AllHeld OptionHeld read v → map pair_value (map pair_of v) ≡ v
+pairs_back [] [] are h = refl
+pairs_back [] (y ∷ ys) are h = absurd h
+pairs_back (x ∷ xs) [] are h = absurd h
+pairs_back (x ∷ xs) (y ∷ ys) are h =
+    let first : AreOctets (piece x) = AreOctets-front (piece x) (pieces xs) are in
+    let rest : AreOctets (pieces xs) = AreOctets-back (piece x) (pieces xs) are in
+    let body : AreOctets x.1 = AreOctets-back (bytes_high_first 2 _) x.1 (AreOctets-back (bytes_high_first 2 x.0) (bytes_high_first 2 _ ++ x.1) first) in
+    ap (λ (n : ℕ). (n, option_value (option_of y.0 y.1)) ∷ map pair_value (map pair_of ys)) (edns_code_number-of y.0)
+    ∙ ap (λ (v : OptionValue). (y.0, v) ∷ map pair_value (map pair_of ys)) (held_value y.0 x.1 y.1 body h.1)
+    ∙ ap (λ (l : List (Numbered OptionValue)). y ∷ l) (pairs_back xs ys rest h.2)
+
+-- the fields of options that stand are those of the record that they make
+pub opt_fields-from : (m : List ℕ) (p : ℕ) (vs : Values opt_shape) (q : ℕ) → AreOctets m → Stands m p opt_shape vs q → opt_fields (opt_from vs) ≡ vs
+opt_fields-from m p vs q are s = ap (λ (l : List (Numbered OptionValue)). (l, tt)) (back s.1.is) where
+  back : WholeOptions m p vs.0 s.0 ⊎ ((vs.0 ≡ []) × CutOptions m (s.0 - p) p s.0) → map pair_value (map pair_of vs.0) ≡ vs.0
+  back (inl w) = pairs_back w.read vs.0 (AreOctets-at m p (pieces w.read) s.0 are w.at) w.held
+  back (inr c) = ap (λ (l : List (Numbered OptionValue)). map pair_value (map pair_of l)) c.0 ∙ sym c.0
+
+pub opt_from-read : (m : List ℕ) (p : ℕ) (vs : Values opt_shape) (q : ℕ) → AreOctets m → Stands m p opt_shape vs q → IsReadOpt (opt_from vs)
+opt_from-read m p vs q are s = record { given = ap opt_from (sym (opt_fields-from m p vs q are s)) }
+
+pub opt_from-fields : (x : List Pair) → IsReadOpt x → x ≡ opt_from (opt_fields x)
+opt_from-fields x h = h.given
+
+-- ---- `==` of pairs tells them apart
+
+both : (x y : Bool) {P Q : Type 0} → Decides x P → Decides y Q → Decides (x && y) (P × Q)
+both true true d e = (λ h. (d.0 refl, e.0 refl), λ k. refl)
+both true false d e = (λ h. cc h, λ k. e.1 k.1)
+both false y d e = (λ h. cc h, λ k. let t = d.1 k.0 in cc t)
+
+told : (x : Bool) {P Q : Type 0} → Decides x P → P ↔ Q → Decides x Q
+told x d s = (λ h. s.0 (d.0 h), λ q. d.1 (s.1 q))
+
+octets_decide : (a b : List ℕ) → Decides (pointwise ◌==◌ a b) (a ≡ b)
+octets_decide a b = pointwise_decides unsigned_Decides a b
+
+code_back : ℕ → ℕ → EdnsCode
+code_back n v = cond (v == 13) (codes.Unknown n) (edns_code_of n)
+
+code_again : (c : EdnsCode) → code_back (edns_code_number c) (edns_code_variant c) ≡ c
+unfolding code_back edns_code_of
+code_again codes.Zero = refl
+code_again codes.LLQ = refl
+code_again codes.UL = refl
+code_again codes.NSID = refl
+code_again codes.DAU = refl
+code_again codes.DHU = refl
+code_again codes.N3U = refl
+code_again codes.Subnet = refl
+code_again codes.Expire = refl
+code_again codes.Cookie = refl
+code_again codes.Keepalive = refl
+code_again codes.Padding = refl
+code_again codes.Chain = refl
+code_again (codes.Unknown n) = refl
+
+code_decides : (a b : EdnsCode) → Decides (code_eq a b) (a ≡ b)
+code_decides a b = told (code_eq a b) (both _ _ (unsigned_Decides (edns_code_number a) (edns_code_number b)) (unsigned_Decides (edns_code_variant a) (edns_code_variant b)))
+    (λ h. sym (code_again a) ∙ (λ i. code_back (h.0 i) (h.1 i)) ∙ code_again b, λ e. (ap edns_code_number e, ap edns_code_variant e))
+
+address_decides : (a b : IpAddr) → Decides (equal_addresses.ghosts.eq a b) (a ≡ b)
+address_decides (V4 a) (V4 b) = told _ (octets_decide a.octets b.octets) (λ e. ap (λ (s : List ℕ). V4 (record { octets = s })) e, λ e. cc e)
+address_decides (V4 a) (V6 b) = (λ h. cc h, λ e. cc e)
+address_decides (V6 a) (V4 b) = (λ h. cc h, λ e. cc e)
+address_decides (V6 a) (V6 b) = told _ (octets_decide a.segments b.segments) (λ e. ap (λ (s : List ℕ). V6 (record { segments = s })) e, λ e. cc e)
+
+subnet_decides : (a b : ClientSubnet) → Decides (equal_subnets.ghosts.eq a b) (a ≡ b)
+subnet_decides a b =
+    told _ (both _ _ (address_decides a.address b.address) (both _ _ (unsigned_Decides a.source_prefix b.source_prefix) (unsigned_Decides a.scope_prefix b.scope_prefix)))
+    (λ h. (λ i. record { address = h.0 i; source_prefix = h.1.0 i; scope_prefix = h.1.1 i }), λ e. (ap (λ (x : ClientSubnet). x.address) e, (ap (λ (x : ClientSubnet). x.source_prefix) e, ap (λ (x : ClientSubnet). x.scope_prefix) e)))
+
+subnet_within : EdnsOption → ClientSubnet → ClientSubnet
+subnet_within (edns.Subnet x) y = x
+subnet_within (edns.NSID s) y = y
+subnet_within (edns.Unknown n s) y = y
+
+option_decides : (a b : EdnsOption) → Decides (equal_options.ghosts.eq a b) (a ≡ b)
+unfolding subnet_within
+option_decides (edns.Subnet a) (edns.Subnet b) = told _ (subnet_decides a b) (λ e. ap edns.Subnet e, λ e. ap (λ (o : EdnsOption). subnet_within o a) e)
+option_decides (edns.NSID a) (edns.NSID b) = told _ (octets_decide a b) (λ e. ap edns.NSID e, λ e. cc e)
+option_decides (edns.Unknown n a) (edns.Unknown m b) = told _ (both _ _ (unsigned_Decides n m) (octets_decide a b)) (λ e i. edns.Unknown (e.0 i) (e.1 i), λ e. (cc e, cc e))
+option_decides (edns.Subnet a) (edns.NSID b) = (λ h. cc h, λ e. cc e)
+option_decides (edns.Subnet a) (edns.Unknown m b) = (λ h. cc h, λ e. cc e)
+option_decides (edns.NSID a) (edns.Subnet b) = (λ h. cc h, λ e. cc e)
+option_decides (edns.NSID a) (edns.Unknown m b) = (λ h. cc h, λ e. cc e)
+option_decides (edns.Unknown n a) (edns.Subnet b) = (λ h. cc h, λ e. cc e)
+option_decides (edns.Unknown n a) (edns.NSID b) = (λ h. cc h, λ e. cc e)
+
+pair_decides : (a b : Pair) → Decides (pair_eq a b) (a ≡ b)
+pair_decides a b = told _ (both _ _ (code_decides a.0 b.0) (option_decides a.1 b.1)) (λ h i. (h.0 i, h.1 i), λ e. (ap (λ (p : Pair). p.0) e, ap (λ (p : Pair). p.1) e))
+
+pair_same : IsAntisymmetric pair_cmp
+pair_same a b e = (pair_decides a b).0 (pair_ties a b ∙ ap is_eq e)
+
+-- one record is the other in another order
+pub opt_permutes : (a b : List Pair) → Decides (opt_eq a b) (IsPermutation a b)
+opt_permutes a b =
+    let counts = counts_decide pair_cmp pair_total pair_eq pair_ties a b (opt_eq a b) (opt_ties a b) in
+    let permutes = permutation_counts pair_cmp pair_total pair_same a b in
+    let same : (w : Pair) (l : List Pair) → count_by (pair_eq w) l ≡ count_by (eq_by_cmp pair_cmp w) l = λ w l. count_ext (pair_eq w) (eq_by_cmp pair_cmp w) (pair_ties w) l in
+    (λ t. permutes.1 (λ w. sym (same w a) ∙ counts.0 t w ∙ same w b), λ p. counts.1 (λ w. same w a ∙ permutes.0 p w ∙ sym (same w b)))
+
+-- the fields of two records that were read are the same exactly where the records are
+same_fields : (a b : List Pair) → IsReadOpt a → IsReadOpt b → IsPermutation a b ↔ Same opt_shape (opt_fields a) (opt_fields b)
+same_fields a b x y = (
+  λ p. (record { is = IsPermutation-map pair_value a b p }, tt),
+  λ s.
+      let back : IsPermutation (map pair_of (map pair_value a)) (map pair_of (map pair_value b)) = IsPermutation-map pair_of (map pair_value a) (map pair_value b) s.0.is in
+      subst (λ (l : List Pair). IsPermutation l b) (sym x.given) (subst (λ (l : List Pair). IsPermutation (map pair_of (map pair_value a)) l) (sym y.given) back),
+)
+
+decided_same : (a b : Bool) {P Q : Type 0} → Decides a P → Decides b Q → P ↔ Q → a ≡ b
+decided_same true true d e s = refl
+decided_same false false d e s = refl
+decided_same true false d e s = sym (e.1 (s.0 (d.0 refl)))
+decided_same false true d e s = d.1 (s.1 (e.0 refl))
+
+-- `==` of two records that were read is that of their fields
+pub opt_equal : (a b : List Pair) → IsReadOpt a → IsReadOpt b → opt_eq a b ≡ values_eq opt_shape (opt_fields a) (opt_fields b)
+opt_equal a b x y = decided_same (opt_eq a b) (values_eq opt_shape (opt_fields a) (opt_fields b)) (opt_permutes a b) (values_decide opt_shape (opt_fields a) (opt_fields b) (tt, tt) (tt, tt)) (same_fields a b x y)

@@ -1,0 +1,11 @@
+pub mod EdnsCode
+pub mod IpNet
+pub mod ClientSubnet
+pub mod EdnsOption
+pub mod OPT
+pub mod Order
+pub mod OrderLaws
+pub mod Places
+pub mod Walking
+pub mod OptionReads
+pub mod Words

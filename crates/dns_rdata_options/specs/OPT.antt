@@ -1,0 +1,142 @@
+-- OPT: the options of EDNS, which fill the record (RFC 6891, 6.1.2).
+use Rattle.std.specs.Prelude.{◌≡◌, ◌⊎◌, ℕ, ◌+◌, ◌-◌, ◌≤◌, ◌<◌, ◌==◌, Bool, not, Option, Some, None, List, [], ◌∷◌, length, map, filter, if◌then◌else◌}
+use Rattle.dns_types.specs.declared.error.DecodeError.{DecodeError}
+use Rattle.dns_types.specs.declared.error.DecodeError.TheVariants as decode
+use Rattle.dns_fields.specs.Octets.{At}
+use Rattle.dns_fields.specs.Pieces.{Numbered, piece, IsPiece, OptionValue, Plain}
+use Rattle.dns_fields.specs.Pieces as pieces
+use Rattle.dns_fields.specs.Fields.{Kind, Number, Options, Values, WholeOptions}
+use Rattle.dns_names_wire.specs.State.{Reading}
+use Rattle.dns_names_wire.specs.Words.{TookField, Took, LacksOctets}
+use Rattle.dns_rdata_base.specs.Numbered.{numbered_eq}
+use Rattle.dns_rdata_options.specs.EdnsCode.{edns_code_number, edns_code_variant, edns_code_of}
+use Rattle.dns_rdata_options.specs.ClientSubnet.{subnet_of}
+use Rattle.dns_rdata_options.specs.EdnsOption.{option_value, option_refusal}
+use Rattle.dns_rdata_options.specs.declared.opt.code.EdnsCode.{EdnsCode}
+use Rattle.dns_rdata_options.specs.declared.opt.option.EdnsOption.{EdnsOption}
+use Rattle.dns_rdata_options.specs.declared.opt.option.EdnsOption.TheVariants.{Subnet, NSID, Unknown}
+
+-- an option with its code, as a value holds them
+abbrev pub Pair : Type 0
+Pair = EdnsCode × EdnsOption
+
+-- options alone
+abbrev pub opt_shape : List Kind
+opt_shape = Options ∷ []
+
+-- a pair on the wire: the code's number, and what the option holds
+abbrev pub pair_value : Pair → Numbered OptionValue
+pair_value p = (edns_code_number p.0, option_value p.1)
+
+abbrev pub opt_fields : List Pair → Values opt_shape
+opt_fields x = (map pair_value x, tt)
+
+-- ---- values that were read
+
+-- the option that a code's number and a value of the wire give
+abbrev pub option_of : ℕ → OptionValue → EdnsOption
+option_of n (pieces.Subnet family source scope address) = Subnet (subnet_of family source scope address)
+option_of n (Plain s) = if n == 3 then NSID s else Unknown n s
+
+abbrev pub pair_of : Numbered OptionValue → Pair
+pair_of x = (edns_code_of x.0, option_of x.0 x.1)
+
+abbrev pub opt_from : Values opt_shape → List Pair
+opt_from vs = map pair_of vs.0
+
+-- each pair is the one that its number and its value give
+pub record IsReadOpt (x : List Pair) : Type 0 where
+  pub given : x ≡ opt_from (opt_fields x)
+
+-- ---- a list of pairs
+
+abbrev pub code_eq : EdnsCode → EdnsCode → Bool
+code_eq = numbered_eq edns_code_number edns_code_variant
+
+-- the options of a code, in order
+abbrev pub options_of : EdnsCode → List Pair → List EdnsOption
+options_of code x = map (λ p. p.1) (filter (λ p. code_eq code p.0) x)
+
+-- all but those of a code, in order
+abbrev pub without : EdnsCode → List Pair → List Pair
+without code x = filter (λ p. not (code_eq code p.0)) x
+
+-- ---- refusals
+
+-- whole options that hold values stand from where the decoder was to a place before the end of the n octets
+pub record OptionsBefore (old : Reading) (n : ℕ) (between : Reading) : Type 0 where
+  pub message : between.message ≡ old.message
+  pub values : List (Numbered OptionValue)
+  pub took : WholeOptions old.message old.index values between.index
+  pub before : between.index < old.index + n
+
+-- the code lacks octets
+pub record LacksCode (d : Reading) (e : DecodeError) (new : Reading) : Type 0 where
+  pub error : e ≡ decode.InsufficientBytes
+  pub lacks : LacksOctets d 2
+  pub unchanged : new ≡ d
+
+-- the length behind a code lacks octets
+pub record LacksLength (end : ℕ) (d : Reading) (e : DecodeError) (new : Reading) : Type 0 where
+  pub error : e ≡ decode.InsufficientBytes
+  pub code : ℕ
+  pub took : TookField d (Number 2) code new
+  pub before : new.index < end
+  pub lacks : LacksOctets new 2
+
+-- the code, or the length behind it, goes past the end of the n octets
+pub record PassedEnd (start n : ℕ) (d : Reading) (e : DecodeError) (new : Reading) : Type 0 where
+  pub error : e ≡ decode.IncorrectRDataLengthRead (new.index - start) n
+  pub past : start + n < new.index
+  pub short : new.index ≤ d.index + 4
+  pub message : new.message ≡ d.message
+
+-- a code and a length are taken
+abbrev pub TookHead : Reading → ℕ → ℕ → Reading → Type 0
+TookHead d code size new = Took d (Number 2 ∷ Number 2 ∷ []) (code, (size, tt)) new
+
+-- the option's length is greater than that of the record
+pub record LongOption (n end : ℕ) (d : Reading) (e : DecodeError) (new : Reading) : Type 0 where
+  pub code : ℕ
+  pub size : ℕ
+  pub took : TookHead d code size new
+  pub inside : new.index ≤ end
+  pub long : n < size
+  pub error : e ≡ decode.IncorrectRDataLengthRead n size
+
+-- the message ends within the option's octets, or within those that are left of the record; those that are there are taken
+pub record LacksBody (n end : ℕ) (d : Reading) (e : DecodeError) (new : Reading) : Type 0 where
+  pub code : ℕ
+  pub size : ℕ
+  pub between : Reading
+  pub took : TookHead d code size between
+  pub most : size ≤ n
+  pub body : LacksOctets between size
+  pub record_left : length d.message < end
+  pub error : e ≡ decode.InsufficientBytes
+  pub index : new.index ≡ length d.message
+
+-- an option stands, and its octets have no value
+pub record BadOption (end : ℕ) (d : Reading) (e : DecodeError) (new : Reading) : Type 0 where
+  pub code : ℕ
+  pub body : List ℕ
+  pub at : At d.message d.index (piece (code, body)) new.index
+  pub fits : IsPiece (code, body)
+  pub inside : new.index ≤ end
+  pub refused : option_refusal (edns_code_of code) body e
+
+-- no code, no length, or no octets of them stand
+abbrev pub piece_refusal : ℕ → ℕ → Reading → DecodeError → Reading → Type 0
+piece_refusal start n d e new = LacksCode d e new ⊎ (LacksLength (start + n) d e new ⊎ (PassedEnd start n d e new ⊎ (LongOption n (start + n) d e new ⊎ LacksBody n (start + n) d e new)))
+
+abbrev pub next_refusal : ℕ → ℕ → Reading → DecodeError → Reading → Type 0
+next_refusal start n d e new = piece_refusal start n d e new ⊎ BadOption (start + n) d e new
+
+-- behind whole options the next one is refused
+pub record RefusedNext (n : ℕ) (old : Reading) (e : DecodeError) (new : Reading) : Type 0 where
+  pub between : Reading
+  pub before : OptionsBefore old n between
+  pub next : next_refusal old.index n between e new
+
+abbrev pub opt_refusal : ℕ → Reading → DecodeError → Reading → Type 0
+opt_refusal n old e new = (e ≡ decode.Memory) ⊎ RefusedNext n old e new

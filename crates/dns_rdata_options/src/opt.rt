@@ -1,0 +1,294 @@
+//! OPT: the options of EDNS (RFC 6891).
+
+ghost use Rattle.std.specs.Prelude.{◌≡◌, ◌+◌, ◌<◌, ◌++◌, ◌∷◌, [], map, slice_get, IfOk, IfErr, OnOk, OnErr};
+ghost use Rattle.std.specs.Option.{option_copied};
+ghost use Rattle.dns_fields.specs.Pieces.{piece, as_piece, option_octets, OptionFits};
+ghost use Rattle.dns_names_wire.specs.Words.{ReadsWindow, Emits};
+ghost use Rattle.dns_rdata_options.specs.Words.{EmitsOctets};
+ghost use Rattle.dns_rdata_options.specs.EdnsCode.{edns_code_number};
+ghost use Rattle.dns_rdata_options.specs.EdnsOption.{code_of};
+ghost use Rattle.dns_rdata_options.specs.OPT.{opt_shape, opt_fields, pair_value, IsReadOpt, options_of, without, opt_refusal};
+
+mod code;
+mod net;
+mod option;
+mod order;
+mod payload;
+mod reading;
+mod subnet;
+
+pub use code::EdnsCode;
+use dns_names_wire::{
+    BinDecoder, BinEncodable, BinEncoder, DecodeError, ProtoError, Restrict,
+};
+use dns_rdata_base::RecordDataDecodable;
+pub use net::IpNet;
+pub use option::EdnsOption;
+use order::{hash_sorted, sorted_cmp};
+pub use payload::NSIDPayload;
+use std::alloc::{AllocError, Global};
+use std::cmp::Ordering;
+use std::fmt;
+use std::hash::{Hash, Hasher};
+use std::marker::Model;
+pub use subnet::ClientSubnet;
+
+/// The options of EDNS with their codes (RFC 6891, 6.1.2), which contracts see as the list of pairs. Each option stands
+/// as its code and its length in two octets each, and so many octets; they fill the record's length.
+///
+/// Two records are equal where every pair stands equally often in both, in whatever order.
+#[derive(Debug, Drop)]
+pub struct OPT {
+    /// The options, in order; a code may stand more than once.
+    pub options: Vec<(EdnsCode, EdnsOption)>,
+}
+
+impl Model for OPT {
+    ghost use Rattle.std.specs.Prelude.{List};
+    ghost use Rattle.dns_rdata_options.specs.declared.opt.code.EdnsCode.{EdnsCode as Code};
+    ghost use Rattle.dns_rdata_options.specs.declared.opt.option.EdnsOption.{EdnsOption as Content};
+
+    ghost Value = { List (Code × Content) };
+
+    ghost view = { λ o. o.options.items };
+}
+
+impl OPT {
+    /// With these options, which are moved.
+    #[inline]
+    pub fn new(options: Vec<(EdnsCode, EdnsOption)>) -> OPT
+        ensures { result ≡ options.items }
+    {
+        OPT { options }
+    }
+
+    /// Without options. Takes no memory.
+    #[inline]
+    pub fn default(alloc: Global) -> OPT
+        ensures { result ≡ [] }
+    {
+        OPT {
+            options: Vec::new(alloc),
+        }
+    }
+
+    /// The first option with this code.
+    pub fn get(&self, code: EdnsCode) -> Option<&EdnsOption>
+        ensures { option_copied result ≡ slice_get (options_of code self.now) 0 }
+    {
+        for pair in self.options.as_slice() {
+            if code == pair.0 {
+                return Some(&pair.1);
+            }
+        }
+        None
+    }
+
+    /// All options with this code, in order. Fails only for want of memory.
+    pub fn get_all(&self, code: EdnsCode) -> Result<Vec<&EdnsOption>, AllocError>
+        ensures { IfOk result (λ found. map (λ option. option.now) found.items ≡ options_of code self.now) }
+    {
+        let mut found = Vec::new(*self.options.allocator());
+        for pair in self.options.as_slice() {
+            if code == pair.0 {
+                found.push(&pair.1)?;
+            }
+        }
+        Ok(found)
+    }
+
+    /// Appends an option, with the code of its own. Fails only for want of memory: the options then stay as they were.
+    pub fn insert(&mut self, option: EdnsOption) -> Result<(), AllocError>
+        ensures ok { OnOk result (self.new ≡ self.old ++ (code_of option, option) ∷ []) }
+        ensures err { OnErr result (self.new ≡ self.old) }
+    {
+        let code = EdnsCode::from(&option);
+        self.options.push((code, option))?;
+        Ok(())
+    }
+
+    /// Takes all options with this code away; the others keep their order.
+    pub fn remove(&mut self, code: EdnsCode)
+        ensures { self.new ≡ without code self.old }
+    {
+        self.options.retain(|pair| code != pair.0);
+    }
+
+    /// The options with their codes, lent.
+    #[inline]
+    pub fn as_ref(&self) -> &[(EdnsCode, EdnsOption)]
+        ensures { result.now ≡ self.now }
+    {
+        self.options.as_slice()
+    }
+}
+
+impl RecordDataDecodable for OPT {
+    ghost kinds = { opt_shape };
+
+    ghost condition = { λ _. Unit {0} };
+
+    ghost fields = { opt_fields };
+
+    /// Reads options to the end of the length, and keeps their order. A record that ends behind a code, or behind a
+    /// code, a length of at most the record's and fewer octets, is cut: it has no options, and takes no memory. Else
+    /// memory is asked for once for the list, and once for each option that is no subnet.
+    ///
+    /// It is refused for the first of these: by `InsufficientBytes` where the message ends within a code, a length or
+    /// the octets of an option, of which those that are there are taken; by `IncorrectRDataLengthRead` of what is taken
+    /// and the record's length, where a code or a length goes past the record's end; by `IncorrectRDataLengthRead` of
+    /// the record's length and the option's, where the option's is greater; as `EdnsOption::try_from`, behind the
+    /// option's octets.
+    #[inline]
+    fn read_data(decoder: &mut BinDecoder<'_>, length: Restrict<u16>) -> Result<OPT, DecodeError>
+        ensures window { ReadsWindow opt_shape (λ _. Unit {0}) opt_fields length result decoder.old decoder.new }
+        ensures ends { OnOk result (decoder.new.index ≡ decoder.old.index + length) }
+        ensures read { IfOk result IsReadOpt }
+        ensures refused { IfErr result (λ e. opt_refusal length decoder.old e decoder.new) }
+    {
+        let _start = decoder.index();
+        reading::read_options(decoder, length.unverified())
+    }
+}
+
+// Appends code, length and octets of an option.
+fn emit_pair(
+    encoder: &mut BinEncoder<'_>,
+    code: EdnsCode,
+    option: &EdnsOption,
+) -> Result<(), ProtoError>
+    ensures small { edns_code_number code < 65536 }
+    ensures emits { EmitsOctets (OptionFits (pair_value (code, option.now))) (piece (as_piece option_octets (pair_value (code, option.now)))) result encoder.old encoder.new }
+{
+    let len = option.octets_len();
+    if len > 65535 {
+        return Err(ProtoError::Message("option past 65535 octets"));
+    }
+    let [code_high, code_low] = u16::from(code).to_be_bytes();
+    let [len_high, len_low] = (len as u16).to_be_bytes();
+    encoder.emit_vec(&[code_high, code_low, len_high, len_low])?;
+    option.emit(encoder)?;
+    Ok(())
+}
+
+impl BinEncodable for OPT {
+    ghost emits = { λ x r old new. Emits opt_shape (opt_fields x) r old new };
+
+    /// Appends the options in their order, each its code, its length and its octets. An option of more than 65535
+    /// octets and a subnet whose prefix asks for more octets than its address has are refused by `Message`; the options
+    /// before it may then stand behind the start.
+    fn emit(&self, encoder: &mut BinEncoder<'_>) -> Result<(), ProtoError> {
+        for pair in self.options.as_slice() {
+            emit_pair(encoder, pair.0, &pair.1)?;
+        }
+        Ok(())
+    }
+}
+
+impl PartialEq for OPT {
+    ghost use Rattle.std.specs.Prelude.{◌≡◌, ◌↔◌, IsTrue, count_by};
+    ghost use Rattle.std.specs.List.Sorted.{IsPermutation};
+    ghost use Rattle.std.specs.Cmp.{partial_equiv_from_equiv};
+    ghost use Rattle.dns_rdata_options.specs.OPT.{Pair};
+    ghost use Rattle.dns_rdata_options.specs.Order.{pair_eq, opt_eq};
+    ghost use Rattle.dns_rdata_options.specs.OrderLaws.{opt_equiv};
+
+    ghost eq = { opt_eq };
+
+    ghost laws = { partial_equiv_from_equiv opt_equiv };
+
+    /// Whether every pair stands equally often in both. Takes no memory; linear in the options that stand in one order.
+    fn eq(&self, other: &OPT) -> bool
+        ensures answer { result ≡ opt_eq self.now other.now }
+        ensures permutation { IsTrue result ↔ IsPermutation self.now other.now }
+        ensures multiset { IsTrue result ↔ ((p : Pair) → count_by (pair_eq p) self.now ≡ count_by (pair_eq p) other.now) }
+    {
+        sorted_cmp(self.options.as_slice(), other.options.as_slice()).is_eq()
+    }
+}
+
+impl Eq for OPT {
+    ghost use Rattle.dns_rdata_options.specs.OrderLaws.{opt_equiv};
+
+    ghost laws = { opt_equiv };
+}
+
+impl PartialOrd for OPT {
+    ghost use Rattle.std.specs.Prelude.{refl};
+    ghost use Rattle.std.specs.Ordering.{as_partial_cmp};
+    ghost use Rattle.std.specs.Cmp.{partial_order_from_agreeing_total};
+    ghost use Rattle.dns_rdata_options.specs.Order.{opt_cmp};
+    ghost use Rattle.dns_rdata_options.specs.OrderLaws.{opt_total, opt_ties};
+
+    ghost partial_cmp = { as_partial_cmp opt_cmp };
+
+    ghost laws = { partial_order_from_agreeing_total opt_cmp opt_total (λ _ _. refl) opt_ties };
+
+    #[inline]
+    fn partial_cmp(&self, other: &OPT) -> Option<Ordering> {
+        Some(self.cmp(other))
+    }
+}
+
+impl Ord for OPT {
+    ghost use Rattle.std.specs.Prelude.{refl};
+    ghost use Rattle.dns_rdata_options.specs.Order.{opt_cmp};
+    ghost use Rattle.dns_rdata_options.specs.OrderLaws.{opt_total, opt_ties};
+
+    ghost cmp = { opt_cmp };
+
+    ghost total = { opt_total };
+
+    ghost matches_partial_cmp = { λ _ _. refl };
+
+    ghost matches_eq = { opt_ties };
+
+    /// The order of the pairs in rising order, by the first that differs. Takes no memory.
+    fn cmp(&self, other: &OPT) -> Ordering {
+        sorted_cmp(self.options.as_slice(), other.options.as_slice())
+    }
+}
+
+impl Hash for OPT {
+    ghost use Rattle.std.specs.Hash.{slice, on_Alike, items_Alike, and-Alike};
+    ghost use Rattle.dns_rdata_options.specs.OPT.{Pair};
+    ghost use Rattle.dns_rdata_options.specs.Order.{risen};
+    ghost use Rattle.dns_rdata_options.specs.contracts.opt.code.EdnsCodeHash.TheImpl.Laws.{respects_eq-law as code_fed};
+    ghost use Rattle.dns_rdata_options.specs.contracts.opt.option.EdnsOptionHash.TheImpl.Laws.{respects_eq-law as option_fed};
+
+    ghost hash_input = { λ o. slice ⟦<(EdnsCode, EdnsOption) as Hash>⟧.hash_input (risen o) };
+
+    ghost respects_eq = { (on_Alike risen (items_Alike (and-Alike (on_Alike (λ (t : Pair). t.0) (record { fed = code_fed })) (on_Alike (λ (t : Pair). t.1) (record { fed = option_fed }))))).fed };
+
+    /// Feeds the number of the pairs, and the pairs in rising order. Takes no memory.
+    fn hash<H: Hasher>(&self, state: &mut H) {
+        hash_sorted(self.options.as_slice(), state);
+    }
+}
+
+impl Clone for OPT {
+    ghost is_clone = { λ a b. b ≡ a };
+
+    /// The same options in the same order, in memory of their own.
+    fn clone(&self) -> Result<OPT, AllocError>
+        ensures { IfOk result (λ copy. copy ≡ self.now) }
+    {
+        let alloc = *self.options.allocator();
+        let mut options = Vec::with_capacity(alloc, self.options.len())?;
+        for pair in self.options.as_slice() {
+            options.push((pair.0, pair.1.clone()?))?;
+        }
+        Ok(OPT { options })
+    }
+}
+
+impl fmt::Display for OPT {
+    ghost use Rattle.std.specs.Prelude.{None};
+
+    ghost output = { λ _. None };
+
+    /// The text that `Debug` gives.
+    fn fmt<W: fmt::Write>(&self, f: &mut fmt::Formatter<W>) -> fmt::Result {
+        fmt::Debug::fmt(self, f)
+    }
+}

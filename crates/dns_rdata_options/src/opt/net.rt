@@ -1,0 +1,62 @@
+//! An address with the length of a prefix.
+
+ghost use Rattle.std.specs.Prelude.{◌≡◌, ◌<◌, ◌≤◌, IfSome, IfNone};
+ghost use Rattle.dns_rdata_options.specs.IpNet.{address_bits};
+
+use std::marker::Model;
+use std::net::IpAddr;
+
+/// An address and how many bits of it are a prefix: at most 32 of IPv4, at most 128 of IPv6. Contracts see the pair.
+#[derive(Clone, Copy, Debug, PartialEq, Eq, Hash)]
+pub struct IpNet {
+    addr: IpAddr,
+    prefix_len: u8,
+}
+
+impl Model for IpNet {
+    ghost use Rattle.std.specs.Prelude.{ℕ, ◌≤◌};
+    ghost use Rattle.std.specs.declared.net.ip_addr.IpAddr.{IpAddr as IpAddrValue};
+    ghost use Rattle.dns_rdata_options.specs.IpNet.{address_bits};
+
+    ghost Value = { IpAddrValue × ℕ };
+
+    ghost view = { λ n. (n.addr, n.prefix_len) };
+
+    ghost invariant = { λ n. n.prefix_len ≤ address_bits n.addr };
+
+    ghost inverse = { λ n. record { addr = n.0; prefix_len = n.1 } };
+}
+
+impl IpNet {
+    /// With this address and prefix; none where the prefix has more bits than the address.
+    pub fn new(addr: IpAddr, prefix_len: u8) -> Option<IpNet>
+        ensures some { IfSome result (λ n. (n ≡ (addr, prefix_len)) × (prefix_len ≤ address_bits addr)) }
+        ensures none { IfNone result (address_bits addr < prefix_len) }
+    {
+        let most = match addr {
+            IpAddr::V4(_) => 32,
+            IpAddr::V6(_) => 128,
+        };
+        if prefix_len > most {
+            return None;
+        }
+        Some(IpNet { addr, prefix_len })
+    }
+
+    /// The address, all of its bits as they were given.
+    #[inline]
+    pub fn addr(&self) -> IpAddr
+        ensures { result ≡ self.now.0 }
+    {
+        self.addr
+    }
+
+    /// How many bits are the prefix.
+    #[inline]
+    pub fn prefix_len(&self) -> u8
+        ensures value { result ≡ self.now.1 }
+        ensures most { result ≤ address_bits self.now.0 }
+    {
+        self.prefix_len
+    }
+}

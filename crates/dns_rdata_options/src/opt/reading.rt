@@ -1,0 +1,190 @@
+//! Options that are read one after the other.
+
+ghost use Rattle.std.specs.Prelude.{◌≡◌, ◌⊎◌, ◌+◌, ◌≤◌, ◌<◌, ℕ, List, Some, length as list_length, IfOk, IfErr, OnOk};
+ghost use Rattle.dns_fields.specs.Octets.{At};
+ghost use Rattle.dns_fields.specs.Pieces.{Numbered, pieces, ArePieces, OptionValue, OptionHeld};
+ghost use Rattle.dns_names_wire.specs.Words.{ReadsTo};
+ghost use Rattle.dns_rdata_options.specs.EdnsCode.{edns_code_of};
+ghost use Rattle.dns_rdata_options.specs.EdnsOption.{option_refusal};
+ghost use Rattle.dns_rdata_options.specs.OPT.{opt_shape, opt_fields, IsReadOpt, opt_refusal};
+ghost use Rattle.dns_rdata_options.specs.OptionReads.{ReadsPiece, ReadsNext, TookPair, TookSome, HasValue, NoWhole};
+
+use crate::opt::OPT;
+use crate::opt::code::EdnsCode;
+use crate::opt::option::EdnsOption;
+use crate::opt::subnet::ClientSubnet;
+use dns_names_wire::{BinDecoder, DecodeError};
+
+// The code of client subnets.
+const SUBNET: u16 = 8;
+
+// How many options the first `length` octets are, going by their lengths alone; none where these go past the end.
+pub(crate) fn count_options(octets: &[u8], length: usize) -> Option<usize>
+    ensures { (read : List (Numbered (List ℕ))) → At octets.now 0 (pieces read) length → ArePieces read → result ≡ Some (list_length read) }
+{
+    let mut count = 0;
+    let mut place = 0;
+    while place < length {
+        if octets.len() < place + 4 {
+            return None;
+        }
+        place += 4 + u16::from_be_bytes([octets[place + 2], octets[place + 3]]) as usize;
+        count += 1;
+    }
+    if place == length { Some(count) } else { None }
+}
+
+// Code and octets of the next option; none where the record is cut.
+fn next_piece<'a>(
+    decoder: &mut BinDecoder<'a>,
+    start: usize,
+    length: u16,
+) -> Result<Option<(u16, &'a [u8])>, DecodeError>
+    requires behind { start ≤ decoder.old.index }
+    requires before { decoder.old.index < start + length }
+    ensures { ReadsPiece (λ x. (x.0, x.1.now)) start length result decoder.old decoder.new }
+{
+    let _place = decoder.index();
+    let end = start + length as usize;
+    let code = decoder.read_u16()?.unverified();
+    if decoder.index() == end {
+        return Ok(None);
+    }
+    if end < decoder.index() {
+        return Err(passed(decoder.index() - start, length));
+    }
+    let size = decoder.read_u16()?.unverified();
+    if end < decoder.index() {
+        return Err(passed(decoder.index() - start, length));
+    }
+    if length < size {
+        return Err(passed(length as usize, size));
+    }
+    let left = end - decoder.index();
+    if left < size as usize {
+        let _cut = decoder.read_in_steps(left, 1)?;
+        return Ok(None);
+    }
+    let octets = decoder.read_in_steps(size as usize, 1)?.unverified();
+    Ok(Some((code, octets)))
+}
+
+#[inline]
+fn passed(read: usize, len: u16) -> DecodeError
+    ensures { result ≡ DecodeError.IncorrectRDataLengthRead read len }
+{
+    DecodeError::IncorrectRDataLengthRead {
+        read,
+        len: len as usize,
+    }
+}
+
+// Whether octets of an option with this code have a value.
+fn check_octets(code: u16, octets: &[u8]) -> Result<(), DecodeError>
+    ensures value { OnOk result (HasValue code octets.now) }
+    ensures refused { IfErr result (λ e. option_refusal (edns_code_of code) octets.now e) }
+{
+    if code == SUBNET {
+        let _subnet = ClientSubnet::try_from(octets)?;
+    }
+    Ok(())
+}
+
+// Passes the next option, where it has a value, without memory; none where the record is cut.
+fn check_pair(
+    decoder: &mut BinDecoder<'_>,
+    start: usize,
+    length: u16,
+) -> Result<Option<()>, DecodeError>
+    requires behind { start ≤ decoder.old.index }
+    requires before { decoder.old.index < start + length }
+    ensures { ReadsNext (λ _ old new. TookSome (start + length) old new) start length result decoder.old decoder.new }
+{
+    let _place = decoder.index();
+    match next_piece(decoder, start, length)? {
+        Some((code, octets)) => {
+            check_octets(code, octets)?;
+            Ok(Some(()))
+        }
+        None => Ok(None),
+    }
+}
+
+// The next option; none where the record is cut.
+fn read_pair(
+    decoder: &mut BinDecoder<'_>,
+    start: usize,
+    length: u16,
+) -> Result<Option<(EdnsCode, EdnsOption)>, DecodeError>
+    requires behind { start ≤ decoder.old.index }
+    requires before { decoder.old.index < start + length }
+    ensures { ReadsNext (TookPair (start + length)) start length result decoder.old decoder.new }
+{
+    let _place = decoder.index();
+    let alloc = decoder.allocator();
+    match next_piece(decoder, start, length)? {
+        Some((number, octets)) => {
+            let code = EdnsCode::from(number);
+            let option = EdnsOption::try_from(alloc, (code, octets))?;
+            Ok(Some((code, option)))
+        }
+        None => Ok(None),
+    }
+}
+
+// Reads the options of a record in which none is cut, this many.
+fn read_whole(
+    decoder: &mut BinDecoder<'_>,
+    length: u16,
+    count: usize,
+) -> Result<OPT, DecodeError>
+    ensures fields { ReadsTo opt_shape (λ _. Unit {0}) length opt_fields result decoder.old decoder.new }
+    ensures read { IfOk result IsReadOpt }
+    ensures refused { IfErr result (λ e. opt_refusal length decoder.old e decoder.new) }
+{
+    let start = decoder.index();
+    let end = start + length as usize;
+    let alloc = decoder.allocator();
+    let mut options = Vec::with_capacity(alloc, count)?;
+    while decoder.index() < end {
+        match read_pair(decoder, start, length)? {
+            Some(pair) => options.push(pair)?,
+            None => return Ok(OPT::new(Vec::new(alloc))),
+        }
+    }
+    Ok(OPT::new(options))
+}
+
+// Reads the options of a record in which one is cut. None is kept, so that no memory is taken.
+fn read_cut(decoder: &mut BinDecoder<'_>, length: u16) -> Result<OPT, DecodeError>
+    requires none { NoWhole decoder.old.message decoder.old.index (decoder.old.index + length) }
+    ensures fields { ReadsTo opt_shape (λ _. Unit {0}) length opt_fields result decoder.old decoder.new }
+    ensures read { IfOk result IsReadOpt }
+    ensures refused { IfErr result (λ e. opt_refusal length decoder.old e decoder.new) }
+{
+    let start = decoder.index();
+    let end = start + length as usize;
+    while decoder.index() < end {
+        match check_pair(decoder, start, length)? {
+            Some(()) => {}
+            None => return Ok(OPT::new(Vec::new(decoder.allocator()))),
+        }
+    }
+    Ok(OPT::new(Vec::new(decoder.allocator())))
+}
+
+// Reads the options that fill the length, or are cut at its end.
+pub(crate) fn read_options(
+    decoder: &mut BinDecoder<'_>,
+    length: u16,
+) -> Result<OPT, DecodeError>
+    ensures fields { ReadsTo opt_shape (λ _. Unit {0}) length opt_fields result decoder.old decoder.new }
+    ensures read { IfOk result IsReadOpt }
+    ensures refused { IfErr result (λ e. opt_refusal length decoder.old e decoder.new) }
+{
+    let _place = decoder.index();
+    match count_options(decoder.unread().unverified(), length as usize) {
+        Some(count) => read_whole(decoder, length, count),
+        None => read_cut(decoder, length),
+    }
+}

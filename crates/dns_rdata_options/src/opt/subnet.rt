@@ -1,0 +1,259 @@
+//! The subnet of a client (RFC 7871, 6).
+
+ghost use Rattle.std.specs.Prelude.{◌≡◌, ◌+◌, ◌<◌, ◌≤◌, ◌/◌, ◌⊎◌, ◌↔◌, IsTrue, Bool, false, length, drop, take, Result, IfOk, IfErr, OnErr};
+ghost use Rattle.dns_fields.specs.Pieces.{option_octets, IsEmittableOption, IsAddress, Subnet as SubnetValue};
+ghost use Rattle.dns_names_wire.specs.Words.{ReadsBy, IsMessage};
+ghost use Rattle.dns_rdata_options.specs.Words.{EmitsOctets};
+ghost use Rattle.dns_rdata_options.specs.ClientSubnet.{subnet_value, SubnetAt, NoSubnet, subnet_refusal, ReadsSubnet, prefix_octets, family_octets, address_of, address_octets, family_of, padded, IsFamily};
+
+use crate::opt::net::IpNet;
+use dns_names_wire::{
+    BinDecodable, BinDecoder, BinEncodable, BinEncoder, DecodeError, ProtoError,
+};
+use std::alloc::Global;
+use std::net::{IpAddr, Ipv4Addr, Ipv6Addr};
+
+/// The subnet of a client (RFC 7871, 6). Subnets are ordered by their fields: IPv4 before IPv6, then by the address's
+/// octets, the source prefix and the scope prefix.
+///
+/// On the wire: the family in two octets, 1 for IPv4 and 2 for IPv6, the source prefix and the scope prefix in one
+/// each, and the first octets of the address, as many as the source prefix divided by 8 and rounded up. Bits of the
+/// last of these that are past the prefix stay as they are.
+#[derive(Clone, Copy, Debug, PartialEq, Eq, PartialOrd, Ord, Hash)]
+pub struct ClientSubnet {
+    /// The address. Of one that was read, the octets that the source prefix does not ask for are 0.
+    pub address: IpAddr,
+    /// How many bits of the address the client gives.
+    pub source_prefix: u8,
+    /// How many bits of the address an answer is for; 0 in a question.
+    pub scope_prefix: u8,
+}
+
+impl ClientSubnet {
+    /// With these fields. Any are taken; where the source prefix asks for more than 4 octets of IPv4, or more than 16
+    /// of IPv6, `emit` refuses the subnet.
+    #[inline]
+    pub fn new(address: IpAddr, source_prefix: u8, scope_prefix: u8) -> ClientSubnet
+        ensures { result ≡ record { address = address; source_prefix = source_prefix; scope_prefix = scope_prefix } }
+    {
+        ClientSubnet {
+            address,
+            source_prefix,
+            scope_prefix,
+        }
+    }
+
+    /// How many octets it has on the wire: 4, and those of the address that the source prefix asks for.
+    #[inline]
+    pub fn len(&self) -> u16
+        ensures { result ≡ 4 + prefix_octets self.now.source_prefix }
+    {
+        4 + (u16::from(self.source_prefix) + 7) / 8
+    }
+
+    /// Whether it has no octet on the wire: it always has some.
+    #[inline]
+    pub fn is_empty(&self) -> bool
+        ensures { result ≡ false }
+    {
+        false
+    }
+
+    /// The address.
+    #[inline]
+    pub fn addr(&self) -> IpAddr
+        ensures { result ≡ self.now.address }
+    {
+        self.address
+    }
+
+    /// Sets the address.
+    #[inline]
+    pub fn set_addr(&mut self, addr: IpAddr)
+        ensures { self.new ≡ record self.old { address = addr } }
+    {
+        self.address = addr;
+    }
+
+    /// The source prefix.
+    #[inline]
+    pub fn source_prefix(&self) -> u8
+        ensures { result ≡ self.now.source_prefix }
+    {
+        self.source_prefix
+    }
+
+    /// Sets the source prefix.
+    #[inline]
+    pub fn set_source_prefix(&mut self, source_prefix: u8)
+        ensures { self.new ≡ record self.old { source_prefix = source_prefix } }
+    {
+        self.source_prefix = source_prefix;
+    }
+
+    /// The scope prefix.
+    #[inline]
+    pub fn scope_prefix(&self) -> u8
+        ensures { result ≡ self.now.scope_prefix }
+    {
+        self.scope_prefix
+    }
+
+    /// Sets the scope prefix.
+    #[inline]
+    pub fn set_scope_prefix(&mut self, scope_prefix: u8)
+        ensures { self.new ≡ record self.old { scope_prefix = scope_prefix } }
+    {
+        self.scope_prefix = scope_prefix;
+    }
+}
+
+impl ClientSubnet {
+    /// The octets that `emit` appends to a fresh encoder, and refused as there, in memory that is asked for once.
+    pub fn to_vec(&self, alloc: Global) -> Result<Vec<u8>, ProtoError>
+        ensures ok { IfOk result (λ octets. (octets.items ≡ option_octets (subnet_value self.now)) × IsEmittableOption (subnet_value self.now)) }
+        ensures refused { IfErr result (λ e. (e ≡ ProtoError.Memory) ⊎ (IsMessage e × (IsEmittableOption (subnet_value self.now) → ⊥))) }
+    {
+        let mut octets = Vec::with_capacity(alloc, self.len() as usize)?;
+        let mut encoder = BinEncoder::new(alloc, &mut octets);
+        self.emit(&mut encoder)?;
+        let _octets = encoder.into_bytes();
+        Ok(octets)
+    }
+}
+
+impl From<IpNet> for ClientSubnet {
+    ghost use Rattle.std.specs.Prelude.{◌≡◌};
+
+    ghost from_gives = { λ net x. x ≡ record { address = net.0; source_prefix = net.1; scope_prefix = 0 } };
+
+    /// The net's address, its prefix as the source prefix, and the scope prefix 0.
+    fn from(net: IpNet) -> ClientSubnet {
+        ClientSubnet::new(net.addr(), net.prefix_len(), 0)
+    }
+}
+
+// The address of a family that begins with these octets and goes on with octets 0.
+fn address_of(family: u16, octets: &[u8]) -> IpAddr
+    requires { length octets.now ≤ family_octets family }
+    ensures { result ≡ address_of family octets.now }
+{
+    if family == 1 {
+        let mut all = [0; 4];
+        all[..octets.len()].copy_from_slice(octets);
+        IpAddr::V4(Ipv4Addr::from_octets(all))
+    } else {
+        let mut all = [0; 16];
+        all[..octets.len()].copy_from_slice(octets);
+        IpAddr::V6(Ipv6Addr::from_octets(all))
+    }
+}
+
+// Whether addresses of the family are known.
+#[inline]
+fn is_family(family: u16) -> bool
+    ensures { IsTrue result ↔ IsFamily family }
+{
+    family == 1 || family == 2
+}
+
+// How many octets an address of the family has.
+#[inline]
+fn family_octets(family: u16) -> usize
+    ensures { result ≡ family_octets family }
+{
+    if family == 1 { 4 } else { 16 }
+}
+
+// The subnet that begins the octets, and how many octets it has.
+fn read_front(octets: &[u8]) -> Result<(ClientSubnet, usize), DecodeError>
+    ensures read { IfOk result (λ x. SubnetAt octets.now 0 x.0 x.1) }
+    ensures refused { IfErr result (λ e. subnet_refusal octets.now e) }
+{
+    if octets.len() < 2 {
+        return Err(DecodeError::InsufficientBytes);
+    }
+    let family = u16::from_be_bytes([octets[0], octets[1]]);
+    if !is_family(family) {
+        return Err(DecodeError::UnknownAddressFamily(family));
+    }
+    if octets.len() < 4 {
+        return Err(DecodeError::InsufficientBytes);
+    }
+    let len = (octets[2] as usize + 7) / 8;
+    let read = family_octets(family);
+    if read < len {
+        return Err(DecodeError::IncorrectRDataLengthRead { read, len });
+    }
+    if octets.len() - 4 < len {
+        return Err(DecodeError::InsufficientBytes);
+    }
+    let address = address_of(family, &octets[4..4 + len]);
+    Ok((ClientSubnet::new(address, octets[2], octets[3]), 4 + len))
+}
+
+impl BinDecodable for ClientSubnet {
+    ghost stands = { SubnetAt };
+
+    /// Reads a subnet, and leaves what follows. Octets of the address that do not stand are 0. It is refused, and takes
+    /// nothing, for the first of these: by `UnknownAddressFamily` for a family that is neither 1 nor 2; by
+    /// `IncorrectRDataLengthRead` of 4 or 16 and of the octets that the source prefix asks for, where these are more;
+    /// by `InsufficientBytes` where octets are missing.
+    fn read(decoder: &mut BinDecoder<'_>) -> Result<ClientSubnet, DecodeError>
+        ensures reads { ReadsBy SubnetAt result decoder.old decoder.new }
+        ensures refused { IfErr result (λ e. subnet_refusal (drop decoder.old.index decoder.old.message) e) }
+        ensures unchanged { OnErr result (decoder.new ≡ decoder.old) }
+    {
+        let _start = decoder.index();
+        let (subnet, len) = read_front(decoder.unread().unverified())?;
+        let _taken = decoder.read_slice(len)?;
+        Ok(subnet)
+    }
+}
+
+impl TryFrom<&[u8]> for ClientSubnet {
+    type Error = DecodeError;
+
+    ghost try_from_gives = { λ octets r. ReadsSubnet octets.now r };
+
+    /// The subnet that begins the octets, whatever follows. Refused as `read`.
+    fn try_from(octets: &[u8]) -> Result<ClientSubnet, DecodeError> {
+        let (subnet, _len) = read_front(octets)?;
+        Ok(subnet)
+    }
+}
+
+// Appends family, prefixes and the first octets of an address of this many.
+fn emit_parts(
+    encoder: &mut BinEncoder<'_>,
+    family: u16,
+    subnet: &ClientSubnet,
+    address: &[u8],
+) -> Result<(), ProtoError>
+    requires { IsFamily family × (length address.now ≡ family_octets family) }
+    ensures { EmitsOctets (IsAddress family subnet.now.source_prefix (take (prefix_octets subnet.now.source_prefix) address.now))
+        (option_octets (SubnetValue family subnet.now.source_prefix subnet.now.scope_prefix (take (prefix_octets subnet.now.source_prefix) address.now)))
+        result encoder.old encoder.new }
+{
+    let len = (subnet.source_prefix as usize + 7) / 8;
+    if len > address.len() {
+        return Err(ProtoError::Message("prefix past the octets of an address"));
+    }
+    let [high, low] = family.to_be_bytes();
+    encoder.emit_vec(&[high, low, subnet.source_prefix, subnet.scope_prefix])?;
+    encoder.emit_vec(&address[..len])?;
+    Ok(())
+}
+
+impl BinEncodable for ClientSubnet {
+    ghost emits = { λ x r old new. EmitsOctets (IsEmittableOption (subnet_value x)) (option_octets (subnet_value x)) r old new };
+
+    /// Appends family, prefixes, and the octets of the address that the source prefix asks for. It is refused by
+    /// `Message` where these are more than the address has.
+    fn emit(&self, encoder: &mut BinEncoder<'_>) -> Result<(), ProtoError> {
+        match self.address {
+            IpAddr::V4(ip) => emit_parts(encoder, 1, self, &ip.octets()),
+            IpAddr::V6(ip) => emit_parts(encoder, 2, self, &ip.octets()),
+        }
+    }
+}
