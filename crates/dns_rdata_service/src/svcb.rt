@@ -1,0 +1,5 @@
+//! SVCB: how a service is reached (RFC 9460).
+
+mod key;
+
+pub use key::SvcParamKey;
