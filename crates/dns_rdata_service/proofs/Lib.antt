@@ -1,0 +1,5 @@
+pub mod Splits
+pub mod Refusals
+pub mod ValueReads
+pub mod EachReads
+pub mod EachEmits

@@ -1,1 +1,4 @@
 pub mod SvcParamKey
+pub mod Emitting
+pub mod Hints
+pub mod SvcParamValue

@@ -85,6 +85,14 @@ impl<T> Items<T> {
 }
 
 impl<T: Drop> Items<T> {
+    /// Sees to memory for so many values more. Fails only for want of memory.
+    #[inline]
+    pub fn reserve(&mut self, more: usize) -> Result<(), AllocError>
+        ensures { self.new ≡ self.old }
+    {
+        self.items.reserve(more)
+    }
+
     /// Puts the value behind the others. Fails only for want of memory; the others then stand as they were, and the
     /// value is dropped.
     #[inline]
