@@ -3,3 +3,7 @@ pub mod Refusals
 pub mod ValueReads
 pub mod EachReads
 pub mod EachEmits
+pub mod EachTexts
+pub mod HintReads
+pub mod Given
+pub mod ValueEmits

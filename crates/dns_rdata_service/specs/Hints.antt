@@ -1,5 +1,6 @@
 -- Values one behind the other, each by the relations of its type.
-use Rattle.std.specs.Prelude.{◌≡◌, ℕ, ◌<◌, ◌⊎◌, List, [], ◌∷◌, ◌++◌, length, Option, Some, None, codes, Result, Ok, Err}
+use Rattle.std.specs.Prelude.{◌≡◌, ℕ, ◌<◌, ◌⊎◌, List, [], ◌∷◌, length, Option, Some, codes, Result, Ok, Err}
+use Rattle.std.specs.Fmt.{◌++?◌}
 use Rattle.dns_types.specs.declared.error.DecodeError.{DecodeError}
 use Rattle.dns_types.specs.declared.error.ProtoError.{ProtoError}
 use Rattle.dns_names_wire.specs.State.{Reading, Writing}
@@ -35,12 +36,7 @@ EmitsEach E [] (Err e) old new = ⊥
 EmitsEach E (x ∷ xs) r old new = ((between : Writing) × E x (Ok tt) old between × EmitsEach E xs r between new)
     ⊎ ((e : ProtoError) × (r ≡ Err e) × E x (Err e) old new)
 
-abbrev pub with_comma : Option (List ℕ) → Option (List ℕ) → Option (List ℕ)
-with_comma (Some s) (Some t) = Some (s ++ codes "," ++ t)
-with_comma (Some s) None = None
-with_comma None t = None
-
 -- the text of each value and a comma, where each has a known text
 abbrev pub each_text : {T : Type 0} → (T → Option (List ℕ)) → List T → Option (List ℕ)
 each_text text [] = Some []
-each_text text (x ∷ xs) = with_comma (text x) (each_text text xs)
+each_text text (x ∷ xs) = text x ++? (Some (codes ",") ++? each_text text xs)

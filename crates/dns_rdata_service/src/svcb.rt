@@ -6,6 +6,7 @@ mod ip_hint;
 mod key;
 mod mandatory;
 mod unknown;
+mod value;
 
 pub use alpn::Alpn;
 pub use ech_config_list::EchConfigList;
@@ -13,3 +14,4 @@ pub use ip_hint::IpHint;
 pub use key::SvcParamKey;
 pub use mandatory::Mandatory;
 pub use unknown::Unknown;
+pub use value::SvcParamValue;
