@@ -83,7 +83,7 @@ rest_emits s (Err e) old new h = record { extends = h.extends; why = because_map
 
 -- ---- lists under a view
 
-flat_map_view : {X Y : Type 0} (g : X → Y) (f : Y → List ℕ) (xs : List X) → flat_map (λ x. f (g x)) xs ≡ flat_map f (map g xs)
+pub flat_map_view : {X Y : Type 0} (g : X → Y) (f : Y → List ℕ) (xs : List X) → flat_map (λ x. f (g x)) xs ≡ flat_map f (map g xs)
 flat_map_view g f [] = refl
 flat_map_view g f (x ∷ xs) = ap (λ (l : List ℕ). f (g x) ++ l) (flat_map_view g f xs)
 

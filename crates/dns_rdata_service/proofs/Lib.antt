@@ -7,3 +7,7 @@ pub mod EachTexts
 pub mod HintReads
 pub mod Given
 pub mod ValueEmits
+pub mod ParameterLists
+pub mod ParameterReads
+pub mod ParameterEmits
+pub mod HeadReads
