@@ -4,3 +4,6 @@ pub mod Hints
 pub mod SvcParamValue
 pub mod Parameters
 pub mod SVCB
+pub mod OwnKeys
+pub mod Hashing
+pub mod HTTPS

@@ -128,6 +128,42 @@ impl BinEncodable for SVCB {
     }
 }
 
+impl PartialEq for SVCB {
+    ghost use Rattle.std.specs.Cmp.{partial_equiv_from_equiv, on_equiv};
+    ghost use Rattle.dns_fields.specs.Equal.{values_eq, values_equiv};
+
+    ghost eq = { λ a b. values_eq svcb_key_shape (svcb_keys a) (svcb_keys b) };
+
+    ghost laws = { partial_equiv_from_equiv (on_equiv svcb_keys (values_equiv svcb_key_shape)) };
+
+    fn eq(&self, other: &SVCB) -> bool {
+        self.svc_priority == other.svc_priority
+            && self.target_name == other.target_name
+            && self.svc_params == other.svc_params
+    }
+}
+
+impl Eq for SVCB {
+    ghost use Rattle.std.specs.Cmp.{on_equiv};
+    ghost use Rattle.dns_fields.specs.Equal.{values_equiv};
+
+    ghost laws = { on_equiv svcb_keys (values_equiv svcb_key_shape) };
+}
+
+impl Hash for SVCB {
+    ghost use Rattle.dns_rdata_service.specs.Hashing.{svcb_fed, svcb_fed_same};
+
+    ghost hash_input = { svcb_fed };
+
+    ghost respects_eq = { svcb_fed_same };
+
+    fn hash<H: Hasher>(&self, state: &mut H) {
+        self.svc_priority.hash(state);
+        self.target_name.hash(state);
+        self.svc_params.hash(state);
+    }
+}
+
 impl Clone for SVCB {
     ghost is_clone = { λ a b. b ≡ a };
 

@@ -7,7 +7,6 @@ ghost use Rattle.dns_rdata_service.specs.Emitting.{EmitsOctets};
 ghost use Rattle.dns_rdata_service.specs.SvcParamValue.{unknown_value, UnknownAt, value_refusal};
 
 use bstr::BStr;
-
 use dns_names_wire::{
     BinDecodable, BinDecoder, BinEncodable, BinEncoder, DecodeError, Octets, ProtoError,
 };
