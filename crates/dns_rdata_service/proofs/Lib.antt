@@ -11,3 +11,4 @@ pub mod ParameterLists
 pub mod ParameterReads
 pub mod ParameterEmits
 pub mod HeadReads
+pub mod SvcbValues

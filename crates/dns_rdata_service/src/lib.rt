@@ -4,6 +4,8 @@
 pub mod https;
 pub mod items;
 pub mod svcb;
+#[cfg(test)]
+mod tests;
 
 pub use https::HTTPS;
 pub use items::Items;
