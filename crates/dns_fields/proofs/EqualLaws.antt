@@ -11,7 +11,7 @@ use Rattle.dns_fields.specs.Labels.{lowname}
 use Rattle.dns_fields.specs.Pieces.{Numbered, OptionValue, Subnet, Plain, ParameterValue, Mandatory, Alpn, NoDefaultAlpn, Port, Ipv4Hint, Ipv6Hint, Opaque}
 use Rattle.dns_fields.specs.Fields.{Kind, Number, Octets, Name, Text, Texts, Rest, Options, Parameters, Bitmap, Value, Values, SameField, Same, is_full}
 use Rattle.dns_fields.specs.Equal.{Key, key_eq, key_cmp, option_key_of, option_key, option_keys, parameter_key_of, parameter_key, parameter_keys, kind_eq}
-use Rattle.dns_fields.specs.Order.{key_total}
+use Rattle.dns_fields.proofs.Orders.{key_total}
 use Rattle.dns_fields.specs.Laws.{EqualLaw}
 use Rattle.dns_fields.proofs.Sorted.{sorted_one, sorted_apart}
 use Rattle.dns_fields.proofs.Laws.{values_refl}

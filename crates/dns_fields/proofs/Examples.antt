@@ -1,17 +1,17 @@
 -- The definitions, checked against octets that were worked out by hand.
-use Rattle.std.proofs.Common.{◌≡◌, ◌≢◌, ℕ, zero, suc, ◌-◌, ◌/◌, ◌%◌, ◌≤◌, ◌<◌, ◌^◌, ◌⊎◌, inl, inr, ⊎_elim, false, ◌==◌, ◌&&◌, ◌||◌, List, [], ◌∷◌, ◌++◌, length, take, get_or, refl, sym, ap, ◌∙◌, arith, subst, append_assoc}
+use Rattle.std.proofs.Common.{◌≡◌, ◌≢◌, ℕ, zero, suc, ◌-◌, ◌/◌, ◌%◌, ◌≤◌, ◌<◌, ◌^◌, ◌⊎◌, inl, inr, ⊎_elim, false, ◌==◌, ◌&&◌, ◌||◌, List, [], ◌∷◌, ◌++◌, length, take, get_or, refl, sym, ap, ◌∙◌, arith, subst, append_assoc, append-nil, true, IsUtf8}
 use Rattle.std.specs.List.{flat_map, AllByRecursion, list_any}
 use Rattle.std.specs.Int.{bytes_high_first, bit_at}
-use Rattle.std.specs.Str.{IsAscii}
+use Rattle.std.specs.Str.{IsAscii, is_utf8, chars}
 use Rattle.std.proofs.lemmas.List.{length-append, take_all, take_at}
-use Rattle.std.proofs.lemmas.Str.{IsUtf8-from_ascii}
+use Rattle.std.proofs.lemmas.Str.{IsUtf8-from_ascii, is_utf8-from_IsUtf8}
 use Rattle.dns_fields.specs.Octets.{At}
 use Rattle.dns_fields.specs.Names.{LabelsStand, IsNameIn}
 use Rattle.dns_fields.specs.Names.LabelsStand.{whole, pointed}
-use Rattle.dns_fields.specs.Pieces.{IsAddress, string, Numbered, piece, pieces, ArePieces, OptionValue, Subnet, Plain, OptionHeld, AllHeld, IsCut, ParameterValue, ParameterHeld, Rising, Port, Mandatory, form_of, Keys, PortNumber}
+use Rattle.dns_fields.specs.Pieces.{IsAddress, string, Numbered, piece, pieces, ArePieces, OptionValue, Subnet, Plain, OptionHeld, AllHeld, IsCut, ParameterValue, ParameterHeld, Rising, Port, Mandatory, Alpn, NoDefaultAlpn, Ipv6Hint, Opaque, form_of, Keys, Names, Nothing, PortNumber}
 use Rattle.dns_fields.specs.Bitmaps.{Block, block, IsBlock, has_type, minimal, window, types_octet, mark, contains, BitmapAt}
-use Rattle.dns_fields.specs.Fields.{Number, Name, Options, Parameters, Values, Stands, field_octets, WholeOptions, ParametersAt}
-use Rattle.dns_fields.specs.Examples.{HoldsNone, AddressReads, AddressIsFour, TwoTextsRead, EmptyStringsRead, CutString, full, www_label, www_twice, PointedNameReads, CutPointer, PointerToItself, ReservedLabel, LettersRead, MarksApart, example_label, com_label, xxx_label, twenty, StartOfAuthorityReads, CutOptionReads, BrokenOption, OptionsInOrder, OptionsCounted, SubnetReads, SubnetEnds, BrokenSubnet, ServiceReads, NoHintsRead, KeysRise, BrokenParameter, TypesRead, WindowsRead, ZerosDropped, BrokenWindow}
+use Rattle.dns_fields.specs.Fields.{Number, Name, Rest, Options, Parameters, Values, Stands, field_octets, WholeOptions, ParametersAt}
+use Rattle.dns_fields.specs.Examples.{HoldsNone, AddressReads, AddressIsFour, TwoTextsRead, EmptyStringsRead, CutString, RestReads, full, www_label, www_twice, PointedNameReads, CutPointer, PointerToItself, ReservedLabel, LettersRead, MarksApart, example_label, com_label, xxx_label, twenty, StartOfAuthorityReads, CutOptionReads, CutDropsAll, BrokenOption, OptionsInOrder, OptionsCounted, SubnetReads, SubnetOfSixReads, SubnetEnds, ServerIdentifierReads, BrokenSubnet, ServiceReads, MandatoryReads, OctetsOfKeyFive, NoHintsRead, HintOfSixReads, KeysRise, KeysDoNotFall, BrokenProtocols, BrokenParameter, TypesRead, WindowsRead, ZerosDropped, BrokenWindow}
 use Rattle.dns_fields.proofs.Numbers.{length-bytes}
 use Rattle.dns_fields.proofs.Runs.{no_labels}
 use Rattle.dns_fields.proofs.NameLaws.{name_same}
@@ -63,6 +63,13 @@ cut_string v f = none v.0 (At-whole (2 ∷ 0x61 ∷ []) (flat_map string v.0) f.
       let n : length s ≡ 2 = cc in
       let t : s ++ flat_map string ss ≡ 0x61 ∷ [] = cc in
       omega (arith, ap length t, length-append s (flat_map string ss))
+
+pub rest_reads : RestReads
+unfolding field_octets
+rest_reads = (
+  record { stands = (2, record { is = record { ends = refl; within = omega arith; same = refl } }, refl); canonical_octets = refl },
+  record { stands = (1, record { is = record { ends = refl; within = omega arith; same = refl } }, refl); canonical_octets = refl },
+)
 
 -- ---- names
 
@@ -195,6 +202,37 @@ cut_option_reads = (
     cut : IsCut 6 (0x00 ∷ 0x0a ∷ 0x00 ∷ 0x05 ∷ 0x01 ∷ 0x02 ∷ [])
     cut = (10, omega arith, inr (5, 0x01 ∷ 0x02 ∷ [], omega arith, omega arith, omega arith, refl))
 
+-- a cut behind one whole option that holds a value
+cut_behind : (m : List ℕ) (x : Numbered (List ℕ)) (v : Numbered OptionValue) (stub : List ℕ) → piece x ++ stub ≡ m → ArePieces (x ∷ []) → AllHeld OptionHeld (x ∷ []) (v ∷ []) → IsCut (length m - 0) stub → Stands m 0 (Options ∷ []) ([], tt) (length m)
+cut_behind m x v stub e fit held cut = (
+  length m,
+  record {
+    is = inr (
+      refl,
+      record {
+        read = x ∷ [];
+        dropped = v ∷ [];
+        stub = stub;
+        at = record { ends = omega (arith, ap length whole); within = omega arith; same = take_all (length (pieces (x ∷ []) ++ stub)) m (omega (arith, ap length whole)) ∙ sym whole };
+        fit = fit;
+        held = held;
+        cut = cut;
+      },
+    );
+  },
+  refl,
+)
+  where
+    whole : pieces (x ∷ []) ++ stub ≡ m
+    whole = ap (λ (t : List ℕ). t ++ stub) (append-nil (piece x)) ∙ e
+
+pub cut_drops_all : CutDropsAll
+unfolding field_octets
+cut_drops_all = (
+  record { stands = cut_behind (0x00 ∷ 0x0f ∷ 0x00 ∷ 0x01 ∷ 0x05 ∷ 0x00 ∷ 0x0a ∷ []) (15, 0x05 ∷ []) (15, Plain (0x05 ∷ [])) (0x00 ∷ 0x0a ∷ []) refl ((omega arith, omega arith), tt) (refl, (λ e. omega arith, refl), tt) (10, omega arith, inl refl); canonical_octets = refl },
+  record { stands = cut_option (0x00 ∷ 0x0a ∷ 0x00 ∷ 0x09 ∷ 0x00 ∷ 0x0f ∷ 0x00 ∷ 0x01 ∷ 0x05 ∷ []) [] (10, omega arith, inr (9, 0x00 ∷ 0x0f ∷ 0x00 ∷ 0x01 ∷ 0x05 ∷ [], omega arith, omega arith, omega arith, refl)); canonical_octets = refl },
+)
+
 -- no piece begins where a length asks for more octets than there are
 past_end : (c l : ℕ) (y : List ℕ) (x : Numbered (List ℕ)) (r : List ℕ) → c < 256 ^ 2 → l < 256 ^ 2 → length y < l → (x.0 < 256 ^ 2) × (length x.1 < 256 ^ 2) → piece x ++ r ≡ bytes_high_first 2 c ++ (bytes_high_first 2 l ++ y) → ⊥
 past_end c l y x r p q short fit e =
@@ -267,6 +305,22 @@ subnet_reads = record {
       refl
       ((omega arith, omega arith), ((omega arith, omega arith), ((omega arith, omega arith), tt)))
       (refl, (λ e. omega arith, refl), (refl, (refl, record { long = refl; most = inl (refl, omega arith) }, [], refl), (refl, (λ e. omega arith, refl), tt)));
+  canonical_octets = refl;
+}
+
+pub subnet_of_six_reads : SubnetOfSixReads
+unfolding field_octets
+subnet_of_six_reads = record {
+  stands = whole_options (0x00 ∷ 0x08 ∷ 0x00 ∷ 0x07 ∷ 0x00 ∷ 0x02 ∷ 0x18 ∷ 0x00 ∷ 0x20 ∷ 0x01 ∷ 0x0d ∷ []) ((8, Subnet 2 24 0 (0x20 ∷ 0x01 ∷ 0x0d ∷ [])) ∷ [])
+      ((8, 0x00 ∷ 0x02 ∷ 0x18 ∷ 0x00 ∷ 0x20 ∷ 0x01 ∷ 0x0d ∷ []) ∷ []) refl ((omega arith, omega arith), tt)
+      (refl, (refl, record { long = refl; most = inr (refl, omega arith) }, [], refl), tt);
+  canonical_octets = refl;
+}
+
+pub server_identifier_reads : ServerIdentifierReads
+unfolding field_octets
+server_identifier_reads = record {
+  stands = whole_options (0x00 ∷ 0x03 ∷ 0x00 ∷ 0x03 ∷ 0xc0 ∷ 0xff ∷ 0xee ∷ []) ((3, Plain (0xc0 ∷ 0xff ∷ 0xee ∷ [])) ∷ []) ((3, 0xc0 ∷ 0xff ∷ 0xee ∷ []) ∷ []) refl ((omega arith, omega arith), tt) (refl, (λ e. omega arith, refl), tt);
   canonical_octets = refl;
 }
 
@@ -357,6 +411,49 @@ service_reads = record {
   canonical_octets = refl;
 }
 
+-- one parameter that fills the message
+one_parameter : (m : List ℕ) (x : Numbered (List ℕ)) (v : Numbered ParameterValue) → piece x ≡ m → ArePieces (x ∷ []) → AllHeld ParameterHeld (x ∷ []) (v ∷ []) → Stands m 0 (Parameters ∷ []) (v ∷ [], tt) (length m)
+one_parameter m x v e fit held = (
+  length m,
+  record {
+    is = record {
+      read = x ∷ [];
+      at = record { ends = omega (arith, ap length whole); within = omega arith; same = take_all (length (pieces (x ∷ []))) m (omega (arith, ap length whole)) ∙ sym whole };
+      fit = fit;
+      held = held;
+      rising = (tt, tt);
+    };
+  },
+  refl,
+)
+  where
+    whole : pieces (x ∷ []) ≡ m
+    whole = append-nil (piece x) ∙ e
+
+pub mandatory_reads : MandatoryReads
+unfolding field_octets
+mandatory_reads = record {
+  stands = one_parameter (0x00 ∷ 0x00 ∷ 0x00 ∷ 0x02 ∷ 0x00 ∷ 0x01 ∷ []) (0, 0x00 ∷ 0x01 ∷ []) (0, Mandatory (1 ∷ [])) refl ((omega arith, omega arith), tt) (refl, (refl, (λ e. cc e, (omega arith, tt)), refl), tt);
+  canonical_octets = refl;
+}
+
+pub octets_of_key_five : OctetsOfKeyFive
+unfolding field_octets
+octets_of_key_five = record {
+  stands = one_parameter (0x00 ∷ 0x05 ∷ 0x00 ∷ 0x03 ∷ 0x00 ∷ 0x01 ∷ 0x02 ∷ []) (5, 0x00 ∷ 0x01 ∷ 0x02 ∷ []) (5, Opaque (0x00 ∷ 0x01 ∷ 0x02 ∷ [])) refl ((omega arith, omega arith), tt) (refl, (refl, tt, refl), tt);
+  canonical_octets = refl;
+}
+
+abbrev address_of_six : List ℕ
+address_of_six = 0x20 ∷ 0x01 ∷ 0x0d ∷ 0xb8 ∷ 0x00 ∷ 0x00 ∷ 0x00 ∷ 0x00 ∷ 0x00 ∷ 0x00 ∷ 0x00 ∷ 0x00 ∷ 0x00 ∷ 0x00 ∷ 0x00 ∷ 0x01 ∷ []
+
+pub hint_of_six_reads : HintOfSixReads
+unfolding field_octets
+hint_of_six_reads = record {
+  stands = one_parameter (0x00 ∷ 0x06 ∷ 0x00 ∷ 0x10 ∷ address_of_six) (6, address_of_six) (6, Ipv6Hint (address_of_six ∷ [])) refl ((omega arith, omega arith), tt) (refl, (refl, (refl, tt), refl), tt);
+  canonical_octets = refl;
+}
+
 pub no_hints_read : NoHintsRead
 unfolding field_octets
 no_hints_read = record {
@@ -384,6 +481,55 @@ keys_rise v f =
     twice [] h r = h
     twice (a ∷ []) h r = h.2
     twice (a ∷ b ∷ rest) h r = omega (arith, h.0, h.2.0, r.0.0)
+
+pub keys_do_not_fall : KeysDoNotFall
+keys_do_not_fall v f =
+    falls v.0 (known_held (0x00 ∷ 0x03 ∷ 0x00 ∷ 0x02 ∷ 0x00 ∷ 0x35 ∷ 0x00 ∷ 0x01 ∷ 0x00 ∷ 0x03 ∷ 0x02 ∷ 0x68 ∷ 0x32 ∷ []) ((3, 0x00 ∷ 0x35 ∷ []) ∷ (1, 0x02 ∷ 0x68 ∷ 0x32 ∷ []) ∷ []) ((omega arith, omega arith), ((omega arith, omega arith), tt)) refl v f) f.1.is.rising
+  where
+    falls : (v : List (Numbered ParameterValue)) → AllHeld ParameterHeld ((3, 0x00 ∷ 0x35 ∷ []) ∷ (1, 0x02 ∷ 0x68 ∷ 0x32 ∷ []) ∷ []) v → Rising v → ⊥
+    falls [] h r = h
+    falls (a ∷ []) h r = h.2
+    falls (a ∷ b ∷ rest) h r = omega (arith, h.0, h.2.0, r.0.0)
+
+-- no character's UTF-8 begins with 255
+not_utf8 : IsUtf8 (0xff ∷ []) → ⊥
+unfolding is_utf8 chars
+not_utf8 u = let e : is_utf8 (0xff ∷ []) ≡ true = is_utf8-from_IsUtf8 (0xff ∷ []) u in let f : false ≡ true = e in cc f
+
+pub broken_protocols : BrokenProtocols
+broken_protocols = (
+  λ v f. first_none v.0 (known_held (0x00 ∷ 0x02 ∷ 0x00 ∷ 0x01 ∷ 0x00 ∷ []) ((2, 0x00 ∷ []) ∷ []) ((omega arith, omega arith), tt) refl v f),
+  λ v f. first_names v.0 (known_held (0x00 ∷ 0x01 ∷ 0x00 ∷ 0x02 ∷ 0x01 ∷ 0xff ∷ []) ((1, 0x01 ∷ 0xff ∷ []) ∷ []) ((omega arith, omega arith), tt) refl v f),
+)
+  where
+    none_form : (w : ParameterValue) → form_of w ≡ Nothing → ParameterHeld 2 (0x00 ∷ []) w → ⊥
+    none_form NoDefaultAlpn e h = cc h.2
+    none_form w e h = cc e
+
+    first_none : (v : List (Numbered ParameterValue)) → AllHeld ParameterHeld ((2, 0x00 ∷ []) ∷ []) v → ⊥
+    first_none [] h = h
+    first_none (x ∷ xs) h =
+        let held : ParameterHeld 2 (0x00 ∷ []) x.1 = subst (λ (k : ℕ). ParameterHeld k (0x00 ∷ []) x.1) (sym h.0) h.1 in
+        none_form x.1 held.0 held
+
+    one_name : (names : List (List ℕ)) → AllByRecursion IsUtf8 names → flat_map string names ≡ 0x01 ∷ 0xff ∷ [] → ⊥
+    one_name [] u e = cc e
+    one_name (s ∷ names) u e =
+        let f : length s ∷ (s ++ flat_map string names) ≡ 0x01 ∷ 0xff ∷ [] = e in
+        let n : length s ≡ 1 = cc in
+        let t : s ++ flat_map string names ≡ 0xff ∷ [] = cc in
+        let first : s ≡ 0xff ∷ [] = sym (take_at s (flat_map string names) 1 n) ∙ ap (take 1) t in
+        not_utf8 (subst IsUtf8 first u.0)
+
+    names_form : (w : ParameterValue) → form_of w ≡ Names → ParameterHeld 1 (0x01 ∷ 0xff ∷ []) w → ⊥
+    names_form (Alpn names) e h = one_name names h.2.0 (sym h.2.1)
+    names_form w e h = cc e
+
+    first_names : (v : List (Numbered ParameterValue)) → AllHeld ParameterHeld ((1, 0x01 ∷ 0xff ∷ []) ∷ []) v → ⊥
+    first_names [] h = h
+    first_names (x ∷ xs) h =
+        let held : ParameterHeld 1 (0x01 ∷ 0xff ∷ []) x.1 = subst (λ (k : ℕ). ParameterHeld k (0x01 ∷ 0xff ∷ []) x.1) (sym h.0) h.1 in
+        names_form x.1 held.0 held
 
 pub broken_parameter : BrokenParameter
 broken_parameter = (

@@ -19,6 +19,7 @@ use Rattle.dns_fields.specs.declared.RDataEncoding.{RDataEncoding}
 use Rattle.dns_fields.specs.Fields.{Kind, Number, Octets, Name, Text, Texts, Rest, Value, field_octets, Fits, Field, WroteField, SameField, EndsItself, is_full}
 use Rattle.dns_fields.proofs.Numbers.{length-bytes, same_number}
 use Rattle.dns_fields.proofs.Places.{At-same_end, At-same_head, At-append, At-appended}
+use Rattle.dns_fields.specs.Labels.{full_name}
 use Rattle.dns_fields.proofs.NameLaws.{name_same, name_append, name_inside, name_is, low_name, low_name_same, low_name_wrote}
 
 options_inside : {m : List ℕ} {p : ℕ} {v : List (Numbered OptionValue)} {q : ℕ} → WholeOptions m p v q ⊎ ((v ≡ []) × CutOptions m (q - p) p q) → (p ≤ q) × (q ≤ length m)
@@ -126,7 +127,7 @@ field_lawful {k = Bitmap} f = tt
 pub wrote_field : {mode : RDataEncoding} {m : List ℕ} {k : Kind} {v : Value k} {m' : List ℕ} → Lawful k v → WroteField mode m k v m' → (w : Value k) × SameField k v w × Field m' (length m) k w (length m')
 wrote_field {m} {k = Number n} {v} h f = (v, record { is = refl }, record { is = (f.is.0, rw f.is.1 (At-appended m (bytes_high_first n v))) })
 wrote_field {m} {k = Octets n} {v} h f = (v, record { is = refl }, record { is = (f.is.0, rw f.is.1 (At-appended m v)) })
-wrote_field {k = Name} h f = (f.is.read, record { is = f.is.same }, record { is = f.is.stands })
+wrote_field {k = Name} {v} h f = (full_name v, record { is = record { low = refl } }, record { is = f.is.stands })
 wrote_field {m} {k = Text} {v} h f = (v, record { is = refl }, record { is = (f.is.0, rw f.is.1 (At-appended m (string v))) })
 wrote_field {m} {k = Texts} {v} h f = (v, record { is = refl }, record { is = (f.is.0, rw f.is.1 (At-appended m (flat_map string v))) })
 wrote_field {m} {k = Rest} {v} h f = (v, record { is = refl }, record { is = rw f.is (At-appended m v) })

@@ -4,7 +4,7 @@ use Rattle.std.proofs.lemmas.List.{length-append, append-nil}
 use Rattle.dns_fields.specs.Fields.{Kind, Value, Values, Field, Stands, Wrote, Same, AllFit, AllLawful, canonical, field_octets, AllFull}
 use Rattle.dns_fields.specs.declared.RDataEncoding.{RDataEncoding}
 use Rattle.dns_fields.specs.declared.RDataEncoding.TheVariants.{Other}
-use Rattle.dns_fields.specs.Laws.{IsShape, StandsLaw, CanonicalLaw, CanonicalReads}
+use Rattle.dns_fields.specs.Laws.{IsShape, StandsLaw, OneEnd, CanonicalLaw, CanonicalReads}
 use Rattle.dns_fields.proofs.FieldLaws.{field_append, field_same, field_end, field_fits, field_lawful, wrote_field, wrote_tail, wrote_fits, octets_wrote, octets_same, same_refl, same_sym, same_then, field_full}
 
 -- at most one list of values fills a window
@@ -105,9 +105,17 @@ canonical_injective s a b shape h l g n e =
 pub stands_law : StandsLaw
 stands_law m p s a e shape f = (stands_fit m p s a e f, stands_lawful m p s a e f, λ b g. stands_same m p s a b e shape f g)
 
+pub one_end : OneEnd
+one_end m p k a b e f h g = field_end h g
+
 pub canonical_law : CanonicalLaw
 canonical_law s a b shape h l g n = (canonical_injective s a b shape h l g n, canonical_same s a b)
 
 pub stands_full : (m : List ℕ) (p : ℕ) (s : List Kind) (a : Values s) (e : ℕ) → Stands m p s a e → AllFull s a
 stands_full m p [] a e f = tt
 stands_full m p (k ∷ kinds) a e f = (field_full f.1, stands_full m f.0 kinds a.1 e f.2)
+
+-- what was written fits its fields
+pub wrote_all_fit : (mode : RDataEncoding) (m : List ℕ) (s : List Kind) (a : Values s) (m' : List ℕ) → Wrote mode m s a m' → AllFit s a
+wrote_all_fit mode m [] a m' f = tt
+wrote_all_fit mode m (k ∷ kinds) a m' f = (wrote_fits f.1, wrote_all_fit mode f.0 kinds a.1 m' f.2)

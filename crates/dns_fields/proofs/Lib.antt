@@ -10,8 +10,11 @@ pub mod Pieces
 pub mod OptionLaws
 pub mod ParameterLaws
 pub mod Bitmaps
+pub mod Emittable
 pub mod FieldLaws
 pub mod Laws
+pub mod Equivalences
+pub mod Orders
 pub mod EqualLaws
 pub mod OctetLaws
 pub mod Examples

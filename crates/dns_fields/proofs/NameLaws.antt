@@ -76,7 +76,6 @@ low_name_same x = record { low = sym (low_twice x.labels) }
 pub low_name_wrote : (mode : RDataEncoding) (m : List ℕ) (x : DomainName) → IsName x → NameWrote mode m (low_name x) (m ++ lowname x)
 unfolding low_name
 low_name_wrote mode m x h =
-    let y : DomainName = record { labels = low_labels x.labels; fully_qualified = true } in
     let are : AreLabels (low_labels x.labels) = are_low x.labels h.labels in
     let fits : FitsName (low_labels x.labels) = omega (arith, low_length x.labels, h.fits) in
     let e : lowname x ≡ wire (low_labels x.labels) ++ 0 ∷ [] = sym (low_wire x.labels) in
@@ -88,8 +87,6 @@ low_name_wrote mode m x h =
       tail = lowname x;
       behind = refl;
       shorter = omega (arith, ap length (low_twice x.labels));
-      read = y;
-      same = record { low = refl };
       stands = record { stands = whole [] are d (omega (arith, n, k, ap length e)); fits = fits; qualified = refl };
       whole = λ other. ap (λ (t : List ℕ). m ++ t) e;
     }

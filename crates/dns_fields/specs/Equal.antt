@@ -1,14 +1,12 @@
--- When fields are equal: the test, and that it is an equivalence.
+-- When fields are equal. Of options and parameters this is the equality of values that were read: a value that a caller
+-- builds may have parts that no octets give, as two variants of a code with one number, and is compared by keys of its own.
 use Rattle.std.specs.Prelude.{ℕ, Bool, true, ◌&&◌, List, [], ◌∷◌, map, nat_eq}
-use Rattle.std.specs.Cmp.{IsEquivalence, and_equiv, on_equiv, bool_eq_equiv, nat_eq_equiv}
-use Rattle.std.specs.Cmp.Derive.{point_equiv}
-use Rattle.std.specs.Cmp.Lexicographic.{pointwise, slice_cmp, lists_equiv, nat_list_eq_equiv, on_texts_equal}
+use Rattle.std.specs.Cmp.Lexicographic.{pointwise, slice_cmp}
 use Rattle.std.specs.Ordering.{nat_cmp}
 use Rattle.std.specs.declared.cmp.Ordering.{Ordering}
 use Rattle.dns_fields.specs.Sorting.{sorted}
-use Rattle.dns_fields.specs.Labels.{lowname}
 use Rattle.dns_fields.specs.Pieces.{Numbered, OptionValue, Subnet, Plain, ParameterValue, Mandatory, Alpn, NoDefaultAlpn, Port, Ipv4Hint, Ipv6Hint, Opaque}
-use Rattle.dns_fields.specs.Comparing.{name_eq, is_qualified}
+use Rattle.dns_fields.specs.Comparing.{name_eq}
 use Rattle.dns_fields.specs.Fields.{Kind, Number, Octets, Name, Text, Texts, Rest, Options, Parameters, Bitmap, Value, Values}
 
 -- a pair as lists of numbers: its number and what its value is, and then what the value holds
@@ -63,21 +61,3 @@ kind_eq Bitmap a b = pointwise nat_eq a b
 abbrev pub values_eq : (kinds : List Kind) → Values kinds → Values kinds → Bool
 values_eq [] a b = true
 values_eq (k ∷ kinds) a b = kind_eq k a.0 b.0 && values_eq kinds a.1 b.1
-
-keys_equiv : IsEquivalence (pointwise key_eq)
-keys_equiv = lists_equiv (lists_equiv nat_list_eq_equiv)
-
-pub kind_equiv : (k : Kind) → IsEquivalence (kind_eq k)
-kind_equiv (Number w) = nat_eq_equiv
-kind_equiv (Octets n) = nat_list_eq_equiv
-kind_equiv Name = and_equiv (on_texts_equal lowname) (on_equiv is_qualified bool_eq_equiv)
-kind_equiv Text = nat_list_eq_equiv
-kind_equiv Texts = lists_equiv nat_list_eq_equiv
-kind_equiv Rest = nat_list_eq_equiv
-kind_equiv Options = on_equiv option_keys keys_equiv
-kind_equiv Parameters = on_equiv parameter_keys keys_equiv
-kind_equiv Bitmap = nat_list_eq_equiv
-
-pub values_equiv : (kinds : List Kind) → IsEquivalence (values_eq kinds)
-values_equiv [] = point_equiv
-values_equiv (k ∷ kinds) = and_equiv (on_equiv (λ (a : Values (k ∷ kinds)). a.0) (kind_equiv k)) (on_equiv (λ (a : Values (k ∷ kinds)). a.1) (values_equiv kinds))

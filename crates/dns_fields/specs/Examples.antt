@@ -2,8 +2,8 @@
 use Rattle.std.specs.Prelude.{◌≡◌, ℕ, true, false, List, [], ◌∷◌}
 use Rattle.std.specs.declared.cmp.Ordering.TheVariants.{Less, Equal}
 use Rattle.dns_fields.specs.Labels.{DomainName}
-use Rattle.dns_fields.specs.Pieces.{Subnet, Plain, Alpn, Port, Ipv4Hint}
-use Rattle.dns_fields.specs.Fields.{Kind, Number, Octets, Name, Text, Texts, Options, Parameters, Bitmap, Values, Stands, canonical}
+use Rattle.dns_fields.specs.Pieces.{Subnet, Plain, Mandatory, Alpn, Port, Ipv4Hint, Ipv6Hint, Opaque}
+use Rattle.dns_fields.specs.Fields.{Kind, Number, Octets, Name, Text, Texts, Rest, Options, Parameters, Bitmap, Values, Stands, canonical}
 use Rattle.dns_fields.specs.Equal.{values_eq}
 use Rattle.dns_fields.specs.Order.{values_cmp}
 
@@ -37,6 +37,10 @@ EmptyStringsRead = Reads [] 0 0 (Texts ∷ []) ([], tt) [] × Reads (0x00 ∷ []
 -- a string of two octets of which one is there
 abbrev pub CutString : Type 0
 CutString = HoldsNone (0x02 ∷ 0x61 ∷ []) 0 2 (Texts ∷ [])
+
+-- every octet of a window, and none of those behind it
+abbrev pub RestReads : Type 0
+RestReads = Reads (0x00 ∷ 0x01 ∷ 0x02 ∷ []) 0 2 (Rest ∷ []) (0x00 ∷ 0x01 ∷ [], tt) (0x00 ∷ 0x01 ∷ []) × Reads (0x00 ∷ 0x01 ∷ 0x02 ∷ []) 1 1 (Rest ∷ []) ([], tt) []
 
 -- ---- names
 
@@ -116,6 +120,13 @@ CutOptionReads =
     × Reads (0x00 ∷ 0x0a ∷ 0x00 ∷ 0x05 ∷ 0x01 ∷ 0x02 ∷ []) 0 6 (Options ∷ []) ([], tt) []
     × Reads (0x00 ∷ 0x0a ∷ 0x00 ∷ 0x05 ∷ 0x01 ∷ 0x02 ∷ 0x03 ∷ 0x04 ∷ 0x05 ∷ []) 0 6 (Options ∷ []) ([], tt) []
 
+-- A code alone behind a whole option, and a length that reaches over a whole option and past the record's end: no option
+-- is kept, neither in front of the cut nor behind it.
+abbrev pub CutDropsAll : Type 0
+CutDropsAll =
+    Reads (0x00 ∷ 0x0f ∷ 0x00 ∷ 0x01 ∷ 0x05 ∷ 0x00 ∷ 0x0a ∷ []) 0 7 (Options ∷ []) ([], tt) []
+    × Reads (0x00 ∷ 0x0a ∷ 0x00 ∷ 0x09 ∷ 0x00 ∷ 0x0f ∷ 0x00 ∷ 0x01 ∷ 0x05 ∷ []) 0 9 (Options ∷ []) ([], tt) []
+
 -- a length of more than the record's, half a code and half a length
 abbrev pub BrokenOption : Type 0
 BrokenOption =
@@ -152,6 +163,14 @@ SubnetEnds =
     ((8, Subnet 1 25 0 (0xac ∷ 0x01 ∷ 0x01 ∷ 0xff ∷ [])) ∷ [], tt)
     (0x00 ∷ 0x08 ∷ 0x00 ∷ 0x08 ∷ 0x00 ∷ 0x01 ∷ 0x19 ∷ 0x00 ∷ 0xac ∷ 0x01 ∷ 0x01 ∷ 0xff ∷ [])
 
+-- the subnet 2001:d00::/24 of IPv6
+abbrev pub SubnetOfSixReads : Type 0
+SubnetOfSixReads = Reads (0x00 ∷ 0x08 ∷ 0x00 ∷ 0x07 ∷ 0x00 ∷ 0x02 ∷ 0x18 ∷ 0x00 ∷ 0x20 ∷ 0x01 ∷ 0x0d ∷ []) 0 11 (Options ∷ []) ((8, Subnet 2 24 0 (0x20 ∷ 0x01 ∷ 0x0d ∷ [])) ∷ [], tt) (0x00 ∷ 0x08 ∷ 0x00 ∷ 0x07 ∷ 0x00 ∷ 0x02 ∷ 0x18 ∷ 0x00 ∷ 0x20 ∷ 0x01 ∷ 0x0d ∷ [])
+
+-- the identifier of a name server (RFC 5001, 2.3) is any octets
+abbrev pub ServerIdentifierReads : Type 0
+ServerIdentifierReads = Reads (0x00 ∷ 0x03 ∷ 0x00 ∷ 0x03 ∷ 0xc0 ∷ 0xff ∷ 0xee ∷ []) 0 7 (Options ∷ []) ((3, Plain (0xc0 ∷ 0xff ∷ 0xee ∷ [])) ∷ [], tt) (0x00 ∷ 0x03 ∷ 0x00 ∷ 0x03 ∷ 0xc0 ∷ 0xff ∷ 0xee ∷ [])
+
 -- a subnet of a family that is neither 1 nor 2, and one whose prefix asks for five octets of an address of four
 abbrev pub BrokenSubnet : Type 0
 BrokenSubnet =
@@ -173,9 +192,32 @@ ServiceReads =
 abbrev pub NoHintsRead : Type 0
 NoHintsRead = Reads (0x00 ∷ 0x04 ∷ 0x00 ∷ 0x00 ∷ []) 0 4 (Parameters ∷ []) ((4, Ipv4Hint []) ∷ [], tt) (0x00 ∷ 0x04 ∷ 0x00 ∷ 0x00 ∷ [])
 
+-- the key 1 is mandatory
+abbrev pub MandatoryReads : Type 0
+MandatoryReads = Reads (0x00 ∷ 0x00 ∷ 0x00 ∷ 0x02 ∷ 0x00 ∷ 0x01 ∷ []) 0 6 (Parameters ∷ []) ((0, Mandatory (1 ∷ [])) ∷ [], tt) (0x00 ∷ 0x00 ∷ 0x00 ∷ 0x02 ∷ 0x00 ∷ 0x01 ∷ [])
+
+-- octets of any form for key 5
+abbrev pub OctetsOfKeyFive : Type 0
+OctetsOfKeyFive = Reads (0x00 ∷ 0x05 ∷ 0x00 ∷ 0x03 ∷ 0x00 ∷ 0x01 ∷ 0x02 ∷ []) 0 7 (Parameters ∷ []) ((5, Opaque (0x00 ∷ 0x01 ∷ 0x02 ∷ [])) ∷ [], tt) (0x00 ∷ 0x05 ∷ 0x00 ∷ 0x03 ∷ 0x00 ∷ 0x01 ∷ 0x02 ∷ [])
+
+-- one address of sixteen octets, 2001:db8::1
+abbrev pub HintOfSixReads : Type 0
+HintOfSixReads =
+    Reads (0x00 ∷ 0x06 ∷ 0x00 ∷ 0x10 ∷ 0x20 ∷ 0x01 ∷ 0x0d ∷ 0xb8 ∷ 0x00 ∷ 0x00 ∷ 0x00 ∷ 0x00 ∷ 0x00 ∷ 0x00 ∷ 0x00 ∷ 0x00 ∷ 0x00 ∷ 0x00 ∷ 0x00 ∷ 0x01 ∷ []) 0 20 (Parameters ∷ [])
+    ((6, Ipv6Hint ((0x20 ∷ 0x01 ∷ 0x0d ∷ 0xb8 ∷ 0x00 ∷ 0x00 ∷ 0x00 ∷ 0x00 ∷ 0x00 ∷ 0x00 ∷ 0x00 ∷ 0x00 ∷ 0x00 ∷ 0x00 ∷ 0x00 ∷ 0x01 ∷ []) ∷ [])) ∷ [], tt)
+    (0x00 ∷ 0x06 ∷ 0x00 ∷ 0x10 ∷ 0x20 ∷ 0x01 ∷ 0x0d ∷ 0xb8 ∷ 0x00 ∷ 0x00 ∷ 0x00 ∷ 0x00 ∷ 0x00 ∷ 0x00 ∷ 0x00 ∷ 0x00 ∷ 0x00 ∷ 0x00 ∷ 0x00 ∷ 0x01 ∷ [])
+
 -- one key twice
 abbrev pub KeysRise : Type 0
 KeysRise = HoldsNone (0x00 ∷ 0x03 ∷ 0x00 ∷ 0x02 ∷ 0x00 ∷ 0x35 ∷ 0x00 ∷ 0x03 ∷ 0x00 ∷ 0x02 ∷ 0x00 ∷ 0x35 ∷ []) 0 12 (Parameters ∷ [])
+
+-- key 3 and then key 1
+abbrev pub KeysDoNotFall : Type 0
+KeysDoNotFall = HoldsNone (0x00 ∷ 0x03 ∷ 0x00 ∷ 0x02 ∷ 0x00 ∷ 0x35 ∷ 0x00 ∷ 0x01 ∷ 0x00 ∷ 0x03 ∷ 0x02 ∷ 0x68 ∷ 0x32 ∷ []) 0 13 (Parameters ∷ [])
+
+-- no default protocols with an octet, and a protocol whose name is not UTF-8
+abbrev pub BrokenProtocols : Type 0
+BrokenProtocols = HoldsNone (0x00 ∷ 0x02 ∷ 0x00 ∷ 0x01 ∷ 0x00 ∷ []) 0 5 (Parameters ∷ []) × HoldsNone (0x00 ∷ 0x01 ∷ 0x00 ∷ 0x02 ∷ 0x01 ∷ 0xff ∷ []) 0 6 (Parameters ∷ [])
 
 -- mandatory keys that are none, and a port of one octet
 abbrev pub BrokenParameter : Type 0
@@ -206,16 +248,16 @@ BrokenWindow = HoldsNone (0x00 ∷ 0x00 ∷ []) 0 2 (Bitmap ∷ []) × HoldsNone
 -- ---- all of them
 
 abbrev pub StringExamples : Type 0
-StringExamples = AddressReads × AddressIsFour × TwoTextsRead × EmptyStringsRead × CutString
+StringExamples = AddressReads × AddressIsFour × TwoTextsRead × EmptyStringsRead × CutString × RestReads
 
 abbrev pub NameExamples : Type 0
 NameExamples = PointedNameReads × CutPointer × PointerToItself × ReservedLabel × LettersRead × MarksApart × StartOfAuthorityReads
 
 abbrev pub OptionExamples : Type 0
-OptionExamples = CutOptionReads × BrokenOption × OptionsInOrder × OptionsCounted × SubnetReads × SubnetEnds × BrokenSubnet
+OptionExamples = CutOptionReads × CutDropsAll × BrokenOption × OptionsInOrder × OptionsCounted × SubnetReads × SubnetOfSixReads × SubnetEnds × ServerIdentifierReads × BrokenSubnet
 
 abbrev pub ParameterExamples : Type 0
-ParameterExamples = ServiceReads × NoHintsRead × KeysRise × BrokenParameter
+ParameterExamples = ServiceReads × MandatoryReads × OctetsOfKeyFive × NoHintsRead × HintOfSixReads × KeysRise × KeysDoNotFall × BrokenProtocols × BrokenParameter
 
 abbrev pub BitmapExamples : Type 0
 BitmapExamples = TypesRead × WindowsRead × ZerosDropped × BrokenWindow

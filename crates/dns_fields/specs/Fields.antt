@@ -1,6 +1,6 @@
 -- The grammar of record data: each type is a list of kinds of fields.
-use Rattle.std.specs.Prelude.{◌≡◌, true, ℕ, ◌<◌, ◌^◌, List, [], ◌∷◌, ◌++◌, length}
-use Rattle.std.specs.List.{flat_map, AllByRecursion}
+use Rattle.std.specs.Prelude.{◌≡◌, Bool, true, nat_le, ◌&&◌, ℕ, ◌<◌, ◌^◌, List, [], ◌∷◌, ◌++◌, length}
+use Rattle.std.specs.List.{flat_map, list_all, AllByRecursion}
 use Rattle.std.specs.Int.{bytes_high_first}
 use Rattle.std.specs.Prelude.{◌-◌, ◌⊎◌, map}
 use Rattle.std.specs.List.Sorted.{IsPermutation}
@@ -11,7 +11,7 @@ use Rattle.dns_fields.specs.Sorting.{sorted}
 use Rattle.dns_fields.specs.declared.RDataEncoding.{RDataEncoding}
 use Rattle.dns_fields.specs.Labels.{DomainName, IsName, lowname}
 use Rattle.dns_fields.specs.Names.{IsNameIn, NameWrote, SameName}
-use Rattle.dns_fields.specs.Pieces.{string, Numbered, piece, pieces, ArePieces, AllHeld, as_piece, HoldThemselves, OptionValue, option_octets, OptionHeld, OptionFits, IsCut, ParameterValue, parameter_octets, ParameterHeld, ParameterFits, Rising}
+use Rattle.dns_fields.specs.Pieces.{string, Numbered, piece, pieces, ArePieces, AllHeld, as_piece, HoldThemselves, OptionValue, option_octets, OptionHeld, OptionFits, options_emittable, IsCut, ParameterValue, parameter_octets, ParameterHeld, ParameterFits, Rising, parameters_emittable}
 use Rattle.dns_fields.specs.Bitmaps.{block, IsTypeSet, BitmapAt, minimal}
 
 pub data Kind : Type 0 where
@@ -81,6 +81,15 @@ Fits Options v = AllByRecursion OptionFits v
 Fits Parameters v = AllByRecursion ParameterFits v × Rising v
 Fits Bitmap v = IsTypeSet v
 
+-- A field of a value that a caller built can be emitted: a string has at most 255 octets, and options and parameters
+-- are as their forms ask. Numbers, names and sets of types are so by their own types.
+abbrev pub is_emittable : (k : Kind) → Value k → Bool
+is_emittable Text s = nat_le (length s) 255
+is_emittable Texts ss = list_all (λ s. nat_le (length s) 255) ss
+is_emittable Options v = options_emittable v
+is_emittable Parameters v = parameters_emittable v
+is_emittable k v = true
+
 -- a value that a reader can give: one with no parts that only a caller can make
 abbrev pub Lawful : (k : Kind) → Value k → Type 0
 Lawful (Number w) n = Unit {0}
@@ -146,6 +155,10 @@ canonical (k ∷ kinds) vs = field_octets k vs.0 ++ canonical kinds vs.1
 abbrev pub AllFit : (kinds : List Kind) → Values kinds → Type 0
 AllFit [] vs = Unit {0}
 AllFit (k ∷ kinds) vs = Fits k vs.0 × AllFit kinds vs.1
+
+abbrev pub all_emittable : (kinds : List Kind) → Values kinds → Bool
+all_emittable [] vs = true
+all_emittable (k ∷ kinds) vs = is_emittable k vs.0 && all_emittable kinds vs.1
 
 abbrev pub AllLawful : (kinds : List Kind) → Values kinds → Type 0
 AllLawful [] vs = Unit {0}

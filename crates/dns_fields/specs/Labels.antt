@@ -1,11 +1,15 @@
 -- Domain names and their labels (RFC 1035, 3.1).
-use Rattle.std.specs.Prelude.{ℕ, ◌+◌, ◌≤◌, List, [], ◌∷◌, ◌++◌, length, map, Bool}
+use Rattle.std.specs.Prelude.{ℕ, ◌+◌, ◌≤◌, List, [], ◌∷◌, ◌++◌, length, map, Bool, true}
 use Rattle.std.specs.Char.{to_ascii_lowercase}
 
 -- a domain name: its labels, and whether it is fully qualified
 pub record DomainName : Type 0 where
   pub labels : List (List ℕ)
   pub fully_qualified : Bool
+
+-- the name with the mark of a fully qualified one
+abbrev pub full_name : DomainName → DomainName
+full_name name = record { labels = name.labels; fully_qualified = true }
 
 -- a label has 1 to 63 octets
 abbrev pub IsLabel : List ℕ → Type 0

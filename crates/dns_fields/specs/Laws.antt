@@ -7,7 +7,7 @@ use Rattle.std.specs.Ordering.{is_eq}
 use Rattle.dns_fields.specs.Octets.{AreOctets}
 use Rattle.dns_fields.specs.Equal.{values_eq}
 use Rattle.dns_fields.specs.Order.{values_cmp}
-use Rattle.dns_fields.specs.Fields.{Kind, Values, Stands, canonical, AllFit, AllLawful, AllFull, Wrote, Same, EndsItself}
+use Rattle.dns_fields.specs.Fields.{Kind, Value, Values, Field, Stands, canonical, AllFit, AllLawful, AllFull, Wrote, Same, EndsItself}
 
 -- each field but the last says where it ends
 abbrev pub IsShape : List Kind → Type 0
@@ -18,6 +18,10 @@ IsShape (k ∷ l ∷ kinds) = EndsItself k × IsShape (l ∷ kinds)
 -- what stands can be emitted, is of a read, and is one value
 abbrev pub StandsLaw : Type 0
 StandsLaw = (m : List ℕ) (p : ℕ) (s : List Kind) (a : Values s) (e : ℕ) → IsShape s → Stands m p s a e → AllFit s a × AllLawful s a × ((b : Values s) → Stands m p s b e → a ≡ b)
+
+-- a field that says itself where it ends has one end
+abbrev pub OneEnd : Type 0
+OneEnd = (m : List ℕ) (p : ℕ) (k : Kind) (a b : Value k) (e f : ℕ) → EndsItself k → Field m p k a e → Field m p k b f → e ≡ f
 
 -- equal values have equal canonical octets, and no others
 abbrev pub CanonicalLaw : Type 0

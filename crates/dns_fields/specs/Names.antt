@@ -2,7 +2,7 @@
 use Rattle.std.specs.Prelude.{◌≡◌, ◌≢◌, ℕ, ◌+◌, ◌/◌, ◌%◌, ◌<◌, ◌≤◌, List, [], ◌∷◌, ◌++◌, length, take, drop, true}
 use Rattle.dns_fields.specs.declared.RDataEncoding.{RDataEncoding}
 use Rattle.dns_fields.specs.declared.RDataEncoding.TheVariants.{StandardRecord}
-use Rattle.dns_fields.specs.Labels.{DomainName, AreLabels, wire, FitsName, IsName, lowname}
+use Rattle.dns_fields.specs.Labels.{DomainName, full_name, AreLabels, wire, FitsName, IsName, lowname}
 
 -- two octets with the two highest bits set, whose other 14 bits are a place
 abbrev pub pointer : ℕ → List ℕ
@@ -37,14 +37,13 @@ pub record IsNameIn (message : List ℕ) (place : ℕ) (name : DomainName) (end 
 pub record SameName (x y : DomainName) : Type 0 where
   pub low : lowname x ≡ lowname y
 
--- A name that was written behind the message: its octets, no more than the uncompressed ones, read there as
--- an equal name, whatever stands before them. Only `StandardRecord` writes it in another form than whole.
+-- A name that was written behind the message: its octets, no more than the uncompressed ones, stand there for that very
+-- name, fully qualified and with its letters, whatever stands before them. Only `StandardRecord` writes it in another
+-- form than whole.
 pub record NameWrote (mode : RDataEncoding) (message : List ℕ) (x : DomainName) (octets : List ℕ) : Type 0 where
   pub is_name : IsName x
   pub tail : List ℕ
   pub behind : octets ≡ message ++ tail
   pub shorter : length tail ≤ length (lowname x)
-  pub read : DomainName
-  pub same : SameName x read
-  pub stands : IsNameIn octets (length message) read (length octets)
+  pub stands : IsNameIn octets (length message) (full_name x) (length octets)
   pub whole : mode ≢ StandardRecord → octets ≡ message ++ (wire x.labels ++ 0 ∷ [])

@@ -1,6 +1,6 @@
 -- Pieces with a number and a length, as the options of EDNS and the parameters of service binding.
-use Rattle.std.specs.Prelude.{◌≡◌, ◌≢◌, ℕ, ◌+◌, ◌/◌, ◌<◌, ◌≤◌, ◌^◌, ◌⊎◌, ◌==◌, if◌then◌else◌, List, [], ◌∷◌, ◌++◌, length, IsUtf8}
-use Rattle.std.specs.List.{flat_map, AllByRecursion}
+use Rattle.std.specs.Prelude.{◌≡◌, ◌≢◌, ℕ, ◌+◌, ◌/◌, ◌<◌, ◌≤◌, ◌^◌, ◌⊎◌, ◌==◌, ◌&&◌, ◌||◌, nat_le, nat_lt, Bool, true, false, if◌then◌else◌, List, [], ◌∷◌, ◌++◌, length, IsUtf8}
+use Rattle.std.specs.List.{flat_map, list_all, AllByRecursion}
 use Rattle.std.specs.Int.{bytes_high_first}
 
 -- a number, and what belongs to it
@@ -69,6 +69,15 @@ IsEmittableOption (Plain s) = Unit {0}
 
 abbrev pub OptionFits : Numbered OptionValue → Type 0
 OptionFits x = IsPiece (as_piece option_octets x) × IsEmittableOption x.1
+
+-- the same as a test, whatever the code: at most 65535 octets, and of a subnet as many of an address as its prefix asks for
+abbrev pub option_emittable : OptionValue → Bool
+option_emittable (Subnet family source scope address) =
+    (length address == (source + 7) / 8) && ((family == 1 && nat_le (length address) 4) || (family == 2 && nat_le (length address) 16))
+option_emittable (Plain s) = true
+
+abbrev pub options_emittable : List (Numbered OptionValue) → Bool
+options_emittable v = list_all (λ x. nat_le (length (option_octets x.1)) 65535 && option_emittable x.1) v
 
 -- Where n octets of options end before an option is whole: a code alone, or a code, a length of at most n,
 -- and fewer octets.
@@ -157,6 +166,29 @@ ParameterHeld key body value = (form_of value ≡ form_for key) × IsEmittable v
 
 abbrev pub ParameterFits : Numbered ParameterValue → Type 0
 ParameterFits x = IsPiece (as_piece parameter_octets x) × IsEmittable x.1
+
+-- is there an item
+abbrev pub is_some : {A : Type 0} → List A → Bool
+is_some [] = false
+is_some (x ∷ xs) = true
+
+-- the same as tests: keys and protocols are not none, a protocol's name has at most 255 octets, a value at most 65535
+abbrev pub parameter_emittable : ParameterValue → Bool
+parameter_emittable (Mandatory keys) = is_some keys
+parameter_emittable (Alpn names) = is_some names && list_all (λ s. nat_le (length s) 255) names
+parameter_emittable value = true
+
+-- the numbers rise behind this one
+abbrev pub rising_behind : {V : Type 0} → ℕ → List (Numbered V) → Bool
+rising_behind n [] = true
+rising_behind n (x ∷ xs) = nat_lt n x.0 && rising_behind x.0 xs
+
+abbrev pub rising : {V : Type 0} → List (Numbered V) → Bool
+rising [] = true
+rising (x ∷ xs) = rising_behind x.0 xs
+
+abbrev pub parameters_emittable : List (Numbered ParameterValue) → Bool
+parameters_emittable v = list_all (λ x. nat_le (length (parameter_octets x.1)) 65535 && parameter_emittable x.1) v && rising v
 
 -- below the number of each
 abbrev pub Below : {V : Type 0} → ℕ → List (Numbered V) → Type 0

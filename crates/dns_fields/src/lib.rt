@@ -1,7 +1,7 @@
 //! The grammar of DNS record data.
 #![tactic(auto)]
 
-ghost use Rattle.dns_fields.specs.Laws.{StandsLaw, CanonicalLaw, CanonicalReads, WrittenReads, OctetsLaw, EqualLaw, EquivalenceLaw, OrderLaw, TiesLaw};
+ghost use Rattle.dns_fields.specs.Laws.{StandsLaw, OneEnd, CanonicalLaw, CanonicalReads, WrittenReads, OctetsLaw, EqualLaw, EquivalenceLaw, OrderLaw, TiesLaw};
 ghost use Rattle.dns_fields.specs.Examples.{StringExamples, NameExamples, OptionExamples, ParameterExamples, BitmapExamples};
 
 /// How domain names in record data are written.
@@ -9,9 +9,9 @@ ghost use Rattle.dns_fields.specs.Examples.{StringExamples, NameExamples, Option
 pub enum RDataEncoding {
     /// As in the records of RFC 1035: a name may end by a pointer to an earlier one.
     StandardRecord,
-    /// Whole, each with its own letters.
+    /// Whole, each with its own letters: the types whose form for signing has names in lower case (RFC 4034, 6.2).
     Canonical,
-    /// Whole, each with its own letters.
+    /// Whole, each with its own letters: every other type.
     Other,
 }
 
@@ -19,6 +19,8 @@ pub enum RDataEncoding {
 pub fn fields_hold()
     // What stands at a place can be emitted and is one value.
     ensures stands { StandsLaw }
+    // A field that says itself where it ends has one end.
+    ensures ends { OneEnd }
     // Equal values have equal canonical octets, and no others.
     ensures canonical { CanonicalLaw }
     // Canonical octets are read as an equal value.

@@ -1,12 +1,14 @@
 -- One run after another makes a name.
-use Rattle.std.proofs.Common.{◌≡◌, ℕ, ◌+◌, ◌/◌, ◌%◌, ◌<◌, ◌≤◌, List, [], ◌∷◌, ◌++◌, length, take, Option, Some, None, refl, sym, ◌∙◌, ap, subst, append_assoc, arith, length-append}
+use Rattle.std.proofs.Common.{◌≡◌, ℕ, ◌+◌, ◌-◌, ◌/◌, ◌%◌, ◌<◌, ◌≤◌, List, [], ◌∷◌, ◌++◌, length, take, drop, get_or, Option, Some, None, refl, sym, ◌∙◌, ap, subst, append_assoc, arith, length-append}
 use Rattle.std.proofs.lemmas.List.{append-nil}
+use Rattle.std.proofs.Math.Seq.{take-append_seam}
 use Rattle.dns_fields.specs.Labels.{wire, FitsName}
 use Rattle.dns_fields.specs.Names.{LabelsStand}
 use Rattle.dns_fields.specs.Names.LabelsStand.{whole, pointed}
 use Rattle.dns_labels.specs.Reading.{IsRun, AddsRun, IsNameAt}
 use Rattle.dns_fields.proofs.Runs.{same_run, wire-append}
 use Rattle.dns_fields.proofs.Unique.{zero_stop, pointer_stop, same_target}
+use Rattle.dns_labels.proofs.ReadingSteps.{SoFar, at_zero}
 
 -- these labels stand from where the run that began at this place leads
 abbrev pub RestStands : List ℕ → ℕ → Option ℕ → List (List ℕ) → Type 0
@@ -119,3 +121,17 @@ next_refused message start end window place target octets p none labels e s fits
     let m : length (wire k.rest) ≡ length (wire r.front) + length (wire r.rest) = ap (λ (x : List (List ℕ)). length (wire x)) r.joined ∙ ap length (wire-append r.front r.rest) ∙ length-append (wire r.front) (wire r.rest) in
     let o : length octets ≡ length (wire p.front) = ap length p.same in
     none r.front r.stop r.end r.run (omega arith)
+
+-- the octets of labels that were read up to an octet 0 stand there whole, and are a name
+pub plain_length : {message : List ℕ} {start at : ℕ} {octets : List ℕ} → SoFar message start at [] octets → at ≡ start + length octets
+plain_length s = omega (arith, s.at_is, ap length s.octets)
+
+plain_part : {message : List ℕ} {start at : ℕ} {octets : List ℕ} → SoFar message start at [] octets → take (at - start) (drop start message) ≡ octets
+plain_part {message} {start} {at} {octets} s =
+    ap (λ (n : ℕ). take n (drop start message)) (omega (arith, s.at_is)) ∙ ap (λ (x : List ℕ). take (length (wire s.front)) x) s.stands ∙ take-append_seam (wire s.front) (drop at message) ∙ sym s.octets
+
+pub plain_name : {message : List ℕ} {start at : ℕ} {octets : List ℕ} → SoFar message start at [] octets → start ≤ length message → get_or message at 0 ≡ 0 → at < length message
+    → IsNameAt message start (take (at - start) (drop start message)) (start + length (take (at - start) (drop start message)) + 1)
+plain_name {message} {start} {at} {octets} s within zero room =
+    let found = no_more message start (at + 1) message start octets (first_run message start (at + 1) None [] octets refl within s.room (at_zero message start at [] octets s zero room)) in
+    rw (plain_part s) (subst (λ (e : ℕ). IsNameAt message start octets e) (omega (arith, plain_length s)) found)

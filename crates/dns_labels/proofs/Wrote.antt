@@ -24,8 +24,6 @@ name_wrote mode old new x is a w = record {
   tail = a.added;
   behind = a.behind;
   shorter = omega (arith, a.bounded, lowname_length x);
-  read = record { labels = x.labels; fully_qualified = true };
-  same = record { low = refl };
   stands = record { stands = a.stands; fits = is.fits; qualified = refl };
   whole = w;
 }

@@ -77,6 +77,13 @@ impl NameBuffer {
     pub(crate) fn to_vec(&self, alloc: Global) -> Result<Vec<u8>, AllocError>
         ensures { IfOk result (λ v. v.items ≡ self.now) }
     {
-        Vec::from_slice(alloc, &self.octets[..self.len])
+        Vec::from_slice(alloc, self.as_slice())
+    }
+
+    /// The octets, lent.
+    pub(crate) fn as_slice(&self) -> &[u8]
+        ensures { result.now ≡ self.now }
+    {
+        &self.octets[..self.len]
     }
 }

@@ -3,8 +3,8 @@
 ghost use Rattle.std.specs.Prelude.{◌≡◌, ◌↔◌, ℕ, ◌<◌, ◌≤◌, ◌++◌, List, length, map};
 ghost use Rattle.std.specs.Char.{to_ascii_lowercase};
 ghost use Rattle.dns_fields.specs.declared.RDataEncoding.{RDataEncoding};
-ghost use Rattle.dns_fields.specs.Labels.{DomainName, IsName, lowname};
-ghost use Rattle.dns_fields.specs.Names.{IsNameIn, NameWrote, SameName};
+ghost use Rattle.dns_fields.specs.Labels.{DomainName, full_name, IsName, lowname};
+ghost use Rattle.dns_fields.specs.Names.{IsNameIn, NameWrote};
 ghost use Rattle.dns_labels.specs.Text.{IsNameText, HasOctets, name_text};
 
 /// Names that stand in messages, that were written, and that are compared.
@@ -18,9 +18,9 @@ pub fn names_hold()
     // what stands for a name ends behind its place, in the message
     ensures inside { (m : List ℕ) (p : ℕ) (x : DomainName) (e : ℕ) →
         IsNameIn m p x e → (p < e) × (e ≤ length m) }
-    // what was written is read as an equal name, behind any octets and whatever follows
+    // what was written is read as that very name, fully qualified, behind any octets and whatever follows
     ensures written { (mode : RDataEncoding) (m octets more : List ℕ) (x : DomainName) → NameWrote mode m x octets →
-        (y : DomainName) × SameName x y × IsNameIn (octets ++ more) (length m) y (length octets) }
+        IsNameIn (octets ++ more) (length m) (full_name x) (length octets) }
     // canonical octets are the same where the labels are, but for the case of their letters
     ensures lowered { (x y : DomainName) → (lowname x ≡ lowname y)
         ↔ (map (map to_ascii_lowercase) x.labels ≡ map (map to_ascii_lowercase) y.labels) }

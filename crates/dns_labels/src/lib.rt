@@ -8,12 +8,14 @@ pub mod error;
 pub mod labels;
 pub mod laws;
 mod matching;
+pub mod name_octets;
 pub mod places;
 pub mod reading;
 pub mod text;
 pub mod writing;
 
 pub use error::{NameError, WriteError};
+pub use name_octets::NameOctets;
 pub use places::Places;
 
 #[cfg(test)]

@@ -5,12 +5,76 @@ ghost use Rattle.dns_labels.specs.Labels.{AreNameOctets};
 ghost use Rattle.dns_labels.specs.Emission.{StandsFor, IsCut};
 
 use crate::matching::stands_at;
+use smallvec::SmallVec;
 use std::alloc::{AllocError, Global};
 
-// an odd number, and the one that gives 1 with it as a product of 64 bits
-const FACTOR: u64 = 0x9e37_79b9_7f4a_7c15;
-
-const INVERSE: u64 = 0xf1de_83e1_9937_733d;
+// odd numbers without a pattern, one for each distance of an octet from the end of its name
+const WEIGHTS: [u64; 64] = [
+    0x2cb0_f69f_4abe_a221,
+    0x9417_0347_2314_8989,
+    0xdd55_5950_609d_fe03,
+    0xdbaf_b150_deb1_2801,
+    0x7e78_9b2e_6c44_2cb7,
+    0xf41e_5636_c7e4_f8c5,
+    0x0959_d150_f8fb_a7e5,
+    0xa973_16f1_3cdb_9eeb,
+    0x74cd_8258_f952_0069,
+    0x55c7_4a62_e116_868b,
+    0xd2f4_c799_a202_3cbd,
+    0xdf98_cb79_a37b_51b9,
+    0x396f_5885_524f_3905,
+    0xaf1d_5638_6ca3_b277,
+    0xa9ff_be6b_5104_e85b,
+    0x6bd0_c51b_9fd5_33b3,
+    0x980c_e91c_50ab_4b57,
+    0x28ac_3957_80fe_62c5,
+    0x7689_12e3_a6bc_edc7,
+    0x50b3_e8c9_332c_7c89,
+    0xce3b_bfe5_20bd_47db,
+    0xcba6_c8e8_e0bb_7c4f,
+    0xbf19_4db8_434a_346d,
+    0x7d8f_2a7b_6041_6d7f,
+    0x0849_d1f6_e0e1_0a5f,
+    0x7654_b590_d064_e22f,
+    0x16d1_da95_07df_3af3,
+    0xf63a_ef10_89ea_30e5,
+    0x9ade_6673_cc6c_522b,
+    0x4c75_bc27_4e37_087d,
+    0xd35e_12b4_9f51_f27b,
+    0x22dd_f2ff_cee4_81eb,
+    0x0600_7fb1_3c59_a1f1,
+    0x8966_a38c_651e_a4db,
+    0x2524_2f01_8fc0_1ac7,
+    0xa73e_c74f_a31b_717d,
+    0x7ee0_abdd_9797_d3a3,
+    0x5c06_ff7d_c4ac_1881,
+    0x8434_e410_42c2_8a7d,
+    0x770a_372d_6432_7351,
+    0xeed9_40da_d9e9_c06d,
+    0x8977_e936_4652_4825,
+    0xa989_7f0a_62a5_1617,
+    0xa35d_4250_c53f_2b3b,
+    0x4072_542a_94b9_c33f,
+    0x3154_a7a6_2447_e8ab,
+    0x6868_6571_2a1a_245f,
+    0x0fba_6772_7d7b_3b99,
+    0x0634_e202_4536_912f,
+    0xd9ff_52a2_6cf9_881b,
+    0x9435_dc03_99f9_32db,
+    0x18d3_9fc1_af93_e7f1,
+    0x12f7_147c_1e7f_46ab,
+    0xdedf_6678_3edd_b4a1,
+    0x6f75_4806_1455_4799,
+    0xe40e_95e8_ef84_bde3,
+    0xbb41_fe60_1fef_b567,
+    0x5c37_02e4_c7bf_19f1,
+    0x8c7d_1d0d_3d4a_8ec5,
+    0xee77_9996_ba62_dccb,
+    0x80cc_b15b_f530_844b,
+    0xdf56_e7dc_4d57_959d,
+    0x9eb8_6a81_fe90_b68f,
+    0x6a25_741f_a696_fbd3,
+];
 
 /// A pointer has 14 bits for a place (RFC 1035, 4.1.4).
 const PLACES: usize = 16384;
@@ -21,19 +85,18 @@ const NONE: u16 = 65535;
 // up to so many entries are one chain
 const FEW: usize = 16;
 
-/// A hash of all the octets, from which the hash of each tail follows octet by octet.
-pub(crate) fn octets_hash(octets: &[u8]) -> u64 {
+/// The part that octets have in the hash of a name, where so many octets stand from the first of them to the name's end.
+///
+/// A hash is a sum of octets, each by the weight of its distance from the end: so the hash of a tail is that of the name
+/// without the part of what stands before it, and no product waits for another.
+#[inline]
+pub(crate) fn octets_hash(octets: &[u8], behind: usize) -> u64 {
     let mut hash = 0u64;
-    for octet in octets.iter().rev() {
-        hash = hash.wrapping_mul(FACTOR).wrapping_add(*octet as u64 + 1);
+    for (at, octet) in octets.iter().enumerate() {
+        let weight = WEIGHTS[behind.wrapping_sub(at) % 64];
+        hash = hash.wrapping_add(weight.wrapping_mul(*octet as u64));
     }
     hash
-}
-
-/// The hash of the octets behind the first one.
-#[inline]
-fn hash_behind(hash: u64, first: u8) -> u64 {
-    hash.wrapping_sub(first as u64 + 1).wrapping_mul(INVERSE)
 }
 
 #[inline]
@@ -43,7 +106,7 @@ fn short_hash(hash: u64) -> u32 {
 
 /// A place where a label begins, a hash of the name's octets from there on, and the next entry of its
 /// bucket.
-#[derive(Clone, Copy)]
+#[derive(Clone, Copy, Default)]
 struct Entry {
     hash: u32,
     place: u16,
@@ -62,7 +125,8 @@ struct Bucket {
 /// They are hints: a place is used only where the octets that stand there are the name's.
 #[derive(Drop)]
 pub struct Places {
-    entries: Vec<Entry>,
+    // the first ones stand in the value itself
+    entries: SmallVec<Entry, 8>,
     // none while the entries are few
     buckets: Vec<Bucket>,
 }
@@ -71,7 +135,7 @@ impl Places {
     /// Without a place; takes no memory.
     pub fn new(alloc: Global) -> Self {
         Places {
-            entries: Vec::new(alloc),
+            entries: SmallVec::new(alloc),
             buckets: Vec::new(alloc),
         }
     }
@@ -91,11 +155,12 @@ impl Places {
         ensures { IfSome result (λ q. (q < 16384) × StandsFor message.now q octets.now) }
     {
         let mut at = self.first(hash);
-        for _ in 0..self.entries.len() {
-            if at >= self.entries.len() {
+        let entries = self.entries.as_slice();
+        for _ in 0..entries.len() {
+            if at >= entries.len() {
                 return None;
             }
-            let entry = self.entries[at];
+            let entry = entries[at];
             let place = entry.place as usize;
             if entry.hash == hash && place < PLACES && stands_at(message, place, octets) {
                 return Some(place);
@@ -117,33 +182,40 @@ impl Places {
     {
         let mut hash = hash;
         let mut cut = 0usize;
+        let some = self.entries.len() > 0;
         'labels: while cut < octets.len() {
-            if let Some(target) = self.find(message, &octets[cut..], short_hash(hash)) {
-                return (cut, Some(target));
-            }
             let count = octets[cut] as usize + 1;
-            for octet in &octets[cut..cut + count] {
-                hash = hash_behind(hash, *octet);
+            if some {
+                if let Some(target) = self.find(message, &octets[cut..], short_hash(hash)) {
+                    return (cut, Some(target));
+                }
+                let label = &octets[cut..cut + count];
+                hash = hash.wrapping_sub(octets_hash(label, octets.len() - cut));
             }
             cut += count;
         }
         (cut, None)
     }
 
-    /// Notes where labels begin that were written from a place on; the hash is that of the whole name.
-    pub(crate) fn note(&mut self, start: usize, front: &[u8], hash: u64) -> Result<(), AllocError> {
+    /// Notes where labels begin that were written from a place on; the hash is that of the whole name, which has so many
+    /// octets.
+    pub(crate) fn note(
+        &mut self,
+        start: usize,
+        front: &[u8],
+        hash: u64,
+        len: usize,
+    ) -> Result<(), AllocError> {
         let mut hash = hash;
-        let mut left = 0usize;
-        for (at, octet) in front.iter().enumerate() {
-            if left == 0 {
-                if at >= PLACES || start >= PLACES - at {
-                    return Ok(());
-                }
-                self.push((start + at) as u16, short_hash(hash))?;
-                left = *octet as usize + 1;
+        let mut at = 0usize;
+        'labels: while at < front.len() {
+            if at >= PLACES || start >= PLACES - at {
+                return Ok(());
             }
-            left -= 1;
-            hash = hash_behind(hash, *octet);
+            self.push((start + at) as u16, short_hash(hash))?;
+            let end = front.len().min(at + front[at] as usize + 1);
+            hash = hash.wrapping_sub(octets_hash(&front[at..end], len.wrapping_sub(at)));
+            at = end;
         }
         Ok(())
     }
@@ -188,19 +260,19 @@ impl Places {
     /// Puts an entry at the end of its bucket, where there are buckets.
     fn link(&mut self, at: usize) {
         let count = self.buckets.len();
-        if count == 0 || at >= self.entries.len() || at >= NONE as usize {
+        let entries = self.entries.as_mut_slice();
+        if count == 0 || at >= entries.len() || at >= NONE as usize {
             return;
         }
-        let entry = &mut self.entries[at];
-        entry.next = NONE;
-        let hash = entry.hash;
+        entries[at].next = NONE;
+        let hash = entries[at].hash;
         let bucket = &mut self.buckets[hash as usize % count];
         let last = bucket.last as usize;
         bucket.last = at as u16;
         if bucket.first == NONE {
             bucket.first = at as u16;
-        } else if last < self.entries.len() {
-            self.entries[last].next = at as u16;
+        } else if last < entries.len() {
+            entries[last].next = at as u16;
         }
     }
 }

@@ -8,6 +8,7 @@ ghost use Rattle.dns_labels.specs.Reading.{IsRun, AddsRun, IsNameAt};
 
 use crate::buffer::{MAX_OCTETS, NameBuffer};
 use crate::error::NameError;
+use crate::name_octets::NameOctets;
 use std::alloc::Global;
 
 /// Where labels end that stand one behind the other: at an octet 0, or at a pointer to where the others
@@ -86,6 +87,29 @@ fn read_runs(message: &[u8], start: usize, octets: &mut NameBuffer) -> Option<us
     Some(end)
 }
 
+/// The octets of labels that stand whole up to an octet 0; none where a pointer ends them, or where no name stands.
+#[inline]
+fn plain_octets(message: &[u8], start: usize) -> Option<&[u8]>
+    requires { start ≤ length message.now }
+    ensures some { IfSome result (λ octets. IsNameAt message.now start octets.now (start + length octets.now + 1)) }
+    ensures end { IfSome result (λ octets. start + length octets.now + 1 ≤ length message.now) }
+{
+    let mut at = start;
+    'labels: loop {
+        if at >= message.len() {
+            return None;
+        }
+        let count = message[at] as usize;
+        if count == 0 {
+            return Some(&message[start..at]);
+        }
+        if count >= 64 || message.len() - at <= count || at - start + count >= MAX_OCTETS {
+            return None;
+        }
+        at += count + 1;
+    }
+}
+
 /// The octets of the name that stands in a message from a place, and where what stands for it ends.
 ///
 /// The letters are kept. A name is labels, each a length of 1 to 63 and its octets, and then a 0; or, in
@@ -97,18 +121,22 @@ pub fn read_octets(
     alloc: Global,
     message: &[u8],
     start: usize,
-) -> Result<(Vec<u8>, usize), NameError>
+) -> Result<(NameOctets, usize), NameError>
     requires { start ≤ length message.now }
-    ensures ok { IfOk result (λ r. IsNameIn message.now start (name_of r.0.items true) r.1) }
-    ensures octets { IfOk result (λ r. AreNameOctets r.0.items) }
+    ensures ok { IfOk result (λ r. IsNameIn message.now start (name_of r.0 true) r.1) }
+    ensures octets { IfOk result (λ r. AreNameOctets r.0) }
     ensures end { IfOk result (λ r. r.1 ≤ length message.now) }
     ensures refused { result ≡ Err NameError.Invalid → (name : DomainName) (end : ℕ) →
         IsNameIn message.now start name end → ⊥ }
 {
+    if let Some(octets) = plain_octets(message, start) {
+        let end = start + octets.len() + 1;
+        return Ok((NameOctets::from_slice(alloc, octets)?, end));
+    }
     let mut octets = NameBuffer::new();
     let Some(end) = read_runs(message, start, &mut octets) else {
         return Err(NameError::Invalid);
     };
-    let octets = octets.to_vec(alloc)?;
+    let octets = NameOctets::from_slice(alloc, octets.as_slice())?;
     Ok((octets, end))
 }

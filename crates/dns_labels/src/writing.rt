@@ -66,7 +66,7 @@ pub fn write_name(
     ensures full { result ≡ Err WriteError.Buffer → limit < length out.old.items + (length name.now + 1) }
 {
     let start = out.len();
-    let hash = octets_hash(name);
+    let hash = octets_hash(name, name.len());
     let cut = cut_for(places, mode, out.as_slice(), name, hash);
     let front = &name[..cut.written];
     let len = front.len() + stop_len(cut.target);
@@ -74,7 +74,7 @@ pub fn write_name(
         return Err(WriteError::Buffer);
     }
     out.reserve(len)?;
-    places.note(start, front, hash)?;
+    places.note(start, front, hash, name.len())?;
     out.extend_from_slice(front)?;
     match cut.target {
         None => out.extend_from_slice(&[0])?,

@@ -6,7 +6,7 @@ use Rattle.std.proofs.Common.{Result, Ok, Err}
 use Rattle.std.specs.Result.{IsErrAnd}
 use Rattle.dns_types.specs.declared.error.DecodeError.{DecodeError}
 use Rattle.dns_types.specs.declared.error.DecodeError.TheVariants as decode
-use Rattle.dns_names_wire.specs.Words.{TookField, LacksField, Took, Lacks, StaysBehind, UnlessMemory, RefusedField, Refused, ReadsIf, ReadsField}
+use Rattle.dns_names_wire.specs.Words.{TookField, LacksField, Took, Lacks, StaysBehind, UnlessMemory, RefusedField, Refused, ReadsIf, ReadsField, IsLong}
 use Rattle.dns_fields.proofs.Numbers.{length-bytes}
 use Rattle.dns_fields.proofs.FieldLaws.{field_inside, field_same, field_end}
 
@@ -80,10 +80,6 @@ exit {kinds = kinds} {condition = condition} {old = old} {new = new} view (Err y
 pub exit_field : {T : Type 0} {k : Kind} {old new : Reading} (view : T → Value k) (r : Result T DecodeError) (e : DecodeError) → IsErrAnd r (λ y. y ≡ e) → RefusedField e old k new → ReadsField k view r old new
 exit_field view (Ok x) e h f = elim h [ ]
 exit_field {k = k} {old = old} {new = new} view (Err y) e h f = subst (λ (z : DecodeError). RefusedField z old k new) (sym h) f
-
-abbrev pub IsLong : List Kind → Type 0
-IsLong [] = ⊥
-IsLong (k ∷ kinds) = Unit {0}
 
 pub stands_within : (m : List ℕ) (p : ℕ) (s : List Kind) (a : Values s) (e : ℕ) → IsLong s → Stands m p s a e → e ≤ length m
 stands_within m p [] a e h f = elim h [ ]

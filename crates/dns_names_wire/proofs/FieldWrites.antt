@@ -1,10 +1,10 @@
 -- Writing fields one after the other.
-use Rattle.std.proofs.Common.{◌≡◌, ℕ, List, [], ◌∷◌, ◌++◌, length, refl, sym, ap, ◌∙◌, arith, append_assoc, subst, Result, Ok, Err}
+use Rattle.std.proofs.Common.{◌≡◌, Bool, true, false, ◌&&◌, ℕ, List, [], ◌∷◌, ◌++◌, length, refl, sym, ap, ◌∙◌, arith, append_assoc, subst, Result, Ok, Err}
 use Rattle.std.proofs.lemmas.List.{length-append, append-nil}
 use Rattle.std.specs.Result.{IsErrAnd}
 use Rattle.dns_names_wire.specs.State.{Writing}
 use Rattle.dns_fields.specs.declared.RDataEncoding.{RDataEncoding}
-use Rattle.dns_fields.specs.Fields.{Kind, Octets, Rest, Value, Values, Wrote, canonical, field_octets}
+use Rattle.dns_fields.specs.Fields.{Kind, Octets, Rest, Value, Values, Wrote, is_emittable, canonical, field_octets}
 use Rattle.dns_names_wire.specs.Words.{AppendedField, Appended, Keeps, Extends, NoRoomField, NoRoom, UnfitField, Unfit, Because, StoppedField, Stopped, Emits, EmitsAs, EmitsField}
 use Rattle.dns_types.specs.declared.error.ProtoError.{ProtoError}
 use Rattle.dns_types.specs.declared.error.ProtoError.TheVariants as proto
@@ -38,11 +38,15 @@ no_room_then {w} {b} {k} {v} {kinds} {vs} f n =
     let t = wrote_tail f.field in
     record { full = omega (arith, n.full, f.keeps.limit, t.2, ap length t.1, length-append w.octets t.0, length-append (field_octets k v) (canonical kinds vs)) }
 
+pub and_false : (b : Bool) → (b && false) ≡ false
+and_false true = refl
+and_false false = refl
+
 pub unfit_first : {k : Kind} {v : Value k} {kinds : List Kind} {vs : Values kinds} → UnfitField k v → Unfit (k ∷ kinds) (v, vs)
-unfit_first u = record { unfit = λ h. u.unfit h.0 }
+unfit_first {k} {v} {kinds} {vs} u = record { unfit = rw u.unfit refl }
 
 pub unfit_then : {k : Kind} {v : Value k} {kinds : List Kind} {vs : Values kinds} → Unfit kinds vs → Unfit (k ∷ kinds) (v, vs)
-unfit_then u = record { unfit = λ h. u.unfit h.1 }
+unfit_then {k} {v} {kinds} {vs} u = record { unfit = rw u.unfit (and_false (is_emittable k v)) }
 
 pub because_map : (e : ProtoError) (P Q R S : Type 0) → (P → R) → (Q → S) → Because e P Q → Because e R S
 because_map proto.Memory P Q R S f g h = tt
@@ -71,7 +75,7 @@ emits_one k v (Err e) old new h = stopped_first h
 pub octets_emit : (n : ℕ) (s : List ℕ) (r : Result (Unit {0}) ProtoError) (old new : Writing) → length s ≡ n → EmitsField Rest s r old new → EmitsField (Octets n) s r old new
 unfolding field_octets
 octets_emit n s (Ok x) old new e h = record { keeps = h.keeps; field = record { is = (e, h.field.is) } }
-octets_emit n s (Err e) old new l h = record { extends = h.extends; why = because_map e _ _ _ _ (λ r. record { full = r.full }) (λ u. record { unfit = λ _. u.unfit tt }) h.why }
+octets_emit n s (Err e) old new l h = record { extends = h.extends; why = because_map e _ _ _ _ (λ r. record { full = r.full }) (λ u. record { unfit = u.unfit }) h.why }
 
 -- in another mode, and the earlier one put back
 in_mode : (kinds : List Kind) (vs : Values kinds) (mode : RDataEncoding) (r : Result (Unit {0}) ProtoError) (old new : Writing) → Emits kinds vs r (record old { mode = mode }) new → EmitsAs mode kinds vs r old (record new { mode = old.mode })
@@ -90,3 +94,20 @@ emits_keeps kinds vs mode (Ok x) old new h = h.keeps
 emits_keeps kinds vs mode (Err e) old new h = h.extends.keeps
 
 pub ruleset writing = (appended_last, appended_then)
+
+-- ---- what was there stands
+
+pub field_extends : (k : Kind) (v : Value k) (r : Result (Unit {0}) ProtoError) (old new : Writing) → EmitsField k v r old new → Extends old new
+field_extends k v (Ok x) old new h = let t = wrote_tail h.field in record { keeps = h.keeps; tail = t.0; octets = t.1 }
+field_extends k v (Err e) old new h = h.extends
+
+all_tail : (mode : RDataEncoding) (kinds : List Kind) (vs : Values kinds) (m m' : List ℕ) → Wrote mode m kinds vs m' → (t : List ℕ) × (m' ≡ m ++ t)
+all_tail mode [] vs m m' h = ([], h ∙ sym (append-nil m))
+all_tail mode (k ∷ kinds) vs m m' h =
+    let t = wrote_tail h.1 in
+    let u = all_tail mode kinds vs.1 h.0 m' h.2 in
+    (t.0 ++ u.0, u.1 ∙ ap (λ (x : List ℕ). x ++ u.0) t.1 ∙ append_assoc m t.0 u.0)
+
+pub emits_extend : (mode : RDataEncoding) (kinds : List Kind) (vs : Values kinds) (r : Result (Unit {0}) ProtoError) (old new : Writing) → EmitsAs mode kinds vs r old new → Extends old new
+emits_extend mode kinds vs (Ok x) old new h = let t = all_tail mode kinds vs old.octets new.octets h.fields in record { keeps = h.keeps; tail = t.0; octets = t.1 }
+emits_extend mode kinds vs (Err e) old new h = h.extends

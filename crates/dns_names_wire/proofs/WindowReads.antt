@@ -2,15 +2,11 @@
 use Rattle.std.proofs.Common.{◌≡◌, ℕ, ◌+◌, ◌<◌, List, [], ◌∷◌, refl, sym, ◌∙◌, Result, Ok, Err}
 use Rattle.dns_types.specs.declared.error.DecodeError.{DecodeError}
 use Rattle.dns_fields.specs.Octets.{AreOctets}
-use Rattle.dns_fields.specs.Fields.{Kind, Values, Stands, EndsItself}
+use Rattle.dns_fields.specs.Fields.{Kind, Values, Stands}
 use Rattle.dns_fields.proofs.FieldLaws.{field_end}
 use Rattle.dns_names_wire.specs.State.{Reading}
-use Rattle.dns_names_wire.specs.Words.{Took, Lacks, Refused, StaysBehind, ReadsIf, ReadsTo, ReadsBy, Window, RefusedWindow, ReadsWindow}
-use Rattle.dns_names_wire.proofs.FieldReads.{stands_inside, stands_within, unless_map, IsLong}
-
-abbrev pub AllEnd : List Kind → Type 0
-AllEnd [] = Unit {0}
-AllEnd (k ∷ kinds) = EndsItself k × AllEnd kinds
+use Rattle.dns_names_wire.specs.Words.{Took, Lacks, Refused, StaysBehind, ReadsIf, ReadsTo, ReadsBy, IsLong, AllEnd, Window, RefusedWindow, ReadsWindow}
+use Rattle.dns_names_wire.proofs.FieldReads.{stands_inside, stands_within, unless_map}
 
 -- fields that say themselves where they end have one end
 pub stands_end : (m : List ℕ) (p : ℕ) (s : List Kind) (a b : Values s) (e f : ℕ) → AllEnd s → Stands m p s a e → Stands m p s b f → e ≡ f

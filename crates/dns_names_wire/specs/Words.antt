@@ -1,12 +1,12 @@
 -- What a reader and an emitter of fields do, exactly.
-use Rattle.std.specs.Prelude.{◌≡◌, ◌≢◌, ℕ, ◌+◌, ◌<◌, ◌≤◌, ◌⊎◌, List, ◌++◌, length, Result, Ok, Err}
+use Rattle.std.specs.Prelude.{◌≡◌, ◌≢◌, ℕ, ◌+◌, ◌<◌, ◌≤◌, ◌⊎◌, false, List, [], ◌∷◌, ◌++◌, length, Result, Ok, Err}
 use Rattle.dns_types.specs.declared.error.DecodeError.{DecodeError}
 use Rattle.dns_types.specs.declared.error.DecodeError.TheVariants as decode
 use Rattle.dns_types.specs.declared.error.ProtoError.{ProtoError}
 use Rattle.dns_types.specs.declared.error.ProtoError.TheVariants as proto
 use Rattle.dns_fields.specs.declared.RDataEncoding.{RDataEncoding}
 use Rattle.dns_fields.specs.Octets.{AreOctets}
-use Rattle.dns_fields.specs.Fields.{Kind, Number, Value, Values, Field, Stands, WroteField, Wrote, Fits, AllFit, canonical, field_octets}
+use Rattle.dns_fields.specs.Fields.{Kind, Number, Value, Values, Field, Stands, WroteField, Wrote, is_emittable, all_emittable, EndsItself, canonical, field_octets}
 use Rattle.dns_names_wire.specs.State.{Reading, Writing}
 
 -- ---- reading
@@ -73,6 +73,16 @@ abbrev pub ReadsBy : {T : Type 0} → (List ℕ → ℕ → T → ℕ → Type 0
 ReadsBy stands (Ok x) old new = StaysBehind old new × stands old.message old.index x new.index
 ReadsBy {T} stands (Err e) old new = StaysBehind old new × UnlessMemory e ((x : T) (end : ℕ) → stands old.message old.index x end → ⊥)
 
+-- there is a field
+abbrev pub IsLong : List Kind → Type 0
+IsLong [] = ⊥
+IsLong (k ∷ kinds) = Unit {0}
+
+-- each field says itself where it ends
+abbrev pub AllEnd : List Kind → Type 0
+AllEnd [] = Unit {0}
+AllEnd (k ∷ kinds) = EndsItself k × AllEnd kinds
+
 -- ---- the data of a record, of a known length (RFC 1035, 3.2.1)
 
 -- the values fill the n octets from p, under a condition
@@ -131,10 +141,14 @@ pub record NoRoom (w : Writing) (kinds : List Kind) (vs : Values kinds) : Type 0
   pub full : w.limit < length w.octets + length (canonical kinds vs)
 
 pub record UnfitField (k : Kind) (v : Value k) : Type 0 where
-  pub unfit : Fits k v → ⊥
+  pub unfit : is_emittable k v ≡ false
 
 pub record Unfit (kinds : List Kind) (vs : Values kinds) : Type 0 where
-  pub unfit : AllFit kinds vs → ⊥
+  pub unfit : all_emittable kinds vs ≡ false
+
+abbrev pub IsMessage : ProtoError → Type 0
+IsMessage (proto.Message text) = Unit {0}
+IsMessage e = ⊥
 
 -- why it was refused
 abbrev pub Because : ProtoError → Type 0 → Type 0 → Type 0

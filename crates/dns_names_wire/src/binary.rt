@@ -1,13 +1,15 @@
 //! What is read from a message and written to one.
 
-ghost use Rattle.std.specs.Prelude.{◌≡◌, ℕ, List, Result};
+ghost use Rattle.std.specs.Prelude.{◌≡◌, ℕ, List, Result, IfErr, OnErr};
+ghost use Rattle.dns_types.specs.RecordTypes.{number_of, record_type_of};
+ghost use Rattle.dns_fields.specs.Fields.{Field, Number};
 ghost use Rattle.dns_types.specs.declared.error.ProtoError.{ProtoError as ProtoErrorValue};
 ghost use Rattle.dns_names_wire.specs.State.{Writing};
-ghost use Rattle.dns_names_wire.specs.Words.{ReadsBy};
+ghost use Rattle.dns_names_wire.specs.Words.{ReadsBy, EmitsField, Extends, LacksOctets};
 
 use crate::decoder::BinDecoder;
 use crate::encoder::BinEncoder;
-use dns_types::{DecodeError, ProtoError};
+use dns_types::{DecodeError, ProtoError, RecordType};
 
 /// A value that says itself, in a message, where it ends.
 pub trait BinDecodable: Sized {
@@ -27,5 +29,37 @@ pub trait BinEncodable {
 
     /// Appends the value's octets. After a refusal the octets that were there stand.
     fn emit(&self, encoder: &mut BinEncoder<'_>) -> Result<(), ProtoError>
-        ensures emits { emits self.now result encoder.old encoder.new };
+        ensures emits { emits self.now result encoder.old encoder.new }
+        // The octets that were there stand, and the limit, the mode and the vector are the same.
+        ensures extends { Extends encoder.old encoder.new };
+}
+
+impl BinDecodable for RecordType {
+    ghost stands = { λ m p t q. Field m p (Number 2) (number_of t) q × (t ≡ record_type_of (number_of t)) };
+
+    /// Reads a type's number, two octets (RFC 1035, 3.2.1). Where fewer are left it is refused, and takes none.
+    #[inline]
+    fn read(decoder: &mut BinDecoder<'_>) -> Result<RecordType, DecodeError>
+        ensures reads { ReadsBy (λ m p t q. Field m p (Number 2) (number_of t) q × (t ≡ record_type_of (number_of t))) result decoder.old decoder.new }
+        ensures lacking { IfErr result (λ e. (e ≡ DecodeError.InsufficientBytes) × LacksOctets decoder.old 2) }
+        ensures unchanged { OnErr result (decoder.new ≡ decoder.old) }
+    {
+        let _start = decoder.index();
+        let number = decoder.read_u16()?.unverified();
+        Ok(RecordType::from(number))
+    }
+}
+
+impl BinEncodable for RecordType {
+    ghost emits = { λ t r old new. EmitsField (Number 2) (number_of t) r old new };
+
+    /// Appends the type's number, two octets (RFC 1035, 3.2.1).
+    #[inline]
+    fn emit(&self, encoder: &mut BinEncoder<'_>) -> Result<(), ProtoError>
+        ensures emits { EmitsField (Number 2) (number_of self.now) result encoder.old encoder.new }
+        ensures extends { Extends encoder.old encoder.new }
+        ensures whole { OnErr result (encoder.new ≡ encoder.old) }
+    {
+        encoder.emit_u16(self.number())
+    }
 }

@@ -7,8 +7,8 @@ ghost use Rattle.dns_fields.specs.Octets.{AreOctets};
 ghost use Rattle.dns_names_wire.specs.Words.{TookField, LacksField, ReadsField, LacksOctets, LacksText};
 ghost use Rattle.dns_labels.specs.Labels.{AreNameOctets, name_of};
 
-use dns_labels::NameError;
 use dns_labels::reading::read_octets;
+use dns_labels::{NameError, NameOctets};
 use dns_types::{DecodeError, Restrict};
 use std::alloc::Global;
 use std::marker::Model;
@@ -227,9 +227,9 @@ impl<'a> BinDecoder<'a> {
     }
 
     /// The octets of the name that stands next, without the 0 at its end (RFC 1035, 3.1 and 4.1.4).
-    pub(crate) fn read_name(&mut self) -> Result<Vec<u8>, DecodeError>
-        ensures taken { ReadsField Name (λ octets. name_of octets.items true) result self.old self.new }
-        ensures octets { IfOk result (λ octets. AreNameOctets octets.items) }
+    pub(crate) fn read_name(&mut self) -> Result<NameOctets, DecodeError>
+        ensures taken { ReadsField Name (λ octets. name_of octets true) result self.old self.new }
+        ensures octets { IfOk result AreNameOctets }
         ensures lacking { IfErr result (λ e. (e ≡ DecodeError.Memory) ⊎ ((e ≡ DecodeError.NameInvalid) × LacksField self.old Name)) }
         ensures unchanged { OnErr result (self.new ≡ self.old) }
     {

@@ -53,7 +53,7 @@ pub struct Place {
 
 impl<'a> BinEncoder<'a> {
     /// Without an octet, with the limit 65535, and with names as in the records of RFC 1035. What it remembers of names
-    /// takes its memory from `alloc`.
+    /// takes its memory from `alloc`. The caller owes a vector without items.
     #[inline]
     pub fn new(alloc: Global, octets: &'a mut Vec<u8>) -> BinEncoder<'a>
         requires { octets.old.items ≡ [] }
@@ -232,7 +232,8 @@ impl<'a> BinEncoder<'a> {
         append_name(&mut self.places, self.octets, self.mode, self.limit, octets)
     }
 
-    /// Puts the two octets of a number, the higher one first, where the two octets were placed.
+    /// Puts the two octets of a number, the higher one first, where the two octets were placed. The caller owes a place
+    /// of which both octets stand, as `place` answers it.
     pub fn replace(&mut self, place: Place, number: u16)
         requires { place.index + 2 ≤ length self.old.octets }
         ensures keeps { Keeps self.old self.new }
@@ -241,7 +242,7 @@ impl<'a> BinEncoder<'a> {
         self.octets[place.index..place.index + 2].copy_from_slice(&number.to_be_bytes());
     }
 
-    /// How many octets were written behind the two that were placed.
+    /// How many octets were written behind the two that were placed. The caller owes a place of which both octets stand.
     pub fn len_since_place(&self, place: &Place) -> usize
         requires { place.now.index + 2 ≤ length self.now.octets }
         ensures { place.now.index + 2 + result ≡ length self.now.octets }

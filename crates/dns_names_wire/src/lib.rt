@@ -12,7 +12,6 @@ pub use binary::{BinDecodable, BinEncodable};
 pub use decoder::BinDecoder;
 pub use dns_fields::RDataEncoding;
 pub use dns_labels::labels::LabelIter;
-pub use dns_labels::laws;
 pub use dns_types::{
     AddrParseError, DecodeError, Octets, ParseError, ProtoError, ProtoResult, RecordType, Restrict,
     error, octets, record_type, restrict,

@@ -3,10 +3,11 @@
 ghost use Rattle.std.specs.Prelude.{◌≡◌, ◌≤◌, ◌<◌, ◌↔◌, ◌⊎◌, ℕ, Bool, true, false, [], length, slice_get, IsTrue, IfOk, IfErr, IfSome, OnOk, OnErr};
 ghost use Rattle.dns_fields.specs.Labels.{IsName, lowname};
 ghost use Rattle.dns_fields.specs.Names.{IsNameIn};
+ghost use Rattle.dns_fields.specs.Octets.{AreOctets};
 ghost use Rattle.dns_fields.specs.Fields.{Name as NameKind};
 ghost use Rattle.dns_labels.specs.Labels.{AreNameOctets, name_of};
 ghost use Rattle.dns_labels.specs.Text.{HasOctets};
-ghost use Rattle.dns_names_wire.specs.Words.{ReadsField, ReadsBy, LacksField, EmitsField};
+ghost use Rattle.dns_names_wire.specs.Words.{ReadsField, ReadsBy, LacksField, EmitsField, Extends};
 ghost use Rattle.dns_names_wire.specs.NameValues.{root_name, label_count, has_asterisk};
 
 mod building;
@@ -16,6 +17,7 @@ mod texts;
 use crate::binary::{BinDecodable, BinEncodable};
 use crate::decoder::BinDecoder;
 use crate::encoder::BinEncoder;
+use dns_labels::NameOctets;
 use dns_labels::labels::LabelIter;
 use dns_types::{DecodeError, ProtoError};
 use std::alloc::{AllocError, Global};
@@ -28,7 +30,7 @@ use std::marker::Model;
 #[derive(Drop)]
 pub struct Name {
     // each label's length and its octets, without the 0 at the end
-    octets: Vec<u8>,
+    octets: NameOctets,
     is_fqdn: bool,
 }
 
@@ -39,18 +41,19 @@ impl Model for Name {
 
     ghost Value = { DomainName };
 
-    ghost view = { λ n. name_of n.octets.items n.is_fqdn };
+    ghost view = { λ n. name_of n.octets n.is_fqdn };
 
-    ghost invariant = { λ n. AreNameOctets n.octets.items × AreOctets n.octets.items };
+    ghost invariant = { λ n. AreNameOctets n.octets × AreOctets n.octets };
 }
 
 impl Name {
     // The name of these octets.
     #[inline]
-    fn from_octets(octets: Vec<u8>, is_fqdn: bool) -> Name
-        requires { AreNameOctets octets.items }
-        ensures { result ≡ name_of octets.items is_fqdn }
+    fn from_octets(octets: NameOctets, is_fqdn: bool) -> Name
+        requires { AreNameOctets octets }
+        ensures { result ≡ name_of octets is_fqdn }
     {
+        are_octets(octets.as_slice());
         Name { octets, is_fqdn }
     }
 
@@ -60,7 +63,7 @@ impl Name {
         ensures { result ≡ record { labels = []; fully_qualified = false } }
     {
         Name {
-            octets: Vec::new(alloc),
+            octets: NameOctets::new(alloc),
             is_fqdn: false,
         }
     }
@@ -71,7 +74,7 @@ impl Name {
         ensures { result ≡ root_name }
     {
         Name {
-            octets: Vec::new(alloc),
+            octets: NameOctets::new(alloc),
             is_fqdn: true,
         }
     }
@@ -155,9 +158,10 @@ impl Name {
         ensures value { result ≡ slice_get (lowname self.now) place }
         ensures room { IfSome result (λ _. place < 255) }
     {
-        let len = self.octets.len();
+        let octets = self.octets.as_slice();
+        let len = octets.len();
         if place < len {
-            Some(self.octets[place].to_ascii_lowercase())
+            Some(octets[place].to_ascii_lowercase())
         } else if place == len {
             Some(0)
         } else {
@@ -168,8 +172,16 @@ impl Name {
     /// The allocator of its octets.
     #[inline]
     pub fn allocator(&self) -> Global {
-        *self.octets.allocator()
+        self.octets.allocator()
     }
+}
+
+// What a slice holds are numbers of 0 to 255.
+#[inline]
+fn are_octets(octets: &[u8])
+    ensures { AreOctets octets.now }
+{
+    let _ = octets;
 }
 
 impl BinDecodable for Name {
@@ -195,6 +207,7 @@ impl BinEncodable for Name {
     /// `StandardRecord`, with a pointer in place of the longest tail with a label that stands already (4.1.4).
     fn emit(&self, encoder: &mut BinEncoder<'_>) -> Result<(), ProtoError>
         ensures emits { EmitsField NameKind self.now result encoder.old encoder.new }
+        ensures extends { Extends encoder.old encoder.new }
         ensures room { OnOk result (length encoder.new.octets ≤ encoder.old.limit) }
         ensures whole { OnErr result (encoder.new ≡ encoder.old) }
     {
@@ -208,7 +221,7 @@ impl Clone for Name {
     /// The same name, its letters kept, in memory that is asked for once.
     fn clone(&self) -> Result<Name, AllocError> {
         Ok(Name {
-            octets: Vec::from_slice(self.allocator(), self.octets.as_slice())?,
+            octets: self.octets.clone()?,
             is_fqdn: self.is_fqdn,
         })
     }

@@ -8,6 +8,7 @@ use std::hash::{DefaultHasher, Hash, Hasher};
 use std::test::Fail;
 
 mod record;
+mod wire;
 
 fn name(alloc: Global, text: &str) -> Result<Name, ProtoError> {
     Name::from_ascii(alloc, text)

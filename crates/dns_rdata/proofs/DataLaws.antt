@@ -1,29 +1,29 @@
 -- The laws of record data of every type.
-use Rattle.std.proofs.Common.{◌≡◌, ℕ, ◌+◌, ◌-◌, ◌<◌, ◌≤◌, Bool, true, nat_le, List, [], ◌∷◌, length, refl, sym, ap, ◌∙◌, arith, subst, Result, Ok, Err}
-use Rattle.std.proofs.lemmas.Bool.Decides.{nat_tests}
-use Rattle.std.specs.List.{list_all, AllByRecursion}
+use Rattle.std.proofs.Common.{◌≡◌, ℕ, ◌+◌, ◌-◌, ◌<◌, ◌≤◌, Bool, true, false, List, [], ◌∷◌, length, refl, sym, ap, ◌∙◌, arith, subst, Result, Ok, Err}
 use Rattle.std.specs.Bool.{Decides}
-use Rattle.std.specs.Result.{IfOk, OnOk}
+use Rattle.std.specs.Result.{IfOk, IfErr, OnOk}
 use Rattle.std.proofs.lemmas.List.{length-append}
 use Rattle.dns_fields.specs.declared.RDataEncoding.{RDataEncoding}
 use Rattle.dns_fields.specs.Octets.{AreOctets}
-use Rattle.dns_fields.specs.Fields.{Kind, Text, Texts, Value, Values, Fits, AllFit, Stands, Same, Wrote, canonical}
+use Rattle.dns_fields.specs.Fields.{Kind, Values, AllFit, all_emittable, Stands, Same, Wrote, canonical}
 use Rattle.dns_fields.specs.Equal.{values_eq}
 use Rattle.dns_fields.specs.Laws.{IsShape}
 use Rattle.dns_fields.proofs.EqualLaws.{values_decide}
+use Rattle.dns_fields.proofs.Emittable.{all_fit_emittable}
 use Rattle.dns_fields.proofs.OctetLaws.{canonical_octets_are}
-use Rattle.dns_fields.proofs.Laws.{stands_same, stands_fit, stands_lawful, stands_full, wrote_stands, wrote_behind, canonical_same, canonical_stands, canonical_injective}
+use Rattle.dns_fields.proofs.Laws.{stands_same, stands_fit, stands_lawful, stands_full, wrote_stands, wrote_behind, wrote_all_fit, canonical_same, canonical_stands, canonical_injective}
 use Rattle.dns_types.specs.declared.error.DecodeError.{DecodeError}
 use Rattle.dns_types.specs.declared.error.ProtoError.{ProtoError}
+use Rattle.dns_types.specs.declared.error.ProtoError.TheVariants as proto
 use Rattle.dns_types.specs.declared.record_type.RecordType.{RecordType}
 use Rattle.dns_types.specs.declared.record_type.RecordType.TheVariants as types
 use Rattle.dns_names_wire.specs.State.{Writing}
-use Rattle.dns_names_wire.specs.Words.{Window, Appended, EmitsAs}
+use Rattle.dns_names_wire.specs.Words.{Window, Appended, EmitsAs, IsMessage}
 use Rattle.dns_rdata_base.specs.NAPTR.{AreFlags}
 use Rattle.dns_rdata_sets.specs.CAA.{IsTag}
 use Rattle.dns_rdata_sets.specs.CSYNC.{AreKnownFlags}
 use Rattle.dns_rdata.specs.declared.record_data.RData.{RData}
-use Rattle.dns_rdata.specs.Data.{shape, condition, FieldsOf, fields_of, Fills, is_emittable, all_emittable, octets_of, data_octets, mode_for}
+use Rattle.dns_rdata.specs.Data.{shape, condition, FieldsOf, fields_of, Fills, IsEmittable, octets_of, data_octets, mode_for}
 use Rattle.dns_rdata.specs.Equal.{equal}
 use Rattle.dns_rdata.specs.Laws.{OneValue, EachWindow, HasEqual, TellsApart, ReadsCanonical, ReadsBack}
 use Rattle.dns_rdata.proofs.Values.{values_as, values_as-same, value_for, value_is, window_value, fields_for, equal_values}
@@ -74,28 +74,14 @@ equal_same t v w m p n m' p' n' f g =
     let d = values_decide (shape t) f.values g.values (stands_full m p (shape t) f.values (p + n) f.window.stands) (stands_full m' p' (shape t) g.values (p' + n') g.window.stands) in
     subst (λ (x : Bool). Decides x (Same (shape t) f.values g.values)) (sym (a ∙ b ∙ c)) d
 
--- what fits can be emitted
-
-short_strings : (ss : List (List ℕ)) → AllByRecursion (λ s. length s < 256) ss → list_all (λ s. nat_le (length s) 255) ss ≡ true
-short_strings [] h = refl
-short_strings (s ∷ ss) h = let a : nat_le (length s) 255 ≡ true = short_string s h.0 in rw a (short_strings ss h.1) where
-  short_string : (s : List ℕ) → length s < 256 → nat_le (length s) 255 ≡ true
-  short_string s h = grind (arith, nat_tests)
-
-fits_emittable : (k : Kind) (v : Value k) → Fits k v → is_emittable k v ≡ true
-fits_emittable Text s h = grind (arith, nat_tests)
-fits_emittable Texts ss h = short_strings ss h
-fits_emittable k v h = refl
-
-all_fit_emittable : (kinds : List Kind) (vs : Values kinds) → AllFit kinds vs → all_emittable kinds vs ≡ true
-all_fit_emittable [] vs h = refl
-all_fit_emittable (k ∷ kinds) vs h = rw (fits_emittable k vs.0 h.0) (all_fit_emittable kinds vs.1 h.1)
-
 octets_fit : (kinds : List Kind) (vs : Values kinds) → AllFit kinds vs → octets_of (record { kinds = kinds; values = vs }) ≡ canonical kinds vs
 octets_fit kinds vs h = rw (all_fit_emittable kinds vs h) refl
 
 filled_octets : {m : List ℕ} {p n : ℕ} {t : RecordType} {v : RData} (f : Fills m p n t v) → data_octets v ≡ canonical (shape t) f.values
 filled_octets {m} {p} {n} {t} f = ap octets_of f.value.fields ∙ octets_fit (shape t) f.values (stands_fit m p (shape t) f.values (p + n) f.window.stands)
+
+pub fills_emittable : {m : List ℕ} {p n : ℕ} {t : RecordType} {v : RData} → Fills m p n t v → IsEmittable v
+fills_emittable {m} {p} {n} {t} f = subst (λ (x : FieldsOf). all_emittable x.kinds x.values ≡ true) (sym f.value.fields) (all_fit_emittable (shape t) f.values (stands_fit m p (shape t) f.values (p + n) f.window.stands))
 
 pub tells_apart : (v w : RData) → TellsApart v w (equal v w)
 tells_apart v w t m p n m' p' n' f g =
@@ -148,3 +134,20 @@ emits_again v mode (Err e) old new octets h = tt
 -- of a value that is known to be w
 pub emits_at : (v w : RData) (r : Result (Unit {0}) ProtoError) (old new : Writing) → v ≡ w → EmitsAs (mode_for old.mode w) (fields_of w).kinds (fields_of w).values r old new → EmitsAs (mode_for old.mode v) (fields_of v).kinds (fields_of v).values r old new
 emits_at v w r old new e h = subst (λ (x : RData). EmitsAs (mode_for old.mode x) (fields_of x).kinds (fields_of x).values r old new) (sym e) h
+
+-- what was read can be emitted
+pub emittable_of : (t : RecordType) (m : List ℕ) (p n : ℕ) (r : Result RData DecodeError) → IfOk r (λ v. Fills m p n t v) → IfOk r IsEmittable
+emittable_of t m p n (Ok v) f = fills_emittable f
+emittable_of t m p n (Err e) f = tt
+
+-- what was emitted can be, and what a message refuses cannot
+pub emits_emittable : (v : RData) (mode : RDataEncoding) (r : Result (Unit {0}) ProtoError) (old new : Writing) → EmitsAs mode (fields_of v).kinds (fields_of v).values r old new → OnOk r (IsEmittable v)
+emits_emittable v mode (Ok x) old new h = all_fit_emittable (fields_of v).kinds (fields_of v).values (wrote_all_fit mode old.octets (fields_of v).kinds (fields_of v).values new.octets h.fields)
+emits_emittable v mode (Err e) old new h = tt
+
+pub message_unfit : (v : RData) (mode : RDataEncoding) (r : Result (Unit {0}) ProtoError) (old new : Writing) → EmitsAs mode (fields_of v).kinds (fields_of v).values r old new → IfErr r (λ e. IsMessage e → ¬ (IsEmittable v))
+message_unfit v mode (Ok x) old new h = tt
+message_unfit v mode (Err (proto.Message t)) old new h = λ m can. let e : true ≡ false = sym can ∙ h.why.unfit in cc e
+message_unfit v mode (Err proto.Memory) old new h = λ m. absurd m
+message_unfit v mode (Err proto.MaxBufferSizeExceeded) old new h = λ m. absurd m
+message_unfit v mode (Err (proto.Decode d)) old new h = λ m. absurd m

@@ -1,9 +1,8 @@
 -- Record data of every type: its fields, and when a value fills a window of a message (RFC 1035, 3.2.1).
-use Rattle.std.specs.Prelude.{◌≡◌, ◌≢◌, ℕ, ◌+◌, nat_le, Bool, true, ◌&&◌, if◌then◌else◌, List, [], ◌∷◌, length, Result, Ok, Err}
-use Rattle.std.specs.List.{list_all}
+use Rattle.std.specs.Prelude.{◌≡◌, ◌≢◌, ℕ, ◌+◌, true, if◌then◌else◌, List, [], ◌∷◌, Result, Ok, Err}
 use Rattle.dns_fields.specs.declared.RDataEncoding.{RDataEncoding}
 use Rattle.dns_fields.specs.declared.RDataEncoding.TheVariants as modes
-use Rattle.dns_fields.specs.Fields.{Kind, Rest, Text, Texts, Value, Values, canonical}
+use Rattle.dns_fields.specs.Fields.{Kind, Rest, Values, all_emittable, canonical}
 use Rattle.dns_types.specs.declared.record_type.RecordType.{RecordType}
 use Rattle.dns_types.specs.declared.record_type.RecordType.TheVariants as types
 use Rattle.dns_types.specs.declared.error.DecodeError.{DecodeError}
@@ -181,15 +180,9 @@ pub record Fills (m : List ℕ) (p n : ℕ) (t : RecordType) (v : RData) : Type 
 pub record NoValue (m : List ℕ) (p n : ℕ) (t : RecordType) : Type 0 where
   pub none : (v : RData) → Fills m p n t v → ⊥
 
--- the field can be emitted: a string has at most 255 octets
-abbrev pub is_emittable : (k : Kind) → Value k → Bool
-is_emittable Text s = nat_le (length s) 255
-is_emittable Texts ss = list_all (λ s. nat_le (length s) 255) ss
-is_emittable k v = true
-
-abbrev pub all_emittable : (kinds : List Kind) → Values kinds → Bool
-all_emittable [] vs = true
-all_emittable (k ∷ kinds) vs = is_emittable k vs.0 && all_emittable kinds vs.1
+-- Each field of the value can be emitted. Of what was read each can; of what a caller built, a string may be too long.
+abbrev pub IsEmittable : RData → Type 0
+IsEmittable v = all_emittable (fields_of v).kinds (fields_of v).values ≡ true
 
 -- The octets of a value in its one form for comparing: names uncompressed and in lower case (RFC 4034, 6.2). Of a value
 -- that cannot be emitted there are none.

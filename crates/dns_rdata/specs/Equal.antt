@@ -4,7 +4,8 @@ use Rattle.std.specs.Cmp.{IsEquivalence, and_equiv, on_equiv}
 use Rattle.std.specs.Cmp.Lexicographic.{options_equiv}
 use Rattle.std.specs.Option.{option_eq}
 use Rattle.std.specs.Ordering.{on, eq_of_both}
-use Rattle.dns_fields.specs.Equal.{values_eq, values_equiv}
+use Rattle.dns_fields.specs.Equal.{values_eq}
+use Rattle.dns_fields.proofs.Equivalences.{values_equiv}
 use Rattle.dns_types.specs.declared.record_type.RecordType.{RecordType}
 use Rattle.dns_types.specs.contracts.record_type.RecordTypePartialEq.TheImpl as type_eq
 use Rattle.dns_types.specs.contracts.record_type.RecordTypeEq.TheImpl.Laws as type_laws

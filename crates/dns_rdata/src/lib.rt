@@ -7,22 +7,24 @@ pub mod record_data;
 pub mod traits;
 
 pub use dns_names_wire::{
-    BinDecodable, BinDecoder, BinEncodable, BinEncoder, DecodeError, Name, Octets, ParseError,
-    Place, ProtoError, RDataEncoding, RecordType, Restrict, binary, decoder, encoder, error,
-    record_type, restrict,
+    AddrParseError, BinDecodable, BinDecoder, BinEncodable, BinEncoder, DecodeError, LabelIter,
+    Name, Octets, ParseError, Place, ProtoError, ProtoResult, RDataEncoding, RecordType, Restrict,
+    binary, decoder, encoder, error, record_type, restrict,
 };
 pub use dns_rdata_base::{
-    A, AAAA, ANAME, CNAME, EncodesFields, HINFO, MX, NAPTR, NS, NULL, OPENPGPKEY, PTR,
-    RecordDataDecodable, SOA, SRV, TXT, TakesOctet, a, aaaa, hinfo, mx, name, naptr, null,
-    openpgpkey, soa, srv, txt, verify_flags,
+    A, AAAA, ANAME, CNAME, HINFO, MX, NAPTR, NS, NULL, OPENPGPKEY, PTR, RecordDataDecodable, SOA,
+    SRV, TXT, TakesOctet, a, aaaa, hinfo, mx, name, naptr, null, openpgpkey, soa, srv, txt,
+    verify_flags,
 };
 pub use dns_rdata_certs::{CERT, HEX, SMIMEA, SSHFP, TLSA, cert, smimea, sshfp, tlsa};
 pub use dns_rdata_sets::{CAA, CSYNC, RecordTypeSet, caa, csync, record_type_set};
+pub use dns_types::Strings;
 pub use record_data::RData;
 pub use traits::RecordData;
 
-/// Octets are the data of at most one value of a type, and of one wherever the fields of the type fill them.
-pub fn windows_hold()
+// Octets are the data of at most one value of a type, and of one wherever the fields of the type fill them: a law, stated
+// where it is proved.
+fn windows_hold()
     ensures one { OneValue }
     ensures each { EachWindow }
 {}

@@ -2,7 +2,7 @@
 
 ghost use Rattle.std.specs.Prelude.{◌≡◌, ◌≢◌, ◌+◌, ◌-◌, ◌<◌, ℕ, List, length as size, IsTrue, ◌↔◌, Some, Err, IfOk, IfErr, OnOk};
 ghost use Rattle.dns_types.specs.RecordTypes.{number_of};
-ghost use Rattle.dns_names_wire.specs.Words.{StaysBehind, UnlessMemory, EmitsAs, Keeps};
+ghost use Rattle.dns_names_wire.specs.Words.{StaysBehind, UnlessMemory, EmitsAs, Extends, Keeps, IsMessage};
 ghost use Rattle.dns_rdata.specs.Refusals.{IsNeverRead, OwnRefusal, IsRefusal, by_length as answer_by_length};
 
 use dns_names_wire::{
@@ -76,7 +76,7 @@ pub enum RData {
 }
 
 impl RData {
-    ghost use Rattle.dns_rdata.specs.Data.{Fills, NoValue, ReadsData, fields_of, mode_for, type_of, data_octets};
+    ghost use Rattle.dns_rdata.specs.Data.{Fills, NoValue, ReadsData, IsEmittable, fields_of, mode_for, type_of, data_octets};
     ghost use Rattle.dns_rdata.specs.Laws.{ReadsCanonical, address_of};
 
     /// The type of the record that has this data.
@@ -190,6 +190,8 @@ impl RData {
         ensures behind { StaysBehind decoder.old decoder.new }
         // The canonical octets of what is read are read again as an equal value.
         ensures canonical { IfOk result (ReadsCanonical record_type) }
+        // What is read can be emitted: it is refused for memory or for buffer space alone.
+        ensures emittable { IfOk result IsEmittable }
     {
         let start = decoder.index();
         let outcome = RData::read_fields(decoder, record_type, length);
@@ -224,7 +226,7 @@ fn by_length(
 }
 
 impl BinEncodable for RData {
-    ghost use Rattle.dns_rdata.specs.Data.{fields_of, mode_for};
+    ghost use Rattle.dns_rdata.specs.Data.{IsEmittable, fields_of, mode_for};
     ghost use Rattle.dns_rdata.specs.Laws.{ReadsBack};
 
     ghost emits = { λ v r old new. EmitsAs (mode_for old.mode v) (fields_of v).kinds (fields_of v).values r old new };
@@ -236,6 +238,11 @@ impl BinEncodable for RData {
         ensures keeps { Keeps encoder.old encoder.new }
         // What was read and is appended reads back as an equal value, behind any octets.
         ensures again { OnOk result (ReadsBack self.now encoder.old encoder.new) }
+        // The octets that were there stand.
+        ensures extends { Extends encoder.old encoder.new }
+        // What is emitted can be, and what is refused by a message cannot.
+        ensures fits { OnOk result (IsEmittable self.now) }
+        ensures unfit { IfErr result (λ e. IsMessage e → ¬ (IsEmittable self.now)) }
     {
         let outcome = self.emit_fields(encoder);
         let _written = encoder.len();

@@ -1,5 +1,13 @@
 //! What record data has in common, whatever its type.
 
+ghost use Rattle.std.specs.Prelude.{◌≡◌, ◌↔◌, IsTrue, Option, Some, option_copied};
+ghost use Rattle.std.proofs.Common.{rules};
+ghost use Rattle.dns_rdata.specs.declared.record_data.RData.{RData as Data};
+ghost use Rattle.dns_rdata.specs.declared.record_data.RData.TheVariants as rdata;
+ghost use Rattle.dns_rdata.specs.Data.{type_of};
+ghost use Rattle.dns_rdata.specs.Laws.{IsUpdate};
+ghost use Rattle.dns_rdata.specs.Equal.{as_a, as_aaaa, as_aname, as_caa, as_cert, as_cname, as_csync, as_hinfo, as_mx, as_naptr, as_null, as_ns, as_openpgpkey, as_ptr, as_smimea, as_soa, as_srv, as_sshfp, as_tlsa, as_txt};
+
 use crate::record_data::RData;
 use dns_names_wire::RecordType;
 use dns_rdata_base::{
@@ -10,21 +18,11 @@ use dns_rdata_sets::{CAA, CSYNC};
 
 /// The data of records of one kind, as a part of [`RData`].
 pub trait RecordData: Sized {
-    ghost use Rattle.std.specs.Prelude.{◌≡◌, ◌↔◌, IsTrue, Option, Some, option_copied};
-    ghost use Rattle.dns_types.specs.declared.record_type.RecordType.{RecordType};
-    ghost use Rattle.dns_rdata.specs.declared.record_data.RData.{RData};
-
     /// The value that holds this data.
-    ghost wrapped: { Self → RData };
+    ghost wrapped: { Self → Data };
 
     /// The data of this kind in a value, where it has that.
-    ghost borrowed: { RData → Option Self };
-
-    /// The type of its records.
-    ghost kind: { Self → RecordType };
-
-    /// Holds of the data of an update.
-    ghost updates: { Self → Type 0 };
+    ghost borrowed: { Data → Option Self };
 
     /// The data of this kind that the value holds; none where it holds other data.
     fn try_borrow(rdata: &RData) -> Option<&Self>
@@ -32,33 +30,24 @@ pub trait RecordData: Sized {
 
     /// The type of the record that has this data.
     fn record_type(&self) -> RecordType
-        ensures { result ≡ kind self.now };
+        ensures { result ≡ type_of (wrapped self.now) };
 
     /// The value that holds this data.
     fn into_rdata(self) -> RData
         ensures { result ≡ wrapped self };
 
-    /// Whether it is the data of an update (RFC 2136).
+    /// Whether it is the data of an update (RFC 2136): of `RData::Update0` alone.
     fn is_update(&self) -> bool
-        ensures { IsTrue result ↔ updates self.now };
+        ensures { IsTrue result ↔ IsUpdate (wrapped self.now) };
 
     /// It is lent exactly where the value is the one that holds it.
-    ghost exactly: { (v : RData) (x : Self) → (borrowed v ≡ Some x) ↔ (wrapped x ≡ v) };
+    ghost exactly: { (v : Data) (x : Self) → (borrowed v ≡ Some x) ↔ (wrapped x ≡ v) };
 }
 
 impl RecordData for A {
-    ghost use Rattle.dns_rdata.specs.Equal.{as_a};
-    ghost use Rattle.dns_rdata.specs.declared.record_data.RData.TheVariants as rdata;
-    ghost use Rattle.dns_types.specs.declared.record_type.RecordType.TheVariants as types;
-    ghost use Rattle.std.proofs.Common.{rules};
-
     ghost wrapped = { λ x. rdata.A x };
 
     ghost borrowed = { as_a };
-
-    ghost kind = { λ _. types.A };
-
-    ghost updates = { λ _. ⊥ };
 
     ghost exactly = { Prim.search rules };
 
@@ -83,18 +72,9 @@ impl RecordData for A {
 }
 
 impl RecordData for AAAA {
-    ghost use Rattle.dns_rdata.specs.Equal.{as_aaaa};
-    ghost use Rattle.dns_rdata.specs.declared.record_data.RData.TheVariants as rdata;
-    ghost use Rattle.dns_types.specs.declared.record_type.RecordType.TheVariants as types;
-    ghost use Rattle.std.proofs.Common.{rules};
-
     ghost wrapped = { λ x. rdata.AAAA x };
 
     ghost borrowed = { as_aaaa };
-
-    ghost kind = { λ _. types.AAAA };
-
-    ghost updates = { λ _. ⊥ };
 
     ghost exactly = { Prim.search rules };
 
@@ -119,18 +99,9 @@ impl RecordData for AAAA {
 }
 
 impl RecordData for ANAME {
-    ghost use Rattle.dns_rdata.specs.Equal.{as_aname};
-    ghost use Rattle.dns_rdata.specs.declared.record_data.RData.TheVariants as rdata;
-    ghost use Rattle.dns_types.specs.declared.record_type.RecordType.TheVariants as types;
-    ghost use Rattle.std.proofs.Common.{rules};
-
     ghost wrapped = { λ x. rdata.ANAME x };
 
     ghost borrowed = { as_aname };
-
-    ghost kind = { λ _. types.ANAME };
-
-    ghost updates = { λ _. ⊥ };
 
     ghost exactly = { Prim.search rules };
 
@@ -155,18 +126,9 @@ impl RecordData for ANAME {
 }
 
 impl RecordData for CAA {
-    ghost use Rattle.dns_rdata.specs.Equal.{as_caa};
-    ghost use Rattle.dns_rdata.specs.declared.record_data.RData.TheVariants as rdata;
-    ghost use Rattle.dns_types.specs.declared.record_type.RecordType.TheVariants as types;
-    ghost use Rattle.std.proofs.Common.{rules};
-
     ghost wrapped = { λ x. rdata.CAA x };
 
     ghost borrowed = { as_caa };
-
-    ghost kind = { λ _. types.CAA };
-
-    ghost updates = { λ _. ⊥ };
 
     ghost exactly = { Prim.search rules };
 
@@ -191,18 +153,9 @@ impl RecordData for CAA {
 }
 
 impl RecordData for CERT {
-    ghost use Rattle.dns_rdata.specs.Equal.{as_cert};
-    ghost use Rattle.dns_rdata.specs.declared.record_data.RData.TheVariants as rdata;
-    ghost use Rattle.dns_types.specs.declared.record_type.RecordType.TheVariants as types;
-    ghost use Rattle.std.proofs.Common.{rules};
-
     ghost wrapped = { λ x. rdata.CERT x };
 
     ghost borrowed = { as_cert };
-
-    ghost kind = { λ _. types.CERT };
-
-    ghost updates = { λ _. ⊥ };
 
     ghost exactly = { Prim.search rules };
 
@@ -227,18 +180,9 @@ impl RecordData for CERT {
 }
 
 impl RecordData for CNAME {
-    ghost use Rattle.dns_rdata.specs.Equal.{as_cname};
-    ghost use Rattle.dns_rdata.specs.declared.record_data.RData.TheVariants as rdata;
-    ghost use Rattle.dns_types.specs.declared.record_type.RecordType.TheVariants as types;
-    ghost use Rattle.std.proofs.Common.{rules};
-
     ghost wrapped = { λ x. rdata.CNAME x };
 
     ghost borrowed = { as_cname };
-
-    ghost kind = { λ _. types.CNAME };
-
-    ghost updates = { λ _. ⊥ };
 
     ghost exactly = { Prim.search rules };
 
@@ -263,18 +207,9 @@ impl RecordData for CNAME {
 }
 
 impl RecordData for CSYNC {
-    ghost use Rattle.dns_rdata.specs.Equal.{as_csync};
-    ghost use Rattle.dns_rdata.specs.declared.record_data.RData.TheVariants as rdata;
-    ghost use Rattle.dns_types.specs.declared.record_type.RecordType.TheVariants as types;
-    ghost use Rattle.std.proofs.Common.{rules};
-
     ghost wrapped = { λ x. rdata.CSYNC x };
 
     ghost borrowed = { as_csync };
-
-    ghost kind = { λ _. types.CSYNC };
-
-    ghost updates = { λ _. ⊥ };
 
     ghost exactly = { Prim.search rules };
 
@@ -299,18 +234,9 @@ impl RecordData for CSYNC {
 }
 
 impl RecordData for HINFO {
-    ghost use Rattle.dns_rdata.specs.Equal.{as_hinfo};
-    ghost use Rattle.dns_rdata.specs.declared.record_data.RData.TheVariants as rdata;
-    ghost use Rattle.dns_types.specs.declared.record_type.RecordType.TheVariants as types;
-    ghost use Rattle.std.proofs.Common.{rules};
-
     ghost wrapped = { λ x. rdata.HINFO x };
 
     ghost borrowed = { as_hinfo };
-
-    ghost kind = { λ _. types.HINFO };
-
-    ghost updates = { λ _. ⊥ };
 
     ghost exactly = { Prim.search rules };
 
@@ -335,18 +261,9 @@ impl RecordData for HINFO {
 }
 
 impl RecordData for MX {
-    ghost use Rattle.dns_rdata.specs.Equal.{as_mx};
-    ghost use Rattle.dns_rdata.specs.declared.record_data.RData.TheVariants as rdata;
-    ghost use Rattle.dns_types.specs.declared.record_type.RecordType.TheVariants as types;
-    ghost use Rattle.std.proofs.Common.{rules};
-
     ghost wrapped = { λ x. rdata.MX x };
 
     ghost borrowed = { as_mx };
-
-    ghost kind = { λ _. types.MX };
-
-    ghost updates = { λ _. ⊥ };
 
     ghost exactly = { Prim.search rules };
 
@@ -371,18 +288,9 @@ impl RecordData for MX {
 }
 
 impl RecordData for NAPTR {
-    ghost use Rattle.dns_rdata.specs.Equal.{as_naptr};
-    ghost use Rattle.dns_rdata.specs.declared.record_data.RData.TheVariants as rdata;
-    ghost use Rattle.dns_types.specs.declared.record_type.RecordType.TheVariants as types;
-    ghost use Rattle.std.proofs.Common.{rules};
-
     ghost wrapped = { λ x. rdata.NAPTR x };
 
     ghost borrowed = { as_naptr };
-
-    ghost kind = { λ _. types.NAPTR };
-
-    ghost updates = { λ _. ⊥ };
 
     ghost exactly = { Prim.search rules };
 
@@ -407,18 +315,9 @@ impl RecordData for NAPTR {
 }
 
 impl RecordData for NULL {
-    ghost use Rattle.dns_rdata.specs.Equal.{as_null};
-    ghost use Rattle.dns_rdata.specs.declared.record_data.RData.TheVariants as rdata;
-    ghost use Rattle.dns_types.specs.declared.record_type.RecordType.TheVariants as types;
-    ghost use Rattle.std.proofs.Common.{rules};
-
     ghost wrapped = { λ x. rdata.NULL x };
 
     ghost borrowed = { as_null };
-
-    ghost kind = { λ _. types.NULL };
-
-    ghost updates = { λ _. ⊥ };
 
     ghost exactly = { Prim.search rules };
 
@@ -443,18 +342,9 @@ impl RecordData for NULL {
 }
 
 impl RecordData for NS {
-    ghost use Rattle.dns_rdata.specs.Equal.{as_ns};
-    ghost use Rattle.dns_rdata.specs.declared.record_data.RData.TheVariants as rdata;
-    ghost use Rattle.dns_types.specs.declared.record_type.RecordType.TheVariants as types;
-    ghost use Rattle.std.proofs.Common.{rules};
-
     ghost wrapped = { λ x. rdata.NS x };
 
     ghost borrowed = { as_ns };
-
-    ghost kind = { λ _. types.NS };
-
-    ghost updates = { λ _. ⊥ };
 
     ghost exactly = { Prim.search rules };
 
@@ -479,18 +369,9 @@ impl RecordData for NS {
 }
 
 impl RecordData for OPENPGPKEY {
-    ghost use Rattle.dns_rdata.specs.Equal.{as_openpgpkey};
-    ghost use Rattle.dns_rdata.specs.declared.record_data.RData.TheVariants as rdata;
-    ghost use Rattle.dns_types.specs.declared.record_type.RecordType.TheVariants as types;
-    ghost use Rattle.std.proofs.Common.{rules};
-
     ghost wrapped = { λ x. rdata.OPENPGPKEY x };
 
     ghost borrowed = { as_openpgpkey };
-
-    ghost kind = { λ _. types.OPENPGPKEY };
-
-    ghost updates = { λ _. ⊥ };
 
     ghost exactly = { Prim.search rules };
 
@@ -515,18 +396,9 @@ impl RecordData for OPENPGPKEY {
 }
 
 impl RecordData for PTR {
-    ghost use Rattle.dns_rdata.specs.Equal.{as_ptr};
-    ghost use Rattle.dns_rdata.specs.declared.record_data.RData.TheVariants as rdata;
-    ghost use Rattle.dns_types.specs.declared.record_type.RecordType.TheVariants as types;
-    ghost use Rattle.std.proofs.Common.{rules};
-
     ghost wrapped = { λ x. rdata.PTR x };
 
     ghost borrowed = { as_ptr };
-
-    ghost kind = { λ _. types.PTR };
-
-    ghost updates = { λ _. ⊥ };
 
     ghost exactly = { Prim.search rules };
 
@@ -551,18 +423,9 @@ impl RecordData for PTR {
 }
 
 impl RecordData for SMIMEA {
-    ghost use Rattle.dns_rdata.specs.Equal.{as_smimea};
-    ghost use Rattle.dns_rdata.specs.declared.record_data.RData.TheVariants as rdata;
-    ghost use Rattle.dns_types.specs.declared.record_type.RecordType.TheVariants as types;
-    ghost use Rattle.std.proofs.Common.{rules};
-
     ghost wrapped = { λ x. rdata.SMIMEA x };
 
     ghost borrowed = { as_smimea };
-
-    ghost kind = { λ _. types.SMIMEA };
-
-    ghost updates = { λ _. ⊥ };
 
     ghost exactly = { Prim.search rules };
 
@@ -587,18 +450,9 @@ impl RecordData for SMIMEA {
 }
 
 impl RecordData for SOA {
-    ghost use Rattle.dns_rdata.specs.Equal.{as_soa};
-    ghost use Rattle.dns_rdata.specs.declared.record_data.RData.TheVariants as rdata;
-    ghost use Rattle.dns_types.specs.declared.record_type.RecordType.TheVariants as types;
-    ghost use Rattle.std.proofs.Common.{rules};
-
     ghost wrapped = { λ x. rdata.SOA x };
 
     ghost borrowed = { as_soa };
-
-    ghost kind = { λ _. types.SOA };
-
-    ghost updates = { λ _. ⊥ };
 
     ghost exactly = { Prim.search rules };
 
@@ -623,18 +477,9 @@ impl RecordData for SOA {
 }
 
 impl RecordData for SRV {
-    ghost use Rattle.dns_rdata.specs.Equal.{as_srv};
-    ghost use Rattle.dns_rdata.specs.declared.record_data.RData.TheVariants as rdata;
-    ghost use Rattle.dns_types.specs.declared.record_type.RecordType.TheVariants as types;
-    ghost use Rattle.std.proofs.Common.{rules};
-
     ghost wrapped = { λ x. rdata.SRV x };
 
     ghost borrowed = { as_srv };
-
-    ghost kind = { λ _. types.SRV };
-
-    ghost updates = { λ _. ⊥ };
 
     ghost exactly = { Prim.search rules };
 
@@ -659,18 +504,9 @@ impl RecordData for SRV {
 }
 
 impl RecordData for SSHFP {
-    ghost use Rattle.dns_rdata.specs.Equal.{as_sshfp};
-    ghost use Rattle.dns_rdata.specs.declared.record_data.RData.TheVariants as rdata;
-    ghost use Rattle.dns_types.specs.declared.record_type.RecordType.TheVariants as types;
-    ghost use Rattle.std.proofs.Common.{rules};
-
     ghost wrapped = { λ x. rdata.SSHFP x };
 
     ghost borrowed = { as_sshfp };
-
-    ghost kind = { λ _. types.SSHFP };
-
-    ghost updates = { λ _. ⊥ };
 
     ghost exactly = { Prim.search rules };
 
@@ -695,18 +531,9 @@ impl RecordData for SSHFP {
 }
 
 impl RecordData for TLSA {
-    ghost use Rattle.dns_rdata.specs.Equal.{as_tlsa};
-    ghost use Rattle.dns_rdata.specs.declared.record_data.RData.TheVariants as rdata;
-    ghost use Rattle.dns_types.specs.declared.record_type.RecordType.TheVariants as types;
-    ghost use Rattle.std.proofs.Common.{rules};
-
     ghost wrapped = { λ x. rdata.TLSA x };
 
     ghost borrowed = { as_tlsa };
-
-    ghost kind = { λ _. types.TLSA };
-
-    ghost updates = { λ _. ⊥ };
 
     ghost exactly = { Prim.search rules };
 
@@ -731,18 +558,9 @@ impl RecordData for TLSA {
 }
 
 impl RecordData for TXT {
-    ghost use Rattle.dns_rdata.specs.Equal.{as_txt};
-    ghost use Rattle.dns_rdata.specs.declared.record_data.RData.TheVariants as rdata;
-    ghost use Rattle.dns_types.specs.declared.record_type.RecordType.TheVariants as types;
-    ghost use Rattle.std.proofs.Common.{rules};
-
     ghost wrapped = { λ x. rdata.TXT x };
 
     ghost borrowed = { as_txt };
-
-    ghost kind = { λ _. types.TXT };
-
-    ghost updates = { λ _. ⊥ };
 
     ghost exactly = { Prim.search rules };
 
@@ -767,18 +585,9 @@ impl RecordData for TXT {
 }
 
 impl RecordData for RData {
-    ghost use Rattle.std.specs.Prelude.{Some, IsTrue};
-    ghost use Rattle.dns_rdata.specs.Data.{type_of};
-    ghost use Rattle.dns_rdata.specs.Laws.{IsUpdate};
-    ghost use Rattle.std.proofs.Common.{rules};
-
     ghost wrapped = { λ v. v };
 
     ghost borrowed = { λ v. Some v };
-
-    ghost kind = { type_of };
-
-    ghost updates = { IsUpdate };
 
     ghost exactly = { Prim.search rules };
 

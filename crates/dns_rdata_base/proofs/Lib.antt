@@ -5,3 +5,4 @@ pub mod TextWrites
 pub mod Lacking
 pub mod FieldsBehind
 pub mod SoaValues
+pub mod NumberedLaws

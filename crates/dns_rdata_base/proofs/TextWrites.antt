@@ -1,6 +1,6 @@
 -- Character strings that are written one after the other.
-use Rattle.std.proofs.Common.{◌≡◌, ℕ, ◌+◌, ◌<◌, List, [], ◌∷◌, ◌++◌, length, take, drop, get_or, sym, ap, ◌∙◌, arith, append_assoc}
-use Rattle.std.specs.List.{flat_map, AllByRecursion}
+use Rattle.std.proofs.Common.{◌≡◌, ℕ, ◌+◌, ◌<◌, List, [], ◌∷◌, ◌++◌, length, take, drop, get_or, sym, ap, ◌∙◌, arith, append_assoc, nat_le, false, refl}
+use Rattle.std.specs.List.{flat_map, list_all, AllByRecursion}
 use Rattle.std.proofs.lemmas.List.{append-nil, length-append, drop_more, take-append-drop}
 use Rattle.std.proofs.lemmas.List.Concat.{flat_map-cons}
 use Rattle.std.proofs.lemmas.Grind.{flat_map-append}
@@ -9,15 +9,15 @@ use Rattle.dns_fields.specs.Fields.{Text, Texts, field_octets}
 use Rattle.dns_fields.specs.Pieces.{string}
 use Rattle.dns_names_wire.specs.State.{Writing}
 use Rattle.dns_names_wire.specs.Words.{AppendedField, StoppedField, NoRoomField, UnfitField}
-use Rattle.dns_names_wire.proofs.FieldWrites.{keeps_same, keeps_then, because_map}
+use Rattle.dns_names_wire.proofs.FieldWrites.{keeps_same, keeps_then, because_map, and_false}
 
 fits_push : (xs : List (List ℕ)) (s : List ℕ) → AllByRecursion (λ s. length s < 256) xs → length s < 256 → AllByRecursion (λ s. length s < 256) (xs ++ s ∷ [])
 fits_push [] s a h = (h, tt)
 fits_push (x ∷ xs) s a h = (a.0, fits_push xs s a.1 h)
 
-fits_inner : (xs : List (List ℕ)) (s : List ℕ) (ys : List (List ℕ)) → AllByRecursion (λ s. length s < 256) (xs ++ s ∷ ys) → length s < 256
-fits_inner [] s ys a = a.0
-fits_inner (x ∷ xs) s ys a = fits_inner xs s ys a.1
+long_inner : (xs : List (List ℕ)) (s : List ℕ) (ys : List (List ℕ)) → nat_le (length s) 255 ≡ false → list_all (λ s. nat_le (length s) 255) (xs ++ s ∷ ys) ≡ false
+long_inner [] s ys e = rw e refl
+long_inner (x ∷ xs) s ys e = rw (long_inner xs s ys e) (and_false (nat_le (length x) 255))
 
 joined : (xs : List (List ℕ)) (s : List ℕ) (ys : List (List ℕ)) → flat_map string (xs ++ s ∷ ys) ≡ flat_map string xs ++ (string s ++ flat_map string ys)
 joined xs s ys = flat_map-append string xs (s ∷ ys) ∙ ap (λ (t : List ℕ). flat_map string xs ++ t) (flat_map-cons string s ys)
@@ -43,7 +43,7 @@ stopped_strings {e} {w} {b} {n} xs s ys f g = record {
   };
   why = because_map e _ _ _ _
       (λ (r : NoRoomField b Text s). record { full = omega (arith, r.full, f.keeps.limit, ap length f.field.is.1, length-append w.octets (flat_map string xs), ap length (joined xs s ys), length-append (flat_map string xs) (string s ++ flat_map string ys), length-append (string s) (flat_map string ys)) })
-      (λ (u : UnfitField Text s). record { unfit = λ h. u.unfit (fits_inner xs s ys h) })
+      (λ (u : UnfitField Text s). record { unfit = long_inner xs s ys u.unfit })
       g.why;
 }
 

@@ -1,9 +1,12 @@
 -- A: an IPv4 address (RFC 1035, 3.4.1).
-use Rattle.std.specs.Prelude.{ℕ, ◌<◌, List, [], ◌∷◌}
+use Rattle.std.specs.Prelude.{◌≡◌, ℕ, List, [], ◌∷◌, length}
 use Rattle.std.specs.Net.Addr.{ipv4_octets}
 use Rattle.std.specs.Net.Text.{ipv4_text}
-use Rattle.std.proofs.Common.{arith}
-use Rattle.dns_fields.specs.Fields.{Kind, Octets, Values, Stands}
+use Rattle.dns_types.specs.declared.error.DecodeError.{DecodeError}
+use Rattle.dns_types.specs.declared.error.DecodeError.TheVariants as decode
+use Rattle.dns_fields.specs.Fields.{Kind, Octets, Values}
+use Rattle.dns_names_wire.specs.State.{Reading}
+use Rattle.dns_names_wire.specs.Words.{LacksOctets}
 use Rattle.dns_rdata_base.specs.declared.a.A.{A}
 
 -- the four octets of the address
@@ -17,6 +20,6 @@ a_fields x = (ipv4_octets x.0, tt)
 abbrev pub a_text : A → List ℕ
 a_text x = ipv4_text (ipv4_octets x.0)
 
--- it takes an octet
-pub a_takes : (m : List ℕ) (p : ℕ) (x : A) (q : ℕ) → Stands m p a_shape (a_fields x) q → p < q
-a_takes m p x q s = omega (arith, s.1.is.0, s.1.is.1.ends, s.2)
+-- Why an address is refused: fewer than its octets are left. They are taken.
+abbrev pub a_refusal : Reading → DecodeError → Reading → Type 0
+a_refusal old e new = (e ≡ decode.InsufficientBytes) × LacksOctets old 4 × (new.index ≡ length old.message)

@@ -1,9 +1,12 @@
 -- AAAA: an IPv6 address (RFC 3596, 2.2).
-use Rattle.std.specs.Prelude.{ℕ, ◌<◌, List, [], ◌∷◌}
+use Rattle.std.specs.Prelude.{◌≡◌, ◌+◌, ◌-◌, ◌*◌, ◌/◌, ℕ, List, [], ◌∷◌, length}
 use Rattle.std.specs.Net.Addr.{ipv6_octets, ipv6_segments}
 use Rattle.std.specs.Net.Text.{ipv6_text}
-use Rattle.std.proofs.Common.{arith}
-use Rattle.dns_fields.specs.Fields.{Kind, Octets, Values, Stands}
+use Rattle.dns_types.specs.declared.error.DecodeError.{DecodeError}
+use Rattle.dns_types.specs.declared.error.DecodeError.TheVariants as decode
+use Rattle.dns_fields.specs.Fields.{Kind, Octets, Values}
+use Rattle.dns_names_wire.specs.State.{Reading}
+use Rattle.dns_names_wire.specs.Words.{LacksOctets}
 use Rattle.dns_rdata_base.specs.declared.aaaa.AAAA.{AAAA}
 
 -- the sixteen octets of the address, the highest first
@@ -17,6 +20,6 @@ aaaa_fields x = (ipv6_octets x.0, tt)
 abbrev pub aaaa_text : AAAA → List ℕ
 aaaa_text x = ipv6_text (ipv6_segments x.0)
 
--- it takes an octet
-pub aaaa_takes : (m : List ℕ) (p : ℕ) (x : AAAA) (q : ℕ) → Stands m p aaaa_shape (aaaa_fields x) q → p < q
-aaaa_takes m p x q s = omega (arith, s.1.is.0, s.1.is.1.ends, s.2)
+-- Why an address is refused: fewer than its octets are left. Whole pairs of them are taken.
+abbrev pub aaaa_refusal : Reading → DecodeError → Reading → Type 0
+aaaa_refusal old e new = (e ≡ decode.InsufficientBytes) × LacksOctets old 16 × (new.index ≡ old.index + (length old.message - old.index) / 2 * 2)

@@ -12,3 +12,4 @@ pub mod Refusing
 pub mod SOA
 pub mod SRV
 pub mod TXT
+pub mod Taking

@@ -1,8 +1,7 @@
 -- Enums whose variants have numbers: which variant a number gives, and that they are compared by number and then by
 -- variant, which is the place in the declaration.
 use Rattle.std.specs.Prelude.{◌≡◌, ℕ, ◌==◌, Bool, List, find, unwrap_or, nat_eq}
-use Rattle.std.specs.Cmp.{IsEquivalence, IsTotalOrder, and_equiv, on_equiv, on_total, then_total, both_tied, nat_eq_equiv, nat_cmp_total, unsigned_ties}
-use Rattle.std.specs.Ordering.{on, nat_cmp, then_cmp, eq_of_both, is_eq}
+use Rattle.std.specs.Ordering.{on, nat_cmp, then_cmp, eq_of_both}
 use Rattle.std.specs.declared.cmp.Ordering.{Ordering}
 use Rattle.dns_fields.specs.Fields.{Number, Field}
 
@@ -15,16 +14,6 @@ numbered_eq number variant = eq_of_both (on number nat_eq) (on variant nat_eq)
 
 abbrev pub numbered_cmp : {T : Type 0} → (T → ℕ) → (T → ℕ) → T → T → Ordering
 numbered_cmp number variant = then_cmp (on number nat_cmp) (on variant nat_cmp)
-
-pub numbered_equiv : {T : Type 0} (number variant : T → ℕ) → IsEquivalence (numbered_eq number variant)
-numbered_equiv number variant = and_equiv (on_equiv number nat_eq_equiv) (on_equiv variant nat_eq_equiv)
-
-pub numbered_total : {T : Type 0} (number variant : T → ℕ) → IsTotalOrder (numbered_cmp number variant)
-numbered_total number variant = then_total (on_total number nat_cmp_total) (on_total variant nat_cmp_total)
-
--- `==` holds exactly where the order answers Equal
-pub numbered_ties : {T : Type 0} (number variant : T → ℕ) (a b : T) → numbered_eq number variant a b ≡ is_eq (numbered_cmp number variant a b)
-numbered_ties number variant a b = both_tied _ _ (nat_cmp (number a) (number b)) (nat_cmp (variant a) (variant b)) (unsigned_ties (number a) (number b)) (unsigned_ties (variant a) (variant b))
 
 -- the value is the one that its number gives, and the number stands from p to q in so many octets
 pub record NumberedAt {T : Type 0} (width : ℕ) (number : T → ℕ) (of : ℕ → T) (m : List ℕ) (p : ℕ) (x : T) (q : ℕ) : Type 0 where

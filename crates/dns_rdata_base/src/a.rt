@@ -3,8 +3,9 @@
 ghost use Rattle.std.specs.Prelude.{◌≡◌, ◌+◌, ◌<◌, ◌≤◌, ℕ, List, [], ◌∷◌, length, length as list_length, OnErr, IfErr};
 ghost use Rattle.std.specs.Net.Addr.{ipv4_octets};
 ghost use Rattle.dns_names_wire.specs.Words.{ReadsIf, ReadsBy, ReadsWindow, Emits, LacksOctets, always};
-ghost use Rattle.dns_rdata_base.specs.A.{a_shape, a_fields};
+ghost use Rattle.dns_rdata_base.specs.A.{a_shape, a_fields, a_refusal};
 
+use crate::decoding::{DecodesFields, read_whole};
 use crate::traits::{RecordDataDecodable, TakesOctet};
 use dns_names_wire::{
     BinDecodable, BinDecoder, BinEncodable, BinEncoder, DecodeError, ProtoError, Restrict,
@@ -31,7 +32,7 @@ impl BinDecodable for A {
 
     ghost stands = { λ m p x q. Stands m p a_shape (a_fields x) q };
 
-    /// Reads four octets. Where fewer are left it takes them, and is refused.
+    /// Reads four octets. Where fewer are left it takes them, and is refused by `InsufficientBytes`.
     #[inline]
     fn read(decoder: &mut BinDecoder<'_>) -> Result<A, DecodeError>
         ensures reads { ReadsBy (λ m p x q. Stands m p a_shape (a_fields x) q) result decoder.old decoder.new }
@@ -45,9 +46,28 @@ impl BinDecodable for A {
 }
 
 impl TakesOctet for A {
-    ghost use Rattle.dns_rdata_base.specs.A.{a_takes};
+    ghost use Rattle.dns_rdata_base.specs.Taking.{a_takes};
 
     ghost takes = { a_takes };
+}
+
+impl DecodesFields for A {
+    ghost decoded = { a_shape };
+
+    ghost asked = { λ _. Unit {0} };
+
+    ghost taken = { a_fields };
+
+    ghost refusal = { λ old e new. a_refusal old e new };
+
+    ghost made = { λ _. Unit {0} };
+
+    ghost ends = { (tt, (tt, tt)) };
+
+    #[inline]
+    fn read_fields(decoder: &mut BinDecoder<'_>) -> Result<A, DecodeError> {
+        A::read(decoder)
+    }
 }
 
 impl RecordDataDecodable for A {
@@ -61,11 +81,10 @@ impl RecordDataDecodable for A {
     #[inline]
     fn read_data(decoder: &mut BinDecoder<'_>, length: Restrict<u16>) -> Result<A, DecodeError>
         ensures window { ReadsWindow a_shape (λ _. Unit {0}) a_fields length result decoder.old decoder.new }
-        ensures lacking { IfErr result (λ e. (e ≡ DecodeError.InsufficientBytes) × LacksOctets decoder.old 4) }
-        ensures stopped { OnErr result (decoder.new.index ≡ list_length decoder.old.message) }
+        ensures fields { ReadsIf a_shape (always a_shape) a_fields result decoder.old decoder.new }
+        ensures refused { IfErr result (λ e. a_refusal decoder.old e decoder.new) }
     {
-        let _start = decoder.index();
-        A::read(decoder)
+        read_whole(decoder, length)
     }
 }
 
@@ -81,7 +100,8 @@ impl BinEncodable for A {
 
 impl PartialEq for A {
     ghost use Rattle.std.specs.Cmp.{partial_equiv_from_equiv, on_equiv};
-    ghost use Rattle.dns_fields.specs.Equal.{values_eq, values_equiv};
+    ghost use Rattle.dns_fields.specs.Equal.{values_eq};
+    ghost use Rattle.dns_fields.proofs.Equivalences.{values_equiv};
 
     ghost eq = { λ a b. values_eq a_shape (a_fields a) (a_fields b) };
 
@@ -95,7 +115,7 @@ impl PartialEq for A {
 
 impl Eq for A {
     ghost use Rattle.std.specs.Cmp.{on_equiv};
-    ghost use Rattle.dns_fields.specs.Equal.{values_equiv};
+    ghost use Rattle.dns_fields.proofs.Equivalences.{values_equiv};
 
     ghost laws = { on_equiv a_fields (values_equiv a_shape) };
 }

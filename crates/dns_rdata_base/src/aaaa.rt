@@ -3,8 +3,9 @@
 ghost use Rattle.std.specs.Prelude.{◌≡◌, ◌+◌, ◌-◌, ◌*◌, ◌/◌, ◌<◌, ◌≤◌, ℕ, List, [], ◌∷◌, length, length as list_length, OnErr, IfErr};
 ghost use Rattle.std.specs.Net.Addr.{ipv6_segments, ipv6_octets};
 ghost use Rattle.dns_names_wire.specs.Words.{ReadsIf, ReadsBy, ReadsWindow, Emits, LacksOctets, always};
-ghost use Rattle.dns_rdata_base.specs.AAAA.{aaaa_shape, aaaa_fields};
+ghost use Rattle.dns_rdata_base.specs.AAAA.{aaaa_shape, aaaa_fields, aaaa_refusal};
 
+use crate::decoding::{DecodesFields, read_whole};
 use crate::traits::{RecordDataDecodable, TakesOctet};
 use dns_names_wire::{
     BinDecodable, BinDecoder, BinEncodable, BinEncoder, DecodeError, ProtoError, Restrict,
@@ -33,7 +34,8 @@ impl BinDecodable for AAAA {
 
     ghost stands = { λ m p x q. Stands m p aaaa_shape (aaaa_fields x) q };
 
-    /// Reads sixteen octets, two by two. Where fewer are left it takes the pairs that are there, and is refused.
+    /// Reads sixteen octets, two by two. Where fewer are left it takes the pairs that are there, and is refused
+    /// by `InsufficientBytes`.
     #[inline]
     fn read(decoder: &mut BinDecoder<'_>) -> Result<AAAA, DecodeError>
         ensures reads { ReadsBy (λ m p x q. Stands m p aaaa_shape (aaaa_fields x) q) result decoder.old decoder.new }
@@ -47,9 +49,28 @@ impl BinDecodable for AAAA {
 }
 
 impl TakesOctet for AAAA {
-    ghost use Rattle.dns_rdata_base.specs.AAAA.{aaaa_takes};
+    ghost use Rattle.dns_rdata_base.specs.Taking.{aaaa_takes};
 
     ghost takes = { aaaa_takes };
+}
+
+impl DecodesFields for AAAA {
+    ghost decoded = { aaaa_shape };
+
+    ghost asked = { λ _. Unit {0} };
+
+    ghost taken = { aaaa_fields };
+
+    ghost refusal = { λ old e new. aaaa_refusal old e new };
+
+    ghost made = { λ _. Unit {0} };
+
+    ghost ends = { (tt, (tt, tt)) };
+
+    #[inline]
+    fn read_fields(decoder: &mut BinDecoder<'_>) -> Result<AAAA, DecodeError> {
+        AAAA::read(decoder)
+    }
 }
 
 impl RecordDataDecodable for AAAA {
@@ -63,11 +84,10 @@ impl RecordDataDecodable for AAAA {
     #[inline]
     fn read_data(decoder: &mut BinDecoder<'_>, length: Restrict<u16>) -> Result<AAAA, DecodeError>
         ensures window { ReadsWindow aaaa_shape (λ _. Unit {0}) aaaa_fields length result decoder.old decoder.new }
-        ensures lacking { IfErr result (λ e. (e ≡ DecodeError.InsufficientBytes) × LacksOctets decoder.old 16) }
-        ensures stopped { OnErr result (decoder.new.index ≡ decoder.old.index + (list_length decoder.old.message - decoder.old.index) / 2 * 2) }
+        ensures fields { ReadsIf aaaa_shape (always aaaa_shape) aaaa_fields result decoder.old decoder.new }
+        ensures refused { IfErr result (λ e. aaaa_refusal decoder.old e decoder.new) }
     {
-        let _start = decoder.index();
-        AAAA::read(decoder)
+        read_whole(decoder, length)
     }
 }
 
@@ -83,7 +103,8 @@ impl BinEncodable for AAAA {
 
 impl PartialEq for AAAA {
     ghost use Rattle.std.specs.Cmp.{partial_equiv_from_equiv, on_equiv};
-    ghost use Rattle.dns_fields.specs.Equal.{values_eq, values_equiv};
+    ghost use Rattle.dns_fields.specs.Equal.{values_eq};
+    ghost use Rattle.dns_fields.proofs.Equivalences.{values_equiv};
 
     ghost eq = { λ a b. values_eq aaaa_shape (aaaa_fields a) (aaaa_fields b) };
 
@@ -97,7 +118,7 @@ impl PartialEq for AAAA {
 
 impl Eq for AAAA {
     ghost use Rattle.std.specs.Cmp.{on_equiv};
-    ghost use Rattle.dns_fields.specs.Equal.{values_equiv};
+    ghost use Rattle.dns_fields.proofs.Equivalences.{values_equiv};
 
     ghost laws = { on_equiv aaaa_fields (values_equiv aaaa_shape) };
 }

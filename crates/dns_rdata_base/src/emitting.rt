@@ -2,7 +2,7 @@
 
 ghost use Rattle.std.specs.Prelude.{List};
 ghost use Rattle.dns_fields.specs.Fields.{Kind, Values};
-ghost use Rattle.dns_names_wire.specs.Words.{Emits, EmitsAs, Keeps};
+ghost use Rattle.dns_names_wire.specs.Words.{Emits, EmitsAs, Extends, Keeps};
 
 use dns_names_wire::{BinEncoder, ProtoError, RDataEncoding};
 
@@ -22,14 +22,15 @@ pub trait EncodesFields {
 /// Appends the fields, names in this mode. The encoder is then in the mode that it was in, refused or not.
 pub fn emit_in<T: EncodesFields>(
     mode: RDataEncoding,
-    data: &T,
+    value: &T,
     encoder: &mut BinEncoder<'_>,
 ) -> Result<(), ProtoError>
-    ensures emits { EmitsAs mode T.emitted (T.parts data.now) result encoder.old encoder.new }
+    ensures emits { EmitsAs mode T.emitted (T.parts value.now) result encoder.old encoder.new }
+    ensures extends { Extends encoder.old encoder.new }
     ensures keeps { Keeps encoder.old encoder.new }
 {
     let earlier = encoder.with_rdata_behavior(mode);
-    let outcome = data.emit_fields(encoder);
+    let outcome = value.emit_fields(encoder);
     encoder.with_rdata_behavior(earlier);
     outcome
 }

@@ -6,6 +6,7 @@ ghost use Rattle.std.specs.String.{string_bytes};
 ghost use Rattle.dns_names_wire.specs.Words.{ReadsIf, ReadsBy, ReadsWindow, Emits, always};
 ghost use Rattle.dns_rdata_base.specs.HINFO.{hinfo_shape, hinfo_fields, hinfo_refusal};
 
+use crate::decoding::{DecodesFields, read_whole};
 use crate::traits::RecordDataDecodable;
 use bstr::BStr;
 use dns_names_wire::{
@@ -18,9 +19,9 @@ use std::fmt;
 /// A machine and its system, each a character string (RFC 1035, 3.3.2).
 #[derive(Debug, Drop, Hash)]
 pub struct HINFO {
-    /// The machine.
+    /// The machine; at most 255 octets are emitted.
     pub cpu: Octets,
-    /// The operating system.
+    /// The operating system; at most 255 octets are emitted.
     pub os: Octets,
 }
 
@@ -53,7 +54,7 @@ impl BinDecodable for HINFO {
 
     ghost stands = { λ m p x q. Stands m p hinfo_shape (hinfo_fields x) q };
 
-    /// Reads two character strings. Where one lacks octets it is refused: the strings before it, and its length octet
+    /// Reads two character strings. Where one lacks octets it is refused by `InsufficientBytes`: the strings before it, and its length octet
     /// where that is there, are taken. Memory is asked for once for each string, when both were read.
     #[tactic(auto, using(dns_names_wire::proofs::FieldReads::reading))]
     fn read(decoder: &mut BinDecoder<'_>) -> Result<HINFO, DecodeError>
@@ -70,6 +71,25 @@ impl BinDecodable for HINFO {
     }
 }
 
+impl DecodesFields for HINFO {
+    ghost decoded = { hinfo_shape };
+
+    ghost asked = { λ _. Unit {0} };
+
+    ghost taken = { hinfo_fields };
+
+    ghost refusal = { λ old e new. hinfo_refusal old e new };
+
+    ghost made = { λ _. Unit {0} };
+
+    ghost ends = { (tt, (tt, (tt, tt))) };
+
+    #[inline]
+    fn read_fields(decoder: &mut BinDecoder<'_>) -> Result<HINFO, DecodeError> {
+        HINFO::read(decoder)
+    }
+}
+
 impl RecordDataDecodable for HINFO {
     ghost kinds = { hinfo_shape };
 
@@ -81,10 +101,10 @@ impl RecordDataDecodable for HINFO {
     #[inline]
     fn read_data(decoder: &mut BinDecoder<'_>, length: Restrict<u16>) -> Result<HINFO, DecodeError>
         ensures window { ReadsWindow hinfo_shape (λ _. Unit {0}) hinfo_fields length result decoder.old decoder.new }
+        ensures fields { ReadsIf hinfo_shape (always hinfo_shape) hinfo_fields result decoder.old decoder.new }
         ensures refused { IfErr result (λ e. hinfo_refusal decoder.old e decoder.new) }
     {
-        let _start = decoder.index();
-        HINFO::read(decoder)
+        read_whole(decoder, length)
     }
 }
 
@@ -103,7 +123,8 @@ impl BinEncodable for HINFO {
 
 impl PartialEq for HINFO {
     ghost use Rattle.std.specs.Cmp.{partial_equiv_from_equiv, on_equiv};
-    ghost use Rattle.dns_fields.specs.Equal.{values_eq, values_equiv};
+    ghost use Rattle.dns_fields.specs.Equal.{values_eq};
+    ghost use Rattle.dns_fields.proofs.Equivalences.{values_equiv};
 
     ghost eq = { λ a b. values_eq hinfo_shape (hinfo_fields a) (hinfo_fields b) };
 
@@ -117,7 +138,7 @@ impl PartialEq for HINFO {
 
 impl Eq for HINFO {
     ghost use Rattle.std.specs.Cmp.{on_equiv};
-    ghost use Rattle.dns_fields.specs.Equal.{values_equiv};
+    ghost use Rattle.dns_fields.proofs.Equivalences.{values_equiv};
 
     ghost laws = { on_equiv hinfo_fields (values_equiv hinfo_shape) };
 }

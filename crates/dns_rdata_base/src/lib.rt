@@ -3,6 +3,7 @@
 
 pub mod a;
 pub mod aaaa;
+pub mod decoding;
 pub mod emitting;
 pub mod hinfo;
 pub mod mx;
@@ -19,6 +20,7 @@ pub mod txt;
 
 pub use a::A;
 pub use aaaa::AAAA;
+pub use decoding::{DecodesFields, read_whole};
 pub use emitting::{EncodesFields, emit_in};
 pub use hinfo::HINFO;
 pub use mx::MX;

@@ -3,10 +3,11 @@
 ghost use Rattle.std.specs.Prelude.{◌≡◌, IfErr, IfOk};
 ghost use Rattle.dns_fields.specs.Fields.{Stands};
 ghost use Rattle.dns_fields.specs.declared.RDataEncoding.TheVariants as modes;
-ghost use Rattle.dns_names_wire.specs.Words.{ReadsIf, ReadsBy, ReadsWindow, Emits, EmitsAs, Keeps, always};
+ghost use Rattle.dns_names_wire.specs.Words.{ReadsIf, ReadsBy, ReadsWindow, Emits, EmitsAs, Extends, Keeps, always};
 ghost use Rattle.dns_rdata_base.specs.Refusing.{IsLack};
 ghost use Rattle.dns_rdata_base.specs.MX.{mx_shape, mx_fields};
 
+use crate::decoding::{DecodesFields, read_whole};
 use crate::emitting::{EncodesFields, emit_in};
 use crate::traits::RecordDataDecodable;
 use dns_names_wire::{
@@ -16,10 +17,10 @@ use dns_names_wire::{
 use std::alloc::AllocError;
 use std::fmt;
 
-/// A host that takes mail for the owner (RFC 1035, 3.3.9).
+/// A host that takes mail for the owner: a preference of two octets and a name (RFC 1035, 3.3.9).
 #[derive(Debug, Drop, Hash)]
 pub struct MX {
-    /// Lower values are tried first.
+    /// Lower values are tried first; 16 bits.
     pub preference: u16,
     /// The host.
     pub exchange: Name,
@@ -40,7 +41,8 @@ impl MX {
 impl BinDecodable for MX {
     ghost stands = { λ m p x q. Stands m p mx_shape (mx_fields x) q };
 
-    /// Reads the fields in order. Where one does not stand it is refused, and those before it are taken.
+    /// Reads the fields in order. Where one does not stand it is refused, and those before it are taken: by
+    /// `InsufficientBytes` where a number lacks octets, `NameInvalid` where no name stands, `Memory` where memory runs out.
     #[tactic(auto, using(dns_names_wire::proofs::FieldReads::reading))]
     fn read(decoder: &mut BinDecoder<'_>) -> Result<MX, DecodeError>
         ensures reads { ReadsBy (λ m p x q. Stands m p mx_shape (mx_fields x) q) result decoder.old decoder.new }
@@ -56,6 +58,25 @@ impl BinDecodable for MX {
     }
 }
 
+impl DecodesFields for MX {
+    ghost decoded = { mx_shape };
+
+    ghost asked = { λ _. Unit {0} };
+
+    ghost taken = { mx_fields };
+
+    ghost refusal = { λ old e new. IsLack mx_shape old e new };
+
+    ghost made = { λ _. Unit {0} };
+
+    ghost ends = { (tt, (tt, (tt, tt))) };
+
+    #[inline]
+    fn read_fields(decoder: &mut BinDecoder<'_>) -> Result<MX, DecodeError> {
+        MX::read(decoder)
+    }
+}
+
 impl RecordDataDecodable for MX {
     ghost kinds = { mx_shape };
 
@@ -67,10 +88,10 @@ impl RecordDataDecodable for MX {
     #[inline]
     fn read_data(decoder: &mut BinDecoder<'_>, length: Restrict<u16>) -> Result<MX, DecodeError>
         ensures window { ReadsWindow mx_shape (λ _. Unit {0}) mx_fields length result decoder.old decoder.new }
+        ensures fields { ReadsIf mx_shape (always mx_shape) mx_fields result decoder.old decoder.new }
         ensures refused { IfErr result (λ e. IsLack mx_shape decoder.old e decoder.new) }
     {
-        let _start = decoder.index();
-        MX::read(decoder)
+        read_whole(decoder, length)
     }
 }
 
@@ -90,9 +111,12 @@ impl EncodesFields for MX {
 impl BinEncodable for MX {
     ghost emits = { λ x r old new. EmitsAs modes.StandardRecord mx_shape (mx_fields x) r old new };
 
-    /// Appends the octets; a name ends with a pointer to an earlier place where it can (RFC 1035, 4.1.4). The encoder is then in the mode that it was in, refused or not.
+    /// Appends the octets; a name ends with a pointer to an earlier place where it can (RFC 1035, 4.1.4). It is
+    /// refused by `MaxBufferSizeExceeded` or `Memory` alone. The encoder is then in the mode that it was in, refused or
+    /// not.
     fn emit(&self, encoder: &mut BinEncoder<'_>) -> Result<(), ProtoError>
         ensures emits { EmitsAs RDataEncoding.StandardRecord mx_shape (mx_fields self.now) result encoder.old encoder.new }
+        ensures extends { Extends encoder.old encoder.new }
         ensures keeps { Keeps encoder.old encoder.new }
     {
         emit_in(RDataEncoding::StandardRecord, self, encoder)
@@ -101,7 +125,8 @@ impl BinEncodable for MX {
 
 impl PartialEq for MX {
     ghost use Rattle.std.specs.Cmp.{partial_equiv_from_equiv, on_equiv};
-    ghost use Rattle.dns_fields.specs.Equal.{values_eq, values_equiv};
+    ghost use Rattle.dns_fields.specs.Equal.{values_eq};
+    ghost use Rattle.dns_fields.proofs.Equivalences.{values_equiv};
 
     ghost eq = { λ a b. values_eq mx_shape (mx_fields a) (mx_fields b) };
 
@@ -115,7 +140,7 @@ impl PartialEq for MX {
 
 impl Eq for MX {
     ghost use Rattle.std.specs.Cmp.{on_equiv};
-    ghost use Rattle.dns_fields.specs.Equal.{values_equiv};
+    ghost use Rattle.dns_fields.proofs.Equivalences.{values_equiv};
 
     ghost laws = { on_equiv mx_fields (values_equiv mx_shape) };
 }

@@ -3,10 +3,11 @@
 ghost use Rattle.std.specs.Prelude.{◌≡◌, IfErr, IfOk};
 ghost use Rattle.dns_fields.specs.Fields.{Stands};
 ghost use Rattle.dns_fields.specs.declared.RDataEncoding.TheVariants as modes;
-ghost use Rattle.dns_names_wire.specs.Words.{ReadsIf, ReadsBy, ReadsWindow, Emits, EmitsAs, Keeps, always};
+ghost use Rattle.dns_names_wire.specs.Words.{ReadsIf, ReadsBy, ReadsWindow, Emits, EmitsAs, Extends, Keeps, always};
 ghost use Rattle.dns_rdata_base.specs.Refusing.{IsLack};
 ghost use Rattle.dns_rdata_base.specs.NameRecords.{name_shape, cname_fields, ns_fields, ptr_fields, aname_fields};
 
+use crate::decoding::{DecodesFields, read_whole};
 use crate::emitting::{EncodesFields, emit_in};
 use crate::traits::RecordDataDecodable;
 use dns_names_wire::{
@@ -17,14 +18,15 @@ use std::alloc::AllocError;
 use std::fmt;
 use std::ops::Deref;
 
-/// The canonical name of an alias (RFC 1035, 3.3.1).
+/// The canonical name of an alias: a name to the end (RFC 1035, 3.3.1).
 #[derive(Debug, Drop, Hash)]
 pub struct CNAME(pub Name);
 
 impl BinDecodable for CNAME {
     ghost stands = { λ m p x q. Stands m p name_shape (cname_fields x) q };
 
-    /// Reads the name. Where none stands it is refused, and the place is as it was.
+    /// Reads the name. Where none stands it is refused by `NameInvalid`, where memory runs out by `Memory`; the place
+    /// is then as it was.
     #[tactic(auto, using(dns_names_wire::proofs::FieldReads::reading))]
     fn read(decoder: &mut BinDecoder<'_>) -> Result<CNAME, DecodeError>
         ensures reads { ReadsBy (λ m p x q. Stands m p name_shape (cname_fields x) q) result decoder.old decoder.new }
@@ -32,6 +34,25 @@ impl BinDecodable for CNAME {
         ensures refused { IfErr result (λ e. IsLack name_shape decoder.old e decoder.new) }
     {
         Ok(CNAME(Name::read(decoder)?))
+    }
+}
+
+impl DecodesFields for CNAME {
+    ghost decoded = { name_shape };
+
+    ghost asked = { λ _. Unit {0} };
+
+    ghost taken = { cname_fields };
+
+    ghost refusal = { λ old e new. IsLack name_shape old e new };
+
+    ghost made = { λ _. Unit {0} };
+
+    ghost ends = { (tt, (tt, tt)) };
+
+    #[inline]
+    fn read_fields(decoder: &mut BinDecoder<'_>) -> Result<CNAME, DecodeError> {
+        CNAME::read(decoder)
     }
 }
 
@@ -46,10 +67,10 @@ impl RecordDataDecodable for CNAME {
     #[inline]
     fn read_data(decoder: &mut BinDecoder<'_>, length: Restrict<u16>) -> Result<CNAME, DecodeError>
         ensures window { ReadsWindow name_shape (λ _. Unit {0}) cname_fields length result decoder.old decoder.new }
+        ensures fields { ReadsIf name_shape (always name_shape) cname_fields result decoder.old decoder.new }
         ensures refused { IfErr result (λ e. IsLack name_shape decoder.old e decoder.new) }
     {
-        let _start = decoder.index();
-        CNAME::read(decoder)
+        read_whole(decoder, length)
     }
 }
 
@@ -68,9 +89,12 @@ impl EncodesFields for CNAME {
 impl BinEncodable for CNAME {
     ghost emits = { λ x r old new. EmitsAs modes.StandardRecord name_shape (cname_fields x) r old new };
 
-    /// Appends the octets; a name ends with a pointer to an earlier place where it can (RFC 1035, 4.1.4). The encoder is then in the mode that it was in, refused or not.
+    /// Appends the octets; a name ends with a pointer to an earlier place where it can (RFC 1035, 4.1.4). It is
+    /// refused by `MaxBufferSizeExceeded` or `Memory` alone. The encoder is then in the mode that it was in, refused or
+    /// not.
     fn emit(&self, encoder: &mut BinEncoder<'_>) -> Result<(), ProtoError>
         ensures emits { EmitsAs RDataEncoding.StandardRecord name_shape (cname_fields self.now) result encoder.old encoder.new }
+        ensures extends { Extends encoder.old encoder.new }
         ensures keeps { Keeps encoder.old encoder.new }
     {
         emit_in(RDataEncoding::StandardRecord, self, encoder)
@@ -89,7 +113,8 @@ impl Deref for CNAME {
 
 impl PartialEq for CNAME {
     ghost use Rattle.std.specs.Cmp.{partial_equiv_from_equiv, on_equiv};
-    ghost use Rattle.dns_fields.specs.Equal.{values_eq, values_equiv};
+    ghost use Rattle.dns_fields.specs.Equal.{values_eq};
+    ghost use Rattle.dns_fields.proofs.Equivalences.{values_equiv};
 
     ghost eq = { λ a b. values_eq name_shape (cname_fields a) (cname_fields b) };
 
@@ -103,7 +128,7 @@ impl PartialEq for CNAME {
 
 impl Eq for CNAME {
     ghost use Rattle.std.specs.Cmp.{on_equiv};
-    ghost use Rattle.dns_fields.specs.Equal.{values_equiv};
+    ghost use Rattle.dns_fields.proofs.Equivalences.{values_equiv};
 
     ghost laws = { on_equiv cname_fields (values_equiv name_shape) };
 }
@@ -131,14 +156,15 @@ impl fmt::Display for CNAME {
     }
 }
 
-/// A name server of the zone (RFC 1035, 3.3.11).
+/// A name server of the zone: a name to the end (RFC 1035, 3.3.11).
 #[derive(Debug, Drop, Hash)]
 pub struct NS(pub Name);
 
 impl BinDecodable for NS {
     ghost stands = { λ m p x q. Stands m p name_shape (ns_fields x) q };
 
-    /// Reads the name. Where none stands it is refused, and the place is as it was.
+    /// Reads the name. Where none stands it is refused by `NameInvalid`, where memory runs out by `Memory`; the place
+    /// is then as it was.
     #[tactic(auto, using(dns_names_wire::proofs::FieldReads::reading))]
     fn read(decoder: &mut BinDecoder<'_>) -> Result<NS, DecodeError>
         ensures reads { ReadsBy (λ m p x q. Stands m p name_shape (ns_fields x) q) result decoder.old decoder.new }
@@ -146,6 +172,25 @@ impl BinDecodable for NS {
         ensures refused { IfErr result (λ e. IsLack name_shape decoder.old e decoder.new) }
     {
         Ok(NS(Name::read(decoder)?))
+    }
+}
+
+impl DecodesFields for NS {
+    ghost decoded = { name_shape };
+
+    ghost asked = { λ _. Unit {0} };
+
+    ghost taken = { ns_fields };
+
+    ghost refusal = { λ old e new. IsLack name_shape old e new };
+
+    ghost made = { λ _. Unit {0} };
+
+    ghost ends = { (tt, (tt, tt)) };
+
+    #[inline]
+    fn read_fields(decoder: &mut BinDecoder<'_>) -> Result<NS, DecodeError> {
+        NS::read(decoder)
     }
 }
 
@@ -160,10 +205,10 @@ impl RecordDataDecodable for NS {
     #[inline]
     fn read_data(decoder: &mut BinDecoder<'_>, length: Restrict<u16>) -> Result<NS, DecodeError>
         ensures window { ReadsWindow name_shape (λ _. Unit {0}) ns_fields length result decoder.old decoder.new }
+        ensures fields { ReadsIf name_shape (always name_shape) ns_fields result decoder.old decoder.new }
         ensures refused { IfErr result (λ e. IsLack name_shape decoder.old e decoder.new) }
     {
-        let _start = decoder.index();
-        NS::read(decoder)
+        read_whole(decoder, length)
     }
 }
 
@@ -182,9 +227,12 @@ impl EncodesFields for NS {
 impl BinEncodable for NS {
     ghost emits = { λ x r old new. EmitsAs modes.StandardRecord name_shape (ns_fields x) r old new };
 
-    /// Appends the octets; a name ends with a pointer to an earlier place where it can (RFC 1035, 4.1.4). The encoder is then in the mode that it was in, refused or not.
+    /// Appends the octets; a name ends with a pointer to an earlier place where it can (RFC 1035, 4.1.4). It is
+    /// refused by `MaxBufferSizeExceeded` or `Memory` alone. The encoder is then in the mode that it was in, refused or
+    /// not.
     fn emit(&self, encoder: &mut BinEncoder<'_>) -> Result<(), ProtoError>
         ensures emits { EmitsAs RDataEncoding.StandardRecord name_shape (ns_fields self.now) result encoder.old encoder.new }
+        ensures extends { Extends encoder.old encoder.new }
         ensures keeps { Keeps encoder.old encoder.new }
     {
         emit_in(RDataEncoding::StandardRecord, self, encoder)
@@ -203,7 +251,8 @@ impl Deref for NS {
 
 impl PartialEq for NS {
     ghost use Rattle.std.specs.Cmp.{partial_equiv_from_equiv, on_equiv};
-    ghost use Rattle.dns_fields.specs.Equal.{values_eq, values_equiv};
+    ghost use Rattle.dns_fields.specs.Equal.{values_eq};
+    ghost use Rattle.dns_fields.proofs.Equivalences.{values_equiv};
 
     ghost eq = { λ a b. values_eq name_shape (ns_fields a) (ns_fields b) };
 
@@ -217,7 +266,7 @@ impl PartialEq for NS {
 
 impl Eq for NS {
     ghost use Rattle.std.specs.Cmp.{on_equiv};
-    ghost use Rattle.dns_fields.specs.Equal.{values_equiv};
+    ghost use Rattle.dns_fields.proofs.Equivalences.{values_equiv};
 
     ghost laws = { on_equiv ns_fields (values_equiv name_shape) };
 }
@@ -245,14 +294,15 @@ impl fmt::Display for NS {
     }
 }
 
-/// The name that is pointed to (RFC 1035, 3.3.12).
+/// The name that is pointed to: a name to the end (RFC 1035, 3.3.12).
 #[derive(Debug, Drop, Hash)]
 pub struct PTR(pub Name);
 
 impl BinDecodable for PTR {
     ghost stands = { λ m p x q. Stands m p name_shape (ptr_fields x) q };
 
-    /// Reads the name. Where none stands it is refused, and the place is as it was.
+    /// Reads the name. Where none stands it is refused by `NameInvalid`, where memory runs out by `Memory`; the place
+    /// is then as it was.
     #[tactic(auto, using(dns_names_wire::proofs::FieldReads::reading))]
     fn read(decoder: &mut BinDecoder<'_>) -> Result<PTR, DecodeError>
         ensures reads { ReadsBy (λ m p x q. Stands m p name_shape (ptr_fields x) q) result decoder.old decoder.new }
@@ -260,6 +310,25 @@ impl BinDecodable for PTR {
         ensures refused { IfErr result (λ e. IsLack name_shape decoder.old e decoder.new) }
     {
         Ok(PTR(Name::read(decoder)?))
+    }
+}
+
+impl DecodesFields for PTR {
+    ghost decoded = { name_shape };
+
+    ghost asked = { λ _. Unit {0} };
+
+    ghost taken = { ptr_fields };
+
+    ghost refusal = { λ old e new. IsLack name_shape old e new };
+
+    ghost made = { λ _. Unit {0} };
+
+    ghost ends = { (tt, (tt, tt)) };
+
+    #[inline]
+    fn read_fields(decoder: &mut BinDecoder<'_>) -> Result<PTR, DecodeError> {
+        PTR::read(decoder)
     }
 }
 
@@ -274,10 +343,10 @@ impl RecordDataDecodable for PTR {
     #[inline]
     fn read_data(decoder: &mut BinDecoder<'_>, length: Restrict<u16>) -> Result<PTR, DecodeError>
         ensures window { ReadsWindow name_shape (λ _. Unit {0}) ptr_fields length result decoder.old decoder.new }
+        ensures fields { ReadsIf name_shape (always name_shape) ptr_fields result decoder.old decoder.new }
         ensures refused { IfErr result (λ e. IsLack name_shape decoder.old e decoder.new) }
     {
-        let _start = decoder.index();
-        PTR::read(decoder)
+        read_whole(decoder, length)
     }
 }
 
@@ -296,9 +365,12 @@ impl EncodesFields for PTR {
 impl BinEncodable for PTR {
     ghost emits = { λ x r old new. EmitsAs modes.StandardRecord name_shape (ptr_fields x) r old new };
 
-    /// Appends the octets; a name ends with a pointer to an earlier place where it can (RFC 1035, 4.1.4). The encoder is then in the mode that it was in, refused or not.
+    /// Appends the octets; a name ends with a pointer to an earlier place where it can (RFC 1035, 4.1.4). It is
+    /// refused by `MaxBufferSizeExceeded` or `Memory` alone. The encoder is then in the mode that it was in, refused or
+    /// not.
     fn emit(&self, encoder: &mut BinEncoder<'_>) -> Result<(), ProtoError>
         ensures emits { EmitsAs RDataEncoding.StandardRecord name_shape (ptr_fields self.now) result encoder.old encoder.new }
+        ensures extends { Extends encoder.old encoder.new }
         ensures keeps { Keeps encoder.old encoder.new }
     {
         emit_in(RDataEncoding::StandardRecord, self, encoder)
@@ -317,7 +389,8 @@ impl Deref for PTR {
 
 impl PartialEq for PTR {
     ghost use Rattle.std.specs.Cmp.{partial_equiv_from_equiv, on_equiv};
-    ghost use Rattle.dns_fields.specs.Equal.{values_eq, values_equiv};
+    ghost use Rattle.dns_fields.specs.Equal.{values_eq};
+    ghost use Rattle.dns_fields.proofs.Equivalences.{values_equiv};
 
     ghost eq = { λ a b. values_eq name_shape (ptr_fields a) (ptr_fields b) };
 
@@ -331,7 +404,7 @@ impl PartialEq for PTR {
 
 impl Eq for PTR {
     ghost use Rattle.std.specs.Cmp.{on_equiv};
-    ghost use Rattle.dns_fields.specs.Equal.{values_equiv};
+    ghost use Rattle.dns_fields.proofs.Equivalences.{values_equiv};
 
     ghost laws = { on_equiv ptr_fields (values_equiv name_shape) };
 }
@@ -359,14 +432,15 @@ impl fmt::Display for PTR {
     }
 }
 
-/// The name whose addresses the owner has (draft-ietf-dnsop-aname).
+/// The name whose addresses the owner has: a name to the end (draft-ietf-dnsop-aname).
 #[derive(Debug, Drop, Hash)]
 pub struct ANAME(pub Name);
 
 impl BinDecodable for ANAME {
     ghost stands = { λ m p x q. Stands m p name_shape (aname_fields x) q };
 
-    /// Reads the name. Where none stands it is refused, and the place is as it was.
+    /// Reads the name. Where none stands it is refused by `NameInvalid`, where memory runs out by `Memory`; the place
+    /// is then as it was.
     #[tactic(auto, using(dns_names_wire::proofs::FieldReads::reading))]
     fn read(decoder: &mut BinDecoder<'_>) -> Result<ANAME, DecodeError>
         ensures reads { ReadsBy (λ m p x q. Stands m p name_shape (aname_fields x) q) result decoder.old decoder.new }
@@ -374,6 +448,25 @@ impl BinDecodable for ANAME {
         ensures refused { IfErr result (λ e. IsLack name_shape decoder.old e decoder.new) }
     {
         Ok(ANAME(Name::read(decoder)?))
+    }
+}
+
+impl DecodesFields for ANAME {
+    ghost decoded = { name_shape };
+
+    ghost asked = { λ _. Unit {0} };
+
+    ghost taken = { aname_fields };
+
+    ghost refusal = { λ old e new. IsLack name_shape old e new };
+
+    ghost made = { λ _. Unit {0} };
+
+    ghost ends = { (tt, (tt, tt)) };
+
+    #[inline]
+    fn read_fields(decoder: &mut BinDecoder<'_>) -> Result<ANAME, DecodeError> {
+        ANAME::read(decoder)
     }
 }
 
@@ -388,10 +481,10 @@ impl RecordDataDecodable for ANAME {
     #[inline]
     fn read_data(decoder: &mut BinDecoder<'_>, length: Restrict<u16>) -> Result<ANAME, DecodeError>
         ensures window { ReadsWindow name_shape (λ _. Unit {0}) aname_fields length result decoder.old decoder.new }
+        ensures fields { ReadsIf name_shape (always name_shape) aname_fields result decoder.old decoder.new }
         ensures refused { IfErr result (λ e. IsLack name_shape decoder.old e decoder.new) }
     {
-        let _start = decoder.index();
-        ANAME::read(decoder)
+        read_whole(decoder, length)
     }
 }
 
@@ -410,9 +503,11 @@ impl EncodesFields for ANAME {
 impl BinEncodable for ANAME {
     ghost emits = { λ x r old new. EmitsAs modes.Other name_shape (aname_fields x) r old new };
 
-    /// Appends the octets, the name whole, its letters kept. The encoder is then in the mode that it was in, refused or not.
+    /// Appends the octets, the name whole, its letters kept. It is refused by `MaxBufferSizeExceeded` or `Memory`
+    /// alone. The encoder is then in the mode that it was in, refused or not.
     fn emit(&self, encoder: &mut BinEncoder<'_>) -> Result<(), ProtoError>
         ensures emits { EmitsAs RDataEncoding.Other name_shape (aname_fields self.now) result encoder.old encoder.new }
+        ensures extends { Extends encoder.old encoder.new }
         ensures keeps { Keeps encoder.old encoder.new }
     {
         emit_in(RDataEncoding::Other, self, encoder)
@@ -431,7 +526,8 @@ impl Deref for ANAME {
 
 impl PartialEq for ANAME {
     ghost use Rattle.std.specs.Cmp.{partial_equiv_from_equiv, on_equiv};
-    ghost use Rattle.dns_fields.specs.Equal.{values_eq, values_equiv};
+    ghost use Rattle.dns_fields.specs.Equal.{values_eq};
+    ghost use Rattle.dns_fields.proofs.Equivalences.{values_equiv};
 
     ghost eq = { λ a b. values_eq name_shape (aname_fields a) (aname_fields b) };
 
@@ -445,7 +541,7 @@ impl PartialEq for ANAME {
 
 impl Eq for ANAME {
     ghost use Rattle.std.specs.Cmp.{on_equiv};
-    ghost use Rattle.dns_fields.specs.Equal.{values_equiv};
+    ghost use Rattle.dns_fields.proofs.Equivalences.{values_equiv};
 
     ghost laws = { on_equiv aname_fields (values_equiv name_shape) };
 }

@@ -5,9 +5,10 @@ ghost use Rattle.std.specs.Box.{boxed_slice_items};
 ghost use Rattle.std.specs.List.{list_all};
 ghost use Rattle.dns_fields.specs.Fields.{Stands};
 ghost use Rattle.dns_fields.specs.declared.RDataEncoding.TheVariants as modes;
-ghost use Rattle.dns_names_wire.specs.Words.{ReadsIf, ReadsBy, ReadsWindow, Emits, EmitsAs, Keeps};
+ghost use Rattle.dns_names_wire.specs.Words.{ReadsIf, ReadsBy, ReadsWindow, Emits, EmitsAs, Extends, Keeps};
 ghost use Rattle.dns_rdata_base.specs.NAPTR.{naptr_shape, naptr_fields, naptr_condition, naptr_refusal, is_flag};
 
+use crate::decoding::{DecodesFields, read_whole};
 use crate::emitting::{EncodesFields, emit_in};
 use crate::traits::RecordDataDecodable;
 use bstr::BStr;
@@ -19,18 +20,19 @@ use std::alloc::AllocError;
 use std::boxed::BoxedSlice;
 use std::fmt;
 
-/// A rule that rewrites a name (RFC 3403, 4.1).
+/// A rule that rewrites a name: order and preference of two octets each, three character strings and a name (RFC 3403,
+/// 4.1).
 #[derive(Debug, Drop, Hash)]
 pub struct NAPTR {
-    /// Lower values are tried first.
+    /// Lower values are tried first; 16 bits.
     pub order: u16,
-    /// Lower values are tried first among those of one order.
+    /// Lower values are tried first among those of one order; 16 bits.
     pub preference: u16,
-    /// Letters and digits that say what comes next.
+    /// Letters and digits that say what comes next; at most 255 octets are emitted.
     pub flags: Octets,
-    /// The services.
+    /// The services; at most 255 octets are emitted.
     pub services: Octets,
-    /// The substitution.
+    /// The substitution, a regular expression; at most 255 octets are emitted.
     pub regexp: Octets,
     /// The name that is asked for next.
     pub replacement: Name,
@@ -103,14 +105,33 @@ impl BinDecodable for NAPTR {
     ghost stands = { λ m p x q. Stands m p naptr_shape (naptr_fields x) q × naptr_condition (naptr_fields x) };
 
     /// Reads the fields in order. The flags are tested as soon as they are taken: where an octet of theirs is no letter
-    /// and no digit it is refused by `NaptrFlagsInvalid`. Where a field does not stand it is refused, and those before it
-    /// are taken.
+    /// and no digit it is refused by `NaptrFlagsInvalid`. Where a field does not stand it is refused by
+    /// `InsufficientBytes` or `NameInvalid`, and those before it are taken; where memory runs out by `Memory`.
     fn read(decoder: &mut BinDecoder<'_>) -> Result<NAPTR, DecodeError>
         ensures reads { ReadsBy (λ m p x q. Stands m p naptr_shape (naptr_fields x) q × naptr_condition (naptr_fields x)) result decoder.old decoder.new }
         ensures fields { ReadsIf naptr_shape (λ vs _. naptr_condition vs) naptr_fields result decoder.old decoder.new }
         ensures refused { IfErr result (λ e. naptr_refusal decoder.old e decoder.new) }
     {
         NAPTR::read_in_order(decoder)
+    }
+}
+
+impl DecodesFields for NAPTR {
+    ghost decoded = { naptr_shape };
+
+    ghost asked = { naptr_condition };
+
+    ghost taken = { naptr_fields };
+
+    ghost refusal = { λ old e new. naptr_refusal old e new };
+
+    ghost made = { λ _. Unit {0} };
+
+    ghost ends = { (tt, (tt, (tt, (tt, (tt, (tt, (tt, tt))))))) };
+
+    #[inline]
+    fn read_fields(decoder: &mut BinDecoder<'_>) -> Result<NAPTR, DecodeError> {
+        NAPTR::read(decoder)
     }
 }
 
@@ -125,10 +146,10 @@ impl RecordDataDecodable for NAPTR {
     #[inline]
     fn read_data(decoder: &mut BinDecoder<'_>, length: Restrict<u16>) -> Result<NAPTR, DecodeError>
         ensures window { ReadsWindow naptr_shape naptr_condition naptr_fields length result decoder.old decoder.new }
+        ensures fields { ReadsIf naptr_shape (λ vs _. naptr_condition vs) naptr_fields result decoder.old decoder.new }
         ensures refused { IfErr result (λ e. naptr_refusal decoder.old e decoder.new) }
     {
-        let _start = decoder.index();
-        NAPTR::read(decoder)
+        read_whole(decoder, length)
     }
 }
 
@@ -152,9 +173,12 @@ impl EncodesFields for NAPTR {
 impl BinEncodable for NAPTR {
     ghost emits = { λ x r old new. EmitsAs modes.Canonical naptr_shape (naptr_fields x) r old new };
 
-    /// Appends the octets, the name whole, its letters kept. The encoder is then in the mode that it was in, refused or not.
+    /// Appends the octets, the name whole, its letters kept. A string of more than 255 octets is refused by `Message`;
+    /// what comes before it may then stand behind the start. The encoder is then in the mode that it was in, refused or
+    /// not.
     fn emit(&self, encoder: &mut BinEncoder<'_>) -> Result<(), ProtoError>
         ensures emits { EmitsAs RDataEncoding.Canonical naptr_shape (naptr_fields self.now) result encoder.old encoder.new }
+        ensures extends { Extends encoder.old encoder.new }
         ensures keeps { Keeps encoder.old encoder.new }
     {
         emit_in(RDataEncoding::Canonical, self, encoder)
@@ -163,7 +187,8 @@ impl BinEncodable for NAPTR {
 
 impl PartialEq for NAPTR {
     ghost use Rattle.std.specs.Cmp.{partial_equiv_from_equiv, on_equiv};
-    ghost use Rattle.dns_fields.specs.Equal.{values_eq, values_equiv};
+    ghost use Rattle.dns_fields.specs.Equal.{values_eq};
+    ghost use Rattle.dns_fields.proofs.Equivalences.{values_equiv};
 
     ghost eq = { λ a b. values_eq naptr_shape (naptr_fields a) (naptr_fields b) };
 
@@ -182,7 +207,7 @@ impl PartialEq for NAPTR {
 
 impl Eq for NAPTR {
     ghost use Rattle.std.specs.Cmp.{on_equiv};
-    ghost use Rattle.dns_fields.specs.Equal.{values_equiv};
+    ghost use Rattle.dns_fields.proofs.Equivalences.{values_equiv};
 
     ghost laws = { on_equiv naptr_fields (values_equiv naptr_shape) };
 }

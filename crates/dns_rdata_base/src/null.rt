@@ -1,6 +1,6 @@
 //! NULL: octets without a form (RFC 1035, 3.3.10).
 
-ghost use Rattle.std.specs.Prelude.{◌≡◌, ◌≢◌, ◌+◌, ◌<◌, ◌⊎◌, List, [], IfErr, IfOk, OnErr};
+ghost use Rattle.std.specs.Prelude.{◌≡◌, ◌≢◌, ◌+◌, ◌<◌, ◌⊎◌, List, [], IfErr, IfOk, OnOk, OnErr};
 ghost use Rattle.dns_names_wire.specs.Words.{ReadsWindow, Emits, LacksOctets};
 ghost use Rattle.dns_rdata_base.specs.NULL.{null_shape, null_fields};
 
@@ -37,7 +37,7 @@ impl NULL {
         NULL::new(alloc)
     }
 
-    /// With these octets, which are not none.
+    /// With these octets. The caller owes at least one.
     pub fn with(anything: Vec<u8>) -> NULL
         requires { anything.items ≢ [] }
         ensures { result.anything ≡ anything.items }
@@ -50,7 +50,8 @@ impl NULL {
 
 impl PartialEq for NULL {
     ghost use Rattle.std.specs.Cmp.{partial_equiv_from_equiv, on_equiv};
-    ghost use Rattle.dns_fields.specs.Equal.{values_eq, values_equiv};
+    ghost use Rattle.dns_fields.specs.Equal.{values_eq};
+    ghost use Rattle.dns_fields.proofs.Equivalences.{values_equiv};
 
     ghost eq = { λ a b. values_eq null_shape (null_fields a) (null_fields b) };
 
@@ -64,7 +65,7 @@ impl PartialEq for NULL {
 
 impl Eq for NULL {
     ghost use Rattle.std.specs.Cmp.{on_equiv};
-    ghost use Rattle.dns_fields.specs.Equal.{values_equiv};
+    ghost use Rattle.dns_fields.proofs.Equivalences.{values_equiv};
 
     ghost laws = { on_equiv null_fields (values_equiv null_shape) };
 }
@@ -89,15 +90,17 @@ impl RecordDataDecodable for NULL {
 
     ghost fields = { null_fields };
 
-    /// Reads all octets of the length, by one request for memory. Where fewer are left, or memory runs out, it is
-    /// refused, and takes none.
+    /// Reads all octets of the length, by one request for memory. Where fewer are left it is refused by
+    /// `InsufficientBytes`, where memory runs out by `Memory`; it then takes none.
     #[inline]
     fn read_data(decoder: &mut BinDecoder<'_>, length: Restrict<u16>) -> Result<NULL, DecodeError>
         ensures window { ReadsWindow null_shape (λ _. Unit {0}) null_fields length result decoder.old decoder.new }
+        ensures ends { OnOk result (decoder.new.index ≡ decoder.old.index + length) }
         ensures refused { IfErr result (λ e. (e ≡ DecodeError.Memory)
             ⊎ ((e ≡ DecodeError.InsufficientBytes) × LacksOctets decoder.old length)) }
         ensures unchanged { OnErr result (decoder.new ≡ decoder.old) }
     {
+        // Called for its clauses: the message is octets.
         let _start = decoder.index();
         let octets = decoder.read_vec(length.unverified() as usize)?;
         Ok(NULL {

@@ -33,7 +33,8 @@ impl OPENPGPKEY {
 
 impl PartialEq for OPENPGPKEY {
     ghost use Rattle.std.specs.Cmp.{partial_equiv_from_equiv, on_equiv};
-    ghost use Rattle.dns_fields.specs.Equal.{values_eq, values_equiv};
+    ghost use Rattle.dns_fields.specs.Equal.{values_eq};
+    ghost use Rattle.dns_fields.proofs.Equivalences.{values_equiv};
 
     ghost eq = { λ a b. values_eq openpgpkey_shape (openpgpkey_fields a) (openpgpkey_fields b) };
 
@@ -47,7 +48,7 @@ impl PartialEq for OPENPGPKEY {
 
 impl Eq for OPENPGPKEY {
     ghost use Rattle.std.specs.Cmp.{on_equiv};
-    ghost use Rattle.dns_fields.specs.Equal.{values_equiv};
+    ghost use Rattle.dns_fields.proofs.Equivalences.{values_equiv};
 
     ghost laws = { on_equiv openpgpkey_fields (values_equiv openpgpkey_shape) };
 }
@@ -72,8 +73,8 @@ impl RecordDataDecodable for OPENPGPKEY {
 
     ghost fields = { openpgpkey_fields };
 
-    /// Reads all octets of the length, by one request for memory. Where fewer are left, or memory runs out, it is
-    /// refused, and takes none.
+    /// Reads all octets of the length, by one request for memory. Where fewer are left it is refused by
+    /// `InsufficientBytes`, where memory runs out by `Memory`; it then takes none.
     #[inline]
     fn read_data(
         decoder: &mut BinDecoder<'_>,
@@ -83,6 +84,7 @@ impl RecordDataDecodable for OPENPGPKEY {
         ensures ends { OnOk result (decoder.new.index ≡ decoder.old.index + length) }
         ensures refused { IfErr result (λ e. openpgpkey_refusal length decoder.old e decoder.new) }
     {
+        // Called for its clauses: the message is octets.
         let _start = decoder.index();
         let octets = decoder.read_vec(length.unverified() as usize)?;
         Ok(OPENPGPKEY::new(octets.unverified()))

@@ -3,10 +3,11 @@
 ghost use Rattle.std.specs.Prelude.{◌≡◌, ◌+◌, ◌%◌, IfErr, IfOk};
 ghost use Rattle.dns_fields.specs.Fields.{Stands};
 ghost use Rattle.dns_fields.specs.declared.RDataEncoding.TheVariants as modes;
-ghost use Rattle.dns_names_wire.specs.Words.{ReadsIf, ReadsBy, ReadsWindow, Emits, EmitsAs, Keeps, always};
+ghost use Rattle.dns_names_wire.specs.Words.{ReadsIf, ReadsBy, ReadsWindow, Emits, EmitsAs, Extends, Keeps, always};
 ghost use Rattle.dns_rdata_base.specs.Refusing.{IsLack};
 ghost use Rattle.dns_rdata_base.specs.SOA.{soa_shape, soa_fields, soa_numbers_shape, soa_numbers, soa_numbers_of, HasSeconds};
 
+use crate::decoding::{DecodesFields, read_whole};
 use crate::emitting::{EncodesFields, emit_in};
 use crate::traits::RecordDataDecodable;
 use dns_names_wire::{
@@ -16,22 +17,23 @@ use dns_names_wire::{
 use std::alloc::AllocError;
 use std::fmt;
 
-/// The start of a zone of authority (RFC 1035, 3.3.13).
+/// The start of a zone of authority: two names, and five numbers of four octets each (RFC 1035, 3.3.13). Refresh, retry
+/// and expire are read as signed numbers, in two's complement.
 #[derive(Debug, Drop, Hash)]
 pub struct SOA {
     /// The name server that the data came from.
     pub mname: Name,
     /// The mailbox of who is responsible, its first dot in place of the `@`.
     pub rname: Name,
-    /// The version of the zone.
+    /// The version of the zone, 32 bits, compared as a circle (RFC 1982).
     pub serial: u32,
-    /// Seconds until the zone is asked for again.
+    /// Seconds until the zone is asked for again; 32 bits, signed.
     pub refresh: i32,
-    /// Seconds until a refresh that failed is tried again.
+    /// Seconds until a refresh that failed is tried again; 32 bits, signed.
     pub retry: i32,
-    /// Seconds until the zone is no longer authoritative.
+    /// Seconds until the zone is no longer authoritative; 32 bits, signed.
     pub expire: i32,
-    /// Seconds for which an answer that there is none stands (RFC 2308, 4).
+    /// Seconds for which an answer that there is none stands (RFC 2308, 4); 32 bits.
     pub minimum: u32,
 }
 
@@ -99,7 +101,8 @@ impl SOA {
 impl BinDecodable for SOA {
     ghost stands = { λ m p x q. Stands m p soa_shape (soa_fields x) q };
 
-    /// Reads the fields in order. Where one does not stand it is refused, and those before it are taken.
+    /// Reads the fields in order. Where one does not stand it is refused, and those before it are taken: by
+    /// `InsufficientBytes` where a number lacks octets, `NameInvalid` where no name stands, `Memory` where memory runs out.
     #[tactic(auto, using(dns_names_wire::proofs::FieldReads::reading))]
     fn read(decoder: &mut BinDecoder<'_>) -> Result<SOA, DecodeError>
         ensures reads { ReadsBy (λ m p x q. Stands m p soa_shape (soa_fields x) q) result decoder.old decoder.new }
@@ -122,6 +125,25 @@ impl BinDecodable for SOA {
     }
 }
 
+impl DecodesFields for SOA {
+    ghost decoded = { soa_shape };
+
+    ghost asked = { λ _. Unit {0} };
+
+    ghost taken = { soa_fields };
+
+    ghost refusal = { λ old e new. IsLack soa_shape old e new };
+
+    ghost made = { HasSeconds };
+
+    ghost ends = { (tt, (tt, (tt, (tt, (tt, (tt, (tt, (tt, tt)))))))) };
+
+    #[inline]
+    fn read_fields(decoder: &mut BinDecoder<'_>) -> Result<SOA, DecodeError> {
+        SOA::read(decoder)
+    }
+}
+
 impl RecordDataDecodable for SOA {
     ghost kinds = { soa_shape };
 
@@ -133,11 +155,11 @@ impl RecordDataDecodable for SOA {
     #[inline]
     fn read_data(decoder: &mut BinDecoder<'_>, length: Restrict<u16>) -> Result<SOA, DecodeError>
         ensures window { ReadsWindow soa_shape (λ _. Unit {0}) soa_fields length result decoder.old decoder.new }
+        ensures fields { ReadsIf soa_shape (always soa_shape) soa_fields result decoder.old decoder.new }
         ensures seconds { IfOk result HasSeconds }
         ensures refused { IfErr result (λ e. IsLack soa_shape decoder.old e decoder.new) }
     {
-        let _start = decoder.index();
-        SOA::read(decoder)
+        read_whole(decoder, length)
     }
 }
 
@@ -157,9 +179,12 @@ impl EncodesFields for SOA {
 impl BinEncodable for SOA {
     ghost emits = { λ x r old new. EmitsAs modes.StandardRecord soa_shape (soa_fields x) r old new };
 
-    /// Appends the octets; a name ends with a pointer to an earlier place where it can (RFC 1035, 4.1.4). The encoder is then in the mode that it was in, refused or not.
+    /// Appends the octets; a name ends with a pointer to an earlier place where it can (RFC 1035, 4.1.4). It is
+    /// refused by `MaxBufferSizeExceeded` or `Memory` alone. The encoder is then in the mode that it was in, refused or
+    /// not.
     fn emit(&self, encoder: &mut BinEncoder<'_>) -> Result<(), ProtoError>
         ensures emits { EmitsAs RDataEncoding.StandardRecord soa_shape (soa_fields self.now) result encoder.old encoder.new }
+        ensures extends { Extends encoder.old encoder.new }
         ensures keeps { Keeps encoder.old encoder.new }
     {
         emit_in(RDataEncoding::StandardRecord, self, encoder)
@@ -168,7 +193,8 @@ impl BinEncodable for SOA {
 
 impl PartialEq for SOA {
     ghost use Rattle.std.specs.Cmp.{partial_equiv_from_equiv, on_equiv};
-    ghost use Rattle.dns_fields.specs.Equal.{values_eq, values_equiv};
+    ghost use Rattle.dns_fields.specs.Equal.{values_eq};
+    ghost use Rattle.dns_fields.proofs.Equivalences.{values_equiv};
 
     ghost eq = { λ a b. values_eq soa_shape (soa_fields a) (soa_fields b) };
 
@@ -188,7 +214,7 @@ impl PartialEq for SOA {
 
 impl Eq for SOA {
     ghost use Rattle.std.specs.Cmp.{on_equiv};
-    ghost use Rattle.dns_fields.specs.Equal.{values_equiv};
+    ghost use Rattle.dns_fields.proofs.Equivalences.{values_equiv};
 
     ghost laws = { on_equiv soa_fields (values_equiv soa_shape) };
 }

@@ -3,10 +3,11 @@
 ghost use Rattle.std.specs.Prelude.{◌≡◌, IfErr, IfOk};
 ghost use Rattle.dns_fields.specs.Fields.{Stands};
 ghost use Rattle.dns_fields.specs.declared.RDataEncoding.TheVariants as modes;
-ghost use Rattle.dns_names_wire.specs.Words.{ReadsIf, ReadsBy, ReadsWindow, Emits, EmitsAs, Keeps, always};
+ghost use Rattle.dns_names_wire.specs.Words.{ReadsIf, ReadsBy, ReadsWindow, Emits, EmitsAs, Extends, Keeps, always};
 ghost use Rattle.dns_rdata_base.specs.Refusing.{IsLack};
 ghost use Rattle.dns_rdata_base.specs.SRV.{srv_shape, srv_fields};
 
+use crate::decoding::{DecodesFields, read_whole};
 use crate::emitting::{EncodesFields, emit_in};
 use crate::traits::RecordDataDecodable;
 use dns_names_wire::{
@@ -16,16 +17,16 @@ use dns_names_wire::{
 use std::alloc::AllocError;
 use std::fmt;
 
-/// A host and port of a service (RFC 2782).
+/// A host and port of a service: priority, weight and port of two octets each, and a name (RFC 2782).
 #[derive(Debug, Drop, Hash)]
 pub struct SRV {
-    /// Lower values are tried first.
+    /// Lower values are tried first; 16 bits.
     pub priority: u16,
-    /// The share among those of one priority.
+    /// The share among those of one priority; 16 bits.
     pub weight: u16,
-    /// The port.
+    /// The port, of 16 bits, in the protocol that the owner names.
     pub port: u16,
-    /// The host.
+    /// The host; the root where the service is not offered.
     pub target: Name,
 }
 
@@ -46,7 +47,8 @@ impl SRV {
 impl BinDecodable for SRV {
     ghost stands = { λ m p x q. Stands m p srv_shape (srv_fields x) q };
 
-    /// Reads the fields in order. Where one does not stand it is refused, and those before it are taken.
+    /// Reads the fields in order. Where one does not stand it is refused, and those before it are taken: by
+    /// `InsufficientBytes` where a number lacks octets, `NameInvalid` where no name stands, `Memory` where memory runs out.
     #[tactic(auto, using(dns_names_wire::proofs::FieldReads::reading))]
     fn read(decoder: &mut BinDecoder<'_>) -> Result<SRV, DecodeError>
         ensures reads { ReadsBy (λ m p x q. Stands m p srv_shape (srv_fields x) q) result decoder.old decoder.new }
@@ -66,6 +68,25 @@ impl BinDecodable for SRV {
     }
 }
 
+impl DecodesFields for SRV {
+    ghost decoded = { srv_shape };
+
+    ghost asked = { λ _. Unit {0} };
+
+    ghost taken = { srv_fields };
+
+    ghost refusal = { λ old e new. IsLack srv_shape old e new };
+
+    ghost made = { λ _. Unit {0} };
+
+    ghost ends = { (tt, (tt, (tt, (tt, (tt, tt))))) };
+
+    #[inline]
+    fn read_fields(decoder: &mut BinDecoder<'_>) -> Result<SRV, DecodeError> {
+        SRV::read(decoder)
+    }
+}
+
 impl RecordDataDecodable for SRV {
     ghost kinds = { srv_shape };
 
@@ -77,10 +98,10 @@ impl RecordDataDecodable for SRV {
     #[inline]
     fn read_data(decoder: &mut BinDecoder<'_>, length: Restrict<u16>) -> Result<SRV, DecodeError>
         ensures window { ReadsWindow srv_shape (λ _. Unit {0}) srv_fields length result decoder.old decoder.new }
+        ensures fields { ReadsIf srv_shape (always srv_shape) srv_fields result decoder.old decoder.new }
         ensures refused { IfErr result (λ e. IsLack srv_shape decoder.old e decoder.new) }
     {
-        let _start = decoder.index();
-        SRV::read(decoder)
+        read_whole(decoder, length)
     }
 }
 
@@ -102,9 +123,11 @@ impl EncodesFields for SRV {
 impl BinEncodable for SRV {
     ghost emits = { λ x r old new. EmitsAs modes.Canonical srv_shape (srv_fields x) r old new };
 
-    /// Appends the octets, the name whole, its letters kept. The encoder is then in the mode that it was in, refused or not.
+    /// Appends the octets, the name whole, its letters kept. It is refused by `MaxBufferSizeExceeded` or `Memory`
+    /// alone. The encoder is then in the mode that it was in, refused or not.
     fn emit(&self, encoder: &mut BinEncoder<'_>) -> Result<(), ProtoError>
         ensures emits { EmitsAs RDataEncoding.Canonical srv_shape (srv_fields self.now) result encoder.old encoder.new }
+        ensures extends { Extends encoder.old encoder.new }
         ensures keeps { Keeps encoder.old encoder.new }
     {
         emit_in(RDataEncoding::Canonical, self, encoder)
@@ -113,7 +136,8 @@ impl BinEncodable for SRV {
 
 impl PartialEq for SRV {
     ghost use Rattle.std.specs.Cmp.{partial_equiv_from_equiv, on_equiv};
-    ghost use Rattle.dns_fields.specs.Equal.{values_eq, values_equiv};
+    ghost use Rattle.dns_fields.specs.Equal.{values_eq};
+    ghost use Rattle.dns_fields.proofs.Equivalences.{values_equiv};
 
     ghost eq = { λ a b. values_eq srv_shape (srv_fields a) (srv_fields b) };
 
@@ -130,7 +154,7 @@ impl PartialEq for SRV {
 
 impl Eq for SRV {
     ghost use Rattle.std.specs.Cmp.{on_equiv};
-    ghost use Rattle.dns_fields.specs.Equal.{values_equiv};
+    ghost use Rattle.dns_fields.proofs.Equivalences.{values_equiv};
 
     ghost laws = { on_equiv srv_fields (values_equiv srv_shape) };
 }

@@ -19,7 +19,7 @@ use std::hash::{Hash, Hasher};
 /// Character strings, none or more, which fill a record's length (RFC 1035, 3.3.14).
 #[derive(Debug, Drop)]
 pub struct TXT {
-    /// The strings, in order.
+    /// The strings, in order; of each at most 255 octets are emitted.
     pub txt_data: Strings,
 }
 
@@ -60,7 +60,7 @@ impl RecordDataDecodable for TXT {
     ghost fields = { txt_fields };
 
     /// Reads character strings until the length is reached or passed. Where it is passed, no strings fill it, and the
-    /// value is that of the strings that were taken. Where a string lacks octets it is refused: the strings before it,
+    /// value is that of the strings that were taken. Where a string lacks octets it is refused by `InsufficientBytes`: the strings before it,
     /// and its length octet where that is there, are taken. Memory is asked for once for the list, and once for each
     /// string.
     fn read_data(decoder: &mut BinDecoder<'_>, length: Restrict<u16>) -> Result<TXT, DecodeError>
@@ -111,7 +111,8 @@ impl BinEncodable for TXT {
 
 impl PartialEq for TXT {
     ghost use Rattle.std.specs.Cmp.{partial_equiv_from_equiv, on_equiv};
-    ghost use Rattle.dns_fields.specs.Equal.{values_eq, values_equiv};
+    ghost use Rattle.dns_fields.specs.Equal.{values_eq};
+    ghost use Rattle.dns_fields.proofs.Equivalences.{values_equiv};
 
     ghost eq = { λ a b. values_eq txt_shape (txt_fields a) (txt_fields b) };
 
@@ -125,7 +126,7 @@ impl PartialEq for TXT {
 
 impl Eq for TXT {
     ghost use Rattle.std.specs.Cmp.{on_equiv};
-    ghost use Rattle.dns_fields.specs.Equal.{values_equiv};
+    ghost use Rattle.dns_fields.proofs.Equivalences.{values_equiv};
 
     ghost laws = { on_equiv txt_fields (values_equiv txt_shape) };
 }

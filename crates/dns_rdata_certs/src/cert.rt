@@ -130,7 +130,8 @@ impl BinEncodable for CERT {
 
 impl PartialEq for CERT {
     ghost use Rattle.std.specs.Cmp.{partial_equiv_from_equiv, on_equiv};
-    ghost use Rattle.dns_fields.specs.Equal.{values_eq, values_equiv};
+    ghost use Rattle.dns_fields.specs.Equal.{values_eq};
+    ghost use Rattle.dns_fields.proofs.Equivalences.{values_equiv};
 
     ghost eq = { λ a b. values_eq cert_key_shape (cert_keys a) (cert_keys b) };
 
@@ -146,7 +147,7 @@ impl PartialEq for CERT {
 
 impl Eq for CERT {
     ghost use Rattle.std.specs.Cmp.{on_equiv};
-    ghost use Rattle.dns_fields.specs.Equal.{values_equiv};
+    ghost use Rattle.dns_fields.proofs.Equivalences.{values_equiv};
 
     ghost laws = { on_equiv cert_keys (values_equiv cert_key_shape) };
 }

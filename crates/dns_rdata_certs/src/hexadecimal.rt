@@ -56,7 +56,7 @@ fn is_blank(octet: u8) -> bool
     matches!(octet, b' ' | b'\t' | b'\r' | b'\n')
 }
 
-/// Octets that print as hexadecimal digits in lower case, without memory.
+/// Octets that print as hexadecimal digits in lower case, without memory, 32 at a time.
 #[derive(Clone, Copy)]
 pub struct Hexadecimal<'a>(pub &'a [u8]);
 
@@ -68,12 +68,16 @@ impl fmt::Display for Hexadecimal<'_> {
 
     /// Two digits for each octet: `3b6b`.
     fn fmt<W: fmt::Write>(&self, f: &mut fmt::Formatter<W>) -> fmt::Result {
-        let mut digits = [0u8; 2];
-        for octet in self.0 {
-            let Ok(()) = hex::encode_to_slice([*octet].as_slice(), &mut digits) else {
+        let mut digits = [0u8; 64];
+        for chunk in self.0.chunks(32) {
+            let text = &mut digits[..2 * chunk.len()];
+            let Ok(()) = hex::encode_to_slice(chunk, text) else {
                 return Err(fmt::Error);
             };
-            f.write_str(str::from_utf8(&digits).map_err(|_| fmt::Error)?)?;
+            let Ok(text) = str::from_utf8(text) else {
+                return Err(fmt::Error);
+            };
+            f.write_str(text)?;
         }
         Ok(())
     }

@@ -77,7 +77,8 @@ impl Deref for SMIMEA {
 
 impl PartialEq for SMIMEA {
     ghost use Rattle.std.specs.Cmp.{partial_equiv_from_equiv, on_equiv};
-    ghost use Rattle.dns_fields.specs.Equal.{values_eq, values_equiv};
+    ghost use Rattle.dns_fields.specs.Equal.{values_eq};
+    ghost use Rattle.dns_fields.proofs.Equivalences.{values_equiv};
 
     ghost eq = { λ a b. values_eq smimea_key_shape (smimea_keys a) (smimea_keys b) };
 
@@ -91,7 +92,7 @@ impl PartialEq for SMIMEA {
 
 impl Eq for SMIMEA {
     ghost use Rattle.std.specs.Cmp.{on_equiv};
-    ghost use Rattle.dns_fields.specs.Equal.{values_equiv};
+    ghost use Rattle.dns_fields.proofs.Equivalences.{values_equiv};
 
     ghost laws = { on_equiv smimea_keys (values_equiv smimea_key_shape) };
 }

@@ -107,7 +107,8 @@ impl BinEncodable for SSHFP {
 
 impl PartialEq for SSHFP {
     ghost use Rattle.std.specs.Cmp.{partial_equiv_from_equiv, on_equiv};
-    ghost use Rattle.dns_fields.specs.Equal.{values_eq, values_equiv};
+    ghost use Rattle.dns_fields.specs.Equal.{values_eq};
+    ghost use Rattle.dns_fields.proofs.Equivalences.{values_equiv};
 
     ghost eq = { λ a b. values_eq sshfp_key_shape (sshfp_keys a) (sshfp_keys b) };
 
@@ -122,7 +123,7 @@ impl PartialEq for SSHFP {
 
 impl Eq for SSHFP {
     ghost use Rattle.std.specs.Cmp.{on_equiv};
-    ghost use Rattle.dns_fields.specs.Equal.{values_equiv};
+    ghost use Rattle.dns_fields.proofs.Equivalences.{values_equiv};
 
     ghost laws = { on_equiv sshfp_keys (values_equiv sshfp_key_shape) };
 }

@@ -113,7 +113,8 @@ impl BinEncodable for TLSA {
 
 impl PartialEq for TLSA {
     ghost use Rattle.std.specs.Cmp.{partial_equiv_from_equiv, on_equiv};
-    ghost use Rattle.dns_fields.specs.Equal.{values_eq, values_equiv};
+    ghost use Rattle.dns_fields.specs.Equal.{values_eq};
+    ghost use Rattle.dns_fields.proofs.Equivalences.{values_equiv};
 
     ghost eq = { λ a b. values_eq tlsa_key_shape (tlsa_keys a) (tlsa_keys b) };
 
@@ -129,7 +130,7 @@ impl PartialEq for TLSA {
 
 impl Eq for TLSA {
     ghost use Rattle.std.specs.Cmp.{on_equiv};
-    ghost use Rattle.dns_fields.specs.Equal.{values_equiv};
+    ghost use Rattle.dns_fields.proofs.Equivalences.{values_equiv};
 
     ghost laws = { on_equiv tlsa_keys (values_equiv tlsa_key_shape) };
 }

@@ -7,9 +7,9 @@ use Rattle.dns_types.specs.declared.error.DecodeError.TheVariants as decode
 use Rattle.dns_types.specs.declared.error.ProtoError.{ProtoError}
 use Rattle.dns_types.specs.declared.error.ProtoError.TheVariants as proto
 use Rattle.dns_names_wire.specs.State.{Reading, Writing}
-use Rattle.dns_names_wire.specs.Words.{Emits}
+use Rattle.dns_names_wire.specs.Words.{Emits, IsMessage}
 use Rattle.dns_fields.specs.Fields.{Values, AllFit, Same}
-use Rattle.dns_rdata_sets.specs.CAA.{IsMessage, tag_refusal, caa_refusal, caa_shape, caa_fields, caa_flags, caa_key_shape, caa_keys, critical_number, IsReadCaa}
+use Rattle.dns_rdata_sets.specs.CAA.{tag_refusal, caa_refusal, caa_shape, caa_fields, caa_flags, caa_key_shape, caa_keys, critical_number, IsReadCaa}
 use Rattle.dns_rdata_sets.specs.declared.caa.CAA.{CAA}
 use Rattle.dns_rdata_sets.proofs.CaaReads.{flags_back}
 
@@ -75,11 +75,7 @@ caa_never n old new k (inr (inr h)) = value_never k _ h.error
 
 -- ---- what is emitted
 
-flags_fit : (b : Bool) (r : ℕ) → r % 128 + cond b 128 0 < 256
-flags_fit true r = omega arith
-flags_fit false r = omega arith
-
-not_long : (n : ℕ) → nat_lt 255 n ≡ false → n < 256
+not_long : (n : ℕ) → nat_lt 255 n ≡ false → nat_le n 255 ≡ true
 not_long n e = grind (arith, nat_tests)
 
 -- a message refuses a tag of more than 255 octets
@@ -88,7 +84,7 @@ long_tag x (Ok u) old new h = tt
 long_tag x (Err (proto.Message t)) old new h = λ m. past (nat_lt 255 (length x.tag)) refl where
   past : (b : Bool) → nat_lt 255 (length x.tag) ≡ b → 255 < length x.tag
   past true e = ltb-true 255 (length x.tag) e
-  past false e = absurd (h.why.unfit (flags_fit x.issuer_critical x.reserved_flags, (not_long (length x.tag) e, (tt, tt))))
+  past false e = let f = rw (not_long (length x.tag) e) at h.why.unfit in absurd (cc f)
 long_tag x (Err proto.Memory) old new h = λ m. absurd m
 long_tag x (Err proto.MaxBufferSizeExceeded) old new h = λ m. absurd m
 long_tag x (Err (proto.Decode d)) old new h = λ m. absurd m

@@ -296,7 +296,7 @@ left_stopped {v} {rest} {e} {k} {old} {now} {new} error f h some full few s =
       };
       why = because_map error _ _ _ _
           (λ n. record { full = omega (arith, n.full, f.keeps.limit, total, before, block_length b) })
-          (λ u. absurd (u.unfit (h.small, (omega (arith, few), (tt, tt))))) s.why;
+          (λ u. let e = u.unfit in absurd (cc e)) s.why;
     }
 
 -- ---- the end

@@ -9,7 +9,7 @@ use Rattle.dns_types.specs.declared.error.ProtoError.{ProtoError}
 use Rattle.dns_types.specs.declared.error.ProtoError.TheVariants as proto
 use Rattle.dns_fields.specs.Fields.{Kind, Number, Octets, Text, Rest, Values}
 use Rattle.dns_names_wire.specs.State.{Reading}
-use Rattle.dns_names_wire.specs.Words.{Took, TookField, LacksOctets}
+use Rattle.dns_names_wire.specs.Words.{Took, TookField, LacksOctets, IsMessage}
 use Rattle.dns_rdata_base.specs.Lossy.{lossy}
 use Rattle.dns_rdata_sets.specs.Issuer.{issuer_refusal}
 use Rattle.dns_rdata_sets.specs.declared.caa.CAA.{CAA}
@@ -69,10 +69,6 @@ IsIssuerTag tag = (low_tag tag ≡ codes "issue") ⊎ (low_tag tag ≡ codes "is
 
 abbrev pub IsIodefTag : List ℕ → Type 0
 IsIodefTag tag = low_tag tag ≡ codes "iodef"
-
-abbrev pub IsMessage : ProtoError → Type 0
-IsMessage (proto.Message text) = Unit {0}
-IsMessage e = ⊥
 
 -- no tag of an issuer; or one, and a value that is refused
 abbrev pub issuer_value_refusal : CAA → ProtoError → Type 0

@@ -3,8 +3,8 @@
 ghost use Rattle.std.specs.Prelude.{◌≡◌, ◌≤◌, ◌<◌, ◌+◌, false, take, get_or, length as list_length, IfErr, IfOk, OnOk};
 ghost use Rattle.std.specs.Char.{is_ascii_alphanumeric};
 ghost use Rattle.dns_fields.specs.Fields.{Octets as OctetsKind};
-ghost use Rattle.dns_names_wire.specs.Words.{ReadsTo, ReadsWindow, TookField, StaysBehind, Emits};
-ghost use Rattle.dns_rdata_sets.specs.CAA.{caa_shape, caa_flags, caa_fields, caa_condition, caa_key_shape, caa_keys, AreTagOctets, IsTag, IsReadCaa, IsMessage, tag_refusal, caa_refusal};
+ghost use Rattle.dns_names_wire.specs.Words.{ReadsTo, ReadsWindow, TookField, StaysBehind, Emits, Extends, IsMessage};
+ghost use Rattle.dns_rdata_sets.specs.CAA.{caa_shape, caa_flags, caa_fields, caa_condition, caa_key_shape, caa_keys, AreTagOctets, IsTag, IsReadCaa, tag_refusal, caa_refusal};
 
 mod issuer;
 mod values;
@@ -160,6 +160,7 @@ impl BinEncodable for CAA {
     #[inline]
     fn emit(&self, encoder: &mut BinEncoder<'_>) -> Result<(), ProtoError>
         ensures emits { Emits caa_shape (caa_fields self.now) result encoder.old encoder.new }
+        ensures extends { Extends encoder.old encoder.new }
         ensures message { IfErr result (λ e. IsMessage e → 255 < list_length self.now.tag) }
     {
         self.emit_in_order(encoder)
@@ -168,7 +169,8 @@ impl BinEncodable for CAA {
 
 impl PartialEq for CAA {
     ghost use Rattle.std.specs.Cmp.{partial_equiv_from_equiv, on_equiv};
-    ghost use Rattle.dns_fields.specs.Equal.{values_eq, values_equiv};
+    ghost use Rattle.dns_fields.specs.Equal.{values_eq};
+    ghost use Rattle.dns_fields.proofs.Equivalences.{values_equiv};
 
     ghost eq = { λ a b. values_eq caa_key_shape (caa_keys a) (caa_keys b) };
 
@@ -184,7 +186,7 @@ impl PartialEq for CAA {
 
 impl Eq for CAA {
     ghost use Rattle.std.specs.Cmp.{on_equiv};
-    ghost use Rattle.dns_fields.specs.Equal.{values_equiv};
+    ghost use Rattle.dns_fields.proofs.Equivalences.{values_equiv};
 
     ghost laws = { on_equiv caa_keys (values_equiv caa_key_shape) };
 }

@@ -41,7 +41,8 @@ pub struct CSYNC {
 }
 
 impl CSYNC {
-    /// With these fields, no reserved flags, and the set of these types. Fails only for want of memory.
+    /// With these fields, no reserved flags, and the set of these types. Fails only for want of memory. The caller owes an
+    /// iterator that may be asked and that ends, as every iterator of a list is.
     pub fn new<I: Iterator<Item = RecordType> + Drop>(
         alloc: Global,
         soa_serial: u32,
@@ -155,7 +156,8 @@ impl BinEncodable for CSYNC {
 
 impl PartialEq for CSYNC {
     ghost use Rattle.std.specs.Cmp.{partial_equiv_from_equiv, on_equiv};
-    ghost use Rattle.dns_fields.specs.Equal.{values_eq, values_equiv};
+    ghost use Rattle.dns_fields.specs.Equal.{values_eq};
+    ghost use Rattle.dns_fields.proofs.Equivalences.{values_equiv};
 
     ghost eq = { λ a b. values_eq csync_key_shape (csync_keys a) (csync_keys b) };
 
@@ -172,7 +174,7 @@ impl PartialEq for CSYNC {
 
 impl Eq for CSYNC {
     ghost use Rattle.std.specs.Cmp.{on_equiv};
-    ghost use Rattle.dns_fields.specs.Equal.{values_equiv};
+    ghost use Rattle.dns_fields.proofs.Equivalences.{values_equiv};
 
     ghost laws = { on_equiv csync_keys (values_equiv csync_key_shape) };
 }

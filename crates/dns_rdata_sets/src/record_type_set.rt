@@ -45,7 +45,8 @@ impl Model for RecordTypeSet {
 }
 
 impl RecordTypeSet {
-    /// The set of these types, in any order, also where one comes repeatedly. Fails only for want of memory.
+    /// The set of these types, in any order, also where one comes repeatedly. Fails only for want of memory. The caller
+    /// owes an iterator that may be asked and that ends, as every iterator of a list is.
     pub fn new<I: Iterator<Item = RecordType> + Drop>(
         alloc: Global,
         types: I,

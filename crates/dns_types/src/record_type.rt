@@ -13,48 +13,88 @@ use std::fmt;
 use std::hash::{Hash, Hasher};
 use std::str::FromStr;
 
-/// The type of a resource record (RFC 1035, 3.2.2, and IANA's list of types). Types are ordered by
-/// number, and `Unknown` stands after the named type of the same number.
+/// The type of a resource record (RFC 1035, 3.2.2, and IANA's list of types). Its text is the
+/// variant's name in capitals, and `TYPE` and the number of `Unknown`. Types are ordered by number, and
+/// `Unknown` stands after the named type of the same number.
 #[derive(Clone, Copy, Debug)]
 pub enum RecordType {
+    /// 0, of no records: the type whose data is none.
     ZERO,
+    /// 1, an IPv4 address (RFC 1035, 3.4.1).
     A,
+    /// 2, a name server (RFC 1035, 3.3.11).
     NS,
+    /// 5, the canonical name of an alias (RFC 1035, 3.3.1).
     CNAME,
+    /// 6, the start of a zone of authority (RFC 1035, 3.3.13).
     SOA,
+    /// 10, octets without a form (RFC 1035, 3.3.10).
     NULL,
+    /// 12, a name that is pointed to (RFC 1035, 3.3.12).
     PTR,
+    /// 13, a machine and its system (RFC 1035, 3.3.2).
     HINFO,
+    /// 15, a mail exchange (RFC 1035, 3.3.9).
     MX,
+    /// 16, character strings (RFC 1035, 3.3.14).
     TXT,
+    /// 24, a signature (RFC 2535, 4).
     SIG,
+    /// 25, a public key (RFC 2535, 3).
     KEY,
+    /// 28, an IPv6 address (RFC 3596, 2.1).
     AAAA,
+    /// 33, a host of a service (RFC 2782).
     SRV,
+    /// 35, a rule that rewrites a name (RFC 3403, 4).
     NAPTR,
+    /// 37, a certificate (RFC 4398, 2).
     CERT,
+    /// 39, another name for a subtree (RFC 6672, 2.1).
     DNAME,
+    /// 41, options of EDNS (RFC 6891, 6.1).
     OPT,
+    /// 43, the signer of a delegation (RFC 4034, 5).
     DS,
+    /// 44, the fingerprint of a host's key (RFC 4255, 3).
     SSHFP,
+    /// 46, a signature of a record set (RFC 4034, 3).
     RRSIG,
+    /// 47, the next name of a zone (RFC 4034, 4).
     NSEC,
+    /// 48, a public key of a zone (RFC 4034, 2).
     DNSKEY,
+    /// 50, the next hashed name of a zone (RFC 5155, 3).
     NSEC3,
+    /// 51, how a zone hashes its names (RFC 5155, 4).
     NSEC3PARAM,
+    /// 52, a certificate of a service (RFC 6698, 2.1).
     TLSA,
+    /// 53, a certificate of a mail user (RFC 8162, 2).
     SMIMEA,
+    /// 59, the DS that a child wants (RFC 7344, 3.1).
     CDS,
+    /// 60, the DNSKEY that a child wants (RFC 7344, 3.2).
     CDNSKEY,
+    /// 61, a public key of OpenPGP (RFC 7929, 2).
     OPENPGPKEY,
+    /// 62, what a parent copies from a child zone (RFC 7477, 2.1).
     CSYNC,
+    /// 64, an endpoint of a service (RFC 9460, 2).
     SVCB,
+    /// 65, an endpoint of HTTPS (RFC 9460, 9).
     HTTPS,
+    /// 250, the signature of a message (RFC 8945, 4.2).
     TSIG,
+    /// 251, asks for the changes of a zone (RFC 1995).
     IXFR,
+    /// 252, asks for a whole zone (RFC 5936).
     AXFR,
+    /// 255, asks for all records (RFC 1035, 3.2.3, where it is `*`).
     ANY,
+    /// 257, a property of a domain's issuers of certificates (RFC 8659, 4.1).
     CAA,
+    /// 65305, of private use: the name whose addresses the owner has.
     ANAME,
     /// A number on the wire. `from` gives it only for numbers that no type above has.
     Unknown(u16),
@@ -206,6 +246,14 @@ const NAMED: [RecordType; 39] = [
 ];
 
 impl RecordType {
+    /// The number on the wire.
+    #[inline]
+    pub fn number(self) -> u16
+        ensures { result ≡ number_of self }
+    {
+        u16::from(self)
+    }
+
     // A number of its own for each value, in their order.
     #[inline]
     fn code(self) -> u32

@@ -1,154 +1,68 @@
 //! Measures record data: reads lines `TYPE PLACE LENGTH OCTETS` from standard input, and prints a line for each.
 //!
-//! The first argument is the number of rounds. The columns are the type and the nanoseconds of one call: read, emit into
-//! a kept encoder, print into a kept text, clone, and `==`. A second argument, one of these words with `equal` for `==`,
-//! takes that column alone and prints nothing: for runs under a counter of requests for memory.
+//! The first argument is the number of rounds. The first line names the columns, with tabs between: the type, and the
+//! nanoseconds of one call, in tenths: read, emit into an encoder that is kept, emit into a fresh encoder over a vector that
+//! is kept, print into a text that is kept, clone, and `==`. Each is the least of five parts of the rounds.
+//!
+//! A second argument, one of these words, takes that column alone and prints nothing: for runs under a counter of requests
+//! for memory. With a third, each value that is read or cloned is compared. In place of the number the word `growth` prints how the time grows with names, pointers, strings and windows.
 #![tactic(auto)]
 
+mod columns;
+
 use anyhow::{Context, Result};
-use dns_rdata::{BinDecoder, BinEncodable, BinEncoder, RData, RecordType, Restrict};
+use columns::{Row, column};
+use dns_rdata::RecordType;
 use std::alloc::Global;
-use std::fmt::Write;
 use std::io;
 use std::io::BufRead;
 use std::rt::Clock;
 use std::time::Instant;
 
-// The octets in an encoder before another one is begun.
-const KEPT: usize = 60000;
+// The parts of the rounds, the least of which is taken.
+const PARTS: u64 = 5;
 
-/// Record data in a message.
-#[derive(Drop)]
-struct Sample {
-    record_type: RecordType,
-    message: Vec<u8>,
-    place: usize,
-    length: u16,
-}
+const COLUMNS: [&str; 6] = ["read", "emit", "fresh", "print", "clone", "equal"];
 
-fn read_sample(alloc: Global, line: &str) -> Result<Sample> {
+fn read_row(alloc: Global, line: &str, compares: bool) -> Result<Row> {
     let mut words = line.split_whitespace();
     let kind = words.next().context("a type")?;
     let record_type = match kind.parse::<u16>() {
         Ok(number) => RecordType::from(number),
         Err(_) => kind.parse::<RecordType>()?,
     };
-    Ok(Sample {
-        record_type,
-        place: words.next().context("a place")?.parse::<usize>()?,
-        length: words.next().context("a length")?.parse::<u16>()?,
-        message: hex::decode(alloc, words.next().context("octets")?)?,
-    })
+    let place = words.next().context("a place")?.parse::<usize>()?;
+    let length = words.next().context("a length")?.parse::<u16>()?;
+    let message = hex::decode(alloc, words.next().context("octets")?)?;
+    Row::new(alloc, record_type, message, place, length, compares)
 }
 
-fn read_value(alloc: Global, sample: &Sample) -> Result<RData> {
-    let mut decoder = BinDecoder::new(alloc, sample.message.as_slice());
-    let _before = decoder.read_slice(sample.place)?;
-    Ok(RData::read(
-        &mut decoder,
-        sample.record_type,
-        Restrict::new(sample.length),
-    )?)
-}
-
-fn reads(alloc: Global, sample: &Sample, rounds: u64) -> Result<u64> {
-    let mut answered = 0u64;
-    for _ in 0..rounds {
-        if read_value(alloc, sample).is_ok() {
-            answered = answered.saturating_add(1);
-        }
-    }
-    Ok(answered)
-}
-
-fn emits(alloc: Global, value: &RData, rounds: u64) -> Result<u64> {
-    let mut octets = Vec::with_capacity(alloc, KEPT)?;
-    let mut left = rounds;
-    for _ in 0..rounds {
-        if left == 0 {
-            break;
-        }
-        octets.clear();
-        let mut encoder = BinEncoder::new(alloc, &mut octets);
-        for _ in 0..left {
-            if value.emit(&mut encoder).is_err() || encoder.len() > KEPT - 5000 {
-                break;
-            }
-            left = left.saturating_sub(1);
-        }
-        left = left.saturating_sub(1);
-    }
-    Ok(left)
-}
-
-fn prints(alloc: Global, value: &RData, rounds: u64) -> Result<u64> {
-    let mut text = String::with_capacity(alloc, 4096)?;
-    let mut printed = 0u64;
-    for _ in 0..rounds {
-        text.clear();
-        if write!(text, "{value}").is_ok() {
-            printed = printed.saturating_add(1);
-        }
-    }
-    Ok(printed)
-}
-
-fn clones(value: &RData, rounds: u64) -> Result<u64> {
-    let mut cloned = 0u64;
-    for _ in 0..rounds {
-        if value.clone().is_ok() {
-            cloned = cloned.saturating_add(1);
-        }
-    }
-    Ok(cloned)
-}
-
-fn equals(value: &RData, other: &RData, rounds: u64) -> Result<u64> {
-    let mut same = 0u64;
-    for _ in 0..rounds {
-        if value == other {
-            same = same.saturating_add(1);
-        }
-    }
-    Ok(same)
-}
-
-fn clones_of(alloc: Global, sample: &Sample, rounds: u64) -> Result<u64> {
-    clones(&read_value(alloc, sample)?, rounds)
-}
-
-fn emits_of(alloc: Global, sample: &Sample, rounds: u64) -> Result<u64> {
-    emits(alloc, &read_value(alloc, sample)?, rounds)
-}
-
-fn prints_of(alloc: Global, sample: &Sample, rounds: u64) -> Result<u64> {
-    prints(alloc, &read_value(alloc, sample)?, rounds)
-}
-
-fn equals_of(alloc: Global, sample: &Sample, rounds: u64) -> Result<u64> {
-    let value = read_value(alloc, sample)?;
-    equals(&value, &read_value(alloc, sample)?, rounds)
-}
-
-// One column: so many rounds of the call.
-fn column(alloc: Global, sample: &Sample, name: &str, rounds: u64) -> Result<u64> {
-    match name {
-        "read" => reads(alloc, sample, rounds),
-        "emit" => emits_of(alloc, sample, rounds),
-        "print" => prints_of(alloc, sample, rounds),
-        "clone" => clones_of(alloc, sample, rounds),
-        "equal" => equals_of(alloc, sample, rounds),
-        _ => Ok(0),
-    }
-}
-
-fn measure(rt: &(impl Clock + AllocGlobal + Print), sample: &Sample, rounds: u64) -> Result<()> {
-    print!(rt; "{}", sample.record_type)?;
-    for name in ["read", "emit", "print", "clone", "equal"] {
+// The tenths of a nanosecond of one call in the quickest part.
+fn least(rt: &(impl Clock + AllocGlobal), row: &mut Row, name: &str, rounds: u64) -> Result<u128> {
+    let calls = u128::from((rounds / PARTS).max(1));
+    let mut least = u128::MAX;
+    for _ in 0..PARTS {
         let begin = Instant::now(rt)?;
-        let _answered = column(rt.alloc(), sample, name, rounds)?;
-        let nanos = begin.elapsed(rt)?.as_nanos();
-        print!(rt; "\t{}", nanos / u128::from(rounds.max(1)))?;
+        column(rt.alloc(), row, name, rounds / PARTS)?;
+        least = least.min(begin.elapsed(rt)?.as_nanos().saturating_mul(10) / calls);
+    }
+    Ok(least)
+}
+
+fn measure(rt: &(impl Clock + AllocGlobal + Print), row: &mut Row, rounds: u64) -> Result<()> {
+    print!(rt; "{}", row.record_type())?;
+    for name in COLUMNS {
+        let tenths = least(rt, row, name, rounds)?;
+        print!(rt; "\t{}.{}", tenths / 10, tenths % 10)?;
+    }
+    println!(rt; "")?;
+    Ok(())
+}
+
+fn print_names(rt: &(impl AllocGlobal + Print)) -> Result<()> {
+    print!(rt; "type")?;
+    for name in COLUMNS {
+        print!(rt; "\t{name}")?;
     }
     println!(rt; "")?;
     Ok(())
@@ -156,18 +70,20 @@ fn measure(rt: &(impl Clock + AllocGlobal + Print), sample: &Sample, rounds: u64
 
 fn main(rt: HostRuntime) -> Result<()> {
     let mut args = std::env::args(&rt)?.skip(1);
-    let rounds = match args.next() {
-        Some(word) => word.parse::<u64>()?,
-        None => 1,
+    let Some(word) = args.next() else {
+        return Ok(());
     };
+    let rounds = word.parse::<u64>()?;
     let only = args.next();
+    let compares = args.next().is_some();
+    if only.is_none() {
+        print_names(&rt)?;
+    }
     for line in io::BufReader::new(rt.alloc(), rt.reader())?.lines(rt.alloc()) {
-        let sample = read_sample(rt.alloc(), line?.as_str())?;
+        let mut row = read_row(rt.alloc(), line?.as_str(), compares)?;
         match &only {
-            Some(name) => {
-                let _answered = column(rt.alloc(), &sample, name.as_str(), rounds)?;
-            }
-            None => measure(&rt, &sample, rounds)?,
+            Some(name) => column(rt.alloc(), &mut row, name.as_str(), rounds)?,
+            None => measure(&rt, &mut row, rounds)?,
         }
     }
     Ok(())

@@ -1,5 +1,5 @@
-use Rattle.dns_fields.specs.Equal.{values_equiv}
-use Rattle.dns_fields.specs.Order.{values_total, values_ties}
+use Rattle.dns_fields.proofs.Equivalences.{values_equiv}
+use Rattle.dns_fields.proofs.Orders.{values_total, values_ties}
 use Rattle.dns_fields.proofs.EqualLaws.{values_decide}
 use Rattle.dns_fields.proofs.comparing_holds.Goals as goal
 

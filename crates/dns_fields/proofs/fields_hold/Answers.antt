@@ -1,9 +1,12 @@
-use Rattle.dns_fields.proofs.Laws.{stands_law, canonical_law, canonical_stands, wrote_stands}
+use Rattle.dns_fields.proofs.Laws.{stands_law, one_end, canonical_law, canonical_stands, wrote_stands}
 use Rattle.dns_fields.proofs.OctetLaws.{canonical_octets_are}
 use Rattle.dns_fields.proofs.fields_hold.Goals as goal
 
 pub returns-clause-stands : goal.returns-clause-stands
 returns-clause-stands c = stands_law
+
+pub returns-clause-ends : goal.returns-clause-ends
+returns-clause-ends c = one_end
 
 pub returns-clause-canonical : goal.returns-clause-canonical
 returns-clause-canonical c = canonical_law

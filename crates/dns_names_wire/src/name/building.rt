@@ -7,7 +7,7 @@ ghost use Rattle.dns_labels.specs.Labels.{labels_of, name_of, AreNameOctets};
 ghost use Rattle.dns_names_wire.specs.NameValues.{IsRefusal, IsParsed, with_label, joined_name, completed, qualified, in_lowercase, parent_name};
 
 use crate::name::Name;
-use dns_labels::{NameError, building};
+use dns_labels::{NameError, NameOctets, building};
 use dns_types::{ProtoError, ProtoResult};
 use std::alloc::{AllocError, Global};
 
@@ -19,7 +19,7 @@ impl Name {
         ensures refused { IfErr result (λ e. IsRefusal e (IsName (qualified (map (λ label. label.now) labels.now)) → ⊥)) }
     {
         match join_labels(alloc, labels) {
-            Ok(octets) => Ok(Name::from_octets(octets, true)),
+            Ok(octets) => Ok(Name::from_octets(NameOctets::from_vec(octets), true)),
             Err(NameError::Memory) => Err(ProtoError::Memory),
             Err(NameError::Invalid) => Err(ProtoError::Message("not the labels of a domain name")),
         }
@@ -31,12 +31,10 @@ impl Name {
         ensures ok { IfOk result (λ x. x ≡ with_label self label.now) }
         ensures refused { IfErr result (λ e. IsRefusal e (IsName (with_label self label.now) → ⊥)) }
     {
-        let Name {
-            mut octets,
-            is_fqdn,
-        } = self;
+        let Name { octets, is_fqdn } = self;
+        let mut octets = octets.into_vec()?;
         match building::append_label(&mut octets, label) {
-            Ok(()) => Ok(Name::from_octets(octets, is_fqdn)),
+            Ok(()) => Ok(Name::from_octets(NameOctets::from_vec(octets), is_fqdn)),
             Err(NameError::Memory) => Err(ProtoError::Memory),
             Err(NameError::Invalid) => Err(ProtoError::Message("label does not fit a domain name")),
         }
@@ -48,9 +46,10 @@ impl Name {
         ensures ok { IfOk result (λ x. x ≡ joined_name self other.now) }
         ensures refused { IfErr result (λ e. IsRefusal e (IsName (joined_name self other.now) → ⊥)) }
     {
-        let Name { mut octets, .. } = self;
+        let Name { octets, .. } = self;
+        let mut octets = octets.into_vec()?;
         match building::append_octets(&mut octets, other.octets.as_slice()) {
-            Ok(()) => Ok(Name::from_octets(octets, other.is_fqdn)),
+            Ok(()) => Ok(Name::from_octets(NameOctets::from_vec(octets), other.is_fqdn)),
             Err(NameError::Memory) => Err(ProtoError::Memory),
             Err(NameError::Invalid) => Err(ProtoError::Message("domain name past 255 octets")),
         }
@@ -95,7 +94,7 @@ impl Name {
     {
         let mut octets = Vec::from_slice(self.allocator(), self.octets.as_slice())?;
         octets.as_mut_slice().make_ascii_lowercase();
-        Ok(Name::from_octets(octets, self.is_fqdn))
+        Ok(Name::from_octets(NameOctets::from_vec(octets), self.is_fqdn))
     }
 
     /// The name without its first label, its mark kept; of a name without labels that name. Fails only for want of
@@ -104,7 +103,7 @@ impl Name {
         ensures { IfOk result (λ x. x ≡ parent_name self.now) }
     {
         let rest = without_first(self.octets.as_slice());
-        let octets = Vec::from_slice(self.allocator(), rest)?;
+        let octets = NameOctets::from_slice(self.allocator(), rest)?;
         Ok(Name::from_octets(octets, self.is_fqdn))
     }
 }

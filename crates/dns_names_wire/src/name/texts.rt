@@ -6,8 +6,8 @@ ghost use Rattle.dns_labels.specs.Text.{IsNameText, HasOctets, name_text};
 ghost use Rattle.dns_names_wire.specs.NameValues.{IsRefusal};
 
 use crate::name::Name;
-use dns_labels::NameError;
 use dns_labels::text::{NameText, parse_octets};
+use dns_labels::{NameError, NameOctets};
 use dns_types::{ProtoError, ProtoResult};
 use std::alloc::{AllocError, Global};
 use std::fmt;
@@ -27,7 +27,7 @@ impl Name {
             MatchResult result (λ n. n ≡ x) (λ e. e ≡ ProtoError.Memory) }
     {
         match parse_octets(alloc, text.as_bytes()) {
-            Ok((octets, is_fqdn)) => Ok(Name::from_octets(octets, is_fqdn)),
+            Ok((octets, is_fqdn)) => Ok(Name::from_octets(NameOctets::from_vec(octets), is_fqdn)),
             Err(NameError::Memory) => Err(ProtoError::Memory),
             Err(NameError::Invalid) => Err(ProtoError::Message("not the text of a domain name")),
         }

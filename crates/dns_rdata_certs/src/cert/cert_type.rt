@@ -1,6 +1,13 @@
 //! The type of a certificate in CERT (RFC 4398, 2.1).
 
-ghost use Rattle.std.specs.Prelude.{◌≡◌, IfErr, OnErr};
+ghost use Rattle.std.specs.Prelude.{◌≡◌, ◌++◌, refl, IfErr, OnErr};
+ghost use Rattle.std.specs.Cmp.{partial_equiv_from_equiv, partial_order_from_agreeing_total};
+ghost use Rattle.std.specs.Cmp.Rules.{hashing};
+ghost use Rattle.std.specs.Hash as fed;
+ghost use Rattle.std.specs.Ordering.{as_partial_cmp};
+ghost use Rattle.std.proofs.Common.{rules};
+ghost use Rattle.dns_rdata_base.specs.Numbered.{numbered_eq, numbered_cmp};
+ghost use Rattle.dns_rdata_base.proofs.NumberedLaws.{numbered_equiv, numbered_total, numbered_ties};
 ghost use Rattle.dns_names_wire.specs.Words.{ReadsBy, LacksOctets};
 ghost use Rattle.dns_rdata_certs.specs.CertType.{cert_type_number, cert_type_variant, cert_type_of};
 
@@ -96,6 +103,14 @@ impl From<CertType> for u16 {
 }
 
 impl CertType {
+    /// The number on the wire.
+    #[inline]
+    pub fn number(self) -> u16
+        ensures { result ≡ cert_type_number self }
+    {
+        u16::from(self)
+    }
+
     // The place in the declaration.
     #[inline]
     fn variant(self) -> u8
@@ -122,9 +137,6 @@ impl CertType {
 }
 
 impl PartialEq for CertType {
-    ghost use Rattle.std.specs.Cmp.{partial_equiv_from_equiv};
-    ghost use Rattle.dns_rdata_base.specs.Numbered.{numbered_eq, numbered_equiv};
-
     ghost eq = { numbered_eq cert_type_number cert_type_variant };
 
     ghost laws = { partial_equiv_from_equiv (numbered_equiv cert_type_number cert_type_variant) };
@@ -136,17 +148,10 @@ impl PartialEq for CertType {
 }
 
 impl Eq for CertType {
-    ghost use Rattle.dns_rdata_base.specs.Numbered.{numbered_equiv};
-
     ghost laws = { numbered_equiv cert_type_number cert_type_variant };
 }
 
 impl Hash for CertType {
-    ghost use Rattle.std.specs.Prelude.{◌++◌};
-    ghost use Rattle.std.specs.Hash as fed;
-    ghost use Rattle.std.specs.Cmp.Rules.{hashing};
-    ghost use Rattle.std.proofs.Common.{rules};
-
     ghost hash_input = { λ e. fed.u16 (cert_type_number e) ++ fed.u8 (cert_type_variant e) };
 
     ghost respects_eq = { Prim.search (hashing, rules) };
@@ -159,11 +164,6 @@ impl Hash for CertType {
 }
 
 impl PartialOrd for CertType {
-    ghost use Rattle.std.specs.Prelude.{refl};
-    ghost use Rattle.std.specs.Cmp.{partial_order_from_agreeing_total};
-    ghost use Rattle.std.specs.Ordering.{as_partial_cmp};
-    ghost use Rattle.dns_rdata_base.specs.Numbered.{numbered_cmp, numbered_total, numbered_ties};
-
     ghost partial_cmp = { as_partial_cmp (numbered_cmp cert_type_number cert_type_variant) };
 
     ghost laws = { partial_order_from_agreeing_total (numbered_cmp cert_type_number cert_type_variant) (numbered_total cert_type_number cert_type_variant) (λ _ _. refl) (numbered_ties cert_type_number cert_type_variant) };
@@ -175,9 +175,6 @@ impl PartialOrd for CertType {
 }
 
 impl Ord for CertType {
-    ghost use Rattle.std.specs.Prelude.{refl};
-    ghost use Rattle.dns_rdata_base.specs.Numbered.{numbered_cmp, numbered_total, numbered_ties};
-
     ghost cmp = { numbered_cmp cert_type_number cert_type_variant };
 
     ghost total = { numbered_total cert_type_number cert_type_variant };

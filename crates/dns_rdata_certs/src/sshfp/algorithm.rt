@@ -1,6 +1,13 @@
 //! The algorithm of a key in SSHFP (RFC 4255, 3.1.1).
 
-ghost use Rattle.std.specs.Prelude.{◌≡◌};
+ghost use Rattle.std.specs.Prelude.{◌≡◌, ◌++◌, refl};
+ghost use Rattle.std.specs.Cmp.{partial_equiv_from_equiv, partial_order_from_agreeing_total};
+ghost use Rattle.std.specs.Cmp.Rules.{hashing};
+ghost use Rattle.std.specs.Hash as fed;
+ghost use Rattle.std.specs.Ordering.{as_partial_cmp};
+ghost use Rattle.std.proofs.Common.{rules};
+ghost use Rattle.dns_rdata_base.specs.Numbered.{numbered_eq, numbered_cmp};
+ghost use Rattle.dns_rdata_base.proofs.NumberedLaws.{numbered_equiv, numbered_total, numbered_ties};
 ghost use Rattle.dns_rdata_certs.specs.SshfpAlgorithm.{sshfp_algorithm_number, sshfp_algorithm_variant, sshfp_algorithm_of};
 
 use std::cmp::Ordering;
@@ -61,6 +68,14 @@ impl From<Algorithm> for u8 {
 }
 
 impl Algorithm {
+    /// The number on the wire.
+    #[inline]
+    pub fn number(self) -> u8
+        ensures { result ≡ sshfp_algorithm_number self }
+    {
+        u8::from(self)
+    }
+
     // The place in the declaration.
     #[inline]
     fn variant(self) -> u8
@@ -79,9 +94,6 @@ impl Algorithm {
 }
 
 impl PartialEq for Algorithm {
-    ghost use Rattle.std.specs.Cmp.{partial_equiv_from_equiv};
-    ghost use Rattle.dns_rdata_base.specs.Numbered.{numbered_eq, numbered_equiv};
-
     ghost eq = { numbered_eq sshfp_algorithm_number sshfp_algorithm_variant };
 
     ghost laws = { partial_equiv_from_equiv (numbered_equiv sshfp_algorithm_number sshfp_algorithm_variant) };
@@ -93,17 +105,10 @@ impl PartialEq for Algorithm {
 }
 
 impl Eq for Algorithm {
-    ghost use Rattle.dns_rdata_base.specs.Numbered.{numbered_equiv};
-
     ghost laws = { numbered_equiv sshfp_algorithm_number sshfp_algorithm_variant };
 }
 
 impl Hash for Algorithm {
-    ghost use Rattle.std.specs.Prelude.{◌++◌};
-    ghost use Rattle.std.specs.Hash as fed;
-    ghost use Rattle.std.specs.Cmp.Rules.{hashing};
-    ghost use Rattle.std.proofs.Common.{rules};
-
     ghost hash_input = { λ e. fed.u8 (sshfp_algorithm_number e) ++ fed.u8 (sshfp_algorithm_variant e) };
 
     ghost respects_eq = { Prim.search (hashing, rules) };
@@ -116,11 +121,6 @@ impl Hash for Algorithm {
 }
 
 impl PartialOrd for Algorithm {
-    ghost use Rattle.std.specs.Prelude.{refl};
-    ghost use Rattle.std.specs.Cmp.{partial_order_from_agreeing_total};
-    ghost use Rattle.std.specs.Ordering.{as_partial_cmp};
-    ghost use Rattle.dns_rdata_base.specs.Numbered.{numbered_cmp, numbered_total, numbered_ties};
-
     ghost partial_cmp = { as_partial_cmp (numbered_cmp sshfp_algorithm_number sshfp_algorithm_variant) };
 
     ghost laws = { partial_order_from_agreeing_total (numbered_cmp sshfp_algorithm_number sshfp_algorithm_variant) (numbered_total sshfp_algorithm_number sshfp_algorithm_variant) (λ _ _. refl) (numbered_ties sshfp_algorithm_number sshfp_algorithm_variant) };
@@ -132,9 +132,6 @@ impl PartialOrd for Algorithm {
 }
 
 impl Ord for Algorithm {
-    ghost use Rattle.std.specs.Prelude.{refl};
-    ghost use Rattle.dns_rdata_base.specs.Numbered.{numbered_cmp, numbered_total, numbered_ties};
-
     ghost cmp = { numbered_cmp sshfp_algorithm_number sshfp_algorithm_variant };
 
     ghost total = { numbered_total sshfp_algorithm_number sshfp_algorithm_variant };

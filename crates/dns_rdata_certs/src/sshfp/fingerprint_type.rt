@@ -1,6 +1,13 @@
 //! The type of a fingerprint in SSHFP (RFC 4255, 3.1.2).
 
-ghost use Rattle.std.specs.Prelude.{◌≡◌};
+ghost use Rattle.std.specs.Prelude.{◌≡◌, ◌++◌, refl};
+ghost use Rattle.std.specs.Cmp.{partial_equiv_from_equiv, partial_order_from_agreeing_total};
+ghost use Rattle.std.specs.Cmp.Rules.{hashing};
+ghost use Rattle.std.specs.Hash as fed;
+ghost use Rattle.std.specs.Ordering.{as_partial_cmp};
+ghost use Rattle.std.proofs.Common.{rules};
+ghost use Rattle.dns_rdata_base.specs.Numbered.{numbered_eq, numbered_cmp};
+ghost use Rattle.dns_rdata_base.proofs.NumberedLaws.{numbered_equiv, numbered_total, numbered_ties};
 ghost use Rattle.dns_rdata_certs.specs.FingerprintType.{fingerprint_type_number, fingerprint_type_variant, fingerprint_type_of};
 
 use std::cmp::Ordering;
@@ -49,6 +56,14 @@ impl From<FingerprintType> for u8 {
 }
 
 impl FingerprintType {
+    /// The number on the wire.
+    #[inline]
+    pub fn number(self) -> u8
+        ensures { result ≡ fingerprint_type_number self }
+    {
+        u8::from(self)
+    }
+
     // The place in the declaration.
     #[inline]
     fn variant(self) -> u8
@@ -64,9 +79,6 @@ impl FingerprintType {
 }
 
 impl PartialEq for FingerprintType {
-    ghost use Rattle.std.specs.Cmp.{partial_equiv_from_equiv};
-    ghost use Rattle.dns_rdata_base.specs.Numbered.{numbered_eq, numbered_equiv};
-
     ghost eq = { numbered_eq fingerprint_type_number fingerprint_type_variant };
 
     ghost laws = { partial_equiv_from_equiv (numbered_equiv fingerprint_type_number fingerprint_type_variant) };
@@ -78,17 +90,10 @@ impl PartialEq for FingerprintType {
 }
 
 impl Eq for FingerprintType {
-    ghost use Rattle.dns_rdata_base.specs.Numbered.{numbered_equiv};
-
     ghost laws = { numbered_equiv fingerprint_type_number fingerprint_type_variant };
 }
 
 impl Hash for FingerprintType {
-    ghost use Rattle.std.specs.Prelude.{◌++◌};
-    ghost use Rattle.std.specs.Hash as fed;
-    ghost use Rattle.std.specs.Cmp.Rules.{hashing};
-    ghost use Rattle.std.proofs.Common.{rules};
-
     ghost hash_input = { λ e. fed.u8 (fingerprint_type_number e) ++ fed.u8 (fingerprint_type_variant e) };
 
     ghost respects_eq = { Prim.search (hashing, rules) };
@@ -101,11 +106,6 @@ impl Hash for FingerprintType {
 }
 
 impl PartialOrd for FingerprintType {
-    ghost use Rattle.std.specs.Prelude.{refl};
-    ghost use Rattle.std.specs.Cmp.{partial_order_from_agreeing_total};
-    ghost use Rattle.std.specs.Ordering.{as_partial_cmp};
-    ghost use Rattle.dns_rdata_base.specs.Numbered.{numbered_cmp, numbered_total, numbered_ties};
-
     ghost partial_cmp = { as_partial_cmp (numbered_cmp fingerprint_type_number fingerprint_type_variant) };
 
     ghost laws = { partial_order_from_agreeing_total (numbered_cmp fingerprint_type_number fingerprint_type_variant) (numbered_total fingerprint_type_number fingerprint_type_variant) (λ _ _. refl) (numbered_ties fingerprint_type_number fingerprint_type_variant) };
@@ -117,9 +117,6 @@ impl PartialOrd for FingerprintType {
 }
 
 impl Ord for FingerprintType {
-    ghost use Rattle.std.specs.Prelude.{refl};
-    ghost use Rattle.dns_rdata_base.specs.Numbered.{numbered_cmp, numbered_total, numbered_ties};
-
     ghost cmp = { numbered_cmp fingerprint_type_number fingerprint_type_variant };
 
     ghost total = { numbered_total fingerprint_type_number fingerprint_type_variant };

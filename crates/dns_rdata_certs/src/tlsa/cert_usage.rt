@@ -1,6 +1,13 @@
 //! The usage of a certificate in TLSA (RFC 6698, 2.1.1).
 
-ghost use Rattle.std.specs.Prelude.{◌≡◌};
+ghost use Rattle.std.specs.Prelude.{◌≡◌, ◌++◌, refl};
+ghost use Rattle.std.specs.Cmp.{partial_equiv_from_equiv, partial_order_from_agreeing_total};
+ghost use Rattle.std.specs.Cmp.Rules.{hashing};
+ghost use Rattle.std.specs.Hash as fed;
+ghost use Rattle.std.specs.Ordering.{as_partial_cmp};
+ghost use Rattle.std.proofs.Common.{rules};
+ghost use Rattle.dns_rdata_base.specs.Numbered.{numbered_eq, numbered_cmp};
+ghost use Rattle.dns_rdata_base.proofs.NumberedLaws.{numbered_equiv, numbered_total, numbered_ties};
 ghost use Rattle.dns_rdata_certs.specs.CertUsage.{cert_usage_number, cert_usage_variant, cert_usage_of};
 
 use std::cmp::Ordering;
@@ -57,6 +64,14 @@ impl From<CertUsage> for u8 {
 }
 
 impl CertUsage {
+    /// The number on the wire.
+    #[inline]
+    pub fn number(self) -> u8
+        ensures { result ≡ cert_usage_number self }
+    {
+        u8::from(self)
+    }
+
     // The place in the declaration.
     #[inline]
     fn variant(self) -> u8
@@ -74,9 +89,6 @@ impl CertUsage {
 }
 
 impl PartialEq for CertUsage {
-    ghost use Rattle.std.specs.Cmp.{partial_equiv_from_equiv};
-    ghost use Rattle.dns_rdata_base.specs.Numbered.{numbered_eq, numbered_equiv};
-
     ghost eq = { numbered_eq cert_usage_number cert_usage_variant };
 
     ghost laws = { partial_equiv_from_equiv (numbered_equiv cert_usage_number cert_usage_variant) };
@@ -88,17 +100,10 @@ impl PartialEq for CertUsage {
 }
 
 impl Eq for CertUsage {
-    ghost use Rattle.dns_rdata_base.specs.Numbered.{numbered_equiv};
-
     ghost laws = { numbered_equiv cert_usage_number cert_usage_variant };
 }
 
 impl Hash for CertUsage {
-    ghost use Rattle.std.specs.Prelude.{◌++◌};
-    ghost use Rattle.std.specs.Hash as fed;
-    ghost use Rattle.std.specs.Cmp.Rules.{hashing};
-    ghost use Rattle.std.proofs.Common.{rules};
-
     ghost hash_input = { λ e. fed.u8 (cert_usage_number e) ++ fed.u8 (cert_usage_variant e) };
 
     ghost respects_eq = { Prim.search (hashing, rules) };
@@ -111,11 +116,6 @@ impl Hash for CertUsage {
 }
 
 impl PartialOrd for CertUsage {
-    ghost use Rattle.std.specs.Prelude.{refl};
-    ghost use Rattle.std.specs.Cmp.{partial_order_from_agreeing_total};
-    ghost use Rattle.std.specs.Ordering.{as_partial_cmp};
-    ghost use Rattle.dns_rdata_base.specs.Numbered.{numbered_cmp, numbered_total, numbered_ties};
-
     ghost partial_cmp = { as_partial_cmp (numbered_cmp cert_usage_number cert_usage_variant) };
 
     ghost laws = { partial_order_from_agreeing_total (numbered_cmp cert_usage_number cert_usage_variant) (numbered_total cert_usage_number cert_usage_variant) (λ _ _. refl) (numbered_ties cert_usage_number cert_usage_variant) };
@@ -127,9 +127,6 @@ impl PartialOrd for CertUsage {
 }
 
 impl Ord for CertUsage {
-    ghost use Rattle.std.specs.Prelude.{refl};
-    ghost use Rattle.dns_rdata_base.specs.Numbered.{numbered_cmp, numbered_total, numbered_ties};
-
     ghost cmp = { numbered_cmp cert_usage_number cert_usage_variant };
 
     ghost total = { numbered_total cert_usage_number cert_usage_variant };

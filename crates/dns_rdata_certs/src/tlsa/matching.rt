@@ -1,6 +1,13 @@
 //! How the data of TLSA is compared (RFC 6698, 2.1.3).
 
-ghost use Rattle.std.specs.Prelude.{◌≡◌};
+ghost use Rattle.std.specs.Prelude.{◌≡◌, ◌++◌, refl};
+ghost use Rattle.std.specs.Cmp.{partial_equiv_from_equiv, partial_order_from_agreeing_total};
+ghost use Rattle.std.specs.Cmp.Rules.{hashing};
+ghost use Rattle.std.specs.Hash as fed;
+ghost use Rattle.std.specs.Ordering.{as_partial_cmp};
+ghost use Rattle.std.proofs.Common.{rules};
+ghost use Rattle.dns_rdata_base.specs.Numbered.{numbered_eq, numbered_cmp};
+ghost use Rattle.dns_rdata_base.proofs.NumberedLaws.{numbered_equiv, numbered_total, numbered_ties};
 ghost use Rattle.dns_rdata_certs.specs.Matching.{matching_number, matching_variant, matching_of};
 
 use std::cmp::Ordering;
@@ -53,6 +60,14 @@ impl From<Matching> for u8 {
 }
 
 impl Matching {
+    /// The number on the wire.
+    #[inline]
+    pub fn number(self) -> u8
+        ensures { result ≡ matching_number self }
+    {
+        u8::from(self)
+    }
+
     // The place in the declaration.
     #[inline]
     fn variant(self) -> u8
@@ -69,9 +84,6 @@ impl Matching {
 }
 
 impl PartialEq for Matching {
-    ghost use Rattle.std.specs.Cmp.{partial_equiv_from_equiv};
-    ghost use Rattle.dns_rdata_base.specs.Numbered.{numbered_eq, numbered_equiv};
-
     ghost eq = { numbered_eq matching_number matching_variant };
 
     ghost laws = { partial_equiv_from_equiv (numbered_equiv matching_number matching_variant) };
@@ -83,17 +95,10 @@ impl PartialEq for Matching {
 }
 
 impl Eq for Matching {
-    ghost use Rattle.dns_rdata_base.specs.Numbered.{numbered_equiv};
-
     ghost laws = { numbered_equiv matching_number matching_variant };
 }
 
 impl Hash for Matching {
-    ghost use Rattle.std.specs.Prelude.{◌++◌};
-    ghost use Rattle.std.specs.Hash as fed;
-    ghost use Rattle.std.specs.Cmp.Rules.{hashing};
-    ghost use Rattle.std.proofs.Common.{rules};
-
     ghost hash_input = { λ e. fed.u8 (matching_number e) ++ fed.u8 (matching_variant e) };
 
     ghost respects_eq = { Prim.search (hashing, rules) };
@@ -106,11 +111,6 @@ impl Hash for Matching {
 }
 
 impl PartialOrd for Matching {
-    ghost use Rattle.std.specs.Prelude.{refl};
-    ghost use Rattle.std.specs.Cmp.{partial_order_from_agreeing_total};
-    ghost use Rattle.std.specs.Ordering.{as_partial_cmp};
-    ghost use Rattle.dns_rdata_base.specs.Numbered.{numbered_cmp, numbered_total, numbered_ties};
-
     ghost partial_cmp = { as_partial_cmp (numbered_cmp matching_number matching_variant) };
 
     ghost laws = { partial_order_from_agreeing_total (numbered_cmp matching_number matching_variant) (numbered_total matching_number matching_variant) (λ _ _. refl) (numbered_ties matching_number matching_variant) };
@@ -122,9 +122,6 @@ impl PartialOrd for Matching {
 }
 
 impl Ord for Matching {
-    ghost use Rattle.std.specs.Prelude.{refl};
-    ghost use Rattle.dns_rdata_base.specs.Numbered.{numbered_cmp, numbered_total, numbered_ties};
-
     ghost cmp = { numbered_cmp matching_number matching_variant };
 
     ghost total = { numbered_total matching_number matching_variant };

@@ -1,6 +1,13 @@
 //! The part of a certificate that TLSA names (RFC 6698, 2.1.2).
 
-ghost use Rattle.std.specs.Prelude.{◌≡◌};
+ghost use Rattle.std.specs.Prelude.{◌≡◌, ◌++◌, refl};
+ghost use Rattle.std.specs.Cmp.{partial_equiv_from_equiv, partial_order_from_agreeing_total};
+ghost use Rattle.std.specs.Cmp.Rules.{hashing};
+ghost use Rattle.std.specs.Hash as fed;
+ghost use Rattle.std.specs.Ordering.{as_partial_cmp};
+ghost use Rattle.std.proofs.Common.{rules};
+ghost use Rattle.dns_rdata_base.specs.Numbered.{numbered_eq, numbered_cmp};
+ghost use Rattle.dns_rdata_base.proofs.NumberedLaws.{numbered_equiv, numbered_total, numbered_ties};
 ghost use Rattle.dns_rdata_certs.specs.Selector.{selector_number, selector_variant, selector_of};
 
 use std::cmp::Ordering;
@@ -50,6 +57,14 @@ impl From<Selector> for u8 {
 }
 
 impl Selector {
+    /// The number on the wire.
+    #[inline]
+    pub fn number(self) -> u8
+        ensures { result ≡ selector_number self }
+    {
+        u8::from(self)
+    }
+
     // The place in the declaration.
     #[inline]
     fn variant(self) -> u8
@@ -65,9 +80,6 @@ impl Selector {
 }
 
 impl PartialEq for Selector {
-    ghost use Rattle.std.specs.Cmp.{partial_equiv_from_equiv};
-    ghost use Rattle.dns_rdata_base.specs.Numbered.{numbered_eq, numbered_equiv};
-
     ghost eq = { numbered_eq selector_number selector_variant };
 
     ghost laws = { partial_equiv_from_equiv (numbered_equiv selector_number selector_variant) };
@@ -79,17 +91,10 @@ impl PartialEq for Selector {
 }
 
 impl Eq for Selector {
-    ghost use Rattle.dns_rdata_base.specs.Numbered.{numbered_equiv};
-
     ghost laws = { numbered_equiv selector_number selector_variant };
 }
 
 impl Hash for Selector {
-    ghost use Rattle.std.specs.Prelude.{◌++◌};
-    ghost use Rattle.std.specs.Hash as fed;
-    ghost use Rattle.std.specs.Cmp.Rules.{hashing};
-    ghost use Rattle.std.proofs.Common.{rules};
-
     ghost hash_input = { λ e. fed.u8 (selector_number e) ++ fed.u8 (selector_variant e) };
 
     ghost respects_eq = { Prim.search (hashing, rules) };
@@ -102,11 +107,6 @@ impl Hash for Selector {
 }
 
 impl PartialOrd for Selector {
-    ghost use Rattle.std.specs.Prelude.{refl};
-    ghost use Rattle.std.specs.Cmp.{partial_order_from_agreeing_total};
-    ghost use Rattle.std.specs.Ordering.{as_partial_cmp};
-    ghost use Rattle.dns_rdata_base.specs.Numbered.{numbered_cmp, numbered_total, numbered_ties};
-
     ghost partial_cmp = { as_partial_cmp (numbered_cmp selector_number selector_variant) };
 
     ghost laws = { partial_order_from_agreeing_total (numbered_cmp selector_number selector_variant) (numbered_total selector_number selector_variant) (λ _ _. refl) (numbered_ties selector_number selector_variant) };
@@ -118,9 +118,6 @@ impl PartialOrd for Selector {
 }
 
 impl Ord for Selector {
-    ghost use Rattle.std.specs.Prelude.{refl};
-    ghost use Rattle.dns_rdata_base.specs.Numbered.{numbered_cmp, numbered_total, numbered_ties};
-
     ghost cmp = { numbered_cmp selector_number selector_variant };
 
     ghost total = { numbered_total selector_number selector_variant };

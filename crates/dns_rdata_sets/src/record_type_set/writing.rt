@@ -50,7 +50,8 @@ fn emit_block(encoder: &mut BinEncoder<'_>, run: &[u16]) -> Result<(), ProtoErro
 {
     let number = (run[0] / 256) as u8;
     let len = run[run.len() - 1] as usize % 256 / 8 + 1;
-    let octets = window_octets(run);
+    let mut octets = [0u8; 32];
+    mark_window(&mut octets, run);
     emit_parts(encoder, number, &as_octets(&octets)[..len])
 }
 
@@ -75,17 +76,16 @@ fn emit_parts(encoder: &mut BinEncoder<'_>, number: u8, octets: &[u8]) -> Result
     Ok(())
 }
 
-// The 32 octets of a window whose types these are, zeros at the end too.
-fn window_octets(run: &[u16]) -> [u8; 32]
+// Makes of 32 octets those of a window whose types these are, zeros at the end too.
+fn mark_window(octets: &mut [u8; 32], run: &[u16])
     requires some { 0 < length run.now }
     requires run { AreOfWindow (first_window run.now) run.now }
-    ensures { (n : ℕ) → n < 256 → bit_at (slice_index result (n / 8)) (7 - n % 8) ≡ mark run.now (256 * first_window run.now + n) }
+    ensures { (n : ℕ) → n < 256 → bit_at (slice_index octets.new (n / 8)) (7 - n % 8) ≡ mark run.now (256 * first_window run.now + n) }
 {
-    let mut octets = [0u8; 32];
+    *octets = [0; 32];
     for t in run {
-        mark_bit(&mut octets, (*t % 256) as usize);
+        mark_bit(octets, (*t % 256) as usize);
     }
-    octets
 }
 
 // Sets bit b of a window, the highest of its octet first.

@@ -13,7 +13,7 @@ pub returns-clause-inside : goal.returns-clause-inside
 returns-clause-inside c = λ m p x e a. end_within a.stands
 
 pub returns-clause-written : goal.returns-clause-written
-returns-clause-written c = λ mode m octets more x w. (w.read, w.same, name_append more w.stands)
+returns-clause-written c = λ mode m octets more x w. name_append more w.stands
 
 pub returns-clause-lowered : goal.returns-clause-lowered
 returns-clause-lowered c = λ x y. low_labels_same x.labels y.labels

@@ -17,5 +17,5 @@ labels-preserved c = cut_more c.args.octets.now c.labels.cut c.labels.invariant 
 pub returns : goal.returns
 returns c = cut_all c.args.message.now c.args.octets.now c.labels.cut c.labels.invariant (omega arith)
 
-pub slice_bounds-octet-items-end : goal.slice_bounds-octet-items-end
-slice_bounds-octet-items-end c = (cut_more c.args.octets.now c.labels.cut c.labels.invariant (omega arith)).within
+pub slice_bounds-label-end : goal.slice_bounds-label-end
+slice_bounds-label-end c = (cut_more c.args.octets.now c.labels.cut c.labels.invariant (omega arith)).within

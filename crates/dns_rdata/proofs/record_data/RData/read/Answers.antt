@@ -1,6 +1,6 @@
 use Rattle.std.proofs.Common.{arith}
 use Rattle.dns_rdata.proofs.DataReads.{data_found, data_refused, data_why}
-use Rattle.dns_rdata.proofs.DataLaws.{canonical_of}
+use Rattle.dns_rdata.proofs.DataLaws.{canonical_of, emittable_of}
 use Rattle.dns_rdata.proofs.record_data.RData.read.Goals as goal
 
 pub returns-clause-refused : goal.returns-clause-refused
@@ -11,3 +11,6 @@ returns-clause-why c = rw c.by_length.ensures (data_why _ _ _ _ _ _ _ c.read_fie
 
 pub returns-clause-canonical : goal.returns-clause-canonical
 returns-clause-canonical c = rw c.by_length.ensures (canonical_of _ _ _ _ _ (data_found _ _ _ _ _ _ _ c.read_fields-outcome.ensures.reads (record { taken = omega (arith, c.index.ensures.place, c.index-start.ensures.place); wanted = c.unverified-len.ensures })))
+
+pub returns-clause-emittable : goal.returns-clause-emittable
+returns-clause-emittable c = rw c.by_length.ensures (emittable_of _ _ _ _ _ (data_found _ _ _ _ _ _ _ c.read_fields-outcome.ensures.reads (record { taken = omega (arith, c.index.ensures.place, c.index-start.ensures.place); wanted = c.unverified-len.ensures })))

@@ -1,13 +1,33 @@
-use Rattle.std.proofs.Common.{rules, sym, arith}
+use Rattle.std.proofs.Common.{◌≡◌, ℕ, List, [], ◌++◌, rules, sym, ap, ◌∙◌, append_assoc, append-nil}
 use Rattle.std.proofs.Output.{has_written_append, has_written_of_eq}
-use Rattle.hex.specs.Hex.{lower_digits}
-use Rattle.dns_rdata_certs.proofs.HexText.{encode_lower-more, encode_with-none}
+use Rattle.std.proofs.lemmas.List.{nil_from_length}
+use Rattle.hex.specs.Hex.{encode_lower, lower_digits}
+use Rattle.dns_rdata_certs.proofs.HexText.{encode_with-append, encode_with-none}
 use Rattle.dns_rdata_certs.proofs.hexadecimal.HexadecimalDisplay.fmt.Goals as goal
 
-pub loop-octet-init : goal.loop-octet-init
-loop-octet-init g c = λ p. rw (encode_with-none lower_digits) (search rules)
+pub loop-chunk-init : goal.loop-chunk-init
+loop-chunk-init g c = (search rules, tt, search rules, λ plain. ([], search rules, search rules))
 
-pub loop-octet-preserved : goal.loop-octet-preserved
-loop-octet-preserved g c = λ p.
-    has_written_of_eq _ _ _ _ _ (sym (encode_lower-more c.args.self.now.0.now c.loop-octet.octet-index (omega arith)))
-    (has_written_append _ _ _ _ _ _ (c.loop-octet.invariant p) (search rules))
+pub loop-chunk-preserved : goal.loop-chunk-preserved
+loop-chunk-preserved g c =
+    let chunk = c.in-Some.chunk.now in
+    let steps = c.in-Some.ensures.steps in
+    let shown : c.in-Ok-from_utf8.text.now ≡ encode_lower chunk = c.in-Ok-from_utf8.ensures.cases.0 ∙ c.in-Ok.ensures.written in (
+      search rules,
+      tt,
+      steps.0 ∙ c.loop-chunk.invariant.2,
+      λ plain.
+          let so_far = c.loop-chunk.invariant.3 plain in (
+            so_far.0 ++ c.in-Ok-from_utf8.text.now,
+            has_written_append _ _ _ _ _ _ so_far.1 (search rules),
+            append_assoc so_far.0 _ _
+                ∙ ap (λ (t : List ℕ). so_far.0 ++ t) (rw shown (sym (encode_with-append lower_digits chunk _) ∙ ap encode_lower (sym steps.1.0)))
+                ∙ so_far.2,
+          ),
+    )
+
+pub returns-clause-writes : goal.returns-clause-writes
+returns-clause-writes g c = λ plain _.
+    let so_far = c.loop-chunk.invariant.3 plain in
+    let none = nil_from_length _ c.in-None.ensures.steps.1.0 in
+    has_written_of_eq _ _ _ _ _ (rw (none, encode_with-none lower_digits, append-nil) at so_far.2) so_far.1

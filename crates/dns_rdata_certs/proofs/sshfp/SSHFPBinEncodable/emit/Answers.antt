@@ -5,9 +5,11 @@ use Rattle.dns_rdata_certs.proofs.sshfp.SSHFPBinEncodable.emit.Goals as goal
 pub returns-in_err-emit_u8-2 : goal.returns-in_err-emit_u8-2
 returns-in_err-emit_u8-2 c =
     let p = err_from_is_err_and c.from_residual-in_err-emit_u8-2.result c.from_residual-in_err-emit_u8-2.ensures.1 in
-    rw (p.1, p.2) (record { emits = stopped_then (rw c.from.ensures at c.in_ok-emit_u8.ensures.emits) (stopped_first (rw c.from-2.ensures at c.in_err-emit_u8-2.ensures.emits)) })
+    let e = stopped_then (rw c.from.ensures at c.in_ok-emit_u8.ensures.emits) (stopped_first (rw c.from-2.ensures at c.in_err-emit_u8-2.ensures.emits)) in
+    rw (p.1, p.2) (record { emits = e; extends = e.extends })
 
 pub returns-in_err-emit_vec : goal.returns-in_err-emit_vec
 returns-in_err-emit_vec c =
     let p = err_from_is_err_and c.from_residual-in_err-emit_vec.result c.from_residual-in_err-emit_vec.ensures.1 in
-    rw (p.1, p.2) (record { emits = stopped_then (rw c.from.ensures at c.in_ok-emit_u8.ensures.emits) (stopped_then (rw c.from-2.ensures at c.in_ok-emit_u8-2.ensures.emits) (stopped_first (rw c.as_slice.ensures.value at c.in_err-emit_vec.ensures.emits))) })
+    let e = stopped_then (rw c.from.ensures at c.in_ok-emit_u8.ensures.emits) (stopped_then (rw c.from-2.ensures at c.in_ok-emit_u8-2.ensures.emits) (stopped_first (rw c.as_slice.ensures.value at c.in_err-emit_vec.ensures.emits))) in
+    rw (p.1, p.2) (record { emits = e; extends = e.extends })

@@ -8,11 +8,11 @@ use Rattle.dns_rdata_sets.proofs.record_type_set.writing.emit_block.Goals as goa
 pub returns : goal.returns
 returns c =
     let run = c.args.run.now in
-    let octets = c.window_octets-octets.result in
+    let octets = c.mark_window.new.octets in
     let k : ℕ = get_or run 0 0 / 256 in
     let j : ℕ = get_or run (length run - 1) 0 % 256 / 8 in
     let long : length octets ≡ 32 = search rules in
-    let same : take (j + 1) octets ≡ window run k = window_is octets run k (length run - 1) (record { bits = c.window_octets-octets.ensures }) long c.as_octets.ensures.octets c.requires.rises c.requires.run (omega arith) in
+    let same : take (j + 1) octets ≡ window run k = window_is octets run k (length run - 1) (record { bits = c.mark_window.ensures }) long c.as_octets.ensures.octets c.requires.rises c.requires.run (omega arith) in
     let count : length (take (j + 1) octets) ≡ length (window run k) = ap length same in
     let cut = length-take (j + 1) octets in
     record {

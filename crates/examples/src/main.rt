@@ -1,0 +1,89 @@
+//! Writes a message of a header and two records, prints its octets, and reads the records again.
+#![tactic(auto)]
+
+ghost use Rattle.std.specs.Prelude.{◌≡◌, []};
+
+use anyhow::Result;
+use dns_rdata::{
+    A, BinDecodable, BinDecoder, BinEncodable, BinEncoder, CNAME, Name, Octets, ProtoError,
+    ProtoResult, RData, RecordType, Strings, TXT,
+};
+use std::alloc::Global;
+
+// The class of the internet (RFC 1035, 3.2.4).
+const IN: u16 = 1;
+
+/// Appends a record: owner, type, class, time to live, and the data behind its length (RFC 1035, 4.1.3).
+fn emit_record(
+    encoder: &mut BinEncoder<'_>,
+    owner: &Name,
+    ttl: u32,
+    rdata: &RData,
+) -> ProtoResult<()> {
+    owner.emit(encoder)?;
+    rdata.record_type().emit(encoder)?;
+    encoder.emit_u16(IN)?;
+    encoder.emit_u32(ttl)?;
+    let place = encoder.place()?;
+    rdata.emit(encoder)?;
+    let length = encoder.len_since_place(&place);
+    if length > 65535 {
+        return Err(ProtoError::Message("data past 65535 octets"));
+    }
+    encoder.replace(place, length as u16);
+    Ok(())
+}
+
+/// An alias and the address of its host, behind a header (RFC 1035, 4.1.1). The second owner and the end of the
+/// alias's data are pointers to names that stand already.
+fn write_message(alloc: Global, octets: &mut Vec<u8>) -> ProtoResult<()>
+    requires { octets.old.items ≡ [] }
+{
+    let owner = Name::from_ascii(alloc, "www.example.com.")?;
+    let host = Name::from_ascii(alloc, "host.example.com.")?;
+    let alias = RData::CNAME(CNAME(host.clone()?));
+    let address = RData::A(A::new(192, 0, 2, 1));
+    let mut encoder = BinEncoder::new(alloc, octets);
+    for number in [1, 0x8400, 0, 2, 0, 0] {
+        encoder.emit_u16(number)?;
+    }
+    emit_record(&mut encoder, &owner, 300, &alias)?;
+    emit_record(&mut encoder, &host, 300, &address)?;
+    encoder.into_bytes();
+    Ok(())
+}
+
+/// Prints the records behind the header.
+fn print_records(rt: &(impl AllocGlobal + Print), message: &[u8]) -> Result<()> {
+    let mut decoder = BinDecoder::new(rt.alloc(), message);
+    let _header = decoder.read_slice(12)?;
+    while !decoder.is_empty() {
+        let owner = Name::read(&mut decoder)?;
+        let kind = RecordType::read(&mut decoder)?;
+        let _class_and_ttl = decoder.read_slice(6)?;
+        let length = decoder.read_u16()?;
+        let rdata = RData::read(&mut decoder, kind, length)?;
+        println!(rt; "{owner} {kind} {rdata}")?;
+    }
+    Ok(())
+}
+
+fn print_text(rt: &(impl AllocGlobal + Print)) -> Result<()> {
+    let mut txt_data = Strings::new(rt.alloc());
+    txt_data.push(Octets::from_slice(rt.alloc(), b"v=spf1 -all")?)?;
+    let text = RData::TXT(TXT { txt_data });
+    println!(rt;
+        "{} {} {text}",
+        text.record_type(),
+        text.record_type().number()
+    )?;
+    Ok(())
+}
+
+fn main(rt: HostRuntime) -> Result<()> {
+    let mut octets = Vec::new(rt.alloc());
+    write_message(rt.alloc(), &mut octets)?;
+    println!(rt; "{}", hex::encode(rt.alloc(), octets.as_slice())?)?;
+    print_records(&rt, octets.as_slice())?;
+    print_text(&rt)
+}

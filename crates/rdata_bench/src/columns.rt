@@ -1,0 +1,170 @@
+//! The calls that are measured.
+
+use anyhow::Result;
+use dns_rdata::{BinDecoder, BinEncodable, BinEncoder, DecodeError, RData, RecordType, Restrict};
+use std::alloc::Global;
+use std::fmt::Write;
+
+// The octets in an encoder before another one is begun.
+const KEPT: usize = 60000;
+
+// How many equal values there are, so that no call is the same as the one before.
+const COPIES: u64 = 8;
+
+/// Record data in a message, equal values of it and as many others, and what is written into.
+#[derive(Drop)]
+pub struct Row {
+    record_type: RecordType,
+    message: Vec<u8>,
+    place: usize,
+    length: u16,
+    values: Vec<RData>,
+    others: Vec<RData>,
+    octets: Vec<u8>,
+    text: String,
+    // whether what is made is compared
+    compares: bool,
+}
+
+impl Row {
+    /// The row of what stands at a place of the message.
+    pub fn new(
+        alloc: Global,
+        record_type: RecordType,
+        message: Vec<u8>,
+        place: usize,
+        length: u16,
+        compares: bool,
+    ) -> Result<Row> {
+        let mut row = Row {
+            record_type,
+            message,
+            place,
+            length,
+            values: Vec::new(alloc),
+            others: Vec::new(alloc),
+            octets: Vec::with_capacity(alloc, 65536)?,
+            text: String::with_capacity(alloc, 4096)?,
+            compares,
+        };
+        for _ in 0..COPIES {
+            let value = row.read(alloc)?;
+            row.values.push(value)?;
+            let other = row.read(alloc)?;
+            row.others.push(other)?;
+        }
+        Ok(row)
+    }
+
+    /// The type of the data.
+    pub fn record_type(&self) -> RecordType {
+        self.record_type
+    }
+
+    fn read(&self, alloc: Global) -> std::result::Result<RData, DecodeError> {
+        let mut decoder = BinDecoder::new(alloc, self.message.as_slice());
+        let _before = decoder.read_slice(self.place)?;
+        RData::read(&mut decoder, self.record_type, Restrict::new(self.length))
+    }
+}
+
+// Takes a value as used. Since it could be compared here, all of it has to be made.
+#[inline(never)]
+fn is_used(value: &RData, other: &RData, compares: bool) -> bool {
+    !compares || value == other
+}
+
+fn reads(alloc: Global, row: &Row, passes: u64) -> Result<()> {
+    for _ in 0..passes {
+        for other in &row.others {
+            let value = row.read(alloc)?;
+            anyhow::ensure!(is_used(&value, other, row.compares), "read otherwise");
+        }
+    }
+    Ok(())
+}
+
+fn emits(alloc: Global, row: &mut Row, passes: u64) -> Result<()> {
+    let Row { values, octets, .. } = row;
+    let mut left = passes;
+    for _ in 0..passes {
+        if left == 0 {
+            break;
+        }
+        octets.clear();
+        let mut encoder = BinEncoder::new(alloc, octets);
+        for _ in 0..left {
+            for value in values.iter() {
+                value.emit(&mut encoder)?;
+            }
+            left = left.saturating_sub(1);
+            if encoder.len() > KEPT - 5000 {
+                break;
+            }
+        }
+    }
+    Ok(())
+}
+
+fn emits_fresh(alloc: Global, row: &mut Row, passes: u64) -> Result<()> {
+    let Row { values, octets, .. } = row;
+    for _ in 0..passes {
+        for value in values.iter() {
+            octets.clear();
+            let mut encoder = BinEncoder::new(alloc, octets);
+            value.emit(&mut encoder)?;
+        }
+    }
+    Ok(())
+}
+
+fn prints(row: &mut Row, passes: u64) -> Result<()> {
+    let Row { values, text, .. } = row;
+    for _ in 0..passes {
+        for value in values.iter() {
+            text.clear();
+            write!(text, "{value}")?;
+        }
+    }
+    Ok(())
+}
+
+fn clones(row: &Row, passes: u64) -> Result<()> {
+    for _ in 0..passes {
+        for value in &row.values {
+            let copy = value.clone()?;
+            anyhow::ensure!(is_used(&copy, value, row.compares), "cloned otherwise");
+        }
+    }
+    Ok(())
+}
+
+fn equals(row: &Row, passes: u64) -> Result<()> {
+    let mut same = 0u64;
+    for _ in 0..passes {
+        for (value, other) in row.values.iter().zip(row.others.iter()) {
+            if value == other {
+                same = same.saturating_add(1);
+            }
+        }
+    }
+    anyhow::ensure!(
+        same == passes.saturating_mul(COPIES),
+        "values that are not equal"
+    );
+    Ok(())
+}
+
+/// One column: so many rounds of the call.
+pub fn column(alloc: Global, row: &mut Row, name: &str, rounds: u64) -> Result<()> {
+    let passes = rounds / COPIES;
+    match name {
+        "read" => reads(alloc, row, passes),
+        "emit" => emits(alloc, row, passes),
+        "fresh" => emits_fresh(alloc, row, passes),
+        "print" => prints(row, passes),
+        "clone" => clones(row, passes),
+        "equal" => equals(row, passes),
+        _ => Ok(()),
+    }
+}
