@@ -1,5 +1,5 @@
 -- Addresses that are read and emitted one after the other, as octets.
-use Rattle.std.proofs.Common.{◌≡◌, ◌≢◌, ℕ, ◌+◌, ◌*◌, ◌%◌, ◌<◌, ◌≤◌, List, [], ◌∷◌, ◌++◌, length, take, drop, map, refl, sym, ap, ◌∙◌, arith, subst, append_assoc, All, Result, Ok, Err}
+use Rattle.std.proofs.Common.{◌≡◌, ◌≢◌, true, ℕ, ◌+◌, ◌*◌, ◌%◌, ◌<◌, ◌≤◌, List, [], ◌∷◌, ◌++◌, length, take, drop, map, refl, sym, ap, ◌∙◌, arith, subst, append_assoc, All, Result, Ok, Err}
 use Rattle.std.specs.Prelude.{IfOk, IfErr}
 use Rattle.std.specs.List.{flat_map, AllByRecursion}
 use Rattle.std.specs.Net.Addr.{segments_of}
@@ -25,7 +25,7 @@ use Rattle.dns_rdata_service.specs.Hints.{StandEach, StopsBefore, StandToEnd, Re
 use Rattle.dns_rdata_service.specs.SvcParamValue.{a_octets, aaaa_octets, a_of, aaaa_of, hint4_value, hint6_value, value_refusal}
 use Rattle.dns_rdata_service.specs.declared.svcb.ip_hint.IpHint.{IpHint}
 use Rattle.dns_rdata_service.proofs.Splits.{at_split}
-use Rattle.dns_rdata_service.proofs.EachEmits.{emits_list}
+use Rattle.dns_rdata_service.proofs.EachEmits.{emits_list, emits_as, all_pass}
 
 -- ---- reading, of any type of a known number of octets
 
@@ -101,10 +101,11 @@ groups_taken w octets body new (Err e) h = tt
 
 -- ---- emitting
 
-group_emits : (w : ℕ) (s : List ℕ) (r : Result (Unit {0}) ProtoError) (old new : Writing) → Emits (Octets w ∷ []) (s, tt) r old new → EmitsOctets (length s ≡ w) s r old new
+group_emits : (w : ℕ) (s : List ℕ) (r : Result (Unit {0}) ProtoError) (old new : Writing) → Emits (Octets w ∷ []) (s, tt) r old new → EmitsOctets (length s ≡ w) true s r old new
 unfolding field_octets
 group_emits w s (Ok u) old new h = (h.fields.1.is.0, record { keeps = h.keeps; octets = h.fields.2 ∙ h.fields.1.is.1 })
-group_emits w s (Err e) old new h = record { extends = h.extends; why = because_map e _ _ _ _ (λ r. omega (arith, r.full, ap length (append-nil s))) (λ u q. u.unfit (q, tt)) h.why }
+group_emits w s (Err e) old new h = record { extends = h.extends; why = because_map e _ _ _ _ (λ r. omega (arith, r.full, ap length (append-nil s))) (λ u. u.unfit) h.why }
 
-pub groups_emit : {T : Type 0} (w : ℕ) (octets : T → List ℕ) (xs : List T) (r : Result (Unit {0}) ProtoError) (old new : Writing) → EmitsEach (λ x r w' n. Emits (Octets w ∷ []) (octets x, tt) r w' n) xs r old new → EmitsOctets (AllByRecursion (λ s. length s ≡ w) (map octets xs)) (flat_map (λ s. s) (map octets xs)) r old new
-groups_emit w octets xs r old new h = emits_list octets (λ s. length s ≡ w) (λ s. s) (λ x r w' n. Emits (Octets w ∷ []) (octets x, tt) r w' n) (λ x. group_emits w (octets x)) xs r old new h
+pub groups_emit : {T : Type 0} (w : ℕ) (octets : T → List ℕ) (xs : List T) (r : Result (Unit {0}) ProtoError) (old new : Writing) → EmitsEach (λ x r w' n. Emits (Octets w ∷ []) (octets x, tt) r w' n) xs r old new → EmitsOctets (AllByRecursion (λ s. length s ≡ w) (map octets xs)) true (flat_map (λ s. s) (map octets xs)) r old new
+groups_emit w octets xs r old new h =
+    emits_as r old new (λ p. p) (λ q. sym (all_pass (map octets xs)) ∙ q) refl (emits_list octets (λ s. length s ≡ w) (λ s. true) (λ s. s) (λ x r w' n. Emits (Octets w ∷ []) (octets x, tt) r w' n) (λ x. group_emits w (octets x)) xs r old new h)

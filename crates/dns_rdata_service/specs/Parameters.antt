@@ -1,14 +1,16 @@
 -- The parameters of a service as fields, and why they are refused (RFC 9460, 2.2).
-use Rattle.std.specs.Prelude.{◌≡◌, ◌⊎◌, ℕ, ◌+◌, ◌<◌, ◌≤◌, List, [], ◌∷◌, ◌++◌, length, map, Option, Some, None}
+use Rattle.std.specs.Prelude.{◌≡◌, ◌⊎◌, ℕ, ◌+◌, ◌<◌, ◌≤◌, List, [], ◌∷◌, ◌++◌, length, map, Option, Some, None, Result}
 use Rattle.dns_types.specs.declared.error.DecodeError.{DecodeError}
 use Rattle.dns_types.specs.declared.error.DecodeError.TheVariants as decode
+use Rattle.dns_types.specs.declared.error.ProtoError.{ProtoError}
 use Rattle.dns_fields.specs.Fields.{Number, Rest, Parameters}
-use Rattle.dns_fields.specs.Pieces.{Numbered, ParameterValue, Alpn, form_for, Rising}
-use Rattle.dns_names_wire.specs.State.{Reading}
+use Rattle.dns_fields.specs.Pieces.{Numbered, ParameterValue, Alpn, ParameterFits, piece, as_piece, parameter_octets, form_for, Rising}
+use Rattle.dns_names_wire.specs.State.{Reading, Writing}
 use Rattle.dns_names_wire.specs.Words.{Took, TookField, LacksOctets}
 use Rattle.dns_rdata_base.specs.Refusing.{FirstLack}
+use Rattle.dns_rdata_service.specs.Emitting.{EmitsOctets}
 use Rattle.dns_rdata_service.specs.SvcParamKey.{key_number, key_variant, key_of}
-use Rattle.dns_rdata_service.specs.SvcParamValue.{value_of, value_from, value_key, value_refusal}
+use Rattle.dns_rdata_service.specs.SvcParamValue.{value_of, value_from, value_key, value_refusal, fits_value}
 use Rattle.dns_rdata_service.specs.declared.svcb.key.SvcParamKey.{SvcParamKey}
 use Rattle.dns_rdata_service.specs.declared.svcb.value.SvcParamValue.{SvcParamValue}
 
@@ -36,6 +38,10 @@ AreRead ps = ps ≡ map parameter_from (map parameter_of ps)
 abbrev pub IsAbove : Option ℕ → ℕ → Type 0
 IsAbove None key = Unit {0}
 IsAbove (Some last) key = last < key
+
+-- appends a key's number, and a value behind its length
+abbrev pub EmitsParameter : Numbered ParameterValue → Result (Unit {0}) ProtoError → Writing → Writing → Type 0
+EmitsParameter x r old new = EmitsOctets (ParameterFits x) (fits_value x.1) (piece (as_piece parameter_octets x)) r old new
 
 -- ---- refusals
 

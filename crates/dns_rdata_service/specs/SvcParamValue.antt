@@ -1,5 +1,5 @@
 -- The values of service parameters: what each holds, in the octets of which it is read, and its text (RFC 9460, 7 and 8).
-use Rattle.std.specs.Prelude.{◌≡◌, ◌≢◌, ◌⊎◌, ℕ, ◌%◌, ◌^◌, ◌<◌, ◌==◌, if◌then◌else◌, List, [], ◌∷◌, ◌++◌, length, drop, map, codes, decimal, IsUtf8}
+use Rattle.std.specs.Prelude.{◌≡◌, ◌≢◌, ◌⊎◌, ℕ, ◌%◌, ◌^◌, ◌<◌, ◌==◌, ◌&&◌, nat_le, Bool, if◌then◌else◌, List, [], ◌∷◌, ◌++◌, length, drop, map, codes, decimal, IsUtf8, Result}
 use Rattle.std.specs.List.{flat_map}
 use Rattle.std.specs.Int.{bytes_high_first}
 use Rattle.std.specs.Net.Addr.{ipv4_octets, ipv6_octets, segments_of}
@@ -7,12 +7,15 @@ use Rattle.base64.specs.Engines.{standard}
 use Rattle.base64.specs.GeneralPurpose.{encode_of}
 use Rattle.dns_types.specs.declared.error.DecodeError.{DecodeError}
 use Rattle.dns_types.specs.declared.error.DecodeError.TheVariants as decode
-use Rattle.dns_fields.specs.Pieces.{string, ParameterValue, Mandatory, Alpn, NoDefaultAlpn, Port, Ipv4Hint, Ipv6Hint, Opaque, Form, Keys, Names, Nothing, PortNumber, Addresses4, Addresses16, AnyOctets, IsEmittable, IsBody, ParameterHeld, parameter_octets}
+use Rattle.dns_types.specs.declared.error.ProtoError.{ProtoError}
+use Rattle.dns_fields.specs.Pieces.{string, ParameterValue, Mandatory, Alpn, NoDefaultAlpn, Port, Ipv4Hint, Ipv6Hint, Opaque, Form, Keys, Names, Nothing, PortNumber, Addresses4, Addresses16, AnyOctets, IsEmittable, IsBody, ParameterHeld, parameter_octets, parameter_emittable}
+use Rattle.dns_names_wire.specs.State.{Writing}
 use Rattle.dns_rdata_base.specs.A.{a_text}
 use Rattle.dns_rdata_base.specs.AAAA.{aaaa_text}
 use Rattle.dns_rdata_base.specs.Lossy.{lossy}
 use Rattle.dns_rdata_base.specs.declared.a.A.{A}
 use Rattle.dns_rdata_base.specs.declared.aaaa.AAAA.{AAAA}
+use Rattle.dns_rdata_service.specs.Emitting.{EmitsOctets}
 use Rattle.dns_rdata_service.specs.SvcParamKey.{key_number, key_variant, key_of, key_text}
 use Rattle.dns_rdata_service.specs.declared.svcb.key.SvcParamKey.{SvcParamKey}
 use Rattle.dns_rdata_service.specs.declared.svcb.mandatory.Mandatory.{Mandatory as MandatoryKeys}
@@ -160,6 +163,18 @@ sized v = bytes_high_first 2 (length (parameter_octets v)) ++ parameter_octets v
 -- it has octets, at most 65535
 abbrev pub FitsValue : ParameterValue → Type 0
 FitsValue v = (length (parameter_octets v) < 256 ^ 2) × IsEmittable v
+
+-- the same as a test
+abbrev pub fits_value : ParameterValue → Bool
+fits_value v = nat_le (length (parameter_octets v)) 65535 && parameter_emittable v
+
+-- appends the value's octets
+abbrev pub EmitsValue : ParameterValue → Result (Unit {0}) ProtoError → Writing → Writing → Type 0
+EmitsValue v r old new = EmitsOctets (IsEmittable v) (parameter_emittable v) (parameter_octets v) r old new
+
+-- appends them behind their length
+abbrev pub EmitsSized : ParameterValue → Result (Unit {0}) ProtoError → Writing → Writing → Type 0
+EmitsSized v r old new = EmitsOctets (FitsValue v) (fits_value v) (sized v) r old new
 
 -- ---- texts
 

@@ -1,7 +1,7 @@
 //! HTTPS: how a web service is reached (RFC 9460, 9).
 
 ghost use Rattle.std.specs.Prelude.{◌≡◌, IfErr, IfOk};
-ghost use Rattle.dns_names_wire.specs.Words.{ReadsWindow, EmitsAs, Keeps};
+ghost use Rattle.dns_names_wire.specs.Words.{ReadsWindow, EmitsAs, Extends, Keeps};
 ghost use Rattle.dns_rdata_service.specs.HTTPS.{https_shape, https_fields, https_key_shape, https_keys, IsReadHttps, https_refusal};
 
 use crate::svcb::SVCB;
@@ -60,6 +60,7 @@ impl BinEncodable for HTTPS {
     #[inline]
     fn emit(&self, encoder: &mut BinEncoder<'_>) -> Result<(), ProtoError>
         ensures emits { EmitsAs RDataEncoding.Other https_shape (https_fields self.now) result encoder.old encoder.new }
+        ensures extends { Extends encoder.old encoder.new }
         ensures keeps { Keeps encoder.old encoder.new }
     {
         self.0.emit(encoder)
@@ -80,7 +81,8 @@ impl Deref for HTTPS {
 
 impl PartialEq for HTTPS {
     ghost use Rattle.std.specs.Cmp.{partial_equiv_from_equiv, on_equiv};
-    ghost use Rattle.dns_fields.specs.Equal.{values_eq, values_equiv};
+    ghost use Rattle.dns_fields.specs.Equal.{values_eq};
+    ghost use Rattle.dns_fields.proofs.Equivalences.{values_equiv};
 
     ghost eq = { λ a b. values_eq https_key_shape (https_keys a) (https_keys b) };
 
@@ -94,7 +96,7 @@ impl PartialEq for HTTPS {
 
 impl Eq for HTTPS {
     ghost use Rattle.std.specs.Cmp.{on_equiv};
-    ghost use Rattle.dns_fields.specs.Equal.{values_equiv};
+    ghost use Rattle.dns_fields.proofs.Equivalences.{values_equiv};
 
     ghost laws = { on_equiv https_keys (values_equiv https_key_shape) };
 }

@@ -1,7 +1,7 @@
 //! SVCB: how a service is reached (RFC 9460).
 
 ghost use Rattle.std.specs.Prelude.{◌≡◌, IfErr, IfOk};
-ghost use Rattle.dns_names_wire.specs.Words.{ReadsWindow, EmitsAs, Keeps};
+ghost use Rattle.dns_names_wire.specs.Words.{ReadsWindow, EmitsAs, Extends, Keeps};
 ghost use Rattle.dns_rdata_service.specs.SVCB.{svcb_shape, svcb_fields, svcb_key_shape, svcb_keys, IsReadSvcb, svcb_refusal};
 
 mod alpn;
@@ -122,6 +122,7 @@ impl BinEncodable for SVCB {
     /// refused by `Message`.
     fn emit(&self, encoder: &mut BinEncoder<'_>) -> Result<(), ProtoError>
         ensures emits { EmitsAs RDataEncoding.Other svcb_shape (svcb_fields self.now) result encoder.old encoder.new }
+        ensures extends { Extends encoder.old encoder.new }
         ensures keeps { Keeps encoder.old encoder.new }
     {
         emit_in(RDataEncoding::Other, self, encoder)
@@ -130,7 +131,8 @@ impl BinEncodable for SVCB {
 
 impl PartialEq for SVCB {
     ghost use Rattle.std.specs.Cmp.{partial_equiv_from_equiv, on_equiv};
-    ghost use Rattle.dns_fields.specs.Equal.{values_eq, values_equiv};
+    ghost use Rattle.dns_fields.specs.Equal.{values_eq};
+    ghost use Rattle.dns_fields.proofs.Equivalences.{values_equiv};
 
     ghost eq = { λ a b. values_eq svcb_key_shape (svcb_keys a) (svcb_keys b) };
 
@@ -145,7 +147,7 @@ impl PartialEq for SVCB {
 
 impl Eq for SVCB {
     ghost use Rattle.std.specs.Cmp.{on_equiv};
-    ghost use Rattle.dns_fields.specs.Equal.{values_equiv};
+    ghost use Rattle.dns_fields.proofs.Equivalences.{values_equiv};
 
     ghost laws = { on_equiv svcb_keys (values_equiv svcb_key_shape) };
 }

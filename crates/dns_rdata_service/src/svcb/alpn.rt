@@ -2,10 +2,9 @@
 
 ghost use Rattle.std.specs.Prelude.{◌≡◌, ◌↔◌, drop, map, IfErr, IfOk, IsTrue, IsUtf8};
 ghost use Rattle.std.specs.String.{string_bytes};
-ghost use Rattle.dns_fields.specs.Pieces.{Names, IsEmittable, parameter_octets};
+ghost use Rattle.dns_fields.specs.Pieces.{Names};
 ghost use Rattle.dns_names_wire.specs.Words.{ReadsBy};
-ghost use Rattle.dns_rdata_service.specs.Emitting.{EmitsOctets};
-ghost use Rattle.dns_rdata_service.specs.SvcParamValue.{alpn_value, AlpnAt, value_refusal};
+ghost use Rattle.dns_rdata_service.specs.SvcParamValue.{alpn_value, AlpnAt, value_refusal, EmitsValue};
 
 use bstr::BStr;
 use dns_names_wire::{
@@ -81,7 +80,7 @@ fn strings_in(octets: &[u8]) -> usize {
 }
 
 impl BinEncodable for Alpn {
-    ghost emits = { λ x r old new. EmitsOctets (IsEmittable (alpn_value x)) (parameter_octets (alpn_value x)) r old new };
+    ghost emits = { λ x r old new. EmitsValue (alpn_value x) r old new };
 
     /// Appends the names as character strings. None, and one of more than 255 octets, are refused by `Message`.
     fn emit(&self, encoder: &mut BinEncoder<'_>) -> Result<(), ProtoError> {

@@ -1,10 +1,9 @@
 //! A configuration of Encrypted ClientHello.
 
 ghost use Rattle.std.specs.Prelude.{◌≡◌, drop, IfErr, IfOk};
-ghost use Rattle.dns_fields.specs.Pieces.{AnyOctets, IsEmittable, parameter_octets};
+ghost use Rattle.dns_fields.specs.Pieces.{AnyOctets};
 ghost use Rattle.dns_names_wire.specs.Words.{ReadsBy};
-ghost use Rattle.dns_rdata_service.specs.Emitting.{EmitsOctets};
-ghost use Rattle.dns_rdata_service.specs.SvcParamValue.{ech_value, EchConfigListAt, value_refusal};
+ghost use Rattle.dns_rdata_service.specs.SvcParamValue.{ech_value, EchConfigListAt, value_refusal, EmitsValue};
 
 use base64::display::Base64Display;
 use base64::engine::general_purpose::STANDARD;
@@ -34,7 +33,7 @@ impl BinDecodable for EchConfigList {
 }
 
 impl BinEncodable for EchConfigList {
-    ghost emits = { λ x r old new. EmitsOctets (IsEmittable (ech_value x)) (parameter_octets (ech_value x)) r old new };
+    ghost emits = { λ x r old new. EmitsValue (ech_value x) r old new };
 
     /// Appends the octets.
     #[inline]

@@ -1,6 +1,13 @@
 //! The keys of service parameters (RFC 9460, 14.3.2).
 
-ghost use Rattle.std.specs.Prelude.{◌≡◌, IfErr, OnErr, OnOk};
+ghost use Rattle.std.specs.Prelude.{◌≡◌, ◌++◌, refl, IfErr, OnErr};
+ghost use Rattle.std.specs.Cmp.{partial_equiv_from_equiv, partial_order_from_agreeing_total};
+ghost use Rattle.std.specs.Cmp.Rules.{hashing};
+ghost use Rattle.std.specs.Hash as fed;
+ghost use Rattle.std.specs.Ordering.{as_partial_cmp};
+ghost use Rattle.std.proofs.Common.{rules};
+ghost use Rattle.dns_rdata_base.specs.Numbered.{NumberedAt, numbered_eq, numbered_cmp};
+ghost use Rattle.dns_rdata_base.proofs.NumberedLaws.{numbered_equiv, numbered_total, numbered_ties};
 ghost use Rattle.dns_fields.specs.Fields.{Number};
 ghost use Rattle.dns_names_wire.specs.Words.{ReadsBy, EmitsField, LacksOctets};
 ghost use Rattle.dns_rdata_service.specs.SvcParamKey.{key_number, key_variant, key_of};
@@ -77,6 +84,14 @@ impl From<SvcParamKey> for u16 {
 }
 
 impl SvcParamKey {
+    /// The number on the wire.
+    #[inline]
+    pub fn number(self) -> u16
+        ensures { result ≡ key_number self }
+    {
+        u16::from(self)
+    }
+
     // The place in the declaration.
     #[inline]
     fn variant(self) -> u8
@@ -98,9 +113,6 @@ impl SvcParamKey {
 }
 
 impl PartialEq for SvcParamKey {
-    ghost use Rattle.std.specs.Cmp.{partial_equiv_from_equiv};
-    ghost use Rattle.dns_rdata_base.specs.Numbered.{numbered_eq, numbered_equiv};
-
     ghost eq = { numbered_eq key_number key_variant };
 
     ghost laws = { partial_equiv_from_equiv (numbered_equiv key_number key_variant) };
@@ -112,17 +124,10 @@ impl PartialEq for SvcParamKey {
 }
 
 impl Eq for SvcParamKey {
-    ghost use Rattle.dns_rdata_base.specs.Numbered.{numbered_equiv};
-
     ghost laws = { numbered_equiv key_number key_variant };
 }
 
 impl Hash for SvcParamKey {
-    ghost use Rattle.std.specs.Prelude.{◌++◌};
-    ghost use Rattle.std.specs.Hash as fed;
-    ghost use Rattle.std.specs.Cmp.Rules.{hashing};
-    ghost use Rattle.std.proofs.Common.{rules};
-
     ghost hash_input = { λ e. fed.u16 (key_number e) ++ fed.u8 (key_variant e) };
 
     ghost respects_eq = { Prim.search (hashing, rules) };
@@ -135,11 +140,6 @@ impl Hash for SvcParamKey {
 }
 
 impl PartialOrd for SvcParamKey {
-    ghost use Rattle.std.specs.Prelude.{refl};
-    ghost use Rattle.std.specs.Cmp.{partial_order_from_agreeing_total};
-    ghost use Rattle.std.specs.Ordering.{as_partial_cmp};
-    ghost use Rattle.dns_rdata_base.specs.Numbered.{numbered_cmp, numbered_total, numbered_ties};
-
     ghost partial_cmp = { as_partial_cmp (numbered_cmp key_number key_variant) };
 
     ghost laws = { partial_order_from_agreeing_total (numbered_cmp key_number key_variant) (numbered_total key_number key_variant) (λ _ _. refl) (numbered_ties key_number key_variant) };
@@ -151,9 +151,6 @@ impl PartialOrd for SvcParamKey {
 }
 
 impl Ord for SvcParamKey {
-    ghost use Rattle.std.specs.Prelude.{refl};
-    ghost use Rattle.dns_rdata_base.specs.Numbered.{numbered_cmp, numbered_total, numbered_ties};
-
     ghost cmp = { numbered_cmp key_number key_variant };
 
     ghost total = { numbered_total key_number key_variant };
@@ -170,8 +167,6 @@ impl Ord for SvcParamKey {
 }
 
 impl BinDecodable for SvcParamKey {
-    ghost use Rattle.dns_rdata_base.specs.Numbered.{NumberedAt};
-
     ghost stands = { NumberedAt 2 key_number key_of };
 
     /// Reads the number in two octets, the higher one first. Where fewer are left, it is refused, and takes none.

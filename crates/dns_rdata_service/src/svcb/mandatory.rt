@@ -1,10 +1,9 @@
 //! The keys that a client of a service must know.
 
 ghost use Rattle.std.specs.Prelude.{◌≡◌, drop, IfErr, IfOk};
-ghost use Rattle.dns_fields.specs.Pieces.{Keys, IsEmittable, parameter_octets};
+ghost use Rattle.dns_fields.specs.Pieces.{Keys};
 ghost use Rattle.dns_names_wire.specs.Words.{ReadsBy};
-ghost use Rattle.dns_rdata_service.specs.Emitting.{EmitsOctets};
-ghost use Rattle.dns_rdata_service.specs.SvcParamValue.{mandatory_value, MandatoryAt, value_refusal};
+ghost use Rattle.dns_rdata_service.specs.SvcParamValue.{mandatory_value, MandatoryAt, value_refusal, EmitsValue};
 
 use crate::items::Items;
 use crate::svcb::key::SvcParamKey;
@@ -37,7 +36,7 @@ impl BinDecodable for Mandatory {
 }
 
 impl BinEncodable for Mandatory {
-    ghost emits = { λ x r old new. EmitsOctets (IsEmittable (mandatory_value x)) (parameter_octets (mandatory_value x)) r old new };
+    ghost emits = { λ x r old new. EmitsValue (mandatory_value x) r old new };
 
     /// Appends the keys' numbers. None are refused by `Message`.
     fn emit(&self, encoder: &mut BinEncoder<'_>) -> Result<(), ProtoError> {

@@ -1,10 +1,9 @@
 //! Values of keys without a form of their own.
 
 ghost use Rattle.std.specs.Prelude.{◌≡◌, drop, IfErr, IfOk};
-ghost use Rattle.dns_fields.specs.Pieces.{AnyOctets, IsEmittable, parameter_octets};
+ghost use Rattle.dns_fields.specs.Pieces.{AnyOctets};
 ghost use Rattle.dns_names_wire.specs.Words.{ReadsBy};
-ghost use Rattle.dns_rdata_service.specs.Emitting.{EmitsOctets};
-ghost use Rattle.dns_rdata_service.specs.SvcParamValue.{unknown_value, UnknownAt, value_refusal};
+ghost use Rattle.dns_rdata_service.specs.SvcParamValue.{unknown_value, UnknownAt, value_refusal, EmitsValue};
 
 use bstr::BStr;
 use dns_names_wire::{
@@ -33,7 +32,7 @@ impl BinDecodable for Unknown {
 }
 
 impl BinEncodable for Unknown {
-    ghost emits = { λ x r old new. EmitsOctets (IsEmittable (unknown_value x)) (parameter_octets (unknown_value x)) r old new };
+    ghost emits = { λ x r old new. EmitsValue (unknown_value x) r old new };
 
     /// Appends the octets.
     #[inline]

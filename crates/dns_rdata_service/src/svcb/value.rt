@@ -1,10 +1,9 @@
 //! The values of service parameters.
 
 ghost use Rattle.std.specs.Prelude.{◌≡◌, IfErr, IfOk, length};
-ghost use Rattle.dns_fields.specs.Pieces.{form_for, IsEmittable, IsBody, parameter_octets, Addresses4, Addresses16};
-ghost use Rattle.dns_rdata_service.specs.Emitting.{EmitsOctets};
+ghost use Rattle.dns_fields.specs.Pieces.{form_for, IsEmittable, IsBody, Addresses4, Addresses16};
 ghost use Rattle.dns_rdata_service.specs.SvcParamKey.{key_number, key_of};
-ghost use Rattle.dns_rdata_service.specs.SvcParamValue.{value_of, hint4_value, hint6_value, IsValueOf, value_refusal, sized, FitsValue};
+ghost use Rattle.dns_rdata_service.specs.SvcParamValue.{value_of, hint4_value, hint6_value, IsValueOf, value_refusal, EmitsValue, EmitsSized};
 
 use crate::svcb::alpn::Alpn;
 use crate::svcb::ech_config_list::EchConfigList;
@@ -71,7 +70,7 @@ impl SvcParamValue {
 
     // Appends the octets without their length.
     fn emit_octets(&self, encoder: &mut BinEncoder<'_>) -> Result<(), ProtoError>
-        ensures { EmitsOctets (IsEmittable (value_of self.now)) (parameter_octets (value_of self.now)) result encoder.old encoder.new }
+        ensures { EmitsValue (value_of self.now) result encoder.old encoder.new }
     {
         match self {
             SvcParamValue::Mandatory(value) => value.emit(encoder),
@@ -129,7 +128,7 @@ fn hint6(alloc: Global, octets: &[u8]) -> Result<IpHint<AAAA>, DecodeError>
 }
 
 impl BinEncodable for SvcParamValue {
-    ghost emits = { λ x r old new. EmitsOctets (FitsValue (value_of x)) (sized (value_of x)) r old new };
+    ghost emits = { λ x r old new. EmitsSized (value_of x) r old new };
 
     /// Appends the value's length in two octets, and its octets. No keys or protocols, a protocol of more than 255 octets,
     /// and a value of more than 65535 octets are refused by `Message`.

@@ -6,4 +6,4 @@ use Rattle.dns_rdata_service.proofs.svcb.value.SvcParamValueBinEncodable.emit.Go
 pub returns-in_err-place : goal.returns-in_err-place
 returns-in_err-place c =
     let p = err_from_is_err_and c.from_residual.result c.from_residual.ensures.1 in
-    rw (p.1, p.2) (record { emits = place_refused (value_of c.args.self.now) c.in_err-place.ensures.refused })
+    rw (p.1, p.2) (record { emits = place_refused (value_of c.args.self.now) c.in_err-place.ensures.refused; extends = c.in_err-place.ensures.refused.extends })
