@@ -4,7 +4,7 @@ use Rattle.std.proofs.lemmas.List.{length-append, length-map, drop_at}
 use Rattle.std.proofs.lemmas.Bool.Decides.{nat_tests}
 use Rattle.std.specs.Char.{to_ascii_lowercase}
 use Rattle.dns_fields.specs.declared.RDataEncoding.{RDataEncoding}
-use Rattle.dns_fields.specs.Labels.{AreLabels, wire, FitsName, DomainName, IsName, lowered, lowname}
+use Rattle.dns_fields.specs.Labels.{AreLabels, wire, FitsName, DomainName, IsName, low_labels, lowered, lowname}
 use Rattle.dns_fields.specs.Names.LabelsStand.{whole}
 use Rattle.dns_fields.specs.Names.{IsNameIn, SameName, NameWrote}
 use Rattle.dns_fields.proofs.Stays.{labels_stand, stays_name, end_within}
@@ -26,9 +26,6 @@ name_inside a = let w = end_within a.stands in (omega arith, w.1)
 
 pub name_is : {m : List ℕ} {p q : ℕ} {x : DomainName} → IsNameIn m p x q → IsName x
 name_is a = record { labels = labels_stand a.stands; fits = a.fits }
-
-abbrev pub low_labels : List (List ℕ) → List (List ℕ)
-low_labels labels = map (map to_ascii_lowercase) labels
 
 pub low_wire : (labels : List (List ℕ)) → wire (low_labels labels) ++ 0 ∷ [] ≡ lowered labels
 low_wire [] = refl

@@ -33,6 +33,10 @@ pub record IsName (name : DomainName) : Type 0 where
   pub labels : AreLabels name.labels
   pub fits : FitsName name.labels
 
+-- A to Z lowered in each label
+abbrev pub low_labels : List (List ℕ) → List (List ℕ)
+low_labels labels = map (map to_ascii_lowercase) labels
+
 -- each label's length and its octets with A to Z lowered, then 0
 abbrev pub lowered : List (List ℕ) → List ℕ
 lowered [] = 0 ∷ []

@@ -8,7 +8,7 @@ use Rattle.dns_fields.specs.Names.{LabelsStand, pointer}
 use Rattle.dns_fields.specs.Names.LabelsStand.{whole, pointed}
 use Rattle.dns_labels.specs.Reading.{stop_octets}
 use Rattle.dns_fields.proofs.Stays.{stands_before}
-use Rattle.dns_labels.specs.Emission.{StandsFor, IsCut, LeadsTo, AddsName}
+use Rattle.dns_labels.specs.Emission.{StandsFor, IsNameCut, LeadsTo, AddsName}
 use Rattle.dns_fields.proofs.Runs.{wire-append, AreLabels-append}
 use Rattle.dns_labels.proofs.Octets.{labels_of-wire}
 
@@ -29,7 +29,7 @@ same_wire : (a b : List (List ℕ)) → wire a ≡ wire b → a ≡ b
 same_wire a b e = sym (labels_of-wire a) ∙ ap (λ (x : List ℕ). labels_of x) e ∙ labels_of-wire b
 
 -- no tail was found
-pub cut_all : (message octets : List ℕ) (cut : ℕ) → CutAt octets cut → length octets ≤ cut → IsCut message octets cut None
+pub cut_all : (message octets : List ℕ) (cut : ℕ) → CutAt octets cut → length octets ≤ cut → IsNameCut message octets cut None
 cut_all message octets cut k past =
     let none : wire [] ≡ wire k.rest = sym (drop_all cut octets past) ∙ k.rest_is in
     record { front = k.front; rest = k.rest; are_front = k.are_front; are_rest = k.are_rest; front_is = k.front_is; rest_is = k.rest_is; within = k.within; leads = sym (same_wire [] k.rest none) }
@@ -39,7 +39,7 @@ not_empty [] h = absurd (omega arith)
 not_empty (l ∷ labels) h = omega arith
 
 -- a tail was found
-pub cut_found : (message octets : List ℕ) (cut target : ℕ) → CutAt octets cut → cut < length octets → target < 16384 → StandsFor message target (drop cut octets) → IsCut message octets cut (Some target)
+pub cut_found : (message octets : List ℕ) (cut target : ℕ) → CutAt octets cut → cut < length octets → target < 16384 → StandsFor message target (drop cut octets) → IsNameCut message octets cut (Some target)
 cut_found message octets cut target k some low s =
     let same : s.labels ≡ k.rest = same_wire s.labels k.rest (sym s.same ∙ k.rest_is) in
     record {
@@ -76,14 +76,14 @@ pub cut_more : (octets : List ℕ) (cut : ℕ) → CutAt octets cut → cut < le
 cut_more octets cut k some = cut_next octets cut k.front k.rest k.are_front k.are_rest k.front_is k.rest_is some
 
 -- the whole name, with no tail elsewhere
-pub cut_whole : (message octets : List ℕ) → AreNameOctets octets → IsCut message octets (length octets) None
+pub cut_whole : (message octets : List ℕ) → AreNameOctets octets → IsNameCut message octets (length octets) None
 cut_whole message octets n = record { front = labels_of octets; rest = []; are_front = n.are; are_rest = tt; front_is = take_all (length octets) octets (omega arith) ∙ n.same; rest_is = drop_all (length octets) octets (omega arith); within = omega arith; leads = refl }
 
 long_enough : (labels : List (List ℕ)) → AreLabels labels → 1 ≤ length labels → 2 ≤ length (wire labels)
 long_enough [] h n = absurd (omega arith)
 long_enough (l ∷ labels) h n = let lo : 1 ≤ length l = h.0.0 in omega (arith, length-append l (wire labels))
 
-pub cut_short : (message octets : List ℕ) (cut : ℕ) (target : Option ℕ) → IsCut message octets cut target → cut + length (stop_octets target) ≤ length octets + 1
+pub cut_short : (message octets : List ℕ) (cut : ℕ) (target : Option ℕ) → IsNameCut message octets cut target → cut + length (stop_octets target) ≤ length octets + 1
 cut_short message octets cut None k = omega (arith, k.within)
 cut_short message octets cut (Some t) k = omega (arith, k.within, length-drop cut octets, ap length k.rest_is, long_enough k.rest k.are_rest k.leads.1)
 
@@ -100,7 +100,7 @@ leads_stands old new front rest (Some t) hf e leads =
     let s : LabelsStand (take (length old) new) t rest leads.2.0 = subst (λ (m : List ℕ). LabelsStand m t rest leads.2.0) (sym k) leads.2.1 in
     pointed front rest t leads.2.0 [] hf d leads.0 (stands_before leads.2.1) s refl (omega (arith, ap length e, length-append old x, length-append (wire front) (pointer t)))
 
-pub adds_name : (old new octets : List ℕ) (cut : ℕ) (target : Option ℕ) → AreNameOctets octets → IsCut old octets cut target → new ≡ old ++ (take cut octets ++ stop_octets target) → AddsName old new (labels_of octets)
+pub adds_name : (old new octets : List ℕ) (cut : ℕ) (target : Option ℕ) → AreNameOctets octets → IsNameCut old octets cut target → new ≡ old ++ (take cut octets ++ stop_octets target) → AddsName old new (labels_of octets)
 adds_name old new octets cut target n k e =
     let f : new ≡ old ++ (wire k.front ++ stop_octets target) = e ∙ ap (λ (x : List ℕ). old ++ (x ++ stop_octets target)) k.front_is in
     let w : wire (k.front ++ k.rest) ≡ octets = wire-append k.front k.rest ∙ ap (λ (x : List ℕ). x ++ wire k.rest) (sym k.front_is) ∙ ap (λ (x : List ℕ). take cut octets ++ x) (sym k.rest_is) ∙ take-append-drop cut octets in

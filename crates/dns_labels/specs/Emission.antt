@@ -23,7 +23,7 @@ LeadsTo message None rest = rest ≡ []
 LeadsTo message (Some target) rest = (target < 16384) × (1 ≤ length rest) × ((end : ℕ) × LabelsStand message target rest end)
 
 -- a name's octets in two parts, of which the second need not be written
-pub record IsCut (message octets : List ℕ) (cut : ℕ) (target : Option ℕ) : Type 0 where
+pub record IsNameCut (message octets : List ℕ) (cut : ℕ) (target : Option ℕ) : Type 0 where
   pub front : List (List ℕ)
   pub rest : List (List ℕ)
   pub are_front : AreLabels front

@@ -2,7 +2,7 @@
 
 ghost use Rattle.std.specs.Prelude.{ℕ, ◌<◌, ◌≤◌, length, IfSome};
 ghost use Rattle.dns_labels.specs.Labels.{AreNameOctets};
-ghost use Rattle.dns_labels.specs.Emission.{StandsFor, IsCut};
+ghost use Rattle.dns_labels.specs.Emission.{StandsFor, IsNameCut};
 
 use crate::matching::stands_at;
 use smallvec::SmallVec;
@@ -178,7 +178,7 @@ impl Places {
         hash: u64,
     ) -> (usize, Option<usize>)
         requires { AreNameOctets octets.now }
-        ensures { IsCut message.now octets.now result.0 result.1 }
+        ensures { IsNameCut message.now octets.now result.0 result.1 }
     {
         let mut hash = hash;
         let mut cut = 0usize;

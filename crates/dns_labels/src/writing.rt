@@ -4,7 +4,7 @@ ghost use Rattle.std.specs.Prelude.{◌≡◌, ◌≢◌, ℕ, ◌+◌, ◌<◌,
 ghost use Rattle.dns_fields.specs.Names.{NameWrote};
 ghost use Rattle.dns_labels.specs.Labels.{AreNameOctets, name_of};
 ghost use Rattle.dns_labels.specs.Reading.{stop_octets};
-ghost use Rattle.dns_labels.specs.Emission.{IsCut};
+ghost use Rattle.dns_labels.specs.Emission.{IsNameCut};
 
 use crate::error::WriteError;
 use crate::places::{Places, octets_hash};
@@ -20,7 +20,7 @@ struct Cut {
 /// Where a name is cut: only `StandardRecord` leaves a tail out.
 fn cut_for(places: &Places, mode: RDataEncoding, message: &[u8], name: &[u8], hash: u64) -> Cut
     requires { AreNameOctets name.now }
-    ensures cut { IsCut message.now name.now result.written result.target }
+    ensures cut { IsNameCut message.now name.now result.written result.target }
     ensures whole { mode ≢ RDataEncoding.StandardRecord → (result.written ≡ length name.now) × (result.target ≡ None) }
 {
     match mode {

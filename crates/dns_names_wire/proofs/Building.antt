@@ -6,7 +6,7 @@ use Rattle.std.proofs.Common.{Result, Ok, Err}
 use Rattle.std.specs.Result.{IfErr}
 use Rattle.dns_types.specs.declared.error.ProtoError.{ProtoError}
 use Rattle.dns_types.specs.declared.error.ProtoError.TheVariants as proto
-use Rattle.dns_fields.specs.Labels.{DomainName, AreLabels, IsName, wire}
+use Rattle.dns_fields.specs.Labels.{DomainName, AreLabels, IsName, wire, low_labels}
 use Rattle.dns_fields.proofs.NameLaws.{are_low, low_wire}
 use Rattle.dns_fields.proofs.Runs.{wire-append}
 use Rattle.dns_labels.specs.Labels.{AreNameOctets, labels_of}
@@ -15,7 +15,7 @@ use Rattle.dns_labels.proofs.Built.{AreJoined}
 use Rattle.dns_labels.proofs.Lowered.{lowered-of}
 use Rattle.dns_labels.proofs.NameTexts.{one_name}
 use Rattle.dns_labels.proofs.Octets.{labels_from, are_name_octets, first_label}
-use Rattle.dns_names_wire.specs.NameValues.{qualified, low_labels, completed, IsParsed, IsRefusal}
+use Rattle.dns_names_wire.specs.NameValues.{qualified, completed, IsParsed, IsTextRefusal}
 
 pub wire_low : (octets : List ℕ) → AreNameOctets octets → map to_ascii_lowercase octets ≡ wire (low_labels (labels_of octets))
 wire_low octets n = append_cancel_right (map to_ascii_lowercase octets) (wire (low_labels (labels_of octets))) (0 ∷ []) (sym (lowered-of octets n) ∙ sym (low_wire (labels_of octets)))
@@ -63,12 +63,12 @@ no_more {X} f items i d front h e none is =
 none_parsed : {text : List ℕ} {origin : Option DomainName} {read : DomainName} → IsNameText read text → (IsName (completed read origin) → ⊥) → (x : DomainName) → IsParsed text origin x → ⊥
 none_parsed {text} {origin} {read} is none x p = none (subst IsName (p.same ∙ ap (λ (y : DomainName). completed y origin) (one_name text p.read read p.is_text is)) p.is_name)
 
-refusal_map : (e : ProtoError) (P Q : Type 0) → (P → Q) → IsRefusal e P → IsRefusal e Q
+refusal_map : (e : ProtoError) (P Q : Type 0) → (P → Q) → IsTextRefusal e P → IsTextRefusal e Q
 refusal_map proto.Memory P Q f h = tt
 refusal_map (proto.Message t) P Q f h = f h
 refusal_map proto.MaxBufferSizeExceeded P Q f h = h
 refusal_map (proto.Decode d) P Q f h = h
 
-pub refused_parsed : {T : Type 0} {text : List ℕ} (origin : Option DomainName) {read : DomainName} (r : Result T ProtoError) → IsNameText read text → IfErr r (λ e. IsRefusal e (IsName (completed read origin) → ⊥)) → IfErr r (λ e. IsRefusal e ((x : DomainName) → IsParsed text origin x → ⊥))
+pub refused_parsed : {T : Type 0} {text : List ℕ} (origin : Option DomainName) {read : DomainName} (r : Result T ProtoError) → IsNameText read text → IfErr r (λ e. IsTextRefusal e (IsName (completed read origin) → ⊥)) → IfErr r (λ e. IsTextRefusal e ((x : DomainName) → IsParsed text origin x → ⊥))
 refused_parsed origin (Ok x) is h = tt
 refused_parsed {text = text} origin {read = read} (Err e) is h = refusal_map e (IsName (completed read origin) → ⊥) ((x : DomainName) → IsParsed text origin x → ⊥) (none_parsed is) h

@@ -2,9 +2,9 @@
 use Rattle.std.proofs.Common.{◌≡◌, ◌↔◌, IsTrue, ℕ, Bool, ◌<◌, ◌≤◌, List, [], ◌∷◌, ◌++◌, length, map, drop, refl, sym, ap, ◌∙◌, arith, append_assoc}
 use Rattle.std.proofs.lemmas.List.{length-append, length-map}
 use Rattle.std.specs.Char.{to_ascii_lowercase}
-use Rattle.dns_fields.specs.Labels.{DomainName, wire}
+use Rattle.dns_fields.specs.Labels.{DomainName, wire, low_labels}
 use Rattle.dns_labels.specs.Labels.{AreNameOctets, labels_of, name_of}
-use Rattle.dns_names_wire.specs.NameValues.{low_labels, IsInZone}
+use Rattle.dns_names_wire.specs.NameValues.{IsInZone}
 use Rattle.dns_names_wire.proofs.Building.{wire_low, octets_low}
 
 pub record ZoneSoFar (labels zone : List (List ℕ)) (rest : List ℕ) : Type 0 where

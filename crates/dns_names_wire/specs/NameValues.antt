@@ -4,14 +4,14 @@ use Rattle.std.specs.Char.{to_ascii_lowercase}
 use Rattle.std.specs.Cmp.Lexicographic.{pointwise}
 use Rattle.dns_types.specs.declared.error.ProtoError.{ProtoError}
 use Rattle.dns_types.specs.declared.error.ProtoError.TheVariants as proto
-use Rattle.dns_fields.specs.Labels.{DomainName, IsName}
+use Rattle.dns_fields.specs.Labels.{DomainName, IsName, low_labels}
 use Rattle.dns_labels.specs.Text.{IsNameText}
 
 -- memory ran out, or a message says that the fact holds
-abbrev pub IsRefusal : ProtoError → Type 0 → Type 0
-IsRefusal proto.Memory fact = Unit {0}
-IsRefusal (proto.Message text) fact = fact
-IsRefusal e fact = ⊥
+abbrev pub IsTextRefusal : ProtoError → Type 0 → Type 0
+IsTextRefusal proto.Memory fact = Unit {0}
+IsTextRefusal (proto.Message text) fact = fact
+IsTextRefusal e fact = ⊥
 
 abbrev pub qualified : List (List ℕ) → DomainName
 qualified labels = record { labels = labels; fully_qualified = true }
@@ -38,9 +38,6 @@ pub record IsParsed (text : List ℕ) (origin : Option DomainName) (name : Domai
   pub is_text : IsNameText read text
   pub same : name ≡ completed read origin
   pub is_name : IsName name
-
-abbrev pub low_labels : List (List ℕ) → List (List ℕ)
-low_labels labels = map (map to_ascii_lowercase) labels
 
 -- A to Z lowered
 abbrev pub in_lowercase : DomainName → DomainName

@@ -25,8 +25,9 @@ use Rattle.dns_rdata_sets.specs.CAA.{tag_refusal}
 use Rattle.dns_rdata_sets.specs.RecordTypeSet.{bitmap_refusal}
 use Rattle.dns_rdata.specs.declared.record_data.RData.{RData}
 use Rattle.dns_rdata.specs.declared.record_data.RData.TheVariants as rdata
-use Rattle.dns_rdata.specs.Data.{shape, condition, IsRowless, IsValue, Fills, NoValue, TookData, RefusedData, ReadsData}
-use Rattle.dns_rdata.specs.Refusals.{IsNeverRead, OwnRefusal, IsRefusal, by_length}
+use Rattle.dns_rdata.specs.Data.{Row, row, unread, rowless, row_of, kinds_of, condition_of, is_rowless, FieldsOf, shape, condition, IsRowless, IsValue, Fills, NoValue, TookData, RefusedData, ReadsData}
+use Rattle.dns_rdata.specs.Data.{IsNeverRead}
+use Rattle.dns_rdata.specs.Refusals.{OwnRefusal, IsRefusal, by_length}
 
 -- what fills a window as fields fills it as a value
 pub data_took : {old new : Reading} (t : RecordType) (n : ℕ) (v : RData) (vs : Values (shape t)) → IsValue t vs v → TookWindow old n (shape t) (condition t) vs new → TookData old t n v new
@@ -50,63 +51,26 @@ data_zero d n short inside octets = record {
 
 -- ---- types without a row
 
+abbrev fields_as : (s : List Kind) → Values s → FieldsOf
+fields_as s vs = record { kinds = s; values = vs }
+
 pub record HasNoRow (t : RecordType) : Type 0 where
   pub rowless : IsRowless t
   pub read : IsNeverRead t → ⊥
 
 pub no_row : (t : RecordType) → t ≢ types.A → t ≢ types.AAAA → t ≢ types.ANAME → t ≢ types.CAA → t ≢ types.CERT → t ≢ types.CNAME → t ≢ types.CSYNC → t ≢ types.HINFO → t ≢ types.MX → t ≢ types.NAPTR → t ≢ types.NULL → t ≢ types.NS → t ≢ types.OPENPGPKEY → t ≢ types.PTR → t ≢ types.SMIMEA → t ≢ types.SOA → t ≢ types.SRV → t ≢ types.SSHFP → t ≢ types.TLSA → t ≢ types.TXT → t ≢ types.ZERO → t ≢ types.ANY → t ≢ types.AXFR → t ≢ types.IXFR → HasNoRow t
 no_row types.A h0 h1 h2 h3 h4 h5 h6 h7 h8 h9 h10 h11 h12 h13 h14 h15 h16 h17 h18 h19 h20 h21 h22 h23 = absurd (h0 refl)
-no_row types.AAAA h0 h1 h2 h3 h4 h5 h6 h7 h8 h9 h10 h11 h12 h13 h14 h15 h16 h17 h18 h19 h20 h21 h22 h23 = absurd (h1 refl)
-no_row types.ANAME h0 h1 h2 h3 h4 h5 h6 h7 h8 h9 h10 h11 h12 h13 h14 h15 h16 h17 h18 h19 h20 h21 h22 h23 = absurd (h2 refl)
-no_row types.CAA h0 h1 h2 h3 h4 h5 h6 h7 h8 h9 h10 h11 h12 h13 h14 h15 h16 h17 h18 h19 h20 h21 h22 h23 = absurd (h3 refl)
-no_row types.CERT h0 h1 h2 h3 h4 h5 h6 h7 h8 h9 h10 h11 h12 h13 h14 h15 h16 h17 h18 h19 h20 h21 h22 h23 = absurd (h4 refl)
-no_row types.CNAME h0 h1 h2 h3 h4 h5 h6 h7 h8 h9 h10 h11 h12 h13 h14 h15 h16 h17 h18 h19 h20 h21 h22 h23 = absurd (h5 refl)
-no_row types.CSYNC h0 h1 h2 h3 h4 h5 h6 h7 h8 h9 h10 h11 h12 h13 h14 h15 h16 h17 h18 h19 h20 h21 h22 h23 = absurd (h6 refl)
-no_row types.HINFO h0 h1 h2 h3 h4 h5 h6 h7 h8 h9 h10 h11 h12 h13 h14 h15 h16 h17 h18 h19 h20 h21 h22 h23 = absurd (h7 refl)
-no_row types.MX h0 h1 h2 h3 h4 h5 h6 h7 h8 h9 h10 h11 h12 h13 h14 h15 h16 h17 h18 h19 h20 h21 h22 h23 = absurd (h8 refl)
-no_row types.NAPTR h0 h1 h2 h3 h4 h5 h6 h7 h8 h9 h10 h11 h12 h13 h14 h15 h16 h17 h18 h19 h20 h21 h22 h23 = absurd (h9 refl)
-no_row types.NULL h0 h1 h2 h3 h4 h5 h6 h7 h8 h9 h10 h11 h12 h13 h14 h15 h16 h17 h18 h19 h20 h21 h22 h23 = absurd (h10 refl)
-no_row types.NS h0 h1 h2 h3 h4 h5 h6 h7 h8 h9 h10 h11 h12 h13 h14 h15 h16 h17 h18 h19 h20 h21 h22 h23 = absurd (h11 refl)
-no_row types.OPENPGPKEY h0 h1 h2 h3 h4 h5 h6 h7 h8 h9 h10 h11 h12 h13 h14 h15 h16 h17 h18 h19 h20 h21 h22 h23 = absurd (h12 refl)
-no_row types.PTR h0 h1 h2 h3 h4 h5 h6 h7 h8 h9 h10 h11 h12 h13 h14 h15 h16 h17 h18 h19 h20 h21 h22 h23 = absurd (h13 refl)
-no_row types.SMIMEA h0 h1 h2 h3 h4 h5 h6 h7 h8 h9 h10 h11 h12 h13 h14 h15 h16 h17 h18 h19 h20 h21 h22 h23 = absurd (h14 refl)
-no_row types.SOA h0 h1 h2 h3 h4 h5 h6 h7 h8 h9 h10 h11 h12 h13 h14 h15 h16 h17 h18 h19 h20 h21 h22 h23 = absurd (h15 refl)
-no_row types.SRV h0 h1 h2 h3 h4 h5 h6 h7 h8 h9 h10 h11 h12 h13 h14 h15 h16 h17 h18 h19 h20 h21 h22 h23 = absurd (h16 refl)
-no_row types.SSHFP h0 h1 h2 h3 h4 h5 h6 h7 h8 h9 h10 h11 h12 h13 h14 h15 h16 h17 h18 h19 h20 h21 h22 h23 = absurd (h17 refl)
-no_row types.TLSA h0 h1 h2 h3 h4 h5 h6 h7 h8 h9 h10 h11 h12 h13 h14 h15 h16 h17 h18 h19 h20 h21 h22 h23 = absurd (h18 refl)
-no_row types.TXT h0 h1 h2 h3 h4 h5 h6 h7 h8 h9 h10 h11 h12 h13 h14 h15 h16 h17 h18 h19 h20 h21 h22 h23 = absurd (h19 refl)
-no_row types.ZERO h0 h1 h2 h3 h4 h5 h6 h7 h8 h9 h10 h11 h12 h13 h14 h15 h16 h17 h18 h19 h20 h21 h22 h23 = absurd (h20 refl)
-no_row types.ANY h0 h1 h2 h3 h4 h5 h6 h7 h8 h9 h10 h11 h12 h13 h14 h15 h16 h17 h18 h19 h20 h21 h22 h23 = absurd (h21 refl)
-no_row types.AXFR h0 h1 h2 h3 h4 h5 h6 h7 h8 h9 h10 h11 h12 h13 h14 h15 h16 h17 h18 h19 h20 h21 h22 h23 = absurd (h22 refl)
-no_row types.IXFR h0 h1 h2 h3 h4 h5 h6 h7 h8 h9 h10 h11 h12 h13 h14 h15 h16 h17 h18 h19 h20 h21 h22 h23 = absurd (h23 refl)
-no_row t h0 h1 h2 h3 h4 h5 h6 h7 h8 h9 h10 h11 h12 h13 h14 h15 h16 h17 h18 h19 h20 h21 h22 h23 = record { rowless = tt; read = λ h. h }
+no_row t h0 h1 h2 h3 h4 h5 h6 h7 h8 h9 h10 h11 h12 h13 h14 h15 h16 h17 h18 h19 h20 h21 h22 h23 = grind arith
+
+took_rowless : (r : Row) {old new : Reading} {n : ℕ} (vs : Values null_shape) → is_rowless r → TookWindow old n null_shape (λ _. Unit {0}) vs new → (ws : Values (kinds_of r)) × TookWindow old n (kinds_of r) (condition_of r) ws new × (fields_as null_shape vs ≡ fields_as (kinds_of r) ws)
+took_rowless (row kinds asked refusal) vs h w = absurd h
+took_rowless unread vs h w = absurd h
+took_rowless rowless vs h w = (vs, w, refl)
 
 pub unknown_took : {old new : Reading} (t : RecordType) (n : ℕ) (x : NULL) → HasNoRow t → TookWindow old n null_shape (λ _. Unit {0}) (null_fields x) new → TookData old t n (rdata.Unknown t x) new
-unknown_took types.A n x h w = absurd h.rowless
-unknown_took types.AAAA n x h w = absurd h.rowless
-unknown_took types.ANAME n x h w = absurd h.rowless
-unknown_took types.CAA n x h w = absurd h.rowless
-unknown_took types.CERT n x h w = absurd h.rowless
-unknown_took types.CNAME n x h w = absurd h.rowless
-unknown_took types.CSYNC n x h w = absurd h.rowless
-unknown_took types.HINFO n x h w = absurd h.rowless
-unknown_took types.MX n x h w = absurd h.rowless
-unknown_took types.NAPTR n x h w = absurd h.rowless
-unknown_took types.NULL n x h w = absurd h.rowless
-unknown_took types.NS n x h w = absurd h.rowless
-unknown_took types.OPENPGPKEY n x h w = absurd h.rowless
-unknown_took types.PTR n x h w = absurd h.rowless
-unknown_took types.SMIMEA n x h w = absurd h.rowless
-unknown_took types.SOA n x h w = absurd h.rowless
-unknown_took types.SRV n x h w = absurd h.rowless
-unknown_took types.SSHFP n x h w = absurd h.rowless
-unknown_took types.TLSA n x h w = absurd h.rowless
-unknown_took types.TXT n x h w = absurd h.rowless
-unknown_took types.ZERO n x h w = absurd h.rowless
-unknown_took types.ANY n x h w = absurd h.rowless
-unknown_took types.AXFR n x h w = absurd h.rowless
-unknown_took types.IXFR n x h w = absurd h.rowless
-unknown_took t n x h w = data_took t n (rdata.Unknown t x) (null_fields x) (record { type = refl; fields = refl; plain = tt }) w
+unknown_took t n x h w =
+    let r = took_rowless (row_of t) (null_fields x) h.rowless w in
+    data_took t n (rdata.Unknown t x) r.0 (record { type = refl; fields = r.2; plain = h.rowless }) r.1
 
 -- ---- what reading answers, once the octets that were taken are counted
 

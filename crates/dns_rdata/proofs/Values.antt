@@ -23,9 +23,10 @@ use Rattle.dns_rdata_sets.specs.CAA.{caa_shape, caa_fields, caa_key_shape, caa_k
 use Rattle.dns_rdata_sets.proofs.CaaValues.{caa_from, caa_from-fields, caa_fields-from, caa_from-read, caa_keys-same}
 use Rattle.dns_rdata_sets.specs.CSYNC.{csync_shape, csync_fields, csync_key_shape, csync_keys}
 use Rattle.dns_rdata_sets.proofs.CsyncValues.{csync_from, csync_from-fields, csync_fields-from, csync_from-read, csync_keys-same}
+use Rattle.dns_rdata_base.specs.declared.null.NULL.{NULL}
 use Rattle.dns_rdata.specs.declared.record_data.RData.{RData}
 use Rattle.dns_rdata.specs.declared.record_data.RData.TheVariants as rdata
-use Rattle.dns_rdata.specs.Data.{shape, condition, FieldsOf, fields_of, type_of, IsPlain, IsValue}
+use Rattle.dns_rdata.specs.Data.{shape, condition, FieldsOf, fields_of, type_of, IsRowless, IsPlain, IsValue}
 use Rattle.dns_rdata.specs.Equal.{equal, record_type_eq}
 
 -- ---- values as those of other kinds
@@ -107,55 +108,24 @@ value_for t vs = rdata.Unknown t (record { anything = vs.0 })
 from_fields : RecordType → FieldsOf → RData
 from_fields t f = value_for t (values_as (shape t) f.kinds f.values)
 
+unknown_plain : (code : RecordType) (x : NULL) → IsRowless code → rdata.Unknown code x ≡ from_fields code (fields_of (rdata.Unknown code x))
+unfolding from_fields value_for values_as value_as
+unknown_plain types.A x h = absurd h
+unknown_plain code x h = first_of (cc, grind arith)
+
 plain_value : (v : RData) → IsPlain v → v ≡ from_fields (type_of v) (fields_of v)
 unfolding from_fields value_for values_as value_as
-plain_value (rdata.A x) h = refl
 plain_value (rdata.AAAA x) h = ap (λ (s : List ℕ). rdata.AAAA (record { 0 = record { segments = s } })) (sym (segments_of-octets_of x.0.segments))
-plain_value (rdata.ANAME x) h = refl
 plain_value (rdata.CAA x) h = ap rdata.CAA (caa_from-fields x h)
 plain_value (rdata.CERT x) h = ap rdata.CERT (cert_from-fields x h)
-plain_value (rdata.CNAME x) h = refl
 plain_value (rdata.CSYNC x) h = ap rdata.CSYNC (csync_from-fields x h)
-plain_value (rdata.HINFO x) h = refl
-plain_value (rdata.MX x) h = refl
-plain_value (rdata.NAPTR x) h = refl
-plain_value (rdata.NULL x) h = refl
-plain_value (rdata.NS x) h = refl
-plain_value (rdata.OPENPGPKEY x) h = refl
-plain_value (rdata.PTR x) h = refl
 plain_value (rdata.SMIMEA x) h = ap rdata.SMIMEA (smimea_from-fields x h)
 plain_value (rdata.SOA x) h = ap rdata.SOA (soa_from-fields x h)
-plain_value (rdata.SRV x) h = refl
 plain_value (rdata.SSHFP x) h = ap rdata.SSHFP (sshfp_from-fields x h)
 plain_value (rdata.TLSA x) h = ap rdata.TLSA (tlsa_from-fields x h)
-plain_value (rdata.TXT x) h = refl
-plain_value (rdata.Unknown types.A x) h = absurd h
-plain_value (rdata.Unknown types.AAAA x) h = absurd h
-plain_value (rdata.Unknown types.ANAME x) h = absurd h
-plain_value (rdata.Unknown types.CAA x) h = absurd h
-plain_value (rdata.Unknown types.CERT x) h = absurd h
-plain_value (rdata.Unknown types.CNAME x) h = absurd h
-plain_value (rdata.Unknown types.CSYNC x) h = absurd h
-plain_value (rdata.Unknown types.HINFO x) h = absurd h
-plain_value (rdata.Unknown types.MX x) h = absurd h
-plain_value (rdata.Unknown types.NAPTR x) h = absurd h
-plain_value (rdata.Unknown types.NULL x) h = absurd h
-plain_value (rdata.Unknown types.NS x) h = absurd h
-plain_value (rdata.Unknown types.OPENPGPKEY x) h = absurd h
-plain_value (rdata.Unknown types.PTR x) h = absurd h
-plain_value (rdata.Unknown types.SMIMEA x) h = absurd h
-plain_value (rdata.Unknown types.SOA x) h = absurd h
-plain_value (rdata.Unknown types.SRV x) h = absurd h
-plain_value (rdata.Unknown types.SSHFP x) h = absurd h
-plain_value (rdata.Unknown types.TLSA x) h = absurd h
-plain_value (rdata.Unknown types.TXT x) h = absurd h
-plain_value (rdata.Unknown types.ZERO x) h = absurd h
-plain_value (rdata.Unknown types.ANY x) h = absurd h
-plain_value (rdata.Unknown types.AXFR x) h = absurd h
-plain_value (rdata.Unknown types.IXFR x) h = absurd h
-plain_value (rdata.Unknown code x) h = refl
 plain_value (rdata.Update0 t) h = absurd h
-plain_value rdata.ZERO h = refl
+plain_value (rdata.Unknown code x) h = unknown_plain code x h
+plain_value v h = refl
 
 -- a value of these fields is the one that is made of them
 pub value_is : (t : RecordType) (vs : Values (shape t)) (v : RData) → IsValue t vs v → v ≡ value_for t vs
@@ -175,33 +145,20 @@ of_kinds s e = ap (with_kinds s) e
 -- and the fields of a window make one
 pub window_value : (m : List ℕ) (p n : ℕ) (t : RecordType) (vs : Values (shape t)) → Window m p n (shape t) (condition t) vs → IsValue t vs (value_for t vs)
 unfolding value_for
-window_value m p n types.A vs w = record { type = refl; fields = refl; plain = tt }
 window_value m p n types.AAAA vs w =
     let e : octets_of (segments_of vs.0) ≡ vs.0 = octets_of-segments 8 vs.0 w.stands.1.is.0 (AreOctets-at m p vs.0 w.stands.0 w.octets w.stands.1.is.1) in
     record { type = refl; fields = of_kinds (Octets 16 ∷ []) (ap (λ (o : List ℕ). (o, tt)) e); plain = tt }
-window_value m p n types.ANAME vs w = record { type = refl; fields = refl; plain = tt }
 window_value m p n types.CAA vs w =
     let f = stands_fit m p caa_shape vs (p + n) w.stands in
     record { type = refl; fields = of_kinds caa_shape (caa_fields-from vs f); plain = caa_from-read vs }
 window_value m p n types.CERT vs w = record { type = refl; fields = of_kinds cert_shape (cert_fields-from vs); plain = cert_from-read vs }
-window_value m p n types.CNAME vs w = record { type = refl; fields = refl; plain = tt }
 window_value m p n types.CSYNC vs w = record { type = refl; fields = of_kinds csync_shape (csync_fields-from vs); plain = csync_from-read vs }
-window_value m p n types.HINFO vs w = record { type = refl; fields = refl; plain = tt }
-window_value m p n types.MX vs w = record { type = refl; fields = refl; plain = tt }
-window_value m p n types.NAPTR vs w = record { type = refl; fields = refl; plain = tt }
-window_value m p n types.NULL vs w = record { type = refl; fields = refl; plain = tt }
-window_value m p n types.NS vs w = record { type = refl; fields = refl; plain = tt }
-window_value m p n types.OPENPGPKEY vs w = record { type = refl; fields = refl; plain = tt }
-window_value m p n types.PTR vs w = record { type = refl; fields = refl; plain = tt }
 window_value m p n types.SMIMEA vs w = record { type = refl; fields = of_kinds smimea_shape (smimea_fields-from vs); plain = smimea_from-read vs }
 window_value m p n types.SOA vs w =
     let f = stands_fit m p soa_shape vs (p + n) w.stands in
     record { type = refl; fields = of_kinds soa_shape (soa_fields-from vs f); plain = soa_from-seconds vs f }
-window_value m p n types.SRV vs w = record { type = refl; fields = refl; plain = tt }
 window_value m p n types.SSHFP vs w = record { type = refl; fields = of_kinds sshfp_shape (sshfp_fields-from vs); plain = sshfp_from-read vs }
 window_value m p n types.TLSA vs w = record { type = refl; fields = of_kinds tlsa_shape (tlsa_fields-from vs); plain = tlsa_from-read vs }
-window_value m p n types.TXT vs w = record { type = refl; fields = refl; plain = tt }
-window_value m p n types.ZERO vs w = record { type = refl; fields = refl; plain = tt }
 window_value m p n types.ANY vs w = absurd w.holds
 window_value m p n types.AXFR vs w = absurd w.holds
 window_value m p n types.IXFR vs w = absurd w.holds
@@ -232,13 +189,16 @@ fields_for t vs = values_as (shape t) (fields_of (value_for t vs)).kinds (fields
 
 pub equal_values : (t : RecordType) (vs ws : Values (shape t)) → condition t vs → equal (value_for t vs) (value_for t ws) ≡ values_eq (shape t) (fields_for t vs) (fields_for t ws)
 unfolding value_for values_as value_as
+equal_values types.CAA vs ws h = and_true _ ∙ equal_keys caa_key_shape caa_shape (caa_keys (caa_from vs)) (caa_keys (caa_from ws)) (caa_fields (caa_from vs)) (caa_fields (caa_from ws)) (tt, (tt, (tt, (tt, tt)))) (tt, (tt, (tt, (tt, tt)))) (tt, (tt, (tt, tt))) (tt, (tt, (tt, tt))) (caa_keys-same (caa_from vs) (caa_from ws) (caa_from-read vs) (caa_from-read ws))
+equal_values types.CERT vs ws h = and_true _ ∙ equal_keys cert_key_shape cert_shape (cert_keys (cert_from vs)) (cert_keys (cert_from ws)) (cert_fields (cert_from vs)) (cert_fields (cert_from ws)) (tt, (tt, (tt, (tt, (tt, (tt, tt)))))) (tt, (tt, (tt, (tt, (tt, (tt, tt)))))) (tt, (tt, (tt, (tt, tt)))) (tt, (tt, (tt, (tt, tt)))) (cert_keys-same (cert_from vs) (cert_from ws) (cert_from-read vs) (cert_from-read ws))
+equal_values types.CSYNC vs ws h = and_true _ ∙ equal_keys csync_key_shape csync_shape (csync_keys (csync_from vs)) (csync_keys (csync_from ws)) (csync_fields (csync_from vs)) (csync_fields (csync_from ws)) (tt, (tt, (tt, (tt, (tt, tt))))) (tt, (tt, (tt, (tt, (tt, tt))))) (tt, (tt, (tt, tt))) (tt, (tt, (tt, tt))) (csync_keys-same (csync_from vs) (csync_from ws) (csync_from-read vs) (csync_from-read ws))
+equal_values types.SMIMEA vs ws h = and_true _ ∙ equal_keys smimea_key_shape smimea_shape (smimea_keys (smimea_from vs)) (smimea_keys (smimea_from ws)) (smimea_fields (smimea_from vs)) (smimea_fields (smimea_from ws)) (tt, (tt, (tt, (tt, (tt, (tt, (tt, tt))))))) (tt, (tt, (tt, (tt, (tt, (tt, (tt, tt))))))) (tt, (tt, (tt, (tt, tt)))) (tt, (tt, (tt, (tt, tt)))) (smimea_keys-same (smimea_from vs) (smimea_from ws) (smimea_from-read vs) (smimea_from-read ws))
+equal_values types.SSHFP vs ws h = and_true _ ∙ equal_keys sshfp_key_shape sshfp_shape (sshfp_keys (sshfp_from vs)) (sshfp_keys (sshfp_from ws)) (sshfp_fields (sshfp_from vs)) (sshfp_fields (sshfp_from ws)) (tt, (tt, (tt, (tt, (tt, tt))))) (tt, (tt, (tt, (tt, (tt, tt))))) (tt, (tt, (tt, tt))) (tt, (tt, (tt, tt))) (sshfp_keys-same (sshfp_from vs) (sshfp_from ws) (sshfp_from-read vs) (sshfp_from-read ws))
+equal_values types.TLSA vs ws h = and_true _ ∙ equal_keys tlsa_key_shape tlsa_shape (tlsa_keys (tlsa_from vs)) (tlsa_keys (tlsa_from ws)) (tlsa_fields (tlsa_from vs)) (tlsa_fields (tlsa_from ws)) (tt, (tt, (tt, (tt, (tt, (tt, (tt, tt))))))) (tt, (tt, (tt, (tt, (tt, (tt, (tt, tt))))))) (tt, (tt, (tt, (tt, tt)))) (tt, (tt, (tt, (tt, tt)))) (tlsa_keys-same (tlsa_from vs) (tlsa_from ws) (tlsa_from-read vs) (tlsa_from-read ws))
 equal_values types.A vs ws h = and_true (values_eq (shape types.A) (vs.0, tt) (ws.0, tt))
 equal_values types.AAAA vs ws h = and_true _
 equal_values types.ANAME vs ws h = and_true _
-equal_values types.CAA vs ws h = and_true _ ∙ equal_keys caa_key_shape caa_shape (caa_keys (caa_from vs)) (caa_keys (caa_from ws)) (caa_fields (caa_from vs)) (caa_fields (caa_from ws)) (tt, (tt, (tt, (tt, tt)))) (tt, (tt, (tt, (tt, tt)))) (tt, (tt, (tt, tt))) (tt, (tt, (tt, tt))) (caa_keys-same (caa_from vs) (caa_from ws) (caa_from-read vs) (caa_from-read ws))
-equal_values types.CERT vs ws h = and_true _ ∙ equal_keys cert_key_shape cert_shape (cert_keys (cert_from vs)) (cert_keys (cert_from ws)) (cert_fields (cert_from vs)) (cert_fields (cert_from ws)) (tt, (tt, (tt, (tt, (tt, (tt, tt)))))) (tt, (tt, (tt, (tt, (tt, (tt, tt)))))) (tt, (tt, (tt, (tt, tt)))) (tt, (tt, (tt, (tt, tt)))) (cert_keys-same (cert_from vs) (cert_from ws) (cert_from-read vs) (cert_from-read ws))
 equal_values types.CNAME vs ws h = and_true _
-equal_values types.CSYNC vs ws h = and_true _ ∙ equal_keys csync_key_shape csync_shape (csync_keys (csync_from vs)) (csync_keys (csync_from ws)) (csync_fields (csync_from vs)) (csync_fields (csync_from ws)) (tt, (tt, (tt, (tt, (tt, tt))))) (tt, (tt, (tt, (tt, (tt, tt))))) (tt, (tt, (tt, tt))) (tt, (tt, (tt, tt))) (csync_keys-same (csync_from vs) (csync_from ws) (csync_from-read vs) (csync_from-read ws))
 equal_values types.HINFO vs ws h = and_true _
 equal_values types.MX vs ws h = and_true _
 equal_values types.NAPTR vs ws h = and_true _
@@ -246,11 +206,8 @@ equal_values types.NULL vs ws h = and_true _
 equal_values types.NS vs ws h = and_true _
 equal_values types.OPENPGPKEY vs ws h = and_true _
 equal_values types.PTR vs ws h = and_true _
-equal_values types.SMIMEA vs ws h = and_true _ ∙ equal_keys smimea_key_shape smimea_shape (smimea_keys (smimea_from vs)) (smimea_keys (smimea_from ws)) (smimea_fields (smimea_from vs)) (smimea_fields (smimea_from ws)) (tt, (tt, (tt, (tt, (tt, (tt, (tt, tt))))))) (tt, (tt, (tt, (tt, (tt, (tt, (tt, tt))))))) (tt, (tt, (tt, (tt, tt)))) (tt, (tt, (tt, (tt, tt)))) (smimea_keys-same (smimea_from vs) (smimea_from ws) (smimea_from-read vs) (smimea_from-read ws))
 equal_values types.SOA vs ws h = and_true _
 equal_values types.SRV vs ws h = and_true _
-equal_values types.SSHFP vs ws h = and_true _ ∙ equal_keys sshfp_key_shape sshfp_shape (sshfp_keys (sshfp_from vs)) (sshfp_keys (sshfp_from ws)) (sshfp_fields (sshfp_from vs)) (sshfp_fields (sshfp_from ws)) (tt, (tt, (tt, (tt, (tt, tt))))) (tt, (tt, (tt, (tt, (tt, tt))))) (tt, (tt, (tt, tt))) (tt, (tt, (tt, tt))) (sshfp_keys-same (sshfp_from vs) (sshfp_from ws) (sshfp_from-read vs) (sshfp_from-read ws))
-equal_values types.TLSA vs ws h = and_true _ ∙ equal_keys tlsa_key_shape tlsa_shape (tlsa_keys (tlsa_from vs)) (tlsa_keys (tlsa_from ws)) (tlsa_fields (tlsa_from vs)) (tlsa_fields (tlsa_from ws)) (tt, (tt, (tt, (tt, (tt, (tt, (tt, tt))))))) (tt, (tt, (tt, (tt, (tt, (tt, (tt, tt))))))) (tt, (tt, (tt, (tt, tt)))) (tt, (tt, (tt, (tt, tt)))) (tlsa_keys-same (tlsa_from vs) (tlsa_from ws) (tlsa_from-read vs) (tlsa_from-read ws))
 equal_values types.TXT vs ws h = and_true _
 equal_values types.ZERO vs ws h = refl
 equal_values types.ANY vs ws h = absurd h

@@ -6,66 +6,113 @@ use Rattle.dns_fields.specs.Fields.{Kind, Rest, Values, all_emittable, canonical
 use Rattle.dns_types.specs.declared.record_type.RecordType.{RecordType}
 use Rattle.dns_types.specs.declared.record_type.RecordType.TheVariants as types
 use Rattle.dns_types.specs.declared.error.DecodeError.{DecodeError}
+use Rattle.dns_types.specs.declared.error.DecodeError.TheVariants as decode
 use Rattle.dns_names_wire.specs.State.{Reading}
-use Rattle.dns_names_wire.specs.Words.{StaysBehind, UnlessMemory, Window, NoWindow}
-use Rattle.dns_rdata_base.specs.A.{a_shape, a_fields}
-use Rattle.dns_rdata_base.specs.AAAA.{aaaa_shape, aaaa_fields}
+use Rattle.dns_names_wire.specs.Words.{StaysBehind, UnlessMemory, LacksOctets, Window, NoWindow}
+use Rattle.dns_rdata_base.specs.Refusing.{IsLack}
+use Rattle.dns_rdata_base.specs.A.{a_shape, a_fields, a_refusal}
+use Rattle.dns_rdata_base.specs.AAAA.{aaaa_shape, aaaa_fields, aaaa_refusal}
 use Rattle.dns_rdata_base.specs.NameRecords.{name_shape, aname_fields, cname_fields, ns_fields, ptr_fields}
-use Rattle.dns_rdata_certs.specs.CERT.{cert_shape, cert_fields, cert_condition, IsReadCert}
-use Rattle.dns_rdata_base.specs.HINFO.{hinfo_shape, hinfo_fields}
+use Rattle.dns_rdata_certs.specs.CERT.{cert_shape, cert_fields, cert_condition, cert_refusal, IsReadCert}
+use Rattle.dns_rdata_base.specs.HINFO.{hinfo_shape, hinfo_fields, hinfo_refusal}
 use Rattle.dns_rdata_base.specs.MX.{mx_shape, mx_fields}
-use Rattle.dns_rdata_base.specs.NAPTR.{naptr_shape, naptr_fields, naptr_condition}
+use Rattle.dns_rdata_base.specs.NAPTR.{naptr_shape, naptr_fields, naptr_condition, naptr_refusal}
 use Rattle.dns_rdata_base.specs.NULL.{null_shape, null_fields}
-use Rattle.dns_rdata_base.specs.OPENPGPKEY.{openpgpkey_shape, openpgpkey_fields}
-use Rattle.dns_rdata_certs.specs.SMIMEA.{smimea_shape, smimea_fields, IsReadSmimea}
+use Rattle.dns_rdata_base.specs.OPENPGPKEY.{openpgpkey_shape, openpgpkey_fields, openpgpkey_refusal}
+use Rattle.dns_rdata_certs.specs.SMIMEA.{smimea_shape, smimea_fields, smimea_refusal, IsReadSmimea}
 use Rattle.dns_rdata_base.specs.SOA.{soa_shape, soa_fields, HasSeconds}
 use Rattle.dns_rdata_base.specs.SRV.{srv_shape, srv_fields}
-use Rattle.dns_rdata_certs.specs.SSHFP.{sshfp_shape, sshfp_fields, IsReadSshfp}
-use Rattle.dns_rdata_certs.specs.TLSA.{tlsa_shape, tlsa_fields, IsReadTlsa}
-use Rattle.dns_rdata_base.specs.TXT.{txt_shape, txt_fields}
-use Rattle.dns_rdata_sets.specs.CAA.{caa_shape, caa_fields, caa_condition, IsReadCaa}
-use Rattle.dns_rdata_sets.specs.CSYNC.{csync_shape, csync_fields, csync_condition, IsReadCsync}
+use Rattle.dns_rdata_certs.specs.SSHFP.{sshfp_shape, sshfp_fields, sshfp_refusal, IsReadSshfp}
+use Rattle.dns_rdata_certs.specs.TLSA.{tlsa_shape, tlsa_fields, tlsa_refusal, IsReadTlsa}
+use Rattle.dns_rdata_base.specs.TXT.{txt_shape, txt_fields, txt_refusal}
+use Rattle.dns_rdata_sets.specs.CAA.{caa_shape, caa_fields, caa_condition, caa_refusal, IsReadCaa}
+use Rattle.dns_rdata_sets.specs.CSYNC.{csync_shape, csync_fields, csync_condition, csync_refusal, IsReadCsync}
 use Rattle.dns_rdata.specs.declared.record_data.RData.{RData}
 use Rattle.dns_rdata.specs.declared.record_data.RData.TheVariants as rdata
 
--- the fields of each type; a type without a row has octets of any form
-abbrev pub shape : RecordType → List Kind
-shape types.A = a_shape
-shape types.AAAA = aaaa_shape
-shape types.ANAME = name_shape
-shape types.CAA = caa_shape
-shape types.CERT = cert_shape
-shape types.CNAME = name_shape
-shape types.CSYNC = csync_shape
-shape types.HINFO = hinfo_shape
-shape types.MX = mx_shape
-shape types.NAPTR = naptr_shape
-shape types.NULL = null_shape
-shape types.NS = name_shape
-shape types.OPENPGPKEY = openpgpkey_shape
-shape types.PTR = name_shape
-shape types.SMIMEA = smimea_shape
-shape types.SOA = soa_shape
-shape types.SRV = srv_shape
-shape types.SSHFP = sshfp_shape
-shape types.TLSA = tlsa_shape
-shape types.TXT = txt_shape
-shape types.ZERO = []
-shape types.ANY = []
-shape types.AXFR = []
-shape types.IXFR = []
-shape t = Rest ∷ []
+-- What the data of a type is.
+pub data Row : Type 1 where
+  -- fields in order, what is asked of them beside that they stand, and why the record itself refuses n octets of data
+  row : (kinds : List Kind) → (Values kinds → Type 0) → (ℕ → Reading → DecodeError → Reading → Type 0) → Row
+  -- no data is read: a type that only questions have (RFC 1035, 3.2.3; RFC 1995, 2)
+  unread : Row
+  -- octets of any form
+  rowless : Row
 
--- what is asked of the fields beside that they stand; of types that only questions have, no data is read
+-- nothing is asked
+abbrev pub anything : (kinds : List Kind) → Values kinds → Type 0
+anything kinds vs = Unit {0}
+
+-- memory ran out, or a field does not stand
+abbrev pub lacking : List Kind → ℕ → Reading → DecodeError → Reading → Type 0
+lacking kinds n old e new = IsLack kinds old e new
+
+-- fewer octets are left than the length
+abbrev pub short_refusal : ℕ → Reading → DecodeError → Reading → Type 0
+short_refusal n old e new = (e ≡ decode.InsufficientBytes) × LacksOctets old n
+
+abbrev pub row_of : RecordType → Row
+row_of types.A = row a_shape (anything a_shape) (λ n. a_refusal)
+row_of types.AAAA = row aaaa_shape (anything aaaa_shape) (λ n. aaaa_refusal)
+row_of types.ANAME = row name_shape (anything name_shape) (lacking name_shape)
+row_of types.CAA = row caa_shape caa_condition caa_refusal
+row_of types.CERT = row cert_shape cert_condition cert_refusal
+row_of types.CNAME = row name_shape (anything name_shape) (lacking name_shape)
+row_of types.CSYNC = row csync_shape csync_condition csync_refusal
+row_of types.HINFO = row hinfo_shape (anything hinfo_shape) (λ n. hinfo_refusal)
+row_of types.MX = row mx_shape (anything mx_shape) (lacking mx_shape)
+row_of types.NAPTR = row naptr_shape naptr_condition (λ n. naptr_refusal)
+row_of types.NULL = row null_shape (anything null_shape) short_refusal
+row_of types.NS = row name_shape (anything name_shape) (lacking name_shape)
+row_of types.OPENPGPKEY = row openpgpkey_shape (anything openpgpkey_shape) openpgpkey_refusal
+row_of types.PTR = row name_shape (anything name_shape) (lacking name_shape)
+row_of types.SMIMEA = row smimea_shape (anything smimea_shape) smimea_refusal
+row_of types.SOA = row soa_shape (anything soa_shape) (lacking soa_shape)
+row_of types.SRV = row srv_shape (anything srv_shape) (lacking srv_shape)
+row_of types.SSHFP = row sshfp_shape (anything sshfp_shape) sshfp_refusal
+row_of types.TLSA = row tlsa_shape (anything tlsa_shape) tlsa_refusal
+row_of types.TXT = row txt_shape (anything txt_shape) txt_refusal
+row_of types.ZERO = row [] (anything []) (λ n old e new. ⊥)
+row_of types.ANY = unread
+row_of types.AXFR = unread
+row_of types.IXFR = unread
+row_of t = rowless
+
+abbrev pub kinds_of : Row → List Kind
+kinds_of (row kinds asked refusal) = kinds
+kinds_of unread = []
+kinds_of rowless = Rest ∷ []
+
+abbrev pub condition_of : (r : Row) → Values (kinds_of r) → Type 0
+condition_of (row kinds asked refusal) vs = asked vs
+condition_of unread vs = ⊥
+condition_of rowless vs = Unit {0}
+
+-- the kinds of the fields of each type, in order
+abbrev pub shape : RecordType → List Kind
+shape t = kinds_of (row_of t)
+
+-- what is asked of the fields beside that they stand
 abbrev pub condition : (t : RecordType) → Values (shape t) → Type 0
-condition types.CERT vs = cert_condition vs
-condition types.NAPTR vs = naptr_condition vs
-condition types.CAA vs = caa_condition vs
-condition types.CSYNC vs = csync_condition vs
-condition types.ANY vs = ⊥
-condition types.AXFR vs = ⊥
-condition types.IXFR vs = ⊥
-condition t vs = Unit {0}
+condition t vs = condition_of (row_of t) vs
+
+abbrev pub is_never : Row → Type 0
+is_never (row kinds asked refusal) = ⊥
+is_never unread = Unit {0}
+is_never rowless = ⊥
+
+abbrev pub is_rowless : Row → Type 0
+is_rowless (row kinds asked refusal) = ⊥
+is_rowless unread = ⊥
+is_rowless rowless = Unit {0}
+
+-- no data of the type is read
+abbrev pub IsNeverRead : RecordType → Type 0
+IsNeverRead t = is_never (row_of t)
+
+-- no row of its own says what the data of the type is
+abbrev pub IsRowless : RecordType → Type 0
+IsRowless t = is_rowless (row_of t)
 
 -- fields of some kinds
 pub record FieldsOf : Type 0 where
@@ -121,34 +168,6 @@ type_of (rdata.TXT x) = types.TXT
 type_of (rdata.Unknown code x) = code
 type_of (rdata.Update0 t) = t
 type_of rdata.ZERO = types.ZERO
-
--- no row of its own says what the data of the type is
-abbrev pub IsRowless : RecordType → Type 0
-IsRowless types.A = ⊥
-IsRowless types.AAAA = ⊥
-IsRowless types.ANAME = ⊥
-IsRowless types.CAA = ⊥
-IsRowless types.CERT = ⊥
-IsRowless types.CNAME = ⊥
-IsRowless types.CSYNC = ⊥
-IsRowless types.HINFO = ⊥
-IsRowless types.MX = ⊥
-IsRowless types.NAPTR = ⊥
-IsRowless types.NULL = ⊥
-IsRowless types.NS = ⊥
-IsRowless types.OPENPGPKEY = ⊥
-IsRowless types.PTR = ⊥
-IsRowless types.SMIMEA = ⊥
-IsRowless types.SOA = ⊥
-IsRowless types.SRV = ⊥
-IsRowless types.SSHFP = ⊥
-IsRowless types.TLSA = ⊥
-IsRowless types.TXT = ⊥
-IsRowless types.ZERO = ⊥
-IsRowless types.ANY = ⊥
-IsRowless types.AXFR = ⊥
-IsRowless types.IXFR = ⊥
-IsRowless t = Unit {0}
 
 -- A value that data can give: octets of any form are of a type without a row, an update of no data is never read, and
 -- of two variants of an enum with one number it is the named one, and signed numbers have their bits.

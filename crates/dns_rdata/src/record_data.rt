@@ -3,7 +3,8 @@
 ghost use Rattle.std.specs.Prelude.{◌≡◌, ◌≢◌, ◌+◌, ◌-◌, ◌<◌, ℕ, List, length as size, IsTrue, ◌↔◌, Some, Err, IfOk, IfErr, OnOk};
 ghost use Rattle.dns_types.specs.RecordTypes.{number_of};
 ghost use Rattle.dns_names_wire.specs.Words.{StaysBehind, UnlessMemory, EmitsAs, Extends, Keeps, IsMessage};
-ghost use Rattle.dns_rdata.specs.Refusals.{IsNeverRead, OwnRefusal, IsRefusal, by_length as answer_by_length};
+ghost use Rattle.dns_rdata.specs.Data.{IsNeverRead};
+ghost use Rattle.dns_rdata.specs.Refusals.{OwnRefusal, IsRefusal, by_length as answer_by_length};
 
 use dns_names_wire::{
     BinDecoder, BinEncodable, BinEncoder, DecodeError, ProtoError, RecordType, Restrict,
@@ -122,7 +123,7 @@ impl RData {
     }
 
     // Reads the fields of a type, whatever the length is in the end.
-    fn read_fields(
+    fn read_by_type(
         decoder: &mut BinDecoder<'_>,
         record_type: RecordType,
         length: Restrict<u16>,
@@ -194,7 +195,7 @@ impl RData {
         ensures emittable { IfOk result IsEmittable }
     {
         let start = decoder.index();
-        let outcome = RData::read_fields(decoder, record_type, length);
+        let outcome = RData::read_by_type(decoder, record_type, length);
         let read = decoder.index() - start;
         let len = length.unverified() as usize;
         by_length(outcome, read, len)
@@ -244,7 +245,7 @@ impl BinEncodable for RData {
         ensures fits { OnOk result (IsEmittable self.now) }
         ensures unfit { IfErr result (λ e. IsMessage e → ¬ (IsEmittable self.now)) }
     {
-        let outcome = self.emit_fields(encoder);
+        let outcome = self.emit_by_type(encoder);
         let _written = encoder.len();
         outcome
     }
@@ -254,7 +255,7 @@ impl RData {
     ghost use Rattle.dns_rdata.specs.Data.{fields_of, mode_for};
 
     // Appends the octets of the value.
-    fn emit_fields(&self, encoder: &mut BinEncoder<'_>) -> Result<(), ProtoError>
+    fn emit_by_type(&self, encoder: &mut BinEncoder<'_>) -> Result<(), ProtoError>
         ensures { EmitsAs (mode_for encoder.old.mode self.now) (fields_of self.now).kinds (fields_of self.now).values result encoder.old encoder.new }
     {
         match self {

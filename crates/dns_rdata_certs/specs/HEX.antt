@@ -8,11 +8,11 @@ use Rattle.dns_types.specs.declared.error.ParseError.{ParseError}
 use Rattle.dns_types.specs.declared.error.ParseError.TheVariants as parse
 
 -- a tab, LF, CR or a space
-abbrev pub is_blank : ℕ → Bool
-is_blank c = c == 9 || c == 10 || c == 13 || c == 32
+abbrev pub is_white_space : ℕ → Bool
+is_white_space c = c == 9 || c == 10 || c == 13 || c == 32
 
 abbrev pub without_blanks : List ℕ → List ℕ
-without_blanks text = filter (λ c. not (is_blank c)) text
+without_blanks text = filter (λ c. not (is_white_space c)) text
 
 -- two digits of either case for each octet, the higher one first, and blanks anywhere
 abbrev pub octets_of_hex : List ℕ → Result (List ℕ) FromHexError

@@ -3,7 +3,7 @@
 ghost use Rattle.std.specs.Prelude.{◌≡◌, IfOk};
 ghost use Rattle.std.specs.String.{string_bytes};
 ghost use Rattle.hex.specs.Hex.{encode_lower};
-ghost use Rattle.dns_rdata_certs.specs.HEX.{is_blank, without_blanks, DecodesHex};
+ghost use Rattle.dns_rdata_certs.specs.HEX.{is_white_space, without_blanks, DecodesHex};
 
 use dns_types::ParseError;
 use hex::FromHexError;
@@ -42,7 +42,7 @@ fn digits_of(alloc: Global, text: &[u8]) -> Result<Vec<u8>, AllocError>
 {
     let mut digits = Vec::with_capacity(alloc, text.len())?;
     for octet in text {
-        if !is_blank(*octet) {
+        if !is_white_space(*octet) {
             digits.push(*octet)?;
         }
     }
@@ -50,8 +50,8 @@ fn digits_of(alloc: Global, text: &[u8]) -> Result<Vec<u8>, AllocError>
 }
 
 #[inline]
-fn is_blank(octet: u8) -> bool
-    ensures { result ≡ is_blank octet }
+fn is_white_space(octet: u8) -> bool
+    ensures { result ≡ is_white_space octet }
 {
     matches!(octet, b' ' | b'\t' | b'\r' | b'\n')
 }

@@ -9,7 +9,7 @@ use Rattle.std.specs.Str.{IsUtf8}
 use Rattle.std.specs.Char.{is_ascii_alphanumeric}
 use Rattle.dns_types.specs.declared.error.ProtoError.{ProtoError}
 use Rattle.dns_types.specs.declared.error.ProtoError.TheVariants as proto
-use Rattle.dns_names_wire.specs.NameValues.{IsRefusal}
+use Rattle.dns_names_wire.specs.NameValues.{IsTextRefusal}
 use Rattle.dns_rdata_sets.specs.Issuer.{Parameter, is_blank, is_no_semicolon, is_key_octet, is_value_octet, AllOf, StartsWithout, Splits, IsKey, IsParameter, parameter_octets, AreParameters}
 use Rattle.dns_rdata_sets.proofs.Splitting.{all_parts, all_cons, all_append, all_back, all_weaker, split_once}
 
@@ -203,7 +203,7 @@ pending_stop octets read [] front behind p some t none ys h = omega (arith, some
 pending_stop octets read (c ∷ others) front behind p some t none ys h = pending_refused octets read c others front behind p t none ys h
 
 -- a message says more
-pub refusal_map : (e : ProtoError) (P Q : Type 0) → (P → Q) → IsRefusal e P → IsRefusal e Q
+pub refusal_map : (e : ProtoError) (P Q : Type 0) → (P → Q) → IsTextRefusal e P → IsTextRefusal e Q
 refusal_map proto.Memory P Q f h = tt
 refusal_map (proto.Message t) P Q f h = f h
 refusal_map proto.MaxBufferSizeExceeded P Q f h = h

@@ -14,7 +14,7 @@ use Rattle.dns_labels.specs.Text.{IsNameText, HasOctets, OctetText, printed, lab
 use Rattle.dns_labels.specs.Text.OctetText.{plain, decimal, quoted}
 use Rattle.dns_labels.proofs.TextSteps.{printed_text}
 use Rattle.dns_labels.proofs.NameTexts.{one_name, name_reads}
-use Rattle.dns_names_wire.specs.NameValues.{IsRefusal}
+use Rattle.dns_names_wire.specs.NameValues.{IsTextRefusal}
 use Rattle.dns_rdata_sets.specs.Issuer.{Parameter, is_no_semicolon, IsParameter, IsNamed, IsWritable, StartsWithout, parameter_octets, Splits, AreParameters, IsIssuerName, name_refusal, IsIssuer, issuer_refusal, parameters_text, issuer_value}
 use Rattle.dns_rdata_sets.proofs.Splitting.{same_split}
 use Rattle.dns_rdata_sets.proofs.IssuerSteps.{Follow, follow_alone, alone_follow, one_list}
@@ -45,7 +45,7 @@ name_stop octets front rest (proto.Message t) s h = (
 )
 
 -- the parameters are refused
-pub parameters_stop : (octets front rest : List ℕ) (name : Option DomainName) (e : ProtoError) → Splits is_no_semicolon octets front rest → IsIssuerName front name → IsRefusal e ((xs : List Parameter) → AreParameters rest xs → ⊥) → issuer_refusal octets e
+pub parameters_stop : (octets front rest : List ℕ) (name : Option DomainName) (e : ProtoError) → Splits is_no_semicolon octets front rest → IsIssuerName front name → IsTextRefusal e ((xs : List Parameter) → AreParameters rest xs → ⊥) → issuer_refusal octets e
 parameters_stop octets front rest name proto.Memory s n h = tt
 parameters_stop octets front rest name proto.MaxBufferSizeExceeded s n h = h
 parameters_stop octets front rest name (proto.Decode d) s n h = absurd h

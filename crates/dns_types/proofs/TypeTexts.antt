@@ -10,7 +10,7 @@ use Rattle.dns_types.specs.declared.record_type.RecordType.{RecordType}
 use Rattle.dns_types.specs.declared.record_type.RecordType.TheVariants.{Unknown}
 use Rattle.std.proofs.lemmas.Fmt.{decimal_is_IsNumeral, length-decimal-le}
 use Rattle.dns_types.proofs.RecordTypeLaws.{number_of-record_type_of}
-use Rattle.dns_types.specs.RecordTypes.{number_of, is_named, named_types, record_type_of, type_text, has_name, IsNameText, IsNumberText, IsTypeText, ReadsType, ReadsPrinted}
+use Rattle.dns_types.specs.RecordTypes.{number_of, is_named, named_types, record_type_of, type_text, has_name, IsTypeName, IsNumberText, IsTypeText, ReadsType, ReadsPrinted}
 
 -- what a first match is
 found_at : {X : Type 0} (p : X → Bool) (y x : X) (rest : Option X) (b : Bool) → p y ≡ b → (rest ≡ Some x → p x ≡ true) → cond b (Some y) rest ≡ Some x → p x ≡ true
@@ -21,10 +21,10 @@ found : {X : Type 0} (p : X → Bool) (xs : List X) (x : X) → find p xs ≡ So
 found p [] x e = let bad : ⊥ = cc in absurd bad
 found p (y ∷ xs) x e = found_at p y x (find p xs) (p y) refl (found p xs x) e
 
-name_text : (text : List ℕ) (t : RecordType) → has_name text t ≡ true → IsNameText text t
+name_text : (text : List ℕ) (t : RecordType) → has_name text t ≡ true → IsTypeName text t
 name_text text t e = by_named (is_named t) refl e
   where
-    by_named : (b : Bool) → is_named t ≡ b → b && pointwise ◌==◌ (type_text t) text ≡ true → IsNameText text t
+    by_named : (b : Bool) → is_named t ≡ b → b && pointwise ◌==◌ (type_text t) text ≡ true → IsTypeName text t
     by_named true n e = record { named = n; printed = sym ((pointwise_decides unsigned_Decides (type_text t) text).0 e) }
     by_named false n e = let bad : ⊥ = cc in absurd bad
 
@@ -44,7 +44,7 @@ number_of_text {text} {t} {u} a b =
     b.value ∙ ap (λ ds. record_type_of (digits_value 10 ds)) (sym d) ∙ sym a.value
 
 -- a text that is a name is the first match's
-name_match : (text : List ℕ) (u : RecordType) → IsNameText text u → find (has_name text) named_types ≡ Some u
+name_match : (text : List ℕ) (u : RecordType) → IsTypeName text u → find (has_name text) named_types ≡ Some u
 name_match text u n = subst (λ s. find (has_name s) named_types ≡ Some u) (sym n.printed) (name_found u n.named)
 
 number_match : (text : List ℕ) (u : RecordType) → IsNumberText text u → find (has_name text) named_types ≡ None

@@ -113,7 +113,7 @@ type_text ANAME = codes "ANAME"
 type_text (Unknown n) = codes "TYPE" ++ decimal n
 
 -- the text is the printed name of a named type
-pub record IsNameText (text : List ℕ) (t : RecordType) : Type 0 where
+pub record IsTypeName (text : List ℕ) (t : RecordType) : Type 0 where
   pub named : IsTrue (is_named t)
   pub printed : text ≡ type_text t
 
@@ -132,7 +132,7 @@ pub record IsNumberText (text : List ℕ) (t : RecordType) : Type 0 where
 
 -- the text is read as the type
 abbrev pub IsTypeText : List ℕ → RecordType → Type 0
-IsTypeText text t = IsNameText text t ⊎ IsNumberText text t
+IsTypeText text t = IsTypeName text t ⊎ IsNumberText text t
 
 -- the one type that a text is read as, and an error where there is none
 abbrev pub ReadsType : List ℕ → Result RecordType DecodeError → Type 0

@@ -34,6 +34,14 @@ fn emit_record(
     Ok(())
 }
 
+fn emit_alias(encoder: &mut BinEncoder<'_>, owner: &Name, host: Name) -> ProtoResult<()> {
+    emit_record(encoder, owner, 300, &RData::CNAME(CNAME(host)))
+}
+
+fn emit_address(encoder: &mut BinEncoder<'_>, owner: &Name) -> ProtoResult<()> {
+    emit_record(encoder, owner, 300, &RData::A(A::new(192, 0, 2, 1)))
+}
+
 /// An alias and the address of its host, behind a header (RFC 1035, 4.1.1). The second owner and the end of the
 /// alias's data are pointers to names that stand already.
 fn write_message(alloc: Global, octets: &mut Vec<u8>) -> ProtoResult<()>
@@ -41,23 +49,23 @@ fn write_message(alloc: Global, octets: &mut Vec<u8>) -> ProtoResult<()>
 {
     let owner = Name::from_ascii(alloc, "www.example.com.")?;
     let host = Name::from_ascii(alloc, "host.example.com.")?;
-    let alias = RData::CNAME(CNAME(host.clone()?));
-    let address = RData::A(A::new(192, 0, 2, 1));
     let mut encoder = BinEncoder::new(alloc, octets);
     for number in [1, 0x8400, 0, 2, 0, 0] {
         encoder.emit_u16(number)?;
     }
-    emit_record(&mut encoder, &owner, 300, &alias)?;
-    emit_record(&mut encoder, &host, 300, &address)?;
+    emit_alias(&mut encoder, &owner, host.clone()?)?;
+    emit_address(&mut encoder, &host)?;
     encoder.into_bytes();
     Ok(())
 }
 
-/// Prints the records behind the header.
+/// Prints the records behind the header, as many as it says.
 fn print_records(rt: &(impl AllocGlobal + Print), message: &[u8]) -> Result<()> {
     let mut decoder = BinDecoder::new(rt.alloc(), message);
-    let _header = decoder.read_slice(12)?;
-    while !decoder.is_empty() {
+    let _id_and_questions = decoder.read_slice(6)?;
+    let answers = decoder.read_u16()?.unverified();
+    let _other_records = decoder.read_slice(4)?;
+    for _ in 0..answers {
         let owner = Name::read(&mut decoder)?;
         let kind = RecordType::read(&mut decoder)?;
         let _class_and_ttl = decoder.read_slice(6)?;

@@ -4,7 +4,7 @@ ghost use Rattle.std.specs.Prelude.{◌≡◌, ◌≤◌, ◌<◌, map, drop, le
 ghost use Rattle.std.specs.Option.{option_copied};
 ghost use Rattle.dns_fields.specs.Labels.{DomainName, IsName};
 ghost use Rattle.dns_labels.specs.Labels.{labels_of, name_of, AreNameOctets};
-ghost use Rattle.dns_names_wire.specs.NameValues.{IsRefusal, IsParsed, with_label, joined_name, completed, qualified, in_lowercase, parent_name};
+ghost use Rattle.dns_names_wire.specs.NameValues.{IsTextRefusal, IsParsed, with_label, joined_name, completed, qualified, in_lowercase, parent_name};
 
 use crate::name::Name;
 use dns_labels::{NameError, NameOctets, building};
@@ -16,7 +16,7 @@ impl Name {
     /// more than 63, or the name would have more than 255.
     pub fn from_labels(alloc: Global, labels: &[&[u8]]) -> ProtoResult<Name>
         ensures ok { IfOk result (λ x. x ≡ qualified (map (λ label. label.now) labels.now)) }
-        ensures refused { IfErr result (λ e. IsRefusal e (IsName (qualified (map (λ label. label.now) labels.now)) → ⊥)) }
+        ensures refused { IfErr result (λ e. IsTextRefusal e (IsName (qualified (map (λ label. label.now) labels.now)) → ⊥)) }
     {
         match join_labels(alloc, labels) {
             Ok(octets) => Ok(Name::from_octets(NameOctets::from_vec(octets), true)),
@@ -29,7 +29,7 @@ impl Name {
     /// octet or more than 63, or the name would have more than 255.
     pub fn append_label(self, label: &[u8]) -> ProtoResult<Name>
         ensures ok { IfOk result (λ x. x ≡ with_label self label.now) }
-        ensures refused { IfErr result (λ e. IsRefusal e (IsName (with_label self label.now) → ⊥)) }
+        ensures refused { IfErr result (λ e. IsTextRefusal e (IsName (with_label self label.now) → ⊥)) }
     {
         let Name { octets, is_fqdn } = self;
         let mut octets = octets.into_vec()?;
@@ -44,7 +44,7 @@ impl Name {
     /// octets.
     pub fn append_name(self, other: &Name) -> ProtoResult<Name>
         ensures ok { IfOk result (λ x. x ≡ joined_name self other.now) }
-        ensures refused { IfErr result (λ e. IsRefusal e (IsName (joined_name self other.now) → ⊥)) }
+        ensures refused { IfErr result (λ e. IsTextRefusal e (IsName (joined_name self other.now) → ⊥)) }
     {
         let Name { octets, .. } = self;
         let mut octets = octets.into_vec()?;
@@ -58,7 +58,7 @@ impl Name {
     /// The labels of both names, fully qualified. Refused as `append_name`.
     pub fn append_domain(self, domain: &Name) -> ProtoResult<Name>
         ensures ok { IfOk result (λ x. x ≡ qualified (joined_name self domain.now).labels) }
-        ensures refused { IfErr result (λ e. IsRefusal e (IsName (joined_name self domain.now) → ⊥)) }
+        ensures refused { IfErr result (λ e. IsTextRefusal e (IsName (joined_name self domain.now) → ⊥)) }
     {
         let mut name = self.append_name(domain)?;
         name.set_fqdn(true);
@@ -68,7 +68,7 @@ impl Name {
     // A relative name gets labels and mark of the origin, where there is one.
     fn complete(self, origin: Option<&Name>) -> ProtoResult<Name>
         ensures ok { IfOk result (λ x. x ≡ completed self (option_copied origin.entry)) }
-        ensures refused { IfErr result (λ e. IsRefusal e (IsName (completed self (option_copied origin.entry)) → ⊥)) }
+        ensures refused { IfErr result (λ e. IsTextRefusal e (IsName (completed self (option_copied origin.entry)) → ⊥)) }
     {
         if self.is_fqdn() {
             return Ok(self);
@@ -83,7 +83,7 @@ impl Name {
     /// Refused by `Message` where it is no text of a name, or where there would be more than 255 octets.
     pub fn parse(alloc: Global, text: &str, origin: Option<&Name>) -> ProtoResult<Name>
         ensures found { IfOk result (λ x. IsParsed text.now (option_copied origin.entry) x) }
-        ensures refused { IfErr result (λ e. IsRefusal e ((x : DomainName) → IsParsed text.now (option_copied origin.entry) x → ⊥)) }
+        ensures refused { IfErr result (λ e. IsTextRefusal e ((x : DomainName) → IsParsed text.now (option_copied origin.entry) x → ⊥)) }
     {
         Name::from_str(alloc, text)?.complete(origin)
     }

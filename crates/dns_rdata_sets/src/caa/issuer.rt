@@ -12,7 +12,7 @@ ghost use Rattle.std.proofs.Common.{rules};
 ghost use Rattle.dns_types.specs.declared.error.DecodeError.TheVariants as decode;
 ghost use Rattle.dns_types.specs.declared.error.ProtoError.TheVariants as proto;
 ghost use Rattle.dns_fields.specs.Labels.{DomainName};
-ghost use Rattle.dns_names_wire.specs.NameValues.{IsRefusal};
+ghost use Rattle.dns_names_wire.specs.NameValues.{IsTextRefusal};
 ghost use Rattle.dns_rdata_sets.specs.Issuer.{Parameter, is_blank, is_key_octet, is_value_octet, is_no_semicolon, AllOf, Splits, IsKey, IsParameter, parameter_octets, AreParameters, IsIssuerName, name_refusal, IsIssuer, issuer_refusal, IsNamed, IsWritable, issuer_name_text, parameters_text, issuer_value};
 
 use dns_names_wire::{DecodeError, Name, ProtoError, ProtoResult};
@@ -178,7 +178,7 @@ fn is_key(octets: &[u8]) -> bool
 // The pair that all these octets are.
 fn read_pair(alloc: Global, octets: &[u8]) -> ProtoResult<KeyValue>
     ensures read { IfOk result (λ x. (octets.now ≡ parameter_octets x) × IsParameter x) }
-    ensures refused { IfErr result (λ e. IsRefusal e ((x : Parameter) → octets.now ≡ parameter_octets x → IsParameter x → ⊥)) }
+    ensures refused { IfErr result (λ e. IsTextRefusal e ((x : Parameter) → octets.now ≡ parameter_octets x → IsParameter x → ⊥)) }
 {
     let (key, rest) = cut_at(octets, b'=');
     let Some((_, value)) = rest.split_first() else {
@@ -199,7 +199,7 @@ fn read_pair(alloc: Global, octets: &[u8]) -> ProtoResult<KeyValue>
 // The pairs behind the name and its semicolon.
 fn read_pairs(alloc: Global, octets: &[u8]) -> ProtoResult<Vec<KeyValue>>
     ensures read { IfOk result (λ v. AreParameters octets.now v.items) }
-    ensures refused { IfErr result (λ e. IsRefusal e ((xs : List Parameter) → AreParameters octets.now xs → ⊥)) }
+    ensures refused { IfErr result (λ e. IsTextRefusal e ((xs : List Parameter) → AreParameters octets.now xs → ⊥)) }
 {
     let mut pairs = Vec::new(alloc);
     let mut rest = skip_blanks(octets);

@@ -5,7 +5,7 @@ ghost use Rattle.std.specs.List.{AllByRecursion};
 ghost use Rattle.std.specs.Option.{option_copied};
 ghost use Rattle.std.specs.Str.{IsUtf8};
 ghost use Rattle.std.specs.String.{string_bytes};
-ghost use Rattle.dns_names_wire.specs.NameValues.{IsRefusal};
+ghost use Rattle.dns_names_wire.specs.NameValues.{IsTextRefusal};
 ghost use Rattle.dns_rdata_sets.specs.CAA.{IsIssuerTag, IsIodefTag, issuer_value_refusal, iodef_value_refusal};
 ghost use Rattle.dns_rdata_sets.specs.Issuer.{IsParameter, IsIssuer, IsWritable, issuer_value};
 
@@ -98,7 +98,7 @@ impl CAA {
         ensures set { OnOk result (self.new ≡ record self.old { value = issuer_value (option_copied name.entry) key_values.now }) }
         ensures tag { OnOk result (IsIssuerTag self.old.tag) }
         ensures unchanged { OnErr result (self.new ≡ self.old) }
-        ensures refused { IfErr result (λ e. IsRefusal e (IsIssuerTag self.old.tag → ⊥)) }
+        ensures refused { IfErr result (λ e. IsTextRefusal e (IsIssuerTag self.old.tag → ⊥)) }
         ensures reads_back { IsWritable (option_copied name.entry) → AllByRecursion IsParameter key_values.now → OnOk result (IsIssuer self.new.value (option_copied name.entry) key_values.now) }
     {
         if !is_issuer_tag(self.tag.as_slice()) {
@@ -115,7 +115,7 @@ impl CAA {
         ensures set { OnOk result (self.new ≡ record self.old { value = url.now }) }
         ensures tag { OnOk result (IsIodefTag self.old.tag) }
         ensures unchanged { OnErr result (self.new ≡ self.old) }
-        ensures refused { IfErr result (λ e. IsRefusal e (IsIodefTag self.old.tag → ⊥)) }
+        ensures refused { IfErr result (λ e. IsTextRefusal e (IsIodefTag self.old.tag → ⊥)) }
     {
         if !is_iodef_tag(self.tag.as_slice()) {
             return Err(NO_IODEF_TAG);

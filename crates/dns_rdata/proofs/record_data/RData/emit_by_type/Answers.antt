@@ -1,5 +1,5 @@
 use Rattle.dns_rdata.proofs.DataLaws.{emits_at}
-use Rattle.dns_rdata.proofs.record_data.RData.emit_fields.Goals as goal
+use Rattle.dns_rdata.proofs.record_data.RData.emit_by_type.Goals as goal
 
 pub returns-in-A : goal.returns-in-A
 returns-in-A c = emits_at _ _ _ _ _ c.in-A.is c.emit.ensures.emits

@@ -2,7 +2,7 @@ use Rattle.std.proofs.Common.{refl, arith}
 use Rattle.std.proofs.lemmas.Result.{err_from_is_err_and}
 use Rattle.dns_types.specs.declared.record_type.RecordType.TheVariants as types
 use Rattle.dns_rdata.proofs.DataReads.{data_took, data_refuses, data_zero, no_row, unknown_took}
-use Rattle.dns_rdata.proofs.record_data.RData.read_fields.Goals as goal
+use Rattle.dns_rdata.proofs.record_data.RData.read_by_type.Goals as goal
 
 pub returns-in_ok-read_data-in-A-clause-reads : goal.returns-in_ok-read_data-in-A-clause-reads
 returns-in_ok-read_data-in-A-clause-reads c = rw c.in-A.is (data_took types.A _ _ _ (record { type = refl; fields = refl; plain = tt }) c.in_ok-read_data-in-A.ensures.window)
