@@ -92,15 +92,9 @@ is_emittable k v = true
 
 -- a value that a reader can give: one with no parts that only a caller can make
 abbrev pub Lawful : (k : Kind) → Value k → Type 0
-Lawful (Number w) n = Unit {0}
-Lawful (Octets n) s = Unit {0}
-Lawful Name x = Unit {0}
-Lawful Text s = Unit {0}
-Lawful Texts ss = Unit {0}
-Lawful Rest s = Unit {0}
 Lawful Options v = HoldThemselves OptionHeld option_octets v
 Lawful Parameters v = HoldThemselves ParameterHeld parameter_octets v
-Lawful Bitmap v = Unit {0}
+Lawful k v = Unit {0}
 
 -- options from p to q that are all whole
 pub record WholeOptions (m : List ℕ) (p : ℕ) (v : List (Numbered OptionValue)) (q : ℕ) : Type 0 where
@@ -186,15 +180,9 @@ Wrote mode m (k ∷ kinds) vs m' = (between : List ℕ) × WroteField mode m k v
 
 -- the same value: names but for ASCII case, options in any order
 abbrev pub same_is : (k : Kind) → Value k → Value k → Type 0
-same_is (Number w) a b = a ≡ b
-same_is (Octets n) a b = a ≡ b
 same_is Name a b = SameName a b
-same_is Text a b = a ≡ b
-same_is Texts a b = a ≡ b
-same_is Rest a b = a ≡ b
 same_is Options a b = IsPermutation a b
-same_is Parameters a b = a ≡ b
-same_is Bitmap a b = a ≡ b
+same_is k a b = a ≡ b
 
 pub record SameField (k : Kind) (a b : Value k) : Type 0 where
   pub is : same_is k a b
@@ -209,23 +197,12 @@ EndsItself (Number w) = Unit {0}
 EndsItself (Octets n) = Unit {0}
 EndsItself Name = Unit {0}
 EndsItself Text = Unit {0}
-EndsItself Texts = ⊥
-EndsItself Rest = ⊥
-EndsItself Options = ⊥
-EndsItself Parameters = ⊥
-EndsItself Bitmap = ⊥
+EndsItself k = ⊥
 
 -- a name is fully qualified
 abbrev pub is_full : (k : Kind) → Value k → Type 0
-is_full (Number w) v = Unit {0}
-is_full (Octets n) v = Unit {0}
 is_full Name x = x.fully_qualified ≡ true
-is_full Text v = Unit {0}
-is_full Texts v = Unit {0}
-is_full Rest v = Unit {0}
-is_full Options v = Unit {0}
-is_full Parameters v = Unit {0}
-is_full Bitmap v = Unit {0}
+is_full k v = Unit {0}
 
 -- each name is fully qualified
 abbrev pub AllFull : (kinds : List Kind) → Values kinds → Type 0

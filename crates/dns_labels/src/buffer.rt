@@ -41,6 +41,7 @@ impl NameBuffer {
         ensures value { result ≡ length self.now }
         ensures room { length self.now ≤ 254 }
     {
+        // A look at a field gives what holds of all of them.
         let _ = &self.octets;
         self.len
     }

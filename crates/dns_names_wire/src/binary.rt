@@ -44,6 +44,7 @@ impl BinDecodable for RecordType {
         ensures lacking { IfErr result (λ e. (e ≡ DecodeError.InsufficientBytes) × LacksOctets decoder.old 2) }
         ensures unchanged { OnErr result (decoder.new ≡ decoder.old) }
     {
+        // Called for its clauses: the message is octets, and the place is in it.
         let _start = decoder.index();
         let number = decoder.read_u16()?.unverified();
         Ok(RecordType::from(number))

@@ -92,6 +92,7 @@ impl Name {
     pub fn is_fqdn(&self) -> bool
         ensures { result ≡ self.now.fully_qualified }
     {
+        // A look at a field gives what holds of all of them.
         let _ = &self.octets;
         self.is_fqdn
     }

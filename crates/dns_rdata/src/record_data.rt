@@ -133,6 +133,7 @@ impl RData {
         ensures never { IsNeverRead record_type → (decoder.new ≡ decoder.old)
             × (result ≡ Err (DecodeError.UnknownRecordTypeValue (number_of record_type))) }
     {
+        // Called for its clauses: the message is octets, and the place is in it.
         let _start = decoder.index();
         match record_type {
             RecordType::A => Ok(RData::A(A::read_data(decoder, length)?)),
@@ -246,6 +247,7 @@ impl BinEncodable for RData {
         ensures unfit { IfErr result (λ e. IsMessage e → ¬ (IsEmittable self.now)) }
     {
         let outcome = self.emit_by_type(encoder);
+        // Called for its clauses: what was written is octets.
         let _written = encoder.len();
         outcome
     }

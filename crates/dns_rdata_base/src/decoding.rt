@@ -48,7 +48,7 @@ pub fn read_whole<T: DecodesFields>(
     ensures made { IfOk result T.made }
 {
     let _ = length;
-    // Called for its clauses: the message is octets.
+    // Called for its clauses: the message is octets, and the place is in it.
     let _start = decoder.index();
     T::read_fields(decoder)
 }

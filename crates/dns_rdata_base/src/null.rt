@@ -100,7 +100,7 @@ impl RecordDataDecodable for NULL {
             ⊎ ((e ≡ DecodeError.InsufficientBytes) × LacksOctets decoder.old length)) }
         ensures unchanged { OnErr result (decoder.new ≡ decoder.old) }
     {
-        // Called for its clauses: the message is octets.
+        // Called for its clauses: the message is octets, and the place is in it.
         let _start = decoder.index();
         let octets = decoder.read_vec(length.unverified() as usize)?;
         Ok(NULL {

@@ -84,7 +84,7 @@ impl RecordDataDecodable for OPENPGPKEY {
         ensures ends { OnOk result (decoder.new.index ≡ decoder.old.index + length) }
         ensures refused { IfErr result (λ e. openpgpkey_refusal length decoder.old e decoder.new) }
     {
-        // Called for its clauses: the message is octets.
+        // Called for its clauses: the message is octets, and the place is in it.
         let _start = decoder.index();
         let octets = decoder.read_vec(length.unverified() as usize)?;
         Ok(OPENPGPKEY::new(octets.unverified()))

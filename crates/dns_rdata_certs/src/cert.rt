@@ -68,6 +68,7 @@ impl CERT {
             return Err(DecodeError::IncorrectRDataLengthRead { read, len: 65535 });
         }
         let mut decoder = BinDecoder::new(alloc, octets);
+        // Called for its clauses: the message is octets, and the place is in it.
         let _start = decoder.index();
         CERT::read_filled(&mut decoder, Restrict::new(read as u16))
     }
@@ -79,6 +80,7 @@ impl CERT {
         ensures enums { IfOk result IsReadCert }
         ensures refused { IfErr result (λ e. cert_refusal length decoder.old e decoder.new) }
     {
+        // Called for its clauses: the message is octets, and the place is in it.
         let _start = decoder.index();
         let len = length.unverified() as usize;
         if len < 6 {
@@ -109,6 +111,7 @@ impl RecordDataDecodable for CERT {
         ensures enums { IfOk result IsReadCert }
         ensures refused { IfErr result (λ e. cert_refusal length decoder.old e decoder.new) }
     {
+        // Called for its clauses: the message is octets, and the place is in it.
         let _start = decoder.index();
         CERT::read_filled(decoder, length)
     }

@@ -87,6 +87,7 @@ impl RecordDataDecodable for SSHFP {
         ensures enums { IfOk result IsReadSshfp }
         ensures refused { IfErr result (λ e. sshfp_refusal length decoder.old e decoder.new) }
     {
+        // Called for its clauses: the message is octets, and the place is in it.
         let _start = decoder.index();
         SSHFP::read_filled(decoder, length)
     }

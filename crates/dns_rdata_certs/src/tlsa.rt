@@ -92,6 +92,7 @@ impl RecordDataDecodable for TLSA {
         ensures enums { IfOk result IsReadTlsa }
         ensures refused { IfErr result (λ e. tlsa_refusal length decoder.old e decoder.new) }
     {
+        // Called for its clauses: the message is octets, and the place is in it.
         let _start = decoder.index();
         TLSA::read_filled(decoder, length)
     }

@@ -61,6 +61,7 @@ impl CAA {
         ensures refused { IfErr result (λ e. caa_refusal length decoder.old e decoder.new) }
     {
         let alloc = decoder.allocator();
+        // Called for its clauses: the message is octets, and the place is in it.
         let _start = decoder.index();
         let flags = decoder.read_u8()?.unverified();
         let size = decoder.read_u8()?.unverified() as usize;
@@ -147,6 +148,7 @@ impl RecordDataDecodable for CAA {
         ensures flags { IfOk result IsReadCaa }
         ensures refused { IfErr result (λ e. caa_refusal length decoder.old e decoder.new) }
     {
+        // Called for its clauses: the message is octets, and the place is in it.
         let _start = decoder.index();
         CAA::read_filled(decoder, length)
     }

@@ -136,6 +136,7 @@ impl RecordDataDecodable for CSYNC {
         ensures read { IfOk result IsReadCsync }
         ensures refused { IfErr result (λ e. csync_refusal length decoder.old e decoder.new) }
     {
+        // Called for its clauses: the message is octets, and the place is in it.
         let _start = decoder.index();
         CSYNC::read_filled(decoder, length)
     }

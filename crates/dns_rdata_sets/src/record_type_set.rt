@@ -152,6 +152,7 @@ impl BinEncodable for RecordTypeSet {
     /// Appends the shortest bitmap of the set: rising windows, none of them empty, no octet 0 at a block's end. So no
     /// octet stands for the empty set.
     fn emit(&self, encoder: &mut BinEncoder<'_>) -> Result<(), ProtoError> {
+        // Called for its clauses: the numbers rise.
         let _set = self.len();
         writing::emit_blocks(encoder, self.numbers.as_slice())
     }

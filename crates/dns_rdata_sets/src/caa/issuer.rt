@@ -274,6 +274,7 @@ fn name_octets(alloc: Global, name: Option<&Name>) -> Result<Vec<u8>, AllocError
 {
     match name {
         Some(name) => {
+            // Called for its clauses: the labels are octets.
             let _len = name.len();
             Ok(name.to_ascii()?.into_bytes())
         }

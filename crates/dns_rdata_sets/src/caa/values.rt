@@ -45,14 +45,7 @@ impl CAA {
         // the value reads back as this name and these parameters, where they are in the grammar
         ensures reads_back { IsWritable name → AllByRecursion IsParameter options.items → IfOk result (λ x. IsIssuer x.value name options.items) }
     {
-        let alloc = *options.allocator();
-        let value = issuer_octets(alloc, name.as_ref(), options.as_slice())?;
-        Ok(CAA {
-            issuer_critical,
-            reserved_flags: 0,
-            tag: Octets::from_slice(alloc, b"issue")?,
-            value: Octets::from_vec(value),
-        })
+        CAA::with_issuer(issuer_critical, b"issue", name, options)
     }
 
     /// As `new_issue`, for certificates with wildcards: tag `issuewild`.
@@ -64,12 +57,25 @@ impl CAA {
         ensures made { IfOk result (λ x. x ≡ record { issuer_critical = issuer_critical; reserved_flags = 0; tag = codes "issuewild"; value = issuer_value name options.items }) }
         ensures reads_back { IsWritable name → AllByRecursion IsParameter options.items → IfOk result (λ x. IsIssuer x.value name options.items) }
     {
+        CAA::with_issuer(issuer_critical, b"issuewild", name, options)
+    }
+
+    // A property of issuers with this tag.
+    fn with_issuer(
+        issuer_critical: bool,
+        tag: &[u8],
+        name: Option<Name>,
+        options: Vec<KeyValue>,
+    ) -> Result<CAA, AllocError>
+        ensures made { IfOk result (λ x. x ≡ record { issuer_critical = issuer_critical; reserved_flags = 0; tag = tag.now; value = issuer_value name options.items }) }
+        ensures reads_back { IsWritable name → AllByRecursion IsParameter options.items → IfOk result (λ x. IsIssuer x.value name options.items) }
+    {
         let alloc = *options.allocator();
         let value = issuer_octets(alloc, name.as_ref(), options.as_slice())?;
         Ok(CAA {
             issuer_critical,
             reserved_flags: 0,
-            tag: Octets::from_slice(alloc, b"issuewild")?,
+            tag: Octets::from_slice(alloc, tag)?,
             value: Octets::from_vec(value),
         })
     }

@@ -13,4 +13,3 @@ returns-in_err-emit c =
     let p = err_from_is_err_and c.from_residual-in_err-emit.result c.from_residual-in_err-emit.ensures.1 in
     let e = stopped_then c.in_ok-emit_u32.ensures.emits (stopped_then (rw c.flags.ensures at c.in_ok-emit_u16.ensures.emits) (stopped_first c.in_err-emit.ensures.emits)) in
     rw (p.1, p.2) (record { emits = e; extends = e.extends })
-
