@@ -15,6 +15,8 @@ use Rattle.dns_rdata_base.specs.SRV.{srv_text}
 use Rattle.dns_rdata_certs.specs.SSHFP.{sshfp_text}
 use Rattle.dns_rdata_certs.specs.TLSA.{tlsa_text}
 use Rattle.dns_rdata_base.specs.TXT.{txt_text}
+use Rattle.dns_rdata_service.specs.HTTPS.{https_text}
+use Rattle.dns_rdata_service.specs.SVCB.{svcb_text}
 use Rattle.dns_rdata_sets.specs.CAA.{caa_text}
 use Rattle.dns_rdata_sets.specs.CSYNC.{csync_text}
 use Rattle.dns_rdata.specs.declared.record_data.RData.{RData}
@@ -29,6 +31,7 @@ data_text (rdata.CERT x) = cert_text x
 data_text (rdata.CNAME x) = cname_text x
 data_text (rdata.CSYNC x) = csync_text x
 data_text (rdata.HINFO x) = hinfo_text x
+data_text (rdata.HTTPS x) = https_text x
 data_text (rdata.MX x) = mx_text x
 data_text (rdata.NAPTR x) = naptr_text x
 data_text (rdata.NULL x) = null_text x
@@ -39,6 +42,7 @@ data_text (rdata.SMIMEA x) = smimea_text x
 data_text (rdata.SOA x) = soa_text x
 data_text (rdata.SRV x) = srv_text x
 data_text (rdata.SSHFP x) = sshfp_text x
+data_text (rdata.SVCB x) = svcb_text x
 data_text (rdata.TLSA x) = tlsa_text x
 data_text (rdata.TXT x) = txt_text x
 data_text (rdata.Unknown code x) = null_text x

@@ -17,6 +17,7 @@ pub use dns_rdata_base::{
     verify_flags,
 };
 pub use dns_rdata_certs::{CERT, HEX, SMIMEA, SSHFP, TLSA, cert, smimea, sshfp, tlsa};
+pub use dns_rdata_service::{HTTPS, Items, SVCB, https, items, svcb};
 pub use dns_rdata_sets::{CAA, CSYNC, RecordTypeSet, caa, csync, record_type_set};
 pub use dns_types::Strings;
 pub use record_data::RData;

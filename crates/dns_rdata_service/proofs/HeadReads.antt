@@ -1,13 +1,12 @@
 -- Fields in front of the data of a known length.
-use Rattle.std.proofs.Common.{◌≡◌, ◌≢◌, ℕ, ◌+◌, ◌-◌, ◌<◌, ◌≤◌, List, [], ◌∷◌, length, refl, sym, ap, ◌∙◌, arith, subst, Result, Ok, Err}
-use Rattle.std.proofs.lemmas.Result.{err_from_is_err_and}
+use Rattle.std.proofs.Common.{◌≡◌, ℕ, ◌+◌, ◌-◌, ◌<◌, ◌≤◌, List, [], ◌∷◌, length, sym, ap, arith, subst, Err}
 use Rattle.dns_types.specs.declared.error.DecodeError.{DecodeError}
 use Rattle.dns_fields.specs.Octets.{AreOctets}
 use Rattle.dns_fields.specs.Labels.{DomainName}
-use Rattle.dns_fields.specs.Fields.{Kind, Number, Name, Parameters, Value, Values, Field, Stands, EndsItself}
+use Rattle.dns_fields.specs.Fields.{Kind, Number, Name, Parameters, Value, Values, Stands, EndsItself}
 use Rattle.dns_fields.proofs.FieldLaws.{field_end, field_inside}
 use Rattle.dns_names_wire.specs.State.{Reading}
-use Rattle.dns_names_wire.specs.Words.{TookField, StaysBehind, Window, NoWindow, TookWindow, RefusedWindow, ReadsWindow}
+use Rattle.dns_names_wire.specs.Words.{TookField, Window, NoWindow, TookWindow, RefusedWindow}
 use Rattle.dns_names_wire.proofs.FieldReads.{unless_map, refused_then, refused_past, took_stays}
 use Rattle.dns_names_wire.proofs.WindowReads.{Given, filled_window}
 use Rattle.dns_rdata_service.specs.SVCB.{svcb_shape, svcb_fields}

@@ -1,28 +1,23 @@
 -- Addresses that are read and emitted one after the other, as octets.
-use Rattle.std.proofs.Common.{◌≡◌, ◌≢◌, true, ℕ, ◌+◌, ◌*◌, ◌%◌, ◌<◌, ◌≤◌, List, [], ◌∷◌, ◌++◌, length, take, drop, map, refl, sym, ap, ◌∙◌, arith, subst, append_assoc, All, Result, Ok, Err}
+use Rattle.std.proofs.Common.{◌≡◌, true, ℕ, ◌+◌, ◌*◌, ◌%◌, ◌<◌, ◌≤◌, List, [], ◌∷◌, ◌++◌, length, take, drop, map, refl, sym, ap, ◌∙◌, arith, subst, append_assoc, Result, Ok, Err}
 use Rattle.std.specs.Prelude.{IfOk, IfErr}
 use Rattle.std.specs.List.{flat_map, AllByRecursion}
-use Rattle.std.specs.Net.Addr.{segments_of}
-use Rattle.std.proofs.lemmas.List.{length-append, append-nil, length-drop, length-take, length-map, drop_all}
-use Rattle.std.proofs.lemmas.List.Elements.{recursion_from_All}
+use Rattle.std.proofs.lemmas.List.{append-nil, length-drop, length-take, drop_all}
 use Rattle.dns_types.specs.declared.error.DecodeError.{DecodeError}
 use Rattle.dns_types.specs.declared.error.DecodeError.TheVariants as decode
 use Rattle.dns_types.specs.declared.error.ProtoError.{ProtoError}
 use Rattle.dns_fields.specs.Octets.{At, AreOctets}
-use Rattle.dns_fields.specs.Fields.{Octets, Stands, Fits, field_octets}
-use Rattle.dns_fields.specs.Pieces.{Addresses4, Addresses16, IsEmittable, IsBody, parameter_octets}
+use Rattle.dns_fields.specs.Fields.{Octets, Stands, field_octets}
 use Rattle.dns_fields.proofs.OctetLaws.{AreOctets-at}
 use Rattle.dns_names_wire.specs.State.{Reading, Writing}
-use Rattle.dns_names_wire.specs.Words.{UnlessMemory, StaysBehind, Emits, Because}
+use Rattle.dns_names_wire.specs.Words.{UnlessMemory, Emits}
 use Rattle.dns_names_wire.proofs.FieldWrites.{because_map}
-use Rattle.dns_rdata_base.specs.A.{a_shape, a_fields}
-use Rattle.dns_rdata_base.specs.AAAA.{aaaa_shape, aaaa_fields}
 use Rattle.dns_rdata_base.proofs.Addresses.{octets_of-segments}
 use Rattle.dns_rdata_base.specs.declared.a.A.{A}
 use Rattle.dns_rdata_base.specs.declared.aaaa.AAAA.{AAAA}
-use Rattle.dns_rdata_service.specs.Emitting.{AppendedOctets, StoppedOctets, EmitsOctets}
+use Rattle.dns_rdata_service.specs.Emitting.{EmitsOctets}
 use Rattle.dns_rdata_service.specs.Hints.{StandEach, StopsBefore, StandToEnd, ReadsEach, EmitsEach}
-use Rattle.dns_rdata_service.specs.SvcParamValue.{a_octets, aaaa_octets, a_of, aaaa_of, hint4_value, hint6_value, value_refusal}
+use Rattle.dns_rdata_service.specs.SvcParamValue.{a_octets, aaaa_octets, a_of, aaaa_of}
 use Rattle.dns_rdata_service.specs.declared.svcb.ip_hint.IpHint.{IpHint}
 use Rattle.dns_rdata_service.proofs.Splits.{at_split}
 use Rattle.dns_rdata_service.proofs.EachEmits.{emits_list, emits_as, all_pass}

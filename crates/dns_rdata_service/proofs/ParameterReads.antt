@@ -1,28 +1,27 @@
 -- Reading parameters one after the other.
-use Rattle.std.proofs.Common.{◌≡◌, ◌≢◌, ◌⊎◌, inl, inr, ℕ, ◌+◌, ◌-◌, ◌<◌, ◌≤◌, ◌^◌, List, [], ◌∷◌, ◌++◌, length, drop, map, Option, Some, None, refl, sym, ap, ◌∙◌, arith, subst, append_assoc}
+use Rattle.std.proofs.Common.{◌≡◌, inl, inr, ℕ, ◌+◌, ◌<◌, ◌≤◌, List, [], ◌∷◌, ◌++◌, length, drop, map, Option, Some, None, refl, sym, ap, ◌∙◌, arith, subst}
 use Rattle.std.specs.Int.{bytes_high_first}
 use Rattle.std.proofs.lemmas.List.{length-append, append-nil, length-drop}
 use Rattle.dns_types.specs.declared.error.DecodeError.{DecodeError}
 use Rattle.dns_types.specs.declared.error.DecodeError.TheVariants as decode
-use Rattle.dns_fields.specs.Octets.{At, AreOctets}
-use Rattle.dns_fields.specs.Fields.{Number, Rest, Octets, Parameters, Field, Values}
+use Rattle.dns_fields.specs.Octets.{At}
+use Rattle.dns_fields.specs.Fields.{Number, Octets, Parameters, Field, Values}
 use Rattle.dns_fields.specs.Pieces.{Numbered, ParameterValue, ParameterHeld, AllHeld, piece, pieces, form_for, Rising}
 use Rattle.dns_fields.proofs.Numbers.{length-bytes}
-use Rattle.dns_fields.proofs.Pieces.{piece_before, heads_same, first_piece, length-piece}
+use Rattle.dns_fields.proofs.Pieces.{piece_before, heads_same, first_piece}
 use Rattle.dns_fields.proofs.FieldLaws.{field_inside}
 use Rattle.dns_names_wire.specs.State.{Reading}
-use Rattle.dns_names_wire.specs.Words.{Took, TookField, StaysBehind, UnlessMemory, LacksOctets, TookWindow, RefusedWindow, NoWindow, Window}
+use Rattle.dns_names_wire.specs.Words.{Took, TookField, StaysBehind, UnlessMemory, TookWindow, RefusedWindow, NoWindow}
 use Rattle.dns_names_wire.proofs.FieldReads.{unless_map, unless_all}
 use Rattle.dns_names_wire.proofs.WindowReads.{Given}
 use Rattle.dns_names_wire.proofs.Strings.{at_then}
 use Rattle.dns_rdata_base.specs.Refusing.{FirstLack}
-use Rattle.dns_rdata_service.specs.SvcParamKey.{key_number, key_of}
-use Rattle.dns_rdata_service.specs.SvcParamValue.{IsValueOf, value_of, value_from}
-use Rattle.dns_rdata_service.specs.Parameters.{Parameter, parameter_of, parameter_from, AreRead, IsAbove, CutValue, RefusedValue, parameter_refusal, RefusedParameter, WrongOrder, PassedParameters, parameters_refusal}
+use Rattle.dns_rdata_service.specs.SvcParamKey.{key_number}
+use Rattle.dns_rdata_service.specs.Parameters.{Parameter, parameter_of, parameter_from, AreRead, IsAbove, CutValue, RefusedValue, parameter_refusal, parameters_refusal}
 use Rattle.dns_rdata_service.proofs.Splits.{at_split}
 use Rattle.dns_rdata_service.proofs.Refusals.{HoldsNone, value_none}
 use Rattle.dns_rdata_service.proofs.ValueReads.{stays_then}
-use Rattle.dns_rdata_service.proofs.ParameterLists.{Risen, risen_first, risen_push, risen_not, RestOf, rest_of, parameters_push, FirstOf, first_of, OneOf, one_of, one_once}
+use Rattle.dns_rdata_service.proofs.ParameterLists.{Risen, risen_first, risen_push, risen_not, rest_of, parameters_push, FirstOf, first_of, OneOf, one_of, one_once}
 
 -- ---- one parameter
 

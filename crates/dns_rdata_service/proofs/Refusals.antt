@@ -1,16 +1,15 @@
 -- Octets that are refused as a value of a form hold none.
-use Rattle.std.proofs.Common.{◌≡◌, ◌≢◌, ◌⊎◌, inl, inr, ℕ, ◌+◌, ◌*◌, ◌%◌, ◌<◌, ◌^◌, List, [], ◌∷◌, ◌++◌, length, refl, sym, ap, ◌∙◌, arith, subst}
+use Rattle.std.proofs.Common.{◌≡◌, ◌≢◌, inl, inr, ℕ, ◌*◌, ◌<◌, List, [], ◌∷◌, ◌++◌, length, refl, sym, ap, ◌∙◌, arith, subst}
 use Rattle.std.specs.List.{flat_map, AllByRecursion}
 use Rattle.std.specs.Int.{bytes_high_first}
 use Rattle.std.specs.Prelude.{IsUtf8}
 use Rattle.std.proofs.lemmas.List.{length-append}
 use Rattle.dns_types.specs.declared.error.DecodeError.{DecodeError}
-use Rattle.dns_types.specs.declared.error.DecodeError.TheVariants as decode
-use Rattle.dns_fields.specs.Pieces.{string, ParameterValue, Mandatory, Alpn, NoDefaultAlpn, Port, Ipv4Hint, Ipv6Hint, Opaque, Form, Keys, Names, Nothing, PortNumber, Addresses4, Addresses16, AnyOctets, IsEmittable, IsBody, form_of}
+use Rattle.dns_fields.specs.Pieces.{string, ParameterValue, Mandatory, Alpn, NoDefaultAlpn, Port, Ipv4Hint, Ipv6Hint, Form, Keys, Names, Nothing, PortNumber, Addresses4, Addresses16, AnyOctets, IsEmittable, IsBody, form_of}
 use Rattle.dns_fields.proofs.Numbers.{length-bytes}
 use Rattle.dns_names_wire.specs.Words.{UnlessMemory}
 use Rattle.dns_names_wire.proofs.FieldReads.{unless_all}
-use Rattle.dns_rdata_service.specs.SvcParamValue.{CutName, WrongName, form_refusal, value_refusal}
+use Rattle.dns_rdata_service.specs.SvcParamValue.{form_refusal, value_refusal}
 use Rattle.dns_rdata_service.proofs.Splits.{length_numbers, string_first, strings_prefix}
 
 -- no value of the form is in the octets

@@ -1,22 +1,24 @@
 -- SVCB and HTTPS by their fields: a record that was read is told by them, and fields of a window make one.
-use Rattle.std.proofs.Common.{◌≡◌, ◌↔◌, ◌⊎◌, inl, inr, ℕ, zero, suc, ◌+◌, ◌==◌, Bool, true, false, if◌then◌else◌, List, [], ◌∷◌, ◌++◌, length, map, refl, sym, ap, ◌∙◌, arith, subst}
+use Rattle.std.proofs.Common.{◌≡◌, ◌↔◌, inl, inr, ℕ, zero, suc, ◌==◌, ◌&&◌, Bool, true, false, if◌then◌else◌, List, [], ◌∷◌, length, map, refl, sym, ap, ◌∙◌, arith}
 use Rattle.std.specs.List.{flat_map, AllByRecursion}
-use Rattle.dns_types.specs.declared.error.DecodeError.{DecodeError}
 use Rattle.dns_types.specs.declared.error.DecodeError.TheVariants as decode
-use Rattle.dns_fields.specs.Octets.{AreOctets, At}
-use Rattle.dns_fields.specs.Fields.{Kind, Number, Name, Values, Same, SameField, ParametersAt}
+use Rattle.dns_fields.specs.Octets.{AreOctets}
+use Rattle.dns_fields.specs.Fields.{Number, Name, Values, Parameters}
 use Rattle.dns_fields.specs.Pieces.{Numbered, ParameterValue, Mandatory, Alpn, NoDefaultAlpn, Port, Ipv4Hint, Ipv6Hint, Opaque, ParameterHeld, AllHeld, piece, pieces, Form, Keys, Names, Nothing, PortNumber, Addresses4, Addresses16, AnyOctets}
+use Rattle.dns_fields.specs.Equal.{kind_eq, values_eq}
+use Rattle.dns_fields.proofs.EqualLaws.{field_decide}
+use Rattle.std.specs.Bool.{Decides}
 use Rattle.dns_fields.proofs.OctetLaws.{AreOctets-at, AreOctets-front, AreOctets-back, AreOctets-same, piece_body}
 use Rattle.dns_names_wire.specs.State.{Reading}
 use Rattle.dns_names_wire.specs.Words.{Window}
-use Rattle.dns_rdata_base.specs.Refusing.{FirstLack, IsLack}
+use Rattle.dns_rdata_base.specs.Refusing.{FirstLack}
 use Rattle.dns_rdata_base.proofs.Addresses.{octets_of-segments, segments_of-octets_of}
 use Rattle.std.specs.Net.Addr.{segments_of}
 use Rattle.dns_rdata_service.specs.SvcParamKey.{key_number, key_of}
-use Rattle.dns_rdata_service.specs.SvcParamValue.{value_of, value_from, value_key, key_numbers, a_octets, a_of, aaaa_octets, aaaa_of, form_refusal, value_refusal}
-use Rattle.dns_rdata_service.specs.Parameters.{Parameter, parameter_of, parameter_from, own_parameter, AreRead, CutValue, RefusedValue, parameter_refusal, RefusedParameter, WrongOrder, PassedParameters, parameters_refusal}
-use Rattle.dns_rdata_service.specs.SVCB.{svcb_shape, svcb_fields, svcb_key_shape, svcb_keys, IsReadSvcb, PassedHead, RefusedParameters, svcb_refusal}
-use Rattle.dns_rdata_service.specs.HTTPS.{https_shape, https_fields, https_key_shape, https_keys, IsReadHttps, https_refusal}
+use Rattle.dns_rdata_service.specs.SvcParamValue.{value_of, value_from, value_key, key_numbers, a_octets, a_of, aaaa_octets, aaaa_of, value_refusal}
+use Rattle.dns_rdata_service.specs.Parameters.{Parameter, parameter_of, parameter_from, own_parameter, AreRead, parameter_refusal, parameters_refusal}
+use Rattle.dns_rdata_service.specs.SVCB.{svcb_shape, svcb_fields, svcb_key_shape, svcb_keys, IsReadSvcb, svcb_refusal}
+use Rattle.dns_rdata_service.specs.HTTPS.{https_shape, https_fields, https_key_shape, https_keys, IsReadHttps}
 use Rattle.dns_rdata_service.specs.declared.svcb.key.SvcParamKey.{SvcParamKey}
 use Rattle.dns_rdata_service.specs.declared.svcb.value.SvcParamValue.{SvcParamValue}
 use Rattle.dns_rdata_service.specs.declared.svcb.value.SvcParamValue.TheVariants as variants
@@ -187,11 +189,23 @@ keys_fields ps qs e = parameters_shown ps ∙ ap (map shown_parameter) e ∙ sym
 fields_keys : (ps qs : List Parameter) → AreRead ps → AreRead qs → map parameter_of ps ≡ map parameter_of qs → map own_parameter ps ≡ map own_parameter qs
 fields_keys ps qs x y e = ap (map own_parameter) (x ∙ ap (map parameter_from) e ∙ sym y)
 
-pub svcb_keys-same : (a b : SVCB) → IsReadSvcb a → IsReadSvcb b → Same svcb_key_shape (svcb_keys a) (svcb_keys b) ↔ Same svcb_shape (svcb_fields a) (svcb_fields b)
-svcb_keys-same a b x y = (
-  λ s. (s.0, (s.1.0, (record { is = keys_fields a.svc_params b.svc_params s.1.1.0.is }, tt))),
-  λ s. (s.0, (s.1.0, (record { is = fields_keys a.svc_params b.svc_params x y s.1.1.0.is }, tt))),
-)
+parameters_same : (ps qs : List Parameter) → AreRead ps → AreRead qs → (map own_parameter ps ≡ map own_parameter qs) ↔ (map parameter_of ps ≡ map parameter_of qs)
+parameters_same ps qs x y = (keys_fields ps qs, fields_keys ps qs x y)
+
+decided_same : (a b : Bool) {P Q : Type 0} → Decides a P → Decides b Q → P ↔ Q → a ≡ b
+decided_same true true d e s = refl
+decided_same false false d e s = refl
+decided_same true false d e s = sym (e.1 (s.0 (d.0 refl)))
+decided_same false true d e s = d.1 (s.1 (e.0 refl))
+
+parameters_equal : (ps qs : List Parameter) → AreRead ps → AreRead qs → kind_eq Parameters (map own_parameter ps) (map own_parameter qs) ≡ kind_eq Parameters (map parameter_of ps) (map parameter_of qs)
+parameters_equal ps qs x y =
+    let s = parameters_same ps qs x y in
+    decided_same _ _ (field_decide Parameters (map own_parameter ps) (map own_parameter qs) tt tt) (field_decide Parameters (map parameter_of ps) (map parameter_of qs) tt tt) (λ e. record { is = s.0 e.is }, λ e. record { is = s.1 e.is })
+
+-- what was read is compared as its fields are
+pub svcb_equal : (a b : SVCB) → IsReadSvcb a → IsReadSvcb b → values_eq svcb_key_shape (svcb_keys a) (svcb_keys b) ≡ values_eq svcb_shape (svcb_fields a) (svcb_fields b)
+svcb_equal a b x y = ap (λ (t : Bool). kind_eq (Number 2) a.svc_priority b.svc_priority && (kind_eq Name a.target_name b.target_name && (t && true))) (parameters_equal a.svc_params b.svc_params x y)
 
 -- ---- the refusal by a type's number is none of SVCB's
 
@@ -249,5 +263,5 @@ https_fields-from = svcb_fields-from
 pub https_from-read : (vs : Values https_shape) → IsReadHttps (https_from vs)
 https_from-read = svcb_from-read
 
-pub https_keys-same : (a b : HTTPS) → IsReadHttps a → IsReadHttps b → Same https_key_shape (https_keys a) (https_keys b) ↔ Same https_shape (https_fields a) (https_fields b)
-https_keys-same a b x y = svcb_keys-same a.0 b.0 x y
+pub https_equal : (a b : HTTPS) → IsReadHttps a → IsReadHttps b → values_eq https_key_shape (https_keys a) (https_keys b) ≡ values_eq https_shape (https_fields a) (https_fields b)
+https_equal a b x y = svcb_equal a.0 b.0 x y

@@ -1,5 +1,5 @@
 -- Values that are emitted.
-use Rattle.std.proofs.Common.{◌≡◌, ◌≢◌, Bool, true, false, ◌&&◌, nat_le, ℕ, ◌+◌, ◌<◌, ◌^◌, Result, map, List, [], ◌∷◌, ◌++◌, length, take, drop, refl, sym, ap, ◌∙◌, arith, subst, append_assoc}
+use Rattle.std.proofs.Common.{◌≡◌, ◌≢◌, Bool, true, false, ◌&&◌, nat_le, ℕ, ◌<◌, ◌^◌, Result, map, List, length, refl, sym, ◌∙◌, arith}
 use Rattle.std.specs.List.{flat_map, list_all, AllByRecursion}
 use Rattle.std.proofs.lemmas.List.{length-map}
 use Rattle.std.specs.Int.{bytes_high_first}
@@ -7,10 +7,10 @@ use Rattle.dns_types.specs.declared.error.ProtoError.{ProtoError}
 use Rattle.dns_fields.specs.Fields.{Number, Text, field_octets}
 use Rattle.dns_fields.specs.Pieces.{ParameterValue, Mandatory, Alpn, string, is_some, IsEmittable, parameter_octets, parameter_emittable}
 use Rattle.dns_names_wire.specs.State.{Writing}
-use Rattle.dns_names_wire.specs.Words.{EmitsField, StoppedField, AppendedField, Extends, Because}
+use Rattle.dns_names_wire.specs.Words.{EmitsField, StoppedField, Extends}
 use Rattle.dns_names_wire.proofs.FieldWrites.{because_map}
-use Rattle.dns_rdata_service.specs.Emitting.{StoppedOctets, AppendedOctets}
-use Rattle.dns_rdata_service.specs.SvcParamValue.{FitsValue, fits_value, sized, EmitsValue}
+use Rattle.dns_rdata_service.specs.Emitting.{StoppedOctets}
+use Rattle.dns_rdata_service.specs.SvcParamValue.{fits_value, sized, EmitsValue}
 use Rattle.dns_rdata_service.specs.Hints.{EmitsEach}
 use Rattle.dns_rdata_service.specs.SvcParamKey.{key_number}
 use Rattle.dns_rdata_service.specs.declared.svcb.key.SvcParamKey.{SvcParamKey}

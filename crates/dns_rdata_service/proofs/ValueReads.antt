@@ -1,14 +1,12 @@
 -- Reading values to the end of a message.
-use Rattle.std.proofs.Common.{◌≡◌, ◌≢◌, ℕ, ◌+◌, ◌*◌, ◌%◌, ◌<◌, ◌≤◌, ◌^◌, ◌⊎◌, inl, inr, List, [], ◌∷◌, ◌++◌, length, drop, map, refl, sym, ap, ◌∙◌, arith, subst}
+use Rattle.std.proofs.Common.{◌≡◌, ◌≢◌, ℕ, ◌+◌, ◌%◌, ◌<◌, ◌^◌, inl, inr, List, [], ◌∷◌, ◌++◌, length, drop, map, refl, sym, ap, ◌∙◌, arith, subst}
 use Rattle.std.specs.List.{flat_map, AllByRecursion}
 use Rattle.std.specs.Int.{bytes_high_first}
 use Rattle.std.specs.Prelude.{IsUtf8}
 use Rattle.std.proofs.lemmas.List.{length-append, append-nil, length-drop, drop_all}
 use Rattle.dns_types.specs.declared.error.DecodeError.{DecodeError}
-use Rattle.dns_types.specs.declared.error.DecodeError.TheVariants as decode
-use Rattle.dns_fields.specs.Octets.{At}
-use Rattle.dns_fields.specs.Fields.{Number, Text, Octets, Field}
-use Rattle.dns_fields.specs.Pieces.{string, ParameterValue, Form, Keys, Names, AnyOctets, form_of, IsEmittable, IsBody}
+use Rattle.dns_fields.specs.Fields.{Text, Octets}
+use Rattle.dns_fields.specs.Pieces.{string, ParameterValue, Form, form_of}
 use Rattle.dns_names_wire.specs.State.{Reading}
 use Rattle.dns_names_wire.specs.Words.{TookField, StaysBehind, UnlessMemory, LacksOctets, LacksText}
 use Rattle.dns_names_wire.proofs.FieldReads.{unless_map}
@@ -16,7 +14,6 @@ use Rattle.dns_rdata_base.specs.Numbered.{NumberedAt}
 use Rattle.dns_rdata_service.specs.SvcParamKey.{key_number, key_of}
 use Rattle.dns_rdata_service.specs.SvcParamValue.{AreGiven, ToEnd, MandatoryAt, AlpnAt, CutName, WrongName, value_refusal}
 use Rattle.dns_rdata_service.specs.declared.svcb.key.SvcParamKey.{SvcParamKey}
-use Rattle.dns_rdata_service.specs.declared.svcb.mandatory.Mandatory.{Mandatory}
 use Rattle.dns_rdata_service.proofs.Splits.{at_split, split_push, octet_split, length_numbers}
 use Rattle.dns_rdata_service.proofs.Refusals.{HoldsNone, value_none}
 

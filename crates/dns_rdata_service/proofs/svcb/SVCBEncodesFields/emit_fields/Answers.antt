@@ -1,5 +1,5 @@
 use Rattle.std.proofs.lemmas.Result.{err_from_is_err_and}
-use Rattle.dns_names_wire.proofs.FieldWrites.{exit_emit, stopped_first, stopped_then}
+use Rattle.dns_names_wire.proofs.FieldWrites.{stopped_first, stopped_then}
 use Rattle.dns_rdata_service.proofs.svcb.SVCBEncodesFields.emit_fields.Goals as goal
 
 pub returns-in_err-emit : goal.returns-in_err-emit

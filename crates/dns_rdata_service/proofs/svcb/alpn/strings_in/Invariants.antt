@@ -1,4 +1,4 @@
-use Rattle.std.proofs.Common.{ℕ, ◌<◌, ◌≤◌, ◌^◌, ◌+◌, ◌-◌, length}
+use Rattle.std.proofs.Common.{◌<◌, ◌≤◌, ◌^◌, ◌+◌, ◌-◌, length}
 use Rattle.dns_rdata_service.proofs.svcb.alpn.strings_in.Given as goal
 
 abbrev pub invariant-loop-place : goal.invariant-loop-place

@@ -1,4 +1,4 @@
-use Rattle.std.proofs.Common.{◌≡◌, inl, List, ℕ, map, length, arith, Result, Ok, Err, refl}
+use Rattle.std.proofs.Common.{◌≡◌, inl, List, ℕ, map, length, arith, Result, Ok, Err}
 use Rattle.std.specs.List.{flat_map, AllByRecursion}
 use Rattle.std.specs.Prelude.{IfOk, IfErr}
 use Rattle.dns_types.specs.declared.error.DecodeError.{DecodeError}

@@ -1,4 +1,3 @@
-use Rattle.std.proofs.Common.{◌≡◌, arith}
 use Rattle.dns_rdata_service.proofs.EachReads.{each_more}
 use Rattle.dns_rdata_service.proofs.svcb.ip_hint.IpHint.read.Goals as goal
 

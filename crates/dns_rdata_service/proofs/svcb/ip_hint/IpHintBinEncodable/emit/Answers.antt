@@ -1,4 +1,4 @@
-use Rattle.std.proofs.Common.{◌≡◌, Err, arith}
+use Rattle.std.proofs.Common.{arith}
 use Rattle.std.proofs.lemmas.Result.{err_from_is_err_and}
 use Rattle.dns_rdata_service.proofs.EachEmits.{emits_next, emits_refused, extends_on}
 use Rattle.dns_rdata_service.proofs.svcb.ip_hint.IpHintBinEncodable.emit.Goals as goal

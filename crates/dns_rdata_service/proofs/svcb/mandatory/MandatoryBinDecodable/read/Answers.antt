@@ -1,4 +1,4 @@
-use Rattle.std.proofs.Common.{◌≡◌, ◌<◌, inl, inr, refl, arith, drop, length, List, [], ℕ}
+use Rattle.std.proofs.Common.{◌≡◌, inl, inr, refl, arith, drop, []}
 use Rattle.std.proofs.lemmas.List.{drop_all}
 use Rattle.std.proofs.lemmas.Result.{err_from_is_err_and}
 use Rattle.dns_fields.specs.Pieces.{Keys}

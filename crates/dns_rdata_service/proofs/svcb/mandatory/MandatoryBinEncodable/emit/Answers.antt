@@ -1,4 +1,4 @@
-use Rattle.std.proofs.Common.{◌≡◌, List, ℕ, map, take, get_or, Ok, Err, refl, arith, subst}
+use Rattle.std.proofs.Common.{List, map, get_or, Ok, Err, refl, arith, subst}
 use Rattle.std.proofs.lemmas.List.{take_all}
 use Rattle.std.proofs.lemmas.Result.{err_from_is_err_and}
 use Rattle.dns_fields.specs.Pieces.{Mandatory}

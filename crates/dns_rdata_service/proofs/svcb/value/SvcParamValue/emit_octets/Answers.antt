@@ -1,4 +1,3 @@
-use Rattle.std.proofs.Common.{rules}
 use Rattle.dns_rdata_service.specs.SvcParamValue.{a_octets, aaaa_octets}
 use Rattle.dns_rdata_service.proofs.EachEmits.{number_emits}
 use Rattle.dns_rdata_service.proofs.HintReads.{groups_emit}

@@ -1,4 +1,4 @@
-use Rattle.std.proofs.Common.{◌≡◌, refl, ap}
+use Rattle.std.proofs.Common.{refl, ap}
 use Rattle.dns_rdata_service.specs.declared.svcb.value.SvcParamValue.TheVariants.{Ipv4Hint, Ipv6Hint}
 use Rattle.dns_rdata_base.specs.declared.a.A.{A}
 use Rattle.dns_rdata_base.specs.declared.aaaa.AAAA.{AAAA}

@@ -1,4 +1,3 @@
-use Rattle.std.proofs.Common.{◌≡◌, Some}
 use Rattle.dns_rdata_base.specs.A.{a_text}
 use Rattle.dns_rdata_base.specs.AAAA.{aaaa_text}
 use Rattle.dns_rdata_service.proofs.EachTexts.{each_known}
