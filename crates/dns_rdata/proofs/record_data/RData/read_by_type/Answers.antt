@@ -1,6 +1,7 @@
 use Rattle.std.proofs.Common.{refl, arith}
 use Rattle.std.proofs.lemmas.Result.{err_from_is_err_and}
 use Rattle.dns_types.specs.declared.record_type.RecordType.TheVariants as types
+use Rattle.dns_names_wire.proofs.FieldReads.{unless_all}
 use Rattle.dns_rdata.proofs.DataReads.{data_took, data_refuses, data_zero, no_row, unknown_took}
 use Rattle.dns_rdata.proofs.record_data.RData.read_by_type.Goals as goal
 
@@ -151,3 +152,13 @@ pub returns-in_err-read_data-in-SVCB-clause-reads : goal.returns-in_err-read_dat
 returns-in_err-read_data-in-SVCB-clause-reads c =
     let p = err_from_is_err_and c.from_residual-in_err-read_data-in-SVCB.result c.from_residual-in_err-read_data-in-SVCB.ensures.1 in
     rw (c.in-SVCB.is, p.1, p.2) (data_refuses types.SVCB _ _ c.in_err-read_data-in-SVCB.ensures.window)
+
+pub returns-in_err-read_data-in-HTTPS-clause-own : goal.returns-in_err-read_data-in-HTTPS-clause-own
+returns-in_err-read_data-in-HTTPS-clause-own c =
+    let p = err_from_is_err_and c.from_residual-in_err-read_data-in-HTTPS.result c.from_residual-in_err-read_data-in-HTTPS.ensures.1 in
+    rw (c.in-HTTPS.is, p.1, p.2) (unless_all _ c.in_err-read_data-in-HTTPS.ensures.refused)
+
+pub returns-in_err-read_data-in-SVCB-clause-own : goal.returns-in_err-read_data-in-SVCB-clause-own
+returns-in_err-read_data-in-SVCB-clause-own c =
+    let p = err_from_is_err_and c.from_residual-in_err-read_data-in-SVCB.result c.from_residual-in_err-read_data-in-SVCB.ensures.1 in
+    rw (c.in-SVCB.is, p.1, p.2) (unless_all _ c.in_err-read_data-in-SVCB.ensures.refused)
