@@ -41,6 +41,8 @@ shape_is types.SOA = (tt, (tt, (tt, (tt, (tt, (tt, tt))))))
 shape_is types.NAPTR = (tt, (tt, (tt, (tt, (tt, tt)))))
 shape_is types.CAA = (tt, (tt, tt))
 shape_is types.CSYNC = (tt, (tt, tt))
+shape_is types.HTTPS = (tt, (tt, tt))
+shape_is types.SVCB = (tt, (tt, tt))
 shape_is t = tt
 
 -- what is asked of a value is asked of its equals

@@ -22,6 +22,7 @@ use Rattle.dns_rdata_base.specs.SOA.{soa_shape}
 use Rattle.dns_rdata_base.specs.SRV.{srv_shape}
 use Rattle.dns_rdata_certs.specs.Rests.{rest_refusal}
 use Rattle.dns_rdata_options.proofs.Refusals.{opt_never}
+use Rattle.dns_rdata_service.proofs.SvcbValues.{svcb_never}
 use Rattle.dns_rdata_sets.specs.CAA.{tag_refusal}
 use Rattle.dns_rdata_sets.specs.RecordTypeSet.{bitmap_refusal}
 use Rattle.dns_rdata.specs.declared.record_data.RData.{RData}
@@ -59,9 +60,9 @@ pub record HasNoRow (t : RecordType) : Type 0 where
   pub rowless : IsRowless t
   pub read : IsNeverRead t → ⊥
 
-pub no_row : (t : RecordType) → t ≢ types.A → t ≢ types.AAAA → t ≢ types.ANAME → t ≢ types.CAA → t ≢ types.CERT → t ≢ types.CNAME → t ≢ types.CSYNC → t ≢ types.HINFO → t ≢ types.MX → t ≢ types.NAPTR → t ≢ types.NULL → t ≢ types.NS → t ≢ types.OPENPGPKEY → t ≢ types.OPT → t ≢ types.PTR → t ≢ types.SMIMEA → t ≢ types.SOA → t ≢ types.SRV → t ≢ types.SSHFP → t ≢ types.TLSA → t ≢ types.TXT → t ≢ types.ZERO → t ≢ types.ANY → t ≢ types.AXFR → t ≢ types.IXFR → HasNoRow t
-no_row types.A h0 h1 h2 h3 h4 h5 h6 h7 h8 h9 h10 h11 h12 h13 h14 h15 h16 h17 h18 h19 h20 h21 h22 h23 h24 = absurd (h0 refl)
-no_row t h0 h1 h2 h3 h4 h5 h6 h7 h8 h9 h10 h11 h12 h13 h14 h15 h16 h17 h18 h19 h20 h21 h22 h23 h24 = grind arith
+pub no_row : (t : RecordType) → t ≢ types.A → t ≢ types.AAAA → t ≢ types.ANAME → t ≢ types.CAA → t ≢ types.CERT → t ≢ types.CNAME → t ≢ types.CSYNC → t ≢ types.HINFO → t ≢ types.HTTPS → t ≢ types.MX → t ≢ types.NAPTR → t ≢ types.NULL → t ≢ types.NS → t ≢ types.OPENPGPKEY → t ≢ types.OPT → t ≢ types.PTR → t ≢ types.SMIMEA → t ≢ types.SOA → t ≢ types.SRV → t ≢ types.SSHFP → t ≢ types.SVCB → t ≢ types.TLSA → t ≢ types.TXT → t ≢ types.ZERO → t ≢ types.ANY → t ≢ types.AXFR → t ≢ types.IXFR → HasNoRow t
+no_row types.A h0 h1 h2 h3 h4 h5 h6 h7 h8 h9 h10 h11 h12 h13 h14 h15 h16 h17 h18 h19 h20 h21 h22 h23 h24 h25 h26 = absurd (h0 refl)
+no_row t h0 h1 h2 h3 h4 h5 h6 h7 h8 h9 h10 h11 h12 h13 h14 h15 h16 h17 h18 h19 h20 h21 h22 h23 h24 h25 h26 = grind arith
 
 took_rowless : (r : Row) {old new : Reading} {n : ℕ} (vs : Values null_shape) → is_rowless r → TookWindow old n null_shape (λ _. Unit {0}) vs new → (ws : Values (kinds_of r)) × TookWindow old n (kinds_of r) (condition_of r) ws new × (fields_as null_shape vs ≡ fields_as (kinds_of r) ws)
 took_rowless (row kinds asked refusal) vs h w = absurd h
@@ -180,6 +181,8 @@ own_never types.CSYNC n old new k (inl h) = absurd (first_never (Number 4 ∷ Nu
 own_never types.CSYNC n old new k (inr (inl h)) = let e = h.error in absurd (cc e)
 own_never types.CSYNC n old new k (inr (inr (inl h))) = let e = h.error in absurd (cc e)
 own_never types.CSYNC n old new k (inr (inr (inr h))) = absurd (bitmap_never (n - 6) h.between new k h.refused)
+own_never types.HTTPS n old new k h = absurd (svcb_never n old new k h)
+own_never types.SVCB n old new k h = absurd (svcb_never n old new k h)
 own_never t n old new k h = let e = h.0 in absurd (cc e)
 
 pub data_why : (t : RecordType) (n : ℕ) (o : Result RData DecodeError) (old new : Reading) (read len : ℕ) → ReadsData t n o old new → Counted old new n read len → IfErr o (λ e. UnlessMemory e (OwnRefusal t n old new e)) → (IsNeverRead t → (new ≡ old) × (o ≡ Err (decode.UnknownRecordTypeValue (number_of t)))) → IfErr (by_length o read len) (IsRefusal t n old new)

@@ -1,6 +1,7 @@
 use Rattle.std.proofs.Common.{refl, arith}
 use Rattle.std.proofs.lemmas.Result.{err_from_is_err_and}
 use Rattle.dns_types.specs.declared.record_type.RecordType.TheVariants as types
+use Rattle.dns_names_wire.proofs.FieldReads.{unless_all}
 use Rattle.dns_rdata.proofs.DataReads.{data_took, data_refuses, data_zero, no_row, unknown_took}
 use Rattle.dns_rdata.proofs.record_data.RData.read_by_type.Goals as goal
 
@@ -27,6 +28,9 @@ returns-in_ok-read_data-in-CSYNC-clause-reads c = rw c.in-CSYNC.is (data_took ty
 
 pub returns-in_ok-read_data-in-HINFO-clause-reads : goal.returns-in_ok-read_data-in-HINFO-clause-reads
 returns-in_ok-read_data-in-HINFO-clause-reads c = rw c.in-HINFO.is (data_took types.HINFO _ _ _ (record { type = refl; fields = refl; plain = tt }) c.in_ok-read_data-in-HINFO.ensures.window)
+
+pub returns-in_ok-read_data-in-HTTPS-clause-reads : goal.returns-in_ok-read_data-in-HTTPS-clause-reads
+returns-in_ok-read_data-in-HTTPS-clause-reads c = rw c.in-HTTPS.is (data_took types.HTTPS _ _ _ (record { type = refl; fields = refl; plain = c.in_ok-read_data-in-HTTPS.ensures.read }) c.in_ok-read_data-in-HTTPS.ensures.window)
 
 pub returns-in_ok-read_data-in-MX-clause-reads : goal.returns-in_ok-read_data-in-MX-clause-reads
 returns-in_ok-read_data-in-MX-clause-reads c = rw c.in-MX.is (data_took types.MX _ _ _ (record { type = refl; fields = refl; plain = tt }) c.in_ok-read_data-in-MX.ensures.window)
@@ -61,6 +65,9 @@ returns-in_ok-read_data-in-SRV-clause-reads c = rw c.in-SRV.is (data_took types.
 pub returns-in_ok-read_data-in-SSHFP-clause-reads : goal.returns-in_ok-read_data-in-SSHFP-clause-reads
 returns-in_ok-read_data-in-SSHFP-clause-reads c = rw c.in-SSHFP.is (data_took types.SSHFP _ _ _ (record { type = refl; fields = refl; plain = c.in_ok-read_data-in-SSHFP.ensures.enums }) c.in_ok-read_data-in-SSHFP.ensures.window)
 
+pub returns-in_ok-read_data-in-SVCB-clause-reads : goal.returns-in_ok-read_data-in-SVCB-clause-reads
+returns-in_ok-read_data-in-SVCB-clause-reads c = rw c.in-SVCB.is (data_took types.SVCB _ _ _ (record { type = refl; fields = refl; plain = c.in_ok-read_data-in-SVCB.ensures.read }) c.in_ok-read_data-in-SVCB.ensures.window)
+
 pub returns-in_ok-read_data-in-TLSA-clause-reads : goal.returns-in_ok-read_data-in-TLSA-clause-reads
 returns-in_ok-read_data-in-TLSA-clause-reads c = rw c.in-TLSA.is (data_took types.TLSA _ _ _ (record { type = refl; fields = refl; plain = c.in_ok-read_data-in-TLSA.ensures.enums }) c.in_ok-read_data-in-TLSA.ensures.window)
 
@@ -72,7 +79,7 @@ returns-in-ZERO-clause-reads c = rw c.in-ZERO.is (data_zero c.args.decoder.now c
 
 pub returns-in_ok-read_data-in_default : goal.returns-in_ok-read_data-in_default
 returns-in_ok-read_data-in_default c =
-    let none = no_row c.args.record_type c.in_default.not-A c.in_default.not-AAAA c.in_default.not-ANAME c.in_default.not-CAA c.in_default.not-CERT c.in_default.not-CNAME c.in_default.not-CSYNC c.in_default.not-HINFO c.in_default.not-MX c.in_default.not-NAPTR c.in_default.not-NULL c.in_default.not-NS c.in_default.not-OPENPGPKEY c.in_default.not-OPT c.in_default.not-PTR c.in_default.not-SMIMEA c.in_default.not-SOA c.in_default.not-SRV c.in_default.not-SSHFP c.in_default.not-TLSA c.in_default.not-TXT c.in_default.not-ZERO c.in_default.not-ANY c.in_default.not-AXFR c.in_default.not-IXFR in
+    let none = no_row c.args.record_type c.in_default.not-A c.in_default.not-AAAA c.in_default.not-ANAME c.in_default.not-CAA c.in_default.not-CERT c.in_default.not-CNAME c.in_default.not-CSYNC c.in_default.not-HINFO c.in_default.not-HTTPS c.in_default.not-MX c.in_default.not-NAPTR c.in_default.not-NULL c.in_default.not-NS c.in_default.not-OPENPGPKEY c.in_default.not-OPT c.in_default.not-PTR c.in_default.not-SMIMEA c.in_default.not-SOA c.in_default.not-SRV c.in_default.not-SSHFP c.in_default.not-SVCB c.in_default.not-TLSA c.in_default.not-TXT c.in_default.not-ZERO c.in_default.not-ANY c.in_default.not-AXFR c.in_default.not-IXFR in
     record {
       reads = unknown_took c.args.record_type _ _ none c.in_ok-read_data-in_default.ensures.window;
       own = tt;
@@ -143,3 +150,23 @@ pub returns-in_err-read_data-in-OPT-clause-reads : goal.returns-in_err-read_data
 returns-in_err-read_data-in-OPT-clause-reads c =
     let p = err_from_is_err_and c.from_residual-in_err-read_data-in-OPT.result c.from_residual-in_err-read_data-in-OPT.ensures.1 in
     rw (c.in-OPT.is, p.1, p.2) (data_refuses types.OPT _ _ c.in_err-read_data-in-OPT.ensures.window)
+
+pub returns-in_err-read_data-in-HTTPS-clause-reads : goal.returns-in_err-read_data-in-HTTPS-clause-reads
+returns-in_err-read_data-in-HTTPS-clause-reads c =
+    let p = err_from_is_err_and c.from_residual-in_err-read_data-in-HTTPS.result c.from_residual-in_err-read_data-in-HTTPS.ensures.1 in
+    rw (c.in-HTTPS.is, p.1, p.2) (data_refuses types.HTTPS _ _ c.in_err-read_data-in-HTTPS.ensures.window)
+
+pub returns-in_err-read_data-in-SVCB-clause-reads : goal.returns-in_err-read_data-in-SVCB-clause-reads
+returns-in_err-read_data-in-SVCB-clause-reads c =
+    let p = err_from_is_err_and c.from_residual-in_err-read_data-in-SVCB.result c.from_residual-in_err-read_data-in-SVCB.ensures.1 in
+    rw (c.in-SVCB.is, p.1, p.2) (data_refuses types.SVCB _ _ c.in_err-read_data-in-SVCB.ensures.window)
+
+pub returns-in_err-read_data-in-HTTPS-clause-own : goal.returns-in_err-read_data-in-HTTPS-clause-own
+returns-in_err-read_data-in-HTTPS-clause-own c =
+    let p = err_from_is_err_and c.from_residual-in_err-read_data-in-HTTPS.result c.from_residual-in_err-read_data-in-HTTPS.ensures.1 in
+    rw (c.in-HTTPS.is, p.1, p.2) (unless_all _ c.in_err-read_data-in-HTTPS.ensures.refused)
+
+pub returns-in_err-read_data-in-SVCB-clause-own : goal.returns-in_err-read_data-in-SVCB-clause-own
+returns-in_err-read_data-in-SVCB-clause-own c =
+    let p = err_from_is_err_and c.from_residual-in_err-read_data-in-SVCB.result c.from_residual-in_err-read_data-in-SVCB.ensures.1 in
+    rw (c.in-SVCB.is, p.1, p.2) (unless_all _ c.in_err-read_data-in-SVCB.ensures.refused)
