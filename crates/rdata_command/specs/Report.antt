@@ -1,5 +1,5 @@
 -- What is printed of a value that was read.
-use Rattle.std.specs.Prelude.{◌≡◌, ◌≢◌, ℕ, ◌⊎◌, Option, List, [], ◌∷◌, ◌++◌, codes, decimal}
+use Rattle.std.specs.Prelude.{◌≡◌, ◌≢◌, ℕ, ◌⊎◌, Option, Some, None, List, [], ◌∷◌, ◌++◌, codes, decimal}
 use Rattle.std.specs.Io.KnownBytes.{Appends}
 use Rattle.hex.specs.Hex.{encode_lower}
 use Rattle.dns_fields.specs.declared.RDataEncoding.TheVariants.{StandardRecord}
@@ -13,6 +13,14 @@ use Rattle.dns_rdata.specs.declared.record_data.RData.{RData}
 use Rattle.dns_rdata.specs.Data.{Fills, NoValue, fields_of, mode_for}
 use Rattle.rdata_command.specs.Request.{Asks}
 use Rattle.dns_rdata.specs.Texts.{data_text}
+
+-- the value's text, or `none` where it has none
+abbrev pub text_or_none : Option (List ℕ) → List ℕ
+text_or_none (Some text) = text
+text_or_none None = codes "none"
+
+abbrev pub printed_text : RData → List ℕ
+printed_text v = text_or_none (data_text v)
 
 -- octets in hexadecimal, or a dash where there are none
 abbrev pub octets_text : List ℕ → List ℕ
@@ -45,7 +53,7 @@ IsEmittedText v text = ((octets : List ℕ) × Emits v octets × (text ≡ octet
 pub record IsReport (t : RecordType) (v : RData) (lines : List ℕ) : Type 0 where
   pub emitted : List ℕ
   pub is_emitted : IsEmittedText v emitted
-  pub spelled : lines ≡ codes "type " ++ (decimal (number_of t) ++ ((10 ∷ codes "text ") ++ (data_text v ++ ((10 ∷ codes "emitted ") ++ (emitted ++ (10 ∷ []))))))
+  pub spelled : lines ≡ codes "type " ++ (decimal (number_of t) ++ ((10 ∷ codes "text ") ++ (printed_text v ++ ((10 ∷ codes "emitted ") ++ (emitted ++ (10 ∷ []))))))
 
 -- a value fills the octets, and its lines came behind what was written before
 pub record Printed (m : List ℕ) (p n : ℕ) (t : RecordType) (before after : Option (List ℕ)) : Type 0 where

@@ -5,8 +5,7 @@ ghost use Rattle.std.specs.Io.KnownBytes.{Appends};
 ghost use Rattle.dns_types.specs.declared.error.DecodeError.{DecodeError as DecodeErrorValue};
 ghost use Rattle.dns_names_wire.specs.Words.{UnlessMemory};
 ghost use Rattle.dns_rdata.specs.Data.{Fills, NoValue};
-ghost use Rattle.dns_rdata.specs.Texts.{data_text};
-ghost use Rattle.rdata_command.specs.Report.{Emits, EmitsNothing, IsEmittedText, IsReport, Printed};
+ghost use Rattle.rdata_command.specs.Report.{Emits, EmitsNothing, IsEmittedText, IsReport, Printed, printed_text};
 
 use crate::request::Request;
 use dns_rdata::{
@@ -72,9 +71,12 @@ fn emitted_text(alloc: Global, value: &RData) -> Result<String, AllocError>
 }
 
 fn value_text(alloc: Global, value: &RData) -> Result<String, AllocError>
-    ensures { IfOk result (λ text. string_bytes text ≡ data_text value.now) }
+    ensures { IfOk result (λ text. string_bytes text ≡ printed_text value.now) }
 {
-    value.to_string(alloc)
+    match value {
+        RData::OPT(_) => String::from_str(alloc, "none"),
+        value => value.to_string(alloc),
+    }
 }
 
 // The three lines that are printed of a value.
