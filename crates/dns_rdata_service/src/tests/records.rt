@@ -245,10 +245,10 @@ fn one_octet_short(rt: HostRuntime) {
     let octets = b"\x00\x01\x00\x00\x00\x00\x04\x00\x01\x00\x03\x00\x01\x00\x03\x02h2\x00\x03\x00\x02\x01\xbb\x00\x04\x00\x04\xc0\x00\x02\x01\xff\x00\x00\x01a";
     let alloc = rt.alloc();
     assert!(rt; parameters_of(alloc, octets) == Ok(5));
-    let mut refused = 0;
+    let mut refused = 0_usize;
     for end in 0..octets.len() {
         if parameters_of(alloc, &octets[..end]).is_err() {
-            refused += 1;
+            refused = refused.wrapping_add(1);
         }
     }
     // not those that end behind the target or a parameter, or up to three octets behind one
