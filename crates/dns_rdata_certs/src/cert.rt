@@ -121,13 +121,12 @@ impl BinEncodable for CERT {
     ghost emits = { λ x r old new. Emits cert_shape (cert_fields x) r old new };
 
     /// Appends the three numbers and the certificate.
-    #[tactic(auto, using(dns_names_wire::proofs::FieldWrites::writing))]
     fn emit(&self, encoder: &mut BinEncoder<'_>) -> Result<(), ProtoError> {
-        encoder.emit_u16(u16::from(self.cert_type))?;
-        encoder.emit_u16(self.key_tag)?;
-        encoder.emit_u8(u8::from(self.algorithm))?;
-        encoder.emit_vec(self.cert_data.as_slice())?;
-        Ok(())
+        let kind = u16::from(self.cert_type).to_be_bytes();
+        let tag = self.key_tag.to_be_bytes();
+        let algorithm = u8::from(self.algorithm);
+        let numbers = [kind[0], kind[1], tag[0], tag[1], algorithm];
+        encoder.emit_both(&numbers, self.cert_data.as_slice())
     }
 }
 
