@@ -1,6 +1,7 @@
 //! The protocols of a service.
 
-ghost use Rattle.std.specs.Prelude.{◌≡◌, ◌↔◌, drop, map, IfErr, IfOk, IsTrue, IsUtf8};
+ghost use Rattle.std.specs.Prelude.{◌≡◌, ◌↔◌, ℕ, List, drop, length, map, IfErr, IfOk, IsTrue, IsUtf8};
+ghost use Rattle.dns_fields.specs.Fields.{Texts, Field};
 ghost use Rattle.std.specs.String.{string_bytes};
 ghost use Rattle.dns_fields.specs.Pieces.{Names};
 ghost use Rattle.dns_names_wire.specs.Words.{ReadsBy};
@@ -68,8 +69,10 @@ fn is_text(octets: &[u8]) -> bool
     }
 }
 
-// How many strings begin in the octets.
-fn strings_in(octets: &[u8]) -> usize {
+// How many strings begin in the octets; where strings are all of them, their number.
+fn strings_in(octets: &[u8]) -> usize
+    ensures { (names : List (List ℕ)) → Field octets.now 0 Texts names (length octets.now) → result ≡ length names }
+{
     let mut count = 0;
     let mut place = 0;
     while place < octets.len() {

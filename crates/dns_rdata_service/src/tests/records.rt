@@ -209,3 +209,62 @@ fn web_service(rt: HostRuntime) -> Result<(), ProtoError> {
     assert!(rt; value.clone()? == value);
     Ok(())
 }
+
+// The octets of a record of so many parameters without octets, from key 7 on.
+fn many(alloc: Global, count: u16) -> Result<Vec<u8>, ProtoError>
+    requires { count < 16000 }
+{
+    let mut octets = Vec::new(alloc);
+    octets.extend_from_slice(b"\x00\x01\x00")?;
+    for number in 7..count + 7 {
+        octets.extend_from_slice(&number.to_be_bytes())?;
+        octets.extend_from_slice(b"\x00\x00")?;
+    }
+    Ok(octets)
+}
+
+// How many parameters a record of these octets has.
+fn parameters_of(alloc: Global, octets: &[u8]) -> Result<usize, DecodeError>
+    requires { length octets.now < 65536 }
+{
+    Ok(whole(alloc, octets)?.svc_params.len())
+}
+
+#[test]
+fn thousands_of_keys(rt: HostRuntime) -> Result<(), ProtoError> {
+    let octets = many(rt.alloc(), 15000)?;
+    assert!(rt; octets.len() == 60003);
+    if octets.len() < 65536 {
+        assert!(rt; parameters_of(rt.alloc(), octets.as_slice()) == Ok(15000));
+    }
+    Ok(())
+}
+
+#[test]
+fn one_octet_short(rt: HostRuntime) {
+    let octets = b"\x00\x01\x00\x00\x00\x00\x04\x00\x01\x00\x03\x00\x01\x00\x03\x02h2\x00\x03\x00\x02\x01\xbb\x00\x04\x00\x04\xc0\x00\x02\x01\xff\x00\x00\x01a";
+    let alloc = rt.alloc();
+    assert!(rt; parameters_of(alloc, octets) == Ok(5));
+    let mut refused = 0_usize;
+    for end in 0..octets.len() {
+        if parameters_of(alloc, &octets[..end]).is_err() {
+            refused = refused.wrapping_add(1);
+        }
+    }
+    // not those that end behind the target or a parameter, or up to three octets behind one
+    assert_eq!(rt; refused, octets.len() - 20);
+}
+
+#[test]
+fn a_length_to_the_end(rt: HostRuntime) -> Result<(), ProtoError> {
+    let alloc = rt.alloc();
+    let mut octets = many(alloc, 0)?;
+    octets.extend_from_slice(b"\x00\x01\xff\xf8")?;
+    while octets.len() < 65535 {
+        octets.push(0)?;
+    }
+    if octets.len() < 65536 {
+        assert!(rt; parameters_of(alloc, octets.as_slice()) == Ok(1));
+    }
+    Ok(())
+}
