@@ -2,5 +2,7 @@
 #![tactic(auto)]
 
 pub mod opt;
+#[cfg(test)]
+mod tests;
 
 pub use opt::OPT;
