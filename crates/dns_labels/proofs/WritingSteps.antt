@@ -24,7 +24,7 @@ pub record Matched (message : List ℕ) (place : ℕ) (window : List ℕ) (begin
   pub begins : begin ≤ length window
   pub leads : (rest : List (List ℕ)) (end : ℕ) → LabelsStand window begin rest end → (e : ℕ) × LabelsStand message place (front ++ rest) e
 
-not_false : (b : Bool) → false ≡ not b → b ≡ true
+pub not_false : (b : Bool) → false ≡ not b → b ≡ true
 not_false true h = refl
 not_false false h = absurd (false≢true h)
 

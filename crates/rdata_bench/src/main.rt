@@ -9,18 +9,15 @@
 #![tactic(auto)]
 
 mod columns;
+mod growth;
 
 use anyhow::{Context, Result};
-use columns::{Row, column};
+use columns::{Row, column, least};
 use dns_rdata::RecordType;
 use std::alloc::Global;
 use std::io;
 use std::io::BufRead;
 use std::rt::Clock;
-use std::time::Instant;
-
-// The parts of the rounds, the least of which is taken.
-const PARTS: u64 = 5;
 
 const COLUMNS: [&str; 6] = ["read", "emit", "fresh", "print", "clone", "equal"];
 
@@ -35,18 +32,6 @@ fn read_row(alloc: Global, line: &str, compares: bool) -> Result<Row> {
     let length = words.next().context("a length")?.parse::<u16>()?;
     let message = hex::decode(alloc, words.next().context("octets")?)?;
     Row::new(alloc, record_type, message, place, length, compares)
-}
-
-// The tenths of a nanosecond of one call in the quickest part.
-fn least(rt: &(impl Clock + AllocGlobal), row: &mut Row, name: &str, rounds: u64) -> Result<u128> {
-    let calls = u128::from((rounds / PARTS).max(1));
-    let mut least = u128::MAX;
-    for _ in 0..PARTS {
-        let begin = Instant::now(rt)?;
-        column(rt.alloc(), row, name, rounds / PARTS)?;
-        least = least.min(begin.elapsed(rt)?.as_nanos().saturating_mul(10) / calls);
-    }
-    Ok(least)
 }
 
 fn measure(rt: &(impl Clock + AllocGlobal + Print), row: &mut Row, rounds: u64) -> Result<()> {
@@ -73,6 +58,9 @@ fn main(rt: HostRuntime) -> Result<()> {
     let Some(word) = args.next() else {
         return Ok(());
     };
+    if word.as_str() == "growth" {
+        return growth::print_growth(&rt);
+    }
     let rounds = word.parse::<u64>()?;
     let only = args.next();
     let compares = args.next().is_some();
