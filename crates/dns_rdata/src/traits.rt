@@ -6,7 +6,9 @@ ghost use Rattle.dns_rdata.specs.declared.record_data.RData.{RData as Data};
 ghost use Rattle.dns_rdata.specs.declared.record_data.RData.TheVariants as rdata;
 ghost use Rattle.dns_rdata.specs.Data.{type_of};
 ghost use Rattle.dns_rdata.specs.Laws.{IsUpdate};
-ghost use Rattle.dns_rdata.specs.Equal.{as_a, as_aaaa, as_aname, as_caa, as_cert, as_cname, as_csync, as_hinfo, as_https, as_mx, as_naptr, as_null, as_ns, as_openpgpkey, as_opt, as_ptr, as_smimea, as_soa, as_srv, as_sshfp, as_svcb, as_tlsa, as_txt};
+ghost use Rattle.dns_rdata.specs.Equal.{as_a, as_aaaa, as_aname, as_caa, as_cert, as_cname, as_csync, as_hinfo, as_https, as_mx, as_naptr};
+ghost use Rattle.dns_rdata.specs.Equal.{as_null, as_ns, as_openpgpkey, as_opt, as_ptr, as_smimea, as_soa, as_srv, as_sshfp, as_svcb};
+ghost use Rattle.dns_rdata.specs.Equal.{as_tlsa, as_txt};
 
 use crate::record_data::RData;
 use dns_names_wire::RecordType;

@@ -6,7 +6,8 @@ ghost use Rattle.std.specs.List.{list_all};
 ghost use Rattle.dns_fields.specs.Fields.{Stands};
 ghost use Rattle.dns_fields.specs.declared.RDataEncoding.TheVariants as modes;
 ghost use Rattle.dns_names_wire.specs.Words.{ReadsIf, ReadsBy, ReadsWindow, Emits, EmitsAs, Extends, Keeps};
-ghost use Rattle.dns_rdata_base.specs.NAPTR.{naptr_numbers_shape, naptr_numbers, naptr_rest_shape, naptr_rest, naptr_shape, naptr_fields, naptr_condition, naptr_refusal, is_flag};
+ghost use Rattle.dns_rdata_base.specs.NAPTR.{naptr_numbers_shape, naptr_numbers, naptr_rest_shape, naptr_rest, naptr_shape, naptr_fields};
+ghost use Rattle.dns_rdata_base.specs.NAPTR.{naptr_condition, naptr_refusal, is_flag};
 
 use crate::decoding::{DecodesFields, read_whole};
 use crate::emitting::{EncodesFields, emit_in};
@@ -57,7 +58,15 @@ impl NAPTR {
         regexp: BoxedSlice<u8>,
         replacement: Name,
     ) -> NAPTR
-        ensures { result ≡ record { order = order; preference = preference; flags = boxed_slice_items flags; services = boxed_slice_items services; regexp = boxed_slice_items regexp; replacement = replacement } }
+        ensures { result ≡ record {
+          order = order;
+          preference = preference;
+          flags = boxed_slice_items flags;
+          services = boxed_slice_items services;
+          regexp =
+              boxed_slice_items regexp;
+          replacement = replacement;
+        } }
     {
         NAPTR {
             order,

@@ -3,7 +3,8 @@
 ghost use Rattle.std.specs.Prelude.{◌≡◌, length as list_length, IfErr, IfOk, ◌+◌, OnOk};
 ghost use Rattle.std.specs.String.{string_bytes};
 ghost use Rattle.dns_names_wire.specs.Words.{ReadsTo, ReadsWindow, Emits};
-ghost use Rattle.dns_rdata_certs.specs.CERT.{cert_shape, cert_fields, cert_condition, cert_key_shape, cert_keys, IsReadCert, cert_data_text, cert_refusal, ReadsWholeCert, whole_cert_refusal};
+ghost use Rattle.dns_rdata_certs.specs.CERT.{cert_shape, cert_fields, cert_condition, cert_key_shape, cert_keys, IsReadCert};
+ghost use Rattle.dns_rdata_certs.specs.CERT.{cert_data_text, cert_refusal, ReadsWholeCert, whole_cert_refusal};
 
 mod algorithm;
 mod cert_type;

@@ -1,5 +1,6 @@
 -- Texts of values one after the other.
-use Rattle.std.proofs.Common.{◌≡◌, ℕ, ◌+◌, ◌<◌, List, [], ◌∷◌, ◌++◌, length, take, get_or, codes, Option, Some, None, Result, Ok, refl, sym, ap, ◌∙◌, subst, append_assoc}
+use Rattle.std.proofs.Common.{◌≡◌, ℕ, ◌+◌, ◌<◌, List, [], ◌∷◌, ◌++◌, length, take, get_or, codes, Option, Some, None, Result, Ok, refl}
+use Rattle.std.proofs.Common.{sym, ap, ◌∙◌, subst, append_assoc}
 use Rattle.std.specs.List.{flat_map}
 use Rattle.std.proofs.lemmas.List.{take_more}
 use Rattle.std.proofs.lemmas.Grind.{put_two}
@@ -23,7 +24,8 @@ one_text : (a : Option (List ℕ)) → a ++? (Some (codes ",") ++? Some []) ≡ 
 one_text (Some a) = refl
 one_text None = refl
 
-each_push : {T : Type 0} (text : T → Option (List ℕ)) (xs : List T) (x : T) → each_text text (xs ++ x ∷ []) ≡ each_text text xs ++? (text x ++? Some (codes ","))
+each_push : {T : Type 0} (text : T → Option (List ℕ)) (xs : List T) (x : T)
+    → each_text text (xs ++ x ∷ []) ≡ each_text text xs ++? (text x ++? Some (codes ","))
 each_push text [] x = one_text (text x)
 each_push text (y ∷ ys) x =
     ap (λ (t : Option (List ℕ)). text y ++? (Some (codes ",") ++? t)) (each_push text ys x)
@@ -34,12 +36,15 @@ abbrev okay : Unit {0} → Result (Unit {0}) Error
 okay u = Ok u
 
 -- some were written, and then one more and a comma
-pub texts_more : {T W : Type 0} (took : W → List ℕ → W → Type 0) (text : T → Option (List ℕ)) (i : ℕ) (xs : List T) (x : T) (f g h : Formatter W) (u : Unit {0}) → x ≡ get_or xs i x → i < length xs
-    → (IsPlainFormatter f → (t : List ℕ) → each_text text (take i xs) ≡ Some t → HasWritten took f t g) → DisplaysOnOk took g (okay u) (text x ++? Some (codes ",")) h
+pub texts_more : {T W : Type 0} (took : W → List ℕ → W → Type 0) (text : T → Option (List ℕ)) (i : ℕ) (xs : List T) (x : T) (f g h : Formatter W)
+    (u : Unit {0}) → x ≡ get_or xs i x → i < length xs
+    → (IsPlainFormatter f → (t : List ℕ) → each_text text (take i xs) ≡ Some t → HasWritten took f t g)
+    → DisplaysOnOk took g (okay u) (text x ++? Some (codes ",")) h
     → IsPlainFormatter f → (t : List ℕ) → each_text text (take (i + 1) xs) ≡ Some t → HasWritten took f t h
 texts_more took text i xs x f g h u is lt before one plain t e =
     let more : take (i + 1) xs ≡ take i xs ++ x ∷ [] = take_more xs i x lt ∙ ap (λ y. take i xs ++ y ∷ []) (sym is) in
-    let whole : each_text text (take i xs) ++? (text x ++? Some (codes ",")) ≡ Some t = sym (each_push text (take i xs) x) ∙ ap (each_text text) (sym more) ∙ e in
+    let whole : each_text text (take i xs) ++? (text x ++? Some (codes ",")) ≡ Some t = sym (each_push text (take i xs) x) ∙ ap (each_text text) (sym more)
+    ∙ e in
     let p = split_texts (each_text text (take i xs)) (text x ++? Some (codes ",")) t whole in
     let first : HasWritten took f p.0 g = before plain p.0 p.2 in
     let next : DisplaysOnOk took g (okay u) (Some p.1) h = subst (λ (o : Option (List ℕ)). DisplaysOnOk took g (okay u) o h) p.3 one in
@@ -48,4 +53,5 @@ texts_more took text i xs x f g h u is lt before one plain t e =
 -- where each text is known
 pub each_known : {T : Type 0} (text : T → List ℕ) (xs : List T) → each_text (λ x. Some (text x)) xs ≡ Some (flat_map (λ x. text x ++ codes ",") xs)
 each_known text [] = refl
-each_known text (x ∷ xs) = ap (λ (t : Option (List ℕ)). Some (text x) ++? (Some (codes ",") ++? t)) (each_known text xs) ∙ ap Some (sym (append_assoc (text x) (codes ",") (flat_map (λ x. text x ++ codes ",") xs)))
+each_known text (x ∷ xs) = ap (λ (t : Option (List ℕ)). Some (text x) ++? (Some (codes ",") ++? t)) (each_known text xs)
+    ∙ ap Some (sym (append_assoc (text x) (codes ",") (flat_map (λ x. text x ++ codes ",") xs)))

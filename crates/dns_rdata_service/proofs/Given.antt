@@ -1,5 +1,6 @@
 -- Keys and values that were read are those of their numbers.
-use Rattle.std.proofs.Common.{◌≡◌, ◌⊎◌, inl, inr, ℕ, suc, zero, ◌==◌, Bool, true, false, List, [], ◌∷◌, map, nat_le, if◌then◌else◌, refl, sym, ap, ◌∙◌, ◌≤◌, arith}
+use Rattle.std.proofs.Common.{◌≡◌, ◌⊎◌, inl, inr, ℕ, suc, zero, ◌==◌, Bool, true, false, List, [], ◌∷◌, map, nat_le, if◌then◌else◌, refl}
+use Rattle.std.proofs.Common.{sym, ap, ◌∙◌, ◌≤◌, arith}
 use Rattle.std.proofs.lemmas.Grind.{common_steps}
 use Rattle.std.proofs.lemmas.Bool.Decides.{nat_tests}
 use Rattle.dns_rdata_base.proofs.NumberLaws.{number-numbered_of}
@@ -71,7 +72,8 @@ aaaa_list_back = map_back aaaa_octets aaaa_of aaaa_back
 plain_reserved : IsPlainKey 65535
 plain_reserved = plain_above 65535 (omega arith)
 
-pub plain_of : (k : SvcParamKey) → k ≡ key_of (key_number k) → ((x : ℕ) × (k ≡ Key x)) ⊎ ((k ≡ Key65535) ⊎ ((x : ℕ) × (k ≡ Unknown x))) → IsPlainKey (key_number k)
+pub plain_of : (k : SvcParamKey) → k ≡ key_of (key_number k) → ((x : ℕ) × (k ≡ Key x)) ⊎ ((k ≡ Key65535) ⊎ ((x : ℕ) × (k ≡ Unknown x)))
+    → IsPlainKey (key_number k)
 plain_of k g (inl h) = rw h.1 (plain_key h.0 (rw h.1 at g))
 plain_of k g (inr (inl h)) = rw h plain_reserved
 plain_of k g (inr (inr h)) = rw h.1 (plain_unknown h.0 (rw h.1 at g))

@@ -5,7 +5,8 @@ use Rattle.std.specs.Int.{bytes_high_first}
 use Rattle.std.specs.Prelude.{IsUtf8}
 use Rattle.std.proofs.lemmas.List.{length-append}
 use Rattle.dns_types.specs.declared.error.DecodeError.{DecodeError}
-use Rattle.dns_fields.specs.Pieces.{string, ParameterValue, Mandatory, Alpn, NoDefaultAlpn, Port, Ipv4Hint, Ipv6Hint, Form, Keys, Names, Nothing, PortNumber, Addresses4, Addresses16, AnyOctets, IsEmittable, IsBody, form_of}
+use Rattle.dns_fields.specs.Pieces.{string, ParameterValue, Mandatory, Alpn, NoDefaultAlpn, Port, Ipv4Hint, Ipv6Hint, Form, Keys, Names}
+use Rattle.dns_fields.specs.Pieces.{Nothing, PortNumber, Addresses4, Addresses16, AnyOctets, IsEmittable, IsBody, form_of}
 use Rattle.dns_fields.proofs.Numbers.{length-bytes}
 use Rattle.dns_names_wire.specs.Words.{UnlessMemory}
 use Rattle.dns_names_wire.proofs.FieldReads.{unless_all}
@@ -40,7 +41,8 @@ wrong_name : (name rest : List ℕ) (names : List (List ℕ)) → (IsUtf8 name �
 wrong_name name rest [] wrong h e = let f : [] ≡ length name ∷ (name ++ rest) = e in absurd cc
 wrong_name name rest (s ∷ ss) wrong h e = wrong (subst IsUtf8 (string_first s name (flat_map string ss) rest e).0 h.0)
 
-names_none : (body : List ℕ) (e : DecodeError) (names : List (List ℕ)) → form_refusal Names body e → names ≢ [] → AllByRecursion IsUtf8 names → body ≡ flat_map string names → ⊥
+names_none : (body : List ℕ) (e : DecodeError) (names : List (List ℕ)) → form_refusal Names body e → names ≢ [] → AllByRecursion IsUtf8 names
+    → body ≡ flat_map string names → ⊥
 names_none body e names (inl h) some texts b = no_name names some (sym h.1 ∙ b)
 names_none body e names (inr (inl h)) some texts b =
     let c = h.1 in
@@ -56,7 +58,8 @@ keys_none body e [] (inl h) some b = some refl
 keys_none body e (k ∷ ks) (inl h) some b = omega (arith, length_numbers (k ∷ ks), ap length b, ap length h.1)
 keys_none body e keys (inr h) some b = omega (arith, h.1, length_numbers keys, ap length b)
 
-refused_none : (form : Form) (body : List ℕ) (e : DecodeError) → form_refusal form body e → (v : ParameterValue) → form_of v ≡ form → IsEmittable v → IsBody body v → ⊥
+refused_none : (form : Form) (body : List ℕ) (e : DecodeError) → form_refusal form body e → (v : ParameterValue) → form_of v ≡ form → IsEmittable v
+    → IsBody body v → ⊥
 refused_none Keys body e h (Mandatory keys) f s b = keys_none body e keys h s.0 b
 refused_none Names body e h (Alpn names) f s b = names_none body e names h s.0 b.0 b.1
 refused_none Nothing body e h NoDefaultAlpn f s b = h.1 b

@@ -18,7 +18,8 @@ at_split {m} {p} {x} {q} a =
     ∙ ap (λ (l : List ℕ). x ++ l) (drop-drop (length x) p m ∙ ap (λ (k : ℕ). drop k m) (sym a.ends))
 
 -- one more behind others
-pub split_push : {T : Type 0} (f : T → List ℕ) (xs : List T) (x : T) (body left rest : List ℕ) → body ≡ flat_map f xs ++ left → left ≡ f x ++ rest → body ≡ flat_map f (xs ++ x ∷ []) ++ rest
+pub split_push : {T : Type 0} (f : T → List ℕ) (xs : List T) (x : T) (body left rest : List ℕ) → body ≡ flat_map f xs ++ left → left ≡ f x ++ rest
+    → body ≡ flat_map f (xs ++ x ∷ []) ++ rest
 split_push f xs x body left rest e g =
     e ∙ ap (λ (l : List ℕ). flat_map f xs ++ l) g ∙ sym (append_assoc (flat_map f xs) (f x) rest)
     ∙ ap (λ (l : List ℕ). l ++ rest) (ap (λ (l : List ℕ). flat_map f xs ++ l) (sym (append-nil (f x))) ∙ sym (flat_map-append f xs (x ∷ [])))
@@ -47,7 +48,8 @@ string_first a b x y e =
     parts a x b y n t
 
 -- strings that begin with others
-pub strings_prefix : (xs ys : List (List ℕ)) (r : List ℕ) → flat_map string ys ≡ flat_map string xs ++ r → (rest : List (List ℕ)) × (ys ≡ xs ++ rest) × (flat_map string rest ≡ r)
+pub strings_prefix : (xs ys : List (List ℕ)) (r : List ℕ) → flat_map string ys ≡ flat_map string xs ++ r
+    → (rest : List (List ℕ)) × (ys ≡ xs ++ rest) × (flat_map string rest ≡ r)
 strings_prefix [] ys r e = (ys, refl, e)
 strings_prefix (x ∷ xs) [] r e = let f : [] ≡ length x ∷ ((x ++ flat_map string xs) ++ r) = e in absurd cc
 strings_prefix (x ∷ xs) (y ∷ ys) r e =

@@ -1,10 +1,13 @@
 -- SVCB and HTTPS by their fields: a record that was read is told by them, and fields of a window make one.
-use Rattle.std.proofs.Common.{◌≡◌, ◌↔◌, inl, inr, ℕ, zero, suc, ◌==◌, ◌&&◌, Bool, true, false, if◌then◌else◌, List, [], ◌∷◌, length, map, refl, sym, ap, ◌∙◌, arith}
+use Rattle.std.proofs.Common.{◌≡◌, ◌↔◌, inl, inr, ℕ, zero, suc, ◌==◌, ◌&&◌, Bool, true, false, if◌then◌else◌, List, [], ◌∷◌, length, map}
+use Rattle.std.proofs.Common.{refl, sym, ap, ◌∙◌, arith}
 use Rattle.std.specs.List.{flat_map, AllByRecursion}
 use Rattle.dns_types.specs.declared.error.DecodeError.TheVariants as decode
 use Rattle.dns_fields.specs.Octets.{AreOctets}
 use Rattle.dns_fields.specs.Fields.{Number, Name, Values, Parameters}
-use Rattle.dns_fields.specs.Pieces.{Numbered, ParameterValue, Mandatory, Alpn, NoDefaultAlpn, Port, Ipv4Hint, Ipv6Hint, Opaque, ParameterHeld, AllHeld, piece, pieces, Form, Keys, Names, Nothing, PortNumber, Addresses4, Addresses16, AnyOctets}
+use Rattle.dns_fields.specs.Pieces.{Numbered, ParameterValue, Mandatory, Alpn, NoDefaultAlpn, Port, Ipv4Hint, Ipv6Hint, Opaque}
+use Rattle.dns_fields.specs.Pieces.{ParameterHeld, AllHeld, piece, pieces, Form, Keys, Names, Nothing, PortNumber, Addresses4, Addresses16}
+use Rattle.dns_fields.specs.Pieces.{AnyOctets}
 use Rattle.dns_fields.specs.Equal.{kind_eq, values_eq}
 use Rattle.dns_fields.proofs.EqualLaws.{field_decide}
 use Rattle.std.specs.Bool.{Decides}
@@ -54,7 +57,8 @@ groups_back ss = map_twice a_of a_octets ss ∙ map_itself (λ s. a_octets (a_of
 
 segments_back : (ss : List (List ℕ)) → map aaaa_of ss ≡ map aaaa_of (map aaaa_octets (map aaaa_of ss))
 segments_back ss =
-    map_same aaaa_of (λ s. aaaa_of (aaaa_octets (aaaa_of s))) (λ s. ap (λ (l : List ℕ). record { 0 = record { segments = l } }) (sym (segments_of-octets_of (segments_of s)))) ss
+    map_same aaaa_of (λ s. aaaa_of (aaaa_octets (aaaa_of s)))
+    (λ s. ap (λ (l : List ℕ). record { 0 = record { segments = l } }) (sym (segments_of-octets_of (segments_of s)))) ss
     ∙ sym (ap (map aaaa_of) (map_twice aaaa_of aaaa_octets ss) ∙ map_twice (λ s. aaaa_octets (aaaa_of s)) aaaa_of ss)
 
 opaque_value : (b : Bool) (s : List ℕ) → value_of (if b then variants.EchConfigList (record { 0 = s }) else variants.Unknown (record { 0 = s })) ≡ Opaque s
@@ -103,10 +107,12 @@ value_back n (Opaque s) h = opaque_value (n == 5) s
 parameters_back : (v : List (Numbered ParameterValue)) → AllByRecursion (λ x. IsWide x.1) v → map parameter_of (map parameter_from v) ≡ v
 parameters_back [] h = refl
 parameters_back (x ∷ xs) h =
-    let one : parameter_of (parameter_from x) ≡ x = ap (λ (k : ℕ). (k, value_of (value_from x.0 x.1))) (key_number-of x.0) ∙ ap (λ (v : ParameterValue). (x.0, v)) (value_back x.0 x.1 h.0) in
+    let one : parameter_of (parameter_from x) ≡ x = ap (λ (k : ℕ). (k, value_of (value_from x.0 x.1))) (key_number-of x.0)
+    ∙ ap (λ (v : ParameterValue). (x.0, v)) (value_back x.0 x.1 h.0) in
     ap (λ y. y ∷ map parameter_of (map parameter_from xs)) one ∙ ap (λ ys. x ∷ ys) (parameters_back xs h.1)
 
-groups_wide : (ss : List (List ℕ)) → AllByRecursion (λ s. length s ≡ 16) ss → AreOctets (flat_map (λ s. s) ss) → AllByRecursion (λ s. (length s ≡ 16) × AreOctets s) ss
+groups_wide : (ss : List (List ℕ)) → AllByRecursion (λ s. length s ≡ 16) ss → AreOctets (flat_map (λ s. s) ss)
+    → AllByRecursion (λ s. (length s ≡ 16) × AreOctets s) ss
 groups_wide [] h a = tt
 groups_wide (s ∷ ss) h a = ((h.0, AreOctets-front s (flat_map (λ x. x) ss) a), groups_wide ss h.1 (AreOctets-back s (flat_map (λ x. x) ss) a))
 
@@ -119,13 +125,19 @@ held_wide k body (Port p) h a = tt
 held_wide k body (Ipv4Hint ss) h a = tt
 held_wide k body (Opaque s) h a = tt
 
-all_wide : (read : List (Numbered (List ℕ))) (v : List (Numbered ParameterValue)) → AllHeld ParameterHeld read v → AreOctets (pieces read) → AllByRecursion (λ x. IsWide x.1) v
+all_wide : (read : List (Numbered (List ℕ))) (v : List (Numbered ParameterValue)) → AllHeld ParameterHeld read v → AreOctets (pieces read)
+    → AllByRecursion (λ x. IsWide x.1) v
 all_wide [] [] h a = tt
 all_wide [] (y ∷ ys) h a = absurd h
 all_wide (x ∷ xs) [] h a = absurd h
-all_wide (x ∷ xs) (y ∷ ys) h a = (held_wide y.0 x.1 y.1 h.1 (piece_body x (AreOctets-front (piece x) (pieces xs) a)), all_wide xs ys h.2 (AreOctets-back (piece x) (pieces xs) a))
+all_wide (x ∷ xs) (y ∷ ys) h a = (
+  held_wide y.0 x.1 y.1 h.1 (piece_body x (AreOctets-front (piece x) (pieces xs) a)),
+  all_wide xs ys h.2
+      (AreOctets-back (piece x) (pieces xs) a),
+)
 
-pub svcb_fields-from : (m : List ℕ) (p n : ℕ) (condition : Values svcb_shape → Type 0) (vs : Values svcb_shape) → Window m p n svcb_shape condition vs → svcb_fields (svcb_from vs) ≡ vs
+pub svcb_fields-from : (m : List ℕ) (p n : ℕ) (condition : Values svcb_shape → Type 0) (vs : Values svcb_shape) → Window m p n svcb_shape condition vs
+    → svcb_fields (svcb_from vs) ≡ vs
 svcb_fields-from m p n condition vs w =
     let s = w.stands.2.2.1.is in
     let wide = all_wide s.read vs.1.1.0 s.held (AreOctets-at m w.stands.2.0 (pieces s.read) w.stands.2.2.0 w.octets s.at) in
@@ -181,7 +193,8 @@ unfolding shown_parameter
 parameter_shown p = ap (λ (v : ParameterValue). (key_number p.0, v)) (value_shown p.1)
 
 parameters_shown : (ps : List Parameter) → map parameter_of ps ≡ map shown_parameter (map own_parameter ps)
-parameters_shown ps = map_same parameter_of (λ p. shown_parameter (own_parameter p)) (λ p. sym (parameter_shown p)) ps ∙ sym (map_twice own_parameter shown_parameter ps)
+parameters_shown ps = map_same parameter_of (λ p. shown_parameter (own_parameter p)) (λ p. sym (parameter_shown p)) ps
+    ∙ sym (map_twice own_parameter shown_parameter ps)
 
 keys_fields : (ps qs : List Parameter) → map own_parameter ps ≡ map own_parameter qs → map parameter_of ps ≡ map parameter_of qs
 keys_fields ps qs e = parameters_shown ps ∙ ap (map shown_parameter) e ∙ sym (parameters_shown qs)
@@ -189,7 +202,8 @@ keys_fields ps qs e = parameters_shown ps ∙ ap (map shown_parameter) e ∙ sym
 fields_keys : (ps qs : List Parameter) → AreRead ps → AreRead qs → map parameter_of ps ≡ map parameter_of qs → map own_parameter ps ≡ map own_parameter qs
 fields_keys ps qs x y e = ap (map own_parameter) (x ∙ ap (map parameter_from) e ∙ sym y)
 
-parameters_same : (ps qs : List Parameter) → AreRead ps → AreRead qs → (map own_parameter ps ≡ map own_parameter qs) ↔ (map parameter_of ps ≡ map parameter_of qs)
+parameters_same : (ps qs : List Parameter) → AreRead ps → AreRead qs
+    → (map own_parameter ps ≡ map own_parameter qs) ↔ (map parameter_of ps ≡ map parameter_of qs)
 parameters_same ps qs x y = (keys_fields ps qs, fields_keys ps qs x y)
 
 decided_same : (a b : Bool) {P Q : Type 0} → Decides a P → Decides b Q → P ↔ Q → a ≡ b
@@ -198,14 +212,18 @@ decided_same false false d e s = refl
 decided_same true false d e s = sym (e.1 (s.0 (d.0 refl)))
 decided_same false true d e s = d.1 (s.1 (e.0 refl))
 
-parameters_equal : (ps qs : List Parameter) → AreRead ps → AreRead qs → kind_eq Parameters (map own_parameter ps) (map own_parameter qs) ≡ kind_eq Parameters (map parameter_of ps) (map parameter_of qs)
+parameters_equal : (ps qs : List Parameter) → AreRead ps → AreRead qs
+    → kind_eq Parameters (map own_parameter ps) (map own_parameter qs) ≡ kind_eq Parameters (map parameter_of ps) (map parameter_of qs)
 parameters_equal ps qs x y =
     let s = parameters_same ps qs x y in
-    decided_same _ _ (field_decide Parameters (map own_parameter ps) (map own_parameter qs) tt tt) (field_decide Parameters (map parameter_of ps) (map parameter_of qs) tt tt) (λ e. record { is = s.0 e.is }, λ e. record { is = s.1 e.is })
+    decided_same _ _ (field_decide Parameters (map own_parameter ps) (map own_parameter qs) tt tt)
+    (field_decide Parameters (map parameter_of ps) (map parameter_of qs) tt tt) (λ e. record { is = s.0 e.is }, λ e. record { is = s.1 e.is })
 
 -- what was read is compared as its fields are
-pub svcb_equal : (a b : SVCB) → IsReadSvcb a → IsReadSvcb b → values_eq svcb_key_shape (svcb_keys a) (svcb_keys b) ≡ values_eq svcb_shape (svcb_fields a) (svcb_fields b)
-svcb_equal a b x y = ap (λ (t : Bool). kind_eq (Number 2) a.svc_priority b.svc_priority && (kind_eq Name a.target_name b.target_name && (t && true))) (parameters_equal a.svc_params b.svc_params x y)
+pub svcb_equal : (a b : SVCB) → IsReadSvcb a → IsReadSvcb b
+    → values_eq svcb_key_shape (svcb_keys a) (svcb_keys b) ≡ values_eq svcb_shape (svcb_fields a) (svcb_fields b)
+svcb_equal a b x y = ap (λ (t : Bool). kind_eq (Number 2) a.svc_priority b.svc_priority && (kind_eq Name a.target_name b.target_name && (t && true)))
+    (parameters_equal a.svc_params b.svc_params x y)
 
 -- ---- the refusal by a type's number is none of SVCB's
 
@@ -257,11 +275,13 @@ https_from vs = record { 0 = svcb_from vs }
 pub https_from-fields : (x : HTTPS) → IsReadHttps x → x ≡ https_from (https_fields x)
 https_from-fields x r = ap (λ (y : SVCB). record { 0 = y }) (svcb_from-fields x.0 r)
 
-pub https_fields-from : (m : List ℕ) (p n : ℕ) (condition : Values https_shape → Type 0) (vs : Values https_shape) → Window m p n https_shape condition vs → https_fields (https_from vs) ≡ vs
+pub https_fields-from : (m : List ℕ) (p n : ℕ) (condition : Values https_shape → Type 0) (vs : Values https_shape) → Window m p n https_shape condition vs
+    → https_fields (https_from vs) ≡ vs
 https_fields-from = svcb_fields-from
 
 pub https_from-read : (vs : Values https_shape) → IsReadHttps (https_from vs)
 https_from-read = svcb_from-read
 
-pub https_equal : (a b : HTTPS) → IsReadHttps a → IsReadHttps b → values_eq https_key_shape (https_keys a) (https_keys b) ≡ values_eq https_shape (https_fields a) (https_fields b)
+pub https_equal : (a b : HTTPS) → IsReadHttps a → IsReadHttps b
+    → values_eq https_key_shape (https_keys a) (https_keys b) ≡ values_eq https_shape (https_fields a) (https_fields b)
 https_equal a b x y = svcb_equal a.0 b.0 x y

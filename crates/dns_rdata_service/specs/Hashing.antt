@@ -37,10 +37,13 @@ svcb_fed_same x y h =
     let P : Bool = pointwise key_eq (parameter_keys (map own_parameter x.svc_params)) (parameter_keys (map own_parameter y.svc_params)) in
     let N : Bool = name_eq x.target_name y.target_name in
     let rest : N && (P && true) ≡ true = second_so (nat_eq x.svc_priority y.svc_priority) (N && (P && true)) h in
-    let priorities : x.svc_priority ≡ y.svc_priority = (unsigned_Decides x.svc_priority y.svc_priority).0 (first_so (nat_eq x.svc_priority y.svc_priority) (N && (P && true)) h) in
+    let priorities : x.svc_priority ≡ y.svc_priority =
+    (unsigned_Decides x.svc_priority y.svc_priority).0 (first_so (nat_eq x.svc_priority y.svc_priority) (N && (P && true)) h) in
     let names : name_fed x.target_name ≡ name_fed y.target_name = name_hash_laws.respects_eq-law x.target_name y.target_name (first_so N (P && true) rest) in
-    let same : pointwise parameter_eq x.svc_params y.svc_params ≡ true = parameters_same x.svc_params y.svc_params ∙ first_so P true (second_so N (P && true) rest) in
-    let params : fed.slice parameter_fed x.svc_params ≡ fed.slice parameter_fed y.svc_params = (items_Alike (record { fed = parameter_fed_same })).fed x.svc_params y.svc_params same in
+    let same : pointwise parameter_eq x.svc_params y.svc_params ≡ true = parameters_same x.svc_params y.svc_params
+    ∙ first_so P true (second_so N (P && true) rest) in
+    let params : fed.slice parameter_fed x.svc_params ≡ fed.slice parameter_fed y.svc_params =
+    (items_Alike (record { fed = parameter_fed_same })).fed x.svc_params y.svc_params same in
     ap (λ n. fed.u16 n ++ name_fed x.target_name ++ fed.slice parameter_fed x.svc_params) priorities
     ∙ ap (λ (f : HashWrites). fed.u16 y.svc_priority ++ f ++ fed.slice parameter_fed x.svc_params) names
     ∙ ap (λ (f : HashWrites). fed.u16 y.svc_priority ++ name_fed y.target_name ++ f) params

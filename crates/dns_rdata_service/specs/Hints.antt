@@ -30,7 +30,8 @@ ReadsEach S items (Ok x) old new = StandToEnd S old (items x) new
 ReadsEach S items (Err e) old new = StaysBehind old new × UnlessMemory e (StopsBefore S old.message old.index)
 
 -- emits the values one behind the other; the first one that is refused stops it
-abbrev pub EmitsEach : {T : Type 0} → (T → Result (Unit {0}) ProtoError → Writing → Writing → Type 0) → List T → Result (Unit {0}) ProtoError → Writing → Writing → Type 0
+abbrev pub EmitsEach : {T : Type 0} → (T → Result (Unit {0}) ProtoError → Writing → Writing → Type 0) → List T → Result (Unit {0}) ProtoError → Writing
+    → Writing → Type 0
 EmitsEach E [] (Ok x) old new = new ≡ old
 EmitsEach E [] (Err e) old new = ⊥
 EmitsEach E (x ∷ xs) r old new = ((between : Writing) × E x (Ok tt) old between × EmitsEach E xs r between new)

@@ -1,5 +1,6 @@
 -- The values of service parameters: what each holds, in the octets of which it is read, and its text (RFC 9460, 7 and 8).
-use Rattle.std.specs.Prelude.{◌≡◌, ◌≢◌, ◌⊎◌, ℕ, ◌%◌, ◌^◌, ◌<◌, ◌==◌, ◌&&◌, nat_le, Bool, if◌then◌else◌, List, [], ◌∷◌, ◌++◌, length, drop, map, codes, decimal, IsUtf8, Result}
+use Rattle.std.specs.Prelude.{◌≡◌, ◌≢◌, ◌⊎◌, ℕ, ◌%◌, ◌^◌, ◌<◌, ◌==◌, ◌&&◌, nat_le, Bool, if◌then◌else◌, List, [], ◌∷◌, ◌++◌, length, drop}
+use Rattle.std.specs.Prelude.{map, codes, decimal, IsUtf8, Result}
 use Rattle.std.specs.List.{flat_map}
 use Rattle.std.specs.Int.{bytes_high_first}
 use Rattle.std.specs.Net.Addr.{ipv4_octets, ipv6_octets, segments_of}
@@ -8,7 +9,9 @@ use Rattle.base64.specs.GeneralPurpose.{encode_of}
 use Rattle.dns_types.specs.declared.error.DecodeError.{DecodeError}
 use Rattle.dns_types.specs.declared.error.DecodeError.TheVariants as decode
 use Rattle.dns_types.specs.declared.error.ProtoError.{ProtoError}
-use Rattle.dns_fields.specs.Pieces.{string, ParameterValue, Mandatory, Alpn, NoDefaultAlpn, Port, Ipv4Hint, Ipv6Hint, Opaque, Form, Keys, Names, Nothing, PortNumber, Addresses4, Addresses16, AnyOctets, IsEmittable, IsBody, ParameterHeld, parameter_octets, parameter_emittable}
+use Rattle.dns_fields.specs.Pieces.{string, ParameterValue, Mandatory, Alpn, NoDefaultAlpn, Port, Ipv4Hint, Ipv6Hint, Opaque, Form, Keys}
+use Rattle.dns_fields.specs.Pieces.{Names, Nothing, PortNumber, Addresses4, Addresses16, AnyOctets, IsEmittable, IsBody, ParameterHeld}
+use Rattle.dns_fields.specs.Pieces.{parameter_octets, parameter_emittable}
 use Rattle.dns_names_wire.specs.State.{Writing}
 use Rattle.dns_rdata_base.specs.A.{a_text}
 use Rattle.dns_rdata_base.specs.AAAA.{aaaa_text}
@@ -143,7 +146,8 @@ pub record WrongName (body : List ℕ) : Type 0 where
 -- why octets are no value of a form
 abbrev pub form_refusal : Form → List ℕ → DecodeError → Type 0
 form_refusal Keys body e = ((e ≡ decode.SvcParamMissingValue) × (body ≡ [])) ⊎ ((e ≡ decode.InsufficientBytes) × (length body % 2 ≡ 1))
-form_refusal Names body e = ((e ≡ decode.SvcParamMissingValue) × (body ≡ [])) ⊎ (((e ≡ decode.InsufficientBytes) × CutName body) ⊎ ((e ≡ decode.Utf8) × WrongName body))
+form_refusal Names body e = ((e ≡ decode.SvcParamMissingValue) × (body ≡ []))
+    ⊎ (((e ≡ decode.InsufficientBytes) × CutName body) ⊎ ((e ≡ decode.Utf8) × WrongName body))
 form_refusal Nothing body e = (e ≡ decode.IncorrectRDataLengthRead (length body) 0) × (body ≢ [])
 form_refusal PortNumber body e = (e ≡ decode.InsufficientBytes) × (length body < 2)
 form_refusal Addresses4 body e = (e ≡ decode.InsufficientBytes) × (length body % 4 ≢ 0)

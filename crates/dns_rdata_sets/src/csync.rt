@@ -6,7 +6,8 @@ ghost use Rattle.dns_types.specs.RecordTypes.{number_of};
 ghost use Rattle.dns_types.specs.declared.record_type.RecordType.{RecordType as RecordTypeValue};
 ghost use Rattle.dns_names_wire.specs.Words.{ReadsTo, ReadsWindow, Emits};
 ghost use Rattle.dns_rdata_sets.specs.RecordTypeSet.{IsSetOf};
-ghost use Rattle.dns_rdata_sets.specs.CSYNC.{csync_numbers_shape, csync_numbers, csync_shape, csync_flags, csync_fields, csync_condition, csync_key_shape, csync_keys, IsReadCsync, csync_refusal};
+ghost use Rattle.dns_rdata_sets.specs.CSYNC.{csync_numbers_shape, csync_numbers, csync_shape, csync_flags, csync_fields, csync_condition};
+ghost use Rattle.dns_rdata_sets.specs.CSYNC.{csync_key_shape, csync_keys, IsReadCsync, csync_refusal};
 
 use crate::record_type_set::RecordTypeSet;
 use dns_names_wire::{

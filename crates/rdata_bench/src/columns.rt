@@ -11,6 +11,7 @@ use std::time::Instant;
 
 // A value is moved at each call, so its size is part of every figure.
 const _: () = prove!(size_of::<RData>() == 136);
+
 const _: () = prove!(size_of::<Name>() == 48);
 
 // The octets in an encoder before another one is begun.

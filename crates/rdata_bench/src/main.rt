@@ -5,7 +5,8 @@
 //! is kept, print into a text that is kept, clone, and `==`. Each is the least of five parts of the rounds.
 //!
 //! A second argument, one of these words, takes that column alone and prints nothing: for runs under a counter of requests
-//! for memory. With a third, each value that is read or cloned is compared. In place of the number the word `growth` prints how the time grows with names, pointers, strings and windows.
+//! for memory. With a third, each value that is read or cloned is compared. In place of the number the word `growth`
+//! prints how the time grows with names, pointers, strings and windows.
 #![tactic(auto)]
 
 mod columns;

@@ -142,7 +142,8 @@ impl Hash for SvcParamKey {
 impl PartialOrd for SvcParamKey {
     ghost partial_cmp = { as_partial_cmp (numbered_cmp key_number key_variant) };
 
-    ghost laws = { partial_order_from_agreeing_total (numbered_cmp key_number key_variant) (numbered_total key_number key_variant) (λ _ _. refl) (numbered_ties key_number key_variant) };
+    ghost laws = { partial_order_from_agreeing_total (numbered_cmp key_number key_variant) (numbered_total key_number key_variant) (λ _ _. refl)
+        (numbered_ties key_number key_variant) };
 
     #[inline]
     fn partial_cmp(&self, other: &SvcParamKey) -> Option<Ordering> {

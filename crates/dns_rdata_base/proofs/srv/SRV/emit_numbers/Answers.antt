@@ -8,4 +8,5 @@ pub returns : goal.returns
 unfolding field_octets
 returns c =
     let e = rw (c.to_be_bytes-priority.ensures, c.to_be_bytes-weight.ensures, c.to_be_bytes-port.ensures) at c.emit_vec.ensures.emits in
-    emits_plain srv_numbers_shape (srv_numbers c.args.self.now) _ _ _ _ tt (omega arith, (omega arith, (omega arith, tt))) (number_then 2 _ _ _ (number_then 2 _ _ _ (number_then 2 _ _ _ refl))) e
+    emits_plain srv_numbers_shape (srv_numbers c.args.self.now) _ _ _ _ tt (omega arith, (omega arith, (omega arith, tt)))
+    (number_then 2 _ _ _ (number_then 2 _ _ _ (number_then 2 _ _ _ refl))) e

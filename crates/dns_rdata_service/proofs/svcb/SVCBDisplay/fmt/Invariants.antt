@@ -6,4 +6,5 @@ use Rattle.dns_rdata_service.proofs.svcb.SVCBDisplay.fmt.Given as goal
 
 abbrev pub invariant-loop-key : goal.invariant-loop-key
 invariant-loop-key g l =
-    IsPlainFormatter l.fn.f → HasWritten g.W.Write.write_str_gives l.fn.f ((decimal l.self.svc_priority ++ (codes " " ++ name_text l.self.target_name)) ++ flat_map parameter_text (take l.key-index l.key-items)) l.f
+    IsPlainFormatter l.fn.f → HasWritten g.W.Write.write_str_gives l.fn.f
+    ((decimal l.self.svc_priority ++ (codes " " ++ name_text l.self.target_name)) ++ flat_map parameter_text (take l.key-index l.key-items)) l.f

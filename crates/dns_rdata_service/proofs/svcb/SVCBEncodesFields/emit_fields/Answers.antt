@@ -10,4 +10,7 @@ returns-in_err-emit c =
 pub returns-in_err-emit_parameters : goal.returns-in_err-emit_parameters
 returns-in_err-emit_parameters c =
     let p = err_from_is_err_and c.from_residual-in_err-emit_parameters.result c.from_residual-in_err-emit_parameters.ensures.1 in
-    rw (p.1, p.2) (record { emits = stopped_then c.in_ok-emit_u16.ensures.emits (stopped_then c.in_ok-emit.ensures.emits (stopped_first (rw c.as_slice.ensures at c.in_err-emit_parameters.ensures))) })
+    rw (p.1, p.2) (record {
+      emits = stopped_then c.in_ok-emit_u16.ensures.emits
+          (stopped_then c.in_ok-emit.ensures.emits (stopped_first (rw c.as_slice.ensures at c.in_err-emit_parameters.ensures)));
+    })

@@ -15,18 +15,21 @@ returns-in_err-emit c =
     let p = err_from_is_err_and c.from_residual.result c.from_residual.ensures.1 in
     let keys = c.as_slice-key-items.result.now in
     let e = c.in_err-emit.field-0.0 in
-    let all = emits_refused EmitsKey c.loop-key.key-index keys (get_or keys c.loop-key.key-index FirstKey) FirstKey e c.args.encoder.now c.loop-key.encoder c.emit.new.encoder refl (omega arith) c.loop-key.invariant c.in_err-emit.ensures.emits in
+    let all = emits_refused EmitsKey c.loop-key.key-index keys (get_or keys c.loop-key.key-index FirstKey) FirstKey e c.args.encoder.now c.loop-key.encoder
+    c.emit.new.encoder refl (omega arith) c.loop-key.invariant c.in_err-emit.ensures.emits in
     let whole = keys_emit keys (Err e) _ _ (rw c.as_slice-key-items.ensures (omega arith)) all in
     rw (p.1, p.2, ← c.as_slice-key-items.ensures) (record { emits = whole; extends = value_extends (Mandatory (map key_number keys)) (Err e) _ _ whole })
 
 pub loop-key-preserved : goal.loop-key-preserved
 loop-key-preserved c =
     let keys = c.as_slice-key-items.result.now in
-    emits_next EmitsKey c.loop-key.key-index keys (get_or keys c.loop-key.key-index FirstKey) FirstKey c.args.encoder.now c.loop-key.encoder c.emit.new.encoder refl (omega arith) c.loop-key.invariant c.in_ok-emit.ensures.emits
+    emits_next EmitsKey c.loop-key.key-index keys (get_or keys c.loop-key.key-index FirstKey) FirstKey c.args.encoder.now c.loop-key.encoder
+    c.emit.new.encoder refl (omega arith) c.loop-key.invariant c.in_ok-emit.ensures.emits
 
 pub returns : goal.returns
 returns c =
     let keys = c.as_slice-key-items.result.now in
-    let all = subst (λ (ks : List SvcParamKey). EmitsEach EmitsKey ks (Ok tt) c.args.encoder.now c.loop-key.encoder) (take_all c.loop-key.key-index keys (omega arith)) c.loop-key.invariant in
+    let all = subst (λ (ks : List SvcParamKey). EmitsEach EmitsKey ks (Ok tt) c.args.encoder.now c.loop-key.encoder)
+    (take_all c.loop-key.key-index keys (omega arith)) c.loop-key.invariant in
     let whole = keys_emit keys (Ok tt) _ _ (rw c.as_slice-key-items.ensures (omega arith)) all in
     rw (← c.as_slice-key-items.ensures) (record { emits = whole; extends = value_extends (Mandatory (map key_number keys)) (Ok tt) _ _ whole })
