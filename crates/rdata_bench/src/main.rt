@@ -5,14 +5,17 @@
 //! is kept, print into a text that is kept, clone, and `==`. Each is the least of five parts of the rounds.
 //!
 //! A second argument, one of these words, takes that column alone and prints nothing: for runs under a counter of requests
-//! for memory. With a third, each value that is read or cloned is compared. In place of the number the word `growth` prints how the time grows with names, pointers, strings and windows.
+//! for memory. With a third, each value that is read or cloned is compared. In place of the number the word
+//! `options` prints how long records of as many options as fit take.
 #![tactic(auto)]
 
 mod columns;
+mod options;
 
 use anyhow::{Context, Result};
 use columns::{Row, column};
 use dns_rdata::RecordType;
+use options::measure_options;
 use std::alloc::Global;
 use std::io;
 use std::io::BufRead;
@@ -73,6 +76,9 @@ fn main(rt: HostRuntime) -> Result<()> {
     let Some(word) = args.next() else {
         return Ok(());
     };
+    if word.as_str() == "options" {
+        return measure_options(&rt);
+    }
     let rounds = word.parse::<u64>()?;
     let only = args.next();
     let compares = args.next().is_some();
