@@ -136,6 +136,10 @@ fn emits_fresh(alloc: Global, row: &mut Row, passes: u64) -> Result<()> {
 }
 
 fn prints(row: &mut Row, passes: u64) -> Result<()> {
+    // OPT has no text.
+    if row.record_type == RecordType::OPT {
+        return Ok(());
+    }
     let Row { values, text, .. } = row;
     for _ in 0..passes {
         for value in values.iter() {

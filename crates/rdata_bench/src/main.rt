@@ -6,15 +6,18 @@
 //!
 //! A second argument, one of these words, takes that column alone and prints nothing: for runs under a counter of requests
 //! for memory. With a third, each value that is read or cloned is compared. In place of the number the word `growth`
-//! prints how the time grows with names, pointers, strings and windows.
+//! prints how the time grows with names, pointers, strings and windows, and `options` how long records of as many options
+//! as fit take.
 #![tactic(auto)]
 
 mod columns;
 mod growth;
+mod options;
 
 use anyhow::{Context, Result};
 use columns::{Row, column, least};
 use dns_rdata::RecordType;
+use options::measure_options;
 use std::alloc::Global;
 use std::io;
 use std::io::BufRead;
@@ -61,6 +64,9 @@ fn main(rt: HostRuntime) -> Result<()> {
     };
     if word.as_str() == "growth" {
         return growth::print_growth(&rt);
+    }
+    if word.as_str() == "options" {
+        return measure_options(&rt);
     }
     let rounds = word.parse::<u64>()?;
     let only = args.next();
