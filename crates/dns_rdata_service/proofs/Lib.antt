@@ -8,6 +8,7 @@ pub mod HintReads
 pub mod Given
 pub mod ValueEmits
 pub mod ParameterLists
+pub mod ParameterCounts
 pub mod ParameterReads
 pub mod ParameterEmits
 pub mod HeadReads

@@ -261,7 +261,7 @@ fn a_length_to_the_end(rt: HostRuntime) -> Result<(), ProtoError> {
     let alloc = rt.alloc();
     let mut octets = many(alloc, 0)?;
     octets.extend_from_slice(b"\x00\x01\xff\xf8")?;
-    while octets.len() < 65535 {
+    for _ in 7..65535 {
         octets.push(0)?;
     }
     if octets.len() < 65536 {
