@@ -10,9 +10,9 @@ use std::rt::Clock;
 use std::time::Instant;
 
 // A value is moved at each call, so its size is part of every figure.
-const _: () = prove!(size_of::<RData>() == 136);
+const _: () = prove!(size_of::<RData>() <= 144);
 
-const _: () = prove!(size_of::<Name>() == 48);
+const _: () = prove!(size_of::<Name>() <= 56);
 
 // The octets in an encoder before another one is begun.
 const KEPT: usize = 60000;
@@ -136,10 +136,6 @@ fn emits_fresh(alloc: Global, row: &mut Row, passes: u64) -> Result<()> {
 }
 
 fn prints(row: &mut Row, passes: u64) -> Result<()> {
-    // OPT has no text.
-    if row.record_type == RecordType::OPT {
-        return Ok(());
-    }
     let Row { values, text, .. } = row;
     for _ in 0..passes {
         for value in values.iter() {
