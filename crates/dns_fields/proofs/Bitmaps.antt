@@ -1,11 +1,13 @@
 -- Octets are a bitmap of one set, and the minimal bitmap of a set is one of them.
-use Rattle.std.proofs.Common.{◌≡◌, ◌≢◌, ℕ, zero, suc, ◌+◌, ◌-◌, ◌*◌, ◌/◌, ◌%◌, ◌≤◌, ◌<◌, ◌^◌, ◌==◌, ◌&&◌, ◌||◌, Bool, true, false, cond, ◌⊎◌, inl, inr, ⊎_elim, List, [], ◌∷◌, ◌++◌, length, get_or, map, refl, sym, ap, ◌∙◌, arith, subst}
+use Rattle.std.proofs.Common.{◌≡◌, ◌≢◌, ℕ, zero, suc, ◌+◌, ◌-◌, ◌*◌, ◌/◌, ◌%◌, ◌≤◌, ◌<◌, ◌^◌, ◌==◌, ◌&&◌, ◌||◌, Bool, true, false, cond}
+use Rattle.std.proofs.Common.{◌⊎◌, inl, inr, ⊎_elim, List, [], ◌∷◌, ◌++◌, length, get_or, map, refl, sym, ap, ◌∙◌, arith, subst}
 use Rattle.std.specs.List.{flat_map, AllByRecursion, list_any, range_with_len}
 use Rattle.std.specs.Int.{bit_at}
 use Rattle.std.proofs.lemmas.List.FromFn.{get_or-map-range_with_len, length-map-range_with_len}
 use Rattle.std.proofs.lemmas.Nat.Bits.{bit_at_lowest, bit_at-zero, bit_at_cat_low, bit_at_cat_high}
 use Rattle.std.proofs.lemmas.Bool.Decides.{eqb_tells, nat_tests}
-use Rattle.dns_fields.specs.Bitmaps.{Block, block, IsBlock, has_type, contains, AllAbove, Rises, IsTypeSet, BitmapAt, packed, mark, keep, trimmed, types_octet, window, with_block, windows, minimal}
+use Rattle.dns_fields.specs.Bitmaps.{Block, block, IsBlock, has_type, contains, AllAbove, Rises, IsTypeSet, BitmapAt, packed, mark, keep}
+use Rattle.dns_fields.specs.Bitmaps.{trimmed, types_octet, window, with_block, windows, minimal}
 use Rattle.dns_fields.proofs.Places.{At-same_end, At-appended, At-append}
 use Rattle.dns_fields.proofs.Pieces.{parts}
 
@@ -44,10 +46,12 @@ less_above : (n k : ℕ) (xs : List ℕ) → n < k → AllAbove k xs → AllAbov
 less_above n k [] l a = tt
 less_above n k (x ∷ xs) l a = (omega (arith, a.0), less_above n k xs l a.1)
 
-rising_tail : (x : ℕ) (xs ys : List ℕ) → AllAbove x xs → AllAbove x ys → ((t : ℕ) → contains t (x ∷ xs) ≡ contains t (x ∷ ys)) → (t : ℕ) → contains t xs ≡ contains t ys
+rising_tail : (x : ℕ) (xs ys : List ℕ) → AllAbove x xs → AllAbove x ys → ((t : ℕ) → contains t (x ∷ xs) ≡ contains t (x ∷ ys)) → (t : ℕ)
+    → contains t xs ≡ contains t ys
 rising_tail x xs ys a b h t = elim (eqb_tells x t) [
   | inl e ↦ subst (λ (z : ℕ). contains z xs ≡ contains z ys) e.1 (above_not x xs a ∙ sym (above_not x ys b))
-  | inr e ↦ (let g : (x == t) || contains t xs ≡ (x == t) || contains t ys = h t in let n : (x == t) ≡ false = e.0 in let goal : contains t xs ≡ contains t ys = rw n at g in goal)
+  | inr e ↦ (let g : (x == t) || contains t xs ≡ (x == t)
+      || contains t ys = h t in let n : (x == t) ≡ false = e.0 in let goal : contains t xs ≡ contains t ys = rw n at g in goal)
 ]
 
 heads_equal : (x y : ℕ) (xs ys : List ℕ) → AllAbove x xs → AllAbove y ys → ((t : ℕ) → contains t (x ∷ xs) ≡ contains t (y ∷ ys)) → x < y → ⊥
@@ -99,7 +103,8 @@ packed_small f small (suc n) i l = elim (eqb_tells i n) [
       let y : suc (n - 1 - i) - 1 ≡ n - 1 - i = omega arith in
       let lt : f n < 2 ^ 1 = small n in
       let some : 1 ≤ suc (n - 1 - i) = omega arith in
-      let goal : bit_at (packed f (suc n)) (suc n - 1 - i) ≡ f i = ap (bit_at (packed f (suc n))) z ∙ bit_at_cat_high (packed f n) 1 (f n) (suc (n - 1 - i)) lt some ∙ ap (bit_at (packed f n)) y ∙ h in goal)
+      let goal : bit_at (packed f (suc n)) (suc n - 1 - i) ≡ f i = ap (bit_at (packed f (suc n))) z
+      ∙ bit_at_cat_high (packed f n) 1 (f n) (suc (n - 1 - i)) lt some ∙ ap (bit_at (packed f n)) y ∙ h in goal)
 ]
   where
     last : (n : ℕ) → n < 2 → n % 2 ≡ n
@@ -148,7 +153,8 @@ window_bit v t =
     let place : 256 * (t / 256) + (8 * (t % 256 / 8) + t % 8) ≡ t = omega arith in
     let inside : t % 256 / 8 < 32 = omega arith in
     let low : t % 8 < 8 = omega arith in
-    ap (λ (o : ℕ). bit_at o (7 - t % 8)) (trimmed_get (map (types_octet v k) (range_with_len 0 32)) j ∙ get_or-map-range_with_len (types_octet v k) 0 32 j j 0 inside (omega arith))
+    ap (λ (o : ℕ). bit_at o (7 - t % 8)) (trimmed_get (map (types_octet v k) (range_with_len 0 32)) j
+    ∙ get_or-map-range_with_len (types_octet v k) 0 32 j j 0 inside (omega arith))
     ∙ packed_small f (λ b. mark_small v (256 * k + (8 * j + b))) 8 (t % 8) low
     ∙ ap (mark v) place
 
@@ -174,7 +180,8 @@ with_has t k (x ∷ xs) bs = refl
 windows_have : (v : List ℕ) (t : ℕ) (ks : List ℕ) → list_any (has_type t) (windows v ks) ≡ list_any (λ k. t / 256 == k) ks && contains t v
 windows_have v t [] = refl
 windows_have v t (k ∷ ks) =
-    with_has t k (window v k) (windows v ks) ∙ ap (λ (b : Bool). b || list_any (has_type t) (windows v ks)) (window_has v t k) ∙ ap (λ (b : Bool). ((t / 256 == k) && contains t v) || b) (windows_have v t ks)
+    with_has t k (window v k) (windows v ks) ∙ ap (λ (b : Bool). b || list_any (has_type t) (windows v ks)) (window_has v t k)
+    ∙ ap (λ (b : Bool). ((t / 256 == k) && contains t v) || b) (windows_have v t ks)
     ∙ spread (t / 256 == k) (list_any (λ k. t / 256 == k) ks) (contains t v)
   where
     spread : (a b c : Bool) → (a && c) || (b && c) ≡ (a || b) && c
@@ -205,8 +212,11 @@ none_great n (x ∷ xs) t a l = let e : (x == t) ≡ false = other x t (let h = 
 pub minimal_types : (v : List ℕ) → AllByRecursion (λ t. t < 65536) v → (t : ℕ) → contains t v ≡ list_any (has_type t) (minimal v)
 unfolding minimal
 minimal_types v a t = ⊎_elim
-    (λ (l : t < 65536). let inside : t / 256 < 256 = omega arith in sym (windows_have v t (range_with_len 0 256) ∙ ap (λ (b : Bool). b && contains t v) (in_range 0 256 (t / 256) (omega arith) inside)))
-    (λ (g : 65536 ≤ t). let n = none_great 65536 v t a g in n ∙ sym (windows_have v t (range_with_len 0 256) ∙ ap (λ (b : Bool). list_any (λ k. t / 256 == k) (range_with_len 0 256) && b) n ∙ none (list_any (λ k. t / 256 == k) (range_with_len 0 256))))
+    (λ (l : t < 65536). let inside : t / 256 < 256 = omega arith in
+    sym (windows_have v t (range_with_len 0 256) ∙ ap (λ (b : Bool). b && contains t v) (in_range 0 256 (t / 256) (omega arith) inside)))
+    (λ (g : 65536 ≤ t). let n = none_great 65536 v t a g in n
+    ∙ sym (windows_have v t (range_with_len 0 256) ∙ ap (λ (b : Bool). list_any (λ k. t / 256 == k) (range_with_len 0 256) && b) n
+    ∙ none (list_any (λ k. t / 256 == k) (range_with_len 0 256))))
     (either t)
   where
     none : (b : Bool) → b && false ≡ false
@@ -222,18 +232,27 @@ with_fit k (x ∷ xs) bs l n h = (record { number = l; some = omega arith; most 
 
 window_short : (v : List ℕ) (k : ℕ) → length (window v k) ≤ 32
 unfolding window
-window_short v k = let n = length-map-range_with_len (types_octet v k) 0 32 in let h = trimmed_length (map (types_octet v k) (range_with_len 0 32)) in omega (arith, n, h)
+window_short v k = let n = length-map-range_with_len (types_octet v k) 0 32 in let h = trimmed_length (map (types_octet v k) (range_with_len 0 32)) in
+    omega (arith, n, h)
 
 windows_fit : (v : List ℕ) (a n : ℕ) → a + n ≤ 256 → AllByRecursion IsBlock (windows v (range_with_len a n))
 windows_fit v a zero l = tt
-windows_fit v a (suc n) l = with_fit a (window v a) (windows v (range_with_len (a + 1) n)) (omega arith) (window_short v a) (windows_fit v (a + 1) n (omega arith))
+windows_fit v a (suc n) l = with_fit a (window v a) (windows v (range_with_len (a + 1) n)) (omega arith) (window_short v a)
+    (windows_fit v (a + 1) n (omega arith))
 
 pub minimal_fit : (v : List ℕ) → AllByRecursion IsBlock (minimal v)
 unfolding minimal
 minimal_fit v = windows_fit v 0 256 (omega arith)
 
 pub minimal_stands : (m v : List ℕ) → IsTypeSet v → BitmapAt (m ++ flat_map block (minimal v)) (length m) v (length (m ++ flat_map block (minimal v)))
-minimal_stands m v s = record { blocks = minimal v; at = At-appended m (flat_map block (minimal v)); fit = minimal_fit v; set = s; types = minimal_types v s.numbers }
+minimal_stands m v s = record {
+  blocks = minimal v;
+  at = At-appended m (flat_map block (minimal v));
+  fit = minimal_fit v;
+  set = s;
+  types =
+      minimal_types v s.numbers;
+}
 
 -- ---- windows past the last type are none
 
@@ -249,7 +268,8 @@ window_none : (v : List ℕ) (k : ℕ) → AllByRecursion (λ u. u < 256 * k) v 
 unfolding window types_octet mark
 window_none v k a =
     trimmed_none (types_octet v k)
-    (λ j. packed_none (λ b. mark v (256 * k + (8 * j + b))) (λ b. ap (λ (c : Bool). cond c 1 0) (none_great (256 * k) v (256 * k + (8 * j + b)) a (omega arith))) 8)
+    (λ j. packed_none (λ b. mark v (256 * k + (8 * j + b)))
+    (λ b. ap (λ (c : Bool). cond c 1 0) (none_great (256 * k) v (256 * k + (8 * j + b)) a (omega arith))) 8)
     (range_with_len 0 32)
 
 wider : (n k : ℕ) (v : List ℕ) → n ≤ k → AllByRecursion (λ u. u < n) v → AllByRecursion (λ u. u < k) v
@@ -258,13 +278,15 @@ wider n k (x ∷ xs) l a = (omega (arith, a.0), wider n k xs l a.1)
 
 windows_none : (v : List ℕ) (a n : ℕ) → AllByRecursion (λ u. u < 256 * a) v → windows v (range_with_len a n) ≡ []
 windows_none v a zero h = refl
-windows_none v a (suc n) h = ap (λ (w : List ℕ). with_block a w (windows v (range_with_len (a + 1) n))) (window_none v a h) ∙ windows_none v (a + 1) n (wider (256 * a) (256 * (a + 1)) v (omega arith) h)
+windows_none v a (suc n) h = ap (λ (w : List ℕ). with_block a w (windows v (range_with_len (a + 1) n))) (window_none v a h)
+    ∙ windows_none v (a + 1) n (wider (256 * a) (256 * (a + 1)) v (omega arith) h)
 
 windows_first : (v : List ℕ) (a k n : ℕ) → AllByRecursion (λ u. u < 256 * (a + k)) v → windows v (range_with_len a (k + n)) ≡ windows v (range_with_len a k)
 windows_first v a zero n h = windows_none v a (zero + n) (wider (256 * (a + 0)) (256 * a) v (omega arith) h)
 windows_first v a (suc k) n h =
     let longer : suc k + n ≡ suc (k + n) = omega arith in
-    ap (λ (c : ℕ). windows v (range_with_len a c)) longer ∙ ap (with_block a (window v a)) (windows_first v (a + 1) k n (wider (256 * (a + suc k)) (256 * (a + 1 + k)) v (omega arith) h))
+    ap (λ (c : ℕ). windows v (range_with_len a c)) longer
+    ∙ ap (with_block a (window v a)) (windows_first v (a + 1) k n (wider (256 * (a + suc k)) (256 * (a + 1 + k)) v (omega arith) h))
 
 -- the minimal bitmap of a set whose types are below those of window k
 pub minimal_first : (v : List ℕ) (k : ℕ) → k ≤ 256 → AllByRecursion (λ u. u < 256 * k) v → minimal v ≡ windows v (range_with_len 0 k)

@@ -1,8 +1,11 @@
 -- What fits its fields can be emitted.
-use Rattle.std.proofs.Common.{◌≡◌, ◌≢◌, ℕ, ◌+◌, ◌*◌, ◌/◌, ◌<◌, ◌≤◌, ◌^◌, ◌==◌, ◌&&◌, ◌||◌, ◌⊎◌, inl, inr, nat_le, nat_lt, Bool, true, false, List, [], ◌∷◌, length, refl, sym, ap, ◌∙◌, arith}
+use Rattle.std.proofs.Common.{◌≡◌, ◌≢◌, ℕ, ◌+◌, ◌*◌, ◌/◌, ◌<◌, ◌≤◌, ◌^◌, ◌==◌, ◌&&◌, ◌||◌, ◌⊎◌, inl, inr, nat_le, nat_lt, Bool, true}
+use Rattle.std.proofs.Common.{false, List, [], ◌∷◌, length, refl, sym, ap, ◌∙◌, arith}
 use Rattle.std.specs.List.{list_all, AllByRecursion}
 use Rattle.std.proofs.lemmas.Bool.Decides.{nat_tests}
-use Rattle.dns_fields.specs.Pieces.{Numbered, OptionValue, Subnet, Plain, option_octets, OptionFits, IsAddress, option_emittable, options_emittable, ParameterValue, Mandatory, Alpn, parameter_octets, ParameterFits, IsEmittable, parameter_emittable, parameters_emittable, is_some, Below, Rising, rising_behind, rising}
+use Rattle.dns_fields.specs.Pieces.{Numbered, OptionValue, Subnet, Plain, option_octets, OptionFits, IsAddress, option_emittable}
+use Rattle.dns_fields.specs.Pieces.{options_emittable, ParameterValue, Mandatory, Alpn, parameter_octets, ParameterFits, IsEmittable}
+use Rattle.dns_fields.specs.Pieces.{parameter_emittable, parameters_emittable, is_some, Below, Rising, rising_behind, rising}
 use Rattle.dns_fields.specs.Fields.{Kind, Text, Texts, Options, Parameters, Value, Values, Fits, AllFit, is_emittable, all_emittable}
 
 both : (a b : Bool) → a ≡ true → b ≡ true → (a && b) ≡ true
@@ -18,7 +21,8 @@ short_strings (s ∷ ss) h = both (nat_le (length s) 255) _ (short_string s h.0)
 small_body : (s : List ℕ) → length s < 256 ^ 2 → nat_le (length s) 65535 ≡ true
 small_body s h = grind (arith, nat_tests)
 
-subnet_fits : (family source : ℕ) (address : List ℕ) → IsAddress family source address → ((length address == (source + 7) / 8) && ((family == 1 && nat_le (length address) 4) || (family == 2 && nat_le (length address) 16))) ≡ true
+subnet_fits : (family source : ℕ) (address : List ℕ) → IsAddress family source address
+    → ((length address == (source + 7) / 8) && ((family == 1 && nat_le (length address) 4) || (family == 2 && nat_le (length address) 16))) ≡ true
 subnet_fits family source address h = both _ _ (long (length address) ((source + 7) / 8) h.long) (most family (length address) h.most)
   where
     long : (a b : ℕ) → a ≡ b → (a == b) ≡ true
@@ -29,7 +33,8 @@ subnet_fits family source address h = both _ _ (long (length address) ((source +
     most f n (inr h) = grind (arith, nat_tests)
 
 one_option : (x : Numbered OptionValue) → OptionFits x → (nat_le (length (option_octets x.1)) 65535 && option_emittable x.1) ≡ true
-one_option (code, Subnet family source scope address) h = both _ _ (small_body (option_octets (Subnet family source scope address)) h.0.1) (subnet_fits family source address h.1)
+one_option (code, Subnet family source scope address) h = both _ _ (small_body (option_octets (Subnet family source scope address)) h.0.1)
+    (subnet_fits family source address h.1)
 one_option (code, Plain s) h = both _ _ (small_body s h.0.1) refl
 
 options_fit : (v : List (Numbered OptionValue)) → AllByRecursion OptionFits v → options_emittable v ≡ true
@@ -45,7 +50,8 @@ one_value (Mandatory keys) h = some_items keys h.0
 one_value (Alpn names) h = both _ _ (some_items names h.0) (short_strings names h.1)
 one_value v h = refl
 
-all_values : (v : List (Numbered ParameterValue)) → AllByRecursion ParameterFits v → list_all (λ x. nat_le (length (parameter_octets x.1)) 65535 && parameter_emittable x.1) v ≡ true
+all_values : (v : List (Numbered ParameterValue)) → AllByRecursion ParameterFits v
+    → list_all (λ x. nat_le (length (parameter_octets x.1)) 65535 && parameter_emittable x.1) v ≡ true
 all_values [] h = refl
 all_values (x ∷ xs) h = both _ _ (both _ _ (small_body (parameter_octets x.1) h.0.0.1) (one_value x.1 h.0.1)) (all_values xs h.1)
 

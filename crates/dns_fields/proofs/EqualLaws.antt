@@ -75,8 +75,10 @@ pub options_decide : (a b : List (Numbered OptionValue)) → (option_keys a ≡ 
 options_decide a b = (
   λ e.
       let keys : IsPermutation (map option_key a) (map option_key b) = sorted_apart key_cmp (map option_key a) (map option_key b) e in
-      let back : IsPermutation (map option_of (map option_key a)) (map option_of (map option_key b)) = IsPermutation-map option_of (map option_key a) (map option_key b) keys in
-      subst (λ (v : List (Numbered OptionValue)). IsPermutation v b) (options_back a) (subst (λ (v : List (Numbered OptionValue)). IsPermutation (map option_of (map option_key a)) v) (options_back b) back),
+      let back : IsPermutation (map option_of (map option_key a)) (map option_of (map option_key b)) =
+      IsPermutation-map option_of (map option_key a) (map option_key b) keys in
+      subst (λ (v : List (Numbered OptionValue)). IsPermutation v b) (options_back a)
+      (subst (λ (v : List (Numbered OptionValue)). IsPermutation (map option_of (map option_key a)) v) (options_back b) back),
   λ h. sorted_one key_cmp key_total key_same (map option_key a) (map option_key b) (IsPermutation-map option_key a b h),
 )
 

@@ -24,4 +24,5 @@ kind_equiv Bitmap = nat_list_eq_equiv
 
 pub values_equiv : (kinds : List Kind) → IsEquivalence (values_eq kinds)
 values_equiv [] = point_equiv
-values_equiv (k ∷ kinds) = and_equiv (on_equiv (λ (a : Values (k ∷ kinds)). a.0) (kind_equiv k)) (on_equiv (λ (a : Values (k ∷ kinds)). a.1) (values_equiv kinds))
+values_equiv (k ∷ kinds) = and_equiv (on_equiv (λ (a : Values (k ∷ kinds)). a.0) (kind_equiv k))
+    (on_equiv (λ (a : Values (k ∷ kinds)). a.1) (values_equiv kinds))

@@ -1,5 +1,7 @@
 -- The definitions, checked against octets that were worked out by hand.
-use Rattle.std.proofs.Common.{◌≡◌, ◌≢◌, ℕ, zero, suc, ◌-◌, ◌/◌, ◌%◌, ◌≤◌, ◌<◌, ◌^◌, ◌⊎◌, inl, inr, ⊎_elim, false, ◌==◌, ◌&&◌, ◌||◌, List, [], ◌∷◌, ◌++◌, length, take, get_or, refl, sym, ap, ◌∙◌, arith, subst, append_assoc, append-nil, true, IsUtf8}
+use Rattle.std.proofs.Common.{◌≡◌, ◌≢◌, ℕ, zero, suc, ◌-◌, ◌/◌, ◌%◌, ◌≤◌, ◌<◌, ◌^◌, ◌⊎◌, inl, inr, ⊎_elim, false, ◌==◌, ◌&&◌, ◌||◌, List}
+use Rattle.std.proofs.Common.{[], ◌∷◌, ◌++◌, length, take, get_or, refl, sym, ap, ◌∙◌, arith, subst, append_assoc, append-nil, true}
+use Rattle.std.proofs.Common.{IsUtf8}
 use Rattle.std.specs.List.{flat_map, AllByRecursion, list_any}
 use Rattle.std.specs.Int.{bytes_high_first, bit_at}
 use Rattle.std.specs.Str.{IsAscii, is_utf8, chars}
@@ -8,10 +10,18 @@ use Rattle.std.proofs.lemmas.Str.{IsUtf8-from_ascii, is_utf8-from_IsUtf8}
 use Rattle.dns_fields.specs.Octets.{At}
 use Rattle.dns_fields.specs.Names.{LabelsStand, IsNameIn}
 use Rattle.dns_fields.specs.Names.LabelsStand.{whole, pointed}
-use Rattle.dns_fields.specs.Pieces.{IsAddress, string, Numbered, piece, pieces, ArePieces, OptionValue, Subnet, Plain, OptionHeld, AllHeld, IsCut, ParameterValue, ParameterHeld, Rising, Port, Mandatory, Alpn, NoDefaultAlpn, Ipv6Hint, Opaque, form_of, Keys, Names, Nothing, PortNumber}
+use Rattle.dns_fields.specs.Pieces.{IsAddress, string, Numbered, piece, pieces, ArePieces, OptionValue, Subnet, Plain, OptionHeld, AllHeld}
+use Rattle.dns_fields.specs.Pieces.{IsCut, ParameterValue, ParameterHeld, Rising, Port, Mandatory, Alpn, NoDefaultAlpn, Ipv6Hint, Opaque}
+use Rattle.dns_fields.specs.Pieces.{form_of, Keys, Names, Nothing, PortNumber}
 use Rattle.dns_fields.specs.Bitmaps.{Block, block, IsBlock, has_type, minimal, window, types_octet, mark, contains, BitmapAt}
 use Rattle.dns_fields.specs.Fields.{Number, Name, Rest, Options, Parameters, Values, Stands, field_octets, WholeOptions, ParametersAt}
-use Rattle.dns_fields.specs.Examples.{HoldsNone, AddressReads, AddressIsFour, TwoTextsRead, EmptyStringsRead, CutString, RestReads, full, www_label, www_twice, PointedNameReads, CutPointer, PointerToItself, ReservedLabel, LettersRead, MarksApart, example_label, com_label, xxx_label, twenty, StartOfAuthorityReads, CutOptionReads, CutDropsAll, BrokenOption, OptionsInOrder, OptionsCounted, SubnetReads, SubnetOfSixReads, SubnetEnds, ServerIdentifierReads, BrokenSubnet, ServiceReads, MandatoryReads, OctetsOfKeyFive, NoHintsRead, HintOfSixReads, KeysRise, KeysDoNotFall, BrokenProtocols, BrokenParameter, TypesRead, WindowsRead, ZerosDropped, BrokenWindow}
+use Rattle.dns_fields.specs.Examples.{HoldsNone, AddressReads, AddressIsFour, TwoTextsRead, EmptyStringsRead, CutString, RestReads, full}
+use Rattle.dns_fields.specs.Examples.{www_label, www_twice, PointedNameReads, CutPointer, PointerToItself, ReservedLabel, LettersRead}
+use Rattle.dns_fields.specs.Examples.{MarksApart, example_label, com_label, xxx_label, twenty, StartOfAuthorityReads, CutOptionReads}
+use Rattle.dns_fields.specs.Examples.{CutDropsAll, BrokenOption, OptionsInOrder, OptionsCounted, SubnetReads, SubnetOfSixReads, SubnetEnds}
+use Rattle.dns_fields.specs.Examples.{ServerIdentifierReads, BrokenSubnet, ServiceReads, MandatoryReads, OctetsOfKeyFive, NoHintsRead}
+use Rattle.dns_fields.specs.Examples.{HintOfSixReads, KeysRise, KeysDoNotFall, BrokenProtocols, BrokenParameter, TypesRead, WindowsRead}
+use Rattle.dns_fields.specs.Examples.{ZerosDropped, BrokenWindow}
 use Rattle.dns_fields.proofs.Numbers.{length-bytes}
 use Rattle.dns_fields.proofs.Runs.{no_labels}
 use Rattle.dns_fields.proofs.NameLaws.{name_same}
@@ -128,7 +138,14 @@ unfolding field_octets
 start_of_authority_reads = record {
   stands = (
     17,
-    record { is = record { stands = whole (0x03 ∷ 0x78 ∷ 0x78 ∷ 0x78 ∷ 0xc0 ∷ 0x04 ∷ twenty) ((omega arith, omega arith), ((omega arith, omega arith), ((omega arith, omega arith), tt))) refl refl; fits = omega arith; qualified = refl } },
+    record {
+      is = record {
+        stands = whole (0x03 ∷ 0x78 ∷ 0x78 ∷ 0x78 ∷ 0xc0 ∷ 0x04 ∷ twenty)
+            ((omega arith, omega arith), ((omega arith, omega arith), ((omega arith, omega arith), tt))) refl refl;
+        fits = omega arith;
+        qualified = refl;
+      };
+    },
     (
       23,
       record {
@@ -164,7 +181,8 @@ start_of_authority_reads = record {
 -- ---- options
 
 -- options that stand whole
-whole_options : (m : List ℕ) (v : List (Numbered OptionValue)) (read : List (Numbered (List ℕ))) → pieces read ≡ m → ArePieces read → AllHeld OptionHeld read v → Stands m 0 (Options ∷ []) (v, tt) (length m)
+whole_options : (m : List ℕ) (v : List (Numbered OptionValue)) (read : List (Numbered (List ℕ))) → pieces read ≡ m → ArePieces read
+    → AllHeld OptionHeld read v → Stands m 0 (Options ∷ []) (v, tt) (length m)
 whole_options m v read e fit held =
     (length m, record { is = inl (record { read = read; at = rw (← e) (At-all (pieces read)); fit = fit; held = held }) }, refl)
   where
@@ -203,7 +221,8 @@ cut_option_reads = (
     cut = (10, omega arith, inr (5, 0x01 ∷ 0x02 ∷ [], omega arith, omega arith, omega arith, refl))
 
 -- a cut behind one whole option that holds a value
-cut_behind : (m : List ℕ) (x : Numbered (List ℕ)) (v : Numbered OptionValue) (stub : List ℕ) → piece x ++ stub ≡ m → ArePieces (x ∷ []) → AllHeld OptionHeld (x ∷ []) (v ∷ []) → IsCut (length m - 0) stub → Stands m 0 (Options ∷ []) ([], tt) (length m)
+cut_behind : (m : List ℕ) (x : Numbered (List ℕ)) (v : Numbered OptionValue) (stub : List ℕ) → piece x ++ stub ≡ m → ArePieces (x ∷ [])
+    → AllHeld OptionHeld (x ∷ []) (v ∷ []) → IsCut (length m - 0) stub → Stands m 0 (Options ∷ []) ([], tt) (length m)
 cut_behind m x v stub e fit held cut = (
   length m,
   record {
@@ -213,7 +232,12 @@ cut_behind m x v stub e fit held cut = (
         read = x ∷ [];
         dropped = v ∷ [];
         stub = stub;
-        at = record { ends = omega (arith, ap length whole); within = omega arith; same = take_all (length (pieces (x ∷ []) ++ stub)) m (omega (arith, ap length whole)) ∙ sym whole };
+        at = record {
+          ends = omega (arith, ap length whole);
+          within = omega arith;
+          same =
+              take_all (length (pieces (x ∷ []) ++ stub)) m (omega (arith, ap length whole)) ∙ sym whole;
+        };
         fit = fit;
         held = held;
         cut = cut;
@@ -229,12 +253,21 @@ cut_behind m x v stub e fit held cut = (
 pub cut_drops_all : CutDropsAll
 unfolding field_octets
 cut_drops_all = (
-  record { stands = cut_behind (0x00 ∷ 0x0f ∷ 0x00 ∷ 0x01 ∷ 0x05 ∷ 0x00 ∷ 0x0a ∷ []) (15, 0x05 ∷ []) (15, Plain (0x05 ∷ [])) (0x00 ∷ 0x0a ∷ []) refl ((omega arith, omega arith), tt) (refl, (λ e. omega arith, refl), tt) (10, omega arith, inl refl); canonical_octets = refl },
-  record { stands = cut_option (0x00 ∷ 0x0a ∷ 0x00 ∷ 0x09 ∷ 0x00 ∷ 0x0f ∷ 0x00 ∷ 0x01 ∷ 0x05 ∷ []) [] (10, omega arith, inr (9, 0x00 ∷ 0x0f ∷ 0x00 ∷ 0x01 ∷ 0x05 ∷ [], omega arith, omega arith, omega arith, refl)); canonical_octets = refl },
+  record {
+    stands = cut_behind (0x00 ∷ 0x0f ∷ 0x00 ∷ 0x01 ∷ 0x05 ∷ 0x00 ∷ 0x0a ∷ []) (15, 0x05 ∷ []) (15, Plain (0x05 ∷ [])) (0x00 ∷ 0x0a ∷ []) refl
+        ((omega arith, omega arith), tt) (refl, (λ e. omega arith, refl), tt) (10, omega arith, inl refl);
+    canonical_octets = refl;
+  },
+  record {
+    stands = cut_option (0x00 ∷ 0x0a ∷ 0x00 ∷ 0x09 ∷ 0x00 ∷ 0x0f ∷ 0x00 ∷ 0x01 ∷ 0x05 ∷ []) []
+        (10, omega arith, inr (9, 0x00 ∷ 0x0f ∷ 0x00 ∷ 0x01 ∷ 0x05 ∷ [], omega arith, omega arith, omega arith, refl));
+    canonical_octets = refl;
+  },
 )
 
 -- no piece begins where a length asks for more octets than there are
-past_end : (c l : ℕ) (y : List ℕ) (x : Numbered (List ℕ)) (r : List ℕ) → c < 256 ^ 2 → l < 256 ^ 2 → length y < l → (x.0 < 256 ^ 2) × (length x.1 < 256 ^ 2) → piece x ++ r ≡ bytes_high_first 2 c ++ (bytes_high_first 2 l ++ y) → ⊥
+past_end : (c l : ℕ) (y : List ℕ) (x : Numbered (List ℕ)) (r : List ℕ) → c < 256 ^ 2 → l < 256 ^ 2 → length y < l → (x.0 < 256 ^ 2) × (length x.1 < 256 ^ 2)
+    → piece x ++ r ≡ bytes_high_first 2 c ++ (bytes_high_first 2 l ++ y) → ⊥
 past_end c l y x r p q short fit e =
     let h = heads_same x.0 c (length x.1) l (x.1 ++ r) y fit.0 p fit.1 q (sym (piece_before x r) ∙ e) in
     omega (arith, h.1, ap length h.2, length-append x.1 r)
@@ -247,7 +280,8 @@ broken_option = (length_past, λ v f. odd (0x00 ∷ []) v (omega arith, omega ar
     no_pieces (x ∷ xs) fit e = past_end 10 5 [] x (pieces xs) (omega arith) (omega arith) (omega arith) fit.0 e
 
     no_cut : (xs : List (Numbered (List ℕ))) (s : List ℕ) (n : ℕ) → n ≡ 4 → ArePieces xs → IsCut n s → pieces xs ++ s ≡ 0x00 ∷ 0x0a ∷ 0x00 ∷ 0x05 ∷ [] → ⊥
-    no_cut (x ∷ xs) s n four fit c e = past_end 10 5 [] x (pieces xs ++ s) (omega arith) (omega arith) (omega arith) fit.0 (sym (append_assoc (piece x) (pieces xs) s) ∙ e)
+    no_cut (x ∷ xs) s n four fit c e = past_end 10 5 [] x (pieces xs ++ s) (omega arith) (omega arith) (omega arith) fit.0
+        (sym (append_assoc (piece x) (pieces xs) s) ∙ e)
     no_cut [] s n four fit c e = ⊎_elim
         (λ (code : s ≡ bytes_high_first 2 c.0). omega (arith, ap length code, ap length e, length-bytes 2 c.0))
         (λ h.
@@ -257,8 +291,10 @@ broken_option = (length_past, λ v f. odd (0x00 ∷ []) v (omega arith, omega ar
 
     length_past : HoldsNone (0x00 ∷ 0x0a ∷ 0x00 ∷ 0x05 ∷ []) 0 4 (Options ∷ [])
     length_past v f = ⊎_elim
-        (λ (w : WholeOptions (0x00 ∷ 0x0a ∷ 0x00 ∷ 0x05 ∷ []) 0 v.0 f.0). no_pieces w.read w.fit (At-whole (0x00 ∷ 0x0a ∷ 0x00 ∷ 0x05 ∷ []) (pieces w.read) f.0 w.at f.2))
-        (λ c. no_cut c.1.read c.1.stub (f.0 - 0) (omega (arith, f.2)) c.1.fit c.1.cut (At-whole (0x00 ∷ 0x0a ∷ 0x00 ∷ 0x05 ∷ []) (pieces c.1.read ++ c.1.stub) f.0 c.1.at f.2))
+        (λ (w : WholeOptions (0x00 ∷ 0x0a ∷ 0x00 ∷ 0x05 ∷ []) 0 v.0 f.0). no_pieces w.read w.fit
+        (At-whole (0x00 ∷ 0x0a ∷ 0x00 ∷ 0x05 ∷ []) (pieces w.read) f.0 w.at f.2))
+        (λ c. no_cut c.1.read c.1.stub (f.0 - 0) (omega (arith, f.2)) c.1.fit c.1.cut
+        (At-whole (0x00 ∷ 0x0a ∷ 0x00 ∷ 0x05 ∷ []) (pieces c.1.read ++ c.1.stub) f.0 c.1.at f.2))
         f.1.is
 
     -- whole options are none or at least four octets, and what is cut has two or at least four
@@ -269,20 +305,30 @@ broken_option = (length_past, λ v f. odd (0x00 ∷ []) v (omega arith, omega ar
     cut_long : (n : ℕ) (s : List ℕ) → IsCut n s → (length s ≡ 2) ⊎ (4 ≤ length s)
     cut_long n s c = ⊎_elim
         (λ (e : s ≡ bytes_high_first 2 c.0). inl (ap length e ∙ length-bytes 2 c.0))
-        (λ h. inr (omega (arith, ap length h.5, length-append (bytes_high_first 2 c.0) (bytes_high_first 2 h.0 ++ h.1), length-append (bytes_high_first 2 h.0) h.1, length-bytes 2 c.0, length-bytes 2 h.0)))
+        (λ h. inr (omega (
+          arith,
+          ap length h.5,
+          length-append (bytes_high_first 2 c.0) (bytes_high_first 2 h.0 ++ h.1),
+          length-append
+              (bytes_high_first 2 h.0) h.1,
+          length-bytes 2 c.0,
+          length-bytes 2 h.0,
+        )))
         c.2
 
     odd : (m : List ℕ) (v : Values (Options ∷ [])) → (length m < 4) × (length m % 2 ≡ 1) → Stands m 0 (Options ∷ []) v (length m) → ⊥
     odd m v n f = ⊎_elim
         (λ (w : WholeOptions m 0 v.0 f.0). let e = ap length (At-whole m (pieces w.read) f.0 w.at f.2) in omega (arith, long w.read, e, n.0, n.1))
-        (λ c. let e = ap length (At-whole m (pieces c.1.read ++ c.1.stub) f.0 c.1.at f.2) in omega (arith, long c.1.read, cut_long (f.0 - 0) c.1.stub c.1.cut, length-append (pieces c.1.read) c.1.stub, e, n.0, n.1))
+        (λ c. let e = ap length (At-whole m (pieces c.1.read ++ c.1.stub) f.0 c.1.at f.2) in
+        omega (arith, long c.1.read, cut_long (f.0 - 0) c.1.stub c.1.cut, length-append (pieces c.1.read) c.1.stub, e, n.0, n.1))
         f.1.is
 
 pub options_in_order : OptionsInOrder
 unfolding field_octets
 options_in_order = (
   record {
-    stands = whole_options (0x00 ∷ 0x0f ∷ 0x00 ∷ 0x01 ∷ 0x05 ∷ 0x00 ∷ 0x0a ∷ 0x00 ∷ 0x01 ∷ 0x05 ∷ []) ((15, Plain (0x05 ∷ [])) ∷ (10, Plain (0x05 ∷ [])) ∷ []) ((15, 0x05 ∷ []) ∷ (10, 0x05 ∷ []) ∷ []) refl
+    stands = whole_options (0x00 ∷ 0x0f ∷ 0x00 ∷ 0x01 ∷ 0x05 ∷ 0x00 ∷ 0x0a ∷ 0x00 ∷ 0x01 ∷ 0x05 ∷ [])
+        ((15, Plain (0x05 ∷ [])) ∷ (10, Plain (0x05 ∷ [])) ∷ []) ((15, 0x05 ∷ []) ∷ (10, 0x05 ∷ []) ∷ []) refl
         ((omega arith, omega arith), ((omega arith, omega arith), tt)) (refl, (λ e. omega arith, refl), (refl, (λ e. omega arith, refl), tt));
     canonical_octets = refl;
   },
@@ -299,7 +345,8 @@ pub subnet_reads : SubnetReads
 unfolding field_octets
 subnet_reads = record {
   stands = whole_options
-      (0x00 ∷ 0x0a ∷ 0x00 ∷ 0x08 ∷ 0x0b ∷ 0x64 ∷ 0xb4 ∷ 0xdc ∷ 0xd7 ∷ 0xb0 ∷ 0xcc ∷ 0x8f ∷ 0x00 ∷ 0x08 ∷ 0x00 ∷ 0x04 ∷ 0x00 ∷ 0x01 ∷ 0x00 ∷ 0x00 ∷ 0x00 ∷ 0x0b ∷ 0x00 ∷ 0x00 ∷ [])
+      (0x00 ∷ 0x0a ∷ 0x00 ∷ 0x08 ∷ 0x0b ∷ 0x64 ∷ 0xb4 ∷ 0xdc ∷ 0xd7 ∷ 0xb0 ∷ 0xcc ∷ 0x8f ∷ 0x00 ∷ 0x08 ∷ 0x00 ∷ 0x04 ∷ 0x00 ∷ 0x01 ∷ 0x00 ∷ 0x00 ∷ 0x00 ∷
+      0x0b ∷ 0x00 ∷ 0x00 ∷ [])
       ((10, Plain cookie) ∷ (8, Subnet 1 0 0 []) ∷ (11, Plain []) ∷ [])
       ((10, cookie) ∷ (8, 0x00 ∷ 0x01 ∷ 0x00 ∷ 0x00 ∷ []) ∷ (11, []) ∷ [])
       refl
@@ -320,21 +367,24 @@ subnet_of_six_reads = record {
 pub server_identifier_reads : ServerIdentifierReads
 unfolding field_octets
 server_identifier_reads = record {
-  stands = whole_options (0x00 ∷ 0x03 ∷ 0x00 ∷ 0x03 ∷ 0xc0 ∷ 0xff ∷ 0xee ∷ []) ((3, Plain (0xc0 ∷ 0xff ∷ 0xee ∷ [])) ∷ []) ((3, 0xc0 ∷ 0xff ∷ 0xee ∷ []) ∷ []) refl ((omega arith, omega arith), tt) (refl, (λ e. omega arith, refl), tt);
+  stands = whole_options (0x00 ∷ 0x03 ∷ 0x00 ∷ 0x03 ∷ 0xc0 ∷ 0xff ∷ 0xee ∷ []) ((3, Plain (0xc0 ∷ 0xff ∷ 0xee ∷ [])) ∷ [])
+      ((3, 0xc0 ∷ 0xff ∷ 0xee ∷ []) ∷ []) refl ((omega arith, omega arith), tt) (refl, (λ e. omega arith, refl), tt);
   canonical_octets = refl;
 }
 
 pub subnet_ends : SubnetEnds
 unfolding field_octets
 subnet_ends = record {
-  stands = whole_options (0x00 ∷ 0x08 ∷ 0x00 ∷ 0x09 ∷ 0x00 ∷ 0x01 ∷ 0x19 ∷ 0x00 ∷ 0xac ∷ 0x01 ∷ 0x01 ∷ 0xff ∷ 0xff ∷ []) ((8, Subnet 1 25 0 (0xac ∷ 0x01 ∷ 0x01 ∷ 0xff ∷ [])) ∷ [])
+  stands = whole_options (0x00 ∷ 0x08 ∷ 0x00 ∷ 0x09 ∷ 0x00 ∷ 0x01 ∷ 0x19 ∷ 0x00 ∷ 0xac ∷ 0x01 ∷ 0x01 ∷ 0xff ∷ 0xff ∷ [])
+      ((8, Subnet 1 25 0 (0xac ∷ 0x01 ∷ 0x01 ∷ 0xff ∷ [])) ∷ [])
       ((8, 0x00 ∷ 0x01 ∷ 0x19 ∷ 0x00 ∷ 0xac ∷ 0x01 ∷ 0x01 ∷ 0xff ∷ 0xff ∷ []) ∷ []) refl ((omega arith, omega arith), tt)
       (refl, (refl, record { long = refl; most = inl (refl, omega arith) }, 0xff ∷ [], refl), tt);
   canonical_octets = refl;
 }
 
 -- pieces that fill the message and hold no options
-no_options : (m : List ℕ) (known : List (Numbered (List ℕ))) → ArePieces known → pieces known ≡ m → ((v : List (Numbered OptionValue)) → AllHeld OptionHeld known v → ⊥) → HoldsNone m 0 (length m) (Options ∷ [])
+no_options : (m : List ℕ) (known : List (Numbered (List ℕ))) → ArePieces known → pieces known ≡ m
+    → ((v : List (Numbered OptionValue)) → AllHeld OptionHeld known v → ⊥) → HoldsNone m 0 (length m) (Options ∷ [])
 no_options m known fit e none v f = ⊎_elim
     (λ (w : WholeOptions m 0 v.0 f.0).
     let same : w.read ≡ known = pieces_same w.read known w.fit fit (At-whole m (pieces w.read) f.0 w.at f.2 ∙ sym e) in
@@ -343,7 +393,8 @@ no_options m known fit e none v f = ⊎_elim
     f.1.is
 
 -- the family, the source prefix and the address of a subnet whose octets begin with these
-subnet_begins : (family source scope : ℕ) (rest : List ℕ) (k : ℕ) (w : OptionValue) → 8 ≡ k → family < 256 ^ 2 → OptionHeld k (bytes_high_first 2 family ++ (source ∷ scope ∷ rest)) w → (address : List ℕ) × IsAddress family source address
+subnet_begins : (family source scope : ℕ) (rest : List ℕ) (k : ℕ) (w : OptionValue) → 8 ≡ k → family < 256 ^ 2
+    → OptionHeld k (bytes_high_first 2 family ++ (source ∷ scope ∷ rest)) w → (address : List ℕ) × IsAddress family source address
 subnet_begins family source scope rest k (Subnet f s c a) e l h =
     let small : f < 256 ^ 2 = ⊎_elim (λ x. omega (arith, x.0)) (λ x. omega (arith, x.0)) h.1.most in
     let n = number_first f family (s ∷ c ∷ (a ++ h.2)) (source ∷ scope ∷ rest) small l (sym h.3) in
@@ -354,8 +405,10 @@ subnet_begins family source scope rest k (Plain s) e l h = absurd (h.0 (sym e))
 
 pub broken_subnet : BrokenSubnet
 broken_subnet = (
-  no_options (0x00 ∷ 0x08 ∷ 0x00 ∷ 0x04 ∷ 0x00 ∷ 0x03 ∷ 0x00 ∷ 0x00 ∷ []) ((8, 0x00 ∷ 0x03 ∷ 0x00 ∷ 0x00 ∷ []) ∷ []) ((omega arith, omega arith), tt) refl family_three,
-  no_options (0x00 ∷ 0x08 ∷ 0x00 ∷ 0x09 ∷ 0x00 ∷ 0x01 ∷ 0x21 ∷ 0x00 ∷ 0x01 ∷ 0x02 ∷ 0x03 ∷ 0x04 ∷ 0x05 ∷ []) ((8, 0x00 ∷ 0x01 ∷ 0x21 ∷ 0x00 ∷ 0x01 ∷ 0x02 ∷ 0x03 ∷ 0x04 ∷ 0x05 ∷ []) ∷ []) ((omega arith, omega arith), tt) refl prefix_33,
+  no_options (0x00 ∷ 0x08 ∷ 0x00 ∷ 0x04 ∷ 0x00 ∷ 0x03 ∷ 0x00 ∷ 0x00 ∷ []) ((8, 0x00 ∷ 0x03 ∷ 0x00 ∷ 0x00 ∷ []) ∷ []) ((omega arith, omega arith), tt) refl
+      family_three,
+  no_options (0x00 ∷ 0x08 ∷ 0x00 ∷ 0x09 ∷ 0x00 ∷ 0x01 ∷ 0x21 ∷ 0x00 ∷ 0x01 ∷ 0x02 ∷ 0x03 ∷ 0x04 ∷ 0x05 ∷ [])
+      ((8, 0x00 ∷ 0x01 ∷ 0x21 ∷ 0x00 ∷ 0x01 ∷ 0x02 ∷ 0x03 ∷ 0x04 ∷ 0x05 ∷ []) ∷ []) ((omega arith, omega arith), tt) refl prefix_33,
 )
   where
     family_three : (v : List (Numbered OptionValue)) → AllHeld OptionHeld ((8, 0x00 ∷ 0x03 ∷ 0x00 ∷ 0x00 ∷ []) ∷ []) v → ⊥
@@ -373,7 +426,8 @@ broken_subnet = (
 -- ---- parameters
 
 -- values in pieces that are known to fill the message
-known_held : (m : List ℕ) (known : List (Numbered (List ℕ))) → ArePieces known → pieces known ≡ m → (v : Values (Parameters ∷ [])) → Stands m 0 (Parameters ∷ []) v (length m) → AllHeld ParameterHeld known v.0
+known_held : (m : List ℕ) (known : List (Numbered (List ℕ))) → ArePieces known → pieces known ≡ m → (v : Values (Parameters ∷ []))
+    → Stands m 0 (Parameters ∷ []) v (length m) → AllHeld ParameterHeld known v.0
 known_held m known fit e v f =
     let g : ParametersAt m 0 v.0 f.0 = f.1.is in
     let same : g.read ≡ known = pieces_same g.read known g.fit fit (At-whole m (pieces g.read) f.0 g.at f.2 ∙ sym e) in
@@ -392,7 +446,14 @@ service_reads = record {
     record { is = (omega arith, record { ends = refl; within = omega arith; same = refl }) },
     (
       3,
-      record { is = record { stands = whole (0x00 ∷ 0x01 ∷ 0x00 ∷ 0x03 ∷ 0x02 ∷ 0x68 ∷ 0x32 ∷ 0x00 ∷ 0x03 ∷ 0x00 ∷ 0x04 ∷ 0x01 ∷ 0xbb ∷ 0xff ∷ 0xff ∷ []) tt refl refl; fits = omega arith; qualified = refl } },
+      record {
+        is = record {
+          stands = whole (0x00 ∷ 0x01 ∷ 0x00 ∷ 0x03 ∷ 0x02 ∷ 0x68 ∷ 0x32 ∷ 0x00 ∷ 0x03 ∷ 0x00 ∷ 0x04 ∷ 0x01 ∷ 0xbb ∷ 0xff ∷ 0xff ∷ []) tt
+              refl refl;
+          fits = omega arith;
+          qualified = refl;
+        };
+      },
       (
         18,
         record {
@@ -400,7 +461,11 @@ service_reads = record {
             read = (1, 0x02 ∷ 0x68 ∷ 0x32 ∷ []) ∷ (3, 0x01 ∷ 0xbb ∷ 0xff ∷ 0xff ∷ []) ∷ [];
             at = record { ends = refl; within = omega arith; same = refl };
             fit = ((omega arith, omega arith), ((omega arith, omega arith), tt));
-            held = (refl, (refl, (λ e. cc e, (omega arith, tt)), ((IsUtf8-from_ascii (0x68 ∷ 0x32 ∷ []) h2_ascii, tt), refl)), (refl, (refl, omega arith, (0xff ∷ 0xff ∷ [], refl)), tt));
+            held = (
+              refl,
+              (refl, (λ e. cc e, (omega arith, tt)), ((IsUtf8-from_ascii (0x68 ∷ 0x32 ∷ []) h2_ascii, tt), refl)),
+              (refl, (refl, omega arith, (0xff ∷ 0xff ∷ [], refl)), tt),
+            );
             rising = ((omega arith, tt), (tt, tt));
           };
         },
@@ -412,13 +477,19 @@ service_reads = record {
 }
 
 -- one parameter that fills the message
-one_parameter : (m : List ℕ) (x : Numbered (List ℕ)) (v : Numbered ParameterValue) → piece x ≡ m → ArePieces (x ∷ []) → AllHeld ParameterHeld (x ∷ []) (v ∷ []) → Stands m 0 (Parameters ∷ []) (v ∷ [], tt) (length m)
+one_parameter : (m : List ℕ) (x : Numbered (List ℕ)) (v : Numbered ParameterValue) → piece x ≡ m → ArePieces (x ∷ [])
+    → AllHeld ParameterHeld (x ∷ []) (v ∷ []) → Stands m 0 (Parameters ∷ []) (v ∷ [], tt) (length m)
 one_parameter m x v e fit held = (
   length m,
   record {
     is = record {
       read = x ∷ [];
-      at = record { ends = omega (arith, ap length whole); within = omega arith; same = take_all (length (pieces (x ∷ []))) m (omega (arith, ap length whole)) ∙ sym whole };
+      at = record {
+        ends = omega (arith, ap length whole);
+        within = omega arith;
+        same =
+            take_all (length (pieces (x ∷ []))) m (omega (arith, ap length whole)) ∙ sym whole;
+      };
       fit = fit;
       held = held;
       rising = (tt, tt);
@@ -433,14 +504,16 @@ one_parameter m x v e fit held = (
 pub mandatory_reads : MandatoryReads
 unfolding field_octets
 mandatory_reads = record {
-  stands = one_parameter (0x00 ∷ 0x00 ∷ 0x00 ∷ 0x02 ∷ 0x00 ∷ 0x01 ∷ []) (0, 0x00 ∷ 0x01 ∷ []) (0, Mandatory (1 ∷ [])) refl ((omega arith, omega arith), tt) (refl, (refl, (λ e. cc e, (omega arith, tt)), refl), tt);
+  stands = one_parameter (0x00 ∷ 0x00 ∷ 0x00 ∷ 0x02 ∷ 0x00 ∷ 0x01 ∷ []) (0, 0x00 ∷ 0x01 ∷ []) (0, Mandatory (1 ∷ [])) refl ((omega arith, omega arith), tt)
+      (refl, (refl, (λ e. cc e, (omega arith, tt)), refl), tt);
   canonical_octets = refl;
 }
 
 pub octets_of_key_five : OctetsOfKeyFive
 unfolding field_octets
 octets_of_key_five = record {
-  stands = one_parameter (0x00 ∷ 0x05 ∷ 0x00 ∷ 0x03 ∷ 0x00 ∷ 0x01 ∷ 0x02 ∷ []) (5, 0x00 ∷ 0x01 ∷ 0x02 ∷ []) (5, Opaque (0x00 ∷ 0x01 ∷ 0x02 ∷ [])) refl ((omega arith, omega arith), tt) (refl, (refl, tt, refl), tt);
+  stands = one_parameter (0x00 ∷ 0x05 ∷ 0x00 ∷ 0x03 ∷ 0x00 ∷ 0x01 ∷ 0x02 ∷ []) (5, 0x00 ∷ 0x01 ∷ 0x02 ∷ []) (5, Opaque (0x00 ∷ 0x01 ∷ 0x02 ∷ [])) refl
+      ((omega arith, omega arith), tt) (refl, (refl, tt, refl), tt);
   canonical_octets = refl;
 }
 
@@ -450,7 +523,8 @@ address_of_six = 0x20 ∷ 0x01 ∷ 0x0d ∷ 0xb8 ∷ 0x00 ∷ 0x00 ∷ 0x00 ∷ 
 pub hint_of_six_reads : HintOfSixReads
 unfolding field_octets
 hint_of_six_reads = record {
-  stands = one_parameter (0x00 ∷ 0x06 ∷ 0x00 ∷ 0x10 ∷ address_of_six) (6, address_of_six) (6, Ipv6Hint (address_of_six ∷ [])) refl ((omega arith, omega arith), tt) (refl, (refl, (refl, tt), refl), tt);
+  stands = one_parameter (0x00 ∷ 0x06 ∷ 0x00 ∷ 0x10 ∷ address_of_six) (6, address_of_six) (6, Ipv6Hint (address_of_six ∷ [])) refl
+      ((omega arith, omega arith), tt) (refl, (refl, (refl, tt), refl), tt);
   canonical_octets = refl;
 }
 
@@ -475,7 +549,8 @@ no_hints_read = record {
 
 pub keys_rise : KeysRise
 keys_rise v f =
-    twice v.0 (known_held (0x00 ∷ 0x03 ∷ 0x00 ∷ 0x02 ∷ 0x00 ∷ 0x35 ∷ 0x00 ∷ 0x03 ∷ 0x00 ∷ 0x02 ∷ 0x00 ∷ 0x35 ∷ []) ((3, 0x00 ∷ 0x35 ∷ []) ∷ (3, 0x00 ∷ 0x35 ∷ []) ∷ []) ((omega arith, omega arith), ((omega arith, omega arith), tt)) refl v f) f.1.is.rising
+    twice v.0 (known_held (0x00 ∷ 0x03 ∷ 0x00 ∷ 0x02 ∷ 0x00 ∷ 0x35 ∷ 0x00 ∷ 0x03 ∷ 0x00 ∷ 0x02 ∷ 0x00 ∷ 0x35 ∷ [])
+    ((3, 0x00 ∷ 0x35 ∷ []) ∷ (3, 0x00 ∷ 0x35 ∷ []) ∷ []) ((omega arith, omega arith), ((omega arith, omega arith), tt)) refl v f) f.1.is.rising
   where
     twice : (v : List (Numbered ParameterValue)) → AllHeld ParameterHeld ((3, 0x00 ∷ 0x35 ∷ []) ∷ (3, 0x00 ∷ 0x35 ∷ []) ∷ []) v → Rising v → ⊥
     twice [] h r = h
@@ -484,7 +559,8 @@ keys_rise v f =
 
 pub keys_do_not_fall : KeysDoNotFall
 keys_do_not_fall v f =
-    falls v.0 (known_held (0x00 ∷ 0x03 ∷ 0x00 ∷ 0x02 ∷ 0x00 ∷ 0x35 ∷ 0x00 ∷ 0x01 ∷ 0x00 ∷ 0x03 ∷ 0x02 ∷ 0x68 ∷ 0x32 ∷ []) ((3, 0x00 ∷ 0x35 ∷ []) ∷ (1, 0x02 ∷ 0x68 ∷ 0x32 ∷ []) ∷ []) ((omega arith, omega arith), ((omega arith, omega arith), tt)) refl v f) f.1.is.rising
+    falls v.0 (known_held (0x00 ∷ 0x03 ∷ 0x00 ∷ 0x02 ∷ 0x00 ∷ 0x35 ∷ 0x00 ∷ 0x01 ∷ 0x00 ∷ 0x03 ∷ 0x02 ∷ 0x68 ∷ 0x32 ∷ [])
+    ((3, 0x00 ∷ 0x35 ∷ []) ∷ (1, 0x02 ∷ 0x68 ∷ 0x32 ∷ []) ∷ []) ((omega arith, omega arith), ((omega arith, omega arith), tt)) refl v f) f.1.is.rising
   where
     falls : (v : List (Numbered ParameterValue)) → AllHeld ParameterHeld ((3, 0x00 ∷ 0x35 ∷ []) ∷ (1, 0x02 ∷ 0x68 ∷ 0x32 ∷ []) ∷ []) v → Rising v → ⊥
     falls [] h r = h
@@ -587,7 +663,11 @@ types_read = record {
             blocks = (0, 0x60 ∷ 0x00 ∷ 0x00 ∷ 0x08 ∷ []) ∷ [];
             at = record { ends = refl; within = omega arith; same = refl };
             fit = (record { number = omega arith; some = omega arith; most = omega arith }, tt);
-            set = record { rises = ((omega arith, (omega arith, tt)), ((omega arith, tt), (tt, tt))); numbers = (omega arith, (omega arith, (omega arith, tt))) };
+            set = record {
+              rises = ((omega arith, (omega arith, tt)), ((omega arith, tt), (tt, tt)));
+              numbers =
+                  (omega arith, (omega arith, (omega arith, tt)));
+            };
             types = minimal_is (1 ∷ 2 ∷ 28 ∷ []) ((0, 0x60 ∷ 0x00 ∷ 0x00 ∷ 0x08 ∷ []) ∷ []) (omega arith, (omega arith, (omega arith, tt))) three_types;
           };
         },
@@ -611,7 +691,10 @@ windows_read = record {
       is = record {
         blocks = (0, 0x40 ∷ []) ∷ (1, 0xc0 ∷ []) ∷ [];
         at = record { ends = refl; within = omega arith; same = refl };
-        fit = (record { number = omega arith; some = omega arith; most = omega arith }, (record { number = omega arith; some = omega arith; most = omega arith }, tt));
+        fit = (
+          record { number = omega arith; some = omega arith; most = omega arith },
+          (record { number = omega arith; some = omega arith; most = omega arith }, tt),
+        );
         set = record { rises = ((omega arith, (omega arith, tt)), ((omega arith, tt), (tt, tt))); numbers = (omega arith, (omega arith, (omega arith, tt))) };
         types = minimal_is (1 ∷ 256 ∷ 257 ∷ []) ((0, 0x40 ∷ []) ∷ (1, 0xc0 ∷ []) ∷ []) (omega arith, (omega arith, (omega arith, tt))) two_windows;
       };
@@ -657,7 +740,8 @@ zeros_dropped = record {
 pub broken_window : BrokenWindow
 broken_window = (
   λ v f. let g : BitmapAt (0x00 ∷ 0x00 ∷ []) 0 v.0 f.0 = f.1.is in empty g.blocks g.fit (At-whole (0x00 ∷ 0x00 ∷ []) (flat_map block g.blocks) f.0 g.at f.2),
-  λ v f. let g : BitmapAt (0x00 ∷ 0x02 ∷ 0x60 ∷ []) 0 v.0 f.0 = f.1.is in short g.blocks (At-whole (0x00 ∷ 0x02 ∷ 0x60 ∷ []) (flat_map block g.blocks) f.0 g.at f.2),
+  λ v f. let g : BitmapAt (0x00 ∷ 0x02 ∷ 0x60 ∷ []) 0 v.0 f.0 = f.1.is in
+      short g.blocks (At-whole (0x00 ∷ 0x02 ∷ 0x60 ∷ []) (flat_map block g.blocks) f.0 g.at f.2),
 )
   where
     empty : (bs : List Block) → AllByRecursion IsBlock bs → flat_map block bs ≡ 0x00 ∷ 0x00 ∷ [] → ⊥

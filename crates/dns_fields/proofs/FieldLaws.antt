@@ -6,7 +6,8 @@ use Rattle.std.proofs.Common.{◌-◌, ◌⊎◌, inl, inr, map}
 use Rattle.std.specs.Ordering.{on}
 use Rattle.std.proofs.lemmas.List.Sorted.{IsPermutation-refl, IsPermutation-sym, IsPermutation-trans, IsPermutation-map}
 use Rattle.dns_fields.specs.Sorting.{sorted}
-use Rattle.dns_fields.specs.Pieces.{string, Numbered, piece, pieces, AllHeld, as_piece, HoldThemselves, OptionValue, option_octets, OptionHeld, OptionFits, ParameterValue, parameter_octets, ParameterHeld, ParameterFits}
+use Rattle.dns_fields.specs.Pieces.{string, Numbered, piece, pieces, AllHeld, as_piece, HoldThemselves, OptionValue, option_octets}
+use Rattle.dns_fields.specs.Pieces.{OptionHeld, OptionFits, ParameterValue, parameter_octets, ParameterHeld, ParameterFits}
 use Rattle.dns_fields.specs.Fields.{Options, Parameters, Lawful, option_pieces, parameter_pieces, WholeOptions, CutOptions}
 use Rattle.dns_fields.specs.Fields.{Bitmap}
 use Rattle.dns_fields.specs.Bitmaps.{block, minimal}
@@ -22,15 +23,22 @@ use Rattle.dns_fields.proofs.Places.{At-same_end, At-same_head, At-append, At-ap
 use Rattle.dns_fields.specs.Labels.{full_name}
 use Rattle.dns_fields.proofs.NameLaws.{name_same, name_append, name_inside, name_is, low_name, low_name_same, low_name_wrote}
 
-options_inside : {m : List ℕ} {p : ℕ} {v : List (Numbered OptionValue)} {q : ℕ} → WholeOptions m p v q ⊎ ((v ≡ []) × CutOptions m (q - p) p q) → (p ≤ q) × (q ≤ length m)
+options_inside : {m : List ℕ} {p : ℕ} {v : List (Numbered OptionValue)} {q : ℕ} → WholeOptions m p v q ⊎ ((v ≡ []) × CutOptions m (q - p) p q)
+    → (p ≤ q) × (q ≤ length m)
 options_inside (inl w) = (omega (arith, w.at.ends), w.at.within)
 options_inside (inr c) = (omega (arith, c.1.at.ends), c.1.at.within)
 
-options_append : {m : List ℕ} {p : ℕ} {v : List (Numbered OptionValue)} {q : ℕ} (t : List ℕ) → WholeOptions m p v q ⊎ ((v ≡ []) × CutOptions m (q - p) p q) → WholeOptions (m ++ t) p v q ⊎ ((v ≡ []) × CutOptions (m ++ t) (q - p) p q)
+options_append : {m : List ℕ} {p : ℕ} {v : List (Numbered OptionValue)} {q : ℕ} (t : List ℕ) → WholeOptions m p v q ⊎ ((v ≡ []) × CutOptions m (q - p) p q)
+    → WholeOptions (m ++ t) p v q ⊎ ((v ≡ []) × CutOptions (m ++ t) (q - p) p q)
 options_append t (inl w) = inl (record { read = w.read; at = At-append t w.at; fit = w.fit; held = w.held })
-options_append t (inr c) = inr (c.0, record { read = c.1.read; dropped = c.1.dropped; stub = c.1.stub; at = At-append t c.1.at; fit = c.1.fit; held = c.1.held; cut = c.1.cut })
+options_append t (inr c) = inr (
+  c.0,
+  record
+      { read = c.1.read; dropped = c.1.dropped; stub = c.1.stub; at = At-append t c.1.at; fit = c.1.fit; held = c.1.held; cut = c.1.cut },
+)
 
-options_same : {m : List ℕ} {p : ℕ} {v w : List (Numbered OptionValue)} {q : ℕ} → WholeOptions m p v q ⊎ ((v ≡ []) × CutOptions m (q - p) p q) → WholeOptions m p w q ⊎ ((w ≡ []) × CutOptions m (q - p) p q) → v ≡ w
+options_same : {m : List ℕ} {p : ℕ} {v w : List (Numbered OptionValue)} {q : ℕ} → WholeOptions m p v q ⊎ ((v ≡ []) × CutOptions m (q - p) p q)
+    → WholeOptions m p w q ⊎ ((w ≡ []) × CutOptions m (q - p) p q) → v ≡ w
 options_same {v = v} {w = w} (inl a) (inl b) =
     let e : a.read ≡ b.read = pieces_same a.read b.read a.fit b.fit (At-same_end a.at b.at) in
     held_same OptionHeld option_octets option_once b.read v w (subst (λ (xs : List (Numbered (List ℕ))). AllHeld OptionHeld xs v) e a.held) b.held
@@ -38,11 +46,13 @@ options_same {p = p} {q = q} (inl a) (inr b) = absurd (whole_or_cut _ a.read b.1
 options_same {p = p} {q = q} (inr a) (inl b) = absurd (whole_or_cut _ b.read a.1.read a.1.stub b.fit a.1.fit a.1.cut (At-same_end b.at a.1.at))
 options_same (inr a) (inr b) = a.0 ∙ sym b.0
 
-options_fit : {m : List ℕ} {p : ℕ} {v : List (Numbered OptionValue)} {q : ℕ} → WholeOptions m p v q ⊎ ((v ≡ []) × CutOptions m (q - p) p q) → AllByRecursion OptionFits v
+options_fit : {m : List ℕ} {p : ℕ} {v : List (Numbered OptionValue)} {q : ℕ} → WholeOptions m p v q ⊎ ((v ≡ []) × CutOptions m (q - p) p q)
+    → AllByRecursion OptionFits v
 options_fit {v = v} (inl a) = held_fit OptionHeld option_octets OptionFits option_fit a.read v a.fit a.held
 options_fit (inr a) = subst (AllByRecursion OptionFits) (sym a.0) tt
 
-options_lawful : {m : List ℕ} {p : ℕ} {v : List (Numbered OptionValue)} {q : ℕ} → WholeOptions m p v q ⊎ ((v ≡ []) × CutOptions m (q - p) p q) → HoldThemselves OptionHeld option_octets v
+options_lawful : {m : List ℕ} {p : ℕ} {v : List (Numbered OptionValue)} {q : ℕ} → WholeOptions m p v q ⊎ ((v ≡ []) × CutOptions m (q - p) p q)
+    → HoldThemselves OptionHeld option_octets v
 options_lawful {v = v} (inl a) = held_lawful OptionHeld option_octets option_own a.read v a.held
 options_lawful (inr a) = subst (HoldThemselves OptionHeld option_octets) (sym a.0) tt
 
@@ -70,7 +80,8 @@ field_append {k = Text} t f = record { is = (f.is.0, At-append t f.is.1) }
 field_append {k = Texts} t f = record { is = (f.is.0, At-append t f.is.1) }
 field_append {k = Rest} t f = record { is = At-append t f.is }
 field_append {k = Options} t f = record { is = options_append t f.is }
-field_append {k = Parameters} t f = record { is = record { read = f.is.read; at = At-append t f.is.at; fit = f.is.fit; held = f.is.held; rising = f.is.rising } }
+field_append {k = Parameters} t f = record
+    { is = record { read = f.is.read; at = At-append t f.is.at; fit = f.is.fit; held = f.is.held; rising = f.is.rising } }
 field_append {k = Bitmap} t f = record { is = bitmap_append t f.is }
 
 -- between two places stands at most one value
@@ -84,7 +95,8 @@ field_same {k = Rest} f g = At-same_end f.is g.is
 field_same {k = Options} f g = options_same f.is g.is
 field_same {k = Parameters} {v} {w} f g =
     let e : f.is.read ≡ g.is.read = pieces_same f.is.read g.is.read f.is.fit g.is.fit (At-same_end f.is.at g.is.at) in
-    held_same ParameterHeld parameter_octets parameter_once g.is.read v w (subst (λ (xs : List (Numbered (List ℕ))). AllHeld ParameterHeld xs v) e f.is.held) g.is.held
+    held_same ParameterHeld parameter_octets parameter_once g.is.read v w
+    (subst (λ (xs : List (Numbered (List ℕ))). AllHeld ParameterHeld xs v) e f.is.held) g.is.held
 field_same {k = Bitmap} f g = bitmap_same f.is g.is
 
 -- and it has one end where its kind says it
@@ -124,7 +136,8 @@ field_lawful {k = Parameters} {v} f = held_lawful ParameterHeld parameter_octets
 field_lawful {k = Bitmap} f = tt
 
 -- what was written reads there as the same value
-pub wrote_field : {mode : RDataEncoding} {m : List ℕ} {k : Kind} {v : Value k} {m' : List ℕ} → Lawful k v → WroteField mode m k v m' → (w : Value k) × SameField k v w × Field m' (length m) k w (length m')
+pub wrote_field : {mode : RDataEncoding} {m : List ℕ} {k : Kind} {v : Value k} {m' : List ℕ} → Lawful k v → WroteField mode m k v m'
+    → (w : Value k) × SameField k v w × Field m' (length m) k w (length m')
 wrote_field {m} {k = Number n} {v} h f = (v, record { is = refl }, record { is = (f.is.0, rw f.is.1 (At-appended m (bytes_high_first n v))) })
 wrote_field {m} {k = Octets n} {v} h f = (v, record { is = refl }, record { is = (f.is.0, rw f.is.1 (At-appended m v)) })
 wrote_field {k = Name} {v} h f = (full_name v, record { is = record { low = refl } }, record { is = f.is.stands })
@@ -159,7 +172,8 @@ wrote_field {m} {k = Parameters} {v} {m'} h f = (
 wrote_field {m} {k = Bitmap} {v} h f = (v, record { is = refl }, record { is = rw f.is.1 (minimal_stands m v f.is.0) })
 
 -- behind what was there, and at most the canonical octets
-pub wrote_tail : {mode : RDataEncoding} {m : List ℕ} {k : Kind} {v : Value k} {m' : List ℕ} → WroteField mode m k v m' → (t : List ℕ) × (m' ≡ m ++ t) × (length t ≤ length (field_octets k v))
+pub wrote_tail : {mode : RDataEncoding} {m : List ℕ} {k : Kind} {v : Value k} {m' : List ℕ} → WroteField mode m k v m'
+    → (t : List ℕ) × (m' ≡ m ++ t) × (length t ≤ length (field_octets k v))
 unfolding field_octets
 wrote_tail {m} {k = Number n} {v} f = (bytes_high_first n v, f.is.1, omega arith)
 wrote_tail {m} {k = Octets n} {v} f = (v, f.is.1, omega arith)
@@ -168,7 +182,8 @@ wrote_tail {m} {k = Text} {v} f = (string v, f.is.1, omega arith)
 wrote_tail {m} {k = Texts} {v} f = (flat_map string v, f.is.1, omega arith)
 wrote_tail {m} {k = Rest} {v} f = (v, f.is, omega arith)
 wrote_tail {m} {k = Options} {v} f =
-    let n : length (flat_map (λ (x : List ℕ). x) (sorted octets_cmp (map piece (option_pieces v)))) ≡ length (pieces (option_pieces v)) = length_sorted octets_cmp (map piece (option_pieces v)) ∙ ap length (flat_map_all piece (option_pieces v)) in
+    let n : length (flat_map (λ (x : List ℕ). x) (sorted octets_cmp (map piece (option_pieces v)))) ≡ length (pieces (option_pieces v)) =
+    length_sorted octets_cmp (map piece (option_pieces v)) ∙ ap length (flat_map_all piece (option_pieces v)) in
     (pieces (option_pieces v), f.is.1, omega (arith, n))
 wrote_tail {m} {k = Parameters} {v} f = (pieces (parameter_pieces v), f.is.2, omega arith)
 wrote_tail {m} {k = Bitmap} {v} f = (flat_map block (minimal v), f.is.1, omega arith)
@@ -192,11 +207,14 @@ pub record Written (mode : RDataEncoding) (m : List ℕ) (k : Kind) (v : Value k
   pub wrote : WroteField mode m k value m'
 
 -- the sorted options have their pieces in the order of the canonical octets
-options_sorted : (v : List (Numbered OptionValue)) → flat_map (λ (x : List ℕ). x) (sorted octets_cmp (map piece (option_pieces v))) ≡ pieces (option_pieces (sorted_options v))
+options_sorted : (v : List (Numbered OptionValue))
+    → flat_map (λ (x : List ℕ). x) (sorted octets_cmp (map piece (option_pieces v))) ≡ pieces (option_pieces (sorted_options v))
 unfolding sorted_options
 options_sorted v =
     let f : Numbered OptionValue → List ℕ = λ x. piece (as_piece option_octets x) in
-    ap (λ (l : List (List ℕ)). flat_map (λ (x : List ℕ). x) (sorted octets_cmp l)) (twice v) ∙ ap (flat_map (λ (x : List ℕ). x)) (sym (map_sorted octets_cmp f v) ∙ sym (twice (sorted (on f octets_cmp) v))) ∙ flat_map_all piece (option_pieces (sorted (on f octets_cmp) v))
+    ap (λ (l : List (List ℕ)). flat_map (λ (x : List ℕ). x) (sorted octets_cmp l)) (twice v)
+    ∙ ap (flat_map (λ (x : List ℕ). x)) (sym (map_sorted octets_cmp f v) ∙ sym (twice (sorted (on f octets_cmp) v)))
+    ∙ flat_map_all piece (option_pieces (sorted (on f octets_cmp) v))
   where
     twice : (v : List (Numbered OptionValue)) → map piece (option_pieces v) ≡ map (λ (x : Numbered OptionValue). piece (as_piece option_octets x)) v
     twice [] = refl
@@ -207,7 +225,13 @@ pub octets_wrote : (mode : RDataEncoding) (m : List ℕ) (k : Kind) (v : Value k
 unfolding field_octets sorted_options
 octets_wrote mode m (Number w) v h l = record { value = v; same = record { is = refl }; lawful = tt; wrote = record { is = (h, refl) } }
 octets_wrote mode m (Octets n) v h l = record { value = v; same = record { is = refl }; lawful = tt; wrote = record { is = (h, refl) } }
-octets_wrote mode m Name v h l = record { value = low_name v; same = record { is = low_name_same v }; lawful = tt; wrote = record { is = low_name_wrote mode m v h } }
+octets_wrote mode m Name v h l = record {
+  value = low_name v;
+  same = record { is = low_name_same v };
+  lawful = tt;
+  wrote =
+      record { is = low_name_wrote mode m v h };
+}
 octets_wrote mode m Text v h l = record { value = v; same = record { is = refl }; lawful = tt; wrote = record { is = (h, refl) } }
 octets_wrote mode m Texts v h l = record { value = v; same = record { is = refl }; lawful = tt; wrote = record { is = (h, refl) } }
 octets_wrote mode m Rest v h l = record { value = v; same = record { is = refl }; lawful = tt; wrote = record { is = refl } }
@@ -232,7 +256,8 @@ octets_same {k = Text} s = ap string s.is
 octets_same {k = Texts} s = ap (flat_map string) s.is
 octets_same {k = Rest} s = s.is
 octets_same {k = Options} {a} {b} s =
-    ap (flat_map (λ (x : List ℕ). x)) (sorted_same (map piece (option_pieces a)) (map piece (option_pieces b)) (IsPermutation-map piece (option_pieces a) (option_pieces b) (IsPermutation-map (as_piece option_octets) a b s.is)))
+    ap (flat_map (λ (x : List ℕ). x)) (sorted_same (map piece (option_pieces a)) (map piece (option_pieces b))
+    (IsPermutation-map piece (option_pieces a) (option_pieces b) (IsPermutation-map (as_piece option_octets) a b s.is)))
 octets_same {k = Parameters} s = ap (λ (v : List (Numbered ParameterValue)). pieces (parameter_pieces v)) s.is
 octets_same {k = Bitmap} s = ap (λ (v : List ℕ). flat_map block (minimal v)) s.is
 

@@ -5,7 +5,8 @@ use Rattle.dns_fields.specs.Fields.{Kind, Value, Values, Field, Stands, Wrote, S
 use Rattle.dns_fields.specs.declared.RDataEncoding.{RDataEncoding}
 use Rattle.dns_fields.specs.declared.RDataEncoding.TheVariants.{Other}
 use Rattle.dns_fields.specs.Laws.{IsShape, StandsLaw, OneEnd, CanonicalLaw, CanonicalReads}
-use Rattle.dns_fields.proofs.FieldLaws.{field_append, field_same, field_end, field_fits, field_lawful, wrote_field, wrote_tail, wrote_fits, octets_wrote, octets_same, same_refl, same_sym, same_then, field_full}
+use Rattle.dns_fields.proofs.FieldLaws.{field_append, field_same, field_end, field_fits, field_lawful, wrote_field, wrote_tail, wrote_fits}
+use Rattle.dns_fields.proofs.FieldLaws.{octets_wrote, octets_same, same_refl, same_sym, same_then, field_full}
 
 -- at most one list of values fills a window
 pub stands_same : (m : List ℕ) (p : ℕ) (s : List Kind) (a b : Values s) (e : ℕ) → IsShape s → Stands m p s a e → Stands m p s b e → a ≡ b
@@ -38,7 +39,8 @@ pub wrote_fit : (mode : RDataEncoding) (m : List ℕ) (s : List Kind) (a : Value
 wrote_fit mode m [] a m' f = tt
 wrote_fit mode m (k ∷ kinds) a m' f = (wrote_fits f.1, wrote_fit mode f.0 kinds a.1 m' f.2)
 
-pub wrote_behind : (mode : RDataEncoding) (m : List ℕ) (s : List Kind) (a : Values s) (m' : List ℕ) → Wrote mode m s a m' → (t : List ℕ) × (m' ≡ m ++ t) × (length t ≤ length (canonical s a))
+pub wrote_behind : (mode : RDataEncoding) (m : List ℕ) (s : List Kind) (a : Values s) (m' : List ℕ) → Wrote mode m s a m'
+    → (t : List ℕ) × (m' ≡ m ++ t) × (length t ≤ length (canonical s a))
 wrote_behind mode m [] a m' f = ([], f ∙ sym (append-nil m), omega arith)
 wrote_behind mode m (k ∷ kinds) a m' f =
     let x = wrote_tail f.1 in
@@ -47,7 +49,8 @@ wrote_behind mode m (k ∷ kinds) a m' f =
     (x.0 ++ y.0, joined, let a' = x.2 in let b' = y.2 in omega (arith, a', b', length-append x.0 y.0, length-append (field_octets k a.0) (canonical kinds a.1)))
 
 -- what was written reads there as the same values, behind any octets
-pub wrote_stands : (mode : RDataEncoding) (m : List ℕ) (s : List Kind) (a : Values s) (m' : List ℕ) → AllLawful s a → Wrote mode m s a m' → (b : Values s) × Same s a b × Stands m' (length m) s b (length m')
+pub wrote_stands : (mode : RDataEncoding) (m : List ℕ) (s : List Kind) (a : Values s) (m' : List ℕ) → AllLawful s a → Wrote mode m s a m'
+    → (b : Values s) × Same s a b × Stands m' (length m) s b (length m')
 wrote_stands mode m [] a m' l f = (tt, tt, ap length (sym f))
 wrote_stands mode m (k ∷ kinds) a m' l f =
     let x = wrote_field l.0 f.1 in
@@ -63,12 +66,19 @@ pub record AllWritten (mode : RDataEncoding) (m : List ℕ) (s : List Kind) (a :
   pub lawful : AllLawful s values
   pub wrote : Wrote mode m s values m'
 
-pub canonical_wrote : (mode : RDataEncoding) (m : List ℕ) (s : List Kind) (a : Values s) → AllFit s a → AllLawful s a → AllWritten mode m s a (m ++ canonical s a)
+pub canonical_wrote : (mode : RDataEncoding) (m : List ℕ) (s : List Kind) (a : Values s) → AllFit s a → AllLawful s a
+    → AllWritten mode m s a (m ++ canonical s a)
 canonical_wrote mode m [] a h l = record { values = tt; same = tt; lawful = tt; wrote = append-nil m }
 canonical_wrote mode m (k ∷ kinds) a h l =
     let x = octets_wrote mode m k a.0 h.0 l.0 in
     let y = canonical_wrote mode (m ++ field_octets k a.0) kinds a.1 h.1 l.1 in
-    record { values = (x.value, y.values); same = (x.same, y.same); lawful = (x.lawful, y.lawful); wrote = (m ++ field_octets k a.0, x.wrote, rw (← append_assoc) y.wrote) }
+    record {
+      values = (x.value, y.values);
+      same = (x.same, y.same);
+      lawful = (x.lawful, y.lawful);
+      wrote =
+          (m ++ field_octets k a.0, x.wrote, rw (← append_assoc) y.wrote);
+    }
 
 pub canonical_same : (s : List Kind) (a b : Values s) → Same s a b → canonical s a ≡ canonical s b
 canonical_same [] a b h = refl
@@ -94,7 +104,8 @@ canonical_stands s a h l =
     (x.0, values_then s a w.values x.0 w.same x.1, x.2)
 
 -- equal canonical octets are of the same values
-pub canonical_injective : (s : List Kind) (a b : Values s) → IsShape s → AllFit s a → AllLawful s a → AllFit s b → AllLawful s b → canonical s a ≡ canonical s b → Same s a b
+pub canonical_injective : (s : List Kind) (a b : Values s) → IsShape s → AllFit s a → AllLawful s a → AllFit s b → AllLawful s b
+    → canonical s a ≡ canonical s b → Same s a b
 canonical_injective s a b shape h l g n e =
     let x = canonical_stands s a h l in
     let y = canonical_stands s b g n in

@@ -11,7 +11,8 @@ use Rattle.dns_fields.proofs.Stays.{labels_stand, stays_name, end_within}
 use Rattle.dns_fields.proofs.Unique.{unique}
 
 made : (x y : DomainName) → x.labels ≡ y.labels → x.fully_qualified ≡ y.fully_qualified → x ≡ y
-made x y e f = let both : (x.labels, x.fully_qualified) ≡ (y.labels, y.fully_qualified) = cc in ap (λ (p : List (List ℕ) × Bool). record { labels = p.0; fully_qualified = p.1 }) both
+made x y e f = let both : (x.labels, x.fully_qualified) ≡ (y.labels, y.fully_qualified) = cc in
+    ap (λ (p : List (List ℕ) × Bool). record { labels = p.0; fully_qualified = p.1 }) both
 
 -- at one place stands at most one name, and it has one end
 pub name_same : {m : List ℕ} {p q r : ℕ} {x y : DomainName} → IsNameIn m p x q → IsNameIn m p y r → (x ≡ y) × (q ≡ r)
@@ -56,7 +57,14 @@ are_low (l ∷ labels) h = let n = length-map l to_ascii_lowercase in let lo = h
 
 low_length : (labels : List (List ℕ)) → length (wire (low_labels labels)) ≡ length (wire labels)
 low_length [] = refl
-low_length (l ∷ labels) = omega (arith, low_length labels, length-map l to_ascii_lowercase, length-append l (wire labels), length-append (map to_ascii_lowercase l) (wire (low_labels labels)))
+low_length (l ∷ labels) = omega (
+  arith,
+  low_length labels,
+  length-map l to_ascii_lowercase,
+  length-append l (wire labels),
+  length-append
+      (map to_ascii_lowercase l) (wire (low_labels labels)),
+)
 
 pub lowname_length : (x : DomainName) → length (lowname x) ≡ length (wire x.labels) + 1
 lowname_length x = omega (arith, ap length (low_wire x.labels), length-append (wire (low_labels x.labels)) (0 ∷ []), low_length x.labels)

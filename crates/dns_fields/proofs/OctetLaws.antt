@@ -1,5 +1,6 @@
 -- Canonical octets of what stands in octets are octets.
-use Rattle.std.proofs.Common.{◌≡◌, ℕ, zero, suc, ◌+◌, ◌*◌, ◌/◌, ◌%◌, ◌<◌, ◌^◌, ◌⊎◌, inl, inr, List, [], ◌∷◌, ◌++◌, length, take, drop, map, refl, sym, arith, subst, pow-suc}
+use Rattle.std.proofs.Common.{◌≡◌, ℕ, zero, suc, ◌+◌, ◌*◌, ◌/◌, ◌%◌, ◌<◌, ◌^◌, ◌⊎◌, inl, inr, List, [], ◌∷◌, ◌++◌, length, take, drop, map}
+use Rattle.std.proofs.Common.{refl, sym, arith, subst, pow-suc}
 use Rattle.std.specs.List.{flat_map, AllByRecursion, range_with_len}
 use Rattle.std.specs.Int.{byte_at, bytes_high_first}
 use Rattle.std.specs.Char.{to_ascii_lowercase}
@@ -11,9 +12,12 @@ use Rattle.dns_fields.specs.Labels.{AreLabels, wire, lowered}
 use Rattle.dns_fields.specs.Names.{LabelsStand, pointer}
 use Rattle.dns_fields.specs.Names.LabelsStand.{whole, pointed}
 use Rattle.dns_fields.specs.Sorting.{sorted}
-use Rattle.dns_fields.specs.Pieces.{string, Numbered, piece, pieces, AllHeld, as_piece, OptionValue, Subnet, Plain, option_octets, OptionHeld, ParameterValue, Mandatory, Alpn, NoDefaultAlpn, Port, Ipv4Hint, Ipv6Hint, Opaque, parameter_octets, IsBody, ParameterHeld}
+use Rattle.dns_fields.specs.Pieces.{string, Numbered, piece, pieces, AllHeld, as_piece, OptionValue, Subnet, Plain, option_octets}
+use Rattle.dns_fields.specs.Pieces.{OptionHeld, ParameterValue, Mandatory, Alpn, NoDefaultAlpn, Port, Ipv4Hint, Ipv6Hint, Opaque}
+use Rattle.dns_fields.specs.Pieces.{parameter_octets, IsBody, ParameterHeld}
 use Rattle.dns_fields.specs.Bitmaps.{Block, block, IsBlock, packed, mark, keep, trimmed, types_octet, window, with_block, windows, minimal}
-use Rattle.dns_fields.specs.Fields.{Kind, Number, Octets, Name, Text, Texts, Rest, Options, Parameters, Bitmap, Value, Field, field_octets, canonical, option_pieces, parameter_pieces, WholeOptions, CutOptions}
+use Rattle.dns_fields.specs.Fields.{Kind, Number, Octets, Name, Text, Texts, Rest, Options, Parameters, Bitmap, Value, Field, field_octets}
+use Rattle.dns_fields.specs.Fields.{canonical, option_pieces, parameter_pieces, WholeOptions, CutOptions}
 use Rattle.dns_fields.specs.Laws.{OctetsLaw}
 use Rattle.dns_fields.proofs.Stays.{labels_stand}
 use Rattle.dns_fields.proofs.Sorted.{octets_cmp, sorted_all}
@@ -94,7 +98,8 @@ lower_octet c h = grind (arith, nat_tests)
 
 pub lower_octets : (s : List ℕ) → AreOctets s → AreOctets (map to_ascii_lowercase s)
 lower_octets [] a = AreOctets-nil
-lower_octets (c ∷ s) a = AreOctets-cons (to_ascii_lowercase c) (map to_ascii_lowercase s) (lower_octet c (AreOctets-head c s a)) (lower_octets s (AreOctets-tail c s a))
+lower_octets (c ∷ s) a = AreOctets-cons (to_ascii_lowercase c) (map to_ascii_lowercase s) (lower_octet c (AreOctets-head c s a))
+    (lower_octets s (AreOctets-tail c s a))
 
 pub lowered_octets : (labels : List (List ℕ)) → AreLabels labels → AllByRecursion AreOctets labels → AreOctets (lowered labels)
 lowered_octets [] h a = AreOctets-cons 0 [] (omega arith) AreOctets-nil
@@ -113,8 +118,10 @@ pub piece_body : (x : Numbered (List ℕ)) → AreOctets (piece x) → AreOctets
 piece_body x a = AreOctets-back (bytes_high_first 2 (length x.1)) x.1 (AreOctets-back (bytes_high_first 2 x.0) (bytes_high_first 2 (length x.1) ++ x.1) a)
 
 -- each value that pieces hold has octets, and so has its piece
-held_octets : {V : Type 0} (Held : ℕ → List ℕ → V → Type 0) (octets : V → List ℕ) → ((k : ℕ) (d : List ℕ) (v : V) → Held k d v → AreOctets d → AreOctets (octets v))
-    → (xs : List (Numbered (List ℕ))) (a : List (Numbered V)) → AllHeld Held xs a → AreOctets (pieces xs) → AllByRecursion AreOctets (map piece (map (as_piece octets) a))
+held_octets : {V : Type 0} (Held : ℕ → List ℕ → V → Type 0) (octets : V → List ℕ)
+    → ((k : ℕ) (d : List ℕ) (v : V) → Held k d v → AreOctets d → AreOctets (octets v))
+    → (xs : List (Numbered (List ℕ))) (a : List (Numbered V)) → AllHeld Held xs a → AreOctets (pieces xs)
+    → AllByRecursion AreOctets (map piece (map (as_piece octets) a))
 held_octets Held octets own [] [] f h = tt
 held_octets Held octets own [] (a ∷ as') f h = absurd f
 held_octets Held octets own (x ∷ xs) [] f h = absurd f
@@ -123,7 +130,8 @@ held_octets Held octets own (x ∷ xs) (a ∷ as') f h =
     (piece_octets (as_piece octets a) (own a.0 x.1 a.1 f.1 body), held_octets Held octets own xs as' f.2 (AreOctets-back (piece x) (pieces xs) h))
 
 option_own_octets : (k : ℕ) (d : List ℕ) (v : OptionValue) → OptionHeld k d v → AreOctets d → AreOctets (option_octets v)
-option_own_octets k d (Subnet f s c a) h o = AreOctets-front (option_octets (Subnet f s c a)) h.2 (AreOctets-same d (option_octets (Subnet f s c a) ++ h.2) h.3 o)
+option_own_octets k d (Subnet f s c a) h o =
+    AreOctets-front (option_octets (Subnet f s c a)) h.2 (AreOctets-same d (option_octets (Subnet f s c a) ++ h.2) h.3 o)
 option_own_octets k d (Plain s) h o = AreOctets-same d s h.1 o
 
 body_octets : (d : List ℕ) (v : ParameterValue) → IsBody d v → AreOctets d → AreOctets (parameter_octets v)
@@ -142,7 +150,8 @@ pub pieces_octets : (xs : List (Numbered (List ℕ))) → AllByRecursion AreOcte
 pieces_octets [] a = AreOctets-nil
 pieces_octets (x ∷ xs) a = AreOctets-append (piece x) (pieces xs) a.0 (pieces_octets xs a.1)
 
-options_octets : (m : List ℕ) (p : ℕ) (v : List (Numbered OptionValue)) (q n : ℕ) → AreOctets m → WholeOptions m p v q ⊎ ((v ≡ []) × CutOptions m n p q) → AllByRecursion AreOctets (map piece (option_pieces v))
+options_octets : (m : List ℕ) (p : ℕ) (v : List (Numbered OptionValue)) (q n : ℕ) → AreOctets m → WholeOptions m p v q ⊎ ((v ≡ []) × CutOptions m n p q)
+    → AllByRecursion AreOctets (map piece (option_pieces v))
 options_octets m p v q n a (inl w) = held_octets OptionHeld option_octets option_own_octets w.read v w.held (AreOctets-at m p (pieces w.read) q a w.at)
 options_octets m p v q n a (inr c) = subst (λ (l : List (Numbered OptionValue)). AllByRecursion AreOctets (map piece (option_pieces l))) (sym c.0) tt
 
@@ -171,13 +180,15 @@ window_octets v k = trimmed_octets (map (types_octet v k) (range_with_len 0 32))
 
     mapped : (js : List ℕ) → AreOctets (map (types_octet v k) js)
     mapped [] = AreOctets-nil
-    mapped (j ∷ js) = AreOctets-cons (types_octet v k j) (map (types_octet v k) js) (packed_small (λ b. mark v (256 * k + (8 * j + b))) (λ b. mark_small v (256 * k + (8 * j + b))) 8) (mapped js)
+    mapped (j ∷ js) = AreOctets-cons (types_octet v k j) (map (types_octet v k) js)
+        (packed_small (λ b. mark v (256 * k + (8 * j + b))) (λ b. mark_small v (256 * k + (8 * j + b))) 8) (mapped js)
 
 windows_octets : (v ks : List ℕ) → AllByRecursion (λ (b : Block). AreOctets b.1) (windows v ks)
 windows_octets v [] = tt
 windows_octets v (k ∷ ks) = with_octets k (window v k) (windows v ks) (window_octets v k) (windows_octets v ks)
   where
-    with_octets : (k : ℕ) (w : List ℕ) (bs : List Block) → AreOctets w → AllByRecursion (λ (b : Block). AreOctets b.1) bs → AllByRecursion (λ (b : Block). AreOctets b.1) (with_block k w bs)
+    with_octets : (k : ℕ) (w : List ℕ) (bs : List Block) → AreOctets w → AllByRecursion (λ (b : Block). AreOctets b.1) bs
+        → AllByRecursion (λ (b : Block). AreOctets b.1) (with_block k w bs)
     with_octets k [] bs a h = h
     with_octets k (x ∷ xs) bs a h = (a, h)
 
@@ -186,7 +197,8 @@ blocks_octets [] f a = AreOctets-nil
 blocks_octets (b ∷ bs) f a =
     let number = f.0.number in
     let most = f.0.most in
-    AreOctets-append (block b) (flat_map block bs) (AreOctets-cons b.0 (length b.1 ∷ b.1) number (AreOctets-cons (length b.1) b.1 (omega arith) a.0)) (blocks_octets bs f.1 a.1)
+    AreOctets-append (block b) (flat_map block bs) (AreOctets-cons b.0 (length b.1 ∷ b.1) number (AreOctets-cons (length b.1) b.1 (omega arith) a.0))
+    (blocks_octets bs f.1 a.1)
 
 pub minimal_octets : (v : List ℕ) → AreOctets (flat_map block (minimal v))
 unfolding minimal
@@ -206,7 +218,8 @@ field_octets_are m p Options v q a f =
     let all = options_octets m p v q _ a f.is in
     joined_octets (sorted octets_cmp (map piece (option_pieces v))) (sorted_all octets_cmp AreOctets (map piece (option_pieces v)) all)
 field_octets_are m p Parameters v q a f =
-    pieces_octets (parameter_pieces v) (held_octets ParameterHeld parameter_octets (λ k d w h o. body_octets d w h.2 o) f.is.read v f.is.held (AreOctets-at m p (pieces f.is.read) q a f.is.at))
+    pieces_octets (parameter_pieces v) (held_octets ParameterHeld parameter_octets (λ k d w h o. body_octets d w h.2 o) f.is.read v f.is.held
+    (AreOctets-at m p (pieces f.is.read) q a f.is.at))
 field_octets_are m p Bitmap v q a f = minimal_octets v
 
 pub canonical_octets_are : OctetsLaw

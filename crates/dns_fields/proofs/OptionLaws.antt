@@ -5,7 +5,8 @@ use Rattle.std.proofs.lemmas.List.{length-append, append-nil}
 use Rattle.dns_fields.specs.Pieces.{OptionValue, Subnet, Plain, option_octets, IsAddress, OptionHeld, OptionFits}
 use Rattle.dns_fields.proofs.Pieces.{parts, number_first}
 
-subnet_same : (f g s t c d : ℕ) (a b u v : List ℕ) → f < 256 ^ 2 → g < 256 ^ 2 → length a ≡ (s + 7) / 8 → length b ≡ (t + 7) / 8 → (bytes_high_first 2 f ++ (s ∷ c ∷ a)) ++ u ≡ (bytes_high_first 2 g ++ (t ∷ d ∷ b)) ++ v → Subnet f s c a ≡ Subnet g t d b
+subnet_same : (f g s t c d : ℕ) (a b u v : List ℕ) → f < 256 ^ 2 → g < 256 ^ 2 → length a ≡ (s + 7) / 8 → length b ≡ (t + 7) / 8
+    → (bytes_high_first 2 f ++ (s ∷ c ∷ a)) ++ u ≡ (bytes_high_first 2 g ++ (t ∷ d ∷ b)) ++ v → Subnet f s c a ≡ Subnet g t d b
 subnet_same f g s t c d a b u v p q n k e =
     let h = number_first f g (s ∷ c ∷ (a ++ u)) (t ∷ d ∷ (b ++ v)) p q e in
     let source : s ≡ t = let x : s ∷ c ∷ (a ++ u) ≡ t ∷ d ∷ (b ++ v) = h.1 in cc in
@@ -21,7 +22,8 @@ family_small : (f s : ℕ) (a : List ℕ) → IsAddress f s a → f < 256 ^ 2
 family_small f s a i = ⊎_elim (λ h. omega (arith, h.0)) (λ h. omega (arith, h.0)) i.most
 
 pub option_once : (k : ℕ) (d : List ℕ) (v w : OptionValue) → OptionHeld k d v → OptionHeld k d w → v ≡ w
-option_once k d (Subnet f s c a) (Subnet g t e b) x y = subnet_same f g s t c e a b x.2 y.2 (family_small f s a x.1) (family_small g t b y.1) x.1.long y.1.long (sym x.3 ∙ y.3)
+option_once k d (Subnet f s c a) (Subnet g t e b) x y = subnet_same f g s t c e a b x.2 y.2 (family_small f s a x.1) (family_small g t b y.1) x.1.long
+    y.1.long (sym x.3 ∙ y.3)
 option_once k d (Subnet f s c a) (Plain o) x y = absurd (y.0 x.0)
 option_once k d (Plain o) (Subnet g t e b) x y = absurd (x.0 y.0)
 option_once k d (Plain o) (Plain u) x y = ap Plain (sym x.1 ∙ y.1)

@@ -27,7 +27,8 @@ kind_total Bitmap = nat_list_cmp_total
 
 pub values_total : (kinds : List Kind) → IsTotalOrder (values_cmp kinds)
 values_total [] = point_total
-values_total (k ∷ kinds) = then_total (on_total (λ (a : Values (k ∷ kinds)). a.0) (kind_total k)) (on_total (λ (a : Values (k ∷ kinds)). a.1) (values_total kinds))
+values_total (k ∷ kinds) = then_total (on_total (λ (a : Values (k ∷ kinds)). a.0) (kind_total k))
+    (on_total (λ (a : Values (k ∷ kinds)). a.1) (values_total kinds))
 
 booleans_tie : (a b : Bool) → beq a b ≡ is_eq (bool_cmp a b)
 booleans_tie true true = refl
@@ -41,7 +42,8 @@ keys_tie a b = lists_ties key_cmp (lists_ties (slice_cmp nat_cmp) texts_ties) a 
 pub kind_ties : (k : Kind) (a b : Value k) → kind_eq k a b ≡ is_eq (kind_cmp k a b)
 kind_ties (Number w) a b = unsigned_ties a b
 kind_ties (Octets n) a b = texts_ties a b
-kind_ties Name a b = both_tied _ _ (slice_cmp nat_cmp (lowname a) (lowname b)) (bool_cmp a.fully_qualified b.fully_qualified) (texts_ties (lowname a) (lowname b)) (booleans_tie a.fully_qualified b.fully_qualified)
+kind_ties Name a b = both_tied _ _ (slice_cmp nat_cmp (lowname a) (lowname b)) (bool_cmp a.fully_qualified b.fully_qualified)
+    (texts_ties (lowname a) (lowname b)) (booleans_tie a.fully_qualified b.fully_qualified)
 kind_ties Text a b = texts_ties a b
 kind_ties Texts a b = lists_ties (slice_cmp nat_cmp) texts_ties a b
 kind_ties Rest a b = texts_ties a b

@@ -3,7 +3,8 @@ use Rattle.std.proofs.Common.{◌≡◌, ℕ, ◌≤◌, ◌<◌, ◌^◌, List,
 use Rattle.std.specs.List.{flat_map, AllByRecursion}
 use Rattle.std.specs.Int.{bytes_high_first}
 use Rattle.std.proofs.lemmas.List.{length-append, append-nil}
-use Rattle.dns_fields.specs.Pieces.{string, ParameterValue, Mandatory, Alpn, NoDefaultAlpn, Port, Ipv4Hint, Ipv6Hint, Opaque, parameter_octets, IsBody, ParameterHeld, ParameterFits}
+use Rattle.dns_fields.specs.Pieces.{string, ParameterValue, Mandatory, Alpn, NoDefaultAlpn, Port, Ipv4Hint, Ipv6Hint, Opaque}
+use Rattle.dns_fields.specs.Pieces.{parameter_octets, IsBody, ParameterHeld, ParameterFits}
 use Rattle.dns_fields.proofs.Numbers.{length-bytes}
 use Rattle.dns_fields.proofs.Pieces.{parts, number_first}
 
@@ -26,20 +27,26 @@ strings_same (a ∷ as') (b ∷ bs) e =
     let first = h.0 in
     cc
 
-keys_same : (a b : List ℕ) → AllByRecursion (λ k. k < 256 ^ 2) a → AllByRecursion (λ k. k < 256 ^ 2) b → flat_map (bytes_high_first 2) a ≡ flat_map (bytes_high_first 2) b → a ≡ b
+keys_same : (a b : List ℕ) → AllByRecursion (λ k. k < 256 ^ 2) a → AllByRecursion (λ k. k < 256 ^ 2) b
+    → flat_map (bytes_high_first 2) a ≡ flat_map (bytes_high_first 2) b → a ≡ b
 keys_same [] [] f g e = refl
-keys_same [] (b ∷ bs) f g e = let n : 0 ≡ length (bytes_high_first 2 b ++ flat_map (bytes_high_first 2) bs) = ap length e in absurd (omega (arith, n, length-append (bytes_high_first 2 b) (flat_map (bytes_high_first 2) bs), length-bytes 2 b))
-keys_same (a ∷ as') [] f g e = let n : length (bytes_high_first 2 a ++ flat_map (bytes_high_first 2) as') ≡ 0 = ap length e in absurd (omega (arith, n, length-append (bytes_high_first 2 a) (flat_map (bytes_high_first 2) as'), length-bytes 2 a))
+keys_same [] (b ∷ bs) f g e = let n : 0 ≡ length (bytes_high_first 2 b ++ flat_map (bytes_high_first 2) bs) = ap length e in
+    absurd (omega (arith, n, length-append (bytes_high_first 2 b) (flat_map (bytes_high_first 2) bs), length-bytes 2 b))
+keys_same (a ∷ as') [] f g e = let n : length (bytes_high_first 2 a ++ flat_map (bytes_high_first 2) as') ≡ 0 = ap length e in
+    absurd (omega (arith, n, length-append (bytes_high_first 2 a) (flat_map (bytes_high_first 2) as'), length-bytes 2 a))
 keys_same (a ∷ as') (b ∷ bs) f g e =
     let h = number_first a b (flat_map (bytes_high_first 2) as') (flat_map (bytes_high_first 2) bs) f.0 g.0 e in
     let rest = keys_same as' bs f.1 g.1 h.1 in
     let first = h.0 in
     cc
 
-groups_same : (n : ℕ) → 1 ≤ n → (a b : List (List ℕ)) → AllByRecursion (λ x. length x ≡ n) a → AllByRecursion (λ x. length x ≡ n) b → flat_map (λ x. x) a ≡ flat_map (λ x. x) b → a ≡ b
+groups_same : (n : ℕ) → 1 ≤ n → (a b : List (List ℕ)) → AllByRecursion (λ x. length x ≡ n) a → AllByRecursion (λ x. length x ≡ n) b
+    → flat_map (λ x. x) a ≡ flat_map (λ x. x) b → a ≡ b
 groups_same n some [] [] f g e = refl
-groups_same n some [] (b ∷ bs) f g e = let k : 0 ≡ length (b ++ flat_map (λ x. x) bs) = ap length e in absurd (omega (arith, k, g.0, length-append b (flat_map (λ x. x) bs)))
-groups_same n some (a ∷ as') [] f g e = let k : length (a ++ flat_map (λ x. x) as') ≡ 0 = ap length e in absurd (omega (arith, k, f.0, length-append a (flat_map (λ x. x) as')))
+groups_same n some [] (b ∷ bs) f g e = let k : 0 ≡ length (b ++ flat_map (λ x. x) bs) = ap length e in
+    absurd (omega (arith, k, g.0, length-append b (flat_map (λ x. x) bs)))
+groups_same n some (a ∷ as') [] f g e = let k : length (a ++ flat_map (λ x. x) as') ≡ 0 = ap length e in
+    absurd (omega (arith, k, f.0, length-append a (flat_map (λ x. x) as')))
 groups_same n some (a ∷ as') (b ∷ bs) f g e =
     let h = parts a (flat_map (λ x. x) as') b (flat_map (λ x. x) bs) (f.0 ∙ sym g.0) e in
     let rest = groups_same n some as' bs f.1 g.1 h.1 in

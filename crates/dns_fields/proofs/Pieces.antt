@@ -8,8 +8,11 @@ use Rattle.dns_fields.proofs.Numbers.{length-bytes, same_number}
 
 -- parts of equal length of one list
 pub parts : (a x b y : List ℕ) → length a ≡ length b → a ++ x ≡ b ++ y → (a ≡ b) × (x ≡ y)
-parts a x b y n e =
-    (sym (take_at a x (length a) refl) ∙ ap (take (length a)) e ∙ take_at b y (length a) (sym n), sym (drop_at a x (length a) refl) ∙ ap (drop (length a)) e ∙ drop_at b y (length a) (sym n))
+parts a x b y n e = (
+  sym (take_at a x (length a) refl) ∙ ap (take (length a)) e ∙ take_at b y (length a) (sym n),
+  sym (drop_at a x (length a) refl) ∙ ap (drop (length a)) e
+      ∙ drop_at b y (length a) (sym n),
+)
 
 -- two octets of a number before anything else
 pub number_first : (a b : ℕ) (x y : List ℕ) → a < 256 ^ 2 → b < 256 ^ 2 → bytes_high_first 2 a ++ x ≡ bytes_high_first 2 b ++ y → (a ≡ b) × (x ≡ y)
@@ -18,14 +21,16 @@ number_first a b x y p q e =
     (same_number 2 a b p q h.0, h.1)
 
 -- code, length and the octets that follow, however long
-pub heads_same : (c d l k : ℕ) (x y : List ℕ) → c < 256 ^ 2 → d < 256 ^ 2 → l < 256 ^ 2 → k < 256 ^ 2 → bytes_high_first 2 c ++ (bytes_high_first 2 l ++ x) ≡ bytes_high_first 2 d ++ (bytes_high_first 2 k ++ y) → (c ≡ d) × (l ≡ k) × (x ≡ y)
+pub heads_same : (c d l k : ℕ) (x y : List ℕ) → c < 256 ^ 2 → d < 256 ^ 2 → l < 256 ^ 2 → k < 256 ^ 2
+    → bytes_high_first 2 c ++ (bytes_high_first 2 l ++ x) ≡ bytes_high_first 2 d ++ (bytes_high_first 2 k ++ y) → (c ≡ d) × (l ≡ k) × (x ≡ y)
 heads_same c d l k x y p q r s e =
     let h = number_first c d (bytes_high_first 2 l ++ x) (bytes_high_first 2 k ++ y) p q e in
     let g = number_first l k x y r s h.1 in
     (h.0, g.0, g.1)
 
 pub piece_before : (x : Numbered (List ℕ)) (r : List ℕ) → piece x ++ r ≡ bytes_high_first 2 x.0 ++ (bytes_high_first 2 (length x.1) ++ (x.1 ++ r))
-piece_before x r = append_assoc (bytes_high_first 2 x.0) (bytes_high_first 2 (length x.1) ++ x.1) r ∙ ap (λ (l : List ℕ). bytes_high_first 2 x.0 ++ l) (append_assoc (bytes_high_first 2 (length x.1)) x.1 r)
+piece_before x r = append_assoc (bytes_high_first 2 x.0) (bytes_high_first 2 (length x.1) ++ x.1) r
+    ∙ ap (λ (l : List ℕ). bytes_high_first 2 x.0 ++ l) (append_assoc (bytes_high_first 2 (length x.1)) x.1 r)
 
 pub first_piece : (x y : Numbered (List ℕ)) (r s : List ℕ) → IsPiece x → IsPiece y → piece x ++ r ≡ piece y ++ s → (x ≡ y) × (r ≡ s)
 first_piece x y r s f g e =
@@ -34,7 +39,14 @@ first_piece x y r s f g e =
     (ap (λ (n : ℕ). (n, x.1)) h.0 ∙ ap (λ (o : List ℕ). (y.0, o)) t.0, t.1)
 
 pub length-piece : (x : Numbered (List ℕ)) → length (piece x) ≡ 4 + length x.1
-length-piece x = omega (arith, length-append (bytes_high_first 2 x.0) (bytes_high_first 2 (length x.1) ++ x.1), length-append (bytes_high_first 2 (length x.1)) x.1, length-bytes 2 x.0, length-bytes 2 (length x.1))
+length-piece x = omega (
+  arith,
+  length-append (bytes_high_first 2 x.0) (bytes_high_first 2 (length x.1) ++ x.1),
+  length-append
+      (bytes_high_first 2 (length x.1)) x.1,
+  length-bytes 2 x.0,
+  length-bytes 2 (length x.1),
+)
 
 pub no_piece : (x : Numbered (List ℕ)) (r : List ℕ) → [] ≡ piece x ++ r → ⊥
 no_piece x r e = let n : 0 ≡ length (piece x ++ r) = ap length e in omega (arith, n, length-append (piece x) r, length-piece x)
@@ -50,13 +62,15 @@ pieces_same (x ∷ xs) (y ∷ ys) f g e =
 cut_some : (n : ℕ) → IsCut n [] → ⊥
 cut_some n c = ⊎_elim
     (λ (e : [] ≡ bytes_high_first 2 c.0). let k : 0 ≡ length (bytes_high_first 2 c.0) = ap length e in omega (arith, k, length-bytes 2 c.0))
-    (λ h. let k : 0 ≡ length (bytes_high_first 2 c.0 ++ (bytes_high_first 2 h.0 ++ h.1)) = ap length h.5 in omega (arith, k, length-append (bytes_high_first 2 c.0) (bytes_high_first 2 h.0 ++ h.1), length-bytes 2 c.0))
+    (λ h. let k : 0 ≡ length (bytes_high_first 2 c.0 ++ (bytes_high_first 2 h.0 ++ h.1)) = ap length h.5 in
+    omega (arith, k, length-append (bytes_high_first 2 c.0) (bytes_high_first 2 h.0 ++ h.1), length-bytes 2 c.0))
     c.2
 
 -- a piece does not begin where an option is cut
 pub cut_piece : (n : ℕ) (x : Numbered (List ℕ)) (r : List ℕ) → IsPiece x → IsCut n (piece x ++ r) → ⊥
 cut_piece n x r f c = ⊎_elim
-    (λ (e : piece x ++ r ≡ bytes_high_first 2 c.0). let k : length (piece x ++ r) ≡ length (bytes_high_first 2 c.0) = ap length e in omega (arith, k, length-append (piece x) r, length-piece x, length-bytes 2 c.0))
+    (λ (e : piece x ++ r ≡ bytes_high_first 2 c.0). let k : length (piece x ++ r) ≡ length (bytes_high_first 2 c.0) = ap length e in
+    omega (arith, k, length-append (piece x) r, length-piece x, length-bytes 2 c.0))
     (λ h.
     let t = heads_same x.0 c.0 (length x.1) h.0 (x.1 ++ r) h.1 f.0 c.1 f.1 h.2 (sym (piece_before x r) ∙ h.5) in
     let k : length (x.1 ++ r) ≡ length h.1 = ap length t.2 in
@@ -74,7 +88,8 @@ whole_or_cut n (x ∷ xs) (y ∷ ys) s f g c e =
 
 -- ---- values in pieces, of any kind that has three facts: octets hold one value, its own octets hold it too, and they are no more
 module _ {V : Type 0} (Held : ℕ → List ℕ → V → Type 0) (octets : V → List ℕ) where
-  pub held_same : ((k : ℕ) (d : List ℕ) (v w : V) → Held k d v → Held k d w → v ≡ w) → (xs : List (Numbered (List ℕ))) (a b : List (Numbered V)) → AllHeld Held xs a → AllHeld Held xs b → a ≡ b
+  pub held_same : ((k : ℕ) (d : List ℕ) (v w : V) → Held k d v → Held k d w → v ≡ w) → (xs : List (Numbered (List ℕ))) (a b : List (Numbered V))
+      → AllHeld Held xs a → AllHeld Held xs b → a ≡ b
   held_same one [] [] [] f g = refl
   held_same one [] (a ∷ as') b f g = absurd f
   held_same one [] [] (b ∷ bs) f g = absurd g
@@ -86,14 +101,16 @@ module _ {V : Type 0} (Held : ℕ → List ℕ → V → Type 0) (octets : V →
       let first : a ≡ b = ap (λ (k : ℕ). (k, a.1)) keys ∙ ap (λ (v : V). (b.0, v)) values in
       ap (λ (c : Numbered V). c ∷ as') first ∙ ap (λ (cs : List (Numbered V)). b ∷ cs) (held_same one xs as' bs f.2 g.2)
 
-  pub held_lawful : ((k : ℕ) (d : List ℕ) (v : V) → Held k d v → Held k (octets v) v) → (xs : List (Numbered (List ℕ))) (a : List (Numbered V)) → AllHeld Held xs a → HoldThemselves Held octets a
+  pub held_lawful : ((k : ℕ) (d : List ℕ) (v : V) → Held k d v → Held k (octets v) v) → (xs : List (Numbered (List ℕ))) (a : List (Numbered V))
+      → AllHeld Held xs a → HoldThemselves Held octets a
   held_lawful own [] [] f = tt
   held_lawful own [] (a ∷ as') f = absurd f
   held_lawful own (x ∷ xs) [] f = absurd f
   held_lawful own (x ∷ xs) (a ∷ as') f = (own a.0 x.1 a.1 f.1, held_lawful own xs as' f.2)
 
   -- what is asked of each value follows from its piece
-  pub held_fit : (Fit : Numbered V → Type 0) → ((k : ℕ) (d : List ℕ) (v : V) → k < 256 ^ 2 → length d < 256 ^ 2 → Held k d v → Fit (k, v)) → (xs : List (Numbered (List ℕ))) (a : List (Numbered V)) → ArePieces xs → AllHeld Held xs a → AllByRecursion Fit a
+  pub held_fit : (Fit : Numbered V → Type 0) → ((k : ℕ) (d : List ℕ) (v : V) → k < 256 ^ 2 → length d < 256 ^ 2 → Held k d v → Fit (k, v))
+      → (xs : List (Numbered (List ℕ))) (a : List (Numbered V)) → ArePieces xs → AllHeld Held xs a → AllByRecursion Fit a
   held_fit Fit fit [] [] p f = tt
   held_fit Fit fit [] (a ∷ as') p f = absurd f
   held_fit Fit fit (x ∷ xs) [] p f = absurd f
@@ -104,6 +121,7 @@ module _ {V : Type 0} (Held : ℕ → List ℕ → V → Type 0) (octets : V →
   lawful_held [] f = tt
   lawful_held (a ∷ as') f = (refl, f.0, lawful_held as' f.1)
 
-  pub fit_pieces : (Fit : Numbered V → Type 0) → ((x : Numbered V) → Fit x → IsPiece (as_piece octets x)) → (a : List (Numbered V)) → AllByRecursion Fit a → ArePieces (map (as_piece octets) a)
+  pub fit_pieces : (Fit : Numbered V → Type 0) → ((x : Numbered V) → Fit x → IsPiece (as_piece octets x)) → (a : List (Numbered V)) → AllByRecursion Fit a
+      → ArePieces (map (as_piece octets) a)
   fit_pieces Fit is [] f = tt
   fit_pieces Fit is (a ∷ as') f = (is a f.0, fit_pieces Fit is as' f.1)

@@ -33,7 +33,8 @@ pub record RestOf (front labels : List (List ℕ)) (s : List ℕ) (t : List ℕ)
   pub stands : s ≡ wire rest ++ t
 
 -- labels that begin the same octets begin with the same labels
-pub rest_of : (front labels : List (List ℕ)) (s b : List ℕ) (z : ℕ) → AreLabels front → AreLabels labels → IsStop z → wire front ++ s ≡ wire labels ++ z ∷ b → RestOf front labels s (z ∷ b)
+pub rest_of : (front labels : List (List ℕ)) (s b : List ℕ) (z : ℕ) → AreLabels front → AreLabels labels → IsStop z → wire front ++ s ≡ wire labels ++ z ∷ b
+    → RestOf front labels s (z ∷ b)
 rest_of [] labels s b z hf hl stop e = record { rest = labels; joined = refl; are = hl; stands = e }
 rest_of (f ∷ front) [] s b z hf hl stop e =
     let same : length f ≡ z = cc in
@@ -43,7 +44,8 @@ rest_of (f ∷ front) [] s b z hf hl stop e =
 rest_of (f ∷ front) (l ∷ labels) s b z hf hl stop e =
     let same : length f ≡ length l = cc in
     let tails : (f ++ wire front) ++ s ≡ (l ++ wire labels) ++ z ∷ b = cc in
-    let halves = split_same f l (wire front ++ s) (wire labels ++ z ∷ b) same (sym (append_assoc f (wire front) s) ∙ tails ∙ append_assoc l (wire labels) (z ∷ b)) in
+    let halves = split_same f l (wire front ++ s) (wire labels ++ z ∷ b) same
+    (sym (append_assoc f (wire front) s) ∙ tails ∙ append_assoc l (wire labels) (z ∷ b)) in
     let r = rest_of front labels s b z hf.1 hl.1 stop halves.1 in
     let first : f ≡ l = halves.0 in
     let joined : labels ≡ front ++ r.rest = r.joined in
@@ -58,7 +60,8 @@ no_labels (l ∷ rest) s t z h stop e =
     absurd (omega (arith, stop (omega arith)))
 
 -- octets have one front of labels up to a stop
-pub same_run : (front labels : List (List ℕ)) (a b : List ℕ) (y z : ℕ) → AreLabels front → AreLabels labels → IsStop y → IsStop z → wire front ++ y ∷ a ≡ wire labels ++ z ∷ b → (front ≡ labels) × (y ∷ a ≡ z ∷ b)
+pub same_run : (front labels : List (List ℕ)) (a b : List ℕ) (y z : ℕ) → AreLabels front → AreLabels labels → IsStop y → IsStop z
+    → wire front ++ y ∷ a ≡ wire labels ++ z ∷ b → (front ≡ labels) × (y ∷ a ≡ z ∷ b)
 same_run front labels a b y z hf hl sy sz e =
     let r = rest_of front labels (y ∷ a) b z hf hl sz e in
     let n = no_labels r.rest a (z ∷ b) y r.are sy r.stands in

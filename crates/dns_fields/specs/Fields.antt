@@ -11,7 +11,9 @@ use Rattle.dns_fields.specs.Sorting.{sorted}
 use Rattle.dns_fields.specs.declared.RDataEncoding.{RDataEncoding}
 use Rattle.dns_fields.specs.Labels.{DomainName, IsName, lowname}
 use Rattle.dns_fields.specs.Names.{IsNameIn, NameWrote, SameName}
-use Rattle.dns_fields.specs.Pieces.{string, Numbered, piece, pieces, ArePieces, AllHeld, as_piece, HoldThemselves, OptionValue, option_octets, OptionHeld, OptionFits, options_emittable, IsCut, ParameterValue, parameter_octets, ParameterHeld, ParameterFits, Rising, parameters_emittable}
+use Rattle.dns_fields.specs.Pieces.{string, Numbered, piece, pieces, ArePieces, AllHeld, as_piece, HoldThemselves, OptionValue}
+use Rattle.dns_fields.specs.Pieces.{option_octets, OptionHeld, OptionFits, options_emittable, IsCut, ParameterValue, parameter_octets}
+use Rattle.dns_fields.specs.Pieces.{ParameterHeld, ParameterFits, Rising, parameters_emittable}
 use Rattle.dns_fields.specs.Bitmaps.{block, IsTypeSet, BitmapAt, minimal}
 
 pub data Kind : Type 0 where

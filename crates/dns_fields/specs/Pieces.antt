@@ -1,5 +1,6 @@
 -- Pieces with a number and a length, as the options of EDNS and the parameters of service binding.
-use Rattle.std.specs.Prelude.{◌≡◌, ◌≢◌, ℕ, ◌+◌, ◌/◌, ◌<◌, ◌≤◌, ◌^◌, ◌⊎◌, ◌==◌, ◌&&◌, ◌||◌, nat_le, nat_lt, Bool, true, false, if◌then◌else◌, List, [], ◌∷◌, ◌++◌, length, IsUtf8}
+use Rattle.std.specs.Prelude.{◌≡◌, ◌≢◌, ℕ, ◌+◌, ◌/◌, ◌<◌, ◌≤◌, ◌^◌, ◌⊎◌, ◌==◌, ◌&&◌, ◌||◌, nat_le, nat_lt, Bool, true, false}
+use Rattle.std.specs.Prelude.{if◌then◌else◌, List, [], ◌∷◌, ◌++◌, length, IsUtf8}
 use Rattle.std.specs.List.{flat_map, list_all, AllByRecursion}
 use Rattle.std.specs.Int.{bytes_high_first}
 
@@ -59,7 +60,8 @@ pub record IsAddress (family source : ℕ) (address : List ℕ) : Type 0 where
 
 -- The option with this code holds the value in these octets. What follows a subnet's address is ignored.
 abbrev pub OptionHeld : ℕ → List ℕ → OptionValue → Type 0
-OptionHeld code body (Subnet family source scope address) = (code ≡ 8) × IsAddress family source address × (surplus : List ℕ) × (body ≡ option_octets (Subnet family source scope address) ++ surplus)
+OptionHeld code body (Subnet family source scope address) = (code ≡ 8) × IsAddress family source address × (surplus : List ℕ)
+    × (body ≡ option_octets (Subnet family source scope address) ++ surplus)
 OptionHeld code body (Plain s) = (code ≢ 8) × (body ≡ s)
 
 -- a value that can be emitted, whatever its code
@@ -82,7 +84,9 @@ options_emittable v = list_all (λ x. nat_le (length (option_octets x.1)) 65535 
 -- Where n octets of options end before an option is whole: a code alone, or a code, a length of at most n,
 -- and fewer octets.
 abbrev pub IsCut : ℕ → List ℕ → Type 0
-IsCut n s = (code : ℕ) × (code < 256 ^ 2) × ((s ≡ bytes_high_first 2 code) ⊎ ((l : ℕ) × (x : List ℕ) × (l < 256 ^ 2) × (l ≤ n) × (length x < l) × (s ≡ bytes_high_first 2 code ++ (bytes_high_first 2 l ++ x))))
+IsCut n s = (code : ℕ) × (code < 256 ^ 2)
+    × ((s ≡ bytes_high_first 2 code) ⊎ ((l : ℕ) × (x : List ℕ) × (l < 256 ^ 2) × (l ≤ n) × (length x < l)
+    × (s ≡ bytes_high_first 2 code ++ (bytes_high_first 2 l ++ x))))
 
 -- ---- parameters (RFC 9460, 2.2 and 7)
 

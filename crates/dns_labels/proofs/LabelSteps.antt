@@ -1,5 +1,6 @@
 -- The steps of the reader of a label's text.
-use Rattle.std.proofs.Common.{◌≡◌, ◌≢◌, ℕ, ◌+◌, ◌<◌, ◌≤◌, List, [], ◌∷◌, ◌++◌, length, take, drop, get_or, refl, sym, ◌∙◌, ap, subst, append_assoc, arith, length-append, length-drop}
+use Rattle.std.proofs.Common.{◌≡◌, ◌≢◌, ℕ, ◌+◌, ◌<◌, ◌≤◌, List, [], ◌∷◌, ◌++◌, length, take, drop, get_or, refl, sym, ◌∙◌, ap, subst}
+use Rattle.std.proofs.Common.{append_assoc, arith, length-append, length-drop}
 use Rattle.std.proofs.Math.Seq.{take-add}
 use Rattle.std.proofs.lemmas.List.{append-nil, drop-drop, take-append-drop, append_cancel_left, get_or-drop, drop_more}
 use Rattle.std.proofs.lemmas.Grind.{common_steps}
@@ -36,12 +37,16 @@ label_done text at old new s end =
     let r = s.sound [] [] no_octet in
     record { label = s.front; reads = rw (append-nil s.front, append-nil (take at text)) at r; within = s.within; ends = end; octets = s.octets }
 
-left_refused : (text : List ℕ) (at : ℕ) (others others_text rest : List ℕ) → at < length text → get_or text at 0 ≢ 46 → ((n : ℕ) (t r : List ℕ) → OctetText n t → drop at text ≡ t ++ r → ⊥) → LabelText others others_text → drop at text ≡ others_text ++ rest → IsLabelEnd rest → ⊥
+left_refused : (text : List ℕ) (at : ℕ) (others others_text rest : List ℕ) → at < length text → get_or text at 0 ≢ 46
+    → ((n : ℕ) (t r : List ℕ) → OctetText n t → drop at text ≡ t ++ r → ⊥) → LabelText others others_text → drop at text ≡ others_text ++ rest
+    → IsLabelEnd rest → ⊥
 left_refused text at others others_text rest h ne none no_octet e end = not_ended text rest at h ne e end
 left_refused text at others others_text rest h ne none (octet {n = n} f r ot lt w) e end =
     none n f (r ++ rest) ot (e ∙ ap (λ (x : List ℕ). x ++ rest) w ∙ append_assoc f r rest)
 
-pub label_refused : (text : List ℕ) (at : ℕ) (old new : List ℕ) → LabelSoFar text at old new → at < length text → get_or text at 0 ≢ 46 → ((n : ℕ) (t r : List ℕ) → OctetText n t → drop at text ≡ t ++ r → ⊥) → (label t rest : List ℕ) → LabelText label t → text ≡ t ++ rest → IsLabelEnd rest → ⊥
+pub label_refused : (text : List ℕ) (at : ℕ) (old new : List ℕ) → LabelSoFar text at old new → at < length text → get_or text at 0 ≢ 46
+    → ((n : ℕ) (t r : List ℕ) → OctetText n t → drop at text ≡ t ++ r → ⊥) → (label t rest : List ℕ) → LabelText label t → text ≡ t ++ rest
+    → IsLabelEnd rest → ⊥
 label_refused text at old new s h ne none label t rest lt e end =
     let k = s.complete label t rest lt e end in
     left_refused text at k.others k.others_text rest h ne none k.reads k.stands end
@@ -54,7 +59,8 @@ record Behind (others : List ℕ) (n : ℕ) (text rest : List ℕ) : Type 0 wher
   reads : LabelText label label_text
   stands : text ≡ label_text ++ rest
 
-behind : (text : List ℕ) (at n : ℕ) (part more others others_text rest : List ℕ) → at < length text → get_or text at 0 ≢ 46 → OctetText n part → drop at text ≡ part ++ more → LabelText others others_text → drop at text ≡ others_text ++ rest → IsLabelEnd rest → Behind others n more rest
+behind : (text : List ℕ) (at n : ℕ) (part more others others_text rest : List ℕ) → at < length text → get_or text at 0 ≢ 46 → OctetText n part
+    → drop at text ≡ part ++ more → LabelText others others_text → drop at text ≡ others_text ++ rest → IsLabelEnd rest → Behind others n more rest
 behind text at n part more others others_text rest h ne ot split no_octet e end = absurd (not_ended text rest at h ne e end)
 behind text at n part more others others_text rest h ne ot split (octet {n = m} {label = label} f r other lt w) e end =
     let d : part ++ more ≡ f ++ (r ++ rest) = sym split ∙ e ∙ ap (λ (x : List ℕ). x ++ rest) w ∙ append_assoc f r rest in
@@ -62,7 +68,8 @@ behind text at n part more others others_text rest h ne ot split (octet {n = m} 
     let c : more ≡ r ++ rest = append_cancel_left part more (r ++ rest) (d ∙ ap (λ (x : List ℕ). x ++ (r ++ rest)) (sym u.1)) in
     record { label = label; label_text = r; joined = ap (λ (x : ℕ). x ∷ label) (sym u.0); reads = lt; stands = c }
 
-pub label_more : (text : List ℕ) (at taken n : ℕ) (old new : List ℕ) → LabelSoFar text at old new → at < length text → get_or text at 0 ≢ 46 → taken ≤ length (drop at text) → OctetText n (take taken (drop at text)) → LabelSoFar text (at + taken) old (new ++ n ∷ [])
+pub label_more : (text : List ℕ) (at taken n : ℕ) (old new : List ℕ) → LabelSoFar text at old new → at < length text → get_or text at 0 ≢ 46
+    → taken ≤ length (drop at text) → OctetText n (take taken (drop at text)) → LabelSoFar text (at + taken) old (new ++ n ∷ [])
 label_more text at taken n old new s h ne fits ot =
     let part = take taken (drop at text) in
     let t : take (at + taken) text ≡ take at text ++ part = take-add at taken text in
@@ -80,18 +87,28 @@ label_more text at taken n old new s h ne fits ot =
       complete = λ label u rest lt e end.
           let k = s.complete label u rest lt e end in
           let b = behind text at n part (drop (at + taken) text) k.others k.others_text rest h ne ot split k.reads k.stands end in
-          record { others = b.label; others_text = b.label_text; joined = k.joined ∙ ap (λ (x : List ℕ). s.front ++ x) b.joined ∙ sym (append_assoc s.front (n ∷ []) b.label); reads = b.reads; stands = b.stands };
+          record {
+            others = b.label;
+            others_text = b.label_text;
+            joined = k.joined ∙ ap (λ (x : List ℕ). s.front ++ x) b.joined
+                ∙ sym (append_assoc s.front (n ∷ []) b.label);
+            reads = b.reads;
+            stands = b.stands;
+          };
     }
 
 pub at_dot : (text : List ℕ) (at : ℕ) → at < length text → get_or text at 0 ≡ 46 → IsLabelEnd (drop at text)
 at_dot text at h e = rw (drop_more text at 0 h) e
 
-left_full : (text : List ℕ) (at : ℕ) (label front others others_text rest : List ℕ) → at < length text → get_or text at 0 ≢ 46 → LabelText others others_text → drop at text ≡ others_text ++ rest → IsLabelEnd rest → label ≡ front ++ others → length front < length label
+left_full : (text : List ℕ) (at : ℕ) (label front others others_text rest : List ℕ) → at < length text → get_or text at 0 ≢ 46
+    → LabelText others others_text → drop at text ≡ others_text ++ rest → IsLabelEnd rest → label ≡ front ++ others → length front < length label
 left_full text at label front others others_text rest h ne no_octet e end j = absurd (not_ended text rest at h ne e end)
-left_full text at label front others others_text rest h ne (octet {n = n} {label = l} f r ot lt w) e end j = omega (arith, ap length j, length-append front (n ∷ l))
+left_full text at label front others others_text rest h ne (octet {n = n} {label = l} f r ot lt w) e end j =
+    omega (arith, ap length j, length-append front (n ∷ l))
 
 -- the label has more octets than were read
-pub label_full : (text : List ℕ) (at : ℕ) (old new : List ℕ) → LabelSoFar text at old new → at < length text → get_or text at 0 ≢ 46 → (label t rest : List ℕ) → LabelText label t → text ≡ t ++ rest → IsLabelEnd rest → length new < length old + length label
+pub label_full : (text : List ℕ) (at : ℕ) (old new : List ℕ) → LabelSoFar text at old new → at < length text → get_or text at 0 ≢ 46
+    → (label t rest : List ℕ) → LabelText label t → text ≡ t ++ rest → IsLabelEnd rest → length new < length old + length label
 label_full text at old new s h ne label t rest lt e end =
     let k = s.complete label t rest lt e end in
     omega (arith, left_full text at label s.front k.others k.others_text rest h ne k.reads k.stands end k.joined, ap length s.octets, length-append old s.front)

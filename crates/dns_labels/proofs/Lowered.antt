@@ -1,5 +1,6 @@
 -- A name's lowered octets.
-use Rattle.std.proofs.Common.{◌≡◌, ◌↔◌, IsTrue, ℕ, ◌+◌, ◌<◌, ◌≤◌, take, get_or, Bool, true, false, List, [], ◌∷◌, ◌++◌, length, map, refl, sym, ◌∙◌, ap, append_assoc, arith}
+use Rattle.std.proofs.Common.{◌≡◌, ◌↔◌, IsTrue, ℕ, ◌+◌, ◌<◌, ◌≤◌, take, get_or, Bool, true, false, List, [], ◌∷◌, ◌++◌, length, map, refl}
+use Rattle.std.proofs.Common.{sym, ◌∙◌, ap, append_assoc, arith}
 use Rattle.std.proofs.lemmas.List.{length-map, map-append, append_cancel_right, take_more, take_more_set}
 use Rattle.std.specs.Prelude.{slice_set}
 use Rattle.std.proofs.lemmas.Bool.Decides.{nat_tests, same_from_decides}
@@ -24,8 +25,11 @@ lowered-wire [] h = refl
 lowered-wire (l ∷ labels) h =
     let f : List ℕ → List ℕ = map to_ascii_lowercase in
     let k : to_ascii_lowercase (length l) ≡ length l = kept (length l) h.0.1 in
-    let m : f (l ++ wire labels) ++ 0 ∷ [] ≡ f l ++ (f (wire labels) ++ 0 ∷ []) = ap (λ (t : List ℕ). t ++ 0 ∷ []) (map-append to_ascii_lowercase l (wire labels)) ∙ append_assoc (f l) (f (wire labels)) (0 ∷ []) in
-    ap (λ (t : List ℕ). length l ∷ (f l ++ t)) (lowered-wire labels h.1) ∙ ap (λ (t : List ℕ). length l ∷ t) (sym m) ∙ ap (λ (n : ℕ). n ∷ (f (l ++ wire labels) ++ 0 ∷ [])) (sym k)
+    let m : f (l ++ wire labels) ++ 0 ∷ [] ≡ f l
+    ++ (f (wire labels) ++ 0 ∷ []) = ap (λ (t : List ℕ). t ++ 0 ∷ []) (map-append to_ascii_lowercase l (wire labels))
+    ∙ append_assoc (f l) (f (wire labels)) (0 ∷ []) in
+    ap (λ (t : List ℕ). length l ∷ (f l ++ t)) (lowered-wire labels h.1) ∙ ap (λ (t : List ℕ). length l ∷ t) (sym m)
+    ∙ ap (λ (n : ℕ). n ∷ (f (l ++ wire labels) ++ 0 ∷ [])) (sym k)
 
 -- a name's canonical octets, from its octets
 pub lowered-of : (octets : List ℕ) → AreNameOctets octets → lowered (labels_of octets) ≡ lowered_octets octets
@@ -52,27 +56,34 @@ slice_cmp-zero [] (y ∷ b) = rw (less_than_some b) (zero_first y)
 slice_cmp-zero (x ∷ a) [] = rw (more_than_none a) (zero_second x)
 slice_cmp-zero (x ∷ a) (y ∷ b) = ap (λ (o : Ordering). ordering_then (nat_cmp x y) o) (slice_cmp-zero a b)
 
-pub compared : (a b : List ℕ) → AreNameOctets a → AreNameOctets b → slice_cmp nat_cmp (map to_ascii_lowercase a) (map to_ascii_lowercase b) ≡ slice_cmp nat_cmp (lowered (labels_of a)) (lowered (labels_of b))
+pub compared : (a b : List ℕ) → AreNameOctets a → AreNameOctets b
+    → slice_cmp nat_cmp (map to_ascii_lowercase a) (map to_ascii_lowercase b) ≡ slice_cmp nat_cmp (lowered (labels_of a)) (lowered (labels_of b))
 compared a b h k = rw (lowered-of a h, lowered-of b k) (sym (slice_cmp-zero (map to_ascii_lowercase a) (map to_ascii_lowercase b)))
 
-pub same_lowered : (a b : List ℕ) (r : Bool) → AreNameOctets a → AreNameOctets b → (IsTrue r ↔ (map to_ascii_lowercase a ≡ map to_ascii_lowercase b)) → r ≡ bytes_eq (lowered (labels_of a)) (lowered (labels_of b))
+pub same_lowered : (a b : List ℕ) (r : Bool) → AreNameOctets a → AreNameOctets b → (IsTrue r ↔ (map to_ascii_lowercase a ≡ map to_ascii_lowercase b))
+    → r ≡ bytes_eq (lowered (labels_of a)) (lowered (labels_of b))
 same_lowered a b r h k t =
     let d = bytes_eq-Decides (lowered (labels_of a)) (lowered (labels_of b)) in
     let e = lowered-of a h in
     let f = lowered-of b k in
-    let forth : lowered (labels_of a) ≡ lowered (labels_of b) → map to_ascii_lowercase a ≡ map to_ascii_lowercase b = λ s. append_cancel_right (map to_ascii_lowercase a) (map to_ascii_lowercase b) (0 ∷ []) (sym e ∙ s ∙ f) in
-    let back : map to_ascii_lowercase a ≡ map to_ascii_lowercase b → lowered (labels_of a) ≡ lowered (labels_of b) = λ s. e ∙ ap (λ (x : List ℕ). x ++ 0 ∷ []) s ∙ sym f in
+    let forth : lowered (labels_of a) ≡ lowered (labels_of b)
+    → map to_ascii_lowercase a ≡ map to_ascii_lowercase b = λ s. append_cancel_right (map to_ascii_lowercase a) (map to_ascii_lowercase b) (0 ∷ [])
+    (sym e ∙ s ∙ f) in
+    let back : map to_ascii_lowercase a ≡ map to_ascii_lowercase b
+    → lowered (labels_of a) ≡ lowered (labels_of b) = λ s. e ∙ ap (λ (x : List ℕ). x ++ 0 ∷ []) s ∙ sym f in
     same_from_decides r (bytes_eq (lowered (labels_of a)) (lowered (labels_of b))) t (λ s. forth (d.0 s), λ s. d.1 (back s))
 
 and-true : (b : Bool) → b ≡ (b && true)
 and-true true = refl
 and-true false = refl
 
-pub with_mark : (a b : List ℕ) (r m : Bool) → AreNameOctets a → AreNameOctets b → m ≡ true → (IsTrue r ↔ (map to_ascii_lowercase a ≡ map to_ascii_lowercase b)) → r ≡ (bytes_eq (lowered (labels_of a)) (lowered (labels_of b)) && m)
+pub with_mark : (a b : List ℕ) (r m : Bool) → AreNameOctets a → AreNameOctets b → m ≡ true
+    → (IsTrue r ↔ (map to_ascii_lowercase a ≡ map to_ascii_lowercase b)) → r ≡ (bytes_eq (lowered (labels_of a)) (lowered (labels_of b)) && m)
 with_mark a b r m h k same t = rw same (same_lowered a b r h k t ∙ and-true (bytes_eq (lowered (labels_of a)) (lowered (labels_of b))))
 
 -- one octet more is lowered
-pub lowered_more : (octets low : List ℕ) (i x : ℕ) → i < length octets → i < length low → take i low ≡ map to_ascii_lowercase (take i octets) → x ≡ to_ascii_lowercase (get_or octets i 0) → take (i + 1) (slice_set low i x) ≡ map to_ascii_lowercase (take (i + 1) octets)
+pub lowered_more : (octets low : List ℕ) (i x : ℕ) → i < length octets → i < length low → take i low ≡ map to_ascii_lowercase (take i octets)
+    → x ≡ to_ascii_lowercase (get_or octets i 0) → take (i + 1) (slice_set low i x) ≡ map to_ascii_lowercase (take (i + 1) octets)
 lowered_more octets low i x h k e v =
     let t : take (i + 1) octets ≡ take i octets ++ get_or octets i 0 ∷ [] = take_more octets i 0 h in
     take_more_set low i x k ∙ ap (λ (y : List ℕ). y ++ x ∷ []) e ∙ ap (λ (y : ℕ). map to_ascii_lowercase (take i octets) ++ y ∷ []) v

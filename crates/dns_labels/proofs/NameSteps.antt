@@ -1,5 +1,6 @@
 -- The steps of the reader of a name's text.
-use Rattle.std.proofs.Common.{◌≡◌, ◌≢◌, ℕ, ◌+◌, ◌-◌, ◌<◌, ◌≤◌, Bool, true, false, List, [], ◌∷◌, ◌++◌, length, take, drop, get_or, refl, sym, ◌∙◌, ap, subst, append_assoc, arith, length-append, length-drop}
+use Rattle.std.proofs.Common.{◌≡◌, ◌≢◌, ℕ, ◌+◌, ◌-◌, ◌<◌, ◌≤◌, Bool, true, false, List, [], ◌∷◌, ◌++◌, length, take, drop, get_or, refl}
+use Rattle.std.proofs.Common.{sym, ◌∙◌, ap, subst, append_assoc, arith, length-append, length-drop}
 use Rattle.std.specs.Prelude.{slice_set}
 use Rattle.std.proofs.Math.Seq.{set-append_seam}
 use Rattle.std.proofs.lemmas.List.{append-nil, append_cancel_left, drop-drop, drop_all, drop_more, take-append-drop}
@@ -14,16 +15,28 @@ use Rattle.dns_labels.proofs.NameTexts.{one_label, first_text, BackText, back_en
 use Rattle.dns_labels.proofs.NameTexts.BackText.{at_end, at_dot, further}
 
 -- the length octet is written in front of the label
-pub label_set : (text : List ℕ) (taken : ℕ) (old begun new : List ℕ) (start count : ℕ) → begun ≡ old ++ 0 ∷ [] → AddsOctets text taken begun new → start ≡ length old → count ≡ length new - start - 1 → 1 ≤ count → length new ≤ length begun + 63 → AddsLabel text taken old (slice_set new start count)
+pub label_set : (text : List ℕ) (taken : ℕ) (old begun new : List ℕ) (start count : ℕ) → begun ≡ old ++ 0 ∷ [] → AddsOctets text taken begun new
+    → start ≡ length old → count ≡ length new - start - 1 → 1 ≤ count → length new ≤ length begun + 63 → AddsLabel text taken old (slice_set new start count)
 label_set text taken old begun new start count b a s n some few =
     let e : new ≡ old ++ 0 ∷ a.label = a.octets ∙ ap (λ (x : List ℕ). x ++ a.label) b ∙ append_assoc old (0 ∷ []) a.label in
     let size : length new ≡ length old + (length a.label + 1) = ap length e ∙ length-append old (0 ∷ a.label) ∙ omega arith in
     let k : count ≡ length a.label = omega arith in
-    let f : slice_set new start count ≡ old ++ length a.label ∷ a.label = ap (λ (x : List ℕ). slice_set x start count) e ∙ ap (λ (i : ℕ). slice_set (old ++ 0 ∷ a.label) i count) s ∙ ap (λ (i : ℕ). slice_set (old ++ 0 ∷ a.label) (length old) i) k ∙ set-append_seam old 0 a.label (length a.label) in
-    record { label = a.label; is_label = (omega arith, omega (arith, ap length b, length-append old (0 ∷ []))); reads = a.reads; within = a.within; ends = a.ends; octets = f }
+    let f : slice_set new start count ≡ old ++ length a.label ∷ a.label = ap (λ (x : List ℕ). slice_set x start count) e
+    ∙ ap (λ (i : ℕ). slice_set (old ++ 0 ∷ a.label) i count) s ∙ ap (λ (i : ℕ). slice_set (old ++ 0 ∷ a.label) (length old) i) k
+    ∙ set-append_seam old 0 a.label (length a.label) in
+    record {
+      label = a.label;
+      is_label = (omega arith, omega (arith, ap length b, length-append old (0 ∷ [])));
+      reads = a.reads;
+      within = a.within;
+      ends =
+          a.ends;
+      octets = f;
+    }
 
 -- a label without octets was read, so no label stands there
-pub label_empty : (text : List ℕ) (taken : ℕ) (begun new : List ℕ) → AddsOctets text taken begun new → length new ≤ length begun → (label t rest : List ℕ) → LabelText label t → text ≡ t ++ rest → IsLabelEnd rest → IsLabel label → ⊥
+pub label_empty : (text : List ℕ) (taken : ℕ) (begun new : List ℕ) → AddsOctets text taken begun new → length new ≤ length begun → (label t rest : List ℕ)
+    → LabelText label t → text ≡ t ++ rest → IsLabelEnd rest → IsLabel label → ⊥
 label_empty text taken begun new a none label t rest lt e end is =
     let u = one_label (drop taken text) rest a.reads lt (take-append-drop taken text ∙ e) a.ends end in
     let u0 : a.label ≡ label = u.0 in
@@ -63,9 +76,11 @@ record OneMore (text : List ℕ) (at taken : ℕ) (old new : List ℕ) (front : 
   back : drop taken (drop at text) ≡ drop (at + taken) text
   split : drop at text ≡ take taken (drop at text) ++ drop (at + taken) text
 
-one_more : (text : List ℕ) (at taken : ℕ) (old new : List ℕ) (s : NameSoFar text at old) (a : AddsLabel (drop at text) taken old new) → OneMore text at taken old new s.front a.label
+one_more : (text : List ℕ) (at taken : ℕ) (old new : List ℕ) (s : NameSoFar text at old) (a : AddsLabel (drop at text) taken old new)
+    → OneMore text at taken old new s.front a.label
 one_more text at taken old new s a =
-    let w : wire (s.front ++ a.label ∷ []) ≡ old ++ length a.label ∷ a.label = wire-append s.front (a.label ∷ []) ∙ ap (λ (x : List ℕ). x ++ length a.label ∷ (a.label ++ [])) (sym s.same) ∙ ap (λ (x : List ℕ). old ++ length a.label ∷ x) (append-nil a.label) in
+    let w : wire (s.front ++ a.label ∷ []) ≡ old ++ length a.label ∷ a.label = wire-append s.front (a.label ∷ [])
+    ∙ ap (λ (x : List ℕ). x ++ length a.label ∷ (a.label ++ [])) (sym s.same) ∙ ap (λ (x : List ℕ). old ++ length a.label ∷ x) (append-nil a.label) in
     let b : drop taken (drop at text) ≡ drop (at + taken) text = drop-drop taken at text in
     record {
       are = AreLabels-append s.front (a.label ∷ []) s.are (a.is_label, tt);
@@ -75,21 +90,25 @@ one_more text at taken old new s a =
       split = sym (take-append-drop taken (drop at text)) ∙ ap (λ (x : List ℕ). take taken (drop at text) ++ x) b;
     }
 
-read_as : (text octets : List ℕ) (labels : List (List ℕ)) (mark : Bool) → AreLabels labels → octets ≡ wire labels → length octets ≤ 254 → LabelsText labels mark text → AreNameOctets octets × IsNameText (name_of octets mark) text
+read_as : (text octets : List ℕ) (labels : List (List ℕ)) (mark : Bool) → AreLabels labels → octets ≡ wire labels → length octets ≤ 254
+    → LabelsText labels mark text → AreNameOctets octets × IsNameText (name_of octets mark) text
 read_as text octets labels mark are same room ls =
     let fits : FitsName labels = omega (arith, ap length same) in
     let l : labels_of octets ≡ labels = labels_from octets labels same in
     (are_name_octets octets labels are fits same, record { is_name = record { labels = rw l are; fits = rw l fits }; reads = labelled (rw l ls) })
 
 -- the last label ends the text
-pub name_ends : (text : List ℕ) (at taken : ℕ) (old new : List ℕ) → NameSoFar text at old → AddsLabel (drop at text) taken old new → length new ≤ 254 → at + taken ≡ length text → AreNameOctets new × IsNameText (name_of new false) text
+pub name_ends : (text : List ℕ) (at taken : ℕ) (old new : List ℕ) → NameSoFar text at old → AddsLabel (drop at text) taken old new → length new ≤ 254
+    → at + taken ≡ length text → AreNameOctets new × IsNameText (name_of new false) text
 name_ends text at taken old new s a room done =
     let o = one_more text at taken old new s a in
     let none : drop (at + taken) text ≡ [] = drop_all (at + taken) text (omega arith) in
-    let whole : take taken (drop at text) ≡ drop at text = sym (o.split ∙ ap (λ (x : List ℕ). take taken (drop at text) ++ x) none ∙ append-nil (take taken (drop at text))) in
+    let whole : take taken (drop at text) ≡ drop at text =
+    sym (o.split ∙ ap (λ (x : List ℕ). take taken (drop at text) ++ x) none ∙ append-nil (take taken (drop at text))) in
     read_as text new (s.front ++ a.label ∷ []) false o.are o.same room (s.sound (a.label ∷ []) false (last (rw whole at a.reads)))
 
-dot_next : (text : List ℕ) (at taken : ℕ) (old new : List ℕ) (s : NameSoFar text at old) (a : AddsLabel (drop at text) taken old new) → at + taken < length text → drop at text ≡ take taken (drop at text) ++ 46 ∷ drop (at + taken + 1) text
+dot_next : (text : List ℕ) (at taken : ℕ) (old new : List ℕ) (s : NameSoFar text at old) (a : AddsLabel (drop at text) taken old new)
+    → at + taken < length text → drop at text ≡ take taken (drop at text) ++ 46 ∷ drop (at + taken + 1) text
 dot_next text at taken old new s a more =
     let o = one_more text at taken old new s a in
     let d : drop (at + taken) text ≡ get_or text (at + taken) 0 ∷ drop (at + taken + 1) text = drop_more text (at + taken) 0 more in
@@ -97,14 +116,16 @@ dot_next text at taken old new s a more =
     o.split ∙ ap (λ (x : List ℕ). take taken (drop at text) ++ x) (d ∙ ap (λ (c : ℕ). c ∷ drop (at + taken + 1) text) dot)
 
 -- a dot behind the last label ends the text
-pub name_dotted : (text : List ℕ) (at taken : ℕ) (old new : List ℕ) → NameSoFar text at old → AddsLabel (drop at text) taken old new → length new ≤ 254 → at + taken < length text → at + taken + 1 ≡ length text → AreNameOctets new × IsNameText (name_of new true) text
+pub name_dotted : (text : List ℕ) (at taken : ℕ) (old new : List ℕ) → NameSoFar text at old → AddsLabel (drop at text) taken old new → length new ≤ 254
+    → at + taken < length text → at + taken + 1 ≡ length text → AreNameOctets new × IsNameText (name_of new true) text
 name_dotted text at taken old new s a room more done =
     let o = one_more text at taken old new s a in
     let none : drop (at + taken + 1) text ≡ [] = drop_all (at + taken + 1) text (omega arith) in
     let e = dot_next text at taken old new s a more ∙ ap (λ (x : List ℕ). take taken (drop at text) ++ 46 ∷ x) none in
     read_as text new (s.front ++ a.label ∷ []) true o.are o.same room (s.sound (a.label ∷ []) true (dotted (take taken (drop at text)) a.reads e))
 
-next_left : (label : List ℕ) (front : List (List ℕ)) (part more : List ℕ) (labels rest : List (List ℕ)) (mark : Bool) (text : List ℕ) → LabelText label part → text ≡ part ++ 46 ∷ more → 1 ≤ length more → labels ≡ front ++ rest → LabelsText rest mark text → NameLeft labels mark (front ++ label ∷ []) more
+next_left : (label : List ℕ) (front : List (List ℕ)) (part more : List ℕ) (labels rest : List (List ℕ)) (mark : Bool) (text : List ℕ) → LabelText label part
+    → text ≡ part ++ 46 ∷ more → 1 ≤ length more → labels ≡ front ++ rest → LabelsText rest mark text → NameLeft labels mark (front ++ label ∷ []) more
 next_left label front part more labels rest mark text lt e some j ls =
     let f = first_text ls in
     let z : part ++ 46 ∷ more ≡ f.front ++ f.back = sym e ∙ f.stands in
@@ -113,16 +134,20 @@ next_left label front part more labels rest mark text lt e some j ls =
     let u1 : part ≡ f.front = u.1 in
     let back : f.back ≡ 46 ∷ more = sym (append_cancel_left part (46 ∷ more) f.back (z ∙ ap (λ (i : List ℕ). i ++ f.back) (sym u1))) in
     let split : rest ≡ label ∷ f.others = f.split ∙ ap (λ (l : List ℕ). l ∷ f.others) (sym u0) in
-    let whole : labels ≡ (front ++ label ∷ []) ++ f.others = j ∙ ap (λ (l : List (List ℕ)). front ++ l) split ∙ sym (append_assoc front (label ∷ []) f.others) in
+    let whole : labels ≡ (front ++ label ∷ []) ++ f.others = j ∙ ap (λ (l : List (List ℕ)). front ++ l) split
+    ∙ sym (append_assoc front (label ∷ []) f.others) in
     record { rest = f.others; joined = whole; reads = behind_dot f.behind back some }
   where
     behind_dot : {others : List (List ℕ)} {m : Bool} {b : List ℕ} → BackText others m b → b ≡ 46 ∷ more → 1 ≤ length more → LabelsText others m more
     behind_dot {others} {m} {b} (at_end o k n) e some = let bad : [] ≡ 46 ∷ more = sym n ∙ e in absurd cc
-    behind_dot {others} {m} {b} (at_dot o k n) e some = let bad : [] ≡ more = let w : 46 ∷ [] ≡ 46 ∷ more = sym n ∙ e in cc in absurd (omega (arith, ap length bad))
-    behind_dot {others} {m} {b} (further r n ls) e some = let same : r ≡ more = let w : 46 ∷ r ≡ 46 ∷ more = sym n ∙ e in cc in subst (λ (x : List ℕ). LabelsText others m x) same ls
+    behind_dot {others} {m} {b} (at_dot o k n) e some = let bad : [] ≡ more = let w : 46 ∷ [] ≡ 46 ∷ more = sym n
+        ∙ e in cc in absurd (omega (arith, ap length bad))
+    behind_dot {others} {m} {b} (further r n ls) e some = let same : r ≡ more = let w : 46 ∷ r ≡ 46 ∷ more = sym n
+        ∙ e in cc in subst (λ (x : List ℕ). LabelsText others m x) same ls
 
 -- a further label stands behind a dot
-pub name_more : (text : List ℕ) (at taken : ℕ) (old new : List ℕ) → NameSoFar text at old → AddsLabel (drop at text) taken old new → length new ≤ 254 → at + taken + 1 < length text → NameSoFar text (at + taken + 1) new
+pub name_more : (text : List ℕ) (at taken : ℕ) (old new : List ℕ) → NameSoFar text at old → AddsLabel (drop at text) taken old new → length new ≤ 254
+    → at + taken + 1 < length text → NameSoFar text (at + taken + 1) new
 name_more text at taken old new s a room more =
     let o = one_more text at taken old new s a in
     let part = take taken (drop at text) in
@@ -133,29 +158,40 @@ name_more text at taken old new s a room more =
       same = o.same;
       within = omega arith;
       room = room;
-      sound = λ rest mark ls. subst (λ (x : List (List ℕ)). LabelsText x mark text) (sym (append_assoc s.front (a.label ∷ []) rest)) (s.sound (a.label ∷ rest) mark (joined part (drop (at + taken + 1) text) a.reads ls e));
+      sound = λ rest mark ls. subst (λ (x : List (List ℕ)). LabelsText x mark text) (sym (append_assoc s.front (a.label ∷ []) rest))
+          (s.sound (a.label ∷ rest) mark (joined part (drop (at + taken + 1) text) a.reads ls e));
       complete = λ labels mark are ls.
           let k = s.complete labels mark are ls in
-          next_left a.label s.front part (drop (at + taken + 1) text) labels k.rest mark (drop at text) a.reads e (omega (arith, length-drop (at + taken + 1) text)) k.joined k.reads;
+          next_left a.label s.front part (drop (at + taken + 1) text) labels k.rest mark (drop at text) a.reads e
+          (omega (arith, length-drop (at + taken + 1) text)) k.joined k.reads;
     }
 
 -- no text or a dot alone
 pub reads_nothing : (text octets : List ℕ) → octets ≡ [] → length text ≡ 0 → AreNameOctets octets × IsNameText (name_of octets false) text
-reads_nothing [] octets e n = rw e (record { are = tt; same = refl; room = omega arith }, record { is_name = record { labels = tt; fits = omega arith }; reads = nothing })
+reads_nothing [] octets e n = rw e (
+  record { are = tt; same = refl; room = omega arith },
+  record
+      { is_name = record { labels = tt; fits = omega arith }; reads = nothing },
+)
 reads_nothing (c ∷ text) octets e n = absurd (omega arith)
 
 pub reads_root : (text octets : List ℕ) → octets ≡ [] → length text ≡ 1 → get_or text 0 0 ≡ 46 → AreNameOctets octets × IsNameText (name_of octets true) text
 reads_root [] octets e n d = absurd (omega arith)
-reads_root (c ∷ []) octets e n d = rw (e, d) (record { are = tt; same = refl; room = omega arith }, record { is_name = record { labels = tt; fits = omega arith }; reads = root })
+reads_root (c ∷ []) octets e n d = rw (e, d)
+    (record { are = tt; same = refl; room = omega arith }, record { is_name = record { labels = tt; fits = omega arith }; reads = root })
 reads_root (c ∷ b ∷ text) octets e n d = absurd (omega arith)
 
-labels_refused : (text : List ℕ) (at : ℕ) (octets : List ℕ) (labels : List (List ℕ)) (mark : Bool) → NameSoFar text at octets → ((label t rest : List ℕ) → LabelText label t → drop at text ≡ t ++ rest → IsLabelEnd rest → IsLabel label → length octets + (1 + length label) ≤ 254 → ⊥) → AreLabels labels → FitsName labels → LabelsText labels mark text → ⊥
+labels_refused : (text : List ℕ) (at : ℕ) (octets : List ℕ) (labels : List (List ℕ)) (mark : Bool) → NameSoFar text at octets
+    → ((label t rest : List ℕ) → LabelText label t → drop at text ≡ t ++ rest → IsLabelEnd rest → IsLabel label → length octets + (1 + length label) ≤ 254
+    → ⊥) → AreLabels labels → FitsName labels → LabelsText labels mark text → ⊥
 labels_refused text at octets labels mark s none are fits ls =
     let k = s.complete labels mark are ls in
     let f = first_text k.reads in
     let j : labels ≡ s.front ++ (f.label ∷ f.others) = k.joined ∙ ap (λ (x : List (List ℕ)). s.front ++ x) f.split in
     let is = second_are s.front f.label f.others (subst AreLabels j are) in
-    let w : length (wire labels) ≡ length (wire s.front) + (1 + (length f.label + length (wire f.others))) = ap (λ (x : List (List ℕ)). length (wire x)) j ∙ ap length (wire-append s.front (f.label ∷ f.others)) ∙ length-append (wire s.front) (wire (f.label ∷ f.others)) ∙ omega (arith, length-append f.label (wire f.others)) in
+    let w : length (wire labels) ≡ length (wire s.front) + (1 + (length f.label + length (wire f.others))) = ap (λ (x : List (List ℕ)). length (wire x)) j
+    ∙ ap length (wire-append s.front (f.label ∷ f.others)) ∙ length-append (wire s.front) (wire (f.label ∷ f.others))
+    ∙ omega (arith, length-append f.label (wire f.others)) in
     none f.label f.front f.back f.reads f.stands (back_ends f.behind) is (omega (arith, fits, ap length s.same))
   where
     second_are : (front : List (List ℕ)) (label : List ℕ) (others : List (List ℕ)) → AreLabels (front ++ (label ∷ others)) → IsLabel label
@@ -163,10 +199,15 @@ labels_refused text at octets labels mark s none are fits ls =
     second_are (l ∷ front) label others h = second_are front label others h.1
 
 -- no label stands there, so the text is that of no name
-pub name_refused : (text : List ℕ) (at : ℕ) (octets : List ℕ) → NameSoFar text at octets → 1 ≤ length text → (length text ≡ 1 → get_or text 0 0 ≢ 46) → ((label t rest : List ℕ) → LabelText label t → drop at text ≡ t ++ rest → IsLabelEnd rest → IsLabel label → length octets + (1 + length label) ≤ 254 → ⊥) → (name : DomainName) → IsNameText name text → ⊥
-name_refused text at octets s some no_dot none name n = marked_refused text at octets name.labels name.fully_qualified s some no_dot none n.is_name.labels n.is_name.fits n.reads
+pub name_refused : (text : List ℕ) (at : ℕ) (octets : List ℕ) → NameSoFar text at octets → 1 ≤ length text → (length text ≡ 1 → get_or text 0 0 ≢ 46)
+    → ((label t rest : List ℕ) → LabelText label t → drop at text ≡ t ++ rest → IsLabelEnd rest → IsLabel label → length octets + (1 + length label) ≤ 254
+    → ⊥) → (name : DomainName) → IsNameText name text → ⊥
+name_refused text at octets s some no_dot none name n = marked_refused text at octets name.labels name.fully_qualified s some no_dot none n.is_name.labels
+    n.is_name.fits n.reads
   where
-    marked_refused : (t : List ℕ) (a : ℕ) (o : List ℕ) (labels : List (List ℕ)) (mark : Bool) → NameSoFar t a o → 1 ≤ length t → (length t ≡ 1 → get_or t 0 0 ≢ 46) → ((label u rest : List ℕ) → LabelText label u → drop a t ≡ u ++ rest → IsLabelEnd rest → IsLabel label → length o + (1 + length label) ≤ 254 → ⊥) → AreLabels labels → FitsName labels → MarkedText labels mark t → ⊥
+    marked_refused : (t : List ℕ) (a : ℕ) (o : List ℕ) (labels : List (List ℕ)) (mark : Bool) → NameSoFar t a o → 1 ≤ length t
+        → (length t ≡ 1 → get_or t 0 0 ≢ 46) → ((label u rest : List ℕ) → LabelText label u → drop a t ≡ u ++ rest → IsLabelEnd rest → IsLabel label
+        → length o + (1 + length label) ≤ 254 → ⊥) → AreLabels labels → FitsName labels → MarkedText labels mark t → ⊥
     marked_refused t a o labels mark s some no_dot none are fits root = no_dot refl refl
     marked_refused t a o labels mark s some no_dot none are fits nothing = omega arith
     marked_refused t a o labels mark s some no_dot none are fits (labelled ls) = labels_refused t a o labels mark s none are fits ls

@@ -57,9 +57,12 @@ pub record FirstText (labels : List (List ℕ)) (mark : Bool) (text : List ℕ) 
   pub behind : BackText others mark back
 
 pub first_text : {labels : List (List ℕ)} {mark : Bool} {text : List ℕ} → LabelsText labels mark text → FirstText labels mark text
-first_text (last {label = label} {text = text} lt) = record { label = label; others = []; front = text; back = []; split = refl; reads = lt; stands = sym (append-nil text); behind = at_end refl refl refl }
-first_text (dotted {label = label} front lt e) = record { label = label; others = []; front = front; back = 46 ∷ []; split = refl; reads = lt; stands = e; behind = at_dot refl refl refl }
-first_text (joined {label = label} {labels = labels} front rest lt ls e) = record { label = label; others = labels; front = front; back = 46 ∷ rest; split = refl; reads = lt; stands = e; behind = further rest refl ls }
+first_text (last {label = label} {text = text} lt) =
+    record { label = label; others = []; front = text; back = []; split = refl; reads = lt; stands = sym (append-nil text); behind = at_end refl refl refl }
+first_text (dotted {label = label} front lt e) =
+    record { label = label; others = []; front = front; back = 46 ∷ []; split = refl; reads = lt; stands = e; behind = at_dot refl refl refl }
+first_text (joined {label = label} {labels = labels} front rest lt ls e) =
+    record { label = label; others = labels; front = front; back = 46 ∷ rest; split = refl; reads = lt; stands = e; behind = further rest refl ls }
 
 pub back_ends : {others : List (List ℕ)} {mark : Bool} {back : List ℕ} → BackText others mark back → IsLabelEnd back
 back_ends {others} {mark} {back} (at_end o m b) = rw b tt
@@ -68,7 +71,8 @@ back_ends {others} {mark} {back} (further rest b ls) = rw b refl
 
 label_no_end : {label front : List ℕ} (back : List ℕ) → LabelText label front → 1 ≤ length label → IsLabelEnd (front ++ back) → ⊥
 label_no_end back no_octet h e = absurd (omega arith)
-label_no_end back (octet {n = n} f r ot lt w) h e = octet_no_end n f (r ++ back) ot (subst IsLabelEnd (ap (λ (u : List ℕ). u ++ back) w ∙ append_assoc f r back) e)
+label_no_end back (octet {n = n} f r ot lt w) h e =
+    octet_no_end n f (r ++ back) ot (subst IsLabelEnd (ap (λ (u : List ℕ). u ++ back) w ∙ append_assoc f r back) e)
 
 -- no text of labels begins with a label's end
 pub labels_no_end : {labels : List (List ℕ)} {mark : Bool} {text : List ℕ} → LabelsText labels mark text → AreLabels labels → IsLabelEnd text → ⊥
@@ -80,7 +84,8 @@ labels_no_end {labels} {mark} {text} ls are e =
 no_rest : {labels : List (List ℕ)} {mark : Bool} (rest : List ℕ) → LabelsText labels mark rest → AreLabels labels → 46 ∷ [] ≡ 46 ∷ rest → ⊥
 no_rest rest ls are e = let n : rest ≡ [] = cc in labels_no_end ls are (rw n tt)
 
-one_back : {a b : List (List ℕ)} {m n : Bool} {x : List ℕ} → BackText a m x → BackText b n x → AreLabels a → AreLabels b → ((rest : List ℕ) → LabelsText a m rest → LabelsText b n rest → (a ≡ b) × (m ≡ n)) → (a ≡ b) × (m ≡ n)
+one_back : {a b : List (List ℕ)} {m n : Bool} {x : List ℕ} → BackText a m x → BackText b n x → AreLabels a → AreLabels b
+    → ((rest : List ℕ) → LabelsText a m rest → LabelsText b n rest → (a ≡ b) × (m ≡ n)) → (a ≡ b) × (m ≡ n)
 one_back (at_end o m b) (at_end p n c) h k same = (cc, cc)
 one_back (at_end o m b) (at_dot p n c) h k same = absurd cc
 one_back (at_end o m b) (further rest c ls) h k same = absurd cc
@@ -94,7 +99,8 @@ one_back {b = others} {n = n} (further rest b ls) (further rest' c ks) h k same 
     same rest ls (subst (λ (u : List ℕ). LabelsText others n u) e ks)
 
 -- a text is that of one list of labels, with one mark
-one_labels : (more : ℕ) {a b : List (List ℕ)} {m n : Bool} {s : List ℕ} → length a ≤ more → LabelsText a m s → LabelsText b n s → AreLabels a → AreLabels b → (a ≡ b) × (m ≡ n)
+one_labels : (more : ℕ) {a b : List (List ℕ)} {m n : Bool} {s : List ℕ} → length a ≤ more → LabelsText a m s → LabelsText b n s → AreLabels a → AreLabels b
+    → (a ≡ b) × (m ≡ n)
 one_labels zero {a} {b} {m} {n} {s} size ls ks h k = let f = first_text ls in absurd (omega (arith, ap length f.split))
 one_labels (suc more) {a} {b} {m} {n} {s} size ls ks h k =
     let f = first_text ls in
@@ -123,7 +129,8 @@ one_marked (labelled ls) nothing h k = absurd (labels_no_end ls h tt)
 one_marked {a} {b} (labelled ls) (labelled ks) h k = one_labels (length a) (omega arith) ls ks h k
 
 made : (x y : DomainName) → x.labels ≡ y.labels → x.fully_qualified ≡ y.fully_qualified → x ≡ y
-made x y e f = let both : (x.labels, x.fully_qualified) ≡ (y.labels, y.fully_qualified) = cc in ap (λ (p : List (List ℕ) × Bool). record { labels = p.0; fully_qualified = p.1 }) both
+made x y e f = let both : (x.labels, x.fully_qualified) ≡ (y.labels, y.fully_qualified) = cc in
+    ap (λ (p : List (List ℕ) × Bool). record { labels = p.0; fully_qualified = p.1 }) both
 
 pub one_name : (text : List ℕ) (x y : DomainName) → IsNameText x text → IsNameText y text → x ≡ y
 one_name text x y a b = let u = one_marked a.reads b.reads a.is_name.labels b.is_name.labels in made x y u.0 u.1
@@ -139,17 +146,24 @@ tail_labels label labels h = All-tail AreOctets label labels h
 
 pub label_reads : (label : List ℕ) → AreOctets label → LabelText label (label_text label)
 label_reads [] h = no_octet
-label_reads (c ∷ label) h = octet (printed c) (label_text label) (printed_text c (head_octet c label h)) (label_reads label (All-tail (λ (x : ℕ). x < 256) c label h)) refl
+label_reads (c ∷ label) h = octet (printed c) (label_text label) (printed_text c (head_octet c label h))
+    (label_reads label (All-tail (λ (x : ℕ). x < 256) c label h)) refl
 
 relative_reads : (label : List ℕ) (labels : List (List ℕ)) → All AreOctets (label ∷ labels) → LabelsText (label ∷ labels) false (joined_text (label ∷ labels))
 relative_reads label [] h = rw (append-nil (label_text label)) (last (label_reads label (head_label label [] h)))
-relative_reads label (next ∷ labels) h = joined (label_text label) (joined_text (next ∷ labels)) (label_reads label (head_label label (next ∷ labels) h)) (relative_reads next labels (tail_labels label (next ∷ labels) h)) refl
+relative_reads label (next ∷ labels) h = joined (label_text label) (joined_text (next ∷ labels)) (label_reads label (head_label label (next ∷ labels) h))
+    (relative_reads next labels (tail_labels label (next ∷ labels) h)) refl
 
-qualified_reads : (label : List ℕ) (labels : List (List ℕ)) → All AreOctets (label ∷ labels) → LabelsText (label ∷ labels) true (joined_text (label ∷ labels) ++ 46 ∷ [])
-qualified_reads label [] h = dotted (label_text label) (label_reads label (head_label label [] h)) (ap (λ (t : List ℕ). t ++ 46 ∷ []) (append-nil (label_text label)))
-qualified_reads label (next ∷ labels) h = joined (label_text label) (joined_text (next ∷ labels) ++ 46 ∷ []) (label_reads label (head_label label (next ∷ labels) h)) (qualified_reads next labels (tail_labels label (next ∷ labels) h)) (append_assoc (label_text label) (46 ∷ joined_text (next ∷ labels)) (46 ∷ []))
+qualified_reads : (label : List ℕ) (labels : List (List ℕ)) → All AreOctets (label ∷ labels)
+    → LabelsText (label ∷ labels) true (joined_text (label ∷ labels) ++ 46 ∷ [])
+qualified_reads label [] h = dotted (label_text label) (label_reads label (head_label label [] h))
+    (ap (λ (t : List ℕ). t ++ 46 ∷ []) (append-nil (label_text label)))
+qualified_reads label (next ∷ labels) h = joined (label_text label) (joined_text (next ∷ labels) ++ 46 ∷ [])
+    (label_reads label (head_label label (next ∷ labels) h)) (qualified_reads next labels (tail_labels label (next ∷ labels) h))
+    (append_assoc (label_text label) (46 ∷ joined_text (next ∷ labels)) (46 ∷ []))
 
-marked_reads : (labels : List (List ℕ)) (mark : Bool) → All AreOctets labels → MarkedText labels mark (name_text (record { labels = labels; fully_qualified = mark }))
+marked_reads : (labels : List (List ℕ)) (mark : Bool) → All AreOctets labels
+    → MarkedText labels mark (name_text (record { labels = labels; fully_qualified = mark }))
 marked_reads [] true h = root
 marked_reads [] false h = nothing
 marked_reads (label ∷ labels) true h = labelled (qualified_reads label labels h)
@@ -160,11 +174,15 @@ pub name_reads : (x : DomainName) → IsName x → HasOctets x → IsNameText x 
 name_reads x is h = record { is_name = is; reads = marked_reads x.labels x.fully_qualified h }
 
 -- one label more was written behind a dot
-pub joined_more : (text label : List ℕ) (old rest : List (List ℕ)) (whole : List ℕ) → old ≡ label ∷ rest → text ++ flat_map (λ other. 46 ∷ label_text other) old ≡ whole → ((text ++ 46 ∷ []) ++ label_text label) ++ flat_map (λ other. 46 ∷ label_text other) rest ≡ whole
+pub joined_more : (text label : List ℕ) (old rest : List (List ℕ)) (whole : List ℕ) → old ≡ label ∷ rest
+    → text ++ flat_map (λ other. 46 ∷ label_text other) old ≡ whole
+    → ((text ++ 46 ∷ []) ++ label_text label) ++ flat_map (λ other. 46 ∷ label_text other) rest ≡ whole
 joined_more text label old rest whole e w =
     let dots : List (List ℕ) → List ℕ = λ labels. flat_map (λ other. 46 ∷ label_text other) labels in
-    append_assoc (text ++ 46 ∷ []) (label_text label) (dots rest) ∙ append_assoc text (46 ∷ []) (label_text label ++ dots rest) ∙ ap (λ (l : List (List ℕ)). text ++ dots l) (sym e) ∙ w
+    append_assoc (text ++ 46 ∷ []) (label_text label) (dots rest) ∙ append_assoc text (46 ∷ []) (label_text label ++ dots rest)
+    ∙ ap (λ (l : List (List ℕ)). text ++ dots l) (sym e) ∙ w
 
 -- no label is left
-pub joined_all : (text : List ℕ) (old : List (List ℕ)) (whole : List ℕ) → old ≡ [] → text ++ flat_map (λ other. 46 ∷ label_text other) old ≡ whole → text ≡ whole
+pub joined_all : (text : List ℕ) (old : List (List ℕ)) (whole : List ℕ) → old ≡ [] → text ++ flat_map (λ other. 46 ∷ label_text other) old ≡ whole
+    → text ≡ whole
 joined_all text old whole e w = sym (append-nil text) ∙ ap (λ (l : List (List ℕ)). text ++ flat_map (λ other. 46 ∷ label_text other) l) (sym e) ∙ w

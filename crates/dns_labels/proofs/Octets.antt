@@ -29,12 +29,14 @@ pub record FirstLabel (octets : List ℕ) (count : ℕ) : Type 0 where
   pub others : AreNameOctets (drop (count + 1) octets)
   pub split : labels_of octets ≡ take count (drop 1 octets) ∷ labels_of (drop (count + 1) octets)
 
-first_from : (octets : List ℕ) (labels : List (List ℕ)) → AreLabels labels → octets ≡ wire labels → length octets ≤ 254 → 1 ≤ length octets → FirstLabel octets (get_or octets 0 0)
+first_from : (octets : List ℕ) (labels : List (List ℕ)) → AreLabels labels → octets ≡ wire labels → length octets ≤ 254 → 1 ≤ length octets
+    → FirstLabel octets (get_or octets 0 0)
 first_from octets [] h e room some = absurd (omega (arith, ap length e))
 first_from octets (l ∷ labels) h e room some =
     let split : labels_of octets ≡ l ∷ labels = labels_from octets (l ∷ labels) e in
     let n : get_or octets 0 0 ≡ length l = ap (λ (o : List ℕ). get_or o 0 0) e in
-    let t : drop (length l + 1) octets ≡ wire labels = ap (λ (o : List ℕ). drop (length l + 1) o) e ∙ drop_at (length l ∷ l) (wire labels) (length l + 1) (omega arith) in
+    let t : drop (length l + 1) octets ≡ wire labels = ap (λ (o : List ℕ). drop (length l + 1) o) e
+    ∙ drop_at (length l ∷ l) (wire labels) (length l + 1) (omega arith) in
     let f : take (length l) (drop 1 octets) ≡ l = ap (λ (o : List ℕ). take (length l) (drop 1 o)) e ∙ take_at l (wire labels) (length l) refl in
     let u : labels_of (drop (length l + 1) octets) ≡ labels = labels_from (drop (length l + 1) octets) labels t in
     let size = ap length e in

@@ -1,5 +1,6 @@
 -- One run after another makes a name.
-use Rattle.std.proofs.Common.{◌≡◌, ℕ, ◌+◌, ◌-◌, ◌/◌, ◌%◌, ◌<◌, ◌≤◌, List, [], ◌∷◌, ◌++◌, length, take, drop, get_or, Option, Some, None, refl, sym, ◌∙◌, ap, subst, append_assoc, arith, length-append}
+use Rattle.std.proofs.Common.{◌≡◌, ℕ, ◌+◌, ◌-◌, ◌/◌, ◌%◌, ◌<◌, ◌≤◌, List, [], ◌∷◌, ◌++◌, length, take, drop, get_or, Option, Some, None}
+use Rattle.std.proofs.Common.{refl, sym, ◌∙◌, ap, subst, append_assoc, arith, length-append}
 use Rattle.std.proofs.lemmas.List.{append-nil}
 use Rattle.std.proofs.Math.Seq.{take-append_seam}
 use Rattle.dns_fields.specs.Labels.{wire, FitsName}
@@ -21,13 +22,15 @@ pub record Parts (labels front : List (List ℕ)) (window : List ℕ) (place : �
   pub joined : labels ≡ front ++ rest
   pub stands : RestStands window place stop rest
 
-pub run_stands : {w : List ℕ} {p end : ℕ} {front : List (List ℕ)} (stop : Option ℕ) (rest : List (List ℕ)) → IsRun w p front stop end → RestStands w p stop rest → LabelsStand w p (front ++ rest) end
+pub run_stands : {w : List ℕ} {p end : ℕ} {front : List (List ℕ)} (stop : Option ℕ) (rest : List (List ℕ)) → IsRun w p front stop end
+    → RestStands w p stop rest → LabelsStand w p (front ++ rest) end
 run_stands {w} {p} {end} {front} None rest r s =
     let e : front ++ rest ≡ front = rw s (append-nil front) in
     rw e (whole r.behind r.are r.stands r.ends)
 run_stands {w} {p} {end} {front} (Some t) rest r s = pointed front rest t s.0 r.behind r.are r.stands r.target s.1 s.2 refl r.ends
 
-pub stands_run : {w : List ℕ} {p end e : ℕ} {front labels : List (List ℕ)} (stop : Option ℕ) → IsRun w p front stop end → LabelsStand w p labels e → Parts labels front w p stop
+pub stands_run : {w : List ℕ} {p end e : ℕ} {front labels : List (List ℕ)} (stop : Option ℕ) → IsRun w p front stop end → LabelsStand w p labels e
+    → Parts labels front w p stop
 stands_run {w} {p} {end} {e} {front} {labels} None r (whole b h s ends) =
     let k = same_run front labels r.behind b 0 0 r.are h zero_stop zero_stop (sym r.stands ∙ s) in
     record { rest = []; joined = sym k.0 ∙ sym (append-nil front); stands = refl }
@@ -55,8 +58,18 @@ pub record HasRun (w : List ℕ) (p : ℕ) (labels : List (List ℕ)) : Type 0 w
   pub joined : labels ≡ front ++ rest
 
 pub has_run : {w : List ℕ} {p e : ℕ} {labels : List (List ℕ)} → LabelsStand w p labels e → HasRun w p labels
-has_run {w} {p} {e} {labels} (whole b h s ends) = record { front = labels; stop = None; end = e; rest = []; run = record { are = h; behind = b; stands = s; target = tt; ends = ends }; joined = sym (append-nil labels) }
-has_run {w} {p} {e} {labels} (pointed f rest t re b h s lt lp st j ends) = record { front = f; stop = Some t; end = e; rest = rest; run = record { are = h; behind = b; stands = s; target = lt; ends = ends }; joined = j }
+has_run {w} {p} {e} {labels} (whole b h s ends) =
+    record {
+      front = labels;
+      stop = None;
+      end = e;
+      rest = [];
+      run = record { are = h; behind = b; stands = s; target = tt; ends = ends };
+      joined =
+          sym (append-nil labels);
+    }
+has_run {w} {p} {e} {labels} (pointed f rest t re b h s lt lp st j ends) =
+    record { front = f; stop = Some t; end = e; rest = rest; run = record { are = h; behind = b; stands = s; target = lt; ends = ends }; joined = j }
 
 -- the runs that were read so far begin the name, and the last one leads on
 pub record Pending (message : List ℕ) (start end : ℕ) (window : List ℕ) (place : ℕ) (next : Option ℕ) (octets : List ℕ) : Type 0 where
@@ -67,7 +80,8 @@ pub record Pending (message : List ℕ) (start end : ℕ) (window : List ℕ) (p
   pub sound : (rest : List (List ℕ)) → RestStands window place next rest → LabelsStand message start (front ++ rest) end
   pub complete : (labels : List (List ℕ)) (e : ℕ) → LabelsStand message start labels e → Parts labels front window place next
 
-pub first_run : (message : List ℕ) (start end : ℕ) (stop : Option ℕ) (old octets : List ℕ) → old ≡ [] → start ≤ length message → length octets ≤ 254 → AddsRun message start stop end old octets → Pending message start end message start stop octets
+pub first_run : (message : List ℕ) (start end : ℕ) (stop : Option ℕ) (old octets : List ℕ) → old ≡ [] → start ≤ length message → length octets ≤ 254
+    → AddsRun message start stop end old octets → Pending message start end message start stop octets
 first_run message start end stop old octets none within room a =
     record {
       front = a.front;
@@ -78,7 +92,9 @@ first_run message start end stop old octets none within room a =
       complete = λ labels e s. stands_run stop a.run s;
     }
 
-pub next_run : (message : List ℕ) (start end : ℕ) (window : List ℕ) (place target : ℕ) (old new : List ℕ) (stop : Option ℕ) (end' : ℕ) → Pending message start end window place (Some target) old → target < place → length new ≤ 254 → AddsRun (take place window) target stop end' old new → target ≤ length (take place window) → Pending message start end (take place window) target stop new
+pub next_run : (message : List ℕ) (start end : ℕ) (window : List ℕ) (place target : ℕ) (old new : List ℕ) (stop : Option ℕ) (end' : ℕ)
+    → Pending message start end window place (Some target) old → target < place → length new ≤ 254 → AddsRun (take place window) target stop end' old new
+    → target ≤ length (take place window) → Pending message start end (take place window) target stop new
 next_run message start end window place target old new stop end' p before room a within =
     let joined = append_assoc p.front a.front in
     record {
@@ -86,14 +102,21 @@ next_run message start end window place target old new stop end' p before room a
       same = a.octets ∙ ap (λ (t : List ℕ). t ++ wire a.front) p.same ∙ sym (wire-append p.front a.front);
       room = room;
       within = within;
-      sound = λ rest s. subst (λ (x : List (List ℕ)). LabelsStand message start x end) (sym (append_assoc p.front a.front rest)) (p.sound (a.front ++ rest) (end', before, run_stands stop rest a.run s));
+      sound = λ rest s. subst (λ (x : List (List ℕ)). LabelsStand message start x end) (sym (append_assoc p.front a.front rest))
+          (p.sound (a.front ++ rest) (end', before, run_stands stop rest a.run s));
       complete = λ labels e s.
           let outer = p.complete labels e s in
           let inner = stands_run stop a.run outer.stands.2 in
-          record { rest = inner.rest; joined = outer.joined ∙ ap (λ (x : List (List ℕ)). p.front ++ x) inner.joined ∙ sym (append_assoc p.front a.front inner.rest); stands = inner.stands };
+          record {
+            rest = inner.rest;
+            joined = outer.joined ∙ ap (λ (x : List (List ℕ)). p.front ++ x) inner.joined
+                ∙ sym (append_assoc p.front a.front inner.rest);
+            stands = inner.stands;
+          };
     }
 
-pub no_more : (message : List ℕ) (start end : ℕ) (window : List ℕ) (place : ℕ) (octets : List ℕ) → Pending message start end window place None octets → IsNameAt message start octets end
+pub no_more : (message : List ℕ) (start end : ℕ) (window : List ℕ) (place : ℕ) (octets : List ℕ) → Pending message start end window place None octets
+    → IsNameAt message start octets end
 no_more message start end window place octets p =
     record {
       labels = p.front;
@@ -103,22 +126,31 @@ no_more message start end window place octets p =
     }
 
 -- no pointer leads forward
-pub not_before : (message : List ℕ) (start end : ℕ) (window : List ℕ) (place target : ℕ) (octets : List ℕ) → Pending message start end window place (Some target) octets → place ≤ target → (labels : List (List ℕ)) (e : ℕ) → LabelsStand message start labels e → ⊥
+pub not_before : (message : List ℕ) (start end : ℕ) (window : List ℕ) (place target : ℕ) (octets : List ℕ)
+    → Pending message start end window place (Some target) octets → place ≤ target → (labels : List (List ℕ)) (e : ℕ) → LabelsStand message start labels e → ⊥
 not_before message start end window place target octets p h labels e s = let k = (p.complete labels e s).stands in omega (arith, k.1)
 
 -- where no run can be read, no name stands
-pub first_refused : (message : List ℕ) (start : ℕ) (old : List ℕ) → old ≡ [] → ((front : List (List ℕ)) (stop : Option ℕ) (end : ℕ) → IsRun message start front stop end → length old + length (wire front) ≤ 254 → ⊥) → (labels : List (List ℕ)) (e : ℕ) → LabelsStand message start labels e → FitsName labels → ⊥
+pub first_refused : (message : List ℕ) (start : ℕ) (old : List ℕ) → old ≡ []
+    → ((front : List (List ℕ)) (stop : Option ℕ) (end : ℕ) → IsRun message start front stop end → length old + length (wire front) ≤ 254 → ⊥)
+    → (labels : List (List ℕ)) (e : ℕ) → LabelsStand message start labels e → FitsName labels → ⊥
 first_refused message start old empty none labels e s fits =
     let r = has_run s in
-    let n : length (wire labels) ≡ length (wire r.front) + length (wire r.rest) = ap (λ (x : List (List ℕ)). length (wire x)) r.joined ∙ ap length (wire-append r.front r.rest) ∙ length-append (wire r.front) (wire r.rest) in
+    let n : length (wire labels) ≡ length (wire r.front) + length (wire r.rest) = ap (λ (x : List (List ℕ)). length (wire x)) r.joined
+    ∙ ap length (wire-append r.front r.rest) ∙ length-append (wire r.front) (wire r.rest) in
     none r.front r.stop r.end r.run (omega (arith, ap length empty))
 
-pub next_refused : (message : List ℕ) (start end : ℕ) (window : List ℕ) (place target : ℕ) (octets : List ℕ) → Pending message start end window place (Some target) octets → ((front : List (List ℕ)) (stop : Option ℕ) (end : ℕ) → IsRun (take place window) target front stop end → length octets + length (wire front) ≤ 254 → ⊥) → (labels : List (List ℕ)) (e : ℕ) → LabelsStand message start labels e → FitsName labels → ⊥
+pub next_refused : (message : List ℕ) (start end : ℕ) (window : List ℕ) (place target : ℕ) (octets : List ℕ)
+    → Pending message start end window place (Some target) octets
+    → ((front : List (List ℕ)) (stop : Option ℕ) (end : ℕ) → IsRun (take place window) target front stop end → length octets + length (wire front) ≤ 254
+    → ⊥) → (labels : List (List ℕ)) (e : ℕ) → LabelsStand message start labels e → FitsName labels → ⊥
 next_refused message start end window place target octets p none labels e s fits =
     let k = p.complete labels e s in
     let r = has_run k.stands.2 in
-    let n : length (wire labels) ≡ length (wire p.front) + length (wire k.rest) = ap (λ (x : List (List ℕ)). length (wire x)) k.joined ∙ ap length (wire-append p.front k.rest) ∙ length-append (wire p.front) (wire k.rest) in
-    let m : length (wire k.rest) ≡ length (wire r.front) + length (wire r.rest) = ap (λ (x : List (List ℕ)). length (wire x)) r.joined ∙ ap length (wire-append r.front r.rest) ∙ length-append (wire r.front) (wire r.rest) in
+    let n : length (wire labels) ≡ length (wire p.front) + length (wire k.rest) = ap (λ (x : List (List ℕ)). length (wire x)) k.joined
+    ∙ ap length (wire-append p.front k.rest) ∙ length-append (wire p.front) (wire k.rest) in
+    let m : length (wire k.rest) ≡ length (wire r.front) + length (wire r.rest) = ap (λ (x : List (List ℕ)). length (wire x)) r.joined
+    ∙ ap length (wire-append r.front r.rest) ∙ length-append (wire r.front) (wire r.rest) in
     let o : length octets ≡ length (wire p.front) = ap length p.same in
     none r.front r.stop r.end r.run (omega arith)
 
@@ -128,10 +160,13 @@ plain_length s = omega (arith, s.at_is, ap length s.octets)
 
 plain_part : {message : List ℕ} {start at : ℕ} {octets : List ℕ} → SoFar message start at [] octets → take (at - start) (drop start message) ≡ octets
 plain_part {message} {start} {at} {octets} s =
-    ap (λ (n : ℕ). take n (drop start message)) (omega (arith, s.at_is)) ∙ ap (λ (x : List ℕ). take (length (wire s.front)) x) s.stands ∙ take-append_seam (wire s.front) (drop at message) ∙ sym s.octets
+    ap (λ (n : ℕ). take n (drop start message)) (omega (arith, s.at_is)) ∙ ap (λ (x : List ℕ). take (length (wire s.front)) x) s.stands
+    ∙ take-append_seam (wire s.front) (drop at message) ∙ sym s.octets
 
-pub plain_name : {message : List ℕ} {start at : ℕ} {octets : List ℕ} → SoFar message start at [] octets → start ≤ length message → get_or message at 0 ≡ 0 → at < length message
+pub plain_name : {message : List ℕ} {start at : ℕ} {octets : List ℕ} → SoFar message start at [] octets → start ≤ length message → get_or message at 0 ≡ 0
+    → at < length message
     → IsNameAt message start (take (at - start) (drop start message)) (start + length (take (at - start) (drop start message)) + 1)
 plain_name {message} {start} {at} {octets} s within zero room =
-    let found = no_more message start (at + 1) message start octets (first_run message start (at + 1) None [] octets refl within s.room (at_zero message start at [] octets s zero room)) in
+    let found = no_more message start (at + 1) message start octets
+    (first_run message start (at + 1) None [] octets refl within s.room (at_zero message start at [] octets s zero room)) in
     rw (plain_part s) (subst (λ (e : ℕ). IsNameAt message start octets e) (omega (arith, plain_length s)) found)

@@ -1,5 +1,7 @@
 -- The steps of the reader of one run.
-use Rattle.std.proofs.Common.{◌≡◌, ℕ, ◌+◌, ◌-◌, ◌*◌, ◌/◌, ◌%◌, ◌<◌, ◌≤◌, ◌⊎◌, inl, inr, List, [], ◌∷◌, ◌++◌, length, take, drop, get_or, Option, Some, None, refl, sym, ◌∙◌, ap, append_assoc, arith, length-append, length-drop, length-take, add-one}
+use Rattle.std.proofs.Common.{◌≡◌, ℕ, ◌+◌, ◌-◌, ◌*◌, ◌/◌, ◌%◌, ◌<◌, ◌≤◌, ◌⊎◌, inl, inr, List, [], ◌∷◌, ◌++◌, length, take, drop, get_or}
+use Rattle.std.proofs.Common.{Option, Some, None, refl, sym, ◌∙◌, ap, append_assoc, arith, length-append, length-drop, length-take}
+use Rattle.std.proofs.Common.{add-one}
 use Rattle.std.proofs.lemmas.List.{drop_more, get_or-drop, append-nil, drop-drop, take-append-drop}
 use Rattle.dns_fields.specs.Labels.{AreLabels, wire}
 use Rattle.dns_fields.specs.Names.{pointer}
@@ -18,16 +20,20 @@ pub record SoFar (message : List ℕ) (place at : ℕ) (old new : List ℕ) : Ty
   pub room : length new ≤ 254
 
 pub so_far_none : (message : List ℕ) (place : ℕ) (old : List ℕ) → place ≤ length message → length old ≤ 254 → SoFar message place place old old
-so_far_none message place old within room = record { front = []; are = tt; octets = sym (append-nil old); stands = refl; at_is = omega arith; within = within; room = room }
+so_far_none message place old within room =
+    record { front = []; are = tt; octets = sym (append-nil old); stands = refl; at_is = omega arith; within = within; room = room }
 
 -- a run that stands there begins with the labels that were read
-left : (front labels : List (List ℕ)) (s behind : List ℕ) (stop : Option ℕ) → AreLabels front → AreLabels labels → wire front ++ s ≡ wire labels ++ (stop_octets stop ++ behind) → RestOf front labels s (stop_octets stop ++ behind)
+left : (front labels : List (List ℕ)) (s behind : List ℕ) (stop : Option ℕ) → AreLabels front → AreLabels labels
+    → wire front ++ s ≡ wire labels ++ (stop_octets stop ++ behind) → RestOf front labels s (stop_octets stop ++ behind)
 left front labels s behind None hf hl e = rest_of front labels s behind 0 hf hl zero_stop e
 left front labels s behind (Some t) hf hl e = rest_of front labels s (t % 256 ∷ behind) (192 + t / 256) hf hl (pointer_stop t) e
 
 -- what the next octet is: an octet 0, a pointer's first, or the length of a label
 abbrev pub Next : List ℕ → List (List ℕ) → Type 0
-Next s rest = ((get_or s 0 0 ≡ 0) × (1 ≤ length s)) ⊎ (((192 ≤ get_or s 0 0) × (2 ≤ length s)) ⊎ ((1 ≤ get_or s 0 0) × (get_or s 0 0 ≤ 63) × (get_or s 0 0 + 1 ≤ length s) × (get_or s 0 0 + 1 ≤ length (wire rest))))
+Next s rest = ((get_or s 0 0 ≡ 0) × (1 ≤ length s))
+    ⊎ (((192 ≤ get_or s 0 0) × (2 ≤ length s))
+    ⊎ ((1 ≤ get_or s 0 0) × (get_or s 0 0 ≤ 63) × (get_or s 0 0 + 1 ≤ length s) × (get_or s 0 0 + 1 ≤ length (wire rest))))
 
 next_of : (rest : List (List ℕ)) (stop : Option ℕ) (behind s : List ℕ) → AreLabels rest → s ≡ wire rest ++ (stop_octets stop ++ behind) → Next s rest
 next_of [] None behind s h e = rw e (inl (refl, omega arith))
@@ -42,16 +48,21 @@ next_of (l ∷ rest) stop behind s h e =
 pub record Onward (message : List ℕ) (at : ℕ) (total : ℕ) (new : List ℕ) : Type 0 where
   pub rest : List (List ℕ)
   pub total_is : total ≡ length new + length (wire rest)
-  pub next : ((get_or message at 0 ≡ 0) × (1 ≤ length message - at)) ⊎ (((192 ≤ get_or message at 0) × (2 ≤ length message - at)) ⊎ ((1 ≤ get_or message at 0) × (get_or message at 0 ≤ 63) × (get_or message at 0 + 1 ≤ length message - at) × (get_or message at 0 + 1 ≤ length (wire rest))))
+  pub next : ((get_or message at 0 ≡ 0) × (1 ≤ length message - at))
+      ⊎ (((192 ≤ get_or message at 0) × (2 ≤ length message - at))
+      ⊎ ((1 ≤ get_or message at 0) × (get_or message at 0 ≤ 63) × (get_or message at 0 + 1 ≤ length message - at)
+      × (get_or message at 0 + 1 ≤ length (wire rest))))
 
 -- what stands at the reader's place, if a run stands where it began
-pub onward : (message : List ℕ) (place at : ℕ) (old new : List ℕ) (front : List (List ℕ)) (stop : Option ℕ) (end : ℕ) → SoFar message place at old new → IsRun message place front stop end → Onward message at (length old + length (wire front)) new
+pub onward : (message : List ℕ) (place at : ℕ) (old new : List ℕ) (front : List (List ℕ)) (stop : Option ℕ) (end : ℕ) → SoFar message place at old new
+    → IsRun message place front stop end → Onward message at (length old + length (wire front)) new
 onward message place at old new front stop end s r =
     let k = left s.front front (drop at message) r.behind stop s.are r.are (sym s.stands ∙ r.stands) in
     let n : Next (drop at message) k.rest = next_of k.rest stop r.behind (drop at message) k.are k.stands in
     let g : get_or (drop at message) 0 0 ≡ get_or message at 0 = get_or-drop at message 0 0 ∙ ap (λ (i : ℕ). get_or message i 0) (omega arith) in
     let d : length (drop at message) ≡ length message - at = length-drop at message in
-    let w : length (wire front) ≡ length (wire s.front) + length (wire k.rest) = ap (λ (t : List (List ℕ)). length (wire t)) k.joined ∙ ap length (wire-append s.front k.rest) ∙ length-append (wire s.front) (wire k.rest) in
+    let w : length (wire front) ≡ length (wire s.front) + length (wire k.rest) = ap (λ (t : List (List ℕ)). length (wire t)) k.joined
+    ∙ ap length (wire-append s.front k.rest) ∙ length-append (wire s.front) (wire k.rest) in
     let o : length new ≡ length old + length (wire s.front) = ap length s.octets ∙ length-append old (wire s.front) in
     record { rest = k.rest; total_is = omega arith; next = rw (g, d) at n }
 
@@ -62,7 +73,9 @@ pointer_of h l lo hi low =
     let b : ((h - 192) * 256 + l) % 256 ≡ l = omega arith in
     cc
 
-pub at_pointer : (message : List ℕ) (place at : ℕ) (old new : List ℕ) → SoFar message place at old new → ((i : ℕ) → get_or message i 0 < 256) → 192 ≤ get_or message at 0 → at + 2 ≤ length message → AddsRun message place (Some ((get_or message at 0 - 192) * 256 + get_or message (at + 1) 0)) (at + 2) old new
+pub at_pointer : (message : List ℕ) (place at : ℕ) (old new : List ℕ) → SoFar message place at old new → ((i : ℕ) → get_or message i 0 < 256)
+    → 192 ≤ get_or message at 0 → at + 2 ≤ length message
+    → AddsRun message place (Some ((get_or message at 0 - 192) * 256 + get_or message (at + 1) 0)) (at + 2) old new
 at_pointer message place at old new s octets high room =
     let h = get_or message at 0 in
     let l = get_or message (at + 1) 0 in
@@ -71,15 +84,25 @@ at_pointer message place at old new s octets high room =
     let e : drop at message ≡ h ∷ drop (at + 1) message = drop_more message at 0 (omega arith) in
     let f : drop (at + 1) message ≡ l ∷ drop (at + 1 + 1) message = drop_more message (at + 1) 0 (omega arith) in
     let p : pointer ((h - 192) * 256 + l) ≡ h ∷ l ∷ [] = pointer_of h l high hi lo in
-    let q : drop at message ≡ pointer ((h - 192) * 256 + l) ++ drop (at + 1 + 1) message = e ∙ ap (λ (t : List ℕ). h ∷ t) f ∙ ap (λ (t : List ℕ). t ++ drop (at + 1 + 1) message) (sym p) in
+    let q : drop at message ≡ pointer ((h - 192) * 256 + l) ++ drop (at + 1 + 1) message = e ∙ ap (λ (t : List ℕ). h ∷ t) f
+    ∙ ap (λ (t : List ℕ). t ++ drop (at + 1 + 1) message) (sym p) in
     record {
       front = s.front;
-      run = record { are = s.are; behind = drop (at + 1 + 1) message; stands = s.stands ∙ ap (λ (t : List ℕ). wire s.front ++ t) q; target = omega arith; ends = omega (arith, s.at_is) };
+      run = record {
+        are = s.are;
+        behind = drop (at + 1 + 1) message;
+        stands = s.stands
+            ∙ ap (λ (t : List ℕ). wire s.front ++ t) q;
+        target = omega arith;
+        ends = omega (arith, s.at_is);
+      };
       octets = s.octets;
     }
 
 -- one label more
-pub one_more : (message : List ℕ) (place at : ℕ) (old new : List ℕ) (part : List ℕ) → SoFar message place at old new → 1 ≤ get_or message at 0 → get_or message at 0 ≤ 63 → at + get_or message at 0 + 1 ≤ length message → length new + get_or message at 0 < 254 → part ≡ take (get_or message at 0 + 1) (drop at message) → SoFar message place (at + (get_or message at 0 + 1)) old (new ++ part)
+pub one_more : (message : List ℕ) (place at : ℕ) (old new : List ℕ) (part : List ℕ) → SoFar message place at old new → 1 ≤ get_or message at 0
+    → get_or message at 0 ≤ 63 → at + get_or message at 0 + 1 ≤ length message → length new + get_or message at 0 < 254
+    → part ≡ take (get_or message at 0 + 1) (drop at message) → SoFar message place (at + (get_or message at 0 + 1)) old (new ++ part)
 one_more message place at old new part s low high room short part_is =
     let n = get_or message at 0 in
     let label = take n (drop (at + 1) message) in
@@ -89,24 +112,35 @@ one_more message place at old new part s low high room short part_is =
     let one : wire (label ∷ []) ≡ part = ap (λ (t : List ℕ). length label ∷ t) (append-nil label) ∙ sym p in
     let w : wire (s.front ++ label ∷ []) ≡ wire s.front ++ part = wire-append s.front (label ∷ []) ∙ ap (λ (t : List ℕ). wire s.front ++ t) one in
     let d : drop n (drop (at + 1) message) ≡ drop (at + (n + 1)) message = drop-drop n (at + 1) message ∙ ap (λ (k : ℕ). drop k message) (omega arith) in
-    let r : label ++ drop (at + (n + 1)) message ≡ drop (at + 1) message = ap (λ (t : List ℕ). label ++ t) (sym d) ∙ take-append-drop n (drop (at + 1) message) in
-    let q : part ++ drop (at + (n + 1)) message ≡ drop at message = ap (λ (t : List ℕ). t ++ drop (at + (n + 1)) message) p ∙ ap (λ (t : List ℕ). length label ∷ t) r ∙ ap (λ (k : ℕ). k ∷ drop (at + 1) message) size ∙ sym e in
+    let r : label ++ drop (at + (n + 1)) message ≡ drop (at + 1) message = ap (λ (t : List ℕ). label ++ t) (sym d)
+    ∙ take-append-drop n (drop (at + 1) message) in
+    let q : part ++ drop (at + (n + 1)) message ≡ drop at message = ap (λ (t : List ℕ). t ++ drop (at + (n + 1)) message) p
+    ∙ ap (λ (t : List ℕ). length label ∷ t) r ∙ ap (λ (k : ℕ). k ∷ drop (at + 1) message) size ∙ sym e in
     let len : length part ≡ n + 1 = ap length p ∙ omega arith in
     record {
       front = s.front ++ label ∷ [];
       are = AreLabels-append s.front (label ∷ []) s.are ((omega arith, omega arith), tt);
       octets = ap (λ (t : List ℕ). t ++ part) s.octets ∙ append_assoc old (wire s.front) part ∙ ap (λ (t : List ℕ). old ++ t) (sym w);
-      stands = s.stands ∙ ap (λ (t : List ℕ). wire s.front ++ t) (sym q) ∙ sym (append_assoc (wire s.front) part (drop (at + (n + 1)) message)) ∙ ap (λ (t : List ℕ). t ++ drop (at + (n + 1)) message) (sym w);
+      stands = s.stands ∙ ap (λ (t : List ℕ). wire s.front ++ t) (sym q) ∙ sym (append_assoc (wire s.front) part (drop (at + (n + 1)) message))
+          ∙ ap (λ (t : List ℕ). t ++ drop (at + (n + 1)) message) (sym w);
       at_is = omega (arith, s.at_is, ap length w, length-append (wire s.front) part);
       within = omega arith;
       room = omega (arith, length-append new part);
     }
 
-pub at_zero : (message : List ℕ) (place at : ℕ) (old new : List ℕ) → SoFar message place at old new → get_or message at 0 ≡ 0 → at < length message → AddsRun message place None (at + 1) old new
+pub at_zero : (message : List ℕ) (place at : ℕ) (old new : List ℕ) → SoFar message place at old new → get_or message at 0 ≡ 0 → at < length message
+    → AddsRun message place None (at + 1) old new
 at_zero message place at old new s zero room =
     let e : drop at message ≡ 0 ∷ drop (at + 1) message = drop_more message at 0 room ∙ ap (λ (k : ℕ). k ∷ drop (at + 1) message) zero in
     record {
       front = s.front;
-      run = record { are = s.are; behind = drop (at + 1) message; stands = s.stands ∙ ap (λ (t : List ℕ). wire s.front ++ t) e; target = tt; ends = omega (arith, s.at_is) };
+      run = record {
+        are = s.are;
+        behind = drop (at + 1) message;
+        stands = s.stands
+            ∙ ap (λ (t : List ℕ). wire s.front ++ t) e;
+        target = tt;
+        ends = omega (arith, s.at_is);
+      };
       octets = s.octets;
     }

@@ -9,7 +9,8 @@ pub read_plain : (s : List ℕ) → 1 ≤ length s → IsGraphic (get_or s 0 0) 
 read_plain [] h g a b = absurd (omega arith)
 read_plain (c ∷ s) h g a b = plain g a b
 
-pub read_quoted : (s : List ℕ) → 2 ≤ length s → get_or s 0 0 ≡ 92 → IsGraphic (get_or s 1 0) → (48 ≤ get_or s 1 0 → 57 < get_or s 1 0) → OctetText (get_or s 1 0) (take 2 s)
+pub read_quoted : (s : List ℕ) → 2 ≤ length s → get_or s 0 0 ≡ 92 → IsGraphic (get_or s 1 0) → (48 ≤ get_or s 1 0 → 57 < get_or s 1 0)
+    → OctetText (get_or s 1 0) (take 2 s)
 read_quoted [] h e g a = absurd (omega arith)
 read_quoted (c ∷ []) h e g a = absurd (omega arith)
 read_quoted (c ∷ d ∷ s) h e g a = rw e (quoted g a)
@@ -22,10 +23,12 @@ IsDigit d = (48 ≤ d) × (d ≤ 57)
 
 decimal_of : (n h t o : ℕ) → IsDigit h → IsDigit t → IsDigit o → n ≡ (h - 48) * 100 + (t - 48) * 10 + (o - 48) → n < 256 → OctetText n (92 ∷ h ∷ t ∷ o ∷ [])
 decimal_of n h t o dh dt do' e low =
-    let k : OctetText n (92 ∷ (48 + (h - 48)) ∷ (48 + (t - 48)) ∷ (48 + (o - 48)) ∷ []) = decimal (h - 48) (t - 48) (o - 48) (omega arith) (omega arith) (omega arith) (omega arith) low in
+    let k : OctetText n (92 ∷ (48 + (h - 48)) ∷ (48 + (t - 48)) ∷ (48 + (o - 48)) ∷ []) = decimal (h - 48) (t - 48) (o - 48) (omega arith) (omega arith)
+    (omega arith) (omega arith) low in
     rw (digit h dh.0, digit t dt.0, digit o do'.0) at k
 
-pub read_decimal : (s : List ℕ) (n : ℕ) → 4 ≤ length s → get_or s 0 0 ≡ 92 → IsDigit (get_or s 1 0) → IsDigit (get_or s 2 0) → IsDigit (get_or s 3 0) → n ≡ (get_or s 1 0 - 48) * 100 + (get_or s 2 0 - 48) * 10 + (get_or s 3 0 - 48) → n < 256 → OctetText n (take 4 s)
+pub read_decimal : (s : List ℕ) (n : ℕ) → 4 ≤ length s → get_or s 0 0 ≡ 92 → IsDigit (get_or s 1 0) → IsDigit (get_or s 2 0) → IsDigit (get_or s 3 0)
+    → n ≡ (get_or s 1 0 - 48) * 100 + (get_or s 2 0 - 48) * 10 + (get_or s 3 0 - 48) → n < 256 → OctetText n (take 4 s)
 read_decimal [] n l e a b d v low = absurd (omega arith)
 read_decimal (w ∷ []) n l e a b d v low = absurd (omega arith)
 read_decimal (w ∷ x ∷ []) n l e a b d v low = absurd (omega arith)
@@ -33,7 +36,8 @@ read_decimal (w ∷ x ∷ y ∷ []) n l e a b d v low = absurd (omega arith)
 read_decimal (w ∷ x ∷ y ∷ z ∷ s) n l e a b d v low = rw e (decimal_of n x y z a b d v low)
 
 -- by which of the two tests passed
-by_tests : (c : ℕ) (p q : Bool) → c < 256 → (p ≡ true → (33 ≤ c) × (c ≤ 126) × (48 ≤ c → 57 < c)) → (p ≡ false → (c ≢ 46) × (c ≢ 92)) → (q ≡ true → (33 ≤ c) × (c ≤ 126)) → OctetText c (cond p (92 ∷ c ∷ []) (cond q (c ∷ []) (92 ∷ (48 + c / 100) ∷ (48 + c / 10 % 10) ∷ (48 + c % 10) ∷ [])))
+by_tests : (c : ℕ) (p q : Bool) → c < 256 → (p ≡ true → (33 ≤ c) × (c ≤ 126) × (48 ≤ c → 57 < c)) → (p ≡ false → (c ≢ 46) × (c ≢ 92))
+    → (q ≡ true → (33 ≤ c) × (c ≤ 126)) → OctetText c (cond p (92 ∷ c ∷ []) (cond q (c ∷ []) (92 ∷ (48 + c / 100) ∷ (48 + c / 10 % 10) ∷ (48 + c % 10) ∷ [])))
 by_tests c true q low is isnt graphic = quoted ((is refl).0, (is refl).1) (is refl).2
 by_tests c false true low is isnt graphic = plain (graphic refl) (isnt refl).0 (isnt refl).1
 by_tests c false false low is isnt graphic = decimal (c / 100) (c / 10 % 10) (c % 10) (omega arith) (omega arith) (omega arith) (omega arith) low

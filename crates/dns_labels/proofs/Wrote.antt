@@ -1,5 +1,6 @@
 -- A name that was written.
-use Rattle.std.proofs.Common.{◌≡◌, ◌≢◌, ℕ, Bool, true, ◌+◌, ◌<◌, sym, subst, append_assoc, List, [], ◌∷◌, ◌++◌, length, take, Option, None, refl, ap, ◌∙◌, arith}
+use Rattle.std.proofs.Common.{◌≡◌, ◌≢◌, ℕ, Bool, true, ◌+◌, ◌<◌, sym, subst, append_assoc, List, [], ◌∷◌, ◌++◌, length, take, Option, None}
+use Rattle.std.proofs.Common.{refl, ap, ◌∙◌, arith}
 use Rattle.std.proofs.lemmas.List.{take_all}
 use Rattle.dns_fields.specs.declared.RDataEncoding.{RDataEncoding}
 use Rattle.dns_fields.specs.declared.RDataEncoding.TheVariants as modes
@@ -12,13 +13,15 @@ use Rattle.dns_labels.specs.Emission.{AddsName, IsNameCut}
 use Rattle.dns_labels.proofs.Found.{name_is_of}
 use Rattle.dns_labels.proofs.CutSteps.{adds_name, cut_short}
 
-pub wrote_whole : (old new octets : List ℕ) (cut : ℕ) (target : Option ℕ) → AreNameOctets octets → cut ≡ length octets → target ≡ None → new ≡ old ++ (take cut octets ++ stop_octets target) → new ≡ old ++ (wire (labels_of octets) ++ 0 ∷ [])
+pub wrote_whole : (old new octets : List ℕ) (cut : ℕ) (target : Option ℕ) → AreNameOctets octets → cut ≡ length octets → target ≡ None
+    → new ≡ old ++ (take cut octets ++ stop_octets target) → new ≡ old ++ (wire (labels_of octets) ++ 0 ∷ [])
 wrote_whole old new octets cut target n c t e =
     let all : take cut octets ≡ octets = take_all cut octets (omega arith) in
     e ∙ ap (λ (s : Option ℕ). old ++ (take cut octets ++ stop_octets s)) t ∙ ap (λ (x : List ℕ). old ++ (x ++ 0 ∷ [])) (all ∙ n.same)
 
 -- an emission that adds a name wrote it
-pub name_wrote : (mode : RDataEncoding) (old new : List ℕ) (x : DomainName) → IsName x → AddsName old new x.labels → (mode ≢ modes.StandardRecord → new ≡ old ++ (wire x.labels ++ 0 ∷ [])) → NameWrote mode old x new
+pub name_wrote : (mode : RDataEncoding) (old new : List ℕ) (x : DomainName) → IsName x → AddsName old new x.labels
+    → (mode ≢ modes.StandardRecord → new ≡ old ++ (wire x.labels ++ 0 ∷ [])) → NameWrote mode old x new
 name_wrote mode old new x is a w = record {
   is_name = is;
   tail = a.added;
@@ -29,13 +32,17 @@ name_wrote mode old new x is a w = record {
 }
 
 -- the octets up to the cut and what ends them are the name
-pub cut_wrote : (mode : RDataEncoding) (message old part new octets : List ℕ) (cut : ℕ) (target stop : Option ℕ) → message ≡ old → AreNameOctets octets → IsNameCut message octets cut target → (mode ≢ modes.StandardRecord → (cut ≡ length octets) × (target ≡ None)) → part ≡ old ++ take cut octets → target ≡ stop → new ≡ part ++ stop_octets stop → (mark : Bool) → NameWrote mode old (name_of octets mark) new
+pub cut_wrote : (mode : RDataEncoding) (message old part new octets : List ℕ) (cut : ℕ) (target stop : Option ℕ) → message ≡ old → AreNameOctets octets
+    → IsNameCut message octets cut target → (mode ≢ modes.StandardRecord → (cut ≡ length octets) × (target ≡ None)) → part ≡ old ++ take cut octets
+    → target ≡ stop → new ≡ part ++ stop_octets stop → (mark : Bool) → NameWrote mode old (name_of octets mark) new
 cut_wrote mode message old part new octets cut target stop same n k whole p t e mark =
     let k' : IsNameCut old octets cut target = subst (λ (m : List ℕ). IsNameCut m octets cut target) same k in
-    let e' : new ≡ old ++ (take cut octets ++ stop_octets target) = e ∙ ap (λ (s : Option ℕ). part ++ stop_octets s) (sym t) ∙ ap (λ (x : List ℕ). x ++ stop_octets target) p ∙ append_assoc old (take cut octets) (stop_octets target) in
+    let e' : new ≡ old ++ (take cut octets ++ stop_octets target) = e ∙ ap (λ (s : Option ℕ). part ++ stop_octets s) (sym t)
+    ∙ ap (λ (x : List ℕ). x ++ stop_octets target) p ∙ append_assoc old (take cut octets) (stop_octets target) in
     name_wrote mode old new (name_of octets mark) (name_is_of octets mark n) (adds_name old new octets cut target n k' e')
     (λ other. let w = whole other in wrote_whole old new octets cut target n w.0 w.1 e')
 
 -- an emission that lacks room lacks it for the whole name
-pub lacks_room : (message old octets : List ℕ) (cut limit : ℕ) (target : Option ℕ) → message ≡ old → IsNameCut message octets cut target → limit < length old + (cut + length (stop_octets target)) → limit < length old + (length octets + 1)
+pub lacks_room : (message old octets : List ℕ) (cut limit : ℕ) (target : Option ℕ) → message ≡ old → IsNameCut message octets cut target
+    → limit < length old + (cut + length (stop_octets target)) → limit < length old + (length octets + 1)
 lacks_room message old octets cut limit target same k h = omega (arith, h, cut_short message octets cut target k)

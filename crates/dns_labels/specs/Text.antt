@@ -1,5 +1,6 @@
 -- Texts of domain names (RFC 1035, 5.1): labels joined by dots.
-use Rattle.std.specs.Prelude.{◌≡◌, ◌≢◌, ℕ, ◌+◌, ◌*◌, ◌/◌, ◌%◌, ◌<◌, ◌≤◌, Bool, true, false, List, [], ◌∷◌, ◌++◌, All, flat_map, length, take, drop, if◌then◌else◌, nat_le, ◌==◌, ◌||◌, ◌&&◌}
+use Rattle.std.specs.Prelude.{◌≡◌, ◌≢◌, ℕ, ◌+◌, ◌*◌, ◌/◌, ◌%◌, ◌<◌, ◌≤◌, Bool, true, false, List, [], ◌∷◌, ◌++◌, All, flat_map, length}
+use Rattle.std.specs.Prelude.{take, drop, if◌then◌else◌, nat_le, ◌==◌, ◌||◌, ◌&&◌}
 use Rattle.dns_fields.specs.Octets.{AreOctets}
 use Rattle.dns_fields.specs.Labels.{DomainName, IsLabel, IsName}
 
@@ -21,7 +22,8 @@ pub data LabelText : List ℕ → List ℕ → Type 0 where
 pub data LabelsText : List (List ℕ) → Bool → List ℕ → Type 0 where
   last : {label text : List ℕ} → LabelText label text → LabelsText (label ∷ []) false text
   dotted : {label text : List ℕ} (front : List ℕ) → LabelText label front → text ≡ front ++ 46 ∷ [] → LabelsText (label ∷ []) true text
-  joined : {label text : List ℕ} {labels : List (List ℕ)} {mark : Bool} (front rest : List ℕ) → LabelText label front → LabelsText labels mark rest → text ≡ front ++ 46 ∷ rest → LabelsText (label ∷ labels) mark text
+  joined : {label text : List ℕ} {labels : List (List ℕ)} {mark : Bool} (front rest : List ℕ) → LabelText label front → LabelsText labels mark rest
+      → text ≡ front ++ 46 ∷ rest → LabelsText (label ∷ labels) mark text
 
 -- A dot is the root and no text the relative name without labels; every other text is that of labels.
 pub data MarkedText : List (List ℕ) → Bool → List ℕ → Type 0 where
@@ -36,7 +38,8 @@ pub record IsNameText (name : DomainName) (text : List ℕ) : Type 0 where
 
 -- the text that is printed of an octet: `.` and `\` stand behind a `\`, what is no graphic character as three digits
 abbrev pub printed : ℕ → List ℕ
-printed c = if c == 46 || c == 92 then 92 ∷ c ∷ [] else (if nat_le 33 c && nat_le c 126 then c ∷ [] else 92 ∷ (48 + c / 100) ∷ (48 + c / 10 % 10) ∷ (48 + c % 10) ∷ [])
+printed c = if c == 46 || c == 92 then 92 ∷ c ∷ [] else
+    (if nat_le 33 c && nat_le c 126 then c ∷ [] else 92 ∷ (48 + c / 100) ∷ (48 + c / 10 % 10) ∷ (48 + c % 10) ∷ [])
 
 abbrev pub label_text : List ℕ → List ℕ
 label_text label = flat_map printed label

@@ -1,8 +1,9 @@
 //! Whether a name's octets stand as a name at a place.
 
-ghost use Rattle.std.specs.Prelude.{ℕ, ◌≤◌, [], length, take, IfSome};
+ghost use Rattle.std.specs.Prelude.{◌≡◌, ℕ, List, ◌≤◌, [], length, take, IfSome};
 ghost use Rattle.std.specs.Bool.{OnTrue};
 ghost use Rattle.dns_labels.specs.Reading.{AddsRun};
+ghost use Rattle.dns_fields.specs.Labels.{AreLabels, wire};
 ghost use Rattle.dns_labels.specs.Emission.{StandsFor};
 
 /// How many of the octets stand as labels in the message, up to an octet 0 or a pointer, and the pointer's
@@ -39,6 +40,26 @@ fn match_run(message: &[u8], place: usize, octets: &[u8]) -> Option<(usize, Opti
         at += count + 1;
         taken += count + 1;
     }
+}
+
+/// Whether the octets, which are labels, stand in the message from that place as they are, with an octet 0 behind them: so
+/// most tails stand that are found.
+#[inline]
+pub(crate) fn stands_whole(message: &[u8], place: usize, octets: &[u8]) -> bool
+    requires { (labels : List (List ℕ)) × AreLabels labels × (octets.now ≡ wire labels) }
+    ensures { OnTrue result (StandsFor message.now place octets.now) }
+{
+    let len = octets.len();
+    if place >= message.len() || message.len() - place <= len {
+        return false;
+    }
+    if message[place + len] != 0 {
+        return false;
+    }
+    if &message[place..place + len] != octets {
+        return false;
+    }
+    true
 }
 
 /// Whether the octets' labels are a name that stands in the message from that place.

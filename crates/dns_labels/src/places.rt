@@ -1,14 +1,15 @@
 //! Where names were written in a message.
 
-ghost use Rattle.std.specs.Prelude.{ℕ, ◌<◌, ◌≤◌, length, IfSome};
+ghost use Rattle.std.specs.Prelude.{◌≡◌, ℕ, List, ◌+◌, ◌<◌, ◌≤◌, length, IfSome};
+ghost use Rattle.dns_fields.specs.Labels.{AreLabels, wire};
 ghost use Rattle.dns_labels.specs.Labels.{AreNameOctets};
 ghost use Rattle.dns_labels.specs.Emission.{StandsFor, IsNameCut};
 
-use crate::matching::stands_at;
+use crate::matching::{stands_at, stands_whole};
 use smallvec::SmallVec;
 use std::alloc::{AllocError, Global};
 
-// odd numbers without a pattern, one for each distance of an octet from the end of its name
+// odd numbers without a pattern, one for each distance from the end of a name
 const WEIGHTS: [u64; 64] = [
     0x2cb0_f69f_4abe_a221,
     0x9417_0347_2314_8989,
@@ -85,23 +86,77 @@ const NONE: u16 = 65535;
 // up to so many entries are one chain
 const FEW: usize = 16;
 
-/// The part that octets have in the hash of a name, where so many octets stand from the first of them to the name's end.
+// so many entries of a chain are looked at: a longer one is made by names that were chosen for it
+const TRIES: usize = 64;
+
+// where a hash is mixed once more
+const FACTOR: u64 = 0x9e37_79b9_7f4a_7c15;
+
+/// The hash of a name's octets.
 ///
-/// A hash is a sum of octets, each by the weight of its distance from the end: so the hash of a tail is that of the name
-/// without the part of what stands before it, and no product waits for another.
-#[inline]
-pub(crate) fn octets_hash(octets: &[u8], behind: usize) -> u64 {
+/// It is a sum of the octets of each label, eight at a time as a number, each by the weight of its distance from the name's
+/// end. So the hash of a tail is that of the name without the part of the labels before it, and no product waits for
+/// another.
+pub(crate) fn name_hash(name: &[u8]) -> u64 {
     let mut hash = 0u64;
-    for (at, octet) in octets.iter().enumerate() {
-        let weight = WEIGHTS[behind.wrapping_sub(at) % 64];
-        hash = hash.wrapping_add(weight.wrapping_mul(*octet as u64));
+    let mut at = 0usize;
+    'labels: while at < name.len() {
+        let end = name.len().min(at + name[at] as usize + 1);
+        hash = hash.wrapping_add(label_hash(name, at, end));
+        at = end;
     }
     hash
 }
 
+/// The part of a hash that the octets from one place to another have.
+#[inline]
+fn label_hash(name: &[u8], start: usize, end: usize) -> u64
+    requires { end ≤ length name.now }
+{
+    let mut hash = 0u64;
+    let mut at = start;
+    'pieces: while at < end {
+        let count = (end - at).min(8);
+        let weight = WEIGHTS[(name.len() - at) % 64];
+        hash = hash.wrapping_add(weight.wrapping_mul(word_at(name, at, count)));
+        at += count;
+    }
+    hash
+}
+
+/// Up to eight octets from a place on as a number, the first one lowest.
+#[inline]
+fn word_at(name: &[u8], at: usize, count: usize) -> u64
+    requires count { (0 < count) × (count ≤ 8) }
+    requires within { at + count ≤ length name.now }
+{
+    let len = name.len();
+    let word = if len - at >= 8 {
+        word_of(&name[at..at + 8])
+    } else if len >= 8 {
+        word_of(&name[len - 8..]) >> (8 * (8 - (len - at)) as u32)
+    } else {
+        name[at..]
+            .iter()
+            .rev()
+            .fold(0u64, |word, octet| (word << 8) | *octet as u64)
+    };
+    word & (u64::MAX >> (8 * (8 - count) as u32))
+}
+
+/// Eight octets as a number, the first one lowest.
+#[inline]
+fn word_of(octets: &[u8]) -> u64
+    requires { length octets.now ≡ 8 }
+{
+    u64::from_le_bytes([
+        octets[0], octets[1], octets[2], octets[3], octets[4], octets[5], octets[6], octets[7],
+    ])
+}
+
 #[inline]
 fn short_hash(hash: u64) -> u32 {
-    (hash >> 32) as u32
+    ((hash ^ (hash >> 32)).wrapping_mul(FACTOR) >> 32) as u32
 }
 
 /// A place where a label begins, a hash of the name's octets from there on, and the next entry of its
@@ -149,21 +204,24 @@ impl Places {
         self.buckets[hash as usize % count].first as usize
     }
 
-    /// The least place at which the octets stand as a name.
+    /// The least place at which the octets stand as a name, of those that are looked at.
     fn find(&self, message: &[u8], octets: &[u8], hash: u32) -> Option<usize>
-        requires { length octets.now ≤ 254 }
+        requires short { length octets.now ≤ 254 }
+        requires labels { (labels : List (List ℕ)) × AreLabels labels × (octets.now ≡ wire labels) }
         ensures { IfSome result (λ q. (q < 16384) × StandsFor message.now q octets.now) }
     {
         let mut at = self.first(hash);
         let entries = self.entries.as_slice();
-        for _ in 0..entries.len() {
+        for _ in 0..TRIES {
             if at >= entries.len() {
                 return None;
             }
             let entry = entries[at];
             let place = entry.place as usize;
-            if entry.hash == hash && place < PLACES && stands_at(message, place, octets) {
-                return Some(place);
+            if entry.hash == hash && place < PLACES {
+                if stands_whole(message, place, octets) || stands_at(message, place, octets) {
+                    return Some(place);
+                }
             }
             at = entry.next as usize;
         }
@@ -189,32 +247,32 @@ impl Places {
                 if let Some(target) = self.find(message, &octets[cut..], short_hash(hash)) {
                     return (cut, Some(target));
                 }
-                let label = &octets[cut..cut + count];
-                hash = hash.wrapping_sub(octets_hash(label, octets.len() - cut));
+                hash = hash.wrapping_sub(label_hash(octets, cut, cut + count));
             }
             cut += count;
         }
         (cut, None)
     }
 
-    /// Notes where labels begin that were written from a place on; the hash is that of the whole name, which has so many
-    /// octets.
+    /// Notes where labels begin that were written from a place on, so many octets of the name of this hash.
     pub(crate) fn note(
         &mut self,
         start: usize,
-        front: &[u8],
+        name: &[u8],
+        written: usize,
         hash: u64,
-        len: usize,
-    ) -> Result<(), AllocError> {
+    ) -> Result<(), AllocError>
+        requires { written ≤ length name.now }
+    {
         let mut hash = hash;
         let mut at = 0usize;
-        'labels: while at < front.len() {
+        'labels: while at < written {
             if at >= PLACES || start >= PLACES - at {
                 return Ok(());
             }
             self.push((start + at) as u16, short_hash(hash))?;
-            let end = front.len().min(at + front[at] as usize + 1);
-            hash = hash.wrapping_sub(octets_hash(&front[at..end], len.wrapping_sub(at)));
+            let end = written.min(at + name[at] as usize + 1);
+            hash = hash.wrapping_sub(label_hash(name, at, end));
             at = end;
         }
         Ok(())

@@ -4,7 +4,8 @@ ghost use Rattle.std.specs.Prelude.{◌≡◌, ℕ, ◌+◌, ◌<◌, ◌≤◌,
 ghost use Rattle.std.specs.Bool.{OnTrue};
 ghost use Rattle.dns_fields.specs.Labels.{DomainName, IsLabel, IsName};
 ghost use Rattle.dns_labels.specs.Labels.{AreNameOctets, name_of};
-ghost use Rattle.dns_labels.specs.Text.{OctetText as IsOctetText, LabelText as IsLabelText, IsNameText, IsLabelEnd, AddsOctets, AddsLabel, HasOctets, printed, label_text, name_text};
+ghost use Rattle.dns_labels.specs.Text.{OctetText as IsOctetText, LabelText as IsLabelText, IsNameText, IsLabelEnd, AddsOctets, AddsLabel};
+ghost use Rattle.dns_labels.specs.Text.{HasOctets, printed, label_text, name_text};
 
 use crate::buffer::{MAX_OCTETS, NameBuffer};
 use crate::error::NameError;

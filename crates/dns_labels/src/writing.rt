@@ -7,7 +7,7 @@ ghost use Rattle.dns_labels.specs.Reading.{stop_octets};
 ghost use Rattle.dns_labels.specs.Emission.{IsNameCut};
 
 use crate::error::WriteError;
-use crate::places::{Places, octets_hash};
+use crate::places::{Places, name_hash};
 use dns_fields::RDataEncoding;
 
 /// What is written of a name's octets, and where the rest stands already.
@@ -49,7 +49,8 @@ fn stop_len(target: Option<usize>) -> usize
 ///
 /// It is written as labels, each a length octet and its octets, and a 0 (RFC 1035, 3.1). In the mode
 /// `StandardRecord` the longest tail with a label that was noted in the same octets at a place below 16384
-/// is left out, and two octets that point to the least such place end the name (4.1.4). The error is
+/// is left out, and two octets that point to the least such place end the name (4.1.4); only of names that
+/// were chosen to share one hash by the dozen, a tail may be written again. The error is
 /// `Buffer` where what is to be written passes the limit, and so does the whole name; after an error the
 /// octets are as before.
 pub fn write_name(
@@ -66,7 +67,7 @@ pub fn write_name(
     ensures full { result ≡ Err WriteError.Buffer → limit < length out.old.items + (length name.now + 1) }
 {
     let start = out.len();
-    let hash = octets_hash(name, name.len());
+    let hash = name_hash(name);
     let cut = cut_for(places, mode, out.as_slice(), name, hash);
     let front = &name[..cut.written];
     let len = front.len() + stop_len(cut.target);
@@ -74,7 +75,7 @@ pub fn write_name(
         return Err(WriteError::Buffer);
     }
     out.reserve(len)?;
-    places.note(start, front, hash, name.len())?;
+    places.note(start, name, cut.written, hash)?;
     out.extend_from_slice(front)?;
     match cut.target {
         None => out.extend_from_slice(&[0])?,

@@ -18,7 +18,8 @@ use Rattle.dns_labels.proofs.Octets.{labels_from, are_name_octets, first_label}
 use Rattle.dns_names_wire.specs.NameValues.{qualified, completed, IsParsed, IsTextRefusal}
 
 pub wire_low : (octets : List ℕ) → AreNameOctets octets → map to_ascii_lowercase octets ≡ wire (low_labels (labels_of octets))
-wire_low octets n = append_cancel_right (map to_ascii_lowercase octets) (wire (low_labels (labels_of octets))) (0 ∷ []) (sym (lowered-of octets n) ∙ sym (low_wire (labels_of octets)))
+wire_low octets n = append_cancel_right (map to_ascii_lowercase octets) (wire (low_labels (labels_of octets))) (0 ∷ [])
+    (sym (lowered-of octets n) ∙ sym (low_wire (labels_of octets)))
 
 -- lowered octets are the lowered labels
 pub octets_low : (octets : List ℕ) → AreNameOctets octets → AreJoined (map to_ascii_lowercase octets) (low_labels (labels_of octets))
@@ -31,11 +32,14 @@ octets_low octets n =
       octets = are_name_octets (map to_ascii_lowercase octets) low (are_low (labels_of octets) n.are) (omega (arith, n.room, size, ap length same)) same;
     }
 
-lowered_all : (octets items low : List ℕ) (n : ℕ) → items ≡ octets → n ≡ length items → low ≡ map to_ascii_lowercase items → take n (low ++ drop (length low) items) ≡ map to_ascii_lowercase octets
-lowered_all octets items low n same size e = take_at low (drop (length low) items) n (ap length e ∙ length-map items to_ascii_lowercase ∙ sym size) ∙ e ∙ ap (λ (x : List ℕ). map to_ascii_lowercase x) same
+lowered_all : (octets items low : List ℕ) (n : ℕ) → items ≡ octets → n ≡ length items → low ≡ map to_ascii_lowercase items
+    → take n (low ++ drop (length low) items) ≡ map to_ascii_lowercase octets
+lowered_all octets items low n same size e = take_at low (drop (length low) items) n (ap length e ∙ length-map items to_ascii_lowercase ∙ sym size) ∙ e
+    ∙ ap (λ (x : List ℕ). map to_ascii_lowercase x) same
 
 -- what lowering all the octets of a vector leaves of them is the name in lower case
-pub vector_low : (octets items low : List ℕ) (n : ℕ) → AreNameOctets octets → items ≡ octets → n ≡ length items → low ≡ map to_ascii_lowercase items → AreJoined (take n (low ++ drop (length low) items)) (low_labels (labels_of octets))
+pub vector_low : (octets items low : List ℕ) (n : ℕ) → AreNameOctets octets → items ≡ octets → n ≡ length items → low ≡ map to_ascii_lowercase items
+    → AreJoined (take n (low ++ drop (length low) items)) (low_labels (labels_of octets))
 vector_low octets items low n are same size e = rw (lowered_all octets items low n same size e) (octets_low octets are)
 
 -- what is behind the first label
@@ -51,17 +55,22 @@ pub name_front : (a b : List (List ℕ)) → IsName (qualified (a ++ b)) → IsN
 name_front a b h = record { labels = are_front a b h.labels; fits = omega (arith, h.fits, ap length (wire-append a b), length-append (wire a) (wire b)) }
 
 -- a label that does not fit behind those in front of it fits no name
-pub no_more : {X : Type 0} (f : X → List ℕ) (items : List X) (i : ℕ) (d : X) (front : List (List ℕ)) → i < length items → front ≡ map f (take i items) → (IsName (qualified (front ++ f (get_or items i d) ∷ [])) → ⊥) → IsName (qualified (map f items)) → ⊥
+pub no_more : {X : Type 0} (f : X → List ℕ) (items : List X) (i : ℕ) (d : X) (front : List (List ℕ)) → i < length items → front ≡ map f (take i items)
+    → (IsName (qualified (front ++ f (get_or items i d) ∷ [])) → ⊥) → IsName (qualified (map f items)) → ⊥
 no_more {X} f items i d front h e none is =
     let label = f (get_or items i d) in
     let rest = map f (drop (i + 1) items) in
-    let split : map f items ≡ map f (take i items) ++ map f (drop i items) = ap (λ (x : List X). map f x) (sym (take-append-drop i items)) ∙ map-append f (take i items) (drop i items) in
-    let whole : map f items ≡ front ++ (label ∷ rest) = split ∙ ap (λ (x : List (List ℕ)). x ++ map f (drop i items)) (sym e) ∙ ap (λ (x : List X). front ++ map f x) (drop_more items i d h) in
+    let split : map f items ≡ map f (take i items) ++ map f (drop i items) = ap (λ (x : List X). map f x) (sym (take-append-drop i items))
+    ∙ map-append f (take i items) (drop i items) in
+    let whole : map f items ≡ front ++ (label ∷ rest) = split ∙ ap (λ (x : List (List ℕ)). x ++ map f (drop i items)) (sym e)
+    ∙ ap (λ (x : List X). front ++ map f x) (drop_more items i d h) in
     none (name_front (front ++ label ∷ []) rest (subst (λ (x : List (List ℕ)). IsName (qualified x)) (whole ∙ sym (append_assoc front (label ∷ []) rest)) is))
 
 -- a text's name is the one that the origin completes
-none_parsed : {text : List ℕ} {origin : Option DomainName} {read : DomainName} → IsNameText read text → (IsName (completed read origin) → ⊥) → (x : DomainName) → IsParsed text origin x → ⊥
-none_parsed {text} {origin} {read} is none x p = none (subst IsName (p.same ∙ ap (λ (y : DomainName). completed y origin) (one_name text p.read read p.is_text is)) p.is_name)
+none_parsed : {text : List ℕ} {origin : Option DomainName} {read : DomainName} → IsNameText read text → (IsName (completed read origin) → ⊥)
+    → (x : DomainName) → IsParsed text origin x → ⊥
+none_parsed {text} {origin} {read} is none x p =
+    none (subst IsName (p.same ∙ ap (λ (y : DomainName). completed y origin) (one_name text p.read read p.is_text is)) p.is_name)
 
 refusal_map : (e : ProtoError) (P Q : Type 0) → (P → Q) → IsTextRefusal e P → IsTextRefusal e Q
 refusal_map proto.Memory P Q f h = tt
@@ -69,6 +78,8 @@ refusal_map (proto.Message t) P Q f h = f h
 refusal_map proto.MaxBufferSizeExceeded P Q f h = h
 refusal_map (proto.Decode d) P Q f h = h
 
-pub refused_parsed : {T : Type 0} {text : List ℕ} (origin : Option DomainName) {read : DomainName} (r : Result T ProtoError) → IsNameText read text → IfErr r (λ e. IsTextRefusal e (IsName (completed read origin) → ⊥)) → IfErr r (λ e. IsTextRefusal e ((x : DomainName) → IsParsed text origin x → ⊥))
+pub refused_parsed : {T : Type 0} {text : List ℕ} (origin : Option DomainName) {read : DomainName} (r : Result T ProtoError) → IsNameText read text
+    → IfErr r (λ e. IsTextRefusal e (IsName (completed read origin) → ⊥)) → IfErr r (λ e. IsTextRefusal e ((x : DomainName) → IsParsed text origin x → ⊥))
 refused_parsed origin (Ok x) is h = tt
-refused_parsed {text = text} origin {read = read} (Err e) is h = refusal_map e (IsName (completed read origin) → ⊥) ((x : DomainName) → IsParsed text origin x → ⊥) (none_parsed is) h
+refused_parsed {text = text} origin {read = read} (Err e) is h =
+    refusal_map e (IsName (completed read origin) → ⊥) ((x : DomainName) → IsParsed text origin x → ⊥) (none_parsed is) h

@@ -5,7 +5,8 @@ use Rattle.std.specs.Result.{IsErrAnd}
 use Rattle.dns_names_wire.specs.State.{Writing}
 use Rattle.dns_fields.specs.declared.RDataEncoding.{RDataEncoding}
 use Rattle.dns_fields.specs.Fields.{Kind, Octets, Rest, Value, Values, Wrote, is_emittable, canonical, field_octets}
-use Rattle.dns_names_wire.specs.Words.{AppendedField, Appended, Keeps, Extends, NoRoomField, NoRoom, UnfitField, Unfit, Because, StoppedField, Stopped, Emits, EmitsAs, EmitsField}
+use Rattle.dns_names_wire.specs.Words.{AppendedField, Appended, Keeps, Extends, NoRoomField, NoRoom, UnfitField, Unfit, Because}
+use Rattle.dns_names_wire.specs.Words.{StoppedField, Stopped, Emits, EmitsAs, EmitsField}
 use Rattle.dns_types.specs.declared.error.ProtoError.{ProtoError}
 use Rattle.dns_types.specs.declared.error.ProtoError.TheVariants as proto
 use Rattle.dns_fields.proofs.FieldLaws.{wrote_tail}
@@ -19,8 +20,14 @@ keeps_then f g = record { limit = g.limit ∙ f.limit; mode = g.mode ∙ f.mode;
 pub appended_last : (w : Writing) → Appended w.mode w [] tt w
 appended_last w = record { keeps = keeps_same w; fields = refl }
 
-pub appended_then : {w b e : Writing} {k : Kind} {v : Value k} {kinds : List Kind} {vs : Values kinds} → AppendedField w k v b → Appended b.mode b kinds vs e → Appended w.mode w (k ∷ kinds) (v, vs) e
-appended_then {w} {b} {e} {kinds = kinds} {vs = vs} f g = record { keeps = keeps_then f.keeps g.keeps; fields = (b.octets, f.field, subst (λ (mode : RDataEncoding). Wrote mode b.octets kinds vs e.octets) f.keeps.mode g.fields) }
+pub appended_then : {w b e : Writing} {k : Kind} {v : Value k} {kinds : List Kind} {vs : Values kinds} → AppendedField w k v b
+    → Appended b.mode b kinds vs e → Appended w.mode w (k ∷ kinds) (v, vs) e
+appended_then {w} {b} {e} {kinds = kinds} {vs = vs} f g =
+    record {
+      keeps = keeps_then f.keeps g.keeps;
+      fields =
+          (b.octets, f.field, subst (λ (mode : RDataEncoding). Wrote mode b.octets kinds vs e.octets) f.keeps.mode g.fields);
+    }
 
 pub extends_none : (w : Writing) → Extends w w
 extends_none w = record { keeps = keeps_same w; tail = []; octets = sym (append-nil w.octets) }
@@ -28,15 +35,32 @@ extends_none w = record { keeps = keeps_same w; tail = []; octets = sym (append-
 pub extends_then : {w b e : Writing} {k : Kind} {v : Value k} → AppendedField w k v b → Extends b e → Extends w e
 extends_then {w} {b} {e} f g =
     let t = wrote_tail f.field in
-    record { keeps = keeps_then f.keeps g.keeps; tail = t.0 ++ g.tail; octets = g.octets ∙ ap (λ (x : List ℕ). x ++ g.tail) t.1 ∙ append_assoc w.octets t.0 g.tail }
+    record {
+      keeps = keeps_then f.keeps g.keeps;
+      tail = t.0 ++ g.tail;
+      octets = g.octets ∙ ap (λ (x : List ℕ). x ++ g.tail) t.1
+          ∙ append_assoc w.octets t.0 g.tail;
+    }
 
 pub no_room_first : {w : Writing} {k : Kind} {v : Value k} {kinds : List Kind} {vs : Values kinds} → NoRoomField w k v → NoRoom w (k ∷ kinds) (v, vs)
 no_room_first {w} {k} {v} {kinds} {vs} n = record { full = omega (arith, n.full, length-append (field_octets k v) (canonical kinds vs)) }
 
-pub no_room_then : {w b : Writing} {k : Kind} {v : Value k} {kinds : List Kind} {vs : Values kinds} → AppendedField w k v b → NoRoom b kinds vs → NoRoom w (k ∷ kinds) (v, vs)
+pub no_room_then : {w b : Writing} {k : Kind} {v : Value k} {kinds : List Kind} {vs : Values kinds} → AppendedField w k v b → NoRoom b kinds vs
+    → NoRoom w (k ∷ kinds) (v, vs)
 no_room_then {w} {b} {k} {v} {kinds} {vs} f n =
     let t = wrote_tail f.field in
-    record { full = omega (arith, n.full, f.keeps.limit, t.2, ap length t.1, length-append w.octets t.0, length-append (field_octets k v) (canonical kinds vs)) }
+    record {
+      full = omega (
+        arith,
+        n.full,
+        f.keeps.limit,
+        t.2,
+        ap length t.1,
+        length-append w.octets t.0,
+        length-append (field_octets k v)
+            (canonical kinds vs),
+      );
+    }
 
 pub and_false : (b : Bool) → (b && false) ≡ false
 and_false true = refl
@@ -54,14 +78,17 @@ because_map proto.MaxBufferSizeExceeded P Q R S f g h = f h
 because_map (proto.Message t) P Q R S f g h = g h
 because_map (proto.Decode d) P Q R S f g h = h
 
-pub stopped_first : {e : ProtoError} {w n : Writing} {k : Kind} {v : Value k} {kinds : List Kind} {vs : Values kinds} → StoppedField e w k v n → Stopped e w (k ∷ kinds) (v, vs) n
+pub stopped_first : {e : ProtoError} {w n : Writing} {k : Kind} {v : Value k} {kinds : List Kind} {vs : Values kinds} → StoppedField e w k v n
+    → Stopped e w (k ∷ kinds) (v, vs) n
 stopped_first {e} s = record { extends = s.extends; why = because_map e _ _ _ _ no_room_first unfit_first s.why }
 
-pub stopped_then : {e : ProtoError} {w b n : Writing} {k : Kind} {v : Value k} {kinds : List Kind} {vs : Values kinds} → AppendedField w k v b → Stopped e b kinds vs n → Stopped e w (k ∷ kinds) (v, vs) n
+pub stopped_then : {e : ProtoError} {w b n : Writing} {k : Kind} {v : Value k} {kinds : List Kind} {vs : Values kinds} → AppendedField w k v b
+    → Stopped e b kinds vs n → Stopped e w (k ∷ kinds) (v, vs) n
 stopped_then {e} f s = record { extends = extends_then f s.extends; why = because_map e _ _ _ _ (no_room_then f) unfit_then s.why }
 
 -- a refusal on the way, handed on by `?`
-pub exit_emit : {kinds : List Kind} {vs : Values kinds} {old new : Writing} (r : Result (Unit {0}) ProtoError) (e : ProtoError) → IsErrAnd r (λ y. y ≡ e) → Stopped e old kinds vs new → Emits kinds vs r old new
+pub exit_emit : {kinds : List Kind} {vs : Values kinds} {old new : Writing} (r : Result (Unit {0}) ProtoError) (e : ProtoError) → IsErrAnd r (λ y. y ≡ e)
+    → Stopped e old kinds vs new → Emits kinds vs r old new
 exit_emit (Ok x) e h f = elim h [ ]
 exit_emit {kinds = kinds} {vs = vs} {old = old} {new = new} (Err y) e h f = subst (λ (z : ProtoError). Stopped z old kinds vs new) (sym h) f
 
@@ -72,24 +99,40 @@ emits_one k v (Ok x) old new h = record { keeps = h.keeps; fields = (new.octets,
 emits_one k v (Err e) old new h = stopped_first h
 
 -- octets of a known number are octets
-pub octets_emit : (n : ℕ) (s : List ℕ) (r : Result (Unit {0}) ProtoError) (old new : Writing) → length s ≡ n → EmitsField Rest s r old new → EmitsField (Octets n) s r old new
+pub octets_emit : (n : ℕ) (s : List ℕ) (r : Result (Unit {0}) ProtoError) (old new : Writing) → length s ≡ n → EmitsField Rest s r old new
+    → EmitsField (Octets n) s r old new
 unfolding field_octets
 octets_emit n s (Ok x) old new e h = record { keeps = h.keeps; field = record { is = (e, h.field.is) } }
-octets_emit n s (Err e) old new l h = record { extends = h.extends; why = because_map e _ _ _ _ (λ r. record { full = r.full }) (λ u. record { unfit = u.unfit }) h.why }
+octets_emit n s (Err e) old new l h = record
+    { extends = h.extends; why = because_map e _ _ _ _ (λ r. record { full = r.full }) (λ u. record { unfit = u.unfit }) h.why }
 
 -- in another mode, and the earlier one put back
-in_mode : (kinds : List Kind) (vs : Values kinds) (mode : RDataEncoding) (r : Result (Unit {0}) ProtoError) (old new : Writing) → Emits kinds vs r (record old { mode = mode }) new → EmitsAs mode kinds vs r old (record new { mode = old.mode })
+in_mode : (kinds : List Kind) (vs : Values kinds) (mode : RDataEncoding) (r : Result (Unit {0}) ProtoError) (old new : Writing)
+    → Emits kinds vs r (record old { mode = mode }) new → EmitsAs mode kinds vs r old (record new { mode = old.mode })
 in_mode kinds vs mode (Ok x) old new h = record { keeps = record { limit = h.keeps.limit; mode = refl; target = h.keeps.target }; fields = h.fields }
-in_mode kinds vs mode (Err e) old new h = record { extends = record { keeps = record { limit = h.extends.keeps.limit; mode = refl; target = h.extends.keeps.target }; tail = h.extends.tail; octets = h.extends.octets }; why = because_map e _ _ _ _ (λ n. record { full = n.full }) (λ u. u) h.why }
+in_mode kinds vs mode (Err e) old new h =
+    record {
+      extends = record {
+        keeps = record { limit = h.extends.keeps.limit; mode = refl; target = h.extends.keeps.target };
+        tail =
+            h.extends.tail;
+        octets = h.extends.octets;
+      };
+      why = because_map e _ _ _ _ (λ n. record { full = n.full }) (λ u. u) h.why;
+    }
 
-pub emitted_as : (kinds : List Kind) (vs : Values kinds) (mode earlier : RDataEncoding) (r : Result (Unit {0}) ProtoError) (old set emitted new : Writing) → earlier ≡ old.mode → set ≡ record old { mode = mode } → Emits kinds vs r set emitted → new ≡ record emitted { mode = earlier } → EmitsAs mode kinds vs r old new
+pub emitted_as : (kinds : List Kind) (vs : Values kinds) (mode earlier : RDataEncoding) (r : Result (Unit {0}) ProtoError) (old set emitted new : Writing)
+    → earlier ≡ old.mode → set ≡ record old { mode = mode } → Emits kinds vs r set emitted → new ≡ record emitted { mode = earlier }
+    → EmitsAs mode kinds vs r old new
 emitted_as kinds vs mode earlier r old set emitted new e s h n =
     let x : Emits kinds vs r (record old { mode = mode }) emitted = subst (λ (w : Writing). Emits kinds vs r w emitted) s h in
-    let y : EmitsAs mode kinds vs r old (record emitted { mode = earlier }) = subst (λ (m : RDataEncoding). EmitsAs mode kinds vs r old (record emitted { mode = m })) (sym e) (in_mode kinds vs mode r old emitted x) in
+    let y : EmitsAs mode kinds vs r old (record emitted { mode = earlier }) =
+    subst (λ (m : RDataEncoding). EmitsAs mode kinds vs r old (record emitted { mode = m })) (sym e) (in_mode kinds vs mode r old emitted x) in
     subst (λ (w : Writing). EmitsAs mode kinds vs r old w) (sym n) y
 
 -- refused or not, limit, mode and vector stay
-pub emits_keeps : (kinds : List Kind) (vs : Values kinds) (mode : RDataEncoding) (r : Result (Unit {0}) ProtoError) (old new : Writing) → EmitsAs mode kinds vs r old new → Keeps old new
+pub emits_keeps : (kinds : List Kind) (vs : Values kinds) (mode : RDataEncoding) (r : Result (Unit {0}) ProtoError) (old new : Writing)
+    → EmitsAs mode kinds vs r old new → Keeps old new
 emits_keeps kinds vs mode (Ok x) old new h = h.keeps
 emits_keeps kinds vs mode (Err e) old new h = h.extends.keeps
 
@@ -108,6 +151,8 @@ all_tail mode (k ∷ kinds) vs m m' h =
     let u = all_tail mode kinds vs.1 h.0 m' h.2 in
     (t.0 ++ u.0, u.1 ∙ ap (λ (x : List ℕ). x ++ u.0) t.1 ∙ append_assoc m t.0 u.0)
 
-pub emits_extend : (mode : RDataEncoding) (kinds : List Kind) (vs : Values kinds) (r : Result (Unit {0}) ProtoError) (old new : Writing) → EmitsAs mode kinds vs r old new → Extends old new
-emits_extend mode kinds vs (Ok x) old new h = let t = all_tail mode kinds vs old.octets new.octets h.fields in record { keeps = h.keeps; tail = t.0; octets = t.1 }
+pub emits_extend : (mode : RDataEncoding) (kinds : List Kind) (vs : Values kinds) (r : Result (Unit {0}) ProtoError) (old new : Writing)
+    → EmitsAs mode kinds vs r old new → Extends old new
+emits_extend mode kinds vs (Ok x) old new h = let t = all_tail mode kinds vs old.octets new.octets h.fields in
+    record { keeps = h.keeps; tail = t.0; octets = t.1 }
 emits_extend mode kinds vs (Err e) old new h = h.extends

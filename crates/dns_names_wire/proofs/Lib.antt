@@ -1,5 +1,6 @@
 pub mod FieldReads
 pub mod FieldWrites
+pub mod PlainWrites
 pub mod Strings
 pub mod WindowReads
 pub mod Names

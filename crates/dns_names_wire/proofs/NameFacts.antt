@@ -1,5 +1,6 @@
 -- What a name is by its octets.
-use Rattle.std.proofs.Common.{◌≡◌, ◌↔◌, IsTrue, ℕ, zero, suc, ◌+◌, ◌<◌, Bool, Option, Some, None, List, [], ◌∷◌, ◌++◌, All, length, map, get_or, slice_get, refl, sym, ap, ◌∙◌, arith}
+use Rattle.std.proofs.Common.{◌≡◌, ◌↔◌, IsTrue, ℕ, zero, suc, ◌+◌, ◌<◌, Bool, Option, Some, None, List, [], ◌∷◌, ◌++◌, All, length, map}
+use Rattle.std.proofs.Common.{get_or, slice_get, refl, sym, ap, ◌∙◌, arith}
 use Rattle.std.proofs.lemmas.List.{length-map, length-append}
 use Rattle.std.proofs.lemmas.List.Elements.{All-nil, All-cons}
 use Rattle.std.proofs.lemmas.Option.{slice_get_past, slice_get_read, slice_get-map}
@@ -26,7 +27,13 @@ pub name_octets : (octets : List ℕ) → AreNameOctets octets → AreOctets oct
 name_octets octets n a = each_octets (labels_of octets) (wire_octets (labels_of octets) (AreOctets-same octets (wire (labels_of octets)) n.same a))
 
 pub name_length : (octets : List ℕ) (mark : Bool) → AreNameOctets octets → length octets + 1 ≡ length (lowname (name_of octets mark))
-name_length octets mark n = omega (arith, ap length (lowered-of octets n), length-append (map to_ascii_lowercase octets) (0 ∷ []), length-map octets to_ascii_lowercase)
+name_length octets mark n = omega (
+  arith,
+  ap length (lowered-of octets n),
+  length-append (map to_ascii_lowercase octets) (0 ∷ []),
+  length-map octets
+      to_ascii_lowercase,
+)
 
 get_first : (xs ys : List ℕ) (i : ℕ) → i < length xs → slice_get (xs ++ ys) i ≡ slice_get xs i
 get_first [] ys i h = absurd (omega arith)
@@ -40,7 +47,8 @@ get_end (x ∷ xs) y zero e = absurd (omega arith)
 get_end (x ∷ xs) y (suc i) e = get_end xs y i (omega arith)
 
 -- the canonical octet at a place of the octets, at their end, and past it
-pub octet_within : (octets : List ℕ) (mark : Bool) (i x : ℕ) → AreNameOctets octets → i < length octets → x ≡ get_or octets i x → slice_get (lowname (name_of octets mark)) i ≡ Some (to_ascii_lowercase x)
+pub octet_within : (octets : List ℕ) (mark : Bool) (i x : ℕ) → AreNameOctets octets → i < length octets → x ≡ get_or octets i x
+    → slice_get (lowname (name_of octets mark)) i ≡ Some (to_ascii_lowercase x)
 octet_within octets mark i x n h e =
     ap (λ (l : List ℕ). slice_get l i) (lowered-of octets n)
     ∙ get_first (map to_ascii_lowercase octets) (0 ∷ []) i (omega (arith, length-map octets to_ascii_lowercase))
@@ -57,7 +65,8 @@ octet_past octets mark i n h = slice_get_past (lowname (name_of octets mark)) i 
 
 -- names are equal where their canonical octets and their marks are the same
 name_eq-Decides : (x y : DomainName) → Decides (name_eq x y) ((lowname x ≡ lowname y) × (x.fully_qualified ≡ y.fully_qualified))
-name_eq-Decides x y = Decides-and (bytes_eq (lowname x) (lowname y)) (beq x.fully_qualified y.fully_qualified) (bytes_eq-Decides (lowname x) (lowname y)) (booleans_Decides x.fully_qualified y.fully_qualified)
+name_eq-Decides x y = Decides-and (bytes_eq (lowname x) (lowname y)) (beq x.fully_qualified y.fully_qualified) (bytes_eq-Decides (lowname x) (lowname y))
+    (booleans_Decides x.fully_qualified y.fully_qualified)
 
 pub name_eq_exact : (r : Bool) (x y : DomainName) → r ≡ name_eq x y → IsTrue r ↔ ((lowname x ≡ lowname y) × (x.fully_qualified ≡ y.fully_qualified))
 name_eq_exact r x y e = rw e (name_eq-Decides x y)

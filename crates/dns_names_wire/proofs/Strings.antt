@@ -14,7 +14,8 @@ use Rattle.dns_names_wire.proofs.FieldReads.{unless_map, unless_all, took_stays,
 pub at_front : {m : List ℕ} {p r : ℕ} (x y : List ℕ) → At m p (x ++ y) r → At m p x (p + length x)
 at_front {m} {p} {r} x y a =
     let n : length (x ++ y) ≡ length x + length y = length-append x y in
-    let short : take (length x) (take (length (x ++ y)) (drop p m)) ≡ take (length x) (drop p m) = take-take (length x) (length (x ++ y)) (drop p m) (omega arith) in
+    let short : take (length x) (take (length (x ++ y)) (drop p m)) ≡ take (length x) (drop p m) =
+    take-take (length x) (length (x ++ y)) (drop p m) (omega arith) in
     record { ends = refl; within = omega (arith, a.ends, a.within); same = sym short ∙ ap (take (length x)) a.same ∙ take_at x y (length x) refl }
 
 pub at_rest : {m : List ℕ} {p r : ℕ} (x y : List ℕ) → At m p (x ++ y) r → At m (p + length x) y r
@@ -23,7 +24,8 @@ at_rest {m} {p} {r} x y a =
     record {
       ends = omega (arith, a.ends);
       within = a.within;
-      same = ap (λ (d : List ℕ). take (length y) d) (sym (drop-drop (length x) p m)) ∙ sym (drop-take (length x) (length y) (drop p m)) ∙ ap (λ (k : ℕ). drop (length x) (take k (drop p m))) (sym n) ∙ ap (drop (length x)) a.same ∙ drop_at x y (length x) refl;
+      same = ap (λ (d : List ℕ). take (length y) d) (sym (drop-drop (length x) p m)) ∙ sym (drop-take (length x) (length y) (drop p m))
+          ∙ ap (λ (k : ℕ). drop (length x) (take k (drop p m))) (sym n) ∙ ap (drop (length x)) a.same ∙ drop_at x y (length x) refl;
     }
 
 pub at_then : {m : List ℕ} {p q r : ℕ} {x y : List ℕ} → At m p x q → At m q y r → At m p (x ++ y) r
@@ -33,8 +35,10 @@ at_then {m} {p} {q} {r} {x} {y} a b = record {
   same =
       let n : length (x ++ y) ≡ length x + length y = length-append x y in
       let front : take (length x) (take (length x + length y) (drop p m)) ≡ x = take-take (length x) (length x + length y) (drop p m) (omega arith) ∙ a.same in
-      let back : drop (length x) (take (length x + length y) (drop p m)) ≡ y = drop-take (length x) (length y) (drop p m) ∙ ap (take (length y)) (drop-drop (length x) p m ∙ ap (λ (k : ℕ). drop k m) (sym a.ends)) ∙ b.same in
-      ap (λ (k : ℕ). take k (drop p m)) n ∙ sym (take-append-drop (length x) (take (length x + length y) (drop p m))) ∙ ap (λ (z : List ℕ). z ++ drop (length x) (take (length x + length y) (drop p m))) front ∙ ap (λ (z : List ℕ). x ++ z) back;
+      let back : drop (length x) (take (length x + length y) (drop p m)) ≡ y = drop-take (length x) (length y) (drop p m)
+      ∙ ap (take (length y)) (drop-drop (length x) p m ∙ ap (λ (k : ℕ). drop k m) (sym a.ends)) ∙ b.same in
+      ap (λ (k : ℕ). take k (drop p m)) n ∙ sym (take-append-drop (length x) (take (length x + length y) (drop p m)))
+      ∙ ap (λ (z : List ℕ). z ++ drop (length x) (take (length x + length y) (drop p m))) front ∙ ap (λ (z : List ℕ). x ++ z) back;
 }
 
 octet_at : {m : List ℕ} {p : ℕ} {n : ℕ} {q : ℕ} → Field m p (Number 1) n q → At m p (n ∷ []) q
@@ -51,7 +55,13 @@ text_front {m} {p} {s} {q} f = at_octet f.is.0 (at_front (length s ∷ []) s f.i
 pub text_then : {d b e : Reading} {n : ℕ} {s : List ℕ} → TookField d (Number 1) n b → TookField b Rest s e → length s ≡ n → TookField d Text s e
 text_then {d} {b} {e} {n} {s} f g len = record {
   message = g.message ∙ f.message;
-  field = record { is = (omega (arith, f.field.is.0), at_then (subst (λ (k : ℕ). At d.message d.index (k ∷ []) b.index) (sym len) (octet_at f.field)) (subst (λ (m : List ℕ). At m b.index s e.index) f.message g.field.is)) };
+  field = record {
+    is = (
+      omega (arith, f.field.is.0),
+      at_then (subst (λ (k : ℕ). At d.message d.index (k ∷ []) b.index) (sym len) (octet_at f.field))
+          (subst (λ (m : List ℕ). At m b.index s e.index) f.message g.field.is),
+    );
+  };
 }
 
 -- the octets of the length that was read, behind it
@@ -75,7 +85,8 @@ text_refused {e} r = record { behind = r.behind; none = unless_map e _ _ text_no
 
 -- nothing stands where each string of that length is refused
 pub text_none : {e : DecodeError} {d b : Reading} {t : ℕ} {kinds : List Kind} {condition : Values (Text ∷ kinds) → ℕ → Type 0} → TookField d (Number 1) t b
-    → ((s : List ℕ) (vs : Values kinds) (q : ℕ) → length s ≡ t → b.index + t ≤ length b.message → b.index + t ≤ q → condition (s, vs) q → ⊥) → Refused e d (Text ∷ kinds) condition b
+    → ((s : List ℕ) (vs : Values kinds) (q : ℕ) → length s ≡ t → b.index + t ≤ length b.message → b.index + t ≤ q → condition (s, vs) q → ⊥)
+    → Refused e d (Text ∷ kinds) condition b
 text_none {e} {d} {b} {t} {kinds} {condition} f none = record {
   behind = took_stays f (stays b);
   none = unless_all e (record {

@@ -21,7 +21,8 @@ pub record Given (d : Reading) (n : ℕ) : Type 0 where
   pub octets : AreOctets d.message
   pub short : n < 65536
 
-window_here : {old new : Reading} {n : ℕ} {s : List Kind} {condition : Values s → Type 0} {vs : Values s} → IsLong s → Given old n → Took old s vs new → condition vs → new.index ≡ old.index + n → Window old.message old.index n s condition vs
+window_here : {old new : Reading} {n : ℕ} {s : List Kind} {condition : Values s → Type 0} {vs : Values s} → IsLong s → Given old n → Took old s vs new
+    → condition vs → new.index ≡ old.index + n → Window old.message old.index n s condition vs
 window_here {old} {new} {n} {s} {vs = vs} long g f holds e =
     let there : Stands old.message old.index s vs (old.index + n) = rw (← e) f.stands in
     record { octets = g.octets; short = g.short; within = stands_within old.message old.index s vs (old.index + n) long there; stands = there; holds = holds }
@@ -29,14 +30,16 @@ window_here {old} {new} {n} {s} {vs = vs} long g f holds e =
 took_behind : {old new : Reading} {s : List Kind} {vs : Values s} → Took old s vs new → StaysBehind old new
 took_behind {old} {new} {s} {vs} f = record { message = f.message; index = stands_inside old.message old.index s vs new.index f.stands }
 
-refused_window : {e : DecodeError} {old new : Reading} {n : ℕ} {s : List Kind} {condition : Values s → Type 0} (c : Values s → ℕ → Type 0) → ((vs : Values s) → condition vs → c vs (old.index + n)) → Refused e old s c new → RefusedWindow e old n s condition new
+refused_window : {e : DecodeError} {old new : Reading} {n : ℕ} {s : List Kind} {condition : Values s → Type 0} (c : Values s → ℕ → Type 0)
+    → ((vs : Values s) → condition vs → c vs (old.index + n)) → Refused e old s c new → RefusedWindow e old n s condition new
 refused_window {e} {old} {n = n} {s = s} c weaker r = record {
   behind = r.behind;
   none = unless_map e _ _ (λ (l : Lacks old s c). record { none = λ vs w. l.none vs (old.index + n) w.stands (weaker vs w.holds) }) r.none;
 }
 
 -- a record whose fields all say where they end, read without its length
-pub fields_window : {T : Type 0} (s : List Kind) (condition : Values s → Type 0) (view : T → Values s) (r : Result T DecodeError) (old new : Reading) (n : ℕ) → IsLong s → AllEnd s → Given old n → ReadsIf s (λ vs e. condition vs) view r old new → ReadsWindow s condition view n r old new
+pub fields_window : {T : Type 0} (s : List Kind) (condition : Values s → Type 0) (view : T → Values s) (r : Result T DecodeError) (old new : Reading)
+    (n : ℕ) → IsLong s → AllEnd s → Given old n → ReadsIf s (λ vs e. condition vs) view r old new → ReadsWindow s condition view n r old new
 fields_window s condition view (Ok x) old new n long ends g h = record {
   behind = took_behind h.0;
   here = window_here long g h.0 h.1;
@@ -45,7 +48,8 @@ fields_window s condition view (Ok x) old new n long ends g h = record {
 fields_window s condition view (Err e) old new n long ends g h = refused_window _ (λ vs holds. holds) h
 
 -- a record that is read to its length
-pub filled_window : {T : Type 0} (s : List Kind) (condition : Values s → Type 0) (view : T → Values s) (r : Result T DecodeError) (old new : Reading) (n : ℕ) → IsLong s → Given old n → ReadsTo s condition n view r old new → ReadsWindow s condition view n r old new
+pub filled_window : {T : Type 0} (s : List Kind) (condition : Values s → Type 0) (view : T → Values s) (r : Result T DecodeError) (old new : Reading)
+    (n : ℕ) → IsLong s → Given old n → ReadsTo s condition n view r old new → ReadsWindow s condition view n r old new
 filled_window s condition view (Ok x) old new n long g h = record {
   behind = took_behind h.0;
   here = window_here long g h.0 h.1.1;
@@ -54,6 +58,7 @@ filled_window s condition view (Ok x) old new n long g h = record {
 filled_window s condition view (Err e) old new n long g h = refused_window _ (λ vs holds. (refl, holds)) h
 
 -- a record whose fields all say where they end is read by the relation that they stand
-pub fields_by : {T : Type 0} (s : List Kind) (condition : Values s → Type 0) (view : T → Values s) (r : Result T DecodeError) (old new : Reading) → ReadsIf s (λ vs e. condition vs) view r old new → ReadsBy (λ m p x q. Stands m p s (view x) q × condition (view x)) r old new
+pub fields_by : {T : Type 0} (s : List Kind) (condition : Values s → Type 0) (view : T → Values s) (r : Result T DecodeError) (old new : Reading)
+    → ReadsIf s (λ vs e. condition vs) view r old new → ReadsBy (λ m p x q. Stands m p s (view x) q × condition (view x)) r old new
 fields_by s condition view (Ok x) old new h = (took_behind h.0, (h.0.stands, h.1))
 fields_by s condition view (Err e) old new h = (h.behind, unless_map e _ _ (λ l x q f. l.none (view x) q f.0 f.1) h.none)

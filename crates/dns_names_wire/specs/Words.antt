@@ -6,7 +6,8 @@ use Rattle.dns_types.specs.declared.error.ProtoError.{ProtoError}
 use Rattle.dns_types.specs.declared.error.ProtoError.TheVariants as proto
 use Rattle.dns_fields.specs.declared.RDataEncoding.{RDataEncoding}
 use Rattle.dns_fields.specs.Octets.{AreOctets}
-use Rattle.dns_fields.specs.Fields.{Kind, Number, Value, Values, Field, Stands, WroteField, Wrote, is_emittable, all_emittable, EndsItself, canonical, field_octets}
+use Rattle.dns_fields.specs.Fields.{Kind, Number, Value, Values, Field, Stands, WroteField, Wrote, is_emittable, all_emittable, EndsItself}
+use Rattle.dns_fields.specs.Fields.{canonical, field_octets}
 use Rattle.dns_names_wire.specs.State.{Reading, Writing}
 
 -- ---- reading

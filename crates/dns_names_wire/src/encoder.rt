@@ -135,6 +135,21 @@ impl<'a> BinEncoder<'a> {
         Ok(())
     }
 
+    /// Appends octets and others behind them, under one test of the room: both, or nothing.
+    #[inline]
+    #[tactic(auto, unfolding(dns_fields::specs::Fields::field_octets))]
+    pub fn emit_both(&mut self, front: &[u8], rest: &[u8]) -> Result<(), ProtoError>
+        ensures emits { EmitsField Rest (front.now ++ rest.now) result self.old self.new }
+        ensures room { OnOk result (length self.old.octets + (length front.now + length rest.now) ≤ self.old.limit) }
+        ensures whole { OnErr result (self.new ≡ self.old) }
+    {
+        let len = front.len() + rest.len();
+        if self.octets.len() > self.limit || self.limit - self.octets.len() < len {
+            return Err(ProtoError::MaxBufferSizeExceeded);
+        }
+        append_both(self.octets, front, rest)
+    }
+
     /// Appends one octet.
     #[inline]
     pub fn emit(&mut self, octet: u8) -> Result<(), ProtoError>
@@ -206,7 +221,7 @@ impl<'a> BinEncoder<'a> {
         if self.octets.len() >= self.limit || self.limit - self.octets.len() - 1 < octets.len() {
             return Err(ProtoError::MaxBufferSizeExceeded);
         }
-        append_string(self.octets, octets)
+        append_both(self.octets, &[octets.len() as u8], octets)
     }
 
     /// Appends the two octets of the number 0, which is to be replaced by another.
@@ -251,17 +266,17 @@ impl<'a> BinEncoder<'a> {
     }
 }
 
-// Appends a string's length and octets, or nothing.
+// Appends octets and others behind them, or nothing.
 #[inline]
-fn append_string(out: &mut Vec<u8>, octets: &[u8]) -> Result<(), ProtoError>
-    requires { length octets.now < 256 }
-    ensures ok { OnOk result (out.new.items ≡ out.old.items ++ length octets.now ∷ octets.now) }
+fn append_both(out: &mut Vec<u8>, front: &[u8], rest: &[u8]) -> Result<(), ProtoError>
+    ensures ok { OnOk result (out.new.items ≡ out.old.items ++ (front.now ++ rest.now)) }
     ensures err { OnErr result (out.new.items ≡ out.old.items) }
     ensures memory { IfErr result (λ e. e ≡ ProtoError.Memory) }
 {
-    out.push(octets.len() as u8)?;
-    if out.extend_from_slice(octets).is_err() {
-        let _length = out.pop();
+    let len = out.len();
+    out.extend_from_slice(front)?;
+    if out.extend_from_slice(rest).is_err() {
+        out.truncate(len);
         return Err(ProtoError::Memory);
     }
     Ok(())

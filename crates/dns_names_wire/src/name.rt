@@ -12,6 +12,7 @@ ghost use Rattle.dns_names_wire.specs.NameValues.{root_name, label_count, has_as
 
 mod building;
 mod comparing;
+mod mark;
 mod texts;
 
 use crate::binary::{BinDecodable, BinEncodable};
@@ -20,6 +21,7 @@ use crate::encoder::BinEncoder;
 use dns_labels::NameOctets;
 use dns_labels::labels::LabelIter;
 use dns_types::{DecodeError, ProtoError};
+use mark::Mark;
 use std::alloc::{AllocError, Global};
 use std::marker::Model;
 
@@ -31,7 +33,7 @@ use std::marker::Model;
 pub struct Name {
     // each label's length and its octets, without the 0 at the end
     octets: NameOctets,
-    is_fqdn: bool,
+    is_fqdn: Mark,
 }
 
 impl Model for Name {
@@ -54,7 +56,10 @@ impl Name {
         ensures { result ≡ name_of octets is_fqdn }
     {
         are_octets(octets.as_slice());
-        Name { octets, is_fqdn }
+        Name {
+            octets,
+            is_fqdn: Mark::new(is_fqdn),
+        }
     }
 
     /// The relative name without labels. Takes no memory.
@@ -64,7 +69,7 @@ impl Name {
     {
         Name {
             octets: NameOctets::new(alloc),
-            is_fqdn: false,
+            is_fqdn: Mark::new(false),
         }
     }
 
@@ -75,7 +80,7 @@ impl Name {
     {
         Name {
             octets: NameOctets::new(alloc),
-            is_fqdn: true,
+            is_fqdn: Mark::new(true),
         }
     }
 
@@ -84,7 +89,7 @@ impl Name {
     pub fn is_root(&self) -> bool
         ensures { IsTrue result ↔ (self.now ≡ root_name) }
     {
-        self.octets.len() == 0 && self.is_fqdn
+        self.octets.len() == 0 && self.is_fqdn.get()
     }
 
     /// Whether it is fully qualified.
@@ -94,7 +99,7 @@ impl Name {
     {
         // A look at a field gives what holds of all of them.
         let _ = &self.octets;
-        self.is_fqdn
+        self.is_fqdn.get()
     }
 
     /// Marks it as fully qualified, or as relative; the labels stay.
@@ -102,7 +107,7 @@ impl Name {
     pub fn set_fqdn(&mut self, is_fqdn: bool)
         ensures { self.new ≡ record self.old { fully_qualified = is_fqdn } }
     {
-        self.is_fqdn = is_fqdn;
+        self.is_fqdn = Mark::new(is_fqdn);
     }
 
     /// The labels from the left, each without its length octet. Takes no memory.
@@ -212,7 +217,7 @@ impl BinEncodable for Name {
         ensures room { OnOk result (length encoder.new.octets ≤ encoder.old.limit) }
         ensures whole { OnErr result (encoder.new ≡ encoder.old) }
     {
-        encoder.emit_name(self.octets.as_slice(), self.is_fqdn)
+        encoder.emit_name(self.octets.as_slice(), self.is_fqdn.get())
     }
 }
 
@@ -223,7 +228,7 @@ impl Clone for Name {
     fn clone(&self) -> Result<Name, AllocError> {
         Ok(Name {
             octets: self.octets.clone()?,
-            is_fqdn: self.is_fqdn,
+            is_fqdn: Mark::new(self.is_fqdn.get()),
         })
     }
 }

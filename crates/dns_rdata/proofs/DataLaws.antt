@@ -11,7 +11,8 @@ use Rattle.dns_fields.specs.Laws.{IsShape}
 use Rattle.dns_fields.proofs.EqualLaws.{values_decide}
 use Rattle.dns_fields.proofs.Emittable.{all_fit_emittable}
 use Rattle.dns_fields.proofs.OctetLaws.{canonical_octets_are}
-use Rattle.dns_fields.proofs.Laws.{stands_same, stands_fit, stands_lawful, stands_full, wrote_stands, wrote_behind, wrote_all_fit, canonical_same, canonical_stands, canonical_injective}
+use Rattle.dns_fields.proofs.Laws.{stands_same, stands_fit, stands_lawful, stands_full, wrote_stands, wrote_behind, wrote_all_fit}
+use Rattle.dns_fields.proofs.Laws.{canonical_same, canonical_stands, canonical_injective}
 use Rattle.dns_types.specs.declared.error.DecodeError.{DecodeError}
 use Rattle.dns_types.specs.declared.error.ProtoError.{ProtoError}
 use Rattle.dns_types.specs.declared.error.ProtoError.TheVariants as proto
@@ -41,6 +42,8 @@ shape_is types.SOA = (tt, (tt, (tt, (tt, (tt, (tt, tt))))))
 shape_is types.NAPTR = (tt, (tt, (tt, (tt, (tt, tt)))))
 shape_is types.CAA = (tt, (tt, tt))
 shape_is types.CSYNC = (tt, (tt, tt))
+shape_is types.HTTPS = (tt, (tt, tt))
+shape_is types.SVCB = (tt, (tt, tt))
 shape_is t = tt
 
 -- what is asked of a value is asked of its equals
@@ -66,12 +69,17 @@ fields_for-window : (m : List ℕ) (p n : ℕ) (t : RecordType) (vs : Values (sh
 fields_for-window m p n t vs w = ap (λ (f : FieldsOf). values_as (shape t) f.kinds f.values) (window_value m p n t vs w).fields ∙ values_as-same (shape t) vs
 
 -- the test of two values that fill windows of one type
-equal_same : (t : RecordType) (v w : RData) (m : List ℕ) (p n : ℕ) (m' : List ℕ) (p' n' : ℕ) (f : Fills m p n t v) (g : Fills m' p' n' t w) → Decides (equal v w) (Same (shape t) f.values g.values)
+equal_same : (t : RecordType) (v w : RData) (m : List ℕ) (p n : ℕ) (m' : List ℕ) (p' n' : ℕ) (f : Fills m p n t v) (g : Fills m' p' n' t w)
+    → Decides (equal v w) (Same (shape t) f.values g.values)
 equal_same t v w m p n m' p' n' f g =
-    let a : equal v w ≡ equal (value_for t f.values) (value_for t g.values) = ap (λ (x : RData). equal x w) (value_is t f.values v f.value) ∙ ap (equal (value_for t f.values)) (value_is t g.values w g.value) in
+    let a : equal v w ≡ equal (value_for t f.values) (value_for t g.values) = ap (λ (x : RData). equal x w) (value_is t f.values v f.value)
+    ∙ ap (equal (value_for t f.values)) (value_is t g.values w g.value) in
     let b = equal_values t f.values g.values f.window.holds (window_value m p n t f.values f.window).plain (window_value m' p' n' t g.values g.window).plain in
-    let c : values_eq (shape t) (fields_for t f.values) (fields_for t g.values) ≡ values_eq (shape t) f.values g.values = ap (λ (x : Values (shape t)). values_eq (shape t) x (fields_for t g.values)) (fields_for-window m p n t f.values f.window) ∙ ap (values_eq (shape t) f.values) (fields_for-window m' p' n' t g.values g.window) in
-    let d = values_decide (shape t) f.values g.values (stands_full m p (shape t) f.values (p + n) f.window.stands) (stands_full m' p' (shape t) g.values (p' + n') g.window.stands) in
+    let c : values_eq (shape t) (fields_for t f.values) (fields_for t g.values) ≡ values_eq (shape t) f.values g.values =
+    ap (λ (x : Values (shape t)). values_eq (shape t) x (fields_for t g.values)) (fields_for-window m p n t f.values f.window)
+    ∙ ap (values_eq (shape t) f.values) (fields_for-window m' p' n' t g.values g.window) in
+    let d = values_decide (shape t) f.values g.values (stands_full m p (shape t) f.values (p + n) f.window.stands)
+    (stands_full m' p' (shape t) g.values (p' + n') g.window.stands) in
     subst (λ (x : Bool). Decides x (Same (shape t) f.values g.values)) (sym (a ∙ b ∙ c)) d
 
 octets_fit : (kinds : List Kind) (vs : Values kinds) → AllFit kinds vs → octets_of (record { kinds = kinds; values = vs }) ≡ canonical kinds vs
@@ -81,7 +89,8 @@ filled_octets : {m : List ℕ} {p n : ℕ} {t : RecordType} {v : RData} (f : Fil
 filled_octets {m} {p} {n} {t} f = ap octets_of f.value.fields ∙ octets_fit (shape t) f.values (stands_fit m p (shape t) f.values (p + n) f.window.stands)
 
 pub fills_emittable : {m : List ℕ} {p n : ℕ} {t : RecordType} {v : RData} → Fills m p n t v → IsEmittable v
-fills_emittable {m} {p} {n} {t} f = subst (λ (x : FieldsOf). all_emittable x.kinds x.values ≡ true) (sym f.value.fields) (all_fit_emittable (shape t) f.values (stands_fit m p (shape t) f.values (p + n) f.window.stands))
+fills_emittable {m} {p} {n} {t} f = subst (λ (x : FieldsOf). all_emittable x.kinds x.values ≡ true) (sym f.value.fields)
+    (all_fit_emittable (shape t) f.values (stands_fit m p (shape t) f.values (p + n) f.window.stands))
 
 pub tells_apart : (v w : RData) → TellsApart v w (equal v w)
 tells_apart v w t m p n m' p' n' f g =
@@ -91,20 +100,26 @@ tells_apart v w t m p n m' p' n' f g =
     let fs = f.window.stands in
     let gs = g.window.stands in (
       λ h. ev ∙ canonical_same (shape t) f.values g.values (d.0 h) ∙ sym ew,
-      λ e. d.1 (canonical_injective (shape t) f.values g.values (shape_is t) (stands_fit m p (shape t) f.values (p + n) fs) (stands_lawful m p (shape t) f.values (p + n) fs) (stands_fit m' p' (shape t) g.values (p' + n') gs) (stands_lawful m' p' (shape t) g.values (p' + n') gs) (sym ev ∙ e ∙ ew)),
+      λ e. d.1 (canonical_injective (shape t) f.values g.values (shape_is t) (stands_fit m p (shape t) f.values (p + n) fs)
+          (stands_lawful m p (shape t) f.values (p + n) fs) (stands_fit m' p' (shape t) g.values (p' + n') gs)
+          (stands_lawful m' p' (shape t) g.values (p' + n') gs) (sym ev ∙ e ∙ ew)),
     )
 
 -- ---- equal fields that stand elsewhere are of an equal value
 
-equal_window : (m : List ℕ) (p n : ℕ) (t : RecordType) (v : RData) (m' : List ℕ) (p' n' : ℕ) (f : Fills m p n t v) (ws : Values (shape t)) → AreOctets m' → n' < 65536 → p' + n' ≤ length m' → Stands m' p' (shape t) ws (p' + n') → Same (shape t) f.values ws → HasEqual m' p' n' t v
+equal_window : (m : List ℕ) (p n : ℕ) (t : RecordType) (v : RData) (m' : List ℕ) (p' n' : ℕ) (f : Fills m p n t v) (ws : Values (shape t)) → AreOctets m'
+    → n' < 65536 → p' + n' ≤ length m' → Stands m' p' (shape t) ws (p' + n') → Same (shape t) f.values ws → HasEqual m' p' n' t v
 equal_window m p n t v m' p' n' f ws octets short within stands same =
-    let w : Window m' p' n' (shape t) (condition t) ws = record { octets = octets; short = short; within = within; stands = stands; holds = condition_same t f.values ws same f.window.holds } in
+    let w : Window m' p' n' (shape t) (condition t) ws =
+    record { octets = octets; short = short; within = within; stands = stands; holds = condition_same t f.values ws same f.window.holds } in
     let g : Fills m' p' n' t (value_for t ws) = record { values = ws; window = w; value = window_value m' p' n' t ws w } in
     record { value = value_for t ws; fills = g; same = (equal_same t v (value_for t ws) m p n m' p' n' f g).1 same }
 
-pub reads_back : (v : RData) (mode : RDataEncoding) (old new : Writing) → AreOctets new.octets → Appended mode old (fields_of v).kinds (fields_of v).values new → ReadsBack v old new
+pub reads_back : (v : RData) (mode : RDataEncoding) (old new : Writing) → AreOctets new.octets
+    → Appended mode old (fields_of v).kinds (fields_of v).values new → ReadsBack v old new
 reads_back v mode old new octets a t m p n f short =
-    let w : Wrote mode old.octets (shape t) f.values new.octets = subst (λ (x : FieldsOf). Wrote mode old.octets x.kinds x.values new.octets) f.value.fields a.fields in
+    let w : Wrote mode old.octets (shape t) f.values new.octets = subst (λ (x : FieldsOf). Wrote mode old.octets x.kinds x.values new.octets) f.value.fields
+    a.fields in
     let b = wrote_stands mode old.octets (shape t) f.values new.octets (stands_lawful m p (shape t) f.values (p + n) f.window.stands) w in
     let x = wrote_behind mode old.octets (shape t) f.values new.octets w in
     let e : length old.octets + (length new.octets - length old.octets) ≡ length new.octets = omega (arith, ap length x.1, length-append old.octets x.0) in
@@ -119,7 +134,8 @@ reads_canonical m p n t v f short =
     let whole : Stands (data_octets v) 0 (shape t) b.0 (length (data_octets v)) = subst (λ (x : List ℕ). Stands x 0 (shape t) b.0 (length x)) e b.2 in
     let z : length (data_octets v) ≡ 0 + length (data_octets v) = omega arith in
     let octets : AreOctets (data_octets v) = subst AreOctets e (canonical_octets_are m p (shape t) f.values (p + n) f.window.octets f.window.stands) in
-    equal_window m p n t v (data_octets v) 0 (length (data_octets v)) f b.0 octets short (omega arith) (subst (λ (k : ℕ). Stands (data_octets v) 0 (shape t) b.0 k) z whole) b.1
+    equal_window m p n t v (data_octets v) 0 (length (data_octets v)) f b.0 octets short (omega arith)
+    (subst (λ (k : ℕ). Stands (data_octets v) 0 (shape t) b.0 k) z whole) b.1
 
 -- ---- the same as clauses on an outcome
 
@@ -127,12 +143,15 @@ pub canonical_of : (t : RecordType) (m : List ℕ) (p n : ℕ) (r : Result RData
 canonical_of t m p n (Ok v) f = reads_canonical m p n t v f
 canonical_of t m p n (Err e) f = tt
 
-pub emits_again : (v : RData) (mode : RDataEncoding) (r : Result (Unit {0}) ProtoError) (old new : Writing) → AreOctets new.octets → EmitsAs mode (fields_of v).kinds (fields_of v).values r old new → OnOk r (ReadsBack v old new)
+pub emits_again : (v : RData) (mode : RDataEncoding) (r : Result (Unit {0}) ProtoError) (old new : Writing) → AreOctets new.octets
+    → EmitsAs mode (fields_of v).kinds (fields_of v).values r old new → OnOk r (ReadsBack v old new)
 emits_again v mode (Ok x) old new octets h = reads_back v mode old new octets h
 emits_again v mode (Err e) old new octets h = tt
 
 -- of a value that is known to be w
-pub emits_at : (v w : RData) (r : Result (Unit {0}) ProtoError) (old new : Writing) → v ≡ w → EmitsAs (mode_for old.mode w) (fields_of w).kinds (fields_of w).values r old new → EmitsAs (mode_for old.mode v) (fields_of v).kinds (fields_of v).values r old new
+pub emits_at : (v w : RData) (r : Result (Unit {0}) ProtoError) (old new : Writing) → v ≡ w
+    → EmitsAs (mode_for old.mode w) (fields_of w).kinds (fields_of w).values r old new
+    → EmitsAs (mode_for old.mode v) (fields_of v).kinds (fields_of v).values r old new
 emits_at v w r old new e h = subst (λ (x : RData). EmitsAs (mode_for old.mode x) (fields_of x).kinds (fields_of x).values r old new) (sym e) h
 
 -- what was read can be emitted
@@ -141,11 +160,14 @@ emittable_of t m p n (Ok v) f = fills_emittable f
 emittable_of t m p n (Err e) f = tt
 
 -- what was emitted can be, and what a message refuses cannot
-pub emits_emittable : (v : RData) (mode : RDataEncoding) (r : Result (Unit {0}) ProtoError) (old new : Writing) → EmitsAs mode (fields_of v).kinds (fields_of v).values r old new → OnOk r (IsEmittable v)
-emits_emittable v mode (Ok x) old new h = all_fit_emittable (fields_of v).kinds (fields_of v).values (wrote_all_fit mode old.octets (fields_of v).kinds (fields_of v).values new.octets h.fields)
+pub emits_emittable : (v : RData) (mode : RDataEncoding) (r : Result (Unit {0}) ProtoError) (old new : Writing)
+    → EmitsAs mode (fields_of v).kinds (fields_of v).values r old new → OnOk r (IsEmittable v)
+emits_emittable v mode (Ok x) old new h =
+    all_fit_emittable (fields_of v).kinds (fields_of v).values (wrote_all_fit mode old.octets (fields_of v).kinds (fields_of v).values new.octets h.fields)
 emits_emittable v mode (Err e) old new h = tt
 
-pub message_unfit : (v : RData) (mode : RDataEncoding) (r : Result (Unit {0}) ProtoError) (old new : Writing) → EmitsAs mode (fields_of v).kinds (fields_of v).values r old new → IfErr r (λ e. IsMessage e → ¬ (IsEmittable v))
+pub message_unfit : (v : RData) (mode : RDataEncoding) (r : Result (Unit {0}) ProtoError) (old new : Writing)
+    → EmitsAs mode (fields_of v).kinds (fields_of v).values r old new → IfErr r (λ e. IsMessage e → ¬ (IsEmittable v))
 message_unfit v mode (Ok x) old new h = tt
 message_unfit v mode (Err (proto.Message t)) old new h = λ m can. let e : true ≡ false = sym can ∙ h.why.unfit in cc e
 message_unfit v mode (Err proto.Memory) old new h = λ m. absurd m

@@ -1,5 +1,6 @@
 -- Reading data of each type.
-use Rattle.std.proofs.Common.{[], ◌∷◌, ◌≡◌, ◌≢◌, ℕ, ◌+◌, ◌-◌, ◌<◌, ◌≤◌, ◌==◌, ◌⊎◌, inl, inr, Bool, true, false, cond, List, length, refl, arith, Result, Ok, Err}
+use Rattle.std.proofs.Common.{[], ◌∷◌, ◌≡◌, ◌≢◌, ℕ, ◌+◌, ◌-◌, ◌<◌, ◌≤◌, ◌==◌, ◌⊎◌, inl, inr, Bool, true, false, cond, List, length, refl}
+use Rattle.std.proofs.Common.{arith, Result, Ok, Err}
 use Rattle.std.specs.Result.{IfOk, IfErr}
 use Rattle.std.proofs.lemmas.Bool.Decides.{nat_tests}
 use Rattle.dns_fields.specs.Octets.{AreOctets}
@@ -22,16 +23,19 @@ use Rattle.dns_rdata_base.specs.SOA.{soa_shape}
 use Rattle.dns_rdata_base.specs.SRV.{srv_shape}
 use Rattle.dns_rdata_certs.specs.Rests.{rest_refusal}
 use Rattle.dns_rdata_options.proofs.Refusals.{opt_never}
+use Rattle.dns_rdata_service.proofs.SvcbValues.{svcb_never}
 use Rattle.dns_rdata_sets.specs.CAA.{tag_refusal}
 use Rattle.dns_rdata_sets.specs.RecordTypeSet.{bitmap_refusal}
 use Rattle.dns_rdata.specs.declared.record_data.RData.{RData}
 use Rattle.dns_rdata.specs.declared.record_data.RData.TheVariants as rdata
-use Rattle.dns_rdata.specs.Data.{Row, row, unread, rowless, row_of, kinds_of, condition_of, is_rowless, FieldsOf, shape, condition, IsRowless, IsValue, Fills, NoValue, TookData, RefusedData, ReadsData}
+use Rattle.dns_rdata.specs.Data.{Row, row, unread, rowless, row_of, kinds_of, condition_of, is_rowless, FieldsOf, shape, condition}
+use Rattle.dns_rdata.specs.Data.{IsRowless, IsValue, Fills, NoValue, TookData, RefusedData, ReadsData}
 use Rattle.dns_rdata.specs.Data.{IsNeverRead}
 use Rattle.dns_rdata.specs.Refusals.{OwnRefusal, IsRefusal, by_length}
 
 -- what fills a window as fields fills it as a value
-pub data_took : {old new : Reading} (t : RecordType) (n : ℕ) (v : RData) (vs : Values (shape t)) → IsValue t vs v → TookWindow old n (shape t) (condition t) vs new → TookData old t n v new
+pub data_took : {old new : Reading} (t : RecordType) (n : ℕ) (v : RData) (vs : Values (shape t)) → IsValue t vs v
+    → TookWindow old n (shape t) (condition t) vs new → TookData old t n v new
 data_took t n v vs value w = record {
   behind = w.behind;
   here = λ e. record { values = vs; window = w.here e; value = value };
@@ -39,14 +43,20 @@ data_took t n v vs value w = record {
 }
 
 -- what is refused under a type
-pub data_refuses : {old new : Reading} (t : RecordType) (n : ℕ) (e : DecodeError) → RefusedWindow e old n (shape t) (condition t) new → RefusedData e old t n new
+pub data_refuses : {old new : Reading} (t : RecordType) (n : ℕ) (e : DecodeError) → RefusedWindow e old n (shape t) (condition t) new
+    → RefusedData e old t n new
 data_refuses t n e w = record { behind = w.behind; none = w.none }
 
 -- no octets are the data of type 0
 pub data_zero : (d : Reading) (n : ℕ) → n < 65536 → d.index ≤ length d.message → AreOctets d.message → TookData d types.ZERO n rdata.ZERO d
 data_zero d n short inside octets = record {
   behind = stays d;
-  here = λ e. record { values = tt; window = record { octets = octets; short = short; within = rw (← e) inside; stands = e; holds = tt }; value = record { type = refl; fields = refl; plain = tt } };
+  here = λ e. record {
+    values = tt;
+    window = record { octets = octets; short = short; within = rw (← e) inside; stands = e; holds = tt };
+    value =
+        record { type = refl; fields = refl; plain = tt };
+  };
   elsewhere = λ ne. record { none = λ vs w. ne w.stands };
 }
 
@@ -59,16 +69,21 @@ pub record HasNoRow (t : RecordType) : Type 0 where
   pub rowless : IsRowless t
   pub read : IsNeverRead t → ⊥
 
-pub no_row : (t : RecordType) → t ≢ types.A → t ≢ types.AAAA → t ≢ types.ANAME → t ≢ types.CAA → t ≢ types.CERT → t ≢ types.CNAME → t ≢ types.CSYNC → t ≢ types.HINFO → t ≢ types.MX → t ≢ types.NAPTR → t ≢ types.NULL → t ≢ types.NS → t ≢ types.OPENPGPKEY → t ≢ types.OPT → t ≢ types.PTR → t ≢ types.SMIMEA → t ≢ types.SOA → t ≢ types.SRV → t ≢ types.SSHFP → t ≢ types.TLSA → t ≢ types.TXT → t ≢ types.ZERO → t ≢ types.ANY → t ≢ types.AXFR → t ≢ types.IXFR → HasNoRow t
-no_row types.A h0 h1 h2 h3 h4 h5 h6 h7 h8 h9 h10 h11 h12 h13 h14 h15 h16 h17 h18 h19 h20 h21 h22 h23 h24 = absurd (h0 refl)
-no_row t h0 h1 h2 h3 h4 h5 h6 h7 h8 h9 h10 h11 h12 h13 h14 h15 h16 h17 h18 h19 h20 h21 h22 h23 h24 = grind arith
+pub no_row : (t : RecordType) → t ≢ types.A → t ≢ types.AAAA → t ≢ types.ANAME → t ≢ types.CAA → t ≢ types.CERT → t ≢ types.CNAME → t ≢ types.CSYNC
+    → t ≢ types.HINFO → t ≢ types.HTTPS → t ≢ types.MX → t ≢ types.NAPTR → t ≢ types.NULL → t ≢ types.NS → t ≢ types.OPENPGPKEY → t ≢ types.OPT
+    → t ≢ types.PTR → t ≢ types.SMIMEA → t ≢ types.SOA → t ≢ types.SRV → t ≢ types.SSHFP → t ≢ types.SVCB → t ≢ types.TLSA → t ≢ types.TXT → t ≢ types.ZERO
+    → t ≢ types.ANY → t ≢ types.AXFR → t ≢ types.IXFR → HasNoRow t
+no_row types.A h0 h1 h2 h3 h4 h5 h6 h7 h8 h9 h10 h11 h12 h13 h14 h15 h16 h17 h18 h19 h20 h21 h22 h23 h24 h25 h26 = absurd (h0 refl)
+no_row t h0 h1 h2 h3 h4 h5 h6 h7 h8 h9 h10 h11 h12 h13 h14 h15 h16 h17 h18 h19 h20 h21 h22 h23 h24 h25 h26 = grind arith
 
-took_rowless : (r : Row) {old new : Reading} {n : ℕ} (vs : Values null_shape) → is_rowless r → TookWindow old n null_shape (λ _. Unit {0}) vs new → (ws : Values (kinds_of r)) × TookWindow old n (kinds_of r) (condition_of r) ws new × (fields_as null_shape vs ≡ fields_as (kinds_of r) ws)
+took_rowless : (r : Row) {old new : Reading} {n : ℕ} (vs : Values null_shape) → is_rowless r → TookWindow old n null_shape (λ _. Unit {0}) vs new
+    → (ws : Values (kinds_of r)) × TookWindow old n (kinds_of r) (condition_of r) ws new × (fields_as null_shape vs ≡ fields_as (kinds_of r) ws)
 took_rowless (row kinds asked refusal) vs h w = absurd h
 took_rowless unread vs h w = absurd h
 took_rowless rowless vs h w = (vs, w, refl)
 
-pub unknown_took : {old new : Reading} (t : RecordType) (n : ℕ) (x : NULL) → HasNoRow t → TookWindow old n null_shape (λ _. Unit {0}) (null_fields x) new → TookData old t n (rdata.Unknown t x) new
+pub unknown_took : {old new : Reading} (t : RecordType) (n : ℕ) (x : NULL) → HasNoRow t → TookWindow old n null_shape (λ _. Unit {0}) (null_fields x) new
+    → TookData old t n (rdata.Unknown t x) new
 unknown_took t n x h w =
     let r = took_rowless (row_of t) (null_fields x) h.rowless w in
     data_took t n (rdata.Unknown t x) r.0 (record { type = refl; fields = r.2; plain = h.rowless }) r.1
@@ -99,17 +114,27 @@ miscounted {read = read} {len = len} b c e = let h = other_counts read len e in 
 no_value : {m : List ℕ} {p n : ℕ} (t : RecordType) → NoWindow m p n (shape t) (condition t) → NoValue m p n t
 no_value t w = record { none = λ v f. w.none f.values f.window }
 
-pub data_found : (t : RecordType) (n : ℕ) (o : Result RData DecodeError) (old new : Reading) (read len : ℕ) → ReadsData t n o old new → Counted old new n read len → IfOk (by_length o read len) (λ v. Fills old.message old.index n t v)
-data_found t n (Ok v) old new read len h c = by_case (read == len) (λ b. IfOk (cond b (Ok v) (Err (decode.IncorrectRDataLengthRead read len))) (λ v. Fills old.message old.index n t v)) (λ e. h.here (counted h.behind c e)) (λ e. tt)
+pub data_found : (t : RecordType) (n : ℕ) (o : Result RData DecodeError) (old new : Reading) (read len : ℕ) → ReadsData t n o old new
+    → Counted old new n read len → IfOk (by_length o read len) (λ v. Fills old.message old.index n t v)
+data_found t n (Ok v) old new read len h c =
+    by_case (read == len) (λ b. IfOk (cond b (Ok v) (Err (decode.IncorrectRDataLengthRead read len))) (λ v. Fills old.message old.index n t v))
+    (λ e. h.here (counted h.behind c e)) (λ e. tt)
 data_found t n (Err decode.Memory) old new read len h c = tt
 data_found t n (Err (decode.UnknownRecordTypeValue k)) old new read len h c = tt
-data_found t n (Err e) old new read len h c = by_case (read == len) (λ b. IfOk (cond b (Err e) (Err (decode.IncorrectRDataLengthRead read len))) (λ v. Fills old.message old.index n t v)) (λ _. tt) (λ _. tt)
+data_found t n (Err e) old new read len h c =
+    by_case (read == len) (λ b. IfOk (cond b (Err e) (Err (decode.IncorrectRDataLengthRead read len))) (λ v. Fills old.message old.index n t v)) (λ _. tt)
+    (λ _. tt)
 
-pub data_refused : (t : RecordType) (n : ℕ) (o : Result RData DecodeError) (old new : Reading) (read len : ℕ) → ReadsData t n o old new → Counted old new n read len → IfErr (by_length o read len) (λ e. UnlessMemory e (NoValue old.message old.index n t))
-data_refused t n (Ok v) old new read len h c = by_case (read == len) (λ b. IfErr {T = RData} (cond b (Ok v) (Err (decode.IncorrectRDataLengthRead read len))) (λ e. UnlessMemory e (NoValue old.message old.index n t))) (λ e. tt) (λ e. no_value t (h.elsewhere (miscounted h.behind c e)))
+pub data_refused : (t : RecordType) (n : ℕ) (o : Result RData DecodeError) (old new : Reading) (read len : ℕ) → ReadsData t n o old new
+    → Counted old new n read len → IfErr (by_length o read len) (λ e. UnlessMemory e (NoValue old.message old.index n t))
+data_refused t n (Ok v) old new read len h c =
+    by_case (read == len) (λ b. IfErr {T = RData} (cond b (Ok v) (Err (decode.IncorrectRDataLengthRead read len)))
+    (λ e. UnlessMemory e (NoValue old.message old.index n t))) (λ e. tt) (λ e. no_value t (h.elsewhere (miscounted h.behind c e)))
 data_refused t n (Err decode.Memory) old new read len h c = tt
 data_refused t n (Err (decode.UnknownRecordTypeValue k)) old new read len h c = no_value t h.none
-data_refused t n (Err e) old new read len h c = by_case (read == len) (λ b. IfErr {T = RData} (cond b (Err e) (Err (decode.IncorrectRDataLengthRead read len))) (λ e. UnlessMemory e (NoValue old.message old.index n t))) (λ _. no_value t h.none) (λ _. no_value t h.none)
+data_refused t n (Err e) old new read len h c =
+    by_case (read == len) (λ b. IfErr {T = RData} (cond b (Err e) (Err (decode.IncorrectRDataLengthRead read len)))
+    (λ e. UnlessMemory e (NoValue old.message old.index n t))) (λ _. no_value t h.none) (λ _. no_value t h.none)
 
 rest_never : (f n : ℕ) (old new : Reading) (k : ℕ) → rest_refusal f n old (decode.UnknownRecordTypeValue k) new → ⊥
 rest_never f n old new k (inl h) = let e = h.error in cc e
@@ -180,11 +205,21 @@ own_never types.CSYNC n old new k (inl h) = absurd (first_never (Number 4 ∷ Nu
 own_never types.CSYNC n old new k (inr (inl h)) = let e = h.error in absurd (cc e)
 own_never types.CSYNC n old new k (inr (inr (inl h))) = let e = h.error in absurd (cc e)
 own_never types.CSYNC n old new k (inr (inr (inr h))) = absurd (bitmap_never (n - 6) h.between new k h.refused)
+own_never types.HTTPS n old new k h = absurd (svcb_never n old new k h)
+own_never types.SVCB n old new k h = absurd (svcb_never n old new k h)
 own_never t n old new k h = let e = h.0 in absurd (cc e)
 
-pub data_why : (t : RecordType) (n : ℕ) (o : Result RData DecodeError) (old new : Reading) (read len : ℕ) → ReadsData t n o old new → Counted old new n read len → IfErr o (λ e. UnlessMemory e (OwnRefusal t n old new e)) → (IsNeverRead t → (new ≡ old) × (o ≡ Err (decode.UnknownRecordTypeValue (number_of t)))) → IfErr (by_length o read len) (IsRefusal t n old new)
-data_why t n (Ok v) old new read len h c own never = by_case (read == len) (λ b. IfErr {T = RData} (cond b (Ok v) (Err (decode.IncorrectRDataLengthRead read len))) (IsRefusal t n old new)) (λ e. tt) (λ e. inl (miscounted h.behind c e, c.taken, c.wanted))
+pub data_why : (t : RecordType) (n : ℕ) (o : Result RData DecodeError) (old new : Reading) (read len : ℕ) → ReadsData t n o old new
+    → Counted old new n read len → IfErr o (λ e. UnlessMemory e (OwnRefusal t n old new e))
+    → (IsNeverRead t → (new ≡ old) × (o ≡ Err (decode.UnknownRecordTypeValue (number_of t)))) → IfErr (by_length o read len) (IsRefusal t n old new)
+data_why t n (Ok v) old new read len h c own never =
+    by_case (read == len) (λ b. IfErr {T = RData} (cond b (Ok v) (Err (decode.IncorrectRDataLengthRead read len))) (IsRefusal t n old new)) (λ e. tt)
+    (λ e. inl (miscounted h.behind c e, c.taken, c.wanted))
 data_why t n (Err decode.Memory) old new read len h c own never = tt
 data_why t n (Err (decode.UnknownRecordTypeValue k)) old new read len h c own never = let x = own_never t n old new k own in (x.0, x.1, (never x.0).0)
-data_why t n (Err (decode.IncorrectRDataLengthRead r l)) old new read len h c own never = by_case (read == len) (λ b. IfErr {T = RData} (cond b (Err (decode.IncorrectRDataLengthRead r l)) (Err (decode.IncorrectRDataLengthRead read len))) (IsRefusal t n old new)) (λ e. inr (counted h.behind c e, own)) (λ e. inl (miscounted h.behind c e, c.taken, c.wanted))
-data_why t n (Err x) old new read len h c own never = by_case (read == len) (λ b. IfErr {T = RData} (cond b (Err x) (Err (decode.IncorrectRDataLengthRead read len))) (IsRefusal t n old new)) (λ e. (counted h.behind c e, own)) (λ e. inl (miscounted h.behind c e, c.taken, c.wanted))
+data_why t n (Err (decode.IncorrectRDataLengthRead r l)) old new read len h c own never =
+    by_case (read == len) (λ b. IfErr {T = RData} (cond b (Err (decode.IncorrectRDataLengthRead r l)) (Err (decode.IncorrectRDataLengthRead read len)))
+    (IsRefusal t n old new)) (λ e. inr (counted h.behind c e, own)) (λ e. inl (miscounted h.behind c e, c.taken, c.wanted))
+data_why t n (Err x) old new read len h c own never =
+    by_case (read == len) (λ b. IfErr {T = RData} (cond b (Err x) (Err (decode.IncorrectRDataLengthRead read len))) (IsRefusal t n old new))
+    (λ e. (counted h.behind c e, own)) (λ e. inl (miscounted h.behind c e, c.taken, c.wanted))

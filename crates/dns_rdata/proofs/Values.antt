@@ -18,7 +18,14 @@ use Rattle.dns_rdata_certs.specs.CERT.{cert_shape, cert_fields, cert_key_shape, 
 use Rattle.dns_rdata_certs.specs.SMIMEA.{smimea_shape, smimea_fields, smimea_key_shape, smimea_keys}
 use Rattle.dns_rdata_certs.specs.SSHFP.{sshfp_shape, sshfp_fields, sshfp_key_shape, sshfp_keys}
 use Rattle.dns_rdata_certs.specs.TLSA.{tlsa_shape, tlsa_fields, tlsa_key_shape, tlsa_keys}
-use Rattle.dns_rdata_certs.proofs.Values.{cert_from, cert_from-fields, cert_fields-from, cert_from-read, cert_keys-same, smimea_from, smimea_from-fields, smimea_fields-from, smimea_from-read, smimea_keys-same, sshfp_from, sshfp_from-fields, sshfp_fields-from, sshfp_from-read, sshfp_keys-same, tlsa_from, tlsa_from-fields, tlsa_fields-from, tlsa_from-read, tlsa_keys-same}
+use Rattle.dns_rdata_certs.proofs.Values.{cert_from, cert_from-fields, cert_fields-from, cert_from-read, cert_keys-same, smimea_from}
+use Rattle.dns_rdata_certs.proofs.Values.{smimea_from-fields, smimea_fields-from, smimea_from-read, smimea_keys-same, sshfp_from}
+use Rattle.dns_rdata_certs.proofs.Values.{sshfp_from-fields, sshfp_fields-from, sshfp_from-read, sshfp_keys-same, tlsa_from}
+use Rattle.dns_rdata_certs.proofs.Values.{tlsa_from-fields, tlsa_fields-from, tlsa_from-read, tlsa_keys-same}
+use Rattle.dns_rdata_service.specs.HTTPS.{https_shape}
+use Rattle.dns_rdata_service.specs.SVCB.{svcb_shape}
+use Rattle.dns_rdata_service.proofs.SvcbValues.{https_from, https_from-fields, https_fields-from, https_from-read, https_equal, svcb_from}
+use Rattle.dns_rdata_service.proofs.SvcbValues.{svcb_from-fields, svcb_fields-from, svcb_from-read, svcb_equal}
 use Rattle.dns_rdata_sets.specs.CAA.{caa_shape, caa_fields, caa_key_shape, caa_keys}
 use Rattle.dns_rdata_sets.proofs.CaaValues.{caa_from, caa_from-fields, caa_fields-from, caa_from-read, caa_keys-same}
 use Rattle.dns_rdata_sets.specs.CSYNC.{csync_shape, csync_fields, csync_key_shape, csync_keys}
@@ -89,8 +96,10 @@ value_for types.CERT vs = rdata.CERT (cert_from vs)
 value_for types.CNAME vs = rdata.CNAME (record { 0 = vs.0 })
 value_for types.CSYNC vs = rdata.CSYNC (csync_from vs)
 value_for types.HINFO vs = rdata.HINFO (record { cpu = vs.0; os = vs.1.0 })
+value_for types.HTTPS vs = rdata.HTTPS (https_from vs)
 value_for types.MX vs = rdata.MX (record { preference = vs.0; exchange = vs.1.0 })
-value_for types.NAPTR vs = rdata.NAPTR (record { order = vs.0; preference = vs.1.0; flags = vs.1.1.0; services = vs.1.1.1.0; regexp = vs.1.1.1.1.0; replacement = vs.1.1.1.1.1.0 })
+value_for types.NAPTR vs = rdata.NAPTR (record
+    { order = vs.0; preference = vs.1.0; flags = vs.1.1.0; services = vs.1.1.1.0; regexp = vs.1.1.1.1.0; replacement = vs.1.1.1.1.1.0 })
 value_for types.NULL vs = rdata.NULL (record { anything = vs.0 })
 value_for types.NS vs = rdata.NS (record { 0 = vs.0 })
 value_for types.OPENPGPKEY vs = rdata.OPENPGPKEY (record { public_key = vs.0 })
@@ -100,6 +109,7 @@ value_for types.SMIMEA vs = rdata.SMIMEA (smimea_from vs)
 value_for types.SOA vs = rdata.SOA (soa_from vs)
 value_for types.SRV vs = rdata.SRV (record { priority = vs.0; weight = vs.1.0; port = vs.1.1.0; target = vs.1.1.1.0 })
 value_for types.SSHFP vs = rdata.SSHFP (sshfp_from vs)
+value_for types.SVCB vs = rdata.SVCB (svcb_from vs)
 value_for types.TLSA vs = rdata.TLSA (tlsa_from vs)
 value_for types.TXT vs = rdata.TXT (record { txt_data = vs.0 })
 value_for types.ZERO vs = rdata.ZERO
@@ -123,6 +133,8 @@ plain_value (rdata.CAA x) h = ap rdata.CAA (caa_from-fields x h)
 plain_value (rdata.CERT x) h = ap rdata.CERT (cert_from-fields x h)
 plain_value (rdata.CSYNC x) h = ap rdata.CSYNC (csync_from-fields x h)
 plain_value (rdata.OPT x) h = ap rdata.OPT (opt_from-fields x h)
+plain_value (rdata.SVCB x) h = ap rdata.SVCB (svcb_from-fields x h)
+plain_value (rdata.HTTPS x) h = ap rdata.HTTPS (https_from-fields x h)
 plain_value (rdata.SMIMEA x) h = ap rdata.SMIMEA (smimea_from-fields x h)
 plain_value (rdata.SOA x) h = ap rdata.SOA (soa_from-fields x h)
 plain_value (rdata.SSHFP x) h = ap rdata.SSHFP (sshfp_from-fields x h)
@@ -157,7 +169,12 @@ window_value m p n types.CAA vs w =
     record { type = refl; fields = of_kinds caa_shape (caa_fields-from vs f); plain = caa_from-read vs }
 window_value m p n types.CERT vs w = record { type = refl; fields = of_kinds cert_shape (cert_fields-from vs); plain = cert_from-read vs }
 window_value m p n types.CSYNC vs w = record { type = refl; fields = of_kinds csync_shape (csync_fields-from vs); plain = csync_from-read vs }
-window_value m p n types.OPT vs w = record { type = refl; fields = of_kinds opt_shape (opt_fields-from m p vs (p + n) w.octets w.stands); plain = opt_from-read m p vs (p + n) w.octets w.stands }
+window_value m p n types.OPT vs w = record
+    { type = refl; fields = of_kinds opt_shape (opt_fields-from m p vs (p + n) w.octets w.stands); plain = opt_from-read m p vs (p + n) w.octets w.stands }
+window_value m p n types.SVCB vs w = record
+    { type = refl; fields = of_kinds svcb_shape (svcb_fields-from m p n (condition types.SVCB) vs w); plain = svcb_from-read vs }
+window_value m p n types.HTTPS vs w = record
+    { type = refl; fields = of_kinds https_shape (https_fields-from m p n (condition types.HTTPS) vs w); plain = https_from-read vs }
 window_value m p n types.SMIMEA vs w = record { type = refl; fields = of_kinds smimea_shape (smimea_fields-from vs); plain = smimea_from-read vs }
 window_value m p n types.SOA vs w =
     let f = stands_fit m p soa_shape vs (p + n) w.stands in
@@ -186,21 +203,43 @@ decided_same true false d e s = sym (e.1 (s.0 (d.0 refl)))
 decided_same false true d e s = d.1 (s.1 (e.0 refl))
 
 -- what is compared in place of the fields gives the same test
-equal_keys : (s t : List Kind) (a b : Values s) (c d : Values t) → AllFull s a → AllFull s b → AllFull t c → AllFull t d → Same s a b ↔ Same t c d → values_eq s a b ≡ values_eq t c d
+equal_keys : (s t : List Kind) (a b : Values s) (c d : Values t) → AllFull s a → AllFull s b → AllFull t c → AllFull t d → Same s a b ↔ Same t c d
+    → values_eq s a b ≡ values_eq t c d
 equal_keys s t a b c d fa fb fc fd same = decided_same (values_eq s a b) (values_eq t c d) (values_decide s a b fa fb) (values_decide t c d fc fd) same
 
 abbrev pub fields_for : (t : RecordType) → Values (shape t) → Values (shape t)
 fields_for t vs = values_as (shape t) (fields_of (value_for t vs)).kinds (fields_of (value_for t vs)).values
 
-pub equal_values : (t : RecordType) (vs ws : Values (shape t)) → condition t vs → IsPlain (value_for t vs) → IsPlain (value_for t ws) → equal (value_for t vs) (value_for t ws) ≡ values_eq (shape t) (fields_for t vs) (fields_for t ws)
+pub equal_values : (t : RecordType) (vs ws : Values (shape t)) → condition t vs → IsPlain (value_for t vs) → IsPlain (value_for t ws)
+    → equal (value_for t vs) (value_for t ws) ≡ values_eq (shape t) (fields_for t vs) (fields_for t ws)
 unfolding value_for values_as value_as
-equal_values types.CAA vs ws h a b = and_true _ ∙ equal_keys caa_key_shape caa_shape (caa_keys (caa_from vs)) (caa_keys (caa_from ws)) (caa_fields (caa_from vs)) (caa_fields (caa_from ws)) (tt, (tt, (tt, (tt, tt)))) (tt, (tt, (tt, (tt, tt)))) (tt, (tt, (tt, tt))) (tt, (tt, (tt, tt))) (caa_keys-same (caa_from vs) (caa_from ws) (caa_from-read vs) (caa_from-read ws))
-equal_values types.CERT vs ws h a b = and_true _ ∙ equal_keys cert_key_shape cert_shape (cert_keys (cert_from vs)) (cert_keys (cert_from ws)) (cert_fields (cert_from vs)) (cert_fields (cert_from ws)) (tt, (tt, (tt, (tt, (tt, (tt, tt)))))) (tt, (tt, (tt, (tt, (tt, (tt, tt)))))) (tt, (tt, (tt, (tt, tt)))) (tt, (tt, (tt, (tt, tt)))) (cert_keys-same (cert_from vs) (cert_from ws) (cert_from-read vs) (cert_from-read ws))
-equal_values types.CSYNC vs ws h a b = and_true _ ∙ equal_keys csync_key_shape csync_shape (csync_keys (csync_from vs)) (csync_keys (csync_from ws)) (csync_fields (csync_from vs)) (csync_fields (csync_from ws)) (tt, (tt, (tt, (tt, (tt, tt))))) (tt, (tt, (tt, (tt, (tt, tt))))) (tt, (tt, (tt, tt))) (tt, (tt, (tt, tt))) (csync_keys-same (csync_from vs) (csync_from ws) (csync_from-read vs) (csync_from-read ws))
+equal_values types.CAA vs ws h a b = and_true _
+    ∙ equal_keys caa_key_shape caa_shape (caa_keys (caa_from vs)) (caa_keys (caa_from ws)) (caa_fields (caa_from vs)) (caa_fields (caa_from ws))
+    (tt, (tt, (tt, (tt, tt)))) (tt, (tt, (tt, (tt, tt)))) (tt, (tt, (tt, tt))) (tt, (tt, (tt, tt)))
+    (caa_keys-same (caa_from vs) (caa_from ws) (caa_from-read vs) (caa_from-read ws))
+equal_values types.CERT vs ws h a b = and_true _
+    ∙ equal_keys cert_key_shape cert_shape (cert_keys (cert_from vs)) (cert_keys (cert_from ws)) (cert_fields (cert_from vs)) (cert_fields (cert_from ws))
+    (tt, (tt, (tt, (tt, (tt, (tt, tt)))))) (tt, (tt, (tt, (tt, (tt, (tt, tt)))))) (tt, (tt, (tt, (tt, tt)))) (tt, (tt, (tt, (tt, tt))))
+    (cert_keys-same (cert_from vs) (cert_from ws) (cert_from-read vs) (cert_from-read ws))
+equal_values types.CSYNC vs ws h a b = and_true _
+    ∙ equal_keys csync_key_shape csync_shape (csync_keys (csync_from vs)) (csync_keys (csync_from ws)) (csync_fields (csync_from vs))
+    (csync_fields (csync_from ws)) (tt, (tt, (tt, (tt, (tt, tt))))) (tt, (tt, (tt, (tt, (tt, tt))))) (tt, (tt, (tt, tt))) (tt, (tt, (tt, tt)))
+    (csync_keys-same (csync_from vs) (csync_from ws) (csync_from-read vs) (csync_from-read ws))
 equal_values types.OPT vs ws h a b = and_true _ ∙ opt_equal (opt_from vs) (opt_from ws) a b
-equal_values types.SMIMEA vs ws h a b = and_true _ ∙ equal_keys smimea_key_shape smimea_shape (smimea_keys (smimea_from vs)) (smimea_keys (smimea_from ws)) (smimea_fields (smimea_from vs)) (smimea_fields (smimea_from ws)) (tt, (tt, (tt, (tt, (tt, (tt, (tt, tt))))))) (tt, (tt, (tt, (tt, (tt, (tt, (tt, tt))))))) (tt, (tt, (tt, (tt, tt)))) (tt, (tt, (tt, (tt, tt)))) (smimea_keys-same (smimea_from vs) (smimea_from ws) (smimea_from-read vs) (smimea_from-read ws))
-equal_values types.SSHFP vs ws h a b = and_true _ ∙ equal_keys sshfp_key_shape sshfp_shape (sshfp_keys (sshfp_from vs)) (sshfp_keys (sshfp_from ws)) (sshfp_fields (sshfp_from vs)) (sshfp_fields (sshfp_from ws)) (tt, (tt, (tt, (tt, (tt, tt))))) (tt, (tt, (tt, (tt, (tt, tt))))) (tt, (tt, (tt, tt))) (tt, (tt, (tt, tt))) (sshfp_keys-same (sshfp_from vs) (sshfp_from ws) (sshfp_from-read vs) (sshfp_from-read ws))
-equal_values types.TLSA vs ws h a b = and_true _ ∙ equal_keys tlsa_key_shape tlsa_shape (tlsa_keys (tlsa_from vs)) (tlsa_keys (tlsa_from ws)) (tlsa_fields (tlsa_from vs)) (tlsa_fields (tlsa_from ws)) (tt, (tt, (tt, (tt, (tt, (tt, (tt, tt))))))) (tt, (tt, (tt, (tt, (tt, (tt, (tt, tt))))))) (tt, (tt, (tt, (tt, tt)))) (tt, (tt, (tt, (tt, tt)))) (tlsa_keys-same (tlsa_from vs) (tlsa_from ws) (tlsa_from-read vs) (tlsa_from-read ws))
+equal_values types.SVCB vs ws h a b = and_true _ ∙ svcb_equal (svcb_from vs) (svcb_from ws) (svcb_from-read vs) (svcb_from-read ws)
+equal_values types.HTTPS vs ws h a b = and_true _ ∙ https_equal (https_from vs) (https_from ws) (https_from-read vs) (https_from-read ws)
+equal_values types.SMIMEA vs ws h a b = and_true _
+    ∙ equal_keys smimea_key_shape smimea_shape (smimea_keys (smimea_from vs)) (smimea_keys (smimea_from ws)) (smimea_fields (smimea_from vs))
+    (smimea_fields (smimea_from ws)) (tt, (tt, (tt, (tt, (tt, (tt, (tt, tt))))))) (tt, (tt, (tt, (tt, (tt, (tt, (tt, tt))))))) (tt, (tt, (tt, (tt, tt))))
+    (tt, (tt, (tt, (tt, tt)))) (smimea_keys-same (smimea_from vs) (smimea_from ws) (smimea_from-read vs) (smimea_from-read ws))
+equal_values types.SSHFP vs ws h a b = and_true _
+    ∙ equal_keys sshfp_key_shape sshfp_shape (sshfp_keys (sshfp_from vs)) (sshfp_keys (sshfp_from ws)) (sshfp_fields (sshfp_from vs))
+    (sshfp_fields (sshfp_from ws)) (tt, (tt, (tt, (tt, (tt, tt))))) (tt, (tt, (tt, (tt, (tt, tt))))) (tt, (tt, (tt, tt))) (tt, (tt, (tt, tt)))
+    (sshfp_keys-same (sshfp_from vs) (sshfp_from ws) (sshfp_from-read vs) (sshfp_from-read ws))
+equal_values types.TLSA vs ws h a b = and_true _
+    ∙ equal_keys tlsa_key_shape tlsa_shape (tlsa_keys (tlsa_from vs)) (tlsa_keys (tlsa_from ws)) (tlsa_fields (tlsa_from vs)) (tlsa_fields (tlsa_from ws))
+    (tt, (tt, (tt, (tt, (tt, (tt, (tt, tt))))))) (tt, (tt, (tt, (tt, (tt, (tt, (tt, tt))))))) (tt, (tt, (tt, (tt, tt)))) (tt, (tt, (tt, (tt, tt))))
+    (tlsa_keys-same (tlsa_from vs) (tlsa_from ws) (tlsa_from-read vs) (tlsa_from-read ws))
 equal_values types.A vs ws h a b = and_true (values_eq (shape types.A) (vs.0, tt) (ws.0, tt))
 equal_values types.AAAA vs ws h a b = and_true _
 equal_values types.ANAME vs ws h a b = and_true _

@@ -26,6 +26,8 @@ use Rattle.dns_rdata_certs.specs.SSHFP.{sshfp_shape, sshfp_fields, sshfp_refusal
 use Rattle.dns_rdata_certs.specs.TLSA.{tlsa_shape, tlsa_fields, tlsa_refusal, IsReadTlsa}
 use Rattle.dns_rdata_base.specs.TXT.{txt_shape, txt_fields, txt_refusal}
 use Rattle.dns_rdata_options.specs.OPT.{opt_shape, opt_fields, opt_refusal, IsReadOpt}
+use Rattle.dns_rdata_service.specs.HTTPS.{https_shape, https_fields, https_refusal, IsReadHttps}
+use Rattle.dns_rdata_service.specs.SVCB.{svcb_shape, svcb_fields, svcb_refusal, IsReadSvcb}
 use Rattle.dns_rdata_sets.specs.CAA.{caa_shape, caa_fields, caa_condition, caa_refusal, IsReadCaa}
 use Rattle.dns_rdata_sets.specs.CSYNC.{csync_shape, csync_fields, csync_condition, csync_refusal, IsReadCsync}
 use Rattle.dns_rdata.specs.declared.record_data.RData.{RData}
@@ -61,6 +63,7 @@ row_of types.CERT = row cert_shape cert_condition cert_refusal
 row_of types.CNAME = row name_shape (anything name_shape) (lacking name_shape)
 row_of types.CSYNC = row csync_shape csync_condition csync_refusal
 row_of types.HINFO = row hinfo_shape (anything hinfo_shape) (λ n. hinfo_refusal)
+row_of types.HTTPS = row https_shape (anything https_shape) https_refusal
 row_of types.MX = row mx_shape (anything mx_shape) (lacking mx_shape)
 row_of types.NAPTR = row naptr_shape naptr_condition (λ n. naptr_refusal)
 row_of types.NULL = row null_shape (anything null_shape) short_refusal
@@ -72,6 +75,7 @@ row_of types.SMIMEA = row smimea_shape (anything smimea_shape) smimea_refusal
 row_of types.SOA = row soa_shape (anything soa_shape) (lacking soa_shape)
 row_of types.SRV = row srv_shape (anything srv_shape) (lacking srv_shape)
 row_of types.SSHFP = row sshfp_shape (anything sshfp_shape) sshfp_refusal
+row_of types.SVCB = row svcb_shape (anything svcb_shape) svcb_refusal
 row_of types.TLSA = row tlsa_shape (anything tlsa_shape) tlsa_refusal
 row_of types.TXT = row txt_shape (anything txt_shape) txt_refusal
 row_of types.ZERO = row [] (anything []) (λ n old e new. ⊥)
@@ -130,6 +134,7 @@ fields_of (rdata.CERT x) = record { kinds = cert_shape; values = cert_fields x }
 fields_of (rdata.CNAME x) = record { kinds = name_shape; values = cname_fields x }
 fields_of (rdata.CSYNC x) = record { kinds = csync_shape; values = csync_fields x }
 fields_of (rdata.HINFO x) = record { kinds = hinfo_shape; values = hinfo_fields x }
+fields_of (rdata.HTTPS x) = record { kinds = https_shape; values = https_fields x }
 fields_of (rdata.MX x) = record { kinds = mx_shape; values = mx_fields x }
 fields_of (rdata.NAPTR x) = record { kinds = naptr_shape; values = naptr_fields x }
 fields_of (rdata.NULL x) = record { kinds = null_shape; values = null_fields x }
@@ -141,6 +146,7 @@ fields_of (rdata.SMIMEA x) = record { kinds = smimea_shape; values = smimea_fiel
 fields_of (rdata.SOA x) = record { kinds = soa_shape; values = soa_fields x }
 fields_of (rdata.SRV x) = record { kinds = srv_shape; values = srv_fields x }
 fields_of (rdata.SSHFP x) = record { kinds = sshfp_shape; values = sshfp_fields x }
+fields_of (rdata.SVCB x) = record { kinds = svcb_shape; values = svcb_fields x }
 fields_of (rdata.TLSA x) = record { kinds = tlsa_shape; values = tlsa_fields x }
 fields_of (rdata.TXT x) = record { kinds = txt_shape; values = txt_fields x }
 fields_of (rdata.Unknown code x) = record { kinds = null_shape; values = null_fields x }
@@ -156,6 +162,7 @@ type_of (rdata.CERT x) = types.CERT
 type_of (rdata.CNAME x) = types.CNAME
 type_of (rdata.CSYNC x) = types.CSYNC
 type_of (rdata.HINFO x) = types.HINFO
+type_of (rdata.HTTPS x) = types.HTTPS
 type_of (rdata.MX x) = types.MX
 type_of (rdata.NAPTR x) = types.NAPTR
 type_of (rdata.NULL x) = types.NULL
@@ -167,6 +174,7 @@ type_of (rdata.SMIMEA x) = types.SMIMEA
 type_of (rdata.SOA x) = types.SOA
 type_of (rdata.SRV x) = types.SRV
 type_of (rdata.SSHFP x) = types.SSHFP
+type_of (rdata.SVCB x) = types.SVCB
 type_of (rdata.TLSA x) = types.TLSA
 type_of (rdata.TXT x) = types.TXT
 type_of (rdata.Unknown code x) = code
@@ -186,6 +194,8 @@ IsPlain (rdata.SOA x) = HasSeconds x
 IsPlain (rdata.CAA x) = IsReadCaa x
 IsPlain (rdata.CSYNC x) = IsReadCsync x
 IsPlain (rdata.OPT x) = IsReadOpt x
+IsPlain (rdata.HTTPS x) = IsReadHttps x
+IsPlain (rdata.SVCB x) = IsReadSvcb x
 IsPlain v = Unit {0}
 
 -- v is the value of the type with these fields
@@ -220,12 +230,14 @@ data_octets v = octets_of (fields_of v)
 abbrev pub mode_for : RDataEncoding → RData → RDataEncoding
 mode_for own (rdata.ANAME x) = modes.Other
 mode_for own (rdata.CNAME x) = modes.StandardRecord
+mode_for own (rdata.HTTPS x) = modes.Other
 mode_for own (rdata.MX x) = modes.StandardRecord
 mode_for own (rdata.NAPTR x) = modes.Canonical
 mode_for own (rdata.NS x) = modes.StandardRecord
 mode_for own (rdata.PTR x) = modes.StandardRecord
 mode_for own (rdata.SOA x) = modes.StandardRecord
 mode_for own (rdata.SRV x) = modes.Canonical
+mode_for own (rdata.SVCB x) = modes.Other
 mode_for own v = own
 
 -- ---- what a reader answers that may stop at another end than the length

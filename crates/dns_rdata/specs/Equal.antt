@@ -30,6 +30,8 @@ use Rattle.dns_rdata_base.specs.declared.txt.TXT.{TXT}
 use Rattle.dns_rdata_options.specs.declared.opt.OPT.{OPT}
 use Rattle.dns_rdata_options.specs.Order.{opt_eq}
 use Rattle.dns_rdata_options.specs.OrderLaws.{opt_equiv}
+use Rattle.dns_rdata_service.specs.declared.https.HTTPS.{HTTPS}
+use Rattle.dns_rdata_service.specs.declared.svcb.SVCB.{SVCB}
 use Rattle.dns_rdata_sets.specs.declared.caa.CAA.{CAA}
 use Rattle.dns_rdata_sets.specs.declared.csync.CSYNC.{CSYNC}
 use Rattle.dns_rdata_base.specs.A.{a_shape, a_fields}
@@ -47,6 +49,8 @@ use Rattle.dns_rdata_base.specs.SRV.{srv_shape, srv_fields}
 use Rattle.dns_rdata_certs.specs.SSHFP.{sshfp_key_shape, sshfp_keys}
 use Rattle.dns_rdata_certs.specs.TLSA.{tlsa_key_shape, tlsa_keys}
 use Rattle.dns_rdata_base.specs.TXT.{txt_shape, txt_fields}
+use Rattle.dns_rdata_service.specs.HTTPS.{https_key_shape, https_keys}
+use Rattle.dns_rdata_service.specs.SVCB.{svcb_key_shape, svcb_keys}
 use Rattle.dns_rdata_sets.specs.CAA.{caa_key_shape, caa_keys}
 use Rattle.dns_rdata_sets.specs.CSYNC.{csync_key_shape, csync_keys}
 use Rattle.dns_rdata.specs.declared.record_data.RData.{RData}
@@ -84,6 +88,10 @@ as_csync v = None
 abbrev pub as_hinfo : RData → Option HINFO
 as_hinfo (rdata.HINFO x) = Some x
 as_hinfo v = None
+
+abbrev pub as_https : RData → Option HTTPS
+as_https (rdata.HTTPS x) = Some x
+as_https v = None
 
 abbrev pub as_mx : RData → Option MX
 as_mx (rdata.MX x) = Some x
@@ -129,6 +137,10 @@ abbrev pub as_sshfp : RData → Option SSHFP
 as_sshfp (rdata.SSHFP x) = Some x
 as_sshfp v = None
 
+abbrev pub as_svcb : RData → Option SVCB
+as_svcb (rdata.SVCB x) = Some x
+as_svcb v = None
+
 abbrev pub as_tlsa : RData → Option TLSA
 as_tlsa (rdata.TLSA x) = Some x
 as_tlsa v = None
@@ -173,6 +185,9 @@ csync_eq = on csync_keys (values_eq csync_key_shape)
 abbrev pub hinfo_eq : HINFO → HINFO → Bool
 hinfo_eq = on hinfo_fields (values_eq hinfo_shape)
 
+abbrev pub https_eq : HTTPS → HTTPS → Bool
+https_eq = on https_keys (values_eq https_key_shape)
+
 abbrev pub mx_eq : MX → MX → Bool
 mx_eq = on mx_fields (values_eq mx_shape)
 
@@ -203,6 +218,9 @@ srv_eq = on srv_fields (values_eq srv_shape)
 abbrev pub sshfp_eq : SSHFP → SSHFP → Bool
 sshfp_eq = on sshfp_keys (values_eq sshfp_key_shape)
 
+abbrev pub svcb_eq : SVCB → SVCB → Bool
+svcb_eq = on svcb_keys (values_eq svcb_key_shape)
+
 abbrev pub tlsa_eq : TLSA → TLSA → Bool
 tlsa_eq = on tlsa_keys (values_eq tlsa_key_shape)
 
@@ -223,6 +241,7 @@ equal =
     (eq_of_both (on as_cname (option_eq cname_eq))
     (eq_of_both (on as_csync (option_eq csync_eq))
     (eq_of_both (on as_hinfo (option_eq hinfo_eq))
+    (eq_of_both (on as_https (option_eq https_eq))
     (eq_of_both (on as_mx (option_eq mx_eq))
     (eq_of_both (on as_naptr (option_eq naptr_eq))
     (eq_of_both (on as_null (option_eq null_eq))
@@ -234,11 +253,12 @@ equal =
     (eq_of_both (on as_soa (option_eq soa_eq))
     (eq_of_both (on as_srv (option_eq srv_eq))
     (eq_of_both (on as_sshfp (option_eq sshfp_eq))
+    (eq_of_both (on as_svcb (option_eq svcb_eq))
     (eq_of_both (on as_tlsa (option_eq tlsa_eq))
     (eq_of_both (on as_txt (option_eq txt_eq))
     (eq_of_both (on as_unknown_code (option_eq record_type_eq))
     (eq_of_both (on as_unknown (option_eq null_eq))
-    (on as_update (option_eq record_type_eq))))))))))))))))))))))))
+    (on as_update (option_eq record_type_eq))))))))))))))))))))))))))
 
 pub equal_equiv : IsEquivalence equal
 equal_equiv =
@@ -250,6 +270,7 @@ equal_equiv =
     (and_equiv (on_equiv as_cname (options_equiv (on_equiv cname_fields (values_equiv name_shape))))
     (and_equiv (on_equiv as_csync (options_equiv (on_equiv csync_keys (values_equiv csync_key_shape))))
     (and_equiv (on_equiv as_hinfo (options_equiv (on_equiv hinfo_fields (values_equiv hinfo_shape))))
+    (and_equiv (on_equiv as_https (options_equiv (on_equiv https_keys (values_equiv https_key_shape))))
     (and_equiv (on_equiv as_mx (options_equiv (on_equiv mx_fields (values_equiv mx_shape))))
     (and_equiv (on_equiv as_naptr (options_equiv (on_equiv naptr_fields (values_equiv naptr_shape))))
     (and_equiv (on_equiv as_null (options_equiv (on_equiv null_fields (values_equiv null_shape))))
@@ -261,8 +282,9 @@ equal_equiv =
     (and_equiv (on_equiv as_soa (options_equiv (on_equiv soa_fields (values_equiv soa_shape))))
     (and_equiv (on_equiv as_srv (options_equiv (on_equiv srv_fields (values_equiv srv_shape))))
     (and_equiv (on_equiv as_sshfp (options_equiv (on_equiv sshfp_keys (values_equiv sshfp_key_shape))))
+    (and_equiv (on_equiv as_svcb (options_equiv (on_equiv svcb_keys (values_equiv svcb_key_shape))))
     (and_equiv (on_equiv as_tlsa (options_equiv (on_equiv tlsa_keys (values_equiv tlsa_key_shape))))
     (and_equiv (on_equiv as_txt (options_equiv (on_equiv txt_fields (values_equiv txt_shape))))
     (and_equiv (on_equiv as_unknown_code (options_equiv type_laws.laws-law))
     (and_equiv (on_equiv as_unknown (options_equiv (on_equiv null_fields (values_equiv null_shape))))
-    (on_equiv as_update (options_equiv type_laws.laws-law))))))))))))))))))))))))
+    (on_equiv as_update (options_equiv type_laws.laws-law))))))))))))))))))))))))))

@@ -46,13 +46,19 @@ use Rattle.dns_rdata_base.specs.contracts.txt.TXTHash.TheImpl.Laws as txt_hash_l
 use Rattle.dns_rdata_options.specs.Order.{opt_eq}
 use Rattle.dns_rdata_options.specs.contracts.opt.OPTHash.TheImpl as opt_hash
 use Rattle.dns_rdata_options.specs.contracts.opt.OPTHash.TheImpl.Laws as opt_hash_laws
+use Rattle.dns_rdata_service.specs.contracts.https.HTTPSHash.TheImpl as https_hash
+use Rattle.dns_rdata_service.specs.contracts.https.HTTPSHash.TheImpl.Laws as https_hash_laws
+use Rattle.dns_rdata_service.specs.contracts.svcb.SVCBHash.TheImpl as svcb_hash
+use Rattle.dns_rdata_service.specs.contracts.svcb.SVCBHash.TheImpl.Laws as svcb_hash_laws
 use Rattle.dns_rdata_sets.specs.contracts.caa.CAAHash.TheImpl as caa_hash
 use Rattle.dns_rdata_sets.specs.contracts.caa.CAAHash.TheImpl.Laws as caa_hash_laws
 use Rattle.dns_rdata_sets.specs.contracts.csync.CSYNCHash.TheImpl as csync_hash
 use Rattle.dns_rdata_sets.specs.contracts.csync.CSYNCHash.TheImpl.Laws as csync_hash_laws
 use Rattle.dns_rdata.specs.declared.record_data.RData.{RData}
 use Rattle.dns_rdata.specs.declared.record_data.RData.TheVariants as rdata
-use Rattle.dns_rdata.specs.Equal.{equal, a_eq, aaaa_eq, aname_eq, caa_eq, cert_eq, cname_eq, csync_eq, hinfo_eq, mx_eq, naptr_eq, null_eq, ns_eq, openpgpkey_eq, ptr_eq, smimea_eq, soa_eq, srv_eq, sshfp_eq, tlsa_eq, txt_eq, record_type_eq}
+use Rattle.dns_rdata.specs.Equal.{equal, a_eq, aaaa_eq, aname_eq, caa_eq, cert_eq, cname_eq, csync_eq, hinfo_eq, https_eq, mx_eq, naptr_eq}
+use Rattle.dns_rdata.specs.Equal.{null_eq, ns_eq, openpgpkey_eq, ptr_eq, smimea_eq, soa_eq, srv_eq, sshfp_eq, svcb_eq, tlsa_eq, txt_eq}
+use Rattle.dns_rdata.specs.Equal.{record_type_eq}
 
 abbrev pub type_fed : RecordType → HashWrites
 type_fed = type_hash.ghosts.hash_input
@@ -67,6 +73,7 @@ data_fed (rdata.CERT x) = type_fed types.CERT ++ cert_hash.ghosts.hash_input x
 data_fed (rdata.CNAME x) = type_fed types.CNAME ++ cname_hash.ghosts.hash_input x
 data_fed (rdata.CSYNC x) = type_fed types.CSYNC ++ csync_hash.ghosts.hash_input x
 data_fed (rdata.HINFO x) = type_fed types.HINFO ++ hinfo_hash.ghosts.hash_input x
+data_fed (rdata.HTTPS x) = type_fed types.HTTPS ++ https_hash.ghosts.hash_input x
 data_fed (rdata.MX x) = type_fed types.MX ++ mx_hash.ghosts.hash_input x
 data_fed (rdata.NAPTR x) = type_fed types.NAPTR ++ naptr_hash.ghosts.hash_input x
 data_fed (rdata.NULL x) = type_fed types.NULL ++ null_hash.ghosts.hash_input x
@@ -78,6 +85,7 @@ data_fed (rdata.SMIMEA x) = type_fed types.SMIMEA ++ smimea_hash.ghosts.hash_inp
 data_fed (rdata.SOA x) = type_fed types.SOA ++ soa_hash.ghosts.hash_input x
 data_fed (rdata.SRV x) = type_fed types.SRV ++ srv_hash.ghosts.hash_input x
 data_fed (rdata.SSHFP x) = type_fed types.SSHFP ++ sshfp_hash.ghosts.hash_input x
+data_fed (rdata.SVCB x) = type_fed types.SVCB ++ svcb_hash.ghosts.hash_input x
 data_fed (rdata.TLSA x) = type_fed types.TLSA ++ tlsa_hash.ghosts.hash_input x
 data_fed (rdata.TXT x) = type_fed types.TXT ++ txt_hash.ghosts.hash_input x
 data_fed (rdata.Unknown code x) = type_fed code ++ null_hash.ghosts.hash_input x
@@ -87,50 +95,69 @@ data_fed rdata.ZERO = type_fed types.ZERO
 pub fed_same : (v w : RData) → equal v w ≡ true → data_fed v ≡ data_fed w
 fed_same (rdata.A x) (rdata.A y) h = ap (λ (f : HashWrites). type_fed types.A ++ f) (a_hash_laws.respects_eq-law x y (first_so (a_eq x y) true h))
 fed_same (rdata.A x) w h = absurd (true≢false (sym h))
-fed_same (rdata.AAAA x) (rdata.AAAA y) h = ap (λ (f : HashWrites). type_fed types.AAAA ++ f) (aaaa_hash_laws.respects_eq-law x y (first_so (aaaa_eq x y) true h))
+fed_same (rdata.AAAA x) (rdata.AAAA y) h =
+    ap (λ (f : HashWrites). type_fed types.AAAA ++ f) (aaaa_hash_laws.respects_eq-law x y (first_so (aaaa_eq x y) true h))
 fed_same (rdata.AAAA x) w h = absurd (true≢false (sym h))
-fed_same (rdata.ANAME x) (rdata.ANAME y) h = ap (λ (f : HashWrites). type_fed types.ANAME ++ f) (aname_hash_laws.respects_eq-law x y (first_so (aname_eq x y) true h))
+fed_same (rdata.ANAME x) (rdata.ANAME y) h =
+    ap (λ (f : HashWrites). type_fed types.ANAME ++ f) (aname_hash_laws.respects_eq-law x y (first_so (aname_eq x y) true h))
 fed_same (rdata.ANAME x) w h = absurd (true≢false (sym h))
 fed_same (rdata.CAA x) (rdata.CAA y) h = ap (λ (f : HashWrites). type_fed types.CAA ++ f) (caa_hash_laws.respects_eq-law x y (first_so (caa_eq x y) true h))
 fed_same (rdata.CAA x) w h = absurd (true≢false (sym h))
-fed_same (rdata.CERT x) (rdata.CERT y) h = ap (λ (f : HashWrites). type_fed types.CERT ++ f) (cert_hash_laws.respects_eq-law x y (first_so (cert_eq x y) true h))
+fed_same (rdata.CERT x) (rdata.CERT y) h =
+    ap (λ (f : HashWrites). type_fed types.CERT ++ f) (cert_hash_laws.respects_eq-law x y (first_so (cert_eq x y) true h))
 fed_same (rdata.CERT x) w h = absurd (true≢false (sym h))
-fed_same (rdata.CNAME x) (rdata.CNAME y) h = ap (λ (f : HashWrites). type_fed types.CNAME ++ f) (cname_hash_laws.respects_eq-law x y (first_so (cname_eq x y) true h))
+fed_same (rdata.CNAME x) (rdata.CNAME y) h =
+    ap (λ (f : HashWrites). type_fed types.CNAME ++ f) (cname_hash_laws.respects_eq-law x y (first_so (cname_eq x y) true h))
 fed_same (rdata.CNAME x) w h = absurd (true≢false (sym h))
-fed_same (rdata.CSYNC x) (rdata.CSYNC y) h = ap (λ (f : HashWrites). type_fed types.CSYNC ++ f) (csync_hash_laws.respects_eq-law x y (first_so (csync_eq x y) true h))
+fed_same (rdata.CSYNC x) (rdata.CSYNC y) h =
+    ap (λ (f : HashWrites). type_fed types.CSYNC ++ f) (csync_hash_laws.respects_eq-law x y (first_so (csync_eq x y) true h))
 fed_same (rdata.CSYNC x) w h = absurd (true≢false (sym h))
-fed_same (rdata.HINFO x) (rdata.HINFO y) h = ap (λ (f : HashWrites). type_fed types.HINFO ++ f) (hinfo_hash_laws.respects_eq-law x y (first_so (hinfo_eq x y) true h))
+fed_same (rdata.HINFO x) (rdata.HINFO y) h =
+    ap (λ (f : HashWrites). type_fed types.HINFO ++ f) (hinfo_hash_laws.respects_eq-law x y (first_so (hinfo_eq x y) true h))
 fed_same (rdata.HINFO x) w h = absurd (true≢false (sym h))
+fed_same (rdata.HTTPS x) (rdata.HTTPS y) h =
+    ap (λ (f : HashWrites). type_fed types.HTTPS ++ f) (https_hash_laws.respects_eq-law x y (first_so (https_eq x y) true h))
+fed_same (rdata.HTTPS x) w h = absurd (true≢false (sym h))
 fed_same (rdata.MX x) (rdata.MX y) h = ap (λ (f : HashWrites). type_fed types.MX ++ f) (mx_hash_laws.respects_eq-law x y (first_so (mx_eq x y) true h))
 fed_same (rdata.MX x) w h = absurd (true≢false (sym h))
-fed_same (rdata.NAPTR x) (rdata.NAPTR y) h = ap (λ (f : HashWrites). type_fed types.NAPTR ++ f) (naptr_hash_laws.respects_eq-law x y (first_so (naptr_eq x y) true h))
+fed_same (rdata.NAPTR x) (rdata.NAPTR y) h =
+    ap (λ (f : HashWrites). type_fed types.NAPTR ++ f) (naptr_hash_laws.respects_eq-law x y (first_so (naptr_eq x y) true h))
 fed_same (rdata.NAPTR x) w h = absurd (true≢false (sym h))
-fed_same (rdata.NULL x) (rdata.NULL y) h = ap (λ (f : HashWrites). type_fed types.NULL ++ f) (null_hash_laws.respects_eq-law x y (first_so (null_eq x y) true h))
+fed_same (rdata.NULL x) (rdata.NULL y) h =
+    ap (λ (f : HashWrites). type_fed types.NULL ++ f) (null_hash_laws.respects_eq-law x y (first_so (null_eq x y) true h))
 fed_same (rdata.NULL x) w h = absurd (true≢false (sym h))
 fed_same (rdata.NS x) (rdata.NS y) h = ap (λ (f : HashWrites). type_fed types.NS ++ f) (ns_hash_laws.respects_eq-law x y (first_so (ns_eq x y) true h))
 fed_same (rdata.NS x) w h = absurd (true≢false (sym h))
-fed_same (rdata.OPENPGPKEY x) (rdata.OPENPGPKEY y) h = ap (λ (f : HashWrites). type_fed types.OPENPGPKEY ++ f) (openpgpkey_hash_laws.respects_eq-law x y (first_so (openpgpkey_eq x y) true h))
+fed_same (rdata.OPENPGPKEY x) (rdata.OPENPGPKEY y) h =
+    ap (λ (f : HashWrites). type_fed types.OPENPGPKEY ++ f) (openpgpkey_hash_laws.respects_eq-law x y (first_so (openpgpkey_eq x y) true h))
 fed_same (rdata.OPENPGPKEY x) w h = absurd (true≢false (sym h))
 fed_same (rdata.OPT x) (rdata.OPT y) h = ap (λ (f : HashWrites). type_fed types.OPT ++ f) (opt_hash_laws.respects_eq-law x y (first_so (opt_eq x y) true h))
 fed_same (rdata.OPT x) w h = absurd (true≢false (sym h))
 fed_same (rdata.PTR x) (rdata.PTR y) h = ap (λ (f : HashWrites). type_fed types.PTR ++ f) (ptr_hash_laws.respects_eq-law x y (first_so (ptr_eq x y) true h))
 fed_same (rdata.PTR x) w h = absurd (true≢false (sym h))
-fed_same (rdata.SMIMEA x) (rdata.SMIMEA y) h = ap (λ (f : HashWrites). type_fed types.SMIMEA ++ f) (smimea_hash_laws.respects_eq-law x y (first_so (smimea_eq x y) true h))
+fed_same (rdata.SMIMEA x) (rdata.SMIMEA y) h =
+    ap (λ (f : HashWrites). type_fed types.SMIMEA ++ f) (smimea_hash_laws.respects_eq-law x y (first_so (smimea_eq x y) true h))
 fed_same (rdata.SMIMEA x) w h = absurd (true≢false (sym h))
 fed_same (rdata.SOA x) (rdata.SOA y) h = ap (λ (f : HashWrites). type_fed types.SOA ++ f) (soa_hash_laws.respects_eq-law x y (first_so (soa_eq x y) true h))
 fed_same (rdata.SOA x) w h = absurd (true≢false (sym h))
 fed_same (rdata.SRV x) (rdata.SRV y) h = ap (λ (f : HashWrites). type_fed types.SRV ++ f) (srv_hash_laws.respects_eq-law x y (first_so (srv_eq x y) true h))
 fed_same (rdata.SRV x) w h = absurd (true≢false (sym h))
-fed_same (rdata.SSHFP x) (rdata.SSHFP y) h = ap (λ (f : HashWrites). type_fed types.SSHFP ++ f) (sshfp_hash_laws.respects_eq-law x y (first_so (sshfp_eq x y) true h))
+fed_same (rdata.SSHFP x) (rdata.SSHFP y) h =
+    ap (λ (f : HashWrites). type_fed types.SSHFP ++ f) (sshfp_hash_laws.respects_eq-law x y (first_so (sshfp_eq x y) true h))
 fed_same (rdata.SSHFP x) w h = absurd (true≢false (sym h))
-fed_same (rdata.TLSA x) (rdata.TLSA y) h = ap (λ (f : HashWrites). type_fed types.TLSA ++ f) (tlsa_hash_laws.respects_eq-law x y (first_so (tlsa_eq x y) true h))
+fed_same (rdata.SVCB x) (rdata.SVCB y) h =
+    ap (λ (f : HashWrites). type_fed types.SVCB ++ f) (svcb_hash_laws.respects_eq-law x y (first_so (svcb_eq x y) true h))
+fed_same (rdata.SVCB x) w h = absurd (true≢false (sym h))
+fed_same (rdata.TLSA x) (rdata.TLSA y) h =
+    ap (λ (f : HashWrites). type_fed types.TLSA ++ f) (tlsa_hash_laws.respects_eq-law x y (first_so (tlsa_eq x y) true h))
 fed_same (rdata.TLSA x) w h = absurd (true≢false (sym h))
 fed_same (rdata.TXT x) (rdata.TXT y) h = ap (λ (f : HashWrites). type_fed types.TXT ++ f) (txt_hash_laws.respects_eq-law x y (first_so (txt_eq x y) true h))
 fed_same (rdata.TXT x) w h = absurd (true≢false (sym h))
 fed_same (rdata.Unknown a x) (rdata.Unknown b y) h =
     let same : type_fed a ≡ type_fed b = type_hash_laws.respects_eq-law a b (first_so (record_type_eq a b) (null_eq x y && true) h) in
     ap (λ (f : HashWrites). f ++ null_hash.ghosts.hash_input x) same
-    ∙ ap (λ (f : HashWrites). type_fed b ++ f) (null_hash_laws.respects_eq-law x y (first_so (null_eq x y) true (second_so (record_type_eq a b) (null_eq x y && true) h)))
+    ∙ ap (λ (f : HashWrites). type_fed b ++ f)
+    (null_hash_laws.respects_eq-law x y (first_so (null_eq x y) true (second_so (record_type_eq a b) (null_eq x y && true) h)))
 fed_same (rdata.Unknown a x) w h = absurd (true≢false (sym h))
 fed_same (rdata.Update0 t) (rdata.Update0 u) h = type_hash_laws.respects_eq-law t u h
 fed_same (rdata.Update0 t) w h = absurd (true≢false (sym h))

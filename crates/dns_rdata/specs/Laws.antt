@@ -27,7 +27,8 @@ pub record HasEqual (m : List ℕ) (p n : ℕ) (t : RecordType) (v : RData) : Ty
 
 -- Two values that were read under one type are equal exactly where their canonical octets are the same.
 abbrev pub TellsApart : RData → RData → Bool → Type 0
-TellsApart v w answer = (t : RecordType) (m : List ℕ) (p n : ℕ) (m' : List ℕ) (p' n' : ℕ) → Fills m p n t v → Fills m' p' n' t w → IsTrue answer ↔ (data_octets v ≡ data_octets w)
+TellsApart v w answer = (t : RecordType) (m : List ℕ) (p n : ℕ) (m' : List ℕ) (p' n' : ℕ) → Fills m p n t v → Fills m' p' n' t w
+    → IsTrue answer ↔ (data_octets v ≡ data_octets w)
 
 -- The canonical octets of a value that was read, where they are at most 65535, are the data of an equal value.
 abbrev pub ReadsCanonical : RecordType → RData → Type 0
@@ -36,7 +37,8 @@ ReadsCanonical t v = length (data_octets v) < 65536 → HasEqual (data_octets v)
 -- A value that was read under a type and whose octets were appended, at most 65535 of them, stands there again as an
 -- equal value, behind what was there.
 abbrev pub ReadsBack : RData → Writing → Writing → Type 0
-ReadsBack v old new = (t : RecordType) (m : List ℕ) (p n : ℕ) → Fills m p n t v → length new.octets - length old.octets < 65536 → HasEqual new.octets (length old.octets) (length new.octets - length old.octets) t v
+ReadsBack v old new = (t : RecordType) (m : List ℕ) (p n : ℕ) → Fills m p n t v → length new.octets - length old.octets < 65536
+    → HasEqual new.octets (length old.octets) (length new.octets - length old.octets) t v
 
 -- the address of A and AAAA
 abbrev pub address_of : RData → Option IpAddr

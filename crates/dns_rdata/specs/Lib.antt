@@ -33,3 +33,10 @@ pub use Rattle.dns_rdata_options.specs.OPT
 pub use Rattle.dns_rdata_sets.specs.CAA
 pub use Rattle.dns_rdata_sets.specs.CSYNC
 pub use Rattle.dns_rdata_sets.specs.RecordTypeSet
+pub use Rattle.dns_rdata_service.specs.SvcParamKey
+pub use Rattle.dns_rdata_service.specs.SvcParamValue
+pub use Rattle.dns_rdata_service.specs.Parameters
+pub use Rattle.dns_rdata_service.specs.SVCB
+pub use Rattle.dns_rdata_service.specs.HTTPS
+pub use Rattle.dns_rdata_service.specs.Emitting
+pub use Rattle.dns_rdata_service.specs.Hints

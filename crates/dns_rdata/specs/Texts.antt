@@ -15,6 +15,8 @@ use Rattle.dns_rdata_base.specs.SRV.{srv_text}
 use Rattle.dns_rdata_certs.specs.SSHFP.{sshfp_text}
 use Rattle.dns_rdata_certs.specs.TLSA.{tlsa_text}
 use Rattle.dns_rdata_base.specs.TXT.{txt_text}
+use Rattle.dns_rdata_service.specs.HTTPS.{https_text}
+use Rattle.dns_rdata_service.specs.SVCB.{svcb_text}
 use Rattle.dns_rdata_sets.specs.CAA.{caa_text}
 use Rattle.dns_rdata_sets.specs.CSYNC.{csync_text}
 use Rattle.dns_rdata.specs.declared.record_data.RData.{RData}
@@ -30,6 +32,7 @@ text_of (rdata.CERT x) = cert_text x
 text_of (rdata.CNAME x) = cname_text x
 text_of (rdata.CSYNC x) = csync_text x
 text_of (rdata.HINFO x) = hinfo_text x
+text_of (rdata.HTTPS x) = https_text x
 text_of (rdata.MX x) = mx_text x
 text_of (rdata.NAPTR x) = naptr_text x
 text_of (rdata.NULL x) = null_text x
@@ -41,6 +44,7 @@ text_of (rdata.SMIMEA x) = smimea_text x
 text_of (rdata.SOA x) = soa_text x
 text_of (rdata.SRV x) = srv_text x
 text_of (rdata.SSHFP x) = sshfp_text x
+text_of (rdata.SVCB x) = svcb_text x
 text_of (rdata.TLSA x) = tlsa_text x
 text_of (rdata.TXT x) = txt_text x
 text_of (rdata.Unknown code x) = null_text x

@@ -18,7 +18,9 @@ pub use dns_rdata_base::{
 };
 pub use dns_rdata_certs::{CERT, HEX, SMIMEA, SSHFP, TLSA, cert, smimea, sshfp, tlsa};
 pub use dns_rdata_options::{OPT, opt};
+pub use dns_rdata_service::{HTTPS, Items, SVCB, https, items, svcb};
 pub use dns_rdata_sets::{CAA, CSYNC, RecordTypeSet, caa, csync, record_type_set};
+pub use dns_text::{Lexer, Token, lexer, parse_ttl, read_item, read_list, text_words, token, ttl};
 pub use dns_types::Strings;
 pub use record_data::RData;
 pub use traits::RecordData;

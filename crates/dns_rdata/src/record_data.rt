@@ -15,6 +15,7 @@ use dns_rdata_base::{
 };
 use dns_rdata_certs::{CERT, SMIMEA, SSHFP, TLSA};
 use dns_rdata_options::OPT;
+use dns_rdata_service::{HTTPS, SVCB};
 use dns_rdata_sets::{CAA, CSYNC};
 use std::alloc::AllocError;
 use std::fmt;
@@ -40,6 +41,8 @@ pub enum RData {
     CSYNC(CSYNC),
     /// A machine and its system.
     HINFO(HINFO),
+    /// Where a service over HTTPS is to be found.
+    HTTPS(HTTPS),
     /// A mail exchange.
     MX(MX),
     /// A rule that rewrites a name.
@@ -62,6 +65,8 @@ pub enum RData {
     SRV(SRV),
     /// The fingerprint of a host's key.
     SSHFP(SSHFP),
+    /// Where a service is to be found.
+    SVCB(SVCB),
     /// A certificate of a service.
     TLSA(TLSA),
     /// Character strings.
@@ -96,6 +101,7 @@ impl RData {
             RData::CNAME(_) => RecordType::CNAME,
             RData::CSYNC(_) => RecordType::CSYNC,
             RData::HINFO(_) => RecordType::HINFO,
+            RData::HTTPS(_) => RecordType::HTTPS,
             RData::MX(_) => RecordType::MX,
             RData::NAPTR(_) => RecordType::NAPTR,
             RData::NULL(_) => RecordType::NULL,
@@ -107,6 +113,7 @@ impl RData {
             RData::SOA(_) => RecordType::SOA,
             RData::SRV(_) => RecordType::SRV,
             RData::SSHFP(_) => RecordType::SSHFP,
+            RData::SVCB(_) => RecordType::SVCB,
             RData::TLSA(_) => RecordType::TLSA,
             RData::TXT(_) => RecordType::TXT,
             RData::Unknown { code, .. } => *code,
@@ -148,6 +155,7 @@ impl RData {
             RecordType::CNAME => Ok(RData::CNAME(CNAME::read_data(decoder, length)?)),
             RecordType::CSYNC => Ok(RData::CSYNC(CSYNC::read_data(decoder, length)?)),
             RecordType::HINFO => Ok(RData::HINFO(HINFO::read_data(decoder, length)?)),
+            RecordType::HTTPS => Ok(RData::HTTPS(HTTPS::read_data(decoder, length)?)),
             RecordType::MX => Ok(RData::MX(MX::read_data(decoder, length)?)),
             RecordType::NAPTR => Ok(RData::NAPTR(NAPTR::read_data(decoder, length)?)),
             RecordType::NULL => Ok(RData::NULL(NULL::read_data(decoder, length)?)),
@@ -161,6 +169,7 @@ impl RData {
             RecordType::SOA => Ok(RData::SOA(SOA::read_data(decoder, length)?)),
             RecordType::SRV => Ok(RData::SRV(SRV::read_data(decoder, length)?)),
             RecordType::SSHFP => Ok(RData::SSHFP(SSHFP::read_data(decoder, length)?)),
+            RecordType::SVCB => Ok(RData::SVCB(SVCB::read_data(decoder, length)?)),
             RecordType::TLSA => Ok(RData::TLSA(TLSA::read_data(decoder, length)?)),
             RecordType::TXT => Ok(RData::TXT(TXT::read_data(decoder, length)?)),
             RecordType::ZERO => Ok(RData::ZERO),
@@ -274,6 +283,7 @@ impl RData {
             RData::CNAME(rdata) => rdata.emit(encoder),
             RData::CSYNC(rdata) => rdata.emit(encoder),
             RData::HINFO(rdata) => rdata.emit(encoder),
+            RData::HTTPS(rdata) => rdata.emit(encoder),
             RData::MX(rdata) => rdata.emit(encoder),
             RData::NAPTR(rdata) => rdata.emit(encoder),
             RData::NULL(rdata) => rdata.emit(encoder),
@@ -285,6 +295,7 @@ impl RData {
             RData::SOA(rdata) => rdata.emit(encoder),
             RData::SRV(rdata) => rdata.emit(encoder),
             RData::SSHFP(rdata) => rdata.emit(encoder),
+            RData::SVCB(rdata) => rdata.emit(encoder),
             RData::TLSA(rdata) => rdata.emit(encoder),
             RData::TXT(rdata) => rdata.emit(encoder),
             RData::Unknown { rdata, .. } => rdata.emit(encoder),
@@ -309,6 +320,7 @@ impl RData {
             (RData::CNAME(a), RData::CNAME(b)) => a == b,
             (RData::CSYNC(a), RData::CSYNC(b)) => a == b,
             (RData::HINFO(a), RData::HINFO(b)) => a == b,
+            (RData::HTTPS(a), RData::HTTPS(b)) => a == b,
             (RData::MX(a), RData::MX(b)) => a == b,
             (RData::NAPTR(a), RData::NAPTR(b)) => a == b,
             (RData::NULL(a), RData::NULL(b)) => a == b,
@@ -320,6 +332,7 @@ impl RData {
             (RData::SOA(a), RData::SOA(b)) => a == b,
             (RData::SRV(a), RData::SRV(b)) => a == b,
             (RData::SSHFP(a), RData::SSHFP(b)) => a == b,
+            (RData::SVCB(a), RData::SVCB(b)) => a == b,
             (RData::TLSA(a), RData::TLSA(b)) => a == b,
             (RData::TXT(a), RData::TXT(b)) => a == b,
             (
@@ -380,6 +393,7 @@ impl Hash for RData {
             RData::CNAME(rdata) => rdata.hash(state),
             RData::CSYNC(rdata) => rdata.hash(state),
             RData::HINFO(rdata) => rdata.hash(state),
+            RData::HTTPS(rdata) => rdata.hash(state),
             RData::MX(rdata) => rdata.hash(state),
             RData::NAPTR(rdata) => rdata.hash(state),
             RData::NULL(rdata) => rdata.hash(state),
@@ -391,6 +405,7 @@ impl Hash for RData {
             RData::SOA(rdata) => rdata.hash(state),
             RData::SRV(rdata) => rdata.hash(state),
             RData::SSHFP(rdata) => rdata.hash(state),
+            RData::SVCB(rdata) => rdata.hash(state),
             RData::TLSA(rdata) => rdata.hash(state),
             RData::TXT(rdata) => rdata.hash(state),
             RData::Unknown { rdata, .. } => rdata.hash(state),
@@ -415,6 +430,7 @@ impl Clone for RData {
             RData::CNAME(rdata) => RData::CNAME(rdata.clone()?),
             RData::CSYNC(rdata) => RData::CSYNC(rdata.clone()?),
             RData::HINFO(rdata) => RData::HINFO(rdata.clone()?),
+            RData::HTTPS(rdata) => RData::HTTPS(rdata.clone()?),
             RData::MX(rdata) => RData::MX(rdata.clone()?),
             RData::NAPTR(rdata) => RData::NAPTR(rdata.clone()?),
             RData::NULL(rdata) => RData::NULL(rdata.clone()?),
@@ -426,6 +442,7 @@ impl Clone for RData {
             RData::SOA(rdata) => RData::SOA(rdata.clone()?),
             RData::SRV(rdata) => RData::SRV(rdata.clone()?),
             RData::SSHFP(rdata) => RData::SSHFP(rdata.clone()?),
+            RData::SVCB(rdata) => RData::SVCB(rdata.clone()?),
             RData::TLSA(rdata) => RData::TLSA(rdata.clone()?),
             RData::TXT(rdata) => RData::TXT(rdata.clone()?),
             RData::Unknown { code, rdata } => RData::Unknown {
@@ -455,6 +472,7 @@ impl fmt::Display for RData {
             RData::CNAME(rdata) => write!(f, "{rdata}"),
             RData::CSYNC(rdata) => write!(f, "{rdata}"),
             RData::HINFO(rdata) => write!(f, "{rdata}"),
+            RData::HTTPS(rdata) => write!(f, "{rdata}"),
             RData::MX(rdata) => write!(f, "{rdata}"),
             RData::NAPTR(rdata) => write!(f, "{rdata}"),
             RData::NULL(rdata) => write!(f, "{rdata}"),
@@ -466,6 +484,7 @@ impl fmt::Display for RData {
             RData::SOA(rdata) => write!(f, "{rdata}"),
             RData::SRV(rdata) => write!(f, "{rdata}"),
             RData::SSHFP(rdata) => write!(f, "{rdata}"),
+            RData::SVCB(rdata) => write!(f, "{rdata}"),
             RData::TLSA(rdata) => write!(f, "{rdata}"),
             RData::TXT(rdata) => write!(f, "{rdata}"),
             RData::Unknown { rdata, .. } => write!(f, "{rdata}"),

@@ -6,7 +6,9 @@ ghost use Rattle.dns_rdata.specs.declared.record_data.RData.{RData as Data};
 ghost use Rattle.dns_rdata.specs.declared.record_data.RData.TheVariants as rdata;
 ghost use Rattle.dns_rdata.specs.Data.{type_of};
 ghost use Rattle.dns_rdata.specs.Laws.{IsUpdate};
-ghost use Rattle.dns_rdata.specs.Equal.{as_a, as_aaaa, as_aname, as_caa, as_cert, as_cname, as_csync, as_hinfo, as_mx, as_naptr, as_null, as_ns, as_openpgpkey, as_opt, as_ptr, as_smimea, as_soa, as_srv, as_sshfp, as_tlsa, as_txt};
+ghost use Rattle.dns_rdata.specs.Equal.{as_a, as_aaaa, as_aname, as_caa, as_cert, as_cname, as_csync, as_hinfo, as_https, as_mx, as_naptr};
+ghost use Rattle.dns_rdata.specs.Equal.{as_null, as_ns, as_openpgpkey, as_opt, as_ptr, as_smimea, as_soa, as_srv, as_sshfp, as_svcb};
+ghost use Rattle.dns_rdata.specs.Equal.{as_tlsa, as_txt};
 
 use crate::record_data::RData;
 use dns_names_wire::RecordType;
@@ -15,6 +17,7 @@ use dns_rdata_base::{
 };
 use dns_rdata_certs::{CERT, SMIMEA, SSHFP, TLSA};
 use dns_rdata_options::OPT;
+use dns_rdata_service::{HTTPS, SVCB};
 use dns_rdata_sets::{CAA, CSYNC};
 
 /// The data of records of one kind, as a part of [`RData`].
@@ -254,6 +257,33 @@ impl RecordData for HINFO {
 
     fn into_rdata(self) -> RData {
         RData::HINFO(self)
+    }
+
+    fn is_update(&self) -> bool {
+        false
+    }
+}
+
+impl RecordData for HTTPS {
+    ghost wrapped = { λ x. rdata.HTTPS x };
+
+    ghost borrowed = { as_https };
+
+    ghost exactly = { Prim.search rules };
+
+    fn try_borrow(rdata: &RData) -> Option<&HTTPS> {
+        match rdata {
+            RData::HTTPS(rdata) => Some(rdata),
+            _ => None,
+        }
+    }
+
+    fn record_type(&self) -> RecordType {
+        RecordType::HTTPS
+    }
+
+    fn into_rdata(self) -> RData {
+        RData::HTTPS(self)
     }
 
     fn is_update(&self) -> bool {
@@ -551,6 +581,33 @@ impl RecordData for SSHFP {
 
     fn into_rdata(self) -> RData {
         RData::SSHFP(self)
+    }
+
+    fn is_update(&self) -> bool {
+        false
+    }
+}
+
+impl RecordData for SVCB {
+    ghost wrapped = { λ x. rdata.SVCB x };
+
+    ghost borrowed = { as_svcb };
+
+    ghost exactly = { Prim.search rules };
+
+    fn try_borrow(rdata: &RData) -> Option<&SVCB> {
+        match rdata {
+            RData::SVCB(rdata) => Some(rdata),
+            _ => None,
+        }
+    }
+
+    fn record_type(&self) -> RecordType {
+        RecordType::SVCB
+    }
+
+    fn into_rdata(self) -> RData {
+        RData::SVCB(self)
     }
 
     fn is_update(&self) -> bool {

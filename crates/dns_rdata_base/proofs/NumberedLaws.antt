@@ -12,4 +12,5 @@ numbered_total number variant = then_total (on_total number nat_cmp_total) (on_t
 
 -- `==` holds exactly where the order answers Equal
 pub numbered_ties : {T : Type 0} (number variant : T → ℕ) (a b : T) → numbered_eq number variant a b ≡ is_eq (numbered_cmp number variant a b)
-numbered_ties number variant a b = both_tied _ _ (nat_cmp (number a) (number b)) (nat_cmp (variant a) (variant b)) (unsigned_ties (number a) (number b)) (unsigned_ties (variant a) (variant b))
+numbered_ties number variant a b = both_tied _ _ (nat_cmp (number a) (number b)) (nat_cmp (variant a) (variant b)) (unsigned_ties (number a) (number b))
+    (unsigned_ties (variant a) (variant b))

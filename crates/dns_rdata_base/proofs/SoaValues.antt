@@ -23,7 +23,8 @@ pub soa_from-fields : (x : SOA) → HasSeconds x → x ≡ soa_from (soa_fields 
 soa_from-fields x h =
     ap (λ (n : ℤ). record x { refresh = n }) (sym (to_z-of_z w32 x.refresh h.refresh))
     ∙ ap (λ (n : ℤ). record x { refresh = cast_signed w32 (cast_unsigned w32 x.refresh); retry = n }) (sym (to_z-of_z w32 x.retry h.retry))
-    ∙ ap (λ (n : ℤ). record x { refresh = cast_signed w32 (cast_unsigned w32 x.refresh); retry = cast_signed w32 (cast_unsigned w32 x.retry); expire = n }) (sym (to_z-of_z w32 x.expire h.expire))
+    ∙ ap (λ (n : ℤ). record x { refresh = cast_signed w32 (cast_unsigned w32 x.refresh); retry = cast_signed w32 (cast_unsigned w32 x.retry); expire = n })
+    (sym (to_z-of_z w32 x.expire h.expire))
 
 back : (n : ℕ) → n < 256 ^ 4 → cast_unsigned w32 (cast_signed w32 n) ≡ n
 back n h = of_z-to_z w32 n h
@@ -33,8 +34,19 @@ signed n h = sfits_to_z (Fits-of_lt h)
 
 pub soa_fields-from : (vs : Values soa_shape) → AllFit soa_shape vs → soa_fields (soa_from vs) ≡ vs
 soa_fields-from vs f =
-    ap (λ (n : ℕ). (vs.0, (vs.1.0, (vs.1.1.0, (n, (cast_unsigned w32 (cast_signed w32 vs.1.1.1.1.0), (cast_unsigned w32 (cast_signed w32 vs.1.1.1.1.1.0), vs.1.1.1.1.1.1))))))) (back vs.1.1.1.0 f.1.1.1.0)
-    ∙ ap (λ (n : ℕ). (vs.0, (vs.1.0, (vs.1.1.0, (vs.1.1.1.0, (n, (cast_unsigned w32 (cast_signed w32 vs.1.1.1.1.1.0), vs.1.1.1.1.1.1))))))) (back vs.1.1.1.1.0 f.1.1.1.1.0)
+    ap (λ (n : ℕ). (
+      vs.0,
+      (
+        vs.1.0,
+        (
+          vs.1.1.0,
+          (n, (cast_unsigned w32 (cast_signed w32 vs.1.1.1.1.0), (cast_unsigned w32 (cast_signed w32 vs.1.1.1.1.1.0), vs.1.1.1.1.1.1))),
+        ),
+      ),
+    ))
+    (back vs.1.1.1.0 f.1.1.1.0)
+    ∙ ap (λ (n : ℕ). (vs.0, (vs.1.0, (vs.1.1.0, (vs.1.1.1.0, (n, (cast_unsigned w32 (cast_signed w32 vs.1.1.1.1.1.0), vs.1.1.1.1.1.1)))))))
+    (back vs.1.1.1.1.0 f.1.1.1.1.0)
     ∙ ap (λ (n : ℕ). (vs.0, (vs.1.0, (vs.1.1.0, (vs.1.1.1.0, (vs.1.1.1.1.0, (n, vs.1.1.1.1.1.1))))))) (back vs.1.1.1.1.1.0 f.1.1.1.1.1.0)
 
 pub soa_from-seconds : (vs : Values soa_shape) → AllFit soa_shape vs → HasSeconds (soa_from vs)

@@ -1,5 +1,6 @@
 -- Character strings that are read one after the other.
-use Rattle.std.proofs.Common.{◌≡◌, ℕ, suc, ◌+◌, ◌≤◌, ◌<◌, ◌⊎◌, inl, inr, List, [], ◌∷◌, ◌++◌, length, take, drop, get_or, drop-cons, refl, sym, ap, ◌∙◌, arith, subst}
+use Rattle.std.proofs.Common.{◌≡◌, ℕ, suc, ◌+◌, ◌≤◌, ◌<◌, ◌⊎◌, inl, inr, List, [], ◌∷◌, ◌++◌, length, take, drop, get_or, drop-cons, refl}
+use Rattle.std.proofs.Common.{sym, ap, ◌∙◌, arith, subst}
 use Rattle.std.specs.List.{flat_map, AllByRecursion}
 use Rattle.std.proofs.lemmas.List.{append-nil, length-append}
 use Rattle.std.proofs.lemmas.List.Concat.{flat_map-cons}
@@ -32,7 +33,9 @@ fits_push [] s a h = (h, tt)
 fits_push (x ∷ xs) s a h = (a.0, fits_push xs s a.1 h)
 
 joined : (xs : List (List ℕ)) (s : List ℕ) → flat_map string xs ++ string s ≡ flat_map string (xs ++ s ∷ [])
-joined xs s = let e : flat_map string (s ∷ []) ≡ string s ++ flat_map string [] = flat_map-cons string s [] in sym (flat_map-append string xs (s ∷ []) ∙ ap (λ (t : List ℕ). flat_map string xs ++ t) (e ∙ append-nil (string s)))
+joined xs s = let e : flat_map string (s ∷ []) ≡ string s
+    ++ flat_map string [] = flat_map-cons string s [] in
+    sym (flat_map-append string xs (s ∷ []) ∙ ap (λ (t : List ℕ). flat_map string xs ++ t) (e ∙ append-nil (string s)))
 
 texts_push : {m : List ℕ} {p q r : ℕ} {xs : List (List ℕ)} {s : List ℕ} → Field m p Texts xs q → Field m q Text s r → Field m p Texts (xs ++ s ∷ []) r
 texts_push {m} {p} {q} {r} {xs} {s} f g = record { is = (fits_push xs s f.is.0 g.is.0, rw (← joined xs s) (at_then f.is.1 g.is.1)) }
@@ -40,18 +43,32 @@ texts_push {m} {p} {q} {r} {xs} {s} f g = record { is = (fits_push xs s f.is.0 g
 no_texts : (d : Reading) → d.index ≤ length d.message → Field d.message d.index Texts [] d.index
 no_texts d inside = record { is = (tt, record { ends = omega arith; within = inside; same = refl }) }
 
-first_text : (m : List ℕ) (q e : ℕ) (vs : List (List ℕ)) → q < e → Field m q Texts vs e → (s : List ℕ) × (ws : List (List ℕ)) × Field m q Text s (q + length (string s)) × Field m (q + length (string s)) Texts ws e
+first_text : (m : List ℕ) (q e : ℕ) (vs : List (List ℕ)) → q < e → Field m q Texts vs e
+    → (s : List ℕ) × (ws : List (List ℕ)) × Field m q Text s (q + length (string s)) × Field m (q + length (string s)) Texts ws e
 first_text m q e [] lt f = absurd (omega (arith, f.is.1.ends))
 first_text m q e (s ∷ ws) lt f =
-    let whole : At m q (string s ++ flat_map string ws) e = rw (← flat_map-cons string s ws) f.is.1 in
-    (s, ws, record { is = (f.is.0.0, at_front (string s) (flat_map string ws) whole) }, record { is = (f.is.0.1, at_rest (string s) (flat_map string ws) whole) })
+    let whole : At m q (string s ++ flat_map string ws) e = rw (← flat_map-cons string s ws) f.is.1 in (
+      s,
+      ws,
+      record { is = (f.is.0.0, at_front (string s) (flat_map string ws) whole) },
+      record
+          { is = (f.is.0.1, at_rest (string s) (flat_map string ws) whole) },
+    )
 
 -- the same, with the number of strings
-next_text : (m : List ℕ) (q e : ℕ) (vs : List (List ℕ)) → q < e → Field m q Texts vs e → (s : List ℕ) × (ws : List (List ℕ)) × Field m q Text s (q + length (string s)) × Field m (q + length (string s)) Texts ws e × (length vs ≡ suc (length ws))
+next_text : (m : List ℕ) (q e : ℕ) (vs : List (List ℕ)) → q < e → Field m q Texts vs e
+    → (s : List ℕ) × (ws : List (List ℕ)) × Field m q Text s (q + length (string s)) × Field m (q + length (string s)) Texts ws e
+    × (length vs ≡ suc (length ws))
 next_text m q e [] lt f = absurd (omega (arith, f.is.1.ends))
 next_text m q e (s ∷ ws) lt f =
-    let whole : At m q (string s ++ flat_map string ws) e = rw (← flat_map-cons string s ws) f.is.1 in
-    (s, ws, record { is = (f.is.0.0, at_front (string s) (flat_map string ws) whole) }, record { is = (f.is.0.1, at_rest (string s) (flat_map string ws) whole) }, refl)
+    let whole : At m q (string s ++ flat_map string ws) e = rw (← flat_map-cons string s ws) f.is.1 in (
+      s,
+      ws,
+      record { is = (f.is.0.0, at_front (string s) (flat_map string ws) whole) },
+      record
+          { is = (f.is.0.1, at_rest (string s) (flat_map string ws) whole) },
+      refl,
+    )
 
 -- none stands at the end, or past the message
 no_text : (m : List ℕ) (q e : ℕ) (vs : List (List ℕ)) → (e ≤ q) ⊎ (length m ≤ q) → Field m q Texts vs e → length vs ≡ 0
@@ -65,7 +82,8 @@ no_text m q e (s ∷ ws) past f =
 pub reads_first : (d : Reading) (end : ℕ) → d.index ≤ length d.message → ReadsOn d end [] d
 reads_first d end inside = record { message = refl; behind = omega arith; took = no_texts d inside; rest = λ ws f. (ws, f) }
 
-pub reads_more : {old d b : Reading} {end : ℕ} {xs : List (List ℕ)} {s : List ℕ} → d.index < end → ReadsOn old end xs d → TookField d Text s b → ReadsOn old end (xs ++ s ∷ []) b
+pub reads_more : {old d b : Reading} {end : ℕ} {xs : List (List ℕ)} {s : List ℕ} → d.index < end → ReadsOn old end xs d → TookField d Text s b
+    → ReadsOn old end (xs ++ s ∷ []) b
 reads_more {old} {d} {b} {end} {xs} {s} lt r f =
     let g : Field old.message d.index Text s b.index = subst (λ (m : List ℕ). Field m d.index Text s b.index) r.message f.field in
     record {
@@ -88,7 +106,8 @@ taken r = record { message = r.message; field = r.took }
 -- ---- how a loop ends
 
 -- a string is refused on the way
-pub reads_none : {e : DecodeError} {old d b : Reading} {end : ℕ} {xs : List (List ℕ)} (n : ℕ) → end ≡ old.index + n → d.index < end → ReadsOn old end xs d → RefusedField e d Text b → RefusedWindow e old n txt_shape any_strings b
+pub reads_none : {e : DecodeError} {old d b : Reading} {end : ℕ} {xs : List (List ℕ)} (n : ℕ) → end ≡ old.index + n → d.index < end → ReadsOn old end xs d
+    → RefusedField e d Text b → RefusedWindow e old n txt_shape any_strings b
 reads_none {e} {old} {d} {b} {end} {xs} n is lt r f = record {
   behind = record { message = f.behind.message ∙ r.message; index = omega (arith, r.behind, f.behind.index) };
   none = unless_map e _ _ (λ (l : LacksField d Text). record {
@@ -101,7 +120,8 @@ reads_none {e} {old} {d} {b} {end} {xs} n is lt r f = record {
 }
 
 -- because it lacks octets
-pub reads_lacking : {old d b : Reading} {end : ℕ} {xs : List (List ℕ)} (n : ℕ) → end ≡ old.index + n → d.index < end → ReadsOn old end xs d → LacksText d b → LacksString n old b
+pub reads_lacking : {old d b : Reading} {end : ℕ} {xs : List (List ℕ)} (n : ℕ) → end ≡ old.index + n → d.index < end → ReadsOn old end xs d → LacksText d b
+    → LacksString n old b
 reads_lacking {old} {d} {b} {end} {xs} n is lt r l = record { strings = xs; between = d; took = taken r; before = omega (arith, is, lt); lacks = l }
 
 -- memory runs out before a string
@@ -109,11 +129,13 @@ pub reads_stopped : {old d : Reading} {end : ℕ} {xs : List (List ℕ)} (n : �
 reads_stopped {old} {d} n r = record { behind = record { message = r.message; index = r.behind }; none = tt }
 
 -- or behind one
-pub reads_stopped_behind : {old d b : Reading} {end : ℕ} {xs : List (List ℕ)} {s : List ℕ} (n : ℕ) → ReadsOn old end xs d → TookField d Text s b → RefusedWindow decode.Memory old n txt_shape any_strings b
+pub reads_stopped_behind : {old d b : Reading} {end : ℕ} {xs : List (List ℕ)} {s : List ℕ} (n : ℕ) → ReadsOn old end xs d → TookField d Text s b
+    → RefusedWindow decode.Memory old n txt_shape any_strings b
 reads_stopped_behind {old} {d} {b} n r f = record { behind = record { message = f.message ∙ r.message; index = omega (arith, r.behind, longer f) }; none = tt }
 
 -- or the end is reached
-pub reads_done : {old d : Reading} {end : ℕ} {xs : List (List ℕ)} (n : ℕ) → Given old n → end ≡ old.index + n → end ≤ d.index → ReadsOn old end xs d → TookWindow old n txt_shape any_strings (xs, tt) d
+pub reads_done : {old d : Reading} {end : ℕ} {xs : List (List ℕ)} (n : ℕ) → Given old n → end ≡ old.index + n → end ≤ d.index → ReadsOn old end xs d
+    → TookWindow old n txt_shape any_strings (xs, tt) d
 reads_done {old} {d} {end} {xs} n g is le r = record {
   behind = record { message = r.message; index = r.behind };
   here = λ same.
@@ -135,7 +157,8 @@ pub record CountsOn (m : List ℕ) (end count : ℕ) (q : ℕ) : Type 0 where
 
 first_octet : {m : List ℕ} {q r : ℕ} {s : List ℕ} → q < length m → Field m q Text s r → get_or m q 0 ≡ length s
 first_octet {m} {q} {r} {s} lt f =
-    let whole : take (suc (length s)) (get_or m q 0 ∷ drop (suc q) m) ≡ length s ∷ s = ap (λ (d : List ℕ). take (suc (length s)) d) (sym (drop-cons m q 0 lt)) ∙ f.is.1.same in
+    let whole : take (suc (length s)) (get_or m q 0 ∷ drop (suc q) m) ≡ length s ∷ s =
+    ap (λ (d : List ℕ). take (suc (length s)) d) (sym (drop-cons m q 0 lt)) ∙ f.is.1.same in
     cc
 
 pub counts_first : (m : List ℕ) (end : ℕ) → CountsOn m end 0 0
@@ -150,5 +173,6 @@ counts_more {m} {end} {count} {q} lt inside c = record {
       (split.1, subst (λ (r : ℕ). Field m r Texts split.1 end) place split.3, omega (arith, vs.2, split.4));
 }
 
-pub counts_all : {m : List ℕ} {end count q : ℕ} → CountsOn m end count q → (end ≤ q) ⊎ (length m ≤ q) → (ws : List (List ℕ)) → Field m 0 Texts ws end → count ≡ length ws
+pub counts_all : {m : List ℕ} {end count q : ℕ} → CountsOn m end count q → (end ≤ q) ⊎ (length m ≤ q) → (ws : List (List ℕ)) → Field m 0 Texts ws end
+    → count ≡ length ws
 counts_all {m} {end} {count} {q} c past ws f = let vs = c.rest ws f in omega (arith, vs.2, no_text m q end vs.0 past vs.1)

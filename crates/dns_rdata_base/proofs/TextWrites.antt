@@ -15,7 +15,8 @@ fits_push : (xs : List (List ℕ)) (s : List ℕ) → AllByRecursion (λ s. leng
 fits_push [] s a h = (h, tt)
 fits_push (x ∷ xs) s a h = (a.0, fits_push xs s a.1 h)
 
-long_inner : (xs : List (List ℕ)) (s : List ℕ) (ys : List (List ℕ)) → nat_le (length s) 255 ≡ false → list_all (λ s. nat_le (length s) 255) (xs ++ s ∷ ys) ≡ false
+long_inner : (xs : List (List ℕ)) (s : List ℕ) (ys : List (List ℕ)) → nat_le (length s) 255 ≡ false
+    → list_all (λ s. nat_le (length s) 255) (xs ++ s ∷ ys) ≡ false
 long_inner [] s ys e = rw e refl
 long_inner (x ∷ xs) s ys e = rw (long_inner xs s ys e) (and_false (nat_le (length x) 255))
 
@@ -25,7 +26,8 @@ joined xs s ys = flat_map-append string xs (s ∷ ys) ∙ ap (λ (t : List ℕ).
 pub no_strings : (w : Writing) → AppendedField w Texts [] w
 no_strings w = record { keeps = keeps_same w; field = record { is = (tt, sym (append-nil w.octets)) } }
 
-pub more_strings : {w b e : Writing} {xs : List (List ℕ)} {s : List ℕ} → AppendedField w Texts xs b → AppendedField b Text s e → AppendedField w Texts (xs ++ s ∷ []) e
+pub more_strings : {w b e : Writing} {xs : List (List ℕ)} {s : List ℕ} → AppendedField w Texts xs b → AppendedField b Text s e
+    → AppendedField w Texts (xs ++ s ∷ []) e
 more_strings {w} {b} {e} {xs} {s} f g =
     let octets : e.octets ≡ w.octets ++ flat_map string (xs ++ s ∷ []) =
     g.field.is.1 ∙ ap (λ (t : List ℕ). t ++ string s) f.field.is.1 ∙ append_assoc w.octets (flat_map string xs) (string s)
@@ -33,7 +35,8 @@ more_strings {w} {b} {e} {xs} {s} f g =
     record { keeps = keeps_then f.keeps g.keeps; field = record { is = (fits_push xs s f.field.is.0 g.field.is.0, octets) } }
 
 -- a string is refused behind others
-pub stopped_strings : {e : ProtoError} {w b n : Writing} (xs : List (List ℕ)) (s : List ℕ) (ys : List (List ℕ)) → AppendedField w Texts xs b → StoppedField e b Text s n → StoppedField e w Texts (xs ++ s ∷ ys) n
+pub stopped_strings : {e : ProtoError} {w b n : Writing} (xs : List (List ℕ)) (s : List ℕ) (ys : List (List ℕ)) → AppendedField w Texts xs b
+    → StoppedField e b Text s n → StoppedField e w Texts (xs ++ s ∷ ys) n
 unfolding field_octets
 stopped_strings {e} {w} {b} {n} xs s ys f g = record {
   extends = record {
@@ -42,11 +45,24 @@ stopped_strings {e} {w} {b} {n} xs s ys f g = record {
     octets = g.extends.octets ∙ ap (λ (t : List ℕ). t ++ g.extends.tail) f.field.is.1 ∙ append_assoc w.octets (flat_map string xs) g.extends.tail;
   };
   why = because_map e _ _ _ _
-      (λ (r : NoRoomField b Text s). record { full = omega (arith, r.full, f.keeps.limit, ap length f.field.is.1, length-append w.octets (flat_map string xs), ap length (joined xs s ys), length-append (flat_map string xs) (string s ++ flat_map string ys), length-append (string s) (flat_map string ys)) })
+      (λ (r : NoRoomField b Text s). record {
+        full =
+            omega (
+              arith,
+              r.full,
+              f.keeps.limit,
+              ap length f.field.is.1,
+              length-append w.octets (flat_map string xs),
+              ap length (joined xs s ys),
+              length-append (flat_map string xs) (string s ++ flat_map string ys),
+              length-append (string s) (flat_map string ys),
+            );
+      })
       (λ (u : UnfitField Text s). record { unfit = long_inner xs s ys u.unfit })
       g.why;
 }
 
 -- a list about one of its places
 pub list_at : (i : ℕ) (xs : List (List ℕ)) (x : List ℕ) → x ≡ get_or xs i x → i < length xs → take i xs ++ x ∷ drop (i + 1) xs ≡ xs
-list_at i xs x is lt = ap (λ (y : List ℕ). take i xs ++ y ∷ drop (i + 1) xs) is ∙ ap (λ (t : List (List ℕ)). take i xs ++ t) (sym (drop_more xs i x lt)) ∙ take-append-drop i xs
+list_at i xs x is lt = ap (λ (y : List ℕ). take i xs ++ y ∷ drop (i + 1) xs) is ∙ ap (λ (t : List (List ℕ)). take i xs ++ t) (sym (drop_more xs i x lt))
+    ∙ take-append-drop i xs

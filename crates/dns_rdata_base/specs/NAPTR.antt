@@ -11,6 +11,20 @@ use Rattle.dns_rdata_base.specs.Lossy.{lossy}
 use Rattle.dns_rdata_base.specs.Refusing.{IsLack}
 use Rattle.dns_rdata_base.specs.declared.naptr.NAPTR.{NAPTR}
 
+-- order, preference
+abbrev pub naptr_numbers_shape : List Kind
+naptr_numbers_shape = Number 2 ∷ Number 2 ∷ []
+
+abbrev pub naptr_numbers : NAPTR → Values naptr_numbers_shape
+naptr_numbers x = (x.order, (x.preference, tt))
+
+-- flags, services, regexp, replacement
+abbrev pub naptr_rest_shape : List Kind
+naptr_rest_shape = Text ∷ Text ∷ Text ∷ Name ∷ []
+
+abbrev pub naptr_rest : NAPTR → Values naptr_rest_shape
+naptr_rest x = (x.flags, (x.services, (x.regexp, (x.replacement, tt))))
+
 -- order, preference, flags, services, regexp, replacement
 abbrev pub naptr_shape : List Kind
 naptr_shape = Number 2 ∷ Number 2 ∷ Text ∷ Text ∷ Text ∷ Name ∷ []

@@ -4,6 +4,13 @@ use Rattle.dns_fields.specs.Fields.{Kind, Number, Name, Values}
 use Rattle.dns_labels.specs.Text.{name_text}
 use Rattle.dns_rdata_base.specs.declared.srv.SRV.{SRV}
 
+-- priority, weight, port
+abbrev pub srv_numbers_shape : List Kind
+srv_numbers_shape = Number 2 ∷ Number 2 ∷ Number 2 ∷ []
+
+abbrev pub srv_numbers : SRV → Values srv_numbers_shape
+srv_numbers x = (x.priority, (x.weight, (x.port, tt)))
+
 -- priority, weight, port, target
 abbrev pub srv_shape : List Kind
 srv_shape = Number 2 ∷ Number 2 ∷ Number 2 ∷ Name ∷ []

@@ -8,11 +8,13 @@ ghost use Rattle.dns_rdata_base.specs.A.{a_shape, a_fields, a_refusal};
 use crate::decoding::{DecodesFields, read_whole};
 use crate::traits::{RecordDataDecodable, TakesOctet};
 use dns_names_wire::{
-    BinDecodable, BinDecoder, BinEncodable, BinEncoder, DecodeError, ProtoError, Restrict,
+    AddrParseError, BinDecodable, BinDecoder, BinEncodable, BinEncoder, DecodeError, ProtoError,
+    Restrict,
 };
 use std::fmt;
 use std::net::Ipv4Addr;
 use std::ops::Deref;
+use std::str::FromStr;
 
 /// An IPv4 address, its four octets in network order (RFC 1035, 3.4.1).
 #[derive(Clone, Copy, Debug, Hash)]
@@ -144,6 +146,23 @@ impl Deref for A {
     #[inline]
     fn deref(&self) -> &Ipv4Addr {
         &self.0
+    }
+}
+
+/// Four numbers of 0 to 255 joined by points, of one to three digits each, without leading zeros. Any other text is
+/// refused by `AddrParseError`. Takes no memory.
+impl FromStr for A {
+    type Err = AddrParseError;
+
+    ghost use Rattle.std.specs.Net.Grammar.{Parses, IsIpv4Text};
+
+    ghost from_str_gives = { Parses (λ text a. IsIpv4Text text a.0) };
+
+    fn from_str(text: &str) -> Result<A, AddrParseError> {
+        match text.parse::<Ipv4Addr>() {
+            Ok(address) => Ok(A(address)),
+            Err(_) => Err(AddrParseError),
+        }
     }
 }
 

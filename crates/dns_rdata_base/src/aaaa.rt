@@ -8,12 +8,14 @@ ghost use Rattle.dns_rdata_base.specs.AAAA.{aaaa_shape, aaaa_fields, aaaa_refusa
 use crate::decoding::{DecodesFields, read_whole};
 use crate::traits::{RecordDataDecodable, TakesOctet};
 use dns_names_wire::{
-    BinDecodable, BinDecoder, BinEncodable, BinEncoder, DecodeError, ProtoError, Restrict,
+    AddrParseError, BinDecodable, BinDecoder, BinEncodable, BinEncoder, DecodeError, ProtoError,
+    Restrict,
 };
 use std::fmt;
 use std::hash::{Hash, Hasher};
 use std::net::Ipv6Addr;
 use std::ops::Deref;
+use std::str::FromStr;
 
 /// An IPv6 address, its sixteen octets in network order (RFC 3596, 2.2).
 #[derive(Clone, Copy, Debug)]
@@ -162,6 +164,23 @@ impl Deref for AAAA {
     #[inline]
     fn deref(&self) -> &Ipv6Addr {
         &self.0
+    }
+}
+
+/// Eight groups of one to four hexadecimal digits joined by colons, one `::` in place of groups of zero, the last two
+/// groups perhaps as an IPv4 address (RFC 4291, 2.2). Any other text is refused by `AddrParseError`. Takes no memory.
+impl FromStr for AAAA {
+    type Err = AddrParseError;
+
+    ghost use Rattle.std.specs.Net.Grammar.{Parses, IsIpv6Text};
+
+    ghost from_str_gives = { Parses (λ text a. IsIpv6Text text a.0) };
+
+    fn from_str(text: &str) -> Result<AAAA, AddrParseError> {
+        match text.parse::<Ipv6Addr>() {
+            Ok(address) => Ok(AAAA(address)),
+            Err(_) => Err(AddrParseError),
+        }
     }
 }
 

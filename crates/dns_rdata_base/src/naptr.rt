@@ -6,7 +6,8 @@ ghost use Rattle.std.specs.List.{list_all};
 ghost use Rattle.dns_fields.specs.Fields.{Stands};
 ghost use Rattle.dns_fields.specs.declared.RDataEncoding.TheVariants as modes;
 ghost use Rattle.dns_names_wire.specs.Words.{ReadsIf, ReadsBy, ReadsWindow, Emits, EmitsAs, Extends, Keeps};
-ghost use Rattle.dns_rdata_base.specs.NAPTR.{naptr_shape, naptr_fields, naptr_condition, naptr_refusal, is_flag};
+ghost use Rattle.dns_rdata_base.specs.NAPTR.{naptr_numbers_shape, naptr_numbers, naptr_rest_shape, naptr_rest, naptr_shape, naptr_fields};
+ghost use Rattle.dns_rdata_base.specs.NAPTR.{naptr_condition, naptr_refusal, is_flag};
 
 use crate::decoding::{DecodesFields, read_whole};
 use crate::emitting::{EncodesFields, emit_in};
@@ -57,7 +58,15 @@ impl NAPTR {
         regexp: BoxedSlice<u8>,
         replacement: Name,
     ) -> NAPTR
-        ensures { result ≡ record { order = order; preference = preference; flags = boxed_slice_items flags; services = boxed_slice_items services; regexp = boxed_slice_items regexp; replacement = replacement } }
+        ensures { result ≡ record {
+          order = order;
+          preference = preference;
+          flags = boxed_slice_items flags;
+          services = boxed_slice_items services;
+          regexp =
+              boxed_slice_items regexp;
+          replacement = replacement;
+        } }
     {
         NAPTR {
             order,
@@ -153,20 +162,38 @@ impl RecordDataDecodable for NAPTR {
     }
 }
 
-impl EncodesFields for NAPTR {
-    ghost emitted = { naptr_shape };
+impl NAPTR {
+    // Appends order and preference at once.
+    #[inline]
+    fn emit_numbers(&self, encoder: &mut BinEncoder<'_>) -> Result<(), ProtoError>
+        ensures { Emits naptr_numbers_shape (naptr_numbers self.now) result encoder.old encoder.new }
+    {
+        let order = self.order.to_be_bytes();
+        let preference = self.preference.to_be_bytes();
+        encoder.emit_vec(&[order[0], order[1], preference[0], preference[1]])
+    }
 
-    ghost parts = { naptr_fields };
-
+    // Appends the strings and the name.
     #[tactic(auto, using(dns_names_wire::proofs::FieldWrites::writing))]
-    fn emit_fields(&self, encoder: &mut BinEncoder<'_>) -> Result<(), ProtoError> {
-        encoder.emit_u16(self.order)?;
-        encoder.emit_u16(self.preference)?;
+    fn emit_rest(&self, encoder: &mut BinEncoder<'_>) -> Result<(), ProtoError>
+        ensures emits { Emits naptr_rest_shape (naptr_rest self.now) result encoder.old encoder.new }
+    {
         encoder.emit_character_data(self.flags.as_slice())?;
         encoder.emit_character_data(self.services.as_slice())?;
         encoder.emit_character_data(self.regexp.as_slice())?;
         self.replacement.emit(encoder)?;
         Ok(())
+    }
+}
+
+impl EncodesFields for NAPTR {
+    ghost emitted = { naptr_shape };
+
+    ghost parts = { naptr_fields };
+
+    fn emit_fields(&self, encoder: &mut BinEncoder<'_>) -> Result<(), ProtoError> {
+        self.emit_numbers(encoder)?;
+        self.emit_rest(encoder)
     }
 }
 

@@ -84,18 +84,41 @@ impl SOA {
         Ok((serial, refresh, retry, expire, minimum))
     }
 
-    // Appends serial, refresh, retry, expire and minimum.
-    #[tactic(auto, using(dns_names_wire::proofs::FieldWrites::writing))]
+    // Appends serial, refresh, retry, expire and minimum at once.
     fn emit_numbers(&self, encoder: &mut BinEncoder<'_>) -> Result<(), ProtoError>
         ensures emits { Emits soa_numbers_shape (soa_numbers_of self.now) result encoder.old encoder.new }
     {
-        encoder.emit_u32(self.serial)?;
-        encoder.emit_i32(self.refresh)?;
-        encoder.emit_i32(self.retry)?;
-        encoder.emit_i32(self.expire)?;
-        encoder.emit_u32(self.minimum)?;
-        Ok(())
+        emit_five(
+            encoder,
+            self.serial,
+            self.refresh.cast_unsigned(),
+            self.retry.cast_unsigned(),
+            self.expire.cast_unsigned(),
+            self.minimum,
+        )
     }
+}
+
+// Appends five numbers at once.
+#[inline]
+fn emit_five(
+    encoder: &mut BinEncoder<'_>,
+    a: u32,
+    b: u32,
+    c: u32,
+    d: u32,
+    e: u32,
+) -> Result<(), ProtoError>
+    ensures { Emits soa_numbers_shape (a, (b, (c, (d, (e, tt))))) result encoder.old encoder.new }
+{
+    let [a0, a1, a2, a3] = a.to_be_bytes();
+    let [b0, b1, b2, b3] = b.to_be_bytes();
+    let [c0, c1, c2, c3] = c.to_be_bytes();
+    let [d0, d1, d2, d3] = d.to_be_bytes();
+    let [e0, e1, e2, e3] = e.to_be_bytes();
+    encoder.emit_vec(&[
+        a0, a1, a2, a3, b0, b1, b2, b3, c0, c1, c2, c3, d0, d1, d2, d3, e0, e1, e2, e3,
+    ])
 }
 
 impl BinDecodable for SOA {

@@ -5,7 +5,7 @@ ghost use Rattle.dns_fields.specs.Fields.{Stands};
 ghost use Rattle.dns_fields.specs.declared.RDataEncoding.TheVariants as modes;
 ghost use Rattle.dns_names_wire.specs.Words.{ReadsIf, ReadsBy, ReadsWindow, Emits, EmitsAs, Extends, Keeps, always};
 ghost use Rattle.dns_rdata_base.specs.Refusing.{IsLack};
-ghost use Rattle.dns_rdata_base.specs.SRV.{srv_shape, srv_fields};
+ghost use Rattle.dns_rdata_base.specs.SRV.{srv_numbers_shape, srv_numbers, srv_shape, srv_fields};
 
 use crate::decoding::{DecodesFields, read_whole};
 use crate::emitting::{EncodesFields, emit_in};
@@ -105,16 +105,33 @@ impl RecordDataDecodable for SRV {
     }
 }
 
+impl SRV {
+    // Appends priority, weight and port at once.
+    #[inline]
+    fn emit_numbers(&self, encoder: &mut BinEncoder<'_>) -> Result<(), ProtoError>
+        ensures { Emits srv_numbers_shape (srv_numbers self.now) result encoder.old encoder.new }
+    {
+        let priority = self.priority.to_be_bytes();
+        let weight = self.weight.to_be_bytes();
+        let port = self.port.to_be_bytes();
+        encoder.emit_vec(&[
+            priority[0],
+            priority[1],
+            weight[0],
+            weight[1],
+            port[0],
+            port[1],
+        ])
+    }
+}
+
 impl EncodesFields for SRV {
     ghost emitted = { srv_shape };
 
     ghost parts = { srv_fields };
 
-    #[tactic(auto, using(dns_names_wire::proofs::FieldWrites::writing))]
     fn emit_fields(&self, encoder: &mut BinEncoder<'_>) -> Result<(), ProtoError> {
-        encoder.emit_u16(self.priority)?;
-        encoder.emit_u16(self.weight)?;
-        encoder.emit_u16(self.port)?;
+        self.emit_numbers(encoder)?;
         self.target.emit(encoder)?;
         Ok(())
     }

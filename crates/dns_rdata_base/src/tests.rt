@@ -1,11 +1,14 @@
 ghost use Rattle.std.specs.Prelude.{◌<◌, length};
 
+use crate::a::A;
+use crate::aaaa::AAAA;
 use crate::hinfo::HINFO;
 use crate::openpgpkey::OPENPGPKEY;
 use crate::traits::RecordDataDecodable;
 use crate::txt::TXT;
 use dns_names_wire::{
-    BinDecodable, BinDecoder, BinEncodable, BinEncoder, DecodeError, ProtoError, Restrict,
+    AddrParseError, BinDecodable, BinDecoder, BinEncodable, BinEncoder, DecodeError, ProtoError,
+    Restrict,
 };
 use std::alloc::Global;
 use std::fmt;
@@ -194,4 +197,30 @@ fn cut_public_keys(rt: HostRuntime) {
     let cut = OPENPGPKEY::read_data(&mut decoder, Restrict::new(3));
     assert!(rt; matches!(cut, Err(DecodeError::InsufficientBytes)));
     assert_eq!(rt; decoder.index(), 0);
+}
+
+#[test]
+fn addresses(rt: HostRuntime) {
+    assert_eq!(rt; "1.2.3.4".parse::<A>(), Ok(A::new(1, 2, 3, 4)));
+    for text in ["01.2.3.4", "1.2.3", "1.2.3.256", "1.2.3.4 ", ""] {
+        assert_eq!(rt; text.parse::<A>(), Err(AddrParseError), "of {text}");
+    }
+    let embedded = AAAA::new(0x2001, 0xdb8, 0x122, 0x344, 0, 0, 0xc000, 0x221);
+    assert_eq!(rt;
+        "2001:db8:122:344::192.0.2.33".parse::<AAAA>(),
+        Ok(embedded)
+    );
+    assert_eq!(rt;
+        "1:2:3:4:5:6:7::".parse::<AAAA>(),
+        Ok(AAAA::new(1, 2, 3, 4, 5, 6, 7, 0))
+    );
+    for text in [
+        "1::2::3",
+        "1:2:3:4:5:6:7",
+        "1:2:3:4:5:6:7::8",
+        "",
+        "1.2.3.4",
+    ] {
+        assert_eq!(rt; text.parse::<AAAA>(), Err(AddrParseError), "of {text}");
+    }
 }

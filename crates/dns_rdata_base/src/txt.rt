@@ -140,7 +140,8 @@ impl Hash for TXT {
 
     ghost hash_input = { λ x. fed.slice (fed.slice fed.u8) x.txt_data };
 
-    ghost respects_eq = { λ a b same. ap (fed.slice (fed.slice fed.u8)) ((pointwise_decides (pointwise_decides unsigned_Decides) a.txt_data b.txt_data).0 (first_so _ true same)) };
+    ghost respects_eq = { λ a b same. ap (fed.slice (fed.slice fed.u8))
+        ((pointwise_decides (pointwise_decides unsigned_Decides) a.txt_data b.txt_data).0 (first_so _ true same)) };
 
     #[inline]
     fn hash<H: Hasher>(&self, state: &mut H) {

@@ -24,7 +24,9 @@ use Rattle.dns_rdata_certs.specs.declared.sshfp.fingerprint_type.FingerprintType
 use Rattle.dns_rdata_certs.specs.declared.cert.CERT.{CERT}
 use Rattle.dns_rdata_certs.specs.declared.cert.cert_type.CertType.{CertType}
 use Rattle.dns_rdata_certs.specs.declared.cert.algorithm.Algorithm.{Algorithm as CertAlgorithm}
-use Rattle.dns_rdata_certs.proofs.Numbers.{cert_type_number-of, cert_algorithm_number-of, sshfp_algorithm_number-of, fingerprint_type_number-of, cert_usage_number-of, selector_number-of, matching_number-of, one_of_number}
+use Rattle.dns_rdata_certs.proofs.Numbers.{cert_type_number-of, cert_algorithm_number-of, sshfp_algorithm_number-of}
+use Rattle.dns_rdata_certs.proofs.Numbers.{fingerprint_type_number-of, cert_usage_number-of, selector_number-of, matching_number-of}
+use Rattle.dns_rdata_certs.proofs.Numbers.{one_of_number}
 
 -- ---- TLSA
 
@@ -35,7 +37,12 @@ pub tlsa_from-fields : (x : TLSA) → IsReadTlsa x → x ≡ tlsa_from (tlsa_fie
 tlsa_from-fields x r =
     ap (λ (u : CertUsage). record x { cert_usage = u }) r.usage
     ∙ ap (λ (s : Selector). record x { cert_usage = cert_usage_of (cert_usage_number x.cert_usage); selector = s }) r.selector
-    ∙ ap (λ (m : Matching). record x { cert_usage = cert_usage_of (cert_usage_number x.cert_usage); selector = selector_of (selector_number x.selector); matching = m }) r.matching
+    ∙ ap (λ (m : Matching). record x {
+      cert_usage = cert_usage_of (cert_usage_number x.cert_usage);
+      selector =
+          selector_of (selector_number x.selector);
+      matching = m;
+    }) r.matching
 
 pub tlsa_fields-from : (vs : Values tlsa_shape) → tlsa_fields (tlsa_from vs) ≡ vs
 tlsa_fields-from vs =
@@ -50,7 +57,8 @@ tlsa_from-read vs = record {
   matching = sym (ap matching_of (matching_number-of vs.1.1.0));
 }
 
-pub tlsa_keys-same : (a b : TLSA) → IsReadTlsa a → IsReadTlsa b → Same tlsa_key_shape (tlsa_keys a) (tlsa_keys b) ↔ Same tlsa_shape (tlsa_fields a) (tlsa_fields b)
+pub tlsa_keys-same : (a b : TLSA) → IsReadTlsa a → IsReadTlsa b
+    → Same tlsa_key_shape (tlsa_keys a) (tlsa_keys b) ↔ Same tlsa_shape (tlsa_fields a) (tlsa_fields b)
 tlsa_keys-same a b x y = (
   λ s. (s.0, (s.1.1.0, (s.1.1.1.1.0, (s.1.1.1.1.1.1.0, tt)))),
   λ s. (
@@ -88,7 +96,8 @@ smimea_fields-from vs = tlsa_fields-from vs
 pub smimea_from-read : (vs : Values smimea_shape) → IsReadSmimea (smimea_from vs)
 smimea_from-read vs = tlsa_from-read vs
 
-pub smimea_keys-same : (a b : SMIMEA) → IsReadSmimea a → IsReadSmimea b → Same smimea_key_shape (smimea_keys a) (smimea_keys b) ↔ Same smimea_shape (smimea_fields a) (smimea_fields b)
+pub smimea_keys-same : (a b : SMIMEA) → IsReadSmimea a → IsReadSmimea b
+    → Same smimea_key_shape (smimea_keys a) (smimea_keys b) ↔ Same smimea_shape (smimea_fields a) (smimea_fields b)
 smimea_keys-same a b x y = tlsa_keys-same a.0 b.0 x y
 
 -- ---- SSHFP
@@ -112,17 +121,24 @@ sshfp_from-read vs = record {
   type = sym (ap fingerprint_type_of (fingerprint_type_number-of vs.1.0));
 }
 
-pub sshfp_keys-same : (a b : SSHFP) → IsReadSshfp a → IsReadSshfp b → Same sshfp_key_shape (sshfp_keys a) (sshfp_keys b) ↔ Same sshfp_shape (sshfp_fields a) (sshfp_fields b)
+pub sshfp_keys-same : (a b : SSHFP) → IsReadSshfp a → IsReadSshfp b
+    → Same sshfp_key_shape (sshfp_keys a) (sshfp_keys b) ↔ Same sshfp_shape (sshfp_fields a) (sshfp_fields b)
 sshfp_keys-same a b x y = (
   λ s. (s.0, (s.1.1.0, (s.1.1.1.1.0, tt))),
   λ s. (
     s.0,
     (
-      record { is = ap sshfp_algorithm_variant (one_of_number sshfp_algorithm_number sshfp_algorithm_of a.algorithm b.algorithm x.algorithm y.algorithm s.0.is) },
+      record {
+        is = ap sshfp_algorithm_variant
+            (one_of_number sshfp_algorithm_number sshfp_algorithm_of a.algorithm b.algorithm x.algorithm y.algorithm s.0.is);
+      },
       (
         s.1.0,
         (
-          record { is = ap fingerprint_type_variant (one_of_number fingerprint_type_number fingerprint_type_of a.fingerprint_type b.fingerprint_type x.type y.type s.1.0.is) },
+          record {
+            is = ap fingerprint_type_variant
+                (one_of_number fingerprint_type_number fingerprint_type_of a.fingerprint_type b.fingerprint_type x.type y.type s.1.0.is);
+          },
           (s.1.1.0, tt),
         ),
       ),
@@ -151,7 +167,8 @@ cert_from-read vs = record {
   algorithm = sym (ap cert_algorithm_of (cert_algorithm_number-of vs.1.1.0));
 }
 
-pub cert_keys-same : (a b : CERT) → IsReadCert a → IsReadCert b → Same cert_key_shape (cert_keys a) (cert_keys b) ↔ Same cert_shape (cert_fields a) (cert_fields b)
+pub cert_keys-same : (a b : CERT) → IsReadCert a → IsReadCert b
+    → Same cert_key_shape (cert_keys a) (cert_keys b) ↔ Same cert_shape (cert_fields a) (cert_fields b)
 cert_keys-same a b x y = (
   λ s. (s.0, (s.1.1.0, (s.1.1.1.0, (s.1.1.1.1.1.0, tt)))),
   λ s. (
@@ -163,7 +180,10 @@ cert_keys-same a b x y = (
         (
           s.1.1.0,
           (
-            record { is = ap cert_algorithm_variant (one_of_number cert_algorithm_number cert_algorithm_of a.algorithm b.algorithm x.algorithm y.algorithm s.1.1.0.is) },
+            record {
+              is = ap cert_algorithm_variant (one_of_number cert_algorithm_number cert_algorithm_of a.algorithm b.algorithm x.algorithm y.algorithm
+                  s.1.1.0.is);
+            },
             (s.1.1.1.0, tt),
           ),
         ),

@@ -2,7 +2,11 @@
 use Rattle.std.specs.Prelude.{ℕ, List, [], ◌∷◌, ◌++◌, codes, decimal}
 use Rattle.dns_rdata_base.specs.Numbered.{numbered_of}
 use Rattle.dns_rdata_certs.specs.declared.cert.algorithm.Algorithm.{Algorithm}
-use Rattle.dns_rdata_certs.specs.declared.cert.algorithm.Algorithm.TheVariants.{Reserved, RSAMD5, DH, DSA, ECC, RSASHA1, INDIRECT, PRIVATEDNS, PRIVATEOID, DSANSEC3SHA1, RSASHA1NSEC3SHA1, RSASHA256, RSASHA512, ECCGOST, ECDSAP256SHA256, ECDSAP384SHA384, ED25519, ED448, SM2SM3, ECCGOST12, Unassigned}
+use Rattle.dns_rdata_certs.specs.declared.cert.algorithm.Algorithm.TheVariants.{Reserved, RSAMD5, DH, DSA, ECC, RSASHA1, INDIRECT}
+use Rattle.dns_rdata_certs.specs.declared.cert.algorithm.Algorithm.TheVariants.{PRIVATEDNS, PRIVATEOID, DSANSEC3SHA1, RSASHA1NSEC3SHA1}
+use Rattle.dns_rdata_certs.specs.declared.cert.algorithm.Algorithm.TheVariants.{RSASHA256, RSASHA512, ECCGOST, ECDSAP256SHA256}
+use Rattle.dns_rdata_certs.specs.declared.cert.algorithm.Algorithm.TheVariants.{ECDSAP384SHA384, ED25519, ED448, SM2SM3, ECCGOST12}
+use Rattle.dns_rdata_certs.specs.declared.cert.algorithm.Algorithm.TheVariants.{Unassigned}
 
 abbrev pub cert_algorithm_number : Algorithm → ℕ
 cert_algorithm_number (Reserved n) = n

@@ -2,7 +2,9 @@
 use Rattle.std.specs.Prelude.{ℕ, List, [], ◌∷◌, nat_le, if◌then◌else◌, ◌++◌, codes, decimal}
 use Rattle.dns_rdata_base.specs.Numbered.{numbered_of}
 use Rattle.dns_rdata_certs.specs.declared.cert.cert_type.CertType.{CertType}
-use Rattle.dns_rdata_certs.specs.declared.cert.cert_type.CertType.TheVariants.{Reserved0, PKIX, SPKI, PGP, IPKIX, ISPKI, IPGP, ACPKIX, IACPKIX, URI, OID, Reserved255, Unassigned, Experimental, Reserved65535}
+use Rattle.dns_rdata_certs.specs.declared.cert.cert_type.CertType.TheVariants.{Reserved0, PKIX, SPKI, PGP, IPKIX, ISPKI, IPGP, ACPKIX}
+use Rattle.dns_rdata_certs.specs.declared.cert.cert_type.CertType.TheVariants.{IACPKIX, URI, OID, Reserved255, Unassigned, Experimental}
+use Rattle.dns_rdata_certs.specs.declared.cert.cert_type.CertType.TheVariants.{Reserved65535}
 
 abbrev pub cert_type_number : CertType → ℕ
 cert_type_number Reserved0 = 0

@@ -3,7 +3,8 @@
 ghost use Rattle.std.specs.Prelude.{◌≡◌, length as list_length, IfErr, IfOk, ◌+◌, OnOk};
 ghost use Rattle.std.specs.String.{string_bytes};
 ghost use Rattle.dns_names_wire.specs.Words.{ReadsTo, ReadsWindow, Emits};
-ghost use Rattle.dns_rdata_certs.specs.CERT.{cert_shape, cert_fields, cert_condition, cert_key_shape, cert_keys, IsReadCert, cert_data_text, cert_refusal, ReadsWholeCert, whole_cert_refusal};
+ghost use Rattle.dns_rdata_certs.specs.CERT.{cert_shape, cert_fields, cert_condition, cert_key_shape, cert_keys, IsReadCert};
+ghost use Rattle.dns_rdata_certs.specs.CERT.{cert_data_text, cert_refusal, ReadsWholeCert, whole_cert_refusal};
 
 mod algorithm;
 mod cert_type;
@@ -121,13 +122,12 @@ impl BinEncodable for CERT {
     ghost emits = { λ x r old new. Emits cert_shape (cert_fields x) r old new };
 
     /// Appends the three numbers and the certificate.
-    #[tactic(auto, using(dns_names_wire::proofs::FieldWrites::writing))]
     fn emit(&self, encoder: &mut BinEncoder<'_>) -> Result<(), ProtoError> {
-        encoder.emit_u16(u16::from(self.cert_type))?;
-        encoder.emit_u16(self.key_tag)?;
-        encoder.emit_u8(u8::from(self.algorithm))?;
-        encoder.emit_vec(self.cert_data.as_slice())?;
-        Ok(())
+        let kind = u16::from(self.cert_type).to_be_bytes();
+        let tag = self.key_tag.to_be_bytes();
+        let algorithm = u8::from(self.algorithm);
+        let numbers = [kind[0], kind[1], tag[0], tag[1], algorithm];
+        encoder.emit_both(&numbers, self.cert_data.as_slice())
     }
 }
 

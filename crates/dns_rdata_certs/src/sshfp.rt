@@ -97,12 +97,10 @@ impl BinEncodable for SSHFP {
     ghost emits = { λ x r old new. Emits sshfp_shape (sshfp_fields x) r old new };
 
     /// Appends the two numbers and the fingerprint.
-    #[tactic(auto, using(dns_names_wire::proofs::FieldWrites::writing))]
     fn emit(&self, encoder: &mut BinEncoder<'_>) -> Result<(), ProtoError> {
-        encoder.emit_u8(u8::from(self.algorithm))?;
-        encoder.emit_u8(u8::from(self.fingerprint_type))?;
-        encoder.emit_vec(self.fingerprint.as_slice())?;
-        Ok(())
+        let algorithm = u8::from(self.algorithm);
+        let kind = u8::from(self.fingerprint_type);
+        encoder.emit_both(&[algorithm, kind], self.fingerprint.as_slice())
     }
 }
 

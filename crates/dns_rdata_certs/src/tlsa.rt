@@ -102,13 +102,11 @@ impl BinEncodable for TLSA {
     ghost emits = { λ x r old new. Emits tlsa_shape (tlsa_fields x) r old new };
 
     /// Appends the three numbers and the data.
-    #[tactic(auto, using(dns_names_wire::proofs::FieldWrites::writing))]
     fn emit(&self, encoder: &mut BinEncoder<'_>) -> Result<(), ProtoError> {
-        encoder.emit_u8(u8::from(self.cert_usage))?;
-        encoder.emit_u8(u8::from(self.selector))?;
-        encoder.emit_u8(u8::from(self.matching))?;
-        encoder.emit_vec(self.cert_data.as_slice())?;
-        Ok(())
+        let usage = u8::from(self.cert_usage);
+        let selector = u8::from(self.selector);
+        let matching = u8::from(self.matching);
+        encoder.emit_both(&[usage, selector, matching], self.cert_data.as_slice())
     }
 }
 

@@ -9,21 +9,25 @@ use Rattle.dns_names_wire.specs.Words.{AppendedField, StoppedField, NoRoomField,
 use Rattle.dns_names_wire.proofs.FieldWrites.{keeps_then, extends_none, extends_then, because_map}
 use Rattle.dns_rdata_options.specs.Words.{AppendedOctets, StoppedOctets}
 
-pub appended_two : {old mid new : Writing} {asked : Type 0} (s t whole : List ℕ) → AppendedField old Rest s mid → AppendedField mid Rest t new → s ++ t ≡ whole → asked → AppendedOctets asked whole old new
+pub appended_two : {old mid new : Writing} {asked : Type 0} (s t whole : List ℕ) → AppendedField old Rest s mid → AppendedField mid Rest t new
+    → s ++ t ≡ whole → asked → AppendedOctets asked whole old new
 appended_two {old} s t whole f g is holds = record {
   keeps = keeps_then f.keeps g.keeps;
   octets = g.field.is ∙ ap (λ (o : List ℕ). o ++ t) f.field.is ∙ append_assoc old.octets s t ∙ ap (λ (o : List ℕ). old.octets ++ o) is;
   holds = holds;
 }
 
-pub stopped_one : {e : ProtoError} {old new : Writing} {asked : Type 0} (s t whole : List ℕ) → StoppedField e old Rest s new → s ++ t ≡ whole → StoppedOctets e asked whole old new
+pub stopped_one : {e : ProtoError} {old new : Writing} {asked : Type 0} (s t whole : List ℕ) → StoppedField e old Rest s new → s ++ t ≡ whole
+    → StoppedOctets e asked whole old new
 unfolding field_octets
 stopped_one {e} {old} s t whole f is = record {
   extends = f.extends;
-  why = because_map e _ _ _ _ (λ (r : NoRoomField old Rest s). omega (arith, r.full, ap length is, length-append s t)) (λ (u : UnfitField Rest s) _. let e = u.unfit in cc e) f.why;
+  why = because_map e _ _ _ _ (λ (r : NoRoomField old Rest s). omega (arith, r.full, ap length is, length-append s t))
+      (λ (u : UnfitField Rest s) _. let e = u.unfit in cc e) f.why;
 }
 
-pub stopped_two : {e : ProtoError} {old mid new : Writing} {asked : Type 0} (s t whole : List ℕ) → AppendedField old Rest s mid → StoppedField e mid Rest t new → s ++ t ≡ whole → StoppedOctets e asked whole old new
+pub stopped_two : {e : ProtoError} {old mid new : Writing} {asked : Type 0} (s t whole : List ℕ) → AppendedField old Rest s mid
+    → StoppedField e mid Rest t new → s ++ t ≡ whole → StoppedOctets e asked whole old new
 unfolding field_octets
 stopped_two {e} {old} {mid} s t whole f g is = record {
   extends = extends_then f g.extends;
@@ -34,7 +38,8 @@ stopped_two {e} {old} {mid} s t whole f g is = record {
 }
 
 -- more than four octets begin by four
-pub stopped_front : {e : ProtoError} {old new : Writing} {asked : Type 0} (s whole : List ℕ) → StoppedField e old Rest s new → length s ≤ length whole → StoppedOctets e asked whole old new
+pub stopped_front : {e : ProtoError} {old new : Writing} {asked : Type 0} (s whole : List ℕ) → StoppedField e old Rest s new → length s ≤ length whole
+    → StoppedOctets e asked whole old new
 unfolding field_octets
 stopped_front {e} {old} s whole f le = record {
   extends = f.extends;

@@ -1,5 +1,6 @@
 -- Options one after the other.
-use Rattle.std.proofs.Common.{◌≡◌, ◌≢◌, ℕ, zero, suc, ◌+◌, ◌-◌, ◌≤◌, ◌<◌, ◌^◌, ◌⊎◌, inl, inr, ⊎_elim, Option, Some, None, List, [], ◌∷◌, ◌++◌, length, take, drop, refl, sym, ap, ◌∙◌, arith, subst, append_assoc}
+use Rattle.std.proofs.Common.{◌≡◌, ◌≢◌, ℕ, zero, suc, ◌+◌, ◌-◌, ◌≤◌, ◌<◌, ◌^◌, ◌⊎◌, inl, inr, ⊎_elim, Option, Some, None, List, [], ◌∷◌}
+use Rattle.std.proofs.Common.{◌++◌, length, take, drop, refl, sym, ap, ◌∙◌, arith, subst, append_assoc}
 use Rattle.std.specs.Int.{bytes_high_first}
 use Rattle.std.proofs.lemmas.List.{length-append, append-nil, take-append-drop, take_at, take-append-le}
 use Rattle.std.proofs.lemmas.Grind.{flat_map-append}
@@ -32,27 +33,57 @@ pub begins : {m : List ℕ} {n i end : ℕ} → i < end → end ≤ i + n → Le
 begins {m} {n} {i} {end} lt fits h = first h.read h.stub h.at h.fit h.ends where
   stubbed : (s : List ℕ) → At m i s end → IsCut n s → Begins m n i end
   stubbed s a c = ⊎_elim
-      (λ (e : s ≡ bytes_high_first 2 c.0). record { code = c.0; small = c.1; after = []; at = subst (λ (o : List ℕ). At m i o end) (e ∙ sym (append-nil (bytes_high_first 2 c.0))) a; more = inl refl })
-      (λ t. record { code = c.0; small = c.1; after = bytes_high_first 2 t.0 ++ t.1; at = subst (λ (o : List ℕ). At m i o end) t.5 a; more = inr (t.0, t.1, t.2, t.3, refl, inl t.4) })
+      (λ (e : s ≡ bytes_high_first 2 c.0). record {
+        code = c.0;
+        small = c.1;
+        after = [];
+        at = subst (λ (o : List ℕ). At m i o end) (e ∙ sym (append-nil (bytes_high_first 2 c.0))) a;
+        more =
+            inl refl;
+      })
+      (λ t. record {
+        code = c.0;
+        small = c.1;
+        after = bytes_high_first 2 t.0
+            ++ t.1;
+        at = subst (λ (o : List ℕ). At m i o end) t.5 a;
+        more = inr (t.0, t.1, t.2, t.3, refl, inl t.4);
+      })
       c.2
+
   first : (read : List (Numbered (List ℕ))) (s : List ℕ) → At m i (pieces read ++ s) end → ArePieces read → (s ≡ []) ⊎ IsCut n s → Begins m n i end
   first [] s a f (inl e) = absurd (let k : length s ≡ 0 = ap length e in omega (arith, a.ends, k))
   first [] s a f (inr c) = stubbed s a c
   first (y ∷ ys) s a f e =
       let rest = y.1 ++ pieces ys ++ s in
       let whole : (piece y ++ pieces ys) ++ s ≡ bytes_high_first 2 y.0 ++ (bytes_high_first 2 (length y.1) ++ rest) =
-        ap (λ (o : List ℕ). o ++ s) (append_assoc (bytes_high_first 2 y.0) (bytes_high_first 2 (length y.1) ++ y.1) (pieces ys) ∙ ap (λ (o : List ℕ). bytes_high_first 2 y.0 ++ o) (append_assoc (bytes_high_first 2 (length y.1)) y.1 (pieces ys)))
-        ∙ append_assoc (bytes_high_first 2 y.0) (bytes_high_first 2 (length y.1) ++ (y.1 ++ pieces ys)) s ∙ ap (λ (o : List ℕ). bytes_high_first 2 y.0 ++ o) (append_assoc (bytes_high_first 2 (length y.1)) (y.1 ++ pieces ys) s) in
+      ap (λ (o : List ℕ). o ++ s) (append_assoc (bytes_high_first 2 y.0) (bytes_high_first 2 (length y.1) ++ y.1) (pieces ys)
+      ∙ ap (λ (o : List ℕ). bytes_high_first 2 y.0 ++ o) (append_assoc (bytes_high_first 2 (length y.1)) y.1 (pieces ys)))
+      ∙ append_assoc (bytes_high_first 2 y.0) (bytes_high_first 2 (length y.1) ++ (y.1 ++ pieces ys)) s
+      ∙ ap (λ (o : List ℕ). bytes_high_first 2 y.0 ++ o) (append_assoc (bytes_high_first 2 (length y.1)) (y.1 ++ pieces ys) s) in
       let n1 : length ((piece y ++ pieces ys) ++ s) ≡ length (piece y ++ pieces ys) + length s = length-append (piece y ++ pieces ys) s in
       let n2 : length (piece y ++ pieces ys) ≡ length (piece y) + length (pieces ys) = length-append (piece y) (pieces ys) in
       let n3 : length (piece y) ≡ 4 + length y.1 = length-piece y in
       let ends : end ≡ i + length ((piece y ++ pieces ys) ++ s) = a.ends in
       let n4 : length rest ≡ length (y.1 ++ pieces ys) + length s = length-append (y.1 ++ pieces ys) s in
       let n5 : length (y.1 ++ pieces ys) ≡ length y.1 + length (pieces ys) = length-append y.1 (pieces ys) in
-      record { code = y.0; small = f.0.0; after = bytes_high_first 2 (length y.1) ++ rest; at = subst (λ (o : List ℕ). At m i o end) whole a; more = inr (length y.1, rest, f.0.1, omega arith, refl, inr (omega arith)) }
+      record {
+        code = y.0;
+        small = f.0.0;
+        after = bytes_high_first 2 (length y.1)
+            ++ rest;
+        at = subst (λ (o : List ℕ). At m i o end) whole a;
+        more = inr (length y.1, rest, f.0.1, omega arith, refl, inr (omega arith));
+      }
 
 begins_number : {m : List ℕ} {n i end : ℕ} (b : Begins m n i end) → Field m i (Number 2) b.code (i + 2)
-begins_number {m} {n} {i} b = record { is = (b.small, subst (λ (q : ℕ). At m i (bytes_high_first 2 b.code) q) (ap (λ (k : ℕ). i + k) (length-bytes 2 b.code)) (at_front (bytes_high_first 2 b.code) b.after b.at)) }
+begins_number {m} {n} {i} b = record {
+  is = (
+    b.small,
+    subst (λ (q : ℕ). At m i (bytes_high_first 2 b.code) q) (ap (λ (k : ℕ). i + k) (length-bytes 2 b.code))
+        (at_front (bytes_high_first 2 b.code) b.after b.at),
+  );
+}
 
 begins_end : {m : List ℕ} {n i end : ℕ} (b : Begins m n i end) → end ≡ i + 2 + length b.after
 begins_end b = omega (arith, b.at.ends, length-append (bytes_high_first 2 b.code) b.after, length-bytes 2 b.code)
@@ -69,9 +100,24 @@ sized : {m : List ℕ} {n i end : ℕ} → Begins m n i end → i + 2 < end → 
 sized {m} {n} {i} {end} b lt = ⊎_elim
     (λ (e : b.after ≡ []). absurd (let k : length b.after ≡ 0 = ap length e in let t = begins_end b in omega arith))
     (λ h.
-      let rest : At m (i + length (bytes_high_first 2 b.code)) b.after end = at_rest (bytes_high_first 2 b.code) b.after b.at in
-      let there : At m (i + 2) (bytes_high_first 2 h.0 ++ h.1) end = subst (λ (o : List ℕ). At m (i + 2) o end) h.4 (subst (λ (k : ℕ). At m (i + k) b.after end) (length-bytes 2 b.code) rest) in
-      record { size = h.0; most = h.3; field = record { is = (h.2, subst (λ (k : ℕ). At m (i + 2) (bytes_high_first 2 h.0) (i + 2 + k)) (length-bytes 2 h.0) (at_front (bytes_high_first 2 h.0) h.1 there)) }; inside = omega (arith, there.ends, length-append (bytes_high_first 2 h.0) h.1, length-bytes 2 h.0); within = there.within })
+    let rest : At m (i + length (bytes_high_first 2 b.code)) b.after end = at_rest (bytes_high_first 2 b.code) b.after b.at in
+    let there : At m (i + 2) (bytes_high_first 2 h.0 ++ h.1) end =
+    subst (λ (o : List ℕ). At m (i + 2) o end) h.4 (subst (λ (k : ℕ). At m (i + k) b.after end) (length-bytes 2 b.code) rest) in
+    record {
+      size = h.0;
+      most = h.3;
+      field =
+          record {
+            is = (
+              h.2,
+              subst (λ (k : ℕ). At m (i + 2) (bytes_high_first 2 h.0) (i + 2 + k)) (length-bytes 2 h.0)
+                  (at_front (bytes_high_first 2 h.0) h.1 there),
+            );
+          };
+      inside =
+          omega (arith, there.ends, length-append (bytes_high_first 2 h.0) h.1, length-bytes 2 h.0);
+      within = there.within;
+    })
     b.more
 
 -- ---- refusals
@@ -82,29 +128,36 @@ no_code lt fits l = record { none = λ h. let b = begins lt fits h in l.none b.c
 code_past : {d b : Reading} {v n end : ℕ} → d.index < end → end ≤ d.index + n → TookField d (Number 2) v b → end < b.index → NoneLeft d.message n d.index end
 code_past lt fits f past = record { none = λ h. let e = begins_end (begins lt fits h) in omega (arith, took_number f, e) }
 
-sized_after : {d b : Reading} {v n end : ℕ} → d.index < end → end ≤ d.index + n → TookField d (Number 2) v b → b.index < end → Left d.message n d.index end → Sized b.message n b.index end
+sized_after : {d b : Reading} {v n end : ℕ} → d.index < end → end ≤ d.index + n → TookField d (Number 2) v b → b.index < end → Left d.message n d.index end
+    → Sized b.message n b.index end
 sized_after {d} {b} {v} {n} {end} lt fits f more h =
     let there : d.index + 2 ≡ b.index = sym (took_number f) in
-    subst (λ (m : List ℕ). Sized m n b.index end) (sym f.message) (subst (λ (j : ℕ). Sized d.message n j end) there (sized (begins lt fits h) (omega (arith, there))))
+    subst (λ (m : List ℕ). Sized m n b.index end) (sym f.message)
+    (subst (λ (j : ℕ). Sized d.message n j end) there (sized (begins lt fits h) (omega (arith, there))))
 
-no_size : {d b : Reading} {v n end : ℕ} → d.index < end → end ≤ d.index + n → TookField d (Number 2) v b → b.index < end → LacksField b (Number 2) → NoneLeft d.message n d.index end
+no_size : {d b : Reading} {v n end : ℕ} → d.index < end → end ≤ d.index + n → TookField d (Number 2) v b → b.index < end → LacksField b (Number 2)
+    → NoneLeft d.message n d.index end
 no_size lt fits f more l = record { none = λ h. let s = sized_after lt fits f more h in l.none s.size _ s.field }
 
-size_past : {d b c : Reading} {v w n end : ℕ} → d.index < end → end ≤ d.index + n → TookField d (Number 2) v b → b.index < end → TookField b (Number 2) w c → end < c.index → NoneLeft d.message n d.index end
+size_past : {d b c : Reading} {v w n end : ℕ} → d.index < end → end ≤ d.index + n → TookField d (Number 2) v b → b.index < end → TookField b (Number 2) w c
+    → end < c.index → NoneLeft d.message n d.index end
 size_past lt fits f more g past = record { none = λ h. let s = sized_after lt fits f more h in omega (arith, s.inside, took_number g) }
 
-same_size : {d b c : Reading} {v w n end : ℕ} → d.index < end → end ≤ d.index + n → TookField d (Number 2) v b → b.index < end → TookField b (Number 2) w c → (h : Left d.message n d.index end) → (s : Sized b.message n b.index end) × (s.size ≡ w)
+same_size : {d b c : Reading} {v w n end : ℕ} → d.index < end → end ≤ d.index + n → TookField d (Number 2) v b → b.index < end → TookField b (Number 2) w c
+    → (h : Left d.message n d.index end) → (s : Sized b.message n b.index end) × (s.size ≡ w)
 same_size {d} {b} {c} {v} {w} {n} {end} lt fits f more g h =
     let s = sized_after lt fits f more h in
     let e : b.index + 2 ≡ c.index = sym (took_number g) in
     let x : Field b.message b.index (Number 2) s.size c.index = subst (λ (q : ℕ). Field b.message b.index (Number 2) s.size q) e s.field in
     (s, field_same x g.field)
 
-size_great : {d b c : Reading} {v w n end : ℕ} → d.index < end → end ≤ d.index + n → TookField d (Number 2) v b → b.index < end → TookField b (Number 2) w c → n < w → NoneLeft d.message n d.index end
+size_great : {d b c : Reading} {v w n end : ℕ} → d.index < end → end ≤ d.index + n → TookField d (Number 2) v b → b.index < end → TookField b (Number 2) w c
+    → n < w → NoneLeft d.message n d.index end
 size_great lt fits f more g great = record { none = λ h. let s = same_size lt fits f more g h in omega (arith, s.0.most, s.1) }
 
 -- the message ends before the record does
-body_short : {d b c : Reading} {v w n end : ℕ} → d.index < end → end ≤ d.index + n → TookField d (Number 2) v b → b.index < end → TookField b (Number 2) w c → length d.message < end → NoneLeft d.message n d.index end
+body_short : {d b c : Reading} {v w n end : ℕ} → d.index < end → end ≤ d.index + n → TookField d (Number 2) v b → b.index < end → TookField b (Number 2) w c
+    → length d.message < end → NoneLeft d.message n d.index end
 body_short {d} {b} lt fits f more g short = record { none = λ h. let s = same_size lt fits f more g h in omega (arith, s.0.within, ap length f.message) }
 
 -- ---- each of them, with its cause
@@ -118,47 +171,114 @@ behind_two {c = c} f g = took_stays f (took_stays g (stays c))
 lacks_two : {d : Reading} → LacksOctets d 2 → LacksField d (Number 2)
 lacks_two l = record { none = λ v q f. omega (arith, f.is.1.ends, f.is.1.within, length-bytes 2 v, l) }
 
-pub refused_code : {d new : Reading} {start n : ℕ} (e : DecodeError) → start ≤ d.index → d.index < start + n → e ≡ decode.InsufficientBytes → LacksOctets d 2 → new ≡ d → RefusedLeft d n (start + n) new × piece_refusal start n d e new
-refused_code {d} {new} e le lt is lacks same = (record { behind = rw same (stays d); none = no_code lt (omega (arith, le)) (lacks_two lacks) }, inl (record { error = is; lacks = lacks; unchanged = same }))
+pub refused_code : {d new : Reading} {start n : ℕ} (e : DecodeError) → start ≤ d.index → d.index < start + n → e ≡ decode.InsufficientBytes
+    → LacksOctets d 2 → new ≡ d → RefusedLeft d n (start + n) new × piece_refusal start n d e new
+refused_code {d} {new} e le lt is lacks same = (
+  record { behind = rw same (stays d); none = no_code lt (omega (arith, le)) (lacks_two lacks) },
+  inl
+      (record { error = is; lacks = lacks; unchanged = same }),
+)
 
-pub refused_code_past : {d b : Reading} {v start n : ℕ} (read : ℕ) → start ≤ d.index → d.index < start + n → TookField d (Number 2) v b → start + n < b.index → read ≡ b.index - start → RefusedLeft d n (start + n) b × piece_refusal start n d (decode.IncorrectRDataLengthRead read n) b
-refused_code_past {d} {b} {n = n} read le lt f past is = (record { behind = behind_one f; none = code_past lt (omega (arith, le)) f past }, inr (inr (inl (record { error = ap (λ (k : ℕ). decode.IncorrectRDataLengthRead k n) is; past = past; short = omega (arith, took_number f); message = f.message }))))
+pub refused_code_past : {d b : Reading} {v start n : ℕ} (read : ℕ) → start ≤ d.index → d.index < start + n → TookField d (Number 2) v b
+    → start + n < b.index → read ≡ b.index - start → RefusedLeft d n (start + n) b × piece_refusal start n d (decode.IncorrectRDataLengthRead read n) b
+refused_code_past {d} {b} {n = n} read le lt f past is = (
+  record { behind = behind_one f; none = code_past lt (omega (arith, le)) f past },
+  inr
+      (inr (inl (record {
+        error = ap (λ (k : ℕ). decode.IncorrectRDataLengthRead k n) is;
+        past = past;
+        short = omega (arith, took_number f);
+        message =
+            f.message;
+      }))),
+)
 
-pub refused_size : {d b new : Reading} {v start n : ℕ} (e : DecodeError) → start ≤ d.index → d.index < start + n → TookField d (Number 2) v b → b.index < start + n → e ≡ decode.InsufficientBytes → LacksOctets b 2 → new ≡ b → RefusedLeft d n (start + n) new × piece_refusal start n d e new
+pub refused_size : {d b new : Reading} {v start n : ℕ} (e : DecodeError) → start ≤ d.index → d.index < start + n → TookField d (Number 2) v b
+    → b.index < start + n → e ≡ decode.InsufficientBytes → LacksOctets b 2 → new ≡ b → RefusedLeft d n (start + n) new × piece_refusal start n d e new
 refused_size {d} {b} {new} {v} {start} {n} e le lt f more is lacks same =
-    rw same (record { behind = behind_one f; none = no_size lt (omega (arith, le)) f more (lacks_two lacks) }, inr (inl (record { error = is; code = v; took = f; before = more; lacks = lacks })))
+    rw same (
+      record { behind = behind_one f; none = no_size lt (omega (arith, le)) f more (lacks_two lacks) },
+      inr
+          (inl (record { error = is; code = v; took = f; before = more; lacks = lacks })),
+    )
 
-pub refused_size_past : {d b c : Reading} {v w start n : ℕ} (read : ℕ) → start ≤ d.index → d.index < start + n → TookField d (Number 2) v b → b.index < start + n → TookField b (Number 2) w c → start + n < c.index → read ≡ c.index - start → RefusedLeft d n (start + n) c × piece_refusal start n d (decode.IncorrectRDataLengthRead read n) c
-refused_size_past {d} {b} {c} {n = n} read le lt f more g past is = (record { behind = behind_two f g; none = size_past lt (omega (arith, le)) f more g past }, inr (inr (inl (record { error = ap (λ (k : ℕ). decode.IncorrectRDataLengthRead k n) is; past = past; short = omega (arith, took_number f, took_number g); message = g.message ∙ f.message }))))
+pub refused_size_past : {d b c : Reading} {v w start n : ℕ} (read : ℕ) → start ≤ d.index → d.index < start + n → TookField d (Number 2) v b
+    → b.index < start + n → TookField b (Number 2) w c → start + n < c.index → read ≡ c.index - start
+    → RefusedLeft d n (start + n) c × piece_refusal start n d (decode.IncorrectRDataLengthRead read n) c
+refused_size_past {d} {b} {c} {n = n} read le lt f more g past is = (
+  record { behind = behind_two f g; none = size_past lt (omega (arith, le)) f more g past },
+  inr
+      (inr (inl (record {
+        error = ap (λ (k : ℕ). decode.IncorrectRDataLengthRead k n) is;
+        past = past;
+        short =
+            omega (arith, took_number f, took_number g);
+        message = g.message ∙ f.message;
+      }))),
+)
 
 took_head : {d b c : Reading} {v w : ℕ} → TookField d (Number 2) v b → TookField b (Number 2) w c → TookHead d v w c
 took_head {c = c} f g = took_then f (took_then g (took_last c))
 
-pub refused_long : {d b c : Reading} {v w start n : ℕ} → start ≤ d.index → d.index < start + n → TookField d (Number 2) v b → b.index < start + n → TookField b (Number 2) w c → c.index ≤ start + n → n < w → RefusedLeft d n (start + n) c × piece_refusal start n d (decode.IncorrectRDataLengthRead n w) c
-refused_long {v = v} {w = w} le lt f more g inside great = (record { behind = behind_two f g; none = size_great lt (omega (arith, le)) f more g great }, inr (inr (inr (inl (record { code = v; size = w; took = took_head f g; inside = inside; long = great; error = refl })))))
+pub refused_long : {d b c : Reading} {v w start n : ℕ} → start ≤ d.index → d.index < start + n → TookField d (Number 2) v b → b.index < start + n
+    → TookField b (Number 2) w c → c.index ≤ start + n → n < w
+    → RefusedLeft d n (start + n) c × piece_refusal start n d (decode.IncorrectRDataLengthRead n w) c
+refused_long {v = v} {w = w} le lt f more g inside great = (
+  record { behind = behind_two f g; none = size_great lt (omega (arith, le)) f more g great },
+  inr
+      (inr (inr (inl (record { code = v; size = w; took = took_head f g; inside = inside; long = great; error = refl })))),
+)
 
-pub refused_body : {d b c new : Reading} {v w start n : ℕ} (e : DecodeError) → start ≤ d.index → d.index < start + n → TookField d (Number 2) v b → b.index < start + n → TookField b (Number 2) w c → w ≤ n → length c.message < c.index + w → length c.message < start + n
-    → e ≡ decode.InsufficientBytes → new.message ≡ c.message → c.index ≤ length c.message → new.index ≡ length c.message → RefusedLeft d n (start + n) new × piece_refusal start n d e new
+pub refused_body : {d b c new : Reading} {v w start n : ℕ} (e : DecodeError) → start ≤ d.index → d.index < start + n → TookField d (Number 2) v b
+    → b.index < start + n → TookField b (Number 2) w c → w ≤ n → length c.message < c.index + w → length c.message < start + n
+    → e ≡ decode.InsufficientBytes → new.message ≡ c.message → c.index ≤ length c.message → new.index ≡ length c.message
+    → RefusedLeft d n (start + n) new × piece_refusal start n d e new
 refused_body {d} {b} {c} {new} {v} {w} {start} {n} e le lt f more g most short past is message inside index =
-    let lengths : length c.message ≡ length d.message = ap length (g.message ∙ f.message) in
-    (record { behind = record { message = message ∙ g.message ∙ f.message; index = omega (arith, took_number f, took_number g, index, inside) }; none = body_short lt (omega (arith, le)) f more g (omega (arith, past, lengths)) },
-     inr (inr (inr (inr (record { code = v; size = w; between = c; took = took_head f g; most = most; body = short; record_left = omega (arith, past, lengths); error = is; index = index ∙ lengths })))))
+    let lengths : length c.message ≡ length d.message = ap length (g.message ∙ f.message) in (
+      record {
+        behind = record { message = message ∙ g.message ∙ f.message; index = omega (arith, took_number f, took_number g, index, inside) };
+        none =
+            body_short lt (omega (arith, le)) f more g (omega (arith, past, lengths));
+      },
+      inr (inr (inr (inr (record {
+        code = v;
+        size = w;
+        between = c;
+        took = took_head f g;
+        most = most;
+        body = short;
+        record_left =
+            omega (arith, past, lengths);
+        error = is;
+        index = index ∙ lengths;
+      })))),
+    )
 
 -- ---- what was read
 
 -- the octets of two numbers and of what follows
-heads : {d b c : Reading} {v w : ℕ} → TookField d (Number 2) v b → TookField b (Number 2) w c → At d.message d.index (bytes_high_first 2 v ++ bytes_high_first 2 w) c.index
+heads : {d b c : Reading} {v w : ℕ} → TookField d (Number 2) v b → TookField b (Number 2) w c
+    → At d.message d.index (bytes_high_first 2 v ++ bytes_high_first 2 w) c.index
 heads {d} {b} {c} {v} {w} f g = at_then f.field.is.1 (subst (λ (m : List ℕ). At m b.index (bytes_high_first 2 w) c.index) f.message g.field.is.1)
 
-third : {d b c e : Reading} {v w k : ℕ} {x : List ℕ} → TookField d (Number 2) v b → TookField b (Number 2) w c → TookField c (Octets k) x e → At d.message d.index (bytes_high_first 2 v ++ (bytes_high_first 2 w ++ x)) e.index
+third : {d b c e : Reading} {v w k : ℕ} {x : List ℕ} → TookField d (Number 2) v b → TookField b (Number 2) w c → TookField c (Octets k) x e
+    → At d.message d.index (bytes_high_first 2 v ++ (bytes_high_first 2 w ++ x)) e.index
 third {d} {b} {c} {e} {v} {w} {k} {x} f g h =
     let back : At d.message c.index x e.index = subst (λ (m : List ℕ). At m c.index x e.index) (g.message ∙ f.message) h.field.is.1 in
     subst (λ (o : List ℕ). At d.message d.index o e.index) (append_assoc (bytes_high_first 2 v) (bytes_high_first 2 w) x) (at_then (heads f g) back)
 
 pub cut_code : {d b : Reading} {v n end : ℕ} → TookField d (Number 2) v b → b.index ≡ end → TookCut d n end b
-cut_code {d} {b} {v} {n} {end} f e = record { message = f.message; stub = bytes_high_first 2 v; at = subst (λ (q : ℕ). At d.message d.index (bytes_high_first 2 v) q) e f.field.is.1; cut = (v, f.field.is.0, inl refl); there = e }
+cut_code {d} {b} {v} {n} {end} f e = record {
+  message = f.message;
+  stub = bytes_high_first 2 v;
+  at = subst (λ (q : ℕ). At d.message d.index (bytes_high_first 2 v) q) e f.field.is.1;
+  cut =
+      (v, f.field.is.0, inl refl);
+  there = e;
+}
 
-pub cut_short : {d b c e : Reading} {v w k n end : ℕ} {x : List ℕ} → TookField d (Number 2) v b → TookField b (Number 2) w c → TookField c (Octets k) x e → c.index + k ≡ end → w ≤ n → k < w → TookCut d n end e
+pub cut_short : {d b c e : Reading} {v w k n end : ℕ} {x : List ℕ} → TookField d (Number 2) v b → TookField b (Number 2) w c → TookField c (Octets k) x e
+    → c.index + k ≡ end → w ≤ n → k < w → TookCut d n end e
 cut_short {d} {b} {c} {e} {v} {w} {k} {n} {end} {x} f g h there most short =
     let is : e.index ≡ end = omega (arith, h.field.is.1.ends, h.field.is.0, there) in
     record {
@@ -169,7 +289,8 @@ cut_short {d} {b} {c} {e} {v} {w} {k} {n} {end} {x} f g h there most short =
       there = is;
     }
 
-pub piece_read : {d b c e : Reading} {v w end : ℕ} {x : List ℕ} → TookField d (Number 2) v b → TookField b (Number 2) w c → TookField c (Octets w) x e → c.index + w ≤ end → TookPiece d end (v, x) e
+pub piece_read : {d b c e : Reading} {v w end : ℕ} {x : List ℕ} → TookField d (Number 2) v b → TookField b (Number 2) w c → TookField c (Octets w) x e
+    → c.index + w ≤ end → TookPiece d end (v, x) e
 piece_read {d} {b} {c} {e} {v} {w} {end} {x} f g h inside = record {
   message = h.message ∙ g.message ∙ f.message;
   at = subst (λ (k : ℕ). At d.message d.index (bytes_high_first 2 v ++ (bytes_high_first 2 k ++ x)) e.index) (sym h.field.is.0) (third f g h);
@@ -184,7 +305,8 @@ prefix {m} {p} {q} {x} a = ap (λ (o : List ℕ). o ++ drop (length x) (drop p m
 
 -- the longer of two beginnings goes on behind the shorter
 goes_on : (x s u v : List ℕ) → x ++ u ≡ s ++ v → length x ≤ length s → x ++ drop (length x) s ≡ s
-goes_on x s u v e short = ap (λ (o : List ℕ). o ++ drop (length x) s) (sym (take_at x u (length x) refl) ∙ ap (take (length x)) e ∙ take-append-le (length x) s v short) ∙ take-append-drop (length x) s
+goes_on x s u v e short = ap (λ (o : List ℕ). o ++ drop (length x) s)
+    (sym (take_at x u (length x) refl) ∙ ap (take (length x)) e ∙ take-append-le (length x) s v short) ∙ take-append-drop (length x) s
 
 pub record GoesOn (m : List ℕ) (n : ℕ) (x : Numbered (List ℕ)) (j end : ℕ) : Type 0 where
   pub value : OptionValue
@@ -193,12 +315,13 @@ pub record GoesOn (m : List ℕ) (n : ℕ) (x : Numbered (List ℕ)) (j end : �
 
 pub first_left : {m : List ℕ} {n i j end : ℕ} {x : Numbered (List ℕ)} → At m i (piece x) j → IsPiece x → j ≤ end → Left m n i end → GoesOn m n x j end
 first_left {m} {n} {i} {j} {end} {x} a f inside h = first h.read h.values h.at h.fit h.held where
-  first : (read : List (Numbered (List ℕ))) (values : List (Numbered OptionValue)) → At m i (pieces read ++ h.stub) end → ArePieces read → AllHeld OptionHeld read values → GoesOn m n x j end
+  first : (read : List (Numbered (List ℕ))) (values : List (Numbered OptionValue)) → At m i (pieces read ++ h.stub) end → ArePieces read
+      → AllHeld OptionHeld read values → GoesOn m n x j end
   first [] values b g held = absurd (⊎_elim
       (λ (e : h.stub ≡ []). let k : length h.stub ≡ 0 = ap length e in omega (arith, b.ends, k, a.ends, length-piece x))
       (λ (c : IsCut n h.stub).
-        let on = goes_on (piece x) h.stub _ _ (prefix a ∙ sym (prefix b)) (omega (arith, a.ends, b.ends)) in
-        cut_piece n x (drop (length (piece x)) h.stub) f (subst (IsCut n) (sym on) c))
+      let on = goes_on (piece x) h.stub _ _ (prefix a ∙ sym (prefix b)) (omega (arith, a.ends, b.ends)) in
+      cut_piece n x (drop (length (piece x)) h.stub) f (subst (IsCut n) (sym on) c))
       h.ends)
   first (y ∷ ys) [] b g held = absurd held
   first (y ∷ ys) (v ∷ vs) b g held =
@@ -212,7 +335,16 @@ first_left {m} {n} {i} {j} {end} {x} a f inside h = first h.read h.values h.at h
       record {
         value = v.1;
         held = subst (λ (k : ℕ). OptionHeld k x.1 v.1) codes (subst (λ (o : List ℕ). OptionHeld v.0 o v.1) (ap (λ (z : Numbered (List ℕ)). z.1) same) held.1);
-        left = record { read = ys; values = vs; stub = h.stub; at = subst (λ (q : ℕ). At m q (pieces ys ++ h.stub) end) there rest; fit = g.1; held = held.2; ends = h.ends };
+        left = record {
+          read = ys;
+          values = vs;
+          stub = h.stub;
+          at = subst (λ (q : ℕ). At m q (pieces ys ++ h.stub) end) there rest;
+          fit = g.1;
+          held =
+              held.2;
+          ends = h.ends;
+        };
       }
 
 pub no_value : {d e : Reading} {n end : ℕ} {x : Numbered (List ℕ)} → TookPiece d end x e → NoValue x.0 x.1 → NoneLeft d.message n d.index end

@@ -1,5 +1,6 @@
 -- Options that are read up to the end of a record.
-use Rattle.std.proofs.Common.{◌≡◌, ℕ, ◌+◌, ◌-◌, ◌≤◌, ◌<◌, ◌⊎◌, inl, inr, List, [], ◌∷◌, ◌++◌, length, drop, map, Option, Some, None, refl, sym, ap, ◌∙◌, arith, subst}
+use Rattle.std.proofs.Common.{◌≡◌, ℕ, ◌+◌, ◌-◌, ◌≤◌, ◌<◌, ◌⊎◌, inl, inr, List, [], ◌∷◌, ◌++◌, length, drop, map, Option, Some, None, refl}
+use Rattle.std.proofs.Common.{sym, ap, ◌∙◌, arith, subst}
 use Rattle.std.proofs.lemmas.List.{map_push, append-nil, length-append, length-drop}
 use Rattle.std.proofs.lemmas.Grind.{flat_map-append}
 use Rattle.dns_types.specs.declared.error.DecodeError.{DecodeError}
@@ -28,9 +29,17 @@ pub record ReadsOptions (old : Reading) (n end : ℕ) (done : List (Numbered Opt
   pub rest : Left old.message n old.index end → Left old.message n d.index end
 
 pub options_first : (d : Reading) (n end : ℕ) → IsInside d → d.index ≤ end → ReadsOptions d n end [] d
-options_first d n end inside le = record { message = refl; behind = omega arith; inside = le; took = record { read = []; at = record { ends = omega arith; within = inside; same = refl }; fit = tt; held = tt }; rest = λ h. h }
+options_first d n end inside le = record {
+  message = refl;
+  behind = omega arith;
+  inside = le;
+  took =
+      record { read = []; at = record { ends = omega arith; within = inside; same = refl }; fit = tt; held = tt };
+  rest = λ h. h;
+}
 
-held_more : (xs : List (Numbered (List ℕ))) (a : List (Numbered OptionValue)) (x : Numbered (List ℕ)) (v : OptionValue) → AllHeld OptionHeld xs a → OptionHeld x.0 x.1 v → AllHeld OptionHeld (xs ++ x ∷ []) (a ++ (x.0, v) ∷ [])
+held_more : (xs : List (Numbered (List ℕ))) (a : List (Numbered OptionValue)) (x : Numbered (List ℕ)) (v : OptionValue) → AllHeld OptionHeld xs a
+    → OptionHeld x.0 x.1 v → AllHeld OptionHeld (xs ++ x ∷ []) (a ++ (x.0, v) ∷ [])
 held_more [] [] x v f h = (refl, h, tt)
 held_more [] (a ∷ as') x v f h = absurd f
 held_more (y ∷ ys) [] x v f h = absurd f
@@ -43,7 +52,8 @@ fit_more (y ∷ ys) x a h = (a.0, fit_more ys x a.1 h)
 pieces_more : (xs : List (Numbered (List ℕ))) (x : Numbered (List ℕ)) → pieces xs ++ piece x ≡ pieces (xs ++ x ∷ [])
 pieces_more xs x = sym (flat_map-append piece xs (x ∷ []) ∙ ap (λ (t : List ℕ). pieces xs ++ t) (append-nil (piece x)))
 
-pub options_more : {old d b : Reading} {n end : ℕ} {done : List (Numbered OptionValue)} {x : Numbered OptionValue} → ReadsOptions old n end done d → TookOption d end x b → ReadsOptions old n end (done ++ x ∷ []) b
+pub options_more : {old d b : Reading} {n end : ℕ} {done : List (Numbered OptionValue)} {x : Numbered OptionValue} → ReadsOptions old n end done d
+    → TookOption d end x b → ReadsOptions old n end (done ++ x ∷ []) b
 options_more {old} {d} {b} {n} {end} {done} {x} r o =
     let t = o.took in
     let y : Numbered (List ℕ) = (x.0, o.body) in
@@ -52,7 +62,13 @@ options_more {old} {d} {b} {n} {end} {done} {x} r o =
       message = t.message ∙ r.message;
       behind = omega (arith, r.behind, at.ends);
       inside = t.inside;
-      took = record { read = r.took.read ++ y ∷ []; at = subst (λ (o : List ℕ). At old.message old.index o b.index) (pieces_more r.took.read y) (at_then r.took.at at); fit = fit_more r.took.read y r.took.fit t.fits; held = held_more r.took.read done y x.1 r.took.held o.held };
+      took = record {
+        read = r.took.read ++ y ∷ [];
+        at = subst (λ (o : List ℕ). At old.message old.index o b.index) (pieces_more r.took.read y)
+            (at_then r.took.at at);
+        fit = fit_more r.took.read y r.took.fit t.fits;
+        held = held_more r.took.read done y x.1 r.took.held o.held;
+      };
       rest = λ h. (first_left at t.fits t.inside (r.rest h)).left;
     }
 
@@ -63,53 +79,89 @@ option_long {x = x} o = omega (arith, o.took.at.ends, length-piece (x.0, o.body)
 field_left : {m : List ℕ} {p q : ℕ} {v : List (Numbered OptionValue)} → Field m p Options v q → Left m (q - p) p q
 field_left {m} {p} {q} {v} f = of f.is where
   of : WholeOptions m p v q ⊎ ((v ≡ []) × CutOptions m (q - p) p q) → Left m (q - p) p q
-  of (inl w) = record { read = w.read; values = v; stub = []; at = subst (λ (o : List ℕ). At m p o q) (sym (append-nil (pieces w.read))) w.at; fit = w.fit; held = w.held; ends = inl refl }
+  of (inl w) = record {
+    read = w.read;
+    values = v;
+    stub = [];
+    at = subst (λ (o : List ℕ). At m p o q) (sym (append-nil (pieces w.read))) w.at;
+    fit =
+        w.fit;
+    held = w.held;
+    ends = inl refl;
+  }
   of (inr c) = record { read = c.1.read; values = c.1.dropped; stub = c.1.stub; at = c.1.at; fit = c.1.fit; held = c.1.held; ends = inr c.1.cut }
 
 -- what a refused option says of the record
 abbrev pub RefusedHere : DecodeError → Reading → ℕ → ℕ → Reading → Type 0
 RefusedHere e d start n b = StaysBehind d b × UnlessMemory e (NoneLeft d.message n d.index (start + n)) × ((e ≡ decode.Memory) ⊎ next_refusal start n d e b)
 
-pub options_none : {e : DecodeError} {old d b : Reading} {done : List (Numbered OptionValue)} (start n : ℕ) → start ≡ old.index → ReadsOptions old n (start + n) done d → RefusedHere e d start n b → Refused e old opt_shape (λ vs q. (q ≡ old.index + n) × any_options vs) b
+pub options_none : {e : DecodeError} {old d b : Reading} {done : List (Numbered OptionValue)} (start n : ℕ) → start ≡ old.index
+    → ReadsOptions old n (start + n) done d → RefusedHere e d start n b → Refused e old opt_shape (λ vs q. (q ≡ old.index + n) × any_options vs) b
 options_none {e} {old} {d} {b} {done} start n is r f = record {
   behind = record { message = f.0.message ∙ r.message; index = omega (arith, r.behind, f.0.index) };
-  none = unless_map e _ _ (λ (l : NoneLeft d.message n d.index (start + n)). record { none = λ vs q s c.
-    let h : Left old.message (s.0 - old.index) old.index s.0 = field_left s.1 in
-    let there : s.0 ≡ start + n = omega (arith, s.2, c.0, is) in
-    let size : s.0 - old.index ≡ n = omega (arith, there, is) in
-    let whole : Left old.message n old.index (start + n) = subst (λ (k : ℕ). Left old.message k old.index (start + n)) size (subst (λ (k : ℕ). Left old.message (s.0 - old.index) old.index k) there h) in
-    l.none (subst (λ (m : List ℕ). Left m n d.index (start + n)) (sym r.message) (r.rest whole)) }) f.1;
+  none = unless_map e _ _ (λ (l : NoneLeft d.message n d.index (start + n)). record {
+    none = λ vs q s c.
+        let h : Left old.message (s.0 - old.index) old.index s.0 = field_left s.1 in
+        let there : s.0 ≡ start + n = omega (arith, s.2, c.0, is) in
+        let size : s.0 - old.index ≡ n = omega (arith, there, is) in
+        let whole : Left old.message n old.index (start + n) = subst (λ (k : ℕ). Left old.message k old.index (start + n)) size
+        (subst (λ (k : ℕ). Left old.message (s.0 - old.index) old.index k) there h) in
+        l.none (subst (λ (m : List ℕ). Left m n d.index (start + n)) (sym r.message) (r.rest whole));
+  }) f.1;
 }
 
-pub options_refusal : {e : DecodeError} {old d b : Reading} {done : List (Numbered OptionValue)} (start n : ℕ) → start ≡ old.index → d.index < start + n → ReadsOptions old n (start + n) done d → RefusedHere e d start n b → opt_refusal n old e b
+pub options_refusal : {e : DecodeError} {old d b : Reading} {done : List (Numbered OptionValue)} (start n : ℕ) → start ≡ old.index → d.index < start + n
+    → ReadsOptions old n (start + n) done d → RefusedHere e d start n b → opt_refusal n old e b
 options_refusal {e} {old} {d} {b} {done} start n is before r f = of f.2 where
   of : (e ≡ decode.Memory) ⊎ next_refusal start n d e b → opt_refusal n old e b
   of (inl m) = inl m
-  of (inr h) = inr (record { between = d; before = record { message = r.message; values = done; took = r.took; before = omega (arith, before, is) }; next = subst (λ (k : ℕ). next_refusal k n d e b) is h })
+  of (inr h) = inr (record {
+    between = d;
+    before = record { message = r.message; values = done; took = r.took; before = omega (arith, before, is) };
+    next =
+        subst (λ (k : ℕ). next_refusal k n d e b) is h;
+  })
 
 -- memory ran out behind options
-pub options_stopped : {old d b : Reading} {n end : ℕ} {done : List (Numbered OptionValue)} {x : Numbered OptionValue} → ReadsOptions old n end done d → TookOption d end x b → Refused decode.Memory old opt_shape (λ vs q. (q ≡ old.index + n) × any_options vs) b
+pub options_stopped : {old d b : Reading} {n end : ℕ} {done : List (Numbered OptionValue)} {x : Numbered OptionValue} → ReadsOptions old n end done d
+    → TookOption d end x b → Refused decode.Memory old opt_shape (λ vs q. (q ≡ old.index + n) × any_options vs) b
 options_stopped r o = record { behind = record { message = o.took.message ∙ r.message; index = omega (arith, r.behind, option_long o) }; none = tt }
 
-pub options_done : {old d : Reading} {done : List (Numbered OptionValue)} (start n : ℕ) → start ≡ old.index → start + n ≤ d.index → ReadsOptions old n (start + n) done d → Took old opt_shape (done, tt) d × ((d.index ≡ old.index + n) × Unit {0})
-options_done {old} {d} {done} start n is le r = (record { message = r.message; stands = (d.index, record { is = inl r.took }, refl) }, (omega (arith, r.inside), tt))
+pub options_done : {old d : Reading} {done : List (Numbered OptionValue)} (start n : ℕ) → start ≡ old.index → start + n ≤ d.index
+    → ReadsOptions old n (start + n) done d → Took old opt_shape (done, tt) d × ((d.index ≡ old.index + n) × Unit {0})
+options_done {old} {d} {done} start n is le r =
+    (record { message = r.message; stands = (d.index, record { is = inl r.took }, refl) }, (omega (arith, r.inside), tt))
 
-pub options_cut : {old d b : Reading} {done : List (Numbered OptionValue)} (start n : ℕ) → start ≡ old.index → ReadsOptions old n (start + n) done d → TookCut d n (start + n) b → Took old opt_shape ([], tt) b × ((b.index ≡ old.index + n) × Unit {0})
+pub options_cut : {old d b : Reading} {done : List (Numbered OptionValue)} (start n : ℕ) → start ≡ old.index → ReadsOptions old n (start + n) done d
+    → TookCut d n (start + n) b → Took old opt_shape ([], tt) b × ((b.index ≡ old.index + n) × Unit {0})
 options_cut {old} {d} {b} {done} start n is r t =
     let end = start + n in
     let at : At old.message old.index (pieces r.took.read ++ t.stub) end = at_then r.took.at (subst (λ (m : List ℕ). At m d.index t.stub end) r.message t.at) in
     let size : n ≡ end - old.index = omega (arith, is) in
-    let cut : CutOptions old.message (end - old.index) old.index end = record { read = r.took.read; dropped = done; stub = t.stub; at = at; fit = r.took.fit; held = r.took.held; cut = subst (λ (k : ℕ). IsCut k t.stub) size t.cut } in
+    let cut : CutOptions old.message (end - old.index) old.index end =
+    record {
+      read = r.took.read;
+      dropped = done;
+      stub = t.stub;
+      at = at;
+      fit = r.took.fit;
+      held = r.took.held;
+      cut =
+          subst (λ (k : ℕ). IsCut k t.stub) size t.cut;
+    } in
     (record { message = t.message ∙ r.message; stands = (end, record { is = inr (refl, cut) }, sym t.there) }, (omega (arith, t.there, is), tt))
 
 -- whole options, where none are
-pub options_never : {old d : Reading} {done : List (Numbered OptionValue)} (start n : ℕ) → start ≡ old.index → start + n ≤ d.index → ReadsOptions old n (start + n) done d → NoWhole old.message old.index (old.index + n) → ⊥
+pub options_never : {old d : Reading} {done : List (Numbered OptionValue)} (start n : ℕ) → start ≡ old.index → start + n ≤ d.index
+    → ReadsOptions old n (start + n) done d → NoWhole old.message old.index (old.index + n) → ⊥
 options_never {old} {d} start n is le r none =
     let there : d.index ≡ old.index + n = omega (arith, r.inside) in
     none.none r.took.read (subst (λ (q : ℕ). At old.message old.index (pieces r.took.read) q) there r.took.at) r.took.fit
 
 -- one pair more that was read
 pub read_more : (xs : List Pair) (x : Pair) → IsReadOpt xs → x ≡ pair_of (pair_value x) → IsReadOpt (xs ++ x ∷ [])
-read_more xs x h is = record { given =
-    ap (λ (l : List Pair). l ++ x ∷ []) h.given ∙ ap (λ (y : Pair). map pair_of (map pair_value xs) ++ y ∷ []) is
-    ∙ sym (ap (map pair_of) (map_push pair_value xs x) ∙ map_push pair_of (map pair_value xs) (pair_value x)) }
+read_more xs x h is = record {
+  given =
+      ap (λ (l : List Pair). l ++ x ∷ []) h.given ∙ ap (λ (y : Pair). map pair_of (map pair_value xs) ++ y ∷ []) is
+      ∙ sym (ap (map pair_of) (map_push pair_value xs x) ∙ map_push pair_of (map pair_value xs) (pair_value x));
+}

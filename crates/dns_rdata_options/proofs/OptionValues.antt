@@ -1,5 +1,6 @@
 -- Which options codes and octets give, and the values of the wire that they hold.
-use Rattle.std.proofs.Common.{◌≡◌, ◌≢◌, ◌⊎◌, inl, inr, ℕ, ◌+◌, ◌<◌, ◌≤◌, ◌^◌, ◌==◌, Bool, true, false, cond, eqb-true, List, ◌∷◌, ◌++◌, length, drop, Result, Ok, Err, refl, sym, ap, ◌∙◌, arith, subst}
+use Rattle.std.proofs.Common.{◌≡◌, ◌≢◌, ◌⊎◌, inl, inr, ℕ, ◌+◌, ◌<◌, ◌≤◌, ◌^◌, ◌==◌, Bool, true, false, cond, eqb-true, List, ◌∷◌, ◌++◌}
+use Rattle.std.proofs.Common.{length, drop, Result, Ok, Err, refl, sym, ap, ◌∙◌, arith, subst}
 use Rattle.std.specs.Int.{bytes_high_first}
 use Rattle.std.specs.Prelude.{IfErr}
 use Rattle.std.specs.Result.{IsErrAnd}
@@ -106,18 +107,22 @@ held_of n s x h = by (which (edns_code_of n)) where
   by : Which (edns_code_of n) → HeldAs n s x
   by (inl e) = subst (λ (k : ℕ). HeldAs k s x) (sym (is_8 n e)) (subnet_held s x (subst (λ (c : EdnsCode). IsOptionOf c s x) e h))
   by (inr (inl e)) = subst (λ (k : ℕ). HeldAs k s x) (sym (is_3 n e)) (nsid_held s x (subst (λ (c : EdnsCode). IsOptionOf c s x) e h))
-  by (inr (inr o)) = other_held n (edns_code_number (edns_code_of n)) s x (λ e. o.not_subnet (ap edns_code_of e ∙ of_8)) (λ e. o.not_nsid (ap edns_code_of e ∙ of_3)) (edns_code_number-of n) (o.option s x h)
+  by (inr (inr o)) = other_held n (edns_code_number (edns_code_of n)) s x (λ e. o.not_subnet (ap edns_code_of e ∙ of_8))
+      (λ e. o.not_nsid (ap edns_code_of e ∙ of_3)) (edns_code_number-of n) (o.option s x h)
 
 -- ---- where there is none
 
 no_subnet_value : (s : List ℕ) → AreOctets s → NoSubnet s → (v : OptionValue) → OptionHeld 8 s v → ⊥
 no_subnet_value s are none (Subnet f source scope a) h =
-    let octets : AreOctets a = AreOctets-tail scope a (AreOctets-tail source (scope ∷ a) (AreOctets-back (bytes_high_first 2 f) (source ∷ scope ∷ a) (AreOctets-front (option_octets (Subnet f source scope a)) h.2 (AreOctets-same s _ h.3 are)))) in
+    let octets : AreOctets a = AreOctets-tail scope a
+    (AreOctets-tail source (scope ∷ a) (AreOctets-back (bytes_high_first 2 f) (source ∷ scope ∷ a)
+    (AreOctets-front (option_octets (Subnet f source scope a)) h.2 (AreOctets-same s _ h.3 are)))) in
     let k = address_known f source a h.1 in
     let value : subnet_value (subnet_of f source scope a) ≡ Subnet f source scope a = value_back f source scope a k.0 h.1.long k.1 octets in
     none.none (subnet_of f source scope a) _ (record {
       fits = subst IsEmittableOption (sym value) h.1;
-      at = subst (λ (v : OptionValue). At s 0 (option_octets v) (length (option_octets (Subnet f source scope a)))) (sym value) (at_zero s (option_octets (Subnet f source scope a)) h.2 h.3);
+      at = subst (λ (v : OptionValue). At s 0 (option_octets v) (length (option_octets (Subnet f source scope a)))) (sym value)
+          (at_zero s (option_octets (Subnet f source scope a)) h.2 h.3);
       read = made_read f source scope a k.0 h.1.long k.1 octets;
     })
 no_subnet_value s are none (Plain t) h = h.0 refl
@@ -125,14 +130,16 @@ no_subnet_value s are none (Plain t) h = h.0 refl
 pub no_value_of : (n : ℕ) (s : List ℕ) (e : DecodeError) → length s < 65536 → AreOctets s → option_refusal (edns_code_of n) s e → NoValue n s
 no_value_of n s e short are r = by (which (edns_code_of n)) where
   by : Which (edns_code_of n) → NoValue n s
-  by (inl c) = let t = subst (λ (k : EdnsCode). option_refusal k s e) c r in subst (λ (k : ℕ). NoValue k s) (sym (is_8 n c)) (record { none = no_subnet_value s are t.0 })
+  by (inl c) = let t = subst (λ (k : EdnsCode). option_refusal k s e) c r in
+      subst (λ (k : ℕ). NoValue k s) (sym (is_8 n c)) (record { none = no_subnet_value s are t.0 })
   by (inr (inl c)) = let t = subst (λ (k : EdnsCode). option_refusal k s e) c r in absurd (omega (arith, t.0, short))
   by (inr (inr o)) = absurd (o.refusal s e r)
 
 refusal_8 : (n : ℕ) (s : List ℕ) (e : DecodeError) → n ≡ 8 → NoSubnet s × subnet_refusal s e → option_refusal (edns_code_of n) s e
 refusal_8 n s e is h = subst (λ (c : EdnsCode). option_refusal c s e) (sym (ap edns_code_of is ∙ of_8)) h
 
-pub subnet_refused : (n : ℕ) (s : List ℕ) (r : Result (Unit {0}) DecodeError) (e : DecodeError) → n ≡ 8 → IsErrAnd r (λ y. y ≡ e) → NoSubnet s × subnet_refusal s e → IfErr r (λ y. option_refusal (edns_code_of n) s y)
+pub subnet_refused : (n : ℕ) (s : List ℕ) (r : Result (Unit {0}) DecodeError) (e : DecodeError) → n ≡ 8 → IsErrAnd r (λ y. y ≡ e)
+    → NoSubnet s × subnet_refusal s e → IfErr r (λ y. option_refusal (edns_code_of n) s y)
 subnet_refused n s (Ok u) e is h f = tt
 subnet_refused n s (Err y) e is h f = subst (λ (z : DecodeError). option_refusal (edns_code_of n) s z) (sym h) (refusal_8 n s e is f)
 
@@ -146,13 +153,15 @@ plain_has n s h = record { value = Plain s; held = (h, refl) }
 
 body_octets : {d new : Reading} {end : ℕ} {x : Numbered (List ℕ)} → AreOctets d.message → TookPiece d end x new → AreOctets x.1
 body_octets {d} {new} {end} {x} are t =
-    AreOctets-back (bytes_high_first 2 (length x.1)) x.1 (AreOctets-back (bytes_high_first 2 x.0) (bytes_high_first 2 (length x.1) ++ x.1) (AreOctets-at d.message d.index (piece x) new.index are t.at))
+    AreOctets-back (bytes_high_first 2 (length x.1)) x.1
+    (AreOctets-back (bytes_high_first 2 x.0) (bytes_high_first 2 (length x.1) ++ x.1) (AreOctets-at d.message d.index (piece x) new.index are t.at))
 
 piece_behind : {d new : Reading} {end : ℕ} {x : Numbered (List ℕ)} → TookPiece d end x new → StaysBehind d new
 piece_behind t = record { message = t.message; index = omega (arith, t.at.ends) }
 
 -- an option without a value
-pub refused_value : {d new : Reading} (start n : ℕ) (x : Numbered (List ℕ)) (e : DecodeError) → AreOctets d.message → TookPiece d (start + n) x new → option_refusal (edns_code_of x.0) x.1 e
+pub refused_value : {d new : Reading} (start n : ℕ) (x : Numbered (List ℕ)) (e : DecodeError) → AreOctets d.message → TookPiece d (start + n) x new
+    → option_refusal (edns_code_of x.0) x.1 e
     → StaysBehind d new × UnlessMemory e (NoneLeft d.message n d.index (start + n)) × ((e ≡ decode.Memory) ⊎ next_refusal start n d e new)
 refused_value start n x e are t r = (
   piece_behind t,
@@ -161,19 +170,23 @@ refused_value start n x e are t r = (
 )
 
 -- or one for which memory ran out
-pub refused_option : {d new : Reading} (start n : ℕ) (x : Numbered (List ℕ)) (e : DecodeError) → AreOctets d.message → TookPiece d (start + n) x new → (e ≡ decode.Memory) ⊎ option_refusal (edns_code_of x.0) x.1 e
+pub refused_option : {d new : Reading} (start n : ℕ) (x : Numbered (List ℕ)) (e : DecodeError) → AreOctets d.message → TookPiece d (start + n) x new
+    → (e ≡ decode.Memory) ⊎ option_refusal (edns_code_of x.0) x.1 e
     → StaysBehind d new × UnlessMemory e (NoneLeft d.message n d.index (start + n)) × ((e ≡ decode.Memory) ⊎ next_refusal start n d e new)
-refused_option {d} start n x e are t (inl m) = (piece_behind t, subst (λ (z : DecodeError). UnlessMemory z (NoneLeft d.message n d.index (start + n))) (sym m) tt, inl m)
+refused_option {d} start n x e are t (inl m) =
+    (piece_behind t, subst (λ (z : DecodeError). UnlessMemory z (NoneLeft d.message n d.index (start + n))) (sym m) tt, inl m)
 refused_option start n x e are t (inr r) = refused_value start n x e are t r
 
 pub took_some : {d new : Reading} {end : ℕ} {x : Numbered (List ℕ)} → TookPiece d end x new → HasValue x.0 x.1 → TookSome end d new
 took_some {x = x} t v = record { value = (x.0, v.value); took = record { body = x.1; took = t; held = v.held } }
 
-pub took_pair : {d new : Reading} {end : ℕ} (n : ℕ) (s : List ℕ) (code : EdnsCode) (x : EdnsOption) → TookPiece d end (n, s) new → code ≡ edns_code_of n → IsOptionOf code s x → TookPair end (code, x) d new
+pub took_pair : {d new : Reading} {end : ℕ} (n : ℕ) (s : List ℕ) (code : EdnsCode) (x : EdnsOption) → TookPiece d end (n, s) new → code ≡ edns_code_of n
+    → IsOptionOf code s x → TookPair end (code, x) d new
 took_pair {d} {new} {end} n s code x t is h =
     let same : edns_code_number code ≡ n = ap edns_code_number is ∙ edns_code_number-of n in
     let v = held_of n s x (subst (λ (c : EdnsCode). IsOptionOf c s x) is h) in
     record {
       took = subst (λ (k : ℕ). TookOption d end (k, option_value x) new) (sym same) (record { body = s; took = t; held = v.held });
-      read = ap (λ (c : EdnsCode). (c, x)) is ∙ ap (λ (o : EdnsOption). (edns_code_of n, o)) v.given ∙ ap (λ (k : ℕ). (edns_code_of k, option_of k (option_value x))) (sym same);
+      read = ap (λ (c : EdnsCode). (c, x)) is ∙ ap (λ (o : EdnsOption). (edns_code_of n, o)) v.given
+          ∙ ap (λ (k : ℕ). (edns_code_of k, option_of k (option_value x))) (sym same);
     }

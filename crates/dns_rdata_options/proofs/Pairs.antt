@@ -1,12 +1,14 @@
 -- Options that are emitted one after the other.
-use Rattle.std.proofs.Common.{◌≡◌, ℕ, ◌+◌, ◌<◌, ◌≤◌, ◌^◌, ◌/◌, ◌==◌, ◌&&◌, ◌||◌, ◌⊎◌, nat_le, eqb-true, Bool, true, false, List, [], ◌∷◌, ◌++◌, length, map, take, drop, get_or, refl, sym, ap, ◌∙◌, arith, append_assoc, subst}
+use Rattle.std.proofs.Common.{◌≡◌, ℕ, ◌+◌, ◌<◌, ◌≤◌, ◌^◌, ◌/◌, ◌==◌, ◌&&◌, ◌||◌, ◌⊎◌, nat_le, eqb-true, Bool, true, false, List, [], ◌∷◌}
+use Rattle.std.proofs.Common.{◌++◌, length, map, take, drop, get_or, refl, sym, ap, ◌∙◌, arith, append_assoc, subst}
 use Rattle.std.specs.List.{flat_map, AllByRecursion}
 use Rattle.std.proofs.lemmas.Bool.Decides.{nat_tests}
 use Rattle.std.proofs.lemmas.List.{append-nil, length-append, drop_more, take-append-drop}
 use Rattle.std.proofs.lemmas.List.Concat.{flat_map-cons}
 use Rattle.std.proofs.lemmas.Grind.{flat_map-append}
 use Rattle.dns_types.specs.declared.error.ProtoError.{ProtoError}
-use Rattle.dns_fields.specs.Pieces.{Numbered, piece, pieces, as_piece, OptionValue, Subnet, Plain, option_octets, OptionFits, IsEmittableOption, option_emittable, options_emittable}
+use Rattle.dns_fields.specs.Pieces.{Numbered, piece, pieces, as_piece, OptionValue, Subnet, Plain, option_octets, OptionFits}
+use Rattle.dns_fields.specs.Pieces.{IsEmittableOption, option_emittable, options_emittable}
 use Rattle.dns_fields.specs.Fields.{Options, field_octets, option_pieces}
 use Rattle.dns_fields.proofs.Sorted.{octets_cmp, flat_map_all, length_sorted}
 use Rattle.dns_names_wire.specs.State.{Writing}
@@ -16,11 +18,14 @@ use Rattle.dns_rdata_options.specs.EdnsCode.{edns_code_number}
 use Rattle.dns_rdata_options.specs.Words.{AppendedOctets, StoppedOctets}
 use Rattle.dns_rdata_options.specs.OPT.{Pair, pair_value}
 
-joined : (xs : List (Numbered OptionValue)) (x : Numbered OptionValue) (ys : List (Numbered OptionValue)) → pieces (option_pieces (xs ++ x ∷ ys)) ≡ pieces (option_pieces xs) ++ (piece (as_piece option_octets x) ++ pieces (option_pieces ys))
+joined : (xs : List (Numbered OptionValue)) (x : Numbered OptionValue) (ys : List (Numbered OptionValue))
+    → pieces (option_pieces (xs ++ x ∷ ys)) ≡ pieces (option_pieces xs) ++ (piece (as_piece option_octets x) ++ pieces (option_pieces ys))
 joined [] x ys = refl
-joined (y ∷ xs) x ys = ap (λ (o : List ℕ). piece (as_piece option_octets y) ++ o) (joined xs x ys) ∙ sym (append_assoc (piece (as_piece option_octets y)) (pieces (option_pieces xs)) (piece (as_piece option_octets x) ++ pieces (option_pieces ys)))
+joined (y ∷ xs) x ys = ap (λ (o : List ℕ). piece (as_piece option_octets y) ++ o) (joined xs x ys)
+    ∙ sym (append_assoc (piece (as_piece option_octets y)) (pieces (option_pieces xs)) (piece (as_piece option_octets x) ++ pieces (option_pieces ys)))
 
-fits_push : (xs : List (Numbered OptionValue)) (x : Numbered OptionValue) → AllByRecursion OptionFits xs → OptionFits x → AllByRecursion OptionFits (xs ++ x ∷ [])
+fits_push : (xs : List (Numbered OptionValue)) (x : Numbered OptionValue) → AllByRecursion OptionFits xs → OptionFits x
+    → AllByRecursion OptionFits (xs ++ x ∷ [])
 fits_push [] x a h = (h, tt)
 fits_push (y ∷ xs) x a h = (a.0, fits_push xs x a.1 h)
 
@@ -46,11 +51,14 @@ unfolding is_fit
 unfit x small none = by (nat_le (length (option_octets x.1)) 65535 && option_emittable x.1) refl where
   short : (n : ℕ) → nat_le n 65535 ≡ true → n < 65536
   short n h = grind (arith, nat_tests)
+
   by : (b : Bool) → (nat_le (length (option_octets x.1)) 65535 && option_emittable x.1) ≡ b → b ≡ false
   by false e = refl
-  by true e = let t = true_parts (nat_le (length (option_octets x.1)) 65535) (option_emittable x.1) e in absurd (none ((omega (arith, small), omega (arith, short (length (option_octets x.1)) t.0)), emittable_option x.1 t.1))
+  by true e = let t = true_parts (nat_le (length (option_octets x.1)) 65535) (option_emittable x.1) e in
+      absurd (none ((omega (arith, small), omega (arith, short (length (option_octets x.1)) t.0)), emittable_option x.1 t.1))
 
-unfit_inner : (xs : List (Numbered OptionValue)) (x : Numbered OptionValue) (ys : List (Numbered OptionValue)) → is_fit x ≡ false → options_emittable (xs ++ x ∷ ys) ≡ false
+unfit_inner : (xs : List (Numbered OptionValue)) (x : Numbered OptionValue) (ys : List (Numbered OptionValue)) → is_fit x ≡ false
+    → options_emittable (xs ++ x ∷ ys) ≡ false
 unfolding is_fit
 unfit_inner [] x ys e = rw e refl
 unfit_inner (y ∷ xs) x ys e = rw (unfit_inner xs x ys e) (and_false (nat_le (length (option_octets y.1)) 65535 && option_emittable y.1))
@@ -58,7 +66,8 @@ unfit_inner (y ∷ xs) x ys e = rw (unfit_inner xs x ys e) (and_false (nat_le (l
 pub no_options : (w : Writing) → AppendedField w Options [] w
 no_options w = record { keeps = keeps_same w; field = record { is = (tt, sym (append-nil w.octets)) } }
 
-pub more_options : {w b e : Writing} (xs : List (Numbered OptionValue)) (x : Numbered OptionValue) → AppendedField w Options xs b → AppendedOctets (OptionFits x) (piece (as_piece option_octets x)) b e → AppendedField w Options (xs ++ x ∷ []) e
+pub more_options : {w b e : Writing} (xs : List (Numbered OptionValue)) (x : Numbered OptionValue) → AppendedField w Options xs b
+    → AppendedOctets (OptionFits x) (piece (as_piece option_octets x)) b e → AppendedField w Options (xs ++ x ∷ []) e
 more_options {w} {b} {e} xs x f g =
     let s = piece (as_piece option_octets x) in
     let octets : e.octets ≡ w.octets ++ pieces (option_pieces (xs ++ x ∷ [])) =
@@ -71,7 +80,9 @@ unfolding field_octets
 canonical_length v = length_sorted octets_cmp (map piece (option_pieces v)) ∙ ap length (flat_map_all piece (option_pieces v))
 
 -- an option is refused behind others
-pub stopped_options : {e : ProtoError} {w b n : Writing} (xs : List (Numbered OptionValue)) (x : Numbered OptionValue) (ys : List (Numbered OptionValue)) → x.0 < 65536 → AppendedField w Options xs b → StoppedOctets e (OptionFits x) (piece (as_piece option_octets x)) b n → StoppedField e w Options (xs ++ x ∷ ys) n
+pub stopped_options : {e : ProtoError} {w b n : Writing} (xs : List (Numbered OptionValue)) (x : Numbered OptionValue) (ys : List (Numbered OptionValue))
+    → x.0 < 65536 → AppendedField w Options xs b → StoppedOctets e (OptionFits x) (piece (as_piece option_octets x)) b n
+    → StoppedField e w Options (xs ++ x ∷ ys) n
 stopped_options {e} {w} {b} {n} xs x ys small f g =
     let s = piece (as_piece option_octets x) in
     record {
@@ -81,17 +92,36 @@ stopped_options {e} {w} {b} {n} xs x ys small f g =
         octets = g.extends.octets ∙ ap (λ (t : List ℕ). t ++ g.extends.tail) f.field.is.1 ∙ append_assoc w.octets (pieces (option_pieces xs)) g.extends.tail;
       };
       why = because_map e _ _ _ _
-          (λ (r : b.limit < length b.octets + length s). record { full = omega (arith, r, f.keeps.limit, ap length f.field.is.1, length-append w.octets (pieces (option_pieces xs)), ap length (joined xs x ys), length-append (pieces (option_pieces xs)) (s ++ pieces (option_pieces ys)), length-append s (pieces (option_pieces ys)), canonical_length (xs ++ x ∷ ys)) })
+          (λ (r : b.limit < length b.octets + length s). record {
+            full = omega (
+              arith,
+              r,
+              f.keeps.limit,
+              ap length f.field.is.1,
+              length-append w.octets (pieces (option_pieces xs)),
+              ap length
+                  (joined xs x ys),
+              length-append (pieces (option_pieces xs)) (s ++ pieces (option_pieces ys)),
+              length-append s (pieces (option_pieces ys)),
+              canonical_length (xs ++ x ∷ ys),
+            );
+          })
           (λ (u : OptionFits x → ⊥). record { unfit = unfit_inner xs x ys (unfit x small u) })
           g.why;
     }
 
 -- a list about one of its places
-split : (xs : List Pair) (i : ℕ) (x : Pair) → x ≡ get_or xs i x → i < length xs → map pair_value (take i xs) ++ pair_value x ∷ map pair_value (drop (i + 1) xs) ≡ map pair_value xs
-split xs i x is lt = sym (map-append (take i xs) (x ∷ drop (i + 1) xs)) ∙ ap (map pair_value) (ap (λ (y : Pair). take i xs ++ y ∷ drop (i + 1) xs) is ∙ ap (λ (t : List Pair). take i xs ++ t) (sym (drop_more xs i x lt)) ∙ take-append-drop i xs) where
-  map-append : (a b : List Pair) → map pair_value (a ++ b) ≡ map pair_value a ++ map pair_value b
-  map-append [] b = refl
-  map-append (y ∷ a) b = ap (λ (l : List (Numbered OptionValue)). pair_value y ∷ l) (map-append a b)
+split : (xs : List Pair) (i : ℕ) (x : Pair) → x ≡ get_or xs i x → i < length xs
+    → map pair_value (take i xs) ++ pair_value x ∷ map pair_value (drop (i + 1) xs) ≡ map pair_value xs
+split xs i x is lt = sym (map-append (take i xs) (x ∷ drop (i + 1) xs))
+    ∙ ap (map pair_value) (ap (λ (y : Pair). take i xs ++ y ∷ drop (i + 1) xs) is ∙ ap (λ (t : List Pair). take i xs ++ t) (sym (drop_more xs i x lt))
+    ∙ take-append-drop i xs) where
+      map-append : (a b : List Pair) → map pair_value (a ++ b) ≡ map pair_value a ++ map pair_value b
+      map-append [] b = refl
+      map-append (y ∷ a) b = ap (λ (l : List (Numbered OptionValue)). pair_value y ∷ l) (map-append a b)
 
-pub stopped_pair : {e : ProtoError} {w b n : Writing} (xs : List Pair) (i : ℕ) (x : Pair) → x ≡ get_or xs i x → i < length xs → edns_code_number x.0 < 65536 → AppendedField w Options (map pair_value (take i xs)) b → StoppedOctets e (OptionFits (pair_value x)) (piece (as_piece option_octets (pair_value x))) b n → StoppedField e w Options (map pair_value xs) n
-stopped_pair {e} {w} {b} {n} xs i x is lt small f g = subst (λ (v : List (Numbered OptionValue)). StoppedField e w Options v n) (split xs i x is lt) (stopped_options (map pair_value (take i xs)) (pair_value x) (map pair_value (drop (i + 1) xs)) small f g)
+pub stopped_pair : {e : ProtoError} {w b n : Writing} (xs : List Pair) (i : ℕ) (x : Pair) → x ≡ get_or xs i x → i < length xs → edns_code_number x.0 < 65536
+    → AppendedField w Options (map pair_value (take i xs)) b
+    → StoppedOctets e (OptionFits (pair_value x)) (piece (as_piece option_octets (pair_value x))) b n → StoppedField e w Options (map pair_value xs) n
+stopped_pair {e} {w} {b} {n} xs i x is lt small f g = subst (λ (v : List (Numbered OptionValue)). StoppedField e w Options v n) (split xs i x is lt)
+    (stopped_options (map pair_value (take i xs)) (pair_value x) (map pair_value (drop (i + 1) xs)) small f g)

@@ -1,5 +1,7 @@
 -- The subnet that begins octets, and why none does.
-use Rattle.std.proofs.Common.{◌≡◌, ◌≢◌, ◌⊎◌, inl, inr, ℕ, zero, suc, ◌+◌, ◌-◌, ◌/◌, ◌*◌, ◌<◌, ◌≤◌, ◌^◌, List, [], ◌∷◌, ◌++◌, length, take, drop, replicate, get_or, Bool, true, false, cond, ◌==◌, eqb-true, refl, sym, ap, ◌∙◌, arith, subst, append_assoc}
+use Rattle.std.proofs.Common.{◌≡◌, ◌≢◌, ◌⊎◌, inl, inr, ℕ, zero, suc, ◌+◌, ◌-◌, ◌/◌, ◌*◌, ◌<◌, ◌≤◌, ◌^◌, List, [], ◌∷◌, ◌++◌, length, take}
+use Rattle.std.proofs.Common.{drop, replicate, get_or, Bool, true, false, cond, ◌==◌, eqb-true, refl, sym, ap, ◌∙◌, arith, subst}
+use Rattle.std.proofs.Common.{append_assoc}
 use Rattle.std.specs.Int.{w16, from_be_bytes, bytes_high_first}
 use Rattle.std.specs.Net.Addr.{segments_of, octets_of, ipv6_segments}
 use Rattle.std.specs.declared.net.ip_addr.IpAddr.TheVariants.{V4, V6}
@@ -15,7 +17,9 @@ use Rattle.dns_fields.proofs.Numbers.{length-bytes}
 use Rattle.dns_fields.proofs.Pieces.{number_first}
 use Rattle.dns_fields.proofs.OctetLaws.{AreOctets-nil, AreOctets-cons, AreOctets-append, AreOctets-take, AreOctets-drop}
 use Rattle.dns_rdata_base.proofs.Addresses.{octets_of-segments}
-use Rattle.dns_rdata_options.specs.ClientSubnet.{family_of, address_octets, prefix_octets, family_octets, padded, address_of, subnet_of, subnet_value, IsReadSubnet, SubnetAt, IsFamily, LacksFamily, UnknownFamily, LacksPrefixes, SubnetHead, LongPrefix, LacksAddress, subnet_refusal, NoSubnet}
+use Rattle.dns_rdata_options.specs.ClientSubnet.{family_of, address_octets, prefix_octets, family_octets, padded, address_of, subnet_of}
+use Rattle.dns_rdata_options.specs.ClientSubnet.{subnet_value, IsReadSubnet, SubnetAt, IsFamily, LacksFamily, UnknownFamily, LacksPrefixes}
+use Rattle.dns_rdata_options.specs.ClientSubnet.{SubnetHead, LongPrefix, LacksAddress, subnet_refusal, NoSubnet}
 use Rattle.dns_rdata_options.specs.declared.opt.subnet.ClientSubnet.{ClientSubnet}
 
 -- octets as numbers of eight bits, as code knows them
@@ -28,7 +32,8 @@ pair_small p q a b (suc zero) = b
 pair_small p q a b (suc (suc i)) = omega arith
 
 -- the family, and what follows
-pub family_first : (s : List ℕ) (f : ℕ) → 2 ≤ length s → Eights s → f ≡ from_be_bytes w16 (get_or s 0 0 ∷ get_or s 1 0 ∷ []) → s ≡ bytes_high_first 2 f ++ drop 2 s
+pub family_first : (s : List ℕ) (f : ℕ) → 2 ≤ length s → Eights s → f ≡ from_be_bytes w16 (get_or s 0 0 ∷ get_or s 1 0 ∷ [])
+    → s ≡ bytes_high_first 2 f ++ drop 2 s
 family_first [] f n b e = absurd (omega arith)
 family_first (p ∷ []) f n b e = absurd (omega arith)
 family_first (p ∷ q ∷ s) f n b e = ap (λ (o : List ℕ). o ++ s) (sym (be_bytes_2 (p ∷ q ∷ []) f refl (pair_small p q (b 0) (b 1)) e))
@@ -40,7 +45,8 @@ heads (p ∷ q ∷ []) n = absurd (omega arith)
 heads (p ∷ q ∷ r ∷ []) n = absurd (omega arith)
 heads (p ∷ q ∷ r ∷ t ∷ s) n = refl
 
-pub head_first : (s : List ℕ) (f : ℕ) → 4 ≤ length s → Eights s → f ≡ from_be_bytes w16 (get_or s 0 0 ∷ get_or s 1 0 ∷ []) → IsFamily f → SubnetHead s f (get_or s 2 0) (get_or s 3 0) (drop 4 s)
+pub head_first : (s : List ℕ) (f : ℕ) → 4 ≤ length s → Eights s → f ≡ from_be_bytes w16 (get_or s 0 0 ∷ get_or s 1 0 ∷ []) → IsFamily f
+    → SubnetHead s f (get_or s 2 0) (get_or s 3 0) (drop 4 s)
 head_first s f n b e known = record { octets = family_first s f (omega arith) b e ∙ ap (λ (o : List ℕ). bytes_high_first 2 f ++ o) (heads s n); known = known }
 
 -- ---- refusals
@@ -48,19 +54,46 @@ head_first s f n b e known = record { octets = family_first s f (omega arith) b 
 pub no_family : (s : List ℕ) → length s < 2 → subnet_refusal s decode.InsufficientBytes
 no_family s n = inl (record { error = refl; short = n })
 
-pub unknown_family : (s : List ℕ) (f : ℕ) → f < 65536 → 2 ≤ length s → Eights s → f ≡ from_be_bytes w16 (get_or s 0 0 ∷ get_or s 1 0 ∷ []) → (IsFamily f → ⊥) → subnet_refusal s (decode.UnknownAddressFamily f)
-unknown_family s f small n b e unknown = inr (inl (record { family = f; rest = drop 2 s; octets = family_first s f n b e; small = small; unknown = unknown; error = refl }))
+pub unknown_family : (s : List ℕ) (f : ℕ) → f < 65536 → 2 ≤ length s → Eights s → f ≡ from_be_bytes w16 (get_or s 0 0 ∷ get_or s 1 0 ∷ [])
+    → (IsFamily f → ⊥) → subnet_refusal s (decode.UnknownAddressFamily f)
+unknown_family s f small n b e unknown =
+    inr (inl (record { family = f; rest = drop 2 s; octets = family_first s f n b e; small = small; unknown = unknown; error = refl }))
 
-pub no_prefixes : (s : List ℕ) (f : ℕ) → 2 ≤ length s → length s < 4 → Eights s → f ≡ from_be_bytes w16 (get_or s 0 0 ∷ get_or s 1 0 ∷ []) → IsFamily f → subnet_refusal s decode.InsufficientBytes
-no_prefixes s f n short b e known = inr (inr (inl (record { family = f; rest = drop 2 s; octets = family_first s f n b e; known = known; short = omega (arith, length-drop 2 s); error = refl })))
-
-pub long_prefix : (s : List ℕ) (f : ℕ) → 4 ≤ length s → Eights s → f ≡ from_be_bytes w16 (get_or s 0 0 ∷ get_or s 1 0 ∷ []) → IsFamily f → family_octets f < prefix_octets (get_or s 2 0)
-    → subnet_refusal s (decode.IncorrectRDataLengthRead (family_octets f) (prefix_octets (get_or s 2 0)))
-long_prefix s f n b e known long = inr (inr (inr (inl (record { family = f; source = get_or s 2 0; scope = get_or s 3 0; rest = drop 4 s; head = head_first s f n b e known; long = long; error = refl }))))
-
-pub no_address : (s : List ℕ) (f : ℕ) → 4 ≤ length s → Eights s → f ≡ from_be_bytes w16 (get_or s 0 0 ∷ get_or s 1 0 ∷ []) → IsFamily f → prefix_octets (get_or s 2 0) ≤ family_octets f → length s - 4 < prefix_octets (get_or s 2 0)
+pub no_prefixes : (s : List ℕ) (f : ℕ) → 2 ≤ length s → length s < 4 → Eights s → f ≡ from_be_bytes w16 (get_or s 0 0 ∷ get_or s 1 0 ∷ []) → IsFamily f
     → subnet_refusal s decode.InsufficientBytes
-no_address s f n b e known most short = inr (inr (inr (inr (record { family = f; source = get_or s 2 0; scope = get_or s 3 0; rest = drop 4 s; head = head_first s f n b e known; most = most; short = omega (arith, length-drop 4 s); error = refl }))))
+no_prefixes s f n short b e known = inr (inr
+    (inl (record { family = f; rest = drop 2 s; octets = family_first s f n b e; known = known; short = omega (arith, length-drop 2 s); error = refl })))
+
+pub long_prefix : (s : List ℕ) (f : ℕ) → 4 ≤ length s → Eights s → f ≡ from_be_bytes w16 (get_or s 0 0 ∷ get_or s 1 0 ∷ []) → IsFamily f
+    → family_octets f < prefix_octets (get_or s 2 0)
+    → subnet_refusal s (decode.IncorrectRDataLengthRead (family_octets f) (prefix_octets (get_or s 2 0)))
+long_prefix s f n b e known long = inr (inr
+    (inr (inl (record {
+      family = f;
+      source = get_or s 2 0;
+      scope = get_or s 3 0;
+      rest = drop 4 s;
+      head = head_first s f n b e known;
+      long = long;
+      error =
+          refl;
+    }))))
+
+pub no_address : (s : List ℕ) (f : ℕ) → 4 ≤ length s → Eights s → f ≡ from_be_bytes w16 (get_or s 0 0 ∷ get_or s 1 0 ∷ []) → IsFamily f
+    → prefix_octets (get_or s 2 0) ≤ family_octets f → length s - 4 < prefix_octets (get_or s 2 0)
+    → subnet_refusal s decode.InsufficientBytes
+no_address s f n b e known most short = inr
+    (inr (inr (inr (record {
+      family = f;
+      source = get_or s 2 0;
+      scope = get_or s 3 0;
+      rest = drop 4 s;
+      head = head_first s f n b e known;
+      most =
+          most;
+      short = omega (arith, length-drop 4 s);
+      error = refl;
+    }))))
 
 -- ---- a subnet that stands
 
@@ -71,13 +104,16 @@ family_back : (f : ℕ) (s : List ℕ) → IsFamily f → family_of (address_of 
 family_back f s (inl e) = rw e refl
 family_back f s (inr e) = rw e refl
 
-pub six : (family : ℕ) (octets : List ℕ) (ip : Ipv6Addr) → (family ≡ 1 → ⊥) → ipv6_segments ip ≡ segments_of (padded 16 octets) → V6 ip ≡ address_of family octets
+pub six : (family : ℕ) (octets : List ℕ) (ip : Ipv6Addr) → (family ≡ 1 → ⊥) → ipv6_segments ip ≡ segments_of (padded 16 octets)
+    → V6 ip ≡ address_of family octets
 six family octets ip not e = chosen (family == 1) refl where
-  chosen : (b : Bool) → (family == 1) ≡ b → V6 ip ≡ cond b (V4 (record { octets = padded 4 octets })) (V6 (record { segments = segments_of (padded 16 octets) }))
+  chosen : (b : Bool) → (family == 1) ≡ b → V6 ip ≡ cond b (V4 (record { octets = padded 4 octets }))
+      (V6 (record { segments = segments_of (padded 16 octets) }))
   chosen true h = absurd (not (eqb-true family 1 h))
   chosen false h = ap (λ (s : List ℕ). V6 (record { segments = s })) e
 
-octets_back : (f : ℕ) (s : List ℕ) → IsFamily f → length s ≤ family_octets f → AreOctets (padded 16 s) → address_octets (address_of f s) ≡ padded (family_octets f) s
+octets_back : (f : ℕ) (s : List ℕ) → IsFamily f → length s ≤ family_octets f → AreOctets (padded 16 s)
+    → address_octets (address_of f s) ≡ padded (family_octets f) s
 octets_back f s (inl e) le small = rw e refl
 octets_back f s (inr e) le small = rw e (octets_of-segments 8 (padded 16 s) (padded-length 16 s (omega (arith, rw e at le))) small)
 
@@ -90,16 +126,19 @@ zeros zero = AreOctets-nil
 zeros (suc n) = AreOctets-cons 0 (replicate n 0) (omega arith) (zeros n)
 
 -- the octets of the address that octets begin are these
-octets_front : (f source : ℕ) (s : List ℕ) → IsFamily f → length s ≡ prefix_octets source → length s ≤ family_octets f → AreOctets s → take (prefix_octets source) (address_octets (address_of f s)) ≡ s
+octets_front : (f source : ℕ) (s : List ℕ) → IsFamily f → length s ≡ prefix_octets source → length s ≤ family_octets f → AreOctets s
+    → take (prefix_octets source) (address_octets (address_of f s)) ≡ s
 octets_front f source s known long le are =
     ap (take (prefix_octets source)) (octets_back f s known le (AreOctets-append s (replicate (16 - length s) 0) are (zeros (16 - length s))))
     ∙ take_at s (replicate (family_octets f - length s) 0) (prefix_octets source) long
 
 -- a subnet that is made of its parts has these parts
-pub value_back : (f source scope : ℕ) (s : List ℕ) → IsFamily f → length s ≡ prefix_octets source → length s ≤ family_octets f → AreOctets s → subnet_value (subnet_of f source scope s) ≡ Subnet f source scope s
+pub value_back : (f source scope : ℕ) (s : List ℕ) → IsFamily f → length s ≡ prefix_octets source → length s ≤ family_octets f → AreOctets s
+    → subnet_value (subnet_of f source scope s) ≡ Subnet f source scope s
 value_back f source scope s known long le are = rw (family_back f s known, octets_front f source s known long le are) refl
 
-pub made_read : (f source scope : ℕ) (s : List ℕ) → IsFamily f → length s ≡ prefix_octets source → length s ≤ family_octets f → AreOctets s → IsReadSubnet (subnet_of f source scope s)
+pub made_read : (f source scope : ℕ) (s : List ℕ) → IsFamily f → length s ≡ prefix_octets source → length s ≤ family_octets f → AreOctets s
+    → IsReadSubnet (subnet_of f source scope s)
 made_read f source scope s known long le are = record { padded = rw (family_back f s known, octets_front f source s known long le are) refl }
 
 pub is_address : (f source : ℕ) (s : List ℕ) → IsFamily f → length s ≡ prefix_octets source → length s ≤ family_octets f → IsAddress f source s
@@ -114,9 +153,15 @@ address_known f source s a = most a.most where
   most (inr h) = (inr h.0, rw h.0 (h.1))
 
 pub at_zero : (s x r : List ℕ) → s ≡ x ++ r → At s 0 x (length x)
-at_zero s x r e = record { ends = omega arith; within = omega (arith, ap length e, length-append x r); same = ap (take (length x)) e ∙ take_at x r (length x) refl }
+at_zero s x r e = record {
+  ends = omega arith;
+  within = omega (arith, ap length e, length-append x r);
+  same = ap (take (length x)) e
+      ∙ take_at x r (length x) refl;
+}
 
-pub subnet_stands : (s : List ℕ) (f : ℕ) (x : ClientSubnet) → 4 ≤ length s → Eights s → f ≡ from_be_bytes w16 (get_or s 0 0 ∷ get_or s 1 0 ∷ []) → IsFamily f → prefix_octets (get_or s 2 0) ≤ family_octets f → prefix_octets (get_or s 2 0) ≤ length s - 4
+pub subnet_stands : (s : List ℕ) (f : ℕ) (x : ClientSubnet) → 4 ≤ length s → Eights s → f ≡ from_be_bytes w16 (get_or s 0 0 ∷ get_or s 1 0 ∷ [])
+    → IsFamily f → prefix_octets (get_or s 2 0) ≤ family_octets f → prefix_octets (get_or s 2 0) ≤ length s - 4
     → x ≡ subnet_of f (get_or s 2 0) (get_or s 3 0) (take (prefix_octets (get_or s 2 0)) (drop 4 s)) → SubnetAt s 0 x (4 + prefix_octets (get_or s 2 0))
 subnet_stands s f x n b e known most enough is =
     let source = get_or s 2 0 in
@@ -128,9 +173,12 @@ subnet_stands s f x n b e known most enough is =
     let are : AreOctets a = AreOctets-take k (drop 4 s) (AreOctets-drop 4 s (eights_octets s b)) in
     let value : subnet_value (subnet_of f source scope a) ≡ Subnet f source scope a = value_back f source scope a known long le are in
     let octets : s ≡ option_octets (Subnet f source scope a) ++ drop k (drop 4 s) =
-      (head_first s f n b e known).octets ∙ ap (λ (o : List ℕ). bytes_high_first 2 f ++ (source ∷ scope ∷ o)) (sym (take-append-drop k (drop 4 s))) ∙ sym (append_assoc (bytes_high_first 2 f) (source ∷ scope ∷ a) (drop k (drop 4 s))) in
-    let there : length (option_octets (Subnet f source scope a)) ≡ 4 + k = omega (arith, length-append (bytes_high_first 2 f) (source ∷ scope ∷ a), length-bytes 2 f, long) in
-    let at : At s 0 (option_octets (Subnet f source scope a)) (4 + k) = subst (At s 0 (option_octets (Subnet f source scope a))) there (at_zero s (option_octets (Subnet f source scope a)) (drop k (drop 4 s)) octets) in
+    (head_first s f n b e known).octets ∙ ap (λ (o : List ℕ). bytes_high_first 2 f ++ (source ∷ scope ∷ o)) (sym (take-append-drop k (drop 4 s)))
+    ∙ sym (append_assoc (bytes_high_first 2 f) (source ∷ scope ∷ a) (drop k (drop 4 s))) in
+    let there : length (option_octets (Subnet f source scope a)) ≡ 4 + k =
+    omega (arith, length-append (bytes_high_first 2 f) (source ∷ scope ∷ a), length-bytes 2 f, long) in
+    let at : At s 0 (option_octets (Subnet f source scope a)) (4 + k) = subst (At s 0 (option_octets (Subnet f source scope a))) there
+    (at_zero s (option_octets (Subnet f source scope a)) (drop k (drop 4 s)) octets) in
     subst (λ (y : ClientSubnet). SubnetAt s 0 y (4 + k)) (sym is) (record {
       fits = subst IsEmittableOption (sym value) (is_address f source a known long le);
       at = subst (λ (v : OptionValue). At s 0 (option_octets v) (4 + k)) (sym value) at;
@@ -158,18 +206,22 @@ pub record Begins (s : List ℕ) (f source scope : ℕ) (a rest : List ℕ) : Ty
   pub octets : s ≡ bytes_high_first 2 f ++ (source ∷ scope ∷ (a ++ rest))
   pub address : IsAddress f source a
 
-begins : {s : List ℕ} {q : ℕ} (f source scope : ℕ) (a : List ℕ) → IsAddress f source a → At s 0 (option_octets (Subnet f source scope a)) q → Begins s f source scope a (drop (length (option_octets (Subnet f source scope a))) s)
-begins {s} f source scope a is at = record { octets = begun at ∙ append_assoc (bytes_high_first 2 f) (source ∷ scope ∷ a) (drop (length (option_octets (Subnet f source scope a))) s); address = is }
+begins : {s : List ℕ} {q : ℕ} (f source scope : ℕ) (a : List ℕ) → IsAddress f source a → At s 0 (option_octets (Subnet f source scope a)) q
+    → Begins s f source scope a (drop (length (option_octets (Subnet f source scope a))) s)
+begins {s} f source scope a is at = record
+    { octets = begun at ∙ append_assoc (bytes_high_first 2 f) (source ∷ scope ∷ a) (drop (length (option_octets (Subnet f source scope a))) s); address = is }
 
 begins-length : {s : List ℕ} {f source scope : ℕ} {a rest : List ℕ} → Begins s f source scope a rest → length s ≡ 4 + length a + length rest
-begins-length {s} {f} {source} {scope} {a} {rest} b = omega (arith, ap length b.octets, length-append (bytes_high_first 2 f) (source ∷ scope ∷ (a ++ rest)), length-bytes 2 f, length-append a rest)
+begins-length {s} {f} {source} {scope} {a} {rest} b =
+    omega (arith, ap length b.octets, length-append (bytes_high_first 2 f) (source ∷ scope ∷ (a ++ rest)), length-bytes 2 f, length-append a rest)
 
 none_begins : {s : List ℕ} {e : DecodeError} {f source scope : ℕ} {a rest : List ℕ} → subnet_refusal s e → Begins s f source scope a rest → ⊥
 none_begins (inl h) b = omega (arith, h.short, begins-length b)
 none_begins {f = f} {source = source} {a = a} (inr (inl h)) b =
     let same = number_first f h.family _ _ (family_small f source a b.address) h.small (sym b.octets ∙ h.octets) in
     h.unknown (subst IsFamily same.0 (address_known f source a b.address).0)
-none_begins (inr (inr (inl h))) b = omega (arith, h.short, begins-length b, ap length h.octets, length-append (bytes_high_first 2 h.family) h.rest, length-bytes 2 h.family)
+none_begins (inr (inr (inl h))) b = omega
+    (arith, h.short, begins-length b, ap length h.octets, length-append (bytes_high_first 2 h.family) h.rest, length-bytes 2 h.family)
 none_begins {f = f} {source = source} {scope = scope} {a = a} {rest = rest} (inr (inr (inr (inl h)))) b =
     let same = number_first f h.family _ _ (family_small f source a b.address) (known_small h.family h.head.known) (sym b.octets ∙ h.head.octets) in
     let sources : source ≡ h.source = let x : source ∷ scope ∷ (a ++ rest) ≡ h.source ∷ h.scope ∷ h.rest = same.1 in cc in
@@ -183,7 +235,10 @@ none_begins {f = f} {source = source} {scope = scope} {a = a} {rest = rest} (inr
     omega (arith, h.short, b.address.long, sources, ap length rests, length-append a rest)
 
 pub no_subnet : (s : List ℕ) (e : DecodeError) → subnet_refusal s e → NoSubnet s
-no_subnet s e r = record { none = λ x q h. none_begins r (begins (family_of x.address) x.source_prefix x.scope_prefix (take (prefix_octets x.source_prefix) (address_octets x.address)) h.fits h.at) }
+no_subnet s e r = record {
+  none = λ x q h. none_begins r
+      (begins (family_of x.address) x.source_prefix x.scope_prefix (take (prefix_octets x.source_prefix) (address_octets x.address)) h.fits h.at);
+}
 
 -- ---- behind a place of a message
 

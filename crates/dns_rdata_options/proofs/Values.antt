@@ -1,6 +1,7 @@
 -- Records of options by their fields: one that was read is told by them, and fields that stand make one. `==` of records
 -- tells whether one is the other in another order; of two that were read, whether their fields are.
-use Rattle.std.proofs.Common.{◌≡◌, ◌≢◌, ◌↔◌, ◌⊎◌, inl, inr, ℕ, ◌+◌, ◌-◌, ◌<◌, ◌==◌, ◌&&◌, Bool, true, false, cond, List, [], ◌∷◌, ◌++◌, map, IsTrue, count_by, refl, sym, ap, ◌∙◌, arith, subst}
+use Rattle.std.proofs.Common.{◌≡◌, ◌≢◌, ◌↔◌, ◌⊎◌, inl, inr, ℕ, ◌+◌, ◌-◌, ◌<◌, ◌==◌, ◌&&◌, Bool, true, false, cond, List, [], ◌∷◌, ◌++◌}
+use Rattle.std.proofs.Common.{map, IsTrue, count_by, refl, sym, ap, ◌∙◌, arith, subst}
 use Rattle.std.specs.Bool.{Decides}
 use Rattle.std.specs.Cmp.{unsigned_Decides}
 use Rattle.std.specs.Cmp.Lexicographic.{pointwise, pointwise_decides, slice_cmp}
@@ -42,7 +43,9 @@ use Rattle.dns_rdata_options.proofs.Subnets.{address_known, value_back}
 
 held_value : (n : ℕ) (s : List ℕ) (v : OptionValue) → AreOctets s → OptionHeld n s v → option_value (option_of n v) ≡ v
 held_value n s (Subnet f source scope a) are h =
-    let octets : AreOctets a = AreOctets-tail scope a (AreOctets-tail source (scope ∷ a) (AreOctets-back (bytes_high_first 2 f) (source ∷ scope ∷ a) (AreOctets-front (option_octets (Subnet f source scope a)) h.2 (AreOctets-same s _ h.3 are)))) in
+    let octets : AreOctets a = AreOctets-tail scope a
+    (AreOctets-tail source (scope ∷ a) (AreOctets-back (bytes_high_first 2 f) (source ∷ scope ∷ a)
+    (AreOctets-front (option_octets (Subnet f source scope a)) h.2 (AreOctets-same s _ h.3 are)))) in
     let k = address_known f source a h.1 in
     value_back f source scope a k.0 h.1.long k.1 octets
 held_value n s (Plain t) are h = either (n == 3) where
@@ -50,7 +53,8 @@ held_value n s (Plain t) are h = either (n == 3) where
   either true = refl
   either false = refl
 
-pairs_back : (read : List (Numbered (List ℕ))) (v : List (Numbered OptionValue)) → AreOctets (pieces read) → AllHeld OptionHeld read v → map pair_value (map pair_of v) ≡ v
+pairs_back : (read : List (Numbered (List ℕ))) (v : List (Numbered OptionValue)) → AreOctets (pieces read) → AllHeld OptionHeld read v
+    → map pair_value (map pair_of v) ≡ v
 pairs_back [] [] are h = refl
 pairs_back [] (y ∷ ys) are h = absurd h
 pairs_back (x ∷ xs) [] are h = absurd h
@@ -109,7 +113,8 @@ code_again codes.Chain = refl
 code_again (codes.Unknown n) = refl
 
 code_decides : (a b : EdnsCode) → Decides (code_eq a b) (a ≡ b)
-code_decides a b = told (code_eq a b) (both _ _ (unsigned_Decides (edns_code_number a) (edns_code_number b)) (unsigned_Decides (edns_code_variant a) (edns_code_variant b)))
+code_decides a b = told (code_eq a b) (both _ _ (unsigned_Decides (edns_code_number a) (edns_code_number b))
+    (unsigned_Decides (edns_code_variant a) (edns_code_variant b)))
     (λ h. sym (code_again a) ∙ (λ i. code_back (h.0 i) (h.1 i)) ∙ code_again b, λ e. (ap edns_code_number e, ap edns_code_variant e))
 
 address_decides : (a b : IpAddr) → Decides (equal_addresses.ghosts.eq a b) (a ≡ b)
@@ -120,8 +125,12 @@ address_decides (V6 a) (V6 b) = told _ (octets_decide a.segments b.segments) (λ
 
 subnet_decides : (a b : ClientSubnet) → Decides (equal_subnets.ghosts.eq a b) (a ≡ b)
 subnet_decides a b =
-    told _ (both _ _ (address_decides a.address b.address) (both _ _ (unsigned_Decides a.source_prefix b.source_prefix) (unsigned_Decides a.scope_prefix b.scope_prefix)))
-    (λ h. (λ i. record { address = h.0 i; source_prefix = h.1.0 i; scope_prefix = h.1.1 i }), λ e. (ap (λ (x : ClientSubnet). x.address) e, (ap (λ (x : ClientSubnet). x.source_prefix) e, ap (λ (x : ClientSubnet). x.scope_prefix) e)))
+    told _ (both _ _ (address_decides a.address b.address)
+    (both _ _ (unsigned_Decides a.source_prefix b.source_prefix) (unsigned_Decides a.scope_prefix b.scope_prefix))) (
+      λ h. (λ i. record { address = h.0 i; source_prefix = h.1.0 i; scope_prefix = h.1.1 i }),
+      λ e.
+          (ap (λ (x : ClientSubnet). x.address) e, (ap (λ (x : ClientSubnet). x.source_prefix) e, ap (λ (x : ClientSubnet). x.scope_prefix) e)),
+    )
 
 subnet_within : EdnsOption → ClientSubnet → ClientSubnet
 subnet_within (edns.Subnet x) y = x
@@ -132,7 +141,8 @@ option_decides : (a b : EdnsOption) → Decides (equal_options.ghosts.eq a b) (a
 unfolding subnet_within
 option_decides (edns.Subnet a) (edns.Subnet b) = told _ (subnet_decides a b) (λ e. ap edns.Subnet e, λ e. ap (λ (o : EdnsOption). subnet_within o a) e)
 option_decides (edns.NSID a) (edns.NSID b) = told _ (octets_decide a b) (λ e. ap edns.NSID e, λ e. cc e)
-option_decides (edns.Unknown n a) (edns.Unknown m b) = told _ (both _ _ (unsigned_Decides n m) (octets_decide a b)) (λ e i. edns.Unknown (e.0 i) (e.1 i), λ e. (cc e, cc e))
+option_decides (edns.Unknown n a) (edns.Unknown m b) = told _ (both _ _ (unsigned_Decides n m) (octets_decide a b))
+    (λ e i. edns.Unknown (e.0 i) (e.1 i), λ e. (cc e, cc e))
 option_decides (edns.Subnet a) (edns.NSID b) = (λ h. cc h, λ e. cc e)
 option_decides (edns.Subnet a) (edns.Unknown m b) = (λ h. cc h, λ e. cc e)
 option_decides (edns.NSID a) (edns.Subnet b) = (λ h. cc h, λ e. cc e)
@@ -141,7 +151,8 @@ option_decides (edns.Unknown n a) (edns.Subnet b) = (λ h. cc h, λ e. cc e)
 option_decides (edns.Unknown n a) (edns.NSID b) = (λ h. cc h, λ e. cc e)
 
 pair_decides : (a b : Pair) → Decides (pair_eq a b) (a ≡ b)
-pair_decides a b = told _ (both _ _ (code_decides a.0 b.0) (option_decides a.1 b.1)) (λ h i. (h.0 i, h.1 i), λ e. (ap (λ (p : Pair). p.0) e, ap (λ (p : Pair). p.1) e))
+pair_decides a b = told _ (both _ _ (code_decides a.0 b.0) (option_decides a.1 b.1))
+    (λ h i. (h.0 i, h.1 i), λ e. (ap (λ (p : Pair). p.0) e, ap (λ (p : Pair). p.1) e))
 
 pair_same : IsAntisymmetric pair_cmp
 pair_same a b e = (pair_decides a b).0 (pair_ties a b ∙ ap is_eq e)
@@ -151,7 +162,8 @@ pub opt_permutes : (a b : List Pair) → Decides (opt_eq a b) (IsPermutation a b
 opt_permutes a b =
     let counts = counts_decide pair_cmp pair_total pair_eq pair_ties a b (opt_eq a b) (opt_ties a b) in
     let permutes = permutation_counts pair_cmp pair_total pair_same a b in
-    let same : (w : Pair) (l : List Pair) → count_by (pair_eq w) l ≡ count_by (eq_by_cmp pair_cmp w) l = λ w l. count_ext (pair_eq w) (eq_by_cmp pair_cmp w) (pair_ties w) l in
+    let same : (w : Pair) (l : List Pair) → count_by (pair_eq w) l ≡ count_by (eq_by_cmp pair_cmp w) l =
+    λ w l. count_ext (pair_eq w) (eq_by_cmp pair_cmp w) (pair_ties w) l in
     (λ t. permutes.1 (λ w. sym (same w a) ∙ counts.0 t w ∙ same w b), λ p. counts.1 (λ w. same w a ∙ permutes.0 p w ∙ sym (same w b)))
 
 -- the fields of two records that were read are the same exactly where the records are
@@ -159,8 +171,10 @@ same_fields : (a b : List Pair) → IsReadOpt a → IsReadOpt b → IsPermutatio
 same_fields a b x y = (
   λ p. (record { is = IsPermutation-map pair_value a b p }, tt),
   λ s.
-      let back : IsPermutation (map pair_of (map pair_value a)) (map pair_of (map pair_value b)) = IsPermutation-map pair_of (map pair_value a) (map pair_value b) s.0.is in
-      subst (λ (l : List Pair). IsPermutation l b) (sym x.given) (subst (λ (l : List Pair). IsPermutation (map pair_of (map pair_value a)) l) (sym y.given) back),
+      let back : IsPermutation (map pair_of (map pair_value a)) (map pair_of (map pair_value b)) =
+      IsPermutation-map pair_of (map pair_value a) (map pair_value b) s.0.is in
+      subst (λ (l : List Pair). IsPermutation l b) (sym x.given)
+      (subst (λ (l : List Pair). IsPermutation (map pair_of (map pair_value a)) l) (sym y.given) back),
 )
 
 decided_same : (a b : Bool) {P Q : Type 0} → Decides a P → Decides b Q → P ↔ Q → a ≡ b
@@ -171,4 +185,5 @@ decided_same false true d e s = d.1 (s.1 (e.0 refl))
 
 -- `==` of two records that were read is that of their fields
 pub opt_equal : (a b : List Pair) → IsReadOpt a → IsReadOpt b → opt_eq a b ≡ values_eq opt_shape (opt_fields a) (opt_fields b)
-opt_equal a b x y = decided_same (opt_eq a b) (values_eq opt_shape (opt_fields a) (opt_fields b)) (opt_permutes a b) (values_decide opt_shape (opt_fields a) (opt_fields b) (tt, tt) (tt, tt)) (same_fields a b x y)
+opt_equal a b x y = decided_same (opt_eq a b) (values_eq opt_shape (opt_fields a) (opt_fields b)) (opt_permutes a b)
+    (values_decide opt_shape (opt_fields a) (opt_fields b) (tt, tt) (tt, tt)) (same_fields a b x y)

@@ -127,7 +127,8 @@ pub record BadOption (end : ℕ) (d : Reading) (e : DecodeError) (new : Reading)
 
 -- no code, no length, or no octets of them stand
 abbrev pub piece_refusal : ℕ → ℕ → Reading → DecodeError → Reading → Type 0
-piece_refusal start n d e new = LacksCode d e new ⊎ (LacksLength (start + n) d e new ⊎ (PassedEnd start n d e new ⊎ (LongOption n (start + n) d e new ⊎ LacksBody n (start + n) d e new)))
+piece_refusal start n d e new = LacksCode d e new
+    ⊎ (LacksLength (start + n) d e new ⊎ (PassedEnd start n d e new ⊎ (LongOption n (start + n) d e new ⊎ LacksBody n (start + n) d e new)))
 
 abbrev pub next_refusal : ℕ → ℕ → Reading → DecodeError → Reading → Type 0
 next_refusal start n d e new = piece_refusal start n d e new ⊎ BadOption (start + n) d e new

@@ -67,7 +67,8 @@ pub record HasValue (code : ℕ) (body : List ℕ) : Type 0 where
 abbrev pub ReadsNext : {T : Type 0} → (T → Reading → Reading → Type 0) → ℕ → ℕ → Result (Option T) DecodeError → Reading → Reading → Type 0
 ReadsNext took start n (Ok (Some x)) old new = took x old new
 ReadsNext took start n (Ok None) old new = TookCut old n (start + n) new
-ReadsNext took start n (Err e) old new = StaysBehind old new × UnlessMemory e (NoneLeft old.message n old.index (start + n)) × ((e ≡ decode.Memory) ⊎ next_refusal start n old e new)
+ReadsNext took start n (Err e) old new = StaysBehind old new × UnlessMemory e (NoneLeft old.message n old.index (start + n))
+    × ((e ≡ decode.Memory) ⊎ next_refusal start n old e new)
 
 -- the pair is the one of the option that stands next
 pub record TookPair (end : ℕ) (x : Pair) (old new : Reading) : Type 0 where

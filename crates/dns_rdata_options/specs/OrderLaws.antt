@@ -19,7 +19,8 @@ pair_total = then_total (on_total (λ (p : Pair). p.0) (numbered_total edns_code
 
 -- `==` of pairs holds exactly where their order answers Equal
 pub pair_ties : (p q : Pair) → pair_eq p q ≡ is_eq (pair_cmp p q)
-pair_ties p q = both_tied _ _ (code_cmp p.0 q.0) (ordered_options.ghosts.cmp p.1 q.1) (numbered_ties edns_code_number edns_code_variant p.0 q.0) (ordered_laws.matches_eq-law p.1 q.1)
+pair_ties p q = both_tied _ _ (code_cmp p.0 q.0) (ordered_options.ghosts.cmp p.1 q.1) (numbered_ties edns_code_number edns_code_variant p.0 q.0)
+    (ordered_laws.matches_eq-law p.1 q.1)
 
 pub opt_equiv : IsEquivalence opt_eq
 opt_equiv = on_equiv risen (lists_equiv pair_equiv)

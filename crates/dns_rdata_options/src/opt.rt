@@ -18,9 +18,7 @@ mod reading;
 mod subnet;
 
 pub use code::EdnsCode;
-use dns_names_wire::{
-    BinDecoder, BinEncodable, BinEncoder, DecodeError, ProtoError, Restrict,
-};
+use dns_names_wire::{BinDecoder, BinEncodable, BinEncoder, DecodeError, ProtoError, Restrict};
 use dns_rdata_base::RecordDataDecodable;
 pub use net::IpNet;
 pub use option::EdnsOption;
@@ -158,7 +156,8 @@ fn emit_pair(
     option: &EdnsOption,
 ) -> Result<(), ProtoError>
     ensures small { edns_code_number code < 65536 }
-    ensures emits { EmitsOctets (OptionFits (pair_value (code, option.now))) (piece (as_piece option_octets (pair_value (code, option.now)))) result encoder.old encoder.new }
+    ensures emits { EmitsOctets (OptionFits (pair_value (code, option.now))) (piece (as_piece option_octets (pair_value (code, option.now)))) result
+        encoder.old encoder.new }
 {
     let len = option.octets_len();
     if len > 65535 {
@@ -258,7 +257,8 @@ impl Hash for OPT {
 
     ghost hash_input = { λ o. slice ⟦<(EdnsCode, EdnsOption) as Hash>⟧.hash_input (risen o) };
 
-    ghost respects_eq = { (on_Alike risen (items_Alike (and-Alike (on_Alike (λ (t : Pair). t.0) (record { fed = code_fed })) (on_Alike (λ (t : Pair). t.1) (record { fed = option_fed }))))).fed };
+    ghost respects_eq = { (on_Alike risen (items_Alike
+        (and-Alike (on_Alike (λ (t : Pair). t.0) (record { fed = code_fed })) (on_Alike (λ (t : Pair). t.1) (record { fed = option_fed }))))).fed };
 
     /// Feeds the number of the pairs, and the pairs in rising order. Takes no memory.
     fn hash<H: Hasher>(&self, state: &mut H) {

@@ -47,7 +47,8 @@ fn hash_of(value: &OPT) -> u64 {
 #[test]
 fn options_in_order(rt: HostRuntime) -> Result<(), ProtoError> {
     let alloc = rt.alloc();
-    let octets = b"\x00\x0a\x00\x08\x0b\x64\xb4\xdc\xd7\xb0\xcc\x8f\x00\x08\x00\x04\x00\x01\x00\x00\x00\x0b\x00\x00";
+    let octets =
+        b"\x00\x0a\x00\x08\x0b\x64\xb4\xdc\xd7\xb0\xcc\x8f\x00\x08\x00\x04\x00\x01\x00\x00\x00\x0b\x00\x00";
     let opt = whole(alloc, octets)?;
     assert_eq!(rt; opt.as_ref().len(), 3);
     assert!(rt; opt.get(EdnsCode::Cookie).is_some());
@@ -62,7 +63,10 @@ fn cut_records(rt: HostRuntime) -> Result<(), DecodeError> {
     let alloc = rt.alloc();
     assert_eq!(rt; counted(alloc, b"\x00\x0a", 2)?, (0, 2));
     assert_eq!(rt; counted(alloc, b"\x00\x0a\x00\x05\x01\x02", 6)?, (0, 6));
-    assert_eq!(rt; counted(alloc, b"\x00\x0a\x00\x05\x01\x02\x03\x04\x05", 6)?, (0, 6));
+    assert_eq!(rt;
+        counted(alloc, b"\x00\x0a\x00\x05\x01\x02\x03\x04\x05", 6)?,
+        (0, 6)
+    );
     assert_eq!(rt; counted(alloc, b"\x00\x0b\x00\x00\x00\x0a", 6)?, (0, 6));
     assert_eq!(rt; counted(alloc, b"", 0)?, (0, 0));
     Ok(())
@@ -72,15 +76,28 @@ fn cut_records(rt: HostRuntime) -> Result<(), DecodeError> {
 fn refused_records(rt: HostRuntime) {
     let alloc = rt.alloc();
     let lacking = Some(DecodeError::InsufficientBytes);
-    assert_eq!(rt; refused(alloc, b"\x00\x0a\x00\x04\x01\x02", 10), (lacking, 6));
+    assert_eq!(rt;
+        refused(alloc, b"\x00\x0a\x00\x04\x01\x02", 10),
+        (lacking, 6)
+    );
     let long = Some(DecodeError::IncorrectRDataLengthRead { read: 6, len: 8 });
     assert_eq!(rt; refused(alloc, b"\x00\x0a\x00\x08\x01\x02", 6), (long, 4));
     let past = Some(DecodeError::IncorrectRDataLengthRead { read: 4, len: 3 });
     assert_eq!(rt; refused(alloc, b"\x00\x0a\x00\x08", 3), (past, 4));
     let family = Some(DecodeError::UnknownAddressFamily(3));
-    assert_eq!(rt; refused(alloc, b"\x00\x08\x00\x04\x00\x03\x00\x00", 8), (family, 8));
+    assert_eq!(rt;
+        refused(alloc, b"\x00\x08\x00\x04\x00\x03\x00\x00", 8),
+        (family, 8)
+    );
     let prefix = Some(DecodeError::IncorrectRDataLengthRead { read: 4, len: 5 });
-    assert_eq!(rt; refused(alloc, b"\x00\x08\x00\x09\x00\x01\x21\x00\x01\x02\x03\x04\x05", 13), (prefix, 13));
+    assert_eq!(rt;
+        refused(
+            alloc,
+            b"\x00\x08\x00\x09\x00\x01\x21\x00\x01\x02\x03\x04\x05",
+            13
+        ),
+        (prefix, 13)
+    );
 }
 
 #[test]
@@ -113,7 +130,13 @@ fn inserted_and_removed(rt: HostRuntime) -> Result<(), ProtoError> {
     let mut opt = OPT::default(alloc);
     opt.insert(EdnsOption::try_from(alloc, (EdnsCode::Cookie, b"\x05"))?)?;
     opt.insert(EdnsOption::NSID(NSIDPayload::try_from(alloc, b"\xc0\xff\xee")?))?;
-    assert!(rt; is_emitted(alloc, &opt, b"\x00\x0a\x00\x01\x05\x00\x03\x00\x03\xc0\xff\xee")?);
+    assert!(rt;
+        is_emitted(
+            alloc,
+            &opt,
+            b"\x00\x0a\x00\x01\x05\x00\x03\x00\x03\xc0\xff\xee"
+        )?
+    );
     opt.remove(EdnsCode::Cookie);
     assert!(rt; is_emitted(alloc, &opt, b"\x00\x03\x00\x03\xc0\xff\xee")?);
     Ok(())
@@ -168,7 +191,10 @@ fn payload_bound(rt: HostRuntime) -> Result<(), ProtoError> {
     assert!(rt; NSIDPayload::try_from(alloc, octets.as_slice()).is_ok());
     octets.push(7)?;
     let long = NSIDPayload::try_from(alloc, octets.as_slice()).err();
-    let numbers = DecodeError::IncorrectRDataLengthRead { read: 65536, len: 65535 };
+    let numbers = DecodeError::IncorrectRDataLengthRead {
+        read: 65536,
+        len: 65535,
+    };
     assert_eq!(rt; long, Some(numbers));
     assert!(rt; NSIDPayload::new(octets).is_err());
     Ok(())

@@ -1,5 +1,6 @@
 -- Reading a CAA record: flags, tag, value.
-use Rattle.std.proofs.Common.{◌≡◌, ◌⊎◌, inl, inr, ℕ, ◌+◌, ◌%◌, ◌≤◌, ◌<◌, true, false, cond, nat_le, List, [], ◌∷◌, ◌++◌, length, take, drop, refl, sym, ap, ◌∙◌, arith, subst, ◌-◌}
+use Rattle.std.proofs.Common.{◌≡◌, ◌⊎◌, inl, inr, ℕ, ◌+◌, ◌%◌, ◌≤◌, ◌<◌, true, false, cond, nat_le, List, [], ◌∷◌, ◌++◌, length, take}
+use Rattle.std.proofs.Common.{drop, refl, sym, ap, ◌∙◌, arith, subst, ◌-◌}
 use Rattle.std.proofs.lemmas.List.{length-append, take-take, take-append-drop}
 use Rattle.std.proofs.lemmas.Bool.{and_parts}
 use Rattle.std.proofs.Math.Nat.{mod-eq_of_lt}
@@ -25,30 +26,36 @@ pub flags_back : (f : ℕ) → f < 256 → f ≡ f % 128 % 128 + cond (nat_le 12
 flags_back f lt = grind (arith, common_steps, nat_tests)
 
 letters_front : (xs ys : List ℕ) → AreTagOctets (xs ++ ys) → AreTagOctets xs
-letters_front xs ys h = (and_parts (list_all is_ascii_alphanumeric xs) (list_all is_ascii_alphanumeric ys) (sym (list_all-append is_ascii_alphanumeric xs ys) ∙ h)).0
+letters_front xs ys h = (and_parts (list_all is_ascii_alphanumeric xs) (list_all is_ascii_alphanumeric ys)
+    (sym (list_all-append is_ascii_alphanumeric xs ys) ∙ h)).0
 
 letters_bad : (front : List ℕ) (octet : ℕ) → is_ascii_alphanumeric octet ≡ false → AreTagOctets (front ++ octet ∷ []) → ⊥
 letters_bad [] octet bad h = let t = (and_parts (is_ascii_alphanumeric octet) true h).0 in cc
-letters_bad (c ∷ front) octet bad h = letters_bad front octet bad (and_parts (is_ascii_alphanumeric c) (list_all is_ascii_alphanumeric (front ++ octet ∷ [])) h).1
+letters_bad (c ∷ front) octet bad h = letters_bad front octet bad
+    (and_parts (is_ascii_alphanumeric c) (list_all is_ascii_alphanumeric (front ++ octet ∷ [])) h).1
 
 -- octets that begin with others, read at one place
 begins : {m : List ℕ} {p q r : ℕ} (s x : List ℕ) → At m p s q → At m p x r → length x ≤ length s → take (length x) s ≡ x
 begins {m} {p} s x a b h = ap (take (length x)) (sym a.same) ∙ take-take (length x) (length s) (drop p m) h ∙ b.same
 
 -- no tag stands behind its length where an octet is bad
-bad_octet : {m : List ℕ} {p q r : ℕ} (s front : List ℕ) (octet : ℕ) → At m p s q → At m p (front ++ octet ∷ []) r → length front < length s → is_ascii_alphanumeric octet ≡ false → AreTagOctets s → ⊥
+bad_octet : {m : List ℕ} {p q r : ℕ} (s front : List ℕ) (octet : ℕ) → At m p s q → At m p (front ++ octet ∷ []) r → length front < length s
+    → is_ascii_alphanumeric octet ≡ false → AreTagOctets s → ⊥
 bad_octet s front octet a b within bad letters =
     let n : length (front ++ octet ∷ []) ≡ length front + 1 = length-append front (octet ∷ []) in
     let t : take (length (front ++ octet ∷ [])) s ≡ front ++ octet ∷ [] = begins s (front ++ octet ∷ []) a b (omega arith) in
     let whole : take (length (front ++ octet ∷ [])) s ++ drop (length (front ++ octet ∷ [])) s ≡ s = take-append-drop (length (front ++ octet ∷ [])) s in
-    let all : AreTagOctets (take (length (front ++ octet ∷ [])) s ++ drop (length (front ++ octet ∷ [])) s) = ap (list_all is_ascii_alphanumeric) whole ∙ letters in
-    letters_bad front octet bad (ap (list_all is_ascii_alphanumeric) (sym t) ∙ letters_front (take (length (front ++ octet ∷ [])) s) (drop (length (front ++ octet ∷ [])) s) all)
+    let all : AreTagOctets (take (length (front ++ octet ∷ [])) s ++ drop (length (front ++ octet ∷ [])) s) = ap (list_all is_ascii_alphanumeric) whole
+    ∙ letters in
+    letters_bad front octet bad (ap (list_all is_ascii_alphanumeric) (sym t)
+    ∙ letters_front (take (length (front ++ octet ∷ [])) s) (drop (length (front ++ octet ∷ [])) s) all)
 
 octet_at : {m : List ℕ} {p n q : ℕ} → Field m p (Number 1) n q → At m p (n ∷ []) q
 octet_at {m} {p} {n} {q} f = let e : n % 256 ≡ n = mod-eq_of_lt f.is.0 in subst (λ (k : ℕ). At m p (k ∷ []) q) e f.is.1
 
 -- the octets of a string behind its length octet
-string_behind : {d b : Reading} {t : ℕ} {s : List ℕ} {q : ℕ} → TookField d (Number 1) t b → Field d.message d.index Text s q → (length s ≡ t) × At b.message b.index s q
+string_behind : {d b : Reading} {t : ℕ} {s : List ℕ} {q : ℕ} → TookField d (Number 1) t b → Field d.message d.index Text s q
+    → (length s ≡ t) × At b.message b.index s q
 string_behind {d} {b} {t} {s} {q} f g =
     let len : t ≡ length s = At-same_head (octet_at f.field) g.is.1 in
     let place : d.index + 1 ≡ b.index = omega (arith, (octet_at f.field).ends) in
@@ -78,7 +85,8 @@ tag_none start n t d b new e place f (inr (inr (inr r))) vs q p g on c =
     omega (arith, x.0, x.1.ends, x.1.within, r.lacks)
 
 -- no tag and value stand where the tag is refused
-pub tag_refused : (start n t : ℕ) (d b new : Reading) (e : DecodeError) → start + 1 ≡ d.index → TookField d (Number 1) t b → StaysBehind b new → tag_refusal n t b e new
+pub tag_refused : (start n t : ℕ) (d b new : Reading) (e : DecodeError) → start + 1 ≡ d.index → TookField d (Number 1) t b → StaysBehind b new
+    → tag_refusal n t b e new
     → Refused e d (Text ∷ Rest ∷ []) (λ vs q. (q ≡ start + n) × IsTag vs.0) new
 tag_refused start n t d b new e place f behind r = record {
   behind = took_stays f behind;
@@ -89,7 +97,8 @@ tag_refused start n t d b new e place f behind r = record {
 
 -- ---- refusals
 
-pub refused_value : {old a b new : Reading} {e : DecodeError} (n f t : ℕ) (tag : List ℕ) → TookField old (Number 1) f a → TookField a (Number 1) t b → TookField b (Octets t) tag new → IsTag tag × (t + 2 ≤ n)
+pub refused_value : {old a b new : Reading} {e : DecodeError} (n f t : ℕ) (tag : List ℕ) → TookField old (Number 1) f a → TookField a (Number 1) t b
+    → TookField b (Octets t) tag new → IsTag tag × (t + 2 ≤ n)
     → (e ≡ decode.Memory) ⊎ ((e ≡ decode.InsufficientBytes) × LacksOctets new (n - t - 2)) → caa_refusal n old e new
 refused_value {old} {a} {b} {new} {e} n f t tag x y z g why = inr (inr (record {
   flags = f;
@@ -99,19 +108,40 @@ refused_value {old} {a} {b} {new} {e} n f t tag x y z g why = inr (inr (record {
   fits = omega (arith, g.1, z.field.is.0);
   error = lacking why;
 })) where
-  lacking : (e ≡ decode.Memory) ⊎ ((e ≡ decode.InsufficientBytes) × LacksOctets new (n - t - 2)) → (e ≡ decode.Memory) ⊎ ((e ≡ decode.InsufficientBytes) × LacksOctets old n)
+  lacking : (e ≡ decode.Memory) ⊎ ((e ≡ decode.InsufficientBytes) × LacksOctets new (n - t - 2))
+      → (e ≡ decode.Memory) ⊎ ((e ≡ decode.InsufficientBytes) × LacksOctets old n)
   lacking (inl m) = inl m
-  lacking (inr l) = inr (l.0, omega (arith, l.1, g.1, ap length z.message, ap length y.message, ap length x.message, took_number x, took_number y, z.field.is.0, z.field.is.1.ends))
+  lacking (inr l) = inr (
+    l.0,
+    omega (
+      arith,
+      l.1,
+      g.1,
+      ap length z.message,
+      ap length y.message,
+      ap length x.message,
+      took_number x,
+      took_number y,
+      z.field.is.0,
+      z.field.is.1.ends,
+    ),
+  )
 
-caa_fields_taken : {old a b c new : Reading} (n f t : ℕ) (tag value : List ℕ) → f < 256 → TookField old (Number 1) f a → TookField a (Number 1) t b → TookField b (Octets t) tag c → TookField c (Octets (n - t - 2)) value new → IsTag tag × (t + 2 ≤ n)
+caa_fields_taken : {old a b c new : Reading} (n f t : ℕ) (tag value : List ℕ) → f < 256 → TookField old (Number 1) f a → TookField a (Number 1) t b
+    → TookField b (Octets t) tag c → TookField c (Octets (n - t - 2)) value new → IsTag tag × (t + 2 ≤ n)
     → Took old (Number 1 ∷ Text ∷ Rest ∷ []) (f % 128 % 128 + cond (nat_le 128 f) 128 0, (tag, (value, tt))) new × ((new.index ≡ old.index + n) × IsTag tag)
 caa_fields_taken {old} {a} {b} {c} {new} n f t tag value lt x y z w g =
     let first : TookField old (Number 1) (f % 128 % 128 + cond (nat_le 128 f) 128 0) a = subst (λ (k : ℕ). TookField old (Number 1) k a) (flags_back f lt) x in
-    let last : TookField c Rest value new = record { message = w.message; field = record { is = w.field.is.1 } } in
-    (took_then first (took_then (text_taken refl y z) (took_then last (took_last _))), (omega (arith, g.1, took_number x, took_number y, z.field.is.0, z.field.is.1.ends, w.field.is.0, w.field.is.1.ends), g.0))
+    let last : TookField c Rest value new = record { message = w.message; field = record { is = w.field.is.1 } } in (
+      took_then first (took_then (text_taken refl y z) (took_then last (took_last _))),
+      (omega (arith, g.1, took_number x, took_number y, z.field.is.0, z.field.is.1.ends, w.field.is.0, w.field.is.1.ends), g.0),
+    )
 
 -- the fields of a record that was read
-pub caa_taken : {old a b c new : Reading} (n f t : ℕ) (tag value : List ℕ) (flags : ℕ) (owned kept : List ℕ) → f < 256 → flags ≡ f → owned ≡ tag → kept ≡ value → TookField old (Number 1) f a → TookField a (Number 1) t b → TookField b (Octets t) tag c
+pub caa_taken : {old a b c new : Reading} (n f t : ℕ) (tag value : List ℕ) (flags : ℕ) (owned kept : List ℕ) → f < 256 → flags ≡ f → owned ≡ tag
+    → kept ≡ value → TookField old (Number 1) f a → TookField a (Number 1) t b → TookField b (Octets t) tag c
     → TookField c (Octets (n - t - 2)) value new → IsTag tag × (t + 2 ≤ n)
-    → Took old caa_shape (caa_fields (record { issuer_critical = nat_le 128 flags; reserved_flags = flags % 128; tag = owned; value = kept })) new × ((new.index ≡ old.index + n) × IsTag owned)
-caa_taken {old} {a} {b} {c} {new} n f t tag value flags owned kept lt same-flags same-tag same-value x y z w g = rw (same-flags, same-tag, same-value) (caa_fields_taken n f t tag value lt x y z w g)
+    → Took old caa_shape (caa_fields (record { issuer_critical = nat_le 128 flags; reserved_flags = flags % 128; tag = owned; value = kept })) new
+    × ((new.index ≡ old.index + n) × IsTag owned)
+caa_taken {old} {a} {b} {c} {new} n f t tag value flags owned kept lt same-flags same-tag same-value x y z w g =
+    rw (same-flags, same-tag, same-value) (caa_fields_taken n f t tag value lt x y z w g)

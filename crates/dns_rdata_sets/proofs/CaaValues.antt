@@ -1,5 +1,6 @@
 -- CAA by its fields: a record that was read is told by them, and fields that fit make one.
-use Rattle.std.proofs.Common.{◌≡◌, ◌↔◌, ◌⊎◌, inl, inr, ◌<◌, ℕ, ◌+◌, ◌%◌, Bool, true, false, cond, nat_le, nat_lt, length, Result, Ok, Err, refl, sym, ap, ◌∙◌, arith, ltb-true}
+use Rattle.std.proofs.Common.{◌≡◌, ◌↔◌, ◌⊎◌, inl, inr, ◌<◌, ℕ, ◌+◌, ◌%◌, Bool, true, false, cond, nat_le, nat_lt, length, Result, Ok, Err}
+use Rattle.std.proofs.Common.{refl, sym, ap, ◌∙◌, arith, ltb-true}
 use Rattle.std.specs.Prelude.{IfErr}
 use Rattle.std.proofs.lemmas.Grind.{common_steps}
 use Rattle.std.proofs.lemmas.Bool.Decides.{nat_tests}
@@ -79,7 +80,8 @@ not_long : (n : ℕ) → nat_lt 255 n ≡ false → nat_le n 255 ≡ true
 not_long n e = grind (arith, nat_tests)
 
 -- a message refuses a tag of more than 255 octets
-pub long_tag : (x : CAA) (r : Result (Unit {0}) ProtoError) (old new : Writing) → Emits caa_shape (caa_fields x) r old new → IfErr r (λ e. IsMessage e → 255 < length x.tag)
+pub long_tag : (x : CAA) (r : Result (Unit {0}) ProtoError) (old new : Writing) → Emits caa_shape (caa_fields x) r old new
+    → IfErr r (λ e. IsMessage e → 255 < length x.tag)
 long_tag x (Ok u) old new h = tt
 long_tag x (Err (proto.Message t)) old new h = λ m. past (nat_lt 255 (length x.tag)) refl where
   past : (b : Bool) → nat_lt 255 (length x.tag) ≡ b → 255 < length x.tag

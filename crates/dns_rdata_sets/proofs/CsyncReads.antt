@@ -8,14 +8,17 @@ use Rattle.dns_names_wire.proofs.FieldReads.{refused_then, unless_map, took_then
 use Rattle.dns_rdata_sets.specs.RecordTypeSet.{set_shape, bitmap_refusal}
 use Rattle.dns_rdata_sets.specs.CSYNC.{csync_shape, csync_condition, csync_refusal, AreKnownFlags}
 
-pub types_refused : {e : DecodeError} {old b between new : Reading} {serial flags : ℕ} (m n : ℕ) → TookField old (Number 4) serial b → TookField b (Number 2) flags between → m + 6 ≡ n
-    → Refused e between set_shape (λ vs q. (q ≡ between.index + m) × Unit {0}) new → Refused e old csync_shape (λ vs q. (q ≡ old.index + n) × csync_condition vs) new
+pub types_refused : {e : DecodeError} {old b between new : Reading} {serial flags : ℕ} (m n : ℕ) → TookField old (Number 4) serial b
+    → TookField b (Number 2) flags between → m + 6 ≡ n
+    → Refused e between set_shape (λ vs q. (q ≡ between.index + m) × Unit {0}) new
+    → Refused e old csync_shape (λ vs q. (q ≡ old.index + n) × csync_condition vs) new
 types_refused {e} m n f g all r = refused_then f tt (refused_then g tt (record {
   behind = r.behind;
   none = unless_map e _ _ (λ l. record { none = λ vs q s h. l.none vs q s (omega (arith, h.0, all, took_number f, took_number g), tt) }) r.none;
 }))
 
-pub types_refusal : {e : DecodeError} {old b between new : Reading} {serial flags : ℕ} (m n : ℕ) → TookField old (Number 4) serial b → TookField b (Number 2) flags between → m + 6 ≡ n → AreKnownFlags flags
+pub types_refusal : {e : DecodeError} {old b between new : Reading} {serial flags : ℕ} (m n : ℕ) → TookField old (Number 4) serial b
+    → TookField b (Number 2) flags between → m + 6 ≡ n → AreKnownFlags flags
     → bitmap_refusal m between e new → csync_refusal n old e new
 types_refusal {e} {between = between} {new = new} {serial = serial} {flags = flags} m n f g all known r =
     let left : m ≡ n - 6 = omega (arith, all) in

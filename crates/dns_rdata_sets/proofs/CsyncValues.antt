@@ -7,7 +7,14 @@ use Rattle.dns_rdata_sets.specs.CSYNC.{csync_shape, csync_flags, csync_fields, c
 use Rattle.dns_rdata_sets.specs.declared.csync.CSYNC.{CSYNC}
 
 abbrev pub csync_from : Values csync_shape → CSYNC
-csync_from vs = record { soa_serial = vs.0; immediate = vs.1.0 % 2 == 1; soa_minimum = vs.1.0 / 2 % 2 == 1; reserved_flags = vs.1.0 / 4 * 4; type_bit_maps = vs.1.1.0 }
+csync_from vs = record {
+  soa_serial = vs.0;
+  immediate = vs.1.0 % 2 == 1;
+  soa_minimum = vs.1.0 / 2 % 2 == 1;
+  reserved_flags = vs.1.0 / 4 * 4;
+  type_bit_maps =
+      vs.1.1.0;
+}
 
 -- ---- the parts of flags
 
@@ -44,7 +51,8 @@ bit_lt false = omega arith
 flags_same : (r s m n i j : ℕ) → i ≡ j → m ≡ n → r ≡ s → r / 4 * 4 + 2 * m + i ≡ s / 4 * 4 + 2 * n + j
 flags_same r s m n i j x y z = rw (x, y, z) refl
 
-parts_same : (r s m n i j : ℕ) → r % 4 ≡ 0 → s % 4 ≡ 0 → m < 2 → n < 2 → i < 2 → j < 2 → r / 4 * 4 + 2 * m + i ≡ s / 4 * 4 + 2 * n + j → (i ≡ j) × (m ≡ n) × (r ≡ s)
+parts_same : (r s m n i j : ℕ) → r % 4 ≡ 0 → s % 4 ≡ 0 → m < 2 → n < 2 → i < 2 → j < 2 → r / 4 * 4 + 2 * m + i ≡ s / 4 * 4 + 2 * n + j
+    → (i ≡ j) × (m ≡ n) × (r ≡ s)
 parts_same r s m n i j a b c d e f h = (omega (arith, a, b, c, d, e, f, h), omega (arith, a, b, c, d, e, f, h), omega (arith, a, b, c, d, e, f, h))
 
 -- ---- records
@@ -53,7 +61,8 @@ pub csync_from-fields : (x : CSYNC) → IsReadCsync x → x ≡ csync_from (csyn
 csync_from-fields x h =
     ap (λ (b : Bool). record x { immediate = b }) (immediate_back x.reserved_flags x.soa_minimum x.immediate)
     ∙ ap (λ (b : Bool). record x { immediate = csync_flags x % 2 == 1; soa_minimum = b }) (minimum_back x.reserved_flags x.soa_minimum x.immediate)
-    ∙ ap (λ (n : ℕ). record x { immediate = csync_flags x % 2 == 1; soa_minimum = csync_flags x / 2 % 2 == 1; reserved_flags = n }) (reserved_back x.reserved_flags x.soa_minimum x.immediate h.reserved)
+    ∙ ap (λ (n : ℕ). record x { immediate = csync_flags x % 2 == 1; soa_minimum = csync_flags x / 2 % 2 == 1; reserved_flags = n })
+    (reserved_back x.reserved_flags x.soa_minimum x.immediate h.reserved)
 
 pub csync_fields-from : (vs : Values csync_shape) → csync_fields (csync_from vs) ≡ vs
 csync_fields-from vs = ap (λ (n : ℕ). (vs.0, (n, vs.1.1))) (flags_back vs.1.0)
@@ -61,16 +70,21 @@ csync_fields-from vs = ap (λ (n : ℕ). (vs.0, (n, vs.1.1))) (flags_back vs.1.0
 pub csync_from-read : (vs : Values csync_shape) → IsReadCsync (csync_from vs)
 csync_from-read vs = record { reserved = omega arith }
 
-pub csync_keys-same : (a b : CSYNC) → IsReadCsync a → IsReadCsync b → Same csync_key_shape (csync_keys a) (csync_keys b) ↔ Same csync_shape (csync_fields a) (csync_fields b)
+pub csync_keys-same : (a b : CSYNC) → IsReadCsync a → IsReadCsync b
+    → Same csync_key_shape (csync_keys a) (csync_keys b) ↔ Same csync_shape (csync_fields a) (csync_fields b)
 csync_keys-same a b x y = (
   λ s. (
     s.0,
     (
-      record { is = flags_same a.reserved_flags b.reserved_flags (bit a.soa_minimum) (bit b.soa_minimum) (bit a.immediate) (bit b.immediate) s.1.0.is s.1.1.0.is s.1.1.1.0.is },
+      record {
+        is = flags_same a.reserved_flags b.reserved_flags (bit a.soa_minimum) (bit b.soa_minimum) (bit a.immediate) (bit b.immediate) s.1.0.is
+            s.1.1.0.is s.1.1.1.0.is;
+      },
       (s.1.1.1.1.0, tt),
     ),
   ),
   λ s.
-      let k = parts_same a.reserved_flags b.reserved_flags (bit a.soa_minimum) (bit b.soa_minimum) (bit a.immediate) (bit b.immediate) x.reserved y.reserved (bit_lt a.soa_minimum) (bit_lt b.soa_minimum) (bit_lt a.immediate) (bit_lt b.immediate) s.1.0.is in
+      let k = parts_same a.reserved_flags b.reserved_flags (bit a.soa_minimum) (bit b.soa_minimum) (bit a.immediate) (bit b.immediate) x.reserved y.reserved
+      (bit_lt a.soa_minimum) (bit_lt b.soa_minimum) (bit_lt a.immediate) (bit_lt b.immediate) s.1.0.is in
       (s.0, (record { is = k.0 }, (record { is = k.1 }, (record { is = k.2 }, (s.1.1.0, tt))))),
 )

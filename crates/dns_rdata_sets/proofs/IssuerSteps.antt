@@ -1,5 +1,6 @@
 -- The grammar of issuer parameters: at most one list of parameters, read from the front.
-use Rattle.std.proofs.Common.{◌≡◌, ℕ, Bool, true, false, not, ◌⊎◌, inl, inr, List, [], ◌∷◌, ◌++◌, refl, ap, sym, subst, ◌∙◌, arith, append_assoc, ◌==◌, ◌<◌, ◌≤◌, All, length}
+use Rattle.std.proofs.Common.{◌≡◌, ℕ, Bool, true, false, not, ◌⊎◌, inl, inr, List, [], ◌∷◌, ◌++◌, refl, ap, sym, subst, ◌∙◌, arith}
+use Rattle.std.proofs.Common.{append_assoc, ◌==◌, ◌<◌, ◌≤◌, All, length}
 use Rattle.std.proofs.lemmas.Bool.Decides.{nat_tests}
 use Rattle.std.proofs.lemmas.List.{append-nil}
 use Rattle.std.proofs.lemmas.List.Elements.{All-nil, All-cons}
@@ -10,7 +11,8 @@ use Rattle.std.specs.Char.{is_ascii_alphanumeric}
 use Rattle.dns_types.specs.declared.error.ProtoError.{ProtoError}
 use Rattle.dns_types.specs.declared.error.ProtoError.TheVariants as proto
 use Rattle.dns_names_wire.specs.NameValues.{IsTextRefusal}
-use Rattle.dns_rdata_sets.specs.Issuer.{Parameter, is_blank, is_no_semicolon, is_key_octet, is_value_octet, AllOf, StartsWithout, Splits, IsKey, IsParameter, parameter_octets, AreParameters}
+use Rattle.dns_rdata_sets.specs.Issuer.{Parameter, is_blank, is_no_semicolon, is_key_octet, is_value_octet, AllOf, StartsWithout, Splits}
+use Rattle.dns_rdata_sets.specs.Issuer.{IsKey, IsParameter, parameter_octets, AreParameters}
 use Rattle.dns_rdata_sets.proofs.Splitting.{all_parts, all_cons, all_append, all_back, all_weaker, split_once}
 
 -- ---- octets of keys and values
@@ -43,7 +45,8 @@ no_equals_is : (c : ℕ) → is_no_equals c ≡ false → c ≡ 61
 no_equals_is c h = grind (arith, nat_tests)
 
 -- a test that letters, digits and key octets pass
-key_all : (p : ℕ → Bool) → ((c : ℕ) → is_ascii_alphanumeric c ≡ true → p c ≡ true) → ((c : ℕ) → is_key_octet c ≡ true → p c ≡ true) → (key : List ℕ) → IsKey key → AllOf p key
+key_all : (p : ℕ → Bool) → ((c : ℕ) → is_ascii_alphanumeric c ≡ true → p c ≡ true) → ((c : ℕ) → is_key_octet c ≡ true → p c ≡ true) → (key : List ℕ)
+    → IsKey key → AllOf p key
 key_all p f g [] h = absurd h
 key_all p f g (c ∷ []) h = all_cons p c [] (f c h) refl
 key_all p f g (c ∷ d ∷ ds) h = all_cons p c (d ∷ ds) (f c h.0) (all_cons p d ds (f d h.1) (all_weaker is_key_octet p g ds h.2))
@@ -72,12 +75,15 @@ no_semicolon x h =
     (all_cons is_no_semicolon 61 x.value refl (all_weaker is_value_octet is_no_semicolon value_octet_no_semicolon x.value h.value))
 
 -- it is cut at its first equals sign
-pub parameter_cut : (octets key rest : List ℕ) (x : Parameter) → Splits is_no_equals octets key rest → octets ≡ parameter_octets x → IsParameter x → (key ≡ x.key) × (rest ≡ 61 ∷ x.value)
-parameter_cut octets key rest x s e h = split_once is_no_equals key rest x.key (61 ∷ x.value) (sym s.whole ∙ e) s.passes s.stops (key_all is_no_equals alphanumeric_no_equals key_octet_no_equals x.key h.key) refl
+pub parameter_cut : (octets key rest : List ℕ) (x : Parameter) → Splits is_no_equals octets key rest → octets ≡ parameter_octets x → IsParameter x
+    → (key ≡ x.key) × (rest ≡ 61 ∷ x.value)
+parameter_cut octets key rest x s e h = split_once is_no_equals key rest x.key (61 ∷ x.value) (sym s.whole ∙ e) s.passes s.stops
+    (key_all is_no_equals alphanumeric_no_equals key_octet_no_equals x.key h.key) refl
 
 parameter_same : (x y : Parameter) → IsParameter x → IsParameter y → parameter_octets x ≡ parameter_octets y → x ≡ y
 parameter_same x y a b e =
-    let none : (z : Parameter) → IsParameter z → AllOf is_no_equals z.key = λ z h. key_all is_no_equals alphanumeric_no_equals key_octet_no_equals z.key h.key in
+    let none : (z : Parameter) → IsParameter z
+    → AllOf is_no_equals z.key = λ z h. key_all is_no_equals alphanumeric_no_equals key_octet_no_equals z.key h.key in
     let p = split_once is_no_equals x.key (61 ∷ x.value) y.key (61 ∷ y.value) e (none x a) refl (none y b) refl in
     let v : x.value ≡ y.value = tail p.1 in
     ap (λ (k : List ℕ). record x { key = k }) p.0 ∙ ap (λ (w : List ℕ). record { key = y.key; value = w }) v where
@@ -89,9 +95,18 @@ parameter_same x y a b e =
 -- blanks in front change nothing
 pub blanks_before : (front rest : List ℕ) (xs : List Parameter) → AllOf is_blank front → AreParameters rest xs → AreParameters (front ++ rest) xs
 blanks_before front rest [] b h = all_append is_blank front rest b h
-blanks_before front rest (x ∷ xs) b h = (front ++ h.0, h.1, ap (λ (l : List ℕ). front ++ l) h.2 ∙ sym (append_assoc front h.0 (parameter_octets x ++ h.1)), all_append is_blank front h.0 b h.3, h.4, h.5)
+blanks_before front rest (x ∷ xs) b h = (
+  front ++ h.0,
+  h.1,
+  ap (λ (l : List ℕ). front ++ l) h.2
+      ∙ sym (append_assoc front h.0 (parameter_octets x ++ h.1)),
+  all_append is_blank front h.0 b h.3,
+  h.4,
+  h.5,
+)
 
-pub blanks_behind : (front rest : List ℕ) (xs : List Parameter) → AllOf is_blank front → StartsWithout is_blank rest → AreParameters (front ++ rest) xs → AreParameters rest xs
+pub blanks_behind : (front rest : List ℕ) (xs : List Parameter) → AllOf is_blank front → StartsWithout is_blank rest → AreParameters (front ++ rest) xs
+    → AreParameters rest xs
 blanks_behind front rest [] b s h = all_back is_blank front rest h
 blanks_behind front rest (x ∷ xs) b s h =
     let cut = split_once is_blank front rest h.0 (parameter_octets x ++ h.1) h.2 b s h.3 (starts x h.1 h.4.key) in
@@ -133,20 +148,23 @@ follow_stops behind xs (inl h) = rw h.0 tt
 follow_stops behind xs (inr h) = rw h.1 refl
 
 -- the first of parameters that begin with no blank
-pub first_parameter : (c : ℕ) (rest front behind : List ℕ) (ys : List Parameter) → StartsWithout is_blank (c ∷ rest) → Splits is_no_semicolon (c ∷ rest) front behind → AreParameters (c ∷ rest) ys
+pub first_parameter : (c : ℕ) (rest front behind : List ℕ) (ys : List Parameter) → StartsWithout is_blank (c ∷ rest)
+    → Splits is_no_semicolon (c ∷ rest) front behind → AreParameters (c ∷ rest) ys
     → (y : Parameter) × (xs : List Parameter) × (ys ≡ y ∷ xs) × (front ≡ parameter_octets y) × IsParameter y × AreParameters behind xs
 first_parameter c rest front behind [] s t h =
     let k = (all_parts is_blank c rest h).0 in
     cc
 first_parameter c rest front behind (y ∷ xs) s t ([], after, e, blanks, is, more) =
-    let p = split_once is_no_semicolon front behind (parameter_octets y) after (sym t.whole ∙ e) t.passes t.stops (no_semicolon y is) (follow_stops after xs more) in
+    let p = split_once is_no_semicolon front behind (parameter_octets y) after (sym t.whole ∙ e) t.passes t.stops (no_semicolon y is)
+    (follow_stops after xs more) in
     (y, xs, refl, p.0, is, subst (λ (l : List ℕ). AreParameters l xs) (sym p.1) (follow_alone after xs more))
 first_parameter c rest front behind (y ∷ xs) s t (d ∷ b, after, e, blanks, is, more) =
     let k : is_blank d ≡ true = (all_parts is_blank d b blanks).0 in
     let l : is_blank d ≡ false = subst (λ (l : List ℕ). StartsWithout is_blank l) e s in
     cc
 
-pub first_then : (octets front behind : List ℕ) (x : Parameter) (xs : List Parameter) → Splits is_no_semicolon octets front behind → front ≡ parameter_octets x → IsParameter x → AreParameters behind xs → AreParameters octets (x ∷ xs)
+pub first_then : (octets front behind : List ℕ) (x : Parameter) (xs : List Parameter) → Splits is_no_semicolon octets front behind
+    → front ≡ parameter_octets x → IsParameter x → AreParameters behind xs → AreParameters octets (x ∷ xs)
 first_then octets front behind x xs t e is h = ([], behind, t.whole ∙ ap (λ (l : List ℕ). l ++ behind) e, refl, is, alone_follow behind xs t.stops h)
 
 -- ---- reading them one by one
@@ -164,13 +182,15 @@ pending_first octets front rest s = record {
   complete = λ ys h. (ys, refl, blanks_behind front rest ys s.passes s.stops (subst (λ (l : List ℕ). AreParameters l ys) s.whole h));
 }
 
-pub pending_then : (octets : List ℕ) (read : List Parameter) (c : ℕ) (others front behind blanks rest : List ℕ) (x : Parameter) → Pending octets read (c ∷ others) → Splits is_no_semicolon (c ∷ others) front behind → front ≡ parameter_octets x → IsParameter x
+pub pending_then : (octets : List ℕ) (read : List Parameter) (c : ℕ) (others front behind blanks rest : List ℕ) (x : Parameter)
+    → Pending octets read (c ∷ others) → Splits is_no_semicolon (c ∷ others) front behind → front ≡ parameter_octets x → IsParameter x
     → Splits is_blank behind blanks rest → Pending octets (read ++ x ∷ []) rest
 pending_then octets read c others front behind blanks rest x p t e is s = record {
   starts = s.stops;
   sound = λ xs h.
       let b : AreParameters behind xs = subst (λ (l : List ℕ). AreParameters l xs) (sym s.whole) (blanks_before blanks rest xs s.passes h) in
-      subst (λ (l : List Parameter). AreParameters octets l) (sym (append_assoc read (x ∷ []) xs)) (p.sound (x ∷ xs) (first_then (c ∷ others) front behind x xs t e is b));
+      subst (λ (l : List Parameter). AreParameters octets l) (sym (append_assoc read (x ∷ []) xs))
+      (p.sound (x ∷ xs) (first_then (c ∷ others) front behind x xs t e is b));
   complete = λ ys h.
       let k = p.complete ys h in
       let f = first_parameter c others front behind k.0 p.starts t k.2 in
@@ -185,19 +205,23 @@ pub pending_last : (octets : List ℕ) (read : List Parameter) (rest : List ℕ)
 pending_last octets read [] p e = subst (λ (l : List Parameter). AreParameters octets l) (append-nil read) (p.sound [] refl)
 pending_last octets read (c ∷ rest) p e = absurd (omega (arith, e))
 
-pub pending_refused : (octets : List ℕ) (read : List Parameter) (c : ℕ) (others front behind : List ℕ) → Pending octets read (c ∷ others) → Splits is_no_semicolon (c ∷ others) front behind → ((x : Parameter) → front ≡ parameter_octets x → IsParameter x → ⊥)
+pub pending_refused : (octets : List ℕ) (read : List Parameter) (c : ℕ) (others front behind : List ℕ) → Pending octets read (c ∷ others)
+    → Splits is_no_semicolon (c ∷ others) front behind → ((x : Parameter) → front ≡ parameter_octets x → IsParameter x → ⊥)
     → (ys : List Parameter) → AreParameters octets ys → ⊥
 pending_refused octets read c others front behind p t none ys h =
     let k = p.complete ys h in
     let f = first_parameter c others front behind k.0 p.starts t k.2 in
     none f.0 f.3 f.4
 
-pub pending_step : (octets : List ℕ) (read more : List Parameter) (now front behind blanks rest : List ℕ) (x : Parameter) → Pending octets read now → 0 < length now → Splits is_no_semicolon now front behind → (front ≡ parameter_octets x) × IsParameter x
+pub pending_step : (octets : List ℕ) (read more : List Parameter) (now front behind blanks rest : List ℕ) (x : Parameter) → Pending octets read now
+    → 0 < length now → Splits is_no_semicolon now front behind → (front ≡ parameter_octets x) × IsParameter x
     → Splits is_blank behind blanks rest → more ≡ read ++ x ∷ [] → Pending octets more rest
 pending_step octets read more [] front behind blanks rest x p some t is s e = absurd (omega (arith, some))
-pending_step octets read more (c ∷ others) front behind blanks rest x p some t is s e = rw e (pending_then octets read c others front behind blanks rest x p t is.0 is.1 s)
+pending_step octets read more (c ∷ others) front behind blanks rest x p some t is s e =
+    rw e (pending_then octets read c others front behind blanks rest x p t is.0 is.1 s)
 
-pub pending_stop : (octets : List ℕ) (read : List Parameter) (now front behind : List ℕ) → Pending octets read now → 0 < length now → Splits is_no_semicolon now front behind → ((x : Parameter) → front ≡ parameter_octets x → IsParameter x → ⊥)
+pub pending_stop : (octets : List ℕ) (read : List Parameter) (now front behind : List ℕ) → Pending octets read now → 0 < length now
+    → Splits is_no_semicolon now front behind → ((x : Parameter) → front ≡ parameter_octets x → IsParameter x → ⊥)
     → (ys : List Parameter) → AreParameters octets ys → ⊥
 pending_stop octets read [] front behind p some t none ys h = omega (arith, some)
 pending_stop octets read (c ∷ others) front behind p some t none ys h = pending_refused octets read c others front behind p t none ys h
@@ -213,8 +237,10 @@ refusal_map (proto.Decode d) P Q f h = h
 
 no_first : (octets : List ℕ) (y : Parameter) (ys : List Parameter) → AllOf is_blank octets → AreParameters octets (y ∷ ys) → ⊥
 no_first octets y ys b h =
-    let back : AllOf is_blank (parameter_octets y ++ h.1) = all_back is_blank h.0 (parameter_octets y ++ h.1) (subst (λ (l : List ℕ). AllOf is_blank l) h.2 b) in
-    let cut = split_once is_blank (parameter_octets y ++ h.1) [] [] (parameter_octets y ++ h.1) (append-nil (parameter_octets y ++ h.1)) back tt refl (starts y h.1 h.4.key) in
+    let back : AllOf is_blank (parameter_octets y ++ h.1) =
+    all_back is_blank h.0 (parameter_octets y ++ h.1) (subst (λ (l : List ℕ). AllOf is_blank l) h.2 b) in
+    let cut = split_once is_blank (parameter_octets y ++ h.1) [] [] (parameter_octets y ++ h.1) (append-nil (parameter_octets y ++ h.1)) back tt refl
+    (starts y h.1 h.4.key) in
     some_octets y h.1 cut.0
 
 pub one_list : (octets : List ℕ) (xs ys : List Parameter) → AreParameters octets xs → AreParameters octets ys → xs ≡ ys
@@ -222,9 +248,13 @@ one_list octets [] [] h k = refl
 one_list octets [] (y ∷ ys) h k = absurd (no_first octets y ys h k)
 one_list octets (x ∷ xs) [] h k = absurd (no_first octets x xs k h)
 one_list octets (x ∷ xs) (y ∷ ys) h k =
-    let cut = split_once is_blank h.0 (parameter_octets x ++ h.1) k.0 (parameter_octets y ++ k.1) (sym h.2 ∙ k.2) h.3 (starts x h.1 h.4.key) k.3 (starts y k.1 k.4.key) in
-    let p = split_once is_no_semicolon (parameter_octets x) h.1 (parameter_octets y) k.1 cut.1 (no_semicolon x h.4) (follow_stops h.1 xs h.5) (no_semicolon y k.4) (follow_stops k.1 ys k.5) in
-    ap (λ (z : Parameter). z ∷ xs) (parameter_same x y h.4 k.4 p.0) ∙ ap (λ (l : List Parameter). y ∷ l) (one_list k.1 xs ys (subst (λ (l : List ℕ). AreParameters l xs) p.1 (follow_alone h.1 xs h.5)) (follow_alone k.1 ys k.5))
+    let cut = split_once is_blank h.0 (parameter_octets x ++ h.1) k.0 (parameter_octets y ++ k.1) (sym h.2 ∙ k.2) h.3 (starts x h.1 h.4.key) k.3
+    (starts y k.1 k.4.key) in
+    let p = split_once is_no_semicolon (parameter_octets x) h.1 (parameter_octets y) k.1 cut.1 (no_semicolon x h.4) (follow_stops h.1 xs h.5)
+    (no_semicolon y k.4) (follow_stops k.1 ys k.5) in
+    ap (λ (z : Parameter). z ∷ xs) (parameter_same x y h.4 k.4 p.0)
+    ∙ ap (λ (l : List Parameter). y ∷ l) (one_list k.1 xs ys (subst (λ (l : List ℕ). AreParameters l xs) p.1 (follow_alone h.1 xs h.5))
+    (follow_alone k.1 ys k.5))
 
 -- ---- texts
 
@@ -244,7 +274,8 @@ each_ascii p f (c ∷ octets) h = let t = all_parts p c octets h in All-cons (λ
 key_ascii : (key : List ℕ) → IsKey key → All (λ b. b < 128) key
 key_ascii [] h = absurd h
 key_ascii (c ∷ []) h = All-cons (λ b. b < 128) c [] (alphanumeric_ascii c h) (All-nil (λ b. b < 128))
-key_ascii (c ∷ d ∷ ds) h = All-cons (λ b. b < 128) c (d ∷ ds) (alphanumeric_ascii c h.0) (All-cons (λ b. b < 128) d ds (alphanumeric_ascii d h.1) (each_ascii is_key_octet key_octet_ascii ds h.2))
+key_ascii (c ∷ d ∷ ds) h = All-cons (λ b. b < 128) c (d ∷ ds) (alphanumeric_ascii c h.0)
+    (All-cons (λ b. b < 128) d ds (alphanumeric_ascii d h.1) (each_ascii is_key_octet key_octet_ascii ds h.2))
 
 pub key_utf8 : (key : List ℕ) → IsKey key → IsUtf8 key
 key_utf8 key h = IsUtf8-from_ascii key (IsAscii-from_all key (key_ascii key h))
@@ -253,7 +284,8 @@ pub value_utf8 : (value : List ℕ) → AllOf is_value_octet value → IsUtf8 va
 value_utf8 value h = IsUtf8-from_ascii value (IsAscii-from_all value (each_ascii is_value_octet value_octet_ascii value h))
 
 -- a key, an equals sign and a value that were cut
-pub parameter_read : (octets key rest : List ℕ) (first : ℕ) (value : List ℕ) {x : Parameter} → Splits is_no_equals octets key rest → rest ≡ first ∷ value → IsKey key → AllOf is_value_octet value → x.key ≡ key → x.value ≡ value → (octets ≡ parameter_octets x) × IsParameter x
+pub parameter_read : (octets key rest : List ℕ) (first : ℕ) (value : List ℕ) {x : Parameter} → Splits is_no_equals octets key rest → rest ≡ first ∷ value
+    → IsKey key → AllOf is_value_octet value → x.key ≡ key → x.value ≡ value → (octets ≡ parameter_octets x) × IsParameter x
 parameter_read octets key rest first value {x} s e is-key is-value a b =
     let stop : is_no_equals first ≡ false = subst (λ (l : List ℕ). StartsWithout is_no_equals l) e s.stops in
     let sign : first ≡ 61 = no_equals_is first stop in

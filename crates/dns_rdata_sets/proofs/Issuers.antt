@@ -1,5 +1,6 @@
 -- Values of issuer properties: read, and written.
-use Rattle.std.proofs.Common.{◌≡◌, ◌≢◌, ℕ, ◌+◌, ◌<◌, Bool, true, false, cond, All, inl, inr, List, [], ◌∷◌, ◌++◌, flat_map, Option, Some, None, Result, Ok, Err, refl, ap, sym, subst, arith}
+use Rattle.std.proofs.Common.{◌≡◌, ◌≢◌, ℕ, ◌+◌, ◌<◌, Bool, true, false, cond, All, inl, inr, List, [], ◌∷◌, ◌++◌, flat_map, Option, Some}
+use Rattle.std.proofs.Common.{None, Result, Ok, Err, refl, ap, sym, subst, arith}
 use Rattle.std.proofs.lemmas.List.Elements.{All-nil, All-cons, All-head, All-tail, All-append}
 use Rattle.std.proofs.lemmas.Str.{IsUtf8-nil, IsUtf8-from_ascii}
 use Rattle.std.proofs.lemmas.Str.Ascii.{IsAscii-from_all}
@@ -15,11 +16,14 @@ use Rattle.dns_labels.specs.Text.OctetText.{plain, decimal, quoted}
 use Rattle.dns_labels.proofs.TextSteps.{printed_text}
 use Rattle.dns_labels.proofs.NameTexts.{one_name, name_reads}
 use Rattle.dns_names_wire.specs.NameValues.{IsTextRefusal}
-use Rattle.dns_rdata_sets.specs.Issuer.{Parameter, is_no_semicolon, IsParameter, IsNamed, IsWritable, StartsWithout, parameter_octets, Splits, AreParameters, IsIssuerName, name_refusal, IsIssuer, issuer_refusal, parameters_text, issuer_value}
+use Rattle.dns_rdata_sets.specs.Issuer.{Parameter, is_no_semicolon, IsParameter, IsNamed, IsWritable, StartsWithout, parameter_octets}
+use Rattle.dns_rdata_sets.specs.Issuer.{Splits, AreParameters, IsIssuerName, name_refusal, IsIssuer, issuer_refusal, parameters_text}
+use Rattle.dns_rdata_sets.specs.Issuer.{issuer_value}
 use Rattle.dns_rdata_sets.proofs.Splitting.{same_split}
 use Rattle.dns_rdata_sets.proofs.IssuerSteps.{Follow, follow_alone, alone_follow, one_list}
 
-pub issuer_read : (octets front rest : List ℕ) (name : Option DomainName) (xs : List Parameter) → Splits is_no_semicolon octets front rest → IsIssuerName front name → AreParameters rest xs → IsIssuer octets name xs
+pub issuer_read : (octets front rest : List ℕ) (name : Option DomainName) (xs : List Parameter) → Splits is_no_semicolon octets front rest
+    → IsIssuerName front name → AreParameters rest xs → IsIssuer octets name xs
 issuer_read octets front rest name xs s n h = record { front = front; rest = rest; splits = s; is_name = n; parameters = alone_follow rest xs s.stops h }
 
 name_utf8 : (front : List ℕ) (name : Option DomainName) → IsIssuerName front name → IsUtf8 front
@@ -36,21 +40,25 @@ name_stop octets front rest proto.Memory s h = tt
 name_stop octets front rest proto.MaxBufferSizeExceeded s h = h
 name_stop octets front rest (proto.Decode d) s h = (
   h.0,
-  λ name xs i. h.1 (subst (λ (l : List ℕ). IsUtf8 l) (same_split is_no_semicolon octets i.front i.rest front rest i.splits s).0 (name_utf8 i.front name i.is_name)),
+  λ name xs i. h.1 (subst (λ (l : List ℕ). IsUtf8 l) (same_split is_no_semicolon octets i.front i.rest front rest i.splits s).0
+      (name_utf8 i.front name i.is_name)),
   λ f r t u. h.1 (subst (λ (l : List ℕ). IsUtf8 l) (same_split is_no_semicolon octets f r front rest t s).0 u),
 )
 name_stop octets front rest (proto.Message t) s h = (
-  λ name xs i. no_text front name h.1 h.2 (subst (λ (l : List ℕ). IsIssuerName l name) (same_split is_no_semicolon octets i.front i.rest front rest i.splits s).0 i.is_name),
+  λ name xs i. no_text front name h.1 h.2 (subst (λ (l : List ℕ). IsIssuerName l name)
+      (same_split is_no_semicolon octets i.front i.rest front rest i.splits s).0 i.is_name),
   λ f r t. subst (λ (l : List ℕ). IsUtf8 l) (same_split is_no_semicolon octets front rest f r s t).0 h.0,
 )
 
 -- the parameters are refused
-pub parameters_stop : (octets front rest : List ℕ) (name : Option DomainName) (e : ProtoError) → Splits is_no_semicolon octets front rest → IsIssuerName front name → IsTextRefusal e ((xs : List Parameter) → AreParameters rest xs → ⊥) → issuer_refusal octets e
+pub parameters_stop : (octets front rest : List ℕ) (name : Option DomainName) (e : ProtoError) → Splits is_no_semicolon octets front rest
+    → IsIssuerName front name → IsTextRefusal e ((xs : List Parameter) → AreParameters rest xs → ⊥) → issuer_refusal octets e
 parameters_stop octets front rest name proto.Memory s n h = tt
 parameters_stop octets front rest name proto.MaxBufferSizeExceeded s n h = h
 parameters_stop octets front rest name (proto.Decode d) s n h = absurd h
 parameters_stop octets front rest name (proto.Message t) s n h = (
-  λ other xs i. h xs (subst (λ (l : List ℕ). AreParameters l xs) (same_split is_no_semicolon octets i.front i.rest front rest i.splits s).1 (follow_alone i.rest xs i.parameters)),
+  λ other xs i. h xs (subst (λ (l : List ℕ). AreParameters l xs) (same_split is_no_semicolon octets i.front i.rest front rest i.splits s).1
+      (follow_alone i.rest xs i.parameters)),
   λ f r t. subst (λ (l : List ℕ). IsUtf8 l) (same_split is_no_semicolon octets front rest f r s t).0 (name_utf8 front name n),
 )
 
@@ -74,40 +82,60 @@ one_issuer octets a b xs ys h k =
 octet_ascii : {n : ℕ} {text : List ℕ} → OctetText n text → All (λ b. b < 128) text
 octet_ascii {n} (plain g a b) = All-cons (λ b. b < 128) n [] (omega (arith, g.1)) (All-nil (λ b. b < 128))
 octet_ascii (decimal h t o a b c d e) =
-    All-cons (λ b. b < 128) 92 ((48 + h) ∷ (48 + t) ∷ (48 + o) ∷ []) (omega arith) (All-cons (λ b. b < 128) (48 + h) ((48 + t) ∷ (48 + o) ∷ []) (omega (arith, a)) (All-cons (λ b. b < 128) (48 + t) ((48 + o) ∷ []) (omega (arith, b)) (All-cons (λ b. b < 128) (48 + o) [] (omega (arith, c)) (All-nil (λ b. b < 128)))))
+    All-cons (λ b. b < 128) 92 ((48 + h) ∷ (48 + t) ∷ (48 + o) ∷ []) (omega arith)
+    (All-cons (λ b. b < 128) (48 + h) ((48 + t) ∷ (48 + o) ∷ []) (omega (arith, a))
+    (All-cons (λ b. b < 128) (48 + t) ((48 + o) ∷ []) (omega (arith, b))
+    (All-cons (λ b. b < 128) (48 + o) [] (omega (arith, c)) (All-nil (λ b. b < 128)))))
 octet_ascii {n} (quoted g a) = All-cons (λ b. b < 128) 92 (n ∷ []) (omega arith) (All-cons (λ b. b < 128) n [] (omega (arith, g.1)) (All-nil (λ b. b < 128)))
 
 label_ascii : (label : List ℕ) → AreOctets label → All (λ b. b < 128) (label_text label)
 label_ascii [] h = All-nil (λ b. b < 128)
-label_ascii (c ∷ label) h = All-append (λ b. b < 128) (printed c) (label_text label) (octet_ascii (printed_text c (All-head (λ b. b < 256) c label h))) (label_ascii label (All-tail (λ b. b < 256) c label h))
+label_ascii (c ∷ label) h = All-append (λ b. b < 128) (printed c) (label_text label) (octet_ascii (printed_text c (All-head (λ b. b < 256) c label h)))
+    (label_ascii label (All-tail (λ b. b < 256) c label h))
 
 labels_ascii : (labels : List (List ℕ)) → All AreOctets labels → All (λ b. b < 128) (flat_map (λ other. 46 ∷ label_text other) labels)
 labels_ascii [] h = All-nil (λ b. b < 128)
 labels_ascii (label ∷ labels) h =
     All-cons (λ b. b < 128) 46 (label_text label ++ flat_map (λ other. 46 ∷ label_text other) labels) (omega arith)
-    (All-append (λ b. b < 128) (label_text label) (flat_map (λ other. 46 ∷ label_text other) labels) (label_ascii label (All-head AreOctets label labels h)) (labels_ascii labels (All-tail AreOctets label labels h)))
+    (All-append (λ b. b < 128) (label_text label) (flat_map (λ other. 46 ∷ label_text other) labels) (label_ascii label (All-head AreOctets label labels h))
+    (labels_ascii labels (All-tail AreOctets label labels h)))
 
 joined_ascii : (labels : List (List ℕ)) → All AreOctets labels → All (λ b. b < 128) (joined_text labels)
 joined_ascii [] h = All-nil (λ b. b < 128)
-joined_ascii (label ∷ labels) h = All-append (λ b. b < 128) (label_text label) (flat_map (λ other. 46 ∷ label_text other) labels) (label_ascii label (All-head AreOctets label labels h)) (labels_ascii labels (All-tail AreOctets label labels h))
+joined_ascii (label ∷ labels) h = All-append (λ b. b < 128) (label_text label) (flat_map (λ other. 46 ∷ label_text other) labels)
+    (label_ascii label (All-head AreOctets label labels h)) (labels_ascii labels (All-tail AreOctets label labels h))
 
 mark_ascii : (mark : Bool) → All (λ b. b < 128) (cond mark (46 ∷ []) [])
 mark_ascii true = All-cons (λ b. b < 128) 46 [] (omega arith) (All-nil (λ b. b < 128))
 mark_ascii false = All-nil (λ b. b < 128)
 
 name_text_utf8 : (name : DomainName) → HasOctets name → IsUtf8 (name_text name)
-name_text_utf8 name h = IsUtf8-from_ascii (name_text name) (IsAscii-from_all (name_text name) (All-append (λ b. b < 128) (joined_text name.labels) (cond name.fully_qualified (46 ∷ []) []) (joined_ascii name.labels h) (mark_ascii name.fully_qualified)))
+name_text_utf8 name h = IsUtf8-from_ascii (name_text name)
+    (IsAscii-from_all (name_text name) (All-append (λ b. b < 128) (joined_text name.labels) (cond name.fully_qualified (46 ∷ []) [])
+    (joined_ascii name.labels h) (mark_ascii name.fully_qualified)))
 
 written_parameters : (xs : List Parameter) → AllByRecursion IsParameter xs → Follow (parameters_text xs) xs
 written_parameters [] h = inl (refl, refl)
-written_parameters (x ∷ xs) h = inr (32 ∷ (parameter_octets x ++ parameters_text xs), refl, (32 ∷ [], parameters_text xs, refl, refl, h.0, written_parameters xs h.1))
+written_parameters (x ∷ xs) h = inr (
+  32 ∷ (parameter_octets x ++ parameters_text xs),
+  refl,
+  (32 ∷ [], parameters_text xs, refl, refl, h.0, written_parameters xs h.1),
+)
 
 written_stops : (xs : List Parameter) → StartsWithout is_no_semicolon (parameters_text xs)
 written_stops [] = tt
 written_stops (x ∷ xs) = refl
 
-pub issuer_written : (name : Option DomainName) (xs : List Parameter) → IsNamed name → IsWritable name → AllByRecursion IsParameter xs → IsIssuer (issuer_value name xs) name xs
-issuer_written None [] n w h = record { front = []; rest = 59 ∷ []; splits = record { whole = refl; passes = refl; stops = refl }; is_name = refl; parameters = inr ([], refl, refl) }
+pub issuer_written : (name : Option DomainName) (xs : List Parameter) → IsNamed name → IsWritable name → AllByRecursion IsParameter xs
+    → IsIssuer (issuer_value name xs) name xs
+issuer_written None [] n w h = record {
+  front = [];
+  rest = 59 ∷ [];
+  splits = record { whole = refl; passes = refl; stops = refl };
+  is_name =
+      refl;
+  parameters = inr ([], refl, refl);
+}
 issuer_written None (x ∷ xs) n w h = record {
   front = [];
   rest = parameters_text (x ∷ xs);
@@ -124,8 +152,10 @@ issuer_written (Some name) xs n w h = record {
 }
 
 -- a value that is read, or refused, is read as the name and the parameters that it has
-pub issuer_again : {T : Type 0} (octets : List ℕ) (view : T → Option DomainName × List Parameter) (r : Result T ProtoError) → IfOk r (λ x. IsIssuer octets (view x).0 (view x).1) → IfErr r (λ e. issuer_refusal octets e)
-    → (name : Option DomainName) (xs : List Parameter) → IsIssuer octets name xs → MatchResult r (λ x. ((view x).0 ≡ name) × ((view x).1 ≡ xs)) (λ e. e ≡ proto.Memory)
+pub issuer_again : {T : Type 0} (octets : List ℕ) (view : T → Option DomainName × List Parameter) (r : Result T ProtoError)
+    → IfOk r (λ x. IsIssuer octets (view x).0 (view x).1) → IfErr r (λ e. issuer_refusal octets e)
+    → (name : Option DomainName) (xs : List Parameter) → IsIssuer octets name xs
+    → MatchResult r (λ x. ((view x).0 ≡ name) × ((view x).1 ≡ xs)) (λ e. e ≡ proto.Memory)
 issuer_again octets view (Ok x) h k name xs i = one_issuer octets (view x).0 name (view x).1 xs h i
 issuer_again octets view (Err proto.Memory) h k name xs i = refl
 issuer_again octets view (Err proto.MaxBufferSizeExceeded) h k name xs i = absurd k

@@ -1,5 +1,7 @@
 -- Blocks written one behind the other are the shortest bitmap.
-use Rattle.std.proofs.Common.{◌≡◌, ◌≢◌, ℕ, zero, suc, ◌+◌, ◌-◌, ◌*◌, ◌/◌, ◌%◌, ◌<◌, ◌≤◌, ◌==◌, ◌||◌, Bool, true, false, cond, List, [], ◌∷◌, ◌++◌, length, get_or, take, drop, map, take-append-drop, append_assoc, length-append, length-drop, refl, sym, ap, ◌∙◌, subst, arith}
+use Rattle.std.proofs.Common.{◌≡◌, ◌≢◌, ℕ, zero, suc, ◌+◌, ◌-◌, ◌*◌, ◌/◌, ◌%◌, ◌<◌, ◌≤◌, ◌==◌, ◌||◌, Bool, true, false, cond, List, []}
+use Rattle.std.proofs.Common.{◌∷◌, ◌++◌, length, get_or, take, drop, map, take-append-drop, append_assoc, length-append, length-drop, refl}
+use Rattle.std.proofs.Common.{sym, ap, ◌∙◌, subst, arith}
 use Rattle.std.specs.List.{AllByRecursion, range_with_len, flat_map}
 use Rattle.std.specs.Int.{bytes_high_first}
 use Rattle.std.proofs.lemmas.List.{append-nil, get_or-drop, get_or-take}
@@ -7,7 +9,8 @@ use Rattle.std.proofs.lemmas.Bool.Decides.{nat_tests}
 use Rattle.std.proofs.lemmas.List.Folds.{list_any-append}
 use Rattle.dns_types.specs.declared.error.ProtoError.{ProtoError}
 use Rattle.dns_fields.specs.declared.RDataEncoding.{RDataEncoding}
-use Rattle.dns_fields.specs.Bitmaps.{Block, block, contains, AllAbove, Rises, IsTypeSet, packed, mark, trimmed, types_octet, window, with_block, windows, minimal}
+use Rattle.dns_fields.specs.Bitmaps.{Block, block, contains, AllAbove, Rises, IsTypeSet, packed, mark, trimmed, types_octet, window}
+use Rattle.dns_fields.specs.Bitmaps.{with_block, windows, minimal}
 use Rattle.dns_fields.specs.Fields.{Bitmap, canonical, field_octets}
 use Rattle.dns_fields.proofs.Bitmaps.{none_great}
 use Rattle.dns_names_wire.specs.State.{Writing}
@@ -23,7 +26,8 @@ packed_same f g (suc n) h = let p = packed_same f g n (λ b l. h b (omega arith)
 
 map_same : (f g : ℕ → ℕ) (a n : ℕ) → ((j : ℕ) → j < a + n → f j ≡ g j) → map f (range_with_len a n) ≡ map g (range_with_len a n)
 map_same f g a zero h = refl
-map_same f g a (suc n) h = ap (λ (x : ℕ). x ∷ map f (range_with_len (a + 1) n)) (h a (omega arith)) ∙ ap (λ (s : List ℕ). g a ∷ s) (map_same f g (a + 1) n (λ j l. h j (omega arith)))
+map_same f g a (suc n) h = ap (λ (x : ℕ). x ∷ map f (range_with_len (a + 1) n)) (h a (omega arith))
+    ∙ ap (λ (s : List ℕ). g a ∷ s) (map_same f g (a + 1) n (λ j l. h j (omega arith)))
 
 mark_same : (v w : List ℕ) (u : ℕ) → contains u v ≡ contains u w → mark v u ≡ mark w u
 unfolding mark
@@ -32,15 +36,18 @@ mark_same v w u e = ap (λ (b : Bool). cond b 1 0) e
 window_same : (v w : List ℕ) (k : ℕ) → ((u : ℕ) → u / 256 ≡ k → contains u v ≡ contains u w) → window v k ≡ window w k
 unfolding window types_octet
 window_same v w k h = ap trimmed (map_same (types_octet v k) (types_octet w k) 0 32 (λ j l.
-    packed_same (λ b. mark v (256 * k + (8 * j + b))) (λ b. mark w (256 * k + (8 * j + b))) 8 (λ b m. mark_same v w (256 * k + (8 * j + b)) (h (256 * k + (8 * j + b)) (omega arith)))))
+    packed_same (λ b. mark v (256 * k + (8 * j + b))) (λ b. mark w (256 * k + (8 * j + b))) 8
+    (λ b m. mark_same v w (256 * k + (8 * j + b)) (h (256 * k + (8 * j + b)) (omega arith)))))
 
 window_empty : (k : ℕ) → window [] k ≡ []
 unfolding window types_octet mark
 window_empty k = refl
 
 -- windows without types are left out
-windows_skip : (v : List ℕ) (a k n : ℕ) → ((u : ℕ) → a ≤ u / 256 → u / 256 < a + k → contains u v ≡ false) → windows v (range_with_len a (k + n)) ≡ windows v (range_with_len (a + k) n)
-windows_skip v a zero n h = let e : a + 0 ≡ a = omega arith in let f : 0 + n ≡ n = omega arith in ap (λ (c : ℕ). windows v (range_with_len a c)) f ∙ ap (λ (b : ℕ). windows v (range_with_len b n)) (sym e)
+windows_skip : (v : List ℕ) (a k n : ℕ) → ((u : ℕ) → a ≤ u / 256 → u / 256 < a + k → contains u v ≡ false)
+    → windows v (range_with_len a (k + n)) ≡ windows v (range_with_len (a + k) n)
+windows_skip v a zero n h = let e : a + 0 ≡ a = omega arith in let f : 0 + n ≡ n = omega arith in ap (λ (c : ℕ). windows v (range_with_len a c)) f
+    ∙ ap (λ (b : ℕ). windows v (range_with_len b n)) (sym e)
 windows_skip v a (suc k) n h =
     let longer : suc k + n ≡ suc (k + n) = omega arith in
     let none : window v a ≡ [] = window_same v [] a (λ u e. h u (omega arith) (omega arith)) ∙ window_empty a in
@@ -159,11 +166,13 @@ pub record IsRun (rest : List ℕ) (e k : ℕ) : Type 0 where
   pub run : AreOfWindow k (take e rest)
   pub next : e < length rest → get_or rest e 0 / 256 ≢ k
 
-pub is_run : {v rest : List ℕ} {old now : Writing} (e : ℕ) → LeftWindows v rest old now → 0 < e → AreOfWindow (get_or rest 0 0 / 256) (take e rest) → (e < length rest → get_or rest e 0 / 256 ≢ get_or rest 0 0 / 256)
+pub is_run : {v rest : List ℕ} {old now : Writing} (e : ℕ) → LeftWindows v rest old now → 0 < e → AreOfWindow (get_or rest 0 0 / 256) (take e rest)
+    → (e < length rest → get_or rest e 0 / 256 ≢ get_or rest 0 0 / 256)
     → IsRun rest e (get_or (take e rest) 0 0 / 256)
 is_run {v} {rest} e f some run next =
     let p : get_or (take e rest) 0 0 ≡ get_or rest 0 0 = get_or-take e rest 0 0 some in
-    subst (λ (x : ℕ). IsRun rest e (x / 256)) (sym p) (record { small = omega (arith, small_first rest f.small); first = refl; some = some; run = run; next = next })
+    subst (λ (x : ℕ). IsRun rest e (x / 256)) (sym p)
+    (record { small = omega (arith, small_first rest f.small); first = refl; some = some; run = run; next = next })
 
 behind : {rest : List ℕ} {e k : ℕ} → Rises rest → IsRun rest e k → AllByRecursion (λ u. 256 * (k + 1) ≤ u) (drop e rest)
 behind {rest} {e} {k} r h = at_least (256 * (k + 1)) (drop e rest) (rises_drop e rest r) (λ some.
@@ -203,14 +212,16 @@ at_first n [] a l = absurd (omega arith)
 at_first n (x ∷ xs) a l = a.0
 
 -- the windows between have no types
-skipped : {v rest : List ℕ} {e k : ℕ} {old now : Writing} (f : LeftWindows v rest old now) → IsRun rest e k → (u : ℕ) → f.k ≤ u / 256 → u / 256 < k → contains u v ≡ false
+skipped : {v rest : List ℕ} {e k : ℕ} {old now : Writing} (f : LeftWindows v rest old now) → IsRun rest e k → (u : ℕ) → f.k ≤ u / 256 → u / 256 < k
+    → contains u v ≡ false
 skipped {v} {rest} {e} {k} f h u l m =
     ap (contains u) f.split ∙ list_any-append (λ t. t == u) f.done rest
     ∙ or_none (contains u f.done) (contains u rest) (none_great (256 * f.k) f.done u f.below (omega arith))
     ∙ none_less (256 * k) rest u (from_first f.rises h) (omega arith)
 
 -- the next window's types are those of the run
-same_types : {v rest : List ℕ} {e k : ℕ} {old now : Writing} (f : LeftWindows v rest old now) → IsRun rest e k → f.k ≤ k → (u : ℕ) → u / 256 ≡ k → contains u v ≡ contains u (take e rest)
+same_types : {v rest : List ℕ} {e k : ℕ} {old now : Writing} (f : LeftWindows v rest old now) → IsRun rest e k → f.k ≤ k → (u : ℕ) → u / 256 ≡ k
+    → contains u v ≡ contains u (take e rest)
 same_types {v} {rest} {e} {k} f h l u q =
     ap (contains u) f.split ∙ list_any-append (λ t. t == u) f.done rest
     ∙ or_none (contains u f.done) (contains u rest) (none_great (256 * f.k) f.done u f.below (omega arith))
@@ -220,7 +231,8 @@ same_types {v} {rest} {e} {k} f h l u q =
 reached : {v rest : List ℕ} {e k : ℕ} {old now : Writing} (f : LeftWindows v rest old now) → IsRun rest e k → 0 < length rest → f.k ≤ k
 reached {v} {rest} {e} {k} f h some = let a = at_first (256 * f.k) rest f.above some in omega (arith, a, h.first)
 
-next_block : {v rest : List ℕ} {e k : ℕ} {old now : Writing} (f : LeftWindows v rest old now) → IsRun rest e k → 0 < length rest → 0 < length (window (take e rest) k)
+next_block : {v rest : List ℕ} {e k : ℕ} {old now : Writing} (f : LeftWindows v rest old now) → IsRun rest e k → 0 < length rest
+    → 0 < length (window (take e rest) k)
     → NextBlock v rest e k (flat_map block (windows v (range_with_len f.k f.n)))
 next_block {v} {rest} {e} {k} f h some full =
     let l : f.k ≤ k = reached f h some in
@@ -232,14 +244,20 @@ next_block {v} {rest} {e} {k} f h some full =
     let skip : windows v (range_with_len f.k f.n) ≡ with_block k (window (take e rest) k) (windows v (range_with_len (k + 1) n)) =
     ap (λ (c : ℕ). windows v (range_with_len f.k c)) count ∙ windows_skip v f.k d (suc n) (λ u p q. skipped f h u p (omega (arith, q, place)))
     ∙ ap (λ (b : ℕ). windows v (range_with_len b (suc n))) place ∙ ap (λ (x : List ℕ). with_block k x (windows v (range_with_len (k + 1) n))) w in
-    record { n = n; all = omega (arith, h.small); is = ap (flat_map block) skip ∙ with_some k (window (take e rest) k) (windows v (range_with_len (k + 1) n)) full }
+    record {
+      n = n;
+      all = omega (arith, h.small);
+      is = ap (flat_map block) skip
+          ∙ with_some k (window (take e rest) k) (windows v (range_with_len (k + 1) n)) full;
+    }
 
 -- ---- a block as its octets
 
 one_octet : (n : ℕ) → n < 256 → bytes_high_first 1 n ≡ n ∷ []
 one_octet n l = let e : n % 256 ≡ n = omega arith in ap (λ (x : ℕ). x ∷ []) e
 
-block_appended : {mode : RDataEncoding} {now new : Writing} (b : Block) → b.0 < 256 → length b.1 < 256 → Appended mode now block_shape (block_fields b) new → new.octets ≡ now.octets ++ block b
+block_appended : {mode : RDataEncoding} {now new : Writing} (b : Block) → b.0 < 256 → length b.1 < 256 → Appended mode now block_shape (block_fields b) new
+    → new.octets ≡ now.octets ++ block b
 block_appended {mode} {now} {new} b number few f =
     let x = f.fields in
     let first : x.0 ≡ now.octets ++ b.0 ∷ [] = x.1.is.1 ∙ ap (λ (s : List ℕ). now.octets ++ s) (one_octet b.0 number) in
@@ -250,7 +268,8 @@ block_appended {mode} {now} {new} b number few f =
     z.2 ∙ third ∙ ap (λ (s : List ℕ). s ++ b.1) (second ∙ ap (λ (s : List ℕ). s ++ length b.1 ∷ []) first)
     ∙ ap (λ (s : List ℕ). s ++ b.1) (append_assoc now.octets (b.0 ∷ []) (length b.1 ∷ [])) ∙ append_assoc now.octets (b.0 ∷ length b.1 ∷ []) b.1
 
-pub left_next : {v rest : List ℕ} {e k : ℕ} {old now new : Writing} → LeftWindows v rest old now → IsRun rest e k → 0 < length rest → 0 < length (window (take e rest) k) → length (window (take e rest) k) ≤ 32
+pub left_next : {v rest : List ℕ} {e k : ℕ} {old now new : Writing} → LeftWindows v rest old now → IsRun rest e k → 0 < length rest
+    → 0 < length (window (take e rest) k) → length (window (take e rest) k) ≤ 32
     → Appended now.mode now block_shape (block_fields (k, window (take e rest) k)) new → LeftWindows v (drop e rest) old new
 left_next {v} {rest} {e} {k} {old} {now} {new} f h some full few a =
     let b : Block = (k, window (take e rest) k) in
@@ -263,13 +282,15 @@ left_next {v} {rest} {e} {k} {old} {now} {new} f h some full few a =
       all = next.all;
       done = f.done ++ take e rest;
       split = f.split ∙ ap (λ (s : List ℕ). f.done ++ s) (sym (take-append-drop e rest)) ∙ sym (append_assoc f.done (take e rest) (drop e rest));
-      below = below_both (256 * (k + 1)) f.done (take e rest) (wider (256 * f.k) (256 * (k + 1)) f.done (omega (arith, reached f h some)) f.below) (below_window k (take e rest) h.run);
+      below = below_both (256 * (k + 1)) f.done (take e rest) (wider (256 * f.k) (256 * (k + 1)) f.done (omega (arith, reached f h some)) f.below)
+          (below_window k (take e rest) h.run);
       rises = rises_drop e rest f.rises;
       above = behind f.rises h;
       small = small_drop e rest f.small;
       written = f.written ++ block b;
       octets = block_appended b h.small (omega (arith, few)) a ∙ ap (λ (s : List ℕ). s ++ block b) f.octets ∙ append_assoc old.octets f.written (block b);
-      left = append_assoc f.written (block b) (flat_map block (windows v (range_with_len (k + 1) next.n))) ∙ ap (λ (s : List ℕ). f.written ++ s) (sym next.is) ∙ f.left;
+      left = append_assoc f.written (block b) (flat_map block (windows v (range_with_len (k + 1) next.n)))
+          ∙ ap (λ (s : List ℕ). f.written ++ s) (sym next.is) ∙ f.left;
     }
 
 -- ---- a refusal
@@ -278,7 +299,8 @@ block_length : (b : Block) → length (canonical block_shape (block_fields b)) �
 unfolding field_octets
 block_length b = omega (arith, length-append b.1 [])
 
-pub left_stopped : {v rest : List ℕ} {e k : ℕ} {old now new : Writing} (error : ProtoError) → LeftWindows v rest old now → IsRun rest e k → 0 < length rest → 0 < length (window (take e rest) k) → length (window (take e rest) k) ≤ 32
+pub left_stopped : {v rest : List ℕ} {e k : ℕ} {old now new : Writing} (error : ProtoError) → LeftWindows v rest old now → IsRun rest e k → 0 < length rest
+    → 0 < length (window (take e rest) k) → length (window (take e rest) k) ≤ 32
     → Stopped error now block_shape (block_fields (k, window (take e rest) k)) new → StoppedField error old Bitmap v new
 unfolding field_octets
 left_stopped {v} {rest} {e} {k} {old} {now} {new} error f h some full few s =
@@ -286,7 +308,8 @@ left_stopped {v} {rest} {e} {k} {old} {now} {new} error f h some full few s =
     let next = next_block f h some full in
     let rest_of = flat_map block (windows v (range_with_len (k + 1) next.n)) in
     let total : length f.written + (length (block b) + length rest_of) ≡ length (flat_map block (minimal v)) =
-    sym (length-append f.written (block b ++ rest_of) ∙ ap (λ (n : ℕ). length f.written + n) (length-append (block b) rest_of)) ∙ ap length (ap (λ (x : List ℕ). f.written ++ x) (sym next.is) ∙ f.left) in
+    sym (length-append f.written (block b ++ rest_of) ∙ ap (λ (n : ℕ). length f.written + n) (length-append (block b) rest_of))
+    ∙ ap length (ap (λ (x : List ℕ). f.written ++ x) (sym next.is) ∙ f.left) in
     let before : length now.octets ≡ length old.octets + length f.written = ap length f.octets ∙ length-append old.octets f.written in
     record {
       extends = record {
@@ -310,7 +333,13 @@ left_none {v} {rest} {old} {now} set e f =
     let none : windows v (range_with_len f.k f.n) ≡ [] = ap (λ (c : ℕ). windows v (range_with_len f.k c)) zero_more ∙ windows_skip v f.k f.n 0 nothing in
     record {
       keeps = f.keeps;
-      field = record { is = (set, f.octets ∙ ap (λ (s : List ℕ). old.octets ++ s) (sym (append-nil f.written) ∙ ap (λ (bs : List Block). f.written ++ flat_map block bs) (sym none) ∙ f.left)) };
+      field = record {
+        is = (
+          set,
+          f.octets ∙ ap (λ (s : List ℕ). old.octets ++ s)
+              (sym (append-nil f.written) ∙ ap (λ (bs : List Block). f.written ++ flat_map block bs) (sym none) ∙ f.left),
+        );
+      };
     }
   where
     empty : (xs : List ℕ) (u : ℕ) → length xs ≡ 0 → contains u xs ≡ false

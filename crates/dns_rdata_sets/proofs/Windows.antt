@@ -1,5 +1,7 @@
 -- The octets of a window, from the numbers of its types.
-use Rattle.std.proofs.Common.{◌≡◌, ◌≢◌, ℕ, zero, suc, ◌+◌, ◌-◌, ◌*◌, ◌/◌, ◌%◌, ◌<◌, ◌≤◌, ◌^◌, ◌==◌, ◌||◌, Bool, true, false, cond, inl, inr, ◌⊎◌, ⊎_elim, List, [], ◌∷◌, length, get_or, take, map, replicate, bit_or, refl, sym, ap, ◌∙◌, subst, pow-suc, arith}
+use Rattle.std.proofs.Common.{◌≡◌, ◌≢◌, ℕ, zero, suc, ◌+◌, ◌-◌, ◌*◌, ◌/◌, ◌%◌, ◌<◌, ◌≤◌, ◌^◌, ◌==◌, ◌||◌, Bool, true, false, cond, inl}
+use Rattle.std.proofs.Common.{inr, ◌⊎◌, ⊎_elim, List, [], ◌∷◌, length, get_or, take, map, replicate, bit_or, refl, sym, ap, ◌∙◌, subst}
+use Rattle.std.proofs.Common.{pow-suc, arith}
 use Rattle.std.specs.List.{AllByRecursion, range_with_len}
 use Rattle.std.specs.Int.{bit_at}
 use Rattle.std.proofs.Math.ListN.{set}
@@ -20,15 +22,22 @@ marked_same : (out : List ℕ) (b n : ℕ) → length out ≡ 32 → b < 256 →
 marked_same out b n l h e v = ap (λ (k : ℕ). get_or (set out (b / 8) v) k 0) e ∙ get_or-set_same out (b / 8) v 0 (omega arith)
 
 pub marked : (out : List ℕ) (b n : ℕ) → length out ≡ 32 → b < 256 → n < 256
-    → bit_at (get_or (set out (b / 8) (bit_or (get_or out (b / 8) 0) (1 * 2 ^ (7 - b % 8) % 2 ^ 8))) (n / 8) 0) (7 - n % 8) ≡ cond (b == n) 1 (bit_at (get_or out (n / 8) 0) (7 - n % 8))
+    → bit_at (get_or (set out (b / 8) (bit_or (get_or out (b / 8) 0) (1 * 2 ^ (7 - b % 8) % 2 ^ 8))) (n / 8) 0) (7 - n % 8) ≡ cond (b == n) 1
+    (bit_at (get_or out (n / 8) 0) (7 - n % 8))
 marked out b n l h k =
     let v : ℕ = bit_or (get_or out (b / 8) 0) (1 * 2 ^ (7 - b % 8) % 2 ^ 8) in
     elim (eqb_tells b n) [
       | inl t ↦ subst (λ (m : ℕ). bit_at (get_or (set out (b / 8) v) (m / 8) 0) (7 - m % 8) ≡ cond (b == m) 1 (bit_at (get_or out (m / 8) 0) (7 - m % 8))) t.1
-          (ap (λ (x : ℕ). bit_at x (7 - b % 8)) (marked_same out b b l h (λ i. b / 8) v) ∙ bit_at_set_same w8 (get_or out (b / 8) 0) (7 - b % 8) (omega arith) ∙ sym (ap (λ (c : Bool). cond c 1 (bit_at (get_or out (b / 8) 0) (7 - b % 8))) (ap (λ (m : ℕ). b == m) t.1 ∙ t.0)))
+          (ap (λ (x : ℕ). bit_at x (7 - b % 8)) (marked_same out b b l h (λ i. b / 8) v)
+          ∙ bit_at_set_same w8 (get_or out (b / 8) 0) (7 - b % 8) (omega arith)
+          ∙ sym (ap (λ (c : Bool). cond c 1 (bit_at (get_or out (b / 8) 0) (7 - b % 8))) (ap (λ (m : ℕ). b == m) t.1 ∙ t.0)))
       | inr t ↦ elim (eqb_tells (n / 8) (b / 8)) [
-        | inl e ↦ ap (λ (x : ℕ). bit_at x (7 - n % 8)) (marked_same out b n l h e.1 v) ∙ bit_at_set_other w8 (get_or out (b / 8) 0) (7 - b % 8) (omega arith) (7 - n % 8) (let ne = t.1 in let q = e.1 in omega arith) ∙ ap (λ (m : ℕ). bit_at (get_or out m 0) (7 - n % 8)) (sym e.1) ∙ sym (ap (λ (c : Bool). cond c 1 (bit_at (get_or out (n / 8) 0) (7 - n % 8))) t.0)
-        | inr e ↦ ap (λ (x : ℕ). bit_at x (7 - n % 8)) (get_or-set_other out (b / 8) (n / 8) v 0 e.1) ∙ sym (ap (λ (c : Bool). cond c 1 (bit_at (get_or out (n / 8) 0) (7 - n % 8))) t.0)
+        | inl e ↦ ap (λ (x : ℕ). bit_at x (7 - n % 8)) (marked_same out b n l h e.1 v)
+            ∙ bit_at_set_other w8 (get_or out (b / 8) 0) (7 - b % 8) (omega arith) (7 - n % 8) (let ne = t.1 in let q = e.1 in omega arith)
+            ∙ ap (λ (m : ℕ). bit_at (get_or out m 0) (7 - n % 8)) (sym e.1)
+            ∙ sym (ap (λ (c : Bool). cond c 1 (bit_at (get_or out (n / 8) 0) (7 - n % 8))) t.0)
+        | inr e ↦ ap (λ (x : ℕ). bit_at x (7 - n % 8)) (get_or-set_other out (b / 8) (n / 8) v 0 e.1)
+            ∙ sym (ap (λ (c : Bool). cond c 1 (bit_at (get_or out (n / 8) 0) (7 - n % 8))) t.0)
       ]
     ]
 
@@ -65,7 +74,8 @@ pub marks_more : (octets new run : List ℕ) (i k : ℕ) → i < length run → 
     → HasMarks new (take (i + 1) run) k
 marks_more octets new run i k l e a f = record {
   bits = λ n h.
-      f n h ∙ ap (λ (x : ℕ). cond (get_or run i 0 % 256 == n) 1 x) (a.bits n h) ∙ ap (λ (b : Bool). cond b 1 (mark (take i run) (256 * k + n))) (in_window (get_or run i 0) k n h e)
+      f n h ∙ ap (λ (x : ℕ). cond (get_or run i 0 % 256 == n) 1 x) (a.bits n h)
+      ∙ ap (λ (b : Bool). cond b 1 (mark (take i run) (256 * k + n))) (in_window (get_or run i 0) k n h e)
       ∙ mark_more run i (256 * k + n) l;
 }
 
@@ -87,7 +97,8 @@ packed_bit f small (suc n) i l = elim (eqb_tells i n) [
       let y : suc (n - 1 - i) - 1 ≡ n - 1 - i = omega arith in
       let lt : f n < 2 ^ 1 = small n in
       let some : 1 ≤ suc (n - 1 - i) = omega arith in
-      let goal : bit_at (packed f (suc n)) (suc n - 1 - i) ≡ f i = ap (bit_at (packed f (suc n))) z ∙ bit_at_cat_high (packed f n) 1 (f n) (suc (n - 1 - i)) lt some ∙ ap (bit_at (packed f n)) y ∙ h in goal)
+      let goal : bit_at (packed f (suc n)) (suc n - 1 - i) ≡ f i = ap (bit_at (packed f (suc n))) z
+      ∙ bit_at_cat_high (packed f n) 1 (f n) (suc (n - 1 - i)) lt some ∙ ap (bit_at (packed f n)) y ∙ h in goal)
 ]
   where
     last : (n : ℕ) → n < 2 → n % 2 ≡ n
@@ -110,18 +121,23 @@ octet_is octets run k j a l small =
     let bit : 7 - n % 8 ≡ i = omega arith in
     let back : 8 - 1 - (7 - i) ≡ i = omega arith in
     let h : bit_at (get_or octets (n / 8) 0) (7 - n % 8) ≡ mark run (256 * k + n) = a.bits n inside in
-    let g : bit_at (get_or octets j 0) i ≡ mark run (256 * k + n) = subst (λ (q : ℕ). bit_at (get_or octets q 0) i ≡ mark run (256 * k + n)) of (subst (λ (b : ℕ). bit_at (get_or octets (n / 8) 0) b ≡ mark run (256 * k + n)) bit h) in
-    let p : bit_at (packed f 8) i ≡ mark run (256 * k + n) = subst (λ (b : ℕ). bit_at (packed f 8) b ≡ mark run (256 * k + n)) back (packed_bit f (λ b. mark_small run (256 * k + (8 * j + b))) 8 (7 - i) (omega arith)) in
+    let g : bit_at (get_or octets j 0) i ≡ mark run (256 * k + n) = subst (λ (q : ℕ). bit_at (get_or octets q 0) i ≡ mark run (256 * k + n)) of
+    (subst (λ (b : ℕ). bit_at (get_or octets (n / 8) 0) b ≡ mark run (256 * k + n)) bit h) in
+    let p : bit_at (packed f 8) i ≡ mark run (256 * k + n) = subst (λ (b : ℕ). bit_at (packed f 8) b ≡ mark run (256 * k + n)) back
+    (packed_bit f (λ b. mark_small run (256 * k + (8 * j + b))) 8 (7 - i) (omega arith)) in
     g ∙ sym p)
 
 list_same : (a b : List ℕ) → length a ≡ length b → ((i : ℕ) → i < length a → get_or a i 0 ≡ get_or b i 0) → a ≡ b
 list_same [] [] n h = refl
 list_same [] (y ∷ b) n h = absurd (omega arith)
 list_same (x ∷ a) [] n h = absurd (omega arith)
-list_same (x ∷ a) (y ∷ b) n h = ap (λ (z : ℕ). z ∷ a) (h 0 (omega arith)) ∙ ap (λ (s : List ℕ). y ∷ s) (list_same a b (omega arith) (λ i l. h (suc i) (omega arith)))
+list_same (x ∷ a) (y ∷ b) n h = ap (λ (z : ℕ). z ∷ a) (h 0 (omega arith))
+    ∙ ap (λ (s : List ℕ). y ∷ s) (list_same a b (omega arith) (λ i l. h (suc i) (omega arith)))
 
-octets_are : (octets run : List ℕ) (k : ℕ) → HasMarks octets run k → length octets ≡ 32 → ((j : ℕ) → get_or octets j 0 < 256) → octets ≡ map (types_octet run k) (range_with_len 0 32)
-octets_are octets run k a n small = list_same octets (map (types_octet run k) (range_with_len 0 32)) (omega (arith, n, length-map-range_with_len (types_octet run k) 0 32)) (λ j l.
+octets_are : (octets run : List ℕ) (k : ℕ) → HasMarks octets run k → length octets ≡ 32 → ((j : ℕ) → get_or octets j 0 < 256)
+    → octets ≡ map (types_octet run k) (range_with_len 0 32)
+octets_are octets run k a n small = list_same octets (map (types_octet run k) (range_with_len 0 32))
+    (omega (arith, n, length-map-range_with_len (types_octet run k) 0 32)) (λ j l.
     octet_is octets run k j a (omega (arith, n)) (small j) ∙ sym (get_or-map-range_with_len (types_octet run k) 0 32 j j 0 (omega (arith, n)) (omega arith)))
 
 -- ---- without the zeros at the end
@@ -188,7 +204,8 @@ inside : (i : ℕ) → (i < 32) ⊎ (32 ≤ i)
 inside i = grind arith
 
 -- octets behind that of the last type are 0
-zeros_behind : (octets run : List ℕ) (k i last : ℕ) → HasMarks octets run k → length octets ≡ 32 → ((j : ℕ) → get_or octets j 0 < 256) → AllByRecursion (λ u. u < last + 1) run → last / 256 ≡ k → last % 256 / 8 < i
+zeros_behind : (octets run : List ℕ) (k i last : ℕ) → HasMarks octets run k → length octets ≡ 32 → ((j : ℕ) → get_or octets j 0 < 256)
+    → AllByRecursion (λ u. u < last + 1) run → last / 256 ≡ k → last % 256 / 8 < i
     → get_or octets i 0 ≡ 0
 zeros_behind octets run k i last a len small all of m = ⊎_elim
     (λ (within : i < 32). same_from_bits_below 8 (get_or octets i 0) 0 (small i) (omega arith) (λ b lt.
@@ -203,12 +220,14 @@ zeros_behind octets run k i last a len small all of m = ⊎_elim
     (inside i)
 
 small_at : (octets : List ℕ) → AreOctets octets → (j : ℕ) → get_or octets j 0 < 256
-small_at octets h j = ⊎_elim (λ (l : j < length octets). h j 0 l) (λ (g : length octets ≤ j). omega (arith, get_or_past octets j 0 g)) (either j (length octets))
+small_at octets h j = ⊎_elim (λ (l : j < length octets). h j 0 l) (λ (g : length octets ≤ j). omega (arith, get_or_past octets j 0 g))
+    (either j (length octets))
   where
     either : (j n : ℕ) → (j < n) ⊎ (n ≤ j)
     either j n = grind arith
 
-pub window_is : (octets run : List ℕ) (k n : ℕ) → HasMarks octets run k → length octets ≡ 32 → AreOctets octets → Rises run → AreOfWindow k run → length run ≡ suc n
+pub window_is : (octets run : List ℕ) (k n : ℕ) → HasMarks octets run k → length octets ≡ 32 → AreOctets octets → Rises run → AreOfWindow k run
+    → length run ≡ suc n
     → take (get_or run n 0 % 256 / 8 + 1) octets ≡ window run k
 unfolding window
 window_is octets run k n a len are_octets rises are l =
@@ -217,8 +236,10 @@ window_is octets run k n a len are_octets rises are l =
     let j : ℕ = last % 256 / 8 in
     let of : last / 256 ≡ k = of_window k run n are (omega (arith, l)) in
     let here : 256 * k + last % 256 ≡ last = omega (arith, of) in
-    let bit : bit_at (get_or octets j 0) (7 - last % 256 % 8) ≡ 1 = a.bits (last % 256) (omega arith) ∙ ap (mark run) here ∙ mark_yes run last (has_last run n (omega (arith, l))) in
-    let some : get_or octets j 0 ≢ 0 = (λ z. let q : bit_at 0 (7 - last % 256 % 8) ≡ 1 = subst (λ (o : ℕ). bit_at o (7 - last % 256 % 8) ≡ 1) z bit in omega (arith, q, bit_at-zero (7 - last % 256 % 8))) in
+    let bit : bit_at (get_or octets j 0) (7 - last % 256 % 8) ≡ 1 = a.bits (last % 256) (omega arith) ∙ ap (mark run) here
+    ∙ mark_yes run last (has_last run n (omega (arith, l))) in
+    let some : get_or octets j 0 ≢ 0 = (λ z. let q : bit_at 0 (7 - last % 256 % 8) ≡ 1 = subst (λ (o : ℕ). bit_at o (7 - last % 256 % 8) ≡ 1) z bit in
+    omega (arith, q, bit_at-zero (7 - last % 256 % 8))) in
     let zeros : (i : ℕ) → j < i → get_or octets i 0 ≡ 0 = (λ i m. zeros_behind octets run k i last a len small (to_last run n rises l) of m) in
     let one : suc j ≡ j + 1 = omega arith in
     sym (ap trimmed (sym (octets_are octets run k a len small)) ∙ trimmed_take octets j (omega (arith, len)) some zeros ∙ ap (λ (c : ℕ). take c octets) one)

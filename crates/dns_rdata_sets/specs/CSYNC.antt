@@ -22,6 +22,13 @@ bit b = if b then 1 else 0
 abbrev pub csync_flags : CSYNC → ℕ
 csync_flags x = x.reserved_flags / 4 * 4 + 2 * bit x.soa_minimum + bit x.immediate
 
+-- serial, flags
+abbrev pub csync_numbers_shape : List Kind
+csync_numbers_shape = Number 4 ∷ Number 2 ∷ []
+
+abbrev pub csync_numbers : CSYNC → Values csync_numbers_shape
+csync_numbers x = (x.soa_serial, (csync_flags x, tt))
+
 abbrev pub csync_fields : CSYNC → Values csync_shape
 csync_fields x = (x.soa_serial, (csync_flags x, (x.type_bit_maps, tt)))
 

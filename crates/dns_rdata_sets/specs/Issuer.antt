@@ -61,7 +61,8 @@ parameter_octets x = x.key ++ 61 ∷ x.value
 -- Blanks; or blanks and a parameter; or blanks, a parameter, a semicolon, and again such octets.
 abbrev pub AreParameters : List ℕ → List Parameter → Type 0
 AreParameters octets [] = AllOf is_blank octets
-AreParameters octets (x ∷ xs) = (blanks : List ℕ) × (behind : List ℕ) × (octets ≡ blanks ++ (parameter_octets x ++ behind)) × AllOf is_blank blanks × IsParameter x
+AreParameters octets (x ∷ xs) = (blanks : List ℕ) × (behind : List ℕ) × (octets ≡ blanks ++ (parameter_octets x ++ behind)) × AllOf is_blank blanks
+    × IsParameter x
     × (((behind ≡ []) × (xs ≡ [])) ⊎ ((more : List ℕ) × (behind ≡ 59 ∷ more) × AreParameters more xs))
 
 -- no octets are no name, and others are UTF-8 and the text of the name
@@ -91,7 +92,8 @@ NoIssuer octets = (name : Option DomainName) (xs : List Parameter) → IsIssuer 
 -- the octets are not the value of an issuer property.
 abbrev pub issuer_refusal : List ℕ → ProtoError → Type 0
 issuer_refusal octets proto.Memory = Unit {0}
-issuer_refusal octets (proto.Decode e) = (e ≡ decode.Utf8) × NoIssuer octets × ((front rest : List ℕ) → Splits is_no_semicolon octets front rest → IsUtf8 front → ⊥)
+issuer_refusal octets (proto.Decode e) = (e ≡ decode.Utf8) × NoIssuer octets
+    × ((front rest : List ℕ) → Splits is_no_semicolon octets front rest → IsUtf8 front → ⊥)
 issuer_refusal octets (proto.Message text) = NoIssuer octets × ((front rest : List ℕ) → Splits is_no_semicolon octets front rest → IsUtf8 front)
 issuer_refusal octets e = ⊥
 

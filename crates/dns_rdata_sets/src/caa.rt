@@ -4,7 +4,8 @@ ghost use Rattle.std.specs.Prelude.{◌≡◌, ◌≤◌, ◌<◌, ◌+◌, fals
 ghost use Rattle.std.specs.Char.{is_ascii_alphanumeric};
 ghost use Rattle.dns_fields.specs.Fields.{Octets as OctetsKind};
 ghost use Rattle.dns_names_wire.specs.Words.{ReadsTo, ReadsWindow, TookField, StaysBehind, Emits, Extends, IsMessage};
-ghost use Rattle.dns_rdata_sets.specs.CAA.{caa_shape, caa_flags, caa_fields, caa_condition, caa_key_shape, caa_keys, AreTagOctets, IsTag, IsReadCaa, tag_refusal, caa_refusal};
+ghost use Rattle.dns_rdata_sets.specs.CAA.{caa_shape, caa_flags, caa_fields, caa_condition, caa_key_shape, caa_keys, AreTagOctets, IsTag};
+ghost use Rattle.dns_rdata_sets.specs.CAA.{IsReadCaa, tag_refusal, caa_refusal};
 
 mod issuer;
 mod values;

@@ -6,7 +6,8 @@ ghost use Rattle.dns_types.specs.RecordTypes.{number_of};
 ghost use Rattle.dns_types.specs.declared.record_type.RecordType.{RecordType as RecordTypeValue};
 ghost use Rattle.dns_names_wire.specs.Words.{ReadsTo, ReadsWindow, Emits};
 ghost use Rattle.dns_rdata_sets.specs.RecordTypeSet.{IsSetOf};
-ghost use Rattle.dns_rdata_sets.specs.CSYNC.{csync_shape, csync_flags, csync_fields, csync_condition, csync_key_shape, csync_keys, IsReadCsync, csync_refusal};
+ghost use Rattle.dns_rdata_sets.specs.CSYNC.{csync_numbers_shape, csync_numbers, csync_shape, csync_flags, csync_fields, csync_condition};
+ghost use Rattle.dns_rdata_sets.specs.CSYNC.{csync_key_shape, csync_keys, IsReadCsync, csync_refusal};
 
 use crate::record_type_set::RecordTypeSet;
 use dns_names_wire::{
@@ -142,14 +143,25 @@ impl RecordDataDecodable for CSYNC {
     }
 }
 
+impl CSYNC {
+    // Appends serial and flags at once.
+    #[inline]
+    fn emit_numbers(&self, encoder: &mut BinEncoder<'_>) -> Result<(), ProtoError>
+        ensures { Emits csync_numbers_shape (csync_numbers self.now) result encoder.old encoder.new }
+    {
+        let [s0, s1, s2, s3] = self.soa_serial.to_be_bytes();
+        let flags = self.flags();
+        let [f0, f1] = flags.to_be_bytes();
+        encoder.emit_vec(&[s0, s1, s2, s3, f0, f1])
+    }
+}
+
 impl BinEncodable for CSYNC {
     ghost emits = { λ x r old new. Emits csync_shape (csync_fields x) r old new };
 
     /// Appends serial, flags and the shortest bitmap of the types.
-    #[tactic(auto, using(dns_names_wire::proofs::FieldWrites::writing))]
     fn emit(&self, encoder: &mut BinEncoder<'_>) -> Result<(), ProtoError> {
-        encoder.emit_u32(self.soa_serial)?;
-        encoder.emit_u16(self.flags())?;
+        self.emit_numbers(encoder)?;
         self.type_bit_maps.emit(encoder)?;
         Ok(())
     }

@@ -1,5 +1,6 @@
 -- Codes and numbers tell types apart.
-use Rattle.std.proofs.Common.{◌≡◌, ℕ, ◌<◌, ◌≤◌, ◌+◌, ◌*◌, ◌/◌, ◌%◌, ◌==◌, Bool, true, false, cond, IsTrue, List, [], ◌∷◌, find, unwrap_or, Option, Some, eqb-true, refl, sym, ◌∙◌, ap, arith}
+use Rattle.std.proofs.Common.{◌≡◌, ℕ, ◌<◌, ◌≤◌, ◌+◌, ◌*◌, ◌/◌, ◌%◌, ◌==◌, Bool, true, false, cond, IsTrue, List, [], ◌∷◌, find, unwrap_or}
+use Rattle.std.proofs.Common.{Option, Some, eqb-true, refl, sym, ◌∙◌, ap, arith}
 use Rattle.std.specs.Bool.{Decides}
 use Rattle.std.specs.Cmp.{unsigned_Decides}
 use Rattle.dns_types.specs.declared.record_type.RecordType.{RecordType}

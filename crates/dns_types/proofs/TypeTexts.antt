@@ -1,5 +1,6 @@
 -- A text is read as one type at most: a name is no TYPE with a number, and each type has a name of its own.
-use Rattle.std.proofs.Common.{◌≡◌, ℕ, ◌<◌, ◌^◌, ◌==◌, Bool, true, false, ◌&&◌, cond, List, [], ◌∷◌, ◌++◌, drop, find, Option, Some, None, Result, Ok, Err, MatchOption, codes, decimal, refl, sym, ◌∙◌, ap, subst, inl, inr, lit<, arith}
+use Rattle.std.proofs.Common.{◌≡◌, ℕ, ◌<◌, ◌^◌, ◌==◌, Bool, true, false, ◌&&◌, cond, List, [], ◌∷◌, ◌++◌, drop, find, Option, Some, None}
+use Rattle.std.proofs.Common.{Result, Ok, Err, MatchOption, codes, decimal, refl, sym, ◌∙◌, ap, subst, inl, inr, lit<, arith}
 use Rattle.std.specs.Cmp.Lexicographic.{pointwise, pointwise_decides}
 use Rattle.std.specs.Cmp.{unsigned_Decides}
 use Rattle.std.specs.Option.{ok_or}
@@ -10,10 +11,12 @@ use Rattle.dns_types.specs.declared.record_type.RecordType.{RecordType}
 use Rattle.dns_types.specs.declared.record_type.RecordType.TheVariants.{Unknown}
 use Rattle.std.proofs.lemmas.Fmt.{decimal_is_IsNumeral, length-decimal-le}
 use Rattle.dns_types.proofs.RecordTypeLaws.{number_of-record_type_of}
-use Rattle.dns_types.specs.RecordTypes.{number_of, is_named, named_types, record_type_of, type_text, has_name, IsTypeName, IsNumberText, IsTypeText, ReadsType, ReadsPrinted}
+use Rattle.dns_types.specs.RecordTypes.{number_of, is_named, named_types, record_type_of, type_text, has_name, IsTypeName, IsNumberText}
+use Rattle.dns_types.specs.RecordTypes.{IsTypeText, ReadsType, ReadsPrinted}
 
 -- what a first match is
-found_at : {X : Type 0} (p : X → Bool) (y x : X) (rest : Option X) (b : Bool) → p y ≡ b → (rest ≡ Some x → p x ≡ true) → cond b (Some y) rest ≡ Some x → p x ≡ true
+found_at : {X : Type 0} (p : X → Bool) (y x : X) (rest : Option X) (b : Bool) → p y ≡ b → (rest ≡ Some x → p x ≡ true) → cond b (Some y) rest ≡ Some x
+    → p x ≡ true
 found_at p y x rest true q later e = let same : y ≡ x = cc in subst (λ z. p z ≡ true) same q
 found_at p y x rest false q later e = later e
 
@@ -58,7 +61,8 @@ reads_name text t e = (inl (name_text text t (found (has_name text) named_types 
     one u (inr n) = let m = number_match text u n in let bad : ⊥ = cc in absurd bad
 
 -- what TYPE and a number decide, where no name did
-pub reads_number : (text : List ℕ) (o : Option RecordType) → find (has_name text) named_types ≡ None → MatchOption o ((t : RecordType) → ¬ (IsNumberText text t)) (λ t. IsNumberText text t) → ReadsType text (ok_or o UnknownRecordTypeStr)
+pub reads_number : (text : List ℕ) (o : Option RecordType) → find (has_name text) named_types ≡ None
+    → MatchOption o ((t : RecordType) → ¬ (IsNumberText text t)) (λ t. IsNumberText text t) → ReadsType text (ok_or o UnknownRecordTypeStr)
 reads_number text (Some t) e n = (inr n, one)
   where
     one : (u : RecordType) → IsTypeText text u → u ≡ t

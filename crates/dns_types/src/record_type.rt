@@ -5,7 +5,8 @@ ghost use Rattle.std.specs.Cmp.{partial_order_from_agreeing_total, unsigned_ties
 ghost use Rattle.std.specs.Cmp.Rules.{comparing, hashing};
 ghost use Rattle.std.specs.Hash as fed;
 ghost use Rattle.std.proofs.Common.{rules};
-ghost use Rattle.dns_types.specs.RecordTypes.{number_of, record_type_of, code_of, is_named, type_text, has_name, named_types, IsNumberText, ReadsType, ReadsPrinted};
+ghost use Rattle.dns_types.specs.RecordTypes.{number_of, record_type_of, code_of, is_named, type_text, has_name, named_types, IsNumberText};
+ghost use Rattle.dns_types.specs.RecordTypes.{ReadsType, ReadsPrinted};
 
 use crate::error::DecodeError;
 use std::cmp::Ordering;

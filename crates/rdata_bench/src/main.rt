@@ -5,25 +5,23 @@
 //! is kept, print into a text that is kept, clone, and `==`. Each is the least of five parts of the rounds.
 //!
 //! A second argument, one of these words, takes that column alone and prints nothing: for runs under a counter of requests
-//! for memory. With a third, each value that is read or cloned is compared. In place of the number the word
-//! `options` prints how long records of as many options as fit take.
+//! for memory. With a third, each value that is read or cloned is compared. In place of the number the word `growth`
+//! prints how the time grows with names, pointers, strings and windows, and `options` how long records of as many options
+//! as fit take.
 #![tactic(auto)]
 
 mod columns;
+mod growth;
 mod options;
 
 use anyhow::{Context, Result};
-use columns::{Row, column};
+use columns::{Row, column, least};
 use dns_rdata::RecordType;
 use options::measure_options;
 use std::alloc::Global;
 use std::io;
 use std::io::BufRead;
 use std::rt::Clock;
-use std::time::Instant;
-
-// The parts of the rounds, the least of which is taken.
-const PARTS: u64 = 5;
 
 const COLUMNS: [&str; 6] = ["read", "emit", "fresh", "print", "clone", "equal"];
 
@@ -38,18 +36,6 @@ fn read_row(alloc: Global, line: &str, compares: bool) -> Result<Row> {
     let length = words.next().context("a length")?.parse::<u16>()?;
     let message = hex::decode(alloc, words.next().context("octets")?)?;
     Row::new(alloc, record_type, message, place, length, compares)
-}
-
-// The tenths of a nanosecond of one call in the quickest part.
-fn least(rt: &(impl Clock + AllocGlobal), row: &mut Row, name: &str, rounds: u64) -> Result<u128> {
-    let calls = u128::from((rounds / PARTS).max(1));
-    let mut least = u128::MAX;
-    for _ in 0..PARTS {
-        let begin = Instant::now(rt)?;
-        column(rt.alloc(), row, name, rounds / PARTS)?;
-        least = least.min(begin.elapsed(rt)?.as_nanos().saturating_mul(10) / calls);
-    }
-    Ok(least)
 }
 
 fn measure(rt: &(impl Clock + AllocGlobal + Print), row: &mut Row, rounds: u64) -> Result<()> {
@@ -76,6 +62,9 @@ fn main(rt: HostRuntime) -> Result<()> {
     let Some(word) = args.next() else {
         return Ok(());
     };
+    if word.as_str() == "growth" {
+        return growth::print_growth(&rt);
+    }
     if word.as_str() == "options" {
         return measure_options(&rt);
     }

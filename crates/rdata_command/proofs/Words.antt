@@ -1,5 +1,6 @@
 -- Words that are numbers and types.
-use Rattle.std.proofs.Common.{◌≡◌, ℕ, ◌<◌, ◌≤◌, ◌^◌, ◌==◌, false, List, [], ◌∷◌, length, get_or, Result, Ok, Err, MatchOption, refl, sym, ap, ◌∙◌, subst, arith, slice_index, codes, inl, inr, ⊎_elim}
+use Rattle.std.proofs.Common.{◌≡◌, ℕ, ◌<◌, ◌≤◌, ◌^◌, ◌==◌, false, List, [], ◌∷◌, length, get_or, Result, Ok, Err, MatchOption, refl, sym}
+use Rattle.std.proofs.Common.{ap, ◌∙◌, subst, arith, slice_index, codes, inl, inr, ⊎_elim}
 use Rattle.std.specs.Result.{result_ok}
 use Rattle.std.specs.Str.Parse.{IsNumeral, digits_value, ParsesUnsigned, without_leading_plus}
 use Rattle.std.proofs.lemmas.Int.Digits.{digits_value-lt}
@@ -20,11 +21,15 @@ few_digits w n few =
 no_plus : (w : List ℕ) → (slice_index w 0 == 43) ≡ false → without_leading_plus w ≡ w
 no_plus w e = rw e refl
 
-pub number_read : {E : Type 0} (w : List ℕ) (r : Result ℕ E) → (slice_index w 0 == 43) ≡ false → length w ≤ 5 → ParsesUnsigned 32 10 w r → MatchOption (result_ok r) ((n : ℕ) → ¬ (IsNumberWord w n)) (λ n. IsNumberWord w n)
-number_read w (Ok n) e few p = let same = no_plus w e in record { numeral = subst (IsNumeral 10) same p.0.0; few = few; value = p.1 ∙ ap (digits_value 10) same }
-number_read w (Err x) e few p = λ n is. p (subst (λ (ds : List ℕ). IsNumeral 10 ds × (digits_value 10 ds < 2 ^ 32)) (sym (no_plus w e)) (is.numeral, few_digits w is.numeral is.few))
+pub number_read : {E : Type 0} (w : List ℕ) (r : Result ℕ E) → (slice_index w 0 == 43) ≡ false → length w ≤ 5 → ParsesUnsigned 32 10 w r
+    → MatchOption (result_ok r) ((n : ℕ) → ¬ (IsNumberWord w n)) (λ n. IsNumberWord w n)
+number_read w (Ok n) e few p = let same = no_plus w e in
+    record { numeral = subst (IsNumeral 10) same p.0.0; few = few; value = p.1 ∙ ap (digits_value 10) same }
+number_read w (Err x) e few p = λ n is. p
+    (subst (λ (ds : List ℕ). IsNumeral 10 ds × (digits_value 10 ds < 2 ^ 32)) (sym (no_plus w e)) (is.numeral, few_digits w is.numeral is.few))
 
-pub type_read : (w : List ℕ) (r : Result RecordType DecodeError) → ReadsType w r → ((n : ℕ) → IsNumberWord w n → n < 65536 → ⊥) → MatchOption (result_ok r) ((t : RecordType) → ¬ (IsTypeWord w t)) (λ t. IsTypeWord w t)
+pub type_read : (w : List ℕ) (r : Result RecordType DecodeError) → ReadsType w r → ((n : ℕ) → IsNumberWord w n → n < 65536 → ⊥)
+    → MatchOption (result_ok r) ((t : RecordType) → ¬ (IsTypeWord w t)) (λ t. IsTypeWord w t)
 type_read w (Ok t) h none = inr h.0
 type_read w (Err e) h none = λ t is. ⊎_elim (λ (k : (n : ℕ) × IsNumberWord w n × (n < 65536) × (t ≡ record_type_of n)). none k.0 k.1 k.2) (λ k. h.1 t k) is
 
@@ -39,7 +44,8 @@ octets_one w {m} {n} (inr a) (inl b) = let e : decode_of w ≡ Ok m = a.1 in let
 octets_one w {m} {n} (inr a) (inr b) = let e : decode_of w ≡ Ok m = a.1 in let f : decode_of w ≡ Ok n = b.1 in cc
 
 -- five elements, each by its place
-pub five_items : {X : Type 0} (xs : List X) (a b c d e : X) → 5 ≤ length xs → length xs < 6 → a ≡ get_or xs 0 a → b ≡ get_or xs 1 b → c ≡ get_or xs 2 c → d ≡ get_or xs 3 d → e ≡ get_or xs 4 e → xs ≡ a ∷ b ∷ c ∷ d ∷ e ∷ []
+pub five_items : {X : Type 0} (xs : List X) (a b c d e : X) → 5 ≤ length xs → length xs < 6 → a ≡ get_or xs 0 a → b ≡ get_or xs 1 b → c ≡ get_or xs 2 c
+    → d ≡ get_or xs 3 d → e ≡ get_or xs 4 e → xs ≡ a ∷ b ∷ c ∷ d ∷ e ∷ []
 five_items [] a b c d e h k _ _ _ _ _ = absurd (omega arith)
 five_items (v ∷ []) a b c d e h k _ _ _ _ _ = absurd (omega arith)
 five_items (v ∷ w ∷ []) a b c d e h k _ _ _ _ _ = absurd (omega arith)
@@ -54,7 +60,8 @@ abbrev pub ReadWords : List (List ℕ) → List ℕ → List ℕ → List ℕ �
 ReadWords words a b c d = words ≡ codes "read" ∷ a ∷ b ∷ c ∷ d ∷ []
 
 module _ {words : List (List ℕ)} {a b c d : List ℕ} (is : ReadWords words a b c d) where
-  same_words : {t : RecordType} {p n : ℕ} {m : List ℕ} (k : Asks words t p n m) → (k.type_word ≡ a) × (k.place_word ≡ b) × (k.length_word ≡ c) × (k.octets_word ≡ d)
+  same_words : {t : RecordType} {p n : ℕ} {m : List ℕ} (k : Asks words t p n m)
+      → (k.type_word ≡ a) × (k.place_word ≡ b) × (k.length_word ≡ c) × (k.octets_word ≡ d)
   same_words k = let e : ReadWords words k.type_word k.place_word k.length_word k.octets_word = k.spelled in (cc, cc, cc, cc)
 
   pub no_type : ((t : RecordType) → ¬ (IsTypeWord a t)) → NoRequest words

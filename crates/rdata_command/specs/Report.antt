@@ -53,7 +53,8 @@ IsEmittedText v text = ((octets : List ℕ) × Emits v octets × (text ≡ octet
 pub record IsReport (t : RecordType) (v : RData) (lines : List ℕ) : Type 0 where
   pub emitted : List ℕ
   pub is_emitted : IsEmittedText v emitted
-  pub spelled : lines ≡ codes "type " ++ (decimal (number_of t) ++ ((10 ∷ codes "text ") ++ (printed_text v ++ ((10 ∷ codes "emitted ") ++ (emitted ++ (10 ∷ []))))))
+  pub spelled : lines ≡ codes "type " ++ (decimal (number_of t)
+      ++ ((10 ∷ codes "text ") ++ (printed_text v ++ ((10 ∷ codes "emitted ") ++ (emitted ++ (10 ∷ []))))))
 
 -- a value fills the octets, and its lines came behind what was written before
 pub record Printed (m : List ℕ) (p n : ℕ) (t : RecordType) (before after : Option (List ℕ)) : Type 0 where

@@ -105,7 +105,8 @@ pub fn say<W: io::Write>(out: &mut W, text: &str, status: u8) -> u8
 pub fn serve<W: io::Write>(alloc: Global, request: &Request, out: &mut W) -> u8
     requires { request.now.place ≤ size request.now.message.items }
     ensures status { (result ≡ 0) ⊎ (result ≡ 1) ⊎ (result ≡ 3) ⊎ (result ≡ 4) }
-    ensures printed { result ≡ 0 → Printed request.now.message.items request.now.place request.now.length request.now.record_type (W.contents out.old) (W.contents out.new) }
+    ensures printed { result ≡ 0 → Printed request.now.message.items request.now.place request.now.length request.now.record_type (W.contents out.old)
+        (W.contents out.new) }
     ensures refused { result ≡ 1 → NoValue request.now.message.items request.now.place request.now.length request.now.record_type
         × Appends (W.contents out.old) (W.contents out.new) (codes "refused\n") }
     ensures memory { result ≡ 3 → Appends (W.contents out.old) (W.contents out.new) (codes "memory\n") }

@@ -34,7 +34,7 @@ impl Name {
         let Name { octets, is_fqdn } = self;
         let mut octets = octets.into_vec()?;
         match building::append_label(&mut octets, label) {
-            Ok(()) => Ok(Name::from_octets(NameOctets::from_vec(octets), is_fqdn)),
+            Ok(()) => Ok(Name::from_octets(NameOctets::from_vec(octets), is_fqdn.get())),
             Err(NameError::Memory) => Err(ProtoError::Memory),
             Err(NameError::Invalid) => Err(ProtoError::Message("label does not fit a domain name")),
         }
@@ -49,7 +49,7 @@ impl Name {
         let Name { octets, .. } = self;
         let mut octets = octets.into_vec()?;
         match building::append_octets(&mut octets, other.octets.as_slice()) {
-            Ok(()) => Ok(Name::from_octets(NameOctets::from_vec(octets), other.is_fqdn)),
+            Ok(()) => Ok(Name::from_octets(NameOctets::from_vec(octets), other.is_fqdn.get())),
             Err(NameError::Memory) => Err(ProtoError::Memory),
             Err(NameError::Invalid) => Err(ProtoError::Message("domain name past 255 octets")),
         }
@@ -94,7 +94,7 @@ impl Name {
     {
         let mut octets = Vec::from_slice(self.allocator(), self.octets.as_slice())?;
         octets.as_mut_slice().make_ascii_lowercase();
-        Ok(Name::from_octets(NameOctets::from_vec(octets), self.is_fqdn))
+        Ok(Name::from_octets(NameOctets::from_vec(octets), self.is_fqdn.get()))
     }
 
     /// The name without its first label, its mark kept; of a name without labels that name. Fails only for want of
@@ -104,7 +104,7 @@ impl Name {
     {
         let rest = without_first(self.octets.as_slice());
         let octets = NameOctets::from_slice(self.allocator(), rest)?;
-        Ok(Name::from_octets(octets, self.is_fqdn))
+        Ok(Name::from_octets(octets, self.is_fqdn.get()))
     }
 }
 

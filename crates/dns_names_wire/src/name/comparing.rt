@@ -26,8 +26,9 @@ impl PartialEq for Name {
         ensures value { result ≡ name_eq self.now other.now }
         ensures exact { IsTrue result ↔ ((lowname self.now ≡ lowname other.now) × (self.now.fully_qualified ≡ other.now.fully_qualified)) }
     {
-        self.is_fqdn == other.is_fqdn
-            && equal_lowered(self.octets.as_slice(), other.octets.as_slice())
+        let mark = self.is_fqdn.get();
+        let other_mark = other.is_fqdn.get();
+        mark == other_mark && equal_lowered(self.octets.as_slice(), other.octets.as_slice())
     }
 }
 
@@ -58,7 +59,7 @@ impl Ord for Name {
     /// By the first difference of the canonical octets, and then a relative name first.
     fn cmp(&self, other: &Name) -> Ordering {
         compare_lowered(self.octets.as_slice(), other.octets.as_slice()).then(
-            self.is_fqdn.cmp(&other.is_fqdn),
+            self.is_fqdn.get().cmp(&other.is_fqdn.get()),
         )
     }
 }
@@ -71,7 +72,7 @@ impl Hash for Name {
     /// Feeds the canonical octets at once, and the mark.
     fn hash<H: Hasher>(&self, state: &mut H) {
         hash_lowered(self.octets.as_slice(), state);
-        self.is_fqdn.hash(state);
+        self.is_fqdn.get().hash(state);
     }
 }
 
@@ -81,7 +82,8 @@ impl Name {
     pub fn eq_case(&self, other: &Name) -> bool
         ensures { IsTrue result ↔ (self.now ≡ other.now) }
     {
-        other.is_fqdn == self.is_fqdn && self.octets.as_slice() == other.octets.as_slice()
+        other.is_fqdn.get() == self.is_fqdn.get()
+            && self.octets.as_slice() == other.octets.as_slice()
     }
 
     /// Whether the other name is this one or below it, but for the case of ASCII letters and the marks: its last labels

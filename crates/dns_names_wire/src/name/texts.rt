@@ -47,7 +47,7 @@ impl Name {
     pub fn to_ascii(&self) -> Result<String, AllocError>
         ensures { IfOk result (λ text. string_bytes text ≡ name_text self.now) }
     {
-        NameText::new(self.octets.as_slice(), self.is_fqdn).to_string(self.allocator())
+        NameText::new(self.octets.as_slice(), self.is_fqdn.get()).to_string(self.allocator())
     }
 }
 
@@ -57,7 +57,7 @@ impl fmt::Display for Name {
     /// The labels joined by dots, with a dot at the end where it is fully qualified. In a label `.` and `\` stand
     /// behind a `\`, and an octet that is no graphic character of ASCII is `\` and three digits. Takes no memory.
     fn fmt<W: fmt::Write>(&self, f: &mut fmt::Formatter<W>) -> fmt::Result {
-        f.write(NameText::new(self.octets.as_slice(), self.is_fqdn))
+        f.write(NameText::new(self.octets.as_slice(), self.is_fqdn.get()))
     }
 }
 

@@ -197,7 +197,8 @@ impl Hash for Algorithm {
 impl PartialOrd for Algorithm {
     ghost partial_cmp = { as_partial_cmp (numbered_cmp cert_algorithm_number cert_algorithm_variant) };
 
-    ghost laws = { partial_order_from_agreeing_total (numbered_cmp cert_algorithm_number cert_algorithm_variant) (numbered_total cert_algorithm_number cert_algorithm_variant) (λ _ _. refl) (numbered_ties cert_algorithm_number cert_algorithm_variant) };
+    ghost laws = { partial_order_from_agreeing_total (numbered_cmp cert_algorithm_number cert_algorithm_variant)
+        (numbered_total cert_algorithm_number cert_algorithm_variant) (λ _ _. refl) (numbered_ties cert_algorithm_number cert_algorithm_variant) };
 
     #[inline]
     fn partial_cmp(&self, other: &Algorithm) -> Option<Ordering> {

@@ -166,7 +166,8 @@ impl Hash for CertType {
 impl PartialOrd for CertType {
     ghost partial_cmp = { as_partial_cmp (numbered_cmp cert_type_number cert_type_variant) };
 
-    ghost laws = { partial_order_from_agreeing_total (numbered_cmp cert_type_number cert_type_variant) (numbered_total cert_type_number cert_type_variant) (λ _ _. refl) (numbered_ties cert_type_number cert_type_variant) };
+    ghost laws = { partial_order_from_agreeing_total (numbered_cmp cert_type_number cert_type_variant) (numbered_total cert_type_number cert_type_variant)
+        (λ _ _. refl) (numbered_ties cert_type_number cert_type_variant) };
 
     #[inline]
     fn partial_cmp(&self, other: &CertType) -> Option<Ordering> {

@@ -123,7 +123,8 @@ impl Hash for Algorithm {
 impl PartialOrd for Algorithm {
     ghost partial_cmp = { as_partial_cmp (numbered_cmp sshfp_algorithm_number sshfp_algorithm_variant) };
 
-    ghost laws = { partial_order_from_agreeing_total (numbered_cmp sshfp_algorithm_number sshfp_algorithm_variant) (numbered_total sshfp_algorithm_number sshfp_algorithm_variant) (λ _ _. refl) (numbered_ties sshfp_algorithm_number sshfp_algorithm_variant) };
+    ghost laws = { partial_order_from_agreeing_total (numbered_cmp sshfp_algorithm_number sshfp_algorithm_variant)
+        (numbered_total sshfp_algorithm_number sshfp_algorithm_variant) (λ _ _. refl) (numbered_ties sshfp_algorithm_number sshfp_algorithm_variant) };
 
     #[inline]
     fn partial_cmp(&self, other: &Algorithm) -> Option<Ordering> {

@@ -108,7 +108,8 @@ impl Hash for FingerprintType {
 impl PartialOrd for FingerprintType {
     ghost partial_cmp = { as_partial_cmp (numbered_cmp fingerprint_type_number fingerprint_type_variant) };
 
-    ghost laws = { partial_order_from_agreeing_total (numbered_cmp fingerprint_type_number fingerprint_type_variant) (numbered_total fingerprint_type_number fingerprint_type_variant) (λ _ _. refl) (numbered_ties fingerprint_type_number fingerprint_type_variant) };
+    ghost laws = { partial_order_from_agreeing_total (numbered_cmp fingerprint_type_number fingerprint_type_variant)
+        (numbered_total fingerprint_type_number fingerprint_type_variant) (λ _ _. refl) (numbered_ties fingerprint_type_number fingerprint_type_variant) };
 
     #[inline]
     fn partial_cmp(&self, other: &FingerprintType) -> Option<Ordering> {

@@ -118,7 +118,8 @@ impl Hash for CertUsage {
 impl PartialOrd for CertUsage {
     ghost partial_cmp = { as_partial_cmp (numbered_cmp cert_usage_number cert_usage_variant) };
 
-    ghost laws = { partial_order_from_agreeing_total (numbered_cmp cert_usage_number cert_usage_variant) (numbered_total cert_usage_number cert_usage_variant) (λ _ _. refl) (numbered_ties cert_usage_number cert_usage_variant) };
+    ghost laws = { partial_order_from_agreeing_total (numbered_cmp cert_usage_number cert_usage_variant)
+        (numbered_total cert_usage_number cert_usage_variant) (λ _ _. refl) (numbered_ties cert_usage_number cert_usage_variant) };
 
     #[inline]
     fn partial_cmp(&self, other: &CertUsage) -> Option<Ordering> {

@@ -113,7 +113,8 @@ impl Hash for Matching {
 impl PartialOrd for Matching {
     ghost partial_cmp = { as_partial_cmp (numbered_cmp matching_number matching_variant) };
 
-    ghost laws = { partial_order_from_agreeing_total (numbered_cmp matching_number matching_variant) (numbered_total matching_number matching_variant) (λ _ _. refl) (numbered_ties matching_number matching_variant) };
+    ghost laws = { partial_order_from_agreeing_total (numbered_cmp matching_number matching_variant) (numbered_total matching_number matching_variant)
+        (λ _ _. refl) (numbered_ties matching_number matching_variant) };
 
     #[inline]
     fn partial_cmp(&self, other: &Matching) -> Option<Ordering> {

@@ -109,7 +109,8 @@ impl Hash for Selector {
 impl PartialOrd for Selector {
     ghost partial_cmp = { as_partial_cmp (numbered_cmp selector_number selector_variant) };
 
-    ghost laws = { partial_order_from_agreeing_total (numbered_cmp selector_number selector_variant) (numbered_total selector_number selector_variant) (λ _ _. refl) (numbered_ties selector_number selector_variant) };
+    ghost laws = { partial_order_from_agreeing_total (numbered_cmp selector_number selector_variant) (numbered_total selector_number selector_variant)
+        (λ _ _. refl) (numbered_ties selector_number selector_variant) };
 
     #[inline]
     fn partial_cmp(&self, other: &Selector) -> Option<Ordering> {

@@ -119,6 +119,7 @@ impl EdnsCode {
         }
     }
 }
+
 impl PartialEq for EdnsCode {
     ghost eq = { numbered_eq edns_code_number edns_code_variant };
 
@@ -149,7 +150,8 @@ impl Hash for EdnsCode {
 impl PartialOrd for EdnsCode {
     ghost partial_cmp = { as_partial_cmp (numbered_cmp edns_code_number edns_code_variant) };
 
-    ghost laws = { partial_order_from_agreeing_total (numbered_cmp edns_code_number edns_code_variant) (numbered_total edns_code_number edns_code_variant) (λ _ _. refl) (numbered_ties edns_code_number edns_code_variant) };
+    ghost laws = { partial_order_from_agreeing_total (numbered_cmp edns_code_number edns_code_variant) (numbered_total edns_code_number edns_code_variant)
+        (λ _ _. refl) (numbered_ties edns_code_number edns_code_variant) };
 
     #[inline]
     fn partial_cmp(&self, other: &EdnsCode) -> Option<Ordering> {

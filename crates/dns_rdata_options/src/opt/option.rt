@@ -63,10 +63,7 @@ impl EdnsOption {
         match code {
             EdnsCode::Subnet => Ok(EdnsOption::Subnet(ClientSubnet::try_from(octets)?)),
             EdnsCode::NSID => Ok(EdnsOption::NSID(NSIDPayload::try_from(alloc, octets)?)),
-            code => Ok(EdnsOption::Unknown(
-                u16::from(code),
-                Octets::from_slice(alloc, octets)?,
-            )),
+            code => Ok(EdnsOption::Unknown(u16::from(code), Octets::from_slice(alloc, octets)?)),
         }
     }
 
@@ -116,7 +113,10 @@ impl Clone for EdnsOption {
         match self {
             EdnsOption::Subnet(subnet) => Ok(EdnsOption::Subnet(*subnet)),
             EdnsOption::NSID(payload) => Ok(EdnsOption::NSID(payload.clone()?)),
-            EdnsOption::Unknown(number, octets) => Ok(EdnsOption::Unknown(*number, octets.clone()?)),
+            EdnsOption::Unknown(number, octets) => Ok(EdnsOption::Unknown(
+                *number,
+                octets.clone()?,
+            )),
         }
     }
 }

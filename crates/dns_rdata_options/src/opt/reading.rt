@@ -133,11 +133,7 @@ fn read_pair(
 }
 
 // Reads the options of a record in which none is cut, this many.
-fn read_whole(
-    decoder: &mut BinDecoder<'_>,
-    length: u16,
-    count: usize,
-) -> Result<OPT, DecodeError>
+fn read_whole(decoder: &mut BinDecoder<'_>, length: u16, count: usize) -> Result<OPT, DecodeError>
     ensures fields { ReadsTo opt_shape (λ _. Unit {0}) length opt_fields result decoder.old decoder.new }
     ensures read { IfOk result IsReadOpt }
     ensures refused { IfErr result (λ e. opt_refusal length decoder.old e decoder.new) }
@@ -174,10 +170,7 @@ fn read_cut(decoder: &mut BinDecoder<'_>, length: u16) -> Result<OPT, DecodeErro
 }
 
 // Reads the options that fill the length, or are cut at its end.
-pub(crate) fn read_options(
-    decoder: &mut BinDecoder<'_>,
-    length: u16,
-) -> Result<OPT, DecodeError>
+pub(crate) fn read_options(decoder: &mut BinDecoder<'_>, length: u16) -> Result<OPT, DecodeError>
     ensures fields { ReadsTo opt_shape (λ _. Unit {0}) length opt_fields result decoder.old decoder.new }
     ensures read { IfOk result IsReadOpt }
     ensures refused { IfErr result (λ e. opt_refusal length decoder.old e decoder.new) }

@@ -4,12 +4,11 @@ ghost use Rattle.std.specs.Prelude.{◌≡◌, ◌+◌, ◌<◌, ◌≤◌, ◌/
 ghost use Rattle.dns_fields.specs.Pieces.{option_octets, IsEmittableOption, IsAddress, Subnet as SubnetValue};
 ghost use Rattle.dns_names_wire.specs.Words.{ReadsBy, IsMessage};
 ghost use Rattle.dns_rdata_options.specs.Words.{EmitsOctets};
-ghost use Rattle.dns_rdata_options.specs.ClientSubnet.{subnet_value, SubnetAt, NoSubnet, subnet_refusal, ReadsSubnet, prefix_octets, family_octets, address_of, address_octets, family_of, padded, IsFamily};
+ghost use Rattle.dns_rdata_options.specs.ClientSubnet.{subnet_value, SubnetAt, NoSubnet, subnet_refusal, ReadsSubnet, prefix_octets};
+ghost use Rattle.dns_rdata_options.specs.ClientSubnet.{family_octets, address_of, address_octets, family_of, padded, IsFamily};
 
 use crate::opt::net::IpNet;
-use dns_names_wire::{
-    BinDecodable, BinDecoder, BinEncodable, BinEncoder, DecodeError, ProtoError,
-};
+use dns_names_wire::{BinDecodable, BinDecoder, BinEncodable, BinEncoder, DecodeError, ProtoError};
 use std::alloc::Global;
 use std::net::{IpAddr, Ipv4Addr, Ipv6Addr};
 

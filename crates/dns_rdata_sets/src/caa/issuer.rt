@@ -13,7 +13,9 @@ ghost use Rattle.dns_types.specs.declared.error.DecodeError.TheVariants as decod
 ghost use Rattle.dns_types.specs.declared.error.ProtoError.TheVariants as proto;
 ghost use Rattle.dns_fields.specs.Labels.{DomainName};
 ghost use Rattle.dns_names_wire.specs.NameValues.{IsTextRefusal};
-ghost use Rattle.dns_rdata_sets.specs.Issuer.{Parameter, is_blank, is_key_octet, is_value_octet, is_no_semicolon, AllOf, Splits, IsKey, IsParameter, parameter_octets, AreParameters, IsIssuerName, name_refusal, IsIssuer, issuer_refusal, IsNamed, IsWritable, issuer_name_text, parameters_text, issuer_value};
+ghost use Rattle.dns_rdata_sets.specs.Issuer.{Parameter, is_blank, is_key_octet, is_value_octet, is_no_semicolon, AllOf, Splits, IsKey};
+ghost use Rattle.dns_rdata_sets.specs.Issuer.{IsParameter, parameter_octets, AreParameters, IsIssuerName, name_refusal, IsIssuer};
+ghost use Rattle.dns_rdata_sets.specs.Issuer.{issuer_refusal, IsNamed, IsWritable, issuer_name_text, parameters_text, issuer_value};
 
 use dns_names_wire::{DecodeError, Name, ProtoError, ProtoResult};
 use std::alloc::{AllocError, Global};

@@ -41,7 +41,8 @@ impl CAA {
         name: Option<Name>,
         options: Vec<KeyValue>,
     ) -> Result<CAA, AllocError>
-        ensures made { IfOk result (λ x. x ≡ record { issuer_critical = issuer_critical; reserved_flags = 0; tag = codes "issue"; value = issuer_value name options.items }) }
+        ensures made { IfOk result (λ x. x ≡ record
+            { issuer_critical = issuer_critical; reserved_flags = 0; tag = codes "issue"; value = issuer_value name options.items }) }
         // the value reads back as this name and these parameters, where they are in the grammar
         ensures reads_back { IsWritable name → AllByRecursion IsParameter options.items → IfOk result (λ x. IsIssuer x.value name options.items) }
     {
@@ -54,7 +55,8 @@ impl CAA {
         name: Option<Name>,
         options: Vec<KeyValue>,
     ) -> Result<CAA, AllocError>
-        ensures made { IfOk result (λ x. x ≡ record { issuer_critical = issuer_critical; reserved_flags = 0; tag = codes "issuewild"; value = issuer_value name options.items }) }
+        ensures made { IfOk result (λ x. x ≡ record
+            { issuer_critical = issuer_critical; reserved_flags = 0; tag = codes "issuewild"; value = issuer_value name options.items }) }
         ensures reads_back { IsWritable name → AllByRecursion IsParameter options.items → IfOk result (λ x. IsIssuer x.value name options.items) }
     {
         CAA::with_issuer(issuer_critical, b"issuewild", name, options)
@@ -67,7 +69,8 @@ impl CAA {
         name: Option<Name>,
         options: Vec<KeyValue>,
     ) -> Result<CAA, AllocError>
-        ensures made { IfOk result (λ x. x ≡ record { issuer_critical = issuer_critical; reserved_flags = 0; tag = tag.now; value = issuer_value name options.items }) }
+        ensures made { IfOk result (λ x. x ≡ record
+            { issuer_critical = issuer_critical; reserved_flags = 0; tag = tag.now; value = issuer_value name options.items }) }
         ensures reads_back { IsWritable name → AllByRecursion IsParameter options.items → IfOk result (λ x. IsIssuer x.value name options.items) }
     {
         let alloc = *options.allocator();
@@ -105,7 +108,8 @@ impl CAA {
         ensures tag { OnOk result (IsIssuerTag self.old.tag) }
         ensures unchanged { OnErr result (self.new ≡ self.old) }
         ensures refused { IfErr result (λ e. IsTextRefusal e (IsIssuerTag self.old.tag → ⊥)) }
-        ensures reads_back { IsWritable (option_copied name.entry) → AllByRecursion IsParameter key_values.now → OnOk result (IsIssuer self.new.value (option_copied name.entry) key_values.now) }
+        ensures reads_back { IsWritable (option_copied name.entry) → AllByRecursion IsParameter key_values.now
+            → OnOk result (IsIssuer self.new.value (option_copied name.entry) key_values.now) }
     {
         if !is_issuer_tag(self.tag.as_slice()) {
             return Err(NO_ISSUER_TAG);

@@ -93,7 +93,8 @@ fn mark_window(octets: &mut [u8; 32], run: &[u16])
 fn mark_bit(octets: &mut [u8], b: usize)
     requires bit { b < 256 }
     requires window { length octets.old ≡ 32 }
-    ensures { (n : ℕ) → n < 256 → bit_at (slice_index octets.new (n / 8)) (7 - n % 8) ≡ (if b == n then 1 else bit_at (slice_index octets.old (n / 8)) (7 - n % 8)) }
+    ensures { (n : ℕ) → n < 256 → bit_at (slice_index octets.new (n / 8))
+        (7 - n % 8) ≡ (if b == n then 1 else bit_at (slice_index octets.old (n / 8)) (7 - n % 8)) }
 {
     octets[b / 8] |= 1 << (7 - b % 8);
 }

@@ -13,16 +13,22 @@ returns-then-left-eq0-clause-none c = λ label t rest lt e end short room.
 
 pub returns-in_err-octet-clause-none : goal.returns-in_err-octet-clause-none
 returns-in_err-octet-clause-none c = rw c.from_residual.ensures (λ label t rest lt e end short room.
-    label_refused c.args.text.now c.octets.at c.args.octets.now c.octets.octets c.octets.invariant.0 (omega arith) (omega arith) (rw (take_rest c.args.text.now c.octets.at) at c.in_err-octet.ensures.none) label t rest lt e end)
+    label_refused c.args.text.now c.octets.at c.args.octets.now c.octets.octets c.octets.invariant.0 (omega arith) (omega arith)
+    (rw (take_rest c.args.text.now c.octets.at) at c.in_err-octet.ensures.none) label t rest lt e end)
 
 pub octets-preserved : goal.octets-preserved
 octets-preserved c =
     let e = rw (take_rest c.args.text.now c.octets.at) at c.in_ok-octet.ensures.found in
     let f = rw (take_rest c.args.text.now c.octets.at) at c.in_ok-octet.ensures.length in
-    rw c.push.ensures (label_more c.args.text.now c.octets.at _ _ c.args.octets.now c.octets.octets c.octets.invariant.0 (omega arith) (omega arith) f.1 e, simp length-append (omega (arith, c.octets.invariant.1)))
+    rw c.push.ensures (
+      label_more c.args.text.now c.octets.at _ _ c.args.octets.now c.octets.octets c.octets.invariant.0 (omega arith) (omega arith) f.1 e,
+      simp length-append (omega (arith, c.octets.invariant.1)),
+    )
 
 pub returns-else-text-at-ne46-clause-some : goal.returns-else-text-at-ne46-clause-some
-returns-else-text-at-ne46-clause-some c = label_done c.args.text.now c.octets.at c.args.octets.now c.octets.octets c.octets.invariant.0 (at_dot c.args.text.now c.octets.at (omega arith) (omega arith))
+returns-else-text-at-ne46-clause-some c = label_done c.args.text.now c.octets.at c.args.octets.now c.octets.octets c.octets.invariant.0
+    (at_dot c.args.text.now c.octets.at (omega arith) (omega arith))
 
 pub returns-after-octets-clause-some : goal.returns-after-octets-clause-some
-returns-after-octets-clause-some c = label_done c.args.text.now c.octets.at c.args.octets.now c.octets.octets c.octets.invariant.0 (rw (drop_all c.octets.at c.args.text.now (omega arith)) tt)
+returns-after-octets-clause-some c = label_done c.args.text.now c.octets.at c.args.octets.now c.octets.octets c.octets.invariant.0
+    (rw (drop_all c.octets.at c.args.text.now (omega arith)) tt)

@@ -3,4 +3,5 @@ use Rattle.dns_names_wire.proofs.WindowReads.{fields_window}
 use Rattle.dns_rdata_base.proofs.decoding.read_whole.Goals as goal
 
 pub returns-clause-window : goal.returns-clause-window
-returns-clause-window g c = fields_window g.T.DecodesFields.decoded g.T.DecodesFields.asked g.T.DecodesFields.taken _ _ _ _ g.met.T.DecodesFields.ends.0 g.met.T.DecodesFields.ends.1 (record { octets = c.index-start.ensures.octets; short = omega arith }) c.read_fields.ensures.fields
+returns-clause-window g c = fields_window g.T.DecodesFields.decoded g.T.DecodesFields.asked g.T.DecodesFields.taken _ _ _ _ g.met.T.DecodesFields.ends.0
+    g.met.T.DecodesFields.ends.1 (record { octets = c.index-start.ensures.octets; short = omega arith }) c.read_fields.ensures.fields

@@ -2,4 +2,6 @@ use Rattle.dns_names_wire.proofs.FieldWrites.{emitted_as, emits_extend}
 use Rattle.dns_rdata_base.proofs.emitting.emit_in.Goals as goal
 
 pub returns-clause-extends : goal.returns-clause-extends
-returns-clause-extends g c = emits_extend _ _ _ _ _ _ (emitted_as g.T.EncodesFields.emitted (g.T.EncodesFields.parts c.args.value.now) c.args.mode _ _ _ _ _ _ c.with_rdata_behavior-earlier.ensures.earlier c.with_rdata_behavior-earlier.ensures.set c.emit_fields-outcome.ensures.emits c.with_rdata_behavior.ensures.set)
+returns-clause-extends g c = emits_extend _ _ _ _ _ _
+    (emitted_as g.T.EncodesFields.emitted (g.T.EncodesFields.parts c.args.value.now) c.args.mode _ _ _ _ _ _ c.with_rdata_behavior-earlier.ensures.earlier
+    c.with_rdata_behavior-earlier.ensures.set c.emit_fields-outcome.ensures.emits c.with_rdata_behavior.ensures.set)

@@ -17,5 +17,5 @@ labels-preserved c = cut_more c.args.octets.now c.labels.cut c.labels.invariant 
 pub returns : goal.returns
 returns c = cut_all c.args.message.now c.args.octets.now c.labels.cut c.labels.invariant (omega arith)
 
-pub slice_bounds-label-end : goal.slice_bounds-label-end
-slice_bounds-label-end c = (cut_more c.args.octets.now c.labels.cut c.labels.invariant (omega arith)).within
+pub label_hash-hash-requires : goal.label_hash-hash-requires
+label_hash-hash-requires c = (cut_more c.args.octets.now c.labels.cut c.labels.invariant (omega arith)).within

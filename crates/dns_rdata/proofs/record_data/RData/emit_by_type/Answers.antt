@@ -25,6 +25,9 @@ returns-in-CSYNC c = emits_at _ _ _ _ _ c.in-CSYNC.is c.emit-in-CSYNC.ensures.em
 pub returns-in-HINFO : goal.returns-in-HINFO
 returns-in-HINFO c = emits_at _ _ _ _ _ c.in-HINFO.is c.emit-in-HINFO.ensures.emits
 
+pub returns-in-HTTPS : goal.returns-in-HTTPS
+returns-in-HTTPS c = emits_at _ _ _ _ _ c.in-HTTPS.is c.emit-in-HTTPS.ensures.emits
+
 pub returns-in-MX : goal.returns-in-MX
 returns-in-MX c = emits_at _ _ _ _ _ c.in-MX.is c.emit-in-MX.ensures.emits
 
@@ -57,6 +60,9 @@ returns-in-SRV c = emits_at _ _ _ _ _ c.in-SRV.is c.emit-in-SRV.ensures.emits
 
 pub returns-in-SSHFP : goal.returns-in-SSHFP
 returns-in-SSHFP c = emits_at _ _ _ _ _ c.in-SSHFP.is c.emit-in-SSHFP.ensures.emits
+
+pub returns-in-SVCB : goal.returns-in-SVCB
+returns-in-SVCB c = emits_at _ _ _ _ _ c.in-SVCB.is c.emit-in-SVCB.ensures.emits
 
 pub returns-in-TLSA : goal.returns-in-TLSA
 returns-in-TLSA c = emits_at _ _ _ _ _ c.in-TLSA.is c.emit-in-TLSA.ensures.emits

@@ -7,19 +7,33 @@ use Rattle.dns_rdata_base.proofs.naptr.NAPTR.read_in_order.Goals as goal
 pub returns-in_err-read_character_data-clause-refused : goal.returns-in_err-read_character_data-clause-refused
 returns-in_err-read_character_data-clause-refused c =
     let p = err_from_is_err_and c.from_residual-in_err-read_character_data.result c.from_residual-in_err-read_character_data.ensures.1 in
-    rw (p.1, p.2) (inl (is_lack_then (Number 2 ∷ Text ∷ Text ∷ Text ∷ Name ∷ []) _ _ c.in_ok-read_u16.ensures.taken (is_lack_then (Text ∷ Text ∷ Text ∷ Name ∷ []) _ _ c.in_ok-read_u16-2.ensures.taken (is_lack_here Text (Text ∷ Text ∷ Name ∷ []) _ _ _ c.in_err-read_character_data.ensures.lacking))))
+    rw (p.1, p.2) (inl (is_lack_then (Number 2 ∷ Text ∷ Text ∷ Text ∷ Name ∷ []) _ _ c.in_ok-read_u16.ensures.taken
+    (is_lack_then (Text ∷ Text ∷ Text ∷ Name ∷ []) _ _ c.in_ok-read_u16-2.ensures.taken
+    (is_lack_here Text (Text ∷ Text ∷ Name ∷ []) _ _ _ c.in_err-read_character_data.ensures.lacking))))
 
 pub returns-in_err-read_character_data-2-clause-refused : goal.returns-in_err-read_character_data-2-clause-refused
 returns-in_err-read_character_data-2-clause-refused c =
     let p = err_from_is_err_and c.from_residual-in_err-read_character_data-2.result c.from_residual-in_err-read_character_data-2.ensures.1 in
-    rw (p.1, p.2) (inl (is_lack_then (Number 2 ∷ Text ∷ Text ∷ Text ∷ Name ∷ []) _ _ c.in_ok-read_u16.ensures.taken (is_lack_then (Text ∷ Text ∷ Text ∷ Name ∷ []) _ _ c.in_ok-read_u16-2.ensures.taken (is_lack_then (Text ∷ Text ∷ Name ∷ []) _ _ c.in_ok-read_character_data.ensures.taken (is_lack_here Text (Text ∷ Name ∷ []) _ _ _ c.in_err-read_character_data-2.ensures.lacking)))))
+    rw (p.1, p.2) (inl (is_lack_then (Number 2 ∷ Text ∷ Text ∷ Text ∷ Name ∷ []) _ _ c.in_ok-read_u16.ensures.taken
+    (is_lack_then (Text ∷ Text ∷ Text ∷ Name ∷ []) _ _ c.in_ok-read_u16-2.ensures.taken
+    (is_lack_then (Text ∷ Text ∷ Name ∷ []) _ _ c.in_ok-read_character_data.ensures.taken
+    (is_lack_here Text (Text ∷ Name ∷ []) _ _ _ c.in_err-read_character_data-2.ensures.lacking)))))
 
 pub returns-in_err-read_character_data-3-clause-refused : goal.returns-in_err-read_character_data-3-clause-refused
 returns-in_err-read_character_data-3-clause-refused c =
     let p = err_from_is_err_and c.from_residual-in_err-read_character_data-3.result c.from_residual-in_err-read_character_data-3.ensures.1 in
-    rw (p.1, p.2) (inl (is_lack_then (Number 2 ∷ Text ∷ Text ∷ Text ∷ Name ∷ []) _ _ c.in_ok-read_u16.ensures.taken (is_lack_then (Text ∷ Text ∷ Text ∷ Name ∷ []) _ _ c.in_ok-read_u16-2.ensures.taken (is_lack_then (Text ∷ Text ∷ Name ∷ []) _ _ c.in_ok-read_character_data.ensures.taken (is_lack_then (Text ∷ Name ∷ []) _ _ c.in_ok-read_character_data-2.ensures.taken (is_lack_here Text (Name ∷ []) _ _ _ c.in_err-read_character_data-3.ensures.lacking))))))
+    rw (p.1, p.2) (inl (is_lack_then (Number 2 ∷ Text ∷ Text ∷ Text ∷ Name ∷ []) _ _ c.in_ok-read_u16.ensures.taken
+    (is_lack_then (Text ∷ Text ∷ Text ∷ Name ∷ []) _ _ c.in_ok-read_u16-2.ensures.taken
+    (is_lack_then (Text ∷ Text ∷ Name ∷ []) _ _ c.in_ok-read_character_data.ensures.taken
+    (is_lack_then (Text ∷ Name ∷ []) _ _ c.in_ok-read_character_data-2.ensures.taken
+    (is_lack_here Text (Name ∷ []) _ _ _ c.in_err-read_character_data-3.ensures.lacking))))))
 
 pub returns-in_err-replacement-clause-refused : goal.returns-in_err-replacement-clause-refused
 returns-in_err-replacement-clause-refused c =
     let p = err_from_is_err_and c.from_residual-in_err-replacement.result c.from_residual-in_err-replacement.ensures.1 in
-    rw (p.1, p.2) (inl (is_lack_then (Number 2 ∷ Text ∷ Text ∷ Text ∷ Name ∷ []) _ _ c.in_ok-read_u16.ensures.taken (is_lack_then (Text ∷ Text ∷ Text ∷ Name ∷ []) _ _ c.in_ok-read_u16-2.ensures.taken (is_lack_then (Text ∷ Text ∷ Name ∷ []) _ _ c.in_ok-read_character_data.ensures.taken (is_lack_then (Text ∷ Name ∷ []) _ _ c.in_ok-read_character_data-2.ensures.taken (is_lack_then (Name ∷ []) _ _ c.in_ok-read_character_data-3.ensures.taken (is_lack_name [] _ _ _ c.in_err-replacement.ensures.lacking c.in_err-replacement.ensures.unchanged)))))))
+    rw (p.1, p.2) (inl (is_lack_then (Number 2 ∷ Text ∷ Text ∷ Text ∷ Name ∷ []) _ _ c.in_ok-read_u16.ensures.taken
+    (is_lack_then (Text ∷ Text ∷ Text ∷ Name ∷ []) _ _ c.in_ok-read_u16-2.ensures.taken
+    (is_lack_then (Text ∷ Text ∷ Name ∷ []) _ _ c.in_ok-read_character_data.ensures.taken
+    (is_lack_then (Text ∷ Name ∷ []) _ _ c.in_ok-read_character_data-2.ensures.taken
+    (is_lack_then (Name ∷ []) _ _ c.in_ok-read_character_data-3.ensures.taken
+    (is_lack_name [] _ _ _ c.in_err-replacement.ensures.lacking c.in_err-replacement.ensures.unchanged)))))))

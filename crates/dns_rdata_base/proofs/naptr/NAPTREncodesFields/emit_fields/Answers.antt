@@ -1,28 +1,18 @@
+use Rattle.dns_names_wire.proofs.PlainWrites.{emits_more, stopped_early}
+use Rattle.dns_rdata_base.specs.NAPTR.{naptr_numbers_shape, naptr_numbers, naptr_rest_shape, naptr_rest}
 use Rattle.std.proofs.lemmas.Result.{err_from_is_err_and}
-use Rattle.dns_names_wire.proofs.FieldWrites.{stopped_then, stopped_first}
 use Rattle.dns_rdata_base.proofs.naptr.NAPTREncodesFields.emit_fields.Goals as goal
 
-pub returns-in_err-emit_u16-2 : goal.returns-in_err-emit_u16-2
-returns-in_err-emit_u16-2 c =
-    let p = err_from_is_err_and c.from_residual-in_err-emit_u16-2.result c.from_residual-in_err-emit_u16-2.ensures.1 in
-    rw (p.1, p.2) (record { emits = stopped_then c.in_ok-emit_u16.ensures.emits (stopped_first c.in_err-emit_u16-2.ensures.emits) })
+pub returns : goal.returns
+returns c = record {
+  emits = emits_more naptr_numbers_shape naptr_rest_shape (naptr_numbers c.args.self.now) (naptr_rest c.args.self.now) _ _ _ _
+      c.in_ok-emit_numbers.ensures c.emit_rest.ensures.emits;
+}
 
-pub returns-in_err-emit_character_data : goal.returns-in_err-emit_character_data
-returns-in_err-emit_character_data c =
-    let p = err_from_is_err_and c.from_residual-in_err-emit_character_data.result c.from_residual-in_err-emit_character_data.ensures.1 in
-    rw (p.1, p.2) (record { emits = stopped_then c.in_ok-emit_u16.ensures.emits (stopped_then c.in_ok-emit_u16-2.ensures.emits (stopped_first (rw c.as_slice.ensures.value at c.in_err-emit_character_data.ensures.emits))) })
-
-pub returns-in_err-emit_character_data-2 : goal.returns-in_err-emit_character_data-2
-returns-in_err-emit_character_data-2 c =
-    let p = err_from_is_err_and c.from_residual-in_err-emit_character_data-2.result c.from_residual-in_err-emit_character_data-2.ensures.1 in
-    rw (p.1, p.2) (record { emits = stopped_then c.in_ok-emit_u16.ensures.emits (stopped_then c.in_ok-emit_u16-2.ensures.emits (stopped_then (rw c.as_slice.ensures.value at c.in_ok-emit_character_data.ensures.emits) (stopped_first (rw c.as_slice-2.ensures.value at c.in_err-emit_character_data-2.ensures.emits)))) })
-
-pub returns-in_err-emit_character_data-3 : goal.returns-in_err-emit_character_data-3
-returns-in_err-emit_character_data-3 c =
-    let p = err_from_is_err_and c.from_residual-in_err-emit_character_data-3.result c.from_residual-in_err-emit_character_data-3.ensures.1 in
-    rw (p.1, p.2) (record { emits = stopped_then c.in_ok-emit_u16.ensures.emits (stopped_then c.in_ok-emit_u16-2.ensures.emits (stopped_then (rw c.as_slice.ensures.value at c.in_ok-emit_character_data.ensures.emits) (stopped_then (rw c.as_slice-2.ensures.value at c.in_ok-emit_character_data-2.ensures.emits) (stopped_first (rw c.as_slice-3.ensures.value at c.in_err-emit_character_data-3.ensures.emits))))) })
-
-pub returns-in_err-emit : goal.returns-in_err-emit
-returns-in_err-emit c =
-    let p = err_from_is_err_and c.from_residual-in_err-emit.result c.from_residual-in_err-emit.ensures.1 in
-    rw (p.1, p.2) (record { emits = stopped_then c.in_ok-emit_u16.ensures.emits (stopped_then c.in_ok-emit_u16-2.ensures.emits (stopped_then (rw c.as_slice.ensures.value at c.in_ok-emit_character_data.ensures.emits) (stopped_then (rw c.as_slice-2.ensures.value at c.in_ok-emit_character_data-2.ensures.emits) (stopped_then (rw c.as_slice-3.ensures.value at c.in_ok-emit_character_data-3.ensures.emits) (stopped_first c.in_err-emit.ensures.emits))))) })
+pub returns-in_err-emit_numbers : goal.returns-in_err-emit_numbers
+returns-in_err-emit_numbers c =
+    let p = err_from_is_err_and c.from_residual.result c.from_residual.ensures.1 in
+    rw (p.1, p.2) (record {
+      emits = stopped_early _ naptr_numbers_shape naptr_rest_shape (naptr_numbers c.args.self.now) (naptr_rest c.args.self.now) _ _
+          c.in_err-emit_numbers.ensures;
+    })

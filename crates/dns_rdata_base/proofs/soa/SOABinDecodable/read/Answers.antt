@@ -14,7 +14,8 @@ returns-in_err-rname-clause-fields c =
 pub returns-in_err-rname-clause-reads : goal.returns-in_err-rname-clause-reads
 returns-in_err-rname-clause-reads c =
     let p = err_from_is_err_and c.from_residual-in_err-rname.result c.from_residual-in_err-rname.ensures.1 in
-    rw (p.1, p.2) (fields_stand soa_shape soa_fields (Err c.in_err-rname.field-0.0) _ _ (refused_then c.in_ok-mname.ensures.field tt (refused_first c.in_err-rname.ensures.field)))
+    rw (p.1, p.2) (fields_stand soa_shape soa_fields (Err c.in_err-rname.field-0.0) _ _
+    (refused_then c.in_ok-mname.ensures.field tt (refused_first c.in_err-rname.ensures.field)))
 
 pub returns-in_err-serial-clause-fields : goal.returns-in_err-serial-clause-fields
 returns-in_err-serial-clause-fields c =
@@ -24,9 +25,11 @@ returns-in_err-serial-clause-fields c =
 pub returns-in_err-serial-clause-reads : goal.returns-in_err-serial-clause-reads
 returns-in_err-serial-clause-reads c =
     let p = err_from_is_err_and c.from_residual-in_err-serial.result c.from_residual-in_err-serial.ensures.1 in
-    rw (p.1, p.2) (fields_stand soa_shape soa_fields (Err c.in_err-serial.field-0.0) _ _ (refused_then c.in_ok-mname.ensures.field tt (refused_then c.in_ok-rname.ensures.field tt c.in_err-serial.ensures.fields)))
+    rw (p.1, p.2) (fields_stand soa_shape soa_fields (Err c.in_err-serial.field-0.0) _ _
+    (refused_then c.in_ok-mname.ensures.field tt (refused_then c.in_ok-rname.ensures.field tt c.in_err-serial.ensures.fields)))
 
 pub returns-in_err-serial-clause-refused : goal.returns-in_err-serial-clause-refused
 returns-in_err-serial-clause-refused c =
     let p = err_from_is_err_and c.from_residual-in_err-serial.result c.from_residual-in_err-serial.ensures.1 in
-    rw (p.1, p.2) (is_lack_then (Name ∷ soa_numbers_shape) _ _ c.in_ok-mname.ensures.field (is_lack_then soa_numbers_shape _ _ c.in_ok-rname.ensures.field c.in_err-serial.ensures.refused))
+    rw (p.1, p.2) (is_lack_then (Name ∷ soa_numbers_shape) _ _ c.in_ok-mname.ensures.field
+    (is_lack_then soa_numbers_shape _ _ c.in_ok-rname.ensures.field c.in_err-serial.ensures.refused))

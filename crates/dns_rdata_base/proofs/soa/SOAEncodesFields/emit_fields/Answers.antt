@@ -13,6 +13,8 @@ returns-in_err-emit-2 c =
 
 pub returns : goal.returns
 returns c = record {
-  emits = emits_then Name c.args.self.now.mname (Name ∷ soa_numbers_shape) (c.args.self.now.rname, soa_numbers_of c.args.self.now) _ _ _ _ c.in_ok-emit.ensures.emits
-      (emits_then Name c.args.self.now.rname soa_numbers_shape (soa_numbers_of c.args.self.now) _ _ _ _ c.in_ok-emit-2.ensures.emits c.emit_numbers.ensures.emits);
+  emits = emits_then Name c.args.self.now.mname (Name ∷ soa_numbers_shape) (c.args.self.now.rname, soa_numbers_of c.args.self.now) _ _ _ _
+      c.in_ok-emit.ensures.emits
+      (emits_then Name c.args.self.now.rname soa_numbers_shape (soa_numbers_of c.args.self.now) _ _ _ _ c.in_ok-emit-2.ensures.emits
+      c.emit_numbers.ensures.emits);
 }

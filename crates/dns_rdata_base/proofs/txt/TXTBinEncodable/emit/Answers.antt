@@ -13,6 +13,8 @@ returns-in_err-emit_character_data c =
     let i = c.loop-string.string-index in
     let xs = c.as_slice-string-items.result.now in
     let split : take i xs ++ x ∷ drop (i + 1) xs ≡ c.args.self.now.txt_data = list_at i xs x c.string-item.is (omega arith) ∙ c.as_slice-string-items.ensures in
-    let stopped = stopped_strings (take i xs) x (drop (i + 1) xs) c.loop-string.invariant (rw c.as_slice.ensures.value at c.in_err-emit_character_data.ensures.emits) in
-    let e = stopped_first (subst (λ (ss : List (List ℕ)). StoppedField c.in_err-emit_character_data.field-0.0 c.args.encoder.now Texts ss c.emit_character_data.new.self) split stopped) in
+    let stopped = stopped_strings (take i xs) x (drop (i + 1) xs) c.loop-string.invariant
+    (rw c.as_slice.ensures.value at c.in_err-emit_character_data.ensures.emits) in
+    let e = stopped_first (subst (λ (ss : List (List ℕ)). StoppedField c.in_err-emit_character_data.field-0.0 c.args.encoder.now Texts ss
+    c.emit_character_data.new.self) split stopped) in
     rw (p.1, p.2) (record { emits = e; extends = e.extends })

@@ -1,15 +1,17 @@
-use Rattle.std.proofs.lemmas.Result.{err_from_is_err_and}
-use Rattle.dns_names_wire.proofs.FieldWrites.{stopped_then, stopped_first}
+use Rattle.std.proofs.Common.{sym}
+use Rattle.std.proofs.lemmas.List.{append-nil}
+use Rattle.dns_fields.specs.Fields.{field_octets}
+use Rattle.dns_names_wire.proofs.FieldWrites.{emits_extend}
+use Rattle.dns_names_wire.proofs.PlainWrites.{emits_plain, octet_then}
+use Rattle.dns_rdata_certs.specs.SSHFP.{sshfp_shape, sshfp_fields}
 use Rattle.dns_rdata_certs.proofs.sshfp.SSHFPBinEncodable.emit.Goals as goal
 
-pub returns-in_err-emit_u8-2 : goal.returns-in_err-emit_u8-2
-returns-in_err-emit_u8-2 c =
-    let p = err_from_is_err_and c.from_residual-in_err-emit_u8-2.result c.from_residual-in_err-emit_u8-2.ensures.1 in
-    let e = stopped_then (rw c.from.ensures at c.in_ok-emit_u8.ensures.emits) (stopped_first (rw c.from-2.ensures at c.in_err-emit_u8-2.ensures.emits)) in
-    rw (p.1, p.2) (record { emits = e; extends = e.extends })
-
-pub returns-in_err-emit_vec : goal.returns-in_err-emit_vec
-returns-in_err-emit_vec c =
-    let p = err_from_is_err_and c.from_residual-in_err-emit_vec.result c.from_residual-in_err-emit_vec.ensures.1 in
-    let e = stopped_then (rw c.from.ensures at c.in_ok-emit_u8.ensures.emits) (stopped_then (rw c.from-2.ensures at c.in_ok-emit_u8-2.ensures.emits) (stopped_first (rw c.as_slice.ensures.value at c.in_err-emit_vec.ensures.emits))) in
-    rw (p.1, p.2) (record { emits = e; extends = e.extends })
+pub returns : goal.returns
+unfolding field_octets
+returns c =
+    let algorithm = rw c.from-algorithm.ensures at c.from-algorithm.type_inv in
+    let kind = rw c.from-kind.ensures at c.from-kind.type_inv in
+    let e = rw (c.from-algorithm.ensures, c.from-kind.ensures, c.as_slice.ensures.value) at c.emit_both.ensures.emits in
+    let h = emits_plain sshfp_shape (sshfp_fields c.args.self.now) _ _ _ _ tt (algorithm, (kind, (tt, tt)))
+    (octet_then _ _ _ algorithm (octet_then _ _ _ kind (sym (append-nil c.args.self.now.fingerprint)))) e in
+    record { emits = h; extends = emits_extend _ _ _ _ _ _ h }

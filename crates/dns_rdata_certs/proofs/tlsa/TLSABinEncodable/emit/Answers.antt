@@ -1,21 +1,18 @@
-use Rattle.std.proofs.lemmas.Result.{err_from_is_err_and}
-use Rattle.dns_names_wire.proofs.FieldWrites.{stopped_then, stopped_first}
+use Rattle.std.proofs.Common.{◌∷◌, [], ◌++◌, sym}
+use Rattle.std.proofs.lemmas.List.{append-nil}
+use Rattle.dns_fields.specs.Fields.{field_octets}
+use Rattle.dns_names_wire.proofs.FieldWrites.{emits_extend}
+use Rattle.dns_names_wire.proofs.PlainWrites.{emits_plain, octet_then}
+use Rattle.dns_rdata_certs.specs.TLSA.{tlsa_shape, tlsa_fields}
 use Rattle.dns_rdata_certs.proofs.tlsa.TLSABinEncodable.emit.Goals as goal
 
-pub returns-in_err-emit_u8-2 : goal.returns-in_err-emit_u8-2
-returns-in_err-emit_u8-2 c =
-    let p = err_from_is_err_and c.from_residual-in_err-emit_u8-2.result c.from_residual-in_err-emit_u8-2.ensures.1 in
-    let e = stopped_then (rw c.from.ensures at c.in_ok-emit_u8.ensures.emits) (stopped_first (rw c.from-2.ensures at c.in_err-emit_u8-2.ensures.emits)) in
-    rw (p.1, p.2) (record { emits = e; extends = e.extends })
-
-pub returns-in_err-emit_u8-3 : goal.returns-in_err-emit_u8-3
-returns-in_err-emit_u8-3 c =
-    let p = err_from_is_err_and c.from_residual-in_err-emit_u8-3.result c.from_residual-in_err-emit_u8-3.ensures.1 in
-    let e = stopped_then (rw c.from.ensures at c.in_ok-emit_u8.ensures.emits) (stopped_then (rw c.from-2.ensures at c.in_ok-emit_u8-2.ensures.emits) (stopped_first (rw c.from-3.ensures at c.in_err-emit_u8-3.ensures.emits))) in
-    rw (p.1, p.2) (record { emits = e; extends = e.extends })
-
-pub returns-in_err-emit_vec : goal.returns-in_err-emit_vec
-returns-in_err-emit_vec c =
-    let p = err_from_is_err_and c.from_residual-in_err-emit_vec.result c.from_residual-in_err-emit_vec.ensures.1 in
-    let e = stopped_then (rw c.from.ensures at c.in_ok-emit_u8.ensures.emits) (stopped_then (rw c.from-2.ensures at c.in_ok-emit_u8-2.ensures.emits) (stopped_then (rw c.from-3.ensures at c.in_ok-emit_u8-3.ensures.emits) (stopped_first (rw c.as_slice.ensures.value at c.in_err-emit_vec.ensures.emits)))) in
-    rw (p.1, p.2) (record { emits = e; extends = e.extends })
+pub returns : goal.returns
+unfolding field_octets
+returns c =
+    let usage = rw c.from-usage.ensures at c.from-usage.type_inv in
+    let selector = rw c.from-selector.ensures at c.from-selector.type_inv in
+    let matching = rw c.from-matching.ensures at c.from-matching.type_inv in
+    let e = rw (c.from-usage.ensures, c.from-selector.ensures, c.from-matching.ensures, c.as_slice.ensures.value) at c.emit_both.ensures.emits in
+    let h = emits_plain tlsa_shape (tlsa_fields c.args.self.now) _ _ _ _ tt (usage, (selector, (matching, (tt, tt))))
+    (octet_then _ _ _ usage (octet_then _ _ _ selector (octet_then _ _ _ matching (sym (append-nil c.args.self.now.cert_data))))) e in
+    record { emits = h; extends = emits_extend _ _ _ _ _ _ h }

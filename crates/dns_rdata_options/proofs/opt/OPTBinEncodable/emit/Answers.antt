@@ -12,6 +12,8 @@ returns-in_err-emit_pair c =
     let p = err_from_is_err_and c.from_residual.result c.from_residual.ensures.1 in
     let xs = c.as_slice-pair-items.result.now in
     let same : xs ≡ c.args.self.now = c.as_slice-pair-items.ensures.value ∙ c.self.view_is in
-    let stopped = stopped_pair xs c.loop-pair.pair-index c.pair-item.result c.pair-item.is (omega arith) c.emit_pair.ensures.small c.loop-pair.invariant c.in_err-emit_pair.ensures.emits in
-    let e = stopped_first (subst (λ (ys : List Pair). StoppedField c.in_err-emit_pair.field-0.0 c.args.encoder.now Options (map pair_value ys) c.emit_pair.new.encoder) same stopped) in
+    let stopped = stopped_pair xs c.loop-pair.pair-index c.pair-item.result c.pair-item.is (omega arith) c.emit_pair.ensures.small c.loop-pair.invariant
+    c.in_err-emit_pair.ensures.emits in
+    let e = stopped_first (subst (λ (ys : List Pair). StoppedField c.in_err-emit_pair.field-0.0 c.args.encoder.now Options (map pair_value ys)
+    c.emit_pair.new.encoder) same stopped) in
     rw (p.1, p.2) (record { emits = e; extends = e.extends })

@@ -17,12 +17,14 @@ pub returns-clause-multiset : goal.returns-clause-multiset
 returns-clause-multiset c =
     let x : c.as_slice.result.now ≡ c.args.self.now = c.as_slice.ensures.value ∙ c.self.view_is in
     let y : c.as_slice-2.result.now ≡ c.args.other.now = c.as_slice-2.ensures.value ∙ c.other.view_is in
-    counts_decide pair_cmp pair_total pair_eq pair_ties c.args.self.now c.args.other.now c.is_eq.result (c.is_eq.ensures ∙ ap is_eq (c.sorted_cmp.ensures ∙ (λ i. opt_cmp (x i) (y i))))
+    counts_decide pair_cmp pair_total pair_eq pair_ties c.args.self.now c.args.other.now c.is_eq.result
+    (c.is_eq.ensures ∙ ap is_eq (c.sorted_cmp.ensures ∙ (λ i. opt_cmp (x i) (y i))))
 
 pub returns-clause-permutation : goal.returns-clause-permutation
 returns-clause-permutation c =
     let x : c.as_slice.result.now ≡ c.args.self.now = c.as_slice.ensures.value ∙ c.self.view_is in
     let y : c.as_slice-2.result.now ≡ c.args.other.now = c.as_slice-2.ensures.value ∙ c.other.view_is in
-    let answer : c.is_eq.result ≡ opt_eq c.args.self.now c.args.other.now = c.is_eq.ensures ∙ ap is_eq (c.sorted_cmp.ensures ∙ (λ i. opt_cmp (x i) (y i))) ∙ sym (opt_ties c.args.self.now c.args.other.now) in
+    let answer : c.is_eq.result ≡ opt_eq c.args.self.now c.args.other.now = c.is_eq.ensures ∙ ap is_eq (c.sorted_cmp.ensures ∙ (λ i. opt_cmp (x i) (y i)))
+    ∙ sym (opt_ties c.args.self.now c.args.other.now) in
     let d = opt_permutes c.args.self.now c.args.other.now in
     (λ t. d.0 (sym answer ∙ t), λ p. answer ∙ d.1 p)

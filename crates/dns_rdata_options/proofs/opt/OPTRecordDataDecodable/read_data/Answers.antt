@@ -4,4 +4,5 @@ use Rattle.dns_rdata_options.specs.OPT.{opt_shape, opt_fields}
 use Rattle.dns_rdata_options.proofs.opt.OPTRecordDataDecodable.read_data.Goals as goal
 
 pub returns-clause-window : goal.returns-clause-window
-returns-clause-window c = filled_window opt_shape (λ _. Unit {0}) opt_fields _ _ _ _ tt (record { octets = c.index-start.ensures.octets; short = omega arith }) (rw c.unverified.ensures at c.read_options.ensures.fields)
+returns-clause-window c = filled_window opt_shape (λ _. Unit {0}) opt_fields _ _ _ _ tt
+    (record { octets = c.index-start.ensures.octets; short = omega arith }) (rw c.unverified.ensures at c.read_options.ensures.fields)

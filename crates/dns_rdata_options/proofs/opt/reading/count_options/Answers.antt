@@ -14,7 +14,8 @@ loop-place-preserved c =
     record {
       bounded = omega (arith, c.loop-place.invariant.bounded);
       short = omega (arith, inside);
-      counts = counts_more c.from_be_bytes.result c.loop-place-test.true inside (omega arith) (λ i. let h = c.type_inv.octets i in omega (arith, h)) c.from_be_bytes.ensures c.loop-place.invariant.counts;
+      counts = counts_more c.from_be_bytes.result c.loop-place-test.true inside (omega arith) (λ i. let h = c.type_inv.octets i in omega (arith, h))
+          c.from_be_bytes.ensures c.loop-place.invariant.counts;
     }
 
 pub returns-then-place-length : goal.returns-then-place-length

@@ -18,11 +18,13 @@ returns-in_err-check_pair-clause-refused c =
 pub loop-decoder-preserved : goal.loop-decoder-preserved
 loop-decoder-preserved c =
     let t : TookSome (c.index-start.result + c.args.length) c.loop-decoder.decoder c.check_pair.new.decoder =
-      subst (λ o. ReadsNext (λ _ old new. TookSome (c.index-start.result + c.args.length) old new) c.index-start.result c.args.length (Ok o) c.loop-decoder.decoder c.check_pair.new.decoder) c.in-Some.is c.in_ok-check_pair.ensures in
+    subst (λ o. ReadsNext (λ _ old new. TookSome (c.index-start.result + c.args.length) old new) c.index-start.result c.args.length (Ok o)
+    c.loop-decoder.decoder c.check_pair.new.decoder) c.in-Some.is c.in_ok-check_pair.ensures in
     (c.loop-decoder.invariant.0 ++ t.value ∷ [], options_more c.loop-decoder.invariant.1 t.took)
 
 pub returns-in-None-clause-fields : goal.returns-in-None-clause-fields
 returns-in-None-clause-fields c =
     let t : TookCut c.loop-decoder.decoder c.args.length (c.index-start.result + c.args.length) c.check_pair.new.decoder =
-      subst (λ o. ReadsNext (λ _ old new. TookSome (c.index-start.result + c.args.length) old new) c.index-start.result c.args.length (Ok o) c.loop-decoder.decoder c.check_pair.new.decoder) c.in-None.is c.in_ok-check_pair.ensures in
+    subst (λ o. ReadsNext (λ _ old new. TookSome (c.index-start.result + c.args.length) old new) c.index-start.result c.args.length (Ok o)
+    c.loop-decoder.decoder c.check_pair.new.decoder) c.in-None.is c.in_ok-check_pair.ensures in
     rw (c.new-in-None.ensures, c.new.ensures.items) (options_cut c.index-start.result c.args.length c.index-start.ensures.place c.loop-decoder.invariant.1 t)

@@ -8,4 +8,6 @@ pub returns-else-family-eq1 : goal.returns-else-family-eq1
 returns-else-family-eq1 c =
     let s = c.args.octets.now in
     six c.args.family s c.from_octets-else-family-eq1.result c.if-family-eq1.false
-    (c.from_octets-else-family-eq1.ensures ∙ ap segments_of (ap (λ (o : List ℕ). o ++ drop (length s) (replicate {A = ℕ} 16 0)) c.copy_from_slice-else-family-eq1.ensures.after ∙ ap (λ (t : List ℕ). s ++ t) (drop-replicate {X = ℕ} (length s) 16 0)))
+    (c.from_octets-else-family-eq1.ensures ∙ ap segments_of
+    (ap (λ (o : List ℕ). o ++ drop (length s) (replicate {A = ℕ} 16 0)) c.copy_from_slice-else-family-eq1.ensures.after
+    ∙ ap (λ (t : List ℕ). s ++ t) (drop-replicate {X = ℕ} (length s) 16 0)))

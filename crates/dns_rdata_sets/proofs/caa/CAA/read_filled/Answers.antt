@@ -7,18 +7,29 @@ use Rattle.dns_rdata_sets.proofs.caa.CAA.read_filled.Goals as goal
 pub returns-in_err-tag-clause-fields : goal.returns-in_err-tag-clause-fields
 returns-in_err-tag-clause-fields c =
     let p = err_from_is_err_and c.from_residual-in_err-tag.result c.from_residual-in_err-tag.ensures.1 in
-    rw (p.1, p.2) (refused_then c.in_ok-read_u8.ensures.taken tt (tag_refused _ _ _ _ _ _ _ (omega (arith, took_number c.in_ok-read_u8.ensures.taken)) c.in_ok-read_u8-2.ensures.taken c.read_tag.ensures.behind (rw (c.unverified-size.ensures, c.unverified-len.ensures) at c.in_err-tag.ensures.refused)))
+    rw (p.1, p.2) (refused_then c.in_ok-read_u8.ensures.taken tt
+    (tag_refused _ _ _ _ _ _ _ (omega (arith, took_number c.in_ok-read_u8.ensures.taken)) c.in_ok-read_u8-2.ensures.taken c.read_tag.ensures.behind
+    (rw (c.unverified-size.ensures, c.unverified-len.ensures) at c.in_err-tag.ensures.refused)))
 
 pub returns-in_err-tag-2-clause-refused : goal.returns-in_err-tag-2-clause-refused
 returns-in_err-tag-2-clause-refused c =
     let p = err_from_is_err_and c.from_residual-in_err-tag-2.result c.from_residual-in_err-tag-2.ensures.1 in
-    rw (p.1, p.2) (refused_value _ _ _ _ c.in_ok-read_u8.ensures.taken c.in_ok-read_u8-2.ensures.taken (rw c.unverified-size.ensures at c.in_ok-tag.ensures.taken) (rw (c.unverified-size.ensures, c.unverified-len.ensures) at c.in_ok-tag.ensures.tag) (inl refl))
+    rw (p.1, p.2) (refused_value _ _ _ _ c.in_ok-read_u8.ensures.taken c.in_ok-read_u8-2.ensures.taken
+    (rw c.unverified-size.ensures at c.in_ok-tag.ensures.taken) (rw (c.unverified-size.ensures, c.unverified-len.ensures) at c.in_ok-tag.ensures.tag)
+    (inl refl))
 
 pub returns-in_err-read_vec-clause-refused : goal.returns-in_err-read_vec-clause-refused
 returns-in_err-read_vec-clause-refused c =
     let p = err_from_is_err_and c.from_residual-in_err-read_vec.result c.from_residual-in_err-read_vec.ensures.1 in
-    rw (p.1, p.2, c.in_err-read_vec.ensures.unchanged) (refused_value _ _ _ _ c.in_ok-read_u8.ensures.taken c.in_ok-read_u8-2.ensures.taken (rw c.unverified-size.ensures at c.in_ok-tag.ensures.taken) (rw (c.unverified-size.ensures, c.unverified-len.ensures) at c.in_ok-tag.ensures.tag) (rw (c.unverified-size.ensures, c.unverified-len.ensures) at c.in_err-read_vec.ensures.refused))
+    rw (p.1, p.2, c.in_err-read_vec.ensures.unchanged)
+    (refused_value _ _ _ _ c.in_ok-read_u8.ensures.taken c.in_ok-read_u8-2.ensures.taken (rw c.unverified-size.ensures at c.in_ok-tag.ensures.taken)
+    (rw (c.unverified-size.ensures, c.unverified-len.ensures) at c.in_ok-tag.ensures.tag)
+    (rw (c.unverified-size.ensures, c.unverified-len.ensures) at c.in_err-read_vec.ensures.refused))
 
 pub returns-clause-fields : goal.returns-clause-fields
 returns-clause-fields c =
-    caa_taken {old = c.args.decoder.now} {new = c.read_vec.new.self} c.args.length _ _ _ _ c.unverified-flags.result c.in_ok-tag-2.tag c.from_vec.result (omega arith) c.unverified-flags.ensures c.in_ok-tag-2.ensures (rw c.unverified-value.ensures at c.from_vec.ensures) c.in_ok-read_u8.ensures.taken c.in_ok-read_u8-2.ensures.taken (rw c.unverified-size.ensures at c.in_ok-tag.ensures.taken) (rw (c.unverified-size.ensures, c.unverified-len.ensures) at c.in_ok-read_vec.ensures.taken) (rw (c.unverified-size.ensures, c.unverified-len.ensures) at c.in_ok-tag.ensures.tag)
+    caa_taken {old = c.args.decoder.now} {new = c.read_vec.new.self} c.args.length _ _ _ _ c.unverified-flags.result c.in_ok-tag-2.tag c.from_vec.result
+    (omega arith) c.unverified-flags.ensures c.in_ok-tag-2.ensures (rw c.unverified-value.ensures at c.from_vec.ensures) c.in_ok-read_u8.ensures.taken
+    c.in_ok-read_u8-2.ensures.taken (rw c.unverified-size.ensures at c.in_ok-tag.ensures.taken)
+    (rw (c.unverified-size.ensures, c.unverified-len.ensures) at c.in_ok-read_vec.ensures.taken)
+    (rw (c.unverified-size.ensures, c.unverified-len.ensures) at c.in_ok-tag.ensures.tag)

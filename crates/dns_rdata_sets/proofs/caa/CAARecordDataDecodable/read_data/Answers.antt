@@ -4,4 +4,5 @@ use Rattle.dns_rdata_sets.specs.CAA.{caa_shape, caa_condition, caa_fields}
 use Rattle.dns_rdata_sets.proofs.caa.CAARecordDataDecodable.read_data.Goals as goal
 
 pub returns-clause-window : goal.returns-clause-window
-returns-clause-window c = filled_window caa_shape caa_condition caa_fields _ _ _ _ tt (record { octets = c.index-start.ensures.octets; short = omega arith }) c.read_filled.ensures.fields
+returns-clause-window c = filled_window caa_shape caa_condition caa_fields _ _ _ _ tt
+    (record { octets = c.index-start.ensures.octets; short = omega arith }) c.read_filled.ensures.fields

@@ -12,7 +12,8 @@ returns-in_err-read_pair-clause-refused c =
     rw (p.1, p.2) (refusal_map _ _ _ (λ none. pending_stop _ _ _ _ _ c.pairs.invariant (omega arith) c.cut_at.ensures none) c.in_err-read_pair.ensures.refused)
 
 pub pairs-preserved : goal.pairs-preserved
-pairs-preserved c = pending_step _ _ _ _ _ _ _ _ _ c.pairs.invariant (omega arith) c.cut_at.ensures c.in_ok-read_pair.ensures.read c.skip_blanks-rest-in-pairs.ensures.1 c.in_ok-push.ensures.items
+pairs-preserved c = pending_step _ _ _ _ _ _ _ _ _ c.pairs.invariant (omega arith) c.cut_at.ensures c.in_ok-read_pair.ensures.read
+    c.skip_blanks-rest-in-pairs.ensures.1 c.in_ok-push.ensures.items
 
 pub returns-clause-read : goal.returns-clause-read
 returns-clause-read c = pending_last _ _ _ c.pairs.invariant (omega arith)

@@ -18,4 +18,5 @@ returns-in_err-type_bit_maps-clause-refused c =
     let f = c.in_ok-read_u32.ensures.taken in
     let g = c.in_ok-read_u16.ensures.taken in
     let all : c.new.result + 6 ≡ c.args.length = omega (arith, took_number f, took_number g) in
-    rw (p.1, p.2) (types_refusal c.new.result c.args.length f g all (rw c.unverified-flags.ensures at c.if-flags-ne0.false) c.in_err-type_bit_maps.ensures.refused)
+    rw (p.1, p.2) (types_refusal c.new.result c.args.length f g all (rw c.unverified-flags.ensures at c.if-flags-ne0.false)
+    c.in_err-type_bit_maps.ensures.refused)

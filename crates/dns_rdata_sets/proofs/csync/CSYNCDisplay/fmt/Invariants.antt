@@ -5,4 +5,5 @@ use Rattle.dns_rdata_sets.proofs.csync.CSYNCDisplay.fmt.Given as goal
 
 abbrev pub invariant-loop-kind : goal.invariant-loop-kind
 invariant-loop-kind g l =
-    IsPlainFormatter l.fn.f → HasWritten g.W.Write.write_str_gives l.fn.f ((decimal l.serial ++ codes " " ++ decimal l.flags) ++ flat_map (λ kind. codes " " ++ type_text kind) l.yielded) l.f
+    IsPlainFormatter l.fn.f → HasWritten g.W.Write.write_str_gives l.fn.f
+    ((decimal l.serial ++ codes " " ++ decimal l.flags) ++ flat_map (λ kind. codes " " ++ type_text kind) l.yielded) l.f

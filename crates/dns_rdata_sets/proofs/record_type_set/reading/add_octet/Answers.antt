@@ -6,4 +6,6 @@ pub overflow_sub-left-in-loop-left : goal.overflow_sub-left-in-loop-left
 overflow_sub-left-in-loop-left c = bit_within c.loop-left.left c.loop-left-test.true (omega arith)
 
 pub loop-left-preserved : goal.loop-left-preserved
-loop-left-preserved c = rw c.in_ok-push.ensures.items (bit_taken c.args.g c.args.octet c.loop-left.left c.args.numbers.now.items c.loop-left.numbers.items c.loop-left-test.true (omega arith) c.loop-left.invariant)
+loop-left-preserved c = rw c.in_ok-push.ensures.items
+    (bit_taken c.args.g c.args.octet c.loop-left.left c.args.numbers.now.items c.loop-left.numbers.items c.loop-left-test.true (omega arith)
+    c.loop-left.invariant)

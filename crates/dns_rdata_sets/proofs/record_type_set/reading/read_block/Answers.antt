@@ -13,6 +13,8 @@ returns-clause-read c =
     let old = c.args.numbers.now.items in
     let new = c.add_octets.new.numbers.items in
     let added : Adds (λ t. has_type t (get_or o 0 0, take (2 + n - 2) (drop 2 o))) old new = c.in_ok-add_octets.ensures in
-    let adds : Adds (λ t. has_type t (get_or o 0 0, take n (drop 2 o))) old new = subst (λ (k : ℕ). Adds (λ t. has_type t (get_or o 0 0, take k (drop 2 o))) old new) count added in
-    let whole : take (length o - (2 + n)) (drop (2 + n) o) ≡ drop (2 + n) o = take_all (length o - (2 + n)) (drop (2 + n) o) (omega (arith, length-drop (2 + n) o)) in
+    let adds : Adds (λ t. has_type t (get_or o 0 0, take n (drop 2 o))) old new =
+    subst (λ (k : ℕ). Adds (λ t. has_type t (get_or o 0 0, take k (drop 2 o))) old new) count added in
+    let whole : take (length o - (2 + n)) (drop (2 + n) o) ≡ drop (2 + n) o =
+    take_all (length o - (2 + n)) (drop (2 + n) o) (omega (arith, length-drop (2 + n) o)) in
     rw whole (took_block n o old new (omega arith) (λ i. n) (omega arith) (omega arith) (omega arith) (omega (arith, c.type_inv.octets 0)) adds)

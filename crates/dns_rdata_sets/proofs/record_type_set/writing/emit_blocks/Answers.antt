@@ -15,7 +15,8 @@ returns-in_err-emit_block c =
     let p = err_from_is_err_and c.from_residual.result c.from_residual.ensures.1 in
     let e = c.run_len-end.result in
     let run = is_run e c.loop-rest.invariant c.run_len-end.ensures.some c.run_len-end.ensures.run c.run_len-end.ensures.next in
-    rw (p.1, p.2) (left_stopped _ c.loop-rest.invariant run c.loop-rest-test.true c.in_err-emit_block.ensures.block.some c.in_err-emit_block.ensures.block.most c.in_err-emit_block.ensures.emits)
+    rw (p.1, p.2) (left_stopped _ c.loop-rest.invariant run c.loop-rest-test.true c.in_err-emit_block.ensures.block.some
+    c.in_err-emit_block.ensures.block.most c.in_err-emit_block.ensures.emits)
 
 pub loop-rest-preserved : goal.loop-rest-preserved
 loop-rest-preserved c =
@@ -23,7 +24,8 @@ loop-rest-preserved c =
     let rest = c.loop-rest.rest.now in
     let run = is_run e c.loop-rest.invariant c.run_len-end.ensures.some c.run_len-end.ensures.run c.run_len-end.ensures.next in
     let whole : take (length rest - e) (drop e rest) ≡ drop e rest = take_all (length rest - e) (drop e rest) (omega (arith, length-drop e rest)) in
-    rw whole (left_next c.loop-rest.invariant run c.loop-rest-test.true c.in_ok-emit_block.ensures.block.some c.in_ok-emit_block.ensures.block.most c.in_ok-emit_block.ensures.emits)
+    rw whole (left_next c.loop-rest.invariant run c.loop-rest-test.true c.in_ok-emit_block.ensures.block.some c.in_ok-emit_block.ensures.block.most
+    c.in_ok-emit_block.ensures.emits)
 
 pub returns : goal.returns
 returns c = left_none c.requires (omega arith) c.loop-rest.invariant

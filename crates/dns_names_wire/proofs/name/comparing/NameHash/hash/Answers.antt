@@ -5,5 +5,5 @@ pub returns : goal.returns
 returns g c =
     let low = lowered-of c.self.inside.octets c.self.invariant.0 in
     let fed = rw c.as_slice.ensures at c.hash_lowered.ensures in
-    let mark = rw fed at c.hash.ensures in
+    let mark = rw (fed, c.get.ensures) at c.hash.ensures in
     rw (← c.self.view_is) (rw low mark)

@@ -1,0 +1,158 @@
+-- Numbers and octets that are appended at once, and fields behind others.
+use Rattle.std.proofs.Common.{◌≡◌, Bool, true, false, ◌&&◌, ℕ, ◌<◌, ◌≤◌, ◌%◌, List, [], ◌∷◌, ◌++◌, length, refl, sym, ap, ◌∙◌, arith}
+use Rattle.std.proofs.Common.{append_assoc, subst, Result, Ok, Err}
+use Rattle.std.proofs.lemmas.List.{length-append, append-nil}
+use Rattle.std.specs.Int.{bytes_high_first}
+use Rattle.dns_names_wire.specs.State.{Writing}
+use Rattle.dns_fields.specs.declared.RDataEncoding.{RDataEncoding}
+use Rattle.dns_fields.specs.Pieces.{string}
+use Rattle.dns_fields.specs.Fields.{Kind, Number, Octets, Name, Text, Texts, Rest, Options, Parameters, Bitmap, Values, Wrote, AllFit}
+use Rattle.dns_fields.specs.Fields.{is_emittable, all_emittable, canonical, field_octets}
+use Rattle.dns_names_wire.specs.Words.{AppendedField, Appended, NoRoom, Unfit, Stopped, Emits, EmitsField}
+use Rattle.dns_types.specs.declared.error.ProtoError.{ProtoError}
+use Rattle.dns_names_wire.proofs.FieldWrites.{keeps_then, appended_then, stopped_then, because_map}
+
+-- ---- numbers that are appended as one run of octets
+
+-- kinds whose octets are the same wherever they are written
+abbrev pub ArePlain : List Kind → Type 0
+ArePlain [] = Unit {0}
+ArePlain (Number w ∷ kinds) = ArePlain kinds
+ArePlain (Octets n ∷ kinds) = ArePlain kinds
+ArePlain (Rest ∷ kinds) = ArePlain kinds
+ArePlain (Name ∷ kinds) = ⊥
+ArePlain (Text ∷ kinds) = ArePlain kinds
+ArePlain (Texts ∷ kinds) = ⊥
+ArePlain (Options ∷ kinds) = ⊥
+ArePlain (Parameters ∷ kinds) = ⊥
+ArePlain (Bitmap ∷ kinds) = ⊥
+
+wrote_plain : (mode : RDataEncoding) (m : List ℕ) (kinds : List Kind) (vs : Values kinds) → ArePlain kinds → AllFit kinds vs
+    → Wrote mode m kinds vs (m ++ canonical kinds vs)
+unfolding field_octets
+wrote_plain mode m [] vs p f = append-nil m
+wrote_plain mode m (Number w ∷ kinds) vs p f =
+    let next = m ++ bytes_high_first w vs.0 in (
+      next,
+      record { is = (f.0, refl) },
+      subst (λ (x : List ℕ). Wrote mode next kinds vs.1 x)
+          (append_assoc m (bytes_high_first w vs.0) (canonical kinds vs.1)) (wrote_plain mode next kinds vs.1 p f.1),
+    )
+wrote_plain mode m (Octets n ∷ kinds) vs p f =
+    let next = m ++ vs.0 in (
+      next,
+      record { is = (f.0, refl) },
+      subst (λ (x : List ℕ). Wrote mode next kinds vs.1 x) (append_assoc m vs.0 (canonical kinds vs.1))
+          (wrote_plain mode next kinds vs.1 p f.1),
+    )
+wrote_plain mode m (Rest ∷ kinds) vs p f =
+    let next = m ++ vs.0 in (
+      next,
+      record { is = refl },
+      subst (λ (x : List ℕ). Wrote mode next kinds vs.1 x) (append_assoc m vs.0 (canonical kinds vs.1))
+          (wrote_plain mode next kinds vs.1 p f.1),
+    )
+wrote_plain mode m (Name ∷ kinds) vs p f = absurd p
+wrote_plain mode m (Text ∷ kinds) vs p f =
+    let next = m ++ string vs.0 in (
+      next,
+      record { is = (f.0, refl) },
+      subst (λ (x : List ℕ). Wrote mode next kinds vs.1 x) (append_assoc m (string vs.0) (canonical kinds vs.1))
+          (wrote_plain mode next kinds vs.1 p f.1),
+    )
+wrote_plain mode m (Texts ∷ kinds) vs p f = absurd p
+wrote_plain mode m (Options ∷ kinds) vs p f = absurd p
+wrote_plain mode m (Parameters ∷ kinds) vs p f = absurd p
+wrote_plain mode m (Bitmap ∷ kinds) vs p f = absurd p
+
+-- the canonical octets of such fields, appended at once, are the fields
+pub emits_plain : (kinds : List Kind) (vs : Values kinds) (s : List ℕ) (r : Result (Unit {0}) ProtoError) (old new : Writing) → ArePlain kinds
+    → AllFit kinds vs → s ≡ canonical kinds vs → EmitsField Rest s r old new → Emits kinds vs r old new
+unfolding field_octets
+emits_plain kinds vs s (Ok x) old new p f e h =
+    record {
+      keeps = h.keeps;
+      fields = subst (λ (o : List ℕ). Wrote old.mode old.octets kinds vs o)
+          (sym (h.field.is ∙ ap (λ (o : List ℕ). old.octets ++ o) e)) (wrote_plain old.mode old.octets kinds vs p f);
+    }
+emits_plain kinds vs s (Err x) old new p f e h =
+    record { extends = h.extends; why = because_map x _ _ _ _ (λ r. record { full = rw (← e) r.full }) (λ u. let e = u.unfit in absurd (cc e)) h.why }
+
+-- an octet before others, as the number that it is
+pub octet_then : (n : ℕ) (s t : List ℕ) → n < 256 → s ≡ t → n ∷ s ≡ bytes_high_first 1 n ++ t
+octet_then n s t h e =
+    let small : n ≡ n % 256 = omega (arith, h) in
+    ap (λ (x : ℕ). x ∷ s) small ∙ ap (λ (x : List ℕ). n % 256 ∷ x) e
+
+-- the octets of a number before others
+pub number_then : (w n : ℕ) (s t : List ℕ) → s ≡ t → bytes_high_first w n ++ s ≡ bytes_high_first w n ++ t
+number_then w n s t e = ap (λ (x : List ℕ). bytes_high_first w n ++ x) e
+
+-- the values of fields and of others behind them
+abbrev pub joined : (kinds others : List Kind) → Values kinds → Values others → Values (kinds ++ others)
+joined [] others vs ws = ws
+joined (k ∷ kinds) others vs ws = (vs.0, joined kinds others vs.1 ws)
+
+-- fields are emitted, and then others
+pub appended_more : (kinds others : List Kind) (vs : Values kinds) (ws : Values others) (w b e : Writing) → Appended w.mode w kinds vs b
+    → Appended b.mode b others ws e → Appended w.mode w (kinds ++ others) (joined kinds others vs ws) e
+appended_more [] others vs ws w b e f g =
+    let same : Wrote b.mode w.octets others ws e.octets = subst (λ (o : List ℕ). Wrote b.mode o others ws e.octets) f.fields g.fields in
+    record { keeps = keeps_then f.keeps g.keeps; fields = subst (λ (mode : RDataEncoding). Wrote mode w.octets others ws e.octets) f.keeps.mode same }
+appended_more (k ∷ kinds) others vs ws w b e f g =
+    let step : AppendedField w k vs.0 (record w { octets = f.fields.0 }) =
+    record { keeps = record { limit = refl; mode = refl; target = refl }; field = f.fields.1 } in
+    appended_then step (appended_more kinds others vs.1 ws (record w { octets = f.fields.0 }) b e
+    (record { keeps = record { limit = f.keeps.limit; mode = f.keeps.mode; target = f.keeps.target }; fields = f.fields.2 }) g)
+
+pub stopped_more : (e : ProtoError) (kinds others : List Kind) (vs : Values kinds) (ws : Values others) (w b n : Writing) → Appended w.mode w kinds vs b
+    → Stopped e b others ws n → Stopped e w (kinds ++ others) (joined kinds others vs ws) n
+stopped_more e [] others vs ws w b n f g = record {
+  extends = record {
+    keeps = keeps_then f.keeps g.extends.keeps;
+    tail = g.extends.tail;
+    octets = g.extends.octets
+        ∙ ap (λ (x : List ℕ). x ++ g.extends.tail) f.fields;
+  };
+  why = because_map e _ _ _ _ (λ r. record { full = omega (arith, r.full, f.keeps.limit, ap length f.fields) }) (λ u. u) g.why;
+}
+stopped_more e (k ∷ kinds) others vs ws w b n f g =
+    let step : AppendedField w k vs.0 (record w { octets = f.fields.0 }) =
+    record { keeps = record { limit = refl; mode = refl; target = refl }; field = f.fields.1 } in
+    stopped_then step (stopped_more e kinds others vs.1 ws (record w { octets = f.fields.0 }) b n
+    (record { keeps = record { limit = f.keeps.limit; mode = f.keeps.mode; target = f.keeps.target }; fields = f.fields.2 }) g)
+
+canonical_more : (kinds others : List Kind) (vs : Values kinds) (ws : Values others)
+    → length (canonical kinds vs) ≤ length (canonical (kinds ++ others) (joined kinds others vs ws))
+canonical_more [] others vs ws = omega arith
+canonical_more (k ∷ kinds) others vs ws =
+    omega (
+      arith,
+      canonical_more kinds others vs.1 ws,
+      length-append (field_octets k vs.0) (canonical kinds vs.1),
+      length-append (field_octets k vs.0)
+          (canonical (kinds ++ others) (joined kinds others vs.1 ws)),
+    )
+
+later_false : (b y z : Bool) → (y ≡ false → z ≡ false) → (b && y) ≡ false → (b && z) ≡ false
+later_false true y z f e = f e
+later_false false y z f e = refl
+
+unfit_more : (kinds others : List Kind) (vs : Values kinds) (ws : Values others) → all_emittable kinds vs ≡ false
+    → all_emittable (kinds ++ others) (joined kinds others vs ws) ≡ false
+unfit_more [] others vs ws e = let f : true ≡ false = e in cc f
+unfit_more (k ∷ kinds) others vs ws e = later_false (is_emittable k vs.0) _ _ (unfit_more kinds others vs.1 ws) e
+
+-- the first fields were refused
+pub stopped_early : (e : ProtoError) (kinds others : List Kind) (vs : Values kinds) (ws : Values others) (w n : Writing) → Stopped e w kinds vs n
+    → Stopped e w (kinds ++ others) (joined kinds others vs ws) n
+stopped_early e kinds others vs ws w n s = record {
+  extends = s.extends;
+  why = because_map e _ _ _ _ (λ r. record { full = omega (arith, r.full, canonical_more kinds others vs ws) })
+      (λ u. record { unfit = unfit_more kinds others vs ws u.unfit }) s.why;
+}
+
+pub emits_more : (kinds others : List Kind) (vs : Values kinds) (ws : Values others) (r : Result (Unit {0}) ProtoError) (w b n : Writing)
+    → Appended w.mode w kinds vs b → Emits others ws r b n → Emits (kinds ++ others) (joined kinds others vs ws) r w n
+emits_more kinds others vs ws (Ok x) w b n f g = appended_more kinds others vs ws w b n f g
+emits_more kinds others vs ws (Err e) w b n f g = stopped_more e kinds others vs ws w b n f g

@@ -1,0 +1,173 @@
+-- Values that are emitted one after the other.
+use Rattle.std.proofs.Common.{◌≡◌, ◌≢◌, Bool, true, false, ◌&&◌, nat_le, ℕ, ◌+◌, ◌<◌, inl, inr, ◌^◌, List, [], ◌∷◌, ◌++◌, length, map}
+use Rattle.std.proofs.Common.{take, drop, get_or, refl, sym, ap, ◌∙◌, arith, subst, append_assoc, Result, Ok, Err}
+use Rattle.std.specs.List.{flat_map, list_all, AllByRecursion}
+use Rattle.std.specs.Int.{bytes_high_first}
+use Rattle.dns_fields.specs.Pieces.{string, is_some}
+use Rattle.std.proofs.lemmas.List.{length-append, append-nil, drop_more, take-append-drop, take_more}
+use Rattle.dns_types.specs.declared.error.ProtoError.{ProtoError}
+use Rattle.dns_fields.specs.Fields.{Number, Text, Rest, field_octets}
+use Rattle.dns_names_wire.specs.State.{Writing}
+use Rattle.dns_names_wire.specs.Words.{Extends, EmitsField}
+use Rattle.dns_names_wire.proofs.FieldWrites.{keeps_same, keeps_then, because_map}
+use Rattle.dns_rdata_service.specs.Emitting.{AppendedOctets, StoppedOctets, EmitsOctets}
+use Rattle.dns_rdata_service.specs.Hints.{EmitsEach}
+
+-- ---- any emitter
+
+pub emits_push : {T : Type 0} (E : T → Result (Unit {0}) ProtoError → Writing → Writing → Type 0) (xs : List T) (x : T) (w b n : Writing)
+    → EmitsEach E xs (Ok tt) w b → E x (Ok tt) b n → EmitsEach E (xs ++ x ∷ []) (Ok tt) w n
+emits_push E [] x w b n e h = inl (n, subst (λ (v : Writing). E x (Ok tt) v n) e h, refl)
+emits_push E (y ∷ ys) x w b n (inl e) h = inl (e.0, e.1, emits_push E ys x e.0 b n e.2 h)
+emits_push E (y ∷ ys) x w b n (inr e) h = absurd (cc e.1)
+
+pub emits_stop : {T : Type 0} (E : T → Result (Unit {0}) ProtoError → Writing → Writing → Type 0) (xs : List T) (x : T) (ys : List T) (e : ProtoError)
+    (w b n : Writing) → EmitsEach E xs (Ok tt) w b → E x (Err e) b n → EmitsEach E (xs ++ x ∷ ys) (Err e) w n
+emits_stop E [] x ys e w b n h s = inr (e, refl, subst (λ (v : Writing). E x (Err e) v n) h s)
+emits_stop E (y ∷ zs) x ys e w b n (inl h) s = inl (h.0, h.1, emits_stop E zs x ys e h.0 b n h.2 s)
+emits_stop E (y ∷ zs) x ys e w b n (inr h) s = absurd (cc h.1)
+
+-- a list about one of its places
+pub list_at : {T : Type 0} (i : ℕ) (xs : List T) (x d : T) → x ≡ get_or xs i d → i < length xs → take i xs ++ x ∷ drop (i + 1) xs ≡ xs
+list_at i xs x d is lt = ap (λ y. take i xs ++ y ∷ drop (i + 1) xs) is ∙ ap (λ t. take i xs ++ t) (sym (drop_more xs i d lt)) ∙ take-append-drop i xs
+
+-- ---- emitters of octets
+
+pub appended_none : (w : Writing) → AppendedOctets w [] w
+appended_none w = record { keeps = keeps_same w; octets = sym (append-nil w.octets) }
+
+pub appended_then : {w b n : Writing} {s t : List ℕ} → AppendedOctets w s b → AppendedOctets b t n → AppendedOctets w (s ++ t) n
+appended_then {w} {b} {n} {s} {t} f g = record
+    { keeps = keeps_then f.keeps g.keeps; octets = g.octets ∙ ap (λ (l : List ℕ). l ++ t) f.octets ∙ append_assoc w.octets s t }
+
+pub extends_behind : {w b n : Writing} {s : List ℕ} → AppendedOctets w s b → Extends b n → Extends w n
+extends_behind {w} {b} {n} {s} f g = record
+    { keeps = keeps_then f.keeps g.keeps; tail = s ++ g.tail; octets = g.octets ∙ ap (λ (l : List ℕ). l ++ g.tail) f.octets ∙ append_assoc w.octets s g.tail }
+
+-- what is in front is refused, or what is behind
+pub stopped_first : {e : ProtoError} {w n : Writing} {a b : Bool} {s : List ℕ} (t : List ℕ) → (a ≡ false → b ≡ false) → StoppedOctets e w a s n
+    → StoppedOctets e w b (s ++ t) n
+stopped_first {e} {s = s} t f h = record { extends = h.extends; why = because_map e _ _ _ _ (λ r. omega (arith, r, length-append s t)) f h.why }
+
+pub stopped_then : {e : ProtoError} {w b n : Writing} {x y : Bool} {s t : List ℕ} → (x ≡ false → y ≡ false) → AppendedOctets w s b → StoppedOctets e b x t n
+    → StoppedOctets e w y (s ++ t) n
+stopped_then {e} {w} {b} {n} {s = s} {t = t} f a h =
+    record {
+      extends = extends_behind a h.extends;
+      why =
+          because_map e _ _ _ _ (λ r. omega (arith, r, a.keeps.limit, ap length a.octets, length-append w.octets s, length-append s t)) f h.why;
+    }
+
+pub and_first : (a b : Bool) → a ≡ false → a && b ≡ false
+and_first a b e = ap (λ x. x && b) e
+
+pub and_second : (a b : Bool) → b ≡ false → a && b ≡ false
+and_second true b e = e
+and_second false b e = refl
+
+pub emits_all : {T : Type 0} (E : T → Result (Unit {0}) ProtoError → Writing → Writing → Type 0) (F : T → Type 0) (test : T → Bool) (f : T → List ℕ)
+    → ((x : T) (r : Result (Unit {0}) ProtoError) (w n : Writing) → E x r w n → EmitsOctets (F x) (test x) (f x) r w n)
+    → (xs : List T) (r : Result (Unit {0}) ProtoError) (w n : Writing) → EmitsEach E xs r w n
+    → EmitsOctets (AllByRecursion F xs) (list_all test xs) (flat_map f xs) r w n
+emits_all E F test f each [] (Ok u) w n h = (tt, subst (λ (v : Writing). AppendedOctets w [] v) (sym h) (appended_none w))
+emits_all E F test f each [] (Err e) w n h = absurd h
+emits_all E F test f each (x ∷ xs) (Ok u) w n (inl h) =
+    let first = each x (Ok tt) w h.0 h.1 in
+    let rest = emits_all E F test f each xs (Ok u) h.0 n h.2 in
+    ((first.0, rest.0), appended_then first.1 rest.1)
+emits_all E F test f each (x ∷ xs) (Err e) w n (inl h) =
+    let first = each x (Ok tt) w h.0 h.1 in
+    let rest = emits_all E F test f each xs (Err e) h.0 n h.2 in
+    stopped_then (and_second (test x) (list_all test xs)) first.1 rest
+emits_all E F test f each (x ∷ xs) (Ok u) w n (inr h) = absurd (cc h.1)
+emits_all E F test f each (x ∷ xs) (Err e) w n (inr h) =
+    let same : h.0 ≡ e = cc (h.1) in
+    let first : StoppedOctets e w (test x) (f x) n = subst (λ (y : ProtoError). StoppedOctets y w (test x) (f x) n) same (each x (Err h.0) w n h.2) in
+    stopped_first (flat_map f xs) (and_first (test x) (list_all test xs)) first
+
+-- ---- fields as octets
+
+pub number_emits : (w n : ℕ) (r : Result (Unit {0}) ProtoError) (old new : Writing) → EmitsField (Number w) n r old new
+    → EmitsOctets (n < 256 ^ w) true (bytes_high_first w n) r old new
+unfolding field_octets
+number_emits w n (Ok u) old new h = (h.field.is.0, record { keeps = h.keeps; octets = h.field.is.1 })
+number_emits w n (Err e) old new h = record { extends = h.extends; why = because_map e _ _ _ _ (λ r. r.full) (λ u. u.unfit) h.why }
+
+pub text_emits : (s : List ℕ) (r : Result (Unit {0}) ProtoError) (old new : Writing) → EmitsField Text s r old new
+    → EmitsOctets (length s < 256) (nat_le (length s) 255) (string s) r old new
+unfolding field_octets
+text_emits s (Ok u) old new h = (h.field.is.0, record { keeps = h.keeps; octets = h.field.is.1 })
+text_emits s (Err e) old new h = record { extends = h.extends; why = because_map e _ _ _ _ (λ r. r.full) (λ u. u.unfit) h.why }
+
+pub rest_emits : (s : List ℕ) (r : Result (Unit {0}) ProtoError) (old new : Writing) → EmitsField Rest s r old new → EmitsOctets (Unit {0}) true s r old new
+unfolding field_octets
+rest_emits s (Ok u) old new h = (tt, record { keeps = h.keeps; octets = h.field.is })
+rest_emits s (Err e) old new h = record { extends = h.extends; why = because_map e _ _ _ _ (λ r. r.full) (λ u. u.unfit) h.why }
+
+-- ---- lists under a view
+
+pub flat_map_view : {X Y : Type 0} (g : X → Y) (f : Y → List ℕ) (xs : List X) → flat_map (λ x. f (g x)) xs ≡ flat_map f (map g xs)
+flat_map_view g f [] = refl
+flat_map_view g f (x ∷ xs) = ap (λ (l : List ℕ). f (g x) ++ l) (flat_map_view g f xs)
+
+all_view : {X Y : Type 0} (g : X → Y) (F : Y → Type 0) (xs : List X) → AllByRecursion (λ x. F (g x)) xs → AllByRecursion F (map g xs)
+all_view g F [] h = tt
+all_view g F (x ∷ xs) h = (h.0, all_view g F xs h.1)
+
+test_view : {X Y : Type 0} (g : X → Y) (test : Y → Bool) (xs : List X) → list_all (λ x. test (g x)) xs ≡ list_all test (map g xs)
+test_view g test [] = refl
+test_view g test (x ∷ xs) = ap (λ b. test (g x) && b) (test_view g test xs)
+
+-- a test that each passes
+pub all_pass : {X : Type 0} (xs : List X) → list_all (λ x. true) xs ≡ true
+all_pass [] = refl
+all_pass (x ∷ xs) = all_pass xs
+
+pub emits_as : {P Q : Type 0} {a b : Bool} {s t : List ℕ} (r : Result (Unit {0}) ProtoError) (old new : Writing) → (P → Q) → (a ≡ false → b ≡ false) → s ≡ t
+    → EmitsOctets P a s r old new → EmitsOctets Q b t r old new
+emits_as {P} {Q} {a} {b} {s} {t} (Ok u) old new f g e h = (f h.0, subst (λ (x : List ℕ). AppendedOctets old x new) e h.1)
+emits_as {P} {Q} {a} {b} {s} {t} (Err x) old new f g e h =
+    record { extends = h.extends; why = because_map x _ _ _ _ (λ r. omega (arith, r, ap length e)) g h.why }
+
+-- a list that is emitted under a view
+pub emits_list : {X Y : Type 0} (g : X → Y) (F : Y → Type 0) (test : Y → Bool) (f : Y → List ℕ)
+    (E : X → Result (Unit {0}) ProtoError → Writing → Writing → Type 0)
+    → ((x : X) (r : Result (Unit {0}) ProtoError) (w n : Writing) → E x r w n → EmitsOctets (F (g x)) (test (g x)) (f (g x)) r w n)
+    → (xs : List X) (r : Result (Unit {0}) ProtoError) (w n : Writing) → EmitsEach E xs r w n
+    → EmitsOctets (AllByRecursion F (map g xs)) (list_all test (map g xs)) (flat_map f (map g xs)) r w n
+emits_list g F test f E each xs r w n h = emits_as r w n (all_view g F xs) (λ q. sym (test_view g test xs) ∙ q) (flat_map_view g f xs)
+    (emits_all E (λ x. F (g x)) (λ x. test (g x)) (λ x. f (g x)) each xs r w n h)
+
+-- of a list that is not empty
+pub emits_some : {T : Type 0} (P : Type 0) (test : Bool) (s : List ℕ) (xs : List T) (r : Result (Unit {0}) ProtoError) (old new : Writing) → length xs ≢ 0
+    → EmitsOctets P test s r old new → EmitsOctets ((xs ≢ []) × P) (is_some xs && test) s r old new
+emits_some P test s xs (Ok u) old new some h = ((λ e. some (ap length e), h.0), h.1)
+emits_some P test s xs (Err x) old new some h = record { extends = h.extends; why = because_map x _ _ _ _ (λ r. r) (and_second (is_some xs) test) h.why }
+
+-- some were emitted, and then one more
+pub emits_next : {T : Type 0} (E : T → Result (Unit {0}) ProtoError → Writing → Writing → Type 0) (i : ℕ) (xs : List T) (x d : T) (w b n : Writing)
+    → x ≡ get_or xs i d → i < length xs → EmitsEach E (take i xs) (Ok tt) w b → E x (Ok tt) b n → EmitsEach E (take (i + 1) xs) (Ok tt) w n
+emits_next E i xs x d w b n is lt h s =
+    let one : take (i + 1) xs ≡ take i xs ++ x ∷ [] = take_more xs i d lt ∙ ap (λ y. take i xs ++ y ∷ []) (sym is) in
+    subst (λ zs. EmitsEach E zs (Ok tt) w n) (sym one) (emits_push E (take i xs) x w b n h s)
+
+-- or one that is refused
+pub emits_refused : {T : Type 0} (E : T → Result (Unit {0}) ProtoError → Writing → Writing → Type 0) (i : ℕ) (xs : List T) (x d : T) (e : ProtoError)
+    (w b n : Writing) → x ≡ get_or xs i d → i < length xs → EmitsEach E (take i xs) (Ok tt) w b → E x (Err e) b n → EmitsEach E xs (Err e) w n
+emits_refused E i xs x d e w b n is lt h s =
+    subst (λ zs. EmitsEach E zs (Err e) w n) (list_at i xs x d is lt) (emits_stop E (take i xs) x (drop (i + 1) xs) e w b n h s)
+
+-- ---- what was there stands
+
+pub octets_extend : (P : Type 0) (test : Bool) (s : List ℕ) (r : Result (Unit {0}) ProtoError) (old new : Writing) → EmitsOctets P test s r old new
+    → Extends old new
+octets_extend P test s (Ok u) old new h = record { keeps = h.1.keeps; tail = s; octets = h.1.octets }
+octets_extend P test s (Err e) old new h = h.extends
+
+pub extends_on : {a b c : Writing} → Extends a b → Extends b c → Extends a c
+extends_on {a} {b} {c} f g = record {
+  keeps = keeps_then f.keeps g.keeps;
+  tail = f.tail ++ g.tail;
+  octets = g.octets
+      ∙ ap (λ (l : List ℕ). l ++ g.tail) f.octets ∙ append_assoc a.octets f.tail g.tail;
+}

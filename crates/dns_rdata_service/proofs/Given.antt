@@ -1,0 +1,83 @@
+-- Keys and values that were read are those of their numbers.
+use Rattle.std.proofs.Common.{◌≡◌, ◌⊎◌, inl, inr, ℕ, suc, zero, ◌==◌, Bool, true, false, List, [], ◌∷◌, map, nat_le, if◌then◌else◌, refl}
+use Rattle.std.proofs.Common.{sym, ap, ◌∙◌, ◌≤◌, arith}
+use Rattle.std.proofs.lemmas.Grind.{common_steps}
+use Rattle.std.proofs.lemmas.Bool.Decides.{nat_tests}
+use Rattle.dns_rdata_base.proofs.NumberLaws.{number-numbered_of}
+use Rattle.dns_rdata_base.proofs.Addresses.{segments_of-octets_of}
+use Rattle.dns_rdata_base.specs.declared.a.A.{A}
+use Rattle.dns_rdata_base.specs.declared.aaaa.AAAA.{AAAA}
+use Rattle.dns_fields.specs.Pieces.{AnyOctets, form_for}
+use Rattle.dns_rdata_service.specs.SvcParamKey.{key_number, named_keys, other_key, key_of}
+use Rattle.dns_rdata_service.specs.declared.svcb.key.SvcParamKey.{SvcParamKey}
+use Rattle.dns_rdata_service.specs.declared.svcb.key.SvcParamKey.TheVariants.{Key, Key65535, Unknown}
+use Rattle.dns_rdata_service.specs.SvcParamValue.{a_octets, aaaa_octets, a_of, aaaa_of, IsValueOf}
+use Rattle.dns_rdata_service.specs.declared.svcb.unknown.Unknown.{Unknown as Other}
+use Rattle.dns_rdata_service.specs.declared.svcb.value.SvcParamValue.TheVariants.{Unknown as OtherValue}
+
+other_number : (b : Bool) (n : ℕ) → key_number (if b then Key n else Unknown n) ≡ n
+other_number true n = refl
+other_number false n = refl
+
+pub key_number-of : (n : ℕ) → key_number (key_of n) ≡ n
+unfolding key_of
+key_number-of n = number-numbered_of key_number named_keys other_key n (other_number (nat_le 65280 n) n)
+
+-- a key without a form of its own
+pub record IsPlainKey (n : ℕ) : Type 0 where
+  pub form : form_for n ≡ AnyOctets
+  pub other : (n == 5) ≡ false
+
+plain_above : (n : ℕ) → 7 ≤ n → IsPlainKey n
+plain_above n h = record { form = grind (arith, common_steps, nat_tests); other = grind (arith, common_steps, nat_tests) }
+
+pub plain_unknown : (n : ℕ) → Unknown n ≡ key_of n → IsPlainKey n
+unfolding key_of
+plain_unknown zero e = absurd (cc e)
+plain_unknown (suc zero) e = absurd (cc e)
+plain_unknown (suc (suc zero)) e = absurd (cc e)
+plain_unknown (suc (suc (suc zero))) e = absurd (cc e)
+plain_unknown (suc (suc (suc (suc zero)))) e = absurd (cc e)
+plain_unknown (suc (suc (suc (suc (suc zero))))) e = absurd (cc e)
+plain_unknown (suc (suc (suc (suc (suc (suc zero)))))) e = absurd (cc e)
+plain_unknown (suc (suc (suc (suc (suc (suc (suc n))))))) e = plain_above (suc (suc (suc (suc (suc (suc (suc n))))))) (omega arith)
+
+pub plain_key : (n : ℕ) → Key n ≡ key_of n → IsPlainKey n
+unfolding key_of
+plain_key zero e = absurd (cc e)
+plain_key (suc zero) e = absurd (cc e)
+plain_key (suc (suc zero)) e = absurd (cc e)
+plain_key (suc (suc (suc zero))) e = absurd (cc e)
+plain_key (suc (suc (suc (suc zero)))) e = absurd (cc e)
+plain_key (suc (suc (suc (suc (suc zero))))) e = absurd (cc e)
+plain_key (suc (suc (suc (suc (suc (suc zero)))))) e = absurd (cc e)
+plain_key (suc (suc (suc (suc (suc (suc (suc n))))))) e = plain_above (suc (suc (suc (suc (suc (suc (suc n))))))) (omega arith)
+
+pub map_back : {X Y : Type 0} (f : X → Y) (g : Y → X) → ((x : X) → x ≡ g (f x)) → (xs : List X) → xs ≡ map g (map f xs)
+map_back f g h [] = refl
+map_back f g h (x ∷ xs) = ap (λ y. y ∷ xs) (h x) ∙ ap (λ ys. g (f x) ∷ ys) (map_back f g h xs)
+
+a_back : (x : A) → x ≡ a_of (a_octets x)
+a_back x = refl
+
+aaaa_back : (x : AAAA) → x ≡ aaaa_of (aaaa_octets x)
+aaaa_back x = ap (λ (s : List ℕ). record { 0 = record { segments = s } }) (sym (segments_of-octets_of x.0.segments))
+
+pub a_list_back : (xs : List A) → xs ≡ map a_of (map a_octets xs)
+a_list_back = map_back a_octets a_of a_back
+
+pub aaaa_list_back : (xs : List AAAA) → xs ≡ map aaaa_of (map aaaa_octets xs)
+aaaa_list_back = map_back aaaa_octets aaaa_of aaaa_back
+
+plain_reserved : IsPlainKey 65535
+plain_reserved = plain_above 65535 (omega arith)
+
+pub plain_of : (k : SvcParamKey) → k ≡ key_of (key_number k) → ((x : ℕ) × (k ≡ Key x)) ⊎ ((k ≡ Key65535) ⊎ ((x : ℕ) × (k ≡ Unknown x)))
+    → IsPlainKey (key_number k)
+plain_of k g (inl h) = rw h.1 (plain_key h.0 (rw h.1 at g))
+plain_of k g (inr (inl h)) = rw h plain_reserved
+plain_of k g (inr (inr h)) = rw h.1 (plain_unknown h.0 (rw h.1 at g))
+
+-- the value of a key without a form of its own
+pub plain_value : (n : ℕ) (body : List ℕ) (x : Other) → IsPlainKey n → body ≡ x.0 → IsValueOf n body (OtherValue x)
+plain_value n body x p e = record { held = (sym p.form, tt, e); given = rw p.other refl }

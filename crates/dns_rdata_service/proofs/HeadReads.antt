@@ -1,0 +1,88 @@
+-- Fields in front of the data of a known length.
+use Rattle.std.proofs.Common.{◌≡◌, ℕ, ◌+◌, ◌-◌, ◌<◌, ◌≤◌, List, [], ◌∷◌, length, sym, ap, arith, subst, Err}
+use Rattle.dns_types.specs.declared.error.DecodeError.{DecodeError}
+use Rattle.dns_fields.specs.Octets.{AreOctets}
+use Rattle.dns_fields.specs.Labels.{DomainName}
+use Rattle.dns_fields.specs.Fields.{Kind, Number, Name, Parameters, Value, Values, Stands, EndsItself}
+use Rattle.dns_fields.proofs.FieldLaws.{field_end, field_inside}
+use Rattle.dns_names_wire.specs.State.{Reading}
+use Rattle.dns_names_wire.specs.Words.{TookField, Window, NoWindow, TookWindow, RefusedWindow}
+use Rattle.dns_names_wire.proofs.FieldReads.{unless_map, refused_then, refused_past, took_stays}
+use Rattle.dns_names_wire.proofs.WindowReads.{Given, filled_window}
+use Rattle.dns_rdata_service.specs.SVCB.{svcb_shape, svcb_fields}
+use Rattle.dns_rdata_service.specs.declared.svcb.SVCB.{SVCB}
+
+abbrev pub anything : (kinds : List Kind) → Values kinds → Type 0
+anything kinds vs = Unit {0}
+
+none_then : {d b : Reading} {k : Kind} {v : Value k} {kinds : List Kind} {n r : ℕ} → EndsItself k → TookField d k v b → b.index + r ≡ d.index + n
+    → NoWindow b.message b.index r kinds (anything kinds) → NoWindow d.message d.index n (k ∷ kinds) (anything (k ∷ kinds))
+none_then {d} {b} {k} {v} {kinds} {n} {r} ends f all h = record {
+  none = λ vs w.
+      let s = w.stands in
+      let there : s.0 ≡ b.index = field_end ends s.1 f.field in
+      let rest : Stands b.message b.index kinds vs.1 (b.index + r) = subst (λ (e : ℕ). Stands b.message b.index kinds vs.1 e) (sym all)
+      (subst (λ (m : List ℕ). Stands m b.index kinds vs.1 (d.index + n)) (sym f.message)
+      (subst (λ (q : ℕ). Stands d.message q kinds vs.1 (d.index + n)) there s.2)) in
+      h.none vs.1 (record {
+        octets = subst AreOctets (sym f.message) w.octets;
+        short = omega (arith, w.short, all, (field_inside f.field).0);
+        within =
+            omega (arith, w.within, all, ap length f.message);
+        stands = rest;
+        holds = tt;
+      });
+}
+
+took_then : {d b e : Reading} {k : Kind} {v : Value k} {kinds : List Kind} {vs : Values kinds} {n r : ℕ} → EndsItself k → TookField d k v b → n < 65536
+    → b.index + r ≡ d.index + n → TookWindow b r kinds (anything kinds) vs e → TookWindow d n (k ∷ kinds) (anything (k ∷ kinds)) (v, vs) e
+took_then {d} {b} {e} {k} {v} {kinds} {vs} {n} {r} ends f short all h = record {
+  behind = took_stays f h.behind;
+  here = λ same.
+      let w : Window b.message b.index r kinds (anything kinds) vs = h.here (omega (arith, same, all)) in
+      let rest : Stands d.message b.index kinds vs (d.index + n) = subst (λ (m : List ℕ). Stands m b.index kinds vs (d.index + n)) f.message
+      (subst (λ (q : ℕ). Stands b.message b.index kinds vs q) all w.stands) in
+      record {
+        octets = subst AreOctets f.message w.octets;
+        short = short;
+        within = omega (arith, w.within, all, ap length f.message);
+        stands =
+            (b.index, f.field, rest);
+        holds = tt;
+      };
+  elsewhere = λ ne. none_then ends f all (h.elsewhere (λ same. ne (omega (arith, same, all))));
+}
+
+refused_behind : {e : DecodeError} {d b c : Reading} {k : Kind} {v : Value k} {kinds : List Kind} {n r : ℕ} → EndsItself k → TookField d k v b
+    → b.index + r ≡ d.index + n → RefusedWindow e b r kinds (anything kinds) c → RefusedWindow e d n (k ∷ kinds) (anything (k ∷ kinds)) c
+refused_behind {e} ends f all h = record { behind = took_stays f h.behind; none = unless_map e _ _ (none_then ends f all) h.none }
+
+-- ---- SVCB
+
+abbrev Tail : List Kind
+Tail = Parameters ∷ []
+
+pub svcb_took : {d a b e : Reading} {priority : ℕ} {target : DomainName} {vs : Values Tail} (n r : ℕ) → TookField d (Number 2) priority a
+    → TookField a Name target b → n < 65536 → b.index + r ≡ d.index + n → TookWindow b r Tail (anything Tail) vs e
+    → TookWindow d n svcb_shape (anything svcb_shape) (priority, (target, vs)) e
+svcb_took {d} {a} {b} {e} {priority} {target} {vs} n r f g short all h =
+    let left : (k : ℕ) × (a.index + k ≡ d.index + n) = rest_of a.index (d.index + n) (omega (arith, (field_inside g.field).0, all)) in
+    took_then tt f short left.1 (took_then tt g (omega (arith, left.1, (field_inside f.field).0, short)) (omega (arith, left.1, all)) h)
+  where
+    rest_of : (x y : ℕ) → x ≤ y → (k : ℕ) × (x + k ≡ y)
+    rest_of x y le = (y - x, omega arith)
+
+pub svcb_refused : {e : DecodeError} {d a b c : Reading} {priority : ℕ} {target : DomainName} (n r : ℕ) → TookField d (Number 2) priority a
+    → TookField a Name target b → b.index + r ≡ d.index + n → RefusedWindow e b r Tail (anything Tail) c
+    → RefusedWindow e d n svcb_shape (anything svcb_shape) c
+svcb_refused {e} {d} {a} {b} {c} n r f g all h =
+    let left : (k : ℕ) × (a.index + k ≡ d.index + n) = rest_of a.index (d.index + n) (omega (arith, (field_inside g.field).0, all)) in
+    refused_behind tt f left.1 (refused_behind tt g (omega (arith, left.1, all)) h)
+  where
+    rest_of : (x y : ℕ) → x ≤ y → (k : ℕ) × (x + k ≡ y)
+    rest_of x y le = (y - x, omega arith)
+
+pub svcb_passed : {d a b : Reading} {priority : ℕ} {target : DomainName} (e : DecodeError) (n : ℕ) → Given d n → TookField d (Number 2) priority a
+    → TookField a Name target b → d.index + n < b.index → RefusedWindow e d n svcb_shape (anything svcb_shape) b
+svcb_passed {d} {a} {b} e n given f g past = filled_window {T = SVCB} svcb_shape (anything svcb_shape) svcb_fields (Err e) d b n tt given
+    (refused_then f tt (refused_then g tt (refused_past b (λ vs q c. omega (arith, c.0, past)))))

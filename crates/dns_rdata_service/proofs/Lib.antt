@@ -1,0 +1,14 @@
+pub mod Splits
+pub mod Refusals
+pub mod ValueReads
+pub mod EachReads
+pub mod EachEmits
+pub mod EachTexts
+pub mod HintReads
+pub mod Given
+pub mod ValueEmits
+pub mod ParameterLists
+pub mod ParameterReads
+pub mod ParameterEmits
+pub mod HeadReads
+pub mod SvcbValues

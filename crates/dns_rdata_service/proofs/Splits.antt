@@ -1,0 +1,59 @@
+-- Octets that were taken are the front of those that were left.
+use Rattle.std.proofs.Common.{◌≡◌, ℕ, ◌*◌, ◌%◌, List, [], ◌∷◌, ◌++◌, length, drop, refl, sym, ap, ◌∙◌, arith, append_assoc}
+use Rattle.std.specs.List.{flat_map}
+use Rattle.std.specs.Int.{bytes_high_first}
+use Rattle.std.proofs.lemmas.List.{length-append, drop-drop, take-append-drop}
+use Rattle.std.proofs.lemmas.Grind.{flat_map-append}
+use Rattle.std.proofs.Math.Nat.{mod-eq_of_lt}
+use Rattle.dns_fields.specs.Octets.{At}
+use Rattle.dns_fields.specs.Fields.{Number, Field}
+use Rattle.dns_fields.specs.Pieces.{string}
+use Rattle.dns_fields.proofs.Numbers.{length-bytes}
+use Rattle.dns_fields.proofs.Pieces.{parts}
+
+pub at_split : {m : List ℕ} {p : ℕ} {x : List ℕ} {q : ℕ} → At m p x q → drop p m ≡ x ++ drop q m
+at_split {m} {p} {x} {q} a =
+    sym (take-append-drop (length x) (drop p m))
+    ∙ ap (λ (l : List ℕ). l ++ drop (length x) (drop p m)) a.same
+    ∙ ap (λ (l : List ℕ). x ++ l) (drop-drop (length x) p m ∙ ap (λ (k : ℕ). drop k m) (sym a.ends))
+
+-- one more behind others
+pub split_push : {T : Type 0} (f : T → List ℕ) (xs : List T) (x : T) (body left rest : List ℕ) → body ≡ flat_map f xs ++ left → left ≡ f x ++ rest
+    → body ≡ flat_map f (xs ++ x ∷ []) ++ rest
+split_push f xs x body left rest e g =
+    e ∙ ap (λ (l : List ℕ). flat_map f xs ++ l) g ∙ sym (append_assoc (flat_map f xs) (f x) rest)
+    ∙ ap (λ (l : List ℕ). l ++ rest) (ap (λ (l : List ℕ). flat_map f xs ++ l) (sym (append-nil (f x))) ∙ sym (flat_map-append f xs (x ∷ [])))
+  where
+    append-nil : (l : List ℕ) → l ++ [] ≡ l
+    append-nil [] = refl
+    append-nil (y ∷ ys) = ap (λ (t : List ℕ). y ∷ t) (append-nil ys)
+
+pub length_numbers : (ns : List ℕ) → length (flat_map (bytes_high_first 2) ns) ≡ 2 * length ns
+length_numbers [] = refl
+length_numbers (n ∷ ns) = omega (arith, length-append (bytes_high_first 2 n) (flat_map (bytes_high_first 2) ns), length-bytes 2 n, length_numbers ns)
+
+-- an octet and what is behind it
+pub octet_split : {m : List ℕ} {p n q : ℕ} → Field m p (Number 1) n q → drop p m ≡ n ∷ drop q m
+octet_split {m} {p} {n} {q} f =
+    let e : n % 256 ≡ n = mod-eq_of_lt f.is.0 in
+    at_split f.is.1 ∙ ap (λ (k : ℕ). k ∷ drop q m) e
+
+-- ---- strings
+
+pub string_first : (a b x y : List ℕ) → string a ++ x ≡ string b ++ y → (a ≡ b) × (x ≡ y)
+string_first a b x y e =
+    let f : length a ∷ (a ++ x) ≡ length b ∷ (b ++ y) = e in
+    let n : length a ≡ length b = cc in
+    let t : a ++ x ≡ b ++ y = cc in
+    parts a x b y n t
+
+-- strings that begin with others
+pub strings_prefix : (xs ys : List (List ℕ)) (r : List ℕ) → flat_map string ys ≡ flat_map string xs ++ r
+    → (rest : List (List ℕ)) × (ys ≡ xs ++ rest) × (flat_map string rest ≡ r)
+strings_prefix [] ys r e = (ys, refl, e)
+strings_prefix (x ∷ xs) [] r e = let f : [] ≡ length x ∷ ((x ++ flat_map string xs) ++ r) = e in absurd cc
+strings_prefix (x ∷ xs) (y ∷ ys) r e =
+    let f : string y ++ flat_map string ys ≡ string x ++ (flat_map string xs ++ r) = e ∙ append_assoc (string x) (flat_map string xs) r in
+    let h = string_first y x (flat_map string ys) (flat_map string xs ++ r) f in
+    let t = strings_prefix xs ys r h.1 in
+    (t.0, ap (λ (z : List ℕ). z ∷ ys) h.0 ∙ ap (λ (zs : List (List ℕ)). x ∷ zs) t.1, t.2)

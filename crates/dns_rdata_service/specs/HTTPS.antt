@@ -1,0 +1,28 @@
+-- HTTPS: how a web service is reached (RFC 9460, 9), with the fields of SVCB.
+use Rattle.std.specs.Prelude.{ℕ, List}
+use Rattle.dns_types.specs.declared.error.DecodeError.{DecodeError}
+use Rattle.dns_fields.specs.Fields.{Kind, Values}
+use Rattle.dns_names_wire.specs.State.{Reading}
+use Rattle.dns_rdata_service.specs.SVCB.{svcb_shape, svcb_fields, svcb_key_shape, svcb_keys, IsReadSvcb, svcb_text, svcb_refusal}
+use Rattle.dns_rdata_service.specs.declared.https.HTTPS.{HTTPS}
+
+abbrev pub https_shape : List Kind
+https_shape = svcb_shape
+
+abbrev pub https_fields : HTTPS → Values https_shape
+https_fields x = svcb_fields x.0
+
+abbrev pub https_key_shape : List Kind
+https_key_shape = svcb_key_shape
+
+abbrev pub https_keys : HTTPS → Values https_key_shape
+https_keys x = svcb_keys x.0
+
+abbrev pub IsReadHttps : HTTPS → Type 0
+IsReadHttps x = IsReadSvcb x.0
+
+abbrev pub https_text : HTTPS → List ℕ
+https_text x = svcb_text x.0
+
+abbrev pub https_refusal : ℕ → Reading → DecodeError → Reading → Type 0
+https_refusal n old e new = svcb_refusal n old e new

@@ -1,0 +1,9 @@
+pub mod SvcParamKey
+pub mod Emitting
+pub mod Hints
+pub mod SvcParamValue
+pub mod Parameters
+pub mod SVCB
+pub mod OwnKeys
+pub mod Hashing
+pub mod HTTPS

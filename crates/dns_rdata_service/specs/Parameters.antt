@@ -1,0 +1,98 @@
+-- The parameters of a service as fields, and why they are refused (RFC 9460, 2.2).
+use Rattle.std.specs.Prelude.{◌≡◌, ◌⊎◌, ℕ, ◌+◌, ◌<◌, ◌≤◌, List, [], ◌∷◌, ◌++◌, length, map, Option, Some, None, Result}
+use Rattle.dns_types.specs.declared.error.DecodeError.{DecodeError}
+use Rattle.dns_types.specs.declared.error.DecodeError.TheVariants as decode
+use Rattle.dns_types.specs.declared.error.ProtoError.{ProtoError}
+use Rattle.dns_fields.specs.Fields.{Number, Rest, Parameters}
+use Rattle.dns_fields.specs.Pieces.{Numbered, ParameterValue, Alpn, ParameterFits, piece, as_piece, parameter_octets, form_for, Rising}
+use Rattle.dns_names_wire.specs.State.{Reading, Writing}
+use Rattle.dns_names_wire.specs.Words.{Took, TookField}
+use Rattle.dns_rdata_base.specs.Refusing.{FirstLack}
+use Rattle.dns_rdata_service.specs.Emitting.{EmitsOctets}
+use Rattle.dns_rdata_service.specs.SvcParamKey.{key_number, key_variant, key_of}
+use Rattle.dns_rdata_service.specs.SvcParamValue.{value_of, value_from, value_key, value_refusal, fits_value}
+use Rattle.dns_rdata_service.specs.declared.svcb.key.SvcParamKey.{SvcParamKey}
+use Rattle.dns_rdata_service.specs.declared.svcb.value.SvcParamValue.{SvcParamValue}
+
+-- a key and its value
+abbrev pub Parameter : Type 0
+Parameter = SvcParamKey × SvcParamValue
+
+abbrev pub parameter_of : Parameter → Numbered ParameterValue
+parameter_of p = (key_number p.0, value_of p.1)
+
+-- the parameter that a number and a value of the grammar give
+abbrev pub parameter_from : Numbered ParameterValue → Parameter
+parameter_from x = (key_of x.0, value_from x.0 x.1)
+
+-- What is compared: the key's number, and then its variant, the value's variant, and what the value holds, as lists. They
+-- stand in the place of names of protocols, whose lists are compared as they are.
+abbrev pub own_parameter : Parameter → Numbered ParameterValue
+own_parameter p = (key_number p.0, Alpn ((key_variant p.0 ∷ []) ∷ value_key p.1))
+
+-- keys and values are those that their fields give
+abbrev pub AreRead : List Parameter → Type 0
+AreRead ps = ps ≡ map parameter_from (map parameter_of ps)
+
+-- a key's number is above the last one
+abbrev pub IsAbove : Option ℕ → ℕ → Type 0
+IsAbove None key = Unit {0}
+IsAbove (Some last) key = last < key
+
+-- appends a key's number, and a value behind its length
+abbrev pub EmitsParameter : Numbered ParameterValue → Result (Unit {0}) ProtoError → Writing → Writing → Type 0
+EmitsParameter x r old new = EmitsOctets (ParameterFits x) (fits_value x.1) (piece (as_piece parameter_octets x)) r old new
+
+-- ---- refusals
+
+-- key and length are taken, and fewer octets are left
+pub record CutValue (old : Reading) (e : DecodeError) (new : Reading) : Type 0 where
+  pub key : ℕ
+  pub size : ℕ
+  pub left : ℕ
+  pub took : Took old (Number 2 ∷ Number 2 ∷ []) (key, (size, tt)) new
+  pub error : e ≡ decode.IncorrectRDataLengthRead left size
+  pub all : new.index + left ≡ length new.message
+  pub cut : left < size
+
+-- key, length and the value's octets are taken, and they are no value of the key
+pub record RefusedValue (old : Reading) (e : DecodeError) (new : Reading) : Type 0 where
+  pub key : ℕ
+  pub octets : List ℕ
+  pub took : Took old (Number 2 ∷ Number 2 ∷ Rest ∷ []) (key, (length octets, (octets, tt))) new
+  pub refused : value_refusal (form_for key) octets e
+
+-- one parameter: octets of key or length are missing, or the value is refused
+abbrev pub parameter_refusal : Reading → DecodeError → Reading → Type 0
+parameter_refusal old e new = FirstLack (Number 2 ∷ Number 2 ∷ []) old e new ⊎ (CutValue old e new ⊎ RefusedValue old e new)
+
+-- behind parameters that are taken, one is refused
+pub record RefusedParameter (end : ℕ) (old : Reading) (e : DecodeError) (new : Reading) : Type 0 where
+  pub before : List (Numbered ParameterValue)
+  pub between : Reading
+  pub took : TookField old Parameters before between
+  pub room : between.index + 4 ≤ end
+  pub refused : parameter_refusal between e new
+
+-- behind parameters that are taken, one is taken whose key is not above theirs
+pub record WrongOrder (old : Reading) (e : DecodeError) (new : Reading) : Type 0 where
+  pub before : List (Numbered ParameterValue)
+  pub between : Reading
+  pub took : TookField old Parameters before between
+  pub last : Numbered ParameterValue
+  pub then : TookField between Parameters (last ∷ []) new
+  pub error : e ≡ decode.SvcParamsOutOfOrder
+  pub order : Rising (before ++ last ∷ []) → ⊥
+
+-- parameters are taken, which pass the record's n octets from the place p
+pub record PassedParameters (p n : ℕ) (old : Reading) (e : DecodeError) (new : Reading) : Type 0 where
+  pub taken : List (Numbered ParameterValue)
+  pub size : ℕ
+  pub took : TookField old Parameters taken new
+  pub error : e ≡ decode.IncorrectRDataLengthRead size n
+  pub passed : n < size
+  pub index : new.index ≡ p + size
+
+-- parameters to the end of a record of n octets from p
+abbrev pub parameters_refusal : ℕ → ℕ → Reading → DecodeError → Reading → Type 0
+parameters_refusal p n old e new = (e ≡ decode.Memory) ⊎ (RefusedParameter (p + n) old e new ⊎ (WrongOrder old e new ⊎ PassedParameters p n old e new))

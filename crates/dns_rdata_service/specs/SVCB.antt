@@ -1,0 +1,66 @@
+-- SVCB: how a service is reached (RFC 9460, 2.2).
+use Rattle.std.specs.Prelude.{◌≡◌, ◌⊎◌, ℕ, ◌+◌, ◌≤◌, ◌<◌, List, [], ◌∷◌, ◌++◌, map, codes, decimal}
+use Rattle.std.specs.List.{flat_map}
+use Rattle.dns_types.specs.declared.error.DecodeError.{DecodeError}
+use Rattle.dns_types.specs.declared.error.DecodeError.TheVariants as decode
+use Rattle.dns_fields.specs.Labels.{DomainName}
+use Rattle.dns_fields.specs.Fields.{Kind, Number, Name, Parameters, Values}
+use Rattle.dns_labels.specs.Text.{name_text}
+use Rattle.dns_names_wire.specs.State.{Reading}
+use Rattle.dns_names_wire.specs.Words.{Took}
+use Rattle.dns_rdata_base.specs.Refusing.{IsLack}
+use Rattle.dns_rdata_service.specs.SvcParamKey.{key_text}
+use Rattle.dns_rdata_service.specs.SvcParamValue.{value_text}
+use Rattle.dns_rdata_service.specs.Parameters.{Parameter, parameter_of, own_parameter, AreRead, parameters_refusal}
+use Rattle.dns_rdata_service.specs.declared.svcb.SVCB.{SVCB}
+
+-- priority, target name, parameters
+abbrev pub svcb_shape : List Kind
+svcb_shape = Number 2 ∷ Name ∷ Parameters ∷ []
+
+abbrev pub svcb_fields : SVCB → Values svcb_shape
+svcb_fields x = (x.svc_priority, (x.target_name, (map parameter_of x.svc_params, tt)))
+
+-- what is compared
+abbrev pub svcb_key_shape : List Kind
+svcb_key_shape = Number 2 ∷ Name ∷ Parameters ∷ []
+
+abbrev pub svcb_keys : SVCB → Values svcb_key_shape
+svcb_keys x = (x.svc_priority, (x.target_name, (map own_parameter x.svc_params, tt)))
+
+-- keys and values are those that their fields give
+abbrev pub IsReadSvcb : SVCB → Type 0
+IsReadSvcb x = AreRead x.svc_params
+
+-- a blank, the key, an equals sign and the value
+abbrev pub parameter_text : Parameter → List ℕ
+parameter_text p = codes " " ++ (key_text p.0 ++ (codes "=" ++ value_text p.1))
+
+-- priority and target name, a blank between, and the parameters
+abbrev pub svcb_text : SVCB → List ℕ
+svcb_text x = (decimal x.svc_priority ++ (codes " " ++ name_text x.target_name)) ++ flat_map parameter_text x.svc_params
+
+-- ---- refusals
+
+-- priority and target name are taken, more than the record's n octets
+pub record PassedHead (n : ℕ) (old : Reading) (e : DecodeError) (new : Reading) : Type 0 where
+  pub priority : ℕ
+  pub target : DomainName
+  pub size : ℕ
+  pub took : Took old (Number 2 ∷ Name ∷ []) (priority, (target, tt)) new
+  pub error : e ≡ decode.IncorrectRDataLengthRead size n
+  pub passed : n < size
+  pub index : new.index ≡ old.index + size
+
+-- priority and target name are taken, and the parameters are refused
+pub record RefusedParameters (n : ℕ) (old : Reading) (e : DecodeError) (new : Reading) : Type 0 where
+  pub priority : ℕ
+  pub target : DomainName
+  pub between : Reading
+  pub took : Took old (Number 2 ∷ Name ∷ []) (priority, (target, tt)) between
+  pub fits : between.index ≤ old.index + n
+  pub refused : parameters_refusal old.index n between e new
+
+-- a record of n octets
+abbrev pub svcb_refusal : ℕ → Reading → DecodeError → Reading → Type 0
+svcb_refusal n old e new = IsLack (Number 2 ∷ Name ∷ []) old e new ⊎ (PassedHead n old e new ⊎ RefusedParameters n old e new)

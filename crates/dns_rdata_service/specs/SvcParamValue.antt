@@ -1,0 +1,216 @@
+-- The values of service parameters: what each holds, in the octets of which it is read, and its text (RFC 9460, 7 and 8).
+use Rattle.std.specs.Prelude.{◌≡◌, ◌≢◌, ◌⊎◌, ℕ, ◌%◌, ◌^◌, ◌<◌, ◌==◌, ◌&&◌, nat_le, Bool, if◌then◌else◌, List, [], ◌∷◌, ◌++◌, length, drop}
+use Rattle.std.specs.Prelude.{map, codes, decimal, IsUtf8, Result}
+use Rattle.std.specs.List.{flat_map}
+use Rattle.std.specs.Int.{bytes_high_first}
+use Rattle.std.specs.Net.Addr.{ipv4_octets, ipv6_octets, segments_of}
+use Rattle.base64.specs.Engines.{standard}
+use Rattle.base64.specs.GeneralPurpose.{encode_of}
+use Rattle.dns_types.specs.declared.error.DecodeError.{DecodeError}
+use Rattle.dns_types.specs.declared.error.DecodeError.TheVariants as decode
+use Rattle.dns_types.specs.declared.error.ProtoError.{ProtoError}
+use Rattle.dns_fields.specs.Pieces.{string, ParameterValue, Mandatory, Alpn, NoDefaultAlpn, Port, Ipv4Hint, Ipv6Hint, Opaque, Form, Keys}
+use Rattle.dns_fields.specs.Pieces.{Names, Nothing, PortNumber, Addresses4, Addresses16, AnyOctets, IsEmittable, IsBody, ParameterHeld}
+use Rattle.dns_fields.specs.Pieces.{parameter_octets, parameter_emittable}
+use Rattle.dns_names_wire.specs.State.{Writing}
+use Rattle.dns_rdata_base.specs.A.{a_text}
+use Rattle.dns_rdata_base.specs.AAAA.{aaaa_text}
+use Rattle.dns_rdata_base.specs.Lossy.{lossy}
+use Rattle.dns_rdata_base.specs.declared.a.A.{A}
+use Rattle.dns_rdata_base.specs.declared.aaaa.AAAA.{AAAA}
+use Rattle.dns_rdata_service.specs.Emitting.{EmitsOctets}
+use Rattle.dns_rdata_service.specs.SvcParamKey.{key_number, key_variant, key_of, key_text}
+use Rattle.dns_rdata_service.specs.declared.svcb.key.SvcParamKey.{SvcParamKey}
+use Rattle.dns_rdata_service.specs.declared.svcb.mandatory.Mandatory.{Mandatory as MandatoryKeys}
+use Rattle.dns_rdata_service.specs.declared.svcb.alpn.Alpn.{Alpn as Protocols}
+use Rattle.dns_rdata_service.specs.declared.svcb.ip_hint.IpHint.{IpHint}
+use Rattle.dns_rdata_service.specs.declared.svcb.ech_config_list.EchConfigList.{EchConfigList as Config}
+use Rattle.dns_rdata_service.specs.declared.svcb.unknown.Unknown.{Unknown as Other}
+use Rattle.dns_rdata_service.specs.declared.svcb.value.SvcParamValue.{SvcParamValue}
+use Rattle.dns_rdata_service.specs.declared.svcb.value.SvcParamValue.TheVariants as variants
+
+-- ---- as values of the grammar
+
+abbrev pub mandatory_value : MandatoryKeys → ParameterValue
+mandatory_value x = Mandatory (map key_number x.0)
+
+abbrev pub alpn_value : Protocols → ParameterValue
+alpn_value x = Alpn x.0
+
+abbrev pub a_octets : A → List ℕ
+a_octets a = ipv4_octets a.0
+
+abbrev pub aaaa_octets : AAAA → List ℕ
+aaaa_octets a = ipv6_octets a.0
+
+abbrev pub hint4_value : IpHint A → ParameterValue
+hint4_value x = Ipv4Hint (map a_octets x.0)
+
+abbrev pub hint6_value : IpHint AAAA → ParameterValue
+hint6_value x = Ipv6Hint (map aaaa_octets x.0)
+
+abbrev pub ech_value : Config → ParameterValue
+ech_value x = Opaque x.0
+
+abbrev pub unknown_value : Other → ParameterValue
+unknown_value x = Opaque x.0
+
+abbrev pub value_of : SvcParamValue → ParameterValue
+value_of (variants.Mandatory x) = mandatory_value x
+value_of (variants.Alpn x) = alpn_value x
+value_of variants.NoDefaultAlpn = NoDefaultAlpn
+value_of (variants.Port n) = Port n
+value_of (variants.Ipv4Hint x) = hint4_value x
+value_of (variants.EchConfigList x) = ech_value x
+value_of (variants.Ipv6Hint x) = hint6_value x
+value_of (variants.Unknown x) = unknown_value x
+
+abbrev pub a_of : List ℕ → A
+a_of s = record { 0 = record { octets = s } }
+
+abbrev pub aaaa_of : List ℕ → AAAA
+aaaa_of s = record { 0 = record { segments = segments_of s } }
+
+-- the value that a key's value of the grammar gives
+abbrev pub value_from : ℕ → ParameterValue → SvcParamValue
+value_from key (Mandatory keys) = variants.Mandatory (record { 0 = map key_of keys })
+value_from key (Alpn names) = variants.Alpn (record { 0 = names })
+value_from key NoDefaultAlpn = variants.NoDefaultAlpn
+value_from key (Port n) = variants.Port n
+value_from key (Ipv4Hint addresses) = variants.Ipv4Hint (record { 0 = map a_of addresses })
+value_from key (Ipv6Hint addresses) = variants.Ipv6Hint (record { 0 = map aaaa_of addresses })
+value_from key (Opaque s) = if key == 5 then variants.EchConfigList (record { 0 = s }) else variants.Unknown (record { 0 = s })
+
+-- ---- as keys of their own, for comparing
+
+-- a key's number, and then its place in the declaration
+abbrev pub key_numbers : SvcParamKey → List ℕ
+key_numbers k = key_number k ∷ key_variant k ∷ []
+
+-- a value's place in the declaration, and then what it holds
+abbrev pub value_key : SvcParamValue → List (List ℕ)
+value_key (variants.Mandatory x) = (0 ∷ []) ∷ map key_numbers x.0
+value_key (variants.Alpn x) = (1 ∷ []) ∷ x.0
+value_key variants.NoDefaultAlpn = (2 ∷ []) ∷ []
+value_key (variants.Port n) = (3 ∷ []) ∷ (n ∷ []) ∷ []
+value_key (variants.Ipv4Hint x) = (4 ∷ []) ∷ map a_octets x.0
+value_key (variants.EchConfigList x) = (5 ∷ []) ∷ x.0 ∷ []
+value_key (variants.Ipv6Hint x) = (6 ∷ []) ∷ map aaaa_octets x.0
+value_key (variants.Unknown x) = (7 ∷ []) ∷ x.0 ∷ []
+
+-- ---- reading
+
+-- the octets hold the value as that of the key with this number
+pub record IsValueOf (key : ℕ) (body : List ℕ) (v : SvcParamValue) : Type 0 where
+  pub held : ParameterHeld key body (value_of v)
+  pub given : v ≡ value_from key (value_of v)
+
+-- the keys are those that their numbers give
+abbrev pub AreGiven : List SvcParamKey → Type 0
+AreGiven keys = keys ≡ map key_of (map key_number keys)
+
+-- the octets from p to the message's end are the value's
+pub record ToEnd (m : List ℕ) (p : ℕ) (value : ParameterValue) (q : ℕ) : Type 0 where
+  pub ends : q ≡ length m
+  pub emittable : IsEmittable value
+  pub body : IsBody (drop p m) value
+
+abbrev pub MandatoryAt : List ℕ → ℕ → MandatoryKeys → ℕ → Type 0
+MandatoryAt m p x q = ToEnd m p (mandatory_value x) q × AreGiven x.0
+
+abbrev pub AlpnAt : List ℕ → ℕ → Protocols → ℕ → Type 0
+AlpnAt m p x q = ToEnd m p (alpn_value x) q
+
+abbrev pub EchConfigListAt : List ℕ → ℕ → Config → ℕ → Type 0
+EchConfigListAt m p x q = ToEnd m p (ech_value x) q
+
+abbrev pub UnknownAt : List ℕ → ℕ → Other → ℕ → Type 0
+UnknownAt m p x q = ToEnd m p (unknown_value x) q
+
+-- names of protocols, and behind them an octet of length and fewer octets
+pub record CutName (body : List ℕ) : Type 0 where
+  pub names : List (List ℕ)
+  pub size : ℕ
+  pub octets : List ℕ
+  pub split : body ≡ flat_map string names ++ size ∷ octets
+  pub cut : length octets < size
+
+-- names of protocols, and behind them one that is not UTF-8
+pub record WrongName (body : List ℕ) : Type 0 where
+  pub names : List (List ℕ)
+  pub name : List ℕ
+  pub rest : List ℕ
+  pub split : body ≡ flat_map string names ++ (string name ++ rest)
+  pub wrong : IsUtf8 name → ⊥
+
+-- why octets are no value of a form
+abbrev pub form_refusal : Form → List ℕ → DecodeError → Type 0
+form_refusal Keys body e = ((e ≡ decode.SvcParamMissingValue) × (body ≡ [])) ⊎ ((e ≡ decode.InsufficientBytes) × (length body % 2 ≡ 1))
+form_refusal Names body e = ((e ≡ decode.SvcParamMissingValue) × (body ≡ []))
+    ⊎ (((e ≡ decode.InsufficientBytes) × CutName body) ⊎ ((e ≡ decode.Utf8) × WrongName body))
+form_refusal Nothing body e = (e ≡ decode.IncorrectRDataLengthRead (length body) 0) × (body ≢ [])
+form_refusal PortNumber body e = (e ≡ decode.InsufficientBytes) × (length body < 2)
+form_refusal Addresses4 body e = (e ≡ decode.InsufficientBytes) × (length body % 4 ≢ 0)
+form_refusal Addresses16 body e = (e ≡ decode.InsufficientBytes) × (length body % 16 ≢ 0)
+form_refusal AnyOctets body e = ⊥
+
+-- or memory runs out
+abbrev pub value_refusal : Form → List ℕ → DecodeError → Type 0
+value_refusal form body e = (e ≡ decode.Memory) ⊎ form_refusal form body e
+
+-- ---- emitting
+
+-- its octets, behind their length in two octets
+abbrev pub sized : ParameterValue → List ℕ
+sized v = bytes_high_first 2 (length (parameter_octets v)) ++ parameter_octets v
+
+-- it has octets, at most 65535
+abbrev pub FitsValue : ParameterValue → Type 0
+FitsValue v = (length (parameter_octets v) < 256 ^ 2) × IsEmittable v
+
+-- the same as a test
+abbrev pub fits_value : ParameterValue → Bool
+fits_value v = nat_le (length (parameter_octets v)) 65535 && parameter_emittable v
+
+-- appends the value's octets
+abbrev pub EmitsValue : ParameterValue → Result (Unit {0}) ProtoError → Writing → Writing → Type 0
+EmitsValue v r old new = EmitsOctets (IsEmittable v) (parameter_emittable v) (parameter_octets v) r old new
+
+-- appends them behind their length
+abbrev pub EmitsSized : ParameterValue → Result (Unit {0}) ProtoError → Writing → Writing → Type 0
+EmitsSized v r old new = EmitsOctets (FitsValue v) (fits_value v) (sized v) r old new
+
+-- ---- texts
+
+-- each key and a comma
+abbrev pub mandatory_text : MandatoryKeys → List ℕ
+mandatory_text x = flat_map (λ k. key_text k ++ codes ",") x.0
+
+-- each name and a comma
+abbrev pub alpn_text : Protocols → List ℕ
+alpn_text x = flat_map (λ s. lossy s ++ codes ",") x.0
+
+-- base64 (RFC 4648, 4) in quotes
+abbrev pub ech_text : Config → List ℕ
+ech_text x = codes "\"" ++ encode_of standard x.0 ++ codes "\""
+
+-- the text in quotes, and a comma
+abbrev pub unknown_text : Other → List ℕ
+unknown_text x = codes "\"" ++ lossy x.0 ++ codes "\","
+
+-- each address and a comma
+abbrev pub hint4_text : IpHint A → List ℕ
+hint4_text x = flat_map (λ a. a_text a ++ codes ",") x.0
+
+abbrev pub hint6_text : IpHint AAAA → List ℕ
+hint6_text x = flat_map (λ a. aaaa_text a ++ codes ",") x.0
+
+abbrev pub value_text : SvcParamValue → List ℕ
+value_text (variants.Mandatory x) = mandatory_text x
+value_text (variants.Alpn x) = alpn_text x
+value_text variants.NoDefaultAlpn = []
+value_text (variants.Port n) = decimal n
+value_text (variants.Ipv4Hint x) = hint4_text x
+value_text (variants.EchConfigList x) = ech_text x
+value_text (variants.Ipv6Hint x) = hint6_text x
+value_text (variants.Unknown x) = unknown_text x

@@ -1,0 +1,140 @@
+//! HTTPS: how a web service is reached (RFC 9460, 9).
+
+ghost use Rattle.std.specs.Prelude.{◌≡◌, IfErr, IfOk};
+ghost use Rattle.dns_names_wire.specs.Words.{ReadsWindow, EmitsAs, Extends, Keeps};
+ghost use Rattle.dns_rdata_service.specs.HTTPS.{https_shape, https_fields, https_key_shape, https_keys, IsReadHttps, https_refusal};
+
+use crate::svcb::SVCB;
+use dns_names_wire::{
+    BinDecoder, BinEncodable, BinEncoder, DecodeError, ProtoError, RDataEncoding, Restrict,
+};
+use dns_rdata_base::{EncodesFields, RecordDataDecodable};
+use std::alloc::AllocError;
+use std::fmt;
+use std::hash::{Hash, Hasher};
+use std::ops::Deref;
+
+/// How a web service is reached (RFC 9460, 9): the fields of SVCB.
+#[derive(Debug, Drop)]
+pub struct HTTPS(pub SVCB);
+
+impl RecordDataDecodable for HTTPS {
+    ghost kinds = { https_shape };
+
+    ghost condition = { λ _. Unit {0} };
+
+    ghost fields = { https_fields };
+
+    /// Reads the data of an SVCB, and is refused as that.
+    #[inline]
+    fn read_data(decoder: &mut BinDecoder<'_>, length: Restrict<u16>) -> Result<HTTPS, DecodeError>
+        ensures window { ReadsWindow https_shape (λ _. Unit {0}) https_fields length result decoder.old decoder.new }
+        ensures read { IfOk result IsReadHttps }
+        ensures refused { IfErr result (λ e. https_refusal length decoder.old e decoder.new) }
+    {
+        match SVCB::read_data(decoder, length) {
+            Ok(svcb) => Ok(HTTPS(svcb)),
+            Err(e) => Err(e),
+        }
+    }
+}
+
+impl EncodesFields for HTTPS {
+    ghost emitted = { https_shape };
+
+    ghost parts = { https_fields };
+
+    /// Appends the fields of the SVCB.
+    #[inline]
+    fn emit_fields(&self, encoder: &mut BinEncoder<'_>) -> Result<(), ProtoError> {
+        self.0.emit_fields(encoder)
+    }
+}
+
+impl BinEncodable for HTTPS {
+    ghost use Rattle.dns_fields.specs.declared.RDataEncoding.TheVariants as modes;
+
+    ghost emits = { λ x r old new. EmitsAs modes.Other https_shape (https_fields x) r old new };
+
+    /// Appends the octets of the SVCB, and is refused as that.
+    #[inline]
+    fn emit(&self, encoder: &mut BinEncoder<'_>) -> Result<(), ProtoError>
+        ensures emits { EmitsAs RDataEncoding.Other https_shape (https_fields self.now) result encoder.old encoder.new }
+        ensures extends { Extends encoder.old encoder.new }
+        ensures keeps { Keeps encoder.old encoder.new }
+    {
+        self.0.emit(encoder)
+    }
+}
+
+impl Deref for HTTPS {
+    type Target = SVCB;
+
+    ghost deref_gives = { λ x svcb. svcb ≡ x.0 };
+
+    /// The SVCB.
+    #[inline]
+    fn deref(&self) -> &SVCB {
+        &self.0
+    }
+}
+
+impl PartialEq for HTTPS {
+    ghost use Rattle.std.specs.Cmp.{partial_equiv_from_equiv, on_equiv};
+    ghost use Rattle.dns_fields.specs.Equal.{values_eq};
+    ghost use Rattle.dns_fields.proofs.Equivalences.{values_equiv};
+
+    ghost eq = { λ a b. values_eq https_key_shape (https_keys a) (https_keys b) };
+
+    ghost laws = { partial_equiv_from_equiv (on_equiv https_keys (values_equiv https_key_shape)) };
+
+    #[inline]
+    fn eq(&self, other: &HTTPS) -> bool {
+        self.0 == other.0
+    }
+}
+
+impl Eq for HTTPS {
+    ghost use Rattle.std.specs.Cmp.{on_equiv};
+    ghost use Rattle.dns_fields.proofs.Equivalences.{values_equiv};
+
+    ghost laws = { on_equiv https_keys (values_equiv https_key_shape) };
+}
+
+impl Hash for HTTPS {
+    ghost use Rattle.dns_rdata_service.specs.Hashing.{svcb_fed, svcb_fed_same};
+
+    ghost hash_input = { λ x. svcb_fed x.0 };
+
+    ghost respects_eq = { λ a b same. svcb_fed_same a.0 b.0 same };
+
+    #[inline]
+    fn hash<H: Hasher>(&self, state: &mut H) {
+        self.0.hash(state);
+    }
+}
+
+impl Clone for HTTPS {
+    ghost is_clone = { λ a b. b ≡ a };
+
+    /// The same SVCB in memory of its own.
+    #[inline]
+    fn clone(&self) -> Result<HTTPS, AllocError>
+        ensures { IfOk result (λ copy. copy ≡ self.now) }
+    {
+        Ok(HTTPS(self.0.clone()?))
+    }
+}
+
+impl fmt::Display for HTTPS {
+    ghost use Rattle.std.specs.Prelude.{Some};
+    ghost use Rattle.dns_rdata_service.specs.HTTPS.{https_text};
+
+    ghost output = { λ x. Some (https_text x) };
+
+    /// The text of the SVCB.
+    fn fmt<W: fmt::Write>(&self, f: &mut fmt::Formatter<W>) -> fmt::Result {
+        let svcb = &self.0;
+        write!(f, "{svcb}")
+    }
+}

@@ -1,0 +1,12 @@
+//! The data of DNS records that bind a service to its endpoints: SVCB, HTTPS.
+#![tactic(auto)]
+
+pub mod https;
+pub mod items;
+pub mod svcb;
+#[cfg(test)]
+mod tests;
+
+pub use https::HTTPS;
+pub use items::Items;
+pub use svcb::SVCB;

@@ -1,0 +1,199 @@
+//! SVCB: how a service is reached (RFC 9460).
+
+ghost use Rattle.std.specs.Prelude.{◌≡◌, IfErr, IfOk};
+ghost use Rattle.dns_names_wire.specs.Words.{ReadsWindow, EmitsAs, Extends, Keeps};
+ghost use Rattle.dns_rdata_service.specs.SVCB.{svcb_shape, svcb_fields, svcb_key_shape, svcb_keys, IsReadSvcb, svcb_refusal};
+
+mod alpn;
+mod ech_config_list;
+mod ip_hint;
+mod key;
+mod mandatory;
+mod parameters;
+mod unknown;
+mod value;
+
+use crate::items::Items;
+pub use alpn::Alpn;
+use dns_names_wire::{
+    BinDecodable, BinDecoder, BinEncodable, BinEncoder, DecodeError, Name, ProtoError,
+    RDataEncoding, Restrict,
+};
+use dns_rdata_base::{EncodesFields, RecordDataDecodable, emit_in};
+pub use ech_config_list::EchConfigList;
+pub use ip_hint::IpHint;
+pub use key::SvcParamKey;
+pub use mandatory::Mandatory;
+use std::alloc::AllocError;
+use std::fmt;
+use std::hash::{Hash, Hasher};
+pub use unknown::Unknown;
+pub use value::SvcParamValue;
+
+/// How a service is reached (RFC 9460, 2.2): a priority in two octets, the name of a target, and then parameters to the
+/// end of the record's length, each a key and a length of two octets and so many octets, with keys that strictly rise.
+#[derive(Debug, Drop)]
+pub struct SVCB {
+    /// 0 for an alias of the target, else how much others are to be tried first.
+    pub svc_priority: u16,
+    /// The target's name; the root stands for the record's own.
+    pub target_name: Name,
+    /// The parameters, in the order of the message.
+    pub svc_params: Items<(SvcParamKey, SvcParamValue)>,
+}
+
+impl SVCB {
+    /// With these fields, which are moved; the parameters in this order.
+    pub fn new(
+        svc_priority: u16,
+        target_name: Name,
+        svc_params: Vec<(SvcParamKey, SvcParamValue)>,
+    ) -> SVCB
+        ensures priority { result.svc_priority ≡ svc_priority }
+        ensures target { result.target_name ≡ target_name }
+        ensures parameters { result.svc_params ≡ svc_params.items }
+    {
+        SVCB {
+            svc_priority,
+            target_name,
+            svc_params: Items::from_vec(svc_params),
+        }
+    }
+}
+
+impl RecordDataDecodable for SVCB {
+    ghost kinds = { svcb_shape };
+
+    ghost condition = { λ _. Unit {0} };
+
+    ghost fields = { svcb_fields };
+
+    /// Reads priority and target, and then parameters while at least four octets of the length are left; one to three
+    /// stay untaken. Memory is asked for once for the list, and for what the values hold.
+    ///
+    /// Where priority and target, or all up to the end of a parameter, pass the length, it is refused by
+    /// `IncorrectRDataLengthRead` of their octets and the length; where fewer octets are left in the message than a
+    /// value's length, by that of these two; where a key is not above the one before, behind its value, by
+    /// `SvcParamsOutOfOrder`; and where a value's octets are none of its key, as the value's `read` refuses them.
+    fn read_data(decoder: &mut BinDecoder<'_>, length: Restrict<u16>) -> Result<SVCB, DecodeError>
+        ensures window { ReadsWindow svcb_shape (λ _. Unit {0}) svcb_fields length result decoder.old decoder.new }
+        ensures read { IfOk result IsReadSvcb }
+        ensures refused { IfErr result (λ e. svcb_refusal length decoder.old e decoder.new) }
+    {
+        let start = decoder.index();
+        let svc_priority = decoder.read_u16()?.unverified();
+        let target_name = Name::read(decoder)?;
+        let read = decoder.index() - start;
+        let len = length.unverified() as usize;
+        if len < read {
+            return Err(DecodeError::IncorrectRDataLengthRead { read, len });
+        }
+        let svc_params = parameters::read_parameters(decoder, start, len)?;
+        Ok(SVCB {
+            svc_priority,
+            target_name,
+            svc_params,
+        })
+    }
+}
+
+impl EncodesFields for SVCB {
+    ghost emitted = { svcb_shape };
+
+    ghost parts = { svcb_fields };
+
+    /// Appends priority, target and parameters in their order.
+    #[tactic(auto, using(dns_names_wire::proofs::FieldWrites::writing))]
+    fn emit_fields(&self, encoder: &mut BinEncoder<'_>) -> Result<(), ProtoError> {
+        encoder.emit_u16(self.svc_priority)?;
+        self.target_name.emit(encoder)?;
+        parameters::emit_parameters(encoder, self.svc_params.as_slice())?;
+        Ok(())
+    }
+}
+
+impl BinEncodable for SVCB {
+    ghost use Rattle.dns_fields.specs.declared.RDataEncoding.TheVariants as modes;
+
+    ghost emits = { λ x r old new. EmitsAs modes.Other svcb_shape (svcb_fields x) r old new };
+
+    /// Appends priority, target and parameters, the name whole and with its letters. Keys that do not strictly rise, no
+    /// mandatory keys, no protocols, a protocol of more than 255 octets, and a value of more than 65535 octets are
+    /// refused by `Message`.
+    fn emit(&self, encoder: &mut BinEncoder<'_>) -> Result<(), ProtoError>
+        ensures emits { EmitsAs RDataEncoding.Other svcb_shape (svcb_fields self.now) result encoder.old encoder.new }
+        ensures extends { Extends encoder.old encoder.new }
+        ensures keeps { Keeps encoder.old encoder.new }
+    {
+        emit_in(RDataEncoding::Other, self, encoder)
+    }
+}
+
+impl PartialEq for SVCB {
+    ghost use Rattle.std.specs.Cmp.{partial_equiv_from_equiv, on_equiv};
+    ghost use Rattle.dns_fields.specs.Equal.{values_eq};
+    ghost use Rattle.dns_fields.proofs.Equivalences.{values_equiv};
+
+    ghost eq = { λ a b. values_eq svcb_key_shape (svcb_keys a) (svcb_keys b) };
+
+    ghost laws = { partial_equiv_from_equiv (on_equiv svcb_keys (values_equiv svcb_key_shape)) };
+
+    fn eq(&self, other: &SVCB) -> bool {
+        self.svc_priority == other.svc_priority
+            && self.target_name == other.target_name
+            && self.svc_params == other.svc_params
+    }
+}
+
+impl Eq for SVCB {
+    ghost use Rattle.std.specs.Cmp.{on_equiv};
+    ghost use Rattle.dns_fields.proofs.Equivalences.{values_equiv};
+
+    ghost laws = { on_equiv svcb_keys (values_equiv svcb_key_shape) };
+}
+
+impl Hash for SVCB {
+    ghost use Rattle.dns_rdata_service.specs.Hashing.{svcb_fed, svcb_fed_same};
+
+    ghost hash_input = { svcb_fed };
+
+    ghost respects_eq = { svcb_fed_same };
+
+    fn hash<H: Hasher>(&self, state: &mut H) {
+        self.svc_priority.hash(state);
+        self.target_name.hash(state);
+        self.svc_params.hash(state);
+    }
+}
+
+impl Clone for SVCB {
+    ghost is_clone = { λ a b. b ≡ a };
+
+    /// The same fields in memory of their own.
+    fn clone(&self) -> Result<SVCB, AllocError>
+        ensures { IfOk result (λ copy. copy ≡ self.now) }
+    {
+        Ok(SVCB {
+            svc_priority: self.svc_priority,
+            target_name: self.target_name.clone()?,
+            svc_params: self.svc_params.clone()?,
+        })
+    }
+}
+
+impl fmt::Display for SVCB {
+    ghost use Rattle.std.specs.Prelude.{Some};
+    ghost use Rattle.dns_rdata_service.specs.SVCB.{svcb_text};
+
+    ghost output = { λ x. Some (svcb_text x) };
+
+    /// Priority and target, a blank between, and for each parameter a blank, the key, an equals sign and the value:
+    /// `1 . alpn=h2, port=443`.
+    fn fmt<W: fmt::Write>(&self, f: &mut fmt::Formatter<W>) -> fmt::Result {
+        write!(f, "{} {}", self.svc_priority, self.target_name)?;
+        for (key, value) in self.svc_params.as_slice() {
+            write!(f, " {key}={value}")?;
+        }
+        Ok(())
+    }
+}

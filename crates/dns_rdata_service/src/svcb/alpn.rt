@@ -1,0 +1,126 @@
+//! The protocols of a service.
+
+ghost use Rattle.std.specs.Prelude.{◌≡◌, ◌↔◌, ℕ, List, drop, length, map, IfErr, IfOk, IsTrue, IsUtf8};
+ghost use Rattle.dns_fields.specs.Fields.{Texts, Field};
+ghost use Rattle.std.specs.String.{string_bytes};
+ghost use Rattle.dns_fields.specs.Pieces.{Names};
+ghost use Rattle.dns_names_wire.specs.Words.{ReadsBy};
+ghost use Rattle.dns_rdata_service.specs.SvcParamValue.{alpn_value, AlpnAt, value_refusal, EmitsValue};
+
+use bstr::BStr;
+use dns_names_wire::{
+    BinDecodable, BinDecoder, BinEncodable, BinEncoder, DecodeError, Octets, ProtoError,
+};
+use dns_types::Strings;
+use std::alloc::AllocError;
+use std::fmt;
+
+/// The names of the protocols that a service speaks beside its scheme's own (RFC 9460, 7.1): character strings of
+/// UTF-8, at least one.
+#[derive(Debug, Drop, PartialEq, Eq, Hash)]
+pub struct Alpn(pub Strings);
+
+impl Alpn {
+    /// With these names, which are moved. Asks for memory once, for the list.
+    pub fn new(names: Vec<String>) -> Result<Alpn, AllocError>
+        ensures { IfOk result (λ x. x.0 ≡ map string_bytes names.items) }
+    {
+        let mut strings = Vec::with_capacity(*names.allocator(), names.len())?;
+        for name in names {
+            strings.push(Octets::from_vec(name.into_bytes()))?;
+        }
+        Ok(Alpn(Strings::from_vec(strings)))
+    }
+}
+
+impl BinDecodable for Alpn {
+    ghost stands = { AlpnAt };
+
+    /// Reads names to the message's end, by one request for memory for the list and one for each name. None are refused
+    /// by `SvcParamMissingValue`, a name that lacks octets by `InsufficientBytes`, and one that is not UTF-8 by `Utf8`.
+    fn read(decoder: &mut BinDecoder<'_>) -> Result<Alpn, DecodeError>
+        ensures reads { ReadsBy AlpnAt result decoder.old decoder.new }
+        ensures refused { IfErr result (λ e. value_refusal Names (drop decoder.old.index decoder.old.message) e) }
+    {
+        if decoder.len() == 0 {
+            return Err(DecodeError::SvcParamMissingValue);
+        }
+        let alloc = decoder.allocator();
+        let mut names = Strings::with_capacity(alloc, strings_in(decoder.unread().unverified()))?;
+        'names: while decoder.len() > 0 {
+            let name = decoder.read_character_data()?.unverified();
+            if !is_text(name) {
+                return Err(DecodeError::Utf8);
+            }
+            names.push(Octets::from_slice(alloc, name)?)?;
+        }
+        Ok(Alpn(names))
+    }
+}
+
+// Whether the octets are UTF-8.
+#[inline]
+fn is_text(octets: &[u8]) -> bool
+    ensures { IsTrue result ↔ IsUtf8 octets.now }
+{
+    match str::from_utf8(octets) {
+        Ok(_) => true,
+        Err(_) => false,
+    }
+}
+
+// How many strings begin in the octets; where strings are all of them, their number.
+fn strings_in(octets: &[u8]) -> usize
+    ensures { (names : List (List ℕ)) → Field octets.now 0 Texts names (length octets.now) → result ≡ length names }
+{
+    let mut count = 0;
+    let mut place = 0;
+    while place < octets.len() {
+        place += 1 + octets[place] as usize;
+        count += 1;
+    }
+    count
+}
+
+impl BinEncodable for Alpn {
+    ghost emits = { λ x r old new. EmitsValue (alpn_value x) r old new };
+
+    /// Appends the names as character strings. None, and one of more than 255 octets, are refused by `Message`.
+    fn emit(&self, encoder: &mut BinEncoder<'_>) -> Result<(), ProtoError> {
+        if self.0.len() == 0 {
+            return Err(ProtoError::Message("no protocols"));
+        }
+        for name in self.0.as_slice() {
+            encoder.emit_character_data(name.as_slice())?;
+        }
+        Ok(())
+    }
+}
+
+impl Clone for Alpn {
+    ghost is_clone = { λ a b. b ≡ a };
+
+    /// The same names in memory of their own.
+    fn clone(&self) -> Result<Alpn, AllocError>
+        ensures { IfOk result (λ copy. copy ≡ self.now) }
+    {
+        Ok(Alpn(self.0.clone()?))
+    }
+}
+
+impl fmt::Display for Alpn {
+    ghost use Rattle.std.specs.Prelude.{Some};
+    ghost use Rattle.dns_rdata_service.specs.SvcParamValue.{alpn_text};
+
+    ghost output = { λ x. Some (alpn_text x) };
+
+    /// Each name and a comma: `h2,h3,`. U+FFFD stands for octets that are not UTF-8, which no name that was read has.
+    #[tactic(auto, unfolding(dns_rdata_base::specs::Lossy::lossy))]
+    fn fmt<W: fmt::Write>(&self, f: &mut fmt::Formatter<W>) -> fmt::Result {
+        for name in self.0.as_slice() {
+            let name = BStr::new(name.as_slice());
+            write!(f, "{name},")?;
+        }
+        Ok(())
+    }
+}

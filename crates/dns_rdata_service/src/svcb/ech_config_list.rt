@@ -1,0 +1,77 @@
+//! A configuration of Encrypted ClientHello.
+
+ghost use Rattle.std.specs.Prelude.{◌≡◌, drop, IfErr, IfOk};
+ghost use Rattle.dns_fields.specs.Pieces.{AnyOctets};
+ghost use Rattle.dns_names_wire.specs.Words.{ReadsBy};
+ghost use Rattle.dns_rdata_service.specs.SvcParamValue.{ech_value, EchConfigListAt, value_refusal, EmitsValue};
+
+use base64::display::Base64Display;
+use base64::engine::general_purpose::STANDARD;
+use dns_names_wire::{
+    BinDecodable, BinDecoder, BinEncodable, BinEncoder, DecodeError, Octets, ProtoError,
+};
+use std::alloc::AllocError;
+use std::fmt;
+
+/// A configuration of Encrypted ClientHello for a service, with the length in front of it: any octets.
+#[derive(Drop, PartialEq, Eq, Hash)]
+pub struct EchConfigList(pub Octets);
+
+impl BinDecodable for EchConfigList {
+    ghost stands = { EchConfigListAt };
+
+    /// Reads the octets to the message's end, by one request for memory.
+    #[inline]
+    fn read(decoder: &mut BinDecoder<'_>) -> Result<EchConfigList, DecodeError>
+        ensures reads { ReadsBy EchConfigListAt result decoder.old decoder.new }
+        ensures refused { IfErr result (λ e. value_refusal AnyOctets (drop decoder.old.index decoder.old.message) e) }
+    {
+        let left = decoder.len();
+        let octets = decoder.read_vec(left)?.unverified();
+        Ok(EchConfigList(Octets::from_vec(octets)))
+    }
+}
+
+impl BinEncodable for EchConfigList {
+    ghost emits = { λ x r old new. EmitsValue (ech_value x) r old new };
+
+    /// Appends the octets.
+    #[inline]
+    fn emit(&self, encoder: &mut BinEncoder<'_>) -> Result<(), ProtoError> {
+        encoder.emit_vec(self.0.as_slice())
+    }
+}
+
+impl Clone for EchConfigList {
+    ghost is_clone = { λ a b. b ≡ a };
+
+    /// The same octets in memory of their own.
+    fn clone(&self) -> Result<EchConfigList, AllocError>
+        ensures { IfOk result (λ copy. copy ≡ self.now) }
+    {
+        Ok(EchConfigList(self.0.clone()?))
+    }
+}
+
+impl fmt::Display for EchConfigList {
+    ghost use Rattle.std.specs.Prelude.{Some};
+    ghost use Rattle.dns_rdata_service.specs.SvcParamValue.{ech_text};
+
+    ghost output = { λ x. Some (ech_text x) };
+
+    /// Base64 in quotes (RFC 4648, 4): `"AAEC"`.
+    fn fmt<W: fmt::Write>(&self, f: &mut fmt::Formatter<W>) -> fmt::Result {
+        let engine = STANDARD;
+        let octets = Base64Display::new(self.0.as_slice(), &engine);
+        write!(f, "\"{octets}\"")
+    }
+}
+
+impl fmt::Debug for EchConfigList {
+    /// Base64 in parentheses, in quotes: `"EchConfig (AAEC)"`.
+    fn fmt<W: fmt::Write>(&self, f: &mut fmt::Formatter<W>) -> fmt::Result {
+        let engine = STANDARD;
+        let octets = Base64Display::new(self.0.as_slice(), &engine);
+        write!(f, "\"EchConfig ({octets})\"")
+    }
+}

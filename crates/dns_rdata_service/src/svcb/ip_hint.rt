@@ -1,0 +1,72 @@
+//! Addresses of a service.
+
+ghost use Rattle.std.specs.Prelude.{◌≡◌, ◌∷◌, IfOk};
+ghost use Rattle.std.specs.List.{AllZip};
+ghost use Rattle.dns_rdata_service.specs.Hints.{ReadsEach, EmitsEach};
+
+use crate::items::Items;
+use dns_names_wire::{BinDecoder, BinEncodable, BinEncoder, DecodeError, ProtoError};
+use dns_rdata_base::TakesOctet;
+use std::alloc::AllocError;
+use std::fmt;
+
+/// Addresses of a service, none or more, one behind the other (RFC 9460, 7.3).
+#[derive(Debug, Drop, PartialEq, Eq, Hash)]
+pub struct IpHint<T>(pub Items<T>);
+
+impl<T: TakesOctet + Drop> IpHint<T> {
+    /// Reads addresses to the message's end. Where each has as many octets as the first, it asks for memory once beside
+    /// what an address asks for itself. Where one is refused, so are all.
+    pub fn read(decoder: &mut BinDecoder<'_>) -> Result<IpHint<T>, DecodeError>
+        ensures reads { ReadsEach T.stands (λ x. x.0) result decoder.old decoder.new }
+    {
+        let mut items = Items::new(decoder.allocator());
+        'items: while decoder.len() > 0 {
+            let start = decoder.index();
+            let item = T::read(decoder)?;
+            let taken = decoder.index() - start;
+            items.reserve(1 + decoder.len() / taken)?;
+            items.push(item)?;
+        }
+        Ok(IpHint(items))
+    }
+}
+
+impl<T: BinEncodable> BinEncodable for IpHint<T> {
+    ghost emits = { λ x r old new. EmitsEach T.emits x.0 r old new };
+
+    /// Appends the addresses.
+    fn emit(&self, encoder: &mut BinEncoder<'_>) -> Result<(), ProtoError> {
+        for item in self.0.as_slice() {
+            item.emit(encoder)?;
+        }
+        Ok(())
+    }
+}
+
+impl<T: Clone> Clone for IpHint<T> {
+    ghost is_clone = { λ a b. AllZip T.is_clone a.0 b.0 };
+
+    /// Clones of the addresses, in memory that is asked for once beside theirs. Where clones equal what they are made of,
+    /// it is the same value.
+    fn clone(&self) -> Result<IpHint<T>, AllocError>
+        ensures clones { IfOk result (λ copy. AllZip T.is_clone self.now.0 copy.0) }
+        ensures same { ((x y : T) → T.is_clone x y → y ≡ x) → IfOk result (λ copy. copy ≡ self.now) }
+    {
+        Ok(IpHint(self.0.clone()?))
+    }
+}
+
+impl<T: fmt::Display> fmt::Display for IpHint<T> {
+    ghost use Rattle.dns_rdata_service.specs.Hints.{each_text};
+
+    ghost output = { λ x. each_text T.output x.0 };
+
+    /// Each address and a comma: `192.0.2.1,192.0.2.2,`.
+    fn fmt<W: fmt::Write>(&self, f: &mut fmt::Formatter<W>) -> fmt::Result {
+        for item in self.0.as_slice() {
+            write!(f, "{item},")?;
+        }
+        Ok(())
+    }
+}

@@ -1,0 +1,217 @@
+//! The keys of service parameters (RFC 9460, 14.3.2).
+
+ghost use Rattle.std.specs.Prelude.{◌≡◌, ◌++◌, refl, IfErr, OnErr};
+ghost use Rattle.std.specs.Cmp.{partial_equiv_from_equiv, partial_order_from_agreeing_total};
+ghost use Rattle.std.specs.Cmp.Rules.{hashing};
+ghost use Rattle.std.specs.Hash as fed;
+ghost use Rattle.std.specs.Ordering.{as_partial_cmp};
+ghost use Rattle.std.proofs.Common.{rules};
+ghost use Rattle.dns_rdata_base.specs.Numbered.{NumberedAt, numbered_eq, numbered_cmp};
+ghost use Rattle.dns_rdata_base.proofs.NumberedLaws.{numbered_equiv, numbered_total, numbered_ties};
+ghost use Rattle.dns_fields.specs.Fields.{Number};
+ghost use Rattle.dns_names_wire.specs.Words.{ReadsBy, EmitsField, LacksOctets};
+ghost use Rattle.dns_rdata_service.specs.SvcParamKey.{key_number, key_variant, key_of};
+
+use dns_names_wire::{BinDecodable, BinDecoder, BinEncodable, BinEncoder, DecodeError, ProtoError};
+use std::cmp::Ordering;
+use std::fmt;
+use std::hash::{Hash, Hasher};
+
+/// The key of a service parameter (RFC 9460, 14.3.2). Keys are ordered by number, and then as declared here.
+#[derive(Clone, Copy, Debug)]
+pub enum SvcParamKey {
+    /// Keys that a client must know (0; RFC 9460, 8).
+    Mandatory,
+    /// Protocols (1; 7.1).
+    Alpn,
+    /// That the scheme's own protocol is not served (2; 7.1).
+    NoDefaultAlpn,
+    /// A port (3; 7.2).
+    Port,
+    /// IPv4 addresses (4; 7.3).
+    Ipv4Hint,
+    /// A configuration of Encrypted ClientHello (5).
+    EchConfigList,
+    /// IPv6 addresses (6; 7.3).
+    Ipv6Hint,
+    /// For private use: `from` gives it for 65280 to 65534.
+    Key(u16),
+    /// Reserved, an invalid key (65535).
+    Key65535,
+    /// A number that is given to no key: `from` gives it for every other number.
+    Unknown(u16),
+}
+
+#[tactic(auto, unfolding(crate::specs::SvcParamKey::key_of))]
+impl From<u16> for SvcParamKey {
+    ghost from_gives = { λ n e. (e ≡ key_of n) × (key_number e ≡ n) };
+
+    #[inline]
+    fn from(value: u16) -> SvcParamKey {
+        match value {
+            0 => SvcParamKey::Mandatory,
+            1 => SvcParamKey::Alpn,
+            2 => SvcParamKey::NoDefaultAlpn,
+            3 => SvcParamKey::Port,
+            4 => SvcParamKey::Ipv4Hint,
+            5 => SvcParamKey::EchConfigList,
+            6 => SvcParamKey::Ipv6Hint,
+            65280..=65534 => SvcParamKey::Key(value),
+            65535 => SvcParamKey::Key65535,
+            _ => SvcParamKey::Unknown(value),
+        }
+    }
+}
+
+impl From<SvcParamKey> for u16 {
+    ghost from_gives = { λ e n. n ≡ key_number e };
+
+    #[inline]
+    fn from(value: SvcParamKey) -> u16 {
+        match value {
+            SvcParamKey::Mandatory => 0,
+            SvcParamKey::Alpn => 1,
+            SvcParamKey::NoDefaultAlpn => 2,
+            SvcParamKey::Port => 3,
+            SvcParamKey::Ipv4Hint => 4,
+            SvcParamKey::EchConfigList => 5,
+            SvcParamKey::Ipv6Hint => 6,
+            SvcParamKey::Key(number) => number,
+            SvcParamKey::Key65535 => 65535,
+            SvcParamKey::Unknown(number) => number,
+        }
+    }
+}
+
+impl SvcParamKey {
+    /// The number on the wire.
+    #[inline]
+    pub fn number(self) -> u16
+        ensures { result ≡ key_number self }
+    {
+        u16::from(self)
+    }
+
+    // The place in the declaration.
+    #[inline]
+    fn variant(self) -> u8
+        ensures { result ≡ key_variant self }
+    {
+        match self {
+            SvcParamKey::Mandatory => 0,
+            SvcParamKey::Alpn => 1,
+            SvcParamKey::NoDefaultAlpn => 2,
+            SvcParamKey::Port => 3,
+            SvcParamKey::Ipv4Hint => 4,
+            SvcParamKey::EchConfigList => 5,
+            SvcParamKey::Ipv6Hint => 6,
+            SvcParamKey::Key(_) => 7,
+            SvcParamKey::Key65535 => 8,
+            SvcParamKey::Unknown(_) => 9,
+        }
+    }
+}
+
+impl PartialEq for SvcParamKey {
+    ghost eq = { numbered_eq key_number key_variant };
+
+    ghost laws = { partial_equiv_from_equiv (numbered_equiv key_number key_variant) };
+
+    #[inline]
+    fn eq(&self, other: &SvcParamKey) -> bool {
+        u16::from(*self) == u16::from(*other) && self.variant() == other.variant()
+    }
+}
+
+impl Eq for SvcParamKey {
+    ghost laws = { numbered_equiv key_number key_variant };
+}
+
+impl Hash for SvcParamKey {
+    ghost hash_input = { λ e. fed.u16 (key_number e) ++ fed.u8 (key_variant e) };
+
+    ghost respects_eq = { Prim.search (hashing, rules) };
+
+    #[inline]
+    fn hash<H: Hasher>(&self, state: &mut H) {
+        u16::from(*self).hash(state);
+        self.variant().hash(state);
+    }
+}
+
+impl PartialOrd for SvcParamKey {
+    ghost partial_cmp = { as_partial_cmp (numbered_cmp key_number key_variant) };
+
+    ghost laws = { partial_order_from_agreeing_total (numbered_cmp key_number key_variant) (numbered_total key_number key_variant) (λ _ _. refl)
+        (numbered_ties key_number key_variant) };
+
+    #[inline]
+    fn partial_cmp(&self, other: &SvcParamKey) -> Option<Ordering> {
+        Some(self.cmp(other))
+    }
+}
+
+impl Ord for SvcParamKey {
+    ghost cmp = { numbered_cmp key_number key_variant };
+
+    ghost total = { numbered_total key_number key_variant };
+
+    ghost matches_partial_cmp = { λ _ _. refl };
+
+    ghost matches_eq = { numbered_ties key_number key_variant };
+
+    #[inline]
+    fn cmp(&self, other: &SvcParamKey) -> Ordering {
+        let numbers = u16::from(*self).cmp(&u16::from(*other));
+        numbers.then(self.variant().cmp(&other.variant()))
+    }
+}
+
+impl BinDecodable for SvcParamKey {
+    ghost stands = { NumberedAt 2 key_number key_of };
+
+    /// Reads the number in two octets, the higher one first. Where fewer are left, it is refused, and takes none.
+    #[inline]
+    fn read(decoder: &mut BinDecoder<'_>) -> Result<SvcParamKey, DecodeError>
+        ensures reads { ReadsBy (NumberedAt 2 key_number key_of) result decoder.old decoder.new }
+        ensures lacking { IfErr result (λ e. (e ≡ DecodeError.InsufficientBytes) × LacksOctets decoder.old 2) }
+        ensures unchanged { OnErr result (decoder.new ≡ decoder.old) }
+    {
+        let number = decoder.read_u16()?.unverified();
+        Ok(SvcParamKey::from(number))
+    }
+}
+
+impl BinEncodable for SvcParamKey {
+    ghost emits = { λ x r old new. EmitsField (Number 2) (key_number x) r old new };
+
+    /// Appends the number in two octets, the higher one first.
+    #[inline]
+    fn emit(&self, encoder: &mut BinEncoder<'_>) -> Result<(), ProtoError> {
+        encoder.emit_u16(u16::from(*self))
+    }
+}
+
+impl fmt::Display for SvcParamKey {
+    ghost use Rattle.std.specs.Prelude.{Some};
+    ghost use Rattle.dns_rdata_service.specs.SvcParamKey.{key_text};
+
+    ghost output = { λ e. Some (key_text e) };
+
+    /// The key's name: `alpn`; for numbers without one `key` or `unknown` and the number, as the variant.
+    #[tactic(auto, unfolding(crate::specs::SvcParamKey::key_text))]
+    fn fmt<W: fmt::Write>(&self, f: &mut fmt::Formatter<W>) -> fmt::Result {
+        match *self {
+            SvcParamKey::Mandatory => f.write_str("mandatory"),
+            SvcParamKey::Alpn => f.write_str("alpn"),
+            SvcParamKey::NoDefaultAlpn => f.write_str("no-default-alpn"),
+            SvcParamKey::Port => f.write_str("port"),
+            SvcParamKey::Ipv4Hint => f.write_str("ipv4hint"),
+            SvcParamKey::EchConfigList => f.write_str("ech"),
+            SvcParamKey::Ipv6Hint => f.write_str("ipv6hint"),
+            SvcParamKey::Key(number) => write!(f, "key{number}"),
+            SvcParamKey::Key65535 => f.write_str("key65535"),
+            SvcParamKey::Unknown(number) => write!(f, "unknown{number}"),
+        }
+    }
+}

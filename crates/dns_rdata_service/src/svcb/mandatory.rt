@@ -1,0 +1,77 @@
+//! The keys that a client of a service must know.
+
+ghost use Rattle.std.specs.Prelude.{◌≡◌, drop, IfErr, IfOk};
+ghost use Rattle.dns_fields.specs.Pieces.{Keys};
+ghost use Rattle.dns_names_wire.specs.Words.{ReadsBy};
+ghost use Rattle.dns_rdata_service.specs.SvcParamValue.{mandatory_value, MandatoryAt, value_refusal, EmitsValue};
+
+use crate::items::Items;
+use crate::svcb::key::SvcParamKey;
+use dns_names_wire::{BinDecodable, BinDecoder, BinEncodable, BinEncoder, DecodeError, ProtoError};
+use std::alloc::AllocError;
+use std::fmt;
+
+/// The keys that a client must know to use a service (RFC 9460, 8): each a number of two octets, at least one.
+#[derive(Debug, Drop, PartialEq, Eq, Hash)]
+pub struct Mandatory(pub Items<SvcParamKey>);
+
+impl BinDecodable for Mandatory {
+    ghost stands = { MandatoryAt };
+
+    /// Reads keys to the message's end, by one request for memory. None are refused by `SvcParamMissingValue`, and an
+    /// odd octet by `InsufficientBytes`.
+    fn read(decoder: &mut BinDecoder<'_>) -> Result<Mandatory, DecodeError>
+        ensures reads { ReadsBy MandatoryAt result decoder.old decoder.new }
+        ensures refused { IfErr result (λ e. value_refusal Keys (drop decoder.old.index decoder.old.message) e) }
+    {
+        if decoder.len() == 0 {
+            return Err(DecodeError::SvcParamMissingValue);
+        }
+        let mut keys = Items::with_capacity(decoder.allocator(), decoder.len() / 2)?;
+        'keys: while decoder.len() > 0 {
+            keys.push(SvcParamKey::read(decoder)?)?;
+        }
+        Ok(Mandatory(keys))
+    }
+}
+
+impl BinEncodable for Mandatory {
+    ghost emits = { λ x r old new. EmitsValue (mandatory_value x) r old new };
+
+    /// Appends the keys' numbers. None are refused by `Message`.
+    fn emit(&self, encoder: &mut BinEncoder<'_>) -> Result<(), ProtoError> {
+        if self.0.len() == 0 {
+            return Err(ProtoError::Message("no mandatory keys"));
+        }
+        for key in self.0.as_slice() {
+            key.emit(encoder)?;
+        }
+        Ok(())
+    }
+}
+
+impl Clone for Mandatory {
+    ghost is_clone = { λ a b. b ≡ a };
+
+    /// The same keys in memory of their own.
+    fn clone(&self) -> Result<Mandatory, AllocError>
+        ensures { IfOk result (λ copy. copy ≡ self.now) }
+    {
+        Ok(Mandatory(self.0.clone()?))
+    }
+}
+
+impl fmt::Display for Mandatory {
+    ghost use Rattle.std.specs.Prelude.{Some};
+    ghost use Rattle.dns_rdata_service.specs.SvcParamValue.{mandatory_text};
+
+    ghost output = { λ x. Some (mandatory_text x) };
+
+    /// Each key and a comma: `alpn,ipv4hint,`.
+    fn fmt<W: fmt::Write>(&self, f: &mut fmt::Formatter<W>) -> fmt::Result {
+        for key in self.0.as_slice() {
+            write!(f, "{key},")?;
+        }
+        Ok(())
+    }
+}

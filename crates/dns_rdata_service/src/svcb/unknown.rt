@@ -1,0 +1,67 @@
+//! Values of keys without a form of their own.
+
+ghost use Rattle.std.specs.Prelude.{◌≡◌, drop, IfErr, IfOk};
+ghost use Rattle.dns_fields.specs.Pieces.{AnyOctets};
+ghost use Rattle.dns_names_wire.specs.Words.{ReadsBy};
+ghost use Rattle.dns_rdata_service.specs.SvcParamValue.{unknown_value, UnknownAt, value_refusal, EmitsValue};
+
+use bstr::BStr;
+use dns_names_wire::{
+    BinDecodable, BinDecoder, BinEncodable, BinEncoder, DecodeError, Octets, ProtoError,
+};
+use std::alloc::AllocError;
+use std::fmt;
+
+/// The value of a key that has no form of its own: any octets (RFC 9460, 2.1).
+#[derive(Debug, Drop, PartialEq, Eq, Hash)]
+pub struct Unknown(pub Octets);
+
+impl BinDecodable for Unknown {
+    ghost stands = { UnknownAt };
+
+    /// Reads the octets to the message's end, by one request for memory.
+    #[inline]
+    fn read(decoder: &mut BinDecoder<'_>) -> Result<Unknown, DecodeError>
+        ensures reads { ReadsBy UnknownAt result decoder.old decoder.new }
+        ensures refused { IfErr result (λ e. value_refusal AnyOctets (drop decoder.old.index decoder.old.message) e) }
+    {
+        let left = decoder.len();
+        let octets = decoder.read_vec(left)?.unverified();
+        Ok(Unknown(Octets::from_vec(octets)))
+    }
+}
+
+impl BinEncodable for Unknown {
+    ghost emits = { λ x r old new. EmitsValue (unknown_value x) r old new };
+
+    /// Appends the octets.
+    #[inline]
+    fn emit(&self, encoder: &mut BinEncoder<'_>) -> Result<(), ProtoError> {
+        encoder.emit_vec(self.0.as_slice())
+    }
+}
+
+impl Clone for Unknown {
+    ghost is_clone = { λ a b. b ≡ a };
+
+    /// The same octets in memory of their own.
+    fn clone(&self) -> Result<Unknown, AllocError>
+        ensures { IfOk result (λ copy. copy ≡ self.now) }
+    {
+        Ok(Unknown(self.0.clone()?))
+    }
+}
+
+impl fmt::Display for Unknown {
+    ghost use Rattle.std.specs.Prelude.{Some};
+    ghost use Rattle.dns_rdata_service.specs.SvcParamValue.{unknown_text};
+
+    ghost output = { λ x. Some (unknown_text x) };
+
+    /// The octets as text in quotes, and a comma: `"a",`. U+FFFD stands for octets that are not UTF-8.
+    #[tactic(auto, unfolding(dns_rdata_base::specs::Lossy::lossy))]
+    fn fmt<W: fmt::Write>(&self, f: &mut fmt::Formatter<W>) -> fmt::Result {
+        let text = BStr::new(self.0.as_slice());
+        write!(f, "\"{text}\",")
+    }
+}

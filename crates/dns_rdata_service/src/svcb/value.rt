@@ -1,0 +1,187 @@
+//! The values of service parameters.
+
+ghost use Rattle.std.specs.Prelude.{◌≡◌, IfErr, IfOk, length};
+ghost use Rattle.dns_fields.specs.Pieces.{form_for, IsEmittable, IsBody, Addresses4, Addresses16};
+ghost use Rattle.dns_rdata_service.specs.SvcParamKey.{key_number, key_of};
+ghost use Rattle.dns_rdata_service.specs.SvcParamValue.{value_of, hint4_value, hint6_value, IsValueOf, value_refusal, EmitsValue, EmitsSized};
+
+use crate::svcb::alpn::Alpn;
+use crate::svcb::ech_config_list::EchConfigList;
+use crate::svcb::ip_hint::IpHint;
+use crate::svcb::key::SvcParamKey;
+use crate::svcb::mandatory::Mandatory;
+use crate::svcb::unknown::Unknown;
+use dns_names_wire::{BinDecodable, BinDecoder, BinEncodable, BinEncoder, DecodeError, ProtoError};
+use dns_rdata_base::{A, AAAA};
+use std::alloc::{AllocError, Global};
+use std::fmt;
+
+/// The value of a service parameter (RFC 9460, 7 and 8). A value that is read is the one of its key; one that a caller
+/// makes may stand with any key.
+#[derive(Debug, Drop, PartialEq, Eq, Hash)]
+pub enum SvcParamValue {
+    /// Keys that a client must know.
+    Mandatory(Mandatory),
+    /// Protocols.
+    Alpn(Alpn),
+    /// That the scheme's own protocol is not served.
+    NoDefaultAlpn,
+    /// A port.
+    Port(u16),
+    /// IPv4 addresses.
+    Ipv4Hint(IpHint<A>),
+    /// A configuration of Encrypted ClientHello.
+    EchConfigList(EchConfigList),
+    /// IPv6 addresses.
+    Ipv6Hint(IpHint<AAAA>),
+    /// The octets of any other key.
+    Unknown(Unknown),
+}
+
+impl SvcParamValue {
+    // The value of this key in these octets.
+    pub(super) fn of_octets(
+        alloc: Global,
+        key: SvcParamKey,
+        octets: &[u8],
+    ) -> Result<SvcParamValue, DecodeError>
+        requires { key ≡ key_of (key_number key) }
+        ensures read { IfOk result (λ v. IsValueOf (key_number key) octets.now v) }
+        ensures refused { IfErr result (λ e. value_refusal (form_for (key_number key)) octets.now e) }
+    {
+        let mut decoder = BinDecoder::new(alloc, octets);
+        match key {
+            SvcParamKey::Mandatory => {
+                Ok(SvcParamValue::Mandatory(Mandatory::read(&mut decoder)?))
+            }
+            SvcParamKey::Alpn => Ok(SvcParamValue::Alpn(Alpn::read(&mut decoder)?)),
+            SvcParamKey::NoDefaultAlpn => no_octets(octets),
+            SvcParamKey::Port => Ok(SvcParamValue::Port(decoder.read_u16()?.unverified())),
+            SvcParamKey::Ipv4Hint => Ok(SvcParamValue::Ipv4Hint(hint4(alloc, octets)?)),
+            SvcParamKey::EchConfigList => Ok(SvcParamValue::EchConfigList(EchConfigList::read(
+                &mut decoder,
+            )?)),
+            SvcParamKey::Ipv6Hint => Ok(SvcParamValue::Ipv6Hint(hint6(alloc, octets)?)),
+            SvcParamKey::Key(_) | SvcParamKey::Key65535 | SvcParamKey::Unknown(_) => {
+                Ok(SvcParamValue::Unknown(Unknown::read(&mut decoder)?))
+            }
+        }
+    }
+
+    // Appends the octets without their length.
+    fn emit_octets(&self, encoder: &mut BinEncoder<'_>) -> Result<(), ProtoError>
+        ensures { EmitsValue (value_of self.now) result encoder.old encoder.new }
+    {
+        match self {
+            SvcParamValue::Mandatory(value) => value.emit(encoder),
+            SvcParamValue::Alpn(value) => value.emit(encoder),
+            SvcParamValue::NoDefaultAlpn => Ok(()),
+            SvcParamValue::Port(port) => encoder.emit_u16(*port),
+            SvcParamValue::Ipv4Hint(value) => value.emit(encoder),
+            SvcParamValue::EchConfigList(value) => value.emit(encoder),
+            SvcParamValue::Ipv6Hint(value) => value.emit(encoder),
+            SvcParamValue::Unknown(value) => value.emit(encoder),
+        }
+    }
+}
+
+// The value without octets.
+fn no_octets(octets: &[u8]) -> Result<SvcParamValue, DecodeError>
+    ensures read { IfOk result (λ v. IsValueOf 2 octets.now v) }
+    ensures refused { IfErr result (λ e. value_refusal (form_for 2) octets.now e) }
+{
+    if octets.len() != 0 {
+        return Err(DecodeError::IncorrectRDataLengthRead {
+            read: octets.len(),
+            len: 0,
+        });
+    }
+    Ok(SvcParamValue::NoDefaultAlpn)
+}
+
+// Addresses of four octets.
+fn hint4(alloc: Global, octets: &[u8]) -> Result<IpHint<A>, DecodeError>
+    ensures fit { IfOk result (λ x. IsEmittable (hint4_value x)) }
+    ensures body { IfOk result (λ x. IsBody octets.now (hint4_value x)) }
+    ensures refused { IfErr result (λ e. value_refusal Addresses4 octets.now e) }
+{
+    if octets.len() % 4 != 0 {
+        return Err(DecodeError::InsufficientBytes);
+    }
+    let mut decoder = BinDecoder::new(alloc, octets);
+    let _start = decoder.index();
+    IpHint::<A>::read(&mut decoder)
+}
+
+// Addresses of sixteen octets.
+fn hint6(alloc: Global, octets: &[u8]) -> Result<IpHint<AAAA>, DecodeError>
+    ensures fit { IfOk result (λ x. IsEmittable (hint6_value x)) }
+    ensures body { IfOk result (λ x. IsBody octets.now (hint6_value x)) }
+    ensures refused { IfErr result (λ e. value_refusal Addresses16 octets.now e) }
+{
+    if octets.len() % 16 != 0 {
+        return Err(DecodeError::InsufficientBytes);
+    }
+    let mut decoder = BinDecoder::new(alloc, octets);
+    let _start = decoder.index();
+    IpHint::<AAAA>::read(&mut decoder)
+}
+
+impl BinEncodable for SvcParamValue {
+    ghost emits = { λ x r old new. EmitsSized (value_of x) r old new };
+
+    /// Appends the value's length in two octets, and its octets. No keys or protocols, a protocol of more than 255 octets,
+    /// and a value of more than 65535 octets are refused by `Message`.
+    fn emit(&self, encoder: &mut BinEncoder<'_>) -> Result<(), ProtoError> {
+        let place = encoder.place()?;
+        self.emit_octets(encoder)?;
+        let size = encoder.len_since_place(&place);
+        if size > 65535 {
+            return Err(ProtoError::Message("parameter value past 65535 octets"));
+        }
+        encoder.replace(place, size as u16);
+        Ok(())
+    }
+}
+
+impl Clone for SvcParamValue {
+    ghost is_clone = { λ a b. b ≡ a };
+
+    /// The same value in memory of its own.
+    fn clone(&self) -> Result<SvcParamValue, AllocError>
+        ensures { IfOk result (λ copy. copy ≡ self.now) }
+    {
+        Ok(match self {
+            SvcParamValue::Mandatory(value) => SvcParamValue::Mandatory(value.clone()?),
+            SvcParamValue::Alpn(value) => SvcParamValue::Alpn(value.clone()?),
+            SvcParamValue::NoDefaultAlpn => SvcParamValue::NoDefaultAlpn,
+            SvcParamValue::Port(port) => SvcParamValue::Port(*port),
+            SvcParamValue::Ipv4Hint(value) => SvcParamValue::Ipv4Hint(value.clone()?),
+            SvcParamValue::EchConfigList(value) => SvcParamValue::EchConfigList(value.clone()?),
+            SvcParamValue::Ipv6Hint(value) => SvcParamValue::Ipv6Hint(value.clone()?),
+            SvcParamValue::Unknown(value) => SvcParamValue::Unknown(value.clone()?),
+        })
+    }
+}
+
+impl fmt::Display for SvcParamValue {
+    ghost use Rattle.std.specs.Prelude.{Some};
+    ghost use Rattle.dns_rdata_service.specs.SvcParamValue.{value_text};
+
+    ghost output = { λ x. Some (value_text x) };
+
+    /// The value as in a zone's text, with a comma behind each key, protocol and address: `h2,`; nothing for
+    /// `NoDefaultAlpn`.
+    fn fmt<W: fmt::Write>(&self, f: &mut fmt::Formatter<W>) -> fmt::Result {
+        match self {
+            SvcParamValue::Mandatory(value) => write!(f, "{value}"),
+            SvcParamValue::Alpn(value) => write!(f, "{value}"),
+            SvcParamValue::NoDefaultAlpn => Ok(()),
+            SvcParamValue::Port(port) => write!(f, "{port}"),
+            SvcParamValue::Ipv4Hint(value) => write!(f, "{value}"),
+            SvcParamValue::EchConfigList(value) => write!(f, "{value}"),
+            SvcParamValue::Ipv6Hint(value) => write!(f, "{value}"),
+            SvcParamValue::Unknown(value) => write!(f, "{value}"),
+        }
+    }
+}

@@ -1,0 +1,19 @@
+//! Texts of records: tokens of a text, the items of a list, times to live.
+#![tactic(auto)]
+
+pub mod laws;
+pub mod lexer;
+pub mod list;
+mod quoted;
+mod spans;
+#[cfg(test)]
+mod tests;
+pub mod token;
+pub mod ttl;
+pub mod words;
+
+pub use lexer::Lexer;
+pub use list::{read_item, read_list};
+pub use token::Token;
+pub use ttl::parse_ttl;
+pub use words::text_words;

@@ -1,0 +1,183 @@
+//! How the time grows with what is written and read.
+//!
+//! Each line has a curve, a size and the nanoseconds of an octet, tabs between: where they stay the same the time is linear,
+//! and where they double with the size it is a square.
+
+use crate::columns::{Row, least};
+use anyhow::Result;
+use dns_rdata::{BinEncodable, BinEncoder, Name, ProtoError, RecordType};
+use std::alloc::Global;
+use std::rt::Clock;
+use std::time::Instant;
+
+// The weights that the encoder's table gives to the octets that stand 21 and 13 octets before a name's end.
+const BEFORE_21: u64 = 0xcba6_c8e8_e0bb_7c4f;
+
+const BEFORE_13: u64 = 0xaf1d_5638_6ca3_b277;
+
+// Prints a line: the time in tenths of a nanosecond of so many octets.
+fn print_line(
+    rt: &(impl AllocGlobal + Print),
+    curve: &str,
+    size: usize,
+    tenths: u128,
+    octets: usize,
+) -> Result<()> {
+    let hundredths = tenths.saturating_mul(10) / (octets as u128).max(1);
+    println!(rt;
+        "{curve}\t{size}\t{}.{:02}",
+        hundredths / 100,
+        hundredths % 100
+    )?;
+    Ok(())
+}
+
+// The time of a column of a row.
+fn print_row(
+    rt: &(impl AllocGlobal + Clock + Print),
+    curve: &str,
+    column: &str,
+    size: usize,
+    row: &mut Row,
+) -> Result<()> {
+    let octets = row.len();
+    let rounds = 2_000_000 / (octets as u64).max(1) + 80;
+    let tenths = least(rt, row, column, rounds)?;
+    print_line(rt, curve, size, tenths, octets)
+}
+
+// Writes the names into one message.
+fn write(
+    alloc: Global,
+    octets: &mut Vec<u8>,
+    names: &[Name],
+) -> std::result::Result<(), ProtoError> {
+    octets.clear();
+    let mut encoder = BinEncoder::new(alloc, octets);
+    for name in names {
+        name.emit(&mut encoder)?;
+    }
+    Ok(())
+}
+
+fn print_names(rt: &(impl AllocGlobal + Clock + Print), curve: &str, names: &[Name]) -> Result<()> {
+    let mut octets = Vec::with_capacity(rt.alloc(), 65536)?;
+    let mut tenths = u128::MAX;
+    let mut total = 0usize;
+    for name in names {
+        total = total.saturating_add(name.len());
+    }
+    for _ in 0..20 {
+        let begin = Instant::now(rt)?;
+        write(rt.alloc(), &mut octets, names)?;
+        tenths = tenths.min(begin.elapsed(rt)?.as_nanos().saturating_mul(10));
+    }
+    print_line(rt, curve, names.len(), tenths, total)
+}
+
+// `host0.example.com.` to `host999.example.com.` again and again.
+fn zone(alloc: Global, count: usize) -> Result<Vec<Name>> {
+    let mut names = Vec::new(alloc);
+    for number in 0..count {
+        let text = format!(in alloc; "host{}.example.com.", number % 1000)?;
+        names.push(Name::from_ascii(alloc, text.as_str())?)?;
+    }
+    Ok(names)
+}
+
+// The number that gives 1 with an odd one as a product of 64 bits.
+fn inverse(odd: u64) -> u64 {
+    let mut x = odd;
+    for _ in 0..6 {
+        x = x.wrapping_mul(2u64.wrapping_sub(odd.wrapping_mul(x)));
+    }
+    x
+}
+
+// Names of one hash in the encoder's table: a label of 15 octets before `zone`.
+fn of_one_hash(alloc: Global, count: usize) -> Result<Vec<Name>> {
+    let mut names = Vec::new(alloc);
+    for number in 0..count as u64 {
+        let front = number.wrapping_mul(256).wrapping_add(15);
+        let rest = 0u64
+            .wrapping_sub(BEFORE_21.wrapping_mul(front))
+            .wrapping_mul(inverse(BEFORE_13));
+        let mut label = [0u8; 15];
+        label[..7].copy_from_slice(&front.to_le_bytes()[1..]);
+        label[7..].copy_from_slice(&rest.to_le_bytes());
+        names.push(Name::from_labels(alloc, [label.as_slice(), b"zone"].as_slice())?)?;
+    }
+    Ok(names)
+}
+
+// A name, and pointers each to the one before; the data is the last.
+fn pointers(alloc: Global, count: usize) -> Result<Row> {
+    let mut message = Vec::from_slice(alloc, b"\x01a\x00")?;
+    let mut target = 0usize;
+    for _ in 0..count {
+        let place = message.len();
+        message.extend_from_slice(&(49152 + target % 16384).to_be_bytes()[6..])?;
+        target = place;
+    }
+    Row::new(alloc, RecordType::NS, message, target, 2, false)
+}
+
+// So many strings of 255 octets.
+fn strings(alloc: Global, count: usize) -> Result<Row> {
+    let mut message = Vec::new(alloc);
+    for _ in 0..count {
+        message.push(255u8)?;
+        message.extend_from_slice([97u8; 255].as_slice())?;
+    }
+    let length = u16::try_from(message.len()).unwrap_or(u16::MAX);
+    Row::new(alloc, RecordType::TXT, message, 0, length, false)
+}
+
+// A bitmap of so many windows, each of 32 octets.
+fn windows(alloc: Global, count: usize) -> Result<Row> {
+    let mut message = Vec::from_slice(alloc, [0u8; 6].as_slice())?;
+    for number in 0..count {
+        message.push((number % 256) as u8)?;
+        message.push(32u8)?;
+        message.extend_from_slice([0x5au8; 32].as_slice())?;
+    }
+    let length = u16::try_from(message.len()).unwrap_or(u16::MAX);
+    Row::new(alloc, RecordType::CSYNC, message, 0, length, false)
+}
+
+/// Prints the curves.
+pub fn print_growth(rt: &(impl AllocGlobal + Clock + Print)) -> Result<()> {
+    let alloc = rt.alloc();
+    println!(rt; "curve\tsize\tns an octet")?;
+    for count in [100usize, 1000, 5000, 20000] {
+        print_names(rt, "names written", zone(alloc, count)?.as_slice())?;
+    }
+    for count in [100usize, 300, 900, 3000] {
+        print_names(
+            rt,
+            "names of one hash written",
+            of_one_hash(alloc, count)?.as_slice(),
+        )?;
+    }
+    for count in [10usize, 100, 1000, 8000] {
+        print_row(
+            rt,
+            "pointers read",
+            "read",
+            count,
+            &mut pointers(alloc, count)?,
+        )?;
+    }
+    for count in [1usize, 16, 64, 255] {
+        let mut row = strings(alloc, count)?;
+        print_row(rt, "strings read", "read", count, &mut row)?;
+        print_row(rt, "strings emitted", "fresh", count, &mut row)?;
+    }
+    for count in [1usize, 16, 64, 256] {
+        let mut row = windows(alloc, count)?;
+        print_row(rt, "windows read", "read", count, &mut row)?;
+        print_row(rt, "windows emitted", "fresh", count, &mut row)?;
+        print_row(rt, "windows compared", "equal", count, &mut row)?;
+    }
+    Ok(())
+}
