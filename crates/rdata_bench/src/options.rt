@@ -14,7 +14,11 @@ const MOST: u16 = 16383;
 fn options(alloc: Global, one_code: bool, falls: bool) -> Result<Vec<u8>> {
     let mut octets = Vec::new(alloc);
     for i in 0..MOST {
-        let place = if falls { MOST.wrapping_sub(i) } else { i.wrapping_add(1) };
+        let place = if falls {
+            MOST.wrapping_sub(i)
+        } else {
+            i.wrapping_add(1)
+        };
         // Without code 8, whose options have octets.
         let place = place.wrapping_add(99);
         let code = if one_code { 10 } else { place };
