@@ -119,6 +119,14 @@ impl OPT {
     {
         self.options.as_slice()
     }
+
+    /// The list of options with their codes, lent for change.
+    #[inline]
+    pub fn as_mut(&mut self) -> &mut Vec<(EdnsCode, EdnsOption)>
+        ensures value { result.now.items ≡ self.old }
+    {
+        &mut self.options
+    }
 }
 
 impl RecordDataDecodable for OPT {
