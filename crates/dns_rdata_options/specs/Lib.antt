@@ -3,6 +3,7 @@ pub mod IpNet
 pub mod ClientSubnet
 pub mod EdnsOption
 pub mod OPT
+pub mod Lent
 pub mod Order
 pub mod OrderLaws
 pub mod Places

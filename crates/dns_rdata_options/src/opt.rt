@@ -52,6 +52,9 @@ impl Model for OPT {
 }
 
 impl OPT {
+    ghost use Rattle.std.specs.Borrow.{sem};
+    ghost use Rattle.dns_rdata_options.specs.Lent.{LendsOptions};
+
     /// With these options, which are moved.
     #[inline]
     pub fn new(options: Vec<(EdnsCode, EdnsOption)>) -> OPT
@@ -120,9 +123,10 @@ impl OPT {
         self.options.as_slice()
     }
 
-    /// The list of options with their codes, lent for change.
+    /// The list of options with their codes, lent for change: the record then has what is left in it.
     #[inline]
     pub fn as_mut(&mut self) -> &mut Vec<(EdnsCode, EdnsOption)>
+        ensures* writes_back { sem 𝓛 (LendsOptions self.entry result) }
         ensures value { result.now.items ≡ self.old }
     {
         &mut self.options
