@@ -1,5 +1,5 @@
 -- The printed texts of record data.
-use Rattle.std.specs.Prelude.{ℕ, Option, Some, None, List, [], codes}
+use Rattle.std.specs.Prelude.{ℕ, Option, Some, None, List, [], codes, ⊤}
 use Rattle.dns_rdata_base.specs.A.{a_text}
 use Rattle.dns_rdata_base.specs.AAAA.{aaaa_text}
 use Rattle.dns_rdata_base.specs.NameRecords.{aname_text, cname_text, ns_text, ptr_text}
@@ -55,3 +55,8 @@ text_of rdata.ZERO = []
 abbrev pub data_text : RData → Option (List ℕ)
 data_text (rdata.OPT x) = None
 data_text v = Some (text_of v)
+
+-- whether a value has a text
+abbrev pub HasText : RData → Type 0
+HasText (rdata.OPT x) = ⊥
+HasText v = ⊤

@@ -456,13 +456,16 @@ impl Clone for RData {
 }
 
 impl fmt::Display for RData {
-    ghost use Rattle.dns_rdata.specs.Texts.{data_text};
+    ghost use Rattle.std.specs.Prelude.{OnOk};
+    ghost use Rattle.dns_rdata.specs.Texts.{data_text, HasText};
 
     ghost output = { data_text };
 
     /// The text of the record; `UPDATE` for no data of an update, and nothing for no data of type 0. OPT has no text:
     /// it is refused.
-    fn fmt<W: fmt::Write>(&self, f: &mut fmt::Formatter<W>) -> fmt::Result {
+    fn fmt<W: fmt::Write>(&self, f: &mut fmt::Formatter<W>) -> fmt::Result
+        ensures has_text { OnOk result (HasText self.now) }
+    {
         match self {
             RData::A(a) => write!(f, "{a}"),
             RData::AAAA(a) => write!(f, "{a}"),
