@@ -456,7 +456,8 @@ impl Clone for RData {
 }
 
 impl fmt::Display for RData {
-    ghost use Rattle.std.specs.Prelude.{OnOk};
+    ghost use Rattle.std.specs.Prelude.{OnOk, None};
+    ghost use Rattle.std.specs.Fmt.{DisplaysOnOk, DisplaysStyledOnOk};
     ghost use Rattle.dns_rdata.specs.Texts.{data_text, HasText};
 
     ghost output = { data_text };
@@ -464,6 +465,8 @@ impl fmt::Display for RData {
     /// The text of the record; `UPDATE` for no data of an update, and nothing for no data of type 0. OPT has no text:
     /// it is refused.
     fn fmt<W: fmt::Write>(&self, f: &mut fmt::Formatter<W>) -> fmt::Result
+        ensures writes { DisplaysOnOk W.write_str_gives f.old result (data_text self.now) f.new }
+        ensures styled { DisplaysStyledOnOk W.write_str_gives f.old result None f.new }
         ensures has_text { OnOk result (HasText self.now) }
     {
         match self {
