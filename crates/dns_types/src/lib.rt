@@ -2,6 +2,7 @@
 //! be looked at, and octets that a value owns.
 #![tactic(auto)]
 
+pub mod comparing;
 pub mod error;
 pub mod octets;
 pub mod record_type;

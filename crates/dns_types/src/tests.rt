@@ -1,3 +1,4 @@
+use crate::comparing::same_octets;
 use crate::error::{AddrParseError, DecodeError, ParseError, ProtoError, ProtoResult};
 use crate::octets::Octets;
 use crate::record_type::RecordType;
@@ -23,6 +24,21 @@ fn numbers_of_types(rt: HostRuntime) {
     ] {
         assert_eq!(rt; RecordType::from(number), kind, "from {number}");
         assert_eq!(rt; u16::from(kind), number, "of {number}");
+    }
+}
+
+// Each length up to 70, with another octet at each place: every piece of a comparison is met.
+#[test]
+fn same_octets_at_every_length(rt: HostRuntime) {
+    let some = [7u8; 70];
+    for len in 0..70usize {
+        assert!(rt; same_octets(&some[..len], &some[..len]), "{len}");
+        assert!(rt; !same_octets(&some[..len], &some[..len + 1]), "{len}");
+        for at in 0..len {
+            let mut other = [7u8; 70];
+            other[at] = 8;
+            assert!(rt; !same_octets(&some[..len], &other[..len]), "{at} of {len}");
+        }
     }
 }
 

@@ -1,6 +1,7 @@
 //! Names compared without the case of ASCII letters.
 
-ghost use Rattle.std.specs.Prelude.{◌≡◌, ◌↔◌, IsTrue};
+ghost use Rattle.std.specs.Prelude.{◌≡◌, ◌↔◌, IsTrue, map};
+ghost use Rattle.std.specs.Char.{to_ascii_lowercase};
 ghost use Rattle.std.proofs.Common.{rules};
 ghost use Rattle.std.specs.Cmp.{partial_order_from_own_ties};
 ghost use Rattle.std.specs.Cmp.Rules.{comparing, hashing};
@@ -12,6 +13,7 @@ ghost use Rattle.dns_fields.specs.Comparing.{name_cmp, name_eq, name_fed};
 use crate::name::Name;
 use crate::name::building::without_first;
 use dns_labels::comparing::{compare_lowered, equal_lowered, hash_lowered};
+use dns_types::comparing::same_octets;
 use std::cmp::Ordering;
 use std::hash::{Hash, Hasher};
 
@@ -28,8 +30,16 @@ impl PartialEq for Name {
     {
         let mark = self.is_fqdn.get();
         let other_mark = other.is_fqdn.get();
-        mark == other_mark && equal_lowered(self.octets.as_slice(), other.octets.as_slice())
+        mark == other_mark && is_same(self.octets.as_slice(), other.octets.as_slice())
     }
+}
+
+// Most names that are compared are the same octets, which is told sooner.
+#[inline]
+fn is_same(a: &[u8], b: &[u8]) -> bool
+    ensures { IsTrue result ↔ (map to_ascii_lowercase a.now ≡ map to_ascii_lowercase b.now) }
+{
+    same_octets(a, b) || equal_lowered(a, b)
 }
 
 impl Eq for Name {

@@ -1,0 +1,93 @@
+//! Octets compared by eight at a time.
+
+ghost use Rattle.std.specs.Prelude.{◌≡◌, ◌<◌, ◌↔◌, IsTrue, length};
+ghost use Rattle.std.specs.Int.{from_le_bytes, w32, w64};
+
+// from so many octets on a call of std's comparison is quicker
+const MANY: usize = 64;
+
+/// Whether the octets are the same: what `==` of slices answers, quicker where they are few.
+#[inline]
+pub fn same_octets(a: &[u8], b: &[u8]) -> bool
+    ensures { IsTrue result ↔ (a.now ≡ b.now) }
+{
+    let len = a.len();
+    if len != b.len() {
+        return false;
+    }
+    if len < 8 {
+        return same_few(a, b);
+    }
+    if len >= MANY {
+        return a == b;
+    }
+    let last = len - 8;
+    let mut at = 0usize;
+    'words: while at < last {
+        if !same_word(&a[at..at + 8], &b[at..at + 8]) {
+            return false;
+        }
+        at += 8;
+    }
+    same_word(&a[last..], &b[last..])
+}
+
+// The same for fewer than eight octets.
+#[inline]
+fn same_few(a: &[u8], b: &[u8]) -> bool
+    requires few { length a.now < 8 }
+    requires length { length a.now ≡ length b.now }
+    ensures { IsTrue result ↔ (a.now ≡ b.now) }
+{
+    if a.len() < 4 {
+        return same_fewest(a, b);
+    }
+    let last = a.len() - 4;
+    same_half(&a[..4], &b[..4]) && same_half(&a[last..], &b[last..])
+}
+
+// The same for up to three.
+#[inline]
+fn same_fewest(a: &[u8], b: &[u8]) -> bool
+    requires few { length a.now < 4 }
+    requires length { length a.now ≡ length b.now }
+    ensures { IsTrue result ↔ (a.now ≡ b.now) }
+{
+    let len = a.len();
+    len == 0 || (a[0] == b[0] && a[len / 2] == b[len / 2] && a[len - 1] == b[len - 1])
+}
+
+// Eight octets as one number.
+#[inline]
+fn same_word(a: &[u8], b: &[u8]) -> bool
+    requires { (length a.now ≡ 8) × (length b.now ≡ 8) }
+    ensures { IsTrue result ↔ (a.now ≡ b.now) }
+{
+    word(a) == word(b)
+}
+
+#[inline]
+fn same_half(a: &[u8], b: &[u8]) -> bool
+    requires { (length a.now ≡ 4) × (length b.now ≡ 4) }
+    ensures { IsTrue result ↔ (a.now ≡ b.now) }
+{
+    half(a) == half(b)
+}
+
+#[inline]
+fn word(octets: &[u8]) -> u64
+    requires { length octets.now ≡ 8 }
+    ensures { result ≡ from_le_bytes w64 octets.now }
+{
+    u64::from_le_bytes([
+        octets[0], octets[1], octets[2], octets[3], octets[4], octets[5], octets[6], octets[7],
+    ])
+}
+
+#[inline]
+fn half(octets: &[u8]) -> u32
+    requires { length octets.now ≡ 4 }
+    ensures { result ≡ from_le_bytes w32 octets.now }
+{
+    u32::from_le_bytes([octets[0], octets[1], octets[2], octets[3]])
+}
