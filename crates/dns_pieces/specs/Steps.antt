@@ -1,6 +1,6 @@
 -- The canonical octets of a record, step by step. A place in a record has three numbers: how many steps are taken, and in
 -- a list that takes a step for each part the part and the item in it.
-use Rattle.std.specs.Prelude.{◌≡◌, ℕ, zero, suc, ◌+◌, ◌<◌, ◌≤◌, Option, Some, None, List, [], ◌∷◌, ◌++◌, length}
+use Rattle.std.specs.Prelude.{◌≡◌, ℕ, zero, suc, ◌+◌, ◌*◌, ◌<◌, ◌≤◌, Option, Some, None, List, [], ◌∷◌, ◌++◌, length}
 use Rattle.std.specs.List.{AllByRecursion}
 use Rattle.dns_fields.specs.Fields.{Kind, Text, Texts, Value, Values, canonical}
 use Rattle.dns_pieces.specs.declared.step.Step.{Step}
@@ -50,3 +50,28 @@ pub record Ended (left : Left) (n i j : ℕ) (head : List ℕ) : Type 0 where
 abbrev pub GivesStep : Left → ℕ → ℕ → ℕ → List ℕ → Option Step → Type 0
 GivesStep left n i j head None = Ended left n i j head
 GivesStep left n i j head (Some s) = StepAt left n i j head s
+
+-- ---- how often a set of types was gone over
+
+-- a pass was made for the one window that began, if one did, of those that were not begun
+pub record PassedWindow (old new : ℕ) (windows : ℕ → ℕ → ℕ) (n i : ℕ) (head : List ℕ) (s : Step) : Type 0 where
+  pub passes : old + windows n i ≡ new + windows s.step s.part
+  pub one : new ≤ old + 1
+  pub begun : new ≤ old + length (head ++ s.tail)
+
+abbrev pub CountsPasses : ℕ → ℕ → (ℕ → ℕ → ℕ) → ℕ → ℕ → List ℕ → Option Step → Type 0
+CountsPasses old new windows n i head None = old ≡ new
+CountsPasses old new windows n i head (Some s) = PassedWindow old new windows n i head s
+
+-- ---- how often two options were compared
+
+-- at most twice the number of all options, for the one that began, if one did, of those that were not begun
+pub record ChoseOption (old new all : ℕ) (options : ℕ → ℕ → ℕ → ℕ) (n i j : ℕ) (head : List ℕ) (s : Step) : Type 0 where
+  pub more : old ≤ new
+  pub most : new + 2 * all * options s.step s.part s.item ≤ old + 2 * all * options n i j
+  pub one : options n i j ≤ options s.step s.part s.item + 1
+  pub begun : options n i j ≤ options s.step s.part s.item + length (head ++ s.tail)
+
+abbrev pub CountsChoices : ℕ → ℕ → ℕ → (ℕ → ℕ → ℕ → ℕ) → ℕ → ℕ → ℕ → List ℕ → Option Step → Type 0
+CountsChoices old new all options n i j head None = old ≡ new
+CountsChoices old new all options n i j head (Some s) = ChoseOption old new all options n i j head s

@@ -1,11 +1,14 @@
 //! Octets at hand: a few that are kept, and a tail behind them.
 
 ghost use Rattle.std.specs.Prelude.{◌≡◌, ◌+◌, ◌<◌, ◌≤◌, ◌^◌, [], ◌++◌, ◌∷◌, MatchOption};
+ghost use Rattle.std.specs.Cmp.Lexicographic.{slice_cmp};
+ghost use Rattle.std.specs.Ordering.{nat_cmp};
 ghost use Rattle.dns_pieces.specs.Runs.{Shares};
 
 use crate::common::common_few;
 use crate::head::Head;
 use crate::tail::Tail;
+use std::cmp::Ordering;
 use std::marker::Model;
 
 /// Octets at hand.
@@ -88,5 +91,24 @@ impl<'a> Run<'a> {
             return 0;
         }
         self.tail.skip_common(&mut other.tail)
+    }
+
+    /// The order of the two by their first difference, a proper beginning before what goes on.
+    pub fn compare(&mut self, other: &mut Run<'_>) -> Ordering
+        ensures { result ≡ slice_cmp nat_cmp self.old other.old }
+    {
+        'octets: loop {
+            match (self.next(), other.next()) {
+                (None, None) => return Ordering::Equal,
+                (None, Some(_)) => return Ordering::Less,
+                (Some(_), None) => return Ordering::Greater,
+                (Some(x), Some(y)) => {
+                    if x != y {
+                        return x.cmp(&y);
+                    }
+                }
+            }
+            self.skip_common(other);
+        }
     }
 }
