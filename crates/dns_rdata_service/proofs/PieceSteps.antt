@@ -13,10 +13,14 @@ use Rattle.dns_fields.specs.Fields.{Name, field_octets, parameter_pieces}
 use Rattle.dns_pieces.specs.declared.step.Step.{Step}
 use Rattle.dns_pieces.specs.Steps.{GivesStep, StepAt, Ended}
 use Rattle.dns_fields.specs.Labels.{lowname}
-use Rattle.dns_rdata_service.specs.SvcParamKey.{key_number}
-use Rattle.dns_rdata_service.specs.SvcParamValue.{value_of, fits_value}
+use Rattle.dns_rdata_service.specs.SvcParamValue.{value_of, fits_value, a_octets, aaaa_octets}
+use Rattle.dns_rdata_base.specs.declared.a.A.{A}
+use Rattle.dns_rdata_base.specs.declared.aaaa.AAAA.{AAAA}
+use Rattle.dns_rdata_service.specs.declared.svcb.ip_hint.IpHint.{IpHint}
+use Rattle.dns_rdata_service.specs.declared.svcb.value.SvcParamValue.{SvcParamValue}
+use Rattle.dns_rdata_service.specs.declared.svcb.value.SvcParamValue.TheVariants as variants
 use Rattle.dns_rdata_service.specs.Parameters.{Parameter, parameter_of}
-use Rattle.dns_rdata_service.specs.Steps.{value_front, value_items, parameters_from, items_of, parameters_left, svcb_left, are_emittable, GivesItem, NextPiece, GivesPiece}
+use Rattle.dns_rdata_service.specs.Steps.{parameter_head, value_front, value_items, parameters_from, items_of, parameters_left, svcb_left, are_emittable, GivesItem, NextPiece, GivesPiece}
 use Rattle.dns_rdata_service.specs.declared.svcb.SVCB.{SVCB}
 
 -- ---- how many octets
@@ -40,6 +44,24 @@ pub size_map : {X : Type 0} (f : X → List ℕ) (xs : List X) → flat_map (λ 
 size_map f [] = refl
 size_map f (x ∷ xs) = ap (λ l. f x ++ l) (size_map f xs)
 
+few_octets : (n : ℕ) (b : Bool) → nat_le n 65535 && b ≡ true → n ≤ 65535
+few_octets n b h = few n (first_so (nat_le n 65535) b h)
+  where
+    few : (n : ℕ) → nat_le n 65535 ≡ true → n ≤ 65535
+    few n h = grind (arith, nat_tests, h)
+
+pub hint4_fits : (v : SvcParamValue) (x : IpHint A) → v ≡ variants.Ipv4Hint x → fits_value (value_of v) ≡ true → length (flat_map a_octets x.0) ≤ 65535
+hint4_fits v x e h =
+    let t : fits_value (value_of (variants.Ipv4Hint x)) ≡ true = subst (λ (y : SvcParamValue). fits_value (value_of y) ≡ true) e h in
+    let f = few_octets (length (flat_map (λ a. a) (map a_octets x.0))) true t in
+    omega (arith, f, ap length (size_map a_octets x.0))
+
+pub hint6_fits : (v : SvcParamValue) (x : IpHint AAAA) → v ≡ variants.Ipv6Hint x → fits_value (value_of v) ≡ true → length (flat_map aaaa_octets x.0) ≤ 65535
+hint6_fits v x e h =
+    let t : fits_value (value_of (variants.Ipv6Hint x)) ≡ true = subst (λ (y : SvcParamValue). fits_value (value_of y) ≡ true) e h in
+    let f = few_octets (length (flat_map (λ a. a) (map aaaa_octets x.0))) true t in
+    omega (arith, f, ap length (size_map aaaa_octets x.0))
+
 -- ---- items
 
 pub item_given : {X : Type 0} (f : X → List ℕ) (xs : List X) (i : ℕ) (x : X) (s : List ℕ) → i < length xs → x ≡ get_or xs i x → s ≡ f x
@@ -50,6 +72,19 @@ item_given f xs i x s h e r = by_suc f xs i x s h e r ∙ (let g : suc i ≡ i +
     by_suc f [] i x s h e r = absurd (omega (arith, h))
     by_suc f (y ∷ ys) zero x s h e r = let g : f y ≡ s = ap f (sym e) ∙ sym r in ap (λ l. l ∷ map f ys) g
     by_suc f (y ∷ ys) (suc i) x s h e r = by_suc f ys i x s (omega (arith, h)) e r
+
+pub item_got : {X : Type 0} (f : X → List ℕ) (xs : List X) (i : ℕ) (d : X) (s : List ℕ) → i < length xs → s ≡ f (get_or xs i d)
+    → drop i (map f xs) ≡ s ∷ drop (i + 1) (map f xs)
+item_got f xs i d s h r = item_given f xs i (get_or xs i d) s h (same xs i d (get_or xs i d) h) r
+  where
+    same : {X : Type 0} (xs : List X) (i : ℕ) (d e : X) → i < length xs → get_or xs i d ≡ get_or xs i e
+    same [] i d e h = absurd (omega (arith, h))
+    same (x ∷ xs) zero d e h = refl
+    same (x ∷ xs) (suc i) d e h = same xs i d e (omega (arith, h))
+
+pub numbers_map : {X : Type 0} (g : X → ℕ) (xs : List X) → map (λ x. bytes_high_first 2 (g x)) xs ≡ map (bytes_high_first 2) (map g xs)
+numbers_map g [] = refl
+numbers_map g (x ∷ xs) = ap (λ l. bytes_high_first 2 (g x) ∷ l) (numbers_map g xs)
 
 pub item_none : {X : Type 0} (f : X → List ℕ) (xs : List X) (i : ℕ) → length xs ≤ i → drop i (map f xs) ≡ []
 item_none f xs i h = let e = length_map f xs in drop_all i (map f xs) (omega (arith, e, h))
@@ -97,16 +132,12 @@ parameters_end ps i h = ap (λ (l : List Parameter). pieces (parameter_pieces (m
 items_at : (ps : List Parameter) (i : ℕ) (p : Parameter) → i < length ps → p ≡ get_or ps i p → items_of (slice_get ps i) ≡ value_items (value_of p.1)
 items_at ps i p h e = ap items_of (slice_get-get_or ps i p h) ∙ ap (λ (q : Parameter). value_items (value_of q.1)) (sym e)
 
--- key and length
-abbrev pub piece_head : Parameter → List ℕ
-piece_head p = bytes_high_first 2 (key_number p.0) ++ bytes_high_first 2 (length (parameter_octets (value_of p.1)))
-
 pub head_given : (ps : List Parameter) (i : ℕ) (p : Parameter) (head tail : List ℕ) → i < length ps → p ≡ get_or ps i p
-    → head ++ tail ≡ piece_head p ++ value_front (value_of p.1) → NextPiece ps i 0 head (record { tail = tail; step = 1; part = i; item = 1 })
+    → head ++ tail ≡ parameter_head p ++ value_front (value_of p.1) → NextPiece ps i 0 head (record { tail = tail; step = 1; part = i; item = 1 })
 head_given ps i p head tail h e r = record {
   octets = parts;
   step = refl;
-  some = omega (arith, ap length r, length-append (piece_head p) (value_front (value_of p.1)));
+  some = omega (arith, ap length r, length-append (parameter_head p) (value_front (value_of p.1)));
 }
   where
     parts : parameters_left ps i 0 ≡ (head ++ tail) ++ parameters_left ps i 1
@@ -115,9 +146,9 @@ head_given ps i p head tail h e r = record {
         let items = flat_map (λ s. s) (value_items (value_of p.1)) in
         let rest = parameters_from ps (i + 1) in
         from_next ps i p h e
-        ∙ ap (λ (l : List ℕ). (piece_head p ++ l) ++ rest) (value_parts (value_of p.1))
-        ∙ ap (λ (l : List ℕ). l ++ rest) (sym (append_assoc (piece_head p) front items))
-        ∙ append_assoc (piece_head p ++ front) items rest
+        ∙ ap (λ (l : List ℕ). (parameter_head p ++ l) ++ rest) (value_parts (value_of p.1))
+        ∙ ap (λ (l : List ℕ). l ++ rest) (sym (append_assoc (parameter_head p) front items))
+        ∙ append_assoc (parameter_head p ++ front) items rest
         ∙ ap (λ (l : List ℕ). l ++ (items ++ rest)) (sym r)
         ∙ ap (λ (l : List (List ℕ)). (head ++ tail) ++ (flat_map (λ s. s) l ++ rest)) (sym (items_at ps i p h e))
 
@@ -155,11 +186,15 @@ after_items ps i j p head r h e n g = by r g
     by None g = (same ∙ g.0, g.1)
     by (Some s) g = record { octets = same ∙ g.octets; step = g.step; some = g.some }
 
+drop_none : (j : ℕ) → drop j (items_of None) ≡ []
+drop_none zero = refl
+drop_none (suc j) = refl
+
 pub past_items : (ps : List Parameter) (i j : ℕ) (head : List ℕ) → length ps ≤ i → head ≡ [] → (parameters_left ps i (j + 1) ≡ []) × (head ≡ [])
 past_items ps i j head h e =
     let up : j + 1 ≡ suc j = omega arith in
     (ap (parameters_left ps i) up ∙ ap (λ (o : Option Parameter). flat_map (λ s. s) (drop j (items_of o)) ++ parameters_from ps (i + 1)) (slice_get_past ps i h)
-        ∙ (let z = drop_all j {A = List ℕ} [] (omega arith) in ap (λ (l : List (List ℕ)). flat_map (λ s. s) l ++ parameters_from ps (i + 1)) z) ∙ parameters_end ps (i + 1) (omega (arith, h)), e)
+        ∙ ap (λ (l : List (List ℕ)). flat_map (λ s. s) l ++ parameters_from ps (i + 1)) (drop_none j) ∙ parameters_end ps (i + 1) (omega (arith, h)), e)
 
 -- ---- the record
 

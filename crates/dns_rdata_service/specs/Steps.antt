@@ -3,10 +3,11 @@
 use Rattle.std.specs.Prelude.{◌≡◌, ℕ, zero, suc, ◌+◌, ◌<◌, Option, Some, None, List, [], ◌∷◌, ◌++◌, length, drop, map, slice_get, true}
 use Rattle.std.specs.List.{flat_map}
 use Rattle.std.specs.Int.{bytes_high_first}
-use Rattle.dns_fields.specs.Pieces.{string, pieces, ParameterValue, Mandatory, Alpn, NoDefaultAlpn, Port, Ipv4Hint, Ipv6Hint, Opaque, parameters_emittable}
+use Rattle.dns_fields.specs.Pieces.{string, pieces, ParameterValue, Mandatory, Alpn, NoDefaultAlpn, Port, Ipv4Hint, Ipv6Hint, Opaque, parameter_octets, parameters_emittable}
 use Rattle.dns_fields.specs.Fields.{canonical, parameter_pieces}
 use Rattle.dns_pieces.specs.Steps.{Left}
 use Rattle.dns_pieces.specs.declared.step.Step.{Step}
+use Rattle.dns_rdata_service.specs.SvcParamKey.{key_number}
 use Rattle.dns_rdata_service.specs.SvcParamValue.{value_of}
 use Rattle.dns_rdata_service.specs.Parameters.{Parameter, parameter_of}
 use Rattle.dns_rdata_service.specs.SVCB.{svcb_shape, svcb_fields}
@@ -25,6 +26,10 @@ value_items (Alpn names) = map string names
 value_items (Ipv4Hint addresses) = addresses
 value_items (Ipv6Hint addresses) = addresses
 value_items v = []
+
+-- key and length
+abbrev pub parameter_head : Parameter → List ℕ
+parameter_head p = bytes_high_first 2 (key_number p.0) ++ bytes_high_first 2 (length (parameter_octets (value_of p.1)))
 
 -- the parameters from number i on
 abbrev pub parameters_from : List Parameter → ℕ → List ℕ

@@ -8,7 +8,7 @@ ghost use Rattle.dns_fields.specs.Pieces.{string, parameter_octets, parameter_em
 ghost use Rattle.dns_pieces.specs.Steps.{GivesStep};
 ghost use Rattle.dns_rdata_service.specs.SvcParamKey.{key_number};
 ghost use Rattle.dns_rdata_service.specs.SvcParamValue.{value_of, fits_value, a_octets, aaaa_octets};
-ghost use Rattle.dns_rdata_service.specs.Steps.{value_front, value_items, svcb_left, are_emittable, GivesItem, GivesPiece};
+ghost use Rattle.dns_rdata_service.specs.Steps.{parameter_head, value_front, value_items, svcb_left, are_emittable, GivesItem, GivesPiece};
 
 use crate::https::HTTPS;
 use crate::svcb::{SVCB, SvcParamKey, SvcParamValue};
@@ -39,24 +39,26 @@ fn names_len(names: &[Octets]) -> u16
 
 // How many octets addresses of four octets have.
 fn hint4_len(addresses: &[A]) -> u16
-    requires { length (flat_map (λ a. a) (map a_octets addresses.now)) ≤ 65535 }
-    ensures { result ≡ length (flat_map (λ a. a) (map a_octets addresses.now)) }
+    requires { length (flat_map a_octets addresses.now) ≤ 65535 }
+    ensures { result ≡ length (flat_map a_octets addresses.now) }
 {
     let mut size = 0;
     for address in addresses {
-        size += address.0.octets().len();
+        let octets = address.0.octets();
+        size += octets.as_slice().len();
     }
     size as u16
 }
 
 // How many octets addresses of sixteen octets have.
 fn hint6_len(addresses: &[AAAA]) -> u16
-    requires { length (flat_map (λ a. a) (map aaaa_octets addresses.now)) ≤ 65535 }
-    ensures { result ≡ length (flat_map (λ a. a) (map aaaa_octets addresses.now)) }
+    requires { length (flat_map aaaa_octets addresses.now) ≤ 65535 }
+    ensures { result ≡ length (flat_map aaaa_octets addresses.now) }
 {
     let mut size = 0;
     for address in addresses {
-        size += address.0.octets().len();
+        let octets = address.0.octets();
+        size += octets.as_slice().len();
     }
     size as u16
 }
@@ -78,6 +80,36 @@ fn value_len(value: &SvcParamValue) -> u16
     }
 }
 
+// The octets of a key.
+#[tactic(auto, unfolding(dns_fields::specs::Fields::field_octets))]
+fn put_key<'a>(key: &'a SvcParamKey, head: &mut Head) -> Tail<'a>
+    requires { head.old ≡ [] }
+    ensures { head.new ++ result ≡ bytes_high_first 2 (key_number key.now) }
+{
+    head.two(u16::from(*key));
+    Tail::none()
+}
+
+// The octets of an address.
+fn put_a<'a>(address: &'a A, head: &mut Head) -> Tail<'a>
+    requires { head.old ≡ [] }
+    ensures octets { head.new ++ result ≡ a_octets address.now }
+    ensures some { 0 < length (head.new ++ result) }
+{
+    head.octets(&address.0.octets());
+    Tail::none()
+}
+
+// The octets of an address.
+fn put_aaaa<'a>(address: &'a AAAA, head: &mut Head) -> Tail<'a>
+    requires { head.old ≡ [] }
+    ensures octets { head.new ++ result ≡ aaaa_octets address.now }
+    ensures some { 0 < length (head.new ++ result) }
+{
+    head.octets(&address.0.octets());
+    Tail::none()
+}
+
 // The key of this number.
 #[tactic(auto, unfolding(dns_fields::specs::Fields::field_octets))]
 fn key_item<'a>(keys: &'a [SvcParamKey], item: usize, head: &mut Head) -> Option<Tail<'a>>
@@ -86,8 +118,7 @@ fn key_item<'a>(keys: &'a [SvcParamKey], item: usize, head: &mut Head) -> Option
     ensures room { IfSome result (λ _. item + 2 < 2 ^ 64) }
 {
     if item < keys.len() {
-        head.two(u16::from(keys[item]));
-        Some(Tail::none())
+        Some(put_key(&keys[item], head))
     } else {
         None
     }
@@ -115,8 +146,7 @@ fn hint4_item<'a>(addresses: &'a [A], item: usize, head: &mut Head) -> Option<Ta
     ensures room { IfSome result (λ _. item + 2 < 2 ^ 64) }
 {
     if item < addresses.len() {
-        head.octets(&addresses[item].0.octets());
-        Some(Tail::none())
+        Some(put_a(&addresses[item], head))
     } else {
         None
     }
@@ -129,8 +159,7 @@ fn hint6_item<'a>(addresses: &'a [AAAA], item: usize, head: &mut Head) -> Option
     ensures room { IfSome result (λ _. item + 2 < 2 ^ 64) }
 {
     if item < addresses.len() {
-        head.octets(&addresses[item].0.octets());
-        Some(Tail::none())
+        Some(put_aaaa(&addresses[item], head))
     } else {
         None
     }
@@ -152,6 +181,20 @@ fn put_item<'a>(value: &'a SvcParamValue, item: usize, head: &mut Head) -> Optio
     }
 }
 
+// The item of this number in the value of a parameter.
+fn pair_item<'a>(
+    pair: &'a (SvcParamKey, SvcParamValue),
+    item: usize,
+    head: &mut Head,
+) -> Option<Tail<'a>>
+    requires empty { head.old ≡ [] }
+    requires emittable { parameter_emittable (value_of pair.now.1) ≡ true }
+    ensures item { GivesItem (value_items (value_of pair.now.1)) item head.new result }
+    ensures room { IfSome result (λ _. item + 2 < 2 ^ 64) }
+{
+    put_item(&pair.1, item, head)
+}
+
 // Adds what stands of a value in one piece, or answers it as a tail.
 #[tactic(auto, unfolding(dns_fields::specs::Fields::field_octets))]
 fn put_front<'a>(value: &'a SvcParamValue, head: &mut Head) -> Tail<'a>
@@ -169,8 +212,19 @@ fn put_front<'a>(value: &'a SvcParamValue, head: &mut Head) -> Tail<'a>
     }
 }
 
-// The head of the parameter of this number.
+// The key of a parameter, the length of its value and what stands of that in one piece.
 #[tactic(auto, unfolding(dns_fields::specs::Fields::field_octets))]
+fn pair_head<'a>(pair: &'a (SvcParamKey, SvcParamValue), head: &mut Head) -> Tail<'a>
+    requires empty { head.old ≡ [] }
+    requires fits { fits_value (value_of pair.now.1) ≡ true }
+    ensures { head.new ++ result ≡ parameter_head pair.now ++ value_front (value_of pair.now.1) }
+{
+    head.two(u16::from(pair.0));
+    head.two(value_len(&pair.1));
+    put_front(&pair.1, head)
+}
+
+// The head of the parameter of this number.
 fn head_step<'a>(
     parameters: &'a [(SvcParamKey, SvcParamValue)],
     part: usize,
@@ -183,12 +237,8 @@ fn head_step<'a>(
     if part >= parameters.len() {
         return None;
     }
-    let (key, value) = &parameters[part];
-    head.two(u16::from(*key));
-    head.two(value_len(value));
-    let tail = put_front(value, head);
     Some(Step {
-        tail,
+        tail: pair_head(&parameters[part], head),
         step: 1,
         part,
         item: 1,
@@ -209,7 +259,7 @@ fn item_step<'a>(
     if part >= parameters.len() {
         return None;
     }
-    match put_item(&parameters[part].1, item, head) {
+    match pair_item(&parameters[part], item, head) {
         Some(tail) => Some(Step {
             tail,
             step: 1,
