@@ -12,6 +12,7 @@ ghost use Rattle.dns_names_wire.specs.NameValues.{root_name, label_count, has_as
 
 mod building;
 mod comparing;
+mod lent;
 mod mark;
 mod texts;
 

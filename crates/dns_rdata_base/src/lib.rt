@@ -13,6 +13,7 @@ pub mod null;
 pub mod openpgpkey;
 pub mod soa;
 pub mod srv;
+pub mod steps;
 #[cfg(test)]
 mod tests;
 pub mod traits;

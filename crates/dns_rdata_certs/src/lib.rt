@@ -5,6 +5,7 @@ pub mod cert;
 pub mod hexadecimal;
 pub mod smimea;
 pub mod sshfp;
+pub mod steps;
 #[cfg(test)]
 mod tests;
 pub mod tlsa;

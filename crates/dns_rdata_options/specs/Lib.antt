@@ -10,3 +10,4 @@ pub mod Places
 pub mod Walking
 pub mod OptionReads
 pub mod Words
+pub mod Steps

@@ -13,3 +13,4 @@ pub mod ParameterReads
 pub mod ParameterEmits
 pub mod HeadReads
 pub mod SvcbValues
+pub mod PieceSteps

@@ -4,6 +4,8 @@ pub mod Numbers
 pub mod Blocks
 pub mod Windows
 pub mod SetWrites
+pub mod NextWindow
+pub mod WindowSteps
 pub mod Flags
 pub mod CsyncReads
 pub mod CsyncValues

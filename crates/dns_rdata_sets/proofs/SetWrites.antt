@@ -33,7 +33,7 @@ mark_same : (v w : List ℕ) (u : ℕ) → contains u v ≡ contains u w → mar
 unfolding mark
 mark_same v w u e = ap (λ (b : Bool). cond b 1 0) e
 
-window_same : (v w : List ℕ) (k : ℕ) → ((u : ℕ) → u / 256 ≡ k → contains u v ≡ contains u w) → window v k ≡ window w k
+pub window_same : (v w : List ℕ) (k : ℕ) → ((u : ℕ) → u / 256 ≡ k → contains u v ≡ contains u w) → window v k ≡ window w k
 unfolding window types_octet
 window_same v w k h = ap trimmed (map_same (types_octet v k) (types_octet w k) 0 32 (λ j l.
     packed_same (λ b. mark v (256 * k + (8 * j + b))) (λ b. mark w (256 * k + (8 * j + b))) 8
@@ -44,7 +44,7 @@ unfolding window types_octet mark
 window_empty k = refl
 
 -- windows without types are left out
-windows_skip : (v : List ℕ) (a k n : ℕ) → ((u : ℕ) → a ≤ u / 256 → u / 256 < a + k → contains u v ≡ false)
+pub windows_skip : (v : List ℕ) (a k n : ℕ) → ((u : ℕ) → a ≤ u / 256 → u / 256 < a + k → contains u v ≡ false)
     → windows v (range_with_len a (k + n)) ≡ windows v (range_with_len (a + k) n)
 windows_skip v a zero n h = let e : a + 0 ≡ a = omega arith in let f : 0 + n ≡ n = omega arith in ap (λ (c : ℕ). windows v (range_with_len a c)) f
     ∙ ap (λ (b : ℕ). windows v (range_with_len b n)) (sym e)
@@ -59,7 +59,7 @@ windows_skip v a (suc k) n h =
 
 -- ---- numbers that rise
 
-none_less : (n : ℕ) (xs : List ℕ) (t : ℕ) → AllByRecursion (λ u. n ≤ u) xs → t < n → contains t xs ≡ false
+pub none_less : (n : ℕ) (xs : List ℕ) (t : ℕ) → AllByRecursion (λ u. n ≤ u) xs → t < n → contains t xs ≡ false
 none_less n [] t a l = refl
 none_less n (x ∷ xs) t a l = let e : (x == t) ≡ false = off x t (let h = a.0 in λ q. omega (arith, q, h)) in rw e (none_less n xs t a.1 l)
   where
@@ -84,7 +84,7 @@ rises_at [] i r s l = absurd (omega arith)
 rises_at (x ∷ xs) zero r s l = absurd (omega arith)
 rises_at (x ∷ xs) (suc i) r s l = above_at x xs i r.0 (omega arith)
 
-rises_drop : (n : ℕ) (xs : List ℕ) → Rises xs → Rises (drop n xs)
+pub rises_drop : (n : ℕ) (xs : List ℕ) → Rises xs → Rises (drop n xs)
 rises_drop zero xs r = r
 rises_drop (suc n) [] r = tt
 rises_drop (suc n) (x ∷ xs) r = rises_drop n xs r.1
@@ -111,12 +111,12 @@ below_window : (k : ℕ) (run : List ℕ) → AreOfWindow k run → AllByRecursi
 below_window k [] a = tt
 below_window k (t ∷ ts) a = (omega (arith, a.0), below_window k ts a.1)
 
-small_drop : (n : ℕ) (xs : List ℕ) → AllByRecursion (λ u. u < 65536) xs → AllByRecursion (λ u. u < 65536) (drop n xs)
+pub small_drop : (n : ℕ) (xs : List ℕ) → AllByRecursion (λ u. u < 65536) xs → AllByRecursion (λ u. u < 65536) (drop n xs)
 small_drop zero xs a = a
 small_drop (suc n) [] a = tt
 small_drop (suc n) (x ∷ xs) a = small_drop n xs a.1
 
-small_first : (xs : List ℕ) → AllByRecursion (λ u. u < 65536) xs → get_or xs 0 0 < 65536
+pub small_first : (xs : List ℕ) → AllByRecursion (λ u. u < 65536) xs → get_or xs 0 0 < 65536
 small_first [] a = omega arith
 small_first (x ∷ xs) a = a.0
 
@@ -174,7 +174,7 @@ is_run {v} {rest} e f some run next =
     subst (λ (x : ℕ). IsRun rest e (x / 256)) (sym p)
     (record { small = omega (arith, small_first rest f.small); first = refl; some = some; run = run; next = next })
 
-behind : {rest : List ℕ} {e k : ℕ} → Rises rest → IsRun rest e k → AllByRecursion (λ u. 256 * (k + 1) ≤ u) (drop e rest)
+pub behind : {rest : List ℕ} {e k : ℕ} → Rises rest → IsRun rest e k → AllByRecursion (λ u. 256 * (k + 1) ≤ u) (drop e rest)
 behind {rest} {e} {k} r h = at_least (256 * (k + 1)) (drop e rest) (rises_drop e rest r) (λ some.
     let l : e < length rest = omega (arith, some, length-drop e rest) in
     let place : get_or (drop e rest) 0 0 ≡ get_or rest e 0 = get_or-drop e rest 0 0 ∙ (let z : e + 0 ≡ e = omega arith in ap (λ (i : ℕ). get_or rest i 0) z) in
@@ -187,7 +187,7 @@ behind {rest} {e} {k} r h = at_least (256 * (k + 1)) (drop e rest) (rises_drop e
     later : (x y : ℕ) → x / 256 ≡ k → x < y → y / 256 ≢ k → 256 * (k + 1) ≤ y
     later x y f m o = omega (arith, f, m, o)
 
-from_first : {rest : List ℕ} {e k : ℕ} → Rises rest → IsRun rest e k → AllByRecursion (λ u. 256 * k ≤ u) rest
+pub from_first : {rest : List ℕ} {e k : ℕ} → Rises rest → IsRun rest e k → AllByRecursion (λ u. 256 * k ≤ u) rest
 from_first {rest} {e} {k} r h = at_least (256 * k) rest r (λ some. omega (arith, h.first))
 
 -- one block more
@@ -203,7 +203,7 @@ with_some k (x ∷ w) bs l = refl
 or_none : (a b : Bool) → a ≡ false → a || b ≡ b
 or_none a b e = ap (λ (c : Bool). c || b) e
 
-or_neither : (a b : Bool) → b ≡ false → a || b ≡ a
+pub or_neither : (a b : Bool) → b ≡ false → a || b ≡ a
 or_neither true b e = refl
 or_neither false b e = e
 

@@ -4,6 +4,7 @@
 pub mod caa;
 pub mod csync;
 pub mod record_type_set;
+pub mod steps;
 #[cfg(test)]
 mod tests;
 

@@ -14,7 +14,10 @@ ghost use Rattle.dns_names_wire.specs.Words.{ReadsTo, EmitsField};
 ghost use Rattle.dns_rdata_sets.specs.RecordTypeSet.{IsSetOf, set_shape, set_fields, bitmap_refusal};
 
 mod reading;
+mod windows;
 mod writing;
+
+pub use windows::{Window, first_window};
 
 use dns_names_wire::{
     BinDecoder, BinEncodable, BinEncoder, DecodeError, ProtoError, RecordType, Restrict,

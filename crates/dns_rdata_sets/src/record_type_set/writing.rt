@@ -25,7 +25,7 @@ pub(super) fn emit_blocks(encoder: &mut BinEncoder<'_>, numbers: &[u16]) -> Resu
 }
 
 // How many numbers in front are of the first one's window.
-fn run_len(numbers: &[u16]) -> usize
+pub(super) fn run_len(numbers: &[u16]) -> usize
     requires { 0 < length numbers.now }
     ensures some { 0 < result }
     ensures within { result ≤ length numbers.now }
@@ -57,7 +57,7 @@ fn emit_block(encoder: &mut BinEncoder<'_>, run: &[u16]) -> Result<(), ProtoErro
 
 // The slice as it is, with what its type says of each item.
 #[inline]
-fn as_octets(octets: &[u8]) -> &[u8]
+pub(super) fn as_octets(octets: &[u8]) -> &[u8]
     ensures value { result.now ≡ octets.now }
     ensures octets { AreOctets octets.now }
 {
@@ -77,7 +77,7 @@ fn emit_parts(encoder: &mut BinEncoder<'_>, number: u8, octets: &[u8]) -> Result
 }
 
 // Makes of 32 octets those of a window whose types these are, zeros at the end too.
-fn mark_window(octets: &mut [u8; 32], run: &[u16])
+pub(super) fn mark_window(octets: &mut [u8; 32], run: &[u16])
     requires some { 0 < length run.now }
     requires run { AreOfWindow (first_window run.now) run.now }
     ensures { (n : ℕ) → n < 256 → bit_at (slice_index octets.new (n / 8)) (7 - n % 8) ≡ mark run.now (256 * first_window run.now + n) }

@@ -1,0 +1,20 @@
+-- Octets at hand.
+use Rattle.std.specs.Prelude.{◌≡◌, ◌==◌, ◌+◌, length, ℕ, Bool, List, [], ◌∷◌, ◌++◌, if◌then◌else◌}
+use Rattle.dns_labels.specs.Comparing.{lowered_octets}
+
+-- the octets of a slice, or the canonical ones of a name whose labels they are
+abbrev pub tail_octets : List ℕ → Bool → List ℕ
+tail_octets octets is_name = if is_name then lowered_octets octets else octets
+
+-- two runs gave the same n octets
+pub record Shares (n : ℕ) (old new other_old other_new : List ℕ) : Type 0 where
+  pub shared : List ℕ
+  pub count : length shared ≡ n
+  pub left : old ≡ shared ++ new
+  pub right : other_old ≡ shared ++ other_new
+
+-- how many octets two lists begin with alike
+abbrev pub common : List ℕ → List ℕ → ℕ
+common [] ys = 0
+common (x ∷ xs) [] = 0
+common (x ∷ xs) (y ∷ ys) = if x == y then common xs ys + 1 else 0

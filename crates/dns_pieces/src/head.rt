@@ -1,0 +1,120 @@
+//! A few octets that are kept.
+
+ghost use Rattle.std.specs.Prelude.{◌≡◌, ◌+◌, ◌<◌, ◌≤◌, [], ◌++◌, length};
+ghost use Rattle.dns_fields.specs.Fields.{Number, Text, field_octets};
+
+use crate::tail::Tail;
+use dns_names_wire::Octets;
+use std::marker::Model;
+
+/// A few octets, which a cursor keeps: numbers, and the length of a string.
+#[derive(Drop)]
+pub struct Head {
+    octets: [u8; 34],
+    len: usize,
+}
+
+impl Model for Head {
+    ghost use Rattle.std.specs.Prelude.{ℕ, List, take, ◌≤◌};
+
+    ghost Value = { List ℕ };
+
+    ghost view = { λ b. take b.len b.octets };
+
+    ghost invariant = { λ b. b.len ≤ 34 };
+}
+
+impl Head {
+    #[inline]
+    pub fn new() -> Head
+        ensures { result ≡ [] }
+    {
+        Head {
+            octets: [0; 34],
+            len: 0,
+        }
+    }
+
+    /// Without octets again.
+    #[inline]
+    pub fn clear(&mut self)
+        ensures { self.new ≡ [] }
+    {
+        self.len = 0;
+    }
+
+    /// The octets, lent.
+    #[inline]
+    pub fn as_slice(&self) -> &[u8]
+        ensures value { result.now ≡ self.now }
+        ensures few { length self.now ≤ 34 }
+    {
+        &self.octets[..self.len]
+    }
+
+    /// How many octets there are.
+    #[inline]
+    pub fn len(&self) -> usize
+        ensures value { result ≡ length self.now }
+        ensures few { result ≤ 34 }
+    {
+        let _ = &self.octets;
+        self.len
+    }
+
+    #[inline]
+    pub fn octets(&mut self, part: &[u8])
+        requires { length self.old + length part.now ≤ 34 }
+        ensures value { self.new ≡ self.old ++ part.now }
+        ensures count { length self.new ≡ length self.old + length part.now }
+    {
+        let start = self.len;
+        let end = start + part.len();
+        self.octets[start..end].copy_from_slice(part);
+        self.len = end;
+    }
+
+    #[inline]
+    #[tactic(auto, unfolding(dns_fields::specs::Fields::field_octets))]
+    pub fn one(&mut self, n: u8)
+        requires { length self.old + 1 ≤ 34 }
+        ensures value { self.new ≡ self.old ++ field_octets (Number 1) n }
+        ensures count { length self.new ≡ length self.old + 1 }
+    {
+        self.octets(&n.to_be_bytes());
+    }
+
+    #[inline]
+    #[tactic(auto, unfolding(dns_fields::specs::Fields::field_octets))]
+    pub fn two(&mut self, n: u16)
+        requires { length self.old + 2 ≤ 34 }
+        ensures value { self.new ≡ self.old ++ field_octets (Number 2) n }
+        ensures count { length self.new ≡ length self.old + 2 }
+    {
+        self.octets(&n.to_be_bytes());
+    }
+
+    #[inline]
+    #[tactic(auto, unfolding(dns_fields::specs::Fields::field_octets))]
+    pub fn four(&mut self, n: u32)
+        requires { length self.old + 4 ≤ 34 }
+        ensures value { self.new ≡ self.old ++ field_octets (Number 4) n }
+        ensures count { length self.new ≡ length self.old + 4 }
+    {
+        self.octets(&n.to_be_bytes());
+    }
+
+    /// Adds a string's length; its octets are the tail.
+    #[inline]
+    #[tactic(auto, unfolding(dns_fields::specs::Fields::field_octets))]
+    pub fn text<'a>(&mut self, text: &'a Octets) -> Tail<'a>
+        requires room { length self.old + 1 ≤ 34 }
+        requires short { length text.now < 256 }
+        ensures value { self.new ++ result ≡ self.old ++ field_octets Text text.now }
+        ensures count { length self.new ≡ length self.old + 1 }
+    {
+        let octets = text.as_slice();
+        self.one(octets.len() as u8);
+        Tail::rest(octets)
+    }
+}

@@ -1,0 +1,16 @@
+//! The octets of record data in pieces: a few that are kept, a slice or a name's labels behind them, and steps from one
+//! place of a record to the next.
+#![tactic(auto)]
+
+pub mod common;
+pub mod count;
+pub mod head;
+pub mod run;
+pub mod step;
+pub mod tail;
+
+pub use count::Count;
+pub use head::Head;
+pub use run::Run;
+pub use step::Step;
+pub use tail::Tail;

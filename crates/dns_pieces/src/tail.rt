@@ -1,0 +1,104 @@
+//! A slice, or the labels of a name.
+
+ghost use Rattle.std.specs.Prelude.{◌≡◌, ◌+◌, ◌<◌, ◌^◌, [], ◌∷◌, MatchOption};
+ghost use Rattle.dns_fields.specs.Fields.{Name as NameKind, Rest, field_octets};
+ghost use Rattle.dns_pieces.specs.Runs.{Shares};
+
+use crate::common::{common_beginning, common_lowered};
+use dns_names_wire::Name;
+use std::marker::Model;
+
+/// A slice, or the octets of a name's labels, which are given in lower case, and a 0 behind them.
+#[derive(Drop)]
+pub struct Tail<'a> {
+    octets: &'a [u8],
+    is_name: bool,
+}
+
+impl<'a> Model for Tail<'a> {
+    ghost use Rattle.std.specs.Prelude.{ℕ, List};
+    ghost use Rattle.dns_pieces.specs.Runs.{tail_octets};
+
+    ghost Value = { List ℕ };
+
+    ghost view = { λ t. tail_octets t.octets.now t.is_name };
+}
+
+impl Tail<'static> {
+    #[inline]
+    pub fn none() -> Tail<'static>
+        ensures { result ≡ [] }
+    {
+        Tail {
+            octets: b"".as_slice(),
+            is_name: false,
+        }
+    }
+}
+
+impl<'a> Tail<'a> {
+    #[inline]
+    #[tactic(auto, unfolding(dns_fields::specs::Fields::field_octets))]
+    pub fn rest(octets: &'a [u8]) -> Tail<'a>
+        ensures { result ≡ field_octets Rest octets.now }
+    {
+        Tail {
+            octets,
+            is_name: false,
+        }
+    }
+
+    #[inline]
+    #[tactic(auto, unfolding(dns_fields::specs::Fields::field_octets))]
+    pub fn name(name: &'a Name) -> Tail<'a>
+        ensures { result ≡ field_octets NameKind name.now }
+    {
+        Tail {
+            octets: name.label_octets(),
+            is_name: true,
+        }
+    }
+
+    /// The next octet.
+    #[inline]
+    pub fn next(&mut self) -> Option<u8>
+        ensures { MatchOption result ((self.old ≡ []) × (self.new ≡ [])) (λ x. self.old ≡ x ∷ self.new) }
+    {
+        let octets = self.octets;
+        if octets.len() > 0 {
+            let octet = octets[0];
+            self.octets = &octets[1..];
+            return Some(if self.is_name {
+                octet.to_ascii_lowercase()
+            } else {
+                octet
+            });
+        }
+        if self.is_name {
+            self.is_name = false;
+            return Some(0);
+        }
+        None
+    }
+
+    /// Takes octets that both begin with, where both are names or neither is, and answers how many these are.
+    #[inline]
+    pub fn skip_common(&mut self, other: &mut Tail<'_>) -> usize
+        ensures shares { Shares result self.old self.new other.old other.new }
+        ensures room { result + 34 < 2 ^ 64 }
+    {
+        if self.is_name != other.is_name {
+            return 0;
+        }
+        let octets = self.octets;
+        let other_octets = other.octets;
+        let n = if self.is_name {
+            common_lowered(octets, other_octets)
+        } else {
+            common_beginning(octets, other_octets)
+        };
+        self.octets = &octets[n..];
+        other.octets = &other_octets[n..];
+        n
+    }
+}

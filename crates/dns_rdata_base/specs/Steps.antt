@@ -1,0 +1,26 @@
+-- The fields at which the steps of records begin.
+use Rattle.std.specs.Prelude.{ℕ, zero, suc, List, [], ◌∷◌, drop}
+use Rattle.std.specs.List.{flat_map}
+use Rattle.dns_fields.specs.Pieces.{string}
+use Rattle.dns_pieces.specs.Steps.{Left}
+
+-- one step, the first
+abbrev pub at_once : List ℕ
+at_once = 0 ∷ []
+
+-- machine, operating system
+abbrev pub hinfo_begins : List ℕ
+hinfo_begins = 0 ∷ 1 ∷ []
+
+-- mname, rname, the numbers
+abbrev pub soa_begins : List ℕ
+soa_begins = 0 ∷ 1 ∷ 2 ∷ []
+
+-- numbers and flags, services, regexp, replacement
+abbrev pub naptr_begins : List ℕ
+naptr_begins = 0 ∷ 3 ∷ 4 ∷ 5 ∷ []
+
+-- the strings from one on: each is a part
+abbrev pub texts_left : List (List ℕ) → Left
+texts_left ss zero i j = flat_map string (drop i ss)
+texts_left ss (suc n) i j = []

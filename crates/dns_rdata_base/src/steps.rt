@@ -1,0 +1,206 @@
+//! The canonical octets of records, step by step.
+
+ghost use Rattle.std.specs.Prelude.{◌≡◌, ◌<◌, ℕ, [], ◌∷◌, length};
+ghost use Rattle.std.specs.List.{AllByRecursion};
+ghost use Rattle.dns_fields.specs.Fields.{Rest, canonical};
+ghost use Rattle.dns_pieces.specs.Steps.{AllShort, GivesStep, by_fields};
+ghost use Rattle.dns_rdata_base.specs.A.{a_shape, a_fields};
+ghost use Rattle.dns_rdata_base.specs.AAAA.{aaaa_shape, aaaa_fields};
+ghost use Rattle.dns_rdata_base.specs.NameRecords.{name_shape, name_fields};
+ghost use Rattle.dns_rdata_base.specs.HINFO.{hinfo_shape, hinfo_fields};
+ghost use Rattle.dns_rdata_base.specs.MX.{mx_shape, mx_fields};
+ghost use Rattle.dns_rdata_base.specs.NAPTR.{naptr_shape, naptr_fields};
+ghost use Rattle.dns_rdata_base.specs.SOA.{soa_shape, soa_fields, soa_numbers_shape, soa_numbers_of};
+ghost use Rattle.dns_rdata_base.specs.SRV.{srv_shape, srv_fields};
+ghost use Rattle.dns_rdata_base.specs.TXT.{txt_shape, txt_fields};
+ghost use Rattle.dns_rdata_base.specs.Steps.{at_once, hinfo_begins, naptr_begins, soa_begins, texts_left};
+
+use crate::{A, AAAA, HINFO, MX, NAPTR, SOA, SRV, TXT};
+use dns_names_wire::{Name, Octets};
+use dns_pieces::{Head, Step, Tail};
+
+/// The address.
+#[inline]
+#[tactic(auto, unfolding(dns_fields::specs::Fields::field_octets))]
+pub fn a_step<'a>(x: &'a A, step: usize, head: &mut Head) -> Option<Step<'a>>
+    requires empty { head.old ≡ [] }
+    ensures { (i j : ℕ) → GivesStep (by_fields at_once a_shape (a_fields x.now)) step i j head.new result }
+{
+    match step {
+        0 => {
+            head.octets(&x.0.octets());
+            Some(Step::to(Tail::none(), 1))
+        }
+        _ => None,
+    }
+}
+
+/// The address.
+#[inline]
+#[tactic(auto, unfolding(dns_fields::specs::Fields::field_octets))]
+pub fn aaaa_step<'a>(x: &'a AAAA, step: usize, head: &mut Head) -> Option<Step<'a>>
+    requires empty { head.old ≡ [] }
+    ensures { (i j : ℕ) → GivesStep (by_fields at_once aaaa_shape (aaaa_fields x.now)) step i j head.new result }
+{
+    match step {
+        0 => {
+            head.octets(&x.0.octets());
+            Some(Step::to(Tail::none(), 1))
+        }
+        _ => None,
+    }
+}
+
+/// The name, of ANAME, CNAME, NS and PTR.
+#[inline]
+pub fn name_step<'a>(name: &'a Name, step: usize, head: &mut Head) -> Option<Step<'a>>
+    requires empty { head.old ≡ [] }
+    ensures { (i j : ℕ) → GivesStep (by_fields at_once name_shape (name_fields name.now)) step i j head.new result }
+{
+    let _ = &head;
+    match step {
+        0 => Some(Step::to(Tail::name(name), 1)),
+        _ => None,
+    }
+}
+
+/// Octets to the end, of NULL, OPENPGPKEY and types without a row.
+#[inline]
+pub fn rest_step<'a>(octets: &'a Octets, step: usize, head: &mut Head) -> Option<Step<'a>>
+    requires empty { head.old ≡ [] }
+    ensures { (i j : ℕ) → GivesStep (by_fields at_once (Rest ∷ []) (octets.now, tt)) step i j head.new result }
+{
+    let _ = &head;
+    match step {
+        0 => Some(Step::to(Tail::rest(octets.as_slice()), 1)),
+        _ => None,
+    }
+}
+
+/// The machine, the operating system.
+#[inline]
+pub fn hinfo_step<'a>(x: &'a HINFO, step: usize, head: &mut Head) -> Option<Step<'a>>
+    requires empty { head.old ≡ [] }
+    requires short { AllShort hinfo_shape (hinfo_fields x.now) }
+    ensures { (i j : ℕ) → GivesStep (by_fields hinfo_begins hinfo_shape (hinfo_fields x.now)) step i j head.new result }
+{
+    match step {
+        0 => Some(Step::to(head.text(&x.cpu), 1)),
+        1 => Some(Step::to(head.text(&x.os), 2)),
+        _ => None,
+    }
+}
+
+/// All at once.
+#[inline]
+pub fn mx_step<'a>(x: &'a MX, step: usize, head: &mut Head) -> Option<Step<'a>>
+    requires empty { head.old ≡ [] }
+    ensures { (i j : ℕ) → GivesStep (by_fields at_once mx_shape (mx_fields x.now)) step i j head.new result }
+{
+    match step {
+        0 => {
+            head.two(x.preference);
+            Some(Step::to(Tail::name(&x.exchange), 1))
+        }
+        _ => None,
+    }
+}
+
+/// All at once.
+#[inline]
+pub fn srv_step<'a>(x: &'a SRV, step: usize, head: &mut Head) -> Option<Step<'a>>
+    requires empty { head.old ≡ [] }
+    ensures { (i j : ℕ) → GivesStep (by_fields at_once srv_shape (srv_fields x.now)) step i j head.new result }
+{
+    match step {
+        0 => {
+            head.two(x.priority);
+            head.two(x.weight);
+            head.two(x.port);
+            Some(Step::to(Tail::name(&x.target), 1))
+        }
+        _ => None,
+    }
+}
+
+// Serial, refresh, retry, expire and minimum.
+#[inline]
+fn soa_numbers_head(x: &SOA, head: &mut Head)
+    requires { head.old ≡ [] }
+    ensures { head.new ≡ canonical soa_numbers_shape (soa_numbers_of x.now) }
+{
+    head.four(x.serial);
+    head.four(x.refresh.cast_unsigned());
+    head.four(x.retry.cast_unsigned());
+    head.four(x.expire.cast_unsigned());
+    head.four(x.minimum);
+}
+
+/// The two names, and then the numbers.
+#[inline]
+pub fn soa_step<'a>(x: &'a SOA, step: usize, head: &mut Head) -> Option<Step<'a>>
+    requires empty { head.old ≡ [] }
+    ensures { (i j : ℕ) → GivesStep (by_fields soa_begins soa_shape (soa_fields x.now)) step i j head.new result }
+{
+    match step {
+        0 => Some(Step::to(Tail::name(&x.mname), 1)),
+        1 => Some(Step::to(Tail::name(&x.rname), 2)),
+        2 => {
+            soa_numbers_head(x, head);
+            Some(Step::to(Tail::none(), 3))
+        }
+        _ => None,
+    }
+}
+
+/// Numbers and flags, the services, the substitution, the name.
+#[inline]
+pub fn naptr_step<'a>(x: &'a NAPTR, step: usize, head: &mut Head) -> Option<Step<'a>>
+    requires empty { head.old ≡ [] }
+    requires short { AllShort naptr_shape (naptr_fields x.now) }
+    ensures { (i j : ℕ) → GivesStep (by_fields naptr_begins naptr_shape (naptr_fields x.now)) step i j head.new result }
+{
+    match step {
+        0 => {
+            head.two(x.order);
+            head.two(x.preference);
+            Some(Step::to(head.text(&x.flags), 1))
+        }
+        1 => Some(Step::to(head.text(&x.services), 2)),
+        2 => Some(Step::to(head.text(&x.regexp), 3)),
+        3 => Some(Step::to(Tail::name(&x.replacement), 4)),
+        _ => None,
+    }
+}
+
+/// The string that has this number among the parts.
+#[inline]
+pub fn txt_step<'a>(x: &'a TXT, step: usize, part: usize, head: &mut Head) -> Option<Step<'a>>
+    requires empty { head.old ≡ [] }
+    requires short { AllShort txt_shape (txt_fields x.now) }
+    ensures { (j : ℕ) → GivesStep (texts_left x.now.txt_data) step part j head.new result }
+{
+    match step {
+        0 => text_step(x.txt_data.as_slice(), part, head),
+        _ => None,
+    }
+}
+
+// The string that has this number.
+#[inline]
+fn text_step<'a>(texts: &'a [Octets], part: usize, head: &mut Head) -> Option<Step<'a>>
+    requires empty { head.old ≡ [] }
+    requires short { AllByRecursion (λ s. length s < 256) texts.now }
+    ensures { (j : ℕ) → GivesStep (texts_left texts.now) 0 part j head.new result }
+{
+    if part < texts.len() {
+        Some(Step {
+            tail: head.text(&texts[part]),
+            step: 0,
+            part: part + 1,
+            item: 0,
+        })
+    } else {
+        None
+    }
+}

@@ -1,0 +1,221 @@
+-- Parameters, piece by piece.
+use Rattle.std.proofs.Common.{◌≡◌, ℕ, zero, suc, ◌+◌, ◌*◌, ◌<◌, ◌≤◌, ◌&&◌, nat_le, Bool, true, false, Option, Some, None, List, [], ◌∷◌, ◌++◌}
+use Rattle.std.proofs.Common.{length, get_or, drop, map, slice_get, refl, sym, ap, ◌∙◌, subst, arith, append_assoc, length-append}
+use native.Mathlib.Nat.{mul-suc}
+use Rattle.std.proofs.lemmas.Bool.Decides.{nat_tests}
+use Rattle.std.proofs.lemmas.List.{append-nil, drop_more, drop_all}
+use Rattle.std.proofs.lemmas.Option.{slice_get-get_or, slice_get_past}
+use Rattle.std.specs.List.{flat_map, list_all}
+use Rattle.std.specs.Int.{bytes_high_first}
+use Rattle.std.specs.Cmp.{first_so, second_so}
+use Rattle.dns_fields.specs.Pieces.{string, piece, pieces, as_piece, ParameterValue, Mandatory, Alpn, NoDefaultAlpn, Port, Ipv4Hint, Ipv6Hint, Opaque, parameter_octets, parameter_emittable, rising}
+use Rattle.dns_fields.specs.Fields.{Name, field_octets, parameter_pieces}
+use Rattle.dns_pieces.specs.declared.step.Step.{Step}
+use Rattle.dns_pieces.specs.Steps.{GivesStep, StepAt, Ended}
+use Rattle.dns_fields.specs.Labels.{lowname}
+use Rattle.dns_rdata_service.specs.SvcParamValue.{value_of, fits_value, a_octets, aaaa_octets}
+use Rattle.dns_rdata_base.specs.declared.a.A.{A}
+use Rattle.dns_rdata_base.specs.declared.aaaa.AAAA.{AAAA}
+use Rattle.dns_rdata_service.specs.declared.svcb.ip_hint.IpHint.{IpHint}
+use Rattle.dns_rdata_service.specs.declared.svcb.value.SvcParamValue.{SvcParamValue}
+use Rattle.dns_rdata_service.specs.declared.svcb.value.SvcParamValue.TheVariants as variants
+use Rattle.dns_rdata_service.specs.Parameters.{Parameter, parameter_of}
+use Rattle.dns_rdata_service.specs.Steps.{parameter_head, value_front, value_items, parameters_from, items_of, parameters_left, svcb_left, are_emittable, GivesItem, NextPiece, GivesPiece}
+use Rattle.dns_rdata_service.specs.declared.svcb.SVCB.{SVCB}
+
+-- ---- how many octets
+
+pub numbers_size : (ns : List ℕ) → length (flat_map (bytes_high_first 2) ns) ≡ 2 * length ns
+numbers_size [] = refl
+numbers_size (n ∷ ns) = let e = numbers_size ns in let f : 2 * suc (length ns) ≡ 2 * length ns + 2 = mul-suc 2 (length ns) in omega (arith, e, f)
+
+pub length_map : {X Y : Type 0} (f : X → Y) (xs : List X) → length (map f xs) ≡ length xs
+length_map f [] = refl
+length_map f (x ∷ xs) = let e = length_map f xs in omega (arith, e)
+
+-- the octets of an item, and those behind it
+pub size_next : {X : Type 0} (f : X → List ℕ) (xs : List X) (i : ℕ) (x : X) → i < length xs → x ≡ get_or xs i x
+    → length (flat_map f (drop i xs)) ≡ length (f x) + length (flat_map f (drop (i + 1) xs))
+size_next f xs i x h e =
+    ap (λ l. length (flat_map f l)) (drop_more xs i x h) ∙ length-append (f (get_or xs i x)) (flat_map f (drop (i + 1) xs))
+    ∙ ap (λ y. length (f y) + length (flat_map f (drop (i + 1) xs))) (sym e)
+
+pub size_map : {X : Type 0} (f : X → List ℕ) (xs : List X) → flat_map (λ a. a) (map f xs) ≡ flat_map f xs
+size_map f [] = refl
+size_map f (x ∷ xs) = ap (λ l. f x ++ l) (size_map f xs)
+
+few_octets : (n : ℕ) (b : Bool) → nat_le n 65535 && b ≡ true → n ≤ 65535
+few_octets n b h = few n (first_so (nat_le n 65535) b h)
+  where
+    few : (n : ℕ) → nat_le n 65535 ≡ true → n ≤ 65535
+    few n h = grind (arith, nat_tests, h)
+
+pub hint4_fits : (v : SvcParamValue) (x : IpHint A) → v ≡ variants.Ipv4Hint x → fits_value (value_of v) ≡ true → length (flat_map a_octets x.0) ≤ 65535
+hint4_fits v x e h =
+    let t : fits_value (value_of (variants.Ipv4Hint x)) ≡ true = subst (λ (y : SvcParamValue). fits_value (value_of y) ≡ true) e h in
+    let f = few_octets (length (flat_map (λ a. a) (map a_octets x.0))) true t in
+    omega (arith, f, ap length (size_map a_octets x.0))
+
+pub hint6_fits : (v : SvcParamValue) (x : IpHint AAAA) → v ≡ variants.Ipv6Hint x → fits_value (value_of v) ≡ true → length (flat_map aaaa_octets x.0) ≤ 65535
+hint6_fits v x e h =
+    let t : fits_value (value_of (variants.Ipv6Hint x)) ≡ true = subst (λ (y : SvcParamValue). fits_value (value_of y) ≡ true) e h in
+    let f = few_octets (length (flat_map (λ a. a) (map aaaa_octets x.0))) true t in
+    omega (arith, f, ap length (size_map aaaa_octets x.0))
+
+-- ---- items
+
+pub item_given : {X : Type 0} (f : X → List ℕ) (xs : List X) (i : ℕ) (x : X) (s : List ℕ) → i < length xs → x ≡ get_or xs i x → s ≡ f x
+    → drop i (map f xs) ≡ s ∷ drop (i + 1) (map f xs)
+item_given f xs i x s h e r = by_suc f xs i x s h e r ∙ (let g : suc i ≡ i + 1 = omega arith in ap (λ n. s ∷ drop n (map f xs)) g)
+  where
+    by_suc : {X : Type 0} (f : X → List ℕ) (xs : List X) (i : ℕ) (x : X) (s : List ℕ) → i < length xs → x ≡ get_or xs i x → s ≡ f x → drop i (map f xs) ≡ s ∷ drop (suc i) (map f xs)
+    by_suc f [] i x s h e r = absurd (omega (arith, h))
+    by_suc f (y ∷ ys) zero x s h e r = let g : f y ≡ s = ap f (sym e) ∙ sym r in ap (λ l. l ∷ map f ys) g
+    by_suc f (y ∷ ys) (suc i) x s h e r = by_suc f ys i x s (omega (arith, h)) e r
+
+pub item_got : {X : Type 0} (f : X → List ℕ) (xs : List X) (i : ℕ) (d : X) (s : List ℕ) → i < length xs → s ≡ f (get_or xs i d)
+    → drop i (map f xs) ≡ s ∷ drop (i + 1) (map f xs)
+item_got f xs i d s h r = item_given f xs i (get_or xs i d) s h (same xs i d (get_or xs i d) h) r
+  where
+    same : {X : Type 0} (xs : List X) (i : ℕ) (d e : X) → i < length xs → get_or xs i d ≡ get_or xs i e
+    same [] i d e h = absurd (omega (arith, h))
+    same (x ∷ xs) zero d e h = refl
+    same (x ∷ xs) (suc i) d e h = same xs i d e (omega (arith, h))
+
+pub numbers_map : {X : Type 0} (g : X → ℕ) (xs : List X) → map (λ x. bytes_high_first 2 (g x)) xs ≡ map (bytes_high_first 2) (map g xs)
+numbers_map g [] = refl
+numbers_map g (x ∷ xs) = ap (λ l. bytes_high_first 2 (g x) ∷ l) (numbers_map g xs)
+
+pub item_none : {X : Type 0} (f : X → List ℕ) (xs : List X) (i : ℕ) → length xs ≤ i → drop i (map f xs) ≡ []
+item_none f xs i h = let e = length_map f xs in drop_all i (map f xs) (omega (arith, e, h))
+
+pub short_at : (ss : List (List ℕ)) (i : ℕ) (s : List ℕ) → list_all (λ t. nat_le (length t) 255) ss ≡ true → i < length ss → s ≡ get_or ss i s → length s < 256
+short_at [] i s a h e = absurd (omega (arith, h))
+short_at (t ∷ ss) zero s a h e = rw e (few t (first_so (nat_le (length t) 255) (list_all (λ x. nat_le (length x) 255) ss) a))
+  where
+    few : (s : List ℕ) → nat_le (length s) 255 ≡ true → length s < 256
+    few s h = grind (arith, nat_tests, h)
+short_at (t ∷ ss) (suc i) s a h e = short_at ss i s (second_so (nat_le (length t) 255) (list_all (λ x. nat_le (length x) 255) ss) a) (omega (arith, h)) e
+
+-- ---- parameters
+
+-- a value is what stands in one piece, and its items
+pub value_parts : (v : ParameterValue) → parameter_octets v ≡ value_front v ++ flat_map (λ s. s) (value_items v)
+value_parts (Mandatory keys) = sym (size_map (bytes_high_first 2) keys)
+value_parts (Alpn names) = sym (size_map string names)
+value_parts NoDefaultAlpn = refl
+value_parts (Port n) = sym (append-nil (bytes_high_first 2 n))
+value_parts (Ipv4Hint addresses) = refl
+value_parts (Ipv6Hint addresses) = refl
+value_parts (Opaque s) = sym (append-nil s)
+
+each_fits : (ps : List Parameter) (i : ℕ) (p : Parameter) → list_all (λ x. nat_le (length (parameter_octets x.1)) 65535 && parameter_emittable x.1) (map parameter_of ps) ≡ true
+    → i < length ps → p ≡ get_or ps i p → fits_value (value_of p.1) ≡ true
+each_fits [] i p a h e = absurd (omega (arith, h))
+each_fits (q ∷ ps) zero p a h e = rw e (first_so (fits_value (value_of q.1)) (list_all (λ x. nat_le (length (parameter_octets x.1)) 65535 && parameter_emittable x.1) (map parameter_of ps)) a)
+each_fits (q ∷ ps) (suc i) p a h e = each_fits ps i p (second_so (fits_value (value_of q.1)) (list_all (λ x. nat_le (length (parameter_octets x.1)) 65535 && parameter_emittable x.1) (map parameter_of ps)) a) (omega (arith, h)) e
+
+pub fits_at : (ps : List Parameter) (i : ℕ) (p : Parameter) → are_emittable ps → i < length ps → p ≡ get_or ps i p → fits_value (value_of p.1) ≡ true
+fits_at ps i p a h e = each_fits ps i p (first_so (list_all (λ x. nat_le (length (parameter_octets x.1)) 65535 && parameter_emittable x.1) (map parameter_of ps)) (rising (map parameter_of ps)) a) h e
+
+pub emittable_at : (ps : List Parameter) (i : ℕ) (p : Parameter) → are_emittable ps → i < length ps → p ≡ get_or ps i p → parameter_emittable (value_of p.1) ≡ true
+emittable_at ps i p a h e = second_so (nat_le (length (parameter_octets (value_of p.1))) 65535) (parameter_emittable (value_of p.1)) (fits_at ps i p a h e)
+
+-- the parameter of a number, and those behind it
+from_next : (ps : List Parameter) (i : ℕ) (p : Parameter) → i < length ps → p ≡ get_or ps i p
+    → parameters_from ps i ≡ piece (as_piece parameter_octets (parameter_of p)) ++ parameters_from ps (i + 1)
+from_next ps i p h e = ap (λ (l : List Parameter). pieces (parameter_pieces (map parameter_of l))) (drop_more ps i p h ∙ ap (λ (q : Parameter). q ∷ drop (i + 1) ps) (sym e))
+
+pub parameters_end : (ps : List Parameter) (i : ℕ) → length ps ≤ i → parameters_from ps i ≡ []
+parameters_end ps i h = ap (λ (l : List Parameter). pieces (parameter_pieces (map parameter_of l))) (drop_all i ps h)
+
+items_at : (ps : List Parameter) (i : ℕ) (p : Parameter) → i < length ps → p ≡ get_or ps i p → items_of (slice_get ps i) ≡ value_items (value_of p.1)
+items_at ps i p h e = ap items_of (slice_get-get_or ps i p h) ∙ ap (λ (q : Parameter). value_items (value_of q.1)) (sym e)
+
+pub head_given : (ps : List Parameter) (i : ℕ) (p : Parameter) (head tail : List ℕ) → i < length ps → p ≡ get_or ps i p
+    → head ++ tail ≡ parameter_head p ++ value_front (value_of p.1) → NextPiece ps i 0 head (record { tail = tail; step = 1; part = i; item = 1 })
+head_given ps i p head tail h e r = record {
+  octets = parts;
+  step = refl;
+  some = omega (arith, ap length r, length-append (parameter_head p) (value_front (value_of p.1)));
+}
+  where
+    parts : parameters_left ps i 0 ≡ (head ++ tail) ++ parameters_left ps i 1
+    parts =
+        let front = value_front (value_of p.1) in
+        let items = flat_map (λ s. s) (value_items (value_of p.1)) in
+        let rest = parameters_from ps (i + 1) in
+        from_next ps i p h e
+        ∙ ap (λ (l : List ℕ). (parameter_head p ++ l) ++ rest) (value_parts (value_of p.1))
+        ∙ ap (λ (l : List ℕ). l ++ rest) (sym (append_assoc (parameter_head p) front items))
+        ∙ append_assoc (parameter_head p ++ front) items rest
+        ∙ ap (λ (l : List ℕ). l ++ (items ++ rest)) (sym r)
+        ∙ ap (λ (l : List (List ℕ)). (head ++ tail) ++ (flat_map (λ s. s) l ++ rest)) (sym (items_at ps i p h e))
+
+pub item_piece : (ps : List Parameter) (i j : ℕ) (p : Parameter) (head tail : List ℕ) → i < length ps → p ≡ get_or ps i p
+    → (drop j (value_items (value_of p.1)) ≡ (head ++ tail) ∷ drop (j + 1) (value_items (value_of p.1))) × (0 < length (head ++ tail))
+    → NextPiece ps i (j + 1) head (record { tail = tail; step = 1; part = i; item = j + 2 })
+item_piece ps i j p head tail h e g =
+    let up : j + 1 ≡ suc j = omega arith in
+    let up2 : j + 2 ≡ suc (j + 1) = omega arith in
+    let rest = parameters_from ps (i + 1) in
+    let own = items_at ps i p h e in
+    record {
+      octets = ap (parameters_left ps i) up
+          ∙ ap (λ (l : List (List ℕ)). flat_map (λ s. s) (drop j l) ++ rest) own
+          ∙ ap (λ (l : List (List ℕ)). flat_map (λ s. s) l ++ rest) g.0
+          ∙ append_assoc (head ++ tail) (flat_map (λ s. s) (drop (j + 1) (value_items (value_of p.1)))) rest
+          ∙ ap (λ (l : List (List ℕ)). (head ++ tail) ++ (flat_map (λ s. s) (drop (j + 1) l) ++ rest)) (sym own)
+          ∙ ap (λ (n : ℕ). (head ++ tail) ++ parameters_left ps i n) (sym up2);
+      step = refl;
+      some = g.1;
+    }
+
+-- behind the last item comes the next parameter
+pub after_items : (ps : List Parameter) (i j : ℕ) (p : Parameter) (head : List ℕ) (r : Option Step) → i < length ps → p ≡ get_or ps i p
+    → drop j (value_items (value_of p.1)) ≡ [] → GivesPiece ps (i + 1) 0 head r → GivesPiece ps i (j + 1) head r
+after_items ps i j p head r h e n g = by r g
+  where
+    same : parameters_left ps i (j + 1) ≡ parameters_left ps (i + 1) 0
+    same =
+        let up : j + 1 ≡ suc j = omega arith in
+        let rest = parameters_from ps (i + 1) in
+        ap (parameters_left ps i) up ∙ ap (λ (l : List (List ℕ)). flat_map (λ s. s) (drop j l) ++ rest) (items_at ps i p h e) ∙ ap (λ (l : List (List ℕ)). flat_map (λ s. s) l ++ rest) n
+
+    by : (r : Option Step) → GivesPiece ps (i + 1) 0 head r → GivesPiece ps i (j + 1) head r
+    by None g = (same ∙ g.0, g.1)
+    by (Some s) g = record { octets = same ∙ g.octets; step = g.step; some = g.some }
+
+drop_none : (j : ℕ) → drop j (items_of None) ≡ []
+drop_none zero = refl
+drop_none (suc j) = refl
+
+pub past_items : (ps : List Parameter) (i j : ℕ) (head : List ℕ) → length ps ≤ i → head ≡ [] → (parameters_left ps i (j + 1) ≡ []) × (head ≡ [])
+past_items ps i j head h e =
+    let up : j + 1 ≡ suc j = omega arith in
+    (ap (parameters_left ps i) up ∙ ap (λ (o : Option Parameter). flat_map (λ s. s) (drop j (items_of o)) ++ parameters_from ps (i + 1)) (slice_get_past ps i h)
+        ∙ ap (λ (l : List (List ℕ)). flat_map (λ s. s) l ++ parameters_from ps (i + 1)) (drop_none j) ∙ parameters_end ps (i + 1) (omega (arith, h)), e)
+
+-- ---- the record
+
+pub first_piece : (x : SVCB) (i j : ℕ) (head tail : List ℕ) → head ++ tail ≡ bytes_high_first 2 x.svc_priority ++ field_octets Name x.target_name
+    → StepAt (svcb_left x) 0 i j head (record { tail = tail; step = 1; part = 0; item = 0 })
+unfolding field_octets
+first_piece x i j head tail r = record {
+  octets = sym (append_assoc (bytes_high_first 2 x.svc_priority) (lowname x.target_name) (parameters_from x.svc_params 0 ++ []))
+      ∙ ap (λ (l : List ℕ). l ++ (parameters_from x.svc_params 0 ++ [])) (sym r) ∙ ap (λ (l : List ℕ). (head ++ tail) ++ l) (append-nil (parameters_from x.svc_params 0));
+  after = omega arith;
+  more = omega arith;
+  few = omega arith;
+}
+
+pub next_piece : (x : SVCB) (i j : ℕ) (head : List ℕ) (r : Option Step) → GivesPiece x.svc_params i j head r → GivesStep (svcb_left x) 1 i j head r
+next_piece x i j head None g = record { octets = g.0; nothing = g.1 }
+next_piece x i j head (Some s) g =
+    let back : parameters_left x.svc_params s.part s.item ≡ svcb_left x s.step s.part s.item = ap (λ (n : ℕ). svcb_left x n s.part s.item) (sym g.step) in
+    record {
+      octets = g.octets ∙ ap (λ (l : List ℕ). (head ++ s.tail) ++ l) back;
+      after = omega (arith, g.step);
+      more = omega (arith, g.step, g.some);
+      few = omega (arith, g.step);
+    }

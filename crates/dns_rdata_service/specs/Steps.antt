@@ -1,0 +1,70 @@
+-- The canonical octets of service bindings, step by step: priority and target, and then each parameter, its key, its length
+-- and what stands in one piece, and then item by item what its value lists.
+use Rattle.std.specs.Prelude.{◌≡◌, ℕ, zero, suc, ◌+◌, ◌<◌, Option, Some, None, List, [], ◌∷◌, ◌++◌, length, drop, map, slice_get, true}
+use Rattle.std.specs.List.{flat_map}
+use Rattle.std.specs.Int.{bytes_high_first}
+use Rattle.dns_fields.specs.Pieces.{string, pieces, ParameterValue, Mandatory, Alpn, NoDefaultAlpn, Port, Ipv4Hint, Ipv6Hint, Opaque, parameter_octets, parameters_emittable}
+use Rattle.dns_fields.specs.Fields.{canonical, parameter_pieces}
+use Rattle.dns_pieces.specs.Steps.{Left}
+use Rattle.dns_pieces.specs.declared.step.Step.{Step}
+use Rattle.dns_rdata_service.specs.SvcParamKey.{key_number}
+use Rattle.dns_rdata_service.specs.SvcParamValue.{value_of}
+use Rattle.dns_rdata_service.specs.Parameters.{Parameter, parameter_of}
+use Rattle.dns_rdata_service.specs.SVCB.{svcb_shape, svcb_fields}
+use Rattle.dns_rdata_service.specs.declared.svcb.SVCB.{SVCB}
+
+-- what stands in one piece
+abbrev pub value_front : ParameterValue → List ℕ
+value_front (Port n) = bytes_high_first 2 n
+value_front (Opaque s) = s
+value_front v = []
+
+-- what is listed
+abbrev pub value_items : ParameterValue → List (List ℕ)
+value_items (Mandatory keys) = map (bytes_high_first 2) keys
+value_items (Alpn names) = map string names
+value_items (Ipv4Hint addresses) = addresses
+value_items (Ipv6Hint addresses) = addresses
+value_items v = []
+
+-- key and length
+abbrev pub parameter_head : Parameter → List ℕ
+parameter_head p = bytes_high_first 2 (key_number p.0) ++ bytes_high_first 2 (length (parameter_octets (value_of p.1)))
+
+-- the parameters from number i on
+abbrev pub parameters_from : List Parameter → ℕ → List ℕ
+parameters_from ps i = pieces (parameter_pieces (map parameter_of (drop i ps)))
+
+-- the items of a parameter, where it is there
+abbrev pub items_of : Option Parameter → List (List ℕ)
+items_of None = []
+items_of (Some p) = value_items (value_of p.1)
+
+-- from the head of parameter i on, or from item j of its value on
+abbrev pub parameters_left : List Parameter → ℕ → ℕ → List ℕ
+parameters_left ps i zero = parameters_from ps i
+parameters_left ps i (suc j) = flat_map (λ s. s) (drop j (items_of (slice_get ps i))) ++ parameters_from ps (i + 1)
+
+abbrev pub svcb_left : SVCB → Left
+svcb_left x zero i j = canonical svcb_shape (svcb_fields x)
+svcb_left x (suc zero) i j = parameters_left x.svc_params i j
+svcb_left x (suc (suc n)) i j = []
+
+-- the parameters can be emitted
+abbrev pub are_emittable : List Parameter → Type 0
+are_emittable ps = parameters_emittable (map parameter_of ps) ≡ true
+
+-- item j, in a head and a tail, if there is one
+abbrev pub GivesItem : List (List ℕ) → ℕ → List ℕ → Option (List ℕ) → Type 0
+GivesItem items j head None = (drop j items ≡ []) × (head ≡ [])
+GivesItem items j head (Some tail) = (drop j items ≡ (head ++ tail) ∷ drop (j + 1) items) × (0 < length (head ++ tail))
+
+-- what comes next of the parameters
+pub record NextPiece (ps : List Parameter) (i j : ℕ) (head : List ℕ) (s : Step) : Type 0 where
+  pub octets : parameters_left ps i j ≡ (head ++ s.tail) ++ parameters_left ps s.part s.item
+  pub step : s.step ≡ 1
+  pub some : 0 < length (head ++ s.tail)
+
+abbrev pub GivesPiece : List Parameter → ℕ → ℕ → List ℕ → Option Step → Type 0
+GivesPiece ps i j head None = (parameters_left ps i j ≡ []) × (head ≡ [])
+GivesPiece ps i j head (Some s) = NextPiece ps i j head s

@@ -1,0 +1,328 @@
+//! The canonical octets of service bindings, step by step.
+
+ghost use Rattle.std.specs.Prelude.{◌≡◌, ◌+◌, ◌<◌, ◌≤◌, ◌^◌, ◌++◌, ℕ, [], true, IfSome, List, length, map};
+ghost use Rattle.std.specs.List.{flat_map, list_all};
+ghost use Rattle.std.specs.Prelude.{nat_le};
+ghost use Rattle.std.specs.Int.{bytes_high_first};
+ghost use Rattle.dns_fields.specs.Pieces.{string, parameter_octets, parameter_emittable};
+ghost use Rattle.dns_pieces.specs.Steps.{GivesStep};
+ghost use Rattle.dns_rdata_service.specs.SvcParamKey.{key_number};
+ghost use Rattle.dns_rdata_service.specs.SvcParamValue.{value_of, fits_value, a_octets, aaaa_octets};
+ghost use Rattle.dns_rdata_service.specs.Steps.{parameter_head, value_front, value_items, svcb_left, are_emittable, GivesItem, GivesPiece};
+
+use crate::https::HTTPS;
+use crate::svcb::{SVCB, SvcParamKey, SvcParamValue};
+use dns_names_wire::Octets;
+use dns_pieces::{Head, Step, Tail};
+use dns_rdata_base::{A, AAAA};
+
+// How many octets keys have.
+fn keys_len(keys: &[SvcParamKey]) -> u16
+    requires { length (flat_map (bytes_high_first 2) (map key_number keys.now)) ≤ 65535 }
+    ensures { result ≡ length (flat_map (bytes_high_first 2) (map key_number keys.now)) }
+{
+    let count = keys.len();
+    (2 * count) as u16
+}
+
+// How many octets names have, each behind its length.
+fn names_len(names: &[Octets]) -> u16
+    requires { length (flat_map string names.now) ≤ 65535 }
+    ensures { result ≡ length (flat_map string names.now) }
+{
+    let mut size = 0;
+    for name in names {
+        size += 1 + name.len();
+    }
+    size as u16
+}
+
+// How many octets addresses of four octets have.
+fn hint4_len(addresses: &[A]) -> u16
+    requires { length (flat_map a_octets addresses.now) ≤ 65535 }
+    ensures { result ≡ length (flat_map a_octets addresses.now) }
+{
+    let mut size = 0;
+    for address in addresses {
+        let octets = address.0.octets();
+        size += octets.as_slice().len();
+    }
+    size as u16
+}
+
+// How many octets addresses of sixteen octets have.
+fn hint6_len(addresses: &[AAAA]) -> u16
+    requires { length (flat_map aaaa_octets addresses.now) ≤ 65535 }
+    ensures { result ≡ length (flat_map aaaa_octets addresses.now) }
+{
+    let mut size = 0;
+    for address in addresses {
+        let octets = address.0.octets();
+        size += octets.as_slice().len();
+    }
+    size as u16
+}
+
+// How many octets a value has.
+fn value_len(value: &SvcParamValue) -> u16
+    requires { fits_value (value_of value.now) ≡ true }
+    ensures { result ≡ length (parameter_octets (value_of value.now)) }
+{
+    match value {
+        SvcParamValue::Mandatory(keys) => keys_len(keys.0.as_slice()),
+        SvcParamValue::Alpn(names) => names_len(names.0.as_slice()),
+        SvcParamValue::NoDefaultAlpn => 0,
+        SvcParamValue::Port(_) => 2,
+        SvcParamValue::Ipv4Hint(addresses) => hint4_len(addresses.0.as_slice()),
+        SvcParamValue::EchConfigList(octets) => octets.0.len() as u16,
+        SvcParamValue::Ipv6Hint(addresses) => hint6_len(addresses.0.as_slice()),
+        SvcParamValue::Unknown(octets) => octets.0.len() as u16,
+    }
+}
+
+// The octets of a key.
+#[tactic(auto, unfolding(dns_fields::specs::Fields::field_octets))]
+fn put_key<'a>(key: &'a SvcParamKey, head: &mut Head) -> Tail<'a>
+    requires { head.old ≡ [] }
+    ensures { head.new ++ result ≡ bytes_high_first 2 (key_number key.now) }
+{
+    head.two(u16::from(*key));
+    Tail::none()
+}
+
+// The octets of an address.
+fn put_a<'a>(address: &'a A, head: &mut Head) -> Tail<'a>
+    requires { head.old ≡ [] }
+    ensures octets { head.new ++ result ≡ a_octets address.now }
+    ensures some { 0 < length (head.new ++ result) }
+{
+    head.octets(&address.0.octets());
+    Tail::none()
+}
+
+// The octets of an address.
+fn put_aaaa<'a>(address: &'a AAAA, head: &mut Head) -> Tail<'a>
+    requires { head.old ≡ [] }
+    ensures octets { head.new ++ result ≡ aaaa_octets address.now }
+    ensures some { 0 < length (head.new ++ result) }
+{
+    head.octets(&address.0.octets());
+    Tail::none()
+}
+
+// The key of this number.
+#[tactic(auto, unfolding(dns_fields::specs::Fields::field_octets))]
+fn key_item<'a>(keys: &'a [SvcParamKey], item: usize, head: &mut Head) -> Option<Tail<'a>>
+    requires empty { head.old ≡ [] }
+    ensures item { GivesItem (map (bytes_high_first 2) (map key_number keys.now)) item head.new result }
+    ensures room { IfSome result (λ _. item + 2 < 2 ^ 64) }
+{
+    if item < keys.len() {
+        Some(put_key(&keys[item], head))
+    } else {
+        None
+    }
+}
+
+// The name of this number.
+#[tactic(auto, unfolding(dns_fields::specs::Fields::field_octets))]
+fn name_item<'a>(names: &'a [Octets], item: usize, head: &mut Head) -> Option<Tail<'a>>
+    requires empty { head.old ≡ [] }
+    requires short { list_all (λ s. nat_le (length s) 255) names.now ≡ true }
+    ensures item { GivesItem (map string names.now) item head.new result }
+    ensures room { IfSome result (λ _. item + 2 < 2 ^ 64) }
+{
+    if item < names.len() {
+        Some(head.text(&names[item]))
+    } else {
+        None
+    }
+}
+
+// The address of this number.
+fn hint4_item<'a>(addresses: &'a [A], item: usize, head: &mut Head) -> Option<Tail<'a>>
+    requires empty { head.old ≡ [] }
+    ensures item { GivesItem (map a_octets addresses.now) item head.new result }
+    ensures room { IfSome result (λ _. item + 2 < 2 ^ 64) }
+{
+    if item < addresses.len() {
+        Some(put_a(&addresses[item], head))
+    } else {
+        None
+    }
+}
+
+// The address of this number.
+fn hint6_item<'a>(addresses: &'a [AAAA], item: usize, head: &mut Head) -> Option<Tail<'a>>
+    requires empty { head.old ≡ [] }
+    ensures item { GivesItem (map aaaa_octets addresses.now) item head.new result }
+    ensures room { IfSome result (λ _. item + 2 < 2 ^ 64) }
+{
+    if item < addresses.len() {
+        Some(put_aaaa(&addresses[item], head))
+    } else {
+        None
+    }
+}
+
+// The item of this number in a value.
+fn put_item<'a>(value: &'a SvcParamValue, item: usize, head: &mut Head) -> Option<Tail<'a>>
+    requires empty { head.old ≡ [] }
+    requires emittable { parameter_emittable (value_of value.now) ≡ true }
+    ensures item { GivesItem (value_items (value_of value.now)) item head.new result }
+    ensures room { IfSome result (λ _. item + 2 < 2 ^ 64) }
+{
+    match value {
+        SvcParamValue::Mandatory(keys) => return key_item(keys.0.as_slice(), item, head),
+        SvcParamValue::Alpn(names) => return name_item(names.0.as_slice(), item, head),
+        SvcParamValue::Ipv4Hint(addresses) => return hint4_item(addresses.0.as_slice(), item, head),
+        SvcParamValue::Ipv6Hint(addresses) => return hint6_item(addresses.0.as_slice(), item, head),
+        _ => return None,
+    }
+}
+
+// The item of this number in the value of a parameter.
+fn pair_item<'a>(
+    pair: &'a (SvcParamKey, SvcParamValue),
+    item: usize,
+    head: &mut Head,
+) -> Option<Tail<'a>>
+    requires empty { head.old ≡ [] }
+    requires emittable { parameter_emittable (value_of pair.now.1) ≡ true }
+    ensures item { GivesItem (value_items (value_of pair.now.1)) item head.new result }
+    ensures room { IfSome result (λ _. item + 2 < 2 ^ 64) }
+{
+    put_item(&pair.1, item, head)
+}
+
+// Adds what stands of a value in one piece, or answers it as a tail.
+#[tactic(auto, unfolding(dns_fields::specs::Fields::field_octets))]
+fn put_front<'a>(value: &'a SvcParamValue, head: &mut Head) -> Tail<'a>
+    requires { length head.old ≤ 4 }
+    ensures { head.new ++ result ≡ head.old ++ value_front (value_of value.now) }
+{
+    match value {
+        SvcParamValue::Port(port) => {
+            head.two(*port);
+            return Tail::none();
+        }
+        SvcParamValue::EchConfigList(octets) => return Tail::rest(octets.0.as_slice()),
+        SvcParamValue::Unknown(octets) => return Tail::rest(octets.0.as_slice()),
+        _ => return Tail::none(),
+    }
+}
+
+// The key of a parameter, the length of its value and what stands of that in one piece.
+#[tactic(auto, unfolding(dns_fields::specs::Fields::field_octets))]
+fn pair_head<'a>(pair: &'a (SvcParamKey, SvcParamValue), head: &mut Head) -> Tail<'a>
+    requires empty { head.old ≡ [] }
+    requires fits { fits_value (value_of pair.now.1) ≡ true }
+    ensures { head.new ++ result ≡ parameter_head pair.now ++ value_front (value_of pair.now.1) }
+{
+    head.two(u16::from(pair.0));
+    head.two(value_len(&pair.1));
+    put_front(&pair.1, head)
+}
+
+// The head of the parameter of this number.
+fn head_step<'a>(
+    parameters: &'a [(SvcParamKey, SvcParamValue)],
+    part: usize,
+    head: &mut Head,
+) -> Option<Step<'a>>
+    requires empty { head.old ≡ [] }
+    requires emittable { are_emittable parameters.now }
+    ensures { GivesPiece parameters.now part 0 head.new result }
+{
+    if part >= parameters.len() {
+        return None;
+    }
+    Some(Step {
+        tail: pair_head(&parameters[part], head),
+        step: 1,
+        part,
+        item: 1,
+    })
+}
+
+// An item of the parameter of this number, or the head of the next one.
+fn item_step<'a>(
+    parameters: &'a [(SvcParamKey, SvcParamValue)],
+    part: usize,
+    item: usize,
+    head: &mut Head,
+) -> Option<Step<'a>>
+    requires empty { head.old ≡ [] }
+    requires emittable { are_emittable parameters.now }
+    ensures { GivesPiece parameters.now part (item + 1) head.new result }
+{
+    if part >= parameters.len() {
+        return None;
+    }
+    match pair_item(&parameters[part], item, head) {
+        Some(tail) => Some(Step {
+            tail,
+            step: 1,
+            part,
+            item: item + 2,
+        }),
+        None => head_step(parameters, part + 1, head),
+    }
+}
+
+// What comes next of the parameters.
+fn parameter_step<'a>(
+    parameters: &'a [(SvcParamKey, SvcParamValue)],
+    part: usize,
+    item: usize,
+    head: &mut Head,
+) -> Option<Step<'a>>
+    requires empty { head.old ≡ [] }
+    requires emittable { are_emittable parameters.now }
+    ensures { GivesPiece parameters.now part item head.new result }
+{
+    if item == 0 {
+        head_step(parameters, part, head)
+    } else {
+        item_step(parameters, part, item - 1, head)
+    }
+}
+
+/// Priority and target, and then each parameter: its key, its length and what stands in one piece, and the items of its
+/// value.
+pub fn svcb_step<'a>(
+    x: &'a SVCB,
+    step: usize,
+    part: usize,
+    item: usize,
+    head: &mut Head,
+) -> Option<Step<'a>>
+    requires empty { head.old ≡ [] }
+    requires emittable { are_emittable x.now.svc_params }
+    ensures { GivesStep (svcb_left x.now) step part item head.new result }
+{
+    match step {
+        0 => {
+            head.two(x.svc_priority);
+            Some(Step::to(Tail::name(&x.target_name), 1))
+        }
+        1 => parameter_step(x.svc_params.as_slice(), part, item, head),
+        _ => None,
+    }
+}
+
+/// As SVCB.
+#[inline]
+pub fn https_step<'a>(
+    x: &'a HTTPS,
+    step: usize,
+    part: usize,
+    item: usize,
+    head: &mut Head,
+) -> Option<Step<'a>>
+    requires empty { head.old ≡ [] }
+    requires emittable { are_emittable x.now.0.svc_params }
+    ensures { GivesStep (svcb_left x.now.0) step part item head.new result }
+{
+    svcb_step(&x.0, step, part, item, head)
+}

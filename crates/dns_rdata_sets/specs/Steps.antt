@@ -1,0 +1,24 @@
+-- The steps of records with sets of types, and of CAA.
+use Rattle.std.specs.Prelude.{ℕ, zero, suc, List, [], ◌∷◌, length, drop}
+use Rattle.std.specs.List.{flat_map}
+use Rattle.dns_fields.specs.Bitmaps.{block, minimal}
+use Rattle.dns_fields.specs.Fields.{canonical}
+use Rattle.dns_pieces.specs.Steps.{Left}
+use Rattle.dns_rdata_sets.specs.CSYNC.{csync_shape, csync_fields}
+use Rattle.dns_rdata_sets.specs.declared.csync.CSYNC.{CSYNC}
+
+-- flags and tag, the value
+abbrev pub caa_begins : List ℕ
+caa_begins = 0 ∷ 2 ∷ []
+
+-- serial and flags, and then the windows of the types from one of them on
+abbrev pub csync_left : CSYNC → Left
+csync_left x zero i j = canonical csync_shape (csync_fields x)
+csync_left x (suc zero) i j = flat_map block (minimal (drop i x.type_bit_maps))
+csync_left x (suc (suc n)) i j = []
+
+-- how many windows are not begun
+abbrev pub csync_windows : CSYNC → ℕ → ℕ → ℕ
+csync_windows x zero i = length (minimal x.type_bit_maps)
+csync_windows x (suc zero) i = length (minimal (drop i x.type_bit_maps))
+csync_windows x (suc (suc n)) i = 0
