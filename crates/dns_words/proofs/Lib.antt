@@ -1,0 +1,4 @@
+pub mod Steps
+pub mod Printed
+pub mod ListWords
+pub mod Ttls
