@@ -7,3 +7,4 @@ pub mod FieldsBehind
 pub mod SoaValues
 pub mod NumberedLaws
 pub mod Texts
+pub mod WordsBack

@@ -14,3 +14,4 @@ pub mod SRV
 pub mod TXT
 pub mod Taking
 pub mod Steps
+pub mod WordRows

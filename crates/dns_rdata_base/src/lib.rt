@@ -18,6 +18,7 @@ pub mod steps;
 mod tests;
 pub mod traits;
 pub mod txt;
+mod words;
 
 pub use a::A;
 pub use aaaa::AAAA;

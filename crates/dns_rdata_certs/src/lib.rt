@@ -9,6 +9,7 @@ pub mod steps;
 #[cfg(test)]
 mod tests;
 pub mod tlsa;
+mod words;
 
 pub use cert::CERT;
 pub use hexadecimal::HEX;

@@ -12,3 +12,4 @@ pub mod CsyncValues
 mod IssuerSteps
 mod Issuers
 mod Splitting
+pub mod WordTypes

@@ -3,3 +3,4 @@ pub mod CSYNC
 pub mod RecordTypeSet
 pub mod Issuer
 pub mod Steps
+pub mod WordRows

@@ -7,6 +7,7 @@ pub mod record_type_set;
 pub mod steps;
 #[cfg(test)]
 mod tests;
+mod words;
 
 pub use caa::CAA;
 pub use csync::CSYNC;
