@@ -1,4 +1,5 @@
 pub mod Splits
+pub mod KeyTexts
 pub mod Refusals
 pub mod ValueReads
 pub mod EachReads

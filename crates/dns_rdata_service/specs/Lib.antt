@@ -1,4 +1,5 @@
 pub mod SvcParamKey
+pub mod KeyTexts
 pub mod Emitting
 pub mod Hints
 pub mod SvcParamValue

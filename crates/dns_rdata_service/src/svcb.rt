@@ -8,6 +8,7 @@ mod alpn;
 mod ech_config_list;
 mod ip_hint;
 mod key;
+mod key_text;
 mod mandatory;
 mod parameters;
 mod unknown;
