@@ -4,6 +4,7 @@ pub mod Emitting
 pub mod Hints
 pub mod SvcParamValue
 pub mod Parameters
+pub mod ParameterWords
 pub mod SVCB
 pub mod OwnKeys
 pub mod Hashing
