@@ -12,3 +12,4 @@ pub mod Walks
 pub mod InOrder
 pub mod Values
 pub mod ChoiceSteps
+pub mod NetTexts

@@ -1,4 +1,7 @@
 pub mod Splits
+pub mod KeyTexts
+pub mod ItemLists
+pub mod ParameterWords
 pub mod Refusals
 pub mod ValueReads
 pub mod EachReads

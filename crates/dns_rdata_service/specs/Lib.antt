@@ -1,8 +1,10 @@
 pub mod SvcParamKey
+pub mod KeyTexts
 pub mod Emitting
 pub mod Hints
 pub mod SvcParamValue
 pub mod Parameters
+pub mod ParameterWords
 pub mod SVCB
 pub mod OwnKeys
 pub mod Hashing

@@ -1,0 +1,25 @@
+-- Texts of keys of service parameters (RFC 9460, 2.1 and 14.3.2).
+use Rattle.std.specs.Prelude.{◌≡◌, ◌≢◌, ℕ, ◌^◌, ◌<◌, List, ◌++◌, codes}
+use Rattle.std.specs.Str.Parse.{IsNumeral, digits_value, without_leading_plus}
+use Rattle.dns_rdata_service.specs.SvcParamKey.{key_text}
+use Rattle.dns_rdata_service.specs.declared.svcb.key.SvcParamKey.{SvcParamKey}
+use Rattle.dns_rdata_service.specs.declared.svcb.key.SvcParamKey.TheVariants.{Key, Key65535, Unknown}
+
+-- An optional `+` and one decimal digit or more, leading zeros allowed, of a number of so many bits.
+pub record IsNumberWord (bits n : ℕ) (word : List ℕ) : Type 0 where
+  pub digits : IsNumeral 10 (without_leading_plus word)
+  pub value : n ≡ digits_value 10 (without_leading_plus word)
+  pub fits : n < 2 ^ bits
+
+-- `key` and a number of 16 bits
+pub record IsNumberedKey (text : List ℕ) (n : ℕ) : Type 0 where
+  pub digits : List ℕ
+  pub spelled : text ≡ codes "key" ++ digits
+  pub number : IsNumberWord 16 n digits
+
+-- A key with a name of its own has that text; `key` and a number is the key of this number but for `key65535`. No text is
+-- of a key of another number.
+abbrev pub IsKeyText : List ℕ → SvcParamKey → Type 0
+IsKeyText text (Key n) = IsNumberedKey text n × (text ≢ key_text Key65535)
+IsKeyText text (Unknown n) = ⊥
+IsKeyText text key = text ≡ key_text key
