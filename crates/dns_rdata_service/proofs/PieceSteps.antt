@@ -1,5 +1,5 @@
 -- Parameters, piece by piece.
-use Rattle.std.proofs.Common.{◌≡◌, ℕ, zero, suc, ◌+◌, ◌*◌, ◌<◌, ◌≤◌, ◌&&◌, nat_le, Bool, true, false, not, ◌==◌, Option, Some, None, List, [], ◌∷◌, ◌++◌}
+use Rattle.std.proofs.Common.{◌≡◌, ◌≢◌, ℕ, zero, suc, ◌+◌, ◌*◌, ◌<◌, ◌≤◌, ◌&&◌, nat_le, Bool, true, false, not, ◌==◌, Option, Some, None, List, [], ◌∷◌, ◌++◌}
 use Rattle.std.proofs.Common.{length, get_or, drop, map, slice_get, refl, sym, ap, ◌∙◌, subst, arith, append_assoc, length-append}
 use native.Mathlib.Nat.{mul-suc}
 use Rattle.std.proofs.lemmas.Bool.Decides.{nat_tests}
@@ -8,7 +8,7 @@ use Rattle.std.proofs.lemmas.Option.{slice_get-get_or, slice_get_past}
 use Rattle.std.specs.List.{flat_map, list_all}
 use Rattle.std.specs.Int.{bytes_high_first}
 use Rattle.std.specs.Cmp.{first_so, second_so}
-use Rattle.dns_fields.specs.Pieces.{string, piece, pieces, as_piece, ParameterValue, Mandatory, Alpn, NoDefaultAlpn, Port, Ipv4Hint, Ipv6Hint, Opaque, parameter_octets, parameter_emittable, rising}
+use Rattle.dns_fields.specs.Pieces.{string, piece, pieces, as_piece, ParameterValue, Mandatory, Alpn, NoDefaultAlpn, Port, Ipv4Hint, Ipv6Hint, Opaque, parameter_octets, parameter_emittable, rising, is_some as some_name}
 use Rattle.dns_fields.specs.Fields.{Name, field_octets, parameter_pieces}
 use Rattle.dns_pieces.specs.declared.step.Step.{Step}
 use Rattle.dns_pieces.specs.Steps.{GivesStep, StepAt, Ended}
@@ -250,3 +250,28 @@ keys_decide (x ∷ ns) n r e h =
   where
     both : (n : ℕ) → 0 < n → (not (n == 0) && nat_le n 32767) ≡ (nat_le (2 * n) 65535 && true)
     both n h = grind (arith, nat_tests, h)
+
+pub keys_then : (ns : List ℕ) (n : ℕ) → n ≡ length ns → n ≢ 0 → nat_le n 32767 ≡ fits_value (Mandatory ns)
+keys_then ns n e h = keys_decide ns n (nat_le n 32767) e (some n h)
+  where
+    some : (n : ℕ) → n ≢ 0 → nat_le n 32767 ≡ (not (n == 0) && nat_le n 32767)
+    some n h = grind (arith, nat_tests, h)
+
+and_none : (a : Bool) → a && false ≡ false
+and_none true = refl
+and_none false = refl
+
+pub names_long : (names : List (List ℕ)) → list_all (λ s. nat_le (length s) 255) names ≡ false → false ≡ fits_value (Alpn names)
+names_long names h =
+    let e : some_name names && list_all (λ s. nat_le (length s) 255) names ≡ false = ap (λ b. some_name names && b) h ∙ and_none (some_name names) in
+    sym (ap (λ b. nat_le (length (flat_map string names)) 65535 && b) e ∙ and_none (nat_le (length (flat_map string names)) 65535))
+
+pub names_end : (names : List (List ℕ)) (size : ℕ) → size ≡ length (flat_map string names) → size ≤ 65535 → list_all (λ s. nat_le (length s) 255) names ≡ true
+    → not (size == 0) ≡ fits_value (Alpn names)
+names_end [] size e h a = ap (λ n. not (n == 0)) e
+names_end (x ∷ names) size e h a =
+    let t : true ≡ nat_le (length (flat_map string (x ∷ names))) 65535 = few_enough (length (flat_map string (x ∷ names))) (omega (arith, e, h)) in
+    not_none size (omega (arith, e)) ∙ rw (← t, a) refl
+  where
+    not_none : (n : ℕ) → 0 < n → not (n == 0) ≡ true
+    not_none n h = grind (arith, nat_tests, h)

@@ -4,7 +4,7 @@ ghost use Rattle.std.specs.Prelude.{◌≡◌, ◌+◌, ◌<◌, ◌≤◌, ◌^
 ghost use Rattle.std.specs.List.{flat_map, list_all};
 ghost use Rattle.std.specs.Prelude.{nat_le};
 ghost use Rattle.std.specs.Int.{bytes_high_first};
-ghost use Rattle.dns_fields.specs.Pieces.{string, parameter_octets, parameter_emittable, parameters_emittable, rising};
+ghost use Rattle.dns_fields.specs.Pieces.{string, parameter_octets, parameter_emittable, parameters_emittable, rising, rising_behind};
 ghost use Rattle.dns_fields.specs.Pieces.{Mandatory as MandatoryKeys, Alpn as Names};
 ghost use Rattle.dns_rdata_service.specs.Parameters.{parameter_of};
 ghost use Rattle.dns_pieces.specs.Steps.{GivesStep};
@@ -426,6 +426,21 @@ fn pair_number(pair: &(SvcParamKey, SvcParamValue)) -> u16
     u16::from(pair.0)
 }
 
+// Whether the numbers of the keys rise behind this one.
+fn keys_rise_behind(last: u16, parameters: &[(SvcParamKey, SvcParamValue)]) -> bool
+    ensures { result ≡ rising_behind last (map parameter_of parameters.now) }
+{
+    let mut before = last;
+    for pair in parameters {
+        let number = pair_number(pair);
+        if number <= before {
+            return false;
+        }
+        before = number;
+    }
+    true
+}
+
 // Whether the numbers of the keys rise.
 fn keys_rise(parameters: &[(SvcParamKey, SvcParamValue)]) -> bool
     ensures { result ≡ rising (map parameter_of parameters.now) }
@@ -433,15 +448,8 @@ fn keys_rise(parameters: &[(SvcParamKey, SvcParamValue)]) -> bool
     if parameters.len() == 0 {
         return true;
     }
-    let mut last = pair_number(&parameters[0]);
-    for pair in &parameters[1..] {
-        let number = pair_number(pair);
-        if number <= last {
-            return false;
-        }
-        last = number;
-    }
-    true
+    let first = pair_number(&parameters[0]);
+    keys_rise_behind(first, &parameters[1..])
 }
 
 /// Whether the keys rise, and each value can be emitted: there are keys and protocols where these are the value, no
