@@ -2,7 +2,7 @@
 
 ghost use Rattle.std.specs.Prelude.{◌≡◌, ◌<◌, ℕ, [], ◌∷◌, length};
 ghost use Rattle.std.specs.List.{AllByRecursion};
-ghost use Rattle.dns_fields.specs.Fields.{Rest, canonical};
+ghost use Rattle.dns_fields.specs.Fields.{Rest, all_emittable, canonical};
 ghost use Rattle.dns_pieces.specs.Steps.{AllShort, GivesStep, by_fields};
 ghost use Rattle.dns_rdata_base.specs.A.{a_shape, a_fields};
 ghost use Rattle.dns_rdata_base.specs.AAAA.{aaaa_shape, aaaa_fields};
@@ -203,4 +203,33 @@ fn text_step<'a>(texts: &'a [Octets], part: usize, head: &mut Head) -> Option<St
     } else {
         None
     }
+}
+
+/// Whether no string has more than 255 octets.
+#[inline]
+pub fn hinfo_is_emittable(x: &HINFO) -> bool
+    ensures { result ≡ all_emittable hinfo_shape (hinfo_fields x.now) }
+{
+    x.cpu.len() <= 255 && x.os.len() <= 255
+}
+
+/// Whether no string has more than 255 octets.
+#[inline]
+pub fn naptr_is_emittable(x: &NAPTR) -> bool
+    ensures { result ≡ all_emittable naptr_shape (naptr_fields x.now) }
+{
+    x.flags.len() <= 255 && x.services.len() <= 255 && x.regexp.len() <= 255
+}
+
+/// Whether no string has more than 255 octets.
+#[inline]
+pub fn txt_is_emittable(x: &TXT) -> bool
+    ensures { result ≡ all_emittable txt_shape (txt_fields x.now) }
+{
+    for text in x.txt_data.as_slice() {
+        if text.len() > 255 {
+            return false;
+        }
+    }
+    true
 }

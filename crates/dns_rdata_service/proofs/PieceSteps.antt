@@ -1,5 +1,5 @@
 -- Parameters, piece by piece.
-use Rattle.std.proofs.Common.{◌≡◌, ℕ, zero, suc, ◌+◌, ◌*◌, ◌<◌, ◌≤◌, ◌&&◌, nat_le, Bool, true, false, Option, Some, None, List, [], ◌∷◌, ◌++◌}
+use Rattle.std.proofs.Common.{◌≡◌, ◌≢◌, ℕ, zero, suc, ◌+◌, ◌*◌, ◌<◌, ◌≤◌, ◌&&◌, nat_le, Bool, true, false, not, ◌==◌, Option, Some, None, List, [], ◌∷◌, ◌++◌}
 use Rattle.std.proofs.Common.{length, get_or, drop, map, slice_get, refl, sym, ap, ◌∙◌, subst, arith, append_assoc, length-append}
 use native.Mathlib.Nat.{mul-suc}
 use Rattle.std.proofs.lemmas.Bool.Decides.{nat_tests}
@@ -8,7 +8,7 @@ use Rattle.std.proofs.lemmas.Option.{slice_get-get_or, slice_get_past}
 use Rattle.std.specs.List.{flat_map, list_all}
 use Rattle.std.specs.Int.{bytes_high_first}
 use Rattle.std.specs.Cmp.{first_so, second_so}
-use Rattle.dns_fields.specs.Pieces.{string, piece, pieces, as_piece, ParameterValue, Mandatory, Alpn, NoDefaultAlpn, Port, Ipv4Hint, Ipv6Hint, Opaque, parameter_octets, parameter_emittable, rising}
+use Rattle.dns_fields.specs.Pieces.{string, piece, pieces, as_piece, ParameterValue, Mandatory, Alpn, NoDefaultAlpn, Port, Ipv4Hint, Ipv6Hint, Opaque, parameter_octets, parameter_emittable, rising, is_some as some_name}
 use Rattle.dns_fields.specs.Fields.{Name, field_octets, parameter_pieces}
 use Rattle.dns_pieces.specs.declared.step.Step.{Step}
 use Rattle.dns_pieces.specs.Steps.{GivesStep, StepAt, Ended}
@@ -109,14 +109,14 @@ value_parts (Ipv4Hint addresses) = refl
 value_parts (Ipv6Hint addresses) = refl
 value_parts (Opaque s) = sym (append-nil s)
 
-each_fits : (ps : List Parameter) (i : ℕ) (p : Parameter) → list_all (λ x. nat_le (length (parameter_octets x.1)) 65535 && parameter_emittable x.1) (map parameter_of ps) ≡ true
+fits_each : (ps : List Parameter) (i : ℕ) (p : Parameter) → list_all (λ x. nat_le (length (parameter_octets x.1)) 65535 && parameter_emittable x.1) (map parameter_of ps) ≡ true
     → i < length ps → p ≡ get_or ps i p → fits_value (value_of p.1) ≡ true
-each_fits [] i p a h e = absurd (omega (arith, h))
-each_fits (q ∷ ps) zero p a h e = rw e (first_so (fits_value (value_of q.1)) (list_all (λ x. nat_le (length (parameter_octets x.1)) 65535 && parameter_emittable x.1) (map parameter_of ps)) a)
-each_fits (q ∷ ps) (suc i) p a h e = each_fits ps i p (second_so (fits_value (value_of q.1)) (list_all (λ x. nat_le (length (parameter_octets x.1)) 65535 && parameter_emittable x.1) (map parameter_of ps)) a) (omega (arith, h)) e
+fits_each [] i p a h e = absurd (omega (arith, h))
+fits_each (q ∷ ps) zero p a h e = rw e (first_so (fits_value (value_of q.1)) (list_all (λ x. nat_le (length (parameter_octets x.1)) 65535 && parameter_emittable x.1) (map parameter_of ps)) a)
+fits_each (q ∷ ps) (suc i) p a h e = fits_each ps i p (second_so (fits_value (value_of q.1)) (list_all (λ x. nat_le (length (parameter_octets x.1)) 65535 && parameter_emittable x.1) (map parameter_of ps)) a) (omega (arith, h)) e
 
 pub fits_at : (ps : List Parameter) (i : ℕ) (p : Parameter) → are_emittable ps → i < length ps → p ≡ get_or ps i p → fits_value (value_of p.1) ≡ true
-fits_at ps i p a h e = each_fits ps i p (first_so (list_all (λ x. nat_le (length (parameter_octets x.1)) 65535 && parameter_emittable x.1) (map parameter_of ps)) (rising (map parameter_of ps)) a) h e
+fits_at ps i p a h e = fits_each ps i p (first_so (list_all (λ x. nat_le (length (parameter_octets x.1)) 65535 && parameter_emittable x.1) (map parameter_of ps)) (rising (map parameter_of ps)) a) h e
 
 pub emittable_at : (ps : List Parameter) (i : ℕ) (p : Parameter) → are_emittable ps → i < length ps → p ≡ get_or ps i p → parameter_emittable (value_of p.1) ≡ true
 emittable_at ps i p a h e = second_so (nat_le (length (parameter_octets (value_of p.1))) 65535) (parameter_emittable (value_of p.1)) (fits_at ps i p a h e)
@@ -219,3 +219,59 @@ next_piece x i j head (Some s) g =
       more = omega (arith, g.step, g.some);
       few = omega (arith, g.step);
     }
+
+-- ---- what can be emitted
+
+pub too_many : (size rest total : ℕ) (b : Bool) → size + rest ≡ total → 65535 < size → false ≡ (nat_le total 65535 && b)
+too_many size rest total b e h = let f : nat_le total 65535 ≡ false = past total (omega (arith, e, h)) in rw f refl
+  where
+    past : (n : ℕ) → 65535 < n → nat_le n 65535 ≡ false
+    past n h = grind (arith, nat_tests, h)
+
+pub many_alone : (size rest total : ℕ) → size + rest ≡ total → 65535 < size → false ≡ nat_le total 65535
+many_alone size rest total e h = past total (omega (arith, e, h))
+  where
+    past : (n : ℕ) → 65535 < n → false ≡ nat_le n 65535
+    past n h = grind (arith, nat_tests, h)
+
+pub few_enough : (total : ℕ) → total ≤ 65535 → true ≡ nat_le total 65535
+few_enough total h = grind (arith, nat_tests, h)
+
+-- without the last
+pub with_true : (b : Bool) → b && true ≡ b
+with_true true = refl
+with_true false = refl
+
+pub keys_decide : (ns : List ℕ) (n : ℕ) (r : Bool) → n ≡ length ns → r ≡ (not (n == 0) && nat_le n 32767) → r ≡ fits_value (Mandatory ns)
+keys_decide [] n r e h = h ∙ ap (λ k. not (k == 0) && nat_le k 32767) e
+keys_decide (x ∷ ns) n r e h =
+    let s = numbers_size (x ∷ ns) in
+    h ∙ ap (λ k. not (k == 0) && nat_le k 32767) e ∙ both (length (x ∷ ns)) (omega arith) ∙ ap (λ k. nat_le k 65535 && true) (sym s)
+  where
+    both : (n : ℕ) → 0 < n → (not (n == 0) && nat_le n 32767) ≡ (nat_le (2 * n) 65535 && true)
+    both n h = grind (arith, nat_tests, h)
+
+pub keys_then : (ns : List ℕ) (n : ℕ) → n ≡ length ns → n ≢ 0 → nat_le n 32767 ≡ fits_value (Mandatory ns)
+keys_then ns n e h = keys_decide ns n (nat_le n 32767) e (some n h)
+  where
+    some : (n : ℕ) → n ≢ 0 → nat_le n 32767 ≡ (not (n == 0) && nat_le n 32767)
+    some n h = grind (arith, nat_tests, h)
+
+and_none : (a : Bool) → a && false ≡ false
+and_none true = refl
+and_none false = refl
+
+pub names_long : (names : List (List ℕ)) → list_all (λ s. nat_le (length s) 255) names ≡ false → false ≡ fits_value (Alpn names)
+names_long names h =
+    let e : some_name names && list_all (λ s. nat_le (length s) 255) names ≡ false = ap (λ b. some_name names && b) h ∙ and_none (some_name names) in
+    sym (ap (λ b. nat_le (length (flat_map string names)) 65535 && b) e ∙ and_none (nat_le (length (flat_map string names)) 65535))
+
+pub names_end : (names : List (List ℕ)) (size : ℕ) → size ≡ length (flat_map string names) → size ≤ 65535 → list_all (λ s. nat_le (length s) 255) names ≡ true
+    → not (size == 0) ≡ fits_value (Alpn names)
+names_end [] size e h a = ap (λ n. not (n == 0)) e
+names_end (x ∷ names) size e h a =
+    let t : true ≡ nat_le (length (flat_map string (x ∷ names))) 65535 = few_enough (length (flat_map string (x ∷ names))) (omega (arith, e, h)) in
+    not_none size (omega (arith, e)) ∙ rw (← t, a) refl
+  where
+    not_none : (n : ℕ) → 0 < n → not (n == 0) ≡ true
+    not_none n h = grind (arith, nat_tests, h)

@@ -1,9 +1,9 @@
 -- The canonical octets of service bindings, step by step: priority and target, and then each parameter, its key, its length
 -- and what stands in one piece, and then item by item what its value lists.
-use Rattle.std.specs.Prelude.{◌≡◌, ℕ, zero, suc, ◌+◌, ◌<◌, Option, Some, None, List, [], ◌∷◌, ◌++◌, length, drop, map, slice_get, true}
-use Rattle.std.specs.List.{flat_map}
+use Rattle.std.specs.Prelude.{◌≡◌, ℕ, zero, suc, ◌+◌, ◌<◌, ◌&&◌, nat_le, Bool, Option, Some, None, List, [], ◌∷◌, ◌++◌, length, drop, map, slice_get, true}
+use Rattle.std.specs.List.{flat_map, list_all}
 use Rattle.std.specs.Int.{bytes_high_first}
-use Rattle.dns_fields.specs.Pieces.{string, pieces, ParameterValue, Mandatory, Alpn, NoDefaultAlpn, Port, Ipv4Hint, Ipv6Hint, Opaque, parameter_octets, parameters_emittable}
+use Rattle.dns_fields.specs.Pieces.{string, pieces, ParameterValue, Mandatory, Alpn, NoDefaultAlpn, Port, Ipv4Hint, Ipv6Hint, Opaque, parameter_octets, parameter_emittable, parameters_emittable}
 use Rattle.dns_fields.specs.Fields.{canonical, parameter_pieces}
 use Rattle.dns_pieces.specs.Steps.{Left}
 use Rattle.dns_pieces.specs.declared.step.Step.{Step}
@@ -53,6 +53,10 @@ svcb_left x (suc (suc n)) i j = []
 -- the parameters can be emitted
 abbrev pub are_emittable : List Parameter → Type 0
 are_emittable ps = parameters_emittable (map parameter_of ps) ≡ true
+
+-- each value can be emitted
+abbrev pub each_fits : List Parameter → Bool
+each_fits ps = list_all (λ x. nat_le (length (parameter_octets x.1)) 65535 && parameter_emittable x.1) (map parameter_of ps)
 
 -- item j, in a head and a tail, if there is one
 abbrev pub GivesItem : List (List ℕ) → ℕ → List ℕ → Option (List ℕ) → Type 0

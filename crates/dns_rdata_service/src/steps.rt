@@ -4,11 +4,13 @@ ghost use Rattle.std.specs.Prelude.{◌≡◌, ◌+◌, ◌<◌, ◌≤◌, ◌^
 ghost use Rattle.std.specs.List.{flat_map, list_all};
 ghost use Rattle.std.specs.Prelude.{nat_le};
 ghost use Rattle.std.specs.Int.{bytes_high_first};
-ghost use Rattle.dns_fields.specs.Pieces.{string, parameter_octets, parameter_emittable};
+ghost use Rattle.dns_fields.specs.Pieces.{string, parameter_octets, parameter_emittable, parameters_emittable, rising, rising_behind};
+ghost use Rattle.dns_fields.specs.Pieces.{Mandatory as MandatoryKeys, Alpn as Names};
+ghost use Rattle.dns_rdata_service.specs.Parameters.{parameter_of};
 ghost use Rattle.dns_pieces.specs.Steps.{GivesStep};
 ghost use Rattle.dns_rdata_service.specs.SvcParamKey.{key_number};
 ghost use Rattle.dns_rdata_service.specs.SvcParamValue.{value_of, fits_value, a_octets, aaaa_octets};
-ghost use Rattle.dns_rdata_service.specs.Steps.{parameter_head, value_front, value_items, svcb_left, are_emittable, GivesItem, GivesPiece};
+ghost use Rattle.dns_rdata_service.specs.Steps.{parameter_head, value_front, value_items, svcb_left, are_emittable, each_fits, GivesItem, GivesPiece};
 
 use crate::https::HTTPS;
 use crate::svcb::{SVCB, SvcParamKey, SvcParamValue};
@@ -325,4 +327,136 @@ pub fn https_step<'a>(
     ensures { GivesStep (svcb_left x.now.0) step part item head.new result }
 {
     svcb_step(&x.0, step, part, item, head)
+}
+
+// Whether there are keys, of at most 65535 octets.
+fn keys_fit(keys: &[SvcParamKey]) -> bool
+    ensures { result ≡ fits_value (MandatoryKeys (map key_number keys.now)) }
+{
+    keys.len() != 0 && keys.len() <= 32767
+}
+
+// Whether there are names, each of at most 255 octets and all of at most 65535 with their lengths.
+fn names_fit(names: &[Octets]) -> bool
+    ensures { result ≡ fits_value (Names names.now) }
+{
+    let mut size = 0;
+    for name in names {
+        let len = name.len();
+        if len > 255 {
+            return false;
+        }
+        size += 1 + len;
+        if size > 65535 {
+            return false;
+        }
+    }
+    size != 0
+}
+
+// Whether the addresses have at most 65535 octets.
+fn hint4_fits(addresses: &[A]) -> bool
+    ensures { result ≡ nat_le (length (flat_map a_octets addresses.now)) 65535 }
+{
+    let mut size = 0;
+    for address in addresses {
+        let octets = address.0.octets();
+        size += octets.as_slice().len();
+        if size > 65535 {
+            return false;
+        }
+    }
+    true
+}
+
+// Whether the addresses have at most 65535 octets.
+fn hint6_fits(addresses: &[AAAA]) -> bool
+    ensures { result ≡ nat_le (length (flat_map aaaa_octets addresses.now)) 65535 }
+{
+    let mut size = 0;
+    for address in addresses {
+        let octets = address.0.octets();
+        size += octets.as_slice().len();
+        if size > 65535 {
+            return false;
+        }
+    }
+    true
+}
+
+// Whether a value can be emitted.
+fn value_fits(value: &SvcParamValue) -> bool
+    ensures { result ≡ fits_value (value_of value.now) }
+{
+    match value {
+        SvcParamValue::Mandatory(keys) => keys_fit(keys.0.as_slice()),
+        SvcParamValue::Alpn(names) => names_fit(names.0.as_slice()),
+        SvcParamValue::NoDefaultAlpn => true,
+        SvcParamValue::Port(_) => true,
+        SvcParamValue::Ipv4Hint(addresses) => hint4_fits(addresses.0.as_slice()),
+        SvcParamValue::EchConfigList(octets) => octets.0.len() <= 65535,
+        SvcParamValue::Ipv6Hint(addresses) => hint6_fits(addresses.0.as_slice()),
+        SvcParamValue::Unknown(octets) => octets.0.len() <= 65535,
+    }
+}
+
+// Whether the value of a parameter can be emitted.
+fn pair_fits(pair: &(SvcParamKey, SvcParamValue)) -> bool
+    ensures { result ≡ fits_value (value_of pair.now.1) }
+{
+    value_fits(&pair.1)
+}
+
+// Whether each value can be emitted.
+fn values_fit(parameters: &[(SvcParamKey, SvcParamValue)]) -> bool
+    ensures { result ≡ each_fits parameters.now }
+{
+    for pair in parameters {
+        if !pair_fits(pair) {
+            return false;
+        }
+    }
+    true
+}
+
+// The number of a parameter's key.
+fn pair_number(pair: &(SvcParamKey, SvcParamValue)) -> u16
+    ensures { result ≡ key_number pair.now.0 }
+{
+    u16::from(pair.0)
+}
+
+// Whether the numbers of the keys rise behind this one.
+fn keys_rise_behind(last: u16, parameters: &[(SvcParamKey, SvcParamValue)]) -> bool
+    ensures { result ≡ rising_behind last (map parameter_of parameters.now) }
+{
+    let mut before = last;
+    for pair in parameters {
+        let number = pair_number(pair);
+        if number <= before {
+            return false;
+        }
+        before = number;
+    }
+    true
+}
+
+// Whether the numbers of the keys rise.
+fn keys_rise(parameters: &[(SvcParamKey, SvcParamValue)]) -> bool
+    ensures { result ≡ rising (map parameter_of parameters.now) }
+{
+    if parameters.len() == 0 {
+        return true;
+    }
+    let first = pair_number(&parameters[0]);
+    keys_rise_behind(first, &parameters[1..])
+}
+
+/// Whether the keys rise, and each value can be emitted: there are keys and protocols where these are the value, no
+/// protocol has more than 255 octets, and no value more than 65535.
+pub fn svcb_is_emittable(x: &SVCB) -> bool
+    ensures { result ≡ parameters_emittable (map parameter_of x.now.svc_params) }
+{
+    let parameters = x.svc_params.as_slice();
+    values_fit(parameters) && keys_rise(parameters)
 }

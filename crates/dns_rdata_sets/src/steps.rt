@@ -2,6 +2,7 @@
 
 ghost use Rattle.std.specs.Prelude.{◌≡◌, ◌<◌, ◌≤◌, ◌+◌, ℕ, [], ◌∷◌, length, take, drop};
 ghost use Rattle.dns_fields.specs.Bitmaps.{IsTypeSet, minimal};
+ghost use Rattle.dns_fields.specs.Fields.{all_emittable};
 ghost use Rattle.dns_pieces.specs.Steps.{AllShort, CountsPasses, GivesStep, by_fields};
 ghost use Rattle.dns_rdata_sets.specs.CAA.{caa_shape, caa_fields};
 ghost use Rattle.dns_rdata_sets.specs.Steps.{caa_begins, csync_left, csync_windows};
@@ -94,4 +95,12 @@ fn next_window(numbers: &[u16], passes: &mut Count) -> Window
 {
     passes.tick();
     first_window(numbers)
+}
+
+/// Whether the tag has at most 255 octets.
+#[inline]
+pub fn caa_is_emittable(x: &CAA) -> bool
+    ensures { result ≡ all_emittable caa_shape (caa_fields x.now) }
+{
+    x.tag.len() <= 255
 }
