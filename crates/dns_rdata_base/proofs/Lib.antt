@@ -6,3 +6,4 @@ pub mod Lacking
 pub mod FieldsBehind
 pub mod SoaValues
 pub mod NumberedLaws
+pub mod WordsBack

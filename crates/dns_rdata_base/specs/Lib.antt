@@ -13,3 +13,4 @@ pub mod SOA
 pub mod SRV
 pub mod TXT
 pub mod Taking
+pub mod WordRows

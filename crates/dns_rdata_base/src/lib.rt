@@ -17,6 +17,7 @@ pub mod srv;
 mod tests;
 pub mod traits;
 pub mod txt;
+mod words;
 
 pub use a::A;
 pub use aaaa::AAAA;

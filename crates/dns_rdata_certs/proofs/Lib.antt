@@ -2,3 +2,4 @@ mod HexText
 pub mod Numbers
 pub mod Values
 mod Wholes
+pub mod WordsBack

@@ -11,3 +11,4 @@ pub mod SSHFP
 pub mod Selector
 pub mod SshfpAlgorithm
 pub mod TLSA
+pub mod WordRows

@@ -8,6 +8,7 @@ pub mod sshfp;
 #[cfg(test)]
 mod tests;
 pub mod tlsa;
+mod words;
 
 pub use cert::CERT;
 pub use hexadecimal::HEX;

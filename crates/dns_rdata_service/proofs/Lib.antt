@@ -16,3 +16,4 @@ pub mod ParameterReads
 pub mod ParameterEmits
 pub mod HeadReads
 pub mod SvcbValues
+pub mod WordParameters

@@ -9,3 +9,4 @@ pub mod SVCB
 pub mod OwnKeys
 pub mod Hashing
 pub mod HTTPS
+pub mod WordRows

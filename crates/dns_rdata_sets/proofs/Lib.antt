@@ -10,3 +10,4 @@ pub mod CsyncValues
 mod IssuerSteps
 mod Issuers
 mod Splitting
+pub mod WordTypes

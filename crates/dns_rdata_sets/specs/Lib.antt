@@ -2,3 +2,4 @@ pub mod CAA
 pub mod CSYNC
 pub mod RecordTypeSet
 pub mod Issuer
+pub mod WordRows

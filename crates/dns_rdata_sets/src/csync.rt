@@ -80,7 +80,7 @@ impl CSYNC {
 
     // With the flags as a number.
     #[inline]
-    fn with_flags(soa_serial: u32, flags: u16, type_bit_maps: RecordTypeSet) -> CSYNC
+    pub(crate) fn with_flags(soa_serial: u32, flags: u16, type_bit_maps: RecordTypeSet) -> CSYNC
         ensures fields { csync_fields result ≡ (soa_serial, (flags, (type_bit_maps, tt))) }
         ensures read { IsReadCsync result }
     {

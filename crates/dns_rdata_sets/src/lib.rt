@@ -6,6 +6,7 @@ pub mod csync;
 pub mod record_type_set;
 #[cfg(test)]
 mod tests;
+mod words;
 
 pub use caa::CAA;
 pub use csync::CSYNC;

@@ -64,7 +64,7 @@ impl RecordTypeSet {
     }
 
     // The set of these numbers. Takes no memory.
-    fn of_numbers(mut numbers: Vec<u16>) -> RecordTypeSet
+    pub(crate) fn of_numbers(mut numbers: Vec<u16>) -> RecordTypeSet
         ensures { IsSetOf numbers.items result }
     {
         if !rises(numbers.as_slice()) {

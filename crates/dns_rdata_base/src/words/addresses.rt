@@ -1,0 +1,42 @@
+//! Words of A and AAAA.
+
+ghost use Rattle.dns_rdata_base.specs.A.{a_fields};
+ghost use Rattle.dns_rdata_base.specs.AAAA.{aaaa_fields};
+ghost use Rattle.dns_rdata_base.specs.WordRows.{a_words, aaaa_words};
+ghost use Rattle.dns_words.specs.Reads.{ReadsRow};
+
+use crate::a::A;
+use crate::aaaa::AAAA;
+use dns_names_wire::ParseError;
+use dns_words::{next_ipv4, next_ipv6};
+use std::convert::AsStr;
+
+impl A {
+    /// From one word, the text of an IPv4 address as `from_str` reads it. Further words are not read. Refused by
+    /// `MissingToken` or `AddrParse`. Takes no memory.
+    #[tactic(auto, using(dns_words::proofs::Steps::reading))]
+    pub fn from_tokens<S: AsStr + Drop, I: Iterator<Item = S>>(
+        mut tokens: I,
+    ) -> Result<A, ParseError>
+        requires can { I.can_next tokens }
+        ensures { ReadsRow I.next_gives S.text a_words a_fields result tokens }
+    {
+        let address = next_ipv4(&mut tokens)?;
+        Ok(A(address))
+    }
+}
+
+impl AAAA {
+    /// From one word, the text of an IPv6 address as `from_str` reads it. Further words are not read. Refused by
+    /// `MissingToken` or `AddrParse`. Takes no memory.
+    #[tactic(auto, using(dns_words::proofs::Steps::reading))]
+    pub fn from_tokens<S: AsStr + Drop, I: Iterator<Item = S>>(
+        mut tokens: I,
+    ) -> Result<AAAA, ParseError>
+        requires can { I.can_next tokens }
+        ensures { ReadsRow I.next_gives S.text aaaa_words aaaa_fields result tokens }
+    {
+        let address = next_ipv6(&mut tokens)?;
+        Ok(AAAA(address))
+    }
+}

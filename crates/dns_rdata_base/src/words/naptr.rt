@@ -1,0 +1,67 @@
+//! Words of NAPTR.
+
+ghost use Rattle.std.specs.Option.{option_copied};
+ghost use Rattle.dns_rdata_base.specs.NAPTR.{naptr_fields};
+ghost use Rattle.dns_rdata_base.specs.WordRows.{flags, naptr_words};
+ghost use Rattle.dns_words.specs.Reads.{ReadsRow, ReadsText, ReadsWord, GoesOn};
+
+use crate::naptr::{NAPTR, verify_flags};
+use dns_names_wire::{Name, Octets, ParseError};
+use dns_words::{next_kept, next_name, next_u16, next_word};
+use std::alloc::Global;
+use std::convert::AsStr;
+
+// The octets of a word of digits and letters.
+fn flags_of(alloc: Global, word: &str) -> Result<Octets, ParseError>
+    ensures { ReadsText flags (λ x. x) result word.now }
+{
+    if !verify_flags(word.as_bytes()) {
+        return Err(ParseError::Message("flags are letters and digits"));
+    }
+    let octets = Octets::from_slice(alloc, word.as_bytes())?;
+    Ok(octets)
+}
+
+// The octets of the next word, which are digits and letters.
+fn next_flags<S: AsStr + Drop, I: Iterator<Item = S>>(
+    alloc: Global,
+    words: &mut I,
+) -> Result<Octets, ParseError>
+    requires can { I.can_next words.old }
+    ensures reads { ReadsWord I.next_gives S.text flags (λ x. x) result words.old words.new }
+    ensures goes { GoesOn I.can_next I.remaining result words.old words.new }
+{
+    let word = next_word(words)?;
+    flags_of(alloc, word.as_str())
+}
+
+impl NAPTR {
+    /// From six words: order and preference, decimal numbers of 16 bits; flags, digits and letters; services and
+    /// regexp, whose octets are kept; and replacement, a name, which the origin completes where one is given. Further
+    /// words are not read. Refused by `MissingToken`, by `Message` where a word is no such number or has another
+    /// character than a flag, by `Proto` where one is no name, or by `Memory`.
+    #[tactic(auto, using(dns_words::proofs::Steps::reading))]
+    pub fn from_tokens<S: AsStr + Drop, I: Iterator<Item = S>>(
+        alloc: Global,
+        mut tokens: I,
+        origin: Option<&Name>,
+    ) -> Result<NAPTR, ParseError>
+        requires can { I.can_next tokens }
+        ensures { ReadsRow I.next_gives S.text (naptr_words (option_copied origin.entry)) naptr_fields result tokens }
+    {
+        let order = next_u16(&mut tokens)?;
+        let preference = next_u16(&mut tokens)?;
+        let flags = next_flags(alloc, &mut tokens)?;
+        let services = next_kept(alloc, &mut tokens)?;
+        let regexp = next_kept(alloc, &mut tokens)?;
+        let replacement = next_name(alloc, &mut tokens, origin)?;
+        Ok(NAPTR {
+            order,
+            preference,
+            flags,
+            services,
+            regexp,
+            replacement,
+        })
+    }
+}

@@ -1,0 +1,47 @@
+//! Words of SOA.
+
+ghost use Rattle.std.specs.Prelude.{IfOk};
+ghost use Rattle.std.specs.Option.{option_copied};
+ghost use Rattle.dns_rdata_base.specs.SOA.{soa_fields, HasSeconds};
+ghost use Rattle.dns_rdata_base.specs.WordRows.{soa_words};
+ghost use Rattle.dns_words.specs.Reads.{ReadsRow};
+
+use crate::soa::SOA;
+use dns_names_wire::{Name, ParseError};
+use dns_words::{next_name, next_signed_ttl, next_ttl};
+use std::alloc::Global;
+use std::convert::AsStr;
+
+impl SOA {
+    /// From seven words: mname and rname, names, which the origin completes where one is given; and serial, refresh,
+    /// retry, expire and minimum, times to live (`parse_ttl`), of which refresh, retry and expire are at most
+    /// 2147483647. Further words are not read. Refused by `MissingToken`, by `Message` where a word is no such time, by
+    /// `Proto` where one is no name, or by `Memory`.
+    #[tactic(auto, using(dns_words::proofs::Steps::reading))]
+    pub fn from_tokens<S: AsStr + Drop, I: Iterator<Item = S>>(
+        alloc: Global,
+        mut tokens: I,
+        origin: Option<&Name>,
+    ) -> Result<SOA, ParseError>
+        requires can { I.can_next tokens }
+        ensures reads { ReadsRow I.next_gives S.text (soa_words (option_copied origin.entry)) soa_fields result tokens }
+        ensures seconds { IfOk result HasSeconds }
+    {
+        let mname = next_name(alloc, &mut tokens, origin)?;
+        let rname = next_name(alloc, &mut tokens, origin)?;
+        let serial = next_ttl(&mut tokens)?;
+        let refresh = next_signed_ttl(&mut tokens)?;
+        let retry = next_signed_ttl(&mut tokens)?;
+        let expire = next_signed_ttl(&mut tokens)?;
+        let minimum = next_ttl(&mut tokens)?;
+        Ok(SOA {
+            mname,
+            rname,
+            serial,
+            refresh,
+            retry,
+            expire,
+            minimum,
+        })
+    }
+}

@@ -1,0 +1,63 @@
+-- The words of each record, and which values print in words that give them back.
+use Rattle.std.specs.Prelude.{◌≡◌, ◌≢◌, ℕ, ◌^◌, ◌<◌, List, [], ◌∷◌, Ok}
+use Rattle.std.specs.List.{flat_map}
+use Rattle.dns_fields.specs.Octets.{AreOctets}
+use Rattle.dns_fields.specs.Fields.{Rest}
+use Rattle.dns_words.specs.Forms.{Form, Row, word, ignored, nothing, number, base64}
+use Rattle.dns_rdata_certs.specs.CERT.{cert_shape}
+use Rattle.dns_rdata_certs.specs.CertUsage.{cert_usage_number}
+use Rattle.dns_rdata_certs.specs.FingerprintType.{fingerprint_type_number}
+use Rattle.dns_rdata_certs.specs.HEX.{octets_of_hex}
+use Rattle.dns_rdata_certs.specs.Matching.{matching_number}
+use Rattle.dns_rdata_certs.specs.Selector.{selector_number}
+use Rattle.dns_rdata_certs.specs.SshfpAlgorithm.{sshfp_algorithm_number}
+use Rattle.dns_rdata_certs.specs.SMIMEA.{smimea_shape}
+use Rattle.dns_rdata_certs.specs.SSHFP.{sshfp_shape, IsReadSshfp}
+use Rattle.dns_rdata_certs.specs.TLSA.{tlsa_shape, IsReadTlsa}
+use Rattle.dns_rdata_certs.specs.declared.sshfp.SSHFP.{SSHFP}
+use Rattle.dns_rdata_certs.specs.declared.tlsa.TLSA.{TLSA}
+
+-- hexadecimal digits; the word has a character
+abbrev pub hex_digits : Form Rest
+hex_digits = record { is = λ octets word. (word ≢ []) × (octets_of_hex word ≡ Ok octets) }
+
+-- hexadecimal digits of one octet or more
+abbrev pub IsSomeHex : List ℕ → List ℕ → Type 0
+IsSomeHex text octets = (octets_of_hex text ≡ Ok octets) × (octets ≢ [])
+
+-- all further words, one behind the other, are hexadecimal digits of one octet or more
+abbrev pub joined_hex : Row (Rest ∷ [])
+joined_hex = record { stand = λ vs words. IsSomeHex (flat_map (λ word. word) words) vs.0 }
+
+-- type, key tag, algorithm, certificate
+abbrev pub cert_words : Row cert_shape
+cert_words = word (number 2) (word (number 2) (word (number 1) (word base64 ignored)))
+
+-- algorithm, fingerprint type, fingerprint
+abbrev pub sshfp_words : Row sshfp_shape
+sshfp_words = word (number 1) (word (number 1) (word hex_digits nothing))
+
+-- usage, selector, matching type, data
+abbrev pub tlsa_words : Row tlsa_shape
+tlsa_words = word (number 1) (word (number 1) (word (number 1) joined_hex))
+
+-- as TLSA
+abbrev pub smimea_words : Row smimea_shape
+smimea_words = tlsa_words
+
+-- ---- values whose printed words give them back
+
+pub record IsPrintedSshfp (x : SSHFP) : Type 0 where
+  pub enums : IsReadSshfp x
+  pub algorithm : sshfp_algorithm_number x.algorithm < 2 ^ 8
+  pub type : fingerprint_type_number x.fingerprint_type < 2 ^ 8
+  pub octets : AreOctets x.fingerprint
+  pub some : x.fingerprint ≢ []
+
+pub record IsPrintedTlsa (x : TLSA) : Type 0 where
+  pub enums : IsReadTlsa x
+  pub usage : cert_usage_number x.cert_usage < 2 ^ 8
+  pub selector : selector_number x.selector < 2 ^ 8
+  pub matching : matching_number x.matching < 2 ^ 8
+  pub octets : AreOctets x.cert_data
+  pub some : x.cert_data ≢ []

@@ -1,0 +1,163 @@
+//! Records read from words (RFC 1035, 5.1).
+
+ghost use Rattle.std.specs.Prelude.{IfOk};
+ghost use Rattle.std.specs.Iterator.{IsFinite};
+ghost use Rattle.dns_rdata_certs.specs.CERT.{cert_fields, IsReadCert};
+ghost use Rattle.dns_rdata_certs.specs.SMIMEA.{smimea_fields, IsReadSmimea};
+ghost use Rattle.dns_rdata_certs.specs.SSHFP.{sshfp_fields, IsReadSshfp};
+ghost use Rattle.dns_rdata_certs.specs.TLSA.{tlsa_fields, IsReadTlsa};
+ghost use Rattle.dns_rdata_certs.specs.WordRows.{hex_digits, IsSomeHex, joined_hex, cert_words, sshfp_words, tlsa_words, smimea_words};
+ghost use Rattle.dns_words.specs.Reads.{ReadsText, ReadsWord, ReadsRow, Decides, GoesOn};
+
+use crate::cert::{Algorithm as CertAlgorithm, CERT, CertType};
+use crate::hexadecimal::HEX;
+use crate::smimea::SMIMEA;
+use crate::sshfp::{Algorithm, FingerprintType, SSHFP};
+use crate::tlsa::{CertUsage, Matching, Selector, TLSA};
+use dns_names_wire::{Octets, ParseError};
+use dns_words::{join_words, next_base64, next_u8, next_u16, next_word, no_more};
+use std::alloc::Global;
+use std::convert::AsStr;
+
+// The octets of hexadecimal digits. A word without a character is refused.
+fn hex_of(alloc: Global, word: &str) -> Result<Octets, ParseError>
+    ensures { ReadsText hex_digits (λ x. x) result word.now }
+{
+    if word.len() == 0 {
+        return Err(ParseError::Message("no hexadecimal digits"));
+    }
+    let octets = HEX.decode(alloc, word.as_bytes())?;
+    Ok(Octets::from_vec(octets))
+}
+
+// The octets of hexadecimal digits; none are refused.
+fn some_hex_of(alloc: Global, digits: &[u8]) -> Result<Octets, ParseError>
+    ensures { Decides (IsSomeHex digits.now) (λ x. x) result }
+{
+    let octets = Octets::from_vec(HEX.decode(alloc, digits)?);
+    if octets.is_empty() {
+        return Err(ParseError::Message("no hexadecimal digits"));
+    }
+    Ok(octets)
+}
+
+// The octets of the next word, hexadecimal digits.
+fn next_hex<S: AsStr + Drop, I: Iterator<Item = S>>(
+    alloc: Global,
+    words: &mut I,
+) -> Result<Octets, ParseError>
+    requires can { I.can_next words.old }
+    ensures reads { ReadsWord I.next_gives S.text hex_digits (λ x. x) result words.old words.new }
+    ensures goes { GoesOn I.can_next I.remaining result words.old words.new }
+{
+    let word = next_word(words)?;
+    hex_of(alloc, word.as_str())
+}
+
+// The octets of all further words, joined; none are refused.
+fn all_hex<S: AsStr + Drop, I: Iterator<Item = S>>(
+    alloc: Global,
+    words: I,
+) -> Result<Octets, ParseError>
+    requires can { I.can_next words }
+    requires ends { IsFinite (I.remaining words) }
+    ensures { ReadsRow I.next_gives S.text joined_hex (λ x. (x, tt)) result words }
+{
+    let joined = join_words(alloc, words)?;
+    some_hex_of(alloc, joined.as_slice())
+}
+
+impl CERT {
+    /// From four words: type and key tag, decimal numbers of 16 bits; algorithm, one of 8 bits; and the certificate in
+    /// base64, also an empty word. Further words are not read. Refused by `MissingToken`, `Message` or `Memory`.
+    #[tactic(auto, using(dns_words::proofs::Steps::reading))]
+    pub fn from_tokens<S: AsStr + Drop, I: Iterator<Item = S>>(
+        alloc: Global,
+        mut tokens: I,
+    ) -> Result<CERT, ParseError>
+        requires can { I.can_next tokens }
+        ensures reads { ReadsRow I.next_gives S.text cert_words cert_fields result tokens }
+        ensures enums { IfOk result IsReadCert }
+    {
+        let cert_type = CertType::from(next_u16(&mut tokens)?);
+        let key_tag = next_u16(&mut tokens)?;
+        let algorithm = CertAlgorithm::from(next_u8(&mut tokens)?);
+        let cert_data = next_base64(alloc, &mut tokens)?;
+        Ok(CERT {
+            cert_type,
+            key_tag,
+            algorithm,
+            cert_data,
+        })
+    }
+}
+
+impl SSHFP {
+    /// From three words: algorithm and fingerprint type, decimal numbers of 8 bits, and the fingerprint, hexadecimal
+    /// digits of either case (`HEX`) in a word that isn't empty; a further word is refused. Refused by `MissingToken`,
+    /// `Message` or `Memory`.
+    #[tactic(auto, using(dns_words::proofs::Steps::reading))]
+    pub fn from_tokens<S: AsStr + Drop, I: Iterator<Item = S>>(
+        alloc: Global,
+        mut tokens: I,
+    ) -> Result<SSHFP, ParseError>
+        requires can { I.can_next tokens }
+        ensures reads { ReadsRow I.next_gives S.text sshfp_words sshfp_fields result tokens }
+        ensures enums { IfOk result IsReadSshfp }
+    {
+        let algorithm = Algorithm::from(next_u8(&mut tokens)?);
+        let fingerprint_type = FingerprintType::from(next_u8(&mut tokens)?);
+        let fingerprint = next_hex(alloc, &mut tokens)?;
+        no_more(&mut tokens)?;
+        Ok(SSHFP {
+            algorithm,
+            fingerprint_type,
+            fingerprint,
+        })
+    }
+}
+
+impl TLSA {
+    /// From three words and more: usage, selector and matching type, decimal numbers of 8 bits, and in all further
+    /// words, joined, hexadecimal digits of one octet or more (`HEX`). Refused by `MissingToken`, `Message` or `Memory`.
+    /// The caller owes an iterator that ends.
+    #[tactic(auto, using(dns_words::proofs::Steps::reading))]
+    pub fn from_tokens<S: AsStr + Drop, I: Iterator<Item = S>>(
+        alloc: Global,
+        mut tokens: I,
+    ) -> Result<TLSA, ParseError>
+        requires can { I.can_next tokens }
+        requires ends { IsFinite (I.remaining tokens) }
+        ensures reads { ReadsRow I.next_gives S.text tlsa_words tlsa_fields result tokens }
+        ensures enums { IfOk result IsReadTlsa }
+    {
+        let cert_usage = CertUsage::from(next_u8(&mut tokens)?);
+        let selector = Selector::from(next_u8(&mut tokens)?);
+        let matching = Matching::from(next_u8(&mut tokens)?);
+        let cert_data = all_hex(alloc, tokens)?;
+        Ok(TLSA {
+            cert_usage,
+            selector,
+            matching,
+            cert_data,
+        })
+    }
+}
+
+impl SMIMEA {
+    /// From the words of TLSA, and refused as that is.
+    pub fn from_tokens<S: AsStr + Drop, I: Iterator<Item = S>>(
+        alloc: Global,
+        tokens: I,
+    ) -> Result<SMIMEA, ParseError>
+        requires can { I.can_next tokens }
+        requires ends { IsFinite (I.remaining tokens) }
+        ensures reads { ReadsRow I.next_gives S.text smimea_words smimea_fields result tokens }
+        ensures enums { IfOk result IsReadSmimea }
+    {
+        match TLSA::from_tokens(alloc, tokens) {
+            Ok(certificate) => Ok(SMIMEA(certificate)),
+            Err(e) => Err(e),
+        }
+    }
+}

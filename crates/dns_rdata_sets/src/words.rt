@@ -1,0 +1,111 @@
+//! Records read from words (RFC 1035, 5.1).
+
+ghost use Rattle.std.specs.Prelude.{◌≢◌, IfOk, IfErr};
+ghost use Rattle.std.specs.Iterator.{IsFinite};
+ghost use Rattle.dns_types.specs.RecordTypes.{IsTypeText};
+ghost use Rattle.dns_types.specs.declared.error.ParseError.TheVariants as parse;
+ghost use Rattle.dns_words.specs.Reads.{ReadsText, ReadsWord, ReadsRow, GoesOn};
+ghost use Rattle.dns_rdata_sets.specs.CAA.{caa_fields, IsReadCaa};
+ghost use Rattle.dns_rdata_sets.specs.CSYNC.{csync_fields, IsReadCsync};
+ghost use Rattle.dns_rdata_sets.specs.WordRows.{caa_words, known_flags, type_words, csync_words};
+
+use crate::caa::CAA;
+use crate::csync::CSYNC;
+use crate::record_type_set::RecordTypeSet;
+use dns_names_wire::{ParseError, RecordType};
+use dns_words::texts::u16_of;
+use dns_words::{next_kept, next_u8, next_u32, next_word};
+use std::alloc::Global;
+use std::convert::AsStr;
+
+impl CAA {
+    /// From three words: flags, a decimal number of 8 bits, of which 128 is `issuer_critical`; tag and value, whose
+    /// octets are kept. Further words are not read. Refused by `MissingToken`, `Message` or `Memory`.
+    #[tactic(auto, using(dns_words::proofs::Steps::reading))]
+    pub fn from_tokens<S: AsStr + Drop, I: Iterator<Item = S>>(
+        alloc: Global,
+        mut tokens: I,
+    ) -> Result<CAA, ParseError>
+        requires can { I.can_next tokens }
+        ensures reads { ReadsRow I.next_gives S.text caa_words caa_fields result tokens }
+        ensures flags { IfOk result IsReadCaa }
+    {
+        let flags = next_u8(&mut tokens)?;
+        let tag = next_kept(alloc, &mut tokens)?;
+        let value = next_kept(alloc, &mut tokens)?;
+        Ok(CAA {
+            issuer_critical: flags >= 128,
+            reserved_flags: flags % 128,
+            tag,
+            value,
+        })
+    }
+}
+
+// The two lowest bits of a decimal number.
+fn flags_of(word: &str) -> Result<u16, ParseError>
+    ensures { ReadsText known_flags (λ n. n) result word.now }
+{
+    let flags = u16_of(word)?;
+    Ok(flags % 4)
+}
+
+// The two lowest bits of the next word.
+fn next_flags<S: AsStr + Drop, I: Iterator<Item = S>>(words: &mut I) -> Result<u16, ParseError>
+    requires can { I.can_next words.old }
+    ensures reads { ReadsWord I.next_gives S.text known_flags (λ n. n) result words.old words.new }
+    ensures goes { GoesOn I.can_next I.remaining result words.old words.new }
+{
+    let word = next_word(words)?;
+    flags_of(word.as_str())
+}
+
+// The type that a word is the text of.
+fn type_of(word: &str) -> Result<RecordType, ParseError>
+    ensures found { IfOk result (λ t. IsTypeText word.now t) }
+    ensures refused { IfErr result (λ e. (t : _) → IsTypeText word.now t → ⊥) }
+    ensures memory { IfErr result (λ e. e ≢ parse.Memory) }
+{
+    match word.parse::<RecordType>() {
+        Ok(kind) => Ok(kind),
+        Err(_) => Err(ParseError::Message("not a record type")),
+    }
+}
+
+// The set of the types that all further words are the texts of.
+fn all_types<S: AsStr + Drop, I: Iterator<Item = S>>(
+    alloc: Global,
+    words: I,
+) -> Result<RecordTypeSet, ParseError>
+    requires can { I.can_next words }
+    requires ends { IsFinite (I.remaining words) }
+    ensures { ReadsRow I.next_gives S.text type_words (λ x. (x, tt)) result words }
+{
+    let mut numbers = Vec::new(alloc);
+    for word in words {
+        let kind = type_of(word.as_str())?;
+        numbers.push(u16::from(kind))?;
+    }
+    Ok(RecordTypeSet::of_numbers(numbers))
+}
+
+impl CSYNC {
+    /// From two words and more: serial, a decimal number of 32 bits; flags, one of 16 bits, of which the two lowest bits
+    /// are kept; and in every further word the text of a record type. Refused by `MissingToken`, `Message` or `Memory`.
+    /// The caller owes an iterator that ends.
+    #[tactic(auto, using(dns_words::proofs::Steps::reading))]
+    pub fn from_tokens<S: AsStr + Drop, I: Iterator<Item = S>>(
+        alloc: Global,
+        mut tokens: I,
+    ) -> Result<CSYNC, ParseError>
+        requires can { I.can_next tokens }
+        requires ends { IsFinite (I.remaining tokens) }
+        ensures reads { ReadsRow I.next_gives S.text csync_words csync_fields result tokens }
+        ensures flags { IfOk result IsReadCsync }
+    {
+        let soa_serial = next_u32(&mut tokens)?;
+        let flags = next_flags(&mut tokens)?;
+        let types = all_types(alloc, tokens)?;
+        Ok(CSYNC::with_flags(soa_serial, flags, types))
+    }
+}

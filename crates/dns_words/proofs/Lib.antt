@@ -1,0 +1,5 @@
+pub mod Steps
+pub mod Printed
+pub mod ListWords
+pub mod Ttls
+pub mod Yielded

@@ -1,0 +1,195 @@
+-- Printed words, cut at their blanks, are read back.
+use Rattle.std.proofs.Common.{◌≡◌, ◌≢◌, ℕ, zero, suc, ◌*◌, ◌^◌, ◌<◌, ◌≤◌, true, false, eqb, nat_le, List, [], ◌∷◌, ◌++◌, length, get_or, decimal, codes, Option, Some, None, Bool, cond, ◌||◌, ◌&&◌, All, take, drop, refl, ap, sym, subst, ◌∙◌, arith, append_assoc}
+use Rattle.std.specs.List.{flat_map}
+use Rattle.std.specs.Prelude.{bytes_eq}
+use Rattle.std.specs.Str.Parse.{IsNumeral, digits_value}
+use Rattle.std.proofs.lemmas.Bool.Decides.{nat_tests}
+use Rattle.std.proofs.lemmas.List.{append-nil}
+use Rattle.std.proofs.lemmas.List.Elements.{All-head, All-tail}
+use Rattle.std.proofs.lemmas.Fmt.{decimal_is_IsNumeral}
+use Rattle.std.proofs.lemmas.Str.Parse.{without_leading_plus_none, digit_at}
+use Rattle.std.specs.Net.Addr.{IsIpv4Addr, IsIpv6Addr, ipv4_octets, ipv6_octets, ipv6_segments, octets_of}
+use Rattle.std.specs.Net.Text.{ipv4_text, ipv6_text, hex_groups_text}
+use Rattle.std.specs.declared.net.ipv4_addr.Ipv4Addr.{Ipv4Addr}
+use Rattle.std.specs.declared.net.ipv6_addr.Ipv6Addr.{Ipv6Addr}
+use Rattle.std.proofs.NetLemmas.Alphabet.{IsDigitOrDot, IsHexOrColon, All-ipv4_text, All-hex_groups_text}
+use Rattle.std.proofs.NetLemmas.Texts.{IsDotted-ipv4_text, IsColonHex-ipv6_text, AllSegments, AllSegments-drop}
+use Rattle.dns_fields.specs.Labels.{DomainName}
+use Rattle.dns_fields.specs.Fields.{Kind, Value, Values}
+use Rattle.dns_labels.specs.Text.{printed, label_text, joined_text, name_text}
+use Rattle.dns_labels.proofs.NameTexts.{name_reads}
+use Rattle.dns_text.specs.Ttl.Periods.{plain}
+use Rattle.dns_names_wire.specs.NameValues.{completed}
+use Rattle.dns_words.specs.Forms.{Form, Row, word, ignored, nothing, IsNumberWord, number, ttl, name, ipv4, ipv6}
+use Rattle.dns_words.specs.Printed.{cut_from, cut, IsPrintedName}
+
+-- ---- words without blanks
+
+-- no blank and no control character
+abbrev pub IsSolid : List ℕ → Type 0
+IsSolid [] = Unit {0}
+IsSolid (c ∷ cs) = (33 ≤ c) × IsSolid cs
+
+pub solid_append : (a b : List ℕ) → IsSolid a → IsSolid b → IsSolid (a ++ b)
+solid_append [] b h k = k
+solid_append (c ∷ a) b h k = (h.0, solid_append a b h.1 k)
+
+pub solid_by_index : (ws : List ℕ) → ((k : ℕ) → k < length ws → 33 ≤ get_or ws k 0) → IsSolid ws
+solid_by_index [] h = tt
+solid_by_index (c ∷ cs) h = (h 0 (omega arith), solid_by_index cs (λ k lt. h (suc k) (omega arith)))
+
+solid_all : (P : ℕ → Type 0) → ((c : ℕ) → P c → 33 ≤ c) → (ws : List ℕ) → All P ws → IsSolid ws
+solid_all P f [] h = tt
+solid_all P f (c ∷ cs) h = (f c (All-head P c cs h), solid_all P f cs (All-tail P c cs h))
+
+cut_word : (front first rest : List ℕ) → IsSolid first → cut_from front (first ++ 32 ∷ rest) ≡ (front ++ first) ∷ cut rest
+cut_word front [] rest h = ap (λ (l : List ℕ). l ∷ cut rest) (sym (append-nil front))
+cut_word front (c ∷ cs) rest h =
+    let high : 33 ≤ c = h.0 in
+    let test : eqb c 32 ≡ false = grind (arith, nat_tests) in
+    rw test (cut_word (front ++ c ∷ []) cs rest h.1 ∙ ap (λ (l : List ℕ). l ∷ cut rest) (append_assoc front (c ∷ []) cs))
+
+cut_last : (front last : List ℕ) → IsSolid last → cut_from front last ≡ (front ++ last) ∷ []
+cut_last front [] h = ap (λ (l : List ℕ). l ∷ []) (sym (append-nil front))
+cut_last front (c ∷ cs) h =
+    let high : 33 ≤ c = h.0 in
+    let test : eqb c 32 ≡ false = grind (arith, nat_tests) in
+    rw test (cut_last (front ++ c ∷ []) cs h.1 ∙ ap (λ (l : List ℕ). l ∷ []) (append_assoc front (c ∷ []) cs))
+
+abbrev pub AllSolid : List (List ℕ) → Type 0
+AllSolid [] = Unit {0}
+AllSolid (first ∷ words) = IsSolid first × AllSolid words
+
+-- words with a blank between two
+abbrev pub spaced_from : List ℕ → List (List ℕ) → List ℕ
+spaced_from front [] = front
+spaced_from front (first ∷ words) = spaced_from (front ++ codes " " ++ first) words
+
+spaced_behind : (front first : List ℕ) (words : List (List ℕ)) → spaced_from (front ++ first) words ≡ front ++ spaced_from first words
+spaced_behind front first [] = refl
+spaced_behind front first (next ∷ words) =
+    let e : (front ++ first ++ codes " ") ++ next ≡ front ++ ((first ++ codes " ") ++ next) = ap (λ (l : List ℕ). l ++ next) (append_assoc front first (codes " ")) ∙ append_assoc front (first ++ codes " ") next in
+    ap (λ (l : List ℕ). spaced_from l words) e ∙ spaced_behind front (first ++ codes " " ++ next) words
+
+cut_spaced : (first : List ℕ) (words : List (List ℕ)) → IsSolid first → AllSolid words → cut (spaced_from first words) ≡ first ∷ words
+cut_spaced first [] h all = cut_last [] first h
+cut_spaced first (next ∷ words) h all =
+    ap cut (spaced_behind (first ++ codes " ") next words ∙ append_assoc first (codes " ") (spaced_from next words))
+    ∙ cut_word [] first (spaced_from next words) h
+    ∙ ap (λ (l : List (List ℕ)). first ∷ l) (cut_spaced next words all.0 all.1)
+
+-- ---- rows
+
+-- words without blanks that give the values
+pub record GiveBack {kinds : List Kind} (row : Row kinds) (vs : Values kinds) (words : List (List ℕ)) : Type 0 where
+  pub stand : row.stand vs words
+  pub solid : AllSolid words
+
+pub back_ignored : GiveBack ignored tt []
+back_ignored = record { stand = tt; solid = tt }
+
+pub back_nothing : GiveBack nothing tt []
+back_nothing = record { stand = refl; solid = tt }
+
+-- a word without blanks that gives the value
+pub record GivesBack {k : Kind} (form : Form k) (v : Value k) (spelled : List ℕ) : Type 0 where
+  pub is : form.is v spelled
+  pub solid : IsSolid spelled
+
+pub back_word : {k : Kind} {kinds : List Kind} {form : Form k} {row : Row kinds} {v : Value k} {vs : Values kinds} {spelled : List ℕ} {words : List (List ℕ)} → GivesBack form v spelled → GiveBack row vs words → GiveBack (word form row) (v, vs) (spelled ∷ words)
+unfolding word
+back_word h g = record { stand = (h.is, g.stand); solid = (h.solid, g.solid) }
+
+-- a text of words, one blank between two, gives the values when it is cut
+pub row_back : {kinds : List Kind} (row : Row kinds) (vs : Values kinds) (first : List ℕ) (words : List (List ℕ)) (text : List ℕ) → text ≡ spaced_from first words → GiveBack row vs (first ∷ words) → row.stand vs (cut text)
+row_back row vs first words text e g = subst (λ (l : List (List ℕ)). row.stand vs l) (sym (ap cut e ∙ cut_spaced first words g.solid.0 g.solid.1)) g.stand
+
+-- ---- numbers
+
+small_numeral : (n : ℕ) → n < 2 ^ 64 → IsNumeral 10 (decimal n) × (n ≡ digits_value 10 (decimal n))
+small_numeral n small = let num = decimal_is_IsNumeral n small in (num.0, sym num.1)
+
+number_word : (bits n : ℕ) → n < 2 ^ bits → n < 2 ^ 64 → IsNumberWord bits n (decimal n)
+number_word bits n fits small =
+    let num = decimal_is_IsNumeral n small in
+    let digit = digit_at (decimal n) 0 num.0.1 num.0.0 in
+    let first : get_or (decimal n) 0 0 ≢ 43 = omega (arith, digit) in
+    let plain = without_leading_plus_none (decimal n) first in
+    record { digits = rw plain num.0; value = rw plain (sym num.1); fits = fits }
+
+pub solid_decimal : (n : ℕ) → n < 2 ^ 64 → IsSolid (decimal n)
+solid_decimal n small =
+    let num = decimal_is_IsNumeral n small in
+    solid_by_index (decimal n) (λ k lt. let digit = digit_at (decimal n) k num.0.1 lt in omega (arith, digit))
+
+pub number_back : (w n : ℕ) → n < 2 ^ (8 * w) → n < 2 ^ 64 → GivesBack (number w) n (decimal n)
+number_back w n fits small = record { is = number_word (8 * w) n fits small; solid = solid_decimal n small }
+
+pub ttl_back : (most n : ℕ) → most ≤ 4294967295 → n ≤ most → GivesBack (ttl most) n (decimal n)
+ttl_back most n low fits =
+    let num = small_numeral n (omega arith) in
+    record { is = (record { sum = plain num.0 num.1; fits = omega arith }, fits); solid = solid_decimal n (omega arith) }
+
+-- ---- names
+
+solid_if : (b : Bool) (x y : List ℕ) → (b ≡ true → IsSolid x) → (b ≡ false → IsSolid y) → IsSolid (cond b x y)
+solid_if true x y f g = f refl
+solid_if false x y f g = g refl
+
+solid_printed : (c : ℕ) → IsSolid (printed c)
+solid_printed c = solid_if (eqb c 46 || eqb c 92) _ _
+    (λ e. let high : 33 ≤ c = grind (arith, nat_tests) in (omega arith, (high, tt)))
+    (λ _. solid_if (nat_le 33 c && nat_le c 126) _ _ (λ e. let high : 33 ≤ c = grind (arith, nat_tests) in (high, tt)) (λ _. (omega arith, (omega arith, (omega arith, (omega arith, tt))))))
+
+solid_label : (label : List ℕ) → IsSolid (label_text label)
+solid_label [] = tt
+solid_label (c ∷ label) = solid_append (printed c) (label_text label) (solid_printed c) (solid_label label)
+
+solid_others : (labels : List (List ℕ)) → IsSolid (flat_map (λ other. 46 ∷ label_text other) labels)
+solid_others [] = tt
+solid_others (label ∷ labels) = solid_append (46 ∷ label_text label) (flat_map (λ other. 46 ∷ label_text other) labels) (omega arith, solid_label label) (solid_others labels)
+
+solid_joined : (labels : List (List ℕ)) → IsSolid (joined_text labels)
+solid_joined [] = tt
+solid_joined (label ∷ labels) = solid_append (label_text label) (flat_map (λ other. 46 ∷ label_text other) labels) (solid_label label) (solid_others labels)
+
+solid_name : (x : DomainName) → x.fully_qualified ≡ true → IsSolid (name_text x)
+solid_name x q = rw q (solid_append (joined_text x.labels) (46 ∷ []) (solid_joined x.labels) (omega arith, tt))
+
+completes : (x : DomainName) (origin : Option DomainName) → x.fully_qualified ≡ true → x ≡ completed x origin
+completes x None q = refl
+completes x (Some origin) q = rw q refl
+
+pub name_back : (x : DomainName) (origin : Option DomainName) → IsPrintedName x → GivesBack (name origin) x (name_text x)
+name_back x origin h = record {
+  is = record { read = x; is_text = name_reads x h.is_name h.octets; same = completes x origin h.qualified; is_name = h.is_name };
+  solid = solid_name x h.qualified;
+}
+
+-- ---- addresses
+
+solid_dotted : (octets : List ℕ) → ((k : ℕ) → get_or octets k 0 < 2 ^ 8) → IsSolid (ipv4_text octets)
+solid_dotted octets fits = solid_all IsDigitOrDot (λ c h. omega (arith, h)) (ipv4_text octets) (All-ipv4_text octets fits)
+
+pub ipv4_back : (a : Ipv4Addr) → IsIpv4Addr a → GivesBack ipv4 (ipv4_octets a) (ipv4_text (ipv4_octets a))
+ipv4_back a h = record { is = (a, IsDotted-ipv4_text _ h.0 h.1, refl); solid = solid_dotted (ipv4_octets a) h.1 }
+
+solid_groups : (segments : List ℕ) → AllSegments segments → IsSolid (hex_groups_text segments)
+solid_groups segments fits = solid_all IsHexOrColon (λ c h. omega (arith, h)) (hex_groups_text segments) (All-hex_groups_text segments fits)
+
+bounded : (segments : List ℕ) → ((k : ℕ) → get_or segments k 0 < 2 ^ 16) → (k : ℕ) → get_or (octets_of segments) k 0 < 2 ^ 8
+bounded [] h k = omega arith
+bounded (s ∷ segments) h zero = let fits = h 0 in omega (arith, fits)
+bounded (s ∷ segments) h (suc zero) = omega arith
+bounded (s ∷ segments) h (suc (suc k)) = bounded segments (λ j. h (suc j)) k
+
+solid_ipv6 : (segments : List ℕ) → AllSegments segments → IsSolid (ipv6_text segments)
+unfolding ipv6_text
+solid_ipv6 segments fits = solid_if (bytes_eq (take 6 segments) (0 ∷ 0 ∷ 0 ∷ 0 ∷ 0 ∷ 65535 ∷ [])) (codes "::ffff:" ++ ipv4_text (octets_of (drop 6 segments))) (hex_groups_text segments)
+    (λ _. solid_append (codes "::ffff:") (ipv4_text (octets_of (drop 6 segments)))
+    (omega arith, (omega arith, (omega arith, (omega arith, (omega arith, (omega arith, (omega arith, tt)))))))
+    (solid_dotted (octets_of (drop 6 segments)) (bounded (drop 6 segments) (AllSegments-drop 6 segments fits))))
+    (λ _. solid_groups segments fits)
+
+pub ipv6_back : (a : Ipv6Addr) → IsIpv6Addr a → GivesBack ipv6 (ipv6_octets a) (ipv6_text (ipv6_segments a))
+ipv6_back a h = record { is = (a, IsColonHex-ipv6_text _ h.0 h.1, refl); solid = solid_ipv6 (ipv6_segments a) h.1 }

@@ -1,0 +1,20 @@
+-- Times to live, and addresses in words.
+use Rattle.std.proofs.Common.{ℕ, ◌<◌, List, arith}
+use Rattle.dns_text.specs.Ttl.{IsTtl}
+use Rattle.dns_text.proofs.TtlSteps.{periods_one}
+use Rattle.std.specs.Net.Grammar.{IsIpv4Text, IsIpv6Text}
+use Rattle.std.specs.declared.net.ipv4_addr.Ipv4Addr.{Ipv4Addr}
+use Rattle.std.specs.declared.net.ipv6_addr.Ipv6Addr.{Ipv6Addr}
+use Rattle.dns_words.specs.Forms.{ttl, ipv4, ipv6}
+use Rattle.dns_words.specs.Reads.{NoWord}
+
+-- a text of a greater time to live has no lesser one
+pub no_ttl : {text : List ℕ} {n : ℕ} (most : ℕ) → IsTtl text n → most < n → NoWord (ttl most) text
+no_ttl most h past = record { none = λ v is. let e = periods_one h.sum is.0.sum in absurd (omega (arith, e, is.1)) }
+
+-- a text of no address is no word of one
+pub no_ipv4 : {text : List ℕ} → ((a : Ipv4Addr) → ¬ (IsIpv4Text text a)) → NoWord ipv4 text
+no_ipv4 none = record { none = λ v is. none is.0 is.1 }
+
+pub no_ipv6 : {text : List ℕ} → ((a : Ipv6Addr) → ¬ (IsIpv6Text text a)) → NoWord ipv6 text
+no_ipv6 none = record { none = λ v is. none is.0 is.1 }

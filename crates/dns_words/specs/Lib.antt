@@ -1,0 +1,4 @@
+pub mod Taking
+pub mod Forms
+pub mod Reads
+pub mod Printed

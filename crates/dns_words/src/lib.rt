@@ -1,0 +1,16 @@
+//! Values read from words: the forms of words, and readers that take words from an iterator.
+//!
+//! A reader takes its words one by one from an iterator of `&str`, `String` or another type that is seen as a text, and
+//! keeps no list of them. `text.split_whitespace()`, `strings.iter()` of a `&[String]`, `Vec<String>::into_iter()` and
+//! `WordList` of a `&[&str]` serve.
+#![tactic(auto)]
+
+pub mod reading;
+pub mod texts;
+pub mod word_list;
+
+pub use reading::{
+    all_texts, join_words, name_from_tokens, next_base64, next_ipv4, next_ipv6, next_kept,
+    next_name, next_signed_ttl, next_ttl, next_u8, next_u16, next_u32, next_word, no_more,
+};
+pub use word_list::WordList;

@@ -1,0 +1,119 @@
+//! Values read from one word.
+
+ghost use Rattle.std.specs.Int.{cast_unsigned, w32};
+ghost use Rattle.std.specs.Net.Addr.{ipv4_octets, ipv6_octets};
+ghost use Rattle.std.specs.Option.{option_copied};
+ghost use Rattle.dns_words.specs.Forms.{number, ttl, name, base64, kept, kept_rest, ipv4, ipv6};
+ghost use Rattle.dns_words.specs.Reads.{ReadsText};
+
+use base64::DecodeAllocError;
+use base64::engine::general_purpose::STANDARD;
+use dns_names_wire::{Name, Octets, ParseError};
+use dns_text::parse_ttl;
+use std::alloc::Global;
+use std::net::{Ipv4Addr, Ipv6Addr};
+
+/// A decimal number of 8 bits, with or without `+`. Any other word is refused by `Message`. Takes no memory.
+#[inline]
+pub fn u8_of(word: &str) -> Result<u8, ParseError>
+    ensures { ReadsText (number 1) (λ n. n) result word.now }
+{
+    match word.parse::<u8>() {
+        Ok(n) => Ok(n),
+        Err(_) => Err(ParseError::Message("not a number of 8 bits")),
+    }
+}
+
+/// A decimal number of 16 bits, as `u8_of`.
+#[inline]
+pub fn u16_of(word: &str) -> Result<u16, ParseError>
+    ensures { ReadsText (number 2) (λ n. n) result word.now }
+{
+    match word.parse::<u16>() {
+        Ok(n) => Ok(n),
+        Err(_) => Err(ParseError::Message("not a number of 16 bits")),
+    }
+}
+
+/// A decimal number of 32 bits, as `u8_of`.
+#[inline]
+pub fn u32_of(word: &str) -> Result<u32, ParseError>
+    ensures { ReadsText (number 4) (λ n. n) result word.now }
+{
+    match word.parse::<u32>() {
+        Ok(n) => Ok(n),
+        Err(_) => Err(ParseError::Message("not a number of 32 bits")),
+    }
+}
+
+/// A time to live of 32 bits (`parse_ttl`). Any other word is refused by `Message`. Takes no memory.
+#[inline]
+pub fn ttl_of(word: &str) -> Result<u32, ParseError>
+    ensures { ReadsText (ttl 4294967295) (λ n. n) result word.now }
+{
+    parse_ttl(word)
+}
+
+/// A time to live of at most 2147483647 seconds. Any other word is refused by `Message`. Takes no memory.
+#[inline]
+pub fn signed_ttl_of(word: &str) -> Result<i32, ParseError>
+    ensures { ReadsText (ttl 2147483647) (λ z. cast_unsigned w32 z) result word.now }
+{
+    let seconds = parse_ttl(word)?;
+    if seconds > 2147483647 {
+        return Err(ParseError::Message("time to live too great"));
+    }
+    Ok(seconds as i32)
+}
+
+/// A name by `Name::parse`, which the origin completes, where one is given.
+#[inline]
+pub fn name_of(alloc: Global, word: &str, origin: Option<&Name>) -> Result<Name, ParseError>
+    ensures { ReadsText (name (option_copied origin.entry)) (λ x. x) result word.now }
+{
+    let name = Name::parse(alloc, word, origin)?;
+    Ok(name)
+}
+
+/// The octets of a base64 text: the standard alphabet, padded at its end. Any other word is refused by `Message`.
+pub fn base64_of(alloc: Global, word: &str) -> Result<Octets, ParseError>
+    ensures { ReadsText base64 (λ x. x) result word.now }
+{
+    match STANDARD.decode(alloc, word.as_bytes()) {
+        Ok(octets) => Ok(Octets::from_vec(octets)),
+        Err(DecodeAllocError::OutOfMemory) => Err(ParseError::Memory),
+        Err(DecodeAllocError::DecodeError(_)) => Err(ParseError::Message("not base64")),
+    }
+}
+
+/// The octets of the word. Fails only for want of memory.
+#[inline]
+pub fn kept_of(alloc: Global, word: &str) -> Result<Octets, ParseError>
+    ensures text { ReadsText kept (λ x. x) result word.now }
+    ensures rest { ReadsText kept_rest (λ x. x) result word.now }
+{
+    let octets = Octets::from_slice(alloc, word.as_bytes())?;
+    Ok(octets)
+}
+
+/// The IPv4 address of a text. Any other word is refused by `AddrParse`. Takes no memory.
+#[inline]
+pub fn ipv4_of(word: &str) -> Result<Ipv4Addr, ParseError>
+    ensures { ReadsText ipv4 ipv4_octets result word.now }
+{
+    match word.parse::<Ipv4Addr>() {
+        Ok(address) => Ok(address),
+        Err(_) => Err(ParseError::AddrParse),
+    }
+}
+
+/// The IPv6 address of a text. Any other word is refused by `AddrParse`. Takes no memory.
+#[inline]
+pub fn ipv6_of(word: &str) -> Result<Ipv6Addr, ParseError>
+    ensures { ReadsText ipv6 ipv6_octets result word.now }
+{
+    match word.parse::<Ipv6Addr>() {
+        Ok(address) => Ok(address),
+        Err(_) => Err(ParseError::AddrParse),
+    }
+}

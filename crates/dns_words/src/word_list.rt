@@ -1,0 +1,40 @@
+//! The words of a list.
+
+ghost use Rattle.std.specs.Prelude.{◌≡◌, drop};
+ghost use Rattle.std.specs.Iterator.{YieldsFirst, item_count};
+
+/// An iterator of the words of a list, from the first on. It takes no memory.
+#[derive(Drop)]
+pub struct WordList<'a> {
+    words: &'a [&'a str],
+    place: usize,
+}
+
+impl<'a> WordList<'a> {
+    /// From the first word on.
+    #[inline]
+    pub fn new(words: &'a [&'a str]) -> WordList<'a>
+        ensures words { result.words.now ≡ words.now }
+        ensures first { result.place ≡ 0 }
+    {
+        WordList { words, place: 0 }
+    }
+}
+
+impl<'a> Iterator for WordList<'a> {
+    type Item = &'a str;
+
+    ghost next_gives = { YieldsFirst (λ s. drop s.place s.words.now) };
+
+    ghost remaining = { item_count (λ s. drop s.place s.words.now) };
+
+    #[inline]
+    fn next(&mut self) -> Option<&'a str> {
+        if self.place >= self.words.len() {
+            return None;
+        }
+        let word = self.words[self.place];
+        self.place += 1;
+        Some(word)
+    }
+}
