@@ -11,13 +11,13 @@ use Rattle.dns_types.specs.declared.error.ParseError.TheVariants as parse
 use Rattle.dns_text.proofs.ListSteps.{item_one}
 
 module _ {A B : Type 0} (R : A → B → Type 0) where
-  zip_more : (us : List A) (bs : List B) (a : A) (b : B) → AllZip R us bs → R a b → AllZip R (us ++ a ∷ []) (bs ++ b ∷ [])
+  pub zip_more : (us : List A) (bs : List B) (a : A) (b : B) → AllZip R us bs → R a b → AllZip R (us ++ a ∷ []) (bs ++ b ∷ [])
   zip_more [] [] a b h r = (r, tt)
   zip_more [] (y ∷ bs) a b h r = absurd h
   zip_more (x ∷ us) [] a b h r = absurd h
   zip_more (x ∷ us) (y ∷ bs) a b h r = (h.0, zip_more us bs a b h.1 r)
 
-  zip_at : (front : List A) (a : A) (us : List A) (bs : List B) → AllZip R (front ++ a ∷ us) bs → (b : B) × R a b
+  pub zip_at : (front : List A) (a : A) (us : List A) (bs : List B) → AllZip R (front ++ a ∷ us) bs → (b : B) × R a b
   zip_at [] a us [] h = absurd h
   zip_at [] a us (b ∷ bs) h = (b, h.0)
   zip_at (x ∷ front) a us [] h = absurd h

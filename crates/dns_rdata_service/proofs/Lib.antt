@@ -17,3 +17,4 @@ pub mod ParameterEmits
 pub mod HeadReads
 pub mod SvcbValues
 pub mod PieceSteps
+pub mod WordParameters

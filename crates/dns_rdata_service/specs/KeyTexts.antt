@@ -1,15 +1,9 @@
 -- Texts of keys of service parameters (RFC 9460, 2.1 and 14.3.2).
-use Rattle.std.specs.Prelude.{◌≡◌, ◌≢◌, ℕ, ◌^◌, ◌<◌, List, ◌++◌, codes}
-use Rattle.std.specs.Str.Parse.{IsNumeral, digits_value, without_leading_plus}
+use Rattle.std.specs.Prelude.{◌≡◌, ◌≢◌, ℕ, List, ◌++◌, codes}
+use Rattle.dns_words.specs.Forms.{IsNumberWord}
 use Rattle.dns_rdata_service.specs.SvcParamKey.{key_text}
 use Rattle.dns_rdata_service.specs.declared.svcb.key.SvcParamKey.{SvcParamKey}
 use Rattle.dns_rdata_service.specs.declared.svcb.key.SvcParamKey.TheVariants.{Key, Key65535, Unknown}
-
--- An optional `+` and one decimal digit or more, leading zeros allowed, of a number of so many bits.
-pub record IsNumberWord (bits n : ℕ) (word : List ℕ) : Type 0 where
-  pub digits : IsNumeral 10 (without_leading_plus word)
-  pub value : n ≡ digits_value 10 (without_leading_plus word)
-  pub fits : n < 2 ^ bits
 
 -- `key` and a number of 16 bits
 pub record IsNumberedKey (text : List ℕ) (n : ℕ) : Type 0 where

@@ -5,7 +5,8 @@ use Rattle.std.specs.Net.Grammar.{IsIpv4Text, IsIpv6Text}
 use Rattle.base64.specs.Engines.{standard}
 use Rattle.base64.specs.GeneralPurpose.{decode_of}
 use Rattle.dns_text.specs.Lists.{IsItem, pieces_of}
-use Rattle.dns_rdata_service.specs.KeyTexts.{IsNumberWord, IsKeyText}
+use Rattle.dns_words.specs.Forms.{IsNumberWord}
+use Rattle.dns_rdata_service.specs.KeyTexts.{IsKeyText}
 use Rattle.dns_rdata_service.specs.Parameters.{Parameter}
 use Rattle.dns_rdata_service.specs.declared.svcb.key.SvcParamKey.{SvcParamKey}
 use Rattle.dns_rdata_service.specs.declared.svcb.key.SvcParamKey.TheVariants as keys

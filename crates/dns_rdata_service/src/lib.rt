@@ -7,6 +7,7 @@ pub mod steps;
 pub mod svcb;
 #[cfg(test)]
 mod tests;
+mod words;
 
 pub use https::HTTPS;
 pub use items::Items;

@@ -78,7 +78,7 @@ impl FromItem for Octets {
 
 // A number of 16 bits.
 impl FromItem for u16 {
-    ghost use Rattle.dns_rdata_service.specs.KeyTexts.{IsNumberWord};
+    ghost use Rattle.dns_words.specs.Forms.{IsNumberWord};
 
     ghost is_text = { λ item n. IsNumberWord 16 n item };
 

@@ -1,5 +1,6 @@
-use crate::svcb::{SvcParamKey, SvcParamValue, parameter_of};
-use dns_names_wire::ParseError;
+use crate::https::HTTPS;
+use crate::svcb::{SVCB, SvcParamKey, SvcParamValue, parameter_of};
+use dns_names_wire::{BinEncodable, BinEncoder, ParseError};
 use std::alloc::Global;
 
 // A word's parameter as it is printed.
@@ -148,5 +149,70 @@ fn texts_of_keys(rt: HostRuntime) {
         "", "key", "key65536", "key-1", "unknown7", "Alpn", "alpn ", "key٣",
     ] {
         assert!(rt; text.parse::<SvcParamKey>().is_err(), "of {text}");
+    }
+}
+
+// The text of the SVCB of these words.
+fn record_printed(alloc: Global, words: &str) -> Result<String, ParseError> {
+    let svcb = SVCB::from_tokens(alloc, words.split(' '))?;
+    Ok(format!(in alloc; "{svcb}")?)
+}
+
+// Whether the SVCB of these words is emitted as these octets.
+fn record_emitted(alloc: Global, words: &str, octets: &[u8]) -> Result<bool, ParseError> {
+    let svcb = SVCB::from_tokens(alloc, words.split(' '))?;
+    let mut out = Vec::new(alloc);
+    let mut encoder = BinEncoder::new(alloc, &mut out);
+    svcb.emit(&mut encoder)?;
+    Ok(encoder.into_bytes().as_slice() == octets)
+}
+
+// The text of the HTTPS of these words.
+fn web_printed(alloc: Global, words: &str) -> Result<String, ParseError> {
+    let https = HTTPS::from_tokens(alloc, words.split(' '))?;
+    Ok(format!(in alloc; "{https}")?)
+}
+
+#[test]
+fn words_of_records(rt: HostRuntime) -> Result<(), ParseError> {
+    let alloc = rt.alloc();
+    let unordered = "16 foo.example.org. alpn=h2,h3-19 mandatory=ipv4hint,alpn ipv4hint=192.0.2.1";
+    assert_eq!(rt;
+        record_printed(alloc, unordered)?.as_str(),
+        "16 foo.example.org. alpn=h2,h3-19, mandatory=ipv4hint,alpn, ipv4hint=192.0.2.1,"
+    );
+    assert!(rt; record_emitted(alloc, unordered, b"").is_err());
+    assert_eq!(rt; record_printed(alloc, "0 .")?.as_str(), "0 .");
+    assert_eq!(rt; record_printed(alloc, "+1 a")?.as_str(), "1 a");
+    assert!(rt;
+        record_emitted(
+            alloc,
+            "1 . alpn=h2 port=443",
+            b"\x00\x01\x00\x00\x01\x00\x03\x02\x68\x32\x00\x03\x00\x02\x01\xbb".as_slice()
+        )?
+    );
+    assert_eq!(rt;
+        web_printed(alloc, "1 . alpn=\"http/1.1,h2\" ipv4hint=162.159.137.85")?.as_str(),
+        "1 . alpn=http/1.1,h2, ipv4hint=162.159.137.85,"
+    );
+    Ok(())
+}
+
+#[test]
+fn words_of_no_record(rt: HostRuntime) {
+    let alloc = rt.alloc();
+    for words in [
+        "",
+        "1",
+        "65536 .",
+        "-1 .",
+        "x .",
+        "1 a..b",
+        "1 . alpn",
+        "1 . alpn=h2 ",
+        "1 . port=443 port",
+    ] {
+        assert!(rt; record_printed(alloc, words).is_err(), "of {words}");
+        assert!(rt; web_printed(alloc, words).is_err(), "of {words}");
     }
 }
