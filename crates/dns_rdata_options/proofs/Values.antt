@@ -147,7 +147,7 @@ option_decides (edns.NSID a) (edns.Unknown m b) = (λ h. cc h, λ e. cc e)
 option_decides (edns.Unknown n a) (edns.Subnet b) = (λ h. cc h, λ e. cc e)
 option_decides (edns.Unknown n a) (edns.NSID b) = (λ h. cc h, λ e. cc e)
 
-pair_decides : (a b : Pair) → Decides (pair_eq a b) (a ≡ b)
+pub pair_decides : (a b : Pair) → Decides (pair_eq a b) (a ≡ b)
 pair_decides a b = told _ (both _ _ (code_decides a.0 b.0) (option_decides a.1 b.1))
     (λ h i. (h.0 i, h.1 i), λ e. (ap (λ (p : Pair). p.0) e, ap (λ (p : Pair). p.1) e))
 

@@ -1,11 +1,15 @@
-use Rattle.std.proofs.Common.{◌≡◌, ◌∙◌, sym, ap}
+use Rattle.std.proofs.Common.{◌≡◌, ◌∙◌, sym, ap, subst, true}
 use Rattle.std.specs.Ordering.{is_eq}
 use Rattle.dns_fields.proofs.Multisets.{counts_decide}
 use Rattle.dns_rdata_options.specs.Order.{pair_eq, pair_cmp, opt_cmp}
-use Rattle.dns_rdata_options.specs.OrderLaws.{pair_total, pair_ties, opt_ties}
+use Rattle.dns_rdata_options.specs.OrderLaws.{pair_total, pair_ties, opt_equiv, opt_ties}
 use Rattle.dns_rdata_options.proofs.Values.{opt_permutes}
 use Rattle.dns_rdata_options.specs.Order.{opt_eq}
 use Rattle.dns_rdata_options.proofs.opt.OPTPartialEq.eq.Goals as goal
+
+pub returns-then-stands_alike-clause-answer : goal.returns-then-stands_alike-clause-answer
+returns-then-stands_alike-clause-answer c =
+    subst (λ y. true ≡ opt_eq c.args.self.now y) (c.stands_alike.ensures c.if-stands_alike.true) (sym (opt_equiv.refl c.args.self.now))
 
 pub returns-clause-answer : goal.returns-clause-answer
 returns-clause-answer c =
