@@ -22,8 +22,12 @@ fi
 cc -shared -fPIC -O1 -o "$dir/requests.so" "$top/tests/requests.c" -ldl || { echo "0 as wanted, 1 not"; exit 1; }
 
 counted() { # ROUNDS CALL SAMPLE
-  printf '%s\n' "$3" | REQUESTS_COUNT="$dir/count" LD_PRELOAD="$dir/requests.so" "$bench" "$1" "$2" >/dev/null
-  cat "$dir/count"
+  : >"$dir/count"
+  if printf '%s\n' "$3" | REQUESTS_COUNT="$dir/count" LD_PRELOAD="$dir/requests.so" "$bench" "$1" "$2" >/dev/null; then
+    cat "$dir/count"
+  else
+    echo $((-1 - $1)) # a sample that is refused is never as wanted
+  fi
 }
 
 # requests of one call: CALL, how many, SAMPLE

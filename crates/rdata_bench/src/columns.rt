@@ -18,7 +18,7 @@ const _: () = prove!(size_of::<Name>() <= 56);
 const KEPT: usize = 60000;
 
 // The parts of the rounds, the least of which is taken.
-const PARTS: u64 = 5;
+pub const PARTS: u64 = 5;
 
 // How many equal values there are, so that no call is the same as the one before.
 const COPIES: u64 = 8;
@@ -32,6 +32,7 @@ pub struct Row {
     length: u16,
     values: Vec<RData>,
     others: Vec<RData>,
+    nexts: Vec<RData>,
     octets: Vec<u8>,
     text: String,
     // whether what is made is compared
@@ -55,6 +56,7 @@ impl Row {
             length,
             values: Vec::new(alloc),
             others: Vec::new(alloc),
+            nexts: Vec::new(alloc),
             octets: Vec::with_capacity(alloc, 65536)?,
             text: String::with_capacity(alloc, 4096)?,
             compares,
@@ -64,8 +66,26 @@ impl Row {
             row.values.push(value)?;
             let other = row.read(alloc)?;
             row.others.push(other)?;
+            let next = row.next_value(alloc)?;
+            row.nexts.push(next)?;
         }
         Ok(row)
+    }
+
+    // Another value, that of the message with the last octet changed that can be.
+    fn next_value(&self, alloc: Global) -> Result<RData> {
+        let value = self.read(alloc)?;
+        for behind in 1..self.message.len() {
+            let mut message = Vec::from_slice(alloc, self.message.as_slice())?;
+            let at = message.len() - behind;
+            message[at] ^= 1;
+            if let Ok(next) = self.read_from(alloc, message.as_slice()) {
+                if next != value {
+                    return Ok(next);
+                }
+            }
+        }
+        Ok(value)
     }
 
     /// The type of the data.
@@ -79,7 +99,15 @@ impl Row {
     }
 
     fn read(&self, alloc: Global) -> std::result::Result<RData, DecodeError> {
-        let mut decoder = BinDecoder::new(alloc, self.message.as_slice());
+        self.read_from(alloc, self.message.as_slice())
+    }
+
+    fn read_from(
+        &self,
+        alloc: Global,
+        message: &[u8],
+    ) -> std::result::Result<RData, DecodeError> {
+        let mut decoder = BinDecoder::new(alloc, message);
         let _before = decoder.read_slice(self.place)?;
         RData::read(&mut decoder, self.record_type, Restrict::new(self.length))
     }
@@ -172,6 +200,28 @@ fn equals(row: &Row, passes: u64) -> Result<()> {
     Ok(())
 }
 
+// Compares each value with one of the others, by turns.
+fn compares(values: &[RData], others: &[RData], passes: u64) -> u64 {
+    let mut behind = 0u64;
+    for _ in 0..passes {
+        for (value, other) in values.iter().zip(others.iter()) {
+            if value.cmp(other).is_gt() {
+                behind = behind.saturating_add(1);
+            }
+        }
+    }
+    behind
+}
+
+fn orders(values: &[RData], others: &[RData], passes: u64) -> Result<()> {
+    let behind = compares(values, others, passes);
+    anyhow::ensure!(
+        behind == 0 || behind == passes.saturating_mul(COPIES),
+        "an order that changes"
+    );
+    Ok(())
+}
+
 /// One column: so many rounds of the call.
 pub fn column(alloc: Global, row: &mut Row, name: &str, rounds: u64) -> Result<()> {
     let passes = rounds / COPIES;
@@ -182,6 +232,8 @@ pub fn column(alloc: Global, row: &mut Row, name: &str, rounds: u64) -> Result<(
         "print" => prints(row, passes),
         "clone" => clones(row, passes),
         "equal" => equals(row, passes),
+        "cmp" => orders(row.values.as_slice(), row.others.as_slice(), passes),
+        "next" => orders(row.values.as_slice(), row.nexts.as_slice(), passes),
         _ => Ok(()),
     }
 }

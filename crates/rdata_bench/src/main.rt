@@ -2,28 +2,34 @@
 //!
 //! The first argument is the number of rounds. The first line names the columns, with tabs between: the type, and the
 //! nanoseconds of one call, in tenths: read, emit into an encoder that is kept, emit into a fresh encoder over a vector that
-//! is kept, print into a text that is kept, clone, and `==`. Each is the least of five parts of the rounds.
+//! is kept, print into a text that is kept, clone, `==`, `cmp` of equal values and `cmp` of a value and a next one. Each is
+//! the least of five parts of the rounds.
 //!
 //! A second argument, one of these words, takes that column alone and prints nothing: for runs under a counter of requests
 //! for memory. With a third, each value that is read or cloned is compared. In place of the number the word `growth`
 //! prints how the time grows with names, pointers, strings and windows, and `options` how long records of as many options
-//! as fit take.
+//! as fit take. After the word `parse` and a number of rounds lines `TYPE TEXT` are read, and the nanoseconds of reading
+//! each text as record data printed.
 #![tactic(auto)]
 
 mod columns;
 mod growth;
 mod options;
+mod parsing;
 
 use anyhow::{Context, Result};
 use columns::{Row, column, least};
 use dns_rdata::RecordType;
 use options::measure_options;
+use parsing::{measure_text, parses, text_row};
 use std::alloc::Global;
 use std::io;
 use std::io::BufRead;
 use std::rt::Clock;
 
-const COLUMNS: [&str; 6] = ["read", "emit", "fresh", "print", "clone", "equal"];
+const COLUMNS: [&str; 8] = [
+    "read", "emit", "fresh", "print", "clone", "equal", "cmp", "next",
+];
 
 fn read_row(alloc: Global, line: &str, compares: bool) -> Result<Row> {
     let mut words = line.split_whitespace();
@@ -34,7 +40,11 @@ fn read_row(alloc: Global, line: &str, compares: bool) -> Result<Row> {
     };
     let place = words.next().context("a place")?.parse::<usize>()?;
     let length = words.next().context("a length")?.parse::<u16>()?;
-    let message = hex::decode(alloc, words.next().context("octets")?)?;
+    let octets = match words.next().context("octets")? {
+        "-" => "",
+        digits => digits,
+    };
+    let message = hex::decode(alloc, octets)?;
     Row::new(alloc, record_type, message, place, length, compares)
 }
 
@@ -68,6 +78,10 @@ fn main(rt: HostRuntime) -> Result<()> {
     if word.as_str() == "options" {
         return measure_options(&rt);
     }
+    if word.as_str() == "parse" {
+        let rounds = args.next().context("a number of rounds")?.parse::<u64>()?;
+        return measure_texts(&rt, rounds);
+    }
     let rounds = word.parse::<u64>()?;
     let only = args.next();
     let compares = args.next().is_some();
@@ -75,11 +89,29 @@ fn main(rt: HostRuntime) -> Result<()> {
         print_names(&rt)?;
     }
     for line in io::BufReader::new(rt.alloc(), rt.reader())?.lines(rt.alloc()) {
-        let mut row = read_row(rt.alloc(), line?.as_str(), compares)?;
+        let line = line?;
         match &only {
-            Some(name) => column(rt.alloc(), &mut row, name.as_str(), rounds)?,
-            None => measure(&rt, &mut row, rounds)?,
+            Some(name) if name.as_str() == "parse" => {
+                let (record_type, text) = text_row(line.as_str())?;
+                parses(rt.alloc(), record_type, text, rounds)?;
+            }
+            Some(name) => {
+                let mut row = read_row(rt.alloc(), line.as_str(), compares)?;
+                column(rt.alloc(), &mut row, name.as_str(), rounds)?;
+            }
+            None => {
+                let mut row = read_row(rt.alloc(), line.as_str(), compares)?;
+                measure(&rt, &mut row, rounds)?;
+            }
         }
+    }
+    Ok(())
+}
+
+fn measure_texts(rt: &HostRuntime, rounds: u64) -> Result<()> {
+    println!(rt; "type\tparse")?;
+    for line in io::BufReader::new(rt.alloc(), rt.reader())?.lines(rt.alloc()) {
+        measure_text(rt, line?.as_str(), rounds)?;
     }
     Ok(())
 }
