@@ -3,6 +3,7 @@
 
 ghost use Rattle.dns_rdata.specs.Laws.{OneValue, EachWindow};
 
+pub mod canonical;
 pub mod record_data;
 pub mod traits;
 
@@ -22,6 +23,7 @@ pub use dns_rdata_service::{HTTPS, Items, SVCB, https, items, svcb};
 pub use dns_rdata_sets::{CAA, CSYNC, RecordTypeSet, caa, csync, record_type_set};
 pub use dns_text::{Lexer, Token, lexer, parse_ttl, read_item, read_list, text_words, token, ttl};
 pub use dns_types::Strings;
+pub use canonical::CanonicalOctets;
 pub use record_data::RData;
 pub use traits::RecordData;
 

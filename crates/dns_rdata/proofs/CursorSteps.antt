@@ -1,0 +1,117 @@
+-- Cursors over record data.
+use Rattle.std.proofs.Common.{◌≡◌, ℕ, ◌+◌, ◌*◌, ◌≤◌, ◌<◌, nat_le, ◌&&◌, Bool, true, false, if◌then◌else◌, Option, Some, None, List, [], ◌∷◌, ◌++◌, map, length, refl, sym, ap, ◌∙◌, arith, subst, IfSome}
+use Rattle.std.proofs.lemmas.Bool.Decides.{nat_tests}
+use Rattle.std.proofs.lemmas.List.{append-nil}
+use Rattle.std.specs.List.{flat_map, AllByRecursion, list_all}
+use Rattle.std.specs.Cmp.{first_so, second_so}
+use Rattle.dns_fields.specs.Pieces.{string, options_emittable, parameters_emittable}
+use Rattle.dns_fields.specs.Fields.{Kind, Text, Texts, Value, Values, field_octets, canonical, is_emittable, all_emittable}
+use Rattle.dns_pieces.specs.declared.step.Step.{Step}
+use Rattle.dns_pieces.specs.Steps.{is_short, AllShort, GivesStep, CountsPasses, CountsChoices}
+use Rattle.dns_rdata_base.specs.HINFO.{hinfo_shape, hinfo_fields}
+use Rattle.dns_rdata_base.specs.NAPTR.{naptr_shape, naptr_fields}
+use Rattle.dns_rdata_base.specs.TXT.{txt_shape, txt_fields}
+use Rattle.dns_rdata_options.specs.OPT.{pair_value}
+use Rattle.dns_rdata_options.specs.Steps.{pairs_emittable}
+use Rattle.dns_rdata_service.specs.Parameters.{parameter_of}
+use Rattle.dns_rdata_sets.specs.CAA.{caa_shape, caa_fields}
+use Rattle.dns_rdata.specs.declared.record_data.RData.{RData}
+use Rattle.dns_rdata.specs.declared.record_data.RData.TheVariants as rdata
+use Rattle.dns_rdata.specs.Data.{fields_of, data_octets}
+use Rattle.dns_rdata.specs.Cursor.{data_left, data_windows, data_options, data_options_left, DataAt, IsAt, left_of, windows_of, options_of, options_left_of, StepsOn, SteppedOn, NoStep, Remaining, Chooses}
+
+pub with_true : (b : Bool) → b && true ≡ b
+with_true true = refl
+with_true false = refl
+
+-- ---- what can be emitted has short strings
+
+short_text : (s : List ℕ) → nat_le (length s) 255 ≡ true → length s < 256
+short_text s h = grind (arith, nat_tests, h)
+
+short_texts : (ss : List (List ℕ)) → list_all (λ s. nat_le (length s) 255) ss ≡ true → AllByRecursion (λ s. length s < 256) ss
+short_texts [] h = tt
+short_texts (s ∷ ss) h = (short_text s (first_so (nat_le (length s) 255) (list_all (λ x. nat_le (length x) 255) ss) h), short_texts ss (second_so (nat_le (length s) 255) (list_all (λ x. nat_le (length x) 255) ss) h))
+
+kind_short : (k : Kind) (v : Value k) → is_emittable k v ≡ true → is_short k v
+kind_short Text v h = short_text v h
+kind_short Texts v h = short_texts v h
+kind_short k v h = tt
+
+emittable_short : (kinds : List Kind) (vs : Values kinds) → all_emittable kinds vs ≡ true → AllShort kinds vs
+emittable_short [] vs h = tt
+emittable_short (k ∷ kinds) vs h = (kind_short k vs.0 (first_so (is_emittable k vs.0) (all_emittable kinds vs.1) h), emittable_short kinds vs.1 (second_so (is_emittable k vs.0) (all_emittable kinds vs.1) h))
+
+pub begins_at : (v : RData) → all_emittable (fields_of v).kinds (fields_of v).values ≡ true → DataAt v 0 0 0
+begins_at (rdata.CAA x) h = emittable_short caa_shape (caa_fields x) h
+begins_at (rdata.HINFO x) h = emittable_short hinfo_shape (hinfo_fields x) h
+begins_at (rdata.HTTPS x) h = sym (with_true (parameters_emittable (map parameter_of x.0.svc_params))) ∙ h
+begins_at (rdata.NAPTR x) h = emittable_short naptr_shape (naptr_fields x) h
+begins_at (rdata.OPT x) h = (sym (with_true (pairs_emittable x)) ∙ h, tt)
+begins_at (rdata.SVCB x) h = sym (with_true (parameters_emittable (map parameter_of x.svc_params))) ∙ h
+begins_at (rdata.TXT x) h = emittable_short txt_shape (txt_fields x) h
+begins_at v h = tt
+
+whole : (v : RData) → data_left v 0 0 0 ≡ canonical (fields_of v).kinds (fields_of v).values
+unfolding field_octets
+whole (rdata.TXT x) = sym (append-nil (flat_map string x.txt_data))
+whole v = refl
+
+pub begins_whole : (v : RData) → all_emittable (fields_of v).kinds (fields_of v).values ≡ true → left_of (Some v) 0 0 0 ≡ data_octets v
+unfolding left_of
+begins_whole v h = whole v ∙ ap (λ (t : Bool). if t then canonical (fields_of v).kinds (fields_of v).values else []) (sym h)
+
+pub begins_none : (v : RData) → all_emittable (fields_of v).kinds (fields_of v).values ≡ false → left_of None 0 0 0 ≡ data_octets v
+unfolding left_of
+begins_none v h = ap (λ (t : Bool). if t then canonical (fields_of v).kinds (fields_of v).values else []) (sym h)
+
+-- ---- steps without a count
+
+pub no_passes : (c n i : ℕ) (head : List ℕ) (r : Option Step) → CountsPasses c c (λ n i. 0) n i head r
+no_passes c n i head None = refl
+no_passes c n i head (Some s) = record { passes = refl; one = omega arith; begun = omega arith }
+
+pub no_choices : (c n i j : ℕ) (head : List ℕ) (r : Option Step) → CountsChoices c c 0 (λ n i j. 0) n i j head r
+no_choices c n i j head None = refl
+no_choices c n i j head (Some s) = record { more = omega arith; most = omega arith; one = omega arith; begun = omega arith }
+
+-- ---- steps of a cursor
+
+pub steps_on : (v : RData) (n i j : ℕ) (head : List ℕ) (c c' p p' : ℕ) (r : Option Step) → GivesStep (data_left v) n i j head r
+    → CountsChoices c c' (data_options v) (data_options_left v) n i j head r → CountsPasses p p' (data_windows v) n i head r → IfSome r (λ s. DataAt v s.step s.part s.item)
+    → StepsOn (Some v) n i j head c c' p p' r
+unfolding left_of windows_of options_of options_left_of
+steps_on v n i j head c c' p p' None g k q a = record { octets = g.octets; nothing = g.nothing; passes = q; choices = k }
+steps_on v n i j head c c' p p' (Some s) g k q a = record {
+  octets = g.octets;
+  after = g.after;
+  more = g.more;
+  few = g.few;
+  at = a;
+  passes = q.passes;
+  pass = q.one;
+  passed = q.begun;
+  choices = k.more;
+  chosen = k.most;
+  option = k.one;
+  begun = k.begun;
+}
+
+pub no_steps : (n i j c p : ℕ) (head : List ℕ) → head ≡ [] → StepsOn None n i j head c c p p None
+unfolding left_of
+no_steps n i j c p head h = record { octets = refl; nothing = h; passes = refl; choices = refl }
+
+-- ---- choices of two calls
+
+pub chooses_both : {a b c : Remaining} → Chooses a b → Chooses b c → Chooses a c
+chooses_both {a} {b} {c} f g =
+    let most : c.choices + 2 * a.all_options * c.options ≤ b.choices + 2 * a.all_options * b.options =
+    subst (λ (n : ℕ). c.choices + 2 * n * c.options ≤ b.choices + 2 * n * b.options) f.all g.most in
+    record { more = omega (arith, f.more, g.more); most = omega (arith, most, f.most); all = g.all ∙ f.all }
+
+pub chooses_kept : {a b c : Remaining} → Chooses a b → c.choices ≡ b.choices → c.options ≡ b.options → c.all_options ≡ b.all_options → Chooses a c
+chooses_kept {a} {b} {c} f e o l = record {
+  more = omega (arith, f.more, e);
+  most = rw (e, o) f.most;
+  all = l ∙ f.all;
+}

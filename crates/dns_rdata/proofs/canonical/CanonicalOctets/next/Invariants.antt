@@ -1,0 +1,25 @@
+use Rattle.std.proofs.Common.{◌≡◌, ◌≤◌, ◌+◌, ◌-◌, ◌*◌, ◌++◌, length}
+use Rattle.std.specs.Option.{option_copied}
+use Rattle.dns_rdata.specs.Cursor.{left_of, windows_of, options_of, options_left_of, IsAt}
+use Rattle.dns_rdata.proofs.canonical.CanonicalOctets.next.Given as goal
+
+abbrev pub decreases-steps : goal.decreases-steps
+decreases-steps l = 8 - l.self-inside.step + length (left_of (option_copied l.self-inside.data) l.self-inside.step l.self-inside.part l.self-inside.item)
+
+-- what is left was left, and a pass or a choice was made only for octets that are at hand
+abbrev pub invariant-steps : goal.invariant-steps
+invariant-steps l = let s = l.self-inside in let z = l.initial.self-inside in record {
+  at : IsAt (option_copied s.data) s.step s.part s.item;
+  few : s.step ≤ 8;
+  same : options_of (option_copied s.data) ≡ options_of (option_copied z.data);
+  octets : z.run ++ left_of (option_copied z.data) z.step z.part z.item ≡ s.run ++ left_of (option_copied s.data) s.step s.part s.item;
+  taken : s.taken.n ≡ z.taken.n;
+  passes : z.passes.n + windows_of (option_copied z.data) z.step z.part ≡ s.passes.n + windows_of (option_copied s.data) s.step s.part;
+  one : s.passes.n ≤ z.passes.n + 1;
+  begun : s.passes.n ≤ z.passes.n + length s.run;
+  more : z.choices.n ≤ s.choices.n;
+  chosen : s.choices.n + 2 * options_of (option_copied z.data) * options_left_of (option_copied s.data) s.step s.part s.item
+      ≤ z.choices.n + 2 * options_of (option_copied z.data) * options_left_of (option_copied z.data) z.step z.part z.item;
+  option : options_left_of (option_copied z.data) z.step z.part z.item ≤ options_left_of (option_copied s.data) s.step s.part s.item + 1;
+  some : options_left_of (option_copied z.data) z.step z.part z.item ≤ options_left_of (option_copied s.data) s.step s.part s.item + length s.run;
+}

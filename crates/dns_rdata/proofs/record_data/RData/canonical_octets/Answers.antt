@@ -1,0 +1,19 @@
+use Rattle.std.proofs.Common.{sym, ◌∙◌, arith}
+use Rattle.dns_rdata.proofs.CursorSteps.{begins_at, begins_whole, begins_none}
+use Rattle.dns_rdata.proofs.record_data.RData.canonical_octets.Goals as goal
+use Rattle.dns_rdata.proofs.record_data.RData.canonical_octets.Goals.{then-is_emittable, else-is_emittable}
+
+pub invariant_of-result : goal.invariant_of-result
+invariant_of-result c = (
+  omega arith,
+  elim c.if-is_emittable.branch [
+    | then-is_emittable w ↦ rw w.data-is (begins_at c.args.self.now (sym c.is_emittable.ensures ∙ w.if-is_emittable.true))
+    | else-is_emittable w ↦ rw w.data-is tt
+  ],
+)
+
+pub returns-clause-octets : goal.returns-clause-octets
+returns-clause-octets c = elim c.if-is_emittable.branch [
+  | then-is_emittable w ↦ rw (w.data-is, c.new.ensures) (begins_whole c.args.self.now (sym c.is_emittable.ensures ∙ w.if-is_emittable.true))
+  | else-is_emittable w ↦ rw (w.data-is, c.new.ensures) (begins_none c.args.self.now (sym c.is_emittable.ensures ∙ w.if-is_emittable.false))
+]

@@ -1,0 +1,308 @@
+//! Canonical octets, one after the other.
+
+ghost use Rattle.std.specs.Prelude.{◌≡◌, ◌+◌, ◌≤◌, ℕ, [], ◌∷◌, if◌then◌else◌, is_some, IfSome, MatchOption, slice_get};
+ghost use Rattle.std.specs.Ordering.{nat_cmp};
+ghost use Rattle.std.specs.Option.{option_copied};
+ghost use Rattle.std.specs.Cmp.Lexicographic.{slice_cmp};
+ghost use Rattle.dns_fields.specs.Fields.{all_emittable};
+ghost use Rattle.dns_pieces.specs.Runs.{common};
+ghost use Rattle.dns_pieces.specs.Steps.{GivesStep, CountsPasses, CountsChoices};
+ghost use Rattle.dns_rdata.specs.Data.{fields_of, data_octets};
+ghost use Rattle.dns_rdata.specs.Cursor.{data_left, data_windows, data_options, data_options_left, IsUncounted, DataAt, IsAt, Chooses, StepsOn, RefillsBy, Skips};
+
+use crate::record_data::RData;
+use dns_pieces::{Count, Head, Run, Step, Tail};
+use dns_rdata_base::steps::{
+    a_step, aaaa_step, hinfo_is_emittable, hinfo_step, mx_step, name_step, naptr_is_emittable,
+    naptr_step, rest_step, soa_step, srv_step, txt_is_emittable, txt_step,
+};
+use dns_rdata_certs::steps::{cert_step, smimea_step, sshfp_step, tlsa_step};
+use dns_rdata_options::steps::{opt_is_emittable, opt_step};
+use dns_rdata_service::steps::{https_step, svcb_is_emittable, svcb_step};
+use dns_rdata_sets::steps::{caa_is_emittable, caa_step, csync_step};
+use std::cmp::Ordering;
+use std::marker::Model;
+
+impl RData {
+    // What comes next behind a place, where no step is counted.
+    fn plain_step<'a>(
+        &'a self,
+        step: usize,
+        part: usize,
+        item: usize,
+        head: &mut Head,
+    ) -> Option<Step<'a>>
+        requires empty { head.old ≡ [] }
+        requires plain { IsUncounted self.now }
+        requires at { DataAt self.now step part item }
+        ensures { GivesStep (data_left self.now) step part item head.new result }
+    {
+        match self {
+            RData::A(x) => a_step(x, step, head),
+            RData::AAAA(x) => aaaa_step(x, step, head),
+            RData::ANAME(x) => name_step(&x.0, step, head),
+            RData::CAA(x) => caa_step(x, step, head),
+            RData::CERT(x) => cert_step(x, step, head),
+            RData::CNAME(x) => name_step(&x.0, step, head),
+            RData::HINFO(x) => hinfo_step(x, step, head),
+            RData::HTTPS(x) => https_step(x, step, part, item, head),
+            RData::MX(x) => mx_step(x, step, head),
+            RData::NAPTR(x) => naptr_step(x, step, head),
+            RData::NULL(x) => rest_step(&x.anything, step, head),
+            RData::NS(x) => name_step(&x.0, step, head),
+            RData::OPENPGPKEY(x) => rest_step(&x.public_key, step, head),
+            RData::PTR(x) => name_step(&x.0, step, head),
+            RData::SMIMEA(x) => smimea_step(x, step, head),
+            RData::SOA(x) => soa_step(x, step, head),
+            RData::SRV(x) => srv_step(x, step, head),
+            RData::SSHFP(x) => sshfp_step(x, step, head),
+            RData::SVCB(x) => svcb_step(x, step, part, item, head),
+            RData::TLSA(x) => tlsa_step(x, step, head),
+            RData::TXT(x) => txt_step(x, step, part, head),
+            RData::Unknown { rdata, .. } => rest_step(&rdata.anything, step, head),
+            RData::CSYNC(_) | RData::OPT(_) | RData::Update0(_) | RData::ZERO => None,
+        }
+    }
+
+    // What comes next behind a place.
+    #[inline]
+    fn step<'a>(
+        &'a self,
+        step: usize,
+        part: usize,
+        item: usize,
+        head: &mut Head,
+        choices: &mut Count,
+        passes: &mut Count,
+    ) -> Option<Step<'a>>
+        requires empty { head.old ≡ [] }
+        requires at { DataAt self.now step part item }
+        ensures octets { GivesStep (data_left self.now) step part item head.new result }
+        ensures choices { CountsChoices choices.old.n choices.new.n (data_options self.now) (data_options_left self.now) step part item head.new result }
+        ensures passes { CountsPasses passes.old.n passes.new.n (data_windows self.now) step part head.new result }
+        ensures at { IfSome result (λ s. DataAt self.now s.step s.part s.item) }
+    {
+        let _ = &choices;
+        let _ = &passes;
+        match self {
+            RData::CSYNC(x) => csync_step(x, step, part, head, passes),
+            RData::OPT(x) => opt_step(x, step, part, item, head, choices),
+            _ => self.plain_step(step, part, item, head),
+        }
+    }
+
+    // Whether it can be emitted.
+    fn is_emittable(&self) -> bool
+        ensures { result ≡ all_emittable (fields_of self.now).kinds (fields_of self.now).values }
+    {
+        match self {
+            RData::CAA(x) => caa_is_emittable(x),
+            RData::HINFO(x) => hinfo_is_emittable(x),
+            RData::HTTPS(x) => svcb_is_emittable(&x.0),
+            RData::NAPTR(x) => naptr_is_emittable(x),
+            RData::OPT(x) => opt_is_emittable(x),
+            RData::SVCB(x) => svcb_is_emittable(x),
+            RData::TXT(x) => txt_is_emittable(x),
+            _ => true,
+        }
+    }
+}
+
+/// What is left of the canonical octets of a value. It keeps its place, and takes no memory.
+#[derive(Drop)]
+pub struct CanonicalOctets<'a> {
+    data: Option<&'a RData>,
+    run: Run<'a>,
+    step: usize,
+    part: usize,
+    item: usize,
+    taken: Count,
+    choices: Count,
+    passes: Count,
+}
+
+impl<'a> Model for CanonicalOctets<'a> {
+    ghost use Rattle.std.specs.Prelude.{◌≤◌, ◌++◌};
+    ghost use Rattle.std.specs.Option.{option_copied};
+    ghost use Rattle.dns_rdata.specs.Cursor.{Remaining, left_of, windows_of, options_of, options_left_of, IsAt};
+
+    ghost Value = { Remaining };
+
+    ghost view = { λ c. record {
+        octets = c.run ++ left_of (option_copied c.data) c.step c.part c.item;
+        taken = c.taken.n;
+        choices = c.choices.n;
+        options = options_left_of (option_copied c.data) c.step c.part c.item;
+        all_options = options_of (option_copied c.data);
+        passes = c.passes.n;
+        windows = windows_of (option_copied c.data) c.step c.part;
+    } };
+
+    ghost invariant = { λ c. (c.step ≤ 8) × IsAt (option_copied c.data) c.step c.part c.item };
+}
+
+impl RData {
+    /// A cursor at the first of the canonical octets. Of a value that cannot be emitted, of `Update0` and of `ZERO` there
+    /// are none. Takes no memory.
+    pub fn canonical_octets(&self) -> CanonicalOctets<'_>
+        ensures octets { result.octets ≡ data_octets self.now }
+        ensures taken { result.taken ≡ 0 }
+        ensures choices { result.choices ≡ 0 }
+        ensures passes { result.passes ≡ 0 }
+    {
+        let data = if self.is_emittable() {
+            Some(self)
+        } else {
+            None
+        };
+        CanonicalOctets {
+            data,
+            run: Run::new(),
+            step: 0,
+            part: 0,
+            item: 0,
+            taken: Count::new(),
+            choices: Count::new(),
+            passes: Count::new(),
+        }
+    }
+}
+
+// What comes next behind a place of the data, if there are any.
+#[inline]
+fn next_step<'a>(
+    source: Option<&'a RData>,
+    step: usize,
+    part: usize,
+    item: usize,
+    head: &mut Head,
+    choices: &mut Count,
+    passes: &mut Count,
+) -> Option<Step<'a>>
+    requires at { IsAt (option_copied source) step part item }
+    requires empty { head.old ≡ [] }
+    ensures { StepsOn (option_copied source.entry) step part item head.new choices.old.n choices.new.n passes.old.n passes.new.n result }
+{
+    match source {
+        None => None,
+        Some(data) => data.step(step, part, item, head, choices, passes),
+    }
+}
+
+// Brings the octets of the next step to hand, and answers the place behind them.
+#[inline]
+fn refill<'a>(
+    run: &mut Run<'a>,
+    source: Option<&'a RData>,
+    step: usize,
+    part: usize,
+    item: usize,
+    choices: &mut Count,
+    passes: &mut Count,
+) -> Option<(usize, usize, usize)>
+    requires { IsAt (option_copied source) step part item }
+    ensures { RefillsBy (option_copied source.entry) step part item run.new choices.old.n choices.new.n passes.old.n passes.new.n result }
+{
+    run.head.clear();
+    run.at = 0;
+    match next_step(source, step, part, item, &mut run.head, choices, passes) {
+        None => {
+            run.tail = Tail::none();
+            None
+        }
+        Some(next) => {
+            run.tail = next.tail;
+            Some((next.step, next.part, next.item))
+        }
+    }
+}
+
+impl<'a> CanonicalOctets<'a> {
+    /// The next octet. A call that gives one counts it. Options are compared only where one begins, at most twice as often
+    /// as there are options; and a set of types is gone over only where a window of it begins, once.
+    pub fn next(&mut self) -> Option<u8>
+        ensures octets { MatchOption result ((self.old.octets ≡ []) × (self.new.octets ≡ [])) (λ x. self.old.octets ≡ x ∷ self.new.octets) }
+        ensures few { self.new.taken ≤ self.old.taken + 1 }
+        ensures taken { self.new.taken ≡ self.old.taken + (if is_some result then 1 else 0) }
+        ensures choices { Chooses self.old self.new }
+        ensures option { self.old.options ≤ self.new.options + 1 }
+        ensures passes { self.old.passes + self.old.windows ≡ self.new.passes + self.new.windows }
+        ensures once { self.new.passes ≤ self.old.passes + 1 }
+    {
+        'steps: loop {
+            if let Some(octet) = self.run.next() {
+                self.taken.tick();
+                return Some(octet);
+            }
+            match refill(
+                &mut self.run,
+                self.data,
+                self.step,
+                self.part,
+                self.item,
+                &mut self.choices,
+                &mut self.passes,
+            ) {
+                None => return None,
+                Some((step, part, item)) => {
+                    self.step = step;
+                    self.part = part;
+                    self.item = item;
+                }
+            }
+        }
+    }
+
+    // Takes octets that both begin with.
+    #[inline]
+    fn skip_common(&mut self, other: &mut CanonicalOctets<'_>)
+        ensures { Skips self.old self.new other.old other.new }
+    {
+        let n = self.run.skip_common(&mut other.run);
+        self.taken.add(n);
+        other.taken.add(n);
+    }
+
+    /// The order of what the two still give, by the first difference, a proper beginning before what goes on. From each at
+    /// most one octet is taken past their common beginning.
+    pub fn compare(&mut self, other: &mut CanonicalOctets<'_>) -> Ordering
+        ensures order { result ≡ slice_cmp nat_cmp self.old.octets other.old.octets }
+        ensures self_taken { self.new.taken ≤ self.old.taken + common self.old.octets other.old.octets + 1 }
+        ensures other_taken { other.new.taken ≤ other.old.taken + common self.old.octets other.old.octets + 1 }
+        ensures self_choices { Chooses self.old self.new }
+        ensures other_choices { Chooses other.old other.new }
+        ensures self_passes { self.old.passes + self.old.windows ≡ self.new.passes + self.new.windows }
+        ensures other_passes { other.old.passes + other.old.windows ≡ other.new.passes + other.new.windows }
+    {
+        'octets: loop {
+            match (self.next(), other.next()) {
+                (None, None) => return Ordering::Equal,
+                (None, Some(_)) => return Ordering::Less,
+                (Some(_), None) => return Ordering::Greater,
+                (Some(x), Some(y)) => {
+                    if x != y {
+                        return x.cmp(&y);
+                    }
+                }
+            }
+            self.skip_common(other);
+        }
+    }
+}
+
+impl RData {
+    /// The canonical octet at a place, and none from their number on. Takes no memory.
+    pub fn octet_at(&self, place: u128) -> Option<u8>
+        ensures { result ≡ slice_get (data_octets self.now) place }
+    {
+        let mut octets = self.canonical_octets();
+        let mut left = place;
+        'octets: while let Some(octet) = octets.next() {
+            if left == 0 {
+                return Some(octet);
+            }
+            left -= 1;
+        }
+        None
+    }
+}
