@@ -1,3 +1,4 @@
 pub mod Values
 pub mod DataReads
 pub mod DataLaws
+pub mod DataWords

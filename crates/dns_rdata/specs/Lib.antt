@@ -1,4 +1,5 @@
 pub mod Data
+pub mod DataWords
 pub mod Equal
 pub mod Hashing
 pub mod Laws

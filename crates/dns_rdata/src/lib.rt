@@ -5,6 +5,7 @@ ghost use Rattle.dns_rdata.specs.Laws.{OneValue, EachWindow};
 
 pub mod record_data;
 pub mod traits;
+mod words;
 
 pub use dns_names_wire::{
     AddrParseError, BinDecodable, BinDecoder, BinEncodable, BinEncoder, DecodeError, LabelIter,
