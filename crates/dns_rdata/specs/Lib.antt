@@ -1,5 +1,6 @@
 pub mod Data
 pub mod Cursor
+pub mod DataWords
 pub mod Equal
 pub mod Hashing
 pub mod Laws

@@ -6,6 +6,7 @@ ghost use Rattle.dns_rdata.specs.Laws.{OneValue, EachWindow};
 pub mod canonical;
 pub mod record_data;
 pub mod traits;
+mod words;
 
 pub use dns_names_wire::{
     AddrParseError, BinDecodable, BinDecoder, BinEncodable, BinEncoder, DecodeError, LabelIter,

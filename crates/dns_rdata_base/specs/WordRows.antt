@@ -12,7 +12,7 @@ use Rattle.dns_rdata_base.specs.HINFO.{hinfo_shape}
 use Rattle.dns_rdata_base.specs.MX.{mx_shape}
 use Rattle.dns_rdata_base.specs.NAPTR.{naptr_shape, AreFlags}
 use Rattle.dns_rdata_base.specs.OPENPGPKEY.{openpgpkey_shape}
-use Rattle.dns_rdata_base.specs.SOA.{soa_shape}
+use Rattle.dns_rdata_base.specs.SOA.{soa_shape, HasSeconds}
 use Rattle.dns_rdata_base.specs.SRV.{srv_shape}
 use Rattle.dns_rdata_base.specs.TXT.{txt_shape}
 use Rattle.dns_rdata_base.specs.declared.mx.MX.{MX}
@@ -80,6 +80,7 @@ AreSeconds (pos n) = n ≤ 2147483647
 AreSeconds (negsuc n) = ⊥
 
 pub record IsPrintedSoa (x : SOA) : Type 0 where
+  pub seconds : HasSeconds x
   pub mname : IsPrintedName x.mname
   pub rname : IsPrintedName x.rname
   pub serial : x.serial ≤ 4294967295

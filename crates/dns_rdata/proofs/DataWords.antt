@@ -1,0 +1,134 @@
+-- Words of each type.
+use Rattle.std.proofs.Common.{◌≡◌, ◌≢◌, ℕ, List, [], ◌∷◌, Option, Some, None, Result, Ok, Err, inl, inr, refl, sym, subst, map, length, arith, ◌∙◌}
+use Rattle.std.specs.Cow.{cow_str_bytes}
+use Rattle.std.specs.Vec.Iter.{into_iter_steps, into_iter_items, into_iter_len, into_iter_deque}
+use Rattle.std.specs.declared.vec.IntoIter.{IntoIter}
+use Rattle.std.specs.declared.borrow.CowStr.{CowStr}
+use Rattle.std.specs.declared.alloc.Global.{Global}
+use Rattle.dns_types.specs.declared.record_type.RecordType.{RecordType}
+use Rattle.dns_types.specs.declared.record_type.RecordType.TheVariants as types
+use Rattle.dns_types.specs.declared.error.ParseError.{ParseError}
+use Rattle.dns_types.specs.declared.error.ParseError.TheVariants as parse
+use Rattle.std.specs.Result.{IsErrAnd}
+use Rattle.dns_text.specs.TextWords.{TextWords, NoTextWords}
+use Rattle.dns_words.specs.Taking.{HoldsBehind, HoldsOfWords}
+use Rattle.dns_fields.specs.Labels.{DomainName}
+use Rattle.dns_fields.specs.Fields.{Values}
+use Rattle.dns_words.specs.Forms.{Row}
+use Rattle.dns_words.specs.Reads.{UnlessMemory, Decides, TookWords, RefusedWords}
+use Rattle.dns_words.specs.Printed.{cut}
+use Rattle.dns_words.proofs.Steps.{holds_map, holds_all, unless_map, unless_all}
+use Rattle.dns_rdata_base.specs.NameRecords.{name_fields}
+use Rattle.dns_rdata_base.specs.A.{a_fields}
+use Rattle.dns_rdata_base.specs.AAAA.{aaaa_fields}
+use Rattle.dns_rdata_base.specs.MX.{mx_fields}
+use Rattle.dns_rdata_base.specs.SOA.{soa_fields}
+use Rattle.dns_rdata_base.specs.SRV.{srv_fields}
+use Rattle.dns_rdata_certs.specs.SSHFP.{sshfp_fields}
+use Rattle.dns_rdata_certs.specs.TLSA.{tlsa_fields}
+use Rattle.dns_rdata_base.proofs.WordsBack.{a_back, aaaa_back, one_name_back, mx_back, srv_back, soa_back}
+use Rattle.dns_rdata_certs.proofs.WordsBack.{sshfp_back, tlsa_back}
+use Rattle.dns_rdata.specs.declared.record_data.RData.{RData}
+use Rattle.dns_rdata.specs.declared.record_data.RData.TheVariants as rdata
+use Rattle.dns_rdata.specs.Data.{shape, IsValue, type_of}
+use Rattle.dns_rdata.specs.Texts.{text_of}
+use Rattle.dns_rdata.specs.DataWords.{reading_of, stand_by, HasNoWords, AreDataWords, TookDataWords, RefusedDataWords, ReadsDataWords, ReadsDataText, IsPrinted, PrintsBack}
+
+module _ {S I : Type 0} {gives : I → Option S → I → Type 0} {text : S → List ℕ} where
+  -- words of a type's row give its value
+  pub data_took : {s : I} (origin : Option DomainName) (t : RecordType) (row : Row (shape t)) (vs : Values (shape t)) (v : RData) → ((words : List (List ℕ)) → row.stand vs words → stand_by (reading_of origin t) vs words) → IsValue t vs v → TookWords gives text row vs s → TookDataWords gives text origin t v s
+  data_took origin t row vs v own value f = record { type = value.type; words = holds_map (λ words. AreDataWords origin t v words) (λ words stand. record { values = vs; stand = own words stand; value = value }) f.words }
+
+  -- and what refuses the row refuses the type
+  pub data_refused : {e : ParseError} {s : I} (origin : Option DomainName) (t : RecordType) (row : Row (shape t)) → ((vs : Values (shape t)) (words : List (List ℕ)) → stand_by (reading_of origin t) vs words → row.stand vs words) → RefusedWords gives text e row s → RefusedDataWords gives text e origin t s
+  data_refused {e} origin t row own r = record { none = unless_map e _ _ (λ none. holds_map (λ words. (v : RData) → AreDataWords origin t v words → ⊥) (λ words no v d. no d.values (own d.values words d.stand)) none) r.none }
+
+  pub zero_took : {s : I} (origin : Option DomainName) → TookDataWords gives text origin types.ZERO rdata.ZERO s
+  zero_took origin = record { type = refl; words = holds_all (λ words. AreDataWords origin types.ZERO rdata.ZERO words) (λ words. record { values = tt; stand = tt; value = record { type = refl; fields = refl; plain = tt } }) }
+
+  pub rowless_refused : {e : ParseError} {s : I} (origin : Option DomainName) (t : RecordType) → ((vs : Values (shape t)) (words : List (List ℕ)) → stand_by (reading_of origin t) vs words → ⊥) → RefusedDataWords gives text e origin t s
+  rowless_refused {e} origin t none_is = record { none = unless_all e (holds_all (λ words. (v : RData) → AreDataWords origin t v words → ⊥) (λ words v d. none_is d.values words d.stand)) }
+
+pub has_words : {t : RecordType} (u : RecordType) → t ≡ u → (HasNoWords u → ⊥) → HasNoWords t → ⊥
+has_words u e f h = f (subst (λ (k : RecordType). HasNoWords k) e h)
+
+-- types whose words are not read
+pub no_words : (origin : Option DomainName) (t : RecordType) → t ≢ types.A → t ≢ types.AAAA → t ≢ types.ANAME → t ≢ types.CAA → t ≢ types.CERT → t ≢ types.CNAME → t ≢ types.CSYNC → t ≢ types.HINFO → t ≢ types.MX → t ≢ types.NAPTR → t ≢ types.NS → t ≢ types.OPENPGPKEY → t ≢ types.PTR → t ≢ types.SMIMEA → t ≢ types.SOA → t ≢ types.SRV → t ≢ types.SSHFP → t ≢ types.TLSA → t ≢ types.TXT → t ≢ types.ZERO → (vs : Values (shape t)) (words : List (List ℕ)) → stand_by (reading_of origin t) vs words → ⊥
+no_words origin types.A h0 h1 h2 h3 h4 h5 h6 h7 h8 h9 h10 h11 h12 h13 h14 h15 h16 h17 h18 h19 vs words w = h0 refl
+no_words origin types.AAAA h0 h1 h2 h3 h4 h5 h6 h7 h8 h9 h10 h11 h12 h13 h14 h15 h16 h17 h18 h19 vs words w = h1 refl
+no_words origin types.ANAME h0 h1 h2 h3 h4 h5 h6 h7 h8 h9 h10 h11 h12 h13 h14 h15 h16 h17 h18 h19 vs words w = h2 refl
+no_words origin types.CAA h0 h1 h2 h3 h4 h5 h6 h7 h8 h9 h10 h11 h12 h13 h14 h15 h16 h17 h18 h19 vs words w = h3 refl
+no_words origin types.CERT h0 h1 h2 h3 h4 h5 h6 h7 h8 h9 h10 h11 h12 h13 h14 h15 h16 h17 h18 h19 vs words w = h4 refl
+no_words origin types.CNAME h0 h1 h2 h3 h4 h5 h6 h7 h8 h9 h10 h11 h12 h13 h14 h15 h16 h17 h18 h19 vs words w = h5 refl
+no_words origin types.CSYNC h0 h1 h2 h3 h4 h5 h6 h7 h8 h9 h10 h11 h12 h13 h14 h15 h16 h17 h18 h19 vs words w = h6 refl
+no_words origin types.HINFO h0 h1 h2 h3 h4 h5 h6 h7 h8 h9 h10 h11 h12 h13 h14 h15 h16 h17 h18 h19 vs words w = h7 refl
+no_words origin types.MX h0 h1 h2 h3 h4 h5 h6 h7 h8 h9 h10 h11 h12 h13 h14 h15 h16 h17 h18 h19 vs words w = h8 refl
+no_words origin types.NAPTR h0 h1 h2 h3 h4 h5 h6 h7 h8 h9 h10 h11 h12 h13 h14 h15 h16 h17 h18 h19 vs words w = h9 refl
+no_words origin types.NS h0 h1 h2 h3 h4 h5 h6 h7 h8 h9 h10 h11 h12 h13 h14 h15 h16 h17 h18 h19 vs words w = h10 refl
+no_words origin types.OPENPGPKEY h0 h1 h2 h3 h4 h5 h6 h7 h8 h9 h10 h11 h12 h13 h14 h15 h16 h17 h18 h19 vs words w = h11 refl
+no_words origin types.PTR h0 h1 h2 h3 h4 h5 h6 h7 h8 h9 h10 h11 h12 h13 h14 h15 h16 h17 h18 h19 vs words w = h12 refl
+no_words origin types.SMIMEA h0 h1 h2 h3 h4 h5 h6 h7 h8 h9 h10 h11 h12 h13 h14 h15 h16 h17 h18 h19 vs words w = h13 refl
+no_words origin types.SOA h0 h1 h2 h3 h4 h5 h6 h7 h8 h9 h10 h11 h12 h13 h14 h15 h16 h17 h18 h19 vs words w = h14 refl
+no_words origin types.SRV h0 h1 h2 h3 h4 h5 h6 h7 h8 h9 h10 h11 h12 h13 h14 h15 h16 h17 h18 h19 vs words w = h15 refl
+no_words origin types.SSHFP h0 h1 h2 h3 h4 h5 h6 h7 h8 h9 h10 h11 h12 h13 h14 h15 h16 h17 h18 h19 vs words w = h16 refl
+no_words origin types.TLSA h0 h1 h2 h3 h4 h5 h6 h7 h8 h9 h10 h11 h12 h13 h14 h15 h16 h17 h18 h19 vs words w = h17 refl
+no_words origin types.TXT h0 h1 h2 h3 h4 h5 h6 h7 h8 h9 h10 h11 h12 h13 h14 h15 h16 h17 h18 h19 vs words w = h18 refl
+no_words origin types.ZERO h0 h1 h2 h3 h4 h5 h6 h7 h8 h9 h10 h11 h12 h13 h14 h15 h16 h17 h18 h19 vs words w = h19 refl
+no_words origin t h0 h1 h2 h3 h4 h5 h6 h7 h8 h9 h10 h11 h12 h13 h14 h15 h16 h17 h18 h19 vs words w = w
+
+-- ---- printed values
+
+back_of : (origin : Option DomainName) (v : RData) → IsPrinted v → AreDataWords origin (type_of v) v (cut (text_of v))
+back_of origin (rdata.A x) h = record { values = a_fields x; stand = a_back.back x h; value = record { type = refl; fields = refl; plain = tt } }
+back_of origin (rdata.AAAA x) h = record { values = aaaa_fields x; stand = aaaa_back.back x h; value = record { type = refl; fields = refl; plain = tt } }
+back_of origin (rdata.ANAME x) h = record { values = name_fields x.0; stand = (one_name_back origin).back x.0 h; value = record { type = refl; fields = refl; plain = tt } }
+back_of origin (rdata.CNAME x) h = record { values = name_fields x.0; stand = (one_name_back origin).back x.0 h; value = record { type = refl; fields = refl; plain = tt } }
+back_of origin (rdata.NS x) h = record { values = name_fields x.0; stand = (one_name_back origin).back x.0 h; value = record { type = refl; fields = refl; plain = tt } }
+back_of origin (rdata.PTR x) h = record { values = name_fields x.0; stand = (one_name_back origin).back x.0 h; value = record { type = refl; fields = refl; plain = tt } }
+back_of origin (rdata.MX x) h = record { values = mx_fields x; stand = (mx_back origin).back x h; value = record { type = refl; fields = refl; plain = tt } }
+back_of origin (rdata.SMIMEA x) h = record { values = tlsa_fields x.0; stand = tlsa_back.back x.0 h; value = record { type = refl; fields = refl; plain = h.enums } }
+back_of origin (rdata.SOA x) h = record { values = soa_fields x; stand = (soa_back origin).back x h; value = record { type = refl; fields = refl; plain = h.seconds } }
+back_of origin (rdata.SRV x) h = record { values = srv_fields x; stand = (srv_back origin).back x h; value = record { type = refl; fields = refl; plain = tt } }
+back_of origin (rdata.SSHFP x) h = record { values = sshfp_fields x; stand = sshfp_back.back x h; value = record { type = refl; fields = refl; plain = h.enums } }
+back_of origin (rdata.TLSA x) h = record { values = tlsa_fields x; stand = tlsa_back.back x h; value = record { type = refl; fields = refl; plain = h.enums } }
+back_of origin v h = absurd h
+
+pub data_back : (origin : Option DomainName) (t : RecordType) → PrintsBack origin t
+data_back origin t = record { back = λ v e h. subst (λ (u : RecordType). AreDataWords origin u v (cut (text_of v))) e (back_of origin v h) }
+
+-- ---- a whole text
+
+no_items : {A : Type 0} (xs : List A) → 0 ≡ length xs → xs ≡ []
+no_items [] e = refl
+no_items (x ∷ xs) e = absurd (omega (arith, e))
+
+ended : (s : IntoIter (CowStr Global) Global) → into_iter_len s ≡ 0 → into_iter_items s ≡ []
+ended s e = no_items (into_iter_items s) (sym e ∙ (into_iter_deque s).ok.0)
+
+of_list : (xs : List (CowStr Global)) (s : IntoIter (CowStr Global) Global) (P : List (List ℕ) → Type 0) → HoldsBehind into_iter_steps cow_str_bytes xs s P → P (map cow_str_bytes (into_iter_items s))
+of_list [] s P (inl all) = all (map cow_str_bytes (into_iter_items s))
+of_list [] s P (inr h) = subst (λ (l : List (CowStr Global)). P (map cow_str_bytes l)) (sym (ended s h.1.0)) h.2
+of_list (x ∷ xs) s P h = subst (λ (l : List (CowStr Global)). P (map cow_str_bytes l)) (sym h.1.0) (of_list xs h.0 (λ words. P (cow_str_bytes x ∷ words)) h.2)
+
+holds_of : (s : IntoIter (CowStr Global) Global) (words : List (List ℕ)) (P : List (List ℕ) → Type 0) → map cow_str_bytes (into_iter_items s) ≡ words → HoldsOfWords into_iter_steps cow_str_bytes s P → P words
+holds_of s words P e h = subst P e (of_list h.taken s P h.holds)
+
+pub each_read : (t : RecordType) (words : List (List ℕ)) (s : IntoIter (CowStr Global) Global) (r : Result RData ParseError) → map cow_str_bytes (into_iter_items s) ≡ words → ReadsDataWords into_iter_steps cow_str_bytes None t r s → Decides (λ v. AreDataWords None t v words) (λ v. v) r
+each_read t words s (Ok v) e h = holds_of s words (λ l. AreDataWords None t v l) e h.words
+each_read t words s (Err y) e h = unless_map y _ _ (λ none. record { none = holds_of s words (λ l. (v : RData) → AreDataWords None t v l → ⊥) e none }) h.none
+
+pub text_read : (t : RecordType) (text : List ℕ) (words : List (List ℕ)) (r : Result RData ParseError) → TextWords words text → Decides (λ v. AreDataWords None t v words) (λ v. v) r → ReadsDataText t r text
+text_read t text words (Ok v) is h = record { words = words; of_text = is; give = h }
+text_read t text words (Err y) is h = unless_map y _ _ (λ none. inr (record { words = words; of_text = is; none = none.none })) h
+
+unless_not : (e : ParseError) {P : Type 0} → (e ≢ parse.Memory → P) → UnlessMemory e P
+unless_not parse.Memory f = tt
+unless_not parse.MissingToken f = f (λ h. absurd cc)
+unless_not (parse.Message m) f = f (λ h. absurd cc)
+unless_not (parse.UnsupportedRecordType t) f = f (λ h. absurd cc)
+unless_not parse.AddrParse f = f (λ h. absurd cc)
+unless_not (parse.Proto x) f = f (λ h. absurd cc)
+
+pub no_words_read : (t : RecordType) (text : List ℕ) (e : ParseError) (r : Result RData ParseError) → IsErrAnd r (λ y. y ≡ e) → (e ≢ parse.Memory → NoTextWords text) → ReadsDataText t r text
+no_words_read t text e (Ok v) h none = elim h [ ]
+no_words_read t text e (Err y) h none = rw h (unless_not e (λ n. inl (none n)))

@@ -1,0 +1,8 @@
+use Rattle.dns_rdata.proofs.DataWords.{text_read, no_words_read}
+use Rattle.dns_rdata.proofs.record_data.RData.try_from_str.Goals as goal
+
+pub returns-in_err-words-clause-reads : goal.returns-in_err-words-clause-reads
+returns-in_err-words-clause-reads c = no_words_read _ _ _ _ c.from_residual.ensures.1 c.in_err-words.ensures.refused
+
+pub returns-clause-reads : goal.returns-clause-reads
+returns-clause-reads c = text_read _ _ _ _ c.in_ok-words.ensures.ok c.read_each.ensures.reads

@@ -1,0 +1,121 @@
+-- The words of record data of every type.
+use Rattle.std.specs.Prelude.{◌≡◌, ◌⊎◌, ℕ, List, Option, None, Result, Ok, Err}
+use Rattle.std.specs.Net.Addr.{IsIpv4Addr, IsIpv6Addr}
+use Rattle.dns_types.specs.declared.record_type.RecordType.{RecordType}
+use Rattle.dns_types.specs.declared.record_type.RecordType.TheVariants as types
+use Rattle.dns_types.specs.declared.error.ParseError.{ParseError}
+use Rattle.dns_fields.specs.Labels.{DomainName}
+use Rattle.dns_fields.specs.Fields.{Kind, Values}
+use Rattle.dns_text.specs.TextWords.{TextWords, NoTextWords}
+use Rattle.dns_words.specs.Taking.{HoldsOfWords}
+use Rattle.dns_words.specs.Forms.{Row, ignored}
+use Rattle.dns_words.specs.Reads.{UnlessMemory}
+use Rattle.dns_words.specs.Printed.{cut, IsPrintedName}
+use Rattle.dns_rdata_base.specs.WordRows.{a_words, aaaa_words, name_words, hinfo_words, mx_words, naptr_words, openpgpkey_words, soa_words, srv_words, txt_words, IsPrintedMx, IsPrintedSrv, IsPrintedSoa}
+use Rattle.dns_rdata_certs.specs.WordRows.{cert_words, smimea_words, sshfp_words, tlsa_words, IsPrintedSshfp, IsPrintedTlsa}
+use Rattle.dns_rdata_sets.specs.WordRows.{caa_words, csync_words}
+use Rattle.dns_rdata.specs.declared.record_data.RData.{RData}
+use Rattle.dns_rdata.specs.declared.record_data.RData.TheVariants as rdata
+use Rattle.dns_rdata.specs.Data.{shape, IsValue, type_of}
+use Rattle.dns_rdata.specs.Texts.{text_of}
+
+-- how the words of a type are read
+pub data Reading : List Kind → Type 1 where
+  by : {kinds : List Kind} → Row kinds → Reading kinds
+  refused : {kinds : List Kind} → Reading kinds
+
+-- the words of each type; of ZERO no word is read, and of a type that isn't named here no words are
+abbrev pub reading_of : Option DomainName → (t : RecordType) → Reading (shape t)
+reading_of origin types.A = by a_words
+reading_of origin types.AAAA = by aaaa_words
+reading_of origin types.ANAME = by (name_words origin)
+reading_of origin types.CAA = by caa_words
+reading_of origin types.CERT = by cert_words
+reading_of origin types.CNAME = by (name_words origin)
+reading_of origin types.CSYNC = by csync_words
+reading_of origin types.HINFO = by hinfo_words
+reading_of origin types.MX = by (mx_words origin)
+reading_of origin types.NAPTR = by (naptr_words origin)
+reading_of origin types.NS = by (name_words origin)
+reading_of origin types.OPENPGPKEY = by openpgpkey_words
+reading_of origin types.PTR = by (name_words origin)
+reading_of origin types.SMIMEA = by smimea_words
+reading_of origin types.SOA = by (soa_words origin)
+reading_of origin types.SRV = by (srv_words origin)
+reading_of origin types.SSHFP = by sshfp_words
+reading_of origin types.TLSA = by tlsa_words
+reading_of origin types.TXT = by txt_words
+reading_of origin types.ZERO = by ignored
+reading_of origin t = refused
+
+abbrev pub stand_by : {kinds : List Kind} → Reading kinds → Values kinds → List (List ℕ) → Type 0
+stand_by (by row) vs words = row.stand vs words
+stand_by refused vs words = ⊥
+
+abbrev pub is_refused : {kinds : List Kind} → Reading kinds → Type 0
+is_refused (by row) = ⊥
+is_refused refused = Unit {0}
+
+-- no words are read of the type
+abbrev pub HasNoWords : RecordType → Type 0
+HasNoWords t = is_refused (reading_of (None) t)
+
+-- the words give the value, of this type
+pub record AreDataWords (origin : Option DomainName) (t : RecordType) (v : RData) (words : List (List ℕ)) : Type 0 where
+  pub values : Values (shape t)
+  pub stand : stand_by (reading_of origin t) values words
+  pub value : IsValue t values v
+
+module _ {S I : Type 0} (gives : I → Option S → I → Type 0) (text : S → List ℕ) where
+  pub record TookDataWords (origin : Option DomainName) (t : RecordType) (v : RData) (s : I) : Type 0 where
+    pub type : type_of v ≡ t
+    pub words : HoldsOfWords gives text s (λ words. AreDataWords origin t v words)
+
+  pub record RefusedDataWords (e : ParseError) (origin : Option DomainName) (t : RecordType) (s : I) : Type 0 where
+    pub none : UnlessMemory e (HoldsOfWords gives text s (λ words. (v : RData) → AreDataWords origin t v words → ⊥))
+
+  -- reads a value of the type exactly where the words give one
+  abbrev pub ReadsDataWords : Option DomainName → RecordType → Result RData ParseError → I → Type 0
+  ReadsDataWords origin t (Ok v) s = TookDataWords origin t v s
+  ReadsDataWords origin t (Err e) s = RefusedDataWords e origin t s
+
+-- A value whose printed words give it back: of addresses; of names that are fully qualified, numbers beside them that
+-- fit their fields, and times that are not negative; of fingerprints and certificates that have octets and the enums of
+-- their numbers.
+abbrev pub IsPrinted : RData → Type 0
+IsPrinted (rdata.A x) = IsIpv4Addr x.0
+IsPrinted (rdata.AAAA x) = IsIpv6Addr x.0
+IsPrinted (rdata.ANAME x) = IsPrintedName x.0
+IsPrinted (rdata.CNAME x) = IsPrintedName x.0
+IsPrinted (rdata.MX x) = IsPrintedMx x
+IsPrinted (rdata.NS x) = IsPrintedName x.0
+IsPrinted (rdata.PTR x) = IsPrintedName x.0
+IsPrinted (rdata.SMIMEA x) = IsPrintedTlsa x.0
+IsPrinted (rdata.SOA x) = IsPrintedSoa x
+IsPrinted (rdata.SRV x) = IsPrintedSrv x
+IsPrinted (rdata.SSHFP x) = IsPrintedSshfp x
+IsPrinted (rdata.TLSA x) = IsPrintedTlsa x
+IsPrinted v = ⊥
+
+-- what is printed of a value of the type, cut at its blanks, gives it back
+pub record PrintsBack (origin : Option DomainName) (t : RecordType) : Type 0 where
+  pub back : (v : RData) → type_of v ≡ t → IsPrinted v → AreDataWords origin t v (cut (text_of v))
+
+-- ---- a whole text
+
+-- the words of the text give the value
+pub record IsDataText (t : RecordType) (text : List ℕ) (v : RData) : Type 0 where
+  pub words : List (List ℕ)
+  pub of_text : TextWords words text
+  pub give : AreDataWords None t v words
+
+-- these are the words of the text, and they give no value of the type
+pub record GivesNone (t : RecordType) (text : List ℕ) : Type 0 where
+  pub words : List (List ℕ)
+  pub of_text : TextWords words text
+  pub none : (v : RData) → AreDataWords None t v words → ⊥
+
+-- reads a value exactly where the text has words and they give one
+abbrev pub ReadsDataText : RecordType → Result RData ParseError → List ℕ → Type 0
+ReadsDataText t (Ok v) text = IsDataText t text v
+ReadsDataText t (Err e) text = UnlessMemory e (NoTextWords text ⊎ GivesNone t text)

@@ -1,0 +1,115 @@
+//! Record data read from words (RFC 1035, 5.1).
+
+ghost use Rattle.std.specs.Prelude.{◌≡◌, None, Err, IfOk, map};
+ghost use Rattle.std.specs.Cow.{cow_str_bytes};
+ghost use Rattle.std.specs.Iterator.{IsFinite};
+ghost use Rattle.std.specs.Option.{option_copied};
+ghost use Rattle.dns_rdata.specs.Data.{type_of};
+ghost use Rattle.dns_rdata.specs.DataWords.{ReadsDataWords, ReadsDataText, AreDataWords, PrintsBack, HasNoWords};
+ghost use Rattle.dns_words.specs.Reads.{Decides};
+
+use crate::record_data::RData;
+use dns_names_wire::{Name, ParseError, RecordType};
+use dns_rdata_base::{
+    A, AAAA, ANAME, CNAME, HINFO, MX, NAPTR, NS, OPENPGPKEY, PTR, SOA, SRV, TXT,
+};
+use dns_rdata_certs::{CERT, SMIMEA, SSHFP, TLSA};
+use dns_rdata_sets::{CAA, CSYNC};
+use dns_text::text_words;
+use std::alloc::Global;
+use std::borrow::CowStr;
+use std::convert::AsStr;
+
+impl RData {
+    // Reads the words of a type.
+    fn read_words<S: AsStr + Drop, I: Iterator<Item = S>>(
+        alloc: Global,
+        record_type: RecordType,
+        tokens: I,
+        origin: Option<&Name>,
+    ) -> Result<RData, ParseError>
+        requires can { I.can_next tokens }
+        requires ends { IsFinite (I.remaining tokens) }
+        ensures reads { ReadsDataWords I.next_gives S.text (option_copied origin.entry) record_type result tokens }
+        ensures unsupported { HasNoWords record_type → result ≡ Err (ParseError.UnsupportedRecordType record_type) }
+    {
+        match record_type {
+            RecordType::A => Ok(RData::A(A::from_tokens(tokens)?)),
+            RecordType::AAAA => Ok(RData::AAAA(AAAA::from_tokens(tokens)?)),
+            RecordType::ANAME => Ok(RData::ANAME(ANAME::from_tokens(alloc, tokens, origin)?)),
+            RecordType::CAA => Ok(RData::CAA(CAA::from_tokens(alloc, tokens)?)),
+            RecordType::CERT => Ok(RData::CERT(CERT::from_tokens(alloc, tokens)?)),
+            RecordType::CNAME => Ok(RData::CNAME(CNAME::from_tokens(alloc, tokens, origin)?)),
+            RecordType::CSYNC => Ok(RData::CSYNC(CSYNC::from_tokens(alloc, tokens)?)),
+            RecordType::HINFO => Ok(RData::HINFO(HINFO::from_tokens(alloc, tokens)?)),
+            RecordType::MX => Ok(RData::MX(MX::from_tokens(alloc, tokens, origin)?)),
+            RecordType::NAPTR => Ok(RData::NAPTR(NAPTR::from_tokens(alloc, tokens, origin)?)),
+            RecordType::NS => Ok(RData::NS(NS::from_tokens(alloc, tokens, origin)?)),
+            RecordType::OPENPGPKEY => Ok(RData::OPENPGPKEY(OPENPGPKEY::from_tokens(
+                alloc, tokens,
+            )?)),
+            RecordType::PTR => Ok(RData::PTR(PTR::from_tokens(alloc, tokens, origin)?)),
+            RecordType::SMIMEA => Ok(RData::SMIMEA(SMIMEA::from_tokens(alloc, tokens)?)),
+            RecordType::SOA => Ok(RData::SOA(SOA::from_tokens(alloc, tokens, origin)?)),
+            RecordType::SRV => Ok(RData::SRV(SRV::from_tokens(alloc, tokens, origin)?)),
+            RecordType::SSHFP => Ok(RData::SSHFP(SSHFP::from_tokens(alloc, tokens)?)),
+            RecordType::TLSA => Ok(RData::TLSA(TLSA::from_tokens(alloc, tokens)?)),
+            RecordType::TXT => Ok(RData::TXT(TXT::from_tokens(alloc, tokens)?)),
+            RecordType::ZERO => Ok(RData::ZERO),
+            _ => Err(ParseError::UnsupportedRecordType(record_type)),
+        }
+    }
+
+    /// The data of a record of this type from its words, one by one as the record's own `from_tokens` reads them; a
+    /// relative name in them gets labels and mark of the origin, where one is given.
+    ///
+    /// A missing word is refused. What is behind the words of a type is not read, but for OPENPGPKEY and SSHFP, which
+    /// refuse a further word, and TXT, TLSA, SMIMEA and CSYNC, whose last field is all further words. Of ZERO no word is
+    /// read. The other types, those of an unknown number too, are refused by `UnsupportedRecordType`. The caller owes an
+    /// iterator that ends, as every iterator of a list or of a text's parts does.
+    #[tactic(auto, using(crate::proofs::DataWords::data_back))]
+    pub fn from_tokens<S: AsStr + Drop, I: Iterator<Item = S>>(
+        alloc: Global,
+        record_type: RecordType,
+        tokens: I,
+        origin: Option<&Name>,
+    ) -> Result<RData, ParseError>
+        requires can { I.can_next tokens }
+        requires ends { IsFinite (I.remaining tokens) }
+        // A value is answered exactly where the words give it.
+        ensures reads { ReadsDataWords I.next_gives S.text (option_copied origin.entry) record_type result tokens }
+        ensures kind { IfOk result (λ v. type_of v ≡ record_type) }
+        // What is printed of a value of the type, cut at its blanks, gives it back.
+        ensures back { PrintsBack (option_copied origin.entry) record_type }
+        ensures unsupported { HasNoWords record_type → result ≡ Err (ParseError.UnsupportedRecordType record_type) }
+    {
+        RData::read_words(alloc, record_type, tokens, origin)
+    }
+
+    /// The data of a record of this type from a text (RFC 1035, 5.1), whose words (`text_words`) are read as by
+    /// `from_tokens`, without an origin: a list in parentheses gives its words, character data one, blanks and the ends
+    /// of lines none. A text with another token, or with none that it could have, is refused.
+    pub fn try_from_str(
+        alloc: Global,
+        record_type: RecordType,
+        text: &str,
+    ) -> Result<RData, ParseError>
+        ensures reads { ReadsDataText record_type result text.now }
+        ensures kind { IfOk result (λ v. type_of v ≡ record_type) }
+    {
+        let words = text_words(alloc, text)?;
+        read_each(alloc, record_type, words)
+    }
+}
+
+// Reads the words of a list, without an origin.
+fn read_each(
+    alloc: Global,
+    record_type: RecordType,
+    words: Vec<CowStr<'_, Global>>,
+) -> Result<RData, ParseError>
+    ensures reads { Decides (λ v. AreDataWords None record_type v (map cow_str_bytes words.entry.items)) (λ v. v) result }
+    ensures kind { IfOk result (λ v. type_of v ≡ record_type) }
+{
+    RData::from_tokens(alloc, record_type, words.into_iter(), None)
+}
