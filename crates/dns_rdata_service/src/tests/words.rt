@@ -176,26 +176,31 @@ fn web_printed(alloc: Global, words: &str) -> Result<String, ParseError> {
 #[test]
 fn words_of_records(rt: HostRuntime) -> Result<(), ParseError> {
     let alloc = rt.alloc();
-    let unordered = "16 foo.example.org. alpn=h2,h3-19 mandatory=ipv4hint,alpn ipv4hint=192.0.2.1";
-    assert_eq!(rt;
-        record_printed(alloc, unordered)?.as_str(),
-        "16 foo.example.org. alpn=h2,h3-19, mandatory=ipv4hint,alpn, ipv4hint=192.0.2.1,"
-    );
-    assert!(rt; record_emitted(alloc, unordered, b"").is_err());
-    assert_eq!(rt; record_printed(alloc, "0 .")?.as_str(), "0 .");
-    assert_eq!(rt; record_printed(alloc, "+1 a")?.as_str(), "1 a");
-    assert!(rt;
-        record_emitted(
-            alloc,
-            "1 . alpn=h2 port=443",
-            b"\x00\x01\x00\x00\x01\x00\x03\x02\x68\x32\x00\x03\x00\x02\x01\xbb".as_slice()
-        )?
-    );
-    assert_eq!(rt;
-        web_printed(alloc, "1 . alpn=\"http/1.1,h2\" ipv4hint=162.159.137.85")?.as_str(),
-        "1 . alpn=http/1.1,h2, ipv4hint=162.159.137.85,"
-    );
+    let records = [
+        ("0 .", "0 ."),
+        ("+1 a", "1 a"),
+        (
+            "16 foo.example.org. alpn=h2,h3-19 mandatory=ipv4hint,alpn ipv4hint=192.0.2.1",
+            "16 foo.example.org. alpn=h2,h3-19, mandatory=ipv4hint,alpn, ipv4hint=192.0.2.1,",
+        ),
+    ];
+    for (words, text) in records {
+        assert_eq!(rt; record_printed(alloc, words)?.as_str(), text, "of {words}");
+        assert_eq!(rt; web_printed(alloc, words)?.as_str(), text, "of {words}");
+    }
     Ok(())
+}
+
+#[test]
+fn records_of_words_emitted(rt: HostRuntime) -> Result<(), ParseError> {
+    let octets = b"\x00\x01\x00\x00\x01\x00\x03\x02\x68\x32\x00\x03\x00\x02\x01\xbb";
+    assert!(rt; record_emitted(rt.alloc(), "1 . alpn=h2 port=443", octets)?);
+    Ok(())
+}
+
+#[test]
+fn words_with_keys_that_fall(rt: HostRuntime) {
+    assert!(rt; record_emitted(rt.alloc(), "1 . port=443 alpn=h2", b"").is_err());
 }
 
 #[test]

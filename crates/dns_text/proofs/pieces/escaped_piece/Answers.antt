@@ -1,4 +1,4 @@
-use Rattle.std.proofs.Common.{arith, ◌≡◌, ◌≢◌, ◌≤◌, ◌++◌, ◌∷◌, [], ◌∙◌, ap, sym, List, ℕ, false, get_or, length, length-append, length-drop}
+use Rattle.std.proofs.Common.{arith, ◌≡◌, ◌≢◌, ◌≤◌, ◌++◌, ◌∙◌, ap, sym, List, ℕ, false, get_or, length, length-append, length-drop}
 use Rattle.std.specs.String.{string_bytes}
 use Rattle.dns_text.specs.Lists.{pieces_from}
 use Rattle.dns_text.proofs.ListSteps.{run_step, comma_step, kept_step, high_step, final_step, is_slash}

@@ -1,5 +1,4 @@
-use Rattle.std.proofs.Common.{arith, ◌≡◌, ◌∷◌, [], ◌∙◌, ap, List, ℕ, false, length}
-use Rattle.dns_text.specs.Lists.{pieces_from}
+use Rattle.std.proofs.Common.{arith, ◌≡◌, [], ◌∙◌}
 use Rattle.dns_text.proofs.ListSteps.{run_step, comma_step, last_some, no_rest}
 use Rattle.dns_text.proofs.pieces.next_piece.Goals as goal
 
