@@ -9,19 +9,21 @@
 //! for memory. With a third, each value that is read or cloned is compared. In place of the number the word `growth`
 //! prints how the time grows with names, pointers, strings and windows, and `options` how long records of as many options
 //! as fit take. After the word `parse` and a number of rounds lines `TYPE TEXT` are read, and the nanoseconds of reading
-//! each text as record data printed.
+//! each text as record data printed. The word `sort` measures a million records that are sorted.
 #![tactic(auto)]
 
 mod columns;
 mod growth;
 mod options;
 mod parsing;
+mod sorting;
 
 use anyhow::{Context, Result};
 use columns::{Row, column, least};
 use dns_rdata::RecordType;
 use options::measure_options;
 use parsing::{measure_text, parses, text_row};
+use sorting::measure_sorting;
 use std::alloc::Global;
 use std::io;
 use std::io::BufRead;
@@ -77,6 +79,9 @@ fn main(rt: HostRuntime) -> Result<()> {
     }
     if word.as_str() == "options" {
         return measure_options(&rt);
+    }
+    if word.as_str() == "sort" {
+        return measure_sorting(&rt);
     }
     if word.as_str() == "parse" {
         let rounds = args.next().context("a number of rounds")?.parse::<u64>()?;
