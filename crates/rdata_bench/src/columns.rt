@@ -168,7 +168,11 @@ fn prints(row: &mut Row, passes: u64) -> Result<()> {
     for _ in 0..passes {
         for value in values.iter() {
             text.clear();
-            write!(text, "{value}")?;
+            match value {
+                // which has no text of its own
+                RData::OPT(options) => write!(text, "{options:?}")?,
+                value => write!(text, "{value}")?,
+            }
         }
     }
     Ok(())
