@@ -149,6 +149,9 @@ impl RData {
         ensures taken { result.taken ≡ 0 }
         ensures choices { result.choices ≡ 0 }
         ensures passes { result.passes ≡ 0 }
+        ensures options { result.options ≤ data_options self.now }
+        ensures all { result.all_options ≤ data_options self.now }
+        ensures windows { result.windows ≤ data_windows self.now 0 0 }
     {
         let data = if self.is_emittable() {
             Some(self)
