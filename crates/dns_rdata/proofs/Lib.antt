@@ -2,3 +2,4 @@ pub mod Values
 pub mod DataReads
 pub mod DataLaws
 pub mod CursorSteps
+pub mod OrderReads

@@ -3,6 +3,8 @@ pub mod Cursor
 pub mod Equal
 pub mod Hashing
 pub mod Laws
+pub mod Order
+pub mod Ties
 pub mod Refusals
 pub mod Texts
 pub use Rattle.dns_fields.specs.Octets

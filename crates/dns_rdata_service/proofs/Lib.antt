@@ -14,3 +14,4 @@ pub mod ParameterEmits
 pub mod HeadReads
 pub mod SvcbValues
 pub mod PieceSteps
+pub mod OwnValues
