@@ -1,11 +1,32 @@
 //! The order of record data.
 
-ghost use Rattle.std.specs.Prelude.{◌≡◌};
+ghost use Rattle.std.specs.Prelude.{◌≡◌, ◌∷◌, []};
 ghost use Rattle.std.specs.Ordering.{is_eq};
+ghost use Rattle.dns_fields.specs.Fields.{Rest};
+ghost use Rattle.dns_fields.specs.Order.{values_cmp};
+ghost use Rattle.dns_rdata_base.specs.A.{a_shape, a_fields};
+ghost use Rattle.dns_rdata_base.specs.AAAA.{aaaa_shape, aaaa_fields};
+ghost use Rattle.dns_rdata_base.specs.HINFO.{hinfo_shape, hinfo_fields};
+ghost use Rattle.dns_rdata_base.specs.MX.{mx_shape, mx_fields};
+ghost use Rattle.dns_rdata_base.specs.NAPTR.{naptr_shape, naptr_fields};
+ghost use Rattle.dns_rdata_base.specs.NameRecords.{name_shape, name_fields};
+ghost use Rattle.dns_rdata_base.specs.SOA.{soa_shape, soa_fields};
+ghost use Rattle.dns_rdata_base.specs.SRV.{srv_shape, srv_fields};
+ghost use Rattle.dns_rdata_base.specs.TXT.{txt_shape, txt_fields};
+ghost use Rattle.dns_rdata_certs.specs.CERT.{cert_key_shape, cert_keys};
+ghost use Rattle.dns_rdata_certs.specs.SSHFP.{sshfp_key_shape, sshfp_keys};
+ghost use Rattle.dns_rdata_certs.specs.TLSA.{tlsa_key_shape, tlsa_keys};
+ghost use Rattle.dns_rdata_sets.specs.CAA.{caa_key_shape, caa_keys};
+ghost use Rattle.dns_rdata_sets.specs.CSYNC.{csync_key_shape, csync_keys};
 ghost use Rattle.dns_rdata.specs.Equal.{equal};
 ghost use Rattle.dns_rdata.specs.Order.{rank, rdata_cmp};
 
 use crate::record_data::RData;
+use dns_names_wire::{Name, Octets};
+use dns_rdata_base::{A, AAAA, HINFO, MX, NAPTR, SOA, SRV, TXT};
+use dns_rdata_certs::{CERT, SSHFP, TLSA};
+use dns_rdata_sets::{CAA, CSYNC};
+use std::cmp::Ordering;
 
 impl RData {
     // The place of the variant among all.
@@ -48,3 +69,193 @@ impl RData {
 fn ties_hold()
     ensures { (v w : RData) → equal v w ≡ is_eq (rdata_cmp v w) }
 {}
+
+// By the name.
+#[inline]
+#[tactic(auto, using(dns_pieces::proofs::Comparing::then_equal))]
+fn name_cmp(a: &Name, b: &Name) -> Ordering
+    ensures { result ≡ values_cmp name_shape (name_fields a.now) (name_fields b.now) }
+{
+    a.cmp(b)
+}
+
+// By the octets.
+#[inline]
+#[tactic(auto, using(dns_pieces::proofs::Comparing::then_equal))]
+fn rest_cmp(a: &Octets, b: &Octets) -> Ordering
+    ensures { result ≡ values_cmp (Rest ∷ []) (a.now, tt) (b.now, tt) }
+{
+    a.cmp(b)
+}
+
+// By the address.
+#[inline]
+#[tactic(auto, using(dns_pieces::proofs::Comparing::then_equal))]
+fn a_cmp(a: &A, b: &A) -> Ordering
+    ensures { result ≡ values_cmp a_shape (a_fields a.now) (a_fields b.now) }
+{
+    a.0.octets().as_slice().cmp(b.0.octets().as_slice())
+}
+
+// By the address.
+#[inline]
+#[tactic(auto, using(dns_pieces::proofs::Comparing::then_equal))]
+fn aaaa_cmp(a: &AAAA, b: &AAAA) -> Ordering
+    ensures { result ≡ values_cmp aaaa_shape (aaaa_fields a.now) (aaaa_fields b.now) }
+{
+    a.0.octets().as_slice().cmp(b.0.octets().as_slice())
+}
+
+// By the fields in order.
+#[inline]
+#[tactic(auto, using(dns_pieces::proofs::Comparing::then_equal))]
+fn caa_cmp(a: &CAA, b: &CAA) -> Ordering
+    ensures { result ≡ values_cmp caa_key_shape (caa_keys a.now) (caa_keys b.now) }
+{
+    let value = a.tag.cmp(&b.tag).then(a.value.cmp(&b.value));
+    let reserved = a.reserved_flags.cmp(&b.reserved_flags).then(value);
+    u8::from(a.issuer_critical)
+        .cmp(&u8::from(b.issuer_critical))
+        .then(reserved)
+}
+
+// By the fields in order.
+#[inline]
+#[tactic(auto, using(dns_pieces::proofs::Comparing::then_equal, dns_pieces::proofs::Comparing::then_assoc))]
+fn cert_cmp(a: &CERT, b: &CERT) -> Ordering
+    ensures { result ≡ values_cmp cert_key_shape (cert_keys a.now) (cert_keys b.now) }
+{
+    let algorithm = a
+        .algorithm
+        .cmp(&b.algorithm)
+        .then(a.cert_data.cmp(&b.cert_data));
+    let key_tag = a.key_tag.cmp(&b.key_tag).then(algorithm);
+    a.cert_type.cmp(&b.cert_type).then(key_tag)
+}
+
+// By the fields in order.
+#[inline]
+#[tactic(auto, using(dns_pieces::proofs::Comparing::then_equal))]
+fn csync_cmp(a: &CSYNC, b: &CSYNC) -> Ordering
+    ensures { result ≡ values_cmp csync_key_shape (csync_keys a.now) (csync_keys b.now) }
+{
+    let types = a.type_bit_maps.numbers().cmp(b.type_bit_maps.numbers());
+    let reserved = a.reserved_flags.cmp(&b.reserved_flags).then(types);
+    let minimum = u8::from(a.soa_minimum)
+        .cmp(&u8::from(b.soa_minimum))
+        .then(reserved);
+    let immediate = u8::from(a.immediate)
+        .cmp(&u8::from(b.immediate))
+        .then(minimum);
+    a.soa_serial.cmp(&b.soa_serial).then(immediate)
+}
+
+// By the fields in order.
+#[inline]
+#[tactic(auto, using(dns_pieces::proofs::Comparing::then_equal))]
+fn hinfo_cmp(a: &HINFO, b: &HINFO) -> Ordering
+    ensures { result ≡ values_cmp hinfo_shape (hinfo_fields a.now) (hinfo_fields b.now) }
+{
+    a.cpu.cmp(&b.cpu).then(a.os.cmp(&b.os))
+}
+
+// By the fields in order.
+#[inline]
+#[tactic(auto, using(dns_pieces::proofs::Comparing::then_equal))]
+fn mx_cmp(a: &MX, b: &MX) -> Ordering
+    ensures { result ≡ values_cmp mx_shape (mx_fields a.now) (mx_fields b.now) }
+{
+    a.preference
+        .cmp(&b.preference)
+        .then(a.exchange.cmp(&b.exchange))
+}
+
+// By the fields in order.
+#[inline]
+#[tactic(auto, using(dns_pieces::proofs::Comparing::then_equal))]
+fn naptr_cmp(a: &NAPTR, b: &NAPTR) -> Ordering
+    ensures { result ≡ values_cmp naptr_shape (naptr_fields a.now) (naptr_fields b.now) }
+{
+    let regexp = a
+        .regexp
+        .cmp(&b.regexp)
+        .then(a.replacement.cmp(&b.replacement));
+    let services = a.services.cmp(&b.services).then(regexp);
+    let flags = a.flags.cmp(&b.flags).then(services);
+    let preference = a.preference.cmp(&b.preference).then(flags);
+    a.order.cmp(&b.order).then(preference)
+}
+
+// By the fields in order.
+#[inline]
+#[tactic(auto, using(dns_pieces::proofs::Comparing::then_equal))]
+fn soa_cmp(a: &SOA, b: &SOA) -> Ordering
+    ensures { result ≡ values_cmp soa_shape (soa_fields a.now) (soa_fields b.now) }
+{
+    let minimum = a.minimum.cmp(&b.minimum);
+    let expire = a
+        .expire
+        .cast_unsigned()
+        .cmp(&b.expire.cast_unsigned())
+        .then(minimum);
+    let retry = a
+        .retry
+        .cast_unsigned()
+        .cmp(&b.retry.cast_unsigned())
+        .then(expire);
+    let refresh = a
+        .refresh
+        .cast_unsigned()
+        .cmp(&b.refresh.cast_unsigned())
+        .then(retry);
+    let serial = a.serial.cmp(&b.serial).then(refresh);
+    let rname = a.rname.cmp(&b.rname).then(serial);
+    a.mname.cmp(&b.mname).then(rname)
+}
+
+// By the fields in order.
+#[inline]
+#[tactic(auto, using(dns_pieces::proofs::Comparing::then_equal))]
+fn srv_cmp(a: &SRV, b: &SRV) -> Ordering
+    ensures { result ≡ values_cmp srv_shape (srv_fields a.now) (srv_fields b.now) }
+{
+    let port = a.port.cmp(&b.port).then(a.target.cmp(&b.target));
+    let weight = a.weight.cmp(&b.weight).then(port);
+    a.priority.cmp(&b.priority).then(weight)
+}
+
+// By the fields in order.
+#[inline]
+#[tactic(auto, using(dns_pieces::proofs::Comparing::then_equal, dns_pieces::proofs::Comparing::then_assoc))]
+fn sshfp_cmp(a: &SSHFP, b: &SSHFP) -> Ordering
+    ensures { result ≡ values_cmp sshfp_key_shape (sshfp_keys a.now) (sshfp_keys b.now) }
+{
+    let kind = a
+        .fingerprint_type
+        .cmp(&b.fingerprint_type)
+        .then(a.fingerprint.cmp(&b.fingerprint));
+    a.algorithm.cmp(&b.algorithm).then(kind)
+}
+
+// By the fields in order.
+#[inline]
+#[tactic(auto, using(dns_pieces::proofs::Comparing::then_equal, dns_pieces::proofs::Comparing::then_assoc))]
+fn tlsa_cmp(a: &TLSA, b: &TLSA) -> Ordering
+    ensures { result ≡ values_cmp tlsa_key_shape (tlsa_keys a.now) (tlsa_keys b.now) }
+{
+    let matching = a
+        .matching
+        .cmp(&b.matching)
+        .then(a.cert_data.cmp(&b.cert_data));
+    let selector = a.selector.cmp(&b.selector).then(matching);
+    a.cert_usage.cmp(&b.cert_usage).then(selector)
+}
+
+// By the strings.
+#[inline]
+#[tactic(auto, using(dns_pieces::proofs::Comparing::then_equal))]
+fn txt_cmp(a: &TXT, b: &TXT) -> Ordering
+    ensures { result ≡ values_cmp txt_shape (txt_fields a.now) (txt_fields b.now) }
+{
+    a.txt_data.cmp(&b.txt_data)
+}
