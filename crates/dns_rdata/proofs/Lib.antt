@@ -3,3 +3,4 @@ pub mod DataReads
 pub mod DataLaws
 pub mod CursorSteps
 pub mod OrderReads
+pub mod Ranks

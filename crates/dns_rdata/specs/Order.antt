@@ -141,3 +141,32 @@ rdata_total = then_total (on_total data_octets nat_list_cmp_total) (then_total (
 abbrev pub OrdersRead : RData → RData → Ordering → Type 0
 OrdersRead v w answer = (t : RecordType) (m : List ℕ) (p n : ℕ) (m' : List ℕ) (p' n' : ℕ) → Fills m p n t v → Fills m' p' n' t w
     → answer ≡ slice_cmp nat_cmp (data_octets v) (data_octets w)
+
+-- they are not of one variant that holds something
+abbrev pub Differ : RData → RData → Type 0
+Differ (rdata.A x) (rdata.A y) = ⊥
+Differ (rdata.AAAA x) (rdata.AAAA y) = ⊥
+Differ (rdata.ANAME x) (rdata.ANAME y) = ⊥
+Differ (rdata.CAA x) (rdata.CAA y) = ⊥
+Differ (rdata.CERT x) (rdata.CERT y) = ⊥
+Differ (rdata.CNAME x) (rdata.CNAME y) = ⊥
+Differ (rdata.CSYNC x) (rdata.CSYNC y) = ⊥
+Differ (rdata.HINFO x) (rdata.HINFO y) = ⊥
+Differ (rdata.HTTPS x) (rdata.HTTPS y) = ⊥
+Differ (rdata.MX x) (rdata.MX y) = ⊥
+Differ (rdata.NAPTR x) (rdata.NAPTR y) = ⊥
+Differ (rdata.NULL x) (rdata.NULL y) = ⊥
+Differ (rdata.NS x) (rdata.NS y) = ⊥
+Differ (rdata.OPENPGPKEY x) (rdata.OPENPGPKEY y) = ⊥
+Differ (rdata.OPT x) (rdata.OPT y) = ⊥
+Differ (rdata.PTR x) (rdata.PTR y) = ⊥
+Differ (rdata.SMIMEA x) (rdata.SMIMEA y) = ⊥
+Differ (rdata.SOA x) (rdata.SOA y) = ⊥
+Differ (rdata.SRV x) (rdata.SRV y) = ⊥
+Differ (rdata.SSHFP x) (rdata.SSHFP y) = ⊥
+Differ (rdata.SVCB x) (rdata.SVCB y) = ⊥
+Differ (rdata.TLSA x) (rdata.TLSA y) = ⊥
+Differ (rdata.TXT x) (rdata.TXT y) = ⊥
+Differ (rdata.Unknown a x) (rdata.Unknown b y) = ⊥
+Differ (rdata.Update0 t) (rdata.Update0 u) = ⊥
+Differ v w = Unit {0}

@@ -1,7 +1,6 @@
 //! The order of record data.
 
 ghost use Rattle.std.specs.Prelude.{◌≡◌, ◌∷◌, []};
-ghost use Rattle.std.specs.Ordering.{is_eq};
 ghost use Rattle.dns_fields.specs.Fields.{Rest};
 ghost use Rattle.dns_fields.specs.Order.{values_cmp};
 ghost use Rattle.dns_rdata_base.specs.A.{a_shape, a_fields};
@@ -18,13 +17,13 @@ ghost use Rattle.dns_rdata_certs.specs.SSHFP.{sshfp_key_shape, sshfp_keys};
 ghost use Rattle.dns_rdata_certs.specs.TLSA.{tlsa_key_shape, tlsa_keys};
 ghost use Rattle.dns_rdata_sets.specs.CAA.{caa_key_shape, caa_keys};
 ghost use Rattle.dns_rdata_sets.specs.CSYNC.{csync_key_shape, csync_keys};
-ghost use Rattle.dns_rdata.specs.Equal.{equal};
-ghost use Rattle.dns_rdata.specs.Order.{rank, rdata_cmp};
+ghost use Rattle.dns_rdata.specs.Order.{rank, rdata_cmp, variants_cmp, Differ};
 
 use crate::record_data::RData;
 use dns_names_wire::{Name, Octets};
 use dns_rdata_base::{A, AAAA, HINFO, MX, NAPTR, SOA, SRV, TXT};
 use dns_rdata_certs::{CERT, SSHFP, TLSA};
+use dns_rdata_service::ordering::svcb_cmp;
 use dns_rdata_sets::{CAA, CSYNC};
 use std::cmp::Ordering;
 
@@ -64,11 +63,6 @@ impl RData {
         }
     }
 }
-
-// An order's law, stated where it is proved.
-fn ties_hold()
-    ensures { (v w : RData) → equal v w ≡ is_eq (rdata_cmp v w) }
-{}
 
 // By the name.
 #[inline]
@@ -258,4 +252,114 @@ fn txt_cmp(a: &TXT, b: &TXT) -> Ordering
     ensures { result ≡ values_cmp txt_shape (txt_fields a.now) (txt_fields b.now) }
 {
     a.txt_data.cmp(&b.txt_data)
+}
+
+impl RData {
+    // Of two values by variant, and then by the fields.
+    fn cmp_fields(&self, other: &RData) -> Ordering
+        ensures { result ≡ variants_cmp self.now other.now }
+    {
+        match (self, other) {
+            (RData::A(a), RData::A(b)) => a_cmp(a, b),
+            (RData::AAAA(a), RData::AAAA(b)) => aaaa_cmp(a, b),
+            (RData::ANAME(a), RData::ANAME(b)) => name_cmp(&a.0, &b.0),
+            (RData::CAA(a), RData::CAA(b)) => caa_cmp(a, b),
+            (RData::CERT(a), RData::CERT(b)) => cert_cmp(a, b),
+            (RData::CNAME(a), RData::CNAME(b)) => name_cmp(&a.0, &b.0),
+            (RData::CSYNC(a), RData::CSYNC(b)) => csync_cmp(a, b),
+            (RData::HINFO(a), RData::HINFO(b)) => hinfo_cmp(a, b),
+            (RData::HTTPS(a), RData::HTTPS(b)) => svcb_cmp(&a.0, &b.0),
+            (RData::MX(a), RData::MX(b)) => mx_cmp(a, b),
+            (RData::NAPTR(a), RData::NAPTR(b)) => naptr_cmp(a, b),
+            (RData::NULL(a), RData::NULL(b)) => rest_cmp(&a.anything, &b.anything),
+            (RData::NS(a), RData::NS(b)) => name_cmp(&a.0, &b.0),
+            (RData::OPENPGPKEY(a), RData::OPENPGPKEY(b)) => rest_cmp(&a.public_key, &b.public_key),
+            (RData::OPT(a), RData::OPT(b)) => a.cmp(b),
+            (RData::PTR(a), RData::PTR(b)) => name_cmp(&a.0, &b.0),
+            (RData::SMIMEA(a), RData::SMIMEA(b)) => tlsa_cmp(&a.0, &b.0),
+            (RData::SOA(a), RData::SOA(b)) => soa_cmp(a, b),
+            (RData::SRV(a), RData::SRV(b)) => srv_cmp(a, b),
+            (RData::SSHFP(a), RData::SSHFP(b)) => sshfp_cmp(a, b),
+            (RData::SVCB(a), RData::SVCB(b)) => svcb_cmp(a, b),
+            (RData::TLSA(a), RData::TLSA(b)) => tlsa_cmp(a, b),
+            (RData::TXT(a), RData::TXT(b)) => txt_cmp(a, b),
+            (
+                RData::Unknown { code, rdata },
+                RData::Unknown {
+                    code: other_code,
+                    rdata: other_rdata,
+                },
+            ) => code
+                .cmp(other_code)
+                .then(rest_cmp(&rdata.anything, &other_rdata.anything)),
+            (RData::Update0(a), RData::Update0(b)) => a.cmp(b),
+            _ => self.cmp_ranks(other),
+        }
+    }
+
+    // By variant.
+    fn cmp_ranks(&self, other: &RData) -> Ordering
+        requires { Differ self.now other.now }
+        ensures { result ≡ variants_cmp self.now other.now }
+    {
+        self.rank().cmp(&other.rank())
+    }
+
+    // By the canonical octets, then by type, then by variant, then by the fields.
+    fn cmp_all(&self, other: &RData) -> Ordering
+        ensures { result ≡ rdata_cmp self.now other.now }
+    {
+        let octets = self
+            .canonical_octets()
+            .compare(&mut other.canonical_octets());
+        if octets.is_ne() {
+            return octets;
+        }
+        let types = self.record_type().cmp(&other.record_type());
+        if types.is_ne() {
+            return types;
+        }
+        self.cmp_fields(other)
+    }
+}
+
+impl PartialOrd for RData {
+    ghost use Rattle.std.specs.Prelude.{refl};
+    ghost use Rattle.std.specs.Cmp.{partial_order_from_agreeing_total};
+    ghost use Rattle.std.specs.Ordering.{as_partial_cmp};
+    ghost use Rattle.dns_rdata.specs.Order.{rdata_total};
+    ghost use Rattle.dns_rdata.specs.Ties.{rdata_ties};
+
+    ghost partial_cmp = { as_partial_cmp rdata_cmp };
+
+    ghost laws = { partial_order_from_agreeing_total rdata_cmp rdata_total (λ _ _. refl) rdata_ties };
+
+    #[inline]
+    fn partial_cmp(&self, other: &RData) -> Option<Ordering> {
+        Some(self.cmp(other))
+    }
+}
+
+impl Ord for RData {
+    ghost use Rattle.std.specs.Prelude.{refl};
+    ghost use Rattle.dns_rdata.specs.Order.{rdata_total, OrdersRead};
+    ghost use Rattle.dns_rdata.specs.Ties.{rdata_ties};
+
+    ghost cmp = { rdata_cmp };
+
+    ghost total = { rdata_total };
+
+    ghost matches_partial_cmp = { λ _ _. refl };
+
+    ghost matches_eq = { rdata_ties };
+
+    /// By the canonical octets, a proper beginning before what goes on; then by type, then by variant as declared, then by
+    /// the fields as declared. `Equal` exactly where `==` holds. Takes no memory.
+    fn cmp(&self, other: &RData) -> Ordering
+        ensures value { result ≡ rdata_cmp self.now other.now }
+        // Two values that were read under one type are ordered by their canonical octets.
+        ensures canonical { OrdersRead self.now other.now result }
+    {
+        self.cmp_all(other)
+    }
 }

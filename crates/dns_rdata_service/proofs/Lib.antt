@@ -15,3 +15,4 @@ pub mod HeadReads
 pub mod SvcbValues
 pub mod PieceSteps
 pub mod OwnValues
+pub mod FieldOrder

@@ -8,3 +8,4 @@ pub mod OwnKeys
 pub mod Hashing
 pub mod HTTPS
 pub mod Steps
+pub mod Ordering
