@@ -1,5 +1,5 @@
 -- Cursors over record data.
-use Rattle.std.proofs.Common.{◌≡◌, ℕ, ◌+◌, ◌*◌, ◌≤◌, ◌<◌, nat_le, ◌&&◌, Bool, true, false, if◌then◌else◌, Option, Some, None, List, [], ◌∷◌, ◌++◌, map, length, refl, sym, ap, ◌∙◌, arith, subst, IfSome}
+use Rattle.std.proofs.Common.{◌≡◌, ℕ, ◌+◌, ◌*◌, ◌≤◌, ◌<◌, nat_le, ◌&&◌, Bool, true, false, if◌then◌else◌, Option, Some, None, List, [], ◌∷◌, ◌++◌, map, length, refl, sym, ap, ◌∙◌, arith, subst, IfSome, ◌⊎◌, inl, inr}
 use Rattle.std.proofs.lemmas.Bool.Decides.{nat_tests}
 use Rattle.std.proofs.lemmas.List.{append-nil}
 use Rattle.std.specs.List.{flat_map, AllByRecursion, list_all}
@@ -115,3 +115,24 @@ chooses_kept {a} {b} {c} f e o l = record {
   most = rw (e, o) f.most;
   all = l ∙ f.all;
 }
+
+-- ---- the counts at the start
+
+pub some_options : (v : RData) (o : Option RData) → (o ≡ Some v) ⊎ (o ≡ None) → options_left_of o 0 0 0 ≤ data_options v
+unfolding options_left_of
+some_options v o (inl e) = rw e (first v)
+  where
+    first : (v : RData) → data_options_left v 0 0 0 ≤ data_options v
+    first (rdata.OPT x) = omega arith
+    first v = omega arith
+some_options v o (inr e) = rw e (omega arith)
+
+pub all_options : (v : RData) (o : Option RData) → (o ≡ Some v) ⊎ (o ≡ None) → options_of o ≤ data_options v
+unfolding options_of
+all_options v o (inl e) = rw e (omega arith)
+all_options v o (inr e) = rw e (omega arith)
+
+pub some_windows : (v : RData) (o : Option RData) → (o ≡ Some v) ⊎ (o ≡ None) → windows_of o 0 0 ≤ data_windows v 0 0
+unfolding windows_of
+some_windows v o (inl e) = rw e (omega arith)
+some_windows v o (inr e) = rw e (omega arith)

@@ -3,3 +3,5 @@ pub mod DataReads
 pub mod DataLaws
 pub mod CursorSteps
 pub mod DataWords
+pub mod OrderReads
+pub mod Ranks

@@ -4,6 +4,8 @@ pub mod DataWords
 pub mod Equal
 pub mod Hashing
 pub mod Laws
+pub mod Order
+pub mod Ties
 pub mod Refusals
 pub mod Texts
 pub use Rattle.dns_fields.specs.Octets

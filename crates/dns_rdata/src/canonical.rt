@@ -129,13 +129,13 @@ impl<'a> Model for CanonicalOctets<'a> {
     ghost Value = { Remaining };
 
     ghost view = { λ c. record {
-        octets = c.run ++ left_of (option_copied c.data) c.step c.part c.item;
-        taken = c.taken.n;
-        choices = c.choices.n;
-        options = options_left_of (option_copied c.data) c.step c.part c.item;
-        all_options = options_of (option_copied c.data);
-        passes = c.passes.n;
-        windows = windows_of (option_copied c.data) c.step c.part;
+      octets = c.run ++ left_of (option_copied c.data) c.step c.part c.item;
+      taken = c.taken.n;
+      choices = c.choices.n;
+      options = options_left_of (option_copied c.data) c.step c.part c.item;
+      all_options = options_of (option_copied c.data);
+      passes = c.passes.n;
+      windows = windows_of (option_copied c.data) c.step c.part;
     } };
 
     ghost invariant = { λ c. (c.step ≤ 8) × IsAt (option_copied c.data) c.step c.part c.item };
@@ -149,6 +149,9 @@ impl RData {
         ensures taken { result.taken ≡ 0 }
         ensures choices { result.choices ≡ 0 }
         ensures passes { result.passes ≡ 0 }
+        ensures options { result.options ≤ data_options self.now }
+        ensures all { result.all_options ≤ data_options self.now }
+        ensures windows { result.windows ≤ data_windows self.now 0 0 }
     {
         let data = if self.is_emittable() {
             Some(self)

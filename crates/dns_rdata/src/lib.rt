@@ -4,10 +4,12 @@
 ghost use Rattle.dns_rdata.specs.Laws.{OneValue, EachWindow};
 
 pub mod canonical;
+pub mod order;
 pub mod record_data;
 pub mod traits;
 mod words;
 
+pub use canonical::CanonicalOctets;
 pub use dns_names_wire::{
     AddrParseError, BinDecodable, BinDecoder, BinEncodable, BinEncoder, DecodeError, LabelIter,
     Name, Octets, ParseError, Place, ProtoError, ProtoResult, RDataEncoding, RecordType, Restrict,
@@ -24,7 +26,6 @@ pub use dns_rdata_service::{HTTPS, Items, SVCB, https, items, svcb};
 pub use dns_rdata_sets::{CAA, CSYNC, RecordTypeSet, caa, csync, record_type_set};
 pub use dns_text::{Lexer, Token, lexer, parse_ttl, read_item, read_list, text_words, token, ttl};
 pub use dns_types::Strings;
-pub use canonical::CanonicalOctets;
 pub use record_data::RData;
 pub use traits::RecordData;
 

@@ -18,3 +18,5 @@ pub mod HeadReads
 pub mod SvcbValues
 pub mod PieceSteps
 pub mod WordParameters
+pub mod OwnValues
+pub mod FieldOrder

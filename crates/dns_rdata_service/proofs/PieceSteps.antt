@@ -192,9 +192,11 @@ drop_none (suc j) = refl
 
 pub past_items : (ps : List Parameter) (i j : ℕ) (head : List ℕ) → length ps ≤ i → head ≡ [] → (parameters_left ps i (j + 1) ≡ []) × (head ≡ [])
 past_items ps i j head h e =
-    let up : j + 1 ≡ suc j = omega arith in
-    (ap (parameters_left ps i) up ∙ ap (λ (o : Option Parameter). flat_map (λ s. s) (drop j (items_of o)) ++ parameters_from ps (i + 1)) (slice_get_past ps i h)
-        ∙ ap (λ (l : List (List ℕ)). flat_map (λ s. s) l ++ parameters_from ps (i + 1)) (drop_none j) ∙ parameters_end ps (i + 1) (omega (arith, h)), e)
+    let up : j + 1 ≡ suc j = omega arith in (
+      ap (parameters_left ps i) up ∙ ap (λ (o : Option Parameter). flat_map (λ s. s) (drop j (items_of o)) ++ parameters_from ps (i + 1)) (slice_get_past ps i h)
+          ∙ ap (λ (l : List (List ℕ)). flat_map (λ s. s) l ++ parameters_from ps (i + 1)) (drop_none j) ∙ parameters_end ps (i + 1) (omega (arith, h)),
+      e,
+    )
 
 -- ---- the record
 

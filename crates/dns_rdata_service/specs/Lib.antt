@@ -11,3 +11,4 @@ pub mod Hashing
 pub mod HTTPS
 pub mod Steps
 pub mod WordRows
+pub mod Ordering

@@ -17,14 +17,13 @@ mod reading;
 mod windows;
 mod writing;
 
-pub use windows::{Window, first_window};
-
 use dns_names_wire::{
     BinDecoder, BinEncodable, BinEncoder, DecodeError, ProtoError, RecordType, Restrict,
 };
 use std::alloc::{AllocError, Global};
 use std::hash::{Hash, Hasher};
 use std::marker::Model;
+pub use windows::{Window, first_window};
 
 /// A set of record types. Contracts see the list of their numbers, each once, in rising order.
 ///

@@ -1,5 +1,5 @@
-use Rattle.std.proofs.Common.{sym, ◌∙◌, arith}
-use Rattle.dns_rdata.proofs.CursorSteps.{begins_at, begins_whole, begins_none}
+use Rattle.std.proofs.Common.{sym, ◌∙◌, arith, refl, Some, None, inl, inr}
+use Rattle.dns_rdata.proofs.CursorSteps.{begins_at, begins_whole, begins_none, some_options, all_options, some_windows}
 use Rattle.dns_rdata.proofs.record_data.RData.canonical_octets.Goals as goal
 use Rattle.dns_rdata.proofs.record_data.RData.canonical_octets.Goals.{then-is_emittable, else-is_emittable}
 
@@ -16,4 +16,22 @@ pub returns-clause-octets : goal.returns-clause-octets
 returns-clause-octets c = elim c.if-is_emittable.branch [
   | then-is_emittable w ↦ rw (w.data-is, c.new.ensures) (begins_whole c.args.self.now (sym c.is_emittable.ensures ∙ w.if-is_emittable.true))
   | else-is_emittable w ↦ rw (w.data-is, c.new.ensures) (begins_none c.args.self.now (sym c.is_emittable.ensures ∙ w.if-is_emittable.false))
+]
+
+pub returns-clause-options : goal.returns-clause-options
+returns-clause-options c = elim c.if-is_emittable.branch [
+  | then-is_emittable w ↦ rw w.data-is (some_options c.args.self.now (Some c.args.self.now) (inl refl))
+  | else-is_emittable w ↦ rw w.data-is (some_options c.args.self.now None (inr refl))
+]
+
+pub returns-clause-all : goal.returns-clause-all
+returns-clause-all c = elim c.if-is_emittable.branch [
+  | then-is_emittable w ↦ rw w.data-is (all_options c.args.self.now (Some c.args.self.now) (inl refl))
+  | else-is_emittable w ↦ rw w.data-is (all_options c.args.self.now None (inr refl))
+]
+
+pub returns-clause-windows : goal.returns-clause-windows
+returns-clause-windows c = elim c.if-is_emittable.branch [
+  | then-is_emittable w ↦ rw w.data-is (some_windows c.args.self.now (Some c.args.self.now) (inl refl))
+  | else-is_emittable w ↦ rw w.data-is (some_windows c.args.self.now None (inr refl))
 ]

@@ -1,0 +1,365 @@
+//! The order of record data.
+
+ghost use Rattle.std.specs.Prelude.{◌≡◌, ◌∷◌, []};
+ghost use Rattle.dns_fields.specs.Fields.{Rest};
+ghost use Rattle.dns_fields.specs.Order.{values_cmp};
+ghost use Rattle.dns_rdata_base.specs.A.{a_shape, a_fields};
+ghost use Rattle.dns_rdata_base.specs.AAAA.{aaaa_shape, aaaa_fields};
+ghost use Rattle.dns_rdata_base.specs.HINFO.{hinfo_shape, hinfo_fields};
+ghost use Rattle.dns_rdata_base.specs.MX.{mx_shape, mx_fields};
+ghost use Rattle.dns_rdata_base.specs.NAPTR.{naptr_shape, naptr_fields};
+ghost use Rattle.dns_rdata_base.specs.NameRecords.{name_shape, name_fields};
+ghost use Rattle.dns_rdata_base.specs.SOA.{soa_shape, soa_fields};
+ghost use Rattle.dns_rdata_base.specs.SRV.{srv_shape, srv_fields};
+ghost use Rattle.dns_rdata_base.specs.TXT.{txt_shape, txt_fields};
+ghost use Rattle.dns_rdata_certs.specs.CERT.{cert_key_shape, cert_keys};
+ghost use Rattle.dns_rdata_certs.specs.SSHFP.{sshfp_key_shape, sshfp_keys};
+ghost use Rattle.dns_rdata_certs.specs.TLSA.{tlsa_key_shape, tlsa_keys};
+ghost use Rattle.dns_rdata_sets.specs.CAA.{caa_key_shape, caa_keys};
+ghost use Rattle.dns_rdata_sets.specs.CSYNC.{csync_key_shape, csync_keys};
+ghost use Rattle.dns_rdata.specs.Order.{rank, rdata_cmp, variants_cmp, Differ};
+
+use crate::record_data::RData;
+use dns_names_wire::{Name, Octets};
+use dns_rdata_base::{A, AAAA, HINFO, MX, NAPTR, SOA, SRV, TXT};
+use dns_rdata_certs::{CERT, SSHFP, TLSA};
+use dns_rdata_service::ordering::svcb_cmp;
+use dns_rdata_sets::{CAA, CSYNC};
+use std::cmp::Ordering;
+
+impl RData {
+    // The place of the variant among all.
+    #[inline]
+    fn rank(&self) -> u8
+        ensures { result ≡ rank self.now }
+    {
+        match self {
+            RData::A(_) => 0,
+            RData::AAAA(_) => 1,
+            RData::ANAME(_) => 2,
+            RData::CAA(_) => 3,
+            RData::CERT(_) => 4,
+            RData::CNAME(_) => 5,
+            RData::CSYNC(_) => 6,
+            RData::HINFO(_) => 7,
+            RData::HTTPS(_) => 8,
+            RData::MX(_) => 9,
+            RData::NAPTR(_) => 10,
+            RData::NULL(_) => 11,
+            RData::NS(_) => 12,
+            RData::OPENPGPKEY(_) => 13,
+            RData::OPT(_) => 14,
+            RData::PTR(_) => 15,
+            RData::SMIMEA(_) => 16,
+            RData::SOA(_) => 17,
+            RData::SRV(_) => 18,
+            RData::SSHFP(_) => 19,
+            RData::SVCB(_) => 20,
+            RData::TLSA(_) => 21,
+            RData::TXT(_) => 22,
+            RData::Unknown { .. } => 23,
+            RData::Update0(_) => 24,
+            RData::ZERO => 25,
+        }
+    }
+}
+
+// By the name.
+#[inline]
+#[tactic(auto, using(dns_pieces::proofs::Comparing::then_equal))]
+fn name_cmp(a: &Name, b: &Name) -> Ordering
+    ensures { result ≡ values_cmp name_shape (name_fields a.now) (name_fields b.now) }
+{
+    a.cmp(b)
+}
+
+// By the octets.
+#[inline]
+#[tactic(auto, using(dns_pieces::proofs::Comparing::then_equal))]
+fn rest_cmp(a: &Octets, b: &Octets) -> Ordering
+    ensures { result ≡ values_cmp (Rest ∷ []) (a.now, tt) (b.now, tt) }
+{
+    a.cmp(b)
+}
+
+// By the address.
+#[inline]
+#[tactic(auto, using(dns_pieces::proofs::Comparing::then_equal))]
+fn a_cmp(a: &A, b: &A) -> Ordering
+    ensures { result ≡ values_cmp a_shape (a_fields a.now) (a_fields b.now) }
+{
+    a.0.octets().as_slice().cmp(b.0.octets().as_slice())
+}
+
+// By the address.
+#[inline]
+#[tactic(auto, using(dns_pieces::proofs::Comparing::then_equal))]
+fn aaaa_cmp(a: &AAAA, b: &AAAA) -> Ordering
+    ensures { result ≡ values_cmp aaaa_shape (aaaa_fields a.now) (aaaa_fields b.now) }
+{
+    a.0.octets().as_slice().cmp(b.0.octets().as_slice())
+}
+
+// By the fields in order.
+#[inline]
+#[tactic(auto, using(dns_pieces::proofs::Comparing::then_equal))]
+fn caa_cmp(a: &CAA, b: &CAA) -> Ordering
+    ensures { result ≡ values_cmp caa_key_shape (caa_keys a.now) (caa_keys b.now) }
+{
+    let value = a.tag.cmp(&b.tag).then(a.value.cmp(&b.value));
+    let reserved = a.reserved_flags.cmp(&b.reserved_flags).then(value);
+    u8::from(a.issuer_critical)
+        .cmp(&u8::from(b.issuer_critical))
+        .then(reserved)
+}
+
+// By the fields in order.
+#[inline]
+#[tactic(auto, using(dns_pieces::proofs::Comparing::then_equal, dns_pieces::proofs::Comparing::then_assoc))]
+fn cert_cmp(a: &CERT, b: &CERT) -> Ordering
+    ensures { result ≡ values_cmp cert_key_shape (cert_keys a.now) (cert_keys b.now) }
+{
+    let algorithm = a
+        .algorithm
+        .cmp(&b.algorithm)
+        .then(a.cert_data.cmp(&b.cert_data));
+    let key_tag = a.key_tag.cmp(&b.key_tag).then(algorithm);
+    a.cert_type.cmp(&b.cert_type).then(key_tag)
+}
+
+// By the fields in order.
+#[inline]
+#[tactic(auto, using(dns_pieces::proofs::Comparing::then_equal))]
+fn csync_cmp(a: &CSYNC, b: &CSYNC) -> Ordering
+    ensures { result ≡ values_cmp csync_key_shape (csync_keys a.now) (csync_keys b.now) }
+{
+    let types = a.type_bit_maps.numbers().cmp(b.type_bit_maps.numbers());
+    let reserved = a.reserved_flags.cmp(&b.reserved_flags).then(types);
+    let minimum = u8::from(a.soa_minimum)
+        .cmp(&u8::from(b.soa_minimum))
+        .then(reserved);
+    let immediate = u8::from(a.immediate)
+        .cmp(&u8::from(b.immediate))
+        .then(minimum);
+    a.soa_serial.cmp(&b.soa_serial).then(immediate)
+}
+
+// By the fields in order.
+#[inline]
+#[tactic(auto, using(dns_pieces::proofs::Comparing::then_equal))]
+fn hinfo_cmp(a: &HINFO, b: &HINFO) -> Ordering
+    ensures { result ≡ values_cmp hinfo_shape (hinfo_fields a.now) (hinfo_fields b.now) }
+{
+    a.cpu.cmp(&b.cpu).then(a.os.cmp(&b.os))
+}
+
+// By the fields in order.
+#[inline]
+#[tactic(auto, using(dns_pieces::proofs::Comparing::then_equal))]
+fn mx_cmp(a: &MX, b: &MX) -> Ordering
+    ensures { result ≡ values_cmp mx_shape (mx_fields a.now) (mx_fields b.now) }
+{
+    a.preference
+        .cmp(&b.preference)
+        .then(a.exchange.cmp(&b.exchange))
+}
+
+// By the fields in order.
+#[inline]
+#[tactic(auto, using(dns_pieces::proofs::Comparing::then_equal))]
+fn naptr_cmp(a: &NAPTR, b: &NAPTR) -> Ordering
+    ensures { result ≡ values_cmp naptr_shape (naptr_fields a.now) (naptr_fields b.now) }
+{
+    let regexp = a
+        .regexp
+        .cmp(&b.regexp)
+        .then(a.replacement.cmp(&b.replacement));
+    let services = a.services.cmp(&b.services).then(regexp);
+    let flags = a.flags.cmp(&b.flags).then(services);
+    let preference = a.preference.cmp(&b.preference).then(flags);
+    a.order.cmp(&b.order).then(preference)
+}
+
+// By the fields in order.
+#[inline]
+#[tactic(auto, using(dns_pieces::proofs::Comparing::then_equal))]
+fn soa_cmp(a: &SOA, b: &SOA) -> Ordering
+    ensures { result ≡ values_cmp soa_shape (soa_fields a.now) (soa_fields b.now) }
+{
+    let minimum = a.minimum.cmp(&b.minimum);
+    let expire = a
+        .expire
+        .cast_unsigned()
+        .cmp(&b.expire.cast_unsigned())
+        .then(minimum);
+    let retry = a
+        .retry
+        .cast_unsigned()
+        .cmp(&b.retry.cast_unsigned())
+        .then(expire);
+    let refresh = a
+        .refresh
+        .cast_unsigned()
+        .cmp(&b.refresh.cast_unsigned())
+        .then(retry);
+    let serial = a.serial.cmp(&b.serial).then(refresh);
+    let rname = a.rname.cmp(&b.rname).then(serial);
+    a.mname.cmp(&b.mname).then(rname)
+}
+
+// By the fields in order.
+#[inline]
+#[tactic(auto, using(dns_pieces::proofs::Comparing::then_equal))]
+fn srv_cmp(a: &SRV, b: &SRV) -> Ordering
+    ensures { result ≡ values_cmp srv_shape (srv_fields a.now) (srv_fields b.now) }
+{
+    let port = a.port.cmp(&b.port).then(a.target.cmp(&b.target));
+    let weight = a.weight.cmp(&b.weight).then(port);
+    a.priority.cmp(&b.priority).then(weight)
+}
+
+// By the fields in order.
+#[inline]
+#[tactic(auto, using(dns_pieces::proofs::Comparing::then_equal, dns_pieces::proofs::Comparing::then_assoc))]
+fn sshfp_cmp(a: &SSHFP, b: &SSHFP) -> Ordering
+    ensures { result ≡ values_cmp sshfp_key_shape (sshfp_keys a.now) (sshfp_keys b.now) }
+{
+    let kind = a
+        .fingerprint_type
+        .cmp(&b.fingerprint_type)
+        .then(a.fingerprint.cmp(&b.fingerprint));
+    a.algorithm.cmp(&b.algorithm).then(kind)
+}
+
+// By the fields in order.
+#[inline]
+#[tactic(auto, using(dns_pieces::proofs::Comparing::then_equal, dns_pieces::proofs::Comparing::then_assoc))]
+fn tlsa_cmp(a: &TLSA, b: &TLSA) -> Ordering
+    ensures { result ≡ values_cmp tlsa_key_shape (tlsa_keys a.now) (tlsa_keys b.now) }
+{
+    let matching = a
+        .matching
+        .cmp(&b.matching)
+        .then(a.cert_data.cmp(&b.cert_data));
+    let selector = a.selector.cmp(&b.selector).then(matching);
+    a.cert_usage.cmp(&b.cert_usage).then(selector)
+}
+
+// By the strings.
+#[inline]
+#[tactic(auto, using(dns_pieces::proofs::Comparing::then_equal))]
+fn txt_cmp(a: &TXT, b: &TXT) -> Ordering
+    ensures { result ≡ values_cmp txt_shape (txt_fields a.now) (txt_fields b.now) }
+{
+    a.txt_data.cmp(&b.txt_data)
+}
+
+impl RData {
+    // Of two values by variant, and then by the fields.
+    fn cmp_fields(&self, other: &RData) -> Ordering
+        ensures { result ≡ variants_cmp self.now other.now }
+    {
+        match (self, other) {
+            (RData::A(a), RData::A(b)) => a_cmp(a, b),
+            (RData::AAAA(a), RData::AAAA(b)) => aaaa_cmp(a, b),
+            (RData::ANAME(a), RData::ANAME(b)) => name_cmp(&a.0, &b.0),
+            (RData::CAA(a), RData::CAA(b)) => caa_cmp(a, b),
+            (RData::CERT(a), RData::CERT(b)) => cert_cmp(a, b),
+            (RData::CNAME(a), RData::CNAME(b)) => name_cmp(&a.0, &b.0),
+            (RData::CSYNC(a), RData::CSYNC(b)) => csync_cmp(a, b),
+            (RData::HINFO(a), RData::HINFO(b)) => hinfo_cmp(a, b),
+            (RData::HTTPS(a), RData::HTTPS(b)) => svcb_cmp(&a.0, &b.0),
+            (RData::MX(a), RData::MX(b)) => mx_cmp(a, b),
+            (RData::NAPTR(a), RData::NAPTR(b)) => naptr_cmp(a, b),
+            (RData::NULL(a), RData::NULL(b)) => rest_cmp(&a.anything, &b.anything),
+            (RData::NS(a), RData::NS(b)) => name_cmp(&a.0, &b.0),
+            (RData::OPENPGPKEY(a), RData::OPENPGPKEY(b)) => rest_cmp(&a.public_key, &b.public_key),
+            (RData::OPT(a), RData::OPT(b)) => a.cmp(b),
+            (RData::PTR(a), RData::PTR(b)) => name_cmp(&a.0, &b.0),
+            (RData::SMIMEA(a), RData::SMIMEA(b)) => tlsa_cmp(&a.0, &b.0),
+            (RData::SOA(a), RData::SOA(b)) => soa_cmp(a, b),
+            (RData::SRV(a), RData::SRV(b)) => srv_cmp(a, b),
+            (RData::SSHFP(a), RData::SSHFP(b)) => sshfp_cmp(a, b),
+            (RData::SVCB(a), RData::SVCB(b)) => svcb_cmp(a, b),
+            (RData::TLSA(a), RData::TLSA(b)) => tlsa_cmp(a, b),
+            (RData::TXT(a), RData::TXT(b)) => txt_cmp(a, b),
+            (
+                RData::Unknown { code, rdata },
+                RData::Unknown {
+                    code: other_code,
+                    rdata: other_rdata,
+                },
+            ) => code
+                .cmp(other_code)
+                .then(rest_cmp(&rdata.anything, &other_rdata.anything)),
+            (RData::Update0(a), RData::Update0(b)) => a.cmp(b),
+            _ => self.cmp_ranks(other),
+        }
+    }
+
+    // By variant.
+    fn cmp_ranks(&self, other: &RData) -> Ordering
+        requires { Differ self.now other.now }
+        ensures { result ≡ variants_cmp self.now other.now }
+    {
+        self.rank().cmp(&other.rank())
+    }
+
+    // By the canonical octets, then by type, then by variant, then by the fields.
+    fn cmp_all(&self, other: &RData) -> Ordering
+        ensures { result ≡ rdata_cmp self.now other.now }
+    {
+        let octets = self
+            .canonical_octets()
+            .compare(&mut other.canonical_octets());
+        if octets.is_ne() {
+            return octets;
+        }
+        let types = self.record_type().cmp(&other.record_type());
+        if types.is_ne() {
+            return types;
+        }
+        self.cmp_fields(other)
+    }
+}
+
+impl PartialOrd for RData {
+    ghost use Rattle.std.specs.Prelude.{refl};
+    ghost use Rattle.std.specs.Cmp.{partial_order_from_agreeing_total};
+    ghost use Rattle.std.specs.Ordering.{as_partial_cmp};
+    ghost use Rattle.dns_rdata.specs.Order.{rdata_total};
+    ghost use Rattle.dns_rdata.specs.Ties.{rdata_ties};
+
+    ghost partial_cmp = { as_partial_cmp rdata_cmp };
+
+    ghost laws = { partial_order_from_agreeing_total rdata_cmp rdata_total (λ _ _. refl) rdata_ties };
+
+    #[inline]
+    fn partial_cmp(&self, other: &RData) -> Option<Ordering> {
+        Some(self.cmp(other))
+    }
+}
+
+impl Ord for RData {
+    ghost use Rattle.std.specs.Prelude.{refl};
+    ghost use Rattle.dns_rdata.specs.Order.{rdata_total, OrdersRead};
+    ghost use Rattle.dns_rdata.specs.Ties.{rdata_ties};
+
+    ghost cmp = { rdata_cmp };
+
+    ghost total = { rdata_total };
+
+    ghost matches_partial_cmp = { λ _ _. refl };
+
+    ghost matches_eq = { rdata_ties };
+
+    /// By the canonical octets, a proper beginning before what goes on; then by type, then by variant as declared, then by
+    /// the fields as declared. `Equal` exactly where `==` holds. Takes no memory.
+    fn cmp(&self, other: &RData) -> Ordering
+        ensures value { result ≡ rdata_cmp self.now other.now }
+        // Two values that were read under one type are ordered by their canonical octets.
+        ensures canonical { OrdersRead self.now other.now result }
+    {
+        self.cmp_all(other)
+    }
+}

@@ -1,0 +1,114 @@
+-- Lists compared item by item, and under a view.
+use Rattle.std.proofs.Common.{◌≡◌, ◌⊎◌, inl, inr, ℕ, zero, suc, ◌+◌, ◌-◌, ◌<◌, ◌≤◌, Bool, true, false, List, [], ◌∷◌, length, get_or, drop, map, refl, sym, ap, ◌∙◌, arith}
+use Rattle.std.proofs.lemmas.Bool.Decides.{nat_tests}
+use Rattle.std.proofs.lemmas.List.{drop_more, length-drop}
+use Rattle.std.specs.Cmp.Lexicographic.{slice_cmp}
+use Rattle.std.specs.Ordering.{nat_cmp, ordering_then, is_ne}
+use Rattle.std.specs.declared.cmp.Ordering.{Ordering}
+use Rattle.std.specs.declared.cmp.Ordering.TheVariants.{Less, Equal, Greater}
+use Rattle.dns_pieces.proofs.Comparing.{then_equal, then_assoc}
+use Rattle.dns_fields.specs.Equal.{Key, key_cmp, parameter_key, parameter_keys}
+use Rattle.dns_rdata_base.specs.Numbered.{numbered_cmp}
+use Rattle.dns_rdata_service.specs.SvcParamKey.{key_number, key_variant}
+use Rattle.dns_rdata_service.specs.SvcParamValue.{key_numbers, value_key, a_octets, aaaa_octets}
+use Rattle.dns_rdata_base.specs.declared.a.A.{A}
+use Rattle.dns_rdata_base.specs.declared.aaaa.AAAA.{AAAA}
+use Rattle.dns_rdata_service.specs.Parameters.{Parameter, own_parameter}
+use Rattle.dns_rdata_service.specs.Ordering.{a_order, aaaa_order, parameter_order, value_place, Differ}
+use Rattle.dns_rdata_service.specs.declared.svcb.key.SvcParamKey.{SvcParamKey}
+use Rattle.dns_rdata_service.specs.declared.svcb.value.SvcParamValue.{SvcParamValue}
+use Rattle.dns_rdata_service.specs.declared.svcb.value.SvcParamValue.TheVariants as variants
+
+pub cmp_view : {X Y : Type 0} (E : X → X → Ordering) (F : Y → Y → Ordering) (f : X → Y) → ((x y : X) → E x y ≡ F (f x) (f y)) → (xs ys : List X)
+    → slice_cmp E xs ys ≡ slice_cmp F (map f xs) (map f ys)
+cmp_view E F f same [] [] = refl
+cmp_view E F f same [] (y ∷ ys) = refl
+cmp_view E F f same (x ∷ xs) [] = refl
+cmp_view E F f same (x ∷ xs) (y ∷ ys) = ap (λ o. ordering_then o (slice_cmp E xs ys)) (same x y) ∙ ap (ordering_then (F (f x) (f y))) (cmp_view E F f same xs ys)
+
+numbers_order : (j k : SvcParamKey) → numbered_cmp key_number key_variant j k ≡ slice_cmp nat_cmp (key_numbers j) (key_numbers k)
+numbers_order j k = ap (ordering_then (nat_cmp (key_number j) (key_number k))) (sym (then_equal (nat_cmp (key_variant j) (key_variant k))))
+
+pub keys_order : (xs ys : List SvcParamKey) → slice_cmp (numbered_cmp key_number key_variant) xs ys ≡ slice_cmp (slice_cmp nat_cmp) (map key_numbers xs) (map key_numbers ys)
+keys_order xs ys = cmp_view (numbered_cmp key_number key_variant) (slice_cmp nat_cmp) key_numbers numbers_order xs ys
+
+pub parameters_order : (ps qs : List Parameter) → slice_cmp parameter_order ps qs ≡ slice_cmp key_cmp (parameter_keys (map own_parameter ps)) (parameter_keys (map own_parameter qs))
+parameters_order ps qs = cmp_view parameter_order (λ x y. key_cmp (parameter_key x) (parameter_key y)) own_parameter (λ x y. refl) ps qs
+    ∙ cmp_view (λ x y. key_cmp (parameter_key x) (parameter_key y)) key_cmp parameter_key (λ x y. refl) (map own_parameter ps) (map own_parameter qs)
+
+pub one_order : (n v k : Ordering) → ordering_then (ordering_then n v) k ≡ ordering_then (ordering_then n Equal) (ordering_then (ordering_then v Equal) k)
+one_order Less v k = refl
+one_order Equal v k = ap (λ o. ordering_then o k) (sym (then_equal v))
+one_order Greater v k = refl
+
+pub differ_order : (v w : SvcParamValue) → Differ v w → nat_cmp (value_place v) (value_place w) ≡ slice_cmp (slice_cmp nat_cmp) (value_key v) (value_key w)
+differ_order (variants.Mandatory x) (variants.Mandatory y) d = absurd d
+differ_order (variants.Mandatory x) w d = refl
+differ_order (variants.Alpn x) (variants.Alpn y) d = absurd d
+differ_order (variants.Alpn x) w d = refl
+differ_order (variants.Port m) (variants.Port n) d = absurd d
+differ_order (variants.Port m) w d = refl
+differ_order (variants.Ipv4Hint x) (variants.Ipv4Hint y) d = absurd d
+differ_order (variants.Ipv4Hint x) w d = refl
+differ_order (variants.EchConfigList x) (variants.EchConfigList y) d = absurd d
+differ_order (variants.EchConfigList x) w d = refl
+differ_order (variants.Ipv6Hint x) (variants.Ipv6Hint y) d = absurd d
+differ_order (variants.Ipv6Hint x) w d = refl
+differ_order (variants.Unknown x) (variants.Unknown y) d = absurd d
+differ_order (variants.Unknown x) w d = refl
+differ_order variants.NoDefaultAlpn variants.NoDefaultAlpn d = refl
+differ_order variants.NoDefaultAlpn w d = refl
+
+pub hints4_order : (xs ys : List A) → slice_cmp a_order xs ys ≡ slice_cmp (slice_cmp nat_cmp) (map a_octets xs) (map a_octets ys)
+hints4_order xs ys = cmp_view a_order (slice_cmp nat_cmp) a_octets (λ x y. refl) xs ys
+
+pub hints6_order : (xs ys : List AAAA) → slice_cmp aaaa_order xs ys ≡ slice_cmp (slice_cmp nat_cmp) (map aaaa_octets xs) (map aaaa_octets ys)
+hints6_order xs ys = cmp_view aaaa_order (slice_cmp nat_cmp) aaaa_octets (λ x y. refl) xs ys
+
+-- of three fields
+pub fields_order : (r p t n m a b c : Ordering) → r ≡ ordering_then p t → p ≡ a → t ≡ ordering_then n m → n ≡ b → m ≡ c
+    → r ≡ ordering_then a (ordering_then b (ordering_then c Equal))
+fields_order r p t n m a b c e f g h k = e ∙ (λ i. ordering_then (f i) (g i)) ∙ (λ i. ordering_then a (ordering_then (h i) (k i))) ∙ ap (λ o. ordering_then a (ordering_then b o)) (sym (then_equal c))
+
+-- ---- item by item
+
+then_decided : (o s : Ordering) → is_ne o ≡ true → o ≡ ordering_then o s
+then_decided Less s h = refl
+then_decided Equal s h = cc h
+then_decided Greater s h = refl
+
+then_goes_on : (o s : Ordering) → is_ne o ≡ false → ordering_then o s ≡ s
+then_goes_on Less s h = cc h
+then_goes_on Equal s h = refl
+then_goes_on Greater s h = cc h
+
+module _ {X : Type 0} (R : X → X → Ordering) (xs ys : List X) where
+  next_items : (i : ℕ) (d e : X) → i < length xs → i < length ys
+      → slice_cmp R (drop i xs) (drop i ys) ≡ ordering_then (R (get_or xs i d) (get_or ys i e)) (slice_cmp R (drop (i + 1) xs) (drop (i + 1) ys))
+  next_items i d e h k = (λ j. slice_cmp R (drop_more xs i d h j) (drop_more ys i e k j))
+
+  pub decided : (i : ℕ) (d e : X) (o w : Ordering) → i < length xs → i < length ys → o ≡ R (get_or xs i d) (get_or ys i e) → is_ne o ≡ true
+      → slice_cmp R (drop i xs) (drop i ys) ≡ w → o ≡ w
+  decided i d e o w h k is n same = then_decided o _ n ∙ ap (λ p. ordering_then p (slice_cmp R (drop (i + 1) xs) (drop (i + 1) ys))) is ∙ sym (next_items i d e h k) ∙ same
+
+  pub goes_on : (i : ℕ) (d e : X) (o w : Ordering) → i < length xs → i < length ys → o ≡ R (get_or xs i d) (get_or ys i e) → is_ne o ≡ false
+      → slice_cmp R (drop i xs) (drop i ys) ≡ w → slice_cmp R (drop (i + 1) xs) (drop (i + 1) ys) ≡ w
+  goes_on i d e o w h k is n same = sym (then_goes_on o _ n) ∙ ap (λ p. ordering_then p (slice_cmp R (drop (i + 1) xs) (drop (i + 1) ys))) is ∙ sym (next_items i d e h k) ∙ same
+
+  pub by_lengths : (i : ℕ) (w : Ordering) → i ≤ length xs → i ≤ length ys → (i < length xs → i < length ys → ⊥) → slice_cmp R (drop i xs) (drop i ys) ≡ w → nat_cmp (length xs) (length ys) ≡ w
+  by_lengths i w h k end same = by (drop i xs) (drop i ys) (length-drop i xs) (length-drop i ys) ∙ same
+    where
+      less : (a b : ℕ) → a < b → nat_cmp a b ≡ Less
+      less a b h = grind (arith, nat_tests, h)
+
+      equal : (a b : ℕ) → a ≡ b → nat_cmp a b ≡ Equal
+      equal a b h = grind (arith, nat_tests, h)
+
+      greater : (a b : ℕ) → b < a → nat_cmp a b ≡ Greater
+      greater a b h = grind (arith, nat_tests, h)
+
+      by : (p q : List X) → length p ≡ length xs - i → length q ≡ length ys - i → nat_cmp (length xs) (length ys) ≡ slice_cmp R p q
+      by [] [] e f = equal (length xs) (length ys) (omega (arith, e, f, h, k))
+      by [] (y ∷ q) e f = less (length xs) (length ys) (omega (arith, e, f, h, k))
+      by (x ∷ p) [] e f = greater (length xs) (length ys) (omega (arith, e, f, h, k))
+      by (x ∷ p) (y ∷ q) e f = absurd (end (omega (arith, e)) (omega (arith, f)))

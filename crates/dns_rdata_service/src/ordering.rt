@@ -1,0 +1,145 @@
+//! The order of service bindings by their fields.
+
+ghost use Rattle.std.specs.Prelude.{◌≡◌, map};
+ghost use Rattle.std.specs.Cmp.Lexicographic.{slice_cmp};
+ghost use Rattle.std.specs.Ordering.{nat_cmp};
+ghost use Rattle.dns_fields.specs.Order.{values_cmp};
+ghost use Rattle.dns_rdata_service.specs.SvcParamValue.{key_numbers, value_key};
+ghost use Rattle.dns_rdata_service.specs.SVCB.{svcb_key_shape, svcb_keys};
+ghost use Rattle.dns_rdata_service.specs.Ordering.{a_order, aaaa_order, parameter_order, value_place, Differ};
+
+use crate::svcb::{SVCB, SvcParamKey, SvcParamValue};
+use dns_rdata_base::{A, AAAA};
+use std::cmp::Ordering;
+
+// By number and then variant, key by key.
+fn keys_cmp(a: &[SvcParamKey], b: &[SvcParamKey]) -> Ordering
+    ensures { result ≡ slice_cmp (slice_cmp nat_cmp) (map key_numbers a.now) (map key_numbers b.now) }
+{
+    a.cmp(b)
+}
+
+// By the octets.
+#[inline]
+fn a_cmp(a: &A, b: &A) -> Ordering
+    ensures { result ≡ a_order a.now b.now }
+{
+    a.0.octets().as_slice().cmp(b.0.octets().as_slice())
+}
+
+// By the octets.
+#[inline]
+fn aaaa_cmp(a: &AAAA, b: &AAAA) -> Ordering
+    ensures { result ≡ aaaa_order a.now b.now }
+{
+    a.0.octets().as_slice().cmp(b.0.octets().as_slice())
+}
+
+// Address by address.
+fn hint4_cmp(a: &[A], b: &[A]) -> Ordering
+    ensures { result ≡ slice_cmp a_order a.now b.now }
+{
+    let shorter = a.len().min(b.len());
+    for i in 0..shorter {
+        let order = a_cmp(&a[i], &b[i]);
+        if order.is_ne() {
+            return order;
+        }
+    }
+    a.len().cmp(&b.len())
+}
+
+// Address by address.
+fn hint6_cmp(a: &[AAAA], b: &[AAAA]) -> Ordering
+    ensures { result ≡ slice_cmp aaaa_order a.now b.now }
+{
+    let shorter = a.len().min(b.len());
+    for i in 0..shorter {
+        let order = aaaa_cmp(&a[i], &b[i]);
+        if order.is_ne() {
+            return order;
+        }
+    }
+    a.len().cmp(&b.len())
+}
+
+// The place in the declaration.
+#[inline]
+fn place(value: &SvcParamValue) -> u8
+    ensures { result ≡ value_place value.now }
+{
+    match value {
+        SvcParamValue::Mandatory(_) => 0,
+        SvcParamValue::Alpn(_) => 1,
+        SvcParamValue::NoDefaultAlpn => 2,
+        SvcParamValue::Port(_) => 3,
+        SvcParamValue::Ipv4Hint(_) => 4,
+        SvcParamValue::EchConfigList(_) => 5,
+        SvcParamValue::Ipv6Hint(_) => 6,
+        SvcParamValue::Unknown(_) => 7,
+    }
+}
+
+// By the place in the declaration.
+#[inline]
+fn places_cmp(a: &SvcParamValue, b: &SvcParamValue) -> Ordering
+    requires { Differ a.now b.now }
+    ensures { result ≡ slice_cmp (slice_cmp nat_cmp) (value_key a.now) (value_key b.now) }
+{
+    place(a).cmp(&place(b))
+}
+
+// By variant, and then by what it holds.
+fn value_cmp(a: &SvcParamValue, b: &SvcParamValue) -> Ordering
+    ensures { result ≡ slice_cmp (slice_cmp nat_cmp) (value_key a.now) (value_key b.now) }
+{
+    match (a, b) {
+        (SvcParamValue::Mandatory(x), SvcParamValue::Mandatory(y)) => {
+            keys_cmp(x.0.as_slice(), y.0.as_slice())
+        }
+        (SvcParamValue::Alpn(x), SvcParamValue::Alpn(y)) => x.0.cmp(&y.0),
+        (SvcParamValue::Port(m), SvcParamValue::Port(n)) => m.cmp(n),
+        (SvcParamValue::Ipv4Hint(x), SvcParamValue::Ipv4Hint(y)) => {
+            hint4_cmp(x.0.as_slice(), y.0.as_slice())
+        }
+        (SvcParamValue::EchConfigList(x), SvcParamValue::EchConfigList(y)) => x.0.cmp(&y.0),
+        (SvcParamValue::Ipv6Hint(x), SvcParamValue::Ipv6Hint(y)) => {
+            hint6_cmp(x.0.as_slice(), y.0.as_slice())
+        }
+        (SvcParamValue::Unknown(x), SvcParamValue::Unknown(y)) => x.0.cmp(&y.0),
+        _ => places_cmp(a, b),
+    }
+}
+
+// By key, and then by value.
+fn parameter_cmp(a: &(SvcParamKey, SvcParamValue), b: &(SvcParamKey, SvcParamValue)) -> Ordering
+    ensures { result ≡ parameter_order a.now b.now }
+{
+    a.0.cmp(&b.0).then(value_cmp(&a.1, &b.1))
+}
+
+// Parameter by parameter.
+fn parameters_cmp(
+    a: &[(SvcParamKey, SvcParamValue)],
+    b: &[(SvcParamKey, SvcParamValue)],
+) -> Ordering
+    ensures { result ≡ slice_cmp parameter_order a.now b.now }
+{
+    let shorter = a.len().min(b.len());
+    for i in 0..shorter {
+        let order = parameter_cmp(&a[i], &b[i]);
+        if order.is_ne() {
+            return order;
+        }
+    }
+    a.len().cmp(&b.len())
+}
+
+/// By priority, target and parameters: each by its key's number and variant, its value's variant, and what that holds.
+pub fn svcb_cmp(a: &SVCB, b: &SVCB) -> Ordering
+    ensures { result ≡ values_cmp svcb_key_shape (svcb_keys a.now) (svcb_keys b.now) }
+{
+    let parameters = parameters_cmp(a.svc_params.as_slice(), b.svc_params.as_slice());
+    let target = a.target_name.cmp(&b.target_name).then(parameters);
+    a.svc_priority.cmp(&b.svc_priority).then(target)
+}
