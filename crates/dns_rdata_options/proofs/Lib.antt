@@ -11,3 +11,4 @@ pub mod Least
 pub mod Walks
 pub mod InOrder
 pub mod Values
+pub mod NetTexts

@@ -1,12 +1,11 @@
 -- Plain octets that are appended in parts.
-use Rattle.std.proofs.Common.{◌≡◌, ℕ, ◌+◌, ◌<◌, ◌≤◌, List, ◌++◌, length, refl, sym, ap, ◌∙◌, arith, append_assoc, subst}
+use Rattle.std.proofs.Common.{◌≡◌, ℕ, ◌≤◌, List, ◌++◌, length, ap, ◌∙◌, arith, append_assoc}
 use Rattle.std.proofs.lemmas.List.{length-append}
 use Rattle.dns_types.specs.declared.error.ProtoError.{ProtoError}
-use Rattle.dns_types.specs.declared.error.ProtoError.TheVariants as proto
 use Rattle.dns_fields.specs.Fields.{Rest, field_octets}
 use Rattle.dns_names_wire.specs.State.{Writing}
 use Rattle.dns_names_wire.specs.Words.{AppendedField, StoppedField, NoRoomField, UnfitField}
-use Rattle.dns_names_wire.proofs.FieldWrites.{keeps_then, extends_none, extends_then, because_map}
+use Rattle.dns_names_wire.proofs.FieldWrites.{keeps_then, extends_then, because_map}
 use Rattle.dns_rdata_options.specs.Words.{AppendedOctets, StoppedOctets}
 
 pub appended_two : {old mid new : Writing} {asked : Type 0} (s t whole : List ℕ) → AppendedField old Rest s mid → AppendedField mid Rest t new

@@ -1,23 +1,22 @@
 -- Options one after the other.
-use Rattle.std.proofs.Common.{◌≡◌, ◌≢◌, ℕ, zero, suc, ◌+◌, ◌-◌, ◌≤◌, ◌<◌, ◌^◌, ◌⊎◌, inl, inr, ⊎_elim, Option, Some, None, List, [], ◌∷◌}
+use Rattle.std.proofs.Common.{◌≡◌, ℕ, ◌+◌, ◌-◌, ◌≤◌, ◌<◌, ◌^◌, ◌⊎◌, inl, inr, ⊎_elim, List, [], ◌∷◌}
 use Rattle.std.proofs.Common.{◌++◌, length, take, drop, refl, sym, ap, ◌∙◌, arith, subst, append_assoc}
 use Rattle.std.specs.Int.{bytes_high_first}
 use Rattle.std.proofs.lemmas.List.{length-append, append-nil, take-append-drop, take_at, take-append-le}
-use Rattle.std.proofs.lemmas.Grind.{flat_map-append}
 use Rattle.dns_types.specs.declared.error.DecodeError.{DecodeError}
 use Rattle.dns_types.specs.declared.error.DecodeError.TheVariants as decode
 use Rattle.dns_fields.specs.Octets.{At}
 use Rattle.dns_fields.specs.Pieces.{Numbered, piece, pieces, IsPiece, ArePieces, AllHeld, OptionValue, OptionHeld, IsCut}
-use Rattle.dns_fields.specs.Fields.{Number, Octets, Options, Field, WholeOptions, CutOptions}
+use Rattle.dns_fields.specs.Fields.{Number, Octets, Field}
 use Rattle.dns_fields.proofs.Numbers.{length-bytes}
 use Rattle.dns_fields.proofs.Pieces.{first_piece, cut_piece, length-piece}
-use Rattle.dns_fields.proofs.FieldLaws.{field_inside, field_same}
-use Rattle.dns_names_wire.specs.State.{Reading, IsInside}
-use Rattle.dns_names_wire.specs.Words.{TookField, LacksField, Took, LacksOctets, StaysBehind}
+use Rattle.dns_fields.proofs.FieldLaws.{field_same}
+use Rattle.dns_names_wire.specs.State.{Reading}
+use Rattle.dns_names_wire.specs.Words.{TookField, LacksField, LacksOctets, StaysBehind}
 use Rattle.dns_names_wire.proofs.FieldReads.{stays, took_stays, took_then, took_last, took_number}
 use Rattle.dns_names_wire.proofs.Strings.{at_front, at_rest, at_then}
-use Rattle.dns_rdata_options.specs.OPT.{PassedEnd, TookHead, piece_refusal}
-use Rattle.dns_rdata_options.specs.OptionReads.{Left, NoneLeft, TookPiece, TookOption, TookCut, RefusedLeft, NoValue}
+use Rattle.dns_rdata_options.specs.OPT.{TookHead, piece_refusal}
+use Rattle.dns_rdata_options.specs.OptionReads.{Left, NoneLeft, TookPiece, TookCut, RefusedLeft, NoValue}
 
 -- ---- what begins the rest
 

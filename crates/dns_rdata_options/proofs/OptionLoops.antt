@@ -1,7 +1,7 @@
 -- Options that are read up to the end of a record.
-use Rattle.std.proofs.Common.{◌≡◌, ℕ, ◌+◌, ◌-◌, ◌≤◌, ◌<◌, ◌⊎◌, inl, inr, List, [], ◌∷◌, ◌++◌, length, drop, map, Option, Some, None, refl}
+use Rattle.std.proofs.Common.{◌≡◌, ℕ, ◌+◌, ◌-◌, ◌≤◌, ◌<◌, ◌⊎◌, inl, inr, List, [], ◌∷◌, ◌++◌, map, refl}
 use Rattle.std.proofs.Common.{sym, ap, ◌∙◌, arith, subst}
-use Rattle.std.proofs.lemmas.List.{map_push, append-nil, length-append, length-drop}
+use Rattle.std.proofs.lemmas.List.{map_push, append-nil}
 use Rattle.std.proofs.lemmas.Grind.{flat_map-append}
 use Rattle.dns_types.specs.declared.error.DecodeError.{DecodeError}
 use Rattle.dns_types.specs.declared.error.DecodeError.TheVariants as decode
@@ -10,11 +10,11 @@ use Rattle.dns_fields.specs.Pieces.{Numbered, piece, pieces, IsPiece, ArePieces,
 use Rattle.dns_fields.specs.Fields.{Options, Field, Values, WholeOptions, CutOptions}
 use Rattle.dns_fields.proofs.Pieces.{length-piece}
 use Rattle.dns_names_wire.specs.State.{Reading, IsInside}
-use Rattle.dns_names_wire.specs.Words.{Took, Lacks, Refused, StaysBehind, UnlessMemory}
+use Rattle.dns_names_wire.specs.Words.{Took, Refused, StaysBehind, UnlessMemory}
 use Rattle.dns_names_wire.proofs.FieldReads.{unless_map}
 use Rattle.dns_names_wire.proofs.Strings.{at_then}
-use Rattle.dns_rdata_options.specs.OPT.{Pair, pair_value, pair_of, opt_shape, IsReadOpt, OptionsBefore, next_refusal, RefusedNext, opt_refusal}
-use Rattle.dns_rdata_options.specs.OptionReads.{Left, NoneLeft, TookOption, TookCut, TookPair, TookSome, NoWhole}
+use Rattle.dns_rdata_options.specs.OPT.{Pair, pair_value, pair_of, opt_shape, IsReadOpt, next_refusal, opt_refusal}
+use Rattle.dns_rdata_options.specs.OptionReads.{Left, NoneLeft, TookOption, TookCut, NoWhole}
 use Rattle.dns_rdata_options.proofs.OptionLists.{first_left}
 
 abbrev pub any_options : Values opt_shape → Type 0

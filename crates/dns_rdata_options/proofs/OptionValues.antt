@@ -1,20 +1,19 @@
 -- Which options codes and octets give, and the values of the wire that they hold.
-use Rattle.std.proofs.Common.{◌≡◌, ◌≢◌, ◌⊎◌, inl, inr, ℕ, ◌+◌, ◌<◌, ◌≤◌, ◌^◌, ◌==◌, Bool, true, false, cond, eqb-true, List, ◌∷◌, ◌++◌}
+use Rattle.std.proofs.Common.{◌≡◌, ◌≢◌, ◌⊎◌, inl, inr, ℕ, ◌+◌, ◌<◌, ◌==◌, Bool, true, false, cond, eqb-true, List, ◌∷◌, ◌++◌}
 use Rattle.std.proofs.Common.{length, drop, Result, Ok, Err, refl, sym, ap, ◌∙◌, arith, subst}
 use Rattle.std.specs.Int.{bytes_high_first}
 use Rattle.std.specs.Prelude.{IfErr}
 use Rattle.std.specs.Result.{IsErrAnd}
-use Rattle.std.proofs.lemmas.List.{append-nil, take_at, length-append}
 use Rattle.dns_types.specs.declared.error.DecodeError.{DecodeError}
 use Rattle.dns_types.specs.declared.error.DecodeError.TheVariants as decode
 use Rattle.dns_fields.specs.Octets.{AreOctets, At}
-use Rattle.dns_fields.specs.Pieces.{Numbered, piece, OptionValue, Subnet, Plain, option_octets, OptionHeld, IsAddress, IsEmittableOption}
+use Rattle.dns_fields.specs.Pieces.{Numbered, piece, OptionValue, Subnet, Plain, option_octets, OptionHeld, IsEmittableOption}
 use Rattle.dns_fields.proofs.OctetLaws.{AreOctets-at, AreOctets-back, AreOctets-front, AreOctets-same, AreOctets-tail}
 use Rattle.dns_rdata_base.proofs.NumberLaws.{number-numbered_of}
 use Rattle.dns_rdata_options.specs.EdnsCode.{edns_code_number, named_edns_codes, other_edns_code, edns_code_of}
-use Rattle.dns_rdata_options.specs.ClientSubnet.{subnet_value, subnet_of, SubnetAt, NoSubnet, ReadsSubnet, subnet_refusal}
+use Rattle.dns_rdata_options.specs.ClientSubnet.{subnet_value, subnet_of, NoSubnet, ReadsSubnet, subnet_refusal}
 use Rattle.dns_rdata_options.specs.EdnsOption.{option_value, IsOptionOf, option_refusal}
-use Rattle.dns_rdata_options.specs.OPT.{Pair, pair_value, option_of, pair_of, next_refusal}
+use Rattle.dns_rdata_options.specs.OPT.{option_of, next_refusal}
 use Rattle.dns_rdata_options.specs.OptionReads.{HasValue, NoValue, NoneLeft, TookPiece, TookOption, TookSome, TookPair}
 use Rattle.dns_names_wire.specs.State.{Reading}
 use Rattle.dns_names_wire.specs.Words.{StaysBehind, UnlessMemory}
@@ -25,7 +24,7 @@ use Rattle.dns_rdata_options.specs.declared.opt.code.EdnsCode.TheVariants as cod
 use Rattle.dns_rdata_options.specs.declared.opt.option.EdnsOption.{EdnsOption}
 use Rattle.dns_rdata_options.specs.declared.opt.option.EdnsOption.TheVariants as edns
 use Rattle.dns_rdata_options.proofs.OptionLists.{no_value}
-use Rattle.dns_rdata_options.proofs.Subnets.{address_known, value_back, made_read, at_zero, begun, family_small}
+use Rattle.dns_rdata_options.proofs.Subnets.{address_known, value_back, made_read, at_zero, begun}
 
 pub edns_code_number-of : (n : ℕ) → edns_code_number (edns_code_of n) ≡ n
 unfolding edns_code_of

@@ -1,5 +1,5 @@
 -- No record of options is refused by the number of its type.
-use Rattle.std.proofs.Common.{◌≡◌, ◌⊎◌, inl, inr, ℕ, ◌+◌, List}
+use Rattle.std.proofs.Common.{inl, inr, ℕ, List}
 use Rattle.dns_types.specs.declared.error.DecodeError.TheVariants as decode
 use Rattle.dns_names_wire.specs.State.{Reading}
 use Rattle.dns_rdata_options.specs.ClientSubnet.{subnet_refusal}

@@ -1,13 +1,11 @@
 -- Records of options by their fields: one that was read is told by them, and fields that stand make one. `==` of records
 -- tells whether one is the other in another order; of two that were read, whether their fields are.
-use Rattle.std.proofs.Common.{◌≡◌, ◌≢◌, ◌↔◌, ◌⊎◌, inl, inr, ℕ, ◌+◌, ◌-◌, ◌<◌, ◌==◌, ◌&&◌, Bool, true, false, cond, List, [], ◌∷◌, ◌++◌}
-use Rattle.std.proofs.Common.{map, IsTrue, count_by, refl, sym, ap, ◌∙◌, arith, subst}
+use Rattle.std.proofs.Common.{◌≡◌, ◌↔◌, ◌⊎◌, inl, inr, ℕ, ◌-◌, ◌==◌, ◌&&◌, Bool, true, false, cond, List, [], ◌∷◌, ◌++◌}
+use Rattle.std.proofs.Common.{map, count_by, refl, sym, ap, ◌∙◌, subst}
 use Rattle.std.specs.Bool.{Decides}
 use Rattle.std.specs.Cmp.{unsigned_Decides}
-use Rattle.std.specs.Cmp.Lexicographic.{pointwise, pointwise_decides, slice_cmp}
+use Rattle.std.specs.Cmp.Lexicographic.{pointwise, pointwise_decides}
 use Rattle.std.specs.Ordering.{is_eq, eq_by_cmp}
-use Rattle.std.specs.declared.cmp.Ordering.{Ordering}
-use Rattle.std.specs.declared.cmp.Ordering.TheVariants.{Equal}
 use Rattle.std.specs.FinMap.{IsAntisymmetric}
 use Rattle.std.specs.List.Sorted.{IsPermutation}
 use Rattle.std.proofs.lemmas.List.Sorted.{IsPermutation-map}
@@ -15,16 +13,15 @@ use Rattle.std.specs.Int.{bytes_high_first}
 use Rattle.std.specs.declared.net.ip_addr.IpAddr.{IpAddr}
 use Rattle.std.specs.declared.net.ip_addr.IpAddr.TheVariants.{V4, V6}
 use Rattle.std.specs.contracts.net.ip_addr.IpAddrPartialEq.TheImpl as equal_addresses
-use Rattle.dns_fields.specs.Octets.{AreOctets, At}
+use Rattle.dns_fields.specs.Octets.{AreOctets}
 use Rattle.dns_fields.specs.Pieces.{Numbered, piece, pieces, AllHeld, OptionValue, Subnet, Plain, option_octets, OptionHeld}
-use Rattle.dns_fields.specs.Fields.{Values, WholeOptions, CutOptions, Field, Options, Stands, Same}
+use Rattle.dns_fields.specs.Fields.{Values, WholeOptions, CutOptions, Stands, Same}
 use Rattle.dns_fields.specs.Equal.{values_eq}
 use Rattle.dns_fields.proofs.EqualLaws.{values_decide}
 use Rattle.dns_fields.proofs.OctetLaws.{AreOctets-at, AreOctets-front, AreOctets-back, AreOctets-same, AreOctets-tail}
 use Rattle.dns_fields.proofs.Multisets.{count_ext, counts_decide}
 use Rattle.dns_fields.proofs.Sorted.{permutation_counts}
 use Rattle.dns_rdata_options.specs.EdnsCode.{edns_code_number, edns_code_variant, edns_code_of}
-use Rattle.dns_rdata_options.specs.ClientSubnet.{subnet_value, subnet_of}
 use Rattle.dns_rdata_options.specs.EdnsOption.{option_value}
 use Rattle.dns_rdata_options.specs.OPT.{Pair, pair_value, option_of, pair_of, opt_shape, opt_fields, opt_from, IsReadOpt, code_eq}
 use Rattle.dns_rdata_options.specs.Order.{pair_eq, pair_cmp, opt_eq}

@@ -1,10 +1,10 @@
 -- The options of EDNS (RFC 6891, 6.1.2): their octets, and which option a code and octets give.
-use Rattle.std.specs.Prelude.{◌≡◌, ◌⊎◌, ℕ, ◌+◌, ◌<◌, ◌≤◌, ◌==◌, if◌then◌else◌, List, length, Result, Ok, Err}
+use Rattle.std.specs.Prelude.{◌≡◌, ◌⊎◌, ℕ, ◌+◌, ◌<◌, ◌≤◌, List, length, Result, Ok, Err}
 use Rattle.dns_types.specs.declared.error.DecodeError.{DecodeError}
 use Rattle.dns_types.specs.declared.error.DecodeError.TheVariants as decode
-use Rattle.dns_fields.specs.Pieces.{Numbered, OptionValue, Plain}
+use Rattle.dns_fields.specs.Pieces.{OptionValue, Plain}
 use Rattle.dns_rdata_options.specs.EdnsCode.{edns_code_number, edns_code_of}
-use Rattle.dns_rdata_options.specs.ClientSubnet.{prefix_octets, subnet_value, subnet_of, IsReadSubnet, ReadsSubnet, NoSubnet, subnet_refusal}
+use Rattle.dns_rdata_options.specs.ClientSubnet.{prefix_octets, subnet_value, ReadsSubnet, NoSubnet, subnet_refusal}
 use Rattle.dns_rdata_options.specs.declared.opt.code.EdnsCode.{EdnsCode}
 use Rattle.dns_rdata_options.specs.declared.opt.code.EdnsCode.TheVariants as codes
 use Rattle.dns_rdata_options.specs.declared.opt.option.EdnsOption.{EdnsOption}

@@ -1,6 +1,7 @@
 pub mod EdnsCode
 pub mod IpNet
 pub mod ClientSubnet
+pub mod NetText
 pub mod EdnsOption
 pub mod OPT
 pub mod Lent

@@ -1,14 +1,11 @@
 -- Options, as the reader meets them one by one.
-use Rattle.std.specs.Prelude.{◌≡◌, ℕ, ◌+◌, ◌≤◌, ◌<◌, ◌⊎◌, List, [], ◌++◌, length, Option, Some, None, Result, Ok, Err}
+use Rattle.std.specs.Prelude.{◌≡◌, ℕ, ◌+◌, ◌≤◌, ◌⊎◌, List, [], ◌++◌, Option, Some, None, Result, Ok, Err}
 use Rattle.dns_types.specs.declared.error.DecodeError.{DecodeError}
 use Rattle.dns_types.specs.declared.error.DecodeError.TheVariants as decode
 use Rattle.dns_fields.specs.Octets.{At}
 use Rattle.dns_fields.specs.Pieces.{Numbered, piece, pieces, IsPiece, ArePieces, AllHeld, OptionValue, OptionHeld, IsCut}
-use Rattle.dns_fields.specs.Fields.{WholeOptions}
 use Rattle.dns_names_wire.specs.State.{Reading}
 use Rattle.dns_names_wire.specs.Words.{StaysBehind, UnlessMemory}
-use Rattle.dns_rdata_options.specs.EdnsCode.{edns_code_of}
-use Rattle.dns_rdata_options.specs.EdnsOption.{option_refusal}
 use Rattle.dns_rdata_options.specs.OPT.{Pair, pair_value, pair_of, piece_refusal, next_refusal}
 
 -- what is left from a place to the end of a record of n octets: whole options, maybe a cut one

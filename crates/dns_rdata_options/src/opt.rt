@@ -11,6 +11,7 @@ ghost use Rattle.dns_rdata_options.specs.OPT.{opt_shape, opt_fields, pair_value,
 
 mod code;
 mod net;
+mod net_text;
 mod option;
 mod order;
 mod payload;

@@ -2,7 +2,8 @@ ghost use Rattle.std.specs.Prelude.{◌<◌, ◌≤◌, length};
 
 use crate::opt::{ClientSubnet, EdnsCode, EdnsOption, IpNet, NSIDPayload, OPT};
 use dns_names_wire::{
-    BinDecodable, BinDecoder, BinEncodable, BinEncoder, DecodeError, ProtoError, Restrict,
+    AddrParseError, BinDecodable, BinDecoder, BinEncodable, BinEncoder, DecodeError, ProtoError,
+    Restrict,
 };
 use dns_rdata_base::RecordDataDecodable;
 use std::alloc::Global;
@@ -197,5 +198,70 @@ fn payload_bound(rt: HostRuntime) -> Result<(), ProtoError> {
     };
     assert_eq!(rt; long, Some(numbers));
     assert!(rt; NSIDPayload::new(octets).is_err());
+    Ok(())
+}
+
+#[test]
+fn nets_of_texts(rt: HostRuntime) {
+    let nets = [
+        ("1.2.3.4/32", IpAddr::V4(Ipv4Addr::new(1, 2, 3, 4)), 32),
+        ("1.2.3.4/008", IpAddr::V4(Ipv4Addr::new(1, 2, 3, 4)), 8),
+        (
+            "::/128",
+            IpAddr::V6(Ipv6Addr::new(0, 0, 0, 0, 0, 0, 0, 0)),
+            128,
+        ),
+        (
+            "::ffff:1.2.3.4/0",
+            IpAddr::V6(Ipv6Addr::new(0, 0, 0, 0, 0, 0xffff, 0x102, 0x304)),
+            0,
+        ),
+    ];
+    for (text, addr, prefix_len) in nets {
+        assert_eq!(rt;
+            text.parse::<IpNet>().ok(),
+            IpNet::new(addr, prefix_len),
+            "of {text}"
+        );
+    }
+}
+
+#[test]
+fn texts_of_no_net(rt: HostRuntime) {
+    for text in [
+        "1.2.3.4/33",
+        "::/129",
+        "1.2.3.4",
+        "1.2.3.4/",
+        "1.2.3.4/+8",
+        "1.2.3.4/0008",
+        "1.2.3.4/256",
+        "1.2.3.4/8/8",
+        "1.2.3.4/٣",
+        "01.2.3.4/8",
+        "/8",
+        "/",
+        "",
+    ] {
+        assert_eq!(rt; text.parse::<IpNet>(), Err(AddrParseError), "of {text}");
+        assert_eq!(rt;
+            text.parse::<ClientSubnet>(),
+            Err(AddrParseError),
+            "of {text}"
+        );
+    }
+}
+
+#[test]
+fn subnets_of_texts(rt: HostRuntime) -> Result<(), ProtoError> {
+    let alloc = rt.alloc();
+    let subnet = "172.1.1.1/24".parse::<ClientSubnet>();
+    let address = IpAddr::V4(Ipv4Addr::new(172, 1, 1, 1));
+    assert_eq!(rt; subnet, Ok(ClientSubnet::new(address, 24, 0)));
+    let Ok(subnet) = subnet else {
+        return Ok(());
+    };
+    let emitted = subnet.to_vec(alloc)?;
+    assert!(rt; emitted.as_slice() == b"\x00\x01\x18\x00\xac\x01\x01".as_slice());
     Ok(())
 }

@@ -1,4 +1,7 @@
 pub mod Splits
+pub mod KeyTexts
+pub mod ItemLists
+pub mod ParameterWords
 pub mod Refusals
 pub mod ValueReads
 pub mod EachReads
@@ -13,3 +16,4 @@ pub mod ParameterReads
 pub mod ParameterEmits
 pub mod HeadReads
 pub mod SvcbValues
+pub mod WordParameters

@@ -1,9 +1,12 @@
 pub mod SvcParamKey
+pub mod KeyTexts
 pub mod Emitting
 pub mod Hints
 pub mod SvcParamValue
 pub mod Parameters
+pub mod ParameterWords
 pub mod SVCB
 pub mod OwnKeys
 pub mod Hashing
 pub mod HTTPS
+pub mod WordRows

@@ -6,6 +6,7 @@ pub mod items;
 pub mod svcb;
 #[cfg(test)]
 mod tests;
+mod words;
 
 pub use https::HTTPS;
 pub use items::Items;

@@ -1,2 +1,3 @@
 mod records;
 mod values;
+mod words;

@@ -4,6 +4,7 @@
 pub mod laws;
 pub mod lexer;
 pub mod list;
+pub mod pieces;
 mod quoted;
 mod spans;
 #[cfg(test)]
@@ -14,6 +15,7 @@ pub mod words;
 
 pub use lexer::Lexer;
 pub use list::{read_item, read_list};
+pub use pieces::next_piece;
 pub use token::Token;
 pub use ttl::parse_ttl;
 pub use words::text_words;

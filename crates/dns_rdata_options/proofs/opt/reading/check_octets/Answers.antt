@@ -1,4 +1,3 @@
-use Rattle.std.proofs.lemmas.Result.{err_from_is_err_and}
 use Rattle.dns_rdata_options.proofs.OptionValues.{subnet_refused, subnet_has, plain_has}
 use Rattle.dns_rdata_options.proofs.opt.reading.check_octets.Goals as goal
 

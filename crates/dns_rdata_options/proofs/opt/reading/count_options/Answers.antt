@@ -1,5 +1,5 @@
-use Rattle.std.proofs.Common.{◌≡◌, ◌+◌, ◌<◌, ◌≤◌, ℕ, List, length, get_or, arith, ap, sym, ◌∙◌, Some}
-use Rattle.dns_rdata_options.proofs.OptionCounts.{counts_first, counts_more, counts_short, counts_past, counts_all}
+use Rattle.std.proofs.Common.{arith, ap, sym, Some}
+use Rattle.dns_rdata_options.proofs.OptionCounts.{counts_first, counts_more, counts_short, counts_all}
 use Rattle.dns_rdata_options.proofs.opt.reading.count_options.Goals as goal
 
 pub loop-place-init : goal.loop-place-init

@@ -1,7 +1,7 @@
-use Rattle.std.proofs.Common.{◌≡◌, ◌+◌, ◌<◌, ◌≤◌, ◌++◌, ◌∷◌, [], arith, subst, Ok}
+use Rattle.std.proofs.Common.{◌+◌, ◌<◌, ◌++◌, ◌∷◌, [], arith, subst, Ok}
 use Rattle.std.proofs.lemmas.Result.{err_from_is_err_and}
 use Rattle.dns_rdata_options.specs.OptionReads.{ReadsNext, TookSome, TookCut}
-use Rattle.dns_rdata_options.proofs.OptionLoops.{options_more, options_none, options_refusal, options_cut, options_never}
+use Rattle.dns_rdata_options.proofs.OptionLoops.{options_more, options_none, options_refusal, options_cut}
 use Rattle.dns_rdata_options.proofs.opt.reading.read_cut.Goals as goal
 
 pub returns-in_err-check_pair-clause-fields : goal.returns-in_err-check_pair-clause-fields

@@ -1,7 +1,6 @@
-use Rattle.std.proofs.Common.{◌≡◌, ◌+◌, ◌<◌, map, arith, subst, sym, ap, ◌∙◌, Ok}
+use Rattle.std.proofs.Common.{◌+◌, ◌<◌, arith, subst, Ok}
 use Rattle.std.proofs.lemmas.Result.{err_from_is_err_and}
 use Rattle.std.proofs.lemmas.List.{map_push}
-use Rattle.dns_rdata_options.specs.OPT.{pair_value}
 use Rattle.dns_rdata_options.specs.OptionReads.{ReadsNext, TookPair, TookCut}
 use Rattle.dns_rdata_options.proofs.OptionLoops.{options_more, options_none, options_refusal, options_cut, read_more}
 use Rattle.dns_rdata_options.proofs.opt.reading.read_whole.Goals as goal

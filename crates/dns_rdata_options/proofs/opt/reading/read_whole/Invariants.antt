@@ -1,4 +1,4 @@
-use Rattle.std.proofs.Common.{◌≡◌, ◌-◌, map}
+use Rattle.std.proofs.Common.{◌-◌, map}
 use Rattle.dns_rdata_options.specs.OPT.{pair_value, IsReadOpt}
 use Rattle.dns_rdata_options.proofs.OptionLoops.{ReadsOptions}
 use Rattle.dns_rdata_options.proofs.opt.reading.read_whole.Given as goal

@@ -1,4 +1,4 @@
-use Rattle.std.proofs.Common.{refl, take}
+use Rattle.std.proofs.Common.{refl}
 use Rattle.std.proofs.lemmas.Result.{err_from_is_err_and}
 use Rattle.dns_rdata_options.proofs.OctetWrites.{stopped_one, stopped_two}
 use Rattle.dns_rdata_options.proofs.opt.subnet.emit_parts.Goals as goal

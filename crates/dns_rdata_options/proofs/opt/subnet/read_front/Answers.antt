@@ -1,7 +1,6 @@
-use Rattle.std.proofs.Common.{ℕ, length, arith, rules, ◌<◌, ◌≤◌, ◌+◌, ◌/◌, ◌-◌, ◌≡◌, ◌∙◌, ap, take, drop, get_or, refl}
+use Rattle.std.proofs.Common.{ℕ, arith, ◌+◌, ◌-◌, ◌≡◌, ◌∙◌, ap, take, drop, get_or}
 use Rattle.std.specs.declared.net.ip_addr.IpAddr.{IpAddr}
-use Rattle.dns_types.specs.declared.error.DecodeError.TheVariants as decode
-use Rattle.dns_rdata_options.specs.ClientSubnet.{IsFamily, prefix_octets, family_octets, subnet_refusal, address_of}
+use Rattle.dns_rdata_options.specs.ClientSubnet.{prefix_octets, address_of}
 use Rattle.dns_rdata_options.proofs.Subnets.{Eights, unknown_family, no_prefixes, long_prefix, no_address, subnet_stands}
 use Rattle.dns_rdata_options.proofs.opt.subnet.read_front.Goals as goal
 

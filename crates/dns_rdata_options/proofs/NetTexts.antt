@@ -1,0 +1,178 @@
+-- Where the prefix of a net's text begins.
+use Rattle.std.proofs.Common.{◌≡◌, ◌≢◌, ℕ, ◌<◌, ◌≤◌, ◌+◌, List, [], ◌∷◌, ◌++◌, length, take, drop, get_or, refl, arith, ap, sym, ◌∙◌, subst}
+use Rattle.std.proofs.Common.{append_assoc, inl, inr, zero, suc, ◌^◌, true}
+use Rattle.std.specs.Prelude.{codes, decimal, MatchOption, IfSome, IfNone}
+use Rattle.std.specs.Option.{ok_or}
+use Rattle.std.specs.Net.Addr.{ipv4_octets, ipv6_segments, segments_of}
+use Rattle.std.specs.Net.Grammar.{Parses, IsIpText, IsIpv4Text, IsIpv6Text, IsDotted, IsGroups, IsGroupsAfter, IsColonHex}
+use Rattle.std.specs.declared.net.ip_addr.IpAddr.TheVariants.{V4, V6}
+use Rattle.std.specs.declared.net.ipv4_addr.Ipv4Addr.{Ipv4Addr}
+use Rattle.std.specs.declared.net.ipv6_addr.Ipv6Addr.{Ipv6Addr}
+use Rattle.std.proofs.lemmas.Fmt.{decimal_is_IsNumeral}
+use Rattle.dns_types.specs.declared.error.AddrParseError.{AddrParseError}
+use Rattle.dns_rdata_options.specs.IpNet.{address_bits}
+use Rattle.std.specs.declared.option.Option.{Option}
+use Rattle.std.specs.declared.option.Option.TheVariants.{Some, None}
+use Rattle.std.proofs.lemmas.List.{take-append-drop}
+use Rattle.std.proofs.lemmas.Str.Parse.{digit_at}
+use Rattle.std.proofs.lemmas.Str.Pattern.{NoCharPasses-char, drop_at_char}
+use Rattle.std.specs.Str.Pattern.{RFindsChar}
+use Rattle.std.specs.declared.net.ip_addr.IpAddr.{IpAddr}
+use Rattle.dns_rdata_options.specs.NetText.{IsNetText, IsPrefixText}
+use denote.Ref.{Bor}
+
+-- the octet c does not stand in s
+pub record Lacks (c : ℕ) (s : List ℕ) : Type 0 where
+  pub none : (i : ℕ) → i < length s → get_or s i 0 ≢ c
+
+at_end : (us vs : List ℕ) (c : ℕ) → (length us < length (us ++ (c ∷ vs))) × (get_or (us ++ (c ∷ vs)) (length us) 0 ≡ c)
+at_end [] vs c = (omega arith, refl)
+at_end (u ∷ us) vs c = let later = at_end us vs c in (omega arith, later.1)
+
+not_behind : (c : ℕ) (ys us vs : List ℕ) → Lacks c ys → ys ≡ us ++ (c ∷ vs) → ⊥
+not_behind c ys us vs n e =
+    let at = at_end us vs c in
+    n.none (length us) (rw e at.0) (rw e at.1)
+
+-- a text has one last c
+last_one : (c : ℕ) (xs ys us vs : List ℕ) → xs ++ (c ∷ ys) ≡ us ++ (c ∷ vs) → Lacks c ys → Lacks c vs → (xs ≡ us) × (ys ≡ vs)
+last_one c [] ys [] vs e n m = (refl, cc)
+last_one c [] ys (u ∷ us) vs e n m = let tail : ys ≡ us ++ (c ∷ vs) = cc in absurd (not_behind c ys us vs n tail)
+last_one c (x ∷ xs) ys [] vs e n m = let tail : vs ≡ xs ++ (c ∷ ys) = cc in absurd (not_behind c vs xs ys m tail)
+last_one c (x ∷ xs) ys (u ∷ us) vs e n m =
+    let tail : xs ++ (c ∷ ys) ≡ us ++ (c ∷ vs) = cc in
+    let later = last_one c xs ys us vs tail n m in
+    let head : x ≡ u = cc in
+    (cc, later.1)
+
+pub record SplitsLast (c : ℕ) (text front back : List ℕ) : Type 0 where
+  pub cut : text ≡ front ++ (c ∷ back)
+  pub last : Lacks c back
+
+-- what `rsplit_once` answers at an ASCII character
+pub rsplit_parts : (c : ℕ) (text : List ℕ) (r : Option (Bor (List ℕ) × Bor (List ℕ)))
+    → MatchOption r (RFindsChar c text None) (λ x. (i : ℕ) × (j : ℕ) × RFindsChar c text (Some (i, j)) × (x.0.now ≡ take i text) × (x.1.now ≡ drop j text)
+    × (i ≤ j) × (length x.0.now ≡ i) × (length x.1.now + j ≡ length text))
+    → c < 128 → MatchOption r (Lacks c text) (λ x. SplitsLast c text x.0.now x.1.now)
+rsplit_parts c text None h low = record { none = λ i l. NoCharPasses-char c text i h low l }
+rsplit_parts c text (Some x) (i, j, finds, front, back, _, _, _) low =
+    let at : drop i text ≡ c ∷ drop j text = drop_at_char c text i j finds.1 low in record {
+      cut = sym (take-append-drop i text) ∙ rw (at, front, back) refl;
+      last = record { none = λ k l. rw back (NoCharPasses-char c (drop j text) k finds.0 low (rw back at l)) };
+    }
+
+digits_lack : (digits : List ℕ) (n : ℕ) → IsPrefixText digits n → Lacks 47 digits
+digits_lack digits n p = record { none = λ i l e. let digit = digit_at digits i p.numeral.1 l in omega arith }
+
+-- no `/`, no net
+pub no_slash : (text : List ℕ) (net : IpAddr × ℕ) → Lacks 47 text → IsNetText text net → ⊥
+no_slash text net lacks is = not_behind 47 text is.address is.digits lacks is.spelled
+
+-- a net's prefix stands behind the last `/`
+pub net_parts : (text front back : List ℕ) (net : IpAddr × ℕ) → SplitsLast 47 text front back → (is : IsNetText text net) → (is.address ≡ front) × (is.digits ≡ back)
+net_parts text front back net s is = last_one 47 is.address is.digits front back (sym is.spelled ∙ s.cut) (digits_lack is.digits net.1 is.prefix) s.last
+
+most_bits : (ip : IpAddr) → address_bits ip < 2 ^ 8
+most_bits (V4 ip) = omega arith
+most_bits (V6 ip) = omega arith
+
+-- no prefix stands there
+pub no_prefix : (text front back : List ℕ) (net : IpAddr × ℕ) → SplitsLast 47 text front back → ((n : ℕ) → n < 2 ^ 8 → ¬ (IsPrefixText back n))
+    → IsNetText text net → ⊥
+no_prefix text front back net s none is =
+    let parts = net_parts text front back net s is in
+    let bits = most_bits net.0 in
+    let most : net.1 ≤ address_bits net.0 = is.most in
+    none net.1 (omega arith) (subst (λ (t : List ℕ). IsPrefixText t net.1) parts.1 is.prefix)
+
+-- no address stands in front of it
+pub no_address : (text front back : List ℕ) (net : IpAddr × ℕ) → SplitsLast 47 text front back → ((ip : IpAddr) → ¬ (IsIpText front ip))
+    → IsNetText text net → ⊥
+no_address text front back net s none is =
+    let parts = net_parts text front back net s is in
+    none net.0 (subst (λ (t : List ℕ). IsIpText t net.0) parts.0 is.address_text)
+
+prefix_value : {text : List ℕ} {n m : ℕ} → IsPrefixText text n → IsPrefixText text m → n ≡ m
+prefix_value a b = a.value ∙ sym b.value
+
+-- ---- no IPv4 text is an IPv6 text
+
+lacks_each : (c x : ℕ) (xs : List ℕ) → x ≢ c → Lacks c xs → (i : ℕ) → i < length (x ∷ xs) → get_or (x ∷ xs) i 0 ≢ c
+lacks_each c x xs m n zero l = m
+lacks_each c x xs m n (suc i) l = n.none i (omega arith)
+
+lacks_more : (c x : ℕ) (xs : List ℕ) → x ≢ c → Lacks c xs → Lacks c (x ∷ xs)
+lacks_more c x xs m n = record { none = lacks_each c x xs m n }
+
+lacks_nil : (c : ℕ) → Lacks c []
+lacks_nil c = record { none = λ i l. absurd (omega arith) }
+
+lacks_append : (c : ℕ) (xs ys : List ℕ) → Lacks c xs → Lacks c ys → Lacks c (xs ++ ys)
+lacks_append c [] ys m n = n
+lacks_append c (x ∷ xs) ys m n =
+    let front : Lacks c xs = record { none = λ i l. m.none (suc i) (omega arith) } in
+    let first : x ≢ c = m.none 0 (omega arith) in
+    lacks_more c x (xs ++ ys) first (lacks_append c xs ys front n)
+
+dot_lacks : (c d : ℕ) → d ≢ c → Lacks c (d ∷ [])
+dot_lacks c d n = lacks_more c d [] n (lacks_nil c)
+
+decimal_lacks : (n : ℕ) → n < 256 → Lacks 58 (decimal n)
+decimal_lacks n small =
+    let written = decimal_is_IsNumeral n (omega arith) in
+    record { none = λ i l e. let digit = digit_at (decimal n) i written.0.1 l in omega arith }
+
+dotted_lacks : (text octets : List ℕ) → IsDotted text octets → Lacks 58 text
+dotted_lacks text octets d =
+    let dot : Lacks 58 (46 ∷ []) = dot_lacks 58 46 (omega arith) in
+    let one = lacks_append 58 _ _ (decimal_lacks d.a d.fit.0) dot in
+    let two = lacks_append 58 _ _ (lacks_append 58 _ _ one (decimal_lacks d.b d.fit.1)) dot in
+    let three = lacks_append 58 _ _ (lacks_append 58 _ _ two (decimal_lacks d.c d.fit.2)) dot in
+    rw d.spelled (lacks_append 58 _ _ three (decimal_lacks d.d d.fit.3))
+
+-- the octet c stands in s
+abbrev pub Has : ℕ → List ℕ → Type 0
+Has c s = (us : List ℕ) × (vs : List ℕ) × (s ≡ us ++ (c ∷ vs))
+
+later_groups : (rest : List ℕ) (s : ℕ) (segments : List ℕ) → IsGroupsAfter true (codes ":") rest (s ∷ segments) → (vs : List ℕ) × (rest ≡ 58 ∷ vs)
+later_groups rest s segments (inl (group, more, cut, _, _)) = (group ++ more, cut)
+later_groups rest s segments (inr (last, octets, _, cut, _, _)) = (last, cut)
+
+groups_colon : (text : List ℕ) (s t : ℕ) (segments : List ℕ) → IsGroups true text (s ∷ t ∷ segments) → 0 < length segments → Has 58 text
+groups_colon text s t segments (inl (group, rest, cut, _, later)) some =
+    let colon = later_groups rest t segments later in
+    (group, colon.0, cut ∙ ap (λ (r : List ℕ). group ++ r) colon.1)
+groups_colon text s t segments (inr (last, octets, _, _, dotted, same)) some =
+    let four : octets ≡ dotted.a ∷ dotted.b ∷ dotted.c ∷ dotted.d ∷ [] = dotted.value in
+    let two : length (s ∷ t ∷ segments) ≡ 2 = ap length same ∙ ap (λ (o : List ℕ). length (segments_of o)) four in
+    absurd (omega arith)
+
+colon_hex : (text segments : List ℕ) → IsColonHex text segments → Has 58 text
+colon_hex text (s ∷ t ∷ segments) (inl (groups, eight)) = groups_colon text s t segments groups (omega arith)
+colon_hex text (s ∷ []) (inl (groups, eight)) = absurd (omega arith)
+colon_hex text [] (inl (groups, eight)) = absurd (omega arith)
+colon_hex text segments (inr elided) = (elided.head_text, 58 ∷ elided.tail_text, elided.spelled ∙ append_assoc elided.head_text (58 ∷ 58 ∷ []) elided.tail_text)
+
+pub one_family : (text : List ℕ) (a : Ipv4Addr) (b : Ipv6Addr) → IsIpv4Text text a → IsIpv6Text text b → ⊥
+one_family text a b four six =
+    let colon = colon_hex text (ipv6_segments b) six in
+    not_behind 58 text colon.0 colon.1 (dotted_lacks text (ipv4_octets a) four) colon.2
+
+one_size : (text : List ℕ) (a b : IpAddr) → IsIpText text a → IsIpText text b → address_bits a ≡ address_bits b
+one_size text (V4 a) (V4 b) x y = refl
+one_size text (V4 a) (V6 b) x y = absurd (one_family text a b x y)
+one_size text (V6 a) (V4 b) x y = absurd (one_family text b a y x)
+one_size text (V6 a) (V6 b) x y = refl
+
+-- an address with a prefix is a net where the prefix has no more bits than the address
+pub net_read : (text front back : List ℕ) (ip : IpAddr) (n : ℕ) (o : Option (IpAddr × ℕ)) (e : AddrParseError) → SplitsLast 47 text front back → IsIpText front ip
+    → IsPrefixText back n → IfSome o (λ net. (net ≡ (ip, n)) × (n ≤ address_bits ip)) → IfNone o (address_bits ip < n) → Parses IsNetText text (ok_or o e)
+net_read text front back ip n (Some net) e s is prefix some none =
+    subst (λ (x : IpAddr × ℕ). IsNetText text x) (sym some.0)
+    (record { address = front; digits = back; spelled = s.cut; address_text = is; prefix = prefix; most = some.1 })
+net_read text front back ip n None e s is prefix some none = λ net other.
+    let parts = net_parts text front back net s other in
+    let same_n : net.1 ≡ n = prefix_value (subst (λ (t : List ℕ). IsPrefixText t net.1) parts.1 other.prefix) prefix in
+    let bits : address_bits net.0 ≡ address_bits ip = one_size front net.0 ip (subst (λ (t : List ℕ). IsIpText t net.0) parts.0 other.address_text) is in
+    let most : net.1 ≤ address_bits net.0 = other.most in
+    absurd (omega arith)

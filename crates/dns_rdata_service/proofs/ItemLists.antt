@@ -1,0 +1,63 @@
+-- Items of a list, read piece by piece.
+use Rattle.std.proofs.Common.{◌≡◌, ℕ, List, [], ◌∷◌, ◌++◌, refl, sym, ◌∙◌, ap, subst, append_assoc}
+use Rattle.std.proofs.Common.{◌≢◌, Result, Ok, Err}
+use Rattle.std.specs.Prelude.{IfErr}
+use Rattle.std.specs.List.{AllZip}
+use Rattle.std.proofs.lemmas.List.{append-nil}
+use Rattle.dns_text.specs.Lists.{pieces_of, IsItem}
+use Rattle.dns_rdata_service.specs.ParameterWords.{ItemOf, ListOf}
+use Rattle.dns_types.specs.declared.error.ParseError.{ParseError}
+use Rattle.dns_types.specs.declared.error.ParseError.TheVariants as parse
+use Rattle.dns_text.proofs.ListSteps.{item_one}
+
+module _ {A B : Type 0} (R : A → B → Type 0) where
+  pub zip_more : (us : List A) (bs : List B) (a : A) (b : B) → AllZip R us bs → R a b → AllZip R (us ++ a ∷ []) (bs ++ b ∷ [])
+  zip_more [] [] a b h r = (r, tt)
+  zip_more [] (y ∷ bs) a b h r = absurd h
+  zip_more (x ∷ us) [] a b h r = absurd h
+  zip_more (x ∷ us) (y ∷ bs) a b h r = (h.0, zip_more us bs a b h.1 r)
+
+  pub zip_at : (front : List A) (a : A) (us : List A) (bs : List B) → AllZip R (front ++ a ∷ us) bs → (b : B) × R a b
+  zip_at [] a us [] h = absurd h
+  zip_at [] a us (b ∷ bs) h = (b, h.0)
+  zip_at (x ∷ front) a us [] h = absurd h
+  zip_at (x ∷ front) a us (b ∷ bs) h = zip_at front a us bs h.1
+
+-- the values are of the pieces in front of the rest
+pub record SoFar {T : Type 0} (Is : List ℕ → T → Type 0) (text rest : List ℕ) (xs : List T) : Type 0 where
+  pub front : List (List ℕ)
+  pub cut : pieces_of text ≡ front ++ pieces_of rest
+  pub each : AllZip (ItemOf Is) front xs
+
+pub so_far_none : {T : Type 0} (Is : List ℕ → T → Type 0) (text : List ℕ) (xs : List T) → xs ≡ [] → SoFar Is text text xs
+so_far_none Is text xs e = rw e (record { front = []; cut = refl; each = tt })
+
+pub so_far_more : {T : Type 0} (Is : List ℕ → T → Type 0) (text rest piece more : List ℕ) (xs all : List T) (x : T) → SoFar Is text rest xs
+    → pieces_of rest ≡ piece ∷ pieces_of more → ItemOf Is piece x → all ≡ xs ++ x ∷ [] → SoFar Is text more all
+so_far_more Is text rest piece more xs all x s e i a = rw a (record {
+  front = s.front ++ piece ∷ [];
+  cut = s.cut ∙ (ap (λ (p : List (List ℕ)). s.front ++ p) e ∙ sym (append_assoc s.front (piece ∷ []) (pieces_of more)));
+  each = zip_more (ItemOf Is) s.front xs piece x s.each i;
+})
+
+pub so_far_all : {T : Type 0} (Is : List ℕ → T → Type 0) (text rest : List ℕ) (xs : List T) → SoFar Is text rest xs → pieces_of rest ≡ [] → ListOf Is text xs
+so_far_all Is text rest xs s e =
+    let whole : pieces_of text ≡ s.front = s.cut ∙ (ap (λ (p : List (List ℕ)). s.front ++ p) e ∙ append-nil s.front) in
+    record { each = subst (λ (p : List (List ℕ)). AllZip (ItemOf Is) p xs) (sym whole) s.each }
+
+pub so_far_refused : {T : Type 0} (Is : List ℕ → T → Type 0) (text rest piece more : List ℕ) (xs : List T) → SoFar Is text rest xs
+    → pieces_of rest ≡ piece ∷ pieces_of more → ((x : T) → ItemOf Is piece x → ⊥) → (all : List T) → ListOf Is text all → ⊥
+so_far_refused Is text rest piece more xs s e none all l =
+    let whole : pieces_of text ≡ s.front ++ piece ∷ pieces_of more = s.cut ∙ ap (λ (p : List (List ℕ)). s.front ++ p) e in
+    let zip : AllZip (ItemOf Is) (s.front ++ piece ∷ pieces_of more) all = subst (λ (p : List (List ℕ)). AllZip (ItemOf Is) p all) whole l.each in
+    let found = zip_at (ItemOf Is) s.front piece (pieces_of more) all zip in
+    none found.0 found.1
+
+-- a text's item has no value, or the text has no item
+pub other_item : {T : Type 0} (Is : List ℕ → T → Type 0) (text item : List ℕ) → IsItem text item → ((x : T) → Is item x → ⊥) → (x : T) → ItemOf Is text x → ⊥
+other_item Is text item i none x o = none x (subst (λ (t : List ℕ). Is t x) (item_one o.is_item i) o.is)
+
+pub item_refused : {T : Type 0} (Is : List ℕ → T → Type 0) (text item : List ℕ) (r : Result T ParseError) → IsItem text item
+    → IfErr r (λ e. e ≢ parse.Memory → (x : T) → Is item x → ⊥) → IfErr r (λ e. e ≢ parse.Memory → (x : T) → ItemOf Is text x → ⊥)
+item_refused Is text item (Ok x) i h = tt
+item_refused Is text item (Err e) i h = λ n. other_item Is text item i (h n)

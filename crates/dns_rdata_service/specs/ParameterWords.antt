@@ -1,0 +1,84 @@
+-- Words of service parameters (RFC 9460, 2.1 and appendix A).
+use Rattle.std.specs.Prelude.{◌≡◌, ◌≢◌, ◌⊎◌, ℕ, List, [], ◌∷◌, ◌++◌, All, Ok}
+use Rattle.std.specs.List.{AllZip}
+use Rattle.std.specs.Net.Grammar.{IsIpv4Text, IsIpv6Text}
+use Rattle.base64.specs.Engines.{standard}
+use Rattle.base64.specs.GeneralPurpose.{decode_of}
+use Rattle.dns_text.specs.Lists.{IsItem, pieces_of}
+use Rattle.dns_words.specs.Forms.{IsNumberWord}
+use Rattle.dns_rdata_service.specs.KeyTexts.{IsKeyText}
+use Rattle.dns_rdata_service.specs.Parameters.{Parameter}
+use Rattle.dns_rdata_service.specs.declared.svcb.key.SvcParamKey.{SvcParamKey}
+use Rattle.dns_rdata_service.specs.declared.svcb.key.SvcParamKey.TheVariants as keys
+use Rattle.dns_rdata_service.specs.declared.svcb.value.SvcParamValue.{SvcParamValue}
+use Rattle.dns_rdata_service.specs.declared.svcb.value.SvcParamValue.TheVariants as values
+
+-- the text's item (its first token, a word) is the text of x
+pub record ItemOf {T : Type 0} (Is : List ℕ → T → Type 0) (text : List ℕ) (x : T) : Type 0 where
+  pub item : List ℕ
+  pub is_item : IsItem text item
+  pub is : Is item x
+
+-- the item of each piece of the list is the text of the value at its place
+pub record ListOf {T : Type 0} (Is : List ℕ → T → Type 0) (text : List ℕ) (xs : List T) : Type 0 where
+  pub each : AllZip (ItemOf Is) (pieces_of text) xs
+
+-- ---- values
+
+-- The value of a key with nothing behind it: no-default-alpn has none, and that of a key without a form is empty.
+abbrev pub IsValueAlone : SvcParamKey → SvcParamValue → Type 0
+IsValueAlone keys.NoDefaultAlpn values.NoDefaultAlpn = Unit {0}
+IsValueAlone (keys.Key n) (values.Unknown x) = x.0 ≡ []
+IsValueAlone key value = ⊥
+
+-- The value of a key with this text behind `=`: a list of keys, of names or of addresses, an item that is a number or
+-- base64 (RFC 4648, 4), and of a key without a form the text's octets. Other keys have none.
+abbrev pub IsValueText : SvcParamKey → List ℕ → SvcParamValue → Type 0
+IsValueText keys.Mandatory text (values.Mandatory x) = ListOf IsKeyText text x.0
+IsValueText keys.Alpn text (values.Alpn x) = ListOf (λ item name. name ≡ item) text x.0
+IsValueText keys.Port text (values.Port n) = ItemOf (λ item port. IsNumberWord 16 port item) text n
+IsValueText keys.Ipv4Hint text (values.Ipv4Hint x) = ListOf (λ item a. IsIpv4Text item a.0) text x.0
+IsValueText keys.EchConfigList text (values.EchConfigList x) = ItemOf (λ item config. decode_of standard item ≡ Ok config.0) text x
+IsValueText keys.Ipv6Hint text (values.Ipv6Hint x) = ListOf (λ item a. IsIpv6Text item a.0) text x.0
+IsValueText (keys.Key n) text (values.Unknown x) = x.0 ≡ text
+IsValueText key text value = ⊥
+
+-- ---- words
+
+-- the text stands in quotes
+abbrev pub IsQuoted : List ℕ → List ℕ → Type 0
+IsQuoted value text = value ≡ 34 ∷ (text ++ 34 ∷ [])
+
+-- quotes round a value are no part of its text; one quote alone is no value
+abbrev pub IsUnquoted : List ℕ → List ℕ → Type 0
+IsUnquoted value text = IsQuoted value text
+    ⊎ ((text ≡ value) × (value ≢ 34 ∷ []) × ((inner : List ℕ) → IsQuoted value inner → ⊥))
+
+-- no `=` stands in the text
+abbrev pub HasNoEquals : List ℕ → Type 0
+HasNoEquals text = All (λ c. c ≢ 61) text
+
+-- a key alone
+pub record IsKeyAlone (word : List ℕ) (p : Parameter) : Type 0 where
+  pub no_equals : HasNoEquals word
+  pub key : IsKeyText word p.0
+  pub value : IsValueAlone p.0 p.1
+
+-- a value for the parameter's key, in quotes or without
+pub record HasValue (behind : List ℕ) (p : Parameter) : Type 0 where
+  pub text : List ℕ
+  pub unquoted : IsUnquoted behind text
+  pub value : IsValueText p.0 text p.1
+
+-- a key, the first `=`, and a value
+pub record IsKeyWithValue (word : List ℕ) (p : Parameter) : Type 0 where
+  pub front : List ℕ
+  pub behind : List ℕ
+  pub cut : word ≡ front ++ 61 ∷ behind
+  pub first : HasNoEquals front
+  pub key : IsKeyText front p.0
+  pub value : HasValue behind p
+
+-- the word of a parameter
+abbrev pub IsParameterWord : List ℕ → Parameter → Type 0
+IsParameterWord word p = IsKeyAlone word p ⊎ IsKeyWithValue word p

@@ -1,0 +1,131 @@
+//! Parameters from words (RFC 9460, 2.1 and appendix A).
+
+ghost use Rattle.std.specs.Prelude.{◌≡◌, ◌≢◌, ◌∷◌, ℕ, [], List, IfErr, IfNone, IfOk, IfSome, IsUtf8};
+ghost use Rattle.dns_types.specs.declared.error.ParseError.TheVariants as parse;
+ghost use Rattle.dns_rdata_service.specs.declared.svcb.value.SvcParamValue.{SvcParamValue as Value};
+ghost use Rattle.dns_rdata_service.specs.Parameters.{Parameter};
+ghost use Rattle.dns_rdata_service.specs.KeyTexts.{IsKeyText};
+ghost use Rattle.dns_rdata_service.specs.ParameterWords.{IsValueAlone, IsValueText, IsUnquoted, HasValue, IsParameterWord};
+
+use crate::items::Items;
+use crate::svcb::alpn::Alpn;
+use crate::svcb::ech_config_list::EchConfigList;
+use crate::svcb::ip_hint::IpHint;
+use crate::svcb::item::{item_of, items_of};
+use crate::svcb::key::SvcParamKey;
+use crate::svcb::mandatory::Mandatory;
+use crate::svcb::unknown::Unknown;
+use crate::svcb::value::SvcParamValue;
+use dns_names_wire::{Octets, ParseError};
+use dns_rdata_base::{A, AAAA};
+use dns_types::Strings;
+use std::alloc::Global;
+
+/// The parameter of a word: a key, and perhaps a `=` and a value. The first `=` divides them.
+///
+/// The key is a text of `SvcParamKey`. Quotes round the value are dropped; one quote alone is refused. What is left is,
+/// for `mandatory`, `alpn`, `ipv4hint` and `ipv6hint`, a list of keys, names and addresses: a `\` is dropped and the
+/// next character kept, any other comma ends an item, and what is left at the end is one more; and of each the first
+/// token, which must be a word. For `port` and `ech` it is one such item, a decimal number of 16 bits or base64
+/// (RFC 4648, 4). `no-default-alpn` has no value, and no `=`. For a `key` with a number it is the value's octets; without
+/// a `=` there are none. Every other word is refused, `key65535` too.
+pub fn parameter_of(alloc: Global, word: &str) -> Result<(SvcParamKey, SvcParamValue), ParseError>
+    ensures ok { IfOk result (IsParameterWord word.now) }
+    ensures refused { IfErr result (λ e. e ≢ parse.Memory → (p : Parameter) → IsParameterWord word.now p → ⊥) }
+{
+    match word.split_once('=') {
+        Some((key, value)) => with_value(alloc, key, value),
+        None => alone(alloc, word),
+    }
+}
+
+// The parameter of a key alone.
+fn alone(alloc: Global, word: &str) -> Result<(SvcParamKey, SvcParamValue), ParseError>
+    ensures ok { IfOk result (λ p. IsKeyText word.now p.0 × IsValueAlone p.0 p.1) }
+    ensures refused { IfErr result (λ e. e ≢ parse.Memory → (p : Parameter) → IsKeyText word.now p.0 → IsValueAlone p.0 p.1 → ⊥) }
+{
+    let key = word.parse::<SvcParamKey>()?;
+    let value = value_alone(alloc, key)?;
+    Ok((key, value))
+}
+
+// The parameter of a key and what stands behind `=`.
+fn with_value(
+    alloc: Global,
+    key: &str,
+    value: &str,
+) -> Result<(SvcParamKey, SvcParamValue), ParseError>
+    ensures ok { IfOk result (λ p. IsKeyText key.now p.0 × HasValue value.now p) }
+    ensures refused { IfErr result (λ e. e ≢ parse.Memory → (p : Parameter) → IsKeyText key.now p.0 → HasValue value.now p → ⊥) }
+{
+    let Some(text) = unquoted(value) else {
+        return Err(ParseError::Message("one quote is no value"));
+    };
+    let key = key.parse::<SvcParamKey>()?;
+    let value = value_of(alloc, key, text)?;
+    Ok((key, value))
+}
+
+// What stands in quotes, or all where there are none round it; one quote alone is refused.
+fn unquoted(value: &str) -> Option<&str>
+    ensures some { IfSome result (λ text. IsUnquoted value.now text.now) }
+    ensures none { IfNone result ((text : List ℕ) → IsUnquoted value.now text → ⊥) }
+    ensures utf8 { IfSome result (λ text. IsUtf8 text.now) }
+{
+    let Some(inner) = value.strip_prefix('"') else {
+        return Some(value);
+    };
+    match inner.strip_suffix('"') {
+        Some(text) => Some(text),
+        None => if inner.len() == 0 { None } else { Some(value) },
+    }
+}
+
+// The value of a key with nothing behind it.
+fn value_alone(alloc: Global, key: SvcParamKey) -> Result<SvcParamValue, ParseError>
+    ensures ok { IfOk result (IsValueAlone key) }
+    ensures refused { IfErr result (λ e. (v : Value) → IsValueAlone key v → ⊥) }
+{
+    match key {
+        SvcParamKey::NoDefaultAlpn => Ok(SvcParamValue::NoDefaultAlpn),
+        SvcParamKey::Key(_) => Ok(SvcParamValue::Unknown(Unknown(Octets::new(alloc)))),
+        _ => Err(ParseError::Message("a value is missing")),
+    }
+}
+
+// The value of a key with this text behind `=`.
+fn value_of(alloc: Global, key: SvcParamKey, text: &str) -> Result<SvcParamValue, ParseError>
+    ensures ok { IfOk result (IsValueText key text.now) }
+    ensures refused { IfErr result (λ e. e ≢ parse.Memory → (v : Value) → IsValueText key text.now v → ⊥) }
+{
+    match key {
+        SvcParamKey::Mandatory => {
+            let keys = items_of::<SvcParamKey>(alloc, text)?;
+            Ok(SvcParamValue::Mandatory(Mandatory(Items::from_vec(keys))))
+        }
+        SvcParamKey::Alpn => {
+            let names = items_of::<Octets>(alloc, text)?;
+            Ok(SvcParamValue::Alpn(Alpn(Strings::from_vec(names))))
+        }
+        SvcParamKey::Port => Ok(SvcParamValue::Port(item_of::<u16>(alloc, text)?)),
+        SvcParamKey::Ipv4Hint => {
+            let addresses = items_of::<A>(alloc, text)?;
+            Ok(SvcParamValue::Ipv4Hint(IpHint(Items::from_vec(addresses))))
+        }
+        SvcParamKey::EchConfigList => {
+            let config = item_of::<EchConfigList>(alloc, text)?;
+            Ok(SvcParamValue::EchConfigList(config))
+        }
+        SvcParamKey::Ipv6Hint => {
+            let addresses = items_of::<AAAA>(alloc, text)?;
+            Ok(SvcParamValue::Ipv6Hint(IpHint(Items::from_vec(addresses))))
+        }
+        SvcParamKey::Key(_) => {
+            let octets = Octets::from_slice(alloc, text.as_bytes())?;
+            Ok(SvcParamValue::Unknown(Unknown(octets)))
+        }
+        SvcParamKey::NoDefaultAlpn | SvcParamKey::Key65535 | SvcParamKey::Unknown(_) => {
+            Err(ParseError::Message("a key without such a value"))
+        }
+    }
+}

@@ -1,0 +1,79 @@
+//! Records read from words (RFC 9460, 2.1).
+
+ghost use Rattle.std.specs.Prelude.{map, IfOk};
+ghost use Rattle.std.specs.Iterator.{IsFinite};
+ghost use Rattle.dns_words.specs.Reads.{ReadsRow, TookWords};
+ghost use Rattle.dns_rdata_service.specs.HTTPS.{https_fields};
+ghost use Rattle.dns_rdata_service.specs.Parameters.{parameter_of};
+ghost use Rattle.dns_rdata_service.specs.SVCB.{svcb_fields};
+ghost use Rattle.dns_rdata_service.specs.WordRows.{these_parameters, parameter_words, svcb_words, AreWordsOf};
+
+use crate::https::HTTPS;
+use crate::items::Items;
+use crate::svcb::{SVCB, SvcParamKey, SvcParamValue, parameter_of};
+use dns_names_wire::ParseError;
+use dns_words::{next_name, next_u16};
+use std::alloc::Global;
+use std::convert::AsStr;
+
+// The parameters of all further words.
+fn all_parameters<S: AsStr + Drop, I: Iterator<Item = S>>(
+    alloc: Global,
+    words: I,
+) -> Result<Items<(SvcParamKey, SvcParamValue)>, ParseError>
+    requires can { I.can_next words }
+    requires ends { IsFinite (I.remaining words) }
+    ensures reads { ReadsRow I.next_gives S.text parameter_words (λ ps. (map parameter_of ps, tt)) result words }
+    ensures own { IfOk result (λ ps. TookWords I.next_gives S.text (these_parameters ps) tt words) }
+{
+    let mut parameters = Items::new(alloc);
+    for word in words {
+        let parameter = parameter_of(alloc, word.as_str())?;
+        parameters.push(parameter)?;
+    }
+    Ok(parameters)
+}
+
+impl SVCB {
+    /// From two words and more: priority, a decimal number of 16 bits; target, the text of a name, relative where it has
+    /// no dot at its end; and in every further word a parameter, as `parameter_of` reads it, in the order of the words.
+    /// Keys may stand in any order and repeatedly; `emit` refuses a value whose keys do not rise. Refused by
+    /// `MissingToken`, `Message`, `AddrParse`, `Proto` or `Memory`. The caller owes an iterator that ends.
+    #[tactic(auto, using(dns_words::proofs::Steps::reading))]
+    pub fn from_tokens<S: AsStr + Drop, I: Iterator<Item = S>>(
+        alloc: Global,
+        mut tokens: I,
+    ) -> Result<SVCB, ParseError>
+        requires can { I.can_next tokens }
+        requires ends { IsFinite (I.remaining tokens) }
+        ensures reads { ReadsRow I.next_gives S.text svcb_words svcb_fields result tokens }
+        ensures own { IfOk result (λ x. AreWordsOf I.next_gives S.text x tokens) }
+    {
+        let svc_priority = next_u16(&mut tokens)?;
+        let target_name = next_name(alloc, &mut tokens, None)?;
+        let svc_params = all_parameters(alloc, tokens)?;
+        Ok(SVCB {
+            svc_priority,
+            target_name,
+            svc_params,
+        })
+    }
+}
+
+impl HTTPS {
+    /// From the words of an SVCB, and refused as that.
+    pub fn from_tokens<S: AsStr + Drop, I: Iterator<Item = S>>(
+        alloc: Global,
+        tokens: I,
+    ) -> Result<HTTPS, ParseError>
+        requires can { I.can_next tokens }
+        requires ends { IsFinite (I.remaining tokens) }
+        ensures reads { ReadsRow I.next_gives S.text svcb_words https_fields result tokens }
+        ensures own { IfOk result (λ x. AreWordsOf I.next_gives S.text x.0 tokens) }
+    {
+        match SVCB::from_tokens(alloc, tokens) {
+            Ok(svcb) => Ok(HTTPS(svcb)),
+            Err(e) => Err(e),
+        }
+    }
+}
