@@ -14,7 +14,11 @@ use Rattle.dns_text.specs.TextWords.{TextWords, NoTextWords}
 use Rattle.dns_words.specs.Taking.{HoldsBehind, HoldsOfWords}
 use Rattle.dns_fields.specs.Labels.{DomainName}
 use Rattle.dns_fields.specs.Fields.{Values}
-use Rattle.dns_words.specs.Forms.{Row}
+use Rattle.dns_words.specs.Forms.{Row, word}
+use Rattle.dns_rdata_service.specs.SVCB.{svcb_shape, svcb_fields}
+use Rattle.dns_rdata_service.specs.WordRows.{AreWordsOf, svcb_words as service_words}
+use Rattle.dns_rdata_service.specs.declared.svcb.SVCB.{SVCB}
+use Rattle.dns_rdata_service.specs.declared.https.HTTPS.{HTTPS}
 use Rattle.dns_words.specs.Reads.{UnlessMemory, Decides, TookWords, RefusedWords}
 use Rattle.dns_words.specs.Printed.{cut}
 use Rattle.dns_words.proofs.Steps.{holds_map, holds_all, unless_map, unless_all}
@@ -32,49 +36,79 @@ use Rattle.dns_rdata.specs.declared.record_data.RData.{RData}
 use Rattle.dns_rdata.specs.declared.record_data.RData.TheVariants as rdata
 use Rattle.dns_rdata.specs.Data.{shape, IsValue, type_of}
 use Rattle.dns_rdata.specs.Texts.{text_of}
-use Rattle.dns_rdata.specs.DataWords.{reading_of, stand_by, HasNoWords, AreDataWords, TookDataWords, RefusedDataWords, ReadsDataWords, ReadsDataText, IsPrinted, PrintsBack}
+use Rattle.dns_rdata.specs.DataWords.{reading_of, StandIn, AreSvcbWords, svcb_words, https_words, HasNoWords, AreDataWords, TookDataWords, RefusedDataWords, ReadsDataWords, ReadsDataText, IsPrinted, PrintsBack}
+
+-- words of a service give its fields
+own_stands : (x : SVCB) (words : List (List ℕ)) → AreSvcbWords x words → service_words.stand (svcb_fields x) words
+unfolding word
+own_stands x [] d = d
+own_stands x (a ∷ []) d = (d.0, d.1)
+own_stands x (a ∷ b ∷ words) d = (d.0, (d.1.0, (x.svc_params, d.1.1, refl)))
+
+no_svcb : (words : List (List ℕ)) → ((vs : Values svcb_shape) → service_words.stand vs words → ⊥) → (v : RData) → svcb_words v words → ⊥
+no_svcb words other (rdata.SVCB x) d = other (svcb_fields x) (own_stands x words d)
+no_svcb words other v d = d
+
+no_https : (words : List (List ℕ)) → ((vs : Values svcb_shape) → service_words.stand vs words → ⊥) → (v : RData) → https_words v words → ⊥
+no_https words other (rdata.HTTPS x) d = other (svcb_fields x.0) (own_stands x.0 words d)
+no_https words other v d = d
 
 module _ {S I : Type 0} {gives : I → Option S → I → Type 0} {text : S → List ℕ} where
   -- words of a type's row give its value
-  pub data_took : {s : I} (origin : Option DomainName) (t : RecordType) (row : Row (shape t)) (vs : Values (shape t)) (v : RData) → ((words : List (List ℕ)) → row.stand vs words → stand_by (reading_of origin t) vs words) → IsValue t vs v → TookWords gives text row vs s → TookDataWords gives text origin t v s
-  data_took origin t row vs v own value f = record { type = value.type; words = holds_map (λ words. AreDataWords origin t v words) (λ words stand. record { values = vs; stand = own words stand; value = value }) f.words }
+  pub data_took : {s : I} (origin : Option DomainName) (t : RecordType) (row : Row (shape t)) (vs : Values (shape t)) (v : RData) → ((words : List (List ℕ)) → StandIn t row v words → AreDataWords origin t v words) → IsValue t vs v → TookWords gives text row vs s → TookDataWords gives text origin t v s
+  data_took origin t row vs v by_row value f = record { type = value.type; words = holds_map (λ words. AreDataWords origin t v words) (λ words stand. by_row words (record { values = vs; stand = stand; value = value })) f.words }
 
   -- and what refuses the row refuses the type
-  pub data_refused : {e : ParseError} {s : I} (origin : Option DomainName) (t : RecordType) (row : Row (shape t)) → ((vs : Values (shape t)) (words : List (List ℕ)) → stand_by (reading_of origin t) vs words → row.stand vs words) → RefusedWords gives text e row s → RefusedDataWords gives text e origin t s
-  data_refused {e} origin t row own r = record { none = unless_map e _ _ (λ none. holds_map (λ words. (v : RData) → AreDataWords origin t v words → ⊥) (λ words no v d. no d.values (own d.values words d.stand)) none) r.none }
+  pub data_refused : {e : ParseError} {s : I} (origin : Option DomainName) (t : RecordType) (row : Row (shape t)) → ((v : RData) (words : List (List ℕ)) → AreDataWords origin t v words → StandIn t row v words) → RefusedWords gives text e row s → RefusedDataWords gives text e origin t s
+  data_refused {e} origin t row by_row r = record { none = unless_map e _ _ (λ none. holds_map (λ words. (v : RData) → AreDataWords origin t v words → ⊥) (λ words other v d. let st = by_row v words d in other st.values st.stand) none) r.none }
+
+  -- words of a service's own relation
+  pub svcb_took : {s : I} (origin : Option DomainName) (x : SVCB) → AreWordsOf gives text x s → TookDataWords gives text origin types.SVCB (rdata.SVCB x) s
+  svcb_took origin x f = record { type = refl; words = holds_map (λ words. AreDataWords origin types.SVCB (rdata.SVCB x) words) (λ words h. h) f.words }
+
+  pub https_took : {s : I} (origin : Option DomainName) (x : HTTPS) → AreWordsOf gives text x.0 s → TookDataWords gives text origin types.HTTPS (rdata.HTTPS x) s
+  https_took origin x f = record { type = refl; words = holds_map (λ words. AreDataWords origin types.HTTPS (rdata.HTTPS x) words) (λ words h. h) f.words }
+
+  pub svcb_refused : {e : ParseError} {s : I} (origin : Option DomainName) → RefusedWords gives text e service_words s → RefusedDataWords gives text e origin types.SVCB s
+  svcb_refused {e} origin r = record { none = unless_map e _ _ (λ none. holds_map (λ words. (v : RData) → AreDataWords origin types.SVCB v words → ⊥) (λ words other v d. no_svcb words other v d) none) r.none }
+
+  pub https_refused : {e : ParseError} {s : I} (origin : Option DomainName) → RefusedWords gives text e service_words s → RefusedDataWords gives text e origin types.HTTPS s
+  https_refused {e} origin r = record { none = unless_map e _ _ (λ none. holds_map (λ words. (v : RData) → AreDataWords origin types.HTTPS v words → ⊥) (λ words other v d. no_https words other v d) none) r.none }
 
   pub zero_took : {s : I} (origin : Option DomainName) → TookDataWords gives text origin types.ZERO rdata.ZERO s
   zero_took origin = record { type = refl; words = holds_all (λ words. AreDataWords origin types.ZERO rdata.ZERO words) (λ words. record { values = tt; stand = tt; value = record { type = refl; fields = refl; plain = tt } }) }
 
-  pub rowless_refused : {e : ParseError} {s : I} (origin : Option DomainName) (t : RecordType) → ((vs : Values (shape t)) (words : List (List ℕ)) → stand_by (reading_of origin t) vs words → ⊥) → RefusedDataWords gives text e origin t s
-  rowless_refused {e} origin t none_is = record { none = unless_all e (holds_all (λ words. (v : RData) → AreDataWords origin t v words → ⊥) (λ words v d. none_is d.values words d.stand)) }
+  pub rowless_refused : {e : ParseError} {s : I} (origin : Option DomainName) (t : RecordType) → ((v : RData) (words : List (List ℕ)) → AreDataWords origin t v words → ⊥) → RefusedDataWords gives text e origin t s
+  rowless_refused {e} origin t none_is = record { none = unless_all e (holds_all (λ words. (v : RData) → AreDataWords origin t v words → ⊥) (λ words v d. none_is v words d)) }
 
 pub has_words : {t : RecordType} (u : RecordType) → t ≡ u → (HasNoWords u → ⊥) → HasNoWords t → ⊥
 has_words u e f h = f (subst (λ (k : RecordType). HasNoWords k) e h)
 
 -- types whose words are not read
-pub no_words : (origin : Option DomainName) (t : RecordType) → t ≢ types.A → t ≢ types.AAAA → t ≢ types.ANAME → t ≢ types.CAA → t ≢ types.CERT → t ≢ types.CNAME → t ≢ types.CSYNC → t ≢ types.HINFO → t ≢ types.MX → t ≢ types.NAPTR → t ≢ types.NS → t ≢ types.OPENPGPKEY → t ≢ types.PTR → t ≢ types.SMIMEA → t ≢ types.SOA → t ≢ types.SRV → t ≢ types.SSHFP → t ≢ types.TLSA → t ≢ types.TXT → t ≢ types.ZERO → (vs : Values (shape t)) (words : List (List ℕ)) → stand_by (reading_of origin t) vs words → ⊥
-no_words origin types.A h0 h1 h2 h3 h4 h5 h6 h7 h8 h9 h10 h11 h12 h13 h14 h15 h16 h17 h18 h19 vs words w = h0 refl
-no_words origin types.AAAA h0 h1 h2 h3 h4 h5 h6 h7 h8 h9 h10 h11 h12 h13 h14 h15 h16 h17 h18 h19 vs words w = h1 refl
-no_words origin types.ANAME h0 h1 h2 h3 h4 h5 h6 h7 h8 h9 h10 h11 h12 h13 h14 h15 h16 h17 h18 h19 vs words w = h2 refl
-no_words origin types.CAA h0 h1 h2 h3 h4 h5 h6 h7 h8 h9 h10 h11 h12 h13 h14 h15 h16 h17 h18 h19 vs words w = h3 refl
-no_words origin types.CERT h0 h1 h2 h3 h4 h5 h6 h7 h8 h9 h10 h11 h12 h13 h14 h15 h16 h17 h18 h19 vs words w = h4 refl
-no_words origin types.CNAME h0 h1 h2 h3 h4 h5 h6 h7 h8 h9 h10 h11 h12 h13 h14 h15 h16 h17 h18 h19 vs words w = h5 refl
-no_words origin types.CSYNC h0 h1 h2 h3 h4 h5 h6 h7 h8 h9 h10 h11 h12 h13 h14 h15 h16 h17 h18 h19 vs words w = h6 refl
-no_words origin types.HINFO h0 h1 h2 h3 h4 h5 h6 h7 h8 h9 h10 h11 h12 h13 h14 h15 h16 h17 h18 h19 vs words w = h7 refl
-no_words origin types.MX h0 h1 h2 h3 h4 h5 h6 h7 h8 h9 h10 h11 h12 h13 h14 h15 h16 h17 h18 h19 vs words w = h8 refl
-no_words origin types.NAPTR h0 h1 h2 h3 h4 h5 h6 h7 h8 h9 h10 h11 h12 h13 h14 h15 h16 h17 h18 h19 vs words w = h9 refl
-no_words origin types.NS h0 h1 h2 h3 h4 h5 h6 h7 h8 h9 h10 h11 h12 h13 h14 h15 h16 h17 h18 h19 vs words w = h10 refl
-no_words origin types.OPENPGPKEY h0 h1 h2 h3 h4 h5 h6 h7 h8 h9 h10 h11 h12 h13 h14 h15 h16 h17 h18 h19 vs words w = h11 refl
-no_words origin types.PTR h0 h1 h2 h3 h4 h5 h6 h7 h8 h9 h10 h11 h12 h13 h14 h15 h16 h17 h18 h19 vs words w = h12 refl
-no_words origin types.SMIMEA h0 h1 h2 h3 h4 h5 h6 h7 h8 h9 h10 h11 h12 h13 h14 h15 h16 h17 h18 h19 vs words w = h13 refl
-no_words origin types.SOA h0 h1 h2 h3 h4 h5 h6 h7 h8 h9 h10 h11 h12 h13 h14 h15 h16 h17 h18 h19 vs words w = h14 refl
-no_words origin types.SRV h0 h1 h2 h3 h4 h5 h6 h7 h8 h9 h10 h11 h12 h13 h14 h15 h16 h17 h18 h19 vs words w = h15 refl
-no_words origin types.SSHFP h0 h1 h2 h3 h4 h5 h6 h7 h8 h9 h10 h11 h12 h13 h14 h15 h16 h17 h18 h19 vs words w = h16 refl
-no_words origin types.TLSA h0 h1 h2 h3 h4 h5 h6 h7 h8 h9 h10 h11 h12 h13 h14 h15 h16 h17 h18 h19 vs words w = h17 refl
-no_words origin types.TXT h0 h1 h2 h3 h4 h5 h6 h7 h8 h9 h10 h11 h12 h13 h14 h15 h16 h17 h18 h19 vs words w = h18 refl
-no_words origin types.ZERO h0 h1 h2 h3 h4 h5 h6 h7 h8 h9 h10 h11 h12 h13 h14 h15 h16 h17 h18 h19 vs words w = h19 refl
-no_words origin t h0 h1 h2 h3 h4 h5 h6 h7 h8 h9 h10 h11 h12 h13 h14 h15 h16 h17 h18 h19 vs words w = w
+pub no_words : (origin : Option DomainName) (t : RecordType) → t ≢ types.A → t ≢ types.AAAA → t ≢ types.ANAME → t ≢ types.CAA → t ≢ types.CERT → t ≢ types.CNAME → t ≢ types.CSYNC → t ≢ types.HINFO → t ≢ types.HTTPS → t ≢ types.MX → t ≢ types.NAPTR → t ≢ types.NS → t ≢ types.OPENPGPKEY → t ≢ types.PTR → t ≢ types.SMIMEA → t ≢ types.SOA → t ≢ types.SRV → t ≢ types.SSHFP → t ≢ types.SVCB → t ≢ types.TLSA → t ≢ types.TXT → t ≢ types.ZERO → (v : RData) (words : List (List ℕ)) → AreDataWords origin t v words → ⊥
+no_words origin types.A h0 h1 h2 h3 h4 h5 h6 h7 h8 h9 h10 h11 h12 h13 h14 h15 h16 h17 h18 h19 h20 h21 v words w = h0 refl
+no_words origin types.AAAA h0 h1 h2 h3 h4 h5 h6 h7 h8 h9 h10 h11 h12 h13 h14 h15 h16 h17 h18 h19 h20 h21 v words w = h1 refl
+no_words origin types.ANAME h0 h1 h2 h3 h4 h5 h6 h7 h8 h9 h10 h11 h12 h13 h14 h15 h16 h17 h18 h19 h20 h21 v words w = h2 refl
+no_words origin types.CAA h0 h1 h2 h3 h4 h5 h6 h7 h8 h9 h10 h11 h12 h13 h14 h15 h16 h17 h18 h19 h20 h21 v words w = h3 refl
+no_words origin types.CERT h0 h1 h2 h3 h4 h5 h6 h7 h8 h9 h10 h11 h12 h13 h14 h15 h16 h17 h18 h19 h20 h21 v words w = h4 refl
+no_words origin types.CNAME h0 h1 h2 h3 h4 h5 h6 h7 h8 h9 h10 h11 h12 h13 h14 h15 h16 h17 h18 h19 h20 h21 v words w = h5 refl
+no_words origin types.CSYNC h0 h1 h2 h3 h4 h5 h6 h7 h8 h9 h10 h11 h12 h13 h14 h15 h16 h17 h18 h19 h20 h21 v words w = h6 refl
+no_words origin types.HINFO h0 h1 h2 h3 h4 h5 h6 h7 h8 h9 h10 h11 h12 h13 h14 h15 h16 h17 h18 h19 h20 h21 v words w = h7 refl
+no_words origin types.HTTPS h0 h1 h2 h3 h4 h5 h6 h7 h8 h9 h10 h11 h12 h13 h14 h15 h16 h17 h18 h19 h20 h21 v words w = h8 refl
+no_words origin types.MX h0 h1 h2 h3 h4 h5 h6 h7 h8 h9 h10 h11 h12 h13 h14 h15 h16 h17 h18 h19 h20 h21 v words w = h9 refl
+no_words origin types.NAPTR h0 h1 h2 h3 h4 h5 h6 h7 h8 h9 h10 h11 h12 h13 h14 h15 h16 h17 h18 h19 h20 h21 v words w = h10 refl
+no_words origin types.NS h0 h1 h2 h3 h4 h5 h6 h7 h8 h9 h10 h11 h12 h13 h14 h15 h16 h17 h18 h19 h20 h21 v words w = h11 refl
+no_words origin types.OPENPGPKEY h0 h1 h2 h3 h4 h5 h6 h7 h8 h9 h10 h11 h12 h13 h14 h15 h16 h17 h18 h19 h20 h21 v words w = h12 refl
+no_words origin types.PTR h0 h1 h2 h3 h4 h5 h6 h7 h8 h9 h10 h11 h12 h13 h14 h15 h16 h17 h18 h19 h20 h21 v words w = h13 refl
+no_words origin types.SMIMEA h0 h1 h2 h3 h4 h5 h6 h7 h8 h9 h10 h11 h12 h13 h14 h15 h16 h17 h18 h19 h20 h21 v words w = h14 refl
+no_words origin types.SOA h0 h1 h2 h3 h4 h5 h6 h7 h8 h9 h10 h11 h12 h13 h14 h15 h16 h17 h18 h19 h20 h21 v words w = h15 refl
+no_words origin types.SRV h0 h1 h2 h3 h4 h5 h6 h7 h8 h9 h10 h11 h12 h13 h14 h15 h16 h17 h18 h19 h20 h21 v words w = h16 refl
+no_words origin types.SSHFP h0 h1 h2 h3 h4 h5 h6 h7 h8 h9 h10 h11 h12 h13 h14 h15 h16 h17 h18 h19 h20 h21 v words w = h17 refl
+no_words origin types.SVCB h0 h1 h2 h3 h4 h5 h6 h7 h8 h9 h10 h11 h12 h13 h14 h15 h16 h17 h18 h19 h20 h21 v words w = h18 refl
+no_words origin types.TLSA h0 h1 h2 h3 h4 h5 h6 h7 h8 h9 h10 h11 h12 h13 h14 h15 h16 h17 h18 h19 h20 h21 v words w = h19 refl
+no_words origin types.TXT h0 h1 h2 h3 h4 h5 h6 h7 h8 h9 h10 h11 h12 h13 h14 h15 h16 h17 h18 h19 h20 h21 v words w = h20 refl
+no_words origin types.ZERO h0 h1 h2 h3 h4 h5 h6 h7 h8 h9 h10 h11 h12 h13 h14 h15 h16 h17 h18 h19 h20 h21 v words w = h21 refl
+no_words origin t h0 h1 h2 h3 h4 h5 h6 h7 h8 h9 h10 h11 h12 h13 h14 h15 h16 h17 h18 h19 h20 h21 v words w = w
 
 -- ---- printed values
 

@@ -8,20 +8,36 @@ use Rattle.dns_fields.specs.Labels.{DomainName}
 use Rattle.dns_fields.specs.Fields.{Kind, Values}
 use Rattle.dns_text.specs.TextWords.{TextWords, NoTextWords}
 use Rattle.dns_words.specs.Taking.{HoldsOfWords}
-use Rattle.dns_words.specs.Forms.{Row, ignored}
+use Rattle.dns_words.specs.Forms.{Row, word, number, name, ignored}
 use Rattle.dns_words.specs.Reads.{UnlessMemory}
 use Rattle.dns_words.specs.Printed.{cut, IsPrintedName}
 use Rattle.dns_rdata_base.specs.WordRows.{a_words, aaaa_words, name_words, hinfo_words, mx_words, naptr_words, openpgpkey_words, soa_words, srv_words, txt_words, IsPrintedMx, IsPrintedSrv, IsPrintedSoa}
 use Rattle.dns_rdata_certs.specs.WordRows.{cert_words, smimea_words, sshfp_words, tlsa_words, IsPrintedSshfp, IsPrintedTlsa}
 use Rattle.dns_rdata_sets.specs.WordRows.{caa_words, csync_words}
+use Rattle.dns_rdata_service.specs.WordRows.{these_parameters}
+use Rattle.dns_rdata_service.specs.declared.svcb.SVCB.{SVCB}
 use Rattle.dns_rdata.specs.declared.record_data.RData.{RData}
 use Rattle.dns_rdata.specs.declared.record_data.RData.TheVariants as rdata
 use Rattle.dns_rdata.specs.Data.{shape, IsValue, type_of}
 use Rattle.dns_rdata.specs.Texts.{text_of}
 
--- how the words of a type are read
+-- the words of this SVCB, in keys and values as a caller sees them (RFC 9460, 2.1); an origin completes no name
+abbrev pub AreSvcbWords : SVCB → List (List ℕ) → Type 0
+AreSvcbWords x words = (word (number 2) (word (name None) (these_parameters x.svc_params))).stand (x.svc_priority, (x.target_name, tt)) words
+
+abbrev pub svcb_words : RData → List (List ℕ) → Type 0
+svcb_words (rdata.SVCB x) words = AreSvcbWords x words
+svcb_words v words = ⊥
+
+abbrev pub https_words : RData → List (List ℕ) → Type 0
+https_words (rdata.HTTPS x) words = AreSvcbWords x.0 words
+https_words v words = ⊥
+
+-- How the words of a type are read: by a row for the fields; by a relation of their own for the value, where values of
+-- one form differ for a caller; or not at all.
 pub data Reading : List Kind → Type 1 where
   by : {kinds : List Kind} → Row kinds → Reading kinds
+  own : {kinds : List Kind} → (RData → List (List ℕ) → Type 0) → Reading kinds
   refused : {kinds : List Kind} → Reading kinds
 
 -- the words of each type; of ZERO no word is read, and of a type that isn't named here no words are
@@ -34,6 +50,7 @@ reading_of origin types.CERT = by cert_words
 reading_of origin types.CNAME = by (name_words origin)
 reading_of origin types.CSYNC = by csync_words
 reading_of origin types.HINFO = by hinfo_words
+reading_of origin types.HTTPS = own https_words
 reading_of origin types.MX = by (mx_words origin)
 reading_of origin types.NAPTR = by (naptr_words origin)
 reading_of origin types.NS = by (name_words origin)
@@ -43,17 +60,26 @@ reading_of origin types.SMIMEA = by smimea_words
 reading_of origin types.SOA = by (soa_words origin)
 reading_of origin types.SRV = by (srv_words origin)
 reading_of origin types.SSHFP = by sshfp_words
+reading_of origin types.SVCB = own svcb_words
 reading_of origin types.TLSA = by tlsa_words
 reading_of origin types.TXT = by txt_words
 reading_of origin types.ZERO = by ignored
 reading_of origin t = refused
 
-abbrev pub stand_by : {kinds : List Kind} → Reading kinds → Values kinds → List (List ℕ) → Type 0
-stand_by (by row) vs words = row.stand vs words
-stand_by refused vs words = ⊥
+-- the words stand in the row, and the value has their fields
+pub record StandIn (t : RecordType) (row : Row (shape t)) (v : RData) (words : List (List ℕ)) : Type 0 where
+  pub values : Values (shape t)
+  pub stand : row.stand values words
+  pub value : IsValue t values v
+
+abbrev pub give_by : (t : RecordType) → Reading (shape t) → RData → List (List ℕ) → Type 0
+give_by t (by row) v words = StandIn t row v words
+give_by t (own are) v words = are v words
+give_by t refused v words = ⊥
 
 abbrev pub is_refused : {kinds : List Kind} → Reading kinds → Type 0
 is_refused (by row) = ⊥
+is_refused (own are) = ⊥
 is_refused refused = Unit {0}
 
 -- no words are read of the type
@@ -61,10 +87,8 @@ abbrev pub HasNoWords : RecordType → Type 0
 HasNoWords t = is_refused (reading_of (None) t)
 
 -- the words give the value, of this type
-pub record AreDataWords (origin : Option DomainName) (t : RecordType) (v : RData) (words : List (List ℕ)) : Type 0 where
-  pub values : Values (shape t)
-  pub stand : stand_by (reading_of origin t) values words
-  pub value : IsValue t values v
+abbrev pub AreDataWords : Option DomainName → RecordType → RData → List (List ℕ) → Type 0
+AreDataWords origin t v words = give_by t (reading_of origin t) v words
 
 module _ {S I : Type 0} (gives : I → Option S → I → Type 0) (text : S → List ℕ) where
   pub record TookDataWords (origin : Option DomainName) (t : RecordType) (v : RData) (s : I) : Type 0 where

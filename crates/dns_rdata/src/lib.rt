@@ -26,6 +26,7 @@ pub use dns_rdata_service::{HTTPS, Items, SVCB, https, items, svcb};
 pub use dns_rdata_sets::{CAA, CSYNC, RecordTypeSet, caa, csync, record_type_set};
 pub use dns_text::{Lexer, Token, lexer, parse_ttl, read_item, read_list, text_words, token, ttl};
 pub use dns_types::Strings;
+pub use dns_words::{WordList, name_from_tokens};
 pub use record_data::RData;
 pub use traits::RecordData;
 

@@ -14,6 +14,7 @@ use dns_rdata_base::{
     A, AAAA, ANAME, CNAME, HINFO, MX, NAPTR, NS, OPENPGPKEY, PTR, SOA, SRV, TXT,
 };
 use dns_rdata_certs::{CERT, SMIMEA, SSHFP, TLSA};
+use dns_rdata_service::{HTTPS, SVCB};
 use dns_rdata_sets::{CAA, CSYNC};
 use dns_text::text_words;
 use std::alloc::Global;
@@ -42,6 +43,7 @@ impl RData {
             RecordType::CNAME => Ok(RData::CNAME(CNAME::from_tokens(alloc, tokens, origin)?)),
             RecordType::CSYNC => Ok(RData::CSYNC(CSYNC::from_tokens(alloc, tokens)?)),
             RecordType::HINFO => Ok(RData::HINFO(HINFO::from_tokens(alloc, tokens)?)),
+            RecordType::HTTPS => Ok(RData::HTTPS(HTTPS::from_tokens(alloc, tokens)?)),
             RecordType::MX => Ok(RData::MX(MX::from_tokens(alloc, tokens, origin)?)),
             RecordType::NAPTR => Ok(RData::NAPTR(NAPTR::from_tokens(alloc, tokens, origin)?)),
             RecordType::NS => Ok(RData::NS(NS::from_tokens(alloc, tokens, origin)?)),
@@ -53,6 +55,7 @@ impl RData {
             RecordType::SOA => Ok(RData::SOA(SOA::from_tokens(alloc, tokens, origin)?)),
             RecordType::SRV => Ok(RData::SRV(SRV::from_tokens(alloc, tokens, origin)?)),
             RecordType::SSHFP => Ok(RData::SSHFP(SSHFP::from_tokens(alloc, tokens)?)),
+            RecordType::SVCB => Ok(RData::SVCB(SVCB::from_tokens(alloc, tokens)?)),
             RecordType::TLSA => Ok(RData::TLSA(TLSA::from_tokens(alloc, tokens)?)),
             RecordType::TXT => Ok(RData::TXT(TXT::from_tokens(alloc, tokens)?)),
             RecordType::ZERO => Ok(RData::ZERO),
@@ -64,9 +67,9 @@ impl RData {
     /// relative name in them gets labels and mark of the origin, where one is given.
     ///
     /// A missing word is refused. What is behind the words of a type is not read, but for OPENPGPKEY and SSHFP, which
-    /// refuse a further word, and TXT, TLSA, SMIMEA and CSYNC, whose last field is all further words. Of ZERO no word is
-    /// read. The other types, those of an unknown number too, are refused by `UnsupportedRecordType`. The caller owes an
-    /// iterator that ends, as every iterator of a list or of a text's parts does.
+    /// refuse a further word, and TXT, TLSA, SMIMEA, CSYNC, SVCB and HTTPS, whose last field is all further words. Of
+    /// ZERO no word is read. The other types, those of an unknown number too, are refused by `UnsupportedRecordType`. The
+    /// caller owes an iterator that ends, as every iterator of a list or of a text's parts does.
     #[tactic(auto, using(crate::proofs::DataWords::data_back))]
     pub fn from_tokens<S: AsStr + Drop, I: Iterator<Item = S>>(
         alloc: Global,

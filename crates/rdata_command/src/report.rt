@@ -79,9 +79,9 @@ fn value_text(alloc: Global, value: &RData) -> Result<String, AllocError>
     }
 }
 
-// The three lines that are printed of a value.
+/// The three lines that are printed of a value. Fails only for want of memory.
 #[tactic(auto, using(std::proofs::Common::append_assoc))]
-fn lines(alloc: Global, record_type: RecordType, value: &RData) -> Result<String, AllocError>
+pub fn lines(alloc: Global, record_type: RecordType, value: &RData) -> Result<String, AllocError>
     ensures { IfOk result (λ lines. IsReport record_type value.now (string_bytes lines)) }
 {
     let number = u16::from(record_type);

@@ -37,8 +37,8 @@ fn short_number(word: &str) -> Option<u16>
     u16::try_from(number(word)?).ok()
 }
 
-// The type that a word names or gives the number of.
-fn record_type(word: &str) -> Option<RecordType>
+/// The type that a word names or gives the number of.
+pub fn record_type(word: &str) -> Option<RecordType>
     ensures { MatchOption result ((t : _) → ¬ (IsTypeWord word.now t)) (λ t. IsTypeWord word.now t) }
 {
     match short_number(word) {

@@ -1,0 +1,63 @@
+//! The command `parse`: record data from a text.
+
+ghost use Rattle.std.specs.Prelude.{◌≡◌, ◌⊎◌, [], ◌∷◌, codes, MatchOption};
+ghost use Rattle.std.specs.Io.KnownBytes.{Appends};
+ghost use Rattle.rdata_command.specs.Request.{texts};
+ghost use Rattle.rdata_command.specs.Parsing.{NotParse, AsksText, NoTextRequest, PrintedText, NoDataText};
+
+use crate::report::{lines, say};
+use crate::request::record_type;
+use dns_rdata::{ParseError, RData, RecordType};
+use std::alloc::Global;
+use std::io;
+
+// The two words behind the command `parse`.
+fn parse_words(words: &[String]) -> Option<(&str, &str)>
+    ensures { MatchOption result (NotParse (texts words.now))
+        (λ w. texts words.now ≡ codes "parse" ∷ w.0.now ∷ w.1.now ∷ []) }
+{
+    let [command, record_type, text] = words else {
+        return None;
+    };
+    if command.as_str() != "parse" {
+        return None;
+    }
+    Some((record_type.as_str(), text.as_str()))
+}
+
+/// The type and the text that the words ask for.
+pub fn text_request(words: &[String]) -> Option<(RecordType, &str)>
+    ensures { MatchOption result (NoTextRequest (texts words.now)) (λ r. AsksText (texts words.now) r.0 r.1.now) }
+{
+    let Some((type_word, text)) = parse_words(words) else {
+        return None;
+    };
+    let Some(record_type) = record_type(type_word) else {
+        return None;
+    };
+    Some((record_type, text))
+}
+
+/// Reads the text, writes the answer, and tells the status: 0 with three lines where the text is of a value of the type,
+/// 1 where it is of none, 3 where memory runs out, 4 where the writer refuses.
+pub fn serve_text<W: io::Write>(
+    alloc: Global,
+    record_type: RecordType,
+    text: &str,
+    out: &mut W,
+) -> u8
+    ensures status { (result ≡ 0) ⊎ (result ≡ 1) ⊎ (result ≡ 3) ⊎ (result ≡ 4) }
+    ensures printed { result ≡ 0 → PrintedText record_type text.now (W.contents out.old) (W.contents out.new) }
+    ensures refused { result ≡ 1 → NoDataText record_type text.now
+        × Appends (W.contents out.old) (W.contents out.new) (codes "refused\n") }
+    ensures memory { result ≡ 3 → Appends (W.contents out.old) (W.contents out.new) (codes "memory\n") }
+{
+    match RData::try_from_str(alloc, record_type, text) {
+        Err(ParseError::Memory) => say(out, "memory\n", 3),
+        Err(_) => say(out, "refused\n", 1),
+        Ok(value) => match lines(alloc, record_type, &value) {
+            Err(_) => say(out, "memory\n", 3),
+            Ok(text) => say(out, text.as_str(), 0),
+        },
+    }
+}
