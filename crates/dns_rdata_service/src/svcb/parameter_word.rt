@@ -28,7 +28,9 @@ use std::alloc::Global;
 /// next character kept, any other comma ends an item, and what is left at the end is one more; and of each the first
 /// token, which must be a word. For `port` and `ech` it is one such item, a decimal number of 16 bits or base64
 /// (RFC 4648, 4). `no-default-alpn` has no value, and no `=`. For a `key` with a number it is the value's octets; without
-/// a `=` there are none. Every other word is refused, `key65535` too.
+/// a `=` there are none. Every other word is refused, `key65535` too: by `Proto` where there is no such key, by
+/// `AddrParse` where an item is no address, and else by `Message`. Takes memory for what the value holds, and where a piece
+/// of a list or an item has a `\`.
 pub fn parameter_of(alloc: Global, word: &str) -> Result<(SvcParamKey, SvcParamValue), ParseError>
     ensures ok { IfOk result (IsParameterWord word.now) }
     ensures refused { IfErr result (λ e. e ≢ parse.Memory → (p : Parameter) → IsParameterWord word.now p → ⊥) }
