@@ -1,5 +1,6 @@
 mod lengths;
 mod names;
+mod order;
 mod sets;
 mod values;
 
