@@ -38,16 +38,23 @@ while read -r call times sample; do
   want "requests of 1000 times $call of ${sample%% *}" "$((times * 1000))" "$((many - none))"
 done < "$top/tests/requests.txt"
 
+# the program with the words of a line; the text of `parse` is one word, blanks and all
+program() {
+  case "$1" in
+    'parse '*) local rest=${1#parse }; "$rdata" parse "${rest%% *}" "${rest#* }" ;;
+    # shellcheck disable=SC2086
+    *) "$rdata" $1 ;;
+  esac
+}
+
 # each request refused in turn
 while IFS= read -r words; do
   case "$words" in ''|'#'*) continue ;; esac
   n=1
   while [ "$n" -le 400 ]; do
-    # shellcheck disable=SC2086
-    output=$(REQUESTS_REFUSE=$n LD_PRELOAD="$dir/requests.so" "$rdata" $words 2>&1)
+    output=$(REQUESTS_REFUSE=$n LD_PRELOAD="$dir/requests.so" program "$words" 2>&1)
     status=$?
-    # shellcheck disable=SC2086
-    if [ "$output" = "$("$rdata" $words 2>&1)" ]; then break; fi
+    if [ "$output" = "$(program "$words" 2>&1)" ]; then break; fi
     want "$words with request $n refused" "memory 3" "$output $status"
     n=$((n + 1))
   done

@@ -1,2 +1,3 @@
 pub mod Words
 pub mod Parses
+pub mod Compares

@@ -37,7 +37,7 @@ type_read w (Err e) h none = λ t is. ⊎_elim (λ (k : (n : ℕ) × IsNumberWor
 number_one : {w : List ℕ} {m n : ℕ} → IsNumberWord w m → IsNumberWord w n → m ≡ n
 number_one a b = a.value ∙ sym b.value
 
-octets_one : (w : List ℕ) {m n : List ℕ} → IsOctetsWord w m → IsOctetsWord w n → m ≡ n
+pub octets_one : (w : List ℕ) {m n : List ℕ} → IsOctetsWord w m → IsOctetsWord w n → m ≡ n
 octets_one w (inl a) (inl b) = a.1 ∙ sym b.1
 octets_one w {m} {n} (inl a) (inr b) = let e : decode_of w ≡ Ok n = b.1 in let f = rw a.0 at e in absurd (cc f)
 octets_one w {m} {n} (inr a) (inl b) = let e : decode_of w ≡ Ok m = a.1 in let f = rw b.0 at e in absurd (cc f)

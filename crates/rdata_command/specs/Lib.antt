@@ -1,3 +1,4 @@
 pub mod Request
 pub mod Report
 pub mod Parsing
+pub mod Comparing

@@ -10,7 +10,7 @@ use Rattle.dns_types.specs.RecordTypes.{number_of}
 use Rattle.dns_names_wire.specs.State.{Writing}
 use Rattle.dns_names_wire.specs.Words.{Appended, Stopped}
 use Rattle.dns_rdata.specs.declared.record_data.RData.{RData}
-use Rattle.dns_rdata.specs.Data.{Fills, NoValue, fields_of, mode_for}
+use Rattle.dns_rdata.specs.Data.{Fills, NoValue, fields_of, mode_for, data_octets}
 use Rattle.rdata_command.specs.Request.{Asks}
 use Rattle.dns_rdata.specs.Texts.{data_text}
 
@@ -49,12 +49,13 @@ pub record EmitsNothing (v : RData) : Type 0 where
 abbrev pub IsEmittedText : RData → List ℕ → Type 0
 IsEmittedText v text = ((octets : List ℕ) × Emits v octets × (text ≡ octets_text octets)) ⊎ (EmitsNothing v × (text ≡ codes "none"))
 
--- three lines: the number of the type, the value's text, and its octets from a fresh encoder
+-- four lines: the number of the type, the value's text, its canonical octets, and its octets from a fresh encoder
 pub record IsReport (t : RecordType) (v : RData) (lines : List ℕ) : Type 0 where
   pub emitted : List ℕ
   pub is_emitted : IsEmittedText v emitted
   pub spelled : lines ≡ codes "type " ++ (decimal (number_of t)
-      ++ ((10 ∷ codes "text ") ++ (printed_text v ++ ((10 ∷ codes "emitted ") ++ (emitted ++ (10 ∷ []))))))
+      ++ ((10 ∷ codes "text ") ++ (printed_text v ++ ((10 ∷ codes "canonical ") ++ (octets_text (data_octets v)
+      ++ ((10 ∷ codes "emitted ") ++ (emitted ++ (10 ∷ []))))))))
 
 -- a value fills the octets, and its lines came behind what was written before
 pub record Printed (m : List ℕ) (p n : ℕ) (t : RecordType) (before after : Option (List ℕ)) : Type 0 where

@@ -5,8 +5,10 @@ ghost use Rattle.std.specs.Prelude.{◌≡◌, ◌≤◌, ◌⊎◌, codes};
 ghost use Rattle.std.specs.Io.KnownBytes.{Appends};
 ghost use Rattle.rdata_command.specs.Request.{texts, NoRequest};
 ghost use Rattle.rdata_command.specs.Report.{PrintsValue, RefusesValue};
+ghost use Rattle.rdata_command.specs.Comparing.{NoOrderRequest, PrintsOrder, RefusesOrder};
 ghost use Rattle.rdata_command.specs.Parsing.{NoTextRequest, PrintsText, RefusesText};
 
+mod comparing;
 mod parsing;
 mod report;
 mod request;
@@ -17,22 +19,29 @@ use std::io;
 
 /// Does what the words ask for, writes the answer, and tells the status.
 ///
-/// `read TYPE PLACE LENGTH OCTETS` reads the data of a record: 0 and three lines where a value fills the octets, 1 and
-/// `refused` where none does. `parse TYPE TEXT` reads it from a text: 0 and three lines where the text is of a value, 1
-/// and `refused` where it is of none. Other words: 2 and `usage`. Where memory runs out: 3 and `memory`. Where the
-/// writer refuses: 4.
+/// `read TYPE PLACE LENGTH OCTETS` reads the data of a record: 0 and four lines where a value fills the octets, 1 and
+/// `refused` where none does. `parse TYPE TEXT` reads it from a text: 0 and four lines where the text is of a value, 1
+/// and `refused` where it is of none. `cmp TYPE OCTETS OCTETS` reads two whole messages of at most 65535 octets: 0 and
+/// `less`, `equal` or `greater`, the order of the values, 1 and `refused` where one is of none. Other words: 2 and
+/// `usage`. Where memory runs out: 3 and `memory`. Where the writer refuses: 4.
 pub fn run<W: io::Write>(alloc: Global, words: &[String], out: &mut W) -> u8
     ensures status { result ≤ 4 }
     ensures printed { result ≡ 0 → PrintsValue (texts words.now) (W.contents out.old) (W.contents out.new)
-        ⊎ PrintsText (texts words.now) (W.contents out.old) (W.contents out.new) }
-    ensures refused { result ≡ 1 → (RefusesValue (texts words.now) ⊎ RefusesText (texts words.now))
+        ⊎ PrintsText (texts words.now) (W.contents out.old) (W.contents out.new)
+        ⊎ PrintsOrder (texts words.now) (W.contents out.old) (W.contents out.new) }
+    ensures refused { result ≡ 1 → (RefusesValue (texts words.now) ⊎ RefusesText (texts words.now) ⊎ RefusesOrder (texts words.now))
         × Appends (W.contents out.old) (W.contents out.new) (codes "refused\n") }
-    ensures usage { result ≡ 2 → NoRequest (texts words.now) × NoTextRequest (texts words.now)
+    ensures usage { result ≡ 2 → NoRequest (texts words.now) × NoTextRequest (texts words.now) × NoOrderRequest (texts words.now)
         × Appends (W.contents out.old) (W.contents out.new) (codes "usage\n") }
     ensures memory { result ≡ 3 → Appends (W.contents out.old) (W.contents out.new) (codes "memory\n") }
 {
     if let Some((record_type, text)) = parsing::text_request(words) {
         return parsing::serve_text(alloc, record_type, text, out);
+    }
+    match comparing::order_request(alloc, words) {
+        Err(_) => return report::say(out, "memory\n", 3),
+        Ok(Some(pair)) => return comparing::serve_order(alloc, &pair, out),
+        Ok(None) => (),
     }
     match request::parse(alloc, words) {
         Err(_) => report::say(out, "memory\n", 3),

@@ -38,7 +38,7 @@ pub fn text_request(words: &[String]) -> Option<(RecordType, &str)>
     Some((record_type, text))
 }
 
-/// Reads the text, writes the answer, and tells the status: 0 with three lines where the text is of a value of the type,
+/// Reads the text, writes the answer, and tells the status: 0 with four lines where the text is of a value of the type,
 /// 1 where it is of none, 3 where memory runs out, 4 where the writer refuses.
 pub fn serve_text<W: io::Write>(
     alloc: Global,

@@ -5,7 +5,8 @@ ghost use Rattle.std.specs.Io.KnownBytes.{Appends};
 ghost use Rattle.dns_types.specs.declared.error.DecodeError.{DecodeError as DecodeErrorValue};
 ghost use Rattle.dns_names_wire.specs.Words.{UnlessMemory};
 ghost use Rattle.dns_rdata.specs.Data.{Fills, NoValue};
-ghost use Rattle.rdata_command.specs.Report.{Emits, EmitsNothing, IsEmittedText, IsReport, Printed, printed_text};
+ghost use Rattle.rdata_command.specs.Report.{Emits, EmitsNothing, IsEmittedText, IsReport, Printed, printed_text, octets_text};
+ghost use Rattle.dns_rdata.specs.Data.{data_octets};
 
 use crate::request::Request;
 use dns_rdata::{
@@ -14,8 +15,8 @@ use dns_rdata::{
 use std::alloc::{AllocError, Global};
 use std::io;
 
-// Reads the data of a record at a place of a message.
-fn read_at(
+/// Reads the data of a record at a place of a message.
+pub fn read_at(
     alloc: Global,
     message: &[u8],
     place: usize,
@@ -55,19 +56,43 @@ fn emitted(alloc: Global, value: &RData) -> Result<Option<Vec<u8>>, AllocError>
     }
 }
 
+// Octets in hexadecimal, or a dash.
+fn spelled(alloc: Global, octets: &[u8]) -> Result<String, AllocError>
+    ensures { IfOk result (λ text. string_bytes text ≡ octets_text octets.now) }
+{
+    if octets.is_empty() {
+        String::from_str(alloc, "-")
+    } else {
+        hex::encode(alloc, octets)
+    }
+}
+
 fn emitted_text(alloc: Global, value: &RData) -> Result<String, AllocError>
     ensures { IfOk result (λ text. IsEmittedText value.now (string_bytes text)) }
 {
     match emitted(alloc, value)? {
         None => String::from_str(alloc, "none"),
-        Some(octets) => {
-            if octets.len() == 0 {
-                String::from_str(alloc, "-")
-            } else {
-                hex::encode(alloc, octets.as_slice())
-            }
-        }
+        Some(octets) => spelled(alloc, octets.as_slice()),
     }
+}
+
+// The canonical octets of a value.
+fn canonical(alloc: Global, value: &RData) -> Result<Vec<u8>, AllocError>
+    ensures { IfOk result (λ octets. octets.items ≡ data_octets value.now) }
+{
+    let mut octets = Vec::new(alloc);
+    let mut left = value.canonical_octets();
+    'octets: while let Some(octet) = left.next() {
+        octets.push(octet)?;
+    }
+    Ok(octets)
+}
+
+fn canonical_text(alloc: Global, value: &RData) -> Result<String, AllocError>
+    ensures { IfOk result (λ text. string_bytes text ≡ octets_text (data_octets value.now)) }
+{
+    let octets = canonical(alloc, value)?;
+    spelled(alloc, octets.as_slice())
 }
 
 fn value_text(alloc: Global, value: &RData) -> Result<String, AllocError>
@@ -79,15 +104,16 @@ fn value_text(alloc: Global, value: &RData) -> Result<String, AllocError>
     }
 }
 
-/// The three lines that are printed of a value. Fails only for want of memory.
+/// The four lines that are printed of a value. Fails only for want of memory.
 #[tactic(auto, using(std::proofs::Common::append_assoc))]
 pub fn lines(alloc: Global, record_type: RecordType, value: &RData) -> Result<String, AllocError>
     ensures { IfOk result (λ lines. IsReport record_type value.now (string_bytes lines)) }
 {
     let number = u16::from(record_type);
     let text = value_text(alloc, value)?;
+    let canonical = canonical_text(alloc, value)?;
     let emitted = emitted_text(alloc, value)?;
-    format!(in alloc; "type {number}\ntext {text}\nemitted {emitted}\n")
+    format!(in alloc; "type {number}\ntext {text}\ncanonical {canonical}\nemitted {emitted}\n")
 }
 
 /// Writes a text, and answers the status; 4 where the writer refuses it.
@@ -100,7 +126,7 @@ pub fn say<W: io::Write>(out: &mut W, text: &str, status: u8) -> u8
     }
 }
 
-/// Reads what is asked for, writes the answer, and tells the status: 0 with three lines where a value fills the octets,
+/// Reads what is asked for, writes the answer, and tells the status: 0 with four lines where a value fills the octets,
 /// 1 where none does, 3 where memory runs out, 4 where the writer refuses.
 pub fn serve<W: io::Write>(alloc: Global, request: &Request, out: &mut W) -> u8
     requires { request.now.place ≤ size request.now.message.items }

@@ -47,8 +47,8 @@ pub fn record_type(word: &str) -> Option<RecordType>
     }
 }
 
-// The octets that a word spells.
-fn octets(alloc: Global, word: &str) -> Result<Option<Vec<u8>>, AllocError>
+/// The octets that a word spells. Fails only for want of memory.
+pub fn octets(alloc: Global, word: &str) -> Result<Option<Vec<u8>>, AllocError>
     ensures { IfOk result (λ found. MatchOption found ((m : List ℕ) → ¬ (IsOctetsWord word.now m)) (λ octets. IsOctetsWord word.now octets.items)) }
 {
     if word == "-" {

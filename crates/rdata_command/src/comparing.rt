@@ -1,0 +1,111 @@
+//! The command `cmp`: the order of two records' data.
+
+ghost use Rattle.std.specs.Prelude.{◌≡◌, ◌⊎◌, ◌<◌, [], ◌∷◌, codes, length as size, IfOk, IfErr, MatchOption};
+ghost use Rattle.dns_names_wire.specs.Words.{UnlessMemory};
+ghost use Rattle.dns_rdata.specs.Data.{Fills, NoValue};
+ghost use Rattle.std.specs.Io.KnownBytes.{Appends};
+ghost use Rattle.rdata_command.specs.Request.{texts};
+ghost use Rattle.rdata_command.specs.Comparing.{NotCompare, AsksOrder, NoOrderRequest, PrintedOrder, NoOrder, order_line};
+
+use crate::report::{read_at, say};
+use crate::request::{octets, record_type};
+use dns_rdata::{DecodeError, RData, RecordType};
+use std::alloc::{AllocError, Global};
+use std::cmp::Ordering;
+use std::io;
+
+/// The data of two records of one type, each a whole message.
+#[derive(Drop)]
+pub struct Pair {
+    /// The type of both records.
+    pub record_type: RecordType,
+    /// The data of the one.
+    pub left: Vec<u8>,
+    /// The data of the other.
+    pub right: Vec<u8>,
+}
+
+// The three words behind the command `cmp`.
+fn order_words(words: &[String]) -> Option<(&str, &str, &str)>
+    ensures { MatchOption result (NotCompare (texts words.now))
+        (λ w. texts words.now ≡ codes "cmp" ∷ w.0.now ∷ w.1.now ∷ w.2.now ∷ []) }
+{
+    let [command, record_type, left, right] = words else {
+        return None;
+    };
+    if command.as_str() != "cmp" {
+        return None;
+    }
+    Some((record_type.as_str(), left.as_str(), right.as_str()))
+}
+
+/// The data that the words ask for. Fails only for want of memory.
+pub fn order_request(alloc: Global, words: &[String]) -> Result<Option<Pair>, AllocError>
+    ensures { IfOk result (λ found. MatchOption found (NoOrderRequest (texts words.now))
+        (λ r. AsksOrder (texts words.now) r.record_type r.left.items r.right.items)) }
+{
+    let Some((type_word, left_word, right_word)) = order_words(words) else {
+        return Ok(None);
+    };
+    let Some(record_type) = record_type(type_word) else {
+        return Ok(None);
+    };
+    let Some(left) = octets(alloc, left_word)? else {
+        return Ok(None);
+    };
+    let Some(right) = octets(alloc, right_word)? else {
+        return Ok(None);
+    };
+    if left.len() > 65535 || right.len() > 65535 {
+        return Ok(None);
+    }
+    Ok(Some(Pair {
+        record_type,
+        left,
+        right,
+    }))
+}
+
+// The line that tells an order.
+fn order_text(order: Ordering) -> &'static str
+    ensures { result.now ≡ order_line order }
+{
+    match order {
+        Ordering::Less => "less\n",
+        Ordering::Equal => "equal\n",
+        Ordering::Greater => "greater\n",
+    }
+}
+
+// The value that a whole message is of.
+fn whole(alloc: Global, message: &[u8], record_type: RecordType) -> Result<RData, DecodeError>
+    requires { size message.now < 65536 }
+    ensures found { IfOk result (λ v. Fills message.now 0 (size message.now) record_type v) }
+    ensures refused { IfErr result (λ e. UnlessMemory e (NoValue message.now 0 (size message.now) record_type)) }
+{
+    read_at(alloc, message, 0, record_type, message.len() as u16)
+}
+
+/// Reads both, the left one first, writes their order, and tells the status: 0 where both are data of the type, 1 where
+/// one is not, 3 where memory runs out, 4 where the writer refuses.
+pub fn serve_order<W: io::Write>(alloc: Global, pair: &Pair, out: &mut W) -> u8
+    requires left { size pair.now.left.items < 65536 }
+    requires right { size pair.now.right.items < 65536 }
+    ensures status { (result ≡ 0) ⊎ (result ≡ 1) ⊎ (result ≡ 3) ⊎ (result ≡ 4) }
+    ensures printed { result ≡ 0 → PrintedOrder pair.now.record_type pair.now.left.items pair.now.right.items (W.contents out.old) (W.contents out.new) }
+    ensures refused { result ≡ 1 → NoOrder pair.now.record_type pair.now.left.items pair.now.right.items
+        × Appends (W.contents out.old) (W.contents out.new) (codes "refused\n") }
+    ensures memory { result ≡ 3 → Appends (W.contents out.old) (W.contents out.new) (codes "memory\n") }
+{
+    let value = match whole(alloc, pair.left.as_slice(), pair.record_type) {
+        Err(DecodeError::Memory) => return say(out, "memory\n", 3),
+        Err(_) => return say(out, "refused\n", 1),
+        Ok(value) => value,
+    };
+    let other = match whole(alloc, pair.right.as_slice(), pair.record_type) {
+        Err(DecodeError::Memory) => return say(out, "memory\n", 3),
+        Err(_) => return say(out, "refused\n", 1),
+        Ok(other) => other,
+    };
+    say(out, order_text(value.cmp(&other)), 0)
+}
