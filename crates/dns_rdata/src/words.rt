@@ -10,9 +10,7 @@ ghost use Rattle.dns_words.specs.Reads.{Decides};
 
 use crate::record_data::RData;
 use dns_names_wire::{Name, ParseError, RecordType};
-use dns_rdata_base::{
-    A, AAAA, ANAME, CNAME, HINFO, MX, NAPTR, NS, OPENPGPKEY, PTR, SOA, SRV, TXT,
-};
+use dns_rdata_base::{A, AAAA, ANAME, CNAME, HINFO, MX, NAPTR, NS, OPENPGPKEY, PTR, SOA, SRV, TXT};
 use dns_rdata_certs::{CERT, SMIMEA, SSHFP, TLSA};
 use dns_rdata_service::{HTTPS, SVCB};
 use dns_rdata_sets::{CAA, CSYNC};

@@ -6,6 +6,8 @@
 #![tactic(auto)]
 
 pub mod reading;
+#[cfg(test)]
+mod tests;
 pub mod texts;
 pub mod word_list;
 
