@@ -309,6 +309,10 @@ impl RData {
     fn cmp_all(&self, other: &RData) -> Ordering
         ensures { result ≡ rdata_cmp self.now other.now }
     {
+        // most that are equal are told sooner so
+        if self == other {
+            return Ordering::Equal;
+        }
         let octets = self
             .canonical_octets()
             .compare(&mut other.canonical_octets());

@@ -1,5 +1,5 @@
 -- Words that ask for an order.
-use Rattle.std.proofs.Common.{◌≡◌, ℕ, ◌<◌, ◌≤◌, ◌×◌, List, [], ◌∷◌, length, get_or, codes, subst, ap, arith}
+use Rattle.std.proofs.Common.{◌≡◌, ℕ, ◌<◌, ◌≤◌, List, [], ◌∷◌, length, get_or, codes, subst, ap, arith}
 use Rattle.dns_types.specs.declared.record_type.RecordType.{RecordType}
 use Rattle.rdata_command.specs.Request.{IsTypeWord, IsOctetsWord}
 use Rattle.rdata_command.specs.Comparing.{AsksOrder, NoOrderRequest, NotCompare}

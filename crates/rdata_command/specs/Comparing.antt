@@ -34,13 +34,19 @@ order_line Less = codes "less\n"
 order_line Equal = codes "equal\n"
 order_line Greater = codes "greater\n"
 
--- values fill both messages, and their order came behind what was written before
-pub record PrintedOrder (t : RecordType) (left right : List ℕ) (before after : Option (List ℕ)) : Type 0 where
+-- values fill both messages, and this is their order
+pub record HasOrder (t : RecordType) (left right : List ℕ) (o : Ordering) : Type 0 where
   pub value : RData
   pub other : RData
   pub fills : Fills left 0 (length left) t value
   pub other_fills : Fills right 0 (length right) t other
-  pub appended : Appends before after (order_line (rdata_cmp value other))
+  pub order : o ≡ rdata_cmp value other
+
+-- values fill both messages, and their order came behind what was written before
+pub record PrintedOrder (t : RecordType) (left right : List ℕ) (before after : Option (List ℕ)) : Type 0 where
+  pub order : Ordering
+  pub has_order : HasOrder t left right order
+  pub appended : Appends before after (order_line order)
 
 -- no value fills one of the messages
 abbrev pub NoOrder : RecordType → List ℕ → List ℕ → Type 0

@@ -5,7 +5,7 @@ ghost use Rattle.dns_names_wire.specs.Words.{UnlessMemory};
 ghost use Rattle.dns_rdata.specs.Data.{Fills, NoValue};
 ghost use Rattle.std.specs.Io.KnownBytes.{Appends};
 ghost use Rattle.rdata_command.specs.Request.{texts};
-ghost use Rattle.rdata_command.specs.Comparing.{NotCompare, AsksOrder, NoOrderRequest, PrintedOrder, NoOrder, order_line};
+ghost use Rattle.rdata_command.specs.Comparing.{NotCompare, AsksOrder, NoOrderRequest, HasOrder, PrintedOrder, NoOrder, order_line};
 
 use crate::report::{read_at, say};
 use crate::request::{octets, record_type};
@@ -86,6 +86,18 @@ fn whole(alloc: Global, message: &[u8], record_type: RecordType) -> Result<RData
     read_at(alloc, message, 0, record_type, message.len() as u16)
 }
 
+// The order of the values, of which the left one is read first.
+fn order_of(alloc: Global, pair: &Pair) -> Result<Ordering, DecodeError>
+    requires left { size pair.now.left.items < 65536 }
+    requires right { size pair.now.right.items < 65536 }
+    ensures found { IfOk result (λ o. HasOrder pair.now.record_type pair.now.left.items pair.now.right.items o) }
+    ensures refused { IfErr result (λ e. UnlessMemory e (NoOrder pair.now.record_type pair.now.left.items pair.now.right.items)) }
+{
+    let value = whole(alloc, pair.left.as_slice(), pair.record_type)?;
+    let other = whole(alloc, pair.right.as_slice(), pair.record_type)?;
+    Ok(value.cmp(&other))
+}
+
 /// Reads both, the left one first, writes their order, and tells the status: 0 where both are data of the type, 1 where
 /// one is not, 3 where memory runs out, 4 where the writer refuses.
 pub fn serve_order<W: io::Write>(alloc: Global, pair: &Pair, out: &mut W) -> u8
@@ -97,15 +109,9 @@ pub fn serve_order<W: io::Write>(alloc: Global, pair: &Pair, out: &mut W) -> u8
         × Appends (W.contents out.old) (W.contents out.new) (codes "refused\n") }
     ensures memory { result ≡ 3 → Appends (W.contents out.old) (W.contents out.new) (codes "memory\n") }
 {
-    let value = match whole(alloc, pair.left.as_slice(), pair.record_type) {
-        Err(DecodeError::Memory) => return say(out, "memory\n", 3),
-        Err(_) => return say(out, "refused\n", 1),
-        Ok(value) => value,
-    };
-    let other = match whole(alloc, pair.right.as_slice(), pair.record_type) {
-        Err(DecodeError::Memory) => return say(out, "memory\n", 3),
-        Err(_) => return say(out, "refused\n", 1),
-        Ok(other) => other,
-    };
-    say(out, order_text(value.cmp(&other)), 0)
+    match order_of(alloc, pair) {
+        Err(DecodeError::Memory) => say(out, "memory\n", 3),
+        Err(_) => say(out, "refused\n", 1),
+        Ok(order) => say(out, order_text(order), 0),
+    }
 }
