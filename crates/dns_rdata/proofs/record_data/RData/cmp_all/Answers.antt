@@ -11,6 +11,6 @@ equal_is Less e = absurd (cc e)
 equal_is Equal e = refl
 equal_is Greater e = absurd (cc e)
 
-pub returns-then-is_same : goal.returns-then-is_same
-returns-then-is_same c = equal_is (rdata_cmp c.args.self.now c.args.other.now)
-    (sym (rdata_ties c.args.self.now c.args.other.now) ∙ sym c.is_same.ensures ∙ c.if-is_same.true)
+pub returns-then-eq : goal.returns-then-eq
+returns-then-eq c = equal_is (rdata_cmp c.args.self.now c.args.other.now)
+    (sym (rdata_ties c.args.self.now c.args.other.now) ∙ sym c.eq.ensures ∙ c.if-eq.true)
