@@ -32,10 +32,9 @@ pub(super) fn rising(alloc: Global, place: usize) -> Result<RData, Fail> {
     Ok(RData::try_from_str(alloc, record_type, text)?)
 }
 
-// The order of two of them.
-fn order_of_rising(alloc: Global, a: usize, b: usize) -> Result<Ordering, Fail> {
-    let first = rising(alloc, a)?;
-    Ok(first.cmp(&rising(alloc, b)?))
+// The order of a value and of one of them.
+fn order_to_rising(value: &RData, alloc: Global, place: usize) -> Result<Ordering, Fail> {
+    Ok(value.cmp(&rising(alloc, place)?))
 }
 
 // Whether the value's canonical octets are these, place by place and one after the other.
@@ -53,13 +52,6 @@ fn gives(value: &RData, canonical: &[u8]) -> bool {
         place = place.saturating_add(1);
     }
     value.octet_at(place).is_none() && cursor.next().is_none() && cursor.next().is_none()
-}
-
-// The order of two values of a type.
-fn order(alloc: Global, record_type: RecordType, a: &[u8], b: &[u8]) -> Option<Ordering> {
-    let a = value_of(alloc, a, record_type).ok()?;
-    let b = value_of(alloc, b, record_type).ok()?;
-    Some(a.cmp(&b))
 }
 
 #[test]
@@ -116,55 +108,12 @@ fn canonical_octets(rt: HostRuntime) {
 }
 
 #[test]
-fn orders(rt: HostRuntime) {
-    let alloc = rt.alloc();
-    assert_eq!(rt;
-        order(
-            alloc,
-            RecordType::OPT,
-            b"\x00\x0f\x00\x01\x05\x00\x0a\x00\x01\x05",
-            b"\x00\x0a\x00\x01\x05\x00\x0f\x00\x01\x05"
-        ),
-        Some(Ordering::Equal)
-    );
-    assert_eq!(rt;
-        order(alloc, RecordType::OPT, b"\x00\x0a", b""),
-        Some(Ordering::Equal)
-    );
-    assert_eq!(rt;
-        order(
-            alloc,
-            RecordType::CSYNC,
-            b"\x00\x00\x00\x7b\x00\x00\x00\x02\x60\x00",
-            b"\x00\x00\x00\x7b\x00\x00\x00\x01\x60"
-        ),
-        Some(Ordering::Equal)
-    );
-    assert_eq!(rt;
-        order(alloc, RecordType::TXT, b"", b"\x00"),
-        Some(Ordering::Less)
-    );
-    assert_eq!(rt;
-        order(alloc, RecordType::A, &[1, 2, 3, 5], &[1, 2, 3, 4]),
-        Some(Ordering::Greater)
-    );
-    assert_eq!(rt;
-        order(
-            alloc,
-            RecordType::MX,
-            b"\x01\x00\x01N\x00",
-            b"\x01\x00\x01n\x00"
-        ),
-        Some(Ordering::Equal)
-    );
-}
-
-#[test]
 fn values_of_other_types(rt: HostRuntime) -> Result<(), Fail> {
     for a in 0..OF_ONE_ORDER {
+        let value = rising(rt.alloc(), a)?;
         for b in 0..OF_ONE_ORDER {
             assert_eq!(rt;
-                order_of_rising(rt.alloc(), a, b)?,
+                order_to_rising(&value, rt.alloc(), b)?,
                 a.cmp(&b),
                 "of {a} and {b}"
             );
@@ -173,15 +122,15 @@ fn values_of_other_types(rt: HostRuntime) -> Result<(), Fail> {
     Ok(())
 }
 
-// The order of the values of two texts, and of the same the other way round.
-fn order_of_texts(
+// The order of a value and of that of a text, and of the same the other way round.
+fn order_to_text(
+    value: &RData,
     alloc: Global,
-    a: (RecordType, &str),
-    b: (RecordType, &str),
+    record_type: RecordType,
+    text: &str,
 ) -> Result<(Ordering, Ordering), Fail> {
-    let first = RData::try_from_str(alloc, a.0, a.1)?;
-    let second = RData::try_from_str(alloc, b.0, b.1)?;
-    Ok((first.cmp(&second), second.cmp(&first)))
+    let other = RData::try_from_str(alloc, record_type, text)?;
+    Ok((value.cmp(&other), other.cmp(value)))
 }
 
 // The order of a value and of NULL with these octets.
@@ -215,9 +164,9 @@ fn a_value_without_octets(rt: HostRuntime) -> Result<(), Fail> {
 
 #[test]
 fn relative_names(rt: HostRuntime) -> Result<(), Fail> {
-    let absolute = (RecordType::CNAME, "www.example.com.");
-    let relative = (RecordType::CNAME, "www.example.com");
-    let (one, other) = order_of_texts(rt.alloc(), relative, absolute)?;
+    let kind = RecordType::CNAME;
+    let value = RData::try_from_str(rt.alloc(), kind, "www.example.com")?;
+    let (one, other) = order_to_text(&value, rt.alloc(), kind, "www.example.com.")?;
     assert!(rt; one != Ordering::Equal);
     assert_eq!(rt; other, one.reverse());
     Ok(())
