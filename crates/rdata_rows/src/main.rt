@@ -73,7 +73,10 @@ fn canonical_line(output: &str) -> Option<&str> {
 
 // Whether the canonical octets of what was read, read again, are told as the same.
 fn reads_again(alloc: Global, row: &Row) -> Result<bool> {
-    let is_read = row.words.first().is_some_and(|word| word.as_str() == "read");
+    let is_read = row
+        .words
+        .first()
+        .is_some_and(|word| word.as_str() == "read");
     let Some(octets) = canonical_line(row.output.as_str()) else {
         return Ok(true);
     };

@@ -1,3 +1,4 @@
+mod hashing;
 mod lengths;
 mod names;
 mod order;

@@ -7,9 +7,9 @@ use std::net::{IpAddr, Ipv4Addr, Ipv6Addr};
 use std::test::Fail;
 
 // A type, its data, and the text of it.
-type Sample = (RecordType, &'static [u8], &'static str);
+pub(super) type Sample = (RecordType, &'static [u8], &'static str);
 
-fn samples() -> [Sample; 24] {
+pub(super) fn samples() -> [Sample; 24] {
     [
         (RecordType::A, b"\xc0\x00\x02\x21", "192.0.2.33"),
         (
@@ -202,5 +202,15 @@ fn emitted_within_a_limit(rt: HostRuntime) -> Result<(), Fail> {
     encoder.set_max_size(5);
     value.emit(&mut encoder)?;
     assert_eq!(rt; encoder.into_bytes().as_slice(), [9, 1, 2, 3, 4].as_slice());
+    Ok(())
+}
+
+// OPT has no text in a zone file.
+#[test]
+fn options_are_not_printed(rt: HostRuntime) -> Result<(), Fail> {
+    for octets in [b"".as_slice(), b"\x00\x0a\x00\x01\x05".as_slice()] {
+        let value = value_of(rt.alloc(), octets, RecordType::OPT)?;
+        assert!(rt; value.to_string(rt.alloc()).is_err());
+    }
     Ok(())
 }
