@@ -3,6 +3,7 @@ mod lengths;
 mod names;
 mod order;
 mod sets;
+mod texts;
 mod values;
 
 use dns_rdata::{BinDecoder, DecodeError, RData, RecordType, Restrict};
