@@ -102,11 +102,7 @@ impl Row {
         self.read_from(alloc, self.message.as_slice())
     }
 
-    fn read_from(
-        &self,
-        alloc: Global,
-        message: &[u8],
-    ) -> std::result::Result<RData, DecodeError> {
+    fn read_from(&self, alloc: Global, message: &[u8]) -> std::result::Result<RData, DecodeError> {
         let mut decoder = BinDecoder::new(alloc, message);
         let _before = decoder.read_slice(self.place)?;
         RData::read(&mut decoder, self.record_type, Restrict::new(self.length))
