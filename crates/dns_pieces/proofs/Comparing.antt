@@ -40,12 +40,12 @@ first_ends a b c y e f = rw (e, f) refl
 pub second_ends : (a b c : List ℕ) (x : ℕ) → a ≡ x ∷ c → b ≡ [] → Greater ≡ slice_cmp nat_cmp a b
 second_ends a b c x e f = rw (e, f) refl
 
-then_kept : (o q : Ordering) → o ≢ Equal → o ≡ ordering_then o q
+pub then_kept : (o q : Ordering) → o ≢ Equal → o ≡ ordering_then o q
 then_kept Less q h = refl
 then_kept Equal q h = absurd (h refl)
 then_kept Greater q h = refl
 
-apart : (x y : ℕ) → x ≢ y → nat_cmp x y ≢ Equal
+pub apart : (x y : ℕ) → x ≢ y → nat_cmp x y ≢ Equal
 apart x y h = λ e. grind (arith, nat_tests, h, e)
 
 pub they_differ : (a b c d : List ℕ) (x y : ℕ) (o : Ordering) → a ≡ x ∷ c → b ≡ y ∷ d → x ≢ y → o ≡ nat_cmp x y → o ≡ slice_cmp nat_cmp a b

@@ -25,7 +25,7 @@ later at n xs t =
     ap (λ (l : List ℕ). l ++ t) (sym (take-append-drop n (drop at xs)) ∙ ap (λ (l : List ℕ). take n (drop at xs) ++ l) (drop-drop n at xs))
     ∙ append_assoc (take n (drop at xs)) (drop (at + n) xs) t
 
-whole : (n : ℕ) (xs : List ℕ) → take (length xs - n) (drop n xs) ≡ drop n xs
+pub whole : (n : ℕ) (xs : List ℕ) → take (length xs - n) (drop n xs) ≡ drop n xs
 whole n xs = take_all (length xs - n) (drop n xs) (omega (arith, length-drop n xs))
 
 -- what the heads have in common from their places on
@@ -93,8 +93,11 @@ names_neither false true h e = absurd (true≢false h)
 
 -- ---- octets that are the same behind the same octets
 
+pub same_further : (n m : ℕ) (a b : List ℕ) → n ≤ m → take n a ≡ take n b → take (m - n) (drop n a) ≡ take (m - n) (drop n b) → take m a ≡ take m b
+same_further n m a b h same q =
+    let k : m ≡ n + (m - n) = omega arith in
+    ap (λ (j : ℕ). take j a) k ∙ take-add n (m - n) a ∙ ap (λ (x : List ℕ). x ++ take (m - n) (drop n a)) same ∙ ap (λ (x : List ℕ). take n b ++ x) q ∙ sym (take-add n (m - n) b) ∙ ap (λ (j : ℕ). take j b) (sym k)
+
 pub more_same : (n m : ℕ) (a b : List ℕ) (r : Bool) → n ≤ m → take n a ≡ take n b → r ≡ pointwise nat_eq (take (m - n) (drop n a)) (take (m - n) (drop n b)) → r ≡ true → take m a ≡ take m b
 more_same n m a b r h same e t =
-    let k : m ≡ n + (m - n) = omega arith in
-    let q : take (m - n) (drop n a) ≡ take (m - n) (drop n b) = (pointwise_decides unsigned_Decides (take (m - n) (drop n a)) (take (m - n) (drop n b))).0 (sym e ∙ t) in
-    ap (λ (j : ℕ). take j a) k ∙ take-add n (m - n) a ∙ ap (λ (x : List ℕ). x ++ take (m - n) (drop n a)) same ∙ ap (λ (x : List ℕ). take n b ++ x) q ∙ sym (take-add n (m - n) b) ∙ ap (λ (j : ℕ). take j b) (sym k)
+    same_further n m a b h same ((pointwise_decides unsigned_Decides (take (m - n) (drop n a)) (take (m - n) (drop n b))).0 (sym e ∙ t))

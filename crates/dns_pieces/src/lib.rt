@@ -5,6 +5,7 @@
 pub mod common;
 pub mod count;
 pub mod head;
+pub mod order;
 pub mod run;
 pub mod step;
 pub mod tail;

@@ -1,11 +1,14 @@
 //! A slice, or the labels of a name.
 
 ghost use Rattle.std.specs.Prelude.{◌≡◌, ◌+◌, ◌<◌, ◌^◌, [], ◌∷◌, MatchOption};
+ghost use Rattle.std.specs.Cmp.Lexicographic.{slice_cmp};
+ghost use Rattle.std.specs.Ordering.{nat_cmp};
 ghost use Rattle.dns_fields.specs.Fields.{Name as NameKind, Rest, field_octets};
 ghost use Rattle.dns_pieces.specs.Runs.{Shares};
 
 use crate::common::{common_beginning, common_lowered};
 use dns_names_wire::Name;
+use std::cmp::Ordering;
 use std::marker::Model;
 
 /// A slice, or the octets of a name's labels, which are given in lower case, and a 0 behind them.
@@ -100,5 +103,32 @@ impl<'a> Tail<'a> {
         self.octets = &octets[n..];
         other.octets = &other_octets[n..];
         n
+    }
+    /// The order of the two by their first difference, a proper beginning before what goes on.
+    #[inline]
+    pub fn compare(&mut self, other: &mut Tail<'_>) -> Ordering
+        ensures { result ≡ slice_cmp nat_cmp self.old other.old }
+    {
+        self.skip_common(other);
+        self.compare_next(other)
+    }
+
+    // The same, where mostly the next octets differ.
+    fn compare_next(&mut self, other: &mut Tail<'_>) -> Ordering
+        ensures { result ≡ slice_cmp nat_cmp self.old other.old }
+    {
+        'octets: loop {
+            match (self.next(), other.next()) {
+                (None, None) => return Ordering::Equal,
+                (None, Some(_)) => return Ordering::Less,
+                (Some(_), None) => return Ordering::Greater,
+                (Some(x), Some(y)) => {
+                    if x != y {
+                        return x.cmp(&y);
+                    }
+                }
+            }
+            self.skip_common(other);
+        }
     }
 }

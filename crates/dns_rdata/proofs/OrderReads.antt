@@ -1,12 +1,13 @@
 -- Values that were read are ordered by their canonical octets.
-use Rattle.std.proofs.Common.{◌≡◌, sym, ◌∙◌, refl}
-use Rattle.std.specs.Ordering.{nat_cmp, ordering_then}
+use Rattle.std.proofs.Common.{◌≡◌, Bool, true, false, true≢false, sym, ◌∙◌, refl}
+use Rattle.std.specs.Ordering.{nat_cmp, ordering_then, is_ne}
 use Rattle.std.specs.Cmp.Lexicographic.{slice_cmp}
 use Rattle.std.specs.FinMap.{nat_cmp-IsAntisymmetric, slice_cmp-IsAntisymmetric}
 use Rattle.std.specs.declared.cmp.Ordering.{Ordering}
 use Rattle.std.specs.declared.cmp.Ordering.TheVariants.{Less, Equal, Greater}
 use Rattle.dns_rdata.specs.declared.record_data.RData.{RData}
 use Rattle.dns_rdata.specs.Data.{data_octets}
+use Rattle.dns_rdata.specs.Equal.{equal}
 use Rattle.dns_rdata.specs.Order.{rdata_cmp, OrdersRead}
 use Rattle.dns_rdata.specs.Ties.{equal_is, rdata_ties}
 use Rattle.dns_rdata.proofs.DataLaws.{tells_apart}
@@ -21,3 +22,24 @@ orders_read v w t m p n m' p' n' f g =
     then_tied (slice_cmp nat_cmp (data_octets v) (data_octets w)) _ (λ e.
     let same : data_octets v ≡ data_octets w = slice_cmp-IsAntisymmetric nat_cmp-IsAntisymmetric (data_octets v) (data_octets w) e in
     equal_is (rdata_cmp v w) (sym (rdata_ties v w) ∙ (tells_apart v w t m p n m' p' n' f g).1 same))
+
+-- what is equal has the same octets
+pub equal_octets : (v w : RData) (b : Bool) → b ≡ equal v w → b ≡ true → Equal ≡ slice_cmp nat_cmp (data_octets v) (data_octets w)
+equal_octets v w b e h = first_tied _ _ (equal_is (rdata_cmp v w) (sym (rdata_ties v w) ∙ sym e ∙ h))
+  where
+    first_tied : (o q : Ordering) → ordering_then o q ≡ Equal → Equal ≡ o
+    first_tied Less q t = sym t
+    first_tied Equal q t = refl
+    first_tied Greater q t = sym t
+
+-- what is decided by what was compared first
+pub decided : (o q r : Ordering) → is_ne o ≡ true → r ≡ ordering_then o q → o ≡ r
+decided Less q r h e = sym e
+decided Equal q r h e = absurd (true≢false (sym h))
+decided Greater q r h e = sym e
+
+-- and what is not, by what comes behind
+pub undecided : (o q r : Ordering) → is_ne o ≡ false → r ≡ ordering_then o q → q ≡ r
+undecided Less q r h e = absurd (true≢false h)
+undecided Equal q r h e = sym e
+undecided Greater q r h e = absurd (true≢false h)

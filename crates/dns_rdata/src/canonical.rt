@@ -1,9 +1,10 @@
 //! Canonical octets, one after the other.
 
-ghost use Rattle.std.specs.Prelude.{◌≡◌, ◌+◌, ◌≤◌, ℕ, [], ◌∷◌, if◌then◌else◌, is_some, IfSome, MatchOption, slice_get};
+ghost use Rattle.std.specs.Prelude.{◌≡◌, ◌+◌, ◌≤◌, ℕ, true, [], ◌∷◌, if◌then◌else◌, is_some, IfSome, MatchOption, slice_get};
 ghost use Rattle.std.specs.Ordering.{nat_cmp};
 ghost use Rattle.std.specs.Option.{option_copied};
 ghost use Rattle.std.specs.Cmp.Lexicographic.{slice_cmp};
+ghost use Rattle.std.specs.Iterator.{YieldsFirstBy, item_count};
 ghost use Rattle.dns_fields.specs.Fields.{all_emittable};
 ghost use Rattle.dns_pieces.specs.Runs.{common};
 ghost use Rattle.dns_pieces.specs.Steps.{GivesStep, CountsPasses, CountsChoices};
@@ -92,7 +93,7 @@ impl RData {
     }
 
     // Whether it can be emitted.
-    fn is_emittable(&self) -> bool
+    pub(crate) fn is_emittable(&self) -> bool
         ensures { result ≡ all_emittable (fields_of self.now).kinds (fields_of self.now).values }
     {
         match self {
@@ -163,6 +164,26 @@ impl RData {
             run: Run::new(),
             step: 0,
             part: 0,
+            item: 0,
+            taken: Count::new(),
+            choices: Count::new(),
+            passes: Count::new(),
+        }
+    }
+}
+
+impl RData {
+    // A cursor at a part of what comes behind the first step, of a value that can be emitted.
+    #[inline]
+    pub(crate) fn octets_from(&self, part: usize) -> CanonicalOctets<'_>
+        requires { all_emittable (fields_of self.now).kinds (fields_of self.now).values ≡ true }
+        ensures { result.octets ≡ data_left self.now 1 part 0 }
+    {
+        CanonicalOctets {
+            data: Some(self),
+            run: Run::new(),
+            step: 1,
+            part,
             item: 0,
             taken: Count::new(),
             choices: Count::new(),
@@ -290,6 +311,20 @@ impl<'a> CanonicalOctets<'a> {
             }
             self.skip_common(other);
         }
+    }
+}
+
+impl<'a> Iterator for CanonicalOctets<'a> {
+    type Item = u8;
+
+    ghost next_gives = { YieldsFirstBy (λ x. x) (λ c. c.octets) };
+
+    ghost remaining = { item_count (λ c. c.octets) };
+
+    /// The next octet, as the call of this name that is no trait's.
+    #[inline]
+    fn next(&mut self) -> Option<u8> {
+        CanonicalOctets::next(self)
     }
 }
 

@@ -1,10 +1,11 @@
 pub mod Addresses
-pub mod NumberLaws
-pub mod TextLists
-pub mod TextWrites
-pub mod Lacking
 pub mod FieldsBehind
-pub mod SoaValues
+pub mod Lacking
+pub mod NumberLaws
 pub mod NumberedLaws
+pub mod SoaValues
+pub mod TextLists
+pub mod TextOrders
+pub mod TextWrites
 pub mod Texts
 pub mod WordsBack

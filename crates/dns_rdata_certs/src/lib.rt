@@ -3,6 +3,7 @@
 
 pub mod cert;
 pub mod hexadecimal;
+pub mod order;
 pub mod smimea;
 pub mod sshfp;
 pub mod steps;

@@ -20,3 +20,4 @@ pub mod PieceSteps
 pub mod WordParameters
 pub mod OwnValues
 pub mod FieldOrder
+pub mod SvcbFronts

@@ -18,7 +18,7 @@ firsts (k ∷ ks) = ap (λ l. key_number k ∷ l) (firsts ks)
 apart : (v w : SvcParamValue) → value_key v ≡ value_key w → first_of (value_key v) ≡ first_of (value_key w)
 apart v w h = ap first_of h
 
-value_given : (v w : SvcParamValue) → value_key v ≡ value_key w → value_of v ≡ value_of w
+pub value_given : (v w : SvcParamValue) → value_key v ≡ value_key w → value_of v ≡ value_of w
 unfolding first_of
 value_given (variants.Mandatory x) (variants.Mandatory y) h = ap Mandatory (sym (firsts x.0) ∙ ap (λ l. map (λ s. get_or s 0 0) (drop 1 l)) h ∙ firsts y.0)
 value_given (variants.Mandatory x) w h = absurd (omega (arith, apart (variants.Mandatory x) w h))

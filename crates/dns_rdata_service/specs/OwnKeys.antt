@@ -43,7 +43,7 @@ a_same x y = and_true (pointwise nat_eq (a_octets x) (a_octets y))
 aaaa_same : (x y : AAAA) → values_eq aaaa_shape (aaaa_fields x) (aaaa_fields y) ≡ pointwise nat_eq (aaaa_octets x) (aaaa_octets y)
 aaaa_same x y = and_true (pointwise nat_eq (aaaa_octets x) (aaaa_octets y))
 
-value_same : (v w : SvcParamValue) → value_eq v w ≡ key_eq (value_key v) (value_key w)
+pub value_same : (v w : SvcParamValue) → value_eq v w ≡ key_eq (value_key v) (value_key w)
 value_same (variants.Mandatory x) (variants.Mandatory y) = pointwise_view (numbered_eq key_number key_variant) (pointwise nat_eq) key_numbers numbers_same
     x.0 y.0
 value_same (variants.Alpn x) (variants.Alpn y) = refl

@@ -3,6 +3,7 @@
 
 pub mod https;
 pub mod items;
+pub mod order;
 pub mod ordering;
 pub mod steps;
 pub mod svcb;

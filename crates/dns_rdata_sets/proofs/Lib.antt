@@ -1,15 +1,16 @@
 mod CaaReads
-pub mod CaaValues
-pub mod Numbers
-pub mod Blocks
-pub mod Windows
-pub mod SetWrites
-pub mod NextWindow
-pub mod WindowSteps
-pub mod Flags
-pub mod CsyncReads
-pub mod CsyncValues
 mod IssuerSteps
 mod Issuers
 mod Splitting
+pub mod Blocks
+pub mod CaaValues
+pub mod CsyncReads
+pub mod CsyncValues
+pub mod Flags
+pub mod NextWindow
+pub mod Numbers
+pub mod SetWrites
+pub mod WindowOrders
+pub mod WindowSteps
+pub mod Windows
 pub mod WordTypes

@@ -10,7 +10,7 @@ use Rattle.dns_rdata_sets.specs.declared.csync.CSYNC.{CSYNC}
 use Rattle.dns_rdata_sets.specs.Steps.{csync_left, csync_windows}
 use Rattle.dns_rdata_sets.proofs.SetWrites.{rises_drop, small_drop, windows_skip}
 
-set_drop : (v : List ℕ) (i : ℕ) → IsTypeSet v → IsTypeSet (drop i v)
+pub set_drop : (v : List ℕ) (i : ℕ) → IsTypeSet v → IsTypeSet (drop i v)
 set_drop v i s = record { rises = rises_drop i v s.rises; numbers = small_drop i v s.numbers }
 
 pub set_behind : (v : List ℕ) (i : ℕ) → IsTypeSet v → IsTypeSet (take (length v - i) (drop i v))

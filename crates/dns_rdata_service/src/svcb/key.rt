@@ -94,7 +94,7 @@ impl SvcParamKey {
 
     // The place in the declaration.
     #[inline]
-    fn variant(self) -> u8
+    pub(crate) fn variant(self) -> u8
         ensures { result ≡ key_variant self }
     {
         match self {

@@ -1,0 +1,186 @@
+-- Canonical octets are ordered field by field.
+use Rattle.std.proofs.Common.{◌≡◌, ◌≢◌, ℕ, ◌+◌, ◌-◌, ◌<◌, ◌≤◌, ◌^◌, List, [], ◌∷◌, ◌++◌, length, take, drop, map, refl, sym, ap, ◌∙◌, arith, append_assoc}
+use Rattle.std.proofs.lemmas.List.{append-nil, length-map, take-append-drop}
+use Rattle.std.specs.Int.{bytes_high_first}
+use Rattle.std.specs.Char.{to_ascii_lowercase}
+use Rattle.std.specs.Cmp.{ranks}
+use Rattle.std.specs.Cmp.Lexicographic.{slice_cmp}
+use Rattle.std.specs.Ordering.{MatchOrdering, nat_cmp, ordering_then}
+use Rattle.std.specs.declared.cmp.Ordering.{Ordering}
+use Rattle.std.specs.declared.cmp.Ordering.TheVariants.{Less, Equal, Greater}
+use Rattle.dns_fields.specs.Fields.{Kind, Number, Octets, Name, Text, Texts, Rest, Options, Parameters, Bitmap, Value, Values, field_octets, canonical}
+use Rattle.dns_fields.specs.Labels.{AreLabels, lowered}
+use Rattle.dns_fields.proofs.Numbers.{number_cmp, length-bytes}
+use Rattle.dns_pieces.specs.Fronts.{canonical_cmp}
+use Rattle.dns_pieces.proofs.Comparing.{cmp_shared, then_assoc, then_equal, then_kept, apart}
+use Rattle.dns_pieces.proofs.Sharing.{whole, same_further}
+
+tied : (x y : ℕ) → nat_cmp x y ≡ Equal → x ≡ y
+tied x y e = by (nat_cmp x y) (ranks x y) e
+  where
+    by : (o : Ordering) → MatchOrdering o (x < y) (x ≡ y) (y < x) → o ≡ Equal → x ≡ y
+    by Less h e = cc e
+    by Equal h e = h
+    by Greater h e = cc e
+
+-- what comes behind matters only where the first are equal
+behind : (o s t u : Ordering) → (o ≡ Equal → s ≡ ordering_then t u) → ordering_then o s ≡ ordering_then (ordering_then o t) u
+behind Less s t u h = refl
+behind Equal s t u h = h refl
+behind Greater s t u h = refl
+
+-- as many octets in front of others
+front_then : (p q x y : List ℕ) → length p ≡ length q → slice_cmp nat_cmp (p ++ x) (q ++ y) ≡ ordering_then (slice_cmp nat_cmp p q) (slice_cmp nat_cmp x y)
+front_then [] [] x y h = refl
+front_then [] (b ∷ q) x y h = absurd (omega arith)
+front_then (a ∷ p) [] x y h = absurd (omega arith)
+front_then (a ∷ p) (b ∷ q) x y h =
+    behind (nat_cmp a b) (slice_cmp nat_cmp (p ++ x) (q ++ y)) (slice_cmp nat_cmp p q) (slice_cmp nat_cmp x y) (λ _. front_then p q x y (omega arith))
+
+-- an octet that tells how many come next
+pub sized_then : (n m : ℕ) (p q x y : List ℕ) → (n ≡ m → length p ≡ length q)
+    → slice_cmp nat_cmp (n ∷ (p ++ x)) (m ∷ (q ++ y)) ≡ ordering_then (slice_cmp nat_cmp (n ∷ p) (m ∷ q)) (slice_cmp nat_cmp x y)
+sized_then n m p q x y h =
+    behind (nat_cmp n m) (slice_cmp nat_cmp (p ++ x) (q ++ y)) (slice_cmp nat_cmp p q) (slice_cmp nat_cmp x y) (λ e. front_then p q x y (h (tied n m e)))
+
+labels_then : (a b : List (List ℕ)) (x y : List ℕ) → AreLabels a → AreLabels b
+    → slice_cmp nat_cmp (lowered a ++ x) (lowered b ++ y) ≡ ordering_then (slice_cmp nat_cmp (lowered a) (lowered b)) (slice_cmp nat_cmp x y)
+labels_then [] [] x y h k = refl
+labels_then [] (m ∷ b) x y h k = first (length m) (map to_ascii_lowercase m ++ lowered b) k.0.0
+  where
+    first : (n : ℕ) (q : List ℕ) → 1 ≤ n → slice_cmp nat_cmp (0 ∷ x) (n ∷ (q ++ y)) ≡ ordering_then (slice_cmp nat_cmp (0 ∷ []) (n ∷ q)) (slice_cmp nat_cmp x y)
+    first n q h = sized_then 0 n [] q x y (λ e. absurd (omega (arith, e, h)))
+labels_then (l ∷ a) [] x y h k = first (length l) (map to_ascii_lowercase l ++ lowered a) h.0.0
+  where
+    first : (n : ℕ) (p : List ℕ) → 1 ≤ n → slice_cmp nat_cmp (n ∷ (p ++ x)) (0 ∷ y) ≡ ordering_then (slice_cmp nat_cmp (n ∷ p) (0 ∷ [])) (slice_cmp nat_cmp x y)
+    first n p h = sized_then n 0 p [] x y (λ e. absurd (omega (arith, e, h)))
+labels_then (l ∷ a) (m ∷ b) x y h k =
+    let f = map to_ascii_lowercase in
+    let whole : slice_cmp nat_cmp (lowered (l ∷ a) ++ x) (lowered (m ∷ b) ++ y)
+    ≡ ordering_then (slice_cmp nat_cmp (length l ∷ f l) (length m ∷ f m)) (slice_cmp nat_cmp (lowered a ++ x) (lowered b ++ y)) =
+    rw (append_assoc (f l) (lowered a) x, append_assoc (f m) (lowered b) y)
+    (sized_then (length l) (length m) (f l) (f m) (lowered a ++ x) (lowered b ++ y) (λ e. length-map l to_ascii_lowercase ∙ e ∙ sym (length-map m to_ascii_lowercase))) in
+    whole
+    ∙ ap (λ (o : Ordering). ordering_then (slice_cmp nat_cmp (length l ∷ f l) (length m ∷ f m)) o) (labels_then a b x y h.1 k.1)
+    ∙ sym (then_assoc (slice_cmp nat_cmp (length l ∷ f l) (length m ∷ f m)) (slice_cmp nat_cmp (lowered a) (lowered b)) (slice_cmp nat_cmp x y))
+    ∙ ap (λ (o : Ordering). ordering_then o (slice_cmp nat_cmp x y)) (sym (sized_then (length l) (length m) (f l) (f m) (lowered a) (lowered b) (λ e. length-map l to_ascii_lowercase ∙ e ∙ sym (length-map m to_ascii_lowercase))))
+
+-- ---- of fields
+
+-- by one field
+abbrev pub field_cmp : (k : Kind) → Value k → Value k → Ordering
+field_cmp k a b = slice_cmp nat_cmp (field_octets k a) (field_octets k b)
+
+-- behind fields that were compared so
+abbrev pub fields_cmp : Ordering → (kinds : List Kind) → Values kinds → Values kinds → Ordering
+fields_cmp o [] a b = o
+fields_cmp o (k ∷ kinds) a b = fields_cmp (ordering_then o (field_cmp k a.0 b.0)) kinds a.1 b.1
+
+-- octets of which none are the beginning of others
+abbrev pub Ends : (k : Kind) → Value k → Value k → List Kind → Type 0
+Ends (Number w) a b kinds = Unit {0}
+Ends (Octets n) a b kinds = length a ≡ length b
+Ends Text a b kinds = Unit {0}
+Ends Name a b kinds = AreLabels a.labels × AreLabels b.labels
+Ends k a b [] = Unit {0}
+Ends k a b (j ∷ kinds) = ⊥
+
+abbrev pub AllEnd : (kinds : List Kind) → Values kinds → Values kinds → Type 0
+AllEnd [] a b = Unit {0}
+AllEnd (k ∷ kinds) a b = Ends k a.0 b.0 kinds × AllEnd kinds a.1 b.1
+
+ends_alone : (p q : List ℕ) → slice_cmp nat_cmp (p ++ []) (q ++ []) ≡ ordering_then (slice_cmp nat_cmp p q) Equal
+ends_alone p q = rw (append-nil p, append-nil q) (sym (then_equal (slice_cmp nat_cmp p q)))
+
+field_then : (k : Kind) (a b : Value k) (kinds : List Kind) (x y : Values kinds) → Ends k a b kinds
+    → canonical_cmp (k ∷ kinds) (a, x) (b, y) ≡ ordering_then (field_cmp k a b) (canonical_cmp kinds x y)
+unfolding field_octets
+field_then (Number w) a b kinds x y h =
+    front_then (bytes_high_first w a) (bytes_high_first w b) (canonical kinds x) (canonical kinds y) (length-bytes w a ∙ sym (length-bytes w b))
+field_then (Octets n) a b kinds x y h = front_then a b (canonical kinds x) (canonical kinds y) h
+field_then Name a b kinds x y h = labels_then a.labels b.labels (canonical kinds x) (canonical kinds y) h.0 h.1
+field_then Text a b kinds x y h = sized_then (length a) (length b) a b (canonical kinds x) (canonical kinds y) (λ e. e)
+field_then Texts a b [] x y h = ends_alone (field_octets Texts a) (field_octets Texts b)
+field_then Texts a b (j ∷ kinds) x y h = absurd h
+field_then Rest a b [] x y h = ends_alone a b
+field_then Rest a b (j ∷ kinds) x y h = absurd h
+field_then Options a b [] x y h = ends_alone (field_octets Options a) (field_octets Options b)
+field_then Options a b (j ∷ kinds) x y h = absurd h
+field_then Parameters a b [] x y h = ends_alone (field_octets Parameters a) (field_octets Parameters b)
+field_then Parameters a b (j ∷ kinds) x y h = absurd h
+field_then Bitmap a b [] x y h = ends_alone (field_octets Bitmap a) (field_octets Bitmap b)
+field_then Bitmap a b (j ∷ kinds) x y h = absurd h
+
+fields_behind : (o : Ordering) (kinds : List Kind) (a b : Values kinds) → AllEnd kinds a b → fields_cmp o kinds a b ≡ ordering_then o (canonical_cmp kinds a b)
+fields_behind o [] a b h = sym (then_equal o)
+fields_behind o (k ∷ kinds) a b h =
+    fields_behind (ordering_then o (field_cmp k a.0 b.0)) kinds a.1 b.1 h.1
+    ∙ then_assoc o (field_cmp k a.0 b.0) (canonical_cmp kinds a.1 b.1)
+    ∙ ap (λ (t : Ordering). ordering_then o t) (sym (field_then k a.0 b.0 kinds a.1 b.1 h.0))
+
+-- compared field by field, they are compared by their canonical octets
+pub by_fields : (kinds : List Kind) (a b : Values kinds) → AllEnd kinds a b → fields_cmp Equal kinds a b ≡ canonical_cmp kinds a b
+by_fields kinds a b h = fields_behind Equal kinds a b h
+
+-- one field alone
+pub alone : (k : Kind) (a b : Value k) → field_cmp k a b ≡ canonical_cmp (k ∷ []) (a, tt) (b, tt)
+alone k a b = sym (ends_alone (field_octets k a) (field_octets k b) ∙ then_equal (field_cmp k a b))
+
+-- ---- octets compared by eight at a time
+
+-- behind octets that are the same
+pub cmp_behind : (n : ℕ) (a b : List ℕ) → take n a ≡ take n b → slice_cmp nat_cmp a b ≡ slice_cmp nat_cmp (drop n a) (drop n b)
+cmp_behind n a b e = cmp_shared {n = length (take n a)} record {
+  shared = take n a;
+  count = refl;
+  left = sym (take-append-drop n a);
+  right = sym (take-append-drop n b) ∙ ap (λ (t : List ℕ). t ++ drop n b) (sym e);
+}
+
+pub halves : (n : ℕ) (a b : List ℕ) → length (take n a) ≡ length (take n b)
+    → slice_cmp nat_cmp a b ≡ ordering_then (slice_cmp nat_cmp (take n a) (take n b)) (slice_cmp nat_cmp (drop n a) (drop n b))
+halves n a b e =
+    ap (λ (t : List ℕ). slice_cmp nat_cmp t b) (sym (take-append-drop n a))
+    ∙ ap (λ (t : List ℕ). slice_cmp nat_cmp (take n a ++ drop n a) t) (sym (take-append-drop n b))
+    ∙ front_then (take n a) (take n b) (drop n a) (drop n b) e
+
+-- where the next eight octets of both are those of two numbers, these decide if they differ
+pub words_differ : (n x y : ℕ) (a b : List ℕ) → n + 8 ≤ length a → n + 8 ≤ length b → take n a ≡ take n b → x < 2 ^ 64 → y < 2 ^ 64
+    → bytes_high_first 8 x ≡ take ((n + 8) - n) (drop n a) → bytes_high_first 8 y ≡ take ((n + 8) - n) (drop n b) → x ≢ y → nat_cmp x y ≡ slice_cmp nat_cmp a b
+words_differ n x y a b h k same p q e f apt =
+    let few : (n + 8) - n ≡ 8 = omega arith in
+    let e' : bytes_high_first 8 x ≡ take 8 (drop n a) = e ∙ ap (λ (j : ℕ). take j (drop n a)) few in
+    let f' : bytes_high_first 8 y ≡ take 8 (drop n b) = f ∙ ap (λ (j : ℕ). take j (drop n b)) few in
+    let lens : length (take 8 (drop n a)) ≡ length (take 8 (drop n b)) =
+    ap length (sym e') ∙ length-bytes 8 x ∙ sym (length-bytes 8 y) ∙ ap length f' in
+    let rest : Ordering = slice_cmp nat_cmp (drop 8 (drop n a)) (drop 8 (drop n b)) in
+    let first : slice_cmp nat_cmp (take 8 (drop n a)) (take 8 (drop n b)) ≡ nat_cmp x y = rw (← e', ← f') (number_cmp 8 x y p q) in
+    sym (cmp_behind n a b same
+    ∙ halves 8 (drop n a) (drop n b) lens
+    ∙ ap (λ (o : Ordering). ordering_then o rest) first
+    ∙ sym (then_kept (nat_cmp x y) rest (apart x y apt)))
+
+-- and if they do not, what comes behind them
+pub words_same : (n x y : ℕ) (a b : List ℕ) → take n a ≡ take n b
+    → bytes_high_first 8 x ≡ take ((n + 8) - n) (drop n a) → bytes_high_first 8 y ≡ take ((n + 8) - n) (drop n b) → x ≡ y → take (n + 8) a ≡ take (n + 8) b
+words_same n x y a b same e f h = same_further n (n + 8) a b (omega arith) same (sym e ∙ ap (bytes_high_first 8) h ∙ f)
+
+pub cmp_rest : (n : ℕ) (a b : List ℕ) → take n a ≡ take n b
+    → slice_cmp nat_cmp (take (length a - n) (drop n a)) (take (length b - n) (drop n b)) ≡ slice_cmp nat_cmp a b
+cmp_rest n a b same = rw (whole n a, whole n b) (sym (cmp_behind n a b same))
+
+-- a string's length comes first
+pub text_then : (o l r c : Ordering) (n m : ℕ) (a b : List ℕ) → c ≡ nat_cmp n m → n ≡ length a → m ≡ length b → l ≡ ordering_then o c → r ≡ ordering_then l (slice_cmp nat_cmp a b)
+    → r ≡ ordering_then o (slice_cmp nat_cmp (field_octets Text a) (field_octets Text b))
+unfolding field_octets
+text_then o l r c n m a b e p q f g = g ∙ rw (f, e, p, q) (then_assoc o (nat_cmp (length a) (length b)) (slice_cmp nat_cmp a b))
+
+-- a number's octets are ordered as the number
+pub number_then : (w a b : ℕ) (o r c : Ordering) → a < 256 ^ w → b < 256 ^ w → r ≡ ordering_then o c → c ≡ nat_cmp a b
+    → r ≡ ordering_then o (slice_cmp nat_cmp (field_octets (Number w) a) (field_octets (Number w) b))
+unfolding field_octets
+number_then w a b o r c p q e f = e ∙ rw (f, number_cmp w a b p q) refl
+
+-- what was compared before may be given otherwise
+pub also : {r : Ordering} (p o t : Ordering) → r ≡ ordering_then p t → p ≡ o → r ≡ ordering_then o t
+also {r} p o t e f = e ∙ ap (λ (q : Ordering). ordering_then q t) f

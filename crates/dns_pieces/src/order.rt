@@ -1,0 +1,107 @@
+//! Canonical octets compared field by field, without a cursor.
+
+ghost use Rattle.std.specs.Prelude.{◌≡◌, ◌<◌, ◌≤◌, ◌^◌, length};
+ghost use Rattle.std.specs.Cmp.Lexicographic.{slice_cmp};
+ghost use Rattle.std.specs.Int.{bytes_high_first};
+ghost use Rattle.std.specs.Ordering.{nat_cmp, ordering_then};
+ghost use Rattle.dns_fields.specs.Fields.{Name as NameKind, Number, Rest, Text, field_octets};
+ghost use Rattle.dns_fields.specs.Labels.{AreLabels};
+
+use crate::tail::Tail;
+use dns_names_wire::{Name, Octets};
+use std::cmp::Ordering;
+
+/// By the first octet that differs, a proper beginning before what goes on: what `cmp` of slices answers, quicker.
+#[inline]
+pub fn octets_cmp(a: &[u8], b: &[u8]) -> Ordering
+    ensures { result ≡ slice_cmp nat_cmp a.now b.now }
+{
+    let shorter = a.len().min(b.len());
+    let mut at = 0usize;
+    'words: while at + 8 <= shorter {
+        let x = word(&a[at..at + 8]);
+        let y = word(&b[at..at + 8]);
+        if x != y {
+            return x.cmp(&y);
+        }
+        at += 8;
+    }
+    a[at..].cmp(&b[at..])
+}
+
+// Eight octets as one number, the first the highest.
+#[inline]
+fn word(octets: &[u8]) -> u64
+    requires { length octets.now ≡ 8 }
+    ensures { bytes_high_first 8 result ≡ octets.now }
+{
+    u64::from_be_bytes([
+        octets[0], octets[1], octets[2], octets[3], octets[4], octets[5], octets[6], octets[7],
+    ])
+}
+
+/// The same, behind octets that were compared so.
+#[inline]
+pub fn slices_behind(first: Ordering, a: &[u8], b: &[u8]) -> Ordering
+    ensures { result ≡ ordering_then first (slice_cmp nat_cmp a.now b.now) }
+{
+    if first.is_ne() {
+        return first;
+    }
+    octets_cmp(a, b)
+}
+
+/// A number of one octet, behind fields that were compared so.
+#[inline]
+pub fn one_behind(first: Ordering, a: u8, b: u8) -> Ordering
+    ensures { result ≡ ordering_then first (slice_cmp nat_cmp (field_octets (Number 1) a) (field_octets (Number 1) b)) }
+{
+    first.then(a.cmp(&b))
+}
+
+/// A number of two octets, behind fields that were compared so.
+#[inline]
+pub fn two_behind(first: Ordering, a: u16, b: u16) -> Ordering
+    ensures { result ≡ ordering_then first (slice_cmp nat_cmp (field_octets (Number 2) a) (field_octets (Number 2) b)) }
+{
+    first.then(a.cmp(&b))
+}
+
+/// A number of four octets, behind fields that were compared so.
+#[inline]
+pub fn four_behind(first: Ordering, a: u32, b: u32) -> Ordering
+    ensures { result ≡ ordering_then first (slice_cmp nat_cmp (field_octets (Number 4) a) (field_octets (Number 4) b)) }
+{
+    first.then(a.cmp(&b))
+}
+
+/// A character string, behind fields that were compared so: its length is its first octet.
+#[inline]
+pub fn text_behind(first: Ordering, a: &Octets, b: &Octets) -> Ordering
+    ensures { result ≡ ordering_then first (slice_cmp nat_cmp (field_octets Text a.now) (field_octets Text b.now)) }
+{
+    let lengths = first.then(a.len().cmp(&b.len()));
+    slices_behind(lengths, a.as_slice(), b.as_slice())
+}
+
+/// Octets that go on to the end, behind fields that were compared so.
+#[inline]
+#[tactic(auto, unfolding(dns_fields::specs::Fields::field_octets))]
+pub fn rest_behind(first: Ordering, a: &Octets, b: &Octets) -> Ordering
+    ensures { result ≡ ordering_then first (slice_cmp nat_cmp (field_octets Rest a.now) (field_octets Rest b.now)) }
+{
+    slices_behind(first, a.as_slice(), b.as_slice())
+}
+
+/// A name, behind fields that were compared so.
+#[inline]
+pub fn name_behind(first: Ordering, a: &Name, b: &Name) -> Ordering
+    ensures order { result ≡ ordering_then first (slice_cmp nat_cmp (field_octets NameKind a.now) (field_octets NameKind b.now)) }
+    ensures labels { AreLabels a.now.labels × AreLabels b.now.labels }
+{
+    let _ = (a.len(), b.len());
+    if first.is_ne() {
+        return first;
+    }
+    Tail::name(a).compare(&mut Tail::name(b))
+}

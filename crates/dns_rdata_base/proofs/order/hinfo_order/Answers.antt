@@ -1,0 +1,7 @@
+use Rattle.std.proofs.Common.{◌∙◌}
+use Rattle.dns_pieces.proofs.Fronts.{also, by_fields}
+use Rattle.dns_rdata_base.specs.HINFO.{hinfo_shape, hinfo_fields}
+use Rattle.dns_rdata_base.proofs.order.hinfo_order.Goals as goal
+
+pub returns : goal.returns
+returns c = also _ _ _ c.text_behind.ensures c.text_behind-cpu.ensures ∙ by_fields hinfo_shape (hinfo_fields c.args.a.now) (hinfo_fields c.args.b.now) (tt, (tt, tt))

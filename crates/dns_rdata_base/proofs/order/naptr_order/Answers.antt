@@ -1,0 +1,10 @@
+use Rattle.std.proofs.Common.{◌∙◌}
+use Rattle.dns_pieces.proofs.Fronts.{also, by_fields}
+use Rattle.dns_rdata_base.specs.NAPTR.{naptr_shape, naptr_fields}
+use Rattle.dns_rdata_base.proofs.order.naptr_order.Goals as goal
+
+pub returns : goal.returns
+returns c =
+    also _ _ _ c.name_behind.ensures.order (also _ _ _ c.text_behind-regexp.ensures (also _ _ _ c.text_behind-services.ensures (also _ _ _ c.text_behind-flags.ensures
+    (also _ _ _ c.two_behind-preference.ensures c.two_behind-order.ensures))))
+    ∙ by_fields naptr_shape (naptr_fields c.args.a.now) (naptr_fields c.args.b.now) (tt, (tt, (tt, (tt, (tt, (c.name_behind.ensures.labels, tt))))))
