@@ -1,5 +1,5 @@
 -- Values that were read are ordered by their canonical octets.
-use Rattle.std.proofs.Common.{◌≡◌, Bool, true, false, true≢false, sym, ◌∙◌, refl}
+use Rattle.std.proofs.Common.{◌≡◌, Bool, true, true≢false, sym, ◌∙◌, refl}
 use Rattle.std.specs.Ordering.{nat_cmp, ordering_then, is_ne}
 use Rattle.std.specs.Cmp.Lexicographic.{slice_cmp}
 use Rattle.std.specs.FinMap.{nat_cmp-IsAntisymmetric, slice_cmp-IsAntisymmetric}
@@ -37,9 +37,3 @@ pub decided : (o q r : Ordering) → is_ne o ≡ true → r ≡ ordering_then o 
 decided Less q r h e = sym e
 decided Equal q r h e = absurd (true≢false (sym h))
 decided Greater q r h e = sym e
-
--- and what is not, by what comes behind
-pub undecided : (o q r : Ordering) → is_ne o ≡ false → r ≡ ordering_then o q → q ≡ r
-undecided Less q r h e = absurd (true≢false h)
-undecided Equal q r h e = sym e
-undecided Greater q r h e = absurd (true≢false h)
