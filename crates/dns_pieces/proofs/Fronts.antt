@@ -1,9 +1,9 @@
 -- Canonical octets are ordered field by field.
 use Rattle.std.proofs.Common.{◌≡◌, ◌≢◌, ℕ, ◌+◌, ◌-◌, ◌<◌, ◌≤◌, ◌^◌, List, [], ◌∷◌, ◌++◌, length, take, drop, map, refl, sym, ap, ◌∙◌, arith, append_assoc}
-use Rattle.std.proofs.lemmas.List.{append-nil, length-map, take-append-drop}
+use Rattle.std.proofs.lemmas.List.{append-nil, drop-drop, length-drop, length-map, take-append-drop, take-take}
 use Rattle.std.specs.Int.{bytes_high_first}
 use Rattle.std.specs.Char.{to_ascii_lowercase}
-use Rattle.std.specs.Cmp.{ranks}
+use Rattle.std.specs.Cmp.{nat_cmp_is, ranks}
 use Rattle.std.specs.Cmp.Lexicographic.{slice_cmp}
 use Rattle.std.specs.Ordering.{MatchOrdering, nat_cmp, ordering_then}
 use Rattle.std.specs.declared.cmp.Ordering.{Ordering}
@@ -13,7 +13,7 @@ use Rattle.dns_fields.specs.Labels.{AreLabels, lowered}
 use Rattle.dns_fields.proofs.Numbers.{number_cmp, length-bytes}
 use Rattle.dns_pieces.specs.Fronts.{canonical_cmp}
 use Rattle.dns_pieces.proofs.Comparing.{cmp_shared, then_assoc, then_equal, then_kept, apart}
-use Rattle.dns_pieces.proofs.Sharing.{whole, same_further}
+use Rattle.dns_pieces.proofs.Sharing.{same_further}
 
 tied : (x y : ℕ) → nat_cmp x y ≡ Equal → x ≡ y
 tied x y e = by (nat_cmp x y) (ranks x y) e
@@ -144,30 +144,47 @@ halves n a b e =
     ∙ ap (λ (t : List ℕ). slice_cmp nat_cmp (take n a ++ drop n a) t) (sym (take-append-drop n b))
     ∙ front_then (take n a) (take n b) (drop n a) (drop n b) e
 
--- where the next eight octets of both are those of two numbers, these decide if they differ
-pub words_differ : (n x y : ℕ) (a b : List ℕ) → n + 8 ≤ length a → n + 8 ≤ length b → take n a ≡ take n b → x < 2 ^ 64 → y < 2 ^ 64
-    → bytes_high_first 8 x ≡ take ((n + 8) - n) (drop n a) → bytes_high_first 8 y ≡ take ((n + 8) - n) (drop n b) → x ≢ y → nat_cmp x y ≡ slice_cmp nat_cmp a b
-words_differ n x y a b h k same p q e f apt =
-    let few : (n + 8) - n ≡ 8 = omega arith in
-    let e' : bytes_high_first 8 x ≡ take 8 (drop n a) = e ∙ ap (λ (j : ℕ). take j (drop n a)) few in
-    let f' : bytes_high_first 8 y ≡ take 8 (drop n b) = f ∙ ap (λ (j : ℕ). take j (drop n b)) few in
-    let lens : length (take 8 (drop n a)) ≡ length (take 8 (drop n b)) =
-    ap length (sym e') ∙ length-bytes 8 x ∙ sym (length-bytes 8 y) ∙ ap length f' in
-    let rest : Ordering = slice_cmp nat_cmp (drop 8 (drop n a)) (drop 8 (drop n b)) in
-    let first : slice_cmp nat_cmp (take 8 (drop n a)) (take 8 (drop n b)) ≡ nat_cmp x y = rw (← e', ← f') (number_cmp 8 x y p q) in
-    sym (cmp_behind n a b same
-    ∙ halves 8 (drop n a) (drop n b) lens
-    ∙ ap (λ (o : Ordering). ordering_then o rest) first
-    ∙ sym (then_kept (nat_cmp x y) rest (apart x y apt)))
+-- where the octets from n to m of both are those of two numbers, these are compared, and then what is behind them
+words_then : (w n m x y : ℕ) (a b : List ℕ) → n ≤ m → m - n ≡ w → take n a ≡ take n b → x < 256 ^ w → y < 256 ^ w
+    → bytes_high_first w x ≡ take (m - n) (drop n a) → bytes_high_first w y ≡ take (m - n) (drop n b)
+    → slice_cmp nat_cmp a b ≡ ordering_then (nat_cmp x y) (slice_cmp nat_cmp (drop m a) (drop m b))
+words_then w n m x y a b h few same p q e f =
+    let lens : length (take (m - n) (drop n a)) ≡ length (take (m - n) (drop n b)) = ap length (sym e) ∙ length-bytes w x ∙ sym (length-bytes w y) ∙ ap length f in
+    let first : slice_cmp nat_cmp (take (m - n) (drop n a)) (take (m - n) (drop n b)) ≡ nat_cmp x y = rw (← e, ← f) (number_cmp w x y p q) in
+    let past : n + (m - n) ≡ m = omega arith in
+    cmp_behind n a b same
+    ∙ halves (m - n) (drop n a) (drop n b) lens
+    ∙ ap (λ (o : Ordering). ordering_then o (slice_cmp nat_cmp (drop (m - n) (drop n a)) (drop (m - n) (drop n b)))) first
+    ∙ ap (ordering_then (nat_cmp x y)) (rw (drop-drop (m - n) n a, drop-drop (m - n) n b, past) refl)
+
+-- they decide if they differ
+pub words_differ : (w n m x y : ℕ) (a b : List ℕ) → n ≤ m → m - n ≡ w → take n a ≡ take n b → x < 256 ^ w → y < 256 ^ w
+    → bytes_high_first w x ≡ take (m - n) (drop n a) → bytes_high_first w y ≡ take (m - n) (drop n b) → x ≢ y → nat_cmp x y ≡ slice_cmp nat_cmp a b
+words_differ w n m x y a b h few same p q e f apt =
+    then_kept (nat_cmp x y) (slice_cmp nat_cmp (drop m a) (drop m b)) (apart x y apt) ∙ sym (words_then w n m x y a b h few same p q e f)
 
 -- and if they do not, what comes behind them
-pub words_same : (n x y : ℕ) (a b : List ℕ) → take n a ≡ take n b
-    → bytes_high_first 8 x ≡ take ((n + 8) - n) (drop n a) → bytes_high_first 8 y ≡ take ((n + 8) - n) (drop n b) → x ≡ y → take (n + 8) a ≡ take (n + 8) b
-words_same n x y a b same e f h = same_further n (n + 8) a b (omega arith) same (sym e ∙ ap (bytes_high_first 8) h ∙ f)
+pub words_same : (w n m x y : ℕ) (a b : List ℕ) → n ≤ m → take n a ≡ take n b
+    → bytes_high_first w x ≡ take (m - n) (drop n a) → bytes_high_first w y ≡ take (m - n) (drop n b) → x ≡ y → take m a ≡ take m b
+words_same w n m x y a b h same e f t = same_further n m a b h same (sym e ∙ ap (bytes_high_first w) t ∙ f)
 
-pub cmp_rest : (n : ℕ) (a b : List ℕ) → take n a ≡ take n b
-    → slice_cmp nat_cmp (take (length a - n) (drop n a)) (take (length b - n) (drop n b)) ≡ slice_cmp nat_cmp a b
-cmp_rest n a b same = rw (whole n a, whole n b) (sym (cmp_behind n a b same))
+-- what begins the same begins the same with fewer
+pub fewer_same : (n m : ℕ) (a b : List ℕ) → n ≤ m → take m a ≡ take m b → take n a ≡ take n b
+fewer_same n m a b h same = sym (take-take n m a h) ∙ ap (take n) same ∙ take-take n m b h
+
+ends_cmp : (s t : List ℕ) (m n k : ℕ) → n ≡ m + length s → k ≡ m + length t → (m < n → k ≤ m) → nat_cmp n k ≡ slice_cmp nat_cmp s t
+ends_cmp [] [] m n k e f h = sym (nat_cmp_is n k Equal (omega (arith, e, f)))
+ends_cmp [] (y ∷ t) m n k e f h = sym (nat_cmp_is n k Less (omega (arith, e, f)))
+ends_cmp (x ∷ s) [] m n k e f h = sym (nat_cmp_is n k Greater (omega (arith, e, f)))
+ends_cmp (x ∷ s) (y ∷ t) m n k e f h = absurd (omega (arith, f, h (omega (arith, e))))
+
+-- where one ends behind them, they decide and then the lengths
+pub last_words : (w n m x y : ℕ) (a b : List ℕ) → n ≤ m → m - n ≡ w → take n a ≡ take n b → x < 256 ^ w → y < 256 ^ w
+    → bytes_high_first w x ≡ take (m - n) (drop n a) → bytes_high_first w y ≡ take (m - n) (drop n b)
+    → m ≤ length a → m ≤ length b → (m < length a → length b ≤ m) → ordering_then (nat_cmp x y) (nat_cmp (length a) (length b)) ≡ slice_cmp nat_cmp a b
+last_words w n m x y a b h few same p q e f la lb end =
+    ap (ordering_then (nat_cmp x y)) (ends_cmp (drop m a) (drop m b) m (length a) (length b) (omega (arith, length-drop m a)) (omega (arith, length-drop m b)) end)
+    ∙ sym (words_then w n m x y a b h few same p q e f)
 
 -- a string's length comes first
 pub text_then : (o l r c : Ordering) (n m : ℕ) (a b : List ℕ) → c ≡ nat_cmp n m → n ≡ length a → m ≡ length b → l ≡ ordering_then o c → r ≡ ordering_then l (slice_cmp nat_cmp a b)

@@ -1,6 +1,6 @@
 //! Canonical octets compared field by field, without a cursor.
 
-ghost use Rattle.std.specs.Prelude.{◌≡◌, ◌<◌, ◌≤◌, ◌^◌, length};
+ghost use Rattle.std.specs.Prelude.{◌≡◌, ◌<◌, ◌≤◌, ◌^◌, ◌⊎◌, length};
 ghost use Rattle.std.specs.Cmp.Lexicographic.{slice_cmp};
 ghost use Rattle.std.specs.Int.{bytes_high_first};
 ghost use Rattle.std.specs.Ordering.{nat_cmp, ordering_then};
@@ -17,8 +17,11 @@ pub fn octets_cmp(a: &[u8], b: &[u8]) -> Ordering
     ensures { result ≡ slice_cmp nat_cmp a.now b.now }
 {
     let shorter = a.len().min(b.len());
+    if shorter < 8 {
+        return few_cmp(a, b);
+    }
     let mut at = 0usize;
-    'words: while at + 8 <= shorter {
+    'words: while at + 8 < shorter {
         let x = word(&a[at..at + 8]);
         let y = word(&b[at..at + 8]);
         if x != y {
@@ -26,7 +29,30 @@ pub fn octets_cmp(a: &[u8], b: &[u8]) -> Ordering
         }
         at += 8;
     }
-    a[at..].cmp(&b[at..])
+    // the last eight, of which some are known to be the same
+    let x = word(&a[shorter - 8..shorter]);
+    let y = word(&b[shorter - 8..shorter]);
+    x.cmp(&y).then(a.len().cmp(&b.len()))
+}
+
+// The same where the shorter has less than eight: its first four, and its last four, of which some may be known.
+#[inline]
+fn few_cmp(a: &[u8], b: &[u8]) -> Ordering
+    requires { (length a.now < 8) ⊎ (length b.now < 8) }
+    ensures { result ≡ slice_cmp nat_cmp a.now b.now }
+{
+    let shorter = a.len().min(b.len());
+    if shorter < 4 {
+        return a.cmp(b);
+    }
+    let x = half(&a[..4]);
+    let y = half(&b[..4]);
+    if x != y {
+        return x.cmp(&y);
+    }
+    let x = half(&a[shorter - 4..shorter]);
+    let y = half(&b[shorter - 4..shorter]);
+    x.cmp(&y).then(a.len().cmp(&b.len()))
 }
 
 // Eight octets as one number, the first the highest.
@@ -38,6 +64,15 @@ fn word(octets: &[u8]) -> u64
     u64::from_be_bytes([
         octets[0], octets[1], octets[2], octets[3], octets[4], octets[5], octets[6], octets[7],
     ])
+}
+
+// Four octets as one number, the first the highest.
+#[inline]
+fn half(octets: &[u8]) -> u32
+    requires { length octets.now ≡ 4 }
+    ensures { bytes_high_first 4 result ≡ octets.now }
+{
+    u32::from_be_bytes([octets[0], octets[1], octets[2], octets[3]])
 }
 
 /// The same, behind octets that were compared so.
