@@ -1,5 +1,6 @@
 pub mod ChoiceSteps
 pub mod Codes
+pub mod Differences
 pub mod InOrder
 pub mod Least
 pub mod NetTexts
@@ -9,6 +10,8 @@ pub mod OptionLists
 pub mod OptionLoops
 pub mod OptionValues
 pub mod Pairs
+pub mod Parting
+pub mod PieceOrder
 pub mod Refusals
 pub mod Selection
 pub mod Subnets

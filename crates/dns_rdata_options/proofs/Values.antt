@@ -109,7 +109,7 @@ code_again codes.Padding = refl
 code_again codes.Chain = refl
 code_again (codes.Unknown n) = refl
 
-code_decides : (a b : EdnsCode) → Decides (code_eq a b) (a ≡ b)
+pub code_decides : (a b : EdnsCode) → Decides (code_eq a b) (a ≡ b)
 code_decides a b = told (code_eq a b) (both _ _ (unsigned_Decides (edns_code_number a) (edns_code_number b))
     (unsigned_Decides (edns_code_variant a) (edns_code_variant b)))
     (λ h. sym (code_again a) ∙ (λ i. code_back (h.0 i) (h.1 i)) ∙ code_again b, λ e. (ap edns_code_number e, ap edns_code_variant e))
@@ -134,7 +134,7 @@ subnet_within (edns.Subnet x) y = x
 subnet_within (edns.NSID s) y = y
 subnet_within (edns.Unknown n s) y = y
 
-option_decides : (a b : EdnsOption) → Decides (equal_options.ghosts.eq a b) (a ≡ b)
+pub option_decides : (a b : EdnsOption) → Decides (equal_options.ghosts.eq a b) (a ≡ b)
 unfolding subnet_within
 option_decides (edns.Subnet a) (edns.Subnet b) = told _ (subnet_decides a b) (λ e. ap edns.Subnet e, λ e. ap (λ (o : EdnsOption). subnet_within o a) e)
 option_decides (edns.NSID a) (edns.NSID b) = told _ (octets_decide a b) (λ e. ap edns.NSID e, λ e. cc e)

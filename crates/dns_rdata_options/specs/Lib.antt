@@ -12,3 +12,4 @@ pub mod Walking
 pub mod OptionReads
 pub mod Words
 pub mod Steps
+pub mod Facing

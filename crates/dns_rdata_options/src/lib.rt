@@ -2,6 +2,7 @@
 #![tactic(auto)]
 
 pub mod opt;
+pub mod order;
 pub mod steps;
 #[cfg(test)]
 mod tests;

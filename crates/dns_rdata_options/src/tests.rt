@@ -1,6 +1,8 @@
 ghost use Rattle.std.specs.Prelude.{◌<◌, ◌≤◌, length};
 
 use crate::opt::{ClientSubnet, EdnsCode, EdnsOption, IpNet, NSIDPayload, OPT};
+use crate::order::opt_order;
+use crate::steps::opt_is_emittable;
 use dns_names_wire::{
     AddrParseError, BinDecodable, BinDecoder, BinEncodable, BinEncoder, DecodeError, ProtoError,
     Restrict,
@@ -112,6 +114,41 @@ fn one_multiset(rt: HostRuntime) -> Result<(), DecodeError> {
     let twice = whole(alloc, b"\x00\x0a\x00\x01\x05\x00\x0a\x00\x01\x05")?;
     assert!(rt; first != twice);
     assert_eq!(rt; twice.cmp(&first), Ordering::Less);
+    Ok(())
+}
+
+// How the records of these octets are ordered, where that is told without a cursor.
+fn ordered(alloc: Global, first: &[u8], second: &[u8]) -> Result<Option<Ordering>, DecodeError>
+    requires first { length first.now < 65536 }
+    requires second { length second.now < 65536 }
+{
+    let a = whole(alloc, first)?;
+    let b = whole(alloc, second)?;
+    if !opt_is_emittable(&a) || !opt_is_emittable(&b) {
+        return Ok(None);
+    }
+    Ok(opt_order(&a, &b))
+}
+
+#[test]
+fn least_difference_decides(rt: HostRuntime) -> Result<(), DecodeError> {
+    let alloc = rt.alloc();
+    let first = b"\x00\x0f\x00\x01\x05\x00\x0a\x00\x01\x05";
+    let second = b"\x00\x0f\x00\x01\x04\x00\x0a\x00\x01\x06";
+    assert_eq!(rt; ordered(alloc, first, second)?, Some(Ordering::Less));
+    assert_eq!(rt; ordered(alloc, second, first)?, Some(Ordering::Greater));
+    assert_eq!(rt; ordered(alloc, first, first)?, Some(Ordering::Equal));
+    Ok(())
+}
+
+#[test]
+fn order_not_told(rt: HostRuntime) -> Result<(), DecodeError> {
+    let alloc = rt.alloc();
+    let first = b"\x00\x0a\x00\x01\x05\x00\x0a\x00\x01\x05";
+    let second = b"\x00\x0a\x00\x01\x05\x00\x0a\x00\x01\x06";
+    assert_eq!(rt; ordered(alloc, first, second)?, None);
+    let other = b"\x00\x0a\x00\x01\x05\x00\x0f\x00\x01\x05";
+    assert_eq!(rt; ordered(alloc, first, other)?, None);
     Ok(())
 }
 

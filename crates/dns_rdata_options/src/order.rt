@@ -1,0 +1,118 @@
+//! Records of options ordered by their canonical octets, without a cursor.
+
+ghost use Rattle.std.specs.Prelude.{◌≡◌, ◌≢◌, true, length, IfSome, IsTrue, Some};
+ghost use Rattle.dns_pieces.specs.Fronts.{canonical_cmp};
+ghost use Rattle.dns_rdata_options.specs.Facing.{lesser, Facing, IsAlone};
+ghost use Rattle.dns_rdata_options.specs.OPT.{opt_shape, opt_fields};
+ghost use Rattle.dns_rdata_options.specs.Order.{opt_eq};
+ghost use Rattle.dns_rdata_options.specs.Steps.{pairs_emittable};
+
+use crate::opt::{EdnsCode, EdnsOption, OPT};
+use crate::steps::compare_pairs;
+use std::cmp::Ordering;
+
+/// How two lists of options are ordered by their canonical octets, told in linear time where it can be: where both have as
+/// many options with the same codes at the same places, and the least code of those that differ comes only once, with
+/// other octets. Else `None`.
+pub fn opt_order(a: &OPT, b: &OPT) -> Option<Ordering>
+    requires first { pairs_emittable a.now ≡ true }
+    requires second { pairs_emittable b.now ≡ true }
+    ensures order { IfSome result (λ o. o ≡ canonical_cmp opt_shape (opt_fields a.now) (opt_fields b.now)) }
+    ensures equal { result ≡ Some Ordering.Equal → opt_eq a.now b.now ≡ true }
+{
+    let options = a.as_ref();
+    let others = b.as_ref();
+    if options.len() != others.len() {
+        return None;
+    }
+    match least_difference(options, others)? {
+        None => Some(Ordering::Equal),
+        Some((place, code)) => order_by(options, others, place, code),
+    }
+}
+
+// By the options at a place where they differ, if no other place has the least code of those that differ.
+fn order_by(
+    options: &[(EdnsCode, EdnsOption)],
+    others: &[(EdnsCode, EdnsOption)],
+    place: usize,
+    code: u16,
+) -> Option<Ordering>
+    requires many { length options.now ≡ length others.now }
+    requires least { Facing options.now others.now (length options.now) (Some (place, code)) }
+    requires first { pairs_emittable options.now ≡ true }
+    requires second { pairs_emittable others.now ≡ true }
+    ensures order { IfSome result (λ o. o ≡ canonical_cmp opt_shape (opt_fields options.now) (opt_fields others.now)) }
+    ensures differ { result ≢ Some Ordering.Equal }
+{
+    if !is_alone(options, place, code) {
+        return None;
+    }
+    let order = compare_pairs(&options[place], &others[place]);
+    if order.is_eq() {
+        return None;
+    }
+    Some(order)
+}
+
+// The first place of the least code where the options differ, with that code, if they differ. `None` where codes differ.
+fn least_difference(
+    options: &[(EdnsCode, EdnsOption)],
+    others: &[(EdnsCode, EdnsOption)],
+) -> Option<Option<(usize, u16)>>
+    requires many { length options.now ≡ length others.now }
+    ensures { IfSome result (λ least. Facing options.now others.now (length options.now) least) }
+{
+    let mut least: Option<(usize, u16)> = None;
+    for i in 0..options.len() {
+        let option = &options[i];
+        let other = &others[i];
+        if !is_code_alike(option.0, other.0) {
+            return None;
+        }
+        if !is_option_alike(&option.1, &other.1) {
+            least = lesser(least, i, u16::from(option.0));
+        }
+    }
+    Some(least)
+}
+
+// Whether they are of one variant and one number.
+#[inline]
+fn is_code_alike(a: EdnsCode, b: EdnsCode) -> bool
+    ensures { IsTrue result → a ≡ b }
+{
+    a == b
+}
+
+// Whether they are of one variant and hold the same.
+#[inline]
+fn is_option_alike(a: &EdnsOption, b: &EdnsOption) -> bool
+    ensures { IsTrue result → a.now ≡ b.now }
+{
+    a == b
+}
+
+// The place that is kept, unless the other one has a lesser code.
+#[inline]
+fn lesser(kept: Option<(usize, u16)>, i: usize, code: u16) -> Option<(usize, u16)>
+    ensures { result ≡ lesser kept i code }
+{
+    match kept {
+        Some((place, least)) if least <= code => Some((place, least)),
+        _ => Some((i, code)),
+    }
+}
+
+// Whether no other option has the code.
+fn is_alone(options: &[(EdnsCode, EdnsOption)], place: usize, code: u16) -> bool
+    ensures { IsTrue result → IsAlone options.now (length options.now) place code }
+{
+    for i in 0..options.len() {
+        let other_code = u16::from(options[i].0);
+        if other_code == code && i != place {
+            return false;
+        }
+    }
+    true
+}
