@@ -1,4 +1,5 @@
 mod CaaReads
+mod FirstNumbers
 mod IssuerSteps
 mod Issuers
 mod Splitting
@@ -10,6 +11,7 @@ pub mod Flags
 pub mod NextWindow
 pub mod Numbers
 pub mod SetWrites
+pub mod WindowOctets
 pub mod WindowOrders
 pub mod WindowSteps
 pub mod Windows

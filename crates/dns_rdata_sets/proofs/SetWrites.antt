@@ -20,7 +20,7 @@ use Rattle.dns_rdata_sets.specs.RecordTypeSet.{AreOfWindow, block_shape, block_f
 
 -- ---- a window is told by its own types
 
-packed_same : (f g : ℕ → ℕ) (n : ℕ) → ((b : ℕ) → b < n → f b ≡ g b) → packed f n ≡ packed g n
+pub packed_same : (f g : ℕ → ℕ) (n : ℕ) → ((b : ℕ) → b < n → f b ≡ g b) → packed f n ≡ packed g n
 packed_same f g zero h = refl
 packed_same f g (suc n) h = let p = packed_same f g n (λ b l. h b (omega arith)) in let q = h n (omega arith) in omega (arith, p, q)
 
@@ -39,7 +39,7 @@ window_same v w k h = ap trimmed (map_same (types_octet v k) (types_octet w k) 0
     packed_same (λ b. mark v (256 * k + (8 * j + b))) (λ b. mark w (256 * k + (8 * j + b))) 8
     (λ b m. mark_same v w (256 * k + (8 * j + b)) (h (256 * k + (8 * j + b)) (omega arith)))))
 
-window_empty : (k : ℕ) → window [] k ≡ []
+pub window_empty : (k : ℕ) → window [] k ≡ []
 unfolding window types_octet mark
 window_empty k = refl
 
@@ -70,11 +70,11 @@ at_least_above : (n x : ℕ) (xs : List ℕ) → n ≤ x → AllAbove x xs → A
 at_least_above n x [] l a = tt
 at_least_above n x (y ∷ ys) l a = (omega (arith, a.0), at_least_above n x ys l a.1)
 
-at_least : (n : ℕ) (xs : List ℕ) → Rises xs → (0 < length xs → n ≤ get_or xs 0 0) → AllByRecursion (λ u. n ≤ u) xs
+pub at_least : (n : ℕ) (xs : List ℕ) → Rises xs → (0 < length xs → n ≤ get_or xs 0 0) → AllByRecursion (λ u. n ≤ u) xs
 at_least n [] r h = tt
 at_least n (x ∷ xs) r h = let l : n ≤ x = h (omega arith) in (l, at_least_above n x xs l r.0)
 
-above_at : (n : ℕ) (xs : List ℕ) (i : ℕ) → AllAbove n xs → i < length xs → n < get_or xs i 0
+pub above_at : (n : ℕ) (xs : List ℕ) (i : ℕ) → AllAbove n xs → i < length xs → n < get_or xs i 0
 above_at n [] i a l = absurd (omega arith)
 above_at n (x ∷ xs) zero a l = a.0
 above_at n (x ∷ xs) (suc i) a l = above_at n xs i a.1 (omega arith)

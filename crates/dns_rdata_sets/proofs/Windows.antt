@@ -142,7 +142,7 @@ octets_are octets run k a n small = list_same octets (map (types_octet run k) (r
 
 -- ---- without the zeros at the end
 
-trimmed_zeros : (xs : List ℕ) → ((i : ℕ) → get_or xs i 0 ≡ 0) → trimmed xs ≡ []
+pub trimmed_zeros : (xs : List ℕ) → ((i : ℕ) → get_or xs i 0 ≡ 0) → trimmed xs ≡ []
 trimmed_zeros [] z = refl
 trimmed_zeros (x ∷ xs) z = ap (λ (y : ℕ). keep y (trimmed xs)) (z 0) ∙ ap (keep 0) (trimmed_zeros xs (λ i. z (suc i)))
 
@@ -161,7 +161,7 @@ trimmed_take (x ∷ xs) (suc n) l some z = ap (keep x) (trimmed_take xs n (omega
 
 -- ---- a run's last type
 
-wider : (n k : ℕ) (xs : List ℕ) → n ≤ k → AllByRecursion (λ u. u < n) xs → AllByRecursion (λ u. u < k) xs
+pub wider : (n k : ℕ) (xs : List ℕ) → n ≤ k → AllByRecursion (λ u. u < n) xs → AllByRecursion (λ u. u < k) xs
 wider n k [] l a = tt
 wider n k (x ∷ xs) l a = (omega (arith, a.0), wider n k xs l a.1)
 
@@ -171,7 +171,7 @@ above_at n (x ∷ xs) zero a l = a.0
 above_at n (x ∷ xs) (suc i) a l = above_at n xs i a.1 (omega arith)
 
 -- each is at most the last
-to_last : (xs : List ℕ) (n : ℕ) → Rises xs → length xs ≡ suc n → AllByRecursion (λ u. u < get_or xs n 0 + 1) xs
+pub to_last : (xs : List ℕ) (n : ℕ) → Rises xs → length xs ≡ suc n → AllByRecursion (λ u. u < get_or xs n 0 + 1) xs
 to_last [] n r l = tt
 to_last (x ∷ []) zero r l = (omega arith, tt)
 to_last (x ∷ y ∷ xs) zero r l = absurd (omega arith)
@@ -181,7 +181,7 @@ to_last (x ∷ y ∷ xs) (suc n) r l = (omega (arith, above_at x (y ∷ xs) n r.
 itself : (x : ℕ) → (x == x) ≡ true
 itself x = grind (arith, nat_tests)
 
-has_last : (xs : List ℕ) (n : ℕ) → n < length xs → contains (get_or xs n 0) xs ≡ true
+pub has_last : (xs : List ℕ) (n : ℕ) → n < length xs → contains (get_or xs n 0) xs ≡ true
 has_last [] n l = absurd (omega arith)
 has_last (x ∷ xs) zero l = ap (λ (b : Bool). b || contains x xs) (itself x)
 has_last (x ∷ xs) (suc n) l = ap (λ (b : Bool). (x == get_or xs n 0) || b) (has_last xs n (omega arith)) ∙ or_yes (x == get_or xs n 0)
@@ -190,11 +190,11 @@ has_last (x ∷ xs) (suc n) l = ap (λ (b : Bool). (x == get_or xs n 0) || b) (h
     or_yes true = refl
     or_yes false = refl
 
-mark_yes : (v : List ℕ) (t : ℕ) → contains t v ≡ true → mark v t ≡ 1
+pub mark_yes : (v : List ℕ) (t : ℕ) → contains t v ≡ true → mark v t ≡ 1
 unfolding mark
 mark_yes v t e = ap (λ (b : Bool). cond b 1 0) e
 
-mark_no : (v : List ℕ) (t : ℕ) → contains t v ≡ false → mark v t ≡ 0
+pub mark_no : (v : List ℕ) (t : ℕ) → contains t v ≡ false → mark v t ≡ 0
 unfolding mark
 mark_no v t e = ap (λ (b : Bool). cond b 1 0) e
 

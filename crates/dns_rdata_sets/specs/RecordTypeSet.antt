@@ -1,5 +1,5 @@
 -- Sets of record types: what stands for one, and what their readers and emitters do (RFC 4034, 4.1.2).
-use Rattle.std.specs.Prelude.{◌≡◌, ℕ, ◌+◌, ◌-◌, ◌/◌, ◌%◌, ◌≤◌, ◌==◌, ◌&&◌, ◌||◌, ◌⊎◌, Bool, List, [], ◌∷◌, ◌++◌, length, slice_index}
+use Rattle.std.specs.Prelude.{◌≡◌, ℕ, ◌+◌, ◌-◌, ◌/◌, ◌%◌, ◌≤◌, ◌==◌, ◌&&◌, ◌||◌, ◌<◌, ◌⊎◌, Bool, true, false, List, [], ◌∷◌, ◌++◌, length, slice_index}
 use Rattle.std.specs.List.{flat_map, AllByRecursion, list_any}
 use Rattle.std.specs.Int.{bit_at}
 use Rattle.dns_fields.specs.Bitmaps.{Block, block, IsBlock, has_type, contains, IsTypeSet, BitmapAt, window}
@@ -96,6 +96,12 @@ AreOfWindow k numbers = AllByRecursion (λ t. t / 256 ≡ k) numbers
 -- the window of the first number
 abbrev pub first_window : List ℕ → ℕ
 first_window numbers = slice_index numbers 0 / 256
+
+-- t is the last number of window k in v
+pub record IsLastOf (v : List ℕ) (k t : ℕ) : Type 0 where
+  pub has : contains t v ≡ true
+  pub of : t / 256 ≡ k
+  pub last : (u : ℕ) → t < u → u / 256 ≡ k → contains u v ≡ false
 
 -- the shortest block of numbers of one window
 abbrev pub window_block : List ℕ → Block

@@ -1,19 +1,18 @@
 //! Records ordered by their canonical octets, field by field.
 
-ghost use Rattle.std.specs.Prelude.{◌≡◌, ◌≤◌, length, take};
+ghost use Rattle.std.specs.Prelude.{◌≡◌, ◌≢◌, ◌<◌, ◌≤◌, ◌/◌, length, slice_index, take};
 ghost use Rattle.std.specs.Cmp.Lexicographic.{slice_cmp};
 ghost use Rattle.std.specs.Ordering.{nat_cmp, ordering_then};
-ghost use Rattle.dns_fields.specs.Bitmaps.{IsTypeSet, block};
+ghost use Rattle.dns_fields.specs.Bitmaps.{IsTypeSet};
 ghost use Rattle.dns_fields.specs.Fields.{Bitmap, field_octets};
 ghost use Rattle.dns_pieces.specs.Fronts.{canonical_cmp};
 ghost use Rattle.dns_rdata_sets.specs.CAA.{caa_shape, caa_fields};
 ghost use Rattle.dns_rdata_sets.specs.CSYNC.{csync_shape, csync_fields};
+ghost use Rattle.dns_rdata_sets.specs.RecordTypeSet.{IsLastOf};
 
-use crate::record_type_set::{RecordTypeSet, Window, first_window};
+use crate::record_type_set::{RecordTypeSet, run_len};
 use crate::{CAA, CSYNC};
-use dns_pieces::order::{
-    four_behind, one_behind, rest_behind, slices_behind, text_behind, two_behind,
-};
+use dns_pieces::order::{four_behind, one_behind, rest_behind, text_behind, two_behind};
 use std::cmp::Ordering;
 
 /// Flags, tag, value.
@@ -47,35 +46,74 @@ fn types_behind(first: Ordering, a: &RecordTypeSet, b: &RecordTypeSet) -> Orderi
     numbers_order(a.numbers(), b.numbers())
 }
 
-// Window by window.
+// By the first number that only one of them has.
+#[inline]
 fn numbers_order(a: &[u16], b: &[u16]) -> Ordering
     requires first { IsTypeSet a.now }
     requires second { IsTypeSet b.now }
     ensures { result ≡ slice_cmp nat_cmp (field_octets Bitmap a.now) (field_octets Bitmap b.now) }
 {
-    let mut rest = a;
-    let mut other = b;
-    'windows: while rest.len() > 0 && other.len() > 0 {
-        let window = first_window(rest);
-        let other_window = first_window(other);
-        let order = window_order(&window, &other_window);
-        if order.is_ne() {
-            return order;
-        }
-        rest = rest.split_at(window.count).1;
-        other = other.split_at(other_window.count).1;
+    let at = common_len(a, b);
+    if at == a.len() || at == b.len() {
+        return a.len().cmp(&b.len());
     }
-    rest.len().cmp(&other.len())
+    if a[at] < b[at] {
+        return lower_order(a, b, at);
+    }
+    lower_order(b, a, at).reverse()
 }
 
-// Number, length, octets.
+// How many numbers both begin with.
 #[inline]
-fn window_order(a: &Window, b: &Window) -> Ordering
-    requires first { a.now.len ≤ 32 }
-    requires second { b.now.len ≤ 32 }
-    ensures { result ≡ slice_cmp nat_cmp (block (a.now.number, take a.now.len a.now.octets)) (block (b.now.number, take b.now.len b.now.octets)) }
+fn common_len(a: &[u16], b: &[u16]) -> usize
+    ensures first { result ≤ length a.now }
+    ensures second { result ≤ length b.now }
+    ensures same { take result a.now ≡ take result b.now }
+    ensures apart { result < length a.now → result < length b.now → slice_index a.now result ≢ slice_index b.now result }
 {
-    let number = a.number.cmp(&b.number);
-    let len = number.then(a.len.cmp(&b.len));
-    slices_behind(len, &a.octets[..a.len], &b.octets[..b.len])
+    let shorter = a.len().min(b.len());
+    let mut n = 0;
+    while n < shorter && a[n] == b[n] {
+        n += 1;
+    }
+    n
+}
+
+// Where the first has a lower number at the place where they begin to differ: only it has that number. Its window, if the
+// other has none of this number, comes before what the other goes on with. If it has one, the lengths of both decide, and
+// then the bit of that number.
+fn lower_order(a: &[u16], b: &[u16], at: usize) -> Ordering
+    requires first { IsTypeSet a.now }
+    requires second { IsTypeSet b.now }
+    requires within { (at < length a.now) × (at < length b.now) }
+    requires same { take at a.now ≡ take at b.now }
+    requires lower { slice_index a.now at < slice_index b.now at }
+    ensures { result ≡ slice_cmp nat_cmp (field_octets Bitmap a.now) (field_octets Bitmap b.now) }
+{
+    let window = a[at] / 256;
+    let mut other = at;
+    if b[at] / 256 != window {
+        if at == 0 || b[at - 1] / 256 != window {
+            return Ordering::Less;
+        }
+        other = at - 1;
+    }
+    let last = last_of_window(a, at);
+    let other_last = last_of_window(b, other);
+    (last / 8).cmp(&(other_last / 8)).then(Ordering::Greater)
+}
+
+// The last number of the window that the number at a place is of.
+#[inline]
+fn last_of_window(numbers: &[u16], at: usize) -> u16
+    requires set { IsTypeSet numbers.now }
+    requires within { at < length numbers.now }
+    ensures { IsLastOf numbers.now (slice_index numbers.now at / 256) result }
+{
+    let end = numbers[numbers.len() - 1];
+    if end / 256 == numbers[at] / 256 {
+        return end;
+    }
+    let rest = &numbers[at..];
+    rest[run_len(rest) - 1]
 }

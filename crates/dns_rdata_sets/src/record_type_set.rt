@@ -24,6 +24,7 @@ use std::alloc::{AllocError, Global};
 use std::hash::{Hash, Hasher};
 use std::marker::Model;
 pub use windows::{Window, first_window};
+pub(crate) use writing::run_len;
 
 /// A set of record types. Contracts see the list of their numbers, each once, in rising order.
 ///

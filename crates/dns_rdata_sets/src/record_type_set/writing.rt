@@ -25,7 +25,8 @@ pub(super) fn emit_blocks(encoder: &mut BinEncoder<'_>, numbers: &[u16]) -> Resu
 }
 
 // How many numbers in front are of the first one's window.
-pub(super) fn run_len(numbers: &[u16]) -> usize
+#[inline]
+pub(crate) fn run_len(numbers: &[u16]) -> usize
     requires { 0 < length numbers.now }
     ensures some { 0 < result }
     ensures within { result ≤ length numbers.now }

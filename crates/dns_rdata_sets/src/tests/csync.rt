@@ -1,11 +1,13 @@
 ghost use Rattle.std.specs.Prelude.{◌<◌, length};
 
 use crate::CSYNC;
+use crate::order::csync_order;
 use dns_names_wire::{
     BinDecoder, BinEncodable, BinEncoder, DecodeError, ProtoError, RecordType, Restrict,
 };
 use dns_rdata_base::RecordDataDecodable;
 use std::alloc::{AllocError, Global};
+use std::cmp::Ordering;
 use std::hash::{DefaultHasher, Hash, Hasher};
 
 fn whole(alloc: Global, octets: &[u8]) -> Result<CSYNC, DecodeError>
@@ -30,6 +32,11 @@ fn hash_of(value: &CSYNC) -> u64 {
     let mut state = DefaultHasher::new();
     value.hash(&mut state);
     state.finish()
+}
+
+fn of_numbers(alloc: Global, numbers: &[u16]) -> Result<CSYNC, AllocError> {
+    let kinds = numbers.iter().map(|n| RecordType::from(*n));
+    CSYNC::new(alloc, 1, true, false, kinds)
 }
 
 #[test]
@@ -133,4 +140,26 @@ fn damaged_records(rt: HostRuntime) {
         assert!(rt; read.err() == Some(error), "at length {length}");
         assert_eq!(rt; decoder.index(), index);
     }
+}
+
+#[test]
+fn bitmaps_in_order(rt: HostRuntime) -> Result<(), AllocError> {
+    let alloc = rt.alloc();
+    for (lesser, greater) in [
+        ([1u16, 2, 29].as_slice(), [1u16, 2, 28].as_slice()),
+        ([1].as_slice(), [1, 256].as_slice()),
+        ([1, 300].as_slice(), [1, 2].as_slice()),
+        ([8].as_slice(), [8, 9].as_slice()),
+        ([1].as_slice(), [8].as_slice()),
+        ([1, 256].as_slice(), [256].as_slice()),
+        ([1, 300].as_slice(), [1, 8].as_slice()),
+        ([].as_slice(), [1].as_slice()),
+    ] {
+        let a = of_numbers(alloc, lesser)?;
+        let b = of_numbers(alloc, greater)?;
+        assert!(rt; csync_order(&a, &b) == Ordering::Less);
+        assert!(rt; csync_order(&b, &a) == Ordering::Greater);
+        assert!(rt; csync_order(&a, &a) == Ordering::Equal);
+    }
+    Ok(())
 }

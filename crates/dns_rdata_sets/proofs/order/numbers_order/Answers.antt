@@ -1,37 +1,21 @@
-use Rattle.std.proofs.Common.{◌∙◌, sym, arith, take, drop}
-use Rattle.dns_fields.specs.Fields.{field_octets}
-use Rattle.dns_rdata_sets.proofs.WindowOrders.{windows_differ, windows_same, sets_end}
-use Rattle.dns_rdata_sets.proofs.WindowSteps.{set_drop}
+use Rattle.std.proofs.Common.{sym, ap, ◌∙◌, arith}
+use Rattle.std.specs.Ordering.{ordering_reverse}
+use Rattle.std.proofs.lemmas.Cmp.{nat_list_cmp_total}
+use Rattle.dns_fields.specs.Fields.{Bitmap, field_octets}
+use Rattle.dns_rdata_sets.proofs.FirstNumbers.{beginning}
 use Rattle.dns_rdata_sets.proofs.order.numbers_order.Goals as goal
-use Rattle.dns_rdata_sets.proofs.order.numbers_order.Goals.{then-windows-test+else-other-gt0, else-windows-test}
+use Rattle.dns_rdata_sets.proofs.order.numbers_order.Goals.{then-at-a-via-then-at-a, then-at-a-via-else-at-a+then-at-b}
 
-pub returns-then-is_ne : goal.returns-then-is_ne
+pub returns-then-at-a : goal.returns-then-at-a
 unfolding field_octets
-returns-then-is_ne c =
-    let w = c.first_window-window.result in
-    let v = c.first_window-other_window.result in
-    windows_differ c.windows.rest.now c.windows.other.now (w.number, take w.len w.octets) (v.number, take v.len v.octets)
-    (drop w.count c.windows.rest.now) (drop v.count c.windows.other.now) c.window_order-order.result
-    c.first_window-window.ensures.next c.first_window-other_window.ensures.next c.window_order-order.ensures (sym c.is_ne.ensures ∙ c.if-is_ne.true)
-    ∙ c.windows.invariant.same
-
-pub windows-preserved : goal.windows-preserved
-windows-preserved c =
-    let w = c.first_window-window.result in
-    let v = c.first_window-other_window.result in
-    let same = windows_same c.windows.rest.now c.windows.other.now (w.number, take w.len w.octets) (v.number, take v.len v.octets)
-    (drop w.count c.windows.rest.now) (drop v.count c.windows.other.now) c.window_order-order.result
-    c.first_window-window.ensures.next c.first_window-other_window.ensures.next c.window_order-order.ensures (sym c.is_ne.ensures ∙ c.if-is_ne.false) in
-    record {
-      first = rw c.split_at.ensures.back (set_drop c.windows.rest.now w.count c.windows.invariant.first);
-      second = rw c.split_at-in-windows.ensures.back (set_drop c.windows.other.now v.count c.windows.invariant.second);
-      same = rw (c.split_at.ensures.back, c.split_at-in-windows.ensures.back) same ∙ c.windows.invariant.same;
-    }
+returns-then-at-a c =
+    let at = c.common_len-at.ensures in
+    c.cmp.ensures ∙ beginning c.args.a.now c.args.b.now c.common_len-at.result c.requires.first c.requires.second at.first at.second at.same
+    (elim c.then-at-a.branch [
+      | then-at-a-via-then-at-a w ↦ λ more. absurd (omega (arith, more, w.if-at-a.true))
+      | then-at-a-via-else-at-a+then-at-b w ↦ λ _. omega (arith, w.if-at-b.true)
+    ])
 
 pub returns : goal.returns
 unfolding field_octets
-returns c =
-    c.cmp.ensures
-    ∙ sets_end c.windows.rest.now c.windows.other.now c.windows.invariant.first c.windows.invariant.second
-    (elim c.windows-test.branch [ then-windows-test+else-other-gt0 w ↦ λ some. omega (arith, w.if-other-gt0) | else-windows-test w ↦ λ some. omega (arith, some, w.windows-test) ])
-    ∙ c.windows.invariant.same
+returns c = c.reverse.ensures ∙ ap ordering_reverse c.lower_order-2.ensures ∙ sym (nat_list_cmp_total.antisymm (field_octets Bitmap c.args.a.now) (field_octets Bitmap c.args.b.now))
