@@ -1,5 +1,5 @@
 -- Rising lists that begin alike: the first number that only one of them has.
-use Rattle.std.proofs.Common.{◌≡◌, ◌≢◌, ℕ, zero, suc, ◌+◌, ◌-◌, ◌*◌, ◌/◌, ◌≤◌, ◌<◌, ◌==◌, ◌||◌, Bool, true, false, List, [], ◌∷◌, length, get_or, take, drop, take-append-drop, length-take, length-take-le, length-drop, refl, sym, ap, ◌∙◌, subst, arith}
+use Rattle.std.proofs.Common.{◌≡◌, ◌≢◌, ℕ, zero, suc, ◌+◌, ◌-◌, ◌*◌, ◌/◌, ◌≤◌, ◌<◌, ◌==◌, ◌||◌, false, List, [], ◌∷◌, length, get_or, take, drop, take-append-drop, length-take-le, length-drop, sym, ap, ◌∙◌, subst, arith}
 use Rattle.std.specs.List.{flat_map, AllByRecursion}
 use Rattle.std.specs.Cmp.{ranks, tied_itself}
 use Rattle.std.specs.Ordering.{MatchOrdering, nat_cmp, ordering_reverse}

@@ -35,11 +35,11 @@ packed_some f (suc n) i l s = elim (eqb_tells i n) [
 ]
 
 -- the highest bit that differs decides
-packed_less : (f g : ℕ → ℕ) (n i : ℕ) → i < n → ((b : ℕ) → b < i → g b ≡ f b) → g i < f i → ((b : ℕ) → g b < 2) → packed g n < packed f n
-packed_less f g zero i l same less small = absurd (omega arith)
-packed_less f g (suc n) i l same less small = elim (eqb_tells i n) [
+packed_below : (f g : ℕ → ℕ) (n i : ℕ) → i < n → ((b : ℕ) → b < i → g b ≡ f b) → g i < f i → ((b : ℕ) → g b < 2) → packed g n < packed f n
+packed_below f g zero i l same less small = absurd (omega arith)
+packed_below f g (suc n) i l same less small = elim (eqb_tells i n) [
   | inl e ↦ (let p = packed_same g f n (λ b m. same b (omega (arith, m, e.1))) in let q : g n < f n = subst (λ (k : ℕ). g k < f k) e.1 less in omega (arith, p, q))
-  | inr e ↦ (let h = packed_less f g n i (before_last i n l e.1) same less small in let s = small n in omega (arith, h, s))
+  | inr e ↦ (let h = packed_below f g n i (before_last i n l e.1) same less small in let s = small n in omega (arith, h, s))
 ]
 
 place : (k x : ℕ) → x / 256 ≡ k → 256 * k + (8 * (x % 256 / 8) + x % 8) ≡ x
@@ -71,7 +71,7 @@ octet_less {v} {w} {x} k o e =
     let g : ℕ → ℕ = λ b. mark w (256 * k + (8 * j + b)) in
     let one : f (x % 8) ≡ 1 = ap (mark v) (place k x e) ∙ mark_yes v x o.has in
     let none : g (x % 8) ≡ 0 = ap (mark w) (place k x e) ∙ mark_no w x o.lacks in
-    packed_less f g 8 (x % 8) (omega arith) (λ b m. marks_same o (256 * k + (8 * j + b)) (omega (arith, e, m))) (omega (arith, one, none)) (λ b. mark_small w (256 * k + (8 * j + b)))
+    packed_below f g 8 (x % 8) (omega arith) (λ b m. marks_same o (256 * k + (8 * j + b)) (omega (arith, e, m))) (omega (arith, one, none)) (λ b. mark_small w (256 * k + (8 * j + b)))
 
 -- ---- lists without the zeros at the end
 

@@ -4,7 +4,6 @@ use Rattle.std.proofs.lemmas.List.{append-nil, drop_all, drop-drop, take_all}
 use Rattle.std.specs.List.{range_with_len, flat_map}
 use Rattle.dns_fields.specs.Bitmaps.{block, minimal, windows, IsTypeSet}
 use Rattle.dns_fields.specs.Fields.{Number, field_octets}
-use Rattle.dns_pieces.specs.declared.step.Step.{Step}
 use Rattle.dns_pieces.specs.Steps.{StepAt, Ended, PassedWindow}
 use Rattle.dns_rdata_sets.specs.declared.csync.CSYNC.{CSYNC}
 use Rattle.dns_rdata_sets.specs.Steps.{csync_left, csync_windows}

@@ -11,9 +11,10 @@ use Rattle.std.proofs.lemmas.List.Folds.{list_any_more}
 use Rattle.std.proofs.lemmas.List.FromFn.{get_or-map-range_with_len, length-map-range_with_len}
 use Rattle.std.proofs.lemmas.Nat.Bits.{bit_at_set_same, bit_at_set_other, bit_at-zero, bit_at_lowest, bit_at_cat_low, bit_at_cat_high, same_from_bits_below}
 use Rattle.dns_fields.specs.Octets.{AreOctets}
-use Rattle.dns_fields.specs.Bitmaps.{contains, AllAbove, Rises, packed, mark, keep, trimmed, types_octet, window}
+use Rattle.dns_fields.specs.Bitmaps.{contains, Rises, packed, mark, keep, trimmed, types_octet, window}
 use Rattle.dns_fields.proofs.Bitmaps.{mark_small, none_great}
 use Rattle.dns_rdata_sets.specs.RecordTypeSet.{AreOfWindow}
+use Rattle.dns_rdata_sets.proofs.SetWrites.{above_at}
 use mir.Syntax.{w8}
 
 -- ---- one bit more
@@ -161,17 +162,8 @@ trimmed_take (x ∷ xs) (suc n) l some z = ap (keep x) (trimmed_take xs n (omega
 
 -- ---- a run's last type
 
-pub wider : (n k : ℕ) (xs : List ℕ) → n ≤ k → AllByRecursion (λ u. u < n) xs → AllByRecursion (λ u. u < k) xs
-wider n k [] l a = tt
-wider n k (x ∷ xs) l a = (omega (arith, a.0), wider n k xs l a.1)
-
-above_at : (n : ℕ) (xs : List ℕ) (i : ℕ) → AllAbove n xs → i < length xs → n < get_or xs i 0
-above_at n [] i a l = absurd (omega arith)
-above_at n (x ∷ xs) zero a l = a.0
-above_at n (x ∷ xs) (suc i) a l = above_at n xs i a.1 (omega arith)
-
 -- each is at most the last
-pub to_last : (xs : List ℕ) (n : ℕ) → Rises xs → length xs ≡ suc n → AllByRecursion (λ u. u < get_or xs n 0 + 1) xs
+to_last : (xs : List ℕ) (n : ℕ) → Rises xs → length xs ≡ suc n → AllByRecursion (λ u. u < get_or xs n 0 + 1) xs
 to_last [] n r l = tt
 to_last (x ∷ []) zero r l = (omega arith, tt)
 to_last (x ∷ y ∷ xs) zero r l = absurd (omega arith)

@@ -1,5 +1,5 @@
 -- Types read from words.
-use Rattle.std.proofs.Common.{◌≡◌, ℕ, List, [], ◌∷◌, ◌++◌, Option, Some, None, refl, sym, subst, map}
+use Rattle.std.proofs.Common.{◌≡◌, ℕ, List, [], ◌∷◌, ◌++◌, Option, Some, None, sym, subst, map}
 use Rattle.std.specs.Iterator.{Yields}
 use Rattle.dns_types.specs.RecordTypes.{number_of, IsTypeText}
 use Rattle.dns_types.specs.declared.error.ParseError.{ParseError}

@@ -79,9 +79,9 @@ fn common_len(a: &[u16], b: &[u16]) -> usize
     n
 }
 
-// Where the first has a lower number at the place where they begin to differ: only it has that number. Its window, if the
-// other has none of this number, comes before what the other goes on with. If it has one, the lengths of both decide, and
-// then the bit of that number.
+// Where the first has the lower number at the place where they begin to differ: it alone has that number. If the other has
+// none of its window, that window comes before what the other goes on with; else the lengths of both windows decide, and
+// where these are the same the bit of that number.
 fn lower_order(a: &[u16], b: &[u16], at: usize) -> Ordering
     requires first { IsTypeSet a.now }
     requires second { IsTypeSet b.now }
@@ -110,6 +110,7 @@ fn last_of_window(numbers: &[u16], at: usize) -> u16
     requires within { at < length numbers.now }
     ensures { IsLastOf numbers.now (slice_index numbers.now at / 256) result }
 {
+    // mostly a set has one window
     let end = numbers[numbers.len() - 1];
     if end / 256 == numbers[at] / 256 {
         return end;

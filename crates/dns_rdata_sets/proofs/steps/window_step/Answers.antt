@@ -1,6 +1,6 @@
 use Rattle.std.proofs.Common.{ℕ, List, ◌++◌, take, ap, ◌∙◌}
 use Rattle.dns_fields.specs.Fields.{Number, field_octets}
-use Rattle.dns_rdata_sets.proofs.WindowSteps.{set_behind, WindowMade, window_given, window_passed, window_none}
+use Rattle.dns_rdata_sets.proofs.WindowSteps.{set_behind, window_given, window_passed, window_none}
 use Rattle.dns_rdata_sets.proofs.steps.window_step.Goals as goal
 
 pub next_window-window-requires-clause-set : goal.next_window-window-requires-clause-set

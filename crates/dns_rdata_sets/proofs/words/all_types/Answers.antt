@@ -1,6 +1,6 @@
 use Rattle.std.proofs.Common.{◌∷◌, [], ◌++◌, refl}
 use Rattle.std.proofs.lemmas.List.{map-append}
-use Rattle.dns_types.specs.RecordTypes.{number_of, IsTypeText}
+use Rattle.dns_types.specs.RecordTypes.{number_of}
 use Rattle.dns_words.proofs.Steps.{exit_row}
 use Rattle.dns_rdata_sets.proofs.WordTypes.{types_more, types_refused, types_took}
 use Rattle.dns_rdata_sets.proofs.words.all_types.Goals as goal
