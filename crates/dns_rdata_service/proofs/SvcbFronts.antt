@@ -1,28 +1,179 @@
 -- Service bindings, compared field by field and parameter by parameter.
-use Rattle.std.proofs.Common.{◌≡◌, ℕ, ◌+◌, ◌<◌, ◌==◌, not, Bool, true, false, true≢false, List, ◌∷◌, ◌++◌, length, get_or, drop, map, refl, sym, ap, ◌∙◌}
-use Rattle.std.proofs.lemmas.List.{drop_more}
-use Rattle.std.specs.Cmp.{unsigned_Decides}
+use Rattle.std.proofs.Common.{◌≡◌, ◌≢◌, ℕ, suc, ◌*◌, ◌<◌, ◌≤◌, ◌^◌, ◌&&◌, true, false, true≢false, List, [], ◌∷◌, ◌++◌, length, drop, map, All, refl, sym, ap, ◌∙◌, arith, length-append}
+use Rattle.std.specs.Prelude.{nat_eq}
+use Rattle.std.specs.Int.{bytes_high_first}
+use Rattle.std.specs.List.{AllByRecursion, flat_map}
+use Rattle.std.specs.FinMap.{nat_cmp-IsAntisymmetric, slice_cmp-IsAntisymmetric}
+use Rattle.std.proofs.lemmas.List.{append-nil, drop_all}
+use Rattle.std.proofs.lemmas.Bool.Decides.{Decides-and}
+use Rattle.std.proofs.lemmas.List.Elements.{recursion_from_All}
+use Rattle.std.proofs.Math.Nat.{mul-le-mul_left}
+use Rattle.std.specs.Cmp.{ranks, nat_cmp_is, unsigned_Decides, booleans_Decides}
 use Rattle.std.specs.Cmp.Lexicographic.{pointwise, slice_cmp, pointwise_decides}
-use Rattle.std.specs.Ordering.{nat_cmp, ordering_then}
+use Rattle.std.specs.Ordering.{MatchOrdering, nat_cmp, ordering_then, is_eq, is_ne}
 use Rattle.std.specs.declared.cmp.Ordering.{Ordering}
-use Rattle.std.specs.declared.cmp.Ordering.TheVariants.{Equal}
-use Rattle.dns_fields.specs.Pieces.{Numbered, ParameterValue, piece, pieces, as_piece, parameter_octets}
-use Rattle.dns_fields.specs.Fields.{Number, Name, field_octets, parameter_pieces}
-use Rattle.dns_fields.specs.Labels.{AreLabels}
+use Rattle.std.specs.declared.cmp.Ordering.TheVariants.{Less, Equal, Greater}
+use Rattle.dns_fields.specs.Comparing.{name_eq}
+use Rattle.dns_fields.specs.Equal.{key_eq, parameter_keys, values_eq}
+use Rattle.dns_fields.specs.Pieces.{Port}
+use Rattle.dns_fields.specs.Fields.{Number, Name, Octets, Rest, field_octets}
+use Rattle.dns_fields.specs.Labels.{AreLabels, lowname}
+use Rattle.dns_fields.proofs.Numbers.{number_cmp, length-bytes, same_number}
 use Rattle.dns_pieces.specs.Fronts.{canonical_cmp}
 use Rattle.dns_pieces.proofs.Comparing.{cmp_shared}
 use Rattle.dns_pieces.proofs.Fronts.{by_fields, field_cmp}
+use Rattle.dns_rdata_service.specs.Fronts.{OrderFirst}
 use Rattle.dns_rdata_service.specs.OwnKeys.{value_eq, value_same}
-use Rattle.dns_rdata_service.specs.Parameters.{Parameter, parameter_of}
+use Rattle.dns_rdata_service.specs.Parameters.{Parameter, own_parameter}
 use Rattle.dns_rdata_service.specs.Steps.{parameters_from}
-use Rattle.dns_rdata_service.specs.SVCB.{svcb_shape, svcb_fields}
-use Rattle.dns_rdata_service.specs.SvcParamValue.{value_key, value_of}
+use Rattle.dns_rdata_service.specs.SVCB.{svcb_shape, svcb_fields, svcb_key_shape, svcb_keys}
+use Rattle.dns_rdata_service.specs.SvcParamValue.{value_key, sized}
 use Rattle.dns_rdata_service.specs.declared.svcb.SVCB.{SVCB}
 use Rattle.dns_rdata_service.specs.declared.svcb.value.SvcParamValue.{SvcParamValue}
-use Rattle.dns_rdata_service.proofs.OwnValues.{value_given}
+
+-- ---- octets in front of others
+
+-- the same octets leave it to those behind them
+pub alike_first : (o : Ordering) (s t : List ℕ) → o ≡ Equal → s ≡ t → OrderFirst o s t
+alike_first o s t e f x y = rw e (cmp_shared {n = length s} record {
+  shared = s;
+  count = refl;
+  left = refl;
+  right = ap (λ (r : List ℕ). r ++ y) (sym f);
+})
+
+-- as many of both
+as_many_first : (s t : List ℕ) → length s ≡ length t → OrderFirst (slice_cmp nat_cmp s t) s t
+unfolding field_octets
+as_many_first s t h x y =
+    let fields : slice_cmp nat_cmp (s ++ (x ++ [])) (t ++ (y ++ [])) ≡ ordering_then (slice_cmp nat_cmp s t) (slice_cmp nat_cmp x y) =
+    sym (by_fields (Octets (length s) ∷ Rest ∷ []) (s, (x, tt)) (t, (y, tt)) (h, (tt, tt))) in
+    rw (append-nil x, append-nil y) at fields
+
+-- numbers in as many octets
+number_first : (o : Ordering) (w a b : ℕ) → o ≡ nat_cmp a b → a < 256 ^ w → b < 256 ^ w → OrderFirst o (bytes_high_first w a) (bytes_high_first w b)
+number_first o w a b e p q x y =
+    as_many_first (bytes_high_first w a) (bytes_high_first w b) (length-bytes w a ∙ sym (length-bytes w b)) x y
+    ∙ ap (λ (u : Ordering). ordering_then u (slice_cmp nat_cmp x y)) (number_cmp w a b p q ∙ sym e)
+
+-- octets behind their length in two octets
+abbrev pub behind_length : List ℕ → List ℕ
+behind_length s = bytes_high_first 2 (length s) ++ s
+
+sized_first : (s t : List ℕ) → length s ≤ 65535 → length t ≤ 65535
+    → OrderFirst (ordering_then (nat_cmp (length s) (length t)) (slice_cmp nat_cmp s t)) (behind_length s) (behind_length t)
+sized_first s t h k x y =
+    number_first (nat_cmp (length s) (length t)) 2 (length s) (length t) refl (omega arith) (omega arith) (s ++ x) (t ++ y)
+    ∙ by (nat_cmp (length s) (length t)) (ranks (length s) (length t))
+  where
+    by : (o : Ordering) → MatchOrdering o (length s < length t) (length s ≡ length t) (length t < length s)
+        → ordering_then o (slice_cmp nat_cmp (s ++ x) (t ++ y)) ≡ ordering_then (ordering_then o (slice_cmp nat_cmp s t)) (slice_cmp nat_cmp x y)
+    by Less e = refl
+    by Equal e = as_many_first s t e x y
+    by Greater e = refl
+
+-- by two numbers, and then by octets of which these are the lengths
+pub lengths_first : (r c o : Ordering) (n m : ℕ) (s t : List ℕ) → r ≡ ordering_then c o → c ≡ nat_cmp n m → n ≡ length s → m ≡ length t → o ≡ slice_cmp nat_cmp s t
+    → n ≤ 65535 → m ≤ 65535 → OrderFirst r (behind_length s) (behind_length t)
+lengths_first r c o n m s t e f p q g h k = rw (e, f, g, p, q) (sized_first s t (omega (arith, p, h)) (omega (arith, q, k)))
+
+-- ---- orders that tie
+
+both_tie : (o p : Ordering) → ordering_then o p ≡ Equal → (o ≡ Equal) × (p ≡ Equal)
+both_tie Less p e = cc e
+both_tie Equal p e = (refl, e)
+both_tie Greater p e = cc e
+
+pub then_ties : (r o p : Ordering) → r ≡ ordering_then o p → r ≡ Equal → p ≡ Equal
+then_ties r o p e f = (both_tie o p (sym e ∙ f)).1
+
+pub ne_no : (o : Ordering) → is_ne o ≡ false → o ≡ Equal
+ne_no Less h = absurd (true≢false h)
+ne_no Equal h = refl
+ne_no Greater h = absurd (true≢false h)
+
+pub eq_yes : (o : Ordering) → is_eq o ≡ true → o ≡ Equal
+eq_yes Less h = absurd (true≢false (sym h))
+eq_yes Equal h = refl
+eq_yes Greater h = absurd (true≢false (sym h))
+
+pub ne_yes : (o : Ordering) → is_ne o ≡ true → o ≢ Equal
+ne_yes o h e = absurd (true≢false (sym h ∙ ap is_ne e))
+
+-- octets that tie are the same
+pub octets_tie : (o : Ordering) (s t : List ℕ) → o ≡ slice_cmp nat_cmp s t → o ≡ Equal → s ≡ t
+octets_tie o s t e f = slice_cmp-IsAntisymmetric nat_cmp-IsAntisymmetric s t (sym e ∙ f)
+
+pub lists_tie : (o : Ordering) (ss ts : List (List ℕ)) → o ≡ slice_cmp (slice_cmp nat_cmp) ss ts → o ≡ Equal → ss ≡ ts
+lists_tie o ss ts e f = slice_cmp-IsAntisymmetric (slice_cmp-IsAntisymmetric nat_cmp-IsAntisymmetric) ss ts (sym e ∙ f)
+
+-- ---- lists of as many octets each
+
+abbrev pub joined : List (List ℕ) → List ℕ
+joined ss = flat_map (λ s. s) ss
+
+module _ {X : Type 0} (octets_of : X → List ℕ) (k : ℕ) where
+  abbrev Each : List X → Type 0
+  Each xs = AllByRecursion (λ x. length (octets_of x) ≡ k) xs
+
+  joined_length : (xs : List X) → Each xs → length (joined (map octets_of xs)) ≡ length xs * k
+  joined_length [] h = omega arith
+  joined_length (x ∷ xs) h = let rest = joined_length xs h.1 in omega (arith, length-append (octets_of x) (joined (map octets_of xs)), rest, h.0)
+
+  joined_cmp : (xs ys : List X) → 0 < k → Each xs → Each ys
+      → slice_cmp nat_cmp (joined (map octets_of xs)) (joined (map octets_of ys)) ≡ slice_cmp (slice_cmp nat_cmp) (map octets_of xs) (map octets_of ys)
+  joined_cmp [] [] some h g = refl
+  joined_cmp [] (y ∷ ys) some h g = by (octets_of y) (omega (arith, g.0, some))
+    where
+      by : (t : List ℕ) → 0 < length t → slice_cmp nat_cmp [] (t ++ joined (map octets_of ys)) ≡ Less
+      by [] e = absurd (omega arith)
+      by (u ∷ t) e = refl
+  joined_cmp (x ∷ xs) [] some h g = by (octets_of x) (omega (arith, h.0, some))
+    where
+      by : (s : List ℕ) → 0 < length s → slice_cmp nat_cmp (s ++ joined (map octets_of xs)) [] ≡ Greater
+      by [] e = absurd (omega arith)
+      by (u ∷ s) e = refl
+  joined_cmp (x ∷ xs) (y ∷ ys) some h g =
+      as_many_first (octets_of x) (octets_of y) (h.0 ∙ sym g.0) (joined (map octets_of xs)) (joined (map octets_of ys))
+      ∙ ap (λ (o : Ordering). ordering_then (slice_cmp nat_cmp (octets_of x) (octets_of y)) o) (joined_cmp xs ys some h.1 g.1)
+
+scaled : (k n m : ℕ) → 0 < k → nat_cmp n m ≡ nat_cmp (n * k) (m * k)
+scaled k n m some = nat_cmp_is (n * k) (m * k) (nat_cmp n m) (by (nat_cmp n m) (ranks n m))
+  where
+    below : (i j : ℕ) → i < j → i * k < j * k
+    below i j h = let most : k * suc i ≤ k * j = mul-le-mul_left k h in omega (arith, most, some)
+
+    by : (o : Ordering) → MatchOrdering o (n < m) (n ≡ m) (m < n) → MatchOrdering o (n * k < m * k) (n * k ≡ m * k) (m * k < n * k)
+    by Less h = below n m h
+    by Equal h = ap (λ (i : ℕ). i * k) h
+    by Greater h = below m n h
+
+-- by their number, and then item by item
+pub items_first : {X : Type 0} (octets_of : X → List ℕ) (k : ℕ) (xs ys : List X) (r c o : Ordering) (n m : ℕ) → 0 < k
+    → All (λ x. length (octets_of x) ≡ k) xs → All (λ x. length (octets_of x) ≡ k) ys
+    → r ≡ ordering_then c o → c ≡ nat_cmp n m → n ≡ length xs → m ≡ length ys → o ≡ slice_cmp (slice_cmp nat_cmp) (map octets_of xs) (map octets_of ys)
+    → n * k ≤ 65535 → m * k ≤ 65535 → OrderFirst r (behind_length (joined (map octets_of xs))) (behind_length (joined (map octets_of ys)))
+items_first octets_of k xs ys r c o n m some h g e f p q i few less =
+    let a = recursion_from_All _ _ h in
+    let b = recursion_from_All _ _ g in
+    lengths_first r c o (n * k) (m * k) (joined (map octets_of xs)) (joined (map octets_of ys)) e (f ∙ scaled k n m some)
+    (ap (λ (j : ℕ). j * k) p ∙ sym (joined_length octets_of k xs a)) (ap (λ (j : ℕ). j * k) q ∙ sym (joined_length octets_of k ys b))
+    (i ∙ sym (joined_cmp octets_of k xs ys some a b)) few less
+
+-- ---- parameters
+
+pub port_first : (o : Ordering) (a b : ℕ) → o ≡ nat_cmp a b → a < 256 ^ 2 → b < 256 ^ 2 → OrderFirst o (sized (Port a)) (sized (Port b))
+port_first o a b e p q =
+    rw (e ∙ sym (number_cmp 2 a b p q)) (sized_first (bytes_high_first 2 a) (bytes_high_first 2 b) (omega arith) (omega arith))
+
+-- equal values are compared by the same
+pub equal_values : (v w : SvcParamValue) → value_eq v w ≡ true → value_key v ≡ value_key w
+equal_values v w h = (pointwise_decides (pointwise_decides unsigned_Decides) (value_key v) (value_key w)).0 (sym (value_same v w) ∙ h)
 
 abbrev pub rest_cmp : List Parameter → List Parameter → ℕ → Ordering
 rest_cmp ps qs i = slice_cmp nat_cmp (parameters_from ps i) (parameters_from qs i)
+
+-- ---- all fields
 
 -- priority and target, and then all parameters
 pub parameters_behind : (a b : SVCB) (o : Ordering) → AreLabels a.target_name.labels × AreLabels b.target_name.labels
@@ -33,37 +184,24 @@ parameters_behind a b o l e =
     sym (by_fields svcb_shape (svcb_fields a) (svcb_fields b) (tt, (l, (tt, tt))))
     ∙ ap (λ (t : Ordering). ordering_then t (rest_cmp a.svc_params b.svc_params 0)) (sym e)
 
--- equal values have the same octets
-pub equal_values : (v w : SvcParamValue) → value_eq v w ≡ true → value_of v ≡ value_of w
-equal_values v w h = value_given v w ((pointwise_decides (pointwise_decides unsigned_Decides) (value_key v) (value_key w)).0 (sym (value_same v w) ∙ h))
+-- priorities and targets that tie, with parameters that are compared by the same, are equal
+pub all_alike : (a b : SVCB) (o : Ordering) → o ≡ ordering_then (ordering_then Equal (field_cmp (Number 2) a.svc_priority b.svc_priority)) (field_cmp Name a.target_name b.target_name)
+    → o ≡ Equal → a.svc_priority < 256 ^ 2 → b.svc_priority < 256 ^ 2 → a.target_name.fully_qualified ≡ b.target_name.fully_qualified
+    → map own_parameter a.svc_params ≡ map own_parameter b.svc_params → values_eq svcb_key_shape (svcb_keys a) (svcb_keys b) ≡ true
+unfolding field_octets
+all_alike a b o e tie p q marks same =
+    let fronts = both_tie (ordering_then Equal (field_cmp (Number 2) a.svc_priority b.svc_priority)) (field_cmp Name a.target_name b.target_name) (sym e ∙ tie) in
+    let priority : a.svc_priority ≡ b.svc_priority =
+    same_number 2 a.svc_priority b.svc_priority p q (octets_tie (field_cmp (Number 2) a.svc_priority b.svc_priority) (bytes_high_first 2 a.svc_priority) (bytes_high_first 2 b.svc_priority) refl (both_tie Equal _ fronts.0).1) in
+    let target : lowname a.target_name ≡ lowname b.target_name = octets_tie (field_cmp Name a.target_name b.target_name) (lowname a.target_name) (lowname b.target_name) refl fronts.1 in
+    let numbers : nat_eq a.svc_priority b.svc_priority ≡ true = (unsigned_Decides a.svc_priority b.svc_priority).1 priority in
+    let names : name_eq a.target_name b.target_name ≡ true =
+    (Decides-and _ _ (pointwise_decides unsigned_Decides (lowname a.target_name) (lowname b.target_name)) (booleans_Decides a.target_name.fully_qualified b.target_name.fully_qualified)).1 (target, marks) in
+    let keys : pointwise key_eq (parameter_keys (map own_parameter a.svc_params)) (parameter_keys (map own_parameter b.svc_params)) ≡ true =
+    (pointwise_decides (pointwise_decides (pointwise_decides unsigned_Decides)) (parameter_keys (map own_parameter a.svc_params)) (parameter_keys (map own_parameter b.svc_params))).1
+    (ap parameter_keys same) in
+    (λ i. numbers i && (names i && (keys i && true)))
 
--- strings that are not told apart
-pub told_same : (r : Bool) (s t : List ℕ) → r ≡ not (pointwise ◌==◌ s t) → r ≡ false → s ≡ t
-told_same r s t e f = (pointwise_decides unsigned_Decides s t).0 (by (pointwise ◌==◌ s t) (sym e ∙ f))
-  where
-    by : (b : Bool) → not b ≡ false → b ≡ true
-    by true h = refl
-    by false h = absurd (true≢false h)
-
--- what is alike up to a place and behind it
-pub same_behind : (i : ℕ) (s t : List ℕ) (ss ts : List (List ℕ)) → i < length ss → i < length ts → s ≡ get_or ss i s → t ≡ get_or ts i t
-    → s ≡ t → drop (i + 1) ss ≡ drop (i + 1) ts → drop i ss ≡ drop i ts
-same_behind i s t ss ts h k e f same rest =
-    drop_more ss i s h ∙ (rw (← e, ← f) (λ j. same j ∷ rest j)) ∙ sym (drop_more ts i t k)
-
-one_shared : (x y : Numbered ParameterValue) (xs ys : List (Numbered ParameterValue)) → x ≡ y
-    → slice_cmp nat_cmp (pieces (parameter_pieces (x ∷ xs))) (pieces (parameter_pieces (y ∷ ys)))
-    ≡ slice_cmp nat_cmp (pieces (parameter_pieces xs)) (pieces (parameter_pieces ys))
-one_shared x y xs ys e = cmp_shared {n = length (piece (as_piece parameter_octets x))} record {
-  shared = piece (as_piece parameter_octets x);
-  count = refl;
-  left = refl;
-  right = ap (λ (z : Numbered ParameterValue). piece (as_piece parameter_octets z) ++ pieces (parameter_pieces ys)) (sym e);
-}
-
--- parameters that are alike leave it to those behind them
-pub behind_alike : (i : ℕ) (p q : Parameter) (ps qs : List Parameter) → i < length ps → i < length qs → p ≡ get_or ps i p → q ≡ get_or qs i q
-    → parameter_of p ≡ parameter_of q → rest_cmp ps qs i ≡ rest_cmp ps qs (i + 1)
-behind_alike i p q ps qs h k e f same =
-    rw (drop_more ps i p h, drop_more qs i q k, ← e, ← f)
-    (one_shared (parameter_of p) (parameter_of q) (map parameter_of (drop (i + 1) ps)) (map parameter_of (drop (i + 1) qs)) same)
+-- where all are alike, none are behind them
+pub none_behind : (i : ℕ) (ps qs : List Parameter) → i ≡ length ps → i ≡ length qs → map own_parameter (drop i ps) ≡ map own_parameter (drop i qs)
+none_behind i ps qs e f = rw (drop_all i ps (omega arith), drop_all i qs (omega arith)) refl

@@ -12,3 +12,4 @@ pub mod HTTPS
 pub mod Steps
 pub mod WordRows
 pub mod Ordering
+pub mod Fronts

@@ -1,63 +1,86 @@
-//! Service bindings ordered by their canonical octets, up to the first parameters that differ.
+//! Service bindings ordered by their canonical octets, up to the first parameters whose order is not easily told.
 
-ghost use Rattle.std.specs.Prelude.{◌≡◌, ◌≤◌, length, IsTrue};
+ghost use Rattle.std.specs.Prelude.{◌≡◌, ◌≤◌, All, drop, length, map, true, IfSome, IsTrue};
 ghost use Rattle.std.specs.Cmp.Lexicographic.{slice_cmp};
+ghost use Rattle.std.specs.List.{flat_map};
 ghost use Rattle.std.specs.Ordering.{nat_cmp, ordering_then};
+ghost use Rattle.std.specs.declared.cmp.Ordering.TheVariants.{Equal};
+ghost use Rattle.dns_fields.specs.Equal.{values_eq};
+ghost use Rattle.dns_fields.specs.Pieces.{string, Alpn as Names, Ipv4Hint as Addresses, Ipv6Hint as WideAddresses, Opaque, Port};
 ghost use Rattle.dns_pieces.specs.Fronts.{canonical_cmp};
-ghost use Rattle.dns_rdata_service.specs.Parameters.{parameter_of};
+ghost use Rattle.dns_rdata_service.specs.Fronts.{OrderFirst, parameter_octets_of};
+ghost use Rattle.dns_rdata_service.specs.Parameters.{own_parameter};
 ghost use Rattle.dns_rdata_service.specs.Steps.{parameters_from};
 ghost use Rattle.dns_rdata_service.specs.SvcParamKey.{key_number, key_variant, number_by};
-ghost use Rattle.dns_rdata_service.specs.SvcParamValue.{value_of};
-ghost use Rattle.dns_rdata_service.specs.SVCB.{svcb_shape, svcb_fields};
+ghost use Rattle.dns_rdata_service.specs.SvcParamValue.{a_octets, aaaa_octets, sized, value_key, value_of};
+ghost use Rattle.dns_rdata_service.specs.SVCB.{svcb_shape, svcb_fields, svcb_key_shape, svcb_keys};
 
+use crate::ordering::{hint4_cmp, hint6_cmp};
 use crate::svcb::{SVCB, SvcParamKey, SvcParamValue};
 use dns_names_wire::Octets;
-use dns_pieces::order::{name_behind, two_behind};
+use dns_pieces::order::{name_behind, slices_behind, text_behind, two_behind};
+use dns_rdata_base::{A, AAAA};
 use std::cmp::Ordering;
 
-/// How two service bindings are ordered by priority and target, and how many of their first parameters are alike, where
-/// these are the same.
+/// How two service bindings are ordered by priority, target and the first parameters that are not alike, and how many
+/// before these are alike. Equal where that is not easily told: what stands behind those that are alike then decides.
 pub fn svcb_front(a: &SVCB, b: &SVCB) -> (Ordering, usize)
     ensures order { canonical_cmp svcb_shape (svcb_fields a.now) (svcb_fields b.now) ≡ ordering_then result.0 (slice_cmp nat_cmp (parameters_from a.now.svc_params result.1) (parameters_from b.now.svc_params result.1)) }
     ensures first { result.1 ≤ length a.now.svc_params }
     ensures second { result.1 ≤ length b.now.svc_params }
+    // Where all parameters are alike, they are equal, if the marks of the targets are.
+    ensures equal { result.0 ≡ Equal → result.1 ≡ length a.now.svc_params → result.1 ≡ length b.now.svc_params → a.now.target_name.fully_qualified ≡ b.now.target_name.fully_qualified → values_eq svcb_key_shape (svcb_keys a.now) (svcb_keys b.now) ≡ true }
 {
     let priority = two_behind(Ordering::Equal, a.svc_priority, b.svc_priority);
     let order = name_behind(priority, &a.target_name, &b.target_name);
     if order.is_ne() {
         return (order, 0);
     }
-    let alike = alike_count(a.svc_params.as_slice(), b.svc_params.as_slice());
-    (order, alike)
+    parameters_front(a.svc_params.as_slice(), b.svc_params.as_slice())
 }
 
-// How many of the first parameters are alike.
-fn alike_count(a: &[(SvcParamKey, SvcParamValue)], b: &[(SvcParamKey, SvcParamValue)]) -> usize
-    ensures rest { slice_cmp nat_cmp (parameters_from a.now 0) (parameters_from b.now 0) ≡ slice_cmp nat_cmp (parameters_from a.now result) (parameters_from b.now result) }
-    ensures first { result ≤ length a.now }
-    ensures second { result ≤ length b.now }
+// How the first parameters that are not alike are ordered, or Equal, and how many before them are alike.
+fn parameters_front(
+    a: &[(SvcParamKey, SvcParamValue)],
+    b: &[(SvcParamKey, SvcParamValue)],
+) -> (Ordering, usize)
+    ensures order { slice_cmp nat_cmp (parameters_from a.now 0) (parameters_from b.now 0) ≡ ordering_then result.0 (slice_cmp nat_cmp (parameters_from a.now result.1) (parameters_from b.now result.1)) }
+    ensures first { result.1 ≤ length a.now }
+    ensures second { result.1 ≤ length b.now }
+    ensures alike { map own_parameter (drop result.1 a.now) ≡ map own_parameter (drop result.1 b.now) → map own_parameter a.now ≡ map own_parameter b.now }
 {
     let shorter = a.len().min(b.len());
     for at in 0..shorter {
-        if !is_alike(&a[at], &b[at]) {
-            return at;
+        let Some(order) = pair_order(&a[at], &b[at]) else {
+            return (Ordering::Equal, at);
+        };
+        if order.is_ne() {
+            return (order, at);
         }
     }
-    shorter
+    (Ordering::Equal, shorter)
 }
 
-// Whether key and value are alike.
+// Of a key, a length and a value, in front of others: Equal only for those that are alike.
 #[inline]
-fn is_alike(a: &(SvcParamKey, SvcParamValue), b: &(SvcParamKey, SvcParamValue)) -> bool
-    ensures { IsTrue result → parameter_of a.now ≡ parameter_of b.now }
+fn pair_order(
+    a: &(SvcParamKey, SvcParamValue),
+    b: &(SvcParamKey, SvcParamValue),
+) -> Option<Ordering>
+    ensures order { IfSome result (λ o. OrderFirst o (parameter_octets_of a.now) (parameter_octets_of b.now)) }
+    ensures alike { IfSome result (λ o. o ≡ Equal → own_parameter a.now ≡ own_parameter b.now) }
 {
-    is_key_alike(a.0, b.0) && is_value_alike(&a.1, &b.1)
+    if is_key_alike(a.0, b.0) {
+        return value_order(&a.1, &b.1);
+    }
+    let keys = u16::from(a.0).cmp(&u16::from(b.0));
+    if keys.is_ne() { Some(keys) } else { None }
 }
 
 // By variant, and by the number inside: some of the same number are told apart.
 #[inline]
 fn is_key_alike(a: SvcParamKey, b: SvcParamKey) -> bool
-    ensures { IsTrue result → key_number a ≡ key_number b }
+    ensures { IsTrue result → (key_number a ≡ key_number b) × (key_variant a ≡ key_variant b) }
 {
     a.variant() == b.variant() && number_inside(a) == number_inside(b)
 }
@@ -73,31 +96,153 @@ fn number_inside(key: SvcParamKey) -> u16
     }
 }
 
-// By variant, and by what it holds: some of the same octets are told apart.
+// Of a length and a value, in front of others: Equal only for those that are alike.
 #[inline]
-fn is_value_alike(a: &SvcParamValue, b: &SvcParamValue) -> bool
-    ensures { IsTrue result → value_of a.now ≡ value_of b.now }
+fn value_order(a: &SvcParamValue, b: &SvcParamValue) -> Option<Ordering>
+    ensures order { IfSome result (λ o. OrderFirst o (sized (value_of a.now)) (sized (value_of b.now))) }
+    ensures alike { IfSome result (λ o. o ≡ Equal → value_key a.now ≡ value_key b.now) }
 {
     match (a, b) {
         (SvcParamValue::Alpn(x), SvcParamValue::Alpn(y)) => {
-            are_same(x.0.as_slice(), y.0.as_slice())
+            names_order(x.0.as_slice(), y.0.as_slice())
         }
-        _ => a == b,
+        (SvcParamValue::Port(x), SvcParamValue::Port(y)) => Some(port_order(*x, *y)),
+        (SvcParamValue::Ipv4Hint(x), SvcParamValue::Ipv4Hint(y)) => {
+            hint4_order(x.0.as_slice(), y.0.as_slice())
+        }
+        (SvcParamValue::EchConfigList(x), SvcParamValue::EchConfigList(y)) => {
+            octets_order(&x.0, &y.0)
+        }
+        (SvcParamValue::Ipv6Hint(x), SvcParamValue::Ipv6Hint(y)) => {
+            hint6_order(x.0.as_slice(), y.0.as_slice())
+        }
+        (SvcParamValue::Unknown(x), SvcParamValue::Unknown(y)) => octets_order(&x.0, &y.0),
+        _ => if a == b { Some(Ordering::Equal) } else { None },
     }
 }
 
-// What `==` of slices answers, quicker where they are few.
+// Of ports behind their length.
 #[inline]
-fn are_same(a: &[Octets], b: &[Octets]) -> bool
-    ensures { IsTrue result → a.now ≡ b.now }
+fn port_order(a: u16, b: u16) -> Ordering
+    ensures order { OrderFirst result (sized (Port a)) (sized (Port b)) }
+    ensures alike { result ≡ Equal → a ≡ b }
 {
-    if a.len() != b.len() {
-        return false;
+    a.cmp(&b)
+}
+
+// Of octets behind their length.
+#[inline]
+fn octets_order(a: &Octets, b: &Octets) -> Option<Ordering>
+    ensures order { IfSome result (λ o. OrderFirst o (sized (Opaque a.now)) (sized (Opaque b.now))) }
+    ensures alike { IfSome result (λ o. o ≡ Equal → a.now ≡ b.now) }
+{
+    if a.len() > 65535 || b.len() > 65535 {
+        return None;
     }
-    for at in 0..a.len() {
-        if a[at] != b[at] {
-            return false;
+    let lengths = a.len().cmp(&b.len());
+    Some(slices_behind(lengths, a.as_slice(), b.as_slice()))
+}
+
+// Of addresses of four octets behind their length.
+#[inline]
+fn hint4_order(a: &[A], b: &[A]) -> Option<Ordering>
+    ensures order { IfSome result (λ o. OrderFirst o (sized (Addresses (map a_octets a.now))) (sized (Addresses (map a_octets b.now)))) }
+    ensures alike { IfSome result (λ o. o ≡ Equal → map a_octets a.now ≡ map a_octets b.now) }
+{
+    let order = hint4_cmp(a, b);
+    if order.is_eq() {
+        return Some(order);
+    }
+    if a.len() > 16383 || b.len() > 16383 {
+        return None;
+    }
+    have_four(a);
+    have_four(b);
+    Some(a.len().cmp(&b.len()).then(order))
+}
+
+// Each address has four octets. Nothing is done: reading them says so.
+#[inline]
+fn have_four(addresses: &[A])
+    ensures { All (λ x. length (a_octets x) ≡ 4) addresses.now }
+{
+    for address in addresses {
+        let _octets = address.0.octets();
+    }
+}
+
+// Of addresses of sixteen octets behind their length.
+#[inline]
+fn hint6_order(a: &[AAAA], b: &[AAAA]) -> Option<Ordering>
+    ensures order { IfSome result (λ o. OrderFirst o (sized (WideAddresses (map aaaa_octets a.now))) (sized (WideAddresses (map aaaa_octets b.now)))) }
+    ensures alike { IfSome result (λ o. o ≡ Equal → map aaaa_octets a.now ≡ map aaaa_octets b.now) }
+{
+    let order = hint6_cmp(a, b);
+    if order.is_eq() {
+        return Some(order);
+    }
+    if a.len() > 4095 || b.len() > 4095 {
+        return None;
+    }
+    have_sixteen(a);
+    have_sixteen(b);
+    Some(a.len().cmp(&b.len()).then(order))
+}
+
+// Each address has sixteen octets. Nothing is done: reading them says so.
+#[inline]
+fn have_sixteen(addresses: &[AAAA])
+    ensures { All (λ x. length (aaaa_octets x) ≡ 16) addresses.now }
+{
+    for address in addresses {
+        let _octets = address.0.octets();
+    }
+}
+
+// Of names behind their length.
+fn names_order(a: &[Octets], b: &[Octets]) -> Option<Ordering>
+    ensures order { IfSome result (λ o. OrderFirst o (sized (Names a.now)) (sized (Names b.now))) }
+    ensures alike { IfSome result (λ o. o ≡ Equal → a.now ≡ b.now) }
+{
+    let order = names_cmp(a, b);
+    if order.is_eq() {
+        return Some(order);
+    }
+    let size = names_size(a)?;
+    let other_size = names_size(b)?;
+    Some(size.cmp(&other_size).then(order))
+}
+
+// Name by name.
+#[inline]
+fn names_cmp(a: &[Octets], b: &[Octets]) -> Ordering
+    ensures { result ≡ slice_cmp nat_cmp (flat_map string a.now) (flat_map string b.now) }
+{
+    let shorter = a.len().min(b.len());
+    for at in 0..shorter {
+        let order = text_behind(Ordering::Equal, &a[at], &b[at]);
+        if order.is_ne() {
+            return order;
         }
     }
-    true
+    a.len().cmp(&b.len())
+}
+
+// How many octets names have, each behind its length, if at most 65535.
+fn names_size(names: &[Octets]) -> Option<usize>
+    ensures size { IfSome result (λ n. n ≡ length (flat_map string names.now)) }
+    ensures few { IfSome result (λ n. n ≤ 65535) }
+{
+    let mut size = 0;
+    for name in names {
+        let len = name.len();
+        if len > 65535 {
+            return None;
+        }
+        size += 1 + len;
+        if size > 65535 {
+            return None;
+        }
+    }
+    Some(size)
 }

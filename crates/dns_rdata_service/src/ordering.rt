@@ -9,6 +9,7 @@ ghost use Rattle.dns_rdata_service.specs.SVCB.{svcb_key_shape, svcb_keys};
 ghost use Rattle.dns_rdata_service.specs.Ordering.{a_order, aaaa_order, parameter_order, value_place, Differ};
 
 use crate::svcb::{SVCB, SvcParamKey, SvcParamValue};
+use dns_pieces::order::octets_cmp;
 use dns_rdata_base::{A, AAAA};
 use std::cmp::Ordering;
 
@@ -24,7 +25,7 @@ fn keys_cmp(a: &[SvcParamKey], b: &[SvcParamKey]) -> Ordering
 fn a_cmp(a: &A, b: &A) -> Ordering
     ensures { result ≡ a_order a.now b.now }
 {
-    a.0.octets().as_slice().cmp(b.0.octets().as_slice())
+    octets_cmp(&a.0.octets(), &b.0.octets())
 }
 
 // By the octets.
@@ -32,11 +33,11 @@ fn a_cmp(a: &A, b: &A) -> Ordering
 fn aaaa_cmp(a: &AAAA, b: &AAAA) -> Ordering
     ensures { result ≡ aaaa_order a.now b.now }
 {
-    a.0.octets().as_slice().cmp(b.0.octets().as_slice())
+    octets_cmp(&a.0.octets(), &b.0.octets())
 }
 
 // Address by address.
-fn hint4_cmp(a: &[A], b: &[A]) -> Ordering
+pub(crate) fn hint4_cmp(a: &[A], b: &[A]) -> Ordering
     ensures { result ≡ slice_cmp a_order a.now b.now }
 {
     let shorter = a.len().min(b.len());
@@ -50,7 +51,7 @@ fn hint4_cmp(a: &[A], b: &[A]) -> Ordering
 }
 
 // Address by address.
-fn hint6_cmp(a: &[AAAA], b: &[AAAA]) -> Ordering
+pub(crate) fn hint6_cmp(a: &[AAAA], b: &[AAAA]) -> Ordering
     ensures { result ≡ slice_cmp aaaa_order a.now b.now }
 {
     let shorter = a.len().min(b.len());

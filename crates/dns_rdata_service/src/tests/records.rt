@@ -1,6 +1,7 @@
 ghost use Rattle.std.specs.Prelude.{◌<◌, length};
 
 use crate::items::Items;
+use crate::order::svcb_front;
 use crate::svcb::{SvcParamKey, SvcParamValue};
 use crate::{HTTPS, SVCB};
 use dns_names_wire::{
@@ -8,6 +9,7 @@ use dns_names_wire::{
 };
 use dns_rdata_base::RecordDataDecodable;
 use std::alloc::Global;
+use std::cmp::Ordering;
 use std::hash::{DefaultHasher, Hash, Hasher};
 
 fn whole(alloc: Global, octets: &[u8]) -> Result<SVCB, DecodeError>
@@ -95,6 +97,69 @@ fn equal_but_for_case(rt: HostRuntime) -> Result<(), ProtoError> {
     let lower = whole(alloc, b"\x00\x01\x01n\x00\x00\x03\x00\x03\x01\xbb\x00")?;
     assert!(rt; upper == lower);
     assert_eq!(rt; hash_of(&upper), hash_of(&lower));
+    Ok(())
+}
+
+// How the records of these octets are ordered at their front.
+fn front(alloc: Global, a: &[u8], b: &[u8]) -> Result<(Ordering, usize), DecodeError>
+    requires first { length a.now < 65536 }
+    requires second { length b.now < 65536 }
+{
+    let a = whole(alloc, a)?;
+    let b = whole(alloc, b)?;
+    Ok(svcb_front(&a, &b))
+}
+
+#[test]
+fn fronts(rt: HostRuntime) -> Result<(), DecodeError> {
+    for (a, b, order, alike) in [
+        // the last octet of an address
+        (
+            b"\x00\x01\x00\x00\x06\x00\x10\x20\x01\x0d\xb8\x00\x00\x00\x00\x00\x00\x00\x00\x00\x00\x00\x01".as_slice(),
+            b"\x00\x01\x00\x00\x06\x00\x10\x20\x01\x0d\xb8\x00\x00\x00\x00\x00\x00\x00\x00\x00\x00\x00\x02".as_slice(),
+            Ordering::Less,
+            0,
+        ),
+        // a port, behind protocols that are alike
+        (
+            b"\x00\x01\x00\x00\x01\x00\x03\x02h2\x00\x03\x00\x02\x01\xbc".as_slice(),
+            b"\x00\x01\x00\x00\x01\x00\x03\x02h2\x00\x03\x00\x02\x01\xbb".as_slice(),
+            Ordering::Greater,
+            1,
+        ),
+        // one more address, below the other
+        (
+            b"\x00\x01\x00\x00\x04\x00\x08\x0a\x00\x00\x01\x0a\x00\x00\x02".as_slice(),
+            b"\x00\x01\x00\x00\x04\x00\x04\xc0\x00\x02\x01".as_slice(),
+            Ordering::Greater,
+            0,
+        ),
+        // a key
+        (
+            b"\x00\x01\x00\x00\x03\x00\x02\x01\xbb".as_slice(),
+            b"\x00\x01\x00\x00\x02\x00\x00".as_slice(),
+            Ordering::Greater,
+            0,
+        ),
+        // a shorter protocol more
+        (
+            b"\x00\x01\x00\x00\x01\x00\x03\x02h3".as_slice(),
+            b"\x00\x01\x00\x00\x01\x00\x04\x01h\x01i".as_slice(),
+            Ordering::Less,
+            0,
+        ),
+        // nothing
+        (
+            b"\x00\x01\x01N\x00\x00\x02\x00\x00\x00\x07\x00\x01a".as_slice(),
+            b"\x00\x01\x01n\x00\x00\x02\x00\x00\x00\x07\x00\x01a".as_slice(),
+            Ordering::Equal,
+            2,
+        ),
+    ] {
+        let found = front(rt.alloc(), a, b)?;
+        assert!(rt; found.0 == order);
+        assert_eq!(rt; found.1, alike);
+    }
     Ok(())
 }
 
