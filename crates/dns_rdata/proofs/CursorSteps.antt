@@ -138,26 +138,3 @@ pub some_windows : (v : RData) (o : Option RData) → (o ≡ Some v) ⊎ (o ≡ 
 unfolding windows_of
 some_windows v o (inl e) = rw e (omega arith)
 some_windows v o (inr e) = rw e (omega arith)
-
--- ---- values that can be emitted, compared
-
-emitted_cmp : (v w : RData) (b d : Bool) → b ≡ all_emittable (fields_of v).kinds (fields_of v).values → d ≡ all_emittable (fields_of w).kinds (fields_of w).values → b ≡ true → d ≡ true
-    → slice_cmp nat_cmp (canonical (fields_of v).kinds (fields_of v).values) (canonical (fields_of w).kinds (fields_of w).values) ≡ slice_cmp nat_cmp (data_octets v) (data_octets w)
-emitted_cmp v w b d e f h k = rw (sym e ∙ h, sym f ∙ k) refl
-
--- the same of values given otherwise
-pub emitted_as : (v w x y : RData) (b d : Bool) → v ≡ x → w ≡ y → b ≡ all_emittable (fields_of v).kinds (fields_of v).values → d ≡ all_emittable (fields_of w).kinds (fields_of w).values → b ≡ true → d ≡ true
-    → slice_cmp nat_cmp (canonical (fields_of x).kinds (fields_of x).values) (canonical (fields_of y).kinds (fields_of y).values) ≡ slice_cmp nat_cmp (data_octets v) (data_octets w)
-emitted_as v w x y b d p q e f h k = rw (← p, ← q) (emitted_cmp v w b d e f h k)
-
--- ---- a cursor behind the first step
-
-pub goes_on : (v : RData) (i : ℕ) → all_emittable (fields_of v).kinds (fields_of v).values ≡ true → DataAt v 1 i 0
-goes_on (rdata.CAA x) i h = emittable_short caa_shape (caa_fields x) h
-goes_on (rdata.HINFO x) i h = emittable_short hinfo_shape (hinfo_fields x) h
-goes_on (rdata.HTTPS x) i h = sym (with_true (parameters_emittable (map parameter_of x.0.svc_params))) ∙ h
-goes_on (rdata.NAPTR x) i h = emittable_short naptr_shape (naptr_fields x) h
-goes_on (rdata.OPT x) i h = (sym (with_true (pairs_emittable x)) ∙ h, tt)
-goes_on (rdata.SVCB x) i h = sym (with_true (parameters_emittable (map parameter_of x.svc_params))) ∙ h
-goes_on (rdata.TXT x) i h = emittable_short txt_shape (txt_fields x) h
-goes_on v i h = tt

@@ -1,6 +1,6 @@
 -- Values that were read are ordered by their canonical octets.
-use Rattle.std.proofs.Common.{◌≡◌, Bool, true, true≢false, sym, ◌∙◌, refl}
-use Rattle.std.specs.Ordering.{nat_cmp, ordering_then, is_ne}
+use Rattle.std.proofs.Common.{◌≡◌, Bool, true, sym, ◌∙◌, refl}
+use Rattle.std.specs.Ordering.{nat_cmp, ordering_then}
 use Rattle.std.specs.Cmp.Lexicographic.{slice_cmp}
 use Rattle.std.specs.FinMap.{nat_cmp-IsAntisymmetric, slice_cmp-IsAntisymmetric}
 use Rattle.std.specs.declared.cmp.Ordering.{Ordering}
@@ -12,7 +12,7 @@ use Rattle.dns_rdata.specs.Order.{rdata_cmp, OrdersRead}
 use Rattle.dns_rdata.specs.Ties.{equal_is, rdata_ties}
 use Rattle.dns_rdata.proofs.DataLaws.{tells_apart}
 
-then_tied : (o q : Ordering) → (o ≡ Equal → ordering_then o q ≡ Equal) → ordering_then o q ≡ o
+pub then_tied : (o q : Ordering) → (o ≡ Equal → ordering_then o q ≡ Equal) → ordering_then o q ≡ o
 then_tied Less q h = refl
 then_tied Equal q h = h refl
 then_tied Greater q h = refl
@@ -31,9 +31,3 @@ equal_octets v w b e h = first_tied _ _ (equal_is (rdata_cmp v w) (sym (rdata_ti
     first_tied Less q t = sym t
     first_tied Equal q t = refl
     first_tied Greater q t = sym t
-
--- what is decided by what was compared first
-pub decided : (o q r : Ordering) → is_ne o ≡ true → r ≡ ordering_then o q → o ≡ r
-decided Less q r h e = sym e
-decided Equal q r h e = absurd (true≢false (sym h))
-decided Greater q r h e = sym e

@@ -4,6 +4,7 @@ pub mod DataWords
 pub mod Equal
 pub mod Hashing
 pub mod Laws
+pub mod KnownOrders
 pub mod Order
 pub mod Ties
 pub mod Refusals

@@ -40,7 +40,7 @@ use Rattle.dns_rdata_options.proofs.Values.{opt_permutes}
 use Rattle.std.specs.List.Sorted.{IsPermutation}
 use Rattle.std.proofs.lemmas.List.Sorted.{IsPermutation-map, list_any-IsPermutation}
 use Rattle.dns_fields.specs.Pieces.{option_octets, option_emittable, parameters_emittable}
-use Rattle.dns_rdata_service.specs.HTTPS.{https_shape, https_fields, https_key_shape, https_keys}
+use Rattle.dns_rdata_service.specs.HTTPS.{https_key_shape, https_keys}
 use Rattle.dns_rdata_service.specs.SVCB.{svcb_shape, svcb_fields, svcb_key_shape, svcb_keys}
 use Rattle.dns_rdata_service.specs.declared.svcb.SVCB.{SVCB}
 use Rattle.dns_rdata_service.proofs.OwnValues.{own_fields}

@@ -172,26 +172,6 @@ impl RData {
     }
 }
 
-impl RData {
-    // A cursor at a part of what comes behind the first step, of a value that can be emitted.
-    #[inline]
-    pub(crate) fn octets_from(&self, part: usize) -> CanonicalOctets<'_>
-        requires { all_emittable (fields_of self.now).kinds (fields_of self.now).values ≡ true }
-        ensures { result.octets ≡ data_left self.now 1 part 0 }
-    {
-        CanonicalOctets {
-            data: Some(self),
-            run: Run::new(),
-            step: 1,
-            part,
-            item: 0,
-            taken: Count::new(),
-            choices: Count::new(),
-            passes: Count::new(),
-        }
-    }
-}
-
 // What comes next behind a place of the data, if there are any.
 #[inline]
 fn next_step<'a>(

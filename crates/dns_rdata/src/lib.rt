@@ -4,6 +4,7 @@
 ghost use Rattle.dns_rdata.specs.Laws.{OneValue, EachWindow};
 
 pub mod canonical;
+mod known;
 pub mod order;
 pub mod record_data;
 pub mod traits;

@@ -1,7 +1,7 @@
 //! The order of record data.
 
-ghost use Rattle.std.specs.Prelude.{◌≡◌, ◌∷◌, [], ℕ, true};
-ghost use Rattle.dns_fields.specs.Fields.{Rest, all_emittable};
+ghost use Rattle.std.specs.Prelude.{◌≡◌, ◌∷◌, []};
+ghost use Rattle.dns_fields.specs.Fields.{Rest};
 ghost use Rattle.dns_fields.specs.Order.{values_cmp};
 ghost use Rattle.dns_rdata_base.specs.A.{a_shape, a_fields};
 ghost use Rattle.dns_rdata_base.specs.AAAA.{aaaa_shape, aaaa_fields};
@@ -19,26 +19,14 @@ ghost use Rattle.dns_rdata_sets.specs.CAA.{caa_key_shape, caa_keys};
 ghost use Rattle.dns_rdata_sets.specs.CSYNC.{csync_key_shape, csync_keys};
 ghost use Rattle.std.specs.Cmp.Lexicographic.{slice_cmp};
 ghost use Rattle.std.specs.Ordering.{nat_cmp};
-ghost use Rattle.dns_pieces.specs.Fronts.{canonical_cmp};
-ghost use Rattle.dns_rdata_service.specs.Steps.{parameters_from};
-ghost use Rattle.dns_rdata_service.specs.SVCB.{svcb_shape, svcb_fields};
-ghost use Rattle.dns_rdata.specs.Cursor.{data_left};
-ghost use Rattle.dns_rdata.specs.Data.{data_octets, fields_of};
+ghost use Rattle.dns_rdata.specs.Data.{data_octets};
 ghost use Rattle.dns_rdata.specs.Order.{rank, rdata_cmp, variants_cmp, Differ};
 
 use crate::record_data::RData;
 use dns_names_wire::{Name, Octets};
-use dns_rdata_base::order::{
-    a_order, aaaa_order, hinfo_order, mx_order, name_order, naptr_order, rest_order, soa_order,
-    srv_order, txt_order,
-};
 use dns_rdata_base::{A, AAAA, HINFO, MX, NAPTR, SOA, SRV, TXT};
-use dns_rdata_certs::order::{cert_order, sshfp_order, tlsa_order};
 use dns_rdata_certs::{CERT, SSHFP, TLSA};
-use dns_rdata_service::SVCB;
-use dns_rdata_service::order::svcb_front;
 use dns_rdata_service::ordering::svcb_cmp;
-use dns_rdata_sets::order::{caa_order, csync_order};
 use dns_rdata_sets::{CAA, CSYNC};
 use std::cmp::Ordering;
 
@@ -320,77 +308,8 @@ impl RData {
         self.rank().cmp(&other.rank())
     }
 
-    // By the canonical octets, field by field where these are at hand.
+    // By the canonical octets, given by two cursors.
     fn cmp_octets(&self, other: &RData) -> Ordering
-        ensures { result ≡ slice_cmp nat_cmp (data_octets self.now) (data_octets other.now) }
-    {
-        match (self, other) {
-            (RData::A(a), RData::A(b)) => a_order(a, b),
-            (RData::AAAA(a), RData::AAAA(b)) => aaaa_order(a, b),
-            (RData::ANAME(a), RData::ANAME(b)) => name_order(&a.0, &b.0),
-            (RData::CERT(a), RData::CERT(b)) => cert_order(a, b),
-            (RData::CNAME(a), RData::CNAME(b)) => name_order(&a.0, &b.0),
-            (RData::CSYNC(a), RData::CSYNC(b)) => csync_order(a, b),
-            (RData::MX(a), RData::MX(b)) => mx_order(a, b),
-            (RData::NULL(a), RData::NULL(b)) => rest_order(&a.anything, &b.anything),
-            (RData::NS(a), RData::NS(b)) => name_order(&a.0, &b.0),
-            (RData::OPENPGPKEY(a), RData::OPENPGPKEY(b)) => rest_order(
-                &a.public_key,
-                &b.public_key,
-            ),
-            (RData::PTR(a), RData::PTR(b)) => name_order(&a.0, &b.0),
-            (RData::SMIMEA(a), RData::SMIMEA(b)) => tlsa_order(&a.0, &b.0),
-            (RData::SOA(a), RData::SOA(b)) => soa_order(a, b),
-            (RData::SRV(a), RData::SRV(b)) => srv_order(a, b),
-            (RData::SSHFP(a), RData::SSHFP(b)) => sshfp_order(a, b),
-            (RData::TLSA(a), RData::TLSA(b)) => tlsa_order(a, b),
-            (RData::Unknown { rdata: a, .. }, RData::Unknown { rdata: b, .. }) => rest_order(
-                &a.anything,
-                &b.anything,
-            ),
-            _ => self.cmp_strings(other),
-        }
-    }
-
-    // The same of values that may be such as cannot be emitted, which is tested first.
-    fn cmp_strings(&self, other: &RData) -> Ordering
-        ensures { result ≡ slice_cmp nat_cmp (data_octets self.now) (data_octets other.now) }
-    {
-        if !self.is_emittable() || !other.is_emittable() {
-            return self.cmp_cursors(other);
-        }
-        match (self, other) {
-            (RData::CAA(a), RData::CAA(b)) => caa_order(a, b),
-            (RData::HINFO(a), RData::HINFO(b)) => hinfo_order(a, b),
-            (RData::HTTPS(a), RData::HTTPS(b)) => self.cmp_services(&a.0, other, &b.0),
-            (RData::NAPTR(a), RData::NAPTR(b)) => naptr_order(a, b),
-            (RData::SVCB(a), RData::SVCB(b)) => self.cmp_services(a, other, b),
-            (RData::TXT(a), RData::TXT(b)) => txt_order(a, b),
-            _ => self.cmp_cursors(other),
-        }
-    }
-
-    // The same of two service bindings, by cursors at the first parameters that differ.
-    fn cmp_services(&self, a: &SVCB, other: &RData, b: &SVCB) -> Ordering
-        requires first { all_emittable (fields_of self.now).kinds (fields_of self.now).values ≡ true }
-        requires second { all_emittable (fields_of other.now).kinds (fields_of other.now).values ≡ true }
-        requires own { (i : ℕ) → data_left self.now 1 i 0 ≡ parameters_from a.now.svc_params i }
-        requires others { (i : ℕ) → data_left other.now 1 i 0 ≡ parameters_from b.now.svc_params i }
-        ensures { result ≡ canonical_cmp svcb_shape (svcb_fields a.now) (svcb_fields b.now) }
-    {
-        let (order, alike) = svcb_front(a, b);
-        if order.is_ne() {
-            return order;
-        }
-        if alike == a.svc_params.len() && alike == b.svc_params.len() {
-            return Ordering::Equal;
-        }
-        self.octets_from(alike)
-            .compare(&mut other.octets_from(alike))
-    }
-
-    // The same by two cursors.
-    fn cmp_cursors(&self, other: &RData) -> Ordering
         ensures { result ≡ slice_cmp nat_cmp (data_octets self.now) (data_octets other.now) }
     {
         // most that are equal are told sooner so
@@ -405,12 +324,12 @@ impl RData {
     fn cmp_all(&self, other: &RData) -> Ordering
         ensures { result ≡ rdata_cmp self.now other.now }
     {
+        if let Some(order) = self.cmp_known(other) {
+            return order;
+        }
         let octets = self.cmp_octets(other);
         if octets.is_ne() {
             return octets;
-        }
-        if self == other {
-            return Ordering::Equal;
         }
         let types = self.record_type().cmp(&other.record_type());
         if types.is_ne() {

@@ -1,0 +1,203 @@
+-- Orders that tell values apart are those of record data.
+use Rattle.std.proofs.Common.{◌≡◌, ◌&&◌, ℕ, Bool, true, true≢false, Option, Some, None, IfSome, List, [], ◌∷◌, ◌++◌, length, take, refl, sym, ap, ◌∙◌, subst}
+use Rattle.std.proofs.lemmas.List.{append_cancel_left, take_at}
+use Rattle.std.specs.List.{flat_map}
+use Rattle.std.specs.Cmp.Lexicographic.{slice_cmp}
+use Rattle.std.specs.FinMap.{nat_cmp-IsAntisymmetric, slice_cmp-IsAntisymmetric}
+use Rattle.std.specs.Ordering.{is_ne, nat_cmp, ordering_then}
+use Rattle.std.specs.declared.cmp.Ordering.{Ordering}
+use Rattle.std.specs.declared.cmp.Ordering.TheVariants.{Less, Equal, Greater}
+use Rattle.dns_fields.specs.Equal.{values_eq}
+use Rattle.dns_fields.specs.Fields.{Kind, Text, Texts, Rest, Values, all_emittable, canonical, field_octets}
+use Rattle.dns_fields.specs.Pieces.{string}
+use Rattle.dns_fields.proofs.Equivalences.{values_equiv}
+use Rattle.dns_pieces.specs.Fronts.{canonical_cmp}
+use Rattle.dns_pieces.proofs.Fronts.{AllEnd, by_fields, field_cmp, fields_cmp}
+use Rattle.dns_rdata_base.specs.declared.hinfo.HINFO.{HINFO}
+use Rattle.dns_rdata_base.specs.declared.txt.TXT.{TXT}
+use Rattle.dns_rdata_base.specs.HINFO.{hinfo_shape, hinfo_fields}
+use Rattle.dns_rdata_base.specs.TXT.{txt_shape, txt_fields}
+use Rattle.dns_rdata_certs.specs.declared.cert.CERT.{CERT}
+use Rattle.dns_rdata_certs.specs.declared.sshfp.SSHFP.{SSHFP}
+use Rattle.dns_rdata_certs.specs.declared.tlsa.TLSA.{TLSA}
+use Rattle.dns_rdata_certs.specs.CERT.{cert_shape, cert_fields}
+use Rattle.dns_rdata_certs.specs.SSHFP.{sshfp_shape, sshfp_fields}
+use Rattle.dns_rdata_certs.specs.TLSA.{tlsa_shape, tlsa_fields}
+use Rattle.dns_rdata_options.specs.OPT.{Pair, opt_shape, opt_fields}
+use Rattle.dns_rdata_options.specs.Order.{opt_eq}
+use Rattle.dns_rdata_sets.specs.declared.caa.CAA.{CAA}
+use Rattle.dns_rdata_sets.specs.CAA.{caa_shape, caa_fields, caa_key_shape, caa_keys}
+use Rattle.dns_rdata.specs.declared.record_data.RData.{RData}
+use Rattle.dns_rdata.specs.Data.{data_octets, fields_of, octets_of}
+use Rattle.dns_rdata.specs.Equal.{equal, caa_eq, cert_eq, hinfo_eq, sshfp_eq, tlsa_eq, txt_eq}
+use Rattle.dns_rdata.specs.KnownOrders.{IsKnown, Knows}
+use Rattle.dns_rdata.specs.Order.{rdata_cmp}
+use Rattle.dns_rdata.specs.Ties.{equal_is, rdata_ties}
+use Rattle.dns_rdata.proofs.OrderReads.{then_tied}
+
+-- ---- of what ties
+
+same_lists : (a b : List ℕ) → slice_cmp nat_cmp a b ≡ Equal → a ≡ b
+same_lists a b e = slice_cmp-IsAntisymmetric nat_cmp-IsAntisymmetric a b e
+
+first_ties : (o q : Ordering) → ordering_then o q ≡ Equal → o ≡ Equal
+first_ties Less q e = e
+first_ties Equal q e = refl
+first_ties Greater q e = e
+
+second_ties : (o q : Ordering) → ordering_then o q ≡ Equal → q ≡ Equal
+second_ties Less q e = cc e
+second_ties Equal q e = e
+second_ties Greater q e = cc e
+
+-- the octets of each field are the same
+abbrev pub AllTied : (kinds : List Kind) → Values kinds → Values kinds → Type 0
+AllTied [] a b = Unit {0}
+AllTied (k ∷ kinds) a b = (field_octets k a.0 ≡ field_octets k b.0) × AllTied kinds a.1 b.1
+
+all_tied : (o : Ordering) (kinds : List Kind) (a b : Values kinds) → fields_cmp o kinds a b ≡ Equal → (o ≡ Equal) × AllTied kinds a b
+all_tied o [] a b e = (e, tt)
+all_tied o (k ∷ kinds) a b e =
+    let t = all_tied (ordering_then o (field_cmp k a.0 b.0)) kinds a.1 b.1 e in
+    (first_ties o (field_cmp k a.0 b.0) t.0, (same_lists (field_octets k a.0) (field_octets k b.0) (second_ties o (field_cmp k a.0 b.0) t.0), t.1))
+
+pub tied_fields : (kinds : List Kind) (a b : Values kinds) → AllEnd kinds a b → canonical_cmp kinds a b ≡ Equal → AllTied kinds a b
+tied_fields kinds a b h e = (all_tied Equal kinds a b (by_fields kinds a b h ∙ e)).1
+
+-- two strings, one of which begins each of two lists
+one_string : (s t x y : List ℕ) → string s ++ x ≡ string t ++ y → (s ≡ t) × (x ≡ y)
+one_string s t x y e =
+    let n : length s ≡ length t = cc e in
+    let l : s ++ x ≡ t ++ y = cc e in
+    let same : s ≡ t = sym (take_at s x (length s) refl) ∙ ap (take (length s)) l ∙ take_at t y (length s) (sym n) in
+    (same, append_cancel_left s x y (l ∙ ap (λ (p : List ℕ). p ++ y) (sym same)))
+
+same_strings : (a b : List (List ℕ)) → flat_map string a ≡ flat_map string b → a ≡ b
+same_strings [] [] e = refl
+same_strings [] (t ∷ b) e = cc e
+same_strings (s ∷ a) [] e = cc e
+same_strings (s ∷ a) (t ∷ b) e =
+    let h = one_string s t (flat_map string a) (flat_map string b) e in
+    ap (λ (x : List ℕ). x ∷ a) h.0 ∙ ap (λ (x : List (List ℕ)). t ∷ x) (same_strings a b h.1)
+
+pub same_texts : (a b : List (List ℕ)) → field_octets Texts a ≡ field_octets Texts b → a ≡ b
+unfolding field_octets
+same_texts a b e = same_strings a b e
+
+pub same_text : (a b : List ℕ) → field_octets Text a ≡ field_octets Text b → a ≡ b
+unfolding field_octets
+same_text a b e = cc e
+
+pub same_rest : (a b : List ℕ) → field_octets Rest a ≡ field_octets Rest b → a ≡ b
+unfolding field_octets
+same_rest a b e = e
+
+pub itself : (s : List Kind) (a b : Values s) → a ≡ b → values_eq s a b ≡ true
+itself s a b e = subst (λ (x : Values s). values_eq s a x ≡ true) e ((values_equiv s).refl a)
+
+-- ---- of record data
+
+pub known : (v w : RData) (s : List Kind) (a b : Values s) (same : Bool) (o : Ordering) → fields_of v ≡ record { kinds = s; values = a }
+    → fields_of w ≡ record { kinds = s; values = b } → (same ≡ true → equal v w ≡ true) → IsKnown s a b same o → o ≡ rdata_cmp v w
+known v w s a b same o f g h k =
+    let left : data_octets v ≡ canonical s a = ap octets_of f ∙ rw k.first refl in
+    let right : data_octets w ≡ canonical s b = ap octets_of g ∙ rw k.second refl in
+    let e : o ≡ slice_cmp nat_cmp (data_octets v) (data_octets w) = k.octets ∙ rw (left, right) refl in
+    e ∙ sym (then_tied (slice_cmp nat_cmp (data_octets v) (data_octets w)) _ (λ t. equal_is (rdata_cmp v w) (sym (rdata_ties v w) ∙ h (k.equal (e ∙ t)))))
+
+-- of one variant
+pub in_variant : (v w v' w' : RData) (s : List Kind) (a b : Values s) (same : Bool) (r : Option Ordering) → v ≡ v' → w ≡ w'
+    → fields_of v' ≡ record { kinds = s; values = a } → fields_of w' ≡ record { kinds = s; values = b } → equal v' w' ≡ (same && true)
+    → Knows s a b same r → IfSome r (λ o. o ≡ rdata_cmp v w)
+in_variant v w v' w' s a b same None e l f g h k = tt
+in_variant v w v' w' s a b same (Some o) e l f g h k =
+    known v' w' s a b same o f g (λ t. h ∙ ap (λ (x : Bool). x && true) t) k ∙ ap (λ (x : RData). rdata_cmp x w') (sym e) ∙ ap (rdata_cmp v) (sym l)
+
+-- where a tie was tested by `==`
+pub unless_tied_knows : (s : List Kind) (a b : Values s) (same : Bool) (order : Ordering) (r : Option Ordering) → all_emittable s a ≡ true → all_emittable s b ≡ true
+    → order ≡ canonical_cmp s a b → IfSome r (λ o. (o ≡ order) × (o ≡ Equal → same ≡ true)) → Knows s a b same r
+unless_tied_knows s a b same order None f g e h = tt
+unless_tied_knows s a b same order (Some o) f g e h = record { first = f; second = g; octets = h.0 ∙ e; equal = h.1 }
+
+-- ---- of each record
+
+pub no_tie : {P : Type 0} (o : Ordering) → is_ne o ≡ true → o ≡ Equal → P
+no_tie Less h e = cc e
+no_tie Equal h e = absurd (true≢false (sym h))
+no_tie Greater h e = cc e
+
+pub rest_knows : (a b : List ℕ) (o : Ordering) → o ≡ canonical_cmp (Rest ∷ []) (a, tt) (b, tt)
+    → IsKnown (Rest ∷ []) (a, tt) (b, tt) (values_eq (Rest ∷ []) (a, tt) (b, tt)) o
+rest_knows a b o e = record {
+  first = refl;
+  second = refl;
+  octets = e;
+  equal = λ t. itself (Rest ∷ []) (a, tt) (b, tt) (rw (same_rest a b (tied_fields (Rest ∷ []) (a, tt) (b, tt) (tt, tt) (sym e ∙ t)).0) refl);
+}
+
+pub txt_knows : (x y : TXT) (o : Ordering) → all_emittable txt_shape (txt_fields x) ≡ true → all_emittable txt_shape (txt_fields y) ≡ true
+    → o ≡ canonical_cmp txt_shape (txt_fields x) (txt_fields y) → IsKnown txt_shape (txt_fields x) (txt_fields y) (txt_eq x y) o
+txt_knows x y o f g e = record {
+  first = f;
+  second = g;
+  octets = e;
+  equal = λ t. itself txt_shape (txt_fields x) (txt_fields y)
+      (rw (same_texts x.txt_data y.txt_data (tied_fields txt_shape (txt_fields x) (txt_fields y) (tt, tt) (sym e ∙ t)).0) refl);
+}
+
+pub hinfo_knows : (x y : HINFO) (o : Ordering) → all_emittable hinfo_shape (hinfo_fields x) ≡ true → all_emittable hinfo_shape (hinfo_fields y) ≡ true
+    → o ≡ canonical_cmp hinfo_shape (hinfo_fields x) (hinfo_fields y) → IsKnown hinfo_shape (hinfo_fields x) (hinfo_fields y) (hinfo_eq x y) o
+hinfo_knows x y o f g e = record {
+  first = f;
+  second = g;
+  octets = e;
+  equal = λ t.
+      let tied = tied_fields hinfo_shape (hinfo_fields x) (hinfo_fields y) (tt, (tt, tt)) (sym e ∙ t) in
+      itself hinfo_shape (hinfo_fields x) (hinfo_fields y) (rw (same_text x.cpu y.cpu tied.0, same_text x.os y.os tied.1.0) refl);
+}
+
+pub caa_knows : (x y : CAA) (o : Ordering) → all_emittable caa_shape (caa_fields x) ≡ true → all_emittable caa_shape (caa_fields y) ≡ true
+    → o ≡ canonical_cmp caa_shape (caa_fields x) (caa_fields y)
+    → (o ≡ Equal → (x.issuer_critical ≡ y.issuer_critical) × (x.reserved_flags ≡ y.reserved_flags)) → IsKnown caa_shape (caa_fields x) (caa_fields y) (caa_eq x y) o
+caa_knows x y o f g e h = record {
+  first = f;
+  second = g;
+  octets = e;
+  equal = λ t.
+      let tied = tied_fields caa_shape (caa_fields x) (caa_fields y) (tt, (tt, (tt, tt))) (sym e ∙ t) in
+      let flags = h t in
+      itself caa_key_shape (caa_keys x) (caa_keys y) (rw (flags.0, flags.1, same_text x.tag y.tag tied.1.0, same_rest x.value y.value tied.1.1.0) refl);
+}
+
+pub cert_knows : (x y : CERT) (o : Ordering) → o ≡ canonical_cmp cert_shape (cert_fields x) (cert_fields y)
+    → (o ≡ Equal → x.cert_data ≡ y.cert_data → cert_eq x y ≡ true) → IsKnown cert_shape (cert_fields x) (cert_fields y) (cert_eq x y) o
+cert_knows x y o e h = record {
+  first = refl;
+  second = refl;
+  octets = e;
+  equal = λ t. h t (same_rest x.cert_data y.cert_data (tied_fields cert_shape (cert_fields x) (cert_fields y) (tt, (tt, (tt, (tt, tt)))) (sym e ∙ t)).1.1.1.0);
+}
+
+pub sshfp_knows : (x y : SSHFP) (o : Ordering) → o ≡ canonical_cmp sshfp_shape (sshfp_fields x) (sshfp_fields y)
+    → (o ≡ Equal → x.fingerprint ≡ y.fingerprint → sshfp_eq x y ≡ true) → IsKnown sshfp_shape (sshfp_fields x) (sshfp_fields y) (sshfp_eq x y) o
+sshfp_knows x y o e h = record {
+  first = refl;
+  second = refl;
+  octets = e;
+  equal = λ t. h t (same_rest x.fingerprint y.fingerprint (tied_fields sshfp_shape (sshfp_fields x) (sshfp_fields y) (tt, (tt, (tt, tt))) (sym e ∙ t)).1.1.0);
+}
+
+pub tlsa_knows : (x y : TLSA) (o : Ordering) → o ≡ canonical_cmp tlsa_shape (tlsa_fields x) (tlsa_fields y)
+    → (o ≡ Equal → x.cert_data ≡ y.cert_data → tlsa_eq x y ≡ true) → IsKnown tlsa_shape (tlsa_fields x) (tlsa_fields y) (tlsa_eq x y) o
+tlsa_knows x y o e h = record {
+  first = refl;
+  second = refl;
+  octets = e;
+  equal = λ t. h t (same_rest x.cert_data y.cert_data (tied_fields tlsa_shape (tlsa_fields x) (tlsa_fields y) (tt, (tt, (tt, (tt, tt)))) (sym e ∙ t)).1.1.1.0);
+}
+
+pub opt_knows : (a b : List Pair) (r : Option Ordering) → all_emittable opt_shape (opt_fields a) ≡ true → all_emittable opt_shape (opt_fields b) ≡ true
+    → IfSome r (λ o. o ≡ canonical_cmp opt_shape (opt_fields a) (opt_fields b)) → (r ≡ Some Equal → opt_eq a b ≡ true)
+    → Knows opt_shape (opt_fields a) (opt_fields b) (opt_eq a b) r
+opt_knows a b None f g e h = tt
+opt_knows a b (Some o) f g e h = record { first = f; second = g; octets = e; equal = λ t. h (ap (λ (x : Ordering). Some x) t) }

@@ -1,0 +1,254 @@
+//! Record data of one variant, ordered by its fields without a cursor.
+
+ghost use Rattle.std.specs.Prelude.{◌≡◌, ◌∷◌, [], IfSome, IsTrue, true};
+ghost use Rattle.std.specs.declared.cmp.Ordering.TheVariants.{Equal};
+ghost use Rattle.dns_fields.specs.Fields.{Rest};
+ghost use Rattle.dns_fields.specs.Equal.{values_eq};
+ghost use Rattle.dns_rdata_base.specs.HINFO.{hinfo_shape, hinfo_fields};
+ghost use Rattle.dns_rdata_base.specs.NAPTR.{naptr_shape, naptr_fields};
+ghost use Rattle.dns_rdata_base.specs.TXT.{txt_shape, txt_fields};
+ghost use Rattle.dns_rdata_certs.specs.CERT.{cert_shape, cert_fields};
+ghost use Rattle.dns_rdata_certs.specs.SSHFP.{sshfp_shape, sshfp_fields};
+ghost use Rattle.dns_rdata_certs.specs.TLSA.{tlsa_shape, tlsa_fields};
+ghost use Rattle.dns_rdata_options.specs.OPT.{opt_shape, opt_fields};
+ghost use Rattle.dns_rdata_options.specs.Order.{opt_eq};
+ghost use Rattle.dns_rdata_sets.specs.CAA.{caa_shape, caa_fields};
+ghost use Rattle.dns_rdata_sets.specs.CSYNC.{csync_shape, csync_fields};
+ghost use Rattle.dns_rdata_service.specs.SVCB.{svcb_shape, svcb_fields};
+ghost use Rattle.dns_rdata.specs.Equal.{caa_eq, cert_eq, csync_eq, hinfo_eq, naptr_eq, sshfp_eq, svcb_eq, tlsa_eq, txt_eq};
+ghost use Rattle.dns_rdata.specs.KnownOrders.{Knows};
+ghost use Rattle.dns_rdata.specs.Order.{rdata_cmp};
+
+use crate::record_data::RData;
+use dns_names_wire::Octets;
+use dns_rdata_base::order::{
+    a_order, aaaa_order, hinfo_order, mx_order, name_order, naptr_order, rest_order, soa_order,
+    srv_order, txt_order,
+};
+use dns_rdata_base::steps::{hinfo_is_emittable, naptr_is_emittable, txt_is_emittable};
+use dns_rdata_base::{HINFO, NAPTR, TXT};
+use dns_rdata_certs::order::{cert_order, sshfp_order, tlsa_order};
+use dns_rdata_certs::{CERT, SSHFP, TLSA};
+use dns_rdata_options::OPT;
+use dns_rdata_options::order::opt_order;
+use dns_rdata_options::steps::opt_is_emittable;
+use dns_rdata_service::SVCB;
+use dns_rdata_service::order::svcb_front;
+use dns_rdata_service::steps::svcb_is_emittable;
+use dns_rdata_sets::order::{caa_order, csync_order};
+use dns_rdata_sets::steps::caa_is_emittable;
+use dns_rdata_sets::{CAA, CSYNC};
+use std::cmp::Ordering;
+
+// The order, unless two values tie that are not equal.
+#[inline]
+fn unless_tied<T: PartialEq>(order: Ordering, a: &T, b: &T) -> Option<Ordering>
+    ensures { IfSome result (λ o. (o ≡ order) × (o ≡ Equal → T.eq a.now b.now ≡ true)) }
+{
+    if order.is_ne() || a == b {
+        Some(order)
+    } else {
+        None
+    }
+}
+
+// Octets to the end tell the value.
+#[inline]
+fn rest_known(a: &Octets, b: &Octets) -> Option<Ordering>
+    ensures { Knows (Rest ∷ []) (a.now, tt) (b.now, tt) (values_eq (Rest ∷ []) (a.now, tt) (b.now, tt)) result }
+{
+    Some(rest_order(a, b))
+}
+
+// So do strings.
+#[inline]
+fn txt_known(a: &TXT, b: &TXT) -> Option<Ordering>
+    ensures { Knows txt_shape (txt_fields a.now) (txt_fields b.now) (txt_eq a.now b.now) result }
+{
+    if !txt_is_emittable(a) || !txt_is_emittable(b) {
+        return None;
+    }
+    Some(txt_order(a, b))
+}
+
+// So do two strings.
+#[inline]
+fn hinfo_known(a: &HINFO, b: &HINFO) -> Option<Ordering>
+    ensures { Knows hinfo_shape (hinfo_fields a.now) (hinfo_fields b.now) (hinfo_eq a.now b.now) result }
+{
+    if !hinfo_is_emittable(a) || !hinfo_is_emittable(b) {
+        return None;
+    }
+    Some(hinfo_order(a, b))
+}
+
+#[inline]
+fn naptr_known(a: &NAPTR, b: &NAPTR) -> Option<Ordering>
+    ensures { Knows naptr_shape (naptr_fields a.now) (naptr_fields b.now) (naptr_eq a.now b.now) result }
+{
+    if !naptr_is_emittable(a) || !naptr_is_emittable(b) {
+        return None;
+    }
+    unless_tied(naptr_order(a, b), a, b)
+}
+
+// Whether the flags came from the same fields.
+#[inline]
+fn has_same_flags(a: &CAA, b: &CAA) -> bool
+    ensures { IsTrue result → (a.now.issuer_critical ≡ b.now.issuer_critical) × (a.now.reserved_flags ≡ b.now.reserved_flags) }
+{
+    a.issuer_critical == b.issuer_critical && a.reserved_flags == b.reserved_flags
+}
+
+// The octets tell tag and value.
+#[inline]
+fn caa_known(a: &CAA, b: &CAA) -> Option<Ordering>
+    ensures { Knows caa_shape (caa_fields a.now) (caa_fields b.now) (caa_eq a.now b.now) result }
+{
+    if !caa_is_emittable(a) || !caa_is_emittable(b) {
+        return None;
+    }
+    let order = caa_order(a, b);
+    if order.is_ne() || has_same_flags(a, b) {
+        Some(order)
+    } else {
+        None
+    }
+}
+
+#[inline]
+fn csync_known(a: &CSYNC, b: &CSYNC) -> Option<Ordering>
+    ensures { Knows csync_shape (csync_fields a.now) (csync_fields b.now) (csync_eq a.now b.now) result }
+{
+    unless_tied(csync_order(a, b), a, b)
+}
+
+// Whether all but the octets is equal.
+#[inline]
+fn is_cert_front_same(a: &CERT, b: &CERT) -> bool
+    ensures { IsTrue result → a.now.cert_data ≡ b.now.cert_data → cert_eq a.now b.now ≡ true }
+{
+    a.cert_type == b.cert_type && a.key_tag == b.key_tag && a.algorithm == b.algorithm
+}
+
+// The octets tell the certificate.
+#[inline]
+fn cert_known(a: &CERT, b: &CERT) -> Option<Ordering>
+    ensures { Knows cert_shape (cert_fields a.now) (cert_fields b.now) (cert_eq a.now b.now) result }
+{
+    let order = cert_order(a, b);
+    if order.is_ne() || is_cert_front_same(a, b) {
+        Some(order)
+    } else {
+        None
+    }
+}
+
+// Whether all but the octets is equal.
+#[inline]
+fn is_sshfp_front_same(a: &SSHFP, b: &SSHFP) -> bool
+    ensures { IsTrue result → a.now.fingerprint ≡ b.now.fingerprint → sshfp_eq a.now b.now ≡ true }
+{
+    a.algorithm == b.algorithm && a.fingerprint_type == b.fingerprint_type
+}
+
+// The octets tell the fingerprint.
+#[inline]
+fn sshfp_known(a: &SSHFP, b: &SSHFP) -> Option<Ordering>
+    ensures { Knows sshfp_shape (sshfp_fields a.now) (sshfp_fields b.now) (sshfp_eq a.now b.now) result }
+{
+    let order = sshfp_order(a, b);
+    if order.is_ne() || is_sshfp_front_same(a, b) {
+        Some(order)
+    } else {
+        None
+    }
+}
+
+// Whether all but the octets is equal.
+#[inline]
+fn is_tlsa_front_same(a: &TLSA, b: &TLSA) -> bool
+    ensures { IsTrue result → a.now.cert_data ≡ b.now.cert_data → tlsa_eq a.now b.now ≡ true }
+{
+    a.cert_usage == b.cert_usage && a.selector == b.selector && a.matching == b.matching
+}
+
+// The octets tell the certificate's data.
+#[inline]
+fn tlsa_known(a: &TLSA, b: &TLSA) -> Option<Ordering>
+    ensures { Knows tlsa_shape (tlsa_fields a.now) (tlsa_fields b.now) (tlsa_eq a.now b.now) result }
+{
+    let order = tlsa_order(a, b);
+    if order.is_ne() || is_tlsa_front_same(a, b) {
+        Some(order)
+    } else {
+        None
+    }
+}
+
+// Where the first parameters that differ decide, or none do.
+#[inline]
+fn svcb_known(a: &SVCB, b: &SVCB) -> Option<Ordering>
+    ensures { Knows svcb_shape (svcb_fields a.now) (svcb_fields b.now) (svcb_eq a.now b.now) result }
+{
+    if !svcb_is_emittable(a) || !svcb_is_emittable(b) {
+        return None;
+    }
+    let (order, alike) = svcb_front(a, b);
+    if order.is_ne() {
+        return Some(order);
+    }
+    if alike == a.svc_params.len() && alike == b.svc_params.len() && a == b {
+        return Some(Ordering::Equal);
+    }
+    None
+}
+
+// Where the least of the options that differ decides, or none do.
+#[inline]
+fn opt_known(a: &OPT, b: &OPT) -> Option<Ordering>
+    ensures { Knows opt_shape (opt_fields a.now) (opt_fields b.now) (opt_eq a.now b.now) result }
+{
+    if !opt_is_emittable(a) || !opt_is_emittable(b) {
+        return None;
+    }
+    opt_order(a, b)
+}
+
+impl RData {
+    // The order of two values of one variant, by the fields, where these tell it.
+    #[inline]
+    pub(crate) fn cmp_known(&self, other: &RData) -> Option<Ordering>
+        ensures { IfSome result (λ o. o ≡ rdata_cmp self.now other.now) }
+    {
+        match (self, other) {
+            (RData::A(a), RData::A(b)) => unless_tied(a_order(a, b), a, b),
+            (RData::AAAA(a), RData::AAAA(b)) => unless_tied(aaaa_order(a, b), a, b),
+            (RData::ANAME(a), RData::ANAME(b)) => unless_tied(name_order(&a.0, &b.0), a, b),
+            (RData::CAA(a), RData::CAA(b)) => caa_known(a, b),
+            (RData::CERT(a), RData::CERT(b)) => cert_known(a, b),
+            (RData::CNAME(a), RData::CNAME(b)) => unless_tied(name_order(&a.0, &b.0), a, b),
+            (RData::CSYNC(a), RData::CSYNC(b)) => csync_known(a, b),
+            (RData::HINFO(a), RData::HINFO(b)) => hinfo_known(a, b),
+            (RData::HTTPS(a), RData::HTTPS(b)) => svcb_known(&a.0, &b.0),
+            (RData::MX(a), RData::MX(b)) => unless_tied(mx_order(a, b), a, b),
+            (RData::NAPTR(a), RData::NAPTR(b)) => naptr_known(a, b),
+            (RData::NULL(a), RData::NULL(b)) => rest_known(&a.anything, &b.anything),
+            (RData::NS(a), RData::NS(b)) => unless_tied(name_order(&a.0, &b.0), a, b),
+            (RData::OPENPGPKEY(a), RData::OPENPGPKEY(b)) => rest_known(
+                &a.public_key,
+                &b.public_key,
+            ),
+            (RData::OPT(a), RData::OPT(b)) => opt_known(a, b),
+            (RData::PTR(a), RData::PTR(b)) => unless_tied(name_order(&a.0, &b.0), a, b),
+            (RData::SMIMEA(a), RData::SMIMEA(b)) => tlsa_known(&a.0, &b.0),
+            (RData::SOA(a), RData::SOA(b)) => unless_tied(soa_order(a, b), a, b),
+            (RData::SRV(a), RData::SRV(b)) => unless_tied(srv_order(a, b), a, b),
+            (RData::SSHFP(a), RData::SSHFP(b)) => sshfp_known(a, b),
+            (RData::SVCB(a), RData::SVCB(b)) => svcb_known(a, b),
+            (RData::TLSA(a), RData::TLSA(b)) => tlsa_known(a, b),
+            (RData::TXT(a), RData::TXT(b)) => txt_known(a, b),
+            _ => None,
+        }
+    }
+}
