@@ -1,10 +1,10 @@
 -- Orders that tell values apart are those of record data.
-use Rattle.std.proofs.Common.{◌≡◌, ◌&&◌, ℕ, Bool, true, true≢false, Option, Some, None, IfSome, List, [], ◌∷◌, ◌++◌, length, take, refl, sym, ap, ◌∙◌, subst}
+use Rattle.std.proofs.Common.{◌≡◌, ◌≢◌, ◌&&◌, ℕ, Bool, true, false, true≢false, Option, Some, None, IfSome, List, [], ◌∷◌, ◌++◌, length, take, refl, sym, ap, ◌∙◌, subst}
 use Rattle.std.proofs.lemmas.List.{append_cancel_left, take_at}
 use Rattle.std.specs.List.{flat_map}
 use Rattle.std.specs.Cmp.Lexicographic.{slice_cmp}
 use Rattle.std.specs.FinMap.{nat_cmp-IsAntisymmetric, slice_cmp-IsAntisymmetric}
-use Rattle.std.specs.Ordering.{is_ne, nat_cmp, ordering_then}
+use Rattle.std.specs.Ordering.{is_eq, is_ne, nat_cmp, ordering_then}
 use Rattle.std.specs.declared.cmp.Ordering.{Ordering}
 use Rattle.std.specs.declared.cmp.Ordering.TheVariants.{Less, Equal, Greater}
 use Rattle.dns_fields.specs.Equal.{values_eq}
@@ -12,6 +12,7 @@ use Rattle.dns_fields.specs.Fields.{Kind, Text, Texts, Rest, Values, all_emittab
 use Rattle.dns_fields.specs.Pieces.{string}
 use Rattle.dns_fields.proofs.Equivalences.{values_equiv}
 use Rattle.dns_pieces.specs.Fronts.{canonical_cmp}
+use Rattle.dns_pieces.proofs.Comparing.{then_kept}
 use Rattle.dns_pieces.proofs.Fronts.{AllEnd, by_fields, field_cmp, fields_cmp}
 use Rattle.dns_rdata_base.specs.declared.hinfo.HINFO.{HINFO}
 use Rattle.dns_rdata_base.specs.declared.txt.TXT.{TXT}
@@ -23,8 +24,6 @@ use Rattle.dns_rdata_certs.specs.declared.tlsa.TLSA.{TLSA}
 use Rattle.dns_rdata_certs.specs.CERT.{cert_shape, cert_fields}
 use Rattle.dns_rdata_certs.specs.SSHFP.{sshfp_shape, sshfp_fields}
 use Rattle.dns_rdata_certs.specs.TLSA.{tlsa_shape, tlsa_fields}
-use Rattle.dns_rdata_options.specs.OPT.{Pair, opt_shape, opt_fields}
-use Rattle.dns_rdata_options.specs.Order.{opt_eq}
 use Rattle.dns_rdata_sets.specs.declared.caa.CAA.{CAA}
 use Rattle.dns_rdata_sets.specs.CAA.{caa_shape, caa_fields, caa_key_shape, caa_keys}
 use Rattle.dns_rdata.specs.declared.record_data.RData.{RData}
@@ -33,7 +32,6 @@ use Rattle.dns_rdata.specs.Equal.{equal, caa_eq, cert_eq, hinfo_eq, sshfp_eq, tl
 use Rattle.dns_rdata.specs.KnownOrders.{IsKnown, Knows}
 use Rattle.dns_rdata.specs.Order.{rdata_cmp}
 use Rattle.dns_rdata.specs.Ties.{equal_is, rdata_ties}
-use Rattle.dns_rdata.proofs.OrderReads.{then_tied}
 
 -- ---- of what ties
 
@@ -97,13 +95,25 @@ itself s a b e = subst (λ (x : Values s). values_eq s a x ≡ true) e ((values_
 
 -- ---- of record data
 
-pub known : (v w : RData) (s : List Kind) (a b : Values s) (same : Bool) (o : Ordering) → fields_of v ≡ record { kinds = s; values = a }
+less_apart : Less ≢ Equal
+less_apart e = cc e
+
+greater_apart : Greater ≢ Equal
+greater_apart e = cc e
+
+differs : (v w : RData) (s : List Kind) (a b : Values s) (o : Ordering) → fields_of v ≡ record { kinds = s; values = a }
+    → fields_of w ≡ record { kinds = s; values = b } → o ≢ Equal → all_emittable s a ≡ true → all_emittable s b ≡ true → o ≡ canonical_cmp s a b → o ≡ rdata_cmp v w
+differs v w s a b o f g n first second e =
+    let left : data_octets v ≡ canonical s a = ap octets_of f ∙ rw first refl in
+    let right : data_octets w ≡ canonical s b = ap octets_of g ∙ rw second refl in
+    let d : o ≡ slice_cmp nat_cmp (data_octets v) (data_octets w) = e ∙ rw (left, right) refl in
+    d ∙ then_kept (slice_cmp nat_cmp (data_octets v) (data_octets w)) _ (λ t. n (d ∙ t))
+
+known : (v w : RData) (s : List Kind) (a b : Values s) (same : Bool) (o : Ordering) → fields_of v ≡ record { kinds = s; values = a }
     → fields_of w ≡ record { kinds = s; values = b } → (same ≡ true → equal v w ≡ true) → IsKnown s a b same o → o ≡ rdata_cmp v w
-known v w s a b same o f g h k =
-    let left : data_octets v ≡ canonical s a = ap octets_of f ∙ rw k.first refl in
-    let right : data_octets w ≡ canonical s b = ap octets_of g ∙ rw k.second refl in
-    let e : o ≡ slice_cmp nat_cmp (data_octets v) (data_octets w) = k.octets ∙ rw (left, right) refl in
-    e ∙ sym (then_tied (slice_cmp nat_cmp (data_octets v) (data_octets w)) _ (λ t. equal_is (rdata_cmp v w) (sym (rdata_ties v w) ∙ h (k.equal (e ∙ t)))))
+known v w s a b same Equal f g h k = sym (equal_is (rdata_cmp v w) (sym (rdata_ties v w) ∙ h (k.equal refl)))
+known v w s a b same Less f g h k = let n = less_apart in differs v w s a b Less f g n (k.first n) (k.second n) (k.octets n)
+known v w s a b same Greater f g h k = let n = greater_apart in differs v w s a b Greater f g n (k.first n) (k.second n) (k.octets n)
 
 -- of one variant
 pub in_variant : (v w v' w' : RData) (s : List Kind) (a b : Values s) (same : Bool) (r : Option Ordering) → v ≡ v' → w ≡ w'
@@ -117,7 +127,7 @@ in_variant v w v' w' s a b same (Some o) e l f g h k =
 pub unless_tied_knows : (s : List Kind) (a b : Values s) (same : Bool) (order : Ordering) (r : Option Ordering) → all_emittable s a ≡ true → all_emittable s b ≡ true
     → order ≡ canonical_cmp s a b → IfSome r (λ o. (o ≡ order) × (o ≡ Equal → same ≡ true)) → Knows s a b same r
 unless_tied_knows s a b same order None f g e h = tt
-unless_tied_knows s a b same order (Some o) f g e h = record { first = f; second = g; octets = h.0 ∙ e; equal = h.1 }
+unless_tied_knows s a b same order (Some o) f g e h = record { equal = h.1; first = λ n. f; second = λ n. g; octets = λ n. h.0 ∙ e }
 
 -- ---- of each record
 
@@ -126,43 +136,53 @@ no_tie Less h e = cc e
 no_tie Equal h e = absurd (true≢false (sym h))
 no_tie Greater h e = cc e
 
+pub no_difference : {P : Type 0} (o : Ordering) → is_eq o ≡ false → o ≡ Equal → P
+no_difference Less h e = cc e
+no_difference Equal h e = absurd (true≢false h)
+no_difference Greater h e = cc e
+
+pub tie : {P : Type 0} (o : Ordering) → is_eq o ≡ true → o ≢ Equal → P
+tie Less h n = absurd (true≢false (sym h))
+tie Equal h n = absurd (n refl)
+tie Greater h n = absurd (true≢false (sym h))
+
 pub rest_knows : (a b : List ℕ) (o : Ordering) → o ≡ canonical_cmp (Rest ∷ []) (a, tt) (b, tt)
     → IsKnown (Rest ∷ []) (a, tt) (b, tt) (values_eq (Rest ∷ []) (a, tt) (b, tt)) o
 rest_knows a b o e = record {
-  first = refl;
-  second = refl;
-  octets = e;
+  first = λ n. refl;
+  second = λ n. refl;
+  octets = λ n. e;
   equal = λ t. itself (Rest ∷ []) (a, tt) (b, tt) (rw (same_rest a b (tied_fields (Rest ∷ []) (a, tt) (b, tt) (tt, tt) (sym e ∙ t)).0) refl);
 }
 
-pub txt_knows : (x y : TXT) (o : Ordering) → all_emittable txt_shape (txt_fields x) ≡ true → all_emittable txt_shape (txt_fields y) ≡ true
+pub txt_knows : (x y : TXT) (o : Ordering) → (o ≢ Equal → all_emittable txt_shape (txt_fields x) ≡ true) → (o ≢ Equal → all_emittable txt_shape (txt_fields y) ≡ true)
     → o ≡ canonical_cmp txt_shape (txt_fields x) (txt_fields y) → IsKnown txt_shape (txt_fields x) (txt_fields y) (txt_eq x y) o
 txt_knows x y o f g e = record {
   first = f;
   second = g;
-  octets = e;
+  octets = λ n. e;
   equal = λ t. itself txt_shape (txt_fields x) (txt_fields y)
       (rw (same_texts x.txt_data y.txt_data (tied_fields txt_shape (txt_fields x) (txt_fields y) (tt, tt) (sym e ∙ t)).0) refl);
 }
 
-pub hinfo_knows : (x y : HINFO) (o : Ordering) → all_emittable hinfo_shape (hinfo_fields x) ≡ true → all_emittable hinfo_shape (hinfo_fields y) ≡ true
+pub hinfo_knows : (x y : HINFO) (o : Ordering) → (o ≢ Equal → all_emittable hinfo_shape (hinfo_fields x) ≡ true) → (o ≢ Equal → all_emittable hinfo_shape (hinfo_fields y) ≡ true)
     → o ≡ canonical_cmp hinfo_shape (hinfo_fields x) (hinfo_fields y) → IsKnown hinfo_shape (hinfo_fields x) (hinfo_fields y) (hinfo_eq x y) o
 hinfo_knows x y o f g e = record {
   first = f;
   second = g;
-  octets = e;
+  octets = λ n. e;
   equal = λ t.
       let tied = tied_fields hinfo_shape (hinfo_fields x) (hinfo_fields y) (tt, (tt, tt)) (sym e ∙ t) in
       itself hinfo_shape (hinfo_fields x) (hinfo_fields y) (rw (same_text x.cpu y.cpu tied.0, same_text x.os y.os tied.1.0) refl);
 }
 
-pub caa_knows : (x y : CAA) (o : Ordering) → all_emittable caa_shape (caa_fields x) ≡ true → all_emittable caa_shape (caa_fields y) ≡ true
+pub caa_knows : (x y : CAA) (o : Ordering) → (o ≢ Equal → all_emittable caa_shape (caa_fields x) ≡ true) → (o ≢ Equal → all_emittable caa_shape (caa_fields y) ≡ true)
     → o ≡ canonical_cmp caa_shape (caa_fields x) (caa_fields y)
     → (o ≡ Equal → (x.issuer_critical ≡ y.issuer_critical) × (x.reserved_flags ≡ y.reserved_flags)) → IsKnown caa_shape (caa_fields x) (caa_fields y) (caa_eq x y) o
 caa_knows x y o f g e h = record {
   first = f;
   second = g;
-  octets = e;
+  octets = λ n. e;
   equal = λ t.
       let tied = tied_fields caa_shape (caa_fields x) (caa_fields y) (tt, (tt, (tt, tt))) (sym e ∙ t) in
       let flags = h t in
@@ -172,32 +192,26 @@ caa_knows x y o f g e h = record {
 pub cert_knows : (x y : CERT) (o : Ordering) → o ≡ canonical_cmp cert_shape (cert_fields x) (cert_fields y)
     → (o ≡ Equal → x.cert_data ≡ y.cert_data → cert_eq x y ≡ true) → IsKnown cert_shape (cert_fields x) (cert_fields y) (cert_eq x y) o
 cert_knows x y o e h = record {
-  first = refl;
-  second = refl;
-  octets = e;
+  first = λ n. refl;
+  second = λ n. refl;
+  octets = λ n. e;
   equal = λ t. h t (same_rest x.cert_data y.cert_data (tied_fields cert_shape (cert_fields x) (cert_fields y) (tt, (tt, (tt, (tt, tt)))) (sym e ∙ t)).1.1.1.0);
 }
 
 pub sshfp_knows : (x y : SSHFP) (o : Ordering) → o ≡ canonical_cmp sshfp_shape (sshfp_fields x) (sshfp_fields y)
     → (o ≡ Equal → x.fingerprint ≡ y.fingerprint → sshfp_eq x y ≡ true) → IsKnown sshfp_shape (sshfp_fields x) (sshfp_fields y) (sshfp_eq x y) o
 sshfp_knows x y o e h = record {
-  first = refl;
-  second = refl;
-  octets = e;
+  first = λ n. refl;
+  second = λ n. refl;
+  octets = λ n. e;
   equal = λ t. h t (same_rest x.fingerprint y.fingerprint (tied_fields sshfp_shape (sshfp_fields x) (sshfp_fields y) (tt, (tt, (tt, tt))) (sym e ∙ t)).1.1.0);
 }
 
 pub tlsa_knows : (x y : TLSA) (o : Ordering) → o ≡ canonical_cmp tlsa_shape (tlsa_fields x) (tlsa_fields y)
     → (o ≡ Equal → x.cert_data ≡ y.cert_data → tlsa_eq x y ≡ true) → IsKnown tlsa_shape (tlsa_fields x) (tlsa_fields y) (tlsa_eq x y) o
 tlsa_knows x y o e h = record {
-  first = refl;
-  second = refl;
-  octets = e;
+  first = λ n. refl;
+  second = λ n. refl;
+  octets = λ n. e;
   equal = λ t. h t (same_rest x.cert_data y.cert_data (tied_fields tlsa_shape (tlsa_fields x) (tlsa_fields y) (tt, (tt, (tt, (tt, tt)))) (sym e ∙ t)).1.1.1.0);
 }
-
-pub opt_knows : (a b : List Pair) (r : Option Ordering) → all_emittable opt_shape (opt_fields a) ≡ true → all_emittable opt_shape (opt_fields b) ≡ true
-    → IfSome r (λ o. o ≡ canonical_cmp opt_shape (opt_fields a) (opt_fields b)) → (r ≡ Some Equal → opt_eq a b ≡ true)
-    → Knows opt_shape (opt_fields a) (opt_fields b) (opt_eq a b) r
-opt_knows a b None f g e h = tt
-opt_knows a b (Some o) f g e h = record { first = f; second = g; octets = e; equal = λ t. h (ap (λ (x : Ordering). Some x) t) }

@@ -12,7 +12,7 @@ use Rattle.dns_rdata.specs.Order.{rdata_cmp, OrdersRead}
 use Rattle.dns_rdata.specs.Ties.{equal_is, rdata_ties}
 use Rattle.dns_rdata.proofs.DataLaws.{tells_apart}
 
-pub then_tied : (o q : Ordering) → (o ≡ Equal → ordering_then o q ≡ Equal) → ordering_then o q ≡ o
+then_tied : (o q : Ordering) → (o ≡ Equal → ordering_then o q ≡ Equal) → ordering_then o q ≡ o
 then_tied Less q h = refl
 then_tied Equal q h = h refl
 then_tied Greater q h = refl

@@ -1,6 +1,6 @@
 //! Record data of one variant, ordered by its fields without a cursor.
 
-ghost use Rattle.std.specs.Prelude.{◌≡◌, ◌∷◌, [], IfSome, IsTrue, true};
+ghost use Rattle.std.specs.Prelude.{◌≡◌, ◌∷◌, [], IfSome, IsTrue, length, true};
 ghost use Rattle.std.specs.declared.cmp.Ordering.TheVariants.{Equal};
 ghost use Rattle.dns_fields.specs.Fields.{Rest};
 ghost use Rattle.dns_fields.specs.Equal.{values_eq};
@@ -65,10 +65,14 @@ fn rest_known(a: &Octets, b: &Octets) -> Option<Ordering>
 fn txt_known(a: &TXT, b: &TXT) -> Option<Ordering>
     ensures { Knows txt_shape (txt_fields a.now) (txt_fields b.now) (txt_eq a.now b.now) result }
 {
+    let order = txt_order(a, b);
+    if order.is_eq() {
+        return Some(order);
+    }
     if !txt_is_emittable(a) || !txt_is_emittable(b) {
         return None;
     }
-    Some(txt_order(a, b))
+    Some(order)
 }
 
 // So do two strings.
@@ -76,10 +80,14 @@ fn txt_known(a: &TXT, b: &TXT) -> Option<Ordering>
 fn hinfo_known(a: &HINFO, b: &HINFO) -> Option<Ordering>
     ensures { Knows hinfo_shape (hinfo_fields a.now) (hinfo_fields b.now) (hinfo_eq a.now b.now) result }
 {
+    let order = hinfo_order(a, b);
+    if order.is_eq() {
+        return Some(order);
+    }
     if !hinfo_is_emittable(a) || !hinfo_is_emittable(b) {
         return None;
     }
-    Some(hinfo_order(a, b))
+    Some(order)
 }
 
 #[inline]
@@ -105,15 +113,18 @@ fn has_same_flags(a: &CAA, b: &CAA) -> bool
 fn caa_known(a: &CAA, b: &CAA) -> Option<Ordering>
     ensures { Knows caa_shape (caa_fields a.now) (caa_fields b.now) (caa_eq a.now b.now) result }
 {
+    let order = caa_order(a, b);
+    if order.is_eq() {
+        return if has_same_flags(a, b) {
+            Some(order)
+        } else {
+            None
+        };
+    }
     if !caa_is_emittable(a) || !caa_is_emittable(b) {
         return None;
     }
-    let order = caa_order(a, b);
-    if order.is_ne() || has_same_flags(a, b) {
-        Some(order)
-    } else {
-        None
-    }
+    Some(order)
 }
 
 #[inline]
@@ -191,17 +202,28 @@ fn tlsa_known(a: &TLSA, b: &TLSA) -> Option<Ordering>
 fn svcb_known(a: &SVCB, b: &SVCB) -> Option<Ordering>
     ensures { Knows svcb_shape (svcb_fields a.now) (svcb_fields b.now) (svcb_eq a.now b.now) result }
 {
+    let (order, alike) = svcb_front(a, b);
+    if order.is_eq() {
+        return if is_all(a, b, alike) {
+            Some(order)
+        } else {
+            None
+        };
+    }
     if !svcb_is_emittable(a) || !svcb_is_emittable(b) {
         return None;
     }
-    let (order, alike) = svcb_front(a, b);
-    if order.is_ne() {
-        return Some(order);
-    }
-    if alike == a.svc_params.len() && alike == b.svc_params.len() && a == b {
-        return Some(Ordering::Equal);
-    }
-    None
+    Some(order)
+}
+
+// Whether as many parameters are all of both, and the targets are both relative or both not.
+#[inline]
+fn is_all(a: &SVCB, b: &SVCB, count: usize) -> bool
+    ensures { IsTrue result → (count ≡ length a.now.svc_params) × (count ≡ length b.now.svc_params) × (a.now.target_name.fully_qualified ≡ b.now.target_name.fully_qualified) }
+{
+    count == a.svc_params.len()
+        && count == b.svc_params.len()
+        && a.target_name.is_fqdn() == b.target_name.is_fqdn()
 }
 
 // Where the least of the options that differ decides, or none do.
