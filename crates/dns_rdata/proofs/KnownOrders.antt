@@ -1,15 +1,16 @@
 -- Orders that tell values apart are those of record data.
-use Rattle.std.proofs.Common.{◌≡◌, ◌≢◌, ◌&&◌, ℕ, Bool, true, false, true≢false, Option, Some, None, IfSome, List, [], ◌∷◌, ◌++◌, length, take, refl, sym, ap, ◌∙◌, subst}
-use Rattle.std.proofs.lemmas.List.{append_cancel_left, take_at}
+use Rattle.std.proofs.Common.{◌≡◌, ◌≢◌, ◌&&◌, ℕ, ◌+◌, ◌<◌, ◌==◌, Bool, true, false, true≢false, if◌then◌else◌, Option, Some, None, IfSome, List, [], ◌∷◌, ◌++◌, length, map, take, refl, sym, ap, ◌∙◌, subst, arith}
+use Rattle.std.proofs.lemmas.List.{append_cancel_left, length-append, take_at}
 use Rattle.std.specs.List.{flat_map}
 use Rattle.std.specs.Cmp.Lexicographic.{slice_cmp}
 use Rattle.std.specs.FinMap.{nat_cmp-IsAntisymmetric, slice_cmp-IsAntisymmetric}
-use Rattle.std.specs.Ordering.{is_eq, is_ne, nat_cmp, ordering_then}
+use Rattle.std.specs.Ordering.{is_eq, is_gt, is_ne, nat_cmp, ordering_then}
 use Rattle.std.specs.declared.cmp.Ordering.{Ordering}
 use Rattle.std.specs.declared.cmp.Ordering.TheVariants.{Less, Equal, Greater}
 use Rattle.dns_fields.specs.Equal.{values_eq}
-use Rattle.dns_fields.specs.Fields.{Kind, Text, Texts, Rest, Values, all_emittable, canonical, field_octets}
-use Rattle.dns_fields.specs.Pieces.{string}
+use Rattle.dns_fields.specs.Fields.{Kind, Text, Texts, Rest, Values, all_emittable, canonical, field_octets, option_pieces}
+use Rattle.dns_fields.specs.Pieces.{as_piece, option_octets, piece, string}
+use Rattle.dns_fields.specs.Sorting.{put, sorted}
 use Rattle.dns_fields.proofs.Equivalences.{values_equiv}
 use Rattle.dns_pieces.specs.Fronts.{canonical_cmp}
 use Rattle.dns_pieces.proofs.Comparing.{then_kept}
@@ -24,6 +25,10 @@ use Rattle.dns_rdata_certs.specs.declared.tlsa.TLSA.{TLSA}
 use Rattle.dns_rdata_certs.specs.CERT.{cert_shape, cert_fields}
 use Rattle.dns_rdata_certs.specs.SSHFP.{sshfp_shape, sshfp_fields}
 use Rattle.dns_rdata_certs.specs.TLSA.{tlsa_shape, tlsa_fields}
+use Rattle.std.proofs.lemmas.Bool.Decides.{nat_tests}
+use Rattle.dns_rdata_options.specs.OPT.{Pair, opt_shape, opt_fields, pair_value}
+use Rattle.dns_rdata_options.specs.Order.{opt_eq}
+use Rattle.dns_rdata_options.specs.Steps.{pairs_emittable}
 use Rattle.dns_rdata_sets.specs.declared.caa.CAA.{CAA}
 use Rattle.dns_rdata_sets.specs.CAA.{caa_shape, caa_fields, caa_key_shape, caa_keys}
 use Rattle.dns_rdata.specs.declared.record_data.RData.{RData}
@@ -214,4 +219,67 @@ tlsa_knows x y o e h = record {
   second = λ n. refl;
   octets = λ n. e;
   equal = λ t. h t (same_rest x.cert_data y.cert_data (tied_fields tlsa_shape (tlsa_fields x) (tlsa_fields y) (tt, (tt, (tt, (tt, tt)))) (sym e ∙ t)).1.1.1.0);
+}
+
+-- ---- of options
+
+put_length : (x : List ℕ) (ys : List (List ℕ)) → length (flat_map (λ s. s) (put (slice_cmp nat_cmp) x ys)) ≡ length x + length (flat_map (λ s. s) ys)
+put_length x [] = length-append x []
+put_length x (y ∷ ys) = by (is_gt (slice_cmp nat_cmp x y)) (put_length x ys)
+  where
+    by : (t : Bool) → length (flat_map (λ s. s) (put (slice_cmp nat_cmp) x ys)) ≡ length x + length (flat_map (λ s. s) ys)
+        → length (flat_map (λ s. s) (if t then y ∷ put (slice_cmp nat_cmp) x ys else x ∷ y ∷ ys)) ≡ length x + length (flat_map (λ s. s) (y ∷ ys))
+    by true h = omega (arith, length-append y (flat_map (λ s. s) (put (slice_cmp nat_cmp) x ys)), h, length-append y (flat_map (λ s. s) ys))
+    by false h = length-append x (flat_map (λ s. s) (y ∷ ys))
+
+-- some options have octets
+some_octets : (p : Pair) (ps : List Pair) → 0 < length (canonical opt_shape (opt_fields (p ∷ ps)))
+unfolding field_octets
+some_octets p ps =
+    let x = piece (as_piece option_octets (pair_value p)) in
+    let rest = sorted (slice_cmp nat_cmp) (map piece (option_pieces (map pair_value ps))) in
+    omega (arith, length-append (flat_map (λ s. s) (put (slice_cmp nat_cmp) x rest)) [], put_length x rest)
+
+before_some : (l : List ℕ) → 0 < length l → Less ≡ slice_cmp nat_cmp [] l
+before_some [] h = absurd (omega (arith, h))
+before_some (x ∷ l) h = refl
+
+behind_none : (l : List ℕ) → 0 < length l → Greater ≡ slice_cmp nat_cmp l []
+behind_none [] h = absurd (omega (arith, h))
+behind_none (x ∷ l) h = refl
+
+is_none : (a : List Pair) → true ≡ (length a == 0) → a ≡ []
+is_none [] h = refl
+is_none (p ∷ ps) h = absurd (above (length (p ∷ ps)) (omega arith) h)
+  where
+    above : (n : ℕ) → 0 < n → true ≡ (n == 0) → ⊥
+    above n h e = grind (arith, nat_tests, h, e)
+
+none_first : (b : List Pair) → false ≡ (length b == 0) → Less ≡ canonical_cmp opt_shape (opt_fields []) (opt_fields b)
+unfolding field_octets
+none_first [] h = absurd (true≢false (sym h))
+none_first (p ∷ ps) h = before_some (canonical opt_shape (opt_fields (p ∷ ps))) (some_octets p ps)
+
+some_last : (a : List Pair) → false ≡ (length a == 0) → Greater ≡ canonical_cmp opt_shape (opt_fields a) (opt_fields [])
+unfolding field_octets
+some_last [] h = absurd (true≢false (sym h))
+some_last (p ∷ ps) h = behind_none (canonical opt_shape (opt_fields (p ∷ ps))) (some_octets p ps)
+
+-- a record of no options comes before one of some
+pub none_knows : (x y a b : List Pair) → x ≡ a → y ≡ b → true ≡ (length x == 0) → false ≡ (length y == 0) → pairs_emittable a ≡ true → pairs_emittable b ≡ true
+    → IsKnown opt_shape (opt_fields a) (opt_fields b) (opt_eq a b) Less
+none_knows x y a b e l n m f g = record {
+  equal = λ t. cc t;
+  first = λ u. ap (λ (t : Bool). t && true) f;
+  second = λ u. ap (λ (t : Bool). t && true) g;
+  octets = λ u. none_first b (rw (← l) m) ∙ ap (λ (c : List Pair). canonical_cmp opt_shape (opt_fields c) (opt_fields b)) (sym (sym e ∙ is_none x n));
+}
+
+pub some_knows : (x y a b : List Pair) → x ≡ a → y ≡ b → false ≡ (length x == 0) → true ≡ (length y == 0) → pairs_emittable a ≡ true → pairs_emittable b ≡ true
+    → IsKnown opt_shape (opt_fields a) (opt_fields b) (opt_eq a b) Greater
+some_knows x y a b e l n m f g = record {
+  equal = λ t. cc t;
+  first = λ u. ap (λ (t : Bool). t && true) f;
+  second = λ u. ap (λ (t : Bool). t && true) g;
+  octets = λ u. some_last a (rw (← e) n) ∙ ap (λ (c : List Pair). canonical_cmp opt_shape (opt_fields a) (opt_fields c)) (sym (sym l ∙ is_none y m));
 }

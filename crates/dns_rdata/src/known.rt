@@ -226,7 +226,7 @@ fn is_all(a: &SVCB, b: &SVCB, count: usize) -> bool
         && a.target_name.is_fqdn() == b.target_name.is_fqdn()
 }
 
-// Where the least of the options that differ decides, or none do.
+// No options come before some; else where the least of the options that differ decides, or none do.
 #[inline]
 fn opt_known(a: &OPT, b: &OPT) -> Option<Ordering>
     ensures { Knows opt_shape (opt_fields a.now) (opt_fields b.now) (opt_eq a.now b.now) result }
@@ -234,7 +234,11 @@ fn opt_known(a: &OPT, b: &OPT) -> Option<Ordering>
     if !opt_is_emittable(a) || !opt_is_emittable(b) {
         return None;
     }
-    opt_order(a, b)
+    match (a.as_ref().is_empty(), b.as_ref().is_empty()) {
+        (true, false) => Some(Ordering::Less),
+        (false, true) => Some(Ordering::Greater),
+        _ => opt_order(a, b),
+    }
 }
 
 impl RData {
