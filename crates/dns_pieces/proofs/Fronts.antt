@@ -30,7 +30,7 @@ behind Equal s t u h = h refl
 behind Greater s t u h = refl
 
 -- as many octets in front of others
-front_then : (p q x y : List ℕ) → length p ≡ length q → slice_cmp nat_cmp (p ++ x) (q ++ y) ≡ ordering_then (slice_cmp nat_cmp p q) (slice_cmp nat_cmp x y)
+pub front_then : (p q x y : List ℕ) → length p ≡ length q → slice_cmp nat_cmp (p ++ x) (q ++ y) ≡ ordering_then (slice_cmp nat_cmp p q) (slice_cmp nat_cmp x y)
 front_then [] [] x y h = refl
 front_then [] (b ∷ q) x y h = absurd (omega arith)
 front_then (a ∷ p) [] x y h = absurd (omega arith)

@@ -8,12 +8,12 @@ use Rattle.std.specs.Ordering.{is_eq, is_gt, is_ne, nat_cmp, ordering_then}
 use Rattle.std.specs.declared.cmp.Ordering.{Ordering}
 use Rattle.std.specs.declared.cmp.Ordering.TheVariants.{Less, Equal, Greater}
 use Rattle.dns_fields.specs.Equal.{values_eq}
-use Rattle.dns_fields.specs.Fields.{Kind, Text, Texts, Rest, Values, all_emittable, canonical, field_octets, option_pieces}
+use Rattle.dns_fields.specs.Fields.{Kind, Number, Text, Texts, Rest, Value, Values, all_emittable, canonical, field_octets, option_pieces}
 use Rattle.dns_fields.specs.Pieces.{as_piece, option_octets, piece, string}
 use Rattle.dns_fields.specs.Sorting.{put, sorted}
 use Rattle.dns_fields.proofs.Equivalences.{values_equiv}
 use Rattle.dns_pieces.specs.Fronts.{canonical_cmp}
-use Rattle.dns_pieces.proofs.Comparing.{then_kept}
+use Rattle.dns_pieces.proofs.Comparing.{cmp_shared, then_kept}
 use Rattle.dns_pieces.proofs.Fronts.{AllEnd, by_fields, field_cmp, fields_cmp}
 use Rattle.dns_rdata_base.specs.declared.hinfo.HINFO.{HINFO}
 use Rattle.dns_rdata_base.specs.declared.txt.TXT.{TXT}
@@ -22,6 +22,13 @@ use Rattle.dns_rdata_base.specs.TXT.{txt_shape, txt_fields}
 use Rattle.dns_rdata_certs.specs.declared.cert.CERT.{CERT}
 use Rattle.dns_rdata_certs.specs.declared.sshfp.SSHFP.{SSHFP}
 use Rattle.dns_rdata_certs.specs.declared.tlsa.TLSA.{TLSA}
+use Rattle.dns_rdata_certs.specs.CertAlgorithm.{cert_algorithm_number}
+use Rattle.dns_rdata_certs.specs.CertType.{cert_type_number}
+use Rattle.dns_rdata_certs.specs.CertUsage.{cert_usage_number}
+use Rattle.dns_rdata_certs.specs.FingerprintType.{fingerprint_type_number}
+use Rattle.dns_rdata_certs.specs.Matching.{matching_number}
+use Rattle.dns_rdata_certs.specs.Selector.{selector_number}
+use Rattle.dns_rdata_certs.specs.SshfpAlgorithm.{sshfp_algorithm_number}
 use Rattle.dns_rdata_certs.specs.CERT.{cert_shape, cert_fields}
 use Rattle.dns_rdata_certs.specs.SSHFP.{sshfp_shape, sshfp_fields}
 use Rattle.dns_rdata_certs.specs.TLSA.{tlsa_shape, tlsa_fields}
@@ -33,7 +40,7 @@ use Rattle.dns_rdata_sets.specs.declared.caa.CAA.{CAA}
 use Rattle.dns_rdata_sets.specs.CAA.{caa_shape, caa_fields, caa_key_shape, caa_keys}
 use Rattle.dns_rdata.specs.declared.record_data.RData.{RData}
 use Rattle.dns_rdata.specs.Data.{data_octets, fields_of, octets_of}
-use Rattle.dns_rdata.specs.Equal.{equal, caa_eq, cert_eq, hinfo_eq, sshfp_eq, tlsa_eq, txt_eq}
+use Rattle.dns_rdata.specs.Equal.{equal, caa_eq, hinfo_eq, txt_eq}
 use Rattle.dns_rdata.specs.KnownOrders.{IsKnown, Knows}
 use Rattle.dns_rdata.specs.Order.{rdata_cmp}
 use Rattle.dns_rdata.specs.Ties.{equal_is, rdata_ties}
@@ -194,32 +201,59 @@ caa_knows x y o f g e h = record {
       itself caa_key_shape (caa_keys x) (caa_keys y) (rw (flags.0, flags.1, same_text x.tag y.tag tied.1.0, same_rest x.value y.value tied.1.1.0) refl);
 }
 
-pub cert_knows : (x y : CERT) (o : Ordering) → o ≡ canonical_cmp cert_shape (cert_fields x) (cert_fields y)
-    → (o ≡ Equal → x.cert_data ≡ y.cert_data → cert_eq x y ≡ true) → IsKnown cert_shape (cert_fields x) (cert_fields y) (cert_eq x y) o
-cert_knows x y o e h = record {
-  first = λ n. refl;
-  second = λ n. refl;
-  octets = λ n. e;
-  equal = λ t. h t (same_rest x.cert_data y.cert_data (tied_fields cert_shape (cert_fields x) (cert_fields y) (tt, (tt, (tt, (tt, tt)))) (sym e ∙ t)).1.1.1.0);
+-- ---- of octets to the end behind other fields
+
+same_first : (k : Kind) (x y : Value k) (kinds : List Kind) (a b : Values kinds) → x ≡ y → canonical_cmp (k ∷ kinds) (x, a) (y, b) ≡ canonical_cmp kinds a b
+same_first k x y kinds a b e = cmp_shared {n = length (field_octets k y)} record {
+  shared = field_octets k y;
+  count = refl;
+  left = ap (λ (t : Value k). field_octets k t ++ canonical kinds a) e;
+  right = refl;
 }
 
-pub sshfp_knows : (x y : SSHFP) (o : Ordering) → o ≡ canonical_cmp sshfp_shape (sshfp_fields x) (sshfp_fields y)
-    → (o ≡ Equal → x.fingerprint ≡ y.fingerprint → sshfp_eq x y ≡ true) → IsKnown sshfp_shape (sshfp_fields x) (sshfp_fields y) (sshfp_eq x y) o
-sshfp_knows x y o e h = record {
-  first = λ n. refl;
-  second = λ n. refl;
-  octets = λ n. e;
-  equal = λ t. h t (same_rest x.fingerprint y.fingerprint (tied_fields sshfp_shape (sshfp_fields x) (sshfp_fields y) (tt, (tt, (tt, tt))) (sym e ∙ t)).1.1.0);
+-- of octets alone
+abbrev pub rest_cmp : List ℕ → List ℕ → Ordering
+rest_cmp a b = canonical_cmp (Rest ∷ []) (a, tt) (b, tt)
+
+pub cert_front : (x y : CERT) → cert_type_number x.cert_type ≡ cert_type_number y.cert_type → x.key_tag ≡ y.key_tag
+    → cert_algorithm_number x.algorithm ≡ cert_algorithm_number y.algorithm
+    → canonical_cmp cert_shape (cert_fields x) (cert_fields y) ≡ rest_cmp x.cert_data y.cert_data
+cert_front x y e f g =
+    same_first (Number 2) (cert_type_number x.cert_type) (cert_type_number y.cert_type) (Number 2 ∷ Number 1 ∷ Rest ∷ []) (cert_fields x).1 (cert_fields y).1 e
+    ∙ same_first (Number 2) x.key_tag y.key_tag (Number 1 ∷ Rest ∷ []) (cert_fields x).1.1 (cert_fields y).1.1 f
+    ∙ same_first (Number 1) (cert_algorithm_number x.algorithm) (cert_algorithm_number y.algorithm) (Rest ∷ []) (x.cert_data, tt) (y.cert_data, tt) g
+
+pub sshfp_front : (x y : SSHFP) → sshfp_algorithm_number x.algorithm ≡ sshfp_algorithm_number y.algorithm
+    → fingerprint_type_number x.fingerprint_type ≡ fingerprint_type_number y.fingerprint_type
+    → canonical_cmp sshfp_shape (sshfp_fields x) (sshfp_fields y) ≡ rest_cmp x.fingerprint y.fingerprint
+sshfp_front x y e f =
+    same_first (Number 1) (sshfp_algorithm_number x.algorithm) (sshfp_algorithm_number y.algorithm) (Number 1 ∷ Rest ∷ []) (sshfp_fields x).1 (sshfp_fields y).1 e
+    ∙ same_first (Number 1) (fingerprint_type_number x.fingerprint_type) (fingerprint_type_number y.fingerprint_type) (Rest ∷ [])
+    (x.fingerprint, tt) (y.fingerprint, tt) f
+
+pub tlsa_front : (x y : TLSA) → cert_usage_number x.cert_usage ≡ cert_usage_number y.cert_usage → selector_number x.selector ≡ selector_number y.selector
+    → matching_number x.matching ≡ matching_number y.matching
+    → canonical_cmp tlsa_shape (tlsa_fields x) (tlsa_fields y) ≡ rest_cmp x.cert_data y.cert_data
+tlsa_front x y e f g =
+    same_first (Number 1) (cert_usage_number x.cert_usage) (cert_usage_number y.cert_usage) (Number 1 ∷ Number 1 ∷ Rest ∷ []) (tlsa_fields x).1 (tlsa_fields y).1 e
+    ∙ same_first (Number 1) (selector_number x.selector) (selector_number y.selector) (Number 1 ∷ Rest ∷ []) (tlsa_fields x).1.1 (tlsa_fields y).1.1 f
+    ∙ same_first (Number 1) (matching_number x.matching) (matching_number y.matching) (Rest ∷ []) (x.cert_data, tt) (y.cert_data, tt) g
+
+-- the octets decide, and tell the values
+pub by_rest : (s : List Kind) (a b : Values s) (same : Bool) (x y : List ℕ) (o : Ordering) → all_emittable s a ≡ true → all_emittable s b ≡ true
+    → canonical_cmp s a b ≡ rest_cmp x y → (x ≡ y → same ≡ true) → o ≡ rest_cmp x y → IsKnown s a b same o
+by_rest s a b same x y o f g order equal e = record {
+  equal = λ t. equal (same_rest x y (tied_fields (Rest ∷ []) (x, tt) (y, tt) (tt, tt) (sym e ∙ t)).0);
+  first = λ n. f;
+  second = λ n. g;
+  octets = λ n. e ∙ sym order;
 }
 
-pub tlsa_knows : (x y : TLSA) (o : Ordering) → o ≡ canonical_cmp tlsa_shape (tlsa_fields x) (tlsa_fields y)
-    → (o ≡ Equal → x.cert_data ≡ y.cert_data → tlsa_eq x y ≡ true) → IsKnown tlsa_shape (tlsa_fields x) (tlsa_fields y) (tlsa_eq x y) o
-tlsa_knows x y o e h = record {
-  first = λ n. refl;
-  second = λ n. refl;
-  octets = λ n. e;
-  equal = λ t. h t (same_rest x.cert_data y.cert_data (tied_fields tlsa_shape (tlsa_fields x) (tlsa_fields y) (tt, (tt, (tt, (tt, tt)))) (sym e ∙ t)).1.1.1.0);
-}
+-- where only a difference was told
+pub differing : (s : List Kind) (a b : Values s) (same : Bool) (order : Ordering) (r : Option Ordering) → all_emittable s a ≡ true → all_emittable s b ≡ true
+    → order ≡ canonical_cmp s a b → IfSome r (λ o. (o ≡ order) × (o ≢ Equal)) → Knows s a b same r
+differing s a b same order None f g e h = tt
+differing s a b same order (Some o) f g e h = record { equal = λ t. absurd (h.1 t); first = λ n. f; second = λ n. g; octets = λ n. h.0 ∙ e }
 
 -- ---- of options
 

@@ -1,12 +1,19 @@
 //! Record data of one variant, ordered by its fields without a cursor.
 
-ghost use Rattle.std.specs.Prelude.{◌≡◌, ◌∷◌, [], IfSome, IsTrue, length, true};
+ghost use Rattle.std.specs.Prelude.{◌≡◌, ◌≢◌, ◌∷◌, [], IfSome, IsTrue, length, true};
 ghost use Rattle.std.specs.declared.cmp.Ordering.TheVariants.{Equal};
 ghost use Rattle.dns_fields.specs.Fields.{Rest};
 ghost use Rattle.dns_fields.specs.Equal.{values_eq};
 ghost use Rattle.dns_rdata_base.specs.HINFO.{hinfo_shape, hinfo_fields};
 ghost use Rattle.dns_rdata_base.specs.NAPTR.{naptr_shape, naptr_fields};
 ghost use Rattle.dns_rdata_base.specs.TXT.{txt_shape, txt_fields};
+ghost use Rattle.dns_rdata_certs.specs.CertAlgorithm.{cert_algorithm_number};
+ghost use Rattle.dns_rdata_certs.specs.CertType.{cert_type_number};
+ghost use Rattle.dns_rdata_certs.specs.CertUsage.{cert_usage_number};
+ghost use Rattle.dns_rdata_certs.specs.FingerprintType.{fingerprint_type_number};
+ghost use Rattle.dns_rdata_certs.specs.Matching.{matching_number};
+ghost use Rattle.dns_rdata_certs.specs.Selector.{selector_number};
+ghost use Rattle.dns_rdata_certs.specs.SshfpAlgorithm.{sshfp_algorithm_number};
 ghost use Rattle.dns_rdata_certs.specs.CERT.{cert_shape, cert_fields};
 ghost use Rattle.dns_rdata_certs.specs.SSHFP.{sshfp_shape, sshfp_fields};
 ghost use Rattle.dns_rdata_certs.specs.TLSA.{tlsa_shape, tlsa_fields};
@@ -134,10 +141,19 @@ fn csync_known(a: &CSYNC, b: &CSYNC) -> Option<Ordering>
     unless_tied(csync_order(a, b), a, b)
 }
 
+// An order that tells values apart.
+#[inline]
+fn if_differing(order: Ordering) -> Option<Ordering>
+    ensures { IfSome result (λ o. (o ≡ order) × (o ≢ Equal)) }
+{
+    if order.is_ne() { Some(order) } else { None }
+}
+
 // Whether all but the octets is equal.
 #[inline]
 fn is_cert_front_same(a: &CERT, b: &CERT) -> bool
-    ensures { IsTrue result → a.now.cert_data ≡ b.now.cert_data → cert_eq a.now b.now ≡ true }
+    ensures numbers { IsTrue result → (cert_type_number a.now.cert_type ≡ cert_type_number b.now.cert_type) × (a.now.key_tag ≡ b.now.key_tag) × (cert_algorithm_number a.now.algorithm ≡ cert_algorithm_number b.now.algorithm) }
+    ensures equal { IsTrue result → a.now.cert_data ≡ b.now.cert_data → cert_eq a.now b.now ≡ true }
 {
     a.cert_type == b.cert_type && a.key_tag == b.key_tag && a.algorithm == b.algorithm
 }
@@ -147,18 +163,17 @@ fn is_cert_front_same(a: &CERT, b: &CERT) -> bool
 fn cert_known(a: &CERT, b: &CERT) -> Option<Ordering>
     ensures { Knows cert_shape (cert_fields a.now) (cert_fields b.now) (cert_eq a.now b.now) result }
 {
-    let order = cert_order(a, b);
-    if order.is_ne() || is_cert_front_same(a, b) {
-        Some(order)
-    } else {
-        None
+    if is_cert_front_same(a, b) {
+        return Some(rest_order(&a.cert_data, &b.cert_data));
     }
+    if_differing(cert_order(a, b))
 }
 
 // Whether all but the octets is equal.
 #[inline]
 fn is_sshfp_front_same(a: &SSHFP, b: &SSHFP) -> bool
-    ensures { IsTrue result → a.now.fingerprint ≡ b.now.fingerprint → sshfp_eq a.now b.now ≡ true }
+    ensures numbers { IsTrue result → (sshfp_algorithm_number a.now.algorithm ≡ sshfp_algorithm_number b.now.algorithm) × (fingerprint_type_number a.now.fingerprint_type ≡ fingerprint_type_number b.now.fingerprint_type) }
+    ensures equal { IsTrue result → a.now.fingerprint ≡ b.now.fingerprint → sshfp_eq a.now b.now ≡ true }
 {
     a.algorithm == b.algorithm && a.fingerprint_type == b.fingerprint_type
 }
@@ -168,18 +183,17 @@ fn is_sshfp_front_same(a: &SSHFP, b: &SSHFP) -> bool
 fn sshfp_known(a: &SSHFP, b: &SSHFP) -> Option<Ordering>
     ensures { Knows sshfp_shape (sshfp_fields a.now) (sshfp_fields b.now) (sshfp_eq a.now b.now) result }
 {
-    let order = sshfp_order(a, b);
-    if order.is_ne() || is_sshfp_front_same(a, b) {
-        Some(order)
-    } else {
-        None
+    if is_sshfp_front_same(a, b) {
+        return Some(rest_order(&a.fingerprint, &b.fingerprint));
     }
+    if_differing(sshfp_order(a, b))
 }
 
 // Whether all but the octets is equal.
 #[inline]
 fn is_tlsa_front_same(a: &TLSA, b: &TLSA) -> bool
-    ensures { IsTrue result → a.now.cert_data ≡ b.now.cert_data → tlsa_eq a.now b.now ≡ true }
+    ensures numbers { IsTrue result → (cert_usage_number a.now.cert_usage ≡ cert_usage_number b.now.cert_usage) × (selector_number a.now.selector ≡ selector_number b.now.selector) × (matching_number a.now.matching ≡ matching_number b.now.matching) }
+    ensures equal { IsTrue result → a.now.cert_data ≡ b.now.cert_data → tlsa_eq a.now b.now ≡ true }
 {
     a.cert_usage == b.cert_usage && a.selector == b.selector && a.matching == b.matching
 }
@@ -189,12 +203,10 @@ fn is_tlsa_front_same(a: &TLSA, b: &TLSA) -> bool
 fn tlsa_known(a: &TLSA, b: &TLSA) -> Option<Ordering>
     ensures { Knows tlsa_shape (tlsa_fields a.now) (tlsa_fields b.now) (tlsa_eq a.now b.now) result }
 {
-    let order = tlsa_order(a, b);
-    if order.is_ne() || is_tlsa_front_same(a, b) {
-        Some(order)
-    } else {
-        None
+    if is_tlsa_front_same(a, b) {
+        return Some(rest_order(&a.cert_data, &b.cert_data));
     }
+    if_differing(tlsa_order(a, b))
 }
 
 // Where the first parameters that differ decide, or none do.

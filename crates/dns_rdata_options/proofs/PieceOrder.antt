@@ -1,9 +1,8 @@
 -- The order of pieces of one code, and of what they begin.
-use Rattle.std.proofs.Common.{◌≡◌, ◌≢◌, ℕ, ◌<◌, ◌≤◌, ◌^◌, nat_le, true, arith, List, [], ◌++◌, length, take, drop, refl, sym, ap, ◌∙◌, subst, append_assoc}
+use Rattle.std.proofs.Common.{◌≡◌, ◌≢◌, ℕ, ◌<◌, ◌≤◌, ◌^◌, nat_le, true, arith, List, [], ◌++◌, length, refl, sym, ap, ◌∙◌, subst, append_assoc}
 use Rattle.std.proofs.lemmas.Bool.Decides.{nat_tests}
 use Rattle.std.proofs.lemmas.List.{append-nil}
 use Rattle.std.proofs.lemmas.Grind.{flat_map-append}
-use Rattle.std.proofs.Math.Seq.{take-append_seam, drop-append_seam}
 use Rattle.std.specs.Int.{bytes_high_first}
 use Rattle.std.specs.List.{flat_map}
 use Rattle.std.specs.Cmp.{ranks, first_so}
@@ -13,20 +12,11 @@ use Rattle.std.specs.declared.cmp.Ordering.TheVariants.{Less, Equal, Greater}
 use Rattle.dns_fields.specs.Pieces.{piece, option_octets}
 use Rattle.dns_fields.proofs.Numbers.{length-bytes, number_cmp}
 use Rattle.dns_pieces.proofs.Comparing.{cmp_shared, then_assoc, then_kept}
-use Rattle.dns_pieces.proofs.Fronts.{halves}
+use Rattle.dns_pieces.proofs.Fronts.{front_then, halves}
 use Rattle.dns_rdata_options.specs.EdnsOption.{option_value}
 use Rattle.dns_rdata_options.specs.Facing.{code_number}
 use Rattle.dns_rdata_options.specs.OPT.{Pair}
 use Rattle.dns_rdata_options.specs.Steps.{octets_cmp, own_piece, pair_emittable}
-
--- as many octets in front of others
-even_then : (p q x y : List ℕ) → length p ≡ length q → octets_cmp (p ++ x) (q ++ y) ≡ ordering_then (octets_cmp p q) (octets_cmp x y)
-even_then p q x y e =
-    let n = length p in
-    let first : take n (q ++ y) ≡ q = ap (λ (k : ℕ). take k (q ++ y)) e ∙ take-append_seam q y in
-    let rest : drop n (q ++ y) ≡ y = ap (λ (k : ℕ). drop k (q ++ y)) e ∙ drop-append_seam q y in
-    halves n (p ++ x) (q ++ y) (ap length (take-append_seam p x) ∙ e ∙ ap length (sym first))
-    ∙ (λ i. ordering_then (octets_cmp (take-append_seam p x i) (first i)) (octets_cmp (drop-append_seam p x i) (rest i)))
 
 -- the lengths come next, and then what the pieces hold
 one_code : (c : ℕ) (s t u v : List ℕ) → length s < 256 ^ 2 → length t < 256 ^ 2
@@ -62,7 +52,7 @@ decided c s t u v h k apart =
     let whole : octets_cmp (piece (c, s) ++ u) (piece (c, t) ++ v) ≡ ordering_then own (octets_cmp u v) =
     one_code c s t u v h k
     ∙ where_tied sizes (octets_cmp (s ++ u) (t ++ v)) (ordering_then (octets_cmp s t) (octets_cmp u v))
-    (λ e. even_then s t u v (subst (λ (o : Ordering). MatchOrdering o (length s < length t) (length s ≡ length t) (length t < length s)) e (ranks (length s) (length t))))
+    (λ e. front_then s t u v (subst (λ (o : Ordering). MatchOrdering o (length s < length t) (length s ≡ length t) (length t < length s)) e (ranks (length s) (length t))))
     ∙ sym (then_assoc sizes (octets_cmp s t) (octets_cmp u v))
     ∙ ap (λ (o : Ordering). ordering_then o (octets_cmp u v)) (sym (alone_code c s t h k)) in
     then_kept own (octets_cmp u v) apart ∙ sym whole

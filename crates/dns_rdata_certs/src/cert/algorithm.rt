@@ -174,7 +174,11 @@ impl PartialEq for Algorithm {
 
     #[inline]
     fn eq(&self, other: &Algorithm) -> bool {
-        u8::from(*self) == u8::from(*other) && self.variant() == other.variant()
+        match (*self, *other) {
+            (Algorithm::Reserved(a), Algorithm::Reserved(b)) => a == b,
+            (Algorithm::Unassigned(a), Algorithm::Unassigned(b)) => a == b,
+            _ => self.variant() == other.variant(),
+        }
     }
 }
 

@@ -143,7 +143,11 @@ impl PartialEq for CertType {
 
     #[inline]
     fn eq(&self, other: &CertType) -> bool {
-        u16::from(*self) == u16::from(*other) && self.variant() == other.variant()
+        match (*self, *other) {
+            (CertType::Unassigned(a), CertType::Unassigned(b)) => a == b,
+            (CertType::Experimental(a), CertType::Experimental(b)) => a == b,
+            _ => self.variant() == other.variant(),
+        }
     }
 }
 

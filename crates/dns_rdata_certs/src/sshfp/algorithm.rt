@@ -100,7 +100,10 @@ impl PartialEq for Algorithm {
 
     #[inline]
     fn eq(&self, other: &Algorithm) -> bool {
-        u8::from(*self) == u8::from(*other) && self.variant() == other.variant()
+        match (*self, *other) {
+            (Algorithm::Unassigned(a), Algorithm::Unassigned(b)) => a == b,
+            _ => self.variant() == other.variant(),
+        }
     }
 }
 

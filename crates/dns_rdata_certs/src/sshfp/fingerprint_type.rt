@@ -85,7 +85,10 @@ impl PartialEq for FingerprintType {
 
     #[inline]
     fn eq(&self, other: &FingerprintType) -> bool {
-        u8::from(*self) == u8::from(*other) && self.variant() == other.variant()
+        match (*self, *other) {
+            (FingerprintType::Unassigned(a), FingerprintType::Unassigned(b)) => a == b,
+            _ => self.variant() == other.variant(),
+        }
     }
 }
 

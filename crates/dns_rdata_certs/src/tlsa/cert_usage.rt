@@ -95,7 +95,10 @@ impl PartialEq for CertUsage {
 
     #[inline]
     fn eq(&self, other: &CertUsage) -> bool {
-        u8::from(*self) == u8::from(*other) && self.variant() == other.variant()
+        match (*self, *other) {
+            (CertUsage::Unassigned(a), CertUsage::Unassigned(b)) => a == b,
+            _ => self.variant() == other.variant(),
+        }
     }
 }
 

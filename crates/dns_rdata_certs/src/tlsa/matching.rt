@@ -90,7 +90,10 @@ impl PartialEq for Matching {
 
     #[inline]
     fn eq(&self, other: &Matching) -> bool {
-        u8::from(*self) == u8::from(*other) && self.variant() == other.variant()
+        match (*self, *other) {
+            (Matching::Unassigned(a), Matching::Unassigned(b)) => a == b,
+            _ => self.variant() == other.variant(),
+        }
     }
 }
 

@@ -86,7 +86,10 @@ impl PartialEq for Selector {
 
     #[inline]
     fn eq(&self, other: &Selector) -> bool {
-        u8::from(*self) == u8::from(*other) && self.variant() == other.variant()
+        match (*self, *other) {
+            (Selector::Unassigned(a), Selector::Unassigned(b)) => a == b,
+            _ => self.variant() == other.variant(),
+        }
     }
 }
 

@@ -1,11 +1,19 @@
-use Rattle.std.proofs.Common.{◌∙◌, sym}
-use Rattle.dns_rdata.proofs.KnownOrders.{no_tie, cert_knows}
+use Rattle.std.proofs.Common.{refl}
+use Rattle.dns_rdata.specs.Equal.{cert_eq}
+use Rattle.dns_rdata_certs.specs.CERT.{cert_shape, cert_fields}
+use Rattle.dns_rdata.proofs.KnownOrders.{by_rest, cert_front, differing}
 use Rattle.dns_rdata.proofs.known.cert_known.Goals as goal
-use Rattle.dns_rdata.proofs.known.cert_known.Goals.{then-is_ne, else-is_ne}
 
 pub returns-then-is_cert_front_same : goal.returns-then-is_cert_front_same
 returns-then-is_cert_front_same c =
-    cert_knows c.args.a.now c.args.b.now c.cert_order-order.result c.cert_order-order.ensures (λ t d. elim c.if-is_ne.branch [
-      | then-is_ne w ↦ no_tie c.cert_order-order.result (sym c.is_ne.ensures ∙ w.if-is_ne.true) t
-      | else-is_ne w ↦ w.is_cert_front_same.ensures (sym w.value-is ∙ c.if-is_cert_front_same.true) d
-    ])
+    let a = c.args.a.now in
+    let b = c.args.b.now in
+    let same = c.is_cert_front_same.ensures.numbers c.if-is_cert_front_same.true in
+    by_rest cert_shape (cert_fields a) (cert_fields b) (cert_eq a b) a.cert_data b.cert_data c.rest_order.result refl refl
+    (cert_front a b same.0 same.1.0 same.1.1) (c.is_cert_front_same.ensures.equal c.if-is_cert_front_same.true) c.rest_order.ensures
+
+pub returns : goal.returns
+returns c =
+    let a = c.args.a.now in
+    let b = c.args.b.now in
+    differing cert_shape (cert_fields a) (cert_fields b) (cert_eq a b) c.cert_order.result c.if_differing.result refl refl c.cert_order.ensures c.if_differing.ensures

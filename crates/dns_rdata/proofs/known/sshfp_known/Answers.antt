@@ -1,11 +1,19 @@
-use Rattle.std.proofs.Common.{◌∙◌, sym}
-use Rattle.dns_rdata.proofs.KnownOrders.{no_tie, sshfp_knows}
+use Rattle.std.proofs.Common.{refl}
+use Rattle.dns_rdata.specs.Equal.{sshfp_eq}
+use Rattle.dns_rdata_certs.specs.SSHFP.{sshfp_shape, sshfp_fields}
+use Rattle.dns_rdata.proofs.KnownOrders.{by_rest, sshfp_front, differing}
 use Rattle.dns_rdata.proofs.known.sshfp_known.Goals as goal
-use Rattle.dns_rdata.proofs.known.sshfp_known.Goals.{then-is_ne, else-is_ne}
 
 pub returns-then-is_sshfp_front_same : goal.returns-then-is_sshfp_front_same
 returns-then-is_sshfp_front_same c =
-    sshfp_knows c.args.a.now c.args.b.now c.sshfp_order-order.result c.sshfp_order-order.ensures (λ t d. elim c.if-is_ne.branch [
-      | then-is_ne w ↦ no_tie c.sshfp_order-order.result (sym c.is_ne.ensures ∙ w.if-is_ne.true) t
-      | else-is_ne w ↦ w.is_sshfp_front_same.ensures (sym w.value-is ∙ c.if-is_sshfp_front_same.true) d
-    ])
+    let a = c.args.a.now in
+    let b = c.args.b.now in
+    let same = c.is_sshfp_front_same.ensures.numbers c.if-is_sshfp_front_same.true in
+    by_rest sshfp_shape (sshfp_fields a) (sshfp_fields b) (sshfp_eq a b) a.fingerprint b.fingerprint c.rest_order.result refl refl
+    (sshfp_front a b same.0 same.1) (c.is_sshfp_front_same.ensures.equal c.if-is_sshfp_front_same.true) c.rest_order.ensures
+
+pub returns : goal.returns
+returns c =
+    let a = c.args.a.now in
+    let b = c.args.b.now in
+    differing sshfp_shape (sshfp_fields a) (sshfp_fields b) (sshfp_eq a b) c.sshfp_order.result c.if_differing.result refl refl c.sshfp_order.ensures c.if_differing.ensures

@@ -1,11 +1,19 @@
-use Rattle.std.proofs.Common.{◌∙◌, sym}
-use Rattle.dns_rdata.proofs.KnownOrders.{no_tie, tlsa_knows}
+use Rattle.std.proofs.Common.{refl}
+use Rattle.dns_rdata.specs.Equal.{tlsa_eq}
+use Rattle.dns_rdata_certs.specs.TLSA.{tlsa_shape, tlsa_fields}
+use Rattle.dns_rdata.proofs.KnownOrders.{by_rest, tlsa_front, differing}
 use Rattle.dns_rdata.proofs.known.tlsa_known.Goals as goal
-use Rattle.dns_rdata.proofs.known.tlsa_known.Goals.{then-is_ne, else-is_ne}
 
 pub returns-then-is_tlsa_front_same : goal.returns-then-is_tlsa_front_same
 returns-then-is_tlsa_front_same c =
-    tlsa_knows c.args.a.now c.args.b.now c.tlsa_order-order.result c.tlsa_order-order.ensures (λ t d. elim c.if-is_ne.branch [
-      | then-is_ne w ↦ no_tie c.tlsa_order-order.result (sym c.is_ne.ensures ∙ w.if-is_ne.true) t
-      | else-is_ne w ↦ w.is_tlsa_front_same.ensures (sym w.value-is ∙ c.if-is_tlsa_front_same.true) d
-    ])
+    let a = c.args.a.now in
+    let b = c.args.b.now in
+    let same = c.is_tlsa_front_same.ensures.numbers c.if-is_tlsa_front_same.true in
+    by_rest tlsa_shape (tlsa_fields a) (tlsa_fields b) (tlsa_eq a b) a.cert_data b.cert_data c.rest_order.result refl refl
+    (tlsa_front a b same.0 same.1.0 same.1.1) (c.is_tlsa_front_same.ensures.equal c.if-is_tlsa_front_same.true) c.rest_order.ensures
+
+pub returns : goal.returns
+returns c =
+    let a = c.args.a.now in
+    let b = c.args.b.now in
+    differing tlsa_shape (tlsa_fields a) (tlsa_fields b) (tlsa_eq a b) c.tlsa_order.result c.if_differing.result refl refl c.tlsa_order.ensures c.if_differing.ensures
