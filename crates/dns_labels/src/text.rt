@@ -155,7 +155,7 @@ pub fn parse_octets(alloc: Global, text: &[u8]) -> Result<(Vec<u8>, bool), NameE
 
 /// Whether an octet stands for itself in a label's text: a graphic character of ASCII but `.` and `\`.
 #[inline]
-fn is_plain(octet: u8) -> bool
+pub(crate) fn is_plain(octet: u8) -> bool
     ensures { OnTrue result (printed octet ≡ octet ∷ []) }
 {
     33 <= octet && octet <= 126 && octet != 46 && octet != 92
@@ -257,17 +257,18 @@ fn write_plain(octets: &[u8], is_fqdn: bool, text: &mut NameBuffer) -> bool
 {
     let mut labels = LabelIter::new(octets);
     if let Some(first) = labels.next() {
-        if first.len() > MAX_LABEL || !is_plain_label(first) {
+        if first.len() > MAX_LABEL || !text.extend_plain(first) {
             return false;
         }
-        text.extend(first);
     }
     for label in labels {
-        if text.len() + label.len() > MAX_OCTETS - 2 || !is_plain_label(label) {
+        if text.len() + label.len() > MAX_OCTETS - 2 {
             return false;
         }
         text.push(46);
-        text.extend(label);
+        if !text.extend_plain(label) {
+            return false;
+        }
     }
     if is_fqdn {
         text.push(46);
