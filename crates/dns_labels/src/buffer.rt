@@ -1,7 +1,10 @@
 //! A name's octets while they are read, without a request for memory.
 
 ghost use Rattle.std.specs.Prelude.{◌≡◌, ◌+◌, ◌<◌, ◌≤◌, [], ◌++◌, ◌∷◌, length, IfOk, slice_set};
+ghost use Rattle.std.specs.Bool.{OnTrue};
+ghost use Rattle.dns_labels.specs.Text.{label_text};
 
+use crate::text::is_plain;
 use std::alloc::{AllocError, Global};
 use std::marker::Model;
 
@@ -55,6 +58,25 @@ impl NameBuffer {
         let end = start + part.len();
         self.octets[start..end].copy_from_slice(part);
         self.len = end;
+    }
+
+    /// Adds octets at the end, and answers whether each stands for itself in a label's text; where one does not,
+    /// none is added.
+    pub(crate) fn extend_plain(&mut self, part: &[u8]) -> bool
+        requires { length self.old + length part.now ≤ 254 }
+        ensures added { OnTrue result (self.new ≡ self.old ++ part.now) }
+        ensures plain { OnTrue result (label_text part.now ≡ part.now) }
+    {
+        let start = self.len;
+        for i in 0..part.len() {
+            let octet = part[i];
+            if !is_plain(octet) {
+                return false;
+            }
+            self.octets[start + i] = octet;
+        }
+        self.len = start + part.len();
+        true
     }
 
     /// Adds an octet at the end.

@@ -22,7 +22,7 @@ fn label(alloc: Global, count: usize) -> Result<String, Fail> {
 
 #[test]
 fn reads_and_prints_texts(rt: HostRuntime) -> Result<(), Fail> {
-    let rows: [(&[u8], &[u8], bool, &[u8]); 12] = [
+    let rows: [(&[u8], &[u8], bool, &[u8]); 13] = [
         (b".", b"", true, b"."),
         (b"", b"", false, b""),
         (b"a\\.b\\000.", b"\x04a.b\x00", true, b"a\\.b\\000."),
@@ -40,6 +40,7 @@ fn reads_and_prints_texts(rt: HostRuntime) -> Result<(), Fail> {
         (b"\\032\\127!~", b"\x04 \x7f!~", false, b"\\032\\127!~"),
         (b"a\\\"b.", b"\x03a\"b", true, b"a\"b."),
         (b"\\a.\\@", b"\x01a\x01@", false, b"a.@"),
+        (b"www.\\000", b"\x03www\x01\x00", false, b"www.\\000"),
     ];
     for (text, octets, mark, printed) in rows {
         let (read, is_fqdn) = parse_octets(rt.alloc(), text)?;
@@ -91,6 +92,8 @@ fn limits_texts(rt: HostRuntime) -> Result<(), Fail> {
     let whole = format!(in alloc; "{most}.{most}.{most}.{last}.")?;
     let (octets, _) = parse_octets(alloc, whole.as_str().as_bytes())?;
     assert_eq!(rt; octets.len(), 254);
+    let again = NameText::new(octets.as_slice(), true).to_string(alloc)?;
+    assert_eq!(rt; again.as_str(), whole.as_str());
     let past = format!(in alloc; "{most}.{most}.{most}.{last}a.")?;
     assert!(rt; parse_octets(alloc, past.as_str().as_bytes()).is_err());
     Ok(())

@@ -2,6 +2,7 @@
 
 ghost use Rattle.std.specs.Prelude.{◌≡◌, ℕ, ◌+◌, ◌<◌, ◌≤◌, List, [], ◌∷◌, ◌++◌, length, take, drop, IfSome, IfNone, IfOk, MatchResult, Err, Some};
 ghost use Rattle.std.specs.Bool.{OnTrue};
+ghost use Rattle.std.specs.Fmt.{DisplaysOnOk};
 ghost use Rattle.dns_fields.specs.Labels.{DomainName, IsLabel, IsName};
 ghost use Rattle.dns_labels.specs.Labels.{AreNameOctets, name_of};
 ghost use Rattle.dns_labels.specs.Text.{OctetText as IsOctetText, LabelText as IsLabelText, IsNameText, IsLabelEnd, AddsOctets, AddsLabel};
@@ -154,7 +155,7 @@ pub fn parse_octets(alloc: Global, text: &[u8]) -> Result<(Vec<u8>, bool), NameE
 
 /// Whether an octet stands for itself in a label's text: a graphic character of ASCII but `.` and `\`.
 #[inline]
-fn is_plain(octet: u8) -> bool
+pub(crate) fn is_plain(octet: u8) -> bool
     ensures { OnTrue result (printed octet ≡ octet ∷ []) }
 {
     33 <= octet && octet <= 126 && octet != 46 && octet != 92
@@ -247,10 +248,39 @@ impl<'a> NameText<'a> {
     }
 }
 
-impl fmt::Display for NameText<'_> {
-    ghost output = { λ t. Some (name_text t) };
+// Writes the text of a name where each octet of its labels stands for itself and there is room; else what it writes is
+// of no use.
+fn write_plain(octets: &[u8], is_fqdn: bool, text: &mut NameBuffer) -> bool
+    requires octets { AreNameOctets octets.now }
+    requires empty { text.old ≡ [] }
+    ensures { OnTrue result (text.new ≡ name_text (name_of octets.now is_fqdn)) }
+{
+    let mut labels = LabelIter::new(octets);
+    if let Some(first) = labels.next() {
+        if first.len() > MAX_LABEL || !text.extend_plain(first) {
+            return false;
+        }
+    }
+    for label in labels {
+        if text.len() + label.len() > MAX_OCTETS - 2 {
+            return false;
+        }
+        text.push(46);
+        if !text.extend_plain(label) {
+            return false;
+        }
+    }
+    if is_fqdn {
+        text.push(46);
+    }
+    true
+}
 
-    fn fmt<W: fmt::Write>(&self, f: &mut fmt::Formatter<W>) -> fmt::Result {
+impl NameText<'_> {
+    // Writes label by label.
+    fn write_labels<W: fmt::Write>(&self, f: &mut fmt::Formatter<W>) -> fmt::Result
+        ensures { DisplaysOnOk W.write_str_gives f.old result (Some (name_text self.now)) f.new }
+    {
         let mut labels = LabelIter::new(self.octets);
         if let Some(first) = labels.next() {
             f.write(LabelText(first))?;
@@ -263,5 +293,17 @@ impl fmt::Display for NameText<'_> {
             f.write_str(".")?;
         }
         Ok(())
+    }
+}
+
+impl fmt::Display for NameText<'_> {
+    ghost output = { λ t. Some (name_text t) };
+
+    fn fmt<W: fmt::Write>(&self, f: &mut fmt::Formatter<W>) -> fmt::Result {
+        let mut text = NameBuffer::new();
+        if write_plain(self.octets, self.is_fqdn, &mut text) {
+            return f.write_str(str::from_utf8(text.as_slice()).map_err(|_| fmt::Error)?);
+        }
+        self.write_labels(f)
     }
 }

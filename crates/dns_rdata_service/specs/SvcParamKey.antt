@@ -1,6 +1,6 @@
 -- The keys of service parameters: the numbers of their variants (RFC 9460, 14.3.2). One with a number of its own inside
 -- has that number.
-use Rattle.std.specs.Prelude.{ℕ, nat_le, ◌==◌, if◌then◌else◌, List, [], ◌∷◌, ◌++◌, codes, decimal}
+use Rattle.std.specs.Prelude.{ℕ, nat_le, if◌then◌else◌, List, [], ◌∷◌, ◌++◌, codes, decimal}
 use Rattle.dns_rdata_base.specs.Numbered.{numbered_of}
 use Rattle.dns_rdata_service.specs.declared.svcb.key.SvcParamKey.{SvcParamKey}
 use Rattle.dns_rdata_service.specs.declared.svcb.key.SvcParamKey.TheVariants.{Mandatory, Alpn, NoDefaultAlpn, Port, Ipv4Hint}
@@ -30,14 +30,6 @@ key_variant Ipv6Hint = 6
 key_variant (Key n) = 7
 key_variant Key65535 = 8
 key_variant (Unknown n) = 9
-
--- the number of the variant at a place in the declaration, with this one inside
-abbrev pub number_by : ℕ → ℕ → ℕ
-number_by place n =
-    if place == 7 then n else
-    if place == 8 then 65535 else
-    if place == 9 then n else
-    place
 
 abbrev pub named_keys : List SvcParamKey
 named_keys = Mandatory ∷ Alpn ∷ NoDefaultAlpn ∷ Port ∷ Ipv4Hint ∷ EchConfigList ∷ Ipv6Hint ∷ Key65535 ∷ []

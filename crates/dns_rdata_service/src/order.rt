@@ -11,7 +11,6 @@ ghost use Rattle.dns_pieces.specs.Fronts.{canonical_cmp};
 ghost use Rattle.dns_rdata_service.specs.Fronts.{OrderFirst, parameter_octets_of};
 ghost use Rattle.dns_rdata_service.specs.Parameters.{own_parameter};
 ghost use Rattle.dns_rdata_service.specs.Steps.{parameters_from};
-ghost use Rattle.dns_rdata_service.specs.SvcParamKey.{key_number, key_variant, number_by};
 ghost use Rattle.dns_rdata_service.specs.SvcParamValue.{a_octets, aaaa_octets, sized, value_key, value_of};
 ghost use Rattle.dns_rdata_service.specs.SVCB.{svcb_shape, svcb_fields, svcb_key_shape, svcb_keys};
 
@@ -70,30 +69,11 @@ fn pair_order(
     ensures order { IfSome result (λ o. OrderFirst o (parameter_octets_of a.now) (parameter_octets_of b.now)) }
     ensures alike { IfSome result (λ o. o ≡ Equal → own_parameter a.now ≡ own_parameter b.now) }
 {
-    if is_key_alike(a.0, b.0) {
+    if a.0 == b.0 {
         return value_order(&a.1, &b.1);
     }
     let keys = u16::from(a.0).cmp(&u16::from(b.0));
     if keys.is_ne() { Some(keys) } else { None }
-}
-
-// By variant, and by the number inside: some of the same number are told apart.
-#[inline]
-fn is_key_alike(a: SvcParamKey, b: SvcParamKey) -> bool
-    ensures { IsTrue result → (key_number a ≡ key_number b) × (key_variant a ≡ key_variant b) }
-{
-    a.variant() == b.variant() && number_inside(a) == number_inside(b)
-}
-
-// The number that a variant holds, or 0.
-#[inline]
-fn number_inside(key: SvcParamKey) -> u16
-    ensures { key_number key ≡ number_by (key_variant key) result }
-{
-    match key {
-        SvcParamKey::Key(number) | SvcParamKey::Unknown(number) => number,
-        _ => 0,
-    }
 }
 
 // Of a length and a value, in front of others: Equal only for those that are alike.

@@ -127,7 +127,10 @@ impl PartialEq for EdnsCode {
 
     #[inline]
     fn eq(&self, other: &EdnsCode) -> bool {
-        u16::from(*self) == u16::from(*other) && self.variant() == other.variant()
+        match (*self, *other) {
+            (EdnsCode::Unknown(a), EdnsCode::Unknown(b)) => a == b,
+            _ => self.variant() == other.variant(),
+        }
     }
 }
 

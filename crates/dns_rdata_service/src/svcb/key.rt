@@ -94,7 +94,7 @@ impl SvcParamKey {
 
     // The place in the declaration.
     #[inline]
-    pub(crate) fn variant(self) -> u8
+    fn variant(self) -> u8
         ensures { result ≡ key_variant self }
     {
         match self {
@@ -119,7 +119,11 @@ impl PartialEq for SvcParamKey {
 
     #[inline]
     fn eq(&self, other: &SvcParamKey) -> bool {
-        u16::from(*self) == u16::from(*other) && self.variant() == other.variant()
+        match (*self, *other) {
+            (SvcParamKey::Key(a), SvcParamKey::Key(b)) => a == b,
+            (SvcParamKey::Unknown(a), SvcParamKey::Unknown(b)) => a == b,
+            _ => self.variant() == other.variant(),
+        }
     }
 }
 

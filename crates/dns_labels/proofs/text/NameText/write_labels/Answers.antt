@@ -4,7 +4,7 @@ use Rattle.std.specs.Fmt.{HasWritten}
 use Rattle.dns_labels.specs.Text.{label_text, name_text}
 use Rattle.dns_fields.specs.Labels.{DomainName}
 use Rattle.dns_labels.proofs.NameTexts.{joined_more, joined_all}
-use Rattle.dns_labels.proofs.text.NameTextDisplay.fmt.Goals as goal
+use Rattle.dns_labels.proofs.text.NameText.write_labels.Goals as goal
 
 pub loop-label-preserved : goal.loop-label-preserved
 loop-label-preserved g c = λ p.
@@ -19,8 +19,8 @@ loop-label-preserved g c = λ p.
           c.loop-label.label-iterator c.next-in-loop-label.new.self _ c.in-Some-label.ensures.steps i.2,
     )
 
-pub returns-in_ok-write_str-2-clause-writes : goal.returns-in_ok-write_str-2-clause-writes
-returns-in_ok-write_str-2-clause-writes g c = λ p ok.
+pub returns-in_ok-write_str-2 : goal.returns-in_ok-write_str-2
+returns-in_ok-write_str-2 g c = λ p ok.
     let i = c.loop-label.invariant p in
     let put = g.W.Write.write_str_gives in
     let mark : c.args.self.now.fully_qualified ≡ true = ap (λ (x : DomainName). x.fully_qualified) (sym c.self.view_is) ∙ c.if-self.true in

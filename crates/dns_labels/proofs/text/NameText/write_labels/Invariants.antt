@@ -2,7 +2,7 @@ use Rattle.std.proofs.Common.{◌≡◌, ℕ, List, ◌∷◌, ◌++◌}
 use Rattle.std.specs.Prelude.{flat_map}
 use Rattle.std.specs.Fmt.{HasWritten, IsPlainFormatter}
 use Rattle.dns_labels.specs.Text.{label_text, joined_text}
-use Rattle.dns_labels.proofs.text.NameTextDisplay.fmt.Given as goal
+use Rattle.dns_labels.proofs.text.NameText.write_labels.Given as goal
 
 -- the labels so far were written, and those that the iterator has left are the others
 abbrev pub invariant-loop-label : goal.invariant-loop-label
