@@ -4,7 +4,7 @@ use Rattle.std.proofs.lemmas.List.{append_cancel_left, length-append, take_at}
 use Rattle.std.specs.List.{flat_map}
 use Rattle.std.specs.Cmp.Lexicographic.{slice_cmp}
 use Rattle.std.specs.FinMap.{nat_cmp-IsAntisymmetric, slice_cmp-IsAntisymmetric}
-use Rattle.std.specs.Ordering.{is_eq, is_gt, is_ne, nat_cmp, ordering_then}
+use Rattle.std.specs.Ordering.{is_eq, is_gt, nat_cmp, ordering_then}
 use Rattle.std.specs.declared.cmp.Ordering.{Ordering}
 use Rattle.std.specs.declared.cmp.Ordering.TheVariants.{Less, Equal, Greater}
 use Rattle.dns_fields.specs.Equal.{values_eq}
@@ -142,11 +142,6 @@ unless_tied_knows s a b same order None f g e h = tt
 unless_tied_knows s a b same order (Some o) f g e h = record { equal = h.1; first = λ n. f; second = λ n. g; octets = λ n. h.0 ∙ e }
 
 -- ---- of each record
-
-pub no_tie : {P : Type 0} (o : Ordering) → is_ne o ≡ true → o ≡ Equal → P
-no_tie Less h e = cc e
-no_tie Equal h e = absurd (true≢false (sym h))
-no_tie Greater h e = cc e
 
 pub no_difference : {P : Type 0} (o : Ordering) → is_eq o ≡ false → o ≡ Equal → P
 no_difference Less h e = cc e
