@@ -60,8 +60,8 @@ impl NameBuffer {
         self.len = end;
     }
 
-    /// Adds octets at the end, and answers whether each stands for itself in a label's text; where one does not,
-    /// none is added.
+    /// Adds octets at the end, and answers whether each stands for itself in a label's text; where one does not, what
+    /// there is afterwards is of no use.
     pub(crate) fn extend_plain(&mut self, part: &[u8]) -> bool
         requires { length self.old + length part.now ≤ 254 }
         ensures added { OnTrue result (self.new ≡ self.old ++ part.now) }
