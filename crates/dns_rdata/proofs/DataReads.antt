@@ -1,7 +1,7 @@
 -- Reading data of each type.
 use Rattle.std.proofs.Common.{[], ◌∷◌, ◌≡◌, ◌≢◌, ℕ, ◌+◌, ◌-◌, ◌<◌, ◌≤◌, ◌==◌, ◌⊎◌, inl, inr, Bool, true, false, cond, List, length, refl}
-use Rattle.std.proofs.Common.{arith, Result, Ok, Err}
-use Rattle.std.specs.Result.{IfOk, IfErr}
+use Rattle.std.proofs.Common.{arith, subst, ap, ◌∙◌, Result, Ok, Err}
+use Rattle.std.specs.Result.{IfOk, IfErr, OnOk}
 use Rattle.std.proofs.lemmas.Bool.Decides.{nat_tests}
 use Rattle.dns_fields.specs.Octets.{AreOctets}
 use Rattle.dns_fields.specs.Fields.{Values, Kind, Number, Name, Text}
@@ -11,8 +11,8 @@ use Rattle.dns_types.specs.declared.record_type.RecordType.{RecordType}
 use Rattle.dns_types.specs.declared.record_type.RecordType.TheVariants as types
 use Rattle.dns_types.specs.RecordTypes.{number_of}
 use Rattle.dns_names_wire.specs.State.{Reading}
-use Rattle.dns_names_wire.specs.Words.{StaysBehind, UnlessMemory, NoWindow, TookWindow, RefusedWindow}
-use Rattle.dns_names_wire.proofs.FieldReads.{stays}
+use Rattle.dns_names_wire.specs.Words.{StaysBehind, UnlessMemory, NoWindow, TookWindow, RefusedWindow, ReadsWindow, LacksOctets}
+use Rattle.dns_names_wire.proofs.FieldReads.{stays, unless_all}
 use Rattle.dns_rdata_base.specs.declared.null.NULL.{NULL}
 use Rattle.dns_rdata_base.specs.NULL.{null_shape, null_fields}
 use Rattle.dns_rdata_base.specs.Refusing.{FirstLack, IsLack}
@@ -28,10 +28,10 @@ use Rattle.dns_rdata_sets.specs.CAA.{tag_refusal}
 use Rattle.dns_rdata_sets.specs.RecordTypeSet.{bitmap_refusal}
 use Rattle.dns_rdata.specs.declared.record_data.RData.{RData}
 use Rattle.dns_rdata.specs.declared.record_data.RData.TheVariants as rdata
-use Rattle.dns_rdata.specs.Data.{Row, row, unread, rowless, row_of, kinds_of, condition_of, is_rowless, FieldsOf, shape, condition}
-use Rattle.dns_rdata.specs.Data.{IsRowless, IsValue, Fills, NoValue, TookData, RefusedData, ReadsData}
+use Rattle.dns_rdata.specs.Data.{Row, row, unread, rowless, row_of, kinds_of, condition_of, is_rowless, is_never, FieldsOf, shape, condition}
+use Rattle.dns_rdata.specs.Data.{IsRowless, IsValue, Fills, NoValue, TookData, RefusedData, ReadsData, type_of}
 use Rattle.dns_rdata.specs.Data.{IsNeverRead}
-use Rattle.dns_rdata.specs.Refusals.{OwnRefusal, IsRefusal, by_length}
+use Rattle.dns_rdata.specs.Refusals.{own_refusal, OwnRefusal, IsRefusal, ReadsCounted, by_length}
 
 -- what fills a window as fields fills it as a value
 pub data_took : {old new : Reading} (t : RecordType) (n : ℕ) (v : RData) (vs : Values (shape t)) → IsValue t vs v
@@ -223,3 +223,181 @@ data_why t n (Err (decode.IncorrectRDataLengthRead r l)) old new read len h c ow
 data_why t n (Err x) old new read len h c own never =
     by_case (read == len) (λ b. IfErr {T = RData} (cond b (Err x) (Err (decode.IncorrectRDataLengthRead read len))) (IsRefusal t n old new))
     (λ e. (counted h.behind c e, own)) (λ e. inl (miscounted h.behind c e, c.taken, c.wanted))
+
+-- ---- a record's answer, as that of the value that holds it
+
+abbrev pub mapped : {X : Type 0} → (X → RData) → Result X DecodeError → Result RData DecodeError
+mapped f (Ok x) = Ok (f x)
+mapped f (Err e) = Err e
+
+mapped_choice : {X : Type 0} (f : X → RData) (b : Bool) (p q : Result X DecodeError) → mapped f (cond b p q) ≡ cond b (mapped f p) (mapped f q)
+mapped_choice f true p q = refl
+mapped_choice f false p q = refl
+
+mapped_length : {X : Type 0} (f : X → RData) (r : Result X DecodeError) (read len : ℕ) → mapped f (by_length r read len) ≡ by_length (mapped f r) read len
+mapped_length f (Ok x) read len = mapped_choice f (read == len) (Ok x) (Err (decode.IncorrectRDataLengthRead read len))
+mapped_length f (Err decode.Memory) read len = refl
+mapped_length f (Err (decode.UnknownRecordTypeValue k)) read len = refl
+mapped_length f (Err e) read len = mapped_choice f (read == len) (Err e) (Err (decode.IncorrectRDataLengthRead read len))
+
+own_mapped : {X : Type 0} (f : X → RData) (r : Result X DecodeError) (P : DecodeError → Type 0) → IfErr r P → IfErr (mapped f r) P
+own_mapped f (Ok x) P h = tt
+own_mapped f (Err e) P h = h
+
+mapped_counted : {X : Type 0} {n start : ℕ} {old new : Reading} {s : Result X DecodeError} (t : RecordType) (f : X → RData) (r : Result X DecodeError)
+    → (IsNeverRead t → ⊥) → start ≡ old.index → s ≡ by_length r (new.index - start) n → ReadsData t n (mapped f r) old new
+    → IfErr r (λ e. UnlessMemory e (OwnRefusal t n old new e)) → ReadsCounted t n (mapped f s) old new
+mapped_counted {n = n} {old = old} {new = new} t f r never place c reads own = record {
+  outcome = mapped f r;
+  reads = reads;
+  own = own_mapped f r _ own;
+  never = λ h. absurd (never h);
+  counted = ap (mapped f) (c ∙ ap (λ k. by_length r (new.index - k) n) place) ∙ mapped_length f r (new.index - old.index) n;
+}
+
+reads_mapped : {X : Type 0} (old new : Reading) (t : RecordType) (n : ℕ) (f : X → RData) (fields : X → Values (shape t)) (r : Result X DecodeError)
+    → ReadsWindow (shape t) (condition t) fields n r old new → ((x : X) → r ≡ Ok x → IsValue t (fields x) (f x)) → ReadsData t n (mapped f r) old new
+reads_mapped old new t n f fields (Ok x) w value = data_took t n (f x) (fields x) (value x refl) w
+reads_mapped old new t n f fields (Err e) w value = data_refuses t n e w
+
+unless_each : {X : Type 0} (r : Result X DecodeError) (P : DecodeError → Type 0) → IfErr r P → IfErr r (λ e. UnlessMemory e (P e))
+unless_each (Ok x) P h = tt
+unless_each (Err e) P h = unless_all e h
+
+unless_other : {X : Type 0} (r : Result X DecodeError) (P : DecodeError → Type 0) → IfErr r (λ e. (e ≡ decode.Memory) ⊎ P e) → IfErr r (λ e. UnlessMemory e (P e))
+unless_other (Ok x) P h = tt
+unless_other (Err e) P (inl m) = rw m tt
+unless_other (Err e) P (inr h) = unless_all e h
+
+-- what is so of each value that is read
+pub of_read : {X : Type 0} {r : Result X DecodeError} {x : X} (P : X → Type 0) → IfOk r P → r ≡ Ok x → P x
+of_read P h e = subst (λ z. IfOk z P) e h
+
+pub reads_counted : {X : Type 0} {n start : ℕ} {old new : Reading} {r s : Result X DecodeError} (t : RecordType) (f : X → RData) (fields : X → Values (shape t))
+    → (IsNeverRead t → ⊥) → start ≡ old.index → s ≡ by_length r (new.index - start) n → ReadsWindow (shape t) (condition t) fields n r old new
+    → IfErr r (OwnRefusal t n old new) → ((x : X) → r ≡ Ok x → IsValue t (fields x) (f x)) → ReadsCounted t n (mapped f s) old new
+reads_counted {n = n} {old = old} {new = new} {r = r} t f fields never place c window own value =
+    mapped_counted t f r never place c (reads_mapped old new t n f fields r window value) (unless_each r _ own)
+
+pub null_counted : {n start : ℕ} {old new : Reading} {s : Result NULL DecodeError} (r : Result NULL DecodeError) → start ≡ old.index → s ≡ by_length r (new.index - start) n
+    → ReadsWindow null_shape (λ _. Unit {0}) null_fields n r old new
+    → IfErr r (λ e. (e ≡ decode.Memory) ⊎ ((e ≡ decode.InsufficientBytes) × LacksOctets old n))
+    → ReadsCounted types.NULL n (mapped (λ x. rdata.NULL x) s) old new
+null_counted {n = n} {old = old} {new = new} r place c window own =
+    mapped_counted types.NULL (λ x. rdata.NULL x) r (λ h. h) place c
+    (reads_mapped old new types.NULL n (λ x. rdata.NULL x) null_fields r window (λ x _. record { type = refl; fields = refl; plain = tt }))
+    (unless_other r (λ e. (e ≡ decode.InsufficientBytes) × LacksOctets old n) own)
+
+refused_rowless : (q : Row) (old new : Reading) (n : ℕ) (e : DecodeError) → is_rowless q → RefusedWindow e old n null_shape (λ _. Unit {0}) new
+    → RefusedWindow e old n (kinds_of q) (condition_of q) new
+refused_rowless (row kinds asked refusal) old new n e h w = absurd h
+refused_rowless unread old new n e h w = absurd h
+refused_rowless rowless old new n e h w = w
+
+reads_rowless : (old new : Reading) (t : RecordType) (n : ℕ) (r : Result NULL DecodeError) → HasNoRow t
+    → ReadsWindow null_shape (λ _. Unit {0}) null_fields n r old new → ReadsData t n (mapped (λ x. rdata.Unknown t x) r) old new
+reads_rowless old new t n (Ok x) h w = unknown_took t n x h w
+reads_rowless old new t n (Err e) h w = data_refuses t n e (refused_rowless (row_of t) old new n e h.rowless w)
+
+own_rowless : (t : RecordType) (q : Row) (old new : Reading) (n : ℕ) (r : Result NULL DecodeError) → is_rowless q
+    → IfErr r (λ e. UnlessMemory e ((e ≡ decode.InsufficientBytes) × LacksOctets old n))
+    → IfErr r (λ e. UnlessMemory e (own_refusal t q n old new e))
+own_rowless t (row kinds asked refusal) old new n r h w = absurd h
+own_rowless t unread old new n r h w = absurd h
+own_rowless t rowless old new n r h w = w
+
+pub unknown_counted : {n start : ℕ} {old new : Reading} {s : Result NULL DecodeError} (t : RecordType) (r : Result NULL DecodeError) → HasNoRow t → start ≡ old.index
+    → s ≡ by_length r (new.index - start) n → ReadsWindow null_shape (λ _. Unit {0}) null_fields n r old new
+    → IfErr r (λ e. (e ≡ decode.Memory) ⊎ ((e ≡ decode.InsufficientBytes) × LacksOctets old n))
+    → ReadsCounted t n (mapped (λ x. rdata.Unknown t x) s) old new
+unknown_counted {n = n} {old = old} {new = new} t r h place c window own =
+    mapped_counted t (λ x. rdata.Unknown t x) r h.read place c (reads_rowless old new t n r h window)
+    (own_rowless t (row_of t) old new n r h.rowless (unless_other r (λ e. (e ≡ decode.InsufficientBytes) × LacksOctets old n) own))
+
+pub zero_counted : {n start : ℕ} {d : Reading} {s : Result RData DecodeError} → n < 65536 → d.index ≤ length d.message → AreOctets d.message
+    → start ≡ d.index → s ≡ by_length (Ok rdata.ZERO) (d.index - start) n → ReadsCounted types.ZERO n s d d
+zero_counted {n = n} {d = d} short inside octets place c = record {
+  outcome = Ok rdata.ZERO;
+  reads = data_zero d n short inside octets;
+  own = tt;
+  never = λ h. absurd h;
+  counted = c ∙ ap (λ k. by_length (Ok rdata.ZERO) (d.index - k) n) place;
+}
+
+unread_none : (q : Row) (m : List ℕ) (p n : ℕ) → is_never q → NoWindow m p n (kinds_of q) (condition_of q)
+unread_none (row kinds asked refusal) m p n h = absurd h
+unread_none unread m p n h = record { none = λ vs w. w.holds }
+unread_none rowless m p n h = absurd h
+
+own_unread : (t : RecordType) (q : Row) (d : Reading) (n : ℕ) → is_never q → own_refusal t q n d d (decode.UnknownRecordTypeValue (number_of t))
+own_unread t (row kinds asked refusal) d n h = absurd h
+own_unread t unread d n h = refl
+own_unread t rowless d n h = absurd h
+
+never_counted : (t : RecordType) (n : ℕ) (d : Reading) → IsNeverRead t → ReadsCounted t n (Err (decode.UnknownRecordTypeValue (number_of t))) d d
+never_counted t n d h = record {
+  outcome = Err (decode.UnknownRecordTypeValue (number_of t));
+  reads = record { behind = stays d; none = unread_none (row_of t) d.message d.index n h };
+  own = own_unread t (row_of t) d n h;
+  never = λ _. (refl, refl);
+  counted = refl;
+}
+
+pub unread_counted : (t : RecordType) (n : ℕ) (d : Reading) → (t ≡ types.ANY) ⊎ ((t ≡ types.AXFR) ⊎ (t ≡ types.IXFR))
+    → ReadsCounted t n (Err (decode.UnknownRecordTypeValue (number_of t))) d d
+unread_counted t n d (inl e) = rw e (never_counted types.ANY n d tt)
+unread_counted t n d (inr (inl e)) = rw e (never_counted types.AXFR n d tt)
+unread_counted t n d (inr (inr e)) = rw e (never_counted types.IXFR n d tt)
+
+-- ---- what stands after it
+
+counted_behind : (t : RecordType) (n : ℕ) (o : Result RData DecodeError) (old new : Reading) → ReadsData t n o old new → StaysBehind old new
+counted_behind t n (Ok v) old new h = h.behind
+counted_behind t n (Err e) old new h = h.behind
+
+pub reads_behind : {t : RecordType} {n : ℕ} {r : Result RData DecodeError} {old new : Reading} → ReadsCounted t n r old new → StaysBehind old new
+reads_behind {t} {n} {r} {old} {new} h = counted_behind t n h.outcome old new h.reads
+
+found_after : (b : Bool) (v : RData) (e : DecodeError) (P : Type 0) → (b ≡ true → P) → OnOk (cond b (Ok v) (Err e)) P
+found_after true v e P f = f refl
+found_after false v e P f = tt
+
+refused_after : (b : Bool) (e x : DecodeError) (P : Type 0) → OnOk {T = RData} (cond b (Err e) (Err x)) P
+refused_after true e x P = tt
+refused_after false e x P = tt
+
+data_after : (t : RecordType) (n : ℕ) (o : Result RData DecodeError) (old new : Reading) (read len : ℕ) → ReadsData t n o old new
+    → Counted old new n read len → OnOk (by_length o read len) (new.index ≡ old.index + n)
+data_after t n (Ok v) old new read len h c = found_after (read == len) v (decode.IncorrectRDataLengthRead read len) _ (counted h.behind c)
+data_after t n (Err decode.Memory) old new read len h c = tt
+data_after t n (Err (decode.UnknownRecordTypeValue k)) old new read len h c = tt
+data_after t n (Err e) old new read len h c = refused_after (read == len) e (decode.IncorrectRDataLengthRead read len) _
+
+own_count : {old new : Reading} {n : ℕ} → Counted old new n (new.index - old.index) n
+own_count = record { taken = refl; wanted = refl }
+
+pub reads_after : {t : RecordType} {n : ℕ} {r : Result RData DecodeError} {old new : Reading} → ReadsCounted t n r old new
+    → OnOk r (new.index ≡ old.index + n)
+reads_after {t} {n} {r} {old} {new} h = rw h.counted (data_after t n h.outcome old new (new.index - old.index) n h.reads own_count)
+
+pub reads_found : {t : RecordType} {n : ℕ} {r : Result RData DecodeError} {old new : Reading} → ReadsCounted t n r old new
+    → IfOk r (λ v. Fills old.message old.index n t v)
+reads_found {t} {n} {r} {old} {new} h = rw h.counted (data_found t n h.outcome old new (new.index - old.index) n h.reads own_count)
+
+pub reads_refused : {t : RecordType} {n : ℕ} {r : Result RData DecodeError} {old new : Reading} → ReadsCounted t n r old new
+    → IfErr r (λ e. UnlessMemory e (NoValue old.message old.index n t))
+reads_refused {t} {n} {r} {old} {new} h = rw h.counted (data_refused t n h.outcome old new (new.index - old.index) n h.reads own_count)
+
+pub reads_why : {t : RecordType} {n : ℕ} {r : Result RData DecodeError} {old new : Reading} → ReadsCounted t n r old new
+    → IfErr r (IsRefusal t n old new)
+reads_why {t} {n} {r} {old} {new} h = rw h.counted (data_why t n h.outcome old new (new.index - old.index) n h.reads own_count h.own h.never)
+
+pub reads_never : {t : RecordType} {n : ℕ} {r : Result RData DecodeError} {old new : Reading} → ReadsCounted t n r old new → IsNeverRead t
+    → (new ≡ old) × (r ≡ Err (decode.UnknownRecordTypeValue (number_of t)))
+reads_never {t} {n} {r} {old} {new} h none =
+    let x = h.never none in (x.0, h.counted ∙ ap (λ o. by_length o (new.index - old.index) n) x.1)
+
+-- of what was found the type is told
+pub reads_kind : (t : RecordType) (m : List ℕ) (p n : ℕ) (r : Result RData DecodeError) → IfOk r (λ v. Fills m p n t v) → IfOk r (λ v. type_of v ≡ t)
+reads_kind t m p n (Ok v) h = h.value.type
+reads_kind t m p n (Err e) h = tt

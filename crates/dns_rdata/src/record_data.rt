@@ -4,7 +4,7 @@ ghost use Rattle.std.specs.Prelude.{◌≡◌, ◌≢◌, ◌+◌, ◌-◌, ◌<
 ghost use Rattle.dns_types.specs.RecordTypes.{number_of};
 ghost use Rattle.dns_names_wire.specs.Words.{StaysBehind, UnlessMemory, EmitsAs, Extends, Keeps, IsMessage};
 ghost use Rattle.dns_rdata.specs.Data.{IsNeverRead};
-ghost use Rattle.dns_rdata.specs.Refusals.{OwnRefusal, IsRefusal, by_length as answer_by_length};
+ghost use Rattle.dns_rdata.specs.Refusals.{IsRefusal, ReadsCounted, by_length as answer_by_length};
 
 use dns_names_wire::{
     BinDecoder, BinEncodable, BinEncoder, DecodeError, ProtoError, RecordType, Restrict,
@@ -85,7 +85,7 @@ pub enum RData {
 }
 
 impl RData {
-    ghost use Rattle.dns_rdata.specs.Data.{Fills, NoValue, ReadsData, IsEmittable, fields_of, mode_for, type_of, data_octets};
+    ghost use Rattle.dns_rdata.specs.Data.{Fills, NoValue, IsEmittable, fields_of, mode_for, type_of, data_octets};
     ghost use Rattle.dns_rdata.specs.Laws.{ReadsCanonical, address_of};
 
     /// The type of the record that has this data.
@@ -133,53 +133,119 @@ impl RData {
         }
     }
 
-    // Reads the fields of a type, whatever the length is in the end.
+    // Reads the fields of a type, and answers by how many octets they took. Each type answers for itself: a value that
+    // goes through one place for all of them is copied there.
+    #[inline(never)]
     fn read_by_type(
         decoder: &mut BinDecoder<'_>,
         record_type: RecordType,
         length: Restrict<u16>,
     ) -> Result<RData, DecodeError>
-        ensures reads { ReadsData record_type length result decoder.old decoder.new }
-        ensures own { IfErr result (λ e. UnlessMemory e (OwnRefusal record_type length decoder.old decoder.new e)) }
-        ensures never { IsNeverRead record_type → (decoder.new ≡ decoder.old)
-            × (result ≡ Err (DecodeError.UnknownRecordTypeValue (number_of record_type))) }
+        ensures { ReadsCounted record_type length result decoder.old decoder.new }
     {
-        // Called for its clauses: the message is octets, and the place is in it.
-        let _start = decoder.index();
+        let start = decoder.index();
         match record_type {
-            RecordType::A => Ok(RData::A(A::read_data(decoder, length)?)),
-            RecordType::AAAA => Ok(RData::AAAA(AAAA::read_data(decoder, length)?)),
-            RecordType::ANAME => Ok(RData::ANAME(ANAME::read_data(decoder, length)?)),
-            RecordType::CAA => Ok(RData::CAA(CAA::read_data(decoder, length)?)),
-            RecordType::CERT => Ok(RData::CERT(CERT::read_data(decoder, length)?)),
-            RecordType::CNAME => Ok(RData::CNAME(CNAME::read_data(decoder, length)?)),
-            RecordType::CSYNC => Ok(RData::CSYNC(CSYNC::read_data(decoder, length)?)),
-            RecordType::HINFO => Ok(RData::HINFO(HINFO::read_data(decoder, length)?)),
-            RecordType::HTTPS => Ok(RData::HTTPS(HTTPS::read_data(decoder, length)?)),
-            RecordType::MX => Ok(RData::MX(MX::read_data(decoder, length)?)),
-            RecordType::NAPTR => Ok(RData::NAPTR(NAPTR::read_data(decoder, length)?)),
-            RecordType::NULL => Ok(RData::NULL(NULL::read_data(decoder, length)?)),
-            RecordType::NS => Ok(RData::NS(NS::read_data(decoder, length)?)),
-            RecordType::OPENPGPKEY => Ok(RData::OPENPGPKEY(OPENPGPKEY::read_data(
-                decoder, length,
-            )?)),
-            RecordType::OPT => Ok(RData::OPT(OPT::read_data(decoder, length)?)),
-            RecordType::PTR => Ok(RData::PTR(PTR::read_data(decoder, length)?)),
-            RecordType::SMIMEA => Ok(RData::SMIMEA(SMIMEA::read_data(decoder, length)?)),
-            RecordType::SOA => Ok(RData::SOA(SOA::read_data(decoder, length)?)),
-            RecordType::SRV => Ok(RData::SRV(SRV::read_data(decoder, length)?)),
-            RecordType::SSHFP => Ok(RData::SSHFP(SSHFP::read_data(decoder, length)?)),
-            RecordType::SVCB => Ok(RData::SVCB(SVCB::read_data(decoder, length)?)),
-            RecordType::TLSA => Ok(RData::TLSA(TLSA::read_data(decoder, length)?)),
-            RecordType::TXT => Ok(RData::TXT(TXT::read_data(decoder, length)?)),
-            RecordType::ZERO => Ok(RData::ZERO),
-            RecordType::ANY | RecordType::AXFR | RecordType::IXFR => {
-                Err(DecodeError::UnknownRecordTypeValue(record_type.into()))
+            RecordType::A => {
+                let data = A::read_data(decoder, length);
+                return Ok(RData::A(by_length(data, decoder, start, length)?));
             }
-            _ => Ok(RData::Unknown {
-                code: record_type,
-                rdata: NULL::read_data(decoder, length)?,
-            }),
+            RecordType::AAAA => {
+                let data = AAAA::read_data(decoder, length);
+                return Ok(RData::AAAA(by_length(data, decoder, start, length)?));
+            }
+            RecordType::ANAME => {
+                let data = ANAME::read_data(decoder, length);
+                return Ok(RData::ANAME(by_length(data, decoder, start, length)?));
+            }
+            RecordType::CAA => {
+                let data = CAA::read_data(decoder, length);
+                return Ok(RData::CAA(by_length(data, decoder, start, length)?));
+            }
+            RecordType::CERT => {
+                let data = CERT::read_data(decoder, length);
+                return Ok(RData::CERT(by_length(data, decoder, start, length)?));
+            }
+            RecordType::CNAME => {
+                let data = CNAME::read_data(decoder, length);
+                return Ok(RData::CNAME(by_length(data, decoder, start, length)?));
+            }
+            RecordType::CSYNC => {
+                let data = CSYNC::read_data(decoder, length);
+                return Ok(RData::CSYNC(by_length(data, decoder, start, length)?));
+            }
+            RecordType::HINFO => {
+                let data = HINFO::read_data(decoder, length);
+                return Ok(RData::HINFO(by_length(data, decoder, start, length)?));
+            }
+            RecordType::HTTPS => {
+                let data = HTTPS::read_data(decoder, length);
+                return Ok(RData::HTTPS(by_length(data, decoder, start, length)?));
+            }
+            RecordType::MX => {
+                let data = MX::read_data(decoder, length);
+                return Ok(RData::MX(by_length(data, decoder, start, length)?));
+            }
+            RecordType::NAPTR => {
+                let data = NAPTR::read_data(decoder, length);
+                return Ok(RData::NAPTR(by_length(data, decoder, start, length)?));
+            }
+            RecordType::NULL => {
+                let data = NULL::read_data(decoder, length);
+                return Ok(RData::NULL(by_length(data, decoder, start, length)?));
+            }
+            RecordType::NS => {
+                let data = NS::read_data(decoder, length);
+                return Ok(RData::NS(by_length(data, decoder, start, length)?));
+            }
+            RecordType::OPENPGPKEY => {
+                let data = OPENPGPKEY::read_data(decoder, length);
+                return Ok(RData::OPENPGPKEY(by_length(data, decoder, start, length)?));
+            }
+            RecordType::OPT => {
+                let data = OPT::read_data(decoder, length);
+                return Ok(RData::OPT(by_length(data, decoder, start, length)?));
+            }
+            RecordType::PTR => {
+                let data = PTR::read_data(decoder, length);
+                return Ok(RData::PTR(by_length(data, decoder, start, length)?));
+            }
+            RecordType::SMIMEA => {
+                let data = SMIMEA::read_data(decoder, length);
+                return Ok(RData::SMIMEA(by_length(data, decoder, start, length)?));
+            }
+            RecordType::SOA => {
+                let data = SOA::read_data(decoder, length);
+                return Ok(RData::SOA(by_length(data, decoder, start, length)?));
+            }
+            RecordType::SRV => {
+                let data = SRV::read_data(decoder, length);
+                return Ok(RData::SRV(by_length(data, decoder, start, length)?));
+            }
+            RecordType::SSHFP => {
+                let data = SSHFP::read_data(decoder, length);
+                return Ok(RData::SSHFP(by_length(data, decoder, start, length)?));
+            }
+            RecordType::SVCB => {
+                let data = SVCB::read_data(decoder, length);
+                return Ok(RData::SVCB(by_length(data, decoder, start, length)?));
+            }
+            RecordType::TLSA => {
+                let data = TLSA::read_data(decoder, length);
+                return Ok(RData::TLSA(by_length(data, decoder, start, length)?));
+            }
+            RecordType::TXT => {
+                let data = TXT::read_data(decoder, length);
+                return Ok(RData::TXT(by_length(data, decoder, start, length)?));
+            }
+            RecordType::ZERO => return by_length(Ok(RData::ZERO), decoder, start, length),
+            RecordType::ANY | RecordType::AXFR | RecordType::IXFR => {
+                return Err(DecodeError::UnknownRecordTypeValue(record_type.into()));
+            }
+            code => {
+                let data = NULL::read_data(decoder, length);
+                let rdata = by_length(data, decoder, start, length)?;
+                return Ok(RData::Unknown { code, rdata });
+            }
         }
     }
 
@@ -189,6 +255,7 @@ impl RData {
     /// taken are as many as the length says, and last whether the record itself refused them. After a refusal the
     /// message is as it was, and the place is not before the one where the call began; after success it is behind the
     /// length.
+    #[inline]
     pub fn read(
         decoder: &mut BinDecoder<'_>,
         record_type: RecordType,
@@ -209,22 +276,19 @@ impl RData {
         // What is read can be emitted: it is refused for memory or for buffer space alone.
         ensures emittable { IfOk result IsEmittable }
     {
-        let start = decoder.index();
-        let outcome = RData::read_by_type(decoder, record_type, length);
-        let read = decoder.index() - start;
-        let len = length.unverified() as usize;
-        by_length(outcome, read, len)
+        RData::read_by_type(decoder, record_type, length)
     }
 }
 
-// What reading answers, once so many octets were taken of a length.
+// What reading answers that began at this place, by how many octets were taken of a length.
 #[inline]
-fn by_length(
-    outcome: Result<RData, DecodeError>,
-    read: usize,
-    len: usize,
-) -> Result<RData, DecodeError>
-    ensures { result ≡ answer_by_length outcome read len }
+fn by_length<T: Drop>(
+    outcome: Result<T, DecodeError>,
+    decoder: &BinDecoder<'_>,
+    start: usize,
+    length: Restrict<u16>,
+) -> Result<T, DecodeError>
+    ensures { result ≡ answer_by_length outcome (decoder.now.index - start) length }
 {
     match outcome {
         Err(DecodeError::Memory) => Err(DecodeError::Memory),
@@ -232,6 +296,8 @@ fn by_length(
             Err(DecodeError::UnknownRecordTypeValue(number))
         }
         outcome => {
+            let read = decoder.index().saturating_sub(start);
+            let len = length.unverified() as usize;
             if read == len {
                 outcome
             } else {

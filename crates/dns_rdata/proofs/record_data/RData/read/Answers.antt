@@ -1,25 +1,16 @@
-use Rattle.std.proofs.Common.{arith}
-use Rattle.dns_rdata.proofs.DataReads.{data_found, data_refused, data_why}
+use Rattle.dns_rdata.proofs.DataReads.{reads_after, reads_behind, reads_found, reads_kind, reads_never, reads_refused, reads_why}
 use Rattle.dns_rdata.proofs.DataLaws.{canonical_of, emittable_of}
 use Rattle.dns_rdata.proofs.record_data.RData.read.Goals as goal
 
-pub returns-clause-refused : goal.returns-clause-refused
-returns-clause-refused c = rw c.by_length.ensures
-    (data_refused _ _ _ _ _ _ _ c.read_by_type-outcome.ensures.reads
-    (record { taken = omega (arith, c.index.ensures.place, c.index-start.ensures.place); wanted = c.unverified-len.ensures }))
-
-pub returns-clause-why : goal.returns-clause-why
-returns-clause-why c = rw c.by_length.ensures
-    (data_why _ _ _ _ _ _ _ c.read_by_type-outcome.ensures.reads
-    (record { taken = omega (arith, c.index.ensures.place, c.index-start.ensures.place); wanted = c.unverified-len.ensures })
-    c.read_by_type-outcome.ensures.own c.read_by_type-outcome.ensures.never)
-
-pub returns-clause-canonical : goal.returns-clause-canonical
-returns-clause-canonical c = rw c.by_length.ensures
-    (canonical_of _ _ _ _ _ (data_found _ _ _ _ _ _ _ c.read_by_type-outcome.ensures.reads
-    (record { taken = omega (arith, c.index.ensures.place, c.index-start.ensures.place); wanted = c.unverified-len.ensures })))
-
-pub returns-clause-emittable : goal.returns-clause-emittable
-returns-clause-emittable c = rw c.by_length.ensures
-    (emittable_of _ _ _ _ _ (data_found _ _ _ _ _ _ _ c.read_by_type-outcome.ensures.reads
-    (record { taken = omega (arith, c.index.ensures.place, c.index-start.ensures.place); wanted = c.unverified-len.ensures })))
+pub returns : goal.returns
+returns c = let found = reads_found c.read_by_type.ensures in record {
+  found = found;
+  after = reads_after c.read_by_type.ensures;
+  kind = reads_kind _ _ _ _ _ found;
+  refused = reads_refused c.read_by_type.ensures;
+  why = reads_why c.read_by_type.ensures;
+  never = reads_never c.read_by_type.ensures;
+  behind = reads_behind c.read_by_type.ensures;
+  canonical = canonical_of _ _ _ _ _ found;
+  emittable = emittable_of _ _ _ _ _ found;
+}

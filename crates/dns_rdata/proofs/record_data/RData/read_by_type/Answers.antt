@@ -1,211 +1,305 @@
 use Rattle.std.proofs.Common.{refl, arith}
 use Rattle.std.proofs.lemmas.Result.{err_from_is_err_and}
 use Rattle.dns_types.specs.declared.record_type.RecordType.TheVariants as types
-use Rattle.dns_names_wire.proofs.FieldReads.{unless_all}
-use Rattle.dns_rdata.proofs.DataReads.{data_took, data_refuses, data_zero, no_row, unknown_took}
+use Rattle.dns_rdata_base.specs.A.{a_fields}
+use Rattle.dns_rdata_base.specs.AAAA.{aaaa_fields}
+use Rattle.dns_rdata_base.specs.HINFO.{hinfo_fields}
+use Rattle.dns_rdata_base.specs.MX.{mx_fields}
+use Rattle.dns_rdata_base.specs.NAPTR.{naptr_fields}
+use Rattle.dns_rdata_base.specs.NameRecords.{aname_fields, cname_fields, ns_fields, ptr_fields}
+use Rattle.dns_rdata_base.specs.OPENPGPKEY.{openpgpkey_fields}
+use Rattle.dns_rdata_base.specs.SOA.{soa_fields}
+use Rattle.dns_rdata_base.specs.SRV.{srv_fields}
+use Rattle.dns_rdata_base.specs.TXT.{txt_fields}
+use Rattle.dns_rdata_certs.specs.CERT.{cert_fields}
+use Rattle.dns_rdata_certs.specs.SMIMEA.{smimea_fields}
+use Rattle.dns_rdata_certs.specs.SSHFP.{sshfp_fields}
+use Rattle.dns_rdata_certs.specs.TLSA.{tlsa_fields}
+use Rattle.dns_rdata_options.specs.OPT.{opt_fields}
+use Rattle.dns_rdata_service.specs.HTTPS.{https_fields}
+use Rattle.dns_rdata_service.specs.SVCB.{svcb_fields}
+use Rattle.dns_rdata_sets.specs.CAA.{caa_fields}
+use Rattle.dns_rdata_sets.specs.CSYNC.{csync_fields}
+use Rattle.dns_rdata.specs.declared.record_data.RData.TheVariants as rdata
+use Rattle.dns_rdata.proofs.DataReads.{no_row, null_counted, of_read, reads_counted, unknown_counted, unread_counted, zero_counted}
 use Rattle.dns_rdata.proofs.record_data.RData.read_by_type.Goals as goal
 
-pub returns-in_ok-read_data-in-A-clause-reads : goal.returns-in_ok-read_data-in-A-clause-reads
-returns-in_ok-read_data-in-A-clause-reads c =
-    rw c.in-A.is (data_took types.A _ _ _ (record { type = refl; fields = refl; plain = tt }) c.in_ok-read_data-in-A.ensures.window)
+pub returns-in-A : goal.returns-in-A
+returns-in-A c =
+    rw c.in-A.is (reads_counted types.A rdata.A a_fields (λ h. h) c.index-start.ensures.place c.in_ok-by_length-in-A.ensures
+    c.read_data-data.ensures.window c.read_data-data.ensures.refused (λ x _. record { type = refl; fields = refl; plain = tt }))
 
-pub returns-in_ok-read_data-in-AAAA-clause-reads : goal.returns-in_ok-read_data-in-AAAA-clause-reads
-returns-in_ok-read_data-in-AAAA-clause-reads c =
-    rw c.in-AAAA.is (data_took types.AAAA _ _ _ (record { type = refl; fields = refl; plain = tt }) c.in_ok-read_data-in-AAAA.ensures.window)
+pub returns-in_err-by_length-in-A : goal.returns-in_err-by_length-in-A
+returns-in_err-by_length-in-A c =
+    let p = err_from_is_err_and c.from_residual.result c.from_residual.ensures.1 in
+    rw (c.in-A.is, p.1, p.2) (reads_counted types.A rdata.A a_fields (λ h. h) c.index-start.ensures.place c.in_err-by_length-in-A.ensures
+    c.read_data-data.ensures.window c.read_data-data.ensures.refused (λ x _. record { type = refl; fields = refl; plain = tt }))
 
-pub returns-in_ok-read_data-in-ANAME-clause-reads : goal.returns-in_ok-read_data-in-ANAME-clause-reads
-returns-in_ok-read_data-in-ANAME-clause-reads c =
-    rw c.in-ANAME.is (data_took types.ANAME _ _ _ (record { type = refl; fields = refl; plain = tt }) c.in_ok-read_data-in-ANAME.ensures.window)
+pub returns-in-AAAA : goal.returns-in-AAAA
+returns-in-AAAA c =
+    rw c.in-AAAA.is (reads_counted types.AAAA rdata.AAAA aaaa_fields (λ h. h) c.index-start.ensures.place c.in_ok-by_length-in-AAAA.ensures
+    c.read_data-data-in-AAAA.ensures.window c.read_data-data-in-AAAA.ensures.refused (λ x _. record { type = refl; fields = refl; plain = tt }))
 
-pub returns-in_ok-read_data-in-CAA-clause-reads : goal.returns-in_ok-read_data-in-CAA-clause-reads
-returns-in_ok-read_data-in-CAA-clause-reads c =
-    rw c.in-CAA.is (data_took types.CAA _ _ _ (record { type = refl; fields = refl; plain = c.in_ok-read_data-in-CAA.ensures.flags })
-    c.in_ok-read_data-in-CAA.ensures.window)
+pub returns-in_err-by_length-in-AAAA : goal.returns-in_err-by_length-in-AAAA
+returns-in_err-by_length-in-AAAA c =
+    let p = err_from_is_err_and c.from_residual-in_err-by_length-in-AAAA.result c.from_residual-in_err-by_length-in-AAAA.ensures.1 in
+    rw (c.in-AAAA.is, p.1, p.2) (reads_counted types.AAAA rdata.AAAA aaaa_fields (λ h. h) c.index-start.ensures.place c.in_err-by_length-in-AAAA.ensures
+    c.read_data-data-in-AAAA.ensures.window c.read_data-data-in-AAAA.ensures.refused (λ x _. record { type = refl; fields = refl; plain = tt }))
 
-pub returns-in_ok-read_data-in-CERT-clause-reads : goal.returns-in_ok-read_data-in-CERT-clause-reads
-returns-in_ok-read_data-in-CERT-clause-reads c =
-    rw c.in-CERT.is (data_took types.CERT _ _ _ (record { type = refl; fields = refl; plain = c.in_ok-read_data-in-CERT.ensures.enums })
-    c.in_ok-read_data-in-CERT.ensures.window)
+pub returns-in-ANAME : goal.returns-in-ANAME
+returns-in-ANAME c =
+    rw c.in-ANAME.is (reads_counted types.ANAME rdata.ANAME aname_fields (λ h. h) c.index-start.ensures.place c.in_ok-by_length-in-ANAME.ensures
+    c.read_data-data-in-ANAME.ensures.window c.read_data-data-in-ANAME.ensures.refused (λ x _. record { type = refl; fields = refl; plain = tt }))
 
-pub returns-in_ok-read_data-in-CNAME-clause-reads : goal.returns-in_ok-read_data-in-CNAME-clause-reads
-returns-in_ok-read_data-in-CNAME-clause-reads c =
-    rw c.in-CNAME.is (data_took types.CNAME _ _ _ (record { type = refl; fields = refl; plain = tt }) c.in_ok-read_data-in-CNAME.ensures.window)
+pub returns-in_err-by_length-in-ANAME : goal.returns-in_err-by_length-in-ANAME
+returns-in_err-by_length-in-ANAME c =
+    let p = err_from_is_err_and c.from_residual-in_err-by_length-in-ANAME.result c.from_residual-in_err-by_length-in-ANAME.ensures.1 in
+    rw (c.in-ANAME.is, p.1, p.2) (reads_counted types.ANAME rdata.ANAME aname_fields (λ h. h) c.index-start.ensures.place c.in_err-by_length-in-ANAME.ensures
+    c.read_data-data-in-ANAME.ensures.window c.read_data-data-in-ANAME.ensures.refused (λ x _. record { type = refl; fields = refl; plain = tt }))
 
-pub returns-in_ok-read_data-in-CSYNC-clause-reads : goal.returns-in_ok-read_data-in-CSYNC-clause-reads
-returns-in_ok-read_data-in-CSYNC-clause-reads c =
-    rw c.in-CSYNC.is (data_took types.CSYNC _ _ _ (record { type = refl; fields = refl; plain = c.in_ok-read_data-in-CSYNC.ensures.read })
-    c.in_ok-read_data-in-CSYNC.ensures.window)
+pub returns-in-CAA : goal.returns-in-CAA
+returns-in-CAA c =
+    rw c.in-CAA.is (reads_counted types.CAA rdata.CAA caa_fields (λ h. h) c.index-start.ensures.place c.in_ok-by_length-in-CAA.ensures
+    c.read_data-data-in-CAA.ensures.window c.read_data-data-in-CAA.ensures.refused (λ x e. record { type = refl; fields = refl; plain = of_read _ c.read_data-data-in-CAA.ensures.flags e }))
 
-pub returns-in_ok-read_data-in-HINFO-clause-reads : goal.returns-in_ok-read_data-in-HINFO-clause-reads
-returns-in_ok-read_data-in-HINFO-clause-reads c =
-    rw c.in-HINFO.is (data_took types.HINFO _ _ _ (record { type = refl; fields = refl; plain = tt }) c.in_ok-read_data-in-HINFO.ensures.window)
+pub returns-in_err-by_length-in-CAA : goal.returns-in_err-by_length-in-CAA
+returns-in_err-by_length-in-CAA c =
+    let p = err_from_is_err_and c.from_residual-in_err-by_length-in-CAA.result c.from_residual-in_err-by_length-in-CAA.ensures.1 in
+    rw (c.in-CAA.is, p.1, p.2) (reads_counted types.CAA rdata.CAA caa_fields (λ h. h) c.index-start.ensures.place c.in_err-by_length-in-CAA.ensures
+    c.read_data-data-in-CAA.ensures.window c.read_data-data-in-CAA.ensures.refused (λ x e. record { type = refl; fields = refl; plain = of_read _ c.read_data-data-in-CAA.ensures.flags e }))
 
-pub returns-in_ok-read_data-in-HTTPS-clause-reads : goal.returns-in_ok-read_data-in-HTTPS-clause-reads
-returns-in_ok-read_data-in-HTTPS-clause-reads c =
-    rw c.in-HTTPS.is (data_took types.HTTPS _ _ _ (record { type = refl; fields = refl; plain = c.in_ok-read_data-in-HTTPS.ensures.read })
-    c.in_ok-read_data-in-HTTPS.ensures.window)
+pub returns-in-CERT : goal.returns-in-CERT
+returns-in-CERT c =
+    rw c.in-CERT.is (reads_counted types.CERT rdata.CERT cert_fields (λ h. h) c.index-start.ensures.place c.in_ok-by_length-in-CERT.ensures
+    c.read_data-data-in-CERT.ensures.window c.read_data-data-in-CERT.ensures.refused (λ x e. record { type = refl; fields = refl; plain = of_read _ c.read_data-data-in-CERT.ensures.enums e }))
 
-pub returns-in_ok-read_data-in-MX-clause-reads : goal.returns-in_ok-read_data-in-MX-clause-reads
-returns-in_ok-read_data-in-MX-clause-reads c =
-    rw c.in-MX.is (data_took types.MX _ _ _ (record { type = refl; fields = refl; plain = tt }) c.in_ok-read_data-in-MX.ensures.window)
+pub returns-in_err-by_length-in-CERT : goal.returns-in_err-by_length-in-CERT
+returns-in_err-by_length-in-CERT c =
+    let p = err_from_is_err_and c.from_residual-in_err-by_length-in-CERT.result c.from_residual-in_err-by_length-in-CERT.ensures.1 in
+    rw (c.in-CERT.is, p.1, p.2) (reads_counted types.CERT rdata.CERT cert_fields (λ h. h) c.index-start.ensures.place c.in_err-by_length-in-CERT.ensures
+    c.read_data-data-in-CERT.ensures.window c.read_data-data-in-CERT.ensures.refused (λ x e. record { type = refl; fields = refl; plain = of_read _ c.read_data-data-in-CERT.ensures.enums e }))
 
-pub returns-in_ok-read_data-in-NAPTR-clause-reads : goal.returns-in_ok-read_data-in-NAPTR-clause-reads
-returns-in_ok-read_data-in-NAPTR-clause-reads c =
-    rw c.in-NAPTR.is (data_took types.NAPTR _ _ _ (record { type = refl; fields = refl; plain = tt }) c.in_ok-read_data-in-NAPTR.ensures.window)
+pub returns-in-CNAME : goal.returns-in-CNAME
+returns-in-CNAME c =
+    rw c.in-CNAME.is (reads_counted types.CNAME rdata.CNAME cname_fields (λ h. h) c.index-start.ensures.place c.in_ok-by_length-in-CNAME.ensures
+    c.read_data-data-in-CNAME.ensures.window c.read_data-data-in-CNAME.ensures.refused (λ x _. record { type = refl; fields = refl; plain = tt }))
 
-pub returns-in_ok-read_data-in-NULL-clause-reads : goal.returns-in_ok-read_data-in-NULL-clause-reads
-returns-in_ok-read_data-in-NULL-clause-reads c =
-    rw c.in-NULL.is (data_took types.NULL _ _ _ (record { type = refl; fields = refl; plain = tt }) c.in_ok-read_data-in-NULL.ensures.window)
+pub returns-in_err-by_length-in-CNAME : goal.returns-in_err-by_length-in-CNAME
+returns-in_err-by_length-in-CNAME c =
+    let p = err_from_is_err_and c.from_residual-in_err-by_length-in-CNAME.result c.from_residual-in_err-by_length-in-CNAME.ensures.1 in
+    rw (c.in-CNAME.is, p.1, p.2) (reads_counted types.CNAME rdata.CNAME cname_fields (λ h. h) c.index-start.ensures.place c.in_err-by_length-in-CNAME.ensures
+    c.read_data-data-in-CNAME.ensures.window c.read_data-data-in-CNAME.ensures.refused (λ x _. record { type = refl; fields = refl; plain = tt }))
 
-pub returns-in_ok-read_data-in-NS-clause-reads : goal.returns-in_ok-read_data-in-NS-clause-reads
-returns-in_ok-read_data-in-NS-clause-reads c =
-    rw c.in-NS.is (data_took types.NS _ _ _ (record { type = refl; fields = refl; plain = tt }) c.in_ok-read_data-in-NS.ensures.window)
+pub returns-in-CSYNC : goal.returns-in-CSYNC
+returns-in-CSYNC c =
+    rw c.in-CSYNC.is (reads_counted types.CSYNC rdata.CSYNC csync_fields (λ h. h) c.index-start.ensures.place c.in_ok-by_length-in-CSYNC.ensures
+    c.read_data-data-in-CSYNC.ensures.window c.read_data-data-in-CSYNC.ensures.refused (λ x e. record { type = refl; fields = refl; plain = of_read _ c.read_data-data-in-CSYNC.ensures.read e }))
 
-pub returns-in_ok-read_data-in-OPENPGPKEY-clause-reads : goal.returns-in_ok-read_data-in-OPENPGPKEY-clause-reads
-returns-in_ok-read_data-in-OPENPGPKEY-clause-reads c =
-    rw c.in-OPENPGPKEY.is (data_took types.OPENPGPKEY _ _ _ (record { type = refl; fields = refl; plain = tt })
-    c.in_ok-read_data-in-OPENPGPKEY.ensures.window)
+pub returns-in_err-by_length-in-CSYNC : goal.returns-in_err-by_length-in-CSYNC
+returns-in_err-by_length-in-CSYNC c =
+    let p = err_from_is_err_and c.from_residual-in_err-by_length-in-CSYNC.result c.from_residual-in_err-by_length-in-CSYNC.ensures.1 in
+    rw (c.in-CSYNC.is, p.1, p.2) (reads_counted types.CSYNC rdata.CSYNC csync_fields (λ h. h) c.index-start.ensures.place c.in_err-by_length-in-CSYNC.ensures
+    c.read_data-data-in-CSYNC.ensures.window c.read_data-data-in-CSYNC.ensures.refused (λ x e. record { type = refl; fields = refl; plain = of_read _ c.read_data-data-in-CSYNC.ensures.read e }))
 
-pub returns-in_ok-read_data-in-OPT-clause-reads : goal.returns-in_ok-read_data-in-OPT-clause-reads
-returns-in_ok-read_data-in-OPT-clause-reads c =
-    rw c.in-OPT.is (data_took types.OPT _ _ _ (record { type = refl; fields = refl; plain = c.in_ok-read_data-in-OPT.ensures.read })
-    c.in_ok-read_data-in-OPT.ensures.window)
+pub returns-in-HINFO : goal.returns-in-HINFO
+returns-in-HINFO c =
+    rw c.in-HINFO.is (reads_counted types.HINFO rdata.HINFO hinfo_fields (λ h. h) c.index-start.ensures.place c.in_ok-by_length-in-HINFO.ensures
+    c.read_data-data-in-HINFO.ensures.window c.read_data-data-in-HINFO.ensures.refused (λ x _. record { type = refl; fields = refl; plain = tt }))
 
-pub returns-in_ok-read_data-in-PTR-clause-reads : goal.returns-in_ok-read_data-in-PTR-clause-reads
-returns-in_ok-read_data-in-PTR-clause-reads c =
-    rw c.in-PTR.is (data_took types.PTR _ _ _ (record { type = refl; fields = refl; plain = tt }) c.in_ok-read_data-in-PTR.ensures.window)
+pub returns-in_err-by_length-in-HINFO : goal.returns-in_err-by_length-in-HINFO
+returns-in_err-by_length-in-HINFO c =
+    let p = err_from_is_err_and c.from_residual-in_err-by_length-in-HINFO.result c.from_residual-in_err-by_length-in-HINFO.ensures.1 in
+    rw (c.in-HINFO.is, p.1, p.2) (reads_counted types.HINFO rdata.HINFO hinfo_fields (λ h. h) c.index-start.ensures.place c.in_err-by_length-in-HINFO.ensures
+    c.read_data-data-in-HINFO.ensures.window c.read_data-data-in-HINFO.ensures.refused (λ x _. record { type = refl; fields = refl; plain = tt }))
 
-pub returns-in_ok-read_data-in-SMIMEA-clause-reads : goal.returns-in_ok-read_data-in-SMIMEA-clause-reads
-returns-in_ok-read_data-in-SMIMEA-clause-reads c =
-    rw c.in-SMIMEA.is (data_took types.SMIMEA _ _ _ (record { type = refl; fields = refl; plain = c.in_ok-read_data-in-SMIMEA.ensures.enums })
-    c.in_ok-read_data-in-SMIMEA.ensures.window)
+pub returns-in-HTTPS : goal.returns-in-HTTPS
+returns-in-HTTPS c =
+    rw c.in-HTTPS.is (reads_counted types.HTTPS rdata.HTTPS https_fields (λ h. h) c.index-start.ensures.place c.in_ok-by_length-in-HTTPS.ensures
+    c.read_data-data-in-HTTPS.ensures.window c.read_data-data-in-HTTPS.ensures.refused (λ x e. record { type = refl; fields = refl; plain = of_read _ c.read_data-data-in-HTTPS.ensures.read e }))
 
-pub returns-in_ok-read_data-in-SOA-clause-reads : goal.returns-in_ok-read_data-in-SOA-clause-reads
-returns-in_ok-read_data-in-SOA-clause-reads c =
-    rw c.in-SOA.is (data_took types.SOA _ _ _ (record { type = refl; fields = refl; plain = c.in_ok-read_data-in-SOA.ensures.seconds })
-    c.in_ok-read_data-in-SOA.ensures.window)
+pub returns-in_err-by_length-in-HTTPS : goal.returns-in_err-by_length-in-HTTPS
+returns-in_err-by_length-in-HTTPS c =
+    let p = err_from_is_err_and c.from_residual-in_err-by_length-in-HTTPS.result c.from_residual-in_err-by_length-in-HTTPS.ensures.1 in
+    rw (c.in-HTTPS.is, p.1, p.2) (reads_counted types.HTTPS rdata.HTTPS https_fields (λ h. h) c.index-start.ensures.place c.in_err-by_length-in-HTTPS.ensures
+    c.read_data-data-in-HTTPS.ensures.window c.read_data-data-in-HTTPS.ensures.refused (λ x e. record { type = refl; fields = refl; plain = of_read _ c.read_data-data-in-HTTPS.ensures.read e }))
 
-pub returns-in_ok-read_data-in-SRV-clause-reads : goal.returns-in_ok-read_data-in-SRV-clause-reads
-returns-in_ok-read_data-in-SRV-clause-reads c =
-    rw c.in-SRV.is (data_took types.SRV _ _ _ (record { type = refl; fields = refl; plain = tt }) c.in_ok-read_data-in-SRV.ensures.window)
+pub returns-in-MX : goal.returns-in-MX
+returns-in-MX c =
+    rw c.in-MX.is (reads_counted types.MX rdata.MX mx_fields (λ h. h) c.index-start.ensures.place c.in_ok-by_length-in-MX.ensures
+    c.read_data-data-in-MX.ensures.window c.read_data-data-in-MX.ensures.refused (λ x _. record { type = refl; fields = refl; plain = tt }))
 
-pub returns-in_ok-read_data-in-SSHFP-clause-reads : goal.returns-in_ok-read_data-in-SSHFP-clause-reads
-returns-in_ok-read_data-in-SSHFP-clause-reads c =
-    rw c.in-SSHFP.is (data_took types.SSHFP _ _ _ (record { type = refl; fields = refl; plain = c.in_ok-read_data-in-SSHFP.ensures.enums })
-    c.in_ok-read_data-in-SSHFP.ensures.window)
+pub returns-in_err-by_length-in-MX : goal.returns-in_err-by_length-in-MX
+returns-in_err-by_length-in-MX c =
+    let p = err_from_is_err_and c.from_residual-in_err-by_length-in-MX.result c.from_residual-in_err-by_length-in-MX.ensures.1 in
+    rw (c.in-MX.is, p.1, p.2) (reads_counted types.MX rdata.MX mx_fields (λ h. h) c.index-start.ensures.place c.in_err-by_length-in-MX.ensures
+    c.read_data-data-in-MX.ensures.window c.read_data-data-in-MX.ensures.refused (λ x _. record { type = refl; fields = refl; plain = tt }))
 
-pub returns-in_ok-read_data-in-SVCB-clause-reads : goal.returns-in_ok-read_data-in-SVCB-clause-reads
-returns-in_ok-read_data-in-SVCB-clause-reads c =
-    rw c.in-SVCB.is (data_took types.SVCB _ _ _ (record { type = refl; fields = refl; plain = c.in_ok-read_data-in-SVCB.ensures.read })
-    c.in_ok-read_data-in-SVCB.ensures.window)
+pub returns-in-NAPTR : goal.returns-in-NAPTR
+returns-in-NAPTR c =
+    rw c.in-NAPTR.is (reads_counted types.NAPTR rdata.NAPTR naptr_fields (λ h. h) c.index-start.ensures.place c.in_ok-by_length-in-NAPTR.ensures
+    c.read_data-data-in-NAPTR.ensures.window c.read_data-data-in-NAPTR.ensures.refused (λ x _. record { type = refl; fields = refl; plain = tt }))
 
-pub returns-in_ok-read_data-in-TLSA-clause-reads : goal.returns-in_ok-read_data-in-TLSA-clause-reads
-returns-in_ok-read_data-in-TLSA-clause-reads c =
-    rw c.in-TLSA.is (data_took types.TLSA _ _ _ (record { type = refl; fields = refl; plain = c.in_ok-read_data-in-TLSA.ensures.enums })
-    c.in_ok-read_data-in-TLSA.ensures.window)
+pub returns-in_err-by_length-in-NAPTR : goal.returns-in_err-by_length-in-NAPTR
+returns-in_err-by_length-in-NAPTR c =
+    let p = err_from_is_err_and c.from_residual-in_err-by_length-in-NAPTR.result c.from_residual-in_err-by_length-in-NAPTR.ensures.1 in
+    rw (c.in-NAPTR.is, p.1, p.2) (reads_counted types.NAPTR rdata.NAPTR naptr_fields (λ h. h) c.index-start.ensures.place c.in_err-by_length-in-NAPTR.ensures
+    c.read_data-data-in-NAPTR.ensures.window c.read_data-data-in-NAPTR.ensures.refused (λ x _. record { type = refl; fields = refl; plain = tt }))
 
-pub returns-in_ok-read_data-in-TXT-clause-reads : goal.returns-in_ok-read_data-in-TXT-clause-reads
-returns-in_ok-read_data-in-TXT-clause-reads c =
-    rw c.in-TXT.is (data_took types.TXT _ _ _ (record { type = refl; fields = refl; plain = tt }) c.in_ok-read_data-in-TXT.ensures.window)
+pub returns-in-NULL : goal.returns-in-NULL
+returns-in-NULL c = rw c.in-NULL.is (null_counted _ c.index-start.ensures.place c.in_ok-by_length-in-NULL.ensures
+    c.read_data-data-in-NULL.ensures.window c.read_data-data-in-NULL.ensures.refused)
 
-pub returns-in-ZERO-clause-reads : goal.returns-in-ZERO-clause-reads
-returns-in-ZERO-clause-reads c = rw c.in-ZERO.is
-    (data_zero c.args.decoder.now c.args.length (omega arith) c.index-start.ensures.inside c.index-start.ensures.octets)
+pub returns-in_err-by_length-in-NULL : goal.returns-in_err-by_length-in-NULL
+returns-in_err-by_length-in-NULL c =
+    let p = err_from_is_err_and c.from_residual-in_err-by_length-in-NULL.result c.from_residual-in_err-by_length-in-NULL.ensures.1 in
+    rw (c.in-NULL.is, p.1, p.2) (null_counted _ c.index-start.ensures.place c.in_err-by_length-in-NULL.ensures
+    c.read_data-data-in-NULL.ensures.window c.read_data-data-in-NULL.ensures.refused)
 
-pub returns-in_ok-read_data-in_default : goal.returns-in_ok-read_data-in_default
-returns-in_ok-read_data-in_default c =
+pub returns-in-NS : goal.returns-in-NS
+returns-in-NS c =
+    rw c.in-NS.is (reads_counted types.NS rdata.NS ns_fields (λ h. h) c.index-start.ensures.place c.in_ok-by_length-in-NS.ensures
+    c.read_data-data-in-NS.ensures.window c.read_data-data-in-NS.ensures.refused (λ x _. record { type = refl; fields = refl; plain = tt }))
+
+pub returns-in_err-by_length-in-NS : goal.returns-in_err-by_length-in-NS
+returns-in_err-by_length-in-NS c =
+    let p = err_from_is_err_and c.from_residual-in_err-by_length-in-NS.result c.from_residual-in_err-by_length-in-NS.ensures.1 in
+    rw (c.in-NS.is, p.1, p.2) (reads_counted types.NS rdata.NS ns_fields (λ h. h) c.index-start.ensures.place c.in_err-by_length-in-NS.ensures
+    c.read_data-data-in-NS.ensures.window c.read_data-data-in-NS.ensures.refused (λ x _. record { type = refl; fields = refl; plain = tt }))
+
+pub returns-in-OPENPGPKEY : goal.returns-in-OPENPGPKEY
+returns-in-OPENPGPKEY c =
+    rw c.in-OPENPGPKEY.is (reads_counted types.OPENPGPKEY rdata.OPENPGPKEY openpgpkey_fields (λ h. h) c.index-start.ensures.place c.in_ok-by_length-in-OPENPGPKEY.ensures
+    c.read_data-data-in-OPENPGPKEY.ensures.window c.read_data-data-in-OPENPGPKEY.ensures.refused (λ x _. record { type = refl; fields = refl; plain = tt }))
+
+pub returns-in_err-by_length-in-OPENPGPKEY : goal.returns-in_err-by_length-in-OPENPGPKEY
+returns-in_err-by_length-in-OPENPGPKEY c =
+    let p = err_from_is_err_and c.from_residual-in_err-by_length-in-OPENPGPKEY.result c.from_residual-in_err-by_length-in-OPENPGPKEY.ensures.1 in
+    rw (c.in-OPENPGPKEY.is, p.1, p.2) (reads_counted types.OPENPGPKEY rdata.OPENPGPKEY openpgpkey_fields (λ h. h) c.index-start.ensures.place c.in_err-by_length-in-OPENPGPKEY.ensures
+    c.read_data-data-in-OPENPGPKEY.ensures.window c.read_data-data-in-OPENPGPKEY.ensures.refused (λ x _. record { type = refl; fields = refl; plain = tt }))
+
+pub returns-in-OPT : goal.returns-in-OPT
+returns-in-OPT c =
+    rw c.in-OPT.is (reads_counted types.OPT rdata.OPT opt_fields (λ h. h) c.index-start.ensures.place c.in_ok-by_length-in-OPT.ensures
+    c.read_data-data-in-OPT.ensures.window c.read_data-data-in-OPT.ensures.refused (λ x e. record { type = refl; fields = refl; plain = of_read _ c.read_data-data-in-OPT.ensures.read e }))
+
+pub returns-in_err-by_length-in-OPT : goal.returns-in_err-by_length-in-OPT
+returns-in_err-by_length-in-OPT c =
+    let p = err_from_is_err_and c.from_residual-in_err-by_length-in-OPT.result c.from_residual-in_err-by_length-in-OPT.ensures.1 in
+    rw (c.in-OPT.is, p.1, p.2) (reads_counted types.OPT rdata.OPT opt_fields (λ h. h) c.index-start.ensures.place c.in_err-by_length-in-OPT.ensures
+    c.read_data-data-in-OPT.ensures.window c.read_data-data-in-OPT.ensures.refused (λ x e. record { type = refl; fields = refl; plain = of_read _ c.read_data-data-in-OPT.ensures.read e }))
+
+pub returns-in-PTR : goal.returns-in-PTR
+returns-in-PTR c =
+    rw c.in-PTR.is (reads_counted types.PTR rdata.PTR ptr_fields (λ h. h) c.index-start.ensures.place c.in_ok-by_length-in-PTR.ensures
+    c.read_data-data-in-PTR.ensures.window c.read_data-data-in-PTR.ensures.refused (λ x _. record { type = refl; fields = refl; plain = tt }))
+
+pub returns-in_err-by_length-in-PTR : goal.returns-in_err-by_length-in-PTR
+returns-in_err-by_length-in-PTR c =
+    let p = err_from_is_err_and c.from_residual-in_err-by_length-in-PTR.result c.from_residual-in_err-by_length-in-PTR.ensures.1 in
+    rw (c.in-PTR.is, p.1, p.2) (reads_counted types.PTR rdata.PTR ptr_fields (λ h. h) c.index-start.ensures.place c.in_err-by_length-in-PTR.ensures
+    c.read_data-data-in-PTR.ensures.window c.read_data-data-in-PTR.ensures.refused (λ x _. record { type = refl; fields = refl; plain = tt }))
+
+pub returns-in-SMIMEA : goal.returns-in-SMIMEA
+returns-in-SMIMEA c =
+    rw c.in-SMIMEA.is (reads_counted types.SMIMEA rdata.SMIMEA smimea_fields (λ h. h) c.index-start.ensures.place c.in_ok-by_length-in-SMIMEA.ensures
+    c.read_data-data-in-SMIMEA.ensures.window c.read_data-data-in-SMIMEA.ensures.refused (λ x e. record { type = refl; fields = refl; plain = of_read _ c.read_data-data-in-SMIMEA.ensures.enums e }))
+
+pub returns-in_err-by_length-in-SMIMEA : goal.returns-in_err-by_length-in-SMIMEA
+returns-in_err-by_length-in-SMIMEA c =
+    let p = err_from_is_err_and c.from_residual-in_err-by_length-in-SMIMEA.result c.from_residual-in_err-by_length-in-SMIMEA.ensures.1 in
+    rw (c.in-SMIMEA.is, p.1, p.2) (reads_counted types.SMIMEA rdata.SMIMEA smimea_fields (λ h. h) c.index-start.ensures.place c.in_err-by_length-in-SMIMEA.ensures
+    c.read_data-data-in-SMIMEA.ensures.window c.read_data-data-in-SMIMEA.ensures.refused (λ x e. record { type = refl; fields = refl; plain = of_read _ c.read_data-data-in-SMIMEA.ensures.enums e }))
+
+pub returns-in-SOA : goal.returns-in-SOA
+returns-in-SOA c =
+    rw c.in-SOA.is (reads_counted types.SOA rdata.SOA soa_fields (λ h. h) c.index-start.ensures.place c.in_ok-by_length-in-SOA.ensures
+    c.read_data-data-in-SOA.ensures.window c.read_data-data-in-SOA.ensures.refused (λ x e. record { type = refl; fields = refl; plain = of_read _ c.read_data-data-in-SOA.ensures.seconds e }))
+
+pub returns-in_err-by_length-in-SOA : goal.returns-in_err-by_length-in-SOA
+returns-in_err-by_length-in-SOA c =
+    let p = err_from_is_err_and c.from_residual-in_err-by_length-in-SOA.result c.from_residual-in_err-by_length-in-SOA.ensures.1 in
+    rw (c.in-SOA.is, p.1, p.2) (reads_counted types.SOA rdata.SOA soa_fields (λ h. h) c.index-start.ensures.place c.in_err-by_length-in-SOA.ensures
+    c.read_data-data-in-SOA.ensures.window c.read_data-data-in-SOA.ensures.refused (λ x e. record { type = refl; fields = refl; plain = of_read _ c.read_data-data-in-SOA.ensures.seconds e }))
+
+pub returns-in-SRV : goal.returns-in-SRV
+returns-in-SRV c =
+    rw c.in-SRV.is (reads_counted types.SRV rdata.SRV srv_fields (λ h. h) c.index-start.ensures.place c.in_ok-by_length-in-SRV.ensures
+    c.read_data-data-in-SRV.ensures.window c.read_data-data-in-SRV.ensures.refused (λ x _. record { type = refl; fields = refl; plain = tt }))
+
+pub returns-in_err-by_length-in-SRV : goal.returns-in_err-by_length-in-SRV
+returns-in_err-by_length-in-SRV c =
+    let p = err_from_is_err_and c.from_residual-in_err-by_length-in-SRV.result c.from_residual-in_err-by_length-in-SRV.ensures.1 in
+    rw (c.in-SRV.is, p.1, p.2) (reads_counted types.SRV rdata.SRV srv_fields (λ h. h) c.index-start.ensures.place c.in_err-by_length-in-SRV.ensures
+    c.read_data-data-in-SRV.ensures.window c.read_data-data-in-SRV.ensures.refused (λ x _. record { type = refl; fields = refl; plain = tt }))
+
+pub returns-in-SSHFP : goal.returns-in-SSHFP
+returns-in-SSHFP c =
+    rw c.in-SSHFP.is (reads_counted types.SSHFP rdata.SSHFP sshfp_fields (λ h. h) c.index-start.ensures.place c.in_ok-by_length-in-SSHFP.ensures
+    c.read_data-data-in-SSHFP.ensures.window c.read_data-data-in-SSHFP.ensures.refused (λ x e. record { type = refl; fields = refl; plain = of_read _ c.read_data-data-in-SSHFP.ensures.enums e }))
+
+pub returns-in_err-by_length-in-SSHFP : goal.returns-in_err-by_length-in-SSHFP
+returns-in_err-by_length-in-SSHFP c =
+    let p = err_from_is_err_and c.from_residual-in_err-by_length-in-SSHFP.result c.from_residual-in_err-by_length-in-SSHFP.ensures.1 in
+    rw (c.in-SSHFP.is, p.1, p.2) (reads_counted types.SSHFP rdata.SSHFP sshfp_fields (λ h. h) c.index-start.ensures.place c.in_err-by_length-in-SSHFP.ensures
+    c.read_data-data-in-SSHFP.ensures.window c.read_data-data-in-SSHFP.ensures.refused (λ x e. record { type = refl; fields = refl; plain = of_read _ c.read_data-data-in-SSHFP.ensures.enums e }))
+
+pub returns-in-SVCB : goal.returns-in-SVCB
+returns-in-SVCB c =
+    rw c.in-SVCB.is (reads_counted types.SVCB rdata.SVCB svcb_fields (λ h. h) c.index-start.ensures.place c.in_ok-by_length-in-SVCB.ensures
+    c.read_data-data-in-SVCB.ensures.window c.read_data-data-in-SVCB.ensures.refused (λ x e. record { type = refl; fields = refl; plain = of_read _ c.read_data-data-in-SVCB.ensures.read e }))
+
+pub returns-in_err-by_length-in-SVCB : goal.returns-in_err-by_length-in-SVCB
+returns-in_err-by_length-in-SVCB c =
+    let p = err_from_is_err_and c.from_residual-in_err-by_length-in-SVCB.result c.from_residual-in_err-by_length-in-SVCB.ensures.1 in
+    rw (c.in-SVCB.is, p.1, p.2) (reads_counted types.SVCB rdata.SVCB svcb_fields (λ h. h) c.index-start.ensures.place c.in_err-by_length-in-SVCB.ensures
+    c.read_data-data-in-SVCB.ensures.window c.read_data-data-in-SVCB.ensures.refused (λ x e. record { type = refl; fields = refl; plain = of_read _ c.read_data-data-in-SVCB.ensures.read e }))
+
+pub returns-in-TLSA : goal.returns-in-TLSA
+returns-in-TLSA c =
+    rw c.in-TLSA.is (reads_counted types.TLSA rdata.TLSA tlsa_fields (λ h. h) c.index-start.ensures.place c.in_ok-by_length-in-TLSA.ensures
+    c.read_data-data-in-TLSA.ensures.window c.read_data-data-in-TLSA.ensures.refused (λ x e. record { type = refl; fields = refl; plain = of_read _ c.read_data-data-in-TLSA.ensures.enums e }))
+
+pub returns-in_err-by_length-in-TLSA : goal.returns-in_err-by_length-in-TLSA
+returns-in_err-by_length-in-TLSA c =
+    let p = err_from_is_err_and c.from_residual-in_err-by_length-in-TLSA.result c.from_residual-in_err-by_length-in-TLSA.ensures.1 in
+    rw (c.in-TLSA.is, p.1, p.2) (reads_counted types.TLSA rdata.TLSA tlsa_fields (λ h. h) c.index-start.ensures.place c.in_err-by_length-in-TLSA.ensures
+    c.read_data-data-in-TLSA.ensures.window c.read_data-data-in-TLSA.ensures.refused (λ x e. record { type = refl; fields = refl; plain = of_read _ c.read_data-data-in-TLSA.ensures.enums e }))
+
+pub returns-in-TXT : goal.returns-in-TXT
+returns-in-TXT c =
+    rw c.in-TXT.is (reads_counted types.TXT rdata.TXT txt_fields (λ h. h) c.index-start.ensures.place c.in_ok-by_length-in-TXT.ensures
+    c.read_data-data-in-TXT.ensures.window c.read_data-data-in-TXT.ensures.refused (λ x _. record { type = refl; fields = refl; plain = tt }))
+
+pub returns-in_err-by_length-in-TXT : goal.returns-in_err-by_length-in-TXT
+returns-in_err-by_length-in-TXT c =
+    let p = err_from_is_err_and c.from_residual-in_err-by_length-in-TXT.result c.from_residual-in_err-by_length-in-TXT.ensures.1 in
+    rw (c.in-TXT.is, p.1, p.2) (reads_counted types.TXT rdata.TXT txt_fields (λ h. h) c.index-start.ensures.place c.in_err-by_length-in-TXT.ensures
+    c.read_data-data-in-TXT.ensures.window c.read_data-data-in-TXT.ensures.refused (λ x _. record { type = refl; fields = refl; plain = tt }))
+
+pub returns-in-ZERO : goal.returns-in-ZERO
+returns-in-ZERO c = rw c.in-ZERO.is
+    (zero_counted (omega arith) c.index-start.ensures.inside c.index-start.ensures.octets c.index-start.ensures.place c.by_length-in-ZERO.ensures)
+
+pub returns-in-ANY : goal.returns-in-ANY
+returns-in-ANY c = rw c.into.ensures (unread_counted c.args.record_type c.args.length c.args.decoder.now c.in-ANY.is)
+
+pub returns-in_default : goal.returns-in_default
+returns-in_default c =
     let none = no_row c.args.record_type c.in_default.not-A c.in_default.not-AAAA c.in_default.not-ANAME c.in_default.not-CAA c.in_default.not-CERT
     c.in_default.not-CNAME c.in_default.not-CSYNC c.in_default.not-HINFO c.in_default.not-HTTPS c.in_default.not-MX c.in_default.not-NAPTR
     c.in_default.not-NULL c.in_default.not-NS c.in_default.not-OPENPGPKEY c.in_default.not-OPT c.in_default.not-PTR c.in_default.not-SMIMEA
     c.in_default.not-SOA c.in_default.not-SRV c.in_default.not-SSHFP c.in_default.not-SVCB c.in_default.not-TLSA c.in_default.not-TXT
     c.in_default.not-ZERO c.in_default.not-ANY c.in_default.not-AXFR c.in_default.not-IXFR in
-    record {
-      reads = unknown_took c.args.record_type _ _ none c.in_ok-read_data-in_default.ensures.window;
-      own = tt;
-      never = λ h. absurd (none.read h);
-    }
+    unknown_counted c.args.record_type _ none c.index-start.ensures.place c.in_ok-rdata-in_default.ensures
+    c.read_data-data-in_default.ensures.window c.read_data-data-in_default.ensures.refused
 
-pub returns-in_err-read_data-in-ANAME-clause-reads : goal.returns-in_err-read_data-in-ANAME-clause-reads
-returns-in_err-read_data-in-ANAME-clause-reads c =
-    let p = err_from_is_err_and c.from_residual-in_err-read_data-in-ANAME.result c.from_residual-in_err-read_data-in-ANAME.ensures.1 in
-    rw (c.in-ANAME.is, p.1, p.2) (data_refuses types.ANAME _ _ c.in_err-read_data-in-ANAME.ensures.window)
-
-pub returns-in_err-read_data-in-CERT-clause-reads : goal.returns-in_err-read_data-in-CERT-clause-reads
-returns-in_err-read_data-in-CERT-clause-reads c =
-    let p = err_from_is_err_and c.from_residual-in_err-read_data-in-CERT.result c.from_residual-in_err-read_data-in-CERT.ensures.1 in
-    rw (c.in-CERT.is, p.1, p.2) (data_refuses types.CERT _ _ c.in_err-read_data-in-CERT.ensures.window)
-
-pub returns-in_err-read_data-in-CNAME-clause-reads : goal.returns-in_err-read_data-in-CNAME-clause-reads
-returns-in_err-read_data-in-CNAME-clause-reads c =
-    let p = err_from_is_err_and c.from_residual-in_err-read_data-in-CNAME.result c.from_residual-in_err-read_data-in-CNAME.ensures.1 in
-    rw (c.in-CNAME.is, p.1, p.2) (data_refuses types.CNAME _ _ c.in_err-read_data-in-CNAME.ensures.window)
-
-pub returns-in_err-read_data-in-MX-clause-reads : goal.returns-in_err-read_data-in-MX-clause-reads
-returns-in_err-read_data-in-MX-clause-reads c =
-    let p = err_from_is_err_and c.from_residual-in_err-read_data-in-MX.result c.from_residual-in_err-read_data-in-MX.ensures.1 in
-    rw (c.in-MX.is, p.1, p.2) (data_refuses types.MX _ _ c.in_err-read_data-in-MX.ensures.window)
-
-pub returns-in_err-read_data-in-NAPTR-clause-reads : goal.returns-in_err-read_data-in-NAPTR-clause-reads
-returns-in_err-read_data-in-NAPTR-clause-reads c =
-    let p = err_from_is_err_and c.from_residual-in_err-read_data-in-NAPTR.result c.from_residual-in_err-read_data-in-NAPTR.ensures.1 in
-    rw (c.in-NAPTR.is, p.1, p.2) (data_refuses types.NAPTR _ _ c.in_err-read_data-in-NAPTR.ensures.window)
-
-pub returns-in_err-read_data-in-NS-clause-reads : goal.returns-in_err-read_data-in-NS-clause-reads
-returns-in_err-read_data-in-NS-clause-reads c =
-    let p = err_from_is_err_and c.from_residual-in_err-read_data-in-NS.result c.from_residual-in_err-read_data-in-NS.ensures.1 in
-    rw (c.in-NS.is, p.1, p.2) (data_refuses types.NS _ _ c.in_err-read_data-in-NS.ensures.window)
-
-pub returns-in_err-read_data-in-PTR-clause-reads : goal.returns-in_err-read_data-in-PTR-clause-reads
-returns-in_err-read_data-in-PTR-clause-reads c =
-    let p = err_from_is_err_and c.from_residual-in_err-read_data-in-PTR.result c.from_residual-in_err-read_data-in-PTR.ensures.1 in
-    rw (c.in-PTR.is, p.1, p.2) (data_refuses types.PTR _ _ c.in_err-read_data-in-PTR.ensures.window)
-
-pub returns-in_err-read_data-in-SOA-clause-reads : goal.returns-in_err-read_data-in-SOA-clause-reads
-returns-in_err-read_data-in-SOA-clause-reads c =
-    let p = err_from_is_err_and c.from_residual-in_err-read_data-in-SOA.result c.from_residual-in_err-read_data-in-SOA.ensures.1 in
-    rw (c.in-SOA.is, p.1, p.2) (data_refuses types.SOA _ _ c.in_err-read_data-in-SOA.ensures.window)
-
-pub returns-in_err-read_data-in-SRV-clause-reads : goal.returns-in_err-read_data-in-SRV-clause-reads
-returns-in_err-read_data-in-SRV-clause-reads c =
-    let p = err_from_is_err_and c.from_residual-in_err-read_data-in-SRV.result c.from_residual-in_err-read_data-in-SRV.ensures.1 in
-    rw (c.in-SRV.is, p.1, p.2) (data_refuses types.SRV _ _ c.in_err-read_data-in-SRV.ensures.window)
-
-pub returns-in_err-read_data-in-TXT-clause-reads : goal.returns-in_err-read_data-in-TXT-clause-reads
-returns-in_err-read_data-in-TXT-clause-reads c =
-    let p = err_from_is_err_and c.from_residual-in_err-read_data-in-TXT.result c.from_residual-in_err-read_data-in-TXT.ensures.1 in
-    rw (c.in-TXT.is, p.1, p.2) (data_refuses types.TXT _ _ c.in_err-read_data-in-TXT.ensures.window)
-
-pub returns-in_err-read_data-in-CAA-clause-reads : goal.returns-in_err-read_data-in-CAA-clause-reads
-returns-in_err-read_data-in-CAA-clause-reads c =
-    let p = err_from_is_err_and c.from_residual-in_err-read_data-in-CAA.result c.from_residual-in_err-read_data-in-CAA.ensures.1 in
-    rw (c.in-CAA.is, p.1, p.2) (data_refuses types.CAA _ _ c.in_err-read_data-in-CAA.ensures.window)
-
-pub returns-in_err-read_data-in-CSYNC-clause-reads : goal.returns-in_err-read_data-in-CSYNC-clause-reads
-returns-in_err-read_data-in-CSYNC-clause-reads c =
-    let p = err_from_is_err_and c.from_residual-in_err-read_data-in-CSYNC.result c.from_residual-in_err-read_data-in-CSYNC.ensures.1 in
-    rw (c.in-CSYNC.is, p.1, p.2) (data_refuses types.CSYNC _ _ c.in_err-read_data-in-CSYNC.ensures.window)
-
-pub returns-in_err-read_data-in-OPT-clause-reads : goal.returns-in_err-read_data-in-OPT-clause-reads
-returns-in_err-read_data-in-OPT-clause-reads c =
-    let p = err_from_is_err_and c.from_residual-in_err-read_data-in-OPT.result c.from_residual-in_err-read_data-in-OPT.ensures.1 in
-    rw (c.in-OPT.is, p.1, p.2) (data_refuses types.OPT _ _ c.in_err-read_data-in-OPT.ensures.window)
-
-pub returns-in_err-read_data-in-HTTPS-clause-reads : goal.returns-in_err-read_data-in-HTTPS-clause-reads
-returns-in_err-read_data-in-HTTPS-clause-reads c =
-    let p = err_from_is_err_and c.from_residual-in_err-read_data-in-HTTPS.result c.from_residual-in_err-read_data-in-HTTPS.ensures.1 in
-    rw (c.in-HTTPS.is, p.1, p.2) (data_refuses types.HTTPS _ _ c.in_err-read_data-in-HTTPS.ensures.window)
-
-pub returns-in_err-read_data-in-SVCB-clause-reads : goal.returns-in_err-read_data-in-SVCB-clause-reads
-returns-in_err-read_data-in-SVCB-clause-reads c =
-    let p = err_from_is_err_and c.from_residual-in_err-read_data-in-SVCB.result c.from_residual-in_err-read_data-in-SVCB.ensures.1 in
-    rw (c.in-SVCB.is, p.1, p.2) (data_refuses types.SVCB _ _ c.in_err-read_data-in-SVCB.ensures.window)
-
-pub returns-in_err-read_data-in-HTTPS-clause-own : goal.returns-in_err-read_data-in-HTTPS-clause-own
-returns-in_err-read_data-in-HTTPS-clause-own c =
-    let p = err_from_is_err_and c.from_residual-in_err-read_data-in-HTTPS.result c.from_residual-in_err-read_data-in-HTTPS.ensures.1 in
-    rw (c.in-HTTPS.is, p.1, p.2) (unless_all _ c.in_err-read_data-in-HTTPS.ensures.refused)
-
-pub returns-in_err-read_data-in-SVCB-clause-own : goal.returns-in_err-read_data-in-SVCB-clause-own
-returns-in_err-read_data-in-SVCB-clause-own c =
-    let p = err_from_is_err_and c.from_residual-in_err-read_data-in-SVCB.result c.from_residual-in_err-read_data-in-SVCB.ensures.1 in
-    rw (c.in-SVCB.is, p.1, p.2) (unless_all _ c.in_err-read_data-in-SVCB.ensures.refused)
+pub returns-in_err-rdata-in_default : goal.returns-in_err-rdata-in_default
+returns-in_err-rdata-in_default c =
+    let none = no_row c.args.record_type c.in_default.not-A c.in_default.not-AAAA c.in_default.not-ANAME c.in_default.not-CAA c.in_default.not-CERT
+    c.in_default.not-CNAME c.in_default.not-CSYNC c.in_default.not-HINFO c.in_default.not-HTTPS c.in_default.not-MX c.in_default.not-NAPTR
+    c.in_default.not-NULL c.in_default.not-NS c.in_default.not-OPENPGPKEY c.in_default.not-OPT c.in_default.not-PTR c.in_default.not-SMIMEA
+    c.in_default.not-SOA c.in_default.not-SRV c.in_default.not-SSHFP c.in_default.not-SVCB c.in_default.not-TLSA c.in_default.not-TXT
+    c.in_default.not-ZERO c.in_default.not-ANY c.in_default.not-AXFR c.in_default.not-IXFR in
+    let p = err_from_is_err_and c.from_residual-in_err-rdata-in_default.result c.from_residual-in_err-rdata-in_default.ensures.1 in
+    rw (p.1, p.2) (unknown_counted c.args.record_type _ none c.index-start.ensures.place c.in_err-rdata-in_default.ensures
+    c.read_data-data-in_default.ensures.window c.read_data-data-in_default.ensures.refused)
