@@ -6,7 +6,7 @@ mod sets;
 mod texts;
 mod values;
 
-use dns_rdata::{BinDecoder, DecodeError, RData, RecordType, Restrict};
+use dns_rdata::{BinDecoder, DecodeError, ParseError, RData, RecordType, Restrict};
 use rdata_command::run;
 use std::alloc::Global;
 use std::test::Fail;
@@ -23,11 +23,26 @@ fn refused(
     (error, decoder.index())
 }
 
+// A value that a test holds. Its drop is one call for the proof of the test, and not a case for each type.
+struct Held(RData);
+
+impl Drop for Held {
+    fn drop(self) {
+        let Held(_value) = self;
+    }
+}
+
 // The value whose data these octets are.
-fn value_of(alloc: Global, octets: &[u8], record_type: RecordType) -> Result<RData, DecodeError> {
+fn value_of(alloc: Global, octets: &[u8], record_type: RecordType) -> Result<Held, DecodeError> {
     let mut decoder = BinDecoder::new(alloc, octets);
     let length = octets.len().min(65535) as u16;
-    RData::read(&mut decoder, record_type, Restrict::new(length))
+    let value = RData::read(&mut decoder, record_type, Restrict::new(length))?;
+    Ok(Held(value))
+}
+
+// The value of a text.
+fn text_value(alloc: Global, record_type: RecordType, text: &str) -> Result<Held, ParseError> {
+    Ok(Held(RData::try_from_str(alloc, record_type, text)?))
 }
 
 #[test]

@@ -64,7 +64,7 @@ impl Hasher for Recorder {
 fn fed_by_rising(alloc: Global, place: usize) -> Result<Recorder, Fail> {
     let value = rising(alloc, place)?;
     let mut state = Recorder::new();
-    value.hash(&mut state);
+    value.0.hash(&mut state);
     Ok(state)
 }
 
@@ -72,7 +72,7 @@ fn fed_by_rising(alloc: Global, place: usize) -> Result<Recorder, Fail> {
 fn fed_by(alloc: Global, record_type: RecordType, octets: &[u8]) -> Result<Recorder, Fail> {
     let value = value_of(alloc, octets, record_type)?;
     let mut state = Recorder::new();
-    value.hash(&mut state);
+    value.0.hash(&mut state);
     Ok(state)
 }
 

@@ -1,4 +1,4 @@
-use super::{refused, value_of};
+use super::{Held, refused, value_of};
 use dns_rdata::{
     ANAME, BinDecodable, BinDecoder, BinEncodable, BinEncoder, CNAME, DecodeError, MX, NAPTR, Name,
     RData, RDataEncoding, RecordType, Restrict, SOA, SRV, verify_flags,
@@ -31,8 +31,9 @@ fn pointers(rt: HostRuntime) -> Result<(), Fail> {
 }
 
 // Whether the data is that of CNAME with this name.
-fn is_cname(value: &RData, name: Name) -> bool {
-    *value == RData::CNAME(CNAME(name))
+fn is_cname(value: &Held, name: Name) -> bool {
+    let other = Held(RData::CNAME(CNAME(name)));
+    value.0 == other.0
 }
 
 #[test]
@@ -40,14 +41,15 @@ fn a_name_that_is_pointed_to(rt: HostRuntime) -> Result<(), Fail> {
     let alloc = rt.alloc();
     let mut decoder = BinDecoder::new(alloc, b"\x03www\x00\xc0\x00");
     let _ = decoder.read_slice(5)?;
-    let value = RData::read(&mut decoder, RecordType::CNAME, Restrict::new(2))?;
+    let value = Held(RData::read(&mut decoder, RecordType::CNAME, Restrict::new(2))?);
     assert!(rt; is_cname(&value, name(alloc, "www.")?));
     Ok(())
 }
 
 // Whether the data is that of MX with this number and name.
-fn is_mx(value: &RData, preference: u16, exchange: Name) -> bool {
-    *value == RData::MX(MX::new(preference, exchange))
+fn is_mx(value: &Held, preference: u16, exchange: Name) -> bool {
+    let other = Held(RData::MX(MX::new(preference, exchange)));
+    value.0 == other.0
 }
 
 fn reads_mx(alloc: Global, octets: &[u8], preference: u16, exchange: &str) -> Result<bool, Fail> {
@@ -75,7 +77,7 @@ fn letters_are_kept(rt: HostRuntime) -> Result<(), Fail> {
     let value = value_of(alloc, b"\x01\x00\x01N\x00", RecordType::MX)?;
     let mut out = Vec::new(alloc);
     let mut encoder = BinEncoder::new(alloc, &mut out);
-    value.emit(&mut encoder)?;
+    value.0.emit(&mut encoder)?;
     assert_eq!(rt;
         encoder.into_bytes().as_slice(),
         b"\x01\x00\x01N\x00".as_slice()

@@ -1,4 +1,4 @@
-use super::value_of;
+use super::{Held, text_value, value_of};
 use super::values::samples;
 use dns_rdata::{A, Name, RData, RecordType, SOA};
 use std::alloc::Global;
@@ -8,16 +8,16 @@ use std::test::Fail;
 // How many values `rising` has.
 pub(super) const OF_ONE_ORDER: usize = 9;
 
-fn relative_soa(alloc: Global) -> Result<RData, Fail> {
+fn relative_soa(alloc: Global) -> Result<Held, Fail> {
     let mname = Name::from_ascii(alloc, "www.example.com")?;
     let rname = Name::from_ascii(alloc, "xxx.example.com")?;
     let soa = SOA::new(mname, rname, u32::MAX, -1, -1, -1, u32::MAX);
-    Ok(RData::SOA(soa))
+    Ok(Held(RData::SOA(soa)))
 }
 
 // Values of one type each, a lesser one at a lesser place: by canonical octets, and by the type's number where those are
 // the same.
-pub(super) fn rising(alloc: Global, place: usize) -> Result<RData, Fail> {
+pub(super) fn rising(alloc: Global, place: usize) -> Result<Held, Fail> {
     let (record_type, text) = match place {
         0 => (RecordType::A, "0.0.0.0"),
         1 => (RecordType::AAAA, "::"),
@@ -29,17 +29,18 @@ pub(super) fn rising(alloc: Global, place: usize) -> Result<RData, Fail> {
         7 => return relative_soa(alloc),
         _ => (RecordType::TXT, "abcdef ghi \"\" j"),
     };
-    Ok(RData::try_from_str(alloc, record_type, text)?)
+    Ok(text_value(alloc, record_type, text)?)
 }
 
 // The order of a value and of one of them.
-fn order_to_rising(value: &RData, alloc: Global, place: usize) -> Result<Ordering, Fail> {
-    Ok(value.cmp(&rising(alloc, place)?))
+fn order_to_rising(value: &Held, alloc: Global, place: usize) -> Result<Ordering, Fail> {
+    let other = rising(alloc, place)?;
+    Ok(value.0.cmp(&other.0))
 }
 
 // Whether the value's canonical octets are these, place by place and one after the other.
 fn has_canonical(alloc: Global, octets: &[u8], record_type: RecordType, canonical: &[u8]) -> bool {
-    value_of(alloc, octets, record_type).is_ok_and(|value| gives(&value, canonical))
+    value_of(alloc, octets, record_type).is_ok_and(|value| gives(&value.0, canonical))
 }
 
 fn gives(value: &RData, canonical: &[u8]) -> bool {
@@ -124,23 +125,24 @@ fn values_of_other_types(rt: HostRuntime) -> Result<(), Fail> {
 
 // The order of a value and of that of a text, and of the same the other way round.
 fn order_to_text(
-    value: &RData,
+    value: &Held,
     alloc: Global,
     record_type: RecordType,
     text: &str,
 ) -> Result<(Ordering, Ordering), Fail> {
-    let other = RData::try_from_str(alloc, record_type, text)?;
-    Ok((value.cmp(&other), other.cmp(value)))
+    let other = text_value(alloc, record_type, text)?;
+    Ok((value.0.cmp(&other.0), other.0.cmp(&value.0)))
 }
 
 // The order of a value and of NULL with these octets.
-fn order_to_null(value: &RData, alloc: Global, octets: &[u8]) -> Result<Ordering, Fail> {
-    Ok(value.cmp(&value_of(alloc, octets, RecordType::NULL)?))
+fn order_to_null(value: &Held, alloc: Global, octets: &[u8]) -> Result<Ordering, Fail> {
+    let other = value_of(alloc, octets, RecordType::NULL)?;
+    Ok(value.0.cmp(&other.0))
 }
 
 #[test]
 fn types_with_the_same_octets(rt: HostRuntime) -> Result<(), Fail> {
-    let value = RData::A(A::new(1, 2, 3, 4));
+    let value = Held(RData::A(A::new(1, 2, 3, 4)));
     assert_eq!(rt;
         order_to_null(&value, rt.alloc(), &[1, 2, 3, 4])?,
         Ordering::Less
@@ -154,9 +156,9 @@ fn types_with_the_same_octets(rt: HostRuntime) -> Result<(), Fail> {
 
 #[test]
 fn a_value_without_octets(rt: HostRuntime) -> Result<(), Fail> {
-    let value = RData::try_from_str(rt.alloc(), RecordType::SVCB, "1 . port=443 alpn=h2")?;
-    assert_eq!(rt; value.octet_at(0), None);
-    assert_eq!(rt; value.canonical_octets().next(), None);
+    let value = text_value(rt.alloc(), RecordType::SVCB, "1 . port=443 alpn=h2")?;
+    assert_eq!(rt; value.0.octet_at(0), None);
+    assert_eq!(rt; value.0.canonical_octets().next(), None);
     assert_eq!(rt; order_to_null(&value, rt.alloc(), &[])?, Ordering::Greater);
     assert_eq!(rt; order_to_null(&value, rt.alloc(), &[0])?, Ordering::Less);
     Ok(())
@@ -165,7 +167,7 @@ fn a_value_without_octets(rt: HostRuntime) -> Result<(), Fail> {
 #[test]
 fn relative_names(rt: HostRuntime) -> Result<(), Fail> {
     let kind = RecordType::CNAME;
-    let value = RData::try_from_str(rt.alloc(), kind, "www.example.com")?;
+    let value = text_value(rt.alloc(), kind, "www.example.com")?;
     let (one, other) = order_to_text(&value, rt.alloc(), kind, "www.example.com.")?;
     assert!(rt; one != Ordering::Equal);
     assert_eq!(rt; other, one.reverse());
@@ -176,8 +178,8 @@ fn relative_names(rt: HostRuntime) -> Result<(), Fail> {
 fn canonical_octets_of_relative_names(rt: HostRuntime) -> Result<(), Fail> {
     let octets = b"\x03www\x07example\x03com\x00";
     for text in ["www.example.com", "WWW.Example.com", "www.example.com."] {
-        let value = RData::try_from_str(rt.alloc(), RecordType::CNAME, text)?;
-        assert!(rt; gives(&value, octets));
+        let value = text_value(rt.alloc(), RecordType::CNAME, text)?;
+        assert!(rt; gives(&value.0, octets));
     }
     Ok(())
 }
@@ -185,10 +187,10 @@ fn canonical_octets_of_relative_names(rt: HostRuntime) -> Result<(), Fail> {
 #[test]
 fn places_past_the_end(rt: HostRuntime) -> Result<(), Fail> {
     let value = value_of(rt.alloc(), b"\x01\x00\x01N\x00", RecordType::MX)?;
-    assert_eq!(rt; value.octet_at(3), Some(b'n'));
-    assert_eq!(rt; value.octet_at(5), None);
-    assert_eq!(rt; value.octet_at(18446744073709551616), None);
-    assert_eq!(rt; value.octet_at(u128::MAX), None);
+    assert_eq!(rt; value.0.octet_at(3), Some(b'n'));
+    assert_eq!(rt; value.0.octet_at(5), None);
+    assert_eq!(rt; value.0.octet_at(18446744073709551616), None);
+    assert_eq!(rt; value.0.octet_at(u128::MAX), None);
     Ok(())
 }
 
@@ -206,10 +208,10 @@ fn compared(a: &RData, b: &RData) -> (Ordering, [Option<u8>; 2], [Option<u8>; 2]
 
 #[test]
 fn cursors_stop_behind_the_difference(rt: HostRuntime) -> Result<(), Fail> {
-    let value = RData::A(A::new(0, 0, 0, 0));
-    let other = RData::try_from_str(rt.alloc(), RecordType::MX, "256 n")?;
+    let value = Held(RData::A(A::new(0, 0, 0, 0)));
+    let other = text_value(rt.alloc(), RecordType::MX, "256 n")?;
     assert_eq!(rt;
-        compared(&value, &other),
+        compared(&value.0, &other.0),
         (Ordering::Less, [Some(0), Some(0)], [Some(0), Some(1)])
     );
     Ok(())
@@ -232,7 +234,7 @@ fn gives_as_placed(value: &RData) -> bool {
 fn each_cursor_gives_what_the_places_have(rt: HostRuntime) -> Result<(), Fail> {
     for (record_type, octets, _) in samples() {
         let value = value_of(rt.alloc(), octets, record_type)?;
-        assert!(rt; gives_as_placed(&value));
+        assert!(rt; gives_as_placed(&value.0));
     }
     Ok(())
 }

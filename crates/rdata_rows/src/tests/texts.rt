@@ -1,10 +1,11 @@
-use dns_rdata::{ParseError, RData, RecordType};
+use super::text_value;
+use dns_rdata::{ParseError, RecordType};
 use std::alloc::Global;
 use std::test::Fail;
 
 // Whether the text is one of data of this type.
 fn is_text(alloc: Global, record_type: RecordType, text: &str) -> bool {
-    RData::try_from_str(alloc, record_type, text).is_ok()
+    text_value(alloc, record_type, text).is_ok()
 }
 
 // The canonical octets of the data of a text, read one by one.
@@ -14,8 +15,8 @@ fn has_octets(
     text: &str,
     octets: &[u8],
 ) -> Result<bool, ParseError> {
-    let value = RData::try_from_str(alloc, record_type, text)?;
-    let mut cursor = value.canonical_octets();
+    let value = text_value(alloc, record_type, text)?;
+    let mut cursor = value.0.canonical_octets();
     for octet in octets {
         if cursor.next() != Some(*octet) {
             return Ok(false);

@@ -1,4 +1,4 @@
-use super::value_of;
+use super::{Held, value_of};
 use dns_rdata::{
     A, AAAA, BinEncodable, BinEncoder, NULL, ProtoError, RData, RecordData, RecordType,
 };
@@ -74,19 +74,20 @@ pub(super) fn samples() -> [Sample; 24] {
     ]
 }
 
-fn prints(alloc: Global, value: &RData, text: &str) -> Result<bool, Fail> {
-    Ok(value.to_string(alloc)?.as_str() == text)
+fn prints(alloc: Global, value: &Held, text: &str) -> Result<bool, Fail> {
+    Ok(value.0.to_string(alloc)?.as_str() == text)
 }
 
-fn clones(value: &RData) -> Result<bool, AllocError> {
-    Ok(value.clone()? == *value)
+fn clones(value: &Held) -> Result<bool, AllocError> {
+    let copy = Held(value.0.clone()?);
+    Ok(copy.0 == value.0)
 }
 
 // Whether the value appends these octets to an encoder without any.
-fn emits(alloc: Global, value: &RData, octets: &[u8]) -> Result<bool, ProtoError> {
+fn emits(alloc: Global, value: &Held, octets: &[u8]) -> Result<bool, ProtoError> {
     let mut out = Vec::new(alloc);
     let mut encoder = BinEncoder::new(alloc, &mut out);
-    value.emit(&mut encoder)?;
+    value.0.emit(&mut encoder)?;
     Ok(encoder.into_bytes().as_slice() == octets)
 }
 
@@ -95,7 +96,7 @@ fn each_prints(rt: HostRuntime) -> Result<(), Fail> {
     for (record_type, octets, text) in samples() {
         let value = value_of(rt.alloc(), octets, record_type)?;
         assert!(rt; prints(rt.alloc(), &value, text)?);
-        assert!(rt; value.record_type() == record_type);
+        assert!(rt; value.0.record_type() == record_type);
     }
     Ok(())
 }
@@ -120,18 +121,18 @@ fn each_is_emitted(rt: HostRuntime) -> Result<(), Fail> {
 
 // The type and the address of the data that an address is made into.
 fn made_of(address: IpAddr) -> (RecordType, Option<IpAddr>) {
-    let value = RData::from(address);
-    (value.record_type(), value.ip_addr())
+    let value = Held(RData::from(address));
+    (value.0.record_type(), value.0.ip_addr())
 }
 
 fn made_of_four(address: Ipv4Addr) -> (RecordType, Option<IpAddr>) {
-    let value = RData::from(address);
-    (value.record_type(), value.ip_addr())
+    let value = Held(RData::from(address));
+    (value.0.record_type(), value.0.ip_addr())
 }
 
 fn made_of_six(address: Ipv6Addr) -> (RecordType, Option<IpAddr>) {
-    let value = RData::from(address);
-    (value.record_type(), value.ip_addr())
+    let value = Held(RData::from(address));
+    (value.0.record_type(), value.0.ip_addr())
 }
 
 #[test]
@@ -144,7 +145,7 @@ fn addresses_as_values(rt: HostRuntime) {
     assert_eq!(rt; made_of_four(four), of_four);
     assert_eq!(rt; made_of(IpAddr::V6(six)), of_six);
     assert_eq!(rt; made_of_six(six), of_six);
-    assert_eq!(rt; RData::ZERO.ip_addr(), None);
+    assert_eq!(rt; Held(RData::ZERO).0.ip_addr(), None);
 }
 
 // What of the value is lent as A and as AAAA.
@@ -157,25 +158,26 @@ fn lent(value: &RData) -> (Option<A>, Option<AAAA>) {
 
 #[test]
 fn parts_of_values(rt: HostRuntime) {
-    let value = A::new(1, 2, 3, 4).into_rdata();
-    assert_eq!(rt; lent(&value), (Some(A::new(1, 2, 3, 4)), None));
-    assert_eq!(rt; RecordData::record_type(&value), RecordType::A);
-    assert!(rt; RData::try_borrow(&value).is_some());
-    assert!(rt; !value.is_update());
+    let value = Held(A::new(1, 2, 3, 4).into_rdata());
+    assert_eq!(rt; lent(&value.0), (Some(A::new(1, 2, 3, 4)), None));
+    assert_eq!(rt; RecordData::record_type(&value.0), RecordType::A);
+    assert!(rt; RData::try_borrow(&value.0).is_some());
+    assert!(rt; !value.0.is_update());
 }
 
 #[test]
 fn no_data_of_an_update(rt: HostRuntime) -> Result<(), Fail> {
-    let value = RData::Update0(RecordType::MX);
-    assert!(rt; value.is_update());
-    assert!(rt; value.record_type() == RecordType::MX);
+    let value = Held(RData::Update0(RecordType::MX));
+    assert!(rt; value.0.is_update());
+    assert!(rt; value.0.record_type() == RecordType::MX);
     assert!(rt; prints(rt.alloc(), &value, "UPDATE")?);
     assert!(rt; emits(rt.alloc(), &value, b"")?);
     Ok(())
 }
 
-fn made_null(alloc: Global) -> Result<RData, AllocError> {
-    Ok(RData::NULL(NULL::with([0, 1, 2].to_vec(alloc)?)))
+fn made_null(alloc: Global) -> Result<Held, AllocError> {
+    let data = NULL::with([0, 1, 2].to_vec(alloc)?);
+    Ok(Held(RData::NULL(data)))
 }
 
 #[test]
@@ -189,18 +191,18 @@ fn octets_without_a_form(rt: HostRuntime) -> Result<(), Fail> {
 #[test]
 fn emitted_within_a_limit(rt: HostRuntime) -> Result<(), Fail> {
     let alloc = rt.alloc();
-    let value = RData::A(A::new(1, 2, 3, 4));
+    let value = Held(RData::A(A::new(1, 2, 3, 4)));
     let mut octets = Vec::new(alloc);
     let mut encoder = BinEncoder::new(alloc, &mut octets);
     encoder.emit(9)?;
     encoder.set_max_size(4);
     assert_eq!(rt;
-        value.emit(&mut encoder).err(),
+        value.0.emit(&mut encoder).err(),
         Some(ProtoError::MaxBufferSizeExceeded)
     );
     assert_eq!(rt; encoder.len(), 1);
     encoder.set_max_size(5);
-    value.emit(&mut encoder)?;
+    value.0.emit(&mut encoder)?;
     assert_eq!(rt; encoder.into_bytes().as_slice(), [9, 1, 2, 3, 4].as_slice());
     Ok(())
 }
@@ -210,7 +212,7 @@ fn emitted_within_a_limit(rt: HostRuntime) -> Result<(), Fail> {
 fn options_are_not_printed(rt: HostRuntime) -> Result<(), Fail> {
     for octets in [b"".as_slice(), b"\x00\x0a\x00\x01\x05".as_slice()] {
         let value = value_of(rt.alloc(), octets, RecordType::OPT)?;
-        assert!(rt; value.to_string(rt.alloc()).is_err());
+        assert!(rt; value.0.to_string(rt.alloc()).is_err());
     }
     Ok(())
 }
