@@ -3,4 +3,3 @@ pub mod Reading
 pub mod Comparing
 pub mod Emission
 pub mod Text
-pub mod Kept

@@ -8,15 +8,17 @@ pub mod error;
 pub mod labels;
 pub mod laws;
 mod matching;
-pub mod name_octets;
 pub mod places;
 pub mod reading;
 pub mod text;
 pub mod writing;
 
+use dns_types::SmallOctets;
 pub use error::{NameError, WriteError};
-pub use name_octets::NameOctets;
 pub use places::Places;
+
+/// The octets of one name: up to 32 of them stand in the value itself.
+pub type NameOctets = SmallOctets<32>;
 
 #[cfg(test)]
 mod tests;

@@ -6,9 +6,9 @@ ghost use Rattle.dns_fields.specs.Names.{LabelsStand, IsNameIn};
 ghost use Rattle.dns_labels.specs.Labels.{AreNameOctets, name_of};
 ghost use Rattle.dns_labels.specs.Reading.{IsRun, AddsRun, IsNameAt};
 
+use crate::NameOctets;
 use crate::buffer::{MAX_OCTETS, NameBuffer};
 use crate::error::NameError;
-use crate::name_octets::NameOctets;
 use std::alloc::Global;
 
 /// Where labels end that stand one behind the other: at an octet 0, or at a pointer to where the others

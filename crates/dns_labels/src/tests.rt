@@ -1,3 +1,4 @@
+use crate::Places;
 use crate::building::{append_label, append_octets};
 use crate::comparing::{compare_lowered, equal_lowered, hash_lowered};
 use crate::error::{NameError, WriteError};
@@ -5,7 +6,6 @@ use crate::labels::{LabelIter, count_labels};
 use crate::reading::read_octets;
 use crate::text::{NameText, parse_octets};
 use crate::writing::write_name;
-use crate::{NameOctets, Places};
 use dns_fields::RDataEncoding;
 use std::alloc::Global;
 use std::cmp::Ordering;
@@ -431,30 +431,5 @@ fn builds_names(rt: HostRuntime) -> Result<(), Fail> {
     );
     append_label(&mut octets, &[97; 41])?;
     assert_eq!(rt; octets.len(), 254);
-    Ok(())
-}
-
-// Whether a copy of the octets is what a copy of it is, and gives them back.
-fn is_kept(alloc: Global, octets: &[u8]) -> Result<bool, Fail> {
-    let kept = NameOctets::from_slice(alloc, octets)?;
-    let same = kept.as_slice() == octets && kept.len() == octets.len();
-    let copy = kept.clone()?;
-    Ok(same && copy.into_vec()?.as_slice() == octets)
-}
-
-// Whether octets that are moved are the ones that are kept.
-fn is_moved(alloc: Global, octets: &[u8]) -> Result<bool, Fail> {
-    let kept = NameOctets::from_vec(Vec::from_slice(alloc, octets)?);
-    Ok(kept.as_slice() == octets)
-}
-
-#[test]
-fn keeps_octets_short_and_long(rt: HostRuntime) -> Result<(), Fail> {
-    let octets = [7u8; 254];
-    for len in [0usize, 1, 31, 32, 33, 254] {
-        assert!(rt; is_kept(rt.alloc(), &octets[..len])?);
-        assert!(rt; is_moved(rt.alloc(), &octets[..len])?);
-    }
-    assert!(rt; NameOctets::new(rt.alloc()).as_slice().len() == 0);
     Ok(())
 }

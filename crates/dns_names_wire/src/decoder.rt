@@ -9,7 +9,7 @@ ghost use Rattle.dns_labels.specs.Labels.{AreNameOctets, name_of};
 
 use dns_labels::reading::read_octets;
 use dns_labels::{NameError, NameOctets};
-use dns_types::{DecodeError, Restrict};
+use dns_types::{DecodeError, Restrict, SmallOctets};
 use std::alloc::Global;
 use std::marker::Model;
 
@@ -130,6 +130,28 @@ impl<'a> BinDecoder<'a> {
             return Err(DecodeError::InsufficientBytes);
         }
         let octets = Vec::from_slice(self.alloc, &message[start..start + len])?;
+        self.index = start + len;
+        Ok(Restrict::new(octets))
+    }
+
+    /// The next `len` octets as a value, by one request for memory where they are more than `N`. Where fewer are left, or
+    /// memory runs out, it is refused, and takes none.
+    #[inline]
+    pub fn read_small<const N: usize>(
+        &mut self,
+        len: usize,
+    ) -> Result<Restrict<SmallOctets<N>>, DecodeError>
+        ensures taken { IfOk result (λ octets. TookField self.old (Octets len) octets self.new) }
+        ensures refused { IfErr result (λ e. (e ≡ DecodeError.Memory)
+            ⊎ ((e ≡ DecodeError.InsufficientBytes) × LacksOctets self.old len)) }
+        ensures unchanged { OnErr result (self.new ≡ self.old) }
+    {
+        let start = self.index;
+        let message = self.message;
+        if message.len() - start < len {
+            return Err(DecodeError::InsufficientBytes);
+        }
+        let octets = SmallOctets::from_slice(self.alloc, &message[start..start + len])?;
         self.index = start + len;
         Ok(Restrict::new(octets))
     }

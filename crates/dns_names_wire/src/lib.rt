@@ -14,7 +14,7 @@ pub use dns_fields::RDataEncoding;
 pub use dns_labels::labels::LabelIter;
 pub use dns_types::{
     AddrParseError, DecodeError, Octets, ParseError, ProtoError, ProtoResult, RecordType, Restrict,
-    error, octets, record_type, restrict,
+    SmallOctets, error, octets, record_type, restrict,
 };
 pub use encoder::{BinEncoder, Place};
 pub use name::Name;

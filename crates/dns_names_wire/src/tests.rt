@@ -56,6 +56,19 @@ fn prints(alloc: Global, name: &Name, text: &str) -> Result<bool, Fail> {
 }
 
 #[test]
+fn reads_octets_short_and_long(rt: HostRuntime) -> Result<(), DecodeError> {
+    let mut decoder = BinDecoder::new(rt.alloc(), b"abcdefghijk");
+    let four = decoder.read_small::<4>(4)?.unverified();
+    assert!(rt; four.as_slice() == b"abcd".as_slice());
+    let five = decoder.read_small::<4>(5)?.unverified();
+    assert!(rt; five.as_slice() == b"efghi".as_slice());
+    let lacking = decoder.read_small::<4>(3).err();
+    assert_eq!(rt; lacking, Some(DecodeError::InsufficientBytes));
+    assert_eq!(rt; decoder.index(), 9);
+    Ok(())
+}
+
+#[test]
 fn reads_and_prints_texts(rt: HostRuntime) -> Result<(), Fail> {
     let alloc = rt.alloc();
     // text, fully qualified, labels, octets on the wire, printed again

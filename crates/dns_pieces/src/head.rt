@@ -4,7 +4,6 @@ ghost use Rattle.std.specs.Prelude.{◌≡◌, ◌+◌, ◌<◌, ◌≤◌, [], 
 ghost use Rattle.dns_fields.specs.Fields.{Number, Text, field_octets};
 
 use crate::tail::Tail;
-use dns_names_wire::Octets;
 use std::marker::Model;
 
 /// A few octets, which a cursor keeps: numbers, and the length of a string.
@@ -107,14 +106,13 @@ impl Head {
     /// Adds a string's length; its octets are the tail.
     #[inline]
     #[tactic(auto, unfolding(dns_fields::specs::Fields::field_octets))]
-    pub fn text<'a>(&mut self, text: &'a Octets) -> Tail<'a>
+    pub fn text<'a>(&mut self, text: &'a [u8]) -> Tail<'a>
         requires room { length self.old + 1 ≤ 34 }
         requires short { length text.now < 256 }
         ensures value { self.new ++ result ≡ self.old ++ field_octets Text text.now }
         ensures count { length self.new ≡ length self.old + 1 }
     {
-        let octets = text.as_slice();
-        self.one(octets.len() as u8);
-        Tail::rest(octets)
+        self.one(text.len() as u8);
+        Tail::rest(text)
     }
 }

@@ -8,7 +8,7 @@ ghost use Rattle.dns_fields.specs.Fields.{Name as NameKind, Number, Rest, Text, 
 ghost use Rattle.dns_fields.specs.Labels.{AreLabels};
 
 use crate::tail::Tail;
-use dns_names_wire::{Name, Octets};
+use dns_names_wire::Name;
 use std::cmp::Ordering;
 
 /// By the first octet that differs, a proper beginning before what goes on: what `cmp` of slices answers, quicker.
@@ -112,20 +112,20 @@ pub fn four_behind(first: Ordering, a: u32, b: u32) -> Ordering
 
 /// A character string, behind fields that were compared so: its length is its first octet.
 #[inline]
-pub fn text_behind(first: Ordering, a: &Octets, b: &Octets) -> Ordering
+pub fn text_behind(first: Ordering, a: &[u8], b: &[u8]) -> Ordering
     ensures { result ≡ ordering_then first (slice_cmp nat_cmp (field_octets Text a.now) (field_octets Text b.now)) }
 {
     let lengths = first.then(a.len().cmp(&b.len()));
-    slices_behind(lengths, a.as_slice(), b.as_slice())
+    slices_behind(lengths, a, b)
 }
 
 /// Octets that go on to the end, behind fields that were compared so.
 #[inline]
 #[tactic(auto, unfolding(dns_fields::specs::Fields::field_octets))]
-pub fn rest_behind(first: Ordering, a: &Octets, b: &Octets) -> Ordering
+pub fn rest_behind(first: Ordering, a: &[u8], b: &[u8]) -> Ordering
     ensures { result ≡ ordering_then first (slice_cmp nat_cmp (field_octets Rest a.now) (field_octets Rest b.now)) }
 {
-    slices_behind(first, a.as_slice(), b.as_slice())
+    slices_behind(first, a, b)
 }
 
 /// A name, behind fields that were compared so.

@@ -154,6 +154,10 @@ pub emits_at : (v w : RData) (r : Result (Unit {0}) ProtoError) (old new : Writi
     → EmitsAs (mode_for old.mode v) (fields_of v).kinds (fields_of v).values r old new
 emits_at v w r old new e h = subst (λ (x : RData). EmitsAs (mode_for old.mode x) (fields_of x).kinds (fields_of x).values r old new) (sym e) h
 
+pub appended_at : (v w : RData) (old new : Writing) → v ≡ w → Appended (mode_for old.mode w) old (fields_of w).kinds (fields_of w).values new
+    → Appended (mode_for old.mode v) old (fields_of v).kinds (fields_of v).values new
+appended_at v w old new e h = emits_at v w (Ok tt) old new e h
+
 -- what was read can be emitted
 pub emittable_of : (t : RecordType) (m : List ℕ) (p n : ℕ) (r : Result RData DecodeError) → IfOk r (λ v. Fills m p n t v) → IfOk r IsEmittable
 emittable_of t m p n (Ok v) f = fills_emittable f

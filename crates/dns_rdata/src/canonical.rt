@@ -49,9 +49,9 @@ impl RData {
             RData::HTTPS(x) => https_step(x, step, part, item, head),
             RData::MX(x) => mx_step(x, step, head),
             RData::NAPTR(x) => naptr_step(x, step, head),
-            RData::NULL(x) => rest_step(&x.anything, step, head),
+            RData::NULL(x) => rest_step(x.anything.as_slice(), step, head),
             RData::NS(x) => name_step(&x.0, step, head),
-            RData::OPENPGPKEY(x) => rest_step(&x.public_key, step, head),
+            RData::OPENPGPKEY(x) => rest_step(x.public_key.as_slice(), step, head),
             RData::PTR(x) => name_step(&x.0, step, head),
             RData::SMIMEA(x) => smimea_step(x, step, head),
             RData::SOA(x) => soa_step(x, step, head),
@@ -60,7 +60,7 @@ impl RData {
             RData::SVCB(x) => svcb_step(x, step, part, item, head),
             RData::TLSA(x) => tlsa_step(x, step, head),
             RData::TXT(x) => txt_step(x, step, part, head),
-            RData::Unknown { rdata, .. } => rest_step(&rdata.anything, step, head),
+            RData::Unknown { rdata, .. } => rest_step(rdata.anything.as_slice(), step, head),
             RData::CSYNC(_) | RData::OPT(_) | RData::Update0(_) | RData::ZERO => None,
         }
     }

@@ -27,7 +27,7 @@ ghost use Rattle.dns_rdata.specs.KnownOrders.{Knows};
 ghost use Rattle.dns_rdata.specs.Order.{rdata_cmp};
 
 use crate::record_data::RData;
-use dns_names_wire::Octets;
+use dns_names_wire::SmallOctets;
 use dns_rdata_base::order::{
     a_order, aaaa_order, hinfo_order, mx_order, name_order, naptr_order, rest_order, soa_order,
     srv_order, txt_order,
@@ -61,10 +61,10 @@ fn unless_tied<T: PartialEq>(order: Ordering, a: &T, b: &T) -> Option<Ordering>
 
 // Octets to the end tell the value.
 #[inline]
-fn rest_known(a: &Octets, b: &Octets) -> Option<Ordering>
+fn rest_known(a: &SmallOctets<64>, b: &SmallOctets<64>) -> Option<Ordering>
     ensures { Knows (Rest ∷ []) (a.now, tt) (b.now, tt) (values_eq (Rest ∷ []) (a.now, tt) (b.now, tt)) result }
 {
-    Some(rest_order(a, b))
+    Some(rest_order(a.as_slice(), b.as_slice()))
 }
 
 // So do strings.
@@ -164,7 +164,7 @@ fn cert_known(a: &CERT, b: &CERT) -> Option<Ordering>
     ensures { Knows cert_shape (cert_fields a.now) (cert_fields b.now) (cert_eq a.now b.now) result }
 {
     if is_cert_front_same(a, b) {
-        return Some(rest_order(&a.cert_data, &b.cert_data));
+        return Some(rest_order(a.cert_data.as_slice(), b.cert_data.as_slice()));
     }
     if_differing(cert_order(a, b))
 }
@@ -184,7 +184,7 @@ fn sshfp_known(a: &SSHFP, b: &SSHFP) -> Option<Ordering>
     ensures { Knows sshfp_shape (sshfp_fields a.now) (sshfp_fields b.now) (sshfp_eq a.now b.now) result }
 {
     if is_sshfp_front_same(a, b) {
-        return Some(rest_order(&a.fingerprint, &b.fingerprint));
+        return Some(rest_order(a.fingerprint.as_slice(), b.fingerprint.as_slice()));
     }
     if_differing(sshfp_order(a, b))
 }
@@ -204,7 +204,7 @@ fn tlsa_known(a: &TLSA, b: &TLSA) -> Option<Ordering>
     ensures { Knows tlsa_shape (tlsa_fields a.now) (tlsa_fields b.now) (tlsa_eq a.now b.now) result }
 {
     if is_tlsa_front_same(a, b) {
-        return Some(rest_order(&a.cert_data, &b.cert_data));
+        return Some(rest_order(a.cert_data.as_slice(), b.cert_data.as_slice()));
     }
     if_differing(tlsa_order(a, b))
 }

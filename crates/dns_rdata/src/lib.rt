@@ -14,7 +14,7 @@ pub use canonical::CanonicalOctets;
 pub use dns_names_wire::{
     AddrParseError, BinDecodable, BinDecoder, BinEncodable, BinEncoder, DecodeError, LabelIter,
     Name, Octets, ParseError, Place, ProtoError, ProtoResult, RDataEncoding, RecordType, Restrict,
-    binary, decoder, encoder, error, record_type, restrict,
+    SmallOctets, binary, decoder, encoder, error, record_type, restrict,
 };
 pub use dns_rdata_base::{
     A, AAAA, ANAME, CNAME, HINFO, MX, NAPTR, NS, NULL, OPENPGPKEY, PTR, RecordDataDecodable, SOA,

@@ -23,7 +23,7 @@ ghost use Rattle.dns_rdata.specs.Data.{data_octets};
 ghost use Rattle.dns_rdata.specs.Order.{rank, rdata_cmp, variants_cmp, Differ};
 
 use crate::record_data::RData;
-use dns_names_wire::{Name, Octets};
+use dns_names_wire::{Name, SmallOctets};
 use dns_rdata_base::{A, AAAA, HINFO, MX, NAPTR, SOA, SRV, TXT};
 use dns_rdata_certs::{CERT, SSHFP, TLSA};
 use dns_rdata_service::ordering::svcb_cmp;
@@ -79,7 +79,7 @@ fn name_cmp(a: &Name, b: &Name) -> Ordering
 // By the octets.
 #[inline]
 #[tactic(auto, using(dns_pieces::proofs::Comparing::then_equal))]
-fn rest_cmp(a: &Octets, b: &Octets) -> Ordering
+fn rest_cmp(a: &SmallOctets<64>, b: &SmallOctets<64>) -> Ordering
     ensures { result ≡ values_cmp (Rest ∷ []) (a.now, tt) (b.now, tt) }
 {
     a.cmp(b)

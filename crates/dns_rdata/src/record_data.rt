@@ -326,10 +326,10 @@ impl BinEncodable for RData {
         ensures fits { OnOk result (IsEmittable self.now) }
         ensures unfit { IfErr result (λ e. IsMessage e → ¬ (IsEmittable self.now)) }
     {
-        let outcome = self.emit_by_type(encoder);
+        self.emit_by_type(encoder)?;
         // Called for its clauses: what was written is octets.
         let _written = encoder.len();
-        outcome
+        Ok(())
     }
 }
 
@@ -341,32 +341,33 @@ impl RData {
         ensures { EmitsAs (mode_for encoder.old.mode self.now) (fields_of self.now).kinds (fields_of self.now).values result encoder.old encoder.new }
     {
         match self {
-            RData::A(a) => a.emit(encoder),
-            RData::AAAA(a) => a.emit(encoder),
-            RData::ANAME(rdata) => rdata.emit(encoder),
-            RData::CAA(rdata) => rdata.emit(encoder),
-            RData::CERT(rdata) => rdata.emit(encoder),
-            RData::CNAME(rdata) => rdata.emit(encoder),
-            RData::CSYNC(rdata) => rdata.emit(encoder),
-            RData::HINFO(rdata) => rdata.emit(encoder),
-            RData::HTTPS(rdata) => rdata.emit(encoder),
-            RData::MX(rdata) => rdata.emit(encoder),
-            RData::NAPTR(rdata) => rdata.emit(encoder),
-            RData::NULL(rdata) => rdata.emit(encoder),
-            RData::NS(rdata) => rdata.emit(encoder),
-            RData::OPENPGPKEY(rdata) => rdata.emit(encoder),
-            RData::OPT(rdata) => rdata.emit(encoder),
-            RData::PTR(rdata) => rdata.emit(encoder),
-            RData::SMIMEA(rdata) => rdata.emit(encoder),
-            RData::SOA(rdata) => rdata.emit(encoder),
-            RData::SRV(rdata) => rdata.emit(encoder),
-            RData::SSHFP(rdata) => rdata.emit(encoder),
-            RData::SVCB(rdata) => rdata.emit(encoder),
-            RData::TLSA(rdata) => rdata.emit(encoder),
-            RData::TXT(rdata) => rdata.emit(encoder),
-            RData::Unknown { rdata, .. } => rdata.emit(encoder),
-            RData::Update0(_) | RData::ZERO => Ok(()),
+            RData::A(a) => a.emit(encoder)?,
+            RData::AAAA(a) => a.emit(encoder)?,
+            RData::ANAME(rdata) => rdata.emit(encoder)?,
+            RData::CAA(rdata) => rdata.emit(encoder)?,
+            RData::CERT(rdata) => rdata.emit(encoder)?,
+            RData::CNAME(rdata) => rdata.emit(encoder)?,
+            RData::CSYNC(rdata) => rdata.emit(encoder)?,
+            RData::HINFO(rdata) => rdata.emit(encoder)?,
+            RData::HTTPS(rdata) => rdata.emit(encoder)?,
+            RData::MX(rdata) => rdata.emit(encoder)?,
+            RData::NAPTR(rdata) => rdata.emit(encoder)?,
+            RData::NULL(rdata) => rdata.emit(encoder)?,
+            RData::NS(rdata) => rdata.emit(encoder)?,
+            RData::OPENPGPKEY(rdata) => rdata.emit(encoder)?,
+            RData::OPT(rdata) => rdata.emit(encoder)?,
+            RData::PTR(rdata) => rdata.emit(encoder)?,
+            RData::SMIMEA(rdata) => rdata.emit(encoder)?,
+            RData::SOA(rdata) => rdata.emit(encoder)?,
+            RData::SRV(rdata) => rdata.emit(encoder)?,
+            RData::SSHFP(rdata) => rdata.emit(encoder)?,
+            RData::SVCB(rdata) => rdata.emit(encoder)?,
+            RData::TLSA(rdata) => rdata.emit(encoder)?,
+            RData::TXT(rdata) => rdata.emit(encoder)?,
+            RData::Unknown { rdata, .. } => rdata.emit(encoder)?,
+            RData::Update0(_) | RData::ZERO => return Ok(()),
         }
+        Ok(())
     }
 }
 
@@ -378,29 +379,29 @@ impl RData {
         ensures { result ≡ equal self.now other.now }
     {
         match (self, other) {
-            (RData::A(a), RData::A(b)) => a == b,
-            (RData::AAAA(a), RData::AAAA(b)) => a == b,
-            (RData::ANAME(a), RData::ANAME(b)) => a == b,
-            (RData::CAA(a), RData::CAA(b)) => a == b,
-            (RData::CERT(a), RData::CERT(b)) => a == b,
-            (RData::CNAME(a), RData::CNAME(b)) => a == b,
-            (RData::CSYNC(a), RData::CSYNC(b)) => a == b,
-            (RData::HINFO(a), RData::HINFO(b)) => a == b,
-            (RData::HTTPS(a), RData::HTTPS(b)) => a == b,
-            (RData::MX(a), RData::MX(b)) => a == b,
-            (RData::NAPTR(a), RData::NAPTR(b)) => a == b,
-            (RData::NULL(a), RData::NULL(b)) => a == b,
-            (RData::NS(a), RData::NS(b)) => a == b,
-            (RData::OPENPGPKEY(a), RData::OPENPGPKEY(b)) => a == b,
-            (RData::OPT(a), RData::OPT(b)) => a == b,
-            (RData::PTR(a), RData::PTR(b)) => a == b,
-            (RData::SMIMEA(a), RData::SMIMEA(b)) => a == b,
-            (RData::SOA(a), RData::SOA(b)) => a == b,
-            (RData::SRV(a), RData::SRV(b)) => a == b,
-            (RData::SSHFP(a), RData::SSHFP(b)) => a == b,
-            (RData::SVCB(a), RData::SVCB(b)) => a == b,
-            (RData::TLSA(a), RData::TLSA(b)) => a == b,
-            (RData::TXT(a), RData::TXT(b)) => a == b,
+            (RData::A(a), RData::A(b)) => *a == *b,
+            (RData::AAAA(a), RData::AAAA(b)) => *a == *b,
+            (RData::ANAME(a), RData::ANAME(b)) => *a == *b,
+            (RData::CAA(a), RData::CAA(b)) => *a == *b,
+            (RData::CERT(a), RData::CERT(b)) => *a == *b,
+            (RData::CNAME(a), RData::CNAME(b)) => *a == *b,
+            (RData::CSYNC(a), RData::CSYNC(b)) => *a == *b,
+            (RData::HINFO(a), RData::HINFO(b)) => *a == *b,
+            (RData::HTTPS(a), RData::HTTPS(b)) => *a == *b,
+            (RData::MX(a), RData::MX(b)) => *a == *b,
+            (RData::NAPTR(a), RData::NAPTR(b)) => *a == *b,
+            (RData::NULL(a), RData::NULL(b)) => *a == *b,
+            (RData::NS(a), RData::NS(b)) => *a == *b,
+            (RData::OPENPGPKEY(a), RData::OPENPGPKEY(b)) => *a == *b,
+            (RData::OPT(a), RData::OPT(b)) => *a == *b,
+            (RData::PTR(a), RData::PTR(b)) => *a == *b,
+            (RData::SMIMEA(a), RData::SMIMEA(b)) => *a == *b,
+            (RData::SOA(a), RData::SOA(b)) => *a == *b,
+            (RData::SRV(a), RData::SRV(b)) => *a == *b,
+            (RData::SSHFP(a), RData::SSHFP(b)) => *a == *b,
+            (RData::SVCB(a), RData::SVCB(b)) => *a == *b,
+            (RData::TLSA(a), RData::TLSA(b)) => *a == *b,
+            (RData::TXT(a), RData::TXT(b)) => *a == *b,
             (
                 RData::Unknown { code, rdata },
                 RData::Unknown {
@@ -408,7 +409,7 @@ impl RData {
                     rdata: other_rdata,
                 },
             ) => code == other_code && rdata == other_rdata,
-            (RData::Update0(a), RData::Update0(b)) => a == b,
+            (RData::Update0(a), RData::Update0(b)) => *a == *b,
             (RData::ZERO, RData::ZERO) => true,
             _ => false,
         }

@@ -10,7 +10,8 @@ use crate::decoding::{DecodesFields, read_whole};
 use crate::traits::RecordDataDecodable;
 use bstr::BStr;
 use dns_names_wire::{
-    BinDecodable, BinDecoder, BinEncodable, BinEncoder, DecodeError, Octets, ProtoError, Restrict,
+    BinDecodable, BinDecoder, BinEncodable, BinEncoder, DecodeError, ProtoError, Restrict,
+    SmallOctets,
 };
 use std::alloc::AllocError;
 use std::boxed::BoxedSlice;
@@ -20,9 +21,9 @@ use std::fmt;
 #[derive(Debug, Drop, Hash)]
 pub struct HINFO {
     /// The machine; at most 255 octets are emitted.
-    pub cpu: Octets,
+    pub cpu: SmallOctets<32>,
     /// The operating system; at most 255 octets are emitted.
-    pub os: Octets,
+    pub os: SmallOctets<32>,
 }
 
 impl HINFO {
@@ -32,8 +33,8 @@ impl HINFO {
         ensures os { result.os ≡ string_bytes os }
     {
         HINFO {
-            cpu: Octets::from_vec(cpu.into_bytes()),
-            os: Octets::from_vec(os.into_bytes()),
+            cpu: SmallOctets::from_vec(cpu.into_bytes()),
+            os: SmallOctets::from_vec(os.into_bytes()),
         }
     }
 
@@ -43,8 +44,8 @@ impl HINFO {
         ensures os { result.os ≡ boxed_slice_items os }
     {
         HINFO {
-            cpu: Octets::from_boxed(cpu),
-            os: Octets::from_boxed(os),
+            cpu: SmallOctets::from_boxed(cpu),
+            os: SmallOctets::from_boxed(os),
         }
     }
 }
@@ -54,8 +55,9 @@ impl BinDecodable for HINFO {
 
     ghost stands = { λ m p x q. Stands m p hinfo_shape (hinfo_fields x) q };
 
-    /// Reads two character strings. Where one lacks octets it is refused by `InsufficientBytes`: the strings before it, and its length octet
-    /// where that is there, are taken. Memory is asked for once for each string, when both were read.
+    /// Reads two character strings. Where one lacks octets it is refused by `InsufficientBytes`: the strings before it,
+    /// and its length octet where that is there, are taken. Memory is asked for once for each string of more than 32
+    /// octets, when both were read.
     #[tactic(auto, using(dns_names_wire::proofs::FieldReads::reading))]
     fn read(decoder: &mut BinDecoder<'_>) -> Result<HINFO, DecodeError>
         ensures reads { ReadsBy (λ m p x q. Stands m p hinfo_shape (hinfo_fields x) q) result decoder.old decoder.new }
@@ -65,8 +67,8 @@ impl BinDecodable for HINFO {
         let alloc = decoder.allocator();
         let cpu = decoder.read_character_data()?.unverified();
         let os = decoder.read_character_data()?.unverified();
-        let cpu = Octets::from_slice(alloc, cpu)?;
-        let os = Octets::from_slice(alloc, os)?;
+        let cpu = SmallOctets::from_slice(alloc, cpu)?;
+        let os = SmallOctets::from_slice(alloc, os)?;
         Ok(HINFO { cpu, os })
     }
 }

@@ -8,7 +8,7 @@ use crate::traits::RecordDataDecodable;
 use base64::display::Base64Display;
 use base64::engine::general_purpose::STANDARD;
 use dns_names_wire::{
-    BinDecoder, BinEncodable, BinEncoder, DecodeError, Octets, ProtoError, Restrict,
+    BinDecoder, BinEncodable, BinEncoder, DecodeError, ProtoError, Restrict, SmallOctets,
 };
 use std::alloc::{AllocError, Global};
 use std::fmt;
@@ -17,7 +17,7 @@ use std::fmt;
 #[derive(Debug, Drop, Hash)]
 pub struct NULL {
     /// The octets.
-    pub anything: Octets,
+    pub anything: SmallOctets<64>,
 }
 
 impl NULL {
@@ -26,7 +26,7 @@ impl NULL {
         ensures { result.anything ≡ [] }
     {
         NULL {
-            anything: Octets::new(alloc),
+            anything: SmallOctets::new(alloc),
         }
     }
 
@@ -43,7 +43,7 @@ impl NULL {
         ensures { result.anything ≡ anything.items }
     {
         NULL {
-            anything: Octets::from_vec(anything),
+            anything: SmallOctets::from_vec(anything),
         }
     }
 }
@@ -90,8 +90,8 @@ impl RecordDataDecodable for NULL {
 
     ghost fields = { null_fields };
 
-    /// Reads all octets of the length, by one request for memory. Where fewer are left it is refused by
-    /// `InsufficientBytes`, where memory runs out by `Memory`; it then takes none.
+    /// Reads all octets of the length, which asks for memory once where they are more than 64. Where fewer are left it is
+    /// refused by `InsufficientBytes`, where memory runs out by `Memory`; it then takes none.
     #[inline]
     fn read_data(decoder: &mut BinDecoder<'_>, length: Restrict<u16>) -> Result<NULL, DecodeError>
         ensures window { ReadsWindow null_shape (λ _. Unit {0}) null_fields length result decoder.old decoder.new }
@@ -102,9 +102,9 @@ impl RecordDataDecodable for NULL {
     {
         // Called for its clauses: the message is octets, and the place is in it.
         let _start = decoder.index();
-        let octets = decoder.read_vec(length.unverified() as usize)?;
+        let octets = decoder.read_small(length.unverified() as usize)?;
         Ok(NULL {
-            anything: Octets::from_vec(octets.unverified()),
+            anything: octets.unverified(),
         })
     }
 }

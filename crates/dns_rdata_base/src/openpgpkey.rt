@@ -8,7 +8,7 @@ use crate::traits::RecordDataDecodable;
 use base64::display::Base64Display;
 use base64::engine::general_purpose::STANDARD;
 use dns_names_wire::{
-    BinDecoder, BinEncodable, BinEncoder, DecodeError, Octets, ProtoError, Restrict,
+    BinDecoder, BinEncodable, BinEncoder, DecodeError, ProtoError, Restrict, SmallOctets,
 };
 use std::alloc::AllocError;
 use std::fmt;
@@ -17,7 +17,7 @@ use std::fmt;
 #[derive(Debug, Drop, Hash)]
 pub struct OPENPGPKEY {
     /// The key's octets.
-    pub public_key: Octets,
+    pub public_key: SmallOctets<64>,
 }
 
 impl OPENPGPKEY {
@@ -26,7 +26,7 @@ impl OPENPGPKEY {
         ensures { result.public_key ≡ public_key.items }
     {
         OPENPGPKEY {
-            public_key: Octets::from_vec(public_key),
+            public_key: SmallOctets::from_vec(public_key),
         }
     }
 }
@@ -73,8 +73,8 @@ impl RecordDataDecodable for OPENPGPKEY {
 
     ghost fields = { openpgpkey_fields };
 
-    /// Reads all octets of the length, by one request for memory. Where fewer are left it is refused by
-    /// `InsufficientBytes`, where memory runs out by `Memory`; it then takes none.
+    /// Reads all octets of the length, which asks for memory once where they are more than 64. Where fewer are left it is
+    /// refused by `InsufficientBytes`, where memory runs out by `Memory`; it then takes none.
     #[inline]
     fn read_data(
         decoder: &mut BinDecoder<'_>,
@@ -86,8 +86,10 @@ impl RecordDataDecodable for OPENPGPKEY {
     {
         // Called for its clauses: the message is octets, and the place is in it.
         let _start = decoder.index();
-        let octets = decoder.read_vec(length.unverified() as usize)?;
-        Ok(OPENPGPKEY::new(octets.unverified()))
+        let octets = decoder.read_small(length.unverified() as usize)?;
+        Ok(OPENPGPKEY {
+            public_key: octets.unverified(),
+        })
     }
 }
 

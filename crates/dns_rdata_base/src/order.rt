@@ -17,7 +17,7 @@ ghost use Rattle.dns_rdata_base.specs.SRV.{srv_shape, srv_fields};
 ghost use Rattle.dns_rdata_base.specs.TXT.{txt_shape, txt_fields};
 
 use crate::{A, AAAA, HINFO, MX, NAPTR, SOA, SRV, TXT};
-use dns_names_wire::{Name, Octets};
+use dns_names_wire::Name;
 use dns_pieces::order::{four_behind, name_behind, octets_cmp, text_behind, two_behind};
 use std::cmp::Ordering;
 
@@ -47,10 +47,10 @@ pub fn name_order(a: &Name, b: &Name) -> Ordering
 
 /// By the octets, of NULL, OPENPGPKEY and types without a row.
 #[inline]
-pub fn rest_order(a: &Octets, b: &Octets) -> Ordering
+pub fn rest_order(a: &[u8], b: &[u8]) -> Ordering
     ensures { result ≡ canonical_cmp (Rest ∷ []) (a.now, tt) (b.now, tt) }
 {
-    octets_cmp(a.as_slice(), b.as_slice())
+    octets_cmp(a, b)
 }
 
 /// Machine, operating system.
@@ -58,8 +58,8 @@ pub fn rest_order(a: &Octets, b: &Octets) -> Ordering
 pub fn hinfo_order(a: &HINFO, b: &HINFO) -> Ordering
     ensures { result ≡ canonical_cmp hinfo_shape (hinfo_fields a.now) (hinfo_fields b.now) }
 {
-    let cpu = text_behind(Ordering::Equal, &a.cpu, &b.cpu);
-    text_behind(cpu, &a.os, &b.os)
+    let cpu = text_behind(Ordering::Equal, a.cpu.as_slice(), b.cpu.as_slice());
+    text_behind(cpu, a.os.as_slice(), b.os.as_slice())
 }
 
 /// Preference, exchange.
@@ -89,9 +89,9 @@ pub fn naptr_order(a: &NAPTR, b: &NAPTR) -> Ordering
 {
     let order = two_behind(Ordering::Equal, a.order, b.order);
     let preference = two_behind(order, a.preference, b.preference);
-    let flags = text_behind(preference, &a.flags, &b.flags);
-    let services = text_behind(flags, &a.services, &b.services);
-    let regexp = text_behind(services, &a.regexp, &b.regexp);
+    let flags = text_behind(preference, a.flags.as_slice(), b.flags.as_slice());
+    let services = text_behind(flags, a.services.as_slice(), b.services.as_slice());
+    let regexp = text_behind(services, a.regexp.as_slice(), b.regexp.as_slice());
     name_behind(regexp, &a.replacement, &b.replacement)
 }
 
@@ -124,7 +124,11 @@ pub fn txt_order(a: &TXT, b: &TXT) -> Ordering
     let other_texts = b.txt_data.as_slice();
     let shorter = texts.len().min(other_texts.len());
     for at in 0..shorter {
-        let order = text_behind(Ordering::Equal, &texts[at], &other_texts[at]);
+        let order = text_behind(
+            Ordering::Equal,
+            texts[at].as_slice(),
+            other_texts[at].as_slice(),
+        );
         if order.is_ne() {
             return order;
         }

@@ -66,13 +66,13 @@ pub fn name_step<'a>(name: &'a Name, step: usize, head: &mut Head) -> Option<Ste
 
 /// Octets to the end, of NULL, OPENPGPKEY and types without a row.
 #[inline]
-pub fn rest_step<'a>(octets: &'a Octets, step: usize, head: &mut Head) -> Option<Step<'a>>
+pub fn rest_step<'a>(octets: &'a [u8], step: usize, head: &mut Head) -> Option<Step<'a>>
     requires empty { head.old ≡ [] }
     ensures { (i j : ℕ) → GivesStep (by_fields at_once (Rest ∷ []) (octets.now, tt)) step i j head.new result }
 {
     let _ = &head;
     match step {
-        0 => Some(Step::to(Tail::rest(octets.as_slice()), 1)),
+        0 => Some(Step::to(Tail::rest(octets), 1)),
         _ => None,
     }
 }
@@ -85,8 +85,8 @@ pub fn hinfo_step<'a>(x: &'a HINFO, step: usize, head: &mut Head) -> Option<Step
     ensures { (i j : ℕ) → GivesStep (by_fields hinfo_begins hinfo_shape (hinfo_fields x.now)) step i j head.new result }
 {
     match step {
-        0 => Some(Step::to(head.text(&x.cpu), 1)),
-        1 => Some(Step::to(head.text(&x.os), 2)),
+        0 => Some(Step::to(head.text(x.cpu.as_slice()), 1)),
+        1 => Some(Step::to(head.text(x.os.as_slice()), 2)),
         _ => None,
     }
 }
@@ -164,10 +164,10 @@ pub fn naptr_step<'a>(x: &'a NAPTR, step: usize, head: &mut Head) -> Option<Step
         0 => {
             head.two(x.order);
             head.two(x.preference);
-            Some(Step::to(head.text(&x.flags), 1))
+            Some(Step::to(head.text(x.flags.as_slice()), 1))
         }
-        1 => Some(Step::to(head.text(&x.services), 2)),
-        2 => Some(Step::to(head.text(&x.regexp), 3)),
+        1 => Some(Step::to(head.text(x.services.as_slice()), 2)),
+        2 => Some(Step::to(head.text(x.regexp.as_slice()), 3)),
         3 => Some(Step::to(Tail::name(&x.replacement), 4)),
         _ => None,
     }
@@ -195,7 +195,7 @@ fn text_step<'a>(texts: &'a [Octets], part: usize, head: &mut Head) -> Option<St
 {
     if part < texts.len() {
         Some(Step {
-            tail: head.text(&texts[part]),
+            tail: head.text(texts[part].as_slice()),
             step: 0,
             part: part + 1,
             item: 0,

@@ -14,7 +14,7 @@ use base64::display::Base64Display;
 use base64::engine::general_purpose::STANDARD;
 pub use cert_type::CertType;
 use dns_names_wire::{
-    BinDecoder, BinEncodable, BinEncoder, DecodeError, Octets, ProtoError, Restrict,
+    BinDecoder, BinEncodable, BinEncoder, DecodeError, ProtoError, Restrict, SmallOctets,
 };
 use dns_rdata_base::RecordDataDecodable;
 use std::alloc::{AllocError, Global};
@@ -31,7 +31,7 @@ pub struct CERT {
     /// The algorithm of its key.
     pub algorithm: Algorithm,
     /// The certificate.
-    pub cert_data: Octets,
+    pub cert_data: SmallOctets<64>,
 }
 
 impl CERT {
@@ -46,7 +46,7 @@ impl CERT {
             cert_type,
             key_tag,
             algorithm,
-            cert_data: Octets::from_vec(cert_data),
+            cert_data: SmallOctets::from_vec(cert_data),
         }
     }
 
@@ -90,8 +90,13 @@ impl CERT {
         let cert_type = CertType::from(decoder.read_u16()?.unverified());
         let key_tag = decoder.read_u16()?.unverified();
         let algorithm = Algorithm::from(decoder.read_u8()?.unverified());
-        let cert_data = decoder.read_vec(len - 5)?.unverified();
-        Ok(CERT::new(cert_type, key_tag, algorithm, cert_data))
+        let cert_data = decoder.read_small(len - 5)?.unverified();
+        Ok(CERT {
+            cert_type,
+            key_tag,
+            algorithm,
+            cert_data,
+        })
     }
 }
 
@@ -102,9 +107,9 @@ impl RecordDataDecodable for CERT {
 
     ghost fields = { cert_fields };
 
-    /// Reads five octets of numbers, and the rest of the length by one request for memory. A length below 6 is refused
-    /// by `IncorrectRDataLengthRead` of the length and 6, and nothing is taken. Where octets are missing it is refused
-    /// by `InsufficientBytes`, and the numbers that are there are taken.
+    /// Reads five octets of numbers, and the rest of the length, by one request for memory where that is more than 64
+    /// octets. A length below 6 is refused by `IncorrectRDataLengthRead` of the length and 6, and nothing is taken. Where
+    /// octets are missing it is refused by `InsufficientBytes`, and the numbers that are there are taken.
     #[inline]
     fn read_data(decoder: &mut BinDecoder<'_>, length: Restrict<u16>) -> Result<CERT, DecodeError>
         ensures window { ReadsWindow cert_shape cert_condition cert_fields length result decoder.old decoder.new }

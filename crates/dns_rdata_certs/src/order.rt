@@ -22,7 +22,7 @@ pub fn cert_order(a: &CERT, b: &CERT) -> Ordering
     );
     let key_tag = two_behind(cert_type, a.key_tag, b.key_tag);
     let algorithm = one_behind(key_tag, u8::from(a.algorithm), u8::from(b.algorithm));
-    rest_behind(algorithm, &a.cert_data, &b.cert_data)
+    rest_behind(algorithm, a.cert_data.as_slice(), b.cert_data.as_slice())
 }
 
 /// Algorithm, type, fingerprint.
@@ -40,7 +40,7 @@ pub fn sshfp_order(a: &SSHFP, b: &SSHFP) -> Ordering
         u8::from(a.fingerprint_type),
         u8::from(b.fingerprint_type),
     );
-    rest_behind(kind, &a.fingerprint, &b.fingerprint)
+    rest_behind(kind, a.fingerprint.as_slice(), b.fingerprint.as_slice())
 }
 
 /// Usage, selector, matching type, data; of SMIMEA too.
@@ -55,5 +55,5 @@ pub fn tlsa_order(a: &TLSA, b: &TLSA) -> Ordering
     );
     let selector = one_behind(usage, u8::from(a.selector), u8::from(b.selector));
     let matching = one_behind(selector, u8::from(a.matching), u8::from(b.matching));
-    rest_behind(matching, &a.cert_data, &b.cert_data)
+    rest_behind(matching, a.cert_data.as_slice(), b.cert_data.as_slice())
 }

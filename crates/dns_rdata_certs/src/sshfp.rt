@@ -10,7 +10,7 @@ mod fingerprint_type;
 use crate::hexadecimal::Hexadecimal;
 pub use algorithm::Algorithm;
 use dns_names_wire::{
-    BinDecoder, BinEncodable, BinEncoder, DecodeError, Octets, ProtoError, Restrict,
+    BinDecoder, BinEncodable, BinEncoder, DecodeError, ProtoError, Restrict, SmallOctets,
 };
 use dns_rdata_base::RecordDataDecodable;
 pub use fingerprint_type::FingerprintType;
@@ -26,7 +26,7 @@ pub struct SSHFP {
     /// How the fingerprint is made.
     pub fingerprint_type: FingerprintType,
     /// The fingerprint.
-    pub fingerprint: Octets,
+    pub fingerprint: SmallOctets<64>,
 }
 
 impl SSHFP {
@@ -43,7 +43,7 @@ impl SSHFP {
         SSHFP {
             algorithm,
             fingerprint_type,
-            fingerprint: Octets::from_vec(fingerprint),
+            fingerprint: SmallOctets::from_vec(fingerprint),
         }
     }
 
@@ -65,8 +65,12 @@ impl SSHFP {
         if len < read {
             return Err(DecodeError::IncorrectRDataLengthRead { read, len });
         }
-        let fingerprint = decoder.read_vec(len - read)?.unverified();
-        Ok(SSHFP::new(algorithm, fingerprint_type, fingerprint))
+        let fingerprint = decoder.read_small(len - read)?.unverified();
+        Ok(SSHFP {
+            algorithm,
+            fingerprint_type,
+            fingerprint,
+        })
     }
 }
 
@@ -77,9 +81,9 @@ impl RecordDataDecodable for SSHFP {
 
     ghost fields = { sshfp_fields };
 
-    /// Reads two octets of numbers, and the rest of the length by one request for memory. Where the two pass the length
-    /// it is refused by `IncorrectRDataLengthRead` of 2 and the length. Where octets are missing it is refused by
-    /// `InsufficientBytes`, and the numbers that are there are taken.
+    /// Reads two octets of numbers, and the rest of the length, by one request for memory where that is more than 64
+    /// octets. Where the two pass the length it is refused by `IncorrectRDataLengthRead` of 2 and the length. Where octets
+    /// are missing it is refused by `InsufficientBytes`, and the numbers that are there are taken.
     #[inline]
     fn read_data(decoder: &mut BinDecoder<'_>, length: Restrict<u16>) -> Result<SSHFP, DecodeError>
         ensures window { ReadsWindow sshfp_shape (λ _. Unit {0}) sshfp_fields length result decoder.old decoder.new }

@@ -11,7 +11,7 @@ mod selector;
 use crate::hexadecimal::Hexadecimal;
 pub use cert_usage::CertUsage;
 use dns_names_wire::{
-    BinDecoder, BinEncodable, BinEncoder, DecodeError, Octets, ProtoError, Restrict,
+    BinDecoder, BinEncodable, BinEncoder, DecodeError, ProtoError, Restrict, SmallOctets,
 };
 use dns_rdata_base::RecordDataDecodable;
 pub use matching::Matching;
@@ -30,7 +30,7 @@ pub struct TLSA {
     /// How that part is compared.
     pub matching: Matching,
     /// What it is compared with.
-    pub cert_data: Octets,
+    pub cert_data: SmallOctets<64>,
 }
 
 impl TLSA {
@@ -50,7 +50,7 @@ impl TLSA {
             cert_usage,
             selector,
             matching,
-            cert_data: Octets::from_vec(cert_data),
+            cert_data: SmallOctets::from_vec(cert_data),
         }
     }
 
@@ -70,8 +70,13 @@ impl TLSA {
         if len < read {
             return Err(DecodeError::IncorrectRDataLengthRead { read, len });
         }
-        let cert_data = decoder.read_vec(len - read)?.unverified();
-        Ok(TLSA::new(cert_usage, selector, matching, cert_data))
+        let cert_data = decoder.read_small(len - read)?.unverified();
+        Ok(TLSA {
+            cert_usage,
+            selector,
+            matching,
+            cert_data,
+        })
     }
 }
 
@@ -82,9 +87,9 @@ impl RecordDataDecodable for TLSA {
 
     ghost fields = { tlsa_fields };
 
-    /// Reads three octets of numbers, and the rest of the length by one request for memory. Where the three pass the
-    /// length it is refused by `IncorrectRDataLengthRead` of 3 and the length. Where octets are missing it is refused by
-    /// `InsufficientBytes`, and the numbers that are there are taken.
+    /// Reads three octets of numbers, and the rest of the length, by one request for memory where that is more than 64
+    /// octets. Where the three pass the length it is refused by `IncorrectRDataLengthRead` of 3 and the length. Where
+    /// octets are missing it is refused by `InsufficientBytes`, and the numbers that are there are taken.
     #[inline]
     fn read_data(decoder: &mut BinDecoder<'_>, length: Restrict<u16>) -> Result<TLSA, DecodeError>
         ensures window { ReadsWindow tlsa_shape (λ _. Unit {0}) tlsa_fields length result decoder.old decoder.new }

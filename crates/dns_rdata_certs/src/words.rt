@@ -7,6 +7,7 @@ ghost use Rattle.dns_rdata_certs.specs.SMIMEA.{smimea_fields, IsReadSmimea};
 ghost use Rattle.dns_rdata_certs.specs.SSHFP.{sshfp_fields, IsReadSshfp};
 ghost use Rattle.dns_rdata_certs.specs.TLSA.{tlsa_fields, IsReadTlsa};
 ghost use Rattle.dns_rdata_certs.specs.WordRows.{hex_digits, IsSomeHex, joined_hex, cert_words, sshfp_words, tlsa_words, smimea_words};
+ghost use Rattle.dns_words.specs.Forms.{base64};
 ghost use Rattle.dns_words.specs.Reads.{ReadsText, ReadsWord, ReadsRow, Decides, GoesOn};
 
 use crate::cert::{Algorithm as CertAlgorithm, CERT, CertType};
@@ -14,27 +15,27 @@ use crate::hexadecimal::HEX;
 use crate::smimea::SMIMEA;
 use crate::sshfp::{Algorithm, FingerprintType, SSHFP};
 use crate::tlsa::{CertUsage, Matching, Selector, TLSA};
-use dns_names_wire::{Octets, ParseError};
+use dns_names_wire::{ParseError, SmallOctets};
 use dns_words::{join_words, next_base64, next_u8, next_u16, next_word, no_more};
 use std::alloc::Global;
 use std::convert::AsStr;
 
 // The octets of hexadecimal digits. A word without a character is refused.
-fn hex_of(alloc: Global, word: &str) -> Result<Octets, ParseError>
+fn hex_of(alloc: Global, word: &str) -> Result<SmallOctets<64>, ParseError>
     ensures { ReadsText hex_digits (λ x. x) result word.now }
 {
     if word.len() == 0 {
         return Err(ParseError::Message("no hexadecimal digits"));
     }
     let octets = HEX.decode(alloc, word.as_bytes())?;
-    Ok(Octets::from_vec(octets))
+    Ok(SmallOctets::from_vec(octets))
 }
 
 // The octets of hexadecimal digits; none are refused.
-fn some_hex_of(alloc: Global, digits: &[u8]) -> Result<Octets, ParseError>
+fn some_hex_of(alloc: Global, digits: &[u8]) -> Result<SmallOctets<64>, ParseError>
     ensures { Decides (IsSomeHex digits.now) (λ x. x) result }
 {
-    let octets = Octets::from_vec(HEX.decode(alloc, digits)?);
+    let octets = SmallOctets::from_vec(HEX.decode(alloc, digits)?);
     if octets.is_empty() {
         return Err(ParseError::Message("no hexadecimal digits"));
     }
@@ -45,7 +46,7 @@ fn some_hex_of(alloc: Global, digits: &[u8]) -> Result<Octets, ParseError>
 fn next_hex<S: AsStr + Drop, I: Iterator<Item = S>>(
     alloc: Global,
     words: &mut I,
-) -> Result<Octets, ParseError>
+) -> Result<SmallOctets<64>, ParseError>
     requires can { I.can_next words.old }
     ensures reads { ReadsWord I.next_gives S.text hex_digits (λ x. x) result words.old words.new }
     ensures goes { GoesOn I.can_next I.remaining result words.old words.new }
@@ -54,11 +55,24 @@ fn next_hex<S: AsStr + Drop, I: Iterator<Item = S>>(
     hex_of(alloc, word.as_str())
 }
 
+// The octets of the next word, base64.
+fn next_data<S: AsStr + Drop, I: Iterator<Item = S>>(
+    alloc: Global,
+    words: &mut I,
+) -> Result<SmallOctets<64>, ParseError>
+    requires can { I.can_next words.old }
+    ensures reads { ReadsWord I.next_gives S.text base64 (λ x. x) result words.old words.new }
+    ensures goes { GoesOn I.can_next I.remaining result words.old words.new }
+{
+    let octets = next_base64(alloc, words)?;
+    Ok(SmallOctets::from_vec(octets.into_vec()))
+}
+
 // The octets of all further words, joined; none are refused.
 fn all_hex<S: AsStr + Drop, I: Iterator<Item = S>>(
     alloc: Global,
     words: I,
-) -> Result<Octets, ParseError>
+) -> Result<SmallOctets<64>, ParseError>
     requires can { I.can_next words }
     requires ends { IsFinite (I.remaining words) }
     ensures { ReadsRow I.next_gives S.text joined_hex (λ x. (x, tt)) result words }
@@ -82,7 +96,7 @@ impl CERT {
         let cert_type = CertType::from(next_u16(&mut tokens)?);
         let key_tag = next_u16(&mut tokens)?;
         let algorithm = CertAlgorithm::from(next_u8(&mut tokens)?);
-        let cert_data = next_base64(alloc, &mut tokens)?;
+        let cert_data = next_data(alloc, &mut tokens)?;
         Ok(CERT {
             cert_type,
             key_tag,

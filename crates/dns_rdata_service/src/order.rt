@@ -200,7 +200,7 @@ fn names_cmp(a: &[Octets], b: &[Octets]) -> Ordering
 {
     let shorter = a.len().min(b.len());
     for at in 0..shorter {
-        let order = text_behind(Ordering::Equal, &a[at], &b[at]);
+        let order = text_behind(Ordering::Equal, a[at].as_slice(), b[at].as_slice());
         if order.is_ne() {
             return order;
         }

@@ -135,7 +135,7 @@ fn name_item<'a>(names: &'a [Octets], item: usize, head: &mut Head) -> Option<Ta
     ensures room { IfSome result (λ _. item + 2 < 2 ^ 64) }
 {
     if item < names.len() {
-        Some(head.text(&names[item]))
+        Some(head.text(names[item].as_slice()))
     } else {
         None
     }

@@ -12,7 +12,7 @@ mod values;
 
 use bstr::BStr;
 use dns_names_wire::{
-    BinDecoder, BinEncodable, BinEncoder, DecodeError, Octets, ProtoError, Restrict,
+    BinDecoder, BinEncodable, BinEncoder, DecodeError, ProtoError, Restrict, SmallOctets,
 };
 use dns_rdata_base::RecordDataDecodable;
 pub use issuer::{KeyValue, issuers_hold, read_iodef, read_issuer};
@@ -28,9 +28,9 @@ pub struct CAA {
     /// The other flags. The wire has their low seven bits.
     pub reserved_flags: u8,
     /// The tag. Those that are read are 1 to 15 letters and digits of ASCII.
-    pub tag: Octets,
+    pub tag: SmallOctets<32>,
     /// The value.
-    pub value: Octets,
+    pub value: SmallOctets<64>,
 }
 
 impl CAA {
@@ -68,13 +68,13 @@ impl CAA {
         let size = decoder.read_u8()?.unverified() as usize;
         let len = length.unverified() as usize;
         let tag = read_tag(decoder, len, size)?;
-        let tag = Octets::from_slice(alloc, tag)?;
-        let value = decoder.read_vec(len - size - 2)?.unverified();
+        let tag = SmallOctets::from_slice(alloc, tag)?;
+        let value = decoder.read_small(len - size - 2)?.unverified();
         Ok(CAA {
             issuer_critical: flags >= 128,
             reserved_flags: flags % 128,
             tag,
-            value: Octets::from_vec(value),
+            value,
         })
     }
 }
@@ -133,8 +133,8 @@ impl RecordDataDecodable for CAA {
 
     ghost fields = { caa_fields };
 
-    /// Reads an octet of flags, the tag, and the rest of the length, by one request for memory for the tag and one for
-    /// the value.
+    /// Reads an octet of flags, the tag, and the rest of the length, which asks for memory once where it is more than 64
+    /// octets.
     ///
     /// Where flags or the tag's length are missing it is refused by `InsufficientBytes`, and the flags are taken where
     /// they are there. Where a tag of that length passes the record's it is refused by `IncorrectRDataLengthRead` of the

@@ -21,8 +21,8 @@ pub fn caa_order(a: &CAA, b: &CAA) -> Ordering
     ensures { result ≡ canonical_cmp caa_shape (caa_fields a.now) (caa_fields b.now) }
 {
     let flags = one_behind(Ordering::Equal, a.flags(), b.flags());
-    let tag = text_behind(flags, &a.tag, &b.tag);
-    rest_behind(tag, &a.value, &b.value)
+    let tag = text_behind(flags, a.tag.as_slice(), b.tag.as_slice());
+    rest_behind(tag, a.value.as_slice(), b.value.as_slice())
 }
 
 /// Serial, flags, types.

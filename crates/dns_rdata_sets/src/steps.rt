@@ -21,7 +21,7 @@ pub fn caa_step<'a>(x: &'a CAA, step: usize, head: &mut Head) -> Option<Step<'a>
     match step {
         0 => {
             head.one(x.flags());
-            Some(Step::to(head.text(&x.tag), 1))
+            Some(Step::to(head.text(x.tag.as_slice()), 1))
         }
         1 => Some(Step::to(Tail::rest(x.value.as_slice()), 2)),
         _ => None,

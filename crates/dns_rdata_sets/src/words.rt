@@ -12,7 +12,7 @@ ghost use Rattle.dns_rdata_sets.specs.WordRows.{caa_words, known_flags, type_wor
 use crate::caa::CAA;
 use crate::csync::CSYNC;
 use crate::record_type_set::RecordTypeSet;
-use dns_names_wire::{ParseError, RecordType};
+use dns_names_wire::{ParseError, RecordType, SmallOctets};
 use dns_words::texts::u16_of;
 use dns_words::{next_kept, next_u8, next_u32, next_word};
 use std::alloc::Global;
@@ -36,8 +36,8 @@ impl CAA {
         Ok(CAA {
             issuer_critical: flags >= 128,
             reserved_flags: flags % 128,
-            tag,
-            value,
+            tag: SmallOctets::from_vec(tag.into_vec()),
+            value: SmallOctets::from_vec(value.into_vec()),
         })
     }
 }

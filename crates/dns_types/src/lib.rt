@@ -7,6 +7,7 @@ pub mod error;
 pub mod octets;
 pub mod record_type;
 pub mod restrict;
+pub mod small_octets;
 pub mod strings;
 #[cfg(test)]
 mod tests;
@@ -15,4 +16,5 @@ pub use error::{AddrParseError, DecodeError, ParseError, ProtoError, ProtoResult
 pub use octets::Octets;
 pub use record_type::RecordType;
 pub use restrict::Restrict;
+pub use small_octets::SmallOctets;
 pub use strings::Strings;

@@ -3,8 +3,9 @@ use crate::error::{AddrParseError, DecodeError, ParseError, ProtoError, ProtoRes
 use crate::octets::Octets;
 use crate::record_type::RecordType;
 use crate::restrict::Restrict;
+use crate::small_octets::SmallOctets;
 use crate::strings::Strings;
-use std::alloc::AllocError;
+use std::alloc::{AllocError, Global};
 use std::cmp::Ordering;
 
 #[test]
@@ -173,6 +174,58 @@ fn octets(rt: HostRuntime) -> Result<(), AllocError> {
     assert_eq!(rt; none.cmp(&abc), Ordering::Less);
     let boxed = Octets::from_boxed(abd.into_boxed());
     assert_eq!(rt; boxed.into_vec().as_slice(), b"abd".as_slice());
+    Ok(())
+}
+
+// Whether a copy of the octets is what a copy of it is, and gives them back.
+fn is_kept(alloc: Global, octets: &[u8]) -> Result<bool, AllocError> {
+    let kept = SmallOctets::<32>::from_slice(alloc, octets)?;
+    let same = kept.as_slice() == octets && kept.len() == octets.len();
+    let copy = kept.clone()?;
+    Ok(same && copy == kept && copy.into_vec()?.as_slice() == octets)
+}
+
+// Whether octets that are moved are the ones that are kept.
+fn is_moved(alloc: Global, octets: &[u8]) -> Result<bool, AllocError> {
+    let kept = SmallOctets::<32>::from_vec(Vec::from_slice(alloc, octets)?);
+    let boxed = Vec::from_slice(alloc, octets)?.into_boxed_slice();
+    Ok(kept.as_slice() == octets && SmallOctets::from_boxed(boxed) == kept)
+}
+
+// The order of octets, and whether they are equal.
+fn compared(alloc: Global, a: &[u8], b: &[u8]) -> Result<(Ordering, bool), AllocError> {
+    let left = SmallOctets::<4>::from_slice(alloc, a)?;
+    let right = SmallOctets::<4>::from_slice(alloc, b)?;
+    Ok((left.cmp(&right), left == right))
+}
+
+#[test]
+fn small_octets_short_and_long(rt: HostRuntime) -> Result<(), AllocError> {
+    let octets = [7u8; 254];
+    for len in [0usize, 1, 31, 32, 33, 254] {
+        assert!(rt; is_kept(rt.alloc(), &octets[..len])?);
+        assert!(rt; is_moved(rt.alloc(), &octets[..len])?);
+    }
+    let none = SmallOctets::<4>::new(rt.alloc());
+    assert!(rt; none.is_empty());
+    Ok(())
+}
+
+#[test]
+fn order_of_small_octets(rt: HostRuntime) -> Result<(), AllocError> {
+    let alloc = rt.alloc();
+    assert_eq!(rt; compared(alloc, b"abc", b"abc")?, (Ordering::Equal, true));
+    assert_eq!(rt; compared(alloc, b"abc", b"abd")?, (Ordering::Less, false));
+    assert_eq!(rt;
+        compared(alloc, b"abcd", b"abcde")?,
+        (Ordering::Less, false)
+    );
+    assert_eq!(rt;
+        compared(alloc, b"b", b"abcde")?,
+        (Ordering::Greater, false)
+    );
+    let text = format!(in alloc; "{:?}", SmallOctets::<4>::from_slice(alloc, b"a\x00b")?)?;
+    assert_eq!(rt; text.as_str(), "b\"a\\x00b\"");
     Ok(())
 }
 

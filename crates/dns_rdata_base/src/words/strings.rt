@@ -10,7 +10,7 @@ ghost use Rattle.dns_words.specs.Reads.{ReadsRow};
 use crate::hinfo::HINFO;
 use crate::openpgpkey::OPENPGPKEY;
 use crate::txt::TXT;
-use dns_names_wire::ParseError;
+use dns_names_wire::{ParseError, SmallOctets};
 use dns_words::{all_texts, next_base64, next_kept, no_more};
 use std::alloc::Global;
 use std::convert::AsStr;
@@ -28,7 +28,10 @@ impl HINFO {
     {
         let cpu = next_kept(alloc, &mut tokens)?;
         let os = next_kept(alloc, &mut tokens)?;
-        Ok(HINFO { cpu, os })
+        Ok(HINFO {
+            cpu: SmallOctets::from_vec(cpu.into_vec()),
+            os: SmallOctets::from_vec(os.into_vec()),
+        })
     }
 }
 
@@ -61,6 +64,8 @@ impl OPENPGPKEY {
     {
         let public_key = next_base64(alloc, &mut tokens)?;
         no_more(&mut tokens)?;
-        Ok(OPENPGPKEY { public_key })
+        Ok(OPENPGPKEY {
+            public_key: SmallOctets::from_vec(public_key.into_vec()),
+        })
     }
 }

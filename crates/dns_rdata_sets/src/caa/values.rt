@@ -11,7 +11,7 @@ ghost use Rattle.dns_rdata_sets.specs.Issuer.{IsParameter, IsIssuer, IsWritable,
 
 use crate::caa::CAA;
 use crate::caa::issuer::{KeyValue, issuer_octets, read_iodef, read_issuer};
-use dns_names_wire::{Name, Octets, ProtoError, ProtoResult};
+use dns_names_wire::{Name, ProtoError, ProtoResult, SmallOctets};
 use std::alloc::AllocError;
 
 const NO_ISSUER_TAG: ProtoError = ProtoError::Message("CAA tag is not 'issue' or 'issuewild'");
@@ -78,8 +78,8 @@ impl CAA {
         Ok(CAA {
             issuer_critical,
             reserved_flags: 0,
-            tag: Octets::from_slice(alloc, tag)?,
-            value: Octets::from_vec(value),
+            tag: SmallOctets::from_slice(alloc, tag)?,
+            value: SmallOctets::from_vec(value),
         })
     }
 
@@ -92,8 +92,8 @@ impl CAA {
         Ok(CAA {
             issuer_critical,
             reserved_flags: 0,
-            tag: Octets::from_slice(alloc, b"iodef")?,
-            value: Octets::from_vec(url.into_bytes()),
+            tag: SmallOctets::from_slice(alloc, b"iodef")?,
+            value: SmallOctets::from_vec(url.into_bytes()),
         })
     }
 
@@ -115,7 +115,7 @@ impl CAA {
             return Err(NO_ISSUER_TAG);
         }
         let value = issuer_octets(self.tag.allocator(), name, key_values)?;
-        self.value = Octets::from_vec(value);
+        self.value = SmallOctets::from_vec(value);
         Ok(())
     }
 
@@ -130,7 +130,7 @@ impl CAA {
         if !is_iodef_tag(self.tag.as_slice()) {
             return Err(NO_IODEF_TAG);
         }
-        let value = Octets::from_slice(self.tag.allocator(), url.as_bytes())?;
+        let value = SmallOctets::from_slice(self.tag.allocator(), url.as_bytes())?;
         self.value = value;
         Ok(())
     }

@@ -2,7 +2,7 @@ ghost use Rattle.std.specs.Prelude.{◌<◌, length};
 
 use crate::caa::{CAA, KeyValue, read_iodef, read_issuer};
 use dns_names_wire::{
-    BinDecoder, BinEncodable, BinEncoder, DecodeError, Name, Octets, ProtoError, Restrict,
+    BinDecoder, BinEncodable, BinEncoder, DecodeError, Name, ProtoError, Restrict, SmallOctets,
 };
 use dns_rdata_base::RecordDataDecodable;
 use std::alloc::{AllocError, Global};
@@ -227,8 +227,8 @@ fn tagged(alloc: Global, len: usize) -> Result<CAA, AllocError> {
     Ok(CAA {
         issuer_critical: false,
         reserved_flags: 0,
-        tag: Octets::from_vec(vec![in alloc; b'a'; len]?),
-        value: Octets::new(alloc),
+        tag: SmallOctets::from_vec(vec![in alloc; b'a'; len]?),
+        value: SmallOctets::new(alloc),
     })
 }
 

@@ -1,5 +1,5 @@
-use super::{Held, text_value, value_of};
 use super::values::samples;
+use super::{Held, text_value, value_of};
 use dns_rdata::{A, Name, RData, RecordType, SOA};
 use std::alloc::Global;
 use std::cmp::Ordering;

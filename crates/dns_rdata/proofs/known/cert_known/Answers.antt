@@ -10,7 +10,7 @@ returns-then-is_cert_front_same c =
     let b = c.args.b.now in
     let same = c.is_cert_front_same.ensures.numbers c.if-is_cert_front_same.true in
     by_rest cert_shape (cert_fields a) (cert_fields b) (cert_eq a b) a.cert_data b.cert_data c.rest_order.result refl refl
-    (cert_front a b same.0 same.1 same.2) (c.is_cert_front_same.ensures.equal c.if-is_cert_front_same.true) c.rest_order.ensures
+    (cert_front a b same.0 same.1 same.2) (c.is_cert_front_same.ensures.equal c.if-is_cert_front_same.true) (rw (c.as_slice.ensures.value, c.as_slice-then-is_cert_front_same.ensures.value) at c.rest_order.ensures)
 
 pub returns : goal.returns
 returns c =

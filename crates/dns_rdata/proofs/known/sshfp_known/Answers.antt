@@ -10,7 +10,7 @@ returns-then-is_sshfp_front_same c =
     let b = c.args.b.now in
     let same = c.is_sshfp_front_same.ensures.numbers c.if-is_sshfp_front_same.true in
     by_rest sshfp_shape (sshfp_fields a) (sshfp_fields b) (sshfp_eq a b) a.fingerprint b.fingerprint c.rest_order.result refl refl
-    (sshfp_front a b same.0 same.1) (c.is_sshfp_front_same.ensures.equal c.if-is_sshfp_front_same.true) c.rest_order.ensures
+    (sshfp_front a b same.0 same.1) (c.is_sshfp_front_same.ensures.equal c.if-is_sshfp_front_same.true) (rw (c.as_slice.ensures.value, c.as_slice-then-is_sshfp_front_same.ensures.value) at c.rest_order.ensures)
 
 pub returns : goal.returns
 returns c =

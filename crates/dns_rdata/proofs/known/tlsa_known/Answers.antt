@@ -10,7 +10,7 @@ returns-then-is_tlsa_front_same c =
     let b = c.args.b.now in
     let same = c.is_tlsa_front_same.ensures.numbers c.if-is_tlsa_front_same.true in
     by_rest tlsa_shape (tlsa_fields a) (tlsa_fields b) (tlsa_eq a b) a.cert_data b.cert_data c.rest_order.result refl refl
-    (tlsa_front a b same.0 same.1 same.2) (c.is_tlsa_front_same.ensures.equal c.if-is_tlsa_front_same.true) c.rest_order.ensures
+    (tlsa_front a b same.0 same.1 same.2) (c.is_tlsa_front_same.ensures.equal c.if-is_tlsa_front_same.true) (rw (c.as_slice.ensures.value, c.as_slice-then-is_tlsa_front_same.ensures.value) at c.rest_order.ensures)
 
 pub returns : goal.returns
 returns c =

@@ -6,4 +6,4 @@ use Rattle.dns_rdata_base.proofs.order.rest_order.Goals as goal
 pub returns : goal.returns
 unfolding field_octets
 returns c =
-    c.octets_cmp.ensures ∙ rw (c.as_slice.ensures.value, c.as_slice-2.ensures.value) (alone Rest c.args.a.now c.args.b.now)
+    c.octets_cmp.ensures ∙ alone Rest c.args.a.now c.args.b.now

@@ -8,7 +8,7 @@ pub returns-then-is_ne : goal.returns-then-is_ne
 unfolding field_octets
 returns-then-is_ne c =
     texts_differ c.loop-at.at c.index-texts-at.result c.index-other_texts-at.result c.as_slice-texts.result.now c.as_slice-other_texts.result.now
-    c.text_behind-order.result (omega arith) (omega arith) c.index-texts-at.is c.index-other_texts-at.is c.text_behind-order.ensures
+    c.text_behind-order.result (omega arith) (omega arith) c.index-texts-at.is c.index-other_texts-at.is (rw (c.as_slice.ensures.value, c.as_slice-in-loop-at.ensures.value) at c.text_behind-order.ensures)
     (sym c.is_ne.ensures ∙ c.if-is_ne.true)
     ∙ c.loop-at.invariant
     ∙ rw (c.as_slice-texts.ensures, c.as_slice-other_texts.ensures) (alone Texts c.args.a.now.txt_data c.args.b.now.txt_data)
@@ -17,7 +17,7 @@ pub loop-at-preserved : goal.loop-at-preserved
 unfolding field_octets
 loop-at-preserved c =
     texts_same c.loop-at.at c.index-texts-at.result c.index-other_texts-at.result c.as_slice-texts.result.now c.as_slice-other_texts.result.now
-    c.text_behind-order.result (omega arith) (omega arith) c.index-texts-at.is c.index-other_texts-at.is c.text_behind-order.ensures
+    c.text_behind-order.result (omega arith) (omega arith) c.index-texts-at.is c.index-other_texts-at.is (rw (c.as_slice.ensures.value, c.as_slice-in-loop-at.ensures.value) at c.text_behind-order.ensures)
     (sym c.is_ne.ensures ∙ c.if-is_ne.false)
     ∙ c.loop-at.invariant
 

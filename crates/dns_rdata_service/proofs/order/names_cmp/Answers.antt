@@ -7,7 +7,7 @@ pub returns-then-is_ne : goal.returns-then-is_ne
 unfolding field_octets
 returns-then-is_ne c =
     texts_differ c.loop-at.at c.index-a-at.result c.index-b-at.result c.args.a.now c.args.b.now
-    c.text_behind-order.result (omega arith) (omega arith) c.index-a-at.is c.index-b-at.is c.text_behind-order.ensures
+    c.text_behind-order.result (omega arith) (omega arith) c.index-a-at.is c.index-b-at.is (rw (c.as_slice.ensures.value, c.as_slice-in-loop-at.ensures.value) at c.text_behind-order.ensures)
     (sym c.is_ne.ensures ∙ c.if-is_ne.true)
     ∙ c.loop-at.invariant
 
@@ -15,7 +15,7 @@ pub loop-at-preserved : goal.loop-at-preserved
 unfolding field_octets
 loop-at-preserved c =
     texts_same c.loop-at.at c.index-a-at.result c.index-b-at.result c.args.a.now c.args.b.now
-    c.text_behind-order.result (omega arith) (omega arith) c.index-a-at.is c.index-b-at.is c.text_behind-order.ensures
+    c.text_behind-order.result (omega arith) (omega arith) c.index-a-at.is c.index-b-at.is (rw (c.as_slice.ensures.value, c.as_slice-in-loop-at.ensures.value) at c.text_behind-order.ensures)
     (sym c.is_ne.ensures ∙ c.if-is_ne.false)
     ∙ c.loop-at.invariant
 

@@ -7,5 +7,5 @@ use Rattle.dns_rdata_service.proofs.steps.name_item.Goals as goal
 pub returns-then-item-names-clause-item : goal.returns-then-item-names-clause-item
 unfolding field_octets
 returns-then-item-names-clause-item c =
-    let r = c.text.ensures.value ∙ ap (λ h. h ++ field_octets Text c.index-names-item.result) c.requires.empty in
+    let r = (rw c.as_slice.ensures.value at c.text.ensures.value) ∙ ap (λ h. h ++ field_octets Text c.index-names-item.result) c.requires.empty in
     (item_given string c.args.names.now c.args.item c.index-names-item.result _ c.if-item-names.true c.index-names-item.is r, omega (arith, ap length r))

@@ -4,4 +4,4 @@ use Rattle.dns_labels.proofs.Lowered.{lowered-of}
 use Rattle.dns_names_wire.proofs.name.Name.label_octets.Goals as goal
 
 pub returns : goal.returns
-returns c = rw (← c.self.view_is) (lowered-of c.self.inside.octets c.self.invariant.0 ∙ ap lowered_octets (sym c.as_slice.ensures))
+returns c = rw (← c.self.view_is) (lowered-of c.self.inside.octets c.self.invariant.0 ∙ ap lowered_octets (sym c.as_slice.ensures.value))

@@ -7,16 +7,16 @@ pub returns-then-place-len-clause-value : goal.returns-then-place-len-clause-val
 returns-then-place-len-clause-value c = rw (← c.self.view_is)
     (ap (λ (n : ℕ). Some n) c.to_ascii_lowercase.ensures.value
     ∙ sym (octet_within c.self.inside.octets c.self.inside.is_fqdn c.args.place (get_or c.as_slice-octets.result.now c.args.place 0) c.self.invariant.0
-    (omega (arith, ap length c.as_slice-octets.ensures))
-    (ap (λ (x : List ℕ). get_or x c.args.place 0) c.as_slice-octets.ensures
-    ∙ sym (get_or_default c.self.inside.octets c.args.place _ 0 (omega (arith, ap length c.as_slice-octets.ensures))))))
+    (omega (arith, ap length c.as_slice-octets.ensures.value))
+    (ap (λ (x : List ℕ). get_or x c.args.place 0) c.as_slice-octets.ensures.value
+    ∙ sym (get_or_default c.self.inside.octets c.args.place _ 0 (omega (arith, ap length c.as_slice-octets.ensures.value))))))
 
 pub returns-then-place-len-2-clause-value : goal.returns-then-place-len-2-clause-value
 returns-then-place-len-2-clause-value c =
     rw (← c.self.view_is) (sym (octet_last c.self.inside.octets c.self.inside.is_fqdn c.args.place c.self.invariant.0
-    (omega (arith, ap length c.as_slice-octets.ensures))))
+    (omega (arith, ap length c.as_slice-octets.ensures.value))))
 
 pub returns-else-place-len-2-clause-value : goal.returns-else-place-len-2-clause-value
 returns-else-place-len-2-clause-value c =
     rw (← c.self.view_is) (sym (octet_past c.self.inside.octets c.self.inside.is_fqdn c.args.place c.self.invariant.0
-    (omega (arith, ap length c.as_slice-octets.ensures))))
+    (omega (arith, ap length c.as_slice-octets.ensures.value))))

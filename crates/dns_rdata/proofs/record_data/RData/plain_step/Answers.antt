@@ -28,13 +28,13 @@ pub returns-in-NAPTR : goal.returns-in-NAPTR
 returns-in-NAPTR c = rw c.in-NAPTR.is (c.naptr_step.ensures _ _)
 
 pub returns-in-NULL : goal.returns-in-NULL
-returns-in-NULL c = rw c.in-NULL.is (c.rest_step.ensures _ _)
+returns-in-NULL c = rw c.in-NULL.is ((rw c.as_slice.ensures.value at c.rest_step.ensures) _ _)
 
 pub returns-in-NS : goal.returns-in-NS
 returns-in-NS c = rw c.in-NS.is (c.name_step-in-NS.ensures _ _)
 
 pub returns-in-OPENPGPKEY : goal.returns-in-OPENPGPKEY
-returns-in-OPENPGPKEY c = rw c.in-OPENPGPKEY.is (c.rest_step-in-OPENPGPKEY.ensures _ _)
+returns-in-OPENPGPKEY c = rw c.in-OPENPGPKEY.is ((rw c.as_slice-in-OPENPGPKEY.ensures.value at c.rest_step-in-OPENPGPKEY.ensures) _ _)
 
 pub returns-in-PTR : goal.returns-in-PTR
 returns-in-PTR c = rw c.in-PTR.is (c.name_step-in-PTR.ensures _ _)
@@ -58,4 +58,4 @@ pub returns-in-TXT : goal.returns-in-TXT
 returns-in-TXT c = rw c.in-TXT.is (c.txt_step.ensures _)
 
 pub returns-in-Unknown : goal.returns-in-Unknown
-returns-in-Unknown c = rw c.in-Unknown.is (c.rest_step-in-Unknown.ensures _ _)
+returns-in-Unknown c = rw c.in-Unknown.is ((rw c.as_slice-in-Unknown.ensures.value at c.rest_step-in-Unknown.ensures) _ _)

@@ -18,18 +18,18 @@ returns-in_err-tag-2-clause-refused c =
     (rw c.unverified-size.ensures at c.in_ok-tag.ensures.taken) (rw (c.unverified-size.ensures, c.unverified-len.ensures) at c.in_ok-tag.ensures.tag)
     (inl refl))
 
-pub returns-in_err-read_vec-clause-refused : goal.returns-in_err-read_vec-clause-refused
-returns-in_err-read_vec-clause-refused c =
-    let p = err_from_is_err_and c.from_residual-in_err-read_vec.result c.from_residual-in_err-read_vec.ensures.1 in
-    rw (p.1, p.2, c.in_err-read_vec.ensures.unchanged)
+pub returns-in_err-read_small-clause-refused : goal.returns-in_err-read_small-clause-refused
+returns-in_err-read_small-clause-refused c =
+    let p = err_from_is_err_and c.from_residual-in_err-read_small.result c.from_residual-in_err-read_small.ensures.1 in
+    rw (p.1, p.2, c.in_err-read_small.ensures.unchanged)
     (refused_value _ _ _ _ c.in_ok-read_u8.ensures.taken c.in_ok-read_u8-2.ensures.taken (rw c.unverified-size.ensures at c.in_ok-tag.ensures.taken)
     (rw (c.unverified-size.ensures, c.unverified-len.ensures) at c.in_ok-tag.ensures.tag)
-    (rw (c.unverified-size.ensures, c.unverified-len.ensures) at c.in_err-read_vec.ensures.refused))
+    (rw (c.unverified-size.ensures, c.unverified-len.ensures) at c.in_err-read_small.ensures.refused))
 
 pub returns-clause-fields : goal.returns-clause-fields
 returns-clause-fields c =
-    caa_taken {old = c.args.decoder.now} {new = c.read_vec.new.self} c.args.length _ _ _ _ c.unverified-flags.result c.in_ok-tag-2.tag c.from_vec.result
-    (omega arith) c.unverified-flags.ensures c.in_ok-tag-2.ensures (rw c.unverified-value.ensures at c.from_vec.ensures) c.in_ok-read_u8.ensures.taken
+    caa_taken {old = c.args.decoder.now} {new = c.read_small.new.self} c.args.length _ _ _ _ c.unverified-flags.result c.in_ok-tag-2.tag c.unverified-value.result
+    (omega arith) c.unverified-flags.ensures c.in_ok-tag-2.ensures c.unverified-value.ensures c.in_ok-read_u8.ensures.taken
     c.in_ok-read_u8-2.ensures.taken (rw c.unverified-size.ensures at c.in_ok-tag.ensures.taken)
-    (rw (c.unverified-size.ensures, c.unverified-len.ensures) at c.in_ok-read_vec.ensures.taken)
+    (rw (c.unverified-size.ensures, c.unverified-len.ensures) at c.in_ok-read_small.ensures.taken)
     (rw (c.unverified-size.ensures, c.unverified-len.ensures) at c.in_ok-tag.ensures.tag)

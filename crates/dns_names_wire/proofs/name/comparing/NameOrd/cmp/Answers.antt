@@ -8,5 +8,5 @@ pub returns : goal.returns
 returns c =
     let k = compared c.self.inside.octets c.other.inside.octets c.self.invariant.0 c.other.invariant.0 in
     rw (← c.self.view_is, ← c.other.view_is)
-    (c.then.ensures ∙ rw (c.compare_lowered.ensures, c.cmp.ensures, c.as_slice.ensures, c.as_slice-2.ensures, c.get.ensures, c.get-2.ensures)
+    (c.then.ensures ∙ rw (c.compare_lowered.ensures, c.cmp.ensures, c.as_slice.ensures.value, c.as_slice-2.ensures.value, c.get.ensures, c.get-2.ensures)
     (ap (λ (o : Ordering). ordering_then o (bool_cmp c.self.inside.is_fqdn c.other.inside.is_fqdn)) k))

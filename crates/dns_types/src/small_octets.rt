@@ -1,0 +1,287 @@
+//! Octets that a value owns, a few of them without memory.
+ghost use Rattle.std.specs.Prelude.{◌≡◌, ◌==◌, ◌<◌, ◌≤◌, ◌↔◌, ℕ, List, [], length, All, IfOk, IsTrue};
+ghost use Rattle.std.specs.Box.{boxed_slice_items};
+ghost use Rattle.std.specs.Cmp.Lexicographic.{pointwise, slice_cmp, texts_ties, nat_list_cmp_total};
+ghost use Rattle.std.specs.Cmp.{partial_order_from_agreeing_total};
+ghost use Rattle.std.specs.Cmp.Rules.{comparing, hashing};
+ghost use Rattle.std.specs.Ordering.{nat_cmp, as_partial_cmp};
+ghost use Rattle.std.specs.Hash as fed;
+ghost use Rattle.std.proofs.Common.{rules, refl};
+
+use crate::comparing::same_octets;
+use crate::octets::bounded;
+use std::alloc::{AllocError, Global};
+use std::boxed::BoxedSlice;
+use std::cmp::Ordering;
+use std::convert::AsSlice;
+use std::fmt;
+use std::hash::{Hash, Hasher};
+use std::marker::Model;
+
+/// Up to `N` octets, without a request for memory.
+#[derive(Drop)]
+struct Inline<const N: usize> {
+    // beside the tag of `Kept` this fills a word, so that the octets begin at one, as a vector's parts do: loads and
+    // stores of both then meet at the same places
+    len: u32,
+    octets: [u8; N],
+}
+
+impl<const N: usize> Model for Inline<N> {
+    ghost use Rattle.std.specs.Prelude.{ℕ, List, take, ◌≤◌};
+
+    ghost Value = { List ℕ };
+
+    ghost view = { λ s. take s.len s.octets };
+
+    ghost invariant = { λ s. s.len ≤ N };
+}
+
+impl<const N: usize> Inline<N> {
+    // A copy of the octets.
+    #[inline]
+    fn from_slice(octets: &[u8]) -> Inline<N>
+        requires few { length octets.now ≤ N }
+        requires small { N ≤ 65535 }
+        ensures { result ≡ octets.now }
+    {
+        let len = octets.len();
+        let mut kept = [0u8; N];
+        kept[..len].copy_from_slice(octets);
+        Inline {
+            len: len as u32,
+            octets: kept,
+        }
+    }
+
+    #[inline]
+    fn as_slice(&self) -> &[u8]
+        ensures { result.now ≡ self.now }
+    {
+        &self.octets[..self.len as usize]
+    }
+}
+
+/// What the octets are kept in.
+#[derive(Drop)]
+enum Kept<const N: usize> {
+    Inline(Inline<N>),
+    Heap(Vec<u8>),
+}
+
+/// Octets that a value owns, which contracts see as their list: up to `N` of them stand in the value itself, and more in
+/// memory of their own. They are ordered by the first difference, and a proper beginning is less.
+pub struct SmallOctets<const N: usize> {
+    alloc: Global,
+    kept: Kept<N>,
+}
+
+impl<const N: usize> Model for SmallOctets<N> {
+    ghost use Rattle.std.specs.Prelude.{ℕ, List};
+    ghost use Rattle.dns_types.specs.SmallOctets.{kept_octets};
+
+    ghost Value = { List ℕ };
+
+    ghost view = { λ n. kept_octets n.kept };
+}
+
+impl<const N: usize> SmallOctets<N> {
+    /// No octets. Takes no memory.
+    #[inline]
+    pub fn new(alloc: Global) -> SmallOctets<N>
+        ensures { result ≡ [] }
+    {
+        SmallOctets {
+            alloc,
+            kept: Kept::Inline(Inline {
+                len: 0,
+                octets: [0; N],
+            }),
+        }
+    }
+
+    /// A copy of the octets. Asks for memory once where they are more than `N`, and fails only for want of it.
+    #[inline]
+    pub fn from_slice(alloc: Global, octets: &[u8]) -> Result<SmallOctets<N>, AllocError>
+        ensures { IfOk result (λ kept. kept ≡ octets.now) }
+    {
+        let kept = if octets.len() <= N && N <= 65535 {
+            Kept::Inline(Inline::from_slice(octets))
+        } else {
+            Kept::Heap(Vec::from_slice(alloc, octets)?)
+        };
+        Ok(SmallOctets { alloc, kept })
+    }
+
+    /// The octets of the vector, which is moved, or dropped where they are few.
+    pub fn from_vec(octets: Vec<u8>) -> SmallOctets<N>
+        ensures { result ≡ octets.items }
+    {
+        let alloc = *octets.allocator();
+        if octets.len() <= N && N <= 65535 {
+            return SmallOctets {
+                alloc,
+                kept: Kept::Inline(Inline::from_slice(octets.as_slice())),
+            };
+        }
+        SmallOctets {
+            alloc,
+            kept: Kept::Heap(octets),
+        }
+    }
+
+    /// The octets of the box, which is moved, or dropped where they are few.
+    #[inline]
+    pub fn from_boxed(octets: BoxedSlice<u8>) -> SmallOctets<N>
+        ensures { result ≡ boxed_slice_items octets }
+    {
+        SmallOctets::from_vec(octets.into_vec())
+    }
+
+    /// The octets as a vector, which may still grow. Asks for memory where they are few.
+    pub fn into_vec(self) -> Result<Vec<u8>, AllocError>
+        ensures { IfOk result (λ octets. octets.items ≡ self.entry) }
+    {
+        let SmallOctets { alloc, kept } = self;
+        match kept {
+            Kept::Inline(octets) => Vec::from_slice(alloc, octets.as_slice()),
+            Kept::Heap(octets) => Ok(octets),
+        }
+    }
+
+    /// The octets, lent.
+    #[inline]
+    pub fn as_slice(&self) -> &[u8]
+        ensures value { result.now ≡ self.now }
+        ensures octets { All (λ octet. octet < 256) self.now }
+    {
+        match &self.kept {
+            Kept::Inline(octets) => bounded(octets.as_slice()),
+            Kept::Heap(octets) => bounded(octets.as_slice()),
+        }
+    }
+
+    /// How many octets there are.
+    #[inline]
+    pub fn len(&self) -> usize
+        ensures { result ≡ length self.now }
+    {
+        self.as_slice().len()
+    }
+
+    /// Whether there are none.
+    #[inline]
+    pub fn is_empty(&self) -> bool
+        ensures { IsTrue result ↔ (self.now ≡ []) }
+    {
+        self.as_slice().is_empty()
+    }
+
+    /// What gives the memory of more octets than `N`.
+    #[inline]
+    pub fn allocator(&self) -> Global {
+        self.alloc
+    }
+}
+
+// By hand, so that a drop is one call for the proofs of the values that hold octets.
+impl<const N: usize> Drop for SmallOctets<N> {
+    #[inline]
+    fn drop(self) {
+        let SmallOctets {
+            alloc: _,
+            kept: _kept,
+        } = self;
+    }
+}
+
+impl<const N: usize> From<Vec<u8>> for SmallOctets<N> {
+    ghost from_gives = { λ items octets. octets ≡ items.items };
+
+    #[inline]
+    fn from(items: Vec<u8>) -> SmallOctets<N> {
+        SmallOctets::from_vec(items)
+    }
+}
+
+impl<const N: usize> AsSlice<u8> for SmallOctets<N> {
+    ghost items = { λ octets. octets };
+
+    #[inline]
+    fn as_slice(&self) -> &[u8] {
+        SmallOctets::as_slice(self)
+    }
+}
+
+/// As a byte string: `b"a\x00b"`.
+impl<const N: usize> fmt::Debug for SmallOctets<N> {
+    fn fmt<W: fmt::Write>(&self, f: &mut fmt::Formatter<W>) -> fmt::Result {
+        write!(f, "b\"{}\"", self.as_slice().escape_ascii())
+    }
+}
+
+impl<const N: usize> PartialEq for SmallOctets<N> {
+    ghost eq = { λ a b. pointwise ◌==◌ a b };
+
+    ghost laws = { Prim.search (comparing, rules) };
+
+    #[inline]
+    fn eq(&self, other: &SmallOctets<N>) -> bool
+        ensures value { result ≡ pointwise ◌==◌ self.now other.now }
+        ensures exact { IsTrue result ↔ (self.now ≡ other.now) }
+    {
+        same_octets(self.as_slice(), other.as_slice())
+    }
+}
+
+impl<const N: usize> Eq for SmallOctets<N> {
+    ghost laws = { Prim.search (comparing, rules) };
+}
+
+impl<const N: usize> Hash for SmallOctets<N> {
+    ghost hash_input = { λ o. fed.slice fed.u8 o };
+
+    ghost respects_eq = { Prim.search (hashing, rules) };
+
+    #[inline]
+    fn hash<H: Hasher>(&self, state: &mut H) {
+        self.as_slice().hash(state);
+    }
+}
+
+impl<const N: usize> PartialOrd for SmallOctets<N> {
+    ghost partial_cmp = { as_partial_cmp (slice_cmp nat_cmp) };
+
+    ghost laws = { partial_order_from_agreeing_total (slice_cmp nat_cmp) nat_list_cmp_total
+        (λ _ _. refl) texts_ties };
+
+    #[inline]
+    fn partial_cmp(&self, other: &SmallOctets<N>) -> Option<Ordering> {
+        Some(self.cmp(other))
+    }
+}
+
+impl<const N: usize> Ord for SmallOctets<N> {
+    ghost cmp = { slice_cmp nat_cmp };
+
+    ghost total = { nat_list_cmp_total };
+
+    ghost matches_partial_cmp = { λ _ _. refl };
+
+    ghost matches_eq = { texts_ties };
+
+    #[inline]
+    fn cmp(&self, other: &SmallOctets<N>) -> Ordering {
+        self.as_slice().cmp(other.as_slice())
+    }
+}
+
+impl<const N: usize> Clone for SmallOctets<N> {
+    ghost is_clone = { λ a b. b ≡ a };
+
+    /// The same octets. Asks for memory once where they are more than `N`.
+    #[inline]
+    fn clone(&self) -> Result<SmallOctets<N>, AllocError> {
+        SmallOctets::from_slice(self.alloc, self.as_slice())
+    }
+}
