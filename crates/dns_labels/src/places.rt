@@ -1,6 +1,6 @@
 //! Where names were written in a message.
 
-ghost use Rattle.std.specs.Prelude.{◌≡◌, ℕ, List, ◌+◌, ◌<◌, ◌≤◌, length, IfSome};
+ghost use Rattle.std.specs.Prelude.{◌≡◌, ℕ, List, ◌+◌, ◌/◌, ◌<◌, ◌≤◌, length, IfSome};
 ghost use Rattle.dns_fields.specs.Labels.{AreLabels, wire};
 ghost use Rattle.dns_labels.specs.Labels.{AreNameOctets};
 ghost use Rattle.dns_labels.specs.Emission.{StandsFor, IsNameCut};
@@ -9,7 +9,7 @@ use crate::matching::{stands_at, stands_whole};
 use smallvec::SmallVec;
 use std::alloc::{AllocError, Global};
 
-// odd numbers without a pattern, one for each distance from the end of a name
+// odd numbers without a pattern, one for each eight octets from the end of a name
 const WEIGHTS: [u64; 64] = [
     0x2cb0_f69f_4abe_a221,
     0x9417_0347_2314_8989,
@@ -94,34 +94,49 @@ const FACTOR: u64 = 0x9e37_79b9_7f4a_7c15;
 
 /// The hash of a name's octets.
 ///
-/// It is a sum of the octets of each label, eight at a time as a number, each by the weight of its distance from the name's
-/// end. So the hash of a tail is that of the name without the part of the labels before it, and no product waits for
-/// another.
+/// It is a sum of them: eight at a time from the name's end as a number, and the up to seven that are left in front as one
+/// more, each by the weight of its distance from the end. So the hash of a tail is that of the name without a part that
+/// the octets in front of it decide, and no product waits for another.
 pub(crate) fn name_hash(name: &[u8]) -> u64 {
+    eights_hash(name, 0, name.len() / 8).wrapping_add(front_hash(name, 0))
+}
+
+/// By how much the hash of the octets from the first place on is greater than of those from the second.
+#[inline]
+fn label_hash(name: &[u8], start: usize, end: usize) -> u64
+    requires order { start ≤ end }
+    requires within { end ≤ length name.now }
+{
+    let len = name.len();
+    eights_hash(name, (len - end) / 8, (len - start) / 8)
+        .wrapping_add(front_hash(name, start))
+        .wrapping_sub(front_hash(name, end))
+}
+
+/// The part of a hash that whole eights have, counted from the name's end.
+#[inline]
+fn eights_hash(name: &[u8], first: usize, last: usize) -> u64
+    requires { last ≤ length name.now / 8 }
+{
     let mut hash = 0u64;
-    let mut at = 0usize;
-    'labels: while at < name.len() {
-        let end = name.len().min(at + name[at] as usize + 1);
-        hash = hash.wrapping_add(label_hash(name, at, end));
-        at = end;
+    for count in first..last {
+        let at = name.len() - 8 * count - 8;
+        let weight = WEIGHTS[count % 64];
+        hash = hash.wrapping_add(weight.wrapping_mul(word_of(&name[at..at + 8])));
     }
     hash
 }
 
-/// The part of a hash that the octets from one place to another have.
+/// The part of a hash that the octets from a place on have which are no whole eight.
 #[inline]
-fn label_hash(name: &[u8], start: usize, end: usize) -> u64
-    requires { end ≤ length name.now }
+fn front_hash(name: &[u8], at: usize) -> u64
+    requires { at ≤ length name.now }
 {
-    let mut hash = 0u64;
-    let mut at = start;
-    'pieces: while at < end {
-        let count = (end - at).min(8);
-        let weight = WEIGHTS[(name.len() - at) % 64];
-        hash = hash.wrapping_add(weight.wrapping_mul(word_at(name, at, count)));
-        at += count;
+    let len = name.len() - at;
+    if len % 8 == 0 {
+        return 0;
     }
-    hash
+    WEIGHTS[len / 8 % 64].wrapping_mul(word_at(name, at, len % 8))
 }
 
 /// Up to eight octets from a place on as a number, the first one lowest.

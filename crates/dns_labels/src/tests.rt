@@ -258,6 +258,33 @@ fn points_to_the_longest_tail(rt: HostRuntime) -> Result<(), Fail> {
     Ok(())
 }
 
+// Labels of 1 to 20 octets, of a letter each, and where each begins, in the text and in the octets alike.
+#[test]
+fn points_to_tails_of_each_length(rt: HostRuntime) -> Result<(), Fail> {
+    let alloc = rt.alloc();
+    let mut text = Vec::new(alloc);
+    let mut starts = Vec::new(alloc);
+    for count in 1..21u8 {
+        starts.push(text.len())?;
+        for _ in 0..count {
+            text.push(96 + count)?;
+        }
+        text.push(b'.')?;
+    }
+    let mut places = Places::new(alloc);
+    let mut out = Vec::new(alloc);
+    let mode = RDataEncoding::StandardRecord;
+    written(alloc, &mut places, &mut out, mode, text.as_slice())?;
+    for start in starts.iter() {
+        let len = out.len();
+        let tail = text.get(*start..).unwrap_or(b"");
+        written(alloc, &mut places, &mut out, mode, tail)?;
+        let pointer = (0xc000 | u16::try_from(*start)?).to_be_bytes();
+        assert_eq!(rt; out.get(len..), Some(pointer.as_slice()), "from {start}");
+    }
+    Ok(())
+}
+
 #[test]
 fn points_to_the_least_place(rt: HostRuntime) -> Result<(), Fail> {
     let alloc = rt.alloc();

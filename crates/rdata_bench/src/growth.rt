@@ -10,10 +10,10 @@ use std::alloc::Global;
 use std::rt::Clock;
 use std::time::Instant;
 
-// The weights that the encoder's table gives to the octets that stand 21 and 13 octets before a name's end.
-const BEFORE_21: u64 = 0xcba6_c8e8_e0bb_7c4f;
+// The weights that the encoder's table gives to the second eight octets from a name's end, and to the ones before.
+const SECOND: u64 = 0x9417_0347_2314_8989;
 
-const BEFORE_13: u64 = 0xaf1d_5638_6ca3_b277;
+const THIRD: u64 = 0xdd55_5950_609d_fe03;
 
 // Prints a line: the time in tenths of a nanosecond of so many octets.
 fn print_line(
@@ -100,11 +100,11 @@ fn of_one_hash(alloc: Global, count: usize) -> Result<Vec<Name>> {
     for number in 0..count as u64 {
         let front = number.wrapping_mul(256).wrapping_add(15);
         let rest = 0u64
-            .wrapping_sub(BEFORE_21.wrapping_mul(front))
-            .wrapping_mul(inverse(BEFORE_13));
+            .wrapping_sub(THIRD.wrapping_mul(front))
+            .wrapping_mul(inverse(SECOND));
         let mut label = [0u8; 15];
-        label[..7].copy_from_slice(&front.to_le_bytes()[1..]);
-        label[7..].copy_from_slice(&rest.to_le_bytes());
+        label[..4].copy_from_slice(&front.to_le_bytes()[1..5]);
+        label[4..12].copy_from_slice(&rest.to_le_bytes());
         names.push(Name::from_labels(alloc, [label.as_slice(), b"zone"].as_slice())?)?;
     }
     Ok(names)

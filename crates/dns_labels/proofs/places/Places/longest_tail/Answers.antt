@@ -17,5 +17,5 @@ labels-preserved c = cut_more c.args.octets.now c.labels.cut c.labels.invariant 
 pub returns : goal.returns
 returns c = cut_all c.args.message.now c.args.octets.now c.labels.cut c.labels.invariant (omega arith)
 
-pub label_hash-hash-requires : goal.label_hash-hash-requires
-label_hash-hash-requires c = (cut_more c.args.octets.now c.labels.cut c.labels.invariant (omega arith)).within
+pub label_hash-hash-requires-clause-within : goal.label_hash-hash-requires-clause-within
+label_hash-hash-requires-clause-within c = (cut_more c.args.octets.now c.labels.cut c.labels.invariant (omega arith)).within
