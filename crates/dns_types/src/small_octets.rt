@@ -66,7 +66,9 @@ impl<const N: usize> Inline<N> {
 #[derive(Drop)]
 enum Kept<const N: usize> {
     Inline(Inline<N>),
-    Heap(Vec<u8>),
+    // a fourth word beside the vector's three: octets in the value are then moved by the pairs of words in which they
+    // were cleared, where a load that spans two stores would wait for both
+    Heap(Vec<u8>, u64),
 }
 
 /// Octets that a value owns, which contracts see as their list: up to `N` of them stand in the value itself, and more in
@@ -108,7 +110,7 @@ impl<const N: usize> SmallOctets<N> {
         let kept = if octets.len() <= N && N <= 65535 {
             Kept::Inline(Inline::from_slice(octets))
         } else {
-            Kept::Heap(Vec::from_slice(alloc, octets)?)
+            Kept::Heap(Vec::from_slice(alloc, octets)?, 0)
         };
         Ok(SmallOctets { alloc, kept })
     }
@@ -126,7 +128,7 @@ impl<const N: usize> SmallOctets<N> {
         }
         SmallOctets {
             alloc,
-            kept: Kept::Heap(octets),
+            kept: Kept::Heap(octets, 0),
         }
     }
 
@@ -145,7 +147,7 @@ impl<const N: usize> SmallOctets<N> {
         let SmallOctets { alloc, kept } = self;
         match kept {
             Kept::Inline(octets) => Vec::from_slice(alloc, octets.as_slice()),
-            Kept::Heap(octets) => Ok(octets),
+            Kept::Heap(octets, _) => Ok(octets),
         }
     }
 
@@ -157,7 +159,7 @@ impl<const N: usize> SmallOctets<N> {
     {
         match &self.kept {
             Kept::Inline(octets) => bounded(octets.as_slice()),
-            Kept::Heap(octets) => bounded(octets.as_slice()),
+            Kept::Heap(octets, _) => bounded(octets.as_slice()),
         }
     }
 
