@@ -1,5 +1,5 @@
 -- Fields that are emitted behind a field.
-use Rattle.std.proofs.Common.{List, [], ◌∷◌, Result, Ok, Err}
+use Rattle.std.proofs.Common.{List, ◌∷◌, Result, Ok, Err}
 use Rattle.dns_types.specs.declared.error.ProtoError.{ProtoError}
 use Rattle.dns_fields.specs.Fields.{Kind, Value, Values}
 use Rattle.dns_names_wire.specs.State.{Writing}

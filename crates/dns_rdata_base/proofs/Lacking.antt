@@ -1,12 +1,12 @@
 -- Why fields that stand one behind the other are refused.
-use Rattle.std.proofs.Common.{◌≡◌, ◌⊎◌, inl, inr, List, [], ◌∷◌, Result, Ok, Err}
+use Rattle.std.proofs.Common.{◌≡◌, ◌⊎◌, inl, inr, List, ◌∷◌, Result, Ok, Err}
 use Rattle.dns_types.specs.declared.error.DecodeError.{DecodeError}
 use Rattle.dns_types.specs.declared.error.DecodeError.TheVariants as decode
 use Rattle.dns_fields.specs.Fields.{Kind, Name, Value, Values, Stands}
 use Rattle.dns_names_wire.specs.State.{Reading}
-use Rattle.dns_names_wire.specs.Words.{TookField, LacksField, Took, ReadsIf, ReadsBy, StaysBehind, always}
+use Rattle.dns_names_wire.specs.Words.{TookField, LacksField, ReadsIf, ReadsBy, always}
 use Rattle.dns_names_wire.proofs.FieldReads.{unless_map, stands_inside}
-use Rattle.dns_rdata_base.specs.Refusing.{LacksHere, FirstLack, IsLack}
+use Rattle.dns_rdata_base.specs.Refusing.{LacksHere, IsLack}
 
 pub is_lack_here : (k : Kind) (kinds : List Kind) (old new : Reading) (e : DecodeError) → LacksHere k old e new → IsLack (k ∷ kinds) old e new
 is_lack_here k kinds old new e h = inr (inl h)

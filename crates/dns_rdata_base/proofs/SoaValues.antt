@@ -1,5 +1,5 @@
 -- SOA by its fields: a record whose signed numbers have 32 bits is told by them, and any fields make one.
-use Rattle.std.proofs.Common.{◌≡◌, ◌<◌, ◌^◌, ℕ, ℤ, refl, sym, ap, ◌∙◌}
+use Rattle.std.proofs.Common.{◌≡◌, ◌<◌, ◌^◌, ℕ, ℤ, sym, ap, ◌∙◌}
 use Rattle.std.specs.Prelude.{FitsSigned}
 use Rattle.std.specs.Int.{cast_unsigned, cast_signed, w32}
 use Rattle.std.proofs.lemmas.Int.{to_z-of_z, of_z-to_z}

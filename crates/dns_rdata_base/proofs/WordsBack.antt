@@ -1,5 +1,5 @@
 -- Printed records are read back from their words.
-use Rattle.std.proofs.Common.{◌≡◌, ◌≤◌, ℕ, ℤ, pos, negsuc, Option, [], ◌∷◌, decimal, refl, arith}
+use Rattle.std.proofs.Common.{ℤ, pos, negsuc, Option, [], ◌∷◌, refl, arith}
 use Rattle.std.specs.Fmt.{signed_decimal}
 use Rattle.std.specs.Int.{cast_unsigned, w32}
 use Rattle.std.specs.Net.Addr.{IsIpv4Addr, IsIpv6Addr}

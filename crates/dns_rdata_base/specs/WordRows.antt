@@ -1,6 +1,5 @@
 -- The words of each record, and which values print in words that give them back.
-use Rattle.std.specs.Prelude.{◌≡◌, ℕ, ℤ, pos, negsuc, ◌^◌, ◌<◌, ◌≤◌, Option}
-use Rattle.std.specs.Net.Addr.{IsIpv4Addr, IsIpv6Addr}
+use Rattle.std.specs.Prelude.{◌≡◌, ℤ, pos, negsuc, ◌^◌, ◌<◌, ◌≤◌, Option}
 use Rattle.dns_fields.specs.Labels.{DomainName}
 use Rattle.dns_fields.specs.Fields.{Text}
 use Rattle.dns_words.specs.Forms.{Form, Row, word, ignored, nothing, every_text, number, ttl, name, base64, kept, ipv4, ipv6}

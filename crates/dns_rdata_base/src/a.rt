@@ -1,6 +1,6 @@
 //! A: an IPv4 address (RFC 1035, 3.4.1).
 
-ghost use Rattle.std.specs.Prelude.{◌≡◌, ◌+◌, ◌<◌, ◌≤◌, ℕ, List, [], ◌∷◌, length, length as list_length, OnErr, IfErr};
+ghost use Rattle.std.specs.Prelude.{◌≡◌, ◌+◌, ◌<◌, ◌≤◌, ◌++◌, ℕ, List, [], ◌∷◌, length, length as list_length, decimal, OnErr, IfErr};
 ghost use Rattle.std.specs.Net.Addr.{ipv4_octets};
 ghost use Rattle.dns_names_wire.specs.Words.{ReadsIf, ReadsBy, ReadsWindow, Emits, LacksOctets, always};
 ghost use Rattle.dns_rdata_base.specs.A.{a_shape, a_fields, a_refusal};
@@ -11,10 +11,11 @@ use dns_names_wire::{
     AddrParseError, BinDecodable, BinDecoder, BinEncodable, BinEncoder, DecodeError, ProtoError,
     Restrict,
 };
-use std::fmt;
+use std::marker::Model;
 use std::net::Ipv4Addr;
 use std::ops::Deref;
 use std::str::FromStr;
+use std::{fmt, str};
 
 /// An IPv4 address, its four octets in network order (RFC 1035, 3.4.1).
 #[derive(Clone, Copy, Debug, Hash)]
@@ -174,7 +175,80 @@ impl fmt::Display for A {
 
     /// The four octets in decimal, a point between: `192.0.2.1`.
     fn fmt<W: fmt::Write>(&self, f: &mut fmt::Formatter<W>) -> fmt::Result {
-        let address = self.0;
-        write!(f, "{address}")
+        let [a, b, c, d] = self.0.octets();
+        let mut text = Dotted::new();
+        text.push_decimal(a);
+        text.push(b'.');
+        text.push_decimal(b);
+        text.push(b'.');
+        text.push_decimal(c);
+        text.push(b'.');
+        text.push_decimal(d);
+        f.write_str(str::from_utf8(text.as_slice()).map_err(|_| fmt::Error)?)
+    }
+}
+
+// The text of an address, put together on the stack, so that it is written in one piece.
+#[derive(Drop)]
+struct Dotted {
+    octets: [u8; 16],
+    len: usize,
+}
+
+impl Model for Dotted {
+    ghost use Rattle.std.specs.Prelude.{ℕ, List, take, ◌≤◌};
+
+    ghost Value = { List ℕ };
+
+    ghost view = { λ t. take t.len t.octets };
+
+    ghost invariant = { λ t. t.len ≤ 16 };
+}
+
+impl Dotted {
+    #[inline]
+    fn new() -> Dotted
+        ensures { result ≡ [] }
+    {
+        Dotted {
+            octets: [0; 16],
+            len: 0,
+        }
+    }
+
+    #[inline]
+    fn push(&mut self, octet: u8)
+        requires { list_length self.old < 16 }
+        ensures { self.new ≡ self.old ++ octet ∷ [] }
+    {
+        self.octets[self.len] = octet;
+        self.len += 1;
+    }
+
+    // The number in decimal, of one to three digits.
+    #[inline]
+    fn push_decimal(&mut self, number: u8)
+        requires { list_length self.old + 3 ≤ 16 }
+        ensures text { self.new ≡ self.old ++ decimal number }
+        ensures digits { list_length self.new ≤ list_length self.old + 3 }
+    {
+        if number < 10 {
+            self.push(b'0' + number);
+            return;
+        }
+        if number >= 100 {
+            self.push(b'0' + number / 100);
+            self.push(b'0' + number / 10 % 10);
+        } else {
+            self.push(b'0' + number / 10);
+        }
+        self.push(b'0' + number % 10);
+    }
+
+    #[inline]
+    fn as_slice(&self) -> &[u8]
+        ensures { result.now ≡ self.now }
+    {
+        &self.octets[..self.len]
     }
 }

@@ -114,7 +114,11 @@ impl PartialEq for AAAA {
 
     #[inline]
     fn eq(&self, other: &AAAA) -> bool {
-        self.0.octets() == other.0.octets()
+        // one comparison of sixteen octets, once compiled
+        let [a0, a1, a2, a3, a4, a5, a6, a7] = self.0.segments();
+        let [b0, b1, b2, b3, b4, b5, b6, b7] = other.0.segments();
+        let lower = (a4 == b4) & ((a5 == b5) & ((a6 == b6) & (a7 == b7)));
+        (a0 == b0) & ((a1 == b1) & ((a2 == b2) & ((a3 == b3) & lower)))
     }
 }
 

@@ -27,7 +27,7 @@ pub struct HINFO {
 }
 
 impl HINFO {
-    /// With these texts, which are moved.
+    /// With these texts, which are taken: up to 32 octets are copied into the value, more are moved.
     pub fn new(cpu: String, os: String) -> HINFO
         ensures cpu { result.cpu ≡ string_bytes cpu }
         ensures os { result.os ≡ string_bytes os }
@@ -38,7 +38,7 @@ impl HINFO {
         }
     }
 
-    /// With these octets, which are moved.
+    /// With these octets, which are taken as those of `new`.
     pub fn from_bytes(cpu: BoxedSlice<u8>, os: BoxedSlice<u8>) -> HINFO
         ensures cpu { result.cpu ≡ boxed_slice_items cpu }
         ensures os { result.os ≡ boxed_slice_items os }
@@ -149,6 +149,7 @@ impl Clone for HINFO {
     ghost is_clone = { λ a b. b ≡ a };
 
     /// The same strings in memory of their own.
+    #[inline]
     fn clone(&self) -> Result<HINFO, AllocError>
         ensures { IfOk result (λ copy. copy ≡ self.now) }
     {

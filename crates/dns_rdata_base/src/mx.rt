@@ -149,6 +149,7 @@ impl Clone for MX {
     ghost is_clone = { λ a b. b ≡ a };
 
     /// The same value in memory of its own.
+    #[inline]
     fn clone(&self) -> Result<MX, AllocError>
         ensures { IfOk result (λ copy. copy ≡ self.now) }
     {

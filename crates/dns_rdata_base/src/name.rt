@@ -137,6 +137,7 @@ impl Clone for CNAME {
     ghost is_clone = { λ a b. b ≡ a };
 
     /// The same value in memory of its own.
+    #[inline]
     fn clone(&self) -> Result<CNAME, AllocError>
         ensures { IfOk result (λ copy. copy ≡ self.now) }
     {
@@ -275,6 +276,7 @@ impl Clone for NS {
     ghost is_clone = { λ a b. b ≡ a };
 
     /// The same value in memory of its own.
+    #[inline]
     fn clone(&self) -> Result<NS, AllocError>
         ensures { IfOk result (λ copy. copy ≡ self.now) }
     {
@@ -413,6 +415,7 @@ impl Clone for PTR {
     ghost is_clone = { λ a b. b ≡ a };
 
     /// The same value in memory of its own.
+    #[inline]
     fn clone(&self) -> Result<PTR, AllocError>
         ensures { IfOk result (λ copy. copy ≡ self.now) }
     {
@@ -550,6 +553,7 @@ impl Clone for ANAME {
     ghost is_clone = { λ a b. b ≡ a };
 
     /// The same value in memory of its own.
+    #[inline]
     fn clone(&self) -> Result<ANAME, AllocError>
         ensures { IfOk result (λ copy. copy ≡ self.now) }
     {

@@ -243,6 +243,7 @@ impl Clone for NAPTR {
     ghost is_clone = { λ a b. b ≡ a };
 
     /// The same value in memory of its own.
+    #[inline]
     fn clone(&self) -> Result<NAPTR, AllocError>
         ensures { IfOk result (λ copy. copy ≡ self.now) }
     {

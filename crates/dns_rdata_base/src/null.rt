@@ -5,11 +5,10 @@ ghost use Rattle.dns_names_wire.specs.Words.{ReadsWindow, Emits, LacksOctets};
 ghost use Rattle.dns_rdata_base.specs.NULL.{null_shape, null_fields};
 
 use crate::traits::RecordDataDecodable;
-use base64::display::Base64Display;
-use base64::engine::general_purpose::STANDARD;
 use dns_names_wire::{
     BinDecoder, BinEncodable, BinEncoder, DecodeError, ProtoError, Restrict, SmallOctets,
 };
+use dns_words::Base64Text;
 use std::alloc::{AllocError, Global};
 use std::fmt;
 
@@ -74,6 +73,7 @@ impl Clone for NULL {
     ghost is_clone = { λ a b. b ≡ a };
 
     /// The same octets in memory of their own.
+    #[inline]
     fn clone(&self) -> Result<NULL, AllocError>
         ensures { IfOk result (λ copy. copy ≡ self.now) }
     {
@@ -127,8 +127,6 @@ impl fmt::Display for NULL {
 
     /// Base64 (RFC 4648, 4).
     fn fmt<W: fmt::Write>(&self, f: &mut fmt::Formatter<W>) -> fmt::Result {
-        let engine = STANDARD;
-        let octets = Base64Display::new(self.anything.as_slice(), &engine);
-        write!(f, "{octets}")
+        write!(f, "{}", Base64Text(self.anything.as_slice()))
     }
 }

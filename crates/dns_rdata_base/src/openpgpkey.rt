@@ -5,11 +5,10 @@ ghost use Rattle.dns_names_wire.specs.Words.{ReadsWindow, Emits, LacksOctets};
 ghost use Rattle.dns_rdata_base.specs.OPENPGPKEY.{openpgpkey_shape, openpgpkey_fields, openpgpkey_refusal};
 
 use crate::traits::RecordDataDecodable;
-use base64::display::Base64Display;
-use base64::engine::general_purpose::STANDARD;
 use dns_names_wire::{
     BinDecoder, BinEncodable, BinEncoder, DecodeError, ProtoError, Restrict, SmallOctets,
 };
+use dns_words::Base64Text;
 use std::alloc::AllocError;
 use std::fmt;
 
@@ -21,7 +20,7 @@ pub struct OPENPGPKEY {
 }
 
 impl OPENPGPKEY {
-    /// With this key, which is moved.
+    /// With this key, which is taken: up to 64 octets are copied into the value, more are moved.
     pub fn new(public_key: Vec<u8>) -> OPENPGPKEY
         ensures { result.public_key ≡ public_key.items }
     {
@@ -57,6 +56,7 @@ impl Clone for OPENPGPKEY {
     ghost is_clone = { λ a b. b ≡ a };
 
     /// The same key in memory of its own.
+    #[inline]
     fn clone(&self) -> Result<OPENPGPKEY, AllocError>
         ensures { IfOk result (λ copy. copy ≡ self.now) }
     {
@@ -111,8 +111,6 @@ impl fmt::Display for OPENPGPKEY {
 
     /// Base64 (RFC 4648, 4).
     fn fmt<W: fmt::Write>(&self, f: &mut fmt::Formatter<W>) -> fmt::Result {
-        let engine = STANDARD;
-        let octets = Base64Display::new(self.public_key.as_slice(), &engine);
-        write!(f, "{octets}")
+        write!(f, "{}", Base64Text(self.public_key.as_slice()))
     }
 }

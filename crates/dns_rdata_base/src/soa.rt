@@ -246,6 +246,7 @@ impl Clone for SOA {
     ghost is_clone = { λ a b. b ≡ a };
 
     /// The same value in memory of its own.
+    #[inline]
     fn clone(&self) -> Result<SOA, AllocError>
         ensures { IfOk result (λ copy. copy ≡ self.now) }
     {

@@ -180,6 +180,7 @@ impl Clone for SRV {
     ghost is_clone = { λ a b. b ≡ a };
 
     /// The same value in memory of its own.
+    #[inline]
     fn clone(&self) -> Result<SRV, AllocError>
         ensures { IfOk result (λ copy. copy ≡ self.now) }
     {

@@ -74,6 +74,39 @@ fn is_too_long<T: BinEncodable>(alloc: Global, value: &T) -> bool {
 }
 
 #[test]
+fn addresses_of_each_length(rt: HostRuntime) -> Result<(), ProtoError> {
+    for (octets, text) in [
+        ([0, 0, 0, 0], "0.0.0.0"),
+        ([9, 10, 99, 100], "9.10.99.100"),
+        ([192, 0, 2, 33], "192.0.2.33"),
+        ([255, 255, 255, 255], "255.255.255.255"),
+    ] {
+        let [a, b, c, d] = octets;
+        assert!(rt; is_printed(rt.alloc(), &A::new(a, b, c, d), text)?);
+    }
+    Ok(())
+}
+
+// Of two addresses that differ in one of their groups.
+#[test]
+fn addresses_by_each_group(rt: HostRuntime) {
+    let address = AAAA::new(1, 2, 3, 4, 5, 6, 7, 8);
+    assert!(rt; address == AAAA::new(1, 2, 3, 4, 5, 6, 7, 8));
+    for other in [
+        AAAA::new(0, 2, 3, 4, 5, 6, 7, 8),
+        AAAA::new(1, 0, 3, 4, 5, 6, 7, 8),
+        AAAA::new(1, 2, 0, 4, 5, 6, 7, 8),
+        AAAA::new(1, 2, 3, 0, 5, 6, 7, 8),
+        AAAA::new(1, 2, 3, 4, 0, 6, 7, 8),
+        AAAA::new(1, 2, 3, 4, 5, 0, 7, 8),
+        AAAA::new(1, 2, 3, 4, 5, 6, 0, 8),
+        AAAA::new(1, 2, 3, 4, 5, 6, 7, 0),
+    ] {
+        assert!(rt; address != other);
+    }
+}
+
+#[test]
 fn machines(rt: HostRuntime) -> Result<(), ProtoError> {
     let octets = b"\x03cpu\x02os";
     let value: HINFO = whole(rt.alloc(), octets)?;

@@ -153,6 +153,7 @@ impl Clone for TXT {
     ghost is_clone = { λ a b. b ≡ a };
 
     /// The same strings in memory of their own.
+    #[inline]
     fn clone(&self) -> Result<TXT, AllocError>
         ensures { IfOk result (λ copy. copy ≡ self.now) }
     {

@@ -10,13 +10,13 @@ mod algorithm;
 mod cert_type;
 
 pub use algorithm::Algorithm;
-use base64::display::Base64Display;
 use base64::engine::general_purpose::STANDARD;
 pub use cert_type::CertType;
 use dns_names_wire::{
     BinDecoder, BinEncodable, BinEncoder, DecodeError, ProtoError, Restrict, SmallOctets,
 };
 use dns_rdata_base::RecordDataDecodable;
+use dns_words::Base64Text;
 use std::alloc::{AllocError, Global};
 use std::fmt;
 
@@ -35,7 +35,7 @@ pub struct CERT {
 }
 
 impl CERT {
-    /// With these fields, which are moved.
+    /// With these fields, which are taken: up to 64 octets are copied into the value, more are moved.
     pub fn new(cert_type: CertType, key_tag: u16, algorithm: Algorithm, cert_data: Vec<u8>) -> CERT
         ensures kind { result.cert_type ≡ cert_type }
         ensures tag { result.key_tag ≡ key_tag }
@@ -145,6 +145,7 @@ impl PartialEq for CERT {
 
     ghost laws = { partial_equiv_from_equiv (on_equiv cert_keys (values_equiv cert_key_shape)) };
 
+    #[inline]
     fn eq(&self, other: &CERT) -> bool {
         self.cert_type == other.cert_type
             && self.key_tag == other.key_tag
@@ -164,6 +165,7 @@ impl Clone for CERT {
     ghost is_clone = { λ a b. b ≡ a };
 
     /// The same fields, the certificate in memory of its own.
+    #[inline]
     fn clone(&self) -> Result<CERT, AllocError>
         ensures { IfOk result (λ copy. copy ≡ self.now) }
     {
@@ -188,8 +190,7 @@ impl fmt::Display for CERT {
         let cert_type = self.cert_type;
         let key_tag = self.key_tag;
         let algorithm = self.algorithm;
-        let engine = STANDARD;
-        let data = Base64Display::new(self.cert_data.as_slice(), &engine);
+        let data = Base64Text(self.cert_data.as_slice());
         write!(f, "{cert_type} {key_tag} {algorithm} {data}")
     }
 }

@@ -16,7 +16,7 @@ use std::ops::Deref;
 pub struct SMIMEA(pub TLSA);
 
 impl SMIMEA {
-    /// With these fields, which are moved.
+    /// With these fields, which are taken: up to 64 octets are copied into the value, more are moved.
     pub fn new(
         cert_usage: CertUsage,
         selector: Selector,
@@ -101,6 +101,7 @@ impl Clone for SMIMEA {
     ghost is_clone = { λ a b. b ≡ a };
 
     /// The same fields, the data in memory of its own.
+    #[inline]
     fn clone(&self) -> Result<SMIMEA, AllocError>
         ensures { IfOk result (λ copy. copy ≡ self.now) }
     {

@@ -30,7 +30,7 @@ pub struct SSHFP {
 }
 
 impl SSHFP {
-    /// With these fields, which are moved.
+    /// With these fields, which are taken: up to 64 octets are copied into the value, more are moved.
     pub fn new(
         algorithm: Algorithm,
         fingerprint_type: FingerprintType,
@@ -117,6 +117,7 @@ impl PartialEq for SSHFP {
 
     ghost laws = { partial_equiv_from_equiv (on_equiv sshfp_keys (values_equiv sshfp_key_shape)) };
 
+    #[inline]
     fn eq(&self, other: &SSHFP) -> bool {
         self.algorithm == other.algorithm
             && self.fingerprint_type == other.fingerprint_type
@@ -135,6 +136,7 @@ impl Clone for SSHFP {
     ghost is_clone = { λ a b. b ≡ a };
 
     /// The same fields, the fingerprint in memory of its own.
+    #[inline]
     fn clone(&self) -> Result<SSHFP, AllocError>
         ensures { IfOk result (λ copy. copy ≡ self.now) }
     {

@@ -34,7 +34,7 @@ pub struct TLSA {
 }
 
 impl TLSA {
-    /// With these fields, which are moved.
+    /// With these fields, which are taken: up to 64 octets are copied into the value, more are moved.
     pub fn new(
         cert_usage: CertUsage,
         selector: Selector,
@@ -124,6 +124,7 @@ impl PartialEq for TLSA {
 
     ghost laws = { partial_equiv_from_equiv (on_equiv tlsa_keys (values_equiv tlsa_key_shape)) };
 
+    #[inline]
     fn eq(&self, other: &TLSA) -> bool {
         self.cert_usage == other.cert_usage
             && self.selector == other.selector
@@ -143,6 +144,7 @@ impl Clone for TLSA {
     ghost is_clone = { λ a b. b ≡ a };
 
     /// The same fields, the data in memory of its own.
+    #[inline]
     fn clone(&self) -> Result<TLSA, AllocError>
         ensures { IfOk result (λ copy. copy ≡ self.now) }
     {

@@ -210,6 +210,7 @@ impl PartialEq for OPT {
     ghost laws = { partial_equiv_from_equiv opt_equiv };
 
     /// Whether every pair stands equally often in both. Takes no memory; linear in the options that stand in one order.
+    #[inline]
     fn eq(&self, other: &OPT) -> bool
         ensures answer { result ≡ opt_eq self.now other.now }
         ensures permutation { IsTrue result ↔ IsPermutation self.now other.now }
@@ -294,6 +295,7 @@ impl Clone for OPT {
     ghost is_clone = { λ a b. b ≡ a };
 
     /// The same options in the same order, in memory of their own.
+    #[inline]
     fn clone(&self) -> Result<OPT, AllocError>
         ensures { IfOk result (λ copy. copy ≡ self.now) }
     {

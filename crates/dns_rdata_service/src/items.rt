@@ -110,6 +110,7 @@ impl<T: PartialEq> PartialEq for Items<T> {
 
     ghost laws = { lists_per T.laws };
 
+    #[inline]
     fn eq(&self, other: &Items<T>) -> bool {
         self.as_slice() == other.as_slice()
     }
@@ -133,6 +134,7 @@ impl<T: Clone> Clone for Items<T> {
     ghost is_clone = { AllZip T.is_clone };
 
     /// Clones of the values, in memory that is asked for once beside theirs.
+    #[inline]
     fn clone(&self) -> Result<Items<T>, AllocError> {
         Ok(Items {
             items: self.items.clone()?,

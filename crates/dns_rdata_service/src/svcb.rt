@@ -142,6 +142,7 @@ impl PartialEq for SVCB {
 
     ghost laws = { partial_equiv_from_equiv (on_equiv svcb_keys (values_equiv svcb_key_shape)) };
 
+    #[inline]
     fn eq(&self, other: &SVCB) -> bool {
         self.svc_priority == other.svc_priority
             && self.target_name == other.target_name
@@ -174,6 +175,7 @@ impl Clone for SVCB {
     ghost is_clone = { λ a b. b ≡ a };
 
     /// The same fields in memory of their own.
+    #[inline]
     fn clone(&self) -> Result<SVCB, AllocError>
         ensures { IfOk result (λ copy. copy ≡ self.now) }
     {

@@ -179,6 +179,7 @@ impl PartialEq for CAA {
 
     ghost laws = { partial_equiv_from_equiv (on_equiv caa_keys (values_equiv caa_key_shape)) };
 
+    #[inline]
     fn eq(&self, other: &CAA) -> bool {
         self.issuer_critical == other.issuer_critical
             && self.reserved_flags == other.reserved_flags
@@ -198,6 +199,7 @@ impl Clone for CAA {
     ghost is_clone = { λ a b. b ≡ a };
 
     /// The same fields, tag and value in memory of their own.
+    #[inline]
     fn clone(&self) -> Result<CAA, AllocError>
         ensures { IfOk result (λ copy. copy ≡ self.now) }
     {

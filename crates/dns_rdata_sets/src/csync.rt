@@ -176,6 +176,7 @@ impl PartialEq for CSYNC {
 
     ghost laws = { partial_equiv_from_equiv (on_equiv csync_keys (values_equiv csync_key_shape)) };
 
+    #[inline]
     fn eq(&self, other: &CSYNC) -> bool {
         self.soa_serial == other.soa_serial
             && self.immediate == other.immediate
@@ -196,6 +197,7 @@ impl Clone for CSYNC {
     ghost is_clone = { λ a b. b ≡ a };
 
     /// The same fields, the types in memory of their own.
+    #[inline]
     fn clone(&self) -> Result<CSYNC, AllocError>
         ensures { IfOk result (λ copy. copy ≡ self.now) }
     {

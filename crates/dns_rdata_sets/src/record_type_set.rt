@@ -194,6 +194,7 @@ impl Clone for RecordTypeSet {
     ghost is_clone = { λ a b. b ≡ a };
 
     /// The same types in memory of their own, by one request.
+    #[inline]
     fn clone(&self) -> Result<RecordTypeSet, AllocError>
         ensures { IfOk result (λ copy. copy ≡ self.now) }
     {

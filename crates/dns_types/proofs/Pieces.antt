@@ -1,5 +1,6 @@
 -- Lists that are the same up to one place, and from that place or an earlier one on.
-use Rattle.std.proofs.Common.{◌≡◌, ◌≤◌, ◌+◌, ◌-◌, ◌∙◌, ℕ, List, [], ◌∷◌, take, drop, length, refl, sym, suc, zero, arith, take_all, take-add}
+use Rattle.std.proofs.Common.{◌≡◌, ◌≤◌, ◌-◌, ◌∙◌, ℕ, Bool, true, false, IsTrue, ◌↔◌, List, [], ◌∷◌, take, drop, length, refl, sym, ap, suc, zero, arith, take_all}
+use Rattle.std.proofs.Math.Bool.{◌&&◌}
 use Rattle.std.proofs.lemmas.List.{length-drop}
 
 both : {X : Type 0} (i j : ℕ) (a b : List X) → j ≤ i → take i a ≡ take i b → drop j a ≡ drop j b → a ≡ b
@@ -21,9 +22,20 @@ rest_of j a = take_all (length a - j) (drop j a) (let l = length-drop j a in ome
 pub overlap : {X : Type 0} (i j : ℕ) (a b : List X) → j ≤ i → take i a ≡ take i b → take (length a - j) (drop j a) ≡ take (length b - j) (drop j b) → a ≡ b
 overlap i j a b before front rest = both i j a b before front (sym (rest_of j a) ∙ rest ∙ rest_of j b)
 
-pub further : {X : Type 0} (i k : ℕ) (a b : List X) → take i a ≡ take i b → take (i + k - i) (drop i a) ≡ take (i + k - i) (drop i b) → take (i + k) a ≡ take (i + k) b
-further i k a b front piece =
-    let count : i + k - i ≡ k = omega arith in
-    let left = take-add i k a in
-    let right = take-add i k b in
-    cc
+-- two answers, of the first pieces and of the last ones, tell whether lists are the same that these pieces cover
+pub by_ends : {X : Type 0} (first last : Bool) (i j : ℕ) (a b : List X) → j ≤ i
+    → (IsTrue first ↔ (take i a ≡ take i b))
+    → (IsTrue last ↔ (take (length a - j) (drop j a) ≡ take (length b - j) (drop j b)))
+    → IsTrue (first && last) ↔ (a ≡ b)
+by_ends true true i j a b before front rest = (
+  (λ t. overlap i j a b before (front.0 t) (rest.0 t)),
+  (λ same. rest.1 (ap (λ x. take (length x - j) (drop j x)) same)),
+)
+by_ends true false i j a b before front rest = (
+  (λ t. absurd cc),
+  (λ same. rest.1 (ap (λ x. take (length x - j) (drop j x)) same)),
+)
+by_ends false last i j a b before front rest = (
+  (λ t. absurd cc),
+  (λ same. let t = front.1 (ap (take i) same) in absurd cc),
+)

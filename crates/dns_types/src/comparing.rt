@@ -1,10 +1,7 @@
-//! Octets compared by eight at a time.
+//! Octets compared by pieces of one size.
 
 ghost use Rattle.std.specs.Prelude.{◌≡◌, ◌<◌, ◌↔◌, IsTrue, length};
 ghost use Rattle.std.specs.Int.{from_le_bytes, w32, w64};
-
-// from so many octets on a call of std's comparison is quicker
-const MANY: usize = 64;
 
 /// Whether the octets are the same: what `==` of slices answers, quicker where they are few.
 #[inline]
@@ -18,18 +15,20 @@ pub fn same_octets(a: &[u8], b: &[u8]) -> bool
     if len < 8 {
         return same_few(a, b);
     }
-    if len >= MANY {
+    if len > 64 {
         return a == b;
     }
-    let last = len - 8;
-    let mut at = 0usize;
-    'words: while at < last {
-        if !same_word(&a[at..at + 8], &b[at..at + 8]) {
-            return false;
-        }
-        at += 8;
+    // the octets of one size from the beginning, and as many to the end, without a branch between
+    if len > 32 {
+        let last = len - 32;
+        return same_block(&a[..32], &b[..32]) & same_block(&a[last..], &b[last..]);
     }
-    same_word(&a[last..], &b[last..])
+    if len > 16 {
+        let last = len - 16;
+        return same_pair(&a[..16], &b[..16]) & same_pair(&a[last..], &b[last..]);
+    }
+    let last = len - 8;
+    same_word(&a[..8], &b[..8]) & same_word(&a[last..], &b[last..])
 }
 
 // The same for fewer than eight octets.
@@ -43,7 +42,7 @@ fn same_few(a: &[u8], b: &[u8]) -> bool
         return same_fewest(a, b);
     }
     let last = a.len() - 4;
-    same_half(&a[..4], &b[..4]) && same_half(&a[last..], &b[last..])
+    same_half(&a[..4], &b[..4]) & same_half(&a[last..], &b[last..])
 }
 
 // The same for up to three.
@@ -55,6 +54,22 @@ fn same_fewest(a: &[u8], b: &[u8]) -> bool
 {
     let len = a.len();
     len == 0 || (a[0] == b[0] && a[len / 2] == b[len / 2] && a[len - 1] == b[len - 1])
+}
+
+#[inline]
+fn same_block(a: &[u8], b: &[u8]) -> bool
+    requires { (length a.now ≡ 32) × (length b.now ≡ 32) }
+    ensures { IsTrue result ↔ (a.now ≡ b.now) }
+{
+    same_pair(&a[..16], &b[..16]) & same_pair(&a[16..], &b[16..])
+}
+
+#[inline]
+fn same_pair(a: &[u8], b: &[u8]) -> bool
+    requires { (length a.now ≡ 16) × (length b.now ≡ 16) }
+    ensures { IsTrue result ↔ (a.now ≡ b.now) }
+{
+    same_word(&a[..8], &b[..8]) & same_word(&a[8..], &b[8..])
 }
 
 // Eight octets as one number.

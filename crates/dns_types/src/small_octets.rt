@@ -60,6 +60,17 @@ impl<const N: usize> Inline<N> {
     {
         &self.octets[..self.len as usize]
     }
+
+    // The same octets, and whatever stands behind them: a move of one size, which needs no loop and no call.
+    #[inline]
+    fn copied(&self) -> Inline<N>
+        ensures { result ≡ self.now }
+    {
+        Inline {
+            len: self.len,
+            octets: self.octets,
+        }
+    }
 }
 
 /// What the octets are kept in.
@@ -282,6 +293,13 @@ impl<const N: usize> Clone for SmallOctets<N> {
     /// The same octets. Asks for memory once where they are more than `N`.
     #[inline]
     fn clone(&self) -> Result<SmallOctets<N>, AllocError> {
-        SmallOctets::from_slice(self.alloc, self.as_slice())
+        let kept = match &self.kept {
+            Kept::Inline(octets) => Kept::Inline(octets.copied()),
+            Kept::Heap(octets) => Kept::Heap(Vec::from_slice(self.alloc, octets.as_slice())?),
+        };
+        Ok(SmallOctets {
+            alloc: self.alloc,
+            kept,
+        })
     }
 }

@@ -121,6 +121,7 @@ impl PartialEq for Strings {
 
     ghost laws = { Prim.search (comparing, rules) };
 
+    #[inline]
     fn eq(&self, other: &Strings) -> bool
         ensures value { result ≡ pointwise (pointwise ◌==◌) self.now other.now }
         ensures exact { IsTrue result ↔ (self.now ≡ other.now) }
@@ -172,6 +173,7 @@ impl Ord for Strings {
 impl Clone for Strings {
     ghost is_clone = { λ a b. b ≡ a };
 
+    #[inline]
     fn clone(&self) -> Result<Strings, AllocError> {
         Ok(Strings {
             items: self.items.clone()?,

@@ -15,4 +15,5 @@ pub use reading::{
     all_texts, join_words, name_from_tokens, next_base64, next_ipv4, next_ipv6, next_kept,
     next_name, next_signed_ttl, next_ttl, next_u8, next_u16, next_u32, next_word, no_more,
 };
+pub use texts::Base64Text;
 pub use word_list::WordList;

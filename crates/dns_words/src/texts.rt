@@ -7,11 +7,13 @@ ghost use Rattle.dns_words.specs.Forms.{number, ttl, name, base64, kept, kept_re
 ghost use Rattle.dns_words.specs.Reads.{ReadsText};
 
 use base64::DecodeAllocError;
+use base64::display::Base64Display;
 use base64::engine::general_purpose::STANDARD;
 use dns_names_wire::{Name, Octets, ParseError};
 use dns_text::parse_ttl;
 use std::alloc::Global;
 use std::net::{Ipv4Addr, Ipv6Addr};
+use std::{fmt, str};
 
 /// A decimal number of 8 bits, with or without `+`. Any other word is refused by `Message`. Takes no memory.
 #[inline]
@@ -73,6 +75,36 @@ pub fn name_of(alloc: Global, word: &str, origin: Option<&Name>) -> Result<Name,
 {
     let name = Name::parse(alloc, word, origin)?;
     Ok(name)
+}
+
+/// Octets that print as base64: the standard alphabet, padded at its end (RFC 4648, 4). Takes no memory.
+#[derive(Clone, Copy)]
+pub struct Base64Text<'a>(pub &'a [u8]);
+
+// As many octets are printed in one piece, from room that costs little to clear.
+const FEW: usize = 96;
+
+impl fmt::Display for Base64Text<'_> {
+    ghost use Rattle.std.specs.Prelude.{Some};
+    ghost use Rattle.base64.specs.Engines.{standard};
+    ghost use Rattle.base64.specs.GeneralPurpose.{encode_of};
+
+    ghost output = { λ t. Some (encode_of standard t.0.now) };
+
+    fn fmt<W: fmt::Write>(&self, f: &mut fmt::Formatter<W>) -> fmt::Result {
+        let engine = STANDARD;
+        if self.0.len() > FEW {
+            return write!(f, "{}", Base64Display::new(self.0, &engine));
+        }
+        let mut room = [0u8; 128];
+        let Ok(len) = engine.encode_slice(self.0, &mut room) else {
+            unreachable!();
+        };
+        let Ok(text) = str::from_utf8(&room[..len]) else {
+            unreachable!();
+        };
+        f.write_str(text)
+    }
 }
 
 /// The octets of a base64 text: the standard alphabet, padded at its end. Any other word is refused by `Message`.

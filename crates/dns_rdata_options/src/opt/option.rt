@@ -109,6 +109,7 @@ impl Clone for EdnsOption {
     ghost is_clone = { λ a b. b ≡ a };
 
     /// The same option, its octets in memory of their own.
+    #[inline]
     fn clone(&self) -> Result<EdnsOption, AllocError> {
         match self {
             EdnsOption::Subnet(subnet) => Ok(EdnsOption::Subnet(*subnet)),

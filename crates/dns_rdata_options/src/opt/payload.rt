@@ -75,6 +75,7 @@ impl Clone for NSIDPayload {
     ghost is_clone = { λ a b. b ≡ a };
 
     /// The same octets in memory of their own.
+    #[inline]
     fn clone(&self) -> Result<NSIDPayload, AllocError> {
         Ok(NSIDPayload {
             octets: self.octets.clone()?,

@@ -101,6 +101,7 @@ impl Clone for Alpn {
     ghost is_clone = { λ a b. b ≡ a };
 
     /// The same names in memory of their own.
+    #[inline]
     fn clone(&self) -> Result<Alpn, AllocError>
         ensures { IfOk result (λ copy. copy ≡ self.now) }
     {

@@ -5,11 +5,10 @@ ghost use Rattle.dns_fields.specs.Pieces.{AnyOctets};
 ghost use Rattle.dns_names_wire.specs.Words.{ReadsBy};
 ghost use Rattle.dns_rdata_service.specs.SvcParamValue.{ech_value, EchConfigListAt, value_refusal, EmitsValue};
 
-use base64::display::Base64Display;
-use base64::engine::general_purpose::STANDARD;
 use dns_names_wire::{
     BinDecodable, BinDecoder, BinEncodable, BinEncoder, DecodeError, Octets, ProtoError,
 };
+use dns_words::Base64Text;
 use std::alloc::AllocError;
 use std::fmt;
 
@@ -46,6 +45,7 @@ impl Clone for EchConfigList {
     ghost is_clone = { λ a b. b ≡ a };
 
     /// The same octets in memory of their own.
+    #[inline]
     fn clone(&self) -> Result<EchConfigList, AllocError>
         ensures { IfOk result (λ copy. copy ≡ self.now) }
     {
@@ -61,8 +61,7 @@ impl fmt::Display for EchConfigList {
 
     /// Base64 in quotes (RFC 4648, 4): `"AAEC"`.
     fn fmt<W: fmt::Write>(&self, f: &mut fmt::Formatter<W>) -> fmt::Result {
-        let engine = STANDARD;
-        let octets = Base64Display::new(self.0.as_slice(), &engine);
+        let octets = Base64Text(self.0.as_slice());
         write!(f, "\"{octets}\"")
     }
 }
@@ -70,8 +69,7 @@ impl fmt::Display for EchConfigList {
 impl fmt::Debug for EchConfigList {
     /// Base64 in parentheses, in quotes: `"EchConfig (AAEC)"`.
     fn fmt<W: fmt::Write>(&self, f: &mut fmt::Formatter<W>) -> fmt::Result {
-        let engine = STANDARD;
-        let octets = Base64Display::new(self.0.as_slice(), &engine);
+        let octets = Base64Text(self.0.as_slice());
         write!(f, "\"EchConfig ({octets})\"")
     }
 }

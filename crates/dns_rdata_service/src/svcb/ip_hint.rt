@@ -49,6 +49,7 @@ impl<T: Clone> Clone for IpHint<T> {
 
     /// Clones of the addresses, in memory that is asked for once beside theirs. Where clones equal what they are made of,
     /// it is the same value.
+    #[inline]
     fn clone(&self) -> Result<IpHint<T>, AllocError>
         ensures clones { IfOk result (λ copy. AllZip T.is_clone self.now.0 copy.0) }
         ensures same { ((x y : T) → T.is_clone x y → y ≡ x) → IfOk result (λ copy. copy ≡ self.now) }

@@ -54,6 +54,7 @@ impl Clone for Mandatory {
     ghost is_clone = { λ a b. b ≡ a };
 
     /// The same keys in memory of their own.
+    #[inline]
     fn clone(&self) -> Result<Mandatory, AllocError>
         ensures { IfOk result (λ copy. copy ≡ self.now) }
     {

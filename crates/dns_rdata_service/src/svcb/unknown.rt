@@ -45,6 +45,7 @@ impl Clone for Unknown {
     ghost is_clone = { λ a b. b ≡ a };
 
     /// The same octets in memory of their own.
+    #[inline]
     fn clone(&self) -> Result<Unknown, AllocError>
         ensures { IfOk result (λ copy. copy ≡ self.now) }
     {

@@ -148,6 +148,7 @@ impl Clone for SvcParamValue {
     ghost is_clone = { λ a b. b ≡ a };
 
     /// The same value in memory of its own.
+    #[inline]
     fn clone(&self) -> Result<SvcParamValue, AllocError>
         ensures { IfOk result (λ copy. copy ≡ self.now) }
     {

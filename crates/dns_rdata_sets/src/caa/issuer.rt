@@ -74,6 +74,7 @@ impl PartialEq for KeyValue {
 
     ghost laws = { Prim.search (comparing, rules) };
 
+    #[inline]
     fn eq(&self, other: &KeyValue) -> bool
         ensures { IsTrue result ↔ (self.now ≡ other.now) }
     {
@@ -99,6 +100,7 @@ impl Hash for KeyValue {
 impl Clone for KeyValue {
     ghost is_clone = { λ a b. b ≡ a };
 
+    #[inline]
     fn clone(&self) -> Result<KeyValue, AllocError> {
         Ok(KeyValue {
             key: self.key.clone()?,

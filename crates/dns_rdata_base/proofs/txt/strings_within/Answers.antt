@@ -1,4 +1,4 @@
-use Rattle.std.proofs.Common.{◌<◌, length, inl, get_or, arith, ◌≤◌, ℕ}
+use Rattle.std.proofs.Common.{◌<◌, length, inl, arith}
 use Rattle.dns_rdata_base.proofs.TextLists.{counts_more, counts_all}
 use Rattle.dns_rdata_base.proofs.txt.strings_within.Goals as goal
 

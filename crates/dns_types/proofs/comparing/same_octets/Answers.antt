@@ -1,12 +1,25 @@
-use Rattle.std.proofs.Common.{length, ◌-◌, drop, take, ap, arith}
-use Rattle.dns_types.proofs.Pieces.{further, overlap}
+use Rattle.std.proofs.Common.{◌-◌, length, arith, sym}
+use Rattle.std.proofs.lemmas.List.{length-take-le}
+use Rattle.dns_types.proofs.Pieces.{by_ends}
 use Rattle.dns_types.proofs.comparing.same_octets.Goals as goal
 
-pub words-preserved : goal.words-preserved
-words-preserved c = (omega arith, further c.words.at 8 c.args.a.now c.args.b.now c.words.invariant.1 (c.same_word.ensures.0 c.if-not-same_word.false))
+pub slice_bounds-same_block-end : goal.slice_bounds-same_block-end
+slice_bounds-same_block-end c = sym (length-take-le 32 c.args.a.now (omega arith))
+
+pub slice_bounds-same_block-end-then-len-gt32 : goal.slice_bounds-same_block-end-then-len-gt32
+slice_bounds-same_block-end-then-len-gt32 c = sym (length-take-le 32 c.args.b.now (omega arith))
+
+pub same_block-requires : goal.same_block-requires
+same_block-requires c = (length-take-le 32 c.args.a.now (omega arith), length-take-le 32 c.args.b.now (omega arith))
+
+pub returns-then-len-gt32 : goal.returns-then-len-gt32
+returns-then-len-gt32 c = by_ends _ _ 32 (length c.args.a.now - 32) c.args.a.now c.args.b.now (omega arith)
+    c.same_block.ensures c.same_block-then-len-gt32.ensures
+
+pub returns-then-len-gt16 : goal.returns-then-len-gt16
+returns-then-len-gt16 c = by_ends _ _ 16 (length c.args.a.now - 16) c.args.a.now c.args.b.now (omega arith)
+    c.same_pair.ensures c.same_pair-then-len-gt16.ensures
 
 pub returns : goal.returns
-returns c = let last = length c.args.a.now - 8 in (
-  (λ t. overlap c.words.at last c.args.a.now c.args.b.now (omega arith) c.words.invariant.1 (c.same_word-2.ensures.0 t)),
-  (λ same. c.same_word-2.ensures.1 (ap (λ x. take (length x - last) (drop last x)) same)),
-)
+returns c = by_ends _ _ 8 (length c.args.a.now - 8) c.args.a.now c.args.b.now (omega arith)
+    c.same_word.ensures c.same_word-2.ensures

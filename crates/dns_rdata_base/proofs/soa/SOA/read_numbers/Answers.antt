@@ -1,7 +1,7 @@
 use Rattle.std.proofs.Common.{[], ◌∷◌}
 use Rattle.std.proofs.lemmas.Result.{err_from_is_err_and}
-use Rattle.dns_fields.specs.Fields.{Number, Text, Name}
-use Rattle.dns_rdata_base.proofs.Lacking.{is_lack_here, is_lack_then, is_lack_name}
+use Rattle.dns_fields.specs.Fields.{Number}
+use Rattle.dns_rdata_base.proofs.Lacking.{is_lack_here, is_lack_then}
 use Rattle.dns_rdata_base.proofs.soa.SOA.read_numbers.Goals as goal
 
 pub returns-in_err-read_i32-clause-refused : goal.returns-in_err-read_i32-clause-refused

@@ -1,4 +1,4 @@
-use Rattle.std.proofs.Common.{[], ◌∷◌}
+use Rattle.std.proofs.Common.{◌∷◌}
 use Rattle.std.proofs.lemmas.Result.{err_from_is_err_and}
 use Rattle.dns_fields.specs.Fields.{Name}
 use Rattle.dns_names_wire.proofs.FieldWrites.{stopped_then, stopped_first}

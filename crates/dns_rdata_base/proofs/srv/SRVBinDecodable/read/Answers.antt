@@ -1,7 +1,7 @@
 use Rattle.std.proofs.Common.{[], ◌∷◌}
 use Rattle.std.proofs.lemmas.Result.{err_from_is_err_and}
-use Rattle.dns_fields.specs.Fields.{Number, Text, Name}
-use Rattle.dns_rdata_base.proofs.Lacking.{is_lack_here, is_lack_then, is_lack_name}
+use Rattle.dns_fields.specs.Fields.{Number, Name}
+use Rattle.dns_rdata_base.proofs.Lacking.{is_lack_then, is_lack_name}
 use Rattle.dns_rdata_base.proofs.srv.SRVBinDecodable.read.Goals as goal
 
 pub returns-in_err-target-clause-refused : goal.returns-in_err-target-clause-refused
