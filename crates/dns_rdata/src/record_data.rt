@@ -378,6 +378,7 @@ impl RData {
     fn is_same(&self, other: &RData) -> bool
         ensures { result ≡ equal self.now other.now }
     {
+        // The `==` of a record is a call, but for addresses, so that this function needs hardly a frame.
         match (self, other) {
             (RData::A(a), RData::A(b)) => *a == *b,
             (RData::AAAA(a), RData::AAAA(b)) => *a == *b,

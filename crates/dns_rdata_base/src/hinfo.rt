@@ -132,7 +132,7 @@ impl PartialEq for HINFO {
 
     ghost laws = { partial_equiv_from_equiv (on_equiv hinfo_fields (values_equiv hinfo_shape)) };
 
-    #[inline]
+    #[inline(never)]
     fn eq(&self, other: &HINFO) -> bool {
         self.cpu == other.cpu && self.os == other.os
     }

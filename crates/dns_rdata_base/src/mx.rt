@@ -132,7 +132,7 @@ impl PartialEq for MX {
 
     ghost laws = { partial_equiv_from_equiv (on_equiv mx_fields (values_equiv mx_shape)) };
 
-    #[inline]
+    #[inline(never)]
     fn eq(&self, other: &MX) -> bool {
         self.preference == other.preference && self.exchange == other.exchange
     }

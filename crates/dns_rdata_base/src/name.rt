@@ -120,7 +120,7 @@ impl PartialEq for CNAME {
 
     ghost laws = { partial_equiv_from_equiv (on_equiv cname_fields (values_equiv name_shape)) };
 
-    #[inline]
+    #[inline(never)]
     fn eq(&self, other: &CNAME) -> bool {
         self.0 == other.0
     }
@@ -259,7 +259,7 @@ impl PartialEq for NS {
 
     ghost laws = { partial_equiv_from_equiv (on_equiv ns_fields (values_equiv name_shape)) };
 
-    #[inline]
+    #[inline(never)]
     fn eq(&self, other: &NS) -> bool {
         self.0 == other.0
     }
@@ -398,7 +398,7 @@ impl PartialEq for PTR {
 
     ghost laws = { partial_equiv_from_equiv (on_equiv ptr_fields (values_equiv name_shape)) };
 
-    #[inline]
+    #[inline(never)]
     fn eq(&self, other: &PTR) -> bool {
         self.0 == other.0
     }
@@ -536,7 +536,7 @@ impl PartialEq for ANAME {
 
     ghost laws = { partial_equiv_from_equiv (on_equiv aname_fields (values_equiv name_shape)) };
 
-    #[inline]
+    #[inline(never)]
     fn eq(&self, other: &ANAME) -> bool {
         self.0 == other.0
     }

@@ -221,7 +221,7 @@ impl PartialEq for NAPTR {
 
     ghost laws = { partial_equiv_from_equiv (on_equiv naptr_fields (values_equiv naptr_shape)) };
 
-    #[inline]
+    #[inline(never)]
     fn eq(&self, other: &NAPTR) -> bool {
         self.order == other.order
             && self.preference == other.preference

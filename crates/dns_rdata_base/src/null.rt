@@ -56,7 +56,7 @@ impl PartialEq for NULL {
 
     ghost laws = { partial_equiv_from_equiv (on_equiv null_fields (values_equiv null_shape)) };
 
-    #[inline]
+    #[inline(never)]
     fn eq(&self, other: &NULL) -> bool {
         self.anything == other.anything
     }

@@ -39,7 +39,7 @@ impl PartialEq for OPENPGPKEY {
 
     ghost laws = { partial_equiv_from_equiv (on_equiv openpgpkey_fields (values_equiv openpgpkey_shape)) };
 
-    #[inline]
+    #[inline(never)]
     fn eq(&self, other: &OPENPGPKEY) -> bool {
         self.public_key == other.public_key
     }

@@ -223,7 +223,7 @@ impl PartialEq for SOA {
 
     ghost laws = { partial_equiv_from_equiv (on_equiv soa_fields (values_equiv soa_shape)) };
 
-    #[inline]
+    #[inline(never)]
     fn eq(&self, other: &SOA) -> bool {
         self.mname == other.mname
             && self.rname == other.rname

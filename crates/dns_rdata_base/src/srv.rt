@@ -160,7 +160,7 @@ impl PartialEq for SRV {
 
     ghost laws = { partial_equiv_from_equiv (on_equiv srv_fields (values_equiv srv_shape)) };
 
-    #[inline]
+    #[inline(never)]
     fn eq(&self, other: &SRV) -> bool {
         self.priority == other.priority
             && self.weight == other.weight

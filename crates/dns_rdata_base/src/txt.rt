@@ -118,7 +118,7 @@ impl PartialEq for TXT {
 
     ghost laws = { partial_equiv_from_equiv (on_equiv txt_fields (values_equiv txt_shape)) };
 
-    #[inline]
+    #[inline(never)]
     fn eq(&self, other: &TXT) -> bool {
         self.txt_data == other.txt_data
     }

@@ -145,7 +145,7 @@ impl PartialEq for CERT {
 
     ghost laws = { partial_equiv_from_equiv (on_equiv cert_keys (values_equiv cert_key_shape)) };
 
-    #[inline]
+    #[inline(never)]
     fn eq(&self, other: &CERT) -> bool {
         self.cert_type == other.cert_type
             && self.key_tag == other.key_tag

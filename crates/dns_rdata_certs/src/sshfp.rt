@@ -117,7 +117,7 @@ impl PartialEq for SSHFP {
 
     ghost laws = { partial_equiv_from_equiv (on_equiv sshfp_keys (values_equiv sshfp_key_shape)) };
 
-    #[inline]
+    #[inline(never)]
     fn eq(&self, other: &SSHFP) -> bool {
         self.algorithm == other.algorithm
             && self.fingerprint_type == other.fingerprint_type

@@ -124,7 +124,7 @@ impl PartialEq for TLSA {
 
     ghost laws = { partial_equiv_from_equiv (on_equiv tlsa_keys (values_equiv tlsa_key_shape)) };
 
-    #[inline]
+    #[inline(never)]
     fn eq(&self, other: &TLSA) -> bool {
         self.cert_usage == other.cert_usage
             && self.selector == other.selector

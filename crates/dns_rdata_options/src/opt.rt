@@ -210,7 +210,7 @@ impl PartialEq for OPT {
     ghost laws = { partial_equiv_from_equiv opt_equiv };
 
     /// Whether every pair stands equally often in both. Takes no memory; linear in the options that stand in one order.
-    #[inline]
+    #[inline(never)]
     fn eq(&self, other: &OPT) -> bool
         ensures answer { result ≡ opt_eq self.now other.now }
         ensures permutation { IsTrue result ↔ IsPermutation self.now other.now }

@@ -142,7 +142,7 @@ impl PartialEq for SVCB {
 
     ghost laws = { partial_equiv_from_equiv (on_equiv svcb_keys (values_equiv svcb_key_shape)) };
 
-    #[inline]
+    #[inline(never)]
     fn eq(&self, other: &SVCB) -> bool {
         self.svc_priority == other.svc_priority
             && self.target_name == other.target_name

@@ -179,7 +179,7 @@ impl PartialEq for CAA {
 
     ghost laws = { partial_equiv_from_equiv (on_equiv caa_keys (values_equiv caa_key_shape)) };
 
-    #[inline]
+    #[inline(never)]
     fn eq(&self, other: &CAA) -> bool {
         self.issuer_critical == other.issuer_critical
             && self.reserved_flags == other.reserved_flags

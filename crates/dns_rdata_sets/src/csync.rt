@@ -176,7 +176,7 @@ impl PartialEq for CSYNC {
 
     ghost laws = { partial_equiv_from_equiv (on_equiv csync_keys (values_equiv csync_key_shape)) };
 
-    #[inline]
+    #[inline(never)]
     fn eq(&self, other: &CSYNC) -> bool {
         self.soa_serial == other.soa_serial
             && self.immediate == other.immediate
