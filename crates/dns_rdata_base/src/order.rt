@@ -3,8 +3,10 @@
 ghost use Rattle.std.specs.Prelude.{◌≡◌, ◌∷◌, []};
 ghost use Rattle.std.specs.Cmp.Lexicographic.{slice_cmp};
 ghost use Rattle.std.specs.Int.{cast_unsigned, w32};
+ghost use Rattle.std.specs.List.{flat_map};
 ghost use Rattle.std.specs.Ordering.{nat_cmp, ordering_then};
 ghost use Rattle.dns_fields.specs.Fields.{Number, Rest, field_octets};
+ghost use Rattle.dns_fields.specs.Pieces.{string};
 ghost use Rattle.dns_pieces.specs.Fronts.{canonical_cmp};
 ghost use Rattle.dns_rdata_base.specs.A.{a_shape, a_fields};
 ghost use Rattle.dns_rdata_base.specs.AAAA.{aaaa_shape, aaaa_fields};
@@ -17,7 +19,7 @@ ghost use Rattle.dns_rdata_base.specs.SRV.{srv_shape, srv_fields};
 ghost use Rattle.dns_rdata_base.specs.TXT.{txt_shape, txt_fields};
 
 use crate::{A, AAAA, HINFO, MX, NAPTR, SOA, SRV, TXT};
-use dns_names_wire::Name;
+use dns_names_wire::{Name, Octets};
 use dns_pieces::order::{four_behind, name_behind, octets_cmp, text_behind, two_behind};
 use std::cmp::Ordering;
 
@@ -116,22 +118,24 @@ pub fn soa_order(a: &SOA, b: &SOA) -> Ordering
     four_behind(expire, a.minimum, b.minimum)
 }
 
-/// String by string.
-pub fn txt_order(a: &TXT, b: &TXT) -> Ordering
-    ensures { result ≡ canonical_cmp txt_shape (txt_fields a.now) (txt_fields b.now) }
+/// String by string, each behind its length octet.
+#[inline]
+pub fn texts_cmp(a: &[Octets], b: &[Octets]) -> Ordering
+    ensures { result ≡ slice_cmp nat_cmp (flat_map string a.now) (flat_map string b.now) }
 {
-    let texts = a.txt_data.as_slice();
-    let other_texts = b.txt_data.as_slice();
-    let shorter = texts.len().min(other_texts.len());
+    let shorter = a.len().min(b.len());
     for at in 0..shorter {
-        let order = text_behind(
-            Ordering::Equal,
-            texts[at].as_slice(),
-            other_texts[at].as_slice(),
-        );
+        let order = text_behind(Ordering::Equal, a[at].as_slice(), b[at].as_slice());
         if order.is_ne() {
             return order;
         }
     }
-    texts.len().cmp(&other_texts.len())
+    a.len().cmp(&b.len())
+}
+
+/// String by string.
+pub fn txt_order(a: &TXT, b: &TXT) -> Ordering
+    ensures { result ≡ canonical_cmp txt_shape (txt_fields a.now) (txt_fields b.now) }
+{
+    texts_cmp(a.txt_data.as_slice(), b.txt_data.as_slice())
 }

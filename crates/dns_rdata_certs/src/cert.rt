@@ -75,6 +75,7 @@ impl CERT {
     }
 
     // Reads the fields that fill the length.
+    #[inline]
     #[tactic(auto, using(dns_names_wire::proofs::FieldReads::reading))]
     fn read_filled(decoder: &mut BinDecoder<'_>, length: Restrict<u16>) -> Result<CERT, DecodeError>
         ensures fields { ReadsTo cert_shape cert_condition length cert_fields result decoder.old decoder.new }

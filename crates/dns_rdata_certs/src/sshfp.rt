@@ -48,6 +48,7 @@ impl SSHFP {
     }
 
     // Reads the fields that fill the length.
+    #[inline]
     #[tactic(auto, using(dns_names_wire::proofs::FieldReads::reading))]
     fn read_filled(
         decoder: &mut BinDecoder<'_>,

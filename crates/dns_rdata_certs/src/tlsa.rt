@@ -55,6 +55,7 @@ impl TLSA {
     }
 
     // Reads the fields that fill the length.
+    #[inline]
     #[tactic(auto, using(dns_names_wire::proofs::FieldReads::reading))]
     fn read_filled(decoder: &mut BinDecoder<'_>, length: Restrict<u16>) -> Result<TLSA, DecodeError>
         ensures fields { ReadsTo tlsa_shape (λ _. Unit {0}) length tlsa_fields result decoder.old decoder.new }

@@ -17,7 +17,8 @@ ghost use Rattle.dns_rdata_service.specs.SVCB.{svcb_shape, svcb_fields, svcb_key
 use crate::ordering::{hint4_cmp, hint6_cmp};
 use crate::svcb::{SVCB, SvcParamKey, SvcParamValue};
 use dns_names_wire::Octets;
-use dns_pieces::order::{name_behind, slices_behind, text_behind, two_behind};
+use dns_pieces::order::{name_behind, slices_behind, two_behind};
+use dns_rdata_base::order::texts_cmp;
 use dns_rdata_base::{A, AAAA};
 use std::cmp::Ordering;
 
@@ -184,28 +185,13 @@ fn names_order(a: &[Octets], b: &[Octets]) -> Option<Ordering>
     ensures order { IfSome result (λ o. OrderFirst o (sized (Names a.now)) (sized (Names b.now))) }
     ensures alike { IfSome result (λ o. o ≡ Equal → a.now ≡ b.now) }
 {
-    let order = names_cmp(a, b);
+    let order = texts_cmp(a, b);
     if order.is_eq() {
         return Some(order);
     }
     let size = names_size(a)?;
     let other_size = names_size(b)?;
     Some(size.cmp(&other_size).then(order))
-}
-
-// Name by name.
-#[inline]
-fn names_cmp(a: &[Octets], b: &[Octets]) -> Ordering
-    ensures { result ≡ slice_cmp nat_cmp (flat_map string a.now) (flat_map string b.now) }
-{
-    let shorter = a.len().min(b.len());
-    for at in 0..shorter {
-        let order = text_behind(Ordering::Equal, a[at].as_slice(), b[at].as_slice());
-        if order.is_ne() {
-            return order;
-        }
-    }
-    a.len().cmp(&b.len())
 }
 
 // How many octets names have, each behind its length, if at most 65535.

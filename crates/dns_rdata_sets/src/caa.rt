@@ -55,6 +55,7 @@ impl CAA {
     }
 
     // Reads the fields that fill the length.
+    #[inline]
     #[tactic(auto, using(dns_names_wire::proofs::FieldReads::reading))]
     fn read_filled(decoder: &mut BinDecoder<'_>, length: Restrict<u16>) -> Result<CAA, DecodeError>
         ensures fields { ReadsTo caa_shape caa_condition length caa_fields result decoder.old decoder.new }

@@ -94,6 +94,7 @@ impl CSYNC {
     }
 
     // Reads the fields that fill the length.
+    #[inline]
     #[tactic(auto, using(dns_names_wire::proofs::FieldReads::reading))]
     fn read_filled(
         decoder: &mut BinDecoder<'_>,

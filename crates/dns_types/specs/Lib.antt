@@ -1,3 +1,4 @@
 pub mod Errors
 pub mod RecordTypes
 pub mod SmallOctets
+pub mod Strings

@@ -1,30 +1,9 @@
-use Rattle.std.proofs.Common.{◌∙◌, sym, arith}
-use Rattle.dns_fields.specs.Fields.{Texts, field_octets}
+use Rattle.std.proofs.Common.{◌∙◌}
+use Rattle.dns_fields.specs.Fields.{Texts}
 use Rattle.dns_pieces.proofs.Fronts.{alone}
-use Rattle.dns_rdata_base.proofs.TextOrders.{texts_differ, texts_same, texts_end}
 use Rattle.dns_rdata_base.proofs.order.txt_order.Goals as goal
 
-pub returns-then-is_ne : goal.returns-then-is_ne
-unfolding field_octets
-returns-then-is_ne c =
-    texts_differ c.loop-at.at c.index-texts-at.result c.index-other_texts-at.result c.as_slice-texts.result.now c.as_slice-other_texts.result.now
-    c.text_behind-order.result (omega arith) (omega arith) c.index-texts-at.is c.index-other_texts-at.is (rw (c.as_slice.ensures.value, c.as_slice-in-loop-at.ensures.value) at c.text_behind-order.ensures)
-    (sym c.is_ne.ensures ∙ c.if-is_ne.true)
-    ∙ c.loop-at.invariant
-    ∙ rw (c.as_slice-texts.ensures, c.as_slice-other_texts.ensures) (alone Texts c.args.a.now.txt_data c.args.b.now.txt_data)
-
-pub loop-at-preserved : goal.loop-at-preserved
-unfolding field_octets
-loop-at-preserved c =
-    texts_same c.loop-at.at c.index-texts-at.result c.index-other_texts-at.result c.as_slice-texts.result.now c.as_slice-other_texts.result.now
-    c.text_behind-order.result (omega arith) (omega arith) c.index-texts-at.is c.index-other_texts-at.is (rw (c.as_slice.ensures.value, c.as_slice-in-loop-at.ensures.value) at c.text_behind-order.ensures)
-    (sym c.is_ne.ensures ∙ c.if-is_ne.false)
-    ∙ c.loop-at.invariant
-
 pub returns : goal.returns
-unfolding field_octets
 returns c =
-    c.cmp.ensures
-    ∙ texts_end c.loop-at.at c.min-shorter.result c.as_slice-texts.result.now c.as_slice-other_texts.result.now c.min-shorter.ensures c.loop-at-test.false c.loop-at.auto.at-end
-    ∙ c.loop-at.invariant
-    ∙ rw (c.as_slice-texts.ensures, c.as_slice-other_texts.ensures) (alone Texts c.args.a.now.txt_data c.args.b.now.txt_data)
+    c.texts_cmp.ensures
+    ∙ rw (c.as_slice.ensures, c.as_slice-2.ensures) (alone Texts c.args.a.now.txt_data c.args.b.now.txt_data)

@@ -1,9 +1,0 @@
-use Rattle.std.proofs.Common.{◌≡◌, drop}
-use Rattle.std.specs.Cmp.Lexicographic.{slice_cmp}
-use Rattle.std.specs.List.{flat_map}
-use Rattle.std.specs.Ordering.{nat_cmp}
-use Rattle.dns_fields.specs.Pieces.{string}
-use Rattle.dns_rdata_base.proofs.order.txt_order.Given as goal
-
-abbrev pub invariant-loop-at : goal.invariant-loop-at
-invariant-loop-at l = slice_cmp nat_cmp (flat_map string (drop l.at l.texts)) (flat_map string (drop l.at l.other_texts)) ≡ slice_cmp nat_cmp (flat_map string l.texts) (flat_map string l.other_texts)
