@@ -1,4 +1,3 @@
 pub mod Errors
 pub mod RecordTypes
 pub mod SmallOctets
-pub mod Strings

@@ -246,10 +246,6 @@ fn strings(rt: HostRuntime) -> Result<(), AllocError> {
     let mut other = Strings::with_capacity(alloc, 1)?;
     other.push(Octets::from_slice(alloc, b"ab")?)?;
     assert!(rt; other == one);
-    assert_eq!(rt; Strings::from_vec(other.into_vec()?).as_slice().len(), 1);
-    strings.push(Octets::from_slice(alloc, b"c")?)?;
-    let text = format!(in alloc; "{:?}", strings)?;
-    assert_eq!(rt; text.as_str(), "[b\"ab\", b\"\", b\"c\"]");
-    assert_eq!(rt; strings.into_vec()?.as_slice().len(), 3);
+    assert_eq!(rt; Strings::from_vec(other.into_vec()).as_slice().len(), 1);
     Ok(())
 }
