@@ -2,6 +2,8 @@
 use Rattle.std.proofs.Common.{◌≡◌, ◌≤◌, ◌-◌, ◌∙◌, ℕ, Bool, true, false, IsTrue, ◌↔◌, List, [], ◌∷◌, take, drop, length, refl, sym, ap, suc, zero, arith, take_all}
 use Rattle.std.proofs.Math.Bool.{◌&&◌}
 use Rattle.std.proofs.lemmas.List.{length-drop}
+use Rattle.std.proofs.Math.Seq.{take-add}
+use Rattle.std.specs.Prelude.{◌+◌, ◌++◌}
 
 both : {X : Type 0} (i j : ℕ) (a b : List X) → j ≤ i → take i a ≡ take i b → drop j a ≡ drop j b → a ≡ b
 both i zero a b before front rest = rest
@@ -39,3 +41,16 @@ by_ends false last i j a b before front rest = (
   (λ t. absurd cc),
   (λ same. let t = front.1 (ap (take i) same) in absurd cc),
 )
+
+-- lists that are the same up to a place, and in a piece from there, are the same up to its end
+pub further : {X : Type 0} (n m : ℕ) (a b : List X) → n ≤ m → take n a ≡ take n b → take (m - n) (drop n a) ≡ take (m - n) (drop n b) → take m a ≡ take m b
+further n m a b before front piece =
+    let e : m ≡ n + (m - n) = omega (arith, before) in
+    ap (λ i. take i a) e ∙ take-add n (m - n) a ∙ ap (λ l. l ++ take (m - n) (drop n a)) front ∙ ap (λ l. take n b ++ l) piece
+    ∙ sym (take-add n (m - n) b) ∙ sym (ap (λ i. take i b) e)
+
+-- the answer of the last piece, where all before it is known to be the same
+pub by_last : {X : Type 0} (last : Bool) (i j : ℕ) (a b : List X) → j ≤ i → take i a ≡ take i b
+    → (IsTrue last ↔ (take (length a - j) (drop j a) ≡ take (length b - j) (drop j b)))
+    → IsTrue last ↔ (a ≡ b)
+by_last last i j a b before front rest = by_ends true last i j a b before ((λ _. front), (λ _. refl)) rest

@@ -31,15 +31,22 @@ fn same_others(a: &[u8], b: &[u8]) -> bool
     requires { length a.now ≡ length b.now }
     ensures { IsTrue result ↔ (a.now ≡ b.now) }
 {
-    let len = a.len();
-    if len < 8 {
+    if a.len() < 8 {
         return same_few(a, b);
     }
-    if len <= 32 || len > 64 {
+    if a.len() < 32 {
         return a == b;
     }
-    let last = len - 32;
-    same_block(&a[..32], &b[..32]) & same_block(&a[last..], &b[last..])
+    let last = a.len() - 32;
+    let mut at = 0usize;
+    'pieces: while at < last {
+        if !same_block(&a[at..at + 32], &b[at..at + 32]) {
+            return false;
+        }
+        at += 32;
+    }
+    // the last block, of which some octets may be known to be the same
+    same_block(&a[last..], &b[last..])
 }
 
 // The same for fewer than eight octets.

@@ -28,15 +28,15 @@ fn numbers_of_types(rt: HostRuntime) {
     }
 }
 
-// Each length up to 70, with another octet at each place: every piece of a comparison is met.
+// Each length up to 130, with another octet at each place: every piece of a comparison is met.
 #[test]
 fn same_octets_at_every_length(rt: HostRuntime) {
-    let some = [7u8; 70];
-    for len in 0..70usize {
+    let some = [7u8; 131];
+    for len in 0..131usize {
         assert!(rt; same_octets(&some[..len], &some[..len]), "{len}");
         assert!(rt; !same_octets(&some[..len], &some[..len + 1]), "{len}");
         for at in 0..len {
-            let mut other = [7u8; 70];
+            let mut other = [7u8; 131];
             other[at] = 8;
             assert!(rt; !same_octets(&some[..len], &other[..len]), "{at} of {len}");
         }

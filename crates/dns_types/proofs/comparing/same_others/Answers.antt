@@ -1,17 +1,11 @@
-use Rattle.std.proofs.Common.{◌-◌, length, arith, sym}
-use Rattle.std.proofs.lemmas.List.{length-take-le}
-use Rattle.dns_types.proofs.Pieces.{by_ends}
+use Rattle.std.proofs.Common.{◌-◌, ◌+◌, ap, take, drop, length, arith}
+use Rattle.dns_types.proofs.Pieces.{by_last, further}
 use Rattle.dns_types.proofs.comparing.same_others.Goals as goal
 
-pub slice_bounds-same_block-end : goal.slice_bounds-same_block-end
-slice_bounds-same_block-end c = sym (length-take-le 32 c.args.a.now (omega arith))
-
-pub slice_bounds-same_block-end-2 : goal.slice_bounds-same_block-end-2
-slice_bounds-same_block-end-2 c = sym (length-take-le 32 c.args.b.now (omega arith))
-
-pub same_block-requires : goal.same_block-requires
-same_block-requires c = (length-take-le 32 c.args.a.now (omega arith), length-take-le 32 c.args.b.now (omega arith))
-
 pub returns : goal.returns
-returns c = by_ends _ _ 32 (length c.args.a.now - 32) c.args.a.now c.args.b.now (omega arith)
-    c.same_block.ensures c.same_block-2.ensures
+returns c = by_last _ c.pieces.at (length c.args.a.now - 32) c.args.a.now c.args.b.now (omega arith) c.pieces.invariant.1
+    c.same_block-2.ensures
+
+pub pieces-preserved : goal.pieces-preserved
+pieces-preserved c =
+    (omega arith, further c.pieces.at (c.pieces.at + 32) c.args.a.now c.args.b.now (omega arith) c.pieces.invariant.1 (c.same_block.ensures.0 c.if-not-same_block.false))
