@@ -20,6 +20,7 @@ pub trait EncodesFields {
 }
 
 /// Appends the fields, names in this mode. The encoder is then in the mode that it was in, refused or not.
+#[inline(always)]
 pub fn emit_in<T: EncodesFields>(
     mode: RDataEncoding,
     value: &T,

@@ -55,7 +55,7 @@ impl TLSA {
     }
 
     // Reads the fields that fill the length.
-    #[inline]
+    #[inline(always)]
     #[tactic(auto, using(dns_names_wire::proofs::FieldReads::reading))]
     fn read_filled(decoder: &mut BinDecoder<'_>, length: Restrict<u16>) -> Result<TLSA, DecodeError>
         ensures fields { ReadsTo tlsa_shape (λ _. Unit {0}) length tlsa_fields result decoder.old decoder.new }
@@ -91,7 +91,7 @@ impl RecordDataDecodable for TLSA {
     /// Reads three octets of numbers, and the rest of the length, by one request for memory where that is more than 64
     /// octets. Where the three pass the length it is refused by `IncorrectRDataLengthRead` of 3 and the length. Where
     /// octets are missing it is refused by `InsufficientBytes`, and the numbers that are there are taken.
-    #[inline]
+    #[inline(always)]
     fn read_data(decoder: &mut BinDecoder<'_>, length: Restrict<u16>) -> Result<TLSA, DecodeError>
         ensures window { ReadsWindow tlsa_shape (λ _. Unit {0}) tlsa_fields length result decoder.old decoder.new }
         ensures ends { OnOk result (decoder.new.index ≡ decoder.old.index + length) }
@@ -108,6 +108,7 @@ impl BinEncodable for TLSA {
     ghost emits = { λ x r old new. Emits tlsa_shape (tlsa_fields x) r old new };
 
     /// Appends the three numbers and the data.
+    #[inline(always)]
     fn emit(&self, encoder: &mut BinEncoder<'_>) -> Result<(), ProtoError> {
         let usage = u8::from(self.cert_usage);
         let selector = u8::from(self.selector);

@@ -118,7 +118,14 @@ fn is_used(value: &RData, other: &RData, compares: bool) -> bool {
 fn reads(alloc: Global, row: &Row, passes: u64) -> Result<()> {
     for _ in 0..passes {
         for other in &row.others {
-            let value = row.read(alloc)?;
+            let mut decoder = BinDecoder::new(alloc, row.message.as_slice());
+            let Ok(_) = decoder.read_slice(row.place) else {
+                anyhow::bail!("a place past the message");
+            };
+            let length = Restrict::new(row.length);
+            let Ok(value) = RData::read(&mut decoder, row.record_type, length) else {
+                anyhow::bail!("not read");
+            };
             anyhow::ensure!(is_used(&value, other, row.compares), "read otherwise");
         }
     }
@@ -177,7 +184,9 @@ fn prints(row: &mut Row, passes: u64) -> Result<()> {
 fn clones(row: &Row, passes: u64) -> Result<()> {
     for _ in 0..passes {
         for value in &row.values {
-            let copy = value.clone()?;
+            let Ok(copy) = value.clone() else {
+                anyhow::bail!("not cloned");
+            };
             anyhow::ensure!(is_used(&copy, value, row.compares), "cloned otherwise");
         }
     }
