@@ -372,7 +372,21 @@ impl RData {
 }
 
 impl RData {
-    ghost use Rattle.dns_rdata.specs.Equal.{equal};
+    ghost use Rattle.std.specs.Prelude.{◌&&◌};
+    ghost use Rattle.dns_rdata.specs.Equal.{equal, null_eq, record_type_eq};
+
+    // Whether both are octets of one type, and the same. A call, so that `is_same` keeps nothing across another one.
+    #[inline(never)]
+    fn is_same_unknown(
+        code: RecordType,
+        rdata: &NULL,
+        other_code: RecordType,
+        other_rdata: &NULL,
+    ) -> bool
+        ensures { result ≡ record_type_eq code other_code && null_eq rdata.now other_rdata.now }
+    {
+        code == other_code && *rdata == *other_rdata
+    }
 
     // Whether both are of one variant, and equal there.
     fn is_same(&self, other: &RData) -> bool
@@ -409,7 +423,7 @@ impl RData {
                     code: other_code,
                     rdata: other_rdata,
                 },
-            ) => code == other_code && rdata == other_rdata,
+            ) => RData::is_same_unknown(*code, rdata, *other_code, other_rdata),
             (RData::Update0(a), RData::Update0(b)) => *a == *b,
             (RData::ZERO, RData::ZERO) => true,
             _ => false,

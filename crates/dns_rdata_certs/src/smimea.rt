@@ -84,7 +84,7 @@ impl PartialEq for SMIMEA {
 
     ghost laws = { partial_equiv_from_equiv (on_equiv smimea_keys (values_equiv smimea_key_shape)) };
 
-    #[inline(never)]
+    #[inline(always)]
     fn eq(&self, other: &SMIMEA) -> bool {
         self.0 == other.0
     }

@@ -88,7 +88,7 @@ impl PartialEq for HTTPS {
 
     ghost laws = { partial_equiv_from_equiv (on_equiv https_keys (values_equiv https_key_shape)) };
 
-    #[inline(never)]
+    #[inline(always)]
     fn eq(&self, other: &HTTPS) -> bool {
         self.0 == other.0
     }

@@ -13,7 +13,7 @@ pub fn same_octets(a: &[u8], b: &[u8]) -> bool
         return false;
     }
     // most are compared where they stand, and all others by a call
-    if len < 8 || len > 32 {
+    if len < 8 || len > 64 {
         return same_others(a, b);
     }
     // the octets of one size from the beginning, and as many to the end, without a branch between
@@ -21,11 +21,15 @@ pub fn same_octets(a: &[u8], b: &[u8]) -> bool
         let last = len - 8;
         return same_word(&a[..8], &b[..8]) & same_word(&a[last..], &b[last..]);
     }
-    let last = len - 16;
-    same_pair(&a[..16], &b[..16]) & same_pair(&a[last..], &b[last..])
+    if len <= 32 {
+        let last = len - 16;
+        return same_pair(&a[..16], &b[..16]) & same_pair(&a[last..], &b[last..]);
+    }
+    let last = len - 32;
+    same_block(&a[..32], &b[..32]) & same_block(&a[last..], &b[last..])
 }
 
-// The same for fewer than eight octets and for more than thirty-two.
+// The same for fewer than eight octets and for more than sixty-four.
 #[inline(never)]
 fn same_others(a: &[u8], b: &[u8]) -> bool
     requires { length a.now ≡ length b.now }

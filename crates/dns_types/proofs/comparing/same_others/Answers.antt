@@ -1,4 +1,4 @@
-use Rattle.std.proofs.Common.{◌-◌, ◌+◌, ap, take, drop, length, arith}
+use Rattle.std.proofs.Common.{◌-◌, ◌+◌, length, arith}
 use Rattle.dns_types.proofs.Pieces.{by_last, further}
 use Rattle.dns_types.proofs.comparing.same_others.Goals as goal
 
