@@ -118,14 +118,7 @@ fn is_used(value: &RData, other: &RData, compares: bool) -> bool {
 fn reads(alloc: Global, row: &Row, passes: u64) -> Result<()> {
     for _ in 0..passes {
         for other in &row.others {
-            let mut decoder = BinDecoder::new(alloc, row.message.as_slice());
-            let Ok(_) = decoder.read_slice(row.place) else {
-                anyhow::bail!("a place past the message");
-            };
-            let length = Restrict::new(row.length);
-            let Ok(value) = RData::read(&mut decoder, row.record_type, length) else {
-                anyhow::bail!("not read");
-            };
+            let value = row.read(alloc)?;
             anyhow::ensure!(is_used(&value, other, row.compares), "read otherwise");
         }
     }
