@@ -136,7 +136,7 @@ impl<'a> BinDecoder<'a> {
 
     /// The next `len` octets as a value, by one request for memory where they are more than `N`. Where fewer are left, or
     /// memory runs out, it is refused, and takes none.
-    #[inline]
+    #[inline(always)]
     pub fn read_small<const N: usize>(
         &mut self,
         len: usize,

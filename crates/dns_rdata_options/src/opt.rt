@@ -150,7 +150,7 @@ impl RecordDataDecodable for OPT {
     /// and the record's length, where a code or a length goes past the record's end; by `IncorrectRDataLengthRead` of
     /// the record's length and the option's, where the option's is greater; as `EdnsOption::try_from`, behind the
     /// option's octets.
-    #[inline]
+    #[inline(always)]
     fn read_data(decoder: &mut BinDecoder<'_>, length: Restrict<u16>) -> Result<OPT, DecodeError>
         ensures window { ReadsWindow opt_shape (λ _. Unit {0}) opt_fields length result decoder.old decoder.new }
         ensures ends { OnOk result (decoder.new.index ≡ decoder.old.index + length) }

@@ -54,3 +54,10 @@ pub by_last : {X : Type 0} (last : Bool) (i j : ℕ) (a b : List X) → j ≤ i 
     → (IsTrue last ↔ (take (length a - j) (drop j a) ≡ take (length b - j) (drop j b)))
     → IsTrue last ↔ (a ≡ b)
 by_last last i j a b before front rest = by_ends true last i j a b before ((λ _. front), (λ _. refl)) rest
+
+-- two answers to one question are the same
+pub one_answer : {P : Type 0} (a b : Bool) → (IsTrue a ↔ P) → (IsTrue b ↔ P) → a ≡ b
+one_answer true true x y = refl
+one_answer true false x y = absurd (let t = y.1 (x.0 refl) in cc)
+one_answer false true x y = absurd (let t = x.1 (y.0 refl) in cc)
+one_answer false false x y = refl

@@ -8,6 +8,7 @@ ghost use Rattle.std.specs.Ordering.{nat_cmp, as_partial_cmp};
 ghost use Rattle.std.specs.Hash as fed;
 ghost use Rattle.std.proofs.Common.{rules, refl, ap};
 
+use crate::comparing::same_octets;
 use crate::octets::Octets;
 use std::alloc::{AllocError, Global};
 use std::cmp::Ordering;
@@ -116,6 +117,24 @@ impl Strings {
     }
 }
 
+// Whether the strings are the same, one by one.
+#[inline]
+fn same_strings(a: &[Octets], b: &[Octets]) -> bool
+    ensures { IsTrue result ↔ (a.now ≡ b.now) }
+{
+    if a.len() != b.len() {
+        return false;
+    }
+    let mut at = 0usize;
+    'strings: while at < a.len() {
+        if !same_octets(a[at].as_slice(), b[at].as_slice()) {
+            return false;
+        }
+        at += 1;
+    }
+    true
+}
+
 impl PartialEq for Strings {
     ghost eq = { pointwise (pointwise ◌==◌) };
 
@@ -126,7 +145,7 @@ impl PartialEq for Strings {
         ensures value { result ≡ pointwise (pointwise ◌==◌) self.now other.now }
         ensures exact { IsTrue result ↔ (self.now ≡ other.now) }
     {
-        self.as_slice() == other.as_slice()
+        same_strings(self.as_slice(), other.as_slice())
     }
 }
 
