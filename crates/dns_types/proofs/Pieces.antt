@@ -1,9 +1,10 @@
 -- Lists that are the same up to one place, and from that place or an earlier one on.
-use Rattle.std.proofs.Common.{◌≡◌, ◌≤◌, ◌-◌, ◌∙◌, ℕ, Bool, true, false, IsTrue, ◌↔◌, List, [], ◌∷◌, take, drop, length, refl, sym, ap, suc, zero, arith, take_all}
+use Rattle.std.proofs.Common.{◌≡◌, ◌≤◌, ◌-◌, ◌∙◌, ℕ, Bool, true, false, IsTrue, ◌↔◌, List, [], ◌∷◌, take, drop, length, refl, sym, ap, suc, zero, arith, take_all, nat_eq}
 use Rattle.std.proofs.Math.Bool.{◌&&◌}
-use Rattle.std.proofs.lemmas.List.{length-drop}
+use Rattle.std.proofs.lemmas.Bool.{and_parts, eqb-true, eq-eqb}
+use Rattle.std.proofs.lemmas.List.{length-drop, length-take-le, take-append-drop}
 use Rattle.std.proofs.Math.Seq.{take-add}
-use Rattle.std.specs.Prelude.{◌+◌, ◌++◌}
+use Rattle.std.specs.Prelude.{◌+◌, ◌++◌, replicate}
 
 both : {X : Type 0} (i j : ℕ) (a b : List X) → j ≤ i → take i a ≡ take i b → drop j a ≡ drop j b → a ≡ b
 both i zero a b before front rest = rest
@@ -61,3 +62,26 @@ one_answer true true x y = refl
 one_answer true false x y = absurd (let t = y.1 (x.0 refl) in cc)
 one_answer false true x y = absurd (let t = x.1 (y.0 refl) in cc)
 one_answer false false x y = refl
+
+-- lists of one length that go on with zeros only: whether their beginnings are the same, told by the whole
+pub by_whole : (same : Bool) (m n N : ℕ) (a b : List ℕ) → m ≤ N → n ≤ N → length a ≡ N → length b ≡ N
+    → drop m a ≡ replicate (N - m) 0 → drop n b ≡ replicate (N - n) 0 → (IsTrue same ↔ (a ≡ b))
+    → IsTrue (nat_eq m n && same) ↔ (take m a ≡ take n b)
+by_whole same m n N a b m_fits n_fits a_length b_length a_rest b_rest whole = (
+  (λ t.
+      let parts = and_parts (nat_eq m n) same t in
+      let equal : a ≡ b = whole.0 parts.1 in
+      let places : m ≡ n = eqb-true m n parts.0 in
+      cc),
+  (λ front.
+      let a_front : length (take m a) ≡ m = length-take-le m a (omega arith) in
+      let b_front : length (take n b) ≡ n = length-take-le n b (omega arith) in
+      let places : m ≡ n = sym a_front ∙ ap length front ∙ b_front in
+      let rests : drop m a ≡ drop n b = cc in
+      let a_whole : take m a ++ drop m a ≡ a = take-append-drop m a in
+      let b_whole : take n b ++ drop n b ≡ b = take-append-drop n b in
+      let equal : a ≡ b = cc in
+      let answer : same ≡ true = whole.1 equal in
+      let lengths : nat_eq m n ≡ true = eq-eqb m n places in
+      rw (lengths, answer) refl),
+)

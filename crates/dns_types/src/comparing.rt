@@ -29,6 +29,22 @@ pub fn same_octets(a: &[u8], b: &[u8]) -> bool
     same_block(&a[..32], &b[..32]) & same_block(&a[last..], &b[last..])
 }
 
+/// Whether the arrays are the same, compared whole and without a branch where they are of 32 or 64 octets.
+#[inline(always)]
+pub fn same_arrays<const N: usize>(a: &[u8; N], b: &[u8; N]) -> bool
+    ensures { IsTrue result ↔ (a.now ≡ b.now) }
+{
+    let a = &a[..];
+    let b = &b[..];
+    if N == 64 {
+        return same_block(&a[..32], &b[..32]) & same_block(&a[32..], &b[32..]);
+    }
+    if N == 32 {
+        return same_block(a, b);
+    }
+    same_octets(a, b)
+}
+
 // The same for fewer than eight octets and for more than sixty-four.
 #[inline(never)]
 fn same_others(a: &[u8], b: &[u8]) -> bool

@@ -8,7 +8,7 @@ ghost use Rattle.std.specs.Ordering.{nat_cmp, as_partial_cmp};
 ghost use Rattle.std.specs.Hash as fed;
 ghost use Rattle.std.proofs.Common.{rules, refl};
 
-use crate::comparing::same_octets;
+use crate::comparing::{same_arrays, same_octets};
 use crate::octets::bounded;
 use std::alloc::{AllocError, Global};
 use std::boxed::BoxedSlice;
@@ -24,17 +24,18 @@ struct Inline<const N: usize> {
     // beside the tag of `Kept` this fills a word, so that the octets begin at one, as a vector's parts do: loads and
     // stores of both then meet at the same places
     len: u32,
+    // with zeros behind so many, so that two of them are compared whole
     octets: [u8; N],
 }
 
 impl<const N: usize> Model for Inline<N> {
-    ghost use Rattle.std.specs.Prelude.{ℕ, List, take, ◌≤◌};
+    ghost use Rattle.std.specs.Prelude.{◌≡◌, ◌≤◌, ◌-◌, ℕ, List, take, drop, replicate};
 
     ghost Value = { List ℕ };
 
     ghost view = { λ s. take s.len s.octets };
 
-    ghost invariant = { λ s. s.len ≤ N };
+    ghost invariant = { λ s. (s.len ≤ N) × (drop s.len s.octets ≡ replicate (N - s.len) 0) };
 }
 
 impl<const N: usize> Inline<N> {
@@ -61,7 +62,7 @@ impl<const N: usize> Inline<N> {
         &self.octets[..self.len as usize]
     }
 
-    // The same octets, and whatever stands behind them: a move of one size, which needs no loop and no call.
+    // The same octets, and the zeros behind them: a move of one size, which needs no loop and no call.
     #[inline]
     fn copied(&self) -> Inline<N>
         ensures { result ≡ self.now }
@@ -70,6 +71,14 @@ impl<const N: usize> Inline<N> {
             len: self.len,
             octets: self.octets,
         }
+    }
+
+    // Whether the octets are the same, by the whole of both arrays and without a branch.
+    #[inline(always)]
+    fn is_same(&self, other: &Inline<N>) -> bool
+        ensures { IsTrue result ↔ (self.now ≡ other.now) }
+    {
+        (self.len == other.len) & same_arrays(&self.octets, &other.octets)
     }
 }
 
@@ -188,6 +197,14 @@ impl<const N: usize> SmallOctets<N> {
         self.as_slice().is_empty()
     }
 
+    // Whether the octets are the same, wherever they stand.
+    #[inline(never)]
+    fn is_same_far(&self, other: &SmallOctets<N>) -> bool
+        ensures { IsTrue result ↔ (self.now ≡ other.now) }
+    {
+        same_octets(self.as_slice(), other.as_slice())
+    }
+
     /// What gives the memory of more octets than `N`.
     #[inline]
     pub fn allocator(&self) -> Global {
@@ -241,7 +258,10 @@ impl<const N: usize> PartialEq for SmallOctets<N> {
         ensures value { result ≡ pointwise ◌==◌ self.now other.now }
         ensures exact { IsTrue result ↔ (self.now ≡ other.now) }
     {
-        same_octets(self.as_slice(), other.as_slice())
+        match (&self.kept, &other.kept) {
+            (Kept::Inline(a), Kept::Inline(b)) => a.is_same(b),
+            _ => self.is_same_far(other),
+        }
     }
 }
 
