@@ -253,7 +253,7 @@ impl<const N: usize> PartialEq for SmallOctets<N> {
 
     ghost laws = { Prim.search (comparing, rules) };
 
-    #[inline]
+    #[inline(always)]
     fn eq(&self, other: &SmallOctets<N>) -> bool
         ensures value { result ≡ pointwise ◌==◌ self.now other.now }
         ensures exact { IsTrue result ↔ (self.now ≡ other.now) }

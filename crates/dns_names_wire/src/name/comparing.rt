@@ -12,8 +12,8 @@ ghost use Rattle.dns_fields.specs.Comparing.{name_cmp, name_eq, name_fed};
 
 use crate::name::Name;
 use crate::name::building::without_first;
+use dns_labels::NameOctets;
 use dns_labels::comparing::{compare_lowered, equal_lowered, hash_lowered};
-use dns_types::comparing::same_octets;
 use std::cmp::Ordering;
 use std::hash::{Hash, Hasher};
 
@@ -30,16 +30,24 @@ impl PartialEq for Name {
     {
         let mark = self.is_fqdn.get();
         let other_mark = other.is_fqdn.get();
-        mark == other_mark && is_same(self.octets.as_slice(), other.octets.as_slice())
+        mark == other_mark && is_same(&self.octets, &other.octets)
     }
 }
 
 // Most names that are compared are the same octets, which is told sooner.
 #[inline]
-fn is_same(a: &[u8], b: &[u8]) -> bool
+fn is_same(a: &NameOctets, b: &NameOctets) -> bool
     ensures { IsTrue result ↔ (map to_ascii_lowercase a.now ≡ map to_ascii_lowercase b.now) }
 {
-    same_octets(a, b) || equal_lowered(a, b)
+    *a == *b || is_same_lowered(a, b)
+}
+
+// The same for names that are not the same octets.
+#[inline(never)]
+fn is_same_lowered(a: &NameOctets, b: &NameOctets) -> bool
+    ensures { IsTrue result ↔ (map to_ascii_lowercase a.now ≡ map to_ascii_lowercase b.now) }
+{
+    equal_lowered(a.as_slice(), b.as_slice())
 }
 
 impl Eq for Name {

@@ -4,15 +4,13 @@ use Rattle.dns_names_wire.proofs.name.comparing.NamePartialEq.eq.Goals as goal
 
 pub returns-then-mark-other_mark-clause-value : goal.returns-then-mark-other_mark-clause-value
 returns-then-mark-other_mark-clause-value c =
-    let t = rw (c.as_slice.ensures.value, c.as_slice-then-mark-other_mark.ensures.value) at c.is_same.ensures in
     rw (← c.self.view_is, ← c.other.view_is)
     (with_mark c.self.inside.octets c.other.inside.octets c.is_same.result _ c.self.invariant.0 c.other.invariant.0
-    (rw (c.get-mark.ensures, c.get-other_mark.ensures) at c.if-mark-other_mark.true) t)
+    (rw (c.get-mark.ensures, c.get-other_mark.ensures) at c.if-mark-other_mark.true) c.is_same.ensures)
 
 pub returns-then-mark-other_mark-clause-exact : goal.returns-then-mark-other_mark-clause-exact
 returns-then-mark-other_mark-clause-exact c =
-    let t = rw (c.as_slice.ensures.value, c.as_slice-then-mark-other_mark.ensures.value) at c.is_same.ensures in
     rw (← c.self.view_is, ← c.other.view_is)
     (name_eq_exact c.is_same.result _ _
     (with_mark c.self.inside.octets c.other.inside.octets c.is_same.result _ c.self.invariant.0 c.other.invariant.0
-    (rw (c.get-mark.ensures, c.get-other_mark.ensures) at c.if-mark-other_mark.true) t))
+    (rw (c.get-mark.ensures, c.get-other_mark.ensures) at c.if-mark-other_mark.true) c.is_same.ensures))
