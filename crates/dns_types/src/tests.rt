@@ -1,3 +1,5 @@
+ghost use Rattle.std.specs.Prelude.{◌≤◌};
+
 use crate::comparing::same_octets;
 use crate::error::{AddrParseError, DecodeError, ParseError, ProtoError, ProtoResult};
 use crate::octets::Octets;
@@ -208,6 +210,43 @@ fn small_octets_short_and_long(rt: HostRuntime) -> Result<(), AllocError> {
     }
     let none = SmallOctets::<4>::new(rt.alloc());
     assert!(rt; none.is_empty());
+    Ok(())
+}
+
+// Whether copies of two slices are told to be equal, with room for `N` octets in the value.
+fn are_told<const N: usize>(alloc: Global, a: &[u8], b: &[u8]) -> Result<bool, AllocError>
+    requires { N ≤ 64 }
+{
+    let left = SmallOctets::<N>::from_slice(alloc, a)?;
+    let right = SmallOctets::<N>::from_slice(alloc, b)?;
+    Ok(left == right)
+}
+
+// Each length up to 66 beside one more octet and beside another octet at each place: octets in the value, and not.
+#[test]
+fn small_octets_at_every_length(rt: HostRuntime) -> Result<(), AllocError> {
+    let alloc = rt.alloc();
+    let zeros = [0u8; 67];
+    for len in 0..67usize {
+        let some = &zeros[..len];
+        let more = &zeros[..(len + 1) % 67];
+        assert!(rt; are_told::<32>(alloc, some, some)?, "{len}");
+        assert!(rt; are_told::<64>(alloc, some, some)?, "{len}");
+        assert!(rt; !are_told::<32>(alloc, some, more)?, "{len}");
+        assert!(rt; !are_told::<64>(alloc, some, more)?, "{len}");
+        for at in 0..len {
+            let mut other = [0u8; 67];
+            other[at] = 8;
+            assert!(rt;
+                !are_told::<32>(alloc, some, &other[..len])?,
+                "{at} of {len}"
+            );
+            assert!(rt;
+                !are_told::<64>(alloc, some, &other[..len])?,
+                "{at} of {len}"
+            );
+        }
+    }
     Ok(())
 }
 
