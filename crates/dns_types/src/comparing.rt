@@ -1,6 +1,6 @@
 //! Octets compared by pieces of one size.
 
-ghost use Rattle.std.specs.Prelude.{◌≡◌, ◌<◌, ◌↔◌, IsTrue, length};
+ghost use Rattle.std.specs.Prelude.{◌≡◌, ◌<◌, ◌≤◌, ◌↔◌, IsTrue, length};
 ghost use Rattle.std.specs.Int.{from_le_bytes, w32, w64};
 
 /// Whether the octets are the same: what `==` of slices answers, quicker where they are few.
@@ -12,9 +12,12 @@ pub fn same_octets(a: &[u8], b: &[u8]) -> bool
     if len != b.len() {
         return false;
     }
-    // most are compared where they stand, and all others by a call
-    if len < 8 || len > 64 {
-        return same_others(a, b);
+    // most are compared where they stand, and many by a call
+    if len < 8 {
+        return same_few(a, b);
+    }
+    if len > 64 {
+        return same_many(a, b);
     }
     // the octets of one size from the beginning, and as many to the end, without a branch between
     if len <= 16 {
@@ -45,18 +48,13 @@ pub fn same_arrays<const N: usize>(a: &[u8; N], b: &[u8; N]) -> bool
     same_octets(a, b)
 }
 
-// The same for fewer than eight octets and for more than sixty-four.
+// The same for thirty-two octets and more, by blocks of so many.
 #[inline(never)]
-fn same_others(a: &[u8], b: &[u8]) -> bool
-    requires { length a.now ≡ length b.now }
+fn same_many(a: &[u8], b: &[u8]) -> bool
+    requires many { 32 ≤ length a.now }
+    requires length { length a.now ≡ length b.now }
     ensures { IsTrue result ↔ (a.now ≡ b.now) }
 {
-    if a.len() < 8 {
-        return same_few(a, b);
-    }
-    if a.len() < 32 {
-        return a == b;
-    }
     let last = a.len() - 32;
     let mut at = 0usize;
     'pieces: while at < last {

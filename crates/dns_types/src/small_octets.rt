@@ -121,7 +121,7 @@ impl<const N: usize> SmallOctets<N> {
     }
 
     /// A copy of the octets. Asks for memory once where they are more than `N`, and fails only for want of it.
-    #[inline]
+    #[inline(always)]
     pub fn from_slice(alloc: Global, octets: &[u8]) -> Result<SmallOctets<N>, AllocError>
         ensures { IfOk result (λ kept. kept ≡ octets.now) }
     {

@@ -1,6 +1,6 @@
 use Rattle.std.proofs.Common.{◌-◌, ◌+◌, length, arith}
 use Rattle.dns_types.proofs.Pieces.{by_last, further}
-use Rattle.dns_types.proofs.comparing.same_others.Goals as goal
+use Rattle.dns_types.proofs.comparing.same_many.Goals as goal
 
 pub returns : goal.returns
 returns c = by_last _ c.pieces.at (length c.args.a.now - 32) c.args.a.now c.args.b.now (omega arith) c.pieces.invariant.1

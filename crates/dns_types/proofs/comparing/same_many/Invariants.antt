@@ -1,5 +1,5 @@
 use Rattle.std.proofs.Common.{◌+◌, ◌-◌, ◌≡◌, ◌≤◌, take}
-use Rattle.dns_types.proofs.comparing.same_others.Given as goal
+use Rattle.dns_types.proofs.comparing.same_many.Given as goal
 
 abbrev pub invariant-pieces : goal.invariant-pieces
 invariant-pieces l = (l.at ≤ l.last + 32) × (take l.at l.a ≡ take l.at l.b)
