@@ -1,26 +1,23 @@
 -- Cursors over record data.
-use Rattle.std.proofs.Common.{◌≡◌, ℕ, ◌+◌, ◌*◌, ◌≤◌, ◌<◌, nat_le, ◌&&◌, Bool, true, false, if◌then◌else◌, Option, Some, None, List, [], ◌∷◌, ◌++◌, map, length, refl, sym, ap, ◌∙◌, arith, subst, IfSome, ◌⊎◌, inl, inr}
+use Rattle.std.proofs.Common.{◌≡◌, ℕ, ◌+◌, ◌*◌, ◌≤◌, ◌<◌, nat_le, ◌&&◌, Bool, true, false, if◌then◌else◌, Option, Some, None, List, [], ◌∷◌, map, length, refl, sym, ap, ◌∙◌, arith, subst, IfSome, ◌⊎◌, inl, inr}
 use Rattle.std.proofs.lemmas.Bool.Decides.{nat_tests}
 use Rattle.std.proofs.lemmas.List.{append-nil}
 use Rattle.std.specs.List.{flat_map, AllByRecursion, list_all}
 use Rattle.std.specs.Cmp.{first_so, second_so}
-use Rattle.std.specs.Cmp.Lexicographic.{slice_cmp}
-use Rattle.std.specs.Ordering.{nat_cmp}
-use Rattle.dns_fields.specs.Pieces.{string, options_emittable, parameters_emittable}
+use Rattle.dns_fields.specs.Pieces.{string, parameters_emittable}
 use Rattle.dns_fields.specs.Fields.{Kind, Text, Texts, Value, Values, field_octets, canonical, is_emittable, all_emittable}
 use Rattle.dns_pieces.specs.declared.step.Step.{Step}
 use Rattle.dns_pieces.specs.Steps.{is_short, AllShort, GivesStep, CountsPasses, CountsChoices}
 use Rattle.dns_rdata_base.specs.HINFO.{hinfo_shape, hinfo_fields}
 use Rattle.dns_rdata_base.specs.NAPTR.{naptr_shape, naptr_fields}
 use Rattle.dns_rdata_base.specs.TXT.{txt_shape, txt_fields}
-use Rattle.dns_rdata_options.specs.OPT.{pair_value}
 use Rattle.dns_rdata_options.specs.Steps.{pairs_emittable}
 use Rattle.dns_rdata_service.specs.Parameters.{parameter_of}
 use Rattle.dns_rdata_sets.specs.CAA.{caa_shape, caa_fields}
 use Rattle.dns_rdata.specs.declared.record_data.RData.{RData}
 use Rattle.dns_rdata.specs.declared.record_data.RData.TheVariants as rdata
 use Rattle.dns_rdata.specs.Data.{fields_of, data_octets}
-use Rattle.dns_rdata.specs.Cursor.{data_left, data_windows, data_options, data_options_left, DataAt, IsAt, left_of, windows_of, options_of, options_left_of, StepsOn, SteppedOn, NoStep, Remaining, Chooses}
+use Rattle.dns_rdata.specs.Cursor.{data_left, data_windows, data_options, data_options_left, DataAt, left_of, windows_of, options_of, options_left_of, StepsOn, Remaining, Chooses}
 
 pub with_true : (b : Bool) → b && true ≡ b
 with_true true = refl

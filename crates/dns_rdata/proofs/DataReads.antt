@@ -31,7 +31,7 @@ use Rattle.dns_rdata.specs.declared.record_data.RData.TheVariants as rdata
 use Rattle.dns_rdata.specs.Data.{Row, row, unread, rowless, row_of, kinds_of, condition_of, is_rowless, is_never, FieldsOf, shape, condition}
 use Rattle.dns_rdata.specs.Data.{IsRowless, IsValue, Fills, NoValue, TookData, RefusedData, ReadsData, type_of}
 use Rattle.dns_rdata.specs.Data.{IsNeverRead}
-use Rattle.dns_rdata.specs.Refusals.{own_refusal, OwnRefusal, IsRefusal, ReadsCounted, by_length}
+use Rattle.dns_rdata.specs.Refusals.{own_refusal, OwnRefusal, IsRefusal, by_length}
 
 -- what fills a window as fields fills it as a value
 pub data_took : {old new : Reading} (t : RecordType) (n : ℕ) (v : RData) (vs : Values (shape t)) → IsValue t vs v
@@ -243,6 +243,14 @@ mapped_length f (Err e) read len = mapped_choice f (read == len) (Err e) (Err (d
 own_mapped : {X : Type 0} (f : X → RData) (r : Result X DecodeError) (P : DecodeError → Type 0) → IfErr r P → IfErr (mapped f r) P
 own_mapped f (Ok x) P h = tt
 own_mapped f (Err e) P h = h
+
+-- what reading a type answers: what its fields gave, by how many octets they took
+pub record ReadsCounted (t : RecordType) (n : ℕ) (result : Result RData DecodeError) (old new : Reading) : Type 0 where
+  pub outcome : Result RData DecodeError
+  pub reads : ReadsData t n outcome old new
+  pub own : IfErr outcome (λ e. UnlessMemory e (OwnRefusal t n old new e))
+  pub never : IsNeverRead t → (new ≡ old) × (outcome ≡ Err (decode.UnknownRecordTypeValue (number_of t)))
+  pub counted : result ≡ by_length outcome (new.index - old.index) n
 
 mapped_counted : {X : Type 0} {n start : ℕ} {old new : Reading} {s : Result X DecodeError} (t : RecordType) (f : X → RData) (r : Result X DecodeError)
     → (IsNeverRead t → ⊥) → start ≡ old.index → s ≡ by_length r (new.index - start) n → ReadsData t n (mapped f r) old new

@@ -1,5 +1,5 @@
 -- Words of each type.
-use Rattle.std.proofs.Common.{◌≡◌, ◌≢◌, ℕ, List, [], ◌∷◌, Option, Some, None, Result, Ok, Err, inl, inr, refl, sym, subst, map, length, arith, ◌∙◌}
+use Rattle.std.proofs.Common.{◌≡◌, ◌≢◌, ℕ, List, [], ◌∷◌, Option, None, Result, Ok, Err, inl, inr, refl, sym, subst, map, length, arith, ◌∙◌}
 use Rattle.std.specs.Cow.{cow_str_bytes}
 use Rattle.std.specs.Vec.Iter.{into_iter_steps, into_iter_items, into_iter_len, into_iter_deque}
 use Rattle.std.specs.declared.vec.IntoIter.{IntoIter}
@@ -36,7 +36,7 @@ use Rattle.dns_rdata.specs.declared.record_data.RData.{RData}
 use Rattle.dns_rdata.specs.declared.record_data.RData.TheVariants as rdata
 use Rattle.dns_rdata.specs.Data.{shape, IsValue, type_of}
 use Rattle.dns_rdata.specs.Texts.{text_of}
-use Rattle.dns_rdata.specs.DataWords.{reading_of, StandIn, AreSvcbWords, svcb_words, https_words, HasNoWords, AreDataWords, TookDataWords, RefusedDataWords, ReadsDataWords, ReadsDataText, IsPrinted, PrintsBack}
+use Rattle.dns_rdata.specs.DataWords.{StandIn, AreSvcbWords, svcb_words, https_words, HasNoWords, AreDataWords, TookDataWords, RefusedDataWords, ReadsDataWords, ReadsDataText, IsPrinted, PrintsBack}
 
 -- words of a service give its fields
 own_stands : (x : SVCB) (words : List (List ℕ)) → AreSvcbWords x words → service_words.stand (svcb_fields x) words

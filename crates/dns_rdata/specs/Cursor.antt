@@ -1,8 +1,7 @@
 -- What a cursor over canonical octets still gives, and what it counts.
 use Rattle.std.specs.Prelude.{◌≡◌, ℕ, ◌+◌, ◌*◌, ◌<◌, ◌≤◌, ◌++◌, true, length, Option, Some, None, List, []}
-use Rattle.dns_fields.specs.Fields.{all_emittable}
 use Rattle.dns_pieces.specs.Runs.{Shares}
-use Rattle.dns_pieces.specs.Steps.{Left, AllShort, by_fields, GivesStep, CountsPasses, CountsChoices}
+use Rattle.dns_pieces.specs.Steps.{Left, AllShort, by_fields}
 use Rattle.dns_pieces.specs.declared.step.Step.{Step}
 use Rattle.dns_rdata_base.specs.Steps.{at_once, hinfo_begins, naptr_begins, soa_begins, texts_left}
 use Rattle.dns_rdata_options.specs.Steps.{pairs_emittable, opt_left, options_left, OptionsAt}
@@ -26,7 +25,6 @@ use Rattle.dns_rdata_certs.specs.TLSA.{tlsa_shape, tlsa_fields}
 use Rattle.dns_rdata_sets.specs.CAA.{caa_shape, caa_fields}
 use Rattle.dns_rdata.specs.declared.record_data.RData.{RData}
 use Rattle.dns_rdata.specs.declared.record_data.RData.TheVariants as rdata
-use Rattle.dns_rdata.specs.Data.{fields_of}
 
 -- what is left of a value's canonical octets at each place
 abbrev pub data_left : RData → Left

@@ -1,13 +1,11 @@
 -- Why record data is refused.
-use Rattle.std.specs.Prelude.{◌≡◌, ◌≢◌, ℕ, ◌+◌, ◌-◌, ◌==◌, ◌⊎◌, if◌then◌else◌, Result, Err, IfErr}
+use Rattle.std.specs.Prelude.{◌≡◌, ◌≢◌, ℕ, ◌+◌, ◌-◌, ◌==◌, ◌⊎◌, if◌then◌else◌, Result, Err}
 use Rattle.dns_types.specs.declared.error.DecodeError.{DecodeError}
 use Rattle.dns_types.specs.declared.error.DecodeError.TheVariants as decode
 use Rattle.dns_types.specs.declared.record_type.RecordType.{RecordType}
 use Rattle.dns_types.specs.RecordTypes.{number_of}
 use Rattle.dns_names_wire.specs.State.{Reading}
-use Rattle.dns_names_wire.specs.Words.{UnlessMemory}
-use Rattle.dns_rdata.specs.Data.{Row, row, unread, rowless, row_of, short_refusal, IsNeverRead, ReadsData}
-use Rattle.dns_rdata.specs.declared.record_data.RData.{RData}
+use Rattle.dns_rdata.specs.Data.{Row, row, unread, rowless, row_of, short_refusal, IsNeverRead}
 
 -- the refusals of the record itself, under the length n, with their cause
 abbrev pub own_refusal : RecordType → Row → ℕ → Reading → Reading → DecodeError → Type 0
@@ -33,11 +31,3 @@ abbrev pub by_length : {T : Type 0} → Result T DecodeError → ℕ → ℕ →
 by_length (Err decode.Memory) read len = Err decode.Memory
 by_length (Err (decode.UnknownRecordTypeValue number)) read len = Err (decode.UnknownRecordTypeValue number)
 by_length outcome read len = if read == len then outcome else Err (decode.IncorrectRDataLengthRead read len)
-
--- what reading a type answers: what its fields gave, by how many octets they took
-pub record ReadsCounted (t : RecordType) (n : ℕ) (result : Result RData DecodeError) (old new : Reading) : Type 0 where
-  pub outcome : Result RData DecodeError
-  pub reads : ReadsData t n outcome old new
-  pub own : IfErr outcome (λ e. UnlessMemory e (OwnRefusal t n old new e))
-  pub never : IsNeverRead t → (new ≡ old) × (outcome ≡ Err (decode.UnknownRecordTypeValue (number_of t)))
-  pub counted : result ≡ by_length outcome (new.index - old.index) n

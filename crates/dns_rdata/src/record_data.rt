@@ -4,7 +4,7 @@ ghost use Rattle.std.specs.Prelude.{◌≡◌, ◌≢◌, ◌+◌, ◌-◌, ◌<
 ghost use Rattle.dns_types.specs.RecordTypes.{number_of};
 ghost use Rattle.dns_names_wire.specs.Words.{StaysBehind, UnlessMemory, EmitsAs, Extends, Keeps, IsMessage};
 ghost use Rattle.dns_rdata.specs.Data.{IsNeverRead};
-ghost use Rattle.dns_rdata.specs.Refusals.{IsRefusal, ReadsCounted, by_length as answer_by_length};
+ghost use Rattle.dns_rdata.specs.Refusals.{IsRefusal, by_length as answer_by_length};
 
 use dns_names_wire::{
     BinDecoder, BinEncodable, BinEncoder, DecodeError, ProtoError, RecordType, Restrict,
@@ -133,15 +133,34 @@ impl RData {
         }
     }
 
-    // Reads the fields of a type, and answers by how many octets they took. Each type answers for itself: a value that
-    // goes through one place for all of them is copied there.
+    /// Reads the data of a record of this type, which is all of the `length` octets from the decoder's place.
+    ///
+    /// The type is tested first (of ANY, AXFR and IXFR no data is read), then memory, then whether the octets that were
+    /// taken are as many as the length says, and last whether the record itself refused them. After a refusal the
+    /// message is as it was, and the place is not before the one where the call began; after success it is behind the
+    /// length.
+    // Each type counts the octets of its own record and returns by itself: a value that goes through one place for all of
+    // them is copied there, and so it is where it is handed on by another function.
     #[inline(never)]
-    fn read_by_type(
+    pub fn read(
         decoder: &mut BinDecoder<'_>,
         record_type: RecordType,
         length: Restrict<u16>,
     ) -> Result<RData, DecodeError>
-        ensures { ReadsCounted record_type length result decoder.old decoder.new }
+        // What is read fills the length in the grammar of the type.
+        ensures found { IfOk result (λ v. Fills decoder.old.message decoder.old.index length record_type v) }
+        ensures after { OnOk result (decoder.new.index ≡ decoder.old.index + length) }
+        ensures kind { IfOk result (λ v. type_of v ≡ record_type) }
+        // What is refused, but for memory, no value fills.
+        ensures refused { IfErr result (λ e. UnlessMemory e (NoValue decoder.old.message decoder.old.index length record_type)) }
+        ensures why { IfErr result (IsRefusal record_type length decoder.old decoder.new) }
+        ensures never { IsNeverRead record_type → (decoder.new ≡ decoder.old)
+            × (result ≡ Err (DecodeError.UnknownRecordTypeValue (number_of record_type))) }
+        ensures behind { StaysBehind decoder.old decoder.new }
+        // The canonical octets of what is read are read again as an equal value.
+        ensures canonical { IfOk result (ReadsCanonical record_type) }
+        // What is read can be emitted: it is refused for memory or for buffer space alone.
+        ensures emittable { IfOk result IsEmittable }
     {
         let start = decoder.index();
         match record_type {
@@ -247,36 +266,6 @@ impl RData {
                 return Ok(RData::Unknown { code, rdata });
             }
         }
-    }
-
-    /// Reads the data of a record of this type, which is all of the `length` octets from the decoder's place.
-    ///
-    /// The type is tested first (of ANY, AXFR and IXFR no data is read), then memory, then whether the octets that were
-    /// taken are as many as the length says, and last whether the record itself refused them. After a refusal the
-    /// message is as it was, and the place is not before the one where the call began; after success it is behind the
-    /// length.
-    #[inline]
-    pub fn read(
-        decoder: &mut BinDecoder<'_>,
-        record_type: RecordType,
-        length: Restrict<u16>,
-    ) -> Result<RData, DecodeError>
-        // What is read fills the length in the grammar of the type.
-        ensures found { IfOk result (λ v. Fills decoder.old.message decoder.old.index length record_type v) }
-        ensures after { OnOk result (decoder.new.index ≡ decoder.old.index + length) }
-        ensures kind { IfOk result (λ v. type_of v ≡ record_type) }
-        // What is refused, but for memory, no value fills.
-        ensures refused { IfErr result (λ e. UnlessMemory e (NoValue decoder.old.message decoder.old.index length record_type)) }
-        ensures why { IfErr result (IsRefusal record_type length decoder.old decoder.new) }
-        ensures never { IsNeverRead record_type → (decoder.new ≡ decoder.old)
-            × (result ≡ Err (DecodeError.UnknownRecordTypeValue (number_of record_type))) }
-        ensures behind { StaysBehind decoder.old decoder.new }
-        // The canonical octets of what is read are read again as an equal value.
-        ensures canonical { IfOk result (ReadsCanonical record_type) }
-        // What is read can be emitted: it is refused for memory or for buffer space alone.
-        ensures emittable { IfOk result IsEmittable }
-    {
-        RData::read_by_type(decoder, record_type, length)
     }
 }
 

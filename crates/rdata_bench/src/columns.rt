@@ -118,7 +118,9 @@ fn is_used(value: &RData, other: &RData, compares: bool) -> bool {
 fn reads(alloc: Global, row: &Row, passes: u64) -> Result<()> {
     for _ in 0..passes {
         for other in &row.others {
-            let value = row.read(alloc)?;
+            let mut decoder = BinDecoder::new(alloc, row.message.as_slice());
+            let _before = decoder.read_slice(row.place)?;
+            let value = RData::read(&mut decoder, row.record_type, Restrict::new(row.length))?;
             anyhow::ensure!(is_used(&value, other, row.compares), "read otherwise");
         }
     }
