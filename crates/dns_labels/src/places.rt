@@ -310,6 +310,23 @@ impl Places {
         Ok(())
     }
 
+    /// Notes where the labels of a name begin that was written whole from a place on, unless it stands at an earlier place
+    /// that was noted: so do its tails, and the least place serves.
+    pub(crate) fn note_whole(
+        &mut self,
+        message: &[u8],
+        start: usize,
+        name: &[u8],
+        hash: u64,
+    ) -> Result<(), AllocError>
+        requires { AreNameOctets name.now }
+    {
+        if self.find(message, name, short_hash(hash)).is_some() {
+            return Ok(());
+        }
+        self.note(start, name, name.len(), hash)
+    }
+
     /// Adds a place behind the others.
     fn push(&mut self, place: u16, hash: u32) -> Result<(), AllocError> {
         let count = self.entries.len();

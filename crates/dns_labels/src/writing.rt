@@ -93,7 +93,10 @@ pub fn write_name(
         return Err(WriteError::Buffer);
     }
     out.reserve(len)?;
-    places.note(start, name, cut.written, hash)?;
+    match mode {
+        RDataEncoding::StandardRecord => places.note(start, name, cut.written, hash)?,
+        _ => places.note_whole(out.as_slice(), start, name, hash)?,
+    }
     append_front(out, front)?;
     match cut.target {
         None => out.extend_from_slice(&[0])?,
