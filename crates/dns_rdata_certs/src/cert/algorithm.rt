@@ -174,13 +174,10 @@ impl PartialEq for Algorithm {
 
     #[inline]
     fn eq(&self, other: &Algorithm) -> bool {
-        if self.variant() != other.variant() {
-            return false;
-        }
         match (*self, *other) {
             (Algorithm::Reserved(a), Algorithm::Reserved(b)) => a == b,
             (Algorithm::Unassigned(a), Algorithm::Unassigned(b)) => a == b,
-            _ => true,
+            _ => self.variant() == other.variant(),
         }
     }
 }

@@ -95,12 +95,9 @@ impl PartialEq for CertUsage {
 
     #[inline]
     fn eq(&self, other: &CertUsage) -> bool {
-        if self.variant() != other.variant() {
-            return false;
-        }
         match (*self, *other) {
             (CertUsage::Unassigned(a), CertUsage::Unassigned(b)) => a == b,
-            _ => true,
+            _ => self.variant() == other.variant(),
         }
     }
 }

@@ -90,12 +90,9 @@ impl PartialEq for Matching {
 
     #[inline]
     fn eq(&self, other: &Matching) -> bool {
-        if self.variant() != other.variant() {
-            return false;
-        }
         match (*self, *other) {
             (Matching::Unassigned(a), Matching::Unassigned(b)) => a == b,
-            _ => true,
+            _ => self.variant() == other.variant(),
         }
     }
 }

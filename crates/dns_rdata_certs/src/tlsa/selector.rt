@@ -86,12 +86,9 @@ impl PartialEq for Selector {
 
     #[inline]
     fn eq(&self, other: &Selector) -> bool {
-        if self.variant() != other.variant() {
-            return false;
-        }
         match (*self, *other) {
             (Selector::Unassigned(a), Selector::Unassigned(b)) => a == b,
-            _ => true,
+            _ => self.variant() == other.variant(),
         }
     }
 }

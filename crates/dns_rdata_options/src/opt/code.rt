@@ -127,12 +127,9 @@ impl PartialEq for EdnsCode {
 
     #[inline]
     fn eq(&self, other: &EdnsCode) -> bool {
-        if self.variant() != other.variant() {
-            return false;
-        }
         match (*self, *other) {
             (EdnsCode::Unknown(a), EdnsCode::Unknown(b)) => a == b,
-            _ => true,
+            _ => self.variant() == other.variant(),
         }
     }
 }
