@@ -1,20 +1,16 @@
 -- Octets that stand whole, an octet 0 behind them.
-use Rattle.std.proofs.Common.{◌≡◌, ℕ, suc, false, not, ◌+◌, ◌<◌, List, ◌∷◌, ◌++◌, length, take, drop, get_or, refl, sym, ◌∙◌, ap}
+use Rattle.std.proofs.Common.{◌≡◌, ℕ, suc, ◌+◌, ◌<◌, List, ◌∷◌, ◌++◌, length, take, drop, get_or, refl, sym, ◌∙◌, ap}
 use Rattle.std.proofs.lemmas.List.{take-append-drop, drop-drop}
 use Rattle.std.proofs.Math.Seq.{drop-cons}
-use Rattle.std.proofs.lemmas.Slice.Eq.{bytes_eq-Decides}
-use Rattle.std.specs.Str.{bytes_eq}
 use Rattle.dns_fields.specs.Labels.{AreLabels, wire}
 use Rattle.dns_fields.specs.Names.LabelsStand.{whole}
 use Rattle.dns_labels.specs.Emission.{StandsFor}
-use Rattle.dns_labels.proofs.WritingSteps.{not_false}
 
 pub tail_whole : (message : List ℕ) (place : ℕ) (octets a : List ℕ) (labels : List (List ℕ)) → AreLabels labels → octets ≡ wire labels
-    → place + length octets < length message → a ≡ take (length octets) (drop place message) → false ≡ not (bytes_eq a octets)
+    → place + length octets < length message → a ≡ take (length octets) (drop place message) → a ≡ octets
     → get_or message (place + length octets) 0 ≡ 0 → StandsFor message place octets
-tail_whole message place octets a labels are is room a_is eq zero =
+tail_whole message place octets a labels are is room a_is same zero =
     let n = length octets in
-    let same : a ≡ octets = (bytes_eq-Decides a octets).0 (not_false (bytes_eq a octets) eq) in
     let rest : drop (place + n) message ≡ 0 ∷ drop (suc (place + n)) message = drop-cons message (place + n) 0 room
     ∙ ap (λ (x : ℕ). x ∷ drop (suc (place + n)) message) zero in
     let parts : drop place message ≡ octets ++ drop (place + n) message =

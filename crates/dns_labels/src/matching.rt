@@ -6,6 +6,8 @@ ghost use Rattle.dns_labels.specs.Reading.{AddsRun};
 ghost use Rattle.dns_fields.specs.Labels.{AreLabels, wire};
 ghost use Rattle.dns_labels.specs.Emission.{StandsFor};
 
+use dns_types::comparing::same_octets;
+
 /// How many of the octets stand as labels in the message, up to an octet 0 or a pointer, and the pointer's
 /// place.
 fn match_run(message: &[u8], place: usize, octets: &[u8]) -> Option<(usize, Option<usize>)>
@@ -56,7 +58,7 @@ pub(crate) fn stands_whole(message: &[u8], place: usize, octets: &[u8]) -> bool
     if message[place + len] != 0 {
         return false;
     }
-    if &message[place..place + len] != octets {
+    if !same_octets(&message[place..place + len], octets) {
         return false;
     }
     true

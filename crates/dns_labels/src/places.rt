@@ -220,6 +220,7 @@ impl Places {
     }
 
     /// The least place at which the octets stand as a name, of those that are looked at.
+    #[inline]
     fn find(&self, message: &[u8], octets: &[u8], hash: u32) -> Option<usize>
         requires short { length octets.now ≤ 254 }
         requires labels { (labels : List (List ℕ)) × AreLabels labels × (octets.now ≡ wire labels) }
@@ -244,6 +245,7 @@ impl Places {
     }
 
     /// Where the longest tail of a name begins that stands in the message already, and its place.
+    #[inline]
     pub(crate) fn longest_tail(
         &self,
         message: &[u8],
@@ -253,17 +255,32 @@ impl Places {
         requires { AreNameOctets octets.now }
         ensures { IsNameCut message.now octets.now result.0 result.1 }
     {
+        // most often all of it stands already, or nothing
+        if self.entries.len() > 0 && octets.len() > 0 {
+            if let Some(target) = self.find(message, octets, short_hash(hash)) {
+                return (0, Some(target));
+            }
+            return self.shorter_tail(message, octets, hash);
+        }
+        (octets.len(), None)
+    }
+
+    // The same of the tails behind the first label.
+    #[inline(never)]
+    fn shorter_tail(&self, message: &[u8], octets: &[u8], hash: u64) -> (usize, Option<usize>)
+        requires { AreNameOctets octets.now }
+        ensures { IsNameCut message.now octets.now result.0 result.1 }
+    {
         let mut hash = hash;
         let mut cut = 0usize;
-        let some = self.entries.len() > 0;
         'labels: while cut < octets.len() {
-            let count = octets[cut] as usize + 1;
-            if some {
+            if cut > 0 {
                 if let Some(target) = self.find(message, &octets[cut..], short_hash(hash)) {
                     return (cut, Some(target));
                 }
-                hash = hash.wrapping_sub(label_hash(octets, cut, cut + count));
             }
+            let count = octets[cut] as usize + 1;
+            hash = hash.wrapping_sub(label_hash(octets, cut, cut + count));
             cut += count;
         }
         (cut, None)
@@ -291,6 +308,23 @@ impl Places {
             at = end;
         }
         Ok(())
+    }
+
+    /// Notes where the labels of a name begin that was written whole from a place on, unless it stands at an earlier place
+    /// that was noted: so do its tails, and the least place serves.
+    pub(crate) fn note_whole(
+        &mut self,
+        message: &[u8],
+        start: usize,
+        name: &[u8],
+        hash: u64,
+    ) -> Result<(), AllocError>
+        requires { AreNameOctets name.now }
+    {
+        if self.find(message, name, short_hash(hash)).is_some() {
+            return Ok(());
+        }
+        self.note(start, name, name.len(), hash)
     }
 
     /// Adds a place behind the others.

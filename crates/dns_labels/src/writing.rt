@@ -1,6 +1,7 @@
 //! Names written behind other octets, with a pointer in place of a tail that stands there already.
 
-ghost use Rattle.std.specs.Prelude.{◌≡◌, ◌≢◌, ℕ, ◌+◌, ◌<◌, ◌≤◌, Bool, None, Err, length, OnOk, OnErr};
+ghost use Rattle.std.specs.Prelude.{◌≡◌, ◌≢◌, ℕ, ◌+◌, ◌++◌, ◌<◌, ◌≤◌, Bool, None, Err, length, OnOk, OnErr};
+ghost use Rattle.std.specs.Vec.{vec_capacity, vec_len};
 ghost use Rattle.dns_fields.specs.Names.{NameWrote};
 ghost use Rattle.dns_labels.specs.Labels.{AreNameOctets, name_of};
 ghost use Rattle.dns_labels.specs.Reading.{stop_octets};
@@ -9,6 +10,7 @@ ghost use Rattle.dns_labels.specs.Emission.{IsNameCut};
 use crate::error::WriteError;
 use crate::places::{Places, name_hash};
 use dns_fields::RDataEncoding;
+use std::alloc::AllocError;
 
 /// What is written of a name's octets, and where the rest stands already.
 #[derive(Clone, Copy)]
@@ -45,6 +47,22 @@ fn stop_len(target: Option<usize>) -> usize
     }
 }
 
+/// Appends octets that most often are none, since all of a name stands already.
+#[inline]
+fn append_front(out: &mut Vec<u8>, front: &[u8]) -> Result<(), AllocError>
+    ensures items { OnOk result (out.new.items ≡ out.old.items ++ front.now) }
+    ensures err { OnErr result (out.new.items ≡ out.old.items) }
+    ensures len { OnOk result (vec_len out.new ≡ vec_len out.old + length front.now) }
+    ensures capacity { vec_capacity out.old ≤ vec_capacity out.new }
+    ensures full { OnErr result (vec_capacity out.old < vec_len out.old + length front.now) }
+{
+    if front.len() == 0 {
+        return Ok(());
+    }
+    out.extend_from_slice(front)?;
+    Ok(())
+}
+
 /// Writes a name's octets behind others, and notes where.
 ///
 /// It is written as labels, each a length octet and its octets, and a 0 (RFC 1035, 3.1). In the mode
@@ -75,8 +93,11 @@ pub fn write_name(
         return Err(WriteError::Buffer);
     }
     out.reserve(len)?;
-    places.note(start, name, cut.written, hash)?;
-    out.extend_from_slice(front)?;
+    match mode {
+        RDataEncoding::StandardRecord => places.note(start, name, cut.written, hash)?,
+        _ => places.note_whole(out.as_slice(), start, name, hash)?,
+    }
+    append_front(out, front)?;
     match cut.target {
         None => out.extend_from_slice(&[0])?,
         Some(place) => { out.extend_from_slice(&[(192 + place / 256) as u8, (place % 256) as u8])? }

@@ -174,10 +174,13 @@ impl PartialEq for Algorithm {
 
     #[inline]
     fn eq(&self, other: &Algorithm) -> bool {
+        if self.variant() != other.variant() {
+            return false;
+        }
         match (*self, *other) {
             (Algorithm::Reserved(a), Algorithm::Reserved(b)) => a == b,
             (Algorithm::Unassigned(a), Algorithm::Unassigned(b)) => a == b,
-            _ => self.variant() == other.variant(),
+            _ => true,
         }
     }
 }

@@ -143,10 +143,13 @@ impl PartialEq for CertType {
 
     #[inline]
     fn eq(&self, other: &CertType) -> bool {
+        if self.variant() != other.variant() {
+            return false;
+        }
         match (*self, *other) {
             (CertType::Unassigned(a), CertType::Unassigned(b)) => a == b,
             (CertType::Experimental(a), CertType::Experimental(b)) => a == b,
-            _ => self.variant() == other.variant(),
+            _ => true,
         }
     }
 }

@@ -100,9 +100,12 @@ impl PartialEq for Algorithm {
 
     #[inline]
     fn eq(&self, other: &Algorithm) -> bool {
+        if self.variant() != other.variant() {
+            return false;
+        }
         match (*self, *other) {
             (Algorithm::Unassigned(a), Algorithm::Unassigned(b)) => a == b,
-            _ => self.variant() == other.variant(),
+            _ => true,
         }
     }
 }

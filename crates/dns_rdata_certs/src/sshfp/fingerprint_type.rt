@@ -85,9 +85,12 @@ impl PartialEq for FingerprintType {
 
     #[inline]
     fn eq(&self, other: &FingerprintType) -> bool {
+        if self.variant() != other.variant() {
+            return false;
+        }
         match (*self, *other) {
             (FingerprintType::Unassigned(a), FingerprintType::Unassigned(b)) => a == b,
-            _ => self.variant() == other.variant(),
+            _ => true,
         }
     }
 }

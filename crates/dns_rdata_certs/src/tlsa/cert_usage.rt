@@ -95,9 +95,12 @@ impl PartialEq for CertUsage {
 
     #[inline]
     fn eq(&self, other: &CertUsage) -> bool {
+        if self.variant() != other.variant() {
+            return false;
+        }
         match (*self, *other) {
             (CertUsage::Unassigned(a), CertUsage::Unassigned(b)) => a == b,
-            _ => self.variant() == other.variant(),
+            _ => true,
         }
     }
 }

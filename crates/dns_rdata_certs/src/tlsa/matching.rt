@@ -90,9 +90,12 @@ impl PartialEq for Matching {
 
     #[inline]
     fn eq(&self, other: &Matching) -> bool {
+        if self.variant() != other.variant() {
+            return false;
+        }
         match (*self, *other) {
             (Matching::Unassigned(a), Matching::Unassigned(b)) => a == b,
-            _ => self.variant() == other.variant(),
+            _ => true,
         }
     }
 }

@@ -86,9 +86,12 @@ impl PartialEq for Selector {
 
     #[inline]
     fn eq(&self, other: &Selector) -> bool {
+        if self.variant() != other.variant() {
+            return false;
+        }
         match (*self, *other) {
             (Selector::Unassigned(a), Selector::Unassigned(b)) => a == b,
-            _ => self.variant() == other.variant(),
+            _ => true,
         }
     }
 }

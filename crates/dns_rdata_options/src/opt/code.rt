@@ -127,9 +127,12 @@ impl PartialEq for EdnsCode {
 
     #[inline]
     fn eq(&self, other: &EdnsCode) -> bool {
+        if self.variant() != other.variant() {
+            return false;
+        }
         match (*self, *other) {
             (EdnsCode::Unknown(a), EdnsCode::Unknown(b)) => a == b,
-            _ => self.variant() == other.variant(),
+            _ => true,
         }
     }
 }

@@ -119,10 +119,13 @@ impl PartialEq for SvcParamKey {
 
     #[inline]
     fn eq(&self, other: &SvcParamKey) -> bool {
+        if self.variant() != other.variant() {
+            return false;
+        }
         match (*self, *other) {
             (SvcParamKey::Key(a), SvcParamKey::Key(b)) => a == b,
             (SvcParamKey::Unknown(a), SvcParamKey::Unknown(b)) => a == b,
-            _ => self.variant() == other.variant(),
+            _ => true,
         }
     }
 }

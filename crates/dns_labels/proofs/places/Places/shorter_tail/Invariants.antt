@@ -1,6 +1,6 @@
 use Rattle.std.proofs.Common.{length, ◌-◌}
 use Rattle.dns_labels.proofs.CutSteps.{CutAt}
-use Rattle.dns_labels.proofs.places.Places.longest_tail.Given as goal
+use Rattle.dns_labels.proofs.places.Places.shorter_tail.Given as goal
 
 abbrev pub invariant-labels : goal.invariant-labels
 invariant-labels l = CutAt l.octets l.cut
