@@ -114,17 +114,44 @@ fn label_hash(name: &[u8], start: usize, end: usize) -> u64
 }
 
 /// The part of a hash that whole eights have, counted from the name's end.
+// The first two stand before the loop, since most names and labels have no more, and a loop is begun with tests of its own.
 #[inline]
 fn eights_hash(name: &[u8], first: usize, last: usize) -> u64
     requires { last ≤ length name.now / 8 }
 {
+    if first >= last {
+        return 0;
+    }
+    let hash = eight_hash(name, first);
+    if last - first == 1 {
+        return hash;
+    }
+    let hash = hash.wrapping_add(eight_hash(name, first + 1));
+    if last - first == 2 {
+        return hash;
+    }
+    hash.wrapping_add(more_eights_hash(name, first + 2, last))
+}
+
+/// The same of more of them.
+#[inline(never)]
+fn more_eights_hash(name: &[u8], first: usize, last: usize) -> u64
+    requires { last ≤ length name.now / 8 }
+{
     let mut hash = 0u64;
     for count in first..last {
-        let at = name.len() - 8 * count - 8;
-        let weight = WEIGHTS[count % 64];
-        hash = hash.wrapping_add(weight.wrapping_mul(word_of(&name[at..at + 8])));
+        hash = hash.wrapping_add(eight_hash(name, count));
     }
     hash
+}
+
+/// The part of one whole eight, so many of them before the name's end.
+#[inline]
+fn eight_hash(name: &[u8], count: usize) -> u64
+    requires { count < length name.now / 8 }
+{
+    let at = name.len() - 8 * count - 8;
+    WEIGHTS[count % 64].wrapping_mul(word_of(&name[at..at + 8]))
 }
 
 /// The part of a hash that the octets from a place on have which are no whole eight.
@@ -199,6 +226,8 @@ pub struct Places {
     entries: SmallVec<Entry, 8>,
     // none while the entries are few
     buckets: Vec<Bucket>,
+    // the place of the name that was noted or found last, which the next one often is; at first none
+    recent: usize,
 }
 
 impl Places {
@@ -207,7 +236,22 @@ impl Places {
         Places {
             entries: SmallVec::new(alloc),
             buckets: Vec::new(alloc),
+            recent: PLACES,
         }
+    }
+
+    /// The place of the name that was noted or found last, where the octets stand there, too.
+    #[inline]
+    pub(crate) fn stands_recently(&self, message: &[u8], octets: &[u8]) -> Option<usize>
+        requires labels { (labels : List (List ℕ)) × AreLabels labels × (octets.now ≡ wire labels) }
+        ensures place { IfSome result (λ q. (q < 16384) × StandsFor message.now q octets.now) }
+        ensures some { IfSome result (λ _. 0 < length octets.now) }
+    {
+        let place = self.recent;
+        if place < PLACES && octets.len() > 0 && stands_whole(message, place, octets) {
+            return Some(place);
+        }
+        None
     }
 
     /// The entry that a search for this hash begins with.
@@ -247,7 +291,7 @@ impl Places {
     /// Where the longest tail of a name begins that stands in the message already, and its place.
     #[inline]
     pub(crate) fn longest_tail(
-        &self,
+        &mut self,
         message: &[u8],
         octets: &[u8],
         hash: u64,
@@ -258,6 +302,7 @@ impl Places {
         // most often all of it stands already, or nothing
         if self.entries.len() > 0 && octets.len() > 0 {
             if let Some(target) = self.find(message, octets, short_hash(hash)) {
+                self.recent = target;
                 return (0, Some(target));
             }
             return self.shorter_tail(message, octets, hash);
@@ -296,6 +341,9 @@ impl Places {
     ) -> Result<(), AllocError>
         requires { written ≤ length name.now }
     {
+        if written > 0 {
+            self.recent = start;
+        }
         let mut hash = hash;
         let mut at = 0usize;
         'labels: while at < written {
@@ -310,21 +358,20 @@ impl Places {
         Ok(())
     }
 
-    /// Notes where the labels of a name begin that was written whole from a place on, unless it stands at an earlier place
-    /// that was noted: so do its tails, and the least place serves.
-    pub(crate) fn note_whole(
-        &mut self,
-        message: &[u8],
-        start: usize,
-        name: &[u8],
-        hash: u64,
-    ) -> Result<(), AllocError>
+    /// The hash by which a name that is written whole is noted: none where it stands at an earlier place that was noted,
+    /// since its tails do, too, and the least place serves.
+    pub(crate) fn hash_to_note(&mut self, message: &[u8], name: &[u8]) -> Option<u64>
         requires { AreNameOctets name.now }
     {
-        if self.find(message, name, short_hash(hash)).is_some() {
-            return Ok(());
+        if self.stands_recently(message, name).is_some() {
+            return None;
         }
-        self.note(start, name, name.len(), hash)
+        let hash = name_hash(name);
+        if let Some(place) = self.find(message, name, short_hash(hash)) {
+            self.recent = place;
+            return None;
+        }
+        Some(hash)
     }
 
     /// Adds a place behind the others.

@@ -12,28 +12,46 @@ use crate::places::{Places, name_hash};
 use dns_fields::RDataEncoding;
 use std::alloc::AllocError;
 
-/// What is written of a name's octets, and where the rest stands already.
+/// What is written of a name's octets, where the rest stands already, and the name's hash, unless there is nothing to note.
 #[derive(Clone, Copy)]
 struct Cut {
     written: usize,
     target: Option<usize>,
+    hash: Option<u64>,
 }
 
 /// Where a name is cut: only `StandardRecord` leaves a tail out.
-fn cut_for(places: &Places, mode: RDataEncoding, message: &[u8], name: &[u8], hash: u64) -> Cut
+#[inline]
+fn cut_for(places: &mut Places, mode: RDataEncoding, message: &[u8], name: &[u8]) -> Cut
     requires { AreNameOctets name.now }
     ensures cut { IsNameCut message.now name.now result.written result.target }
     ensures whole { mode ≢ RDataEncoding.StandardRecord → (result.written ≡ length name.now) × (result.target ≡ None) }
 {
     match mode {
         RDataEncoding::StandardRecord => {
+            if let Some(place) = places.stands_recently(message, name) {
+                return Cut {
+                    written: 0,
+                    target: Some(place),
+                    hash: None,
+                };
+            }
+            let hash = name_hash(name);
             let (written, target) = places.longest_tail(message, name, hash);
-            Cut { written, target }
+            Cut {
+                written,
+                target,
+                hash: Some(hash),
+            }
         }
-        RDataEncoding::Canonical | RDataEncoding::Other => Cut {
-            written: name.len(),
-            target: None,
-        },
+        RDataEncoding::Canonical | RDataEncoding::Other => {
+            let hash = places.hash_to_note(message, name);
+            Cut {
+                written: name.len(),
+                target: None,
+                hash,
+            }
+        }
     }
 }
 
@@ -85,17 +103,15 @@ pub fn write_name(
     ensures full { result ≡ Err WriteError.Buffer → limit < length out.old.items + (length name.now + 1) }
 {
     let start = out.len();
-    let hash = name_hash(name);
-    let cut = cut_for(places, mode, out.as_slice(), name, hash);
+    let cut = cut_for(places, mode, out.as_slice(), name);
     let front = &name[..cut.written];
     let len = front.len() + stop_len(cut.target);
     if start > limit || limit - start < len {
         return Err(WriteError::Buffer);
     }
     out.reserve(len)?;
-    match mode {
-        RDataEncoding::StandardRecord => places.note(start, name, cut.written, hash)?,
-        _ => places.note_whole(out.as_slice(), start, name, hash)?,
+    if let Some(hash) = cut.hash {
+        places.note(start, name, cut.written, hash)?;
     }
     append_front(out, front)?;
     match cut.target {

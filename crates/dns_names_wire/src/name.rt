@@ -227,6 +227,7 @@ impl Clone for Name {
     ghost is_clone = { λ a b. b ≡ a };
 
     /// The same name, its letters kept, in memory that is asked for once.
+    #[inline]
     fn clone(&self) -> Result<Name, AllocError> {
         Ok(Name {
             octets: self.octets.clone()?,

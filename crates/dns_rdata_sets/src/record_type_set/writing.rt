@@ -66,15 +66,12 @@ pub(super) fn as_octets(octets: &[u8]) -> &[u8]
 }
 
 // Appends a block of these parts.
-#[tactic(auto, using(dns_names_wire::proofs::FieldWrites::writing))]
+#[inline]
 fn emit_parts(encoder: &mut BinEncoder<'_>, number: u8, octets: &[u8]) -> Result<(), ProtoError>
     requires { length octets.now ≤ 32 }
     ensures { Emits block_shape (block_fields (number, octets.now)) result encoder.old encoder.new }
 {
-    encoder.emit_u8(number)?;
-    encoder.emit_u8(octets.len() as u8)?;
-    encoder.emit_vec(octets)?;
-    Ok(())
+    encoder.emit_both(&[number, octets.len() as u8], octets)
 }
 
 // Makes of 32 octets those of a window whose types these are, zeros at the end too.

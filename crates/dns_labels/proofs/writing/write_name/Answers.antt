@@ -23,10 +23,10 @@ returns-in_ok-extend_from_slice-in-None-clause-ok c =
     (c.in_ok-append_front.ensures.items ∙ ap (λ (x : List ℕ). x ++ take cut c.args.name.now) c.reserve.ensures.items) c.in-None.is
     c.in_ok-extend_from_slice-in-None.ensures.items
 
-pub returns-in_ok-extend_from_slice-in-Some-clause-ok : goal.returns-in_ok-extend_from_slice-in-Some-clause-ok
-returns-in_ok-extend_from_slice-in-Some-clause-ok c =
+pub returns-in_ok-extend_from_slice-in-Some-target-clause-ok : goal.returns-in_ok-extend_from_slice-in-Some-target-clause-ok
+returns-in_ok-extend_from_slice-in-Some-target-clause-ok c =
     let cut = c.cut_for-cut.result.written in
-    cut_wrote c.args.mode c.as_slice.result.now c.args.out.now.items c.append_front.new.out.items c.extend_from_slice-in-Some.new.self.items
+    cut_wrote c.args.mode c.as_slice.result.now c.args.out.now.items c.append_front.new.out.items c.extend_from_slice-in-Some-target.new.self.items
     c.args.name.now cut c.cut_for-cut.result.target _ c.as_slice.ensures.value c.requires c.cut_for-cut.ensures.cut c.cut_for-cut.ensures.whole
-    (c.in_ok-append_front.ensures.items ∙ ap (λ (x : List ℕ). x ++ take cut c.args.name.now) c.reserve.ensures.items) c.in-Some.is
-    c.in_ok-extend_from_slice-in-Some.ensures.items
+    (c.in_ok-append_front.ensures.items ∙ ap (λ (x : List ℕ). x ++ take cut c.args.name.now) c.reserve.ensures.items) c.in-Some-target.is
+    c.in_ok-extend_from_slice-in-Some-target.ensures.items

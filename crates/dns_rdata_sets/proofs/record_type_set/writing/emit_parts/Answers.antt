@@ -1,13 +1,13 @@
-use Rattle.std.proofs.lemmas.Result.{err_from_is_err_and}
-use Rattle.dns_names_wire.proofs.FieldWrites.{stopped_then, stopped_first}
+use Rattle.std.proofs.Common.{sym, arith}
+use Rattle.std.proofs.lemmas.List.{append-nil}
+use Rattle.dns_fields.specs.Fields.{field_octets}
+use Rattle.dns_names_wire.proofs.PlainWrites.{emits_plain, octet_then}
+use Rattle.dns_rdata_sets.specs.RecordTypeSet.{block_shape, block_fields}
 use Rattle.dns_rdata_sets.proofs.record_type_set.writing.emit_parts.Goals as goal
 
-pub returns-in_err-emit_u8-2 : goal.returns-in_err-emit_u8-2
-returns-in_err-emit_u8-2 c =
-    let p = err_from_is_err_and c.from_residual-in_err-emit_u8-2.result c.from_residual-in_err-emit_u8-2.ensures.1 in
-    rw (p.1, p.2) (stopped_then c.in_ok-emit_u8.ensures.emits (stopped_first c.in_err-emit_u8-2.ensures.emits))
-
-pub returns-in_err-emit_vec : goal.returns-in_err-emit_vec
-returns-in_err-emit_vec c =
-    let p = err_from_is_err_and c.from_residual-in_err-emit_vec.result c.from_residual-in_err-emit_vec.ensures.1 in
-    rw (p.1, p.2) (stopped_then c.in_ok-emit_u8.ensures.emits (stopped_then c.in_ok-emit_u8-2.ensures.emits (stopped_first c.in_err-emit_vec.ensures.emits)))
+pub returns : goal.returns
+unfolding field_octets
+returns c =
+    let octets = c.args.octets.now in
+    emits_plain block_shape (block_fields (c.args.number, octets)) _ _ _ _ tt (omega arith, (omega arith, (tt, tt)))
+    (octet_then _ _ _ (omega arith) (octet_then _ _ _ (omega arith) (sym (append-nil octets)))) c.emit_both.ensures.emits
