@@ -313,6 +313,26 @@ fn points_to_the_least_place(rt: HostRuntime) -> Result<(), Fail> {
     Ok(())
 }
 
+// The same name again, others between, and written whole.
+#[test]
+fn points_to_the_name_before(rt: HostRuntime) -> Result<(), Fail> {
+    let alloc = rt.alloc();
+    let mut places = Places::new(alloc);
+    let mut out = Vec::new(alloc);
+    let mode = RDataEncoding::StandardRecord;
+    for text in [b"a.b.".as_slice(), b"a.b.", b"c.", b"a.b.", b"c.", b"a.b."] {
+        written(alloc, &mut places, &mut out, mode, text)?;
+    }
+    for mode in [RDataEncoding::Canonical, RDataEncoding::StandardRecord] {
+        written(alloc, &mut places, &mut out, mode, b"a.b.")?;
+    }
+    assert_eq!(rt;
+        out.as_slice(),
+        b"\x01a\x01b\x00\xc0\x00\x01c\x00\xc0\x00\xc0\x07\xc0\x00\x01a\x01b\x00\xc0\x00".as_slice()
+    );
+    Ok(())
+}
+
 #[test]
 fn finds_each_of_many_names(rt: HostRuntime) -> Result<(), Fail> {
     let alloc = rt.alloc();
