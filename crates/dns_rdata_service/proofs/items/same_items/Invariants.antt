@@ -1,4 +1,4 @@
-use Rattle.std.proofs.Common.{◌-◌, ◌×◌, ◌≡◌, ◌≤◌, length, drop}
+use Rattle.std.proofs.Common.{◌-◌, ◌≡◌, ◌≤◌, length, drop}
 use Rattle.std.specs.Cmp.Lexicographic.{pointwise}
 use Rattle.dns_rdata_service.proofs.items.same_items.Given as goal
 
