@@ -11,7 +11,7 @@ ghost use Rattle.dns_labels.specs.Labels.{AreNameOctets, name_of};
 use dns_fields::RDataEncoding;
 use dns_labels::writing::write_name;
 use dns_labels::{Places, WriteError};
-use dns_types::{ProtoError, SmallOctets};
+use dns_types::ProtoError;
 use std::alloc::Global;
 use std::marker::Model;
 
@@ -150,27 +150,6 @@ impl<'a> BinEncoder<'a> {
         append_both(self.octets, front, rest)
     }
 
-    /// Appends octets and others behind them that a value owns, under one test of the room: both, or nothing. As
-    /// `emit_both`, but those that stand in the value are copied sooner.
-    #[inline(always)]
-    #[tactic(auto, unfolding(dns_fields::specs::Fields::field_octets))]
-    pub fn emit_small<const N: usize>(
-        &mut self,
-        front: &[u8],
-        rest: &SmallOctets<N>,
-    ) -> Result<(), ProtoError>
-        ensures emits { EmitsField Rest (front.now ++ rest.now) result self.old self.new }
-        ensures room { OnOk result (length self.old.octets + (length front.now + length rest.now) ≤ self.old.limit) }
-        ensures whole { OnErr result (self.new ≡ self.old) }
-    {
-        let octets = rest.as_slice();
-        let len = front.len() + octets.len();
-        if self.octets.len() > self.limit || self.limit - self.octets.len() < len {
-            return Err(ProtoError::MaxBufferSizeExceeded);
-        }
-        append_small(self.octets, front, rest)
-    }
-
     /// Appends one octet.
     #[inline]
     pub fn emit(&mut self, octet: u8) -> Result<(), ProtoError>
@@ -245,28 +224,6 @@ impl<'a> BinEncoder<'a> {
         append_both(self.octets, &[octets.len() as u8], octets)
     }
 
-    /// Appends a character string of octets that a value owns. As `emit_character_data`, but those that stand in the value
-    /// are copied sooner.
-    #[inline(always)]
-    #[tactic(auto, unfolding(dns_fields::specs::Fields::field_octets))]
-    pub fn emit_small_character_data<const N: usize>(
-        &mut self,
-        string: &SmallOctets<N>,
-    ) -> Result<(), ProtoError>
-        ensures emits { EmitsField Text string.now result self.old self.new }
-        ensures room { OnOk result (length self.old.octets + 1 + length string.now ≤ self.old.limit) }
-        ensures whole { OnErr result (self.new ≡ self.old) }
-    {
-        let len = string.as_slice().len();
-        if len > 255 {
-            return Err(ProtoError::Message("character data past 255 octets"));
-        }
-        if self.octets.len() >= self.limit || self.limit - self.octets.len() - 1 < len {
-            return Err(ProtoError::MaxBufferSizeExceeded);
-        }
-        append_small(self.octets, &[len as u8], string)
-    }
-
     /// Appends the two octets of the number 0, which is to be replaced by another.
     pub fn place(&mut self) -> Result<Place, ProtoError>
         ensures placed { IfOk result (λ p. (p.index ≡ length self.old.octets) × AppendedField self.old (Number 2) 0 self.new) }
@@ -319,26 +276,6 @@ fn append_both(out: &mut Vec<u8>, front: &[u8], rest: &[u8]) -> Result<(), Proto
     let len = out.len();
     out.extend_from_slice(front)?;
     if out.extend_from_slice(rest).is_err() {
-        out.truncate(len);
-        return Err(ProtoError::Memory);
-    }
-    Ok(())
-}
-
-// The same where a value owns the others.
-#[inline(always)]
-fn append_small<const N: usize>(
-    out: &mut Vec<u8>,
-    front: &[u8],
-    rest: &SmallOctets<N>,
-) -> Result<(), ProtoError>
-    ensures ok { OnOk result (out.new.items ≡ out.old.items ++ (front.now ++ rest.now)) }
-    ensures err { OnErr result (out.new.items ≡ out.old.items) }
-    ensures memory { IfErr result (λ e. e ≡ ProtoError.Memory) }
-{
-    let len = out.len();
-    out.extend_from_slice(front)?;
-    if rest.append_to(out).is_err() {
         out.truncate(len);
         return Err(ProtoError::Memory);
     }

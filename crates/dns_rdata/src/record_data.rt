@@ -489,7 +489,8 @@ impl Clone for RData {
     ghost is_clone = { λ a b. b ≡ a };
 
     /// The same value in memory of its own.
-    // Each type returns by itself, as in `read`.
+    // A call in which each type returns by itself, as in `read`.
+    #[inline(never)]
     fn clone(&self) -> Result<RData, AllocError>
         ensures { IfOk result (λ copy. copy ≡ self.now) }
     {

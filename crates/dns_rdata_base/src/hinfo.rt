@@ -117,8 +117,8 @@ impl BinEncodable for HINFO {
     /// stand behind the start.
     #[tactic(auto, using(dns_names_wire::proofs::FieldWrites::writing))]
     fn emit(&self, encoder: &mut BinEncoder<'_>) -> Result<(), ProtoError> {
-        encoder.emit_small_character_data(&self.cpu)?;
-        encoder.emit_small_character_data(&self.os)?;
+        encoder.emit_character_data(self.cpu.as_slice())?;
+        encoder.emit_character_data(self.os.as_slice())?;
         Ok(())
     }
 }

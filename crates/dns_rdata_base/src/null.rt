@@ -115,7 +115,7 @@ impl BinEncodable for NULL {
     /// Appends the octets.
     #[inline]
     fn emit(&self, encoder: &mut BinEncoder<'_>) -> Result<(), ProtoError> {
-        encoder.emit_small(&[], &self.anything)
+        encoder.emit_vec(self.anything.as_slice())
     }
 }
 

@@ -99,7 +99,7 @@ impl BinEncodable for OPENPGPKEY {
     /// Appends the key's octets.
     #[inline]
     fn emit(&self, encoder: &mut BinEncoder<'_>) -> Result<(), ProtoError> {
-        encoder.emit_small(&[], &self.public_key)
+        encoder.emit_vec(self.public_key.as_slice())
     }
 }
 

@@ -133,7 +133,7 @@ impl BinEncodable for CERT {
         let tag = self.key_tag.to_be_bytes();
         let algorithm = u8::from(self.algorithm);
         let numbers = [kind[0], kind[1], tag[0], tag[1], algorithm];
-        encoder.emit_small(&numbers, &self.cert_data)
+        encoder.emit_both(&numbers, self.cert_data.as_slice())
     }
 }
 

@@ -105,7 +105,7 @@ impl BinEncodable for SSHFP {
     fn emit(&self, encoder: &mut BinEncoder<'_>) -> Result<(), ProtoError> {
         let algorithm = u8::from(self.algorithm);
         let kind = u8::from(self.fingerprint_type);
-        encoder.emit_small(&[algorithm, kind], &self.fingerprint)
+        encoder.emit_both(&[algorithm, kind], self.fingerprint.as_slice())
     }
 }
 

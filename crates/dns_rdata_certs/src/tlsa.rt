@@ -113,7 +113,7 @@ impl BinEncodable for TLSA {
         let usage = u8::from(self.cert_usage);
         let selector = u8::from(self.selector);
         let matching = u8::from(self.matching);
-        encoder.emit_small(&[usage, selector, matching], &self.cert_data)
+        encoder.emit_both(&[usage, selector, matching], self.cert_data.as_slice())
     }
 }
 

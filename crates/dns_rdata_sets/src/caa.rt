@@ -49,8 +49,8 @@ impl CAA {
         ensures { Emits caa_shape (caa_fields self.now) result encoder.old encoder.new }
     {
         encoder.emit_u8(self.flags())?;
-        encoder.emit_small_character_data(&self.tag)?;
-        encoder.emit_small(&[], &self.value)?;
+        encoder.emit_character_data(self.tag.as_slice())?;
+        encoder.emit_vec(self.value.as_slice())?;
         Ok(())
     }
 

@@ -1,5 +1,5 @@
 //! Octets that a value owns, a few of them without memory.
-ghost use Rattle.std.specs.Prelude.{◌≡◌, ◌==◌, ◌<◌, ◌≤◌, ◌↔◌, ◌++◌, ℕ, List, [], length, All, IfOk, OnOk, OnErr, IsTrue};
+ghost use Rattle.std.specs.Prelude.{◌≡◌, ◌==◌, ◌<◌, ◌≤◌, ◌↔◌, ℕ, List, [], length, All, IfOk, IsTrue};
 ghost use Rattle.std.specs.Box.{boxed_slice_items};
 ghost use Rattle.std.specs.Cmp.Lexicographic.{pointwise, slice_cmp, texts_ties, nat_list_cmp_total};
 ghost use Rattle.std.specs.Cmp.{partial_order_from_agreeing_total};
@@ -71,22 +71,6 @@ impl<const N: usize> Inline<N> {
             len: self.len,
             octets: self.octets,
         }
-    }
-
-    // Appends the octets: all of the array, cut behind the octets, so that a copy of one size serves, which needs no
-    // call. Where the vector has no room for that, just the octets.
-    #[inline(always)]
-    fn append_to(&self, out: &mut Vec<u8>) -> Result<(), AllocError>
-        ensures ok { OnOk result (out.new.items ≡ out.old.items ++ self.now) }
-        ensures err { OnErr result (out.new.items ≡ out.old.items) }
-    {
-        let end = out.len() + self.len as usize;
-        if out.capacity() - out.len() < N {
-            return out.extend_from_slice(self.as_slice());
-        }
-        out.extend_from_slice(&self.octets)?;
-        out.truncate(end);
-        Ok(())
     }
 
     // Whether the octets are the same, by the whole of both arrays and without a branch.
@@ -194,19 +178,6 @@ impl<const N: usize> SmallOctets<N> {
         match &self.kept {
             Kept::Inline(octets) => bounded(octets.as_slice()),
             Kept::Heap(octets) => bounded(octets.as_slice()),
-        }
-    }
-
-    /// Appends the octets to a vector, or nothing. Where they stand in the value and the vector has room for `N` more, this
-    /// asks for no memory.
-    #[inline(always)]
-    pub fn append_to(&self, out: &mut Vec<u8>) -> Result<(), AllocError>
-        ensures ok { OnOk result (out.new.items ≡ out.old.items ++ self.now) }
-        ensures err { OnErr result (out.new.items ≡ out.old.items) }
-    {
-        match &self.kept {
-            Kept::Inline(octets) => octets.append_to(out),
-            Kept::Heap(octets) => out.extend_from_slice(octets.as_slice()),
         }
     }
 

@@ -213,38 +213,6 @@ fn small_octets_short_and_long(rt: HostRuntime) -> Result<(), AllocError> {
     Ok(())
 }
 
-// Whether octets are appended behind others to a vector with room for so many.
-fn are_appended<const N: usize>(
-    alloc: Global,
-    octets: &[u8],
-    capacity: usize,
-) -> Result<bool, AllocError>
-    requires { N ≤ 64 }
-{
-    let small = SmallOctets::<N>::from_slice(alloc, octets)?;
-    let mut out = Vec::with_capacity(alloc, capacity)?;
-    out.push(1u8)?;
-    small.append_to(&mut out)?;
-    small.append_to(&mut out)?;
-    let mut wanted = Vec::from_slice(alloc, b"\x01")?;
-    wanted.extend_from_slice(octets)?;
-    wanted.extend_from_slice(octets)?;
-    Ok(out == wanted)
-}
-
-// Octets in the value, and not, to a vector that has to grow, that has just the room, and more.
-#[test]
-fn small_octets_appended(rt: HostRuntime) -> Result<(), AllocError> {
-    let octets = [7u8; 70];
-    for len in [0usize, 1, 31, 32, 33, 63, 64, 65, 70] {
-        for capacity in [0usize, 1 + 2 * len, 200] {
-            assert!(rt; are_appended::<32>(rt.alloc(), &octets[..len], capacity)?);
-            assert!(rt; are_appended::<64>(rt.alloc(), &octets[..len], capacity)?);
-        }
-    }
-    Ok(())
-}
-
 // Whether copies of two slices are told to be equal, with room for `N` octets in the value.
 fn are_told<const N: usize>(alloc: Global, a: &[u8], b: &[u8]) -> Result<bool, AllocError>
     requires { N ≤ 64 }

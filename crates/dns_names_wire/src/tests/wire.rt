@@ -1,7 +1,7 @@
 ghost use Rattle.std.specs.Prelude.{◌≡◌, []};
 
 use crate::binary::{BinDecodable, BinEncodable};
-use crate::{BinDecoder, BinEncoder, DecodeError, Name, ProtoError, RecordType, SmallOctets};
+use crate::{BinDecoder, BinEncoder, DecodeError, Name, ProtoError, RecordType};
 use std::alloc::Global;
 use std::test::Fail;
 
@@ -73,37 +73,4 @@ fn reads_types(rt: HostRuntime) {
         Err(DecodeError::InsufficientBytes)
     );
     assert_eq!(rt; decoder.index(), 4);
-}
-
-// Octets that a value owns behind others, and as a character string, up to a limit.
-fn emit_owned(alloc: Global, octets: &mut Vec<u8>) -> Result<(), ProtoError>
-    requires { octets.old.items ≡ [] }
-{
-    let few = SmallOctets::<4>::from_slice(alloc, b"abc")?;
-    let many = SmallOctets::<4>::from_slice(alloc, b"abcdef")?;
-    let mut encoder = BinEncoder::new(alloc, octets);
-    encoder.set_max_size(21);
-    encoder.emit_small(b"\x01\x02", &few)?;
-    encoder.emit_small(b"", &many)?;
-    encoder.emit_small_character_data(&few)?;
-    if encoder.emit_small_character_data(&many) == Ok(())
-        || encoder.emit_small(b"1", &many) == Ok(())
-    {
-        return Err(ProtoError::Message("past the limit"));
-    }
-    encoder.emit_small(b"", &many)?;
-    encoder.into_bytes();
-    Ok(())
-}
-
-#[test]
-fn emits_owned_octets(rt: HostRuntime) -> Result<(), Fail> {
-    let alloc = rt.alloc();
-    let mut octets = Vec::new(alloc);
-    emit_owned(alloc, &mut octets)?;
-    assert_eq!(rt;
-        octets.as_slice(),
-        b"\x01\x02abcabcdef\x03abcabcdef".as_slice()
-    );
-    Ok(())
 }

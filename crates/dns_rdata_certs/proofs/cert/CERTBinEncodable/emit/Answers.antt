@@ -11,8 +11,8 @@ unfolding field_octets
 returns c =
     let kind = rw c.from.ensures at c.from.type_inv in
     let algorithm = rw c.from-algorithm.ensures at c.from-algorithm.type_inv in
-    let e = rw (c.to_be_bytes-kind.ensures, c.to_be_bytes-tag.ensures, c.from.ensures, c.from-algorithm.ensures) at
-    c.emit_small.ensures.emits in
+    let e = rw (c.to_be_bytes-kind.ensures, c.to_be_bytes-tag.ensures, c.from.ensures, c.from-algorithm.ensures, c.as_slice.ensures.value) at
+    c.emit_both.ensures.emits in
     let h = emits_plain cert_shape (cert_fields c.args.self.now) _ _ _ _ tt (kind, (omega arith, (algorithm, (tt, tt))))
     (number_then 2 _ _ _ (number_then 2 _ _ _ (octet_then _ _ _ algorithm (sym (append-nil c.args.self.now.cert_data))))) e in
     record { emits = h; extends = emits_extend _ _ _ _ _ _ h }

@@ -11,7 +11,7 @@ unfolding field_octets
 returns c =
     let algorithm = rw c.from-algorithm.ensures at c.from-algorithm.type_inv in
     let kind = rw c.from-kind.ensures at c.from-kind.type_inv in
-    let e = rw (c.from-algorithm.ensures, c.from-kind.ensures) at c.emit_small.ensures.emits in
+    let e = rw (c.from-algorithm.ensures, c.from-kind.ensures, c.as_slice.ensures.value) at c.emit_both.ensures.emits in
     let h = emits_plain sshfp_shape (sshfp_fields c.args.self.now) _ _ _ _ tt (algorithm, (kind, (tt, tt)))
     (octet_then _ _ _ algorithm (octet_then _ _ _ kind (sym (append-nil c.args.self.now.fingerprint)))) e in
     record { emits = h; extends = emits_extend _ _ _ _ _ _ h }
