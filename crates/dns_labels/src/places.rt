@@ -114,44 +114,17 @@ fn label_hash(name: &[u8], start: usize, end: usize) -> u64
 }
 
 /// The part of a hash that whole eights have, counted from the name's end.
-// The first two stand before the loop, since most names and labels have no more, and a loop is begun with tests of its own.
 #[inline]
 fn eights_hash(name: &[u8], first: usize, last: usize) -> u64
     requires { last ≤ length name.now / 8 }
 {
-    if first >= last {
-        return 0;
-    }
-    let hash = eight_hash(name, first);
-    if last - first == 1 {
-        return hash;
-    }
-    let hash = hash.wrapping_add(eight_hash(name, first + 1));
-    if last - first == 2 {
-        return hash;
-    }
-    hash.wrapping_add(more_eights_hash(name, first + 2, last))
-}
-
-/// The same of more of them.
-#[inline(never)]
-fn more_eights_hash(name: &[u8], first: usize, last: usize) -> u64
-    requires { last ≤ length name.now / 8 }
-{
     let mut hash = 0u64;
     for count in first..last {
-        hash = hash.wrapping_add(eight_hash(name, count));
+        let at = name.len() - 8 * count - 8;
+        let weight = WEIGHTS[count % 64];
+        hash = hash.wrapping_add(weight.wrapping_mul(word_of(&name[at..at + 8])));
     }
     hash
-}
-
-/// The part of one whole eight, so many of them before the name's end.
-#[inline]
-fn eight_hash(name: &[u8], count: usize) -> u64
-    requires { count < length name.now / 8 }
-{
-    let at = name.len() - 8 * count - 8;
-    WEIGHTS[count % 64].wrapping_mul(word_of(&name[at..at + 8]))
 }
 
 /// The part of a hash that the octets from a place on have which are no whole eight.
@@ -352,6 +325,10 @@ impl Places {
             }
             self.push((start + at) as u16, short_hash(hash))?;
             let end = written.min(at + name[at] as usize + 1);
+            // behind the last label there is no hash to find
+            if end >= written {
+                return Ok(());
+            }
             hash = hash.wrapping_sub(label_hash(name, at, end));
             at = end;
         }
