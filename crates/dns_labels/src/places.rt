@@ -199,8 +199,13 @@ pub struct Places {
     entries: SmallVec<Entry, 8>,
     // none while the entries are few
     buckets: Vec<Bucket>,
-    // the place of the name that was noted or found last, which the next one often is; at first none
+    // the places of the names that were noted or found last, which the next one often is; at first none
     recent: usize,
+    earlier: usize,
+    // the place of the first name, which is noted only where another is sought, since many a message has no other, and how
+    // many octets it has; none where it is noted
+    waiting: usize,
+    waiting_len: usize,
 }
 
 impl Places {
@@ -210,19 +215,40 @@ impl Places {
             entries: SmallVec::new(alloc),
             buckets: Vec::new(alloc),
             recent: PLACES,
+            earlier: PLACES,
+            waiting: 0,
+            waiting_len: 0,
         }
     }
 
-    /// The place of the name that was noted or found last, where the octets stand there, too.
+    /// Whether no name is noted, nor waits for that.
+    #[inline]
+    pub(crate) fn is_empty(&self) -> bool {
+        self.entries.len() == 0 && self.waiting_len == 0
+    }
+
+    #[inline]
+    fn remember(&mut self, place: usize) {
+        self.earlier = self.recent;
+        self.recent = place;
+    }
+
+    /// The place of one of the two names that were noted or found last, where the octets stand there, too: a record often
+    /// has the names of the one before it.
     #[inline]
     pub(crate) fn stands_recently(&self, message: &[u8], octets: &[u8]) -> Option<usize>
         requires labels { (labels : List (List ℕ)) × AreLabels labels × (octets.now ≡ wire labels) }
         ensures place { IfSome result (λ q. (q < 16384) × StandsFor message.now q octets.now) }
         ensures some { IfSome result (λ _. 0 < length octets.now) }
     {
-        let place = self.recent;
-        if place < PLACES && octets.len() > 0 && stands_whole(message, place, octets) {
-            return Some(place);
+        if octets.len() == 0 {
+            return None;
+        }
+        if self.recent < PLACES && stands_whole(message, self.recent, octets) {
+            return Some(self.recent);
+        }
+        if self.earlier < PLACES && stands_whole(message, self.earlier, octets) {
+            return Some(self.earlier);
         }
         None
     }
@@ -275,7 +301,7 @@ impl Places {
         // most often all of it stands already, or nothing
         if self.entries.len() > 0 && octets.len() > 0 {
             if let Some(target) = self.find(message, octets, short_hash(hash)) {
-                self.recent = target;
+                self.remember(target);
                 return (0, Some(target));
             }
             return self.shorter_tail(message, octets, hash);
@@ -304,6 +330,36 @@ impl Places {
         (cut, None)
     }
 
+    /// Remembers where the first name was written, without a hash: `settle` notes it.
+    #[inline]
+    pub(crate) fn wait(&mut self, start: usize, written: usize) {
+        if start < PLACES && written > 0 && written < 256 {
+            self.remember(start);
+            self.waiting = start;
+            self.waiting_len = written;
+        }
+    }
+
+    /// Notes the first name, if it waits, so that it is found.
+    #[inline]
+    pub(crate) fn settle(&mut self, message: &[u8]) -> Result<(), AllocError> {
+        if self.waiting_len > 0 {
+            self.note_first(message)?;
+        }
+        Ok(())
+    }
+
+    #[inline(never)]
+    fn note_first(&mut self, message: &[u8]) -> Result<(), AllocError> {
+        let (start, len) = (self.waiting, self.waiting_len);
+        self.waiting_len = 0;
+        if start < message.len() && len <= message.len() - start {
+            let name = &message[start..start + len];
+            self.note_labels(start, name, len, name_hash(name))?;
+        }
+        Ok(())
+    }
+
     /// Notes where labels begin that were written from a place on, so many octets of the name of this hash.
     pub(crate) fn note(
         &mut self,
@@ -315,8 +371,20 @@ impl Places {
         requires { written ≤ length name.now }
     {
         if written > 0 {
-            self.recent = start;
+            self.remember(start);
         }
+        self.note_labels(start, name, written, hash)
+    }
+
+    fn note_labels(
+        &mut self,
+        start: usize,
+        name: &[u8],
+        written: usize,
+        hash: u64,
+    ) -> Result<(), AllocError>
+        requires { written ≤ length name.now }
+    {
         let mut hash = hash;
         let mut at = 0usize;
         'labels: while at < written {
@@ -335,20 +403,17 @@ impl Places {
         Ok(())
     }
 
-    /// The hash by which a name that is written whole is noted: none where it stands at an earlier place that was noted,
-    /// since its tails do, too, and the least place serves.
-    pub(crate) fn hash_to_note(&mut self, message: &[u8], name: &[u8]) -> Option<u64>
+    /// Whether a name of this hash stands at a place that was noted.
+    pub(crate) fn stands(&mut self, message: &[u8], name: &[u8], hash: u64) -> bool
         requires { AreNameOctets name.now }
     {
-        if self.stands_recently(message, name).is_some() {
-            return None;
+        match self.find(message, name, short_hash(hash)) {
+            Some(place) => {
+                self.remember(place);
+                true
+            }
+            None => false,
         }
-        let hash = name_hash(name);
-        if let Some(place) = self.find(message, name, short_hash(hash)) {
-            self.recent = place;
-            return None;
-        }
-        Some(hash)
     }
 
     /// Adds a place behind the others.

@@ -313,14 +313,19 @@ fn points_to_the_least_place(rt: HostRuntime) -> Result<(), Fail> {
     Ok(())
 }
 
-// The same name again, others between, and written whole.
+// The same name again, others between, and written whole; the first one only once a search wants it.
 #[test]
 fn points_to_the_name_before(rt: HostRuntime) -> Result<(), Fail> {
     let alloc = rt.alloc();
     let mut places = Places::new(alloc);
     let mut out = Vec::new(alloc);
     let mode = RDataEncoding::StandardRecord;
+    let refused = write_name(&mut places, &mut out, mode, 3, b"\x01a\x01b");
+    assert_eq!(rt; (refused.is_ok(), out.len()), (false, 0));
     for text in [b"a.b.".as_slice(), b"a.b.", b"c.", b"a.b.", b"c.", b"a.b."] {
+        written(alloc, &mut places, &mut out, mode, text)?;
+    }
+    for text in [b"d.b.".as_slice(), b"c.", b"a.b.", b"d.b."] {
         written(alloc, &mut places, &mut out, mode, text)?;
     }
     for mode in [RDataEncoding::Canonical, RDataEncoding::StandardRecord] {
@@ -328,7 +333,7 @@ fn points_to_the_name_before(rt: HostRuntime) -> Result<(), Fail> {
     }
     assert_eq!(rt;
         out.as_slice(),
-        b"\x01a\x01b\x00\xc0\x00\x01c\x00\xc0\x00\xc0\x07\xc0\x00\x01a\x01b\x00\xc0\x00".as_slice()
+        b"\x01a\x01b\x00\xc0\x00\x01c\x00\xc0\x00\xc0\x07\xc0\x00\x01d\xc0\x02\xc0\x07\xc0\x00\xc0\x10\x01a\x01b\x00\xc0\x00".as_slice()
     );
     Ok(())
 }

@@ -1,6 +1,6 @@
 //! Names written behind other octets, with a pointer in place of a tail that stands there already.
 
-ghost use Rattle.std.specs.Prelude.{◌≡◌, ◌≢◌, ℕ, ◌+◌, ◌++◌, ◌<◌, ◌≤◌, Bool, None, Err, length, OnOk, OnErr};
+ghost use Rattle.std.specs.Prelude.{◌≡◌, ◌≢◌, ℕ, ◌+◌, ◌++◌, ◌<◌, ◌≤◌, Bool, None, Err, length, IfOk, OnOk, OnErr};
 ghost use Rattle.std.specs.Vec.{vec_capacity, vec_len};
 ghost use Rattle.dns_fields.specs.Names.{NameWrote};
 ghost use Rattle.dns_labels.specs.Labels.{AreNameOctets, name_of};
@@ -12,47 +12,100 @@ use crate::places::{Places, name_hash};
 use dns_fields::RDataEncoding;
 use std::alloc::AllocError;
 
-/// What is written of a name's octets, where the rest stands already, and the name's hash, unless there is nothing to note.
+/// How a name is noted.
+#[derive(Clone, Copy)]
+enum Note {
+    /// Not at all: it stands at an earlier place that was noted, and so do its tails, and the least place serves.
+    Nothing,
+    /// As the first one, which waits until another is sought.
+    First,
+    /// By this hash.
+    Hash(u64),
+}
+
+/// What is written of a name's octets, where the rest stands already, and how the name is noted.
 #[derive(Clone, Copy)]
 struct Cut {
     written: usize,
     target: Option<usize>,
-    hash: Option<u64>,
+    note: Note,
 }
 
-/// Where a name is cut: only `StandardRecord` leaves a tail out.
+/// Where a name is cut: only `StandardRecord` leaves a tail out. Fails only for want of memory to note the first name.
 #[inline]
-fn cut_for(places: &mut Places, mode: RDataEncoding, message: &[u8], name: &[u8]) -> Cut
+fn cut_for(
+    places: &mut Places,
+    mode: RDataEncoding,
+    message: &[u8],
+    name: &[u8],
+) -> Result<Cut, AllocError>
     requires { AreNameOctets name.now }
-    ensures cut { IsNameCut message.now name.now result.written result.target }
-    ensures whole { mode ≢ RDataEncoding.StandardRecord → (result.written ≡ length name.now) × (result.target ≡ None) }
+    ensures cut { IfOk result (λ c. IsNameCut message.now name.now c.written c.target) }
+    ensures whole { mode ≢ RDataEncoding.StandardRecord → IfOk result (λ c. (c.written ≡ length name.now) × (c.target ≡ None)) }
 {
+    let recent = places.stands_recently(message, name);
     match mode {
         RDataEncoding::StandardRecord => {
-            if let Some(place) = places.stands_recently(message, name) {
-                return Cut {
+            if let Some(place) = recent {
+                return Ok(Cut {
                     written: 0,
                     target: Some(place),
-                    hash: None,
-                };
+                    note: Note::Nothing,
+                });
             }
-            let hash = name_hash(name);
-            let (written, target) = places.longest_tail(message, name, hash);
-            Cut {
-                written,
-                target,
-                hash: Some(hash),
-            }
+            cut_at_tail(places, message, name)
         }
         RDataEncoding::Canonical | RDataEncoding::Other => {
-            let hash = places.hash_to_note(message, name);
-            Cut {
+            let note = if recent.is_some() {
+                Note::Nothing
+            } else {
+                note_whole(places, message, name)?
+            };
+            Ok(Cut {
                 written: name.len(),
                 target: None,
-                hash,
-            }
+                note,
+            })
         }
     }
+}
+
+/// Where a name is cut that may leave a tail out.
+#[inline]
+fn cut_at_tail(places: &mut Places, message: &[u8], name: &[u8]) -> Result<Cut, AllocError>
+    requires { AreNameOctets name.now }
+    ensures { IfOk result (λ c. IsNameCut message.now name.now c.written c.target) }
+{
+    if places.is_empty() {
+        return Ok(Cut {
+            written: name.len(),
+            target: None,
+            note: Note::First,
+        });
+    }
+    places.settle(message)?;
+    let hash = name_hash(name);
+    let (written, target) = places.longest_tail(message, name, hash);
+    Ok(Cut {
+        written,
+        target,
+        note: Note::Hash(hash),
+    })
+}
+
+/// How a name is noted that is written whole.
+fn note_whole(places: &mut Places, message: &[u8], name: &[u8]) -> Result<Note, AllocError>
+    requires { AreNameOctets name.now }
+{
+    if places.is_empty() {
+        return Ok(Note::First);
+    }
+    places.settle(message)?;
+    let hash = name_hash(name);
+    if places.stands(message, name, hash) {
+        return Ok(Note::Nothing);
+    }
+    Ok(Note::Hash(hash))
 }
 
 /// How many octets end labels: one, or a pointer's two.
@@ -103,15 +156,17 @@ pub fn write_name(
     ensures full { result ≡ Err WriteError.Buffer → limit < length out.old.items + (length name.now + 1) }
 {
     let start = out.len();
-    let cut = cut_for(places, mode, out.as_slice(), name);
+    let cut = cut_for(places, mode, out.as_slice(), name)?;
     let front = &name[..cut.written];
     let len = front.len() + stop_len(cut.target);
     if start > limit || limit - start < len {
         return Err(WriteError::Buffer);
     }
     out.reserve(len)?;
-    if let Some(hash) = cut.hash {
-        places.note(start, name, cut.written, hash)?;
+    match cut.note {
+        Note::Nothing => {}
+        Note::First => places.wait(start, cut.written),
+        Note::Hash(hash) => places.note(start, name, cut.written, hash)?,
     }
     append_front(out, front)?;
     match cut.target {
