@@ -3,8 +3,6 @@ use Rattle.std.proofs.Common.{◌≡◌, ℕ, Bool, true, false, not, ◌+◌, �
 use Rattle.std.proofs.Common.{sym, ◌∙◌, ap, subst, append_assoc, arith, length-drop, length-take}
 use Rattle.std.proofs.lemmas.List.{append-nil, take_all}
 use Rattle.std.proofs.Math.Seq.{take-add}
-use Rattle.std.proofs.lemmas.Slice.Eq.{bytes_eq-Decides}
-use Rattle.std.specs.Str.{bytes_eq}
 use Rattle.std.proofs.lemmas.Bool.{false≢true, eqb-true}
 use Rattle.std.specs.Bool.{OnTrue}
 use Rattle.std.specs.Prelude.{nat_eq}
@@ -33,11 +31,10 @@ not_false false h = absurd (false≢true h)
 pub one_matched : (message : List ℕ) (place at taken : ℕ) (octets a b : List ℕ) → SoFar message place at [] (take taken octets) × (taken ≤ length octets)
     → 1 ≤ get_or message at 0 → get_or message at 0 ≤ 63 → at + get_or message at 0 + 1 ≤ length message → taken + get_or message at 0 + 1 ≤ length octets
     → length octets ≤ 254 → a ≡ take (get_or message at 0 + 1) (drop at message) → b ≡ take (get_or message at 0 + 1) (drop taken octets)
-    → false ≡ not (bytes_eq a b) → SoFar message place (at + (get_or message at 0 + 1)) [] (take (taken + (get_or message at 0 + 1)) octets)
+    → a ≡ b → SoFar message place (at + (get_or message at 0 + 1)) [] (take (taken + (get_or message at 0 + 1)) octets)
     × (taken + (get_or message at 0 + 1) ≤ length octets)
-one_matched message place at taken octets a b s low high room fits short a_is b_is eq =
+one_matched message place at taken octets a b s low high room fits short a_is b_is same =
     let n = get_or message at 0 in
-    let same : a ≡ b = (bytes_eq-Decides a b).0 (not_false (bytes_eq a b) eq) in
     let t : take (taken + (n + 1)) octets ≡ take taken octets ++ a = take-add taken (n + 1) octets
     ∙ ap (λ (x : List ℕ). take taken octets ++ x) (sym b_is ∙ sym same) in
     let len : length (take taken octets) ≡ taken = length-take taken octets ∙ omega arith in

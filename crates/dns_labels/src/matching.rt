@@ -36,7 +36,11 @@ fn match_run(message: &[u8], place: usize, octets: &[u8]) -> Option<(usize, Opti
         if count >= 64 || message.len() - at <= count || octets.len() - taken <= count {
             return None;
         }
-        if message[at..at + count + 1] != octets[taken..taken + count + 1] {
+        let (label, other) = (
+            &message[at..at + count + 1],
+            &octets[taken..taken + count + 1],
+        );
+        if !same_octets(label, other) {
             return None;
         }
         at += count + 1;

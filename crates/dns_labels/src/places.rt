@@ -1,6 +1,7 @@
 //! Where names were written in a message.
 
 ghost use Rattle.std.specs.Prelude.{◌≡◌, ℕ, List, ◌+◌, ◌/◌, ◌<◌, ◌≤◌, length, IfSome};
+ghost use Rattle.std.specs.Bool.{OnTrue};
 ghost use Rattle.dns_fields.specs.Labels.{AreLabels, wire};
 ghost use Rattle.dns_labels.specs.Labels.{AreNameOctets};
 ghost use Rattle.dns_labels.specs.Emission.{StandsFor, IsNameCut};
@@ -190,6 +191,37 @@ struct Bucket {
     last: u16,
 }
 
+/// The place of a name, and whether all of its labels stand there, or a pointer behind some of them.
+#[derive(Clone, Copy)]
+struct Standing {
+    place: usize,
+    whole: bool,
+}
+
+const NOWHERE: Standing = Standing {
+    place: PLACES,
+    whole: true,
+};
+
+impl Standing {
+    // Whether the octets, which are labels, stand there.
+    #[inline]
+    fn has(self, message: &[u8], octets: &[u8]) -> bool
+        requires short { length octets.now ≤ 254 }
+        requires labels { (labels : List (List ℕ)) × AreLabels labels × (octets.now ≡ wire labels) }
+        ensures place { OnTrue result (self.place < 16384) }
+        ensures stands { OnTrue result (StandsFor message.now self.place octets.now) }
+    {
+        if self.place >= PLACES {
+            return false;
+        }
+        if self.whole {
+            return stands_whole(message, self.place, octets);
+        }
+        stands_at(message, self.place, octets)
+    }
+}
+
 /// The places below 16384 where labels of names begin that were written, from the least to the greatest.
 ///
 /// They are hints: a place is used only where the octets that stand there are the name's.
@@ -199,9 +231,9 @@ pub struct Places {
     entries: SmallVec<Entry, 8>,
     // none while the entries are few
     buckets: Vec<Bucket>,
-    // the places of the names that were noted or found last, which the next one often is; at first none
-    recent: usize,
-    earlier: usize,
+    // the names that were noted or found last, which the next one often is; at first none
+    recent: Standing,
+    earlier: Standing,
     // the place of the first name, which is noted only where another is sought, since many a message has no other, and how
     // many octets it has; none where it is noted
     waiting: usize,
@@ -214,8 +246,8 @@ impl Places {
         Places {
             entries: SmallVec::new(alloc),
             buckets: Vec::new(alloc),
-            recent: PLACES,
-            earlier: PLACES,
+            recent: NOWHERE,
+            earlier: NOWHERE,
             waiting: 0,
             waiting_len: 0,
         }
@@ -228,15 +260,16 @@ impl Places {
     }
 
     #[inline]
-    fn remember(&mut self, place: usize) {
+    fn remember(&mut self, standing: Standing) {
         self.earlier = self.recent;
-        self.recent = place;
+        self.recent = standing;
     }
 
     /// The place of one of the two names that were noted or found last, where the octets stand there, too: a record often
     /// has the names of the one before it.
     #[inline]
     pub(crate) fn stands_recently(&self, message: &[u8], octets: &[u8]) -> Option<usize>
+        requires short { length octets.now ≤ 254 }
         requires labels { (labels : List (List ℕ)) × AreLabels labels × (octets.now ≡ wire labels) }
         ensures place { IfSome result (λ q. (q < 16384) × StandsFor message.now q octets.now) }
         ensures some { IfSome result (λ _. 0 < length octets.now) }
@@ -244,11 +277,11 @@ impl Places {
         if octets.len() == 0 {
             return None;
         }
-        if self.recent < PLACES && stands_whole(message, self.recent, octets) {
-            return Some(self.recent);
+        if self.recent.has(message, octets) {
+            return Some(self.recent.place);
         }
-        if self.earlier < PLACES && stands_whole(message, self.earlier, octets) {
-            return Some(self.earlier);
+        if self.earlier.has(message, octets) {
+            return Some(self.earlier.place);
         }
         None
     }
@@ -264,10 +297,10 @@ impl Places {
 
     /// The least place at which the octets stand as a name, of those that are looked at.
     #[inline]
-    fn find(&self, message: &[u8], octets: &[u8], hash: u32) -> Option<usize>
+    fn find(&self, message: &[u8], octets: &[u8], hash: u32) -> Option<Standing>
         requires short { length octets.now ≤ 254 }
         requires labels { (labels : List (List ℕ)) × AreLabels labels × (octets.now ≡ wire labels) }
-        ensures { IfSome result (λ q. (q < 16384) × StandsFor message.now q octets.now) }
+        ensures { IfSome result (λ q. (q.place < 16384) × StandsFor message.now q.place octets.now) }
     {
         let mut at = self.first(hash);
         let entries = self.entries.as_slice();
@@ -278,8 +311,9 @@ impl Places {
             let entry = entries[at];
             let place = entry.place as usize;
             if entry.hash == hash && place < PLACES {
-                if stands_whole(message, place, octets) || stands_at(message, place, octets) {
-                    return Some(place);
+                let whole = stands_whole(message, place, octets);
+                if whole || stands_at(message, place, octets) {
+                    return Some(Standing { place, whole });
                 }
             }
             at = entry.next as usize;
@@ -302,7 +336,7 @@ impl Places {
         if self.entries.len() > 0 && octets.len() > 0 {
             if let Some(target) = self.find(message, octets, short_hash(hash)) {
                 self.remember(target);
-                return (0, Some(target));
+                return (0, Some(target.place));
             }
             return self.shorter_tail(message, octets, hash);
         }
@@ -320,7 +354,7 @@ impl Places {
         'labels: while cut < octets.len() {
             if cut > 0 {
                 if let Some(target) = self.find(message, &octets[cut..], short_hash(hash)) {
-                    return (cut, Some(target));
+                    return (cut, Some(target.place));
                 }
             }
             let count = octets[cut] as usize + 1;
@@ -334,7 +368,10 @@ impl Places {
     #[inline]
     pub(crate) fn wait(&mut self, start: usize, written: usize) {
         if start < PLACES && written > 0 && written < 256 {
-            self.remember(start);
+            self.remember(Standing {
+                place: start,
+                whole: true,
+            });
             self.waiting = start;
             self.waiting_len = written;
         }
@@ -371,7 +408,10 @@ impl Places {
         requires { written ≤ length name.now }
     {
         if written > 0 {
-            self.remember(start);
+            self.remember(Standing {
+                place: start,
+                whole: written == name.len(),
+            });
         }
         self.note_labels(start, name, written, hash)
     }
@@ -408,8 +448,8 @@ impl Places {
         requires { AreNameOctets name.now }
     {
         match self.find(message, name, short_hash(hash)) {
-            Some(place) => {
-                self.remember(place);
+            Some(standing) => {
+                self.remember(standing);
                 true
             }
             None => false,

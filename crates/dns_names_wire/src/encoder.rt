@@ -128,7 +128,7 @@ impl<'a> BinEncoder<'a> {
         ensures room { OnOk result (length self.old.octets + length octets.now ≤ self.old.limit) }
         ensures whole { OnErr result (self.new ≡ self.old) }
     {
-        if self.octets.len() > self.limit || self.limit - self.octets.len() < octets.len() {
+        if self.octets.len() + octets.len() > self.limit {
             return Err(ProtoError::MaxBufferSizeExceeded);
         }
         self.octets.extend_from_slice(octets)?;
@@ -143,8 +143,8 @@ impl<'a> BinEncoder<'a> {
         ensures room { OnOk result (length self.old.octets + (length front.now + length rest.now) ≤ self.old.limit) }
         ensures whole { OnErr result (self.new ≡ self.old) }
     {
-        let len = front.len() + rest.len();
-        if self.octets.len() > self.limit || self.limit - self.octets.len() < len {
+        let len = self.octets.len() + rest.len();
+        if len > self.limit || front.len() > self.limit - len {
             return Err(ProtoError::MaxBufferSizeExceeded);
         }
         append_both(self.octets, front, rest)
@@ -218,7 +218,7 @@ impl<'a> BinEncoder<'a> {
         if octets.len() > 255 {
             return Err(ProtoError::Message("character data past 255 octets"));
         }
-        if self.octets.len() >= self.limit || self.limit - self.octets.len() - 1 < octets.len() {
+        if self.octets.len() + 1 + octets.len() > self.limit {
             return Err(ProtoError::MaxBufferSizeExceeded);
         }
         append_both(self.octets, &[octets.len() as u8], octets)

@@ -105,6 +105,24 @@ impl<T: Drop> Items<T> {
     }
 }
 
+// Whether the values are equal, one by one.
+#[inline]
+fn same_items<T: PartialEq>(a: &[T], b: &[T]) -> bool
+    ensures { result ≡ pointwise T.eq a.now b.now }
+{
+    if a.len() != b.len() {
+        return false;
+    }
+    let mut at = 0usize;
+    'items: while at < a.len() {
+        if a[at] != b[at] {
+            return false;
+        }
+        at += 1;
+    }
+    true
+}
+
 impl<T: PartialEq> PartialEq for Items<T> {
     ghost eq = { pointwise T.eq };
 
@@ -112,7 +130,7 @@ impl<T: PartialEq> PartialEq for Items<T> {
 
     #[inline]
     fn eq(&self, other: &Items<T>) -> bool {
-        self.as_slice() == other.as_slice()
+        same_items(self.as_slice(), other.as_slice())
     }
 }
 

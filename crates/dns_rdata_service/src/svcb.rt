@@ -1,7 +1,9 @@
 //! SVCB: how a service is reached (RFC 9460).
 
 ghost use Rattle.std.specs.Prelude.{◌≡◌, IfErr, IfOk};
+ghost use Rattle.std.specs.Cmp.Lexicographic.{pointwise};
 ghost use Rattle.dns_names_wire.specs.Words.{ReadsWindow, EmitsAs, Extends, Keeps};
+ghost use Rattle.dns_rdata_service.specs.OwnKeys.{value_eq, parameter_eq};
 ghost use Rattle.dns_rdata_service.specs.SVCB.{svcb_shape, svcb_fields, svcb_key_shape, svcb_keys, IsReadSvcb, svcb_refusal};
 
 mod alpn;
@@ -135,6 +137,46 @@ impl BinEncodable for SVCB {
     }
 }
 
+// Whether both values are of one kind, and equal there. Inlined, so that a list is compared without a call for each value.
+#[inline(always)]
+fn same_value(a: &SvcParamValue, b: &SvcParamValue) -> bool
+    ensures { result ≡ value_eq a.now b.now }
+{
+    match (a, b) {
+        (SvcParamValue::Mandatory(a), SvcParamValue::Mandatory(b)) => *a == *b,
+        (SvcParamValue::Alpn(a), SvcParamValue::Alpn(b)) => *a == *b,
+        (SvcParamValue::NoDefaultAlpn, SvcParamValue::NoDefaultAlpn) => true,
+        (SvcParamValue::Port(a), SvcParamValue::Port(b)) => *a == *b,
+        (SvcParamValue::Ipv4Hint(a), SvcParamValue::Ipv4Hint(b)) => *a == *b,
+        (SvcParamValue::EchConfigList(a), SvcParamValue::EchConfigList(b)) => *a == *b,
+        (SvcParamValue::Ipv6Hint(a), SvcParamValue::Ipv6Hint(b)) => *a == *b,
+        (SvcParamValue::Unknown(a), SvcParamValue::Unknown(b)) => *a == *b,
+        _ => false,
+    }
+}
+
+// Whether the parameters are equal, one by one.
+#[inline]
+fn same_parameters(
+    a: &[(SvcParamKey, SvcParamValue)],
+    b: &[(SvcParamKey, SvcParamValue)],
+) -> bool
+    ensures { result ≡ pointwise parameter_eq a.now b.now }
+{
+    if a.len() != b.len() {
+        return false;
+    }
+    let mut at = 0usize;
+    'parameters: while at < a.len() {
+        let ((key, value), (other_key, other_value)) = (&a[at], &b[at]);
+        if *key != *other_key || !same_value(value, other_value) {
+            return false;
+        }
+        at += 1;
+    }
+    true
+}
+
 impl PartialEq for SVCB {
     ghost use Rattle.std.specs.Cmp.{partial_equiv_from_equiv, on_equiv};
     ghost use Rattle.dns_fields.specs.Equal.{values_eq};
@@ -148,7 +190,7 @@ impl PartialEq for SVCB {
     fn eq(&self, other: &SVCB) -> bool {
         self.svc_priority == other.svc_priority
             && self.target_name == other.target_name
-            && self.svc_params == other.svc_params
+            && same_parameters(self.svc_params.as_slice(), other.svc_params.as_slice())
     }
 }
 

@@ -24,4 +24,4 @@ labels-preserved c =
     let m = c.args.message.now in
     let o = c.args.octets.now in
     one_matched m c.args.place c.labels.at c.labels.taken o _ _ c.labels.invariant (omega arith) (omega arith) (omega arith) (omega arith) c.requires.short
-    (ap (λ (k : ℕ). take k (drop c.labels.at m)) (omega arith)) (ap (λ (k : ℕ). take k (drop c.labels.taken o)) (omega arith)) c.if-ne.ensures
+    (ap (λ (k : ℕ). take k (drop c.labels.at m)) (omega arith)) (ap (λ (k : ℕ). take k (drop c.labels.taken o)) (omega arith)) (c.same_octets.ensures.0 c.if-not-same_octets.false)

@@ -9,7 +9,7 @@ labels-init c = cut_none c.args.octets.now c.requires
 pub returns-in-Some : goal.returns-in-Some
 returns-in-Some c =
     let e = rw (take_rest c.args.octets.now c.labels.cut) at c.in-Some.ensures in
-    cut_found c.args.message.now c.args.octets.now c.labels.cut c.in-Some.target c.labels.invariant (omega arith) e.0 e.1
+    cut_found c.args.message.now c.args.octets.now c.labels.cut c.in-Some.target.place c.labels.invariant (omega arith) e.0 e.1
 
 pub labels-preserved : goal.labels-preserved
 labels-preserved c = cut_more c.args.octets.now c.labels.cut c.labels.invariant (omega arith)

@@ -18,12 +18,12 @@ pub returns-then-eq : goal.returns-then-eq
 returns-then-eq c =
     let same = parameters_same c.args.self.now.svc_params c.args.other.now.svc_params in
     elim c.if-self-other.branch [
-      | then-self-other w ↦ all_true c.eq-then-eq.result (nat_eq c.args.self.now.svc_priority c.args.other.now.svc_priority)
+      | then-self-other w ↦ all_true c.same_parameters.result (nat_eq c.args.self.now.svc_priority c.args.other.now.svc_priority)
           (name_eq c.args.self.now.target_name c.args.other.now.target_name)
           (pointwise key_eq (parameter_keys (map own_parameter c.args.self.now.svc_params))
           (parameter_keys (map own_parameter c.args.other.now.svc_params)))
           ((unsigned_Decides c.args.self.now.svc_priority c.args.other.now.svc_priority).1 w.if-self-other.true)
-          (sym w.eq.ensures.value ∙ sym w.value-is ∙ c.if-eq.true) (c.eq-then-eq.ensures ∙ same)
+          (sym w.eq.ensures.value ∙ sym w.value-is ∙ c.if-eq.true) ((rw (c.as_slice.ensures, c.as_slice-then-eq.ensures) at c.same_parameters.ensures) ∙ same)
       | else-self-other w ↦ absurd (w.if-self-other.false
           ((unsigned_Decides c.args.self.now.svc_priority c.args.other.now.svc_priority).0 (sym w.value-is ∙ c.if-eq.true)))
     ]
