@@ -157,10 +157,7 @@ fn same_value(a: &SvcParamValue, b: &SvcParamValue) -> bool
 
 // Whether the parameters are equal, one by one.
 #[inline]
-fn same_parameters(
-    a: &[(SvcParamKey, SvcParamValue)],
-    b: &[(SvcParamKey, SvcParamValue)],
-) -> bool
+fn same_parameters(a: &[(SvcParamKey, SvcParamValue)], b: &[(SvcParamKey, SvcParamValue)]) -> bool
     ensures { result ≡ pointwise parameter_eq a.now b.now }
 {
     if a.len() != b.len() {
