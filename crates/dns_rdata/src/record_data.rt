@@ -304,7 +304,6 @@ impl BinEncodable for RData {
 
     /// Appends the octets of the value, its names in the mode of its type. After a refusal the octets that were there
     /// stand, and the encoder is in the mode that it was in.
-    #[inline]
     fn emit(&self, encoder: &mut BinEncoder<'_>) -> Result<(), ProtoError>
         ensures emits { EmitsAs (mode_for encoder.old.mode self.now) (fields_of self.now).kinds (fields_of self.now).values result encoder.old encoder.new }
         ensures keeps { Keeps encoder.old encoder.new }
@@ -316,7 +315,7 @@ impl BinEncodable for RData {
         ensures fits { OnOk result (IsEmittable self.now) }
         ensures unfit { IfErr result (λ e. IsMessage e → ¬ (IsEmittable self.now)) }
     {
-        self.emit_most(encoder)?;
+        self.emit_by_type(encoder)?;
         // Called for its clauses: what was written is octets.
         let _written = encoder.len();
         Ok(())
@@ -326,21 +325,7 @@ impl BinEncodable for RData {
 impl RData {
     ghost use Rattle.dns_rdata.specs.Data.{fields_of, mode_for};
 
-    // Appends the octets of the value: those of an address, as most records have, without a call.
-    #[inline]
-    fn emit_most(&self, encoder: &mut BinEncoder<'_>) -> Result<(), ProtoError>
-        ensures { EmitsAs (mode_for encoder.old.mode self.now) (fields_of self.now).kinds (fields_of self.now).values result encoder.old encoder.new }
-    {
-        match self {
-            RData::A(a) => a.emit(encoder)?,
-            RData::AAAA(a) => a.emit(encoder)?,
-            _ => self.emit_by_type(encoder)?,
-        }
-        Ok(())
-    }
-
     // Appends the octets of the value.
-    #[inline(never)]
     fn emit_by_type(&self, encoder: &mut BinEncoder<'_>) -> Result<(), ProtoError>
         ensures { EmitsAs (mode_for encoder.old.mode self.now) (fields_of self.now).kinds (fields_of self.now).values result encoder.old encoder.new }
     {
