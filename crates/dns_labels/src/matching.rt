@@ -1,12 +1,12 @@
 //! Whether a name's octets stand as a name at a place.
 
-ghost use Rattle.std.specs.Prelude.{◌≡◌, ℕ, List, ◌≤◌, [], length, take, IfSome};
+ghost use Rattle.std.specs.Prelude.{◌≡◌, ℕ, List, ◌≤◌, ◌↔◌, [], IsTrue, length, take, IfSome};
 ghost use Rattle.std.specs.Bool.{OnTrue};
 ghost use Rattle.dns_labels.specs.Reading.{AddsRun};
 ghost use Rattle.dns_fields.specs.Labels.{AreLabels, wire};
 ghost use Rattle.dns_labels.specs.Emission.{StandsFor};
 
-use dns_types::comparing::same_octets;
+use dns_types::comparing::{same_middle, same_octets};
 
 /// How many of the octets stand as labels in the message, up to an octet 0 or a pointer, and the pointer's
 /// place.
@@ -62,10 +62,22 @@ pub(crate) fn stands_whole(message: &[u8], place: usize, octets: &[u8]) -> bool
     if message[place + len] != 0 {
         return false;
     }
-    if !same_octets(&message[place..place + len], octets) {
+    if !same_labels(&message[place..place + len], octets) {
         return false;
     }
     true
+}
+
+/// Whether as many octets are the same, without a call where they are as many as most names have.
+#[inline]
+fn same_labels(a: &[u8], b: &[u8]) -> bool
+    requires { length a.now ≡ length b.now }
+    ensures { IsTrue result ↔ (a.now ≡ b.now) }
+{
+    if a.len() >= 8 && a.len() <= 32 {
+        return same_middle(a, b);
+    }
+    same_octets(a, b)
 }
 
 /// Whether the octets' labels are a name that stands in the message from that place.

@@ -194,12 +194,12 @@ struct Bucket {
 /// The place of a name, and whether all of its labels stand there, or a pointer behind some of them.
 #[derive(Clone, Copy)]
 struct Standing {
-    place: usize,
+    place: u16,
     whole: bool,
 }
 
 const NOWHERE: Standing = Standing {
-    place: PLACES,
+    place: NONE,
     whole: true,
 };
 
@@ -212,14 +212,26 @@ impl Standing {
         ensures place { OnTrue result (self.place < 16384) }
         ensures stands { OnTrue result (StandsFor message.now self.place octets.now) }
     {
-        if self.place >= PLACES {
+        let place = self.place as usize;
+        if place >= PLACES {
             return false;
         }
         if self.whole {
-            return stands_whole(message, self.place, octets);
+            return stands_whole(message, place, octets);
         }
-        stands_at(message, self.place, octets)
+        begins_alike(message, place, octets) && stands_at(message, place, octets)
     }
+}
+
+// Whether a label of the first one's length stands there that ends in the same octet: names of one zone that follow one
+// another mostly differ in that.
+#[inline]
+fn begins_alike(message: &[u8], place: usize, octets: &[u8]) -> bool {
+    if octets.len() == 0 || place >= message.len() || message[place] != octets[0] {
+        return false;
+    }
+    let last = octets[0] as usize;
+    last < octets.len() && last < message.len() - place && message[place + last] == octets[last]
 }
 
 /// The places below 16384 where labels of names begin that were written, from the least to the greatest.
@@ -236,8 +248,8 @@ pub struct Places {
     earlier: Standing,
     // the place of the first name, which is noted only where another is sought, since many a message has no other, and how
     // many octets it has; none where it is noted
-    waiting: usize,
-    waiting_len: usize,
+    waiting: u16,
+    waiting_len: u16,
 }
 
 impl Places {
@@ -274,14 +286,29 @@ impl Places {
         ensures place { IfSome result (λ q. (q < 16384) × StandsFor message.now q octets.now) }
         ensures some { IfSome result (λ _. 0 < length octets.now) }
     {
-        if octets.len() == 0 {
+        let place = self.recent.place as usize;
+        if octets.len() == 0 || place >= PLACES {
             return None;
         }
-        if self.recent.has(message, octets) {
-            return Some(self.recent.place);
+        // the last one, where it stands whole, is looked at without a call
+        if self.recent.whole && stands_whole(message, place, octets) {
+            return Some(place);
+        }
+        self.stands_otherwise(message, octets)
+    }
+
+    // The same of the last one where a pointer stands behind some of its labels, and of the one before.
+    #[inline(never)]
+    fn stands_otherwise(&self, message: &[u8], octets: &[u8]) -> Option<usize>
+        requires short { length octets.now ≤ 254 }
+        requires labels { (labels : List (List ℕ)) × AreLabels labels × (octets.now ≡ wire labels) }
+        ensures { IfSome result (λ q. (q < 16384) × StandsFor message.now q octets.now) }
+    {
+        if !self.recent.whole && self.recent.has(message, octets) {
+            return Some(self.recent.place as usize);
         }
         if self.earlier.has(message, octets) {
-            return Some(self.earlier.place);
+            return Some(self.earlier.place as usize);
         }
         None
     }
@@ -313,7 +340,10 @@ impl Places {
             if entry.hash == hash && place < PLACES {
                 let whole = stands_whole(message, place, octets);
                 if whole || stands_at(message, place, octets) {
-                    return Some(Standing { place, whole });
+                    return Some(Standing {
+                        place: entry.place,
+                        whole,
+                    });
                 }
             }
             at = entry.next as usize;
@@ -336,7 +366,7 @@ impl Places {
         if self.entries.len() > 0 && octets.len() > 0 {
             if let Some(target) = self.find(message, octets, short_hash(hash)) {
                 self.remember(target);
-                return (0, Some(target.place));
+                return (0, Some(target.place as usize));
             }
             return self.shorter_tail(message, octets, hash);
         }
@@ -354,7 +384,7 @@ impl Places {
         'labels: while cut < octets.len() {
             if cut > 0 {
                 if let Some(target) = self.find(message, &octets[cut..], short_hash(hash)) {
-                    return (cut, Some(target.place));
+                    return (cut, Some(target.place as usize));
                 }
             }
             let count = octets[cut] as usize + 1;
@@ -369,11 +399,11 @@ impl Places {
     pub(crate) fn wait(&mut self, start: usize, written: usize) {
         if start < PLACES && written > 0 && written < 256 {
             self.remember(Standing {
-                place: start,
+                place: start as u16,
                 whole: true,
             });
-            self.waiting = start;
-            self.waiting_len = written;
+            self.waiting = start as u16;
+            self.waiting_len = written as u16;
         }
     }
 
@@ -388,7 +418,7 @@ impl Places {
 
     #[inline(never)]
     fn note_first(&mut self, message: &[u8]) -> Result<(), AllocError> {
-        let (start, len) = (self.waiting, self.waiting_len);
+        let (start, len) = (self.waiting as usize, self.waiting_len as usize);
         self.waiting_len = 0;
         if start < message.len() && len <= message.len() - start {
             let name = &message[start..start + len];
@@ -407,9 +437,9 @@ impl Places {
     ) -> Result<(), AllocError>
         requires { written ≤ length name.now }
     {
-        if written > 0 {
+        if written > 0 && start < PLACES {
             self.remember(Standing {
-                place: start,
+                place: start as u16,
                 whole: written == name.len(),
             });
         }

@@ -1,11 +1,11 @@
 //! Names written behind other octets, with a pointer in place of a tail that stands there already.
 
-ghost use Rattle.std.specs.Prelude.{◌≡◌, ◌≢◌, ℕ, ◌+◌, ◌++◌, ◌<◌, ◌≤◌, Bool, None, Err, length, IfOk, OnOk, OnErr};
+ghost use Rattle.std.specs.Prelude.{◌≡◌, ◌≢◌, ℕ, ◌+◌, ◌++◌, ◌<◌, ◌≤◌, Bool, [], ◌∷◌, None, Err, length, IfOk, OnOk, OnErr};
 ghost use Rattle.std.specs.Vec.{vec_capacity, vec_len};
-ghost use Rattle.dns_fields.specs.Names.{NameWrote};
+ghost use Rattle.dns_fields.specs.Names.{NameWrote, pointer};
 ghost use Rattle.dns_labels.specs.Labels.{AreNameOctets, name_of};
 ghost use Rattle.dns_labels.specs.Reading.{stop_octets};
-ghost use Rattle.dns_labels.specs.Emission.{IsNameCut};
+ghost use Rattle.dns_labels.specs.Emission.{IsNameCut, StandsFor};
 
 use crate::error::WriteError;
 use crate::places::{Places, name_hash};
@@ -43,30 +43,13 @@ fn cut_for(
     ensures cut { IfOk result (λ c. IsNameCut message.now name.now c.written c.target) }
     ensures whole { mode ≢ RDataEncoding.StandardRecord → IfOk result (λ c. (c.written ≡ length name.now) × (c.target ≡ None)) }
 {
-    let recent = places.stands_recently(message, name);
     match mode {
-        RDataEncoding::StandardRecord => {
-            if let Some(place) = recent {
-                return Ok(Cut {
-                    written: 0,
-                    target: Some(place),
-                    note: Note::Nothing,
-                });
-            }
-            cut_at_tail(places, message, name)
-        }
-        RDataEncoding::Canonical | RDataEncoding::Other => {
-            let note = if recent.is_some() {
-                Note::Nothing
-            } else {
-                note_whole(places, message, name)?
-            };
-            Ok(Cut {
-                written: name.len(),
-                target: None,
-                note,
-            })
-        }
+        RDataEncoding::StandardRecord => cut_at_tail(places, message, name),
+        RDataEncoding::Canonical | RDataEncoding::Other => Ok(Cut {
+            written: name.len(),
+            target: None,
+            note: note_whole(places, message, name)?,
+        }),
     }
 }
 
@@ -142,7 +125,89 @@ fn append_front(out: &mut Vec<u8>, front: &[u8]) -> Result<(), AllocError>
 /// were chosen to share one hash by the dozen, a tail may be written again. The error is
 /// `Buffer` where what is to be written passes the limit, and so does the whole name; after an error the
 /// octets are as before.
+#[inline(never)]
 pub fn write_name(
+    places: &mut Places,
+    out: &mut Vec<u8>,
+    mode: RDataEncoding,
+    limit: usize,
+    name: &[u8],
+) -> Result<(), WriteError>
+    requires { AreNameOctets name.now }
+    ensures ok { OnOk result ((mark : Bool) → NameWrote mode out.old.items (name_of name.now mark) out.new.items) }
+    ensures within { OnOk result (length out.new.items ≤ limit) }
+    ensures err { OnErr result (out.new.items ≡ out.old.items) }
+    ensures full { result ≡ Err WriteError.Buffer → limit < length out.old.items + (length name.now + 1) }
+{
+    match places.stands_recently(out.as_slice(), name) {
+        Some(place) => write_again(out, mode, limit, name, place),
+        None => write_new(places, out, mode, limit, name),
+    }
+}
+
+/// The same of a name that stands at this place, which was noted, and so were its tails: the least place serves, so nothing
+/// is noted.
+#[inline]
+fn write_again(
+    out: &mut Vec<u8>,
+    mode: RDataEncoding,
+    limit: usize,
+    name: &[u8],
+    place: usize,
+) -> Result<(), WriteError>
+    requires name { AreNameOctets name.now }
+    requires some { 0 < length name.now }
+    requires place { place < 16384 }
+    requires stands { StandsFor out.old.items place name.now }
+    ensures ok { OnOk result ((mark : Bool) → NameWrote mode out.old.items (name_of name.now mark) out.new.items) }
+    ensures within { OnOk result (length out.new.items ≤ limit) }
+    ensures err { OnErr result (out.new.items ≡ out.old.items) }
+    ensures full { result ≡ Err WriteError.Buffer → limit < length out.old.items + (length name.now + 1) }
+{
+    match mode {
+        RDataEncoding::StandardRecord => write_pointer(out, limit, place),
+        RDataEncoding::Canonical | RDataEncoding::Other => write_whole(out, limit, name),
+    }
+}
+
+/// Appends the two octets that point to a place.
+#[inline]
+fn write_pointer(out: &mut Vec<u8>, limit: usize, place: usize) -> Result<(), WriteError>
+    requires { place < 16384 }
+    ensures ok { OnOk result (out.new.items ≡ out.old.items ++ pointer place) }
+    ensures within { OnOk result (length out.new.items ≤ limit) }
+    ensures err { OnErr result (out.new.items ≡ out.old.items) }
+    ensures full { result ≡ Err WriteError.Buffer → limit < length out.old.items + 2 }
+{
+    if out.len() + 2 > limit {
+        return Err(WriteError::Buffer);
+    }
+    out.extend_from_slice(&[(192 + place / 256) as u8, (place % 256) as u8])?;
+    Ok(())
+}
+
+/// Appends a name's labels and the 0 behind them.
+#[inline]
+fn write_whole(out: &mut Vec<u8>, limit: usize, name: &[u8]) -> Result<(), WriteError>
+    requires { length name.now ≤ 254 }
+    ensures ok { OnOk result (out.new.items ≡ out.old.items ++ (name.now ++ 0 ∷ [])) }
+    ensures within { OnOk result (length out.new.items ≤ limit) }
+    ensures err { OnErr result (out.new.items ≡ out.old.items) }
+    ensures full { result ≡ Err WriteError.Buffer → limit < length out.old.items + (length name.now + 1) }
+{
+    let len = name.len() + 1;
+    if out.len() + len > limit {
+        return Err(WriteError::Buffer);
+    }
+    out.reserve(len)?;
+    out.extend_from_slice(name)?;
+    out.extend_from_slice(&[0])?;
+    Ok(())
+}
+
+/// The same as `write_name`, of a name that stands at neither of the two places that are looked at first.
+#[inline(never)]
+fn write_new(
     places: &mut Places,
     out: &mut Vec<u8>,
     mode: RDataEncoding,

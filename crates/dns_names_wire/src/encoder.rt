@@ -237,6 +237,7 @@ impl<'a> BinEncoder<'a> {
     }
 
     /// Appends the name of these octets, in the encoder's mode.
+    #[inline(always)]
     pub(crate) fn emit_name(&mut self, octets: &[u8], is_fqdn: bool) -> Result<(), ProtoError>
         requires { AreNameOctets octets.now }
         ensures emits { EmitsField Name (name_of octets.now is_fqdn) result self.old self.new }
@@ -283,6 +284,7 @@ fn append_both(out: &mut Vec<u8>, front: &[u8], rest: &[u8]) -> Result<(), Proto
 }
 
 // Appends a name's octets in a mode, or nothing.
+#[inline(always)]
 fn append_name(
     places: &mut Places,
     out: &mut Vec<u8>,

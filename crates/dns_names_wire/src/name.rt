@@ -212,6 +212,7 @@ impl BinEncodable for Name {
 
     /// Appends the name in the encoder's mode, its letters kept: labels and a 0 (RFC 1035, 3.1), or, in the mode
     /// `StandardRecord`, with a pointer in place of the longest tail with a label that stands already (4.1.4).
+    #[inline(always)]
     fn emit(&self, encoder: &mut BinEncoder<'_>) -> Result<(), ProtoError>
         ensures emits { EmitsField NameKind self.now result encoder.old encoder.new }
         ensures extends { Extends encoder.old encoder.new }

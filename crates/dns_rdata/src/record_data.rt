@@ -489,40 +489,45 @@ impl Clone for RData {
     ghost is_clone = { λ a b. b ≡ a };
 
     /// The same value in memory of its own.
+    // Each type returns by itself, so that it is written where the caller wants it, and where the arms of one value meet
+    // nothing is copied.
+    #[inline(never)]
     fn clone(&self) -> Result<RData, AllocError>
         ensures { IfOk result (λ copy. copy ≡ self.now) }
     {
-        Ok(match self {
-            RData::A(a) => RData::A(*a),
-            RData::AAAA(a) => RData::AAAA(*a),
-            RData::ANAME(rdata) => RData::ANAME(rdata.clone()?),
-            RData::CAA(rdata) => RData::CAA(rdata.clone()?),
-            RData::CERT(rdata) => RData::CERT(rdata.clone()?),
-            RData::CNAME(rdata) => RData::CNAME(rdata.clone()?),
-            RData::CSYNC(rdata) => RData::CSYNC(rdata.clone()?),
-            RData::HINFO(rdata) => RData::HINFO(rdata.clone()?),
-            RData::HTTPS(rdata) => RData::HTTPS(rdata.clone()?),
-            RData::MX(rdata) => RData::MX(rdata.clone()?),
-            RData::NAPTR(rdata) => RData::NAPTR(rdata.clone()?),
-            RData::NULL(rdata) => RData::NULL(rdata.clone()?),
-            RData::NS(rdata) => RData::NS(rdata.clone()?),
-            RData::OPENPGPKEY(rdata) => RData::OPENPGPKEY(rdata.clone()?),
-            RData::OPT(rdata) => RData::OPT(rdata.clone()?),
-            RData::PTR(rdata) => RData::PTR(rdata.clone()?),
-            RData::SMIMEA(rdata) => RData::SMIMEA(rdata.clone()?),
-            RData::SOA(rdata) => RData::SOA(rdata.clone()?),
-            RData::SRV(rdata) => RData::SRV(rdata.clone()?),
-            RData::SSHFP(rdata) => RData::SSHFP(rdata.clone()?),
-            RData::SVCB(rdata) => RData::SVCB(rdata.clone()?),
-            RData::TLSA(rdata) => RData::TLSA(rdata.clone()?),
-            RData::TXT(rdata) => RData::TXT(rdata.clone()?),
-            RData::Unknown { code, rdata } => RData::Unknown {
-                code: *code,
-                rdata: rdata.clone()?,
-            },
-            RData::Update0(record_type) => RData::Update0(*record_type),
-            RData::ZERO => RData::ZERO,
-        })
+        match self {
+            RData::A(a) => return Ok(RData::A(*a)),
+            RData::AAAA(a) => return Ok(RData::AAAA(*a)),
+            RData::ANAME(rdata) => return Ok(RData::ANAME(rdata.clone()?)),
+            RData::CAA(rdata) => return Ok(RData::CAA(rdata.clone()?)),
+            RData::CERT(rdata) => return Ok(RData::CERT(rdata.clone()?)),
+            RData::CNAME(rdata) => return Ok(RData::CNAME(rdata.clone()?)),
+            RData::CSYNC(rdata) => return Ok(RData::CSYNC(rdata.clone()?)),
+            RData::HINFO(rdata) => return Ok(RData::HINFO(rdata.clone()?)),
+            RData::HTTPS(rdata) => return Ok(RData::HTTPS(rdata.clone()?)),
+            RData::MX(rdata) => return Ok(RData::MX(rdata.clone()?)),
+            RData::NAPTR(rdata) => return Ok(RData::NAPTR(rdata.clone()?)),
+            RData::NULL(rdata) => return Ok(RData::NULL(rdata.clone()?)),
+            RData::NS(rdata) => return Ok(RData::NS(rdata.clone()?)),
+            RData::OPENPGPKEY(rdata) => return Ok(RData::OPENPGPKEY(rdata.clone()?)),
+            RData::OPT(rdata) => return Ok(RData::OPT(rdata.clone()?)),
+            RData::PTR(rdata) => return Ok(RData::PTR(rdata.clone()?)),
+            RData::SMIMEA(rdata) => return Ok(RData::SMIMEA(rdata.clone()?)),
+            RData::SOA(rdata) => return Ok(RData::SOA(rdata.clone()?)),
+            RData::SRV(rdata) => return Ok(RData::SRV(rdata.clone()?)),
+            RData::SSHFP(rdata) => return Ok(RData::SSHFP(rdata.clone()?)),
+            RData::SVCB(rdata) => return Ok(RData::SVCB(rdata.clone()?)),
+            RData::TLSA(rdata) => return Ok(RData::TLSA(rdata.clone()?)),
+            RData::TXT(rdata) => return Ok(RData::TXT(rdata.clone()?)),
+            RData::Unknown { code, rdata } => {
+                return Ok(RData::Unknown {
+                    code: *code,
+                    rdata: rdata.clone()?,
+                });
+            }
+            RData::Update0(record_type) => return Ok(RData::Update0(*record_type)),
+            RData::ZERO => return Ok(RData::ZERO),
+        }
     }
 }
 

@@ -19,17 +19,29 @@ pub fn same_octets(a: &[u8], b: &[u8]) -> bool
     if len > 64 {
         return same_many(a, b);
     }
+    if len <= 32 {
+        return same_middle(a, b);
+    }
+    let last = len - 32;
+    same_block(&a[..32], &b[..32]) & same_block(&a[last..], &b[last..])
+}
+
+/// The same for eight to thirty-two octets, as most names have.
+#[inline(always)]
+pub fn same_middle(a: &[u8], b: &[u8]) -> bool
+    requires many { 8 ≤ length a.now }
+    requires few { length a.now ≤ 32 }
+    requires length { length a.now ≡ length b.now }
+    ensures { IsTrue result ↔ (a.now ≡ b.now) }
+{
+    let len = a.len();
     // the octets of one size from the beginning, and as many to the end, without a branch between
     if len <= 16 {
         let last = len - 8;
         return same_word(&a[..8], &b[..8]) & same_word(&a[last..], &b[last..]);
     }
-    if len <= 32 {
-        let last = len - 16;
-        return same_pair(&a[..16], &b[..16]) & same_pair(&a[last..], &b[last..]);
-    }
-    let last = len - 32;
-    same_block(&a[..32], &b[..32]) & same_block(&a[last..], &b[last..])
+    let last = len - 16;
+    same_pair(&a[..16], &b[..16]) & same_pair(&a[last..], &b[last..])
 }
 
 /// Whether the arrays are the same, compared whole and without a branch where they are of 32 or 64 octets.
@@ -49,7 +61,7 @@ pub fn same_arrays<const N: usize>(a: &[u8; N], b: &[u8; N]) -> bool
 }
 
 // The same for thirty-two octets and more, by blocks of so many.
-#[inline(never)]
+#[inline]
 fn same_many(a: &[u8], b: &[u8]) -> bool
     requires many { 32 ≤ length a.now }
     requires length { length a.now ≡ length b.now }

@@ -3,14 +3,6 @@ use Rattle.std.proofs.lemmas.List.{length-take-le}
 use Rattle.dns_types.proofs.Pieces.{by_ends}
 use Rattle.dns_types.proofs.comparing.same_octets.Goals as goal
 
-pub returns-then-len-le16 : goal.returns-then-len-le16
-returns-then-len-le16 c = by_ends _ _ 8 (length c.args.a.now - 8) c.args.a.now c.args.b.now (omega arith)
-    c.same_word.ensures c.same_word-then-len-le16.ensures
-
-pub returns-then-len-le32 : goal.returns-then-len-le32
-returns-then-len-le32 c = by_ends _ _ 16 (length c.args.a.now - 16) c.args.a.now c.args.b.now (omega arith)
-    c.same_pair.ensures c.same_pair-then-len-le32.ensures
-
 pub slice_bounds-same_block-end : goal.slice_bounds-same_block-end
 slice_bounds-same_block-end c = sym (length-take-le 32 c.args.a.now (omega arith))
 
