@@ -21,9 +21,9 @@ use std::marker::Model;
 /// Up to `N` octets, without a request for memory.
 #[derive(Drop)]
 struct Inline<const N: usize> {
-    // beside the tag of `Kept` this fills a word, so that the octets begin at one, as a vector's parts do: loads and
-    // stores of both then meet at the same places
-    len: u32,
+    // fills a word, as the tag of `Kept` does with the zeros behind it: a load of the tag's word, where a vector has its
+    // parts, then meets one store, and need not wait for two
+    len: u64,
     // with zeros behind so many, so that two of them are compared whole
     octets: [u8; N],
 }
@@ -50,7 +50,7 @@ impl<const N: usize> Inline<N> {
         let mut kept = [0u8; N];
         kept[..len].copy_from_slice(octets);
         Inline {
-            len: len as u32,
+            len: len as u64,
             octets: kept,
         }
     }

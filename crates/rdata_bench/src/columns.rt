@@ -110,6 +110,7 @@ impl Row {
 }
 
 // A read is a call, which makes all of the value where it answers it; there it is dropped, as what is cloned is below.
+#[inline(never)]
 fn reads(alloc: Global, row: &Row, passes: u64) -> Result<()> {
     for _ in 0..passes {
         for other in &row.others {
@@ -119,8 +120,7 @@ fn reads(alloc: Global, row: &Row, passes: u64) -> Result<()> {
             }
             let mut decoder = BinDecoder::new(alloc, row.message.as_slice());
             let _before = decoder.read_slice(row.place)?;
-            let Ok(_) = RData::read(&mut decoder, row.record_type, Restrict::new(row.length))
-            else {
+            let Ok(_) = RData::read(&mut decoder, row.record_type, Restrict::new(row.length)) else {
                 anyhow::bail!("not read");
             };
         }
@@ -128,6 +128,7 @@ fn reads(alloc: Global, row: &Row, passes: u64) -> Result<()> {
     Ok(())
 }
 
+#[inline(never)]
 fn emits(alloc: Global, row: &mut Row, passes: u64) -> Result<()> {
     let Row { values, octets, .. } = row;
     let mut left = passes;
@@ -150,6 +151,7 @@ fn emits(alloc: Global, row: &mut Row, passes: u64) -> Result<()> {
     Ok(())
 }
 
+#[inline(never)]
 fn emits_fresh(alloc: Global, row: &mut Row, passes: u64) -> Result<()> {
     let Row { values, octets, .. } = row;
     for _ in 0..passes {
@@ -162,6 +164,7 @@ fn emits_fresh(alloc: Global, row: &mut Row, passes: u64) -> Result<()> {
     Ok(())
 }
 
+#[inline(never)]
 fn prints(row: &mut Row, passes: u64) -> Result<()> {
     let Row { values, text, .. } = row;
     for _ in 0..passes {
@@ -177,6 +180,7 @@ fn prints(row: &mut Row, passes: u64) -> Result<()> {
     Ok(())
 }
 
+#[inline(never)]
 fn clones(row: &Row, passes: u64) -> Result<()> {
     for _ in 0..passes {
         for value in &row.values {
@@ -192,6 +196,7 @@ fn clones(row: &Row, passes: u64) -> Result<()> {
     Ok(())
 }
 
+#[inline(never)]
 fn equals(row: &Row, passes: u64) -> Result<()> {
     for _ in 0..passes {
         for (value, other) in row.values.iter().zip(row.others.iter()) {
