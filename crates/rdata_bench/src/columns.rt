@@ -113,16 +113,21 @@ impl Row {
 #[inline(never)]
 fn reads(alloc: Global, row: &Row, passes: u64) -> Result<()> {
     for _ in 0..passes {
-        for other in &row.others {
-            if row.compares {
-                anyhow::ensure!(row.read(alloc)? == *other, "read otherwise");
-                continue;
-            }
+        for _ in 0..COPIES {
             let mut decoder = BinDecoder::new(alloc, row.message.as_slice());
             let _before = decoder.read_slice(row.place)?;
             let Ok(_) = RData::read(&mut decoder, row.record_type, Restrict::new(row.length)) else {
                 anyhow::bail!("not read");
             };
+        }
+    }
+    Ok(())
+}
+
+fn reads_compared(alloc: Global, row: &Row, passes: u64) -> Result<()> {
+    for _ in 0..passes {
+        for other in &row.others {
+            anyhow::ensure!(row.read(alloc)? == *other, "read otherwise");
         }
     }
     Ok(())
@@ -184,13 +189,18 @@ fn prints(row: &mut Row, passes: u64) -> Result<()> {
 fn clones(row: &Row, passes: u64) -> Result<()> {
     for _ in 0..passes {
         for value in &row.values {
-            if row.compares {
-                anyhow::ensure!(value.clone()? == *value, "cloned otherwise");
-                continue;
-            }
             let Ok(_) = value.clone() else {
                 anyhow::bail!("not cloned");
             };
+        }
+    }
+    Ok(())
+}
+
+fn clones_compared(row: &Row, passes: u64) -> Result<()> {
+    for _ in 0..passes {
+        for value in &row.values {
+            anyhow::ensure!(value.clone()? == *value, "cloned otherwise");
         }
     }
     Ok(())
@@ -232,6 +242,8 @@ fn orders(values: &[RData], others: &[RData], passes: u64) -> Result<()> {
 pub fn column(alloc: Global, row: &mut Row, name: &str, rounds: u64) -> Result<()> {
     let passes = rounds / COPIES;
     match name {
+        "read" if row.compares => reads_compared(alloc, row, passes),
+        "clone" if row.compares => clones_compared(row, passes),
         "read" => reads(alloc, row, passes),
         "emit" => emits(alloc, row, passes),
         "fresh" => emits_fresh(alloc, row, passes),
