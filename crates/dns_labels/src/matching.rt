@@ -1,6 +1,6 @@
 //! Whether a name's octets stand as a name at a place.
 
-ghost use Rattle.std.specs.Prelude.{◌≡◌, ℕ, List, ◌<◌, ◌≤◌, [], length, take, IfSome};
+ghost use Rattle.std.specs.Prelude.{◌≡◌, ℕ, List, ◌≤◌, ◌↔◌, [], IsTrue, length, take, IfSome};
 ghost use Rattle.std.specs.Bool.{OnTrue};
 ghost use Rattle.dns_labels.specs.Reading.{AddsRun};
 ghost use Rattle.dns_fields.specs.Labels.{AreLabels, wire};
@@ -62,30 +62,22 @@ pub(crate) fn stands_whole(message: &[u8], place: usize, octets: &[u8]) -> bool
     if message[place + len] != 0 {
         return false;
     }
-    if !same_octets(&message[place..place + len], octets) {
+    if !same_labels(&message[place..place + len], octets) {
         return false;
     }
     true
 }
 
-/// The same of eight to thirty-two octets, as most names have, without a call; of others it is not told.
-#[inline(always)]
-pub(crate) fn stands_short(message: &[u8], place: usize, octets: &[u8]) -> bool
-    requires { (labels : List (List ℕ)) × AreLabels labels × (octets.now ≡ wire labels) }
-    ensures stands { OnTrue result (StandsFor message.now place octets.now) }
-    ensures some { OnTrue result (0 < length octets.now) }
+/// Whether as many octets are the same, without a call where they are as many as most names have.
+#[inline]
+fn same_labels(a: &[u8], b: &[u8]) -> bool
+    requires { length a.now ≡ length b.now }
+    ensures { IsTrue result ↔ (a.now ≡ b.now) }
 {
-    let len = octets.len();
-    if len < 8 || len > 32 || place >= message.len() || message.len() - place <= len {
-        return false;
+    if a.len() >= 8 && a.len() <= 32 {
+        return same_middle(a, b);
     }
-    if message[place + len] != 0 {
-        return false;
-    }
-    if !same_middle(&message[place..place + len], octets) {
-        return false;
-    }
-    true
+    same_octets(a, b)
 }
 
 /// Whether the octets' labels are a name that stands in the message from that place.

@@ -6,7 +6,7 @@ ghost use Rattle.dns_fields.specs.Labels.{AreLabels, wire};
 ghost use Rattle.dns_labels.specs.Labels.{AreNameOctets};
 ghost use Rattle.dns_labels.specs.Emission.{StandsFor, IsNameCut};
 
-use crate::matching::{stands_at, stands_short, stands_whole};
+use crate::matching::{stands_at, stands_whole};
 use smallvec::SmallVec;
 use std::alloc::{AllocError, Global};
 
@@ -277,21 +277,6 @@ impl Places {
         self.recent = standing;
     }
 
-    /// The place of the name that was noted or found last, where it stands whole and the octets, which are as many as most
-    /// names have, are its.
-    #[inline(always)]
-    pub(crate) fn stands_last(&self, message: &[u8], octets: &[u8]) -> Option<usize>
-        requires { (labels : List (List ℕ)) × AreLabels labels × (octets.now ≡ wire labels) }
-        ensures place { IfSome result (λ q. (q < 16384) × StandsFor message.now q octets.now) }
-        ensures some { IfSome result (λ _. 0 < length octets.now) }
-    {
-        let place = self.recent.place as usize;
-        if self.recent.whole && place < PLACES && stands_short(message, place, octets) {
-            return Some(place);
-        }
-        None
-    }
-
     /// The place of one of the two names that were noted or found last, where the octets stand there, too: a record often
     /// has the names of the one before it.
     #[inline]
@@ -301,10 +286,25 @@ impl Places {
         ensures place { IfSome result (λ q. (q < 16384) × StandsFor message.now q octets.now) }
         ensures some { IfSome result (λ _. 0 < length octets.now) }
     {
-        if octets.len() == 0 {
+        let place = self.recent.place as usize;
+        if octets.len() == 0 || place >= PLACES {
             return None;
         }
-        if self.recent.has(message, octets) {
+        // the last one, where it stands whole, is looked at without a call
+        if self.recent.whole && stands_whole(message, place, octets) {
+            return Some(place);
+        }
+        self.stands_otherwise(message, octets)
+    }
+
+    // The same of the last one where a pointer stands behind some of its labels, and of the one before.
+    #[inline(never)]
+    fn stands_otherwise(&self, message: &[u8], octets: &[u8]) -> Option<usize>
+        requires short { length octets.now ≤ 254 }
+        requires labels { (labels : List (List ℕ)) × AreLabels labels × (octets.now ≡ wire labels) }
+        ensures { IfSome result (λ q. (q < 16384) × StandsFor message.now q octets.now) }
+    {
+        if !self.recent.whole && self.recent.has(message, octets) {
             return Some(self.recent.place as usize);
         }
         if self.earlier.has(message, octets) {

@@ -139,32 +139,6 @@ pub fn write_name(
     ensures err { OnErr result (out.new.items ≡ out.old.items) }
     ensures full { result ≡ Err WriteError.Buffer → limit < length out.old.items + (length name.now + 1) }
 {
-    // so most records of a set name what the one before them named: without a call, so that nothing is kept for one
-    if let RDataEncoding::StandardRecord = mode {
-        if out.capacity() - out.len() >= 2 {
-            if let Some(place) = places.stands_last(out.as_slice(), name) {
-                return write_pointer(out, limit, place);
-            }
-        }
-    }
-    write_other(places, out, mode, limit, name)
-}
-
-/// The same, whatever the name and the mode.
-#[inline(never)]
-fn write_other(
-    places: &mut Places,
-    out: &mut Vec<u8>,
-    mode: RDataEncoding,
-    limit: usize,
-    name: &[u8],
-) -> Result<(), WriteError>
-    requires { AreNameOctets name.now }
-    ensures ok { OnOk result ((mark : Bool) → NameWrote mode out.old.items (name_of name.now mark) out.new.items) }
-    ensures within { OnOk result (length out.new.items ≤ limit) }
-    ensures err { OnErr result (out.new.items ≡ out.old.items) }
-    ensures full { result ≡ Err WriteError.Buffer → limit < length out.old.items + (length name.now + 1) }
-{
     match places.stands_recently(out.as_slice(), name) {
         Some(place) => write_again(out, mode, limit, name, place),
         None => write_new(places, out, mode, limit, name),

@@ -6,4 +6,4 @@ pub returns : goal.returns
 returns c =
     let m = c.args.message.now in
     tail_whole m c.args.place c.args.octets.now _ c.requires.0 c.requires.1 c.requires.2 (omega arith)
-    (ap (λ (k : ℕ). take k (drop c.args.place m)) (omega arith)) (c.same_octets.ensures.0 c.if-not-same_octets.false) c.if-message-place-ne0.false
+    (ap (λ (k : ℕ). take k (drop c.args.place m)) (omega arith)) (c.same_labels.ensures.0 c.if-not-same_labels.false) c.if-message-place-ne0.false

@@ -1,9 +1,0 @@
-use Rattle.std.proofs.Common.{ap, ℕ, take, drop, arith}
-use Rattle.dns_labels.proofs.WholeTails.{tail_whole}
-use Rattle.dns_labels.proofs.matching.stands_short.Goals as goal
-
-pub returns-clause-stands : goal.returns-clause-stands
-returns-clause-stands c =
-    let m = c.args.message.now in
-    tail_whole m c.args.place c.args.octets.now _ c.requires.0 c.requires.1 c.requires.2 (omega arith)
-    (ap (λ (k : ℕ). take k (drop c.args.place m)) (omega arith)) (c.same_middle.ensures.0 c.if-not-same_middle.false) c.if-message-place-ne0.false
