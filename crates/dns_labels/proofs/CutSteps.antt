@@ -9,22 +9,16 @@ use Rattle.dns_fields.specs.Names.{LabelsStand, pointer}
 use Rattle.dns_fields.specs.Names.LabelsStand.{whole, pointed}
 use Rattle.dns_labels.specs.Reading.{stop_octets}
 use Rattle.dns_fields.proofs.Stays.{stands_before}
-use Rattle.dns_labels.specs.Emission.{StandsFor, IsNameCut, LeadsTo, AddsName}
+use Rattle.dns_labels.specs.Emission.{StandsFor, CutAt, IsNameCut, LeadsTo, AddsName}
 use Rattle.dns_fields.proofs.Runs.{wire-append, AreLabels-append}
 use Rattle.dns_labels.proofs.Octets.{labels_of-wire}
 
--- the octets are labels up to the cut, and labels from there on
-pub record CutAt (octets : List ℕ) (cut : ℕ) : Type 0 where
-  pub front : List (List ℕ)
-  pub rest : List (List ℕ)
-  pub are_front : AreLabels front
-  pub are_rest : AreLabels rest
-  pub front_is : take cut octets ≡ wire front
-  pub rest_is : drop cut octets ≡ wire rest
-  pub within : cut ≤ length octets
+pub cut_start : (octets : List ℕ) (labels : List (List ℕ)) → AreLabels labels → octets ≡ wire labels → CutAt octets 0
+cut_start octets labels are is =
+    record { front = []; rest = labels; are_front = tt; are_rest = are; front_is = refl; rest_is = is; within = omega arith }
 
 pub cut_none : (octets : List ℕ) → AreNameOctets octets → CutAt octets 0
-cut_none octets n = record { front = []; rest = labels_of octets; are_front = tt; are_rest = n.are; front_is = refl; rest_is = n.same; within = omega arith }
+cut_none octets n = cut_start octets (labels_of octets) n.are n.same
 
 same_wire : (a b : List (List ℕ)) → wire a ≡ wire b → a ≡ b
 same_wire a b e = sym (labels_of-wire a) ∙ ap (λ (x : List ℕ). labels_of x) e ∙ labels_of-wire b

@@ -5,6 +5,7 @@ pub mod ReadingSteps
 pub mod ReadingRuns
 pub mod WritingSteps
 pub mod WholeTails
+pub mod TwoParts
 pub mod CutSteps
 pub mod Found
 pub mod Wrote

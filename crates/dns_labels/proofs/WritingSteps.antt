@@ -1,9 +1,9 @@
 -- The steps by which a tail is found.
-use Rattle.std.proofs.Common.{◌≡◌, ℕ, Bool, true, false, not, ◌+◌, ◌<◌, ◌≤◌, List, [], ◌++◌, length, take, drop, Option, Some, None, refl}
+use Rattle.std.proofs.Common.{◌≡◌, ℕ, ◌+◌, ◌<◌, ◌≤◌, List, [], ◌++◌, length, take, drop, Option, Some, None, refl}
 use Rattle.std.proofs.Common.{sym, ◌∙◌, ap, subst, append_assoc, arith, length-drop, length-take}
 use Rattle.std.proofs.lemmas.List.{append-nil, take_all}
 use Rattle.std.proofs.Math.Seq.{take-add}
-use Rattle.std.proofs.lemmas.Bool.{false≢true, eqb-true}
+use Rattle.std.proofs.lemmas.Bool.{OnTrue_from, eqb-true}
 use Rattle.std.specs.Bool.{OnTrue}
 use Rattle.std.specs.Prelude.{nat_eq}
 use Rattle.std.proofs.Common.{get_or}
@@ -22,10 +22,6 @@ pub record Matched (message : List ℕ) (place : ℕ) (window : List ℕ) (begin
   pub within : matched ≤ length octets
   pub begins : begin ≤ length window
   pub leads : (rest : List (List ℕ)) (end : ℕ) → LabelsStand window begin rest end → (e : ℕ) × LabelsStand message place (front ++ rest) e
-
-pub not_false : (b : Bool) → false ≡ not b → b ≡ true
-not_false true h = refl
-not_false false h = absurd (false≢true h)
 
 -- octets that stand in the message and in the name are one label more
 pub one_matched : (message : List ℕ) (place at taken : ℕ) (octets a b : List ℕ) → SoFar message place at [] (take taken octets) × (taken ≤ length octets)
@@ -77,13 +73,9 @@ all_matched message place window begin octets matched taken stop is m run whole 
     let k = m.leads f r.0 last in
     record { labels = m.front ++ f; end = k.0; stands = k.1; same = sym all ∙ t ∙ sym (wire-append m.front f) }
 
-on_true : (b : Bool) (P : Type 0) → (b ≡ true → P) → OnTrue b P
-on_true true P h = h refl
-on_true false P h = tt
-
 pub is_matched : (message : List ℕ) (place : ℕ) (window : List ℕ) (begin : ℕ) (octets : List ℕ) (matched taken : ℕ) (stop : Option ℕ) → stop ≡ None
     → Matched message place window begin octets matched → IsNextRun window begin octets matched stop taken
     → OnTrue (nat_eq (matched + taken) (length octets)) (StandsFor message place octets)
 is_matched message place window begin octets matched taken stop is m run =
-    on_true (nat_eq (matched + taken) (length octets)) (StandsFor message place octets)
+    OnTrue_from (nat_eq (matched + taken) (length octets)) (StandsFor message place octets)
     (λ h. all_matched message place window begin octets matched taken stop is m run (eqb-true (matched + taken) (length octets) h))

@@ -4,7 +4,7 @@ ghost use Rattle.std.specs.Prelude.{◌≡◌, ℕ, List, ◌≤◌, ◌↔◌, 
 ghost use Rattle.std.specs.Bool.{OnTrue};
 ghost use Rattle.dns_labels.specs.Reading.{AddsRun};
 ghost use Rattle.dns_fields.specs.Labels.{AreLabels, wire};
-ghost use Rattle.dns_labels.specs.Emission.{StandsFor};
+ghost use Rattle.dns_labels.specs.Emission.{StandsFor, CutAt};
 
 use dns_types::comparing::{same_middle, same_octets};
 
@@ -78,6 +78,46 @@ fn same_labels(a: &[u8], b: &[u8]) -> bool
         return same_middle(a, b);
     }
     same_octets(a, b)
+}
+
+/// Whether so many of the octets, which are labels, stand from that place, and behind them a pointer to where the others stand
+/// whole: so most names stand that share a tail.
+#[inline]
+pub(crate) fn stands_in_two(message: &[u8], place: usize, octets: &[u8], front: usize) -> bool
+    requires short { length octets.now ≤ 254 }
+    requires labels { (labels : List (List ℕ)) × AreLabels labels × (octets.now ≡ wire labels) }
+    ensures { OnTrue result (StandsFor message.now place octets.now) }
+{
+    if front >= octets.len() || place >= message.len() || message.len() - place < front + 2 {
+        return false;
+    }
+    let first = message[place + front] as usize;
+    let second = message[place + front + 1] as usize;
+    if first < 192 || (first - 192) * 256 + second >= place {
+        return false;
+    }
+    if !same_labels(&message[place..place + front], &octets[..front]) {
+        return false;
+    }
+    if !is_cut(octets, front) {
+        return false;
+    }
+    stands_whole(&message[..place], (first - 192) * 256 + second, &octets[front..])
+}
+
+/// Whether a label ends where so many of the octets, which are labels, are in front.
+#[inline]
+fn is_cut(octets: &[u8], front: usize) -> bool
+    requires within { front ≤ length octets.now }
+    requires short { length octets.now ≤ 254 }
+    requires labels { (labels : List (List ℕ)) × AreLabels labels × (octets.now ≡ wire labels) }
+    ensures { OnTrue result (CutAt octets.now front) }
+{
+    let mut cut = 0usize;
+    'labels: while cut < front {
+        cut += octets[cut] as usize + 1;
+    }
+    cut == front
 }
 
 /// Whether the octets' labels are a name that stands in the message from that place.

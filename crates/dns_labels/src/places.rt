@@ -6,7 +6,7 @@ ghost use Rattle.dns_fields.specs.Labels.{AreLabels, wire};
 ghost use Rattle.dns_labels.specs.Labels.{AreNameOctets};
 ghost use Rattle.dns_labels.specs.Emission.{StandsFor, IsNameCut};
 
-use crate::matching::{stands_at, stands_whole};
+use crate::matching::{stands_at, stands_in_two, stands_whole};
 use smallvec::SmallVec;
 use std::alloc::{AllocError, Global};
 
@@ -191,16 +191,17 @@ struct Bucket {
     last: u16,
 }
 
-/// The place of a name, and whether all of its labels stand there, or a pointer behind some of them.
+/// The place of a name, and how many of its octets stand there: all, or some with a pointer behind them; 0 where that is not
+/// known.
 #[derive(Clone, Copy)]
 struct Standing {
     place: u16,
-    whole: bool,
+    front: u16,
 }
 
 const NOWHERE: Standing = Standing {
     place: NONE,
-    whole: true,
+    front: 0,
 };
 
 impl Standing {
@@ -213,13 +214,20 @@ impl Standing {
         ensures stands { OnTrue result (StandsFor message.now self.place octets.now) }
     {
         let place = self.place as usize;
+        let front = self.front as usize;
         if place >= PLACES {
             return false;
         }
-        if self.whole {
+        if front == octets.len() {
             return stands_whole(message, place, octets);
         }
-        begins_alike(message, place, octets) && stands_at(message, place, octets)
+        if !begins_alike(message, place, octets) {
+            return false;
+        }
+        if stands_in_two(message, place, octets, front) {
+            return true;
+        }
+        stands_at(message, place, octets)
     }
 }
 
@@ -291,7 +299,7 @@ impl Places {
             return None;
         }
         // the last one, where it stands whole, is looked at without a call
-        if self.recent.whole && stands_whole(message, place, octets) {
+        if self.recent.front as usize == octets.len() && stands_whole(message, place, octets) {
             return Some(place);
         }
         self.stands_otherwise(message, octets)
@@ -304,7 +312,7 @@ impl Places {
         requires labels { (labels : List (List ℕ)) × AreLabels labels × (octets.now ≡ wire labels) }
         ensures { IfSome result (λ q. (q < 16384) × StandsFor message.now q octets.now) }
     {
-        if !self.recent.whole && self.recent.has(message, octets) {
+        if self.recent.front as usize != octets.len() && self.recent.has(message, octets) {
             return Some(self.recent.place as usize);
         }
         if self.earlier.has(message, octets) {
@@ -338,11 +346,16 @@ impl Places {
             let entry = entries[at];
             let place = entry.place as usize;
             if entry.hash == hash && place < PLACES {
-                let whole = stands_whole(message, place, octets);
-                if whole || stands_at(message, place, octets) {
+                if stands_whole(message, place, octets) {
                     return Some(Standing {
                         place: entry.place,
-                        whole,
+                        front: octets.len() as u16,
+                    });
+                }
+                if stands_at(message, place, octets) {
+                    return Some(Standing {
+                        place: entry.place,
+                        front: 0,
                     });
                 }
             }
@@ -400,7 +413,7 @@ impl Places {
         if start < PLACES && written > 0 && written < 256 {
             self.remember(Standing {
                 place: start as u16,
-                whole: true,
+                front: written as u16,
             });
             self.waiting = start as u16;
             self.waiting_len = written as u16;
@@ -437,10 +450,10 @@ impl Places {
     ) -> Result<(), AllocError>
         requires { written ≤ length name.now }
     {
-        if written > 0 && start < PLACES {
+        if written > 0 && written < 256 && start < PLACES {
             self.remember(Standing {
                 place: start as u16,
-                whole: written == name.len(),
+                front: written as u16,
             });
         }
         self.note_labels(start, name, written, hash)

@@ -1,5 +1,5 @@
 use Rattle.std.proofs.Common.{length, ◌-◌}
-use Rattle.dns_labels.proofs.CutSteps.{CutAt}
+use Rattle.dns_labels.specs.Emission.{CutAt}
 use Rattle.dns_labels.proofs.places.Places.shorter_tail.Given as goal
 
 abbrev pub invariant-labels : goal.invariant-labels
