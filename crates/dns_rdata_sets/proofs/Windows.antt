@@ -17,31 +17,6 @@ use Rattle.dns_rdata_sets.specs.RecordTypeSet.{AreOfWindow}
 use Rattle.dns_rdata_sets.proofs.SetWrites.{above_at}
 use mir.Syntax.{w8}
 
--- ---- one bit more
-
-marked_same : (out : List ℕ) (b n : ℕ) → length out ≡ 32 → b < 256 → n / 8 ≡ b / 8 → (v : ℕ) → get_or (set out (b / 8) v) (n / 8) 0 ≡ v
-marked_same out b n l h e v = ap (λ (k : ℕ). get_or (set out (b / 8) v) k 0) e ∙ get_or-set_same out (b / 8) v 0 (omega arith)
-
-pub marked : (out : List ℕ) (b n : ℕ) → length out ≡ 32 → b < 256 → n < 256
-    → bit_at (get_or (set out (b / 8) (bit_or (get_or out (b / 8) 0) (1 * 2 ^ (7 - b % 8) % 2 ^ 8))) (n / 8) 0) (7 - n % 8) ≡ cond (b == n) 1
-    (bit_at (get_or out (n / 8) 0) (7 - n % 8))
-marked out b n l h k =
-    let v : ℕ = bit_or (get_or out (b / 8) 0) (1 * 2 ^ (7 - b % 8) % 2 ^ 8) in
-    elim (eqb_tells b n) [
-      | inl t ↦ subst (λ (m : ℕ). bit_at (get_or (set out (b / 8) v) (m / 8) 0) (7 - m % 8) ≡ cond (b == m) 1 (bit_at (get_or out (m / 8) 0) (7 - m % 8))) t.1
-          (ap (λ (x : ℕ). bit_at x (7 - b % 8)) (marked_same out b b l h (λ i. b / 8) v)
-          ∙ bit_at_set_same w8 (get_or out (b / 8) 0) (7 - b % 8) (omega arith)
-          ∙ sym (ap (λ (c : Bool). cond c 1 (bit_at (get_or out (b / 8) 0) (7 - b % 8))) (ap (λ (m : ℕ). b == m) t.1 ∙ t.0)))
-      | inr t ↦ elim (eqb_tells (n / 8) (b / 8)) [
-        | inl e ↦ ap (λ (x : ℕ). bit_at x (7 - n % 8)) (marked_same out b n l h e.1 v)
-            ∙ bit_at_set_other w8 (get_or out (b / 8) 0) (7 - b % 8) (omega arith) (7 - n % 8) (let ne = t.1 in let q = e.1 in omega arith)
-            ∙ ap (λ (m : ℕ). bit_at (get_or out m 0) (7 - n % 8)) (sym e.1)
-            ∙ sym (ap (λ (c : Bool). cond c 1 (bit_at (get_or out (n / 8) 0) (7 - n % 8))) t.0)
-        | inr e ↦ ap (λ (x : ℕ). bit_at x (7 - n % 8)) (get_or-set_other out (b / 8) (n / 8) v 0 e.1)
-            ∙ sym (ap (λ (c : Bool). cond c 1 (bit_at (get_or out (n / 8) 0) (7 - n % 8))) t.0)
-      ]
-    ]
-
 -- ---- the bits of all types of a run
 
 pub of_window : (k : ℕ) (run : List ℕ) (i : ℕ) → AreOfWindow k run → i < length run → get_or run i 0 / 256 ≡ k
@@ -56,9 +31,13 @@ in_window t k n h e = grind (arith, nat_tests)
 pub record HasMarks (octets run : List ℕ) (k : ℕ) : Type 0 where
   pub bits : (n : ℕ) → n < 256 → bit_at (get_or octets (n / 8) 0) (7 - n % 8) ≡ mark run (256 * k + n)
 
-pub blank : (run : List ℕ) (k : ℕ) → HasMarks (replicate 32 0) (take 0 run) k
+-- the same of four numbers of sixty-four bits
+pub record HasWordMarks (words run : List ℕ) (k : ℕ) : Type 0 where
+  pub bits : (n : ℕ) → n < 256 → bit_at (get_or words (n / 64) 0) (63 - n % 64) ≡ mark run (256 * k + n)
+
+pub blank : (run : List ℕ) (k : ℕ) → HasWordMarks (replicate 4 0) (take 0 run) k
 unfolding mark
-blank run k = record { bits = λ n h. ap (λ (x : ℕ). bit_at x (7 - n % 8)) (get_or-replicate 32 (n / 8) 0 0 (omega arith)) ∙ bit_at-zero (7 - n % 8) }
+blank run k = record { bits = λ n h. ap (λ (x : ℕ). bit_at x (63 - n % 64)) (get_or-replicate 4 (n / 64) 0 0 (omega arith)) ∙ bit_at-zero (63 - n % 64) }
 
 mark_more : (run : List ℕ) (i u : ℕ) → i < length run → cond (get_or run i 0 == u) 1 (mark (take i run) u) ≡ mark (take (i + 1) run) u
 unfolding mark
@@ -70,10 +49,10 @@ mark_more run i u l = both (contains u (take i run)) (get_or run i 0 == u) ∙ a
     both false true = refl
     both false false = refl
 
-pub marks_more : (octets new run : List ℕ) (i k : ℕ) → i < length run → get_or run i 0 / 256 ≡ k → HasMarks octets (take i run) k
-    → ((n : ℕ) → n < 256 → bit_at (get_or new (n / 8) 0) (7 - n % 8) ≡ cond (get_or run i 0 % 256 == n) 1 (bit_at (get_or octets (n / 8) 0) (7 - n % 8)))
-    → HasMarks new (take (i + 1) run) k
-marks_more octets new run i k l e a f = record {
+pub marks_more : (words new run : List ℕ) (i k : ℕ) → i < length run → get_or run i 0 / 256 ≡ k → HasWordMarks words (take i run) k
+    → ((n : ℕ) → n < 256 → bit_at (get_or new (n / 64) 0) (63 - n % 64) ≡ cond (get_or run i 0 % 256 == n) 1 (bit_at (get_or words (n / 64) 0) (63 - n % 64)))
+    → HasWordMarks new (take (i + 1) run) k
+marks_more words new run i k l e a f = record {
   bits = λ n h.
       f n h ∙ ap (λ (x : ℕ). cond (get_or run i 0 % 256 == n) 1 x) (a.bits n h)
       ∙ ap (λ (b : Bool). cond b 1 (mark (take i run) (256 * k + n))) (in_window (get_or run i 0) k n h e)

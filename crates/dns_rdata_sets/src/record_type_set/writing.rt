@@ -1,7 +1,7 @@
 //! The shortest bitmap of numbers.
 
-ghost use Rattle.std.specs.Prelude.{◌≡◌, ◌≢◌, ◌+◌, ◌-◌, ◌*◌, ◌/◌, ◌%◌, ◌<◌, ◌≤◌, ◌==◌, ℕ, if◌then◌else◌, length, take, slice_index};
-ghost use Rattle.std.specs.Int.{bit_at};
+ghost use Rattle.std.specs.Prelude.{◌≡◌, ◌≢◌, ◌+◌, ◌-◌, ◌*◌, ◌/◌, ◌%◌, ◌<◌, ◌≤◌, ◌==◌, ◌++◌, ℕ, if◌then◌else◌, length, take, drop, slice_index};
+ghost use Rattle.std.specs.Int.{bit_at, bytes_high_first};
 ghost use Rattle.dns_fields.specs.Octets.{AreOctets};
 ghost use Rattle.dns_fields.specs.Bitmaps.{IsBlock, IsTypeSet, Rises, mark};
 ghost use Rattle.dns_fields.specs.Fields.{Bitmap};
@@ -80,19 +80,39 @@ pub(super) fn mark_window(octets: &mut [u8; 32], run: &[u16])
     requires run { AreOfWindow (first_window run.now) run.now }
     ensures { (n : ℕ) → n < 256 → bit_at (slice_index octets.new (n / 8)) (7 - n % 8) ≡ mark run.now (256 * first_window run.now + n) }
 {
-    *octets = [0; 32];
+    // The bits are put together in whole numbers: octets that were stored one by one are slow to load at once.
+    let mut words = [0u64; 4];
     for t in run {
-        mark_bit(octets, (*t % 256) as usize);
+        mark_bit(&mut words, (*t % 256) as usize);
+    }
+    spell(octets, &words);
+}
+
+// Sets bit b of a window, the highest of its number first.
+#[inline]
+fn mark_bit(words: &mut [u64; 4], b: usize)
+    requires bit { b < 256 }
+    ensures { (n : ℕ) → n < 256 → bit_at (slice_index words.new (n / 64)) (63 - n % 64)
+        ≡ (if b == n then 1 else bit_at (slice_index words.old (n / 64)) (63 - n % 64)) }
+{
+    words[b / 64] |= 1 << (63 - b % 64);
+}
+
+// Makes of four numbers their octets, the highest of each first.
+#[inline]
+fn spell(octets: &mut [u8; 32], words: &[u64; 4])
+    ensures { (n : ℕ) → n < 256 → bit_at (slice_index octets.new (n / 8)) (7 - n % 8) ≡ bit_at (slice_index words.now (n / 64)) (63 - n % 64) }
+{
+    for i in 0..4usize {
+        put_word(octets, 8 * i, words[i]);
     }
 }
 
-// Sets bit b of a window, the highest of its octet first.
+// Puts the octets of a number at a place, the highest first.
 #[inline]
-fn mark_bit(octets: &mut [u8], b: usize)
-    requires bit { b < 256 }
-    requires window { length octets.old ≡ 32 }
-    ensures { (n : ℕ) → n < 256 → bit_at (slice_index octets.new (n / 8))
-        (7 - n % 8) ≡ (if b == n then 1 else bit_at (slice_index octets.old (n / 8)) (7 - n % 8)) }
+fn put_word(octets: &mut [u8], at: usize, word: u64)
+    requires { at + 8 ≤ length octets.old }
+    ensures { octets.new ≡ take at octets.old ++ (bytes_high_first 8 word ++ drop (at + 8) octets.old) }
 {
-    octets[b / 8] |= 1 << (7 - b % 8);
+    octets[at..at + 8].copy_from_slice(&word.to_be_bytes());
 }
