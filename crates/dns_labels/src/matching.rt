@@ -102,7 +102,11 @@ pub(crate) fn stands_in_two(message: &[u8], place: usize, octets: &[u8], front: 
     if !is_cut(octets, front) {
         return false;
     }
-    stands_whole(&message[..place], (first - 192) * 256 + second, &octets[front..])
+    stands_whole(
+        &message[..place],
+        (first - 192) * 256 + second,
+        &octets[front..],
+    )
 }
 
 /// Whether a label ends where so many of the octets, which are labels, are in front.

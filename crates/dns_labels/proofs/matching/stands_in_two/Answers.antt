@@ -1,4 +1,4 @@
-use Rattle.std.proofs.Common.{ap, ℕ, ◌+◌, take, drop, arith}
+use Rattle.std.proofs.Common.{ap, ℕ, take, drop, arith}
 use Rattle.std.proofs.lemmas.Bool.{OnTrue_at, OnTrue_from}
 use Rattle.std.proofs.lemmas.List.{take_rest}
 use Rattle.dns_labels.specs.Emission.{StandsFor}
