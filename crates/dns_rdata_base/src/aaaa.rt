@@ -112,7 +112,7 @@ impl PartialEq for AAAA {
 
     ghost laws = { partial_equiv_from_equiv (on_equiv aaaa_fields (values_equiv aaaa_shape)) };
 
-    #[inline]
+    #[inline(always)]
     fn eq(&self, other: &AAAA) -> bool {
         // one comparison of sixteen octets, once compiled
         let [a0, a1, a2, a3, a4, a5, a6, a7] = self.0.segments();

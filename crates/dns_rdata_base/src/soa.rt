@@ -1,6 +1,7 @@
 //! SOA: the start of a zone of authority (RFC 1035, 3.3.13).
 
-ghost use Rattle.std.specs.Prelude.{◌≡◌, ◌+◌, ◌%◌, IfErr, IfOk};
+ghost use Rattle.std.specs.Prelude.{◌≡◌, ◌+◌, ◌++◌, ◌%◌, IfErr, IfOk};
+ghost use Rattle.std.specs.Int.{bytes_high_first};
 ghost use Rattle.dns_fields.specs.Fields.{Stands};
 ghost use Rattle.dns_fields.specs.declared.RDataEncoding.TheVariants as modes;
 ghost use Rattle.dns_names_wire.specs.Words.{ReadsIf, ReadsBy, ReadsWindow, Emits, EmitsAs, Extends, Keeps, always};
@@ -111,14 +112,21 @@ fn emit_five(
 ) -> Result<(), ProtoError>
     ensures { Emits soa_numbers_shape (a, (b, (c, (d, (e, tt))))) result encoder.old encoder.new }
 {
-    let [a0, a1, a2, a3] = a.to_be_bytes();
-    let [b0, b1, b2, b3] = b.to_be_bytes();
-    let [c0, c1, c2, c3] = c.to_be_bytes();
-    let [d0, d1, d2, d3] = d.to_be_bytes();
-    let [e0, e1, e2, e3] = e.to_be_bytes();
-    encoder.emit_vec(&[
-        a0, a1, a2, a3, b0, b1, b2, b3, c0, c1, c2, c3, d0, d1, d2, d3, e0, e1, e2, e3,
-    ])
+    encoder.emit_vec(&five_numbers(a, b, c, d, e))
+}
+
+// The octets of five numbers, put there number by number: each is then stored at once, and not octet by octet.
+#[inline(always)]
+fn five_numbers(a: u32, b: u32, c: u32, d: u32, e: u32) -> [u8; 20]
+    ensures { result ≡ bytes_high_first 4 a ++ (bytes_high_first 4 b ++ (bytes_high_first 4 c ++ (bytes_high_first 4 d ++ bytes_high_first 4 e))) }
+{
+    let mut octets = [0u8; 20];
+    octets[..4].copy_from_slice(&a.to_be_bytes());
+    octets[4..8].copy_from_slice(&b.to_be_bytes());
+    octets[8..12].copy_from_slice(&c.to_be_bytes());
+    octets[12..16].copy_from_slice(&d.to_be_bytes());
+    octets[16..].copy_from_slice(&e.to_be_bytes());
+    octets
 }
 
 impl BinDecodable for SOA {

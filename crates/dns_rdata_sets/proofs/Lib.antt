@@ -14,6 +14,5 @@ pub mod SetWrites
 pub mod WindowOctets
 pub mod WindowOrders
 pub mod WindowSteps
-pub mod WindowWords
 pub mod Windows
 pub mod WordTypes

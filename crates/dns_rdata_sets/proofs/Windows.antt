@@ -1,21 +1,68 @@
 -- The octets of a window, from the numbers of its types.
 use Rattle.std.proofs.Common.{◌≡◌, ◌≢◌, ℕ, zero, suc, ◌+◌, ◌-◌, ◌*◌, ◌/◌, ◌%◌, ◌<◌, ◌≤◌, ◌^◌, ◌==◌, ◌||◌, Bool, true, false, cond, inl}
-use Rattle.std.proofs.Common.{inr, ◌⊎◌, ⊎_elim, List, [], ◌∷◌, length, get_or, take, map, replicate, bit_or, refl, sym, ap, ◌∙◌, subst}
+use Rattle.std.proofs.Common.{inr, ◌⊎◌, ⊎_elim, List, [], ◌∷◌, ◌++◌, length, get_or, take, map, replicate, bit_or, refl, sym, ap, ◌∙◌, subst}
 use Rattle.std.proofs.Common.{pow-suc, arith}
 use Rattle.std.specs.List.{AllByRecursion, range_with_len}
-use Rattle.std.specs.Int.{bit_at}
+use Rattle.std.specs.Int.{bit_at, bytes_high_first}
 use Rattle.std.proofs.Math.ListN.{set}
+use Rattle.std.proofs.lemmas.Bool.{cases_lt}
 use Rattle.std.proofs.lemmas.Bool.Decides.{eqb_tells, nat_tests}
-use Rattle.std.proofs.lemmas.List.{get_or-set_same, get_or-set_other, get_or-replicate, get_or_past}
+use Rattle.std.proofs.lemmas.List.{get_or-set_same, get_or-set_other, get_or-replicate, get_or_past, get_or_append_left, get_or-append_right}
 use Rattle.std.proofs.lemmas.List.Folds.{list_any_more}
 use Rattle.std.proofs.lemmas.List.FromFn.{get_or-map-range_with_len, length-map-range_with_len}
+use Rattle.std.proofs.lemmas.Nat.{shr-shr}
 use Rattle.std.proofs.lemmas.Nat.Bits.{bit_at_set_same, bit_at_set_other, bit_at-zero, bit_at_lowest, bit_at_cat_low, bit_at_cat_high, same_from_bits_below}
 use Rattle.dns_fields.specs.Octets.{AreOctets}
 use Rattle.dns_fields.specs.Bitmaps.{contains, Rises, packed, mark, keep, trimmed, types_octet, window}
 use Rattle.dns_fields.proofs.Bitmaps.{mark_small, none_great}
 use Rattle.dns_rdata_sets.specs.RecordTypeSet.{AreOfWindow}
 use Rattle.dns_rdata_sets.proofs.SetWrites.{above_at}
-use mir.Syntax.{w8}
+use mir.Syntax.{w8, w64}
+
+-- ---- the octets of a number, and their bits
+
+-- octet k of eight, the highest first
+bytes_at : (w k : ℕ) → k < 8 → get_or (bytes_high_first 8 w) k 0 ≡ w / 2 ^ (8 * (7 - k)) % 2 ^ 8
+bytes_at w zero h = refl
+bytes_at w (suc zero) h = refl
+bytes_at w (suc (suc zero)) h = refl
+bytes_at w (suc (suc (suc zero))) h = refl
+bytes_at w (suc (suc (suc (suc zero)))) h = refl
+bytes_at w (suc (suc (suc (suc (suc zero))))) h = refl
+bytes_at w (suc (suc (suc (suc (suc (suc zero)))))) h = refl
+bytes_at w (suc (suc (suc (suc (suc (suc (suc zero))))))) h = omega arith
+bytes_at w (suc (suc (suc (suc (suc (suc (suc (suc k)))))))) h = absurd (omega arith)
+
+octet_bit : (w a j : ℕ) → j < 8 → bit_at (w / 2 ^ a % 2 ^ 8) j ≡ bit_at w (a + j)
+octet_bit w a j h =
+    let x : ℕ = w / 2 ^ a in
+    let parts : x ≡ x / 2 ^ 8 * 2 ^ 8 + x % 2 ^ 8 = omega arith in
+    sym (ap (λ (y : ℕ). bit_at y j) parts ∙ bit_at_cat_low (x / 2 ^ 8) 8 (x % 2 ^ 8) j h) ∙ ap (λ (y : ℕ). y % 2) (shr-shr w a j)
+
+-- ---- one bit more
+
+marked_same : (out : List ℕ) (b n : ℕ) → length out ≡ 32 → b < 256 → n / 8 ≡ b / 8 → (v : ℕ) → get_or (set out (b / 8) v) (n / 8) 0 ≡ v
+marked_same out b n l h e v = ap (λ (k : ℕ). get_or (set out (b / 8) v) k 0) e ∙ get_or-set_same out (b / 8) v 0 (omega arith)
+
+pub marked : (out : List ℕ) (b n : ℕ) → length out ≡ 32 → b < 256 → n < 256
+    → bit_at (get_or (set out (b / 8) (bit_or (get_or out (b / 8) 0) (1 * 2 ^ (7 - b % 8) % 2 ^ 8))) (n / 8) 0) (7 - n % 8) ≡ cond (b == n) 1
+    (bit_at (get_or out (n / 8) 0) (7 - n % 8))
+marked out b n l h k =
+    let v : ℕ = bit_or (get_or out (b / 8) 0) (1 * 2 ^ (7 - b % 8) % 2 ^ 8) in
+    elim (eqb_tells b n) [
+      | inl t ↦ subst (λ (m : ℕ). bit_at (get_or (set out (b / 8) v) (m / 8) 0) (7 - m % 8) ≡ cond (b == m) 1 (bit_at (get_or out (m / 8) 0) (7 - m % 8))) t.1
+          (ap (λ (x : ℕ). bit_at x (7 - b % 8)) (marked_same out b b l h (λ i. b / 8) v)
+          ∙ bit_at_set_same w8 (get_or out (b / 8) 0) (7 - b % 8) (omega arith)
+          ∙ sym (ap (λ (c : Bool). cond c 1 (bit_at (get_or out (b / 8) 0) (7 - b % 8))) (ap (λ (m : ℕ). b == m) t.1 ∙ t.0)))
+      | inr t ↦ elim (eqb_tells (n / 8) (b / 8)) [
+        | inl e ↦ ap (λ (x : ℕ). bit_at x (7 - n % 8)) (marked_same out b n l h e.1 v)
+            ∙ bit_at_set_other w8 (get_or out (b / 8) 0) (7 - b % 8) (omega arith) (7 - n % 8) (let ne = t.1 in let q = e.1 in omega arith)
+            ∙ ap (λ (m : ℕ). bit_at (get_or out m 0) (7 - n % 8)) (sym e.1)
+            ∙ sym (ap (λ (c : Bool). cond c 1 (bit_at (get_or out (n / 8) 0) (7 - n % 8))) t.0)
+        | inr e ↦ ap (λ (x : ℕ). bit_at x (7 - n % 8)) (get_or-set_other out (b / 8) (n / 8) v 0 e.1)
+            ∙ sym (ap (λ (c : Bool). cond c 1 (bit_at (get_or out (n / 8) 0) (7 - n % 8))) t.0)
+      ]
+    ]
 
 -- ---- the bits of all types of a run
 
@@ -31,13 +78,14 @@ in_window t k n h e = grind (arith, nat_tests)
 pub record HasMarks (octets run : List ℕ) (k : ℕ) : Type 0 where
   pub bits : (n : ℕ) → n < 256 → bit_at (get_or octets (n / 8) 0) (7 - n % 8) ≡ mark run (256 * k + n)
 
--- the same of four numbers of sixty-four bits
-pub record HasWordMarks (words run : List ℕ) (k : ℕ) : Type 0 where
-  pub bits : (n : ℕ) → n < 256 → bit_at (get_or words (n / 64) 0) (63 - n % 64) ≡ mark run (256 * k + n)
+-- the number has the bits of these types of window k, which are its first sixty-four
+pub record HasFront (word : ℕ) (run : List ℕ) (k : ℕ) : Type 0 where
+  pub low : (n : ℕ) → n < 64 → bit_at word (63 - n) ≡ mark run (256 * k + n)
+  pub high : (n : ℕ) → 64 ≤ n → n < 256 → mark run (256 * k + n) ≡ 0
 
-pub blank : (run : List ℕ) (k : ℕ) → HasWordMarks (replicate 4 0) (take 0 run) k
+pub front_none : (run : List ℕ) (k : ℕ) → HasFront 0 (take 0 run) k
 unfolding mark
-blank run k = record { bits = λ n h. ap (λ (x : ℕ). bit_at x (63 - n % 64)) (get_or-replicate 4 (n / 64) 0 0 (omega arith)) ∙ bit_at-zero (63 - n % 64) }
+front_none run k = record { low = λ n h. bit_at-zero (63 - n); high = λ n g h. refl }
 
 mark_more : (run : List ℕ) (i u : ℕ) → i < length run → cond (get_or run i 0 == u) 1 (mark (take i run) u) ≡ mark (take (i + 1) run) u
 unfolding mark
@@ -49,15 +97,50 @@ mark_more run i u l = both (contains u (take i run)) (get_or run i 0 == u) ∙ a
     both false true = refl
     both false false = refl
 
-pub marks_more : (words new run : List ℕ) (i k : ℕ) → i < length run → get_or run i 0 / 256 ≡ k → HasWordMarks words (take i run) k
-    → ((n : ℕ) → n < 256 → bit_at (get_or new (n / 64) 0) (63 - n % 64) ≡ cond (get_or run i 0 % 256 == n) 1 (bit_at (get_or words (n / 64) 0) (63 - n % 64)))
-    → HasWordMarks new (take (i + 1) run) k
-marks_more words new run i k l e a f = record {
-  bits = λ n h.
-      f n h ∙ ap (λ (x : ℕ). cond (get_or run i 0 % 256 == n) 1 x) (a.bits n h)
-      ∙ ap (λ (b : Bool). cond b 1 (mark (take i run) (256 * k + n))) (in_window (get_or run i 0) k n h e)
-      ∙ mark_more run i (256 * k + n) l;
+word_marked : (word b n : ℕ) → b < 64 → n < 64 → bit_at (bit_or word (1 * 2 ^ (63 - b) % 2 ^ 64)) (63 - n) ≡ cond (b == n) 1 (bit_at word (63 - n))
+word_marked word b n l h =
+    elim (eqb_tells b n) [
+      | inl t ↦ ap (λ (m : ℕ). bit_at (bit_or word (1 * 2 ^ (63 - b) % 2 ^ 64)) (63 - m)) (sym t.1) ∙ bit_at_set_same w64 word (63 - b) (omega arith)
+          ∙ sym (ap (λ (c : Bool). cond c 1 (bit_at word (63 - n))) t.0)
+      | inr t ↦ bit_at_set_other w64 word (63 - b) (omega arith) (63 - n) (let ne = t.1 in omega arith)
+          ∙ sym (ap (λ (c : Bool). cond c 1 (bit_at word (63 - n))) t.0)
+    ]
+
+-- what one type more marks
+marks_one : (run : List ℕ) (i k n x : ℕ) → i < length run → get_or run i 0 / 256 ≡ k → n < 256 → x ≡ mark (take i run) (256 * k + n)
+    → cond (get_or run i 0 % 256 == n) 1 x ≡ mark (take (i + 1) run) (256 * k + n)
+marks_one run i k n x l e h is = ap (λ (y : ℕ). cond (get_or run i 0 % 256 == n) 1 y) is
+    ∙ ap (λ (b : Bool). cond b 1 (mark (take i run) (256 * k + n))) (in_window (get_or run i 0) k n h e) ∙ mark_more run i (256 * k + n) l
+
+pub front_more : (word : ℕ) (run : List ℕ) (i k : ℕ) → i < length run → get_or run i 0 / 256 ≡ k → get_or run i 0 % 256 < 64 → HasFront word (take i run) k
+    → HasFront (bit_or word (1 * 2 ^ (63 - get_or run i 0 % 256) % 2 ^ 64)) (take (i + 1) run) k
+front_more word run i k l e low a =
+    let b : ℕ = get_or run i 0 % 256 in
+    record {
+      low = λ n h. word_marked word b n low h ∙ marks_one run i k n (bit_at word (63 - n)) l e (omega arith) (a.low n h);
+      high = λ n g h. sym (marks_one run i k n 0 l e h (sym (a.high n g h))) ∙ elim (eqb_tells b n) [
+        | inl t ↦ absurd (omega (arith, t.1, low, g))
+        | inr t ↦ ap (λ (c : Bool). cond {A = ℕ} c 1 0) t.0
+      ];
+    }
+
+-- the octets of the number, and zeros behind them
+pub front_marks : (octets run : List ℕ) (word k : ℕ) → HasFront word run k → octets ≡ bytes_high_first 8 word ++ replicate 24 0 → HasMarks octets run k
+front_marks octets run word k f is = record {
+  bits = λ n h. elim (cases_lt n 64) [
+    | inl l ↦ ap (λ (x : ℕ). bit_at x (7 - n % 8)) (ap (λ (s : List ℕ). get_or s (n / 8) 0) is
+        ∙ get_or_append_left (bytes_high_first 8 word) (replicate 24 0) 0 (n / 8) (omega arith) ∙ bytes_at word (n / 8) (omega arith))
+        ∙ octet_bit word (8 * (7 - n / 8)) (7 - n % 8) (omega arith) ∙ ap (λ (x : ℕ). bit_at word x) (omega arith) ∙ f.low n l
+    | inr g ↦ ap (λ (x : ℕ). bit_at x (7 - n % 8)) (ap (λ (s : List ℕ). get_or s (n / 8) 0) is
+        ∙ get_or-append_right (bytes_high_first 8 word) (replicate 24 0) 8 (n / 8) 0 refl (omega arith)
+        ∙ get_or-replicate 24 (n / 8 - 8) 0 0 (omega arith)) ∙ bit_at-zero (7 - n % 8) ∙ sym (f.high n g h)
+  ];
 }
+
+pub marks_more : (octets new run : List ℕ) (i k : ℕ) → i < length run → get_or run i 0 / 256 ≡ k → HasMarks octets (take i run) k
+    → ((n : ℕ) → n < 256 → bit_at (get_or new (n / 8) 0) (7 - n % 8) ≡ cond (get_or run i 0 % 256 == n) 1 (bit_at (get_or octets (n / 8) 0) (7 - n % 8)))
+    → HasMarks new (take (i + 1) run) k
+marks_more octets new run i k l e a f = record { bits = λ n h. f n h ∙ marks_one run i k n _ l e h (a.bits n h) }
 
 -- ---- octets by their bits
 

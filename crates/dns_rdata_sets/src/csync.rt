@@ -1,6 +1,7 @@
 //! CSYNC: which records of a child zone its parent copies (RFC 7477, 2.1).
 
-ghost use Rattle.std.specs.Prelude.{◌≡◌, IfErr, IfOk, ◌+◌, OnOk, List, map};
+ghost use Rattle.std.specs.Prelude.{◌≡◌, IfErr, IfOk, ◌+◌, ◌++◌, OnOk, List, map};
+ghost use Rattle.std.specs.Int.{bytes_high_first};
 ghost use Rattle.std.specs.Iterator.{Drains, IsFinite};
 ghost use Rattle.dns_types.specs.RecordTypes.{number_of};
 ghost use Rattle.dns_types.specs.declared.record_type.RecordType.{RecordType as RecordTypeValue};
@@ -150,11 +151,20 @@ impl CSYNC {
     fn emit_numbers(&self, encoder: &mut BinEncoder<'_>) -> Result<(), ProtoError>
         ensures { Emits csync_numbers_shape (csync_numbers self.now) result encoder.old encoder.new }
     {
-        let [s0, s1, s2, s3] = self.soa_serial.to_be_bytes();
         let flags = self.flags();
-        let [f0, f1] = flags.to_be_bytes();
-        encoder.emit_vec(&[s0, s1, s2, s3, f0, f1])
+        encoder.emit_vec(&six_octets(self.soa_serial, flags))
     }
+}
+
+// The octets of a serial and of flags, put there number by number: each is then stored at once, and not octet by octet.
+#[inline(always)]
+fn six_octets(serial: u32, flags: u16) -> [u8; 6]
+    ensures { result ≡ bytes_high_first 4 serial ++ bytes_high_first 2 flags }
+{
+    let mut octets = [0u8; 6];
+    octets[..4].copy_from_slice(&serial.to_be_bytes());
+    octets[4..].copy_from_slice(&flags.to_be_bytes());
+    octets
 }
 
 impl BinEncodable for CSYNC {

@@ -80,32 +80,30 @@ pub(super) fn mark_window(octets: &mut [u8; 32], run: &[u16])
     requires run { AreOfWindow (first_window run.now) run.now }
     ensures { (n : ℕ) → n < 256 → bit_at (slice_index octets.new (n / 8)) (7 - n % 8) ≡ mark run.now (256 * first_window run.now + n) }
 {
-    // The bits are put together in whole numbers: octets that were stored one by one are slow to load at once.
-    let mut words = [0u64; 4];
-    for t in run {
-        mark_bit(&mut words, (*t % 256) as usize);
+    let (word, count) = first_word(run);
+    *octets = [0; 32];
+    put_word(octets, 0, word);
+    for at in count..run.len() {
+        mark_bit(octets, (run[at] % 256) as usize);
     }
-    spell(octets, &words);
 }
 
-// Sets bit b of a window, the highest of its number first.
+// The bits of the numbers in front that are below 64 in their window, as most are, the first one highest, and how many these
+// numbers are. Octets that are stored one by one are slow to load together, so these are put together in one number.
 #[inline]
-fn mark_bit(words: &mut [u64; 4], b: usize)
-    requires bit { b < 256 }
-    ensures { (n : ℕ) → n < 256 → bit_at (slice_index words.new (n / 64)) (63 - n % 64)
-        ≡ (if b == n then 1 else bit_at (slice_index words.old (n / 64)) (63 - n % 64)) }
+fn first_word(run: &[u16]) -> (u64, usize)
+    requires { AreOfWindow (first_window run.now) run.now }
+    ensures count { result.1 ≤ length run.now }
+    ensures low { (n : ℕ) → n < 64 → bit_at result.0 (63 - n) ≡ mark (take result.1 run.now) (256 * first_window run.now + n) }
+    ensures high { (n : ℕ) → 64 ≤ n → n < 256 → mark (take result.1 run.now) (256 * first_window run.now + n) ≡ 0 }
 {
-    words[b / 64] |= 1 << (63 - b % 64);
-}
-
-// Makes of four numbers their octets, the highest of each first.
-#[inline]
-fn spell(octets: &mut [u8; 32], words: &[u64; 4])
-    ensures { (n : ℕ) → n < 256 → bit_at (slice_index octets.new (n / 8)) (7 - n % 8) ≡ bit_at (slice_index words.now (n / 64)) (63 - n % 64) }
-{
-    for i in 0..4usize {
-        put_word(octets, 8 * i, words[i]);
+    let mut word = 0u64;
+    let mut count = 0usize;
+    while count < run.len() && run[count] % 256 < 64 {
+        word |= 1 << (63 - run[count] % 256);
+        count += 1;
     }
+    (word, count)
 }
 
 // Puts the octets of a number at a place, the highest first.
@@ -115,4 +113,15 @@ fn put_word(octets: &mut [u8], at: usize, word: u64)
     ensures { octets.new ≡ take at octets.old ++ (bytes_high_first 8 word ++ drop (at + 8) octets.old) }
 {
     octets[at..at + 8].copy_from_slice(&word.to_be_bytes());
+}
+
+// Sets bit b of a window, the highest of its octet first.
+#[inline]
+fn mark_bit(octets: &mut [u8], b: usize)
+    requires bit { b < 256 }
+    requires window { length octets.old ≡ 32 }
+    ensures { (n : ℕ) → n < 256 → bit_at (slice_index octets.new (n / 8)) (7 - n % 8)
+        ≡ (if b == n then 1 else bit_at (slice_index octets.old (n / 8)) (7 - n % 8)) }
+{
+    octets[b / 8] |= 1 << (7 - b % 8);
 }

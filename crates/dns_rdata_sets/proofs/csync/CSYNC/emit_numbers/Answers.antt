@@ -8,5 +8,5 @@ pub returns : goal.returns
 unfolding field_octets
 returns c =
     let flags = rw c.flags-flags.ensures at c.flags-flags.type_inv in
-    let e = rw (c.to_be_bytes.ensures, c.to_be_bytes-2.ensures, c.flags-flags.ensures) at c.emit_vec.ensures.emits in
+    let e = rw (c.six_octets.ensures, c.flags-flags.ensures) at c.emit_vec.ensures.emits in
     emits_plain csync_numbers_shape (csync_numbers c.args.self.now) _ _ _ _ tt (omega arith, (flags, tt)) (number_then 4 _ _ _ (number_then 2 _ _ _ refl)) e
