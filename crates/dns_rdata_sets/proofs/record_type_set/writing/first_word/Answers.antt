@@ -8,6 +8,8 @@ loop-count-init c = (front_none c.args.run.now _, omega arith)
 pub loop-count-preserved : goal.loop-count-preserved
 loop-count-preserved c =
     let run = c.args.run.now in
-    let i = c.loop-count.count in
-    (front_more c.loop-count.word run i _ c.loop-count-test.true (of_window _ run i c.requires c.loop-count-test.true) c.if-run-count-lt64.true
-    c.loop-count.invariant.0, omega arith)
+    let i = c.loop-count.count in (
+      front_more c.loop-count.word run i _ c.loop-count-test.true (of_window _ run i c.requires c.loop-count-test.true) c.if-run-count-lt64.true
+          c.loop-count.invariant.0,
+      omega arith,
+    )
