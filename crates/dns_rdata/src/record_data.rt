@@ -381,7 +381,7 @@ impl RData {
     fn is_same(&self, other: &RData) -> bool
         ensures { result ≡ equal self.now other.now }
     {
-        // The `==` of a record is a call, but for addresses, so that this function needs hardly a frame.
+        // The `==` of a record is a call, but for addresses and octets alone, so that this function needs hardly a frame.
         match (self, other) {
             (RData::A(a), RData::A(b)) => *a == *b,
             (RData::AAAA(a), RData::AAAA(b)) => *a == *b,
@@ -394,9 +394,9 @@ impl RData {
             (RData::HTTPS(a), RData::HTTPS(b)) => *a == *b,
             (RData::MX(a), RData::MX(b)) => *a == *b,
             (RData::NAPTR(a), RData::NAPTR(b)) => *a == *b,
-            (RData::NULL(a), RData::NULL(b)) => *a == *b,
+            (RData::NULL(a), RData::NULL(b)) => a.anything == b.anything,
             (RData::NS(a), RData::NS(b)) => *a == *b,
-            (RData::OPENPGPKEY(a), RData::OPENPGPKEY(b)) => *a == *b,
+            (RData::OPENPGPKEY(a), RData::OPENPGPKEY(b)) => a.public_key == b.public_key,
             (RData::OPT(a), RData::OPT(b)) => *a == *b,
             (RData::PTR(a), RData::PTR(b)) => *a == *b,
             (RData::SMIMEA(a), RData::SMIMEA(b)) => *a == *b,
