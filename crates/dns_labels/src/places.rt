@@ -175,6 +175,15 @@ fn short_hash(hash: u64) -> u32 {
     ((hash ^ (hash >> 32)).wrapping_mul(FACTOR) >> 32) as u32
 }
 
+// Which of so many buckets a hash is in: their number is a power of two, so the hash's last bits tell, without a division.
+#[inline]
+fn bucket_of(hash: u32, count: usize) -> usize
+    requires { 0 < count }
+    ensures { result < count }
+{
+    hash as usize & (count - 1)
+}
+
 /// A place where a label begins, a hash of the name's octets from there on, and the next entry of its
 /// bucket.
 #[derive(Clone, Copy, Default)]
@@ -327,7 +336,7 @@ impl Places {
         if count == 0 {
             return 0;
         }
-        self.buckets[hash as usize % count].first as usize
+        self.buckets[bucket_of(hash, count)].first as usize
     }
 
     /// The least place at which the octets stand as a name, of those that are looked at.
@@ -545,7 +554,7 @@ impl Places {
         }
         entries[at].next = NONE;
         let hash = entries[at].hash;
-        let bucket = &mut self.buckets[hash as usize % count];
+        let bucket = &mut self.buckets[bucket_of(hash, count)];
         let last = bucket.last as usize;
         bucket.last = at as u16;
         if bucket.first == NONE {

@@ -299,12 +299,9 @@ impl Clone for OPT {
     fn clone(&self) -> Result<OPT, AllocError>
         ensures { IfOk result (λ copy. copy ≡ self.now) }
     {
-        let alloc = *self.options.allocator();
-        let mut options = Vec::with_capacity(alloc, self.options.len())?;
-        for pair in self.options.as_slice() {
-            options.push((pair.0, pair.1.clone()?))?;
-        }
-        Ok(OPT { options })
+        Ok(OPT {
+            options: self.options.clone()?,
+        })
     }
 }
 

@@ -100,6 +100,12 @@ eq_yes Greater h = absurd (true≢false (sym h))
 pub ne_yes : (o : Ordering) → is_ne o ≡ true → o ≢ Equal
 ne_yes o h e = absurd (true≢false (sym h ∙ ap is_ne e))
 
+-- one that is no tie stays what it is
+pub ne_kept : (o p : Ordering) → is_ne o ≡ true → o ≡ ordering_then o p
+ne_kept Less p h = refl
+ne_kept Equal p h = absurd (true≢false (sym h))
+ne_kept Greater p h = refl
+
 -- octets that tie are the same
 pub octets_tie : (o : Ordering) (s t : List ℕ) → o ≡ slice_cmp nat_cmp s t → o ≡ Equal → s ≡ t
 octets_tie o s t e f = slice_cmp-IsAntisymmetric nat_cmp-IsAntisymmetric s t (sym e ∙ f)

@@ -14,11 +14,11 @@ ghost use Rattle.dns_rdata_service.specs.Steps.{parameters_from};
 ghost use Rattle.dns_rdata_service.specs.SvcParamValue.{a_octets, aaaa_octets, sized, value_key, value_of};
 ghost use Rattle.dns_rdata_service.specs.SVCB.{svcb_shape, svcb_fields, svcb_key_shape, svcb_keys};
 
+use crate::items::Items;
 use crate::ordering::{hint4_cmp, hint6_cmp};
 use crate::svcb::{SVCB, SvcParamKey, SvcParamValue};
-use dns_names_wire::Octets;
+use dns_names_wire::{Octets, SmallOctets};
 use dns_pieces::order::{name_behind, slices_behind, two_behind};
-use dns_rdata_base::order::texts_cmp;
 use dns_rdata_base::{A, AAAA};
 use std::cmp::Ordering;
 
@@ -85,7 +85,7 @@ fn value_order(a: &SvcParamValue, b: &SvcParamValue) -> Option<Ordering>
 {
     match (a, b) {
         (SvcParamValue::Alpn(x), SvcParamValue::Alpn(y)) => {
-            names_order(x.0.as_slice(), y.0.as_slice())
+            names_order(&x.0, &y.0)
         }
         (SvcParamValue::Port(x), SvcParamValue::Port(y)) => Some(port_order(*x, *y)),
         (SvcParamValue::Ipv4Hint(x), SvcParamValue::Ipv4Hint(y)) => {
@@ -180,22 +180,22 @@ fn have_sixteen(addresses: &[AAAA])
     }
 }
 
-// Of names behind their length.
-fn names_order(a: &[Octets], b: &[Octets]) -> Option<Ordering>
+// Of names behind their length, where they are alike or the lengths differ.
+fn names_order(a: &Items<SmallOctets<16>>, b: &Items<SmallOctets<16>>) -> Option<Ordering>
     ensures order { IfSome result (λ o. OrderFirst o (sized (Names a.now)) (sized (Names b.now))) }
     ensures alike { IfSome result (λ o. o ≡ Equal → a.now ≡ b.now) }
 {
-    let order = texts_cmp(a, b);
-    if order.is_eq() {
-        return Some(order);
+    if *a == *b {
+        return Some(Ordering::Equal);
     }
-    let size = names_size(a)?;
-    let other_size = names_size(b)?;
-    Some(size.cmp(&other_size).then(order))
+    let size = names_size(a.as_slice())?;
+    let other_size = names_size(b.as_slice())?;
+    let order = size.cmp(&other_size);
+    if order.is_ne() { Some(order) } else { None }
 }
 
 // How many octets names have, each behind its length, if at most 65535.
-fn names_size(names: &[Octets]) -> Option<usize>
+fn names_size(names: &[SmallOctets<16>]) -> Option<usize>
     ensures size { IfSome result (λ n. n ≡ length (flat_map string names.now)) }
     ensures few { IfSome result (λ n. n ≤ 65535) }
 {

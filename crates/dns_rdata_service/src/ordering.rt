@@ -98,7 +98,7 @@ fn value_cmp(a: &SvcParamValue, b: &SvcParamValue) -> Ordering
         (SvcParamValue::Mandatory(x), SvcParamValue::Mandatory(y)) => {
             keys_cmp(x.0.as_slice(), y.0.as_slice())
         }
-        (SvcParamValue::Alpn(x), SvcParamValue::Alpn(y)) => x.0.cmp(&y.0),
+        (SvcParamValue::Alpn(x), SvcParamValue::Alpn(y)) => x.0.as_slice().cmp(y.0.as_slice()),
         (SvcParamValue::Port(m), SvcParamValue::Port(n)) => m.cmp(n),
         (SvcParamValue::Ipv4Hint(x), SvcParamValue::Ipv4Hint(y)) => {
             hint4_cmp(x.0.as_slice(), y.0.as_slice())

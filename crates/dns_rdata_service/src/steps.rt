@@ -14,7 +14,7 @@ ghost use Rattle.dns_rdata_service.specs.Steps.{parameter_head, value_front, val
 
 use crate::https::HTTPS;
 use crate::svcb::{SVCB, SvcParamKey, SvcParamValue};
-use dns_names_wire::Octets;
+use dns_names_wire::SmallOctets;
 use dns_pieces::{Head, Step, Tail};
 use dns_rdata_base::{A, AAAA};
 
@@ -28,7 +28,7 @@ fn keys_len(keys: &[SvcParamKey]) -> u16
 }
 
 // How many octets names have, each behind its length.
-fn names_len(names: &[Octets]) -> u16
+fn names_len(names: &[SmallOctets<16>]) -> u16
     requires { length (flat_map string names.now) ≤ 65535 }
     ensures { result ≡ length (flat_map string names.now) }
 {
@@ -128,7 +128,7 @@ fn key_item<'a>(keys: &'a [SvcParamKey], item: usize, head: &mut Head) -> Option
 
 // The name of this number.
 #[tactic(auto, unfolding(dns_fields::specs::Fields::field_octets))]
-fn name_item<'a>(names: &'a [Octets], item: usize, head: &mut Head) -> Option<Tail<'a>>
+fn name_item<'a>(names: &'a [SmallOctets<16>], item: usize, head: &mut Head) -> Option<Tail<'a>>
     requires empty { head.old ≡ [] }
     requires short { list_all (λ s. nat_le (length s) 255) names.now ≡ true }
     ensures item { GivesItem (map string names.now) item head.new result }
@@ -337,7 +337,7 @@ fn keys_fit(keys: &[SvcParamKey]) -> bool
 }
 
 // Whether there are names, each of at most 255 octets and all of at most 65535 with their lengths.
-fn names_fit(names: &[Octets]) -> bool
+fn names_fit(names: &[SmallOctets<16>]) -> bool
     ensures { result ≡ fits_value (Names names.now) }
 {
     let mut size = 0;

@@ -180,10 +180,11 @@ impl PartialEq for CAA {
 
     ghost laws = { partial_equiv_from_equiv (on_equiv caa_keys (values_equiv caa_key_shape)) };
 
-    #[inline(never)]
+    // Inlined, and the flags told by one branch: a call costs as much as the comparison.
+    #[inline(always)]
     fn eq(&self, other: &CAA) -> bool {
-        self.issuer_critical == other.issuer_critical
-            && self.reserved_flags == other.reserved_flags
+        ((self.issuer_critical == other.issuer_critical)
+            & (self.reserved_flags == other.reserved_flags))
             && self.tag == other.tag
             && self.value == other.value
     }

@@ -7,37 +7,37 @@ ghost use Rattle.dns_fields.specs.Pieces.{Names};
 ghost use Rattle.dns_names_wire.specs.Words.{ReadsBy};
 ghost use Rattle.dns_rdata_service.specs.SvcParamValue.{alpn_value, AlpnAt, value_refusal, EmitsValue};
 
+use crate::items::Items;
 use bstr::BStr;
 use dns_names_wire::{
-    BinDecodable, BinDecoder, BinEncodable, BinEncoder, DecodeError, Octets, ProtoError,
+    BinDecodable, BinDecoder, BinEncodable, BinEncoder, DecodeError, ProtoError, SmallOctets,
 };
-use dns_types::Strings;
 use std::alloc::AllocError;
 use std::fmt;
 
 /// The names of the protocols that a service speaks beside its scheme's own (RFC 9460, 7.1): character strings of
-/// UTF-8, at least one.
+/// UTF-8, at least one. A name of up to 16 octets takes no memory of its own.
 #[derive(Debug, Drop, PartialEq, Eq, Hash)]
-pub struct Alpn(pub Strings);
+pub struct Alpn(pub Items<SmallOctets<16>>);
 
 impl Alpn {
-    /// With these names, which are moved. Asks for memory once, for the list.
+    /// With these names, which are moved, or copied where they are few octets. Asks for memory once, for the list.
     pub fn new(names: Vec<String>) -> Result<Alpn, AllocError>
         ensures { IfOk result (λ x. x.0 ≡ map string_bytes names.items) }
     {
         let mut strings = Vec::with_capacity(*names.allocator(), names.len())?;
         for name in names {
-            strings.push(Octets::from_vec(name.into_bytes()))?;
+            strings.push(SmallOctets::from_vec(name.into_bytes()))?;
         }
-        Ok(Alpn(Strings::from_vec(strings)))
+        Ok(Alpn(Items::from_vec(strings)))
     }
 }
 
 impl BinDecodable for Alpn {
     ghost stands = { AlpnAt };
 
-    /// Reads names to the message's end, by one request for memory for the list and one for each name. None are refused
-    /// by `SvcParamMissingValue`, a name that lacks octets by `InsufficientBytes`, and one that is not UTF-8 by `Utf8`.
+    /// Reads names to the message's end, by one request for memory for the list and one for each name of more than 16
+    /// octets. None are refused by `SvcParamMissingValue`, a name that lacks octets by `InsufficientBytes`, and one that is not UTF-8 by `Utf8`.
     fn read(decoder: &mut BinDecoder<'_>) -> Result<Alpn, DecodeError>
         ensures reads { ReadsBy AlpnAt result decoder.old decoder.new }
         ensures refused { IfErr result (λ e. value_refusal Names (drop decoder.old.index decoder.old.message) e) }
@@ -46,13 +46,13 @@ impl BinDecodable for Alpn {
             return Err(DecodeError::SvcParamMissingValue);
         }
         let alloc = decoder.allocator();
-        let mut names = Strings::with_capacity(alloc, strings_in(decoder.unread().unverified()))?;
+        let mut names = Items::with_capacity(alloc, strings_in(decoder.unread().unverified()))?;
         'names: while decoder.len() > 0 {
             let name = decoder.read_character_data()?.unverified();
             if !is_text(name) {
                 return Err(DecodeError::Utf8);
             }
-            names.push(Octets::from_slice(alloc, name)?)?;
+            names.push(SmallOctets::from_slice(alloc, name)?)?;
         }
         Ok(Alpn(names))
     }

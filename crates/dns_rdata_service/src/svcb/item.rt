@@ -8,7 +8,7 @@ use crate::svcb::ech_config_list::EchConfigList;
 use crate::svcb::key::SvcParamKey;
 use base64::DecodeAllocError;
 use base64::engine::general_purpose::STANDARD;
-use dns_names_wire::{Octets, ParseError};
+use dns_names_wire::{Octets, ParseError, SmallOctets};
 use dns_rdata_base::{A, AAAA};
 use dns_text::{next_piece, read_item};
 use std::alloc::Global;
@@ -65,14 +65,14 @@ impl FromItem for SvcParamKey {
     }
 }
 
-impl FromItem for Octets {
+impl FromItem for SmallOctets<16> {
     ghost use Rattle.std.specs.Prelude.{◌≡◌};
 
     ghost is_text = { λ item octets. octets ≡ item };
 
     #[inline]
-    fn from_item(alloc: Global, item: &str) -> Result<Octets, ParseError> {
-        Ok(Octets::from_slice(alloc, item.as_bytes())?)
+    fn from_item(alloc: Global, item: &str) -> Result<SmallOctets<16>, ParseError> {
+        Ok(SmallOctets::from_slice(alloc, item.as_bytes())?)
     }
 }
 

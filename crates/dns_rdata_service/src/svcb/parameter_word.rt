@@ -16,9 +16,8 @@ use crate::svcb::key::SvcParamKey;
 use crate::svcb::mandatory::Mandatory;
 use crate::svcb::unknown::Unknown;
 use crate::svcb::value::SvcParamValue;
-use dns_names_wire::{Octets, ParseError};
+use dns_names_wire::{Octets, ParseError, SmallOctets};
 use dns_rdata_base::{A, AAAA};
-use dns_types::Strings;
 use std::alloc::Global;
 
 /// The parameter of a word: a key, and perhaps a `=` and a value. The first `=` divides them.
@@ -106,8 +105,8 @@ fn value_of(alloc: Global, key: SvcParamKey, text: &str) -> Result<SvcParamValue
             Ok(SvcParamValue::Mandatory(Mandatory(Items::from_vec(keys))))
         }
         SvcParamKey::Alpn => {
-            let names = items_of::<Octets>(alloc, text)?;
-            Ok(SvcParamValue::Alpn(Alpn(Strings::from_vec(names))))
+            let names = items_of::<SmallOctets<16>>(alloc, text)?;
+            Ok(SvcParamValue::Alpn(Alpn(Items::from_vec(names))))
         }
         SvcParamKey::Port => Ok(SvcParamValue::Port(item_of::<u16>(alloc, text)?)),
         SvcParamKey::Ipv4Hint => {

@@ -1,22 +1,23 @@
-use Rattle.std.proofs.Common.{◌∙◌, ap, sym}
+use Rattle.std.proofs.Common.{◌∙◌, ap, sym, refl}
+use Rattle.std.specs.Cmp.{unsigned_Decides}
+use Rattle.std.specs.Cmp.Lexicographic.{pointwise_decides}
 use Rattle.std.specs.List.{flat_map}
 use Rattle.dns_fields.specs.Pieces.{string}
-use Rattle.dns_fields.proofs.ParameterLaws.{strings_same}
-use Rattle.dns_rdata_service.proofs.SvcbFronts.{alike_first, behind_length, eq_yes, lengths_first, octets_tie, then_ties}
+use Rattle.dns_rdata_service.proofs.SvcbFronts.{alike_first, behind_length, lengths_first, ne_kept, ne_yes}
 use Rattle.dns_rdata_service.proofs.order.names_order.Goals as goal
 
-pub returns-then-is_eq-clause-order : goal.returns-then-is_eq-clause-order
-returns-then-is_eq-clause-order c =
-    let tie = eq_yes _ (sym c.is_eq.ensures ∙ c.if-is_eq.true) in
-    alike_first _ _ _ tie (ap behind_length {x = flat_map string c.args.a.now} {y = flat_map string c.args.b.now} (octets_tie _ _ _ c.texts_cmp-order.ensures tie))
+pub returns-then-eq-clause-order : goal.returns-then-eq-clause-order
+returns-then-eq-clause-order c =
+    let same = (pointwise_decides (pointwise_decides unsigned_Decides) c.args.a.now c.args.b.now).0 (c.eq.ensures ∙ c.if-eq.true) in
+    alike_first _ _ _ refl (ap (λ l. behind_length (flat_map string l)) {x = c.args.a.now} {y = c.args.b.now} same)
 
-pub returns-then-is_eq-clause-alike : goal.returns-then-is_eq-clause-alike
-returns-then-is_eq-clause-alike c = λ e. strings_same c.args.a.now c.args.b.now (octets_tie _ _ _ c.texts_cmp-order.ensures e)
+pub returns-then-eq-clause-alike : goal.returns-then-eq-clause-alike
+returns-then-eq-clause-alike c = λ e. (pointwise_decides (pointwise_decides unsigned_Decides) c.args.a.now c.args.b.now).0 (c.eq.ensures ∙ c.if-eq.true)
 
-pub returns-clause-order : goal.returns-clause-order
-returns-clause-order c =
-    lengths_first _ _ _ _ _ (flat_map string c.args.a.now) (flat_map string c.args.b.now) c.then.ensures c.cmp.ensures
-    c.in_ok-size.ensures.size c.in_ok-other_size.ensures.size c.texts_cmp-order.ensures c.in_ok-size.ensures.few c.in_ok-other_size.ensures.few
+pub returns-then-is_ne-clause-order : goal.returns-then-is_ne-clause-order
+returns-then-is_ne-clause-order c =
+    lengths_first _ _ _ _ _ (flat_map string c.args.a.now) (flat_map string c.args.b.now) (ne_kept _ _ (sym c.is_ne.ensures ∙ c.if-is_ne.true)) c.cmp-order.ensures
+    c.in_ok-size.ensures.size c.in_ok-other_size.ensures.size refl c.in_ok-size.ensures.few c.in_ok-other_size.ensures.few
 
-pub returns-clause-alike : goal.returns-clause-alike
-returns-clause-alike c = λ e. strings_same c.args.a.now c.args.b.now (octets_tie _ _ _ c.texts_cmp-order.ensures (then_ties _ _ _ c.then.ensures e))
+pub returns-then-is_ne-clause-alike : goal.returns-then-is_ne-clause-alike
+returns-then-is_ne-clause-alike c = λ e. absurd (ne_yes _ (sym c.is_ne.ensures ∙ c.if-is_ne.true) e)
