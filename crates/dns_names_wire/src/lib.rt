@@ -5,8 +5,6 @@ pub mod binary;
 pub mod decoder;
 pub mod encoder;
 pub mod name;
-#[cfg(test)]
-mod tests;
 
 pub use binary::{BinDecodable, BinEncodable};
 pub use decoder::BinDecoder;

@@ -15,8 +15,6 @@ pub mod order;
 pub mod soa;
 pub mod srv;
 pub mod steps;
-#[cfg(test)]
-mod tests;
 pub mod traits;
 pub mod txt;
 mod words;

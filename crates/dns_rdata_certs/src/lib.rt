@@ -7,8 +7,6 @@ pub mod order;
 pub mod smimea;
 pub mod sshfp;
 pub mod steps;
-#[cfg(test)]
-mod tests;
 pub mod tlsa;
 mod words;
 

@@ -4,7 +4,5 @@
 pub mod opt;
 pub mod order;
 pub mod steps;
-#[cfg(test)]
-mod tests;
 
 pub use opt::OPT;

@@ -7,8 +7,6 @@ pub mod order;
 pub mod ordering;
 pub mod steps;
 pub mod svcb;
-#[cfg(test)]
-mod tests;
 mod words;
 
 pub use https::HTTPS;

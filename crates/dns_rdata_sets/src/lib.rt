@@ -6,8 +6,6 @@ pub mod csync;
 pub mod order;
 pub mod record_type_set;
 pub mod steps;
-#[cfg(test)]
-mod tests;
 mod words;
 
 pub use caa::CAA;

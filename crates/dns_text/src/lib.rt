@@ -7,8 +7,6 @@ pub mod list;
 pub mod pieces;
 mod quoted;
 mod spans;
-#[cfg(test)]
-mod tests;
 pub mod token;
 pub mod ttl;
 pub mod words;

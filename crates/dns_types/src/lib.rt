@@ -9,8 +9,6 @@ pub mod record_type;
 pub mod restrict;
 pub mod small_octets;
 pub mod strings;
-#[cfg(test)]
-mod tests;
 
 pub use error::{AddrParseError, DecodeError, ParseError, ProtoError, ProtoResult};
 pub use octets::Octets;

@@ -6,8 +6,6 @@
 #![tactic(auto)]
 
 pub mod reading;
-#[cfg(test)]
-mod tests;
 pub mod texts;
 pub mod word_list;
 

@@ -1,6 +1,6 @@
 ghost use Rattle.std.specs.Prelude.{◌<◌, length};
 
-use crate::RecordTypeSet;
+use dns_rdata_sets::RecordTypeSet;
 use dns_names_wire::{
     BinDecoder, BinEncodable, BinEncoder, DecodeError, ProtoError, RecordType, Restrict,
 };

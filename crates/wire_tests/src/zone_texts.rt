@@ -1,4 +1,4 @@
-use crate::{Lexer, Token, parse_ttl, read_item, read_list, text_words};
+use dns_text::{Lexer, Token, parse_ttl, read_item, read_list, text_words};
 use dns_types::ParseError;
 use std::alloc::Global;
 use std::test::Fail;

@@ -1,8 +1,8 @@
 ghost use Rattle.std.specs.Prelude.{◌<◌, ◌≤◌, length};
 
-use crate::opt::{ClientSubnet, EdnsCode, EdnsOption, IpNet, NSIDPayload, OPT};
-use crate::order::opt_order;
-use crate::steps::opt_is_emittable;
+use dns_rdata_options::opt::{ClientSubnet, EdnsCode, EdnsOption, IpNet, NSIDPayload, OPT};
+use dns_rdata_options::order::opt_order;
+use dns_rdata_options::steps::opt_is_emittable;
 use dns_names_wire::{
     AddrParseError, BinDecodable, BinDecoder, BinEncodable, BinEncoder, DecodeError, ProtoError,
     Restrict,

@@ -1,12 +1,12 @@
 ghost use Rattle.std.specs.Prelude.{◌≤◌};
 
-use crate::comparing::same_octets;
-use crate::error::{AddrParseError, DecodeError, ParseError, ProtoError, ProtoResult};
-use crate::octets::Octets;
-use crate::record_type::RecordType;
-use crate::restrict::Restrict;
-use crate::small_octets::SmallOctets;
-use crate::strings::Strings;
+use dns_types::comparing::same_octets;
+use dns_types::error::{AddrParseError, DecodeError, ParseError, ProtoError, ProtoResult};
+use dns_types::octets::Octets;
+use dns_types::record_type::RecordType;
+use dns_types::restrict::Restrict;
+use dns_types::small_octets::SmallOctets;
+use dns_types::strings::Strings;
 use std::alloc::{AllocError, Global};
 use std::cmp::Ordering;
 

@@ -1,10 +1,10 @@
 ghost use Rattle.std.specs.Prelude.{◌<◌, length};
 
-use crate::cert::{self, CERT, CertType};
-use crate::hexadecimal::HEX;
-use crate::smimea::SMIMEA;
-use crate::sshfp::{self, FingerprintType, SSHFP};
-use crate::tlsa::{CertUsage, Matching, Selector, TLSA};
+use dns_rdata_certs::cert::{self, CERT, CertType};
+use dns_rdata_certs::hexadecimal::HEX;
+use dns_rdata_certs::smimea::SMIMEA;
+use dns_rdata_certs::sshfp::{self, FingerprintType, SSHFP};
+use dns_rdata_certs::tlsa::{CertUsage, Matching, Selector, TLSA};
 use dns_names_wire::{
     BinDecodable, BinDecoder, BinEncodable, BinEncoder, DecodeError, ProtoError, Restrict,
 };

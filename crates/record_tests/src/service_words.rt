@@ -1,5 +1,5 @@
-use crate::https::HTTPS;
-use crate::svcb::{SVCB, SvcParamKey, SvcParamValue, parameter_of};
+use dns_rdata_service::https::HTTPS;
+use dns_rdata_service::svcb::{SVCB, SvcParamKey, SvcParamValue, parameter_of};
 use dns_names_wire::{BinEncodable, BinEncoder, ParseError};
 use std::alloc::Global;
 

@@ -1,6 +1,6 @@
 ghost use Rattle.std.specs.Prelude.{◌<◌, length};
 
-use crate::caa::{CAA, KeyValue, read_iodef, read_issuer};
+use dns_rdata_sets::caa::{CAA, KeyValue, read_iodef, read_issuer};
 use dns_names_wire::{
     BinDecoder, BinEncodable, BinEncoder, DecodeError, Name, ProtoError, Restrict, SmallOctets,
 };

@@ -1,7 +1,7 @@
 ghost use Rattle.std.specs.Prelude.{◌<◌, length};
 
-use crate::CSYNC;
-use crate::order::csync_order;
+use dns_rdata_sets::CSYNC;
+use dns_rdata_sets::order::csync_order;
 use dns_names_wire::{
     BinDecoder, BinEncodable, BinEncoder, DecodeError, ProtoError, RecordType, Restrict,
 };

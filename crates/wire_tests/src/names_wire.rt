@@ -1,7 +1,7 @@
 ghost use Rattle.std.specs.Prelude.{◌≡◌, []};
 
-use crate::binary::{BinDecodable, BinEncodable};
-use crate::{BinDecoder, BinEncoder, DecodeError, Name, ProtoError, RDataEncoding};
+use dns_names_wire::binary::{BinDecodable, BinEncodable};
+use dns_names_wire::{BinDecoder, BinEncoder, DecodeError, Name, ProtoError, RDataEncoding};
 use std::alloc::{AllocError, Global};
 use std::cmp::Ordering;
 use std::hash::{DefaultHasher, Hash, Hasher};

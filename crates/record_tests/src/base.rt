@@ -1,11 +1,11 @@
 ghost use Rattle.std.specs.Prelude.{◌<◌, length};
 
-use crate::a::A;
-use crate::aaaa::AAAA;
-use crate::hinfo::HINFO;
-use crate::openpgpkey::OPENPGPKEY;
-use crate::traits::RecordDataDecodable;
-use crate::txt::TXT;
+use dns_rdata_base::a::A;
+use dns_rdata_base::aaaa::AAAA;
+use dns_rdata_base::hinfo::HINFO;
+use dns_rdata_base::openpgpkey::OPENPGPKEY;
+use dns_rdata_base::traits::RecordDataDecodable;
+use dns_rdata_base::txt::TXT;
 use dns_names_wire::{
     AddrParseError, BinDecodable, BinDecoder, BinEncodable, BinEncoder, DecodeError, ProtoError,
     Restrict,

@@ -1,9 +1,9 @@
 ghost use Rattle.std.specs.Prelude.{◌<◌, length};
 
-use crate::items::Items;
-use crate::order::svcb_front;
-use crate::svcb::{SvcParamKey, SvcParamValue};
-use crate::{HTTPS, SVCB};
+use dns_rdata_service::items::Items;
+use dns_rdata_service::order::svcb_front;
+use dns_rdata_service::svcb::{SvcParamKey, SvcParamValue};
+use dns_rdata_service::{HTTPS, SVCB};
 use dns_names_wire::{
     BinDecoder, BinEncodable, BinEncoder, DecodeError, Name, ProtoError, Restrict,
 };

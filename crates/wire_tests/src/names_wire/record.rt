@@ -4,8 +4,8 @@ ghost use Rattle.std.specs.Prelude.{[], ◌∷◌};
 ghost use Rattle.dns_fields.specs.Fields.{Number, Name as NameKind};
 ghost use Rattle.dns_names_wire.specs.Words.{ReadsIf, Emits, always};
 
-use crate::binary::{BinDecodable, BinEncodable};
-use crate::{BinDecoder, BinEncoder, DecodeError, Name, ProtoError};
+use dns_names_wire::binary::{BinDecodable, BinEncodable};
+use dns_names_wire::{BinDecoder, BinEncoder, DecodeError, Name, ProtoError};
 use std::test::Fail;
 
 /// The host that takes mail (RFC 1035, 3.3.9).
@@ -24,7 +24,7 @@ impl Exchange {
         Ok(Exchange { preference, host })
     }
 
-    #[tactic(auto, using(crate::proofs::FieldWrites::writing))]
+    #[tactic(auto, using(dns_names_wire::proofs::FieldWrites::writing))]
     fn emit(&self, encoder: &mut BinEncoder<'_>) -> Result<(), ProtoError>
         ensures { Emits (Number 2 ∷ NameKind ∷ []) (self.now.preference, (self.now.host, tt)) result encoder.old encoder.new }
     {

@@ -1,4 +1,4 @@
-use crate::{Base64Text, WordList, name_from_tokens, next_u16};
+use dns_words::{Base64Text, WordList, name_from_tokens, next_u16};
 use base64::engine::general_purpose::STANDARD;
 use dns_names_wire::{Name, ParseError};
 use std::test::Fail;

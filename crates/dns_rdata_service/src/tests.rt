@@ -1,3 +1,0 @@
-mod records;
-mod values;
-mod words;

@@ -1,3 +1,0 @@
-mod caa;
-mod csync;
-mod sets;
