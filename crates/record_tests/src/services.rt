@@ -26,68 +26,10 @@ fn is_emitted(alloc: Global, value: &SVCB, octets: &[u8]) -> Result<bool, ProtoE
     Ok(encoder.into_bytes().as_slice() == octets)
 }
 
-// Whether the record of these octets is printed so, and emitted as these octets.
-fn is_read(alloc: Global, octets: &[u8], text: &str, emitted: &[u8]) -> Result<bool, ProtoError>
-    requires { length octets.now < 65536 }
-{
-    let value = whole(alloc, octets)?;
-    let printed = format!(in alloc; "{value}")?;
-    Ok(printed.as_str() == text && is_emitted(alloc, &value, emitted)?)
-}
-
 fn hash_of(value: &SVCB) -> u64 {
     let mut state = DefaultHasher::new();
     value.hash(&mut state);
     state.finish()
-}
-
-#[test]
-fn texts(rt: HostRuntime) -> Result<(), ProtoError> {
-    for (octets, text, emitted) in [
-        (
-            b"\x00\x01\x00\x00\x01\x00\x03\x02h2\x00\x03\x00\x04\x01\xbb\xff\xff".as_slice(),
-            "1 . alpn=h2, port=443",
-            b"\x00\x01\x00\x00\x01\x00\x03\x02h2\x00\x03\x00\x02\x01\xbb".as_slice(),
-        ),
-        (
-            b"\x00\x01\x01N\x00".as_slice(),
-            "1 N.",
-            b"\x00\x01\x01N\x00".as_slice(),
-        ),
-        (
-            b"\x00\x01\x00\x00\x00\x00\x02\x00\x01".as_slice(),
-            "1 . mandatory=alpn,",
-            b"\x00\x01\x00\x00\x00\x00\x02\x00\x01".as_slice(),
-        ),
-        (
-            b"\x00\x01\x00\x00\x02\x00\x00".as_slice(),
-            "1 . no-default-alpn=",
-            b"\x00\x01\x00\x00\x02\x00\x00".as_slice(),
-        ),
-        (
-            b"\x00\x01\x00\x00\x04\x00\x00".as_slice(),
-            "1 . ipv4hint=",
-            b"\x00\x01\x00\x00\x04\x00\x00".as_slice(),
-        ),
-        (
-            b"\x00\x01\x00\x00\x05\x00\x03\x00\x01\x02".as_slice(),
-            "1 . ech=\"AAEC\"",
-            b"\x00\x01\x00\x00\x05\x00\x03\x00\x01\x02".as_slice(),
-        ),
-        (
-            b"\x00\x01\x00\x00\x07\x00\x01a".as_slice(),
-            "1 . unknown7=\"a\",",
-            b"\x00\x01\x00\x00\x07\x00\x01a".as_slice(),
-        ),
-        (
-            b"\x00\x01\x00\xff\x00\x00\x01a".as_slice(),
-            "1 . key65280=\"a\",",
-            b"\x00\x01\x00\xff\x00\x00\x01a".as_slice(),
-        ),
-    ] {
-        assert!(rt; is_read(rt.alloc(), octets, text, emitted)?, "as {text}");
-    }
-    Ok(())
 }
 
 #[test]
