@@ -216,183 +216,152 @@ fn limits_names(rt: HostRuntime) -> Result<(), Fail> {
     Ok(())
 }
 
-fn written(
+// Writes names one behind the other, behind octets that stand already, and tells whether these octets stand then.
+fn is_written(
     alloc: Global,
+    before: &[u8],
+    names: &[(RDataEncoding, &[u8])],
+    octets: &[u8],
+) -> Result<bool, WriteError> {
+    let mut places = Places::new(alloc);
+    let mut out = Vec::from_slice(alloc, before)?;
+    for (mode, text) in names {
+        let Ok((name, _)) = parse_octets(alloc, text) else {
+            return Ok(false);
+        };
+        write_name(&mut places, &mut out, *mode, 65535, name.as_slice())?;
+    }
+    Ok(out.as_slice() == octets)
+}
+
+const SHARED: RDataEncoding = RDataEncoding::StandardRecord;
+
+#[test]
+fn points_to_the_longest_tail(rt: HostRuntime) -> Result<(), WriteError> {
+    let names: [(RDataEncoding, &[u8]); 7] = [
+        (SHARED, b"www.example.com."),
+        (SHARED, b"xxx.example.com."),
+        (SHARED, b"yyy.xxx.example.com."),
+        (SHARED, b"WWW.example.com."),
+        (SHARED, b"www.example.com."),
+        (SHARED, b"."),
+        (SHARED, b"www.example.com"),
+    ];
+    let octets = b"\x03www\x07example\x03com\x00\x03xxx\xc0\x04\x03yyy\xc0\x11\x03WWW\xc0\x04\xc0\x00\x00\xc0\x00";
+    assert!(rt; is_written(rt.alloc(), b"", &names, octets)?);
+    Ok(())
+}
+
+// Whether a name that stands already is written as a pointer to this place.
+fn is_pointer(
     places: &mut Places,
     out: &mut Vec<u8>,
-    mode: RDataEncoding,
-    text: &[u8],
-) -> Result<(), Fail> {
-    let (octets, _) = parse_octets(alloc, text)?;
-    write_name(places, out, mode, 65535, octets.as_slice())?;
-    Ok(())
+    name: &[u8],
+    place: u16,
+) -> Result<bool, WriteError> {
+    let len = out.len();
+    write_name(places, out, SHARED, 65535, name)?;
+    Ok(out.get(len..) == Some((0xc000 | place).to_be_bytes().as_slice()))
 }
 
-#[test]
-fn points_to_the_longest_tail(rt: HostRuntime) -> Result<(), Fail> {
-    let alloc = rt.alloc();
-    let mut places = Places::new(alloc);
-    let mut out = Vec::new(alloc);
-    let texts: [&[u8]; 7] = [
-        b"www.example.com.",
-        b"xxx.example.com.",
-        b"yyy.xxx.example.com.",
-        b"WWW.example.com.",
-        b"www.example.com.",
-        b".",
-        b"www.example.com",
-    ];
-    for text in texts {
-        written(
-            alloc,
-            &mut places,
-            &mut out,
-            RDataEncoding::StandardRecord,
-            text,
-        )?;
-    }
-    assert_eq!(rt;
-        out.as_slice(),
-        b"\x03www\x07example\x03com\x00\x03xxx\xc0\x04\x03yyy\xc0\x11\x03WWW\xc0\x04\xc0\x00\x00\xc0\x00".as_slice()
-    );
-    Ok(())
-}
-
-// Labels of 1 to 20 octets, of a letter each, and where each begins, in the text and in the octets alike.
-#[test]
-fn points_to_tails_of_each_length(rt: HostRuntime) -> Result<(), Fail> {
-    let alloc = rt.alloc();
-    let mut text = Vec::new(alloc);
-    let mut starts = Vec::new(alloc);
+// Labels of 1 to 20 octets, of a letter each: the name is written, and each of its tails is a pointer then.
+fn tails_are_pointers(alloc: Global) -> Result<bool, WriteError> {
+    let mut name = Vec::new(alloc);
     for count in 1..21u8 {
-        starts.push(text.len())?;
-        for _ in 0..count {
-            text.push(96 + count)?;
-        }
-        text.push(b'.')?;
+        name.extend_from_slice(&[count])?;
+        name.extend_from_slice(&[96 + count; 20][..count as usize])?;
     }
     let mut places = Places::new(alloc);
     let mut out = Vec::new(alloc);
-    let mode = RDataEncoding::StandardRecord;
-    written(alloc, &mut places, &mut out, mode, text.as_slice())?;
-    for start in starts.iter() {
-        let len = out.len();
-        let tail = text.get(*start..).unwrap_or(b"");
-        written(alloc, &mut places, &mut out, mode, tail)?;
-        let pointer = (0xc000 | u16::try_from(*start)?).to_be_bytes();
-        assert_eq!(rt; out.get(len..), Some(pointer.as_slice()), "from {start}");
+    write_name(&mut places, &mut out, SHARED, 65535, name.as_slice())?;
+    let mut place = 0u16;
+    let mut all = true;
+    for count in 1..21u16 {
+        let tail = name.get(place as usize..).unwrap_or(b"");
+        all = is_pointer(&mut places, &mut out, tail, place)? && all;
+        place = place.wrapping_add(count + 1);
     }
+    Ok(all && place == 230)
+}
+
+#[test]
+fn points_to_tails_of_each_length(rt: HostRuntime) -> Result<(), WriteError> {
+    assert!(rt; tails_are_pointers(rt.alloc())?);
     Ok(())
 }
 
 #[test]
-fn points_to_the_least_place(rt: HostRuntime) -> Result<(), Fail> {
-    let alloc = rt.alloc();
-    let mut places = Places::new(alloc);
-    let mut out = Vec::new(alloc);
-    out.push(7)?;
-    written(
-        alloc,
-        &mut places,
-        &mut out,
-        RDataEncoding::Canonical,
-        b"a.b.",
-    )?;
-    written(alloc, &mut places, &mut out, RDataEncoding::Other, b"a.b.")?;
-    written(
-        alloc,
-        &mut places,
-        &mut out,
-        RDataEncoding::StandardRecord,
-        b"c.a.b.",
-    )?;
-    assert_eq!(rt;
-        out.as_slice(),
-        b"\x07\x01a\x01b\x00\x01a\x01b\x00\x01c\xc0\x01".as_slice()
-    );
+fn points_to_the_least_place(rt: HostRuntime) -> Result<(), WriteError> {
+    let names: [(RDataEncoding, &[u8]); 3] = [
+        (RDataEncoding::Canonical, b"a.b."),
+        (RDataEncoding::Other, b"a.b."),
+        (SHARED, b"c.a.b."),
+    ];
+    let octets = b"\x07\x01a\x01b\x00\x01a\x01b\x00\x01c\xc0\x01";
+    assert!(rt; is_written(rt.alloc(), b"\x07", &names, octets)?);
     Ok(())
 }
 
-// The same name again, others between, and written whole; the first one only once a search wants it.
+// The same name again, others between, and written whole.
 #[test]
-fn points_to_the_name_before(rt: HostRuntime) -> Result<(), Fail> {
-    let alloc = rt.alloc();
-    let mut places = Places::new(alloc);
-    let mut out = Vec::new(alloc);
-    let mode = RDataEncoding::StandardRecord;
-    let refused = write_name(&mut places, &mut out, mode, 3, b"\x01a\x01b");
-    assert_eq!(rt; (refused.is_ok(), out.len()), (false, 0));
-    for text in [b"a.b.".as_slice(), b"a.b.", b"c.", b"a.b.", b"c.", b"a.b."] {
-        written(alloc, &mut places, &mut out, mode, text)?;
-    }
-    for text in [b"d.b.".as_slice(), b"c.", b"a.b.", b"d.b."] {
-        written(alloc, &mut places, &mut out, mode, text)?;
-    }
-    for mode in [RDataEncoding::Canonical, RDataEncoding::StandardRecord] {
-        written(alloc, &mut places, &mut out, mode, b"a.b.")?;
-    }
-    assert_eq!(rt;
-        out.as_slice(),
-        b"\x01a\x01b\x00\xc0\x00\x01c\x00\xc0\x00\xc0\x07\xc0\x00\x01d\xc0\x02\xc0\x07\xc0\x00\xc0\x10\x01a\x01b\x00\xc0\x00".as_slice()
-    );
+fn points_to_the_name_before(rt: HostRuntime) -> Result<(), WriteError> {
+    let names: [(RDataEncoding, &[u8]); 12] = [
+        (SHARED, b"a.b."),
+        (SHARED, b"a.b."),
+        (SHARED, b"c."),
+        (SHARED, b"a.b."),
+        (SHARED, b"c."),
+        (SHARED, b"a.b."),
+        (SHARED, b"d.b."),
+        (SHARED, b"c."),
+        (SHARED, b"a.b."),
+        (SHARED, b"d.b."),
+        (RDataEncoding::Canonical, b"a.b."),
+        (SHARED, b"a.b."),
+    ];
+    let octets = b"\x01a\x01b\x00\xc0\x00\x01c\x00\xc0\x00\xc0\x07\xc0\x00\x01d\xc0\x02\xc0\x07\xc0\x00\xc0\x10\x01a\x01b\x00\xc0\x00";
+    assert!(rt; is_written(rt.alloc(), b"", &names, octets)?);
     Ok(())
 }
 
-#[test]
-fn finds_each_of_many_names(rt: HostRuntime) -> Result<(), Fail> {
-    let alloc = rt.alloc();
+// `nXX.zone`, of two letters that tell the number.
+fn numbered(number: u8) -> [u8; 9] {
+    let mut name = *b"\x03nXX\x04zone";
+    name[2] = b'a' + number / 26;
+    name[3] = b'a' + number % 26;
+    name
+}
+
+// So many names of one zone, the first in ten octets and each other one in six, and then each of them again as a pointer.
+fn all_are_found(alloc: Global, count: u8) -> Result<bool, WriteError> {
     let mut places = Places::new(alloc);
     let mut out = Vec::new(alloc);
-    let mut starts = Vec::new(alloc);
-    for i in 0..600 {
-        let text = format!(in alloc; "n{i}.zone.")?;
-        starts.push(out.len())?;
-        written(
-            alloc,
-            &mut places,
-            &mut out,
-            RDataEncoding::StandardRecord,
-            text.as_str().as_bytes(),
-        )?;
+    for number in 0..count {
+        write_name(&mut places, &mut out, SHARED, 65535, &numbered(number))?;
     }
-    for (i, start) in starts.iter().enumerate() {
-        let text = format!(in alloc; "n{i}.zone.")?;
-        let len = out.len();
-        written(
-            alloc,
-            &mut places,
-            &mut out,
-            RDataEncoding::StandardRecord,
-            text.as_str().as_bytes(),
-        )?;
-        let pointer = (0xc000 | u16::try_from(*start)?).to_be_bytes();
-        assert_eq!(rt; out.get(len..), Some(pointer.as_slice()), "of {text}");
+    let mut all = is_pointer(&mut places, &mut out, &numbered(0), 0)?;
+    for number in 1..count {
+        let place = 4 + 6 * u16::from(number);
+        all = is_pointer(&mut places, &mut out, &numbered(number), place)? && all;
     }
-    Ok(())
+    Ok(all)
 }
 
 #[test]
-fn keeps_no_place_past_a_pointer(rt: HostRuntime) -> Result<(), Fail> {
-    let alloc = rt.alloc();
-    let mut places = Places::new(alloc);
-    let mut out = Vec::new(alloc);
-    for _ in 0..16383 {
-        out.push(1)?;
-    }
-    for _ in 0..3 {
-        written(
-            alloc,
-            &mut places,
-            &mut out,
-            RDataEncoding::StandardRecord,
-            b"a.b.",
-        )?;
-    }
-    // the first label stands at the last place that a pointer reaches
-    assert_eq!(rt;
-        out.get(16383..),
-        Some(b"\x01a\x01b\x00\xff\xff\xff\xff".as_slice())
-    );
+fn finds_each_of_many_names(rt: HostRuntime) -> Result<(), WriteError> {
+    assert!(rt; all_are_found(rt.alloc(), 250)?);
+    Ok(())
+}
+
+// The first label stands at the last place that a pointer reaches.
+#[test]
+fn keeps_no_place_past_a_pointer(rt: HostRuntime) -> Result<(), WriteError> {
+    let names: [(RDataEncoding, &[u8]); 3] =
+        [(SHARED, b"a.b."), (SHARED, b"a.b."), (SHARED, b"a.b.")];
+    let before = [1u8; 16383];
+    let mut octets = [1u8; 16392];
+    octets[16383..].copy_from_slice(b"\x01a\x01b\x00\xff\xff\xff\xff");
+    assert!(rt; is_written(rt.alloc(), &before, &names, &octets)?);
     Ok(())
 }
 

@@ -1,6 +1,7 @@
 use dns_text::{Lexer, Token, parse_ttl, read_item, read_list, text_words};
 use dns_types::ParseError;
 use std::alloc::Global;
+use std::convert::AsStr;
 use std::test::Fail;
 
 // The kinds of a text's tokens, a letter each, and its words, each behind a stroke; `!` where it is refused.
@@ -42,22 +43,26 @@ fn show(token: Token<'_>, all: &mut String) -> Result<(), ParseError> {
     Ok(())
 }
 
-fn joined(alloc: Global, text: &str) -> Result<String, ParseError> {
-    let mut all = String::new(alloc);
-    for word in &text_words(alloc, text)? {
-        all.push('|')?;
-        all.push_str(word.as_str())?;
+fn are_words<S: AsStr>(found: &[S], words: &[&str]) -> bool {
+    let mut same = found.len() == words.len();
+    for (word, wanted) in found.iter().zip(words) {
+        same = same && word.as_str() == *wanted;
     }
-    Ok(all)
+    same
 }
 
-fn listed(alloc: Global, text: &str) -> Result<String, ParseError> {
-    let mut all = String::new(alloc);
-    for item in &read_list(alloc, text)? {
-        all.push('|')?;
-        all.push_str(item.as_str())?;
-    }
-    Ok(all)
+// Whether these are the words of a text.
+fn has_words(alloc: Global, text: &str, words: &[&str]) -> Result<bool, ParseError> {
+    Ok(are_words(text_words(alloc, text)?.as_slice(), words))
+}
+
+// Whether these are the items of a list.
+fn has_items(alloc: Global, text: &str, items: &[&str]) -> Result<bool, ParseError> {
+    Ok(are_words(read_list(alloc, text)?.as_slice(), items))
+}
+
+fn is_item(alloc: Global, text: &str, item: &str) -> Result<bool, ParseError> {
+    Ok(read_item(alloc, text)?.as_str() == item)
 }
 
 #[test]
@@ -91,47 +96,53 @@ fn cuts_texts_into_tokens(rt: HostRuntime) -> Result<(), Fail> {
 }
 
 #[test]
-fn gives_words_of_texts(rt: HostRuntime) -> Result<(), Fail> {
-    let alloc = rt.alloc();
-    assert_eq!(rt;
-        joined(alloc, "1 . alpn=\"http/1.1,h2\" ipv4hint=162.159.137.85")?.as_str(),
-        "|1|.|alpn=\"http/1.1,h2\"|ipv4hint=162.159.137.85"
-    );
-    assert_eq!(rt;
-        joined(
-            alloc,
-            "1 foo.example.com. (ipv6hint=\"2001:db8::1,2001:db8::53:1\")"
-        )?
-        .as_str(),
-        "|1|foo.example.com.|ipv6hint=\"2001:db8::1,2001:db8::53:1\""
-    );
+fn gives_words_of_texts(rt: HostRuntime) -> Result<(), ParseError> {
+    let rows: [(&str, &[&str]); 2] = [
+        (
+            "1 . alpn=\"http/1.1,h2\" ipv4hint=162.159.137.85",
+            &["1", ".", "alpn=\"http/1.1,h2\"", "ipv4hint=162.159.137.85"],
+        ),
+        (
+            "1 foo.example.com. (ipv6hint=\"2001:db8::1,2001:db8::53:1\")",
+            &["1", "foo.example.com.", "ipv6hint=\"2001:db8::1,2001:db8::53:1\""],
+        ),
+    ];
+    for (text, words) in rows {
+        assert!(rt; has_words(rt.alloc(), text, words)?, "in {text}");
+    }
     for text in ["a @", "\"", "a (b", "(", ")"] {
-        assert!(rt; joined(alloc, text).is_err(), "in {text}");
+        assert!(rt; has_words(rt.alloc(), text, &[]).is_err(), "in {text}");
     }
     Ok(())
 }
 
 #[test]
-fn reads_items(rt: HostRuntime) -> Result<(), Fail> {
-    let alloc = rt.alloc();
-    assert_eq!(rt; read_item(alloc, "a;b")?.as_str(), "a");
-    assert_eq!(rt; read_item(alloc, "\"a b\" c")?.as_str(), "a b");
-    for text in ["", " h2", "@", "(a)"] {
-        assert!(rt; read_item(alloc, text).is_err(), "in {text}");
+fn reads_items(rt: HostRuntime) -> Result<(), ParseError> {
+    for (text, item) in [("a;b", "a"), ("\"a b\" c", "a b")] {
+        assert!(rt; is_item(rt.alloc(), text, item)?, "in {text}");
     }
-    for (text, want) in [
-        ("", ""),
-        ("h2,h3-19", "|h2|h3-19"),
-        ("h2,", "|h2"),
-        ("a\\,b", "|a,b"),
-        ("h2\\", "|h2"),
-        ("f\\\\\\\\oo\\,bar,h2", "|f\\\\oo,bar|h2"),
-        ("a;b", "|a"),
-    ] {
-        assert_eq!(rt; listed(alloc, text)?.as_str(), want, "in {text}");
+    for text in ["", " h2", "@", "(a)"] {
+        assert!(rt; is_item(rt.alloc(), text, "").is_err(), "in {text}");
+    }
+    Ok(())
+}
+
+#[test]
+fn reads_lists(rt: HostRuntime) -> Result<(), ParseError> {
+    let rows: [(&str, &[&str]); 7] = [
+        ("", &[]),
+        ("h2,h3-19", &["h2", "h3-19"]),
+        ("h2,", &["h2"]),
+        ("a\\,b", &["a,b"]),
+        ("h2\\", &["h2"]),
+        ("f\\\\\\\\oo\\,bar,h2", &["f\\\\oo,bar", "h2"]),
+        ("a;b", &["a"]),
+    ];
+    for (text, items) in rows {
+        assert!(rt; has_items(rt.alloc(), text, items)?, "in {text}");
     }
     for text in [",", ",h2", "h2,,h3", "a, b"] {
-        assert!(rt; listed(alloc, text).is_err(), "in {text}");
+        assert!(rt; has_items(rt.alloc(), text, &[]).is_err(), "in {text}");
     }
     Ok(())
 }
