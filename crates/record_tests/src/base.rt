@@ -1,15 +1,15 @@
 ghost use Rattle.std.specs.Prelude.{◌<◌, length};
 
+use dns_names_wire::{
+    AddrParseError, BinDecodable, BinDecoder, BinEncodable, BinEncoder, DecodeError, ProtoError,
+    Restrict,
+};
 use dns_rdata_base::a::A;
 use dns_rdata_base::aaaa::AAAA;
 use dns_rdata_base::hinfo::HINFO;
 use dns_rdata_base::openpgpkey::OPENPGPKEY;
 use dns_rdata_base::traits::RecordDataDecodable;
 use dns_rdata_base::txt::TXT;
-use dns_names_wire::{
-    AddrParseError, BinDecodable, BinDecoder, BinEncodable, BinEncoder, DecodeError, ProtoError,
-    Restrict,
-};
 use std::alloc::Global;
 use std::fmt;
 

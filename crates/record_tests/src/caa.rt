@@ -1,10 +1,10 @@
 ghost use Rattle.std.specs.Prelude.{◌<◌, length};
 
-use dns_rdata_sets::caa::{CAA, KeyValue, read_iodef, read_issuer};
 use dns_names_wire::{
     BinDecoder, BinEncodable, BinEncoder, DecodeError, Name, ProtoError, Restrict, SmallOctets,
 };
 use dns_rdata_base::RecordDataDecodable;
+use dns_rdata_sets::caa::{CAA, KeyValue, read_iodef, read_issuer};
 use std::alloc::{AllocError, Global};
 
 // Whether a record appends these octets to an encoder without any.

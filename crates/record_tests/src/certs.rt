@@ -1,14 +1,14 @@
 ghost use Rattle.std.specs.Prelude.{◌<◌, length};
 
+use dns_names_wire::{
+    BinDecodable, BinDecoder, BinEncodable, BinEncoder, DecodeError, ProtoError, Restrict,
+};
+use dns_rdata_base::RecordDataDecodable;
 use dns_rdata_certs::cert::{self, CERT, CertType};
 use dns_rdata_certs::hexadecimal::HEX;
 use dns_rdata_certs::smimea::SMIMEA;
 use dns_rdata_certs::sshfp::{self, FingerprintType, SSHFP};
 use dns_rdata_certs::tlsa::{CertUsage, Matching, Selector, TLSA};
-use dns_names_wire::{
-    BinDecodable, BinDecoder, BinEncodable, BinEncoder, DecodeError, ProtoError, Restrict,
-};
-use dns_rdata_base::RecordDataDecodable;
 use dns_types::ParseError;
 use std::alloc::Global;
 use std::cmp::Ordering;

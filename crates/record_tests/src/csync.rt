@@ -1,11 +1,11 @@
 ghost use Rattle.std.specs.Prelude.{◌<◌, length};
 
-use dns_rdata_sets::CSYNC;
-use dns_rdata_sets::order::csync_order;
 use dns_names_wire::{
     BinDecoder, BinEncodable, BinEncoder, DecodeError, ProtoError, RecordType, Restrict,
 };
 use dns_rdata_base::RecordDataDecodable;
+use dns_rdata_sets::CSYNC;
+use dns_rdata_sets::order::csync_order;
 use std::alloc::{AllocError, Global};
 use std::cmp::Ordering;
 use std::hash::{DefaultHasher, Hash, Hasher};

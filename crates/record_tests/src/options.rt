@@ -1,13 +1,13 @@
 ghost use Rattle.std.specs.Prelude.{◌<◌, ◌≤◌, length};
 
-use dns_rdata_options::opt::{ClientSubnet, EdnsCode, EdnsOption, IpNet, NSIDPayload, OPT};
-use dns_rdata_options::order::opt_order;
-use dns_rdata_options::steps::opt_is_emittable;
 use dns_names_wire::{
     AddrParseError, BinDecodable, BinDecoder, BinEncodable, BinEncoder, DecodeError, ProtoError,
     Restrict,
 };
 use dns_rdata_base::RecordDataDecodable;
+use dns_rdata_options::opt::{ClientSubnet, EdnsCode, EdnsOption, IpNet, NSIDPayload, OPT};
+use dns_rdata_options::order::opt_order;
+use dns_rdata_options::steps::opt_is_emittable;
 use std::alloc::Global;
 use std::cmp::Ordering;
 use std::hash::{DefaultHasher, Hash, Hasher};

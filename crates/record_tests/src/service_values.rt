@@ -1,9 +1,11 @@
-use dns_rdata_service::items::Items;
-use dns_rdata_service::svcb::{Alpn, EchConfigList, IpHint, Mandatory, SvcParamKey, SvcParamValue, Unknown};
 use dns_names_wire::{
     BinDecodable, BinDecoder, BinEncodable, BinEncoder, DecodeError, Octets, ProtoError,
 };
 use dns_rdata_base::{A, AAAA, TakesOctet};
+use dns_rdata_service::items::Items;
+use dns_rdata_service::svcb::{
+    Alpn, EchConfigList, IpHint, Mandatory, SvcParamKey, SvcParamValue, Unknown,
+};
 use std::alloc::{AllocError, Global};
 use std::cmp::Ordering;
 use std::fmt;

@@ -1,6 +1,6 @@
+use dns_names_wire::{BinEncodable, BinEncoder, ParseError};
 use dns_rdata_service::https::HTTPS;
 use dns_rdata_service::svcb::{SVCB, SvcParamKey, SvcParamValue, parameter_of};
-use dns_names_wire::{BinEncodable, BinEncoder, ParseError};
 use std::alloc::Global;
 
 // A word's parameter as it is printed.

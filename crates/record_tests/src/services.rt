@@ -1,13 +1,13 @@
 ghost use Rattle.std.specs.Prelude.{◌<◌, length};
 
-use dns_rdata_service::items::Items;
-use dns_rdata_service::order::svcb_front;
-use dns_rdata_service::svcb::{SvcParamKey, SvcParamValue};
-use dns_rdata_service::{HTTPS, SVCB};
 use dns_names_wire::{
     BinDecoder, BinEncodable, BinEncoder, DecodeError, Name, ProtoError, Restrict,
 };
 use dns_rdata_base::RecordDataDecodable;
+use dns_rdata_service::items::Items;
+use dns_rdata_service::order::svcb_front;
+use dns_rdata_service::svcb::{SvcParamKey, SvcParamValue};
+use dns_rdata_service::{HTTPS, SVCB};
 use std::alloc::Global;
 use std::cmp::Ordering;
 use std::hash::{DefaultHasher, Hash, Hasher};

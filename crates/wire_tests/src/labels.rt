@@ -1,3 +1,4 @@
+use dns_fields::RDataEncoding;
 use dns_labels::Places;
 use dns_labels::building::{append_label, append_octets};
 use dns_labels::comparing::{compare_lowered, equal_lowered, hash_lowered};
@@ -6,7 +7,6 @@ use dns_labels::labels::{LabelIter, count_labels};
 use dns_labels::reading::read_octets;
 use dns_labels::text::{NameText, parse_octets};
 use dns_labels::writing::write_name;
-use dns_fields::RDataEncoding;
 use std::alloc::Global;
 use std::cmp::Ordering;
 use std::hash::{DefaultHasher, Hasher};
@@ -247,7 +247,8 @@ fn points_to_the_longest_tail(rt: HostRuntime) -> Result<(), WriteError> {
         (SHARED, b"."),
         (SHARED, b"www.example.com"),
     ];
-    let octets = b"\x03www\x07example\x03com\x00\x03xxx\xc0\x04\x03yyy\xc0\x11\x03WWW\xc0\x04\xc0\x00\x00\xc0\x00";
+    let octets =
+        b"\x03www\x07example\x03com\x00\x03xxx\xc0\x04\x03yyy\xc0\x11\x03WWW\xc0\x04\xc0\x00\x00\xc0\x00";
     assert!(rt; is_written(rt.alloc(), b"", &names, octets)?);
     Ok(())
 }
@@ -319,7 +320,8 @@ fn points_to_the_name_before(rt: HostRuntime) -> Result<(), WriteError> {
         (RDataEncoding::Canonical, b"a.b."),
         (SHARED, b"a.b."),
     ];
-    let octets = b"\x01a\x01b\x00\xc0\x00\x01c\x00\xc0\x00\xc0\x07\xc0\x00\x01d\xc0\x02\xc0\x07\xc0\x00\xc0\x10\x01a\x01b\x00\xc0\x00";
+    let octets =
+        b"\x01a\x01b\x00\xc0\x00\x01c\x00\xc0\x00\xc0\x07\xc0\x00\x01d\xc0\x02\xc0\x07\xc0\x00\xc0\x10\x01a\x01b\x00\xc0\x00";
     assert!(rt; is_written(rt.alloc(), b"", &names, octets)?);
     Ok(())
 }
@@ -356,8 +358,11 @@ fn finds_each_of_many_names(rt: HostRuntime) -> Result<(), WriteError> {
 // The first label stands at the last place that a pointer reaches.
 #[test]
 fn keeps_no_place_past_a_pointer(rt: HostRuntime) -> Result<(), WriteError> {
-    let names: [(RDataEncoding, &[u8]); 3] =
-        [(SHARED, b"a.b."), (SHARED, b"a.b."), (SHARED, b"a.b.")];
+    let names: [(RDataEncoding, &[u8]); 3] = [
+        (SHARED, b"a.b."),
+        (SHARED, b"a.b."),
+        (SHARED, b"a.b."),
+    ];
     let before = [1u8; 16383];
     let mut octets = [1u8; 16392];
     octets[16383..].copy_from_slice(b"\x01a\x01b\x00\xff\xff\xff\xff");

@@ -1,6 +1,6 @@
-use dns_words::{Base64Text, WordList, name_from_tokens, next_u16};
 use base64::engine::general_purpose::STANDARD;
 use dns_names_wire::{Name, ParseError};
+use dns_words::{Base64Text, WordList, name_from_tokens, next_u16};
 use std::test::Fail;
 
 #[test]

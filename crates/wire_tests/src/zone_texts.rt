@@ -104,7 +104,11 @@ fn gives_words_of_texts(rt: HostRuntime) -> Result<(), ParseError> {
         ),
         (
             "1 foo.example.com. (ipv6hint=\"2001:db8::1,2001:db8::53:1\")",
-            &["1", "foo.example.com.", "ipv6hint=\"2001:db8::1,2001:db8::53:1\""],
+            &[
+                "1",
+                "foo.example.com.",
+                "ipv6hint=\"2001:db8::1,2001:db8::53:1\"",
+            ],
         ),
     ];
     for (text, words) in rows {
