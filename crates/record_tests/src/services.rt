@@ -1,3 +1,5 @@
+ghost use Rattle.std.specs.Prelude.{◌<◌};
+
 use crate::common::{hash_of, is_printed, whole};
 use dns_names_wire::{DecodeError, ProtoError};
 use dns_rdata_service::order::svcb_front;
