@@ -19,4 +19,3 @@ pub use places::Places;
 
 /// The octets of one name: up to 32 of them stand in the value itself.
 pub type NameOctets = SmallOctets<32>;
-

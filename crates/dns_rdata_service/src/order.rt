@@ -84,9 +84,7 @@ fn value_order(a: &SvcParamValue, b: &SvcParamValue) -> Option<Ordering>
     ensures alike { IfSome result (λ o. o ≡ Equal → value_key a.now ≡ value_key b.now) }
 {
     match (a, b) {
-        (SvcParamValue::Alpn(x), SvcParamValue::Alpn(y)) => {
-            names_order(&x.0, &y.0)
-        }
+        (SvcParamValue::Alpn(x), SvcParamValue::Alpn(y)) => { names_order(&x.0, &y.0) }
         (SvcParamValue::Port(x), SvcParamValue::Port(y)) => Some(port_order(*x, *y)),
         (SvcParamValue::Ipv4Hint(x), SvcParamValue::Ipv4Hint(y)) => {
             hint4_order(x.0.as_slice(), y.0.as_slice())
