@@ -7,7 +7,7 @@ use dns_labels::labels::{LabelIter, count_labels};
 use dns_labels::reading::read_octets;
 use dns_labels::text::{NameText, parse_octets};
 use dns_labels::writing::write_name;
-use std::alloc::Global;
+use std::alloc::{AllocError, Global};
 use std::cmp::Ordering;
 use std::hash::{DefaultHasher, Hasher};
 use std::test::Fail;
@@ -253,33 +253,42 @@ fn points_to_the_longest_tail(rt: HostRuntime) -> Result<(), WriteError> {
     Ok(())
 }
 
-// Whether a name that stands already is written as a pointer to this place.
+// Whether the name of a text, which stands already, is written as a pointer to this place.
 fn is_pointer(
+    alloc: Global,
     places: &mut Places,
     out: &mut Vec<u8>,
-    name: &[u8],
+    text: &[u8],
     place: u16,
 ) -> Result<bool, WriteError> {
+    let Ok((name, _)) = parse_octets(alloc, text) else {
+        return Ok(false);
+    };
     let len = out.len();
-    write_name(places, out, SHARED, 65535, name)?;
+    write_name(places, out, SHARED, 65535, name.as_slice())?;
     Ok(out.get(len..) == Some((0xc000 | place).to_be_bytes().as_slice()))
 }
 
-// Labels of 1 to 20 octets, of a letter each: the name is written, and each of its tails is a pointer then.
-fn tails_are_pointers(alloc: Global) -> Result<bool, WriteError> {
-    let mut name = Vec::new(alloc);
+// Labels of 1 to 20 octets, of a letter each, with a dot behind: a label begins where it does in the octets.
+fn long_text(alloc: Global) -> Result<Vec<u8>, AllocError> {
+    let mut text = Vec::new(alloc);
     for count in 1..21u8 {
-        name.extend_from_slice(&[count])?;
-        name.extend_from_slice(&[96 + count; 20][..count as usize])?;
+        text.extend_from_slice(&[96 + count; 20][..count as usize])?;
+        text.extend_from_slice(b".")?;
     }
+    Ok(text)
+}
+
+// Whether each tail of that name is a pointer, once the name itself is written.
+fn tails_are_pointers(alloc: Global) -> Result<bool, WriteError> {
+    let text = long_text(alloc)?;
     let mut places = Places::new(alloc);
     let mut out = Vec::new(alloc);
-    write_name(&mut places, &mut out, SHARED, 65535, name.as_slice())?;
+    let mut all = !is_pointer(alloc, &mut places, &mut out, text.as_slice(), 0)?;
     let mut place = 0u16;
-    let mut all = true;
     for count in 1..21u16 {
-        let tail = name.get(place as usize..).unwrap_or(b"");
-        all = is_pointer(&mut places, &mut out, tail, place)? && all;
+        let tail = text.get(place as usize..).unwrap_or(b"");
+        all = is_pointer(alloc, &mut places, &mut out, tail, place)? && all;
         place = place.wrapping_add(count + 1);
     }
     Ok(all && place == 230)
@@ -326,25 +335,27 @@ fn points_to_the_name_before(rt: HostRuntime) -> Result<(), WriteError> {
     Ok(())
 }
 
-// `nXX.zone`, of two letters that tell the number.
+// `nXX.zone.`, of two letters that tell the number.
 fn numbered(number: u8) -> [u8; 9] {
-    let mut name = *b"\x03nXX\x04zone";
-    name[2] = b'a' + number / 26;
-    name[3] = b'a' + number % 26;
-    name
+    let mut text = *b"nXX.zone.";
+    text[1] = b'a' + number / 26;
+    text[2] = b'a' + number % 26;
+    text
 }
 
-// So many names of one zone, the first in ten octets and each other one in six, and then each of them again as a pointer.
+// Whether of so many names of one zone, the first in ten octets and each other one in six, each is a pointer afterwards.
 fn all_are_found(alloc: Global, count: u8) -> Result<bool, WriteError> {
     let mut places = Places::new(alloc);
     let mut out = Vec::new(alloc);
     for number in 0..count {
-        write_name(&mut places, &mut out, SHARED, 65535, &numbered(number))?;
+        if is_pointer(alloc, &mut places, &mut out, &numbered(number), 0)? {
+            return Ok(false);
+        }
     }
-    let mut all = is_pointer(&mut places, &mut out, &numbered(0), 0)?;
+    let mut all = is_pointer(alloc, &mut places, &mut out, &numbered(0), 0)?;
     for number in 1..count {
         let place = 4 + 6 * u16::from(number);
-        all = is_pointer(&mut places, &mut out, &numbered(number), place)? && all;
+        all = is_pointer(alloc, &mut places, &mut out, &numbered(number), place)? && all;
     }
     Ok(all)
 }
@@ -355,7 +366,13 @@ fn finds_each_of_many_names(rt: HostRuntime) -> Result<(), WriteError> {
     Ok(())
 }
 
-// The first label stands at the last place that a pointer reaches.
+// Octets up to the last place that a pointer reaches, and these behind them.
+fn behind_others(alloc: Global, octets: &[u8]) -> Result<Vec<u8>, AllocError> {
+    let mut all = vec![in alloc; 1u8; 16383]?;
+    all.extend_from_slice(octets)?;
+    Ok(all)
+}
+
 #[test]
 fn keeps_no_place_past_a_pointer(rt: HostRuntime) -> Result<(), WriteError> {
     let names: [(RDataEncoding, &[u8]); 3] = [
@@ -363,10 +380,9 @@ fn keeps_no_place_past_a_pointer(rt: HostRuntime) -> Result<(), WriteError> {
         (SHARED, b"a.b."),
         (SHARED, b"a.b."),
     ];
-    let before = [1u8; 16383];
-    let mut octets = [1u8; 16392];
-    octets[16383..].copy_from_slice(b"\x01a\x01b\x00\xff\xff\xff\xff");
-    assert!(rt; is_written(rt.alloc(), &before, &names, &octets)?);
+    let before = behind_others(rt.alloc(), b"")?;
+    let octets = behind_others(rt.alloc(), b"\x01a\x01b\x00\xff\xff\xff\xff")?;
+    assert!(rt; is_written(rt.alloc(), before.as_slice(), &names, octets.as_slice())?);
     Ok(())
 }
 
