@@ -46,24 +46,6 @@ fn print_row(
     print_line(rt, curve, size, tenths, octets)
 }
 
-// The times in which the row is read, emitted and compared.
-fn print_columns(
-    rt: &(impl AllocGlobal + Clock + Print),
-    what: &str,
-    size: usize,
-    row: &mut Row,
-) -> Result<()> {
-    for (column, done) in [
-        ("read", "read"),
-        ("fresh", "emitted"),
-        ("equal", "compared"),
-    ] {
-        let curve = format!(in rt.alloc(); "{what} {done}")?;
-        print_row(rt, curve.as_str(), column, size, row)?;
-    }
-    Ok(())
-}
-
 // Writes the names into one message.
 fn write(
     alloc: Global,
@@ -163,39 +145,6 @@ fn windows(alloc: Global, count: usize) -> Result<Row> {
     Row::new(alloc, RecordType::CSYNC, message, 0, length, false)
 }
 
-// So many numbers from 100 on, each before four octets and their length: options or parameters.
-fn numbered(message: &mut Vec<u8>, count: usize) -> Result<()> {
-    for number in 0..count.min(8000) as u16 {
-        message.extend_from_slice(&number.wrapping_add(100).to_be_bytes())?;
-        message.extend_from_slice(&[0, 4, 1, 2, 3, 4])?;
-    }
-    Ok(())
-}
-
-// So many options.
-fn options(alloc: Global, count: usize) -> Result<Row> {
-    let mut message = Vec::new(alloc);
-    numbered(&mut message, count)?;
-    let length = u16::try_from(message.len()).unwrap_or(u16::MAX);
-    Row::new(alloc, RecordType::OPT, message, 0, length, false)
-}
-
-// A service of so many parameters.
-fn parameters(alloc: Global, count: usize) -> Result<Row> {
-    let mut message = Vec::from_slice(alloc, [0u8, 1, 0].as_slice())?;
-    numbered(&mut message, count)?;
-    let length = u16::try_from(message.len()).unwrap_or(u16::MAX);
-    Row::new(alloc, RecordType::SVCB, message, 0, length, false)
-}
-
-fn print_numbered(rt: &(impl AllocGlobal + Clock + Print)) -> Result<()> {
-    for count in [1usize, 16, 256, 4096] {
-        print_columns(rt, "options", count, &mut options(rt.alloc(), count)?)?;
-        print_columns(rt, "parameters", count, &mut parameters(rt.alloc(), count)?)?;
-    }
-    Ok(())
-}
-
 /// Prints the curves.
 pub fn print_growth(rt: &(impl AllocGlobal + Clock + Print)) -> Result<()> {
     let alloc = rt.alloc();
@@ -230,5 +179,5 @@ pub fn print_growth(rt: &(impl AllocGlobal + Clock + Print)) -> Result<()> {
         print_row(rt, "windows emitted", "fresh", count, &mut row)?;
         print_row(rt, "windows compared", "equal", count, &mut row)?;
     }
-    print_numbered(rt)
+    Ok(())
 }
