@@ -1,3 +1,5 @@
+ghost use Rattle.std.specs.Prelude.{◌≤◌, length};
+
 use dns_fields::RDataEncoding;
 use dns_labels::Places;
 use dns_labels::building::{append_label, append_octets};
@@ -18,6 +20,19 @@ fn label(alloc: Global, count: usize) -> Result<String, Fail> {
         text.push('a')?;
     }
     Ok(text)
+}
+
+// Whether a text is read as these octets, with or without a mark, and printed so.
+fn is_read(
+    alloc: Global,
+    text: &[u8],
+    octets: &[u8],
+    mark: bool,
+    printed: &[u8],
+) -> Result<bool, Fail> {
+    let (read, is_fqdn) = parse_octets(alloc, text)?;
+    let again = NameText::new(read.as_slice(), is_fqdn).to_string(alloc)?;
+    Ok(is_fqdn == mark && read.as_slice() == octets && again.as_str().as_bytes() == printed)
 }
 
 #[test]
@@ -43,11 +58,10 @@ fn reads_and_prints_texts(rt: HostRuntime) -> Result<(), Fail> {
         (b"www.\\000", b"\x03www\x01\x00", false, b"www.\\000"),
     ];
     for (text, octets, mark, printed) in rows {
-        let (read, is_fqdn) = parse_octets(rt.alloc(), text)?;
-        assert_eq!(rt; read.as_slice(), octets, "of {text:?}");
-        assert_eq!(rt; is_fqdn, mark, "of {text:?}");
-        let again = NameText::new(read.as_slice(), is_fqdn).to_string(rt.alloc())?;
-        assert_eq!(rt; again.as_str().as_bytes(), printed, "of {text:?}");
+        assert!(rt;
+            is_read(rt.alloc(), text, octets, mark, printed)?,
+            "of {text:?}"
+        );
     }
     Ok(())
 }
@@ -80,27 +94,54 @@ fn refuses_texts(rt: HostRuntime) -> Result<(), Fail> {
     Ok(())
 }
 
-#[test]
-fn limits_texts(rt: HostRuntime) -> Result<(), Fail> {
-    let alloc = rt.alloc();
+// How many octets a text has, where it is a name's.
+fn len_of(alloc: Global, text: &str) -> Option<usize> {
+    let Ok((octets, _)) = parse_octets(alloc, text.as_bytes()) else {
+        return None;
+    };
+    Some(octets.len())
+}
+
+// How many octets a name has of three labels of 63, and of one of so many.
+fn len_with(alloc: Global, count: usize) -> Result<Option<usize>, Fail> {
     let most = label(alloc, 63)?;
-    let (octets, _) = parse_octets(alloc, most.as_str().as_bytes())?;
-    assert_eq!(rt; octets.len(), 64);
-    let long = label(alloc, 64)?;
-    assert!(rt; parse_octets(alloc, long.as_str().as_bytes()).is_err());
-    let last = label(alloc, 61)?;
+    let last = label(alloc, count)?;
     let whole = format!(in alloc; "{most}.{most}.{most}.{last}.")?;
-    let (octets, _) = parse_octets(alloc, whole.as_str().as_bytes())?;
-    assert_eq!(rt; octets.len(), 254);
-    let again = NameText::new(octets.as_slice(), true).to_string(alloc)?;
-    assert_eq!(rt; again.as_str(), whole.as_str());
-    let past = format!(in alloc; "{most}.{most}.{most}.{last}a.")?;
-    assert!(rt; parse_octets(alloc, past.as_str().as_bytes()).is_err());
+    Ok(len_of(alloc, whole.as_str()))
+}
+
+#[test]
+fn limits_labels(rt: HostRuntime) -> Result<(), Fail> {
+    let most = label(rt.alloc(), 63)?;
+    assert_eq!(rt; len_of(rt.alloc(), most.as_str()), Some(64));
+    let long = label(rt.alloc(), 64)?;
+    assert_eq!(rt; len_of(rt.alloc(), long.as_str()), None);
     Ok(())
 }
 
 #[test]
-fn reads_names(rt: HostRuntime) -> Result<(), Fail> {
+fn limits_texts(rt: HostRuntime) -> Result<(), Fail> {
+    assert_eq!(rt; len_with(rt.alloc(), 61)?, Some(254));
+    assert_eq!(rt; len_with(rt.alloc(), 62)?, None);
+    Ok(())
+}
+
+// Whether the octets of a name are read at a place, up to an end.
+fn is_read_at(
+    alloc: Global,
+    message: &[u8],
+    start: usize,
+    octets: &[u8],
+    end: usize,
+) -> Result<bool, NameError>
+    requires { start ≤ length message.now }
+{
+    let (read, behind) = read_octets(alloc, message, start)?;
+    Ok(behind == end && read.as_slice() == octets)
+}
+
+#[test]
+fn reads_names(rt: HostRuntime) -> Result<(), NameError> {
     let rows: [(&[u8], usize, &[u8], usize); 7] = [
         (b"\x03www\x00\xc0\x00", 0, b"\x03www", 5),
         (b"\x03www\x00\xc0\x00", 5, b"\x03www", 7),
@@ -117,9 +158,10 @@ fn reads_names(rt: HostRuntime) -> Result<(), Fail> {
         (b"\x01.\x00", 0, b"\x01.", 3),
     ];
     for (message, start, octets, end) in rows {
-        let (read, behind) = read_octets(rt.alloc(), message, start)?;
-        assert_eq!(rt; read.as_slice(), octets, "from {start} of {message:?}");
-        assert_eq!(rt; behind, end, "from {start} of {message:?}");
+        assert!(rt;
+            is_read_at(rt.alloc(), message, start, octets, end)?,
+            "from {start} of {message:?}"
+        );
     }
     Ok(())
 }
@@ -170,9 +212,9 @@ fn refuses_hostile_names(rt: HostRuntime) -> Result<(), Fail> {
     Ok(())
 }
 
-#[test]
-fn reads_long_chains(rt: HostRuntime) -> Result<(), Fail> {
-    let mut message = Vec::new(rt.alloc());
+// `z.`, and then 8,000 pointers, each to the one before it.
+fn chain(alloc: Global) -> Result<Vec<u8>, Fail> {
+    let mut message = Vec::new(alloc);
     message.extend_from_slice(b"\x01z\x00")?;
     let mut target = 0u16;
     for _ in 0..8000 {
@@ -180,39 +222,45 @@ fn reads_long_chains(rt: HostRuntime) -> Result<(), Fail> {
         message.extend_from_slice(&(0xc000 | target).to_be_bytes())?;
         target = u16::try_from(place)?;
     }
-    let start = target as usize;
-    if start > message.len() {
-        return Ok(());
-    }
-    let (octets, end) = read_octets(rt.alloc(), message.as_slice(), start)?;
-    assert_eq!(rt; octets.as_slice(), b"\x01z".as_slice());
-    assert_eq!(rt; end, message.len());
+    Ok(message)
+}
+
+#[test]
+fn reads_long_chains(rt: HostRuntime) -> Result<(), Fail> {
+    let message = chain(rt.alloc())?;
+    assert!(rt;
+        message.len() == 16003
+            && is_read_at(rt.alloc(), message.as_slice(), 16001, b"\x01z", 16003)?
+    );
     Ok(())
+}
+
+// Three labels of 63 octets, and then one of so many that ends in a pointer to them.
+fn long_name(alloc: Global, count: u8) -> Result<Vec<u8>, AllocError> {
+    let mut message = Vec::new(alloc);
+    for _ in 0..3 {
+        message.push(63)?;
+        message.extend_from_slice(&[97; 63])?;
+    }
+    message.extend_from_slice(&[0, count])?;
+    for _ in 0..count {
+        message.push(98)?;
+    }
+    message.extend_from_slice(b"\xc0\x00")?;
+    Ok(message)
+}
+
+// Whether there are so many octets, and a name stands behind the first labels.
+fn is_name_behind(alloc: Global, message: &[u8], len: usize) -> bool {
+    message.len() == len && len >= 193 && read_octets(alloc, message, 193).is_ok()
 }
 
 #[test]
 fn limits_names(rt: HostRuntime) -> Result<(), Fail> {
-    // three labels of 63 octets, and then one of 61 or 62 that ends in a pointer to them
-    for (count, fits) in [(61u8, true), (62, false)] {
-        let mut message = Vec::new(rt.alloc());
-        for _ in 0..3 {
-            message.push(63)?;
-            for _ in 0..63 {
-                message.push(97)?;
-            }
-        }
-        message.push(0)?;
-        message.push(count)?;
-        for _ in 0..count {
-            message.push(98)?;
-        }
-        message.extend_from_slice(b"\xc0\x00")?;
-        if message.len() < 193 {
-            return Ok(());
-        }
-        let result = read_octets(rt.alloc(), message.as_slice(), 193);
-        assert_eq!(rt; result.is_ok(), fits, "with {count}");
-    }
+    let most = long_name(rt.alloc(), 61)?;
+    assert!(rt; is_name_behind(rt.alloc(), most.as_slice(), 257));
+    let past = long_name(rt.alloc(), 62)?;
+    assert!(rt; past.len() == 258 && !is_name_behind(rt.alloc(), past.as_slice(), 258));
     Ok(())
 }
 
@@ -434,44 +482,52 @@ fn compares_without_case(rt: HostRuntime) -> Result<(), Fail> {
     Ok(())
 }
 
-#[test]
-fn walks_labels(rt: HostRuntime) -> Result<(), Fail> {
-    let (octets, _) = parse_octets(rt.alloc(), b"www.example.com.")?;
-    assert_eq!(rt; count_labels(octets.as_slice()), 3);
-    let mut labels = LabelIter::new(octets.as_slice());
-    assert_eq!(rt; labels.next(), Some(b"www".as_slice()));
-    assert_eq!(rt; labels.next(), Some(b"example".as_slice()));
-    assert_eq!(rt; labels.next(), Some(b"com".as_slice()));
-    assert_eq!(rt; labels.next(), None);
-    assert_eq!(rt; labels.next(), None);
-    Ok(())
+// Whether these are the labels of a text, and none stands behind them.
+fn has_labels(alloc: Global, text: &[u8], labels: &[&[u8]]) -> Result<bool, NameError> {
+    let (octets, _) = parse_octets(alloc, text)?;
+    let mut all = count_labels(octets.as_slice()) == labels.len();
+    let mut walked = LabelIter::new(octets.as_slice());
+    for label in labels {
+        all = walked.next() == Some(*label) && all;
+    }
+    Ok(all && walked.next().is_none() && walked.next().is_none())
 }
 
 #[test]
-fn builds_names(rt: HostRuntime) -> Result<(), Fail> {
-    let (mut octets, _) = parse_octets(rt.alloc(), b"www")?;
+fn walks_labels(rt: HostRuntime) -> Result<(), NameError> {
+    let labels: [&[u8]; 3] = [b"www", b"example", b"com"];
+    assert!(rt; has_labels(rt.alloc(), b"www.example.com.", &labels)?);
+    assert!(rt; has_labels(rt.alloc(), b".", &[])?);
+    Ok(())
+}
+
+// Whether names are put together, and labels of no octet and of 64 are refused.
+fn is_built(alloc: Global) -> Result<bool, NameError> {
+    let (mut octets, _) = parse_octets(alloc, b"www")?;
     append_label(&mut octets, b"a.b")?;
-    let (other, _) = parse_octets(rt.alloc(), b"example.com.")?;
+    let (other, _) = parse_octets(alloc, b"example.com.")?;
     append_octets(&mut octets, other.as_slice())?;
-    assert_eq!(rt;
-        octets.as_slice(),
-        b"\x03www\x03a.b\x07example\x03com".as_slice()
-    );
-    assert_eq!(rt; append_label(&mut octets, b""), Err(NameError::Invalid));
-    assert_eq!(rt;
-        append_label(&mut octets, &[97; 64]),
-        Err(NameError::Invalid)
-    );
+    let empty = append_label(&mut octets, b"");
+    let long = append_label(&mut octets, &[97; 64]);
+    let refused = empty == Err(NameError::Invalid) && long == Err(NameError::Invalid);
+    Ok(refused && octets.as_slice() == b"\x03www\x03a.b\x07example\x03com".as_slice())
+}
+
+// Whether a name of 20 octets grows to 254, and not past them.
+fn is_filled(alloc: Global) -> Result<bool, NameError> {
+    let (mut octets, _) = parse_octets(alloc, b"www.abc.example.com")?;
     append_label(&mut octets, &[97; 63])?;
     append_label(&mut octets, &[97; 63])?;
-    // 148 octets, and 106 more fit
-    assert_eq!(rt; append_octets(&mut octets, &[]), Ok(()));
+    append_octets(&mut octets, &[])?;
     append_label(&mut octets, &[97; 63])?;
-    assert_eq!(rt;
-        append_label(&mut octets, &[97; 42]),
-        Err(NameError::Invalid)
-    );
+    let past = append_label(&mut octets, &[97; 42]);
     append_label(&mut octets, &[97; 41])?;
-    assert_eq!(rt; octets.len(), 254);
+    Ok(past == Err(NameError::Invalid) && octets.len() == 254)
+}
+
+#[test]
+fn builds_names(rt: HostRuntime) -> Result<(), NameError> {
+    assert!(rt; is_built(rt.alloc())?);
+    assert!(rt; is_filled(rt.alloc())?);
     Ok(())
 }

@@ -54,9 +54,19 @@ fn order_of_types(rt: HostRuntime) {
     assert_eq!(rt; RecordType::CAA.cmp(&RecordType::TSIG), Ordering::Greater);
 }
 
+// The type of a text.
+fn kind_of(text: &str) -> Result<RecordType, DecodeError> {
+    text.parse()
+}
+
+// Whether a text is printed for a type.
+fn is_printed(alloc: Global, text: &str, kind: RecordType) -> Result<bool, AllocError> {
+    Ok(format!(in alloc; "{kind}")?.as_str() == text)
+}
+
 // TYPE731 and TYPE62347 are from the examples of RFC 3597.
 #[test]
-fn texts_of_types(rt: HostRuntime) {
+fn texts_of_types(rt: HostRuntime) -> Result<(), AllocError> {
     for (text, kind) in [
         ("A", RecordType::A),
         ("AAAA", RecordType::AAAA),
@@ -66,16 +76,17 @@ fn texts_of_types(rt: HostRuntime) {
         ("TYPE731", RecordType::Unknown(731)),
         ("TYPE62347", RecordType::Unknown(62347)),
     ] {
-        assert_eq!(rt; text.parse::<RecordType>(), Ok(kind), "{kind}");
-        let printed = format!(in rt.alloc(); "{kind}").unwrap_or_else(|_| String::new(rt.alloc()));
-        assert!(rt; printed.as_str() == text);
+        assert!(rt;
+            kind_of(text) == Ok(kind) && is_printed(rt.alloc(), text, kind)?,
+            "{text}"
+        );
     }
     for (text, kind) in [
         ("TYPE1", RecordType::A),
         ("TYPE00001", RecordType::A),
         ("TYPE65305", RecordType::ANAME),
     ] {
-        assert_eq!(rt; text.parse::<RecordType>(), Ok(kind), "{kind}");
+        assert!(rt; kind_of(text) == Ok(kind), "{text}");
     }
     for text in [
         "",
@@ -90,12 +101,12 @@ fn texts_of_types(rt: HostRuntime) {
         "TYPE000001",
         "TYPE1a",
     ] {
-        assert_eq!(rt;
-            text.parse::<RecordType>(),
-            Err(DecodeError::UnknownRecordTypeStr),
-            "{text}"
+        assert!(rt;
+            kind_of(text) == Err(DecodeError::UnknownRecordTypeStr),
+            "{text:?}"
         );
     }
+    Ok(())
 }
 
 fn doubled(number: Result<u16, DecodeError>) -> ProtoResult<u32> {
@@ -146,26 +157,29 @@ fn restricted_values(rt: HostRuntime) {
     assert!(rt; octets.verify_unwrap(|o| o.is_empty()).is_ok());
 }
 
+// Whether octets are copied, moved and given back.
+fn are_kept(alloc: Global) -> Result<bool, AllocError> {
+    let abc = Octets::from_slice(alloc, b"abc")?;
+    let same = abc.as_slice() == b"abc".as_slice() && abc.len() == 3 && !abc.is_empty();
+    let copied = abc.clone()? == abc;
+    let moved = Octets::from_boxed(abc.into_boxed());
+    Ok(same && copied && moved.into_vec().as_slice() == b"abc".as_slice())
+}
+
+// Whether octets are less than others, by the first difference or as their beginning.
+fn are_less(alloc: Global, a: &[u8], b: &[u8]) -> Result<bool, AllocError> {
+    let left = Octets::from_vec(Vec::from_slice(alloc, a)?);
+    let right = Octets::from_slice(left.allocator(), b)?;
+    Ok(left != right && left < right && left.cmp(&right) == Ordering::Less)
+}
+
 #[test]
 fn octets(rt: HostRuntime) -> Result<(), AllocError> {
-    let alloc = rt.alloc();
-    let none = Octets::new(alloc);
-    assert!(rt; none.is_empty());
-    let abc = Octets::from_slice(alloc, b"abc")?;
-    assert_eq!(rt; abc.as_slice(), b"abc".as_slice());
-    assert_eq!(rt; abc.len(), 3);
-    assert!(rt; !abc.is_empty());
-    assert!(rt; abc.clone()? == abc);
-    let abd = Octets::from_vec(vec![in alloc; b'a', b'b', b'd']?);
-    assert!(rt; abc != abd);
-    assert!(rt; abc < abd);
-    assert_eq!(rt;
-        abd.cmp(&Octets::from_slice(abd.allocator(), b"abda")?),
-        Ordering::Less
-    );
-    assert_eq!(rt; none.cmp(&abc), Ordering::Less);
-    let boxed = Octets::from_boxed(abd.into_boxed());
-    assert_eq!(rt; boxed.into_vec().as_slice(), b"abd".as_slice());
+    assert!(rt; Octets::new(rt.alloc()).is_empty());
+    assert!(rt; are_kept(rt.alloc())?);
+    assert!(rt; are_less(rt.alloc(), b"abc", b"abd")?);
+    assert!(rt; are_less(rt.alloc(), b"abd", b"abda")?);
+    assert!(rt; are_less(rt.alloc(), b"", b"abc")?);
     Ok(())
 }
 
@@ -258,23 +272,30 @@ fn order_of_small_octets(rt: HostRuntime) -> Result<(), AllocError> {
     Ok(())
 }
 
+// Two strings, of which the second has no octet.
+fn two(alloc: Global) -> Result<Strings, AllocError> {
+    let mut strings = Strings::with_capacity(alloc, 2)?;
+    strings.push(Octets::from_slice(alloc, b"ab")?)?;
+    strings.push(Octets::new(strings.allocator()))?;
+    Ok(strings)
+}
+
+// Whether strings are copied, compared and given back, with one more and without.
+fn are_copied(alloc: Global) -> Result<bool, AllocError> {
+    let mut strings = two(alloc)?;
+    let copy = strings.clone()?;
+    let same = copy == strings;
+    strings.push(Octets::new(alloc))?;
+    let less = copy != strings && copy.cmp(&strings) == Ordering::Less;
+    Ok(same && less && Strings::from_vec(copy.into_vec()).as_slice().len() == 2)
+}
+
 #[test]
 fn strings(rt: HostRuntime) -> Result<(), AllocError> {
-    let alloc = rt.alloc();
-    let mut strings = Strings::new(alloc);
-    assert!(rt; strings.is_empty());
-    strings.push(Octets::from_slice(alloc, b"ab")?)?;
-    let one = strings.clone()?;
-    strings.push(Octets::new(strings.allocator()))?;
-    assert_eq!(rt; strings.len(), 2);
-    assert_eq!(rt; strings.get(0), Some(b"ab".as_slice()));
-    assert_eq!(rt; strings.get(1), Some(b"".as_slice()));
-    assert_eq!(rt; strings.get(2), None);
-    assert!(rt; one != strings);
-    assert_eq!(rt; one.cmp(&strings), Ordering::Less);
-    let mut other = Strings::with_capacity(alloc, 1)?;
-    other.push(Octets::from_slice(alloc, b"ab")?)?;
-    assert!(rt; other == one);
-    assert_eq!(rt; Strings::from_vec(other.into_vec()).as_slice().len(), 1);
+    assert!(rt; Strings::new(rt.alloc()).is_empty());
+    let strings = two(rt.alloc())?;
+    let both = strings.get(0) == Some(b"ab".as_slice()) && strings.get(1) == Some(b"".as_slice());
+    assert!(rt; both && strings.len() == 2 && strings.get(2).is_none());
+    assert!(rt; are_copied(rt.alloc())?);
     Ok(())
 }
