@@ -102,12 +102,18 @@ fn len_of(alloc: Global, text: &str) -> Option<usize> {
     Some(octets.len())
 }
 
-// How many octets a name has of three labels of 63, and of one of so many.
-fn len_with(alloc: Global, count: usize) -> Result<Option<usize>, Fail> {
+// A text of three labels of 63 octets, and one of so many.
+fn long_labels(alloc: Global, count: usize) -> Result<String, Fail> {
     let most = label(alloc, 63)?;
     let last = label(alloc, count)?;
-    let whole = format!(in alloc; "{most}.{most}.{most}.{last}.")?;
-    Ok(len_of(alloc, whole.as_str()))
+    Ok(format!(in alloc; "{most}.{most}.{most}.{last}.")?)
+}
+
+// Whether a text is a name of so many octets that prints as this text again.
+fn prints_again(alloc: Global, text: &str, len: usize) -> Result<bool, Fail> {
+    let (octets, mark) = parse_octets(alloc, text.as_bytes())?;
+    let again = NameText::new(octets.as_slice(), mark).to_string(alloc)?;
+    Ok(octets.len() == len && again.as_str() == text)
 }
 
 #[test]
@@ -121,8 +127,10 @@ fn limits_labels(rt: HostRuntime) -> Result<(), Fail> {
 
 #[test]
 fn limits_texts(rt: HostRuntime) -> Result<(), Fail> {
-    assert_eq!(rt; len_with(rt.alloc(), 61)?, Some(254));
-    assert_eq!(rt; len_with(rt.alloc(), 62)?, None);
+    let most = long_labels(rt.alloc(), 61)?;
+    assert!(rt; prints_again(rt.alloc(), most.as_str(), 254)?);
+    let long = long_labels(rt.alloc(), 62)?;
+    assert_eq!(rt; len_of(rt.alloc(), long.as_str()), None);
     Ok(())
 }
 
