@@ -3,13 +3,16 @@
 ghost use Rattle.std.specs.Prelude.{◌≡◌};
 
 use std::alloc::{AllocError, AllocFailed};
+use thiserror::Error;
 
 /// Why no name was read.
-#[derive(Clone, Copy, Debug, PartialEq, Eq)]
+#[derive(Clone, Copy, Debug, PartialEq, Eq, Error)]
 pub enum NameError {
     /// A request for memory was refused.
+    #[error("out of memory")]
     Memory,
     /// The octets or the text are no name.
+    #[error("invalid domain name")]
     Invalid,
 }
 
@@ -34,11 +37,13 @@ impl<T: Drop> From<AllocFailed<T>> for NameError {
 }
 
 /// Why no name was written.
-#[derive(Clone, Copy, Debug, PartialEq, Eq)]
+#[derive(Clone, Copy, Debug, PartialEq, Eq, Error)]
 pub enum WriteError {
     /// A request for memory was refused.
+    #[error("out of memory")]
     Memory,
-    /// There are not so many octets as the name needs.
+    /// There are fewer octets free than the name needs.
+    #[error("maximum buffer size exceeded")]
     Buffer,
 }
 

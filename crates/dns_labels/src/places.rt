@@ -7,6 +7,7 @@ ghost use Rattle.dns_labels.specs.Labels.{AreNameOctets};
 ghost use Rattle.dns_labels.specs.Emission.{StandsFor, IsNameCut};
 
 use crate::matching::{stands_at, stands_in_two, stands_whole};
+use byteorder::{ByteOrder, LittleEndian};
 use smallvec::SmallVec;
 use std::alloc::{AllocError, Global};
 
@@ -123,7 +124,7 @@ fn eights_hash(name: &[u8], first: usize, last: usize) -> u64
     for count in first..last {
         let at = name.len() - 8 * count - 8;
         let weight = WEIGHTS[count % 64];
-        hash = hash.wrapping_add(weight.wrapping_mul(word_of(&name[at..at + 8])));
+        hash = hash.wrapping_add(weight.wrapping_mul(LittleEndian::read_u64(&name[at..at + 8])));
     }
     hash
 }
@@ -148,9 +149,9 @@ fn word_at(name: &[u8], at: usize, count: usize) -> u64
 {
     let len = name.len();
     let word = if len - at >= 8 {
-        word_of(&name[at..at + 8])
+        LittleEndian::read_u64(&name[at..at + 8])
     } else if len >= 8 {
-        word_of(&name[len - 8..]) >> (8 * (8 - (len - at)) as u32)
+        LittleEndian::read_u64(&name[len - 8..]) >> (8 * (8 - (len - at)) as u32)
     } else {
         name[at..]
             .iter()
@@ -158,16 +159,6 @@ fn word_at(name: &[u8], at: usize, count: usize) -> u64
             .fold(0u64, |word, octet| (word << 8) | *octet as u64)
     };
     word & (u64::MAX >> (8 * (8 - count) as u32))
-}
-
-/// Eight octets as a number, the first one lowest.
-#[inline]
-fn word_of(octets: &[u8]) -> u64
-    requires { length octets.now ≡ 8 }
-{
-    u64::from_le_bytes([
-        octets[0], octets[1], octets[2], octets[3], octets[4], octets[5], octets[6], octets[7],
-    ])
 }
 
 #[inline]

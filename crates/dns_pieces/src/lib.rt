@@ -1,9 +1,10 @@
 //! The octets of record data in pieces: a few that are kept, a slice or a name's labels behind them, and steps from one
-//! place of a record to the next.
+//! place of a record to the next; and fields that are emitted in the mode of a record's type.
 #![tactic(auto)]
 
 pub mod common;
 pub mod count;
+pub mod emitting;
 pub mod head;
 pub mod order;
 pub mod run;
@@ -11,6 +12,7 @@ pub mod step;
 pub mod tail;
 
 pub use count::Count;
+pub use emitting::{EncodesFields, emit_in};
 pub use head::Head;
 pub use run::Run;
 pub use step::Step;

@@ -4,7 +4,6 @@
 pub mod a;
 pub mod aaaa;
 pub mod decoding;
-pub mod emitting;
 pub mod hinfo;
 pub mod mx;
 pub mod name;
@@ -22,7 +21,6 @@ mod words;
 pub use a::A;
 pub use aaaa::AAAA;
 pub use decoding::{DecodesFields, read_whole};
-pub use emitting::{EncodesFields, emit_in};
 pub use hinfo::HINFO;
 pub use mx::MX;
 pub use name::{ANAME, CNAME, NS, PTR};

@@ -10,13 +10,13 @@ ghost use Rattle.dns_rdata_base.specs.NAPTR.{naptr_numbers_shape, naptr_numbers,
 ghost use Rattle.dns_rdata_base.specs.NAPTR.{naptr_condition, naptr_refusal, is_flag};
 
 use crate::decoding::{DecodesFields, read_whole};
-use crate::emitting::{EncodesFields, emit_in};
 use crate::traits::RecordDataDecodable;
 use bstr::BStr;
 use dns_names_wire::{
     BinDecodable, BinDecoder, BinEncodable, BinEncoder, DecodeError, Name, Octets, ProtoError,
     RDataEncoding, Restrict,
 };
+use dns_pieces::{EncodesFields, emit_in};
 use std::alloc::AllocError;
 use std::boxed::BoxedSlice;
 use std::fmt;

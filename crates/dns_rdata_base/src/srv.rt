@@ -8,12 +8,12 @@ ghost use Rattle.dns_rdata_base.specs.Refusing.{IsLack};
 ghost use Rattle.dns_rdata_base.specs.SRV.{srv_numbers_shape, srv_numbers, srv_shape, srv_fields};
 
 use crate::decoding::{DecodesFields, read_whole};
-use crate::emitting::{EncodesFields, emit_in};
 use crate::traits::RecordDataDecodable;
 use dns_names_wire::{
     BinDecodable, BinDecoder, BinEncodable, BinEncoder, DecodeError, Name, ProtoError,
     RDataEncoding, Restrict,
 };
+use dns_pieces::{EncodesFields, emit_in};
 use std::alloc::AllocError;
 use std::fmt;
 

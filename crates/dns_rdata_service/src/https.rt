@@ -8,7 +8,8 @@ use crate::svcb::SVCB;
 use dns_names_wire::{
     BinDecoder, BinEncodable, BinEncoder, DecodeError, ProtoError, RDataEncoding, Restrict,
 };
-use dns_rdata_base::{EncodesFields, RecordDataDecodable};
+use dns_pieces::EncodesFields;
+use dns_rdata_base::RecordDataDecodable;
 use std::alloc::AllocError;
 use std::fmt;
 use std::hash::{Hash, Hasher};

@@ -24,7 +24,8 @@ use dns_names_wire::{
     BinDecodable, BinDecoder, BinEncodable, BinEncoder, DecodeError, Name, ProtoError,
     RDataEncoding, Restrict,
 };
-use dns_rdata_base::{EncodesFields, RecordDataDecodable, emit_in};
+use dns_pieces::{EncodesFields, emit_in};
+use dns_rdata_base::RecordDataDecodable;
 pub use ech_config_list::EchConfigList;
 pub use ip_hint::IpHint;
 pub use key::SvcParamKey;
