@@ -16,6 +16,15 @@ use std::marker::Model;
 /// A message, and the place of the octet that is read next (RFC 1035, 4.1).
 ///
 /// After a refusal the message is as it was, and the place is not before the one where the call began.
+///
+/// ```rust
+/// fn count_answers(alloc: Global, message: &[u8]) -> Result<u16, DecodeError> {
+///     let mut decoder = BinDecoder::new(alloc, message);
+///     decoder.read_slice(6)?;
+///     let answers = decoder.read_u16()?.unverified();
+///     Ok(answers)
+/// }
+/// ```
 #[derive(Drop)]
 pub struct BinDecoder<'a> {
     alloc: Global,

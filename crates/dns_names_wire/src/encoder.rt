@@ -22,6 +22,28 @@ const MAX_SIZE: usize = 65535;
 ///
 /// Each call appends whole, or it is refused for memory, or for buffer space exactly where the octets would pass the
 /// limit. After a refusal the octets that were there stand.
+///
+/// ```rust
+/// fn emit_record(
+///     encoder: &mut BinEncoder<'_>,
+///     owner: &Name,
+///     ttl: u32,
+///     rdata: &RData,
+/// ) -> ProtoResult<()> {
+///     owner.emit(encoder)?;
+///     rdata.record_type().emit(encoder)?;
+///     encoder.emit_u16(IN)?;
+///     encoder.emit_u32(ttl)?;
+///     let place = encoder.place()?;
+///     rdata.emit(encoder)?;
+///     let length = encoder.len_since_place(&place);
+///     if length > 65535 {
+///         return Err(ProtoError::Message("data past 65535 octets"));
+///     }
+///     encoder.replace(place, length as u16);
+///     Ok(())
+/// }
+/// ```
 #[derive(Drop)]
 pub struct BinEncoder<'a> {
     alloc: Global,

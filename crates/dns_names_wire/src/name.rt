@@ -30,6 +30,14 @@ use std::marker::Model;
 /// whether it is fully qualified.
 ///
 /// `==`, `Hash` and `Ord` ignore the case of ASCII letters, tell the mark, and take no memory.
+///
+/// ```rust
+/// fn is_in_zone(alloc: Global, zone: &str, host: &str) -> ProtoResult<bool> {
+///     let zone = Name::from_ascii(alloc, zone)?;
+///     let host = Name::from_ascii(alloc, host)?;
+///     Ok(zone.zone_of(&host))
+/// }
+/// ```
 #[derive(Drop)]
 pub struct Name {
     // each label's length and its octets, without the 0 at the end

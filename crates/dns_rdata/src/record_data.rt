@@ -23,6 +23,17 @@ use std::hash::{Hash, Hasher};
 use std::net::{IpAddr, Ipv4Addr, Ipv6Addr};
 
 /// The data of a record (RFC 1035, 3.2.1 and 3.3).
+///
+/// ```rust
+/// fn host_of(data: &RData) -> Option<&Name> {
+///     match data {
+///         RData::CNAME(CNAME(host)) | RData::NS(NS(host)) | RData::PTR(PTR(host)) => Some(host),
+///         RData::MX(mail) => Some(&mail.exchange),
+///         RData::SRV(service) => Some(&service.target),
+///         _ => None,
+///     }
+/// }
+/// ```
 #[derive(Debug, Drop)]
 pub enum RData {
     /// An IPv4 address.
@@ -139,6 +150,13 @@ impl RData {
     /// taken are as many as the length says, and last whether the record itself refused them. After a refusal the
     /// message is as it was, and the place is not before the one where the call began; after success it is behind the
     /// length.
+    ///
+    /// ```rust
+    /// fn read_address(alloc: Global, message: &[u8]) -> Result<RData, DecodeError> {
+    ///     let mut decoder = BinDecoder::new(alloc, message);
+    ///     RData::read(&mut decoder, RecordType::A, Restrict::new(4))
+    /// }
+    /// ```
     // Each type counts the octets of its own record and returns by itself: a value that goes through one place for all of
     // them is copied there, and so it is where it is handed on by another function.
     #[inline(never)]
@@ -304,6 +322,17 @@ impl BinEncodable for RData {
 
     /// Appends the octets of the value, its names in the mode of its type. After a refusal the octets that were there
     /// stand, and the encoder is in the mode that it was in.
+    ///
+    /// ```rust
+    /// fn emit_mail(alloc: Global, exchange: Name, octets: &mut Vec<u8>) -> ProtoResult<()>
+    ///     requires { octets.old.items ≡ [] }
+    /// {
+    ///     let mut encoder = BinEncoder::new(alloc, octets);
+    ///     RData::MX(MX::new(10, exchange)).emit(&mut encoder)?;
+    ///     encoder.into_bytes();
+    ///     Ok(())
+    /// }
+    /// ```
     fn emit(&self, encoder: &mut BinEncoder<'_>) -> Result<(), ProtoError>
         ensures emits { EmitsAs (mode_for encoder.old.mode self.now) (fields_of self.now).kinds (fields_of self.now).values result encoder.old encoder.new }
         ensures keeps { Keeps encoder.old encoder.new }

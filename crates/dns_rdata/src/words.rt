@@ -68,6 +68,12 @@ impl RData {
     /// refuse a further word, and TXT, TLSA, SMIMEA, CSYNC, SVCB and HTTPS, whose last field is all further words. Of
     /// ZERO no word is read. The other types, those of an unknown number too, are refused by `UnsupportedRecordType`. The
     /// caller owes an iterator that ends, as every iterator of a list or of a text's parts does.
+    ///
+    /// ```rust
+    /// fn parse_alias(alloc: Global, origin: &Name) -> Result<RData, ParseError> {
+    ///     RData::from_tokens(alloc, RecordType::CNAME, "www".split(' '), Some(origin))
+    /// }
+    /// ```
     #[tactic(auto, using(crate::proofs::DataWords::data_back))]
     pub fn from_tokens<S: AsStr + Drop, I: Iterator<Item = S>>(
         alloc: Global,
@@ -90,6 +96,12 @@ impl RData {
     /// The data of a record of this type from a text (RFC 1035, 5.1), whose words (`text_words`) are read as by
     /// `from_tokens`, without an origin: a list in parentheses gives its words, character data one, blanks and the ends
     /// of lines none. A text with another token, or with none that it could have, is refused.
+    ///
+    /// ```rust
+    /// fn parse_mail(alloc: Global) -> Result<RData, ParseError> {
+    ///     RData::try_from_str(alloc, RecordType::MX, "10 mail.example.com.")
+    /// }
+    /// ```
     pub fn try_from_str(
         alloc: Global,
         record_type: RecordType,

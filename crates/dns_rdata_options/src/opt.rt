@@ -36,6 +36,15 @@ pub use subnet::ClientSubnet;
 /// as its code and its length in two octets each, and so many octets; they fill the record's length.
 ///
 /// Two records are equal where every pair stands equally often in both, in whatever order.
+///
+/// ```rust
+/// fn server_of(options: &OPT) -> Option<&[u8]> {
+///     match options.get(EdnsCode::NSID) {
+///         Some(EdnsOption::NSID(payload)) => Some(payload.as_ref()),
+///         _ => None,
+///     }
+/// }
+/// ```
 #[derive(Debug, Drop)]
 pub struct OPT {
     /// The options, in order; a code may stand more than once.

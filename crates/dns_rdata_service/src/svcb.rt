@@ -39,6 +39,17 @@ pub use value::SvcParamValue;
 
 /// How a service is reached (RFC 9460, 2.2): a priority in two octets, the name of a target, and then parameters to the
 /// end of the record's length, each a key and a length of two octets and so many octets, with keys that strictly rise.
+///
+/// ```rust
+/// fn port_of(service: &SVCB) -> Option<u16> {
+///     for (_, value) in service.svc_params.as_slice() {
+///         if let SvcParamValue::Port(port) = value {
+///             return Some(*port);
+///         }
+///     }
+///     None
+/// }
+/// ```
 #[derive(Debug, Drop)]
 pub struct SVCB {
     /// 0 for an alias of the target, else how much others are to be tried first.

@@ -21,6 +21,12 @@ use std::fmt;
 
 /// A property of a domain's issuers of certificates (RFC 8659, 4.1): an octet of flags, a tag behind an octet of its
 /// length, and a value to the end of the record's length.
+///
+/// ```rust
+/// fn only_issuer(alloc: Global, issuer: Name) -> Result<CAA, AllocError> {
+///     CAA::new_issue(true, Some(issuer), Vec::new(alloc))
+/// }
+/// ```
 #[derive(Debug, Drop, Hash)]
 pub struct CAA {
     /// Whether an issuer that does not know the tag may not issue: bit 128 of the flags.

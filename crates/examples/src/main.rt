@@ -1,79 +1,26 @@
-//! Writes a message of a header and two records, prints its octets, and reads the records again.
+//! The library as its users call it: a message that is written and read again, and record data read, emitted, parsed
+//! and compared. The examples in the library's comments stand here, so that they are proved and run.
 #![tactic(auto)]
 
-ghost use Rattle.std.specs.Prelude.{◌≡◌, []};
+mod messages;
+mod parts;
+mod record_data;
 
-use anyhow::Result;
+use anyhow::{Context, Result};
 use dns_rdata::{
-    A, BinDecodable, BinDecoder, BinEncodable, BinEncoder, CNAME, Name, Octets, ProtoError,
-    ProtoResult, RData, RecordType, Strings, TXT,
+    BinDecoder, Name, OPT, Octets, RData, RecordDataDecodable, RecordType, Restrict, SVCB, Strings,
+    TXT,
 };
+use messages::{print_records, write_message};
+use parts::{is_in_zone, only_issuer, port_of, server_of};
+use record_data::{emit_mail, host_of, parse_alias, parse_mail, read_address, sort_records};
 use std::alloc::Global;
 
-// The class of the internet (RFC 1035, 3.2.4).
-const IN: u16 = 1;
-
-/// Appends a record: owner, type, class, time to live, and the data behind its length (RFC 1035, 4.1.3).
-fn emit_record(
-    encoder: &mut BinEncoder<'_>,
-    owner: &Name,
-    ttl: u32,
-    rdata: &RData,
-) -> ProtoResult<()> {
-    owner.emit(encoder)?;
-    rdata.record_type().emit(encoder)?;
-    encoder.emit_u16(IN)?;
-    encoder.emit_u32(ttl)?;
-    let place = encoder.place()?;
-    rdata.emit(encoder)?;
-    let length = encoder.len_since_place(&place);
-    if length > 65535 {
-        return Err(ProtoError::Message("data past 65535 octets"));
-    }
-    encoder.replace(place, length as u16);
-    Ok(())
-}
-
-fn emit_alias(encoder: &mut BinEncoder<'_>, owner: &Name, host: Name) -> ProtoResult<()> {
-    emit_record(encoder, owner, 300, &RData::CNAME(CNAME(host)))
-}
-
-fn emit_address(encoder: &mut BinEncoder<'_>, owner: &Name) -> ProtoResult<()> {
-    emit_record(encoder, owner, 300, &RData::A(A::new(192, 0, 2, 1)))
-}
-
-/// An alias and the address of its host, behind a header (RFC 1035, 4.1.1). The second owner and the end of the
-/// alias's data are pointers to names that stand already.
-fn write_message(alloc: Global, octets: &mut Vec<u8>) -> ProtoResult<()>
-    requires { octets.old.items ≡ [] }
-{
-    let owner = Name::from_ascii(alloc, "www.example.com.")?;
-    let host = Name::from_ascii(alloc, "host.example.com.")?;
-    let mut encoder = BinEncoder::new(alloc, octets);
-    for number in [1, 0x8400, 0, 2, 0, 0] {
-        encoder.emit_u16(number)?;
-    }
-    emit_alias(&mut encoder, &owner, host.clone()?)?;
-    emit_address(&mut encoder, &host)?;
-    encoder.into_bytes();
-    Ok(())
-}
-
-/// Prints the records behind the header, as many as it says.
-fn print_records(rt: &(impl AllocGlobal + Print), message: &[u8]) -> Result<()> {
-    let mut decoder = BinDecoder::new(rt.alloc(), message);
-    let _id_and_questions = decoder.read_slice(6)?;
-    let answers = decoder.read_u16()?.unverified();
-    let _other_records = decoder.read_slice(4)?;
-    for _ in 0..answers {
-        let owner = Name::read(&mut decoder)?;
-        let kind = RecordType::read(&mut decoder)?;
-        let _class_and_ttl = decoder.read_slice(6)?;
-        let length = decoder.read_u16()?;
-        let rdata = RData::read(&mut decoder, kind, length)?;
-        println!(rt; "{owner} {kind} {rdata}")?;
-    }
-    Ok(())
+fn print_message(rt: &(impl AllocGlobal + Print)) -> Result<()> {
+    let mut octets = Vec::new(rt.alloc());
+    write_message(rt.alloc(), &mut octets)?;
+    println!(rt; "{}", hex::encode(rt.alloc(), octets.as_slice())?)?;
+    print_records(rt, octets.as_slice())
 }
 
 fn print_text(rt: &(impl AllocGlobal + Print)) -> Result<()> {
@@ -88,10 +35,61 @@ fn print_text(rt: &(impl AllocGlobal + Print)) -> Result<()> {
     Ok(())
 }
 
-fn main(rt: HostRuntime) -> Result<()> {
+fn print_mail(rt: &(impl AllocGlobal + Print)) -> Result<()> {
     let mut octets = Vec::new(rt.alloc());
-    write_message(rt.alloc(), &mut octets)?;
+    let exchange = Name::from_ascii(rt.alloc(), "mail.example.com.")?;
+    emit_mail(rt.alloc(), exchange, &mut octets)?;
     println!(rt; "{}", hex::encode(rt.alloc(), octets.as_slice())?)?;
-    print_records(&rt, octets.as_slice())?;
-    print_text(&rt)
+    Ok(())
+}
+
+fn print_host(rt: &impl Print, data: &RData) -> Result<()> {
+    let host = host_of(data).context("a host")?;
+    println!(rt; "{host}")?;
+    Ok(())
+}
+
+// Records of three types, of which one stands twice.
+fn some_records(alloc: Global) -> Result<Vec<RData>> {
+    let origin = Name::from_ascii(alloc, "example.com.")?;
+    let mut records = Vec::new(alloc);
+    records.push(parse_mail(alloc)?)?;
+    records.push(parse_alias(alloc, &origin)?)?;
+    records.push(read_address(alloc, &[192, 0, 2, 1])?)?;
+    records.push(parse_mail(alloc)?)?;
+    Ok(records)
+}
+
+fn print_sorted(rt: &(impl AllocGlobal + Print)) -> Result<()> {
+    let mut records = some_records(rt.alloc())?;
+    sort_records(&mut records);
+    for record in &records {
+        println!(rt; "{} {record}", record.record_type())?;
+    }
+    print_host(rt, &records[0])
+}
+
+fn print_parts(rt: &(impl AllocGlobal + Print)) -> Result<()> {
+    let alloc = rt.alloc();
+    println!(rt;
+        "{}",
+        is_in_zone(alloc, "example.com.", "WWW.Example.COM.")?
+    )?;
+    let mut decoder = BinDecoder::new(alloc, b"\x00\x03\x00\x02ns");
+    let options = OPT::read_data(&mut decoder, Restrict::new(6))?;
+    println!(rt; "{:?}", server_of(&options))?;
+    let mut decoder = BinDecoder::new(alloc, b"\x00\x01\x00\x00\x03\x00\x02\x01\xbb");
+    let service = SVCB::read_data(&mut decoder, Restrict::new(9))?;
+    println!(rt; "{:?}", port_of(&service))?;
+    let issuer = Name::from_ascii(alloc, "ca.example.")?;
+    println!(rt; "{}", only_issuer(alloc, issuer)?)?;
+    Ok(())
+}
+
+fn main(rt: HostRuntime) -> Result<()> {
+    print_message(&rt)?;
+    print_text(&rt)?;
+    print_mail(&rt)?;
+    print_sorted(&rt)?;
+    print_parts(&rt)
 }

@@ -1,0 +1,52 @@
+//! Record data read from octets and from texts, emitted and compared.
+
+ghost use Rattle.std.specs.Prelude.{◌≡◌, []};
+
+use anyhow::Result;
+use dns_rdata::{
+    BinDecoder, BinEncodable, BinEncoder, CNAME, DecodeError, MX, NS, Name, PTR, ParseError,
+    ProtoResult, RData, RecordType, Restrict,
+};
+use std::alloc::Global;
+
+/// The address of a record of type A that begins a message.
+pub fn read_address(alloc: Global, message: &[u8]) -> Result<RData, DecodeError> {
+    let mut decoder = BinDecoder::new(alloc, message);
+    RData::read(&mut decoder, RecordType::A, Restrict::new(4))
+}
+
+/// Emits the data of an MX record.
+pub fn emit_mail(alloc: Global, exchange: Name, octets: &mut Vec<u8>) -> ProtoResult<()>
+    requires { octets.old.items ≡ [] }
+{
+    let mut encoder = BinEncoder::new(alloc, octets);
+    RData::MX(MX::new(10, exchange)).emit(&mut encoder)?;
+    encoder.into_bytes();
+    Ok(())
+}
+
+/// The data of an MX record from its text in a zone file.
+pub fn parse_mail(alloc: Global) -> Result<RData, ParseError> {
+    RData::try_from_str(alloc, RecordType::MX, "10 mail.example.com.")
+}
+
+/// The data of a CNAME record from words, with a name that is relative to the origin.
+pub fn parse_alias(alloc: Global, origin: &Name) -> Result<RData, ParseError> {
+    RData::from_tokens(alloc, RecordType::CNAME, "www".split(' '), Some(origin))
+}
+
+/// The host that record data names, if it names one.
+pub fn host_of(data: &RData) -> Option<&Name> {
+    match data {
+        RData::CNAME(CNAME(host)) | RData::NS(NS(host)) | RData::PTR(PTR(host)) => Some(host),
+        RData::MX(mail) => Some(&mail.exchange),
+        RData::SRV(service) => Some(&service.target),
+        _ => None,
+    }
+}
+
+/// Puts record data in the order of its canonical octets, and drops what stands twice.
+pub fn sort_records(records: &mut Vec<RData>) {
+    records.sort_unstable();
+    records.dedup();
+}
