@@ -6,6 +6,7 @@
 # The last line is 'N as wanted, M not'.
 set -u
 top=$(cd "$(dirname "$0")/.." && pwd)
+. "$top/tests/build.sh"
 dir=$(mktemp -d)
 trap 'rm -rf "$dir"' EXIT
 good=0 bad=0
@@ -13,10 +14,9 @@ want() { if [ "$2" = "$3" ]; then good=$((good + 1)); else bad=$((bad + 1)); ech
 
 rdata="$top/crates/rdata/out/rdata"
 bench="$top/crates/rdata_bench/out/rdata_bench"
-# Both were built by `rt ci`, where nothing has changed since.
-"$top/run" read A 0 0 - >/dev/null
-newer() { [ -n "$(find "$top/crates.txt" "$top"/crates/*/src "$top"/crates/*/specs "$top"/crates/*/proofs -newer "$bench" -print -quit 2>/dev/null)" ]; }
-if [ ! -x "$bench" ] || newer; then
+# Both were proved and built by `rt ci`, where nothing has changed since.
+if ! is_built "$rdata" rdata; then "$top/prove" 2>&1; fi
+if ! is_built "$bench" rdata_bench; then
   (cd "$top/crates/rdata_bench" && rt run </dev/null >/dev/null 2>"$dir/bench.log") || cat "$dir/bench.log"
 fi
 cc -shared -fPIC -O1 -o "$dir/requests.so" "$top/tests/requests.c" -ldl || { echo "0 as wanted, 1 not"; exit 1; }

@@ -1,0 +1,70 @@
+#!/usr/bin/env python3
+"""Compares the examples in README.md and in the comments of the crates with the crate `examples`, which is proved and run.
+
+Each block that is marked as Rust must stand there line by line, but for how far it is indented and for `pub`. The last
+line is 'N as wanted, M not'.
+"""
+import pathlib
+import re
+import sys
+
+TOP = pathlib.Path(__file__).resolve().parent.parent
+
+
+def plain(line):
+    return re.sub(r"^pub (\(crate\) )?", "", line.strip())
+
+
+def comment_lines(text):
+    """The text of the doc comments of a file; other lines end a comment and are None."""
+    for line in text.splitlines():
+        found = re.match(r"\s*//[/!] ?(.*)$", line)
+        yield found.group(1) if found else None
+
+
+def blocks(lines):
+    """Each block between a line with ```rust and one with ```."""
+    block = None
+    for line in lines:
+        if block is None:
+            if line is not None and line.strip() == "```rust":
+                block = []
+        elif line is None or line.strip() == "```":
+            yield block
+            block = None
+        else:
+            block.append(plain(line))
+
+
+def main():
+    sources = [
+        [plain(line) for line in file.read_text(encoding="utf-8").splitlines()]
+        for file in sorted((TOP / "crates/examples/src").glob("*.rt"))
+    ]
+
+    def stands(block):
+        size = len(block)
+        return size > 0 and any(
+            source[at : at + size] == block for source in sources for at in range(len(source) - size + 1)
+        )
+
+    files = [(TOP / "README.md", TOP.joinpath("README.md").read_text(encoding="utf-8").splitlines())]
+    for file in sorted(TOP.glob("crates/*/src/**/*.rt")):
+        files.append((file, comment_lines(file.read_text(encoding="utf-8"))))
+    good = bad = 0
+    for file, lines in files:
+        for block in blocks(lines):
+            if stands(block):
+                good += 1
+            else:
+                bad += 1
+                print(f"{file.relative_to(TOP)}: an example that does not stand in the crate examples: {block[0] if block else ''}")
+    if good == 0:
+        bad += 1
+        print("no example was found")
+    print(f"{good} as wanted, {bad} not")
+    return bad != 0
+
+
+if __name__ == "__main__":
+    sys.exit(main())

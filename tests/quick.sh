@@ -1,0 +1,61 @@
+#!/usr/bin/env bash
+# Runs each program that has a stored output and each crate's tests by quick builds (`rt try`), in which nothing is
+# proved. The last line is 'N as wanted, M not': a program's output is one, and so is each test.
+set -u
+top=$(cd "$(dirname "$0")/.." && pwd)
+. "$top/tests/build.sh"
+need_rt quick
+dir=$(mktemp -d)
+trap 'kill $(jobs -p) 2>/dev/null; rm -rf "$dir"' EXIT
+
+# Runs a program on its stored words, input and files, and compares output and status with those that are stored.
+program() { # CRATE
+  local folder="$top/crates/$1" words=() files=() file status=0
+  cd "$folder" || return
+  if [ -f args ]; then mapfile -t words <args; fi
+  if [ -f status ]; then read -r status <status; fi
+  for file in data/*; do
+    if [ -f "$file" ]; then files+=(--data "${file#data/}=$file"); fi
+  done
+  rt try "${files[@]}" -- "${words[@]}" <"$(if [ -f stdin ]; then echo stdin; else echo /dev/null; fi)" >"$dir/$1.out" 2>"$dir/$1.log"
+  if [ $? = "$status" ] && cmp -s "$dir/$1.out" stdout && grep -q '^run=ended' "$dir/$1.log"; then
+    echo "1 0 $1 prints what is wanted" >"$dir/$1.program"
+  else
+    echo "0 1 $1 does not print what is wanted" >"$dir/$1.program"
+    { diff stdout "$dir/$1.out"; tail -n 20 "$dir/$1.log"; } >"$dir/$1.why" 2>&1
+  fi
+}
+
+tests() { # CRATE
+  local counts
+  cd "$top/crates/$1" || return
+  rt try --test >"$dir/$1.tests.log" 2>&1
+  counts=$(sed -nE 's/^test result: .* ([0-9]+) passed; ([0-9]+) failed;.*/\1 \2/p' "$dir/$1.tests.log")
+  if [ -n "$counts" ]; then
+    echo "$counts $1: tests" >"$dir/$1.tests"
+  else
+    echo "0 1 $1: the tests did not run" >"$dir/$1.tests"
+  fi
+  case "$counts" in ''|*' '[1-9]*) cp "$dir/$1.tests.log" "$dir/$1.why" ;; esac
+}
+
+lanes=$(lanes_of 2)
+for crate in $(sed -n 's/^\([a-z_0-9]*\):.*/\1/p' "$top/crates.txt"); do
+  for part in program tests; do
+    if [ "$part" = program ] && [ ! -f "$top/crates/$crate/stdout" ]; then continue; fi
+    if [ "$part" = tests ] && ! grep -rqs '#\[test\]' "$top/crates/$crate/src"; then continue; fi
+    while [ "$(jobs -rp | wc -l)" -ge "$lanes" ]; do wait -n; done
+    "$part" "$crate" &
+  done
+done
+wait
+good=0 bad=0
+for file in "$dir"/*.program "$dir"/*.tests; do
+  read -r one other text <"$file"
+  good=$((good + one)) bad=$((bad + other))
+  echo "$text: $one as wanted, $other not"
+done
+for file in "$dir"/*.why; do
+  if [ -f "$file" ]; then cat "$file"; fi
+done
+echo "$good as wanted, $bad not"
