@@ -5,6 +5,7 @@ ghost use Rattle.std.specs.Bool.{OnTrue};
 ghost use Rattle.dns_labels.specs.Text.{label_text};
 
 use crate::text::is_plain;
+use arrayvec::ArrayVec;
 use std::alloc::{AllocError, Global};
 use std::marker::Model;
 
@@ -14,18 +15,15 @@ pub(crate) const MAX_OCTETS: usize = 254;
 /// At most as many octets as a name has.
 #[derive(Drop)]
 pub(crate) struct NameBuffer {
-    octets: [u8; 254],
-    len: usize,
+    octets: ArrayVec<u8, MAX_OCTETS>,
 }
 
 impl Model for NameBuffer {
-    ghost use Rattle.std.specs.Prelude.{ℕ, List, take, ◌≤◌};
+    ghost use Rattle.std.specs.Prelude.{ℕ, List};
 
     ghost Value = { List ℕ };
 
-    ghost view = { λ b. take b.len b.octets };
-
-    ghost invariant = { λ b. b.len ≤ 254 };
+    ghost view = { λ b. b.octets.items };
 }
 
 impl NameBuffer {
@@ -34,8 +32,7 @@ impl NameBuffer {
         ensures { result ≡ [] }
     {
         NameBuffer {
-            octets: [0; 254],
-            len: 0,
+            octets: ArrayVec::new(),
         }
     }
 
@@ -44,9 +41,7 @@ impl NameBuffer {
         ensures value { result ≡ length self.now }
         ensures room { length self.now ≤ 254 }
     {
-        // A look at a field gives what holds of all of them.
-        let _ = &self.octets;
-        self.len
+        self.octets.len()
     }
 
     /// Adds octets at the end.
@@ -54,10 +49,7 @@ impl NameBuffer {
         requires { length self.old + length part.now ≤ 254 }
         ensures { self.new ≡ self.old ++ part.now }
     {
-        let start = self.len;
-        let end = start + part.len();
-        self.octets[start..end].copy_from_slice(part);
-        self.len = end;
+        let _ = self.octets.try_extend_from_slice(part);
     }
 
     /// Adds octets at the end, and answers whether each stands for itself in a label's text; where one does not, what
@@ -67,15 +59,12 @@ impl NameBuffer {
         ensures added { OnTrue result (self.new ≡ self.old ++ part.now) }
         ensures plain { OnTrue result (label_text part.now ≡ part.now) }
     {
-        let start = self.len;
-        for i in 0..part.len() {
-            let octet = part[i];
-            if !is_plain(octet) {
+        for octet in part {
+            if !is_plain(*octet) {
                 return false;
             }
-            self.octets[start + i] = octet;
+            self.octets.push(*octet);
         }
-        self.len = start + part.len();
         true
     }
 
@@ -84,8 +73,7 @@ impl NameBuffer {
         requires { length self.old < 254 }
         ensures { self.new ≡ self.old ++ octet ∷ [] }
     {
-        self.octets[self.len] = octet;
-        self.len += 1;
+        self.octets.push(octet);
     }
 
     /// Writes the octet at a place.
@@ -93,7 +81,7 @@ impl NameBuffer {
         requires { place < length self.old }
         ensures { self.new ≡ slice_set self.old place octet }
     {
-        self.octets[place] = octet;
+        self.octets.as_mut_slice()[place] = octet;
     }
 
     /// The octets in a vector of just their size.
@@ -107,6 +95,6 @@ impl NameBuffer {
     pub(crate) fn as_slice(&self) -> &[u8]
         ensures { result.now ≡ self.now }
     {
-        &self.octets[..self.len]
+        self.octets.as_slice()
     }
 }

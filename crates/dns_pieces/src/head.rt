@@ -4,23 +4,21 @@ ghost use Rattle.std.specs.Prelude.{◌≡◌, ◌+◌, ◌<◌, ◌≤◌, [], 
 ghost use Rattle.dns_fields.specs.Fields.{Number, Text, field_octets};
 
 use crate::tail::Tail;
+use arrayvec::ArrayVec;
 use std::marker::Model;
 
 /// A few octets, which a cursor keeps: numbers, and the length of a string.
 #[derive(Drop)]
 pub struct Head {
-    octets: [u8; 34],
-    len: usize,
+    octets: ArrayVec<u8, 34>,
 }
 
 impl Model for Head {
-    ghost use Rattle.std.specs.Prelude.{ℕ, List, take, ◌≤◌};
+    ghost use Rattle.std.specs.Prelude.{ℕ, List};
 
     ghost Value = { List ℕ };
 
-    ghost view = { λ b. take b.len b.octets };
-
-    ghost invariant = { λ b. b.len ≤ 34 };
+    ghost view = { λ b. b.octets.items };
 }
 
 impl Head {
@@ -29,8 +27,7 @@ impl Head {
         ensures { result ≡ [] }
     {
         Head {
-            octets: [0; 34],
-            len: 0,
+            octets: ArrayVec::new(),
         }
     }
 
@@ -39,7 +36,7 @@ impl Head {
     pub fn clear(&mut self)
         ensures { self.new ≡ [] }
     {
-        self.len = 0;
+        self.octets.clear();
     }
 
     /// The octets, lent.
@@ -48,7 +45,7 @@ impl Head {
         ensures value { result.now ≡ self.now }
         ensures few { length self.now ≤ 34 }
     {
-        &self.octets[..self.len]
+        self.octets.as_slice()
     }
 
     /// How many octets there are.
@@ -57,8 +54,7 @@ impl Head {
         ensures value { result ≡ length self.now }
         ensures few { result ≤ 34 }
     {
-        let _ = &self.octets;
-        self.len
+        self.octets.len()
     }
 
     #[inline]
@@ -67,10 +63,7 @@ impl Head {
         ensures value { self.new ≡ self.old ++ part.now }
         ensures count { length self.new ≡ length self.old + length part.now }
     {
-        let start = self.len;
-        let end = start + part.len();
-        self.octets[start..end].copy_from_slice(part);
-        self.len = end;
+        let _ = self.octets.try_extend_from_slice(part);
     }
 
     #[inline]

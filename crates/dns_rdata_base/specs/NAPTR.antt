@@ -1,5 +1,6 @@
 -- NAPTR: a rule that rewrites a name (RFC 3403, 4.1).
-use Rattle.std.specs.Prelude.{◌≡◌, ◌⊎◌, ◌&&◌, ◌||◌, ℕ, Bool, IsTrue, nat_le, List, [], ◌∷◌, ◌++◌, codes, decimal}
+use Rattle.std.specs.Prelude.{◌≡◌, ◌⊎◌, ℕ, IsTrue, List, [], ◌∷◌, ◌++◌, codes, decimal}
+use Rattle.std.specs.Char.{is_ascii_alphanumeric}
 use Rattle.std.specs.List.{list_all}
 use Rattle.dns_types.specs.declared.error.DecodeError.{DecodeError}
 use Rattle.dns_types.specs.declared.error.DecodeError.TheVariants as decode
@@ -32,12 +33,9 @@ naptr_shape = Number 2 ∷ Number 2 ∷ Text ∷ Text ∷ Text ∷ Name ∷ []
 abbrev pub naptr_fields : NAPTR → Values naptr_shape
 naptr_fields x = (x.order, (x.preference, (x.flags, (x.services, (x.regexp, (x.replacement, tt))))))
 
--- a digit or a letter
-abbrev pub is_flag : ℕ → Bool
-is_flag c = (nat_le 48 c && nat_le c 57) || (nat_le 97 c && nat_le c 122) || (nat_le 65 c && nat_le c 90)
-
+-- digits and letters of ASCII
 abbrev pub AreFlags : List ℕ → Type 0
-AreFlags flags = IsTrue (list_all is_flag flags)
+AreFlags flags = IsTrue (list_all is_ascii_alphanumeric flags)
 
 -- the flags are digits and letters
 abbrev pub naptr_condition : Values naptr_shape → Type 0

@@ -2,12 +2,13 @@
 
 ghost use Rattle.std.specs.Prelude.{◌≡◌, IfErr, IfOk};
 ghost use Rattle.std.specs.Box.{boxed_slice_items};
+ghost use Rattle.std.specs.Char.{is_ascii_alphanumeric};
 ghost use Rattle.std.specs.List.{list_all};
 ghost use Rattle.dns_fields.specs.Fields.{Stands};
 ghost use Rattle.dns_fields.specs.declared.RDataEncoding.TheVariants as modes;
 ghost use Rattle.dns_names_wire.specs.Words.{ReadsIf, ReadsBy, ReadsWindow, Emits, EmitsAs, Extends, Keeps};
 ghost use Rattle.dns_rdata_base.specs.NAPTR.{naptr_numbers_shape, naptr_numbers, naptr_rest_shape, naptr_rest, naptr_shape, naptr_fields};
-ghost use Rattle.dns_rdata_base.specs.NAPTR.{naptr_condition, naptr_refusal, is_flag};
+ghost use Rattle.dns_rdata_base.specs.NAPTR.{naptr_condition, naptr_refusal};
 
 use crate::decoding::{DecodesFields, read_whole};
 use crate::traits::RecordDataDecodable;
@@ -41,11 +42,9 @@ pub struct NAPTR {
 
 /// Whether each octet is a digit or a letter of ASCII.
 pub fn verify_flags(flags: &[u8]) -> bool
-    ensures { result ≡ list_all is_flag flags.now }
+    ensures { result ≡ list_all is_ascii_alphanumeric flags.now }
 {
-    flags
-        .iter()
-        .all(|c| matches!(*c, b'0'..=b'9' | b'a'..=b'z' | b'A'..=b'Z'))
+    flags.iter().all(|c| c.is_ascii_alphanumeric())
 }
 
 impl NAPTR {

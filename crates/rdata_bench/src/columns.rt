@@ -1,5 +1,6 @@
 //! The calls that are measured.
 
+use crate::held::Held;
 use anyhow::Result;
 use dns_rdata::{
     BinDecoder, BinEncodable, BinEncoder, DecodeError, Name, RData, RecordType, Restrict,
@@ -30,9 +31,9 @@ pub struct Row {
     message: Vec<u8>,
     place: usize,
     length: u16,
-    values: Vec<RData>,
-    others: Vec<RData>,
-    nexts: Vec<RData>,
+    values: Vec<Held>,
+    others: Vec<Held>,
+    nexts: Vec<Held>,
     octets: Vec<u8>,
     text: String,
     // whether what is made is compared
@@ -73,14 +74,14 @@ impl Row {
     }
 
     // Another value, that of the message with the last octet changed that can be.
-    fn next_value(&self, alloc: Global) -> Result<RData> {
+    fn next_value(&self, alloc: Global) -> Result<Held> {
         let value = self.read(alloc)?;
         for behind in 1..self.message.len() {
             let mut message = Vec::from_slice(alloc, self.message.as_slice())?;
             let at = message.len() - behind;
             message[at] ^= 1;
             if let Ok(next) = self.read_from(alloc, message.as_slice()) {
-                if next != value {
+                if next.0 != value.0 {
                     return Ok(next);
                 }
             }
@@ -98,14 +99,15 @@ impl Row {
         self.message.len()
     }
 
-    fn read(&self, alloc: Global) -> std::result::Result<RData, DecodeError> {
+    fn read(&self, alloc: Global) -> std::result::Result<Held, DecodeError> {
         self.read_from(alloc, self.message.as_slice())
     }
 
-    fn read_from(&self, alloc: Global, message: &[u8]) -> std::result::Result<RData, DecodeError> {
+    fn read_from(&self, alloc: Global, message: &[u8]) -> std::result::Result<Held, DecodeError> {
         let mut decoder = BinDecoder::new(alloc, message);
         let _before = decoder.read_slice(self.place)?;
-        RData::read(&mut decoder, self.record_type, Restrict::new(self.length))
+        let value = RData::read(&mut decoder, self.record_type, Restrict::new(self.length))?;
+        Ok(Held(value))
     }
 }
 
@@ -127,7 +129,7 @@ fn reads(alloc: Global, row: &Row, passes: u64) -> Result<()> {
 fn reads_compared(alloc: Global, row: &Row, passes: u64) -> Result<()> {
     for _ in 0..passes {
         for other in &row.others {
-            anyhow::ensure!(row.read(alloc)? == *other, "read otherwise");
+            anyhow::ensure!(row.read(alloc)?.0 == other.0, "read otherwise");
         }
     }
     Ok(())
@@ -145,7 +147,7 @@ fn emits(alloc: Global, row: &mut Row, passes: u64) -> Result<()> {
         let mut encoder = BinEncoder::new(alloc, octets);
         for _ in 0..left {
             for value in values.iter() {
-                value.emit(&mut encoder)?;
+                value.0.emit(&mut encoder)?;
             }
             left = left.saturating_sub(1);
             if encoder.len() > KEPT - 5000 {
@@ -163,7 +165,7 @@ fn emits_fresh(alloc: Global, row: &mut Row, passes: u64) -> Result<()> {
         for value in values.iter() {
             octets.clear();
             let mut encoder = BinEncoder::new(alloc, octets);
-            value.emit(&mut encoder)?;
+            value.0.emit(&mut encoder)?;
         }
     }
     Ok(())
@@ -175,7 +177,7 @@ fn prints(row: &mut Row, passes: u64) -> Result<()> {
     for _ in 0..passes {
         for value in values.iter() {
             text.clear();
-            match value {
+            match &value.0 {
                 // which has no text of its own
                 RData::OPT(options) => write!(text, "{options:?}")?,
                 value => write!(text, "{value}")?,
@@ -189,7 +191,7 @@ fn prints(row: &mut Row, passes: u64) -> Result<()> {
 fn clones(row: &Row, passes: u64) -> Result<()> {
     for _ in 0..passes {
         for value in &row.values {
-            let Ok(_) = value.clone() else {
+            let Ok(_) = value.0.clone() else {
                 anyhow::bail!("not cloned");
             };
         }
@@ -197,10 +199,16 @@ fn clones(row: &Row, passes: u64) -> Result<()> {
     Ok(())
 }
 
+// Whether a clone equals its value.
+fn is_cloned(value: &RData) -> Result<bool> {
+    let other = Held(value.clone()?);
+    Ok(other.0 == *value)
+}
+
 fn clones_compared(row: &Row, passes: u64) -> Result<()> {
     for _ in 0..passes {
         for value in &row.values {
-            anyhow::ensure!(value.clone()? == *value, "cloned otherwise");
+            anyhow::ensure!(is_cloned(&value.0)?, "cloned otherwise");
         }
     }
     Ok(())
@@ -210,18 +218,18 @@ fn clones_compared(row: &Row, passes: u64) -> Result<()> {
 fn equals(row: &Row, passes: u64) -> Result<()> {
     for _ in 0..passes {
         for (value, other) in row.values.iter().zip(row.others.iter()) {
-            anyhow::ensure!(value == other, "values that are not equal");
+            anyhow::ensure!(value.0 == other.0, "values that are not equal");
         }
     }
     Ok(())
 }
 
 // Compares each value with one of the others, by turns.
-fn compares(values: &[RData], others: &[RData], passes: u64) -> u64 {
+fn compares(values: &[Held], others: &[Held], passes: u64) -> u64 {
     let mut behind = 0u64;
     for _ in 0..passes {
         for (value, other) in values.iter().zip(others.iter()) {
-            if value.cmp(other).is_gt() {
+            if value.0.cmp(&other.0).is_gt() {
                 behind = behind.saturating_add(1);
             }
         }
@@ -229,7 +237,7 @@ fn compares(values: &[RData], others: &[RData], passes: u64) -> u64 {
     behind
 }
 
-fn orders(values: &[RData], others: &[RData], passes: u64) -> Result<()> {
+fn orders(values: &[Held], others: &[Held], passes: u64) -> Result<()> {
     let behind = compares(values, others, passes);
     anyhow::ensure!(
         behind == 0 || behind == passes.saturating_mul(COPIES),

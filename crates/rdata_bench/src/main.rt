@@ -14,6 +14,7 @@
 
 mod columns;
 mod growth;
+mod held;
 mod options;
 mod parsing;
 mod sorting;
