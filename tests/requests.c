@@ -1,5 +1,6 @@
-/* Preloaded before a program: counts its requests for memory, and refuses the Nth and every later one.
-   REQUESTS_REFUSE=N refuses from the Nth on; REQUESTS_COUNT=FILE gets the number of requests at the end. */
+/* Preloaded before a program: counts its requests for memory, and refuses some.
+   REQUESTS_REFUSE=N refuses the Nth and every later one; REQUESTS_REFUSE_ALONE=N the Nth alone; REQUESTS_COUNT=FILE gets
+   the number of requests at the end. */
 #define _GNU_SOURCE
 #include <dlfcn.h>
 #include <errno.h>
@@ -8,7 +9,7 @@
 #include <string.h>
 #include <unistd.h>
 
-static unsigned long requests, refuse_from;
+static unsigned long requests, refuse_from, refuse_alone;
 static void *(*real_malloc)(size_t);
 static void *(*real_realloc)(void *, size_t);
 static void *(*real_calloc)(size_t, size_t);
@@ -23,12 +24,14 @@ __attribute__((constructor)) static void begin(void) {
     real_aligned_alloc = dlsym(RTLD_NEXT, "aligned_alloc");
     const char *text = getenv("REQUESTS_REFUSE");
     refuse_from = text ? strtoul(text, NULL, 10) : 0;
+    text = getenv("REQUESTS_REFUSE_ALONE");
+    refuse_alone = text ? strtoul(text, NULL, 10) : 0;
     requests = 0;
 }
 
 static int refused(void) {
     requests++;
-    return refuse_from && requests >= refuse_from;
+    return (refuse_from && requests >= refuse_from) || requests == refuse_alone;
 }
 
 void *malloc(size_t n) {

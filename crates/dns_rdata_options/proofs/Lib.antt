@@ -8,6 +8,7 @@ pub mod OctetWrites
 pub mod OptionCounts
 pub mod OptionLists
 pub mod OptionLoops
+pub mod OptionOrders
 pub mod OptionValues
 pub mod Pairs
 pub mod Parting

@@ -8,6 +8,7 @@ pub mod CaaValues
 pub mod CsyncReads
 pub mod CsyncValues
 pub mod Flags
+pub mod Marks
 pub mod NextWindow
 pub mod Numbers
 pub mod SetWrites

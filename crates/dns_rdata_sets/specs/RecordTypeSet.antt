@@ -1,5 +1,5 @@
 -- Sets of record types: what stands for one, and what their readers and emitters do (RFC 4034, 4.1.2).
-use Rattle.std.specs.Prelude.{◌≡◌, ℕ, ◌+◌, ◌-◌, ◌/◌, ◌%◌, ◌≤◌, ◌==◌, ◌&&◌, ◌||◌, ◌<◌, ◌⊎◌, Bool, true, false, List, [], ◌∷◌, ◌++◌, length, slice_index}
+use Rattle.std.specs.Prelude.{◌≡◌, ℕ, ◌+◌, ◌-◌, ◌/◌, ◌%◌, ◌≤◌, ◌==◌, ◌&&◌, ◌||◌, ◌<◌, ◌⊎◌, Bool, true, false, List, [], ◌∷◌, ◌++◌, length, slice_index, slice_index_or, slice_set}
 use Rattle.std.specs.List.{flat_map, AllByRecursion, list_any}
 use Rattle.std.specs.Int.{bit_at}
 use Rattle.dns_fields.specs.Bitmaps.{Block, block, IsBlock, has_type, contains, IsTypeSet, BitmapAt, window}
@@ -84,8 +84,45 @@ pub record AreBlocks (octets numbers : List ℕ) : Type 0 where
 pub record NoBlocks (octets : List ℕ) : Type 0 where
   pub none : (blocks : List Block) → AllByRecursion IsBlock blocks → octets ≡ flat_map block blocks → ⊥
 
+-- the octets in front are long enough for a block whose window has n octets
+pub record FitsBlock (octets : List ℕ) (n : ℕ) : Type 0 where
+  pub head : 2 ≤ length octets
+  pub count : slice_index octets 1 ≡ n
+  pub some : 1 ≤ n
+  pub most : n ≤ 32
+  pub whole : n ≤ length octets - 2
+
 abbrev pub block_refusal : DecodeError → Type 0 → Type 0
 block_refusal e wrong = (e ≡ decode.Memory) ⊎ ((e ≡ decode.BitmapInvalid) × wrong)
+
+-- ---- marks: a bit for each number, the highest bit of an octet first, and whether a window was met
+
+abbrev pub is_marked : List ℕ → ℕ → Bool
+is_marked marks t = bit_at (slice_index marks (t / 8)) (7 - t % 8) == 1
+
+-- marked are the numbers that were, and those that the test passes
+pub record Marks (test : ℕ → Bool) (old new : List ℕ) : Type 0 where
+  pub types : (t : ℕ) → is_marked new t ≡ (is_marked old t || test t)
+
+-- a number that is marked is of a window that was met
+pub record AreMet (marks : List ℕ) (met : List Bool) : Type 0 where
+  pub windows : (t : ℕ) → is_marked marks t ≡ true → slice_index_or met (t / 256) false ≡ true
+
+-- a block stands in front of the rest, its types were marked and its window was met
+pub record MarkedBlock (octets rest : List ℕ) (old new : List ℕ) (had has : List Bool) : Type 0 where
+  pub taken : Block
+  pub is : IsBlock taken
+  pub front : octets ≡ block taken ++ rest
+  pub marks : Marks (λ t. has_type t taken) old new
+  pub met : has ≡ slice_set had taken.0 true
+
+-- the octets are blocks, whose types are marked, and whose windows were met
+pub record MarkedBlocks (octets marks : List ℕ) (met : List Bool) : Type 0 where
+  pub blocks : List Block
+  pub fit : AllByRecursion IsBlock blocks
+  pub spelled : octets ≡ flat_map block blocks
+  pub types : (t : ℕ) → is_marked marks t ≡ list_any (has_type t) blocks
+  pub windows : AreMet marks met
 
 -- ---- emitting
 

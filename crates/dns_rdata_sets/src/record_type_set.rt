@@ -13,6 +13,7 @@ ghost use Rattle.dns_fields.specs.Fields.{Bitmap};
 ghost use Rattle.dns_names_wire.specs.Words.{ReadsTo, EmitsField};
 ghost use Rattle.dns_rdata_sets.specs.RecordTypeSet.{IsSetOf, set_shape, set_fields, bitmap_refusal};
 
+mod marking;
 mod reading;
 mod windows;
 mod writing;
@@ -79,7 +80,8 @@ impl RecordTypeSet {
 
     /// Reads the bitmap that has exactly this length. The blocks may stand in any order, two may be of one window, and
     /// bits that are all 0 are read too. Where the octets are missing, it is refused by `InsufficientBytes` and takes
-    /// none; where they are no bitmap, by `BitmapInvalid`, and they are taken.
+    /// none; where they are no bitmap, by `BitmapInvalid`, and they are taken. Linear in the octets; where the windows do
+    /// not rise, memory is asked for once, for exactly the types of the set.
     pub fn read_data(
         decoder: &mut BinDecoder<'_>,
         length: Restrict<u16>,

@@ -2,14 +2,26 @@
 #![tactic(auto)]
 
 use rdata_command::{run, say};
+use std::alloc::{AllocError, Global};
+use std::env::Args;
 use std::io::ErrorKind;
 use std::process::ExitCode;
 use std::{env, io};
 
+// The words behind the program's name. Each refused request for memory is told: `collect` would ask for less where its
+// first one is refused.
+fn command_words(alloc: Global, args: Args<Global>) -> Result<Vec<String>, AllocError> {
+    let mut words = Vec::new(alloc);
+    for word in args.skip(1) {
+        words.push(word)?;
+    }
+    Ok(words)
+}
+
 fn main(rt: HostRuntime) -> ExitCode {
     let mut out = io::writer(&rt);
     let words = match env::args(&rt) {
-        Ok(args) => args.skip(1).collect::<Vec<String>>(rt.alloc()),
+        Ok(args) => command_words(rt.alloc(), args),
         Err(e) if e.kind() == ErrorKind::OutOfMemory => {
             return ExitCode::from(say(&mut out, "memory\n", 3));
         }

@@ -1,20 +1,26 @@
 //! The numbers of a bitmap.
 
 ghost use Rattle.std.specs.Prelude.{◌≡◌, ◌*◌, ◌<◌, length, IfOk, IfErr, OnOk};
+ghost use Rattle.dns_types.specs.declared.error.DecodeError.TheVariants as decode;
 ghost use Rattle.dns_fields.specs.Bitmaps.{has_type};
-ghost use Rattle.dns_rdata_sets.specs.RecordTypeSet.{Adds, octet_has, TookBlock, NoBlock, AreBlocks, NoBlocks, block_refusal};
+ghost use Rattle.dns_rdata_sets.specs.RecordTypeSet.{Adds, octet_has, FitsBlock, TookBlock, NoBlock, AreBlocks, NoBlocks, block_refusal};
 
+use crate::record_type_set::marking::read_marked;
 use dns_names_wire::DecodeError;
 use std::alloc::{AllocError, Global};
 
 // The most octets of a block (RFC 4034, 4.1.2).
-const MOST: usize = 32;
+pub(super) const MOST: usize = 32;
 
-// The numbers of the types of blocks, in the order of the bits.
+// The numbers of the types of blocks: in the order of the bits where the windows rise, as in every bitmap that is written
+// as the RFC asks; else by marking them, so that a window which stands again takes no memory again.
 pub(super) fn read_blocks(alloc: Global, octets: &[u8]) -> Result<Vec<u16>, DecodeError>
     ensures read { IfOk result (λ numbers. AreBlocks octets.now numbers.items) }
     ensures refused { IfErr result (λ e. block_refusal e (NoBlocks octets.now)) }
 {
+    if !windows_rise(octets) {
+        return read_marked(alloc, octets);
+    }
     let mut numbers = Vec::with_capacity(alloc, octets.len())?;
     let mut rest = octets;
     while rest.len() > 0 {
@@ -23,10 +29,31 @@ pub(super) fn read_blocks(alloc: Global, octets: &[u8]) -> Result<Vec<u16>, Deco
     Ok(numbers)
 }
 
-// Adds the types of the block in front, and answers what is behind it.
-fn read_block<'a>(octets: &'a [u8], numbers: &mut Vec<u16>) -> Result<&'a [u8], DecodeError>
-    ensures read { IfOk result (λ rest. TookBlock octets.now rest.now numbers.old.items numbers.new.items) }
-    ensures refused { IfErr result (λ e. block_refusal e (NoBlock octets.now)) }
+// Whether the window of each block is greater than the one before.
+#[inline]
+fn windows_rise(octets: &[u8]) -> bool {
+    let mut rest = octets;
+    let mut least = 0;
+    while rest.len() >= 2 {
+        let window = rest[0] as usize;
+        let len = rest[1] as usize;
+        if window < least {
+            return false;
+        }
+        if rest.len() - 2 < len {
+            return true;
+        }
+        least = window + 1;
+        rest = &rest[2 + len..];
+    }
+    true
+}
+
+// How many octets the window of the block in front has.
+#[inline]
+pub(super) fn block_len(octets: &[u8]) -> Result<usize, DecodeError>
+    ensures fits { IfOk result (λ n. FitsBlock octets.now n) }
+    ensures refused { IfErr result (λ e. (e ≡ decode.BitmapInvalid) × NoBlock octets.now) }
 {
     if octets.len() < 2 {
         return Err(DecodeError::BitmapInvalid);
@@ -35,12 +62,25 @@ fn read_block<'a>(octets: &'a [u8], numbers: &mut Vec<u16>) -> Result<&'a [u8], 
     if len < 1 || len > MOST || octets.len() - 2 < len {
         return Err(DecodeError::BitmapInvalid);
     }
+    Ok(len)
+}
+
+// Adds the types of the block in front, and answers what is behind it.
+fn read_block<'a>(octets: &'a [u8], numbers: &mut Vec<u16>) -> Result<&'a [u8], DecodeError>
+    ensures read { IfOk result (λ rest. TookBlock octets.now rest.now numbers.old.items numbers.new.items) }
+    ensures refused { IfErr result (λ e. block_refusal e (NoBlock octets.now)) }
+{
+    let len = block_len(octets)?;
     add_octets(numbers, octets[0], &octets[2..2 + len])?;
     Ok(&octets[2 + len..])
 }
 
 // Adds the types of a window's octets.
-fn add_octets(numbers: &mut Vec<u16>, window: u8, octets: &[u8]) -> Result<(), AllocError>
+pub(super) fn add_octets(
+    numbers: &mut Vec<u16>,
+    window: u8,
+    octets: &[u8],
+) -> Result<(), AllocError>
     requires { length octets.now < 33 }
     ensures { OnOk result (Adds (λ t. has_type t (window, octets.now)) numbers.old.items numbers.new.items) }
 {
