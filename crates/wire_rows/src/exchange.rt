@@ -4,8 +4,10 @@ ghost use Rattle.std.specs.Prelude.{◌∷◌, []};
 ghost use Rattle.dns_fields.specs.Fields.{Number, Name as NameKind};
 ghost use Rattle.dns_names_wire.specs.Words.{ReadsIf, Emits, always};
 
+use anyhow::Context;
 use dns_names_wire::binary::{BinDecodable, BinEncodable};
 use dns_names_wire::{BinDecoder, BinEncoder, DecodeError, Name, ProtoError};
+use std::alloc::{AllocError, Global};
 
 /// The host that takes mail (RFC 1035, 3.3.9).
 #[derive(Drop)]
@@ -34,5 +36,19 @@ impl Exchange {
         encoder.emit_u16(self.preference)?;
         self.host.emit(encoder)?;
         Ok(())
+    }
+
+    /// The number and the name, with a blank between.
+    pub fn to_text(&self, alloc: Global) -> Result<String, AllocError> {
+        let (preference, host) = (self.preference, &self.host);
+        format!(in alloc; "{preference} {host}")
+    }
+
+    /// The record of such a text.
+    pub fn of_text(alloc: Global, text: &str) -> anyhow::Result<Exchange> {
+        let (preference, host) = text.split_once(' ').context("a host")?;
+        let preference = preference.parse::<u16>()?;
+        let host = Name::from_ascii(alloc, host)?;
+        Ok(Exchange { preference, host })
     }
 }

@@ -1,39 +1,12 @@
 //! Names as values.
 
-use crate::notation::octets;
-use anyhow::{Context, Result, bail};
+use crate::notation::{octets, parts};
+use anyhow::{Result, bail};
 use dns_names_wire::{Name, ProtoError, ProtoResult};
-use std::alloc::Global;
+use std::alloc::{AllocError, Global};
 use std::hash::{DefaultHasher, Hash, Hasher};
 
-// Why a name is refused.
-fn refusal(error: ProtoError) -> &'static str {
-    match error {
-        ProtoError::Message(_) => "refused",
-        ProtoError::Decode(_) => "damaged",
-        ProtoError::MaxBufferSizeExceeded => "full",
-        ProtoError::Memory => "memory",
-    }
-}
-
-/// Whether the name of a text ends in a dot, its labels and octets on the wire, its texts, and whether the text that is
-/// printed is read as the same name again; or that it is refused, and once more with no origin.
-pub fn text(alloc: Global, text: &str) -> Result<String> {
-    match Name::from_ascii(alloc, text) {
-        Ok(name) => {
-            let printed = name.to_ascii()?;
-            let again = Name::from_str(alloc, printed.as_str())?.eq_case(&name);
-            let (mark, labels, len) = (name.is_fqdn(), name.num_labels(), name.len());
-            Ok(format!(in alloc; "{mark} {labels} {len} [{printed}] [{name}] {name:?} {again}")?)
-        }
-        Err(error) => {
-            let other = Name::parse(alloc, text, None).err().map_or("read", refusal);
-            Ok(format!(in alloc; "{} {other}", refusal(error))?)
-        }
-    }
-}
-
-// The labels of a text, with a comma between each two.
+// The name of labels with a comma between each two.
 fn joined(alloc: Global, text: &str) -> Result<ProtoResult<Name>> {
     let mut labels = Vec::new(alloc);
     for label in text.split(',') {
@@ -42,42 +15,74 @@ fn joined(alloc: Global, text: &str) -> Result<ProtoResult<Name>> {
     Ok(Name::from_labels(alloc, labels.as_slice()))
 }
 
-// The name that a step makes of another.
-fn step(alloc: Global, name: &Name, kind: &str, text: &str) -> Result<ProtoResult<Name>> {
+// A name that a step makes of another one.
+fn changed(name: &Name, kind: &str) -> Result<Name> {
     Ok(match kind {
-        "new" => Ok(Name::new(alloc)),
-        "root" => Ok(Name::root(alloc)),
-        "text" => Name::from_ascii(alloc, text),
-        "labels" => return joined(alloc, text),
-        "parse" => Name::parse(alloc, text, None),
-        "within" => Name::parse(alloc, text, Some(name)),
-        "label" => name.clone()?.append_label(octets(alloc, text)?.as_slice()),
-        "name" => name.clone()?.append_name(&Name::from_ascii(alloc, text)?),
-        "domain" => name.clone()?.append_domain(&Name::from_ascii(alloc, text)?),
-        "lower" => Ok(name.to_lowercase()?),
-        "base" => Ok(name.base_name()?),
+        "new" => Name::new(name.allocator()),
+        "root" => Name::root(name.allocator()),
+        "lower" => name.to_lowercase()?,
+        "base" => name.base_name()?,
+        "again" => Name::from_str(name.allocator(), name.to_ascii()?.as_str())?,
         "relative" => {
             let mut relative = name.clone()?;
             relative.set_fqdn(false);
-            Ok(relative)
+            relative
         }
         _ => bail!("no such step"),
     })
 }
 
-/// Makes a name by steps, each `KIND:TEXT`. After each of them the name, its octets on the wire, and whether it is the
-/// root; or that the step is refused, and then the name stays.
+// A name that a step makes of another one and a further name's text.
+fn extended(name: &Name, kind: &str, text: &str) -> Result<ProtoResult<Name>> {
+    let copy = name.clone()?;
+    match kind {
+        "label" => Ok(copy.append_label(octets(name.allocator(), text)?.as_slice())),
+        "name" => Ok(copy.append_name(&Name::from_ascii(name.allocator(), text)?)),
+        "domain" => Ok(copy.append_domain(&Name::from_ascii(name.allocator(), text)?)),
+        _ => Ok(Ok(changed(name, kind)?)),
+    }
+}
+
+// The name that a step makes of another one.
+fn made(name: &Name, kind: &str, text: &str) -> Result<ProtoResult<Name>> {
+    let alloc = name.allocator();
+    match kind {
+        "text" => Ok(Name::from_ascii(alloc, text)),
+        "labels" => joined(alloc, text),
+        "alone" => Ok(Name::parse(alloc, text, None)),
+        "within" => Ok(Name::parse(alloc, text, Some(name))),
+        _ => extended(name, kind, text),
+    }
+}
+
+fn show(name: &Name, shown: &mut String) -> Result<(), AllocError> {
+    let (labels, len, root) = (name.num_labels(), name.len(), name.is_root());
+    write!(shown, "{name:?} {labels} {len} {root};")
+}
+
+// Why a step is refused.
+fn refusal(error: ProtoError) -> &'static str {
+    match error {
+        ProtoError::Message(_) => "refused;",
+        ProtoError::Decode(_) => "damaged;",
+        ProtoError::MaxBufferSizeExceeded => "full;",
+        ProtoError::Memory => "memory;",
+    }
+}
+
+/// Makes a name by steps, each `KIND:TEXT`. After each of them the name, its labels and its octets on the wire, and whether
+/// it is the root; or that the step is refused, and then the name stays.
 pub fn steps(alloc: Global, words: &[String]) -> Result<String> {
     let mut name = Name::new(alloc);
     let mut shown = String::new(alloc);
     for word in words {
-        let (kind, text) = word.as_str().split_once(':').context("a colon")?;
-        match step(alloc, &name, kind, text)? {
+        let (kind, text) = parts(word.as_str())?;
+        match made(&name, kind, text)? {
             Ok(next) => {
                 name = next;
-                write!(shown, "{name:?} {} {};", name.len(), name.is_root())?;
+                show(&name, &mut shown)?;
             }
-            Err(error) => write!(shown, "{};", refusal(error))?,
+            Err(error) => shown.push_str(refusal(error))?,
         }
     }
     Ok(shown)
@@ -99,9 +104,9 @@ fn fed(name: &Name) -> u64 {
 pub fn compare(alloc: Global, left: &str, right: &str) -> Result<String> {
     let left = Name::from_ascii(alloc, left)?;
     let right = Name::from_ascii(alloc, right)?.to_lowercase()?;
-    let (order, partial) = (left.cmp(&right), left.partial_cmp(&right));
-    let (equal, fed_same) = (left == right, fed(&left) == fed(&right));
-    Ok(format!(in alloc; "{order:?} {partial:?} {equal} {fed_same}")?)
+    let (order, equal) = (left.partial_cmp(&right), left == right);
+    let fed_same = fed(&left) == fed(&right);
+    Ok(format!(in alloc; "{order:?} {equal} {fed_same}")?)
 }
 
 /// Whether a name is another one or below it.

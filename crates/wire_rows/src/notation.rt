@@ -1,31 +1,29 @@
-//! Octets as the lines write them.
+//! Words of the lines.
 
-use anyhow::Result;
-use std::alloc::{AllocError, Global};
+use anyhow::{Context, Result};
+use std::alloc::Global;
 
-/// The octets of a word.
-pub fn octets(alloc: Global, word: &str) -> Result<Vec<u8>> {
+// The octets of a part of a word.
+fn part(alloc: Global, word: &str) -> Result<Vec<u8>> {
+    let (count, digits) = word.split_once('*').unwrap_or(("1", word));
+    let octets = hex::decode(alloc, digits)?;
     let mut all = Vec::new(alloc);
-    for part in word.split('+') {
-        let (count, digits) = part.split_once('*').unwrap_or(("1", part));
-        let octets = hex::decode(alloc, digits.trim_matches('-'))?;
-        for _ in 0..count.parse::<usize>()? {
-            all.extend_from_slice(octets.as_slice())?;
-        }
+    for _ in 0..count.parse::<usize>()? {
+        all.extend_from_slice(octets.as_slice())?;
     }
     Ok(all)
 }
 
-/// The hexadecimal digits of octets, and `-` of none.
-pub fn digits(alloc: Global, octets: &[u8]) -> Result<String, AllocError> {
-    if octets.is_empty() {
-        return String::from_str(alloc, "-");
+/// The octets of a word.
+pub fn octets(alloc: Global, word: &str) -> Result<Vec<u8>> {
+    let mut all = Vec::new(alloc);
+    for piece in word.split('+') {
+        all.extend_from_slice(part(alloc, piece)?.as_slice())?;
     }
-    hex::encode(alloc, octets)
+    Ok(all)
 }
 
-/// The number that a word tells behind a colon, and what stands before it.
-pub fn numbered(word: &str) -> (&str, usize) {
-    let (kind, digits) = word.split_once(':').unwrap_or((word, ""));
-    (kind, digits.parse::<usize>().unwrap_or(0))
+/// What stands before and behind the colon of a step.
+pub fn parts(step: &str) -> Result<(&str, &str)> {
+    step.split_once(':').context("a step has no colon")
 }

@@ -2,30 +2,21 @@
 
 use crate::notation::octets;
 use anyhow::Result;
-use dns_names_wire::{Name, ParseError};
+use dns_names_wire::Name;
 use dns_words::{Base64Text, WordList, name_from_tokens, next_u16};
 use std::alloc::Global;
 
-/// The numbers that the words are, one after the other: of each whether it is refused, and at last what is behind them.
-pub fn numbers(alloc: Global, words: &[String]) -> Result<String> {
-    let mut texts = Vec::new(alloc);
-    for word in words {
-        texts.push(word.as_str())?;
-    }
-    let mut list = WordList::new(texts.as_slice());
-    let mut shown = String::new(alloc);
-    for _ in 0..words.len().saturating_add(1) {
-        match next_u16(&mut list) {
-            Ok(number) => write!(shown, "{number};")?,
-            Err(ParseError::MissingToken) => shown.push_str("missing;")?,
-            Err(_) => shown.push_str("refused;")?,
-        }
-    }
-    Ok(shown)
+/// The numbers that `+007` and `65536` are, and what is behind them.
+pub fn numbers(alloc: Global) -> Result<String> {
+    let mut words = WordList::new(&["+007", "65536"]);
+    let first = next_u16(&mut words).ok();
+    let second = next_u16(&mut words).ok();
+    let third = next_u16(&mut words).err();
+    Ok(format!(in alloc; "{first:?} {second:?} {third:?}")?)
 }
 
 /// The name that the first word of a text is, below an origin.
-pub fn name(alloc: Global, text: &str, origin: &str) -> Result<String> {
+pub fn first(alloc: Global, text: &str, origin: &str) -> Result<String> {
     let origin = Name::from_ascii(alloc, origin)?;
     let name = name_from_tokens(alloc, text.split(' '), Some(&origin))?;
     Ok(format!(in alloc; "{name}")?)

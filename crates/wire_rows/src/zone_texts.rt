@@ -2,22 +2,14 @@
 
 use anyhow::Result;
 use dns_text::{Lexer, Token, parse_ttl, read_item, read_list, text_words};
-use dns_types::ParseError;
 use std::alloc::{AllocError, Global};
-use std::convert::AsStr;
-
-// Why a text is refused.
-fn refusal(error: ParseError) -> &'static str {
-    match error {
-        ParseError::Memory => "memory",
-        _ => "refused",
-    }
-}
+use std::borrow::CowStr;
 
 // Words, each behind a stroke.
-fn show_words<S: AsStr>(words: &[S], shown: &mut String) -> Result<(), AllocError> {
+fn show_words(words: &[CowStr<'_, Global>], shown: &mut String) -> Result<(), AllocError> {
     for word in words {
-        write!(shown, "|{}", word.as_str())?;
+        shown.push('|')?;
+        shown.push_str(word.as_str())?;
     }
     Ok(())
 }
@@ -32,7 +24,10 @@ fn show_token(token: &Token<'_>, shown: &mut String) -> Result<(), AllocError> {
             show_words(words.as_slice(), shown)?;
             shown.push(')')
         }
-        Token::CharData(word) => write!(shown, "|{}", word.as_str()),
+        Token::CharData(word) => {
+            shown.push('|')?;
+            shown.push_str(word.as_str())
+        }
     }
 }
 
@@ -44,48 +39,36 @@ pub fn tokens(alloc: Global, text: &str) -> Result<String> {
     for _ in 0..text.len() + 1 {
         match lexer.next_token() {
             Ok(Some(token)) => show_token(&token, &mut shown)?,
-            Ok(None) => return Ok(shown),
-            Err(error) => {
-                shown.push_str(refusal(error))?;
-                return Ok(shown);
+            Ok(None) => break,
+            Err(_) => {
+                shown.push('!')?;
+                break;
             }
         }
     }
     Ok(shown)
 }
 
-// Words, or why there are none.
-fn shown<S: AsStr + Drop>(alloc: Global, found: Result<Vec<S>, ParseError>) -> Result<String> {
-    let mut shown = String::new(alloc);
-    match found {
-        Ok(words) => show_words(words.as_slice(), &mut shown)?,
-        Err(error) => shown.push_str(refusal(error))?,
-    }
-    Ok(shown)
-}
-
 /// The words of a text.
 pub fn words(alloc: Global, text: &str) -> Result<String> {
-    shown(alloc, text_words(alloc, text))
+    let words = text_words(alloc, text).ok();
+    Ok(format!(in alloc; "{words:?}")?)
 }
 
 /// The items of a list.
 pub fn list(alloc: Global, text: &str) -> Result<String> {
-    shown(alloc, read_list(alloc, text))
+    let items = read_list(alloc, text).ok();
+    Ok(format!(in alloc; "{items:?}")?)
 }
 
 /// The item of a text.
 pub fn item(alloc: Global, text: &str) -> Result<String> {
-    match read_item(alloc, text) {
-        Ok(item) => Ok(format!(in alloc; "|{}", item.as_str())?),
-        Err(error) => Ok(String::from_str(alloc, refusal(error))?),
-    }
+    let item = read_item(alloc, text).ok();
+    Ok(format!(in alloc; "{item:?}")?)
 }
 
 /// The seconds of a time to live.
 pub fn ttl(alloc: Global, text: &str) -> Result<String> {
-    match parse_ttl(text) {
-        Ok(seconds) => Ok(format!(in alloc; "{seconds}")?),
-        Err(error) => Ok(String::from_str(alloc, refusal(error))?),
-    }
+    let seconds = parse_ttl(text).ok();
+    Ok(format!(in alloc; "{seconds:?}")?)
 }
