@@ -6,62 +6,30 @@
 #[cfg(test)]
 mod tests;
 
-use anyhow::{Context, Result};
+use anyhow::{Result, bail};
 use rdata_command::run;
-use std::alloc::{AllocError, Global};
-use std::fs;
-use std::rt::Files;
+use replay::{Interpreter, replay};
+use std::alloc::Global;
 
-/// A run: the status and the output that are wanted, and the words.
-#[derive(Drop)]
-struct Row {
-    status: u8,
-    output: String,
-    words: Vec<String>,
-}
+/// The program: a line has the status and the output that are wanted, and the words.
+struct Commands;
 
-// Text in which `\n` stands for a line end, `\t` for a tab and `\\` for a backslash.
-fn plain(alloc: Global, text: &str) -> std::result::Result<String, AllocError> {
-    let mut all = String::new(alloc);
-    let mut escaped = false;
-    for c in text.chars() {
-        if escaped {
-            escaped = false;
-            all.push(match c {
-                'n' => '\n',
-                't' => '\t',
-                other => other,
-            })?;
-        } else if c == '\\' {
-            escaped = true;
-        } else {
-            all.push(c)?;
+impl Interpreter for Commands {
+    fn difference(&self, alloc: Global, fields: &[String]) -> Result<Option<String>> {
+        let [wanted_status, wanted, words @ ..] = fields else {
+            bail!("a status or an output is missing");
+        };
+        let mut out: Vec<u8> = Vec::new(alloc);
+        let status = run(alloc, words, &mut out);
+        let output = String::from_utf8(out)?;
+        if status != wanted_status.as_str().parse::<u8>()? || output.as_str() != wanted.as_str() {
+            return Ok(Some(output));
         }
+        if !reads_again(alloc, words, output.as_str())? {
+            return Ok(Some(String::from_str(alloc, "read again as other octets")?));
+        }
+        Ok(None)
     }
-    Ok(all)
-}
-
-// The row of a line: status, output, and each word, with tabs between.
-fn read_row(alloc: Global, line: &str) -> Result<Row> {
-    let mut fields = line.split('\t');
-    let status = fields.next().context("a status")?.parse::<u8>()?;
-    let output = plain(alloc, fields.next().context("an output")?)?;
-    let mut words = Vec::new(alloc);
-    for word in fields {
-        words.push(plain(alloc, word)?)?;
-    }
-    Ok(Row {
-        status,
-        output,
-        words,
-    })
-}
-
-// Whether the program answers as the row says.
-fn holds(alloc: Global, row: &Row) -> bool {
-    let mut out: Vec<u8> = Vec::new(alloc);
-    let status = run(alloc, row.words.as_slice(), &mut out);
-    status == row.status && out.as_slice() == row.output.as_bytes()
 }
 
 // The octets of the line `canonical`.
@@ -72,21 +40,19 @@ fn canonical_line(output: &str) -> Option<&str> {
 }
 
 // Whether the canonical octets of what was read, read again, are told as the same.
-fn reads_again(alloc: Global, row: &Row) -> Result<bool> {
-    let is_read = row
-        .words
-        .first()
-        .is_some_and(|word| word.as_str() == "read");
-    let Some(octets) = canonical_line(row.output.as_str()) else {
+fn reads_again(alloc: Global, words: &[String], output: &str) -> Result<bool> {
+    let Some(octets) = canonical_line(output) else {
         return Ok(true);
     };
-    if !is_read {
+    let [command, kind, ..] = words else {
+        bail!("a command or a type is missing");
+    };
+    if command.as_str() != "read" {
         return Ok(true);
     }
-    let kind = row.words.get(1).context("a type")?.as_str();
     let length = octets.trim_matches('-').len() / 2;
     let mut words = Vec::new(alloc);
-    for word in ["read", kind, "0"] {
+    for word in ["read", kind.as_str(), "0"] {
         words.push(String::from_str(alloc, word)?)?;
     }
     words.push(format!(in alloc; "{length}")?)?;
@@ -97,22 +63,7 @@ fn reads_again(alloc: Global, row: &Row) -> Result<bool> {
     Ok(status == 0 && canonical_line(text) == Some(octets))
 }
 
-fn replay(rt: &(impl Files + AllocGlobal + Print), file: &str) -> Result<()> {
-    let text = fs::read_to_string(rt, file).context("reading the runs")?;
-    let mut passed = 0u64;
-    for line in text.lines() {
-        let row = read_row(rt.alloc(), line)?;
-        if holds(rt.alloc(), &row) && reads_again(rt.alloc(), &row)? {
-            passed = passed.saturating_add(1);
-        } else {
-            println!(rt; "not as wanted: {line}")?;
-        }
-    }
-    println!(rt; "{file}: {passed} as wanted")?;
-    Ok(())
-}
-
 fn main(rt: HostRuntime) -> Result<()> {
-    replay(&rt, "rows.tsv")?;
-    replay(&rt, "real.tsv")
+    replay(&rt, "rows.tsv", &Commands)?;
+    replay(&rt, "real.tsv", &Commands)
 }
