@@ -1,5 +1,6 @@
-/* Preloaded before a program: counts its requests for memory, and refuses the Nth and every later one.
-   REQUESTS_REFUSE=N refuses from the Nth on; REQUESTS_COUNT=FILE gets the number of requests at the end. */
+/* Preloaded before a program: counts its requests for memory, and refuses the Nth and every later one, or the Nth alone.
+   REQUESTS_REFUSE=N refuses from the Nth on, and REQUESTS_ALONE=N the Nth; REQUESTS_COUNT=FILE gets the number of
+   requests at the end. */
 #define _GNU_SOURCE
 #include <dlfcn.h>
 #include <errno.h>
@@ -8,12 +9,17 @@
 #include <string.h>
 #include <unistd.h>
 
-static unsigned long requests, refuse_from;
+static unsigned long requests, refuse_from, refuse_alone;
 static void *(*real_malloc)(size_t);
 static void *(*real_realloc)(void *, size_t);
 static void *(*real_calloc)(size_t, size_t);
 static int (*real_posix_memalign)(void **, size_t, size_t);
 static void *(*real_aligned_alloc)(size_t, size_t);
+
+static unsigned long number_in(const char *variable) {
+    const char *text = getenv(variable);
+    return text ? strtoul(text, NULL, 10) : 0;
+}
 
 __attribute__((constructor)) static void begin(void) {
     real_malloc = dlsym(RTLD_NEXT, "malloc");
@@ -21,14 +27,14 @@ __attribute__((constructor)) static void begin(void) {
     real_calloc = dlsym(RTLD_NEXT, "calloc");
     real_posix_memalign = dlsym(RTLD_NEXT, "posix_memalign");
     real_aligned_alloc = dlsym(RTLD_NEXT, "aligned_alloc");
-    const char *text = getenv("REQUESTS_REFUSE");
-    refuse_from = text ? strtoul(text, NULL, 10) : 0;
+    refuse_from = number_in("REQUESTS_REFUSE");
+    refuse_alone = number_in("REQUESTS_ALONE");
     requests = 0;
 }
 
 static int refused(void) {
     requests++;
-    return refuse_from && requests >= refuse_from;
+    return (refuse_from && requests >= refuse_from) || requests == refuse_alone;
 }
 
 void *malloc(size_t n) {
