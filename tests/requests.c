@@ -1,6 +1,6 @@
-/* Preloaded before a program: counts its requests for memory, and refuses some.
-   REQUESTS_REFUSE=N refuses the Nth and every later one; REQUESTS_REFUSE_ALONE=N the Nth alone; REQUESTS_COUNT=FILE gets
-   the number of requests at the end. */
+/* Preloaded before a program: counts its requests for memory, and refuses the Nth and every later one, or the Nth alone.
+   REQUESTS_REFUSE=N refuses from the Nth on, and REQUESTS_ALONE=N the Nth; REQUESTS_COUNT=FILE gets the number of
+   requests at the end. */
 #define _GNU_SOURCE
 #include <dlfcn.h>
 #include <errno.h>
@@ -16,16 +16,19 @@ static void *(*real_calloc)(size_t, size_t);
 static int (*real_posix_memalign)(void **, size_t, size_t);
 static void *(*real_aligned_alloc)(size_t, size_t);
 
+static unsigned long number_in(const char *variable) {
+    const char *text = getenv(variable);
+    return text ? strtoul(text, NULL, 10) : 0;
+}
+
 __attribute__((constructor)) static void begin(void) {
     real_malloc = dlsym(RTLD_NEXT, "malloc");
     real_realloc = dlsym(RTLD_NEXT, "realloc");
     real_calloc = dlsym(RTLD_NEXT, "calloc");
     real_posix_memalign = dlsym(RTLD_NEXT, "posix_memalign");
     real_aligned_alloc = dlsym(RTLD_NEXT, "aligned_alloc");
-    const char *text = getenv("REQUESTS_REFUSE");
-    refuse_from = text ? strtoul(text, NULL, 10) : 0;
-    text = getenv("REQUESTS_REFUSE_ALONE");
-    refuse_alone = text ? strtoul(text, NULL, 10) : 0;
+    refuse_from = number_in("REQUESTS_REFUSE");
+    refuse_alone = number_in("REQUESTS_ALONE");
     requests = 0;
 }
 

@@ -1,8 +1,10 @@
 //! Replays runs of the program `rdata` whose answers are known, one a line: `rows.tsv` has small ones, worked by hand
 //! from the RFCs, and `real.tsv` record data as name servers and DNS tools write it, with the text and the octets on which
 //! independent implementations agree. The canonical octets of what was read are read again, and must be told as the same.
+//! With an argument, such as `answers`, it answers the runs that standard input gives.
 #![tactic(auto)]
 
+mod answers;
 #[cfg(test)]
 mod tests;
 
@@ -64,6 +66,9 @@ fn reads_again(alloc: Global, words: &[String], output: &str) -> Result<bool> {
 }
 
 fn main(rt: HostRuntime) -> Result<()> {
+    if std::env::args(&rt)?.nth(1).is_some() {
+        return answers::answer_all(&rt);
+    }
     replay(&rt, "rows.tsv", &Commands)?;
     replay(&rt, "real.tsv", &Commands)
 }

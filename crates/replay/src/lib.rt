@@ -1,5 +1,6 @@
 //! Replays a file of lines whose answers are known. A line is fields with a tab between each two, in which `\n` stands for
-//! a line end, `\r` for a carriage return, `\t` for a tab and `\\` for a backslash. An empty line says nothing, nor does one that begins with `#`.
+//! a line end, `\r` for a carriage return, `\t` for a tab and `\\` for a backslash. An empty line says nothing, nor does
+//! one that begins with `#`.
 #![tactic(auto)]
 
 use anyhow::{Context, Result};
@@ -36,7 +37,8 @@ fn plain(alloc: Global, field: &str) -> std::result::Result<String, AllocError> 
     Ok(all)
 }
 
-fn fields_of(alloc: Global, line: &str) -> std::result::Result<Vec<String>, AllocError> {
+/// The fields of a line, each as it is meant.
+pub fn fields_of(alloc: Global, line: &str) -> std::result::Result<Vec<String>, AllocError> {
     let mut fields = Vec::new(alloc);
     for field in line.split('\t') {
         fields.push(plain(alloc, field)?)?;

@@ -1,0 +1,317 @@
+"""Runs the program on damaged messages and words, and compares each answer with what a plain table wants.
+
+The messages are those of the replayed runs (crates/rdata_rows/data): each with other lengths, cut, and with an octet more
+behind it. Beside them stand pointers in the data of every type with a name, records as long as they can be, and texts cut
+behind each word. What octets are data, and what is printed of them, says tests/plain_table.py.
+
+All runs go through one program: the built crates/rdata_rows where it is up to date, else a quick build (`rt try`), in which
+nothing is proved. The number of runs of each kind is printed. The last line is 'N as wanted, M not'.
+"""
+
+import collections
+import pathlib
+import re
+import subprocess
+import sys
+import tempfile
+
+import plain_table
+
+TOP = pathlib.Path(__file__).resolve().parent.parent
+ROWS = TOP / "crates/rdata_rows"
+# How many of the cuts of one message are taken in front of its record and behind it, within it, and within a great one.
+FEW, MANY, OF_GREAT = 8, 1000, 5
+
+# A run: its words, and what is wanted: statuses, and for data that is read the last of the table's answers.
+Run = collections.namedtuple("Run", "kind words statuses data", defaults=[None])
+ACCEPTED, REFUSED, EITHER, USAGE = {"0"}, {"1"}, {"0", "1"}, {"2"}
+
+
+def thin(numbers, most):
+    """At most so many of the numbers, from the first to the last."""
+    step = max(1, -(-len(numbers) // most))
+    return sorted({*numbers[::step], *numbers[-1:]})
+
+
+def read_run(kind, type_word, place, length, message):
+    """A run of `read`, with what the table says of it."""
+    words = ["read", type_word, str(place), str(length), message.hex() or "-"]
+    if place > len(message) or length > 65535:
+        return Run(kind, words, USAGE)
+    data = plain_table.read(plain_table.type_number(type_word), message, place, length)
+    return Run(kind, words, REFUSED if data is None else ACCEPTED, data)
+
+
+def stored_rows():
+    """The status and the words of each replayed run."""
+    for name in ("rows.tsv", "real.tsv"):
+        for line in (ROWS / "data" / name).read_bytes().decode().split("\n"):
+            fields = [plain(field) for field in line.split("\t")]
+            if len(fields) > 3:
+                yield fields[0], fields[2:]
+
+
+def stored_messages():
+    """The type, place, length and message of each replayed run that reads."""
+    for status, words in stored_rows():
+        if status == "0" and words[0] == "read":
+            message = bytes.fromhex(words[4].strip("-"))
+            yield words[1], int(words[2]), int(words[3]), message
+
+
+def plain(field):
+    """A field of a line without its escapes."""
+    return re.sub(r"\\(.)", lambda found: {"n": "\n", "t": "\t", "r": "\r"}.get(found[1], found[1]), field)
+
+
+def escaped(word):
+    """A word as a field of a line."""
+    return word.replace("\\", "\\\\").replace("\n", "\\n").replace("\t", "\\t")
+
+
+def damaged_messages():
+    """Each message that reads, with other lengths, cut, and with an octet more behind it."""
+    for word, place, length, message in stored_messages():
+        most = MANY if len(message) < 4096 else OF_GREAT
+        for shorter in thin(range(length), most):
+            yield read_run("shorter length", word, place, shorter, message)
+        for longer in (length + 1, 65535):
+            yield read_run("longer length", word, place, longer, message)
+        end = place + length
+        within = thin(range(place, end), most)
+        cuts = [*thin(range(place), FEW), *within, *thin(range(end, len(message)), FEW)]
+        for cut in cuts:
+            yield read_run("message cut", word, place, length, message[:cut])
+        for cut in within:
+            yield read_run("message and length cut", word, place, cut - place, message[:cut])
+        for more in (b"\0", b"\xc0", b"\xff"):
+            yield read_run("octet behind", word, place, length, message + more)
+            yield read_run("octet behind, counted", word, place, length + 1, message[:end] + more)
+
+
+# For each type with a name: octets in front of the name and behind it. The numbers in front look like labels, too.
+AROUND_NAMES = {
+    **dict.fromkeys(["NS", "CNAME", "PTR", "ANAME"], [(b"", b"")]),
+    "MX": [(b"\x01\x61", b""), (b"\0\0", b"")],
+    "SRV": [(b"\0\1\x61\0\0\0", b"")],
+    "SOA": [(b"", b"\0" + bytes(20)), (b"\x01\x62\0", bytes(20)), (b"", b"\xc0\0" + bytes(20))],
+    "NAPTR": [(b"\0\1\0\1\1\x61\0\0", b"")],
+    "SVCB": [(b"\0\1", b""), (b"\0\1", b"\0\3\0\2\1\xbb")],
+    "HTTPS": [(b"\0\1", b"\0\1\0\3\2h2")],
+}
+# What stands before the record: nothing, a name, a label that runs on, a chain of pointers, and pointers into the record.
+IN_FRONT = ["", "00", "016100", "056162", "016100c000c003c005", "0162c004", "c002", "c004", "0161c00001"]
+
+
+def pointer(place):
+    """A pointer to a place (RFC 1035, 4.1.4)."""
+    return (0xC000 + place).to_bytes(2, "big")
+
+
+def pointers():
+    """Pointers in record data: to each place before and behind, themselves and the record's numbers, in chains and circles."""
+    for word, around in AROUND_NAMES.items():
+        for before, behind in around:
+            for front in map(bytes.fromhex, IN_FRONT):
+                for labels in (b"", b"\x01\x61", b"\x01\x61\x3f" + b"\x62" * 63):
+                    size = len(before) + len(labels) + 2 + len(behind)
+                    for target in range(len(front) + len(before) + len(labels) + 5):
+                        message = front + before + labels + pointer(target) + behind
+                        yield read_run("pointer", word, len(front), size, message)
+
+
+def circles():
+    """Two names that point at each other, chains as long as they can be, and names at their greatest length."""
+    for word, around in AROUND_NAMES.items():
+        before, behind = around[0]
+        for first in range(6):
+            place = 2 + first
+            message = bytes(first) + pointer(place + len(before)) + before + pointer(first) + behind
+            yield read_run("circle", word, place, len(message) - place, message)
+        chain = b"\x01\x61\0" + pointer(0) + b"".join(pointer(2 * i + 3) for i in range(8000))
+        message = chain + before + pointer(len(chain) - 2) + behind
+        yield read_run("long chain", word, len(chain), len(message) - len(chain), message)
+        tail = (b"\x3f" + b"\x61" * 63) * 3
+        for size in range(56, 64):
+            front = tail + b"\0"
+            message = front + before + bytes([size]) + b"\x62" * size + pointer(0) + behind
+            yield read_run("long name", word, len(front), len(message) - len(front), message)
+
+
+def greatest():
+    """Records as long as a length can say, and a service binding that has no room where its target is written whole."""
+    for word in ("A", "AAAA", "MX", "SOA", "OPT", "NULL", "TXT"):
+        yield read_run("greatest", word, 0, 65535, b"\1\2\3\4")
+        yield read_run("greatest", word, 0, 65535, bytes(65535))
+        yield read_run("greatest", word, 0, 65535, bytes(65536))
+    for word in ("SVCB", "HTTPS"):
+        head = bytes.fromhex("0377777700 0001 c000 0005 fff7")
+        for place, length in ((5, 65535), (5, 65534)):
+            yield read_run("greatest", word, place, length, head + bytes(65527))
+        room = bytes.fromhex("0377777700 0001 c000 0005 fff4")
+        yield read_run("greatest", word, 5, 65532, room + bytes(65524))
+
+
+# How many words a type needs. The words behind those are not read, or are good where the longer list is.
+LEAST = dict.fromkeys("A AAAA ANAME CNAME NS PTR OPENPGPKEY".split(), 1)
+LEAST |= dict(MX=2, SRV=4, SOA=7, NAPTR=6, HINFO=2, TXT=0, CERT=4, SSHFP=3, TLSA=4, SMIMEA=4, CAA=3, CSYNC=2)
+LEAST |= dict(SVCB=2, HTTPS=2, ZERO=0)
+# A word is in quotes, or runs up to a blank; what has parentheses, comments or escapes is cut, but nothing is known of it.
+WORD = re.compile(r'"[^"]*"|[^ "]+')
+
+
+def cut_texts():
+    """Each text that is read, cut behind each word."""
+    for status, words in stored_rows():
+        if words[0] != "parse" or status == "2":
+            continue
+        word, text = words[1:]
+        found = list(WORD.finditer(text))
+        for count in range(len(found) + 1):
+            cut = text[: found[count - 1].end()] if count else ""
+            spaced = all(a.end() < b.start() for a, b in zip(found, found[1:]))
+            known = spaced and found and not re.search(r'[();\\\r\n\t]', text)
+            wanted = statuses_of(word, status, [x[0] for x in found], count) if known else EITHER
+            yield Run("text cut", ["parse", word, cut], wanted)
+
+
+def statuses_of(word, status, words, count):
+    """The statuses that may come for the first words of a text whose own status is known."""
+    least = LEAST.get(word)
+    if least is None:
+        return EITHER
+    if count < least:
+        return REFUSED
+    if status != "0":
+        return EITHER
+    digits = "".join(words[3:count]).replace('"', "").replace(" ", "")
+    whole = word not in ("TLSA", "SMIMEA") or (digits and len(digits) % 2 == 0)
+    return ACCEPTED if whole else REFUSED
+
+
+def wrong_texts():
+    """Words of parameters, and texts with an open quote or parenthesis."""
+    for word in ("SVCB", "HTTPS"):
+        for parameter in ("=", '"', r'"\""', r"\"", "key", "key65536=a", "alpn=,", "mandatory=key65536", "alpn="):
+            wanted = REFUSED if parameter != "alpn=" else EITHER
+            yield Run("parameter", ["parse", word, f"1 . {parameter}"], wanted)
+        for parameter in ("mandatory=key65535", "alpn=h2,", "key65534=a", "key7"):
+            yield Run("parameter", ["parse", word, f"1 . {parameter}"], ACCEPTED)
+    for word in LEAST:
+        for text in ('"', "a (", "(", "1.2.3.4 (", '1 a. "', "( a", '( "a" ', "a ( b ( c ) )"):
+            yield Run("open text", ["parse", word, text], REFUSED)
+
+
+def wrong_lines():
+    """Words that the program does not know, and a place at the message's end."""
+    for line in (
+        *("read A 5 0 01020304", "read A 0 65536 01020304", "read A 0 000004 01020304", "cmp A 0 01020304", ""),
+        *("read", "read A", "read A 0 4", "read A 0 4 01020304 x", "read A 0 4 0102030", "read A 0 4 0x", "read A -1 4 00"),
+        *("read a 0 4 01020304", "read 65536 0 0 -", "read A 0 +4 01020304", "parse A", "cmp A 01020304", "write A 0 4 00"),
+    ):
+        yield Run("line", line.split(" "), USAGE)
+    yield Run("line", "read A 4 0 01020304".split(), REFUSED)
+
+
+def built_program():
+    """The built program that replays rows, where no source is newer."""
+    program = ROWS / "out/rdata_rows"
+    test = 'top=$1; . "$top/tests/build.sh"; is_built "$2" rdata_rows'
+    done = subprocess.run(["bash", "-c", test, "bash", str(TOP), str(program)], stdout=subprocess.DEVNULL)
+    return program if done.returncode == 0 else None
+
+
+def line_of(run):
+    """The line that asks for a run."""
+    return "\t".join(map(escaped, run.words)) + "\n"
+
+
+def by_program(program, runs):
+    """The answers of a built program."""
+    given = "".join(map(line_of, runs)).encode()
+    done = subprocess.run([program, "answers"], input=given, stdout=subprocess.PIPE, timeout=300)
+    return done.stdout.decode().split("\n")[:-1]
+
+
+def room_of(run):
+    """More octets than the answer to a run has."""
+    if run.data is None:
+        return 100 + 10 * len(run.words[-1]) * ("0" in run.statuses)
+    return 100 + 10 * len(run.data[0])
+
+
+def parts(runs):
+    """The runs in parts whose answers are below what a quick build may print."""
+    part, room = [], 0
+    for run in runs:
+        if part and room + room_of(run) > 1_000_000:
+            yield part
+            part, room = [], 0
+        part.append(run)
+        room += room_of(run)
+    yield part
+
+
+def by_quick_build(runs):
+    """The answers of a quick build, which reads the runs from one file for each part."""
+    with tempfile.TemporaryDirectory() as folder:
+        for number, part in enumerate(parts(runs)):
+            pathlib.Path(folder, f"{number:04}").write_text("".join(map(line_of, part)))
+        done = subprocess.run(["rt", "try", "--cases", folder, "--", "answers"], cwd=ROWS, stdout=subprocess.PIPE)
+    return [line for line in done.stdout.decode().split("\n")[:-1] if not line.startswith("== ")]
+
+
+def hexadecimal(octets):
+    """Octets as the program prints them: `-` where there are none, `none` where they can't be emitted."""
+    return "none" if octets is None else octets.hex() or "-"
+
+
+def is_wanted(run, answer):
+    """Whether a line that answers a run is the wanted one, as far as the run says."""
+    status, _, output = answer.partition("\t")
+    if status not in run.statuses:
+        return False
+    if status != "0":
+        return output == {"1": "refused\\n", "2": "usage\\n"}[status]
+    if run.data is None:
+        return output.startswith("type ")
+    canonical, emitted, text = run.data
+    head = f"type {plain_table.type_number(run.words[1])}\ntext " + ("" if text is None else text)
+    tail = f"\ncanonical {hexadecimal(canonical)}\nemitted {hexadecimal(emitted)}\n"
+    output = plain(output)
+    return output.startswith(head) and output.endswith(tail) and (text is None or output == head + tail)
+
+
+SOURCES = damaged_messages, pointers, circles, greatest, cut_texts, wrong_texts, wrong_lines
+# A quick build takes about a millisecond for a run: so many of each kind, and none with a message that is longer.
+QUICK, SHORT = 600, 20_000
+
+
+def quick_runs(runs):
+    """The runs of each kind thinned out for a quick build."""
+    kinds = collections.defaultdict(list)
+    for run in runs:
+        if len(run.words[-1]) <= SHORT or run.kind == "greatest":
+            kinds[run.kind].append(run)
+    return [some[i] for some in kinds.values() for i in thin(range(len(some)), QUICK)]
+
+
+def main(program):
+    """Asks for all runs, or by a quick build for some, and prints what is not as wanted and the number of each kind."""
+    runs = [run for source in SOURCES for run in source()]
+    program = program or built_program()
+    runs = runs if program else quick_runs(runs)
+    answers = by_program(program, runs) if program else by_quick_build(runs)
+    kinds = collections.Counter(run.kind for run in runs)
+    if len(answers) != len(runs):
+        print(f"{len(answers)} answers to {len(runs)} runs")
+        answers += [""] * len(runs)
+    wrong = [(run, answer) for run, answer in zip(runs, answers) if not is_wanted(run, answer)]
+    for run, answer in wrong[:20]:
+        print(f"not as wanted: {' '.join(run.words)[:300]}: {answer[:300]}")
+    print("; ".join(f"{kind}: {count}" for kind, count in kinds.items()))
+    print(f"{len(runs) - len(wrong)} as wanted, {len(wrong)} not")
+
+
+if __name__ == "__main__":
+    main(sys.argv[1] if len(sys.argv) > 1 else None)
