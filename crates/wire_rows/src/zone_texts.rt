@@ -1,5 +1,6 @@
 //! Texts of zones.
 
+use crate::notation::shown;
 use anyhow::Result;
 use dns_text::{Lexer, Token, parse_ttl, read_item, read_list, text_words};
 use std::alloc::{AllocError, Global};
@@ -51,24 +52,20 @@ pub fn tokens(alloc: Global, text: &str) -> Result<String> {
 
 /// The words of a text.
 pub fn words(alloc: Global, text: &str) -> Result<String> {
-    let words = text_words(alloc, text).ok();
-    Ok(format!(in alloc; "{words:?}")?)
+    shown(alloc, text_words(alloc, text).ok())
 }
 
 /// The items of a list.
 pub fn list(alloc: Global, text: &str) -> Result<String> {
-    let items = read_list(alloc, text).ok();
-    Ok(format!(in alloc; "{items:?}")?)
+    shown(alloc, read_list(alloc, text).ok())
 }
 
 /// The item of a text.
 pub fn item(alloc: Global, text: &str) -> Result<String> {
-    let item = read_item(alloc, text).ok();
-    Ok(format!(in alloc; "{item:?}")?)
+    shown(alloc, read_item(alloc, text).ok())
 }
 
 /// The seconds of a time to live.
 pub fn ttl(alloc: Global, text: &str) -> Result<String> {
-    let seconds = parse_ttl(text).ok();
-    Ok(format!(in alloc; "{seconds:?}")?)
+    shown(alloc, parse_ttl(text).ok())
 }
