@@ -1,7 +1,10 @@
 -- Cursors over record data.
+use Rattle.std.proofs.Common.{◌-◌, ◌++◌, drop, is_some, MatchOption}
 use Rattle.std.proofs.Common.{◌≡◌, ℕ, ◌+◌, ◌*◌, ◌≤◌, ◌<◌, nat_le, ◌&&◌, Bool, true, false, if◌then◌else◌, Option, Some, None, List, [], ◌∷◌, map, length, refl, sym, ap, ◌∙◌, arith, subst, IfSome, ◌⊎◌, inl, inr}
 use Rattle.std.proofs.lemmas.Bool.Decides.{nat_tests}
-use Rattle.std.proofs.lemmas.List.{append-nil}
+use Rattle.std.proofs.lemmas.List.{append-nil, drop-drop}
+use Rattle.std.proofs.Math.ListN.{drop_of_length-le}
+use Rattle.std.proofs.Math.Seq.{drop-append_seam}
 use Rattle.std.specs.List.{flat_map, AllByRecursion, list_all}
 use Rattle.std.specs.Cmp.{first_so, second_so}
 use Rattle.dns_fields.specs.Pieces.{string, parameters_emittable}
@@ -17,7 +20,7 @@ use Rattle.dns_rdata_sets.specs.CAA.{caa_shape, caa_fields}
 use Rattle.dns_rdata.specs.declared.record_data.RData.{RData}
 use Rattle.dns_rdata.specs.declared.record_data.RData.TheVariants as rdata
 use Rattle.dns_rdata.specs.Data.{fields_of, data_octets}
-use Rattle.dns_rdata.specs.Cursor.{data_left, data_windows, data_options, data_options_left, DataAt, left_of, windows_of, options_of, options_left_of, StepsOn, Remaining, Chooses}
+use Rattle.dns_rdata.specs.Cursor.{data_left, data_windows, data_options, data_options_left, DataAt, left_of, windows_of, options_of, options_left_of, StepsOn, Remaining, Chooses, Advances}
 
 pub with_true : (b : Bool) → b && true ≡ b
 with_true true = refl
@@ -114,6 +117,43 @@ chooses_kept {a} {b} {c} f e o l = record {
   most = rw (e, o) f.most;
   all = l ∙ f.all;
 }
+
+-- ---- what is left behind two calls
+
+drop_none : (n : ℕ) (s : List ℕ) → s ≡ [] → drop n s ≡ []
+drop_none n s e = drop_of_length-le s (let z : length s ≡ 0 = ap length e in omega (arith, z))
+
+-- one octet, or none at the end
+pub advances_one : (a b : Remaining) (r : Option ℕ) → MatchOption r ((a.octets ≡ []) × (b.octets ≡ [])) (λ x. a.octets ≡ x ∷ b.octets)
+    → b.taken ≡ a.taken + (if is_some r then 1 else 0) → Advances a b
+advances_one a b None h t = record {
+  forward = omega (arith, t);
+  rest = h.1 ∙ sym (drop_none (b.taken - a.taken) a.octets h.0);
+}
+advances_one a b (Some x) h t =
+    let one : b.taken - a.taken ≡ 1 = omega (arith, t) in
+    record {
+      forward = omega (arith, t);
+      rest = sym (ap (λ (k : ℕ). drop k a.octets) one ∙ ap (λ (s : List ℕ). drop 1 s) h);
+    }
+
+-- octets that are taken together
+pub advances_by : (a b : Remaining) (shared : List ℕ) (n : ℕ) → length shared ≡ n → a.octets ≡ shared ++ b.octets → b.taken ≡ a.taken + n → Advances a b
+advances_by a b shared n l e t =
+    let count : b.taken - a.taken ≡ length shared = omega (arith, t, l) in
+    record {
+      forward = omega (arith, t);
+      rest = sym (ap (λ (k : ℕ). drop k a.octets) count ∙ ap (λ (s : List ℕ). drop (length shared) s) e ∙ drop-append_seam shared b.octets);
+    }
+
+pub advances_both : {a b c : Remaining} → Advances a b → Advances b c → Advances a c
+advances_both {a} {b} {c} f g =
+    let count : (b.taken - a.taken) + (c.taken - b.taken) ≡ c.taken - a.taken = omega (arith, f.forward, g.forward) in
+    record {
+      forward = omega (arith, f.forward, g.forward);
+      rest = g.rest ∙ ap (λ (s : List ℕ). drop (c.taken - b.taken) s) f.rest ∙ drop-drop (c.taken - b.taken) (b.taken - a.taken) a.octets
+          ∙ ap (λ (k : ℕ). drop k a.octets) count;
+    }
 
 -- ---- the counts at the start
 

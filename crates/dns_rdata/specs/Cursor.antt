@@ -1,5 +1,5 @@
 -- What a cursor over canonical octets still gives, and what it counts.
-use Rattle.std.specs.Prelude.{◌≡◌, ℕ, ◌+◌, ◌*◌, ◌<◌, ◌≤◌, ◌++◌, true, length, Option, Some, None, List, []}
+use Rattle.std.specs.Prelude.{◌≡◌, ℕ, ◌+◌, ◌-◌, ◌*◌, ◌<◌, ◌≤◌, ◌++◌, true, length, drop, Option, Some, None, List, []}
 use Rattle.dns_pieces.specs.Runs.{Shares}
 use Rattle.dns_pieces.specs.Steps.{Left, AllShort, by_fields}
 use Rattle.dns_pieces.specs.declared.step.Step.{Step}
@@ -124,6 +124,11 @@ pub record Chooses (old new : Remaining) : Type 0 where
   pub more : old.choices ≤ new.choices
   pub most : new.choices + 2 * old.all_options * new.options ≤ old.choices + 2 * old.all_options * old.options
   pub all : new.all_options ≡ old.all_options
+
+-- what was taken since are the first of the octets that were left, and all others are still left
+pub record Advances (old new : Remaining) : Type 0 where
+  pub forward : old.taken ≤ new.taken
+  pub rest : new.octets ≡ drop (new.taken - old.taken) old.octets
 
 -- the next step, if there is any, with the octets that are then at hand and the counts before and after it
 pub record SteppedOn (v : Option RData) (n i j : ℕ) (run : List ℕ) (c c' p p' step part item : ℕ) : Type 0 where

@@ -9,7 +9,7 @@ ghost use Rattle.dns_fields.specs.Fields.{all_emittable};
 ghost use Rattle.dns_pieces.specs.Runs.{common};
 ghost use Rattle.dns_pieces.specs.Steps.{GivesStep, CountsPasses, CountsChoices};
 ghost use Rattle.dns_rdata.specs.Data.{fields_of, data_octets};
-ghost use Rattle.dns_rdata.specs.Cursor.{data_left, data_windows, data_options, data_options_left, IsUncounted, DataAt, IsAt, Chooses, StepsOn, RefillsBy, Skips};
+ghost use Rattle.dns_rdata.specs.Cursor.{data_left, data_windows, data_options, data_options_left, IsUncounted, DataAt, IsAt, Chooses, Advances, StepsOn, RefillsBy, Skips};
 
 use crate::record_data::RData;
 use dns_pieces::{Count, Head, Run, Step, Tail};
@@ -268,11 +268,13 @@ impl<'a> CanonicalOctets<'a> {
     }
 
     /// The order of what the two still give, by the first difference, a proper beginning before what goes on. From each at
-    /// most one octet is taken past their common beginning.
+    /// most one octet is taken past their common beginning; what is behind the octets that were taken is still given.
     pub fn compare(&mut self, other: &mut CanonicalOctets<'_>) -> Ordering
         ensures order { result ≡ slice_cmp nat_cmp self.old.octets other.old.octets }
         ensures self_taken { self.new.taken ≤ self.old.taken + common self.old.octets other.old.octets + 1 }
         ensures other_taken { other.new.taken ≤ other.old.taken + common self.old.octets other.old.octets + 1 }
+        ensures self_rest { Advances self.old self.new }
+        ensures other_rest { Advances other.old other.new }
         ensures self_choices { Chooses self.old self.new }
         ensures other_choices { Chooses other.old other.new }
         ensures self_passes { self.old.passes + self.old.windows ≡ self.new.passes + self.new.windows }

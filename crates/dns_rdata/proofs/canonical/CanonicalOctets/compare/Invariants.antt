@@ -2,7 +2,7 @@ use Rattle.std.proofs.Common.{◌≡◌, ◌+◌, length}
 use Rattle.std.specs.Ordering.{nat_cmp}
 use Rattle.std.specs.Cmp.Lexicographic.{slice_cmp}
 use Rattle.dns_pieces.specs.Runs.{common}
-use Rattle.dns_rdata.specs.Cursor.{Chooses}
+use Rattle.dns_rdata.specs.Cursor.{Chooses, Advances}
 use Rattle.dns_rdata.proofs.canonical.CanonicalOctets.compare.Given as goal
 
 abbrev pub decreases-octets : goal.decreases-octets
@@ -13,6 +13,8 @@ invariant-octets l = let a = l.self in let b = l.other in let c = l.initial.self
   order : slice_cmp nat_cmp a.octets b.octets ≡ slice_cmp nat_cmp c.octets d.octets;
   self_taken : a.taken + common a.octets b.octets ≡ c.taken + common c.octets d.octets;
   other_taken : b.taken + common a.octets b.octets ≡ d.taken + common c.octets d.octets;
+  self_rest : Advances c a;
+  other_rest : Advances d b;
   self_choices : Chooses c a;
   other_choices : Chooses d b;
   self_passes : c.passes + c.windows ≡ a.passes + a.windows;
