@@ -42,18 +42,18 @@ def read_run(kind, type_word, place, length, message):
     return Run(kind, words, REFUSED if data is None else ACCEPTED, data)
 
 
-def stored_rows():
-    """The status and the words of each replayed run."""
-    for name in ("rows.tsv", "real.tsv"):
+def stored_rows(*names):
+    """The status and the words of each replayed run of these files."""
+    for name in names:
         for line in (ROWS / "data" / name).read_bytes().decode().split("\n"):
             fields = [plain(field) for field in line.split("\t")]
-            if len(fields) > 3:
+            if len(fields) > 3 and not line.startswith("#"):
                 yield fields[0], fields[2:]
 
 
 def stored_messages():
     """The type, place, length and message of each replayed run that reads."""
-    for status, words in stored_rows():
+    for status, words in stored_rows("rows.tsv", "real.tsv"):
         if status == "0" and words[0] == "read":
             message = bytes.fromhex(words[4].strip("-"))
             yield words[1], int(words[2]), int(words[3]), message
@@ -66,7 +66,9 @@ def plain(field):
 
 def escaped(word):
     """A word as a field of a line."""
-    return word.replace("\\", "\\\\").replace("\n", "\\n").replace("\t", "\\t")
+    for plainly, by in (("\\", "\\\\"), ("\n", "\\n"), ("\t", "\\t"), ("\r", "\\r")):
+        word = word.replace(plainly, by)
+    return word
 
 
 def damaged_messages():
@@ -162,7 +164,7 @@ WORD = re.compile(r'"[^"]*"|[^ "]+')
 
 def cut_texts():
     """Each text that is read, cut behind each word."""
-    for status, words in stored_rows():
+    for status, words in stored_rows("rows.tsv", "real.tsv"):
         if words[0] != "parse" or status == "2":
             continue
         word, text = words[1:]

@@ -1,8 +1,8 @@
 #!/usr/bin/env bash
 # Runs the built programs under a counter of requests for memory (tests/requests.c).
 # 1. How many requests one call makes, from the difference of two numbers of rounds.
-# 2. With the first, the second and each later request refused, until a run meets no refusal: the program must print
-#    `memory` alone, with status 3.
+# 2. With the first, the second and each later request refused, until a run meets no refusal (tests/refusals.py): the
+#    program must print `memory` alone, with status 3.
 # The last line is 'N as wanted, M not'.
 set -u
 top=$(cd "$(dirname "$0")/.." && pwd)
@@ -38,26 +38,9 @@ while read -r call times sample; do
   want "requests of 1000 times $call of ${sample%% *}" "$((times * 1000))" "$((many - none))"
 done < "$top/tests/requests.txt"
 
-# the program with the words of a line; the text of `parse` is one word, blanks and all
-program() {
-  case "$1" in
-    'parse '*) local rest=${1#parse }; "$rdata" parse "${rest%% *}" "${rest#* }" ;;
-    # shellcheck disable=SC2086
-    *) "$rdata" $1 ;;
-  esac
-}
-
-# each request refused in turn
-while IFS= read -r words; do
-  case "$words" in ''|'#'*) continue ;; esac
-  n=1
-  while [ "$n" -le 400 ]; do
-    output=$(REQUESTS_REFUSE=$n LD_PRELOAD="$dir/requests.so" program "$words" 2>&1)
-    status=$?
-    if [ "$output" = "$(program "$words" 2>&1)" ]; then break; fi
-    want "$words with request $n refused" "memory 3" "$output $status"
-    n=$((n + 1))
-  done
-  want "$words refuses some request and ends" yes "$([ "$n" -gt 1 ] && [ "$n" -le 400 ] && echo yes)"
-done < "$top/tests/refused.txt"
-echo "$good as wanted, $bad not"
+# each request refused in turn, on the words of all replayed runs
+refusals=$(python3 "$top/tests/refusals.py" "$rdata" "$dir/requests.so" 2>&1)
+printf '%s\n' "$refusals" | sed '$d'
+counts=$(printf '%s\n' "$refusals" | tail -n 1 | sed -nE 's/^([0-9]+) as wanted, ([0-9]+) not$/\1 \2/p')
+counts=${counts:-0 1}
+echo "$((good + ${counts% *})) as wanted, $((bad + ${counts#* })) not"

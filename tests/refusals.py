@@ -37,7 +37,7 @@ def requests_of(program, counter, words):
 def refusals(program, counter, words, alone):
     """The counts of one run's refusals of each kind: how many are as wanted, and a text for each that is not."""
     count, full = requests_of(program, counter, words)
-    good, bad = collections.Counter(), []
+    good, bad = collections.Counter(), [] if count else [f"no request was counted of {words}"]
     for kind in ("from", "alone")[: 1 + alone]:
         for number in range(1, count + 2):
             name = "REQUESTS_REFUSE" if kind == "from" else "REQUESTS_ALONE"
@@ -51,13 +51,13 @@ def refusals(program, counter, words, alone):
 
 def main(program, counter):
     """Refuses on all runs, as many at a time as there are processors."""
-    alone, jobs = collections.Counter(), []
-    for _, words in stored_rows():
-        alone[tuple(words[:2])] += 1
-        jobs.append((words, alone[tuple(words[:2])] <= ALONE))
+    seen, jobs = collections.Counter(), []
+    for _, words in stored_rows("rows.tsv"):
+        seen[tuple(words[:2])] += 1
+        jobs.append((program, counter, words, seen[tuple(words[:2])] <= ALONE))
     good, bad = collections.Counter(), []
-    with concurrent.futures.ThreadPoolExecutor(os.cpu_count()) as pool:
-        for more, others in pool.map(lambda job: refusals(program, counter, *job), jobs):
+    with concurrent.futures.ProcessPoolExecutor(os.cpu_count()) as pool:
+        for more, others in pool.map(refusals, *zip(*jobs), chunksize=8):
             good, bad = good + more, bad + others
     for text in bad[:20]:
         print("not as wanted:", text)
@@ -65,4 +65,5 @@ def main(program, counter):
     print(f"{sum(good.values())} as wanted, {len(bad)} not")
 
 
-main(*sys.argv[1:])
+if __name__ == "__main__":
+    main(*sys.argv[1:])
