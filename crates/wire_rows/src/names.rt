@@ -1,6 +1,6 @@
 //! Names as values.
 
-use crate::notation::{octets, parts, shown};
+use crate::notation::{octets, parts};
 use anyhow::{Result, bail};
 use dns_names_wire::{Name, ProtoError, ProtoResult};
 use std::alloc::{AllocError, Global};
@@ -55,9 +55,9 @@ fn made(name: &Name, kind: &str, text: &str) -> Result<ProtoResult<Name>> {
     }
 }
 
-fn show(name: &Name, all: &mut String) -> Result<(), AllocError> {
+fn show(name: &Name, shown: &mut String) -> Result<(), AllocError> {
     let (labels, len, root) = (name.num_labels(), name.len(), name.is_root());
-    write!(all, "{name:?} {labels} {len} {root};")
+    write!(shown, "{name:?} {labels} {len} {root};")
 }
 
 // Why a step is refused.
@@ -74,24 +74,24 @@ fn refusal(error: ProtoError) -> &'static str {
 /// it is the root; or that the step is refused, and then the name stays.
 pub fn steps(alloc: Global, words: &[String]) -> Result<String> {
     let mut name = Name::new(alloc);
-    let mut all = String::new(alloc);
+    let mut shown = String::new(alloc);
     for word in words {
         let (kind, text) = parts(word.as_str())?;
         match made(&name, kind, text)? {
             Ok(next) => {
                 name = next;
-                show(&name, &mut all)?;
+                show(&name, &mut shown)?;
             }
-            Err(error) => all.push_str(refusal(error))?,
+            Err(error) => shown.push_str(refusal(error))?,
         }
     }
-    Ok(all)
+    Ok(shown)
 }
 
 /// The octet at a place of a name's canonical octets.
 pub fn octet(alloc: Global, text: &str, place: &str) -> Result<String> {
     let octet = Name::from_ascii(alloc, text)?.octet(place.parse::<usize>()?);
-    shown(alloc, octet)
+    Ok(format!(in alloc; "{octet:?}")?)
 }
 
 fn fed(name: &Name) -> u64 {
@@ -106,11 +106,11 @@ pub fn compare(alloc: Global, left: &str, right: &str) -> Result<String> {
     let right = Name::from_ascii(alloc, right)?.to_lowercase()?;
     let (order, equal) = (left.partial_cmp(&right), left == right);
     let fed_same = fed(&left) == fed(&right);
-    shown(alloc, (order, equal, fed_same))
+    Ok(format!(in alloc; "{order:?} {equal} {fed_same}")?)
 }
 
 /// Whether a name is another one or below it.
 pub fn zone(alloc: Global, zone: &str, text: &str) -> Result<String> {
     let inside = Name::from_ascii(alloc, zone)?.zone_of(&Name::from_ascii(alloc, text)?);
-    shown(alloc, inside)
+    Ok(format!(in alloc; "{inside}")?)
 }

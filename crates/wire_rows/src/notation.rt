@@ -2,7 +2,6 @@
 
 use anyhow::{Context, Result};
 use std::alloc::Global;
-use std::fmt::Debug;
 
 // The octets of a part of a word.
 fn part(alloc: Global, word: &str) -> Result<Vec<u8>> {
@@ -22,11 +21,6 @@ pub fn octets(alloc: Global, word: &str) -> Result<Vec<u8>> {
         all.extend_from_slice(part(alloc, piece)?.as_slice())?;
     }
     Ok(all)
-}
-
-/// The text that shows a value. A function that shows one by this call has a shorter proof than with `format!` of its own.
-pub fn shown<T: Debug + Drop>(alloc: Global, value: T) -> Result<String> {
-    Ok(format!(in alloc; "{value:?}")?)
 }
 
 /// What stands before and behind the colon of a step.

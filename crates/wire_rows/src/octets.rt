@@ -2,23 +2,21 @@
 
 ghost use Rattle.std.specs.Prelude.{◌≤◌};
 
-use crate::notation::{octets, shown};
+use crate::notation::octets;
 use anyhow::Result;
 use dns_types::comparing::same_octets;
 use dns_types::{Octets, SmallOctets, Strings};
 use std::alloc::{AllocError, Global};
 
-// What is made of the octets that a copy gives back.
-fn again(kept: &SmallOctets<4>) -> Result<SmallOctets<4>, AllocError> {
-    let octets = kept.clone()?.into_vec()?;
-    Ok(SmallOctets::from_boxed(octets.into_boxed_slice()))
-}
-
-/// Octets with room for four of them in the value, as they are shown, and as what is made of a copy of them is shown.
+/// Octets with room for four of them in the value as they are shown, how many there are, whether a copy is the same, and
+/// what is made of the octets that the copy gives back.
 pub fn keep(alloc: Global, word: &str) -> Result<String> {
-    let kept = SmallOctets::<4>::from_vec(octets(alloc, word)?);
-    let again = again(&kept)?;
-    shown(alloc, (kept, again))
+    let octets = octets(alloc, word)?;
+    let kept = SmallOctets::<4>::from_slice(alloc, octets.as_slice())?;
+    let copy = kept.clone()?;
+    let (len, same) = (kept.len(), copy == kept);
+    let boxed = SmallOctets::<4>::from_boxed(copy.into_vec()?.into_boxed_slice());
+    Ok(format!(in alloc; "{len} {same} {kept:?} {boxed:?}")?)
 }
 
 // Whether octets are told to be equal, with room for `N` of them in the value.
@@ -37,20 +35,16 @@ pub fn same(alloc: Global, left: &str, right: &str) -> Result<String> {
     let slices = same_octets(left.as_slice(), right.as_slice());
     let few = are_equal::<32>(alloc, left.as_slice(), right.as_slice())?;
     let many = are_equal::<64>(alloc, left.as_slice(), right.as_slice())?;
-    shown(alloc, (slices, few, many))
+    Ok(format!(in alloc; "{slices} {few} {many}")?)
 }
 
-// Two strings, of which the second has no octet.
-fn two(alloc: Global) -> Result<Strings, AllocError> {
+/// Two strings as they are shown, of which the second has no octet, whether a copy is equal, and how many it gives back.
+pub fn strings(alloc: Global) -> Result<String> {
     let mut strings = Strings::with_capacity(alloc, 2)?;
     strings.push(Octets::from_slice(alloc, b"ab")?)?;
     strings.push(Octets::new(alloc))?;
-    Ok(strings)
-}
-
-/// Two strings, of which the second has no octet, as they are shown, and a copy of them.
-pub fn strings(alloc: Global) -> Result<String> {
-    let strings = two(alloc)?;
     let copy = strings.clone()?;
-    shown(alloc, (strings, copy))
+    let same = copy == strings;
+    let count = copy.into_vec().len();
+    Ok(format!(in alloc; "{strings:?} {same} {count}")?)
 }

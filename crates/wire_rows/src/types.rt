@@ -1,6 +1,5 @@
 //! Types of records, errors, and values that are not yet looked at.
 
-use crate::notation::shown;
 use anyhow::Result;
 use dns_types::{AddrParseError, DecodeError, ParseError, ProtoError, RecordType, Restrict};
 use std::alloc::Global;
@@ -20,7 +19,7 @@ pub fn order(alloc: Global) -> Result<String> {
     let (first, second) = (RecordType::A.cmp(&unknown), unknown.cmp(&RecordType::NS));
     let third = RecordType::CAA.cmp(&RecordType::TSIG);
     let equal = RecordType::A == unknown;
-    shown(alloc, (first, second, third, equal))
+    Ok(format!(in alloc; "{first:?} {second:?} {third:?} {equal}")?)
 }
 
 /// Texts of errors, with a line for each.
@@ -37,5 +36,5 @@ pub fn restrict(alloc: Global) -> Result<String> {
     let number = Restrict::new(7u16);
     let below = number.verify_unwrap(|n| *n < 8);
     let not_below = number.verify_unwrap(|n| *n < 7);
-    shown(alloc, (below, not_below))
+    Ok(format!(in alloc; "{below:?} {not_below:?}")?)
 }

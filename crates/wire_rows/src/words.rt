@@ -1,6 +1,6 @@
 //! Values read from words.
 
-use crate::notation::{octets, shown};
+use crate::notation::octets;
 use anyhow::Result;
 use dns_names_wire::Name;
 use dns_words::{Base64Text, WordList, name_from_tokens, next_u16};
@@ -12,7 +12,7 @@ pub fn numbers(alloc: Global) -> Result<String> {
     let first = next_u16(&mut words).ok();
     let second = next_u16(&mut words).ok();
     let third = next_u16(&mut words).err();
-    shown(alloc, (first, second, third))
+    Ok(format!(in alloc; "{first:?} {second:?} {third:?}")?)
 }
 
 /// The name that the first word of a text is, below an origin.

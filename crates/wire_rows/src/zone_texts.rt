@@ -1,6 +1,5 @@
 //! Texts of zones.
 
-use crate::notation::shown;
 use anyhow::Result;
 use dns_text::{Lexer, Token, parse_ttl, read_item, read_list, text_words};
 use std::alloc::{AllocError, Global};
@@ -52,20 +51,24 @@ pub fn tokens(alloc: Global, text: &str) -> Result<String> {
 
 /// The words of a text.
 pub fn words(alloc: Global, text: &str) -> Result<String> {
-    shown(alloc, text_words(alloc, text).ok())
+    let words = text_words(alloc, text).ok();
+    Ok(format!(in alloc; "{words:?}")?)
 }
 
 /// The items of a list.
 pub fn list(alloc: Global, text: &str) -> Result<String> {
-    shown(alloc, read_list(alloc, text).ok())
+    let items = read_list(alloc, text).ok();
+    Ok(format!(in alloc; "{items:?}")?)
 }
 
 /// The item of a text.
 pub fn item(alloc: Global, text: &str) -> Result<String> {
-    shown(alloc, read_item(alloc, text).ok())
+    let item = read_item(alloc, text).ok();
+    Ok(format!(in alloc; "{item:?}")?)
 }
 
 /// The seconds of a time to live.
 pub fn ttl(alloc: Global, text: &str) -> Result<String> {
-    shown(alloc, parse_ttl(text).ok())
+    let seconds = parse_ttl(text).ok();
+    Ok(format!(in alloc; "{seconds:?}")?)
 }
