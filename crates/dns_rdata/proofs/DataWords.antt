@@ -1,5 +1,5 @@
 -- Words of each type.
-use Rattle.std.proofs.Common.{◌≡◌, ◌≢◌, ℕ, List, [], ◌∷◌, Option, None, Result, Ok, Err, inl, inr, refl, sym, subst, map, length, arith, ◌∙◌}
+use Rattle.std.proofs.Common.{◌≡◌, ◌≢◌, ℕ, List, [], ◌∷◌, Option, None, Result, Ok, Err, IfErr, ◌⊎◌, inl, inr, refl, sym, subst, map, length, arith, ◌∙◌}
 use Rattle.std.specs.Cow.{cow_str_bytes}
 use Rattle.std.specs.Vec.Iter.{into_iter_steps, into_iter_items, into_iter_len, into_iter_deque}
 use Rattle.std.specs.declared.vec.IntoIter.{IntoIter}
@@ -166,3 +166,12 @@ unless_not (parse.Proto x) f = f (λ h. absurd cc)
 pub no_words_read : (t : RecordType) (text : List ℕ) (e : ParseError) (r : Result RData ParseError) → IsErrAnd r (λ y. y ≡ e) → (e ≢ parse.Memory → NoTextWords text) → ReadsDataText t r text
 no_words_read t text e (Ok v) h none = elim h [ ]
 no_words_read t text e (Err y) h none = rw h (unless_not e (λ n. inl (none n)))
+
+pub refused_early : (t : RecordType) (text : List ℕ) (e : ParseError) (r : Result RData ParseError) → IsErrAnd r (λ y. y ≡ e) → (e ≢ parse.Memory → NoTextWords text)
+    → IfErr r (λ y. UnlessMemory y ((y ≡ parse.UnsupportedRecordType t) ⊎ NoTextWords text))
+refused_early t text e (Ok v) h none = elim h [ ]
+refused_early t text e (Err y) h none = rw h (unless_not e (λ n. inr (none n)))
+
+pub refused_by_name : (t : RecordType) (text : List ℕ) (r : Result RData ParseError) → r ≡ Err (parse.UnsupportedRecordType t)
+    → IfErr r (λ y. UnlessMemory y ((y ≡ parse.UnsupportedRecordType t) ⊎ NoTextWords text))
+refused_by_name t text r e = rw e (inl refl)

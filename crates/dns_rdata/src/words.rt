@@ -1,12 +1,13 @@
 //! Record data read from words (RFC 1035, 5.1).
 
-ghost use Rattle.std.specs.Prelude.{◌≡◌, None, Err, IfOk, map};
+ghost use Rattle.std.specs.Prelude.{◌≡◌, ◌⊎◌, None, Err, IfOk, IfErr, map};
 ghost use Rattle.std.specs.Cow.{cow_str_bytes};
 ghost use Rattle.std.specs.Iterator.{IsFinite};
 ghost use Rattle.std.specs.Option.{option_copied};
 ghost use Rattle.dns_rdata.specs.Data.{type_of};
 ghost use Rattle.dns_rdata.specs.DataWords.{ReadsDataWords, ReadsDataText, AreDataWords, PrintsBack, HasNoWords};
-ghost use Rattle.dns_words.specs.Reads.{Decides};
+ghost use Rattle.dns_text.specs.TextWords.{NoTextWords};
+ghost use Rattle.dns_words.specs.Reads.{Decides, UnlessMemory};
 
 use crate::record_data::RData;
 use dns_names_wire::{Name, ParseError, RecordType};
@@ -109,6 +110,9 @@ impl RData {
     ) -> Result<RData, ParseError>
         ensures reads { ReadsDataText record_type result text.now }
         ensures kind { IfOk result (λ v. type_of v ≡ record_type) }
+        // A type without words is refused by its name, but for want of memory and a text that has no words.
+        ensures unsupported { HasNoWords record_type
+            → IfErr result (λ e. UnlessMemory e ((e ≡ ParseError.UnsupportedRecordType record_type) ⊎ NoTextWords text.now)) }
     {
         let words = text_words(alloc, text)?;
         read_each(alloc, record_type, words)
@@ -123,6 +127,7 @@ fn read_each(
 ) -> Result<RData, ParseError>
     ensures reads { Decides (λ v. AreDataWords None record_type v (map cow_str_bytes words.entry.items)) (λ v. v) result }
     ensures kind { IfOk result (λ v. type_of v ≡ record_type) }
+    ensures unsupported { HasNoWords record_type → result ≡ Err (ParseError.UnsupportedRecordType record_type) }
 {
     RData::from_tokens(alloc, record_type, words.into_iter(), None)
 }
