@@ -1,8 +1,8 @@
 """Runs the program on damaged messages and words, and compares each answer with what a plain table wants.
 
-The messages are those of the replayed runs (crates/rdata_rows/data): each with other lengths, cut, and with an octet more
-behind it. Beside them stand pointers in the data of every type with a name, records as long as they can be, and texts cut
-behind each word. What octets are data, and what is printed of them, says tests/plain_table.py.
+The messages are those of the replayed runs (crates/rdata_rows/data): each with other lengths, cut, with an octet changed or one
+more behind it. Beside them stand pointers in the data of every type with a name, edges of the lists in records, records as long
+as they can be, and texts cut behind each word. What octets are data, and what is printed of them, says tests/plain_table.py.
 
 All runs go through one program: the built crates/rdata_rows where it is up to date, else a quick build (`rt try`), in which
 nothing is proved. The number of runs of each kind is printed. The last line is 'N as wanted, M not'.
@@ -71,8 +71,12 @@ def escaped(word):
     return word
 
 
+# Octets that are put in place of others.
+OTHERS = [0, 1, 0x3F, 0x40, 0x80, 0xC0, 0xFF]
+
+
 def damaged_messages():
-    """Each message that reads, with other lengths, cut, and with an octet more behind it."""
+    """Each message that reads, with other lengths, cut, with an octet changed, and with an octet more behind it."""
     for word, place, length, message in stored_messages():
         most = MANY if len(message) < 4096 else OF_GREAT
         for shorter in thin(range(length), most):
@@ -86,6 +90,9 @@ def damaged_messages():
             yield read_run("message cut", word, place, length, message[:cut])
         for cut in within:
             yield read_run("message and length cut", word, place, cut - place, message[:cut])
+        for at in thin(range(place, min(end, len(message))), most):
+            other = bytes([OTHERS[at % len(OTHERS)]])
+            yield read_run("octet changed", word, place, length, message[:at] + other + message[at + 1 :])
         for more in (b"\0", b"\xc0", b"\xff"):
             yield read_run("octet behind", word, place, length, message + more)
             yield read_run("octet behind, counted", word, place, length + 1, message[:end] + more)
@@ -138,6 +145,41 @@ def circles():
             front = tail + b"\0"
             message = front + before + bytes([size]) + b"\x62" * size + pointer(0) + behind
             yield read_run("long name", word, len(front), len(message) - len(front), message)
+
+
+# Data at the edges of lists: options, parameters, sets of types, tags, and numbers with a name of their own.
+EDGES = {
+    "OPT": """0008000400030000000a 000a00010008000400030000 000800040001000000 0008000400012000 000800080001200001020304
+        00080009000121000102030405 0008000400028000 000800140002800000112233445566778899aabbccddeeff 00080003000100
+        000800050001010080 00080005000101007f 0008000500010100ff000a 0008000600010100ff01 0003ffff 00030000 0003000100
+        000a0002ffff000a0001ff000a0002fffe 00080004000200000008000400010000 000a0009 000a0005000a 0000000000000000""",
+    "SVCB": """0001000001000100 00010000010002000000 0001000001000201ff 0001000000000100 000100000000020000 00010000000003000001
+        000100000400030102030400 00010000060000 000100000600100000000000000000000000000000000100 0001000003000101 00010000030000
+        0001000003000301bbff 00010000050000 00010000020000 0001000002000100 000100fffe0001ff 000100ffff0000 000100ff000001e9
+        0001000007000161 00010000010003026832000100030268320 000100000300020035000100030268320 00010000000004000400010001""",
+    "CSYNC": """0000000100000001800001 000000010000000140000140 00000001000000020000 00000001000000220000 0000000100030000
+        00000001000001014000014000 000000010000ff0101 0000000100000020000000000000000000000000000000000000000000000000000000
+        00000001ff030001400002000000 000000010080 000000010003 00000001000300 0000000100000001""",
+    "CAA": """0000 000161 00012d 00017b 000f616263646566676869303132333435 001061626364656667686930313233343536 ff0161ff
+        000361622e 0005616263 007f 0002c3a9""",
+    "NAPTR": """000000000000000000 00000000012d00000000 000000000241390000000 00000000 0000000001c301a901ff00""",
+    "TXT": """00 0000 01 ff 02c3a9 01c301a9 03e282 04f0908080 03eda080""",
+    "HINFO": """0000 00 01610162 0161 02c301ff""",
+    "NS": """00 40 4000 8000 bfff c000 c001 3f 0100 01ff00 0141c000 012e00""",
+}
+
+
+def edges():
+    """Data at the edges of lists and numbers."""
+    for word, octets in EDGES.items():
+        for digits in octets.split():
+            message = bytes.fromhex(digits[: len(digits) // 2 * 2])
+            for kind in (word, "HTTPS") if word == "SVCB" else (word,):
+                yield read_run("edge", kind, 0, len(message), message)
+    for number in [*range(258), 5352, 65279, 65280, 65534, 65535]:
+        yield read_run("edge", "CERT", 0, 6, number.to_bytes(2, "big") + bytes([0, 1, number % 256, 9]))
+        yield read_run("edge", str(number), 0, 2, b"\1\xff")
+        yield read_run("edge", f"TYPE{number}", 0, 0, b"")
 
 
 def greatest():
@@ -236,14 +278,13 @@ def by_program(program, runs):
 
 
 def room_of(run):
-    """More octets than the answer to a run has."""
-    if run.data is None:
-        return 100 + 10 * len(run.words[-1]) * ("0" in run.statuses)
-    return 100 + 10 * len(run.data[0])
+    """More octets than a run and its answer have."""
+    asked = 100 + 2 * len(run.words[-1])
+    return asked + 10 * (len(run.words[-1]) * ("0" in run.statuses) if run.data is None else len(run.data[0]))
 
 
 def parts(runs):
-    """The runs in parts whose answers are below what a quick build may print."""
+    """The runs in parts that stay below the output and the seconds that a quick build may take."""
     part, room = [], 0
     for run in runs:
         if part and room + room_of(run) > 1_000_000:
@@ -255,17 +296,37 @@ def parts(runs):
 
 
 def by_quick_build(runs):
-    """The answers of a quick build, which reads the runs from one file for each part."""
+    """The answers of a quick build, which reads the runs from one file for each part; nothing for those of a part that fails."""
     with tempfile.TemporaryDirectory() as folder:
         for number, part in enumerate(parts(runs)):
             pathlib.Path(folder, f"{number:04}").write_text("".join(map(line_of, part)))
         done = subprocess.run(["rt", "try", "--cases", folder, "--", "answers"], cwd=ROWS, stdout=subprocess.PIPE)
-    return [line for line in done.stdout.decode().split("\n")[:-1] if not line.startswith("== ")]
+    printed = dict(re.findall(r"^== (\d+)\n((?:\d\t.*\n)*)", done.stdout.decode(), re.MULTILINE))
+    answers = []
+    for number, part in enumerate(parts(runs)):
+        lines = printed.get(f"{number:04}", "").split("\n")[:-1]
+        answers += (lines + [""] * len(part))[: len(part)]
+    return answers
 
 
 def hexadecimal(octets):
     """Octets as the program prints them: `-` where there are none, `none` where they can't be emitted."""
     return "none" if octets is None else octets.hex() or "-"
+
+
+def is_data(number, output):
+    """Whether the octets that were emitted of a text are data of the type, and have the canonical octets that were printed.
+
+    Words can give a CERT without data and a CAA with any tag, which are emitted and not read.
+    """
+    found = re.search(r"\ncanonical (\S+)\nemitted (\S+)\n\Z", output)
+    if not found or not output.startswith(f"type {number}\n"):
+        return False
+    if found[2] == "none":
+        return found[1] == "-"
+    octets = bytes.fromhex(found[2].strip("-"))
+    data = plain_table.read(number, octets, 0, len(octets))
+    return plain_table.NAMES[number] in ("CERT", "CAA") if data is None else hexadecimal(data[0]) == found[1]
 
 
 def is_wanted(run, answer):
@@ -275,25 +336,26 @@ def is_wanted(run, answer):
         return False
     if status != "0":
         return output == {"1": "refused\\n", "2": "usage\\n"}[status]
+    number, output = plain_table.type_number(run.words[1]), plain(output)
     if run.data is None:
-        return output.startswith("type ")
+        return is_data(number, output)
     canonical, emitted, text = run.data
-    head = f"type {plain_table.type_number(run.words[1])}\ntext " + ("" if text is None else text)
+    head = f"type {number}\ntext " + ("" if text is None else text)
     tail = f"\ncanonical {hexadecimal(canonical)}\nemitted {hexadecimal(emitted)}\n"
-    output = plain(output)
     return output.startswith(head) and output.endswith(tail) and (text is None or output == head + tail)
 
 
-SOURCES = damaged_messages, pointers, circles, greatest, cut_texts, wrong_texts, wrong_lines
-# A quick build takes about a millisecond for a run: so many of each kind, and none with a message that is longer.
-QUICK, SHORT = 600, 20_000
+SOURCES = damaged_messages, pointers, circles, edges, greatest, cut_texts, wrong_texts, wrong_lines
+# A quick build takes about a millisecond for a run, and longer where its message is: so many of each kind, and a great
+# message once, which is emitted nowhere since its target has no room.
+QUICK, SHORT = 300, 20_000
 
 
 def quick_runs(runs):
     """The runs of each kind thinned out for a quick build."""
     kinds = collections.defaultdict(list)
     for run in runs:
-        if len(run.words[-1]) <= SHORT or run.kind == "greatest":
+        if len(run.words[-1]) <= SHORT or run.data is not None and run.data[1] is None and run.words[1] == "SVCB":
             kinds[run.kind].append(run)
     return [some[i] for some in kinds.values() for i in thin(range(len(some)), QUICK)]
 
@@ -305,9 +367,7 @@ def main(program):
     runs = runs if program else quick_runs(runs)
     answers = by_program(program, runs) if program else by_quick_build(runs)
     kinds = collections.Counter(run.kind for run in runs)
-    if len(answers) != len(runs):
-        print(f"{len(answers)} answers to {len(runs)} runs")
-        answers += [""] * len(runs)
+    answers += [""] * (len(runs) - len(answers))
     wrong = [(run, answer) for run, answer in zip(runs, answers) if not is_wanted(run, answer)]
     for run, answer in wrong[:20]:
         print(f"not as wanted: {' '.join(run.words)[:300]}: {answer[:300]}")
