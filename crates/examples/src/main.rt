@@ -6,7 +6,7 @@ mod messages;
 mod parts;
 mod record_data;
 
-use anyhow::{Context, Result};
+use anyhow::Result;
 use dns_rdata::{
     BinDecoder, Name, OPT, Octets, RData, RecordDataDecodable, RecordType, Restrict, SVCB, Strings,
     TXT,
@@ -43,9 +43,11 @@ fn print_mail(rt: &(impl AllocGlobal + Print)) -> Result<()> {
     Ok(())
 }
 
-fn print_host(rt: &impl Print, data: &RData) -> Result<()> {
-    let host = host_of(data).context("a host")?;
-    println!(rt; "{host}")?;
+fn print_record(rt: &impl Print, record: &RData) -> Result<()> {
+    println!(rt; "{} {record}", record.record_type())?;
+    if let Some(host) = host_of(record) {
+        println!(rt; "host {host}")?;
+    }
     Ok(())
 }
 
@@ -64,9 +66,9 @@ fn print_sorted(rt: &(impl AllocGlobal + Print)) -> Result<()> {
     let mut records = some_records(rt.alloc())?;
     sort_records(&mut records);
     for record in &records {
-        println!(rt; "{} {record}", record.record_type())?;
+        print_record(rt, record)?;
     }
-    print_host(rt, &records[0])
+    Ok(())
 }
 
 fn print_parts(rt: &(impl AllocGlobal + Print)) -> Result<()> {
