@@ -21,8 +21,9 @@ in_order() { # CRATE
   local name order=
   add() {
     local it
+    case " $order " in *" $1 "*) return ;; esac
     for it in $(uses "$1"); do add "$it"; done
-    case " $order " in *" $1 "*) ;; *) order="$order $1" ;; esac
+    order="$order $1"
   }
   add "$1"
   for name in $order; do echo "$name"; done
