@@ -1,7 +1,8 @@
 -- The steps of the reader of a name's text.
 use Rattle.std.proofs.Common.{◌≡◌, ◌≢◌, ℕ, ◌+◌, ◌-◌, ◌<◌, ◌≤◌, Bool, true, false, List, [], ◌∷◌, ◌++◌, length, take, drop, get_or, refl}
 use Rattle.std.proofs.Common.{sym, ◌∙◌, ap, subst, append_assoc, arith, length-append, length-drop}
-use Rattle.std.specs.Prelude.{slice_set}
+use Rattle.std.specs.Prelude.{slice_set, Result, Ok, Err}
+use Rattle.std.specs.Result.{IfErr, IsErr}
 use Rattle.std.proofs.Math.Seq.{set-append_seam}
 use Rattle.std.proofs.lemmas.List.{append-nil, append_cancel_left, drop-drop, drop_all, drop_more, take-append-drop}
 use Rattle.dns_fields.specs.Labels.{DomainName, IsLabel, AreLabels, wire, FitsName}
@@ -211,3 +212,8 @@ name_refused text at octets s some no_dot none name n = marked_refused text at o
     marked_refused t a o labels mark s some no_dot none are fits root = no_dot refl refl
     marked_refused t a o labels mark s some no_dot none are fits nothing = omega arith
     marked_refused t a o labels mark s some no_dot none are fits (labelled ls) = labels_refused t a o labels mark s none are fits ls
+
+-- what holds of every refusal holds of the one that `?` hands on
+pub said_of_err : {T E : Type 0} {P : Type 0} (r : Result T E) → IsErr r → P → IfErr r (λ _. P)
+said_of_err (Ok x) is h = let e = is in cc e
+said_of_err (Err e) is h = h

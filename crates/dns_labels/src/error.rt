@@ -36,6 +36,27 @@ impl<T: Drop> From<AllocFailed<T>> for NameError {
     }
 }
 
+/// Why no name was read from its text.
+#[derive(Clone, Copy, Debug, PartialEq, Eq, Error)]
+pub enum NameTextError {
+    /// A request for memory was refused.
+    #[error("out of memory")]
+    Memory,
+    /// The text is none of a name; this one says why.
+    #[error("{0}")]
+    Invalid(&'static str),
+}
+
+impl From<AllocError> for NameTextError {
+    ghost use Rattle.dns_labels.specs.declared.error.NameTextError.TheVariants.{Memory};
+
+    ghost from_gives = { λ _ e. e ≡ Memory };
+
+    fn from(_e: AllocError) -> NameTextError {
+        NameTextError::Memory
+    }
+}
+
 /// Why no name was written.
 #[derive(Clone, Copy, Debug, PartialEq, Eq, Error)]
 pub enum WriteError {

@@ -14,7 +14,7 @@ pub mod text;
 pub mod writing;
 
 use dns_types::SmallOctets;
-pub use error::{NameError, WriteError};
+pub use error::{NameError, NameTextError, WriteError};
 pub use places::Places;
 
 /// The octets of one name: up to 32 of them stand in the value itself.

@@ -1,7 +1,8 @@
 //! Texts of names (RFC 1035, 5.1).
 
-ghost use Rattle.std.specs.Prelude.{◌≡◌, ℕ, ◌+◌, ◌<◌, ◌≤◌, List, [], ◌∷◌, ◌++◌, length, take, drop, IfSome, IfNone, IfOk, MatchResult, Err, Some};
+ghost use Rattle.std.specs.Prelude.{◌≡◌, ℕ, ◌+◌, ◌<◌, ◌≤◌, List, [], ◌∷◌, ◌++◌, length, take, drop, ◌⊎◌, IfSome, IfNone, IfOk, IfErr, MatchResult, Some};
 ghost use Rattle.std.specs.Bool.{OnTrue};
+ghost use Rattle.dns_labels.specs.declared.error.NameTextError.TheVariants as text_error;
 ghost use Rattle.std.specs.Fmt.{DisplaysOnOk};
 ghost use Rattle.dns_fields.specs.Labels.{DomainName, IsLabel, IsName};
 ghost use Rattle.dns_labels.specs.Labels.{AreNameOctets, name_of};
@@ -9,7 +10,7 @@ ghost use Rattle.dns_labels.specs.Text.{OctetText as IsOctetText, LabelText as I
 ghost use Rattle.dns_labels.specs.Text.{HasOctets, printed, label_text, name_text};
 
 use crate::buffer::{MAX_OCTETS, NameBuffer};
-use crate::error::NameError;
+use crate::error::NameTextError;
 use crate::labels::LabelIter;
 use std::alloc::Global;
 use std::marker::Model;
@@ -17,6 +18,14 @@ use std::{fmt, str};
 
 /// The most octets of a label (RFC 1035, 3.1).
 const MAX_LABEL: usize = 63;
+
+const EMPTY_LABEL: &str = "empty label in a domain name";
+
+const LONG_LABEL: &str = "label past 63 octets in a domain name";
+
+const LONG_NAME: &str = "domain name past 255 octets";
+
+const CHARACTER: &str = "character or escape that no label of a domain name has";
 
 /// The octet whose text begins the text, and that one's length.
 fn read_octet(text: &[u8]) -> Option<(u8, usize)>
@@ -59,72 +68,80 @@ fn read_octet(text: &[u8]) -> Option<(u8, usize)>
     Some((value as u8, 4))
 }
 
-/// Reads the octets of a label up to a dot or the text's end, and answers how much of the text they take.
-fn read_octets(text: &[u8], octets: &mut NameBuffer) -> Option<usize>
-    ensures some { IfSome result (λ taken. AddsOctets text.now taken octets.old octets.new) }
+/// Reads the octets of a label up to a dot or the text's end, and answers how much of the text they take, or why it is
+/// no label.
+fn read_octets(text: &[u8], octets: &mut NameBuffer) -> Result<usize, &'static str>
+    ensures some { IfOk result (λ taken. AddsOctets text.now taken octets.old octets.new) }
     ensures short { length octets.new ≤ length octets.old + 63 }
     ensures room { length octets.new ≤ 254 }
-    ensures none { IfNone result ((label t rest : List ℕ) → IsLabelText label t → text.now ≡ t ++ rest →
+    ensures none { IfErr result (λ _. (label t rest : List ℕ) → IsLabelText label t → text.now ≡ t ++ rest →
         IsLabelEnd rest → length label ≤ 63 → length octets.old + length label ≤ 254 → ⊥) }
 {
     let mut left = MAX_LABEL.min(MAX_OCTETS - octets.len());
+    let full = if left == MAX_LABEL {
+        LONG_LABEL
+    } else {
+        LONG_NAME
+    };
     let mut at = 0usize;
     'octets: while at < text.len() && text[at] != 46 {
         if left == 0 {
-            return None;
+            return Err(full);
         }
-        let (octet, taken) = read_octet(&text[at..])?;
+        let Some((octet, taken)) = read_octet(&text[at..]) else {
+            return Err(CHARACTER);
+        };
         octets.push(octet);
         left -= 1;
         at += taken;
     }
-    Some(at)
+    Ok(at)
 }
 
 /// Reads a label up to a dot or the text's end, with its length octet, and answers how much of the text it
-/// takes.
-fn read_label(text: &[u8], octets: &mut NameBuffer) -> Option<usize>
-    ensures some { IfSome result (λ taken. AddsLabel text.now taken octets.old octets.new) }
+/// takes, or why it is no label.
+fn read_label(text: &[u8], octets: &mut NameBuffer) -> Result<usize, &'static str>
+    ensures some { IfOk result (λ taken. AddsLabel text.now taken octets.old octets.new) }
     ensures room { length octets.new ≤ 254 }
-    ensures none { IfNone result ((label t rest : List ℕ) → IsLabelText label t → text.now ≡ t ++ rest →
+    ensures none { IfErr result (λ _. (label t rest : List ℕ) → IsLabelText label t → text.now ≡ t ++ rest →
         IsLabelEnd rest → IsLabel label → length octets.old + (1 + length label) ≤ 254 → ⊥) }
 {
     let start = octets.len();
     if start >= MAX_OCTETS {
-        return None;
+        return Err(LONG_NAME);
     }
     octets.push(0);
     let taken = read_octets(text, octets)?;
     let count = octets.len() - start - 1;
     if count == 0 {
-        return None;
+        return Err(EMPTY_LABEL);
     }
     octets.set(start, count as u8);
-    Some(taken)
+    Ok(taken)
 }
 
-/// Reads the octets of a name, and answers whether it is fully qualified.
-fn read_name(text: &[u8], octets: &mut NameBuffer) -> Option<bool>
+/// Reads the octets of a name, and answers whether it is fully qualified, or why the text is none of a name.
+fn read_name(text: &[u8], octets: &mut NameBuffer) -> Result<bool, &'static str>
     requires { octets.old ≡ [] }
-    ensures some { IfSome result (λ mark. AreNameOctets octets.new × IsNameText (name_of octets.new mark) text.now) }
-    ensures none { IfNone result ((name : DomainName) → IsNameText name text.now → ⊥) }
+    ensures some { IfOk result (λ mark. AreNameOctets octets.new × IsNameText (name_of octets.new mark) text.now) }
+    ensures none { IfErr result (λ _. (name : DomainName) → IsNameText name text.now → ⊥) }
 {
     if text.len() == 0 {
-        return Some(false);
+        return Ok(false);
     }
     if text.len() == 1 && text[0] == 46 {
-        return Some(true);
+        return Ok(true);
     }
     let mut at = 0usize;
     'labels: loop {
         let taken = read_label(&text[at..], octets)?;
         at += taken;
         if at == text.len() {
-            return Some(false);
+            return Ok(false);
         }
         at += 1;
         if at == text.len() {
-            return Some(true);
+            return Ok(true);
         }
     }
 }
@@ -135,19 +152,20 @@ fn read_name(text: &[u8], octets: &mut NameBuffer) -> Option<bool>
 /// dots, with a dot at the end where the name is fully qualified. An octet of a label is a graphic character
 /// of ASCII but `.` and `\`, or `\` and three digits up to 255, or `\` and a graphic character that is no
 /// digit. A label has 1 to 63 octets, and the labels, each with its length octet, and one octet more are at
-/// most 255. The error is `Invalid` for any other text, without a request for memory, and there is one
-/// request for a name.
-pub fn parse_octets(alloc: Global, text: &[u8]) -> Result<(Vec<u8>, bool), NameError>
+/// most 255. The error is `Invalid` for any other text, with a text that says why, without a request for memory,
+/// and there is one request for a name.
+pub fn parse_octets(alloc: Global, text: &[u8]) -> Result<(Vec<u8>, bool), NameTextError>
     ensures ok { IfOk result (λ r. IsNameText (name_of r.0.items r.1) text.now) }
     ensures octets { IfOk result (λ r. AreNameOctets r.0.items) }
-    ensures refused { result ≡ Err NameError.Invalid → (name : DomainName) → IsNameText name text.now → ⊥ }
+    ensures refused { IfErr result (λ e. (e ≡ text_error.Memory) ⊎ ((name : DomainName) → IsNameText name text.now → ⊥)) }
     // a name's printed text reads back as that name
     ensures reads_back { (name : DomainName) → IsName name → HasOctets name → text.now ≡ name_text name →
-        MatchResult result (λ r. name_of r.0.items r.1 ≡ name) (λ e. e ≡ NameError.Memory) }
+        MatchResult result (λ r. name_of r.0.items r.1 ≡ name) (λ e. e ≡ text_error.Memory) }
 {
     let mut octets = NameBuffer::new();
-    let Some(is_fqdn) = read_name(text, &mut octets) else {
-        return Err(NameError::Invalid);
+    let is_fqdn = match read_name(text, &mut octets) {
+        Ok(is_fqdn) => is_fqdn,
+        Err(why) => return Err(NameTextError::Invalid(why)),
     };
     let octets = octets.to_vec(alloc)?;
     Ok((octets, is_fqdn))
@@ -155,14 +173,15 @@ pub fn parse_octets(alloc: Global, text: &[u8]) -> Result<(Vec<u8>, bool), NameE
 
 /// Whether an octet stands for itself in a label's text: a graphic character of ASCII but `.` and `\`.
 #[inline]
-pub(crate) fn is_plain(octet: u8) -> bool
+fn is_plain(octet: u8) -> bool
     ensures { OnTrue result (printed octet ≡ octet ∷ []) }
 {
     33 <= octet && octet <= 126 && octet != 46 && octet != 92
 }
 
 /// Whether each of a label's octets stands for itself in its text.
-fn is_plain_label(label: &[u8]) -> bool
+#[inline]
+pub(crate) fn is_plain_label(label: &[u8]) -> bool
     ensures { OnTrue result (label_text label.now ≡ label.now) }
 {
     for octet in label {

@@ -134,9 +134,9 @@ pub struct AddrParseError;
 /// Why a text was not read.
 #[derive(Clone, Copy, Debug, PartialEq, Eq, Error)]
 pub enum ParseError {
-    /// A word is missing.
-    #[error("a token is missing")]
-    MissingToken,
+    /// A word is missing; the text names what it stands for.
+    #[error("{0} missing")]
+    MissingToken(&'static str),
     /// A word or the whole text is wrong; the text says how.
     #[error("{0}")]
     Message(&'static str),

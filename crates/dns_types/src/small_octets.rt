@@ -1,11 +1,13 @@
 //! Octets that a value owns, a few of them without memory.
-ghost use Rattle.std.specs.Prelude.{◌≡◌, ◌==◌, ◌<◌, ◌≤◌, ◌↔◌, ℕ, List, [], length, All, IfOk, IsTrue};
+ghost use Rattle.std.specs.Prelude.{◌≡◌, ◌==◌, ◌<◌, ◌≤◌, ◌^◌, ◌↔◌, ℕ, List, [], length, All, IfOk, IsTrue};
 ghost use Rattle.std.specs.Box.{boxed_slice_items};
 ghost use Rattle.std.specs.Cmp.Lexicographic.{pointwise, slice_cmp, texts_ties, nat_list_cmp_total};
 ghost use Rattle.std.specs.Cmp.{partial_order_from_agreeing_total};
 ghost use Rattle.std.specs.Cmp.Rules.{comparing, hashing};
 ghost use Rattle.std.specs.Ordering.{nat_cmp, as_partial_cmp};
 ghost use Rattle.std.specs.Hash as fed;
+ghost use Rattle.std.specs.Slice.Iter.{iter_rest};
+ghost use Rattle.std.specs.Iterator.Adapters.{IterYieldsInOrder};
 ghost use Rattle.std.proofs.Common.{rules, refl};
 
 use crate::comparing::{same_arrays, same_octets};
@@ -14,9 +16,10 @@ use std::alloc::{AllocError, Global};
 use std::boxed::BoxedSlice;
 use std::cmp::Ordering;
 use std::convert::AsSlice;
-use std::fmt;
 use std::hash::{Hash, Hasher};
 use std::marker::Model;
+use std::ops::DerefSlice;
+use std::{fmt, slice};
 
 /// Up to `N` octets, without a request for memory.
 #[derive(Drop)]
@@ -91,6 +94,8 @@ enum Kept<const N: usize> {
 
 /// Octets that a value owns, which contracts see as their list: up to `N` of them stand in the value itself, and more in
 /// memory of their own. They are ordered by the first difference, and a proper beginning is less.
+///
+/// They have the methods of a slice, as `iter`, `get` and `first`, and an index. `eq_slice` compares them with a slice.
 pub struct SmallOctets<const N: usize> {
     alloc: Global,
     kept: Kept<N>,
@@ -197,6 +202,14 @@ impl<const N: usize> SmallOctets<N> {
         self.as_slice().is_empty()
     }
 
+    /// Whether these are the octets of the slice.
+    #[inline]
+    pub fn eq_slice(&self, octets: &[u8]) -> bool
+        ensures { IsTrue result ↔ (self.now ≡ octets.now) }
+    {
+        same_octets(self.as_slice(), octets)
+    }
+
     // Whether the octets are the same, wherever they stand.
     #[inline(never)]
     fn is_same_far(&self, other: &SmallOctets<N>) -> bool
@@ -229,6 +242,45 @@ impl<const N: usize> From<Vec<u8>> for SmallOctets<N> {
     #[inline]
     fn from(items: Vec<u8>) -> SmallOctets<N> {
         SmallOctets::from_vec(items)
+    }
+}
+
+impl<const N: usize> From<BoxedSlice<u8>> for SmallOctets<N> {
+    ghost from_gives = { λ items octets. octets ≡ boxed_slice_items items };
+
+    #[inline]
+    fn from(items: BoxedSlice<u8>) -> SmallOctets<N> {
+        SmallOctets::from_boxed(items)
+    }
+}
+
+impl<const N: usize> DerefSlice for SmallOctets<N> {
+    type Elem = u8;
+
+    ghost deref_gives = { λ octets items. items ≡ octets };
+
+    /// The octets, lent: what the methods of a slice and an index go through.
+    #[inline]
+    fn deref(&self) -> &[u8]
+        ensures value { result.now ≡ self.now }
+        ensures octets { All (λ octet. octet < 256) self.now }
+    {
+        self.as_slice()
+    }
+}
+
+/// The octets in their order.
+impl<'a, const N: usize> IntoIterator for &'a SmallOctets<N> {
+    type Item = &'a u8;
+
+    type IntoIter = slice::Iter<'a, u8>;
+
+    ghost into_iter_gives = { λ octets it. (iter_rest it ≡ octets.now) × (length (iter_rest it) < 2 ^ 64)
+        × IterYieldsInOrder ℕ };
+
+    #[inline]
+    fn into_iter(self) -> slice::Iter<'a, u8> {
+        self.as_slice().iter()
     }
 }
 

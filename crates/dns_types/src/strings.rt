@@ -1,11 +1,16 @@
 //! Lists of octet strings that a value owns.
-ghost use Rattle.std.specs.Prelude.{◌≡◌, ◌==◌, ◌++◌, ◌∷◌, ◌↔◌, ℕ, List, [], length, slice_get, OnOk, OnErr, IfOk, IsTrue};
+ghost use Rattle.std.specs.Prelude.{◌≡◌, ◌==◌, ◌<◌, ◌^◌, ◌++◌, ◌∷◌, ◌↔◌, ℕ, List, [], length, slice_get, OnOk, OnErr, IfOk, IsTrue};
 ghost use Rattle.std.specs.Option.{option_copied};
 ghost use Rattle.std.specs.Cmp.Lexicographic.{pointwise, slice_cmp, texts_ties, lists_ties, lists_total, nat_list_cmp_total, pointwise_decides};
 ghost use Rattle.std.specs.Cmp.{partial_order_from_agreeing_total, unsigned_Decides};
 ghost use Rattle.std.specs.Cmp.Rules.{comparing};
 ghost use Rattle.std.specs.Ordering.{nat_cmp, as_partial_cmp};
 ghost use Rattle.std.specs.Hash as fed;
+ghost use Rattle.std.specs.Slice.Iter.{iter_rest};
+ghost use Rattle.std.specs.Global.{Global};
+ghost use Rattle.std.specs.Vec.Iter.{into_iter_items, into_iter_len, into_iter_steps};
+ghost use Rattle.std.specs.Iterator.Adapters.{IterYieldsInOrder};
+ghost use Rattle.std.specs.Iterator.Runs.{EveryRun, ItemsAre};
 ghost use Rattle.std.proofs.Common.{rules, refl, ap};
 
 use crate::comparing::same_octets;
@@ -14,9 +19,13 @@ use std::alloc::{AllocError, Global};
 use std::cmp::Ordering;
 use std::hash::{Hash, Hasher};
 use std::marker::Model;
+use std::ops::DerefSlice;
+use std::{slice, vec};
 
 /// Strings of octets that a value owns, which contracts see as the list of their lists. They are
 /// ordered by the first string that differs, and a proper beginning is less.
+///
+/// They have the methods of a slice of `Octets`, as `iter` and `first`, and an index.
 #[derive(Debug, Drop)]
 pub struct Strings {
     items: Vec<Octets>,
@@ -114,6 +123,66 @@ impl Strings {
     #[inline]
     pub fn allocator(&self) -> Global {
         *self.items.allocator()
+    }
+}
+
+impl From<Vec<Octets>> for Strings {
+    ghost from_gives = { λ items strings. strings ≡ items.items };
+
+    #[inline]
+    fn from(items: Vec<Octets>) -> Strings {
+        Strings::from_vec(items)
+    }
+}
+
+impl From<Strings> for Vec<Octets> {
+    ghost from_gives = { λ strings items. items.items ≡ strings };
+
+    #[inline]
+    fn from(strings: Strings) -> Vec<Octets> {
+        strings.into_vec()
+    }
+}
+
+impl DerefSlice for Strings {
+    type Elem = Octets;
+
+    ghost deref_gives = { λ strings items. items ≡ strings };
+
+    /// The strings, lent: what the methods of a slice and an index go through.
+    #[inline]
+    fn deref(&self) -> &[Octets] {
+        self.as_slice()
+    }
+}
+
+/// The strings in their order.
+impl<'a> IntoIterator for &'a Strings {
+    type Item = &'a Octets;
+
+    type IntoIter = slice::Iter<'a, Octets>;
+
+    ghost into_iter_gives = { λ strings it. (iter_rest it ≡ strings.now) × (length (iter_rest it) < 2 ^ 64)
+        × IterYieldsInOrder (List ℕ) };
+
+    #[inline]
+    fn into_iter(self) -> slice::Iter<'a, Octets> {
+        self.as_slice().iter()
+    }
+}
+
+/// The strings in their order. They are moved.
+impl IntoIterator for Strings {
+    type Item = Octets;
+
+    type IntoIter = vec::IntoIter<Octets>;
+
+    ghost into_iter_gives = { λ strings it. (into_iter_items it ≡ strings) × (into_iter_len it ≡ length strings) × (into_iter_len it < 2 ^ 64)
+        × EveryRun (into_iter_steps {X = List ℕ} {Z = Global}) (λ p. ItemsAre p (into_iter_items p.from)) };
+
+    #[inline]
+    fn into_iter(self) -> vec::IntoIter<Octets> {
+        self.into_vec().into_iter()
     }
 }
 

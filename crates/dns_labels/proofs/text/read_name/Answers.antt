@@ -1,6 +1,6 @@
 use Rattle.std.proofs.Common.{arith, length, length-drop, ◌+◌, ◌<◌}
 use Rattle.std.proofs.lemmas.List.{take_rest}
-use Rattle.dns_labels.proofs.NameSteps.{name_none, name_ends, name_dotted, name_more, name_refused, reads_nothing, reads_root}
+use Rattle.dns_labels.proofs.NameSteps.{name_none, name_ends, name_dotted, name_more, name_refused, reads_nothing, reads_root, said_of_err}
 use Rattle.dns_labels.proofs.text.read_name.Goals as goal
 use Rattle.dns_labels.proofs.text.read_name.Goals.{else-text-eq1-via-then-text-eq1+else-text-eq46, else-text-eq1-via-else-text-eq1}
 
@@ -14,7 +14,7 @@ pub labels-init : goal.labels-init
 labels-init c = (name_none c.args.text.now c.args.octets.now c.requires, omega arith)
 
 pub returns-in_err-taken-clause-none : goal.returns-in_err-taken-clause-none
-returns-in_err-taken-clause-none c = rw c.from_residual.ensures (λ name n.
+returns-in_err-taken-clause-none c = said_of_err c.from_residual.result c.from_residual.ensures.0 (λ name n.
     name_refused c.args.text.now c.labels.at c.labels.octets c.labels.invariant.0 (omega arith)
     (λ one dot. elim c.else-text-eq1.branch [
       | else-text-eq1-via-then-text-eq1+else-text-eq46 w ↦ omega arith

@@ -2,6 +2,7 @@ use Rattle.std.proofs.Common.{arith, length-append}
 use Rattle.std.proofs.lemmas.List.{take_rest, drop_all}
 use Rattle.dns_labels.proofs.LabelSteps.{label_none, label_done, label_refused, label_more, label_full, at_dot}
 use Rattle.dns_labels.proofs.text.read_octets.Goals as goal
+use Rattle.dns_labels.proofs.text.read_octets.Goals.{then-octets-test+else-text-at-ne46, else-octets-test}
 
 pub octets-init : goal.octets-init
 octets-init c = (label_none c.args.text.now c.args.octets.now, omega (arith, c.min-left.ensures, c.len.ensures))
@@ -11,24 +12,23 @@ returns-then-left-eq0-clause-none c = λ label t rest lt e end short room.
     let f = label_full c.args.text.now c.octets.at c.args.octets.now c.octets.octets c.octets.invariant.0 (omega arith) (omega arith) label t rest lt e end in
     omega (arith, c.octets.invariant.1)
 
-pub returns-in_err-octet-clause-none : goal.returns-in_err-octet-clause-none
-returns-in_err-octet-clause-none c = rw c.from_residual.ensures (λ label t rest lt e end short room.
+pub returns-in_default-clause-none : goal.returns-in_default-clause-none
+returns-in_default-clause-none c = λ label t rest lt e end short room.
     label_refused c.args.text.now c.octets.at c.args.octets.now c.octets.octets c.octets.invariant.0 (omega arith) (omega arith)
-    (rw (take_rest c.args.text.now c.octets.at) at c.in_err-octet.ensures.none) label t rest lt e end)
+    (rw (take_rest c.args.text.now c.octets.at) at c.in_default.ensures.none) label t rest lt e end
 
 pub octets-preserved : goal.octets-preserved
 octets-preserved c =
-    let e = rw (take_rest c.args.text.now c.octets.at) at c.in_ok-octet.ensures.found in
-    let f = rw (take_rest c.args.text.now c.octets.at) at c.in_ok-octet.ensures.length in
+    let e = rw (take_rest c.args.text.now c.octets.at) at c.in-Some.ensures.found in
+    let f = rw (take_rest c.args.text.now c.octets.at) at c.in-Some.ensures.length in
     rw c.push.ensures (
       label_more c.args.text.now c.octets.at _ _ c.args.octets.now c.octets.octets c.octets.invariant.0 (omega arith) (omega arith) f.1 e,
       simp length-append (omega (arith, c.octets.invariant.1)),
     )
 
-pub returns-else-text-at-ne46-clause-some : goal.returns-else-text-at-ne46-clause-some
-returns-else-text-at-ne46-clause-some c = label_done c.args.text.now c.octets.at c.args.octets.now c.octets.octets c.octets.invariant.0
-    (at_dot c.args.text.now c.octets.at (omega arith) (omega arith))
-
-pub returns-after-octets-clause-some : goal.returns-after-octets-clause-some
-returns-after-octets-clause-some c = label_done c.args.text.now c.octets.at c.args.octets.now c.octets.octets c.octets.invariant.0
-    (rw (drop_all c.octets.at c.args.text.now (omega arith)) tt)
+pub returns-clause-some : goal.returns-clause-some
+returns-clause-some c = label_done c.args.text.now c.octets.at c.args.octets.now c.octets.octets c.octets.invariant.0
+    (elim c.octets-test.branch [
+      | then-octets-test+else-text-at-ne46 w ↦ at_dot c.args.text.now c.octets.at (omega arith) (omega arith)
+      | else-octets-test w ↦ rw (drop_all c.octets.at c.args.text.now (omega arith)) tt
+    ])
