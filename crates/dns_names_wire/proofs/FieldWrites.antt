@@ -1,21 +1,34 @@
 -- Writing fields one after the other.
-use Rattle.std.proofs.Common.{◌≡◌, Bool, true, false, ◌&&◌, ℕ, List, [], ◌∷◌, ◌++◌, length, refl, sym, ap, ◌∙◌, arith, append_assoc, subst, Result, Ok, Err}
+use Rattle.std.proofs.Common.{◌≡◌, Bool, true, false, ◌&&◌, ℕ, ◌≤◌, List, [], ◌∷◌, ◌++◌, length, refl, sym, ap, ◌∙◌, arith, append_assoc, subst, Result, Ok, Err}
 use Rattle.std.proofs.lemmas.List.{length-append, append-nil}
 use Rattle.std.specs.Result.{IsErrAnd}
 use Rattle.dns_names_wire.specs.State.{Writing}
 use Rattle.dns_fields.specs.declared.RDataEncoding.{RDataEncoding}
 use Rattle.dns_fields.specs.Fields.{Kind, Octets, Rest, Value, Values, Wrote, is_emittable, canonical, field_octets}
-use Rattle.dns_names_wire.specs.Words.{AppendedField, Appended, Keeps, Extends, NoRoomField, NoRoom, UnfitField, Unfit, Because}
+use Rattle.dns_names_wire.specs.Words.{AppendedField, Appended, Keeps, WithinLimit, Extends, NoRoomField, NoRoom, UnfitField, Unfit, Because}
 use Rattle.dns_names_wire.specs.Words.{StoppedField, Stopped, Emits, EmitsAs, EmitsField}
 use Rattle.dns_types.specs.declared.error.ProtoError.{ProtoError}
 use Rattle.dns_types.specs.declared.error.ProtoError.TheVariants as proto
 use Rattle.dns_fields.proofs.FieldLaws.{wrote_tail}
 
+-- octets that end within the limit
+pub within_limit : (w e : Writing) → length e.octets ≤ w.limit → WithinLimit w e
+within_limit w e h = λ n old limit. omega (arith, h, limit)
+
+-- as many octets as there were
+pub as_long : (w e : Writing) → length e.octets ≤ length w.octets → WithinLimit w e
+as_long w e h = λ n old limit. omega (arith, h, old)
+
 pub keeps_same : (w : Writing) → Keeps w w
-keeps_same w = record { limit = refl; mode = refl; target = refl }
+keeps_same w = record { limit = refl; mode = refl; target = refl; room = as_long w w (omega arith) }
 
 pub keeps_then : {w b e : Writing} → Keeps w b → Keeps b e → Keeps w e
-keeps_then f g = record { limit = g.limit ∙ f.limit; mode = g.mode ∙ f.mode; target = g.target ∙ f.target }
+keeps_then f g = record {
+  limit = g.limit ∙ f.limit;
+  mode = g.mode ∙ f.mode;
+  target = g.target ∙ f.target;
+  room = λ n old limit. g.room n (f.room n old limit) (omega (arith, limit, f.limit));
+}
 
 pub appended_last : (w : Writing) → Appended w.mode w [] tt w
 appended_last w = record { keeps = keeps_same w; fields = refl }
@@ -109,11 +122,11 @@ octets_emit n s (Err e) old new l h = record
 -- in another mode, and the earlier one put back
 in_mode : (kinds : List Kind) (vs : Values kinds) (mode : RDataEncoding) (r : Result (Unit {0}) ProtoError) (old new : Writing)
     → Emits kinds vs r (record old { mode = mode }) new → EmitsAs mode kinds vs r old (record new { mode = old.mode })
-in_mode kinds vs mode (Ok x) old new h = record { keeps = record { limit = h.keeps.limit; mode = refl; target = h.keeps.target }; fields = h.fields }
+in_mode kinds vs mode (Ok x) old new h = record { keeps = record { limit = h.keeps.limit; mode = refl; target = h.keeps.target; room = h.keeps.room }; fields = h.fields }
 in_mode kinds vs mode (Err e) old new h =
     record {
       extends = record {
-        keeps = record { limit = h.extends.keeps.limit; mode = refl; target = h.extends.keeps.target };
+        keeps = record { limit = h.extends.keeps.limit; mode = refl; target = h.extends.keeps.target; room = h.extends.keeps.room };
         tail =
             h.extends.tail;
         octets = h.extends.octets;
@@ -144,7 +157,7 @@ pub field_extends : (k : Kind) (v : Value k) (r : Result (Unit {0}) ProtoError) 
 field_extends k v (Ok x) old new h = let t = wrote_tail h.field in record { keeps = h.keeps; tail = t.0; octets = t.1 }
 field_extends k v (Err e) old new h = h.extends
 
-all_tail : (mode : RDataEncoding) (kinds : List Kind) (vs : Values kinds) (m m' : List ℕ) → Wrote mode m kinds vs m' → (t : List ℕ) × (m' ≡ m ++ t)
+pub all_tail : (mode : RDataEncoding) (kinds : List Kind) (vs : Values kinds) (m m' : List ℕ) → Wrote mode m kinds vs m' → (t : List ℕ) × (m' ≡ m ++ t)
 all_tail mode [] vs m m' h = ([], h ∙ sym (append-nil m))
 all_tail mode (k ∷ kinds) vs m m' h =
     let t = wrote_tail h.1 in

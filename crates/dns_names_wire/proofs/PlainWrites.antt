@@ -8,9 +8,10 @@ use Rattle.dns_fields.specs.declared.RDataEncoding.{RDataEncoding}
 use Rattle.dns_fields.specs.Pieces.{string}
 use Rattle.dns_fields.specs.Fields.{Kind, Number, Octets, Name, Text, Texts, Rest, Options, Parameters, Bitmap, Values, Wrote, AllFit}
 use Rattle.dns_fields.specs.Fields.{is_emittable, all_emittable, canonical, field_octets}
-use Rattle.dns_names_wire.specs.Words.{AppendedField, Appended, NoRoom, Unfit, Stopped, Emits, EmitsField}
+use Rattle.dns_names_wire.specs.Words.{AppendedField, Appended, WithinLimit, Stopped, Emits, EmitsField}
 use Rattle.dns_types.specs.declared.error.ProtoError.{ProtoError}
-use Rattle.dns_names_wire.proofs.FieldWrites.{keeps_then, appended_then, stopped_then, because_map}
+use Rattle.dns_names_wire.proofs.FieldWrites.{keeps_then, appended_then, stopped_then, because_map, all_tail}
+use Rattle.dns_fields.proofs.FieldLaws.{wrote_tail}
 
 -- ---- numbers that are appended as one run of octets
 
@@ -93,6 +94,33 @@ abbrev pub joined : (kinds others : List Kind) → Values kinds → Values other
 joined [] others vs ws = ws
 joined (k ∷ kinds) others vs ws = (vs.0, joined kinds others vs.1 ws)
 
+-- The first of some fields was appended where all of them were, and the others behind it.
+first_room : (k : Kind) (kinds : List Kind) (vs : Values (k ∷ kinds)) (w b : Writing) (f : Appended w.mode w (k ∷ kinds) vs b)
+    → WithinLimit w (record w { octets = f.fields.0 })
+first_room k kinds vs w b f = λ n old limit.
+    let t = all_tail w.mode kinds vs.1 f.fields.0 b.octets f.fields.2 in
+    omega (arith, f.keeps.room n old limit, ap length t.1, length-append f.fields.0 t.0)
+
+first_appended : (k : Kind) (kinds : List Kind) (vs : Values (k ∷ kinds)) (w b : Writing) (f : Appended w.mode w (k ∷ kinds) vs b)
+    → AppendedField w k vs.0 (record w { octets = f.fields.0 })
+first_appended k kinds vs w b f =
+    record { keeps = record { limit = refl; mode = refl; target = refl; room = first_room k kinds vs w b f }; field = f.fields.1 }
+
+others_appended : (k : Kind) (kinds : List Kind) (vs : Values (k ∷ kinds)) (w b : Writing) (f : Appended w.mode w (k ∷ kinds) vs b)
+    → Appended w.mode (record w { octets = f.fields.0 }) kinds vs.1 b
+others_appended k kinds vs w b f =
+    let t = wrote_tail f.fields.1 in
+    let longer : length w.octets ≤ length f.fields.0 = omega (arith, ap length t.1, length-append w.octets t.0) in
+    record {
+      keeps = record {
+        limit = f.keeps.limit;
+        mode = f.keeps.mode;
+        target = f.keeps.target;
+        room = λ n old limit. f.keeps.room n (omega (arith, old, longer)) limit;
+      };
+      fields = f.fields.2;
+    }
+
 -- fields are emitted, and then others
 pub appended_more : (kinds others : List Kind) (vs : Values kinds) (ws : Values others) (w b e : Writing) → Appended w.mode w kinds vs b
     → Appended b.mode b others ws e → Appended w.mode w (kinds ++ others) (joined kinds others vs ws) e
@@ -100,10 +128,8 @@ appended_more [] others vs ws w b e f g =
     let same : Wrote b.mode w.octets others ws e.octets = subst (λ (o : List ℕ). Wrote b.mode o others ws e.octets) f.fields g.fields in
     record { keeps = keeps_then f.keeps g.keeps; fields = subst (λ (mode : RDataEncoding). Wrote mode w.octets others ws e.octets) f.keeps.mode same }
 appended_more (k ∷ kinds) others vs ws w b e f g =
-    let step : AppendedField w k vs.0 (record w { octets = f.fields.0 }) =
-    record { keeps = record { limit = refl; mode = refl; target = refl }; field = f.fields.1 } in
-    appended_then step (appended_more kinds others vs.1 ws (record w { octets = f.fields.0 }) b e
-    (record { keeps = record { limit = f.keeps.limit; mode = f.keeps.mode; target = f.keeps.target }; fields = f.fields.2 }) g)
+    appended_then (first_appended k kinds vs w b f)
+    (appended_more kinds others vs.1 ws (record w { octets = f.fields.0 }) b e (others_appended k kinds vs w b f) g)
 
 pub stopped_more : (e : ProtoError) (kinds others : List Kind) (vs : Values kinds) (ws : Values others) (w b n : Writing) → Appended w.mode w kinds vs b
     → Stopped e b others ws n → Stopped e w (kinds ++ others) (joined kinds others vs ws) n
@@ -117,10 +143,8 @@ stopped_more e [] others vs ws w b n f g = record {
   why = because_map e _ _ _ _ (λ r. record { full = omega (arith, r.full, f.keeps.limit, ap length f.fields) }) (λ u. u) g.why;
 }
 stopped_more e (k ∷ kinds) others vs ws w b n f g =
-    let step : AppendedField w k vs.0 (record w { octets = f.fields.0 }) =
-    record { keeps = record { limit = refl; mode = refl; target = refl }; field = f.fields.1 } in
-    stopped_then step (stopped_more e kinds others vs.1 ws (record w { octets = f.fields.0 }) b n
-    (record { keeps = record { limit = f.keeps.limit; mode = f.keeps.mode; target = f.keeps.target }; fields = f.fields.2 }) g)
+    stopped_then (first_appended k kinds vs w b f)
+    (stopped_more e kinds others vs.1 ws (record w { octets = f.fields.0 }) b n (others_appended k kinds vs w b f) g)
 
 canonical_more : (kinds others : List Kind) (vs : Values kinds) (ws : Values others)
     → length (canonical kinds vs) ≤ length (canonical (kinds ++ others) (joined kinds others vs ws))

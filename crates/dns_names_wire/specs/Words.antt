@@ -6,7 +6,7 @@ use Rattle.dns_types.specs.declared.error.ProtoError.{ProtoError}
 use Rattle.dns_types.specs.declared.error.ProtoError.TheVariants as proto
 use Rattle.dns_fields.specs.declared.RDataEncoding.{RDataEncoding}
 use Rattle.dns_fields.specs.Octets.{AreOctets}
-use Rattle.dns_fields.specs.Fields.{Kind, Number, Value, Values, Field, Stands, WroteField, Wrote, is_emittable, all_emittable, EndsItself}
+use Rattle.dns_fields.specs.Fields.{Kind, Number, Name, Value, Values, Field, Stands, WroteField, Wrote, is_emittable, all_emittable, EndsItself}
 use Rattle.dns_fields.specs.Fields.{canonical, field_octets}
 use Rattle.dns_names_wire.specs.State.{Reading, Writing}
 
@@ -69,6 +69,14 @@ always kinds vs e = Unit {0}
 abbrev pub LacksText : Reading → Reading → Type 0
 LacksText old new = ((new ≡ old) × LacksOctets old 1) ⊎ ((n : ℕ) × TookField old (Number 1) n new × LacksOctets new n)
 
+-- refused since fewer than n octets are left
+abbrev pub IsCut : ℕ → Reading → DecodeError → Reading → Type 0
+IsCut n old e new = (e ≡ decode.InsufficientBytes) × LacksOctets old n
+
+-- refused since memory ran out, or since no name stands there
+abbrev pub IsNoName : Reading → DecodeError → Reading → Type 0
+IsNoName old e new = (e ≡ decode.Memory) ⊎ ((e ≡ decode.NameInvalid) × LacksField old Name)
+
 -- reads a value exactly where one stands by a relation of message, place, value and end
 abbrev pub ReadsBy : {T : Type 0} → (List ℕ → ℕ → T → ℕ → Type 0) → Result T DecodeError → Reading → Reading → Type 0
 ReadsBy stands (Ok x) old new = StaysBehind old new × stands old.message old.index x new.index
@@ -114,11 +122,16 @@ ReadsWindow kinds condition view n (Err e) old new = RefusedWindow e old n kinds
 
 -- ---- writing
 
--- the same limit, mode and vector
+-- no more octets than the limit, or than there were: any n that neither passes is not passed
+abbrev pub WithinLimit : Writing → Writing → Type 0
+WithinLimit old new = (n : ℕ) → length old.octets ≤ n → old.limit ≤ n → length new.octets ≤ n
+
+-- the same limit, mode and vector, and no octet past the limit
 pub record Keeps (old new : Writing) : Type 0 where
   pub limit : new.limit ≡ old.limit
   pub mode : new.mode ≡ old.mode
   pub target : new.target ≡ old.target
+  pub room : WithinLimit old new
 
 -- written in the encoder's mode
 pub record AppendedField (old : Writing) (k : Kind) (v : Value k) (new : Writing) : Type 0 where

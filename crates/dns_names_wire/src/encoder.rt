@@ -20,8 +20,8 @@ const MAX_SIZE: usize = 65535;
 
 /// Octets that are written one behind the other to the end of a vector, up to a limit (RFC 1035, 4.1).
 ///
-/// Each call appends whole, or it is refused for memory, or for buffer space exactly where the octets would pass the
-/// limit. After a refusal the octets that were there stand.
+/// Each call appends whole, or it is refused by `Memory`, or by `MaxBufferSizeExceeded` exactly where the octets would
+/// pass the limit. After a refusal the octets that were there stand.
 ///
 /// ```rust
 /// fn emit_record(
@@ -37,9 +37,6 @@ const MAX_SIZE: usize = 65535;
 ///     let place = encoder.place()?;
 ///     rdata.emit(encoder)?;
 ///     let length = encoder.len_since_place(&place);
-///     if length > 65535 {
-///         return Err(ProtoError::Message("data past 65535 octets"));
-///     }
 ///     encoder.replace(place, length as u16);
 ///     Ok(())
 /// }
@@ -55,7 +52,7 @@ pub struct BinEncoder<'a> {
 }
 
 impl<'a> Model for BinEncoder<'a> {
-    ghost use Rattle.std.specs.Prelude.{◌≤◌};
+    ghost use Rattle.std.specs.Prelude.{◌≤◌, length};
     ghost use Rattle.dns_fields.specs.Octets.{AreOctets};
     ghost use Rattle.dns_names_wire.specs.State.{Writing};
 
@@ -63,7 +60,7 @@ impl<'a> Model for BinEncoder<'a> {
 
     ghost view = { λ e. record { octets = e.octets.now.items; limit = e.limit; mode = e.mode; target = e.octets.ghost_name } };
 
-    ghost invariant = { λ e. (e.limit ≤ 65535) × AreOctets e.octets.now.items };
+    ghost invariant = { λ e. (e.limit ≤ 65535) × AreOctets e.octets.now.items × (length e.octets.now.items ≤ 65535) };
 }
 
 /// Where two octets stand that are still to be replaced by a number.
@@ -106,10 +103,12 @@ impl<'a> BinEncoder<'a> {
         self.alloc
     }
 
-    /// How many octets were written.
+    /// How many octets were written: at most 65535, as many as the limit may be.
     #[inline]
     pub fn len(&self) -> usize
         ensures value { result ≡ length self.now.octets }
+        ensures small { result ≤ 65535 }
+        ensures limited { self.now.limit ≤ 65535 }
         ensures octets { AreOctets self.now.octets }
     {
         self.octets.len()
@@ -283,7 +282,8 @@ impl<'a> BinEncoder<'a> {
     /// How many octets were written behind the two that were placed. The caller owes a place of which both octets stand.
     pub fn len_since_place(&self, place: &Place) -> usize
         requires { place.now.index + 2 ≤ length self.now.octets }
-        ensures { place.now.index + 2 + result ≡ length self.now.octets }
+        ensures value { place.now.index + 2 + result ≡ length self.now.octets }
+        ensures small { result < 65534 }
     {
         self.octets.len() - place.index - 2
     }

@@ -7,7 +7,7 @@ ghost use Rattle.dns_fields.specs.Octets.{AreOctets};
 ghost use Rattle.dns_fields.specs.Fields.{Name as NameKind};
 ghost use Rattle.dns_labels.specs.Labels.{AreNameOctets, name_of};
 ghost use Rattle.dns_labels.specs.Text.{HasOctets};
-ghost use Rattle.dns_names_wire.specs.Words.{ReadsField, ReadsBy, LacksField, EmitsField, Extends};
+ghost use Rattle.dns_names_wire.specs.Words.{ReadsField, ReadsBy, LacksField, EmitsField, Extends, IsNoName};
 ghost use Rattle.dns_names_wire.specs.NameValues.{root_name, label_count, has_asterisk};
 
 mod building;
@@ -201,6 +201,8 @@ fn are_octets(octets: &[u8])
 
 impl BinDecodable for Name {
     ghost stands = { IsNameIn };
+
+    ghost refuses = { IsNoName };
 
     /// Reads the name that stands next, its letters kept: labels, and a 0, or a pointer to an earlier place from
     /// which the rest stands (RFC 1035, 3.1 and 4.1.4). Takes memory once. After a refusal the place is as it was.

@@ -2,7 +2,7 @@
 
 ghost use Rattle.std.specs.Prelude.{◌≡◌, ◌+◌, ◌<◌, ◌≤◌, ◌++◌, ℕ, List, [], ◌∷◌, length, length as list_length, decimal, OnErr, IfErr};
 ghost use Rattle.std.specs.Net.Addr.{ipv4_octets};
-ghost use Rattle.dns_names_wire.specs.Words.{ReadsIf, ReadsBy, ReadsWindow, Emits, LacksOctets, always};
+ghost use Rattle.dns_names_wire.specs.Words.{ReadsIf, ReadsBy, ReadsWindow, Emits, LacksOctets, always, IsCut};
 ghost use Rattle.dns_rdata_base.specs.A.{a_shape, a_fields, a_refusal};
 
 use crate::decoding::{DecodesFields, read_whole};
@@ -34,6 +34,8 @@ impl BinDecodable for A {
     ghost use Rattle.dns_fields.specs.Fields.{Stands};
 
     ghost stands = { λ m p x q. Stands m p a_shape (a_fields x) q };
+
+    ghost refuses = { IsCut 4 };
 
     /// Reads four octets. Where fewer are left it takes them, and is refused by `InsufficientBytes`.
     #[inline]

@@ -2,7 +2,7 @@
 
 ghost use Rattle.std.specs.Prelude.{◌≡◌, ◌+◌, ◌-◌, ◌*◌, ◌/◌, ◌<◌, ◌≤◌, ℕ, List, [], ◌∷◌, length, length as list_length, OnErr, IfErr};
 ghost use Rattle.std.specs.Net.Addr.{ipv6_segments, ipv6_octets};
-ghost use Rattle.dns_names_wire.specs.Words.{ReadsIf, ReadsBy, ReadsWindow, Emits, LacksOctets, always};
+ghost use Rattle.dns_names_wire.specs.Words.{ReadsIf, ReadsBy, ReadsWindow, Emits, LacksOctets, always, IsCut};
 ghost use Rattle.dns_rdata_base.specs.AAAA.{aaaa_shape, aaaa_fields, aaaa_refusal};
 
 use crate::decoding::{DecodesFields, read_whole};
@@ -35,6 +35,8 @@ impl BinDecodable for AAAA {
     ghost use Rattle.dns_fields.specs.Fields.{Stands};
 
     ghost stands = { λ m p x q. Stands m p aaaa_shape (aaaa_fields x) q };
+
+    ghost refuses = { IsCut 16 };
 
     /// Reads sixteen octets, two by two. Where fewer are left it takes the pairs that are there, and is refused
     /// by `InsufficientBytes`.

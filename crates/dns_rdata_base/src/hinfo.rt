@@ -55,6 +55,8 @@ impl BinDecodable for HINFO {
 
     ghost stands = { λ m p x q. Stands m p hinfo_shape (hinfo_fields x) q };
 
+    ghost refuses = { hinfo_refusal };
+
     /// Reads two character strings. Where one lacks octets it is refused by `InsufficientBytes`: the strings before it,
     /// and its length octet where that is there, are taken. Memory is asked for once for each string of more than 32
     /// octets, when both were read.

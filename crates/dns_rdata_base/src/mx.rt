@@ -41,6 +41,8 @@ impl MX {
 impl BinDecodable for MX {
     ghost stands = { λ m p x q. Stands m p mx_shape (mx_fields x) q };
 
+    ghost refuses = { IsLack mx_shape };
+
     /// Reads the fields in order. Where one does not stand it is refused, and those before it are taken: by
     /// `InsufficientBytes` where a number lacks octets, `NameInvalid` where no name stands, `Memory` where memory runs out.
     #[tactic(auto, using(dns_names_wire::proofs::FieldReads::reading))]

@@ -25,6 +25,8 @@ pub struct CNAME(pub Name);
 impl BinDecodable for CNAME {
     ghost stands = { λ m p x q. Stands m p name_shape (cname_fields x) q };
 
+    ghost refuses = { IsLack name_shape };
+
     /// Reads the name. Where none stands it is refused by `NameInvalid`, where memory runs out by `Memory`; the place
     /// is then as it was.
     #[tactic(auto, using(dns_names_wire::proofs::FieldReads::reading))]
@@ -163,6 +165,8 @@ pub struct NS(pub Name);
 
 impl BinDecodable for NS {
     ghost stands = { λ m p x q. Stands m p name_shape (ns_fields x) q };
+
+    ghost refuses = { IsLack name_shape };
 
     /// Reads the name. Where none stands it is refused by `NameInvalid`, where memory runs out by `Memory`; the place
     /// is then as it was.
@@ -303,6 +307,8 @@ pub struct PTR(pub Name);
 impl BinDecodable for PTR {
     ghost stands = { λ m p x q. Stands m p name_shape (ptr_fields x) q };
 
+    ghost refuses = { IsLack name_shape };
+
     /// Reads the name. Where none stands it is refused by `NameInvalid`, where memory runs out by `Memory`; the place
     /// is then as it was.
     #[tactic(auto, using(dns_names_wire::proofs::FieldReads::reading))]
@@ -441,6 +447,8 @@ pub struct ANAME(pub Name);
 
 impl BinDecodable for ANAME {
     ghost stands = { λ m p x q. Stands m p name_shape (aname_fields x) q };
+
+    ghost refuses = { IsLack name_shape };
 
     /// Reads the name. Where none stands it is refused by `NameInvalid`, where memory runs out by `Memory`; the place
     /// is then as it was.

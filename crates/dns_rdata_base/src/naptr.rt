@@ -112,6 +112,8 @@ impl NAPTR {
 impl BinDecodable for NAPTR {
     ghost stands = { λ m p x q. Stands m p naptr_shape (naptr_fields x) q × naptr_condition (naptr_fields x) };
 
+    ghost refuses = { naptr_refusal };
+
     /// Reads the fields in order. The flags are tested as soon as they are taken: where an octet of theirs is no letter
     /// and no digit it is refused by `NaptrFlagsInvalid`. Where a field does not stand it is refused by
     /// `InsufficientBytes` or `NameInvalid`, and those before it are taken; where memory runs out by `Memory`.

@@ -132,6 +132,8 @@ fn five_numbers(a: u32, b: u32, c: u32, d: u32, e: u32) -> [u8; 20]
 impl BinDecodable for SOA {
     ghost stands = { λ m p x q. Stands m p soa_shape (soa_fields x) q };
 
+    ghost refuses = { IsLack soa_shape };
+
     /// Reads the fields in order. Where one does not stand it is refused, and those before it are taken: by
     /// `InsufficientBytes` where a number lacks octets, `NameInvalid` where no name stands, `Memory` where memory runs out.
     #[tactic(auto, using(dns_names_wire::proofs::FieldReads::reading))]

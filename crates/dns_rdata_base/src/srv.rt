@@ -47,6 +47,8 @@ impl SRV {
 impl BinDecodable for SRV {
     ghost stands = { λ m p x q. Stands m p srv_shape (srv_fields x) q };
 
+    ghost refuses = { IsLack srv_shape };
+
     /// Reads the fields in order. Where one does not stand it is refused, and those before it are taken: by
     /// `InsufficientBytes` where a number lacks octets, `NameInvalid` where no name stands, `Memory` where memory runs out.
     #[tactic(auto, using(dns_names_wire::proofs::FieldReads::reading))]

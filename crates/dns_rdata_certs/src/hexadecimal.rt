@@ -23,7 +23,7 @@ impl HEX {
     }
 
     /// The octets of a text of digits of either case, in which spaces, tabs, CR and LF may stand anywhere. An odd
-    /// number of digits or any other octet is refused by `Message`.
+    /// number of digits or any other octet is refused by `Message`, which says which of both it is.
     pub fn decode(&self, alloc: Global, text: &[u8]) -> Result<Vec<u8>, ParseError>
         ensures decodes { DecodesHex text.now result }
     {
@@ -31,7 +31,10 @@ impl HEX {
         match hex::decode(alloc, digits.as_slice()) {
             Ok(octets) => Ok(octets),
             Err(FromHexError::OutOfMemory) => Err(ParseError::Memory),
-            Err(_) => Err(ParseError::Message("invalid hexadecimal text")),
+            Err(FromHexError::OddLength) => {
+                Err(ParseError::Message("odd number of hexadecimal digits"))
+            }
+            Err(_) => Err(ParseError::Message("a character that is no hexadecimal digit")),
         }
     }
 }

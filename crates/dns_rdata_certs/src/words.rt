@@ -16,16 +16,46 @@ use crate::smimea::SMIMEA;
 use crate::sshfp::{Algorithm, FingerprintType, SSHFP};
 use crate::tlsa::{CertUsage, Matching, Selector, TLSA};
 use dns_names_wire::{ParseError, SmallOctets};
-use dns_words::{join_words, next_base64, next_u8, next_u16, next_word, no_more};
+use dns_words::{
+    Field, base64_field, join_words, next_base64, next_u8, next_u16, next_word, no_more,
+    number_field,
+};
 use std::alloc::Global;
 use std::convert::AsStr;
+
+const CERT_TYPE: Field = Field {
+    name: "CERT cert_type",
+    wrong: "Invalid digit found in cert_type token",
+};
+
+const KEY_TAG: Field = Field {
+    name: "CERT key_tag",
+    wrong: "Invalid digit found in key_tag token",
+};
+
+const CERT_ALGORITHM: Field = Field {
+    name: "CERT algorithm",
+    wrong: "Invalid digit found in algorithm token",
+};
+
+const CERT_DATA: Field = base64_field!("CERT data");
+
+const SSHFP_ALGORITHM: Field = number_field!("SSHFP algorithm");
+
+const FINGERPRINT_TYPE: Field = number_field!("SSHFP fingerprint type");
+// The fields of TLSA, which SMIMEA has too (RFC 6698, 2.1).
+const CERT_USAGE: Field = number_field!("certificate usage");
+
+const SELECTOR: Field = number_field!("selector");
+
+const MATCHING: Field = number_field!("matching type");
 
 // The octets of hexadecimal digits. A word without a character is refused.
 fn hex_of(alloc: Global, word: &str) -> Result<SmallOctets<64>, ParseError>
     ensures { ReadsText hex_digits (λ x. x) result word.now }
 {
     if word.len() == 0 {
-        return Err(ParseError::Message("no hexadecimal digits"));
+        return Err(ParseError::Message("no hexadecimal digits in SSHFP fingerprint token"));
     }
     let octets = HEX.decode(alloc, word.as_bytes())?;
     Ok(SmallOctets::from_vec(octets))
@@ -37,7 +67,7 @@ fn some_hex_of(alloc: Global, digits: &[u8]) -> Result<SmallOctets<64>, ParseErr
 {
     let octets = SmallOctets::from_vec(HEX.decode(alloc, digits)?);
     if octets.is_empty() {
-        return Err(ParseError::Message("no hexadecimal digits"));
+        return Err(ParseError::Message("certificate association data missing"));
     }
     Ok(octets)
 }
@@ -51,7 +81,7 @@ fn next_hex<S: AsStr + Drop, I: Iterator<Item = S>>(
     ensures reads { ReadsWord I.next_gives S.text hex_digits (λ x. x) result words.old words.new }
     ensures goes { GoesOn I.can_next I.remaining result words.old words.new }
 {
-    let word = next_word(words)?;
+    let word = next_word(words, "SSHFP fingerprint")?;
     hex_of(alloc, word.as_str())
 }
 
@@ -64,7 +94,7 @@ fn next_data<S: AsStr + Drop, I: Iterator<Item = S>>(
     ensures reads { ReadsWord I.next_gives S.text base64 (λ x. x) result words.old words.new }
     ensures goes { GoesOn I.can_next I.remaining result words.old words.new }
 {
-    let octets = next_base64(alloc, words)?;
+    let octets = next_base64(alloc, words, CERT_DATA)?;
     Ok(SmallOctets::from_vec(octets.into_vec()))
 }
 
@@ -93,9 +123,9 @@ impl CERT {
         ensures reads { ReadsRow I.next_gives S.text cert_words cert_fields result tokens }
         ensures enums { IfOk result IsReadCert }
     {
-        let cert_type = CertType::from(next_u16(&mut tokens)?);
-        let key_tag = next_u16(&mut tokens)?;
-        let algorithm = CertAlgorithm::from(next_u8(&mut tokens)?);
+        let cert_type = CertType::from(next_u16(&mut tokens, CERT_TYPE)?);
+        let key_tag = next_u16(&mut tokens, KEY_TAG)?;
+        let algorithm = CertAlgorithm::from(next_u8(&mut tokens, CERT_ALGORITHM)?);
         let cert_data = next_data(alloc, &mut tokens)?;
         Ok(CERT {
             cert_type,
@@ -119,10 +149,10 @@ impl SSHFP {
         ensures reads { ReadsRow I.next_gives S.text sshfp_words sshfp_fields result tokens }
         ensures enums { IfOk result IsReadSshfp }
     {
-        let algorithm = Algorithm::from(next_u8(&mut tokens)?);
-        let fingerprint_type = FingerprintType::from(next_u8(&mut tokens)?);
+        let algorithm = Algorithm::from(next_u8(&mut tokens, SSHFP_ALGORITHM)?);
+        let fingerprint_type = FingerprintType::from(next_u8(&mut tokens, FINGERPRINT_TYPE)?);
         let fingerprint = next_hex(alloc, &mut tokens)?;
-        no_more(&mut tokens)?;
+        no_more(&mut tokens, "a word behind the SSHFP fingerprint")?;
         Ok(SSHFP {
             algorithm,
             fingerprint_type,
@@ -145,9 +175,9 @@ impl TLSA {
         ensures reads { ReadsRow I.next_gives S.text tlsa_words tlsa_fields result tokens }
         ensures enums { IfOk result IsReadTlsa }
     {
-        let cert_usage = CertUsage::from(next_u8(&mut tokens)?);
-        let selector = Selector::from(next_u8(&mut tokens)?);
-        let matching = Matching::from(next_u8(&mut tokens)?);
+        let cert_usage = CertUsage::from(next_u8(&mut tokens, CERT_USAGE)?);
+        let selector = Selector::from(next_u8(&mut tokens, SELECTOR)?);
+        let matching = Matching::from(next_u8(&mut tokens, MATCHING)?);
         let cert_data = all_hex(alloc, tokens)?;
         Ok(TLSA {
             cert_usage,

@@ -29,9 +29,9 @@ use std::fmt;
 /// ```
 #[derive(Debug, Drop, Hash)]
 pub struct CAA {
-    /// Whether an issuer that does not know the tag may not issue: bit 128 of the flags.
+    /// Whether an issuer that does not know the tag may not issue: 0x80 of the flags.
     pub issuer_critical: bool,
-    /// The other flags. The wire has their low seven bits.
+    /// The other flags. The wire has their 0x7f.
     pub reserved_flags: u8,
     /// The tag. Those that are read are 1 to 15 letters and digits of ASCII.
     pub tag: SmallOctets<32>,
@@ -40,7 +40,7 @@ pub struct CAA {
 }
 
 impl CAA {
-    /// The flags as one octet: 128 where critical, and the low seven bits of the reserved flags.
+    /// The flags as one octet: 0x80 where critical, and 0x7f of the reserved flags.
     #[inline]
     pub fn flags(&self) -> u8
         ensures { result ≡ caa_flags self.now }

@@ -32,11 +32,11 @@ const UNKNOWN: u16 = 0x00FC;
 pub struct CSYNC {
     /// A serial of the child zone: where `soa_minimum` is set, nothing is copied while the zone has a lower one.
     pub soa_serial: u32,
-    /// Whether the parent copies without waiting for another approval: bit 0 of the flags.
+    /// Whether the parent copies without waiting for another approval: 0x0001 of the flags.
     pub immediate: bool,
-    /// Whether the child's serial must be at least `soa_serial`: bit 1 of the flags.
+    /// Whether the child's serial must be at least `soa_serial`: 0x0002 of the flags.
     pub soa_minimum: bool,
-    /// The other flags. Their two lowest bits are not used.
+    /// The other flags. Their 0x0003 is not used.
     pub reserved_flags: u16,
     /// The types that are copied.
     pub type_bit_maps: RecordTypeSet,
@@ -70,7 +70,7 @@ impl CSYNC {
         })
     }
 
-    /// The flags as a number: those that are reserved without their two lowest bits, and the two that have fields.
+    /// The flags as a number: those that are reserved without their 0x0003, and the two that have fields.
     #[inline]
     pub fn flags(&self) -> u16
         ensures { result ≡ csync_flags self.now }
@@ -128,7 +128,7 @@ impl RecordDataDecodable for CSYNC {
 
     ghost fields = { csync_fields };
 
-    /// Reads serial and flags, and the types to the end of the length. Flags with one of the bits 2 to 7 are refused by
+    /// Reads serial and flags, and the types to the end of the length. Flags with any of 0x00fc are refused by
     /// `UnrecognizedCsyncFlags` as soon as they are taken; then a length below 6, by `IncorrectRDataLengthRead` of 6 and
     /// the length; then octets that are no bitmap, by `BitmapInvalid`. Where octets are missing it is refused by
     /// `InsufficientBytes`, and the numbers that are there are taken.

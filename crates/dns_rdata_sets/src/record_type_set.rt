@@ -30,7 +30,7 @@ pub(crate) use writing::run_len;
 /// A set of record types. Contracts see the list of their numbers, each once, in rising order.
 ///
 /// On the wire it is a bitmap (RFC 4034, 4.1.2): blocks, each of them the number of a window of 256 types, a length of 1
-/// to 32, and so many octets; type 0 of the window is the highest bit of the first octet.
+/// to 32, and so many octets; type 0 of the window is 0x80 of the first octet.
 #[derive(Debug, Drop)]
 pub struct RecordTypeSet {
     // rising, each once

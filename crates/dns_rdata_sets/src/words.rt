@@ -12,14 +12,20 @@ ghost use Rattle.dns_rdata_sets.specs.WordRows.{caa_words, known_flags, type_wor
 use crate::caa::CAA;
 use crate::csync::CSYNC;
 use crate::record_type_set::RecordTypeSet;
-use dns_names_wire::{ParseError, RecordType, SmallOctets};
+use dns_names_wire::{DecodeError, ParseError, ProtoError, RecordType, SmallOctets};
 use dns_words::texts::u16_of;
-use dns_words::{next_kept, next_u8, next_u32, next_word};
+use dns_words::{Field, next_kept, next_u8, next_u32, next_word, number_field};
 use std::alloc::Global;
 use std::convert::AsStr;
 
+const CAA_FLAGS: Field = number_field!("CAA flags");
+
+const SOA_SERIAL: Field = number_field!("CSYNC soa_serial");
+
+const CSYNC_FLAGS: Field = number_field!("CSYNC flags");
+
 impl CAA {
-    /// From three words: flags, a decimal number of 8 bits, of which 128 is `issuer_critical`; tag and value, whose
+    /// From three words: flags, a decimal number of 8 bits, of which 0x80 is `issuer_critical`; tag and value, whose
     /// octets are kept. Further words are not read. Refused by `MissingToken`, `Message` or `Memory`.
     #[tactic(auto, using(dns_words::proofs::Steps::reading))]
     pub fn from_tokens<S: AsStr + Drop, I: Iterator<Item = S>>(
@@ -30,9 +36,9 @@ impl CAA {
         ensures reads { ReadsRow I.next_gives S.text caa_words caa_fields result tokens }
         ensures flags { IfOk result IsReadCaa }
     {
-        let flags = next_u8(&mut tokens)?;
-        let tag = next_kept(alloc, &mut tokens)?;
-        let value = next_kept(alloc, &mut tokens)?;
+        let flags = next_u8(&mut tokens, CAA_FLAGS)?;
+        let tag = next_kept(alloc, &mut tokens, "CAA tag")?;
+        let value = next_kept(alloc, &mut tokens, "CAA value")?;
         Ok(CAA {
             issuer_critical: flags >= 128,
             reserved_flags: flags % 128,
@@ -42,21 +48,21 @@ impl CAA {
     }
 }
 
-// The two lowest bits of a decimal number.
+// 0x0003 of a decimal number.
 fn flags_of(word: &str) -> Result<u16, ParseError>
     ensures { ReadsText known_flags (λ n. n) result word.now }
 {
-    let flags = u16_of(word)?;
+    let flags = u16_of(word, CSYNC_FLAGS.wrong)?;
     Ok(flags % 4)
 }
 
-// The two lowest bits of the next word.
+// 0x0003 of the next word.
 fn next_flags<S: AsStr + Drop, I: Iterator<Item = S>>(words: &mut I) -> Result<u16, ParseError>
     requires can { I.can_next words.old }
     ensures reads { ReadsWord I.next_gives S.text known_flags (λ n. n) result words.old words.new }
     ensures goes { GoesOn I.can_next I.remaining result words.old words.new }
 {
-    let word = next_word(words)?;
+    let word = next_word(words, CSYNC_FLAGS.name)?;
     flags_of(word.as_str())
 }
 
@@ -68,7 +74,7 @@ fn type_of(word: &str) -> Result<RecordType, ParseError>
 {
     match word.parse::<RecordType>() {
         Ok(kind) => Ok(kind),
-        Err(_) => Err(ParseError::Message("not a record type")),
+        Err(_) => Err(ParseError::Proto(ProtoError::Decode(DecodeError::UnknownRecordTypeStr))),
     }
 }
 
@@ -90,8 +96,8 @@ fn all_types<S: AsStr + Drop, I: Iterator<Item = S>>(
 }
 
 impl CSYNC {
-    /// From two words and more: serial, a decimal number of 32 bits; flags, one of 16 bits, of which the two lowest bits
-    /// are kept; and in every further word the text of a record type. Refused by `MissingToken`, `Message` or `Memory`.
+    /// From two words and more: serial, a decimal number of 32 bits; flags, one of 16 bits, of which 0x0003 is kept; and in every further word the text of a record type. Refused by `MissingToken`, by `Message` for a number, by `Proto` of
+    /// `UnknownRecordTypeStr` for a word that is the text of no type, or by `Memory`.
     /// The caller owes an iterator that ends.
     #[tactic(auto, using(dns_words::proofs::Steps::reading))]
     pub fn from_tokens<S: AsStr + Drop, I: Iterator<Item = S>>(
@@ -103,7 +109,7 @@ impl CSYNC {
         ensures reads { ReadsRow I.next_gives S.text csync_words csync_fields result tokens }
         ensures flags { IfOk result IsReadCsync }
     {
-        let soa_serial = next_u32(&mut tokens)?;
+        let soa_serial = next_u32(&mut tokens, SOA_SERIAL)?;
         let flags = next_flags(&mut tokens)?;
         let types = all_types(alloc, tokens)?;
         Ok(CSYNC::with_flags(soa_serial, flags, types))

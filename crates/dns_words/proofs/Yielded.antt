@@ -1,5 +1,5 @@
 -- What holds of all words, where some were taken in a loop.
-use Rattle.std.proofs.Common.{◌≡◌, ℕ, List, [], ◌∷◌, ◌++◌, Option, Some, None, subst, sym, map}
+use Rattle.std.proofs.Common.{◌≡◌, ℕ, List, [], ◌∷◌, ◌++◌, Option, subst, sym, map}
 use Rattle.std.specs.Iterator.{Yields}
 use Rattle.dns_words.specs.Taking.{HoldsOfWords}
 use Rattle.dns_words.proofs.Steps.{holds_word}

@@ -1,4 +1,5 @@
 pub mod Taking
 pub mod Forms
 pub mod Reads
+pub mod Refusals
 pub mod Printed

@@ -5,13 +5,17 @@
 //! `WordList` of a `&[&str]` serve.
 #![tactic(auto)]
 
+pub mod field;
+pub mod from_tokens;
 pub mod reading;
 pub mod texts;
 pub mod word_list;
 
+pub use field::Field;
+pub use from_tokens::FromTokens;
 pub use reading::{
-    all_texts, join_words, name_from_tokens, next_base64, next_ipv4, next_ipv6, next_kept,
-    next_name, next_signed_ttl, next_ttl, next_u8, next_u16, next_u32, next_word, no_more,
+    all_texts, join_words, next_base64, next_ipv4, next_ipv6, next_kept, next_name,
+    next_signed_ttl, next_ttl, next_u8, next_u16, next_u32, next_word, no_more,
 };
 pub use texts::Base64Text;
 pub use word_list::WordList;

@@ -1,13 +1,16 @@
 //! Words read from an iterator.
 
-ghost use Rattle.std.specs.Prelude.{FitsSigned, ◌≡◌, [], Some, None, IfOk, IfErr};
+ghost use Rattle.std.specs.Prelude.{FitsSigned, ◌≡◌, ◌≢◌, ◌⊎◌, [], Some, None, IfOk, IfErr};
 ghost use Rattle.std.specs.Option.{option_copied};
 ghost use Rattle.std.specs.Int.{cast_unsigned, w32};
 ghost use Rattle.std.specs.Iterator.{IsFinite};
 ghost use Rattle.std.specs.Net.Addr.{ipv4_octets, ipv6_octets};
-ghost use Rattle.dns_words.specs.Forms.{number, ttl, name, base64, kept, kept_rest, ipv4, ipv6, word, ignored, nothing};
-ghost use Rattle.dns_words.specs.Reads.{ReadsWord, ReadsRow, AreTexts, AreJoined, TookWords, RefusedWords, GoesOn};
+ghost use Rattle.dns_types.specs.declared.error.ParseError.TheVariants as parse;
+ghost use Rattle.dns_words.specs.Forms.{number, ttl, name, base64, kept, kept_rest, ipv4, ipv6, nothing};
+ghost use Rattle.dns_words.specs.Refusals.{IsOfField};
+ghost use Rattle.dns_words.specs.Reads.{ReadsWord, AreTexts, AreJoined, TookWords, RefusedWords, GoesOn};
 
+use crate::field::Field;
 use crate::texts::{
     base64_of, ipv4_of, ipv6_of, kept_of, name_of, signed_ttl_of, ttl_of, u8_of, u16_of, u32_of,
 };
@@ -17,171 +20,194 @@ use std::alloc::{AllocError, Global};
 use std::convert::AsStr;
 use std::net::{Ipv4Addr, Ipv6Addr};
 
-/// The next word. Refused by `MissingToken` where none is left.
+/// The next word. Refused by `MissingToken` of this name where none is left.
 #[inline]
-pub fn next_word<S: AsStr + Drop, I: Iterator<Item = S>>(words: &mut I) -> Result<S, ParseError>
+pub fn next_word<S: AsStr + Drop, I: Iterator<Item = S>>(
+    words: &mut I,
+    name: &'static str,
+) -> Result<S, ParseError>
     requires can { I.can_next words.old }
     ensures gave { IfOk result (λ word. I.next_gives words.old (Some word) words.new) }
     ensures missing { IfErr result (λ _. I.next_gives words.old None words.new) }
+    ensures named { IfErr result (λ e. e ≡ ParseError.MissingToken name.entry) }
     ensures goes { GoesOn I.can_next I.remaining result words.old words.new }
 {
     match words.next() {
         Some(word) => Ok(word),
-        None => Err(ParseError::MissingToken),
+        None => Err(ParseError::MissingToken(name)),
     }
 }
 
-/// A number of 8 bits.
+/// A number of 8 bits: a decimal one, with or without `+`. Where no word is left, or one that is no such number, the
+/// refusal names the field. Takes no memory.
 #[inline]
-pub fn next_u8<S: AsStr + Drop, I: Iterator<Item = S>>(words: &mut I) -> Result<u8, ParseError>
+pub fn next_u8<S: AsStr + Drop, I: Iterator<Item = S>>(
+    words: &mut I,
+    field: Field,
+) -> Result<u8, ParseError>
     requires can { I.can_next words.old }
     ensures reads { ReadsWord I.next_gives S.text (number 1) (λ n. n) result words.old words.new }
+    ensures why { IfErr result (IsOfField field) }
     ensures goes { GoesOn I.can_next I.remaining result words.old words.new }
 {
-    let word = next_word(words)?;
-    u8_of(word.as_str())
+    let word = next_word(words, field.name)?;
+    u8_of(word.as_str(), field.wrong)
 }
 
-/// A number of 16 bits.
+/// A number of 16 bits, as `next_u8`.
 #[inline]
-pub fn next_u16<S: AsStr + Drop, I: Iterator<Item = S>>(words: &mut I) -> Result<u16, ParseError>
+pub fn next_u16<S: AsStr + Drop, I: Iterator<Item = S>>(
+    words: &mut I,
+    field: Field,
+) -> Result<u16, ParseError>
     requires can { I.can_next words.old }
     ensures reads { ReadsWord I.next_gives S.text (number 2) (λ n. n) result words.old words.new }
+    ensures why { IfErr result (IsOfField field) }
     ensures goes { GoesOn I.can_next I.remaining result words.old words.new }
 {
-    let word = next_word(words)?;
-    u16_of(word.as_str())
+    let word = next_word(words, field.name)?;
+    u16_of(word.as_str(), field.wrong)
 }
 
-/// A number of 32 bits.
+/// A number of 32 bits, as `next_u8`.
 #[inline]
-pub fn next_u32<S: AsStr + Drop, I: Iterator<Item = S>>(words: &mut I) -> Result<u32, ParseError>
+pub fn next_u32<S: AsStr + Drop, I: Iterator<Item = S>>(
+    words: &mut I,
+    field: Field,
+) -> Result<u32, ParseError>
     requires can { I.can_next words.old }
     ensures reads { ReadsWord I.next_gives S.text (number 4) (λ n. n) result words.old words.new }
+    ensures why { IfErr result (IsOfField field) }
     ensures goes { GoesOn I.can_next I.remaining result words.old words.new }
 {
-    let word = next_word(words)?;
-    u32_of(word.as_str())
+    let word = next_word(words, field.name)?;
+    u32_of(word.as_str(), field.wrong)
 }
 
-/// A time to live of 32 bits.
+/// A time to live of 32 bits (`parse_ttl`), as `next_u8`.
 #[inline]
-pub fn next_ttl<S: AsStr + Drop, I: Iterator<Item = S>>(words: &mut I) -> Result<u32, ParseError>
+pub fn next_ttl<S: AsStr + Drop, I: Iterator<Item = S>>(
+    words: &mut I,
+    field: Field,
+) -> Result<u32, ParseError>
     requires can { I.can_next words.old }
     ensures reads { ReadsWord I.next_gives S.text (ttl 4294967295) (λ n. n) result words.old words.new }
+    ensures why { IfErr result (IsOfField field) }
     ensures goes { GoesOn I.can_next I.remaining result words.old words.new }
 {
-    let word = next_word(words)?;
-    ttl_of(word.as_str())
+    let word = next_word(words, field.name)?;
+    ttl_of(word.as_str(), field.wrong)
 }
 
-/// A time to live of at most 2147483647 seconds.
+/// A time to live of at most 2147483647 seconds, as `next_u8`.
 #[inline]
 pub fn next_signed_ttl<S: AsStr + Drop, I: Iterator<Item = S>>(
     words: &mut I,
+    field: Field,
 ) -> Result<i32, ParseError>
     requires can { I.can_next words.old }
     ensures reads { ReadsWord I.next_gives S.text (ttl 2147483647) (λ z. cast_unsigned w32 z) result words.old words.new }
     ensures fits { IfOk result (λ z. FitsSigned w32 z) }
+    ensures why { IfErr result (IsOfField field) }
     ensures goes { GoesOn I.can_next I.remaining result words.old words.new }
 {
-    let word = next_word(words)?;
-    signed_ttl_of(word.as_str())
+    let word = next_word(words, field.name)?;
+    signed_ttl_of(word.as_str(), field.wrong)
 }
 
-/// A name, which the origin completes, where one is given.
+/// A name, which the origin completes, where one is given. Refused by `MissingToken` where no word is left, else as
+/// `Name::parse`.
 #[inline]
 pub fn next_name<S: AsStr + Drop, I: Iterator<Item = S>>(
     alloc: Global,
     words: &mut I,
     origin: Option<&Name>,
+    missing: &'static str,
 ) -> Result<Name, ParseError>
     requires can { I.can_next words.old }
     ensures reads { ReadsWord I.next_gives S.text (name (option_copied origin.entry)) (λ x. x) result words.old words.new }
     ensures goes { GoesOn I.can_next I.remaining result words.old words.new }
 {
-    let word = next_word(words)?;
+    let word = next_word(words, missing)?;
     name_of(alloc, word.as_str(), origin)
 }
 
-/// Octets in base64.
+/// Octets in base64, by one request for memory; the refusal names the field.
 #[inline]
 pub fn next_base64<S: AsStr + Drop, I: Iterator<Item = S>>(
     alloc: Global,
     words: &mut I,
+    field: Field,
 ) -> Result<Octets, ParseError>
     requires can { I.can_next words.old }
     ensures reads { ReadsWord I.next_gives S.text base64 (λ x. x) result words.old words.new }
+    ensures why { IfErr result (λ e. (e ≡ ParseError.Memory) ⊎ IsOfField field e) }
     ensures goes { GoesOn I.can_next I.remaining result words.old words.new }
 {
-    let word = next_word(words)?;
-    base64_of(alloc, word.as_str())
+    let word = next_word(words, field.name)?;
+    base64_of(alloc, word.as_str(), field.wrong)
 }
 
-/// The octets of a word.
+/// The octets of a word. Refused by `MissingToken` where none is left.
 #[inline]
 pub fn next_kept<S: AsStr + Drop, I: Iterator<Item = S>>(
     alloc: Global,
     words: &mut I,
+    missing: &'static str,
 ) -> Result<Octets, ParseError>
     requires can { I.can_next words.old }
     ensures text { ReadsWord I.next_gives S.text kept (λ x. x) result words.old words.new }
     ensures rest { ReadsWord I.next_gives S.text kept_rest (λ x. x) result words.old words.new }
+    ensures why { IfErr result (λ e. (e ≡ ParseError.Memory) ⊎ (e ≡ ParseError.MissingToken missing.entry)) }
     ensures goes { GoesOn I.can_next I.remaining result words.old words.new }
 {
-    let word = next_word(words)?;
+    let word = next_word(words, missing)?;
     kept_of(alloc, word.as_str())
 }
 
-/// An IPv4 address.
+/// An IPv4 address. Refused by `MissingToken` where no word is left, and by `AddrParse` for another. Takes no memory.
 #[inline]
 pub fn next_ipv4<S: AsStr + Drop, I: Iterator<Item = S>>(
     words: &mut I,
+    missing: &'static str,
 ) -> Result<Ipv4Addr, ParseError>
     requires can { I.can_next words.old }
     ensures reads { ReadsWord I.next_gives S.text ipv4 ipv4_octets result words.old words.new }
+    ensures why { IfErr result (λ e. (e ≡ ParseError.AddrParse) ⊎ (e ≡ ParseError.MissingToken missing.entry)) }
     ensures goes { GoesOn I.can_next I.remaining result words.old words.new }
 {
-    let word = next_word(words)?;
+    let word = next_word(words, missing)?;
     ipv4_of(word.as_str())
 }
 
-/// An IPv6 address.
+/// An IPv6 address, as `next_ipv4`.
 #[inline]
 pub fn next_ipv6<S: AsStr + Drop, I: Iterator<Item = S>>(
     words: &mut I,
+    missing: &'static str,
 ) -> Result<Ipv6Addr, ParseError>
     requires can { I.can_next words.old }
     ensures reads { ReadsWord I.next_gives S.text ipv6 ipv6_octets result words.old words.new }
+    ensures why { IfErr result (λ e. (e ≡ ParseError.AddrParse) ⊎ (e ≡ ParseError.MissingToken missing.entry)) }
     ensures goes { GoesOn I.can_next I.remaining result words.old words.new }
 {
-    let word = next_word(words)?;
+    let word = next_word(words, missing)?;
     ipv6_of(word.as_str())
 }
 
-/// The name of the first word, by `Name::parse`. Further words are not read.
-#[tactic(auto, using(crate::proofs::Steps::reading))]
-pub fn name_from_tokens<S: AsStr + Drop, I: Iterator<Item = S>>(
-    alloc: Global,
-    mut tokens: I,
-    origin: Option<&Name>,
-) -> Result<Name, ParseError>
-    requires can { I.can_next tokens }
-    ensures { ReadsRow I.next_gives S.text (word (name (option_copied origin.entry)) ignored) (λ x. (x, tt)) result tokens }
-{
-    let name = next_name(alloc, &mut tokens, origin)?;
-    Ok(name)
-}
-
-/// That no word is left. Refused by `Message` where one is.
+/// That no word is left. Refused by `Message` of this text where one is.
 #[inline]
-pub fn no_more<S: AsStr + Drop, I: Iterator<Item = S>>(words: &mut I) -> Result<(), ParseError>
+pub fn no_more<S: AsStr + Drop, I: Iterator<Item = S>>(
+    words: &mut I,
+    surplus: &'static str,
+) -> Result<(), ParseError>
     requires can { I.can_next words.old }
     ensures took { IfOk result (λ _. TookWords I.next_gives S.text nothing tt words.old) }
     ensures refused { IfErr result (λ e. RefusedWords I.next_gives S.text e nothing words.old) }
+    ensures why { IfErr result (λ e. e ≡ ParseError.Message surplus.entry) }
 {
     match words.next() {
-        Some(_word) => Err(ParseError::Message("a word too many")),
+        Some(_word) => Err(ParseError::Message(surplus)),
         None => Ok(()),
     }
 }

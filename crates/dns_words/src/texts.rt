@@ -1,5 +1,6 @@
 //! Values read from one word.
 
+ghost use Rattle.std.specs.Prelude.{◌≡◌, ◌⊎◌, IfErr};
 ghost use Rattle.std.specs.Int.{cast_unsigned, w32};
 ghost use Rattle.std.specs.Net.Addr.{ipv4_octets, ipv6_octets};
 ghost use Rattle.std.specs.Option.{option_copied};
@@ -15,55 +16,66 @@ use std::alloc::Global;
 use std::net::{Ipv4Addr, Ipv6Addr};
 use std::{fmt, str};
 
-/// A decimal number of 8 bits, with or without `+`. Any other word is refused by `Message`. Takes no memory.
+/// A decimal number of 8 bits, with or without `+`. Any other word is refused by `Message` of the text `wrong`. Takes no
+/// memory.
 #[inline]
-pub fn u8_of(word: &str) -> Result<u8, ParseError>
-    ensures { ReadsText (number 1) (λ n. n) result word.now }
+pub fn u8_of(word: &str, wrong: &'static str) -> Result<u8, ParseError>
+    ensures reads { ReadsText (number 1) (λ n. n) result word.now }
+    ensures why { IfErr result (λ e. e ≡ ParseError.Message wrong.entry) }
 {
     match word.parse::<u8>() {
         Ok(n) => Ok(n),
-        Err(_) => Err(ParseError::Message("not a number of 8 bits")),
+        Err(_) => Err(ParseError::Message(wrong)),
     }
 }
 
 /// A decimal number of 16 bits, as `u8_of`.
 #[inline]
-pub fn u16_of(word: &str) -> Result<u16, ParseError>
-    ensures { ReadsText (number 2) (λ n. n) result word.now }
+pub fn u16_of(word: &str, wrong: &'static str) -> Result<u16, ParseError>
+    ensures reads { ReadsText (number 2) (λ n. n) result word.now }
+    ensures why { IfErr result (λ e. e ≡ ParseError.Message wrong.entry) }
 {
     match word.parse::<u16>() {
         Ok(n) => Ok(n),
-        Err(_) => Err(ParseError::Message("not a number of 16 bits")),
+        Err(_) => Err(ParseError::Message(wrong)),
     }
 }
 
 /// A decimal number of 32 bits, as `u8_of`.
 #[inline]
-pub fn u32_of(word: &str) -> Result<u32, ParseError>
-    ensures { ReadsText (number 4) (λ n. n) result word.now }
+pub fn u32_of(word: &str, wrong: &'static str) -> Result<u32, ParseError>
+    ensures reads { ReadsText (number 4) (λ n. n) result word.now }
+    ensures why { IfErr result (λ e. e ≡ ParseError.Message wrong.entry) }
 {
     match word.parse::<u32>() {
         Ok(n) => Ok(n),
-        Err(_) => Err(ParseError::Message("not a number of 32 bits")),
+        Err(_) => Err(ParseError::Message(wrong)),
     }
 }
 
-/// A time to live of 32 bits (`parse_ttl`). Any other word is refused by `Message`. Takes no memory.
+/// A time to live of 32 bits (`parse_ttl`). Any other word is refused by `Message` of the text `wrong`. Takes no memory.
 #[inline]
-pub fn ttl_of(word: &str) -> Result<u32, ParseError>
-    ensures { ReadsText (ttl 4294967295) (λ n. n) result word.now }
+pub fn ttl_of(word: &str, wrong: &'static str) -> Result<u32, ParseError>
+    ensures reads { ReadsText (ttl 4294967295) (λ n. n) result word.now }
+    ensures why { IfErr result (λ e. e ≡ ParseError.Message wrong.entry) }
 {
-    parse_ttl(word)
+    match parse_ttl(word) {
+        Ok(seconds) => Ok(seconds),
+        Err(_) => Err(ParseError::Message(wrong)),
+    }
 }
 
-/// A time to live of at most 2147483647 seconds. Any other word is refused by `Message`. Takes no memory.
+/// A time to live of at most 2147483647 seconds, as `ttl_of`.
 #[inline]
-pub fn signed_ttl_of(word: &str) -> Result<i32, ParseError>
-    ensures { ReadsText (ttl 2147483647) (λ z. cast_unsigned w32 z) result word.now }
+pub fn signed_ttl_of(word: &str, wrong: &'static str) -> Result<i32, ParseError>
+    ensures reads { ReadsText (ttl 2147483647) (λ z. cast_unsigned w32 z) result word.now }
+    ensures why { IfErr result (λ e. e ≡ ParseError.Message wrong.entry) }
 {
-    let seconds = parse_ttl(word)?;
+    let Ok(seconds) = parse_ttl(word) else {
+        return Err(ParseError::Message(wrong));
+    };
     if seconds > 2147483647 {
-        return Err(ParseError::Message("time to live too great"));
+        return Err(ParseError::Message(wrong));
     }
     Ok(seconds as i32)
 }
@@ -107,14 +119,16 @@ impl fmt::Display for Base64Text<'_> {
     }
 }
 
-/// The octets of a base64 text: the standard alphabet, padded at its end. Any other word is refused by `Message`.
-pub fn base64_of(alloc: Global, word: &str) -> Result<Octets, ParseError>
-    ensures { ReadsText base64 (λ x. x) result word.now }
+/// The octets of a base64 text: the standard alphabet, padded at its end. Any other word is refused by `Message` of the
+/// text `wrong`.
+pub fn base64_of(alloc: Global, word: &str, wrong: &'static str) -> Result<Octets, ParseError>
+    ensures reads { ReadsText base64 (λ x. x) result word.now }
+    ensures why { IfErr result (λ e. (e ≡ ParseError.Memory) ⊎ (e ≡ ParseError.Message wrong.entry)) }
 {
     match STANDARD.decode(alloc, word.as_bytes()) {
         Ok(octets) => Ok(Octets::from_vec(octets)),
         Err(DecodeAllocError::OutOfMemory) => Err(ParseError::Memory),
-        Err(DecodeAllocError::DecodeError(_)) => Err(ParseError::Message("not base64")),
+        Err(DecodeAllocError::DecodeError(_)) => Err(ParseError::Message(wrong)),
     }
 }
 
@@ -123,6 +137,7 @@ pub fn base64_of(alloc: Global, word: &str) -> Result<Octets, ParseError>
 pub fn kept_of(alloc: Global, word: &str) -> Result<Octets, ParseError>
     ensures text { ReadsText kept (λ x. x) result word.now }
     ensures rest { ReadsText kept_rest (λ x. x) result word.now }
+    ensures why { IfErr result (λ e. e ≡ ParseError.Memory) }
 {
     let octets = Octets::from_slice(alloc, word.as_bytes())?;
     Ok(octets)
@@ -131,7 +146,8 @@ pub fn kept_of(alloc: Global, word: &str) -> Result<Octets, ParseError>
 /// The IPv4 address of a text. Any other word is refused by `AddrParse`. Takes no memory.
 #[inline]
 pub fn ipv4_of(word: &str) -> Result<Ipv4Addr, ParseError>
-    ensures { ReadsText ipv4 ipv4_octets result word.now }
+    ensures reads { ReadsText ipv4 ipv4_octets result word.now }
+    ensures why { IfErr result (λ e. e ≡ ParseError.AddrParse) }
 {
     match word.parse::<Ipv4Addr>() {
         Ok(address) => Ok(address),
@@ -142,7 +158,8 @@ pub fn ipv4_of(word: &str) -> Result<Ipv4Addr, ParseError>
 /// The IPv6 address of a text. Any other word is refused by `AddrParse`. Takes no memory.
 #[inline]
 pub fn ipv6_of(word: &str) -> Result<Ipv6Addr, ParseError>
-    ensures { ReadsText ipv6 ipv6_octets result word.now }
+    ensures reads { ReadsText ipv6 ipv6_octets result word.now }
+    ensures why { IfErr result (λ e. e ≡ ParseError.AddrParse) }
 {
     match word.parse::<Ipv6Addr>() {
         Ok(address) => Ok(address),

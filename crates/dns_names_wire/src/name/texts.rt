@@ -7,7 +7,7 @@ ghost use Rattle.dns_names_wire.specs.NameValues.{IsTextRefusal};
 
 use crate::name::Name;
 use dns_labels::text::{NameText, parse_octets};
-use dns_labels::{NameError, NameOctets};
+use dns_labels::{NameOctets, NameTextError};
 use dns_types::{ProtoError, ProtoResult};
 use std::alloc::{AllocError, Global};
 use std::fmt;
@@ -18,7 +18,7 @@ impl Name {
     /// A dot is the root, and no text the relative name without labels. Every other text is labels joined by dots,
     /// with a dot at the end where the name is fully qualified. An octet of a label is a graphic character of ASCII
     /// but `.` and `\`, or `\` and three digits up to 255, or `\` and a graphic character that is no digit. Every
-    /// other text is refused by `Message`. Takes memory once.
+    /// other text is refused by `Message`, which says why. Takes memory once.
     pub fn from_ascii(alloc: Global, text: &str) -> ProtoResult<Name>
         ensures found { IfOk result (λ x. IsNameText x text.now) }
         ensures refused { IfErr result (λ e. IsTextRefusal e ((x : DomainName) → IsNameText x text.now → ⊥)) }
@@ -28,8 +28,8 @@ impl Name {
     {
         match parse_octets(alloc, text.as_bytes()) {
             Ok((octets, is_fqdn)) => Ok(Name::from_octets(NameOctets::from_vec(octets), is_fqdn)),
-            Err(NameError::Memory) => Err(ProtoError::Memory),
-            Err(NameError::Invalid) => Err(ProtoError::Message("not the text of a domain name")),
+            Err(NameTextError::Memory) => Err(ProtoError::Memory),
+            Err(NameTextError::Invalid(why)) => Err(ProtoError::Message(why)),
         }
     }
 

@@ -1,5 +1,7 @@
 //! Words of A and AAAA.
 
+ghost use Rattle.std.specs.Prelude.{◌≢◌, IfErr};
+ghost use Rattle.dns_types.specs.declared.error.ParseError.TheVariants as parse;
 ghost use Rattle.dns_rdata_base.specs.A.{a_fields};
 ghost use Rattle.dns_rdata_base.specs.AAAA.{aaaa_fields};
 ghost use Rattle.dns_rdata_base.specs.WordRows.{a_words, aaaa_words};
@@ -19,9 +21,10 @@ impl A {
         mut tokens: I,
     ) -> Result<A, ParseError>
         requires can { I.can_next tokens }
-        ensures { ReadsRow I.next_gives S.text a_words a_fields result tokens }
+        ensures reads { ReadsRow I.next_gives S.text a_words a_fields result tokens }
+        ensures memory { IfErr result (λ e. e ≢ parse.Memory) }
     {
-        let address = next_ipv4(&mut tokens)?;
+        let address = next_ipv4(&mut tokens, "A address")?;
         Ok(A(address))
     }
 }
@@ -34,9 +37,10 @@ impl AAAA {
         mut tokens: I,
     ) -> Result<AAAA, ParseError>
         requires can { I.can_next tokens }
-        ensures { ReadsRow I.next_gives S.text aaaa_words aaaa_fields result tokens }
+        ensures reads { ReadsRow I.next_gives S.text aaaa_words aaaa_fields result tokens }
+        ensures memory { IfErr result (λ e. e ≢ parse.Memory) }
     {
-        let address = next_ipv6(&mut tokens)?;
+        let address = next_ipv6(&mut tokens, "AAAA address")?;
         Ok(AAAA(address))
     }
 }

@@ -11,9 +11,17 @@ use crate::mx::MX;
 use crate::name::{ANAME, CNAME, NS, PTR};
 use crate::srv::SRV;
 use dns_names_wire::{Name, ParseError};
-use dns_words::{next_name, next_u16};
+use dns_words::{Field, next_name, next_u16, number_field};
 use std::alloc::Global;
 use std::convert::AsStr;
+
+const MX_PREFERENCE: Field = number_field!("MX preference");
+
+const SRV_PRIORITY: Field = number_field!("SRV priority");
+
+const SRV_WEIGHT: Field = number_field!("SRV weight");
+
+const SRV_PORT: Field = number_field!("SRV port");
 
 impl ANAME {
     /// From one word, the text of a name, which the origin completes where one is given. Further words are not read.
@@ -27,7 +35,7 @@ impl ANAME {
         requires can { I.can_next tokens }
         ensures { ReadsRow I.next_gives S.text (name_words (option_copied origin.entry)) aname_fields result tokens }
     {
-        let name = next_name(alloc, &mut tokens, origin)?;
+        let name = next_name(alloc, &mut tokens, origin, "ANAME name")?;
         Ok(ANAME(name))
     }
 }
@@ -44,7 +52,7 @@ impl CNAME {
         requires can { I.can_next tokens }
         ensures { ReadsRow I.next_gives S.text (name_words (option_copied origin.entry)) cname_fields result tokens }
     {
-        let name = next_name(alloc, &mut tokens, origin)?;
+        let name = next_name(alloc, &mut tokens, origin, "CNAME name")?;
         Ok(CNAME(name))
     }
 }
@@ -61,7 +69,7 @@ impl NS {
         requires can { I.can_next tokens }
         ensures { ReadsRow I.next_gives S.text (name_words (option_copied origin.entry)) ns_fields result tokens }
     {
-        let name = next_name(alloc, &mut tokens, origin)?;
+        let name = next_name(alloc, &mut tokens, origin, "NS name")?;
         Ok(NS(name))
     }
 }
@@ -78,7 +86,7 @@ impl PTR {
         requires can { I.can_next tokens }
         ensures { ReadsRow I.next_gives S.text (name_words (option_copied origin.entry)) ptr_fields result tokens }
     {
-        let name = next_name(alloc, &mut tokens, origin)?;
+        let name = next_name(alloc, &mut tokens, origin, "PTR name")?;
         Ok(PTR(name))
     }
 }
@@ -96,8 +104,8 @@ impl MX {
         requires can { I.can_next tokens }
         ensures { ReadsRow I.next_gives S.text (mx_words (option_copied origin.entry)) mx_fields result tokens }
     {
-        let preference = next_u16(&mut tokens)?;
-        let exchange = next_name(alloc, &mut tokens, origin)?;
+        let preference = next_u16(&mut tokens, MX_PREFERENCE)?;
+        let exchange = next_name(alloc, &mut tokens, origin, "MX exchange")?;
         Ok(MX {
             preference,
             exchange,
@@ -117,10 +125,10 @@ impl SRV {
         requires can { I.can_next tokens }
         ensures { ReadsRow I.next_gives S.text (srv_words (option_copied origin.entry)) srv_fields result tokens }
     {
-        let priority = next_u16(&mut tokens)?;
-        let weight = next_u16(&mut tokens)?;
-        let port = next_u16(&mut tokens)?;
-        let target = next_name(alloc, &mut tokens, origin)?;
+        let priority = next_u16(&mut tokens, SRV_PRIORITY)?;
+        let weight = next_u16(&mut tokens, SRV_WEIGHT)?;
+        let port = next_u16(&mut tokens, SRV_PORT)?;
+        let target = next_name(alloc, &mut tokens, origin, "SRV target")?;
         Ok(SRV {
             priority,
             weight,

@@ -8,9 +8,19 @@ ghost use Rattle.dns_words.specs.Reads.{ReadsRow};
 
 use crate::soa::SOA;
 use dns_names_wire::{Name, ParseError};
-use dns_words::{next_name, next_signed_ttl, next_ttl};
+use dns_words::{Field, next_name, next_signed_ttl, next_ttl, time_field};
 use std::alloc::Global;
 use std::convert::AsStr;
+
+const SERIAL: Field = time_field!("SOA serial", "4294967295");
+
+const REFRESH: Field = time_field!("SOA refresh", "2147483647");
+
+const RETRY: Field = time_field!("SOA retry", "2147483647");
+
+const EXPIRE: Field = time_field!("SOA expire", "2147483647");
+
+const MINIMUM: Field = time_field!("SOA minimum", "4294967295");
 
 impl SOA {
     /// From seven words: mname and rname, names, which the origin completes where one is given; and serial, refresh,
@@ -27,13 +37,13 @@ impl SOA {
         ensures reads { ReadsRow I.next_gives S.text (soa_words (option_copied origin.entry)) soa_fields result tokens }
         ensures seconds { IfOk result HasSeconds }
     {
-        let mname = next_name(alloc, &mut tokens, origin)?;
-        let rname = next_name(alloc, &mut tokens, origin)?;
-        let serial = next_ttl(&mut tokens)?;
-        let refresh = next_signed_ttl(&mut tokens)?;
-        let retry = next_signed_ttl(&mut tokens)?;
-        let expire = next_signed_ttl(&mut tokens)?;
-        let minimum = next_ttl(&mut tokens)?;
+        let mname = next_name(alloc, &mut tokens, origin, "SOA mname")?;
+        let rname = next_name(alloc, &mut tokens, origin, "SOA rname")?;
+        let serial = next_ttl(&mut tokens, SERIAL)?;
+        let refresh = next_signed_ttl(&mut tokens, REFRESH)?;
+        let retry = next_signed_ttl(&mut tokens, RETRY)?;
+        let expire = next_signed_ttl(&mut tokens, EXPIRE)?;
+        let minimum = next_ttl(&mut tokens, MINIMUM)?;
         Ok(SOA {
             mname,
             rname,

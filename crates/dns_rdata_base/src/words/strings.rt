@@ -11,9 +11,11 @@ use crate::hinfo::HINFO;
 use crate::openpgpkey::OPENPGPKEY;
 use crate::txt::TXT;
 use dns_names_wire::{ParseError, SmallOctets};
-use dns_words::{all_texts, next_base64, next_kept, no_more};
+use dns_words::{Field, all_texts, base64_field, next_base64, next_kept, no_more};
 use std::alloc::Global;
 use std::convert::AsStr;
+
+const PUBLIC_KEY: Field = base64_field!("OPENPGPKEY public key");
 
 impl HINFO {
     /// From two words, cpu and os, whose octets are kept. Further words are not read. Refused by `MissingToken` or
@@ -26,8 +28,8 @@ impl HINFO {
         requires can { I.can_next tokens }
         ensures { ReadsRow I.next_gives S.text hinfo_words hinfo_fields result tokens }
     {
-        let cpu = next_kept(alloc, &mut tokens)?;
-        let os = next_kept(alloc, &mut tokens)?;
+        let cpu = next_kept(alloc, &mut tokens, "HINFO cpu")?;
+        let os = next_kept(alloc, &mut tokens, "HINFO os")?;
         Ok(HINFO {
             cpu: SmallOctets::from_vec(cpu.into_vec()),
             os: SmallOctets::from_vec(os.into_vec()),
@@ -62,8 +64,8 @@ impl OPENPGPKEY {
         requires can { I.can_next tokens }
         ensures { ReadsRow I.next_gives S.text openpgpkey_words openpgpkey_fields result tokens }
     {
-        let public_key = next_base64(alloc, &mut tokens)?;
-        no_more(&mut tokens)?;
+        let public_key = next_base64(alloc, &mut tokens, PUBLIC_KEY)?;
+        no_more(&mut tokens, "a word behind the OPENPGPKEY public key")?;
         Ok(OPENPGPKEY {
             public_key: SmallOctets::from_vec(public_key.into_vec()),
         })

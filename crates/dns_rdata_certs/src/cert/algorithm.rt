@@ -8,7 +8,7 @@ ghost use Rattle.std.specs.Ordering.{as_partial_cmp};
 ghost use Rattle.std.proofs.Common.{rules};
 ghost use Rattle.dns_rdata_base.specs.Numbered.{numbered_eq, numbered_cmp};
 ghost use Rattle.dns_rdata_base.proofs.NumberedLaws.{numbered_equiv, numbered_total, numbered_ties};
-ghost use Rattle.dns_names_wire.specs.Words.{ReadsBy, LacksOctets};
+ghost use Rattle.dns_names_wire.specs.Words.{ReadsBy, LacksOctets, IsCut};
 ghost use Rattle.dns_rdata_certs.specs.CertAlgorithm.{cert_algorithm_number, cert_algorithm_variant, cert_algorithm_of};
 
 use dns_names_wire::{BinDecodable, BinDecoder, DecodeError};
@@ -233,6 +233,8 @@ impl BinDecodable for Algorithm {
     ghost use Rattle.dns_rdata_base.specs.Numbered.{NumberedAt};
 
     ghost stands = { NumberedAt 1 cert_algorithm_number cert_algorithm_of };
+
+    ghost refuses = { IsCut 1 };
 
     /// Reads the number in one octet. Where none is left, it is refused, and takes none.
     #[inline]

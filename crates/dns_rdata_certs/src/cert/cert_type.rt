@@ -8,7 +8,7 @@ ghost use Rattle.std.specs.Ordering.{as_partial_cmp};
 ghost use Rattle.std.proofs.Common.{rules};
 ghost use Rattle.dns_rdata_base.specs.Numbered.{numbered_eq, numbered_cmp};
 ghost use Rattle.dns_rdata_base.proofs.NumberedLaws.{numbered_equiv, numbered_total, numbered_ties};
-ghost use Rattle.dns_names_wire.specs.Words.{ReadsBy, LacksOctets};
+ghost use Rattle.dns_names_wire.specs.Words.{ReadsBy, LacksOctets, IsCut};
 ghost use Rattle.dns_rdata_certs.specs.CertType.{cert_type_number, cert_type_variant, cert_type_of};
 
 use dns_names_wire::{BinDecodable, BinDecoder, DecodeError};
@@ -202,6 +202,8 @@ impl BinDecodable for CertType {
     ghost use Rattle.dns_rdata_base.specs.Numbered.{NumberedAt};
 
     ghost stands = { NumberedAt 2 cert_type_number cert_type_of };
+
+    ghost refuses = { IsCut 2 };
 
     /// Reads the number in two octets, the higher one first. Where fewer are left, it is refused, and takes none.
     #[inline]

@@ -1,0 +1,56 @@
+//! Values that are read from the words of a text.
+
+ghost use Rattle.std.specs.Prelude.{List, [], ◌∷◌, Option};
+ghost use Rattle.std.specs.Option.{option_copied};
+ghost use Rattle.dns_fields.specs.Fields.{Kind, Name as NameKind, Values};
+ghost use Rattle.dns_fields.specs.Labels.{DomainName};
+ghost use Rattle.dns_words.specs.Forms.{Row, name, word, ignored};
+ghost use Rattle.dns_words.specs.Reads.{ReadsRow};
+
+use crate::reading::next_name;
+use dns_names_wire::{Name, ParseError};
+use std::alloc::Global;
+use std::convert::AsStr;
+
+/// A value that is read from words. `Name` has it, so `Name::from_tokens` reads a name as the records read theirs.
+pub trait FromTokens: Sized {
+    /// The kinds of its fields, in order.
+    ghost kinds: { List Kind };
+
+    /// Which fields a list of words gives, where the origin completes names.
+    ghost row: { Option DomainName → Row kinds };
+
+    /// Its fields.
+    ghost fields: { Self → Values kinds };
+
+    /// Reads a value exactly where the words give its fields. It takes words one by one, and none behind its last.
+    fn from_tokens<S: AsStr + Drop, I: Iterator<Item = S>>(
+        alloc: Global,
+        tokens: I,
+        origin: Option<&Name>,
+    ) -> Result<Self, ParseError>
+        requires can { I.can_next tokens }
+        ensures reads { ReadsRow I.next_gives S.text (row (option_copied origin.entry)) fields result tokens };
+}
+
+impl FromTokens for Name {
+    ghost kinds = { NameKind ∷ [] };
+
+    ghost row = { λ origin. word (name origin) ignored };
+
+    ghost fields = { λ x. (x, tt) };
+
+    /// The name of the first word, by `Name::parse`. Further words are not read.
+    #[tactic(auto, using(crate::proofs::Steps::reading))]
+    fn from_tokens<S: AsStr + Drop, I: Iterator<Item = S>>(
+        alloc: Global,
+        mut tokens: I,
+        origin: Option<&Name>,
+    ) -> Result<Name, ParseError>
+        requires can { I.can_next tokens }
+        ensures reads { ReadsRow I.next_gives S.text (word (name (option_copied origin.entry)) ignored) (λ x. (x, tt)) result tokens }
+    {
+        let name = next_name(alloc, &mut tokens, origin, "domain name")?;
+        Ok(name)
+    }
+}
