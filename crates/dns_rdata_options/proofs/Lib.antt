@@ -1,8 +1,11 @@
 pub mod ChoiceSteps
 pub mod Codes
 pub mod Differences
+pub mod HeadSteps
+pub mod HeadedSteps
 pub mod InOrder
 pub mod Least
+pub mod Masks
 pub mod NetTexts
 pub mod OctetWrites
 pub mod OptionCounts
@@ -10,6 +13,7 @@ pub mod OptionLists
 pub mod OptionLoops
 pub mod OptionOrders
 pub mod OptionValues
+pub mod OptionsOf
 pub mod Pairs
 pub mod Parting
 pub mod PieceOrder

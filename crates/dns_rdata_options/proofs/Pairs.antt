@@ -3,7 +3,7 @@ use Rattle.std.proofs.Common.{◌≡◌, ℕ, ◌+◌, ◌<◌, ◌≤◌, ◌/�
 use Rattle.std.proofs.Common.{◌++◌, length, map, take, drop, get_or, refl, sym, ap, ◌∙◌, arith, append_assoc, subst}
 use Rattle.std.specs.List.{AllByRecursion}
 use Rattle.std.proofs.lemmas.Bool.Decides.{nat_tests}
-use Rattle.std.proofs.lemmas.List.{append-nil, length-append, drop_more, take-append-drop}
+use Rattle.std.proofs.lemmas.List.{append-nil, length-append, drop_more, take_more, take-append-drop}
 use Rattle.dns_types.specs.declared.error.ProtoError.{ProtoError}
 use Rattle.dns_fields.specs.Pieces.{Numbered, piece, pieces, as_piece, OptionValue, Subnet, Plain, option_octets, OptionFits}
 use Rattle.dns_fields.specs.Pieces.{IsEmittableOption, option_emittable, options_emittable}
@@ -108,15 +108,26 @@ stopped_options {e} {w} {b} {n} xs x ys small f g =
           g.why;
     }
 
+map_append : (a b : List Pair) → map pair_value (a ++ b) ≡ map pair_value a ++ map pair_value b
+map_append [] b = refl
+map_append (y ∷ a) b = ap (λ (l : List (Numbered OptionValue)). pair_value y ∷ l) (map_append a b)
+
 -- a list about one of its places
 split : (xs : List Pair) (i : ℕ) (x : Pair) → x ≡ get_or xs i x → i < length xs
     → map pair_value (take i xs) ++ pair_value x ∷ map pair_value (drop (i + 1) xs) ≡ map pair_value xs
-split xs i x is lt = sym (map-append (take i xs) (x ∷ drop (i + 1) xs))
+split xs i x is lt = sym (map_append (take i xs) (x ∷ drop (i + 1) xs))
     ∙ ap (map pair_value) (ap (λ (y : Pair). take i xs ++ y ∷ drop (i + 1) xs) is ∙ ap (λ (t : List Pair). take i xs ++ t) (sym (drop_more xs i x lt))
-    ∙ take-append-drop i xs) where
-      map-append : (a b : List Pair) → map pair_value (a ++ b) ≡ map pair_value a ++ map pair_value b
-      map-append [] b = refl
-      map-append (y ∷ a) b = ap (λ (l : List (Numbered OptionValue)). pair_value y ∷ l) (map-append a b)
+    ∙ take-append-drop i xs)
+
+-- the option at a place is emitted behind those before it
+pub more_pairs : {w b e : Writing} (xs : List Pair) (i : ℕ) (x : Pair) → x ≡ get_or xs i x → i < length xs
+    → AppendedField w Options (map pair_value (take i xs)) b → AppendedOctets (OptionFits (pair_value x)) (piece (as_piece option_octets (pair_value x))) b e
+    → AppendedField w Options (map pair_value (take (i + 1) xs)) e
+more_pairs {w} {b} {e} xs i x is lt f g =
+    let longer : take (i + 1) xs ≡ take i xs ++ x ∷ [] = take_more xs i x lt ∙ ap (λ (y : Pair). take i xs ++ y ∷ []) (sym is) in
+    subst (λ (v : List (Numbered OptionValue)). AppendedField w Options v e)
+    (sym (ap (map pair_value) longer ∙ map_append (take i xs) (x ∷ [])))
+    (more_options (map pair_value (take i xs)) (pair_value x) f g)
 
 pub stopped_pair : {e : ProtoError} {w b n : Writing} (xs : List Pair) (i : ℕ) (x : Pair) → x ≡ get_or xs i x → i < length xs → edns_code_number x.0 < 65536
     → AppendedField w Options (map pair_value (take i xs)) b

@@ -1,5 +1,6 @@
 pub mod EdnsCode
 pub mod IpNet
+pub mod MaskExamples
 pub mod ClientSubnet
 pub mod NetText
 pub mod EdnsOption
@@ -8,8 +9,10 @@ pub mod Lent
 pub mod Order
 pub mod OrderLaws
 pub mod Places
+pub mod PlaceLaws
 pub mod Walking
 pub mod OptionReads
 pub mod Words
 pub mod Steps
 pub mod Facing
+pub mod Heads

@@ -1,6 +1,8 @@
 //! Laws of options.
 
-ghost use Rattle.std.specs.Prelude.{◌≡◌, ℕ, List};
+ghost use Rattle.std.specs.Prelude.{◌≡◌, ◌++◌, false, ℕ, List, []};
+ghost use Rattle.dns_rdata_options.specs.OPT.{Pair, code_eq, options_of, without};
+ghost use Rattle.dns_rdata_options.specs.MaskExamples.{MaskedFour, MaskedSixteen, MaskedWhole};
 ghost use Rattle.dns_rdata_options.specs.Order.{code_cmp, subnet_cmp, payload_cmp, option_cmp};
 ghost use Rattle.dns_rdata_options.specs.declared.opt.code.EdnsCode.{EdnsCode as Code};
 ghost use Rattle.dns_rdata_options.specs.declared.opt.option.EdnsOption.{EdnsOption as Content};
@@ -18,4 +20,24 @@ pub fn orders_hold()
     ensures payload { (a b : List ℕ) → ⟦<NSIDPayload as Ord>⟧.cmp a b ≡ payload_cmp a b }
     // options by variant, `Subnet` before `NSID` before `Unknown`, and then by what they hold
     ensures option { (a b : Content) → ⟦<EdnsOption as Ord>⟧.cmp a b ≡ option_cmp a b }
+{}
+
+/// What `OPT::get` and `OPT::get_all` find in lists that grow by `insert` and lose options by `remove`.
+pub fn options_hold()
+    // of two lists one behind the other, the options of the first, and then those of the second
+    ensures joined { (code : Code) (x y : List Pair) → options_of code (x ++ y) ≡ options_of code x ++ options_of code y }
+    // none of a code that was removed
+    ensures removed { (code : Code) (x : List Pair) → options_of code (without code x) ≡ [] }
+    // those of every other code as they were
+    ensures kept { (code other : Code) (x : List Pair) → code_eq other code ≡ false → options_of other (without code x) ≡ options_of other x }
+{}
+
+/// The first bits of addresses, that were worked out by hand.
+pub fn masks_hold()
+    // 192.0.2.77 to 24, 26, 0, 32 and 200 bits
+    ensures four { MaskedFour }
+    // 2001:db8:abcd:1234::1 to 36 bits
+    ensures sixteen { MaskedSixteen }
+    // and to 128
+    ensures whole { MaskedWhole }
 {}

@@ -1,6 +1,7 @@
 //! The data of OPT records: the options of EDNS.
 #![tactic(auto)]
 
+pub mod heads;
 pub mod laws;
 pub mod opt;
 pub mod order;

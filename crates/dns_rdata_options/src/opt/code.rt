@@ -96,6 +96,14 @@ impl From<EdnsCode> for u16 {
 }
 
 impl EdnsCode {
+    /// The number on the wire.
+    #[inline]
+    pub fn number(self) -> u16
+        ensures { result ≡ edns_code_number self }
+    {
+        u16::from(self)
+    }
+
     // The place in the declaration.
     #[inline]
     fn variant(self) -> u8

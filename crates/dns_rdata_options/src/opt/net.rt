@@ -1,10 +1,10 @@
 //! An address with the length of a prefix.
 
 ghost use Rattle.std.specs.Prelude.{◌≡◌, ◌<◌, ◌≤◌, IfSome, IfNone};
-ghost use Rattle.dns_rdata_options.specs.IpNet.{address_bits};
+ghost use Rattle.dns_rdata_options.specs.IpNet.{address_bits, masked_octet, masked_octets, masked_address};
 
 use std::marker::Model;
-use std::net::IpAddr;
+use std::net::{IpAddr, Ipv4Addr, Ipv6Addr};
 
 /// An address and how many bits of it are a prefix: at most 32 of IPv4, at most 128 of IPv6. Contracts see the pair.
 #[derive(Clone, Copy, Debug, PartialEq, Eq, Hash)]
@@ -58,5 +58,62 @@ impl IpNet {
         ensures most { result ≤ address_bits self.now.0 }
     {
         self.prefix_len
+    }
+
+    /// The net itself: the address with its bits behind the prefix set to 0, and the same prefix.
+    pub fn masked(self) -> IpNet
+        ensures { result ≡ (masked_address self.1 self.0, self.1) }
+    {
+        IpNet {
+            addr: masked_address(self.addr, self.prefix_len),
+            prefix_len: self.prefix_len,
+        }
+    }
+}
+
+/// The address with its first bits as they are, so many, and 0 for the others.
+pub(crate) fn masked_address(addr: IpAddr, bits: u8) -> IpAddr
+    ensures { result ≡ masked_address bits addr }
+{
+    match addr {
+        IpAddr::V4(ip) => {
+            let mut octets = ip.octets();
+            mask_octets(&mut octets, bits);
+            IpAddr::V4(Ipv4Addr::from_octets(octets))
+        }
+        IpAddr::V6(ip) => {
+            let mut octets = ip.octets();
+            mask_octets(&mut octets, bits);
+            IpAddr::V6(Ipv6Addr::from_octets(octets))
+        }
+    }
+}
+
+// Sets the bits behind so many to 0.
+fn mask_octets(octets: &mut [u8], bits: u8)
+    ensures { octets.new ≡ masked_octets bits octets.old }
+{
+    let mut left = bits;
+    for i in 0..octets.len() {
+        octets[i] = masked_octet(octets[i], left);
+        left = left.saturating_sub(8);
+    }
+}
+
+// An octet with its first bits as they are, so many of its eight, and 0 for the others.
+#[inline]
+fn masked_octet(octet: u8, bits: u8) -> u8
+    ensures { result ≡ masked_octet bits octet }
+{
+    match bits {
+        0 => 0,
+        1 => octet / 128 * 128,
+        2 => octet / 64 * 64,
+        3 => octet / 32 * 32,
+        4 => octet / 16 * 16,
+        5 => octet / 8 * 8,
+        6 => octet / 4 * 4,
+        7 => octet / 2 * 2,
+        _ => octet,
     }
 }

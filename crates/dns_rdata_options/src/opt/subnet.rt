@@ -6,8 +6,9 @@ ghost use Rattle.dns_names_wire.specs.Words.{ReadsBy, IsMessage};
 ghost use Rattle.dns_rdata_options.specs.Words.{EmitsOctets};
 ghost use Rattle.dns_rdata_options.specs.ClientSubnet.{subnet_value, SubnetAt, NoSubnet, subnet_refusal, ReadsSubnet, prefix_octets};
 ghost use Rattle.dns_rdata_options.specs.ClientSubnet.{family_octets, address_of, address_octets, family_of, padded, IsFamily};
+ghost use Rattle.dns_rdata_options.specs.IpNet.{masked_address};
 
-use crate::opt::net::IpNet;
+use crate::opt::net::{IpNet, masked_address};
 use dns_names_wire::{BinDecodable, BinDecoder, BinEncodable, BinEncoder, DecodeError, ProtoError};
 use std::alloc::Global;
 use std::net::{IpAddr, Ipv4Addr, Ipv6Addr};
@@ -105,6 +106,19 @@ impl ClientSubnet {
     {
         self.scope_prefix = scope_prefix;
     }
+
+    /// The subnet with the bits of its address behind the source prefix set to 0; both prefixes stay. A source prefix of
+    /// as many bits as the address has or more keeps the address.
+    #[inline]
+    pub fn masked(self) -> ClientSubnet
+        ensures { result ≡ record self { address = masked_address self.source_prefix self.address } }
+    {
+        ClientSubnet {
+            address: masked_address(self.address, self.source_prefix),
+            source_prefix: self.source_prefix,
+            scope_prefix: self.scope_prefix,
+        }
+    }
 }
 
 impl ClientSubnet {
@@ -193,6 +207,8 @@ fn read_front(octets: &[u8]) -> Result<(ClientSubnet, usize), DecodeError>
 
 impl BinDecodable for ClientSubnet {
     ghost stands = { SubnetAt };
+
+    ghost refuses = { λ old e _. subnet_refusal (drop old.index old.message) e };
 
     /// Reads a subnet, and leaves what follows. Octets of the address that do not stand are 0. It is refused, and takes
     /// nothing, for the first of these: by `UnknownAddressFamily` for a family that is neither 1 nor 2; by

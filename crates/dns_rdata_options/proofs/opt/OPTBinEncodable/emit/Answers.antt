@@ -4,7 +4,7 @@ use Rattle.dns_fields.specs.Fields.{Options}
 use Rattle.dns_names_wire.specs.Words.{StoppedField}
 use Rattle.dns_names_wire.proofs.FieldWrites.{stopped_first}
 use Rattle.dns_rdata_options.specs.OPT.{Pair, pair_value}
-use Rattle.dns_rdata_options.proofs.Pairs.{stopped_pair}
+use Rattle.dns_rdata_options.proofs.Pairs.{more_pairs, stopped_pair}
 use Rattle.dns_rdata_options.proofs.opt.OPTBinEncodable.emit.Goals as goal
 
 pub returns-in_err-emit_pair : goal.returns-in_err-emit_pair
@@ -17,3 +17,7 @@ returns-in_err-emit_pair c =
     let e = stopped_first (subst (λ (ys : List Pair). StoppedField c.in_err-emit_pair.field-0.0 c.args.encoder.now Options (map pair_value ys)
     c.emit_pair.new.encoder) same stopped) in
     rw (p.1, p.2) (record { emits = e; extends = e.extends })
+
+pub loop-pair-preserved : goal.loop-pair-preserved
+loop-pair-preserved c = more_pairs c.as_slice-pair-items.result.now c.loop-pair.pair-index c.pair-item.result c.pair-item.is (omega arith)
+    c.loop-pair.invariant c.in_ok-emit_pair.ensures.emits
