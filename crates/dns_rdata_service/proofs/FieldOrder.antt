@@ -1,13 +1,13 @@
 -- Lists compared item by item, and under a view.
-use Rattle.std.proofs.Common.{◌≡◌, ◌⊎◌, inl, inr, ℕ, zero, suc, ◌+◌, ◌-◌, ◌<◌, ◌≤◌, Bool, true, false, List, [], ◌∷◌, length, get_or, drop, map, refl, sym, ap, ◌∙◌, arith}
+use Rattle.std.proofs.Common.{◌≡◌, ℕ, ◌+◌, ◌-◌, ◌<◌, ◌≤◌, true, false, List, [], ◌∷◌, length, get_or, drop, map, refl, sym, ap, ◌∙◌, arith}
 use Rattle.std.proofs.lemmas.Bool.Decides.{nat_tests}
 use Rattle.std.proofs.lemmas.List.{drop_more, length-drop}
 use Rattle.std.specs.Cmp.Lexicographic.{slice_cmp}
 use Rattle.std.specs.Ordering.{nat_cmp, ordering_then, is_ne}
 use Rattle.std.specs.declared.cmp.Ordering.{Ordering}
 use Rattle.std.specs.declared.cmp.Ordering.TheVariants.{Less, Equal, Greater}
-use Rattle.dns_pieces.proofs.Comparing.{then_equal, then_assoc}
-use Rattle.dns_fields.specs.Equal.{Key, key_cmp, parameter_key, parameter_keys}
+use Rattle.dns_pieces.proofs.Comparing.{then_equal}
+use Rattle.dns_fields.specs.Equal.{key_cmp, parameter_key, parameter_keys}
 use Rattle.dns_rdata_base.specs.Numbered.{numbered_cmp}
 use Rattle.dns_rdata_service.specs.SvcParamKey.{key_number, key_variant}
 use Rattle.dns_rdata_service.specs.SvcParamValue.{key_numbers, value_key, a_octets, aaaa_octets}

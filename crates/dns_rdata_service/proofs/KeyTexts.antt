@@ -1,9 +1,10 @@
 -- A text is of one key at most, and why it is of none.
 use Rattle.std.proofs.Common.{◌≡◌, ◌≢◌, ℕ, List, [], ◌∷◌, ◌++◌, drop, refl, sym, ◌∙◌, ap}
-use Rattle.std.proofs.Common.{find, ◌==◌, Option, Some, None}
+use Rattle.std.proofs.Common.{find, ◌==◌, Option, Some, None, Bor}
 use Rattle.std.specs.Prelude.{codes}
 use Rattle.std.specs.Cmp.Lexicographic.{pointwise}
 use Rattle.std.specs.Str.Parse.{digits_value, without_leading_plus}
+use Rattle.dns_types.specs.declared.error.ProtoError.TheVariants as proto
 use Rattle.dns_rdata_service.specs.SvcParamKey.{key_text}
 use Rattle.dns_rdata_service.specs.KeyTexts.{IsNumberedKey, IsKeyText}
 use Rattle.dns_rdata_service.specs.declared.svcb.key.SvcParamKey.{SvcParamKey}
@@ -33,6 +34,9 @@ no_key text other none Ipv6Hint is = other.ipv6hint is
 no_key text other none (Key n) is = none n is.0
 no_key text other none Key65535 is = other.key65535 is
 no_key text other none (Unknown n) is = is
+
+pub not_memory : (why : Bor (List ℕ)) → proto.Message why ≢ proto.Memory
+not_memory why e = absurd cc
 
 -- ---- one key at most
 

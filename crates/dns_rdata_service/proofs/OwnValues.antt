@@ -1,7 +1,7 @@
 -- The keys that parameters are compared by tell their fields.
 use Rattle.std.proofs.Common.{◌≡◌, ℕ, List, [], ◌∷◌, map, drop, get_or, refl, sym, ap, ◌∙◌, arith}
-use Rattle.dns_fields.specs.Pieces.{Numbered, ParameterValue, Mandatory, Alpn, NoDefaultAlpn, Port, Ipv4Hint, Ipv6Hint, Opaque}
-use Rattle.dns_rdata_service.specs.SvcParamKey.{key_number, key_variant}
+use Rattle.dns_fields.specs.Pieces.{Numbered, ParameterValue, Mandatory, Alpn, Port, Ipv4Hint, Ipv6Hint, Opaque}
+use Rattle.dns_rdata_service.specs.SvcParamKey.{key_number}
 use Rattle.dns_rdata_service.specs.SvcParamValue.{key_numbers, value_key, value_of}
 use Rattle.dns_rdata_service.specs.Parameters.{Parameter, parameter_of, own_parameter}
 use Rattle.dns_rdata_service.specs.declared.svcb.key.SvcParamKey.{SvcParamKey}

@@ -11,7 +11,7 @@ use Rattle.std.specs.Cmp.{first_so, second_so}
 use Rattle.dns_fields.specs.Pieces.{string, piece, pieces, as_piece, ParameterValue, Mandatory, Alpn, NoDefaultAlpn, Port, Ipv4Hint, Ipv6Hint, Opaque, parameter_octets, parameter_emittable, rising, is_some as some_name}
 use Rattle.dns_fields.specs.Fields.{Name, field_octets, parameter_pieces}
 use Rattle.dns_pieces.specs.declared.step.Step.{Step}
-use Rattle.dns_pieces.specs.Steps.{GivesStep, StepAt, Ended}
+use Rattle.dns_pieces.specs.Steps.{GivesStep, StepAt}
 use Rattle.dns_fields.specs.Labels.{lowname}
 use Rattle.dns_rdata_service.specs.SvcParamValue.{value_of, fits_value, a_octets, aaaa_octets}
 use Rattle.dns_rdata_base.specs.declared.a.A.{A}
@@ -20,7 +20,7 @@ use Rattle.dns_rdata_service.specs.declared.svcb.ip_hint.IpHint.{IpHint}
 use Rattle.dns_rdata_service.specs.declared.svcb.value.SvcParamValue.{SvcParamValue}
 use Rattle.dns_rdata_service.specs.declared.svcb.value.SvcParamValue.TheVariants as variants
 use Rattle.dns_rdata_service.specs.Parameters.{Parameter, parameter_of}
-use Rattle.dns_rdata_service.specs.Steps.{parameter_head, value_front, value_items, parameters_from, items_of, parameters_left, svcb_left, are_emittable, GivesItem, NextPiece, GivesPiece}
+use Rattle.dns_rdata_service.specs.Steps.{parameter_head, value_front, value_items, parameters_from, items_of, parameters_left, svcb_left, are_emittable, NextPiece, GivesPiece}
 use Rattle.dns_rdata_service.specs.declared.svcb.SVCB.{SVCB}
 
 -- ---- how many octets

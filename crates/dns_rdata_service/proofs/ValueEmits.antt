@@ -1,14 +1,14 @@
 -- Values that are emitted.
-use Rattle.std.proofs.Common.{◌≡◌, ◌≢◌, Bool, true, false, ◌&&◌, nat_le, ℕ, ◌<◌, ◌^◌, Result, map, List, length, refl, sym, ◌∙◌, arith}
+use Rattle.std.proofs.Common.{◌≡◌, ◌≢◌, Bool, true, false, ◌&&◌, nat_le, ℕ, ◌<◌, ◌^◌, Result, map, List, length, refl, sym, ap, ◌∙◌, ◌+◌, arith}
 use Rattle.std.specs.List.{flat_map, list_all, AllByRecursion}
-use Rattle.std.proofs.lemmas.List.{length-map}
+use Rattle.std.proofs.lemmas.List.{length-map, length-append}
 use Rattle.std.specs.Int.{bytes_high_first}
 use Rattle.dns_types.specs.declared.error.ProtoError.{ProtoError}
 use Rattle.dns_fields.specs.Fields.{Number, Text, field_octets}
 use Rattle.dns_fields.specs.Pieces.{ParameterValue, Mandatory, Alpn, string, is_some, IsEmittable, parameter_octets, parameter_emittable}
 use Rattle.dns_names_wire.specs.State.{Writing}
-use Rattle.dns_names_wire.specs.Words.{EmitsField, StoppedField, Extends}
-use Rattle.dns_names_wire.proofs.FieldWrites.{because_map}
+use Rattle.dns_names_wire.specs.Words.{AppendedField, EmitsField, StoppedField, Extends}
+use Rattle.dns_names_wire.proofs.FieldWrites.{and_false, because_map, extends_then}
 use Rattle.dns_rdata_service.specs.Emitting.{StoppedOctets}
 use Rattle.dns_rdata_service.specs.SvcParamValue.{fits_value, sized, EmitsValue}
 use Rattle.dns_rdata_service.specs.Hints.{EmitsEach}
@@ -20,6 +20,16 @@ pub place_refused : (v : ParameterValue) {e : ProtoError} {old new : Writing} �
     → StoppedOctets e old (fits_value v) (sized v) new
 unfolding field_octets
 place_refused v {e} h = record { extends = h.extends; why = because_map e _ _ _ _ (λ r. omega (arith, r.full)) (λ u. absurd (cc (u.unfit))) h.why }
+
+-- a value is refused behind its length
+pub sized_refused : (v : ParameterValue) {e : ProtoError} {old b new : Writing} → AppendedField old (Number 2) 0 b
+    → StoppedOctets e b (parameter_emittable v) (parameter_octets v) new → StoppedOctets e old (fits_value v) (sized v) new
+sized_refused v {e} {old} {b} f h =
+    let two : length b.octets ≡ length old.octets + 2 = ap length f.field.is.1 ∙ length-append old.octets (bytes_high_first 2 0) in
+    record {
+      extends = extends_then f h.extends;
+      why = because_map e _ _ _ _ (λ r. omega (arith, r, f.keeps.limit, two)) (λ u. rw u (and_false (nat_le (length (parameter_octets v)) 65535))) h.why;
+    }
 
 -- ---- lists
 

@@ -29,6 +29,16 @@ abbrev pub ReadsEach : {T X : Type 0} → (List ℕ → ℕ → T → ℕ → Ty
 ReadsEach S items (Ok x) old new = StandToEnd S old (items x) new
 ReadsEach S items (Err e) old new = StaysBehind old new × UnlessMemory e (StopsBefore S old.message old.index)
 
+-- Some stand one behind the other, and behind them, before the end, another is refused so.
+pub record RefusedBehind {T : Type 0} (S : List ℕ → ℕ → T → ℕ → Type 0) (R : Reading → DecodeError → Reading → Type 0) (old : Reading) (e : DecodeError)
+    (new : Reading) : Type 0 where
+  pub items : List T
+  pub place : Reading
+  pub message : place.message ≡ old.message
+  pub stand : StandEach S old.message old.index items place.index
+  pub before : place.index < length old.message
+  pub refused : R place e new
+
 -- emits the values one behind the other; the first one that is refused stops it
 abbrev pub EmitsEach : {T : Type 0} → (T → Result (Unit {0}) ProtoError → Writing → Writing → Type 0) → List T → Result (Unit {0}) ProtoError → Writing
     → Writing → Type 0

@@ -1,5 +1,5 @@
 -- SVCB: how a service is reached (RFC 9460, 2.2).
-use Rattle.std.specs.Prelude.{◌≡◌, ◌⊎◌, ℕ, ◌+◌, ◌≤◌, ◌<◌, List, [], ◌∷◌, ◌++◌, map, codes, decimal}
+use Rattle.std.specs.Prelude.{◌≡◌, ◌⊎◌, ℕ, ◌+◌, ◌≤◌, ◌<◌, ◌==◌, if◌then◌else◌, List, [], ◌∷◌, ◌++◌, Option, Some, None, map, codes, decimal}
 use Rattle.std.specs.List.{flat_map}
 use Rattle.dns_types.specs.declared.error.DecodeError.{DecodeError}
 use Rattle.dns_types.specs.declared.error.DecodeError.TheVariants as decode
@@ -9,10 +9,11 @@ use Rattle.dns_labels.specs.Text.{name_text}
 use Rattle.dns_names_wire.specs.State.{Reading}
 use Rattle.dns_names_wire.specs.Words.{Took}
 use Rattle.dns_rdata_base.specs.Refusing.{IsLack}
-use Rattle.dns_rdata_service.specs.SvcParamKey.{key_text}
+use Rattle.dns_rdata_service.specs.SvcParamKey.{key_number, key_text}
 use Rattle.dns_rdata_service.specs.SvcParamValue.{value_text}
 use Rattle.dns_rdata_service.specs.Parameters.{Parameter, parameter_of, own_parameter, AreRead, parameters_refusal}
 use Rattle.dns_rdata_service.specs.declared.svcb.SVCB.{SVCB}
+use Rattle.dns_rdata_service.specs.declared.svcb.value.SvcParamValue.{SvcParamValue}
 
 -- priority, target name, parameters
 abbrev pub svcb_shape : List Kind
@@ -31,6 +32,18 @@ svcb_keys x = (x.svc_priority, (x.target_name, (map own_parameter x.svc_params, 
 -- keys and values are those that their fields give
 abbrev pub IsReadSvcb : SVCB → Type 0
 IsReadSvcb x = AreRead x.svc_params
+
+-- ---- parameters by the numbers of their keys
+
+abbrev pub number_of_parameter : Parameter → ℕ
+number_of_parameter p = key_number p.0
+
+-- the value of the first parameter whose key has the number
+abbrev pub value_at : ℕ → List Parameter → Option SvcParamValue
+value_at n [] = None
+value_at n (p ∷ ps) = if key_number p.0 == n then Some p.1 else value_at n ps
+
+-- ---- texts
 
 -- a blank, the key, an equals sign and the value
 abbrev pub parameter_text : Parameter → List ℕ

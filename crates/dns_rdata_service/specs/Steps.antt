@@ -3,7 +3,7 @@
 use Rattle.std.specs.Prelude.{◌≡◌, ℕ, zero, suc, ◌+◌, ◌<◌, ◌&&◌, nat_le, Bool, Option, Some, None, List, [], ◌∷◌, ◌++◌, length, drop, map, slice_get, true}
 use Rattle.std.specs.List.{flat_map, list_all}
 use Rattle.std.specs.Int.{bytes_high_first}
-use Rattle.dns_fields.specs.Pieces.{string, pieces, ParameterValue, Mandatory, Alpn, NoDefaultAlpn, Port, Ipv4Hint, Ipv6Hint, Opaque, parameter_octets, parameter_emittable, parameters_emittable}
+use Rattle.dns_fields.specs.Pieces.{string, pieces, ParameterValue, Mandatory, Alpn, Port, Ipv4Hint, Ipv6Hint, Opaque, parameter_octets, parameter_emittable, parameters_emittable}
 use Rattle.dns_fields.specs.Fields.{canonical, parameter_pieces}
 use Rattle.dns_pieces.specs.Steps.{Left}
 use Rattle.dns_pieces.specs.declared.step.Step.{Step}

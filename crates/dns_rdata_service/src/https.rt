@@ -1,7 +1,10 @@
 //! HTTPS: how a web service is reached (RFC 9460, 9).
 
-ghost use Rattle.std.specs.Prelude.{◌≡◌, IfErr, IfOk};
+ghost use Rattle.std.specs.Prelude.{◌≡◌, ◌≤◌, length, IfErr, IfOk};
+ghost use Rattle.std.specs.List.Sorted.{IsPermutation, IsNonDecreasingBy, IsStableByKey};
+ghost use Rattle.std.specs.Ordering.{nat_cmp};
 ghost use Rattle.dns_names_wire.specs.Words.{ReadsWindow, EmitsAs, Extends, Keeps};
+ghost use Rattle.dns_rdata_service.specs.SVCB.{number_of_parameter};
 ghost use Rattle.dns_rdata_service.specs.HTTPS.{https_shape, https_fields, https_key_shape, https_keys, IsReadHttps, https_refusal};
 
 use crate::svcb::SVCB;
@@ -18,6 +21,21 @@ use std::ops::Deref;
 /// How a web service is reached (RFC 9460, 9): the fields of SVCB.
 #[derive(Debug, Drop)]
 pub struct HTTPS(pub SVCB);
+
+impl HTTPS {
+    /// Sorts the parameters by the numbers of their keys, as `SVCB::sort_params`. Takes no memory.
+    #[inline]
+    pub fn sort_params(&mut self)
+        ensures permutation { IsPermutation self.old.0.svc_params self.new.0.svc_params }
+        ensures order { IsNonDecreasingBy number_of_parameter self.new.0.svc_params }
+        ensures stable { length self.old.0.svc_params ≤ 20 →
+            IsStableByKey number_of_parameter nat_cmp self.old.0.svc_params self.new.0.svc_params }
+        ensures priority { self.new.0.svc_priority ≡ self.old.0.svc_priority }
+        ensures target { self.new.0.target_name ≡ self.old.0.target_name }
+    {
+        self.0.sort_params();
+    }
+}
 
 impl RecordDataDecodable for HTTPS {
     ghost kinds = { https_shape };

@@ -1,6 +1,11 @@
 //! Lists of values that a value owns.
-ghost use Rattle.std.specs.Prelude.{◌≡◌, ◌++◌, ◌∷◌, [], IfOk, OnOk, OnErr, length};
+ghost use Rattle.std.specs.Prelude.{◌≡◌, ◌<◌, ◌^◌, ◌++◌, ◌∷◌, ◌↔◌, [], IfOk, IsTrue, OnOk, OnErr, length};
 ghost use Rattle.std.specs.List.{AllZip};
+ghost use Rattle.std.specs.Global.{Global};
+ghost use Rattle.std.specs.Slice.Iter.{iter_rest};
+ghost use Rattle.std.specs.Vec.Iter.{into_iter_items, into_iter_len, into_iter_steps};
+ghost use Rattle.std.specs.Iterator.Adapters.{IterYieldsInOrder};
+ghost use Rattle.std.specs.Iterator.Runs.{EveryRun, ItemsAre};
 ghost use Rattle.std.specs.Cmp.Lexicographic.{pointwise, lists_equiv, lists_per};
 ghost use Rattle.std.specs.Hash as fed;
 ghost use Rattle.std.specs.Hash.{items_Alike};
@@ -8,8 +13,12 @@ ghost use Rattle.std.specs.Hash.{items_Alike};
 use std::alloc::{AllocError, Global};
 use std::hash::{Hash, Hasher};
 use std::marker::Model;
+use std::ops::DerefSlice;
+use std::{slice, vec};
 
 /// Values that a value owns, which contracts see as their list.
+///
+/// They have the methods of a slice, as `iter`, `get` and `first`, and an index.
 #[derive(Debug, Drop)]
 pub struct Items<T> {
     items: Vec<T>,
@@ -77,6 +86,14 @@ impl<T> Items<T> {
         self.items.len()
     }
 
+    /// Whether there are none.
+    #[inline]
+    pub fn is_empty(&self) -> bool
+        ensures { IsTrue result ↔ (self.now ≡ []) }
+    {
+        self.items.is_empty()
+    }
+
     /// The allocator of the list.
     #[inline]
     pub fn allocator(&self) -> Global {
@@ -102,6 +119,75 @@ impl<T: Drop> Items<T> {
     {
         self.items.push(value)?;
         Ok(())
+    }
+}
+
+impl<T: PartialEq> Items<T> {
+    /// Whether these are the values of the slice, one by one.
+    #[inline]
+    pub fn eq_slice(&self, values: &[T]) -> bool
+        ensures { result ≡ pointwise T.eq self.now values.now }
+    {
+        same_items(self.as_slice(), values)
+    }
+}
+
+impl<T> From<Vec<T>> for Items<T> {
+    ghost from_gives = { λ values items. items ≡ values.items };
+
+    #[inline]
+    fn from(values: Vec<T>) -> Items<T> {
+        Items::from_vec(values)
+    }
+}
+
+impl<T> From<Items<T>> for Vec<T> {
+    ghost from_gives = { λ items values. values.items ≡ items };
+
+    #[inline]
+    fn from(items: Items<T>) -> Vec<T> {
+        items.into_vec()
+    }
+}
+
+impl<T> DerefSlice for Items<T> {
+    type Elem = T;
+
+    ghost deref_gives = { λ items values. values ≡ items };
+
+    /// The values, lent: what the methods of a slice and an index go through.
+    #[inline]
+    fn deref(&self) -> &[T] {
+        self.as_slice()
+    }
+}
+
+/// The values in their order.
+impl<'a, T> IntoIterator for &'a Items<T> {
+    type Item = &'a T;
+
+    type IntoIter = slice::Iter<'a, T>;
+
+    ghost into_iter_gives = { λ items it. (iter_rest it ≡ items.now) × (length (iter_rest it) < 2 ^ 64) × IterYieldsInOrder T };
+
+    #[inline]
+    fn into_iter(self) -> slice::Iter<'a, T> {
+        self.as_slice().iter()
+    }
+}
+
+/// The values in their order. They are moved.
+impl<T: Drop> IntoIterator for Items<T> {
+    type Item = T;
+
+    type IntoIter = vec::IntoIter<T>;
+
+    ghost into_iter_gives = { λ items it. (into_iter_items it ≡ items) × (into_iter_len it ≡ length items) × (into_iter_len it < 2 ^ 64)
+        × EveryRun (into_iter_steps {X = T} {Z = Global}) (λ p. ItemsAre p (into_iter_items p.from)) };
+
+    #[inline]
+    fn into_iter(self) -> vec::IntoIter<T> {
+        self.into_vec().into_iter()
     }
 }
 

@@ -1,10 +1,14 @@
 //! SVCB: how a service is reached (RFC 9460).
 
-ghost use Rattle.std.specs.Prelude.{◌≡◌, IfErr, IfOk};
+ghost use Rattle.std.specs.Prelude.{◌≡◌, ◌≤◌, length, IfErr, IfOk};
+ghost use Rattle.std.specs.Option.{option_copied};
+ghost use Rattle.std.specs.List.Sorted.{IsPermutation, IsNonDecreasingBy, IsStableByKey};
+ghost use Rattle.std.specs.Ordering.{nat_cmp};
 ghost use Rattle.std.specs.Cmp.Lexicographic.{pointwise};
 ghost use Rattle.dns_names_wire.specs.Words.{ReadsWindow, EmitsAs, Extends, Keeps};
 ghost use Rattle.dns_rdata_service.specs.OwnKeys.{value_eq, parameter_eq};
-ghost use Rattle.dns_rdata_service.specs.SVCB.{svcb_shape, svcb_fields, svcb_key_shape, svcb_keys, IsReadSvcb, svcb_refusal};
+ghost use Rattle.dns_rdata_service.specs.SVCB.{svcb_shape, svcb_fields, svcb_key_shape, svcb_keys, IsReadSvcb, svcb_refusal, number_of_parameter, value_at};
+ghost use Rattle.dns_rdata_service.specs.SvcParamKey.{key_number};
 
 mod alpn;
 mod ech_config_list;
@@ -30,10 +34,10 @@ pub use ech_config_list::EchConfigList;
 pub use ip_hint::IpHint;
 pub use key::SvcParamKey;
 pub use mandatory::Mandatory;
-pub use parameter_word::parameter_of;
+pub(crate) use parameter_word::parameter_of;
 use std::alloc::AllocError;
-use std::fmt;
 use std::hash::{Hash, Hasher};
+use std::{fmt, mem};
 pub use unknown::Unknown;
 pub use value::SvcParamValue;
 
@@ -42,12 +46,10 @@ pub use value::SvcParamValue;
 ///
 /// ```rust
 /// fn port_of(service: &SVCB) -> Option<u16> {
-///     for (_, value) in service.svc_params.as_slice() {
-///         if let SvcParamValue::Port(port) = value {
-///             return Some(*port);
-///         }
+///     match service.get(SvcParamKey::Port)? {
+///         SvcParamValue::Port(port) => Some(*port),
+///         _ => None,
 ///     }
-///     None
 /// }
 /// ```
 #[derive(Debug, Drop)]
@@ -76,6 +78,32 @@ impl SVCB {
             target_name,
             svc_params: Items::from_vec(svc_params),
         }
+    }
+
+    /// The value of the first parameter with this key's number, if there is one. Keys are told by their numbers alone.
+    #[inline]
+    pub fn get(&self, key: SvcParamKey) -> Option<&SvcParamValue>
+        ensures { option_copied result ≡ value_at (key_number key) self.now.svc_params }
+    {
+        parameters::value_of_number(self.svc_params.as_slice(), key.number())
+    }
+
+    /// Sorts the parameters by the numbers of their keys, as they are to stand in a message (RFC 9460, 2.2). Takes no
+    /// memory. Up to 20 parameters stay in their order where their numbers are the same; a record with such parameters
+    /// is refused by `emit`.
+    pub fn sort_params(&mut self)
+        ensures permutation { IsPermutation self.old.svc_params self.new.svc_params }
+        ensures order { IsNonDecreasingBy number_of_parameter self.new.svc_params }
+        ensures stable { length self.old.svc_params ≤ 20 →
+            IsStableByKey number_of_parameter nat_cmp self.old.svc_params self.new.svc_params }
+        ensures priority { self.new.svc_priority ≡ self.old.svc_priority }
+        ensures target { self.new.target_name ≡ self.old.target_name }
+    {
+        let alloc = self.svc_params.allocator();
+        let params = mem::replace(&mut self.svc_params, Items::new(alloc));
+        let mut params = params.into_vec();
+        parameters::sort_by_number(alloc, params.as_mut_slice());
+        self.svc_params = Items::from_vec(params);
     }
 }
 

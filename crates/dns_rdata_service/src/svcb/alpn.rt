@@ -36,6 +36,8 @@ impl Alpn {
 impl BinDecodable for Alpn {
     ghost stands = { AlpnAt };
 
+    ghost refuses = { λ old e _. value_refusal Names (drop old.index old.message) e };
+
     /// Reads names to the message's end, by one request for memory for the list and one for each name of more than 16
     /// octets. None are refused by `SvcParamMissingValue`, a name that lacks octets by `InsufficientBytes`, and one that is not UTF-8 by `Utf8`.
     fn read(decoder: &mut BinDecoder<'_>) -> Result<Alpn, DecodeError>

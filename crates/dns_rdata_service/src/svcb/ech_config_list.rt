@@ -19,6 +19,8 @@ pub struct EchConfigList(pub Octets);
 impl BinDecodable for EchConfigList {
     ghost stands = { EchConfigListAt };
 
+    ghost refuses = { λ old e _. value_refusal AnyOctets (drop old.index old.message) e };
+
     /// Reads the octets to the message's end, by one request for memory.
     #[inline]
     fn read(decoder: &mut BinDecoder<'_>) -> Result<EchConfigList, DecodeError>

@@ -1,8 +1,8 @@
 //! Addresses of a service.
 
-ghost use Rattle.std.specs.Prelude.{◌≡◌, ◌∷◌, IfOk};
+ghost use Rattle.std.specs.Prelude.{◌≡◌, ◌⊎◌, ◌∷◌, IfOk, IfErr};
 ghost use Rattle.std.specs.List.{AllZip};
-ghost use Rattle.dns_rdata_service.specs.Hints.{ReadsEach, EmitsEach};
+ghost use Rattle.dns_rdata_service.specs.Hints.{ReadsEach, RefusedBehind, EmitsEach};
 
 use crate::items::Items;
 use dns_names_wire::{BinDecoder, BinEncodable, BinEncoder, DecodeError, ProtoError};
@@ -14,11 +14,23 @@ use std::fmt;
 #[derive(Debug, Drop, PartialEq, Eq, Hash)]
 pub struct IpHint<T>(pub Items<T>);
 
+impl<T> IpHint<T> {
+    /// With these addresses, which are moved, in this order. Nothing is refused.
+    #[inline]
+    pub fn new(addresses: Vec<T>) -> IpHint<T>
+        ensures { result.0 ≡ addresses.items }
+    {
+        IpHint(Items::from_vec(addresses))
+    }
+}
+
 impl<T: TakesOctet + Drop> IpHint<T> {
     /// Reads addresses to the message's end. Where each has as many octets as the first, it asks for memory once beside
-    /// what an address asks for itself. Where one is refused, so are all.
+    /// what an address asks for itself. Where one is refused, so are all, by the same error; where memory runs out, by
+    /// `Memory`.
     pub fn read(decoder: &mut BinDecoder<'_>) -> Result<IpHint<T>, DecodeError>
         ensures reads { ReadsEach T.stands (λ x. x.0) result decoder.old decoder.new }
+        ensures refused { IfErr result (λ e. (e ≡ DecodeError.Memory) ⊎ RefusedBehind T.stands T.refuses decoder.old e decoder.new) }
     {
         let mut items = Items::new(decoder.allocator());
         'items: while decoder.len() > 0 {

@@ -86,7 +86,7 @@ impl FromItem for u16 {
     fn from_item(_alloc: Global, item: &str) -> Result<u16, ParseError> {
         match item.parse::<u16>() {
             Ok(number) => Ok(number),
-            Err(_) => Err(ParseError::Message("not a number of 16 bits")),
+            Err(_) => Err(ParseError::Message("Invalid digit found in the parameter port")),
         }
     }
 }
@@ -104,7 +104,9 @@ impl FromItem for EchConfigList {
         match STANDARD.decode(alloc, item.as_bytes()) {
             Ok(octets) => Ok(EchConfigList(Octets::from_vec(octets))),
             Err(DecodeAllocError::OutOfMemory) => Err(ParseError::Memory),
-            Err(DecodeAllocError::DecodeError(_)) => Err(ParseError::Message("not base64")),
+            Err(DecodeAllocError::DecodeError(_)) => Err(ParseError::Message(
+                "Invalid base64 in the parameter ech",
+            )),
         }
     }
 }

@@ -9,7 +9,7 @@ ghost use Rattle.std.proofs.Common.{rules};
 ghost use Rattle.dns_rdata_base.specs.Numbered.{NumberedAt, numbered_eq, numbered_cmp};
 ghost use Rattle.dns_rdata_base.proofs.NumberedLaws.{numbered_equiv, numbered_total, numbered_ties};
 ghost use Rattle.dns_fields.specs.Fields.{Number};
-ghost use Rattle.dns_names_wire.specs.Words.{ReadsBy, EmitsField, LacksOctets};
+ghost use Rattle.dns_names_wire.specs.Words.{ReadsBy, EmitsField, LacksOctets, IsCut};
 ghost use Rattle.dns_rdata_service.specs.SvcParamKey.{key_number, key_variant, key_of};
 
 use dns_names_wire::{BinDecodable, BinDecoder, BinEncodable, BinEncoder, DecodeError, ProtoError};
@@ -176,6 +176,8 @@ impl Ord for SvcParamKey {
 
 impl BinDecodable for SvcParamKey {
     ghost stands = { NumberedAt 2 key_number key_of };
+
+    ghost refuses = { IsCut 2 };
 
     /// Reads the number in two octets, the higher one first. Where fewer are left, it is refused, and takes none.
     #[inline]

@@ -1,6 +1,7 @@
 //! Texts of keys of service parameters (RFC 9460, 2.1 and 14.3.2).
 
-ghost use Rattle.std.specs.Prelude.{ℕ, MatchOption};
+ghost use Rattle.std.specs.Prelude.{◌≢◌, ℕ, IfErr, MatchOption};
+ghost use Rattle.dns_types.specs.declared.error.ProtoError.TheVariants as proto;
 ghost use Rattle.dns_rdata_service.specs.KeyTexts.{IsNumberedKey};
 
 use crate::svcb::key::SvcParamKey;
@@ -17,14 +18,14 @@ fn numbered(text: &str) -> Option<u16>
 
 /// `mandatory`, `alpn`, `no-default-alpn`, `port`, `ipv4hint`, `ech`, `ipv6hint`, `key65535`, or `key`, perhaps a `+`, and
 /// one decimal digit or more of a number of 16 bits, which gives `Key` of that number, also where it has a key of its
-/// own. Any other text is refused by `Message`. Takes no memory.
+/// own. Any other text is refused by `Message`. Takes no memory, so nothing is refused for want of it.
 impl FromStr for SvcParamKey {
     type Err = ProtoError;
 
     ghost use Rattle.std.specs.Net.Grammar.{Parses};
     ghost use Rattle.dns_rdata_service.specs.KeyTexts.{IsKeyText};
 
-    ghost from_str_gives = { Parses IsKeyText };
+    ghost from_str_gives = { λ text r. Parses IsKeyText text r × IfErr r (λ e. e ≢ proto.Memory) };
 
     #[tactic(auto, unfolding(crate::specs::SvcParamKey::key_text))]
     fn from_str(text: &str) -> Result<SvcParamKey, ProtoError> {

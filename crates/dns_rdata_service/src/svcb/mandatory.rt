@@ -15,8 +15,20 @@ use std::fmt;
 #[derive(Debug, Drop, PartialEq, Eq, Hash)]
 pub struct Mandatory(pub Items<SvcParamKey>);
 
+impl Mandatory {
+    /// With these keys, which are moved, in this order. Nothing is refused; no keys are refused where they are emitted.
+    #[inline]
+    pub fn new(keys: Vec<SvcParamKey>) -> Mandatory
+        ensures { result.0 ≡ keys.items }
+    {
+        Mandatory(Items::from_vec(keys))
+    }
+}
+
 impl BinDecodable for Mandatory {
     ghost stands = { MandatoryAt };
+
+    ghost refuses = { λ old e _. value_refusal Keys (drop old.index old.message) e };
 
     /// Reads keys to the message's end, by one request for memory. None are refused by `SvcParamMissingValue`, and an
     /// odd octet by `InsufficientBytes`.

@@ -30,7 +30,10 @@ use std::alloc::Global;
 /// a `=` there are none. Every other word is refused, `key65535` too: by `Proto` where there is no such key, by
 /// `AddrParse` where an item is no address, and else by `Message`. Takes memory for what the value holds, and where a piece
 /// of a list or an item has a `\`.
-pub fn parameter_of(alloc: Global, word: &str) -> Result<(SvcParamKey, SvcParamValue), ParseError>
+pub(crate) fn parameter_of(
+    alloc: Global,
+    word: &str,
+) -> Result<(SvcParamKey, SvcParamValue), ParseError>
     ensures ok { IfOk result (IsParameterWord word.now) }
     ensures refused { IfErr result (λ e. e ≢ parse.Memory → (p : Parameter) → IsParameterWord word.now p → ⊥) }
 {
@@ -60,7 +63,7 @@ fn with_value(
     ensures refused { IfErr result (λ e. e ≢ parse.Memory → (p : Parameter) → IsKeyText key.now p.0 → HasValue value.now p → ⊥) }
 {
     let Some(text) = unquoted(value) else {
-        return Err(ParseError::Message("one quote is no value"));
+        return Err(ParseError::Message("one quote alone as the value of a parameter"));
     };
     let key = key.parse::<SvcParamKey>()?;
     let value = value_of(alloc, key, text)?;
@@ -90,7 +93,20 @@ fn value_alone(alloc: Global, key: SvcParamKey) -> Result<SvcParamValue, ParseEr
     match key {
         SvcParamKey::NoDefaultAlpn => Ok(SvcParamValue::NoDefaultAlpn),
         SvcParamKey::Key(_) => Ok(SvcParamValue::Unknown(Unknown(Octets::new(alloc)))),
-        _ => Err(ParseError::Message("a value is missing")),
+        _ => Err(ParseError::Message(without_value(key))),
+    }
+}
+
+// What is said of a key that needs a value, or has no word.
+fn without_value(key: SvcParamKey) -> &'static str {
+    match key {
+        SvcParamKey::Mandatory => "value of the parameter mandatory missing",
+        SvcParamKey::Alpn => "value of the parameter alpn missing",
+        SvcParamKey::Port => "value of the parameter port missing",
+        SvcParamKey::Ipv4Hint => "value of the parameter ipv4hint missing",
+        SvcParamKey::EchConfigList => "value of the parameter ech missing",
+        SvcParamKey::Ipv6Hint => "value of the parameter ipv6hint missing",
+        _ => "no parameter has the key key65535",
     }
 }
 
@@ -125,8 +141,11 @@ fn value_of(alloc: Global, key: SvcParamKey, text: &str) -> Result<SvcParamValue
             let octets = Octets::from_slice(alloc, text.as_bytes())?;
             Ok(SvcParamValue::Unknown(Unknown(octets)))
         }
-        SvcParamKey::NoDefaultAlpn | SvcParamKey::Key65535 | SvcParamKey::Unknown(_) => {
-            Err(ParseError::Message("a key without such a value"))
+        SvcParamKey::NoDefaultAlpn => {
+            Err(ParseError::Message("the parameter no-default-alpn has no value"))
+        }
+        SvcParamKey::Key65535 | SvcParamKey::Unknown(_) => {
+            Err(ParseError::Message("no parameter has the key key65535"))
         }
     }
 }

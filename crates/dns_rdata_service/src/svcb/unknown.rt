@@ -19,6 +19,8 @@ pub struct Unknown(pub Octets);
 impl BinDecodable for Unknown {
     ghost stands = { UnknownAt };
 
+    ghost refuses = { λ old e _. value_refusal AnyOctets (drop old.index old.message) e };
+
     /// Reads the octets to the message's end, by one request for memory.
     #[inline]
     fn read(decoder: &mut BinDecoder<'_>) -> Result<Unknown, DecodeError>

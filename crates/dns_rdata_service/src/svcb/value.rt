@@ -130,15 +130,12 @@ fn hint6(alloc: Global, octets: &[u8]) -> Result<IpHint<AAAA>, DecodeError>
 impl BinEncodable for SvcParamValue {
     ghost emits = { λ x r old new. EmitsSized (value_of x) r old new };
 
-    /// Appends the value's length in two octets, and its octets. No keys or protocols, a protocol of more than 255 octets,
-    /// and a value of more than 65535 octets are refused by `Message`.
+    /// Appends the value's length in two octets, and its octets. No keys or protocols, and a protocol of more than 255 octets
+    /// are refused by `Message`; a value of more than 65535 octets has no room in any message.
     fn emit(&self, encoder: &mut BinEncoder<'_>) -> Result<(), ProtoError> {
         let place = encoder.place()?;
         self.emit_octets(encoder)?;
         let size = encoder.len_since_place(&place);
-        if size > 65535 {
-            return Err(ProtoError::Message("parameter value past 65535 octets"));
-        }
         encoder.replace(place, size as u16);
         Ok(())
     }

@@ -1,7 +1,5 @@
-use Rattle.std.proofs.Common.{◌∙◌, ap}
-use Rattle.std.specs.Ordering.{nat_cmp, ordering_then}
+use Rattle.std.proofs.Common.{◌∙◌}
 use Rattle.std.specs.Cmp.Lexicographic.{slice_cmp}
-use Rattle.dns_pieces.proofs.Comparing.{then_equal}
 use Rattle.dns_rdata_service.specs.Ordering.{parameter_order}
 use Rattle.dns_rdata_service.proofs.FieldOrder.{parameters_order, fields_order}
 use Rattle.dns_rdata_service.proofs.ordering.svcb_cmp.Goals as goal

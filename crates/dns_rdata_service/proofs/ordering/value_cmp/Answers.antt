@@ -1,7 +1,5 @@
 use Rattle.std.proofs.Common.{◌∙◌}
-use Rattle.std.specs.Ordering.{nat_cmp}
 use Rattle.std.specs.Cmp.Lexicographic.{slice_cmp}
-use Rattle.dns_rdata_service.specs.SvcParamValue.{a_octets, aaaa_octets}
 use Rattle.dns_rdata_service.specs.Ordering.{a_order, aaaa_order}
 use Rattle.dns_rdata_service.proofs.FieldOrder.{hints4_order, hints6_order}
 use Rattle.dns_rdata_service.proofs.ordering.value_cmp.Goals as goal

@@ -1,5 +1,5 @@
 use Rattle.std.proofs.Common.{arith}
-use Rattle.dns_rdata_service.proofs.PieceSteps.{fits_at, head_given, parameters_end}
+use Rattle.dns_rdata_service.proofs.PieceSteps.{fits_at, head_given}
 use Rattle.dns_rdata_service.proofs.steps.head_step.Goals as goal
 
 pub pair_head-requires-clause-fits : goal.pair_head-requires-clause-fits

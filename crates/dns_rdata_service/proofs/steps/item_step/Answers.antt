@@ -1,4 +1,4 @@
-use Rattle.std.proofs.Common.{arith, subst}
+use Rattle.std.proofs.Common.{arith}
 use Rattle.dns_rdata_service.proofs.PieceSteps.{emittable_at, item_piece, after_items, past_items}
 use Rattle.dns_rdata_service.proofs.steps.item_step.Goals as goal
 

@@ -7,5 +7,5 @@ pub returns-in_err-value-clause-refused : goal.returns-in_err-value-clause-refus
 returns-in_err-value-clause-refused c =
     let r = err_from_is_err_and c.from_residual-in_err-value.result c.from_residual-in_err-value.ensures.1 in
     rw (r.1, r.2) (λ h p k v.
-    let key = key_one c.args.word.now p.0 c.in_ok-key.key k c.in_ok-key.ensures.value in
+    let key = key_one c.args.word.now p.0 c.in_ok-key.key k c.in_ok-key.ensures.value.0 in
     c.in_err-value.ensures.refused p.1 (same_alone p.0 c.in_ok-key.key p.1 key v))
