@@ -1,6 +1,6 @@
 -- Cursors over record data.
 use Rattle.std.proofs.Common.{◌-◌, ◌++◌, drop, is_some, MatchOption}
-use Rattle.std.proofs.Common.{◌≡◌, ℕ, ◌+◌, ◌*◌, ◌≤◌, ◌<◌, nat_le, ◌&&◌, Bool, true, false, if◌then◌else◌, Option, Some, None, List, [], ◌∷◌, map, length, refl, sym, ap, ◌∙◌, arith, subst, IfSome, ◌⊎◌, inl, inr}
+use Rattle.std.proofs.Common.{◌≡◌, ℕ, ◌+◌, ◌*◌, ◌≤◌, ◌<◌, nat_le, ◌&&◌, Bool, true, false, if◌then◌else◌, Option, Some, None, List, [], ◌∷◌, map, length, refl, sym, ap, ◌∙◌, arith, subst, IfSome}
 use Rattle.std.proofs.lemmas.Bool.Decides.{nat_tests}
 use Rattle.std.proofs.lemmas.List.{append-nil, drop-drop}
 use Rattle.std.proofs.Math.ListN.{drop_of_length-le}
@@ -20,7 +20,7 @@ use Rattle.dns_rdata_sets.specs.CAA.{caa_shape, caa_fields}
 use Rattle.dns_rdata.specs.declared.record_data.RData.{RData}
 use Rattle.dns_rdata.specs.declared.record_data.RData.TheVariants as rdata
 use Rattle.dns_rdata.specs.Data.{fields_of, data_octets}
-use Rattle.dns_rdata.specs.Cursor.{data_left, data_windows, data_options, data_options_left, DataAt, left_of, windows_of, options_of, options_left_of, StepsOn, Remaining, Chooses, Advances}
+use Rattle.dns_rdata.specs.Cursor.{can_emit, data_left, data_windows, data_options, data_options_left, DataAt, DataKept, left_of, windows_of, options_of, options_left_of, StepsOn, Remaining, Chooses, Advances}
 
 pub with_true : (b : Bool) → b && true ≡ b
 with_true true = refl
@@ -53,6 +53,11 @@ begins_at (rdata.OPT x) h = (sym (with_true (pairs_emittable x)) ∙ h, tt)
 begins_at (rdata.SVCB x) h = sym (with_true (parameters_emittable (map parameter_of x.svc_params))) ∙ h
 begins_at (rdata.TXT x) h = emittable_short txt_shape (txt_fields x) h
 begins_at v h = tt
+
+-- and nothing is kept at first
+pub begins_kept : (v : RData) → DataKept v 0 0 None
+begins_kept (rdata.OPT x) = refl
+begins_kept v = tt
 
 whole : (v : RData) → data_left v 0 0 0 ≡ canonical (fields_of v).kinds (fields_of v).values
 unfolding field_octets
@@ -157,21 +162,18 @@ advances_both {a} {b} {c} f g =
 
 -- ---- the counts at the start
 
-pub some_options : (v : RData) (o : Option RData) → (o ≡ Some v) ⊎ (o ≡ None) → options_left_of o 0 0 0 ≤ data_options v
-unfolding options_left_of
-some_options v o (inl e) = rw e (first v)
-  where
-    first : (v : RData) → data_options_left v 0 0 0 ≤ data_options v
-    first (rdata.OPT x) = omega arith
-    first v = omega arith
-some_options v o (inr e) = rw e (omega arith)
+first_options : (v : RData) → data_options_left v 0 0 0 ≡ data_options v
+first_options (rdata.OPT x) = refl
+first_options v = refl
 
-pub all_options : (v : RData) (o : Option RData) → (o ≡ Some v) ⊎ (o ≡ None) → options_of o ≤ data_options v
-unfolding options_of
-all_options v o (inl e) = rw e (omega arith)
-all_options v o (inr e) = rw e (omega arith)
+-- the counts of a cursor over a value that can be emitted
+pub counts_whole : (v : RData) → can_emit v ≡ true → (options_left_of (Some v) 0 0 0 ≡ (if can_emit v then data_options v else 0))
+    × (options_of (Some v) ≡ (if can_emit v then data_options v else 0)) × (windows_of (Some v) 0 0 ≡ (if can_emit v then data_windows v 0 0 else 0))
+unfolding options_left_of options_of windows_of
+counts_whole v e = rw e (first_options v, refl, refl)
 
-pub some_windows : (v : RData) (o : Option RData) → (o ≡ Some v) ⊎ (o ≡ None) → windows_of o 0 0 ≤ data_windows v 0 0
-unfolding windows_of
-some_windows v o (inl e) = rw e (omega arith)
-some_windows v o (inr e) = rw e (omega arith)
+-- and of a cursor over one that cannot
+pub counts_none : (v : RData) → can_emit v ≡ false → (options_left_of None 0 0 0 ≡ (if can_emit v then data_options v else 0))
+    × (options_of None ≡ (if can_emit v then data_options v else 0)) × (windows_of None 0 0 ≡ (if can_emit v then data_windows v 0 0 else 0))
+unfolding options_left_of options_of windows_of
+counts_none v e = rw e (refl, refl, refl)

@@ -157,7 +157,7 @@ text_read t text words (Err y) is h = unless_map y _ _ (λ none. inr (record { w
 
 unless_not : (e : ParseError) {P : Type 0} → (e ≢ parse.Memory → P) → UnlessMemory e P
 unless_not parse.Memory f = tt
-unless_not parse.MissingToken f = f (λ h. absurd cc)
+unless_not (parse.MissingToken name) f = f (λ h. absurd cc)
 unless_not (parse.Message m) f = f (λ h. absurd cc)
 unless_not (parse.UnsupportedRecordType t) f = f (λ h. absurd cc)
 unless_not parse.AddrParse f = f (λ h. absurd cc)

@@ -1,10 +1,11 @@
 -- What a cursor over canonical octets still gives, and what it counts.
-use Rattle.std.specs.Prelude.{◌≡◌, ℕ, ◌+◌, ◌-◌, ◌*◌, ◌<◌, ◌≤◌, ◌++◌, true, length, drop, Option, Some, None, List, []}
+use Rattle.std.specs.Prelude.{◌≡◌, ℕ, ◌+◌, ◌-◌, ◌*◌, ◌<◌, ◌≤◌, ◌++◌, true, length, drop, Bool, Option, Some, None, List, []}
 use Rattle.dns_pieces.specs.Runs.{Shares}
 use Rattle.dns_pieces.specs.Steps.{Left, AllShort, by_fields}
 use Rattle.dns_pieces.specs.declared.step.Step.{Step}
 use Rattle.dns_rdata_base.specs.Steps.{at_once, hinfo_begins, naptr_begins, soa_begins, texts_left}
-use Rattle.dns_rdata_options.specs.Steps.{pairs_emittable, opt_left, options_left, OptionsAt}
+use Rattle.dns_rdata_options.specs.Steps.{pairs_emittable, opt_left, options_left, OptionsAt, HeadsKept}
+use Rattle.dns_rdata_options.specs.declared.heads.Heads.{Heads}
 use Rattle.dns_rdata_service.specs.Steps.{svcb_left, are_emittable}
 use Rattle.dns_rdata_sets.specs.Steps.{caa_begins, csync_left, csync_windows}
 use Rattle.dns_rdata_base.specs.A.{a_shape, a_fields}
@@ -23,6 +24,8 @@ use Rattle.dns_rdata_certs.specs.SMIMEA.{smimea_shape, smimea_fields}
 use Rattle.dns_rdata_certs.specs.SSHFP.{sshfp_shape, sshfp_fields}
 use Rattle.dns_rdata_certs.specs.TLSA.{tlsa_shape, tlsa_fields}
 use Rattle.dns_rdata_sets.specs.CAA.{caa_shape, caa_fields}
+use Rattle.dns_fields.specs.Fields.{all_emittable}
+use Rattle.dns_rdata.specs.Data.{fields_of}
 use Rattle.dns_rdata.specs.declared.record_data.RData.{RData}
 use Rattle.dns_rdata.specs.declared.record_data.RData.TheVariants as rdata
 
@@ -55,6 +58,10 @@ data_left (rdata.Unknown code x) = by_fields at_once null_shape (null_fields x)
 data_left (rdata.Update0 t) = λ n i j. []
 data_left rdata.ZERO = λ n i j. []
 
+-- whether it can be emitted
+abbrev pub can_emit : RData → Bool
+can_emit v = all_emittable (fields_of v).kinds (fields_of v).values
+
 -- how many windows of a set of types are not begun
 abbrev pub data_windows : RData → ℕ → ℕ → ℕ
 data_windows (rdata.CSYNC x) = csync_windows x
@@ -86,7 +93,16 @@ DataAt (rdata.SVCB x) n i j = are_emittable x.svc_params
 DataAt (rdata.TXT x) n i j = AllShort txt_shape (txt_fields x)
 DataAt v n i j = Unit {0}
 
+-- what a cursor keeps there
+abbrev pub DataKept : RData → ℕ → ℕ → Option Heads → Type 0
+DataKept (rdata.OPT x) n i heads = HeadsKept x n i heads
+DataKept v n i heads = Unit {0}
+
 -- of a value that cannot be emitted there is nothing
+
+abbrev pub KeepsAt : Option RData → ℕ → ℕ → Option Heads → Type 0
+KeepsAt None n i heads = Unit {0}
+KeepsAt (Some v) n i heads = DataKept v n i heads
 
 abbrev pub IsAt : Option RData → ℕ → ℕ → ℕ → Type 0
 IsAt None n i j = Unit {0}

@@ -1,6 +1,6 @@
 //! Canonical octets, one after the other.
 
-ghost use Rattle.std.specs.Prelude.{◌≡◌, ◌+◌, ◌≤◌, ℕ, true, [], ◌∷◌, if◌then◌else◌, is_some, IfSome, MatchOption, slice_get};
+ghost use Rattle.std.specs.Prelude.{◌≡◌, ◌+◌, ◌≤◌, ℕ, true, [], ◌∷◌, if◌then◌else◌, is_some, IfNone, IfSome, MatchOption, slice_get};
 ghost use Rattle.std.specs.Ordering.{nat_cmp};
 ghost use Rattle.std.specs.Option.{option_copied};
 ghost use Rattle.std.specs.Cmp.Lexicographic.{slice_cmp};
@@ -9,7 +9,7 @@ ghost use Rattle.dns_fields.specs.Fields.{all_emittable};
 ghost use Rattle.dns_pieces.specs.Runs.{common};
 ghost use Rattle.dns_pieces.specs.Steps.{GivesStep, CountsPasses, CountsChoices};
 ghost use Rattle.dns_rdata.specs.Data.{fields_of, data_octets};
-ghost use Rattle.dns_rdata.specs.Cursor.{data_left, data_windows, data_options, data_options_left, IsUncounted, DataAt, IsAt, Chooses, Advances, StepsOn, RefillsBy, Skips};
+ghost use Rattle.dns_rdata.specs.Cursor.{can_emit, data_left, data_windows, data_options, data_options_left, IsUncounted, DataAt, DataKept, IsAt, KeepsAt, Chooses, Advances, StepsOn, RefillsBy, Skips};
 
 use crate::record_data::RData;
 use dns_pieces::{Count, Head, Run, Step, Tail};
@@ -18,7 +18,8 @@ use dns_rdata_base::steps::{
     naptr_step, rest_step, soa_step, srv_step, txt_is_emittable, txt_step,
 };
 use dns_rdata_certs::steps::{cert_step, smimea_step, sshfp_step, tlsa_step};
-use dns_rdata_options::steps::{opt_is_emittable, opt_step};
+use dns_rdata_options::heads::Heads;
+use dns_rdata_options::steps::{opt_is_emittable, opt_step_kept};
 use dns_rdata_service::steps::{https_step, svcb_is_emittable, svcb_step};
 use dns_rdata_sets::steps::{caa_is_emittable, caa_step, csync_step};
 use std::cmp::Ordering;
@@ -72,23 +73,25 @@ impl RData {
         step: usize,
         part: usize,
         item: usize,
+        heads: &mut Option<Heads>,
         head: &mut Head,
         choices: &mut Count,
         passes: &mut Count,
     ) -> Option<Step<'a>>
         requires empty { head.old ≡ [] }
         requires at { DataAt self.now step part item }
+        requires kept { DataKept self.now step part heads.old }
         ensures octets { GivesStep (data_left self.now) step part item head.new result }
         ensures choices { CountsChoices choices.old.n choices.new.n (data_options self.now) (data_options_left self.now) step part item head.new result }
         ensures passes { CountsPasses passes.old.n passes.new.n (data_windows self.now) step part head.new result }
         ensures at { IfSome result (λ s. DataAt self.now s.step s.part s.item) }
+        ensures kept { IfSome result (λ s. DataKept self.now s.step s.part heads.new) }
+        ensures end { IfNone result (DataKept self.now step part heads.new) }
     {
-        let _ = &choices;
-        let _ = &passes;
         match self {
-            RData::CSYNC(x) => csync_step(x, step, part, head, passes),
-            RData::OPT(x) => opt_step(x, step, part, item, head, choices),
-            _ => self.plain_step(step, part, item, head),
+            RData::CSYNC(x) => return csync_step(x, step, part, head, passes),
+            RData::OPT(x) => return opt_step_kept(x, step, part, item, heads, head, choices),
+            _ => return self.plain_step(step, part, item, head),
         }
     }
 
@@ -117,6 +120,7 @@ pub struct CanonicalOctets<'a> {
     step: usize,
     part: usize,
     item: usize,
+    heads: Option<Heads>,
     taken: Count,
     choices: Count,
     passes: Count,
@@ -125,7 +129,7 @@ pub struct CanonicalOctets<'a> {
 impl<'a> Model for CanonicalOctets<'a> {
     ghost use Rattle.std.specs.Prelude.{◌≤◌, ◌++◌};
     ghost use Rattle.std.specs.Option.{option_copied};
-    ghost use Rattle.dns_rdata.specs.Cursor.{Remaining, left_of, windows_of, options_of, options_left_of, IsAt};
+    ghost use Rattle.dns_rdata.specs.Cursor.{Remaining, left_of, windows_of, options_of, options_left_of, IsAt, KeepsAt};
 
     ghost Value = { Remaining };
 
@@ -139,7 +143,7 @@ impl<'a> Model for CanonicalOctets<'a> {
       windows = windows_of (option_copied c.data) c.step c.part;
     } };
 
-    ghost invariant = { λ c. (c.step ≤ 8) × IsAt (option_copied c.data) c.step c.part c.item };
+    ghost invariant = { λ c. (c.step ≤ 8) × IsAt (option_copied c.data) c.step c.part c.item × KeepsAt (option_copied c.data) c.step c.part c.heads };
 }
 
 impl RData {
@@ -150,9 +154,10 @@ impl RData {
         ensures taken { result.taken ≡ 0 }
         ensures choices { result.choices ≡ 0 }
         ensures passes { result.passes ≡ 0 }
-        ensures options { result.options ≤ data_options self.now }
-        ensures all { result.all_options ≤ data_options self.now }
-        ensures windows { result.windows ≤ data_windows self.now 0 0 }
+        // Its options and its windows, where it can be emitted.
+        ensures options { result.options ≡ (if can_emit self.now then data_options self.now else 0) }
+        ensures all { result.all_options ≡ (if can_emit self.now then data_options self.now else 0) }
+        ensures windows { result.windows ≡ (if can_emit self.now then data_windows self.now 0 0 else 0) }
     {
         let data = if self.is_emittable() {
             Some(self)
@@ -165,6 +170,7 @@ impl RData {
             step: 0,
             part: 0,
             item: 0,
+            heads: None,
             taken: Count::new(),
             choices: Count::new(),
             passes: Count::new(),
@@ -179,17 +185,21 @@ fn next_step<'a>(
     step: usize,
     part: usize,
     item: usize,
+    heads: &mut Option<Heads>,
     head: &mut Head,
     choices: &mut Count,
     passes: &mut Count,
 ) -> Option<Step<'a>>
     requires at { IsAt (option_copied source) step part item }
+    requires kept { KeepsAt (option_copied source) step part heads.old }
     requires empty { head.old ≡ [] }
-    ensures { StepsOn (option_copied source.entry) step part item head.new choices.old.n choices.new.n passes.old.n passes.new.n result }
+    ensures steps { StepsOn (option_copied source.entry) step part item head.new choices.old.n choices.new.n passes.old.n passes.new.n result }
+    ensures kept { IfSome result (λ s. KeepsAt (option_copied source.entry) s.step s.part heads.new) }
+    ensures end { IfNone result (KeepsAt (option_copied source.entry) step part heads.new) }
 {
     match source {
-        None => None,
-        Some(data) => data.step(step, part, item, head, choices, passes),
+        None => return None,
+        Some(data) => return data.step(step, part, item, heads, head, choices, passes),
     }
 }
 
@@ -201,15 +211,28 @@ fn refill<'a>(
     step: usize,
     part: usize,
     item: usize,
+    heads: &mut Option<Heads>,
     choices: &mut Count,
     passes: &mut Count,
 ) -> Option<(usize, usize, usize)>
-    requires { IsAt (option_copied source) step part item }
-    ensures { RefillsBy (option_copied source.entry) step part item run.new choices.old.n choices.new.n passes.old.n passes.new.n result }
+    requires at { IsAt (option_copied source) step part item }
+    requires kept { KeepsAt (option_copied source) step part heads.old }
+    ensures kept { IfSome result (λ q. KeepsAt (option_copied source.entry) q.0 q.1 heads.new) }
+    ensures end { IfNone result (KeepsAt (option_copied source.entry) step part heads.new) }
+    ensures steps { RefillsBy (option_copied source.entry) step part item run.new choices.old.n choices.new.n passes.old.n passes.new.n result }
 {
     run.head.clear();
     run.at = 0;
-    match next_step(source, step, part, item, &mut run.head, choices, passes) {
+    match next_step(
+        source,
+        step,
+        part,
+        item,
+        heads,
+        &mut run.head,
+        choices,
+        passes,
+    ) {
         None => {
             run.tail = Tail::none();
             None
@@ -244,6 +267,7 @@ impl<'a> CanonicalOctets<'a> {
                 self.step,
                 self.part,
                 self.item,
+                &mut self.heads,
                 &mut self.choices,
                 &mut self.passes,
             ) {

@@ -1,10 +1,9 @@
 //! The data of DNS resource records: read, emitted, printed and compared.
 #![tactic(auto)]
 
-ghost use Rattle.dns_rdata.specs.Laws.{OneValue, EachWindow};
-
 pub mod canonical;
 mod known;
+pub mod laws;
 pub mod order;
 pub mod record_data;
 pub mod traits;
@@ -25,15 +24,8 @@ pub use dns_rdata_certs::{CERT, HEX, SMIMEA, SSHFP, TLSA, cert, smimea, sshfp, t
 pub use dns_rdata_options::{OPT, opt};
 pub use dns_rdata_service::{HTTPS, Items, SVCB, https, items, svcb};
 pub use dns_rdata_sets::{CAA, CSYNC, RecordTypeSet, caa, csync, record_type_set};
-pub use dns_text::{Lexer, Token, lexer, parse_ttl, read_item, read_list, text_words, token, ttl};
+pub use dns_text::{Lexer, Token, lexer, parse_ttl, token, ttl};
 pub use dns_types::Strings;
-pub use dns_words::{WordList, name_from_tokens};
+pub use dns_words::{FromTokens, WordList};
 pub use record_data::RData;
 pub use traits::RecordData;
-
-// Octets are the data of at most one value of a type, and of one wherever the fields of the type fill them: a law, stated
-// where it is proved.
-fn windows_hold()
-    ensures one { OneValue }
-    ensures each { EachWindow }
-{}

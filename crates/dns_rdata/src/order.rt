@@ -312,10 +312,6 @@ impl RData {
     fn cmp_octets(&self, other: &RData) -> Ordering
         ensures { result ≡ slice_cmp nat_cmp (data_octets self.now) (data_octets other.now) }
     {
-        // most that are equal are told sooner so
-        if self == other {
-            return Ordering::Equal;
-        }
         self.canonical_octets()
             .compare(&mut other.canonical_octets())
     }
@@ -326,6 +322,10 @@ impl RData {
     {
         if let Some(order) = self.cmp_known(other) {
             return order;
+        }
+        // those that are equal are told sooner so
+        if self == other {
+            return Ordering::Equal;
         }
         let octets = self.cmp_octets(other);
         if octets.is_ne() {

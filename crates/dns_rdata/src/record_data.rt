@@ -146,10 +146,18 @@ impl RData {
 
     /// Reads the data of a record of this type, which is all of the `length` octets from the decoder's place.
     ///
-    /// The type is tested first (of ANY, AXFR and IXFR no data is read), then memory, then whether the octets that were
-    /// taken are as many as the length says, and last whether the record itself refused them. After a refusal the
-    /// message is as it was, and the place is not before the one where the call began; after success it is behind the
-    /// length.
+    /// The first of these that holds refuses it:
+    ///
+    /// - `UnknownRecordTypeValue`: the type is ANY, AXFR or IXFR, of which no data is read.
+    /// - `Memory`: memory ran out.
+    /// - `IncorrectRDataLengthRead`: another number of octets was taken than the length says.
+    /// - What the record itself refuses: `InsufficientBytes` (octets are missing), `NameInvalid`, `BitmapInvalid` (CSYNC),
+    ///   `CaaTagInvalid`, `NaptrFlagsInvalid`, `UnrecognizedCsyncFlags`, `UnknownAddressFamily` (OPT),
+    ///   `IncorrectRDataLengthRead` (a part has a length that it can't have), `SvcParamMissingValue`,
+    ///   `SvcParamsOutOfOrder` or `Utf8` (SVCB and HTTPS).
+    ///
+    /// After a refusal the message is as it was, and the place is not before the one where the call began; after success it
+    /// is behind the length.
     ///
     /// ```rust
     /// fn read_address(alloc: Global, message: &[u8]) -> Result<RData, DecodeError> {
@@ -320,8 +328,10 @@ impl BinEncodable for RData {
 
     ghost emits = { λ v r old new. EmitsAs (mode_for old.mode v) (fields_of v).kinds (fields_of v).values r old new };
 
-    /// Appends the octets of the value, its names in the mode of its type. After a refusal the octets that were there
-    /// stand, and the encoder is in the mode that it was in.
+    /// Appends the octets of the value, its names in the mode of its type. Refused by `Memory`; by `MaxBufferSizeExceeded`
+    /// where the octets would pass the encoder's limit; and by `Message` where the value has none, as a string of more than
+    /// 255 octets or parameters whose keys do not rise. After a refusal the octets that were there stand, and the encoder is
+    /// in the mode that it was in.
     ///
     /// ```rust
     /// fn emit_mail(alloc: Global, exchange: Name, octets: &mut Vec<u8>) -> ProtoResult<()>
@@ -338,7 +348,7 @@ impl BinEncodable for RData {
         ensures keeps { Keeps encoder.old encoder.new }
         // What was read and is appended reads back as an equal value, behind any octets.
         ensures again { OnOk result (ReadsBack self.now encoder.old encoder.new) }
-        // The octets that were there stand.
+        // The octets that were there stand, and none is past the limit.
         ensures extends { Extends encoder.old encoder.new }
         // What is emitted can be, and what is refused by a message cannot.
         ensures fits { OnOk result (IsEmittable self.now) }
@@ -569,6 +579,11 @@ impl fmt::Display for RData {
 
     /// The text of the record; `UPDATE` for no data of an update, and nothing for no data of type 0. OPT has no text:
     /// it is refused.
+    ///
+    /// It is for people, as in `hickory-proto`. Some texts, read again, are refused or silently give another value: of TXT
+    /// and HINFO whose strings have blanks, are empty or have `"`, `;`, `(` or `\`; of CAA and NAPTR with `"` and `\`; of
+    /// SVCB and HTTPS with keys of no name (`key7=`) or `no-default-alpn=`; of CERT whose type or algorithm prints a name;
+    /// of names with a `;` in a label. To keep a value, keep its octets (`emit`); `from_tokens` says which texts read back.
     fn fmt<W: fmt::Write>(&self, f: &mut fmt::Formatter<W>) -> fmt::Result
         ensures writes { DisplaysOnOk W.write_str_gives f.old result (data_text self.now) f.new }
         ensures styled { DisplaysStyledOnOk W.write_str_gives f.old result None f.new }

@@ -1,6 +1,6 @@
 use Rattle.std.proofs.Common.{◌≡◌, ◌≤◌, ◌+◌, ◌-◌, ◌*◌, ◌++◌, length}
 use Rattle.std.specs.Option.{option_copied}
-use Rattle.dns_rdata.specs.Cursor.{left_of, windows_of, options_of, options_left_of, IsAt}
+use Rattle.dns_rdata.specs.Cursor.{left_of, windows_of, options_of, options_left_of, IsAt, KeepsAt}
 use Rattle.dns_rdata.proofs.canonical.CanonicalOctets.next.Given as goal
 
 abbrev pub decreases-steps : goal.decreases-steps
@@ -10,6 +10,7 @@ decreases-steps l = 8 - l.self-inside.step + length (left_of (option_copied l.se
 abbrev pub invariant-steps : goal.invariant-steps
 invariant-steps l = let s = l.self-inside in let z = l.initial.self-inside in record {
   at : IsAt (option_copied s.data) s.step s.part s.item;
+  kept : KeepsAt (option_copied s.data) s.step s.part s.heads;
   few : s.step ≤ 8;
   same : options_of (option_copied s.data) ≡ options_of (option_copied z.data);
   octets : z.run ++ left_of (option_copied z.data) z.step z.part z.item ≡ s.run ++ left_of (option_copied s.data) s.step s.part s.item;

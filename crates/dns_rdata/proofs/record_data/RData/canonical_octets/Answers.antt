@@ -1,5 +1,5 @@
-use Rattle.std.proofs.Common.{sym, ◌∙◌, arith, refl, Some, None, inl, inr}
-use Rattle.dns_rdata.proofs.CursorSteps.{begins_at, begins_whole, begins_none, some_options, all_options, some_windows}
+use Rattle.std.proofs.Common.{sym, ◌∙◌, arith}
+use Rattle.dns_rdata.proofs.CursorSteps.{begins_at, begins_kept, begins_whole, begins_none, counts_whole, counts_none}
 use Rattle.dns_rdata.proofs.record_data.RData.canonical_octets.Goals as goal
 use Rattle.dns_rdata.proofs.record_data.RData.canonical_octets.Goals.{then-is_emittable, else-is_emittable}
 
@@ -8,6 +8,10 @@ invariant_of-result c = (
   omega arith,
   elim c.if-is_emittable.branch [
     | then-is_emittable w ↦ rw w.data-is (begins_at c.args.self.now (sym c.is_emittable.ensures ∙ w.if-is_emittable.true))
+    | else-is_emittable w ↦ rw w.data-is tt
+  ],
+  elim c.if-is_emittable.branch [
+    | then-is_emittable w ↦ rw w.data-is (begins_kept c.args.self.now)
     | else-is_emittable w ↦ rw w.data-is tt
   ],
 )
@@ -20,18 +24,18 @@ returns-clause-octets c = elim c.if-is_emittable.branch [
 
 pub returns-clause-options : goal.returns-clause-options
 returns-clause-options c = elim c.if-is_emittable.branch [
-  | then-is_emittable w ↦ rw w.data-is (some_options c.args.self.now (Some c.args.self.now) (inl refl))
-  | else-is_emittable w ↦ rw w.data-is (some_options c.args.self.now None (inr refl))
+  | then-is_emittable w ↦ rw w.data-is (counts_whole c.args.self.now (sym c.is_emittable.ensures ∙ w.if-is_emittable.true)).0
+  | else-is_emittable w ↦ rw w.data-is (counts_none c.args.self.now (sym c.is_emittable.ensures ∙ w.if-is_emittable.false)).0
 ]
 
 pub returns-clause-all : goal.returns-clause-all
 returns-clause-all c = elim c.if-is_emittable.branch [
-  | then-is_emittable w ↦ rw w.data-is (all_options c.args.self.now (Some c.args.self.now) (inl refl))
-  | else-is_emittable w ↦ rw w.data-is (all_options c.args.self.now None (inr refl))
+  | then-is_emittable w ↦ rw w.data-is (counts_whole c.args.self.now (sym c.is_emittable.ensures ∙ w.if-is_emittable.true)).1
+  | else-is_emittable w ↦ rw w.data-is (counts_none c.args.self.now (sym c.is_emittable.ensures ∙ w.if-is_emittable.false)).1
 ]
 
 pub returns-clause-windows : goal.returns-clause-windows
 returns-clause-windows c = elim c.if-is_emittable.branch [
-  | then-is_emittable w ↦ rw w.data-is (some_windows c.args.self.now (Some c.args.self.now) (inl refl))
-  | else-is_emittable w ↦ rw w.data-is (some_windows c.args.self.now None (inr refl))
+  | then-is_emittable w ↦ rw w.data-is (counts_whole c.args.self.now (sym c.is_emittable.ensures ∙ w.if-is_emittable.true)).2
+  | else-is_emittable w ↦ rw w.data-is (counts_none c.args.self.now (sym c.is_emittable.ensures ∙ w.if-is_emittable.false)).2
 ]

@@ -5,16 +5,16 @@ use Rattle.dns_rdata.proofs.DataWords.{data_took, data_refused, zero_took, svcb_
 use Rattle.dns_rdata.proofs.record_data.RData.read_words.Goals as goal
 
 pub returns-in_ok-from_tokens-in-A-clause-reads : goal.returns-in_ok-from_tokens-in-A-clause-reads
-returns-in_ok-from_tokens-in-A-clause-reads g c = rw c.in-A.is (data_took _ types.A _ _ _ (λ words is. is) (record { type = refl; fields = refl; plain = tt }) c.in_ok-from_tokens-in-A.ensures)
+returns-in_ok-from_tokens-in-A-clause-reads g c = rw c.in-A.is (data_took _ types.A _ _ _ (λ words is. is) (record { type = refl; fields = refl; plain = tt }) c.in_ok-from_tokens-in-A.ensures.reads)
 
 pub returns-in_err-from_tokens-in-A-clause-reads : goal.returns-in_err-from_tokens-in-A-clause-reads
-returns-in_err-from_tokens-in-A-clause-reads g c = let p = err_from_is_err_and c.from_residual.result c.from_residual.ensures.1 in rw (c.in-A.is, p.1, p.2) (data_refused _ types.A _ (λ v words is. is) c.in_err-from_tokens-in-A.ensures)
+returns-in_err-from_tokens-in-A-clause-reads g c = let p = err_from_is_err_and c.from_residual.result c.from_residual.ensures.1 in rw (c.in-A.is, p.1, p.2) (data_refused _ types.A _ (λ v words is. is) c.in_err-from_tokens-in-A.ensures.reads)
 
 pub returns-in_ok-from_tokens-in-AAAA-clause-reads : goal.returns-in_ok-from_tokens-in-AAAA-clause-reads
-returns-in_ok-from_tokens-in-AAAA-clause-reads g c = rw c.in-AAAA.is (data_took _ types.AAAA _ _ _ (λ words is. is) (record { type = refl; fields = refl; plain = tt }) c.in_ok-from_tokens-in-AAAA.ensures)
+returns-in_ok-from_tokens-in-AAAA-clause-reads g c = rw c.in-AAAA.is (data_took _ types.AAAA _ _ _ (λ words is. is) (record { type = refl; fields = refl; plain = tt }) c.in_ok-from_tokens-in-AAAA.ensures.reads)
 
 pub returns-in_err-from_tokens-in-AAAA-clause-reads : goal.returns-in_err-from_tokens-in-AAAA-clause-reads
-returns-in_err-from_tokens-in-AAAA-clause-reads g c = let p = err_from_is_err_and c.from_residual-in_err-from_tokens-in-AAAA.result c.from_residual-in_err-from_tokens-in-AAAA.ensures.1 in rw (c.in-AAAA.is, p.1, p.2) (data_refused _ types.AAAA _ (λ v words is. is) c.in_err-from_tokens-in-AAAA.ensures)
+returns-in_err-from_tokens-in-AAAA-clause-reads g c = let p = err_from_is_err_and c.from_residual-in_err-from_tokens-in-AAAA.result c.from_residual-in_err-from_tokens-in-AAAA.ensures.1 in rw (c.in-AAAA.is, p.1, p.2) (data_refused _ types.AAAA _ (λ v words is. is) c.in_err-from_tokens-in-AAAA.ensures.reads)
 
 pub returns-in_ok-from_tokens-in-ANAME-clause-reads : goal.returns-in_ok-from_tokens-in-ANAME-clause-reads
 returns-in_ok-from_tokens-in-ANAME-clause-reads g c = rw c.in-ANAME.is (data_took _ types.ANAME _ _ _ (λ words is. is) (record { type = refl; fields = refl; plain = tt }) c.in_ok-from_tokens-in-ANAME.ensures)
