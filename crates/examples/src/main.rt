@@ -2,15 +2,18 @@
 //! and compared. The examples in the library's comments stand here, so that they are proved and run.
 #![tactic(auto)]
 
+mod again;
 mod messages;
 mod parts;
 mod record_data;
 
+use again::reads_again;
 use anyhow::Result;
 use dns_rdata::{
     BinDecoder, Name, OPT, Octets, RData, RecordDataDecodable, RecordType, Restrict, SVCB, Strings,
     TXT,
 };
+use held_data::{Held, HeldList};
 use messages::{print_records, write_message};
 use parts::{is_in_zone, only_issuer, port_of, server_of};
 use record_data::{emit_mail, host_of, parse_alias, parse_mail, read_address, sort_records};
@@ -26,11 +29,12 @@ fn print_message(rt: &(impl AllocGlobal + Print)) -> Result<()> {
 fn print_text(rt: &(impl AllocGlobal + Print)) -> Result<()> {
     let mut txt_data = Strings::new(rt.alloc());
     txt_data.push(Octets::from_slice(rt.alloc(), b"v=spf1 -all")?)?;
-    let text = RData::TXT(TXT { txt_data });
+    let text = Held(RData::TXT(TXT { txt_data }));
     println!(rt;
-        "{} {} {text}",
-        text.record_type(),
-        text.record_type().number()
+        "{} {} {}",
+        text.0.record_type(),
+        text.0.record_type().number(),
+        text.0
     )?;
     Ok(())
 }
@@ -52,20 +56,20 @@ fn print_record(rt: &impl Print, record: &RData) -> Result<()> {
 }
 
 // Records of three types, of which one stands twice.
-fn some_records(alloc: Global) -> Result<Vec<RData>> {
+fn some_records(alloc: Global) -> Result<HeldList> {
     let origin = Name::from_ascii(alloc, "example.com.")?;
-    let mut records = Vec::new(alloc);
-    records.push(parse_mail(alloc)?)?;
-    records.push(parse_alias(alloc, &origin)?)?;
-    records.push(read_address(alloc, &[192, 0, 2, 1])?)?;
-    records.push(parse_mail(alloc)?)?;
+    let mut records = HeldList(Vec::new(alloc));
+    records.0.push(parse_mail(alloc)?)?;
+    records.0.push(parse_alias(alloc, &origin)?)?;
+    records.0.push(read_address(alloc, &[192, 0, 2, 1])?)?;
+    records.0.push(parse_mail(alloc)?)?;
     Ok(records)
 }
 
 fn print_sorted(rt: &(impl AllocGlobal + Print)) -> Result<()> {
     let mut records = some_records(rt.alloc())?;
-    sort_records(&mut records);
-    for record in &records {
+    sort_records(&mut records.0);
+    for record in &records.0 {
         print_record(rt, record)?;
     }
     Ok(())
@@ -88,10 +92,18 @@ fn print_parts(rt: &(impl AllocGlobal + Print)) -> Result<()> {
     Ok(())
 }
 
+fn print_again(rt: &(impl AllocGlobal + Print)) -> Result<()> {
+    let message = b"\x00\x0a\x04mail\x07example\x03com\x00";
+    let same = reads_again(rt.alloc(), message, RecordType::MX, 20)?;
+    println!(rt; "{same}")?;
+    Ok(())
+}
+
 fn main(rt: HostRuntime) -> Result<()> {
     print_message(&rt)?;
     print_text(&rt)?;
     print_mail(&rt)?;
     print_sorted(&rt)?;
-    print_parts(&rt)
+    print_parts(&rt)?;
+    print_again(&rt)
 }

@@ -4,9 +4,10 @@ ghost use Rattle.std.specs.Prelude.{◌≡◌, []};
 
 use anyhow::Result;
 use dns_rdata::{
-    A, BinDecodable, BinDecoder, BinEncodable, BinEncoder, CNAME, DecodeError, Name, ProtoError,
-    ProtoResult, RData, RecordType,
+    A, BinDecodable, BinDecoder, BinEncodable, BinEncoder, CNAME, DecodeError, Name, ProtoResult,
+    RData, RecordType,
 };
+use held_data::Held;
 use std::alloc::Global;
 
 // The class of the internet (RFC 1035, 3.2.4).
@@ -26,19 +27,18 @@ fn emit_record(
     let place = encoder.place()?;
     rdata.emit(encoder)?;
     let length = encoder.len_since_place(&place);
-    if length > 65535 {
-        return Err(ProtoError::Message("data past 65535 octets"));
-    }
     encoder.replace(place, length as u16);
     Ok(())
 }
 
 fn emit_alias(encoder: &mut BinEncoder<'_>, owner: &Name, host: Name) -> ProtoResult<()> {
-    emit_record(encoder, owner, 300, &RData::CNAME(CNAME(host)))
+    let alias = Held(RData::CNAME(CNAME(host)));
+    emit_record(encoder, owner, 300, &alias.0)
 }
 
 fn emit_address(encoder: &mut BinEncoder<'_>, owner: &Name) -> ProtoResult<()> {
-    emit_record(encoder, owner, 300, &RData::A(A::new(192, 0, 2, 1)))
+    let address = Held(RData::A(A::new(192, 0, 2, 1)));
+    emit_record(encoder, owner, 300, &address.0)
 }
 
 /// An alias and the address of its host, behind a header (RFC 1035, 4.1.1). The second owner and the end of the
@@ -76,8 +76,8 @@ pub fn print_records(rt: &(impl AllocGlobal + Print), message: &[u8]) -> Result<
         let kind = RecordType::read(&mut decoder)?;
         decoder.read_slice(6)?;
         let length = decoder.read_u16()?;
-        let rdata = RData::read(&mut decoder, kind, length)?;
-        println!(rt; "{owner} {kind} {rdata}")?;
+        let rdata = Held(RData::read(&mut decoder, kind, length)?);
+        println!(rt; "{owner} {kind} {}", rdata.0)?;
     }
     Ok(())
 }

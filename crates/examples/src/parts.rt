@@ -2,7 +2,7 @@
 
 use dns_rdata::caa::CAA;
 use dns_rdata::opt::{EdnsCode, EdnsOption};
-use dns_rdata::svcb::SvcParamValue;
+use dns_rdata::svcb::{SvcParamKey, SvcParamValue};
 use dns_rdata::{Name, OPT, ProtoResult, SVCB};
 use std::alloc::{AllocError, Global};
 
@@ -23,12 +23,10 @@ pub fn server_of(options: &OPT) -> Option<&[u8]> {
 
 /// The port of a service (RFC 9460, 7.2), where the binding names one.
 pub fn port_of(service: &SVCB) -> Option<u16> {
-    for (_, value) in service.svc_params.as_slice() {
-        if let SvcParamValue::Port(port) = value {
-            return Some(*port);
-        }
+    match service.get(SvcParamKey::Port)? {
+        SvcParamValue::Port(port) => Some(*port),
+        _ => None,
     }
-    None
 }
 
 /// No one but this issuer may issue certificates for the domain (RFC 8659, 4.2).

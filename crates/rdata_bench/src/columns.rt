@@ -1,10 +1,8 @@
 //! The calls that are measured.
 
-use crate::held::Held;
 use anyhow::Result;
-use dns_rdata::{
-    BinDecoder, BinEncodable, BinEncoder, DecodeError, Name, RData, RecordType, Restrict,
-};
+use dns_rdata::{BinDecoder, BinEncodable, BinEncoder, DecodeError, Name, RData, RecordType};
+use held_data::{Held, measured};
 use std::alloc::Global;
 use std::fmt::Write;
 use std::rt::Clock;
@@ -106,23 +104,23 @@ impl Row {
     fn read_from(&self, alloc: Global, message: &[u8]) -> std::result::Result<Held, DecodeError> {
         let mut decoder = BinDecoder::new(alloc, message);
         let _before = decoder.read_slice(self.place)?;
-        let value = RData::read(&mut decoder, self.record_type, Restrict::new(self.length))?;
-        Ok(Held(value))
+        Held::read(&mut decoder, self.record_type, self.length)
     }
 }
 
-// A read is a call, which makes all of the value where it answers it; there it is dropped, as what is cloned is below.
-#[inline(never)]
 fn reads(alloc: Global, row: &Row, passes: u64) -> Result<()> {
-    for _ in 0..passes {
-        for _ in 0..COPIES {
-            let mut decoder = BinDecoder::new(alloc, row.message.as_slice());
-            let _before = decoder.read_slice(row.place)?;
-            let Ok(_) = RData::read(&mut decoder, row.record_type, Restrict::new(row.length)) else {
-                anyhow::bail!("not read");
-            };
-        }
-    }
+    let times = passes.saturating_mul(COPIES);
+    anyhow::ensure!(
+        measured::reads(
+            alloc,
+            row.message.as_slice(),
+            row.place,
+            row.record_type,
+            row.length,
+            times
+        ),
+        "not read"
+    );
     Ok(())
 }
 
@@ -191,24 +189,16 @@ fn prints(row: &mut Row, passes: u64) -> Result<()> {
 fn clones(row: &Row, passes: u64) -> Result<()> {
     for _ in 0..passes {
         for value in &row.values {
-            let Ok(_) = value.0.clone() else {
-                anyhow::bail!("not cloned");
-            };
+            anyhow::ensure!(measured::clones(&value.0), "not cloned");
         }
     }
     Ok(())
 }
 
-// Whether a clone equals its value.
-fn is_cloned(value: &RData) -> Result<bool> {
-    let other = Held(value.clone()?);
-    Ok(other.0 == *value)
-}
-
 fn clones_compared(row: &Row, passes: u64) -> Result<()> {
     for _ in 0..passes {
         for value in &row.values {
-            anyhow::ensure!(is_cloned(&value.0)?, "cloned otherwise");
+            anyhow::ensure!(value.copy()?.0 == value.0, "cloned otherwise");
         }
     }
     Ok(())

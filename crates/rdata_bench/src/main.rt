@@ -9,19 +9,20 @@
 //! for memory. With a third, each value that is read or cloned is compared. In place of the number the word `growth`
 //! prints how the time grows with names, pointers, strings and windows, and `options` how long records of as many options
 //! as fit take. After the word `parse` and a number of rounds lines `TYPE TEXT` are read, and the nanoseconds of reading
-//! each text as record data printed. The word `sort` measures a million records that are sorted.
+//! each text as record data printed. The word `sort` measures a million records that are sorted. After the word `names` and
+//! a number of rounds 2,000 names of one zone are measured, written into one message and read back.
 #![tactic(auto)]
 
 mod columns;
 mod growth;
-mod held;
+mod names;
 mod options;
 mod parsing;
 mod sorting;
 
 use anyhow::{Context, Result};
 use columns::{Row, column, least};
-use dns_rdata::RecordType;
+use held_data::record_type;
 use options::measure_options;
 use parsing::{measure_text, parses, text_row};
 use sorting::measure_sorting;
@@ -36,11 +37,7 @@ const COLUMNS: [&str; 8] = [
 
 fn read_row(alloc: Global, line: &str, compares: bool) -> Result<Row> {
     let mut words = line.split_whitespace();
-    let kind = words.next().context("a type")?;
-    let record_type = match kind.parse::<u16>() {
-        Ok(number) => RecordType::from(number),
-        Err(_) => kind.parse::<RecordType>()?,
-    };
+    let record_type = record_type(words.next().context("a type")?)?;
     let place = words.next().context("a place")?.parse::<usize>()?;
     let length = words.next().context("a length")?.parse::<u16>()?;
     let octets = match words.next().context("octets")? {
@@ -87,6 +84,10 @@ fn main(rt: HostRuntime) -> Result<()> {
     if word.as_str() == "parse" {
         let rounds = args.next().context("a number of rounds")?.parse::<u64>()?;
         return measure_texts(&rt, rounds);
+    }
+    if word.as_str() == "names" {
+        let rounds = args.next().context("a number of rounds")?.parse::<u32>()?;
+        return names::measure_names(&rt, rounds);
     }
     let rounds = word.parse::<u64>()?;
     let only = args.next();

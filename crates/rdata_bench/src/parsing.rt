@@ -1,9 +1,9 @@
 //! Texts that are read as record data.
 
 use crate::columns::PARTS;
-use crate::held::Held;
 use anyhow::{Context, Result};
-use dns_rdata::{RData, RecordType};
+use dns_rdata::RecordType;
+use held_data::Held;
 use std::alloc::Global;
 use std::rt::Clock;
 use std::time::Instant;
@@ -17,7 +17,7 @@ pub fn text_row(line: &str) -> Result<(RecordType, &str)> {
 /// So many rounds of reading the text.
 pub fn parses(alloc: Global, record_type: RecordType, text: &str, rounds: u64) -> Result<()> {
     for _ in 0..rounds {
-        let value = Held(RData::try_from_str(alloc, record_type, text)?);
+        let value = Held::parse(alloc, record_type, text)?;
         anyhow::ensure!(value.0.record_type() == record_type, "another type");
     }
     Ok(())

@@ -2,6 +2,7 @@
 
 use anyhow::Result;
 use dns_rdata::{A, BinDecoder, RData, RecordType, Restrict};
+use held_data::HeldList;
 use std::alloc::Global;
 use std::rt::Clock;
 use std::time::Instant;
@@ -42,15 +43,15 @@ fn record(alloc: Global, number: u32) -> Result<RData> {
 
 /// Prints the milliseconds in which as many records are sorted by `cmp`.
 pub fn measure_sorting(rt: &(impl Clock + AllocGlobal + Print)) -> Result<()> {
-    let mut records = Vec::with_capacity(rt.alloc(), COUNT as usize)?;
+    let mut records = HeldList(Vec::with_capacity(rt.alloc(), COUNT as usize)?);
     for number in 0..COUNT {
-        records.push(record(rt.alloc(), number)?)?;
+        records.0.push(record(rt.alloc(), number)?)?;
     }
     let begin = Instant::now(rt)?;
-    records.sort_unstable();
+    records.0.sort_unstable();
     let time = begin.elapsed(rt)?.as_millis();
     anyhow::ensure!(
-        records.windows(2).all(|two| two[0] <= two[1]),
+        records.0.windows(2).all(|two| two[0] <= two[1]),
         "not in order"
     );
     println!(rt; "{COUNT} records of four types sorted in {time} ms")?;

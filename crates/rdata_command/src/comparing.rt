@@ -9,7 +9,8 @@ ghost use Rattle.rdata_command.specs.Comparing.{NotCompare, AsksOrder, NoOrderRe
 
 use crate::report::{read_at, say};
 use crate::request::{octets, record_type};
-use dns_rdata::{DecodeError, RData, RecordType};
+use dns_rdata::{DecodeError, RecordType};
+use held_data::Held;
 use std::alloc::{AllocError, Global};
 use std::cmp::Ordering;
 use std::io;
@@ -78,9 +79,9 @@ fn order_text(order: Ordering) -> &'static str
 }
 
 // The value that a whole message is of.
-fn whole(alloc: Global, message: &[u8], record_type: RecordType) -> Result<RData, DecodeError>
+fn whole(alloc: Global, message: &[u8], record_type: RecordType) -> Result<Held, DecodeError>
     requires { size message.now < 65536 }
-    ensures found { IfOk result (λ v. Fills message.now 0 (size message.now) record_type v) }
+    ensures found { IfOk result (λ v. Fills message.now 0 (size message.now) record_type v.0) }
     ensures refused { IfErr result (λ e. UnlessMemory e (NoValue message.now 0 (size message.now) record_type)) }
 {
     read_at(alloc, message, 0, record_type, message.len() as u16)
@@ -95,7 +96,7 @@ fn order_of(alloc: Global, pair: &Pair) -> Result<Ordering, DecodeError>
 {
     let value = whole(alloc, pair.left.as_slice(), pair.record_type)?;
     let other = whole(alloc, pair.right.as_slice(), pair.record_type)?;
-    Ok(value.cmp(&other))
+    Ok(value.0.cmp(&other.0))
 }
 
 /// Reads both, the left one first, writes their order, and tells the status: 0 where both are data of the type, 1 where

@@ -1,13 +1,15 @@
 //! The command `parse`: record data from a text.
 
-ghost use Rattle.std.specs.Prelude.{◌≡◌, ◌⊎◌, [], ◌∷◌, codes, MatchOption};
+ghost use Rattle.std.specs.Prelude.{◌≡◌, ◌≢◌, ◌⊎◌, [], ◌∷◌, codes, IfOk, IfErr, MatchOption};
 ghost use Rattle.std.specs.Io.KnownBytes.{Appends};
 ghost use Rattle.rdata_command.specs.Request.{texts};
+ghost use Rattle.dns_rdata.specs.DataWords.{IsDataText};
 ghost use Rattle.rdata_command.specs.Parsing.{NotParse, AsksText, NoTextRequest, PrintedText, NoDataText};
 
 use crate::report::{lines, say};
 use crate::request::record_type;
 use dns_rdata::{ParseError, RData, RecordType};
+use held_data::Held;
 use std::alloc::Global;
 use std::io;
 
@@ -38,6 +40,14 @@ pub fn text_request(words: &[String]) -> Option<(RecordType, &str)>
     Some((record_type, text))
 }
 
+// The value of a text, which is held.
+fn parsed(alloc: Global, record_type: RecordType, text: &str) -> Result<Held, ParseError>
+    ensures found { IfOk result (λ v. IsDataText record_type text.now v.0) }
+    ensures refused { IfErr result (λ e. e ≢ ParseError.Memory → NoDataText record_type text.now) }
+{
+    Ok(Held(RData::try_from_str(alloc, record_type, text)?))
+}
+
 /// Reads the text, writes the answer, and tells the status: 0 with four lines where the text is of a value of the type,
 /// 1 where it is of none, 3 where memory runs out, 4 where the writer refuses.
 pub fn serve_text<W: io::Write>(
@@ -52,10 +62,10 @@ pub fn serve_text<W: io::Write>(
         × Appends (W.contents out.old) (W.contents out.new) (codes "refused\n") }
     ensures memory { result ≡ 3 → Appends (W.contents out.old) (W.contents out.new) (codes "memory\n") }
 {
-    match RData::try_from_str(alloc, record_type, text) {
+    match parsed(alloc, record_type, text) {
         Err(ParseError::Memory) => say(out, "memory\n", 3),
         Err(_) => say(out, "refused\n", 1),
-        Ok(value) => match lines(alloc, record_type, &value) {
+        Ok(value) => match lines(alloc, record_type, &value.0) {
             Err(_) => say(out, "memory\n", 3),
             Ok(text) => say(out, text.as_str(), 0),
         },

@@ -12,11 +12,12 @@ use crate::request::Request;
 use dns_rdata::{
     BinDecoder, BinEncodable, BinEncoder, DecodeError, ProtoError, RData, RecordType, Restrict,
 };
+use held_data::Held;
 use std::alloc::{AllocError, Global};
 use std::io;
 
-/// Reads the data of a record at a place of a message.
-pub fn read_at(
+// Reads the data of a record at a place of a message.
+fn value_at(
     alloc: Global,
     message: &[u8],
     place: usize,
@@ -30,6 +31,21 @@ pub fn read_at(
     let mut decoder = BinDecoder::new(alloc, message);
     let _before = decoder.read_slice(place)?;
     RData::read(&mut decoder, record_type, Restrict::new(length))
+}
+
+/// Reads the data of a record at a place of a message, and holds it.
+pub fn read_at(
+    alloc: Global,
+    message: &[u8],
+    place: usize,
+    record_type: RecordType,
+    length: u16,
+) -> Result<Held, DecodeError>
+    requires { place ≤ size message.now }
+    ensures found { IfOk result (λ v. Fills message.now place length record_type v.0) }
+    ensures refused { IfErr result (λ e. UnlessMemory e (NoValue message.now place length record_type)) }
+{
+    Ok(Held(value_at(alloc, message, place, record_type, length)?))
 }
 
 // Writes the octets of a value to an empty vector.
@@ -147,7 +163,7 @@ pub fn serve<W: io::Write>(alloc: Global, request: &Request, out: &mut W) -> u8
     match outcome {
         Err(DecodeError::Memory) => say(out, "memory\n", 3),
         Err(_) => say(out, "refused\n", 1),
-        Ok(value) => match lines(alloc, request.record_type, &value) {
+        Ok(value) => match lines(alloc, request.record_type, &value.0) {
             Err(_) => say(out, "memory\n", 3),
             Ok(text) => say(out, text.as_str(), 0),
         },

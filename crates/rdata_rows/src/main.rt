@@ -1,12 +1,12 @@
 //! Replays runs of the program `rdata` whose answers are known, one a line: `rows.tsv` has small ones, worked by hand
 //! from the RFCs, and `real.tsv` record data as name servers and DNS tools write it, with the text and the octets on which
 //! independent implementations agree. The canonical octets of what was read are read again, and must be told as the same.
+//! `calls.tsv` has calls of the library.
 //! With an argument, such as `answers`, it answers the runs that standard input gives.
 #![tactic(auto)]
 
 mod answers;
-#[cfg(test)]
-mod tests;
+mod calls;
 
 use anyhow::{Result, bail};
 use rdata_command::run;
@@ -70,5 +70,6 @@ fn main(rt: HostRuntime) -> Result<()> {
         return answers::answer_all(&rt);
     }
     replay(&rt, "rows.tsv", &Commands)?;
-    replay(&rt, "real.tsv", &Commands)
+    replay(&rt, "real.tsv", &Commands)?;
+    replay(&rt, "calls.tsv", &calls::Calls)
 }

@@ -3,7 +3,10 @@
 //! one that begins with `#`.
 #![tactic(auto)]
 
+mod notation;
+
 use anyhow::{Context, Result};
+pub use notation::{octets, parts};
 use std::alloc::{AllocError, Global};
 use std::fs;
 use std::rt::Files;

@@ -1,12 +1,12 @@
 //! Names as octets.
 
-use crate::notation::{octets, parts};
 use anyhow::{Result, bail, ensure};
 use dns_fields::RDataEncoding;
 use dns_labels::reading::read_octets;
 use dns_labels::text::{NameText, parse_octets};
 use dns_labels::writing::write_name;
 use dns_labels::{Places, WriteError};
+use replay::{octets, parts};
 use std::alloc::Global;
 
 /// The octets of a name's text, whether it ends in a dot, and the text that is printed for them; or why it is refused.

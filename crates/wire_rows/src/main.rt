@@ -7,7 +7,6 @@
 mod exchange;
 mod labels;
 mod names;
-mod notation;
 mod octets;
 mod types;
 mod wire;

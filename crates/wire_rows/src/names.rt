@@ -1,8 +1,8 @@
 //! Names as values.
 
-use crate::notation::{octets, parts};
 use anyhow::{Result, bail};
 use dns_names_wire::{Name, ProtoError, ProtoResult};
+use replay::{octets, parts};
 use std::alloc::{AllocError, Global};
 use std::hash::{DefaultHasher, Hash, Hasher};
 

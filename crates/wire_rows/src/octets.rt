@@ -2,10 +2,10 @@
 
 ghost use Rattle.std.specs.Prelude.{◌≤◌};
 
-use crate::notation::octets;
 use anyhow::Result;
 use dns_types::comparing::same_octets;
 use dns_types::{Octets, SmallOctets, Strings};
+use replay::octets;
 use std::alloc::{AllocError, Global};
 
 /// Octets with room for four of them in the value as they are shown, how many there are, whether a copy is the same, and

@@ -1,12 +1,12 @@
 //! Messages read and written step by step.
 
 use crate::exchange::Exchange;
-use crate::notation::{octets, parts};
 use anyhow::Context;
 use dns_names_wire::{
     BinDecodable, BinDecoder, BinEncodable, BinEncoder, DecodeError, Name, ProtoError, ProtoResult,
     RDataEncoding, RecordType,
 };
+use replay::{octets, parts};
 use std::alloc::Global;
 
 // The number that a step reads.

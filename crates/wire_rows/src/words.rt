@@ -1,24 +1,26 @@
 //! Values read from words.
 
-use crate::notation::octets;
 use anyhow::Result;
 use dns_names_wire::Name;
-use dns_words::{Base64Text, WordList, name_from_tokens, next_u16};
+use dns_words::{Base64Text, Field, FromTokens, WordList, next_u16, number_field};
+use replay::octets;
 use std::alloc::Global;
+
+const NUMBER: Field = number_field!("number");
 
 /// The numbers that `+007` and `65536` are, and what is behind them.
 pub fn numbers(alloc: Global) -> Result<String> {
     let mut words = WordList::new(&["+007", "65536"]);
-    let first = next_u16(&mut words).ok();
-    let second = next_u16(&mut words).ok();
-    let third = next_u16(&mut words).err();
+    let first = next_u16(&mut words, NUMBER).ok();
+    let second = next_u16(&mut words, NUMBER).ok();
+    let third = next_u16(&mut words, NUMBER).err();
     Ok(format!(in alloc; "{first:?} {second:?} {third:?}")?)
 }
 
 /// The name that the first word of a text is, below an origin.
 pub fn first(alloc: Global, text: &str, origin: &str) -> Result<String> {
     let origin = Name::from_ascii(alloc, origin)?;
-    let name = name_from_tokens(alloc, text.split(' '), Some(&origin))?;
+    let name = Name::from_tokens(alloc, text.split(' '), Some(&origin))?;
     Ok(format!(in alloc; "{name}")?)
 }
 

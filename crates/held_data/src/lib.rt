@@ -1,0 +1,76 @@
+//! Record data that is held. A drop of `RData` is a case for each type, which a proof has at each way out of a function
+//! that holds one. A `Held` is dropped by one call, so that programs that go by it never drop an `RData` themselves.
+#![tactic(auto)]
+
+pub mod measured;
+
+use dns_rdata::{BinDecoder, DecodeError, ParseError, RData, RecordType, Restrict};
+use std::alloc::{AllocError, Global};
+
+/// The type that a word names or gives the number of.
+pub fn record_type(word: &str) -> Result<RecordType, ParseError> {
+    match word.parse::<u16>() {
+        Ok(number) => Ok(RecordType::from(number)),
+        Err(_) => Ok(word.parse::<RecordType>()?),
+    }
+}
+
+/// A value of record data.
+pub struct Held(pub RData);
+
+impl Drop for Held {
+    fn drop(self) {
+        let Held(_value) = self;
+    }
+}
+
+/// Values of record data.
+pub struct HeldList(pub Vec<RData>);
+
+impl Drop for HeldList {
+    fn drop(self) {
+        let HeldList(_values) = self;
+    }
+}
+
+impl Held {
+    /// The value of so many octets at the decoder's place.
+    pub fn read(
+        decoder: &mut BinDecoder<'_>,
+        record_type: RecordType,
+        length: u16,
+    ) -> Result<Held, DecodeError> {
+        let value = RData::read(decoder, record_type, Restrict::new(length))?;
+        Ok(Held(value))
+    }
+
+    /// The value whose data is a whole message.
+    pub fn whole(
+        alloc: Global,
+        octets: &[u8],
+        record_type: RecordType,
+    ) -> Result<Held, DecodeError> {
+        let length = octets.len().min(65535) as u16;
+        Held::read(&mut BinDecoder::new(alloc, octets), record_type, length)
+    }
+
+    /// The value of a text.
+    pub fn parse(alloc: Global, record_type: RecordType, text: &str) -> Result<Held, ParseError> {
+        Ok(Held(RData::try_from_str(alloc, record_type, text)?))
+    }
+
+    /// The value of words, with a blank between each two.
+    pub fn of_words(
+        alloc: Global,
+        record_type: RecordType,
+        words: &str,
+    ) -> Result<Held, ParseError> {
+        let value = RData::from_tokens(alloc, record_type, words.split(' '), None)?;
+        Ok(Held(value))
+    }
+
+    /// An equal value.
+    pub fn copy(&self) -> Result<Held, AllocError> {
+        Ok(Held(self.0.clone()?))
+    }
+}

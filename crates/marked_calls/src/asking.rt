@@ -1,0 +1,150 @@
+//! What values are asked for: how they compare, what they are, their canonical octets and their text.
+
+use crate::Marks;
+use crate::given::value;
+use anyhow::Result;
+use dns_rdata::opt::EdnsCode;
+use dns_rdata::svcb::SvcParamKey;
+use dns_rdata::{RData, RecordData, RecordType};
+use std::alloc::AllocError;
+use std::cmp::Ordering;
+use std::hash::{DefaultHasher, Hash, Hasher};
+use std::net::IpAddr;
+
+// What is answered without memory.
+#[derive(Clone, Copy, Debug)]
+enum Answer {
+    Order(Ordering),
+    Truth(bool),
+    Number(u64),
+    Kind(RecordType),
+    Address(Option<IpAddr>),
+    Nothing,
+}
+
+fn fed(value: &RData) -> u64 {
+    let mut state = DefaultHasher::new();
+    value.hash(&mut state);
+    state.finish()
+}
+
+// The order of two values by their cursors.
+fn by_cursors(left: &RData, right: &RData) -> Ordering {
+    let mut left = left.canonical_octets();
+    let mut right = right.canonical_octets();
+    left.compare(&mut right)
+}
+
+// The numbers of the parts that a value lends, each weighed by its place.
+fn parts(value: &RData) -> u64 {
+    let mut sum = 0u64;
+    match value {
+        RData::CSYNC(csync) => {
+            for kind in csync.type_bit_maps.iter() {
+                sum = sum
+                    .wrapping_mul(31)
+                    .wrapping_add(u64::from(u16::from(kind)));
+            }
+        }
+        RData::MX(mx) => {
+            for label in mx.exchange.iter() {
+                sum = sum.wrapping_mul(31).wrapping_add(label.len() as u64);
+            }
+        }
+        RData::TXT(txt) => {
+            for string in txt.txt_data.as_slice() {
+                sum = sum.wrapping_mul(31).wrapping_add(string.len() as u64);
+            }
+        }
+        _ => {}
+    }
+    sum
+}
+
+// Whether a value has a part that is asked for.
+fn has_part(value: &RData) -> bool {
+    match value {
+        RData::OPT(opt) => opt.get(EdnsCode::NSID).is_some(),
+        RData::SVCB(svcb) => svcb.get(SvcParamKey::Port).is_some(),
+        RData::HTTPS(https) => https.get(SvcParamKey::Port).is_some(),
+        RData::CAA(caa) => caa.value_as_iodef().is_ok(),
+        RData::CNAME(name) => name.0.zone_of(&name.0),
+        other => other.is_update(),
+    }
+}
+
+fn answer_of(call: &str, left: &RData, right: &RData) -> Answer {
+    match call {
+        "eq" => Answer::Truth(left == right),
+        "cmp" => Answer::Order(left.cmp(right)),
+        "hash" => Answer::Number(fed(left)),
+        "compare" => Answer::Order(by_cursors(left, right)),
+        "record_type" => Answer::Kind(left.record_type()),
+        "ip_addr" => Answer::Address(left.ip_addr()),
+        "iter" => Answer::Number(parts(left)),
+        "get" => Answer::Truth(has_part(left)),
+        _ => Answer::Nothing,
+    }
+}
+
+fn ask_both(marks: &Marks<'_>, call: &str, left: &RData, right: &RData) -> Result<String> {
+    marks.begin()?;
+    let answer = answer_of(call, left, right);
+    marks.end()?;
+    Ok(format!(in marks.alloc(); "{answer:?}")?)
+}
+
+fn ask_beside(marks: &Marks<'_>, call: &str, left: &RData, right: &str) -> Result<String> {
+    let right = value(marks.alloc(), right)?;
+    ask_both(marks, call, left, &right.0)
+}
+
+/// What two values are asked for together, or the first one alone.
+pub fn ask(marks: &Marks<'_>, call: &str, left: &str, right: &str) -> Result<String> {
+    let left = value(marks.alloc(), left)?;
+    ask_beside(marks, call, &left.0, right)
+}
+
+// Appends the canonical octets.
+fn append_all(value: &RData, octets: &mut Vec<u8>) -> Result<(), AllocError> {
+    for octet in value.canonical_octets() {
+        octets.push(octet)?;
+    }
+    Ok(())
+}
+
+// Appends the canonical octets at the first 300 places.
+fn append_first(value: &RData, octets: &mut Vec<u8>) -> Result<(), AllocError> {
+    for place in 0..300u16 {
+        let Some(octet) = value.octet_at(u128::from(place)) else {
+            break;
+        };
+        octets.push(octet)?;
+    }
+    Ok(())
+}
+
+/// The canonical octets that a cursor gives, or those at the first places, put where there is room.
+pub fn octets(marks: &Marks<'_>, call: &str, text: &str) -> Result<String> {
+    let value = value(marks.alloc(), text)?;
+    let mut octets = Vec::with_capacity(marks.alloc(), 131072)?;
+    marks.begin()?;
+    let result = match call {
+        "octet_at" => append_first(&value.0, &mut octets),
+        _ => append_all(&value.0, &mut octets),
+    };
+    marks.end()?;
+    let digits = hex::encode(marks.alloc(), octets.as_slice())?;
+    Ok(format!(in marks.alloc(); "{result:?} {digits}")?)
+}
+
+/// The text that a value prints, put where there is so much room, and whether it printed.
+pub fn print(marks: &Marks<'_>, room: &str, text: &str) -> Result<String> {
+    let value = value(marks.alloc(), text)?;
+    let mut text = String::with_capacity(marks.alloc(), room.parse::<usize>()?)?;
+    marks.begin()?;
+    let result = write!(text, "{}", value.0);
+    marks.end()?;
+    let printed = result.is_ok();
+    Ok(format!(in marks.alloc(); "{printed} {text:?}")?)
+}

@@ -1,0 +1,102 @@
+//! Makes a call of the library for each line of standard input. A line has what is written before the call, the call and
+//! its words, with a tab between each two. The answer is what stands before the call, `requests end`, and a line of what the
+//! call answered and what stands then. What refuses requests for memory (tests/requests.c) reads the two marks. Words that
+//! give no call are answered by a dash and a line that says why.
+#![tactic(auto)]
+
+mod asking;
+mod changing;
+mod emitting;
+mod given;
+mod making;
+mod numbers;
+
+use anyhow::{Result, bail};
+use replay::fields_of;
+use std::alloc::Global;
+use std::io;
+use std::io::{BufRead, BufReader, Write};
+
+/// Where the marks of one call are written, and the first of them.
+#[derive(Clone, Copy)]
+pub struct Marks<'a> {
+    rt: &'a HostRuntime,
+    begin: &'a str,
+}
+
+impl Marks<'_> {
+    /// What gives memory.
+    pub fn alloc(&self) -> Global {
+        self.rt.alloc()
+    }
+
+    /// Writes the mark before the call.
+    pub fn begin(&self) -> Result<()> {
+        Ok(io::writer(self.rt).write_all(self.begin.as_bytes())?)
+    }
+
+    /// Writes the mark behind the call.
+    pub fn end(&self) -> Result<()> {
+        Ok(io::writer(self.rt).write_all(b"requests end\n")?)
+    }
+}
+
+// What a call with its words answers.
+fn answer(marks: &Marks<'_>, call: &str, words: &[String]) -> Result<String> {
+    match words {
+        [text] => answer_to_one(marks, call, text.as_str()),
+        [first, second] => answer_to_two(marks, call, first.as_str(), second.as_str()),
+        _ => emitting::emit(marks, words),
+    }
+}
+
+fn answer_to_one(marks: &Marks<'_>, call: &str, text: &str) -> Result<String> {
+    match call {
+        "read" => making::read(marks, text),
+        "clone" => making::copy(marks, text),
+        "to_string" | "cert_base64" => making::text(marks, call, text),
+        "canonical_octets" | "octet_at" => asking::octets(marks, call, text),
+        "numbers" => numbers::numbers(marks, text),
+        _ => answer_to_text(marks, call, text),
+    }
+}
+
+fn answer_to_text(marks: &Marks<'_>, call: &str, text: &str) -> Result<String> {
+    match call {
+        "new_issue" | "new_issuewild" => making::issuer(marks, call, text),
+        "new_iodef" => making::location(marks, text),
+        "types" => making::types(marks, text),
+        "A" | "AAAA" | "IpNet" | "ClientSubnet" => numbers::of_address(marks, call, text),
+        "RecordType" | "SvcParamKey" | "ttl" | "flags" => numbers::of_word(marks, call, text),
+        _ => making::octets(marks, call, text),
+    }
+}
+
+fn answer_to_two(marks: &Marks<'_>, call: &str, first: &str, second: &str) -> Result<String> {
+    match call {
+        "from_tokens" | "try_from_str" => making::value(marks, call, first, second),
+        "print" => asking::print(marks, first, second),
+        "set_issuer_value" => changing::set_issuer(marks, first, second),
+        "set_iodef_value" => changing::set_url(marks, first, second),
+        "insert" | "get_all" | "remove" => changing::options(marks, call, first, second),
+        _ => asking::ask(marks, call, first, second),
+    }
+}
+
+fn main(rt: HostRuntime) -> Result<()> {
+    for line in BufReader::new(rt.alloc(), rt.reader())?.lines(rt.alloc()) {
+        let fields = fields_of(rt.alloc(), line?.as_str())?;
+        let [begin, call, words @ ..] = fields.as_slice() else {
+            bail!("a call is missing");
+        };
+        let marks = Marks {
+            rt: &rt,
+            begin: begin.as_str(),
+        };
+        match answer(&marks, call.as_str(), words) {
+            Ok(shown) => println!(rt; "{shown}")?,
+            Err(error) => println!(rt; "-\nnot called: {error}")?,
+        }
+    }
+    Ok(())
+}

@@ -1,0 +1,129 @@
+//! Replays calls of the library: values that are made, and what they are asked for. A line has a command, the answer that
+//! is wanted, and the command's words, with a tab between each two. What a command answers is said at the function that
+//! does it. Functions are kept small, since a proof takes more than twice as long for twice the code.
+
+mod encoder;
+mod lists;
+mod made;
+mod made_certs;
+mod made_sets;
+mod options;
+mod placed;
+mod reading;
+mod services;
+mod values;
+
+use anyhow::{Result, bail};
+use replay::Interpreter;
+use std::alloc::Global;
+
+/// The calls.
+pub struct Calls;
+
+impl Interpreter for Calls {
+    fn difference(&self, alloc: Global, fields: &[String]) -> Result<Option<String>> {
+        let [command, wanted, words @ ..] = fields else {
+            bail!("a command or an answer is missing");
+        };
+        let came = answer(alloc, command.as_str(), words)?;
+        if came.as_str() == wanted.as_str() {
+            return Ok(None);
+        }
+        Ok(Some(came))
+    }
+}
+
+// What a command with its words answers.
+fn answer(alloc: Global, command: &str, words: &[String]) -> Result<String> {
+    match words {
+        [] => answer_to_none(alloc, command),
+        [word] => answer_to_one(alloc, command, word.as_str()),
+        [first, second] => answer_to_two(alloc, command, first.as_str(), second.as_str()),
+        _ => match command {
+            "little-room" => reading::little_room(alloc, words),
+            _ => bail!("too many words"),
+        },
+    }
+}
+
+fn answer_to_none(alloc: Global, command: &str) -> Result<String> {
+    match command {
+        "insert" => options::insert(alloc),
+        "modes" => encoder::modes(alloc),
+        "limit" => encoder::limit(alloc),
+        "serials" => encoder::serials(alloc),
+        "parts" => encoder::parts(alloc),
+        _ => bail!("no such command"),
+    }
+}
+
+fn answer_to_one(alloc: Global, command: &str, word: &str) -> Result<String> {
+    match command {
+        "emitted" => values::emitted(alloc, word),
+        "printed" => values::printed(alloc, word),
+        "told" => values::told(alloc, word),
+        "canonical" => placed::canonical(alloc, word),
+        "naptr" => reading::naptr(alloc, word),
+        "flags" => reading::flags(alloc, word),
+        _ => answer_of_records(alloc, command, word),
+    }
+}
+
+fn answer_of_records(alloc: Global, command: &str, word: &str) -> Result<String> {
+    match command {
+        "base64" => made_certs::base64(alloc, word),
+        "hex" => made_certs::decoded(alloc, word),
+        "issuer" => made_sets::issuer_of(alloc, word),
+        "url" => made_sets::url_of(alloc, word),
+        "set" => made_sets::set(alloc, word),
+        "shortest" => made_sets::shortest(alloc, word),
+        _ => answer_of_lists(alloc, command, word),
+    }
+}
+
+fn answer_of_lists(alloc: Global, command: &str, word: &str) -> Result<String> {
+    match command {
+        "list" => lists::list(alloc, word),
+        "strings" => lists::strings(alloc, word),
+        "sorted" => lists::sorted(alloc, word),
+        "numbers" => lists::numbers(alloc, word),
+        "options" => options::options(alloc, word),
+        "net" => options::net(alloc, word),
+        "payload" => options::payload(alloc, word),
+        "keys" => services::keys(alloc, word),
+        "protocols" => services::protocols(alloc, word),
+        "names" => services::names(alloc, word),
+        "pairs" => services::pairs(alloc, word),
+        _ => bail!("no such command"),
+    }
+}
+
+fn answer_to_two(alloc: Global, command: &str, first: &str, second: &str) -> Result<String> {
+    match command {
+        "compare" => values::compare(alloc, first, second),
+        "cursors" => values::cursors(alloc, first, second),
+        "octet" => placed::octet(alloc, first, second),
+        "refusal" => reading::refusal(alloc, first, second),
+        "lengths" => reading::lengths(alloc, first, second),
+        "are-words" => reading::are_words(alloc, first, second),
+        "is-long-text" => reading::is_long_text(alloc, first, second),
+        "is-text" => reading::is_text(alloc, first, second),
+        "unread" => reading::unread(alloc, first, second),
+        _ => answer_of_two(alloc, command, first, second),
+    }
+}
+
+fn answer_of_two(alloc: Global, command: &str, first: &str, second: &str) -> Result<String> {
+    match command {
+        "set-issuer" => made_sets::set_issuer(alloc, first, second),
+        "set-url" => made_sets::set_url(alloc, first, second),
+        "same-sets" => made_sets::same_sets(alloc, first, second),
+        "subnet" => options::subnet(alloc, first, second),
+        "order" => options::order(alloc, first, second),
+        "found" => lists::found(alloc, first, second),
+        "front" => services::front(alloc, first, second),
+        "parameter" => services::parameter(alloc, first, second),
+        "hints" => services::hints(alloc, first, second),
+        _ => bail!("no such command"),
+    }
+}

@@ -1,0 +1,103 @@
+//! Options of OPT.
+
+use anyhow::{Context, Result};
+use dns_rdata::opt::{ClientSubnet, EdnsCode, EdnsOption, IpNet, NSIDPayload, OPT};
+use dns_rdata::{BinDecoder, BinEncodable, BinEncoder, ProtoError, RecordDataDecodable, Restrict};
+use dns_rdata_options::order::opt_order;
+use dns_rdata_options::steps::opt_is_emittable;
+use replay::octets;
+use std::alloc::Global;
+use std::net::IpAddr;
+
+fn record(alloc: Global, digits: &str) -> Result<OPT> {
+    let octets = octets(alloc, digits)?;
+    let length = octets.len().min(65535) as u16;
+    let mut decoder = BinDecoder::new(alloc, octets.as_slice());
+    Ok(OPT::read_data(&mut decoder, Restrict::new(length))?)
+}
+
+/// How many options a record has, how many of them are cookies, and whether it gives a cookie and padding.
+pub fn options(alloc: Global, digits: &str) -> Result<String> {
+    let opt = record(alloc, digits)?;
+    let (count, cookies) = (opt.as_ref().len(), opt.get_all(EdnsCode::Cookie)?.len());
+    let cookie = opt.get(EdnsCode::Cookie).is_some();
+    let padding = opt.get(EdnsCode::Padding).is_some();
+    Ok(format!(in alloc; "{count} {cookies} {cookie} {padding}")?)
+}
+
+/// How the records of these octets are ordered, where that is told without a cursor.
+pub fn order(alloc: Global, left: &str, right: &str) -> Result<String> {
+    let left = record(alloc, left)?;
+    let right = record(alloc, right)?;
+    anyhow::ensure!(
+        opt_is_emittable(&left) && opt_is_emittable(&right),
+        "not emitted"
+    );
+    let order = opt_order(&left, &right);
+    Ok(format!(in alloc; "{order:?}")?)
+}
+
+// The octets of options, as digits.
+fn emitted(alloc: Global, opt: &OPT) -> Result<String> {
+    let mut octets = Vec::new(alloc);
+    let mut encoder = BinEncoder::new(alloc, &mut octets);
+    opt.emit(&mut encoder)?;
+    encoder.into_bytes();
+    Ok(hex::encode(alloc, octets.as_slice())?)
+}
+
+// A cookie, and the name of a server.
+fn inserted(alloc: Global) -> Result<OPT, ProtoError> {
+    let mut opt = OPT::default(alloc);
+    opt.insert(EdnsOption::try_from(alloc, (EdnsCode::Cookie, b"\x05"))?)?;
+    opt.insert(EdnsOption::NSID(NSIDPayload::try_from(alloc, b"\xc0\xff\xee")?))?;
+    Ok(opt)
+}
+
+/// The octets of a cookie of octet 5 and of the name c0ffee of a server, and those without the cookie.
+pub fn insert(alloc: Global) -> Result<String> {
+    let mut opt = inserted(alloc)?;
+    let mut shown = emitted(alloc, &opt)?;
+    opt.remove(EdnsCode::Cookie);
+    shown.push(' ')?;
+    shown.push_str(emitted(alloc, &opt)?.as_str())?;
+    Ok(shown)
+}
+
+// The subnet of a text `ADDRESS NUMBER NUMBER`.
+fn subnet_of(text: &str) -> Result<ClientSubnet> {
+    let (address, numbers) = text.split_once(' ').context("numbers")?;
+    let (source, scope) = numbers.split_once(' ').context("a scope")?;
+    Ok(ClientSubnet::new(
+        address.parse::<IpAddr>()?,
+        source.parse::<u8>()?,
+        scope.parse::<u8>()?,
+    ))
+}
+
+/// The octets of a subnet, and whether they are read as the other one; or that it has none.
+pub fn subnet(alloc: Global, text: &str, other: &str) -> Result<String> {
+    let Ok(octets) = subnet_of(text)?.to_vec(alloc) else {
+        return Ok(String::from_str(alloc, "refused")?);
+    };
+    let read = ClientSubnet::try_from(octets.as_slice())? == subnet_of(other)?;
+    let digits = hex::encode(alloc, octets.as_slice())?;
+    Ok(format!(in alloc; "{digits} {read}")?)
+}
+
+/// Whether the subnet of a net `ADDRESS NUMBER` is one that is made, with no scope.
+pub fn net(alloc: Global, text: &str) -> Result<String> {
+    let (address, length) = text.split_once(' ').context("a length")?;
+    let (address, length) = (address.parse::<IpAddr>()?, length.parse::<u8>()?);
+    let net = IpNet::new(address, length);
+    let same = net.map(ClientSubnet::from) == Some(ClientSubnet::new(address, length, 0));
+    Ok(format!(in alloc; "{same}")?)
+}
+
+/// Whether octets are read as a name of a server, and whether they make one.
+pub fn payload(alloc: Global, digits: &str) -> Result<String> {
+    let octets = octets(alloc, digits)?;
+    let read = NSIDPayload::try_from(alloc, octets.as_slice()).is_ok();
+    let made = NSIDPayload::new(octets).is_ok();
+    Ok(format!(in alloc; "{read} {made}")?)
+}

@@ -1,0 +1,125 @@
+//! Octets and texts that are read or refused.
+
+use anyhow::{Context, Result};
+use dns_rdata::{BinDecodable, BinDecoder, DecodeError, NAPTR, RecordType, verify_flags};
+use held_data::{Held, record_type};
+use rdata_command::run;
+use replay::octets;
+use std::alloc::Global;
+
+// Why the data of so many octets is refused, and the place where reading ends.
+fn end(
+    decoder: &mut BinDecoder<'_>,
+    record_type: RecordType,
+    length: u16,
+) -> (Option<DecodeError>, usize) {
+    match Held::read(decoder, record_type, length) {
+        Ok(_) => (None, decoder.index()),
+        Err(error) => (Some(error), decoder.index()),
+    }
+}
+
+/// Why the data at a place, `PLACE LENGTH OCTETS`, is refused, or that it is not, and the place where reading ends.
+pub fn refusal(alloc: Global, kind: &str, text: &str) -> Result<String> {
+    let (place, rest) = text.split_once(' ').context("a length")?;
+    let (length, digits) = rest.split_once(' ').context("octets")?;
+    let message = octets(alloc, digits)?;
+    let mut decoder = BinDecoder::new(alloc, message.as_slice());
+    let _before = decoder.read_slice(place.parse::<usize>()?)?;
+    let (error, index) = end(&mut decoder, record_type(kind)?, length.parse::<u16>()?);
+    Ok(format!(in alloc; "{error:?} {index}")?)
+}
+
+// Whether so many octets at the front of a message are data, and reading ends within the message.
+fn is_read(alloc: Global, message: &[u8], record_type: RecordType, length: u16) -> Option<bool> {
+    let mut decoder = BinDecoder::new(alloc, message);
+    let (error, index) = end(&mut decoder, record_type, length);
+    if index > message.len() {
+        return None;
+    }
+    Some(error.is_none())
+}
+
+// Whether each cut of a message is data of the same lengths, but for those past its end.
+fn is_cut(alloc: Global, octets: &[u8], record_type: RecordType, length: u16) -> bool {
+    let whole = is_read(alloc, octets, record_type, length) == Some(true);
+    for cut in 0..octets.len() {
+        let expected = whole && usize::from(length) <= cut;
+        if is_read(alloc, &octets[..cut], record_type, length) != Some(expected) {
+            return false;
+        }
+    }
+    true
+}
+
+/// The numbers of octets below 64 that are data at the front of a message, which each cut of it keeps but for those past
+/// its end.
+pub fn lengths(alloc: Global, kind: &str, digits: &str) -> Result<String> {
+    let octets = octets(alloc, digits)?;
+    let record_type = record_type(kind)?;
+    let mut shown = String::new(alloc);
+    for length in 0..64u16 {
+        if !is_cut(alloc, octets.as_slice(), record_type, length) {
+            write!(shown, "cut otherwise at {length};")?;
+        }
+        if is_read(alloc, octets.as_slice(), record_type, length) == Some(true) {
+            write!(shown, "{length};")?;
+        }
+    }
+    Ok(shown)
+}
+
+/// Whether octets are the text of a value.
+pub fn is_text(alloc: Global, kind: &str, digits: &str) -> Result<String> {
+    let octets = octets(alloc, digits)?;
+    let text = std::str::from_utf8(octets.as_slice())?;
+    let read = Held::parse(alloc, record_type(kind)?, text).is_ok();
+    Ok(format!(in alloc; "{read}")?)
+}
+
+/// Whether 200,000 times an octet is the text of a value.
+pub fn is_long_text(alloc: Global, kind: &str, digits: &str) -> Result<String> {
+    let octet = u8::from_str_radix(digits, 16)?;
+    let mut octets = Vec::with_capacity(alloc, 200000)?;
+    octets.resize(200000, octet)?;
+    let text = std::str::from_utf8(octets.as_slice())?;
+    let read = Held::parse(alloc, record_type(kind)?, text).is_ok();
+    Ok(format!(in alloc; "{read}")?)
+}
+
+/// Whether words are those of a value.
+pub fn are_words(alloc: Global, kind: &str, words: &str) -> Result<String> {
+    let read = Held::of_words(alloc, record_type(kind)?, words).is_ok();
+    Ok(format!(in alloc; "{read}")?)
+}
+
+/// Why words are refused, as the error and as its text, or `read`.
+pub fn unread(alloc: Global, kind: &str, words: &str) -> Result<String> {
+    match Held::of_words(alloc, record_type(kind)?, words) {
+        Ok(_) => Ok(String::from_str(alloc, "read")?),
+        Err(error) => Ok(format!(in alloc; "{error:?} {error}")?),
+    }
+}
+
+/// Why NAPTR is refused that is read by its own type, and the place where reading ends.
+pub fn naptr(alloc: Global, digits: &str) -> Result<String> {
+    let octets = octets(alloc, digits)?;
+    let mut decoder = BinDecoder::new(alloc, octets.as_slice());
+    let error = NAPTR::read(&mut decoder).err();
+    let index = decoder.index();
+    Ok(format!(in alloc; "{error:?} {index}")?)
+}
+
+/// Whether a text is flags of NAPTR.
+pub fn flags(alloc: Global, text: &str) -> Result<String> {
+    let valid = verify_flags(text.as_bytes());
+    Ok(format!(in alloc; "{valid}")?)
+}
+
+/// The status of the program with a writer that has room for 5 octets.
+pub fn little_room(alloc: Global, words: &[String]) -> Result<String> {
+    let mut room = [0u8; 5];
+    let mut out = &mut room[..];
+    let status = run(alloc, words, &mut out);
+    Ok(format!(in alloc; "{status}")?)
+}

@@ -1,0 +1,197 @@
+//! Service bindings, and the values of their parameters.
+
+ghost use Rattle.std.specs.Prelude.{◌<◌};
+
+use anyhow::{Result, bail};
+use dns_rdata::svcb::{
+    Alpn, EchConfigList, IpHint, Mandatory, SvcParamKey, SvcParamValue, Unknown,
+};
+use dns_rdata::{
+    A, AAAA, BinDecodable, BinDecoder, BinEncodable, BinEncoder, DecodeError, RecordDataDecodable,
+    Restrict, SVCB, TakesOctet, WordList,
+};
+use dns_rdata_service::order::svcb_front;
+use replay::octets;
+use std::alloc::{AllocError, Global};
+use std::fmt;
+
+fn record(alloc: Global, octets: &[u8]) -> Result<SVCB, DecodeError> {
+    let length = octets.len().min(65535) as u16;
+    let mut decoder = BinDecoder::new(alloc, octets);
+    SVCB::read_data(&mut decoder, Restrict::new(length))
+}
+
+/// How two records are ordered at their front, and how many parameters are alike.
+pub fn front(alloc: Global, left: &str, right: &str) -> Result<String> {
+    let left = record(alloc, octets(alloc, left)?.as_slice())?;
+    let right = record(alloc, octets(alloc, right)?.as_slice())?;
+    let (order, alike) = svcb_front(&left, &right);
+    Ok(format!(in alloc; "{order:?} {alike}")?)
+}
+
+// The octets of a record of so many parameters without octets, from key 7 on.
+fn many(alloc: Global, count: u16) -> Result<Vec<u8>, AllocError>
+    requires { count < 16000 }
+{
+    let mut octets = Vec::new(alloc);
+    octets.extend_from_slice(b"\x00\x01\x00")?;
+    for number in 7..count + 7 {
+        octets.extend_from_slice(&number.to_be_bytes())?;
+        octets.extend_from_slice(b"\x00\x00")?;
+    }
+    Ok(octets)
+}
+
+/// How many parameters a record of so many has.
+pub fn keys(alloc: Global, count: &str) -> Result<String> {
+    let octets = many(alloc, count.parse::<u16>()?.min(15999))?;
+    let count = record(alloc, octets.as_slice())?.svc_params.len();
+    Ok(format!(in alloc; "{count}")?)
+}
+
+// The octets that a value appends to an encoder without any.
+fn emitted<T: BinEncodable>(alloc: Global, value: &T) -> Result<Vec<u8>> {
+    let mut octets = Vec::new(alloc);
+    let mut encoder = BinEncoder::new(alloc, &mut octets);
+    value.emit(&mut encoder)?;
+    encoder.into_bytes();
+    Ok(octets)
+}
+
+// The text of the value that octets are read as to their end, and whether it is emitted as them.
+fn shown<T: BinDecodable + BinEncodable + fmt::Display + Drop>(
+    alloc: Global,
+    octets: &[u8],
+) -> Result<String> {
+    let mut decoder = BinDecoder::new(alloc, octets);
+    let value = T::read(&mut decoder)?;
+    let is_kept = decoder.is_empty() && emitted(alloc, &value)?.as_slice() == octets;
+    Ok(format!(in alloc; "{value} {is_kept}")?)
+}
+
+// Whether a copy of what octets are read as is equal.
+fn is_copied<T: BinDecodable + PartialEq + Clone + Drop>(
+    alloc: Global,
+    octets: &[u8],
+) -> Result<bool> {
+    let value = T::read(&mut BinDecoder::new(alloc, octets))?;
+    Ok(value.clone()? == value)
+}
+
+fn copied(alloc: Global, kind: &str, octets: &[u8]) -> Result<bool> {
+    match kind {
+        "mandatory" => is_copied::<Mandatory>(alloc, octets),
+        "alpn" => is_copied::<Alpn>(alloc, octets),
+        "ech" => is_copied::<EchConfigList>(alloc, octets),
+        _ => is_copied::<Unknown>(alloc, octets),
+    }
+}
+
+/// The text of the value of a parameter, whether its octets are emitted again, and whether a copy is equal.
+pub fn parameter(alloc: Global, kind: &str, digits: &str) -> Result<String> {
+    let octets = octets(alloc, digits)?;
+    let octets = octets.as_slice();
+    let text = match kind {
+        "mandatory" => shown::<Mandatory>(alloc, octets)?,
+        "alpn" => shown::<Alpn>(alloc, octets)?,
+        "ech" => shown::<EchConfigList>(alloc, octets)?,
+        "unknown" => shown::<Unknown>(alloc, octets)?,
+        _ => bail!("no such parameter"),
+    };
+    let copied = copied(alloc, kind, octets)?;
+    Ok(format!(in alloc; "{text} {copied}")?)
+}
+
+// The text of the hints that octets are, and whether they are emitted again.
+fn shown_hints<T: BinDecodable + TakesOctet + BinEncodable + fmt::Display + Drop>(
+    alloc: Global,
+    octets: &[u8],
+) -> Result<String> {
+    let mut decoder = BinDecoder::new(alloc, octets);
+    let value = IpHint::<T>::read(&mut decoder)?;
+    let is_kept = emitted(alloc, &value)?.as_slice() == octets;
+    Ok(format!(in alloc; "{value} {is_kept}")?)
+}
+
+/// The text of hints, and whether their octets are emitted again.
+pub fn hints(alloc: Global, kind: &str, digits: &str) -> Result<String> {
+    let octets = octets(alloc, digits)?;
+    match kind {
+        "four" => shown_hints::<A>(alloc, octets.as_slice()),
+        _ => shown_hints::<AAAA>(alloc, octets.as_slice()),
+    }
+}
+
+// The protocols of names with a comma between each two. A dash is none.
+fn protocols_of(alloc: Global, text: &str) -> Result<Alpn, AllocError> {
+    let mut texts = Vec::new(alloc);
+    if text != "-" {
+        for name in text.split(',') {
+            texts.push(String::from_str(alloc, name)?)?;
+        }
+    }
+    Alpn::new(texts)
+}
+
+/// The octets of protocols, or that they are refused.
+pub fn protocols(alloc: Global, text: &str) -> Result<String> {
+    let alpn = protocols_of(alloc, text)?;
+    match emitted(alloc, &alpn) {
+        Ok(octets) => Ok(hex::encode(alloc, octets.as_slice())?),
+        Err(_) => Ok(String::from_str(alloc, "refused")?),
+    }
+}
+
+/// The names of the protocols in a word, each behind a stroke.
+pub fn names(alloc: Global, word: &str) -> Result<String> {
+    let mut shown = String::new(alloc);
+    let words = ["1", ".", word];
+    let service = SVCB::from_tokens(alloc, WordList::new(&words))?;
+    let Some(SvcParamValue::Alpn(alpn)) = service.get(SvcParamKey::Alpn) else {
+        bail!("no protocols");
+    };
+    for name in &alpn.0 {
+        shown.push('|')?;
+        shown.push_str(std::str::from_utf8(name.as_slice())?)?;
+    }
+    Ok(shown)
+}
+
+/// A number of two octets.
+#[derive(Clone, Copy, Debug, PartialEq, Eq)]
+struct Pair(u16);
+
+impl BinDecodable for Pair {
+    ghost use Rattle.dns_fields.specs.Fields.{Number, Field};
+    ghost use Rattle.dns_names_wire.specs.Words.{IsCut};
+
+    ghost stands = { λ m p x q. Field m p (Number 2) x.0 q };
+
+    ghost refuses = { IsCut 2 };
+
+    fn read(decoder: &mut BinDecoder<'_>) -> Result<Pair, DecodeError> {
+        Ok(Pair(decoder.read_u16()?.unverified()))
+    }
+}
+
+impl TakesOctet for Pair {
+    ghost use Rattle.std.proofs.Common.{arith};
+
+    ghost takes = { λ m p x q f. Prim.omega (arith, f.is.1.ends) };
+}
+
+/// The numbers that hints of two octets are, each behind a stroke, or that they are refused.
+pub fn pairs(alloc: Global, digits: &str) -> Result<String> {
+    let octets = octets(alloc, digits)?;
+    let mut decoder = BinDecoder::new(alloc, octets.as_slice());
+    let mut shown = String::new(alloc);
+    match IpHint::<Pair>::read(&mut decoder) {
+        Ok(hints) => {
+            for pair in hints.0.as_slice() {
+                write!(shown, "|{}", pair.0)?;
+            }
+        }
+        Err(_) => shown.push_str("refused")?,
+    }
+    Ok(shown)
+}
