@@ -105,6 +105,7 @@ def wanted_of_pair(call, left, right):
     return {
         "eq": f"Truth({'true' if (kind, octets) == (other, behind) else 'false'})",
         "cmp": f"Order({order})" if kind == other or order != "Equal" else None,
+        "partial_cmp": f"Order({order})" if kind == other or order != "Equal" else None,
         "compare": f"Order({order})",
     }.get(call)
 
@@ -152,7 +153,7 @@ def calls_on(memory, name, where, types, samples):
             output = samples.values[value][1]
             for mode, start in itertools.product(MODES[1:2] if memory == "none" else MODES, starts_of(output)):
                 yield emit_call(memory, mode, start, value, output)
-        elif name in ("record_type", "ip_addr", "iter", "get"):
+        elif name in ("record_type", "ip_addr", "iter", "get", "getters", "try_borrow"):
             yield Call(memory, name, (value, value), wanted)
         else:
             yield Call(memory, name, (value,), wanted)

@@ -5,7 +5,7 @@ use crate::given::value;
 use anyhow::Result;
 use dns_rdata::opt::EdnsCode;
 use dns_rdata::svcb::SvcParamKey;
-use dns_rdata::{RData, RecordData, RecordType};
+use dns_rdata::{A, HTTPS, MX, RData, RecordData, RecordType, SVCB};
 use std::alloc::AllocError;
 use std::cmp::Ordering;
 use std::hash::{DefaultHasher, Hash, Hasher};
@@ -73,10 +73,52 @@ fn has_part(value: &RData) -> bool {
     }
 }
 
+// Which of five types lend the value, a bit for each.
+fn lent(value: &RData) -> u64 {
+    let mut lent = 0u64;
+    if A::try_borrow(value).is_some() {
+        lent |= 1;
+    }
+    if MX::try_borrow(value).is_some() {
+        lent |= 2;
+    }
+    if HTTPS::try_borrow(value).is_some() {
+        lent |= 4;
+    }
+    if SVCB::try_borrow(value).is_some() {
+        lent |= 8;
+    }
+    if RData::try_borrow(value).is_some() {
+        lent |= 16;
+    }
+    lent
+}
+
+// A number that a value's getters and what it lends give.
+fn got(value: &RData) -> u64 {
+    match value {
+        RData::A(a) => u64::from(a.octets()[3]),
+        RData::CAA(caa) => u64::from(caa.flags()),
+        RData::CNAME(name) => name.len() as u64,
+        RData::CSYNC(csync) => u64::from(csync.flags()),
+        RData::HTTPS(https) => u64::from(https.svc_priority),
+        RData::NULL(null) => null.anything.len() as u64,
+        RData::OPT(opt) => opt.as_ref().len() as u64,
+        RData::SMIMEA(smimea) => smimea.cert_data.len() as u64,
+        other => u64::from(other.is_update()),
+    }
+}
+
 fn answer_of(call: &str, left: &RData, right: &RData) -> Answer {
     match call {
         "eq" => Answer::Truth(left == right),
         "cmp" => Answer::Order(left.cmp(right)),
+        "partial_cmp" => match left.partial_cmp(right) {
+            Some(order) => Answer::Order(order),
+            None => Answer::Nothing,
+        },
+        "try_borrow" => Answer::Number(lent(left)),
+        "getters" => Answer::Number(got(left)),
         "hash" => Answer::Number(fed(left)),
         "compare" => Answer::Order(by_cursors(left, right)),
         "record_type" => Answer::Kind(left.record_type()),

@@ -3,8 +3,11 @@
 use crate::Marks;
 use crate::given::{issuer, record};
 use anyhow::Result;
-use dns_rdata::caa::CAA;
-use dns_rdata::opt::{EdnsCode, EdnsOption, OPT};
+use dns_rdata::caa::{CAA, KeyValue};
+use dns_rdata::opt::{ClientSubnet, EdnsCode, EdnsOption, OPT};
+use dns_rdata::{NULL, SOA};
+use std::alloc::Global;
+use std::net::{IpAddr, Ipv4Addr};
 
 /// The record of an issuer that is set to another one.
 pub fn set_issuer(marks: &Marks<'_>, digits: &str, text: &str) -> Result<String> {
@@ -59,4 +62,68 @@ pub fn options(marks: &Marks<'_>, call: &str, digits: &str, code: &str) -> Resul
         "remove" => remove(marks, &mut opt, code),
         _ => get_all(marks, &opt, code),
     }
+}
+
+/// The serial of the record behind one more.
+pub fn serial(marks: &Marks<'_>, digits: &str) -> Result<String> {
+    let mut soa = record::<SOA>(marks.alloc(), digits)?;
+    marks.begin()?;
+    soa.increment_serial();
+    marks.end()?;
+    Ok(format!(in marks.alloc(); "{}", soa.serial)?)
+}
+
+// How many octets the keys and the values of an issuer have.
+fn lengths(pairs: &[KeyValue]) -> (usize, usize) {
+    let (mut keys, mut values) = (0usize, 0usize);
+    for pair in pairs {
+        keys = keys.saturating_add(pair.key().len());
+        values = values.saturating_add(pair.value().len());
+    }
+    (keys, values)
+}
+
+/// How many octets the keys and the values of an issuer have.
+pub fn keys(marks: &Marks<'_>, text: &str) -> Result<String> {
+    let (_, pairs) = issuer(marks.alloc(), text)?;
+    marks.begin()?;
+    let lengths = lengths(pairs.as_slice());
+    marks.end()?;
+    Ok(format!(in marks.alloc(); "{lengths:?}")?)
+}
+
+// The number of the last option's code, and how many options are lent.
+fn codes(opt: &mut OPT) -> (u16, usize) {
+    let mut last = 0u16;
+    for pair in opt.as_ref() {
+        last = EdnsCode::from(&pair.1).number();
+    }
+    (last, opt.as_mut().len())
+}
+
+/// The number of the last option's code, and how many options there are.
+pub fn last_code(marks: &Marks<'_>, digits: &str) -> Result<String> {
+    let mut opt = record::<OPT>(marks.alloc(), digits)?;
+    marks.begin()?;
+    let found = codes(&mut opt);
+    marks.end()?;
+    Ok(format!(in marks.alloc(); "{found:?}")?)
+}
+
+// Sets all of a subnet, and answers how much there is in defaults.
+fn set_all(alloc: Global, subnet: &mut ClientSubnet) -> (usize, usize) {
+    subnet.set_addr(IpAddr::V4(Ipv4Addr::new(192, 0, 2, 1)));
+    subnet.set_source_prefix(16);
+    subnet.set_scope_prefix(8);
+    let (null, opt) = (NULL::default(alloc), OPT::default(alloc));
+    (null.anything.len(), opt.as_ref().len())
+}
+
+/// A subnet of which all was set, and how much there is in defaults.
+pub fn set_subnet(marks: &Marks<'_>, text: &str) -> Result<String> {
+    let mut subnet = text.parse::<ClientSubnet>()?;
+    marks.begin()?;
+    let found = set_all(marks.alloc(), &mut subnet);
+    marks.end()?;
+    Ok(format!(in marks.alloc(); "{subnet:?} {found:?}")?)
 }
