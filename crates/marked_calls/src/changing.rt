@@ -3,8 +3,8 @@
 use crate::Marks;
 use crate::given::{issuer, record};
 use anyhow::Result;
-use dns_rdata::caa::{CAA, KeyValue};
-use dns_rdata::opt::{ClientSubnet, EdnsCode, EdnsOption, OPT};
+use dns_rdata::caa::{CAA, KeyValue, read_iodef};
+use dns_rdata::opt::{ClientSubnet, EdnsCode, EdnsOption, IpNet, OPT};
 use dns_rdata::{NULL, SOA};
 use std::alloc::Global;
 use std::net::{IpAddr, Ipv4Addr};
@@ -106,6 +106,23 @@ pub fn last_code(marks: &Marks<'_>, digits: &str) -> Result<String> {
     let mut opt = record::<OPT>(marks.alloc(), digits)?;
     marks.begin()?;
     let found = codes(&mut opt);
+    marks.end()?;
+    Ok(format!(in marks.alloc(); "{found:?}")?)
+}
+
+// Whether there is a net of these bits, the URL is read, and what is made is empty.
+fn made(alloc: Global, bits: u8, url: &str) -> (bool, bool, bool) {
+    let net = IpNet::new(IpAddr::V4(Ipv4Addr::new(192, 0, 2, 1)), bits);
+    let read = read_iodef(url.as_bytes());
+    let null = NULL::new(alloc);
+    (net.is_some(), read.is_ok(), null.anything.is_empty())
+}
+
+/// Whether there is a net of these bits, the URL is read, and what is made is empty.
+pub fn make(marks: &Marks<'_>, bits: &str, url: &str) -> Result<String> {
+    let bits = bits.parse::<u8>()?;
+    marks.begin()?;
+    let found = made(marks.alloc(), bits, url);
     marks.end()?;
     Ok(format!(in marks.alloc(); "{found:?}")?)
 }

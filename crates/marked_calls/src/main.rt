@@ -82,6 +82,7 @@ fn answer_to_two(marks: &Marks<'_>, call: &str, first: &str, second: &str) -> Re
         "print" => asking::print(marks, first, second),
         "set_issuer_value" => changing::set_issuer(marks, first, second),
         "set_iodef_value" => changing::set_url(marks, first, second),
+        "make" => changing::make(marks, first, second),
         "insert" | "get_all" | "remove" => changing::options(marks, call, first, second),
         _ => asking::ask(marks, call, first, second),
     }
