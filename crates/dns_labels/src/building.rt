@@ -9,8 +9,8 @@ use crate::error::NameError;
 
 /// Puts a label behind a name's labels.
 ///
-/// The error is `Invalid` where the label has no octet or more than 63, or where there would be more than
-/// 255 octets with the 0 at the end. After an error the octets are as before.
+/// The error is [`Invalid`](NameError::Invalid) where the label has no octet or more than 63, or where there would be
+/// more than 255 octets with the 0 at the end. After an error the octets are as before.
 pub fn append_label(octets: &mut Vec<u8>, label: &[u8]) -> Result<(), NameError>
     requires { AreNameOctets octets.old.items }
     ensures ok { OnOk result (labels_of octets.new.items ≡ labels_of octets.old.items ++ label.now ∷ []) }
@@ -31,8 +31,8 @@ pub fn append_label(octets: &mut Vec<u8>, label: &[u8]) -> Result<(), NameError>
 
 /// Puts a name's labels behind another name's.
 ///
-/// The error is `Invalid` where there would be more than 255 octets with the 0 at the end. After an error the
-/// octets are as before.
+/// The error is [`Invalid`](NameError::Invalid) where there would be more than 255 octets with the 0 at the end. After
+/// an error the octets are as before.
 pub fn append_octets(octets: &mut Vec<u8>, other: &[u8]) -> Result<(), NameError>
     requires octets { AreNameOctets octets.old.items }
     requires other { AreNameOctets other.now }

@@ -112,11 +112,11 @@ fn plain_octets(message: &[u8], start: usize) -> Option<&[u8]>
 
 /// The octets of the name that stands in a message from a place, and where what stands for it ends.
 ///
-/// The letters are kept. A name is labels, each a length of 1 to 63 and its octets, and then a 0; or, in
-/// place of the 0, two octets with the two highest bits set, whose other 14 bits are an earlier place,
-/// from which the rest stands in what is before this part (RFC 1035, 4.1.4). With the 0 it has at most 255
-/// octets. The error is `Invalid` where no name stands, without a request for memory, and there is one
-/// request for a name.
+/// The letters are kept. A name is labels, each a length of 1 to 63 and its octets, and then a 0; or, in place of the
+/// 0, two octets with the two highest bits set, whose other 14 bits are an earlier place, from which the rest stands in
+/// what is before this part (RFC 1035, 4.1.4). With the 0 it has at most 255 octets. The error is
+/// [`Invalid`](NameError::Invalid) where no name stands, without a request for memory, and there is one request for a
+/// name.
 pub fn read_octets(
     alloc: Global,
     message: &[u8],

@@ -148,12 +148,12 @@ fn read_name(text: &[u8], octets: &mut NameBuffer) -> Result<bool, &'static str>
 
 /// The octets of the name whose text this is, and whether it is fully qualified.
 ///
-/// A dot is the root, and no text the relative name without labels. Every other text is labels joined by
-/// dots, with a dot at the end where the name is fully qualified. An octet of a label is a graphic character
-/// of ASCII but `.` and `\`, or `\` and three digits up to 255, or `\` and a graphic character that is no
-/// digit. A label has 1 to 63 octets, and the labels, each with its length octet, and one octet more are at
-/// most 255. The error is `Invalid` for any other text, with a text that says why, without a request for memory,
-/// and there is one request for a name.
+/// A dot is the root, and no text the relative name without labels. Every other text is labels joined by dots, with a
+/// dot at the end where the name is fully qualified. An octet of a label is a graphic character of ASCII but `.` and
+/// `\`, or `\` and three digits up to 255, or `\` and a graphic character that is no digit. A label has 1 to 63 octets,
+/// and the labels, each with its length octet, and one octet more are at most 255. The error is
+/// [`Invalid`](NameTextError::Invalid) for any other text, with a text that says why, without a request for memory, and
+/// there is one request for a name.
 pub fn parse_octets(alloc: Global, text: &[u8]) -> Result<(Vec<u8>, bool), NameTextError>
     ensures ok { IfOk result (λ r. IsNameText (name_of r.0.items r.1) text.now) }
     ensures octets { IfOk result (λ r. AreNameOctets r.0.items) }

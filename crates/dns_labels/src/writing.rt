@@ -119,12 +119,11 @@ fn append_front(out: &mut Vec<u8>, front: &[u8]) -> Result<(), AllocError>
 
 /// Writes a name's octets behind others, and notes where.
 ///
-/// It is written as labels, each a length octet and its octets, and a 0 (RFC 1035, 3.1). In the mode
-/// `StandardRecord` the longest tail with a label that was noted in the same octets at a place below 16384
-/// is left out, and two octets that point to the least such place end the name (4.1.4); only of names that
-/// were chosen to share one hash by the dozen, a tail may be written again. The error is
-/// `Buffer` where what is to be written passes the limit, and so does the whole name; after an error the
-/// octets are as before.
+/// It is written as labels, each a length octet and its octets, and a 0 (RFC 1035, 3.1). In the mode `StandardRecord`
+/// the longest tail with a label that was noted in the same octets at a place below 16384 is left out, and two octets
+/// that point to the least such place end the name (4.1.4); only of names that were chosen to share one hash by the
+/// dozen, a tail may be written again. The error is [`Buffer`](WriteError::Buffer) where what is to be written passes
+/// the limit, and so does the whole name; after an error the octets are as before.
 #[inline(never)]
 pub fn write_name(
     places: &mut Places,

@@ -32,12 +32,14 @@ pub trait BinEncodable {
     /// What an emission of the value answers, and makes of an encoder.
     ghost emits: { Self → Result (Unit {0}) ProtoErrorValue → Writing → Writing → Type 0 };
 
-    /// Appends the value's octets. Refused by `Memory`, by `MaxBufferSizeExceeded` where they would pass the limit, or by
-    /// `Message` where the value has no octets. After a refusal the octets that were there stand.
+    /// Appends the value's octets. Refused by [`Memory`](ProtoError::Memory), by
+    /// [`MaxBufferSizeExceeded`](ProtoError::MaxBufferSizeExceeded) where they would pass the limit, or by
+    /// [`Message`](ProtoError::Message) where the value has no octets. After a refusal the octets that were there
+    /// stand.
     fn emit(&self, encoder: &mut BinEncoder<'_>) -> Result<(), ProtoError>
         ensures emits { emits self.now result encoder.old encoder.new }
-        // The octets that were there stand, the limit, the mode and the vector are the same, and no octet is past the
-        // limit.
+        // The octets that were there stand, the limit, the mode and the vector are the same, and no octet that was
+        // appended is past the limit.
         ensures extends { Extends encoder.old encoder.new };
 }
 

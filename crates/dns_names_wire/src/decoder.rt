@@ -109,7 +109,8 @@ impl<'a> BinDecoder<'a> {
         }
     }
 
-    /// The next `len` octets. Where fewer are left it is refused by `InsufficientBytes`, and takes none.
+    /// The next `len` octets. Where fewer are left it is refused by
+    /// [`InsufficientBytes`](DecodeError::InsufficientBytes), and takes none.
     #[inline]
     pub fn read_slice(&mut self, len: usize) -> Result<Restrict<&'a [u8]>, DecodeError>
         ensures taken { IfOk result (λ octets. TookField self.old (Octets len) octets.now self.new) }
@@ -125,7 +126,8 @@ impl<'a> BinDecoder<'a> {
         Ok(Restrict::new(&message[start..start + len]))
     }
     /// The next `len` octets in memory of their own, by one request. Where fewer are left it is refused by
-    /// `InsufficientBytes`, where memory runs out by `Memory`; it takes none then.
+    /// [`InsufficientBytes`](DecodeError::InsufficientBytes), where memory runs out by [`Memory`](DecodeError::Memory);
+    /// it takes none then.
     #[inline]
     pub fn read_vec(&mut self, len: usize) -> Result<Restrict<Vec<u8>>, DecodeError>
         ensures taken { IfOk result (λ octets. TookField self.old (Octets len) octets.items self.new) }
@@ -143,8 +145,9 @@ impl<'a> BinDecoder<'a> {
         Ok(Restrict::new(octets))
     }
 
-    /// The next `len` octets as a value, by one request for memory where they are more than `N`. Where fewer are left it
-    /// is refused by `InsufficientBytes`, where memory runs out by `Memory`; it takes none then.
+    /// The next `len` octets as a value, by one request for memory where they are more than `N`. Where fewer are left
+    /// it is refused by [`InsufficientBytes`](DecodeError::InsufficientBytes), where memory runs out by
+    /// [`Memory`](DecodeError::Memory); it takes none then.
     #[inline(always)]
     pub fn read_small<const N: usize>(
         &mut self,
@@ -166,7 +169,7 @@ impl<'a> BinDecoder<'a> {
     }
 
     /// The next `len` octets, `step` by `step`: where fewer are left, it takes the whole steps that are there, and is
-    /// refused by `InsufficientBytes`.
+    /// refused by [`InsufficientBytes`](DecodeError::InsufficientBytes).
     #[inline]
     pub fn read_in_steps(
         &mut self,
@@ -191,7 +194,7 @@ impl<'a> BinDecoder<'a> {
         Ok(Restrict::new(&message[start..start + len]))
     }
 
-    /// The next octet. Where none is left it is refused by `InsufficientBytes`.
+    /// The next octet. Where none is left it is refused by [`InsufficientBytes`](DecodeError::InsufficientBytes).
     #[inline]
     pub fn pop(&mut self) -> Result<Restrict<u8>, DecodeError>
         ensures taken { ReadsField (Number 1) (λ n. n) result self.old self.new }
@@ -201,7 +204,8 @@ impl<'a> BinDecoder<'a> {
         self.read_u8()
     }
 
-    /// The next octet, as a number. Where none is left it is refused by `InsufficientBytes`.
+    /// The next octet, as a number. Where none is left it is refused by
+    /// [`InsufficientBytes`](DecodeError::InsufficientBytes).
     #[inline]
     pub fn read_u8(&mut self) -> Result<Restrict<u8>, DecodeError>
         ensures taken { ReadsField (Number 1) (λ n. n) result self.old self.new }
@@ -213,7 +217,7 @@ impl<'a> BinDecoder<'a> {
     }
 
     /// The number in the next two octets, the higher one first. Where fewer are left it is refused by
-    /// `InsufficientBytes`, and takes none.
+    /// [`InsufficientBytes`](DecodeError::InsufficientBytes), and takes none.
     #[inline]
     pub fn read_u16(&mut self) -> Result<Restrict<u16>, DecodeError>
         ensures taken { ReadsField (Number 2) (λ n. n) result self.old self.new }
@@ -247,7 +251,8 @@ impl<'a> BinDecoder<'a> {
     }
 
     /// The character string that stands next: an octet of length, and so many octets (RFC 1035, 3.3). Where it lacks
-    /// octets it is refused by `InsufficientBytes`, and its length octet stays taken where it is there.
+    /// octets it is refused by [`InsufficientBytes`](DecodeError::InsufficientBytes), and its length octet stays taken
+    /// where it is there.
     #[inline]
     pub fn read_character_data(&mut self) -> Result<Restrict<&'a [u8]>, DecodeError>
         ensures taken { ReadsField Text (λ s. s.now) result self.old self.new }

@@ -228,7 +228,7 @@ impl<'a> BinEncoder<'a> {
     }
 
     /// Appends a character string: its length in one octet, and its octets (RFC 1035, 3.3). One of more than 255
-    /// octets is refused by `Message`.
+    /// octets is refused by [`Message`](ProtoError::Message).
     #[inline]
     #[tactic(auto, unfolding(dns_fields::specs::Fields::field_octets))]
     pub fn emit_character_data(&mut self, octets: &[u8]) -> Result<(), ProtoError>

@@ -22,7 +22,9 @@ use std::fmt;
 use std::hash::{Hash, Hasher};
 use std::net::{IpAddr, Ipv4Addr, Ipv6Addr};
 
-/// The data of a record (RFC 1035, 3.2.1 and 3.3).
+/// The data of a record (RFC 1035, 3.2.1 and 3.3). [`RData::read`] takes it from a message, and
+/// [`emit`](BinEncodable::emit) appends it to one; [`RData::try_from_str`] and [`RData::from_tokens`] read its text,
+/// which `Display` writes.
 ///
 /// ```rust
 /// fn host_of(data: &RData) -> Option<&Name> {
@@ -148,13 +150,18 @@ impl RData {
     ///
     /// The first of these that holds refuses it:
     ///
-    /// - `UnknownRecordTypeValue`: the type is ANY, AXFR or IXFR, of which no data is read.
-    /// - `Memory`: memory ran out.
-    /// - `IncorrectRDataLengthRead`: another number of octets was taken than the length says.
-    /// - What the record itself refuses: `InsufficientBytes` (octets are missing), `NameInvalid`, `BitmapInvalid` (CSYNC),
-    ///   `CaaTagInvalid`, `NaptrFlagsInvalid`, `UnrecognizedCsyncFlags`, `UnknownAddressFamily` (OPT),
-    ///   `IncorrectRDataLengthRead` (a part has a length that it can't have), `SvcParamMissingValue`,
-    ///   `SvcParamsOutOfOrder` or `Utf8` (SVCB and HTTPS).
+    /// - [`UnknownRecordTypeValue`](DecodeError::UnknownRecordTypeValue): the type is ANY, AXFR or IXFR, of which no data
+    ///   is read.
+    /// - [`Memory`](DecodeError::Memory): memory ran out.
+    /// - [`IncorrectRDataLengthRead`](DecodeError::IncorrectRDataLengthRead): another number of octets was taken than the
+    ///   length says.
+    /// - What the record itself refuses: [`InsufficientBytes`](DecodeError::InsufficientBytes) (octets are missing),
+    ///   [`NameInvalid`](DecodeError::NameInvalid), [`BitmapInvalid`](DecodeError::BitmapInvalid) (CSYNC),
+    ///   [`CaaTagInvalid`](DecodeError::CaaTagInvalid), [`NaptrFlagsInvalid`](DecodeError::NaptrFlagsInvalid),
+    ///   [`UnrecognizedCsyncFlags`](DecodeError::UnrecognizedCsyncFlags),
+    ///   [`UnknownAddressFamily`](DecodeError::UnknownAddressFamily) (OPT), `IncorrectRDataLengthRead` (a part has a
+    ///   length that it can't have), [`SvcParamMissingValue`](DecodeError::SvcParamMissingValue),
+    ///   [`SvcParamsOutOfOrder`](DecodeError::SvcParamsOutOfOrder) or [`Utf8`](DecodeError::Utf8) (SVCB and HTTPS).
     ///
     /// After a refusal the message is as it was, and the place is not before the one where the call began; after success it
     /// is behind the length.
@@ -328,10 +335,11 @@ impl BinEncodable for RData {
 
     ghost emits = { λ v r old new. EmitsAs (mode_for old.mode v) (fields_of v).kinds (fields_of v).values r old new };
 
-    /// Appends the octets of the value, its names in the mode of its type. Refused by `Memory`; by `MaxBufferSizeExceeded`
-    /// where the octets would pass the encoder's limit; and by `Message` where the value has none, as a string of more than
-    /// 255 octets or parameters whose keys do not rise. After a refusal the octets that were there stand, and the encoder is
-    /// in the mode that it was in.
+    /// Appends the octets of the value, its names in the mode of its type. Refused by [`Memory`](ProtoError::Memory);
+    /// by [`MaxBufferSizeExceeded`](ProtoError::MaxBufferSizeExceeded) where the octets would pass the encoder's limit;
+    /// and by [`Message`](ProtoError::Message) where the value has none, as a string of more than 255 octets or
+    /// parameters whose keys do not rise. After a refusal the octets that were there stand, and the encoder is in the
+    /// mode that it was in.
     ///
     /// ```rust
     /// fn emit_mail(alloc: Global, exchange: Name, octets: &mut Vec<u8>) -> ProtoResult<()>
@@ -348,7 +356,7 @@ impl BinEncodable for RData {
         ensures keeps { Keeps encoder.old encoder.new }
         // What was read and is appended reads back as an equal value, behind any octets.
         ensures again { OnOk result (ReadsBack self.now encoder.old encoder.new) }
-        // The octets that were there stand, and none is past the limit.
+        // The octets that were there stand, and none that was appended is past the limit.
         ensures extends { Extends encoder.old encoder.new }
         // What is emitted can be, and what is refused by a message cannot.
         ensures fits { OnOk result (IsEmittable self.now) }

@@ -65,14 +65,16 @@ impl RData {
     /// The data of a record of this type from its words, one by one as the record's own `from_tokens` reads them; a
     /// relative name in them gets labels and mark of the origin, where one is given.
     ///
-    /// What is behind the words of a type is not read, but for OPENPGPKEY and SSHFP, which refuse a further word, and TXT,
-    /// TLSA, SMIMEA, CSYNC, SVCB and HTTPS, whose last field is all further words. Of ZERO no word is read. The caller owes
-    /// an iterator that ends, as every iterator of a list or of a text's parts does.
+    /// What is behind the words of a type is not read, but for OPENPGPKEY and SSHFP, which refuse a further word, and
+    /// TXT, TLSA, SMIMEA, CSYNC, SVCB and HTTPS, whose last field is all further words. Of ZERO no word is read. The
+    /// caller owes an iterator that ends, as every iterator of a list or of a text's parts does.
     ///
-    /// Refused by `MissingToken` where a word is missing, and by `Message` where one has none of the field's values or is
-    /// one too many: both texts name the field. By `AddrParse` where a word is no address, by `Proto` where it is no name,
-    /// no type or no key of a parameter. By `UnsupportedRecordType` for every other type, those of an unknown number too.
-    /// By `Memory` where memory runs out.
+    /// Refused by [`MissingToken`](ParseError::MissingToken) where a word is missing, and by
+    /// [`Message`](ParseError::Message) where one has none of the field's values or is one too many: both texts name
+    /// the field. By [`AddrParse`](ParseError::AddrParse) where a word is no address, by [`Proto`](ParseError::Proto)
+    /// where it is no name, no type or no key of a parameter. By
+    /// [`UnsupportedRecordType`](ParseError::UnsupportedRecordType) for every other type, those of an unknown number
+    /// too. By [`Memory`](ParseError::Memory) where memory runs out.
     ///
     /// ```rust
     /// fn parse_alias(alloc: Global, origin: &Name) -> Result<RData, ParseError> {
@@ -99,9 +101,9 @@ impl RData {
     }
 
     /// The data of a record of this type from a text (RFC 1035, 5.1), whose words are read as by
-    /// `from_tokens`, without an origin: a list in parentheses gives its words, character data one, blanks and the ends
-    /// of lines none. A text with another token, or with none that it could have, is refused by `Message`; its words as by
-    /// `from_tokens`, and so is a type without words.
+    /// [`RData::from_tokens`], without an origin: a list in parentheses gives its words, character data one, blanks and
+    /// the ends of lines none. A text with another token, or with none that it could have, is refused by
+    /// [`Message`](ParseError::Message); its words as by `from_tokens`, and so is a type without words.
     ///
     /// ```rust
     /// fn parse_mail(alloc: Global) -> Result<RData, ParseError> {

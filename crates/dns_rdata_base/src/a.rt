@@ -37,7 +37,8 @@ impl BinDecodable for A {
 
     ghost refuses = { IsCut 4 };
 
-    /// Reads four octets. Where fewer are left it takes them, and is refused by `InsufficientBytes`.
+    /// Reads four octets. Where fewer are left it takes them, and is refused by
+    /// [`InsufficientBytes`](DecodeError::InsufficientBytes).
     #[inline]
     fn read(decoder: &mut BinDecoder<'_>) -> Result<A, DecodeError>
         ensures reads { ReadsBy (λ m p x q. Stands m p a_shape (a_fields x) q) result decoder.old decoder.new }
@@ -153,7 +154,7 @@ impl Deref for A {
 }
 
 /// Four numbers of 0 to 255 joined by points, of one to three digits each, without leading zeros. Any other text is
-/// refused by `AddrParseError`. Takes no memory.
+/// refused by [`AddrParseError`]. Takes no memory.
 impl FromStr for A {
     type Err = AddrParseError;
 

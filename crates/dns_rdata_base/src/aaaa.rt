@@ -39,7 +39,7 @@ impl BinDecodable for AAAA {
     ghost refuses = { IsCut 16 };
 
     /// Reads sixteen octets, two by two. Where fewer are left it takes the pairs that are there, and is refused
-    /// by `InsufficientBytes`.
+    /// by [`InsufficientBytes`](DecodeError::InsufficientBytes).
     #[inline]
     fn read(decoder: &mut BinDecoder<'_>) -> Result<AAAA, DecodeError>
         ensures reads { ReadsBy (λ m p x q. Stands m p aaaa_shape (aaaa_fields x) q) result decoder.old decoder.new }
@@ -174,7 +174,7 @@ impl Deref for AAAA {
 }
 
 /// Eight groups of one to four hexadecimal digits joined by colons, one `::` in place of groups of zero, the last two
-/// groups perhaps as an IPv4 address (RFC 4291, 2.2). Any other text is refused by `AddrParseError`. Takes no memory.
+/// groups perhaps as an IPv4 address (RFC 4291, 2.2). Any other text is refused by [`AddrParseError`]. Takes no memory.
 impl FromStr for AAAA {
     type Err = AddrParseError;
 

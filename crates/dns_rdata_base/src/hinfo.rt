@@ -57,9 +57,9 @@ impl BinDecodable for HINFO {
 
     ghost refuses = { hinfo_refusal };
 
-    /// Reads two character strings. Where one lacks octets it is refused by `InsufficientBytes`: the strings before it,
-    /// and its length octet where that is there, are taken. Memory is asked for once for each string of more than 32
-    /// octets, when both were read.
+    /// Reads two character strings. Where one lacks octets it is refused by
+    /// [`InsufficientBytes`](DecodeError::InsufficientBytes): the strings before it, and its length octet where that is
+    /// there, are taken. Memory is asked for once for each string of more than 32 octets, when both were read.
     #[tactic(auto, using(dns_names_wire::proofs::FieldReads::reading))]
     fn read(decoder: &mut BinDecoder<'_>) -> Result<HINFO, DecodeError>
         ensures reads { ReadsBy (λ m p x q. Stands m p hinfo_shape (hinfo_fields x) q) result decoder.old decoder.new }
@@ -115,8 +115,8 @@ impl RecordDataDecodable for HINFO {
 impl BinEncodable for HINFO {
     ghost emits = { λ x r old new. Emits hinfo_shape (hinfo_fields x) r old new };
 
-    /// Appends the two character strings. One of more than 255 octets is refused by `Message`; the first one may then
-    /// stand behind the start.
+    /// Appends the two character strings. One of more than 255 octets is refused by [`Message`](ProtoError::Message);
+    /// the first one may then stand behind the start.
     #[tactic(auto, using(dns_names_wire::proofs::FieldWrites::writing))]
     fn emit(&self, encoder: &mut BinEncoder<'_>) -> Result<(), ProtoError> {
         encoder.emit_character_data(self.cpu.as_slice())?;

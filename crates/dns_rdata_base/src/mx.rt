@@ -44,7 +44,9 @@ impl BinDecodable for MX {
     ghost refuses = { IsLack mx_shape };
 
     /// Reads the fields in order. Where one does not stand it is refused, and those before it are taken: by
-    /// `InsufficientBytes` where a number lacks octets, `NameInvalid` where no name stands, `Memory` where memory runs out.
+    /// [`InsufficientBytes`](DecodeError::InsufficientBytes) where a number lacks octets,
+    /// [`NameInvalid`](DecodeError::NameInvalid) where no name stands, [`Memory`](DecodeError::Memory) where memory
+    /// runs out.
     #[tactic(auto, using(dns_names_wire::proofs::FieldReads::reading))]
     fn read(decoder: &mut BinDecoder<'_>) -> Result<MX, DecodeError>
         ensures reads { ReadsBy (λ m p x q. Stands m p mx_shape (mx_fields x) q) result decoder.old decoder.new }
@@ -113,9 +115,9 @@ impl EncodesFields for MX {
 impl BinEncodable for MX {
     ghost emits = { λ x r old new. EmitsAs modes.StandardRecord mx_shape (mx_fields x) r old new };
 
-    /// Appends the octets; a name ends with a pointer to an earlier place where it can (RFC 1035, 4.1.4). It is
-    /// refused by `MaxBufferSizeExceeded` or `Memory` alone. The encoder is then in the mode that it was in, refused or
-    /// not.
+    /// Appends the octets; a name ends with a pointer to an earlier place where it can (RFC 1035, 4.1.4). It is refused
+    /// by [`MaxBufferSizeExceeded`](ProtoError::MaxBufferSizeExceeded) or [`Memory`](ProtoError::Memory) alone. The
+    /// encoder is then in the mode that it was in, refused or not.
     fn emit(&self, encoder: &mut BinEncoder<'_>) -> Result<(), ProtoError>
         ensures emits { EmitsAs RDataEncoding.StandardRecord mx_shape (mx_fields self.now) result encoder.old encoder.new }
         ensures extends { Extends encoder.old encoder.new }

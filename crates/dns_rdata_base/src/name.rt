@@ -27,8 +27,8 @@ impl BinDecodable for CNAME {
 
     ghost refuses = { IsLack name_shape };
 
-    /// Reads the name. Where none stands it is refused by `NameInvalid`, where memory runs out by `Memory`; the place
-    /// is then as it was.
+    /// Reads the name. Where none stands it is refused by [`NameInvalid`](DecodeError::NameInvalid), where memory runs
+    /// out by [`Memory`](DecodeError::Memory); the place is then as it was.
     #[tactic(auto, using(dns_names_wire::proofs::FieldReads::reading))]
     fn read(decoder: &mut BinDecoder<'_>) -> Result<CNAME, DecodeError>
         ensures reads { ReadsBy (λ m p x q. Stands m p name_shape (cname_fields x) q) result decoder.old decoder.new }
@@ -91,9 +91,9 @@ impl EncodesFields for CNAME {
 impl BinEncodable for CNAME {
     ghost emits = { λ x r old new. EmitsAs modes.StandardRecord name_shape (cname_fields x) r old new };
 
-    /// Appends the octets; a name ends with a pointer to an earlier place where it can (RFC 1035, 4.1.4). It is
-    /// refused by `MaxBufferSizeExceeded` or `Memory` alone. The encoder is then in the mode that it was in, refused or
-    /// not.
+    /// Appends the octets; a name ends with a pointer to an earlier place where it can (RFC 1035, 4.1.4). It is refused
+    /// by [`MaxBufferSizeExceeded`](ProtoError::MaxBufferSizeExceeded) or [`Memory`](ProtoError::Memory) alone. The
+    /// encoder is then in the mode that it was in, refused or not.
     fn emit(&self, encoder: &mut BinEncoder<'_>) -> Result<(), ProtoError>
         ensures emits { EmitsAs RDataEncoding.StandardRecord name_shape (cname_fields self.now) result encoder.old encoder.new }
         ensures extends { Extends encoder.old encoder.new }
@@ -168,8 +168,8 @@ impl BinDecodable for NS {
 
     ghost refuses = { IsLack name_shape };
 
-    /// Reads the name. Where none stands it is refused by `NameInvalid`, where memory runs out by `Memory`; the place
-    /// is then as it was.
+    /// Reads the name. Where none stands it is refused by [`NameInvalid`](DecodeError::NameInvalid), where memory runs
+    /// out by [`Memory`](DecodeError::Memory); the place is then as it was.
     #[tactic(auto, using(dns_names_wire::proofs::FieldReads::reading))]
     fn read(decoder: &mut BinDecoder<'_>) -> Result<NS, DecodeError>
         ensures reads { ReadsBy (λ m p x q. Stands m p name_shape (ns_fields x) q) result decoder.old decoder.new }
@@ -232,9 +232,9 @@ impl EncodesFields for NS {
 impl BinEncodable for NS {
     ghost emits = { λ x r old new. EmitsAs modes.StandardRecord name_shape (ns_fields x) r old new };
 
-    /// Appends the octets; a name ends with a pointer to an earlier place where it can (RFC 1035, 4.1.4). It is
-    /// refused by `MaxBufferSizeExceeded` or `Memory` alone. The encoder is then in the mode that it was in, refused or
-    /// not.
+    /// Appends the octets; a name ends with a pointer to an earlier place where it can (RFC 1035, 4.1.4). It is refused
+    /// by [`MaxBufferSizeExceeded`](ProtoError::MaxBufferSizeExceeded) or [`Memory`](ProtoError::Memory) alone. The
+    /// encoder is then in the mode that it was in, refused or not.
     fn emit(&self, encoder: &mut BinEncoder<'_>) -> Result<(), ProtoError>
         ensures emits { EmitsAs RDataEncoding.StandardRecord name_shape (ns_fields self.now) result encoder.old encoder.new }
         ensures extends { Extends encoder.old encoder.new }
@@ -309,8 +309,8 @@ impl BinDecodable for PTR {
 
     ghost refuses = { IsLack name_shape };
 
-    /// Reads the name. Where none stands it is refused by `NameInvalid`, where memory runs out by `Memory`; the place
-    /// is then as it was.
+    /// Reads the name. Where none stands it is refused by [`NameInvalid`](DecodeError::NameInvalid), where memory runs
+    /// out by [`Memory`](DecodeError::Memory); the place is then as it was.
     #[tactic(auto, using(dns_names_wire::proofs::FieldReads::reading))]
     fn read(decoder: &mut BinDecoder<'_>) -> Result<PTR, DecodeError>
         ensures reads { ReadsBy (λ m p x q. Stands m p name_shape (ptr_fields x) q) result decoder.old decoder.new }
@@ -373,9 +373,9 @@ impl EncodesFields for PTR {
 impl BinEncodable for PTR {
     ghost emits = { λ x r old new. EmitsAs modes.StandardRecord name_shape (ptr_fields x) r old new };
 
-    /// Appends the octets; a name ends with a pointer to an earlier place where it can (RFC 1035, 4.1.4). It is
-    /// refused by `MaxBufferSizeExceeded` or `Memory` alone. The encoder is then in the mode that it was in, refused or
-    /// not.
+    /// Appends the octets; a name ends with a pointer to an earlier place where it can (RFC 1035, 4.1.4). It is refused
+    /// by [`MaxBufferSizeExceeded`](ProtoError::MaxBufferSizeExceeded) or [`Memory`](ProtoError::Memory) alone. The
+    /// encoder is then in the mode that it was in, refused or not.
     fn emit(&self, encoder: &mut BinEncoder<'_>) -> Result<(), ProtoError>
         ensures emits { EmitsAs RDataEncoding.StandardRecord name_shape (ptr_fields self.now) result encoder.old encoder.new }
         ensures extends { Extends encoder.old encoder.new }
@@ -450,8 +450,8 @@ impl BinDecodable for ANAME {
 
     ghost refuses = { IsLack name_shape };
 
-    /// Reads the name. Where none stands it is refused by `NameInvalid`, where memory runs out by `Memory`; the place
-    /// is then as it was.
+    /// Reads the name. Where none stands it is refused by [`NameInvalid`](DecodeError::NameInvalid), where memory runs
+    /// out by [`Memory`](DecodeError::Memory); the place is then as it was.
     #[tactic(auto, using(dns_names_wire::proofs::FieldReads::reading))]
     fn read(decoder: &mut BinDecoder<'_>) -> Result<ANAME, DecodeError>
         ensures reads { ReadsBy (λ m p x q. Stands m p name_shape (aname_fields x) q) result decoder.old decoder.new }
@@ -514,8 +514,9 @@ impl EncodesFields for ANAME {
 impl BinEncodable for ANAME {
     ghost emits = { λ x r old new. EmitsAs modes.Other name_shape (aname_fields x) r old new };
 
-    /// Appends the octets, the name whole, its letters kept. It is refused by `MaxBufferSizeExceeded` or `Memory`
-    /// alone. The encoder is then in the mode that it was in, refused or not.
+    /// Appends the octets, the name whole, its letters kept. It is refused by
+    /// [`MaxBufferSizeExceeded`](ProtoError::MaxBufferSizeExceeded) or [`Memory`](ProtoError::Memory) alone. The
+    /// encoder is then in the mode that it was in, refused or not.
     fn emit(&self, encoder: &mut BinEncoder<'_>) -> Result<(), ProtoError>
         ensures emits { EmitsAs RDataEncoding.Other name_shape (aname_fields self.now) result encoder.old encoder.new }
         ensures extends { Extends encoder.old encoder.new }

@@ -115,8 +115,10 @@ impl BinDecodable for NAPTR {
     ghost refuses = { naptr_refusal };
 
     /// Reads the fields in order. The flags are tested as soon as they are taken: where an octet of theirs is no letter
-    /// and no digit it is refused by `NaptrFlagsInvalid`. Where a field does not stand it is refused by
-    /// `InsufficientBytes` or `NameInvalid`, and those before it are taken; where memory runs out by `Memory`.
+    /// and no digit it is refused by [`NaptrFlagsInvalid`](DecodeError::NaptrFlagsInvalid). Where a field does not
+    /// stand it is refused by [`InsufficientBytes`](DecodeError::InsufficientBytes) or
+    /// [`NameInvalid`](DecodeError::NameInvalid), and those before it are taken; where memory runs out by
+    /// [`Memory`](DecodeError::Memory).
     fn read(decoder: &mut BinDecoder<'_>) -> Result<NAPTR, DecodeError>
         ensures reads { ReadsBy (λ m p x q. Stands m p naptr_shape (naptr_fields x) q × naptr_condition (naptr_fields x)) result decoder.old decoder.new }
         ensures fields { ReadsIf naptr_shape (λ vs _. naptr_condition vs) naptr_fields result decoder.old decoder.new }
@@ -201,9 +203,9 @@ impl EncodesFields for NAPTR {
 impl BinEncodable for NAPTR {
     ghost emits = { λ x r old new. EmitsAs modes.Canonical naptr_shape (naptr_fields x) r old new };
 
-    /// Appends the octets, the name whole, its letters kept. A string of more than 255 octets is refused by `Message`;
-    /// what comes before it may then stand behind the start. The encoder is then in the mode that it was in, refused or
-    /// not.
+    /// Appends the octets, the name whole, its letters kept. A string of more than 255 octets is refused by
+    /// [`Message`](ProtoError::Message); what comes before it may then stand behind the start. The encoder is then in
+    /// the mode that it was in, refused or not.
     fn emit(&self, encoder: &mut BinEncoder<'_>) -> Result<(), ProtoError>
         ensures emits { EmitsAs RDataEncoding.Canonical naptr_shape (naptr_fields self.now) result encoder.old encoder.new }
         ensures extends { Extends encoder.old encoder.new }

@@ -90,8 +90,9 @@ impl RecordDataDecodable for NULL {
 
     ghost fields = { null_fields };
 
-    /// Reads all octets of the length, which asks for memory once where they are more than 64. Where fewer are left it is
-    /// refused by `InsufficientBytes`, where memory runs out by `Memory`; it then takes none.
+    /// Reads all octets of the length, which asks for memory once where they are more than 64. Where fewer are left it
+    /// is refused by [`InsufficientBytes`](DecodeError::InsufficientBytes), where memory runs out by
+    /// [`Memory`](DecodeError::Memory); it then takes none.
     #[inline]
     fn read_data(decoder: &mut BinDecoder<'_>, length: Restrict<u16>) -> Result<NULL, DecodeError>
         ensures window { ReadsWindow null_shape (λ _. Unit {0}) null_fields length result decoder.old decoder.new }

@@ -73,8 +73,9 @@ impl RecordDataDecodable for OPENPGPKEY {
 
     ghost fields = { openpgpkey_fields };
 
-    /// Reads all octets of the length, which asks for memory once where they are more than 64. Where fewer are left it is
-    /// refused by `InsufficientBytes`, where memory runs out by `Memory`; it then takes none.
+    /// Reads all octets of the length, which asks for memory once where they are more than 64. Where fewer are left it
+    /// is refused by [`InsufficientBytes`](DecodeError::InsufficientBytes), where memory runs out by
+    /// [`Memory`](DecodeError::Memory); it then takes none.
     #[inline]
     fn read_data(
         decoder: &mut BinDecoder<'_>,

@@ -50,7 +50,9 @@ impl BinDecodable for SRV {
     ghost refuses = { IsLack srv_shape };
 
     /// Reads the fields in order. Where one does not stand it is refused, and those before it are taken: by
-    /// `InsufficientBytes` where a number lacks octets, `NameInvalid` where no name stands, `Memory` where memory runs out.
+    /// [`InsufficientBytes`](DecodeError::InsufficientBytes) where a number lacks octets,
+    /// [`NameInvalid`](DecodeError::NameInvalid) where no name stands, [`Memory`](DecodeError::Memory) where memory
+    /// runs out.
     #[tactic(auto, using(dns_names_wire::proofs::FieldReads::reading))]
     fn read(decoder: &mut BinDecoder<'_>) -> Result<SRV, DecodeError>
         ensures reads { ReadsBy (λ m p x q. Stands m p srv_shape (srv_fields x) q) result decoder.old decoder.new }
@@ -142,8 +144,9 @@ impl EncodesFields for SRV {
 impl BinEncodable for SRV {
     ghost emits = { λ x r old new. EmitsAs modes.Canonical srv_shape (srv_fields x) r old new };
 
-    /// Appends the octets, the name whole, its letters kept. It is refused by `MaxBufferSizeExceeded` or `Memory`
-    /// alone. The encoder is then in the mode that it was in, refused or not.
+    /// Appends the octets, the name whole, its letters kept. It is refused by
+    /// [`MaxBufferSizeExceeded`](ProtoError::MaxBufferSizeExceeded) or [`Memory`](ProtoError::Memory) alone. The
+    /// encoder is then in the mode that it was in, refused or not.
     fn emit(&self, encoder: &mut BinEncoder<'_>) -> Result<(), ProtoError>
         ensures emits { EmitsAs RDataEncoding.Canonical srv_shape (srv_fields self.now) result encoder.old encoder.new }
         ensures extends { Extends encoder.old encoder.new }

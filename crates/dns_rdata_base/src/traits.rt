@@ -18,8 +18,8 @@ pub trait RecordDataDecodable: Sized {
     ghost fields: { Self → Values kinds };
 
     /// Reads the data of a record of this length. Where it moves by exactly the length, it answers a value exactly
-    /// where the fields fill the length; where it moves otherwise, they don't. After a refusal the message is as it was,
-    /// and the place is not before the one where the call began.
+    /// where the fields fill the length; where it moves otherwise, they don't. After a refusal the message is as it
+    /// was, and the place is not before the one where the call began.
     fn read_data(decoder: &mut BinDecoder<'_>, length: Restrict<u16>) -> Result<Self, DecodeError>
         ensures window { ReadsWindow kinds condition fields length result decoder.old decoder.new };
 }

@@ -60,9 +60,9 @@ impl RecordDataDecodable for TXT {
     ghost fields = { txt_fields };
 
     /// Reads character strings until the length is reached or passed. Where it is passed, no strings fill it, and the
-    /// value is that of the strings that were taken. Where a string lacks octets it is refused by `InsufficientBytes`: the strings before it,
-    /// and its length octet where that is there, are taken. Memory is asked for once for the list, and once for each
-    /// string.
+    /// value is that of the strings that were taken. Where a string lacks octets it is refused by
+    /// [`InsufficientBytes`](DecodeError::InsufficientBytes): the strings before it, and its length octet where that is
+    /// there, are taken. Memory is asked for once for the list, and once for each string.
     fn read_data(decoder: &mut BinDecoder<'_>, length: Restrict<u16>) -> Result<TXT, DecodeError>
         ensures window { ReadsWindow txt_shape (λ _. Unit {0}) txt_fields length result decoder.old decoder.new }
         ensures taken { IfOk result (λ x. TookField decoder.old Texts x.txt_data decoder.new) }
@@ -99,8 +99,8 @@ fn strings_within(octets: &[u8], length: usize) -> usize
 impl BinEncodable for TXT {
     ghost emits = { λ x r old new. Emits txt_shape (txt_fields x) r old new };
 
-    /// Appends the character strings. One of more than 255 octets is refused by `Message`; those before it may then
-    /// stand behind the start.
+    /// Appends the character strings. One of more than 255 octets is refused by [`Message`](ProtoError::Message); those
+    /// before it may then stand behind the start.
     fn emit(&self, encoder: &mut BinEncoder<'_>) -> Result<(), ProtoError> {
         for string in self.txt_data.as_slice() {
             encoder.emit_character_data(string.as_slice())?;

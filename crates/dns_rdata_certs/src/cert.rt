@@ -57,8 +57,9 @@ impl CERT {
         STANDARD.encode(self.cert_data.allocator(), self.cert_data.as_slice())
     }
 
-    /// The record that all these octets are. Refused by `IncorrectRDataLengthRead` of their number and 6 where they
-    /// are fewer than 6, and of their number and 65535 where they are more than that; and for want of memory.
+    /// The record that all these octets are. Refused by
+    /// [`IncorrectRDataLengthRead`](DecodeError::IncorrectRDataLengthRead) of their number and 6 where they are fewer
+    /// than 6, and of their number and 65535 where they are more than that; and for want of memory.
     pub fn try_from(alloc: Global, octets: &[u8]) -> Result<CERT, DecodeError>
         ensures reads { ReadsWholeCert octets.now result }
         ensures enums { IfOk result IsReadCert }
@@ -109,8 +110,9 @@ impl RecordDataDecodable for CERT {
     ghost fields = { cert_fields };
 
     /// Reads five octets of numbers, and the rest of the length, by one request for memory where that is more than 64
-    /// octets. A length below 6 is refused by `IncorrectRDataLengthRead` of the length and 6, and nothing is taken. Where
-    /// octets are missing it is refused by `InsufficientBytes`, and the numbers that are there are taken.
+    /// octets. A length below 6 is refused by [`IncorrectRDataLengthRead`](DecodeError::IncorrectRDataLengthRead) of
+    /// the length and 6, and nothing is taken. Where octets are missing it is refused by
+    /// [`InsufficientBytes`](DecodeError::InsufficientBytes), and the numbers that are there are taken.
     #[inline]
     fn read_data(decoder: &mut BinDecoder<'_>, length: Restrict<u16>) -> Result<CERT, DecodeError>
         ensures window { ReadsWindow cert_shape cert_condition cert_fields length result decoder.old decoder.new }

@@ -23,7 +23,8 @@ impl HEX {
     }
 
     /// The octets of a text of digits of either case, in which spaces, tabs, CR and LF may stand anywhere. An odd
-    /// number of digits or any other octet is refused by `Message`, which says which of both it is.
+    /// number of digits or any other octet is refused by [`Message`](ParseError::Message), which says which of both it
+    /// is.
     pub fn decode(&self, alloc: Global, text: &[u8]) -> Result<Vec<u8>, ParseError>
         ensures decodes { DecodesHex text.now result }
     {

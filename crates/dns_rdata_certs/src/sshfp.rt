@@ -83,8 +83,10 @@ impl RecordDataDecodable for SSHFP {
     ghost fields = { sshfp_fields };
 
     /// Reads two octets of numbers, and the rest of the length, by one request for memory where that is more than 64
-    /// octets. Where the two pass the length it is refused by `IncorrectRDataLengthRead` of 2 and the length. Where octets
-    /// are missing it is refused by `InsufficientBytes`, and the numbers that are there are taken.
+    /// octets. Where the two pass the length it is refused by
+    /// [`IncorrectRDataLengthRead`](DecodeError::IncorrectRDataLengthRead) of 2 and the length. Where octets are
+    /// missing it is refused by [`InsufficientBytes`](DecodeError::InsufficientBytes), and the numbers that are there
+    /// are taken.
     #[inline]
     fn read_data(decoder: &mut BinDecoder<'_>, length: Restrict<u16>) -> Result<SSHFP, DecodeError>
         ensures window { ReadsWindow sshfp_shape (λ _. Unit {0}) sshfp_fields length result decoder.old decoder.new }

@@ -89,8 +89,10 @@ impl RecordDataDecodable for TLSA {
     ghost fields = { tlsa_fields };
 
     /// Reads three octets of numbers, and the rest of the length, by one request for memory where that is more than 64
-    /// octets. Where the three pass the length it is refused by `IncorrectRDataLengthRead` of 3 and the length. Where
-    /// octets are missing it is refused by `InsufficientBytes`, and the numbers that are there are taken.
+    /// octets. Where the three pass the length it is refused by
+    /// [`IncorrectRDataLengthRead`](DecodeError::IncorrectRDataLengthRead) of 3 and the length. Where octets are
+    /// missing it is refused by [`InsufficientBytes`](DecodeError::InsufficientBytes), and the numbers that are there
+    /// are taken.
     #[inline(always)]
     fn read_data(decoder: &mut BinDecoder<'_>, length: Restrict<u16>) -> Result<TLSA, DecodeError>
         ensures window { ReadsWindow tlsa_shape (λ _. Unit {0}) tlsa_fields length result decoder.old decoder.new }

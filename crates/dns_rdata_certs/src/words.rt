@@ -113,7 +113,8 @@ fn all_hex<S: AsStr + Drop, I: Iterator<Item = S>>(
 
 impl CERT {
     /// From four words: type and key tag, decimal numbers of 16 bits; algorithm, one of 8 bits; and the certificate in
-    /// base64, also an empty word. Further words are not read. Refused by `MissingToken`, `Message` or `Memory`.
+    /// base64, also an empty word. Further words are not read. Refused by [`MissingToken`](ParseError::MissingToken),
+    /// [`Message`](ParseError::Message) or [`Memory`](ParseError::Memory).
     #[tactic(auto, using(dns_words::proofs::Steps::reading))]
     pub fn from_tokens<S: AsStr + Drop, I: Iterator<Item = S>>(
         alloc: Global,
@@ -138,8 +139,8 @@ impl CERT {
 
 impl SSHFP {
     /// From three words: algorithm and fingerprint type, decimal numbers of 8 bits, and the fingerprint, hexadecimal
-    /// digits of either case (`HEX`) in a word that isn't empty; a further word is refused. Refused by `MissingToken`,
-    /// `Message` or `Memory`.
+    /// digits of either case ([`HEX`]) in a word that isn't empty; a further word is refused. Refused by
+    /// [`MissingToken`](ParseError::MissingToken), [`Message`](ParseError::Message) or [`Memory`](ParseError::Memory).
     #[tactic(auto, using(dns_words::proofs::Steps::reading))]
     pub fn from_tokens<S: AsStr + Drop, I: Iterator<Item = S>>(
         alloc: Global,
@@ -163,7 +164,8 @@ impl SSHFP {
 
 impl TLSA {
     /// From three words and more: usage, selector and matching type, decimal numbers of 8 bits, and in all further
-    /// words, joined, hexadecimal digits of one octet or more (`HEX`). Refused by `MissingToken`, `Message` or `Memory`.
+    /// words, joined, hexadecimal digits of one octet or more ([`HEX`]). Refused by
+    /// [`MissingToken`](ParseError::MissingToken), [`Message`](ParseError::Message) or [`Memory`](ParseError::Memory).
     /// The caller owes an iterator that ends.
     #[tactic(auto, using(dns_words::proofs::Steps::reading))]
     pub fn from_tokens<S: AsStr + Drop, I: Iterator<Item = S>>(

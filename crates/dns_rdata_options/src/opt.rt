@@ -155,11 +155,11 @@ impl RecordDataDecodable for OPT {
     /// code, a length of at most the record's and fewer octets, is cut: it has no options, and takes no memory. Else
     /// memory is asked for once for the list, and once for each option that is no subnet.
     ///
-    /// It is refused for the first of these: by `InsufficientBytes` where the message ends within a code, a length or
-    /// the octets of an option, of which those that are there are taken; by `IncorrectRDataLengthRead` of what is taken
-    /// and the record's length, where a code or a length goes past the record's end; by `IncorrectRDataLengthRead` of
-    /// the record's length and the option's, where the option's is greater; as `EdnsOption::try_from`, behind the
-    /// option's octets.
+    /// It is refused for the first of these: by [`InsufficientBytes`](DecodeError::InsufficientBytes) where the message
+    /// ends within a code, a length or the octets of an option, of which those that are there are taken; by
+    /// [`IncorrectRDataLengthRead`](DecodeError::IncorrectRDataLengthRead) of what is taken and the record's length,
+    /// where a code or a length goes past the record's end; by `IncorrectRDataLengthRead` of the record's length and
+    /// the option's, where the option's is greater; as `EdnsOption::try_from`, behind the option's octets.
     #[inline(always)]
     fn read_data(decoder: &mut BinDecoder<'_>, length: Restrict<u16>) -> Result<OPT, DecodeError>
         ensures window { ReadsWindow opt_shape (λ _. Unit {0}) opt_fields length result decoder.old decoder.new }
@@ -197,8 +197,8 @@ impl BinEncodable for OPT {
     ghost emits = { λ x r old new. Emits opt_shape (opt_fields x) r old new };
 
     /// Appends the options in their order, each its code, its length and its octets. An option of more than 65535
-    /// octets and a subnet whose prefix asks for more octets than its address has are refused by `Message`; the options
-    /// before it may then stand behind the start.
+    /// octets and a subnet whose prefix asks for more octets than its address has are refused by
+    /// [`Message`](ProtoError::Message); the options before it may then stand behind the start.
     fn emit(&self, encoder: &mut BinEncoder<'_>) -> Result<(), ProtoError> {
         for pair in self.options.as_slice() {
             emit_pair(encoder, pair.0, &pair.1)?;

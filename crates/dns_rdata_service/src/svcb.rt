@@ -118,9 +118,10 @@ impl RecordDataDecodable for SVCB {
     /// stay untaken. Memory is asked for once for the list, and for what the values hold.
     ///
     /// Where priority and target, or all up to the end of a parameter, pass the length, it is refused by
-    /// `IncorrectRDataLengthRead` of their octets and the length; where fewer octets are left in the message than a
-    /// value's length, by that of these two; where a key is not above the one before, behind its value, by
-    /// `SvcParamsOutOfOrder`; and where a value's octets are none of its key, as the value's `read` refuses them.
+    /// [`IncorrectRDataLengthRead`](DecodeError::IncorrectRDataLengthRead) of their octets and the length; where fewer
+    /// octets are left in the message than a value's length, by that of these two; where a key is not above the one
+    /// before, behind its value, by [`SvcParamsOutOfOrder`](DecodeError::SvcParamsOutOfOrder); and where a value's
+    /// octets are none of its key, as the value's `read` refuses them.
     #[inline(always)]
     fn read_data(decoder: &mut BinDecoder<'_>, length: Restrict<u16>) -> Result<SVCB, DecodeError>
         ensures window { ReadsWindow svcb_shape (λ _. Unit {0}) svcb_fields length result decoder.old decoder.new }
@@ -166,7 +167,7 @@ impl BinEncodable for SVCB {
 
     /// Appends priority, target and parameters, the name whole and with its letters. Keys that do not strictly rise, no
     /// mandatory keys, no protocols, a protocol of more than 255 octets, and a value of more than 65535 octets are
-    /// refused by `Message`.
+    /// refused by [`Message`](ProtoError::Message).
     #[inline(always)]
     fn emit(&self, encoder: &mut BinEncoder<'_>) -> Result<(), ProtoError>
         ensures emits { EmitsAs RDataEncoding.Other svcb_shape (svcb_fields self.now) result encoder.old encoder.new }

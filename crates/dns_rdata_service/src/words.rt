@@ -37,19 +37,21 @@ fn all_parameters<S: AsStr + Drop, I: Iterator<Item = S>>(
 }
 
 impl SVCB {
-    /// From two words and more: priority, a decimal number of 16 bits; target, the text of a name, relative where it has
-    /// no dot at its end; and in every further word a parameter, in the order of the words. Keys may stand in any order and
-    /// repeatedly; `emit` refuses a value whose keys do not rise, and `sort_params` puts them in order.
+    /// From two words and more: priority, a decimal number of 16 bits; target, the text of a name, relative where it
+    /// has no dot at its end; and in every further word a parameter, in the order of the words. Keys may stand in any
+    /// order and repeatedly; `emit` refuses a value whose keys do not rise, and `sort_params` puts them in order.
     ///
-    /// A parameter is a key, and perhaps a `=` and a value; the first `=` divides them. The key is a text of `SvcParamKey`.
-    /// Quotes round the value are dropped; one quote alone is refused. What is left is, for `mandatory`, `alpn`, `ipv4hint`
-    /// and `ipv6hint`, a list of keys, names and addresses; for `port` a decimal number of 16 bits; for `ech` base64
-    /// (RFC 4648, 4); for a `key` with a number its octets, and without a `=` none. `no-default-alpn` has no value, and no
-    /// `=`.
+    /// A parameter is a key, and perhaps a `=` and a value; the first `=` divides them. The key is a text of
+    /// [`SvcParamKey`]. Quotes round the value are dropped; one quote alone is refused. What is left is, for
+    /// `mandatory`, `alpn`, `ipv4hint` and `ipv6hint`, a list of keys, names and addresses; for `port` a decimal number
+    /// of 16 bits; for `ech` base64 (RFC 4648, 4); for a `key` with a number its octets, and without a `=` none.
+    /// `no-default-alpn` has no value, and no `=`.
     ///
-    /// Refused by `MissingToken` where a word is missing; by `Message` for a number, and for a parameter whose value is
-    /// missing, not there to be had, no number or no base64, which the text names by its key; by `AddrParse` for a hint that
-    /// is no address; by `Proto` for a name or a key that is none; or by `Memory`. The caller owes an iterator that ends.
+    /// Refused by [`MissingToken`](ParseError::MissingToken) where a word is missing; by
+    /// [`Message`](ParseError::Message) for a number, and for a parameter whose value is missing, not there to be had,
+    /// no number or no base64, which the text names by its key; by [`AddrParse`](ParseError::AddrParse) for a hint that
+    /// is no address; by [`Proto`](ParseError::Proto) for a name or a key that is none; or by
+    /// [`Memory`](ParseError::Memory). The caller owes an iterator that ends.
     #[tactic(auto, using(dns_words::proofs::Steps::reading))]
     pub fn from_tokens<S: AsStr + Drop, I: Iterator<Item = S>>(
         alloc: Global,

@@ -140,15 +140,17 @@ impl RecordDataDecodable for CAA {
 
     ghost fields = { caa_fields };
 
-    /// Reads an octet of flags, the tag, and the rest of the length, which asks for memory once where it is more than 64
-    /// octets.
+    /// Reads an octet of flags, the tag, and the rest of the length, which asks for memory once where it is more than
+    /// 64 octets.
     ///
-    /// Where flags or the tag's length are missing it is refused by `InsufficientBytes`, and the flags are taken where
-    /// they are there. Where a tag of that length passes the record's it is refused by `IncorrectRDataLengthRead` of the
-    /// record's length and the tag's and 2. A tag of no octet or more than 15 is refused by `CaaTagInvalid`. Then the
-    /// tag is taken octet by octet: one that is no letter and no digit of ASCII is the last taken, and `CaaTagInvalid`
-    /// refuses the tag. Where octets of tag or value are missing it is refused by `InsufficientBytes`; the tag's octets
-    /// that are there are taken, and the value's are not.
+    /// Where flags or the tag's length are missing it is refused by
+    /// [`InsufficientBytes`](DecodeError::InsufficientBytes), and the flags are taken where they are there. Where a tag
+    /// of that length passes the record's it is refused by
+    /// [`IncorrectRDataLengthRead`](DecodeError::IncorrectRDataLengthRead) of the record's length and the tag's and 2.
+    /// A tag of no octet or more than 15 is refused by [`CaaTagInvalid`](DecodeError::CaaTagInvalid). Then the tag is
+    /// taken octet by octet: one that is no letter and no digit of ASCII is the last taken, and `CaaTagInvalid` refuses
+    /// the tag. Where octets of tag or value are missing it is refused by `InsufficientBytes`; the tag's octets that
+    /// are there are taken, and the value's are not.
     #[inline]
     fn read_data(decoder: &mut BinDecoder<'_>, length: Restrict<u16>) -> Result<CAA, DecodeError>
         ensures window { ReadsWindow caa_shape caa_condition caa_fields length result decoder.old decoder.new }
@@ -166,7 +168,7 @@ impl BinEncodable for CAA {
     ghost emits = { λ x r old new. Emits caa_shape (caa_fields x) r old new };
 
     /// Appends the flags, the tag behind its length, and the value. A tag of more than 255 octets is refused, and no
-    /// other is refused by `Message`.
+    /// other is refused by [`Message`](ProtoError::Message).
     #[inline]
     fn emit(&self, encoder: &mut BinEncoder<'_>) -> Result<(), ProtoError>
         ensures emits { Emits caa_shape (caa_fields self.now) result encoder.old encoder.new }

@@ -129,9 +129,10 @@ impl RecordDataDecodable for CSYNC {
     ghost fields = { csync_fields };
 
     /// Reads serial and flags, and the types to the end of the length. Flags with any of 0x00fc are refused by
-    /// `UnrecognizedCsyncFlags` as soon as they are taken; then a length below 6, by `IncorrectRDataLengthRead` of 6 and
-    /// the length; then octets that are no bitmap, by `BitmapInvalid`. Where octets are missing it is refused by
-    /// `InsufficientBytes`, and the numbers that are there are taken.
+    /// [`UnrecognizedCsyncFlags`](DecodeError::UnrecognizedCsyncFlags) as soon as they are taken; then a length below
+    /// 6, by [`IncorrectRDataLengthRead`](DecodeError::IncorrectRDataLengthRead) of 6 and the length; then octets that
+    /// are no bitmap, by [`BitmapInvalid`](DecodeError::BitmapInvalid). Where octets are missing it is refused by
+    /// [`InsufficientBytes`](DecodeError::InsufficientBytes), and the numbers that are there are taken.
     #[inline]
     fn read_data(decoder: &mut BinDecoder<'_>, length: Restrict<u16>) -> Result<CSYNC, DecodeError>
         ensures window { ReadsWindow csync_shape csync_condition csync_fields length result decoder.old decoder.new }

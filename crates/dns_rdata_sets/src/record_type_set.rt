@@ -79,8 +79,9 @@ impl RecordTypeSet {
     }
 
     /// Reads the bitmap that has exactly this length. The blocks may stand in any order, two may be of one window, and
-    /// bits that are all 0 are read too. Where the octets are missing, it is refused by `InsufficientBytes` and takes
-    /// none; where they are no bitmap, by `BitmapInvalid`, and they are taken. Linear in the octets; where the windows do
+    /// bits that are all 0 are read too. Where the octets are missing, it is refused by
+    /// [`InsufficientBytes`](DecodeError::InsufficientBytes) and takes none; where they are no bitmap, by
+    /// [`BitmapInvalid`](DecodeError::BitmapInvalid), and they are taken. Linear in the octets; where the windows do
     /// not rise, memory is asked for once, for exactly the types of the set.
     pub fn read_data(
         decoder: &mut BinDecoder<'_>,

@@ -26,7 +26,8 @@ const CSYNC_FLAGS: Field = number_field!("CSYNC flags");
 
 impl CAA {
     /// From three words: flags, a decimal number of 8 bits, of which 0x80 is `issuer_critical`; tag and value, whose
-    /// octets are kept. Further words are not read. Refused by `MissingToken`, `Message` or `Memory`.
+    /// octets are kept. Further words are not read. Refused by [`MissingToken`](ParseError::MissingToken),
+    /// [`Message`](ParseError::Message) or [`Memory`](ParseError::Memory).
     #[tactic(auto, using(dns_words::proofs::Steps::reading))]
     pub fn from_tokens<S: AsStr + Drop, I: Iterator<Item = S>>(
         alloc: Global,
@@ -96,9 +97,10 @@ fn all_types<S: AsStr + Drop, I: Iterator<Item = S>>(
 }
 
 impl CSYNC {
-    /// From two words and more: serial, a decimal number of 32 bits; flags, one of 16 bits, of which 0x0003 is kept; and in every further word the text of a record type. Refused by `MissingToken`, by `Message` for a number, by `Proto` of
-    /// `UnknownRecordTypeStr` for a word that is the text of no type, or by `Memory`.
-    /// The caller owes an iterator that ends.
+    /// From two words and more: serial, a decimal number of 32 bits; flags, one of 16 bits, of which 0x0003 is kept;
+    /// and in every further word the text of a record type. Refused by [`MissingToken`](ParseError::MissingToken), by
+    /// [`Message`](ParseError::Message) for a number, by [`Proto`](ParseError::Proto) of `UnknownRecordTypeStr` for a
+    /// word that is the text of no type, or by [`Memory`](ParseError::Memory). The caller owes an iterator that ends.
     #[tactic(auto, using(dns_words::proofs::Steps::reading))]
     pub fn from_tokens<S: AsStr + Drop, I: Iterator<Item = S>>(
         alloc: Global,

@@ -95,7 +95,7 @@ pub enum ProtoError {
     Memory,
 }
 
-/// The outcome of what fails by a `ProtoError`.
+/// The outcome of what fails by a [`ProtoError`].
 pub type ProtoResult<T> = Result<T, ProtoError>;
 
 impl From<AllocError> for ProtoError {
@@ -190,7 +190,7 @@ impl From<ProtoError> for ParseError {
     }
 }
 
-/// As through `ProtoError`.
+/// As through [`ProtoError`].
 impl From<DecodeError> for ParseError {
     ghost from_gives = { λ inner e. e ≡ proto_refusal (decode_refusal inner) };
 

@@ -25,7 +25,8 @@ use std::{slice, vec};
 /// Strings of octets that a value owns, which contracts see as the list of their lists. They are
 /// ordered by the first string that differs, and a proper beginning is less.
 ///
-/// They have the methods of a slice of `Octets`, as `iter` and `first`, and an index.
+/// They have the methods of a slice of [`Octets`], as `iter` and `first`, and an index. `eq_slice`
+/// compares them with a slice.
 #[derive(Debug, Drop)]
 pub struct Strings {
     items: Vec<Octets>,
@@ -117,6 +118,14 @@ impl Strings {
         ensures { IsTrue result ↔ (self.now ≡ []) }
     {
         self.as_slice().is_empty()
+    }
+
+    /// Whether these are the strings of the slice, in its order.
+    #[inline]
+    pub fn eq_slice(&self, strings: &[Octets]) -> bool
+        ensures { IsTrue result ↔ (self.now ≡ strings.now) }
+    {
+        same_strings(self.as_slice(), strings)
     }
 
     /// The allocator of the list.

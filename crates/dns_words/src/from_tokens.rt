@@ -12,7 +12,7 @@ use dns_names_wire::{Name, ParseError};
 use std::alloc::Global;
 use std::convert::AsStr;
 
-/// A value that is read from words. `Name` has it, so `Name::from_tokens` reads a name as the records read theirs.
+/// A value that is read from words. [`Name`] has it, so `Name::from_tokens` reads a name as the records read theirs.
 pub trait FromTokens: Sized {
     /// The kinds of its fields, in order.
     ghost kinds: { List Kind };

@@ -20,7 +20,7 @@ use std::alloc::{AllocError, Global};
 use std::convert::AsStr;
 use std::net::{Ipv4Addr, Ipv6Addr};
 
-/// The next word. Refused by `MissingToken` of this name where none is left.
+/// The next word. Refused by [`MissingToken`](ParseError::MissingToken) of this name where none is left.
 #[inline]
 pub fn next_word<S: AsStr + Drop, I: Iterator<Item = S>>(
     words: &mut I,
@@ -115,8 +115,8 @@ pub fn next_signed_ttl<S: AsStr + Drop, I: Iterator<Item = S>>(
     signed_ttl_of(word.as_str(), field.wrong)
 }
 
-/// A name, which the origin completes, where one is given. Refused by `MissingToken` where no word is left, else as
-/// `Name::parse`.
+/// A name, which the origin completes, where one is given. Refused by [`MissingToken`](ParseError::MissingToken) where
+/// no word is left, else as `Name::parse`.
 #[inline]
 pub fn next_name<S: AsStr + Drop, I: Iterator<Item = S>>(
     alloc: Global,
@@ -148,7 +148,7 @@ pub fn next_base64<S: AsStr + Drop, I: Iterator<Item = S>>(
     base64_of(alloc, word.as_str(), field.wrong)
 }
 
-/// The octets of a word. Refused by `MissingToken` where none is left.
+/// The octets of a word. Refused by [`MissingToken`](ParseError::MissingToken) where none is left.
 #[inline]
 pub fn next_kept<S: AsStr + Drop, I: Iterator<Item = S>>(
     alloc: Global,
@@ -165,7 +165,8 @@ pub fn next_kept<S: AsStr + Drop, I: Iterator<Item = S>>(
     kept_of(alloc, word.as_str())
 }
 
-/// An IPv4 address. Refused by `MissingToken` where no word is left, and by `AddrParse` for another. Takes no memory.
+/// An IPv4 address. Refused by [`MissingToken`](ParseError::MissingToken) where no word is left, and by
+/// [`AddrParse`](ParseError::AddrParse) for another. Takes no memory.
 #[inline]
 pub fn next_ipv4<S: AsStr + Drop, I: Iterator<Item = S>>(
     words: &mut I,
@@ -195,7 +196,7 @@ pub fn next_ipv6<S: AsStr + Drop, I: Iterator<Item = S>>(
     ipv6_of(word.as_str())
 }
 
-/// That no word is left. Refused by `Message` of this text where one is.
+/// That no word is left. Refused by [`Message`](ParseError::Message) of this text where one is.
 #[inline]
 pub fn no_more<S: AsStr + Drop, I: Iterator<Item = S>>(
     words: &mut I,

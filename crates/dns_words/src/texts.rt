@@ -16,8 +16,8 @@ use std::alloc::Global;
 use std::net::{Ipv4Addr, Ipv6Addr};
 use std::{fmt, str};
 
-/// A decimal number of 8 bits, with or without `+`. Any other word is refused by `Message` of the text `wrong`. Takes no
-/// memory.
+/// A decimal number of 8 bits, with or without `+`. Any other word is refused by [`Message`](ParseError::Message) of
+/// the text `wrong`. Takes no memory.
 #[inline]
 pub fn u8_of(word: &str, wrong: &'static str) -> Result<u8, ParseError>
     ensures reads { ReadsText (number 1) (λ n. n) result word.now }
@@ -53,7 +53,8 @@ pub fn u32_of(word: &str, wrong: &'static str) -> Result<u32, ParseError>
     }
 }
 
-/// A time to live of 32 bits (`parse_ttl`). Any other word is refused by `Message` of the text `wrong`. Takes no memory.
+/// A time to live of 32 bits (`parse_ttl`). Any other word is refused by [`Message`](ParseError::Message) of the text
+/// `wrong`. Takes no memory.
 #[inline]
 pub fn ttl_of(word: &str, wrong: &'static str) -> Result<u32, ParseError>
     ensures reads { ReadsText (ttl 4294967295) (λ n. n) result word.now }
@@ -119,8 +120,8 @@ impl fmt::Display for Base64Text<'_> {
     }
 }
 
-/// The octets of a base64 text: the standard alphabet, padded at its end. Any other word is refused by `Message` of the
-/// text `wrong`.
+/// The octets of a base64 text: the standard alphabet, padded at its end. Any other word is refused by
+/// [`Message`](ParseError::Message) of the text `wrong`.
 pub fn base64_of(alloc: Global, word: &str, wrong: &'static str) -> Result<Octets, ParseError>
     ensures reads { ReadsText base64 (λ x. x) result word.now }
     ensures why { IfErr result (λ e. (e ≡ ParseError.Memory) ⊎ (e ≡ ParseError.Message wrong.entry)) }
@@ -143,7 +144,7 @@ pub fn kept_of(alloc: Global, word: &str) -> Result<Octets, ParseError>
     Ok(octets)
 }
 
-/// The IPv4 address of a text. Any other word is refused by `AddrParse`. Takes no memory.
+/// The IPv4 address of a text. Any other word is refused by [`AddrParse`](ParseError::AddrParse). Takes no memory.
 #[inline]
 pub fn ipv4_of(word: &str) -> Result<Ipv4Addr, ParseError>
     ensures reads { ReadsText ipv4 ipv4_octets result word.now }
@@ -155,7 +156,7 @@ pub fn ipv4_of(word: &str) -> Result<Ipv4Addr, ParseError>
     }
 }
 
-/// The IPv6 address of a text. Any other word is refused by `AddrParse`. Takes no memory.
+/// The IPv6 address of a text. Any other word is refused by [`AddrParse`](ParseError::AddrParse). Takes no memory.
 #[inline]
 pub fn ipv6_of(word: &str) -> Result<Ipv6Addr, ParseError>
     ensures reads { ReadsText ipv6 ipv6_octets result word.now }

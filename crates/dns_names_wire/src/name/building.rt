@@ -12,8 +12,8 @@ use dns_types::{ProtoError, ProtoResult};
 use std::alloc::{AllocError, Global};
 
 impl Name {
-    /// The fully qualified name of these labels, from the left. Refused by `Message` where a label has no octet or
-    /// more than 63, or the name would have more than 255.
+    /// The fully qualified name of these labels, from the left. Refused by [`Message`](ProtoError::Message) where a
+    /// label has no octet or more than 63, or the name would have more than 255.
     pub fn from_labels(alloc: Global, labels: &[&[u8]]) -> ProtoResult<Name>
         ensures ok { IfOk result (λ x. x ≡ qualified (map (λ label. label.now) labels.now)) }
         ensures refused { IfErr result (λ e. IsTextRefusal e (IsName (qualified (map (λ label. label.now) labels.now)) → ⊥)) }
@@ -25,8 +25,8 @@ impl Name {
         }
     }
 
-    /// The name with one label more, behind the others; its mark stays. Refused by `Message` where the label has no
-    /// octet or more than 63, or the name would have more than 255.
+    /// The name with one label more, behind the others; its mark stays. Refused by [`Message`](ProtoError::Message)
+    /// where the label has no octet or more than 63, or the name would have more than 255.
     pub fn append_label(self, label: &[u8]) -> ProtoResult<Name>
         ensures ok { IfOk result (λ x. x ≡ with_label self label.now) }
         ensures refused { IfErr result (λ e. IsTextRefusal e (IsName (with_label self label.now) → ⊥)) }
@@ -40,8 +40,8 @@ impl Name {
         }
     }
 
-    /// The labels of both names, and the mark of the second. Refused by `Message` where there would be more than 255
-    /// octets.
+    /// The labels of both names, and the mark of the second. Refused by [`Message`](ProtoError::Message) where there
+    /// would be more than 255 octets.
     pub fn append_name(self, other: &Name) -> ProtoResult<Name>
         ensures ok { IfOk result (λ x. x ≡ joined_name self other.now) }
         ensures refused { IfErr result (λ e. IsTextRefusal e (IsName (joined_name self other.now) → ⊥)) }
@@ -80,7 +80,8 @@ impl Name {
     }
 
     /// The name of a text, by `from_str`; a relative one gets labels and mark of the origin, where one is given.
-    /// Refused by `Message` where it is no text of a name, or where there would be more than 255 octets.
+    /// Refused by [`Message`](ProtoError::Message) where it is no text of a name, or where there would be more than 255
+    /// octets.
     pub fn parse(alloc: Global, text: &str, origin: Option<&Name>) -> ProtoResult<Name>
         ensures found { IfOk result (λ x. IsParsed text.now (option_copied origin.entry) x) }
         ensures refused { IfErr result (λ e. IsTextRefusal e ((x : DomainName) → IsParsed text.now (option_copied origin.entry) x → ⊥)) }

@@ -18,7 +18,7 @@ impl Name {
     /// A dot is the root, and no text the relative name without labels. Every other text is labels joined by dots,
     /// with a dot at the end where the name is fully qualified. An octet of a label is a graphic character of ASCII
     /// but `.` and `\`, or `\` and three digits up to 255, or `\` and a graphic character that is no digit. Every
-    /// other text is refused by `Message`, which says why. Takes memory once.
+    /// other text is refused by [`Message`](ProtoError::Message), which says why. Takes memory once.
     pub fn from_ascii(alloc: Global, text: &str) -> ProtoResult<Name>
         ensures found { IfOk result (λ x. IsNameText x text.now) }
         ensures refused { IfErr result (λ e. IsTextRefusal e ((x : DomainName) → IsNameText x text.now → ⊥)) }

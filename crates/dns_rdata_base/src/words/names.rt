@@ -25,7 +25,8 @@ const SRV_PORT: Field = number_field!("SRV port");
 
 impl ANAME {
     /// From one word, the text of a name, which the origin completes where one is given. Further words are not read.
-    /// Refused by `MissingToken`, by `Proto` where the word is no name, or by `Memory`.
+    /// Refused by [`MissingToken`](ParseError::MissingToken), by [`Proto`](ParseError::Proto) where the word is no
+    /// name, or by [`Memory`](ParseError::Memory).
     #[tactic(auto, using(dns_words::proofs::Steps::reading))]
     pub fn from_tokens<S: AsStr + Drop, I: Iterator<Item = S>>(
         alloc: Global,
@@ -42,7 +43,8 @@ impl ANAME {
 
 impl CNAME {
     /// From one word, the text of a name, which the origin completes where one is given. Further words are not read.
-    /// Refused by `MissingToken`, by `Proto` where the word is no name, or by `Memory`.
+    /// Refused by [`MissingToken`](ParseError::MissingToken), by [`Proto`](ParseError::Proto) where the word is no
+    /// name, or by [`Memory`](ParseError::Memory).
     #[tactic(auto, using(dns_words::proofs::Steps::reading))]
     pub fn from_tokens<S: AsStr + Drop, I: Iterator<Item = S>>(
         alloc: Global,
@@ -59,7 +61,8 @@ impl CNAME {
 
 impl NS {
     /// From one word, the text of a name, which the origin completes where one is given. Further words are not read.
-    /// Refused by `MissingToken`, by `Proto` where the word is no name, or by `Memory`.
+    /// Refused by [`MissingToken`](ParseError::MissingToken), by [`Proto`](ParseError::Proto) where the word is no
+    /// name, or by [`Memory`](ParseError::Memory).
     #[tactic(auto, using(dns_words::proofs::Steps::reading))]
     pub fn from_tokens<S: AsStr + Drop, I: Iterator<Item = S>>(
         alloc: Global,
@@ -76,7 +79,8 @@ impl NS {
 
 impl PTR {
     /// From one word, the text of a name, which the origin completes where one is given. Further words are not read.
-    /// Refused by `MissingToken`, by `Proto` where the word is no name, or by `Memory`.
+    /// Refused by [`MissingToken`](ParseError::MissingToken), by [`Proto`](ParseError::Proto) where the word is no
+    /// name, or by [`Memory`](ParseError::Memory).
     #[tactic(auto, using(dns_words::proofs::Steps::reading))]
     pub fn from_tokens<S: AsStr + Drop, I: Iterator<Item = S>>(
         alloc: Global,
@@ -93,8 +97,9 @@ impl PTR {
 
 impl MX {
     /// From two words: preference, a decimal number of 16 bits, and exchange, a name, which the origin completes where
-    /// one is given. Further words are not read. Refused by `MissingToken`, by `Message` where a word is no such number,
-    /// by `Proto` where one is no name, or by `Memory`.
+    /// one is given. Further words are not read. Refused by [`MissingToken`](ParseError::MissingToken), by
+    /// [`Message`](ParseError::Message) where a word is no such number, by [`Proto`](ParseError::Proto) where one is no
+    /// name, or by [`Memory`](ParseError::Memory).
     #[tactic(auto, using(dns_words::proofs::Steps::reading))]
     pub fn from_tokens<S: AsStr + Drop, I: Iterator<Item = S>>(
         alloc: Global,

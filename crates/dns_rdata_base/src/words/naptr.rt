@@ -42,8 +42,9 @@ fn next_flags<S: AsStr + Drop, I: Iterator<Item = S>>(
 impl NAPTR {
     /// From six words: order and preference, decimal numbers of 16 bits; flags, digits and letters; services and
     /// regexp, whose octets are kept; and replacement, a name, which the origin completes where one is given. Further
-    /// words are not read. Refused by `MissingToken`, by `Message` where a word is no such number or has another
-    /// character than a flag, by `Proto` where one is no name, or by `Memory`.
+    /// words are not read. Refused by [`MissingToken`](ParseError::MissingToken), by [`Message`](ParseError::Message)
+    /// where a word is no such number or has another character than a flag, by [`Proto`](ParseError::Proto) where one
+    /// is no name, or by [`Memory`](ParseError::Memory).
     #[tactic(auto, using(dns_words::proofs::Steps::reading))]
     pub fn from_tokens<S: AsStr + Drop, I: Iterator<Item = S>>(
         alloc: Global,

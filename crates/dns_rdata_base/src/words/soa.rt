@@ -25,8 +25,9 @@ const MINIMUM: Field = time_field!("SOA minimum", "4294967295");
 impl SOA {
     /// From seven words: mname and rname, names, which the origin completes where one is given; and serial, refresh,
     /// retry, expire and minimum, times to live (`parse_ttl`), of which refresh, retry and expire are at most
-    /// 2147483647. Further words are not read. Refused by `MissingToken`, by `Message` where a word is no such time, by
-    /// `Proto` where one is no name, or by `Memory`.
+    /// 2147483647. Further words are not read. Refused by [`MissingToken`](ParseError::MissingToken), by
+    /// [`Message`](ParseError::Message) where a word is no such time, by [`Proto`](ParseError::Proto) where one is no
+    /// name, or by [`Memory`](ParseError::Memory).
     #[tactic(auto, using(dns_words::proofs::Steps::reading))]
     pub fn from_tokens<S: AsStr + Drop, I: Iterator<Item = S>>(
         alloc: Global,

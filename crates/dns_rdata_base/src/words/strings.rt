@@ -18,8 +18,8 @@ use std::convert::AsStr;
 const PUBLIC_KEY: Field = base64_field!("OPENPGPKEY public key");
 
 impl HINFO {
-    /// From two words, cpu and os, whose octets are kept. Further words are not read. Refused by `MissingToken` or
-    /// `Memory`.
+    /// From two words, cpu and os, whose octets are kept. Further words are not read. Refused by
+    /// [`MissingToken`](ParseError::MissingToken) or [`Memory`](ParseError::Memory).
     #[tactic(auto, using(dns_words::proofs::Steps::reading))]
     pub fn from_tokens<S: AsStr + Drop, I: Iterator<Item = S>>(
         alloc: Global,
@@ -55,7 +55,8 @@ impl TXT {
 }
 
 impl OPENPGPKEY {
-    /// From one word, the key in base64; a further word is refused. Refused by `MissingToken`, `Message` or `Memory`.
+    /// From one word, the key in base64; a further word is refused. Refused by
+    /// [`MissingToken`](ParseError::MissingToken), [`Message`](ParseError::Message) or [`Memory`](ParseError::Memory).
     #[tactic(auto, using(dns_words::proofs::Steps::reading))]
     pub fn from_tokens<S: AsStr + Drop, I: Iterator<Item = S>>(
         alloc: Global,

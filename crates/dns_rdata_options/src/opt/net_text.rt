@@ -21,7 +21,7 @@ fn prefix_of(digits: &str) -> Option<u8>
 }
 
 /// An address as `IpAddr` reads it, `/`, and one to three decimal digits of a number of at most 32 behind IPv4 and at
-/// most 128 behind IPv6, leading zeros allowed. Any other text is refused by `AddrParseError`. Takes no memory.
+/// most 128 behind IPv6, leading zeros allowed. Any other text is refused by [`AddrParseError`]. Takes no memory.
 impl FromStr for IpNet {
     type Err = AddrParseError;
 
@@ -45,7 +45,7 @@ impl FromStr for IpNet {
 }
 
 /// The text of a net, whose prefix is the source prefix; the scope prefix is 0. Any other text is refused by
-/// `AddrParseError`. Takes no memory.
+/// [`AddrParseError`]. Takes no memory.
 impl FromStr for ClientSubnet {
     type Err = AddrParseError;
 

@@ -86,7 +86,8 @@ impl EdnsOption {
 impl BinEncodable for EdnsOption {
     ghost emits = { λ x r old new. EmitsOctets (IsEmittableOption (option_value x)) (option_octets (option_value x)) r old new };
 
-    /// Appends the octets, without code and length. A subnet is refused as there; `Message` refuses no other option.
+    /// Appends the octets, without code and length. A subnet is refused as there; [`Message`](ProtoError::Message)
+    /// refuses no other option.
     fn emit(&self, encoder: &mut BinEncoder<'_>) -> Result<(), ProtoError> {
         match self {
             EdnsOption::Subnet(subnet) => subnet.emit(encoder),

@@ -31,7 +31,7 @@ impl Model for NSIDPayload {
 }
 
 impl NSIDPayload {
-    /// The octets of the list, which is moved. More than 65535 are refused by `Message`.
+    /// The octets of the list, which is moved. More than 65535 are refused by [`Message`](ProtoError::Message).
     pub fn new(payload: Vec<u8>) -> Result<NSIDPayload, ProtoError>
         ensures ok { IfOk result (λ p. (p ≡ payload.items) × (length payload.items ≤ 65535)) }
         ensures refused { IfErr result (λ e. IsMessage e × (65535 < length payload.items)) }
@@ -45,7 +45,7 @@ impl NSIDPayload {
     }
 
     /// A copy of the octets, in memory that is asked for once. More than 65535 are refused by
-    /// `IncorrectRDataLengthRead` of their number and 65535.
+    /// [`IncorrectRDataLengthRead`](DecodeError::IncorrectRDataLengthRead) of their number and 65535.
     pub fn try_from(alloc: Global, payload: &[u8]) -> Result<NSIDPayload, DecodeError>
         ensures ok { IfOk result (λ p. (p ≡ payload.now) × (length payload.now ≤ 65535)) }
         ensures refused { IfErr result (λ e. (e ≡ DecodeError.Memory)

@@ -211,9 +211,10 @@ impl BinDecodable for ClientSubnet {
     ghost refuses = { λ old e _. subnet_refusal (drop old.index old.message) e };
 
     /// Reads a subnet, and leaves what follows. Octets of the address that do not stand are 0. It is refused, and takes
-    /// nothing, for the first of these: by `UnknownAddressFamily` for a family that is neither 1 nor 2; by
-    /// `IncorrectRDataLengthRead` of 4 or 16 and of the octets that the source prefix asks for, where these are more;
-    /// by `InsufficientBytes` where octets are missing.
+    /// nothing, for the first of these: by [`UnknownAddressFamily`](DecodeError::UnknownAddressFamily) for a family
+    /// that is neither 1 nor 2; by [`IncorrectRDataLengthRead`](DecodeError::IncorrectRDataLengthRead) of 4 or 16 and
+    /// of the octets that the source prefix asks for, where these are more; by
+    /// [`InsufficientBytes`](DecodeError::InsufficientBytes) where octets are missing.
     fn read(decoder: &mut BinDecoder<'_>) -> Result<ClientSubnet, DecodeError>
         ensures reads { ReadsBy SubnetAt result decoder.old decoder.new }
         ensures refused { IfErr result (λ e. subnet_refusal (drop decoder.old.index decoder.old.message) e) }
@@ -264,7 +265,7 @@ impl BinEncodable for ClientSubnet {
     ghost emits = { λ x r old new. EmitsOctets (IsEmittableOption (subnet_value x)) (option_octets (subnet_value x)) r old new };
 
     /// Appends family, prefixes, and the octets of the address that the source prefix asks for. It is refused by
-    /// `Message` where these are more than the address has.
+    /// [`Message`](ProtoError::Message) where these are more than the address has.
     fn emit(&self, encoder: &mut BinEncoder<'_>) -> Result<(), ProtoError> {
         match self.address {
             IpAddr::V4(ip) => emit_parts(encoder, 1, self, &ip.octets()),

@@ -39,7 +39,9 @@ impl BinDecodable for Alpn {
     ghost refuses = { λ old e _. value_refusal Names (drop old.index old.message) e };
 
     /// Reads names to the message's end, by one request for memory for the list and one for each name of more than 16
-    /// octets. None are refused by `SvcParamMissingValue`, a name that lacks octets by `InsufficientBytes`, and one that is not UTF-8 by `Utf8`.
+    /// octets. None are refused by [`SvcParamMissingValue`](DecodeError::SvcParamMissingValue), a name that lacks
+    /// octets by [`InsufficientBytes`](DecodeError::InsufficientBytes), and one that is not UTF-8 by
+    /// [`Utf8`](DecodeError::Utf8).
     fn read(decoder: &mut BinDecoder<'_>) -> Result<Alpn, DecodeError>
         ensures reads { ReadsBy AlpnAt result decoder.old decoder.new }
         ensures refused { IfErr result (λ e. value_refusal Names (drop decoder.old.index decoder.old.message) e) }
@@ -87,7 +89,8 @@ fn strings_in(octets: &[u8]) -> usize
 impl BinEncodable for Alpn {
     ghost emits = { λ x r old new. EmitsValue (alpn_value x) r old new };
 
-    /// Appends the names as character strings. None, and one of more than 255 octets, are refused by `Message`.
+    /// Appends the names as character strings. None, and one of more than 255 octets, are refused by
+    /// [`Message`](ProtoError::Message).
     fn emit(&self, encoder: &mut BinEncoder<'_>) -> Result<(), ProtoError> {
         if self.0.len() == 0 {
             return Err(ProtoError::Message("no protocols"));

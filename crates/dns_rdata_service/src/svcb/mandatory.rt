@@ -30,8 +30,9 @@ impl BinDecodable for Mandatory {
 
     ghost refuses = { λ old e _. value_refusal Keys (drop old.index old.message) e };
 
-    /// Reads keys to the message's end, by one request for memory. None are refused by `SvcParamMissingValue`, and an
-    /// odd octet by `InsufficientBytes`.
+    /// Reads keys to the message's end, by one request for memory. None are refused by
+    /// [`SvcParamMissingValue`](DecodeError::SvcParamMissingValue), and an odd octet by
+    /// [`InsufficientBytes`](DecodeError::InsufficientBytes).
     fn read(decoder: &mut BinDecoder<'_>) -> Result<Mandatory, DecodeError>
         ensures reads { ReadsBy MandatoryAt result decoder.old decoder.new }
         ensures refused { IfErr result (λ e. value_refusal Keys (drop decoder.old.index decoder.old.message) e) }
@@ -50,7 +51,7 @@ impl BinDecodable for Mandatory {
 impl BinEncodable for Mandatory {
     ghost emits = { λ x r old new. EmitsValue (mandatory_value x) r old new };
 
-    /// Appends the keys' numbers. None are refused by `Message`.
+    /// Appends the keys' numbers. None are refused by [`Message`](ProtoError::Message).
     fn emit(&self, encoder: &mut BinEncoder<'_>) -> Result<(), ProtoError> {
         if self.0.len() == 0 {
             return Err(ProtoError::Message("no mandatory keys"));

@@ -22,7 +22,7 @@ use std::alloc::Global;
 
 /// The parameter of a word: a key, and perhaps a `=` and a value. The first `=` divides them.
 ///
-/// The key is a text of `SvcParamKey`. Quotes round the value are dropped; one quote alone is refused. What is left is,
+/// The key is a text of [`SvcParamKey`]. Quotes round the value are dropped; one quote alone is refused. What is left is,
 /// for `mandatory`, `alpn`, `ipv4hint` and `ipv6hint`, a list of keys, names and addresses: a `\` is dropped and the
 /// next character kept, any other comma ends an item, and what is left at the end is one more; and of each the first
 /// token, which must be a word. For `port` and `ech` it is one such item, a decimal number of 16 bits or base64

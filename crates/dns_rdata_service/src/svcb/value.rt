@@ -130,8 +130,9 @@ fn hint6(alloc: Global, octets: &[u8]) -> Result<IpHint<AAAA>, DecodeError>
 impl BinEncodable for SvcParamValue {
     ghost emits = { λ x r old new. EmitsSized (value_of x) r old new };
 
-    /// Appends the value's length in two octets, and its octets. No keys or protocols, and a protocol of more than 255 octets
-    /// are refused by `Message`; a value of more than 65535 octets has no room in any message.
+    /// Appends the value's length in two octets, and its octets. No keys or protocols, and a protocol of more than 255
+    /// octets are refused by [`Message`](ProtoError::Message); a value of more than 65535 octets has no room in any
+    /// message.
     fn emit(&self, encoder: &mut BinEncoder<'_>) -> Result<(), ProtoError> {
         let place = encoder.place()?;
         self.emit_octets(encoder)?;

@@ -248,7 +248,8 @@ fn read_parts(alloc: Global, octets: &[u8]) -> ProtoResult<(Option<Name>, Vec<Ke
 /// digit, or two and then any number of letters, digits and `-`; a value any number of octets 0x21 to 0x3A and 0x3C to
 /// 0x7E.
 ///
-/// A name's octets that are not UTF-8 are refused by `Decode` of `Utf8`, anything else by `Message`.
+/// A name's octets that are not UTF-8 are refused by [`Decode`](ProtoError::Decode) of `Utf8`, anything else by
+/// [`Message`](ProtoError::Message).
 pub fn read_issuer(alloc: Global, octets: &[u8]) -> ProtoResult<(Option<Name>, Vec<KeyValue>)>
     ensures read { IfOk result (λ x. IsIssuer octets.now x.0 x.1.items) }
     ensures refused { IfErr result (λ e. issuer_refusal octets.now e) }
@@ -259,8 +260,8 @@ pub fn read_issuer(alloc: Global, octets: &[u8]) -> ProtoResult<(Option<Name>, V
     read_parts(alloc, octets)
 }
 
-/// The text of a URL for incident reports (RFC 8659, 4.4), as it is. Refused by `Decode` of `Utf8` exactly where it is
-/// not UTF-8. Takes no memory.
+/// The text of a URL for incident reports (RFC 8659, 4.4), as it is. Refused by [`Decode`](ProtoError::Decode) of
+/// `Utf8` exactly where it is not UTF-8. Takes no memory.
 pub fn read_iodef(url: &[u8]) -> ProtoResult<&str>
     ensures read { IfOk result (λ text. (text.now ≡ url.now) × IsUtf8 url.now) }
     ensures refused { IfErr result (λ e. (e ≡ proto.Decode decode.Utf8) × (IsUtf8 url.now → ⊥)) }

@@ -97,8 +97,9 @@ impl CAA {
         })
     }
 
-    /// Sets the value of an issuer, as `new_issue` makes it. A tag other than `issue` and `issuewild`, the case of ASCII
-    /// letters ignored, is refused by `Message`. After a refusal, for memory too, the record is as it was.
+    /// Sets the value of an issuer, as `new_issue` makes it. A tag other than `issue` and `issuewild`, the case of
+    /// ASCII letters ignored, is refused by [`Message`](ProtoError::Message). After a refusal, for memory too, the
+    /// record is as it was.
     pub fn set_issuer_value(
         &mut self,
         name: Option<&Name>,
@@ -120,7 +121,7 @@ impl CAA {
     }
 
     /// Sets the value of where incidents are reported. A tag other than `iodef`, the case of ASCII letters ignored, is
-    /// refused by `Message`. After a refusal, for memory too, the record is as it was.
+    /// refused by [`Message`](ProtoError::Message). After a refusal, for memory too, the record is as it was.
     pub fn set_iodef_value(&mut self, url: &str) -> ProtoResult<()>
         ensures set { OnOk result (self.new ≡ record self.old { value = url.now }) }
         ensures tag { OnOk result (IsIodefTag self.old.tag) }
@@ -136,7 +137,7 @@ impl CAA {
     }
 
     /// The issuer's name and parameters, by `read_issuer`. A tag other than `issue` and `issuewild`, the case of ASCII
-    /// letters ignored, is refused by `Message`.
+    /// letters ignored, is refused by [`Message`](ProtoError::Message).
     pub fn value_as_issue(&self) -> ProtoResult<(Option<Name>, Vec<KeyValue>)>
         ensures read { IfOk result (λ x. IsIssuer self.now.value x.0 x.1.items) }
         ensures tag { OnOk result (IsIssuerTag self.now.tag) }
@@ -149,7 +150,7 @@ impl CAA {
     }
 
     /// The URL where incidents are reported, by `read_iodef`. A tag other than `iodef`, the case of ASCII letters
-    /// ignored, is refused by `Message`. Takes no memory.
+    /// ignored, is refused by [`Message`](ProtoError::Message). Takes no memory.
     pub fn value_as_iodef(&self) -> ProtoResult<&str>
         ensures read { IfOk result (λ text. (text.now ≡ self.now.value) × IsUtf8 self.now.value) }
         ensures tag { OnOk result (IsIodefTag self.now.tag) }
