@@ -1,5 +1,5 @@
 -- The order of the octets of options, and of lists that they begin.
-use Rattle.std.proofs.Common.{◌≡◌, ◌≢◌, ℕ, ◌<◌, ◌≤◌, ◌^◌, nat_le, Bool, true, false, if◌then◌else◌, arith, List, [], ◌∷◌, ◌++◌, length, map, refl, sym, ap, ◌∙◌, subst, append_assoc}
+use Rattle.std.proofs.Common.{◌≡◌, ◌≢◌, ℕ, ◌<◌, ◌≤◌, ◌^◌, nat_le, Bool, true, false, if◌then◌else◌, arith, List, [], ◌∷◌, ◌++◌, length, map, count_by, refl, sym, ap, ◌∙◌, subst, append_assoc}
 use Rattle.std.proofs.lemmas.Bool.Decides.{nat_tests}
 use Rattle.std.proofs.lemmas.List.{append-nil}
 use Rattle.std.proofs.lemmas.Grind.{flat_map-append}
@@ -7,12 +7,13 @@ use Rattle.std.specs.Int.{bytes_high_first}
 use Rattle.std.specs.List.{flat_map, AllByRecursion}
 use Rattle.std.specs.Cmp.{ranks, first_so, second_so}
 use Rattle.std.specs.Cmp.Lexicographic.{slice_cmp}
-use Rattle.std.specs.Ordering.{MatchOrdering, is_gt, nat_cmp, ordering_then}
+use Rattle.std.specs.Ordering.{MatchOrdering, is_eq, is_gt, eq_by_cmp, nat_cmp, ordering_then}
 use Rattle.std.specs.declared.cmp.Ordering.{Ordering}
 use Rattle.std.specs.declared.cmp.Ordering.TheVariants.{Less, Equal, Greater}
 use Rattle.dns_fields.specs.Fields.{Options, field_octets}
 use Rattle.dns_fields.specs.Pieces.{piece, option_octets}
 use Rattle.dns_fields.specs.Sorting.{put, sorted}
+use Rattle.dns_fields.proofs.Multisets.{count_sorted, sorted_risen, same_counts}
 use Rattle.dns_fields.proofs.Numbers.{number_cmp}
 use Rattle.dns_pieces.specs.Fronts.{canonical_cmp}
 use Rattle.dns_pieces.proofs.Comparing.{cmp_shared, then_assoc, then_kept}
@@ -20,7 +21,9 @@ use Rattle.dns_pieces.proofs.Fronts.{front_then, alone}
 use Rattle.dns_rdata_options.specs.EdnsOption.{option_value}
 use Rattle.dns_rdata_options.specs.Facing.{code_number}
 use Rattle.dns_rdata_options.specs.OPT.{Pair, pair_value, opt_shape, opt_fields}
-use Rattle.dns_rdata_options.specs.Steps.{octets_cmp, own_piece, own_pieces, pair_emittable, pairs_emittable}
+use Rattle.dns_rdata_options.specs.Order.{pair_cmp, risen, opt_eq}
+use Rattle.dns_rdata_options.specs.OrderLaws.{pair_total, opt_ties}
+use Rattle.dns_rdata_options.specs.Steps.{octets_cmp, piece_cmp, own_piece, own_pieces, pair_emittable, pairs_emittable}
 
 -- the codes come first, then the lengths, and then what the pieces hold
 by_parts : (c d : ℕ) (s t u v : List ℕ) → length s < 256 ^ 2 → length t < 256 ^ 2
@@ -94,49 +97,58 @@ behind_same front xs ys = cmp_shared {n = length (flat_map (λ s. s) front)} rec
   right = flat_map-append (λ s. s) front ys;
 }
 
--- the octets of a pair that can be emitted
-pub record IsOwn (s : List ℕ) : Type 0 where
-  pub pair : Pair
-  pub emittable : pair_emittable pair ≡ true
-  pub octets : own_piece pair ≡ s
+-- each pair can be emitted
+abbrev AllEmittable : List Pair → Type 0
+AllEmittable x = AllByRecursion (λ p. pair_emittable p ≡ true) x
 
-pub all_own : (x : List Pair) → pairs_emittable x ≡ true → AllByRecursion IsOwn (own_pieces x)
-all_own [] h = tt
-all_own (p ∷ x) h = (
-  record { pair = p; emittable = first_so (pair_emittable p) (pairs_emittable x) h; octets = refl },
-  all_own x (second_so (pair_emittable p) (pairs_emittable x) h),
-)
+each_emittable : (x : List Pair) → pairs_emittable x ≡ true → AllEmittable x
+each_emittable [] h = tt
+each_emittable (p ∷ x) h = (first_so (pair_emittable p) (pairs_emittable x) h, each_emittable x (second_so (pair_emittable p) (pairs_emittable x) h))
 
-module _ {X : Type 0} (R : X → X → Ordering) (P : X → Type 0) where
-  put_all : (x : X) (ys : List X) → P x → AllByRecursion P ys → AllByRecursion P (put R x ys)
-  put_all x [] h k = (h, tt)
-  put_all x (y ∷ ys) h k = by (is_gt (R x y)) (put_all x ys h k.1) where
-    by : (b : Bool) → AllByRecursion P (put R x ys) → AllByRecursion P (if b then y ∷ put R x ys else x ∷ y ∷ ys)
-    by true rest = (k.0, rest)
-    by false rest = (h, k)
+put_all : (p : Pair) (x : List Pair) → pair_emittable p ≡ true → AllEmittable x → AllEmittable (put piece_cmp p x)
+put_all p [] h k = (h, tt)
+put_all p (q ∷ x) h k = by (is_gt (piece_cmp p q)) (put_all p x h k.1) where
+  by : (b : Bool) → AllEmittable (put piece_cmp p x) → AllEmittable (if b then q ∷ put piece_cmp p x else p ∷ q ∷ x)
+  by true rest = (k.0, rest)
+  by false rest = (h, k)
 
-  sorted_all : (xs : List X) → AllByRecursion P xs → AllByRecursion P (sorted R xs)
-  sorted_all [] h = tt
-  sorted_all (x ∷ xs) h = put_all x (sorted R xs) h.0 (sorted_all xs h.1)
+sorted_all : (x : List Pair) → AllEmittable x → AllEmittable (sorted piece_cmp x)
+sorted_all [] h = tt
+sorted_all (p ∷ x) h = put_all p (sorted piece_cmp x) h.0 (sorted_all x h.1)
 
--- pieces in a row are ordered by the first ones that differ
-pub rows_cmp : (xs ys : List (List ℕ)) → AllByRecursion IsOwn xs → AllByRecursion IsOwn ys
-    → slice_cmp octets_cmp xs ys ≡ octets_cmp (flat_map (λ s. s) xs) (flat_map (λ s. s) ys)
+-- pieces in order are those of the pairs in order
+put_pieces : (p : Pair) (x : List Pair) → own_pieces (put piece_cmp p x) ≡ put octets_cmp (own_piece p) (own_pieces x)
+put_pieces p [] = refl
+put_pieces p (q ∷ x) = by (is_gt (piece_cmp p q)) (put_pieces p x) where
+  by : (b : Bool) → own_pieces (put piece_cmp p x) ≡ put octets_cmp (own_piece p) (own_pieces x)
+      → own_pieces (if b then q ∷ put piece_cmp p x else p ∷ q ∷ x) ≡ (if b then own_piece q ∷ put octets_cmp (own_piece p) (own_pieces x) else own_piece p ∷ own_piece q ∷ own_pieces x)
+  by true rest = ap (λ (l : List (List ℕ)). own_piece q ∷ l) rest
+  by false rest = refl
+
+sorted_pieces : (x : List Pair) → own_pieces (sorted piece_cmp x) ≡ sorted octets_cmp (own_pieces x)
+sorted_pieces [] = refl
+sorted_pieces (p ∷ x) = put_pieces p (sorted piece_cmp x) ∙ ap (put octets_cmp (own_piece p)) (sorted_pieces x)
+
+-- pairs in a row are ordered by the first ones whose octets differ
+rows_cmp : (x y : List Pair) → AllEmittable x → AllEmittable y → slice_cmp piece_cmp x y ≡ octets_cmp (flat_map (λ s. s) (own_pieces x)) (flat_map (λ s. s) (own_pieces y))
 rows_cmp [] [] h k = refl
-rows_cmp [] (y ∷ ys) h k = subst (λ (t : List ℕ). Less ≡ octets_cmp [] (t ++ flat_map (λ s. s) ys)) k.0.octets refl
-rows_cmp (x ∷ xs) [] h k = subst (λ (t : List ℕ). Greater ≡ octets_cmp (t ++ flat_map (λ s. s) xs) []) h.0.octets refl
-rows_cmp (x ∷ xs) (y ∷ ys) h k =
-    ap (ordering_then (octets_cmp x y)) (rows_cmp xs ys h.1 k.1)
-    ∙ sym (subst (λ (t : List ℕ). octets_cmp (x ++ flat_map (λ s. s) xs) (t ++ flat_map (λ s. s) ys) ≡ ordering_then (octets_cmp x t) (octets_cmp (flat_map (λ s. s) xs) (flat_map (λ s. s) ys)))
-    k.0.octets (subst (λ (t : List ℕ). octets_cmp (t ++ flat_map (λ s. s) xs) (own_piece k.0.pair ++ flat_map (λ s. s) ys)
-    ≡ ordering_then (octets_cmp t (own_piece k.0.pair)) (octets_cmp (flat_map (λ s. s) xs) (flat_map (λ s. s) ys))) h.0.octets
-    (pairs_then h.0.pair k.0.pair (flat_map (λ s. s) xs) (flat_map (λ s. s) ys) h.0.emittable k.0.emittable)))
+rows_cmp [] (q ∷ y) h k = refl
+rows_cmp (p ∷ x) [] h k = refl
+rows_cmp (p ∷ x) (q ∷ y) h k =
+    ap (ordering_then (piece_cmp p q)) (rows_cmp x y h.1 k.1) ∙ sym (pairs_then p q (flat_map (λ s. s) (own_pieces x)) (flat_map (λ s. s) (own_pieces y)) h.0 k.0)
 
--- records of options are ordered by the pieces in rising order
+-- records of options are ordered by their pairs in rising order
 pub by_pieces : (xs ys : List Pair) → pairs_emittable xs ≡ true → pairs_emittable ys ≡ true
-    → slice_cmp octets_cmp (sorted octets_cmp (own_pieces xs)) (sorted octets_cmp (own_pieces ys)) ≡ canonical_cmp opt_shape (opt_fields xs) (opt_fields ys)
+    → slice_cmp piece_cmp (sorted piece_cmp xs) (sorted piece_cmp ys) ≡ canonical_cmp opt_shape (opt_fields xs) (opt_fields ys)
 unfolding field_octets
 by_pieces xs ys h k =
-    rows_cmp (sorted octets_cmp (own_pieces xs)) (sorted octets_cmp (own_pieces ys)) (sorted_all octets_cmp IsOwn (own_pieces xs) (all_own xs h))
-    (sorted_all octets_cmp IsOwn (own_pieces ys) (all_own ys k))
+    rows_cmp (sorted piece_cmp xs) (sorted piece_cmp ys) (sorted_all xs (each_emittable xs h)) (sorted_all ys (each_emittable ys k))
+    ∙ (λ i. octets_cmp (flat_map (λ s. s) (sorted_pieces xs i)) (flat_map (λ s. s) (sorted_pieces ys i)))
     ∙ alone Options (map pair_value xs) (map pair_value ys)
+
+-- and are equal where these pairs are the same
+pub same_equal : (xs ys : List Pair) → sorted piece_cmp xs ≡ sorted piece_cmp ys → opt_eq xs ys ≡ true
+same_equal xs ys e =
+    let E = eq_by_cmp pair_cmp in
+    opt_ties xs ys ∙ ap is_eq (same_counts pair_cmp pair_total (risen xs) (risen ys) (sorted_risen pair_cmp pair_total xs) (sorted_risen pair_cmp pair_total ys)
+    (λ w. count_sorted pair_cmp (E w) xs ∙ sym (count_sorted piece_cmp (E w) xs) ∙ ap (count_by (E w)) e ∙ count_sorted piece_cmp (E w) ys ∙ sym (count_sorted pair_cmp (E w) ys)))

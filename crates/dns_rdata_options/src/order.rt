@@ -43,8 +43,8 @@ fn order_of_many(a: &OPT, b: &OPT) -> Option<Ordering>
 {
     let options = a.as_ref();
     let others = b.as_ref();
-    let order = headed_cmp(&Pieces { options }, &Pieces { options: others });
-    if order.is_ne() || a == b {
+    let (order, same) = headed_cmp(&Pieces { options }, &Pieces { options: others });
+    if order.is_ne() || same || a == b {
         return Some(order);
     }
     None
@@ -116,17 +116,17 @@ fn least_difference(
     Some(least)
 }
 
-// Whether they are of one variant and one number.
+/// Whether they are of one variant and one number.
 #[inline]
-fn is_code_alike(a: EdnsCode, b: EdnsCode) -> bool
+pub(crate) fn is_code_alike(a: EdnsCode, b: EdnsCode) -> bool
     ensures { IsTrue result → a ≡ b }
 {
     a == b
 }
 
-// Whether they are of one variant and hold the same.
+/// Whether they are of one variant and hold the same.
 #[inline]
-fn is_option_alike(a: &EdnsOption, b: &EdnsOption) -> bool
+pub(crate) fn is_option_alike(a: &EdnsOption, b: &EdnsOption) -> bool
     ensures { IsTrue result → a.now ≡ b.now }
 {
     a == b
