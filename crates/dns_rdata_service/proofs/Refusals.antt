@@ -84,4 +84,5 @@ no_path key body is wrong v h text = let e : form_of v ≡ form_for 7 = h.0 ∙ 
 pub key_none : (key : ℕ) (body : List ℕ) (e : DecodeError) → key_refusal key body e → UnlessMemory e (NoKeyValue key body)
 key_none key body e (inl h) = unless_map e _ _ (λ (n : HoldsNone (form_for key) body). record { none = λ v held text. n.none v held.0 held.1 held.2 })
     (value_none (form_for key) body e h)
-key_none key body e (inr h) = unless_all e (record { none = no_path key body h.0 h.1.1 })
+key_none key body e (inr (is, inl m)) = subst (λ (x : DecodeError). UnlessMemory x (NoKeyValue key body)) (sym m) tt
+key_none key body e (inr (is, inr h)) = unless_all e (record { none = no_path key body is h.1 })

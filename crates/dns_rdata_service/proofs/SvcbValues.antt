@@ -255,7 +255,8 @@ value_never AnyOctets body k (inr h) = elim h [ ]
 
 key_never : (key : ℕ) (body : List ℕ) (k : ℕ) → key_refusal key body (decode.UnknownRecordTypeValue k) → ⊥
 key_never key body k (inl h) = value_never (form_for key) body k h
-key_never key body k (inr h) = let e = h.1.0 in cc e
+key_never key body k (inr (is, inl e)) = cc e
+key_never key body k (inr (is, inr h)) = let e = h.0 in cc e
 
 parameter_never : (old new : Reading) (k : ℕ) → parameter_refusal old (decode.UnknownRecordTypeValue k) new → ⊥
 parameter_never old new k (inl h) = head_never old new k h

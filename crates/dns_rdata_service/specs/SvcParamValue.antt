@@ -176,9 +176,9 @@ form_refusal AnyOctets body e = ⊥
 abbrev pub value_refusal : Form → List ℕ → DecodeError → Type 0
 value_refusal form body e = (e ≡ decode.Memory) ⊎ form_refusal form body e
 
--- why octets are no path of DNS queries
+-- why octets are no path of DNS queries, or memory runs out
 abbrev pub path_refusal : List ℕ → DecodeError → Type 0
-path_refusal body e = (e ≡ decode.Utf8) × (IsUtf8 body → ⊥)
+path_refusal body e = (e ≡ decode.Memory) ⊎ ((e ≡ decode.Utf8) × (IsUtf8 body → ⊥))
 
 -- why octets are no value of a key
 abbrev pub key_refusal : ℕ → List ℕ → DecodeError → Type 0

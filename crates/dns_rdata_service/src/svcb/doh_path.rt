@@ -1,6 +1,6 @@
 //! The path of DNS queries over HTTPS.
 
-ghost use Rattle.std.specs.Prelude.{◌≡◌, ◌⊎◌, drop, IfErr, IfOk};
+ghost use Rattle.std.specs.Prelude.{◌≡◌, drop, IfErr, IfOk};
 ghost use Rattle.std.specs.String.{string_bytes};
 ghost use Rattle.dns_names_wire.specs.Words.{ReadsBy};
 ghost use Rattle.dns_rdata_service.specs.SvcParamValue.{doh_path_value, DohPathAt, path_refusal, EmitsValue};
@@ -30,13 +30,13 @@ impl DohPath {
 impl BinDecodable for DohPath {
     ghost stands = { DohPathAt };
 
-    ghost refuses = { λ old e _. (e ≡ DecodeError.Memory) ⊎ path_refusal (drop old.index old.message) e };
+    ghost refuses = { λ old e _. path_refusal (drop old.index old.message) e };
 
     /// Reads the octets to the message's end. What is not UTF-8 is refused by [`Utf8`](DecodeError::Utf8).
     #[inline]
     fn read(decoder: &mut BinDecoder<'_>) -> Result<DohPath, DecodeError>
         ensures reads { ReadsBy DohPathAt result decoder.old decoder.new }
-        ensures refused { IfErr result (λ e. (e ≡ DecodeError.Memory) ⊎ path_refusal (drop decoder.old.index decoder.old.message) e) }
+        ensures refused { IfErr result (path_refusal (drop decoder.old.index decoder.old.message)) }
     {
         let left = decoder.len();
         let path = decoder.read_slice(left)?.unverified();
