@@ -6,6 +6,7 @@ mod encoder;
 mod lists;
 mod made;
 mod made_certs;
+mod made_services;
 mod made_sets;
 mod options;
 mod placed;
