@@ -17,8 +17,8 @@ use dns_rdata_base::{A, AAAA};
 use std::alloc::{AllocError, Global};
 use std::fmt;
 
-/// The value of a service parameter (RFC 9460, 7 and 8; RFC 9461, 5). A value that is read is the one of its key; one that a caller
-/// makes may stand with any key.
+/// The value of a service parameter (RFC 9460, 7 and 8; RFC 9461, 5). A value that is read is the one of its key; one
+/// that a caller makes may stand with any key.
 #[derive(Debug, Drop, PartialEq, Eq, Hash)]
 pub enum SvcParamValue {
     /// Keys that a client must know.
