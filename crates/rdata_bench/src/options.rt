@@ -126,7 +126,7 @@ fn measure(rt: &(impl Clock + AllocGlobal + Print), order: &str, count: u16) -> 
     let sum = sum_of(&second.0);
     let canonical = begin.elapsed(rt)?.as_micros();
     let begin = Instant::now(rt)?;
-    let last = second.0.octet_at(u128::from(count) * 4 - 1);
+    let last = second.0.octet_at((u128::from(count) * 4).wrapping_sub(1));
     let at = begin.elapsed(rt)?.as_micros();
     println!(rt;
         "{order}\t{read}\t{equal}\t{hashed}\t{compared}\t{apart}\t{canonical}\t{at}\t{sum} {}",
