@@ -37,3 +37,15 @@ octet_of (kept c) = c
 abbrev pub stands_for : ℕ → Letter → Bool
 stands_for c (plain d) = d == c
 stands_for c (kept d) = false
+
+-- Each `\` has a meaning: behind it stand three digits of a number up to 255, or a character that is no digit.
+abbrev pub escapes_from : Place → List ℕ → Bool
+escapes_from between [] = true
+escapes_from place [] = false
+escapes_from between (c ∷ text) = if c == 92 then escapes_from backslash text else escapes_from between text
+escapes_from backslash (c ∷ text) = if is_digit c then escapes_from (one_digit (c - 48)) text else escapes_from between text
+escapes_from (one_digit n) (c ∷ text) = if is_digit c then escapes_from (two_digits (10 * n + (c - 48))) text else false
+escapes_from (two_digits n) (c ∷ text) = if is_digit c && nat_le (10 * n + (c - 48)) 255 then escapes_from between text else false
+
+abbrev pub escapes_stand : List ℕ → Bool
+escapes_stand text = escapes_from between text

@@ -1,2 +1,5 @@
 pub mod FieldReaders
 pub mod Letters
+pub mod Refusals
+pub mod Views
+pub mod Words

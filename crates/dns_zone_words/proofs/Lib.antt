@@ -1,0 +1,2 @@
+pub mod LetterSteps
+pub mod WordSteps

@@ -1,0 +1,8 @@
+-- What refusals are.
+use Rattle.dns_types.specs.declared.error.ParseError.{ParseError}
+use Rattle.dns_types.specs.declared.error.ParseError.TheVariants as parse
+
+-- a text says what is wrong
+abbrev pub IsMessage : ParseError → Type 0
+IsMessage (parse.Message text) = Unit {0}
+IsMessage e = ⊥
