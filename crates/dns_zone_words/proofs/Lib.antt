@@ -1,2 +1,5 @@
+pub mod DecimalSteps
+pub mod FirstSteps
 pub mod LetterSteps
+pub mod TextSteps
 pub mod WordSteps

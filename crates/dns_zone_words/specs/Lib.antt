@@ -1,5 +1,7 @@
 pub mod FieldReaders
+pub mod Forms
 pub mod Letters
 pub mod Refusals
 pub mod Views
 pub mod Words
+pub mod ZoneReads

@@ -1,10 +1,18 @@
 //! Words of zone files: a text is cut into words, a word into letters, and fields are read from words.
 #![tactic(auto)]
 
+pub mod fields;
 pub mod letter;
+pub mod numbers;
+pub mod texts;
 pub mod words;
 pub mod words_error;
 
+pub use fields::{
+    next_ipv4, next_ipv6, next_string, next_text, next_ttl, next_u8, next_u16, next_u32, some_word,
+};
 pub use letter::{Letter, Letters};
+pub use numbers::{u8_of, u16_of, u32_of};
+pub use texts::{ipv4_of, ipv6_of, string_of, text_of, ttl_of, type_of};
 pub use words::{ZoneWord, ZoneWords};
 pub use words_error::WordsError;
