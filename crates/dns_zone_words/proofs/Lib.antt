@@ -1,5 +1,6 @@
 pub mod DecimalSteps
 pub mod FirstSteps
 pub mod LetterSteps
+pub mod RemainingSteps
 pub mod TextSteps
 pub mod WordSteps

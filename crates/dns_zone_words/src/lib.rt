@@ -4,6 +4,7 @@
 pub mod fields;
 pub mod letter;
 pub mod numbers;
+pub mod remaining;
 pub mod texts;
 pub mod words;
 pub mod words_error;
@@ -13,6 +14,7 @@ pub use fields::{
 };
 pub use letter::{Letter, Letters};
 pub use numbers::{u8_of, u16_of, u32_of};
+pub use remaining::{all_base64, all_hex, is_unknown_mark, unknown_data};
 pub use texts::{ipv4_of, ipv6_of, string_of, text_of, ttl_of, type_of};
 pub use words::{ZoneWord, ZoneWords};
 pub use words_error::WordsError;

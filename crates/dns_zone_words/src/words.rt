@@ -109,6 +109,14 @@ impl<'a> ZoneWords<'a> {
         }
     }
 
+    /// How many octets of the text are left.
+    #[inline]
+    pub fn octets_left(&self) -> usize
+        ensures { result ≡ length self.now.text }
+    {
+        self.rest.len()
+    }
+
     // The words that are left, from the first octet of the next one on.
     fn skip_gaps(self) -> Result<ZoneWords<'a>, WordsError>
         ensures same { IfOk result (λ w. words_at w ≡ words_at self.entry) }
