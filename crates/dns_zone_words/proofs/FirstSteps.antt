@@ -1,5 +1,6 @@
 -- The next word of a text.
 use Rattle.std.proofs.Common.{◌≡◌, List, ◌∷◌, Result, Ok, Err, sym, ◌∙◌, subst}
+use Rattle.std.specs.Result.{IsErrAnd}
 use Rattle.dns_types.specs.declared.error.ParseError.{ParseError}
 use Rattle.dns_types.specs.declared.error.ParseError.TheVariants as parse
 use Rattle.dns_fields.specs.Fields.{Kind, Value}
@@ -27,3 +28,13 @@ pub first_read : {T : Type 0} {k : Kind} (form : ZoneForm k) (view : T → Value
     → words_at old ≡ with_word word (words_at new) → ReadsAs form view r word → ReadsFirst form view r old new
 first_read form view (Ok x) word old new first h = record { word = word; first = first; is = h }
 first_read form view (Err e) word old new first h = unless_map e (NoValueOf form word) (NoFirst form old) (none_first form word old new first) h
+
+unless_all : (e : ParseError) {P : Type 0} → P → UnlessMemory e P
+unless_all parse.Memory h = tt
+unless_all e h = h
+
+-- a refusal is handed on
+pub exit_word : {T : Type 0} {k : Kind} (form : ZoneForm k) (view : T → Value k) (r : Result T ParseError) (word : Word) (Q : ParseError → Type 0)
+    → IsErrAnd r Q → NoValueOf form word → ReadsAs form view r word
+exit_word form view (Ok x) word Q h none = elim h [ ]
+exit_word form view (Err e) word Q h none = unless_all e none

@@ -1,6 +1,8 @@
 pub mod FieldReaders
 pub mod Forms
 pub mod Letters
+pub mod NameSteps
+pub mod NameWords
 pub mod Refusals
 pub mod Remaining
 pub mod Views

@@ -3,6 +3,7 @@
 
 pub mod fields;
 pub mod letter;
+pub mod names;
 pub mod numbers;
 pub mod remaining;
 pub mod texts;
@@ -13,6 +14,7 @@ pub use fields::{
     next_ipv4, next_ipv6, next_string, next_text, next_ttl, next_u8, next_u16, next_u32, some_word,
 };
 pub use letter::{Letter, Letters};
+pub use names::{name_of, next_name};
 pub use numbers::{u8_of, u16_of, u32_of};
 pub use remaining::{all_base64, all_hex, is_unknown_mark, unknown_data};
 pub use texts::{ipv4_of, ipv6_of, string_of, text_of, ttl_of, type_of};
