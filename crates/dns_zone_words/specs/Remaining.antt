@@ -1,4 +1,4 @@
--- All words that are left of a text, as one: base64, hexadecimal digits, and the form of unknown data (RFC 3597, 5).
+-- All words that are left of a text: strings, base64, hexadecimal digits, and the form of unknown data (RFC 3597, 5).
 use Rattle.std.specs.Prelude.{◌≡◌, ℕ, ◌^◌, ◌<◌, false, List, [], ◌∷◌, Result, Ok, Err, length}
 use Rattle.std.specs.List.{flat_map}
 use Rattle.base64.specs.Engines.{standard}
@@ -6,7 +6,7 @@ use Rattle.base64.specs.GeneralPurpose.{decode_of as base64_of}
 use Rattle.hex.specs.Hex.{decode_of as hex_of}
 use Rattle.dns_types.specs.declared.error.ParseError.{ParseError}
 use Rattle.dns_words.specs.Reads.{UnlessMemory}
-use Rattle.dns_zone_words.specs.Forms.{IsNumber}
+use Rattle.dns_zone_words.specs.Forms.{IsNumber, string}
 use Rattle.dns_zone_words.specs.Words.{Word, Cursor, words_at}
 
 -- none of the words stands in quotes
@@ -37,6 +37,12 @@ pub record AreBase64 (octets : List ℕ) (words : List Word) : Type 0 where
 abbrev pub AreUnknown : List ℕ → List Word → Type 0
 AreUnknown octets [] = ⊥
 AreUnknown octets (first ∷ words) = IsNumber (length octets) first × (length octets < 2 ^ 16) × AreHex octets words
+
+-- each word is a character string
+abbrev pub AreStrings : List (List ℕ) → List Word → Type 0
+AreStrings [] [] = Unit {0}
+AreStrings (octets ∷ strings) (word ∷ words) = string.is octets word × AreStrings strings words
+AreStrings strings words = ⊥
 
 -- the word `\#` without quotes, which begins the form of unknown data
 pub record IsUnknownMark (word : Word) : Type 0 where

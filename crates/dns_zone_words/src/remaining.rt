@@ -1,15 +1,18 @@
-//! All words that are left of a text: base64, hexadecimal digits, and the form of unknown data (RFC 3597, 5).
+//! All words that are left of a text: strings, base64, hexadecimal digits, and the form of unknown data (RFC 3597, 5).
 
-ghost use Rattle.std.specs.Prelude.{◌≡◌, ◌↔◌, ◌⊎◌, IsTrue, IfErr};
-ghost use Rattle.dns_zone_words.specs.Refusals.{IsMessage};
-ghost use Rattle.dns_zone_words.specs.Remaining.{AreJoined, AreHex, AreBase64, AreUnknown, IsUnknownMark, ReadsAll};
+ghost use Rattle.std.specs.Prelude.{◌≡◌, ◌≢◌, ◌↔◌, ◌⊎◌, [], Ok, IsTrue, IfErr, OnOk, OnErr};
+ghost use Rattle.dns_zone_words.specs.Refusals.{IsMessage, IsMissing};
+ghost use Rattle.dns_zone_words.specs.Remaining.{AreJoined, AreHex, AreBase64, AreUnknown, AreStrings, IsUnknownMark, ReadsAll};
 ghost use Rattle.dns_zone_words.specs.Views.{word_value};
+ghost use Rattle.dns_zone_words.specs.Words.{words_at};
+ghost use Rattle.dns_zone_words.specs.ZoneReads.{IsCutRefused};
 
 use crate::fields::next_u16;
+use crate::texts::string_of;
 use crate::words::{ZoneWord, ZoneWords};
 use base64::DecodeAllocError;
 use base64::engine::general_purpose::STANDARD;
-use dns_types::{Octets, ParseError};
+use dns_types::{Octets, ParseError, Strings};
 use dns_words::{Field, number_field};
 use hex::FromHexError;
 use std::alloc::Global;
@@ -68,6 +71,7 @@ pub fn all_base64(
 /// and by [`Message`](ParseError::Message) where it is no number, or where what follows is something else.
 pub fn unknown_data(alloc: Global, words: &mut ZoneWords<'_>) -> Result<Octets, ParseError>
     ensures reads { ReadsAll AreUnknown (λ x. x) result words.old }
+    ensures why { IfErr result (λ e. (e ≡ ParseError.Memory) ⊎ IsMissing e ⊎ IsMessage e) }
 {
     let length = next_u16(words, UNKNOWN_LENGTH)?;
     let octets = all_hex(alloc, words, UNKNOWN_DATA)?;
@@ -75,6 +79,40 @@ pub fn unknown_data(alloc: Global, words: &mut ZoneWords<'_>) -> Result<Octets, 
         return Err(ParseError::Message(UNKNOWN_DATA));
     }
     Ok(octets)
+}
+
+/// All words that are left as character strings of at most 255 octets; no words give none. Any other word is refused by
+/// [`Message`](ParseError::Message) of the text `wrong`.
+pub fn all_strings(
+    alloc: Global,
+    words: &mut ZoneWords<'_>,
+    wrong: &'static str,
+) -> Result<Strings, ParseError>
+    ensures reads { ReadsAll AreStrings (λ x. x) result words.old }
+    ensures why { IfErr result (λ e. (e ≡ ParseError.Memory) ⊎ IsMessage e) }
+{
+    let mut strings = Strings::new(alloc);
+    'words: loop {
+        match words.next_word()? {
+            Some(word) => {
+                let string = string_of(alloc, word, wrong)?;
+                strings.push(string)?;
+            }
+            None => return Ok(strings),
+        }
+    }
+}
+
+/// That no word is left. Refused by [`Message`](ParseError::Message): of the text `surplus` where one is.
+pub fn no_more(words: &mut ZoneWords<'_>, surplus: &'static str) -> Result<(), ParseError>
+    ensures took { OnOk result (words_at words.old ≡ Ok []) }
+    ensures refused { OnErr result (words_at words.old ≢ Ok []) }
+    ensures why { IfErr result (λ e. (e ≡ ParseError.Message surplus.entry) ⊎ IsCutRefused words.old e) }
+{
+    match words.next_word()? {
+        Some(_) => Err(ParseError::Message(surplus)),
+        None => Ok(()),
+    }
 }
 
 // The octets of all words that are left, one behind the other. A word in quotes is refused.

@@ -1,6 +1,6 @@
 //! Strings, times to live, addresses and record types in words.
 
-ghost use Rattle.std.specs.Prelude.{◌≡◌, ◌⊎◌, IfErr};
+ghost use Rattle.std.specs.Prelude.{◌≡◌, ◌≢◌, ◌⊎◌, ◌↔◌, slice_index, EachIndex, IsTrue, IfErr};
 ghost use Rattle.std.specs.Net.Addr.{ipv4_octets, ipv6_octets};
 ghost use Rattle.dns_words.specs.Forms.{ttl, ipv4, ipv6};
 ghost use Rattle.dns_words.specs.Reads.{Decides};
@@ -37,6 +37,9 @@ pub fn text_of(alloc: Global, word: ZoneWord<'_>, wrong: &'static str) -> Result
     ensures reads { ReadsAs text (λ x. x) result (word_value word.entry) }
     ensures why { IfErr result (λ e. (e ≡ ParseError.Memory) ⊎ (e ≡ ParseError.Message wrong.entry)) }
 {
+    if has_no_escape(word.raw) {
+        return Ok(Octets::from_slice(alloc, word.raw)?);
+    }
     let mut octets = Vec::with_capacity(alloc, word.raw.len())?;
     let mut letters = word.letters();
     'letters: loop {
@@ -45,6 +48,14 @@ pub fn text_of(alloc: Global, word: ZoneWord<'_>, wrong: &'static str) -> Result
             None => return Ok(Octets::from_vec(octets)),
         }
     }
+}
+
+// Whether no `\` stands in the text.
+#[inline]
+fn has_no_escape(text: &[u8]) -> bool
+    ensures { IsTrue result ↔ EachIndex text.now (λ k. slice_index text.now k ≢ 92) }
+{
+    text.iter().all(|octet| *octet != b'\\')
 }
 
 /// A time to live of 32 bits, without quotes: runs of digits, each followed by `w`, `d`, `h`, `m` or `s` of either
