@@ -3,7 +3,8 @@ use Rattle.std.proofs.Common.{◌≡◌, ℕ, ◌+◌, ◌<◌, Bool, true, fals
 use Rattle.std.proofs.Math.Seq.{take-suc, drop-cons}
 use Rattle.dns_zone_words.specs.declared.words_error.WordsError.{WordsError}
 use Rattle.dns_zone_words.specs.declared.words_error.WordsError.TheVariants.{NoParenthesis, LineInQuotes, FurtherLine}
-use Rattle.dns_zone_words.specs.Words.{is_blank, is_line_end, between, quotes, over, over_comment, refused, words_from, QuotesRefused}
+use Rattle.dns_zone_words.specs.Words.{is_blank, is_line_end, between, quotes, over, over_comment, refused, words_from}
+use Rattle.dns_zone_words.specs.WordSteps.{QuotesRefused}
 
 -- a refused text stays so
 pub stays_refused : (e : WordsError) (text : List ℕ) → words_from (refused e) text ≡ Err e

@@ -6,5 +6,6 @@ pub mod NameWords
 pub mod Refusals
 pub mod Remaining
 pub mod Views
+pub mod WordSteps
 pub mod Words
 pub mod ZoneReads

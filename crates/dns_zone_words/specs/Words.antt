@@ -1,5 +1,5 @@
 -- The words of a text of a zone file (RFC 1035, 5.1).
-use Rattle.std.specs.Prelude.{◌≡◌, ℕ, zero, suc, ◌+◌, take, drop, Bool, true, false, ◌==◌, ◌||◌, if◌then◌else◌, List, [], ◌∷◌, ◌++◌, Result, Ok, Err}
+use Rattle.std.specs.Prelude.{ℕ, zero, suc, Bool, true, false, ◌==◌, ◌||◌, if◌then◌else◌, List, [], ◌∷◌, ◌++◌, Result, Ok, Err}
 use Rattle.dns_zone_words.specs.declared.words_error.WordsError.{WordsError}
 use Rattle.dns_zone_words.specs.declared.words_error.WordsError.TheVariants.{OpenParenthesis, NoParenthesis, OpenQuotes, LineInQuotes, FurtherLine}
 
@@ -123,22 +123,3 @@ words_at cursor = words_from (between cursor.depth cursor.joined) cursor.text
 -- the words of a text
 abbrev pub zone_words : List ℕ → Result (List Word) WordsError
 zone_words text = words_from (between zero false) text
-
--- no gap stands first
-abbrev pub NoGap : List ℕ → Type 0
-NoGap [] = Unit {0}
-NoGap (c ∷ text) = begins_gap c ≡ false
-
--- the first n octets are a word without quotes, wherever it stands
-pub record RunTaken (text : List ℕ) (n : ℕ) : Type 0 where
-  pub word : (depth : ℕ) (joined : Bool) → words_from (run depth joined []) text
-      ≡ with_word (record { octets = take n text; quoted = false; joined = joined }) (words_from (between depth true) (drop n text))
-
--- the first n octets are a word within quotes, and one octet more ends it
-pub record QuotesTaken (text : List ℕ) (n : ℕ) : Type 0 where
-  pub word : (depth : ℕ) (joined : Bool) → words_from (quotes depth joined []) text
-      ≡ with_word (record { octets = take n text; quoted = true; joined = joined }) (words_from (between depth true) (drop (n + 1) text))
-
--- no quotes end in the text
-pub record QuotesRefused (text : List ℕ) (e : WordsError) : Type 0 where
-  pub why : (depth : ℕ) (joined : Bool) → words_from (quotes depth joined []) text ≡ Err e
