@@ -12,7 +12,6 @@ mod types;
 mod wire;
 mod words;
 mod zone_texts;
-mod zone_words;
 
 use anyhow::{Result, bail};
 use replay::{Interpreter, replay};
@@ -88,7 +87,6 @@ fn answer_to_two(alloc: Global, command: &str, first: &str, second: &str) -> Res
         "octet" => names::octet(alloc, first, second),
         "same" => octets::same(alloc, first, second),
         "first" => words::first(alloc, first, second),
-        "zone-field" => zone_words::field(alloc, first, second),
         _ => bail!("no such command"),
     }
 }
