@@ -1,0 +1,40 @@
+-- The next word of a text.
+use Rattle.std.proofs.Common.{◌≡◌, List, ◌∷◌, Result, Ok, Err, sym, ◌∙◌, subst}
+use Rattle.std.specs.Result.{IsErrAnd}
+use Rattle.dns_types.specs.declared.error.ParseError.{ParseError}
+use Rattle.dns_types.specs.declared.error.ParseError.TheVariants as parse
+use Rattle.dns_fields.specs.Fields.{Kind, Value}
+use Rattle.dns_words.specs.Reads.{UnlessMemory}
+use Rattle.dns_zone_words.specs.Forms.{ZoneForm}
+use Rattle.dns_zone_words.specs.Words.{Word, Cursor, words_at, with_word}
+use Rattle.dns_zone_words.specs.ZoneReads.{NoValueOf, ReadsAs, FirstHas, NoFirst, ReadsFirst}
+use Rattle.dns_zone_words.specs.declared.words_error.WordsError.{WordsError}
+
+pub unless_map : (e : ParseError) (P Q : Type 0) → (P → Q) → UnlessMemory e P → UnlessMemory e Q
+unless_map parse.Memory P Q f h = tt
+unless_map e P Q f h = f h
+
+-- the first of the words is the one that stands in front
+pub first_is : {k : Kind} (form : ZoneForm k) (v : Value k) (word : Word) (behind : Result (List Word) WordsError) (words : List Word)
+    → with_word word behind ≡ Ok words → FirstHas form v words → form.is v word
+first_is form v word (Ok others) words e has = let same : word ∷ others ≡ words = cc in subst (FirstHas form v) (sym same) has
+first_is form v word (Err why) words e has = absurd (cc)
+
+none_first : {k : Kind} (form : ZoneForm k) (word : Word) (old new : Cursor) → words_at old ≡ with_word word (words_at new) → NoValueOf form word → NoFirst form old
+none_first form word old new first h = record { none = λ v words e has. h.none v (first_is form v word (words_at new) words (sym first ∙ e) has) }
+
+-- what a reader of a word answers for the first word
+pub first_read : {T : Type 0} {k : Kind} (form : ZoneForm k) (view : T → Value k) (r : Result T ParseError) (word : Word) (old new : Cursor)
+    → words_at old ≡ with_word word (words_at new) → ReadsAs form view r word → ReadsFirst form view r old new
+first_read form view (Ok x) word old new first h = record { word = word; first = first; is = h }
+first_read form view (Err e) word old new first h = unless_map e (NoValueOf form word) (NoFirst form old) (none_first form word old new first) h
+
+unless_all : (e : ParseError) {P : Type 0} → P → UnlessMemory e P
+unless_all parse.Memory h = tt
+unless_all e h = h
+
+-- a refusal is handed on
+pub exit_word : {T : Type 0} {k : Kind} (form : ZoneForm k) (view : T → Value k) (r : Result T ParseError) (word : Word) (Q : ParseError → Type 0)
+    → IsErrAnd r Q → NoValueOf form word → ReadsAs form view r word
+exit_word form view (Ok x) word Q h none = elim h [ ]
+exit_word form view (Err e) word Q h none = unless_all e none

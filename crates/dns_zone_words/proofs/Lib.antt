@@ -1,0 +1,7 @@
+pub mod DecimalSteps
+pub mod FirstSteps
+pub mod LetterSteps
+pub mod NameLabels
+pub mod RemainingSteps
+pub mod TextSteps
+pub mod WordSteps

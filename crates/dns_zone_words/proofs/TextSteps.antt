@@ -1,0 +1,75 @@
+-- What is no word of a field. Texts of times to live and of record types are ASCII.
+use Rattle.std.proofs.Common.{◌≡◌, ℕ, zero, suc, ◌<◌, true, List, [], ◌∷◌, refl, arith, inl, inr}
+use Rattle.std.specs.Prelude.{codes, IsTrue, ◌&&◌, Bool, false}
+use Rattle.std.specs.Char.{is_ascii}
+use Rattle.std.specs.List.{list_all}
+use Rattle.std.specs.Str.{IsUtf8, IsAscii}
+use Rattle.std.specs.Net.Grammar.{IsIpv4Text, IsIpv6Text}
+use Rattle.std.specs.declared.net.ipv4_addr.Ipv4Addr.{Ipv4Addr}
+use Rattle.std.specs.declared.net.ipv6_addr.Ipv6Addr.{Ipv6Addr}
+use Rattle.std.proofs.lemmas.Bool.Decides.{nat_tests}
+use Rattle.std.proofs.lemmas.Fmt.{IsAscii-from_digits}
+use Rattle.std.proofs.lemmas.Str.{IsUtf8-from_ascii, IsUtf8-append, IsUtf8-nil}
+use Rattle.dns_text.specs.Ttl.{IsUnit, weeks, days, hours, minutes, seconds, Periods, plain, last, next}
+use Rattle.dns_types.specs.RecordTypes.{is_named, type_text, IsTypeText}
+use Rattle.dns_types.specs.declared.record_type.RecordType.{RecordType}
+use Rattle.dns_types.specs.declared.record_type.RecordType.TheVariants as types
+use Rattle.dns_words.specs.Forms.{ttl, ipv4, ipv6}
+use Rattle.dns_words.specs.Reads.{NoValue}
+use Rattle.dns_zone_words.specs.Forms.{bare, IsType}
+use Rattle.dns_zone_words.specs.Words.{Word}
+use Rattle.dns_zone_words.specs.ZoneReads.{NoValueOf}
+
+-- a word of no address is none of the form
+pub no_ipv4 : (word : Word) → ((a : Ipv4Addr) → ¬ (IsIpv4Text word.octets a)) → NoValueOf (bare ipv4) word
+no_ipv4 word isnt = record { none = λ v is. isnt is.1.0 is.1.1 }
+
+pub no_ipv6 : (word : Word) → ((a : Ipv6Addr) → ¬ (IsIpv6Text word.octets a)) → NoValueOf (bare ipv6) word
+no_ipv6 word isnt = record { none = λ v is. isnt is.1.0 is.1.1 }
+
+-- ---- times to live
+
+one_ascii : (c : ℕ) → c < 128 → IsAscii (c ∷ [])
+one_ascii c h zero = h
+one_ascii c h (suc i) = omega arith
+
+one_utf8 : (c : ℕ) → c < 128 → IsUtf8 (c ∷ [])
+one_utf8 c h = IsUtf8-from_ascii (c ∷ []) (one_ascii c h)
+
+unit_small : {c n : ℕ} → IsUnit c n → c < 128
+unit_small {c} (weeks e) = grind (arith, nat_tests, e)
+unit_small {c} (days e) = grind (arith, nat_tests, e)
+unit_small {c} (hours e) = grind (arith, nat_tests, e)
+unit_small {c} (minutes e) = grind (arith, nat_tests, e)
+unit_small {c} (seconds e) = grind (arith, nat_tests, e)
+
+periods_utf8 : {text : List ℕ} {sum : ℕ} → Periods text sum → IsUtf8 text
+periods_utf8 {text} (plain digits e) = IsUtf8-from_ascii text (IsAscii-from_digits text digits.1)
+periods_utf8 (last {unit = unit} front digits is same e) = rw same (IsUtf8-append front (unit ∷ []) (IsUtf8-from_ascii front (IsAscii-from_digits front digits.1)) (one_utf8 unit (unit_small is)))
+periods_utf8 (next {rest = rest} {unit = unit} front digits is more same e) =
+    rw same (IsUtf8-append front (unit ∷ rest) (IsUtf8-from_ascii front (IsAscii-from_digits front digits.1)) (IsUtf8-append (unit ∷ []) rest (one_utf8 unit (unit_small is)) (periods_utf8 more)))
+
+pub no_ttl : (word : Word) (most : ℕ) → ¬ (IsUtf8 word.octets) → NoValueOf (bare (ttl most)) word
+no_ttl word most isnt = record { none = λ v is. isnt (periods_utf8 is.1.0.sum) }
+
+-- ---- record types
+
+second_true : (a b : Bool) → a && b ≡ true → b ≡ true
+second_true true b h = h
+second_true false b h = absurd (cc h)
+
+-- each octet is ASCII
+ascii_utf8 : (text : List ℕ) → list_all is_ascii text ≡ true → IsUtf8 text
+ascii_utf8 [] h = IsUtf8-nil
+ascii_utf8 (c ∷ text) h = IsUtf8-append (c ∷ []) text (one_utf8 c (grind (arith, nat_tests))) (ascii_utf8 text (second_true (is_ascii c) (list_all is_ascii text) h))
+
+name_utf8 : (t : RecordType) → IsTrue (is_named t) → IsUtf8 (type_text t)
+name_utf8 (types.Unknown n) h = absurd (cc h)
+name_utf8 t h = ascii_utf8 _ refl
+
+type_utf8 : (text : List ℕ) (t : RecordType) → IsTypeText text t → IsUtf8 text
+type_utf8 text t (inl is) = rw is.printed (name_utf8 t is.named)
+type_utf8 text t (inr is) = rw is.spelled (IsUtf8-append (codes "TYPE") is.digits (ascii_utf8 _ refl) (IsUtf8-from_ascii is.digits (IsAscii-from_digits is.digits is.numeral.1)))
+
+pub no_type : (word : Word) → ¬ (IsUtf8 word.octets) → NoValue (λ t. IsType t word)
+no_type word isnt = record { none = λ t is. isnt (type_utf8 word.octets t is.text) }

@@ -1,0 +1,74 @@
+-- Words of a text, octet by octet.
+use Rattle.std.proofs.Common.{◌≡◌, ℕ, ◌+◌, ◌<◌, Bool, true, false, eqb, List, [], ◌∷◌, ◌++◌, length, take, drop, get_or, refl, sym, ◌∙◌, ap, add-one, arith, Err}
+use Rattle.std.proofs.Math.Seq.{take-suc, drop-cons}
+use Rattle.dns_zone_words.specs.declared.words_error.WordsError.{WordsError}
+use Rattle.dns_zone_words.specs.declared.words_error.WordsError.TheVariants.{NoParenthesis, LineInQuotes, FurtherLine}
+use Rattle.dns_zone_words.specs.Words.{is_blank, is_line_end, between, quotes, over, over_comment, refused, words_from}
+use Rattle.dns_zone_words.specs.WordSteps.{QuotesRefused}
+
+-- a refused text stays so
+pub stays_refused : (e : WordsError) (text : List ℕ) → words_from (refused e) text ≡ Err e
+stays_refused e [] = refl
+stays_refused e (c ∷ text) = stays_refused e text
+
+-- ---- strings in quotes
+
+next_drop : (text : List ℕ) (n : ℕ) → n < length text → drop n text ≡ get_or text n 0 ∷ drop (n + 1) text
+next_drop text n h = rw add-one (drop-cons text n 0 h)
+
+next_take : (text : List ℕ) (n : ℕ) → n < length text → take (n + 1) text ≡ take n text ++ get_or text n 0 ∷ []
+next_take text n h = rw add-one (take-suc text n 0 h)
+
+-- the first n octets stand in the quotes, and more may
+abbrev pub QuotesOn : List ℕ → ℕ → Type 0
+QuotesOn text n = (depth : ℕ) (joined : Bool) → words_from (quotes depth joined []) text ≡ words_from (quotes depth joined (take n text)) (drop n text)
+
+line_feed : (depth : ℕ) (joined : Bool) (front : List ℕ) (c : ℕ) (text : List ℕ) → eqb c 34 ≡ false → eqb c 10 ≡ true
+    → words_from (quotes depth joined front) (c ∷ text) ≡ Err LineInQuotes
+line_feed depth joined front c text h k = rw (h, k) (stays_refused LineInQuotes text)
+
+pub quotes_line : (text : List ℕ) (n : ℕ) → QuotesOn text n → n < length text → eqb (get_or text n 0) 34 ≡ false → eqb (get_or text n 0) 10 ≡ true
+    → QuotesRefused text LineInQuotes
+quotes_line text n so lt h k = record {
+  why = λ depth joined.
+      so depth joined
+      ∙ ap (words_from (quotes depth joined (take n text))) (next_drop text n lt)
+      ∙ line_feed depth joined (take n text) (get_or text n 0) (drop (n + 1) text) h k;
+}
+
+pair : (depth : ℕ) (joined : Bool) (front : List ℕ) (c d : ℕ) (text : List ℕ) → eqb c 34 ≡ false → eqb c 10 ≡ false → eqb c 92 ≡ true
+    → words_from (quotes depth joined front) (c ∷ d ∷ text) ≡ words_from (quotes depth joined ((front ++ c ∷ []) ++ d ∷ [])) text
+pair depth joined front c d text h k e = rw (h, k, e) refl
+
+pub quotes_two : (text : List ℕ) (n : ℕ) → QuotesOn text n → n + 1 < length text → eqb (get_or text n 0) 34 ≡ false → eqb (get_or text n 0) 10 ≡ false
+    → eqb (get_or text n 0) 92 ≡ true → QuotesOn text (n + 2)
+quotes_two text n so lt h k e depth joined =
+    let first : drop n text ≡ get_or text n 0 ∷ drop (n + 1) text = next_drop text n (omega arith) in
+    let second : drop (n + 1) text ≡ get_or text (n + 1) 0 ∷ drop (n + 1 + 1) text = next_drop text (n + 1) lt in
+    let front : take (n + 1 + 1) text ≡ (take n text ++ get_or text n 0 ∷ []) ++ get_or text (n + 1) 0 ∷ [] =
+    next_take text (n + 1) lt ∙ ap (λ (x : List ℕ). x ++ get_or text (n + 1) 0 ∷ []) (next_take text n (omega arith)) in
+    let two : n + 1 + 1 ≡ n + 2 = omega arith in
+    rw (← two) (
+    so depth joined
+    ∙ ap (words_from (quotes depth joined (take n text))) (first ∙ ap (λ (x : List ℕ). get_or text n 0 ∷ x) second)
+    ∙ pair depth joined (take n text) (get_or text n 0) (get_or text (n + 1) 0) (drop (n + 1 + 1) text) h k e
+    ∙ ap (λ (x : List ℕ). words_from (quotes depth joined x) (drop (n + 1 + 1) text)) (sym front)
+    )
+
+-- ---- behind the line
+
+pub further : (text : List ℕ) → 0 < length text → is_blank (get_or text 0 0) ≡ false → is_line_end (get_or text 0 0) ≡ false → eqb (get_or text 0 0) 59 ≡ false
+    → words_from over text ≡ Err FurtherLine
+further [] some h k e = absurd (omega arith)
+further (c ∷ text) some h k e = rw (h, k, e) (stays_refused FurtherLine text)
+
+pub over_remark : (text : List ℕ) → 0 < length text → get_or text 0 0 ≡ 59 → words_from over text ≡ words_from over_comment (drop 1 text)
+over_remark [] some h = absurd (omega arith)
+over_remark (c ∷ text) some h = rw h refl
+
+-- ---- between words
+
+pub closes_nothing : (depth : ℕ) (joined : Bool) (text : List ℕ) → depth ≡ 0 → 0 < length text → get_or text 0 0 ≡ 41
+    → words_from (between depth joined) text ≡ Err NoParenthesis
+closes_nothing depth joined [] none some h = absurd (omega arith)
+closes_nothing depth joined (c ∷ text) none some h = rw (none, h) (stays_refused NoParenthesis text)

@@ -1,0 +1,6 @@
+use Rattle.dns_zone_words.proofs.TextSteps.{no_type}
+use Rattle.dns_zone_words.specs.Views.{word_value}
+use Rattle.dns_zone_words.proofs.texts.type_of.Goals as goal
+
+pub returns-in-Err-clause-reads : goal.returns-in-Err-clause-reads
+returns-in-Err-clause-reads c = no_type (word_value c.args.word) c.in-Err.ensures.cases.0

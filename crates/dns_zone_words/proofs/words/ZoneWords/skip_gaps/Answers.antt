@@ -1,0 +1,7 @@
+use Rattle.std.proofs.Common.{arith, ◌∙◌, sym}
+use Rattle.dns_zone_words.proofs.WordSteps.{closes_nothing}
+use Rattle.dns_zone_words.proofs.words.ZoneWords.skip_gaps.Goals as goal
+
+pub returns-then-depth-eq0-clause-refused : goal.returns-then-depth-eq0-clause-refused
+returns-then-depth-eq0-clause-refused c =
+    sym c.gaps.invariant.same ∙ closes_nothing c.gaps.depth c.gaps.joined c.gaps.rest.now (omega arith) (omega arith) (omega arith)

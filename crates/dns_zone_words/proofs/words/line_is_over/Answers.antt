@@ -1,0 +1,8 @@
+use Rattle.std.proofs.Common.{arith, ◌∙◌}
+use Rattle.std.proofs.lemmas.Bool.Decides.{nat_tests}
+use Rattle.dns_zone_words.proofs.WordSteps.{further}
+use Rattle.dns_zone_words.proofs.words.line_is_over.Goals as goal
+
+pub returns-then-not-is_line_end-clause-refused : goal.returns-then-not-is_line_end-clause-refused
+returns-then-not-is_line_end-clause-refused c =
+    c.gaps.invariant ∙ further c.gaps.rest.now (omega arith) (grind (arith, nat_tests)) (grind (arith, nat_tests)) (grind (arith, nat_tests))

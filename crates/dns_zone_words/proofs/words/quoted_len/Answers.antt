@@ -1,0 +1,13 @@
+use Rattle.std.proofs.Common.{arith}
+use Rattle.std.proofs.lemmas.Bool.Decides.{nat_tests}
+use Rattle.dns_zone_words.proofs.WordSteps.{quotes_line, quotes_two}
+use Rattle.dns_zone_words.proofs.words.quoted_len.Goals as goal
+
+pub returns-then-text-at-eq10-clause-refused : goal.returns-then-text-at-eq10-clause-refused
+returns-then-text-at-eq10-clause-refused c = quotes_line c.args.text.now c.octets.at c.octets.invariant.so (omega arith) (grind (arith, nat_tests)) (grind (arith, nat_tests))
+
+pub octets-preserved-then-at-text : goal.octets-preserved-then-at-text
+octets-preserved-then-at-text c = record {
+  within = omega arith;
+  so = quotes_two c.args.text.now c.octets.at c.octets.invariant.so (omega arith) (grind (arith, nat_tests)) (grind (arith, nat_tests)) (grind (arith, nat_tests));
+}

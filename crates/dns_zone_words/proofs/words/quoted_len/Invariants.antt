@@ -1,0 +1,13 @@
+use Rattle.std.proofs.Common.{◌≡◌, ℕ, Bool, [], length, take, drop, ◌-◌, ◌≤◌}
+use Rattle.dns_zone_words.specs.Words.{quotes, words_from}
+use Rattle.dns_zone_words.proofs.words.quoted_len.Given as goal
+
+-- the word is what was passed so far, and goes on
+abbrev pub invariant-octets : goal.invariant-octets
+invariant-octets l = record {
+  within : l.at ≤ length l.text;
+  so : (depth : ℕ) (joined : Bool) → words_from (quotes depth joined []) l.text ≡ words_from (quotes depth joined (take l.at l.text)) (drop l.at l.text);
+}
+
+abbrev pub decreases-octets : goal.decreases-octets
+decreases-octets l = length l.text - l.at

@@ -1,0 +1,11 @@
+pub mod FieldReaders
+pub mod Forms
+pub mod Letters
+pub mod NameSteps
+pub mod NameWords
+pub mod Refusals
+pub mod Remaining
+pub mod Views
+pub mod WordSteps
+pub mod Words
+pub mod ZoneReads

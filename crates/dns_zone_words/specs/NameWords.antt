@@ -1,0 +1,49 @@
+-- Names in words (RFC 1035, 5.1).
+use Rattle.std.specs.Prelude.{◌≡◌, ℕ, Bool, true, false, ◌==◌, if◌then◌else◌, List, [], ◌∷◌, ◌++◌, Option, Some}
+use Rattle.dns_fields.specs.Fields.{Name}
+use Rattle.dns_fields.specs.Labels.{DomainName, IsName}
+use Rattle.dns_names_wire.specs.NameValues.{root_name, completed}
+use Rattle.dns_zone_words.specs.Forms.{ZoneForm}
+use Rattle.dns_zone_words.specs.Letters.{Letter, letters, octet_of, stands_for, escapes_stand}
+use Rattle.dns_zone_words.specs.Words.{Word}
+
+-- the octets of letters, cut at their dots, behind the front of a part
+abbrev pub parts_from : List ℕ → List Letter → List (List ℕ)
+parts_from front [] = front ∷ []
+parts_from front (x ∷ xs) = if stands_for 46 x then front ∷ parts_from [] xs else parts_from (front ++ octet_of x ∷ []) xs
+
+abbrev pub with_label : List ℕ → DomainName → DomainName
+with_label label name = record name { labels = label ∷ name.labels }
+
+-- the name with these parts as labels; an empty part at the end is none, and marks it as fully qualified
+abbrev pub name_of_parts : List (List ℕ) → DomainName
+name_of_parts [] = record { labels = []; fully_qualified = false }
+name_of_parts ([] ∷ []) = root_name
+name_of_parts (part ∷ parts) = with_label part (name_of_parts parts)
+
+-- the name whose labels the text has, joined by dots
+abbrev pub labelled : List ℕ → DomainName
+labelled text = name_of_parts (parts_from [] (letters text))
+
+-- the text is this character alone
+abbrev pub is_alone : ℕ → List ℕ → Bool
+is_alone c (d ∷ []) = d == c
+is_alone c text = false
+
+-- `@` is the origin, and a dot the root; any other text has labels, which the origin completes where no dot ends them
+abbrev pub named : Option DomainName → List ℕ → Option DomainName
+named origin text =
+    if is_alone 64 text then origin
+    else if is_alone 46 text then Some root_name
+    else Some (completed (labelled text) origin)
+
+-- the word is this name, without quotes
+pub record IsNameWord (origin : Option DomainName) (name : DomainName) (word : Word) : Type 0 where
+  pub bare : word.quoted ≡ false
+  pub escapes : escapes_stand word.octets ≡ true
+  pub named : named origin word.octets ≡ Some name
+  pub is_name : IsName name
+
+-- a name, which an origin completes
+abbrev pub name : Option DomainName → ZoneForm Name
+name origin = record { is = IsNameWord origin }

@@ -1,0 +1,65 @@
+-- All words that are left of a text: strings, base64, hexadecimal digits, and the form of unknown data (RFC 3597, 5).
+use Rattle.std.specs.Prelude.{◌≡◌, ℕ, ◌^◌, ◌<◌, false, List, [], ◌∷◌, Result, Ok, Err, length}
+use Rattle.std.specs.List.{flat_map}
+use Rattle.base64.specs.Engines.{standard}
+use Rattle.base64.specs.GeneralPurpose.{decode_of as base64_of}
+use Rattle.hex.specs.Hex.{decode_of as hex_of}
+use Rattle.dns_types.specs.declared.error.ParseError.{ParseError}
+use Rattle.dns_words.specs.Reads.{UnlessMemory}
+use Rattle.dns_zone_words.specs.Forms.{IsNumber, string}
+use Rattle.dns_zone_words.specs.Words.{Word, Cursor, words_at}
+
+-- none of the words stands in quotes
+abbrev pub AllBare : List Word → Type 0
+AllBare [] = Unit {0}
+AllBare (word ∷ words) = (word.quoted ≡ false) × AllBare words
+
+-- the words' octets, one behind the other
+abbrev pub joined : List Word → List ℕ
+joined words = flat_map (λ (word : Word). word.octets) words
+
+-- the words, none in quotes, are these octets together
+pub record AreJoined (octets : List ℕ) (words : List Word) : Type 0 where
+  pub bare : AllBare words
+  pub same : octets ≡ joined words
+
+-- the words are these octets in hexadecimal digits, none or more
+pub record AreHex (octets : List ℕ) (words : List Word) : Type 0 where
+  pub bare : AllBare words
+  pub digits : hex_of (joined words) ≡ Ok octets
+
+-- the words are these octets in base64 (RFC 4648, 4), none or more
+pub record AreBase64 (octets : List ℕ) (words : List Word) : Type 0 where
+  pub bare : AllBare words
+  pub digits : base64_of standard (joined words) ≡ Ok octets
+
+-- Behind `\#`: a length of 16 bits, and so many octets in hexadecimal digits.
+abbrev pub AreUnknown : List ℕ → List Word → Type 0
+AreUnknown octets [] = ⊥
+AreUnknown octets (first ∷ words) = IsNumber (length octets) first × (length octets < 2 ^ 16) × AreHex octets words
+
+-- each word is a character string
+abbrev pub AreStrings : List (List ℕ) → List Word → Type 0
+AreStrings [] [] = Unit {0}
+AreStrings (octets ∷ strings) (word ∷ words) = string.is octets word × AreStrings strings words
+AreStrings strings words = ⊥
+
+-- the word `\#` without quotes, which begins the form of unknown data
+pub record IsUnknownMark (word : Word) : Type 0 where
+  pub bare : word.quoted ≡ false
+  pub octets : word.octets ≡ 92 ∷ 35 ∷ []
+
+-- the words that are left have this value
+pub record TookAll {V : Type 0} (is : V → List Word → Type 0) (v : V) (cursor : Cursor) : Type 0 where
+  pub words : List Word
+  pub cut : words_at cursor ≡ Ok words
+  pub value : is v words
+
+-- the text is not cut into words, or they have no value
+pub record NoneOfAll {V : Type 0} (is : V → List Word → Type 0) (cursor : Cursor) : Type 0 where
+  pub none : (v : V) (words : List Word) → words_at cursor ≡ Ok words → is v words → ⊥
+
+-- reads the words that are left exactly where they have a value
+abbrev pub ReadsAll : {T V : Type 0} → (V → List Word → Type 0) → (T → V) → Result T ParseError → Cursor → Type 0
+ReadsAll is view (Ok x) cursor = TookAll is (view x) cursor
+ReadsAll is view (Err e) cursor = UnlessMemory e (NoneOfAll is cursor)

@@ -1,0 +1,19 @@
+-- The code's letters and words, as the definitions have them.
+use Rattle.std.specs.Prelude.{◌≡◌, ℕ, List, ◌∷◌}
+use Rattle.dns_zone_words.specs.Letters.{Letter, plain, kept, letters, escapes_stand}
+use Rattle.dns_zone_words.specs.Words.{Word}
+use Rattle.dns_zone_words.specs.declared.letter.Letter.{Letter as CodeLetter}
+use Rattle.dns_zone_words.specs.declared.letter.Letter.TheVariants as code
+use Rattle.dns_zone_words.specs.declared.words.ZoneWord.{ZoneWord}
+
+abbrev pub letter_value : CodeLetter → Letter
+letter_value (code.Plain c) = plain c
+letter_value (code.Kept c) = kept c
+
+-- the text begins with the letter, and rest stands behind it
+pub record BeginsWith (letter : Letter) (text rest : List ℕ) : Type 0 where
+  pub first : letters text ≡ letter ∷ letters rest
+  pub escapes : escapes_stand text ≡ escapes_stand rest
+
+abbrev pub word_value : ZoneWord → Word
+word_value w = record { octets = w.raw.now; quoted = w.quoted; joined = w.joined }

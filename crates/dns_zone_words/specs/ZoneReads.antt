@@ -1,0 +1,54 @@
+-- What a reader of words of a text does, exactly.
+use Rattle.std.specs.Prelude.{◌≡◌, ◌⊎◌, List, [], ◌∷◌, Result, Ok, Err}
+use Rattle.dns_types.specs.declared.error.ParseError.{ParseError}
+use Rattle.dns_fields.specs.Fields.{Kind, Value}
+use Rattle.dns_words.specs.Reads.{UnlessMemory}
+use Rattle.dns_words.specs.Refusals.{IsOfField}
+use Rattle.dns_words.specs.declared.field.Field.{Field}
+use Rattle.dns_zone_words.specs.Forms.{ZoneForm}
+use Rattle.dns_zone_words.specs.Refusals.{IsMessage}
+use Rattle.dns_zone_words.specs.Words.{Word, Cursor, words_at, with_word}
+use Rattle.dns_zone_words.specs.declared.words_error.WordsError.{WordsError}
+
+-- no value has this word
+pub record NoValueOf {k : Kind} (form : ZoneForm k) (word : Word) : Type 0 where
+  pub none : (v : Value k) → form.is v word → ⊥
+
+-- reads a word exactly where it has the form
+abbrev pub ReadsAs : {T : Type 0} {k : Kind} → ZoneForm k → (T → Value k) → Result T ParseError → Word → Type 0
+ReadsAs form view (Ok x) word = form.is (view x) word
+ReadsAs form view (Err e) word = UnlessMemory e (NoValueOf form word)
+
+-- ---- the next word
+
+-- the first word has the form
+abbrev pub FirstHas : {k : Kind} → ZoneForm k → Value k → List Word → Type 0
+FirstHas form v [] = ⊥
+FirstHas form v (word ∷ words) = form.is v word
+
+-- the first word was taken, and has this form and value
+pub record TookFirst {k : Kind} (form : ZoneForm k) (v : Value k) (old new : Cursor) : Type 0 where
+  pub word : Word
+  pub first : words_at old ≡ with_word word (words_at new)
+  pub is : form.is v word
+
+-- the text has no words, or the first has no value of the form
+pub record NoFirst {k : Kind} (form : ZoneForm k) (cursor : Cursor) : Type 0 where
+  pub none : (v : Value k) (words : List Word) → words_at cursor ≡ Ok words → FirstHas form v words → ⊥
+
+-- takes the first word exactly where it has the form
+abbrev pub ReadsFirst : {T : Type 0} {k : Kind} → ZoneForm k → (T → Value k) → Result T ParseError → Cursor → Cursor → Type 0
+ReadsFirst form view (Ok x) old new = TookFirst form (view x) old new
+ReadsFirst form view (Err e) old new = UnlessMemory e (NoFirst form old)
+
+-- the text is not cut into words, and a message says why
+abbrev pub IsCutRefused : Cursor → ParseError → Type 0
+IsCutRefused cursor e = (why : WordsError) × (words_at cursor ≡ Err why) × IsMessage e
+
+-- no word is left, which the refusal says, or the text is not cut into words
+abbrev pub LacksFirst : ParseError → Cursor → ParseError → Type 0
+LacksFirst missing cursor e = ((e ≡ missing) × (words_at cursor ≡ Ok [])) ⊎ IsCutRefused cursor e
+
+-- the refusal names the field, or the text is not cut into words
+abbrev pub IsOfFieldOrCut : Field → Cursor → ParseError → Type 0
+IsOfFieldOrCut field cursor e = IsOfField field e ⊎ IsCutRefused cursor e

@@ -1,0 +1,121 @@
+//! Fields that are read from the next word of a text.
+
+ghost use Rattle.std.specs.Prelude.{◌≡◌, ◌⊎◌, IfOk, IfErr};
+ghost use Rattle.std.specs.Net.Addr.{ipv4_octets, ipv6_octets};
+ghost use Rattle.dns_words.specs.Forms.{ttl, ipv4, ipv6};
+ghost use Rattle.dns_zone_words.specs.Forms.{bare, number, string, text};
+ghost use Rattle.dns_zone_words.specs.Views.{word_value};
+ghost use Rattle.dns_zone_words.specs.Words.{words_at, with_word};
+ghost use Rattle.dns_zone_words.specs.ZoneReads.{ReadsFirst, LacksFirst, IsOfFieldOrCut};
+
+use crate::numbers::{u8_of, u16_of, u32_of};
+use crate::texts::{ipv4_of, ipv6_of, string_of, text_of, ttl_of};
+use crate::words::{ZoneWord, ZoneWords};
+use dns_types::{Octets, ParseError};
+use dns_words::Field;
+use std::alloc::Global;
+use std::net::{Ipv4Addr, Ipv6Addr};
+
+/// The next word. Refused by [`MissingToken`](ParseError::MissingToken) of the text `missing` where none is left, and
+/// by [`Message`](ParseError::Message) where the text is not cut into words.
+#[inline]
+pub fn some_word<'a>(
+    words: &mut ZoneWords<'a>,
+    missing: &'static str,
+) -> Result<ZoneWord<'a>, ParseError>
+    ensures word { IfOk result (λ w. words_at words.old ≡ with_word (word_value w) (words_at words.new)) }
+    ensures refused { IfErr result (LacksFirst (ParseError.MissingToken missing.entry) words.old) }
+{
+    match words.next_word()? {
+        Some(word) => Ok(word),
+        None => Err(ParseError::MissingToken(missing)),
+    }
+}
+
+/// A decimal number of 8 bits; the refusal names the field. Takes no memory.
+#[inline]
+pub fn next_u8(words: &mut ZoneWords<'_>, field: Field) -> Result<u8, ParseError>
+    ensures reads { ReadsFirst (number 1) (λ n. n) result words.old words.new }
+    ensures why { IfErr result (IsOfFieldOrCut field words.old) }
+{
+    let word = some_word(words, field.name)?;
+    u8_of(word, field.wrong)
+}
+
+/// A decimal number of 16 bits, as `next_u8`.
+#[inline]
+pub fn next_u16(words: &mut ZoneWords<'_>, field: Field) -> Result<u16, ParseError>
+    ensures reads { ReadsFirst (number 2) (λ n. n) result words.old words.new }
+    ensures why { IfErr result (IsOfFieldOrCut field words.old) }
+{
+    let word = some_word(words, field.name)?;
+    u16_of(word, field.wrong)
+}
+
+/// A decimal number of 32 bits, as `next_u8`.
+#[inline]
+pub fn next_u32(words: &mut ZoneWords<'_>, field: Field) -> Result<u32, ParseError>
+    ensures reads { ReadsFirst (number 4) (λ n. n) result words.old words.new }
+    ensures why { IfErr result (IsOfFieldOrCut field words.old) }
+{
+    let word = some_word(words, field.name)?;
+    u32_of(word, field.wrong)
+}
+
+/// A time to live of 32 bits (`ttl_of`), as `next_u8`.
+#[inline]
+pub fn next_ttl(words: &mut ZoneWords<'_>, field: Field) -> Result<u32, ParseError>
+    ensures reads { ReadsFirst (bare (ttl 4294967295)) (λ n. n) result words.old words.new }
+    ensures why { IfErr result (IsOfFieldOrCut field words.old) }
+{
+    let word = some_word(words, field.name)?;
+    ttl_of(word, field.wrong)
+}
+
+/// An IPv4 address, as `next_u8`.
+#[inline]
+pub fn next_ipv4(words: &mut ZoneWords<'_>, field: Field) -> Result<Ipv4Addr, ParseError>
+    ensures reads { ReadsFirst (bare ipv4) ipv4_octets result words.old words.new }
+    ensures why { IfErr result (IsOfFieldOrCut field words.old) }
+{
+    let word = some_word(words, field.name)?;
+    ipv4_of(word, field.wrong)
+}
+
+/// An IPv6 address, as `next_u8`.
+#[inline]
+pub fn next_ipv6(words: &mut ZoneWords<'_>, field: Field) -> Result<Ipv6Addr, ParseError>
+    ensures reads { ReadsFirst (bare ipv6) ipv6_octets result words.old words.new }
+    ensures why { IfErr result (IsOfFieldOrCut field words.old) }
+{
+    let word = some_word(words, field.name)?;
+    ipv6_of(word, field.wrong)
+}
+
+/// A character string of at most 255 octets (`string_of`); the refusal names the field. Takes memory once.
+#[inline]
+pub fn next_string(
+    alloc: Global,
+    words: &mut ZoneWords<'_>,
+    field: Field,
+) -> Result<Octets, ParseError>
+    ensures reads { ReadsFirst string (λ x. x) result words.old words.new }
+    ensures why { IfErr result (λ e. (e ≡ ParseError.Memory) ⊎ IsOfFieldOrCut field words.old e) }
+{
+    let word = some_word(words, field.name)?;
+    string_of(alloc, word, field.wrong)
+}
+
+/// Octets of any number (`text_of`), as `next_string`.
+#[inline]
+pub fn next_text(
+    alloc: Global,
+    words: &mut ZoneWords<'_>,
+    field: Field,
+) -> Result<Octets, ParseError>
+    ensures reads { ReadsFirst text (λ x. x) result words.old words.new }
+    ensures why { IfErr result (λ e. (e ≡ ParseError.Memory) ⊎ IsOfFieldOrCut field words.old e) }
+{
+    let word = some_word(words, field.name)?;
+    text_of(alloc, word, field.wrong)
+}

@@ -1,0 +1,24 @@
+//! Words of zone files: a text is cut into words, a word into letters, and fields are read from words.
+#![tactic(auto)]
+
+pub mod field;
+pub mod fields;
+pub mod letter;
+pub mod names;
+pub mod numbers;
+pub mod remaining;
+pub mod texts;
+pub mod words;
+pub mod words_error;
+
+pub use dns_words::{Field, number_field};
+pub use fields::{
+    next_ipv4, next_ipv6, next_string, next_text, next_ttl, next_u8, next_u16, next_u32, some_word,
+};
+pub use letter::{Letter, Letters};
+pub use names::{name_of, next_name};
+pub use numbers::{u8_of, u16_of, u32_of};
+pub use remaining::{all_base64, all_hex, all_strings, is_unknown_mark, no_more, unknown_data};
+pub use texts::{ipv4_of, ipv6_of, string_of, text_of, ttl_of, type_of};
+pub use words::{ZoneWord, ZoneWords};
+pub use words_error::WordsError;

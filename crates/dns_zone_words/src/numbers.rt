@@ -1,0 +1,81 @@
+//! Numbers in words.
+
+ghost use Rattle.std.specs.Prelude.{◌≡◌, ◌≤◌, ◌<◌, ◌^◌, ℕ, IfSome, IfNone, IfOk, IfErr};
+ghost use Rattle.std.specs.Str.Parse.{IsNumeral, digits_value};
+ghost use Rattle.dns_zone_words.specs.Forms.{number, IsNumber};
+ghost use Rattle.dns_zone_words.specs.Views.{word_value};
+ghost use Rattle.dns_zone_words.specs.ZoneReads.{ReadsAs};
+
+use crate::words::ZoneWord;
+use dns_types::ParseError;
+
+/// A decimal number of 8 bits: digits alone, without quotes. Any other word is refused by
+/// [`Message`](ParseError::Message) of the text `wrong`. Takes no memory.
+#[inline]
+pub fn u8_of(word: ZoneWord<'_>, wrong: &'static str) -> Result<u8, ParseError>
+    ensures reads { ReadsAs (number 1) (λ n. n) result (word_value word.entry) }
+    ensures why { IfErr result (λ e. e ≡ ParseError.Message wrong.entry) }
+{
+    match number_of(word) {
+        Some(n) if n < 256 => Ok(n as u8),
+        _ => Err(ParseError::Message(wrong)),
+    }
+}
+
+/// A decimal number of 16 bits, as `u8_of`.
+#[inline]
+pub fn u16_of(word: ZoneWord<'_>, wrong: &'static str) -> Result<u16, ParseError>
+    ensures reads { ReadsAs (number 2) (λ n. n) result (word_value word.entry) }
+    ensures why { IfErr result (λ e. e ≡ ParseError.Message wrong.entry) }
+{
+    match number_of(word) {
+        Some(n) if n < 65536 => Ok(n as u16),
+        _ => Err(ParseError::Message(wrong)),
+    }
+}
+
+/// A decimal number of 32 bits, as `u8_of`.
+#[inline]
+pub fn u32_of(word: ZoneWord<'_>, wrong: &'static str) -> Result<u32, ParseError>
+    ensures reads { ReadsAs (number 4) (λ n. n) result (word_value word.entry) }
+    ensures why { IfErr result (λ e. e ≡ ParseError.Message wrong.entry) }
+{
+    match number_of(word) {
+        Some(n) => Ok(n),
+        None => Err(ParseError::Message(wrong)),
+    }
+}
+
+// The number of 32 bits that a word without quotes is.
+#[inline]
+fn number_of(word: ZoneWord<'_>) -> Option<u32>
+    ensures some { IfSome result (λ n. IsNumber n (word_value word.entry)) }
+    ensures none { IfNone result ((n : ℕ) → IsNumber n (word_value word.entry) → 2 ^ 32 ≤ n) }
+{
+    if word.quoted {
+        return None;
+    }
+    decimal(word.raw)
+}
+
+// The number of 32 bits that decimal digits are.
+fn decimal(digits: &[u8]) -> Option<u32>
+    ensures some { IfSome result (λ n. IsNumeral 10 digits.now × (n ≡ digits_value 10 digits.now)) }
+    ensures none { IfNone result (IsNumeral 10 digits.now → 2 ^ 32 ≤ digits_value 10 digits.now) }
+{
+    if digits.len() == 0 {
+        return None;
+    }
+    let mut number = 0u32;
+    for octet in digits {
+        if !octet.is_ascii_digit() {
+            return None;
+        }
+        let sum = number as u64 * 10 + (*octet - 48) as u64;
+        if sum >= 4294967296 {
+            return None;
+        }
+        number = sum as u32;
+    }
+    Some(number)
+}

@@ -1,0 +1,139 @@
+//! All words that are left of a text: strings, base64, hexadecimal digits, and the form of unknown data (RFC 3597, 5).
+
+ghost use Rattle.std.specs.Prelude.{◌≡◌, ◌≢◌, ◌↔◌, ◌⊎◌, [], Ok, IsTrue, IfErr, OnOk, OnErr};
+ghost use Rattle.dns_zone_words.specs.Refusals.{IsMessage, IsMissing};
+ghost use Rattle.dns_zone_words.specs.Remaining.{AreJoined, AreHex, AreBase64, AreUnknown, AreStrings, IsUnknownMark, ReadsAll};
+ghost use Rattle.dns_zone_words.specs.Views.{word_value};
+ghost use Rattle.dns_zone_words.specs.Words.{words_at};
+ghost use Rattle.dns_zone_words.specs.ZoneReads.{IsCutRefused};
+
+use crate::fields::next_u16;
+use crate::texts::string_of;
+use crate::words::{ZoneWord, ZoneWords};
+use base64::DecodeAllocError;
+use base64::engine::general_purpose::STANDARD;
+use dns_types::{Octets, ParseError, Strings};
+use dns_words::{Field, number_field};
+use hex::FromHexError;
+use std::alloc::Global;
+
+const UNKNOWN_LENGTH: Field = number_field!("length of unknown data");
+
+const UNKNOWN_DATA: &str =
+    "unknown data is not as many octets in hexadecimal digits as its length says";
+
+/// Whether the word is `\#` without quotes, which begins the form of unknown data (RFC 3597, 5).
+#[inline]
+pub fn is_unknown_mark(word: ZoneWord<'_>) -> bool
+    ensures { IsTrue result ↔ IsUnknownMark (word_value word.entry) }
+{
+    !word.quoted && word.raw.len() == 2 && word.raw[0] == b'\\' && word.raw[1] == b'#'
+}
+
+/// The octets of all words that are left, in hexadecimal digits of either case; no words give none. Words in quotes, an
+/// odd number of digits and other characters are refused by [`Message`](ParseError::Message) of the text `wrong`.
+pub fn all_hex(
+    alloc: Global,
+    words: &mut ZoneWords<'_>,
+    wrong: &'static str,
+) -> Result<Octets, ParseError>
+    ensures reads { ReadsAll AreHex (λ x. x) result words.old }
+    ensures why { IfErr result (λ e. (e ≡ ParseError.Memory) ⊎ IsMessage e) }
+{
+    let digits = all_joined(alloc, words, wrong)?;
+    match hex::decode(alloc, digits.as_slice()) {
+        Ok(octets) => Ok(Octets::from_vec(octets)),
+        Err(FromHexError::OutOfMemory) => Err(ParseError::Memory),
+        Err(_) => Err(ParseError::Message(wrong)),
+    }
+}
+
+/// The octets of all words that are left, in base64, padded at its end (RFC 4648, 4); no words give none. Words in
+/// quotes and what is no base64 are refused by [`Message`](ParseError::Message) of the text `wrong`.
+pub fn all_base64(
+    alloc: Global,
+    words: &mut ZoneWords<'_>,
+    wrong: &'static str,
+) -> Result<Octets, ParseError>
+    ensures reads { ReadsAll AreBase64 (λ x. x) result words.old }
+    ensures why { IfErr result (λ e. (e ≡ ParseError.Memory) ⊎ IsMessage e) }
+{
+    let digits = all_joined(alloc, words, wrong)?;
+    match STANDARD.decode(alloc, digits.as_slice()) {
+        Ok(octets) => Ok(Octets::from_vec(octets)),
+        Err(DecodeAllocError::OutOfMemory) => Err(ParseError::Memory),
+        Err(DecodeAllocError::DecodeError(_)) => Err(ParseError::Message(wrong)),
+    }
+}
+
+/// The octets that stand behind `\#`: their number of 16 bits, and as many octets in hexadecimal digits, in words
+/// without quotes (RFC 3597, 5). Refused by [`MissingToken`](ParseError::MissingToken) where no length stands there,
+/// and by [`Message`](ParseError::Message) where it is no number, or where what follows is something else.
+pub fn unknown_data(alloc: Global, words: &mut ZoneWords<'_>) -> Result<Octets, ParseError>
+    ensures reads { ReadsAll AreUnknown (λ x. x) result words.old }
+    ensures why { IfErr result (λ e. (e ≡ ParseError.Memory) ⊎ IsMissing e ⊎ IsMessage e) }
+{
+    let length = next_u16(words, UNKNOWN_LENGTH)?;
+    let octets = all_hex(alloc, words, UNKNOWN_DATA)?;
+    if octets.len() != length as usize {
+        return Err(ParseError::Message(UNKNOWN_DATA));
+    }
+    Ok(octets)
+}
+
+/// All words that are left as character strings of at most 255 octets; no words give none. Any other word is refused by
+/// [`Message`](ParseError::Message) of the text `wrong`.
+pub fn all_strings(
+    alloc: Global,
+    words: &mut ZoneWords<'_>,
+    wrong: &'static str,
+) -> Result<Strings, ParseError>
+    ensures reads { ReadsAll AreStrings (λ x. x) result words.old }
+    ensures why { IfErr result (λ e. (e ≡ ParseError.Memory) ⊎ IsMessage e) }
+{
+    let mut strings = Strings::new(alloc);
+    'words: loop {
+        match words.next_word()? {
+            Some(word) => {
+                let string = string_of(alloc, word, wrong)?;
+                strings.push(string)?;
+            }
+            None => return Ok(strings),
+        }
+    }
+}
+
+/// That no word is left. Refused by [`Message`](ParseError::Message): of the text `surplus` where one is.
+pub fn no_more(words: &mut ZoneWords<'_>, surplus: &'static str) -> Result<(), ParseError>
+    ensures took { OnOk result (words_at words.old ≡ Ok []) }
+    ensures refused { OnErr result (words_at words.old ≢ Ok []) }
+    ensures why { IfErr result (λ e. (e ≡ ParseError.Message surplus.entry) ⊎ IsCutRefused words.old e) }
+{
+    match words.next_word()? {
+        Some(_) => Err(ParseError::Message(surplus)),
+        None => Ok(()),
+    }
+}
+
+// The octets of all words that are left, one behind the other. A word in quotes is refused.
+fn all_joined(
+    alloc: Global,
+    words: &mut ZoneWords<'_>,
+    wrong: &'static str,
+) -> Result<Vec<u8>, ParseError>
+    ensures reads { ReadsAll AreJoined (λ v. v.items) result words.old }
+    ensures why { IfErr result (λ e. (e ≡ ParseError.Memory) ⊎ IsMessage e) }
+{
+    let mut joined = Vec::with_capacity(alloc, words.octets_left())?;
+    'words: loop {
+        match words.next_word()? {
+            Some(word) => {
+                if word.quoted {
+                    return Err(ParseError::Message(wrong));
+                }
+                joined.extend_from_slice(word.raw)?;
+            }
+            None => return Ok(joined),
+        }
+    }
+}

@@ -1,0 +1,289 @@
+//! Words of a text of a zone file (RFC 1035, 5.1).
+
+ghost use Rattle.std.specs.Prelude.{◌≡◌, ℕ, ◌<◌, ◌≤◌, false, true, [], length, slice_index, Ok, Err, IfSome, IfNone, IfOk, IfErr, OnOk, OnErr};
+ghost use Rattle.dns_zone_words.specs.Words.{is_blank, is_line_end, begins_gap, ends_run, between, comment, over, over_comment, words_from, words_at, with_word, zone_words};
+ghost use Rattle.dns_zone_words.specs.WordSteps.{NoGap, RunTaken, QuotesTaken, QuotesRefused};
+ghost use Rattle.dns_zone_words.specs.Views.{word_value};
+
+use crate::letter::Letters;
+use crate::words_error::WordsError;
+use std::marker::Model;
+
+/// A word of a text: a part of it, as it stands there.
+#[derive(Clone, Copy)]
+pub struct ZoneWord<'a> {
+    /// The word's octets, `\` and what stands behind it included, without the quotes around them.
+    pub raw: &'a [u8],
+    /// Whether it stands in quotes.
+    pub quoted: bool,
+    /// Whether it stands right behind another word, as the second does in `alpn="h2"`.
+    pub joined: bool,
+}
+
+impl<'a> ZoneWord<'a> {
+    /// Its letters.
+    #[inline]
+    pub fn letters(&self) -> Letters<'a>
+        ensures { result ≡ self.now.raw.now }
+    {
+        Letters::new(self.raw)
+    }
+}
+
+/// The words of a text of one record's data, one by one. It takes no memory.
+///
+/// - Blanks (space, tab), line ends (LF, CR, CR LF), comments (`;` to the line's end) and parentheses stand between
+///   words. The line ends at the first line end outside of parentheses; behind it may stand only blanks, line ends and
+///   comments. Parentheses may stand within others.
+/// - `"` begins a string, which goes on to the next `"` without a `\` before it. It may have any octet but a line feed
+///   without a `\` before it.
+/// - Any other word goes on to a blank, a line end, `"`, `(`, `)` or `;`. Behind a `\` none of these but a line end
+///   ends it.
+#[derive(Drop)]
+pub struct ZoneWords<'a> {
+    rest: &'a [u8],
+    // how many parentheses are open
+    depth: usize,
+    // whether a word ends right here
+    joined: bool,
+}
+
+impl<'a> Model for ZoneWords<'a> {
+    ghost use Rattle.std.specs.Prelude.{◌+◌, ◌<◌, ◌^◌, length};
+    ghost use Rattle.dns_zone_words.specs.Words.{Cursor};
+
+    ghost Value = { Cursor };
+
+    ghost view = { λ w. record { depth = w.depth; joined = w.joined; text = w.rest.now } };
+
+    ghost invariant = { λ w. w.depth + length w.rest.now < 2 ^ 64 };
+}
+
+impl<'a> ZoneWords<'a> {
+    /// The words of a text, from the first on.
+    #[inline]
+    pub fn new(text: &'a [u8]) -> ZoneWords<'a>
+        ensures words { words_at result ≡ zone_words text.now }
+        ensures text { result.text ≡ text.now }
+    {
+        ZoneWords {
+            rest: text,
+            depth: 0,
+            joined: false,
+        }
+    }
+
+    /// The next word, or `None` where no further one stands. A refusal changes nothing.
+    pub fn next_word(&mut self) -> Result<Option<ZoneWord<'a>>, WordsError>
+        ensures word { IfOk result (λ o. IfSome o (λ w. words_at self.old ≡ with_word (word_value w) (words_at self.new))) }
+        ensures shorter { IfOk result (λ o. IfSome o (λ _. length self.new.text < length self.old.text)) }
+        ensures end { IfOk result (λ o. IfNone o (words_at self.old ≡ Ok [])) }
+        ensures refused { IfErr result (λ e. words_at self.old ≡ Err e) }
+        ensures unchanged { OnErr result (self.new ≡ self.old) }
+        ensures stays { IfOk result (λ o. IfNone o (self.new ≡ self.old)) }
+    {
+        let at = self.again().skip_gaps()?;
+        if at.rest.len() == 0 {
+            return if at.depth > 0 {
+                Err(WordsError::OpenParenthesis)
+            } else {
+                Ok(None)
+            };
+        }
+        let depth = at.depth;
+        let (word, rest) = at.first_word()?;
+        self.rest = rest;
+        self.depth = depth;
+        self.joined = true;
+        Ok(Some(word))
+    }
+
+    /// Another one, from the same place on.
+    #[inline]
+    pub fn again(&self) -> ZoneWords<'a>
+        ensures { result ≡ self.now }
+    {
+        ZoneWords {
+            rest: self.rest,
+            depth: self.depth,
+            joined: self.joined,
+        }
+    }
+
+    /// How many octets of the text are left.
+    #[inline]
+    pub fn octets_left(&self) -> usize
+        ensures { result ≡ length self.now.text }
+    {
+        self.rest.len()
+    }
+
+    // The words that are left, from the first octet of the next one on.
+    fn skip_gaps(self) -> Result<ZoneWords<'a>, WordsError>
+        ensures same { IfOk result (λ w. words_at w ≡ words_at self.entry) }
+        ensures at { IfOk result (λ w. NoGap w.text) }
+        ensures shorter { IfOk result (λ w. length w.text ≤ length self.entry.text) }
+        ensures refused { IfErr result (λ e. words_at self.entry ≡ Err e) }
+    {
+        let ZoneWords {
+            mut rest,
+            mut depth,
+            mut joined,
+        } = self;
+        'gaps: while rest.len() > 0 && begins_gap(rest[0]) {
+            let first = rest[0];
+            rest = &rest[1..];
+            joined = false;
+            if first == b';' {
+                rest = behind_comment(rest);
+            } else if first == b'(' {
+                depth += 1;
+            } else if first == b')' {
+                if depth == 0 {
+                    return Err(WordsError::NoParenthesis);
+                }
+                depth -= 1;
+            } else if is_line_end(first) && depth == 0 {
+                line_is_over(rest)?;
+                rest = &rest[rest.len()..];
+            }
+        }
+        Ok(ZoneWords {
+            rest,
+            depth,
+            joined,
+        })
+    }
+
+    // The word that stands first, and what stands behind it.
+    fn first_word(self) -> Result<(ZoneWord<'a>, &'a [u8]), WordsError>
+        requires some { 0 < length self.text }
+        requires no_gap { NoGap self.text }
+        ensures word { IfOk result (λ r. words_at self.entry ≡ with_word (word_value r.0) (words_from (between self.entry.depth true) r.1.now)) }
+        ensures shorter { IfOk result (λ r. length r.1.now < length self.entry.text) }
+        ensures refused { IfErr result (λ e. words_at self.entry ≡ Err e) }
+    {
+        let rest = self.rest;
+        if rest[0] == b'"' {
+            let behind = &rest[1..];
+            let len = quoted_len(behind)?;
+            let word = ZoneWord {
+                raw: &behind[..len],
+                quoted: true,
+                joined: self.joined,
+            };
+            return Ok((word, &behind[len + 1..]));
+        }
+        let len = run_len(rest);
+        let word = ZoneWord {
+            raw: &rest[..len],
+            quoted: false,
+            joined: self.joined,
+        };
+        Ok((word, &rest[len..]))
+    }
+}
+
+#[inline]
+fn is_blank(octet: u8) -> bool
+    ensures { result ≡ is_blank octet }
+{
+    octet == 32 || octet == 9
+}
+
+#[inline]
+fn is_line_end(octet: u8) -> bool
+    ensures { result ≡ is_line_end octet }
+{
+    octet == 10 || octet == 13
+}
+
+// Whether an octet stands between words, or begins what does: a blank, a line end, `(`, `)` or `;`.
+#[inline]
+fn begins_gap(octet: u8) -> bool
+    ensures { result ≡ begins_gap octet }
+{
+    is_blank(octet) || is_line_end(octet) || octet == b'(' || octet == b')' || octet == b';'
+}
+
+#[inline]
+fn ends_run(octet: u8) -> bool
+    ensures { result ≡ ends_run octet }
+{
+    begins_gap(octet) || octet == b'"'
+}
+
+// What stands behind a comment: the next line end, and all behind it.
+#[inline]
+fn behind_comment(text: &[u8]) -> &[u8]
+    ensures within { (depth : ℕ) → words_from (comment depth) text.now ≡ words_from (between depth false) result.now }
+    ensures over { words_from over_comment text.now ≡ words_from over result.now }
+    ensures shorter { length result.now ≤ length text.now }
+{
+    let mut rest = text;
+    'octets: while rest.len() > 0 && !is_line_end(rest[0]) {
+        rest = &rest[1..];
+    }
+    rest
+}
+
+// How many octets a word has that stands first, without quotes.
+fn run_len(text: &[u8]) -> usize
+    requires some { 0 < length text.now }
+    requires begins { ends_run (slice_index text.now 0) ≡ false }
+    ensures some { 1 ≤ result }
+    ensures word { RunTaken text.now result }
+    ensures within { result ≤ length text.now }
+{
+    let mut at = 0usize;
+    'octets: while at < text.len() && !ends_run(text[at]) {
+        let behind = at + 1;
+        if text[at] == b'\\' && behind < text.len() && !is_line_end(text[behind]) {
+            at += 2;
+        } else {
+            at += 1;
+        }
+    }
+    at
+}
+
+// How many octets stand before the `"` that closes the quotes.
+fn quoted_len(text: &[u8]) -> Result<usize, WordsError>
+    ensures word { IfOk result (QuotesTaken text.now) }
+    ensures within { IfOk result (λ n. n < length text.now) }
+    ensures refused { IfErr result (QuotesRefused text.now) }
+{
+    let mut at = 0usize;
+    'octets: while at < text.len() && text[at] != b'"' {
+        if text[at] == 10 {
+            return Err(WordsError::LineInQuotes);
+        }
+        if text[at] == b'\\' && at + 1 < text.len() {
+            at += 2;
+        } else {
+            at += 1;
+        }
+    }
+    if at == text.len() {
+        return Err(WordsError::OpenQuotes);
+    }
+    Ok(at)
+}
+
+// Behind the line: only blanks, line ends and comments are left.
+fn line_is_over(text: &[u8]) -> Result<(), WordsError>
+    ensures ok { OnOk result (words_from over text.now ≡ Ok []) }
+    ensures refused { IfErr result (λ e. words_from over text.now ≡ Err e) }
+{
+    let mut rest = text;
+    'gaps: while rest.len() > 0 {
+        let first = rest[0];
+        rest = &rest[1..];
+        if first == b';' {
+            rest = behind_comment(rest);
+        } else if !is_blank(first) && !is_line_end(first) {
+            return Err(WordsError::FurtherLine);
+        }
+    }
+    Ok(())
+}

@@ -1,0 +1,49 @@
+//! Why a text has no words.
+
+ghost use Rattle.dns_zone_words.specs.Refusals.{IsMessage};
+
+use dns_types::ParseError;
+use std::fmt;
+
+/// Why a text of a zone file is not cut into words.
+#[derive(Clone, Copy, Debug, PartialEq, Eq)]
+pub enum WordsError {
+    /// A `(` is not closed.
+    OpenParenthesis,
+    /// A `)` closes nothing.
+    NoParenthesis,
+    /// A `"` is not closed.
+    OpenQuotes,
+    /// A line ends within quotes, without a `\` before its end.
+    LineInQuotes,
+    /// Behind the end of the line stands more than blanks, line ends and comments.
+    FurtherLine,
+}
+
+impl WordsError {
+    /// The same in words.
+    pub fn text(self) -> &'static str {
+        match self {
+            WordsError::OpenParenthesis => "`(` without `)`",
+            WordsError::NoParenthesis => "`)` without `(`",
+            WordsError::OpenQuotes => "quotes without an end",
+            WordsError::LineInQuotes => "line end within quotes",
+            WordsError::FurtherLine => "more than one line",
+        }
+    }
+}
+
+impl fmt::Display for WordsError {
+    fn fmt<W: fmt::Write>(&self, f: &mut fmt::Formatter<W>) -> fmt::Result {
+        f.write_str(self.text())
+    }
+}
+
+/// A message of the same text.
+impl From<WordsError> for ParseError {
+    ghost from_gives = { λ _ e. IsMessage e };
+
+    fn from(e: WordsError) -> ParseError {
+        ParseError::Message(e.text())
+    }
+}
