@@ -1,0 +1,52 @@
+//! Words of zone files.
+
+use anyhow::{Result, bail};
+use dns_names_wire::{Name, ParseError};
+use dns_zone_words::{
+    Field, ZoneWords, all_base64, all_strings, ipv4_of, is_unknown_mark, name_field, next_name,
+    next_ttl, next_u16, number_field, some_word, type_of, unknown_data,
+};
+use std::alloc::Global;
+use std::fmt;
+
+const NUMBER: Field = number_field!("number");
+
+const NAME: Field = name_field!("name");
+
+// The value, or why there is none.
+fn show<T: fmt::Debug + Drop>(
+    alloc: Global,
+    value: std::result::Result<T, ParseError>,
+) -> Result<String> {
+    match value {
+        Ok(value) => Ok(format!(in alloc; "{value:?}")?),
+        Err(e) => Ok(format!(in alloc; "{e}")?),
+    }
+}
+
+/// The value of a text's first words as a field of a kind, or why it is refused. Names are below `ex`.
+pub fn field(alloc: Global, kind: &str, text: &str) -> Result<String> {
+    let mut words = ZoneWords::new(text.as_bytes());
+    match kind {
+        "strings" => show(alloc, all_strings(alloc, &mut words, "no string")),
+        "base64" => show(alloc, all_base64(alloc, &mut words, "no base64")),
+        "number" => show(alloc, next_u16(&mut words, NUMBER)),
+        "ttl" => show(alloc, next_ttl(&mut words, NUMBER)),
+        _ => word_field(alloc, kind, words),
+    }
+}
+
+fn word_field(alloc: Global, kind: &str, mut words: ZoneWords<'_>) -> Result<String> {
+    if kind == "name" {
+        let origin = Name::from_ascii(alloc, "ex.")?;
+        return show(alloc, next_name(alloc, &mut words, Some(&origin), NAME));
+    }
+    let word = some_word(&mut words, "word")?;
+    match kind {
+        "address" => show(alloc, ipv4_of(word, "no address")),
+        "type" => show(alloc, type_of(word, "no type")),
+        "unknown" if is_unknown_mark(word) => show(alloc, unknown_data(alloc, &mut words)),
+        "unknown" => show(alloc, Ok(word.quoted)),
+        _ => bail!("no such kind"),
+    }
+}
