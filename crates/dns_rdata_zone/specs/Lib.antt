@@ -1,0 +1,13 @@
+pub mod FieldReaders
+pub mod Generic
+pub mod Letters
+pub mod Lists
+pub mod Names
+pub mod Options
+pub mod Parameters
+pub mod Records
+pub mod Services
+pub mod Spellings
+pub mod Strings
+pub mod WholeOctets
+pub mod ZoneTexts
