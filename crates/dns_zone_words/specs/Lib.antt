@@ -1,0 +1,2 @@
+pub mod FieldReaders
+pub mod Letters
