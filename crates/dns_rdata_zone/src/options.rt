@@ -1,11 +1,12 @@
 //! Options of EDNS as data without a form of its own (RFC 3597, 5): OPT has no text in a zone file.
 
-ghost use Rattle.std.specs.Prelude.{◌≡◌, ◌≤◌, ◌<◌, ◌^◌, Some, IfSome, flat_map, length};
+ghost use Rattle.std.specs.Prelude.{◌≡◌, ◌+◌, ◌≤◌, Some, IfSome, flat_map, length, take};
+ghost use Rattle.std.specs.Fmt.{DisplaysOnOk};
 ghost use Rattle.hex.specs.Hex.{encode_lower};
-ghost use Rattle.dns_fields.specs.Pieces.{option_octets, pieces};
-ghost use Rattle.dns_rdata_options.specs.ClientSubnet.{subnet_value};
+ghost use Rattle.dns_fields.specs.Pieces.{option_octets};
+ghost use Rattle.dns_rdata_options.specs.ClientSubnet.{prefix_octets, subnet_value};
 ghost use Rattle.dns_rdata_options.specs.EdnsOption.{option_value};
-ghost use Rattle.dns_rdata_zone.specs.Options.{pair_octets, option_digits, options_octets, zone_options};
+ghost use Rattle.dns_rdata_zone.specs.Options.{subnet_octets, option_digits, options_octets, zone_options};
 
 use dns_pieces::Head;
 use dns_rdata::OPT;
@@ -14,9 +15,24 @@ use dns_rdata_certs::hexadecimal::Hexadecimal;
 use std::fmt;
 use std::net::IpAddr;
 
-// How many octets of an address of so many the source prefix asks for.
-fn address_len(subnet: &ClientSubnet, most: usize) -> usize {
-    ((subnet.source_prefix as usize + 7) / 8).min(most)
+// The octets of an address that the source prefix of a subnet asks for.
+fn asked_octets(address: &[u8], source: u8) -> &[u8]
+    ensures value { result.now ≡ take (prefix_octets source) address.now }
+    ensures few { length result.now ≤ length address.now }
+{
+    let len = (source as usize + 7) / 8;
+    if len > address.len() {
+        return address;
+    }
+    &address[..len]
+}
+
+// How many octets a subnet has whose address has these.
+fn subnet_len(address: &[u8], source: u8) -> usize
+    requires { length address.now ≤ 16 }
+    ensures { result ≡ 4 + length (take (prefix_octets source) address.now) }
+{
+    4 + asked_octets(address, source).len()
 }
 
 // How many octets an option has behind its code and its length.
@@ -25,15 +41,35 @@ fn option_len(option: &EdnsOption) -> usize
 {
     match option {
         EdnsOption::Subnet(subnet) => match subnet.address {
-            IpAddr::V4(_) => 4 + address_len(subnet, 4),
-            IpAddr::V6(_) => 4 + address_len(subnet, 16),
+            IpAddr::V4(ip) => subnet_len(ip.octets().as_slice(), subnet.source_prefix),
+            IpAddr::V6(ip) => subnet_len(ip.octets().as_slice(), subnet.source_prefix),
         },
         EdnsOption::NSID(payload) => payload.as_ref().len(),
         EdnsOption::Unknown(_, octets) => octets.len(),
     }
 }
 
-/// Family, prefixes and the octets of the address that the source prefix asks for, in hexadecimal.
+// Writes family, prefixes and the octets of the address that the source prefix asks for, in hexadecimal.
+fn write_subnet<W: fmt::Write>(
+    family: u16,
+    source: u8,
+    scope: u8,
+    address: &[u8],
+    f: &mut fmt::Formatter<W>,
+) -> fmt::Result
+    requires { length address.now ≤ 16 }
+    ensures { DisplaysOnOk W.write_str_gives f.old result (Some (encode_lower (subnet_octets family source scope address.now))) f.new }
+{
+    let mut head = Head::new();
+    head.two(family);
+    head.one(source);
+    head.one(scope);
+    head.octets(asked_octets(address, source));
+    let digits = Hexadecimal(head.as_slice());
+    write!(f, "{digits}")
+}
+
+/// A subnet in hexadecimal.
 #[derive(Clone, Copy)]
 struct SubnetDigits<'a>(&'a ClientSubnet);
 
@@ -41,23 +77,28 @@ impl fmt::Display for SubnetDigits<'_> {
     ghost output = { λ s. Some (encode_lower (option_octets (subnet_value s.0.now))) };
 
     fn fmt<W: fmt::Write>(&self, f: &mut fmt::Formatter<W>) -> fmt::Result {
-        let subnet = self.0;
-        let mut head = Head::new();
-        match subnet.address {
-            IpAddr::V4(ip) => {
-                head.two(1);
-                head.one(subnet.source_prefix);
-                head.one(subnet.scope_prefix);
-                head.octets(&ip.octets()[..address_len(subnet, 4)]);
-            }
-            IpAddr::V6(ip) => {
-                head.two(2);
-                head.one(subnet.source_prefix);
-                head.one(subnet.scope_prefix);
-                head.octets(&ip.octets()[..address_len(subnet, 16)]);
-            }
+        let source = self.0.source_prefix;
+        let scope = self.0.scope_prefix;
+        match self.0.address {
+            IpAddr::V4(ip) => write_subnet(1, source, scope, ip.octets().as_slice(), f),
+            IpAddr::V6(ip) => write_subnet(2, source, scope, ip.octets().as_slice(), f),
         }
-        f.write(Hexadecimal(head.as_slice()))
+    }
+}
+
+/// What an option holds, in hexadecimal.
+#[derive(Clone, Copy)]
+struct ValueDigits<'a>(&'a EdnsOption);
+
+impl fmt::Display for ValueDigits<'_> {
+    ghost output = { λ x. Some (encode_lower (option_octets (option_value x.0.now))) };
+
+    fn fmt<W: fmt::Write>(&self, f: &mut fmt::Formatter<W>) -> fmt::Result {
+        match self.0 {
+            EdnsOption::Subnet(subnet) => f.write(SubnetDigits(subnet)),
+            EdnsOption::NSID(payload) => f.write(Hexadecimal(payload.as_ref())),
+            EdnsOption::Unknown(_, octets) => f.write(Hexadecimal(octets.as_slice())),
+        }
     }
 }
 
@@ -76,12 +117,9 @@ impl fmt::Display for OptionDigits<'_> {
         let mut head = Head::new();
         head.two(u16::from(self.0.0));
         head.two(len as u16);
-        f.write(Hexadecimal(head.as_slice()))?;
-        match &self.0.1 {
-            EdnsOption::Subnet(subnet) => f.write(SubnetDigits(subnet)),
-            EdnsOption::NSID(payload) => f.write(Hexadecimal(payload.as_ref())),
-            EdnsOption::Unknown(_, octets) => f.write(Hexadecimal(octets.as_slice())),
-        }
+        let head = Hexadecimal(head.as_slice());
+        let value = ValueDigits(&self.0.1);
+        write!(f, "{head}{value}")
     }
 }
 
