@@ -47,6 +47,11 @@ plain_own_end (c ∷ s) = refl
 pub word_own : (s : List ℕ) → IsPlainWord s → is_generic (letters s) ≡ false
 word_own s h = ap is_generic (last_word s h) ∙ plain_own_end s
 
+-- a text that begins with a letter that stands for itself
+pub plain_first : (s : List ℕ) (xs : List Letter) → s ≢ [] → is_generic (map plain s ++ xs) ≡ false
+plain_first [] xs h = absurd (h refl)
+plain_first (c ∷ s) xs h = refl
+
 -- a reader that takes a word, and octets from it
 abbrev pub by_word : (List ℕ → List ℕ) → FieldReader
 by_word f xs = record { octets = f (word_at xs).octets; rest = (word_at xs).rest }

@@ -14,6 +14,7 @@ use Rattle.dns_zone_words.specs.Letters.{Letter, plain, letters, octet_of}
 use Rattle.dns_rdata_zone.specs.Records.{zone_type}
 use Rattle.dns_rdata_zone.specs.TypeWords.{type_number, types_field}
 use Rattle.dns_rdata_zone.specs.Words.{words_in}
+use Rattle.dns_rdata_zone.proofs.Fields.{plain_first}
 use Rattle.dns_rdata_zone.proofs.Letters.{IsBare, IsPlainWord, plain_tested, all_append, plain_decimal, number_read, word_letters, octets_plain}
 use Rattle.dns_rdata_zone.proofs.Rows.{ListReads}
 use Rattle.dns_rdata_zone.proofs.WordReads.{WordReads, Uncut, uncut_plain, words_read}
@@ -30,9 +31,13 @@ type_read : (t : RecordType) → IsSmall t → type_number (zone_type t) ≡ num
 type_read (Unknown n) h = number_read n h
 type_read t h = refl
 
-some_type : (t : RecordType) → map plain (zone_type t) ≢ []
+some_type : (t : RecordType) → zone_type t ≢ []
 some_type (Unknown n) e = absurd (cc e)
 some_type t e = absurd (cc e)
+
+some_letters : (s : List ℕ) → s ≢ [] → map plain s ≢ []
+some_letters [] h = absurd (h refl)
+some_letters (c ∷ s) h = λ e. absurd (cc e)
 
 abbrev pub type_letters : ℕ → List Letter
 type_letters n = map plain (zone_type (record_type_of n))
@@ -47,7 +52,7 @@ type_reads n h =
     record {
       then = λ rest. word_letters (zone_type t) rest w;
       uncut = subst (λ (l : List Letter). Uncut false l) (append-nil (map plain (zone_type t))) (uncut_plain (zone_type t) [] w refl);
-      some = some_type t;
+      some = some_letters (zone_type t) (some_type t);
     }
 
 each_reads : (ns : List ℕ) → AllByRecursion (λ n. n < 2 ^ 16) ns → AllByRecursion (λ n. WordReads (zone_type (record_type_of n)) (type_letters n)) ns
@@ -62,10 +67,6 @@ numbers_read (n ∷ ns) h =
     ∙ ap (λ (m : ℕ). m ∷ map (λ w. type_number (map octet_of w)) (map type_letters ns)) (type_read t (small n h.0) ∙ number_of-record_type_of n)
     ∙ ap (λ (l : List ℕ). n ∷ l) (numbers_read ns h.1)
 
-first_own : (s : List ℕ) (xs : List Letter) → map plain s ≢ [] → is_generic (map plain s ++ xs) ≡ false
-first_own [] xs h = absurd (h refl)
-first_own (c ∷ s) xs h = refl
-
 pub types_read : (ns : List ℕ) → AllByRecursion (λ n. n < 2 ^ 16) ns → ListReads types_field (λ n. zone_type (record_type_of n)) ns (flat_map block (minimal ns))
 types_read [] h = refl
 types_read (n ∷ ns) h =
@@ -76,5 +77,5 @@ types_read (n ∷ ns) h =
           (words_read f type_letters n ns (each_reads (n ∷ ns) h))
           ∙ ap (λ (l : List ℕ). flat_map block (minimal l)) (numbers_read (n ∷ ns) h);
       own = ap is_generic (word_letters (f n) behind (type_word (record_type_of n) (small n h.0)))
-          ∙ first_own (f n) (letters behind) (some_type (record_type_of n));
+          ∙ plain_first (f n) (letters behind) (some_type (record_type_of n));
     }
