@@ -77,9 +77,19 @@ symbols_word (a ∷ b ∷ c ∷ rest) h =
     let later = All-tail (λ x. x < 256) b (c ∷ rest) behind in
     let low_a : a < 256 = All-head (λ x. x < 256) a (b ∷ c ∷ rest) h in
     let low_b : b < 256 = All-head (λ x. x < 256) b (c ∷ rest) behind in
-    let low_c : c < 256 = All-head (λ x. x < 256) c rest later in
-    (symbol (a / 4) (omega arith), (symbol (a % 4 * 16 + b / 16) (omega arith), (symbol (b % 16 * 4 + c / 64) (omega arith), (symbol (c % 64) (omega arith),
-    symbols_word rest (All-tail (λ x. x < 256) c rest later)))))
+    let low_c : c < 256 = All-head (λ x. x < 256) c rest later in (
+      symbol (a / 4) (omega arith),
+      (
+        symbol (a % 4 * 16 + b / 16) (omega arith),
+        (
+          symbol (b % 16 * 4 + c / 64) (omega arith),
+          (
+            symbol (c % 64) (omega arith),
+            symbols_word rest (All-tail (λ x. x < 256) c rest later),
+          ),
+        ),
+      ),
+    )
 
 pub base64_word : (s : List ℕ) → AreOctets s → IsPlainWord (encode_of standard s)
 base64_word s h =

@@ -18,9 +18,9 @@ by_name P n p0 p1 p2 p3 p4 p5 p6 other =
     (one (eqb n 4) 4 _ _ (λ e. grind (arith, nat_tests)) p4
     (one (eqb n 5) 5 _ _ (λ e. grind (arith, nat_tests)) p5
     (one (eqb n 6) 6 _ _ (λ e. grind (arith, nat_tests)) p6 other)))))) where
-  one : (b : Bool) (m : ℕ) (x y : List ℕ) → (b ≡ true → m ≡ n) → P x m → P y n → P (cond b x y) n
-  one true m x y e p q = subst (λ (k : ℕ). P x k) (e refl) p
-  one false m x y e p q = q
+      one : (b : Bool) (m : ℕ) (x y : List ℕ) → (b ≡ true → m ≡ n) → P x m → P y n → P (cond b x y) n
+      one true m x y e p q = subst (λ (k : ℕ). P x k) (e refl) p
+      one false m x y e p q = q
 
 pub key_read : (n : ℕ) → n < 2 ^ 64 → key_of_name (key_name n) ≡ n
 key_read n h = by_name (λ (s : List ℕ) (m : ℕ). key_of_name s ≡ m) n refl refl refl refl refl refl refl (number_read n h)

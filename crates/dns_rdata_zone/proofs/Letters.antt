@@ -144,9 +144,11 @@ is_item_octet c = is_bare c && (differs c 44 && differs c 61)
 
 pub item_tested : (c : ℕ) → is_item_octet c ≡ true → IsItemOctet c
 item_tested c h =
-    let others : differs c 44 && differs c 61 ≡ true = second_true (is_bare c) (differs c 44 && differs c 61) h in
-    (bare_tested c (first_true (is_bare c) (differs c 44 && differs c 61) h), not_same c 44 (first_true (differs c 44) (differs c 61) others),
-    not_same c 61 (second_true (differs c 44) (differs c 61) others))
+    let others : differs c 44 && differs c 61 ≡ true = second_true (is_bare c) (differs c 44 && differs c 61) h in (
+      bare_tested c (first_true (is_bare c) (differs c 44 && differs c 61) h),
+      not_same c 44 (first_true (differs c 44) (differs c 61) others),
+      not_same c 61 (second_true (differs c 44) (differs c 61) others),
+    )
 
 pub plain_tested : (s : List ℕ) → list_all is_bare s ≡ true → IsPlainWord s
 plain_tested s h = all_tested IsBare is_bare bare_tested s h

@@ -13,6 +13,7 @@ pub mod Rows
 pub mod ServiceDigits
 pub mod ServiceReads
 pub mod Taking
+pub mod TextsRead
 pub mod TypeReads
 pub mod ValueReads
 pub mod WordReads

@@ -1,11 +1,11 @@
 -- The octets of options in hexadecimal.
-use Rattle.std.proofs.Common.{◌≡◌, ℕ, ◌+◌, ◌%◌, ◌<◌, ◌≤◌, List, [], ◌∷◌, ◌++◌, length, decimal, refl, sym, ◌∙◌, ap, append_assoc, arith}
+use Rattle.std.proofs.Common.{◌≡◌, ℕ, ◌+◌, ◌%◌, ◌<◌, ◌≤◌, List, [], ◌∷◌, ◌++◌, length, map, decimal, refl, sym, ◌∙◌, ap, append_assoc, arith}
 use Rattle.std.specs.Prelude.{flat_map}
 use Rattle.std.specs.Int.{bytes_high_first}
 use Rattle.hex.specs.Hex.{encode_lower}
-use Rattle.dns_fields.specs.Fields.{Number, field_octets}
-use Rattle.dns_fields.specs.Pieces.{piece}
-use Rattle.dns_rdata_options.specs.OPT.{Pair}
+use Rattle.dns_fields.specs.Fields.{Number, field_octets, option_pieces}
+use Rattle.dns_fields.specs.Pieces.{piece, pieces}
+use Rattle.dns_rdata_options.specs.OPT.{Pair, pair_value}
 use Rattle.dns_rdata_zone.specs.Generic.{generic}
 use Rattle.dns_rdata_zone.specs.Options.{pair_octets, option_digits, options_octets, subnet_octets, zone_options}
 use Rattle.dns_rdata_zone.proofs.Digits.{hex_append, hex_none, generic_is}
@@ -39,10 +39,7 @@ pub options_generic : (pairs : List Pair) (count : ℕ) → count ≡ length (op
 options_generic pairs count e h =
     ap (λ (t : List ℕ). 92 ∷ 35 ∷ 32 ∷ (decimal count ++ 32 ∷ t)) (options_digits pairs) ∙ generic_is (options_octets pairs) count e h
 
-none_there : (s : List ℕ) → 0 ≡ length s → s ≡ []
-none_there [] e = refl
-none_there (c ∷ s) e = absurd (omega (arith, e))
-
--- no octets
-pub options_none : (pairs : List Pair) → 0 ≡ length (options_octets pairs) → zone_options pairs ≡ generic []
-options_none pairs e = ap generic (none_there (options_octets pairs) e)
+-- the octets of options as those of a field
+pub options_pieces : (pairs : List Pair) → options_octets pairs ≡ pieces (option_pieces (map pair_value pairs))
+options_pieces [] = refl
+options_pieces (p ∷ pairs) = ap (λ (t : List ℕ). pair_octets p ++ t) (options_pieces pairs)

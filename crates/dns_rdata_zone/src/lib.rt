@@ -4,6 +4,7 @@
 
 mod generic;
 mod keys;
+pub mod laws;
 mod lists;
 mod names;
 mod options;

@@ -14,9 +14,15 @@ use std::io::{BufRead, BufReader, BufWriter, Write};
 fn answer<W: Write>(alloc: Global, line: &str, out: &mut W) -> Result<()> {
     let mut words = line.split_whitespace();
     let kind = record_type(words.next().context("a type is missing")?)?;
-    let place = words.next().context("a place is missing")?.parse::<usize>()?;
+    let place = words
+        .next()
+        .context("a place is missing")?
+        .parse::<usize>()?;
     let length = words.next().context("a length is missing")?.parse::<u16>()?;
-    let octets = words.next().context("octets are missing")?.trim_matches('-');
+    let octets = words
+        .next()
+        .context("octets are missing")?
+        .trim_matches('-');
     let message = hex::decode(alloc, octets)?;
     let mut decoder = BinDecoder::new(alloc, message.as_slice());
     if decoder.read_slice(place).is_err() {
