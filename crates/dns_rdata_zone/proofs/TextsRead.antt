@@ -122,7 +122,7 @@ caa_law x h =
     (row_then (number_reads 1 (caa_flags x) (omega (arith, flags)))
     (row_then (tag_reads x.tag (alphanumeric_plain x.tag (second_true (is_some x.tag) (list_all is_ascii_alphanumeric x.tag) is)))
     (row_last (quoted_reads x.value h.fields.1))))))
-    (λ _. generic_read types.CAA (canonical caa_shape (caa_fields x)) h.data)
+    (λ _. generic_read types.CAA (canonical caa_shape (caa_fields x)) h.octets)
 
 csync_law : (x : CSYNC) → IsReadable (rdata.CSYNC x) → zone_read types.CSYNC (zone_text (rdata.CSYNC x)) ≡ zone_octets (rdata.CSYNC x)
 unfolding field_octets
@@ -148,7 +148,7 @@ cert_law x h =
     (λ _. own_read types.CERT _ _ (row_text (four (decimal a) (decimal x.key_tag) (decimal c) (cert_data_text x))
     (row_then (number_reads 2 a (omega (arith, small_a))) (row_then (number_reads 2 x.key_tag (omega (arith, small_b)))
     (row_then (number_reads 1 c (omega (arith, small_c))) (row_last (base64_reads x.cert_data k.3)))))))
-    (λ _. generic_read types.CERT (canonical cert_shape (cert_fields x)) h.data)
+    (λ _. generic_read types.CERT (canonical cert_shape (cert_fields x)) h.octets)
 
 sshfp_law : (x : SSHFP) → IsReadable (rdata.SSHFP x) → zone_read types.SSHFP (zone_text (rdata.SSHFP x)) ≡ zone_octets (rdata.SSHFP x)
 unfolding field_octets
@@ -161,7 +161,7 @@ sshfp_law x h =
     one_of types.SSHFP (is_some x.fingerprint) (sshfp_text x) (generic (canonical sshfp_shape (sshfp_fields x))) _
     (λ _. own_read types.SSHFP _ _ (row_text (three (decimal a) (decimal b) (encode_lower x.fingerprint))
     (row_then (number_reads 1 a (omega (arith, small_a))) (row_then (number_reads 1 b (omega (arith, small_b))) (row_last (hex_reads x.fingerprint k.2))))))
-    (λ _. generic_read types.SSHFP (canonical sshfp_shape (sshfp_fields x)) h.data)
+    (λ _. generic_read types.SSHFP (canonical sshfp_shape (sshfp_fields x)) h.octets)
 
 -- of each type that is read as TLSA is
 tlsa_reads : (x : TLSA) → IsWritableTlsa x
@@ -205,26 +205,26 @@ pub texts_read : TextsRead
 unfolding field_octets
 texts_read (rdata.A x) h = own_read types.A _ _ (row_last (ipv4_reads x.0 h.fields))
 texts_read (rdata.AAAA x) h = own_read types.AAAA _ _ (row_last (ipv6_reads x.0 h.fields))
-texts_read (rdata.ANAME x) h = generic_alone types.ANAME (name_octets x.0) h.data
+texts_read (rdata.ANAME x) h = generic_alone types.ANAME (name_octets x.0) h.octets
 texts_read (rdata.CAA x) h = caa_law x h
 texts_read (rdata.CERT x) h = cert_law x h
 texts_read (rdata.CNAME x) h = own_read types.CNAME _ _ (row_last (name_reads x.0 h.fields))
 texts_read (rdata.CSYNC x) h = csync_law x h
 texts_read (rdata.HINFO x) h =
     own_read types.HINFO _ _ (row_text (two (quoted x.cpu) (quoted x.os)) (row_then (string_reads x.cpu h.fields.0) (row_last (string_reads x.os h.fields.1))))
-texts_read (rdata.HTTPS x) h = service_law types.HTTPS refl x.0 h.data h.fields
+texts_read (rdata.HTTPS x) h = service_law types.HTTPS refl x.0 h.octets h.fields
 texts_read (rdata.MX x) h =
     let small = h.fields.0 in
     own_read types.MX _ _ (row_text (two (decimal x.preference) (zone_name x.exchange))
     (row_then (number_reads 2 x.preference (omega (arith, small))) (row_last (name_reads x.exchange h.fields.1))))
 texts_read (rdata.NAPTR x) h = naptr_law x h
-texts_read (rdata.NULL x) h = generic_alone types.NULL x.anything h.data
+texts_read (rdata.NULL x) h = generic_alone types.NULL x.anything h.octets
 texts_read (rdata.NS x) h = own_read types.NS _ _ (row_last (name_reads x.0 h.fields))
-texts_read (rdata.OPENPGPKEY x) h = key_law x.public_key h.data h.fields
+texts_read (rdata.OPENPGPKEY x) h = key_law x.public_key h.octets h.fields
 texts_read (rdata.OPT x) h =
-    ap (λ (o : List ℕ). zone_read types.OPT (generic o)) (options_pieces x) ∙ generic_alone types.OPT (pieces (option_pieces (map pair_value x))) h.data
+    ap (λ (o : List ℕ). zone_read types.OPT (generic o)) (options_pieces x) ∙ generic_alone types.OPT (pieces (option_pieces (map pair_value x))) h.octets
 texts_read (rdata.PTR x) h = own_read types.PTR _ _ (row_last (name_reads x.0 h.fields))
-texts_read (rdata.SMIMEA x) h = tlsa_law types.SMIMEA refl x.0 h.data h.fields
+texts_read (rdata.SMIMEA x) h = tlsa_law types.SMIMEA refl x.0 h.octets h.fields
 texts_read (rdata.SOA x) h = soa_law x h
 texts_read (rdata.SRV x) h =
     let priority = h.fields.0 in
@@ -234,12 +234,12 @@ texts_read (rdata.SRV x) h =
     (row_then (number_reads 2 x.priority (omega (arith, priority))) (row_then (number_reads 2 x.weight (omega (arith, weight)))
     (row_then (number_reads 2 x.port (omega (arith, port))) (row_last (name_reads x.target h.fields.3))))))
 texts_read (rdata.SSHFP x) h = sshfp_law x h
-texts_read (rdata.SVCB x) h = service_law types.SVCB refl x h.data h.fields
-texts_read (rdata.TLSA x) h = tlsa_law types.TLSA refl x h.data h.fields
-texts_read (rdata.TXT x) h = strings_law x.txt_data h.data h.fields
-texts_read (rdata.Unknown code x) h = generic_alone code x.anything h.data
-texts_read (rdata.Update0 t) h = generic_read t [] h.data
-texts_read rdata.ZERO h = generic_read types.ZERO [] h.data
+texts_read (rdata.SVCB x) h = service_law types.SVCB refl x h.octets h.fields
+texts_read (rdata.TLSA x) h = tlsa_law types.TLSA refl x h.octets h.fields
+texts_read (rdata.TXT x) h = strings_law x.txt_data h.octets h.fields
+texts_read (rdata.Unknown code x) h = generic_alone code x.anything h.octets
+texts_read (rdata.Update0 t) h = generic_read t [] h.octets
+texts_read rdata.ZERO h = generic_read types.ZERO [] h.octets
 
 pub texts_tell : TextsTell
 texts_tell v w h k same text =

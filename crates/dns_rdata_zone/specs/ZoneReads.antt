@@ -114,7 +114,7 @@ FieldsFit v = Unit {0}
 
 -- What every value has that can be emitted, told here since contracts see numbers and octets as numbers of any size.
 pub record IsReadable (v : RData) : Type 0 where
-  pub data : AreData (zone_octets v)
+  pub octets : AreData (zone_octets v)
   pub fields : FieldsFit v
 
 -- ---- laws
