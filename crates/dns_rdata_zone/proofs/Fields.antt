@@ -1,23 +1,22 @@
 -- Each reader of a field takes what was written.
-use Rattle.std.proofs.Common.{◌≡◌, ◌≢◌, ℕ, ◌+◌, ◌<◌, ◌≤◌, ◌^◌, Bool, true, false, cond, eqb, nat_le, ◌&&◌, List, [], ◌∷◌, ◌++◌, map, drop, length, refl, sym, ◌∙◌, ap, append_assoc, arith}
+use Rattle.std.proofs.Common.{◌≡◌, ◌≢◌, ℕ, ◌<◌, ◌≤◌, ◌^◌, Bool, true, false, cond, eqb, nat_le, ◌&&◌, List, [], ◌∷◌, ◌++◌, map, drop, refl, sym, ◌∙◌, ap, append_assoc, arith}
 use Rattle.std.specs.Prelude.{flat_map, codes, decimal}
 use Rattle.std.specs.Int.{bytes_high_first}
 use Rattle.std.proofs.lemmas.Bool.Decides.{nat_tests}
 use Rattle.std.proofs.lemmas.List.{append-nil}
 use Rattle.std.proofs.lemmas.List.Elements.{All-head}
-use Rattle.hex.specs.Hex.{encode_lower}
 use Rattle.dns_fields.specs.Labels.{AreLabels, DomainName}
 use Rattle.dns_fields.specs.Octets.{AreOctets}
 use Rattle.dns_fields.specs.Pieces.{string}
-use Rattle.dns_zone_words.specs.FieldReaders.{Taken, FieldReader, up_to, string_at, word_at, number_of_word, number_field, string_field, quoted_field, tag_field, name_field}
-use Rattle.dns_zone_words.specs.FieldReaders.{TakenName, labels_from, name_at, name_octets, is_generic, strings_in}
+use Rattle.dns_zone_words.specs.FieldReaders.{Taken, FieldReader, string_at, word_at, number_of_word, number_field, string_field, quoted_field, tag_field, name_field}
+use Rattle.dns_zone_words.specs.FieldReaders.{TakenName, name_at, name_octets, is_generic}
 use Rattle.dns_zone_words.specs.Letters.{Letter, plain, kept, letters}
 use Rattle.dns_rdata_zone.specs.Names.{zone_label, zone_labels, zone_name}
 use Rattle.dns_rdata_zone.specs.Readers.{strings_field}
 use Rattle.dns_rdata_zone.specs.Spellings.{needs_backslash, name_octet}
 use Rattle.dns_rdata_zone.specs.Strings.{quoted, spaced}
-use Rattle.dns_rdata_zone.specs.ZoneReads.{AllOctets, IsWritable}
-use Rattle.dns_rdata_zone.proofs.Letters.{quoted_letter, quoted_letters, last_letters, IsPlainWord, word_letters, last_word, plain_decimal, number_read, name_letter, name_octet_letter}
+use Rattle.dns_rdata_zone.specs.Readable.{AllOctets, IsWritable}
+use Rattle.dns_rdata_zone.proofs.Letters.{quoted_letters, last_letters, IsPlainWord, word_letters, last_word, plain_decimal, number_read, name_letter, name_octet_letter}
 use Rattle.dns_rdata_zone.proofs.Rows.{FieldReads, LastReads}
 use Rattle.dns_rdata_zone.proofs.Taking.{string_taken, strings_read, word_taken, NoneEmpty, before, labels_read}
 

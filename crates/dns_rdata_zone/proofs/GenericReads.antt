@@ -9,7 +9,8 @@ use Rattle.dns_zone_words.specs.FieldReaders.{Taken, generic_octets, octets_or_n
 use Rattle.dns_zone_words.specs.Letters.{Letter, plain, kept, letters, octet_of}
 use Rattle.dns_rdata_zone.specs.Generic.{generic}
 use Rattle.dns_rdata_zone.specs.Readers.{readers}
-use Rattle.dns_rdata_zone.specs.ZoneReads.{zone_read, AreData}
+use Rattle.dns_rdata_zone.specs.Readable.{AreData}
+use Rattle.dns_rdata_zone.specs.ZoneReads.{zone_read}
 use Rattle.dns_rdata_zone.proofs.Encodings.{hex_word, hex_decoded}
 use Rattle.dns_rdata_zone.proofs.Letters.{word_letters, last_word, plain_decimal, octets_plain}
 use Rattle.dns_rdata_zone.proofs.Rows.{RowReads}

@@ -1,5 +1,5 @@
 -- Service bindings are read from their texts.
-use Rattle.std.proofs.Common.{◌≡◌, ◌≢◌, ℕ, ◌<◌, ◌≤◌, ◌^◌, Bool, true, false, ◌&&◌, List, [], ◌∷◌, ◌++◌, map, codes, refl, sym, ◌∙◌, ap, append_assoc, arith}
+use Rattle.std.proofs.Common.{◌≡◌, ◌≢◌, ℕ, true, List, [], ◌∷◌, ◌++◌, map, codes, refl, sym, ◌∙◌, ap, append_assoc, arith}
 use Rattle.std.specs.Prelude.{flat_map}
 use Rattle.std.specs.List.{AllByRecursion, list_all}
 use Rattle.std.specs.Ordering.{nat_cmp}
@@ -9,20 +9,19 @@ use Rattle.dns_fields.specs.Sorting.{sorted}
 use Rattle.dns_rdata_service.specs.Parameters.{Parameter, parameter_of}
 use Rattle.dns_rdata_service.specs.SvcParamKey.{key_number}
 use Rattle.dns_rdata_service.specs.declared.svcb.SVCB.{SVCB}
-use Rattle.dns_zone_words.specs.FieldReaders.{Taken, up_to, is_generic}
+use Rattle.dns_zone_words.specs.FieldReaders.{Taken, is_generic}
 use Rattle.dns_zone_words.specs.Letters.{Letter, plain, letters}
 use Rattle.dns_rdata_zone.specs.ParameterWords.{key_of_name, value_octets, value_text, parameter_in, parameters_field}
 use Rattle.dns_rdata_zone.specs.Parameters.{named_key, zone_value, zone_parameter, has_text}
 use Rattle.dns_rdata_zone.specs.Readers.{service_row}
 use Rattle.dns_rdata_zone.specs.Services.{service_octets, service_text}
-use Rattle.dns_rdata_zone.specs.Words.{words_in}
-use Rattle.dns_rdata_zone.specs.ZoneReads.{IsWritableParameter, IsWritableService}
+use Rattle.dns_rdata_zone.specs.Readable.{IsWritableParameter, IsWritableService}
 use Rattle.dns_rdata_zone.proofs.Fields.{number_reads, name_reads, plain_first}
 use Rattle.dns_rdata_zone.proofs.ItemReads.{InOrder, in_order}
 use Rattle.dns_rdata_zone.proofs.KeyReads.{key_read, key_item, key_some}
 use Rattle.dns_rdata_zone.proofs.Letters.{first_true, second_true, IsPlainItem, item_word, word_letters}
 use Rattle.dns_rdata_zone.proofs.Rows.{RowReads, ListReads, row_list}
-use Rattle.dns_rdata_zone.proofs.ValueReads.{OctetsRead, ValueReads, value_letters, value_reads, lower_first}
+use Rattle.dns_rdata_zone.proofs.ValueReads.{value_letters, value_reads, lower_first}
 use Rattle.dns_rdata_zone.proofs.WordReads.{WordReads, uncut_plain, words_read}
 
 -- ---- a parameter

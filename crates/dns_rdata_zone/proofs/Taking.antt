@@ -1,15 +1,14 @@
 -- What was written is taken from its letters: strings, words, names.
-use Rattle.std.proofs.Common.{◌≡◌, ◌≢◌, ℕ, ◌+◌, ◌<◌, ◌≤◌, true, false, eqb, List, [], ◌∷◌, ◌++◌, map, refl, sym, ◌∙◌, ap, append_assoc, arith}
+use Rattle.std.proofs.Common.{◌≡◌, ◌≢◌, ℕ, ◌≤◌, true, false, eqb, List, [], ◌∷◌, ◌++◌, map, refl, sym, ◌∙◌, ap, append_assoc, arith}
 use Rattle.std.specs.Prelude.{flat_map}
 use Rattle.std.proofs.lemmas.Bool.Decides.{nat_tests}
 use Rattle.std.proofs.lemmas.List.{append-nil}
-use Rattle.dns_fields.specs.Labels.{AreLabels}
 use Rattle.dns_fields.specs.Octets.{AreOctets}
-use Rattle.dns_zone_words.specs.FieldReaders.{Taken, up_to, with_octet, strings_in, TakenName, with_label, labels_from, name_at}
+use Rattle.dns_zone_words.specs.FieldReaders.{up_to, with_octet, strings_in, TakenName, with_label, labels_from, name_at}
 use Rattle.dns_zone_words.specs.Letters.{Letter, plain, letters}
 use Rattle.dns_rdata_zone.specs.Names.{zone_label, zone_labels}
 use Rattle.dns_rdata_zone.specs.Strings.{quoted, spaced}
-use Rattle.dns_rdata_zone.specs.ZoneReads.{AllOctets}
+use Rattle.dns_rdata_zone.specs.Readable.{AllOctets}
 use Rattle.dns_rdata_zone.proofs.Letters.{quoted_letter, quoted_octet, no_quote, quoted_letters, IsPlainWord, name_letter, name_letter_octet, no_dot, no_blank, zone_label_letters}
 
 -- ---- strings

@@ -1,5 +1,5 @@
 -- Record data is read from its text.
-use Rattle.std.proofs.Common.{◌≡◌, ℕ, ◌<◌, ◌≤◌, ◌^◌, Bool, true, false, cond, ◌&&◌, List, [], ◌∷◌, ◌++◌, map, codes, refl, sym, ◌∙◌, ap, subst, append_assoc, arith}
+use Rattle.std.proofs.Common.{◌≡◌, ℕ, cond, List, [], ◌∷◌, ◌++◌, map, codes, refl, sym, ◌∙◌, ap, subst, append_assoc, arith}
 use Rattle.std.specs.Prelude.{flat_map, decimal}
 use Rattle.std.specs.Char.{is_ascii_alphanumeric}
 use Rattle.std.specs.Int.{cast_unsigned, w32}
@@ -15,7 +15,6 @@ use Rattle.dns_types.specs.RecordTypes.{record_type_of}
 use Rattle.dns_types.specs.declared.record_type.RecordType.{RecordType}
 use Rattle.dns_types.specs.declared.record_type.RecordType.TheVariants as types
 use Rattle.dns_rdata.specs.Data.{type_of}
-use Rattle.dns_rdata.specs.declared.record_data.RData.{RData}
 use Rattle.dns_rdata.specs.declared.record_data.RData.TheVariants as rdata
 use Rattle.dns_rdata_base.specs.declared.naptr.NAPTR.{NAPTR}
 use Rattle.dns_rdata_base.specs.declared.soa.SOA.{SOA}
@@ -47,7 +46,8 @@ use Rattle.dns_rdata_zone.specs.Records.{zone_strings, zone_tlsa, zone_type, has
 use Rattle.dns_rdata_zone.specs.Services.{service_octets, service_text, zone_service}
 use Rattle.dns_rdata_zone.specs.Strings.{quoted}
 use Rattle.dns_rdata_zone.specs.WholeOctets.{name_octets}
-use Rattle.dns_rdata_zone.specs.ZoneReads.{zone_read, AreData, AllOctets, IsWritableService, IsWritableTlsa, IsReadable, TextsRead, TextsTell}
+use Rattle.dns_rdata_zone.specs.Readable.{AreData, AllOctets, IsWritableService, IsWritableTlsa, IsReadable}
+use Rattle.dns_rdata_zone.specs.ZoneReads.{zone_read, TextsRead, TextsTell}
 use Rattle.dns_rdata_zone.specs.ZoneTexts.{zone_text, zone_octets}
 use Rattle.dns_rdata_zone.proofs.AddressReads.{ipv4_reads, ipv6_reads}
 use Rattle.dns_rdata_zone.proofs.Encodings.{hex_reads, base64_reads}

@@ -1,8 +1,7 @@
 -- Words of record types are read as their numbers.
-use Rattle.std.proofs.Common.{◌≡◌, ◌≢◌, ℕ, ◌<◌, ◌≤◌, ◌^◌, true, false, List, [], ◌∷◌, ◌++◌, map, refl, sym, ◌∙◌, ap, arith, subst}
+use Rattle.std.proofs.Common.{◌≡◌, ◌≢◌, ℕ, ◌<◌, ◌^◌, false, List, [], ◌∷◌, ◌++◌, map, refl, ◌∙◌, ap, arith, subst}
 use Rattle.std.specs.Prelude.{flat_map, codes, decimal}
-use Rattle.std.specs.List.{AllByRecursion, list_all}
-use Rattle.std.specs.Str.Parse.{digits_value}
+use Rattle.std.specs.List.{AllByRecursion}
 use Rattle.std.proofs.lemmas.List.{append-nil}
 use Rattle.dns_fields.specs.Bitmaps.{block, minimal}
 use Rattle.dns_types.specs.RecordTypes.{number_of, record_type_of}
@@ -13,7 +12,6 @@ use Rattle.dns_zone_words.specs.FieldReaders.{is_generic}
 use Rattle.dns_zone_words.specs.Letters.{Letter, plain, letters, octet_of}
 use Rattle.dns_rdata_zone.specs.Records.{zone_type}
 use Rattle.dns_rdata_zone.specs.TypeWords.{type_number, types_field}
-use Rattle.dns_rdata_zone.specs.Words.{words_in}
 use Rattle.dns_rdata_zone.proofs.Fields.{plain_first}
 use Rattle.dns_rdata_zone.proofs.Letters.{IsBare, IsPlainWord, plain_tested, all_append, plain_decimal, number_read, word_letters, octets_plain}
 use Rattle.dns_rdata_zone.proofs.Rows.{ListReads}

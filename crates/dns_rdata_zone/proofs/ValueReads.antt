@@ -1,14 +1,12 @@
 -- Values of parameters are read from their texts.
-use Rattle.std.proofs.Common.{◌≡◌, ◌≢◌, ℕ, ◌+◌, ◌<◌, ◌≤◌, ◌^◌, Bool, true, false, cond, eqb, ◌||◌, ◌&&◌, nat_le, nat_lt, List, [], ◌∷◌, ◌++◌, All, map, codes, refl, sym, ◌∙◌, ap, subst, append_assoc, arith}
+use Rattle.std.proofs.Common.{◌≡◌, ◌≢◌, ℕ, ◌<◌, ◌^◌, Bool, true, false, cond, eqb, ◌||◌, ◌&&◌, nat_lt, List, [], ◌∷◌, ◌++◌, map, codes, refl, sym, ◌∙◌, ap, subst, append_assoc, arith}
 use Rattle.std.specs.Prelude.{flat_map, decimal}
 use Rattle.std.specs.Int.{bytes_high_first}
 use Rattle.std.specs.List.{AllByRecursion}
 use Rattle.std.specs.Net.Addr.{IsIpv4Addr, IsIpv6Addr}
 use Rattle.std.specs.Ordering.{nat_cmp, is_gt}
 use Rattle.std.specs.Cmp.{nat_cmp_is}
-use Rattle.std.specs.declared.cmp.Ordering.{Ordering}
 use Rattle.std.specs.declared.cmp.Ordering.TheVariants.{Less}
-use Rattle.std.specs.Str.Parse.{digits_value}
 use Rattle.std.proofs.lemmas.Bool.{eqb-true}
 use Rattle.std.proofs.lemmas.Bool.Decides.{nat_tests}
 use Rattle.std.proofs.lemmas.Grind.{flat_map-append}
@@ -29,14 +27,14 @@ use Rattle.dns_rdata_service.specs.declared.svcb.key.SvcParamKey.{SvcParamKey}
 use Rattle.dns_rdata_service.specs.declared.svcb.value.SvcParamValue.{SvcParamValue}
 use Rattle.dns_rdata_service.specs.declared.svcb.value.SvcParamValue.TheVariants.{Mandatory, Alpn, NoDefaultAlpn, Port, Ipv4Hint, EchConfigList, Ipv6Hint, Unknown}
 use Rattle.dns_zone_words.specs.FieldReaders.{Taken, up_to, with_octet}
-use Rattle.dns_zone_words.specs.Letters.{Letter, plain, letters, octet_of}
+use Rattle.dns_zone_words.specs.Letters.{Letter, plain, letters}
 use Rattle.dns_rdata_zone.specs.Addresses.{ipv4_of, ipv6_of}
 use Rattle.dns_rdata_zone.specs.Lists.{commas}
 use Rattle.dns_rdata_zone.specs.ParameterWords.{key_of_name, items_in, value_octets, value_text}
 use Rattle.dns_rdata_zone.specs.Parameters.{named_key, protocol, zone_value, rises_from, value_has_text}
 use Rattle.dns_rdata_zone.specs.Spellings.{escaped, item_octet, protocol_octet}
 use Rattle.dns_rdata_zone.specs.Strings.{quoted}
-use Rattle.dns_rdata_zone.specs.ZoneReads.{AllOctets, IsWritableValue}
+use Rattle.dns_rdata_zone.specs.Readable.{AllOctets, IsWritableValue}
 use Rattle.dns_rdata_zone.proofs.AddressReads.{ipv4_item, ipv6_item, ipv4_read, ipv6_read}
 use Rattle.dns_rdata_zone.proofs.Encodings.{base64_word, base64_decoded}
 use Rattle.dns_rdata_zone.proofs.ItemReads.{ItemReads, spelled_reads, items_read, commas_word, each_plain, InOrder, in_order}

@@ -5,6 +5,7 @@ pub mod Names
 pub mod Options
 pub mod ParameterWords
 pub mod Parameters
+pub mod Readable
 pub mod Readers
 pub mod Records
 pub mod Services

@@ -1,5 +1,5 @@
 -- How the data of each type is read in a zone file: a row of readers, one for each field.
-use Rattle.std.specs.Prelude.{ℕ, List, [], ◌∷◌, false}
+use Rattle.std.specs.Prelude.{List, [], ◌∷◌, false}
 use Rattle.std.specs.List.{flat_map}
 use Rattle.dns_fields.specs.Pieces.{string}
 use Rattle.dns_types.specs.declared.record_type.RecordType.{RecordType}

@@ -1,5 +1,5 @@
 -- Words of record types in texts of zone files, as the set of types that they are (RFC 7477, 2.1; RFC 4034, 4.1.2 and 4.2).
-use Rattle.std.specs.Prelude.{ℕ, ◌==◌, bytes_eq, drop, find, List, [], ◌∷◌, map, Option, Some, None}
+use Rattle.std.specs.Prelude.{ℕ, bytes_eq, drop, find, List, [], map, Option, Some, None}
 use Rattle.std.specs.List.{flat_map}
 use Rattle.std.specs.Str.Parse.{digits_value}
 use Rattle.dns_fields.specs.Bitmaps.{block, minimal}

@@ -1,5 +1,5 @@
 -- The words of a text: what stands between two blanks outside of quotes (RFC 1035, 5.1).
-use Rattle.std.specs.Prelude.{ℕ, ◌&&◌, not, Bool, true, false, if◌then◌else◌, List, [], ◌∷◌, ◌++◌}
+use Rattle.std.specs.Prelude.{◌&&◌, not, Bool, false, if◌then◌else◌, List, [], ◌∷◌, ◌++◌}
 use Rattle.dns_zone_words.specs.Letters.{Letter, stands_for}
 
 -- whether a text is in quotes behind a letter

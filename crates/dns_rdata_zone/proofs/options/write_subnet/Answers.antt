@@ -1,4 +1,4 @@
-use Rattle.std.proofs.Common.{◌≡◌, List, [], ◌++◌, ◌∙◌, ap, arith, take}
+use Rattle.std.proofs.Common.{◌≡◌, [], ◌++◌, ◌∙◌, ap, arith, take}
 use Rattle.std.proofs.Output.{has_written_of_eq}
 use Rattle.hex.specs.Hex.{encode_lower}
 use Rattle.dns_fields.specs.Fields.{Number, field_octets}

@@ -1,8 +1,7 @@
-use Rattle.std.proofs.Common.{◌≡◌, ℕ, List, [], ◌∷◌, ◌++◌, rules, ap, length, refl}
+use Rattle.std.proofs.Common.{[], ◌∷◌, rules, length}
 use Rattle.std.proofs.Output.{has_written_append, has_written_of_eq}
 use Rattle.std.specs.Fmt.{HasWritten}
 use Rattle.hex.specs.Hex.{encode_lower}
-use Rattle.dns_fields.specs.Labels.{wire}
 use Rattle.dns_rdata_zone.proofs.Digits.{digits_more, digits_all}
 use Rattle.dns_rdata_zone.proofs.generic.NameDigitsDisplay.fmt.Goals as goal
 

@@ -1,4 +1,4 @@
-use Rattle.std.proofs.Common.{◌≡◌, ◌≤◌, ◌∙◌, ap, arith}
+use Rattle.std.proofs.Common.{◌≤◌, ◌∙◌, ap, arith}
 use Rattle.std.proofs.Output.{has_written_of_eq}
 use Rattle.dns_rdata_zone.specs.Options.{zone_options}
 use Rattle.dns_rdata_zone.proofs.OptionDigits.{options_generic}

@@ -1,4 +1,4 @@
-use Rattle.std.proofs.Common.{take, flat_map, ◌++◌, codes, decimal}
+use Rattle.std.proofs.Common.{take}
 use Rattle.std.specs.Fmt.{HasWritten, IsPlainFormatter}
 use Rattle.dns_rdata_zone.specs.Strings.{spaced}
 use Rattle.dns_rdata_zone.proofs.strings.SpacedDisplay.fmt.Given as goal
