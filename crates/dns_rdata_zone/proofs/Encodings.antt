@@ -15,7 +15,7 @@ use Rattle.dns_rdata_zone.proofs.Fields.{word_reads}
 use Rattle.dns_rdata_zone.proofs.Letters.{first_true, second_true, IsBare, is_bare, bare_tested, IsPlainWord, all_append}
 use Rattle.dns_rdata_zone.proofs.Rows.{FieldReads}
 
-bytes_of : (s : List ℕ) → AreOctets s → IsBytes s
+pub bytes_of : (s : List ℕ) → AreOctets s → IsBytes s
 bytes_of [] h i = omega arith
 bytes_of (c ∷ s) h zero = All-head (λ x. x < 256) c s h
 bytes_of (c ∷ s) h (suc i) = bytes_of s (All-tail (λ x. x < 256) c s h) i

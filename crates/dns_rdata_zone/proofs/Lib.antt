@@ -3,6 +3,7 @@ pub mod Caa
 pub mod Digits
 pub mod Encodings
 pub mod Fields
+pub mod Filled
 pub mod GenericReads
 pub mod ItemReads
 pub mod Joined

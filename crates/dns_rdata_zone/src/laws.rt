@@ -1,6 +1,6 @@
 //! Laws that clients may cite: calls without a body, which promise what holds of all values.
 
-ghost use Rattle.dns_rdata_zone.specs.ZoneReads.{TextsRead, TextsTell};
+ghost use Rattle.dns_rdata_zone.specs.ZoneReads.{TextsRead, TextsTell, FillsRead, FillsTell};
 
 /// Texts of zone files.
 pub fn zone_texts_hold()
@@ -8,4 +8,7 @@ pub fn zone_texts_hold()
     ensures read { TextsRead }
     // Two values of a type with one text have the same octets.
     ensures tell { TextsTell }
+    // The same of values that were read from messages.
+    ensures filled_read { FillsRead }
+    ensures filled_tell { FillsTell }
 {}
