@@ -31,6 +31,7 @@ use Rattle.dns_rdata_zone.specs.WholeOctets.{whole_octets, all_whole}
 use Rattle.dns_rdata_zone.specs.ZoneReads.{zone_read, FillsRead, FillsTell}
 use Rattle.dns_rdata_zone.specs.ZoneTexts.{zone_text, zone_octets}
 use Rattle.dns_rdata_zone.proofs.Encodings.{bytes_of}
+use Rattle.dns_rdata_zone.proofs.FilledLengths.{all_short, few_fields}
 use Rattle.dns_rdata_zone.proofs.TextsRead.{texts_read}
 
 -- ---- the octets of fields, names whole
@@ -201,15 +202,19 @@ fields_fit m p v e a h = tt
 own_stands : {m : List ℕ} {p n : ℕ} {t : RecordType} {v : RData} → Fills m p n t v → Stands m p (fields_of v).kinds (fields_of v).values (p + n)
 own_stands {m} {p} {n} f = subst (λ (x : FieldsOf). Stands m p x.kinds x.values (p + n)) (sym f.value.fields) f.window.stands
 
-readable : {m : List ℕ} {p n : ℕ} {t : RecordType} {v : RData} → Fills m p n t v → length (zone_octets v) < 2 ^ 64 → IsReadable v
-readable {m} {p} {n} {t} {v} f short = record {
-  octets = record { octets = all_are m p (fields_of v).kinds (fields_of v).values (p + n) f.window.octets (own_stands f); short = short };
+short : {m : List ℕ} {p n : ℕ} {t : RecordType} {v : RData} → Fills m p n t v → length (zone_octets v) < 2 ^ 64
+short {m} {p} {n} {t} {v} f =
+    let size = f.window.short in
+    omega (arith, size, few_fields v, all_short m p (fields_of v).kinds (fields_of v).values (p + n) (own_stands f))
+
+readable : {m : List ℕ} {p n : ℕ} {t : RecordType} {v : RData} → Fills m p n t v → IsReadable v
+readable {m} {p} {n} {t} {v} f = record {
+  octets = record { octets = all_are m p (fields_of v).kinds (fields_of v).values (p + n) f.window.octets (own_stands f); short = short f };
   fields = fields_fit m p v (p + n) f.window.octets (own_stands f);
 }
 
 pub fills_read : FillsRead
-fills_read m p n t v f short = ap (λ (s : RecordType). zone_read s (zone_text v)) (sym f.value.type) ∙ texts_read v (readable f short)
+fills_read m p n t v f = ap (λ (s : RecordType). zone_read s (zone_text v)) (sym f.value.type) ∙ texts_read v (readable f)
 
 pub fills_tell : FillsTell
-fills_tell m m' p p' n n' t v w f g short short' same =
-    sym (fills_read m p n t v f short) ∙ ap (zone_read t) same ∙ fills_read m' p' n' t w g short'
+fills_tell m m' p p' n n' t v w f g same = sym (fills_read m p n t v f) ∙ ap (zone_read t) same ∙ fills_read m' p' n' t w g

@@ -4,6 +4,7 @@ pub mod Digits
 pub mod Encodings
 pub mod Fields
 pub mod Filled
+pub mod FilledLengths
 pub mod GenericReads
 pub mod ItemReads
 pub mod Joined

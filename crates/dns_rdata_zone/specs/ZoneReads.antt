@@ -1,5 +1,5 @@
 -- What a text of a zone file tells: read by the rules of its type it is the octets of the record.
-use Rattle.std.specs.Prelude.{◌≡◌, ℕ, ◌<◌, ◌^◌, if◌then◌else◌, List, length}
+use Rattle.std.specs.Prelude.{◌≡◌, ℕ, if◌then◌else◌, List}
 use Rattle.dns_rdata.specs.Data.{type_of, Fills}
 use Rattle.dns_rdata.specs.declared.record_data.RData.{RData}
 use Rattle.dns_types.specs.declared.record_type.RecordType.{RecordType}
@@ -28,10 +28,9 @@ TextsTell = (v w : RData) → IsReadable v → IsReadable w → type_of v ≡ ty
 
 -- the text of a value that was read under a type is read, under that type, as the octets of the value
 abbrev pub FillsRead : Type 0
-FillsRead = (m : List ℕ) (p n : ℕ) (t : RecordType) (v : RData) → Fills m p n t v → length (zone_octets v) < 2 ^ 64
-    → zone_read t (zone_text v) ≡ zone_octets v
+FillsRead = (m : List ℕ) (p n : ℕ) (t : RecordType) (v : RData) → Fills m p n t v → zone_read t (zone_text v) ≡ zone_octets v
 
 -- two values that were read under a type and have one text have the same octets
 abbrev pub FillsTell : Type 0
 FillsTell = (m m' : List ℕ) (p p' n n' : ℕ) (t : RecordType) (v w : RData) → Fills m p n t v → Fills m' p' n' t w
-    → length (zone_octets v) < 2 ^ 64 → length (zone_octets w) < 2 ^ 64 → zone_text v ≡ zone_text w → zone_octets v ≡ zone_octets w
+    → zone_text v ≡ zone_text w → zone_octets v ≡ zone_octets w
