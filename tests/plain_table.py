@@ -375,7 +375,7 @@ def service(window):
     return parts, text
 
 
-KEYS = "mandatory alpn no-default-alpn port ipv4hint ech ipv6hint".split()
+KEYS = "mandatory alpn no-default-alpn port ipv4hint ech ipv6hint dohpath".split()
 
 
 def key_text(key):
@@ -384,12 +384,14 @@ def key_text(key):
 
 
 def parameter(key, octets):
-    """The octets of a parameter's value that are kept, and its text (RFC 9460, 7)."""
+    """The octets of a parameter's value that are kept, and its text (RFC 9460, 7; RFC 9461, 5)."""
     window = Window(octets, 0, len(octets))
     if key == 2 and octets or key in (0, 1) and not octets:
         raise NoData
     if key == 3:
         return octets[:2], window.number(2)
+    if key == 7:
+        return octets, f'"{decoded(octets)}"'
     if key not in (0, 1, 2, 4, 6):
         return octets, f'"{base64_text(octets)}"' if key == 5 else f'"{lossy(octets)}",'
     items = []
@@ -406,8 +408,13 @@ def item(key, window):
         return address(window)[1]
     if key == 6:
         return long_address(window)[1]
+    return decoded(window.string())
+
+
+def decoded(octets):
+    """The text of octets that are UTF-8."""
     try:
-        return window.string().decode("utf-8")
+        return octets.decode("utf-8")
     except UnicodeDecodeError:
         raise NoData from None
 

@@ -21,6 +21,7 @@ use Rattle.dns_types.specs.declared.record_type.RecordType.TheVariants as types
 use Rattle.dns_names_wire.specs.State.{Writing}
 use Rattle.dns_names_wire.specs.Words.{Window, Appended, EmitsAs, IsMessage}
 use Rattle.dns_rdata_base.specs.NAPTR.{AreFlags}
+use Rattle.dns_rdata_service.specs.Parameters.{HaveTexts}
 use Rattle.dns_rdata_sets.specs.CAA.{IsTag}
 use Rattle.dns_rdata_sets.specs.CSYNC.{AreKnownFlags}
 use Rattle.dns_rdata.specs.declared.record_data.RData.{RData}
@@ -52,6 +53,8 @@ condition_same types.CERT a b s h = λ e. h (s.1.1.1.0.is ∙ e)
 condition_same types.NAPTR a b s h = subst AreFlags s.1.1.0.is h
 condition_same types.CAA a b s h = subst IsTag s.1.0.is h
 condition_same types.CSYNC a b s h = subst AreKnownFlags s.1.0.is h
+condition_same types.SVCB a b s h = subst HaveTexts s.1.1.0.is h
+condition_same types.HTTPS a b s h = subst HaveTexts s.1.1.0.is h
 condition_same types.ANY a b s h = h
 condition_same t a b s h = h
 

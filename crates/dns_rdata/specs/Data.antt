@@ -26,8 +26,8 @@ use Rattle.dns_rdata_certs.specs.SSHFP.{sshfp_shape, sshfp_fields, sshfp_refusal
 use Rattle.dns_rdata_certs.specs.TLSA.{tlsa_shape, tlsa_fields, tlsa_refusal, IsReadTlsa}
 use Rattle.dns_rdata_base.specs.TXT.{txt_shape, txt_fields, txt_refusal}
 use Rattle.dns_rdata_options.specs.OPT.{opt_shape, opt_fields, opt_refusal, IsReadOpt}
-use Rattle.dns_rdata_service.specs.HTTPS.{https_shape, https_fields, https_refusal, IsReadHttps}
-use Rattle.dns_rdata_service.specs.SVCB.{svcb_shape, svcb_fields, svcb_refusal, IsReadSvcb}
+use Rattle.dns_rdata_service.specs.HTTPS.{https_shape, https_fields, https_condition, https_refusal, IsReadHttps}
+use Rattle.dns_rdata_service.specs.SVCB.{svcb_shape, svcb_fields, svcb_condition, svcb_refusal, IsReadSvcb}
 use Rattle.dns_rdata_sets.specs.CAA.{caa_shape, caa_fields, caa_condition, caa_refusal, IsReadCaa}
 use Rattle.dns_rdata_sets.specs.CSYNC.{csync_shape, csync_fields, csync_condition, csync_refusal, IsReadCsync}
 use Rattle.dns_rdata.specs.declared.record_data.RData.{RData}
@@ -63,7 +63,7 @@ row_of types.CERT = row cert_shape cert_condition cert_refusal
 row_of types.CNAME = row name_shape (anything name_shape) (lacking name_shape)
 row_of types.CSYNC = row csync_shape csync_condition csync_refusal
 row_of types.HINFO = row hinfo_shape (anything hinfo_shape) (λ n. hinfo_refusal)
-row_of types.HTTPS = row https_shape (anything https_shape) https_refusal
+row_of types.HTTPS = row https_shape https_condition https_refusal
 row_of types.MX = row mx_shape (anything mx_shape) (lacking mx_shape)
 row_of types.NAPTR = row naptr_shape naptr_condition (λ n. naptr_refusal)
 row_of types.NULL = row null_shape (anything null_shape) short_refusal
@@ -75,7 +75,7 @@ row_of types.SMIMEA = row smimea_shape (anything smimea_shape) smimea_refusal
 row_of types.SOA = row soa_shape (anything soa_shape) (lacking soa_shape)
 row_of types.SRV = row srv_shape (anything srv_shape) (lacking srv_shape)
 row_of types.SSHFP = row sshfp_shape (anything sshfp_shape) sshfp_refusal
-row_of types.SVCB = row svcb_shape (anything svcb_shape) svcb_refusal
+row_of types.SVCB = row svcb_shape svcb_condition svcb_refusal
 row_of types.TLSA = row tlsa_shape (anything tlsa_shape) tlsa_refusal
 row_of types.TXT = row txt_shape (anything txt_shape) txt_refusal
 row_of types.ZERO = row [] (anything []) (λ n old e new. ⊥)

@@ -335,7 +335,10 @@ impl<'a> Iterator for CanonicalOctets<'a> {
 }
 
 impl RData {
-    /// The canonical octet at a place, and none from their number on. Takes no memory.
+    /// The canonical octet at a place, and none from their number on. Takes no memory. The octets in front of it are gone
+    /// over one by one, so a loop over all of them is for [`RData::canonical_octets`]. Linear in the place; where the
+    /// options of a record stand in no order, each one in front takes some hundred comparisons more, of 1,024 to 16,384
+    /// options, and else as many as there are options.
     pub fn octet_at(&self, place: u128) -> Option<u8>
         ensures { result ≡ slice_get (data_octets self.now) place }
     {

@@ -590,8 +590,9 @@ impl fmt::Display for RData {
     ///
     /// It is for people, as in `hickory-proto`. Some texts, read again, are refused or silently give another value: of TXT
     /// and HINFO whose strings have blanks, are empty or have `"`, `;`, `(` or `\`; of CAA and NAPTR with `"` and `\`; of
-    /// SVCB and HTTPS with keys of no name (`key7=`) or `no-default-alpn=`; of CERT whose type or algorithm prints a name;
-    /// of names with a `;` in a label. To keep a value, keep its octets (`emit`); `from_tokens` says which texts read back.
+    /// SVCB and HTTPS with keys of no name (`key667=`), `no-default-alpn=` or `dohpath=""`; of CERT whose type or algorithm
+    /// prints a name; of names with a `;` in a label. To keep a value, keep its octets (`emit`); `from_tokens` says which
+    /// texts read back.
     fn fmt<W: fmt::Write>(&self, f: &mut fmt::Formatter<W>) -> fmt::Result
         ensures writes { DisplaysOnOk W.write_str_gives f.old result (data_text self.now) f.new }
         ensures styled { DisplaysStyledOnOk W.write_str_gives f.old result None f.new }

@@ -1,63 +1,71 @@
--- The order of pieces of one code, and of what they begin.
-use Rattle.std.proofs.Common.{◌≡◌, ◌≢◌, ℕ, ◌<◌, ◌≤◌, ◌^◌, nat_le, true, arith, List, [], ◌++◌, length, refl, sym, ap, ◌∙◌, subst, append_assoc}
+-- The order of the octets of options, and of lists that they begin.
+use Rattle.std.proofs.Common.{◌≡◌, ◌≢◌, ℕ, ◌<◌, ◌≤◌, ◌^◌, nat_le, Bool, true, false, if◌then◌else◌, arith, List, [], ◌∷◌, ◌++◌, length, map, count_by, refl, sym, ap, ◌∙◌, subst, append_assoc}
 use Rattle.std.proofs.lemmas.Bool.Decides.{nat_tests}
 use Rattle.std.proofs.lemmas.List.{append-nil}
 use Rattle.std.proofs.lemmas.Grind.{flat_map-append}
 use Rattle.std.specs.Int.{bytes_high_first}
-use Rattle.std.specs.List.{flat_map}
-use Rattle.std.specs.Cmp.{ranks, first_so}
-use Rattle.std.specs.Ordering.{MatchOrdering, nat_cmp, ordering_then}
+use Rattle.std.specs.List.{flat_map, AllByRecursion}
+use Rattle.std.specs.Cmp.{ranks, first_so, second_so}
+use Rattle.std.specs.Cmp.Lexicographic.{slice_cmp}
+use Rattle.std.specs.Ordering.{MatchOrdering, is_eq, is_gt, eq_by_cmp, nat_cmp, ordering_then}
 use Rattle.std.specs.declared.cmp.Ordering.{Ordering}
 use Rattle.std.specs.declared.cmp.Ordering.TheVariants.{Less, Equal, Greater}
+use Rattle.dns_fields.specs.Fields.{Options, field_octets}
 use Rattle.dns_fields.specs.Pieces.{piece, option_octets}
-use Rattle.dns_fields.proofs.Numbers.{length-bytes, number_cmp}
+use Rattle.dns_fields.specs.Sorting.{put, sorted}
+use Rattle.dns_fields.proofs.Multisets.{count_sorted, sorted_risen, same_counts}
+use Rattle.dns_fields.proofs.Numbers.{number_cmp}
+use Rattle.dns_pieces.specs.Fronts.{canonical_cmp}
 use Rattle.dns_pieces.proofs.Comparing.{cmp_shared, then_assoc, then_kept}
-use Rattle.dns_pieces.proofs.Fronts.{front_then, halves}
+use Rattle.dns_pieces.proofs.Fronts.{front_then, alone}
 use Rattle.dns_rdata_options.specs.EdnsOption.{option_value}
 use Rattle.dns_rdata_options.specs.Facing.{code_number}
-use Rattle.dns_rdata_options.specs.OPT.{Pair}
-use Rattle.dns_rdata_options.specs.Steps.{octets_cmp, own_piece, pair_emittable}
+use Rattle.dns_rdata_options.specs.OPT.{Pair, pair_value, opt_shape, opt_fields}
+use Rattle.dns_rdata_options.specs.Order.{pair_cmp, risen, opt_eq}
+use Rattle.dns_rdata_options.specs.OrderLaws.{pair_total, opt_ties}
+use Rattle.dns_rdata_options.specs.Steps.{octets_cmp, piece_cmp, own_piece, own_pieces, pair_emittable, pairs_emittable}
 
--- the lengths come next, and then what the pieces hold
-one_code : (c : ℕ) (s t u v : List ℕ) → length s < 256 ^ 2 → length t < 256 ^ 2
-    → octets_cmp (piece (c, s) ++ u) (piece (c, t) ++ v) ≡ ordering_then (nat_cmp (length s) (length t)) (octets_cmp (s ++ u) (t ++ v))
-one_code c s t u v h k =
-    cmp_shared {n = 2} record { shared = bytes_high_first 2 c; count = length-bytes 2 c; left = parts s u; right = parts t v }
-    ∙ halves 2 (bytes_high_first 2 (length s) ++ (s ++ u)) (bytes_high_first 2 (length t) ++ (t ++ v)) refl
+-- the codes come first, then the lengths, and then what the pieces hold
+by_parts : (c d : ℕ) (s t u v : List ℕ) → length s < 256 ^ 2 → length t < 256 ^ 2
+    → octets_cmp (piece (c, s) ++ u) (piece (d, t) ++ v)
+    ≡ ordering_then (octets_cmp (bytes_high_first 2 c) (bytes_high_first 2 d)) (ordering_then (nat_cmp (length s) (length t)) (octets_cmp (s ++ u) (t ++ v)))
+by_parts c d s t u v h k =
+    (λ i. octets_cmp (parts c s u i) (parts d t v i))
+    ∙ front_then (bytes_high_first 2 c) (bytes_high_first 2 d) (bytes_high_first 2 (length s) ++ (s ++ u)) (bytes_high_first 2 (length t) ++ (t ++ v)) refl
+    ∙ ap (ordering_then (octets_cmp (bytes_high_first 2 c) (bytes_high_first 2 d))) (
+    front_then (bytes_high_first 2 (length s)) (bytes_high_first 2 (length t)) (s ++ u) (t ++ v) refl
     ∙ ap (λ (o : Ordering). ordering_then o (octets_cmp (s ++ u) (t ++ v))) (number_cmp 2 (length s) (length t) h k)
+    )
   where
-    parts : (s u : List ℕ) → piece (c, s) ++ u ≡ bytes_high_first 2 c ++ (bytes_high_first 2 (length s) ++ (s ++ u))
-    parts s u = append_assoc (bytes_high_first 2 c) (bytes_high_first 2 (length s) ++ s) u
+    parts : (c : ℕ) (s u : List ℕ) → piece (c, s) ++ u ≡ bytes_high_first 2 c ++ (bytes_high_first 2 (length s) ++ (s ++ u))
+    parts c s u = append_assoc (bytes_high_first 2 c) (bytes_high_first 2 (length s) ++ s) u
         ∙ ap (λ (l : List ℕ). bytes_high_first 2 c ++ l) (append_assoc (bytes_high_first 2 (length s)) s u)
-
--- with nothing behind them
-alone_code : (c : ℕ) (s t : List ℕ) → length s < 256 ^ 2 → length t < 256 ^ 2
-    → octets_cmp (piece (c, s)) (piece (c, t)) ≡ ordering_then (nat_cmp (length s) (length t)) (octets_cmp s t)
-alone_code c s t h k =
-    (λ i. octets_cmp (sym (append-nil (piece (c, s))) i) (sym (append-nil (piece (c, t))) i))
-    ∙ one_code c s t [] [] h k
-    ∙ (λ i. ordering_then (nat_cmp (length s) (length t)) (octets_cmp (append-nil s i) (append-nil t i)))
 
 where_tied : (o s t : Ordering) → (o ≡ Equal → s ≡ t) → ordering_then o s ≡ ordering_then o t
 where_tied Less s t h = refl
 where_tied Equal s t h = h refl
 where_tied Greater s t h = refl
 
--- pieces that differ decide whatever comes behind them
-decided : (c : ℕ) (s t u v : List ℕ) → length s < 256 ^ 2 → length t < 256 ^ 2 → octets_cmp (piece (c, s)) (piece (c, t)) ≢ Equal
-    → octets_cmp (piece (c, s)) (piece (c, t)) ≡ octets_cmp (piece (c, s) ++ u) (piece (c, t) ++ v)
-decided c s t u v h k apart =
+-- two pieces decide, and where they are the same what comes behind them
+pieces_then : (c d : ℕ) (s t u v : List ℕ) → length s < 256 ^ 2 → length t < 256 ^ 2
+    → octets_cmp (piece (c, s) ++ u) (piece (d, t) ++ v) ≡ ordering_then (octets_cmp (piece (c, s)) (piece (d, t))) (octets_cmp u v)
+pieces_then c d s t u v h k =
+    let codes : Ordering = octets_cmp (bytes_high_first 2 c) (bytes_high_first 2 d) in
     let sizes : Ordering = nat_cmp (length s) (length t) in
-    let own : Ordering = octets_cmp (piece (c, s)) (piece (c, t)) in
-    let whole : octets_cmp (piece (c, s) ++ u) (piece (c, t) ++ v) ≡ ordering_then own (octets_cmp u v) =
-    one_code c s t u v h k
-    ∙ where_tied sizes (octets_cmp (s ++ u) (t ++ v)) (ordering_then (octets_cmp s t) (octets_cmp u v))
+    let alone : octets_cmp (piece (c, s)) (piece (d, t)) ≡ ordering_then codes (ordering_then sizes (octets_cmp s t)) =
+    (λ i. octets_cmp (sym (append-nil (piece (c, s))) i) (sym (append-nil (piece (d, t))) i))
+    ∙ by_parts c d s t [] [] h k
+    ∙ (λ i. ordering_then codes (ordering_then sizes (octets_cmp (append-nil s i) (append-nil t i)))) in
+    by_parts c d s t u v h k
+    ∙ ap (ordering_then codes) (
+    where_tied sizes (octets_cmp (s ++ u) (t ++ v)) (ordering_then (octets_cmp s t) (octets_cmp u v))
     (λ e. front_then s t u v (subst (λ (o : Ordering). MatchOrdering o (length s < length t) (length s ≡ length t) (length t < length s)) e (ranks (length s) (length t))))
     ∙ sym (then_assoc sizes (octets_cmp s t) (octets_cmp u v))
-    ∙ ap (λ (o : Ordering). ordering_then o (octets_cmp u v)) (sym (alone_code c s t h k)) in
-    then_kept own (octets_cmp u v) apart ∙ sym whole
+    )
+    ∙ sym (then_assoc codes (ordering_then sizes (octets_cmp s t)) (octets_cmp u v))
+    ∙ ap (λ (o : Ordering). ordering_then o (octets_cmp u v)) (sym alone)
 
--- ---- pairs of one code
+-- ---- pairs
 
 -- what a pair holds
 abbrev pub held : Pair → List ℕ
@@ -68,11 +76,14 @@ few_octets p h = short (length (held p)) (first_so (nat_le (length (held p)) 655
   short : (n : ℕ) → nat_le n 65535 ≡ true → n < 256 ^ 2
   short n t = let l : n ≤ 65535 = grind (arith, nat_tests) in omega (arith, l)
 
-pub pairs_decide : (p q : Pair) (u v : List ℕ) → code_number p ≡ code_number q → pair_emittable p ≡ true → pair_emittable q ≡ true
+pub pairs_then : (p q : Pair) (u v : List ℕ) → pair_emittable p ≡ true → pair_emittable q ≡ true
+    → octets_cmp (own_piece p ++ u) (own_piece q ++ v) ≡ ordering_then (octets_cmp (own_piece p) (own_piece q)) (octets_cmp u v)
+pairs_then p q u v e f = pieces_then (code_number p) (code_number q) (held p) (held q) u v (few_octets p e) (few_octets q f)
+
+-- pieces that differ decide whatever comes behind them
+pub pairs_decide : (p q : Pair) (u v : List ℕ) → pair_emittable p ≡ true → pair_emittable q ≡ true
     → octets_cmp (own_piece p) (own_piece q) ≢ Equal → octets_cmp (own_piece p) (own_piece q) ≡ octets_cmp (own_piece p ++ u) (own_piece q ++ v)
-pairs_decide p q u v one e f =
-    subst (λ (c : ℕ). octets_cmp (own_piece p) (piece (c, held q)) ≢ Equal → octets_cmp (own_piece p) (piece (c, held q)) ≡ octets_cmp (own_piece p ++ u) (piece (c, held q) ++ v))
-    one (decided (code_number p) (held p) (held q) u v (few_octets p e) (few_octets q f))
+pairs_decide p q u v e f apart = then_kept (octets_cmp (own_piece p) (own_piece q)) (octets_cmp u v) apart ∙ sym (pairs_then p q u v e f)
 
 -- ---- lists
 
@@ -85,3 +96,59 @@ behind_same front xs ys = cmp_shared {n = length (flat_map (λ s. s) front)} rec
   left = flat_map-append (λ s. s) front xs;
   right = flat_map-append (λ s. s) front ys;
 }
+
+-- each pair can be emitted
+abbrev AllEmittable : List Pair → Type 0
+AllEmittable x = AllByRecursion (λ p. pair_emittable p ≡ true) x
+
+each_emittable : (x : List Pair) → pairs_emittable x ≡ true → AllEmittable x
+each_emittable [] h = tt
+each_emittable (p ∷ x) h = (first_so (pair_emittable p) (pairs_emittable x) h, each_emittable x (second_so (pair_emittable p) (pairs_emittable x) h))
+
+put_all : (p : Pair) (x : List Pair) → pair_emittable p ≡ true → AllEmittable x → AllEmittable (put piece_cmp p x)
+put_all p [] h k = (h, tt)
+put_all p (q ∷ x) h k = by (is_gt (piece_cmp p q)) (put_all p x h k.1) where
+  by : (b : Bool) → AllEmittable (put piece_cmp p x) → AllEmittable (if b then q ∷ put piece_cmp p x else p ∷ q ∷ x)
+  by true rest = (k.0, rest)
+  by false rest = (h, k)
+
+sorted_all : (x : List Pair) → AllEmittable x → AllEmittable (sorted piece_cmp x)
+sorted_all [] h = tt
+sorted_all (p ∷ x) h = put_all p (sorted piece_cmp x) h.0 (sorted_all x h.1)
+
+-- pieces in order are those of the pairs in order
+put_pieces : (p : Pair) (x : List Pair) → own_pieces (put piece_cmp p x) ≡ put octets_cmp (own_piece p) (own_pieces x)
+put_pieces p [] = refl
+put_pieces p (q ∷ x) = by (is_gt (piece_cmp p q)) (put_pieces p x) where
+  by : (b : Bool) → own_pieces (put piece_cmp p x) ≡ put octets_cmp (own_piece p) (own_pieces x)
+      → own_pieces (if b then q ∷ put piece_cmp p x else p ∷ q ∷ x) ≡ (if b then own_piece q ∷ put octets_cmp (own_piece p) (own_pieces x) else own_piece p ∷ own_piece q ∷ own_pieces x)
+  by true rest = ap (λ (l : List (List ℕ)). own_piece q ∷ l) rest
+  by false rest = refl
+
+sorted_pieces : (x : List Pair) → own_pieces (sorted piece_cmp x) ≡ sorted octets_cmp (own_pieces x)
+sorted_pieces [] = refl
+sorted_pieces (p ∷ x) = put_pieces p (sorted piece_cmp x) ∙ ap (put octets_cmp (own_piece p)) (sorted_pieces x)
+
+-- pairs in a row are ordered by the first ones whose octets differ
+rows_cmp : (x y : List Pair) → AllEmittable x → AllEmittable y → slice_cmp piece_cmp x y ≡ octets_cmp (flat_map (λ s. s) (own_pieces x)) (flat_map (λ s. s) (own_pieces y))
+rows_cmp [] [] h k = refl
+rows_cmp [] (q ∷ y) h k = refl
+rows_cmp (p ∷ x) [] h k = refl
+rows_cmp (p ∷ x) (q ∷ y) h k =
+    ap (ordering_then (piece_cmp p q)) (rows_cmp x y h.1 k.1) ∙ sym (pairs_then p q (flat_map (λ s. s) (own_pieces x)) (flat_map (λ s. s) (own_pieces y)) h.0 k.0)
+
+-- records of options are ordered by their pairs in rising order
+pub by_pieces : (xs ys : List Pair) → pairs_emittable xs ≡ true → pairs_emittable ys ≡ true
+    → slice_cmp piece_cmp (sorted piece_cmp xs) (sorted piece_cmp ys) ≡ canonical_cmp opt_shape (opt_fields xs) (opt_fields ys)
+unfolding field_octets
+by_pieces xs ys h k =
+    rows_cmp (sorted piece_cmp xs) (sorted piece_cmp ys) (sorted_all xs (each_emittable xs h)) (sorted_all ys (each_emittable ys k))
+    ∙ (λ i. octets_cmp (flat_map (λ s. s) (sorted_pieces xs i)) (flat_map (λ s. s) (sorted_pieces ys i)))
+    ∙ alone Options (map pair_value xs) (map pair_value ys)
+
+-- and are equal where these pairs are the same
+pub same_equal : (xs ys : List Pair) → sorted piece_cmp xs ≡ sorted piece_cmp ys → opt_eq xs ys ≡ true
+same_equal xs ys e =
+    let E = eq_by_cmp pair_cmp in
+    opt_ties xs ys ∙ ap is_eq (same_counts pair_cmp pair_total (risen xs) (risen ys) (sorted_risen pair_cmp pair_total xs) (sorted_risen pair_cmp pair_total ys)
+    (λ w. count_sorted pair_cmp (E w) xs ∙ sym (count_sorted piece_cmp (E w) xs) ∙ ap (count_by (E w)) e ∙ count_sorted piece_cmp (E w) ys ∙ sym (count_sorted pair_cmp (E w) ys)))

@@ -14,5 +14,6 @@ pub mod Walking
 pub mod OptionReads
 pub mod Words
 pub mod Steps
+pub mod PieceLaws
 pub mod Facing
 pub mod Heads

@@ -10,11 +10,11 @@ ghost use Rattle.dns_rdata_options.specs.EdnsOption.{code_of};
 ghost use Rattle.dns_rdata_options.specs.OPT.{opt_shape, opt_fields, pair_value, IsReadOpt, options_of, without, opt_refusal};
 
 mod code;
-mod headed;
+pub(crate) mod headed;
 mod net;
 mod net_text;
 mod option;
-mod order;
+pub(crate) mod order;
 mod payload;
 mod reading;
 mod subnet;

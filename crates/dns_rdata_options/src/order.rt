@@ -1,19 +1,20 @@
 //! Records of options ordered by their canonical octets, without a cursor.
 
-ghost use Rattle.std.specs.Prelude.{◌≡◌, ◌≢◌, true, length, IfSome, IsTrue, Some};
+ghost use Rattle.std.specs.Prelude.{◌≡◌, ◌≢◌, ◌≤◌, true, length, IfSome, IsTrue, Some};
 ghost use Rattle.dns_pieces.specs.Fronts.{canonical_cmp};
 ghost use Rattle.dns_rdata_options.specs.Facing.{lesser, Facing, IsAlone};
 ghost use Rattle.dns_rdata_options.specs.OPT.{opt_shape, opt_fields};
 ghost use Rattle.dns_rdata_options.specs.Order.{opt_eq};
 ghost use Rattle.dns_rdata_options.specs.Steps.{pairs_emittable};
 
+use crate::opt::headed::headed_cmp;
+use crate::opt::order::are_many;
 use crate::opt::{EdnsCode, EdnsOption, OPT};
-use crate::steps::compare_pairs;
+use crate::steps::{Pieces, compare_pairs};
 use std::cmp::Ordering;
 
-/// How two lists of options are ordered by their canonical octets, told in linear time where it can be: where both have as
-/// many options with the same codes at the same places, and the least code of those that differ comes only once, with
-/// other octets. Else `None`.
+/// How two lists of options are ordered by their canonical octets, without a cursor: by what stands at the same places,
+/// where that tells it, and of many options by going over both in rising order. Else `None`.
 pub fn opt_order(a: &OPT, b: &OPT) -> Option<Ordering>
     requires first { pairs_emittable a.now ≡ true }
     requires second { pairs_emittable b.now ≡ true }
@@ -22,6 +23,44 @@ pub fn opt_order(a: &OPT, b: &OPT) -> Option<Ordering>
 {
     let options = a.as_ref();
     let others = b.as_ref();
+    if let Some(order) = order_by_places(options, others) {
+        return Some(order);
+    }
+    if !are_many(options.len().max(others.len())) {
+        return None;
+    }
+    order_of_many(a, b)
+}
+
+// By the least options that differ. Lists with the same octets that are not equal have no order here.
+fn order_of_many(a: &OPT, b: &OPT) -> Option<Ordering>
+    requires first { pairs_emittable a.now ≡ true }
+    requires second { pairs_emittable b.now ≡ true }
+    requires many { length a.now ≤ 16384 }
+    requires others { length b.now ≤ 16384 }
+    ensures order { IfSome result (λ o. o ≡ canonical_cmp opt_shape (opt_fields a.now) (opt_fields b.now)) }
+    ensures equal { result ≡ Some Ordering.Equal → opt_eq a.now b.now ≡ true }
+{
+    let options = a.as_ref();
+    let others = b.as_ref();
+    let (order, same) = headed_cmp(&Pieces { options }, &Pieces { options: others });
+    if order.is_ne() || same || a == b {
+        return Some(order);
+    }
+    None
+}
+
+// Told in linear time where it can be: where both have as many options with the same codes at the same places, and the
+// least code of those that differ comes only once, with other octets. Else `None`.
+fn order_by_places(
+    options: &[(EdnsCode, EdnsOption)],
+    others: &[(EdnsCode, EdnsOption)],
+) -> Option<Ordering>
+    requires first { pairs_emittable options.now ≡ true }
+    requires second { pairs_emittable others.now ≡ true }
+    ensures order { IfSome result (λ o. o ≡ canonical_cmp opt_shape (opt_fields options.now) (opt_fields others.now)) }
+    ensures equal { result ≡ Some Ordering.Equal → opt_eq options.now others.now ≡ true }
+{
     if options.len() != others.len() {
         return None;
     }
@@ -77,17 +116,17 @@ fn least_difference(
     Some(least)
 }
 
-// Whether they are of one variant and one number.
+/// Whether they are of one variant and one number.
 #[inline]
-fn is_code_alike(a: EdnsCode, b: EdnsCode) -> bool
+pub(crate) fn is_code_alike(a: EdnsCode, b: EdnsCode) -> bool
     ensures { IsTrue result → a ≡ b }
 {
     a == b
 }
 
-// Whether they are of one variant and hold the same.
+/// Whether they are of one variant and hold the same.
 #[inline]
-fn is_option_alike(a: &EdnsOption, b: &EdnsOption) -> bool
+pub(crate) fn is_option_alike(a: &EdnsOption, b: &EdnsOption) -> bool
     ensures { IsTrue result → a.now ≡ b.now }
 {
     a == b

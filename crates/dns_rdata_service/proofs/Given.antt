@@ -1,5 +1,5 @@
 -- Keys and values that were read are those of their numbers.
-use Rattle.std.proofs.Common.{◌≡◌, ◌⊎◌, inl, inr, ℕ, suc, zero, ◌==◌, Bool, true, false, List, [], ◌∷◌, map, nat_le, if◌then◌else◌, refl}
+use Rattle.std.proofs.Common.{◌≡◌, ◌≢◌, ◌⊎◌, inl, inr, ℕ, suc, zero, ◌==◌, Bool, true, false, List, [], ◌∷◌, map, nat_le, if◌then◌else◌, refl}
 use Rattle.std.proofs.Common.{sym, ap, ◌∙◌, ◌≤◌, arith}
 use Rattle.std.proofs.lemmas.Grind.{common_steps}
 use Rattle.std.proofs.lemmas.Bool.Decides.{nat_tests}
@@ -27,9 +27,16 @@ key_number-of n = number-numbered_of key_number named_keys other_key n (other_nu
 pub record IsPlainKey (n : ℕ) : Type 0 where
   pub form : form_for n ≡ AnyOctets
   pub other : (n == 5) ≡ false
+  pub no_path : (n == 7) ≡ false
+  pub no_text : n ≢ 7
 
-plain_above : (n : ℕ) → 7 ≤ n → IsPlainKey n
-plain_above n h = record { form = grind (arith, common_steps, nat_tests); other = grind (arith, common_steps, nat_tests) }
+plain_above : (n : ℕ) → 8 ≤ n → IsPlainKey n
+plain_above n h = record {
+  form = grind (arith, common_steps, nat_tests);
+  other = grind (arith, common_steps, nat_tests);
+  no_path = grind (arith, common_steps, nat_tests);
+  no_text = λ e. omega (arith, e, h);
+}
 
 pub plain_unknown : (n : ℕ) → Unknown n ≡ key_of n → IsPlainKey n
 unfolding key_of
@@ -40,7 +47,8 @@ plain_unknown (suc (suc (suc zero))) e = absurd (cc e)
 plain_unknown (suc (suc (suc (suc zero)))) e = absurd (cc e)
 plain_unknown (suc (suc (suc (suc (suc zero))))) e = absurd (cc e)
 plain_unknown (suc (suc (suc (suc (suc (suc zero)))))) e = absurd (cc e)
-plain_unknown (suc (suc (suc (suc (suc (suc (suc n))))))) e = plain_above (suc (suc (suc (suc (suc (suc (suc n))))))) (omega arith)
+plain_unknown (suc (suc (suc (suc (suc (suc (suc zero))))))) e = absurd (cc e)
+plain_unknown (suc (suc (suc (suc (suc (suc (suc (suc n)))))))) e = plain_above (suc (suc (suc (suc (suc (suc (suc (suc n)))))))) (omega arith)
 
 pub plain_key : (n : ℕ) → Key n ≡ key_of n → IsPlainKey n
 unfolding key_of
@@ -51,7 +59,8 @@ plain_key (suc (suc (suc zero))) e = absurd (cc e)
 plain_key (suc (suc (suc (suc zero)))) e = absurd (cc e)
 plain_key (suc (suc (suc (suc (suc zero))))) e = absurd (cc e)
 plain_key (suc (suc (suc (suc (suc (suc zero)))))) e = absurd (cc e)
-plain_key (suc (suc (suc (suc (suc (suc (suc n))))))) e = plain_above (suc (suc (suc (suc (suc (suc (suc n))))))) (omega arith)
+plain_key (suc (suc (suc (suc (suc (suc (suc zero))))))) e = absurd (cc e)
+plain_key (suc (suc (suc (suc (suc (suc (suc (suc n)))))))) e = plain_above (suc (suc (suc (suc (suc (suc (suc (suc n)))))))) (omega arith)
 
 pub map_back : {X Y : Type 0} (f : X → Y) (g : Y → X) → ((x : X) → x ≡ g (f x)) → (xs : List X) → xs ≡ map g (map f xs)
 map_back f g h [] = refl
@@ -80,4 +89,4 @@ plain_of k g (inr (inr h)) = rw h.1 (plain_unknown h.0 (rw h.1 at g))
 
 -- the value of a key without a form of its own
 pub plain_value : (n : ℕ) (body : List ℕ) (x : Other) → IsPlainKey n → body ≡ x.0 → IsValueOf n body (OtherValue x)
-plain_value n body x p e = record { held = (sym p.form, tt, e); given = rw p.other refl }
+plain_value n body x p e = record { held = (sym p.form, tt, e); given = rw (p.other, p.no_path) refl; text = λ is. absurd (p.no_text is) }

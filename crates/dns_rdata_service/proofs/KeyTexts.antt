@@ -9,7 +9,7 @@ use Rattle.dns_rdata_service.specs.SvcParamKey.{key_text}
 use Rattle.dns_rdata_service.specs.KeyTexts.{IsNumberedKey, IsKeyText}
 use Rattle.dns_rdata_service.specs.declared.svcb.key.SvcParamKey.{SvcParamKey}
 use Rattle.dns_rdata_service.specs.declared.svcb.key.SvcParamKey.TheVariants.{Mandatory, Alpn, NoDefaultAlpn, Port, Ipv4Hint}
-use Rattle.dns_rdata_service.specs.declared.svcb.key.SvcParamKey.TheVariants.{EchConfigList, Ipv6Hint, Key, Key65535, Unknown}
+use Rattle.dns_rdata_service.specs.declared.svcb.key.SvcParamKey.TheVariants.{EchConfigList, Ipv6Hint, DohPath, Key, Key65535, Unknown}
 
 -- the text is none of the names
 pub record IsNoName (text : List ℕ) : Type 0 where
@@ -20,6 +20,7 @@ pub record IsNoName (text : List ℕ) : Type 0 where
   pub ipv4hint : text ≢ codes "ipv4hint"
   pub ech : text ≢ codes "ech"
   pub ipv6hint : text ≢ codes "ipv6hint"
+  pub dohpath : text ≢ codes "dohpath"
   pub key65535 : text ≢ codes "key65535"
 
 pub no_key : (text : List ℕ) → IsNoName text → ((n : ℕ) → ¬ (IsNumberedKey text n)) → (key : SvcParamKey) → IsKeyText text key → ⊥
@@ -31,6 +32,7 @@ no_key text other none Port is = other.port is
 no_key text other none Ipv4Hint is = other.ipv4hint is
 no_key text other none EchConfigList is = other.ech is
 no_key text other none Ipv6Hint is = other.ipv6hint is
+no_key text other none DohPath is = other.dohpath is
 no_key text other none (Key n) is = none n is.0
 no_key text other none Key65535 is = other.key65535 is
 no_key text other none (Unknown n) is = is
@@ -42,7 +44,7 @@ not_memory why e = absurd cc
 
 -- the first key but `key65535` whose name the text is
 abbrev first_named : List ℕ → Option SvcParamKey
-first_named text = find (λ k. pointwise ◌==◌ (key_text k) text) (Mandatory ∷ Alpn ∷ NoDefaultAlpn ∷ Port ∷ Ipv4Hint ∷ EchConfigList ∷ Ipv6Hint ∷ [])
+first_named text = find (λ k. pointwise ◌==◌ (key_text k) text) (Mandatory ∷ Alpn ∷ NoDefaultAlpn ∷ Port ∷ Ipv4Hint ∷ EchConfigList ∷ Ipv6Hint ∷ DohPath ∷ [])
 
 -- a key that is found by its name
 abbrev by_name : SvcParamKey → Option SvcParamKey
@@ -62,6 +64,7 @@ found text Port is = ap first_named is
 found text Ipv4Hint is = ap first_named is
 found text EchConfigList is = ap first_named is
 found text Ipv6Hint is = ap first_named is
+found text DohPath is = ap first_named is
 found text Key65535 is = ap first_named is
 
 numbers_one : (text : List ℕ) (n m : ℕ) → IsNumberedKey text n → IsNumberedKey text m → n ≡ m

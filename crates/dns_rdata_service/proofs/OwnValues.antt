@@ -34,6 +34,8 @@ value_given (variants.EchConfigList x) (variants.EchConfigList y) h = ap (λ l. 
 value_given (variants.EchConfigList x) w h = absurd (omega (arith, apart (variants.EchConfigList x) w h))
 value_given (variants.Ipv6Hint x) (variants.Ipv6Hint y) h = ap (λ l. Ipv6Hint (drop 1 l)) h
 value_given (variants.Ipv6Hint x) w h = absurd (omega (arith, apart (variants.Ipv6Hint x) w h))
+value_given (variants.DohPath x) (variants.DohPath y) h = ap (λ l. Opaque (get_or l 1 [])) h
+value_given (variants.DohPath x) w h = absurd (omega (arith, apart (variants.DohPath x) w h))
 value_given (variants.Unknown x) (variants.Unknown y) h = ap (λ l. Opaque (get_or l 1 [])) h
 value_given (variants.Unknown x) w h = absurd (omega (arith, apart (variants.Unknown x) w h))
 

@@ -6,7 +6,7 @@ use Rattle.dns_types.specs.declared.error.DecodeError.{DecodeError}
 use Rattle.dns_types.specs.declared.error.DecodeError.TheVariants as decode
 use Rattle.dns_fields.specs.Octets.{At}
 use Rattle.dns_fields.specs.Fields.{Number, Octets, Parameters, Field, Values}
-use Rattle.dns_fields.specs.Pieces.{Numbered, ParameterValue, ParameterHeld, AllHeld, piece, pieces, form_for, Rising}
+use Rattle.dns_fields.specs.Pieces.{Numbered, ParameterValue, ParameterHeld, AllHeld, piece, pieces, Rising}
 use Rattle.dns_fields.proofs.Numbers.{length-bytes}
 use Rattle.dns_fields.proofs.Pieces.{piece_before, heads_same, first_piece}
 use Rattle.dns_fields.proofs.FieldLaws.{field_inside}
@@ -17,13 +17,14 @@ use Rattle.dns_names_wire.proofs.WindowReads.{Given}
 use Rattle.dns_names_wire.proofs.Strings.{at_then}
 use Rattle.dns_rdata_base.specs.Refusing.{FirstLack}
 use Rattle.dns_rdata_service.specs.SvcParamKey.{key_number}
-use Rattle.dns_rdata_service.specs.Parameters.{Parameter, parameter_of, parameter_from, AreRead, IsAbove, CutValue, RefusedValue}
+use Rattle.dns_rdata_service.specs.SvcParamValue.{value_of, HasText}
+use Rattle.dns_rdata_service.specs.Parameters.{Parameter, parameter_of, parameter_from, AreRead, HaveTexts, IsAbove, CutValue, RefusedValue}
 use Rattle.dns_rdata_service.specs.Parameters.{parameter_refusal, parameters_refusal}
 use Rattle.dns_rdata_service.proofs.Splits.{at_split}
-use Rattle.dns_rdata_service.proofs.Refusals.{HoldsNone, value_none}
-use Rattle.dns_rdata_service.proofs.ValueReads.{stays_then}
+use Rattle.dns_rdata_service.proofs.Refusals.{NoKeyValue, key_none}
+use Rattle.dns_rdata_service.proofs.ValueReads.{stays_then, all_push}
 use Rattle.dns_rdata_service.proofs.ParameterLists.{Risen, risen_first, risen_push, risen_not, rest_of, parameters_push, FirstOf, first_of}
-use Rattle.dns_rdata_service.proofs.ParameterLists.{OneOf, one_of, one_once}
+use Rattle.dns_rdata_service.proofs.ParameterLists.{OneOf, one_of, one_once, all_behind}
 
 -- ---- one parameter
 
@@ -52,7 +53,7 @@ one_taken {old} {a} {b} {new} {key} {size} {n} {octets} {v} f g h same held =
     }
 
 pub record NoParameter (d : Reading) : Type 0 where
-  pub none : (x : Numbered ParameterValue) (q : ℕ) → Field d.message d.index Parameters (x ∷ []) q → ⊥
+  pub none : (x : Numbered ParameterValue) (q : ℕ) → Field d.message d.index Parameters (x ∷ []) q → HasText x.0 x.1 → ⊥
 
 -- the octets of key and length in front
 one_head : {m : List ℕ} {q r : ℕ} {x : Numbered ParameterValue} (o : OneOf m q x r)
@@ -63,14 +64,14 @@ one_long : {m : List ℕ} {q r : ℕ} {x : Numbered ParameterValue} → Field m 
 one_long {m} {q} {r} {x} f = let o = one_of f in (omega (arith, o.ends), (field_inside f).1)
 
 lacking_none : {old new : Reading} {e : DecodeError} → FirstLack (Number 2 ∷ Number 2 ∷ []) old e new → NoParameter old
-lacking_none {old} (inl h) = record { none = λ x q f. let l = one_long f in omega (arith, h.1, l.0, l.1) }
+lacking_none {old} (inl h) = record { none = λ x q f u. let l = one_long f in omega (arith, h.1, l.0, l.1) }
 lacking_none {old} (inr (n, between, took, inl h)) =
-    record { none = λ x q f. let l = one_long f in omega (arith, h.1, l.0, l.1, took.field.is.1.ends, length-bytes 2 n, ap length took.message) }
+    record { none = λ x q f u. let l = one_long f in omega (arith, h.1, l.0, l.1, took.field.is.1.ends, length-bytes 2 n, ap length took.message) }
 lacking_none {old} (inr (n, between, took, inr h)) = absurd h.3
 
 cut_none : {old new : Reading} {e : DecodeError} → CutValue old e new → NoParameter old
 cut_none {old} {new} c = record {
-  none = λ x q f.
+  none = λ x q f u.
       let o = one_of f in
       let a = c.took.stands in
       let heads : drop old.index old.message ≡ bytes_high_first 2 c.key ++ (bytes_high_first 2 c.size ++ drop a.2.0 old.message) = at_split a.1.is.1
@@ -92,8 +93,8 @@ cut_none {old} {new} c = record {
 }
 
 value_refused : {old new : Reading} {e : DecodeError} → RefusedValue old e new → UnlessMemory e (NoParameter old)
-value_refused {old} {new} {e} c = unless_map e _ _ (λ (n : HoldsNone (form_for c.key) c.octets). record {
-  none = λ x q f.
+value_refused {old} {new} {e} c = unless_map e _ _ (λ (n : NoKeyValue c.key c.octets). record {
+  none = λ x q f u.
       let o = one_of f in
       let a = c.took.stands in
       let heads : drop old.index old.message ≡ bytes_high_first 2 c.key ++ (bytes_high_first 2 (length c.octets) ++ (c.octets ++ drop a.2.2.0 old.message)) =
@@ -105,8 +106,8 @@ value_refused {old} {new} {e} c = unless_map e _ _ (λ (n : HoldsNone (form_for 
       let bodies : o.octets ≡ c.octets = ap (λ (z : Numbered (List ℕ)). z.1) h.0 in
       let held : ParameterHeld c.key c.octets x.1 =
       subst (λ (b : List ℕ). ParameterHeld c.key b x.1) bodies (subst (λ (k : ℕ). ParameterHeld k o.octets x.1) keys o.held) in
-      n.none x.1 held.0 held.1 held.2;
-}) (value_none (form_for c.key) c.octets e c.refused)
+      n.none x.1 held (subst (λ (k : ℕ). HasText k x.1) keys u);
+}) (key_none c.key c.octets e c.refused)
 
 -- what is refused as a parameter is none
 parameter_none : {old new : Reading} (e : DecodeError) → parameter_refusal old e new → UnlessMemory e (NoParameter old)
@@ -138,6 +139,7 @@ pub record ParametersOn (old : Reading) (ps : List Parameter) (last : Option ℕ
   pub took : Field old.message old.index Parameters (map parameter_of ps) d.index
   pub risen : Risen last (map parameter_of ps)
   pub read : AreRead ps
+  pub texts : HaveTexts (map parameter_of ps)
 
 map_push : {X Y : Type 0} (f : X → Y) (xs : List X) (x : X) → map f (xs ++ x ∷ []) ≡ map f xs ++ f x ∷ []
 map_push f [] x = refl
@@ -154,6 +156,7 @@ on_first d inside = record {
   took = record { is = record { read = []; at = record { ends = omega arith; within = inside; same = refl }; fit = tt; held = tt; rising = tt } };
   risen = risen_first;
   read = refl;
+  texts = tt;
 }
 
 one_here : {old d b : Reading} {ps : List Parameter} {last : Option ℕ} {x : Numbered ParameterValue} → ParametersOn old ps last d
@@ -164,9 +167,9 @@ one_behind : {d b : Reading} {x : Numbered ParameterValue} → TookField d Param
 one_behind f = record { message = f.message; index = (field_inside f.field).0 }
 
 pub on_more : {old d b : Reading} {ps : List Parameter} {last : Option ℕ} {p : Parameter} {n : ℕ} → ParametersOn old ps last d
-    → TookField d Parameters (parameter_of p ∷ []) b → p ≡ parameter_from (parameter_of p) → n ≡ key_number p.0 → IsAbove last n
-    → ParametersOn old (ps ++ p ∷ []) (Some n) b
-on_more {old} {d} {b} {ps} {last} {p} {n} on f is number above =
+    → TookField d Parameters (parameter_of p ∷ []) b → p ≡ parameter_from (parameter_of p) → HasText (key_number p.0) (value_of p.1) → n ≡ key_number p.0
+    → IsAbove last n → ParametersOn old (ps ++ p ∷ []) (Some n) b
+on_more {old} {d} {b} {ps} {last} {p} {n} on f is text number above =
     let risen : Risen (Some (key_number p.0)) (map parameter_of ps ++ parameter_of p ∷ []) = risen_push last (map parameter_of ps) (parameter_of p) on.risen
     (subst (IsAbove last) number above) in
     record {
@@ -174,6 +177,7 @@ on_more {old} {d} {b} {ps} {last} {p} {n} on f is number above =
       took = rw map_push (parameters_push on.took (one_here on f) risen.rising);
       risen = rw (map_push, number) risen;
       read = read_push ps p on.read is;
+      texts = rw map_push (all_push (λ x. HasText x.0 x.1) (map parameter_of ps) (parameter_of p) on.texts text);
     }
 
 pub on_longer : {d b : Reading} {x : Numbered ParameterValue} → TookField d Parameters (x ∷ []) b → d.index + 4 ≤ b.index
@@ -184,8 +188,8 @@ on_taken on = record { message = on.behind.message; field = on.took }
 
 -- ---- how the loop ends, where n octets are left of the record
 
-abbrev pub any_parameters : Values (Parameters ∷ []) → Type 0
-any_parameters vs = Unit {0}
+abbrev pub texts : Values (Parameters ∷ []) → Type 0
+texts vs = HaveTexts vs.0
 
 -- all that stand there have one more, where octets are left
 next_of : {old d : Reading} {ps : List Parameter} {last : Option ℕ} {end : ℕ} {v : List (Numbered ParameterValue)} → ParametersOn old ps last d
@@ -201,28 +205,30 @@ next_of {old} {d} {ps} {last} {end} {v} on lt f = let r = rest_of (omega (arith,
   some (x ∷ more) same g = (x, more, same, first_of g)
 
 -- no window, where no parameters stand to its end
-no_window : {old : Reading} {n end : ℕ} → end ≡ old.index + n → ((v : List (Numbered ParameterValue)) → Field old.message old.index Parameters v end → ⊥)
-    → NoWindow old.message old.index n (Parameters ∷ []) any_parameters
+no_window : {old : Reading} {n end : ℕ} → end ≡ old.index + n
+    → ((v : List (Numbered ParameterValue)) → Field old.message old.index Parameters v end → HaveTexts v → ⊥)
+    → NoWindow old.message old.index n (Parameters ∷ []) texts
 no_window {old} {n} {end} is none = record
-    { none = λ vs w. none vs.0 (subst (λ (q : ℕ). Field old.message old.index Parameters vs.0 q) (w.stands.2 ∙ sym is) w.stands.1) }
+    { none = λ vs w. none vs.0 (subst (λ (q : ℕ). Field old.message old.index Parameters vs.0 q) (w.stands.2 ∙ sym is) w.stands.1) w.holds }
 
 -- a parameter is refused
 pub on_refused : {e : DecodeError} {old d b : Reading} {ps : List Parameter} {last : Option ℕ} {end : ℕ} (n : ℕ) → end ≡ old.index + n → d.index + 4 ≤ end
-    → ParametersOn old ps last d → parameter_refusal d e b → RefusedWindow e old n (Parameters ∷ []) any_parameters b
+    → ParametersOn old ps last d → parameter_refusal d e b → RefusedWindow e old n (Parameters ∷ []) texts b
 on_refused {e} {old} {d} {b} {ps} {last} {end} n is room on h = record {
   behind = stays_then on.behind (parameter_behind e h);
-  none = unless_map e _ _ (λ (l : NoParameter d). no_window is (λ v f.
+  none = unless_map e _ _ (λ (l : NoParameter d). no_window is (λ v f u.
       let x = next_of on (omega (arith, room)) f in
-      l.none x.0 x.3.place (subst (λ (m : List ℕ). Field m d.index Parameters (x.0 ∷ []) x.3.place) (sym on.behind.message) x.3.field))) (parameter_none e h);
+      let text = all_behind (λ y. HasText y.0 y.1) (map parameter_of ps) (x.0 ∷ x.1) (subst HaveTexts x.2 u) in
+      l.none x.0 x.3.place (subst (λ (m : List ℕ). Field m d.index Parameters (x.0 ∷ []) x.3.place) (sym on.behind.message) x.3.field) text.0)) (parameter_none e h);
 }
 
 -- a key is not above the last one
 pub on_order : {old d b : Reading} {ps : List Parameter} {last : Option ℕ} {end : ℕ} {x : Numbered ParameterValue} (e : DecodeError) (n : ℕ)
     → end ≡ old.index + n → d.index + 4 ≤ end → ParametersOn old ps last d → TookField d Parameters (x ∷ []) b → (IsAbove last x.0 → ⊥)
-    → RefusedWindow e old n (Parameters ∷ []) any_parameters b
+    → RefusedWindow e old n (Parameters ∷ []) texts b
 on_order {old} {d} {b} {ps} {last} {end} {x} e n is room on f fails = record {
   behind = stays_then on.behind (one_behind f);
-  none = unless_all e (no_window is (λ v g.
+  none = unless_all e (no_window is (λ v g u.
       let y = next_of on (omega (arith, room)) g in
       let same : y.0 ≡ x = (one_once y.3.field (one_here on f)).0 in
       let whole : v ≡ map parameter_of ps ++ x ∷ y.1 = y.2 ∙ ap (λ (z : Numbered ParameterValue). map parameter_of ps ++ z ∷ y.1) same in
@@ -232,33 +238,33 @@ on_order {old} {d} {b} {ps} {last} {end} {x} e n is room on f fails = record {
 -- a parameter ends behind the record
 pub on_passed : {old d b : Reading} {ps : List Parameter} {last : Option ℕ} {end : ℕ} {x : Numbered ParameterValue} (e : DecodeError) (n : ℕ)
     → end ≡ old.index + n → d.index + 4 ≤ end → ParametersOn old ps last d → TookField d Parameters (x ∷ []) b → end < b.index
-    → RefusedWindow e old n (Parameters ∷ []) any_parameters b
+    → RefusedWindow e old n (Parameters ∷ []) texts b
 on_passed {old} {d} {b} {ps} {last} {end} {x} e n is room on f past = record {
   behind = stays_then on.behind (one_behind f);
-  none = unless_all e (no_window is (λ v g.
+  none = unless_all e (no_window is (λ v g u.
       let y = next_of on (omega (arith, room)) g in
       omega (arith, (one_once y.3.field (one_here on f)).1, y.3.before, past)));
 }
 
 -- memory runs out
 pub on_stopped : {old d : Reading} {ps : List Parameter} {last : Option ℕ} (n : ℕ) → ParametersOn old ps last d
-    → RefusedWindow decode.Memory old n (Parameters ∷ []) any_parameters d
+    → RefusedWindow decode.Memory old n (Parameters ∷ []) texts d
 on_stopped n on = record { behind = on.behind; none = tt }
 
 pub on_stopped_behind : {old d b : Reading} {ps : List Parameter} {last : Option ℕ} {x : Numbered ParameterValue} (n : ℕ) → ParametersOn old ps last d
-    → TookField d Parameters (x ∷ []) b → RefusedWindow decode.Memory old n (Parameters ∷ []) any_parameters b
+    → TookField d Parameters (x ∷ []) b → RefusedWindow decode.Memory old n (Parameters ∷ []) texts b
 on_stopped_behind n on f = record { behind = stays_then on.behind (one_behind f); none = tt }
 
 -- or fewer than four octets are left
 pub on_done : {old d : Reading} {ps : List Parameter} {last : Option ℕ} {end : ℕ} (n : ℕ) → Given old n → end ≡ old.index + n → d.index ≤ end
-    → end < d.index + 4 → ParametersOn old ps last d → TookWindow old n (Parameters ∷ []) any_parameters (map parameter_of ps, tt) d
+    → end < d.index + 4 → ParametersOn old ps last d → TookWindow old n (Parameters ∷ []) texts (map parameter_of ps, tt) d
 on_done {old} {d} {ps} {last} {end} n g is le short on = record {
   behind = on.behind;
   here = λ same.
       let f : Field old.message old.index Parameters (map parameter_of ps) (old.index + n) =
       subst (λ (q : ℕ). Field old.message old.index Parameters (map parameter_of ps) q) same on.took in
-      record { octets = g.octets; short = g.short; within = (field_inside f).1; stands = (old.index + n, f, refl); holds = tt };
-  elsewhere = λ ne. no_window is (λ v f.
+      record { octets = g.octets; short = g.short; within = (field_inside f).1; stands = (old.index + n, f, refl); holds = on.texts };
+  elsewhere = λ ne. no_window is (λ v f u.
       let lt : d.index < end = omega (arith, le, is, ne) in
       let x = next_of on lt f in
       omega (arith, (one_long x.3.field).0, x.3.before, short));

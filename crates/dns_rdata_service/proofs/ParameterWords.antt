@@ -10,7 +10,7 @@ use Rattle.dns_types.specs.declared.error.ParseError.{ParseError}
 use Rattle.dns_types.specs.declared.error.ParseError.TheVariants as parse
 use Rattle.dns_rdata_service.specs.KeyTexts.{IsKeyText}
 use Rattle.dns_rdata_service.specs.Parameters.{Parameter}
-use Rattle.dns_rdata_service.specs.ParameterWords.{ListOf, IsValueAlone, IsValueText, IsUnquoted, HasNoEquals}
+use Rattle.dns_rdata_service.specs.ParameterWords.{ItemOf, ListOf, IsValueAlone, IsValueText, IsUnquoted, HasNoEquals}
 use Rattle.dns_rdata_service.specs.ParameterWords.{HasValue, IsKeyWithValue, IsParameterWord}
 use Rattle.dns_rdata_service.specs.declared.svcb.key.SvcParamKey.{SvcParamKey}
 use Rattle.dns_rdata_service.specs.declared.svcb.key.SvcParamKey.TheVariants as keys
@@ -25,6 +25,11 @@ bare value n = inr (refl, n [], λ inner q. n (inner ++ 34 ∷ []) q)
 pub no_names : (text : List ℕ) → ((xs : List (List ℕ)) → ListOf (λ item name. name ≡ item) text xs → ⊥) → (v : SvcParamValue) → IsValueText keys.Alpn text v → ⊥
 no_names text none (values.Alpn x) is = none x.0 is
 no_names text none v is = is
+
+-- no path
+pub no_path : (text : List ℕ) → ((x : List ℕ) → ItemOf (λ item path. path ≡ item) text x → ⊥) → (v : SvcParamValue) → IsValueText keys.DohPath text v → ⊥
+no_path text none (values.DohPath x) is = none x.0 is
+no_path text none v is = is
 
 -- ---- one text at most
 

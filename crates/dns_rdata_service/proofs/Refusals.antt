@@ -5,12 +5,12 @@ use Rattle.std.specs.Int.{bytes_high_first}
 use Rattle.std.specs.Prelude.{IsUtf8}
 use Rattle.std.proofs.lemmas.List.{length-append}
 use Rattle.dns_types.specs.declared.error.DecodeError.{DecodeError}
-use Rattle.dns_fields.specs.Pieces.{string, ParameterValue, Mandatory, Alpn, NoDefaultAlpn, Port, Ipv4Hint, Ipv6Hint, Form, Keys, Names}
-use Rattle.dns_fields.specs.Pieces.{Nothing, PortNumber, Addresses4, Addresses16, AnyOctets, IsEmittable, IsBody, form_of}
+use Rattle.dns_fields.specs.Pieces.{string, ParameterValue, Mandatory, Alpn, NoDefaultAlpn, Port, Ipv4Hint, Ipv6Hint, Opaque, Form, Keys, Names}
+use Rattle.dns_fields.specs.Pieces.{Nothing, PortNumber, Addresses4, Addresses16, AnyOctets, IsEmittable, IsBody, form_of, form_for, ParameterHeld}
 use Rattle.dns_fields.proofs.Numbers.{length-bytes}
 use Rattle.dns_names_wire.specs.Words.{UnlessMemory}
-use Rattle.dns_names_wire.proofs.FieldReads.{unless_all}
-use Rattle.dns_rdata_service.specs.SvcParamValue.{form_refusal, value_refusal}
+use Rattle.dns_names_wire.proofs.FieldReads.{unless_all, unless_map}
+use Rattle.dns_rdata_service.specs.SvcParamValue.{HasText, form_refusal, value_refusal, key_refusal}
 use Rattle.dns_rdata_service.proofs.Splits.{length_numbers, string_first, strings_prefix}
 
 -- no value of the form is in the octets
@@ -72,3 +72,17 @@ refused_none form body e h v f s b = absurd (cc f)
 pub value_none : (form : Form) (body : List ℕ) (e : DecodeError) → value_refusal form body e → UnlessMemory e (HoldsNone form body)
 value_none form body e (inl m) = subst (λ (x : DecodeError). UnlessMemory x (HoldsNone form body)) (sym m) tt
 value_none form body e (inr h) = unless_all e (record { none = refused_none form body e h })
+
+-- the octets hold no value of the key that is text where it has to be
+pub record NoKeyValue (key : ℕ) (body : List ℕ) : Type 0 where
+  pub none : (v : ParameterValue) → ParameterHeld key body v → HasText key v → ⊥
+
+no_path : (key : ℕ) (body : List ℕ) → key ≡ 7 → (IsUtf8 body → ⊥) → (v : ParameterValue) → ParameterHeld key body v → HasText key v → ⊥
+no_path key body is wrong (Opaque s) h text = wrong (subst IsUtf8 (sym h.2) (text is))
+no_path key body is wrong v h text = let e : form_of v ≡ form_for 7 = h.0 ∙ ap form_for is in absurd (cc e)
+
+pub key_none : (key : ℕ) (body : List ℕ) (e : DecodeError) → key_refusal key body e → UnlessMemory e (NoKeyValue key body)
+key_none key body e (inl h) = unless_map e _ _ (λ (n : HoldsNone (form_for key) body). record { none = λ v held text. n.none v held.0 held.1 held.2 })
+    (value_none (form_for key) body e h)
+key_none key body e (inr (is, inl m)) = subst (λ (x : DecodeError). UnlessMemory x (NoKeyValue key body)) (sym m) tt
+key_none key body e (inr (is, inr h)) = unless_all e (record { none = no_path key body is h.1 })

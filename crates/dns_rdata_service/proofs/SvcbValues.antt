@@ -7,7 +7,7 @@ use Rattle.dns_fields.specs.Octets.{AreOctets}
 use Rattle.dns_fields.specs.Fields.{Number, Name, Values, Parameters}
 use Rattle.dns_fields.specs.Pieces.{Numbered, ParameterValue, Mandatory, Alpn, NoDefaultAlpn, Port, Ipv4Hint, Ipv6Hint, Opaque}
 use Rattle.dns_fields.specs.Pieces.{ParameterHeld, AllHeld, piece, pieces, Form, Keys, Names, Nothing, PortNumber, Addresses4, Addresses16}
-use Rattle.dns_fields.specs.Pieces.{AnyOctets}
+use Rattle.dns_fields.specs.Pieces.{AnyOctets, form_for}
 use Rattle.dns_fields.specs.Equal.{kind_eq, values_eq}
 use Rattle.dns_fields.proofs.EqualLaws.{field_decide}
 use Rattle.std.specs.Bool.{Decides}
@@ -18,7 +18,7 @@ use Rattle.dns_rdata_base.specs.Refusing.{FirstLack}
 use Rattle.dns_rdata_base.proofs.Addresses.{octets_of-segments, segments_of-octets_of}
 use Rattle.std.specs.Net.Addr.{segments_of}
 use Rattle.dns_rdata_service.specs.SvcParamKey.{key_number, key_of}
-use Rattle.dns_rdata_service.specs.SvcParamValue.{value_of, value_from, value_key, key_numbers, a_octets, a_of, aaaa_octets, aaaa_of, value_refusal}
+use Rattle.dns_rdata_service.specs.SvcParamValue.{value_of, value_from, value_key, key_numbers, a_octets, a_of, aaaa_octets, aaaa_of, value_refusal, key_refusal}
 use Rattle.dns_rdata_service.specs.Parameters.{Parameter, parameter_of, parameter_from, own_parameter, AreRead, parameter_refusal, parameters_refusal}
 use Rattle.dns_rdata_service.specs.SVCB.{svcb_shape, svcb_fields, svcb_key_shape, svcb_keys, IsReadSvcb, svcb_refusal}
 use Rattle.dns_rdata_service.specs.HTTPS.{https_shape, https_fields, https_key_shape, https_keys, IsReadHttps}
@@ -61,9 +61,11 @@ segments_back ss =
     (λ s. ap (λ (l : List ℕ). record { 0 = record { segments = l } }) (sym (segments_of-octets_of (segments_of s)))) ss
     ∙ sym (ap (map aaaa_of) (map_twice aaaa_of aaaa_octets ss) ∙ map_twice (λ s. aaaa_octets (aaaa_of s)) aaaa_of ss)
 
-opaque_value : (b : Bool) (s : List ℕ) → value_of (if b then variants.EchConfigList (record { 0 = s }) else variants.Unknown (record { 0 = s })) ≡ Opaque s
-opaque_value true s = refl
-opaque_value false s = refl
+opaque_value : (b c : Bool) (s : List ℕ)
+    → value_of (if b then variants.EchConfigList (record { 0 = s }) else if c then variants.DohPath (record { 0 = s }) else variants.Unknown (record { 0 = s })) ≡ Opaque s
+opaque_value true c s = refl
+opaque_value false true s = refl
+opaque_value false false s = refl
 
 value_again : (n : ℕ) (v : ParameterValue) → value_from n v ≡ value_from n (value_of (value_from n v))
 value_again n (Mandatory ks) = ap (λ (l : List ℕ). variants.Mandatory (record { 0 = map key_of l })) (sym (numbers_back ks))
@@ -72,7 +74,7 @@ value_again n NoDefaultAlpn = refl
 value_again n (Port p) = refl
 value_again n (Ipv4Hint ss) = ap (λ (l : List (List ℕ)). variants.Ipv4Hint (record { 0 = map a_of l })) (sym (groups_back ss))
 value_again n (Ipv6Hint ss) = ap (λ as'. variants.Ipv6Hint (record { 0 = as' })) (segments_back ss)
-value_again n (Opaque s) = ap (value_from n) (sym (opaque_value (n == 5) s))
+value_again n (Opaque s) = ap (value_from n) (sym (opaque_value (n == 5) (n == 7) s))
 
 parameter_again : (x : Numbered ParameterValue) → parameter_from x ≡ parameter_from (parameter_of (parameter_from x))
 parameter_again x =
@@ -102,7 +104,7 @@ value_back n NoDefaultAlpn h = refl
 value_back n (Port p) h = refl
 value_back n (Ipv4Hint ss) h = ap Ipv4Hint (groups_back ss)
 value_back n (Ipv6Hint ss) h = ap Ipv6Hint (wide_back ss h)
-value_back n (Opaque s) h = opaque_value (n == 5) s
+value_back n (Opaque s) h = opaque_value (n == 5) (n == 7) s
 
 parameters_back : (v : List (Numbered ParameterValue)) → AllByRecursion (λ x. IsWide x.1) v → map parameter_of (map parameter_from v) ≡ v
 parameters_back [] h = refl
@@ -186,6 +188,7 @@ value_shown (variants.Port n) = refl
 value_shown (variants.Ipv4Hint x) = refl
 value_shown (variants.EchConfigList x) = refl
 value_shown (variants.Ipv6Hint x) = refl
+value_shown (variants.DohPath x) = refl
 value_shown (variants.Unknown x) = refl
 
 parameter_shown : (p : Parameter) → shown_parameter (own_parameter p) ≡ parameter_of p
@@ -250,10 +253,15 @@ value_never Addresses4 body k (inr h) = let e = h.0 in cc e
 value_never Addresses16 body k (inr h) = let e = h.0 in cc e
 value_never AnyOctets body k (inr h) = elim h [ ]
 
+key_never : (key : ℕ) (body : List ℕ) (k : ℕ) → key_refusal key body (decode.UnknownRecordTypeValue k) → ⊥
+key_never key body k (inl h) = value_never (form_for key) body k h
+key_never key body k (inr (is, inl e)) = cc e
+key_never key body k (inr (is, inr h)) = let e = h.0 in cc e
+
 parameter_never : (old new : Reading) (k : ℕ) → parameter_refusal old (decode.UnknownRecordTypeValue k) new → ⊥
 parameter_never old new k (inl h) = head_never old new k h
 parameter_never old new k (inr (inl h)) = let e = h.error in cc e
-parameter_never old new k (inr (inr h)) = value_never _ h.octets k h.refused
+parameter_never old new k (inr (inr h)) = key_never h.key h.octets k h.refused
 
 parameters_never : (p n : ℕ) (old new : Reading) (k : ℕ) → parameters_refusal p n old (decode.UnknownRecordTypeValue k) new → ⊥
 parameters_never p n old new k (inl e) = cc e

@@ -3,7 +3,7 @@ use Rattle.std.specs.Prelude.{ℕ, List}
 use Rattle.dns_types.specs.declared.error.DecodeError.{DecodeError}
 use Rattle.dns_fields.specs.Fields.{Kind, Values}
 use Rattle.dns_names_wire.specs.State.{Reading}
-use Rattle.dns_rdata_service.specs.SVCB.{svcb_shape, svcb_fields, svcb_key_shape, svcb_keys, IsReadSvcb, svcb_text, svcb_refusal}
+use Rattle.dns_rdata_service.specs.SVCB.{svcb_shape, svcb_fields, svcb_condition, svcb_key_shape, svcb_keys, IsReadSvcb, svcb_text, svcb_refusal}
 use Rattle.dns_rdata_service.specs.declared.https.HTTPS.{HTTPS}
 
 abbrev pub https_shape : List Kind
@@ -11,6 +11,9 @@ https_shape = svcb_shape
 
 abbrev pub https_fields : HTTPS → Values https_shape
 https_fields x = svcb_fields x.0
+
+abbrev pub https_condition : Values https_shape → Type 0
+https_condition = svcb_condition
 
 abbrev pub https_key_shape : List Kind
 https_key_shape = svcb_key_shape

@@ -31,7 +31,8 @@ value_place (variants.Port n) = 3
 value_place (variants.Ipv4Hint x) = 4
 value_place (variants.EchConfigList x) = 5
 value_place (variants.Ipv6Hint x) = 6
-value_place (variants.Unknown x) = 7
+value_place (variants.DohPath x) = 7
+value_place (variants.Unknown x) = 8
 
 -- they are not of one variant that holds something
 abbrev pub Differ : SvcParamValue → SvcParamValue → Type 0
@@ -41,5 +42,6 @@ Differ (variants.Port m) (variants.Port n) = ⊥
 Differ (variants.Ipv4Hint x) (variants.Ipv4Hint y) = ⊥
 Differ (variants.EchConfigList x) (variants.EchConfigList y) = ⊥
 Differ (variants.Ipv6Hint x) (variants.Ipv6Hint y) = ⊥
+Differ (variants.DohPath x) (variants.DohPath y) = ⊥
 Differ (variants.Unknown x) (variants.Unknown y) = ⊥
 Differ v w = Unit {0}

@@ -54,6 +54,7 @@ value_same (variants.Ipv4Hint x) (variants.Ipv4Hint y) = pointwise_view (λ (a b
 value_same (variants.EchConfigList x) (variants.EchConfigList y) = sym (and_true (pointwise nat_eq x.0 y.0))
 value_same (variants.Ipv6Hint x) (variants.Ipv6Hint y) = pointwise_view (λ (a b : AAAA). values_eq aaaa_shape (aaaa_fields a) (aaaa_fields b))
     (pointwise nat_eq) aaaa_octets aaaa_same x.0 y.0
+value_same (variants.DohPath x) (variants.DohPath y) = sym (and_true (pointwise nat_eq x.0 y.0))
 value_same (variants.Unknown x) (variants.Unknown y) = sym (and_true (pointwise nat_eq x.0 y.0))
 value_same v w = refl
 

@@ -1,4 +1,4 @@
--- Words of service parameters (RFC 9460, 2.1 and appendix A).
+-- Words of service parameters (RFC 9460, 2.1 and appendix A; RFC 9461, 5).
 use Rattle.std.specs.Prelude.{◌≡◌, ◌≢◌, ◌⊎◌, ℕ, List, [], ◌∷◌, ◌++◌, All, Ok}
 use Rattle.std.specs.List.{AllZip}
 use Rattle.std.specs.Net.Grammar.{IsIpv4Text, IsIpv6Text}
@@ -31,8 +31,8 @@ IsValueAlone keys.NoDefaultAlpn values.NoDefaultAlpn = Unit {0}
 IsValueAlone (keys.Key n) (values.Unknown x) = x.0 ≡ []
 IsValueAlone key value = ⊥
 
--- The value of a key with this text behind `=`: a list of keys, of names or of addresses, an item that is a number or
--- base64 (RFC 4648, 4), and of a key without a form the text's octets. Other keys have none.
+-- The value of a key with this text behind `=`: a list of keys, of names or of addresses, an item that is a number,
+-- base64 (RFC 4648, 4) or a path, and of a key without a form the text's octets. Other keys have none.
 abbrev pub IsValueText : SvcParamKey → List ℕ → SvcParamValue → Type 0
 IsValueText keys.Mandatory text (values.Mandatory x) = ListOf IsKeyText text x.0
 IsValueText keys.Alpn text (values.Alpn x) = ListOf (λ item name. name ≡ item) text x.0
@@ -40,6 +40,7 @@ IsValueText keys.Port text (values.Port n) = ItemOf (λ item port. IsNumberWord 
 IsValueText keys.Ipv4Hint text (values.Ipv4Hint x) = ListOf (λ item a. IsIpv4Text item a.0) text x.0
 IsValueText keys.EchConfigList text (values.EchConfigList x) = ItemOf (λ item config. decode_of standard item ≡ Ok config.0) text x
 IsValueText keys.Ipv6Hint text (values.Ipv6Hint x) = ListOf (λ item a. IsIpv6Text item a.0) text x.0
+IsValueText keys.DohPath text (values.DohPath x) = ItemOf (λ item path. path ≡ item) text x.0
 IsValueText (keys.Key n) text (values.Unknown x) = x.0 ≡ text
 IsValueText key text value = ⊥
 

@@ -1,16 +1,17 @@
 -- The parameters of a service as fields, and why they are refused (RFC 9460, 2.2).
 use Rattle.std.specs.Prelude.{◌≡◌, ◌⊎◌, ℕ, ◌+◌, ◌<◌, ◌≤◌, List, [], ◌∷◌, ◌++◌, length, map, Option, Some, None, Result}
+use Rattle.std.specs.List.{AllByRecursion}
 use Rattle.dns_types.specs.declared.error.DecodeError.{DecodeError}
 use Rattle.dns_types.specs.declared.error.DecodeError.TheVariants as decode
 use Rattle.dns_types.specs.declared.error.ProtoError.{ProtoError}
 use Rattle.dns_fields.specs.Fields.{Number, Rest, Parameters}
-use Rattle.dns_fields.specs.Pieces.{Numbered, ParameterValue, Alpn, ParameterFits, piece, as_piece, parameter_octets, form_for, Rising}
+use Rattle.dns_fields.specs.Pieces.{Numbered, ParameterValue, Alpn, ParameterFits, piece, as_piece, parameter_octets, Rising}
 use Rattle.dns_names_wire.specs.State.{Reading, Writing}
 use Rattle.dns_names_wire.specs.Words.{Took, TookField}
 use Rattle.dns_rdata_base.specs.Refusing.{FirstLack}
 use Rattle.dns_rdata_service.specs.Emitting.{EmitsOctets}
 use Rattle.dns_rdata_service.specs.SvcParamKey.{key_number, key_variant, key_of}
-use Rattle.dns_rdata_service.specs.SvcParamValue.{value_of, value_from, value_key, value_refusal, fits_value}
+use Rattle.dns_rdata_service.specs.SvcParamValue.{value_of, value_from, value_key, HasText, key_refusal, fits_value}
 use Rattle.dns_rdata_service.specs.declared.svcb.key.SvcParamKey.{SvcParamKey}
 use Rattle.dns_rdata_service.specs.declared.svcb.value.SvcParamValue.{SvcParamValue}
 
@@ -33,6 +34,10 @@ own_parameter p = (key_number p.0, Alpn ((key_variant p.0 ∷ []) ∷ value_key 
 -- keys and values are those that their fields give
 abbrev pub AreRead : List Parameter → Type 0
 AreRead ps = ps ≡ map parameter_from (map parameter_of ps)
+
+-- a path of DNS queries is UTF-8 wherever one is
+abbrev pub HaveTexts : List (Numbered ParameterValue) → Type 0
+HaveTexts v = AllByRecursion (λ x. HasText x.0 x.1) v
 
 -- a key's number is above the last one
 abbrev pub IsAbove : Option ℕ → ℕ → Type 0
@@ -60,7 +65,7 @@ pub record RefusedValue (old : Reading) (e : DecodeError) (new : Reading) : Type
   pub key : ℕ
   pub octets : List ℕ
   pub took : Took old (Number 2 ∷ Number 2 ∷ Rest ∷ []) (key, (length octets, (octets, tt))) new
-  pub refused : value_refusal (form_for key) octets e
+  pub refused : key_refusal key octets e
 
 -- one parameter: octets of key or length are missing, or the value is refused
 abbrev pub parameter_refusal : Reading → DecodeError → Reading → Type 0

@@ -11,7 +11,7 @@ use Rattle.dns_names_wire.specs.Words.{Took}
 use Rattle.dns_rdata_base.specs.Refusing.{IsLack}
 use Rattle.dns_rdata_service.specs.SvcParamKey.{key_number, key_text}
 use Rattle.dns_rdata_service.specs.SvcParamValue.{value_text}
-use Rattle.dns_rdata_service.specs.Parameters.{Parameter, parameter_of, own_parameter, AreRead, parameters_refusal}
+use Rattle.dns_rdata_service.specs.Parameters.{Parameter, parameter_of, own_parameter, AreRead, HaveTexts, parameters_refusal}
 use Rattle.dns_rdata_service.specs.declared.svcb.SVCB.{SVCB}
 use Rattle.dns_rdata_service.specs.declared.svcb.value.SvcParamValue.{SvcParamValue}
 
@@ -21,6 +21,10 @@ svcb_shape = Number 2 ∷ Name ∷ Parameters ∷ []
 
 abbrev pub svcb_fields : SVCB → Values svcb_shape
 svcb_fields x = (x.svc_priority, (x.target_name, (map parameter_of x.svc_params, tt)))
+
+-- a path of DNS queries is UTF-8
+abbrev pub svcb_condition : Values svcb_shape → Type 0
+svcb_condition vs = HaveTexts vs.1.1.0
 
 -- what is compared
 abbrev pub svcb_key_shape : List Kind

@@ -1,10 +1,10 @@
--- The keys of service parameters: the numbers of their variants (RFC 9460, 14.3.2). One with a number of its own inside
--- has that number.
+-- The keys of service parameters: the numbers of their variants (RFC 9460, 14.3.2; RFC 9461, 5). One with a number of
+-- its own inside has that number.
 use Rattle.std.specs.Prelude.{ℕ, nat_le, if◌then◌else◌, List, [], ◌∷◌, ◌++◌, codes, decimal}
 use Rattle.dns_rdata_base.specs.Numbered.{numbered_of}
 use Rattle.dns_rdata_service.specs.declared.svcb.key.SvcParamKey.{SvcParamKey}
 use Rattle.dns_rdata_service.specs.declared.svcb.key.SvcParamKey.TheVariants.{Mandatory, Alpn, NoDefaultAlpn, Port, Ipv4Hint}
-use Rattle.dns_rdata_service.specs.declared.svcb.key.SvcParamKey.TheVariants.{EchConfigList, Ipv6Hint, Key, Key65535, Unknown}
+use Rattle.dns_rdata_service.specs.declared.svcb.key.SvcParamKey.TheVariants.{EchConfigList, Ipv6Hint, DohPath, Key, Key65535, Unknown}
 
 abbrev pub key_number : SvcParamKey → ℕ
 key_number Mandatory = 0
@@ -14,6 +14,7 @@ key_number Port = 3
 key_number Ipv4Hint = 4
 key_number EchConfigList = 5
 key_number Ipv6Hint = 6
+key_number DohPath = 7
 key_number (Key n) = n
 key_number Key65535 = 65535
 key_number (Unknown n) = n
@@ -27,12 +28,13 @@ key_variant Port = 3
 key_variant Ipv4Hint = 4
 key_variant EchConfigList = 5
 key_variant Ipv6Hint = 6
-key_variant (Key n) = 7
-key_variant Key65535 = 8
-key_variant (Unknown n) = 9
+key_variant DohPath = 7
+key_variant (Key n) = 8
+key_variant Key65535 = 9
+key_variant (Unknown n) = 10
 
 abbrev pub named_keys : List SvcParamKey
-named_keys = Mandatory ∷ Alpn ∷ NoDefaultAlpn ∷ Port ∷ Ipv4Hint ∷ EchConfigList ∷ Ipv6Hint ∷ Key65535 ∷ []
+named_keys = Mandatory ∷ Alpn ∷ NoDefaultAlpn ∷ Port ∷ Ipv4Hint ∷ EchConfigList ∷ Ipv6Hint ∷ DohPath ∷ Key65535 ∷ []
 
 -- what has no number above: from 65280 on numbers are for private use
 abbrev pub other_key : ℕ → SvcParamKey
@@ -42,7 +44,7 @@ other_key n = if nat_le 65280 n then Key n else Unknown n
 unfoldable pub key_of : ℕ → SvcParamKey
 key_of = numbered_of key_number named_keys other_key
 
--- its name (RFC 9460, 2.1 and 14.3.2), and for another number `key` or `unknown` and the number
+-- its name (RFC 9460, 2.1 and 14.3.2; RFC 9461, 5), and for another number `key` or `unknown` and the number
 unfoldable pub key_text : SvcParamKey → List ℕ
 key_text Mandatory = codes "mandatory"
 key_text Alpn = codes "alpn"
@@ -51,6 +53,7 @@ key_text Port = codes "port"
 key_text Ipv4Hint = codes "ipv4hint"
 key_text EchConfigList = codes "ech"
 key_text Ipv6Hint = codes "ipv6hint"
+key_text DohPath = codes "dohpath"
 key_text (Key n) = codes "key" ++ decimal n
 key_text Key65535 = codes "key65535"
 key_text (Unknown n) = codes "unknown" ++ decimal n

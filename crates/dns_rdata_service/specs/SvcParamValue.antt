@@ -1,4 +1,5 @@
--- The values of service parameters: what each holds, in the octets of which it is read, and its text (RFC 9460, 7 and 8).
+-- The values of service parameters: what each holds, in the octets of which it is read, and its text (RFC 9460, 7 and 8;
+-- RFC 9461, 5).
 use Rattle.std.specs.Prelude.{◌≡◌, ◌≢◌, ◌⊎◌, ℕ, ◌%◌, ◌^◌, ◌<◌, ◌==◌, ◌&&◌, nat_le, Bool, if◌then◌else◌, List, [], ◌∷◌, ◌++◌, length, drop}
 use Rattle.std.specs.Prelude.{map, codes, decimal, IsUtf8, Result}
 use Rattle.std.specs.List.{flat_map}
@@ -10,7 +11,7 @@ use Rattle.dns_types.specs.declared.error.DecodeError.{DecodeError}
 use Rattle.dns_types.specs.declared.error.DecodeError.TheVariants as decode
 use Rattle.dns_types.specs.declared.error.ProtoError.{ProtoError}
 use Rattle.dns_fields.specs.Pieces.{string, ParameterValue, Mandatory, Alpn, NoDefaultAlpn, Port, Ipv4Hint, Ipv6Hint, Opaque, Form, Keys}
-use Rattle.dns_fields.specs.Pieces.{Names, Nothing, PortNumber, Addresses4, Addresses16, AnyOctets, IsEmittable, IsBody, ParameterHeld}
+use Rattle.dns_fields.specs.Pieces.{Names, Nothing, PortNumber, Addresses4, Addresses16, AnyOctets, IsEmittable, IsBody, ParameterHeld, form_for}
 use Rattle.dns_fields.specs.Pieces.{parameter_octets, parameter_emittable}
 use Rattle.dns_names_wire.specs.State.{Writing}
 use Rattle.dns_rdata_base.specs.A.{a_text}
@@ -25,6 +26,7 @@ use Rattle.dns_rdata_service.specs.declared.svcb.mandatory.Mandatory.{Mandatory 
 use Rattle.dns_rdata_service.specs.declared.svcb.alpn.Alpn.{Alpn as Protocols}
 use Rattle.dns_rdata_service.specs.declared.svcb.ip_hint.IpHint.{IpHint}
 use Rattle.dns_rdata_service.specs.declared.svcb.ech_config_list.EchConfigList.{EchConfigList as Config}
+use Rattle.dns_rdata_service.specs.declared.svcb.doh_path.DohPath.{DohPath as Path}
 use Rattle.dns_rdata_service.specs.declared.svcb.unknown.Unknown.{Unknown as Other}
 use Rattle.dns_rdata_service.specs.declared.svcb.value.SvcParamValue.{SvcParamValue}
 use Rattle.dns_rdata_service.specs.declared.svcb.value.SvcParamValue.TheVariants as variants
@@ -52,6 +54,9 @@ hint6_value x = Ipv6Hint (map aaaa_octets x.0)
 abbrev pub ech_value : Config → ParameterValue
 ech_value x = Opaque x.0
 
+abbrev pub doh_path_value : Path → ParameterValue
+doh_path_value x = Opaque x.0
+
 abbrev pub unknown_value : Other → ParameterValue
 unknown_value x = Opaque x.0
 
@@ -63,6 +68,7 @@ value_of (variants.Port n) = Port n
 value_of (variants.Ipv4Hint x) = hint4_value x
 value_of (variants.EchConfigList x) = ech_value x
 value_of (variants.Ipv6Hint x) = hint6_value x
+value_of (variants.DohPath x) = doh_path_value x
 value_of (variants.Unknown x) = unknown_value x
 
 abbrev pub a_of : List ℕ → A
@@ -79,7 +85,10 @@ value_from key NoDefaultAlpn = variants.NoDefaultAlpn
 value_from key (Port n) = variants.Port n
 value_from key (Ipv4Hint addresses) = variants.Ipv4Hint (record { 0 = map a_of addresses })
 value_from key (Ipv6Hint addresses) = variants.Ipv6Hint (record { 0 = map aaaa_of addresses })
-value_from key (Opaque s) = if key == 5 then variants.EchConfigList (record { 0 = s }) else variants.Unknown (record { 0 = s })
+value_from key (Opaque s) =
+    if key == 5 then variants.EchConfigList (record { 0 = s }) else
+    if key == 7 then variants.DohPath (record { 0 = s }) else
+    variants.Unknown (record { 0 = s })
 
 -- ---- as keys of their own, for comparing
 
@@ -96,14 +105,20 @@ value_key (variants.Port n) = (3 ∷ []) ∷ (n ∷ []) ∷ []
 value_key (variants.Ipv4Hint x) = (4 ∷ []) ∷ map a_octets x.0
 value_key (variants.EchConfigList x) = (5 ∷ []) ∷ x.0 ∷ []
 value_key (variants.Ipv6Hint x) = (6 ∷ []) ∷ map aaaa_octets x.0
-value_key (variants.Unknown x) = (7 ∷ []) ∷ x.0 ∷ []
+value_key (variants.DohPath x) = (7 ∷ []) ∷ x.0 ∷ []
+value_key (variants.Unknown x) = (8 ∷ []) ∷ x.0 ∷ []
 
 -- ---- reading
+
+-- the path of DNS queries, key 7, is UTF-8 (RFC 9461, 5)
+abbrev pub HasText : ℕ → ParameterValue → Type 0
+HasText key value = key ≡ 7 → IsUtf8 (parameter_octets value)
 
 -- the octets hold the value as that of the key with this number
 pub record IsValueOf (key : ℕ) (body : List ℕ) (v : SvcParamValue) : Type 0 where
   pub held : ParameterHeld key body (value_of v)
   pub given : v ≡ value_from key (value_of v)
+  pub text : HasText key (value_of v)
 
 -- the keys are those that their numbers give
 abbrev pub AreGiven : List SvcParamKey → Type 0
@@ -123,6 +138,9 @@ AlpnAt m p x q = ToEnd m p (alpn_value x) q
 
 abbrev pub EchConfigListAt : List ℕ → ℕ → Config → ℕ → Type 0
 EchConfigListAt m p x q = ToEnd m p (ech_value x) q
+
+abbrev pub DohPathAt : List ℕ → ℕ → Path → ℕ → Type 0
+DohPathAt m p x q = ToEnd m p (doh_path_value x) q × IsUtf8 x.0
 
 abbrev pub UnknownAt : List ℕ → ℕ → Other → ℕ → Type 0
 UnknownAt m p x q = ToEnd m p (unknown_value x) q
@@ -157,6 +175,14 @@ form_refusal AnyOctets body e = ⊥
 -- or memory runs out
 abbrev pub value_refusal : Form → List ℕ → DecodeError → Type 0
 value_refusal form body e = (e ≡ decode.Memory) ⊎ form_refusal form body e
+
+-- why octets are no path of DNS queries, or memory runs out
+abbrev pub path_refusal : List ℕ → DecodeError → Type 0
+path_refusal body e = (e ≡ decode.Memory) ⊎ ((e ≡ decode.Utf8) × (IsUtf8 body → ⊥))
+
+-- why octets are no value of a key
+abbrev pub key_refusal : ℕ → List ℕ → DecodeError → Type 0
+key_refusal key body e = value_refusal (form_for key) body e ⊎ ((key ≡ 7) × path_refusal body e)
 
 -- ---- emitting
 
@@ -205,6 +231,10 @@ hint4_text x = flat_map (λ a. a_text a ++ codes ",") x.0
 abbrev pub hint6_text : IpHint AAAA → List ℕ
 hint6_text x = flat_map (λ a. aaaa_text a ++ codes ",") x.0
 
+-- the text in quotes
+abbrev pub doh_path_text : Path → List ℕ
+doh_path_text x = codes "\"" ++ lossy x.0 ++ codes "\""
+
 abbrev pub value_text : SvcParamValue → List ℕ
 value_text (variants.Mandatory x) = mandatory_text x
 value_text (variants.Alpn x) = alpn_text x
@@ -213,4 +243,5 @@ value_text (variants.Port n) = decimal n
 value_text (variants.Ipv4Hint x) = hint4_text x
 value_text (variants.EchConfigList x) = ech_text x
 value_text (variants.Ipv6Hint x) = hint6_text x
+value_text (variants.DohPath x) = doh_path_text x
 value_text (variants.Unknown x) = unknown_text x

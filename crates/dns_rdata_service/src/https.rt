@@ -5,7 +5,7 @@ ghost use Rattle.std.specs.List.Sorted.{IsPermutation, IsNonDecreasingBy, IsStab
 ghost use Rattle.std.specs.Ordering.{nat_cmp};
 ghost use Rattle.dns_names_wire.specs.Words.{ReadsWindow, EmitsAs, Extends, Keeps};
 ghost use Rattle.dns_rdata_service.specs.SVCB.{number_of_parameter};
-ghost use Rattle.dns_rdata_service.specs.HTTPS.{https_shape, https_fields, https_key_shape, https_keys, IsReadHttps, https_refusal};
+ghost use Rattle.dns_rdata_service.specs.HTTPS.{https_shape, https_fields, https_condition, https_key_shape, https_keys, IsReadHttps, https_refusal};
 
 use crate::svcb::SVCB;
 use dns_names_wire::{
@@ -40,14 +40,14 @@ impl HTTPS {
 impl RecordDataDecodable for HTTPS {
     ghost kinds = { https_shape };
 
-    ghost condition = { λ _. Unit {0} };
+    ghost condition = { https_condition };
 
     ghost fields = { https_fields };
 
     /// Reads the data of an SVCB, and is refused as that.
     #[inline]
     fn read_data(decoder: &mut BinDecoder<'_>, length: Restrict<u16>) -> Result<HTTPS, DecodeError>
-        ensures window { ReadsWindow https_shape (λ _. Unit {0}) https_fields length result decoder.old decoder.new }
+        ensures window { ReadsWindow https_shape https_condition https_fields length result decoder.old decoder.new }
         ensures read { IfOk result IsReadHttps }
         ensures refused { IfErr result (λ e. https_refusal length decoder.old e decoder.new) }
     {

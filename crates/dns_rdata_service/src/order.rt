@@ -17,7 +17,7 @@ ghost use Rattle.dns_rdata_service.specs.SVCB.{svcb_shape, svcb_fields, svcb_key
 use crate::items::Items;
 use crate::ordering::{hint4_cmp, hint6_cmp};
 use crate::svcb::{SVCB, SvcParamKey, SvcParamValue};
-use dns_names_wire::{Octets, SmallOctets};
+use dns_names_wire::SmallOctets;
 use dns_pieces::order::{name_behind, slices_behind, two_behind};
 use dns_rdata_base::{A, AAAA};
 use std::cmp::Ordering;
@@ -90,12 +90,17 @@ fn value_order(a: &SvcParamValue, b: &SvcParamValue) -> Option<Ordering>
             hint4_order(x.0.as_slice(), y.0.as_slice())
         }
         (SvcParamValue::EchConfigList(x), SvcParamValue::EchConfigList(y)) => {
-            octets_order(&x.0, &y.0)
+            octets_order(x.0.as_slice(), y.0.as_slice())
         }
         (SvcParamValue::Ipv6Hint(x), SvcParamValue::Ipv6Hint(y)) => {
             hint6_order(x.0.as_slice(), y.0.as_slice())
         }
-        (SvcParamValue::Unknown(x), SvcParamValue::Unknown(y)) => octets_order(&x.0, &y.0),
+        (SvcParamValue::DohPath(x), SvcParamValue::DohPath(y)) => {
+            octets_order(x.0.as_slice(), y.0.as_slice())
+        }
+        (SvcParamValue::Unknown(x), SvcParamValue::Unknown(y)) => {
+            octets_order(x.0.as_slice(), y.0.as_slice())
+        }
         _ => if a == b { Some(Ordering::Equal) } else { None },
     }
 }
@@ -111,7 +116,7 @@ fn port_order(a: u16, b: u16) -> Ordering
 
 // Of octets behind their length.
 #[inline]
-fn octets_order(a: &Octets, b: &Octets) -> Option<Ordering>
+fn octets_order(a: &[u8], b: &[u8]) -> Option<Ordering>
     ensures order { IfSome result (λ o. OrderFirst o (sized (Opaque a.now)) (sized (Opaque b.now))) }
     ensures alike { IfSome result (λ o. o ≡ Equal → a.now ≡ b.now) }
 {
@@ -119,7 +124,7 @@ fn octets_order(a: &Octets, b: &Octets) -> Option<Ordering>
         return None;
     }
     let lengths = a.len().cmp(&b.len());
-    Some(slices_behind(lengths, a.as_slice(), b.as_slice()))
+    Some(slices_behind(lengths, a, b))
 }
 
 // Of addresses of four octets behind their length.

@@ -77,7 +77,8 @@ fn place(value: &SvcParamValue) -> u8
         SvcParamValue::Ipv4Hint(_) => 4,
         SvcParamValue::EchConfigList(_) => 5,
         SvcParamValue::Ipv6Hint(_) => 6,
-        SvcParamValue::Unknown(_) => 7,
+        SvcParamValue::DohPath(_) => 7,
+        SvcParamValue::Unknown(_) => 8,
     }
 }
 
@@ -107,6 +108,7 @@ fn value_cmp(a: &SvcParamValue, b: &SvcParamValue) -> Ordering
         (SvcParamValue::Ipv6Hint(x), SvcParamValue::Ipv6Hint(y)) => {
             hint6_cmp(x.0.as_slice(), y.0.as_slice())
         }
+        (SvcParamValue::DohPath(x), SvcParamValue::DohPath(y)) => x.0.cmp(&y.0),
         (SvcParamValue::Unknown(x), SvcParamValue::Unknown(y)) => x.0.cmp(&y.0),
         _ => places_cmp(a, b),
     }

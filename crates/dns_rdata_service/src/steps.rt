@@ -78,6 +78,7 @@ fn value_len(value: &SvcParamValue) -> u16
         SvcParamValue::Ipv4Hint(addresses) => hint4_len(addresses.0.as_slice()),
         SvcParamValue::EchConfigList(octets) => octets.0.len() as u16,
         SvcParamValue::Ipv6Hint(addresses) => hint6_len(addresses.0.as_slice()),
+        SvcParamValue::DohPath(path) => path.0.len() as u16,
         SvcParamValue::Unknown(octets) => octets.0.len() as u16,
     }
 }
@@ -209,6 +210,7 @@ fn put_front<'a>(value: &'a SvcParamValue, head: &mut Head) -> Tail<'a>
             return Tail::none();
         }
         SvcParamValue::EchConfigList(octets) => return Tail::rest(octets.0.as_slice()),
+        SvcParamValue::DohPath(path) => return Tail::rest(path.0.as_slice()),
         SvcParamValue::Unknown(octets) => return Tail::rest(octets.0.as_slice()),
         _ => return Tail::none(),
     }
@@ -396,6 +398,7 @@ fn value_fits(value: &SvcParamValue) -> bool
         SvcParamValue::Ipv4Hint(addresses) => hint4_fits(addresses.0.as_slice()),
         SvcParamValue::EchConfigList(octets) => octets.0.len() <= 65535,
         SvcParamValue::Ipv6Hint(addresses) => hint6_fits(addresses.0.as_slice()),
+        SvcParamValue::DohPath(path) => path.0.len() <= 65535,
         SvcParamValue::Unknown(octets) => octets.0.len() <= 65535,
     }
 }

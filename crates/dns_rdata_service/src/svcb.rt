@@ -7,10 +7,11 @@ ghost use Rattle.std.specs.Ordering.{nat_cmp};
 ghost use Rattle.std.specs.Cmp.Lexicographic.{pointwise};
 ghost use Rattle.dns_names_wire.specs.Words.{ReadsWindow, EmitsAs, Extends, Keeps};
 ghost use Rattle.dns_rdata_service.specs.OwnKeys.{value_eq, parameter_eq};
-ghost use Rattle.dns_rdata_service.specs.SVCB.{svcb_shape, svcb_fields, svcb_key_shape, svcb_keys, IsReadSvcb, svcb_refusal, number_of_parameter, value_at};
+ghost use Rattle.dns_rdata_service.specs.SVCB.{svcb_shape, svcb_fields, svcb_condition, svcb_key_shape, svcb_keys, IsReadSvcb, svcb_refusal, number_of_parameter, value_at};
 ghost use Rattle.dns_rdata_service.specs.SvcParamKey.{key_number};
 
 mod alpn;
+mod doh_path;
 mod ech_config_list;
 mod ip_hint;
 mod item;
@@ -30,6 +31,7 @@ use dns_names_wire::{
 };
 use dns_pieces::{EncodesFields, emit_in};
 use dns_rdata_base::RecordDataDecodable;
+pub use doh_path::DohPath;
 pub use ech_config_list::EchConfigList;
 pub use ip_hint::IpHint;
 pub use key::SvcParamKey;
@@ -110,7 +112,7 @@ impl SVCB {
 impl RecordDataDecodable for SVCB {
     ghost kinds = { svcb_shape };
 
-    ghost condition = { λ _. Unit {0} };
+    ghost condition = { svcb_condition };
 
     ghost fields = { svcb_fields };
 
@@ -124,7 +126,7 @@ impl RecordDataDecodable for SVCB {
     /// octets are none of its key, as the value's `read` refuses them.
     #[inline(always)]
     fn read_data(decoder: &mut BinDecoder<'_>, length: Restrict<u16>) -> Result<SVCB, DecodeError>
-        ensures window { ReadsWindow svcb_shape (λ _. Unit {0}) svcb_fields length result decoder.old decoder.new }
+        ensures window { ReadsWindow svcb_shape svcb_condition svcb_fields length result decoder.old decoder.new }
         ensures read { IfOk result IsReadSvcb }
         ensures refused { IfErr result (λ e. svcb_refusal length decoder.old e decoder.new) }
     {
@@ -191,6 +193,7 @@ fn same_value(a: &SvcParamValue, b: &SvcParamValue) -> bool
         (SvcParamValue::Ipv4Hint(a), SvcParamValue::Ipv4Hint(b)) => *a == *b,
         (SvcParamValue::EchConfigList(a), SvcParamValue::EchConfigList(b)) => *a == *b,
         (SvcParamValue::Ipv6Hint(a), SvcParamValue::Ipv6Hint(b)) => *a == *b,
+        (SvcParamValue::DohPath(a), SvcParamValue::DohPath(b)) => *a == *b,
         (SvcParamValue::Unknown(a), SvcParamValue::Unknown(b)) => *a == *b,
         _ => false,
     }

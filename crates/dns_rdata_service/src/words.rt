@@ -44,8 +44,8 @@ impl SVCB {
     /// A parameter is a key, and perhaps a `=` and a value; the first `=` divides them. The key is a text of
     /// [`SvcParamKey`]. Quotes round the value are dropped; one quote alone is refused. What is left is, for
     /// `mandatory`, `alpn`, `ipv4hint` and `ipv6hint`, a list of keys, names and addresses; for `port` a decimal number
-    /// of 16 bits; for `ech` base64 (RFC 4648, 4); for a `key` with a number its octets, and without a `=` none.
-    /// `no-default-alpn` has no value, and no `=`.
+    /// of 16 bits; for `ech` base64 (RFC 4648, 4); for `dohpath` a path (RFC 9461, 5); for a `key` with a number its
+    /// octets, and without a `=` none. `no-default-alpn` has no value, and no `=`.
     ///
     /// Refused by [`MissingToken`](ParseError::MissingToken) where a word is missing; by
     /// [`Message`](ParseError::Message) for a number, and for a parameter whose value is missing, not there to be had,

@@ -7,8 +7,8 @@
 //!
 //! A second argument, one of these words, takes that column alone and prints nothing: for runs under a counter of requests
 //! for memory. With a third, each value that is read or cloned is compared. In place of the number the word `growth`
-//! prints how the time grows with names, pointers, strings and windows, and `options` how long records of as many options
-//! as fit take. After the word `parse` and a number of rounds lines `TYPE TEXT` are read, and the nanoseconds of reading
+//! prints how the time grows with names, pointers, strings and windows, and `options` how long records of so many options
+//! take, 16,383 where no number follows, which is as many as fit. After the word `parse` and a number of rounds lines `TYPE TEXT` are read, and the nanoseconds of reading
 //! each text as record data printed. The word `sort` measures a million records that are sorted. After the word `names` and
 //! a number of rounds 2,000 names of one zone are measured, written into one message and read back.
 #![tactic(auto)]
@@ -76,7 +76,11 @@ fn main(rt: HostRuntime) -> Result<()> {
         return growth::print_growth(&rt);
     }
     if word.as_str() == "options" {
-        return measure_options(&rt);
+        let count = match args.next() {
+            Some(number) => number.parse::<u16>()?,
+            None => 16383,
+        };
+        return measure_options(&rt, count);
     }
     if word.as_str() == "sort" {
         return measure_sorting(&rt);

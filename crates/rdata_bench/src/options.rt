@@ -1,47 +1,74 @@
-//! Records of as many options as fit: how long the calls take that put options in order.
+//! Records of many options: how long the calls take that put options in order.
 
 use anyhow::Result;
-use dns_rdata::{BinDecoder, RData, RecordType, Restrict};
+use dns_rdata::{RData, RecordType};
+use held_data::Held;
 use std::alloc::Global;
 use std::cmp::Ordering;
 use std::hash::{DefaultHasher, Hash, Hasher};
 use std::rt::Clock;
 use std::time::Instant;
 
-// Options without octets that fit in a record.
-const MOST: u16 = 16383;
-
-// The codes of as many options: rising, falling, mixed, or two codes by turns.
-fn code(order: &str, i: u16) -> u16 {
-    // Without code 8, whose options have octets.
-    match order {
-        "rising" => i.wrapping_add(100),
-        "falling" => MOST.wrapping_sub(i).wrapping_add(100),
-        "mixed" => i.wrapping_mul(5003) % 16384 + 100,
-        "two" => 20 - i % 2,
-        "last" => { if i.wrapping_add(1) == MOST { 19 } else { 20 } }
-        _ => 20,
-    }
+// So many options without octets: their order, whether they stand in it from the last one on, and whether the one that comes
+// last in rising order has another code.
+#[derive(Drop)]
+struct Options<'a> {
+    order: &'a str,
+    count: u16,
+    turned: bool,
+    differs: bool,
 }
 
-// The octets of as many options without octets.
-fn options(alloc: Global, order: &str, turned: bool) -> Result<Vec<u8>> {
-    let mut octets = Vec::new(alloc);
-    for i in 0..MOST {
-        let place = if turned { MOST - 1 - i } else { i };
-        octets.extend_from_slice(&code(order, place).to_be_bytes())?;
-        octets.extend_from_slice(&[0, 0])?;
+impl Options<'_> {
+    // The code of an option: rising, falling, mixed, or two codes by turns.
+    fn code(&self, i: u16) -> u16 {
+        // Without code 8, whose options have octets.
+        match self.order {
+            "rising" => i.wrapping_add(100),
+            "falling" => self.count.wrapping_sub(i).wrapping_add(100),
+            "mixed" => i.wrapping_mul(5003) % 16384 + 100,
+            "two" => 20 - i % 2,
+            "last" => {
+                if i.wrapping_add(1) == self.count {
+                    19
+                } else {
+                    20
+                }
+            }
+            _ => 20,
+        }
     }
-    Ok(octets)
-}
 
-fn read(alloc: Global, octets: &[u8]) -> Result<RData> {
-    let mut decoder = BinDecoder::new(alloc, octets);
-    Ok(RData::read(
-        &mut decoder,
-        RecordType::OPT,
-        Restrict::new(MOST.wrapping_mul(4)),
-    )?)
+    // The greatest of the codes.
+    fn greatest(&self) -> u16 {
+        let mut greatest = 0u16;
+        for i in 0..self.count {
+            greatest = greatest.max(self.code(i));
+        }
+        greatest
+    }
+
+    // Their octets.
+    fn octets(&self, alloc: Global) -> Result<Vec<u8>> {
+        let greatest = self.greatest();
+        let mut left = self.differs;
+        let mut octets = Vec::new(alloc);
+        for i in 0..self.count {
+            let place = if self.turned { self.count - 1 - i } else { i };
+            let mut code = self.code(place);
+            if left && code == greatest {
+                left = false;
+                code = 65000;
+            }
+            octets.extend_from_slice(&code.to_be_bytes())?;
+            octets.extend_from_slice(&[0, 0])?;
+        }
+        Ok(octets)
+    }
+
+    fn read(&self, alloc: Global) -> Result<Held> {
+        Ok(Held::whole(alloc, self.octets(alloc)?.as_slice(), RecordType::OPT)?)
+    }
 }
 
 fn hash_of(value: &RData) -> u64 {
@@ -50,44 +77,74 @@ fn hash_of(value: &RData) -> u64 {
     state.finish()
 }
 
-fn measure(rt: &(impl Clock + AllocGlobal + Print), order: &str) -> Result<()> {
-    let first = read(rt.alloc(), options(rt.alloc(), order, true)?.as_slice())?;
-    let octets = options(rt.alloc(), order, false)?;
-    let begin = Instant::now(rt)?;
-    let second = read(rt.alloc(), octets.as_slice())?;
-    let read = begin.elapsed(rt)?.as_micros();
-    let begin = Instant::now(rt)?;
-    anyhow::ensure!(first == second, "records that are not equal");
-    let equal = begin.elapsed(rt)?.as_micros();
-    let begin = Instant::now(rt)?;
-    let hash = hash_of(&second);
-    let hashed = begin.elapsed(rt)?.as_micros();
-    anyhow::ensure!(hash == hash_of(&first), "equal records with two hashes");
-    let begin = Instant::now(rt)?;
-    anyhow::ensure!(first.cmp(&second) == Ordering::Equal, "records that differ");
-    let compared = begin.elapsed(rt)?.as_micros();
-    let begin = Instant::now(rt)?;
+fn order_of(first: &Held, second: &Held) -> Ordering {
+    first.0.cmp(&second.0)
+}
+
+fn sum_of(value: &RData) -> u64 {
     let mut sum = 0u64;
-    for octet in second.canonical_octets() {
+    for octet in value.canonical_octets() {
         sum = sum.wrapping_mul(31).wrapping_add(u64::from(octet));
     }
+    sum
+}
+
+fn measure(rt: &(impl Clock + AllocGlobal + Print), order: &str, count: u16) -> Result<()> {
+    let mut options = Options {
+        order,
+        count,
+        turned: true,
+        differs: false,
+    };
+    let first = options.read(rt.alloc())?;
+    options.turned = false;
+    let begin = Instant::now(rt)?;
+    let second = options.read(rt.alloc())?;
+    let read = begin.elapsed(rt)?.as_micros();
+    options.differs = true;
+    let other = options.read(rt.alloc())?;
+    let begin = Instant::now(rt)?;
+    anyhow::ensure!(first.0 == second.0, "records that are not equal");
+    let equal = begin.elapsed(rt)?.as_micros();
+    let begin = Instant::now(rt)?;
+    let hash = hash_of(&second.0);
+    let hashed = begin.elapsed(rt)?.as_micros();
+    anyhow::ensure!(hash == hash_of(&first.0), "equal records with two hashes");
+    let begin = Instant::now(rt)?;
+    anyhow::ensure!(
+        order_of(&first, &second) == Ordering::Equal,
+        "records that differ"
+    );
+    let compared = begin.elapsed(rt)?.as_micros();
+    let begin = Instant::now(rt)?;
+    anyhow::ensure!(
+        order_of(&first, &other) == Ordering::Less,
+        "a greater option, and not less"
+    );
+    let apart = begin.elapsed(rt)?.as_micros();
+    let begin = Instant::now(rt)?;
+    let sum = sum_of(&second.0);
     let canonical = begin.elapsed(rt)?.as_micros();
     let begin = Instant::now(rt)?;
-    let last = second.octet_at(65531);
+    let last = second.0.octet_at(u128::from(count) * 4 - 1);
     let at = begin.elapsed(rt)?.as_micros();
     println!(rt;
-        "{order}\t{read}\t{equal}\t{hashed}\t{compared}\t{canonical}\t{at}\t{sum} {}",
+        "{order}\t{read}\t{equal}\t{hashed}\t{compared}\t{apart}\t{canonical}\t{at}\t{sum} {}",
         last.is_some()
     )?;
     Ok(())
 }
 
-/// Prints, for records of 16,383 options, the microseconds of one read, `==`, hash, `cmp`, all canonical octets and the
-/// last of them.
-pub fn measure_options(rt: &(impl Clock + AllocGlobal + Print)) -> Result<()> {
-    println!(rt; "options\tread\tequal\thash\tcmp\tcanonical\toctet_at")?;
+/// Prints, for records of so many options, 16,383 at most, the microseconds of one read, `==`, hash, `cmp` of equal records
+/// and of records whose last options differ, all canonical octets and the last of them.
+pub fn measure_options(rt: &(impl Clock + AllocGlobal + Print), count: u16) -> Result<()> {
+    anyhow::ensure!(
+        count >= 1 && count <= 16383,
+        "no record holds so many options"
+    );
+    println!(rt; "options\tread\tequal\thash\tcmp\tapart\tcanonical\toctet_at")?;
     for order in ["rising", "falling", "mixed", "two", "last"] {
-        measure(rt, order)?;
+        measure(rt, order, count)?;
     }
     Ok(())
 }

@@ -1,11 +1,12 @@
 //! Replays calls of the library: values that are made, and what they are asked for. A line has a command, the answer that
 //! is wanted, and the command's words, with a tab between each two. What a command answers is said at the function that
-//! does it. Functions are kept small, since a proof takes more than twice as long for twice the code.
+//! does it.
 
 mod encoder;
 mod lists;
 mod made;
 mod made_certs;
+mod made_services;
 mod made_sets;
 mod options;
 mod placed;

@@ -1,12 +1,16 @@
 //! Replays runs of the program `rdata` whose answers are known, one a line: `rows.tsv` has small ones, worked by hand
 //! from the RFCs, and `real.tsv` record data as name servers and DNS tools write it, with the text and the octets on which
 //! independent implementations agree. The canonical octets of what was read are read again, and must be told as the same.
-//! `calls.tsv` has calls of the library.
-//! With an argument, such as `answers`, it answers the runs that standard input gives.
+//! `calls.tsv` has calls of the library, and `wire.tsv` calls of the crates below the records. Functions are kept small,
+//! since a proof takes more than twice as long for twice the code.
+//! With the argument `answers` it answers the runs that standard input gives, and with `marked` the calls, each between two
+//! marks.
 #![tactic(auto)]
 
 mod answers;
 mod calls;
+mod marked;
+mod wire_calls;
 
 use anyhow::{Result, bail};
 use rdata_command::run;
@@ -66,10 +70,14 @@ fn reads_again(alloc: Global, words: &[String], output: &str) -> Result<bool> {
 }
 
 fn main(rt: HostRuntime) -> Result<()> {
-    if std::env::args(&rt)?.nth(1).is_some() {
-        return answers::answer_all(&rt);
+    if let Some(word) = std::env::args(&rt)?.nth(1) {
+        return match word.as_str() {
+            "marked" => marked::answer_marked(&rt),
+            _ => answers::answer_all(&rt),
+        };
     }
     replay(&rt, "rows.tsv", &Commands)?;
     replay(&rt, "real.tsv", &Commands)?;
-    replay(&rt, "calls.tsv", &calls::Calls)
+    replay(&rt, "calls.tsv", &calls::Calls)?;
+    replay(&rt, "wire.tsv", &wire_calls::WireCalls)
 }

@@ -64,7 +64,7 @@ impl BinDecodable for Alpn {
 
 // Whether the octets are UTF-8.
 #[inline]
-fn is_text(octets: &[u8]) -> bool
+pub(super) fn is_text(octets: &[u8]) -> bool
     ensures { IsTrue result ↔ IsUtf8 octets.now }
 {
     match str::from_utf8(octets) {

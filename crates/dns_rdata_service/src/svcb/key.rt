@@ -1,4 +1,4 @@
-//! The keys of service parameters (RFC 9460, 14.3.2).
+//! The keys of service parameters (RFC 9460, 14.3.2; RFC 9461, 5).
 
 ghost use Rattle.std.specs.Prelude.{◌≡◌, ◌++◌, refl, IfErr, OnErr};
 ghost use Rattle.std.specs.Cmp.{partial_equiv_from_equiv, partial_order_from_agreeing_total};
@@ -34,6 +34,8 @@ pub enum SvcParamKey {
     EchConfigList,
     /// IPv6 addresses (6; 7.3).
     Ipv6Hint,
+    /// A template of the path of DNS queries over HTTPS (7; RFC 9461, 5).
+    DohPath,
     /// For private use: `from` gives it for 65280 to 65534.
     Key(u16),
     /// Reserved, an invalid key (65535).
@@ -56,6 +58,7 @@ impl From<u16> for SvcParamKey {
             4 => SvcParamKey::Ipv4Hint,
             5 => SvcParamKey::EchConfigList,
             6 => SvcParamKey::Ipv6Hint,
+            7 => SvcParamKey::DohPath,
             65280..=65534 => SvcParamKey::Key(value),
             65535 => SvcParamKey::Key65535,
             _ => SvcParamKey::Unknown(value),
@@ -76,6 +79,7 @@ impl From<SvcParamKey> for u16 {
             SvcParamKey::Ipv4Hint => 4,
             SvcParamKey::EchConfigList => 5,
             SvcParamKey::Ipv6Hint => 6,
+            SvcParamKey::DohPath => 7,
             SvcParamKey::Key(number) => number,
             SvcParamKey::Key65535 => 65535,
             SvcParamKey::Unknown(number) => number,
@@ -105,9 +109,10 @@ impl SvcParamKey {
             SvcParamKey::Ipv4Hint => 4,
             SvcParamKey::EchConfigList => 5,
             SvcParamKey::Ipv6Hint => 6,
-            SvcParamKey::Key(_) => 7,
-            SvcParamKey::Key65535 => 8,
-            SvcParamKey::Unknown(_) => 9,
+            SvcParamKey::DohPath => 7,
+            SvcParamKey::Key(_) => 8,
+            SvcParamKey::Key65535 => 9,
+            SvcParamKey::Unknown(_) => 10,
         }
     }
 }
@@ -218,6 +223,7 @@ impl fmt::Display for SvcParamKey {
             SvcParamKey::Ipv4Hint => f.write_str("ipv4hint"),
             SvcParamKey::EchConfigList => f.write_str("ech"),
             SvcParamKey::Ipv6Hint => f.write_str("ipv6hint"),
+            SvcParamKey::DohPath => f.write_str("dohpath"),
             SvcParamKey::Key(number) => write!(f, "key{number}"),
             SvcParamKey::Key65535 => f.write_str("key65535"),
             SvcParamKey::Unknown(number) => write!(f, "unknown{number}"),

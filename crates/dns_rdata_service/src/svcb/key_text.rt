@@ -16,9 +16,9 @@ fn numbered(text: &str) -> Option<u16>
     digits.parse::<u16>().ok()
 }
 
-/// `mandatory`, `alpn`, `no-default-alpn`, `port`, `ipv4hint`, `ech`, `ipv6hint`, `key65535`, or `key`, perhaps a `+`, and
-/// one decimal digit or more of a number of 16 bits, which gives `Key` of that number, also where it has a key of its
-/// own. Any other text is refused by `Message`. Takes no memory, so nothing is refused for want of it.
+/// `mandatory`, `alpn`, `no-default-alpn`, `port`, `ipv4hint`, `ech`, `ipv6hint`, `dohpath`, `key65535`, or `key`,
+/// perhaps a `+`, and one decimal digit or more of a number of 16 bits, which gives `Key` of that number, also where it
+/// has a key of its own. Any other text is refused by `Message`. Takes no memory, so nothing is refused for want of it.
 impl FromStr for SvcParamKey {
     type Err = ProtoError;
 
@@ -37,6 +37,7 @@ impl FromStr for SvcParamKey {
             "ipv4hint" => Ok(SvcParamKey::Ipv4Hint),
             "ech" => Ok(SvcParamKey::EchConfigList),
             "ipv6hint" => Ok(SvcParamKey::Ipv6Hint),
+            "dohpath" => Ok(SvcParamKey::DohPath),
             "key65535" => Ok(SvcParamKey::Key65535),
             _ => match numbered(text) {
                 Some(number) => Ok(SvcParamKey::Key(number)),

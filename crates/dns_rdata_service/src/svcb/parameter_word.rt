@@ -1,4 +1,4 @@
-//! Parameters from words (RFC 9460, 2.1 and appendix A).
+//! Parameters from words (RFC 9460, 2.1 and appendix A; RFC 9461, 5).
 
 ghost use Rattle.std.specs.Prelude.{◌≡◌, ◌≢◌, ◌∷◌, ℕ, [], List, IfErr, IfNone, IfOk, IfSome, IsUtf8};
 ghost use Rattle.dns_types.specs.declared.error.ParseError.TheVariants as parse;
@@ -9,6 +9,7 @@ ghost use Rattle.dns_rdata_service.specs.ParameterWords.{IsValueAlone, IsValueTe
 
 use crate::items::Items;
 use crate::svcb::alpn::Alpn;
+use crate::svcb::doh_path::DohPath;
 use crate::svcb::ech_config_list::EchConfigList;
 use crate::svcb::ip_hint::IpHint;
 use crate::svcb::item::{item_of, items_of};
@@ -22,14 +23,14 @@ use std::alloc::Global;
 
 /// The parameter of a word: a key, and perhaps a `=` and a value. The first `=` divides them.
 ///
-/// The key is a text of [`SvcParamKey`]. Quotes round the value are dropped; one quote alone is refused. What is left is,
-/// for `mandatory`, `alpn`, `ipv4hint` and `ipv6hint`, a list of keys, names and addresses: a `\` is dropped and the
-/// next character kept, any other comma ends an item, and what is left at the end is one more; and of each the first
-/// token, which must be a word. For `port` and `ech` it is one such item, a decimal number of 16 bits or base64
-/// (RFC 4648, 4). `no-default-alpn` has no value, and no `=`. For a `key` with a number it is the value's octets; without
-/// a `=` there are none. Every other word is refused, `key65535` too: by `Proto` where there is no such key, by
-/// `AddrParse` where an item is no address, and else by `Message`. Takes memory for what the value holds, and where a piece
-/// of a list or an item has a `\`.
+/// The key is a text of [`SvcParamKey`]. Quotes round the value are dropped; one quote alone is refused. What is left
+/// is, for `mandatory`, `alpn`, `ipv4hint` and `ipv6hint`, a list of keys, names and addresses: a `\` is dropped and
+/// the next character kept, any other comma ends an item, and what is left at the end is one more; and of each the
+/// first token, which must be a word. For `port`, `ech` and `dohpath` it is one such item, a decimal number of 16 bits,
+/// base64 (RFC 4648, 4) or the path. `no-default-alpn` has no value, and no `=`. For a `key` with a number it is the
+/// value's octets; without a `=` there are none. Every other word is refused, `key65535` too: by `Proto` where there is
+/// no such key, by `AddrParse` where an item is no address, and else by `Message`. Takes memory for what the value
+/// holds, and where a piece of a list or an item has a `\`.
 pub(crate) fn parameter_of(
     alloc: Global,
     word: &str,
@@ -106,6 +107,7 @@ fn without_value(key: SvcParamKey) -> &'static str {
         SvcParamKey::Ipv4Hint => "value of the parameter ipv4hint missing",
         SvcParamKey::EchConfigList => "value of the parameter ech missing",
         SvcParamKey::Ipv6Hint => "value of the parameter ipv6hint missing",
+        SvcParamKey::DohPath => "value of the parameter dohpath missing",
         _ => "no parameter has the key key65535",
     }
 }
@@ -136,6 +138,10 @@ fn value_of(alloc: Global, key: SvcParamKey, text: &str) -> Result<SvcParamValue
         SvcParamKey::Ipv6Hint => {
             let addresses = items_of::<AAAA>(alloc, text)?;
             Ok(SvcParamValue::Ipv6Hint(IpHint(Items::from_vec(addresses))))
+        }
+        SvcParamKey::DohPath => {
+            let path = item_of::<SmallOctets<16>>(alloc, text)?;
+            Ok(SvcParamValue::DohPath(DohPath(path)))
         }
         SvcParamKey::Key(_) => {
             let octets = Octets::from_slice(alloc, text.as_bytes())?;

@@ -3,9 +3,10 @@
 ghost use Rattle.std.specs.Prelude.{◌≡◌, IfErr, IfOk, length};
 ghost use Rattle.dns_fields.specs.Pieces.{form_for, IsEmittable, IsBody, Addresses4, Addresses16};
 ghost use Rattle.dns_rdata_service.specs.SvcParamKey.{key_number, key_of};
-ghost use Rattle.dns_rdata_service.specs.SvcParamValue.{value_of, hint4_value, hint6_value, IsValueOf, value_refusal, EmitsValue, EmitsSized};
+ghost use Rattle.dns_rdata_service.specs.SvcParamValue.{value_of, hint4_value, hint6_value, IsValueOf, key_refusal, value_refusal, EmitsValue, EmitsSized};
 
 use crate::svcb::alpn::Alpn;
+use crate::svcb::doh_path::DohPath;
 use crate::svcb::ech_config_list::EchConfigList;
 use crate::svcb::ip_hint::IpHint;
 use crate::svcb::key::SvcParamKey;
@@ -16,8 +17,8 @@ use dns_rdata_base::{A, AAAA};
 use std::alloc::{AllocError, Global};
 use std::fmt;
 
-/// The value of a service parameter (RFC 9460, 7 and 8). A value that is read is the one of its key; one that a caller
-/// makes may stand with any key.
+/// The value of a service parameter (RFC 9460, 7 and 8; RFC 9461, 5). A value that is read is the one of its key; one
+/// that a caller makes may stand with any key.
 #[derive(Debug, Drop, PartialEq, Eq, Hash)]
 pub enum SvcParamValue {
     /// Keys that a client must know.
@@ -34,6 +35,8 @@ pub enum SvcParamValue {
     EchConfigList(EchConfigList),
     /// IPv6 addresses.
     Ipv6Hint(IpHint<AAAA>),
+    /// A template of the path of DNS queries over HTTPS.
+    DohPath(DohPath),
     /// The octets of any other key.
     Unknown(Unknown),
 }
@@ -47,7 +50,7 @@ impl SvcParamValue {
     ) -> Result<SvcParamValue, DecodeError>
         requires { key ≡ key_of (key_number key) }
         ensures read { IfOk result (λ v. IsValueOf (key_number key) octets.now v) }
-        ensures refused { IfErr result (λ e. value_refusal (form_for (key_number key)) octets.now e) }
+        ensures refused { IfErr result (λ e. key_refusal (key_number key) octets.now e) }
     {
         let mut decoder = BinDecoder::new(alloc, octets);
         match key {
@@ -62,6 +65,7 @@ impl SvcParamValue {
                 &mut decoder,
             )?)),
             SvcParamKey::Ipv6Hint => Ok(SvcParamValue::Ipv6Hint(hint6(alloc, octets)?)),
+            SvcParamKey::DohPath => Ok(SvcParamValue::DohPath(DohPath::read(&mut decoder)?)),
             SvcParamKey::Key(_) | SvcParamKey::Key65535 | SvcParamKey::Unknown(_) => {
                 Ok(SvcParamValue::Unknown(Unknown::read(&mut decoder)?))
             }
@@ -80,6 +84,7 @@ impl SvcParamValue {
             SvcParamValue::Ipv4Hint(value) => value.emit(encoder),
             SvcParamValue::EchConfigList(value) => value.emit(encoder),
             SvcParamValue::Ipv6Hint(value) => value.emit(encoder),
+            SvcParamValue::DohPath(value) => value.emit(encoder),
             SvcParamValue::Unknown(value) => value.emit(encoder),
         }
     }
@@ -158,6 +163,7 @@ impl Clone for SvcParamValue {
             SvcParamValue::Ipv4Hint(value) => SvcParamValue::Ipv4Hint(value.clone()?),
             SvcParamValue::EchConfigList(value) => SvcParamValue::EchConfigList(value.clone()?),
             SvcParamValue::Ipv6Hint(value) => SvcParamValue::Ipv6Hint(value.clone()?),
+            SvcParamValue::DohPath(value) => SvcParamValue::DohPath(value.clone()?),
             SvcParamValue::Unknown(value) => SvcParamValue::Unknown(value.clone()?),
         })
     }
@@ -180,6 +186,7 @@ impl fmt::Display for SvcParamValue {
             SvcParamValue::Ipv4Hint(value) => write!(f, "{value}"),
             SvcParamValue::EchConfigList(value) => write!(f, "{value}"),
             SvcParamValue::Ipv6Hint(value) => write!(f, "{value}"),
+            SvcParamValue::DohPath(value) => write!(f, "{value}"),
             SvcParamValue::Unknown(value) => write!(f, "{value}"),
         }
     }

@@ -1,6 +1,6 @@
 //! Values that are made of their fields.
 
-use super::{made_certs, made_sets};
+use super::{made_certs, made_services, made_sets};
 use anyhow::{Context, Result};
 use dns_rdata::{
     A, BinDecodable, BinDecoder, CNAME, HINFO, MX, NULL, Name, OPENPGPKEY, RData, RecordData, SOA,
@@ -127,6 +127,7 @@ pub fn value(alloc: Global, kind: &str, text: &str) -> Result<Held> {
         "cert-octets" => made_certs::certificate_of_octets(alloc, text),
         "issue" | "issuewild" => made_sets::issue(alloc, kind, text),
         "csync" => made_sets::synchronized(alloc, text),
+        "service" => made_services::service(alloc, text),
         _ => of_strings(alloc, kind, text),
     }
 }

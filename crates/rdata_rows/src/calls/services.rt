@@ -4,7 +4,7 @@ ghost use Rattle.std.specs.Prelude.{◌<◌};
 
 use anyhow::{Result, bail};
 use dns_rdata::svcb::{
-    Alpn, EchConfigList, IpHint, Mandatory, SvcParamKey, SvcParamValue, Unknown,
+    Alpn, DohPath, EchConfigList, IpHint, Mandatory, SvcParamKey, SvcParamValue, Unknown,
 };
 use dns_rdata::{
     A, AAAA, BinDecodable, BinDecoder, BinEncodable, BinEncoder, DecodeError, RecordDataDecodable,
@@ -83,6 +83,7 @@ fn copied(alloc: Global, kind: &str, octets: &[u8]) -> Result<bool> {
         "mandatory" => is_copied::<Mandatory>(alloc, octets),
         "alpn" => is_copied::<Alpn>(alloc, octets),
         "ech" => is_copied::<EchConfigList>(alloc, octets),
+        "dohpath" => is_copied::<DohPath>(alloc, octets),
         _ => is_copied::<Unknown>(alloc, octets),
     }
 }
@@ -95,6 +96,7 @@ pub fn parameter(alloc: Global, kind: &str, digits: &str) -> Result<String> {
         "mandatory" => shown::<Mandatory>(alloc, octets)?,
         "alpn" => shown::<Alpn>(alloc, octets)?,
         "ech" => shown::<EchConfigList>(alloc, octets)?,
+        "dohpath" => shown::<DohPath>(alloc, octets)?,
         "unknown" => shown::<Unknown>(alloc, octets)?,
         _ => bail!("no such parameter"),
     };

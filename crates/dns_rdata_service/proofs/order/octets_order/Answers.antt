@@ -4,9 +4,8 @@ use Rattle.dns_rdata_service.proofs.order.octets_order.Goals as goal
 
 pub returns-clause-order : goal.returns-clause-order
 returns-clause-order c =
-    lengths_first _ _ _ _ _ c.args.a.now c.args.b.now (rw (c.as_slice.ensures.value, c.as_slice-2.ensures.value) at c.slices_behind.ensures) c.cmp-lengths.ensures
-    c.len-2.ensures c.len-3.ensures refl (omega (arith, c.len.ensures, c.len-2.ensures)) (omega (arith, c.len-3.ensures))
+    lengths_first _ _ _ _ _ c.args.a.now c.args.b.now c.slices_behind.ensures c.cmp-lengths.ensures refl refl refl (omega arith) (omega arith)
 
 pub returns-clause-alike : goal.returns-clause-alike
 returns-clause-alike c = λ e. octets_tie _ c.args.a.now c.args.b.now refl
-    (then_ties _ _ _ (rw (c.as_slice.ensures.value, c.as_slice-2.ensures.value) at c.slices_behind.ensures) e)
+    (then_ties _ _ _ c.slices_behind.ensures e)

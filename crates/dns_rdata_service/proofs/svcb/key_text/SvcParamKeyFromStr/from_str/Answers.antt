@@ -12,6 +12,7 @@ returns-in-None c =
         ipv4hint = d.not-ipv4hint;
         ech = d.not-ech;
         ipv6hint = d.not-ipv6hint;
+        dohpath = d.not-dohpath;
         key65535 = d.not-key65535;
       }) c.in-None.ensures,
       not_memory _,

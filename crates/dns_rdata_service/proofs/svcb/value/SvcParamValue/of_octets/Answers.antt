@@ -1,4 +1,4 @@
-use Rattle.std.proofs.Common.{refl, ap}
+use Rattle.std.proofs.Common.{refl, ap, arith}
 use Rattle.dns_rdata_service.specs.declared.svcb.value.SvcParamValue.TheVariants.{Ipv4Hint, Ipv6Hint}
 use Rattle.dns_rdata_base.specs.declared.a.A.{A}
 use Rattle.dns_rdata_base.specs.declared.aaaa.AAAA.{AAAA}
@@ -13,6 +13,7 @@ returns-in_ok-hint4-in-Ipv4Hint-clause-read c =
       held = (refl, c.in_ok-hint4-in-Ipv4Hint.ensures.fit, c.in_ok-hint4-in-Ipv4Hint.ensures.body);
       given =
           ap (λ (as' : List A). Ipv4Hint (record { 0 = as' })) (a_list_back x.0);
+      text = λ is. absurd (omega (arith, is));
     })
 
 pub returns-in_ok-hint6-in-Ipv6Hint-clause-read : goal.returns-in_ok-hint6-in-Ipv6Hint-clause-read
@@ -22,6 +23,7 @@ returns-in_ok-hint6-in-Ipv6Hint-clause-read c =
       held = (refl, c.in_ok-hint6-in-Ipv6Hint.ensures.fit, c.in_ok-hint6-in-Ipv6Hint.ensures.body);
       given =
           ap (λ (as' : List AAAA). Ipv6Hint (record { 0 = as' })) (aaaa_list_back x.0);
+      text = λ is. absurd (omega (arith, is));
     })
 
 pub returns-in_ok-read-in-Key-clause-read : goal.returns-in_ok-read-in-Key-clause-read

@@ -1,5 +1,5 @@
 use Rattle.dns_names_wire.proofs.FieldWrites.{exit_emit, stopped_then, stopped_first}
-use Rattle.wire_rows.proofs.exchange.Exchange.emit.Goals as goal
+use Rattle.rdata_rows.proofs.wire_calls.exchange.Exchange.emit.Goals as goal
 
 pub returns-in_err-emit : goal.returns-in_err-emit
 returns-in_err-emit c = exit_emit _ _ c.from_residual-in_err-emit.ensures.1

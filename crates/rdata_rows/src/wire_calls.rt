@@ -1,8 +1,6 @@
-//! Replays calls of the crates below the records whose answers are known, one a line of `rows.tsv`: a command, the answer
-//! that is wanted, and the command's words, with a tab between each two. Octets of a word are parts joined by `+`, each of
-//! hexadecimal digits, and with `N*` before it as often as that. A text stands as it is. What a command answers is said
-//! at the function that does it. Functions are kept small, since a proof takes more than twice as long for twice the code.
-#![tactic(auto)]
+//! Replays calls of the crates below the records: a line has a command, the answer that is wanted, and the command's
+//! words, with a tab between each two. Octets of a word are parts joined by `+`, each of hexadecimal digits, and with `N*`
+//! before it as often as that. A text stands as it is. What a command answers is said at the function that does it.
 
 mod exchange;
 mod labels;
@@ -14,13 +12,13 @@ mod words;
 mod zone_texts;
 
 use anyhow::{Result, bail};
-use replay::{Interpreter, replay};
+use replay::Interpreter;
 use std::alloc::Global;
 
-/// The calls: a line has the command, the answer that is wanted, and the words.
-struct Calls;
+/// The calls.
+pub struct WireCalls;
 
-impl Interpreter for Calls {
+impl Interpreter for WireCalls {
     fn difference(&self, alloc: Global, fields: &[String]) -> Result<Option<String>> {
         let [command, wanted, words @ ..] = fields else {
             bail!("a command or an answer is missing");
@@ -89,8 +87,4 @@ fn answer_to_two(alloc: Global, command: &str, first: &str, second: &str) -> Res
         "first" => words::first(alloc, first, second),
         _ => bail!("no such command"),
     }
-}
-
-fn main(rt: HostRuntime) -> Result<()> {
-    replay(&rt, "rows.tsv", &Calls)
 }

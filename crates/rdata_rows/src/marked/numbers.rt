@@ -1,6 +1,6 @@
 //! Numbers and words, which take no memory.
 
-use crate::Marks;
+use crate::marked::Marks;
 use anyhow::Result;
 use dns_rdata::opt::{ClientSubnet, EdnsCode, IpNet};
 use dns_rdata::svcb::SvcParamKey;

@@ -1,7 +1,7 @@
 //! Values that are emitted.
 
-use crate::Marks;
-use crate::given::value;
+use crate::marked::Marks;
+use crate::marked::given::value;
 use anyhow::{Result, bail};
 use dns_rdata::{BinEncodable, BinEncoder, ProtoResult, RData, RDataEncoding};
 

@@ -1,6 +1,6 @@
 //! Messages read and written step by step.
 
-use crate::exchange::Exchange;
+use crate::wire_calls::exchange::Exchange;
 use anyhow::Context;
 use dns_names_wire::{
     BinDecodable, BinDecoder, BinEncodable, BinEncoder, DecodeError, Name, ProtoError, ProtoResult,

@@ -1,7 +1,7 @@
 //! Records that are changed, and what stands behind a call.
 
-use crate::Marks;
-use crate::given::{issuer, record};
+use crate::marked::Marks;
+use crate::marked::given::{issuer, record};
 use anyhow::Result;
 use dns_rdata::caa::{CAA, KeyValue, read_iodef};
 use dns_rdata::opt::{ClientSubnet, EdnsCode, EdnsOption, IpNet, OPT};

@@ -1,7 +1,7 @@
 //! Values, texts and octets that calls make.
 
-use crate::Marks;
-use crate::given::{issuer as issuer_of, read_given, value as value_of};
+use crate::marked::Marks;
+use crate::marked::given::{issuer as issuer_of, read_given, value as value_of};
 use anyhow::Result;
 use dns_rdata::caa::CAA;
 use dns_rdata::opt::{ClientSubnet, EdnsCode, EdnsOption, NSIDPayload};

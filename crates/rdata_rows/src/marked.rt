@@ -2,7 +2,6 @@
 //! its words, with a tab between each two. The answer is what stands before the call, `requests end`, and a line of what the
 //! call answered and what stands then. What refuses requests for memory (tests/requests.c) reads the two marks. Words that
 //! give no call are answered by a dash and a line that says why.
-#![tactic(auto)]
 
 mod asking;
 mod changing;
@@ -88,14 +87,15 @@ fn answer_to_two(marks: &Marks<'_>, call: &str, first: &str, second: &str) -> Re
     }
 }
 
-fn main(rt: HostRuntime) -> Result<()> {
+/// Answers each line of standard input.
+pub fn answer_marked(rt: &HostRuntime) -> Result<()> {
     for line in BufReader::new(rt.alloc(), rt.reader())?.lines(rt.alloc()) {
         let fields = fields_of(rt.alloc(), line?.as_str())?;
         let [begin, call, words @ ..] = fields.as_slice() else {
             bail!("a call is missing");
         };
         let marks = Marks {
-            rt: &rt,
+            rt,
             begin: begin.as_str(),
         };
         match answer(&marks, call.as_str(), words) {

@@ -1,0 +1,85 @@
+//! The path of DNS queries over HTTPS.
+
+ghost use Rattle.std.specs.Prelude.{◌≡◌, drop, IfErr, IfOk};
+ghost use Rattle.std.specs.String.{string_bytes};
+ghost use Rattle.dns_names_wire.specs.Words.{ReadsBy};
+ghost use Rattle.dns_rdata_service.specs.SvcParamValue.{doh_path_value, DohPathAt, path_refusal, EmitsValue};
+
+use crate::svcb::alpn::is_text;
+use bstr::BStr;
+use dns_names_wire::{
+    BinDecodable, BinDecoder, BinEncodable, BinEncoder, DecodeError, ProtoError, SmallOctets,
+};
+use std::alloc::AllocError;
+use std::fmt;
+
+/// A template of the path to which DNS queries are sent over HTTPS (RFC 9461, 5), as `/dns-query{?dns}`: UTF-8, which is
+/// not looked into further. A path of up to 16 octets takes no memory of its own.
+#[derive(Debug, Drop, PartialEq, Eq, Hash)]
+pub struct DohPath(pub SmallOctets<16>);
+
+impl DohPath {
+    /// Of this text, which is moved, or copied where it is few octets. Takes no memory.
+    pub fn new(path: String) -> DohPath
+        ensures { result.0 ≡ string_bytes path }
+    {
+        DohPath(SmallOctets::from_vec(path.into_bytes()))
+    }
+}
+
+impl BinDecodable for DohPath {
+    ghost stands = { DohPathAt };
+
+    ghost refuses = { λ old e _. path_refusal (drop old.index old.message) e };
+
+    /// Reads the octets to the message's end. What is not UTF-8 is refused by [`Utf8`](DecodeError::Utf8).
+    #[inline]
+    fn read(decoder: &mut BinDecoder<'_>) -> Result<DohPath, DecodeError>
+        ensures reads { ReadsBy DohPathAt result decoder.old decoder.new }
+        ensures refused { IfErr result (path_refusal (drop decoder.old.index decoder.old.message)) }
+    {
+        let left = decoder.len();
+        let path = decoder.read_slice(left)?.unverified();
+        if !is_text(path) {
+            return Err(DecodeError::Utf8);
+        }
+        Ok(DohPath(SmallOctets::from_slice(decoder.allocator(), path)?))
+    }
+}
+
+impl BinEncodable for DohPath {
+    ghost emits = { λ x r old new. EmitsValue (doh_path_value x) r old new };
+
+    /// Appends the octets.
+    #[inline]
+    fn emit(&self, encoder: &mut BinEncoder<'_>) -> Result<(), ProtoError> {
+        encoder.emit_vec(self.0.as_slice())
+    }
+}
+
+impl Clone for DohPath {
+    ghost is_clone = { λ a b. b ≡ a };
+
+    /// The same path.
+    #[inline]
+    fn clone(&self) -> Result<DohPath, AllocError>
+        ensures { IfOk result (λ copy. copy ≡ self.now) }
+    {
+        Ok(DohPath(self.0.clone()?))
+    }
+}
+
+impl fmt::Display for DohPath {
+    ghost use Rattle.std.specs.Prelude.{Some};
+    ghost use Rattle.dns_rdata_service.specs.SvcParamValue.{doh_path_text};
+
+    ghost output = { λ x. Some (doh_path_text x) };
+
+    /// The path in quotes: `"/dns-query{?dns}"`. U+FFFD stands for octets that are not UTF-8, which no path that was read
+    /// has.
+    #[tactic(auto, unfolding(dns_rdata_base::specs::Lossy::lossy))]
+    fn fmt<W: fmt::Write>(&self, f: &mut fmt::Formatter<W>) -> fmt::Result {
+        let text = BStr::new(self.0.as_slice());
+        write!(f, "\"{text}\"")
+    }
+}
