@@ -25,7 +25,7 @@ use Rattle.dns_rdata_service.specs.SvcParamKey.{key_number}
 use Rattle.dns_rdata_service.specs.SvcParamValue.{value_of, a_octets, aaaa_octets}
 use Rattle.dns_rdata_service.specs.declared.svcb.SVCB.{SVCB}
 use Rattle.dns_rdata_service.specs.declared.svcb.value.SvcParamValue.{SvcParamValue}
-use Rattle.dns_rdata_service.specs.declared.svcb.value.SvcParamValue.TheVariants.{Mandatory, Alpn, NoDefaultAlpn, Port, Ipv4Hint, EchConfigList, Ipv6Hint, Unknown}
+use Rattle.dns_rdata_service.specs.declared.svcb.value.SvcParamValue.TheVariants.{Mandatory, Alpn, NoDefaultAlpn, Port, Ipv4Hint, EchConfigList, Ipv6Hint, DohPath, Unknown}
 use Rattle.dns_rdata_zone.specs.Readable.{AllOctets, IsWritable, IsWritableTlsa, IsWritableValue, IsWritableParameter, IsWritableService, FieldsFit, IsReadable}
 use Rattle.dns_rdata_zone.specs.WholeOctets.{whole_octets, all_whole}
 use Rattle.dns_rdata_zone.specs.ZoneReads.{zone_read, FillsRead, FillsTell}
@@ -125,6 +125,7 @@ value_fits (Port n) body e b o = e
 value_fits (Ipv4Hint x) body e b o = hints4 x.0 e (AreOctets-same body (flat_map (λ s. s) (map a_octets x.0)) b o)
 value_fits (EchConfigList x) body e b o = AreOctets-same body x.0 b o
 value_fits (Ipv6Hint x) body e b o = hints6 x.0 e (AreOctets-same body (flat_map (λ s. s) (map aaaa_octets x.0)) b o)
+value_fits (DohPath x) body e b o = AreOctets-same body x.0 b o
 value_fits (Unknown x) body e b o = AreOctets-same body x.0 b o
 
 parameters_fit : (read : List (Numbered (List ℕ))) (ps : List Parameter) → AllByRecursion IsPiece read → AllHeld ParameterHeld read (map parameter_of ps)

@@ -25,7 +25,7 @@ use Rattle.dns_rdata_service.specs.SvcParamKey.{key_number}
 use Rattle.dns_rdata_service.specs.SvcParamValue.{value_of, a_octets, aaaa_octets}
 use Rattle.dns_rdata_service.specs.declared.svcb.key.SvcParamKey.{SvcParamKey}
 use Rattle.dns_rdata_service.specs.declared.svcb.value.SvcParamValue.{SvcParamValue}
-use Rattle.dns_rdata_service.specs.declared.svcb.value.SvcParamValue.TheVariants.{Mandatory, Alpn, NoDefaultAlpn, Port, Ipv4Hint, EchConfigList, Ipv6Hint, Unknown}
+use Rattle.dns_rdata_service.specs.declared.svcb.value.SvcParamValue.TheVariants.{Mandatory, Alpn, NoDefaultAlpn, Port, Ipv4Hint, EchConfigList, Ipv6Hint, DohPath, Unknown}
 use Rattle.dns_zone_words.specs.FieldReaders.{Taken, up_to, with_octet}
 use Rattle.dns_zone_words.specs.Letters.{Letter, plain, letters}
 use Rattle.dns_rdata_zone.specs.Addresses.{ipv4_of, ipv6_of}
@@ -241,6 +241,7 @@ value_letters (Port n) = bare_word (decimal n)
 value_letters (Ipv4Hint x) = bare_word (commas a_text x.0)
 value_letters (EchConfigList x) = enclosed_word (encode_of standard x.0)
 value_letters (Ipv6Hint x) = bare_word (commas aaaa_text x.0)
+value_letters (DohPath x) = quoted_word x.0
 value_letters (Unknown x) = cond (is_some x.0) (quoted_word x.0) []
 
 -- the value of the key of this number is read as its octets
@@ -252,7 +253,7 @@ pub record OctetsRead (n : ℕ) (v : SvcParamValue) : Type 0 where
 at_key : (k n : ℕ) (value octets : List ℕ) → eqb n k ≡ true → value_octets k value ≡ octets → value_octets n value ≡ octets
 at_key k n value octets e h = ap (λ (m : ℕ). value_octets m value) (eqb-true n k e) ∙ h
 
-own_value : (n : ℕ) (value : List ℕ) → 6 < n → value_octets n value ≡ value
+own_value : (n : ℕ) (value : List ℕ) → 7 < n → value_octets n value ≡ value
 own_value n value h =
     let e0 : eqb n 0 ≡ false = grind (arith, nat_tests) in
     let e1 : eqb n 1 ≡ false = grind (arith, nat_tests) in
@@ -306,6 +307,11 @@ value_reads n (Ipv6Hint x) has h = record {
       (ap (flat_map ipv6_of) (items_read aaaa_text aaaa_text x.0 (some_there x.0 (second_true (eqb n 6) (is_some x.0) has)) (each_plain aaaa_text x.0 (items6 x.0 h)))
       ∙ octets6 x.0 h);
 }
+value_reads n (DohPath x) has h = record {
+  value = x.0;
+  reads = in_quotes x.0 h;
+  octets = at_key 7 n x.0 x.0 (first_true (eqb n 7) (is_some x.0) has) refl;
+}
 value_reads n (Unknown x) has h =
-    let above : nat_lt 6 n ≡ true = first_true (nat_lt 6 n) (nat_lt n 65535) has in
+    let above : nat_lt 7 n ≡ true = first_true (nat_lt 7 n) (nat_lt n 65535) has in
     record { value = x.0; reads = own_reads x.0 h; octets = own_value n x.0 (grind (arith, nat_tests)) }

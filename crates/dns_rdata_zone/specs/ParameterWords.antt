@@ -1,4 +1,4 @@
--- Service parameters in texts of zone files, as their octets (RFC 9460, 2.1, 2.2, 7 and appendix A).
+-- Service parameters in texts of zone files, as their octets (RFC 9460, 2.1, 2.2, 7 and appendix A; RFC 9461, 5).
 use Rattle.std.specs.Prelude.{ℕ, ◌==◌, bytes_eq, Bool, true, false, if◌then◌else◌, List, [], ◌∷◌, ◌++◌, map, drop, codes}
 use Rattle.std.specs.List.{flat_map}
 use Rattle.std.specs.Int.{bytes_high_first}
@@ -23,6 +23,7 @@ key_of_name name =
     if bytes_eq name (codes "ipv4hint") then 4 else
     if bytes_eq name (codes "ech") then 5 else
     if bytes_eq name (codes "ipv6hint") then 6 else
+    if bytes_eq name (codes "dohpath") then 7 else
     digits_value 10 (drop 3 name)
 
 -- Items of a list with a comma between two; behind the front of the first of them, and with a `\` in front or not. A `\` takes

@@ -10,12 +10,13 @@ use Rattle.dns_rdata_service.specs.SvcParamKey.{key_number}
 use Rattle.dns_rdata_service.specs.Parameters.{Parameter}
 use Rattle.dns_rdata_service.specs.declared.svcb.key.SvcParamKey.{SvcParamKey}
 use Rattle.dns_rdata_service.specs.declared.svcb.value.SvcParamValue.{SvcParamValue}
-use Rattle.dns_rdata_service.specs.declared.svcb.value.SvcParamValue.TheVariants.{Mandatory, Alpn, NoDefaultAlpn, Port, Ipv4Hint, EchConfigList, Ipv6Hint, Unknown}
+use Rattle.dns_rdata_service.specs.declared.svcb.value.SvcParamValue.TheVariants.{Mandatory, Alpn, NoDefaultAlpn, Port, Ipv4Hint, EchConfigList, Ipv6Hint, DohPath, Unknown}
 use Rattle.dns_rdata_zone.specs.Lists.{commas}
 use Rattle.dns_rdata_zone.specs.Spellings.{protocol_octet}
 use Rattle.dns_rdata_zone.specs.Strings.{quoted}
 
--- a key's name (RFC 9460, 14.3.2), and `key` and the number of one without a name (2.1)
+-- A key's name (RFC 9460, 14.3.2), and `key` and the number of one without a name (2.1). Key 7 goes by its number, since
+-- readers from before RFC 9461 do not know `dohpath`.
 abbrev pub key_name : ℕ → List ℕ
 key_name n =
     if n == 0 then codes "mandatory" else
@@ -43,6 +44,7 @@ zone_value (Port n) = codes "=" ++ decimal n
 zone_value (Ipv4Hint x) = codes "=" ++ commas a_text x.0
 zone_value (EchConfigList x) = codes "=\"" ++ encode_of standard x.0 ++ codes "\""
 zone_value (Ipv6Hint x) = codes "=" ++ commas aaaa_text x.0
+zone_value (DohPath x) = codes "=" ++ quoted x.0
 zone_value (Unknown x) = if is_some x.0 then codes "=" ++ quoted x.0 else []
 
 abbrev pub zone_parameter : Parameter → List ℕ
@@ -59,8 +61,8 @@ rises_from last (k ∷ keys) = nat_lt last k && (nat_lt k 65535 && rises_from k 
 abbrev pub are_some : List (List ℕ) → Bool
 are_some names = list_all is_some names
 
--- The value is of the form of the key of this number, and not one that no text has: no addresses, no configuration, an
--- empty name of a protocol, mandatory keys that do not rise or are not above 0, the invalid key 65535.
+-- The value is of the form of the key of this number, and not one that no text has: no addresses, no configuration, no
+-- path, an empty name of a protocol, mandatory keys that do not rise or are not above 0, the invalid key 65535.
 abbrev pub value_has_text : ℕ → SvcParamValue → Bool
 value_has_text n (Mandatory x) = n == 0 && rises_from 0 (map key_number x.0)
 value_has_text n (Alpn x) = n == 1 && are_some x.0
@@ -69,7 +71,8 @@ value_has_text n (Port port) = n == 3
 value_has_text n (Ipv4Hint x) = n == 4 && is_some x.0
 value_has_text n (EchConfigList x) = n == 5 && is_some x.0
 value_has_text n (Ipv6Hint x) = n == 6 && is_some x.0
-value_has_text n (Unknown x) = nat_lt 6 n && nat_lt n 65535
+value_has_text n (DohPath x) = n == 7 && is_some x.0
+value_has_text n (Unknown x) = nat_lt 7 n && nat_lt n 65535
 
 abbrev pub has_text : Parameter → Bool
 has_text p = value_has_text (key_number p.0) p.1

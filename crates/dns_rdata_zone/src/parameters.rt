@@ -1,4 +1,4 @@
-//! Service parameters as zone files have them (RFC 9460, 2.1, 7 and appendix A).
+//! Service parameters as zone files have them (RFC 9460, 2.1, 7 and appendix A; RFC 9461, 5).
 
 ghost use Rattle.std.specs.Prelude.{◌≡◌, Some, flat_map, map, true};
 ghost use Rattle.std.specs.List.{list_all};
@@ -17,7 +17,8 @@ use dns_rdata::{A, AAAA, SmallOctets};
 use dns_words::Base64Text;
 use std::fmt;
 
-/// The name of a key, by its number alone: `key` and the number where it has no name of its own.
+/// The name of a key, by its number alone: `key` and the number where it has no name of its own, and of key 7, whose name
+/// readers from before RFC 9461 do not know.
 #[derive(Clone, Copy)]
 struct KeyName(u16);
 
@@ -123,6 +124,10 @@ impl fmt::Display for ZoneValue<'_> {
                 let hint = Commas(hint.0.as_slice());
                 write!(f, "={hint}")
             }
+            SvcParamValue::DohPath(path) => {
+                let path = Quoted(path.0.as_slice());
+                write!(f, "={path}")
+            }
             SvcParamValue::Unknown(octets) => {
                 if octets.0.is_empty() {
                     return Ok(());
@@ -135,7 +140,7 @@ impl fmt::Display for ZoneValue<'_> {
 }
 
 /// A service parameter (RFC 9460, 2.1): the key's name, and where there is a value `=` and the value, in quotes where it
-/// is a list of protocols, base64, or of a key without a form of its own. Takes no memory.
+/// is a list of protocols, base64, a path, or of a key without a form of its own. Takes no memory.
 ///
 /// It is a text that name servers read where [`has_text`] holds.
 #[derive(Clone, Copy)]
@@ -175,8 +180,8 @@ fn are_some(names: &[SmallOctets<16>]) -> bool
 }
 
 /// Whether the parameter has a text: its value is of the form of its key, and not one that no text has. No text has a value
-/// without addresses, an empty configuration, the empty name of a protocol, mandatory keys that do not strictly rise from
-/// above 0, or the key 65535.
+/// without addresses, an empty configuration or path, the empty name of a protocol, mandatory keys that do not strictly
+/// rise from above 0, or the key 65535.
 pub fn has_text(parameter: &(SvcParamKey, SvcParamValue)) -> bool
     ensures { result ≡ has_text parameter.now }
 {
@@ -189,7 +194,8 @@ pub fn has_text(parameter: &(SvcParamKey, SvcParamValue)) -> bool
         SvcParamValue::Ipv4Hint(hint) => number == 4 && hint.0.len() != 0,
         SvcParamValue::EchConfigList(config) => number == 5 && config.0.len() != 0,
         SvcParamValue::Ipv6Hint(hint) => number == 6 && hint.0.len() != 0,
-        SvcParamValue::Unknown(_) => 6 < number && number < 65535,
+        SvcParamValue::DohPath(path) => number == 7 && path.0.len() != 0,
+        SvcParamValue::Unknown(_) => 7 < number && number < 65535,
     }
 }
 
