@@ -1,18 +1,16 @@
 -- What was read from a message is told by its text.
-use Rattle.std.proofs.Common.{◌≡◌, ◌≢◌, ℕ, zero, suc, ◌+◌, ◌*◌, ◌/◌, ◌%◌, ◌<◌, ◌≤◌, ◌^◌, List, [], ◌∷◌, ◌++◌, map, length, inl, inr, ◌⊎◌, refl, sym, ◌∙◌, ap, subst, arith}
+use Rattle.std.proofs.Common.{◌≡◌, ℕ, zero, suc, ◌+◌, ◌*◌, ◌/◌, ◌%◌, ◌<◌, ◌^◌, List, [], ◌∷◌, ◌++◌, map, length, inl, inr, ◌⊎◌, refl, sym, ◌∙◌, ap, subst, arith}
 use Rattle.std.specs.Prelude.{flat_map, slice_index}
 use Rattle.std.specs.List.{AllByRecursion}
-use Rattle.std.specs.Net.Addr.{IsIpv4Addr, IsIpv6Addr, ipv4_octets, ipv6_segments, octets_of}
+use Rattle.std.specs.Net.Addr.{IsIpv4Addr, IsIpv6Addr, ipv6_segments, octets_of}
 use Rattle.dns_fields.specs.Fields.{Kind, Value, Values, Name, Options, Field, Stands, WholeOptions, CutOptions, option_pieces}
 use Rattle.dns_fields.specs.Labels.{DomainName, AreLabels, wire}
 use Rattle.dns_fields.specs.Octets.{AreOctets, At}
-use Rattle.dns_fields.specs.Pieces as pieces
 use Rattle.dns_fields.specs.Pieces.{Numbered, piece, pieces, string, as_piece, AllHeld, IsPiece, OptionValue, Subnet, Plain, option_octets, OptionHeld, ParameterHeld, IsEmittable, IsBody}
 use Rattle.dns_fields.proofs.OctetLaws.{AreOctets-nil, AreOctets-cons, AreOctets-head, AreOctets-tail, AreOctets-same, AreOctets-append, AreOctets-front, AreOctets-back, AreOctets-at, labels_octets, piece_octets, piece_body, field_octets_are}
 use Rattle.dns_fields.proofs.Stays.{labels_stand}
-use Rattle.dns_names_wire.specs.Words.{Window}
 use Rattle.dns_types.specs.declared.record_type.RecordType.{RecordType}
-use Rattle.dns_rdata.specs.Data.{FieldsOf, fields_of, type_of, Fills}
+use Rattle.dns_rdata.specs.Data.{FieldsOf, fields_of, Fills}
 use Rattle.dns_rdata.specs.declared.record_data.RData.{RData}
 use Rattle.dns_rdata.specs.declared.record_data.RData.TheVariants as rdata
 use Rattle.dns_rdata_base.specs.declared.a.A.{A}
@@ -26,7 +24,7 @@ use Rattle.dns_rdata_service.specs.SvcParamValue.{value_of, a_octets, aaaa_octet
 use Rattle.dns_rdata_service.specs.declared.svcb.SVCB.{SVCB}
 use Rattle.dns_rdata_service.specs.declared.svcb.value.SvcParamValue.{SvcParamValue}
 use Rattle.dns_rdata_service.specs.declared.svcb.value.SvcParamValue.TheVariants.{Mandatory, Alpn, NoDefaultAlpn, Port, Ipv4Hint, EchConfigList, Ipv6Hint, DohPath, Unknown}
-use Rattle.dns_rdata_zone.specs.Readable.{AllOctets, IsWritable, IsWritableTlsa, IsWritableValue, IsWritableParameter, IsWritableService, FieldsFit, IsReadable}
+use Rattle.dns_rdata_zone.specs.Readable.{IsWritable, IsWritableTlsa, IsWritableValue, IsWritableParameter, IsWritableService, FieldsFit, IsReadable}
 use Rattle.dns_rdata_zone.specs.WholeOctets.{whole_octets, all_whole}
 use Rattle.dns_rdata_zone.specs.ZoneReads.{zone_read, FillsRead, FillsTell}
 use Rattle.dns_rdata_zone.specs.ZoneTexts.{zone_text, zone_octets}

@@ -1,9 +1,9 @@
 -- What was read from a message has few octets.
-use Rattle.std.proofs.Common.{◌≡◌, ℕ, suc, ◌+◌, ◌*◌, ◌<◌, ◌≤◌, ◌^◌, List, [], ◌∷◌, ◌++◌, map, length, inl, inr, ◌⊎◌, refl, ap, arith, length-append}
+use Rattle.std.proofs.Common.{◌≡◌, ℕ, suc, ◌+◌, ◌*◌, ◌≤◌, List, [], ◌∷◌, ◌++◌, map, length, inl, inr, ◌⊎◌, refl, ap, arith, length-append}
 use Rattle.std.specs.List.{flat_map, AllByRecursion, range_with_len}
 use Rattle.std.specs.Int.{bytes_high_first}
 use Rattle.dns_fields.specs.Bitmaps.{Block, block, IsBlock, minimal, window, windows, with_block}
-use Rattle.dns_fields.specs.Fields.{Kind, Value, Values, Number, Octets, Name, Text, Texts, Rest, Options, Parameters, Bitmap, field_octets, Field, Stands, WholeOptions, CutOptions, option_pieces, parameter_pieces}
+use Rattle.dns_fields.specs.Fields.{Kind, Value, Values, Number, Octets, Name, Text, Texts, Rest, Options, Parameters, Bitmap, field_octets, Field, Stands, WholeOptions, CutOptions, option_pieces}
 use Rattle.dns_fields.specs.Labels.{wire}
 use Rattle.dns_fields.specs.Pieces.{Numbered, piece, pieces, as_piece, AllHeld, OptionValue, Subnet, Plain, option_octets, OptionHeld}
 use Rattle.dns_fields.specs.Pieces.{ParameterValue, Mandatory, Alpn, NoDefaultAlpn, Port, Ipv4Hint, Ipv6Hint, Opaque, parameter_octets, ParameterHeld, IsBody}
