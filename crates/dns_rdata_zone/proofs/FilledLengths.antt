@@ -1,0 +1,118 @@
+-- What was read from a message has few octets.
+use Rattle.std.proofs.Common.{◌≡◌, ℕ, suc, ◌+◌, ◌*◌, ◌≤◌, List, [], ◌∷◌, ◌++◌, map, length, inl, inr, ◌⊎◌, refl, ap, arith, length-append}
+use Rattle.std.specs.List.{flat_map, AllByRecursion, range_with_len}
+use Rattle.std.specs.Int.{bytes_high_first}
+use Rattle.dns_fields.specs.Bitmaps.{Block, block, IsBlock, minimal, window, windows, with_block}
+use Rattle.dns_fields.specs.Fields.{Kind, Value, Values, Number, Octets, Name, Text, Texts, Rest, Options, Parameters, Bitmap, field_octets, Field, Stands, WholeOptions, CutOptions, option_pieces}
+use Rattle.dns_fields.specs.Labels.{wire}
+use Rattle.dns_fields.specs.Pieces.{Numbered, piece, pieces, as_piece, AllHeld, OptionValue, Subnet, Plain, option_octets, OptionHeld}
+use Rattle.dns_fields.specs.Pieces.{ParameterValue, Mandatory, Alpn, NoDefaultAlpn, Port, Ipv4Hint, Ipv6Hint, Opaque, parameter_octets, ParameterHeld, IsBody}
+use Rattle.dns_fields.proofs.Bitmaps.{minimal_fit}
+use Rattle.dns_fields.proofs.FieldLaws.{field_inside}
+use Rattle.dns_rdata.specs.Data.{fields_of}
+use Rattle.dns_rdata.specs.declared.record_data.RData.{RData}
+use Rattle.dns_rdata.specs.declared.record_data.RData.TheVariants as rdata
+use Rattle.dns_rdata_zone.specs.WholeOctets.{whole_octets, all_whole}
+
+-- ---- pieces: a value has no more octets than those that hold it
+
+two_octets : (n : ℕ) → length (bytes_high_first 2 n) ≡ 2
+two_octets n = refl
+
+piece_length : (x : Numbered (List ℕ)) → length (piece x) ≡ 4 + length x.1
+piece_length x =
+    let size = length x.1 in
+    omega (
+      arith,
+      two_octets x.0,
+      two_octets size,
+      length-append (bytes_high_first 2 x.0) (bytes_high_first 2 size ++ x.1),
+      length-append (bytes_high_first 2 size) x.1,
+    )
+
+held_short : {V : Type 0} (Held : ℕ → List ℕ → V → Type 0) (octets : V → List ℕ)
+    → ((k : ℕ) (d : List ℕ) (v : V) → Held k d v → length (octets v) ≤ length d)
+    → (xs : List (Numbered (List ℕ))) (vs : List (Numbered V)) → AllHeld Held xs vs → length (pieces (map (as_piece octets) vs)) ≤ length (pieces xs)
+held_short Held octets own [] [] h = omega arith
+held_short Held octets own [] (y ∷ vs) h = absurd h
+held_short Held octets own (x ∷ xs) [] h = omega arith
+held_short Held octets own (x ∷ xs) (y ∷ vs) h = omega (
+  arith,
+  own y.0 x.1 y.1 h.1,
+  held_short Held octets own xs vs h.2,
+  piece_length x,
+  piece_length (as_piece octets y),
+  length-append (piece x) (pieces xs),
+  length-append (piece (as_piece octets y)) (pieces (map (as_piece octets) vs)),
+)
+
+option_short : (k : ℕ) (d : List ℕ) (v : OptionValue) → OptionHeld k d v → length (option_octets v) ≤ length d
+option_short k d (Subnet f s c a) h = omega (arith, ap length h.3, length-append (option_octets (Subnet f s c a)) h.2)
+option_short k d (Plain s) h = omega (arith, ap length h.1)
+
+body_short : (d : List ℕ) (v : ParameterValue) → IsBody d v → length (parameter_octets v) ≤ length d
+body_short d (Mandatory keys) h = omega (arith, ap length h)
+body_short d (Alpn names) h = omega (arith, ap length h.1)
+body_short d NoDefaultAlpn h = omega arith
+body_short d (Port n) h = omega (arith, ap length h.1, length-append (bytes_high_first 2 n) h.0)
+body_short d (Ipv4Hint a) h = omega (arith, ap length h)
+body_short d (Ipv6Hint a) h = omega (arith, ap length h)
+body_short d (Opaque s) h = omega (arith, ap length h)
+
+options_short : (m : List ℕ) (p n q : ℕ) (v : List (Numbered OptionValue)) → p ≤ q → WholeOptions m p v q ⊎ ((v ≡ []) × CutOptions m n p q)
+    → p + length (pieces (option_pieces v)) ≤ q
+options_short m p n q v inside (inl w) = let ends = w.at.ends in omega (arith, ends, held_short OptionHeld option_octets option_short w.read v w.held)
+options_short m p n q v inside (inr c) = let none = ap (λ (l : List (Numbered OptionValue)). length (pieces (option_pieces l))) c.0 in omega (arith, inside, none)
+
+-- ---- bitmaps: at most 256 windows, of at most 34 octets each
+
+blocks_short : (bs : List Block) → AllByRecursion IsBlock bs → length (flat_map block bs) ≤ 34 * length bs
+blocks_short [] h = omega arith
+blocks_short (b ∷ bs) h =
+    let most = h.0.most in
+    omega (arith, most, blocks_short bs h.1, length-append (block b) (flat_map block bs))
+
+one_more : (k : ℕ) (w : List ℕ) (bs : List Block) → length (with_block k w bs) ≤ suc (length bs)
+one_more k [] bs = omega arith
+one_more k (x ∷ w) bs = omega arith
+
+windows_few : (v ks : List ℕ) → length (windows v ks) ≤ length ks
+windows_few v [] = omega arith
+windows_few v (k ∷ ks) = omega (arith, one_more k (window v k) (windows v ks), windows_few v ks)
+
+all_windows : length (range_with_len 0 256) ≡ 256
+all_windows = refl
+
+bitmap_short : (v : List ℕ) → length (flat_map block (minimal v)) ≤ 8704
+bitmap_short v =
+    let few : length (minimal v) ≤ 256 = unfold minimal in omega (arith, windows_few v (range_with_len 0 256), all_windows) in
+    omega (arith, few, blocks_short (minimal v) (minimal_fit v))
+
+-- ---- fields
+
+field_short : (m : List ℕ) (p : ℕ) (k : Kind) (v : Value k) (q : ℕ) → Field m p k v q → p + length (whole_octets k v) ≤ q + 8704
+unfolding field_octets
+field_short m p (Number w) v q f = let ends = f.is.1.ends in omega (arith, ends)
+field_short m p (Octets n) v q f = let ends = f.is.1.ends in omega (arith, ends)
+field_short m p Name v q f =
+    let fits = f.is.fits in
+    let inside = (field_inside f).0 in
+    omega (arith, fits, inside, length-append (wire v.labels) (0 ∷ []))
+field_short m p Text v q f = let ends = f.is.1.ends in omega (arith, ends)
+field_short m p Texts v q f = let ends = f.is.1.ends in omega (arith, ends)
+field_short m p Rest v q f = let ends = f.is.ends in omega (arith, ends)
+field_short m p Options v q f = let inside = (field_inside f).0 in omega (arith, options_short m p _ q v inside f.is)
+field_short m p Parameters v q f =
+    let ends = f.is.at.ends in
+    omega (arith, ends, held_short ParameterHeld parameter_octets (λ k d w h. body_short d w h.2) f.is.read v f.is.held)
+field_short m p Bitmap v q f = let inside = (field_inside f).0 in omega (arith, inside, bitmap_short v)
+
+pub all_short : (m : List ℕ) (p : ℕ) (kinds : List Kind) (vs : Values kinds) (e : ℕ) → Stands m p kinds vs e
+    → p + length (all_whole kinds vs) ≤ e + 8704 * length kinds
+all_short m p [] vs e h = omega (arith, h)
+all_short m p (k ∷ kinds) vs e h =
+    omega (arith, field_short m p k vs.0 h.0 h.1, all_short m h.0 kinds vs.1 e h.2, length-append (whole_octets k vs.0) (all_whole kinds vs.1))
+
+pub few_fields : (v : RData) → length (fields_of v).kinds ≤ 7
+few_fields (rdata.SOA x) = omega arith
+few_fields v = omega arith

@@ -1,0 +1,21 @@
+-- Service bindings as zone files have them (RFC 9460, 2.1).
+use Rattle.std.specs.Prelude.{ℕ, if◌then◌else◌, List, ◌++◌, flat_map, codes, decimal}
+use Rattle.std.specs.List.{list_all}
+use Rattle.dns_rdata_service.specs.SVCB.{svcb_shape, svcb_fields}
+use Rattle.dns_rdata_service.specs.declared.svcb.SVCB.{SVCB}
+use Rattle.dns_rdata_zone.specs.Generic.{generic}
+use Rattle.dns_rdata_zone.specs.Names.{zone_name}
+use Rattle.dns_rdata_zone.specs.Parameters.{zone_parameter, has_text}
+use Rattle.dns_rdata_zone.specs.WholeOctets.{all_whole}
+
+-- priority, target, parameters
+abbrev pub service_octets : SVCB → List ℕ
+service_octets x = all_whole svcb_shape (svcb_fields x)
+
+abbrev pub service_text : SVCB → List ℕ
+service_text x = (decimal x.svc_priority ++ codes " " ++ zone_name x.target_name)
+    ++ flat_map (λ p. codes " " ++ zone_parameter p) x.svc_params
+
+-- where a parameter has no text, the form of unknown data
+abbrev pub zone_service : SVCB → List ℕ
+zone_service x = if list_all has_text x.svc_params then service_text x else generic (service_octets x)

@@ -1,0 +1,20 @@
+-- The octets of record data as a zone file tells them: names whole and with their letters, options in their order.
+use Rattle.std.specs.Prelude.{ℕ, List, [], ◌∷◌, ◌++◌}
+use Rattle.dns_fields.specs.Fields.{Kind, Value, Values, Name, Options, field_octets, option_pieces}
+use Rattle.dns_fields.specs.Labels.{DomainName, wire}
+use Rattle.dns_fields.specs.Pieces.{pieces}
+
+-- a name's octets, uncompressed, with its letters (RFC 1035, 3.1)
+abbrev pub name_octets : DomainName → List ℕ
+name_octets name = wire name.labels ++ 0 ∷ []
+
+-- a field: names whole, options in their order, any other as in the canonical form
+abbrev pub whole_octets : (k : Kind) → Value k → List ℕ
+whole_octets Name x = name_octets x
+whole_octets Options v = pieces (option_pieces v)
+whole_octets k v = field_octets k v
+
+-- the fields, one behind the other
+abbrev pub all_whole : (kinds : List Kind) → Values kinds → List ℕ
+all_whole [] vs = []
+all_whole (k ∷ kinds) vs = whole_octets k vs.0 ++ all_whole kinds vs.1

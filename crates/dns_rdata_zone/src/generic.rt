@@ -1,0 +1,63 @@
+//! The form of unknown record data (RFC 3597, 5).
+
+ghost use Rattle.std.specs.Prelude.{Some};
+ghost use Rattle.hex.specs.Hex.{encode_lower};
+ghost use Rattle.dns_rdata_zone.specs.Generic.{generic};
+ghost use Rattle.dns_rdata_zone.specs.WholeOctets.{name_octets};
+
+use dns_rdata::Name;
+use dns_rdata_certs::hexadecimal::Hexadecimal;
+use std::fmt;
+
+/// Octets in the form of unknown record data (RFC 3597, 5): `\#`, their number and their hexadecimal digits in lower
+/// case, a blank between. Takes no memory.
+#[derive(Clone, Copy)]
+pub struct Generic<'a>(pub &'a [u8]);
+
+impl fmt::Display for Generic<'_> {
+    ghost output = { λ g. Some (generic g.0.now) };
+
+    /// `\# 3 0a000a`, and `\# 0` for none.
+    fn fmt<W: fmt::Write>(&self, f: &mut fmt::Formatter<W>) -> fmt::Result {
+        let octets = self.0;
+        let count = octets.len();
+        if count == 0 {
+            return f.write_str("\\# 0");
+        }
+        let digits = Hexadecimal(octets);
+        write!(f, "\\# {count} {digits}")
+    }
+}
+
+/// A name's octets in hexadecimal, uncompressed, with its letters.
+#[derive(Clone, Copy)]
+pub(crate) struct NameDigits<'a>(pub &'a Name);
+
+impl fmt::Display for NameDigits<'_> {
+    ghost output = { λ n. Some (encode_lower (name_octets n.0.now)) };
+
+    fn fmt<W: fmt::Write>(&self, f: &mut fmt::Formatter<W>) -> fmt::Result {
+        for label in self.0.iter() {
+            if label.len() > 63 {
+                return Err(fmt::Error);
+            }
+            f.write(Hexadecimal(&[label.len() as u8]))?;
+            f.write(Hexadecimal(label))?;
+        }
+        f.write_str("00")
+    }
+}
+
+/// A name as data without a form of its own.
+#[derive(Clone, Copy)]
+pub(crate) struct GenericName<'a>(pub &'a Name);
+
+impl fmt::Display for GenericName<'_> {
+    ghost output = { λ n. Some (generic (name_octets n.0.now)) };
+
+    fn fmt<W: fmt::Write>(&self, f: &mut fmt::Formatter<W>) -> fmt::Result {
+        let count = self.0.len();
+        let digits = NameDigits(self.0);
+        write!(f, "\\# {count} {digits}")
+    }
+}

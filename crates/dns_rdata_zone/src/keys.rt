@@ -1,0 +1,92 @@
+//! Keys, certificates and hashes, which without data have the form of unknown data.
+
+ghost use Rattle.std.specs.Prelude.{Some};
+ghost use Rattle.dns_rdata_zone.specs.Records.{zone_cert, zone_sshfp, zone_tlsa, zone_openpgpkey};
+
+use crate::generic::Generic;
+use dns_pieces::Head;
+use dns_rdata::{CERT, OPENPGPKEY, SSHFP, TLSA};
+use dns_words::Base64Text;
+use std::fmt;
+
+/// CERT: numbers in decimal, and base64; where there is no certificate, the form of unknown data.
+#[derive(Clone, Copy)]
+pub(crate) struct ZoneCert<'a>(pub &'a CERT);
+
+impl fmt::Display for ZoneCert<'_> {
+    ghost output = { λ z. Some (zone_cert z.0.now) };
+
+    #[tactic(auto, unfolding(dns_fields::specs::Fields::field_octets))]
+    fn fmt<W: fmt::Write>(&self, f: &mut fmt::Formatter<W>) -> fmt::Result {
+        let x = self.0;
+        let data = x.cert_data.as_slice();
+        if data.is_empty() {
+            let mut head = Head::new();
+            head.two(x.cert_type.number());
+            head.two(x.key_tag);
+            head.one(x.algorithm.number());
+            return f.write(Generic(head.as_slice()));
+        }
+        let cert_type = x.cert_type.number();
+        let algorithm = x.algorithm.number();
+        let data = Base64Text(data);
+        write!(f, "{cert_type} {} {algorithm} {data}", x.key_tag)
+    }
+}
+
+/// SSHFP; without a fingerprint the form of unknown data.
+#[derive(Clone, Copy)]
+pub(crate) struct ZoneSshfp<'a>(pub &'a SSHFP);
+
+impl fmt::Display for ZoneSshfp<'_> {
+    ghost output = { λ z. Some (zone_sshfp z.0.now) };
+
+    #[tactic(auto, unfolding(dns_fields::specs::Fields::field_octets))]
+    fn fmt<W: fmt::Write>(&self, f: &mut fmt::Formatter<W>) -> fmt::Result {
+        let x = self.0;
+        if x.fingerprint.is_empty() {
+            let mut head = Head::new();
+            head.one(x.algorithm.number());
+            head.one(x.fingerprint_type.number());
+            return f.write(Generic(head.as_slice()));
+        }
+        write!(f, "{x}")
+    }
+}
+
+/// TLSA; without data the form of unknown data.
+#[derive(Clone, Copy)]
+pub(crate) struct ZoneTlsa<'a>(pub &'a TLSA);
+
+impl fmt::Display for ZoneTlsa<'_> {
+    ghost output = { λ z. Some (zone_tlsa z.0.now) };
+
+    #[tactic(auto, unfolding(dns_fields::specs::Fields::field_octets))]
+    fn fmt<W: fmt::Write>(&self, f: &mut fmt::Formatter<W>) -> fmt::Result {
+        let x = self.0;
+        if x.cert_data.is_empty() {
+            let mut head = Head::new();
+            head.one(x.cert_usage.number());
+            head.one(x.selector.number());
+            head.one(x.matching.number());
+            return f.write(Generic(head.as_slice()));
+        }
+        write!(f, "{x}")
+    }
+}
+
+/// OPENPGPKEY; without a key the form of unknown data.
+#[derive(Clone, Copy)]
+pub(crate) struct ZoneOpenpgpkey<'a>(pub &'a OPENPGPKEY);
+
+impl fmt::Display for ZoneOpenpgpkey<'_> {
+    ghost output = { λ z. Some (zone_openpgpkey z.0.now) };
+
+    fn fmt<W: fmt::Write>(&self, f: &mut fmt::Formatter<W>) -> fmt::Result {
+        let x = self.0;
+        if x.public_key.is_empty() {
+            return f.write_str("\\# 0");
+        }
+        write!(f, "{x}")
+    }
+}

@@ -1,0 +1,22 @@
+//! Record data in the form that name servers read: the data of a record in a zone file (RFC 1035, 5.1; RFC 3597, 5; RFC
+//! 9460, 2.1).
+#![tactic(auto)]
+
+mod generic;
+mod keys;
+pub mod laws;
+mod lists;
+mod names;
+mod options;
+mod parameters;
+mod records;
+mod services;
+mod spelling;
+mod strings;
+mod zone_text;
+
+pub use generic::Generic;
+pub use names::ZoneName;
+pub use parameters::{ZoneParameter, has_text};
+pub use strings::Quoted;
+pub use zone_text::ZoneText;

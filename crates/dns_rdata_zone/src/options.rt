@@ -1,0 +1,175 @@
+//! Options of EDNS as data without a form of its own (RFC 3597, 5): OPT has no text in a zone file.
+
+ghost use Rattle.std.specs.Prelude.{◌≡◌, ◌+◌, ◌≤◌, Some, IfSome, flat_map, length, take};
+ghost use Rattle.std.specs.Fmt.{DisplaysOnOk};
+ghost use Rattle.hex.specs.Hex.{encode_lower};
+ghost use Rattle.dns_fields.specs.Pieces.{option_octets};
+ghost use Rattle.dns_rdata_options.specs.ClientSubnet.{prefix_octets, subnet_value};
+ghost use Rattle.dns_rdata_options.specs.EdnsOption.{option_value};
+ghost use Rattle.dns_rdata_zone.specs.Options.{subnet_octets, option_digits, options_octets, zone_options};
+
+use dns_pieces::Head;
+use dns_rdata::OPT;
+use dns_rdata::opt::{ClientSubnet, EdnsCode, EdnsOption};
+use dns_rdata_certs::hexadecimal::Hexadecimal;
+use std::fmt;
+use std::net::IpAddr;
+
+// The octets of an address that the source prefix of a subnet asks for.
+fn asked_octets(address: &[u8], source: u8) -> &[u8]
+    ensures value { result.now ≡ take (prefix_octets source) address.now }
+    ensures few { length result.now ≤ length address.now }
+{
+    let len = (source as usize + 7) / 8;
+    if len > address.len() {
+        return address;
+    }
+    &address[..len]
+}
+
+// How many octets a subnet has whose address has these.
+fn subnet_len(address: &[u8], source: u8) -> usize
+    requires { length address.now ≤ 16 }
+    ensures { result ≡ 4 + length (take (prefix_octets source) address.now) }
+{
+    4 + asked_octets(address, source).len()
+}
+
+// How many octets an option has behind its code and its length.
+fn option_len(option: &EdnsOption) -> usize
+    ensures { result ≡ length (option_octets (option_value option.now)) }
+{
+    match option {
+        EdnsOption::Subnet(subnet) => match subnet.address {
+            IpAddr::V4(ip) => subnet_len(ip.octets().as_slice(), subnet.source_prefix),
+            IpAddr::V6(ip) => subnet_len(ip.octets().as_slice(), subnet.source_prefix),
+        },
+        EdnsOption::NSID(payload) => payload.as_ref().len(),
+        EdnsOption::Unknown(_, octets) => octets.len(),
+    }
+}
+
+// Writes family, prefixes and the octets of the address that the source prefix asks for, in hexadecimal.
+fn write_subnet<W: fmt::Write>(
+    family: u16,
+    source: u8,
+    scope: u8,
+    address: &[u8],
+    f: &mut fmt::Formatter<W>,
+) -> fmt::Result
+    requires { length address.now ≤ 16 }
+    ensures { DisplaysOnOk W.write_str_gives f.old result (Some (encode_lower (subnet_octets family source scope address.now))) f.new }
+{
+    let mut head = Head::new();
+    head.two(family);
+    head.one(source);
+    head.one(scope);
+    head.octets(asked_octets(address, source));
+    let digits = Hexadecimal(head.as_slice());
+    write!(f, "{digits}")
+}
+
+/// A subnet in hexadecimal.
+#[derive(Clone, Copy)]
+struct SubnetDigits<'a>(&'a ClientSubnet);
+
+impl fmt::Display for SubnetDigits<'_> {
+    ghost output = { λ s. Some (encode_lower (option_octets (subnet_value s.0.now))) };
+
+    fn fmt<W: fmt::Write>(&self, f: &mut fmt::Formatter<W>) -> fmt::Result {
+        let source = self.0.source_prefix;
+        let scope = self.0.scope_prefix;
+        match self.0.address {
+            IpAddr::V4(ip) => write_subnet(1, source, scope, ip.octets().as_slice(), f),
+            IpAddr::V6(ip) => write_subnet(2, source, scope, ip.octets().as_slice(), f),
+        }
+    }
+}
+
+/// What an option holds, in hexadecimal.
+#[derive(Clone, Copy)]
+struct ValueDigits<'a>(&'a EdnsOption);
+
+impl fmt::Display for ValueDigits<'_> {
+    ghost output = { λ x. Some (encode_lower (option_octets (option_value x.0.now))) };
+
+    fn fmt<W: fmt::Write>(&self, f: &mut fmt::Formatter<W>) -> fmt::Result {
+        match self.0 {
+            EdnsOption::Subnet(subnet) => f.write(SubnetDigits(subnet)),
+            EdnsOption::NSID(payload) => f.write(Hexadecimal(payload.as_ref())),
+            EdnsOption::Unknown(_, octets) => f.write(Hexadecimal(octets.as_slice())),
+        }
+    }
+}
+
+/// Code, length and octets of an option, in hexadecimal.
+#[derive(Clone, Copy)]
+struct OptionDigits<'a>(&'a (EdnsCode, EdnsOption));
+
+impl fmt::Display for OptionDigits<'_> {
+    ghost output = { λ p. Some (option_digits p.0.now) };
+
+    fn fmt<W: fmt::Write>(&self, f: &mut fmt::Formatter<W>) -> fmt::Result {
+        let len = option_len(&self.0.1);
+        if len > 65535 {
+            return Err(fmt::Error);
+        }
+        let mut head = Head::new();
+        head.two(u16::from(self.0.0));
+        head.two(len as u16);
+        let head = Hexadecimal(head.as_slice());
+        let value = ValueDigits(&self.0.1);
+        write!(f, "{head}{value}")
+    }
+}
+
+/// The options in their order, in hexadecimal.
+#[derive(Clone, Copy)]
+struct OptionsDigits<'a>(&'a [(EdnsCode, EdnsOption)]);
+
+impl fmt::Display for OptionsDigits<'_> {
+    ghost output = { λ x. Some (flat_map option_digits x.0.now) };
+
+    fn fmt<W: fmt::Write>(&self, f: &mut fmt::Formatter<W>) -> fmt::Result {
+        let pairs = self.0;
+        for pair in pairs {
+            f.write(OptionDigits(pair))?;
+        }
+        Ok(())
+    }
+}
+
+// How many octets the options have; none where one is too long for its length, or 64 bits do not hold the number.
+fn count_octets(pairs: &[(EdnsCode, EdnsOption)]) -> Option<u64>
+    ensures { IfSome result (λ n. n ≡ length (options_octets pairs.now)) }
+{
+    let mut count = 0u64;
+    for pair in pairs {
+        let len = option_len(&pair.1);
+        if len > 65535 {
+            return None;
+        }
+        count = count.checked_add(4 + len as u64)?;
+    }
+    Some(count)
+}
+
+/// Options in their order, as data without a form of its own.
+#[derive(Clone, Copy)]
+pub(crate) struct ZoneOptions<'a>(pub &'a OPT);
+
+impl fmt::Display for ZoneOptions<'_> {
+    ghost output = { λ x. Some (zone_options x.0.now) };
+
+    fn fmt<W: fmt::Write>(&self, f: &mut fmt::Formatter<W>) -> fmt::Result {
+        let pairs = self.0.as_ref();
+        let Some(count) = count_octets(pairs) else {
+            return Err(fmt::Error);
+        };
+        if count == 0 {
+            return f.write_str("\\# 0");
+        }
+        let digits = OptionsDigits(pairs);
+        write!(f, "\\# {count} {digits}")
+    }
+}

@@ -1,0 +1,212 @@
+//! Service parameters as zone files have them (RFC 9460, 2.1, 7 and appendix A; RFC 9461, 5).
+
+ghost use Rattle.std.specs.Prelude.{◌≡◌, Some, flat_map, map, true};
+ghost use Rattle.std.specs.List.{list_all};
+ghost use Rattle.dns_rdata_base.specs.A.{a_text};
+ghost use Rattle.dns_rdata_base.specs.AAAA.{aaaa_text};
+ghost use Rattle.dns_rdata_service.specs.SvcParamKey.{key_number};
+ghost use Rattle.dns_rdata_zone.specs.Spellings.{protocol_octet};
+ghost use Rattle.dns_rdata_zone.specs.Parameters.{key_name, named_key, protocol, zone_value, zone_parameter};
+ghost use Rattle.dns_rdata_zone.specs.Parameters.{rises_from, has_text, are_some};
+
+use crate::lists::{Commas, ListItem};
+use crate::spelling::{Spelled, Spelling};
+use crate::strings::{InQuotes, Quoted};
+use dns_rdata::svcb::{SvcParamKey, SvcParamValue};
+use dns_rdata::{A, AAAA, SmallOctets};
+use dns_words::Base64Text;
+use std::fmt;
+
+/// The name of a key, by its number alone: `key` and the number where it has no name of its own, and of key 7, whose name
+/// readers from before RFC 9461 do not know.
+#[derive(Clone, Copy)]
+struct KeyName(u16);
+
+impl fmt::Display for KeyName {
+    ghost output = { λ k. Some (key_name k.0) };
+
+    fn fmt<W: fmt::Write>(&self, f: &mut fmt::Formatter<W>) -> fmt::Result {
+        match self.0 {
+            0 => f.write_str("mandatory"),
+            1 => f.write_str("alpn"),
+            2 => f.write_str("no-default-alpn"),
+            3 => f.write_str("port"),
+            4 => f.write_str("ipv4hint"),
+            5 => f.write_str("ech"),
+            6 => f.write_str("ipv6hint"),
+            number => write!(f, "key{number}"),
+        }
+    }
+}
+
+/// In a list `,` and `\` stand behind a `\` (appendix A.1), and in the string in quotes that the list is each `\` of that
+/// behind another.
+#[derive(Clone, Copy)]
+struct InList;
+
+impl Spelling for InList {
+    ghost spelled = { protocol_octet };
+
+    #[inline]
+    fn is_plain(&self, octet: u8) -> bool {
+        octet != 44 && InQuotes.is_plain(octet)
+    }
+
+    fn write_octet<W: fmt::Write>(&self, octet: u8, f: &mut fmt::Formatter<W>) -> fmt::Result {
+        match octet {
+            44 => f.write_str("\\\\,"),
+            92 => f.write_str("\\\\\\\\"),
+            octet => InQuotes.write_octet(octet, f),
+        }
+    }
+}
+
+impl ListItem for SvcParamKey {
+    ghost item_text = { named_key };
+
+    fn write_item<W: fmt::Write>(&self, f: &mut fmt::Formatter<W>) -> fmt::Result {
+        f.write(KeyName(self.number()))
+    }
+}
+
+impl ListItem for SmallOctets<16> {
+    ghost item_text = { protocol };
+
+    fn write_item<W: fmt::Write>(&self, f: &mut fmt::Formatter<W>) -> fmt::Result {
+        f.write(Spelled(self.as_slice(), InList))
+    }
+}
+
+impl ListItem for A {
+    ghost item_text = { a_text };
+
+    fn write_item<W: fmt::Write>(&self, f: &mut fmt::Formatter<W>) -> fmt::Result {
+        write!(f, "{self}")
+    }
+}
+
+impl ListItem for AAAA {
+    ghost item_text = { aaaa_text };
+
+    fn write_item<W: fmt::Write>(&self, f: &mut fmt::Formatter<W>) -> fmt::Result {
+        write!(f, "{self}")
+    }
+}
+
+/// What stands behind a key: an equals sign and the value, or nothing.
+#[derive(Clone, Copy)]
+struct ZoneValue<'a>(&'a SvcParamValue);
+
+impl fmt::Display for ZoneValue<'_> {
+    ghost output = { λ v. Some (zone_value v.0.now) };
+
+    fn fmt<W: fmt::Write>(&self, f: &mut fmt::Formatter<W>) -> fmt::Result {
+        match self.0 {
+            SvcParamValue::Mandatory(keys) => {
+                let keys = Commas(keys.0.as_slice());
+                write!(f, "={keys}")
+            }
+            SvcParamValue::Alpn(names) => {
+                let names = Commas(names.0.as_slice());
+                write!(f, "=\"{names}\"")
+            }
+            SvcParamValue::NoDefaultAlpn => Ok(()),
+            SvcParamValue::Port(port) => write!(f, "={port}"),
+            SvcParamValue::Ipv4Hint(hint) => {
+                let hint = Commas(hint.0.as_slice());
+                write!(f, "={hint}")
+            }
+            SvcParamValue::EchConfigList(config) => {
+                let config = Base64Text(config.0.as_slice());
+                write!(f, "=\"{config}\"")
+            }
+            SvcParamValue::Ipv6Hint(hint) => {
+                let hint = Commas(hint.0.as_slice());
+                write!(f, "={hint}")
+            }
+            SvcParamValue::DohPath(path) => {
+                let path = Quoted(path.0.as_slice());
+                write!(f, "={path}")
+            }
+            SvcParamValue::Unknown(octets) => {
+                if octets.0.is_empty() {
+                    return Ok(());
+                }
+                let octets = Quoted(octets.0.as_slice());
+                write!(f, "={octets}")
+            }
+        }
+    }
+}
+
+/// A service parameter (RFC 9460, 2.1): the key's name, and where there is a value `=` and the value, in quotes where it
+/// is a list of protocols, base64, a path, or of a key without a form of its own. Takes no memory.
+///
+/// It is a text that name servers read where [`has_text`] holds.
+#[derive(Clone, Copy)]
+pub struct ZoneParameter<'a>(pub &'a (SvcParamKey, SvcParamValue));
+
+impl fmt::Display for ZoneParameter<'_> {
+    ghost output = { λ p. Some (zone_parameter p.0.now) };
+
+    /// `alpn="h2,h3"`, `port=443`, `key667="hello"`.
+    fn fmt<W: fmt::Write>(&self, f: &mut fmt::Formatter<W>) -> fmt::Result {
+        let key = KeyName(self.0.0.number());
+        let value = ZoneValue(&self.0.1);
+        write!(f, "{key}{value}")
+    }
+}
+
+// Whether the keys strictly rise, from above 0 to below 65535 (RFC 9460, 8).
+fn keys_rise(keys: &[SvcParamKey]) -> bool
+    ensures { result ≡ rises_from 0 (map key_number keys.now) }
+{
+    let mut last = 0u16;
+    for key in keys {
+        let number = key.number();
+        if number <= last || number == 65535 {
+            return false;
+        }
+        last = number;
+    }
+    true
+}
+
+// Whether no name is empty.
+fn are_some(names: &[SmallOctets<16>]) -> bool
+    ensures { result ≡ are_some names.now }
+{
+    names.iter().all(|name| name.len() != 0)
+}
+
+/// Whether the parameter has a text: its value is of the form of its key, and not one that no text has. No text has a value
+/// without addresses, an empty configuration or path, the empty name of a protocol, mandatory keys that do not strictly
+/// rise from above 0, or the key 65535.
+pub fn has_text(parameter: &(SvcParamKey, SvcParamValue)) -> bool
+    ensures { result ≡ has_text parameter.now }
+{
+    let number = parameter.0.number();
+    match &parameter.1 {
+        SvcParamValue::Mandatory(keys) => number == 0 && keys_rise(keys.0.as_slice()),
+        SvcParamValue::Alpn(names) => number == 1 && are_some(names.0.as_slice()),
+        SvcParamValue::NoDefaultAlpn => number == 2,
+        SvcParamValue::Port(_) => number == 3,
+        SvcParamValue::Ipv4Hint(hint) => number == 4 && hint.0.len() != 0,
+        SvcParamValue::EchConfigList(config) => number == 5 && config.0.len() != 0,
+        SvcParamValue::Ipv6Hint(hint) => number == 6 && hint.0.len() != 0,
+        SvcParamValue::DohPath(path) => number == 7 && path.0.len() != 0,
+        SvcParamValue::Unknown(_) => 7 < number && number < 65535,
+    }
+}
+
+/// Whether each parameter has a text.
+pub(crate) fn have_text(parameters: &[(SvcParamKey, SvcParamValue)]) -> bool
+    ensures { result ≡ list_all has_text parameters.now }
+{
+    for parameter in parameters {
+        if !has_text(parameter) {
+            return false;
+        }
+    }
+    true
+}

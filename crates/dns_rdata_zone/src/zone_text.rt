@@ -1,0 +1,109 @@
+//! Record data in the form that name servers read.
+
+ghost use Rattle.std.specs.Prelude.{◌≡◌, Some, OnOk, None};
+ghost use Rattle.std.specs.Fmt.{DisplaysOnOk, DisplaysStyledOnOk};
+ghost use Rattle.dns_fields.specs.Fields.{all_emittable};
+ghost use Rattle.dns_rdata.specs.Data.{fields_of, IsEmittable};
+ghost use Rattle.dns_rdata_zone.specs.ZoneTexts.{zone_text};
+
+use crate::generic::{Generic, GenericName};
+use crate::keys::{ZoneCert, ZoneOpenpgpkey, ZoneSshfp, ZoneTlsa};
+use crate::names::ZoneName;
+use crate::options::ZoneOptions;
+use crate::records::{ZoneCaa, ZoneCsync, ZoneHinfo, ZoneNaptr, ZoneSoa, ZoneTxt};
+use crate::services::write_service;
+use dns_rdata::RData;
+use dns_rdata_base::steps::{hinfo_is_emittable, naptr_is_emittable, txt_is_emittable};
+use dns_rdata_options::steps::opt_is_emittable;
+use dns_rdata_service::steps::svcb_is_emittable;
+use dns_rdata_sets::steps::caa_is_emittable;
+use std::fmt;
+
+// Whether the data can be emitted.
+fn is_emittable(data: &RData) -> bool
+    ensures { result ≡ all_emittable (fields_of «data».now).kinds (fields_of «data».now).values }
+{
+    match data {
+        RData::CAA(x) => caa_is_emittable(x),
+        RData::HINFO(x) => hinfo_is_emittable(x),
+        RData::HTTPS(x) => svcb_is_emittable(&x.0),
+        RData::NAPTR(x) => naptr_is_emittable(x),
+        RData::OPT(x) => opt_is_emittable(x),
+        RData::SVCB(x) => svcb_is_emittable(x),
+        RData::TXT(x) => txt_is_emittable(x),
+        _ => true,
+    }
+}
+
+/// Record data that prints as the data of a record in a zone file, in the form that name servers read (RFC 1035, 5.1; RFC
+/// 9460, 2.1; the RFCs of the types). A value that has no such text, and each of a type that has none, prints in the form
+/// of unknown data (RFC 3597, 5). Takes no memory, whatever the value.
+///
+/// Names are fully qualified, with their letters; strings stand in quotes; numbers have no sign; times to live and the
+/// numbers of SOA are seconds. Everything stands in one line of printable ASCII, with one blank between two fields.
+///
+/// The form of unknown data is that of NULL, OPT, ANAME, ZERO and every type without fields of its own; of TXT without
+/// strings; of CERT, SSHFP, TLSA, SMIMEA and OPENPGPKEY without data; of CAA whose tag is not one of ASCII's letters and
+/// digits alone; and of SVCB and HTTPS with a parameter that has no text ([`has_text`](crate::has_text)).
+#[derive(Clone, Copy)]
+pub struct ZoneText<'a>(pub &'a RData);
+
+impl<'a> ZoneText<'a> {
+    /// The text of the data.
+    #[inline]
+    pub fn new(rdata: &'a RData) -> ZoneText<'a>
+        ensures { result.0.now ≡ rdata.now }
+    {
+        ZoneText(rdata)
+    }
+}
+
+impl fmt::Display for ZoneText<'_> {
+    ghost output = { λ z. Some (zone_text z.0.now) };
+
+    /// `10 mail.example.com.`, `"a \"string\""`, `\# 2 abcd`. A value that cannot be emitted is refused by
+    /// [`Error`](fmt::Error), and what a writer refuses is refused by its error; what was written then stands.
+    fn fmt<W: fmt::Write>(&self, f: &mut fmt::Formatter<W>) -> fmt::Result
+        ensures writes { DisplaysOnOk W.write_str_gives f.old result (Some (zone_text self.now.0.now)) f.new }
+        ensures styled { DisplaysStyledOnOk W.write_str_gives f.old result None f.new }
+        ensures emittable { OnOk result (IsEmittable self.now.0.now) }
+    {
+        let data = self.0;
+        if !is_emittable(data) {
+            return Err(fmt::Error);
+        }
+        match data {
+            RData::A(a) => write!(f, "{a}"),
+            RData::AAAA(a) => write!(f, "{a}"),
+            RData::ANAME(x) => f.write(GenericName(&x.0)),
+            RData::CAA(x) => f.write(ZoneCaa(x)),
+            RData::CERT(x) => f.write(ZoneCert(x)),
+            RData::CNAME(x) => f.write(ZoneName(&x.0)),
+            RData::CSYNC(x) => f.write(ZoneCsync(x)),
+            RData::HINFO(x) => f.write(ZoneHinfo(x)),
+            RData::HTTPS(x) => write_service(data, &x.0, f),
+            RData::MX(x) => {
+                let exchange = ZoneName(&x.exchange);
+                write!(f, "{} {exchange}", x.preference)
+            }
+            RData::NAPTR(x) => f.write(ZoneNaptr(x)),
+            RData::NULL(x) => f.write(Generic(x.anything.as_slice())),
+            RData::NS(x) => f.write(ZoneName(&x.0)),
+            RData::OPENPGPKEY(x) => f.write(ZoneOpenpgpkey(x)),
+            RData::OPT(x) => f.write(ZoneOptions(x)),
+            RData::PTR(x) => f.write(ZoneName(&x.0)),
+            RData::SMIMEA(x) => f.write(ZoneTlsa(&x.0)),
+            RData::SOA(x) => f.write(ZoneSoa(x)),
+            RData::SRV(x) => {
+                let target = ZoneName(&x.target);
+                write!(f, "{} {} {} {target}", x.priority, x.weight, x.port)
+            }
+            RData::SSHFP(x) => f.write(ZoneSshfp(x)),
+            RData::SVCB(x) => write_service(data, x, f),
+            RData::TLSA(x) => f.write(ZoneTlsa(x)),
+            RData::TXT(x) => f.write(ZoneTxt(x)),
+            RData::Unknown { rdata, .. } => f.write(Generic(rdata.anything.as_slice())),
+            RData::Update0(_) | RData::ZERO => f.write_str("\\# 0"),
+        }
+    }
+}
