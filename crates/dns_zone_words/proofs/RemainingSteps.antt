@@ -1,21 +1,17 @@
 -- Words that are left, one by one.
 use Rattle.std.proofs.Common.{◌≡◌, ◌≢◌, ℕ, ◌<◌, ◌^◌, length, true, false, List, [], ◌∷◌, ◌++◌, Result, Ok, Err, refl, sym, ◌∙◌, ap, subst, append_assoc}
 use Rattle.std.proofs.lemmas.List.{append-nil}
+use Rattle.std.specs.Prelude.{IfErr}
 use Rattle.std.specs.Result.{IsErrAnd}
 use Rattle.dns_types.specs.declared.error.ParseError.{ParseError}
 use Rattle.dns_types.specs.declared.error.ParseError.TheVariants as parse
 use Rattle.dns_words.specs.Reads.{UnlessMemory}
-use Rattle.dns_zone_words.specs.Remaining.{AllBare, joined, AreJoined, AreHex, AreUnknown, AreStrings, TookAll, NoneOfAll, ReadsAll}
+use Rattle.dns_zone_words.specs.Remaining.{AllBare, joined, AreJoined, AreHex, AreUnknown, AreStrings, TookAll, NoneOfAll, ReadsAll, with_words}
 use Rattle.dns_zone_words.specs.Forms.{number, IsNumber, string}
 use Rattle.dns_zone_words.specs.ZoneReads.{NoValueOf, FirstHas, TookFirst, NoFirst}
 use Rattle.dns_zone_words.specs.Words.{Word, Cursor, words_at, with_word}
 use Rattle.dns_zone_words.proofs.FirstSteps.{unless_map}
 use Rattle.dns_zone_words.specs.declared.words_error.WordsError.{WordsError}
-
--- words, and those behind them
-abbrev pub with_words : List Word → Result (List Word) WordsError → Result (List Word) WordsError
-with_words [] behind = behind
-with_words (word ∷ words) behind = with_word word (with_words words behind)
 
 -- so many words were taken, none in quotes, and their octets are these
 pub record TakenSo (old new : Cursor) (octets : List ℕ) : Type 0 where
@@ -92,6 +88,11 @@ pub in_quotes : (old now new : Cursor) (octets : List ℕ) (word : Word) → Tak
 in_quotes old now new octets word so first quoted = record {
   none = λ v words cut is. not_bare so.words word (words_at new) words quoted (sym (so.behind ∙ ap (with_words so.words) first) ∙ cut) is.bare;
 }
+
+-- why a refusal is handed on
+pub exit_as : {T : Type 0} (P Q : ParseError → Type 0) (r : Result T ParseError) → IsErrAnd r P → ((e : ParseError) → P e → Q e) → IfErr r Q
+exit_as P Q (Ok x) h f = tt
+exit_as P Q (Err e) h f = f e h
 
 unless_all : (e : ParseError) {P : Type 0} → P → UnlessMemory e P
 unless_all parse.Memory h = tt
@@ -194,6 +195,9 @@ strings_not_cut old now strings e so end = record {
       let both : Ok words ≡ Err e = sym cut ∙ other in
       absurd (cc);
 }
+
+pub strings_cut : (old now : Cursor) (strings : List (List ℕ)) (e : WordsError) → StringsSo old now strings → words_at now ≡ Err e → words_at old ≡ Err e
+strings_cut old now strings e so end = so.behind ∙ ap (with_words so.words) end ∙ words_err so.words e
 
 not_string : (words : List Word) (word : Word) (behind : Result (List Word) WordsError) (all : List Word) (v : List (List ℕ)) → NoValueOf string word
     → with_words words (with_word word behind) ≡ Ok all → AreStrings v all → ⊥

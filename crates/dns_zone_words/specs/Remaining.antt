@@ -1,5 +1,5 @@
 -- All words that are left of a text: strings, base64, hexadecimal digits, and the form of unknown data (RFC 3597, 5).
-use Rattle.std.specs.Prelude.{◌≡◌, ℕ, ◌^◌, ◌<◌, false, List, [], ◌∷◌, Result, Ok, Err, length}
+use Rattle.std.specs.Prelude.{◌≡◌, ◌⊎◌, ℕ, ◌^◌, ◌<◌, false, List, [], ◌∷◌, Result, Ok, Err, length}
 use Rattle.std.specs.List.{flat_map}
 use Rattle.base64.specs.Engines.{standard}
 use Rattle.base64.specs.GeneralPurpose.{decode_of as base64_of}
@@ -7,7 +7,14 @@ use Rattle.hex.specs.Hex.{decode_of as hex_of}
 use Rattle.dns_types.specs.declared.error.ParseError.{ParseError}
 use Rattle.dns_words.specs.Reads.{UnlessMemory}
 use Rattle.dns_zone_words.specs.Forms.{IsNumber, string}
-use Rattle.dns_zone_words.specs.Words.{Word, Cursor, words_at}
+use Rattle.dns_zone_words.specs.Words.{Word, Cursor, words_at, with_word}
+use Rattle.dns_zone_words.specs.ZoneReads.{IsCutRefused}
+use Rattle.dns_zone_words.specs.declared.words_error.WordsError.{WordsError}
+
+-- words, and those behind them
+abbrev pub with_words : List Word → Result (List Word) WordsError → Result (List Word) WordsError
+with_words [] behind = behind
+with_words (word ∷ words) behind = with_word word (with_words words behind)
 
 -- none of the words stands in quotes
 abbrev pub AllBare : List Word → Type 0
@@ -63,3 +70,15 @@ pub record NoneOfAll {V : Type 0} (is : V → List Word → Type 0) (cursor : Cu
 abbrev pub ReadsAll : {T V : Type 0} → (V → List Word → Type 0) → (T → V) → Result T ParseError → Cursor → Type 0
 ReadsAll is view (Ok x) cursor = TookAll is (view x) cursor
 ReadsAll is view (Err e) cursor = UnlessMemory e (NoneOfAll is cursor)
+
+-- one of the words has a fault, of which the refusal tells
+pub record OneFault (fault : Word → ParseError → Type 0) (cursor : Cursor) (e : ParseError) : Type 0 where
+  pub front : List Word
+  pub word : Word
+  pub behind : Result (List Word) WordsError
+  pub cut : words_at cursor ≡ with_words front (with_word word behind)
+  pub has : fault word e
+
+-- the text is not cut into words, or one of them has a fault
+abbrev pub AmongFault : (Word → ParseError → Type 0) → Cursor → ParseError → Type 0
+AmongFault fault cursor e = IsCutRefused cursor e ⊎ OneFault fault cursor e

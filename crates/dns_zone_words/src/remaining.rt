@@ -1,12 +1,14 @@
 //! All words that are left of a text: strings, base64, hexadecimal digits, and the form of unknown data (RFC 3597, 5).
 
 ghost use Rattle.std.specs.Prelude.{◌≡◌, ◌≢◌, ◌↔◌, ◌⊎◌, [], Ok, IsTrue, IfErr, OnOk, OnErr};
+ghost use Rattle.dns_zone_words.specs.Forms.{StringFault};
 ghost use Rattle.dns_zone_words.specs.Refusals.{IsMessage, IsMissing};
-ghost use Rattle.dns_zone_words.specs.Remaining.{AreJoined, AreHex, AreBase64, AreUnknown, AreStrings, IsUnknownMark, ReadsAll};
+ghost use Rattle.dns_zone_words.specs.Remaining.{AreJoined, AreHex, AreBase64, AreUnknown, AreStrings, IsUnknownMark, ReadsAll, AmongFault};
 ghost use Rattle.dns_zone_words.specs.Views.{word_value};
 ghost use Rattle.dns_zone_words.specs.Words.{words_at};
 ghost use Rattle.dns_zone_words.specs.ZoneReads.{IsCutRefused};
 
+use crate::field::StringField;
 use crate::fields::next_u16;
 use crate::texts::string_of;
 use crate::words::{ZoneWord, ZoneWords};
@@ -81,21 +83,21 @@ pub fn unknown_data(alloc: Global, words: &mut ZoneWords<'_>) -> Result<Octets, 
     Ok(octets)
 }
 
-/// All words that are left as character strings of at most 255 octets; no words give none. Any other word is refused by
-/// [`Message`](ParseError::Message) of the text `wrong`.
+/// All words that are left as character strings of at most 255 octets (`string_of`); no words give none. Refused by
+/// [`Message`](ParseError::Message): where a word is no such string, of the field's text for it.
 pub fn all_strings(
     alloc: Global,
     words: &mut ZoneWords<'_>,
-    wrong: &'static str,
+    field: &StringField,
 ) -> Result<Strings, ParseError>
     ensures reads { ReadsAll AreStrings (λ x. x) result words.old }
-    ensures why { IfErr result (λ e. (e ≡ ParseError.Memory) ⊎ IsMessage e) }
+    ensures why { IfErr result (λ e. (e ≡ ParseError.Memory) ⊎ AmongFault (StringFault field.now) words.old e) }
 {
     let mut strings = Strings::new(alloc);
     'words: loop {
         match words.next_word()? {
             Some(word) => {
-                let string = string_of(alloc, word, wrong)?;
+                let string = string_of(alloc, word, field)?;
                 strings.push(string)?;
             }
             None => return Ok(strings),
