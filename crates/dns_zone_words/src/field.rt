@@ -31,6 +31,17 @@ pub struct NameField {
     pub long_name: &'static str,
 }
 
+/// Hexadecimal digits to the end of a text, as refusals name them. All texts are static, so a refusal takes no memory.
+#[derive(Clone, Copy, Debug, PartialEq, Eq)]
+pub struct HexField {
+    /// What is said of a word in quotes.
+    pub quoted: &'static str,
+    /// What is said of an odd number of digits.
+    pub odd: &'static str,
+    /// What is said of any other octet among them.
+    pub digit: &'static str,
+}
+
 // Which field a character string is of.
 #[macro_export]
 macro_rules! string_field {
@@ -55,6 +66,18 @@ macro_rules! name_field {
             empty_label: concat!("empty label in a domain name in ", $name, " token"),
             long_label: concat!("label past 63 octets in a domain name in ", $name, " token"),
             long_name: concat!("domain name past 255 octets in ", $name, " token"),
+        }
+    };
+}
+
+// What hexadecimal digits are of.
+#[macro_export]
+macro_rules! hex_field {
+    ($name:literal) => {
+        $crate::HexField {
+            quoted: concat!("hexadecimal digits in quotes in ", $name),
+            odd: concat!("odd number of hexadecimal digits in ", $name),
+            digit: concat!("Invalid hexadecimal digit found in ", $name),
         }
     };
 }
