@@ -12,15 +12,17 @@ use Rattle.dns_fields.specs.Fields.{Name}
 use Rattle.dns_types.specs.Errors.{decode_refusal, proto_refusal}
 use Rattle.dns_types.specs.declared.error.DecodeError.{DecodeError}
 use Rattle.dns_types.specs.declared.error.DecodeError.TheVariants as decode
+use Rattle.dns_types.specs.declared.error.ParseError.{ParseError}
 use Rattle.dns_types.specs.declared.error.ParseError.TheVariants as parse
 use Rattle.dns_names_wire.specs.Words.{LacksField}
 use Rattle.dns_zone_words.specs.Letters.{Letter, letters, octet_of, stands_for, escapes_stand}
-use Rattle.dns_zone_words.specs.NameWords.{parts_from, name_of_parts, with_label, labelled, is_alone, name}
+use Rattle.dns_zone_words.specs.NameWords.{parts_from, name_of_parts, with_label, labelled, is_alone, name, HasLabel, IsLongName, LabelsFault}
 use Rattle.dns_zone_words.specs.Words.{Word}
 use Rattle.dns_zone_words.specs.ZoneReads.{NoValueOf}
 use Rattle.dns_names_wire.specs.NameValues.{root_name, joined_name, completed}
 use Rattle.dns_zone_words.specs.Views.{BeginsWith}
-use Rattle.dns_zone_words.specs.NameSteps.{IsWire, IsWireOf, LabelsRead, NoLabels}
+use Rattle.dns_zone_words.specs.NameSteps.{IsWire, IsWireOf, LabelsRead, NoLabels, NotClosed}
+use Rattle.dns_zone_words.specs.declared.field.NameField.{NameField}
 
 -- ---- a name in its octets
 
@@ -156,55 +158,60 @@ label_among (first ∷ labels) label rest are = label_among labels label rest ar
 wire_least : (labels : List (List ℕ)) (label : List ℕ) (rest : List (List ℕ)) → length (wire labels) + (1 + length label) ≤ length (wire (labels ++ label ∷ rest))
 wire_least labels label rest = omega (arith, ap length (wire-append labels (label ∷ rest)), length-append (wire labels) (wire (label ∷ rest)), length-append label (wire rest))
 
--- a label that the text has is none, or is too much
-refuse : (text : List ℕ) (labels : List (List ℕ)) (part : List ℕ) (parts : List (List ℕ)) → parts_from [] (letters text) ≡ labels ++ part ∷ parts → AreLabels labels
-    → (1 ≤ length part) ⊎ (1 ≤ length parts) → (IsLabel part → length (wire labels) + (1 + length part) + 1 ≤ 255 → ⊥) → NoLabels text
-refuse text labels part parts e are some wrong =
-    let rest = first_label part parts some in
-    let all : (labelled text).labels ≡ labels ++ part ∷ rest.0 =
-    ap (λ (ps : List (List ℕ)). (name_of_parts ps).labels) e
-    ∙ ap (λ (name : DomainName). name.labels) (name_behind labels (part ∷ parts) are)
-    ∙ labels_behind labels (name_of_parts (part ∷ parts))
-    ∙ ap (λ (ls : List (List ℕ)). labels ++ ls) rest.1 in record {
-      none = λ escapes here fits.
-          let room = subst FitsName all fits in
-          wrong (label_among labels part rest.0 (subst AreLabels all here)) (omega (arith, room, wire_least labels part rest.0));
-    }
+-- a part that the text has behind labels is a label of it
+part_label : (text : List ℕ) (labels : List (List ℕ)) (part : List ℕ) (parts : List (List ℕ)) → parts_from [] (letters text) ≡ labels ++ part ∷ parts → AreLabels labels
+    → (1 ≤ length part) ⊎ (1 ≤ length parts) → (rest : List (List ℕ)) × ((labelled text).labels ≡ labels ++ part ∷ rest)
+part_label text labels part parts e are some =
+    let rest = first_label part parts some in (
+      rest.0,
+      ap (λ (ps : List (List ℕ)). (name_of_parts ps).labels) e
+          ∙ ap (λ (name : DomainName). name.labels) (name_behind labels (part ∷ parts) are)
+          ∙ labels_behind labels (name_of_parts (part ∷ parts))
+          ∙ ap (λ (ls : List (List ℕ)). labels ++ ls) rest.1,
+    )
 
-pub bad_escape : (text rest octets front : List ℕ) → ReadSo text rest octets front → escapes_stand rest ≡ false → NoLabels text
-bad_escape text rest octets front so bad = record {
-  none = λ escapes are fits. let both : true ≡ false = sym escapes ∙ so.escapes ∙ bad in absurd (cc);
-}
+-- a label that is not closed is a fault
+close_fault : (field : NameField) (text : List ℕ) (labels : List (List ℕ)) (octets part : List ℕ) (parts : List (List ℕ)) (e : ParseError)
+    → parts_from [] (letters text) ≡ labels ++ part ∷ parts → AreLabels labels → octets ≡ wire labels
+    → (1 ≤ length part) ⊎ (1 ≤ length parts) → NotClosed field octets part e → LabelsFault field text e
+close_fault field text labels octets part parts e cut are same some (inl not) =
+    let own = part_label text labels part parts cut are some in
+    inr (inl (not.0, record { front = labels; label = part; behind = own.0; all = own.1; is = not.1 }))
+close_fault field text labels octets part parts e cut are same some (inr not) =
+    let own = part_label text labels part parts cut are some in
+    let long : IsLongName (labels ++ part ∷ own.0) = omega (arith, not.2, ap length same, wire_least labels part own.0) in
+    inr (inr (inr (not.0, subst IsLongName (sym own.1) long)))
 
-pub no_close : (text rest more octets front : List ℕ) (x : Letter) → ReadSo text rest octets front → BeginsWith x rest more → stands_for 46 x ≡ true
-    → (1 ≤ length front → 253 < length octets + length front) → NoLabels text
-no_close text rest more octets front x so begins h full =
+pub bad_escape : (text rest octets front : List ℕ) → ReadSo text rest octets front → escapes_stand rest ≡ false → escapes_stand text ≡ false
+bad_escape text rest octets front so bad = so.escapes ∙ bad
+
+pub no_close : (field : NameField) (text rest more octets front : List ℕ) (x : Letter) (e : ParseError) → ReadSo text rest octets front → BeginsWith x rest more
+    → stands_for 46 x ≡ true → NotClosed field octets front e → LabelsFault field text e
+no_close field text rest more octets front x e so begins h not =
     let next = parts_are [] (letters more) in
-    refuse text so.labels front (parts_from [] (letters more))
-    (parts_behind text rest more octets front x so begins ∙ ap (λ (ps : List (List ℕ)). so.labels ++ ps) (dot_ends front x (letters more) h)) so.are
-    (inr (omega (arith, ap length next.are)))
-    (λ is room. let past = full is.0 in omega (arith, past, room, ap length so.same))
+    close_fault field text so.labels octets front (parts_from [] (letters more)) e
+    (parts_behind text rest more octets front x so begins ∙ ap (λ (ps : List (List ℕ)). so.labels ++ ps) (dot_ends front x (letters more) h)) so.are so.same
+    (inr (omega (arith, ap length next.are))) not
 
 pub no_room : (text rest more octets front : List ℕ) (x : Letter) → ReadSo text rest octets front → BeginsWith x rest more → stands_for 46 x ≡ false
-    → length front ≡ 63 → NoLabels text
+    → length front ≡ 63 → HasLabel (λ label. 63 < length label) (labelled text).labels
 no_room text rest more octets front x so begins h full =
     let next = parts_are (front ++ octet_of x ∷ []) (letters more) in
-    let longer : 64 ≤ length next.first = omega (arith, next.longer, length-append front (octet_of x ∷ [])) in
-    refuse text so.labels next.first next.others
+    let longer : 63 < length next.first = omega (arith, next.longer, length-append front (octet_of x ∷ [])) in
+    let own = part_label text so.labels next.first next.others
     (parts_behind text rest more octets front x so begins ∙ ap (λ (ps : List (List ℕ)). so.labels ++ ps) (octet_more front x (letters more) h ∙ next.are)) so.are
-    (inl (omega arith))
-    (λ is room. omega (arith, is.1, longer))
+    (inl (omega arith)) in
+    record { front = so.labels; label = next.first; behind = own.0; all = own.1; is = longer }
 
 -- ---- at the end
 
 end_parts : (text rest octets front : List ℕ) (so : ReadSo text rest octets front) → rest ≡ [] → parts_from [] (letters text) ≡ so.labels ++ front ∷ []
 end_parts text rest octets front so e = so.parts ∙ ap (λ (r : List ℕ). so.labels ++ parts_from front (letters r)) e
 
-pub no_last : (text rest octets front : List ℕ) → ReadSo text rest octets front → rest ≡ [] → 1 ≤ length front
-    → (1 ≤ length front → 253 < length octets + length front) → NoLabels text
-no_last text rest octets front so e some full =
-    refuse text so.labels front [] (end_parts text rest octets front so e) so.are (inl some)
-    (λ is room. let past = full some in omega (arith, past, room, ap length so.same))
+pub no_last : (field : NameField) (text rest octets front : List ℕ) (e : ParseError) → ReadSo text rest octets front → rest ≡ [] → 1 ≤ length front
+    → NotClosed field octets front e → LabelsFault field text e
+no_last field text rest octets front e so end some not =
+    close_fault field text so.labels octets front [] e (end_parts text rest octets front so end) so.are so.same (inl some) not
 
 end_escapes : (text rest octets front : List ℕ) → ReadSo text rest octets front → rest ≡ [] → escapes_stand text ≡ true
 end_escapes text rest octets front so e = so.escapes ∙ ap escapes_stand e
@@ -269,6 +276,43 @@ some_named : (a b : Bool) (origin : Option DomainName) (x v : DomainName) → a 
 some_named true b origin x v h k e = absurd (cc)
 some_named false true origin x v h k e = absurd (cc)
 some_named false false origin x v h k e = cc
+
+-- with a fault there are no labels
+pub fault_none : (field : NameField) (text : List ℕ) (e : ParseError) → LabelsFault field text e → NoLabels text
+fault_none field text e (inl fault) = record { none = λ escapes are fits. let both : true ≡ false = sym escapes ∙ fault.1 in absurd (cc) }
+fault_none field text e (inr (inl fault)) = record {
+  none = λ escapes are fits.
+      let has = fault.1 in
+      let is = label_among has.front has.label has.behind (subst AreLabels has.all are) in
+      omega (arith, is.0, has.is);
+}
+fault_none field text e (inr (inr (inl fault))) = record {
+  none = λ escapes are fits.
+      let has = fault.1 in
+      let is = label_among has.front has.label has.behind (subst AreLabels has.all are) in
+      omega (arith, is.1, has.is);
+}
+fault_none field text e (inr (inr (inr fault))) = record { none = λ escapes are fits. omega (arith, fault.1, fits) }
+
+are_completed : (b : Bool) (name own : DomainName) → AreLabels name.labels → AreLabels own.labels → AreLabels (cond b name (joined_name name own)).labels
+are_completed true name own are others = are
+are_completed false name own are others = AreLabels-append name.labels own.labels are others
+
+long_by : (name : DomainName) → AreLabels name.labels → (IsName name → ⊥) → IsLongName name.labels
+long_by name are isnt =
+    let past : FitsName name.labels → ⊥ = λ fits. isnt (record { labels = are; fits = fits }) in
+    omega (arith, past)
+
+-- labels that are no name with the origin's are too many
+pub completed_long : (name own : DomainName) (origin : Option DomainName) → origin ≡ Some own → AreLabels name.labels → AreLabels own.labels
+    → (IsName (completed name origin) → ⊥) → IsLongName (completed name origin).labels
+completed_long name own None same are others isnt = absurd (cc)
+completed_long name own (Some x) same are others isnt =
+    let e : own ≡ x = cc in
+    long_by (completed name (Some x)) (are_completed name.fully_qualified name x are (subst (λ (y : DomainName). AreLabels y.labels) e others)) isnt
+
+pub labels_read : {text : List ℕ} {mark : Bool} {octets : List ℕ} → LabelsRead text mark octets → AreLabels (labelled text).labels
+labels_read read = subst (λ (y : DomainName). AreLabels y.labels) (sym read.name) read.are
 
 pub no_name : (origin : Option DomainName) (word : Word) → is_alone 64 word.octets ≡ false → is_alone 46 word.octets ≡ false → NoLabels word.octets
     → NoValueOf (name origin) word

@@ -1,21 +1,23 @@
 -- Words that are left, one by one.
-use Rattle.std.proofs.Common.{◌≡◌, ◌≢◌, ℕ, ◌<◌, ◌^◌, length, true, false, List, [], ◌∷◌, ◌++◌, Result, Ok, Err, refl, sym, ◌∙◌, ap, subst, append_assoc}
+use Rattle.std.proofs.Common.{◌≡◌, ◌≢◌, ℕ, ◌<◌, ◌^◌, length, Bool, true, false, cond, arith, ◌⊎◌, inl, inr, List, [], ◌∷◌, ◌++◌, Result, Ok, Err, refl, sym, ◌∙◌, ap, subst, append_assoc}
 use Rattle.std.proofs.lemmas.List.{append-nil}
+use Rattle.std.specs.Prelude.{IfErr, ◌%◌, ◌==◌}
+use Rattle.std.proofs.lemmas.Bool.Decides.{nat_tests}
+use Rattle.hex.specs.Hex.{decode_of as hex_of, decode_pairs}
+use Rattle.hex.specs.declared.error.FromHexError.{FromHexError}
+use Rattle.hex.specs.declared.error.FromHexError.TheVariants.{OddLength}
+use Rattle.dns_zone_words.specs.declared.field.HexField.{HexField}
+use Rattle.dns_zone_words.specs.Refusals.{IsMessage}
 use Rattle.std.specs.Result.{IsErrAnd}
 use Rattle.dns_types.specs.declared.error.ParseError.{ParseError}
 use Rattle.dns_types.specs.declared.error.ParseError.TheVariants as parse
 use Rattle.dns_words.specs.Reads.{UnlessMemory}
-use Rattle.dns_zone_words.specs.Remaining.{AllBare, joined, AreJoined, AreHex, AreUnknown, AreStrings, TookAll, NoneOfAll, ReadsAll}
+use Rattle.dns_zone_words.specs.Remaining.{AllBare, joined, AreJoined, AreHex, AreUnknown, AreStrings, TookAll, NoneOfAll, ReadsAll, with_words, AmongFault, QuotesFault, DigitsFault, HexFault}
 use Rattle.dns_zone_words.specs.Forms.{number, IsNumber, string}
 use Rattle.dns_zone_words.specs.ZoneReads.{NoValueOf, FirstHas, TookFirst, NoFirst}
 use Rattle.dns_zone_words.specs.Words.{Word, Cursor, words_at, with_word}
 use Rattle.dns_zone_words.proofs.FirstSteps.{unless_map}
 use Rattle.dns_zone_words.specs.declared.words_error.WordsError.{WordsError}
-
--- words, and those behind them
-abbrev pub with_words : List Word → Result (List Word) WordsError → Result (List Word) WordsError
-with_words [] behind = behind
-with_words (word ∷ words) behind = with_word word (with_words words behind)
 
 -- so many words were taken, none in quotes, and their octets are these
 pub record TakenSo (old new : Cursor) (octets : List ℕ) : Type 0 where
@@ -93,6 +95,11 @@ in_quotes old now new octets word so first quoted = record {
   none = λ v words cut is. not_bare so.words word (words_at new) words quoted (sym (so.behind ∙ ap (with_words so.words) first) ∙ cut) is.bare;
 }
 
+-- why a refusal is handed on
+pub exit_as : {T : Type 0} (P Q : ParseError → Type 0) (r : Result T ParseError) → IsErrAnd r P → ((e : ParseError) → P e → Q e) → IfErr r Q
+exit_as P Q (Ok x) h f = tt
+exit_as P Q (Err e) h f = f e h
+
 unless_all : (e : ParseError) {P : Type 0} → P → UnlessMemory e P
 unless_all parse.Memory h = tt
 unless_all e h = h
@@ -107,6 +114,63 @@ pub exit_same : {T V : Type 0} (is : V → List Word → Type 0) (view : T → V
     → IsErrAnd r (λ y. y ≡ e) → UnlessMemory e (NoneOfAll is cursor) → ReadsAll is view r cursor
 exit_same is view cursor (Ok x) e h none = elim h [ ]
 exit_same is view cursor (Err y) e h none = subst (λ (z : ParseError). UnlessMemory z (NoneOfAll is cursor)) (sym h) none
+
+-- why the words are not cut
+pub joined_cut : (old now : Cursor) (octets : List ℕ) (e : WordsError) → TakenSo old now octets → words_at now ≡ Err e → words_at old ≡ Err e
+joined_cut old now octets e so end = so.behind ∙ ap (with_words so.words) end ∙ words_err so.words e
+
+-- quotes and cuts are told by messages
+pub quotes_message : {wrong : ParseError} {cursor : Cursor} → IsMessage wrong → (e : ParseError)
+    → (e ≡ parse.Memory) ⊎ AmongFault (QuotesFault wrong) cursor e → (e ≡ parse.Memory) ⊎ IsMessage e
+quotes_message is e (inl memory) = inl memory
+quotes_message is e (inr (inl cut)) = inr cut.2
+quotes_message is e (inr (inr one)) = inr (subst IsMessage (sym one.has.0) is)
+
+pub quotes_hex : (field : HexField) (cursor : Cursor) (e : ParseError)
+    → (e ≡ parse.Memory) ⊎ AmongFault (QuotesFault (parse.Message field.quoted)) cursor e → (e ≡ parse.Memory) ⊎ HexFault field cursor e
+quotes_hex field cursor e (inl memory) = inl memory
+quotes_hex field cursor e (inr fault) = inr (inl fault)
+
+-- ---- hexadecimal digits
+
+same_words : (r : Result (List Word) WordsError) (a b : List Word) → r ≡ Ok a → r ≡ Ok b → a ≡ b
+same_words r a b e f = let both : ◌≡◌ {A = Result (List Word) WordsError} (Ok a) (Ok b) = sym e ∙ f in cc
+
+odd_by : (b : Bool) (r : Result (List ℕ) FromHexError) (v : List ℕ) → b ≡ true → cond b (Err OddLength) r ≡ Ok v → ⊥
+odd_by true r v h e = absurd (cc)
+odd_by false r v h e = absurd (cc)
+
+pub odd_digits : (octets v : List ℕ) → length octets % 2 ≡ 1 → hex_of octets ≡ Ok v → ⊥
+odd_digits octets v odd e = odd_by (length octets % 2 == 1) (decode_pairs 0 octets) v (grind (arith, nat_tests)) e
+
+pub no_digits : (octets : List ℕ) (cursor : Cursor) → TookAll AreJoined octets cursor → ((v : List ℕ) → hex_of octets ≡ Ok v → ⊥) → NoneOfAll AreHex cursor
+no_digits octets cursor took none = record {
+  none = λ v words cut is.
+      let ws : words ≡ took.words = same_words (words_at cursor) words took.words cut took.cut in
+      none v (ap hex_of (took.value.same ∙ ap joined (sym ws)) ∙ is.digits);
+}
+
+pub odd_fault : (field : HexField) (octets : List ℕ) (cursor : Cursor) → TookAll AreJoined octets cursor → length octets % 2 ≡ 1
+    → DigitsFault field cursor (parse.Message field.odd)
+odd_fault field octets cursor took odd = record {
+  words = took.words;
+  cut = took.cut;
+  bare = took.value.bare;
+  why = inl (refl, ap (λ (os : List ℕ). length os % 2) (sym took.value.same) ∙ odd);
+}
+
+pub digit_fault : (field : HexField) (octets : List ℕ) (cursor : Cursor) → TookAll AreJoined octets cursor → length octets % 2 ≢ 1
+    → ((v : List ℕ) → hex_of octets ≡ Ok v → ⊥) → DigitsFault field cursor (parse.Message field.digit)
+digit_fault field octets cursor took even none = record {
+  words = took.words;
+  cut = took.cut;
+  bare = took.value.bare;
+  why = inr (
+    refl,
+    subst (λ (os : List ℕ). length os % 2 ≢ 1) took.value.same even,
+    subst (λ (os : List ℕ). (v : List ℕ) → hex_of os ≡ Ok v → ⊥) took.value.same none,
+  );
+}
 
 -- ---- unknown data
 
@@ -129,9 +193,6 @@ no_data old mid took h = record {
 
 pub unknown_no_data : {n : ℕ} (e : ParseError) (old mid : Cursor) → TookFirst (number 2) n old mid → UnlessMemory e (NoneOfAll AreHex mid) → UnlessMemory e (NoneOfAll AreUnknown old)
 unknown_no_data e old mid took h = unless_map e (NoneOfAll AreHex mid) (NoneOfAll AreUnknown old) (no_data old mid took) h
-
-same_words : (r : Result (List Word) WordsError) (a b : List Word) → r ≡ Ok a → r ≡ Ok b → a ≡ b
-same_words r a b e f = let both : ◌≡◌ {A = Result (List Word) WordsError} (Ok a) (Ok b) = sym e ∙ f in cc
 
 same_hex : (v octets : List ℕ) (words : List Word) → AreHex v words → AreHex octets words → v ≡ octets
 same_hex v octets words a b = let p = a.digits in let q = b.digits in cc
@@ -194,6 +255,9 @@ strings_not_cut old now strings e so end = record {
       let both : Ok words ≡ Err e = sym cut ∙ other in
       absurd (cc);
 }
+
+pub strings_cut : (old now : Cursor) (strings : List (List ℕ)) (e : WordsError) → StringsSo old now strings → words_at now ≡ Err e → words_at old ≡ Err e
+strings_cut old now strings e so end = so.behind ∙ ap (with_words so.words) end ∙ words_err so.words e
 
 not_string : (words : List Word) (word : Word) (behind : Result (List Word) WordsError) (all : List Word) (v : List (List ℕ)) → NoValueOf string word
     → with_words words (with_word word behind) ≡ Ok all → AreStrings v all → ⊥

@@ -1,10 +1,13 @@
 -- The forms of words: which values of a field a word of a text has (RFC 1035, 5.1).
-use Rattle.std.specs.Prelude.{◌≡◌, ℕ, ◌*◌, ◌^◌, ◌<◌, ◌≤◌, true, false, List, length, map}
+use Rattle.std.specs.Prelude.{◌≡◌, ◌⊎◌, ℕ, ◌*◌, ◌^◌, ◌<◌, ◌≤◌, true, false, List, length, map}
 use Rattle.std.specs.Str.Parse.{IsNumeral, digits_value}
 use Rattle.dns_fields.specs.Fields.{Kind, Number, Text, Rest, Value}
 use Rattle.dns_types.specs.RecordTypes.{IsTypeText}
 use Rattle.dns_types.specs.declared.record_type.RecordType.{RecordType}
+use Rattle.dns_types.specs.declared.error.ParseError.{ParseError}
+use Rattle.dns_types.specs.declared.error.ParseError.TheVariants as parse
 use Rattle.dns_words.specs.Forms.{Form}
+use Rattle.dns_zone_words.specs.declared.field.StringField.{StringField}
 use Rattle.dns_zone_words.specs.Letters.{letters, octet_of, escapes_stand}
 use Rattle.dns_zone_words.specs.Words.{Word}
 
@@ -34,6 +37,12 @@ pub record IsText (octets : List ℕ) (word : Word) : Type 0 where
 -- a character string (RFC 1035, 3.3)
 abbrev pub string : ZoneForm Text
 string = record { is = λ octets word. IsText octets word × (length octets ≤ 255) }
+
+-- why a word is no character string, as the field's texts say
+abbrev pub StringFault : StringField → Word → ParseError → Type 0
+StringFault field word e =
+    ((e ≡ parse.Message field.escape) × (escapes_stand word.octets ≡ false))
+    ⊎ ((e ≡ parse.Message field.long) × (escapes_stand word.octets ≡ true) × (255 < length (map octet_of (letters word.octets))))
 
 -- octets to the end of a record, of any number
 abbrev pub text : ZoneForm Rest

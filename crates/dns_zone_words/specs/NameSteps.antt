@@ -1,8 +1,11 @@
 -- What the code of names keeps.
-use Rattle.std.specs.Prelude.{◌≡◌, ℕ, Bool, true, List, [], ◌∷◌, ◌++◌}
+use Rattle.std.specs.Prelude.{◌≡◌, ◌⊎◌, ℕ, ◌+◌, ◌<◌, ◌≤◌, Bool, true, List, [], ◌∷◌, ◌++◌, length}
 use Rattle.dns_fields.specs.Labels.{DomainName, AreLabels, FitsName, wire}
 use Rattle.dns_zone_words.specs.Letters.{escapes_stand}
 use Rattle.dns_zone_words.specs.NameWords.{labelled}
+use Rattle.dns_zone_words.specs.declared.field.NameField.{NameField}
+use Rattle.dns_types.specs.declared.error.ParseError.{ParseError}
+use Rattle.dns_types.specs.declared.error.ParseError.TheVariants as parse
 
 -- the octets are labels with their lengths, and a 0 behind them
 pub record IsWire (octets : List ℕ) : Type 0 where
@@ -27,3 +30,9 @@ pub record LabelsRead (text : List ℕ) (mark : Bool) (octets : List ℕ) : Type
 -- the text has no labels of a name
 pub record NoLabels (text : List ℕ) : Type 0 where
   pub none : escapes_stand text ≡ true → AreLabels (labelled text).labels → FitsName (labelled text).labels → ⊥
+
+-- a label behind others has no octet, or no room
+abbrev pub NotClosed : NameField → List ℕ → List ℕ → ParseError → Type 0
+NotClosed field octets label e =
+    ((e ≡ parse.Message field.empty_label) × (length label ≡ 0))
+    ⊎ ((e ≡ parse.Message field.long_name) × (1 ≤ length label) × (253 < length octets + length label))

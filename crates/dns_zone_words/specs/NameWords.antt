@@ -1,11 +1,14 @@
 -- Names in words (RFC 1035, 5.1).
-use Rattle.std.specs.Prelude.{◌≡◌, ℕ, Bool, true, false, ◌==◌, if◌then◌else◌, List, [], ◌∷◌, ◌++◌, Option, Some}
+use Rattle.std.specs.Prelude.{◌≡◌, ◌⊎◌, ℕ, ◌+◌, ◌<◌, Bool, true, false, ◌==◌, if◌then◌else◌, List, [], ◌∷◌, ◌++◌, length, Option, Some, None}
 use Rattle.dns_fields.specs.Fields.{Name}
-use Rattle.dns_fields.specs.Labels.{DomainName, IsName}
+use Rattle.dns_fields.specs.Labels.{DomainName, IsName, wire}
 use Rattle.dns_names_wire.specs.NameValues.{root_name, completed}
 use Rattle.dns_zone_words.specs.Forms.{ZoneForm}
 use Rattle.dns_zone_words.specs.Letters.{Letter, letters, octet_of, stands_for, escapes_stand}
 use Rattle.dns_zone_words.specs.Words.{Word}
+use Rattle.dns_zone_words.specs.declared.field.NameField.{NameField}
+use Rattle.dns_types.specs.declared.error.ParseError.{ParseError}
+use Rattle.dns_types.specs.declared.error.ParseError.TheVariants as parse
 
 -- the octets of letters, cut at their dots, behind the front of a part
 abbrev pub parts_from : List ℕ → List Letter → List (List ℕ)
@@ -47,3 +50,33 @@ pub record IsNameWord (origin : Option DomainName) (name : DomainName) (word : W
 -- a name, which an origin completes
 abbrev pub name : Option DomainName → ZoneForm Name
 name origin = record { is = IsNameWord origin }
+
+-- ---- why a word is no name, as the field's texts say
+
+-- one of the labels has this
+pub record HasLabel (holds : List ℕ → Type 0) (labels : List (List ℕ)) : Type 0 where
+  pub front : List (List ℕ)
+  pub label : List ℕ
+  pub behind : List (List ℕ)
+  pub all : labels ≡ front ++ label ∷ behind
+  pub is : holds label
+
+-- more than 255 octets with the 0 at the end
+abbrev pub IsLongName : List (List ℕ) → Type 0
+IsLongName labels = 255 < length (wire labels) + 1
+
+-- a `\` without a meaning, an empty label, one of more than 63 octets, or too many of them
+abbrev pub LabelsFault : NameField → List ℕ → ParseError → Type 0
+LabelsFault field text e =
+    ((e ≡ parse.Message field.escape) × (escapes_stand text ≡ false))
+    ⊎ ((e ≡ parse.Message field.empty_label) × HasLabel (λ label. length label ≡ 0) (labelled text).labels)
+    ⊎ ((e ≡ parse.Message field.long_label) × HasLabel (λ label. 63 < length label) (labelled text).labels)
+    ⊎ ((e ≡ parse.Message field.long_name) × IsLongName (labelled text).labels)
+
+-- quotes, `@` without an origin, a fault of the labels, or too many of them with the origin's
+abbrev pub NameFault : NameField → Option DomainName → Word → ParseError → Type 0
+NameFault field origin word e =
+    ((e ≡ parse.Message field.quoted) × (word.quoted ≡ true))
+    ⊎ ((e ≡ parse.Message field.no_origin) × (is_alone 64 word.octets ≡ true) × (origin ≡ None))
+    ⊎ LabelsFault field word.octets e
+    ⊎ ((e ≡ parse.Message field.long_name) × IsLongName (completed (labelled word.octets) origin).labels)

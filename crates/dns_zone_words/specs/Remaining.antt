@@ -1,13 +1,22 @@
 -- All words that are left of a text: strings, base64, hexadecimal digits, and the form of unknown data (RFC 3597, 5).
-use Rattle.std.specs.Prelude.{◌≡◌, ℕ, ◌^◌, ◌<◌, false, List, [], ◌∷◌, Result, Ok, Err, length}
+use Rattle.std.specs.Prelude.{◌≡◌, ◌⊎◌, ℕ, ◌^◌, ◌%◌, ◌≢◌, ◌<◌, true, false, List, [], ◌∷◌, Result, Ok, Err, length}
 use Rattle.std.specs.List.{flat_map}
 use Rattle.base64.specs.Engines.{standard}
 use Rattle.base64.specs.GeneralPurpose.{decode_of as base64_of}
 use Rattle.hex.specs.Hex.{decode_of as hex_of}
 use Rattle.dns_types.specs.declared.error.ParseError.{ParseError}
+use Rattle.dns_types.specs.declared.error.ParseError.TheVariants as parse
 use Rattle.dns_words.specs.Reads.{UnlessMemory}
+use Rattle.dns_zone_words.specs.declared.field.HexField.{HexField}
 use Rattle.dns_zone_words.specs.Forms.{IsNumber, string}
-use Rattle.dns_zone_words.specs.Words.{Word, Cursor, words_at}
+use Rattle.dns_zone_words.specs.Words.{Word, Cursor, words_at, with_word}
+use Rattle.dns_zone_words.specs.ZoneReads.{IsCutRefused}
+use Rattle.dns_zone_words.specs.declared.words_error.WordsError.{WordsError}
+
+-- words, and those behind them
+abbrev pub with_words : List Word → Result (List Word) WordsError → Result (List Word) WordsError
+with_words [] behind = behind
+with_words (word ∷ words) behind = with_word word (with_words words behind)
 
 -- none of the words stands in quotes
 abbrev pub AllBare : List Word → Type 0
@@ -63,3 +72,31 @@ pub record NoneOfAll {V : Type 0} (is : V → List Word → Type 0) (cursor : Cu
 abbrev pub ReadsAll : {T V : Type 0} → (V → List Word → Type 0) → (T → V) → Result T ParseError → Cursor → Type 0
 ReadsAll is view (Ok x) cursor = TookAll is (view x) cursor
 ReadsAll is view (Err e) cursor = UnlessMemory e (NoneOfAll is cursor)
+
+-- one of the words has a fault, of which the refusal tells
+pub record OneFault (fault : Word → ParseError → Type 0) (cursor : Cursor) (e : ParseError) : Type 0 where
+  pub front : List Word
+  pub word : Word
+  pub behind : Result (List Word) WordsError
+  pub cut : words_at cursor ≡ with_words front (with_word word behind)
+  pub has : fault word e
+
+-- the text is not cut into words, or one of them has a fault
+abbrev pub AmongFault : (Word → ParseError → Type 0) → Cursor → ParseError → Type 0
+AmongFault fault cursor e = IsCutRefused cursor e ⊎ OneFault fault cursor e
+
+-- the word stands in quotes
+abbrev pub QuotesFault : ParseError → Word → ParseError → Type 0
+QuotesFault wrong word e = (e ≡ wrong) × (word.quoted ≡ true)
+
+-- The words are not hexadecimal digits: their number is odd, or an octet is none of them.
+pub record DigitsFault (field : HexField) (cursor : Cursor) (e : ParseError) : Type 0 where
+  pub words : List Word
+  pub cut : words_at cursor ≡ Ok words
+  pub bare : AllBare words
+  pub why : ((e ≡ parse.Message field.odd) × (length (joined words) % 2 ≡ 1))
+      ⊎ ((e ≡ parse.Message field.digit) × (length (joined words) % 2 ≢ 1) × ((octets : List ℕ) → hex_of (joined words) ≡ Ok octets → ⊥))
+
+-- the text is not cut into words, one of them stands in quotes, or they are not hexadecimal digits
+abbrev pub HexFault : HexField → Cursor → ParseError → Type 0
+HexFault field cursor e = AmongFault (QuotesFault (parse.Message field.quoted)) cursor e ⊎ DigitsFault field cursor e

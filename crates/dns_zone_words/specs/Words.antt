@@ -123,3 +123,9 @@ words_at cursor = words_from (between cursor.depth cursor.joined) cursor.text
 -- the words of a text
 abbrev pub zone_words : List ℕ → Result (List Word) WordsError
 zone_words text = words_from (between zero false) text
+
+-- the words behind the first, where there is one
+abbrev pub behind_first : Result (List Word) WordsError → Result (List Word) WordsError
+behind_first (Ok []) = Ok []
+behind_first (Ok (word ∷ words)) = Ok words
+behind_first (Err e) = Err e

@@ -52,3 +52,14 @@ LacksFirst missing cursor e = ((e ≡ missing) × (words_at cursor ≡ Ok [])) �
 -- the refusal names the field, or the text is not cut into words
 abbrev pub IsOfFieldOrCut : Field → Cursor → ParseError → Type 0
 IsOfFieldOrCut field cursor e = IsOfField field e ⊎ IsCutRefused cursor e
+
+-- the first word has a fault, of which the refusal tells
+pub record FirstFault (fault : Word → ParseError → Type 0) (cursor : Cursor) (e : ParseError) : Type 0 where
+  pub word : Word
+  pub behind : Result (List Word) WordsError
+  pub first : words_at cursor ≡ with_word word behind
+  pub has : fault word e
+
+-- there is no first word, or it has a fault
+abbrev pub WhyFirst : ParseError → (Word → ParseError → Type 0) → Cursor → ParseError → Type 0
+WhyFirst missing fault cursor e = LacksFirst missing cursor e ⊎ FirstFault fault cursor e

@@ -1,13 +1,14 @@
 //! Fields that are read from the next word of a text.
 
-ghost use Rattle.std.specs.Prelude.{◌≡◌, ◌⊎◌, IfOk, IfErr};
+ghost use Rattle.std.specs.Prelude.{◌≡◌, ◌⊎◌, IfOk, IfErr, OnErr};
 ghost use Rattle.std.specs.Net.Addr.{ipv4_octets, ipv6_octets};
 ghost use Rattle.dns_words.specs.Forms.{ttl, ipv4, ipv6};
-ghost use Rattle.dns_zone_words.specs.Forms.{bare, number, string, text};
+ghost use Rattle.dns_zone_words.specs.Forms.{bare, number, string, text, StringFault};
 ghost use Rattle.dns_zone_words.specs.Views.{word_value};
-ghost use Rattle.dns_zone_words.specs.Words.{words_at, with_word};
-ghost use Rattle.dns_zone_words.specs.ZoneReads.{ReadsFirst, LacksFirst, IsOfFieldOrCut};
+ghost use Rattle.dns_zone_words.specs.Words.{words_at, with_word, behind_first};
+ghost use Rattle.dns_zone_words.specs.ZoneReads.{ReadsFirst, LacksFirst, IsOfFieldOrCut, WhyFirst};
 
+use crate::field::StringField;
 use crate::numbers::{u8_of, u16_of, u32_of};
 use crate::texts::{ipv4_of, ipv6_of, string_of, text_of, ttl_of};
 use crate::words::{ZoneWord, ZoneWords};
@@ -17,7 +18,7 @@ use std::alloc::Global;
 use std::net::{Ipv4Addr, Ipv6Addr};
 
 /// The next word. Refused by [`MissingToken`](ParseError::MissingToken) of the text `missing` where none is left, and
-/// by [`Message`](ParseError::Message) where the text is not cut into words.
+/// by [`Message`](ParseError::Message) where the text is not cut into words; nothing is taken then.
 #[inline]
 pub fn some_word<'a>(
     words: &mut ZoneWords<'a>,
@@ -25,6 +26,8 @@ pub fn some_word<'a>(
 ) -> Result<ZoneWord<'a>, ParseError>
     ensures word { IfOk result (λ w. words_at words.old ≡ with_word (word_value w) (words_at words.new)) }
     ensures refused { IfErr result (LacksFirst (ParseError.MissingToken missing.entry) words.old) }
+    ensures unchanged { OnErr result (words.new ≡ words.old) }
+    ensures behind { words_at words.new ≡ behind_first (words_at words.old) }
 {
     match words.next_word()? {
         Some(word) => Ok(word),
@@ -32,11 +35,13 @@ pub fn some_word<'a>(
     }
 }
 
-/// A decimal number of 8 bits; the refusal names the field. Takes no memory.
+/// A decimal number of 8 bits; the refusal names the field. The word is taken, even where it is refused. Takes no
+/// memory.
 #[inline]
 pub fn next_u8(words: &mut ZoneWords<'_>, field: Field) -> Result<u8, ParseError>
     ensures reads { ReadsFirst (number 1) (λ n. n) result words.old words.new }
     ensures why { IfErr result (IsOfFieldOrCut field words.old) }
+    ensures behind { words_at words.new ≡ behind_first (words_at words.old) }
 {
     let word = some_word(words, field.name)?;
     u8_of(word, field.wrong)
@@ -47,6 +52,7 @@ pub fn next_u8(words: &mut ZoneWords<'_>, field: Field) -> Result<u8, ParseError
 pub fn next_u16(words: &mut ZoneWords<'_>, field: Field) -> Result<u16, ParseError>
     ensures reads { ReadsFirst (number 2) (λ n. n) result words.old words.new }
     ensures why { IfErr result (IsOfFieldOrCut field words.old) }
+    ensures behind { words_at words.new ≡ behind_first (words_at words.old) }
 {
     let word = some_word(words, field.name)?;
     u16_of(word, field.wrong)
@@ -57,6 +63,7 @@ pub fn next_u16(words: &mut ZoneWords<'_>, field: Field) -> Result<u16, ParseErr
 pub fn next_u32(words: &mut ZoneWords<'_>, field: Field) -> Result<u32, ParseError>
     ensures reads { ReadsFirst (number 4) (λ n. n) result words.old words.new }
     ensures why { IfErr result (IsOfFieldOrCut field words.old) }
+    ensures behind { words_at words.new ≡ behind_first (words_at words.old) }
 {
     let word = some_word(words, field.name)?;
     u32_of(word, field.wrong)
@@ -67,6 +74,7 @@ pub fn next_u32(words: &mut ZoneWords<'_>, field: Field) -> Result<u32, ParseErr
 pub fn next_ttl(words: &mut ZoneWords<'_>, field: Field) -> Result<u32, ParseError>
     ensures reads { ReadsFirst (bare (ttl 4294967295)) (λ n. n) result words.old words.new }
     ensures why { IfErr result (IsOfFieldOrCut field words.old) }
+    ensures behind { words_at words.new ≡ behind_first (words_at words.old) }
 {
     let word = some_word(words, field.name)?;
     ttl_of(word, field.wrong)
@@ -77,6 +85,7 @@ pub fn next_ttl(words: &mut ZoneWords<'_>, field: Field) -> Result<u32, ParseErr
 pub fn next_ipv4(words: &mut ZoneWords<'_>, field: Field) -> Result<Ipv4Addr, ParseError>
     ensures reads { ReadsFirst (bare ipv4) ipv4_octets result words.old words.new }
     ensures why { IfErr result (IsOfFieldOrCut field words.old) }
+    ensures behind { words_at words.new ≡ behind_first (words_at words.old) }
 {
     let word = some_word(words, field.name)?;
     ipv4_of(word, field.wrong)
@@ -87,23 +96,26 @@ pub fn next_ipv4(words: &mut ZoneWords<'_>, field: Field) -> Result<Ipv4Addr, Pa
 pub fn next_ipv6(words: &mut ZoneWords<'_>, field: Field) -> Result<Ipv6Addr, ParseError>
     ensures reads { ReadsFirst (bare ipv6) ipv6_octets result words.old words.new }
     ensures why { IfErr result (IsOfFieldOrCut field words.old) }
+    ensures behind { words_at words.new ≡ behind_first (words_at words.old) }
 {
     let word = some_word(words, field.name)?;
     ipv6_of(word, field.wrong)
 }
 
-/// A character string of at most 255 octets (`string_of`); the refusal names the field. Takes memory once.
+/// A character string of at most 255 octets (`string_of`); the refusal names the field. The word is taken, even where it
+/// is refused. Takes memory once.
 #[inline]
 pub fn next_string(
     alloc: Global,
     words: &mut ZoneWords<'_>,
-    field: Field,
+    field: &StringField,
 ) -> Result<Octets, ParseError>
     ensures reads { ReadsFirst string (λ x. x) result words.old words.new }
-    ensures why { IfErr result (λ e. (e ≡ ParseError.Memory) ⊎ IsOfFieldOrCut field words.old e) }
+    ensures why { IfErr result (λ e. (e ≡ ParseError.Memory) ⊎ WhyFirst (ParseError.MissingToken field.now.name) (StringFault field.now) words.old e) }
+    ensures behind { words_at words.new ≡ behind_first (words_at words.old) }
 {
     let word = some_word(words, field.name)?;
-    string_of(alloc, word, field.wrong)
+    string_of(alloc, word, field)
 }
 
 /// Octets of any number (`text_of`), as `next_string`.
@@ -115,6 +127,7 @@ pub fn next_text(
 ) -> Result<Octets, ParseError>
     ensures reads { ReadsFirst text (λ x. x) result words.old words.new }
     ensures why { IfErr result (λ e. (e ≡ ParseError.Memory) ⊎ IsOfFieldOrCut field words.old e) }
+    ensures behind { words_at words.new ≡ behind_first (words_at words.old) }
 {
     let word = some_word(words, field.name)?;
     text_of(alloc, word, field.wrong)

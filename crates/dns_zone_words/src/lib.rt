@@ -12,6 +12,7 @@ pub mod words;
 pub mod words_error;
 
 pub use dns_words::{Field, number_field};
+pub use field::{HexField, NameField, StringField};
 pub use fields::{
     next_ipv4, next_ipv6, next_string, next_text, next_ttl, next_u8, next_u16, next_u32, some_word,
 };

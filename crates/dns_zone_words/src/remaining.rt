@@ -1,13 +1,16 @@
 //! All words that are left of a text: strings, base64, hexadecimal digits, and the form of unknown data (RFC 3597, 5).
 
 ghost use Rattle.std.specs.Prelude.{◌≡◌, ◌≢◌, ◌↔◌, ◌⊎◌, [], Ok, IsTrue, IfErr, OnOk, OnErr};
+ghost use Rattle.dns_zone_words.specs.Forms.{StringFault};
 ghost use Rattle.dns_zone_words.specs.Refusals.{IsMessage, IsMissing};
-ghost use Rattle.dns_zone_words.specs.Remaining.{AreJoined, AreHex, AreBase64, AreUnknown, AreStrings, IsUnknownMark, ReadsAll};
+ghost use Rattle.dns_zone_words.specs.Remaining.{AreJoined, AreHex, AreBase64, AreUnknown, AreStrings, IsUnknownMark, ReadsAll, AmongFault, QuotesFault, HexFault};
 ghost use Rattle.dns_zone_words.specs.Views.{word_value};
 ghost use Rattle.dns_zone_words.specs.Words.{words_at};
 ghost use Rattle.dns_zone_words.specs.ZoneReads.{IsCutRefused};
 
+use crate::field::{HexField, StringField};
 use crate::fields::next_u16;
+use crate::hex_field;
 use crate::texts::string_of;
 use crate::words::{ZoneWord, ZoneWords};
 use base64::DecodeAllocError;
@@ -19,8 +22,9 @@ use std::alloc::Global;
 
 const UNKNOWN_LENGTH: Field = number_field!("length of unknown data");
 
-const UNKNOWN_DATA: &str =
-    "unknown data is not as many octets in hexadecimal digits as its length says";
+const UNKNOWN_DATA: HexField = hex_field!("unknown data");
+
+const OTHER_LENGTH: &str = "unknown data is not as many octets as its length says";
 
 /// Whether the word is `\#` without quotes, which begins the form of unknown data (RFC 3597, 5).
 #[inline]
@@ -30,21 +34,25 @@ pub fn is_unknown_mark(word: ZoneWord<'_>) -> bool
     !word.quoted && word.raw.len() == 2 && word.raw[0] == b'\\' && word.raw[1] == b'#'
 }
 
-/// The octets of all words that are left, in hexadecimal digits of either case; no words give none. Words in quotes, an
-/// odd number of digits and other characters are refused by [`Message`](ParseError::Message) of the text `wrong`.
+/// The octets of all words that are left, in hexadecimal digits of either case; no words give none. Refused by
+/// [`Message`](ParseError::Message): of the field's text where a word stands in quotes, or else where the number of
+/// digits is odd, or else where an octet is no digit.
 pub fn all_hex(
     alloc: Global,
     words: &mut ZoneWords<'_>,
-    wrong: &'static str,
+    field: &HexField,
 ) -> Result<Octets, ParseError>
     ensures reads { ReadsAll AreHex (λ x. x) result words.old }
-    ensures why { IfErr result (λ e. (e ≡ ParseError.Memory) ⊎ IsMessage e) }
+    ensures why { IfErr result (λ e. (e ≡ ParseError.Memory) ⊎ HexFault field.now words.old e) }
 {
-    let digits = all_joined(alloc, words, wrong)?;
+    let digits = all_joined(alloc, words, field.quoted)?;
+    if digits.len() % 2 == 1 {
+        return Err(ParseError::Message(field.odd));
+    }
     match hex::decode(alloc, digits.as_slice()) {
         Ok(octets) => Ok(Octets::from_vec(octets)),
         Err(FromHexError::OutOfMemory) => Err(ParseError::Memory),
-        Err(_) => Err(ParseError::Message(wrong)),
+        Err(_) => Err(ParseError::Message(field.digit)),
     }
 }
 
@@ -68,34 +76,35 @@ pub fn all_base64(
 
 /// The octets that stand behind `\#`: their number of 16 bits, and as many octets in hexadecimal digits, in words
 /// without quotes (RFC 3597, 5). Refused by [`MissingToken`](ParseError::MissingToken) where no length stands there,
-/// and by [`Message`](ParseError::Message) where it is no number, or where what follows is something else.
+/// and by [`Message`](ParseError::Message) where it is no number, where what follows is refused by `all_hex`, or where it
+/// is of another number of octets.
 pub fn unknown_data(alloc: Global, words: &mut ZoneWords<'_>) -> Result<Octets, ParseError>
     ensures reads { ReadsAll AreUnknown (λ x. x) result words.old }
     ensures why { IfErr result (λ e. (e ≡ ParseError.Memory) ⊎ IsMissing e ⊎ IsMessage e) }
 {
     let length = next_u16(words, UNKNOWN_LENGTH)?;
-    let octets = all_hex(alloc, words, UNKNOWN_DATA)?;
+    let octets = all_hex(alloc, words, &UNKNOWN_DATA)?;
     if octets.len() != length as usize {
-        return Err(ParseError::Message(UNKNOWN_DATA));
+        return Err(ParseError::Message(OTHER_LENGTH));
     }
     Ok(octets)
 }
 
-/// All words that are left as character strings of at most 255 octets; no words give none. Any other word is refused by
-/// [`Message`](ParseError::Message) of the text `wrong`.
+/// All words that are left as character strings of at most 255 octets (`string_of`); no words give none. Refused by
+/// [`Message`](ParseError::Message): where a word is no such string, of the field's text for it.
 pub fn all_strings(
     alloc: Global,
     words: &mut ZoneWords<'_>,
-    wrong: &'static str,
+    field: &StringField,
 ) -> Result<Strings, ParseError>
     ensures reads { ReadsAll AreStrings (λ x. x) result words.old }
-    ensures why { IfErr result (λ e. (e ≡ ParseError.Memory) ⊎ IsMessage e) }
+    ensures why { IfErr result (λ e. (e ≡ ParseError.Memory) ⊎ AmongFault (StringFault field.now) words.old e) }
 {
     let mut strings = Strings::new(alloc);
     'words: loop {
         match words.next_word()? {
             Some(word) => {
-                let string = string_of(alloc, word, wrong)?;
+                let string = string_of(alloc, word, field)?;
                 strings.push(string)?;
             }
             None => return Ok(strings),
@@ -122,7 +131,7 @@ fn all_joined(
     wrong: &'static str,
 ) -> Result<Vec<u8>, ParseError>
     ensures reads { ReadsAll AreJoined (λ v. v.items) result words.old }
-    ensures why { IfErr result (λ e. (e ≡ ParseError.Memory) ⊎ IsMessage e) }
+    ensures why { IfErr result (λ e. (e ≡ ParseError.Memory) ⊎ AmongFault (QuotesFault (ParseError.Message wrong.entry)) words.old e) }
 {
     let mut joined = Vec::with_capacity(alloc, words.octets_left())?;
     'words: loop {

@@ -1,13 +1,15 @@
 //! Strings, times to live, addresses and record types in words.
 
-ghost use Rattle.std.specs.Prelude.{◌≡◌, ◌≢◌, ◌⊎◌, ◌↔◌, slice_index, EachIndex, IsTrue, IfErr};
+ghost use Rattle.std.specs.Prelude.{◌≡◌, ◌≢◌, ◌⊎◌, ◌↔◌, false, slice_index, EachIndex, IsTrue, IfErr};
 ghost use Rattle.std.specs.Net.Addr.{ipv4_octets, ipv6_octets};
 ghost use Rattle.dns_words.specs.Forms.{ttl, ipv4, ipv6};
 ghost use Rattle.dns_words.specs.Reads.{Decides};
-ghost use Rattle.dns_zone_words.specs.Forms.{bare, string, text, IsType};
+ghost use Rattle.dns_zone_words.specs.Forms.{bare, string, text, IsType, StringFault};
+ghost use Rattle.dns_zone_words.specs.Letters.{escapes_stand};
 ghost use Rattle.dns_zone_words.specs.Views.{word_value};
 ghost use Rattle.dns_zone_words.specs.ZoneReads.{ReadsAs};
 
+use crate::field::StringField;
 use crate::words::ZoneWord;
 use dns_types::{Octets, ParseError, RecordType};
 use dns_words::texts::ttl_of as ttl_of_text;
@@ -16,26 +18,28 @@ use std::net::{Ipv4Addr, Ipv6Addr};
 use std::str;
 
 /// A character string of at most 255 octets, in quotes or not: each letter's octet. Any other word is refused by
-/// [`Message`](ParseError::Message) of the text `wrong`. Takes memory once.
+/// [`Message`](ParseError::Message) of the field's text for it: of a `\` without a meaning, or else of more than 255
+/// octets. Takes memory once.
 pub fn string_of(
     alloc: Global,
     word: ZoneWord<'_>,
-    wrong: &'static str,
+    field: &StringField,
 ) -> Result<Octets, ParseError>
     ensures reads { ReadsAs string (λ x. x) result (word_value word.entry) }
-    ensures why { IfErr result (λ e. (e ≡ ParseError.Memory) ⊎ (e ≡ ParseError.Message wrong.entry)) }
+    ensures why { IfErr result (λ e. (e ≡ ParseError.Memory) ⊎ StringFault field.now (word_value word.entry) e) }
 {
-    let octets = text_of(alloc, word, wrong)?;
+    let octets = text_of(alloc, word, field.escape)?;
     if octets.len() > 255 {
-        return Err(ParseError::Message(wrong));
+        return Err(ParseError::Message(field.long));
     }
     Ok(octets)
 }
 
-/// As `string_of`, of any number of octets.
+/// As `string_of`, of any number of octets: refused by [`Message`](ParseError::Message) of the text `wrong` where a `\`
+/// has no meaning.
 pub fn text_of(alloc: Global, word: ZoneWord<'_>, wrong: &'static str) -> Result<Octets, ParseError>
     ensures reads { ReadsAs text (λ x. x) result (word_value word.entry) }
-    ensures why { IfErr result (λ e. (e ≡ ParseError.Memory) ⊎ (e ≡ ParseError.Message wrong.entry)) }
+    ensures why { IfErr result (λ e. (e ≡ ParseError.Memory) ⊎ ((e ≡ ParseError.Message wrong.entry) × (escapes_stand word.entry.raw.now ≡ false))) }
 {
     if has_no_escape(word.raw) {
         return Ok(Octets::from_slice(alloc, word.raw)?);

@@ -3,15 +3,18 @@
 use anyhow::{Result, bail};
 use dns_names_wire::{Name, ParseError};
 use dns_zone_words::{
-    Field, ZoneWords, all_base64, all_strings, ipv4_of, is_unknown_mark, name_field, next_name,
-    next_ttl, next_u16, number_field, some_word, type_of, unknown_data,
+    Field, NameField, StringField, ZoneWords, all_base64, all_strings, ipv4_of, is_unknown_mark,
+    name_field, next_name, next_ttl, next_u16, number_field, some_word, string_field, type_of,
+    unknown_data,
 };
 use std::alloc::Global;
 use std::fmt;
 
 const NUMBER: Field = number_field!("number");
 
-const NAME: Field = name_field!("name");
+const NAME: NameField = name_field!("name");
+
+const STRING: StringField = string_field!("string");
 
 // The value, or why there is none.
 fn show<T: fmt::Debug + Drop>(
@@ -24,11 +27,12 @@ fn show<T: fmt::Debug + Drop>(
     }
 }
 
-/// The value of a text's first words as a field of a kind, or why it is refused. Names are below `ex`.
+/// The value of a text's first words as a field of a kind, or why it is refused. Names are below `ex`, but
+/// for a `name alone`.
 pub fn field(alloc: Global, kind: &str, text: &str) -> Result<String> {
     let mut words = ZoneWords::new(text.as_bytes());
     match kind {
-        "strings" => show(alloc, all_strings(alloc, &mut words, "no string")),
+        "strings" => show(alloc, all_strings(alloc, &mut words, &STRING)),
         "base64" => show(alloc, all_base64(alloc, &mut words, "no base64")),
         "number" => show(alloc, next_u16(&mut words, NUMBER)),
         "ttl" => show(alloc, next_ttl(&mut words, NUMBER)),
@@ -39,7 +43,10 @@ pub fn field(alloc: Global, kind: &str, text: &str) -> Result<String> {
 fn word_field(alloc: Global, kind: &str, mut words: ZoneWords<'_>) -> Result<String> {
     if kind == "name" {
         let origin = Name::from_ascii(alloc, "ex.")?;
-        return show(alloc, next_name(alloc, &mut words, Some(&origin), NAME));
+        return show(alloc, next_name(alloc, &mut words, Some(&origin), &NAME));
+    }
+    if kind == "name alone" {
+        return show(alloc, next_name(alloc, &mut words, None, &NAME));
     }
     let word = some_word(&mut words, "word")?;
     match kind {
