@@ -32,7 +32,9 @@ pub fn opt_order(a: &OPT, b: &OPT) -> Option<Ordering>
     order_of_many(a, b)
 }
 
-// By the least options that differ. Lists with the same octets that are not equal have no order here.
+// By the least options that differ. Lists with the same octets that are not equal have no order here. What the walks keep
+// takes 4 KiB of the stack, which the order of other records would pay for where this were inlined.
+#[inline(never)]
 fn order_of_many(a: &OPT, b: &OPT) -> Option<Ordering>
     requires first { pairs_emittable a.now ≡ true }
     requires second { pairs_emittable b.now ≡ true }
