@@ -54,6 +54,17 @@ macro_rules! string_field {
     };
 }
 
+// Which field octets of any number are of.
+#[macro_export]
+macro_rules! text_field {
+    ($name:literal) => {
+        $crate::Field {
+            name: $name,
+            wrong: concat!("`\\` without a meaning in ", $name, " token"),
+        }
+    };
+}
+
 // Which field a name is of.
 #[macro_export]
 macro_rules! name_field {
