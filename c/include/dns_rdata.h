@@ -95,7 +95,7 @@ DNS_RDATA_NONNULL dns_rdata_status dns_rdata_check(const uint8_t *message, size_
  * The data's canonical octets (RFC 4034, 6.2): names whole and in lower case, options of OPT in rising order, a set of types
  * in its shortest form. Data of one type is equal exactly where they are the same, so they are a key: compare them by
  * dns_rdata_compare_canonical, and hash them by any hash. Read again (place 0, length *count), they are data that is
- * equal. With DNS_RDATA_BUFFER what the buffer holds is left open.
+ * equal. With DNS_RDATA_BUFFER and DNS_RDATA_TOO_LONG what the buffer holds is left open.
  */
 DNS_RDATA_NONNULL dns_rdata_status dns_rdata_canonical(const uint8_t *message, size_t message_length, size_t place,
                                                        uint16_t length, uint16_t type, uint8_t *out, size_t out_length,

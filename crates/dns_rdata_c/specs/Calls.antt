@@ -1,5 +1,5 @@
 -- What the calls give.
-use Rattle.std.specs.Prelude.{◌≡◌, ◌≢◌, ◌⊎◌, ℕ, ◌<◌, ◌≤◌, ℤ, pos, negsuc, Bool, Option, Some, None, List, [], length, true, false}
+use Rattle.std.specs.Prelude.{◌≡◌, ◌≢◌, ◌⊎◌, ℕ, ◌<◌, ◌≤◌, ℤ, pos, negsuc, Option, Some, None, List, [], length, true, false}
 use Rattle.std.specs.Ordering.{nat_cmp}
 use Rattle.std.specs.Cmp.Lexicographic.{slice_cmp}
 use Rattle.std.specs.declared.cmp.Ordering.{Ordering}
@@ -107,14 +107,14 @@ pub record HasOrder (t : RecordType) (m : List ℕ) (p n : ℕ) (m' : List ℕ) 
   pub other_fills : Fills m' p' n' t other
   pub is_order : order ≡ octets_order (data_octets value) (data_octets other)
 
--- 1 where two values are equal, and 0 otherwise
-abbrev pub equality_number : Bool → ℤ
-equality_number true = pos 1
-equality_number false = pos 0
-
 -- the number tells whether two lists of octets are the same
 abbrev pub TellsSame : List ℕ → List ℕ → ℤ → Type 0
 TellsSame a b answer = ((answer ≡ pos 1) × (a ≡ b)) ⊎ ((answer ≡ pos 0) × ¬ (a ≡ b))
+
+-- of two values that were read under one type, the number tells whether their canonical octets are the same
+abbrev pub TellsEqual : RData → RData → ℤ → Type 0
+TellsEqual v w answer = (t : RecordType) (m : List ℕ) (p n : ℕ) (m' : List ℕ) (p' n' : ℕ) → Fills m p n t v → Fills m' p' n' t w
+    → TellsSame (data_octets v) (data_octets w) answer
 
 -- values fill the octets in both messages, and the number tells whether their canonical octets are the same
 pub record HasEquality (t : RecordType) (m : List ℕ) (p n : ℕ) (m' : List ℕ) (p' n' : ℕ) (answer : ℤ) : Type 0 where

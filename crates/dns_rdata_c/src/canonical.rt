@@ -14,7 +14,7 @@ use std::alloc::Global;
 
 /// Puts the canonical octets of record data in a message into a buffer, and tells their number: names whole and in lower
 /// case, options in rising order (RFC 4034, 6.2). Values of one type are equal exactly where these are the same, and are
-/// ordered as they are. Where they do not fit, what is in the buffer is left open.
+/// ordered as they are. Where they do not fit, or are too long, what is in the buffer is left open.
 #[unsafe(no_mangle)]
 pub extern "C" fn dns_rdata_canonical(
     alloc: Global,
@@ -32,6 +32,7 @@ pub extern "C" fn dns_rdata_canonical(
     ensures too_long { result ≡ TOO_LONG → HasData message.now place length (record_type_of type_number) (λ v. 65535 < size (data_octets v)) }
     ensures refused { REFUSED ≤ result → NoValue message.now place length (record_type_of type_number) }
     ensures status { (result ≡ OK) ⊎ (result ≡ MEMORY) ⊎ (result ≡ BUFFER) ⊎ (result ≡ TOO_LONG) ⊎ (REFUSED ≤ result) }
+    ensures kept { result ≢ OK → result ≢ BUFFER → result ≢ TOO_LONG → out.new ≡ out.old }
     ensures untold { result ≢ OK → result ≢ BUFFER → count.new ≡ count.old }
 {
     match read_at(alloc, message, place, length, type_number) {

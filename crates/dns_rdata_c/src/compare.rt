@@ -3,10 +3,11 @@
 ghost use Rattle.std.specs.Prelude.{◌≡◌, ◌≢◌, ◌≤◌, ◌⊎◌};
 ghost use Rattle.dns_types.specs.RecordTypes.{record_type_of};
 ghost use Rattle.dns_rdata.specs.Data.{NoValue};
-ghost use Rattle.dns_rdata_c.specs.Calls.{HasOrder, HasEquality, equality_number, order_number, octets_order};
+ghost use Rattle.dns_rdata_c.specs.Calls.{HasOrder, HasEquality, TellsEqual, order_number, octets_order};
 
 use crate::reading::read_at;
 use crate::status::{MEMORY, OK, REFUSED};
+use dns_rdata::RData;
 use std::alloc::Global;
 use std::cmp::Ordering;
 
@@ -53,17 +54,16 @@ pub extern "C" fn dns_rdata_compare(
     }
 }
 
-// The number of an answer: 1 of equal data, and 0 otherwise.
-fn equality_of(same: bool) -> i32
-    ensures { result ≡ equality_number same }
+// Whether two values are equal: 1 or 0.
+fn equality_of(value: &RData, other: &RData) -> i32
+    ensures { TellsEqual value.now other.now result }
 {
-    if same { 1 } else { 0 }
+    if value == other { 1 } else { 0 }
 }
 
 /// Tells whether the data of two records of one type, in two messages, is equal: 1 where their canonical octets are the same,
 /// and 0 otherwise.
 #[unsafe(no_mangle)]
-#[tactic(auto, using(crate::proofs::Equalities::told))]
 pub extern "C" fn dns_rdata_equal(
     alloc: Global,
     message: &[u8],
@@ -88,7 +88,7 @@ pub extern "C" fn dns_rdata_equal(
     match read_at(alloc, other, other_place, other_length, type_number) {
         Err(status) => status,
         Ok(other) => {
-            *equal = equality_of(value == other);
+            *equal = equality_of(&value, &other);
             OK
         }
     }
