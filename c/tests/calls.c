@@ -1,0 +1,114 @@
+/* Each call at least once: prints what it gives, which run.sh compares with calls.out. */
+#include "dns_rdata.h"
+
+#include <stdio.h>
+#include <stdlib.h>
+#include <string.h>
+
+static int failed;
+
+static void want(int holds, const char *what) {
+    if (!holds) {
+        failed = 1;
+        printf("not as wanted: %s\n", what);
+    }
+}
+
+static void print_octets(const char *label, const uint8_t *octets, size_t count) {
+    printf("%s", label);
+    for (size_t i = 0; i < count; i++)
+        printf("%02x", octets[i]);
+    printf("\n");
+}
+
+/* A response: a header, the question for mail of Example.com, and two answers whose names are pointers. */
+static const uint8_t message[] = {
+    0x12, 0x34, 0x81, 0x80, 0, 1, 0, 2, 0, 0, 0, 0,
+    7, 'E', 'x', 'a', 'm', 'p', 'l', 'e', 3, 'c', 'o', 'm', 0, 0, 15, 0, 1, /* 12 */
+    0xc0, 12, 0, 15, 0, 1, 0, 0, 1, 0x2c, 0, 9, /* 29 */
+    0, 10, 4, 'm', 'a', 'i', 'l', 0xc0, 12, /* 41 */
+    0xc0, 12, 0, 15, 0, 1, 0, 0, 1, 0x2c, 0, 4, /* 50 */
+    0, 5, 0xc0, 43, /* 62 */
+};
+
+struct key {
+    uint8_t octets[512];
+    size_t count;
+};
+
+static int by_octets(const void *a, const void *b) {
+    const struct key *x = (const struct key *)a, *y = (const struct key *)b;
+    return dns_rdata_compare_canonical(x->octets, x->count, y->octets, y->count);
+}
+
+int main(void) {
+    char text[256];
+    uint8_t octets[512];
+    size_t count = 0;
+    uint16_t type = 0;
+    struct dns_rdata_refusal why = {0, 0, 0};
+    int32_t order = 7;
+    dns_rdata_status status;
+
+    want(dns_rdata_type_number("MX", 2, &type) == DNS_RDATA_OK && type == 15, "the number of MX");
+    want(dns_rdata_type_number("mx", 2, &type) == DNS_RDATA_NO_TYPE, "no type mx");
+    want(dns_rdata_type_text(4711, text, sizeof text, &count) == DNS_RDATA_OK, "the text of 4711");
+    printf("type 4711 is %s, of %zu\n", text, count);
+
+    want(dns_rdata_check(message, sizeof message, 41, 9, 15, &why) == DNS_RDATA_OK, "the first is data of MX");
+    status = dns_rdata_check(message, sizeof message, 41, 8, 15, &why);
+    printf("of 8 octets: status %u, read %zu, length %zu\n", status, why.read, why.len);
+    status = dns_rdata_check(message, sizeof message, 41, 8, 255, &why);
+    printf("of ANY: status %u, number %u\n", status, why.number);
+
+    want(dns_rdata_display_text(message, sizeof message, 41, 9, 15, text, sizeof text, &count) == DNS_RDATA_OK, "a text");
+    printf("text %s, of %zu\n", text, count);
+    status = dns_rdata_display_text(message, sizeof message, 41, 9, 15, text, 0, &count);
+    want(status == DNS_RDATA_BUFFER && count == strlen(text), "the length of a text");
+    want(dns_rdata_display_text(message, sizeof message, 41, 9, 15, text, count, &count) == DNS_RDATA_BUFFER, "no room for the 0");
+    want(dns_rdata_display_text(message, sizeof message, 41, 9, 15, text, count + 1, &count) == DNS_RDATA_OK, "room for it");
+
+    want(dns_rdata_canonical(message, sizeof message, 41, 9, 15, octets, sizeof octets, &count) == DNS_RDATA_OK, "canonical");
+    print_octets("canonical ", octets, count);
+    want(dns_rdata_wire(message, sizeof message, 41, 9, 15, octets, sizeof octets, &count) == DNS_RDATA_OK, "wire");
+    print_octets("wire ", octets, count);
+
+    want(dns_rdata_compare(message, sizeof message, 41, 9, message, sizeof message, 62, 4, 15, &order) == DNS_RDATA_OK, "cmp");
+    printf("10 against 5: %d\n", order);
+
+    int32_t equal = 7;
+    want(dns_rdata_equal(message, sizeof message, 41, 9, message, sizeof message, 62, 4, 15, &equal) == DNS_RDATA_OK, "equal");
+    printf("10 and 5 are equal: %d\n", equal);
+
+    const char *mail = "10 MAIL ; a comment";
+    static const uint8_t origin[] = {7, 'e', 'x', 'a', 'm', 'p', 'l', 'e', 3, 'c', 'o', 'm', 0};
+    status = dns_rdata_parse_display_text(mail, strlen(mail), 15, origin, sizeof origin, octets, sizeof octets, &count);
+    want(status == DNS_RDATA_OK, "a text is read");
+    print_octets("parsed ", octets, count);
+    want(dns_rdata_compare(message, sizeof message, 41, 9, octets, count, 0, (uint16_t)count, 15, &order) == DNS_RDATA_OK, "again");
+    want(dns_rdata_equal(message, sizeof message, 41, 9, octets, count, 0, (uint16_t)count, 15, &equal) == DNS_RDATA_OK, "equal");
+    printf("as the first: %d, and equal: %d\n", order, equal);
+    status = dns_rdata_parse_display_text("ten mail", 8, 15, origin, sizeof origin, octets, sizeof octets, &count);
+    printf("a wrong word: status %u\n", status);
+
+    /* Sorting: canonical octets once, and then no memory and no failure. */
+    struct key *keys = (struct key *)malloc(3 * sizeof *keys);
+    const char *texts[3] = {"20 b.example.", "10 c.example.", "10 A.example."};
+    if (keys == NULL)
+        return 3;
+    for (int i = 0; i < 3; i++) {
+        status = dns_rdata_parse_display_text(texts[i], strlen(texts[i]), 15, origin, sizeof origin, octets, sizeof octets, &count);
+        want(status == DNS_RDATA_OK, "a text to sort");
+        status = dns_rdata_canonical(octets, count, 0, (uint16_t)count, 15, keys[i].octets, sizeof keys[i].octets, &keys[i].count);
+        want(status == DNS_RDATA_OK, "a key");
+    }
+    qsort(keys, 3, sizeof *keys, by_octets);
+    for (int i = 0; i < 3; i++) {
+        status = dns_rdata_display_text(keys[i].octets, keys[i].count, 0, (uint16_t)keys[i].count, 15, text, sizeof text, &count);
+        want(status == DNS_RDATA_OK, "a sorted text");
+        printf("%s\n", text);
+    }
+    free(keys);
+    printf("%s\n", failed ? "failed" : "all as wanted");
+    return failed;
+}

@@ -1,0 +1,158 @@
+/*
+ * Random octets, places, lengths, types and buffers through every call, and what holds of their answers. Buffers are exact
+ * blocks of malloc, so that an address checker sees each octet past them. ./hostile ROUNDS [SEED]
+ */
+#include "dns_rdata.h"
+
+#include <stdio.h>
+#include <stdlib.h>
+#include <string.h>
+
+static uint64_t state = 88172645463325252ull;
+
+static uint64_t next(void) {
+    state ^= state << 13;
+    state ^= state >> 7;
+    state ^= state << 17;
+    return state;
+}
+
+static uint32_t below(uint32_t n) { return (uint32_t)(next() % n); }
+
+static void *block(size_t n) {
+    void *at = malloc(n ? n : 1);
+    if (!at) exit(3);
+    return at;
+}
+
+#define WANT(holds) do { if (!(holds)) { printf("round %lu: %s\n", round, #holds); exit(1); } } while (0)
+
+static const uint16_t types[] = {0, 1, 2, 5, 6, 10, 12, 13, 15, 16, 28, 33, 35, 37, 41, 44, 52, 53, 61, 62, 64, 65, 251, 252, 255, 257, 65305, 48, 4711};
+static const char *const words[] = {"10", "mail", "example.com.", "\"a b\"", "(", ")", ";x\n", "\\", "\"", "1.2.3.4", "::1", "0", "issue", "alpn=h2",
+    "port=443", "no-default-alpn", "YWJj", "00ff", "A", "TYPE65535", "1h", "65536", "\xff", "@", ".", "\\065", "key7=x", "300"};
+
+int main(int argc, char **argv) {
+    unsigned long rounds = argc > 1 ? strtoul(argv[1], NULL, 10) : 100000, accepted = 0, parsed = 0, unread = 0;
+    if (argc > 2) state ^= strtoull(argv[2], NULL, 10) * 0x9e3779b97f4a7c15ull | 1;
+    for (unsigned long round = 0; round < rounds; round++) {
+        /* a message: random, or mostly small octets, so that labels and lengths are often right */
+        size_t size = below(4) ? below(64) : below(700);
+        uint8_t *message = (uint8_t *)block(size);
+        unsigned kind = below(3);
+        for (size_t i = 0; i < size; i++)
+            message[i] = (uint8_t)(kind == 0 ? next() : kind == 1 ? below(6) : below(5) ? below(4) + ('a' & -(int)below(2)) : 0xc0);
+        size_t place = below(8) ? below((uint32_t)size + 2) : below(64) ? 0 : (size_t)next();
+        uint16_t length = (uint16_t)(below(6) ? (place <= size ? size - place : 0) : below(16) ? below(32) : next());
+        uint16_t type = below(16) ? types[below(sizeof types / sizeof *types)] : (uint16_t)next();
+        struct dns_rdata_refusal why = {1, 2, 3};
+        dns_rdata_status status = dns_rdata_check(message, size, place, length, type, &why);
+        size_t count = 77, again = 78, need;
+        WANT(status != DNS_RDATA_MEMORY);
+        WANT(status == DNS_RDATA_OK || status >= DNS_RDATA_REFUSED);
+        if (status == DNS_RDATA_OK) {
+            accepted++;
+            /* text: asked for, exact, one short */
+            dns_rdata_status s = dns_rdata_display_text(message, size, place, length, type, (char *)&count, 0, &count);
+            WANT((s == DNS_RDATA_NO_TEXT) == (type == 41));
+            if (s != DNS_RDATA_NO_TEXT) {
+                WANT(s == DNS_RDATA_BUFFER);
+                char *text = (char *)block(count + 1);
+                WANT(dns_rdata_display_text(message, size, place, length, type, text, count, &again) == DNS_RDATA_BUFFER && again == count);
+                WANT(dns_rdata_display_text(message, size, place, length, type, text, count + 1, &again) == DNS_RDATA_OK && again == count);
+                WANT(text[count] == 0);
+                free(text);
+            }
+            /* canonical octets, which are data again with the same canonical octets */
+            uint8_t none = 0;
+            s = dns_rdata_canonical(message, size, place, length, type, &none, 0, &count);
+            WANT(s == DNS_RDATA_BUFFER || (s == DNS_RDATA_OK && count == 0));
+            need = count;
+            uint8_t *octets = (uint8_t *)block(need), *other = (uint8_t *)block(need);
+            if (need) WANT(dns_rdata_canonical(message, size, place, length, type, octets, need - 1, &again) == DNS_RDATA_BUFFER && again == need);
+            WANT(dns_rdata_canonical(message, size, place, length, type, octets, need, &again) == DNS_RDATA_OK && again == need);
+            WANT(dns_rdata_check(octets, need, 0, (uint16_t)need, type, &why) == DNS_RDATA_OK);
+            WANT(dns_rdata_canonical(octets, need, 0, (uint16_t)need, type, other, need, &again) == DNS_RDATA_OK && again == need);
+            WANT(need == 0 || memcmp(octets, other, need) == 0);
+            WANT(dns_rdata_compare_canonical(octets, need, other, need) == 0);
+            int32_t order = 5;
+            WANT(dns_rdata_compare(message, size, place, length, octets, need, 0, (uint16_t)need, type, &order) == DNS_RDATA_OK && order == 0);
+            int32_t equal = 5;
+            WANT(dns_rdata_equal(message, size, place, length, octets, need, 0, (uint16_t)need, type, &equal) == DNS_RDATA_OK && equal == 1);
+            /* a neighbour */
+            if (need) {
+                other[below((uint32_t)need)] ^= (uint8_t)(1 + below(255));
+                if (dns_rdata_check(other, need, 0, (uint16_t)need, type, &why) == DNS_RDATA_OK) {
+                    int32_t turned = 5;
+                    WANT(dns_rdata_compare(message, size, place, length, other, need, 0, (uint16_t)need, type, &order) == DNS_RDATA_OK);
+                    WANT(dns_rdata_compare(other, need, 0, (uint16_t)need, message, size, place, length, type, &turned) == DNS_RDATA_OK);
+                    WANT(order == -turned && order >= -1 && order <= 1);
+                    WANT(dns_rdata_equal(message, size, place, length, other, need, 0, (uint16_t)need, type, &equal) == DNS_RDATA_OK);
+                    WANT(equal == (order == 0));
+                }
+            }
+            free(other);
+            /* octets without pointers: data again, equal */
+            s = dns_rdata_wire(message, size, place, length, type, &none, 0, &count);
+            WANT(s == DNS_RDATA_BUFFER || (s == DNS_RDATA_OK && count == 0));
+            uint8_t *wire = (uint8_t *)block(count);
+            WANT(dns_rdata_wire(message, size, place, length, type, wire, count, &again) == DNS_RDATA_OK && again == count);
+            WANT(dns_rdata_compare(wire, count, 0, (uint16_t)count, octets, need, 0, (uint16_t)need, type, &order) == DNS_RDATA_OK && order == 0);
+            free(wire);
+            free(octets);
+        } else {
+            char text[4];
+            WANT(dns_rdata_display_text(message, size, place, length, type, text, sizeof text, &count) == status && count == 77);
+            WANT(dns_rdata_canonical(message, size, place, length, type, (uint8_t *)text, sizeof text, &count) == status && count == 77);
+            WANT(dns_rdata_wire(message, size, place, length, type, (uint8_t *)text, sizeof text, &count) == status && count == 77);
+            int32_t equal = 5;
+            WANT(dns_rdata_equal(message, size, place, length, message, size, place, length, type, &equal) == status && equal == 5);
+            WANT(dns_rdata_compare(message, size, place, length, message, size, place, length, type, &equal) == status && equal == 5);
+        }
+        free(message);
+
+        /* a text of words, and one of random octets */
+        char line[256];
+        size_t n = 0;
+        if (below(4)) {
+            for (unsigned i = 1 + below(7); i > 0; i--) {
+                const char *word = words[below(sizeof words / sizeof *words)];
+                if (n + strlen(word) + 1 < sizeof line) {
+                    memcpy(line + n, word, strlen(word));
+                    n += strlen(word);
+                    line[n++] = ' ';
+                }
+            }
+        } else
+            for (n = 0; n < below(40); n++) line[n] = (char)next();
+        char *text = (char *)block(n);
+        memcpy(text, line, n);
+        uint16_t ttype = types[below(sizeof types / sizeof *types)];
+        static const uint8_t origins[] = {1, 'x', 0, 7, 'y'};
+        size_t from = below(5), many = below((uint32_t)(sizeof origins - from) + 1);
+        uint8_t *origin = (uint8_t *)block(many);
+        memcpy(origin, origins + from, many);
+        size_t room = below(2) ? 4096 : below(8);
+        uint8_t *out = (uint8_t *)block(room);
+        status = dns_rdata_parse_display_text(text, n, ttype, origin, many, out, room, &count);
+        WANT(status != DNS_RDATA_MEMORY && status < 64);
+        if (status == DNS_RDATA_OK) {
+            parsed++;
+            WANT(count <= room);
+            WANT(dns_rdata_check(out, count, 0, (uint16_t)count, ttype, &why) == DNS_RDATA_OK);
+        }
+        unread += status == DNS_RDATA_UNREAD;
+        uint16_t number = 9;
+        status = dns_rdata_type_number(text, n, &number);
+        WANT(status == DNS_RDATA_OK || status == DNS_RDATA_NO_TYPE || status == DNS_RDATA_NOT_UTF8);
+        number = (uint16_t)next();
+        char name[16];
+        WANT(dns_rdata_type_text(number, name, sizeof name, &count) == DNS_RDATA_OK);
+        uint16_t back = 0;
+        WANT(dns_rdata_type_number(name, count, &back) == DNS_RDATA_OK && back == number);
+        free(text);
+        free(origin);
+        free(out);
+    }
+    printf("%lu rounds, %lu data, %lu texts, and %lu whose octets are not read\n", rounds, accepted, parsed, unread);
+    return 0;
+}

@@ -1,0 +1,78 @@
+/*
+ * Each request for memory of each call refused in turn: the answer is DNS_RDATA_MEMORY, and nothing stays held. This
+ * file stands in the place of heap.c.
+ */
+#include "dns_rdata.h"
+
+#include <stdio.h>
+#include <stdlib.h>
+#include <string.h>
+
+struct rattle_tried {
+    unsigned char there;
+    void *at;
+};
+
+static unsigned long requests, refuse;
+static long held;
+static char nothing;
+
+static int refused(void) { return ++requests == refuse; }
+
+struct rattle_tried rattle_alloc(size_t size, size_t align) {
+    void *at = refused() ? NULL : malloc(size != 0 ? size : align);
+    held += at != NULL;
+    return (struct rattle_tried){at != NULL, at != NULL ? at : &nothing};
+}
+
+struct rattle_tried rattle_realloc(void *old, size_t kept, size_t size, size_t align) {
+    void *at = refused() ? NULL : realloc(old, size != 0 ? size : align);
+    (void)kept;
+    return (struct rattle_tried){at != NULL, at != NULL ? at : &nothing};
+}
+
+void rattle_dealloc(void *at) {
+    held--;
+    free(at);
+}
+
+static const uint8_t name[] = "\x3fxxxxxxxxxxxxxxxxxxxxxxxxxxxxxxxxxxxxxxxxxxxxxxxxxxxxxxxxxxxxxxx\x07" "example\x00\x00\x0a\xc0\x00";
+static const char texts[][64] = {"10 mail.example.com.", "1 . alpn=h2,h3 ipv4hint=192.0.2.1", "\"a\" \"b c\"", "ten"};
+static const uint16_t kinds[] = {15, 64, 16, 15};
+static char text[512];
+static uint8_t out[512];
+static size_t count;
+static struct dns_rdata_refusal why;
+static int32_t order;
+
+static dns_rdata_status call(int n) {
+    size_t length = sizeof name - 1, place = length - 4;
+    switch (n) {
+    case 0: return dns_rdata_check(name, length, place, 4, 15, &why);
+    case 1: return dns_rdata_display_text(name, length, place, 4, 15, text, sizeof text, &count);
+    case 2: return dns_rdata_canonical(name, length, place, 4, 15, out, sizeof out, &count);
+    case 3: return dns_rdata_wire(name, length, place, 4, 15, out, sizeof out, &count);
+    case 4: return dns_rdata_compare(name, length, place, 4, name, length, place, 4, 15, &order);
+    case 5: return dns_rdata_type_text(4711, text, sizeof text, &count);
+    case 6: return dns_rdata_equal(name, length, place, 4, name, length, place, 4, 15, &order);
+    default: return dns_rdata_parse_display_text(texts[n - 7], strlen(texts[n - 7]), kinds[n - 7], name, 73, out, sizeof out, &count);
+    }
+}
+
+int main(void) {
+    int failed = 0;
+    for (int n = 0; n < 11; n++) {
+        requests = refuse = 0;
+        dns_rdata_status wanted = call(n);
+        unsigned long all = requests;
+        for (unsigned long k = 1; k <= all; k++) {
+            requests = 0;
+            refuse = k;
+            dns_rdata_status status = call(n);
+            if (status != DNS_RDATA_MEMORY || held != 0) failed = 1, printf("call %d, request %lu: %u, %ld held\n", n, k, status, held);
+        }
+        printf("call %d: status %u, %lu requests\n", n, wanted, all);
+    }
+    printf("%s\n", failed ? "failed" : "all as wanted");
+    return failed;
+}

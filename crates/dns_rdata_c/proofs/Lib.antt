@@ -1,0 +1,5 @@
+pub mod Equalities
+pub mod Fillings
+pub mod Whole
+pub mod Readings
+pub mod Words

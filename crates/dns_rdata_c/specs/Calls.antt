@@ -1,0 +1,181 @@
+-- What the calls give.
+use Rattle.std.specs.Prelude.{◌≡◌, ◌≢◌, ◌⊎◌, ℕ, ◌<◌, ◌≤◌, ℤ, pos, negsuc, Option, Some, None, List, [], length, true, false}
+use Rattle.std.specs.Ordering.{nat_cmp}
+use Rattle.std.specs.Cmp.Lexicographic.{slice_cmp}
+use Rattle.std.specs.declared.cmp.Ordering.{Ordering}
+use Rattle.std.specs.declared.cmp.Ordering.TheVariants.{Less, Equal, Greater}
+use Rattle.dns_fields.specs.declared.RDataEncoding.TheVariants.{Other}
+use Rattle.dns_fields.specs.Labels.{DomainName}
+use Rattle.dns_fields.specs.Names.{IsNameIn}
+use Rattle.dns_names_wire.specs.Words.{Because}
+use Rattle.dns_types.specs.declared.error.ProtoError.{ProtoError}
+use Rattle.dns_fields.specs.Fields.{Wrote, canonical, all_emittable}
+use Rattle.dns_text.specs.TextWords.{TextWords, NoTextWords}
+use Rattle.dns_types.specs.declared.error.DecodeError.{DecodeError}
+use Rattle.dns_types.specs.declared.error.DecodeError.TheVariants as decode
+use Rattle.dns_types.specs.declared.record_type.RecordType.{RecordType}
+use Rattle.dns_rdata.specs.declared.record_data.RData.{RData}
+use Rattle.dns_rdata.specs.Data.{Fills, NoValue, fields_of, data_octets, IsEmittable}
+use Rattle.dns_rdata.specs.DataWords.{AreDataWords}
+use Rattle.dns_rdata.specs.Laws.{HasEqual, ReadsCanonical}
+use Rattle.dns_rdata.specs.Texts.{data_text}
+use Rattle.dns_rdata_c.specs.declared.check.Refusal.{Refusal}
+use Rattle.dns_rdata_c.specs.Reading.{IsCause, HasData}
+use Rattle.dns_rdata_c.specs.Status.{decode_status}
+use Rattle.dns_rdata_c.specs.Buffers.{IsPut, IsTooMany, IsTextPut, IsTextTooLong}
+
+-- ---- why octets are refused
+
+-- the numbers of a refusal
+abbrev pub numbers_of : DecodeError → Refusal
+numbers_of (decode.IncorrectRDataLengthRead read len) = record { read = read; len = len; number = 0 }
+numbers_of (decode.UnknownRecordTypeValue number) = record { read = 0; len = 0; number = number }
+numbers_of (decode.UnrecognizedCsyncFlags flags) = record { read = 0; len = 0; number = flags }
+numbers_of (decode.UnknownAddressFamily family) = record { read = 0; len = 0; number = family }
+numbers_of e = record { read = 0; len = 0; number = 0 }
+
+-- the status and the numbers are those of the cause by which the data is refused
+pub record IsWhy (m : List ℕ) (p n : ℕ) (t : RecordType) (status : ℕ) (why : Refusal) : Type 0 where
+  pub error : DecodeError
+  pub told : status ≡ decode_status error
+  pub numbers : why ≡ numbers_of error
+  pub cause : IsCause m p n t error
+
+-- ---- texts
+
+-- the value's text stands in the buffer
+pub record PutsText (v : RData) (old new : List ℕ) (count : ℕ) : Type 0 where
+  pub text : List ℕ
+  pub is_text : data_text v ≡ Some text
+  pub put : IsTextPut text old new count
+
+-- the value's text does not fit
+pub record LacksRoomForText (v : RData) (old new : List ℕ) (count : ℕ) : Type 0 where
+  pub text : List ℕ
+  pub is_text : data_text v ≡ Some text
+  pub too_long : IsTextTooLong text old new count
+
+-- ---- octets
+
+-- the octets are those of the value's fields, one behind the other, its names whole and with their letters
+pub record IsWire (v : RData) (octets : List ℕ) : Type 0 where
+  pub wrote : Wrote Other [] (fields_of v).kinds (fields_of v).values octets
+  pub short : length octets ≤ 65535
+
+-- the octets stand in the buffer
+pub record PutsWire (v : RData) (old new : List ℕ) (count : ℕ) : Type 0 where
+  pub octets : List ℕ
+  pub is_wire : IsWire v octets
+  pub put : IsPut octets old new count
+
+-- they do not fit
+pub record LacksRoomForWire (v : RData) (old new : List ℕ) (count : ℕ) : Type 0 where
+  pub octets : List ℕ
+  pub is_wire : IsWire v octets
+  pub too_many : IsTooMany octets old new count
+
+-- the octets stand in the buffer, and are data of the type
+pub record PutsData (t : RecordType) (v : RData) (old new : List ℕ) (count : ℕ) : Type 0 where
+  pub octets : List ℕ
+  pub is_wire : IsWire v octets
+  pub reads : HasData octets 0 (length octets) t (λ _. Unit {0})
+  pub put : IsPut octets old new count
+
+-- the octets are no data of the type
+pub record IsUnread (t : RecordType) (v : RData) : Type 0 where
+  pub octets : List ℕ
+  pub is_wire : IsWire v octets
+  pub none : NoValue octets 0 (length octets) t
+
+-- ---- orders
+
+-- -1, 0 or 1
+abbrev pub order_number : Ordering → ℤ
+order_number Less = negsuc 0
+order_number Equal = pos 0
+order_number Greater = pos 1
+
+-- the order of two lists of octets, a proper beginning before what goes on
+abbrev pub octets_order : List ℕ → List ℕ → ℤ
+octets_order a b = order_number (slice_cmp nat_cmp a b)
+
+-- values fill the octets in both messages, and this is the order of their canonical octets
+pub record HasOrder (t : RecordType) (m : List ℕ) (p n : ℕ) (m' : List ℕ) (p' n' : ℕ) (order : ℤ) : Type 0 where
+  pub value : RData
+  pub other : RData
+  pub fills : Fills m p n t value
+  pub other_fills : Fills m' p' n' t other
+  pub is_order : order ≡ octets_order (data_octets value) (data_octets other)
+
+-- the number tells whether two lists of octets are the same
+abbrev pub TellsSame : List ℕ → List ℕ → ℤ → Type 0
+TellsSame a b answer = ((answer ≡ pos 1) × (a ≡ b)) ⊎ ((answer ≡ pos 0) × ¬ (a ≡ b))
+
+-- of two values that were read under one type, the number tells whether their canonical octets are the same
+abbrev pub TellsEqual : RData → RData → ℤ → Type 0
+TellsEqual v w answer = (t : RecordType) (m : List ℕ) (p n : ℕ) (m' : List ℕ) (p' n' : ℕ) → Fills m p n t v → Fills m' p' n' t w
+    → TellsSame (data_octets v) (data_octets w) answer
+
+-- values fill the octets in both messages, and the number tells whether their canonical octets are the same
+pub record HasEquality (t : RecordType) (m : List ℕ) (p n : ℕ) (m' : List ℕ) (p' n' : ℕ) (answer : ℤ) : Type 0 where
+  pub value : RData
+  pub other : RData
+  pub fills : Fills m p n t value
+  pub other_fills : Fills m' p' n' t other
+  pub tells : TellsSame (data_octets value) (data_octets other) answer
+
+-- ---- data from a text
+
+-- the words of the text give the value, relative names in them completed by the origin
+pub record IsTextOf (origin : Option DomainName) (t : RecordType) (text : List ℕ) (v : RData) : Type 0 where
+  pub words : List (List ℕ)
+  pub of_text : TextWords words text
+  pub give : AreDataWords origin t v words
+
+-- these are the words of the text, and they give no value
+pub record GivesNothing (origin : Option DomainName) (t : RecordType) (text : List ℕ) : Type 0 where
+  pub words : List (List ℕ)
+  pub of_text : TextWords words text
+  pub none : (v : RData) → AreDataWords origin t v words → ⊥
+
+-- the text is of no value of the type
+abbrev pub IsNoText : Option DomainName → RecordType → List ℕ → Type 0
+IsNoText origin t text = NoTextWords text ⊎ GivesNothing origin t text
+
+-- ---- origins
+
+-- the octets are a name's, uncompressed; no octets are no origin
+abbrev pub IsOrigin : List ℕ → Option DomainName → Type 0
+IsOrigin octets None = octets ≡ []
+IsOrigin octets (Some x) = IsNameIn octets 0 x (length octets)
+
+abbrev pub IsNoOrigin : List ℕ → Type 0
+IsNoOrigin octets = (x : DomainName) → ¬ (IsNameIn octets 0 x (length octets))
+
+-- the octets are an origin, the text is of a value, and P holds of it
+pub record HasTextData (octets : List ℕ) (t : RecordType) (text : List ℕ) (P : RData → Type 0) : Type 0 where
+  pub origin : Option DomainName
+  pub is_origin : IsOrigin octets origin
+  pub value : RData
+  pub is_text : IsTextOf origin t text value
+  pub holds : P value
+
+-- the octets are an origin, and the text is of no value
+pub record IsRefusedText (octets : List ℕ) (t : RecordType) (text : List ℕ) : Type 0 where
+  pub origin : Option DomainName
+  pub is_origin : IsOrigin octets origin
+  pub none : IsNoText origin t text
+
+-- ---- written octets
+
+-- the fields of the value, one behind the other, its names whole
+abbrev pub IsWritten : RData → List ℕ → Type 0
+IsWritten v octets = Wrote Other [] (fields_of v).kinds (fields_of v).values octets
+
+-- why a value is not written
+abbrev pub IsUnwritten : RData → ProtoError → Type 0
+IsUnwritten v e = Because e (65535 < length (canonical (fields_of v).kinds (fields_of v).values)) (all_emittable (fields_of v).kinds (fields_of v).values ≡ false)
+
+-- the status by which a value has no octets: memory ran out, or they are too many, or it cannot be emitted
+abbrev pub IsUnmade : RData → ℕ → Type 0
+IsUnmade v status = (status ≡ 1) ⊎ ((status ≡ 3) × (65535 < length (canonical (fields_of v).kinds (fields_of v).values))) ⊎ ((status ≡ 5) × ¬ (IsEmittable v))

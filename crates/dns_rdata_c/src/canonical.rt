@@ -1,0 +1,42 @@
+//! Record data in the one form for comparing.
+
+ghost use Rattle.std.specs.Prelude.{◌≡◌, ◌≢◌, ◌<◌, ◌≤◌, ◌⊎◌, length as size};
+ghost use Rattle.dns_types.specs.RecordTypes.{record_type_of};
+ghost use Rattle.dns_rdata.specs.Data.{NoValue, data_octets};
+ghost use Rattle.dns_rdata.specs.Laws.{ReadsCanonical};
+ghost use Rattle.dns_rdata_c.specs.Reading.{HasData};
+ghost use Rattle.dns_rdata_c.specs.Buffers.{IsPut};
+
+use crate::filling::put_canonical;
+use crate::reading::read_at;
+use crate::status::{BUFFER, MEMORY, OK, REFUSED, TOO_LONG};
+use std::alloc::Global;
+
+/// Puts the canonical octets of record data in a message into a buffer, and tells their number: names whole and in lower
+/// case, options in rising order (RFC 4034, 6.2). Values of one type are equal exactly where these are the same, and are
+/// ordered as they are. Where they do not fit, or are too long, what is in the buffer is left open.
+#[unsafe(no_mangle)]
+pub extern "C" fn dns_rdata_canonical(
+    alloc: Global,
+    message: &[u8],
+    place: usize,
+    length: u16,
+    type_number: u16,
+    out: &mut [u8],
+    count: &mut usize,
+) -> u32
+    ensures ok { result ≡ OK → HasData message.now place length (record_type_of type_number)
+        (λ v. IsPut (data_octets v) out.old out.new count.new × ReadsCanonical (record_type_of type_number) v) }
+    ensures buffer { result ≡ BUFFER → HasData message.now place length (record_type_of type_number)
+        (λ v. (size out.old < size (data_octets v)) × (count.new ≡ size (data_octets v))) }
+    ensures too_long { result ≡ TOO_LONG → HasData message.now place length (record_type_of type_number) (λ v. 65535 < size (data_octets v)) }
+    ensures refused { REFUSED ≤ result → NoValue message.now place length (record_type_of type_number) }
+    ensures status { (result ≡ OK) ⊎ (result ≡ MEMORY) ⊎ (result ≡ BUFFER) ⊎ (result ≡ TOO_LONG) ⊎ (REFUSED ≤ result) }
+    ensures kept { result ≢ OK → result ≢ BUFFER → result ≢ TOO_LONG → out.new ≡ out.old }
+    ensures untold { result ≢ OK → result ≢ BUFFER → count.new ≡ count.old }
+{
+    match read_at(alloc, message, place, length, type_number) {
+        Err(status) => status,
+        Ok(value) => put_canonical(&value, out, count),
+    }
+}

@@ -1,0 +1,104 @@
+//! The order of record data, and whether it is equal.
+
+ghost use Rattle.std.specs.Prelude.{◌≡◌, ◌≢◌, ◌≤◌, ◌⊎◌};
+ghost use Rattle.dns_types.specs.RecordTypes.{record_type_of};
+ghost use Rattle.dns_rdata.specs.Data.{NoValue};
+ghost use Rattle.dns_rdata_c.specs.Calls.{HasOrder, HasEquality, TellsEqual, order_number, octets_order};
+
+use crate::reading::read_at;
+use crate::status::{MEMORY, OK, REFUSED};
+use dns_rdata::RData;
+use std::alloc::Global;
+use std::cmp::Ordering;
+
+// The number of an order: -1, 0 or 1.
+fn number_of(order: Ordering) -> i32
+    ensures { result ≡ order_number order }
+{
+    match order {
+        Ordering::Less => -1,
+        Ordering::Equal => 0,
+        Ordering::Greater => 1,
+    }
+}
+
+/// Tells the order of the data of two records of one type, in two messages: -1, 0 or 1, by their canonical octets.
+#[unsafe(no_mangle)]
+pub extern "C" fn dns_rdata_compare(
+    alloc: Global,
+    message: &[u8],
+    place: usize,
+    length: u16,
+    other: &[u8],
+    other_place: usize,
+    other_length: u16,
+    type_number: u16,
+    order: &mut i32,
+) -> u32
+    ensures ok { result ≡ OK → HasOrder (record_type_of type_number) message.now place length other.now other_place other_length order.new }
+    ensures refused { REFUSED ≤ result → NoValue message.now place length (record_type_of type_number)
+        ⊎ NoValue other.now other_place other_length (record_type_of type_number) }
+    ensures status { (result ≡ OK) ⊎ (result ≡ MEMORY) ⊎ (REFUSED ≤ result) }
+    ensures untold { result ≢ OK → order.new ≡ order.old }
+{
+    let value = match read_at(alloc, message, place, length, type_number) {
+        Ok(value) => value,
+        Err(status) => return status,
+    };
+    match read_at(alloc, other, other_place, other_length, type_number) {
+        Err(status) => status,
+        Ok(other) => {
+            *order = number_of(value.cmp(&other));
+            OK
+        }
+    }
+}
+
+// Whether two values are equal: 1 or 0.
+fn equality_of(value: &RData, other: &RData) -> i32
+    ensures { TellsEqual value.now other.now result }
+{
+    if value == other { 1 } else { 0 }
+}
+
+/// Tells whether the data of two records of one type, in two messages, is equal: 1 where their canonical octets are the same,
+/// and 0 otherwise.
+#[unsafe(no_mangle)]
+pub extern "C" fn dns_rdata_equal(
+    alloc: Global,
+    message: &[u8],
+    place: usize,
+    length: u16,
+    other: &[u8],
+    other_place: usize,
+    other_length: u16,
+    type_number: u16,
+    equal: &mut i32,
+) -> u32
+    ensures ok { result ≡ OK → HasEquality (record_type_of type_number) message.now place length other.now other_place other_length equal.new }
+    ensures refused { REFUSED ≤ result → NoValue message.now place length (record_type_of type_number)
+        ⊎ NoValue other.now other_place other_length (record_type_of type_number) }
+    ensures status { (result ≡ OK) ⊎ (result ≡ MEMORY) ⊎ (REFUSED ≤ result) }
+    ensures untold { result ≢ OK → equal.new ≡ equal.old }
+{
+    let value = match read_at(alloc, message, place, length, type_number) {
+        Ok(value) => value,
+        Err(status) => return status,
+    };
+    match read_at(alloc, other, other_place, other_length, type_number) {
+        Err(status) => status,
+        Ok(other) => {
+            *equal = equality_of(&value, &other);
+            OK
+        }
+    }
+}
+
+/// The order of two lists of octets: -1, 0 or 1, a proper beginning before what goes on. Of canonical octets it is the order
+/// of the data. Takes no memory.
+#[unsafe(no_mangle)]
+pub extern "C" fn dns_rdata_compare_canonical(octets: &[u8], other: &[u8]) -> i32
+    ensures { result ≡ octets_order octets.now other.now }
+{
+    number_of(octets.cmp(&other))
+}

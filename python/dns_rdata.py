@@ -1,0 +1,205 @@
+"""The data of DNS resource records (RDATA): checked, compared, put into canonical and plain octets, printed and read from texts,
+by a library in which every function is proved. It is loaded by ctypes from `libdns_rdata.so.0`, or from the file that the
+environment's DNS_RDATA_LIBRARY names.
+
+    >>> message = bytes.fromhex("076578616d706c6503636f6d00" "000ac000")
+    >>> check(message, 13, 4, MX)
+    >>> display_text(message, 13, 4, MX)
+    '10 example.com.'
+    >>> wire(message, 13, 4, MX).hex()
+    '000a076578616d706c6503636f6d00'
+    >>> check(message, 13, 3, MX)
+    Traceback (most recent call last):
+    dns_rdata.Refused: LENGTH: 4 octets were read, of 3
+
+Data is octets of a message: the message as bytes, the place of its first octet, its length, and the number of its type. What
+is refused is raised as `Refused`, with the status, its name and its numbers.
+"""
+
+import ctypes
+import enum
+import os
+
+__all__ = [
+    "A", "AAAA", "CNAME", "MX", "NS", "OPT", "SOA", "TXT", "Refused", "Status", "canonical", "check", "compare", "compare_canonical",
+    "display_text", "equal", "parse_display_text", "type_number", "type_text", "wire",
+]
+
+A, NS, CNAME, SOA, MX, TXT, AAAA, OPT = 1, 2, 5, 6, 15, 16, 28, 41
+
+
+class Status(enum.IntEnum):
+    """What a call answers: the names and numbers of dns_rdata.h."""
+
+    OK = 0
+    MEMORY = 1
+    BUFFER = 2
+    TOO_LONG = 3
+    NO_TEXT = 4
+    UNFIT = 5
+    ORIGIN = 6
+    NOT_UTF8 = 7
+    UNREAD = 8
+    MISSING_OCTETS = 16
+    LENGTH = 17
+    NEVER = 18
+    NO_TYPE = 19
+    NAME = 20
+    BITMAP = 21
+    CAA_TAG = 22
+    NAPTR_FLAGS = 23
+    CSYNC_FLAGS = 24
+    ADDRESS_FAMILY = 25
+    MISSING_VALUE = 26
+    PARAMETER_ORDER = 27
+    UTF8 = 28
+    MISSING_WORD = 48
+    WRONG_WORD = 49
+    UNSUPPORTED_TYPE = 50
+    WRONG_ADDRESS = 51
+    WRONG_VALUE = 52
+
+
+class Refusal(ctypes.Structure):
+    """The numbers of a refusal; those that a status has nothing to say of are 0."""
+
+    _fields_ = [("read", ctypes.c_size_t), ("len", ctypes.c_size_t), ("number", ctypes.c_uint32)]
+
+
+class Refused(ValueError):
+    """Why a call gives no answer: `status`, and of `check` the numbers `read` and `len` (LENGTH) or `number`."""
+
+    def __init__(self, status, why=None):
+        self.status = Status(status)
+        self.read, self.len, self.number = (why.read, why.len, why.number) if why else (0, 0, 0)
+        text = self.status.name
+        if why and status == Status.LENGTH:
+            text += f": {self.read} octets were read, of {self.len}"
+        elif why and status in (Status.NEVER, Status.CSYNC_FLAGS, Status.ADDRESS_FAMILY):
+            text += f": {self.number}"
+        super().__init__(text)
+
+
+SIZE, SHORT, OCTETS, COUNT = ctypes.c_size_t, ctypes.c_uint16, ctypes.c_char_p, ctypes.POINTER(ctypes.c_size_t)
+DATA = [OCTETS, SIZE, SIZE, SHORT]
+ROOM = [OCTETS, SIZE, COUNT]
+TELLS = ctypes.POINTER(ctypes.c_int32)
+
+# What each call takes: a list of octets is a pointer and a length, and data a message, a place and a length.
+CALLS = {
+    "dns_rdata_check": [*DATA, SHORT, ctypes.POINTER(Refusal)],
+    "dns_rdata_canonical": [*DATA, SHORT, *ROOM],
+    "dns_rdata_wire": [*DATA, SHORT, *ROOM],
+    "dns_rdata_display_text": [*DATA, SHORT, *ROOM],
+    "dns_rdata_compare": [*DATA, *DATA, SHORT, TELLS],
+    "dns_rdata_equal": [*DATA, *DATA, SHORT, TELLS],
+    "dns_rdata_compare_canonical": [OCTETS, SIZE, OCTETS, SIZE],
+    "dns_rdata_parse_display_text": [OCTETS, SIZE, SHORT, OCTETS, SIZE, *ROOM],
+    "dns_rdata_type_text": [SHORT, *ROOM],
+    "dns_rdata_type_number": [OCTETS, SIZE, ctypes.POINTER(ctypes.c_uint16)],
+}
+
+
+def _loaded():
+    library = ctypes.CDLL(os.environ.get("DNS_RDATA_LIBRARY", "libdns_rdata.so.0"))
+    for name, takes in CALLS.items():
+        call = getattr(library, name)
+        call.argtypes = takes
+        call.restype = ctypes.c_int32 if name == "dns_rdata_compare_canonical" else ctypes.c_uint32
+    return library
+
+
+_library = _loaded()
+
+
+def _data(message, place, length):
+    """The arguments of data. ctypes cuts a number that is too large without a word, so it is refused here."""
+    if not 0 <= place < 1 << 8 * ctypes.sizeof(ctypes.c_size_t):
+        raise OverflowError("a place is a size")
+    return bytes(message), len(message), place, _short(length)
+
+
+def _short(number):
+    if not 0 <= number <= 65535:
+        raise OverflowError("a length or the number of a type is 16 bits")
+    return number
+
+
+def _want_ok(status, why=None):
+    if status == Status.MEMORY:
+        raise MemoryError
+    if status != Status.OK:
+        raise Refused(status, why)
+
+
+def _filled(call, *given):
+    """What a call puts into a buffer, which is made as large as the call wants it."""
+    room, count = 512, ctypes.c_size_t()
+    while True:
+        out = ctypes.create_string_buffer(room)
+        status = call(*given, out, room, ctypes.byref(count))
+        if status != Status.BUFFER:
+            _want_ok(status)
+            return out.raw[: count.value]
+        room = count.value + 1
+
+
+def check(message, place, length, type_number):
+    """Raises `Refused` where the octets are not the data of a record of this type."""
+    why = Refusal()
+    _want_ok(_library.dns_rdata_check(*_data(message, place, length), _short(type_number), ctypes.byref(why)), why)
+
+
+def canonical(message, place, length, type_number):
+    """The canonical octets: data of one type is equal exactly where they are the same (RFC 4034, 6.2)."""
+    return _filled(_library.dns_rdata_canonical, *_data(message, place, length), _short(type_number))
+
+
+def wire(message, place, length, type_number):
+    """The octets without pointers into the message, names whole and with their letters."""
+    return _filled(_library.dns_rdata_wire, *_data(message, place, length), _short(type_number))
+
+
+def display_text(message, place, length, type_number):
+    """The text that hickory-proto prints, for people. Of OPT there is none: NO_TEXT."""
+    return _filled(_library.dns_rdata_display_text, *_data(message, place, length), _short(type_number)).decode()
+
+
+def _told(call, data, other, type_number):
+    told = ctypes.c_int32()
+    _want_ok(call(*_data(*data), *_data(*other), _short(type_number), ctypes.byref(told)))
+    return told.value
+
+
+def compare(data, other, type_number):
+    """-1, 0 or 1, the order of the data's canonical octets. `data` and `other` are a message, a place and a length each."""
+    return _told(_library.dns_rdata_compare, data, other, type_number)
+
+
+def equal(data, other, type_number):
+    """Whether the data's canonical octets are the same. `data` and `other` are a message, a place and a length each."""
+    return _told(_library.dns_rdata_equal, data, other, type_number) == 1
+
+
+def compare_canonical(octets, other):
+    """-1, 0 or 1, the order of two lists of octets, a beginning of the other first."""
+    return _library.dns_rdata_compare_canonical(bytes(octets), len(octets), bytes(other), len(other))
+
+
+def parse_display_text(text, type_number, origin=b""):
+    """The octets of the data that a text gives as hickory-proto reads it. `origin` is the octets of a name, by which relative
+    names are completed."""
+    octets = text.encode()
+    return _filled(_library.dns_rdata_parse_display_text, octets, len(octets), _short(type_number), bytes(origin), len(origin))
+
+
+def type_text(type_number):
+    """The name of a type in capitals, or TYPE and its number (RFC 3597, 5)."""
+    return _filled(_library.dns_rdata_type_text, _short(type_number)).decode()
+
+
+def type_number(text):
+    """The number of the type of a name in capitals, or of TYPE and a number."""
+    octets, number = text.encode(), ctypes.c_uint16()
+    _want_ok(_library.dns_rdata_type_number(octets, len(octets), ctypes.byref(number)))
+    return number.value

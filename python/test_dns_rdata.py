@@ -1,0 +1,83 @@
+"""Tests of dns_rdata.py: each call, the example of its document, and, where dnspython is there, the same octets from both."""
+
+import doctest
+import random
+import unittest
+
+import dns_rdata as lib
+
+try:
+    import dns.exception
+    import dns.rdata
+    import dns.rdataclass
+except ImportError:
+    dns = None
+
+MESSAGE = b"\x03WWW\x07example\x03com\x00" b"\x00\x0a\xc0\x00"
+
+
+class Calls(unittest.TestCase):
+    def refused(self, status, call, *given):
+        with self.assertRaises(lib.Refused) as caught:
+            call(*given)
+        self.assertEqual(caught.exception.status, status)
+        return caught.exception
+
+    def test_check(self):
+        lib.check(b"\x0a\0\0\1", 0, 4, lib.A)
+        why = self.refused(lib.Status.LENGTH, lib.check, b"\x0a\0\0\1", 0, 3, lib.A)
+        self.assertEqual((why.read, why.len), (4, 3))
+        self.assertEqual(self.refused(lib.Status.NEVER, lib.check, b"", 0, 0, 255).number, 255)
+        self.refused(lib.Status.MISSING_OCTETS, lib.check, b"\x0a\0\0\1", 5, 4, lib.A)
+
+    def test_octets(self):
+        self.assertEqual(lib.wire(MESSAGE, 17, 4, lib.MX), b"\x00\x0a\x03WWW\x07example\x03com\x00")
+        self.assertEqual(lib.canonical(MESSAGE, 17, 4, lib.MX), b"\x00\x0a\x03www\x07example\x03com\x00")
+        long = b"\xffx" + b"x" * 254
+        self.assertEqual(lib.wire(long * 200, 0, 256 * 200, lib.TXT), long * 200)
+
+    def test_orders(self):
+        first, second = (MESSAGE, 17, 4), (b"\x00\x0b\x00", 0, 3)
+        self.assertEqual([lib.compare(first, second, lib.MX), lib.compare(second, first, lib.MX), lib.compare(first, first, lib.MX)], [-1, 1, 0])
+        self.assertEqual([lib.equal(first, second, lib.MX), lib.equal(first, first, lib.MX)], [False, True])
+        self.assertEqual([lib.compare_canonical(b"a", b"a\0"), lib.compare_canonical(b"b", b"a\0"), lib.compare_canonical(b"", b"")], [-1, 1, 0])
+
+    def test_texts(self):
+        self.assertEqual(lib.display_text(MESSAGE, 17, 4, lib.MX), "10 WWW.example.com.")
+        self.refused(lib.Status.NO_TEXT, lib.display_text, b"", 0, 0, lib.OPT)
+        self.assertEqual(lib.parse_display_text("10 mail", lib.MX, b"\x07example\0"), b"\x00\x0a\x04mail\x07example\0")
+        self.refused(lib.Status.MISSING_WORD, lib.parse_display_text, "10", lib.MX)
+        self.refused(lib.Status.ORIGIN, lib.parse_display_text, "10 mail", lib.MX, b"\x07")
+
+    def test_types(self):
+        self.assertEqual([lib.type_text(15), lib.type_text(4711)], ["MX", "TYPE4711"])
+        self.assertEqual([lib.type_number("MX"), lib.type_number("TYPE4711")], [15, 4711])
+        self.refused(lib.Status.NO_TYPE, lib.type_number, "mx")
+
+    def test_numbers_are_not_cut(self):
+        for place, length, number in [(-1, 4, 1), (1 << 64, 4, 1), (0, 65536, 1), (0, 4, 65537)]:
+            self.assertRaises(OverflowError, lib.check, b"\x0a\0\0\1", place, length, number)
+
+    @unittest.skipIf(dns is None, "dnspython is missing")
+    def test_beside_dnspython(self):
+        chosen, compared = random.Random(1), 0
+        for _ in range(5000):
+            number = chosen.choice([lib.A, lib.NS, lib.CNAME, lib.SOA, lib.MX, lib.AAAA, 12, 33])
+            octets = bytes(chosen.randrange(5) for _ in range(chosen.randrange(40)))
+            try:
+                peer = dns.rdata.from_wire(dns.rdataclass.IN, number, octets, 0, len(octets)).to_digestable()
+            except dns.exception.DNSException:
+                self.assertRaises(lib.Refused, lib.check, octets, 0, len(octets), number)
+                continue
+            compared += 1
+            self.assertEqual(lib.canonical(octets, 0, len(octets), number), peer)
+        self.assertGreater(compared, 100)
+
+
+def load_tests(loader, tests, pattern):
+    tests.addTests(doctest.DocTestSuite(lib))
+    return tests
+
+
+if __name__ == "__main__":
+    unittest.main()

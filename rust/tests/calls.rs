@@ -1,0 +1,93 @@
+use dns_rdata::{parse_display_text, Data, Error, RecordType};
+use std::cmp::Ordering;
+use std::collections::HashSet;
+
+const A: RecordType = RecordType::A;
+const MX: RecordType = RecordType::MX;
+const TXT: RecordType = RecordType::TXT;
+const OPT: RecordType = RecordType::OPT;
+
+#[test]
+fn types() {
+    assert_eq!("MX".parse(), Ok(MX));
+    assert_eq!("TYPE15".parse(), Ok(MX));
+    assert_eq!("mx".parse::<RecordType>(), Err(Error::NoType));
+    assert_eq!("".parse::<RecordType>(), Err(Error::NoType));
+    assert_eq!(format!("{MX} {} {:>6}", RecordType(4711), A), "MX TYPE4711      A");
+}
+
+#[test]
+fn data_is_checked() {
+    assert!(Data::check(&[10, 0, 0, 1], 0, 4, A).is_ok());
+    assert_eq!(Data::check(&[10, 0, 0, 1], 0, 3, A).unwrap_err(), Error::Length { read: 4, len: 3 });
+    assert_eq!(Data::check(&[10, 0, 0, 1], 5, 4, A).unwrap_err(), Error::MissingOctets);
+    assert_eq!(Data::check(&[10, 0, 0, 1], usize::MAX, 4, A).unwrap_err(), Error::MissingOctets);
+    assert_eq!(Data::check(&[10, 0, 0, 1], 0, 4, RecordType(255)).unwrap_err(), Error::Never(RecordType(255)));
+    assert!(Data::check(&[], 0, 0, OPT).is_ok());
+    assert!(Data::check(&[], 0, 0, RecordType(0)).is_ok());
+}
+
+#[test]
+fn texts() {
+    let whole = |octets: &[u8], record_type| Data::whole(octets, record_type).and_then(|d| d.to_display_text());
+    assert_eq!(whole(&[10, 0, 0, 1], A), Ok(Some("10.0.0.1".to_string())));
+    assert_eq!(whole(&[], OPT), Ok(None));
+    let long = [&[255u8; 1][..], &[b'x'; 255][..]].concat();
+    assert_eq!(whole(&long, TXT).map(|t| t.map(|t| t.len())), Ok(Some(255)));
+}
+
+#[test]
+fn pointers_are_followed() {
+    let message = b"\x03WWW\x07example\x03com\x00\x00\x0a\xc0\x00";
+    let data = Data::check(message, 17, 4, MX).unwrap();
+    assert_eq!(data.to_display_text(), Ok(Some("10 WWW.example.com.".to_string())));
+    assert_eq!(data.wire(), Ok(b"\x00\x0a\x03WWW\x07example\x03com\x00".to_vec()));
+    assert_eq!(data.canonical().unwrap().as_slice(), b"\x00\x0a\x03www\x07example\x03com\x00");
+    let wire = data.wire().unwrap();
+    assert_eq!(data.compare(&Data::whole(&wire, MX).unwrap()), Ok(Ordering::Equal));
+}
+
+#[test]
+fn texts_are_parsed() {
+    let origin = b"\x07example\x03com\x00";
+    assert_eq!(parse_display_text("10 mail", MX, origin), Ok(b"\x00\x0a\x04mail\x07example\x03com\x00".to_vec()));
+    assert_eq!(parse_display_text("10 mail", MX, b""), Ok(b"\x00\x0a\x04mail\x00".to_vec()));
+    assert_eq!(parse_display_text("10", MX, origin), Err(Error::MissingWord));
+    assert_eq!(parse_display_text("10 mail", MX, b"\x07example"), Err(Error::Origin));
+    assert_eq!(parse_display_text("10 mail", MX, b"\x00\x00"), Err(Error::Origin));
+    assert_eq!(parse_display_text("1.2.3.4", A, b""), Ok(vec![1, 2, 3, 4]));
+    assert_eq!(parse_display_text("x", OPT, b""), Err(Error::UnsupportedType(OPT)));
+    assert_eq!(parse_display_text(&"x".repeat(256), TXT, b""), Err(Error::Unfit));
+    assert_eq!(parse_display_text("0 a.b x", RecordType(257), b""), Err(Error::Unread));
+}
+
+#[test]
+fn keys() {
+    let a = Data::whole(b"\x00\x0a\x01A\x00", MX).unwrap();
+    let b = Data::whole(b"\x00\x0a\x01a\x00", MX).unwrap();
+    let c = Data::whole(b"\x00\x0a\x01b\x00", MX).unwrap();
+    let keys: HashSet<_> = [a, b, c].iter().map(|d| d.canonical().unwrap()).collect();
+    assert_eq!(keys.len(), 2);
+    assert_eq!((a.is_equal(&b), a.is_equal(&c)), (Ok(true), Ok(false)));
+    assert_eq!(a.compare(&c), Ok(Ordering::Less));
+    assert_eq!(c.compare(&a), Ok(Ordering::Greater));
+    assert_eq!(a.canonical().unwrap().cmp(&c.canonical().unwrap()), Ordering::Less);
+}
+
+#[test]
+fn threads() {
+    let threads: Vec<_> = (0..4u8)
+        .map(|n| {
+            std::thread::spawn(move || {
+                for i in 0..1000u32 {
+                    let octets = [10, n, (i >> 8) as u8, i as u8];
+                    let text = Data::whole(&octets, A).unwrap().to_display_text().unwrap().unwrap();
+                    assert_eq!(text, format!("10.{n}.{}.{}", i >> 8, i & 255));
+                }
+            })
+        })
+        .collect();
+    for thread in threads {
+        thread.join().unwrap();
+    }
+}
