@@ -6,8 +6,8 @@ ghost use Rattle.dns_rdata.specs.Data.{fields_of};
 ghost use Rattle.dns_rdata_c.specs.Calls.{IsWritten, IsUnwritten, IsWire, IsUnmade};
 
 use crate::status::{MEMORY, TOO_LONG, UNFIT};
-use dns_rdata::{BinEncodable, BinEncoder, ProtoError, RData, RDataEncoding};
 use dns_pieces::emit_in;
+use dns_rdata::{BinEncodable, BinEncoder, ProtoError, RData, RDataEncoding};
 use std::alloc::Global;
 
 // The most octets that the data of a record has (RFC 1035, 3.2.1).

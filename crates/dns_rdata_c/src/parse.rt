@@ -11,9 +11,7 @@ ghost use Rattle.dns_rdata_c.specs.Calls.{HasTextData, IsNoOrigin, IsRefusedText
 use crate::emitting::whole_octets;
 use crate::putting::put_octets;
 use crate::reading::decode_at;
-use crate::status::{
-    BUFFER, MEMORY, NO_DATA_TEXT, NOT_UTF8, OK, ORIGIN, TOO_LONG, UNFIT, UNREAD,
-};
+use crate::status::{BUFFER, MEMORY, NO_DATA_TEXT, NOT_UTF8, OK, ORIGIN, TOO_LONG, UNFIT, UNREAD};
 use crate::values::{origin_of, read_text};
 use dns_rdata::{DecodeError, RData, RecordType};
 use std::alloc::Global;
