@@ -2,12 +2,12 @@
 # The C, Rust and Python sides of crates/dns_rdata_c: builds the libraries, and runs the example, each call, the hostile loop,
 # refused memory, threads, and the tests of the Rust crate and of Python. What a machine lacks is said, and not counted. The
 # last line is 'N as wanted, M not'.
-#   ROUNDS=1000000 c/tests/run.sh    more rounds of the hostile loop than 20000; the sanitizers take a fifth of them
+#   ROUNDS=1000000 c/tests/run.sh    more rounds of the hostile loop than 200000; the sanitizers take a fifth of them
 set -u
 top=$(cd "$(dirname "$0")/../.." && pwd)
 dir=$(mktemp -d)
 trap 'rm -rf "$dir"' EXIT
-rounds=${ROUNDS:-20000}
+rounds=${ROUNDS:-200000}
 good=0 bad=0
 library="$top/crates/dns_rdata_c/out/libdns_rdata_c.a"
 c11=(cc -std=c11 -Wall -Wextra -Werror -O2 -I"$top/c/include")
