@@ -32,8 +32,8 @@ pub fn opt_order(a: &OPT, b: &OPT) -> Option<Ordering>
     order_of_many(a, b)
 }
 
-// By the least options that differ. Lists with the same octets that are not equal have no order here. What the walks keep
-// takes 4 KiB of the stack, which the order of other records would pay for where this were inlined.
+// By the least options that differ. Lists with the same octets that are not equal have no order here. It is not inlined,
+// so that only such long lists take the 4 KiB of the stack in which the walks keep their heads.
 #[inline(never)]
 fn order_of_many(a: &OPT, b: &OPT) -> Option<Ordering>
     requires first { pairs_emittable a.now ≡ true }
