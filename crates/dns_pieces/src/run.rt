@@ -3,11 +3,11 @@
 ghost use Rattle.std.specs.Prelude.{◌≡◌, ◌+◌, ◌<◌, ◌≤◌, ◌^◌, [], ◌++◌, ◌∷◌, MatchOption};
 ghost use Rattle.std.specs.Cmp.Lexicographic.{slice_cmp};
 ghost use Rattle.std.specs.Ordering.{nat_cmp};
-ghost use Rattle.dns_pieces.specs.Runs.{Shares};
+ghost use Rattle.dns_pieces.specs.Runs.{Shares, Copies};
 
 use crate::common::common_few;
 use crate::head::Head;
-use crate::tail::Tail;
+use crate::tail::{Tail, copy_front};
 use std::cmp::Ordering;
 use std::marker::Model;
 
@@ -91,6 +91,16 @@ impl<'a> Run<'a> {
             return 0;
         }
         self.tail.skip_common(&mut other.tail)
+    }
+
+    /// Copies octets to the front of the buffer, as many as are at hand and fit, and answers how many these are.
+    #[inline]
+    pub fn copy_to(&mut self, buffer: &mut [u8]) -> usize
+        ensures { Copies result self.old self.new buffer.old buffer.new }
+    {
+        let kept = copy_front(&self.head.as_slice()[self.at..], buffer);
+        self.at += kept;
+        kept + self.tail.copy_to(&mut buffer[kept..])
     }
 
     /// The order of the two by their first difference, a proper beginning before what goes on.

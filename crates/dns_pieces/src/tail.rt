@@ -1,10 +1,11 @@
 //! A slice, or the labels of a name.
 
-ghost use Rattle.std.specs.Prelude.{◌≡◌, ◌+◌, ◌<◌, ◌^◌, [], ◌∷◌, MatchOption};
+ghost use Rattle.std.specs.Prelude.{◌≡◌, ◌+◌, ◌<◌, ◌^◌, [], ◌∷◌, ◌++◌, length as size, take, drop, map, min, MatchOption};
 ghost use Rattle.std.specs.Cmp.Lexicographic.{slice_cmp};
+ghost use Rattle.std.specs.Char.{to_ascii_lowercase};
 ghost use Rattle.std.specs.Ordering.{nat_cmp};
 ghost use Rattle.dns_fields.specs.Fields.{Name as NameKind, Rest, field_octets};
-ghost use Rattle.dns_pieces.specs.Runs.{Shares};
+ghost use Rattle.dns_pieces.specs.Runs.{Shares, Copies};
 
 use crate::common::{common_beginning, common_lowered};
 use dns_names_wire::Name;
@@ -104,6 +105,28 @@ impl<'a> Tail<'a> {
         other.octets = &other_octets[n..];
         n
     }
+
+    /// Copies octets to the front of the buffer, as many as there are and fit, and answers how many these are.
+    #[inline]
+    pub fn copy_to(&mut self, buffer: &mut [u8]) -> usize
+        ensures { Copies result self.old self.new buffer.old buffer.new }
+    {
+        let octets = self.octets;
+        if !self.is_name {
+            let n = copy_front(octets, buffer);
+            self.octets = &octets[n..];
+            return n;
+        }
+        let n = copy_lowered(octets, buffer);
+        self.octets = &octets[n..];
+        if n == buffer.len() {
+            return n;
+        }
+        buffer[n] = 0;
+        self.is_name = false;
+        n + 1
+    }
+
     /// The order of the two by their first difference, a proper beginning before what goes on.
     #[inline]
     pub fn compare(&mut self, other: &mut Tail<'_>) -> Ordering
@@ -131,4 +154,26 @@ impl<'a> Tail<'a> {
             self.skip_common(other);
         }
     }
+}
+
+// Copies octets to the front of a buffer, as many as fit, and answers how many these are.
+#[inline]
+pub(crate) fn copy_front(octets: &[u8], buffer: &mut [u8]) -> usize
+    ensures count { result ≡ min (size octets.now) (size buffer.old) }
+    ensures front { buffer.new ≡ take result octets.now ++ drop result buffer.old }
+{
+    let n = octets.len().min(buffer.len());
+    buffer[..n].copy_from_slice(&octets[..n]);
+    n
+}
+
+// The same in lower case.
+#[inline]
+fn copy_lowered(octets: &[u8], buffer: &mut [u8]) -> usize
+    ensures count { result ≡ min (size octets.now) (size buffer.old) }
+    ensures front { buffer.new ≡ map to_ascii_lowercase (take result octets.now) ++ drop result buffer.old }
+{
+    let n = copy_front(octets, buffer);
+    buffer[..n].make_ascii_lowercase();
+    n
 }
