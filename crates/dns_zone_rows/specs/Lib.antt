@@ -1,0 +1,4 @@
+pub mod Mnemonics
+pub mod RowFaults
+pub mod RowTable
+pub mod Rows
