@@ -13,7 +13,7 @@ use Rattle.dns_zone_words.specs.Remaining.{AmongFault, HexFault}
 use Rattle.dns_zone_words.specs.Words.{Word, Cursor, words_at, behind_first}
 use Rattle.dns_zone_words.specs.ZoneReads.{IsCutRefused, LacksFirst, IsOfFieldOrCut, WhyFirst}
 use Rattle.dns_zone_rows.specs.Mnemonics.{cert_types, algorithms}
-use Rattle.dns_zone_rows.specs.Rows.{FieldKind, Number, NamedNumber, Ttl, Ipv4, Ipv6, Name, String, Tag, Octets, RestKind, Nothing, Strings, Hex, Base64, Types, Row}
+use Rattle.dns_zone_rows.specs.Rows.{FieldKind, Number, NamedNumber, Ttl, Ipv4, Ipv6, Name, String, Tag, Octets, RestKind, NoWord, SomeStrings, SomeHex, SomeBase64, AnyTypes, Row}
 use Rattle.dns_zone_rows.specs.declared.row.ZoneField.{ZoneField}
 use Rattle.dns_zone_rows.specs.declared.row.ZoneField.TheVariants as field
 use Rattle.dns_zone_rows.specs.declared.row.ZoneRest.{ZoneRest}
@@ -37,11 +37,11 @@ kind_of (field.Algorithm f) = NamedNumber 1 algorithms
 kind_of (field.Text f) = Octets
 
 abbrev pub rest_kind_of : ZoneRest → RestKind
-rest_kind_of (rest.Nothing surplus) = Nothing
-rest_kind_of (rest.Strings f) = Strings
-rest_kind_of (rest.Hex missing f) = Hex
-rest_kind_of (rest.Base64 f) = Base64
-rest_kind_of (rest.Types f) = Types
+rest_kind_of (rest.Nothing surplus) = NoWord
+rest_kind_of (rest.Strings f) = SomeStrings
+rest_kind_of (rest.Hex missing f) = SomeHex
+rest_kind_of (rest.Base64 f) = SomeBase64
+rest_kind_of (rest.Types f) = AnyTypes
 
 abbrev pub row_value : ZoneRow → Row
 row_value row = record { fields = map kind_of row.fields.now; rest = rest_kind_of row.rest }

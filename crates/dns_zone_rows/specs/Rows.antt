@@ -38,15 +38,15 @@ pub data FieldKind : Type 0 where
 -- what all words behind these fields are
 pub data RestKind : Type 0 where
   -- no word
-  Nothing : RestKind
+  NoWord : RestKind
   -- one string or more
-  Strings : RestKind
+  SomeStrings : RestKind
   -- hexadecimal digits
-  Hex : RestKind
+  SomeHex : RestKind
   -- base64 (RFC 4648, 4)
-  Base64 : RestKind
+  SomeBase64 : RestKind
   -- types of records, none or more, in any order, as a bitmap (RFC 4034, 4.1.2; RFC 7477, 2.1.2)
-  Types : RestKind
+  AnyTypes : RestKind
 
 -- a record's data in words
 pub record Row : Type 0 where
@@ -115,11 +115,11 @@ pub record TypesGive (octets : List ℕ) (words : List Word) : Type 0 where
 
 -- the octets that all words which are left give
 abbrev pub RestGives : RestKind → List ℕ → List Word → Type 0
-RestGives Nothing octets words = (words ≡ []) × (octets ≡ [])
-RestGives Strings octets words = (words ≢ []) × StringsGive octets words
-RestGives Hex octets words = (words ≢ []) × AreHex octets words
-RestGives Base64 octets words = (words ≢ []) × AreBase64 octets words
-RestGives Types octets words = TypesGive octets words
+RestGives NoWord octets words = (words ≡ []) × (octets ≡ [])
+RestGives SomeStrings octets words = (words ≢ []) × StringsGive octets words
+RestGives SomeHex octets words = (words ≢ []) × AreHex octets words
+RestGives SomeBase64 octets words = (words ≢ []) × AreBase64 octets words
+RestGives AnyTypes octets words = TypesGive octets words
 
 -- ---- rows
 

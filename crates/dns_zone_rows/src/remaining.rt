@@ -1,6 +1,6 @@
 //! What all words behind the fields of a row are.
 
-ghost use Rattle.std.specs.Prelude.{◌≡◌, ◌≢◌, ◌⊎◌, ◌++◌, [], Ok, IfErr, OnOk, OnErr};
+ghost use Rattle.std.specs.Prelude.{◌≡◌, ◌≢◌, ◌≤◌, ◌⊎◌, ◌++◌, [], All, length, Ok, IfErr, OnOk, OnErr};
 ghost use Rattle.std.specs.List.{flat_map};
 ghost use Rattle.dns_fields.specs.Pieces.{string as string_octets};
 ghost use Rattle.dns_zone_words.specs.Forms.{StringFault};
@@ -10,7 +10,7 @@ ghost use Rattle.dns_zone_words.specs.Words.{words_at};
 ghost use Rattle.dns_zone_words.specs.ZoneReads.{LacksFirst};
 ghost use Rattle.dns_zone_rows.specs.RowFaults.{rest_kind_of, SurplusFault, RestFault};
 ghost use Rattle.dns_zone_rows.specs.RowSteps.{AddsAll};
-ghost use Rattle.dns_zone_rows.specs.Rows.{RestKind, Nothing, Strings, Hex, Base64, RestGives};
+ghost use Rattle.dns_zone_rows.specs.Rows.{NoWord, SomeStrings, SomeHex, SomeBase64, RestGives};
 
 use crate::fields::{add_counted, add_octets};
 use crate::row::ZoneRest;
@@ -46,7 +46,7 @@ fn add_nothing(
     surplus: &'static str,
     octets: &mut Vec<u8>,
 ) -> Result<(), ParseError>
-    ensures adds { AddsAll (RestGives Nothing) result octets.old.items octets.new.items words.old }
+    ensures adds { AddsAll (RestGives NoWord) result octets.old.items octets.new.items words.old }
     ensures why { IfErr result (λ e. (e ≡ ParseError.Memory) ⊎ SurplusFault (ParseError.Message surplus.entry) words.old e) }
 {
     let _octets = octets.len();
@@ -59,7 +59,7 @@ fn add_strings(
     field: &StringField,
     octets: &mut Vec<u8>,
 ) -> Result<(), ParseError>
-    ensures adds { AddsAll (RestGives Strings) result octets.old.items octets.new.items words.old }
+    ensures adds { AddsAll (RestGives SomeStrings) result octets.old.items octets.new.items words.old }
     ensures why { IfErr result (λ e. (e ≡ ParseError.Memory) ⊎ LacksFirst (ParseError.MissingToken field.now.name) words.old e ⊎ AmongFault (StringFault field.now) words.old e) }
 {
     ask_some(words, field.name)?;
@@ -74,7 +74,7 @@ fn add_hex(
     field: &HexField,
     octets: &mut Vec<u8>,
 ) -> Result<(), ParseError>
-    ensures adds { AddsAll (RestGives Hex) result octets.old.items octets.new.items words.old }
+    ensures adds { AddsAll (RestGives SomeHex) result octets.old.items octets.new.items words.old }
     ensures why { IfErr result (λ e. (e ≡ ParseError.Memory) ⊎ LacksFirst (ParseError.MissingToken missing.entry) words.old e ⊎ HexFault field.now words.old e) }
 {
     ask_some(words, missing)?;
@@ -88,7 +88,7 @@ fn add_base64(
     field: Field,
     octets: &mut Vec<u8>,
 ) -> Result<(), ParseError>
-    ensures adds { AddsAll (RestGives Base64) result octets.old.items octets.new.items words.old }
+    ensures adds { AddsAll (RestGives SomeBase64) result octets.old.items octets.new.items words.old }
     ensures why { IfErr result (λ e. (e ≡ ParseError.Memory) ⊎ LacksFirst (ParseError.MissingToken field.name) words.old e ⊎ IsMessage e) }
 {
     ask_some(words, field.name)?;
@@ -108,10 +108,12 @@ fn ask_some(words: &ZoneWords<'_>, missing: &'static str) -> Result<(), ParseErr
 
 // Puts strings behind octets, each behind its length.
 fn add_all_counted(octets: &mut Vec<u8>, strings: &Strings) -> Result<(), ParseError>
+    requires { All (λ string. length string ≤ 255) strings.now }
     ensures added { OnOk result (octets.new.items ≡ octets.old.items ++ flat_map string_octets strings.now) }
     ensures memory { IfErr result (λ e. e ≡ ParseError.Memory) }
 {
-    for string in strings.as_slice() {
+    let strings = strings.as_slice();
+    for string in strings {
         add_counted(octets, string.as_slice())?;
     }
     Ok(())

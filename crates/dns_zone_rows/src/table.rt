@@ -4,7 +4,7 @@ ghost use Rattle.std.specs.Prelude.{◌≡◌, map};
 ghost use Rattle.std.specs.Option.{option_map};
 ghost use Rattle.dns_zone_rows.specs.RowFaults.{kind_of, rest_kind_of, row_value};
 ghost use Rattle.dns_zone_rows.specs.RowTable.{row, row_of};
-ghost use Rattle.dns_zone_rows.specs.Rows.{Nothing};
+ghost use Rattle.dns_zone_rows.specs.Rows.{NoWord};
 
 use crate::row::{ZoneField, ZoneRest, ZoneRow};
 use dns_types::RecordType;
@@ -145,7 +145,7 @@ pub fn row_of(record_type: RecordType) -> Option<ZoneRow>
 // The row of fields with no word behind them.
 #[inline]
 fn fields_alone(fields: &'static [ZoneField]) -> Option<ZoneRow>
-    ensures { option_map row_value result ≡ row (map kind_of fields.now) Nothing }
+    ensures { option_map row_value result ≡ row (map kind_of fields.now) NoWord }
 {
     fields_and(fields, ZoneRest::Nothing(SURPLUS))
 }
@@ -153,7 +153,7 @@ fn fields_alone(fields: &'static [ZoneField]) -> Option<ZoneRow>
 // The row of fields, and words behind them.
 #[inline]
 fn fields_and(fields: &'static [ZoneField], rest: ZoneRest) -> Option<ZoneRow>
-    ensures { option_map row_value result ≡ row (map kind_of fields.now) (rest_kind_of rest.entry) }
+    ensures { option_map row_value result ≡ row (map kind_of fields.now) (rest_kind_of rest) }
 {
     Some(ZoneRow { fields, rest })
 }
