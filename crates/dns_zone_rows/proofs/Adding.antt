@@ -1,0 +1,32 @@
+-- Octets put behind others.
+use Rattle.std.proofs.Common.{◌≡◌, ◌<◌, ◌≤◌, ℕ, zero, suc, length, get_or, arith, List, [], ◌∷◌, Result, Ok, Err, refl, sym, subst, ap, ◌∙◌}
+use Rattle.std.specs.Result.{IsErrAnd}
+use Rattle.dns_fields.specs.Fields.{Kind, Value}
+use Rattle.dns_types.specs.declared.error.ParseError.{ParseError}
+use Rattle.dns_types.specs.declared.error.ParseError.TheVariants as parse
+use Rattle.dns_words.specs.Reads.{UnlessMemory}
+use Rattle.dns_zone_words.specs.Forms.{ZoneForm}
+use Rattle.dns_zone_words.specs.Remaining.{AreStrings}
+use Rattle.dns_zone_words.specs.Words.{Word, Cursor, words_at}
+use Rattle.dns_zone_words.specs.ZoneReads.{NoFirst}
+use Rattle.dns_zone_words.proofs.FirstSteps.{unless_map}
+use Rattle.dns_zone_rows.specs.RowSteps.{NoFirstGives, AddsFirst}
+use Rattle.dns_zone_rows.specs.Rows.{Gives}
+
+none_given : {k : Kind} (form : ZoneForm k) (written : Value k → List ℕ) (cursor : Cursor) → NoFirst form cursor → NoFirstGives (Gives form written) cursor
+none_given form written cursor h = record { none = λ octets word words cut given. h.none given.value (word ∷ words) cut given.is }
+
+-- a word that has no value gives no octets
+pub exit_gives : {T : Type 0} {k : Kind} (form : ZoneForm k) (written : Value k → List ℕ) (r : Result T ParseError) (e : ParseError) (before after : List ℕ)
+    (old new : Cursor) → IsErrAnd r (λ y. y ≡ e) → UnlessMemory e (NoFirst form old) → AddsFirst (Gives form written) r before after old new
+exit_gives form written (Ok x) e before after old new h none = elim h [ ]
+exit_gives form written (Err y) e before after old new h none =
+    subst (λ (z : ParseError). UnlessMemory z (NoFirstGives (Gives form written) old)) (sym h)
+    (unless_map e (NoFirst form old) (NoFirstGives (Gives form written) old) (none_given form written old) none)
+
+-- a string has at most 255 octets
+pub strings_short : (strings : List (List ℕ)) (words : List Word) → AreStrings strings words → (k : ℕ) (d : List ℕ) → k < length strings → length (get_or strings k d) ≤ 255
+strings_short [] words are k d l = absurd (omega arith)
+strings_short (s ∷ strings) [] are k d l = absurd are
+strings_short (s ∷ strings) (word ∷ words) are zero d l = are.0.1
+strings_short (s ∷ strings) (word ∷ words) are (suc k) d l = strings_short strings words are.1 k d (omega arith)

@@ -1,0 +1,4 @@
+pub mod Adding
+pub mod Marking
+pub mod RowLoop
+pub mod TypeWords

@@ -1,0 +1,275 @@
+//! Fields of one word, put behind the octets of those before them.
+
+ghost use Rattle.std.specs.Prelude.{◌≡◌, ◌≤◌, ◌⊎◌, ◌++◌, length, IfErr, OnOk};
+ghost use Rattle.std.specs.Int.{bytes_high_first};
+ghost use Rattle.std.specs.Option.{option_copied};
+ghost use Rattle.dns_fields.specs.Pieces.{string as string_octets};
+ghost use Rattle.dns_words.specs.Forms.{ttl, ipv4, ipv6};
+ghost use Rattle.dns_zone_words.specs.Forms.{bare, number, string, text, StringFault};
+ghost use Rattle.dns_zone_words.specs.NameWords.{name, NameFault};
+ghost use Rattle.dns_zone_words.specs.Views.{word_value};
+ghost use Rattle.dns_zone_words.specs.Words.{words_at, behind_first};
+ghost use Rattle.dns_zone_words.specs.ZoneReads.{ReadsAs, ReadsFirst, IsOfFieldOrCut, WhyFirst};
+ghost use Rattle.dns_zone_rows.specs.Mnemonics.{named_number, cert_types, algorithms};
+ghost use Rattle.dns_zone_rows.specs.RowFaults.{kind_of, FieldFault};
+ghost use Rattle.dns_zone_rows.specs.RowSteps.{AddsFirst};
+ghost use Rattle.dns_zone_rows.specs.Rows.{Gives, FieldGives, tag, name_octets};
+
+use crate::mnemonics::{next_algorithm, next_cert_type};
+use crate::row::ZoneField;
+use dns_names_wire::Name;
+use dns_types::ParseError;
+use dns_zone_words::{
+    Field, NameField, StringField, ZoneWord, ZoneWords, next_ipv4, next_ipv6, next_name, next_string,
+    next_text, next_ttl, next_u8, next_u16, next_u32, some_word,
+};
+use std::alloc::Global;
+
+/// Takes the next word and puts the octets of the field that it gives behind the others. The word is taken, even where it
+/// is refused.
+pub fn add_field(
+    alloc: Global,
+    words: &mut ZoneWords<'_>,
+    origin: Option<&Name>,
+    field: &ZoneField,
+    octets: &mut Vec<u8>,
+) -> Result<(), ParseError>
+    ensures adds { AddsFirst (FieldGives (option_copied origin.entry) (kind_of field.now)) result octets.old.items octets.new.items words.old words.new }
+    ensures why { IfErr result (λ e. (e ≡ ParseError.Memory) ⊎ FieldFault (option_copied origin.entry) field.now words.old e) }
+    ensures behind { OnOk result (words_at words.new ≡ behind_first (words_at words.old)) }
+{
+    match field {
+        ZoneField::U8(field) => add_u8(words, *field, octets),
+        ZoneField::U16(field) => add_u16(words, *field, octets),
+        ZoneField::U32(field) => add_u32(words, *field, octets),
+        ZoneField::Ttl(field) => add_ttl(words, *field, octets),
+        ZoneField::Ipv4(field) => add_ipv4(words, *field, octets),
+        ZoneField::Ipv6(field) => add_ipv6(words, *field, octets),
+        ZoneField::Name(field) => add_name(alloc, words, origin, field, octets),
+        ZoneField::String(field) => add_string(alloc, words, field, octets),
+        ZoneField::Tag(field) => add_tag(words, *field, octets),
+        ZoneField::CertType(field) => add_cert_type(words, *field, octets),
+        ZoneField::Algorithm(field) => add_algorithm(words, *field, octets),
+        ZoneField::Text(field) => add_text(alloc, words, *field, octets),
+    }
+}
+
+// Takes a number of 8 bits. As `add_field`, and so are those below.
+fn add_u8(
+    words: &mut ZoneWords<'_>,
+    field: Field,
+    octets: &mut Vec<u8>,
+) -> Result<(), ParseError>
+    ensures adds { AddsFirst (Gives (number 1) (bytes_high_first 1)) result octets.old.items octets.new.items words.old words.new }
+    ensures why { IfErr result (λ e. (e ≡ ParseError.Memory) ⊎ IsOfFieldOrCut field words.old e) }
+    ensures behind { OnOk result (words_at words.new ≡ behind_first (words_at words.old)) }
+{
+    let value = next_u8(words, field)?;
+    add_octets(octets, &value.to_be_bytes())
+}
+
+fn add_u16(
+    words: &mut ZoneWords<'_>,
+    field: Field,
+    octets: &mut Vec<u8>,
+) -> Result<(), ParseError>
+    ensures adds { AddsFirst (Gives (number 2) (bytes_high_first 2)) result octets.old.items octets.new.items words.old words.new }
+    ensures why { IfErr result (λ e. (e ≡ ParseError.Memory) ⊎ IsOfFieldOrCut field words.old e) }
+    ensures behind { OnOk result (words_at words.new ≡ behind_first (words_at words.old)) }
+{
+    let value = next_u16(words, field)?;
+    add_octets(octets, &value.to_be_bytes())
+}
+
+fn add_u32(
+    words: &mut ZoneWords<'_>,
+    field: Field,
+    octets: &mut Vec<u8>,
+) -> Result<(), ParseError>
+    ensures adds { AddsFirst (Gives (number 4) (bytes_high_first 4)) result octets.old.items octets.new.items words.old words.new }
+    ensures why { IfErr result (λ e. (e ≡ ParseError.Memory) ⊎ IsOfFieldOrCut field words.old e) }
+    ensures behind { OnOk result (words_at words.new ≡ behind_first (words_at words.old)) }
+{
+    let value = next_u32(words, field)?;
+    add_octets(octets, &value.to_be_bytes())
+}
+
+fn add_ttl(
+    words: &mut ZoneWords<'_>,
+    field: Field,
+    octets: &mut Vec<u8>,
+) -> Result<(), ParseError>
+    ensures adds { AddsFirst (Gives (bare (ttl 4294967295)) (bytes_high_first 4)) result octets.old.items octets.new.items words.old words.new }
+    ensures why { IfErr result (λ e. (e ≡ ParseError.Memory) ⊎ IsOfFieldOrCut field words.old e) }
+    ensures behind { OnOk result (words_at words.new ≡ behind_first (words_at words.old)) }
+{
+    let value = next_ttl(words, field)?;
+    add_octets(octets, &value.to_be_bytes())
+}
+
+fn add_cert_type(
+    words: &mut ZoneWords<'_>,
+    field: Field,
+    octets: &mut Vec<u8>,
+) -> Result<(), ParseError>
+    ensures adds { AddsFirst (Gives (named_number 2 cert_types) (bytes_high_first 2)) result octets.old.items octets.new.items words.old words.new }
+    ensures why { IfErr result (λ e. (e ≡ ParseError.Memory) ⊎ IsOfFieldOrCut field words.old e) }
+    ensures behind { OnOk result (words_at words.new ≡ behind_first (words_at words.old)) }
+{
+    let value = next_cert_type(words, field)?;
+    add_octets(octets, &value.to_be_bytes())
+}
+
+fn add_algorithm(
+    words: &mut ZoneWords<'_>,
+    field: Field,
+    octets: &mut Vec<u8>,
+) -> Result<(), ParseError>
+    ensures adds { AddsFirst (Gives (named_number 1 algorithms) (bytes_high_first 1)) result octets.old.items octets.new.items words.old words.new }
+    ensures why { IfErr result (λ e. (e ≡ ParseError.Memory) ⊎ IsOfFieldOrCut field words.old e) }
+    ensures behind { OnOk result (words_at words.new ≡ behind_first (words_at words.old)) }
+{
+    let value = next_algorithm(words, field)?;
+    add_octets(octets, &value.to_be_bytes())
+}
+
+fn add_ipv4(
+    words: &mut ZoneWords<'_>,
+    field: Field,
+    octets: &mut Vec<u8>,
+) -> Result<(), ParseError>
+    ensures adds { AddsFirst (Gives (bare ipv4) (λ s. s)) result octets.old.items octets.new.items words.old words.new }
+    ensures why { IfErr result (λ e. (e ≡ ParseError.Memory) ⊎ IsOfFieldOrCut field words.old e) }
+    ensures behind { OnOk result (words_at words.new ≡ behind_first (words_at words.old)) }
+{
+    let value = next_ipv4(words, field)?;
+    add_octets(octets, &value.octets())
+}
+
+fn add_ipv6(
+    words: &mut ZoneWords<'_>,
+    field: Field,
+    octets: &mut Vec<u8>,
+) -> Result<(), ParseError>
+    ensures adds { AddsFirst (Gives (bare ipv6) (λ s. s)) result octets.old.items octets.new.items words.old words.new }
+    ensures why { IfErr result (λ e. (e ≡ ParseError.Memory) ⊎ IsOfFieldOrCut field words.old e) }
+    ensures behind { OnOk result (words_at words.new ≡ behind_first (words_at words.old)) }
+{
+    let value = next_ipv6(words, field)?;
+    add_octets(octets, &value.octets())
+}
+
+fn add_name(
+    alloc: Global,
+    words: &mut ZoneWords<'_>,
+    origin: Option<&Name>,
+    field: &NameField,
+    octets: &mut Vec<u8>,
+) -> Result<(), ParseError>
+    ensures adds { AddsFirst (Gives (name (option_copied origin.entry)) name_octets) result octets.old.items octets.new.items words.old words.new }
+    ensures why { IfErr result (λ e. (e ≡ ParseError.Memory) ⊎ WhyFirst (ParseError.MissingToken field.now.name) (NameFault field.now (option_copied origin.entry)) words.old e) }
+    ensures behind { OnOk result (words_at words.new ≡ behind_first (words_at words.old)) }
+{
+    let value = next_name(alloc, words, origin, field)?;
+    add_labels(octets, &value)
+}
+
+fn add_string(
+    alloc: Global,
+    words: &mut ZoneWords<'_>,
+    field: &StringField,
+    octets: &mut Vec<u8>,
+) -> Result<(), ParseError>
+    ensures adds { AddsFirst (Gives string string_octets) result octets.old.items octets.new.items words.old words.new }
+    ensures why { IfErr result (λ e. (e ≡ ParseError.Memory) ⊎ WhyFirst (ParseError.MissingToken field.now.name) (StringFault field.now) words.old e) }
+    ensures behind { OnOk result (words_at words.new ≡ behind_first (words_at words.old)) }
+{
+    let value = next_string(alloc, words, field)?;
+    add_counted(octets, value.as_slice())
+}
+
+fn add_tag(
+    words: &mut ZoneWords<'_>,
+    field: Field,
+    octets: &mut Vec<u8>,
+) -> Result<(), ParseError>
+    ensures adds { AddsFirst (Gives tag string_octets) result octets.old.items octets.new.items words.old words.new }
+    ensures why { IfErr result (λ e. (e ≡ ParseError.Memory) ⊎ IsOfFieldOrCut field words.old e) }
+    ensures behind { OnOk result (words_at words.new ≡ behind_first (words_at words.old)) }
+{
+    let value = next_tag(words, field)?;
+    add_counted(octets, value)
+}
+
+fn add_text(
+    alloc: Global,
+    words: &mut ZoneWords<'_>,
+    field: Field,
+    octets: &mut Vec<u8>,
+) -> Result<(), ParseError>
+    ensures adds { AddsFirst (Gives text (λ s. s)) result octets.old.items octets.new.items words.old words.new }
+    ensures why { IfErr result (λ e. (e ≡ ParseError.Memory) ⊎ IsOfFieldOrCut field words.old e) }
+    ensures behind { OnOk result (words_at words.new ≡ behind_first (words_at words.old)) }
+{
+    let value = next_text(alloc, words, field)?;
+    add_octets(octets, value.as_slice())
+}
+
+// The next word, of 1 to 255 octets, without quotes, as it stands.
+#[inline]
+fn next_tag<'a>(words: &mut ZoneWords<'a>, field: Field) -> Result<&'a [u8], ParseError>
+    ensures reads { ReadsFirst tag (λ s. s.now) result words.old words.new }
+    ensures why { IfErr result (IsOfFieldOrCut field words.old) }
+    ensures behind { words_at words.new ≡ behind_first (words_at words.old) }
+{
+    let word = some_word(words, field.name)?;
+    tag_of(word, field.wrong)
+}
+
+#[inline]
+fn tag_of<'a>(word: ZoneWord<'a>, wrong: &'static str) -> Result<&'a [u8], ParseError>
+    ensures reads { ReadsAs tag (λ s. s.now) result (word_value word.entry) }
+    ensures why { IfErr result (λ e. e ≡ ParseError.Message wrong.entry) }
+{
+    let octets = word.raw;
+    if word.quoted || octets.len() == 0 || octets.len() > 255 {
+        return Err(ParseError::Message(wrong));
+    }
+    Ok(octets)
+}
+
+// Puts a name's labels behind octets, each with its length, and a 0 behind them.
+fn add_labels(octets: &mut Vec<u8>, name: &Name) -> Result<(), ParseError>
+    ensures added { OnOk result (octets.new.items ≡ octets.old.items ++ name_octets name.now) }
+    ensures memory { IfErr result (λ e. e ≡ ParseError.Memory) }
+{
+    // Called for its clauses: no label has more than 63 octets.
+    let _len = name.len();
+    for label in name.iter() {
+        add_counted(octets, label)?;
+    }
+    octets.push(0)?;
+    Ok(())
+}
+
+// Puts a string's length and its octets behind octets.
+#[inline]
+pub(crate) fn add_counted(octets: &mut Vec<u8>, string: &[u8]) -> Result<(), ParseError>
+    requires { length string.now ≤ 255 }
+    ensures added { OnOk result (octets.new.items ≡ octets.old.items ++ string_octets string.now) }
+    ensures memory { IfErr result (λ e. e ≡ ParseError.Memory) }
+{
+    octets.push(string.len() as u8)?;
+    octets.extend_from_slice(string)?;
+    Ok(())
+}
+
+// Puts octets behind others.
+#[inline]
+pub(crate) fn add_octets(octets: &mut Vec<u8>, more: &[u8]) -> Result<(), ParseError>
+    ensures added { OnOk result (octets.new.items ≡ octets.old.items ++ more.now) }
+    ensures memory { IfErr result (λ e. e ≡ ParseError.Memory) }
+{
+    octets.extend_from_slice(more)?;
+    Ok(())
+}

@@ -1,0 +1,18 @@
+//! Record data in zone files: rows of fields, and the octets that the words of a text give by them.
+#![tactic(auto)]
+
+pub mod fields;
+pub mod mnemonics;
+pub mod reading;
+pub mod remaining;
+pub mod row;
+pub mod table;
+mod types;
+
+pub use mnemonics::Mnemonic;
+pub use reading::row_octets;
+pub use row::{ZoneField, ZoneRest, ZoneRow};
+pub use table::row_of;
+
+#[cfg(test)]
+mod tests;

@@ -1,0 +1,148 @@
+//! Names of numbers in words.
+
+ghost use Rattle.std.specs.Prelude.{◌≡◌, IfErr, IfSome, IfNone};
+ghost use Rattle.std.specs.Str.{str_eq_ignore_ascii_case};
+ghost use Rattle.dns_zone_rows.specs.MnemonicViews.{named_values, IsByName, IsNotByName};
+ghost use Rattle.dns_zone_rows.specs.Mnemonics.{number_named, named_number, cert_types, algorithms};
+ghost use Rattle.dns_zone_words.specs.Views.{word_value};
+ghost use Rattle.dns_zone_words.specs.Words.{words_at, behind_first};
+ghost use Rattle.dns_zone_words.specs.ZoneReads.{ReadsAs, ReadsFirst, IsOfFieldOrCut};
+
+use dns_types::ParseError;
+use dns_zone_words::{Field, ZoneWord, ZoneWords, some_word, u8_of, u16_of};
+
+/// A name, and the number that it stands for.
+#[derive(Clone, Copy)]
+pub struct Mnemonic {
+    pub name: &'static str,
+    pub value: u8,
+}
+
+static CERT_TYPES: [Mnemonic; 10] = [
+    Mnemonic { name: "PKIX", value: 1 },
+    Mnemonic { name: "SPKI", value: 2 },
+    Mnemonic { name: "PGP", value: 3 },
+    Mnemonic { name: "IPKIX", value: 4 },
+    Mnemonic { name: "ISPKI", value: 5 },
+    Mnemonic { name: "IPGP", value: 6 },
+    Mnemonic { name: "ACPKIX", value: 7 },
+    Mnemonic { name: "IACPKIX", value: 8 },
+    Mnemonic { name: "URI", value: 253 },
+    Mnemonic { name: "OID", value: 254 },
+];
+
+static ALGORITHMS: [Mnemonic; 21] = [
+    Mnemonic { name: "RSAMD5", value: 1 },
+    Mnemonic { name: "DH", value: 2 },
+    Mnemonic { name: "DSA", value: 3 },
+    Mnemonic { name: "RSASHA1", value: 5 },
+    Mnemonic { name: "DSA-NSEC3-SHA1", value: 6 },
+    Mnemonic { name: "NSEC3DSA", value: 6 },
+    Mnemonic { name: "RSASHA1-NSEC3-SHA1", value: 7 },
+    Mnemonic { name: "NSEC3RSASHA1", value: 7 },
+    Mnemonic { name: "RSASHA256", value: 8 },
+    Mnemonic { name: "RSASHA512", value: 10 },
+    Mnemonic { name: "ECC-GOST", value: 12 },
+    Mnemonic { name: "ECCGOST", value: 12 },
+    Mnemonic { name: "ECDSAP256SHA256", value: 13 },
+    Mnemonic { name: "ECDSA256", value: 13 },
+    Mnemonic { name: "ECDSAP384SHA384", value: 14 },
+    Mnemonic { name: "ECDSA384", value: 14 },
+    Mnemonic { name: "ED25519", value: 15 },
+    Mnemonic { name: "ED448", value: 16 },
+    Mnemonic { name: "INDIRECT", value: 252 },
+    Mnemonic { name: "PRIVATEDNS", value: 253 },
+    Mnemonic { name: "PRIVATEOID", value: 254 },
+];
+
+/// The names of types of certificates (RFC 4398, 2.1).
+#[inline]
+pub fn cert_type_names() -> &'static [Mnemonic]
+    ensures { named_values result.now ≡ cert_types }
+{
+    &CERT_TYPES
+}
+
+/// The names of algorithms of keys (RFC 4034, A.1, and IANA's later ones), with the shorter names that BIND has.
+#[inline]
+pub fn algorithm_names() -> &'static [Mnemonic]
+    ensures { named_values result.now ≡ algorithms }
+{
+    &ALGORITHMS
+}
+
+/// The number of the first of the names that the text is, in letters of either case.
+pub fn number_named(names: &[Mnemonic], text: &[u8]) -> Option<u8>
+    ensures { result ≡ number_named (named_values names.now) text.now }
+{
+    for name in names {
+        if is_same_name(text, name.name.as_bytes()) {
+            return Some(name.value);
+        }
+    }
+    None
+}
+
+#[inline]
+fn is_same_name(text: &[u8], name: &[u8]) -> bool
+    ensures { result ≡ str_eq_ignore_ascii_case text.now name.now }
+{
+    text.eq_ignore_ascii_case(name)
+}
+
+// The number that a word without quotes stands for by its name.
+#[inline]
+fn number_by_name(word: ZoneWord<'_>, names: &[Mnemonic]) -> Option<u8>
+    ensures some { IfSome result (λ value. IsByName (named_values names.now) value (word_value word.entry)) }
+    ensures none { IfNone result (IsNotByName (named_values names.now) (word_value word.entry)) }
+{
+    if word.quoted {
+        return None;
+    }
+    number_named(names, word.raw)
+}
+
+/// A type of certificates, by its name or else by a number of 16 bits, without quotes. Any other word is refused by
+/// [`Message`](ParseError::Message) of the text `wrong`. Takes no memory.
+pub fn cert_type_of(word: ZoneWord<'_>, wrong: &'static str) -> Result<u16, ParseError>
+    ensures reads { ReadsAs (named_number 2 cert_types) (λ n. n) result (word_value word.entry) }
+    ensures why { IfErr result (λ e. e ≡ ParseError.Message wrong.entry) }
+{
+    match number_by_name(word, cert_type_names()) {
+        Some(value) => Ok(value as u16),
+        None => u16_of(word, wrong),
+    }
+}
+
+/// An algorithm of keys, by its name or else by a number of 8 bits, as `cert_type_of`.
+pub fn algorithm_of(word: ZoneWord<'_>, wrong: &'static str) -> Result<u8, ParseError>
+    ensures reads { ReadsAs (named_number 1 algorithms) (λ n. n) result (word_value word.entry) }
+    ensures why { IfErr result (λ e. e ≡ ParseError.Message wrong.entry) }
+{
+    match number_by_name(word, algorithm_names()) {
+        Some(value) => Ok(value),
+        None => u8_of(word, wrong),
+    }
+}
+
+/// A type of certificates (`cert_type_of`) of the next word. The word is taken, even where it is refused.
+#[inline]
+pub fn next_cert_type(words: &mut ZoneWords<'_>, field: Field) -> Result<u16, ParseError>
+    ensures reads { ReadsFirst (named_number 2 cert_types) (λ n. n) result words.old words.new }
+    ensures why { IfErr result (IsOfFieldOrCut field words.old) }
+    ensures behind { words_at words.new ≡ behind_first (words_at words.old) }
+{
+    let word = some_word(words, field.name)?;
+    cert_type_of(word, field.wrong)
+}
+
+/// An algorithm of keys (`algorithm_of`) of the next word, as `next_cert_type`.
+#[inline]
+pub fn next_algorithm(words: &mut ZoneWords<'_>, field: Field) -> Result<u8, ParseError>
+    ensures reads { ReadsFirst (named_number 1 algorithms) (λ n. n) result words.old words.new }
+    ensures why { IfErr result (IsOfFieldOrCut field words.old) }
+    ensures behind { words_at words.new ≡ behind_first (words_at words.old) }
+{
+    let word = some_word(words, field.name)?;
+    algorithm_of(word, field.wrong)
+}

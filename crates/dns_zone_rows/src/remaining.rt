@@ -1,0 +1,120 @@
+//! What all words behind the fields of a row are.
+
+ghost use Rattle.std.specs.Prelude.{◌≡◌, ◌≢◌, ◌≤◌, ◌⊎◌, ◌++◌, [], All, length, Ok, IfErr, OnOk, OnErr};
+ghost use Rattle.std.specs.List.{flat_map};
+ghost use Rattle.dns_fields.specs.Pieces.{string as string_octets};
+ghost use Rattle.dns_zone_words.specs.Forms.{StringFault};
+ghost use Rattle.dns_zone_words.specs.Refusals.{IsMessage};
+ghost use Rattle.dns_zone_words.specs.Remaining.{AmongFault, HexFault};
+ghost use Rattle.dns_zone_words.specs.Words.{words_at};
+ghost use Rattle.dns_zone_words.specs.ZoneReads.{LacksFirst};
+ghost use Rattle.dns_zone_rows.specs.RowFaults.{rest_kind_of, SurplusFault, RestFault};
+ghost use Rattle.dns_zone_rows.specs.RowSteps.{AddsAll};
+ghost use Rattle.dns_zone_rows.specs.Rows.{NoWord, SomeStrings, SomeHex, SomeBase64, RestGives};
+
+use crate::fields::{add_counted, add_octets};
+use crate::row::ZoneRest;
+use crate::types::add_types;
+use dns_types::{ParseError, Strings};
+use dns_zone_words::{
+    Field, HexField, StringField, ZoneWords, all_base64, all_hex, all_strings, no_more, some_word,
+};
+use std::alloc::Global;
+
+/// Takes all words that are left and puts the octets that they give behind the others.
+pub fn add_rest(
+    alloc: Global,
+    words: &mut ZoneWords<'_>,
+    rest: &ZoneRest,
+    octets: &mut Vec<u8>,
+) -> Result<(), ParseError>
+    ensures adds { AddsAll (RestGives (rest_kind_of rest.now)) result octets.old.items octets.new.items words.old }
+    ensures why { IfErr result (λ e. (e ≡ ParseError.Memory) ⊎ RestFault rest.now words.old e) }
+{
+    match rest {
+        ZoneRest::Nothing(surplus) => add_nothing(words, *surplus, octets),
+        ZoneRest::Strings(field) => add_strings(alloc, words, field, octets),
+        ZoneRest::Hex(missing, field) => add_hex(alloc, words, *missing, field, octets),
+        ZoneRest::Base64(field) => add_base64(alloc, words, *field, octets),
+        ZoneRest::Types(field) => add_types(words, *field, octets),
+    }
+}
+
+// No word may be left. As `add_rest`, and so are those below.
+fn add_nothing(
+    words: &mut ZoneWords<'_>,
+    surplus: &'static str,
+    octets: &mut Vec<u8>,
+) -> Result<(), ParseError>
+    ensures adds { AddsAll (RestGives NoWord) result octets.old.items octets.new.items words.old }
+    ensures why { IfErr result (λ e. (e ≡ ParseError.Memory) ⊎ SurplusFault (ParseError.Message surplus.entry) words.old e) }
+{
+    let _octets = octets.len();
+    no_more(words, surplus)
+}
+
+fn add_strings(
+    alloc: Global,
+    words: &mut ZoneWords<'_>,
+    field: &StringField,
+    octets: &mut Vec<u8>,
+) -> Result<(), ParseError>
+    ensures adds { AddsAll (RestGives SomeStrings) result octets.old.items octets.new.items words.old }
+    ensures why { IfErr result (λ e. (e ≡ ParseError.Memory) ⊎ LacksFirst (ParseError.MissingToken field.now.name) words.old e ⊎ AmongFault (StringFault field.now) words.old e) }
+{
+    ask_some(words, field.name)?;
+    let strings = all_strings(alloc, words, field)?;
+    add_all_counted(octets, &strings)
+}
+
+fn add_hex(
+    alloc: Global,
+    words: &mut ZoneWords<'_>,
+    missing: &'static str,
+    field: &HexField,
+    octets: &mut Vec<u8>,
+) -> Result<(), ParseError>
+    ensures adds { AddsAll (RestGives SomeHex) result octets.old.items octets.new.items words.old }
+    ensures why { IfErr result (λ e. (e ≡ ParseError.Memory) ⊎ LacksFirst (ParseError.MissingToken missing.entry) words.old e ⊎ HexFault field.now words.old e) }
+{
+    ask_some(words, missing)?;
+    let data = all_hex(alloc, words, field)?;
+    add_octets(octets, data.as_slice())
+}
+
+fn add_base64(
+    alloc: Global,
+    words: &mut ZoneWords<'_>,
+    field: Field,
+    octets: &mut Vec<u8>,
+) -> Result<(), ParseError>
+    ensures adds { AddsAll (RestGives SomeBase64) result octets.old.items octets.new.items words.old }
+    ensures why { IfErr result (λ e. (e ≡ ParseError.Memory) ⊎ LacksFirst (ParseError.MissingToken field.name) words.old e ⊎ IsMessage e) }
+{
+    ask_some(words, field.name)?;
+    let data = all_base64(alloc, words, field.wrong)?;
+    add_octets(octets, data.as_slice())
+}
+
+// That a word is left. Takes none.
+#[inline]
+fn ask_some(words: &ZoneWords<'_>, missing: &'static str) -> Result<(), ParseError>
+    ensures some { OnOk result (words_at words.now ≢ Ok []) }
+    ensures refused { IfErr result (LacksFirst (ParseError.MissingToken missing.entry) words.now) }
+{
+    some_word(&mut words.again(), missing)?;
+    Ok(())
+}
+
+// Puts strings behind octets, each behind its length.
+fn add_all_counted(octets: &mut Vec<u8>, strings: &Strings) -> Result<(), ParseError>
+    requires { All (λ string. length string ≤ 255) strings.now }
+    ensures added { OnOk result (octets.new.items ≡ octets.old.items ++ flat_map string_octets strings.now) }
+    ensures memory { IfErr result (λ e. e ≡ ParseError.Memory) }
+{
+    let strings = strings.as_slice();
+    for string in strings {
+        add_counted(octets, string.as_slice())?;
+    }
+    Ok(())
+}

@@ -1,0 +1,159 @@
+//! The row of each type of record.
+
+ghost use Rattle.std.specs.Prelude.{◌≡◌, map};
+ghost use Rattle.std.specs.Option.{option_map};
+ghost use Rattle.dns_zone_rows.specs.RowFaults.{kind_of, rest_kind_of, row_value};
+ghost use Rattle.dns_zone_rows.specs.RowTable.{row, row_of};
+ghost use Rattle.dns_zone_rows.specs.Rows.{NoWord};
+
+use crate::row::{ZoneField, ZoneRest, ZoneRow};
+use dns_types::RecordType;
+use dns_words::{base64_field, number_field, time_field};
+use dns_zone_words::{
+    Field, HexField, StringField, address_field, hex_field, name_field, string_field, text_field,
+};
+
+const SURPLUS: &str = "surplus word behind the record data";
+
+const CERT_DATA: Field = base64_field!("CERT data");
+
+const CSYNC_TYPES: Field = Field {
+    name: "CSYNC types",
+    wrong: "no record type in CSYNC types token",
+};
+
+const PUBLIC_KEY: Field = base64_field!("OPENPGPKEY public key");
+
+const CERTIFICATE: &str = "certificate association data";
+
+const CERTIFICATE_DATA: HexField = hex_field!("certificate association data");
+
+const FINGERPRINT: &str = "SSHFP fingerprint";
+
+const FINGERPRINT_DATA: HexField = hex_field!("SSHFP fingerprint");
+
+const TXT_DATA: StringField = string_field!("TXT data");
+
+static A: [ZoneField; 1] = [ZoneField::Ipv4(address_field!("A address"))];
+
+static AAAA: [ZoneField; 1] = [ZoneField::Ipv6(address_field!("AAAA address"))];
+
+static CAA: [ZoneField; 3] = [
+    ZoneField::U8(number_field!("CAA flags")),
+    ZoneField::Tag(Field {
+        name: "CAA tag",
+        wrong: "no word of 1 to 255 octets in CAA tag token",
+    }),
+    ZoneField::Text(text_field!("CAA value")),
+];
+
+static CERT: [ZoneField; 3] = [
+    ZoneField::CertType(number_field!("CERT cert_type")),
+    ZoneField::U16(number_field!("CERT key_tag")),
+    ZoneField::Algorithm(number_field!("CERT algorithm")),
+];
+
+static CNAME: [ZoneField; 1] = [ZoneField::Name(name_field!("CNAME name"))];
+
+static CSYNC: [ZoneField; 2] = [
+    ZoneField::U32(number_field!("CSYNC soa_serial")),
+    ZoneField::U16(number_field!("CSYNC flags")),
+];
+
+static HINFO: [ZoneField; 2] = [
+    ZoneField::String(string_field!("HINFO cpu")),
+    ZoneField::String(string_field!("HINFO os")),
+];
+
+static MX: [ZoneField; 2] = [
+    ZoneField::U16(number_field!("MX preference")),
+    ZoneField::Name(name_field!("MX exchange")),
+];
+
+static NAPTR: [ZoneField; 6] = [
+    ZoneField::U16(number_field!("NAPTR order")),
+    ZoneField::U16(number_field!("NAPTR preference")),
+    ZoneField::String(string_field!("NAPTR flags")),
+    ZoneField::String(string_field!("NAPTR services")),
+    ZoneField::String(string_field!("NAPTR regexp")),
+    ZoneField::Name(name_field!("NAPTR replacement")),
+];
+
+static NS: [ZoneField; 1] = [ZoneField::Name(name_field!("NS name"))];
+
+// Records that have no fields of one word.
+static NO_FIELDS: [ZoneField; 0] = [];
+
+static PTR: [ZoneField; 1] = [ZoneField::Name(name_field!("PTR name"))];
+
+static SOA: [ZoneField; 7] = [
+    ZoneField::Name(name_field!("SOA mname")),
+    ZoneField::Name(name_field!("SOA rname")),
+    ZoneField::U32(number_field!("SOA serial")),
+    ZoneField::Ttl(time_field!("SOA refresh", "4294967295")),
+    ZoneField::Ttl(time_field!("SOA retry", "4294967295")),
+    ZoneField::Ttl(time_field!("SOA expire", "4294967295")),
+    ZoneField::Ttl(time_field!("SOA minimum", "4294967295")),
+];
+
+static SRV: [ZoneField; 4] = [
+    ZoneField::U16(number_field!("SRV priority")),
+    ZoneField::U16(number_field!("SRV weight")),
+    ZoneField::U16(number_field!("SRV port")),
+    ZoneField::Name(name_field!("SRV target")),
+];
+
+static SSHFP: [ZoneField; 2] = [
+    ZoneField::U8(number_field!("SSHFP algorithm")),
+    ZoneField::U8(number_field!("SSHFP fingerprint type")),
+];
+
+// The fields of TLSA, which SMIMEA has too.
+static TLSA: [ZoneField; 3] = [
+    ZoneField::U8(number_field!("certificate usage")),
+    ZoneField::U8(number_field!("selector")),
+    ZoneField::U8(number_field!("matching type")),
+];
+
+/// The row of a type; none where a zone file has only the form of unknown data for it (RFC 3597, 5).
+pub fn row_of(record_type: RecordType) -> Option<ZoneRow>
+    ensures { option_map row_value result ≡ row_of record_type }
+{
+    match record_type {
+        RecordType::A => fields_alone(&A),
+        RecordType::AAAA => fields_alone(&AAAA),
+        RecordType::CAA => fields_alone(&CAA),
+        RecordType::CERT => fields_and(&CERT, ZoneRest::Base64(CERT_DATA)),
+        RecordType::CNAME => fields_alone(&CNAME),
+        RecordType::CSYNC => fields_and(&CSYNC, ZoneRest::Types(CSYNC_TYPES)),
+        RecordType::HINFO => fields_alone(&HINFO),
+        RecordType::MX => fields_alone(&MX),
+        RecordType::NAPTR => fields_alone(&NAPTR),
+        RecordType::NS => fields_alone(&NS),
+        RecordType::OPENPGPKEY => fields_and(&NO_FIELDS, ZoneRest::Base64(PUBLIC_KEY)),
+        RecordType::PTR => fields_alone(&PTR),
+        RecordType::SMIMEA => fields_and(&TLSA, ZoneRest::Hex(CERTIFICATE, CERTIFICATE_DATA)),
+        RecordType::SOA => fields_alone(&SOA),
+        RecordType::SRV => fields_alone(&SRV),
+        RecordType::SSHFP => fields_and(&SSHFP, ZoneRest::Hex(FINGERPRINT, FINGERPRINT_DATA)),
+        RecordType::TLSA => fields_and(&TLSA, ZoneRest::Hex(CERTIFICATE, CERTIFICATE_DATA)),
+        RecordType::TXT => fields_and(&NO_FIELDS, ZoneRest::Strings(TXT_DATA)),
+        _ => None,
+    }
+}
+
+// The row of fields with no word behind them.
+#[inline]
+fn fields_alone(fields: &'static [ZoneField]) -> Option<ZoneRow>
+    ensures { option_map row_value result ≡ row (map kind_of fields.now) NoWord }
+{
+    fields_and(fields, ZoneRest::Nothing(SURPLUS))
+}
+
+// The row of fields, and words behind them.
+#[inline]
+fn fields_and(fields: &'static [ZoneField], rest: ZoneRest) -> Option<ZoneRow>
+    ensures { option_map row_value result ≡ row (map kind_of fields.now) (rest_kind_of rest) }
+{
+    Some(ZoneRow { fields, rest })
+}
