@@ -1,0 +1,5 @@
+pub mod KeyNames
+pub mod Items
+pub mod Rises
+pub mod Once
+pub mod WordSteps

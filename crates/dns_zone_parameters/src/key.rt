@@ -67,15 +67,18 @@ impl ParameterKey {
 fn named(name: &[u8]) -> Option<ParameterKey>
     ensures { result ≡ named_key name.now }
 {
-    match str::from_utf8(name) {
-        Ok("mandatory") => Some(ParameterKey::Mandatory),
-        Ok("alpn") => Some(ParameterKey::Alpn),
-        Ok("no-default-alpn") => Some(ParameterKey::NoDefaultAlpn),
-        Ok("port") => Some(ParameterKey::Port),
-        Ok("ipv4hint") => Some(ParameterKey::Ipv4Hint),
-        Ok("ech") => Some(ParameterKey::Ech),
-        Ok("ipv6hint") => Some(ParameterKey::Ipv6Hint),
-        Ok("dohpath") => Some(ParameterKey::DohPath),
+    let Ok(text) = str::from_utf8(name) else {
+        return None;
+    };
+    match text {
+        "mandatory" => Some(ParameterKey::Mandatory),
+        "alpn" => Some(ParameterKey::Alpn),
+        "no-default-alpn" => Some(ParameterKey::NoDefaultAlpn),
+        "port" => Some(ParameterKey::Port),
+        "ipv4hint" => Some(ParameterKey::Ipv4Hint),
+        "ech" => Some(ParameterKey::Ech),
+        "ipv6hint" => Some(ParameterKey::Ipv6Hint),
+        "dohpath" => Some(ParameterKey::DohPath),
         _ => None,
     }
 }

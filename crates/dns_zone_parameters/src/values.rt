@@ -100,8 +100,8 @@ fn ech_of(alloc: Global, text: &[u8], wrong: &'static str) -> Result<Octets, Par
     ensures reads { Decides (HasOctets ParameterKey.Ech text.now) (λ x. x) result }
 {
     match STANDARD.decode(alloc, text) {
-        Ok(octets) => with_octets(Octets::from_vec(octets), wrong),
+        Ok(octets) if octets.len() > 0 => Ok(Octets::from_vec(octets)),
         Err(DecodeAllocError::OutOfMemory) => Err(ParseError::Memory),
-        Err(DecodeAllocError::DecodeError(_)) => Err(ParseError::Message(wrong)),
+        _ => Err(ParseError::Message(wrong)),
     }
 }

@@ -1,7 +1,7 @@
 //! Words that are service parameters (RFC 9460, 2.1).
 
 ghost use Rattle.std.specs.Prelude.{◌≡◌, ◌≤◌, ◌<◌, [], length, Ok, IfOk, IfSome, IfNone, OnErr};
-ghost use Rattle.std.specs.List.{position_or_len};
+ghost use Rattle.std.specs.List.{position};
 ghost use Rattle.dns_words.specs.Reads.{Decides};
 ghost use Rattle.dns_zone_words.specs.Remaining.{NoneOfAll};
 ghost use Rattle.dns_zone_words.specs.Words.{words_at};
@@ -71,14 +71,13 @@ fn next_written<'a>(words: &mut ZoneWords<'a>) -> Result<Option<Written<'a>>, Pa
         return Err(ParseError::Message(OTHER_WORD));
     }
     let raw = word.raw;
-    let at = equals_at(raw);
-    let name = &raw[..at];
-    if at == raw.len() {
+    let Some(at) = equals_at(raw) else {
         return Ok(Some(Written {
-            name,
-            value: &raw[at..],
+            name: raw,
+            value: &raw[raw.len()..],
         }));
-    }
+    };
+    let name = &raw[..at];
     let behind = &raw[at + 1..];
     if behind.len() > 0 {
         return Ok(Some(Written {
@@ -117,12 +116,9 @@ fn quoted_value<'a>(words: &mut ZoneWords<'a>) -> Result<Option<&'a [u8]>, Parse
     }
 }
 
-// Where the first `=` of a word stands, or where the word ends.
-fn equals_at(word: &[u8]) -> usize
-    ensures value { result ≡ position_or_len is_equals word.now }
-    ensures within { result ≤ length word.now }
+// Where the first `=` of a word stands.
+fn equals_at(word: &[u8]) -> Option<usize>
+    ensures { result ≡ position is_equals word.now }
 {
-    word.iter()
-        .position(|octet| *octet == b'=')
-        .unwrap_or(word.len())
+    word.iter().position(|octet| *octet == b'=')
 }
