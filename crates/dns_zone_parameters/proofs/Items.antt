@@ -1,12 +1,10 @@
 -- Items of a list, one by one.
-use Rattle.std.proofs.Common.{◌≡◌, ◌≢◌, ℕ, zero, suc, ◌+◌, ◌<◌, ◌≤◌, Bool, true, false, eqb, get_or, add-one, List, [], ◌∷◌, ◌++◌, length, take, drop, refl, sym, ◌∙◌, ap, subst, arith, ◌⊎◌, inl, inr, append_assoc}
+use Rattle.std.proofs.Common.{◌≡◌, ℕ, suc, ◌+◌, ◌<◌, Bool, true, false, eqb, get_or, add-one, List, [], ◌∷◌, ◌++◌, length, take, drop, refl, sym, ◌∙◌, ap, subst, arith, append_assoc, Option, Some, None}
 use Rattle.std.proofs.Math.Seq.{take-suc, drop-cons}
 use Rattle.std.specs.List.{AllZip}
-use Rattle.std.proofs.lemmas.Bool.{cases_lt}
-use Rattle.std.proofs.lemmas.List.{append-nil, take_all}
 use Rattle.dns_words.specs.Reads.{NoValue}
 use Rattle.dns_zone_parameters.specs.Lists.{items_from, items_in}
-use Rattle.dns_zone_parameters.specs.Steps.{ItemTaken}
+use Rattle.dns_zone_parameters.specs.Steps.{ItemCut}
 
 -- some items of the text were passed, and these belong to them
 pub record ItemsSo {Y : Type 0} (R : List ℕ → Y → Type 0) (text rest : List ℕ) (ys : List Y) : Type 0 where
@@ -30,35 +28,33 @@ one_of_both R (a ∷ xs) x more [] h = absurd h
 one_of_both R (a ∷ xs) x more (y ∷ ys) h = one_of_both R xs x more ys h.1
 
 -- one item more, and others behind it
-pub one_item : {Y : Type 0} (R : List ℕ → Y → Type 0) (text rest : List ℕ) (ys : List Y) (n : ℕ) (y : Y) → ItemsSo R text rest ys → ItemTaken rest n → n < length rest
-    → R (take n rest) y → ItemsSo R text (drop (n + 1) rest) (ys ++ y ∷ [])
-one_item R text rest ys n y so item more is = record {
-  done = so.done ++ take n rest ∷ [];
-  cut = so.cut ∙ ap (λ (l : List (List ℕ)). so.done ++ l) (item.more more) ∙ sym (append_assoc so.done (take n rest ∷ []) (items_in (drop (n + 1) rest)));
-  each = push_both R so.done ys (take n rest) y so.each is;
+pub one_item : {Y : Type 0} (R : List ℕ → Y → Type 0) (text rest new item : List ℕ) (ys more : List Y) (y : Y) → ItemsSo R text rest ys → items_in rest ≡ item ∷ items_in new
+    → R item y → more ≡ ys ++ y ∷ [] → ItemsSo R text new more
+one_item {Y} R text rest new item ys more y so first is e = record {
+  done = so.done ++ item ∷ [];
+  cut = so.cut ∙ ap (λ (l : List (List ℕ)). so.done ++ l) first ∙ sym (append_assoc so.done (item ∷ []) (items_in new));
+  each = subst (λ (l : List Y). AllZip R (so.done ++ item ∷ []) l) (sym e) (push_both R so.done ys item y so.each is);
 }
 
 -- the last item
-pub last_item : {Y : Type 0} (R : List ℕ → Y → Type 0) (text rest : List ℕ) (ys : List Y) (n : ℕ) (y : Y) → ItemsSo R text rest ys → ItemTaken rest n → n ≡ length rest
-    → R (take n rest) y → AllZip R (items_in text) (ys ++ y ∷ [])
-last_item R text rest ys n y so item last is =
-    let whole : take n rest ≡ rest = take_all n rest (omega arith) in
-    let cut : items_in text ≡ so.done ++ take n rest ∷ [] = so.cut ∙ ap (λ (l : List (List ℕ)). so.done ++ l) (item.last last ∙ ap (λ (x : List ℕ). x ∷ []) (sym whole)) in
-    subst (λ (l : List (List ℕ)). AllZip R l (ys ++ y ∷ [])) (sym cut) (push_both R so.done ys (take n rest) y so.each is)
+pub last_item : {Y : Type 0} (R : List ℕ → Y → Type 0) (text rest item : List ℕ) (ys more : List Y) (y : Y) → ItemsSo R text rest ys → items_in rest ≡ item ∷ []
+    → R item y → more ≡ ys ++ y ∷ [] → AllZip R (items_in text) more
+last_item {Y} R text rest item ys more y so first is e =
+    let cut : items_in text ≡ so.done ++ item ∷ [] = so.cut ∙ ap (λ (l : List (List ℕ)). so.done ++ l) first in
+    let each : AllZip R (so.done ++ item ∷ []) more = subst (λ (l : List Y). AllZip R (so.done ++ item ∷ []) l) (sym e) (push_both R so.done ys item y so.each is) in
+    subst (λ (l : List (List ℕ)). AllZip R l more) (sym cut) each
 
-first_item : (rest : List ℕ) (n : ℕ) → ItemTaken rest n → n ≤ length rest → (more : List (List ℕ)) × (items_in rest ≡ take n rest ∷ more)
-first_item rest n item within = elim (cases_lt n (length rest)) [
-  | inl h ↦ (items_in (drop (n + 1) rest), item.more h)
-  | inr h ↦ (let last : n ≡ length rest = omega arith in ([], item.last last ∙ ap (λ (x : List ℕ). x ∷ []) (sym (take_all n rest h))))
-]
+first_of : (text item : List ℕ) (behind : Option (List ℕ)) → ItemCut text item behind → (more : List (List ℕ)) × (items_in text ≡ item ∷ more)
+first_of text item None h = ([], h)
+first_of text item (Some rest) h = (items_in rest, h)
 
 -- nothing belongs to an item
-pub no_item : {Y : Type 0} (R : List ℕ → Y → Type 0) (text rest : List ℕ) (ys : List Y) (n : ℕ) → ItemsSo R text rest ys → ItemTaken rest n → n ≤ length rest
-    → NoValue (R (take n rest)) → (zs : List Y) → AllZip R (items_in text) zs → ⊥
-no_item R text rest ys n so item within none zs each =
-    let k = first_item rest n item within in
-    let cut : items_in text ≡ so.done ++ take n rest ∷ k.0 = so.cut ∙ ap (λ (l : List (List ℕ)). so.done ++ l) k.1 in
-    let one = one_of_both R so.done (take n rest) k.0 zs (subst (λ (l : List (List ℕ)). AllZip R l zs) cut each) in
+pub no_item : {Y : Type 0} (R : List ℕ → Y → Type 0) (text rest item : List ℕ) (behind : Option (List ℕ)) (ys : List Y) → ItemsSo R text rest ys → ItemCut rest item behind
+    → NoValue (R item) → (zs : List Y) → AllZip R (items_in text) zs → ⊥
+no_item R text rest item behind ys so first none zs each =
+    let k = first_of rest item behind first in
+    let cut : items_in text ≡ so.done ++ item ∷ k.0 = so.cut ∙ ap (λ (l : List (List ℕ)). so.done ++ l) k.1 in
+    let one = one_of_both R so.done item k.0 zs (subst (λ (l : List (List ℕ)). AllZip R l zs) cut each) in
     none.none one.0 one.1
 
 -- of lists that belong to the same items, by what determines them, there is one

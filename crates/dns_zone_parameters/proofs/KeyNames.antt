@@ -1,15 +1,27 @@
 -- A name is of one key at most, and why it is of none.
-use Rattle.std.proofs.Common.{◌≡◌, ℕ, Bool, true, false, List, ◌++◌, drop, refl, sym, ◌∙◌, ap, subst, Option, Some, None, inl, inr}
+use Rattle.std.proofs.Common.{◌≡◌, ℕ, zero, suc, arith, ◌&&◌, Bool, true, false, List, [], ◌∷◌, ◌++◌, drop, refl, sym, ◌∙◌, ap, subst, Option, Some, None, inl, inr}
 use Rattle.std.specs.Prelude.{codes, bytes_eq}
-use Rattle.std.specs.Str.{IsUtf8, is_utf8}
+use Rattle.std.specs.Str.{IsUtf8, IsAscii}
 use Rattle.std.specs.Str.Parse.{digits_value}
+use Rattle.std.specs.Char.{is_ascii}
+use Rattle.std.specs.List.{list_all}
+use Rattle.std.proofs.lemmas.Bool.Decides.{nat_tests}
 use Rattle.std.proofs.lemmas.Option.{same_Some}
 use Rattle.std.proofs.lemmas.Slice.Eq.{bytes_eq-Decides}
 use Rattle.std.proofs.lemmas.Bool.{cases_Bool}
-use Rattle.std.proofs.lemmas.Str.{IsUtf8-from_is_utf8}
+use Rattle.std.proofs.lemmas.Str.{IsUtf8-from_ascii}
 use Rattle.dns_zone_parameters.specs.Keys.{named_key, IsNumberedName, IsKeyName}
 use Rattle.dns_zone_parameters.specs.declared.key.ParameterKey.{ParameterKey}
 use Rattle.dns_zone_parameters.specs.declared.key.ParameterKey.TheVariants.{Mandatory, Alpn, NoDefaultAlpn, Port, Ipv4Hint, Ech, Ipv6Hint, DohPath, Numbered}
+
+second_true : (a b : Bool) → a && b ≡ true → b ≡ true
+second_true true b h = h
+second_true false b h = absurd (cc h)
+
+all_ascii : (text : List ℕ) → list_all is_ascii text ≡ true → IsAscii text
+all_ascii [] h i = omega arith
+all_ascii (c ∷ text) h zero = grind (arith, nat_tests)
+all_ascii (c ∷ text) h (suc i) = all_ascii text (second_true (is_ascii c) (list_all is_ascii text) h) i
 
 other_name : (name own : List ℕ) → IsUtf8 own → ¬ (IsUtf8 name) → bytes_eq name own ≡ false
 other_name name own is isnt = elim (cases_Bool (bytes_eq name own)) [
@@ -20,7 +32,8 @@ other_name name own is isnt = elim (cases_Bool (bytes_eq name own)) [
 -- each name is text
 pub no_text : (name : List ℕ) → ¬ (IsUtf8 name) → named_key name ≡ None
 no_text name isnt =
-    let other : (own : List ℕ) → is_utf8 own ≡ true → bytes_eq name own ≡ false = λ own is. other_name name own (IsUtf8-from_is_utf8 own is) isnt in
+    let other : (own : List ℕ) → list_all is_ascii own ≡ true → bytes_eq name own ≡ false =
+    λ own is. other_name name own (IsUtf8-from_ascii own (all_ascii own is)) isnt in
     rw (
       other (codes "mandatory") refl,
       other (codes "alpn") refl,

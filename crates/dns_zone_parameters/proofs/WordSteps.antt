@@ -1,8 +1,8 @@
 -- Parameters in words, one by one.
-use Rattle.std.proofs.Common.{◌≡◌, ◌≢◌, ℕ, suc, ◌+◌, ◌<◌, ◌≤◌, Bool, true, false, cond, ltb, min, List, [], ◌∷◌, ◌++◌, length, map, take, drop, get_or, Option, Some, None, Result, Ok, Err, refl, sym, ◌∙◌, ap, subst, arith, ◌⊎◌, inl, inr, add-one, length-append, append_assoc}
+use Rattle.std.proofs.Common.{◌≡◌, ◌≢◌, ℕ, suc, ◌+◌, ◌-◌, ◌<◌, ◌≤◌, Bool, true, false, cond, ltb, min, List, [], ◌∷◌, ◌++◌, length, map, take, drop, get_or, Option, Some, None, Result, Ok, Err, refl, sym, ◌∙◌, ap, subst, arith, ◌⊎◌, inl, inr, add-one, length-append, append_assoc}
 use Rattle.std.specs.List.{position, position_or_len}
 use Rattle.std.proofs.Math.Seq.{drop-cons}
-use Rattle.std.proofs.lemmas.List.{append-nil, drop_all, take_all, take-append-drop, length-take}
+use Rattle.std.proofs.lemmas.List.{append-nil, drop_all, take_all, take-append-drop, length-take, length-drop}
 use Rattle.std.proofs.lemmas.Bool.{cases_Bool}
 use Rattle.std.proofs.lemmas.Option.{same_Some}
 use Rattle.std.proofs.lemmas.Bool.Decides.{nat_tests}
@@ -182,6 +182,10 @@ ends_here word at is last =
     let none : drop (suc n) word ≡ [] = drop_all (suc n) word (omega (arith, k.0)) in
     let behind : drop n word ≡ 61 ∷ [] = drop-cons word n 0 k.1 ∙ ap (λ (x : ℕ). x ∷ drop (suc n) word) c ∙ ap (λ (x : List ℕ). 61 ∷ x) none in
     sym (take-append-drop n word) ∙ ap (λ (x : List ℕ). take n word ++ x) behind
+
+-- the code's slice to the end
+pub to_end : (word : List ℕ) (n : ℕ) → drop n word ≡ take (length word - n) (drop n word)
+to_end word n = sym (take_all (length word - n) (drop n word) (omega (arith, length-drop n word)))
 
 -- ---- refusals
 

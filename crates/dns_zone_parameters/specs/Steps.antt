@@ -16,6 +16,11 @@ pub record ItemTaken (text : List ℕ) (n : ℕ) : Type 0 where
   pub last : n ≡ length text → items_in text ≡ text ∷ []
   pub more : n < length text → items_in text ≡ take n text ∷ items_in (drop (n + 1) text)
 
+-- the text begins with this item, and with no other behind it, or with a comma and this rest
+abbrev pub ItemCut : List ℕ → List ℕ → Option (List ℕ) → Type 0
+ItemCut text item None = items_in text ≡ item ∷ []
+ItemCut text item (Some rest) = items_in text ≡ item ∷ items_in rest
+
 -- the octets of the item were appended
 pub record ItemPushed (item : ListItem) (text old new : List ℕ) : Type 0 where
   pub part : List ℕ

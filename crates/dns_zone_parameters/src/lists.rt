@@ -1,11 +1,12 @@
 //! Values that are lists (RFC 9460, 7.1.1, 7.3, 8 and appendix A.1).
 
-ghost use Rattle.std.specs.Prelude.{◌≡◌, ◌≤◌, ◌↔◌, IsTrue, length};
+ghost use Rattle.std.specs.Prelude.{◌≤◌, ◌<◌, ◌↔◌, IsTrue, IfSome, length};
 ghost use Rattle.std.specs.List.{AllZip};
+ghost use Rattle.std.specs.Option.{option_copied};
 ghost use Rattle.std.specs.List.Sorted.{IsStrictlyIncreasing};
 ghost use Rattle.dns_words.specs.Reads.{Decides};
 ghost use Rattle.dns_zone_parameters.specs.Lists.{items_in, IsList, IsKeyList, IsListedKey, IsProtocol};
-ghost use Rattle.dns_zone_parameters.specs.Steps.{ItemTaken, PushesItem};
+ghost use Rattle.dns_zone_parameters.specs.Steps.{ItemCut, ItemTaken, PushesItem};
 
 use crate::key::ParameterKey;
 use dns_types::{Octets, ParseError};
@@ -36,12 +37,12 @@ pub fn list_of(
     let mut octets = Vec::new(alloc);
     let mut rest = text;
     'items: loop {
-        let len = item_len(rest);
-        push_item(alloc, &mut octets, item, &rest[..len], wrong)?;
-        if len == rest.len() {
-            return Ok(Octets::from_vec(octets));
+        let (text, behind) = first_item(rest);
+        push_item(alloc, &mut octets, item, text, wrong)?;
+        match behind {
+            Some(more) => rest = more,
+            None => return Ok(Octets::from_vec(octets)),
         }
-        rest = &rest[len + 1..];
     }
 }
 
@@ -69,13 +70,13 @@ fn keys_in(alloc: Global, text: &[u8], wrong: &'static str) -> Result<Vec<u16>, 
     let mut keys = Vec::new(alloc);
     let mut rest = text;
     'items: loop {
-        let len = item_len(rest);
-        let key = listed_key(&rest[..len], wrong)?;
+        let (item, behind) = first_item(rest);
+        let key = listed_key(item, wrong)?;
         keys.push(key)?;
-        if len == rest.len() {
-            return Ok(keys);
+        match behind {
+            Some(more) => rest = more,
+            None => return Ok(keys),
         }
-        rest = &rest[len + 1..];
     }
 }
 
@@ -99,6 +100,20 @@ pub(crate) fn is_rising(numbers: &[u16]) -> bool
         }
     }
     true
+}
+
+// The first item of a list, and what stands behind its comma, if one ends it.
+fn first_item(text: &[u8]) -> (&[u8], Option<&[u8]>)
+    ensures cut { ItemCut text.now result.0.now (option_copied result.1) }
+    ensures shorter { IfSome result.1 (λ rest. length rest.now < length text.now) }
+{
+    let len = item_len(text);
+    let item = &text[..len];
+    if len == text.len() {
+        (item, None)
+    } else {
+        (item, Some(&text[len + 1..]))
+    }
 }
 
 // How many octets the first item of a list has.
