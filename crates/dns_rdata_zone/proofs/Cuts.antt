@@ -1,0 +1,220 @@
+-- Words that were written are cut from their text again.
+use Rattle.std.proofs.Common.{◌≡◌, ◌≢◌, ℕ, ◌+◌, ◌*◌, ◌/◌, ◌%◌, ◌<◌, ◌≤◌, Bool, true, false, cond, eqb, ◌||◌, ◌&&◌, nat_le, List, [], ◌∷◌, ◌++◌, Result, Ok, Err, refl, sym, ◌∙◌, ap, append_assoc, arith}
+use Rattle.std.specs.Prelude.{flat_map, not}
+use Rattle.std.specs.List.{AllByRecursion}
+use Rattle.std.proofs.lemmas.Bool.Decides.{nat_tests}
+use Rattle.std.proofs.lemmas.List.{append-nil}
+use Rattle.std.proofs.lemmas.List.Elements.{All-head, All-tail}
+use Rattle.dns_fields.specs.Octets.{AreOctets}
+use Rattle.dns_zone_words.specs.Remaining.{with_words}
+use Rattle.dns_zone_words.specs.Words.{Word, is_line_end, ends_run, begins_gap, between, run, run_backslash, quotes, quotes_backslash, words_from, with_word}
+use Rattle.dns_zone_words.specs.declared.words_error.WordsError.{WordsError}
+use Rattle.dns_rdata_zone.specs.Spellings.{escaped, three_digits, needs_backslash, name_octet}
+
+-- The text is cut into these words, in front of a blank and what follows it, and at the end.
+pub record AreCut (text : List ℕ) (words : List Word) : Type 0 where
+  pub then : (rest : List ℕ) → words_from (between 0 false) (text ++ 32 ∷ rest) ≡ with_words words (words_from (between 0 false) rest)
+  pub last : words_from (between 0 false) text ≡ Ok words
+
+-- a word without quotes, behind a blank
+abbrev pub bare_word : List ℕ → Word
+bare_word s = record { octets = s; quoted = false; joined = false }
+
+-- a word in quotes, behind a blank or right behind another word
+abbrev pub quoted_word : Bool → List ℕ → Word
+quoted_word joined s = record { octets = s; quoted = true; joined = joined }
+
+-- ---- lists of words
+
+words_append : (a b : List Word) (behind : Result (List Word) WordsError) → with_words (a ++ b) behind ≡ with_words a (with_words b behind)
+words_append [] b behind = refl
+words_append (w ∷ a) b behind = ap (with_word w) (words_append a b behind)
+
+words_all : (a b : List Word) → with_words a (Ok b) ≡ Ok (a ++ b)
+words_all [] b = refl
+words_all (w ∷ a) b = ap (with_word w) (words_all a b)
+
+-- two texts with a blank between
+pub cut_then : {a b : List ℕ} {ws vs : List Word} → AreCut a ws → AreCut b vs → AreCut (a ++ 32 ∷ b) (ws ++ vs)
+cut_then {a = a} {b = b} {ws = ws} {vs = vs} h k = record {
+  then = λ rest.
+      ap (words_from (between 0 false)) (append_assoc a (32 ∷ b) (32 ∷ rest))
+      ∙ h.then (b ++ 32 ∷ rest)
+      ∙ ap (with_words ws) (k.then rest)
+      ∙ sym (words_append ws vs (words_from (between 0 false) rest));
+  last = h.then b ∙ ap (with_words ws) k.last ∙ words_all ws vs;
+}
+
+-- ---- a word without quotes
+
+-- the octets are taken on within the word
+abbrev pub InRun : List ℕ → Type 0
+InRun s = (front rest : List ℕ) → words_from (run 0 false front) (s ++ rest) ≡ words_from (run 0 false (front ++ s)) rest
+
+-- they begin one
+abbrev pub BeginsRun : List ℕ → Type 0
+BeginsRun s = (rest : List ℕ) → words_from (between 0 false) (s ++ rest) ≡ words_from (run 0 false s) rest
+
+-- a graphic octet that stands for itself in a word without quotes
+abbrev pub is_run_octet : ℕ → Bool
+is_run_octet c = nat_le 33 c && (not (ends_run c) && not (eqb c 92))
+
+pub run_none : InRun []
+run_none front rest = ap (λ (f : List ℕ). words_from (run 0 false f) rest) (sym (append-nil front))
+
+pub run_append : (a b : List ℕ) → InRun a → InRun b → InRun (a ++ b)
+run_append a b h k front rest =
+    ap (words_from (run 0 false front)) (append_assoc a b rest) ∙ h front (b ++ rest) ∙ k (front ++ a) rest
+    ∙ ap (λ (f : List ℕ). words_from (run 0 false f) rest) (append_assoc front a b)
+
+pub begins_append : (a b : List ℕ) → BeginsRun a → InRun b → BeginsRun (a ++ b)
+begins_append a b h k rest = ap (words_from (between 0 false)) (append_assoc a b rest) ∙ h (b ++ rest) ∙ k a rest
+
+-- an octet that stands for itself
+run_one : (c : ℕ) → ends_run c ≡ false → eqb c 92 ≡ false → InRun (c ∷ [])
+run_one c h k front rest = rw (h, k) refl
+
+-- one behind a `\`
+run_two : (c : ℕ) → is_line_end c ≡ false → InRun (92 ∷ c ∷ [])
+run_two c h front rest = rw h (ap (λ (f : List ℕ). words_from (run 0 false f) rest) (append_assoc front (92 ∷ []) (c ∷ [])))
+
+run_digit : (d : ℕ) → d < 10 → InRun ((48 + d) ∷ [])
+run_digit d h = run_one (48 + d) (grind (arith, nat_tests)) (grind (arith, nat_tests))
+
+run_digits : (c : ℕ) → c < 256 → InRun (three_digits c)
+run_digits c h =
+    let first : InRun (92 ∷ (48 + c / 100) ∷ []) = run_two (48 + c / 100) (grind (arith, nat_tests)) in
+    run_append (92 ∷ (48 + c / 100) ∷ []) _ first
+    (run_append ((48 + c / 10 % 10) ∷ []) _ (run_digit (c / 10 % 10) (omega arith)) (run_digit (c % 10) (omega arith)))
+
+begins_one : (c : ℕ) → begins_gap c ≡ false → eqb c 34 ≡ false → eqb c 92 ≡ false → BeginsRun (c ∷ [])
+begins_one c g h k rest = rw (g, h, k) refl
+
+begins_two : (c : ℕ) → is_line_end c ≡ false → BeginsRun (92 ∷ c ∷ [])
+begins_two c h rest = rw h refl
+
+begins_digits : (c : ℕ) → c < 256 → BeginsRun (three_digits c)
+begins_digits c h =
+    let first : BeginsRun (92 ∷ (48 + c / 100) ∷ []) = begins_two (48 + c / 100) (grind (arith, nat_tests)) in
+    begins_append (92 ∷ (48 + c / 100) ∷ []) _ first
+    (run_append ((48 + c / 10 % 10) ∷ []) _ (run_digit (c / 10 % 10) (omega arith)) (run_digit (c % 10) (omega arith)))
+
+-- a text that begins a word, and goes on in it to its end, is that word
+pub bare_cut : (s : List ℕ) → BeginsRun s → AreCut s (bare_word s ∷ [])
+bare_cut s h = record {
+  then = λ rest. h (32 ∷ rest);
+  last = ap (words_from (between 0 false)) (sym (append-nil s)) ∙ h [];
+}
+
+-- octets that stand for themselves
+abbrev pub AreRunOctets : List ℕ → Type 0
+AreRunOctets s = AllByRecursion (λ c. is_run_octet c ≡ true) s
+
+run_is : (c : ℕ) → is_run_octet c ≡ true → InRun (c ∷ [])
+run_is c h = run_one c (grind (arith, nat_tests)) (grind (arith, nat_tests))
+
+begins_is : (c : ℕ) → is_run_octet c ≡ true → BeginsRun (c ∷ [])
+begins_is c h = begins_one c (grind (arith, nat_tests)) (grind (arith, nat_tests)) (grind (arith, nat_tests))
+
+pub run_plain : (s : List ℕ) → AreRunOctets s → InRun s
+run_plain [] h = run_none
+run_plain (c ∷ s) h = run_append (c ∷ []) s (run_is c h.0) (run_plain s h.1)
+
+pub begins_plain : (s : List ℕ) → s ≢ [] → AreRunOctets s → BeginsRun s
+begins_plain [] some h = absurd (some refl)
+begins_plain (c ∷ s) some h = begins_append (c ∷ []) s (begins_is c h.0) (run_plain s h.1)
+
+pub plain_cut : (s : List ℕ) → s ≢ [] → AreRunOctets s → AreCut s (bare_word s ∷ [])
+plain_cut s some h = bare_cut s (begins_plain s some h)
+
+-- ---- labels
+
+run_test : (b : Bool) (x y : List ℕ) → (b ≡ true → InRun x) → (b ≡ false → InRun y) → InRun (cond b x y)
+run_test true x y h k = h refl
+run_test false x y h k = k refl
+
+begins_test : (b : Bool) (x y : List ℕ) → (b ≡ true → BeginsRun x) → (b ≡ false → BeginsRun y) → BeginsRun (cond b x y)
+begins_test true x y h k = h refl
+begins_test false x y h k = k refl
+
+pub name_octet_run : (c : ℕ) → c < 256 → InRun (name_octet c)
+name_octet_run c h = run_test (needs_backslash c) _ _ (λ e. run_two c (grind (arith, nat_tests)))
+    (λ e. run_test (nat_le 33 c && nat_le c 126) _ _ (λ f. run_one c (grind (arith, nat_tests)) (grind (arith, nat_tests))) (λ f. run_digits c h))
+
+pub name_octet_begins : (c : ℕ) → c < 256 → BeginsRun (name_octet c)
+name_octet_begins c h = begins_test (needs_backslash c) _ _ (λ e. begins_two c (grind (arith, nat_tests)))
+    (λ e. begins_test (nat_le 33 c && nat_le c 126) _ _
+    (λ f. begins_one c (grind (arith, nat_tests)) (grind (arith, nat_tests)) (grind (arith, nat_tests))) (λ f. begins_digits c h))
+
+pub spelled_run : (s : List ℕ) → AreOctets s → InRun (flat_map name_octet s)
+spelled_run [] h = run_none
+spelled_run (c ∷ s) h = run_append (name_octet c) (flat_map name_octet s) (name_octet_run c (All-head (λ x. x < 256) c s h))
+    (spelled_run s (All-tail (λ x. x < 256) c s h))
+
+-- ---- a word in quotes
+
+-- the octets are taken on within the quotes
+abbrev pub InQuotes : List ℕ → Type 0
+InQuotes s = (joined : Bool) (front rest : List ℕ) → words_from (quotes 0 joined front) (s ++ rest) ≡ words_from (quotes 0 joined (front ++ s)) rest
+
+pub quotes_none : InQuotes []
+quotes_none joined front rest = ap (λ (f : List ℕ). words_from (quotes 0 joined f) rest) (sym (append-nil front))
+
+pub quotes_append : (a b : List ℕ) → InQuotes a → InQuotes b → InQuotes (a ++ b)
+quotes_append a b h k joined front rest =
+    ap (words_from (quotes 0 joined front)) (append_assoc a b rest) ∙ h joined front (b ++ rest) ∙ k joined (front ++ a) rest
+    ∙ ap (λ (f : List ℕ). words_from (quotes 0 joined f) rest) (append_assoc front a b)
+
+quotes_one : (c : ℕ) → eqb c 34 ≡ false → eqb c 10 ≡ false → eqb c 92 ≡ false → InQuotes (c ∷ [])
+quotes_one c h k e joined front rest = rw (h, k, e) refl
+
+quotes_two : (c : ℕ) → InQuotes (92 ∷ c ∷ [])
+quotes_two c joined front rest = ap (λ (f : List ℕ). words_from (quotes 0 joined f) rest) (append_assoc front (92 ∷ []) (c ∷ []))
+
+quotes_digit : (d : ℕ) → d < 10 → InQuotes ((48 + d) ∷ [])
+quotes_digit d h = quotes_one (48 + d) (grind (arith, nat_tests)) (grind (arith, nat_tests)) (grind (arith, nat_tests))
+
+quotes_digits : (c : ℕ) → c < 256 → InQuotes (three_digits c)
+quotes_digits c h = quotes_append (92 ∷ (48 + c / 100) ∷ []) _ (quotes_two (48 + c / 100))
+    (quotes_append ((48 + c / 10 % 10) ∷ []) _ (quotes_digit (c / 10 % 10) (omega arith)) (quotes_digit (c % 10) (omega arith)))
+
+quotes_test : (b : Bool) (x y : List ℕ) → (b ≡ true → InQuotes x) → (b ≡ false → InQuotes y) → InQuotes (cond b x y)
+quotes_test true x y h k = h refl
+quotes_test false x y h k = k refl
+
+escaped_quotes : (c : ℕ) → c < 256 → InQuotes (escaped c)
+escaped_quotes c h = quotes_test (eqb c 34 || eqb c 92) _ _ (λ e. quotes_two c)
+    (λ e. quotes_test (nat_le 32 c && nat_le c 126) _ _
+    (λ f. quotes_one c (grind (arith, nat_tests)) (grind (arith, nat_tests)) (grind (arith, nat_tests))) (λ f. quotes_digits c h))
+
+pub spelled_quotes : (s : List ℕ) → AreOctets s → InQuotes (flat_map escaped s)
+spelled_quotes [] h = quotes_none
+spelled_quotes (c ∷ s) h = quotes_append (escaped c) (flat_map escaped s) (escaped_quotes c (All-head (λ x. x < 256) c s h))
+    (spelled_quotes s (All-tail (λ x. x < 256) c s h))
+
+quotes_plain_one : (c : ℕ) → is_run_octet c ≡ true → InQuotes (c ∷ [])
+quotes_plain_one c h = quotes_one c (grind (arith, nat_tests)) (grind (arith, nat_tests)) (grind (arith, nat_tests))
+
+pub plain_quotes : (s : List ℕ) → AreRunOctets s → InQuotes s
+plain_quotes [] h = quotes_none
+plain_quotes (c ∷ s) h = quotes_append (c ∷ []) s (quotes_plain_one c h.0) (plain_quotes s h.1)
+
+-- what stands in quotes is a word
+pub quoted_cut : (s : List ℕ) → InQuotes s → AreCut (34 ∷ (s ++ 34 ∷ [])) (quoted_word false s ∷ [])
+quoted_cut s h = record {
+  then = λ rest.
+      ap (words_from (quotes 0 false [])) (append_assoc s (34 ∷ []) (32 ∷ rest))
+      ∙ h false [] (34 ∷ 32 ∷ rest);
+  last = h false [] (34 ∷ []);
+}
+
+-- and so it is right behind a word without quotes
+pub joined_cut : (key s : List ℕ) → BeginsRun key → InQuotes s → AreCut (key ++ 34 ∷ (s ++ 34 ∷ [])) (bare_word key ∷ quoted_word true s ∷ [])
+joined_cut key s b h = record {
+  then = λ rest.
+      ap (words_from (between 0 false)) (append_assoc key (34 ∷ (s ++ 34 ∷ [])) (32 ∷ rest))
+      ∙ b (34 ∷ ((s ++ 34 ∷ []) ++ 32 ∷ rest))
+      ∙ ap (λ (t : List ℕ). with_word (bare_word key) (words_from (quotes 0 true []) t)) (append_assoc s (34 ∷ []) (32 ∷ rest))
+      ∙ ap (with_word (bare_word key)) (h true [] (34 ∷ 32 ∷ rest));
+  last = b (34 ∷ (s ++ 34 ∷ [])) ∙ ap (with_word (bare_word key)) (h true [] (34 ∷ []));
+}

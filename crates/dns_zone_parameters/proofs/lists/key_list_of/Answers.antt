@@ -1,0 +1,9 @@
+use Rattle.std.proofs.Common.{◌≡◌, true, false, sym, ◌∙◌}
+use Rattle.dns_zone_parameters.proofs.ValueSteps.{no_rise}
+use Rattle.dns_zone_parameters.proofs.lists.key_list_of.Goals as goal
+
+pub returns-then-not-is_rising : goal.returns-then-not-is_rising
+returns-then-not-is_rising c = record {
+  reads = no_rise c.args.text.now c.in_ok-keys.keys.items c.sort_unstable.new.self.items c.in_ok-keys.ensures.reads c.sort_unstable.ensures.permutation
+      c.sort_unstable.ensures.sorted ?;
+}

@@ -1,0 +1,18 @@
+use Rattle.std.proofs.Common.{◌∙◌, ap, map, [], ◌∷◌}
+use Rattle.std.proofs.lemmas.List.{map-append}
+use Rattle.dns_zone_parameters.specs.Steps.{ReadsNext}
+use Rattle.dns_zone_parameters.specs.Views.{parameter_value}
+use Rattle.dns_zone_parameters.proofs.ParameterSteps.{one_parameter, all_taken}
+use Rattle.dns_zone_parameters.proofs.parameters_in.Goals as goal
+
+pub words-preserved : goal.words-preserved
+words-preserved c =
+    let took = rw c.in-Some.is at c.in_ok-parameter.ensures.reads in
+    one_parameter (map parameter_value c.words.parameters.items) (map parameter_value c.push.new.self.items) (parameter_value c.in-Some.parameter) c.args.words.now
+    c.words.words c.next_parameter.new.words c.words.invariant took
+    (ap (map parameter_value) c.in_ok-push-in-Some.ensures.items ∙ map-append parameter_value c.words.parameters.items (c.in-Some.parameter ∷ []))
+
+pub returns-in-None : goal.returns-in-None
+returns-in-None c = record {
+  reads = all_taken (map parameter_value c.words.parameters.items) c.args.words.now c.words.words c.words.invariant (rw c.in-None.is at c.in_ok-parameter.ensures.reads);
+}

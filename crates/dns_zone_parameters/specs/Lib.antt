@@ -1,0 +1,6 @@
+pub mod Keys
+pub mod Lists
+pub mod Parameters
+pub mod Steps
+pub mod Values
+pub mod Views

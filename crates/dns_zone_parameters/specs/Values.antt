@@ -1,0 +1,36 @@
+-- Values of service parameters in texts of zone files (RFC 9460, 2.1, 7 and 8; RFC 9461, 5).
+use Rattle.std.specs.Prelude.{◌≡◌, ◌≢◌, ℕ, ◌<◌, ◌^◌, true, List, [], length, map, Ok}
+use Rattle.std.specs.Int.{bytes_high_first}
+use Rattle.std.specs.Str.Parse.{IsNumeral, digits_value}
+use Rattle.base64.specs.Engines.{standard}
+use Rattle.base64.specs.GeneralPurpose.{decode_of}
+use Rattle.dns_zone_words.specs.Letters.{letters, octet_of, escapes_stand}
+use Rattle.dns_zone_parameters.specs.Lists.{IsList, IsKeyList}
+use Rattle.dns_zone_parameters.specs.declared.key.ParameterKey.{ParameterKey}
+use Rattle.dns_zone_parameters.specs.declared.key.ParameterKey.TheVariants.{Mandatory, Alpn, NoDefaultAlpn, Port, Ipv4Hint, Ech, Ipv6Hint, DohPath, Numbered}
+use Rattle.dns_zone_parameters.specs.declared.lists.ListItem.TheVariants.{Protocol, Ipv4, Ipv6}
+
+-- a decimal number of 16 bits
+pub record IsPort (text octets : List ℕ) : Type 0 where
+  pub digits : IsNumeral 10 text
+  pub fits : digits_value 10 text < 2 ^ 16
+  pub value : octets ≡ bytes_high_first 2 (digits_value 10 text)
+
+-- The octets on the wire that a value of the key has, by the octets of its text. A key that is written by its number takes
+-- the text's octets, whatever the number.
+abbrev pub HasOctets : ParameterKey → List ℕ → List ℕ → Type 0
+HasOctets Mandatory text octets = IsKeyList text octets
+HasOctets Alpn text octets = IsList Protocol text octets
+HasOctets NoDefaultAlpn text octets = (text ≡ []) × (octets ≡ [])
+HasOctets Port text octets = IsPort text octets
+HasOctets Ipv4Hint text octets = IsList Ipv4 text octets
+HasOctets Ech text octets = (decode_of standard text ≡ Ok octets) × (octets ≢ [])
+HasOctets Ipv6Hint text octets = IsList Ipv6 text octets
+HasOctets DohPath text octets = (octets ≡ text) × (octets ≢ [])
+HasOctets (Numbered n) text octets = octets ≡ text
+
+-- the text of a value, as it stands, has these octets on the wire
+pub record IsValue (key : ParameterKey) (text octets : List ℕ) : Type 0 where
+  pub escapes : escapes_stand text ≡ true
+  pub has : HasOctets key (map octet_of (letters text)) octets
+  pub fits : length octets < 2 ^ 16

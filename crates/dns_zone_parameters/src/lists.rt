@@ -1,0 +1,200 @@
+//! Values that are lists (RFC 9460, 7.1.1, 7.3, 8 and appendix A.1).
+
+ghost use Rattle.std.specs.Prelude.{◌≤◌, ◌<◌, ◌↔◌, IsTrue, IfSome, length};
+ghost use Rattle.std.specs.List.{AllZip};
+ghost use Rattle.std.specs.Option.{option_copied};
+ghost use Rattle.std.specs.List.Sorted.{IsStrictlyIncreasing};
+ghost use Rattle.dns_words.specs.Reads.{Decides};
+ghost use Rattle.dns_zone_parameters.specs.Lists.{items_in, IsList, IsKeyList, IsListedKey, IsProtocol};
+ghost use Rattle.dns_zone_parameters.specs.Steps.{ItemCut, ItemTaken, PushesItem};
+
+use crate::key::ParameterKey;
+use dns_types::{Octets, ParseError};
+use dns_zone_words::{ZoneWord, ipv4_of, ipv6_of};
+use std::alloc::Global;
+
+/// What the items of a list are.
+#[derive(Clone, Copy, Debug, PartialEq, Eq)]
+pub enum ListItem {
+    /// Names of protocols, each behind its length of one octet.
+    Protocol,
+    /// IPv4 addresses.
+    Ipv4,
+    /// IPv6 addresses.
+    Ipv6,
+}
+
+/// The octets of the items of a list, one behind the other. A list has one item at least. Any other text is refused by
+/// [`Message`](ParseError::Message) of the text `wrong`.
+pub fn list_of(
+    alloc: Global,
+    item: ListItem,
+    text: &[u8],
+    wrong: &'static str,
+) -> Result<Octets, ParseError>
+    ensures reads { Decides (IsList item text.now) (λ x. x) result }
+{
+    let mut octets = Vec::new(alloc);
+    let mut rest = text;
+    'items: loop {
+        let (text, behind) = first_item(rest);
+        push_item(alloc, &mut octets, item, text, wrong)?;
+        match behind {
+            Some(more) => rest = more,
+            None => return Ok(Octets::from_vec(octets)),
+        }
+    }
+}
+
+/// The numbers of the keys of a list, in rising order. A list has one key at least, none twice, and not `mandatory`. Any
+/// other text is refused by [`Message`](ParseError::Message) of the text `wrong`.
+pub fn key_list_of(alloc: Global, text: &[u8], wrong: &'static str) -> Result<Octets, ParseError>
+    ensures reads { Decides (IsKeyList text.now) (λ x. x) result }
+{
+    let mut keys = keys_in(alloc, text, wrong)?;
+    keys.sort_unstable();
+    if !is_rising(keys.as_slice()) {
+        return Err(ParseError::Message(wrong));
+    }
+    let mut octets = Vec::with_capacity(alloc, keys.len())?;
+    for key in &keys {
+        octets.extend_from_slice(&key.to_be_bytes())?;
+    }
+    Ok(Octets::from_vec(octets))
+}
+
+// The numbers of the keys of a list, in its order.
+fn keys_in(alloc: Global, text: &[u8], wrong: &'static str) -> Result<Vec<u16>, ParseError>
+    ensures reads { Decides (AllZip IsListedKey (items_in text.now)) (λ keys. keys.items) result }
+{
+    let mut keys = Vec::new(alloc);
+    let mut rest = text;
+    'items: loop {
+        let (item, behind) = first_item(rest);
+        let key = listed_key(item, wrong)?;
+        keys.push(key)?;
+        match behind {
+            Some(more) => rest = more,
+            None => return Ok(keys),
+        }
+    }
+}
+
+// The number of the key that an item names.
+fn listed_key(item: &[u8], wrong: &'static str) -> Result<u16, ParseError>
+    ensures reads { Decides (IsListedKey item.now) (λ n. n) result }
+{
+    match ParameterKey::of_name(item) {
+        Some(key) if key.number() != 0 => Ok(key.number()),
+        _ => Err(ParseError::Message(wrong)),
+    }
+}
+
+// Whether each number is below the next.
+pub(crate) fn is_rising(numbers: &[u16]) -> bool
+    ensures { IsTrue result ↔ IsStrictlyIncreasing numbers.now }
+{
+    for i in 1..numbers.len() {
+        if numbers[i - 1] >= numbers[i] {
+            return false;
+        }
+    }
+    true
+}
+
+// The first item of a list, and what stands behind its comma, if one ends it.
+fn first_item(text: &[u8]) -> (&[u8], Option<&[u8]>)
+    ensures cut { ItemCut text.now result.0.now (option_copied result.1) }
+    ensures shorter { IfSome result.1 (λ rest. length rest.now < length text.now) }
+{
+    let len = item_len(text);
+    let item = &text[..len];
+    if len == text.len() {
+        (item, None)
+    } else {
+        (item, Some(&text[len + 1..]))
+    }
+}
+
+// How many octets the first item of a list has.
+fn item_len(text: &[u8]) -> usize
+    ensures within { result ≤ length text.now }
+    ensures item { ItemTaken text.now result }
+{
+    let mut at = 0usize;
+    'octets: while at < text.len() && text[at] != b',' {
+        if text[at] == b'\\' && at + 1 < text.len() {
+            at += 2;
+        } else {
+            at += 1;
+        }
+    }
+    at
+}
+
+// Appends the octets of an item.
+fn push_item(
+    alloc: Global,
+    octets: &mut Vec<u8>,
+    item: ListItem,
+    text: &[u8],
+    wrong: &'static str,
+) -> Result<(), ParseError>
+    ensures reads { PushesItem item text.now result octets.old.items octets.new.items }
+{
+    let word = ZoneWord {
+        raw: text,
+        quoted: false,
+        joined: false,
+    };
+    match item {
+        ListItem::Protocol => push_protocol(alloc, octets, text, wrong),
+        ListItem::Ipv4 => {
+            let address = ipv4_of(word, wrong)?;
+            octets.extend_from_slice(&address.octets())?;
+            Ok(())
+        }
+        ListItem::Ipv6 => {
+            let address = ipv6_of(word, wrong)?;
+            octets.extend_from_slice(&address.octets())?;
+            Ok(())
+        }
+    }
+}
+
+// Appends the name of a protocol behind its length.
+fn push_protocol(
+    alloc: Global,
+    octets: &mut Vec<u8>,
+    text: &[u8],
+    wrong: &'static str,
+) -> Result<(), ParseError>
+    ensures reads { PushesItem ListItem.Protocol text.now result octets.old.items octets.new.items }
+{
+    let name = protocol_of(alloc, text, wrong)?;
+    octets.push(name.len() as u8)?;
+    octets.extend_from_slice(name.as_slice())?;
+    Ok(())
+}
+
+// The name of a protocol that an item is.
+fn protocol_of(alloc: Global, text: &[u8], wrong: &'static str) -> Result<Vec<u8>, ParseError>
+    ensures reads { Decides (λ name. IsProtocol name text.now) (λ name. name.items) result }
+{
+    let mut name = Vec::with_capacity(alloc, text.len())?;
+    let mut rest = text;
+    'octets: while rest.len() > 0 {
+        if rest[0] == b'\\' {
+            rest = &rest[1..];
+            if rest.len() == 0 {
+                return Err(ParseError::Message(wrong));
+            }
+        }
+        name.push(rest[0])?;
+        rest = &rest[1..];
+    }
+    if name.len() == 0 || name.len() > 255 {
+        return Err(ParseError::Message(wrong));
+    }
+    Ok(name)
+}

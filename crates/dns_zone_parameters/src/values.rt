@@ -1,0 +1,107 @@
+//! Values of service parameters (RFC 9460, 2.1, 7 and 8; RFC 9461, 5).
+
+ghost use Rattle.dns_words.specs.Reads.{Decides};
+ghost use Rattle.dns_zone_parameters.specs.Values.{HasOctets, IsPort, IsValue};
+
+use crate::key::ParameterKey;
+use crate::lists::{ListItem, key_list_of, list_of};
+use base64::DecodeAllocError;
+use base64::engine::general_purpose::STANDARD;
+use dns_types::{Octets, ParseError};
+use dns_zone_words::{ZoneWord, text_of, u16_of};
+use std::alloc::Global;
+
+const ESCAPE: &str = "`\\` without a meaning in the value of a service parameter";
+
+const LONG: &str = "service parameter of more than 65535 octets";
+
+/// The octets on the wire of a value of the key, by its text as it stands.
+pub fn value_of(alloc: Global, key: ParameterKey, text: &[u8]) -> Result<Octets, ParseError>
+    ensures reads { Decides (IsValue key text.now) (λ x. x) result }
+{
+    let word = ZoneWord {
+        raw: text,
+        quoted: true,
+        joined: true,
+    };
+    let octets = octets_of(alloc, key, text_of(alloc, word, ESCAPE)?)?;
+    if octets.len() > 65535 {
+        return Err(ParseError::Message(LONG));
+    }
+    Ok(octets)
+}
+
+// The same by the octets of the text.
+fn octets_of(alloc: Global, key: ParameterKey, text: Octets) -> Result<Octets, ParseError>
+    ensures reads { Decides (HasOctets key text) (λ x. x) result }
+{
+    let wrong = wrong_value(key);
+    match key {
+        ParameterKey::Mandatory => key_list_of(alloc, text.as_slice(), wrong),
+        ParameterKey::Alpn => list_of(alloc, ListItem::Protocol, text.as_slice(), wrong),
+        ParameterKey::NoDefaultAlpn => without_octets(text, wrong),
+        ParameterKey::Port => port_of(alloc, text.as_slice(), wrong),
+        ParameterKey::Ipv4Hint => list_of(alloc, ListItem::Ipv4, text.as_slice(), wrong),
+        ParameterKey::Ech => ech_of(alloc, text.as_slice(), wrong),
+        ParameterKey::Ipv6Hint => list_of(alloc, ListItem::Ipv6, text.as_slice(), wrong),
+        ParameterKey::DohPath => with_octets(text, wrong),
+        ParameterKey::Numbered(_) => Ok(text),
+    }
+}
+
+// What is said of a value that is none of the key.
+fn wrong_value(key: ParameterKey) -> &'static str {
+    match key {
+        ParameterKey::Mandatory => "no list of different keys in mandatory",
+        ParameterKey::Alpn => "no list of protocols in alpn",
+        ParameterKey::NoDefaultAlpn => "value of no-default-alpn",
+        ParameterKey::Port => "no number of 16 bits in port",
+        ParameterKey::Ipv4Hint => "no list of addresses in ipv4hint",
+        ParameterKey::Ech => "no base64 in ech",
+        ParameterKey::Ipv6Hint => "no list of addresses in ipv6hint",
+        ParameterKey::DohPath => "no path in dohpath",
+        ParameterKey::Numbered(_) => "value of a service parameter",
+    }
+}
+
+fn without_octets(octets: Octets, wrong: &'static str) -> Result<Octets, ParseError>
+    ensures reads { Decides (HasOctets ParameterKey.NoDefaultAlpn octets) (λ x. x) result }
+{
+    if octets.len() > 0 {
+        return Err(ParseError::Message(wrong));
+    }
+    Ok(octets)
+}
+
+fn with_octets(octets: Octets, wrong: &'static str) -> Result<Octets, ParseError>
+    ensures reads { Decides (HasOctets ParameterKey.DohPath octets) (λ x. x) result }
+{
+    if octets.len() == 0 {
+        return Err(ParseError::Message(wrong));
+    }
+    Ok(octets)
+}
+
+// The two octets of a port.
+fn port_of(alloc: Global, text: &[u8], wrong: &'static str) -> Result<Octets, ParseError>
+    ensures reads { Decides (IsPort text.now) (λ x. x) result }
+{
+    let word = ZoneWord {
+        raw: text,
+        quoted: false,
+        joined: false,
+    };
+    let port = u16_of(word, wrong)?;
+    Ok(Octets::from_slice(alloc, &port.to_be_bytes())?)
+}
+
+// The octets of base64.
+fn ech_of(alloc: Global, text: &[u8], wrong: &'static str) -> Result<Octets, ParseError>
+    ensures reads { Decides (HasOctets ParameterKey.Ech text.now) (λ x. x) result }
+{
+    match STANDARD.decode(alloc, text) {
+        Ok(octets) if octets.len() > 0 => Ok(Octets::from_vec(octets)),
+        Err(DecodeAllocError::OutOfMemory) => Err(ParseError::Memory),
+        _ => Err(ParseError::Message(wrong)),
+    }
+}
