@@ -1,14 +1,15 @@
 -- Words that were written are cut from their text again.
-use Rattle.std.proofs.Common.{◌≡◌, ◌≢◌, ℕ, ◌+◌, ◌*◌, ◌/◌, ◌%◌, ◌<◌, ◌≤◌, Bool, true, false, cond, eqb, ◌||◌, ◌&&◌, nat_le, List, [], ◌∷◌, ◌++◌, Result, Ok, Err, refl, sym, ◌∙◌, ap, append_assoc, arith}
-use Rattle.std.specs.Prelude.{flat_map, not}
+use Rattle.std.proofs.Common.{◌≡◌, ◌≢◌, ℕ, suc, length, get_or, All, ◌+◌, ◌*◌, ◌/◌, ◌%◌, ◌<◌, ◌≤◌, Bool, true, false, cond, eqb, ◌||◌, ◌&&◌, nat_le, List, [], ◌∷◌, ◌++◌, Result, Ok, Err, refl, sym, ◌∙◌, ap, append_assoc, arith}
+use Rattle.std.specs.Prelude.{flat_map, not, codes}
 use Rattle.std.specs.List.{AllByRecursion}
 use Rattle.std.proofs.lemmas.Bool.Decides.{nat_tests}
 use Rattle.std.proofs.lemmas.List.{append-nil}
 use Rattle.std.proofs.lemmas.List.Elements.{All-head, All-tail}
 use Rattle.dns_fields.specs.Octets.{AreOctets}
 use Rattle.dns_zone_words.specs.Remaining.{with_words}
-use Rattle.dns_zone_words.specs.Words.{Word, is_line_end, ends_run, begins_gap, between, run, run_backslash, quotes, quotes_backslash, words_from, with_word}
+use Rattle.dns_zone_words.specs.Words.{Word, is_blank, is_line_end, ends_run, begins_gap, between, run, run_backslash, quotes, quotes_backslash, words_from, with_word}
 use Rattle.dns_zone_words.specs.declared.words_error.WordsError.{WordsError}
+use Rattle.dns_rdata_zone.specs.Names.{zone_label, zone_labels}
 use Rattle.dns_rdata_zone.specs.Spellings.{escaped, three_digits, needs_backslash, name_octet}
 
 -- The text is cut into these words, in front of a blank and what follows it, and at the end.
@@ -87,8 +88,13 @@ run_digits c h =
     run_append (92 ∷ (48 + c / 100) ∷ []) _ first
     (run_append ((48 + c / 10 % 10) ∷ []) _ (run_digit (c / 10 % 10) (omega arith)) (run_digit (c % 10) (omega arith)))
 
+begins_by : (c : ℕ) → is_blank c ≡ false → is_line_end c ≡ false → eqb c 59 ≡ false → eqb c 40 ≡ false → eqb c 41 ≡ false → eqb c 34 ≡ false
+    → eqb c 92 ≡ false → BeginsRun (c ∷ [])
+begins_by c b l s o p h k rest = rw (b, l, s, o, p, h, k) refl
+
 begins_one : (c : ℕ) → begins_gap c ≡ false → eqb c 34 ≡ false → eqb c 92 ≡ false → BeginsRun (c ∷ [])
-begins_one c g h k rest = rw (g, h, k) refl
+begins_one c g h k = begins_by c (grind (arith, nat_tests)) (grind (arith, nat_tests)) (grind (arith, nat_tests)) (grind (arith, nat_tests))
+    (grind (arith, nat_tests)) h k
 
 begins_two : (c : ℕ) → is_line_end c ≡ false → BeginsRun (92 ∷ c ∷ [])
 begins_two c h rest = rw h refl
@@ -98,6 +104,10 @@ begins_digits c h =
     let first : BeginsRun (92 ∷ (48 + c / 100) ∷ []) = begins_two (48 + c / 100) (grind (arith, nat_tests)) in
     begins_append (92 ∷ (48 + c / 100) ∷ []) _ first
     (run_append ((48 + c / 10 % 10) ∷ []) _ (run_digit (c / 10 % 10) (omega arith)) (run_digit (c % 10) (omega arith)))
+
+-- `\#`
+pub mark_begins : BeginsRun (92 ∷ 35 ∷ [])
+mark_begins = begins_two 35 refl
 
 -- a text that begins a word, and goes on in it to its end, is that word
 pub bare_cut : (s : List ℕ) → BeginsRun s → AreCut s (bare_word s ∷ [])
@@ -109,6 +119,21 @@ bare_cut s h = record {
 -- octets that stand for themselves
 abbrev pub AreRunOctets : List ℕ → Type 0
 AreRunOctets s = AllByRecursion (λ c. is_run_octet c ≡ true) s
+
+pub run_not : (c : ℕ) → is_run_octet c ≡ true → c ≢ 92
+run_not c h = λ e. absurd (grind (arith, nat_tests))
+
+pub run_by_index : (s : List ℕ) → ((k : ℕ) → k < length s → is_run_octet (get_or s k 0) ≡ true) → AreRunOctets s
+run_by_index [] h = tt
+run_by_index (c ∷ s) h = (h 0 (omega arith), run_by_index s (λ k lt. h (suc k) (omega arith)))
+
+pub run_all : (P : ℕ → Type 0) → ((c : ℕ) → P c → is_run_octet c ≡ true) → (s : List ℕ) → All P s → AreRunOctets s
+run_all P f [] h = tt
+run_all P f (c ∷ s) h = (f c (All-head P c s h), run_all P f s (All-tail P c s h))
+
+pub run_both : (a b : List ℕ) → AreRunOctets a → AreRunOctets b → AreRunOctets (a ++ b)
+run_both [] b h k = k
+run_both (c ∷ a) b h k = (h.0, run_both a b h.1 k)
 
 run_is : (c : ℕ) → is_run_octet c ≡ true → InRun (c ∷ [])
 run_is c h = run_one c (grind (arith, nat_tests)) (grind (arith, nat_tests))
@@ -150,6 +175,29 @@ pub spelled_run : (s : List ℕ) → AreOctets s → InRun (flat_map name_octet 
 spelled_run [] h = run_none
 spelled_run (c ∷ s) h = run_append (name_octet c) (flat_map name_octet s) (name_octet_run c (All-head (λ x. x < 256) c s h))
     (spelled_run s (All-tail (λ x. x < 256) c s h))
+
+label_run : (s : List ℕ) → AreOctets s → InRun (zone_label s)
+label_run s h = run_append (flat_map name_octet s) (codes ".") (spelled_run s h) (run_one 46 refl refl)
+
+labels_run : (ls : List (List ℕ)) → AllByRecursion AreOctets ls → InRun (flat_map zone_label ls)
+labels_run [] h = run_none
+labels_run (l ∷ ls) h = run_append (zone_label l) (flat_map zone_label ls) (label_run l h.0) (labels_run ls h.1)
+
+label_begins : (s : List ℕ) → s ≢ [] → AreOctets s → BeginsRun (zone_label s)
+label_begins [] some h = absurd (some refl)
+label_begins (c ∷ s) some h = begins_append (name_octet c ++ flat_map name_octet s) (codes ".")
+    (begins_append (name_octet c) (flat_map name_octet s) (name_octet_begins c (All-head (λ x. x < 256) c s h)) (spelled_run s (All-tail (λ x. x < 256) c s h)))
+    (run_one 46 refl refl)
+
+-- no label is empty
+abbrev pub NoneEmpty : List (List ℕ) → Type 0
+NoneEmpty [] = Unit {0}
+NoneEmpty (l ∷ ls) = (l ≢ []) × NoneEmpty ls
+
+pub name_cut : (ls : List (List ℕ)) → AllByRecursion AreOctets ls → NoneEmpty ls → AreCut (zone_labels ls) (bare_word (zone_labels ls) ∷ [])
+name_cut [] h k = bare_cut (codes ".") (begins_one 46 refl refl refl)
+name_cut (l ∷ ls) h k = bare_cut (zone_label l ++ flat_map zone_label ls)
+    (begins_append (zone_label l) (flat_map zone_label ls) (label_begins l k.0 h.0) (labels_run ls h.1))
 
 -- ---- a word in quotes
 

@@ -14,5 +14,7 @@ pub mod Strings
 pub mod TypeWords
 pub mod WholeOctets
 pub mod Words
+pub mod ZoneGives
 pub mod ZoneReads
+pub mod ZoneSteps
 pub mod ZoneTexts

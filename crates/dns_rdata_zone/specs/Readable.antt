@@ -3,9 +3,9 @@ use Rattle.std.specs.Prelude.{◌≢◌, ℕ, ◌<◌, ◌^◌, List, [], length
 use Rattle.std.specs.Int.{cast_unsigned, w32}
 use Rattle.std.specs.List.{AllByRecursion}
 use Rattle.std.specs.Net.Addr.{IsIpv4Addr, IsIpv6Addr}
-use Rattle.dns_fields.specs.Labels.{DomainName, AreLabels}
+use Rattle.dns_fields.specs.Labels.{DomainName, IsName}
 use Rattle.dns_fields.specs.Octets.{AreOctets}
-use Rattle.dns_fields.specs.Pieces.{Rising}
+use Rattle.dns_fields.specs.Pieces.{parameter_octets, Rising}
 use Rattle.dns_rdata.specs.declared.record_data.RData.{RData}
 use Rattle.dns_rdata.specs.declared.record_data.RData.TheVariants as rdata
 use Rattle.dns_rdata_base.specs.declared.soa.SOA.{SOA}
@@ -19,6 +19,7 @@ use Rattle.dns_rdata_certs.specs.SshfpAlgorithm.{sshfp_algorithm_number}
 use Rattle.dns_rdata_certs.specs.declared.tlsa.TLSA.{TLSA}
 use Rattle.dns_rdata_service.specs.Parameters.{Parameter, parameter_of}
 use Rattle.dns_rdata_service.specs.SvcParamKey.{key_number}
+use Rattle.dns_rdata_service.specs.SvcParamValue.{value_of}
 use Rattle.dns_rdata_service.specs.declared.svcb.SVCB.{SVCB}
 use Rattle.dns_rdata_service.specs.declared.svcb.value.SvcParamValue.{SvcParamValue}
 use Rattle.dns_rdata_service.specs.declared.svcb.value.SvcParamValue.TheVariants as values
@@ -35,10 +36,15 @@ pub record AreData (s : List ℕ) : Type 0 where
 abbrev pub AllOctets : List (List ℕ) → Type 0
 AllOctets ss = AllByRecursion AreOctets ss
 
--- a name of octets, none of whose labels is empty
+-- a string of at most 255 octets
+pub record IsString (s : List ℕ) : Type 0 where
+  pub octets : AreOctets s
+  pub fits : length s < 256
+
+-- a name of octets
 pub record IsWritable (x : DomainName) : Type 0 where
   pub octets : AllOctets x.labels
-  pub labels : AreLabels x.labels
+  pub is_name : IsName x
 
 -- the numbers fit 32 bits
 pub record AreSmall (x : SOA) : Type 0 where
@@ -53,10 +59,10 @@ abbrev pub IsWritableTlsa : TLSA → Type 0
 IsWritableTlsa x = (cert_usage_number x.cert_usage < 2 ^ 8) × (selector_number x.selector < 2 ^ 8) × (matching_number x.matching < 2 ^ 8)
     × AreOctets x.cert_data
 
--- there are keys and protocols, numbers fit 16 bits, and octets are octets
+-- There are keys and protocols, names of protocols are strings, numbers fit 16 bits, and octets are octets.
 abbrev pub IsWritableValue : SvcParamValue → Type 0
 IsWritableValue (values.Mandatory x) = (x.0 ≢ []) × AllByRecursion (λ k. key_number k < 2 ^ 16) x.0
-IsWritableValue (values.Alpn x) = (x.0 ≢ []) × AllOctets x.0
+IsWritableValue (values.Alpn x) = (x.0 ≢ []) × AllByRecursion IsString x.0
 IsWritableValue values.NoDefaultAlpn = Unit {0}
 IsWritableValue (values.Port n) = n < 2 ^ 16
 IsWritableValue (values.Ipv4Hint x) = AllByRecursion (λ a. IsIpv4Addr a.0) x.0
@@ -66,7 +72,7 @@ IsWritableValue (values.DohPath x) = AreOctets x.0
 IsWritableValue (values.Unknown x) = AreOctets x.0
 
 abbrev pub IsWritableParameter : Parameter → Type 0
-IsWritableParameter p = (key_number p.0 < 2 ^ 16) × IsWritableValue p.1
+IsWritableParameter p = (key_number p.0 < 2 ^ 16) × IsWritableValue p.1 × (length (parameter_octets (value_of p.1)) < 2 ^ 16)
 
 pub record IsWritableService (x : SVCB) : Type 0 where
   pub priority : x.svc_priority < 2 ^ 16
@@ -78,15 +84,15 @@ pub record IsWritableService (x : SVCB) : Type 0 where
 abbrev pub FieldsFit : RData → Type 0
 FieldsFit (rdata.A x) = IsIpv4Addr x.0
 FieldsFit (rdata.AAAA x) = IsIpv6Addr x.0
-FieldsFit (rdata.CAA x) = (caa_flags x < 2 ^ 8) × AreOctets x.value
+FieldsFit (rdata.CAA x) = (caa_flags x < 2 ^ 8) × (length x.tag < 256) × AreOctets x.value
 FieldsFit (rdata.CERT x) = (cert_type_number x.cert_type < 2 ^ 16) × (x.key_tag < 2 ^ 16) × (cert_algorithm_number x.algorithm < 2 ^ 8)
     × AreOctets x.cert_data
 FieldsFit (rdata.CNAME x) = IsWritable x.0
 FieldsFit (rdata.CSYNC x) = (x.soa_serial < 2 ^ 32) × (csync_flags x < 2 ^ 16) × AllByRecursion (λ n. n < 2 ^ 16) x.type_bit_maps
-FieldsFit (rdata.HINFO x) = AreOctets x.cpu × AreOctets x.os
+FieldsFit (rdata.HINFO x) = IsString x.cpu × IsString x.os
 FieldsFit (rdata.HTTPS x) = IsWritableService x.0
 FieldsFit (rdata.MX x) = (x.preference < 2 ^ 16) × IsWritable x.exchange
-FieldsFit (rdata.NAPTR x) = (x.order < 2 ^ 16) × (x.preference < 2 ^ 16) × AreOctets x.flags × AreOctets x.services × AreOctets x.regexp
+FieldsFit (rdata.NAPTR x) = (x.order < 2 ^ 16) × (x.preference < 2 ^ 16) × IsString x.flags × IsString x.services × IsString x.regexp
     × IsWritable x.replacement
 FieldsFit (rdata.NS x) = IsWritable x.0
 FieldsFit (rdata.OPENPGPKEY x) = AreOctets x.public_key
@@ -98,7 +104,7 @@ FieldsFit (rdata.SSHFP x) = (sshfp_algorithm_number x.algorithm < 2 ^ 8) × (fin
     × AreOctets x.fingerprint
 FieldsFit (rdata.SVCB x) = IsWritableService x
 FieldsFit (rdata.TLSA x) = IsWritableTlsa x
-FieldsFit (rdata.TXT x) = AllOctets x.txt_data
+FieldsFit (rdata.TXT x) = AllByRecursion IsString x.txt_data
 FieldsFit v = Unit {0}
 
 pub record IsReadable (v : RData) : Type 0 where

@@ -69,7 +69,7 @@ fn count_octets(rdata: &RData) -> Option<u64>
 }
 
 // The canonical octets behind the first n.
-fn octets_behind(rdata: &RData, n: usize) -> CanonicalOctets<'_>
+pub(crate) fn octets_behind(rdata: &RData, n: usize) -> CanonicalOctets<'_>
     ensures { result.octets ≡ drop n (data_octets rdata.now) }
 {
     let mut octets = rdata.canonical_octets();

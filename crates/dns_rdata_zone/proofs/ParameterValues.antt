@@ -1,0 +1,398 @@
+-- Values of parameters that were written are read as they were.
+use Rattle.std.proofs.Common.{rules, ◌≡◌, ◌≢◌, ℕ, zero, suc, ◌+◌, ◌*◌, ◌^◌, ◌<◌, ◌≤◌, Bool, true, false, cond, eqb, ◌||◌, ◌&&◌, nat_lt, List, [], ◌∷◌, ◌++◌, map, length, take, drop, get_or, All, inl, inr, decimal, codes, Ok, refl, sym, ◌∙◌, ap, subst, append_assoc, arith}
+use Rattle.std.specs.Prelude.{flat_map, slice_index, not, bytes_eq}
+use Rattle.std.specs.Int.{bytes_high_first}
+use Rattle.std.specs.List.{AllByRecursion, AllZip, list_all}
+use Rattle.std.specs.List.Sorted.{IsStrictlyIncreasing}
+use Rattle.std.specs.Net.Addr.{IsIpv4Addr, IsIpv6Addr, ipv4_octets, ipv6_segments, octets_of}
+use Rattle.std.specs.Net.Text.{ipv4_text, ipv6_text, hex_groups_text}
+use Rattle.std.proofs.NetLemmas.Alphabet.{IsDigitOrDot, IsHexOrColon, All-ipv4_text, All-hex_groups_text}
+use Rattle.std.proofs.NetLemmas.Texts.{AllSegments, AllSegments-drop}
+use Rattle.std.proofs.lemmas.Str.Parse.{digit_at}
+use Rattle.std.proofs.lemmas.Bool.Decides.{nat_tests}
+use Rattle.std.proofs.lemmas.Fmt.{decimal_is_IsNumeral}
+use Rattle.std.proofs.lemmas.Grind.{flat_map-append}
+use Rattle.std.proofs.lemmas.List.{append-nil}
+use Rattle.std.proofs.lemmas.List.Elements.{All-append, All-cons, All-head, All-nil, All-tail}
+use Rattle.std.proofs.lemmas.List.Sorted.{IsPermutation-refl}
+use Rattle.base64.specs.Engines.{standard}
+use Rattle.base64.specs.GeneralPurpose.{encode_of, decode_of}
+use Rattle.base64.proofs.EngineFacts.{decode_of-encode_of}
+use Rattle.dns_fields.specs.Octets.{AreOctets}
+use Rattle.dns_fields.specs.Pieces.{string}
+use Rattle.dns_rdata_base.specs.A.{a_text}
+use Rattle.dns_rdata_base.specs.AAAA.{aaaa_text}
+use Rattle.dns_rdata_base.specs.declared.a.A.{A}
+use Rattle.dns_rdata_base.specs.declared.aaaa.AAAA.{AAAA}
+use Rattle.dns_rdata_service.specs.SvcParamKey.{key_number}
+use Rattle.dns_rdata_service.specs.SvcParamValue.{a_octets, aaaa_octets}
+use Rattle.dns_rdata_service.specs.declared.svcb.key.SvcParamKey.{SvcParamKey}
+use Rattle.dns_words.proofs.Printed.{ipv4_back, ipv6_back}
+use Rattle.dns_zone_words.specs.Letters.{Letter, plain, letters, octet_of, escapes_stand}
+use Rattle.dns_zone_parameters.specs.Keys.{key_number as spelled_number}
+use Rattle.dns_zone_parameters.specs.Lists.{items_from, items_in, unescaped_from, escapes_end_from, IsProtocol, IsItem, IsList, IsListedKey, IsKeyList}
+use Rattle.dns_zone_parameters.specs.Values.{HasOctets, IsPort, IsValue}
+use Rattle.dns_zone_parameters.specs.declared.key.ParameterKey.{ParameterKey}
+use Rattle.dns_zone_parameters.specs.declared.key.ParameterKey.TheVariants as keys
+use Rattle.dns_zone_parameters.specs.declared.lists.ListItem.{ListItem}
+use Rattle.dns_zone_parameters.specs.declared.lists.ListItem.TheVariants as items
+use Rattle.dns_rdata_zone.specs.Lists.{commas}
+use Rattle.dns_rdata_zone.specs.Parameters.{key_name, named_key, protocol, rises_from}
+use Rattle.dns_rdata_zone.specs.Spellings.{escaped, item_octet, protocol_octet}
+use Rattle.dns_rdata_zone.proofs.Cuts.{is_run_octet, AreRunOctets, run_both, InQuotes, plain_quotes, spelled_quotes, quoted_word}
+use Rattle.dns_rdata_zone.proofs.Letters.{first_true, second_true}
+use Rattle.dns_rdata_zone.proofs.ParameterForms.{key_of, key_is, IsKeyOf, by_key}
+use Rattle.dns_rdata_zone.proofs.RowForms.{decimal_run, base64_run, base64_some, bytes_of, bounded}
+use Rattle.dns_rdata_zone.proofs.WordForms.{text_form}
+
+-- ---- texts of values
+
+-- octets that stand for themselves
+run_slash : (c : ℕ) → is_run_octet c ≡ true → eqb c 92 ≡ false
+run_slash c h = grind (arith, nat_tests)
+
+plain_letters : (s : List ℕ) → AreRunOctets s → letters s ≡ map plain s
+plain_letters [] h = refl
+plain_letters (c ∷ s) h = rw (run_slash c h.0) (ap (λ (l : List Letter). plain c ∷ l) (plain_letters s h.1))
+
+plain_octets : (s : List ℕ) → map octet_of (map plain s) ≡ s
+plain_octets [] = refl
+plain_octets (c ∷ s) = ap (λ (t : List ℕ). c ∷ t) (plain_octets s)
+
+plain_escapes : (s : List ℕ) → AreRunOctets s → escapes_stand s ≡ true
+plain_escapes [] h = refl
+plain_escapes (c ∷ s) h = rw (run_slash c h.0) (plain_escapes s h.1)
+
+-- a value whose text's octets stand for themselves
+pub plain_value : (key : ParameterKey) (s octets : List ℕ) → AreRunOctets s → HasOctets key s octets → length octets < 2 ^ 16 → IsValue key s octets
+plain_value key s octets h has fits = record {
+  escapes = plain_escapes s h;
+  has = subst (λ (t : List ℕ). HasOctets key t octets) (sym (ap (map octet_of) (plain_letters s h) ∙ plain_octets s)) has;
+  fits = fits;
+}
+
+-- a value whose text was escaped
+pub escaped_value : (key : ParameterKey) (s octets : List ℕ) → AreOctets s → HasOctets key s octets → length octets < 2 ^ 16 → IsValue key (flat_map escaped s) octets
+escaped_value key s octets h has fits =
+    let form = text_form true s h in
+    record { escapes = form.escapes; has = subst (λ (t : List ℕ). HasOctets key t octets) form.value has; fits = fits }
+
+-- ---- lists whose items have no comma and no `\`
+
+-- it stands for itself in a word, and is no comma
+abbrev pub AreItemOctets : List ℕ → Type 0
+AreItemOctets s = AllByRecursion (λ c. (is_run_octet c ≡ true) × (eqb c 44 ≡ false)) s
+
+item_then : (s front rest : List ℕ) → AreItemOctets s → items_from false front (s ++ 44 ∷ rest) ≡ (front ++ s) ∷ items_from false [] rest
+item_then [] front rest h = ap (λ (l : List ℕ). l ∷ items_from false [] rest) (sym (append-nil front))
+item_then (c ∷ s) front rest h = rw (h.0.1, run_slash c h.0.0)
+    (item_then s (front ++ c ∷ []) rest h.1 ∙ ap (λ (l : List ℕ). l ∷ items_from false [] rest) (append_assoc front (c ∷ []) s))
+
+item_end : (s front : List ℕ) → AreItemOctets s → items_from false front s ≡ (front ++ s) ∷ []
+item_end [] front h = ap (λ (l : List ℕ). l ∷ []) (sym (append-nil front))
+item_end (c ∷ s) front h = rw (h.0.1, run_slash c h.0.0)
+    (item_end s (front ++ c ∷ []) h.1 ∙ ap (λ (l : List ℕ). l ∷ []) (append_assoc front (c ∷ []) s))
+
+-- the text is one item, in front of a comma and at the end
+pub record IsOneItem (text : List ℕ) : Type 0 where
+  pub then : (rest : List ℕ) → items_from false [] (text ++ 44 ∷ rest) ≡ text ∷ items_from false [] rest
+  pub end : items_from false [] text ≡ text ∷ []
+
+pub plain_item : (s : List ℕ) → AreItemOctets s → IsOneItem s
+plain_item s h = record { then = λ rest. item_then s [] rest h; end = item_end s [] h }
+
+pub items_are : {X : Type 0} (f : X → List ℕ) (x : X) (xs : List X) → AllByRecursion (λ y. IsOneItem (f y)) (x ∷ xs)
+    → items_in (f x ++ flat_map (λ y. codes "," ++ f y) xs) ≡ f x ∷ map f xs
+items_are f x [] h = ap items_in (append-nil (f x)) ∙ h.0.end
+items_are f x (y ∷ ys) h =
+    h.0.then (f y ++ flat_map (λ z. codes "," ++ f z) ys) ∙ ap (λ (l : List (List ℕ)). f x ∷ l) (items_are f y ys h.1)
+
+pub commas_are : {X : Type 0} (f : X → List ℕ) (xs : List X) → xs ≢ [] → AllByRecursion (λ y. IsOneItem (f y)) xs → items_in (commas f xs) ≡ map f xs
+commas_are f [] some h = absurd (some refl)
+commas_are f (x ∷ xs) some h = items_are f x xs h
+
+item_run : (s : List ℕ) → AreItemOctets s → AreRunOctets s
+item_run [] h = tt
+item_run (c ∷ s) h = (h.0.0, item_run s h.1)
+
+further_run : {X : Type 0} (f : X → List ℕ) (xs : List X) → AllByRecursion (λ y. AreItemOctets (f y)) xs → AreRunOctets (flat_map (λ y. codes "," ++ f y) xs)
+further_run f [] h = tt
+further_run f (x ∷ xs) h = (refl, run_both (f x) (flat_map (λ y. codes "," ++ f y) xs) (item_run (f x) h.0) (further_run f xs h.1))
+
+pub commas_run : {X : Type 0} (f : X → List ℕ) (xs : List X) → AllByRecursion (λ y. AreItemOctets (f y)) xs → AreRunOctets (commas f xs)
+commas_run f [] h = tt
+commas_run f (x ∷ xs) h = run_both (f x) (flat_map (λ y. codes "," ++ f y) xs) (item_run (f x) h.0) (further_run f xs h.1)
+
+pub each_item : {X : Type 0} (f : X → List ℕ) (xs : List X) → AllByRecursion (λ y. AreItemOctets (f y)) xs → AllByRecursion (λ y. IsOneItem (f y)) xs
+each_item f [] h = tt
+each_item f (x ∷ xs) h = (plain_item (f x) h.0, each_item f xs h.1)
+
+-- ---- names of protocols
+
+abbrev pub item_text : List ℕ → List ℕ
+item_text name = flat_map item_octet name
+
+spelled_octet : (c : ℕ) (front text : List ℕ) → items_from false front (item_octet c ++ text) ≡ items_from false (front ++ item_octet c) text
+spelled_octet c front text = by_test (eqb c 44 || eqb c 92) refl where
+  by_test : (b : Bool) → eqb c 44 || eqb c 92 ≡ b → items_from false front (cond b (92 ∷ c ∷ []) (c ∷ []) ++ text) ≡ items_from false (front ++ cond b (92 ∷ c ∷ []) (c ∷ [])) text
+  by_test true e = ap (λ (f : List ℕ). items_from false f text) (append_assoc front (92 ∷ []) (c ∷ []))
+  by_test false e =
+      let comma : eqb c 44 ≡ false = grind (arith, nat_tests) in
+      let slash : eqb c 92 ≡ false = grind (arith, nat_tests) in
+      rw (comma, slash) refl
+
+spelled_then : (s front rest : List ℕ) → items_from false front (item_text s ++ 44 ∷ rest) ≡ (front ++ item_text s) ∷ items_from false [] rest
+spelled_then [] front rest = ap (λ (l : List ℕ). l ∷ items_from false [] rest) (sym (append-nil front))
+spelled_then (c ∷ s) front rest =
+    ap (items_from false front) (append_assoc (item_octet c) (item_text s) (44 ∷ rest))
+    ∙ spelled_octet c front (item_text s ++ 44 ∷ rest)
+    ∙ spelled_then s (front ++ item_octet c) rest
+    ∙ ap (λ (l : List ℕ). l ∷ items_from false [] rest) (append_assoc front (item_octet c) (item_text s))
+
+spelled_end : (s front : List ℕ) → items_from false front (item_text s) ≡ (front ++ item_text s) ∷ []
+spelled_end [] front = ap (λ (l : List ℕ). l ∷ []) (sym (append-nil front))
+spelled_end (c ∷ s) front = spelled_octet c front (item_text s) ∙ spelled_end s (front ++ item_octet c)
+    ∙ ap (λ (l : List ℕ). l ∷ []) (append_assoc front (item_octet c) (item_text s))
+
+spelled_item : (s : List ℕ) → IsOneItem (item_text s)
+spelled_item s = record { then = λ rest. spelled_then s [] rest; end = spelled_end s [] }
+
+each_spelled : (names : List (List ℕ)) → AllByRecursion (λ s. IsOneItem (item_text s)) names
+each_spelled [] = tt
+each_spelled (s ∷ names) = (spelled_item s, each_spelled names)
+
+octet_escapes : (c : ℕ) (text : List ℕ) → escapes_end_from false (item_octet c ++ text) ≡ escapes_end_from false text
+octet_escapes c text = by_test (eqb c 44 || eqb c 92) refl where
+  by_test : (b : Bool) → eqb c 44 || eqb c 92 ≡ b → escapes_end_from false (cond b (92 ∷ c ∷ []) (c ∷ []) ++ text) ≡ escapes_end_from false text
+  by_test true e = refl
+  by_test false e = let slash : eqb c 92 ≡ false = grind (arith, nat_tests) in ap (λ (b : Bool). escapes_end_from b text) slash
+
+octet_unescaped : (c : ℕ) (text : List ℕ) → unescaped_from false (item_octet c ++ text) ≡ c ∷ unescaped_from false text
+octet_unescaped c text = by_test (eqb c 44 || eqb c 92) refl where
+  by_test : (b : Bool) → eqb c 44 || eqb c 92 ≡ b → unescaped_from false (cond b (92 ∷ c ∷ []) (c ∷ []) ++ text) ≡ c ∷ unescaped_from false text
+  by_test true e = refl
+  by_test false e = let slash : eqb c 92 ≡ false = grind (arith, nat_tests) in rw slash refl
+
+all_escapes : (s : List ℕ) → escapes_end_from false (item_text s) ≡ true
+all_escapes [] = refl
+all_escapes (c ∷ s) = octet_escapes c (item_text s) ∙ all_escapes s
+
+all_unescaped : (s : List ℕ) → s ≡ unescaped_from false (item_text s)
+all_unescaped [] = refl
+all_unescaped (c ∷ s) = ap (λ (t : List ℕ). c ∷ t) (all_unescaped s) ∙ sym (octet_unescaped c (item_text s))
+
+-- names of 1 to 255 octets
+abbrev pub AreNames : List (List ℕ) → Type 0
+AreNames names = AllByRecursion (λ s. (1 ≤ length s) × (length s ≤ 255)) names
+
+each_name : (names : List (List ℕ)) → AreNames names → AllZip (IsItem items.Protocol) (map item_text names) (map string names)
+each_name [] h = tt
+each_name (s ∷ names) h = ((s, record { escapes = all_escapes s; value = all_unescaped s; some = h.0.0; fits = h.0.1 }, refl), each_name names h.1)
+
+names_joined : (names : List (List ℕ)) → flat_map string names ≡ flat_map (λ s. s) (map string names)
+names_joined [] = refl
+names_joined (s ∷ names) = ap (λ (t : List ℕ). string s ++ t) (names_joined names)
+
+pub names_list : (names : List (List ℕ)) → names ≢ [] → AreNames names → IsList items.Protocol (commas item_text names) (flat_map string names)
+names_list names some h = record {
+  parts = map string names;
+  each = subst (λ (l : List (List ℕ)). AllZip (IsItem items.Protocol) l (map string names)) (sym (commas_are item_text names some (each_spelled names))) (each_name names h);
+  joined = names_joined names;
+}
+
+one_of_two : (b : Bool) (c : ℕ) → c < 256 → AreOctets (cond b (92 ∷ c ∷ []) (c ∷ []))
+one_of_two true c h = All-cons (λ x. x < 256) 92 (c ∷ []) (omega arith) (All-cons (λ x. x < 256) c [] h (All-nil (λ x. x < 256)))
+one_of_two false c h = All-cons (λ x. x < 256) c [] h (All-nil (λ x. x < 256))
+
+item_octets : (name : List ℕ) → AreOctets name → AreOctets (item_text name)
+item_octets [] h = h
+item_octets (c ∷ name) h = All-append (λ x. x < 256) (item_octet c) (item_text name) (one_of_two (eqb c 44 || eqb c 92) c (All-head (λ x. x < 256) c name h))
+    (item_octets name (All-tail (λ x. x < 256) c name h))
+
+further_octets : (names : List (List ℕ)) → AllByRecursion AreOctets names → AreOctets (flat_map (λ s. codes "," ++ item_text s) names)
+further_octets [] h = All-nil (λ x. x < 256)
+further_octets (s ∷ names) h = All-cons (λ x. x < 256) 44 (item_text s ++ flat_map (λ x. codes "," ++ item_text x) names) (omega arith)
+    (All-append (λ x. x < 256) (item_text s) (flat_map (λ x. codes "," ++ item_text x) names) (item_octets s h.0) (further_octets names h.1))
+
+pub list_octets : (names : List (List ℕ)) → AllByRecursion AreOctets names → AreOctets (commas item_text names)
+list_octets [] h = All-nil (λ x. x < 256)
+list_octets (s ∷ names) h = All-append (λ x. x < 256) (item_text s) (flat_map (λ x. codes "," ++ item_text x) names) (item_octets s h.0) (further_octets names h.1)
+
+protocol_spelled : (name : List ℕ) → protocol name ≡ flat_map escaped (item_text name)
+protocol_spelled [] = refl
+protocol_spelled (c ∷ name) = ap (λ (t : List ℕ). protocol_octet c ++ t) (protocol_spelled name) ∙ sym (flat_map-append escaped (item_octet c) (item_text name))
+
+further_spelled : (names : List (List ℕ)) → flat_map (λ s. codes "," ++ protocol s) names ≡ flat_map escaped (flat_map (λ s. codes "," ++ item_text s) names)
+further_spelled [] = refl
+further_spelled (s ∷ names) =
+    ap (λ (t : List ℕ). 44 ∷ (t ++ flat_map (λ x. codes "," ++ protocol x) names)) (protocol_spelled s)
+    ∙ ap (λ (t : List ℕ). 44 ∷ (flat_map escaped (item_text s) ++ t)) (further_spelled names)
+    ∙ ap (λ (t : List ℕ). 44 ∷ t) (sym (flat_map-append escaped (item_text s) (flat_map (λ x. codes "," ++ item_text x) names)))
+
+pub list_spelled : (names : List (List ℕ)) → commas protocol names ≡ flat_map escaped (commas item_text names)
+list_spelled [] = refl
+list_spelled (s ∷ names) =
+    ap (λ (t : List ℕ). t ++ flat_map (λ x. codes "," ++ protocol x) names) (protocol_spelled s)
+    ∙ ap (λ (t : List ℕ). flat_map escaped (item_text s) ++ t) (further_spelled names)
+    ∙ sym (flat_map-append escaped (item_text s) (flat_map (λ x. codes "," ++ item_text x) names))
+
+-- ---- keys
+
+abbrev pub AreKeys : List SvcParamKey → Type 0
+AreKeys ks = AllByRecursion (λ k. key_number k < 65535) ks
+
+-- strictly above the last one
+abbrev pub Above : ℕ → List ℕ → Type 0
+Above last [] = Unit {0}
+Above last (n ∷ ns) = (last < n) × Above n ns
+
+pub rises_above : (last : ℕ) (ns : List ℕ) → rises_from last ns ≡ true → Above last ns × AllByRecursion (λ n. n < 65535) ns
+rises_above last [] h = (tt, tt)
+rises_above last (n ∷ ns) h =
+    let more : nat_lt n 65535 && rises_from n ns ≡ true = second_true (nat_lt last n) (nat_lt n 65535 && rises_from n ns) h in
+    let above : nat_lt last n ≡ true = first_true (nat_lt last n) (nat_lt n 65535 && rises_from n ns) h in
+    let below : nat_lt n 65535 ≡ true = first_true (nat_lt n 65535) (rises_from n ns) more in
+    let rest = rises_above n ns (second_true (nat_lt n 65535) (rises_from n ns) more) in
+    ((grind (arith, nat_tests), rest.0), (grind (arith, nat_tests), rest.1))
+
+increasing : (last : ℕ) (ns : List ℕ) → Above last ns → IsStrictlyIncreasing ns
+increasing last [] h k lt = absurd (omega (arith, lt))
+increasing last (n ∷ []) h k lt = absurd (omega (arith, lt))
+increasing last (n ∷ m ∷ ns) h zero lt = h.1.0
+increasing last (n ∷ m ∷ ns) h (suc k) lt =
+    let one : k + 1 ≡ suc k = omega arith in
+    let two : suc k + 1 ≡ suc (suc k) = omega arith in
+    subst (λ (j : ℕ). slice_index (n ∷ m ∷ ns) (suc k) < slice_index (n ∷ m ∷ ns) j) (sym two)
+    (subst (λ (j : ℕ). slice_index (m ∷ ns) k < slice_index (m ∷ ns) j) one (increasing n (m ∷ ns) h.1 k (omega (arith, lt))))
+
+each_key : (last : ℕ) (ks : List SvcParamKey) → Above last (map key_number ks) → AllByRecursion (λ n. n < 65535) (map key_number ks)
+    → AllZip IsListedKey (map named_key ks) (map key_number ks)
+each_key last [] h low = tt
+each_key last (k ∷ ks) h low =
+    let own = key_is (key_number k) low.0 in
+    (record { key = key_of (key_number k); named = own.spelled.named; number = sym own.number; other = λ e. above_not_zero (key_number k) last h.0 e }, each_key (key_number k) ks h.1 low.1) where
+  above_not_zero : (n m : ℕ) → m < n → n ≡ 0 → ⊥
+  above_not_zero n m lt e = omega (arith, lt, e)
+
+abbrev is_item_octet : ℕ → Bool
+is_item_octet c = is_run_octet c && not (eqb c 44)
+
+comma_tested : (s : List ℕ) → list_all is_item_octet s ≡ true → AreItemOctets s
+comma_tested [] h = tt
+comma_tested (c ∷ s) h = (item_is c (first_true (is_item_octet c) (list_all is_item_octet s) h), comma_tested s (second_true (is_item_octet c) (list_all is_item_octet s) h)) where
+  item_is : (c : ℕ) → is_item_octet c ≡ true → (is_run_octet c ≡ true) × (eqb c 44 ≡ false)
+  item_is c h = (first_true (is_run_octet c) (not (eqb c 44)) h, (let other = second_true (is_run_octet c) (not (eqb c 44)) h in grind (arith, nat_tests)))
+
+digit_item : (c : ℕ) → 48 ≤ c → c ≤ 58 → (is_run_octet c ≡ true) × (eqb c 44 ≡ false)
+digit_item c low high = (grind (arith, nat_tests), grind (arith, nat_tests))
+
+item_by_index : (s : List ℕ) → ((k : ℕ) → k < length s → (is_run_octet (get_or s k 0) ≡ true) × (eqb (get_or s k 0) 44 ≡ false)) → AreItemOctets s
+item_by_index [] h = tt
+item_by_index (c ∷ s) h = (h 0 (omega arith), item_by_index s (λ k lt. h (suc k) (omega arith)))
+
+decimal_item : (n : ℕ) → n < 2 ^ 64 → AreItemOctets (decimal n)
+decimal_item n small =
+    let num = decimal_is_IsNumeral n small in
+    item_by_index (decimal n) (λ k lt. let digit = digit_at (decimal n) k num.0.1 lt in digit_item (get_or (decimal n) k 0) (omega (arith, digit)) (omega (arith, digit)))
+
+item_both : (a b : List ℕ) → AreItemOctets a → AreItemOctets b → AreItemOctets (a ++ b)
+item_both [] b h k = k
+item_both (c ∷ a) b h k = (h.0, item_both a b h.1 k)
+
+-- what holds of each name of a key
+key_item : (n : ℕ) → n < 65535 → AreItemOctets (key_name n)
+key_item n h = by_key (λ (s : List ℕ) (k : ParameterKey) (m : ℕ). AreItemOctets s) n
+    (comma_tested (codes "mandatory") refl) (comma_tested (codes "alpn") refl) (comma_tested (codes "no-default-alpn") refl)
+    (comma_tested (codes "port") refl) (comma_tested (codes "ipv4hint") refl) (comma_tested (codes "ech") refl) (comma_tested (codes "ipv6hint") refl)
+    (item_both (codes "key") (decimal n) (comma_tested (codes "key") refl) (decimal_item n (omega (arith, h))))
+
+keys_items : (ks : List SvcParamKey) → AllByRecursion (λ n. n < 65535) (map key_number ks) → AllByRecursion (λ k. AreItemOctets (named_key k)) ks
+keys_items [] h = tt
+keys_items (k ∷ ks) h = (key_item (key_number k) h.0, keys_items ks h.1)
+
+pub keys_run : (ks : List SvcParamKey) → AllByRecursion (λ n. n < 65535) (map key_number ks) → AreRunOctets (commas named_key ks)
+keys_run ks h = commas_run named_key ks (keys_items ks h)
+
+pub keys_list : (ks : List SvcParamKey) → ks ≢ [] → Above 0 (map key_number ks) → AllByRecursion (λ n. n < 65535) (map key_number ks)
+    → IsKeyList (commas named_key ks) (flat_map (bytes_high_first 2) (map key_number ks))
+keys_list ks some above low = record {
+  keys = map key_number ks;
+  each = subst (λ (l : List (List ℕ)). AllZip IsListedKey l (map key_number ks)) (sym (commas_are named_key ks some (each_item named_key ks (keys_items ks low)))) (each_key 0 ks above low);
+  order = map key_number ks;
+  same = IsPermutation-refl (map key_number ks);
+  rising = increasing 0 (map key_number ks) above;
+  joined = refl;
+}
+
+-- ---- addresses
+
+dotted_item : (c : ℕ) → IsDigitOrDot c → (is_run_octet c ≡ true) × (eqb c 44 ≡ false)
+dotted_item c (inl h) = digit_item c (omega (arith, h)) (omega (arith, h))
+dotted_item c (inr h) = (rw h refl, rw h refl)
+
+group_item : (c : ℕ) → IsHexOrColon c → (is_run_octet c ≡ true) × (eqb c 44 ≡ false)
+group_item c (inl h) = let low = h.0 in let high = h.1 in (grind (arith, nat_tests), grind (arith, nat_tests))
+group_item c (inr h) = let low = h.0 in let high = h.1 in (grind (arith, nat_tests), grind (arith, nat_tests))
+
+items_all : (P : ℕ → Type 0) → ((c : ℕ) → P c → (is_run_octet c ≡ true) × (eqb c 44 ≡ false)) → (s : List ℕ) → All P s → AreItemOctets s
+items_all P f [] h = tt
+items_all P f (c ∷ s) h = (f c (All-head P c s h), items_all P f s (All-tail P c s h))
+
+dotted_items : (o : List ℕ) → ((k : ℕ) → get_or o k 0 < 2 ^ 8) → AreItemOctets (ipv4_text o)
+dotted_items o fits = items_all IsDigitOrDot dotted_item (ipv4_text o) (All-ipv4_text o fits)
+
+one_items : (b : Bool) (x y : List ℕ) → AreItemOctets x → AreItemOctets y → AreItemOctets (cond b x y)
+one_items true x y h k = h
+one_items false x y h k = k
+
+segments_items : (s : List ℕ) → AllSegments s → AreItemOctets (ipv6_text s)
+unfolding ipv6_text
+segments_items s fits = one_items (bytes_eq (take 6 s) (0 ∷ 0 ∷ 0 ∷ 0 ∷ 0 ∷ 65535 ∷ [])) (codes "::ffff:" ++ ipv4_text (octets_of (drop 6 s))) (hex_groups_text s)
+    (item_both (codes "::ffff:") (ipv4_text (octets_of (drop 6 s))) (comma_tested (codes "::ffff:") refl)
+    (dotted_items (octets_of (drop 6 s)) (bounded (drop 6 s) (AllSegments-drop 6 s fits))))
+    (items_all IsHexOrColon group_item (hex_groups_text s) (All-hex_groups_text s fits))
+
+items4 : (xs : List A) → AllByRecursion (λ a. IsIpv4Addr a.0) xs → AllByRecursion (λ a. AreItemOctets (a_text a)) xs
+items4 [] h = tt
+items4 (a ∷ xs) h = (dotted_items (ipv4_octets a.0) h.0.1, items4 xs h.1)
+
+items6 : (xs : List AAAA) → AllByRecursion (λ a. IsIpv6Addr a.0) xs → AllByRecursion (λ a. AreItemOctets (aaaa_text a)) xs
+items6 [] h = tt
+items6 (a ∷ xs) h = (segments_items (ipv6_segments a.0) h.0.1, items6 xs h.1)
+
+each4 : (xs : List A) → AllByRecursion (λ a. IsIpv4Addr a.0) xs → AllZip (IsItem items.Ipv4) (map a_text xs) (map a_octets xs)
+each4 [] h = tt
+each4 (a ∷ xs) h = ((ipv4_back a.0 h.0).is, each4 xs h.1)
+
+each6 : (xs : List AAAA) → AllByRecursion (λ a. IsIpv6Addr a.0) xs → AllZip (IsItem items.Ipv6) (map aaaa_text xs) (map aaaa_octets xs)
+each6 [] h = tt
+each6 (a ∷ xs) h = ((ipv6_back a.0 h.0).is, each6 xs h.1)
+
+pub hints4_run : (xs : List A) → AllByRecursion (λ a. IsIpv4Addr a.0) xs → AreRunOctets (commas a_text xs)
+hints4_run xs h = commas_run a_text xs (items4 xs h)
+
+pub hints4_list : (xs : List A) → xs ≢ [] → AllByRecursion (λ a. IsIpv4Addr a.0) xs → IsList items.Ipv4 (commas a_text xs) (flat_map (λ s. s) (map a_octets xs))
+hints4_list xs some h = record {
+  parts = map a_octets xs;
+  each = subst (λ (l : List (List ℕ)). AllZip (IsItem items.Ipv4) l (map a_octets xs)) (sym (commas_are a_text xs some (each_item a_text xs (items4 xs h)))) (each4 xs h);
+  joined = refl;
+}
+
+pub hints6_run : (xs : List AAAA) → AllByRecursion (λ a. IsIpv6Addr a.0) xs → AreRunOctets (commas aaaa_text xs)
+hints6_run xs h = commas_run aaaa_text xs (items6 xs h)
+
+pub hints6_list : (xs : List AAAA) → xs ≢ [] → AllByRecursion (λ a. IsIpv6Addr a.0) xs → IsList items.Ipv6 (commas aaaa_text xs) (flat_map (λ s. s) (map aaaa_octets xs))
+hints6_list xs some h = record {
+  parts = map aaaa_octets xs;
+  each = subst (λ (l : List (List ℕ)). AllZip (IsItem items.Ipv6) l (map aaaa_octets xs)) (sym (commas_are aaaa_text xs some (each_item aaaa_text xs (items6 xs h)))) (each6 xs h);
+  joined = refl;
+}
+
+-- ---- numbers and octets
+
+pub port_is : (n : ℕ) → n < 2 ^ 16 → IsPort (decimal n) (bytes_high_first 2 n)
+port_is n h = let num = decimal_is_IsNumeral n (omega (arith, h)) in
+    record { digits = num.0; fits = rw num.1 h; value = ap (bytes_high_first 2) (sym num.1) }
+
+pub ech_is : (s : List ℕ) → AreOctets s → decode_of standard (encode_of standard s) ≡ Ok s
+ech_is s h = decode_of-encode_of standard s (search rules) (bytes_of s h)

@@ -1,0 +1,132 @@
+//! Record data of a text of a zone file.
+
+ghost use Rattle.std.specs.Prelude.{◌≡◌, ◌↔◌, ◌⊎◌, IsTrue, IfOk, IfErr, length};
+ghost use Rattle.std.specs.Option.{option_copied};
+ghost use Rattle.dns_rdata.specs.Data.{shape, type_of, IsEmittable, data_octets};
+ghost use Rattle.dns_words.specs.Reads.{UnlessMemory};
+ghost use Rattle.dns_zone_rows.specs.RowTable.{row_of};
+ghost use Rattle.dns_zone_words.specs.Refusals.{IsMissing};
+ghost use Rattle.dns_zone_words.specs.Remaining.{ReadsAll};
+ghost use Rattle.dns_rdata_zone.specs.ZoneGives.{GiveByRow, has_name, AreDataOf, GivesValue, GivesNone, at_start, OwnFault, OctetsFault, ZoneFault};
+ghost use Rattle.dns_rdata_zone.specs.ZoneSteps.{AreNoData, UnknownIs, UnknownIsNone};
+
+use crate::services::octets_behind;
+use dns_rdata::{BinDecoder, Name, ParseError, RData, RecordType, Restrict};
+use dns_types::Octets;
+use dns_zone_rows::{row_octets, row_of};
+use dns_zone_words::{ZoneWords, is_unknown_mark, unknown_data};
+use std::alloc::Global;
+
+const TOO_LONG: &str = "record data past 65535 octets";
+
+const POINTER: &str = "pointer in a domain name of unknown data";
+
+/// Record data of a type from its text in a zone file (RFC 1035, 5.1; RFC 3597, 5; RFC 9460, 2.1; the RFCs of the types). The
+/// text is one record's data, behind its type, and need not be UTF-8.
+pub fn from_zone_text(
+    alloc: Global,
+    record_type: RecordType,
+    text: &[u8],
+    origin: Option<&Name>,
+) -> Result<RData, ParseError>
+    ensures found { IfOk result (GivesValue (option_copied origin.entry) record_type text.now) }
+    ensures kind { IfOk result (λ v. type_of v ≡ record_type) }
+    ensures emittable { IfOk result IsEmittable }
+    ensures refused { IfErr result (λ e. UnlessMemory e (GivesNone (option_copied origin.entry) record_type text.now)) }
+    ensures why { IfErr result (λ e. (e ≡ ParseError.Memory) ⊎ ZoneFault (option_copied origin.entry) record_type text.now e) }
+{
+    let mut behind = ZoneWords::new(text);
+    if let Some(first) = behind.next_word()? {
+        if is_unknown_mark(first) {
+            return from_unknown_data(alloc, record_type, &mut behind);
+        }
+    }
+    let octets = own_octets(alloc, record_type, text, origin)?;
+    read_octets(alloc, record_type, octets.as_slice())
+}
+
+// The octets that the words of a text give by the row of the type.
+fn own_octets(
+    alloc: Global,
+    record_type: RecordType,
+    text: &[u8],
+    origin: Option<&Name>,
+) -> Result<Octets, ParseError>
+    ensures reads { ReadsAll (GiveByRow (option_copied origin.entry) (row_of record_type)) (λ x. x) result (at_start text.now) }
+    ensures why { IfErr result (λ e. (e ≡ ParseError.Memory) ⊎ OwnFault (option_copied origin.entry) record_type text.now e) }
+{
+    match row_of(record_type) {
+        Some(row) => row_octets(alloc, &mut ZoneWords::new(text), origin, &row),
+        None => Err(ParseError::UnsupportedRecordType(record_type)),
+    }
+}
+
+// The data that stands behind `\#`.
+fn from_unknown_data(
+    alloc: Global,
+    record_type: RecordType,
+    words: &mut ZoneWords<'_>,
+) -> Result<RData, ParseError>
+    ensures found { IfOk result (λ v. UnknownIs record_type v words.old) }
+    ensures kind { IfOk result (λ v. type_of v ≡ record_type) }
+    ensures emittable { IfOk result IsEmittable }
+    ensures refused { IfErr result (λ e. UnlessMemory e (UnknownIsNone record_type words.old)) }
+    ensures why { IfErr result (λ e. (e ≡ ParseError.Memory) ⊎ IsMissing e ⊎ OctetsFault e) }
+{
+    let octets = unknown_data(alloc, words)?;
+    let value = read_octets(alloc, record_type, octets.as_slice())?;
+    if has_names(record_type) && !is_as_long(&value, octets.len()) {
+        return Err(ParseError::Message(POINTER));
+    }
+    Ok(value)
+}
+
+// The value of which the octets are the data.
+fn read_octets(
+    alloc: Global,
+    record_type: RecordType,
+    octets: &[u8],
+) -> Result<RData, ParseError>
+    ensures found { IfOk result (AreDataOf octets.now record_type) }
+    ensures kind { IfOk result (λ v. type_of v ≡ record_type) }
+    ensures emittable { IfOk result IsEmittable }
+    ensures refused { IfErr result (λ e. UnlessMemory e (AreNoData octets.now record_type)) }
+    ensures why { IfErr result (λ e. (e ≡ ParseError.Memory) ⊎ OctetsFault e) }
+{
+    if octets.len() > 65535 {
+        return Err(ParseError::Message(TOO_LONG));
+    }
+    let mut decoder = BinDecoder::new(alloc, octets);
+    let length = Restrict::new(octets.len() as u16);
+    Ok(RData::read(&mut decoder, record_type, length)?)
+}
+
+// Whether there are n canonical octets of a value.
+fn is_as_long(value: &RData, n: usize) -> bool
+    ensures { IsTrue result ↔ (length (data_octets value.now) ≡ n) }
+{
+    if n == 0 {
+        return octets_behind(value, 0).next().is_none();
+    }
+    let mut last = octets_behind(value, n - 1);
+    last.next().is_some() && last.next().is_none()
+}
+
+// Whether data of the type has domain names.
+fn has_names(record_type: RecordType) -> bool
+    ensures { result ≡ has_name (shape record_type) }
+{
+    match record_type {
+        RecordType::ANAME
+        | RecordType::CNAME
+        | RecordType::HTTPS
+        | RecordType::MX
+        | RecordType::NAPTR
+        | RecordType::NS
+        | RecordType::PTR
+        | RecordType::SOA
+        | RecordType::SRV
+        | RecordType::SVCB => true,
+        _ => false,
+    }
+}
