@@ -1,4 +1,5 @@
 pub mod Adding
 pub mod Marking
+pub mod Once
 pub mod RowLoop
 pub mod TypeWords

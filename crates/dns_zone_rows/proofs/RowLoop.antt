@@ -9,7 +9,7 @@ use Rattle.dns_types.specs.declared.error.ParseError.{ParseError}
 use Rattle.dns_types.specs.declared.error.ParseError.TheVariants as parse
 use Rattle.dns_words.specs.Reads.{UnlessMemory}
 use Rattle.dns_zone_words.specs.Remaining.{TookAll, NoneOfAll, ReadsAll}
-use Rattle.dns_zone_words.specs.Words.{Word, Cursor, words_at, with_word, behind_first}
+use Rattle.dns_zone_words.specs.Words.{Word, Cursor, words_at, with_word}
 use Rattle.dns_zone_words.specs.declared.words_error.WordsError.{WordsError}
 use Rattle.dns_zone_words.proofs.FirstSteps.{unless_map, exit_fault}
 use Rattle.dns_zone_words.proofs.RemainingSteps.{exit_same}
@@ -68,13 +68,13 @@ others_given {origin} {field} {left} {rest} {now = now} {new = new} octets a at 
 -- one field more was taken
 field_taken : (origin : Option DomainName) (fields : List ZoneField) (field : ZoneField) (left : List ZoneField) (rest : ZoneRest) (old now new : Cursor) (before after : List ℕ)
     → FieldsSo origin fields (field ∷ left) rest old now before → AddedFirst (FieldGives origin (kind_of field)) before after now new
-    → words_at new ≡ behind_first (words_at now) → FieldsSo origin fields left rest old new after
-field_taken origin fields field left rest old now new before after so a behind = record {
+    → FieldsSo origin fields left rest old new after
+field_taken origin fields field left rest old now new before after so a = record {
   gives = λ more at. subst (λ (s : List ℕ). GivenAt origin fields rest s old)
       (sym (append_assoc before a.octets more) ∙ ap (λ (s : List ℕ). s ++ more) (sym a.same))
       (so.gives (a.octets ++ more) (first_given a at));
   only = λ all at. let k = so.only all at in others_given k.0 a k.1;
-  fault = λ e f. so.fault e (inr (record { behind = new; words = behind; has = f }));
+  fault = λ e f. so.fault e (inr (record { word = a.word; behind = new; first = a.first; octets = a.octets; given = a.given; has = f }));
 }
 
 -- ---- by the place in the row
@@ -102,11 +102,11 @@ over origin row at old now octets l so =
 
 pub field_more : (origin : Option DomainName) (row : ZoneRow) (at : ℕ) (old now new : Cursor) (before after : List ℕ) (d : ZoneField) → at < length row.fields.now
     → RowSo origin row at old now before → AddedFirst (FieldGives origin (kind_of (get_or row.fields.now at d))) before after now new
-    → words_at new ≡ behind_first (words_at now) → RowSo origin row (at + 1) old new after
-field_more origin row at old now new before after d l so a behind =
+    → RowSo origin row (at + 1) old new after
+field_more origin row at old now new before after d l so a =
     let next : FieldsSo origin row.fields.now (drop (suc at) row.fields.now) row.rest old new after =
-        field_taken origin row.fields.now (get_or row.fields.now at d) (drop (suc at) row.fields.now) row.rest old now new before after
-        (here origin row at old now before d l so) a behind in
+    field_taken origin row.fields.now (get_or row.fields.now at d) (drop (suc at) row.fields.now) row.rest old now new before after
+    (here origin row at old now before d l so) a in
     record { so = rw add-one next }
 
 -- ---- refusals

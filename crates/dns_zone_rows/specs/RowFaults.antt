@@ -10,10 +10,10 @@ use Rattle.dns_zone_words.specs.Forms.{StringFault, IsType}
 use Rattle.dns_zone_words.specs.NameWords.{NameFault}
 use Rattle.dns_zone_words.specs.Refusals.{IsMessage}
 use Rattle.dns_zone_words.specs.Remaining.{AmongFault, HexFault}
-use Rattle.dns_zone_words.specs.Words.{Word, Cursor, words_at, behind_first}
+use Rattle.dns_zone_words.specs.Words.{Word, Cursor, words_at, with_word}
 use Rattle.dns_zone_words.specs.ZoneReads.{IsCutRefused, LacksFirst, IsOfFieldOrCut, WhyFirst}
 use Rattle.dns_zone_rows.specs.Mnemonics.{cert_types, algorithms}
-use Rattle.dns_zone_rows.specs.Rows.{FieldKind, Number, NamedNumber, Ttl, Ipv4, Ipv6, Name, String, Tag, Octets, RestKind, NoWord, SomeStrings, SomeHex, SomeBase64, AnyTypes, Row}
+use Rattle.dns_zone_rows.specs.Rows.{FieldKind, Number, NamedNumber, Ttl, Ipv4, Ipv6, Name, String, Tag, Octets, RestKind, NoWord, SomeStrings, SomeHex, SomeBase64, AnyTypes, Row, FieldGives}
 use Rattle.dns_zone_rows.specs.declared.row.ZoneField.{ZoneField}
 use Rattle.dns_zone_rows.specs.declared.row.ZoneField.TheVariants as field
 use Rattle.dns_zone_rows.specs.declared.row.ZoneRest.{ZoneRest}
@@ -79,16 +79,20 @@ RestFault (rest.Hex missing f) cursor e = LacksFirst (parse.MissingToken missing
 RestFault (rest.Base64 f) cursor e = LacksFirst (parse.MissingToken f.name) cursor e ⊎ IsMessage e
 RestFault (rest.Types f) cursor e = AmongFault (TypeFault f) cursor e
 
--- behind the first word there is a fault
-pub record FaultBehind (fault : Cursor → ParseError → Type 0) (cursor : Cursor) (e : ParseError) : Type 0 where
+-- the first word gives octets, and behind it there is a fault
+pub record FaultBehind (gives : List ℕ → Word → Type 0) (fault : Cursor → ParseError → Type 0) (cursor : Cursor) (e : ParseError) : Type 0 where
+  pub word : Word
   pub behind : Cursor
-  pub words : words_at behind ≡ behind_first (words_at cursor)
+  pub first : words_at cursor ≡ with_word word (words_at behind)
+  pub octets : List ℕ
+  pub given : gives octets word
   pub has : fault behind e
 
 -- a fault of the first field, or of those behind it at the words behind the first
 abbrev pub FieldsFault : Option DomainName → List ZoneField → ZoneRest → Cursor → ParseError → Type 0
 FieldsFault origin [] rest cursor e = RestFault rest cursor e
-FieldsFault origin (field ∷ fields) rest cursor e = FieldFault origin field cursor e ⊎ FaultBehind (FieldsFault origin fields rest) cursor e
+FieldsFault origin (field ∷ fields) rest cursor e = FieldFault origin field cursor e
+    ⊎ FaultBehind (FieldGives origin (kind_of field)) (FieldsFault origin fields rest) cursor e
 
 -- the words give no octets by the row, and the refusal tells why
 pub record RowFault (origin : Option DomainName) (row : ZoneRow) (cursor : Cursor) (e : ParseError) : Type 0 where

@@ -20,14 +20,13 @@ use crate::row::ZoneField;
 use dns_names_wire::Name;
 use dns_types::ParseError;
 use dns_zone_words::{
-    Field, NameField, StringField, ZoneWord, ZoneWords, next_ipv4, next_ipv6, next_name, next_string,
-    next_text, next_ttl, next_u8, next_u16, next_u32, some_word,
+    Field, NameField, StringField, ZoneWord, ZoneWords, next_ipv4, next_ipv6, next_name,
+    next_string, next_text, next_ttl, next_u8, next_u16, next_u32, some_word,
 };
 use std::alloc::Global;
 
-/// Takes the next word and puts the octets of the field that it gives behind the others. The word is taken, even where it
-/// is refused.
-pub fn add_field(
+// Takes the next word and puts the octets that it gives for the field behind the others.
+pub(crate) fn add_field(
     alloc: Global,
     words: &mut ZoneWords<'_>,
     origin: Option<&Name>,
@@ -36,7 +35,6 @@ pub fn add_field(
 ) -> Result<(), ParseError>
     ensures adds { AddsFirst (FieldGives (option_copied origin.entry) (kind_of field.now)) result octets.old.items octets.new.items words.old words.new }
     ensures why { IfErr result (λ e. (e ≡ ParseError.Memory) ⊎ FieldFault (option_copied origin.entry) field.now words.old e) }
-    ensures behind { OnOk result (words_at words.new ≡ behind_first (words_at words.old)) }
 {
     match field {
         ZoneField::U8(field) => add_u8(words, *field, octets),
@@ -55,53 +53,33 @@ pub fn add_field(
 }
 
 // Takes a number of 8 bits. As `add_field`, and so are those below.
-fn add_u8(
-    words: &mut ZoneWords<'_>,
-    field: Field,
-    octets: &mut Vec<u8>,
-) -> Result<(), ParseError>
+fn add_u8(words: &mut ZoneWords<'_>, field: Field, octets: &mut Vec<u8>) -> Result<(), ParseError>
     ensures adds { AddsFirst (Gives (number 1) (bytes_high_first 1)) result octets.old.items octets.new.items words.old words.new }
     ensures why { IfErr result (λ e. (e ≡ ParseError.Memory) ⊎ IsOfFieldOrCut field words.old e) }
-    ensures behind { OnOk result (words_at words.new ≡ behind_first (words_at words.old)) }
 {
     let value = next_u8(words, field)?;
     add_octets(octets, &value.to_be_bytes())
 }
 
-fn add_u16(
-    words: &mut ZoneWords<'_>,
-    field: Field,
-    octets: &mut Vec<u8>,
-) -> Result<(), ParseError>
+fn add_u16(words: &mut ZoneWords<'_>, field: Field, octets: &mut Vec<u8>) -> Result<(), ParseError>
     ensures adds { AddsFirst (Gives (number 2) (bytes_high_first 2)) result octets.old.items octets.new.items words.old words.new }
     ensures why { IfErr result (λ e. (e ≡ ParseError.Memory) ⊎ IsOfFieldOrCut field words.old e) }
-    ensures behind { OnOk result (words_at words.new ≡ behind_first (words_at words.old)) }
 {
     let value = next_u16(words, field)?;
     add_octets(octets, &value.to_be_bytes())
 }
 
-fn add_u32(
-    words: &mut ZoneWords<'_>,
-    field: Field,
-    octets: &mut Vec<u8>,
-) -> Result<(), ParseError>
+fn add_u32(words: &mut ZoneWords<'_>, field: Field, octets: &mut Vec<u8>) -> Result<(), ParseError>
     ensures adds { AddsFirst (Gives (number 4) (bytes_high_first 4)) result octets.old.items octets.new.items words.old words.new }
     ensures why { IfErr result (λ e. (e ≡ ParseError.Memory) ⊎ IsOfFieldOrCut field words.old e) }
-    ensures behind { OnOk result (words_at words.new ≡ behind_first (words_at words.old)) }
 {
     let value = next_u32(words, field)?;
     add_octets(octets, &value.to_be_bytes())
 }
 
-fn add_ttl(
-    words: &mut ZoneWords<'_>,
-    field: Field,
-    octets: &mut Vec<u8>,
-) -> Result<(), ParseError>
+fn add_ttl(words: &mut ZoneWords<'_>, field: Field, octets: &mut Vec<u8>) -> Result<(), ParseError>
     ensures adds { AddsFirst (Gives (bare (ttl 4294967295)) (bytes_high_first 4)) result octets.old.items octets.new.items words.old words.new }
     ensures why { IfErr result (λ e. (e ≡ ParseError.Memory) ⊎ IsOfFieldOrCut field words.old e) }
-    ensures behind { OnOk result (words_at words.new ≡ behind_first (words_at words.old)) }
 {
     let value = next_ttl(words, field)?;
     add_octets(octets, &value.to_be_bytes())
@@ -114,7 +92,6 @@ fn add_cert_type(
 ) -> Result<(), ParseError>
     ensures adds { AddsFirst (Gives (named_number 2 cert_types) (bytes_high_first 2)) result octets.old.items octets.new.items words.old words.new }
     ensures why { IfErr result (λ e. (e ≡ ParseError.Memory) ⊎ IsOfFieldOrCut field words.old e) }
-    ensures behind { OnOk result (words_at words.new ≡ behind_first (words_at words.old)) }
 {
     let value = next_cert_type(words, field)?;
     add_octets(octets, &value.to_be_bytes())
@@ -127,33 +104,22 @@ fn add_algorithm(
 ) -> Result<(), ParseError>
     ensures adds { AddsFirst (Gives (named_number 1 algorithms) (bytes_high_first 1)) result octets.old.items octets.new.items words.old words.new }
     ensures why { IfErr result (λ e. (e ≡ ParseError.Memory) ⊎ IsOfFieldOrCut field words.old e) }
-    ensures behind { OnOk result (words_at words.new ≡ behind_first (words_at words.old)) }
 {
     let value = next_algorithm(words, field)?;
     add_octets(octets, &value.to_be_bytes())
 }
 
-fn add_ipv4(
-    words: &mut ZoneWords<'_>,
-    field: Field,
-    octets: &mut Vec<u8>,
-) -> Result<(), ParseError>
+fn add_ipv4(words: &mut ZoneWords<'_>, field: Field, octets: &mut Vec<u8>) -> Result<(), ParseError>
     ensures adds { AddsFirst (Gives (bare ipv4) (λ s. s)) result octets.old.items octets.new.items words.old words.new }
     ensures why { IfErr result (λ e. (e ≡ ParseError.Memory) ⊎ IsOfFieldOrCut field words.old e) }
-    ensures behind { OnOk result (words_at words.new ≡ behind_first (words_at words.old)) }
 {
     let value = next_ipv4(words, field)?;
     add_octets(octets, &value.octets())
 }
 
-fn add_ipv6(
-    words: &mut ZoneWords<'_>,
-    field: Field,
-    octets: &mut Vec<u8>,
-) -> Result<(), ParseError>
+fn add_ipv6(words: &mut ZoneWords<'_>, field: Field, octets: &mut Vec<u8>) -> Result<(), ParseError>
     ensures adds { AddsFirst (Gives (bare ipv6) (λ s. s)) result octets.old.items octets.new.items words.old words.new }
     ensures why { IfErr result (λ e. (e ≡ ParseError.Memory) ⊎ IsOfFieldOrCut field words.old e) }
-    ensures behind { OnOk result (words_at words.new ≡ behind_first (words_at words.old)) }
 {
     let value = next_ipv6(words, field)?;
     add_octets(octets, &value.octets())
@@ -168,7 +134,6 @@ fn add_name(
 ) -> Result<(), ParseError>
     ensures adds { AddsFirst (Gives (name (option_copied origin.entry)) name_octets) result octets.old.items octets.new.items words.old words.new }
     ensures why { IfErr result (λ e. (e ≡ ParseError.Memory) ⊎ WhyFirst (ParseError.MissingToken field.now.name) (NameFault field.now (option_copied origin.entry)) words.old e) }
-    ensures behind { OnOk result (words_at words.new ≡ behind_first (words_at words.old)) }
 {
     let value = next_name(alloc, words, origin, field)?;
     add_labels(octets, &value)
@@ -182,20 +147,14 @@ fn add_string(
 ) -> Result<(), ParseError>
     ensures adds { AddsFirst (Gives string string_octets) result octets.old.items octets.new.items words.old words.new }
     ensures why { IfErr result (λ e. (e ≡ ParseError.Memory) ⊎ WhyFirst (ParseError.MissingToken field.now.name) (StringFault field.now) words.old e) }
-    ensures behind { OnOk result (words_at words.new ≡ behind_first (words_at words.old)) }
 {
     let value = next_string(alloc, words, field)?;
     add_counted(octets, value.as_slice())
 }
 
-fn add_tag(
-    words: &mut ZoneWords<'_>,
-    field: Field,
-    octets: &mut Vec<u8>,
-) -> Result<(), ParseError>
+fn add_tag(words: &mut ZoneWords<'_>, field: Field, octets: &mut Vec<u8>) -> Result<(), ParseError>
     ensures adds { AddsFirst (Gives tag string_octets) result octets.old.items octets.new.items words.old words.new }
     ensures why { IfErr result (λ e. (e ≡ ParseError.Memory) ⊎ IsOfFieldOrCut field words.old e) }
-    ensures behind { OnOk result (words_at words.new ≡ behind_first (words_at words.old)) }
 {
     let value = next_tag(words, field)?;
     add_counted(octets, value)
@@ -209,7 +168,6 @@ fn add_text(
 ) -> Result<(), ParseError>
     ensures adds { AddsFirst (Gives text (λ s. s)) result octets.old.items octets.new.items words.old words.new }
     ensures why { IfErr result (λ e. (e ≡ ParseError.Memory) ⊎ IsOfFieldOrCut field words.old e) }
-    ensures behind { OnOk result (words_at words.new ≡ behind_first (words_at words.old)) }
 {
     let value = next_text(alloc, words, field)?;
     add_octets(octets, value.as_slice())

@@ -1,10 +1,11 @@
 //! Record data in zone files: rows of fields, and the octets that the words of a text give by them.
 #![tactic(auto)]
 
-pub mod fields;
+mod fields;
+pub mod laws;
 pub mod mnemonics;
 pub mod reading;
-pub mod remaining;
+mod remaining;
 pub mod row;
 pub mod table;
 mod types;

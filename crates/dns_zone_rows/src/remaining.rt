@@ -21,8 +21,8 @@ use dns_zone_words::{
 };
 use std::alloc::Global;
 
-/// Takes all words that are left and puts the octets that they give behind the others.
-pub fn add_rest(
+// Takes all words that are left and puts the octets that they give behind the others.
+pub(crate) fn add_rest(
     alloc: Global,
     words: &mut ZoneWords<'_>,
     rest: &ZoneRest,

@@ -24,7 +24,11 @@ fn reads_rows(rt: HostRuntime) {
         (RecordType::A, "192.0.2.1", "c0000201"),
         (RecordType::MX, "10 mail", "000a046d61696c02657800"),
         (RecordType::TXT, "a \"b c\"", "016103622063"),
-        (RecordType::CSYNC, "66 3 AAAA A NS A", "000000420003000460000008"),
+        (
+            RecordType::CSYNC,
+            "66 3 AAAA A NS A",
+            "000000420003000460000008",
+        ),
     ];
     for (record_type, text, wanted) in rows {
         match shown(alloc, record_type, text) {

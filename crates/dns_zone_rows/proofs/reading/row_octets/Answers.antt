@@ -8,7 +8,6 @@ loop-field-init c = row_so (option_copied c.args.origin) c.args.row.now c.args.w
 pub loop-field-preserved : goal.loop-field-preserved
 loop-field-preserved c = field_more (option_copied c.args.origin) c.args.row.now c.loop-field.field-index c.args.words.now c.loop-field.words c.add_field.new.words
     c.loop-field.octets.items c.add_field.new.octets.items _ c.loop-field-test.true c.loop-field.invariant c.in_ok-add_field.ensures.adds
-    c.in_ok-add_field.ensures.behind
 
 pub returns-in_err-add_field-clause-reads : goal.returns-in_err-add_field-clause-reads
 returns-in_err-add_field-clause-reads c = exit_field (λ x. x) c.from_residual-in_err-add_field.result (option_copied c.args.origin) c.args.row.now c.loop-field.field-index

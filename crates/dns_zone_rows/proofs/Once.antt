@@ -1,0 +1,157 @@
+-- Words give at most one list of octets by a row.
+use Rattle.std.proofs.Common.{◌≡◌, ℕ, true, List, [], ◌∷◌, ◌++◌, drop, find, codes, Option, Some, None, Result, Ok, refl, sym, ap, ◌∙◌, subst, inl, inr}
+use Rattle.std.specs.Prelude.{IsTrue}
+use Rattle.std.specs.Int.{bytes_high_first}
+use Rattle.std.specs.List.{flat_map}
+use Rattle.std.specs.Net.Addr.{ipv4_octets, ipv6_octets}
+use Rattle.std.specs.Str.Parse.{digits_value}
+use Rattle.std.proofs.NetLemmas.Theorems.{IsIpv4Text_unique, IsIpv6Text_unique}
+use Rattle.base64.specs.declared.decode.DecodeError.{DecodeError}
+use Rattle.hex.specs.declared.error.FromHexError.{FromHexError}
+use Rattle.dns_fields.specs.Bitmaps.{block, minimal}
+use Rattle.dns_fields.specs.Fields.{Kind, Value}
+use Rattle.dns_fields.specs.Labels.{DomainName}
+use Rattle.dns_fields.specs.Pieces.{string as string_octets}
+use Rattle.dns_text.proofs.TtlSteps.{periods_one}
+use Rattle.dns_types.specs.RecordTypes.{number_of, is_named, named_types, record_type_of, type_text, has_name, IsTypeName, IsNumberText, IsTypeText}
+use Rattle.dns_types.specs.declared.record_type.RecordType.{RecordType}
+use Rattle.dns_types.specs.declared.record_type.RecordType.TheVariants.{Unknown}
+use Rattle.dns_types.proofs.TypeTexts.{reads_name}
+use Rattle.dns_words.specs.Forms.{ttl, ipv4, ipv6}
+use Rattle.dns_zone_words.specs.Forms.{ZoneForm, bare, number, string, text}
+use Rattle.dns_zone_words.specs.NameWords.{name}
+use Rattle.dns_zone_words.specs.Remaining.{AreHex, AreBase64, AreStrings}
+use Rattle.dns_zone_words.specs.Words.{Word}
+use Rattle.dns_zone_rows.specs.Mnemonics.{Named, number_named, IsNamedNumber, named_number}
+use Rattle.dns_zone_rows.specs.Rows.{FieldKind, Number, NamedNumber, Ttl, Ipv4, Ipv6, Name, String, Tag, Octets, RestKind, NoWord, SomeStrings, SomeHex, SomeBase64, AnyTypes, Row}
+use Rattle.dns_zone_rows.specs.Rows.{Gives, name_octets, tag, FieldGives, IsTypeNumber, AreTypes, RestGives, InTwo, FieldsGive, RowGives}
+
+-- ---- one word
+
+-- a word has at most one value of the form
+record Once {k : Kind} (form : ZoneForm k) : Type 0 where
+  one : (word : Word) (v w : Value k) → form.is v word → form.is w word → v ≡ w
+
+gives_once : {k : Kind} {form : ZoneForm k} {written : Value k → List ℕ} {a b : List ℕ} {word : Word} → Once form → Gives form written a word → Gives form written b word → a ≡ b
+gives_once {written = written} {word = word} once x y = x.same ∙ ap written (once.one word x.value y.value x.is y.is) ∙ sym y.same
+
+number_once : (w : ℕ) → Once (number w)
+number_once w = record { one = λ word v n x y. x.0.value ∙ sym y.0.value }
+
+by_name_once : (w : ℕ) (named : Option ℕ) (word : Word) (v n : ℕ) → IsNamedNumber w named v word → IsNamedNumber w named n word → v ≡ n
+by_name_once w (Some value) word v n x y = x.1 ∙ sym y.1
+by_name_once w None word v n x y = (number_once w).one word v n x y
+
+named_once : (w : ℕ) (table : List Named) → Once (named_number w table)
+named_once w table = record { one = λ word v n x y. by_name_once w (number_named table word.octets) word v n x y }
+
+ttl_once : (most : ℕ) → Once (bare (ttl most))
+ttl_once most = record { one = λ word v n x y. periods_one x.1.0.sum y.1.0.sum }
+
+ipv4_once : Once (bare ipv4)
+ipv4_once = record { one = λ word v w x y. x.1.2 ∙ ap ipv4_octets (IsIpv4Text_unique word.octets x.1.0 y.1.0 x.1.1 y.1.1) ∙ sym y.1.2 }
+
+ipv6_once : Once (bare ipv6)
+ipv6_once = record { one = λ word v w x y. x.1.2 ∙ ap ipv6_octets (IsIpv6Text_unique word.octets x.1.0 y.1.0 x.1.1 y.1.1) ∙ sym y.1.2 }
+
+same_name : (o : Option DomainName) (v w : DomainName) → o ≡ Some v → o ≡ Some w → v ≡ w
+same_name o v w e f = cc
+
+name_once : (origin : Option DomainName) → Once (name origin)
+name_once origin = record { one = λ word v w x y. same_name _ v w x.named y.named }
+
+string_once : Once string
+string_once = record { one = λ word v w x y. x.0.value ∙ sym y.0.value }
+
+text_once : Once text
+text_once = record { one = λ word v w x y. x.value ∙ sym y.value }
+
+tag_once : Once tag
+tag_once = record { one = λ word v w x y. x.value ∙ sym y.value }
+
+field_once : (origin : Option DomainName) (field : FieldKind) (a b : List ℕ) (word : Word) → FieldGives origin field a word → FieldGives origin field b word → a ≡ b
+field_once origin (Number w) a b word x y = gives_once (number_once w) x y
+field_once origin (NamedNumber w table) a b word x y = gives_once (named_once w table) x y
+field_once origin Ttl a b word x y = gives_once (ttl_once 4294967295) x y
+field_once origin Ipv4 a b word x y = gives_once ipv4_once x y
+field_once origin Ipv6 a b word x y = gives_once ipv6_once x y
+field_once origin Name a b word x y = gives_once (name_once origin) x y
+field_once origin String a b word x y = gives_once string_once x y
+field_once origin Tag a b word x y = gives_once tag_once x y
+field_once origin Octets a b word x y = gives_once text_once x y
+
+-- ---- types of records
+
+name_found : (t : RecordType) → is_named t ≡ true → find (has_name (type_text t)) named_types ≡ Some t
+name_found (Unknown n) e = absurd (cc e)
+name_found t e = refl
+
+-- a name is of no other type
+only_name : (octets : List ℕ) (t u : RecordType) → IsTypeName octets t → IsTypeText octets u → u ≡ t
+only_name octets t u n is =
+    let found : find (has_name octets) named_types ≡ Some t =
+    subst (λ (s : List ℕ). find (has_name s) named_types ≡ Some t) (sym n.printed) (name_found t n.named) in
+    (reads_name octets t found).1 u is
+
+same_number : (octets : List ℕ) (t u : RecordType) → IsNumberText octets t → IsNumberText octets u → t ≡ u
+same_number octets t u a b =
+    let e : codes "TYPE" ++ a.digits ≡ codes "TYPE" ++ b.digits = sym a.spelled ∙ b.spelled in
+    let d : a.digits ≡ b.digits = ap (drop 4) e in
+    a.value ∙ ap (λ (ds : List ℕ). record_type_of (digits_value 10 ds)) d ∙ sym b.value
+
+type_once : (octets : List ℕ) (t u : RecordType) → IsTypeText octets t → IsTypeText octets u → t ≡ u
+type_once octets t u (inl n) y = sym (only_name octets t u n y)
+type_once octets t u (inr n) (inl m) = only_name octets u t m (inr n)
+type_once octets t u (inr n) (inr m) = same_number octets t u n m
+
+types_once : (a b : List ℕ) (words : List Word) → AreTypes a words → AreTypes b words → a ≡ b
+types_once [] [] [] x y = refl
+types_once (n ∷ a) (m ∷ b) (word ∷ words) x y =
+    let one : n ≡ m = x.0.number ∙ ap number_of (type_once word.octets x.0.record_type y.0.record_type x.0.is.text y.0.is.text) ∙ sym y.0.number in
+    ap (λ (k : ℕ). k ∷ a) one ∙ ap (λ (s : List ℕ). m ∷ s) (types_once a b words x.1 y.1)
+types_once [] [] (word ∷ words) x y = absurd x
+types_once [] (m ∷ b) [] x y = absurd y
+types_once [] (m ∷ b) (word ∷ words) x y = absurd x
+types_once (n ∷ a) [] [] x y = absurd x
+types_once (n ∷ a) [] (word ∷ words) x y = absurd y
+types_once (n ∷ a) (m ∷ b) [] x y = absurd x
+
+-- ---- all words that are left
+
+strings_once : (a b : List (List ℕ)) (words : List Word) → AreStrings a words → AreStrings b words → a ≡ b
+strings_once [] [] [] x y = refl
+strings_once (s ∷ a) (t ∷ b) (word ∷ words) x y =
+    ap (λ (o : List ℕ). o ∷ a) (string_once.one word s t x.0 y.0) ∙ ap (λ (ss : List (List ℕ)). t ∷ ss) (strings_once a b words x.1 y.1)
+strings_once [] [] (word ∷ words) x y = absurd x
+strings_once [] (t ∷ b) [] x y = absurd y
+strings_once [] (t ∷ b) (word ∷ words) x y = absurd x
+strings_once (s ∷ a) [] [] x y = absurd x
+strings_once (s ∷ a) [] (word ∷ words) x y = absurd y
+strings_once (s ∷ a) (t ∷ b) [] x y = absurd x
+
+same_hex : (r : Result (List ℕ) FromHexError) (a b : List ℕ) → r ≡ Ok a → r ≡ Ok b → a ≡ b
+same_hex r a b e f = cc
+
+same_base64 : (r : Result (List ℕ) DecodeError) (a b : List ℕ) → r ≡ Ok a → r ≡ Ok b → a ≡ b
+same_base64 r a b e f = cc
+
+rest_once : (rest : RestKind) (a b : List ℕ) (words : List Word) → RestGives rest a words → RestGives rest b words → a ≡ b
+rest_once NoWord a b words x y = x.1 ∙ sym y.1
+rest_once SomeStrings a b words x y = x.1.same ∙ ap (flat_map string_octets) (strings_once x.1.strings y.1.strings words x.1.are y.1.are) ∙ sym y.1.same
+rest_once SomeHex a b words x y = same_hex _ a b x.1.digits y.1.digits
+rest_once SomeBase64 a b words x y = same_base64 _ a b x.1.digits y.1.digits
+rest_once AnyTypes a b words x y = x.same ∙ ap (λ (ns : List ℕ). flat_map block (minimal ns)) (types_once x.numbers y.numbers words x.are y.are) ∙ sym y.same
+
+-- ---- rows
+
+fields_once : (origin : Option DomainName) (fields : List FieldKind) (rest : RestKind) (a b : List ℕ) (words : List Word)
+    → FieldsGive origin fields rest a words → FieldsGive origin fields rest b words → a ≡ b
+fields_once origin [] rest a b words x y = rest_once rest a b words x y
+fields_once origin (field ∷ fields) rest a b [] x y = absurd x
+fields_once origin (field ∷ fields) rest a b (word ∷ words) x y =
+    let first : x.front ≡ y.front = field_once origin field x.front y.front word x.first y.first in
+    let others : x.behind ≡ y.behind = fields_once origin fields rest x.behind y.behind words x.others y.others in
+    x.same ∙ ap (λ (s : List ℕ). s ++ x.behind) first ∙ ap (λ (s : List ℕ). y.front ++ s) others ∙ sym y.same
+
+pub row_once : (origin : Option DomainName) (row : Row) (a b : List ℕ) (words : List Word) → RowGives origin row a words → RowGives origin row b words → a ≡ b
+row_once origin row a b words x y = fields_once origin row.fields row.rest a b words x.fields y.fields
