@@ -1,9 +1,14 @@
 -- Items of a list, one by one.
-use Rattle.std.proofs.Common.{◌≡◌, ℕ, suc, ◌+◌, ◌<◌, Bool, true, false, eqb, get_or, add-one, List, [], ◌∷◌, ◌++◌, length, take, drop, refl, sym, ◌∙◌, ap, subst, arith, append_assoc, Option, Some, None}
+use Rattle.std.proofs.Common.{◌≡◌, ℕ, ◌+◌, ◌<◌, true, false, eqb, get_or, add-one, List, [], ◌∷◌, ◌++◌, length, take, drop, refl, sym, ◌∙◌, ap, subst, arith, append_assoc, Option, Some, None}
 use Rattle.std.proofs.Math.Seq.{take-suc, drop-cons}
-use Rattle.std.specs.List.{AllZip}
-use Rattle.dns_words.specs.Reads.{NoValue}
-use Rattle.dns_zone_parameters.specs.Lists.{items_from, items_in}
+use Rattle.std.specs.List.{AllZip, flat_map}
+use Rattle.std.proofs.lemmas.Grind.{flat_map-append}
+use Rattle.std.proofs.lemmas.List.{append-nil}
+use Rattle.dns_types.specs.declared.error.ParseError.{ParseError}
+use Rattle.dns_zone_words.proofs.FirstSteps.{unless_map}
+use Rattle.dns_zone_parameters.specs.declared.lists.ListItem.{ListItem}
+use Rattle.dns_words.specs.Reads.{UnlessMemory, NoValue}
+use Rattle.dns_zone_parameters.specs.Lists.{items_from, items_in, IsItem, IsList}
 use Rattle.dns_zone_parameters.specs.Steps.{ItemCut}
 
 -- some items of the text were passed, and these belong to them
@@ -96,3 +101,20 @@ two_more text n so lt h e =
     ∙ pair (take n text) (get_or text n 0) (get_or text (n + 1) 0) (drop (n + 1 + 1) text) h e
     ∙ ap (λ (x : List ℕ). items_from false x (drop (n + 1 + 1) text)) (sym front)
     )
+
+-- ---- what lists are made of
+
+-- nothing belongs to one of the items
+pub none_of : {Y : Type 0} (R : List ℕ → Y → Type 0) (e : ParseError) (text rest item : List ℕ) (behind : Option (List ℕ)) (ys : List Y) → ItemsSo R text rest ys → ItemCut rest item behind
+    → UnlessMemory e (NoValue (R item)) → UnlessMemory e (NoValue (AllZip R (items_in text)))
+none_of R e text rest item behind ys so first none = unless_map e (NoValue (R item)) (NoValue (AllZip R (items_in text)))
+    (λ h. record { none = λ zs each. no_item R text rest item behind ys so first h zs each }) none
+
+pub no_list : (item : ListItem) (e : ParseError) (text : List ℕ) → UnlessMemory e (NoValue (AllZip (IsItem item) (items_in text))) → UnlessMemory e (NoValue (IsList item text))
+no_list item e text none = unless_map e (NoValue (AllZip (IsItem item) (items_in text))) (NoValue (IsList item text))
+    (λ h. record { none = λ v is. h.none is.parts is.each }) none
+
+pub joined_more : (parts : List (List ℕ)) (part old new : List ℕ) → old ≡ flat_map (λ (x : List ℕ). x) parts → new ≡ old ++ part → new ≡ flat_map (λ (x : List ℕ). x) (parts ++ part ∷ [])
+joined_more parts part old new e f =
+    f ∙ ap (λ (x : List ℕ). x ++ part) e ∙ sym (flat_map-append (λ (x : List ℕ). x) parts (part ∷ [])
+    ∙ ap (λ (x : List ℕ). flat_map (λ (y : List ℕ). y) parts ++ x) (append-nil part))

@@ -1,5 +1,5 @@
 -- A name is of one key at most, and why it is of none.
-use Rattle.std.proofs.Common.{◌≡◌, ℕ, zero, suc, arith, ◌&&◌, Bool, true, false, List, [], ◌∷◌, ◌++◌, drop, refl, sym, ◌∙◌, ap, subst, Option, Some, None, inl, inr}
+use Rattle.std.proofs.Common.{◌≡◌, ℕ, zero, suc, arith, ◌&&◌, Bool, true, false, List, [], ◌∷◌, ◌++◌, drop, refl, sym, ◌∙◌, ap, subst, Some, None, inl, inr}
 use Rattle.std.specs.Prelude.{codes, bytes_eq}
 use Rattle.std.specs.Str.{IsUtf8, IsAscii}
 use Rattle.std.specs.Str.Parse.{digits_value}
@@ -12,7 +12,7 @@ use Rattle.std.proofs.lemmas.Bool.{cases_Bool}
 use Rattle.std.proofs.lemmas.Str.{IsUtf8-from_ascii}
 use Rattle.dns_zone_parameters.specs.Keys.{named_key, IsNumberedName, IsKeyName}
 use Rattle.dns_zone_parameters.specs.declared.key.ParameterKey.{ParameterKey}
-use Rattle.dns_zone_parameters.specs.declared.key.ParameterKey.TheVariants.{Mandatory, Alpn, NoDefaultAlpn, Port, Ipv4Hint, Ech, Ipv6Hint, DohPath, Numbered}
+use Rattle.dns_zone_parameters.specs.declared.key.ParameterKey.TheVariants.{Numbered}
 
 second_true : (a b : Bool) → a && b ≡ true → b ≡ true
 second_true true b h = h

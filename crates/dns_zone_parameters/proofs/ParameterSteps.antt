@@ -1,5 +1,5 @@
 -- All parameters, one by one.
-use Rattle.std.proofs.Common.{◌≡◌, ℕ, zero, suc, ◌<◌, ◌≤◌, List, [], ◌∷◌, ◌++◌, length, map, get_or, Result, Ok, Err, refl, sym, ◌∙◌, ap, subst, arith, append_assoc}
+use Rattle.std.proofs.Common.{◌≡◌, ℕ, zero, suc, List, [], ◌∷◌, ◌++◌, map, Result, Ok, refl, sym, ◌∙◌, ap, subst, arith, append_assoc}
 use Rattle.std.specs.List.Sorted.{IsPermutation, IsNonDecreasingBy, IsStrictlyIncreasing}
 use Rattle.std.proofs.lemmas.List.{append-nil, map-append}
 use Rattle.std.proofs.lemmas.List.Sorted.{IsPermutation-map}
@@ -12,7 +12,7 @@ use Rattle.dns_zone_words.specs.declared.words_error.WordsError.{WordsError}
 use Rattle.dns_zone_words.proofs.FirstSteps.{unless_map}
 use Rattle.dns_zone_parameters.specs.Keys.{key_number}
 use Rattle.dns_zone_parameters.specs.Parameters.{Parameter, IsWritten, HasParameter, IsParameter, AreWritten, AreParameters}
-use Rattle.dns_zone_parameters.specs.Steps.{BeginSo, BeginOnlySo, TookWritten, TookParameter, TookParameters}
+use Rattle.dns_zone_parameters.specs.Steps.{BeginOnlySo, TookWritten, TookParameter, TookParameters}
 use Rattle.dns_zone_parameters.specs.Views.{parameter_value}
 use Rattle.dns_zone_parameters.specs.declared.parameter.Parameter.{Parameter as CodeParameter}
 use Rattle.dns_zone_parameters.proofs.KeyNames.{key_once}

@@ -1,10 +1,9 @@
 -- Values, one step behind the other.
-use Rattle.std.proofs.Common.{◌≡◌, ℕ, ◌<◌, false, List, [], ◌++◌, length, map, refl, sym, ◌∙◌, ap, subst, arith}
-use Rattle.std.specs.List.{AllZip, flat_map}
+use Rattle.std.proofs.Common.{◌≡◌, ℕ, ◌<◌, false, List, length, map, refl, sym, ap, subst, arith}
+use Rattle.std.specs.List.{AllZip}
 use Rattle.std.specs.List.Sorted.{IsPermutation, IsSorted, IsStrictlyIncreasing}
 use Rattle.std.specs.Ordering.{nat_cmp}
 use Rattle.std.proofs.lemmas.List.Sorted.{IsNonDecreasingBy-from_sort}
-use Rattle.dns_fields.specs.Fields.{Kind}
 use Rattle.dns_types.specs.declared.error.ParseError.{ParseError}
 use Rattle.dns_words.specs.Forms.{ipv4, ipv6}
 use Rattle.dns_words.specs.Reads.{UnlessMemory, NoValue}
@@ -14,12 +13,12 @@ use Rattle.dns_zone_words.specs.Words.{Word}
 use Rattle.dns_zone_words.specs.ZoneReads.{NoValueOf}
 use Rattle.dns_zone_words.proofs.FirstSteps.{unless_map}
 use Rattle.dns_zone_parameters.specs.Keys.{IsKeyName}
-use Rattle.dns_zone_parameters.specs.Lists.{items_in, IsItem, IsList, IsListedKey, IsKeyList}
+use Rattle.dns_zone_parameters.specs.Lists.{items_in, IsItem, IsListedKey, IsKeyList}
 use Rattle.dns_zone_parameters.specs.Values.{HasOctets, IsValue}
-use Rattle.dns_zone_parameters.specs.Parameters.{Parameter, HasParameter}
+use Rattle.dns_zone_parameters.specs.Parameters.{HasParameter}
 use Rattle.dns_zone_parameters.specs.declared.key.ParameterKey.{ParameterKey}
 use Rattle.dns_zone_parameters.specs.declared.lists.ListItem.{ListItem}
-use Rattle.dns_zone_parameters.specs.declared.lists.ListItem.TheVariants.{Protocol, Ipv4, Ipv6}
+use Rattle.dns_zone_parameters.specs.declared.lists.ListItem.TheVariants.{Ipv4, Ipv6}
 use Rattle.dns_zone_parameters.proofs.KeyNames.{key_once}
 use Rattle.dns_zone_parameters.proofs.Once.{keys_once, octets_once}
 use Rattle.dns_zone_parameters.proofs.Rises.{climbs_rising, climbs_sorted, order_once}

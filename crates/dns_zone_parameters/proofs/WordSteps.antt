@@ -1,21 +1,17 @@
 -- Parameters in words, one by one.
-use Rattle.std.proofs.Common.{◌≡◌, ◌≢◌, ℕ, suc, ◌+◌, ◌-◌, ◌<◌, ◌≤◌, Bool, true, false, cond, ltb, min, List, [], ◌∷◌, ◌++◌, length, map, take, drop, get_or, Option, Some, None, Result, Ok, Err, refl, sym, ◌∙◌, ap, subst, arith, ◌⊎◌, inl, inr, add-one, length-append, append_assoc}
+use Rattle.std.proofs.Common.{◌≡◌, ℕ, suc, ◌+◌, ◌-◌, ◌<◌, ◌≤◌, true, false, cond, ltb, min, List, [], ◌∷◌, ◌++◌, length, take, drop, get_or, Option, Some, None, Result, Ok, Err, refl, sym, ◌∙◌, ap, subst, arith, inl, inr, length-append}
 use Rattle.std.specs.List.{position, position_or_len}
 use Rattle.std.proofs.Math.Seq.{drop-cons}
-use Rattle.std.proofs.lemmas.List.{append-nil, drop_all, take_all, take-append-drop, length-take, length-drop}
+use Rattle.std.proofs.lemmas.List.{drop_all, take_all, take-append-drop, length-take, length-drop}
 use Rattle.std.proofs.lemmas.Bool.{cases_Bool}
 use Rattle.std.proofs.lemmas.Option.{same_Some}
 use Rattle.std.proofs.lemmas.Bool.Decides.{nat_tests}
 use Rattle.std.proofs.lemmas.List.Sums.{passes_at_first}
-use Rattle.dns_types.specs.declared.error.ParseError.{ParseError}
-use Rattle.dns_words.specs.Reads.{UnlessMemory, NoValue}
-use Rattle.dns_zone_words.specs.Remaining.{with_words, NoneOfAll}
+use Rattle.dns_zone_words.specs.Remaining.{NoneOfAll}
 use Rattle.dns_zone_words.specs.Words.{Word, Cursor, words_at, with_word}
 use Rattle.dns_zone_words.specs.declared.words_error.WordsError.{WordsError}
-use Rattle.dns_zone_parameters.specs.Keys.{key_number}
-use Rattle.dns_zone_parameters.specs.Parameters.{Parameter, is_equals, name_in, value_in, StandsAlone, IsQuotedValue, IsWritten, HasParameter, IsParameter, AreWritten}
-use Rattle.dns_zone_parameters.specs.Steps.{NoQuoted, BeginSo, BeginOnlySo, TookWritten, TookParameter, TookParameters}
-use Rattle.dns_zone_parameters.proofs.KeyNames.{key_once}
+use Rattle.dns_zone_parameters.specs.Parameters.{Parameter, is_equals, name_in, value_in, StandsAlone, IsQuotedValue, IsWritten, HasParameter, AreWritten}
+use Rattle.dns_zone_parameters.specs.Steps.{NoQuoted, BeginSo, TookWritten}
 
 -- the words behind one, where they are cut
 ok_behind : (word : Word) (behind : Result (List Word) WordsError) (all : List Word) → with_word word behind ≡ Ok all

@@ -1,5 +1,5 @@
 -- Service parameters in texts of zone files (RFC 9460, 2.1 and 2.2).
-use Rattle.std.specs.Prelude.{◌≡◌, ◌⊎◌, ℕ, ◌==◌, Bool, true, false, List, [], ◌∷◌, ◌++◌, IsPermutation}
+use Rattle.std.specs.Prelude.{◌≡◌, ℕ, ◌==◌, Bool, true, false, List, [], ◌∷◌, ◌++◌, IsPermutation}
 use Rattle.std.specs.List.{before_first, after_first}
 use Rattle.dns_fields.specs.Pieces.{Numbered, pieces, Rising}
 use Rattle.dns_types.specs.declared.error.ParseError.{ParseError}

@@ -1,4 +1,5 @@
-use Rattle.std.proofs.Common.{◌≡◌, true, false, sym, ◌∙◌, ap, map, refl, rules}
+use Rattle.std.proofs.Common.{◌≡◌, true, false, sym, ◌∙◌, ap, map, refl, rules, subst}
+use Rattle.std.specs.List.Sorted.{IsStrictlyIncreasing}
 use Rattle.std.proofs.lemmas.List.Sorted.{IsNonDecreasingBy-from_sort_by_key}
 use Rattle.dns_fields.specs.Pieces.{pieces}
 use Rattle.dns_zone_parameters.specs.Views.{parameter_value}
@@ -10,12 +11,15 @@ returns-then-not-is_rising c = record {
   reads = no_rise c.in_ok-parameters.parameters.items c.sort_unstable_by_key.new.self.items c.in_ok-numbers.numbers.items c.args.words.now c.in_ok-parameters.ensures.reads
       c.sort_unstable_by_key.ensures.permutation
       (IsNonDecreasingBy-from_sort_by_key (λ x. x.number) _ c.sort_unstable_by_key.ensures.sorted (λ a r q k. search rules))
-      (c.in_ok-numbers.ensures ∙ ap (map (λ x. x.number)) c.as_slice.ensures.value) ?;
+      (c.in_ok-numbers.ensures ∙ ap (map (λ x. x.number)) c.as_slice.ensures.value)
+      (λ h. let both : false ≡ true = c.if-not-is_rising.ensures.1 (subst IsStrictlyIncreasing (sym c.as_slice-2.ensures.value) h) in absurd (cc));
 }
 
 pub returns : goal.returns
 returns c = record {
   reads = are_parameters c.in_ok-parameters.parameters.items c.sort_unstable_by_key.new.self.items c.in_ok-numbers.numbers.items c.in_ok-wire_of.field-0 c.args.words.now
       c.in_ok-parameters.ensures.reads c.sort_unstable_by_key.ensures.permutation
-      (c.in_ok-numbers.ensures ∙ ap (map (λ x. x.number)) c.as_slice.ensures.value) ? ?;
+      (c.in_ok-numbers.ensures ∙ ap (map (λ x. x.number)) c.as_slice.ensures.value)
+      (subst IsStrictlyIncreasing c.as_slice-2.ensures.value (c.if-not-is_rising.ensures.0 refl))
+      (c.in_ok-wire_of.ensures ∙ ap (λ xs. pieces (map parameter_value xs)) c.as_slice-3.ensures.value);
 }

@@ -1,6 +1,5 @@
 use Rattle.std.proofs.Common.{◌∙◌, ap, map, [], ◌∷◌}
 use Rattle.std.proofs.lemmas.List.{map-append}
-use Rattle.dns_zone_parameters.specs.Steps.{ReadsNext}
 use Rattle.dns_zone_parameters.specs.Views.{parameter_value}
 use Rattle.dns_zone_parameters.proofs.ParameterSteps.{one_parameter, all_taken}
 use Rattle.dns_zone_parameters.proofs.parameters_in.Goals as goal

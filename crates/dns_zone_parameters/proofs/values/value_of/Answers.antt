@@ -1,4 +1,4 @@
-use Rattle.std.proofs.Common.{arith}
+use Rattle.std.proofs.Common.{arith, true}
 use Rattle.dns_zone_parameters.proofs.ValueSteps.{too_long}
 use Rattle.dns_zone_parameters.proofs.values.value_of.Goals as goal
 

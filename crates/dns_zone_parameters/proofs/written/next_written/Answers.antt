@@ -1,5 +1,5 @@
 use Rattle.std.proofs.Common.{◌≡◌, ◌+◌, ◌<◌, ◌≤◌, true, false, sym, ◌∙◌, ap, subst, arith, length}
-use Rattle.std.proofs.lemmas.List.{drop_all}
+use Rattle.std.proofs.lemmas.List.{drop_all, length-drop}
 use Rattle.dns_zone_words.specs.Views.{word_value}
 use Rattle.dns_zone_words.specs.Words.{Cursor, words_at, with_word}
 use Rattle.dns_zone_parameters.specs.Parameters.{name_in, value_in}
@@ -31,7 +31,7 @@ returns-then-behind-gt0-clause-took c =
     let first = rw c.in-Some.is at c.in_ok-word.ensures.word in
     let here = sym c.equals_at.ensures ∙ c.in-Some-equals_at.is in
     let cut = with_equals word.octets at here in
-    let more : at + 1 < length word.octets = ? in
+    let more : at + 1 < length word.octets = omega (arith, ap length (to_end word.octets (at + 1)), length-drop (at + 1) word.octets) in
     took_same (name_in word.octets) (value_in word.octets) _ _ c.args.words.now c.next_word.new.self cut.0 (cut.1 ∙ to_end word.octets (at + 1))
     (took_alone word c.args.words.now c.next_word.new.self first (record { bare = c.if-word.false; apart = c.if-word-2.false })
     (λ e. absurd (goes_on word.octets at here more e)))
@@ -44,7 +44,7 @@ returns-in-Some-2-clause-took c =
     let here = sym c.equals_at.ensures ∙ c.in-Some-equals_at.is in
     let cut = with_equals word.octets at here in
     let took = rw c.in-Some-2.is at c.in_ok-value.ensures.took in
-    let last : length word.octets ≤ at + 1 = ? in
+    let last : length word.octets ≤ at + 1 = omega (arith, ap length (to_end word.octets (at + 1)), length-drop (at + 1) word.octets) in
     took_same (name_in word.octets) took.word.octets _ _ c.args.words.now c.quoted_value.new.words cut.0 (sym took.same)
     (took_quoted word took.word c.args.words.now c.next_word.new.self c.quoted_value.new.words first took.cut
     (record { bare = c.if-word.false; apart = c.if-word-2.false }) (ends_here word.octets at here last) took.is)
