@@ -113,7 +113,7 @@ words_ok : (words : List Word) → with_words words (Ok []) ≡ Ok words
 words_ok [] = refl
 words_ok (word ∷ words) = ap (with_word word) (words_ok words)
 
-nothing_written : (name value : List ℕ) (front behind : List Word) → [] ≡ front ++ behind → IsWritten name value front → ⊥
+pub nothing_written : (name value : List ℕ) (front behind : List Word) → [] ≡ front ++ behind → IsWritten name value front → ⊥
 nothing_written name value [] behind e is = is
 nothing_written name value (word ∷ front) behind e is = cc
 
