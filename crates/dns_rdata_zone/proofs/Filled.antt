@@ -74,15 +74,17 @@ all_are m p (k ∷ kinds) vs e a h =
 -- ---- what fields hold
 
 name_fits : {m : List ℕ} {p q : ℕ} {x : DomainName} → AreOctets m → Field m p Name x q → IsWritable x
-name_fits a f = record { octets = labels_octets a f.is.stands; labels = labels_stand f.is.stands }
+name_fits a f = record { octets = labels_octets a f.is.stands; is_name = record { labels = labels_stand f.is.stands; fits = f.is.fits } }
 
-text_fits : (m : List ℕ) (p : ℕ) (s : List ℕ) (q : ℕ) → AreOctets m → At m p (string s) q → AreOctets s
-text_fits m p s q a h = AreOctets-tail (length s) s (AreOctets-at m p (string s) q a h)
+text_fits : (m : List ℕ) (p : ℕ) (s : List ℕ) (q : ℕ) → AreOctets m → (length s < 256) × At m p (string s) q → IsString s
+text_fits m p s q a h = record { octets = AreOctets-tail (length s) s (AreOctets-at m p (string s) q a h.1); fits = h.0 }
 
-texts_are : (ss : List (List ℕ)) → AreOctets (flat_map string ss) → AllByRecursion AreOctets ss
-texts_are [] h = tt
-texts_are (s ∷ ss) h =
-    (AreOctets-tail (length s) s (AreOctets-front (string s) (flat_map string ss) h), texts_are ss (AreOctets-back (string s) (flat_map string ss) h))
+texts_are : (ss : List (List ℕ)) → AreOctets (flat_map string ss) → AllByRecursion (λ s. length s < 256) ss → AllByRecursion IsString ss
+texts_are [] h k = tt
+texts_are (s ∷ ss) h k = (
+  record { octets = AreOctets-tail (length s) s (AreOctets-front (string s) (flat_map string ss) h); fits = k.0 },
+  texts_are ss (AreOctets-back (string s) (flat_map string ss) h) k.1,
+)
 
 twice : (s : List ℕ) → length (octets_of s) ≡ 2 * length s
 twice [] = refl
@@ -117,7 +119,7 @@ all_mapped f P (x ∷ xs) h = (h.0, all_mapped f P xs h.1)
 
 value_fits : (v : SvcParamValue) (body : List ℕ) → IsEmittable (value_of v) → IsBody body (value_of v) → AreOctets body → IsWritableValue v
 value_fits (Mandatory x) body e b o = ((λ none. e.0 (ap (map key_number) none)), all_mapped key_number (λ k. k < 256 ^ 2) x.0 e.1)
-value_fits (Alpn x) body e b o = (e.0, texts_are x.0 (AreOctets-same body (flat_map string x.0) b.1 o))
+value_fits (Alpn x) body e b o = (e.0, texts_are x.0 (AreOctets-same body (flat_map string x.0) b.1 o) e.1)
 value_fits NoDefaultAlpn body e b o = tt
 value_fits (Port n) body e b o = e
 value_fits (Ipv4Hint x) body e b o = hints4 x.0 e (AreOctets-same body (flat_map (λ s. s) (map a_octets x.0)) b o)
@@ -158,21 +160,21 @@ tlsa_fits m p x e a h =
 fields_fit : (m : List ℕ) (p : ℕ) (v : RData) (e : ℕ) → AreOctets m → Stands m p (fields_of v).kinds (fields_of v).values e → FieldsFit v
 fields_fit m p (rdata.A x) e a h = address4 x h.1.is.0 (AreOctets-at m p (a_octets x) h.0 a h.1.is.1)
 fields_fit m p (rdata.AAAA x) e a h = address6 x h.1.is.0 (AreOctets-at m p (aaaa_octets x) h.0 a h.1.is.1)
-fields_fit m p (rdata.CAA x) e a h = (h.1.is.0, AreOctets-at m h.2.0 x.value h.2.2.0 a h.2.2.1.is)
+fields_fit m p (rdata.CAA x) e a h = (h.1.is.0, h.2.1.is.0, AreOctets-at m h.2.0 x.value h.2.2.0 a h.2.2.1.is)
 fields_fit m p (rdata.CERT x) e a h =
     (h.1.is.0, h.2.1.is.0, h.2.2.1.is.0, AreOctets-at m h.2.2.0 x.cert_data h.2.2.2.0 a h.2.2.2.1.is)
 fields_fit m p (rdata.CNAME x) e a h = name_fits a h.1
 fields_fit m p (rdata.CSYNC x) e a h = (h.1.is.0, h.2.1.is.0, h.2.2.1.is.set.numbers)
-fields_fit m p (rdata.HINFO x) e a h = (text_fits m p x.cpu h.0 a h.1.is.1, text_fits m h.0 x.os h.2.0 a h.2.1.is.1)
+fields_fit m p (rdata.HINFO x) e a h = (text_fits m p x.cpu h.0 a h.1.is, text_fits m h.0 x.os h.2.0 a h.2.1.is)
 fields_fit m p (rdata.HTTPS x) e a h = service_fits m p x.0 e a h
 fields_fit m p (rdata.MX x) e a h = (h.1.is.0, name_fits a h.2.1)
 fields_fit m p (rdata.NAPTR x) e a h =
     let flags = h.2.2 in (
       h.1.is.0,
       h.2.1.is.0,
-      text_fits m h.2.0 x.flags flags.0 a flags.1.is.1,
-      text_fits m flags.0 x.services flags.2.0 a flags.2.1.is.1,
-      text_fits m flags.2.0 x.regexp flags.2.2.0 a flags.2.2.1.is.1,
+      text_fits m h.2.0 x.flags flags.0 a flags.1.is,
+      text_fits m flags.0 x.services flags.2.0 a flags.2.1.is,
+      text_fits m flags.2.0 x.regexp flags.2.2.0 a flags.2.2.1.is,
       name_fits a flags.2.2.2.1,
     )
 fields_fit m p (rdata.NS x) e a h = name_fits a h.1
@@ -195,7 +197,7 @@ fields_fit m p (rdata.SRV x) e a h = (h.1.is.0, h.2.1.is.0, h.2.2.1.is.0, name_f
 fields_fit m p (rdata.SSHFP x) e a h = (h.1.is.0, h.2.1.is.0, AreOctets-at m h.2.0 x.fingerprint h.2.2.0 a h.2.2.1.is)
 fields_fit m p (rdata.SVCB x) e a h = service_fits m p x e a h
 fields_fit m p (rdata.TLSA x) e a h = tlsa_fits m p x e a h
-fields_fit m p (rdata.TXT x) e a h = texts_are x.txt_data (AreOctets-at m p (flat_map string x.txt_data) h.0 a h.1.is.1)
+fields_fit m p (rdata.TXT x) e a h = texts_are x.txt_data (AreOctets-at m p (flat_map string x.txt_data) h.0 a h.1.is.1) h.1.is.0
 fields_fit m p v e a h = tt
 
 own_stands : {m : List ℕ} {p n : ℕ} {t : RecordType} {v : RData} → Fills m p n t v → Stands m p (fields_of v).kinds (fields_of v).values (p + n)

@@ -26,7 +26,7 @@ use Rattle.dns_zone_parameters.specs.declared.key.ParameterKey.{ParameterKey}
 use Rattle.dns_zone_parameters.specs.declared.key.ParameterKey.TheVariants as keys
 use Rattle.dns_rdata_zone.specs.Lists.{commas}
 use Rattle.dns_rdata_zone.specs.Parameters.{key_name, named_key, protocol, zone_value, zone_parameter, rises_from, value_has_text, has_text}
-use Rattle.dns_rdata_zone.specs.Readable.{IsWritableValue, IsWritableParameter}
+use Rattle.dns_rdata_zone.specs.Readable.{IsString, IsWritableValue, IsWritableParameter}
 use Rattle.dns_rdata_zone.specs.Spellings.{escaped}
 use Rattle.dns_rdata_zone.specs.Strings.{quoted}
 use Rattle.dns_rdata_zone.specs.ZoneGives.{AreUnmarked}
@@ -52,7 +52,7 @@ numbered_at n h =
     rw (t0, t1, t2, t3, t4, t5, t6) refl
 
 -- there is one
-some_there : {X : Type 0} (xs : List X) → is_some xs ≡ true → xs ≢ []
+pub some_there : {X : Type 0} (xs : List X) → is_some xs ≡ true → xs ≢ []
 some_there [] h = absurd (cc h)
 some_there (x ∷ xs) h = λ e. absurd (cc e)
 
@@ -88,12 +88,16 @@ bare_behind : (n : ℕ) (key : ParameterKey) (s octets : List ℕ) → n < 65535
     → ParameterText (key_name n ++ 61 ∷ s) (n, octets)
 bare_behind n key s octets h e run has fits = bare_at n key s octets h e run (plain_value key s octets run has fits)
 
-names_are : (names : List (List ℕ)) → list_all is_some names ≡ true → AllByRecursion (λ s. length s < 256) names → AreNames names
+names_are : (names : List (List ℕ)) → list_all is_some names ≡ true → AllByRecursion IsString names → AreNames names
 names_are [] h k = tt
-names_are (s ∷ names) h k = ((some_length s (some_there s (first_true (is_some s) (list_all is_some names) h)), omega (arith, k.0)), names_are names (second_true (is_some s) (list_all is_some names) h) k.1) where
+names_are (s ∷ names) h k = ((some_length s (some_there s (first_true (is_some s) (list_all is_some names) h)), (let fits = k.0.fits in omega (arith, fits))), names_are names (second_true (is_some s) (list_all is_some names) h) k.1) where
   some_length : (t : List ℕ) → t ≢ [] → 1 ≤ length t
   some_length [] none = absurd (none refl)
   some_length (c ∷ t) none = omega arith
+
+names_octets : (names : List (List ℕ)) → AllByRecursion IsString names → AllByRecursion AreOctets names
+names_octets [] h = tt
+names_octets (s ∷ names) h = (h.0.octets, names_octets names h.1)
 
 small_at : (m n : ℕ) → m < 65535 → eqb n m ≡ true → n < 65535
 small_at m n h t = let same : n ≡ m = grind (arith, nat_tests) in omega (arith, h, same)
@@ -116,12 +120,13 @@ behind_key n (Mandatory x) has h fits =
     (keys_run x.0 above.1) (keys_list x.0 h.0 above.0 above.1) fits
 behind_key n (Alpn x) has h fits =
     let own : eqb n 1 ≡ true = first_true (eqb n 1) (list_all is_some x.0) has in
-    let names = names_are x.0 (second_true (eqb n 1) (list_all is_some x.0) has) h.2 in
+    let names = names_are x.0 (second_true (eqb n 1) (list_all is_some x.0) has) h.1 in
+    let octets_are = names_octets x.0 h.1 in
     let list = commas item_text x.0 in
     let octets = flat_map string x.0 in
     subst (λ (t : List ℕ). ParameterText (key_name n ++ 61 ∷ 34 ∷ (t ++ 34 ∷ [])) (n, octets)) (sym (list_spelled x.0))
-    (enclosed_at n keys.Alpn (flat_map escaped list) octets (small_at 1 n (omega arith) own) (key_at 1 n keys.Alpn refl own) (spelled_quotes list (list_octets x.0 h.1))
-    (escaped_value keys.Alpn list octets (list_octets x.0 h.1) (names_list x.0 h.0 names) fits))
+    (enclosed_at n keys.Alpn (flat_map escaped list) octets (small_at 1 n (omega arith) own) (key_at 1 n keys.Alpn refl own) (spelled_quotes list (list_octets x.0 octets_are))
+    (escaped_value keys.Alpn list octets (list_octets x.0 octets_are) (names_list x.0 h.0 names) fits))
 behind_key n NoDefaultAlpn has h fits =
     let k = spelled_at n keys.NoDefaultAlpn (small_at 2 n (omega arith) has) (key_at 2 n keys.NoDefaultAlpn refl has) in
     subst (λ (t : List ℕ). ParameterText t (n, [])) (sym (append-nil (key_name n)))

@@ -1,7 +1,9 @@
 -- Fields that were written give their octets, and so do rows of them.
 use Rattle.std.proofs.Common.{◌≡◌, ◌≢◌, ℕ, suc, ◌+◌, ◌*◌, ◌/◌, ◌%◌, ◌^◌, ◌<◌, ◌≤◌, Bool, true, false, cond, eqb, ◌||◌, ◌&&◌, nat_le, List, [], ◌∷◌, ◌++◌, length, take, drop, zero, replicate, rules, get_or, decimal, codes, inl, inr, lit<, Option, Some, None, Result, Ok, refl, sym, ◌∙◌, ap, subst, append_assoc, arith}
 use Rattle.std.specs.Prelude.{flat_map, bytes_eq, slice_index}
+use Rattle.std.specs.Char.{to_ascii_lowercase, is_ascii_alphanumeric}
 use Rattle.std.specs.Int.{bytes_high_first}
+use Rattle.std.specs.Str.{str_eq_ignore_ascii_case, str_to_ascii_lowercase}
 use Rattle.std.specs.List.{AllByRecursion, list_all}
 use Rattle.std.specs.Net.Addr.{IsIpv4Addr, IsIpv6Addr, ipv4_octets, ipv6_octets, ipv6_segments, octets_of}
 use Rattle.std.specs.Net.Grammar.{IsDotted, IsGroups, IsColonHex}
@@ -39,7 +41,7 @@ use Rattle.dns_zone_words.specs.Words.{Word, between, words_from}
 use Rattle.dns_zone_words.specs.declared.words_error.WordsError.{WordsError}
 use Rattle.hex.specs.declared.error.FromHexError.{FromHexError}
 use Rattle.dns_zone_rows.proofs.Once.{row_once}
-use Rattle.dns_zone_rows.specs.Mnemonics.{Named, number_named, named_number}
+use Rattle.dns_zone_rows.specs.Mnemonics.{Named, number_named, IsNamedNumber, cert_types, algorithms}
 use Rattle.dns_rdata_zone.specs.Names.{zone_label, zone_labels, zone_name}
 use Rattle.dns_zone_rows.specs.Rows.{Row, RowGives, IsTypeNumber, AreTypes, FieldKind, Number, NamedNumber, Ttl, Ipv4, Ipv6, Name, String, Tag, Octets, RestKind, NoWord, SomeStrings, SomeHex, SomeBase64, AnyTypes, Gives, name_octets, FieldGives, RestGives, InTwo, FieldsGive}
 use Rattle.dns_rdata_zone.specs.Spellings.{escaped, three_digits, needs_backslash, name_octet}
@@ -211,6 +213,74 @@ tag_text origin s some h fits = plain_text s (string_octets s) some h
   some_length : (s : List ℕ) → s ≢ [] → 1 ≤ length s
   some_length [] h = absurd (h refl)
   some_length (c ∷ s) h = omega arith
+
+-- ---- numbers that have names
+
+-- a letter begins the name
+abbrev begins_letter : List ℕ → Bool
+begins_letter [] = false
+begins_letter (c ∷ s) = nat_le 65 c
+
+digit_apart : (d c : ℕ) → 48 ≤ d → d ≤ 57 → nat_le 65 c ≡ true → eqb (to_ascii_lowercase d) (to_ascii_lowercase c) ≡ false
+digit_apart d c low high h = grind (arith, nat_tests)
+
+name_apart : (d : ℕ) (s name : List ℕ) → 48 ≤ d → d ≤ 57 → begins_letter name ≡ true → str_eq_ignore_ascii_case (d ∷ s) name ≡ false
+name_apart d s [] low high h = absurd (cc h)
+name_apart d s (c ∷ name) low high h =
+    ap (λ (b : Bool). b && bytes_eq (str_to_ascii_lowercase s) (str_to_ascii_lowercase name)) (digit_apart d c low high h)
+
+table_apart : (table : List Named) (d : ℕ) (s : List ℕ) → 48 ≤ d → d ≤ 57 → list_all (λ x. begins_letter x.name) table ≡ true → number_named table (d ∷ s) ≡ None
+table_apart [] d s low high h = refl
+table_apart (x ∷ table) d s low high h =
+    rw (name_apart d s x.name low high (first_true (begins_letter x.name) (list_all (λ y. begins_letter y.name) table) h))
+    (table_apart table d s low high (second_true (begins_letter x.name) (list_all (λ y. begins_letter y.name) table) h))
+
+digits_apart : (table : List Named) (s : List ℕ) → 0 < length s → 48 ≤ get_or s 0 0 → get_or s 0 0 ≤ 57 → list_all (λ x. begins_letter x.name) table ≡ true → number_named table s ≡ None
+digits_apart table [] some low high h = absurd (omega (arith, some))
+digits_apart table (d ∷ s) some low high h = table_apart table d s low high h
+
+number_apart : (table : List Named) (n : ℕ) → n < 2 ^ 64 → list_all (λ x. begins_letter x.name) table ≡ true → number_named table (decimal n) ≡ None
+number_apart table n small h =
+    let num = decimal_is_IsNumeral n small in
+    let digit = digit_at (decimal n) 0 num.0.1 num.0.0 in
+    digits_apart table (decimal n) num.0.0 (omega (arith, digit)) (omega (arith, digit)) h
+
+-- the number of a name is written by its digits
+pub named_text : (origin : Option DomainName) (w : ℕ) (table : List Named) (n : ℕ) → n < 2 ^ (8 * w) → n < 2 ^ 64 → list_all (λ x. begins_letter x.name) table ≡ true
+    → FieldText origin (NamedNumber w table) (decimal n) (bytes_high_first w n)
+named_text origin w table n fits small letters = plain_text (decimal n) (bytes_high_first w n) (decimal_some n small) (decimal_run n small)
+    (record {
+      value = n;
+      is = subst (λ (o : Option ℕ). IsNamedNumber w o n (bare_word (decimal n))) (sym (number_apart table n small letters)) (number_form w n fits small);
+      same = refl;
+    })
+
+pub cert_text : (origin : Option DomainName) (n : ℕ) → n < 2 ^ 16 → FieldText origin (NamedNumber 2 cert_types) (decimal n) (bytes_high_first 2 n)
+cert_text origin n h = named_text origin 2 cert_types n h (omega (arith, h)) refl
+
+pub algorithm_text : (origin : Option DomainName) (n : ℕ) → n < 2 ^ 8 → FieldText origin (NamedNumber 1 algorithms) (decimal n) (bytes_high_first 1 n)
+algorithm_text origin n h = named_text origin 1 algorithms n h (omega (arith, h)) refl
+
+-- ---- tags
+
+alphanumeric_one : (c : ℕ) → is_ascii_alphanumeric c ≡ true → is_run_octet c ≡ true
+alphanumeric_one c h = grind (arith, nat_tests)
+
+pub alphanumeric_run : (s : List ℕ) → list_all is_ascii_alphanumeric s ≡ true → AreRunOctets s
+alphanumeric_run [] h = tt
+alphanumeric_run (c ∷ s) h = (alphanumeric_one c (first_true (is_ascii_alphanumeric c) (list_all is_ascii_alphanumeric s) h), alphanumeric_run s (second_true (is_ascii_alphanumeric c) (list_all is_ascii_alphanumeric s) h))
+
+wide : (w n : ℕ) → w ≤ 4 → n < 2 ^ (8 * w) → n < 2 ^ 64
+wide zero n few h = omega (arith, h)
+wide (suc zero) n few h = omega (arith, h)
+wide (suc (suc zero)) n few h = omega (arith, h)
+wide (suc (suc (suc zero))) n few h = omega (arith, h)
+wide (suc (suc (suc (suc zero)))) n few h = omega (arith, h)
+wide (suc (suc (suc (suc (suc w))))) n few h = absurd (omega (arith, few))
+
+-- a number of at most four octets
+pub short_text : (origin : Option DomainName) (w n : ℕ) → w ≤ 4 → n < 2 ^ (8 * w) → FieldText origin (Number w) (decimal n) (bytes_high_first w n)
+short_text origin w n few fits = number_text origin w n fits (wide w n few fits)
 
 -- ---- addresses
 

@@ -1,8 +1,8 @@
 -- Record data gives its text, and the text gives it.
-use Rattle.std.proofs.Common.{◌≡◌, ◌≢◌, ℕ, ◌<◌, ◌≤◌, ◌^◌, cond, true, List, [], ◌∷◌, ◌++◌, map, length, codes, Option, Some, inl, inr, refl, sym, ◌∙◌, ap, subst, append_assoc, arith}
+use Rattle.std.proofs.Common.{◌≡◌, ◌≢◌, ℕ, ◌<◌, ◌≤◌, ◌^◌, cond, true, List, [], ◌∷◌, ◌++◌, map, length, codes, Option, Some, None, inl, inr, refl, sym, ◌∙◌, ap, subst, append_assoc, arith}
 use Rattle.std.specs.Prelude.{flat_map, decimal}
 use Rattle.std.specs.Char.{is_ascii_alphanumeric}
-use Rattle.std.specs.Int.{cast_unsigned, w32}
+use Rattle.std.specs.Int.{bytes_high_first, cast_unsigned, w32}
 use Rattle.std.specs.List.{AllByRecursion, list_all}
 use Rattle.std.proofs.lemmas.List.{append-nil}
 use Rattle.std.proofs.lemmas.Bool.Decides.{nat_tests}
@@ -11,9 +11,9 @@ use Rattle.base64.specs.GeneralPurpose.{encode_of}
 use Rattle.hex.specs.Hex.{encode_lower}
 use Rattle.dns_fields.specs.Bitmaps.{block, minimal}
 use Rattle.dns_fields.specs.Fields.{field_octets, canonical, option_pieces, parameter_pieces}
-use Rattle.dns_fields.specs.Labels.{DomainName}
+use Rattle.dns_fields.specs.Labels.{DomainName, AreLabels}
 use Rattle.dns_fields.specs.Octets.{AreOctets}
-use Rattle.dns_fields.specs.Pieces.{is_some, string, pieces}
+use Rattle.dns_fields.specs.Pieces.{is_some, string, pieces, Rising}
 use Rattle.dns_types.specs.RecordTypes.{record_type_of}
 use Rattle.dns_types.specs.declared.record_type.RecordType.{RecordType}
 use Rattle.dns_types.specs.declared.record_type.RecordType.TheVariants as types
@@ -42,9 +42,8 @@ use Rattle.dns_rdata_sets.specs.CAA.{caa_shape, caa_fields, caa_flags}
 use Rattle.dns_rdata_sets.specs.CSYNC.{csync_flags}
 use Rattle.dns_rdata_sets.specs.declared.caa.CAA.{CAA}
 use Rattle.dns_rdata_sets.specs.declared.csync.CSYNC.{CSYNC}
-use Rattle.dns_zone_rows.specs.Mnemonics.{Named, cert_types, algorithms}
 use Rattle.dns_zone_rows.specs.RowTable.{row_of}
-use Rattle.dns_zone_rows.specs.Rows.{Row, FieldKind, Number, NamedNumber, RestKind, NoWord, SomeHex, SomeBase64, SomeStrings, AnyTypes, AnyParameters}
+use Rattle.dns_zone_rows.specs.Rows.{FieldKind, Number, RestKind, Ttl, Name, String, NoWord, SomeHex, SomeBase64, SomeStrings, AnyTypes, AnyParameters}
 use Rattle.dns_rdata_zone.specs.Generic.{generic}
 use Rattle.dns_rdata_zone.specs.Names.{zone_name}
 use Rattle.dns_rdata_zone.specs.Parameters.{has_text, zone_parameter}
@@ -52,14 +51,14 @@ use Rattle.dns_rdata_zone.specs.Records.{zone_strings, zone_tlsa, zone_type, has
 use Rattle.dns_rdata_zone.specs.Services.{service_octets, service_text, zone_service}
 use Rattle.dns_rdata_zone.specs.Strings.{quoted}
 use Rattle.dns_rdata_zone.specs.WholeOctets.{name_octets}
-use Rattle.dns_rdata_zone.specs.Readable.{AllOctets, IsString, IsWritable, IsWritableService, IsWritableTlsa, FieldsFit, IsReadable}
+use Rattle.dns_rdata_zone.specs.Readable.{IsString, IsWritable, IsWritableParameter, IsWritableService, IsWritableTlsa, FieldsFit, IsReadable}
 use Rattle.dns_rdata_zone.specs.ZoneReads.{TextsGive, TextsTell}
 use Rattle.dns_rdata_zone.specs.ZoneTexts.{zone_text, zone_octets}
 use Rattle.dns_rdata_zone.proofs.Cuts.{NoneEmpty}
 use Rattle.dns_rdata_zone.proofs.Letters.{first_true, second_true}
 use Rattle.dns_rdata_zone.proofs.OptionDigits.{options_pieces}
-use Rattle.dns_rdata_zone.proofs.ParametersGive.{parameters_text, parameters_are}
-use Rattle.dns_rdata_zone.proofs.RowForms.{FieldText, RowText, RestText, ListText, OwnText, TextIs, row_then, row_last, row_rest, row_text, row_list, number_text, named_text, ttl_text, name_text, string_text, octets_text, tag_text, ipv4_text_of, ipv6_text_of, hex_text, base64_text, strings_text, types_text, alphanumeric_run, text_gives, text_same, one_of}
+use Rattle.dns_rdata_zone.proofs.ParametersGive.{some_there, parameters_text, parameters_are}
+use Rattle.dns_rdata_zone.proofs.RowForms.{FieldText, RowText, RestText, ListText, OwnText, TextIs, row_then, row_last, row_rest, row_text, row_list, short_text, cert_text, algorithm_text, ttl_text, name_text, string_text, octets_text, tag_text, ipv4_text_of, ipv6_text_of, hex_text, base64_text, strings_text, types_text, alphanumeric_run, text_gives, text_same, one_of}
 
 -- ---- parts with a blank between two, however they were grouped
 
@@ -98,18 +97,28 @@ none_empty ((c ∷ l) ∷ labels) h = (λ e. cc, none_empty labels h.1)
 named : (origin : Option DomainName) (x : DomainName) → IsWritable x → FieldText origin Name (zone_name x) (name_octets x)
 named origin x h = name_text origin x h.octets (none_empty x.labels h.is_name.labels) h.is_name
 
-number : (origin : Option DomainName) (w n : ℕ) → w ≤ 4 → n < 2 ^ (8 * w) → FieldText origin (Number w) (decimal n) (bytes_high_first w n)
-number origin w n few fits = number_text origin w n fits (wide w n few fits)
-
 text : (origin : Option DomainName) (s : List ℕ) → IsString s → FieldText origin String (quoted s) (string s)
 text origin s h = string_text origin s h.octets (omega (arith, h.fits))
-
-row : List FieldKind → RestKind → Row
-row fields rest = record { fields = fields; rest = rest }
 
 own : (origin : Option DomainName) (t : RecordType) (fields : List FieldKind) (rest : RestKind) (text octets : List ℕ)
     → row_of t ≡ Some (record { fields = fields; rest = rest }) → RowText origin fields rest text octets → OwnText origin t text octets
 own origin t fields rest text octets e h = record { row = record { fields = fields; rest = rest }; of = e; reads = h }
+
+-- a list behind two fields, and nothing behind it
+listed : {X : Type 0} {origin : Option DomainName} {k l : FieldKind} {rest : RestKind} {a b x y : List ℕ} (f : X → List ℕ) (xs : List X) (z : List ℕ)
+    → FieldText origin k a x → FieldText origin l b y → ListText rest f xs z
+    → RowText origin (k ∷ l ∷ []) rest ((a ++ codes " " ++ b) ++ flat_map (λ w. codes " " ++ f w) xs) (x ++ (y ++ (z ++ [])))
+listed {origin = origin} {k = k} {l = l} {rest = rest} {a = a} {b = b} {x = x} {y = y} f xs z h g e =
+    subst (λ (o : List ℕ). RowText origin (k ∷ l ∷ []) rest ((a ++ codes " " ++ b) ++ flat_map (λ w. codes " " ++ f w) xs) (x ++ (y ++ o))) (sym (append-nil z))
+    (row_list f xs z h g e)
+
+strings_octets : (ss : List (List ℕ)) → AllByRecursion IsString ss → AllByRecursion AreOctets ss
+strings_octets [] h = tt
+strings_octets (s ∷ ss) h = (h.0.octets, strings_octets ss h.1)
+
+strings_short : (ss : List (List ℕ)) → AllByRecursion IsString ss → AllByRecursion (λ s. length s ≤ 255) ss
+strings_short [] h = tt
+strings_short (s ∷ ss) h = ((let fits = h.0.fits in omega (arith, fits)), strings_short ss h.1)
 
 -- ---- records of numbers, strings and names
 
@@ -129,7 +138,7 @@ soa_law origin x h =
     own origin types.SOA _ NoWord _ _ refl (row_text (seven (zone_name x.mname) (zone_name x.rname) (decimal x.serial) (decimal (cast_unsigned w32 x.refresh))
     (decimal (cast_unsigned w32 x.retry)) (decimal (cast_unsigned w32 x.expire)) (decimal x.minimum))
     (row_then (named origin x.mname h.0) (row_then (named origin x.rname h.1)
-    (row_then (number origin 4 x.serial (omega arith) serial) (row_then (ttl_text origin (cast_unsigned w32 x.refresh) (omega (arith, refresh)))
+    (row_then (short_text origin 4 x.serial (omega arith) serial) (row_then (ttl_text origin (cast_unsigned w32 x.refresh) (omega (arith, refresh)))
     (row_then (ttl_text origin (cast_unsigned w32 x.retry) (omega (arith, retry))) (row_then (ttl_text origin (cast_unsigned w32 x.expire) (omega (arith, expire)))
     (last (ttl_text origin x.minimum (omega (arith, minimum)))))))))))
 
@@ -138,7 +147,7 @@ unfolding field_octets
 naptr_law origin x k =
     own origin types.NAPTR _ NoWord _ _ refl
     (row_text (six (decimal x.order) (decimal x.preference) (quoted x.flags) (quoted x.services) (quoted x.regexp) (zone_name x.replacement))
-    (row_then (number origin 2 x.order (omega arith) k.0) (row_then (number origin 2 x.preference (omega arith) k.1)
+    (row_then (short_text origin 2 x.order (omega arith) k.0) (row_then (short_text origin 2 x.preference (omega arith) k.1)
     (row_then (text origin x.flags k.2) (row_then (text origin x.services k.3) (row_then (text origin x.regexp k.4)
     (last (named origin x.replacement k.5))))))))
 
@@ -147,7 +156,7 @@ unfolding field_octets
 caa_law origin x h =
     one_of (has_plain_tag x)
     (λ is. own origin types.CAA _ NoWord _ _ refl (row_text (three (decimal (caa_flags x)) x.tag (quoted x.value))
-    (row_then (number origin 1 (caa_flags x) (omega arith) h.0)
+    (row_then (short_text origin 1 (caa_flags x) (omega arith) h.0)
     (row_then (tag_text origin x.tag (some_there x.tag (first_true (is_some x.tag) (list_all is_ascii_alphanumeric x.tag) is))
     (alphanumeric_run x.tag (second_true (is_some x.tag) (list_all is_ascii_alphanumeric x.tag) is)) (omega (arith, h.1)))
     (last (octets_text origin x.value h.2))))))
@@ -157,7 +166,7 @@ csync_law : (origin : Option DomainName) (x : CSYNC) → FieldsFit (rdata.CSYNC 
 unfolding field_octets
 csync_law origin x h =
     own origin types.CSYNC _ AnyTypes _ _ refl (listed (λ n. zone_type (record_type_of n)) x.type_bit_maps (flat_map block (minimal x.type_bit_maps))
-    (number origin 4 x.soa_serial (omega arith) h.0) (number origin 2 (csync_flags x) (omega arith) h.1) (types_text x.type_bit_maps h.2))
+    (short_text origin 4 x.soa_serial (omega arith) h.0) (short_text origin 2 (csync_flags x) (omega arith) h.1) (types_text x.type_bit_maps h.2))
 
 -- ---- keys, certificates and hashes
 
@@ -168,9 +177,9 @@ cert_law origin x k =
     let c = cert_algorithm_number x.algorithm in
     one_of (is_some x.cert_data)
     (λ some. own origin types.CERT _ SomeBase64 _ _ refl (row_text (four (decimal a) (decimal x.key_tag) (decimal c) (cert_data_text x))
-    (row_then (named_text origin 2 cert_types a k.0 (omega (arith, k.0)) (types_apart a (omega (arith, k.0))))
-    (row_then (number origin 2 x.key_tag (omega arith) k.1)
-    (row_then (named_text origin 1 algorithms c k.2 (omega (arith, k.2)) (algorithms_apart c (omega (arith, k.2))))
+    (row_then (cert_text origin a k.0)
+    (row_then (short_text origin 2 x.key_tag (omega arith) k.1)
+    (row_then (algorithm_text origin c k.2)
     (all (base64_text x.cert_data (some_there x.cert_data some) k.3)))))))
     refl
 
@@ -181,7 +190,7 @@ sshfp_law origin x k =
     let b = fingerprint_type_number x.fingerprint_type in
     one_of (is_some x.fingerprint)
     (λ some. own origin types.SSHFP _ SomeHex _ _ refl (row_text (three (decimal a) (decimal b) (encode_lower x.fingerprint))
-    (row_then (number origin 1 a (omega arith) k.0) (row_then (number origin 1 b (omega arith) k.1) (all (hex_text x.fingerprint (some_there x.fingerprint some) k.2))))))
+    (row_then (short_text origin 1 a (omega arith) k.0) (row_then (short_text origin 1 b (omega arith) k.1) (all (hex_text x.fingerprint (some_there x.fingerprint some) k.2))))))
     refl
 
 -- of each type that is read as TLSA is
@@ -194,8 +203,8 @@ tlsa_law origin t e x k =
     one_of (is_some x.cert_data)
     (λ some. own origin t (Number 1 ∷ Number 1 ∷ Number 1 ∷ []) SomeHex _ _ e
     (row_text (four (decimal a) (decimal b) (decimal c) (encode_lower x.cert_data))
-    (row_then (number origin 1 a (omega arith) k.0) (row_then (number origin 1 b (omega arith) k.1)
-    (row_then (number origin 1 c (omega arith) k.2) (all (hex_text x.cert_data (some_there x.cert_data some) k.3)))))))
+    (row_then (short_text origin 1 a (omega arith) k.0) (row_then (short_text origin 1 b (omega arith) k.1)
+    (row_then (short_text origin 1 c (omega arith) k.2) (all (hex_text x.cert_data (some_there x.cert_data some) k.3)))))))
     refl
 
 key_law : (origin : Option DomainName) (s : List ℕ) → AreOctets s → TextIs origin types.OPENPGPKEY (cond (is_some s) (encode_of standard s) (generic [])) (s ++ [])
@@ -219,7 +228,7 @@ unfolding field_octets
 service_law origin t e x k =
     one_of (list_all has_text x.svc_params)
     (λ has. own origin t (Number 2 ∷ Name ∷ []) AnyParameters _ _ e (listed zone_parameter x.svc_params (pieces (parameter_pieces (map parameter_of x.svc_params)))
-    (number origin 2 x.svc_priority (omega arith) k.priority) (named origin x.target_name k.target) (parameters_list x has k)))
+    (short_text origin 2 x.svc_priority (omega arith) k.priority) (named origin x.target_name k.target) (parameters_list x has k)))
     refl
 
 -- ---- every type
@@ -237,7 +246,7 @@ texts_are origin (rdata.HINFO x) h = inr (own origin types.HINFO _ NoWord _ _ re
     (row_text (two (quoted x.cpu) (quoted x.os)) (row_then (text origin x.cpu h.0) (last (text origin x.os h.1)))))
 texts_are origin (rdata.HTTPS x) h = service_law origin types.HTTPS refl x.0 h
 texts_are origin (rdata.MX x) h = inr (own origin types.MX _ NoWord _ _ refl
-    (row_text (two (decimal x.preference) (zone_name x.exchange)) (row_then (number origin 2 x.preference (omega arith) h.0) (last (named origin x.exchange h.1)))))
+    (row_text (two (decimal x.preference) (zone_name x.exchange)) (row_then (short_text origin 2 x.preference (omega arith) h.0) (last (named origin x.exchange h.1)))))
 texts_are origin (rdata.NAPTR x) h = inr (naptr_law origin x h)
 texts_are origin (rdata.NULL x) h = inl (ap generic (sym (append-nil x.anything)))
 texts_are origin (rdata.NS x) h = inr (own origin types.NS _ NoWord _ _ refl (last (named origin x.0 h)))
@@ -249,8 +258,8 @@ texts_are origin (rdata.SMIMEA x) h = tlsa_law origin types.SMIMEA refl x.0 h
 texts_are origin (rdata.SOA x) h = inr (soa_law origin x h)
 texts_are origin (rdata.SRV x) h = inr (own origin types.SRV _ NoWord _ _ refl
     (row_text (four (decimal x.priority) (decimal x.weight) (decimal x.port) (zone_name x.target))
-    (row_then (number origin 2 x.priority (omega arith) h.0) (row_then (number origin 2 x.weight (omega arith) h.1)
-    (row_then (number origin 2 x.port (omega arith) h.2) (last (named origin x.target h.3)))))))
+    (row_then (short_text origin 2 x.priority (omega arith) h.0) (row_then (short_text origin 2 x.weight (omega arith) h.1)
+    (row_then (short_text origin 2 x.port (omega arith) h.2) (last (named origin x.target h.3)))))))
 texts_are origin (rdata.SSHFP x) h = sshfp_law origin x h
 texts_are origin (rdata.SVCB x) h = service_law origin types.SVCB refl x h
 texts_are origin (rdata.TLSA x) h = tlsa_law origin types.TLSA refl x h

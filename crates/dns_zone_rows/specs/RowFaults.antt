@@ -12,8 +12,9 @@ use Rattle.dns_zone_words.specs.Refusals.{IsMessage}
 use Rattle.dns_zone_words.specs.Remaining.{AmongFault, HexFault}
 use Rattle.dns_zone_words.specs.Words.{Word, Cursor, words_at, with_word}
 use Rattle.dns_zone_words.specs.ZoneReads.{IsCutRefused, LacksFirst, IsOfFieldOrCut, WhyFirst}
+use Rattle.dns_zone_parameters.specs.Parameters.{ParametersFault}
 use Rattle.dns_zone_rows.specs.Mnemonics.{cert_types, algorithms}
-use Rattle.dns_zone_rows.specs.Rows.{FieldKind, Number, NamedNumber, Ttl, Ipv4, Ipv6, Name, String, Tag, Octets, RestKind, NoWord, SomeStrings, SomeHex, SomeBase64, AnyTypes, Row, FieldGives}
+use Rattle.dns_zone_rows.specs.Rows.{FieldKind, Number, NamedNumber, Ttl, Ipv4, Ipv6, Name, String, Tag, Octets, RestKind, NoWord, SomeStrings, SomeHex, SomeBase64, AnyTypes, AnyParameters, Row, FieldGives}
 use Rattle.dns_zone_rows.specs.declared.row.ZoneField.{ZoneField}
 use Rattle.dns_zone_rows.specs.declared.row.ZoneField.TheVariants as field
 use Rattle.dns_zone_rows.specs.declared.row.ZoneRest.{ZoneRest}
@@ -42,6 +43,7 @@ rest_kind_of (rest.Strings f) = SomeStrings
 rest_kind_of (rest.Hex missing f) = SomeHex
 rest_kind_of (rest.Base64 f) = SomeBase64
 rest_kind_of (rest.Types f) = AnyTypes
+rest_kind_of rest.Parameters = AnyParameters
 
 abbrev pub row_value : ZoneRow → Row
 row_value row = record { fields = map kind_of row.fields.now; rest = rest_kind_of row.rest }
@@ -78,6 +80,7 @@ RestFault (rest.Strings f) cursor e = LacksFirst (parse.MissingToken f.name) cur
 RestFault (rest.Hex missing f) cursor e = LacksFirst (parse.MissingToken missing) cursor e ⊎ HexFault f cursor e
 RestFault (rest.Base64 f) cursor e = LacksFirst (parse.MissingToken f.name) cursor e ⊎ IsMessage e
 RestFault (rest.Types f) cursor e = AmongFault (TypeFault f) cursor e
+RestFault rest.Parameters cursor e = ParametersFault cursor e
 
 -- the first word gives octets, and behind it there is a fault
 pub record FaultBehind (gives : List ℕ → Word → Type 0) (fault : Cursor → ParseError → Type 0) (cursor : Cursor) (e : ParseError) : Type 0 where

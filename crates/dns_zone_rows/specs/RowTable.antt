@@ -3,7 +3,7 @@ use Rattle.std.specs.Prelude.{List, [], ◌∷◌, Option, Some, None}
 use Rattle.dns_types.specs.declared.record_type.RecordType.{RecordType}
 use Rattle.dns_types.specs.declared.record_type.RecordType.TheVariants as types
 use Rattle.dns_zone_rows.specs.Mnemonics.{cert_types, algorithms}
-use Rattle.dns_zone_rows.specs.Rows.{FieldKind, Number, NamedNumber, Ttl, Ipv4, Ipv6, Name, String, Tag, Octets, RestKind, NoWord, SomeStrings, SomeHex, SomeBase64, AnyTypes, Row}
+use Rattle.dns_zone_rows.specs.Rows.{FieldKind, Number, NamedNumber, Ttl, Ipv4, Ipv6, Name, String, Tag, Octets, RestKind, NoWord, SomeStrings, SomeHex, SomeBase64, AnyTypes, AnyParameters, Row}
 
 abbrev pub row : List FieldKind → RestKind → Option Row
 row fields rest = Some (record { fields = fields; rest = rest })
@@ -24,6 +24,8 @@ row_of types.CNAME = row (Name ∷ []) NoWord
 row_of types.CSYNC = row (Number 4 ∷ Number 2 ∷ []) AnyTypes
 -- cpu, os: RFC 1035, 3.3.2
 row_of types.HINFO = row (String ∷ String ∷ []) NoWord
+-- priority, target, parameters: RFC 9460, 2.1
+row_of types.HTTPS = row (Number 2 ∷ Name ∷ []) AnyParameters
 -- preference, exchange: RFC 1035, 3.3.9
 row_of types.MX = row (Number 2 ∷ Name ∷ []) NoWord
 -- order, preference, flags, services, regexp, replacement: RFC 3403, 4.1
@@ -42,6 +44,8 @@ row_of types.SOA = row (Name ∷ Name ∷ Number 4 ∷ Ttl ∷ Ttl ∷ Ttl ∷ T
 row_of types.SRV = row (Number 2 ∷ Number 2 ∷ Number 2 ∷ Name ∷ []) NoWord
 -- algorithm, type, fingerprint: RFC 4255, 3.1
 row_of types.SSHFP = row (Number 1 ∷ Number 1 ∷ []) SomeHex
+-- priority, target, parameters: RFC 9460, 2.1
+row_of types.SVCB = row (Number 2 ∷ Name ∷ []) AnyParameters
 -- usage, selector, matching type, data: RFC 6698, 2.1
 row_of types.TLSA = row (Number 1 ∷ Number 1 ∷ Number 1 ∷ []) SomeHex
 -- RFC 1035, 3.3.14

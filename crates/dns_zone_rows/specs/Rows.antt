@@ -14,6 +14,7 @@ use Rattle.dns_zone_words.specs.Forms.{ZoneForm, bare, number, string, text, IsT
 use Rattle.dns_zone_words.specs.NameWords.{name}
 use Rattle.dns_zone_words.specs.Remaining.{AreHex, AreBase64, AreStrings}
 use Rattle.dns_zone_words.specs.Words.{Word}
+use Rattle.dns_zone_parameters.specs.Parameters.{AreParameters}
 use Rattle.dns_zone_rows.specs.Mnemonics.{Named, named_number}
 
 -- a field that is one word
@@ -47,6 +48,8 @@ pub data RestKind : Type 0 where
   SomeBase64 : RestKind
   -- types of records, none or more, in any order, as a bitmap (RFC 4034, 4.1.2; RFC 7477, 2.1.2)
   AnyTypes : RestKind
+  -- parameters of a service, none or more, in any order (RFC 9460, 2.1)
+  AnyParameters : RestKind
 
 -- a record's data in words
 pub record Row : Type 0 where
@@ -120,6 +123,7 @@ RestGives SomeStrings octets words = (words ≢ []) × StringsGive octets words
 RestGives SomeHex octets words = (words ≢ []) × AreHex octets words
 RestGives SomeBase64 octets words = (words ≢ []) × AreBase64 octets words
 RestGives AnyTypes octets words = TypesGive octets words
+RestGives AnyParameters octets words = AreParameters octets words
 
 -- ---- rows
 

@@ -8,14 +8,16 @@ ghost use Rattle.dns_zone_words.specs.Refusals.{IsMessage};
 ghost use Rattle.dns_zone_words.specs.Remaining.{AmongFault, HexFault};
 ghost use Rattle.dns_zone_words.specs.Words.{words_at};
 ghost use Rattle.dns_zone_words.specs.ZoneReads.{LacksFirst};
+ghost use Rattle.dns_zone_parameters.specs.Parameters.{ParametersFault};
 ghost use Rattle.dns_zone_rows.specs.RowFaults.{rest_kind_of, SurplusFault, RestFault};
 ghost use Rattle.dns_zone_rows.specs.RowSteps.{AddsAll};
-ghost use Rattle.dns_zone_rows.specs.Rows.{NoWord, SomeStrings, SomeHex, SomeBase64, RestGives};
+ghost use Rattle.dns_zone_rows.specs.Rows.{NoWord, SomeStrings, SomeHex, SomeBase64, AnyParameters, RestGives};
 
 use crate::fields::{add_counted, add_octets};
 use crate::row::ZoneRest;
 use crate::types::add_types;
 use dns_types::{ParseError, Strings};
+use dns_zone_parameters::all_parameters;
 use dns_zone_words::{
     Field, HexField, StringField, ZoneWords, all_base64, all_hex, all_strings, no_more, some_word,
 };
@@ -37,6 +39,7 @@ pub(crate) fn add_rest(
         ZoneRest::Hex(missing, field) => add_hex(alloc, words, *missing, field, octets),
         ZoneRest::Base64(field) => add_base64(alloc, words, *field, octets),
         ZoneRest::Types(field) => add_types(words, *field, octets),
+        ZoneRest::Parameters => add_parameters(alloc, words, octets),
     }
 }
 
@@ -94,6 +97,18 @@ fn add_base64(
     ask_some(words, field.name)?;
     let data = all_base64(alloc, words, field.wrong)?;
     add_octets(octets, data.as_slice())
+}
+
+fn add_parameters(
+    alloc: Global,
+    words: &mut ZoneWords<'_>,
+    octets: &mut Vec<u8>,
+) -> Result<(), ParseError>
+    ensures adds { AddsAll (RestGives AnyParameters) result octets.old.items octets.new.items words.old }
+    ensures why { IfErr result (λ e. (e ≡ ParseError.Memory) ⊎ ParametersFault words.old e) }
+{
+    let parameters = all_parameters(alloc, words)?;
+    add_octets(octets, parameters.as_slice())
 }
 
 // That a word is left. Takes none.

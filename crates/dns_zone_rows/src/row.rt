@@ -45,6 +45,9 @@ pub enum ZoneRest {
     Base64(Field),
     /// Record types, none or more, in any order: the shortest bitmap of them (RFC 4034, 4.1.2; RFC 7477, 2.1.2).
     Types(Field),
+    /// Parameters of a service, none or more, in any order: key, length and value of each, in the order of their keys
+    /// (RFC 9460, 2.1 and 2.2).
+    Parameters,
 }
 
 /// Record data as a zone file has it: fields of one word each, and what the words behind them are.

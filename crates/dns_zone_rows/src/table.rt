@@ -108,6 +108,12 @@ static SSHFP: [ZoneField; 2] = [
     ZoneField::U8(number_field!("SSHFP fingerprint type")),
 ];
 
+// The fields of SVCB, which HTTPS has too.
+static SVCB: [ZoneField; 2] = [
+    ZoneField::U16(number_field!("service priority")),
+    ZoneField::Name(name_field!("service target")),
+];
+
 // The fields of TLSA, which SMIMEA has too.
 static TLSA: [ZoneField; 3] = [
     ZoneField::U8(number_field!("certificate usage")),
@@ -127,6 +133,7 @@ pub fn row_of(record_type: RecordType) -> Option<ZoneRow>
         RecordType::CNAME => fields_alone(&CNAME),
         RecordType::CSYNC => fields_and(&CSYNC, ZoneRest::Types(CSYNC_TYPES)),
         RecordType::HINFO => fields_alone(&HINFO),
+        RecordType::HTTPS => fields_and(&SVCB, ZoneRest::Parameters),
         RecordType::MX => fields_alone(&MX),
         RecordType::NAPTR => fields_alone(&NAPTR),
         RecordType::NS => fields_alone(&NS),
@@ -136,6 +143,7 @@ pub fn row_of(record_type: RecordType) -> Option<ZoneRow>
         RecordType::SOA => fields_alone(&SOA),
         RecordType::SRV => fields_alone(&SRV),
         RecordType::SSHFP => fields_and(&SSHFP, ZoneRest::Hex(FINGERPRINT, FINGERPRINT_DATA)),
+        RecordType::SVCB => fields_and(&SVCB, ZoneRest::Parameters),
         RecordType::TLSA => fields_and(&TLSA, ZoneRest::Hex(CERTIFICATE, CERTIFICATE_DATA)),
         RecordType::TXT => fields_and(&NO_FIELDS, ZoneRest::Strings(TXT_DATA)),
         _ => None,
