@@ -18,134 +18,50 @@ pub struct Mnemonic {
     pub value: u8,
 }
 
+macro_rules! named {
+    ($name:literal = $value:literal) => {
+        Mnemonic {
+            name: $name,
+            value: $value,
+        }
+    };
+}
+
 static CERT_TYPES: [Mnemonic; 10] = [
-    Mnemonic {
-        name: "PKIX",
-        value: 1,
-    },
-    Mnemonic {
-        name: "SPKI",
-        value: 2,
-    },
-    Mnemonic {
-        name: "PGP",
-        value: 3,
-    },
-    Mnemonic {
-        name: "IPKIX",
-        value: 4,
-    },
-    Mnemonic {
-        name: "ISPKI",
-        value: 5,
-    },
-    Mnemonic {
-        name: "IPGP",
-        value: 6,
-    },
-    Mnemonic {
-        name: "ACPKIX",
-        value: 7,
-    },
-    Mnemonic {
-        name: "IACPKIX",
-        value: 8,
-    },
-    Mnemonic {
-        name: "URI",
-        value: 253,
-    },
-    Mnemonic {
-        name: "OID",
-        value: 254,
-    },
+    named!("PKIX" = 1),
+    named!("SPKI" = 2),
+    named!("PGP" = 3),
+    named!("IPKIX" = 4),
+    named!("ISPKI" = 5),
+    named!("IPGP" = 6),
+    named!("ACPKIX" = 7),
+    named!("IACPKIX" = 8),
+    named!("URI" = 253),
+    named!("OID" = 254),
 ];
 
 static ALGORITHMS: [Mnemonic; 21] = [
-    Mnemonic {
-        name: "RSAMD5",
-        value: 1,
-    },
-    Mnemonic {
-        name: "DH",
-        value: 2,
-    },
-    Mnemonic {
-        name: "DSA",
-        value: 3,
-    },
-    Mnemonic {
-        name: "RSASHA1",
-        value: 5,
-    },
-    Mnemonic {
-        name: "DSA-NSEC3-SHA1",
-        value: 6,
-    },
-    Mnemonic {
-        name: "NSEC3DSA",
-        value: 6,
-    },
-    Mnemonic {
-        name: "RSASHA1-NSEC3-SHA1",
-        value: 7,
-    },
-    Mnemonic {
-        name: "NSEC3RSASHA1",
-        value: 7,
-    },
-    Mnemonic {
-        name: "RSASHA256",
-        value: 8,
-    },
-    Mnemonic {
-        name: "RSASHA512",
-        value: 10,
-    },
-    Mnemonic {
-        name: "ECC-GOST",
-        value: 12,
-    },
-    Mnemonic {
-        name: "ECCGOST",
-        value: 12,
-    },
-    Mnemonic {
-        name: "ECDSAP256SHA256",
-        value: 13,
-    },
-    Mnemonic {
-        name: "ECDSA256",
-        value: 13,
-    },
-    Mnemonic {
-        name: "ECDSAP384SHA384",
-        value: 14,
-    },
-    Mnemonic {
-        name: "ECDSA384",
-        value: 14,
-    },
-    Mnemonic {
-        name: "ED25519",
-        value: 15,
-    },
-    Mnemonic {
-        name: "ED448",
-        value: 16,
-    },
-    Mnemonic {
-        name: "INDIRECT",
-        value: 252,
-    },
-    Mnemonic {
-        name: "PRIVATEDNS",
-        value: 253,
-    },
-    Mnemonic {
-        name: "PRIVATEOID",
-        value: 254,
-    },
+    named!("RSAMD5" = 1),
+    named!("DH" = 2),
+    named!("DSA" = 3),
+    named!("RSASHA1" = 5),
+    named!("DSA-NSEC3-SHA1" = 6),
+    named!("NSEC3DSA" = 6),
+    named!("RSASHA1-NSEC3-SHA1" = 7),
+    named!("NSEC3RSASHA1" = 7),
+    named!("RSASHA256" = 8),
+    named!("RSASHA512" = 10),
+    named!("ECC-GOST" = 12),
+    named!("ECCGOST" = 12),
+    named!("ECDSAP256SHA256" = 13),
+    named!("ECDSA256" = 13),
+    named!("ECDSAP384SHA384" = 14),
+    named!("ECDSA384" = 14),
+    named!("ED25519" = 15),
+    named!("ED448" = 16),
+    named!("INDIRECT" = 252),
+    named!("PRIVATEDNS" = 253),
+    named!("PRIVATEOID" = 254),
 ];
 
 /// The names of types of certificates (RFC 4398, 2.1).

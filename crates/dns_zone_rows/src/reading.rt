@@ -19,8 +19,8 @@ use std::alloc::Global;
 ///
 /// Refused by [`MissingToken`](ParseError::MissingToken) of a field's name where its word is missing, by
 /// [`Message`](ParseError::Message) of the text for what is wrong with the first field that no word gives, of a word too
-/// many, or where the text is not cut into words, and by [`Memory`](ParseError::Memory). Where the words lie is open
-/// after a refusal.
+/// many, or where the text is not cut into words, and by [`Memory`](ParseError::Memory). How many words are taken then is
+/// open. Takes memory for the octets, and for a while for each name and string and for hexadecimal digits and base64.
 pub fn row_octets(
     alloc: Global,
     words: &mut ZoneWords<'_>,

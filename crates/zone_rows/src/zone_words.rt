@@ -2,6 +2,8 @@
 
 use anyhow::{Result, bail};
 use dns_names_wire::{Name, ParseError};
+use dns_types::RecordType;
+use dns_zone_rows::{row_octets, row_of};
 use dns_zone_words::{
     Field, NameField, StringField, ZoneWords, all_base64, all_strings, ipv4_of, is_unknown_mark,
     name_field, next_name, next_ttl, next_u16, number_field, some_word, string_field, type_of,
@@ -27,9 +29,28 @@ fn show<T: fmt::Debug + Drop>(
     }
 }
 
-/// The value of a text's first words as a field of a kind, or why it is refused. Names are below `ex`, but
-/// for a `name alone`.
+// The octets in hexadecimal that a text gives as the data of a type, or why it is refused.
+fn row(alloc: Global, record_type: &str, text: &str) -> Result<String> {
+    let Ok(record_type) = record_type.parse::<RecordType>() else {
+        bail!("no such type");
+    };
+    let Some(row) = row_of(record_type) else {
+        bail!("a type without a row");
+    };
+    let origin = Name::from_ascii(alloc, "ex.")?;
+    let mut words = ZoneWords::new(text.as_bytes());
+    match row_octets(alloc, &mut words, Some(&origin), &row) {
+        Ok(octets) => Ok(hex::encode(alloc, octets.as_slice())?),
+        Err(e) => Ok(format!(in alloc; "{e}")?),
+    }
+}
+
+/// The value of a text's first words as a field of a kind, or why it is refused; of `row` and a type, the octets of all
+/// its words. Names are below `ex`, but for a `name alone`.
 pub fn field(alloc: Global, kind: &str, text: &str) -> Result<String> {
+    if let Some(record_type) = kind.strip_prefix("row ") {
+        return row(alloc, record_type, text);
+    }
     let mut words = ZoneWords::new(text.as_bytes());
     match kind {
         "strings" => show(alloc, all_strings(alloc, &mut words, &STRING)),
