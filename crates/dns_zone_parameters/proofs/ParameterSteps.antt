@@ -1,15 +1,16 @@
 -- All parameters, one by one.
-use Rattle.std.proofs.Common.{◌≡◌, ℕ, zero, suc, List, [], ◌∷◌, ◌++◌, map, Result, Ok, refl, sym, ◌∙◌, ap, subst, arith, append_assoc}
+use Rattle.std.proofs.Common.{◌≡◌, ℕ, zero, suc, List, [], ◌∷◌, ◌++◌, map, Result, Ok, refl, sym, ◌∙◌, ap, subst, arith, append_assoc, codes}
 use Rattle.std.specs.List.Sorted.{IsPermutation, IsNonDecreasingBy, IsStrictlyIncreasing}
 use Rattle.std.proofs.lemmas.List.{append-nil, map-append}
 use Rattle.std.proofs.lemmas.List.Sorted.{IsPermutation-map}
-use Rattle.dns_fields.specs.Pieces.{pieces}
+use Rattle.dns_fields.specs.Pieces.{pieces, Rising}
 use Rattle.dns_types.specs.declared.error.ParseError.{ParseError}
 use Rattle.dns_words.specs.Reads.{UnlessMemory, NoValue}
 use Rattle.dns_zone_words.specs.Remaining.{with_words, NoneOfAll, TookAll}
 use Rattle.dns_zone_words.specs.Words.{Word, Cursor, words_at, with_word}
 use Rattle.dns_zone_words.specs.declared.words_error.WordsError.{WordsError}
 use Rattle.dns_zone_words.proofs.FirstSteps.{unless_map}
+use Rattle.dns_zone_parameters.specs.Faults.{Says, KeyTwice}
 use Rattle.dns_zone_parameters.specs.Keys.{key_number}
 use Rattle.dns_zone_parameters.specs.Parameters.{Parameter, IsWritten, HasParameter, IsParameter, AreWritten, AreParameters}
 use Rattle.dns_zone_parameters.specs.Steps.{BeginOnlySo, TookWritten, TookParameter, TookParameters}
@@ -155,18 +156,32 @@ pub not_written : (e : ParseError) (cursor : Cursor) → UnlessMemory e (NoneOfA
 not_written e cursor none = unless_map e (NoneOfAll AreWritten cursor) (NoneOfAll AreParameters cursor)
     (λ h. record { none = λ octets words cut is. h.none is.parameters words cut is.written }) none
 
--- a key comes twice
+-- a key comes twice, so that no order of these parameters rises
+no_order : (xs ys : List CodeParameter) (numbers : List ℕ) → IsPermutation xs ys → IsNonDecreasingBy (λ x. x.number) ys → numbers ≡ map (λ x. x.number) ys
+    → (IsStrictlyIncreasing numbers → ⊥) → (qs : List Parameter) → map (λ q. q.0) qs ≡ map (λ x. x.number) xs → (order : List Parameter) → IsPermutation qs order → Rising order → ⊥
+no_order xs ys numbers same climbs e isnt qs first order perm rising =
+    let moved : IsPermutation (map (λ x. x.number) xs) (map (λ q. q.0) order) =
+    subst (λ (ns : List ℕ). IsPermutation ns (map (λ (q : Parameter). q.0) order)) first (IsPermutation-map (λ (q : Parameter). q.0) qs order perm) in
+    let rises = rising_to order rising in
+    let one : map (λ q. q.0) order ≡ map (λ x. x.number) ys = order_once (map (λ x. x.number) xs) (map (λ q. q.0) order) (map (λ x. x.number) ys) moved
+    (climbs_rising (map (λ q. q.0) order) rises) (IsPermutation-map (λ (x : CodeParameter). x.number) xs ys same) (climbs_by ys climbs) in
+    isnt (subst IsStrictlyIncreasing (one ∙ sym e) rises)
+
 pub no_rise : (xs ys : List CodeParameter) (numbers : List ℕ) (cursor : Cursor) → TookParameters (map parameter_value xs) cursor → IsPermutation xs ys
     → IsNonDecreasingBy (λ x. x.number) ys → numbers ≡ map (λ x. x.number) ys → (IsStrictlyIncreasing numbers → ⊥) → NoneOfAll AreParameters cursor
 no_rise xs ys numbers cursor took same climbs e isnt = record {
-  none = λ octets words cut is.
-      let first : map (λ p. p.0) is.parameters ≡ map (λ x. x.number) xs = took.only is.parameters words cut is.written ∙ numbers_of_values xs in
-      let perm : IsPermutation (map (λ x. x.number) xs) (map (λ p. p.0) is.order) =
-      subst (λ (ns : List ℕ). IsPermutation ns (map (λ (p : Parameter). p.0) is.order)) first (IsPermutation-map (λ (p : Parameter). p.0) is.parameters is.order is.same) in
-      let rises = rising_to is.order is.rising in
-      let one : map (λ p. p.0) is.order ≡ map (λ x. x.number) ys = order_once (map (λ x. x.number) xs) (map (λ p. p.0) is.order) (map (λ x. x.number) ys) perm
-      (climbs_rising (map (λ p. p.0) is.order) rises) (IsPermutation-map (λ (x : CodeParameter). x.number) xs ys same) (climbs_by ys climbs) in
-      isnt (subst IsStrictlyIncreasing (one ∙ sym e) rises);
+  none = λ octets words cut is. no_order xs ys numbers same climbs e isnt is.parameters (took.only is.parameters words cut is.written ∙ numbers_of_values xs) is.order is.same is.rising;
+}
+
+pub key_twice : (xs ys : List CodeParameter) (numbers : List ℕ) (cursor : Cursor) (e : ParseError) → TookParameters (map parameter_value xs) cursor → IsPermutation xs ys
+    → IsNonDecreasingBy (λ x. x.number) ys → numbers ≡ map (λ x. x.number) ys → (IsStrictlyIncreasing numbers → ⊥) → Says (codes "key of a service parameter twice") e → KeyTwice cursor e
+key_twice xs ys numbers cursor e took same climbs f isnt says = record {
+  parameters = map parameter_value xs;
+  words = took.words;
+  cut = took.cut;
+  written = took.written;
+  none = λ order perm rising. no_order xs ys numbers same climbs f isnt (map parameter_value xs) (numbers_of_values xs) order perm rising;
+  says = says;
 }
 
 pub are_parameters : (xs ys : List CodeParameter) (numbers octets : List ℕ) (cursor : Cursor) → TookParameters (map parameter_value xs) cursor → IsPermutation xs ys

@@ -69,7 +69,3 @@ pub record AreParameters (octets : List ℕ) (words : List Word) : Type 0 where
   pub same : IsPermutation parameters order
   pub rising : Rising order
   pub wire : octets ≡ pieces order
-
--- a text says what is wrong
-abbrev pub ParametersFault : Cursor → ParseError → Type 0
-ParametersFault cursor e = IsMessage e

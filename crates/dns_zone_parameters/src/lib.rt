@@ -2,15 +2,16 @@
 #![tactic(auto)]
 
 pub mod key;
-pub mod lists;
-pub mod parameter;
-pub mod values;
-pub mod written;
+mod lists;
+mod parameter;
+mod values;
+mod written;
 
 ghost use Rattle.std.specs.Prelude.{◌≡◌, ◌⊎◌, map, IfOk, IfErr};
 ghost use Rattle.dns_fields.specs.Pieces.{pieces};
 ghost use Rattle.dns_zone_words.specs.Remaining.{ReadsAll};
-ghost use Rattle.dns_zone_parameters.specs.Parameters.{AreParameters, ParametersFault};
+ghost use Rattle.dns_zone_parameters.specs.Faults.{FaultBehind, ParametersFault};
+ghost use Rattle.dns_zone_parameters.specs.Parameters.{AreParameters};
 ghost use Rattle.dns_zone_parameters.specs.Steps.{ReadsParameters};
 ghost use Rattle.dns_zone_parameters.specs.Views.{parameter_value};
 
@@ -25,12 +26,13 @@ use std::alloc::{AllocError, Global};
 /// The parameters that all words which are left give, as they go on the wire.
 pub fn all_parameters(alloc: Global, words: &mut ZoneWords<'_>) -> Result<Octets, ParseError>
     ensures reads { ReadsAll AreParameters (λ x. x) result words.old }
+    ensures why { IfErr result (λ e. (e ≡ ParseError.Memory) ⊎ ParametersFault words.old e) }
 {
     let mut parameters = parameters_in(alloc, words)?;
     parameters.sort_unstable_by_key(|parameter| parameter.number);
     let numbers = numbers_of(alloc, parameters.as_slice())?;
     if !is_rising(numbers.as_slice()) {
-        return Err(ParseError::Message("service parameter twice"));
+        return Err(ParseError::Message("key of a service parameter twice"));
     }
     Ok(wire_of(alloc, parameters.as_slice())?)
 }
@@ -38,6 +40,7 @@ pub fn all_parameters(alloc: Global, words: &mut ZoneWords<'_>) -> Result<Octets
 // The parameters in the order of the words.
 fn parameters_in(alloc: Global, words: &mut ZoneWords<'_>) -> Result<Vec<Parameter>, ParseError>
     ensures reads { ReadsParameters (λ v. v.items) result words.old }
+    ensures why { IfErr result (λ e. (e ≡ ParseError.Memory) ⊎ FaultBehind words.old e) }
 {
     let mut parameters = Vec::new(alloc);
     'words: loop {

@@ -1,6 +1,6 @@
 //! Values that are lists (RFC 9460, 7.1.1, 7.3, 8 and appendix A.1).
 
-ghost use Rattle.std.specs.Prelude.{◌≤◌, ◌<◌, ◌↔◌, IsTrue, IfSome, length};
+ghost use Rattle.std.specs.Prelude.{◌≡◌, ◌≤◌, ◌<◌, ◌⊎◌, ◌↔◌, IsTrue, IfSome, IfErr, length};
 ghost use Rattle.std.specs.List.{AllZip};
 ghost use Rattle.std.specs.Option.{option_copied};
 ghost use Rattle.std.specs.List.Sorted.{IsStrictlyIncreasing};
@@ -33,6 +33,7 @@ pub fn list_of(
     wrong: &'static str,
 ) -> Result<Octets, ParseError>
     ensures reads { Decides (IsList item text.now) (λ x. x) result }
+    ensures why { IfErr result (λ e. (e ≡ ParseError.Memory) ⊎ (e ≡ ParseError.Message wrong.entry)) }
 {
     let mut octets = Vec::new(alloc);
     let mut rest = text;
@@ -50,6 +51,7 @@ pub fn list_of(
 /// other text is refused by [`Message`](ParseError::Message) of the text `wrong`.
 pub fn key_list_of(alloc: Global, text: &[u8], wrong: &'static str) -> Result<Octets, ParseError>
     ensures reads { Decides (IsKeyList text.now) (λ x. x) result }
+    ensures why { IfErr result (λ e. (e ≡ ParseError.Memory) ⊎ (e ≡ ParseError.Message wrong.entry)) }
 {
     let mut keys = keys_in(alloc, text, wrong)?;
     keys.sort_unstable();
@@ -66,6 +68,7 @@ pub fn key_list_of(alloc: Global, text: &[u8], wrong: &'static str) -> Result<Oc
 // The numbers of the keys of a list, in its order.
 fn keys_in(alloc: Global, text: &[u8], wrong: &'static str) -> Result<Vec<u16>, ParseError>
     ensures reads { Decides (AllZip IsListedKey (items_in text.now)) (λ keys. keys.items) result }
+    ensures why { IfErr result (λ e. (e ≡ ParseError.Memory) ⊎ (e ≡ ParseError.Message wrong.entry)) }
 {
     let mut keys = Vec::new(alloc);
     let mut rest = text;
@@ -83,6 +86,7 @@ fn keys_in(alloc: Global, text: &[u8], wrong: &'static str) -> Result<Vec<u16>, 
 // The number of the key that an item names.
 fn listed_key(item: &[u8], wrong: &'static str) -> Result<u16, ParseError>
     ensures reads { Decides (IsListedKey item.now) (λ n. n) result }
+    ensures why { IfErr result (λ e. (e ≡ ParseError.Memory) ⊎ (e ≡ ParseError.Message wrong.entry)) }
 {
     match ParameterKey::of_name(item) {
         Some(key) if key.number() != 0 => Ok(key.number()),
@@ -141,6 +145,7 @@ fn push_item(
     wrong: &'static str,
 ) -> Result<(), ParseError>
     ensures reads { PushesItem item text.now result octets.old.items octets.new.items }
+    ensures why { IfErr result (λ e. (e ≡ ParseError.Memory) ⊎ (e ≡ ParseError.Message wrong.entry)) }
 {
     let word = ZoneWord {
         raw: text,
@@ -170,6 +175,7 @@ fn push_protocol(
     wrong: &'static str,
 ) -> Result<(), ParseError>
     ensures reads { PushesItem ListItem.Protocol text.now result octets.old.items octets.new.items }
+    ensures why { IfErr result (λ e. (e ≡ ParseError.Memory) ⊎ (e ≡ ParseError.Message wrong.entry)) }
 {
     let name = protocol_of(alloc, text, wrong)?;
     octets.push(name.len() as u8)?;
@@ -180,6 +186,7 @@ fn push_protocol(
 // The name of a protocol that an item is.
 fn protocol_of(alloc: Global, text: &[u8], wrong: &'static str) -> Result<Vec<u8>, ParseError>
     ensures reads { Decides (λ name. IsProtocol name text.now) (λ name. name.items) result }
+    ensures why { IfErr result (λ e. (e ≡ ParseError.Memory) ⊎ (e ≡ ParseError.Message wrong.entry)) }
 {
     let mut name = Vec::with_capacity(alloc, text.len())?;
     let mut rest = text;

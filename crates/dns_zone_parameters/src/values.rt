@@ -1,6 +1,8 @@
 //! Values of service parameters (RFC 9460, 2.1, 7 and 8; RFC 9461, 5).
 
+ghost use Rattle.std.specs.Prelude.{◌≡◌, ◌⊎◌, IfErr};
 ghost use Rattle.dns_words.specs.Reads.{Decides};
+ghost use Rattle.dns_zone_parameters.specs.Faults.{Says, wrong_value, ValueFault};
 ghost use Rattle.dns_zone_parameters.specs.Values.{HasOctets, IsPort, IsValue};
 
 use crate::key::ParameterKey;
@@ -11,22 +13,23 @@ use dns_types::{Octets, ParseError};
 use dns_zone_words::{ZoneWord, text_of, u16_of};
 use std::alloc::Global;
 
-const ESCAPE: &str = "`\\` without a meaning in the value of a service parameter";
+const NO_ESCAPE: &str = "`\\` without a meaning in a service parameter";
 
-const LONG: &str = "service parameter of more than 65535 octets";
+const LONG_VALUE: &str = "service parameter of more than 65535 octets";
 
 /// The octets on the wire of a value of the key, by its text as it stands.
 pub fn value_of(alloc: Global, key: ParameterKey, text: &[u8]) -> Result<Octets, ParseError>
     ensures reads { Decides (IsValue key text.now) (λ x. x) result }
+    ensures why { IfErr result (λ e. (e ≡ ParseError.Memory) ⊎ ValueFault key text.now e) }
 {
     let word = ZoneWord {
         raw: text,
         quoted: true,
         joined: true,
     };
-    let octets = octets_of(alloc, key, text_of(alloc, word, ESCAPE)?)?;
+    let octets = octets_of(alloc, key, text_of(alloc, word, NO_ESCAPE)?)?;
     if octets.len() > 65535 {
-        return Err(ParseError::Message(LONG));
+        return Err(ParseError::Message(LONG_VALUE));
     }
     Ok(octets)
 }
@@ -34,6 +37,7 @@ pub fn value_of(alloc: Global, key: ParameterKey, text: &[u8]) -> Result<Octets,
 // The same by the octets of the text.
 fn octets_of(alloc: Global, key: ParameterKey, text: Octets) -> Result<Octets, ParseError>
     ensures reads { Decides (HasOctets key text) (λ x. x) result }
+    ensures why { IfErr result (λ e. (e ≡ ParseError.Memory) ⊎ Says (wrong_value key) e) }
 {
     let wrong = wrong_value(key);
     match key {
@@ -50,7 +54,9 @@ fn octets_of(alloc: Global, key: ParameterKey, text: Octets) -> Result<Octets, P
 }
 
 // What is said of a value that is none of the key.
-fn wrong_value(key: ParameterKey) -> &'static str {
+fn wrong_value(key: ParameterKey) -> &'static str
+    ensures { result.now ≡ wrong_value key }
+{
     match key {
         ParameterKey::Mandatory => "no list of different keys in mandatory",
         ParameterKey::Alpn => "no list of protocols in alpn",
@@ -60,12 +66,13 @@ fn wrong_value(key: ParameterKey) -> &'static str {
         ParameterKey::Ech => "no base64 in ech",
         ParameterKey::Ipv6Hint => "no list of addresses in ipv6hint",
         ParameterKey::DohPath => "no path in dohpath",
-        ParameterKey::Numbered(_) => "value of a service parameter",
+        ParameterKey::Numbered(_) => "no value of a service parameter",
     }
 }
 
 fn without_octets(octets: Octets, wrong: &'static str) -> Result<Octets, ParseError>
     ensures reads { Decides (HasOctets ParameterKey.NoDefaultAlpn octets) (λ x. x) result }
+    ensures why { IfErr result (λ e. (e ≡ ParseError.Memory) ⊎ (e ≡ ParseError.Message wrong.entry)) }
 {
     if octets.len() > 0 {
         return Err(ParseError::Message(wrong));
@@ -75,6 +82,7 @@ fn without_octets(octets: Octets, wrong: &'static str) -> Result<Octets, ParseEr
 
 fn with_octets(octets: Octets, wrong: &'static str) -> Result<Octets, ParseError>
     ensures reads { Decides (HasOctets ParameterKey.DohPath octets) (λ x. x) result }
+    ensures why { IfErr result (λ e. (e ≡ ParseError.Memory) ⊎ (e ≡ ParseError.Message wrong.entry)) }
 {
     if octets.len() == 0 {
         return Err(ParseError::Message(wrong));
@@ -85,6 +93,7 @@ fn with_octets(octets: Octets, wrong: &'static str) -> Result<Octets, ParseError
 // The two octets of a port.
 fn port_of(alloc: Global, text: &[u8], wrong: &'static str) -> Result<Octets, ParseError>
     ensures reads { Decides (IsPort text.now) (λ x. x) result }
+    ensures why { IfErr result (λ e. (e ≡ ParseError.Memory) ⊎ (e ≡ ParseError.Message wrong.entry)) }
 {
     let word = ZoneWord {
         raw: text,
@@ -98,6 +107,7 @@ fn port_of(alloc: Global, text: &[u8], wrong: &'static str) -> Result<Octets, Pa
 // The octets of base64.
 fn ech_of(alloc: Global, text: &[u8], wrong: &'static str) -> Result<Octets, ParseError>
     ensures reads { Decides (HasOctets ParameterKey.Ech text.now) (λ x. x) result }
+    ensures why { IfErr result (λ e. (e ≡ ParseError.Memory) ⊎ (e ≡ ParseError.Message wrong.entry)) }
 {
     match STANDARD.decode(alloc, text) {
         Ok(octets) if octets.len() > 0 => Ok(Octets::from_vec(octets)),

@@ -1,10 +1,12 @@
 //! Words that are service parameters (RFC 9460, 2.1).
 
-ghost use Rattle.std.specs.Prelude.{◌≡◌, ◌≤◌, ◌<◌, [], length, Ok, IfOk, IfSome, IfNone, OnErr};
+ghost use Rattle.std.specs.Prelude.{◌≡◌, ◌≤◌, ◌<◌, ◌⊎◌, [], length, Ok, IfOk, IfErr, IfSome, IfNone, OnErr};
 ghost use Rattle.std.specs.List.{position};
 ghost use Rattle.dns_words.specs.Reads.{Decides};
+ghost use Rattle.dns_zone_words.specs.Refusals.{IsMessage};
 ghost use Rattle.dns_zone_words.specs.Remaining.{NoneOfAll};
 ghost use Rattle.dns_zone_words.specs.Words.{words_at};
+ghost use Rattle.dns_zone_parameters.specs.Faults.{ParameterFault, NextFault};
 ghost use Rattle.dns_zone_parameters.specs.Parameters.{is_equals, HasParameter, AreWritten};
 ghost use Rattle.dns_zone_parameters.specs.Steps.{NoQuoted, TookQuoted, TookWritten, IsUncut, ReadsNext};
 ghost use Rattle.dns_zone_parameters.specs.Views.{parameter_value};
@@ -16,7 +18,7 @@ use dns_types::ParseError;
 use dns_zone_words::{ZoneWord, ZoneWords};
 use std::alloc::Global;
 
-const OTHER_WORD: &str = "a service parameter begins without quotes, apart from the word before";
+const OTHER_WORD: &str = "service parameter in quotes or right behind another word";
 
 const NO_KEY: &str = "no key of a service parameter";
 
@@ -35,6 +37,7 @@ pub fn next_parameter(
     words: &mut ZoneWords<'_>,
 ) -> Result<Option<Parameter>, ParseError>
     ensures reads { ReadsNext result words.old words.new }
+    ensures why { IfErr result (λ e. (e ≡ ParseError.Memory) ⊎ NextFault (words_at words.old) e) }
     ensures shorter { IfOk result (λ o. IfSome o (λ _. length words.new.text < length words.old.text)) }
 {
     match next_written(words)? {
@@ -46,6 +49,7 @@ pub fn next_parameter(
 // The parameter that is written so.
 fn parameter_of(alloc: Global, written: Written<'_>) -> Result<Parameter, ParseError>
     ensures reads { Decides (HasParameter written.entry.name.now written.entry.value.now) parameter_value result }
+    ensures why { IfErr result (λ e. (e ≡ ParseError.Memory) ⊎ ParameterFault written.entry.name.now written.entry.value.now e) }
 {
     let Some(key) = ParameterKey::of_name(written.name) else {
         return Err(ParseError::Message(NO_KEY));
@@ -63,6 +67,7 @@ fn next_written<'a>(words: &mut ZoneWords<'a>) -> Result<Option<Written<'a>>, Pa
     ensures shorter { IfOk result (λ o. IfSome o (λ _. length words.new.text < length words.old.text)) }
     ensures end { IfOk result (λ o. IfNone o (words_at words.old ≡ Ok [])) }
     ensures refused { OnErr result (NoneOfAll AreWritten words.old) }
+    ensures why { IfErr result (NextFault (words_at words.old)) }
 {
     let Some(word) = words.next_word()? else {
         return Ok(None);
@@ -101,6 +106,7 @@ fn quoted_value<'a>(words: &mut ZoneWords<'a>) -> Result<Option<&'a [u8]>, Parse
     ensures none { IfOk result (λ o. IfNone o (NoQuoted words.old)) }
     ensures stays { IfOk result (λ o. IfNone o (words.new ≡ words.old)) }
     ensures refused { OnErr result (IsUncut words.old) }
+    ensures why { IfErr result IsMessage }
 {
     let mut ahead = words.again();
     match ahead.next_word()? {

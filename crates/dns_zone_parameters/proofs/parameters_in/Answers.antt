@@ -11,7 +11,5 @@ words-preserved c =
     c.words.words c.next_parameter.new.words c.words.invariant took
     (ap (map parameter_value) c.in_ok-push-in-Some.ensures.items ∙ map-append parameter_value c.words.parameters.items (c.in-Some.parameter ∷ []))
 
-pub returns-in-None : goal.returns-in-None
-returns-in-None c = record {
-  reads = all_taken (map parameter_value c.words.parameters.items) c.args.words.now c.words.words c.words.invariant (rw c.in-None.is at c.in_ok-parameter.ensures.reads);
-}
+pub returns-in-None-clause-reads : goal.returns-in-None-clause-reads
+returns-in-None-clause-reads c = all_taken (map parameter_value c.words.parameters.items) c.args.words.now c.words.words c.words.invariant (rw c.in-None.is at c.in_ok-parameter.ensures.reads)

@@ -6,14 +6,12 @@ use Rattle.dns_zone_parameters.proofs.Exits.{exit_with}
 use Rattle.dns_zone_parameters.proofs.Items.{one_item, last_item, none_of, no_list, joined_more}
 use Rattle.dns_zone_parameters.proofs.lists.list_of.Goals as goal
 
-pub returns-in_err-push_item : goal.returns-in_err-push_item
-returns-in_err-push_item c =
+pub returns-in_err-push_item-clause-reads : goal.returns-in_err-push_item-clause-reads
+returns-in_err-push_item-clause-reads c =
     let e = c.in_err-push_item.field-0.0 in
-    let text = c.args.text.now in record {
-      reads = exit_with (Decides (IsList c.args.item text) (λ x. x)) e c.from_residual.result c.from_residual.ensures.1
-          (no_list c.args.item e text (none_of (IsItem c.args.item) e text c.items.rest.now c.first_item.result.0.now (option_copied c.first_item.result.1) c.items.invariant.0
-          c.items.invariant.1 c.first_item.ensures.cut c.in_err-push_item.ensures.reads));
-    }
+    let text = c.args.text.now in exit_with (Decides (IsList c.args.item text) (λ x. x)) e c.from_residual.result c.from_residual.ensures.1
+    (no_list c.args.item e text (none_of (IsItem c.args.item) e text c.items.rest.now c.first_item.result.0.now (option_copied c.first_item.result.1) c.items.invariant.0
+    c.items.invariant.1 c.first_item.ensures.cut c.in_err-push_item.ensures.reads))
 
 pub items-preserved : goal.items-preserved
 items-preserved c =
@@ -25,14 +23,12 @@ items-preserved c =
       joined_more parts pushed.part c.items.octets.items c.push_item.new.octets.items c.items.invariant.2 pushed.same,
     )
 
-pub returns-in-None : goal.returns-in-None
-returns-in-None c =
+pub returns-in-None-clause-reads : goal.returns-in-None-clause-reads
+returns-in-None-clause-reads c =
     let parts = c.items.invariant.0 in
     let pushed = c.in_ok-push_item.ensures.reads in record {
-      reads = record {
-        parts = parts ++ pushed.part ∷ [];
-        each = last_item (IsItem c.args.item) c.args.text.now c.items.rest.now c.first_item.result.0.now parts _ pushed.part c.items.invariant.1
-            (rw c.in-None.is at c.first_item.ensures.cut) pushed.is refl;
-        joined = c.from_vec.ensures ∙ joined_more parts pushed.part c.items.octets.items c.push_item.new.octets.items c.items.invariant.2 pushed.same;
-      };
+      parts = parts ++ pushed.part ∷ [];
+      each = last_item (IsItem c.args.item) c.args.text.now c.items.rest.now c.first_item.result.0.now parts _ pushed.part c.items.invariant.1
+          (rw c.in-None.is at c.first_item.ensures.cut) pushed.is refl;
+      joined = c.from_vec.ensures ∙ joined_more parts pushed.part c.items.octets.items c.push_item.new.octets.items c.items.invariant.2 pushed.same;
     }

@@ -1,0 +1,104 @@
+-- Why words are no parameters, and what the refusal says.
+use Rattle.std.specs.Prelude.{◌≡◌, ◌⊎◌, ℕ, ◌<◌, true, false, List, length, map, Result, Ok, Err, IsPermutation, codes}
+use Rattle.dns_fields.specs.Pieces.{Rising}
+use Rattle.dns_types.specs.declared.error.ParseError.{ParseError}
+use Rattle.dns_types.specs.declared.error.ParseError.TheVariants as parse
+use Rattle.dns_words.specs.Reads.{NoValue}
+use Rattle.dns_zone_words.specs.Letters.{letters, octet_of, escapes_stand}
+use Rattle.dns_zone_words.specs.Refusals.{IsMessage}
+use Rattle.dns_zone_words.specs.Remaining.{with_words}
+use Rattle.dns_zone_words.specs.Words.{Word, Cursor, words_at, with_word}
+use Rattle.dns_zone_words.specs.declared.words_error.WordsError.{WordsError}
+use Rattle.dns_zone_parameters.specs.Keys.{IsKeyName}
+use Rattle.dns_zone_parameters.specs.Values.{HasOctets}
+use Rattle.dns_zone_parameters.specs.Parameters.{Parameter, StandsAlone, IsWritten, AreWritten}
+use Rattle.dns_zone_parameters.specs.declared.key.ParameterKey.{ParameterKey}
+use Rattle.dns_zone_parameters.specs.declared.key.ParameterKey.TheVariants.{Mandatory, Alpn, NoDefaultAlpn, Port, Ipv4Hint, Ech, Ipv6Hint, DohPath, Numbered}
+
+-- the refusal is a message of this text
+abbrev pub Says : List ℕ → ParseError → Type 0
+Says text (parse.Message said) = said.now ≡ text
+Says text e = ⊥
+
+-- what is said of a value that has not the form of the key
+abbrev pub wrong_value : ParameterKey → List ℕ
+wrong_value Mandatory = codes "no list of different keys in mandatory"
+wrong_value Alpn = codes "no list of protocols in alpn"
+wrong_value NoDefaultAlpn = codes "value of no-default-alpn"
+wrong_value Port = codes "no number of 16 bits in port"
+wrong_value Ipv4Hint = codes "no list of addresses in ipv4hint"
+wrong_value Ech = codes "no base64 in ech"
+wrong_value Ipv6Hint = codes "no list of addresses in ipv6hint"
+wrong_value DohPath = codes "no path in dohpath"
+wrong_value (Numbered n) = codes "no value of a service parameter"
+
+-- the octets that the letters of a text are
+abbrev pub meant : List ℕ → List ℕ
+meant text = map octet_of (letters text)
+
+-- the value has more octets than a length of 16 bits can say
+pub record IsLong (key : ParameterKey) (text : List ℕ) : Type 0 where
+  pub octets : List ℕ
+  pub has : HasOctets key (meant text) octets
+  pub long : 65535 < length octets
+
+-- A text is no value of the key: a `\` has no meaning, it has not the key's form, or it is too long.
+abbrev pub ValueFault : ParameterKey → List ℕ → ParseError → Type 0
+ValueFault key text e =
+    (Says (codes "`\\` without a meaning in a service parameter") e × (escapes_stand text ≡ false))
+    ⊎ (Says (wrong_value key) e × (escapes_stand text ≡ true) × NoValue (HasOctets key (meant text)))
+    ⊎ (Says (codes "service parameter of more than 65535 octets") e × (escapes_stand text ≡ true) × IsLong key text)
+
+-- A name and a value are no parameter: the name is of no key, or the value is none of it.
+abbrev pub ParameterFault : List ℕ → List ℕ → ParseError → Type 0
+ParameterFault name value e =
+    (Says (codes "no key of a service parameter") e × NoValue (λ key. IsKeyName key name))
+    ⊎ ((key : ParameterKey) × IsKeyName key name × ValueFault key value e)
+
+-- words, or why a text has none
+abbrev pub Words : Type 0
+Words = Result (List Word) WordsError
+
+-- the next word stands in quotes, or right behind another
+pub record WordFault (words : Words) (e : ParseError) : Type 0 where
+  pub word : Word
+  pub behind : Words
+  pub cut : words ≡ with_word word behind
+  pub other : StandsAlone word → ⊥
+  pub says : Says (codes "service parameter in quotes or right behind another word") e
+
+-- the next words are written as a parameter and are none
+pub record WrittenFault (words : Words) (e : ParseError) : Type 0 where
+  pub front : List Word
+  pub behind : Words
+  pub cut : words ≡ with_words front behind
+  pub name : List ℕ
+  pub value : List ℕ
+  pub written : IsWritten name value front
+  pub has : ParameterFault name value e
+
+-- No parameter stands next: the text is not cut into words, or a word stands in a wrong place, or is no parameter.
+abbrev pub NextFault : Words → ParseError → Type 0
+NextFault words e = ((why : WordsError) × (words ≡ Err why) × IsMessage e) ⊎ WordFault words e ⊎ WrittenFault words e
+
+-- behind parameters, none or more, stands none
+pub record FaultBehind (cursor : Cursor) (e : ParseError) : Type 0 where
+  pub parameters : List Parameter
+  pub front : List Word
+  pub behind : Words
+  pub cut : words_at cursor ≡ with_words front behind
+  pub written : AreWritten parameters front
+  pub has : NextFault behind e
+
+-- the words are parameters, and a key comes twice, so that they have no rising order
+pub record KeyTwice (cursor : Cursor) (e : ParseError) : Type 0 where
+  pub parameters : List Parameter
+  pub words : List Word
+  pub cut : words_at cursor ≡ Ok words
+  pub written : AreWritten parameters words
+  pub none : (order : List Parameter) → IsPermutation parameters order → Rising order → ⊥
+  pub says : Says (codes "key of a service parameter twice") e
+
+-- a parameter has a fault, or a key comes twice
+abbrev pub ParametersFault : Cursor → ParseError → Type 0
+ParametersFault cursor e = FaultBehind cursor e ⊎ KeyTwice cursor e
