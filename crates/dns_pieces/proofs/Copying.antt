@@ -155,3 +155,15 @@ copied_end n z y b f c e =
 -- a piece of which the buffer holds all
 pub copies_whole : (m : ℕ) (r q b g : List ℕ) → Copies m r q b g → m < length b → q ≡ []
 copies_whole m r q b g c h = c.copied.rest ∙ drop_all m r (omega (arith, c.count, h))
+
+-- a piece and what is behind it
+pub copied_step : (n m : ℕ) (z r q l b f g : List ℕ) → HasCopied n z (r ++ l) b f → Copies m r q (take (length f - n) (drop n f)) g
+    → HasCopied (n + m) z (q ++ l) b (take n f ++ (g ++ drop (length f - n) (drop n f)))
+copied_step n m z r q l b f g c d = copied_more n m z (r ++ l) (q ++ l) b f g c (copied_front m r q l (take (length f - n) (drop n f)) g d.copied)
+
+-- of a piece nothing is left where the buffer is not full
+pub none_left : (n m : ℕ) (z y x r q b f g h : List ℕ) → HasCopied n z y b f → Copies m r q (take (length f - n) (drop n f)) g → HasCopied (n + m) z x b h → n + m ≢ length h → q ≡ []
+none_left n m z y x r q b f g h c d e more =
+    let part = take (length f - n) (drop n f) in
+    let size : length part ≡ length f - n = ap length (take_rest f n) ∙ length-drop n f in
+    copies_whole m r q part g d (omega (arith, size, (taken_so_far n z y b f c).2, (taken_so_far (n + m) z x b h e).2, d.copied.room, more, c.room))

@@ -5,10 +5,9 @@ ghost use Rattle.std.specs.Ordering.{nat_cmp};
 ghost use Rattle.std.specs.Option.{option_copied};
 ghost use Rattle.std.specs.Cmp.Lexicographic.{slice_cmp};
 ghost use Rattle.std.specs.Iterator.{YieldsFirstBy, item_count};
-ghost use Rattle.dns_fields.specs.Fields.{all_emittable};
 ghost use Rattle.dns_pieces.specs.Runs.{common, Copies};
 ghost use Rattle.dns_pieces.specs.Steps.{GivesStep, CountsPasses, CountsChoices};
-ghost use Rattle.dns_rdata.specs.Data.{fields_of, data_octets, IsEmittable};
+ghost use Rattle.dns_rdata.specs.Data.{data_octets, IsEmittable};
 ghost use Rattle.dns_rdata.specs.Cursor.{can_emit, data_left, data_windows, data_options, data_options_left, IsUncounted, DataAt, DataKept, IsAt, KeepsAt, Chooses, Advances, StepsOn, RefillsBy, Skips};
 
 use crate::record_data::RData;
@@ -99,8 +98,7 @@ impl RData {
     /// be too long, the keys of parameters may not rise, or a prefix may ask for more octets than its address has. Takes no
     /// memory.
     pub fn is_emittable(&self) -> bool
-        ensures value { result ≡ all_emittable (fields_of self.now).kinds (fields_of self.now).values }
-        ensures exact { IsTrue result ↔ IsEmittable self.now }
+        ensures { IsTrue result ↔ IsEmittable self.now }
     {
         match self {
             RData::CAA(x) => caa_is_emittable(x),
