@@ -4,7 +4,7 @@ environment's DNS_RDATA_LIBRARY names.
 
     >>> message = bytes.fromhex("076578616d706c6503636f6d00" "000ac000")
     >>> check(message, 13, 4, MX)
-    >>> display_text(message, 13, 4, MX)
+    >>> text(message, 13, 4, MX)
     '10 example.com.'
     >>> wire(message, 13, 4, MX).hex()
     '000a076578616d706c6503636f6d00'
@@ -22,7 +22,7 @@ import os
 
 __all__ = [
     "A", "AAAA", "CNAME", "MX", "NS", "OPT", "SOA", "TXT", "Refused", "Status", "canonical", "check", "compare", "compare_canonical",
-    "display_text", "equal", "parse_display_text", "type_number", "type_text", "wire",
+    "display_text", "equal", "names", "parse_display_text", "parts", "text", "type_number", "type_text", "wire",
 ]
 
 A, NS, CNAME, SOA, MX, TXT, AAAA, OPT = 1, 2, 5, 6, 15, 16, 28, 41
@@ -40,6 +40,7 @@ class Status(enum.IntEnum):
     ORIGIN = 6
     NOT_UTF8 = 7
     UNREAD = 8
+    ABSENT = 9
     MISSING_OCTETS = 16
     LENGTH = 17
     NEVER = 18
@@ -83,20 +84,23 @@ class Refused(ValueError):
 SIZE, SHORT, OCTETS, COUNT = ctypes.c_size_t, ctypes.c_uint16, ctypes.c_char_p, ctypes.POINTER(ctypes.c_size_t)
 DATA = [OCTETS, SIZE, SIZE, SHORT]
 ROOM = [OCTETS, SIZE, COUNT]
-TELLS = ctypes.POINTER(ctypes.c_int32)
+TELLS, NUMBER = ctypes.POINTER(ctypes.c_int32), ctypes.POINTER(ctypes.c_uint16)
 
 # What each call takes: a list of octets is a pointer and a length, and data a message, a place and a length.
 CALLS = {
     "dns_rdata_check": [*DATA, SHORT, ctypes.POINTER(Refusal)],
     "dns_rdata_canonical": [*DATA, SHORT, *ROOM],
     "dns_rdata_wire": [*DATA, SHORT, *ROOM],
+    "dns_rdata_text": [*DATA, SHORT, *ROOM],
     "dns_rdata_display_text": [*DATA, SHORT, *ROOM],
+    "dns_rdata_name": [*DATA, SHORT, SIZE, *ROOM, COUNT],
+    "dns_rdata_part": [*DATA, SHORT, SIZE, NUMBER, COUNT, COUNT],
     "dns_rdata_compare": [*DATA, *DATA, SHORT, TELLS],
     "dns_rdata_equal": [*DATA, *DATA, SHORT, TELLS],
     "dns_rdata_compare_canonical": [OCTETS, SIZE, OCTETS, SIZE],
     "dns_rdata_parse_display_text": [OCTETS, SIZE, SHORT, OCTETS, SIZE, *ROOM],
     "dns_rdata_type_text": [SHORT, *ROOM],
-    "dns_rdata_type_number": [OCTETS, SIZE, ctypes.POINTER(ctypes.c_uint16)],
+    "dns_rdata_type_number": [OCTETS, SIZE, NUMBER],
 }
 
 
@@ -158,6 +162,37 @@ def canonical(message, place, length, type_number):
 def wire(message, place, length, type_number):
     """The octets without pointers into the message, names whole and with their letters."""
     return _filled(_library.dns_rdata_wire, *_data(message, place, length), _short(type_number))
+
+
+def text(message, place, length, type_number):
+    """The text in a zone file, in the form that every name server reads (RFC 1035, 5.1; RFC 9460, 2.1; RFC 3597, 5)."""
+    return _filled(_library.dns_rdata_text, *_data(message, place, length), _short(type_number)).decode()
+
+
+def names(message, place, length, type_number):
+    """The names in the data, in the order of the fields: for each its place in the message, where it may end by a pointer, and
+    its octets, whole and with its letters."""
+    found, name, count, begin = [], ctypes.create_string_buffer(255), ctypes.c_size_t(), ctypes.c_size_t()
+    data = (*_data(message, place, length), _short(type_number))
+    while True:
+        status = _library.dns_rdata_name(*data, len(found), name, 255, ctypes.byref(count), ctypes.byref(begin))
+        if status == Status.ABSENT:
+            return found
+        _want_ok(status)
+        found.append((begin.value, name.raw[: count.value]))
+
+
+def parts(message, place, length, type_number):
+    """The options of OPT, or the parameters of SVCB and HTTPS, in the order of the message: for each its code or key, the place in
+    the message of the first of its octets, and how many they are. Of other types there are none."""
+    found, number, begin, count = [], ctypes.c_uint16(), ctypes.c_size_t(), ctypes.c_size_t()
+    data = (*_data(message, place, length), _short(type_number))
+    while True:
+        status = _library.dns_rdata_part(*data, len(found), ctypes.byref(number), ctypes.byref(begin), ctypes.byref(count))
+        if status == Status.ABSENT:
+            return found
+        _want_ok(status)
+        found.append((number.value, begin.value, count.value))
 
 
 def display_text(message, place, length, type_number):

@@ -49,6 +49,21 @@ class Calls(unittest.TestCase):
         self.refused(lib.Status.MISSING_WORD, lib.parse_display_text, "10", lib.MX)
         self.refused(lib.Status.ORIGIN, lib.parse_display_text, "10 mail", lib.MX, b"\x07")
 
+    def test_zone_texts(self):
+        self.assertEqual(lib.text(MESSAGE, 17, 4, lib.MX), "10 WWW.example.com.")
+        self.assertEqual(lib.text(b'\3a "\0', 0, 5, lib.TXT), r'"a \"" ""')
+        self.assertEqual(lib.text(b"\xab\xcd", 0, 2, 4711), r"\# 2 abcd")
+
+    def test_names_and_parts(self):
+        self.assertEqual(lib.names(MESSAGE, 17, 4, lib.MX), [(19, MESSAGE[:17])])
+        soa = b"\1x\0\1Y\xc0\0" + bytes(20)
+        self.assertEqual(lib.names(soa, 0, len(soa), lib.SOA), [(0, b"\1x\0"), (3, b"\1Y\1x\0")])
+        self.assertEqual(lib.names(b"\x0a\0\0\1", 0, 4, lib.A), [])
+        options = b"\0\x0a\0\2\1\2\0\x0c\0\0"
+        self.assertEqual(lib.parts(options, 0, 10, lib.OPT), [(10, 4, 2), (12, 10, 0)])
+        self.assertEqual(lib.parts(options, 0, 9, lib.OPT), [])
+        self.refused(lib.Status.LENGTH, lib.names, MESSAGE, 17, 3, lib.MX)
+
     def test_types(self):
         self.assertEqual([lib.type_text(15), lib.type_text(4711)], ["MX", "TYPE4711"])
         self.assertEqual([lib.type_number("MX"), lib.type_number("TYPE4711")], [15, 4711])

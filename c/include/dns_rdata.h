@@ -47,11 +47,12 @@ enum {
     DNS_RDATA_MEMORY = 1,                /* malloc failed */
     DNS_RDATA_BUFFER = 2,                /* the buffer is too small, and *count says how large it must be */
     DNS_RDATA_TOO_LONG = 3,              /* the octets are more than 65535, with all names whole */
-    DNS_RDATA_NO_TEXT = 4,               /* there is no text of OPT */
+    DNS_RDATA_NO_TEXT = 4,               /* there is no text of OPT (dns_rdata_display_text alone) */
     DNS_RDATA_UNFIT = 5,                 /* a text's value has no octets: a string in it has more than 255, or the like */
     DNS_RDATA_ORIGIN = 6,                /* the octets of the origin are no name */
     DNS_RDATA_NOT_UTF8 = 7,              /* the text is not UTF-8 */
     DNS_RDATA_UNREAD = 8,                /* the text gives a value whose octets are not read again: a tag of CAA, say */
+    DNS_RDATA_ABSENT = 9,                /* there is no name, option or parameter of this number */
 
     DNS_RDATA_REFUSED = 16,              /* the first refusal of octets */
     DNS_RDATA_MISSING_OCTETS = 16,       /* octets are missing at the end of the message */
@@ -110,6 +111,24 @@ DNS_RDATA_NONNULL dns_rdata_status dns_rdata_wire(const uint8_t *message, size_t
                                                   size_t *count);
 
 /*
+ * A name in the data, whole and with its letters, and in *begin its place in the message, where it may end by a pointer. Names
+ * are counted from 0 in the order of the fields; of SOA there are two. Where there is none of this number the answer is
+ * DNS_RDATA_ABSENT. The buffer is written with DNS_RDATA_OK alone, and *begin where *count is; 255 octets hold any name.
+ */
+DNS_RDATA_NONNULL dns_rdata_status dns_rdata_name(const uint8_t *message, size_t message_length, size_t place,
+                                                  uint16_t length, uint16_t type, size_t index, uint8_t *out,
+                                                  size_t out_length, size_t *count, size_t *begin);
+
+/*
+ * An option of OPT, or a parameter of SVCB and HTTPS: its code or key in *number, and in *begin the place in the message of the
+ * first of its *count octets. They are counted from 0 in the order of the message. Where there is none of this number the answer
+ * is DNS_RDATA_ABSENT; an OPT that ends within an option has none. The three are set with DNS_RDATA_OK alone.
+ */
+DNS_RDATA_NONNULL dns_rdata_status dns_rdata_part(const uint8_t *message, size_t message_length, size_t place,
+                                                  uint16_t length, uint16_t type, size_t index, uint16_t *number,
+                                                  size_t *begin, size_t *count);
+
+/*
  * The order of the data of two records of one type, in two messages (or in one, twice): *order is -1, 0 or 1, the order of
  * their canonical octets. It is set with DNS_RDATA_OK alone. For sorting, take canonical octets once and sort those: this
  * call reads both values each time, and may need memory.
@@ -133,10 +152,20 @@ DNS_RDATA_NONNULL int32_t dns_rdata_compare_canonical(const uint8_t *octets, siz
                                                       size_t other_length);
 
 /*
+ * The data's text in a zone file, with a 0 behind it, in the form that every name server reads (RFC 1035, 5.1; RFC 9460, 2.1): one
+ * line of printable ASCII, names fully qualified and with their letters, strings in quotes. Data of a type without a form of its
+ * own, and other data that has no such text, as TXT without strings, stands in the form of unknown data, \# and octets (RFC
+ * 3597, 5), and so does OPT. The buffer is written with DNS_RDATA_OK alone.
+ */
+DNS_RDATA_NONNULL dns_rdata_status dns_rdata_text(const uint8_t *message, size_t message_length, size_t place,
+                                                  uint16_t length, uint16_t type, char *out, size_t out_length,
+                                                  size_t *count);
+
+/*
  * The text that hickory-proto prints of the data, with a 0 behind it. The buffer is written with DNS_RDATA_OK alone. OPT has
  * no text: DNS_RDATA_NO_TEXT.
  *
- * The text is for people. Of addresses, names, MX, SOA, SRV, NAPTR, SSHFP, TLSA, CAA, CSYNC and the like it is a zone file's.
+ * The text is for people; dns_rdata_text gives that of a zone file. Of addresses, names, MX, SOA, SRV, NAPTR, SSHFP, TLSA, CAA, CSYNC and the like it is a zone file's.
  * It is none of TXT and HINFO, whose strings stand without quotes, of NULL and of types without a form of their own, whose
  * octets are base64, and of SVCB and HTTPS, whose lists end with a comma.
  */

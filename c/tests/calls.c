@@ -73,6 +73,29 @@ int main(void) {
     want(dns_rdata_wire(message, sizeof message, 41, 9, 15, octets, sizeof octets, &count) == DNS_RDATA_OK, "wire");
     print_octets("wire ", octets, count);
 
+    want(dns_rdata_text(message, sizeof message, 41, 9, 15, text, sizeof text, &count) == DNS_RDATA_OK, "a zone file's text");
+    printf("zone text %s, of %zu\n", text, count);
+    static const uint8_t strings[] = {3, 'a', ' ', '"', 0};
+    want(dns_rdata_text(strings, sizeof strings, 0, sizeof strings, 16, text, sizeof text, &count) == DNS_RDATA_OK, "strings");
+    printf("zone text %s, of %zu\n", text, count);
+
+    size_t begin = 0;
+    want(dns_rdata_name(message, sizeof message, 41, 9, 15, 0, octets, sizeof octets, &count, &begin) == DNS_RDATA_OK, "a name");
+    printf("at %zu ", begin);
+    print_octets("name ", octets, count);
+    want(dns_rdata_name(message, sizeof message, 41, 9, 15, 1, octets, sizeof octets, &count, &begin) == DNS_RDATA_ABSENT, "no second name");
+    static const uint8_t start[] = {1, 'x', 0, 1, 'Y', 0xc0, 0, 0, 0, 0, 1, 0, 0, 0, 2, 0, 0, 0, 3, 0, 0, 0, 4, 0, 0, 0, 5};
+    want(dns_rdata_name(start, sizeof start, 0, sizeof start, 6, 1, octets, sizeof octets, &count, &begin) == DNS_RDATA_OK, "the second of SOA");
+    printf("at %zu ", begin);
+    print_octets("name ", octets, count);
+
+    static const uint8_t service[] = {0, 1, 1, 'x', 0, 0, 1, 0, 3, 2, 'h', '2', 0, 3, 0, 2, 1, 0xbb};
+    for (size_t i = 0; dns_rdata_part(service, sizeof service, 0, sizeof service, 64, i, &type, &begin, &count) == DNS_RDATA_OK; i++)
+        printf("parameter %u, %zu octets at %zu\n", type, count, begin);
+    static const uint8_t options[] = {0, 10, 0, 2, 1, 2, 0, 12, 0, 0};
+    for (size_t i = 0; dns_rdata_part(options, sizeof options, 0, sizeof options, 41, i, &type, &begin, &count) == DNS_RDATA_OK; i++)
+        printf("option %u, %zu octets at %zu\n", type, count, begin);
+
     want(dns_rdata_compare(message, sizeof message, 41, 9, message, sizeof message, 62, 4, 15, &order) == DNS_RDATA_OK, "cmp");
     printf("10 against 5: %d\n", order);
 

@@ -25,16 +25,50 @@ static void *block(size_t n) {
     return at;
 }
 
+static unsigned long round;
+
 #define WANT(holds) do { if (!(holds)) { printf("round %lu: %s\n", round, #holds); exit(1); } } while (0)
 
 static const uint16_t types[] = {0, 1, 2, 5, 6, 10, 12, 13, 15, 16, 28, 33, 35, 37, 41, 44, 52, 53, 61, 62, 64, 65, 251, 252, 255, 257, 65305, 48, 4711};
 static const char *const words[] = {"10", "mail", "example.com.", "\"a b\"", "(", ")", ";x\n", "\\", "\"", "1.2.3.4", "::1", "0", "issue", "alpn=h2",
     "port=443", "no-default-alpn", "YWJj", "00ff", "A", "TYPE65535", "1h", "65536", "\xff", "@", ".", "\\065", "key7=x", "300"};
 
+/* Each option or parameter stands behind its number and its length, and each name is data of a record with a name at its place. */
+static void parts_and_names(const uint8_t *message, size_t size, size_t place, uint16_t length, uint16_t type) {
+    size_t count = 0, begin = 0, end = 0, again = 0, i = 0;
+    uint16_t number = 0;
+    int32_t equal = 5;
+    while (dns_rdata_part(message, size, place, length, type, i, &number, &begin, &count) == DNS_RDATA_OK) {
+        WANT(begin >= place + 4 && begin + count <= place + length && (end == 0 || begin == end + 4));
+        WANT(message[begin - 4] * 256u + message[begin - 3] == number && message[begin - 2] * 256u + message[begin - 1] == count);
+        end = begin + count;
+        i++;
+    }
+    WANT(i == 0 || end == place + length);
+    WANT(dns_rdata_part(message, size, place, length, type, i, &number, &begin, &count) == DNS_RDATA_ABSENT);
+    WANT(type == 41 || type == 64 || type == 65 || i == 0);
+    uint8_t name[255];
+    for (i = 0; dns_rdata_name(message, size, place, length, type, i, name, sizeof name, &count, &begin) == DNS_RDATA_OK; i++) {
+        WANT(count <= sizeof name && begin >= place && begin < place + length && name[count - 1] == 0);
+        uint8_t *exact = (uint8_t *)block(count);
+        WANT(dns_rdata_name(message, size, place, length, type, i, exact, count - 1, &again, &end) == DNS_RDATA_BUFFER && again == count && end == begin);
+        WANT(dns_rdata_name(message, size, place, length, type, i, exact, count, &again, &end) == DNS_RDATA_OK && again == count && end == begin);
+        WANT(memcmp(exact, name, count) == 0);
+        free(exact);
+        /* at its place there is data of NS with the same name, of some length up to its first pointer or its end */
+        size_t at = begin;
+        while (message[at] != 0 && message[at] < 0xc0) at += message[at] + 1u;
+        at += message[at] == 0 ? 1 : 2;
+        WANT(dns_rdata_equal(message, size, begin, (uint16_t)(at - begin), name, count, 0, (uint16_t)count, 2, &equal) == DNS_RDATA_OK && equal == 1);
+    }
+    WANT(dns_rdata_name(message, size, place, length, type, i, name, sizeof name, &count, &begin) == DNS_RDATA_ABSENT);
+    WANT(i == (type == 6 ? 2 : type == 2 || type == 5 || type == 12 || type == 15 || type == 33 || type == 35 || type == 64 || type == 65 || type == 65305));
+}
+
 int main(int argc, char **argv) {
     unsigned long rounds = argc > 1 ? strtoul(argv[1], NULL, 10) : 100000, accepted = 0, parsed = 0, unread = 0;
     if (argc > 2) state ^= strtoull(argv[2], NULL, 10) * 0x9e3779b97f4a7c15ull | 1;
-    for (unsigned long round = 0; round < rounds; round++) {
+    for (round = 0; round < rounds; round++) {
         /* a message: random, or mostly small octets, so that labels and lengths are often right */
         size_t size = below(4) ? below(64) : below(700);
         uint8_t *message = (uint8_t *)block(size);
@@ -62,6 +96,15 @@ int main(int argc, char **argv) {
                 WANT(text[count] == 0);
                 free(text);
             }
+            s = dns_rdata_text(message, size, place, length, type, (char *)&count, 0, &count);
+            WANT(s == DNS_RDATA_BUFFER);
+            char *zone = (char *)block(count + 1);
+            WANT(dns_rdata_text(message, size, place, length, type, zone, count, &again) == DNS_RDATA_BUFFER && again == count);
+            WANT(dns_rdata_text(message, size, place, length, type, zone, count + 1, &again) == DNS_RDATA_OK && again == count);
+            WANT(zone[count] == 0);
+            for (size_t i = 0; i < count; i++) WANT(zone[i] >= ' ' && zone[i] <= '~');
+            free(zone);
+            parts_and_names(message, size, place, length, type);
             /* canonical octets, which are data again with the same canonical octets */
             uint8_t none = 0;
             s = dns_rdata_canonical(message, size, place, length, type, &none, 0, &count);
@@ -104,6 +147,11 @@ int main(int argc, char **argv) {
             WANT(dns_rdata_display_text(message, size, place, length, type, text, sizeof text, &count) == status && count == 77);
             WANT(dns_rdata_canonical(message, size, place, length, type, (uint8_t *)text, sizeof text, &count) == status && count == 77);
             WANT(dns_rdata_wire(message, size, place, length, type, (uint8_t *)text, sizeof text, &count) == status && count == 77);
+            WANT(dns_rdata_text(message, size, place, length, type, text, sizeof text, &count) == status && count == 77);
+            WANT(dns_rdata_name(message, size, place, length, type, below(3), (uint8_t *)text, sizeof text, &count, &again) == status);
+            uint16_t part = 79;
+            WANT(dns_rdata_part(message, size, place, length, type, below(3), &part, &again, &count) == status);
+            WANT(count == 77 && again == 78 && part == 79);
             int32_t equal = 5;
             WANT(dns_rdata_equal(message, size, place, length, message, size, place, length, type, &equal) == status && equal == 5);
             WANT(dns_rdata_compare(message, size, place, length, message, size, place, length, type, &equal) == status && equal == 5);

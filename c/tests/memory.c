@@ -41,7 +41,9 @@ static const char texts[][64] = {"10 mail.example.com.", "1 . alpn=h2,h3 ipv4hin
 static const uint16_t kinds[] = {15, 64, 16, 15};
 static char text[512];
 static uint8_t out[512];
-static size_t count;
+static const uint8_t service[] = {0, 1, 1, 'x', 0, 0, 1, 0, 3, 2, 'h', '2', 0, 3, 0, 2, 1, 0xbb};
+static size_t count, begin;
+static uint16_t number;
 static struct dns_rdata_refusal why;
 static int32_t order;
 
@@ -55,13 +57,16 @@ static dns_rdata_status call(int n) {
     case 4: return dns_rdata_compare(name, length, place, 4, name, length, place, 4, 15, &order);
     case 5: return dns_rdata_type_text(4711, text, sizeof text, &count);
     case 6: return dns_rdata_equal(name, length, place, 4, name, length, place, 4, 15, &order);
-    default: return dns_rdata_parse_display_text(texts[n - 7], strlen(texts[n - 7]), kinds[n - 7], name, 73, out, sizeof out, &count);
+    case 7: return dns_rdata_text(name, length, place, 4, 15, text, sizeof text, &count);
+    case 8: return dns_rdata_name(name, length, place, 4, 15, 0, out, sizeof out, &count, &begin);
+    case 9: return dns_rdata_part(service, sizeof service, 0, sizeof service, 64, 1, &number, &begin, &count);
+    default: return dns_rdata_parse_display_text(texts[n - 10], strlen(texts[n - 10]), kinds[n - 10], name, 73, out, sizeof out, &count);
     }
 }
 
 int main(void) {
     int failed = 0;
-    for (int n = 0; n < 11; n++) {
+    for (int n = 0; n < 14; n++) {
         requests = refuse = 0;
         dns_rdata_status wanted = call(n);
         unsigned long all = requests;

@@ -21,8 +21,8 @@ OF_RUST = {
 }
 OF_PYTHON = {
     "*DATA": ["octets", "size_t", "size_t", "uint16_t"], "*ROOM": ["buffer", "size_t", "size_t *"], "OCTETS": ["octets"], "SIZE": ["size_t"],
-    "SHORT": ["uint16_t"], "TELLS": ["int32_t *"], "ctypes.POINTER(Refusal)": ["struct dns_rdata_refusal *"],
-    "ctypes.POINTER(ctypes.c_uint16)": ["uint16_t *"],
+    "SHORT": ["uint16_t"], "TELLS": ["int32_t *"], "NUMBER": ["uint16_t *"], "COUNT": ["size_t *"],
+    "ctypes.POINTER(Refusal)": ["struct dns_rdata_refusal *"],
 }
 
 wrong = 0

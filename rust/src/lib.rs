@@ -28,6 +28,10 @@ extern "C" {
     fn dns_rdata_check(
         message: *const u8, message_length: usize, place: usize, length: u16, record_type: u16, why: *mut RawRefusal,
     ) -> u32;
+    fn dns_rdata_text(
+        message: *const u8, message_length: usize, place: usize, length: u16, record_type: u16,
+        out: *mut u8, out_length: usize, count: *mut usize,
+    ) -> u32;
     fn dns_rdata_display_text(
         message: *const u8, message_length: usize, place: usize, length: u16, record_type: u16,
         out: *mut u8, out_length: usize, count: *mut usize,
@@ -39,6 +43,14 @@ extern "C" {
     fn dns_rdata_wire(
         message: *const u8, message_length: usize, place: usize, length: u16, record_type: u16,
         out: *mut u8, out_length: usize, count: *mut usize,
+    ) -> u32;
+    fn dns_rdata_name(
+        message: *const u8, message_length: usize, place: usize, length: u16, record_type: u16, index: usize,
+        out: *mut u8, out_length: usize, count: *mut usize, begin: *mut usize,
+    ) -> u32;
+    fn dns_rdata_part(
+        message: *const u8, message_length: usize, place: usize, length: u16, record_type: u16, index: usize,
+        number: *mut u16, begin: *mut usize, count: *mut usize,
     ) -> u32;
     fn dns_rdata_compare(
         message: *const u8, message_length: usize, place: usize, length: u16,
@@ -68,6 +80,7 @@ const UNFIT: u32 = 5;
 const ORIGIN: u32 = 6;
 const NOT_UTF8: u32 = 7;
 const UNREAD: u32 = 8;
+const ABSENT: u32 = 9;
 const MISSING_OCTETS: u32 = 16;
 const LENGTH: u32 = 17;
 const NEVER: u32 = 18;
@@ -153,7 +166,7 @@ impl Error {
             TOO_LONG => Error::TooLong,
             UNFIT => Error::Unfit,
             ORIGIN => Error::Origin,
-                        UNREAD => Error::Unread,
+            UNREAD => Error::Unread,
             MISSING_OCTETS => Error::MissingOctets,
             LENGTH => Error::Length { read: why.read, len: why.len },
             NEVER => Error::Never(record_type),
@@ -283,6 +296,26 @@ impl fmt::Display for RecordType {
     }
 }
 
+/// An option of OPT, or a parameter of SVCB and HTTPS.
+#[derive(Clone, Copy, Debug, PartialEq, Eq)]
+pub struct Part<'a> {
+    /// The code of the option, or the key of the parameter.
+    pub number: u16,
+    /// Where its octets begin in the message.
+    pub place: usize,
+    /// Its octets.
+    pub octets: &'a [u8],
+}
+
+/// A name in record data.
+#[derive(Clone, Debug, PartialEq, Eq)]
+pub struct FoundName {
+    /// Where it begins in the message, in which it may end by a pointer.
+    pub place: usize,
+    /// Its octets, whole and with its letters.
+    pub octets: Vec<u8>,
+}
+
 /// The data of a record in a message: octets of which it was checked that they are data of their type.
 #[derive(Clone, Copy, Debug)]
 pub struct Data<'a> {
@@ -343,11 +376,64 @@ impl<'a> Data<'a> {
         Error::of(status, self.record_type, &RawRefusal::default())
     }
 
+    /// The text in a zone file, in the form that every name server reads (RFC 1035, 5.1; RFC 9460, 2.1; RFC 3597, 5).
+    pub fn to_zone_text(&self) -> Result<String, Error> {
+        // SAFETY: the message is a slice's, the buffer is `filled`'s, and they do not overlap.
+        let text = filled(
+            128,
+            |out, room, count| unsafe {
+                dns_rdata_text(
+                    self.message.as_ptr(), self.message.len(), self.place, self.length, self.record_type.0, out, room, count,
+                )
+            },
+            |status| self.failed(status),
+        )?;
+        String::from_utf8(text).map_err(|_| Error::Utf8)
+    }
+
+    /// The name of this number, from 0 on, in the order of the fields; none where there are no more.
+    pub fn name(&self, index: usize) -> Result<Option<FoundName>, Error> {
+        let mut octets = vec![0; 255];
+        let (mut count, mut place) = (0, 0);
+        // SAFETY: the message is a slice's, the buffer a vector's, and they do not overlap.
+        let status = unsafe {
+            dns_rdata_name(
+                self.message.as_ptr(), self.message.len(), self.place, self.length, self.record_type.0, index,
+                octets.as_mut_ptr(), octets.len(), &mut count, &mut place,
+            )
+        };
+        match status {
+            OK => {
+                octets.truncate(count);
+                Ok(Some(FoundName { place, octets }))
+            }
+            ABSENT => Ok(None),
+            _ => Err(self.failed(status)),
+        }
+    }
+
+    /// The option or parameter of this number, from 0 on, in the order of the message; none where there are no more.
+    pub fn part(&self, index: usize) -> Result<Option<Part<'a>>, Error> {
+        let (mut number, mut place, mut count) = (0, 0, 0);
+        // SAFETY: the message is a slice's, and the others are places for the answer.
+        let status = unsafe {
+            dns_rdata_part(
+                self.message.as_ptr(), self.message.len(), self.place, self.length, self.record_type.0, index,
+                &mut number, &mut place, &mut count,
+            )
+        };
+        match status {
+            OK => Ok(Some(Part { number, place, octets: self.message.get(place..place + count).unwrap_or(&[]) })),
+            ABSENT => Ok(None),
+            _ => Err(self.failed(status)),
+        }
+    }
+
     /// The text that hickory-proto prints, for people; none of OPT, which has no text. A zone file has quotes around strings, and
-    /// other forms of octets of no known form.
+    /// other forms of octets of no known form: [`Data::to_zone_text`].
     pub fn to_display_text(&self) -> Result<Option<String>, Error> {
         let mut none = false;
-        // SAFETY: the message is a slice's, the buffer is `filled`'s, and they do not overlap.
+        // SAFETY: as in `to_zone_text`.
         let text = filled(
             128,
             |out, room, count| {
@@ -370,7 +456,7 @@ impl<'a> Data<'a> {
 
     /// The canonical octets (RFC 4034, 6.2): equal data of one type has the same ones, and no other has.
     pub fn canonical(&self) -> Result<CanonicalKey, Error> {
-        // SAFETY: as in `to_display_text`.
+        // SAFETY: as in `to_zone_text`.
         filled(
             usize::from(self.length) + 64,
             |out, room, count| unsafe {
@@ -385,7 +471,7 @@ impl<'a> Data<'a> {
 
     /// The octets without pointers into the message, names with their letters.
     pub fn wire(&self) -> Result<Vec<u8>, Error> {
-        // SAFETY: as in `to_display_text`.
+        // SAFETY: as in `to_zone_text`.
         filled(
             usize::from(self.length) + 64,
             |out, room, count| unsafe {

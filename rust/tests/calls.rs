@@ -1,4 +1,4 @@
-use dns_rdata::{parse_display_text, Data, Error, RecordType};
+use dns_rdata::{parse_display_text, Data, Error, Part, RecordType};
 use std::cmp::Ordering;
 use std::collections::HashSet;
 
@@ -45,6 +45,33 @@ fn pointers_are_followed() {
     assert_eq!(data.canonical().unwrap().as_slice(), b"\x00\x0a\x03www\x07example\x03com\x00");
     let wire = data.wire().unwrap();
     assert_eq!(data.compare(&Data::whole(&wire, MX).unwrap()), Ok(Ordering::Equal));
+}
+
+#[test]
+fn zone_texts() {
+    let whole = |octets: &[u8], record_type| Data::whole(octets, record_type).and_then(|d| d.to_zone_text());
+    assert_eq!(whole(b"\x03a \"\x00", TXT), Ok(r#""a \"" """#.to_string()));
+    assert_eq!(whole(b"\x00\x0a\x01x\x00", MX), Ok("10 x.".to_string()));
+    assert_eq!(whole(b"\xab\xcd", RecordType(4711)), Ok("\\# 2 abcd".to_string()));
+    assert_eq!(whole(b"", OPT), Ok("\\# 0".to_string()));
+}
+
+#[test]
+fn names_and_parts() {
+    let message = b"\x03WWW\x07example\x03com\x00\x00\x0a\xc0\x00";
+    let data = Data::check(message, 17, 4, MX).unwrap();
+    let name = data.name(0).unwrap().unwrap();
+    assert_eq!((name.place, name.octets.as_slice()), (19, &message[..17]));
+    assert_eq!((data.name(1), data.part(0)), (Ok(None), Ok(None)));
+    let options = b"\x00\x0a\x00\x02\x01\x02\x00\x0c\x00\x00";
+    let data = Data::whole(options, OPT).unwrap();
+    assert_eq!(data.part(0), Ok(Some(Part { number: 10, place: 4, octets: &[1, 2] })));
+    assert_eq!(data.part(1), Ok(Some(Part { number: 12, place: 10, octets: &[] })));
+    assert_eq!((data.part(2), data.part(usize::MAX), data.name(0)), (Ok(None), Ok(None), Ok(None)));
+    let service = b"\x00\x01\x00\x00\x03\x00\x02\x01\xbb";
+    let data = Data::whole(service, RecordType::SVCB).unwrap();
+    assert_eq!(data.part(0), Ok(Some(Part { number: 3, place: 7, octets: &[1, 0xbb] })));
+    assert_eq!(data.name(0).unwrap().unwrap().place, 2);
 }
 
 #[test]

@@ -2,10 +2,10 @@
 use Rattle.std.proofs.Common.{◌≡◌, ◌≢◌, ℕ, ◌+◌, ◌-◌, ◌<◌, ◌≤◌, ◌⊎◌, inl, inr, min, suc, zero, List, [], ◌∷◌, ◌++◌, length, take, drop, map, refl, sym, ap, ◌∙◌, subst, arith, append_assoc, length-append, length-take-le}
 use Rattle.std.proofs.lemmas.List.{append-nil, drop-drop, drop_all, drop_at, drop-append-le, length-drop, length-map, take_all, take_at, take_rest, take-append-le, take-map, drop-map}
 use Rattle.std.proofs.Math.ListN.{set}
-use Rattle.std.proofs.Math.Seq.{take-append-add, drop-append-add}
+use Rattle.std.proofs.Math.Seq.{take-add}
 use Rattle.std.specs.Char.{to_ascii_lowercase}
 use Rattle.dns_labels.specs.Comparing.{lowered_octets}
-use Rattle.dns_pieces.specs.Runs.{Copies}
+use Rattle.dns_pieces.specs.Runs.{HasCopied, Copies}
 
 -- a buffer keeps its length
 same_length : (n : ℕ) (front buffer filled : List ℕ) → length front ≡ n → n ≤ length buffer → filled ≡ front ++ drop n buffer → length filled ≡ length buffer
@@ -26,8 +26,12 @@ name_fills n octets buffer filled count front full =
     let within_lows : n ≤ length lows = omega (arith, within, length-map octets to_ascii_lowercase) in
     record {
       count = omega (arith, all, within_lows, length-append lows (0 ∷ []));
-      front = front ∙ ap (λ (l : List ℕ). l ++ drop n buffer) (sym (take-map to_ascii_lowercase n octets) ∙ sym (take-append-le n lows (0 ∷ []) within_lows));
-      rest = ap lowered_octets (take_rest octets n) ∙ ap (λ (l : List ℕ). l ++ 0 ∷ []) (sym (drop-map to_ascii_lowercase n octets)) ∙ sym (drop-append-le n lows (0 ∷ []) within_lows);
+      copied = record {
+        within = omega (arith, within_lows, length-append lows (0 ∷ []));
+        room = omega (arith, all);
+        front = front ∙ ap (λ (l : List ℕ). l ++ drop n buffer) (sym (take-map to_ascii_lowercase n octets) ∙ sym (take-append-le n lows (0 ∷ []) within_lows));
+        rest = ap lowered_octets (take_rest octets n) ∙ ap (λ (l : List ℕ). l ++ 0 ∷ []) (sym (drop-map to_ascii_lowercase n octets)) ∙ sym (drop-append-le n lows (0 ∷ []) within_lows);
+      };
     }
 
 -- an octet right behind the front of a buffer
@@ -56,58 +60,110 @@ name_ends n octets buffer filled count front more =
     ∙ ap (λ (k : ℕ). lowered_octets octets ++ drop k buffer) behind in
     record {
       count = omega (arith, whole, room, size);
-      front = placed ∙ ap (λ (l : List ℕ). l ++ drop (n + 1) buffer) (sym (take_all (n + 1) (lowered_octets octets) (omega (arith, whole))));
-      rest = take_rest octets n ∙ drop_all n octets (omega (arith, all)) ∙ sym (drop_all (n + 1) (lowered_octets octets) (omega (arith, whole)));
+      copied = record {
+        within = omega (arith, whole);
+        room = omega (arith, room, size);
+        front = placed ∙ ap (λ (l : List ℕ). l ++ drop (n + 1) buffer) (sym (take_all (n + 1) (lowered_octets octets) (omega (arith, whole))));
+        rest = take_rest octets n ∙ drop_all n octets (omega (arith, all)) ∙ sym (drop_all (n + 1) (lowered_octets octets) (omega (arith, whole)));
+      };
     }
 
 -- ---- one piece behind the other
 
-either : (n a b : ℕ) → n ≡ min a b → (n ≡ a) ⊎ ((n ≡ b) × (n ≤ a))
+taken_so_far : (n : ℕ) (z y b f : List ℕ) → HasCopied n z y b f → (take n f ≡ take n z) × (drop n f ≡ drop n b) × (length f ≡ length b)
+taken_so_far n z y b f c =
+    let size = length-take-le n z c.within in (
+      ap (take n) c.front ∙ take_at (take n z) (drop n b) n size,
+      ap (drop n) c.front ∙ drop_at (take n z) (drop n b) n size,
+      same_length n (take n z) b f size c.room c.front,
+    )
+
+-- octets that are copied behind others
+pub copied_more : (n m : ℕ) (z y x b f g : List ℕ) → HasCopied n z y b f → HasCopied m y x (take (length f - n) (drop n f)) g
+    → HasCopied (n + m) z x b (take n f ++ (g ++ drop (length f - n) (drop n f)))
+copied_more n m z y x b f g c d =
+    let is = taken_so_far n z y b f c in
+    let part : take (length f - n) (drop n f) ≡ drop n b = take_rest f n ∙ is.1 in
+    let end : drop (length f - n) (drop n f) ≡ [] = drop_all (length f - n) (drop n f) (omega (arith, length-drop n f)) in
+    let e : HasCopied m y x (drop n b) g = subst (λ (l : List ℕ). HasCopied m y x l g) part d in
+    let front : take n z ++ g ≡ take (n + m) z ++ drop (n + m) b =
+    ap (λ (l : List ℕ). take n z ++ l) (e.front ∙ ap (λ (l : List ℕ). take m l ++ drop m (drop n b)) c.rest) ∙ sym (append_assoc (take n z) (take m (drop n z)) (drop m (drop n b)))
+    ∙ ap (λ (l : List ℕ). l ++ drop m (drop n b)) (sym (take-add n m z)) ∙ ap (λ (l : List ℕ). take (n + m) z ++ l) (drop-drop m n b) in
+    let size : length y ≡ length z - n = ap length c.rest ∙ length-drop n z in
+    let whole : HasCopied (n + m) z x b (take n z ++ g) = record {
+      within = omega (arith, e.within, size, c.within);
+      room = omega (arith, e.room, length-drop n b, c.room);
+      front = front;
+      rest = e.rest ∙ ap (drop m) c.rest ∙ drop-drop m n z;
+    } in
+    rw (is.0, end, append-nil g) whole
+
+-- what is behind is left
+pub copied_front : (m : ℕ) (r q l b g : List ℕ) → HasCopied m r q b g → HasCopied m (r ++ l) (q ++ l) b g
+copied_front m r q l b g c = record {
+  within = omega (arith, c.within, length-append r l);
+  room = c.room;
+  front = c.front ∙ ap (λ (x : List ℕ). x ++ drop m b) (sym (take-append-le m r l c.within));
+  rest = ap (λ (x : List ℕ). x ++ l) c.rest ∙ sym (drop-append-le m r l c.within);
+}
+
+pub copied_none : (z b : List ℕ) → HasCopied 0 z z b b
+copied_none z b = record { within = omega arith; room = omega arith; front = refl; rest = refl }
+
+either : (n a b : ℕ) → n ≡ min a b → (n ≡ a) ⊎ (n ≡ b)
 either n zero b e = inl (omega (arith, e))
-either n (suc a) zero e = inr (omega (arith, e), omega (arith, e))
+either n (suc a) zero e = inr (omega (arith, e))
 either zero (suc a) (suc b) e = absurd (omega (arith, e))
 either (suc n) (suc a) (suc b) e = elim (either n a b (omega (arith, e))) [
   | inl h ↦ inl (omega (arith, h))
-  | inr h ↦ inr (omega (arith, h.0), omega (arith, h.1))
+  | inr h ↦ inr (omega (arith, h))
 ]
 
--- a piece that was copied whole, and a further one behind it
-behind_whole : (n m : ℕ) (a b t u g : List ℕ) → n ≡ length a → n ≤ length b → Copies m t u (drop n b) g → Copies (n + m) (a ++ t) (drop n a ++ u) b (take n a ++ g)
-behind_whole n m a b t u g e h c = subst (λ (k : ℕ). Copies (k + m) (a ++ t) (drop k a ++ u) b (take k a ++ g)) (sym e)
-    (let d : Copies m t u (drop (length a) b) g = subst (λ (k : ℕ). Copies m t u (drop k b) g) e c in
-    record {
-      count = omega (arith, d.count, length-drop (length a) b, length-append a t, e, h);
-      front = ap (λ (l : List ℕ). l ++ g) (take_all (length a) a (omega arith)) ∙ ap (λ (l : List ℕ). a ++ l) d.front ∙ sym (append_assoc a (take m t) (drop m (drop (length a) b)))
-          ∙ ap (λ (l : List ℕ). l ++ drop m (drop (length a) b)) (sym (take-append-add a t m)) ∙ ap (λ (l : List ℕ). take (length a + m) (a ++ t) ++ l) (drop-drop m (length a) b);
-      rest = ap (λ (l : List ℕ). l ++ u) (drop_all (length a) a (omega arith)) ∙ d.rest ∙ sym (drop-append-add a t m);
-    })
-
--- a piece that filled the buffer
-behind_full : (n m : ℕ) (a b t u g : List ℕ) → n ≡ length b → n ≤ length a → Copies m t u (drop n b) g → Copies (n + m) (a ++ t) (drop n a ++ u) b (take n a ++ g)
-behind_full n m a b t u g e h c =
-    let end : drop n b ≡ [] = drop_all n b (omega (arith, e)) in
-    let none : m ≡ 0 = omega (arith, c.count, length-drop n b, e) in
-    let same : n + m ≡ n = omega (arith, none) in
-    let u_is : u ≡ t = c.rest ∙ ap (λ (k : ℕ). drop k t) none in
-    let g_is : g ≡ [] = c.front ∙ ap (λ (k : ℕ). take k t ++ drop k (drop n b)) none ∙ end in
-    let whole : Copies n (a ++ t) (drop n a ++ t) b (take n a ++ []) = record {
-      count = omega (arith, e, h, length-append a t);
-      front = ap (λ (l : List ℕ). l ++ []) (sym (take-append-le n a t h)) ∙ ap (λ (l : List ℕ). take n (a ++ t) ++ l) (sym end);
-      rest = sym (drop-append-le n a t h);
-    } in
-    rw (same, u_is, g_is) whole
-
+-- a piece and a further one, which is begun where the first is copied whole
 pub copies_both : (n m : ℕ) (a b t u f g : List ℕ) → n ≡ min (length a) (length b) → f ≡ take n a ++ drop n b → Copies m t u (take (length f - n) (drop n f)) g
     → Copies (n + m) (a ++ t) (drop n a ++ u) b (take n f ++ (g ++ drop (length f - n) (drop n f)))
 copies_both n m a b t u f g count front c =
-    let within : n ≤ length a = omega (arith, count) in
-    let size = length-take-le n a within in
-    let taken : take n f ≡ take n a = ap (take n) front ∙ take_at (take n a) (drop n b) n size in
-    let left : drop n f ≡ drop n b = ap (drop n) front ∙ drop_at (take n a) (drop n b) n size in
-    let end : drop (length f - n) (drop n f) ≡ [] = drop_all (length f - n) (drop n f) (omega (arith, length-drop n f)) in
-    let d : Copies m t u (drop n b) g = subst (λ (l : List ℕ). Copies m t u l g) (take_rest f n ∙ left) c in
-    let both : Copies (n + m) (a ++ t) (drop n a ++ u) b (take n a ++ g) = elim (either n (length a) (length b) count) [
-      | inl e ↦ behind_whole n m a b t u g e (omega (arith, count)) d
-      | inr e ↦ behind_full n m a b t u g e.0 e.1 d
+    let first : HasCopied n (a ++ t) (drop n a ++ t) b f =
+    copied_front n a (drop n a) t b f (record { within = omega (arith, count); room = omega (arith, count); front = front; rest = refl }) in
+    let is = taken_so_far n (a ++ t) (drop n a ++ t) b f first in
+    let part = take (length f - n) (drop n f) in
+    let size : length part ≡ length b - n = ap length (take_rest f n) ∙ length-drop n f ∙ ap (λ (k : ℕ). k - n) is.2 in
+    let second : HasCopied m (drop n a ++ t) (drop n a ++ u) part g = elim (either n (length a) (length b) count) [
+      | inl e ↦ let all : drop n a ≡ [] = drop_all n a (omega (arith, e)) in rw all c.copied
+      | inr e ↦
+          let none : m ≡ 0 = omega (arith, c.count, size, e) in
+          let same : u ≡ t = c.copied.rest ∙ ap (λ (k : ℕ). drop k t) none in
+          let still : g ≡ part = c.copied.front ∙ ap (λ (k : ℕ). take k t ++ drop k part) none in
+          rw (none, same, still) (copied_none (drop n a ++ t) part)
     ] in
-    rw (taken, end, append-nil g) both
+    record {
+      count = omega (arith, count, c.count, size, length-append a t);
+      copied = copied_more n m (a ++ t) (drop n a ++ t) (drop n a ++ u) b f g first second;
+    }
+
+-- ---- what a loop over pieces has copied
+
+-- the buffer is full, or nothing is left
+pub copied_full : (n : ℕ) (z y b f : List ℕ) → HasCopied n z y b f → n ≡ length f → Copies n z y b f
+copied_full n z y b f c e = record { count = omega (arith, e, (taken_so_far n z y b f c).2, c.within); copied = c }
+
+pub copied_end : (n : ℕ) (z y b f : List ℕ) → HasCopied n z y b f → y ≡ [] → Copies n z y b f
+copied_end n z y b f c e =
+    let none : length z - n ≡ 0 = sym (ap length c.rest ∙ length-drop n z) ∙ ap length e in
+    record { count = omega (arith, none, c.within, c.room); copied = c }
+
+-- a piece of which the buffer holds all
+pub copies_whole : (m : ℕ) (r q b g : List ℕ) → Copies m r q b g → m < length b → q ≡ []
+copies_whole m r q b g c h = c.copied.rest ∙ drop_all m r (omega (arith, c.count, h))
+
+-- a piece and what is behind it
+pub copied_step : (n m : ℕ) (z r q l b f g : List ℕ) → HasCopied n z (r ++ l) b f → Copies m r q (take (length f - n) (drop n f)) g
+    → HasCopied (n + m) z (q ++ l) b (take n f ++ (g ++ drop (length f - n) (drop n f)))
+copied_step n m z r q l b f g c d = copied_more n m z (r ++ l) (q ++ l) b f g c (copied_front m r q l (take (length f - n) (drop n f)) g d.copied)
+
+-- of a piece nothing is left where the buffer is not full
+pub none_left : (n m : ℕ) (z y x r q b f g h : List ℕ) → HasCopied n z y b f → Copies m r q (take (length f - n) (drop n f)) g → HasCopied (n + m) z x b h → n + m ≢ length h → q ≡ []
+none_left n m z y x r q b f g h c d e more =
+    let part = take (length f - n) (drop n f) in
+    let size : length part ≡ length f - n = ap length (take_rest f n) ∙ length-drop n f in
+    copies_whole m r q part g d (omega (arith, size, (taken_so_far n z y b f c).2, (taken_so_far (n + m) z x b h e).2, d.copied.room, more, c.room))

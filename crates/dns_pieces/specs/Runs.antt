@@ -1,5 +1,5 @@
 -- Octets at hand.
-use Rattle.std.specs.Prelude.{◌≡◌, ◌==◌, ◌+◌, length, take, drop, min, ℕ, Bool, List, [], ◌∷◌, ◌++◌, if◌then◌else◌}
+use Rattle.std.specs.Prelude.{◌≡◌, ◌==◌, ◌+◌, ◌≤◌, length, take, drop, min, ℕ, Bool, List, [], ◌∷◌, ◌++◌, if◌then◌else◌}
 use Rattle.dns_labels.specs.Comparing.{lowered_octets}
 
 -- the octets of a slice, or the canonical ones of a name whose labels they are
@@ -19,8 +19,14 @@ common [] ys = 0
 common (x ∷ xs) [] = 0
 common (x ∷ xs) (y ∷ ys) = if x == y then common xs ys + 1 else 0
 
--- the first n octets, as many as there are and fit, stand at the front of a buffer, which is as it was behind them; the others are left
-pub record Copies (n : ℕ) (old new buffer filled : List ℕ) : Type 0 where
-  pub count : n ≡ min (length old) (length buffer)
+-- the first n octets stand at the front of a buffer, which is as it was behind them; the others are left
+pub record HasCopied (n : ℕ) (old new buffer filled : List ℕ) : Type 0 where
+  pub within : n ≤ length old
+  pub room : n ≤ length buffer
   pub front : filled ≡ take n old ++ drop n buffer
   pub rest : new ≡ drop n old
+
+-- as many as there are and fit
+pub record Copies (n : ℕ) (old new buffer filled : List ℕ) : Type 0 where
+  pub count : n ≡ min (length old) (length buffer)
+  pub copied : HasCopied n old new buffer filled

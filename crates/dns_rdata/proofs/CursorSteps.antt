@@ -1,6 +1,6 @@
 -- Cursors over record data.
 use Rattle.std.proofs.Common.{◌-◌, ◌++◌, drop, is_some, MatchOption}
-use Rattle.std.proofs.Common.{◌≡◌, ℕ, ◌+◌, ◌*◌, ◌≤◌, ◌<◌, nat_le, ◌&&◌, Bool, true, false, if◌then◌else◌, Option, Some, None, List, [], ◌∷◌, map, length, refl, sym, ap, ◌∙◌, arith, subst, IfSome}
+use Rattle.std.proofs.Common.{◌≡◌, ◌↔◌, IsTrue, true≢false, ℕ, ◌+◌, ◌*◌, ◌≤◌, ◌<◌, nat_le, ◌&&◌, Bool, true, false, if◌then◌else◌, Option, Some, None, List, [], ◌∷◌, map, length, refl, sym, ap, ◌∙◌, arith, subst, IfSome}
 use Rattle.std.proofs.lemmas.Bool.Decides.{nat_tests}
 use Rattle.std.proofs.lemmas.List.{append-nil, drop-drop}
 use Rattle.std.proofs.Math.ListN.{drop_of_length-le}
@@ -25,6 +25,15 @@ use Rattle.dns_rdata.specs.Cursor.{can_emit, data_left, data_windows, data_optio
 pub with_true : (b : Bool) → b && true ≡ b
 with_true true = refl
 with_true false = refl
+
+-- ---- a test of whether a value can be emitted
+
+pub decides : (b c : Bool) → b ≡ c → IsTrue b ↔ (c ≡ true)
+decides b c e = (λ h. sym e ∙ h, λ h. e ∙ h)
+
+pub cannot : (b c : Bool) → (IsTrue b ↔ (c ≡ true)) → b ≡ false → c ≡ false
+cannot b true e h = absurd (true≢false (sym (e.1 refl) ∙ h))
+cannot b false e h = refl
 
 -- ---- what can be emitted has short strings
 

@@ -36,7 +36,7 @@ use Rattle.dns_rdata.specs.declared.record_data.RData.{RData}
 use Rattle.dns_rdata.specs.declared.record_data.RData.TheVariants as rdata
 use Rattle.dns_rdata.specs.Data.{shape, IsValue, type_of}
 use Rattle.dns_rdata.specs.Texts.{text_of}
-use Rattle.dns_rdata.specs.DataWords.{StandIn, AreSvcbWords, svcb_words, https_words, HasNoWords, AreDataWords, TookDataWords, RefusedDataWords, ReadsDataWords, ReadsDataText, IsPrinted, PrintsBack}
+use Rattle.dns_rdata.specs.DataWords.{StandIn, AreSvcbWords, svcb_words, https_words, HasNoWords, AreDataWords, TookDataWords, RefusedDataWords, ReadsDataWords, ReadsDataTextAt, IsPrinted, PrintsBack}
 
 -- words of a service give its fields
 own_stands : (x : SVCB) (words : List (List ℕ)) → AreSvcbWords x words → service_words.stand (svcb_fields x) words
@@ -147,13 +147,15 @@ of_list (x ∷ xs) s P h = subst (λ (l : List (CowStr Global)). P (map cow_str_
 holds_of : (s : IntoIter (CowStr Global) Global) (words : List (List ℕ)) (P : List (List ℕ) → Type 0) → map cow_str_bytes (into_iter_items s) ≡ words → HoldsOfWords into_iter_steps cow_str_bytes s P → P words
 holds_of s words P e h = subst P e (of_list h.taken s P h.holds)
 
-pub each_read : (t : RecordType) (words : List (List ℕ)) (s : IntoIter (CowStr Global) Global) (r : Result RData ParseError) → map cow_str_bytes (into_iter_items s) ≡ words → ReadsDataWords into_iter_steps cow_str_bytes None t r s → Decides (λ v. AreDataWords None t v words) (λ v. v) r
-each_read t words s (Ok v) e h = holds_of s words (λ l. AreDataWords None t v l) e h.words
-each_read t words s (Err y) e h = unless_map y _ _ (λ none. record { none = holds_of s words (λ l. (v : RData) → AreDataWords None t v l → ⊥) e none }) h.none
+pub each_read : (origin : Option DomainName) (t : RecordType) (words : List (List ℕ)) (s : IntoIter (CowStr Global) Global) (r : Result RData ParseError) → map cow_str_bytes (into_iter_items s) ≡ words
+    → ReadsDataWords into_iter_steps cow_str_bytes origin t r s → Decides (λ v. AreDataWords origin t v words) (λ v. v) r
+each_read origin t words s (Ok v) e h = holds_of s words (λ l. AreDataWords origin t v l) e h.words
+each_read origin t words s (Err y) e h = unless_map y _ _ (λ none. record { none = holds_of s words (λ l. (v : RData) → AreDataWords origin t v l → ⊥) e none }) h.none
 
-pub text_read : (t : RecordType) (text : List ℕ) (words : List (List ℕ)) (r : Result RData ParseError) → TextWords words text → Decides (λ v. AreDataWords None t v words) (λ v. v) r → ReadsDataText t r text
-text_read t text words (Ok v) is h = record { words = words; of_text = is; give = h }
-text_read t text words (Err y) is h = unless_map y _ _ (λ none. inr (record { words = words; of_text = is; none = none.none })) h
+pub text_read : (origin : Option DomainName) (t : RecordType) (text : List ℕ) (words : List (List ℕ)) (r : Result RData ParseError) → TextWords words text
+    → Decides (λ v. AreDataWords origin t v words) (λ v. v) r → ReadsDataTextAt origin t r text
+text_read origin t text words (Ok v) is h = record { words = words; of_text = is; give = h }
+text_read origin t text words (Err y) is h = unless_map y _ _ (λ none. inr (record { words = words; of_text = is; none = none.none })) h
 
 unless_not : (e : ParseError) {P : Type 0} → (e ≢ parse.Memory → P) → UnlessMemory e P
 unless_not parse.Memory f = tt
@@ -163,9 +165,10 @@ unless_not (parse.UnsupportedRecordType t) f = f (λ h. absurd cc)
 unless_not parse.AddrParse f = f (λ h. absurd cc)
 unless_not (parse.Proto x) f = f (λ h. absurd cc)
 
-pub no_words_read : (t : RecordType) (text : List ℕ) (e : ParseError) (r : Result RData ParseError) → IsErrAnd r (λ y. y ≡ e) → (e ≢ parse.Memory → NoTextWords text) → ReadsDataText t r text
-no_words_read t text e (Ok v) h none = elim h [ ]
-no_words_read t text e (Err y) h none = rw h (unless_not e (λ n. inl (none n)))
+pub no_words_read : (origin : Option DomainName) (t : RecordType) (text : List ℕ) (e : ParseError) (r : Result RData ParseError) → IsErrAnd r (λ y. y ≡ e) → (e ≢ parse.Memory → NoTextWords text)
+    → ReadsDataTextAt origin t r text
+no_words_read origin t text e (Ok v) h none = elim h [ ]
+no_words_read origin t text e (Err y) h none = rw h (unless_not e (λ n. inl (none n)))
 
 pub refused_early : (t : RecordType) (text : List ℕ) (e : ParseError) (r : Result RData ParseError) → IsErrAnd r (λ y. y ≡ e) → (e ≢ parse.Memory → NoTextWords text)
     → IfErr r (λ y. UnlessMemory y ((y ≡ parse.UnsupportedRecordType t) ⊎ NoTextWords text))

@@ -6,3 +6,4 @@ pub mod DataWords
 pub mod KnownOrders
 pub mod OrderReads
 pub mod Ranks
+pub mod WholeOctets

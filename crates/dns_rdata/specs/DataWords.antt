@@ -127,19 +127,30 @@ pub record PrintsBack (origin : Option DomainName) (t : RecordType) : Type 0 whe
 
 -- ---- a whole text
 
--- the words of the text give the value
-pub record IsDataText (t : RecordType) (text : List ℕ) (v : RData) : Type 0 where
+-- the words of the text give the value, relative names in them completed by the origin
+pub record IsDataTextAt (origin : Option DomainName) (t : RecordType) (text : List ℕ) (v : RData) : Type 0 where
   pub words : List (List ℕ)
   pub of_text : TextWords words text
-  pub give : AreDataWords None t v words
+  pub give : AreDataWords origin t v words
 
 -- these are the words of the text, and they give no value of the type
-pub record GivesNone (t : RecordType) (text : List ℕ) : Type 0 where
+pub record GivesNoneAt (origin : Option DomainName) (t : RecordType) (text : List ℕ) : Type 0 where
   pub words : List (List ℕ)
   pub of_text : TextWords words text
-  pub none : (v : RData) → AreDataWords None t v words → ⊥
+  pub none : (v : RData) → AreDataWords origin t v words → ⊥
 
 -- reads a value exactly where the text has words and they give one
+abbrev pub ReadsDataTextAt : Option DomainName → RecordType → Result RData ParseError → List ℕ → Type 0
+ReadsDataTextAt origin t (Ok v) text = IsDataTextAt origin t text v
+ReadsDataTextAt origin t (Err e) text = UnlessMemory e (NoTextWords text ⊎ GivesNoneAt origin t text)
+
+-- ---- and without an origin
+
+abbrev pub IsDataText : RecordType → List ℕ → RData → Type 0
+IsDataText = IsDataTextAt None
+
+abbrev pub GivesNone : RecordType → List ℕ → Type 0
+GivesNone = GivesNoneAt None
+
 abbrev pub ReadsDataText : RecordType → Result RData ParseError → List ℕ → Type 0
-ReadsDataText t (Ok v) text = IsDataText t text v
-ReadsDataText t (Err e) text = UnlessMemory e (NoTextWords text ⊎ GivesNone t text)
+ReadsDataText = ReadsDataTextAt None

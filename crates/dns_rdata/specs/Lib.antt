@@ -9,6 +9,7 @@ pub mod Order
 pub mod Ties
 pub mod Refusals
 pub mod Texts
+pub mod WholeOctets
 pub use Rattle.dns_fields.specs.Octets
 pub use Rattle.dns_fields.specs.Labels
 pub use Rattle.dns_fields.specs.Names

@@ -1,14 +1,13 @@
 //! Canonical octets, one after the other.
 
-ghost use Rattle.std.specs.Prelude.{◌≡◌, ◌+◌, ◌≤◌, ℕ, true, [], ◌∷◌, if◌then◌else◌, is_some, IfNone, IfSome, MatchOption, slice_get};
+ghost use Rattle.std.specs.Prelude.{◌≡◌, ◌↔◌, ◌+◌, ◌≤◌, ℕ, true, IsTrue, [], ◌∷◌, if◌then◌else◌, is_some, IfNone, IfSome, MatchOption, slice_get};
 ghost use Rattle.std.specs.Ordering.{nat_cmp};
 ghost use Rattle.std.specs.Option.{option_copied};
 ghost use Rattle.std.specs.Cmp.Lexicographic.{slice_cmp};
 ghost use Rattle.std.specs.Iterator.{YieldsFirstBy, item_count};
-ghost use Rattle.dns_fields.specs.Fields.{all_emittable};
-ghost use Rattle.dns_pieces.specs.Runs.{common};
+ghost use Rattle.dns_pieces.specs.Runs.{common, Copies};
 ghost use Rattle.dns_pieces.specs.Steps.{GivesStep, CountsPasses, CountsChoices};
-ghost use Rattle.dns_rdata.specs.Data.{fields_of, data_octets};
+ghost use Rattle.dns_rdata.specs.Data.{data_octets, IsEmittable};
 ghost use Rattle.dns_rdata.specs.Cursor.{can_emit, data_left, data_windows, data_options, data_options_left, IsUncounted, DataAt, DataKept, IsAt, KeepsAt, Chooses, Advances, StepsOn, RefillsBy, Skips};
 
 use crate::record_data::RData;
@@ -95,9 +94,11 @@ impl RData {
         }
     }
 
-    // Whether it can be emitted.
-    pub(crate) fn is_emittable(&self) -> bool
-        ensures { result ≡ all_emittable (fields_of self.now).kinds (fields_of self.now).values }
+    /// Whether the value can be emitted. Each value that was read can; of what a caller built, a string, a tag or a protocol may
+    /// be too long, the keys of parameters may not rise, or a prefix may ask for more octets than its address has. Takes no
+    /// memory.
+    pub fn is_emittable(&self) -> bool
+        ensures { IsTrue result ↔ IsEmittable self.now }
     {
         match self {
             RData::CAA(x) => caa_is_emittable(x),
@@ -272,6 +273,49 @@ impl<'a> CanonicalOctets<'a> {
                 &mut self.passes,
             ) {
                 None => return None,
+                Some((step, part, item)) => {
+                    self.step = step;
+                    self.part = part;
+                    self.item = item;
+                }
+            }
+        }
+    }
+
+    /// Copies the next octets to the front of the buffer, as many as there are and fit, and answers how many these are. Behind
+    /// them the buffer is as it was, and the cursor gives what follows them: where the buffer was filled, there may be more.
+    /// What lies in one piece is copied at once.
+    ///
+    /// ```rust
+    /// fn canonical_start(data: &RData, buffer: &mut [u8]) -> usize {
+    ///     data.canonical_octets().copy_to(buffer)
+    /// }
+    /// ```
+    pub fn copy_to(&mut self, buffer: &mut [u8]) -> usize
+        ensures octets { Copies result self.old.octets self.new.octets buffer.old buffer.new }
+        ensures taken { self.new.taken ≡ self.old.taken + result }
+        ensures choices { Chooses self.old self.new }
+        ensures passes { self.old.passes + self.old.windows ≡ self.new.passes + self.new.windows }
+    {
+        let mut filled = 0usize;
+        'steps: loop {
+            let n = self.run.copy_to(&mut buffer[filled..]);
+            self.taken.add(n);
+            filled += n;
+            if filled == buffer.len() {
+                return filled;
+            }
+            match refill(
+                &mut self.run,
+                self.data,
+                self.step,
+                self.part,
+                self.item,
+                &mut self.heads,
+                &mut self.choices,
+                &mut self.passes,
+            ) {
+                None => return filled,
                 Some((step, part, item)) => {
                     self.step = step;
                     self.part = part;

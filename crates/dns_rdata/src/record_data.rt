@@ -1,14 +1,16 @@
 //! The data of a record of any type.
 
-ghost use Rattle.std.specs.Prelude.{◌≡◌, ◌≢◌, ◌+◌, ◌-◌, ◌<◌, ℕ, List, length as size, IsTrue, ◌↔◌, Some, Err, IfOk, IfErr, OnOk};
+ghost use Rattle.std.specs.Prelude.{◌≡◌, ◌≢◌, ◌+◌, ◌-◌, ◌<◌, ◌++◌, ℕ, List, length as size, IsTrue, ◌↔◌, Some, Err, IfOk, IfErr, OnOk};
 ghost use Rattle.dns_types.specs.RecordTypes.{number_of};
 ghost use Rattle.dns_names_wire.specs.Words.{StaysBehind, UnlessMemory, EmitsAs, Extends, Keeps, IsMessage};
 ghost use Rattle.dns_rdata.specs.Data.{IsNeverRead};
 ghost use Rattle.dns_rdata.specs.Refusals.{IsRefusal, by_length as answer_by_length};
 
 use dns_names_wire::{
-    BinDecoder, BinEncodable, BinEncoder, DecodeError, ProtoError, RecordType, Restrict,
+    BinDecoder, BinEncodable, BinEncoder, DecodeError, ProtoError, RDataEncoding, RecordType,
+    Restrict,
 };
+use dns_pieces::emit_in;
 use dns_rdata_base::{
     A, AAAA, ANAME, CNAME, HINFO, MX, NAPTR, NS, NULL, OPENPGPKEY, PTR, RecordDataDecodable, SOA,
     SRV, TXT,
@@ -370,7 +372,60 @@ impl BinEncodable for RData {
 }
 
 impl RData {
-    ghost use Rattle.dns_rdata.specs.Data.{fields_of, mode_for};
+    ghost use Rattle.dns_rdata.specs.Data.{IsEmittable, fields_of, mode_for};
+    ghost use Rattle.dns_rdata.specs.Laws.{ReadsBack};
+    ghost use Rattle.dns_rdata.specs.WholeOctets.{whole_data};
+
+    /// Appends the octets of the value, its names whole and with their letters, whatever the mode of the encoder: no name
+    /// ends by a pointer, so the octets mean the same at any place of any message. Refused as by
+    /// [`emit`](BinEncodable::emit). After a refusal the octets that were there stand, and the encoder is in the mode that it
+    /// was in, refused or not.
+    ///
+    /// ```rust
+    /// fn octets_of(alloc: Global, data: &RData, octets: &mut Vec<u8>) -> ProtoResult<()>
+    ///     requires { octets.old.items ≡ [] }
+    /// {
+    ///     let mut encoder = BinEncoder::new(alloc, octets);
+    ///     data.emit_whole(&mut encoder)?;
+    ///     encoder.into_bytes();
+    ///     Ok(())
+    /// }
+    /// ```
+    pub fn emit_whole(&self, encoder: &mut BinEncoder<'_>) -> Result<(), ProtoError>
+        ensures emits { EmitsAs RDataEncoding.Other (fields_of self.now).kinds (fields_of self.now).values result encoder.old encoder.new }
+        // What is appended depends on the value alone.
+        ensures whole { OnOk result (encoder.new.octets ≡ encoder.old.octets ++ whole_data self.now) }
+        ensures keeps { Keeps encoder.old encoder.new }
+        // What was read and is appended reads back as an equal value, behind any octets.
+        ensures again { OnOk result (ReadsBack self.now encoder.old encoder.new) }
+        ensures extends { Extends encoder.old encoder.new }
+        ensures fits { OnOk result (IsEmittable self.now) }
+        ensures unfit { IfErr result (λ e. IsMessage e → ¬ (IsEmittable self.now)) }
+    {
+        let earlier = encoder.with_rdata_behavior(RDataEncoding::Other);
+        let outcome = self.emit_uncompressed(encoder);
+        encoder.with_rdata_behavior(earlier);
+        // Called for its clauses: what was written is octets.
+        let _written = encoder.len();
+        outcome
+    }
+
+    // Appends the octets of the value, its names whole.
+    fn emit_uncompressed(&self, encoder: &mut BinEncoder<'_>) -> Result<(), ProtoError>
+        requires { encoder.old.mode ≡ RDataEncoding.Other }
+        ensures { EmitsAs RDataEncoding.Other (fields_of self.now).kinds (fields_of self.now).values result encoder.old encoder.new }
+    {
+        match self {
+            RData::CNAME(x) => return emit_in(RDataEncoding::Other, x, encoder),
+            RData::MX(x) => return emit_in(RDataEncoding::Other, x, encoder),
+            RData::NAPTR(x) => return emit_in(RDataEncoding::Other, x, encoder),
+            RData::NS(x) => return emit_in(RDataEncoding::Other, x, encoder),
+            RData::PTR(x) => return emit_in(RDataEncoding::Other, x, encoder),
+            RData::SOA(x) => return emit_in(RDataEncoding::Other, x, encoder),
+            RData::SRV(x) => return emit_in(RDataEncoding::Other, x, encoder),
+            _ => return self.emit_by_type(encoder),
+        }
+    }
 
     // Appends the octets of the value.
     fn emit_by_type(&self, encoder: &mut BinEncoder<'_>) -> Result<(), ProtoError>
@@ -588,7 +643,7 @@ impl fmt::Display for RData {
     /// The text of the record; `UPDATE` for no data of an update, and nothing for no data of type 0. OPT has no text:
     /// it is refused.
     ///
-    /// It is for people, as in `hickory-proto`. Some texts, read again, are refused or silently give another value: of TXT
+    /// It is for people, as in `hickory-proto`; `dns_rdata_zone::ZoneText` prints the form that name servers read. Some texts, read again, are refused or silently give another value: of TXT
     /// and HINFO whose strings have blanks, are empty or have `"`, `;`, `(` or `\`; of CAA and NAPTR with `"` and `\`; of
     /// SVCB and HTTPS with keys of no name (`key667=`), `no-default-alpn=` or `dohpath=""`; of CERT whose type or algorithm
     /// prints a name; of names with a `;` in a label. To keep a value, keep its octets (`emit`); `from_tokens` says which

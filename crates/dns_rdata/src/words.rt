@@ -5,7 +5,7 @@ ghost use Rattle.std.specs.Cow.{cow_str_bytes};
 ghost use Rattle.std.specs.Iterator.{IsFinite};
 ghost use Rattle.std.specs.Option.{option_copied};
 ghost use Rattle.dns_rdata.specs.Data.{type_of};
-ghost use Rattle.dns_rdata.specs.DataWords.{ReadsDataWords, ReadsDataText, AreDataWords, PrintsBack, HasNoWords};
+ghost use Rattle.dns_rdata.specs.DataWords.{ReadsDataWords, ReadsDataText, ReadsDataTextAt, AreDataWords, PrintsBack, HasNoWords};
 ghost use Rattle.dns_text.specs.TextWords.{NoTextWords};
 ghost use Rattle.dns_words.specs.Reads.{Decides, UnlessMemory};
 
@@ -121,20 +121,42 @@ impl RData {
         ensures unsupported { HasNoWords record_type
             → IfErr result (λ e. UnlessMemory e ((e ≡ ParseError.UnsupportedRecordType record_type) ⊎ NoTextWords text.now)) }
     {
+        RData::try_from_str_with_origin(alloc, record_type, text, None)
+    }
+
+    /// The same with an origin, whose labels and mark a relative name in the text gets.
+    ///
+    /// ```rust
+    /// fn parse_mail_of(alloc: Global, origin: &Name) -> Result<RData, ParseError> {
+    ///     RData::try_from_str_with_origin(alloc, RecordType::MX, "10 mail", Some(origin))
+    /// }
+    /// ```
+    pub fn try_from_str_with_origin(
+        alloc: Global,
+        record_type: RecordType,
+        text: &str,
+        origin: Option<&Name>,
+    ) -> Result<RData, ParseError>
+        ensures reads { ReadsDataTextAt (option_copied origin.entry) record_type result text.now }
+        ensures kind { IfOk result (λ v. type_of v ≡ record_type) }
+        ensures unsupported { HasNoWords record_type
+            → IfErr result (λ e. UnlessMemory e ((e ≡ ParseError.UnsupportedRecordType record_type) ⊎ NoTextWords text.now)) }
+    {
         let words = text_words(alloc, text)?;
-        read_each(alloc, record_type, words)
+        read_each(alloc, record_type, words, origin)
     }
 }
 
-// Reads the words of a list, without an origin.
+// Reads the words of a list.
 fn read_each(
     alloc: Global,
     record_type: RecordType,
     words: Vec<CowStr<'_, Global>>,
+    origin: Option<&Name>,
 ) -> Result<RData, ParseError>
-    ensures reads { Decides (λ v. AreDataWords None record_type v (map cow_str_bytes words.entry.items)) (λ v. v) result }
+    ensures reads { Decides (λ v. AreDataWords (option_copied origin.entry) record_type v (map cow_str_bytes words.entry.items)) (λ v. v) result }
     ensures kind { IfOk result (λ v. type_of v ≡ record_type) }
     ensures unsupported { HasNoWords record_type → result ≡ Err (ParseError.UnsupportedRecordType record_type) }
 {
-    RData::from_tokens(alloc, record_type, words.into_iter(), None)
+    RData::from_tokens(alloc, record_type, words.into_iter(), origin)
 }

@@ -2,4 +2,3 @@ pub mod Equalities
 pub mod Fillings
 pub mod Whole
 pub mod Readings
-pub mod Words

@@ -10,13 +10,13 @@ use Rattle.dns_fields.specs.Names.{IsNameIn}
 use Rattle.dns_names_wire.specs.Words.{Because}
 use Rattle.dns_types.specs.declared.error.ProtoError.{ProtoError}
 use Rattle.dns_fields.specs.Fields.{Wrote, canonical, all_emittable}
-use Rattle.dns_text.specs.TextWords.{TextWords, NoTextWords}
+use Rattle.dns_text.specs.TextWords.{NoTextWords}
 use Rattle.dns_types.specs.declared.error.DecodeError.{DecodeError}
 use Rattle.dns_types.specs.declared.error.DecodeError.TheVariants as decode
 use Rattle.dns_types.specs.declared.record_type.RecordType.{RecordType}
 use Rattle.dns_rdata.specs.declared.record_data.RData.{RData}
 use Rattle.dns_rdata.specs.Data.{Fills, NoValue, fields_of, data_octets, IsEmittable}
-use Rattle.dns_rdata.specs.DataWords.{AreDataWords}
+use Rattle.dns_rdata.specs.DataWords.{IsDataTextAt, GivesNoneAt}
 use Rattle.dns_rdata.specs.Laws.{HasEqual, ReadsCanonical}
 use Rattle.dns_rdata.specs.Texts.{data_text}
 use Rattle.dns_rdata_c.specs.declared.check.Refusal.{Refusal}
@@ -126,21 +126,9 @@ pub record HasEquality (t : RecordType) (m : List ℕ) (p n : ℕ) (m' : List �
 
 -- ---- data from a text
 
--- the words of the text give the value, relative names in them completed by the origin
-pub record IsTextOf (origin : Option DomainName) (t : RecordType) (text : List ℕ) (v : RData) : Type 0 where
-  pub words : List (List ℕ)
-  pub of_text : TextWords words text
-  pub give : AreDataWords origin t v words
-
--- these are the words of the text, and they give no value
-pub record GivesNothing (origin : Option DomainName) (t : RecordType) (text : List ℕ) : Type 0 where
-  pub words : List (List ℕ)
-  pub of_text : TextWords words text
-  pub none : (v : RData) → AreDataWords origin t v words → ⊥
-
 -- the text is of no value of the type
 abbrev pub IsNoText : Option DomainName → RecordType → List ℕ → Type 0
-IsNoText origin t text = NoTextWords text ⊎ GivesNothing origin t text
+IsNoText origin t text = NoTextWords text ⊎ GivesNoneAt origin t text
 
 -- ---- origins
 
@@ -157,7 +145,7 @@ pub record HasTextData (octets : List ℕ) (t : RecordType) (text : List ℕ) (P
   pub origin : Option DomainName
   pub is_origin : IsOrigin octets origin
   pub value : RData
-  pub is_text : IsTextOf origin t text value
+  pub is_text : IsDataTextAt origin t text value
   pub holds : P value
 
 -- the octets are an origin, and the text is of no value

@@ -1,6 +1,6 @@
 //! Canonical octets that are copied into a buffer.
 
-ghost use Rattle.std.specs.Prelude.{◌≡◌, ◌≢◌, ◌<◌, ◌⊎◌, length as size, slice_set};
+ghost use Rattle.std.specs.Prelude.{◌≡◌, ◌≢◌, ◌<◌, ◌⊎◌, length as size};
 ghost use Rattle.dns_rdata.specs.Data.{data_octets};
 ghost use Rattle.dns_rdata_c.specs.Buffers.{IsPut};
 
@@ -10,16 +10,8 @@ use dns_rdata::RData;
 // The most octets that the data of a record has (RFC 1035, 3.2.1).
 const MAX_OCTETS: usize = 65535;
 
-// Puts an octet at a place of the buffer, if it has that place.
-#[inline]
-#[tactic(auto, using(crate::proofs::Fillings::set_past))]
-fn put_at(out: &mut [u8], place: usize, octet: u8)
-    ensures { out.new ≡ slice_set out.old place octet }
-{
-    if place < out.len() {
-        out[place] = octet;
-    }
-}
+// How many octets are counted at once that are put nowhere.
+const COUNTED: usize = 256;
 
 /// Puts the canonical octets of a value at the front of the buffer where they fit, and tells their number. Where they do not
 /// fit, the buffer holds those that do. Takes no memory.
@@ -31,13 +23,17 @@ pub fn put_canonical(value: &RData, out: &mut [u8], count: &mut usize) -> u32
     ensures untold { result ≢ OK → result ≢ BUFFER → count.new ≡ count.old }
 {
     let mut left = value.canonical_octets();
-    let mut len = 0;
-    'octets: while let Some(octet) = left.next() {
-        if len == MAX_OCTETS {
+    let mut len = left.copy_to(out);
+    let mut counted = [0; COUNTED];
+    'pieces: loop {
+        if len > MAX_OCTETS {
             return TOO_LONG;
         }
-        put_at(out, len, octet);
-        len += 1;
+        let n = left.copy_to(&mut counted);
+        if n == 0 {
+            break;
+        }
+        len += n;
     }
     *count = len;
     if len > out.len() { BUFFER } else { OK }

@@ -3,9 +3,6 @@
 //!
 //! Each call takes octets, gives what it makes in buffers of the caller, keeps no pointer, and answers a status (`status`).
 //! `c/include/dns_rdata.h` declares the calls and is their document for C.
-//!
-//! `emitting`, `filling` and `values` hold what `dns_rdata` itself does not have: a value with its names whole, canonical octets
-//! that are copied into a buffer, and a text that is read with an origin.
 #![tactic(auto)]
 
 pub mod canonical;
@@ -14,10 +11,13 @@ pub mod compare;
 pub mod display_text;
 mod emitting;
 mod filling;
+pub mod names;
 pub mod parse;
+pub mod parts;
 mod putting;
 mod reading;
 pub mod status;
+pub mod text;
 pub mod types;
 mod values;
 pub mod wire;

@@ -32,6 +32,9 @@ pub const NOT_UTF8: u32 = 7;
 /// The text gives a value whose octets are not read as data of the type.
 pub const UNREAD: u32 = 8;
 
+/// There is no name, option or parameter of this number.
+pub const ABSENT: u32 = 9;
+
 /// From this number on, octets are no data of the type.
 pub const REFUSED: u32 = 16;
 

@@ -12,7 +12,7 @@ pub mod Services
 pub mod Spellings
 pub mod Strings
 pub mod TypeWords
-pub mod WholeOctets
+pub use Rattle.dns_rdata.specs.WholeOctets
 pub mod Words
 pub mod ZoneGives
 pub mod ZoneReads

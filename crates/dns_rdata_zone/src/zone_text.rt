@@ -2,8 +2,7 @@
 
 ghost use Rattle.std.specs.Prelude.{◌≡◌, Some, OnOk, None};
 ghost use Rattle.std.specs.Fmt.{DisplaysOnOk, DisplaysStyledOnOk};
-ghost use Rattle.dns_fields.specs.Fields.{all_emittable};
-ghost use Rattle.dns_rdata.specs.Data.{fields_of, IsEmittable};
+ghost use Rattle.dns_rdata.specs.Data.{IsEmittable};
 ghost use Rattle.dns_rdata_zone.specs.ZoneTexts.{zone_text};
 
 use crate::generic::{Generic, GenericName};
@@ -13,27 +12,7 @@ use crate::options::ZoneOptions;
 use crate::records::{ZoneCaa, ZoneCsync, ZoneHinfo, ZoneNaptr, ZoneSoa, ZoneTxt};
 use crate::services::write_service;
 use dns_rdata::RData;
-use dns_rdata_base::steps::{hinfo_is_emittable, naptr_is_emittable, txt_is_emittable};
-use dns_rdata_options::steps::opt_is_emittable;
-use dns_rdata_service::steps::svcb_is_emittable;
-use dns_rdata_sets::steps::caa_is_emittable;
 use std::fmt;
-
-// Whether the data can be emitted.
-fn is_emittable(data: &RData) -> bool
-    ensures { result ≡ all_emittable (fields_of «data».now).kinds (fields_of «data».now).values }
-{
-    match data {
-        RData::CAA(x) => caa_is_emittable(x),
-        RData::HINFO(x) => hinfo_is_emittable(x),
-        RData::HTTPS(x) => svcb_is_emittable(&x.0),
-        RData::NAPTR(x) => naptr_is_emittable(x),
-        RData::OPT(x) => opt_is_emittable(x),
-        RData::SVCB(x) => svcb_is_emittable(x),
-        RData::TXT(x) => txt_is_emittable(x),
-        _ => true,
-    }
-}
 
 /// Record data that prints as the data of a record in a zone file, in the form that name servers read (RFC 1035, 5.1; RFC
 /// 9460, 2.1; the RFCs of the types). A value that has no such text, and each of a type that has none, prints in the form
@@ -69,7 +48,7 @@ impl fmt::Display for ZoneText<'_> {
         ensures emittable { OnOk result (IsEmittable self.now.0.now) }
     {
         let data = self.0;
-        if !is_emittable(data) {
+        if !data.is_emittable() {
             return Err(fmt::Error);
         }
         match data {

@@ -1,5 +1,5 @@
-use Rattle.std.proofs.Common.{sym, ◌∙◌, arith}
-use Rattle.dns_rdata.proofs.CursorSteps.{begins_at, begins_kept, begins_whole, begins_none, counts_whole, counts_none}
+use Rattle.std.proofs.Common.{arith}
+use Rattle.dns_rdata.proofs.CursorSteps.{cannot, begins_at, begins_kept, begins_whole, begins_none, counts_whole, counts_none}
 use Rattle.dns_rdata.proofs.record_data.RData.canonical_octets.Goals as goal
 use Rattle.dns_rdata.proofs.record_data.RData.canonical_octets.Goals.{then-is_emittable, else-is_emittable}
 
@@ -7,7 +7,7 @@ pub invariant_of-result : goal.invariant_of-result
 invariant_of-result c = (
   omega arith,
   elim c.if-is_emittable.branch [
-    | then-is_emittable w ↦ rw w.data-is (begins_at c.args.self.now (sym c.is_emittable.ensures ∙ w.if-is_emittable.true))
+    | then-is_emittable w ↦ rw w.data-is (begins_at c.args.self.now (c.is_emittable.ensures.0 w.if-is_emittable.true))
     | else-is_emittable w ↦ rw w.data-is tt
   ],
   elim c.if-is_emittable.branch [
@@ -18,24 +18,24 @@ invariant_of-result c = (
 
 pub returns-clause-octets : goal.returns-clause-octets
 returns-clause-octets c = elim c.if-is_emittable.branch [
-  | then-is_emittable w ↦ rw (w.data-is, c.new.ensures) (begins_whole c.args.self.now (sym c.is_emittable.ensures ∙ w.if-is_emittable.true))
-  | else-is_emittable w ↦ rw (w.data-is, c.new.ensures) (begins_none c.args.self.now (sym c.is_emittable.ensures ∙ w.if-is_emittable.false))
+  | then-is_emittable w ↦ rw (w.data-is, c.new.ensures) (begins_whole c.args.self.now (c.is_emittable.ensures.0 w.if-is_emittable.true))
+  | else-is_emittable w ↦ rw (w.data-is, c.new.ensures) (begins_none c.args.self.now (cannot _ _ c.is_emittable.ensures w.if-is_emittable.false))
 ]
 
 pub returns-clause-options : goal.returns-clause-options
 returns-clause-options c = elim c.if-is_emittable.branch [
-  | then-is_emittable w ↦ rw w.data-is (counts_whole c.args.self.now (sym c.is_emittable.ensures ∙ w.if-is_emittable.true)).0
-  | else-is_emittable w ↦ rw w.data-is (counts_none c.args.self.now (sym c.is_emittable.ensures ∙ w.if-is_emittable.false)).0
+  | then-is_emittable w ↦ rw w.data-is (counts_whole c.args.self.now (c.is_emittable.ensures.0 w.if-is_emittable.true)).0
+  | else-is_emittable w ↦ rw w.data-is (counts_none c.args.self.now (cannot _ _ c.is_emittable.ensures w.if-is_emittable.false)).0
 ]
 
 pub returns-clause-all : goal.returns-clause-all
 returns-clause-all c = elim c.if-is_emittable.branch [
-  | then-is_emittable w ↦ rw w.data-is (counts_whole c.args.self.now (sym c.is_emittable.ensures ∙ w.if-is_emittable.true)).1
-  | else-is_emittable w ↦ rw w.data-is (counts_none c.args.self.now (sym c.is_emittable.ensures ∙ w.if-is_emittable.false)).1
+  | then-is_emittable w ↦ rw w.data-is (counts_whole c.args.self.now (c.is_emittable.ensures.0 w.if-is_emittable.true)).1
+  | else-is_emittable w ↦ rw w.data-is (counts_none c.args.self.now (cannot _ _ c.is_emittable.ensures w.if-is_emittable.false)).1
 ]
 
 pub returns-clause-windows : goal.returns-clause-windows
 returns-clause-windows c = elim c.if-is_emittable.branch [
-  | then-is_emittable w ↦ rw w.data-is (counts_whole c.args.self.now (sym c.is_emittable.ensures ∙ w.if-is_emittable.true)).2
-  | else-is_emittable w ↦ rw w.data-is (counts_none c.args.self.now (sym c.is_emittable.ensures ∙ w.if-is_emittable.false)).2
+  | then-is_emittable w ↦ rw w.data-is (counts_whole c.args.self.now (c.is_emittable.ensures.0 w.if-is_emittable.true)).2
+  | else-is_emittable w ↦ rw w.data-is (counts_none c.args.self.now (cannot _ _ c.is_emittable.ensures w.if-is_emittable.false)).2
 ]

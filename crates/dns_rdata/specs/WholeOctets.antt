@@ -1,8 +1,10 @@
--- The octets of record data as a zone file tells them: names whole and with their letters, options in their order.
+-- The octets of record data without pointers: names whole and with their letters, options in their order.
 use Rattle.std.specs.Prelude.{ℕ, List, [], ◌∷◌, ◌++◌}
 use Rattle.dns_fields.specs.Fields.{Kind, Value, Values, Name, Options, field_octets, option_pieces}
 use Rattle.dns_fields.specs.Labels.{DomainName, wire}
 use Rattle.dns_fields.specs.Pieces.{pieces}
+use Rattle.dns_rdata.specs.declared.record_data.RData.{RData}
+use Rattle.dns_rdata.specs.Data.{fields_of}
 
 -- a name's octets, uncompressed, with its letters (RFC 1035, 3.1)
 abbrev pub name_octets : DomainName → List ℕ
@@ -18,3 +20,7 @@ whole_octets k v = field_octets k v
 abbrev pub all_whole : (kinds : List Kind) → Values kinds → List ℕ
 all_whole [] vs = []
 all_whole (k ∷ kinds) vs = whole_octets k vs.0 ++ all_whole kinds vs.1
+
+-- the octets of a value without pointers, its names with their letters
+abbrev pub whole_data : RData → List ℕ
+whole_data v = all_whole (fields_of v).kinds (fields_of v).values
