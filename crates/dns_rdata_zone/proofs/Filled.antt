@@ -1,16 +1,17 @@
 -- What was read from a message is told by its text.
-use Rattle.std.proofs.Common.{◌≡◌, ℕ, zero, suc, ◌+◌, ◌*◌, ◌/◌, ◌%◌, ◌<◌, ◌^◌, List, [], ◌∷◌, ◌++◌, map, length, inl, inr, ◌⊎◌, refl, sym, ◌∙◌, ap, subst, arith}
+use Rattle.std.proofs.Common.{◌≡◌, Bool, true, cond, ℕ, zero, suc, ◌+◌, ◌*◌, ◌/◌, ◌%◌, ◌<◌, ◌^◌, List, [], ◌∷◌, ◌++◌, map, length, inl, inr, ◌⊎◌, refl, sym, ◌∙◌, ap, subst, arith}
 use Rattle.std.specs.Prelude.{flat_map, slice_index}
 use Rattle.std.specs.List.{AllByRecursion}
 use Rattle.std.specs.Net.Addr.{IsIpv4Addr, IsIpv6Addr, ipv6_segments, octets_of}
-use Rattle.dns_fields.specs.Fields.{Kind, Value, Values, Name, Options, Field, Stands, WholeOptions, CutOptions, option_pieces}
+use Rattle.dns_fields.specs.Fields.{Kind, Value, Values, Name, Options, Field, Stands, WholeOptions, CutOptions, option_pieces, all_emittable, canonical}
 use Rattle.dns_fields.specs.Labels.{DomainName, AreLabels, wire}
 use Rattle.dns_fields.specs.Octets.{AreOctets, At}
 use Rattle.dns_fields.specs.Pieces.{Numbered, piece, pieces, string, as_piece, AllHeld, IsPiece, OptionValue, Subnet, Plain, option_octets, OptionHeld, ParameterHeld, IsEmittable, IsBody}
 use Rattle.dns_fields.proofs.OctetLaws.{AreOctets-nil, AreOctets-cons, AreOctets-head, AreOctets-tail, AreOctets-same, AreOctets-append, AreOctets-front, AreOctets-back, AreOctets-at, labels_octets, piece_octets, piece_body, field_octets_are}
 use Rattle.dns_fields.proofs.Stays.{labels_stand}
 use Rattle.dns_types.specs.declared.record_type.RecordType.{RecordType}
-use Rattle.dns_rdata.specs.Data.{FieldsOf, fields_of, Fills}
+use Rattle.dns_rdata.specs.Data.{FieldsOf, fields_of, shape, data_octets, Fills, IsValue}
+use Rattle.dns_rdata.proofs.DataLaws.{fills_emittable}
 use Rattle.dns_rdata.specs.declared.record_data.RData.{RData}
 use Rattle.dns_rdata.specs.declared.record_data.RData.TheVariants as rdata
 use Rattle.dns_rdata_base.specs.declared.a.A.{A}
@@ -24,13 +25,15 @@ use Rattle.dns_rdata_service.specs.SvcParamValue.{value_of, a_octets, aaaa_octet
 use Rattle.dns_rdata_service.specs.declared.svcb.SVCB.{SVCB}
 use Rattle.dns_rdata_service.specs.declared.svcb.value.SvcParamValue.{SvcParamValue}
 use Rattle.dns_rdata_service.specs.declared.svcb.value.SvcParamValue.TheVariants.{Mandatory, Alpn, NoDefaultAlpn, Port, Ipv4Hint, EchConfigList, Ipv6Hint, DohPath, Unknown}
-use Rattle.dns_rdata_zone.specs.Readable.{IsWritable, IsWritableTlsa, IsWritableValue, IsWritableParameter, IsWritableService, FieldsFit, IsReadable}
-use Rattle.dns_rdata_zone.specs.WholeOctets.{whole_octets, all_whole}
-use Rattle.dns_rdata_zone.specs.ZoneReads.{zone_read, FillsRead, FillsTell}
+use Rattle.dns_rdata_zone.specs.Readable.{IsString, IsWritable, IsWritableTlsa, IsWritableValue, IsWritableParameter, IsWritableService, FieldsFit, IsReadable}
+use Rattle.dns_rdata.specs.WholeOctets.{whole_octets, all_whole}
+use Rattle.dns_rdata_zone.specs.ZoneGives.{AreDataOf, TextGives}
+use Rattle.dns_rdata_zone.specs.ZoneReads.{FillsGive, FillsTell}
 use Rattle.dns_rdata_zone.specs.ZoneTexts.{zone_text, zone_octets}
-use Rattle.dns_rdata_zone.proofs.Encodings.{bytes_of}
-use Rattle.dns_rdata_zone.proofs.FilledLengths.{all_short, few_fields}
-use Rattle.dns_rdata_zone.proofs.TextsRead.{texts_read}
+use Rattle.dns_rdata_zone.proofs.RowForms.{bytes_of}
+use Rattle.dns_rdata_zone.proofs.Again.{own_fields, same_length}
+use Rattle.dns_rdata_zone.proofs.FilledLengths.{all_short, few_fields, body_short}
+use Rattle.dns_rdata_zone.proofs.TextsGive.{texts_give, texts_tell}
 
 -- ---- the octets of fields, names whole
 
@@ -138,7 +141,9 @@ parameters_fit (x ∷ xs) (p ∷ ps) fit h o =
     let same = h.0 in
     let held = h.1 in
     let body = piece_body x (AreOctets-front (piece x) (pieces xs) o) in
-    ((omega (arith, number, same), value_fits p.1 x.1 held.1 held.2 body), parameters_fit xs ps fit.1 h.2 (AreOctets-back (piece x) (pieces xs) o))
+    let few = body_short x.1 (value_of p.1) held.2 in
+    let size = fit.0.1 in
+    ((omega (arith, number, same), value_fits p.1 x.1 held.1 held.2 body, omega (arith, few, size)), parameters_fit xs ps fit.1 h.2 (AreOctets-back (piece x) (pieces xs) o))
 
 service_fits : (m : List ℕ) (p : ℕ) (x : SVCB) (e : ℕ) → AreOctets m → Stands m p svcb_shape (svcb_fields x) e → IsWritableService x
 service_fits m p x e a h =
@@ -214,8 +219,47 @@ readable {m} {p} {n} {t} {v} f = record {
   fields = fields_fit m p v (p + n) f.window.octets (own_stands f);
 }
 
-pub fills_read : FillsRead
-fills_read m p n t v f = ap (λ (s : RecordType). zone_read s (zone_text v)) (sym f.value.type) ∙ texts_read v (readable f)
+-- ---- the value is that of its octets alone
+
+by_fields : (t : RecordType) (v : RData) (values : Values (shape t)) → IsValue t values v → zone_octets v ≡ all_whole (shape t) values
+by_fields t v values h = ap (λ (x : FieldsOf). all_whole x.kinds x.values) h.fields
+
+data_of : (m : List ℕ) (p n : ℕ) (t : RecordType) (v : RData) (f : Fills m p n t v) → length (zone_octets v) < 65536 → AreDataOf (zone_octets v) t v
+data_of m p n t v f small =
+    let e = by_fields t v f.values f.value in
+    let own = all_whole (shape t) f.values in
+    let few : length own < 65536 = subst (λ (o : List ℕ). length o < 65536) e small in
+    subst (λ (o : List ℕ). AreDataOf o t v) (sym e) (record {
+      short = few;
+      fills = record {
+        values = f.values;
+        window = record {
+          octets = all_are m p (shape t) f.values (p + n) f.window.octets f.window.stands;
+          short = few;
+          within = omega arith;
+          stands = own_fields m p [] (shape t) f.values (p + n) f.window.stands;
+          holds = f.window.holds;
+        };
+        value = f.value;
+      };
+    })
+
+if_emittable : (b : Bool) (octets : List ℕ) → b ≡ true → cond b octets [] ≡ octets
+if_emittable b octets h = rw h refl
+
+as_long : (m : List ℕ) (p n : ℕ) (t : RecordType) (v : RData) → Fills m p n t v → length (data_octets v) ≡ length (zone_octets v)
+as_long m p n t v f =
+    let kinds = (fields_of v).kinds in
+    let values = (fields_of v).values in
+    ap length (if_emittable (all_emittable kinds values) (canonical kinds values) (fills_emittable f)) ∙ same_length kinds values
+
+pub fills_give : FillsGive
+fills_give origin m p n t v f small = record {
+  octets = zone_octets v;
+  gives = subst (λ (s : RecordType). TextGives origin s (zone_octets v) (zone_text v)) f.value.type (texts_give origin v (readable f) small);
+  data = data_of m p n t v f small;
+  whole = λ unknown named. as_long m p n t v f;
+}
 
 pub fills_tell : FillsTell
-fills_tell m m' p p' n n' t v w f g same = sym (fills_read m p n t v f) ∙ ap (zone_read t) same ∙ fills_read m' p' n' t w g
+fills_tell m m' p p' n n' t v w f g same = texts_tell v w (readable f) (readable g) (f.value.type ∙ sym g.value.type) same

@@ -12,7 +12,7 @@ use Rattle.dns_fields.proofs.FieldLaws.{field_inside}
 use Rattle.dns_rdata.specs.Data.{fields_of}
 use Rattle.dns_rdata.specs.declared.record_data.RData.{RData}
 use Rattle.dns_rdata.specs.declared.record_data.RData.TheVariants as rdata
-use Rattle.dns_rdata_zone.specs.WholeOctets.{whole_octets, all_whole}
+use Rattle.dns_rdata.specs.WholeOctets.{whole_octets, all_whole}
 
 -- ---- pieces: a value has no more octets than those that hold it
 
@@ -50,7 +50,7 @@ option_short : (k : ℕ) (d : List ℕ) (v : OptionValue) → OptionHeld k d v �
 option_short k d (Subnet f s c a) h = omega (arith, ap length h.3, length-append (option_octets (Subnet f s c a)) h.2)
 option_short k d (Plain s) h = omega (arith, ap length h.1)
 
-body_short : (d : List ℕ) (v : ParameterValue) → IsBody d v → length (parameter_octets v) ≤ length d
+pub body_short : (d : List ℕ) (v : ParameterValue) → IsBody d v → length (parameter_octets v) ≤ length d
 body_short d (Mandatory keys) h = omega (arith, ap length h)
 body_short d (Alpn names) h = omega (arith, ap length h.1)
 body_short d NoDefaultAlpn h = omega arith

@@ -71,10 +71,6 @@ test_letter : (b : Bool) (p q : Letter) (stop : ℕ) → (b ≡ true → stands_
 test_letter true p q stop h k = h refl
 test_letter false p q stop h k = k refl
 
-pub no_quote : (c : ℕ) → stands_for 34 (quoted_letter c) ≡ false
-no_quote c = test_letter (eqb c 34 || eqb c 92) (kept c) _ 34 (λ _. refl)
-    (λ e. test_letter (nat_le 32 c && nat_le c 126) (plain c) (kept c) 34 (λ _. grind (arith, nat_tests)) (λ _. refl))
-
 pub first_true : (a b : Bool) → a && b ≡ true → a ≡ true
 first_true true b h = refl
 first_true false b h = h
@@ -82,115 +78,6 @@ first_true false b h = h
 pub second_true : (a b : Bool) → a && b ≡ true → b ≡ true
 second_true true b h = h
 second_true false b h = absurd (cc h)
-
--- ---- words
-
--- what holds by a test, or at each place, holds of each
-pub all_tested : (P : ℕ → Type 0) (p : ℕ → Bool) → ((c : ℕ) → p c ≡ true → P c) → (s : List ℕ) → list_all p s ≡ true → AllByRecursion P s
-all_tested P p f [] h = tt
-all_tested P p f (c ∷ s) h = (f c (first_true (p c) (list_all p s) h), all_tested P p f s (second_true (p c) (list_all p s) h))
-
-pub all_by_index : (P : ℕ → Type 0) (s : List ℕ) → ((k : ℕ) → k < length s → P (get_or s k 0)) → AllByRecursion P s
-all_by_index P [] h = tt
-all_by_index P (c ∷ s) h = (h 0 (omega arith), all_by_index P s (λ k lt. h (suc k) (omega arith)))
-
-pub all_append : (P : ℕ → Type 0) (a b : List ℕ) → AllByRecursion P a → AllByRecursion P b → AllByRecursion P (a ++ b)
-all_append P [] b h k = k
-all_append P (c ∷ a) b h k = (h.0, all_append P a b h.1 k)
-
-pub all_weaker : (P Q : ℕ → Type 0) → ((c : ℕ) → P c → Q c) → (s : List ℕ) → AllByRecursion P s → AllByRecursion Q s
-all_weaker P Q f [] h = tt
-all_weaker P Q f (c ∷ s) h = (f c h.0, all_weaker P Q f s h.1)
-
-pub all_from : (P Q : ℕ → Type 0) → ((c : ℕ) → P c → Q c) → (s : List ℕ) → All P s → AllByRecursion Q s
-all_from P Q f [] h = tt
-all_from P Q f (c ∷ s) h = (f c (All-head P c s h), all_from P Q f s (All-tail P c s h))
-
--- no blank, no control character, no `"` and no `\`
-abbrev pub IsBare : ℕ → Type 0
-IsBare c = (33 ≤ c) × (c ≢ 34) × (c ≢ 92)
-
--- and no comma and no equals sign
-abbrev pub IsItemOctet : ℕ → Type 0
-IsItemOctet c = IsBare c × (c ≢ 44) × (c ≢ 61)
-
--- each stands for itself in a word
-abbrev pub IsPlainWord : List ℕ → Type 0
-IsPlainWord s = AllByRecursion IsBare s
-
-abbrev pub IsPlainItem : List ℕ → Type 0
-IsPlainItem s = AllByRecursion IsItemOctet s
-
-pub item_word : (s : List ℕ) → IsPlainItem s → IsPlainWord s
-item_word s h = all_weaker IsItemOctet IsBare (λ c b. b.0) s h
-
-abbrev pub differs : ℕ → ℕ → Bool
-differs c d = not (eqb c d)
-
-pub not_same : (c d : ℕ) → differs c d ≡ true → c ≢ d
-not_same c d h = λ e. absurd (grind (arith, nat_tests))
-
-abbrev pub is_bare : ℕ → Bool
-is_bare c = nat_le 33 c && (differs c 34 && differs c 92)
-
-pub bare_tested : (c : ℕ) → is_bare c ≡ true → IsBare c
-bare_tested c h =
-    let low : nat_le 33 c ≡ true = first_true (nat_le 33 c) (differs c 34 && differs c 92) h in
-    let others : differs c 34 && differs c 92 ≡ true = second_true (nat_le 33 c) (differs c 34 && differs c 92) h in
-    (grind (arith, nat_tests), not_same c 34 (first_true (differs c 34) (differs c 92) others), not_same c 92 (second_true (differs c 34) (differs c 92) others))
-
-abbrev pub is_item_octet : ℕ → Bool
-is_item_octet c = is_bare c && (differs c 44 && differs c 61)
-
-pub item_tested : (c : ℕ) → is_item_octet c ≡ true → IsItemOctet c
-item_tested c h =
-    let others : differs c 44 && differs c 61 ≡ true = second_true (is_bare c) (differs c 44 && differs c 61) h in (
-      bare_tested c (first_true (is_bare c) (differs c 44 && differs c 61) h),
-      not_same c 44 (first_true (differs c 44) (differs c 61) others),
-      not_same c 61 (second_true (differs c 44) (differs c 61) others),
-    )
-
-pub plain_tested : (s : List ℕ) → list_all is_bare s ≡ true → IsPlainWord s
-plain_tested s h = all_tested IsBare is_bare bare_tested s h
-
-pub items_tested : (s : List ℕ) → list_all is_item_octet s ≡ true → IsPlainItem s
-items_tested s h = all_tested IsItemOctet is_item_octet item_tested s h
-
-alphanumeric_bare : (c : ℕ) → is_ascii_alphanumeric c ≡ true → IsBare c
-alphanumeric_bare c h = (grind (arith, nat_tests), (λ e. absurd (grind (arith, nat_tests))), (λ e. absurd (grind (arith, nat_tests))))
-
-pub alphanumeric_plain : (s : List ℕ) → list_all is_ascii_alphanumeric s ≡ true → IsPlainWord s
-alphanumeric_plain s h = all_tested IsBare is_ascii_alphanumeric alphanumeric_bare s h
-
--- what is 48 or more and below 58 is one of an item
-pub digit_item : (c : ℕ) → 48 ≤ c → c ≤ 58 → IsItemOctet c
-digit_item c low high = ((omega arith, (λ e. absurd (omega arith)), (λ e. absurd (omega arith))), (λ e. absurd (omega arith)), (λ e. absurd (omega arith)))
-
-pub decimal_item : (n : ℕ) → n < 2 ^ 64 → IsPlainItem (decimal n)
-decimal_item n small =
-    let num = decimal_is_IsNumeral n small in
-    all_by_index IsItemOctet (decimal n) (λ k lt. let digit = digit_at (decimal n) k num.0.1 lt in
-    digit_item (get_or (decimal n) k 0) (omega (arith, digit)) (omega (arith, digit)))
-
-pub plain_decimal : (n : ℕ) → n < 2 ^ 64 → IsPlainWord (decimal n)
-plain_decimal n small = item_word (decimal n) (decimal_item n small)
-
-pub number_read : (n : ℕ) → n < 2 ^ 64 → digits_value 10 (decimal n) ≡ n
-number_read n small = (decimal_is_IsNumeral n small).1
-
-pub word_letters : (s rest : List ℕ) → IsPlainWord s → letters (s ++ rest) ≡ map plain s ++ letters rest
-word_letters [] rest h = refl
-word_letters (c ∷ s) rest h =
-    let slash : c ≢ 92 = h.0.2 in
-    let test : eqb c 92 ≡ false = grind (arith, nat_tests) in
-    itself c (s ++ rest) test ∙ ap (λ (l : List Letter). plain c ∷ l) (word_letters s rest h.1)
-
-pub last_word : (s : List ℕ) → IsPlainWord s → letters s ≡ map plain s
-last_word s h = ap letters (sym (append-nil s)) ∙ word_letters s [] h ∙ append-nil (map plain s)
-
-pub octets_plain : (s : List ℕ) → map octet_of (map plain s) ≡ s
-octets_plain [] = refl
-octets_plain (c ∷ s) = ap (λ (t : List ℕ). c ∷ t) (octets_plain s)
 
 -- ---- names
 
@@ -219,20 +106,6 @@ name_letter_octet c = elim (needs_backslash c) as (λ b. octet_of (cond b (kept 
 pub no_dot : (c : ℕ) → stands_for 46 (name_letter c) ≡ false
 no_dot c = test_letter (needs_backslash c) (kept c) _ 46 (λ _. refl)
     (λ e. test_letter (nat_le 33 c && nat_le c 126) (plain c) (kept c) 46 (λ _. grind (arith, nat_tests)) (λ _. refl))
-
-pub no_blank : (c : ℕ) → stands_for 32 (name_letter c) ≡ false
-no_blank c = test_letter (needs_backslash c) (kept c) _ 32 (λ _. refl)
-    (λ e. test_letter (nat_le 33 c && nat_le c 126) (plain c) (kept c) 32 (λ g. grind (arith, nat_tests)) (λ _. refl))
-
--- ---- in texts
-
-pub quoted_letters : (s rest : List ℕ) → AreOctets s → letters (quoted s ++ rest) ≡ plain 34 ∷ (map quoted_letter s ++ plain 34 ∷ letters rest)
-quoted_letters s rest h =
-    ap (λ (t : List ℕ). plain 34 ∷ letters t) (append_assoc (flat_map escaped s) (34 ∷ []) rest)
-    ∙ ap (λ (l : List Letter). plain 34 ∷ l) (escaped_letters s (34 ∷ rest) h)
-
-pub last_letters : (s : List ℕ) → AreOctets s → letters (quoted s) ≡ plain 34 ∷ (map quoted_letter s ++ plain 34 ∷ [])
-last_letters s h = ap letters (sym (append-nil (quoted s))) ∙ quoted_letters s [] h
 
 pub zone_label_letters : (s rest : List ℕ) → AreOctets s → letters (zone_label s ++ rest) ≡ map name_letter s ++ plain 46 ∷ letters rest
 zone_label_letters s rest h =

@@ -9,7 +9,7 @@ use Rattle.dns_rdata.specs.declared.record_data.RData.{RData}
 use Rattle.dns_rdata_service.specs.SVCB.{svcb_shape, svcb_fields}
 use Rattle.dns_rdata_service.specs.declared.svcb.SVCB.{SVCB}
 use Rattle.dns_rdata_zone.specs.Generic.{generic}
-use Rattle.dns_rdata_zone.specs.WholeOctets.{name_octets}
+use Rattle.dns_rdata.specs.WholeOctets.{name_octets}
 use Rattle.dns_rdata_zone.specs.Services.{service_octets}
 use Rattle.dns_rdata_zone.proofs.Digits.{hex_append, hex_none, generic_is, length_low}
 

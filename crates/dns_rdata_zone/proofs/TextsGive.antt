@@ -50,7 +50,7 @@ use Rattle.dns_rdata_zone.specs.Parameters.{has_text, zone_parameter}
 use Rattle.dns_rdata_zone.specs.Records.{zone_strings, zone_tlsa, zone_type, has_plain_tag}
 use Rattle.dns_rdata_zone.specs.Services.{service_octets, service_text, zone_service}
 use Rattle.dns_rdata_zone.specs.Strings.{quoted}
-use Rattle.dns_rdata_zone.specs.WholeOctets.{name_octets}
+use Rattle.dns_rdata.specs.WholeOctets.{name_octets}
 use Rattle.dns_rdata_zone.specs.Readable.{IsString, IsWritable, IsWritableParameter, IsWritableService, IsWritableTlsa, FieldsFit, IsReadable}
 use Rattle.dns_rdata_zone.specs.ZoneReads.{TextsGive, TextsTell}
 use Rattle.dns_rdata_zone.specs.ZoneTexts.{zone_text, zone_octets}

@@ -6,7 +6,7 @@ use Rattle.dns_rdata_service.specs.declared.svcb.SVCB.{SVCB}
 use Rattle.dns_rdata_zone.specs.Generic.{generic}
 use Rattle.dns_rdata_zone.specs.Names.{zone_name}
 use Rattle.dns_rdata_zone.specs.Parameters.{zone_parameter, has_text}
-use Rattle.dns_rdata_zone.specs.WholeOctets.{all_whole}
+use Rattle.dns_rdata.specs.WholeOctets.{all_whole}
 
 -- priority, target, parameters
 abbrev pub service_octets : SVCB → List ℕ

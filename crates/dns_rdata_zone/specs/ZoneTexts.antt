@@ -9,7 +9,7 @@ use Rattle.dns_rdata_zone.specs.Generic.{generic}
 use Rattle.dns_rdata_zone.specs.Options.{zone_options}
 use Rattle.dns_rdata_zone.specs.Records.{zone_hinfo, zone_txt, zone_naptr, zone_soa, zone_caa, zone_cert, zone_sshfp, zone_tlsa, zone_openpgpkey, zone_csync}
 use Rattle.dns_rdata_zone.specs.Services.{zone_service}
-use Rattle.dns_rdata_zone.specs.WholeOctets.{name_octets, all_whole}
+use Rattle.dns_rdata.specs.WholeOctets.{name_octets, all_whole}
 use Rattle.dns_rdata_zone.specs.Names.{zone_name}
 
 -- ---- the octets

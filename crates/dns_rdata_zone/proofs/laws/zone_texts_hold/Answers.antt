@@ -1,6 +1,7 @@
-use Rattle.dns_rdata_zone.proofs.Filled.{fills_read, fills_tell}
-use Rattle.dns_rdata_zone.proofs.TextsRead.{texts_read, texts_tell}
+use Rattle.dns_rdata_zone.proofs.Filled.{fills_give, fills_tell}
+use Rattle.dns_rdata_zone.proofs.TextsGive.{texts_give, texts_tell}
+use Rattle.dns_rdata_zone.proofs.ZoneOnce.{one_given}
 use Rattle.dns_rdata_zone.proofs.laws.zone_texts_hold.Goals as goal
 
 pub returns : goal.returns
-returns c = record { read = texts_read; tell = texts_tell; filled_read = fills_read; filled_tell = fills_tell }
+returns c = record { give = texts_give; tell = texts_tell; one = one_given; filled_give = fills_give; filled_tell = fills_tell }
