@@ -118,7 +118,7 @@ nothing_written : (name value : List ℕ) (front behind : List Word) → [] ≡ 
 nothing_written name value [] behind e is = is
 nothing_written name value (word ∷ front) behind e is = cc
 
-no_words : (ps : List Parameter) → AreWritten ps [] → ps ≡ []
+pub no_words : (ps : List Parameter) → AreWritten ps [] → ps ≡ []
 no_words [] h = refl
 no_words (p ∷ ps) h = absurd (nothing_written h.3.name h.3.value h.0 h.1 h.2 h.3.written)
 

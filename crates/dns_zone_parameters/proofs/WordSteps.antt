@@ -26,14 +26,14 @@ front_alone name value (v ∷ u ∷ []) behind word rest e is = let s : word ≡
 front_alone name value (v ∷ u ∷ t ∷ front) behind word rest e is = absurd is
 
 -- parameters begin with a word that stands alone
-starts_alone : (ps : List Parameter) (word : Word) (rest : List Word) → AreWritten ps (word ∷ rest) → StandsAlone word
+pub starts_alone : (ps : List Parameter) (word : Word) (rest : List Word) → AreWritten ps (word ∷ rest) → StandsAlone word
 starts_alone [] word rest e = absurd (cc)
 starts_alone (p ∷ ps) word rest h = front_alone h.3.name h.3.value h.0 h.1 word rest h.2 h.3.written
 
 has_same : (name value n v : List ℕ) (p : Parameter) → name ≡ n → value ≡ v → HasParameter name value p → HasParameter n v p
 has_same name value n v p e f h = subst (λ (x : List ℕ). HasParameter n x p) f (subst (λ (x : List ℕ). HasParameter x value p) e h)
 
-is_quoted : (word : Word) → word.quoted ≡ true → word.quoted ≡ false → ⊥
+pub is_quoted : (word : Word) → word.quoted ≡ true → word.quoted ≡ false → ⊥
 is_quoted word a b = let both : true ≡ false = sym a ∙ b in absurd (cc)
 
 begin_alone : (word : Word) (rest : List Word) (new : Cursor) → words_at new ≡ Ok rest → (word.octets ≡ name_in word.octets ++ 61 ∷ [] → NoQuoted new)
