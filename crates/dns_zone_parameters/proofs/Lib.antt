@@ -6,4 +6,4 @@ pub mod Once
 pub mod ValueSteps
 pub mod WordSteps
 pub mod ParameterSteps
-pub mod ParametersOnce
+pub mod OneReading

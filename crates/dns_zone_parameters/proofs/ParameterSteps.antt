@@ -114,11 +114,11 @@ words_ok : (words : List Word) → with_words words (Ok []) ≡ Ok words
 words_ok [] = refl
 words_ok (word ∷ words) = ap (with_word word) (words_ok words)
 
-pub nothing_written : (name value : List ℕ) (front behind : List Word) → [] ≡ front ++ behind → IsWritten name value front → ⊥
+nothing_written : (name value : List ℕ) (front behind : List Word) → [] ≡ front ++ behind → IsWritten name value front → ⊥
 nothing_written name value [] behind e is = is
 nothing_written name value (word ∷ front) behind e is = cc
 
-no_words : (ps : List Parameter) → AreWritten ps [] → ps ≡ []
+pub no_words : (ps : List Parameter) → AreWritten ps [] → ps ≡ []
 no_words [] h = refl
 no_words (p ∷ ps) h = absurd (nothing_written h.3.name h.3.value h.0 h.1 h.2 h.3.written)
 

@@ -1,5 +1,6 @@
 pub mod Faults
 pub mod Keys
+pub mod Laws
 pub mod Lists
 pub mod Parameters
 pub mod Steps

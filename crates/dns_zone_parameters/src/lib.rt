@@ -2,6 +2,7 @@
 #![tactic(auto)]
 
 pub mod key;
+pub mod laws;
 mod lists;
 mod parameter;
 mod values;
@@ -79,47 +80,100 @@ mod tests {
     use super::*;
     use std::test::Fail;
 
-    // A text, and its octets in hexadecimal digits, or nothing where it is refused.
-    const TEXTS: [(&str, Option<&str>); 10] = [
-        ("", Some("")),
-        ("port=53", Some("000300020035")),
-        ("key667=hello", Some("029b000568656c6c6f")),
-        (
-            "key667=\"hello\\210qoo\"",
-            Some("029b000968656c6c6fd2716f6f"),
-        ),
+    // Texts, and their octets in hexadecimal digits (RFC 9460, D.2; RFC 9461, 5).
+    const READ: [(&str, &str); 14] = [
+        ("", ""),
+        ("port=53", "000300020035"),
+        ("key667=hello", "029b000568656c6c6f"),
+        ("key667=\"hello\\210qoo\"", "029b000968656c6c6fd2716f6f"),
         (
             "ipv6hint=\"2001:db8::1,2001:db8::53:1\"",
-            Some("0006002020010db800000000000000000000000120010db8000000000000000000530001"),
+            "0006002020010db800000000000000000000000120010db8000000000000000000530001",
+        ),
+        (
+            "ipv6hint=\"2001:db8:122:344::192.0.2.33\"",
+            "0006001020010db80122034400000000c0000221",
         ),
         (
             "alpn=\"h2,h3-19\" mandatory=ipv4hint,alpn ipv4hint=192.0.2.1",
-            Some("0000000400010004000100090268320568332d313900040004c0000201"),
+            "0000000400010004000100090268320568332d313900040004c0000201",
         ),
         (
             "alpn=\"f\\\\\\\\oo\\\\,bar,h2\"",
-            Some("0001000c08665c6f6f2c626172026832"),
+            "0001000c08665c6f6f2c626172026832",
         ),
         (
             "alpn=f\\\\\\092oo\\092,bar,h2",
-            Some("0001000c08665c6f6f2c626172026832"),
+            "0001000c08665c6f6f2c626172026832",
         ),
-        ("mandatory=mandatory", None),
-        ("mandatory=port,port", None),
+        (
+            "alpn=h2 dohpath=/dns-query{?dns}",
+            "00010003026832000700102f646e732d71756572797b3f646e737d",
+        ),
+        ("alpn=a\\\\xb no-default-alpn", "000100040361786200020000"),
+        (
+            "key5= key3=\\0000 key1=ab",
+            "00010002616200030002003000050000",
+        ),
+        ("ech=\"AAAA\" key0=x", "000000017800050003000000"),
+        ("key2 key65534=\"\"", "00020000fffe0000"),
+    ];
+
+    // Texts that are refused (RFC 9460, D.3), and what is said of them.
+    const REFUSED: [(&str, &str); 22] = [
+        ("key123=abc key123=def", "key of a service parameter twice"),
+        ("alpn=a key1=a", "key of a service parameter twice"),
+        ("mandatory", "no list of different keys in mandatory"),
+        ("alpn", "no list of protocols in alpn"),
+        ("port", "no number of 16 bits in port"),
+        ("ipv4hint", "no list of addresses in ipv4hint"),
+        ("ipv6hint", "no list of addresses in ipv6hint"),
+        ("ech", "no base64 in ech"),
+        ("dohpath=\"\"", "no path in dohpath"),
+        ("no-default-alpn=abc", "value of no-default-alpn"),
+        (
+            "mandatory=mandatory",
+            "no list of different keys in mandatory",
+        ),
+        (
+            "mandatory=key123,key123 key123=abc",
+            "no list of different keys in mandatory",
+        ),
+        ("alpn=h2,,h3", "no list of protocols in alpn"),
+        ("alpn=h2\\\\", "no list of protocols in alpn"),
+        ("port=65536", "no number of 16 bits in port"),
+        ("ipv4hint=1.2.3.4,", "no list of addresses in ipv4hint"),
+        ("Alpn=h2", "no key of a service parameter"),
+        ("key00=a", "no key of a service parameter"),
+        ("key65535=a", "no key of a service parameter"),
+        (
+            "key667=\\256",
+            "`\\` without a meaning in a service parameter",
+        ),
+        ("alpn= \"h2\"", "no list of protocols in alpn"),
+        (
+            "alpn=\"h2\"port=53",
+            "service parameter in quotes or right behind another word",
+        ),
     ];
 
     #[test]
-    fn texts_of_appendix_d(rt: HostRuntime) -> Result<(), Fail> {
-        for (text, wanted) in TEXTS.iter() {
-            let read = all_parameters(rt.alloc(), &mut ZoneWords::new(text.as_bytes()));
-            match wanted {
-                Some(digits) => {
-                    let octets = hex::decode(rt.alloc(), digits.as_bytes())?;
-                    assert_eq!(rt; read?.as_slice(), octets.as_slice());
-                }
-                None => assert!(rt; read.is_err()),
-            }
+    fn reads_texts(rt: HostRuntime) -> Result<(), Fail> {
+        for (text, digits) in READ.iter() {
+            let octets = all_parameters(rt.alloc(), &mut ZoneWords::new(text.as_bytes()))?;
+            let wanted = hex::decode(rt.alloc(), digits.as_bytes())?;
+            assert_eq!(rt; octets.as_slice(), wanted.as_slice(), "{text}");
         }
         Ok(())
+    }
+
+    #[test]
+    fn refuses_texts(rt: HostRuntime) {
+        for (text, message) in REFUSED.iter() {
+            match all_parameters(rt.alloc(), &mut ZoneWords::new(text.as_bytes())) {
+                Err(ParseError::Message(said)) => assert_eq!(rt; said, *message, "{text}"),
+                _ => assert!(rt; false, "{text}"),
+            }
+        }
     }
 }
