@@ -22,7 +22,7 @@ use Rattle.dns_zone_words.specs.Forms.{ZoneForm, bare, number, string, text}
 use Rattle.dns_zone_words.specs.NameWords.{name}
 use Rattle.dns_zone_words.specs.Remaining.{AreHex, AreBase64, AreStrings}
 use Rattle.dns_zone_words.specs.Words.{Word}
-use Rattle.dns_zone_parameters.proofs.ParametersOnce.{parameters_once}
+use Rattle.dns_zone_parameters.proofs.OneReading.{one_reading}
 use Rattle.dns_zone_rows.specs.Mnemonics.{Named, number_named, IsNamedNumber, named_number}
 use Rattle.dns_zone_rows.specs.Rows.{FieldKind, Number, NamedNumber, Ttl, Ipv4, Ipv6, Name, String, Tag, Octets, RestKind, NoWord, SomeStrings, SomeHex, SomeBase64, AnyTypes, AnyParameters, Row}
 use Rattle.dns_zone_rows.specs.Rows.{Gives, name_octets, tag, FieldGives, IsTypeNumber, AreTypes, RestGives, InTwo, FieldsGive, RowGives}
@@ -142,7 +142,7 @@ rest_once SomeStrings a b words x y = x.1.same ∙ ap (flat_map string_octets) (
 rest_once SomeHex a b words x y = same_hex _ a b x.1.digits y.1.digits
 rest_once SomeBase64 a b words x y = same_base64 _ a b x.1.digits y.1.digits
 rest_once AnyTypes a b words x y = x.same ∙ ap (λ (ns : List ℕ). flat_map block (minimal ns)) (types_once x.numbers y.numbers words x.are y.are) ∙ sym y.same
-rest_once AnyParameters a b words x y = parameters_once a b words x y
+rest_once AnyParameters a b words x y = one_reading words a b x y
 
 -- ---- rows
 

@@ -1,4 +1,3 @@
-pub mod FieldReaders
 pub mod Forms
 pub mod Letters
 pub mod NameSteps
