@@ -74,8 +74,9 @@ fn parts_begin(
     ensures within { IfOk result (λ q. q ≤ place + length) }
 {
     match value {
-        RData::OPT(_) => Ok(place),
-        _ => name_end(alloc, message, place + 2),
+        RData::HTTPS(_) => return name_end(alloc, message, place + 2),
+        RData::SVCB(_) => return name_end(alloc, message, place + 2),
+        _ => return Ok(place),
     }
 }
 

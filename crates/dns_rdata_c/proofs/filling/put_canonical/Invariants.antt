@@ -1,10 +1,10 @@
-use Rattle.std.proofs.Common.{length}
+use Rattle.std.proofs.Common.{◌≡◌, ◌+◌, length}
 use Rattle.dns_rdata.specs.Data.{data_octets}
-use Rattle.dns_rdata_c.proofs.Fillings.{IsFilling}
 use Rattle.dns_rdata_c.proofs.filling.put_canonical.Given as goal
 
-abbrev pub invariant-octets : goal.invariant-octets
-invariant-octets l = IsFilling (data_octets l.value) l.left.octets l.len l.initial.out l.out
+-- the octets that were counted and those that are left are all
+abbrev pub invariant-pieces : goal.invariant-pieces
+invariant-pieces l = l.len + length l.left.octets ≡ length (data_octets l.value)
 
-abbrev pub decreases-octets : goal.decreases-octets
-decreases-octets l = length l.left.octets
+abbrev pub decreases-pieces : goal.decreases-pieces
+decreases-pieces l = length l.left.octets
