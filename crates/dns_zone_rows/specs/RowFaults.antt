@@ -12,7 +12,7 @@ use Rattle.dns_zone_words.specs.Refusals.{IsMessage}
 use Rattle.dns_zone_words.specs.Remaining.{AmongFault, HexFault}
 use Rattle.dns_zone_words.specs.Words.{Word, Cursor, words_at, with_word}
 use Rattle.dns_zone_words.specs.ZoneReads.{IsCutRefused, LacksFirst, IsOfFieldOrCut, WhyFirst}
-use Rattle.dns_zone_parameters.specs.Parameters.{ParametersFault}
+use Rattle.dns_zone_parameters.specs.Faults.{ParametersFault}
 use Rattle.dns_zone_rows.specs.Mnemonics.{cert_types, algorithms}
 use Rattle.dns_zone_rows.specs.Rows.{FieldKind, Number, NamedNumber, Ttl, Ipv4, Ipv6, Name, String, Tag, Octets, RestKind, NoWord, SomeStrings, SomeHex, SomeBase64, AnyTypes, AnyParameters, Row, FieldGives}
 use Rattle.dns_zone_rows.specs.declared.row.ZoneField.{ZoneField}

@@ -8,7 +8,7 @@ ghost use Rattle.dns_zone_words.specs.Refusals.{IsMessage};
 ghost use Rattle.dns_zone_words.specs.Remaining.{AmongFault, HexFault};
 ghost use Rattle.dns_zone_words.specs.Words.{words_at};
 ghost use Rattle.dns_zone_words.specs.ZoneReads.{LacksFirst};
-ghost use Rattle.dns_zone_parameters.specs.Parameters.{ParametersFault};
+ghost use Rattle.dns_zone_parameters.specs.Faults.{ParametersFault};
 ghost use Rattle.dns_zone_rows.specs.RowFaults.{rest_kind_of, SurplusFault, RestFault};
 ghost use Rattle.dns_zone_rows.specs.RowSteps.{AddsAll};
 ghost use Rattle.dns_zone_rows.specs.Rows.{NoWord, SomeStrings, SomeHex, SomeBase64, AnyParameters, RestGives};
