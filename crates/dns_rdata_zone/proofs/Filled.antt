@@ -257,7 +257,7 @@ pub fills_give : FillsGive
 fills_give origin m p n t v f small = record {
   octets = zone_octets v;
   gives = subst (λ (s : RecordType). TextGives origin s (zone_octets v) (zone_text v)) f.value.type (texts_give origin v (readable f) small);
-  data = data_of m p n t v f small;
+  is_data = data_of m p n t v f small;
   whole = λ unknown named. as_long m p n t v f;
 }
 

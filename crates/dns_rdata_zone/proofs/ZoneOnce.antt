@@ -52,4 +52,4 @@ one_given origin t text v w h k =
     let words : k.gives.words ≡ h.gives.words = same_words _ k.gives.words h.gives.words k.gives.cut h.gives.cut in
     let give : WordsGive origin t k.octets h.gives.words = subst (λ (ws : List Word). WordsGive origin t k.octets ws) words k.gives.give in
     let octets : h.octets ≡ k.octets = words_once origin t h.octets k.octets h.gives.words h.gives.give give in
-    data_one k.octets t v w (subst (λ (o : List ℕ). AreDataOf o t v) octets h.data) k.data
+    data_one k.octets t v w (subst (λ (o : List ℕ). AreDataOf o t v) octets h.is_data) k.is_data

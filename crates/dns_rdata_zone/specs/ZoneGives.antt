@@ -63,7 +63,7 @@ pub record AreDataOf (octets : List ℕ) (t : RecordType) (v : RData) : Type 0 w
 pub record GivesValue (origin : Option DomainName) (t : RecordType) (text : List ℕ) (v : RData) : Type 0 where
   pub octets : List ℕ
   pub gives : TextGives origin t octets text
-  pub data : AreDataOf octets t v
+  pub is_data : AreDataOf octets t v
   pub whole : AreUnknownData octets gives.words → IsWhole t octets v
 
 -- it gives no value

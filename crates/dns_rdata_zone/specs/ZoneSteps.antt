@@ -16,7 +16,7 @@ pub record UnknownIs (t : RecordType) (v : RData) (cursor : Cursor) : Type 0 whe
   pub cut : words_at cursor ≡ Ok words
   pub octets : List ℕ
   pub are : AreUnknown octets words
-  pub data : AreDataOf octets t v
+  pub is_data : AreDataOf octets t v
   pub whole : IsWhole t octets v
 
 -- they are the data of none

@@ -3,7 +3,7 @@
 ghost use Rattle.std.specs.Prelude.{Some};
 ghost use Rattle.hex.specs.Hex.{encode_lower};
 ghost use Rattle.dns_rdata_zone.specs.Generic.{generic};
-ghost use Rattle.dns_rdata_zone.specs.WholeOctets.{name_octets};
+ghost use Rattle.dns_rdata.specs.WholeOctets.{name_octets};
 
 use dns_rdata::Name;
 use dns_rdata_certs::hexadecimal::Hexadecimal;

@@ -1,6 +1,6 @@
 use Rattle.std.proofs.Common.{◌∙◌}
 use Rattle.std.proofs.Output.{has_written_of_eq}
-use Rattle.dns_rdata_zone.specs.WholeOctets.{name_octets}
+use Rattle.dns_rdata.specs.WholeOctets.{name_octets}
 use Rattle.dns_rdata_zone.proofs.Digits.{generic_is, length_low}
 use Rattle.dns_rdata_zone.proofs.generic.GenericNameDisplay.fmt.Goals as goal
 
