@@ -1,13 +1,12 @@
 -- Octets put behind others.
-use Rattle.std.proofs.Common.{◌≡◌, ◌<◌, ◌≤◌, ℕ, zero, suc, length, get_or, arith, List, [], ◌∷◌, Result, Ok, Err, refl, sym, subst, ap, ◌∙◌}
+use Rattle.std.proofs.Common.{◌≡◌, ◌<◌, ◌≤◌, ℕ, zero, suc, length, get_or, arith, List, [], ◌∷◌, Result, Ok, Err, sym, subst}
 use Rattle.std.specs.Result.{IsErrAnd}
 use Rattle.dns_fields.specs.Fields.{Kind, Value}
 use Rattle.dns_types.specs.declared.error.ParseError.{ParseError}
-use Rattle.dns_types.specs.declared.error.ParseError.TheVariants as parse
 use Rattle.dns_words.specs.Reads.{UnlessMemory}
 use Rattle.dns_zone_words.specs.Forms.{ZoneForm}
 use Rattle.dns_zone_words.specs.Remaining.{AreStrings}
-use Rattle.dns_zone_words.specs.Words.{Word, Cursor, words_at}
+use Rattle.dns_zone_words.specs.Words.{Word, Cursor}
 use Rattle.dns_zone_words.specs.ZoneReads.{NoFirst}
 use Rattle.dns_zone_words.proofs.FirstSteps.{unless_map}
 use Rattle.dns_zone_rows.specs.RowSteps.{NoFirstGives, AddsFirst}

@@ -1,5 +1,5 @@
 -- Fields taken one after the other.
-use Rattle.std.proofs.Common.{◌≡◌, ℕ, zero, suc, ◌+◌, ◌<◌, List, [], ◌∷◌, ◌++◌, length, map, drop, get_or, Option, Result, Ok, Err, refl, sym, subst, ap, ◌∙◌, inl, inr, ◌⊎◌, ◌≤◌, append_assoc, add-one}
+use Rattle.std.proofs.Common.{◌≡◌, ℕ, suc, ◌+◌, ◌<◌, List, [], ◌∷◌, ◌++◌, length, map, drop, get_or, Option, Result, Ok, refl, sym, subst, ap, ◌∙◌, inl, inr, ◌⊎◌, ◌≤◌, append_assoc, add-one}
 use Rattle.std.proofs.Math.Seq.{drop-cons}
 use Rattle.std.proofs.lemmas.List.{drop_all}
 use Rattle.std.specs.Prelude.{IfErr}
@@ -10,11 +10,11 @@ use Rattle.dns_types.specs.declared.error.ParseError.TheVariants as parse
 use Rattle.dns_words.specs.Reads.{UnlessMemory}
 use Rattle.dns_zone_words.specs.Remaining.{TookAll, NoneOfAll, ReadsAll}
 use Rattle.dns_zone_words.specs.Words.{Word, Cursor, words_at, with_word}
-use Rattle.dns_zone_words.specs.declared.words_error.WordsError.{WordsError}
 use Rattle.dns_zone_words.proofs.FirstSteps.{unless_map, exit_fault}
 use Rattle.dns_zone_words.proofs.RemainingSteps.{exit_same}
+use Rattle.dns_zone_rows.proofs.TypeWords.{word_ok}
 use Rattle.dns_zone_rows.specs.RowFaults.{kind_of, rest_kind_of, row_value, FieldFault, RestFault, FieldsFault, RowFault}
-use Rattle.dns_zone_rows.specs.RowSteps.{AddedFirst, NoFirstGives, AddsFirst, AddedAll, AddsAll}
+use Rattle.dns_zone_rows.specs.RowSteps.{AddedFirst, NoFirstGives, AddedAll}
 use Rattle.dns_zone_rows.specs.Rows.{FieldGives, RestGives, FieldsGive, RowGives}
 use Rattle.dns_zone_rows.specs.declared.row.ZoneField.{ZoneField}
 use Rattle.dns_zone_rows.specs.declared.row.ZoneRest.{ZoneRest}
@@ -38,11 +38,6 @@ pub record FieldsSo (origin : Option DomainName) (fields left : List ZoneField) 
 
 none_so : (origin : Option DomainName) (fields : List ZoneField) (rest : ZoneRest) (cursor : Cursor) → FieldsSo origin fields fields rest cursor cursor []
 none_so origin fields rest cursor = record { gives = λ behind at. at; only = λ all at. (all, at); fault = λ e f. f }
-
-word_ok : (word : Word) (behind : Result (List Word) WordsError) (all : List Word) → with_word word behind ≡ Ok all
-    → (others : List Word) × (behind ≡ Ok others) × (all ≡ word ∷ others)
-word_ok word (Ok others) all e = let same : word ∷ others ≡ all = cc in (others, refl, sym same)
-word_ok word (Err why) all e = absurd (cc)
 
 first_given : {origin : Option DomainName} {field : ZoneField} {left : List ZoneField} {rest : ZoneRest} {before after behind : List ℕ} {now new : Cursor}
     (a : AddedFirst (FieldGives origin (kind_of field)) before after now new) → GivenAt origin left rest behind new

@@ -1,5 +1,5 @@
 -- Names of numbers in words: of types of certificates (RFC 4398, 2.1) and of algorithms (RFC 4034, A.1).
-use Rattle.std.specs.Prelude.{◌≡◌, ℕ, ◌==◌, if◌then◌else◌, false, List, [], ◌∷◌, Option, Some, None, codes}
+use Rattle.std.specs.Prelude.{◌≡◌, ℕ, if◌then◌else◌, false, List, [], ◌∷◌, Option, Some, None, codes}
 use Rattle.std.specs.Str.{str_eq_ignore_ascii_case}
 use Rattle.dns_fields.specs.Fields.{Number}
 use Rattle.dns_zone_words.specs.Forms.{ZoneForm, number}
