@@ -2,9 +2,7 @@
 use Rattle.std.specs.Prelude.{◌≡◌, ℕ, ◌==◌, Bool, true, false, List, [], ◌∷◌, ◌++◌, IsPermutation}
 use Rattle.std.specs.List.{before_first, after_first}
 use Rattle.dns_fields.specs.Pieces.{Numbered, pieces, Rising}
-use Rattle.dns_types.specs.declared.error.ParseError.{ParseError}
-use Rattle.dns_zone_words.specs.Refusals.{IsMessage}
-use Rattle.dns_zone_words.specs.Words.{Word, Cursor}
+use Rattle.dns_zone_words.specs.Words.{Word}
 use Rattle.dns_zone_parameters.specs.Keys.{key_number, IsKeyName}
 use Rattle.dns_zone_parameters.specs.Values.{IsValue}
 use Rattle.dns_zone_parameters.specs.declared.key.ParameterKey.{ParameterKey}

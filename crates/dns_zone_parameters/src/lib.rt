@@ -24,7 +24,29 @@ use dns_zone_words::ZoneWords;
 pub use key::ParameterKey;
 use std::alloc::{AllocError, Global};
 
-/// The parameters that all words which are left give, as they go on the wire.
+/// The parameters that all words which are left give, as they go on the wire: in the order of their keys, each as key,
+/// length and value (RFC 9460, 2.2). No words give no octets. There may be more than 65535 octets.
+///
+/// A parameter is a word without quotes that stands right behind no other: `key`, which has an empty value, `key=value`,
+/// or `key=` with a word in quotes right behind it. Parameters may stand in any order. A key comes once.
+///
+/// The key is a name in lower case, or `key` and a number up to 65534 without leading zeros (RFC 9460, 2.1). A value is
+/// cut into letters, and their octets are then read by the key (RFC 9460, 7 and 8; RFC 9461, 5):
+///
+/// - `mandatory`: a list of keys, none twice and not `mandatory`; on the wire their numbers rise.
+/// - `alpn`: a list of names of 1 to 255 octets. In it a `\` gives the octet behind it, a comma or a `\` too (RFC 9460,
+///   A.1).
+/// - `no-default-alpn`: nothing.
+/// - `port`: a decimal number of 16 bits.
+/// - `ipv4hint`, `ipv6hint`: a list of addresses.
+/// - `ech`: base64 (RFC 4648, 4) of one octet or more.
+/// - `dohpath`: one octet or more, as they are.
+/// - `key` and a number, also that of a key above: the octets as they are.
+///
+/// Lists have one item or more, with a comma between two. A value has at most 65535 octets.
+///
+/// Refused by [`Message`](ParseError::Message), which names the key or the cause, or by
+/// [`Memory`](ParseError::Memory).
 pub fn all_parameters(alloc: Global, words: &mut ZoneWords<'_>) -> Result<Octets, ParseError>
     ensures reads { ReadsAll AreParameters (λ x. x) result words.old }
     ensures why { IfErr result (λ e. (e ≡ ParseError.Memory) ⊎ ParametersFault words.old e) }

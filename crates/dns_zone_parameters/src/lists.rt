@@ -1,17 +1,17 @@
 //! Values that are lists (RFC 9460, 7.1.1, 7.3, 8 and appendix A.1).
 
-ghost use Rattle.std.specs.Prelude.{◌≡◌, ◌≤◌, ◌<◌, ◌⊎◌, ◌↔◌, IsTrue, IfSome, IfErr, length};
+ghost use Rattle.std.specs.Prelude.{◌≡◌, ◌≤◌, ◌<◌, ◌++◌, ◌⊎◌, ◌↔◌, true, false, IsTrue, IfSome, IfNone, IfErr, OnOk, length};
 ghost use Rattle.std.specs.List.{AllZip};
 ghost use Rattle.std.specs.Option.{option_copied};
 ghost use Rattle.std.specs.List.Sorted.{IsStrictlyIncreasing};
 ghost use Rattle.dns_words.specs.Reads.{Decides};
-ghost use Rattle.dns_zone_parameters.specs.Lists.{items_in, IsList, IsKeyList, IsListedKey, IsProtocol};
+ghost use Rattle.dns_zone_parameters.specs.Lists.{items_in, IsList, IsKeyList, IsListedKey, unescaped_from, escapes_end_from};
 ghost use Rattle.dns_zone_parameters.specs.Steps.{ItemCut, ItemTaken, PushesItem};
 
 use crate::key::ParameterKey;
 use dns_types::{Octets, ParseError};
 use dns_zone_words::{ZoneWord, ipv4_of, ipv6_of};
-use std::alloc::Global;
+use std::alloc::{AllocError, Global};
 
 /// What the items of a list are.
 #[derive(Clone, Copy, Debug, PartialEq, Eq)]
@@ -35,11 +35,11 @@ pub fn list_of(
     ensures reads { Decides (IsList item text.now) (λ x. x) result }
     ensures why { IfErr result (λ e. (e ≡ ParseError.Memory) ⊎ (e ≡ ParseError.Message wrong.entry)) }
 {
-    let mut octets = Vec::new(alloc);
+    let mut octets = Vec::with_capacity(alloc, text.len() + 1)?;
     let mut rest = text;
     'items: loop {
         let (text, behind) = first_item(rest);
-        push_item(alloc, &mut octets, item, text, wrong)?;
+        push_item(&mut octets, item, text, wrong)?;
         match behind {
             Some(more) => rest = more,
             None => return Ok(Octets::from_vec(octets)),
@@ -58,7 +58,7 @@ pub fn key_list_of(alloc: Global, text: &[u8], wrong: &'static str) -> Result<Oc
     if !is_rising(keys.as_slice()) {
         return Err(ParseError::Message(wrong));
     }
-    let mut octets = Vec::with_capacity(alloc, keys.len())?;
+    let mut octets = Vec::with_capacity(alloc, 2 * keys.len())?;
     for key in &keys {
         octets.extend_from_slice(&key.to_be_bytes())?;
     }
@@ -86,7 +86,7 @@ fn keys_in(alloc: Global, text: &[u8], wrong: &'static str) -> Result<Vec<u16>, 
 // The number of the key that an item names.
 fn listed_key(item: &[u8], wrong: &'static str) -> Result<u16, ParseError>
     ensures reads { Decides (IsListedKey item.now) (λ n. n) result }
-    ensures why { IfErr result (λ e. (e ≡ ParseError.Memory) ⊎ (e ≡ ParseError.Message wrong.entry)) }
+    ensures why { IfErr result (λ e. e ≡ ParseError.Message wrong.entry) }
 {
     match ParameterKey::of_name(item) {
         Some(key) if key.number() != 0 => Ok(key.number()),
@@ -138,7 +138,6 @@ fn item_len(text: &[u8]) -> usize
 
 // Appends the octets of an item.
 fn push_item(
-    alloc: Global,
     octets: &mut Vec<u8>,
     item: ListItem,
     text: &[u8],
@@ -153,7 +152,7 @@ fn push_item(
         joined: false,
     };
     match item {
-        ListItem::Protocol => push_protocol(alloc, octets, text, wrong),
+        ListItem::Protocol => push_protocol(octets, text, wrong),
         ListItem::Ipv4 => {
             let address = ipv4_of(word, wrong)?;
             octets.extend_from_slice(&address.octets())?;
@@ -168,40 +167,51 @@ fn push_item(
 }
 
 // Appends the name of a protocol behind its length.
-fn push_protocol(
-    alloc: Global,
-    octets: &mut Vec<u8>,
-    text: &[u8],
-    wrong: &'static str,
-) -> Result<(), ParseError>
+fn push_protocol(octets: &mut Vec<u8>, text: &[u8], wrong: &'static str) -> Result<(), ParseError>
     ensures reads { PushesItem ListItem.Protocol text.now result octets.old.items octets.new.items }
     ensures why { IfErr result (λ e. (e ≡ ParseError.Memory) ⊎ (e ≡ ParseError.Message wrong.entry)) }
 {
-    let name = protocol_of(alloc, text, wrong)?;
-    octets.push(name.len() as u8)?;
-    octets.extend_from_slice(name.as_slice())?;
+    let len = match name_len(text) {
+        Some(len) if len > 0 && len < 256 => len as u8,
+        _ => return Err(ParseError::Message(wrong)),
+    };
+    octets.push(len)?;
+    push_name(octets, text)?;
     Ok(())
 }
 
-// The name of a protocol that an item is.
-fn protocol_of(alloc: Global, text: &[u8], wrong: &'static str) -> Result<Vec<u8>, ParseError>
-    ensures reads { Decides (λ name. IsProtocol name text.now) (λ name. name.items) result }
-    ensures why { IfErr result (λ e. (e ≡ ParseError.Memory) ⊎ (e ≡ ParseError.Message wrong.entry)) }
+// How many octets the name has that an item means, or `None` where no octet stands behind a `\`.
+fn name_len(item: &[u8]) -> Option<usize>
+    ensures some { IfSome result (λ len. (escapes_end_from false item.now ≡ true) × (len ≡ length (unescaped_from false item.now))) }
+    ensures none { IfNone result (escapes_end_from false item.now ≡ false) }
 {
-    let mut name = Vec::with_capacity(alloc, text.len())?;
-    let mut rest = text;
+    let mut len = 0usize;
+    let mut rest = item;
     'octets: while rest.len() > 0 {
         if rest[0] == b'\\' {
             rest = &rest[1..];
             if rest.len() == 0 {
-                return Err(ParseError::Message(wrong));
+                return None;
             }
         }
-        name.push(rest[0])?;
+        len += 1;
         rest = &rest[1..];
     }
-    if name.len() == 0 || name.len() > 255 {
-        return Err(ParseError::Message(wrong));
+    Some(len)
+}
+
+// Appends what an item means: of a `\` the octet behind it.
+fn push_name(octets: &mut Vec<u8>, item: &[u8]) -> Result<(), AllocError>
+    requires { escapes_end_from false item.now ≡ true }
+    ensures { OnOk result (octets.new.items ≡ octets.old.items ++ unescaped_from false item.now) }
+{
+    let mut rest = item;
+    'octets: while rest.len() > 0 {
+        if rest[0] == b'\\' {
+            rest = &rest[1..];
+        }
+        octets.push(rest[0])?;
+        rest = &rest[1..];
     }
-    Ok(name)
+    Ok(())
 }

@@ -43,12 +43,12 @@ fn octets_of(alloc: Global, key: ParameterKey, text: Octets) -> Result<Octets, P
     match key {
         ParameterKey::Mandatory => key_list_of(alloc, text.as_slice(), wrong),
         ParameterKey::Alpn => list_of(alloc, ListItem::Protocol, text.as_slice(), wrong),
-        ParameterKey::NoDefaultAlpn => without_octets(text, wrong),
+        ParameterKey::NoDefaultAlpn => nothing_of(text, wrong),
         ParameterKey::Port => port_of(alloc, text.as_slice(), wrong),
         ParameterKey::Ipv4Hint => list_of(alloc, ListItem::Ipv4, text.as_slice(), wrong),
         ParameterKey::Ech => ech_of(alloc, text.as_slice(), wrong),
         ParameterKey::Ipv6Hint => list_of(alloc, ListItem::Ipv6, text.as_slice(), wrong),
-        ParameterKey::DohPath => with_octets(text, wrong),
+        ParameterKey::DohPath => path_of(text, wrong),
         ParameterKey::Numbered(_) => Ok(text),
     }
 }
@@ -70,9 +70,10 @@ fn wrong_value(key: ParameterKey) -> &'static str
     }
 }
 
-fn without_octets(octets: Octets, wrong: &'static str) -> Result<Octets, ParseError>
+// No octets, as no-default-alpn has them.
+fn nothing_of(octets: Octets, wrong: &'static str) -> Result<Octets, ParseError>
     ensures reads { Decides (HasOctets ParameterKey.NoDefaultAlpn octets) (λ x. x) result }
-    ensures why { IfErr result (λ e. (e ≡ ParseError.Memory) ⊎ (e ≡ ParseError.Message wrong.entry)) }
+    ensures why { IfErr result (λ e. e ≡ ParseError.Message wrong.entry) }
 {
     if octets.len() > 0 {
         return Err(ParseError::Message(wrong));
@@ -80,9 +81,10 @@ fn without_octets(octets: Octets, wrong: &'static str) -> Result<Octets, ParseEr
     Ok(octets)
 }
 
-fn with_octets(octets: Octets, wrong: &'static str) -> Result<Octets, ParseError>
+// A path of one octet or more.
+fn path_of(octets: Octets, wrong: &'static str) -> Result<Octets, ParseError>
     ensures reads { Decides (HasOctets ParameterKey.DohPath octets) (λ x. x) result }
-    ensures why { IfErr result (λ e. (e ≡ ParseError.Memory) ⊎ (e ≡ ParseError.Message wrong.entry)) }
+    ensures why { IfErr result (λ e. e ≡ ParseError.Message wrong.entry) }
 {
     if octets.len() == 0 {
         return Err(ParseError::Message(wrong));

@@ -9,7 +9,7 @@ use Rattle.dns_zone_parameters.proofs.lists.list_of.Goals as goal
 pub returns-in_err-push_item-clause-reads : goal.returns-in_err-push_item-clause-reads
 returns-in_err-push_item-clause-reads c =
     let e = c.in_err-push_item.field-0.0 in
-    let text = c.args.text.now in exit_with (Decides (IsList c.args.item text) (λ x. x)) e c.from_residual.result c.from_residual.ensures.1
+    let text = c.args.text.now in exit_with (Decides (IsList c.args.item text) (λ x. x)) e c.from_residual-in_err-push_item.result c.from_residual-in_err-push_item.ensures.1
     (no_list c.args.item e text (none_of (IsItem c.args.item) e text c.items.rest.now c.first_item.result.0.now (option_copied c.first_item.result.1) c.items.invariant.0
     c.items.invariant.1 c.first_item.ensures.cut c.in_err-push_item.ensures.reads))
 
