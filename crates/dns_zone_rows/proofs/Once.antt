@@ -1,7 +1,5 @@
 -- Words give at most one list of octets by a row.
 use Rattle.std.proofs.Common.{◌≡◌, ℕ, true, List, [], ◌∷◌, ◌++◌, drop, find, codes, Option, Some, None, Result, Ok, refl, sym, ap, ◌∙◌, subst, inl, inr}
-use Rattle.std.specs.Prelude.{IsTrue}
-use Rattle.std.specs.Int.{bytes_high_first}
 use Rattle.std.specs.List.{flat_map}
 use Rattle.std.specs.Net.Addr.{ipv4_octets, ipv6_octets}
 use Rattle.std.specs.Str.Parse.{digits_value}
@@ -20,12 +18,12 @@ use Rattle.dns_types.proofs.TypeTexts.{reads_name}
 use Rattle.dns_words.specs.Forms.{ttl, ipv4, ipv6}
 use Rattle.dns_zone_words.specs.Forms.{ZoneForm, bare, number, string, text}
 use Rattle.dns_zone_words.specs.NameWords.{name}
-use Rattle.dns_zone_words.specs.Remaining.{AreHex, AreBase64, AreStrings}
+use Rattle.dns_zone_words.specs.Remaining.{AreStrings}
 use Rattle.dns_zone_words.specs.Words.{Word}
 use Rattle.dns_zone_parameters.proofs.OneReading.{one_reading}
 use Rattle.dns_zone_rows.specs.Mnemonics.{Named, number_named, IsNamedNumber, named_number}
 use Rattle.dns_zone_rows.specs.Rows.{FieldKind, Number, NamedNumber, Ttl, Ipv4, Ipv6, Name, String, Tag, Octets, RestKind, NoWord, SomeStrings, SomeHex, SomeBase64, AnyTypes, AnyParameters, Row}
-use Rattle.dns_zone_rows.specs.Rows.{Gives, name_octets, tag, FieldGives, IsTypeNumber, AreTypes, RestGives, InTwo, FieldsGive, RowGives}
+use Rattle.dns_zone_rows.specs.Rows.{Gives, tag, FieldGives, AreTypes, RestGives, FieldsGive, RowGives}
 
 -- ---- one word
 
