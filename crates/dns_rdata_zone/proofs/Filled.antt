@@ -224,6 +224,9 @@ readable {m} {p} {n} {t} {v} f = record {
 by_fields : (t : RecordType) (v : RData) (values : Values (shape t)) → IsValue t values v → zone_octets v ≡ all_whole (shape t) values
 by_fields t v values h = ap (λ (x : FieldsOf). all_whole x.kinds x.values) h.fields
 
+ends_at : (m : List ℕ) (kinds : List Kind) (vs : Values kinds) → Stands m 0 kinds vs (length m) → Stands m 0 kinds vs (0 + length m)
+ends_at m kinds vs h = let e : length m ≡ 0 + length m = omega arith in subst (λ (k : ℕ). Stands m 0 kinds vs k) e h
+
 data_of : (m : List ℕ) (p n : ℕ) (t : RecordType) (v : RData) (f : Fills m p n t v) → length (zone_octets v) < 65536 → AreDataOf (zone_octets v) t v
 data_of m p n t v f small =
     let e = by_fields t v f.values f.value in
@@ -237,7 +240,7 @@ data_of m p n t v f small =
           octets = all_are m p (shape t) f.values (p + n) f.window.octets f.window.stands;
           short = few;
           within = omega arith;
-          stands = own_fields m p [] (shape t) f.values (p + n) f.window.stands;
+          stands = ends_at own (shape t) f.values (own_fields m p [] (shape t) f.values (p + n) f.window.stands);
           holds = f.window.holds;
         };
         value = f.value;

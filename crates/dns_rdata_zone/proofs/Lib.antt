@@ -15,3 +15,4 @@ pub mod ServiceDigits
 pub mod TextsGive
 pub mod WordForms
 pub mod ZoneOnce
+pub mod ZoneSteps

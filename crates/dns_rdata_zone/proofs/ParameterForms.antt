@@ -51,7 +51,7 @@ value_behind name value h = sym (
     ap (λ (n : ℕ). drop (n + 1) (name ++ 61 ∷ value)) (place_front name value h)
     ∙ ap (drop (length name + 1)) (sym (append_assoc name (61 ∷ []) value))
     ∙ drop_at (name ++ 61 ∷ []) value (length name + 1) (length-append name (61 ∷ []))
-)
+    )
 
 value_none : (name : List ℕ) → HasNoEquals name → [] ≡ value_in name
 value_none name h = sym (ap (λ (n : ℕ). drop (n + 1) name) (place_alone name h) ∙ drop_all (length name + 1) name (omega arith))
@@ -180,6 +180,7 @@ decimal_no_equals n small =
     digit_is_not (get_or (decimal n) k 0) (omega (arith, digit)) (omega (arith, digit))) where
       digit_is_not : (c : ℕ) → 48 ≤ c → c ≤ 57 → eqb c 61 ≡ false
       digit_is_not c low high = grind (arith, nat_tests)
+
       no_equals_by_index : (s : List ℕ) → ((k : ℕ) → k < length s → eqb (get_or s k 0) 61 ≡ false) → HasNoEquals s
       no_equals_by_index [] h = tt
       no_equals_by_index (c ∷ s) h = (h 0 (omega arith), no_equals_by_index s (λ k lt. h (suc k) (omega arith)))

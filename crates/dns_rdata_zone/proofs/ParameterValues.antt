@@ -271,8 +271,8 @@ each_key last [] h low = tt
 each_key last (k ∷ ks) h low =
     let own = key_is (key_number k) low.0 in
     (record { key = key_of (key_number k); named = own.spelled.named; number = sym own.number; other = λ e. above_not_zero (key_number k) last h.0 e }, each_key (key_number k) ks h.1 low.1) where
-  above_not_zero : (n m : ℕ) → m < n → n ≡ 0 → ⊥
-  above_not_zero n m lt e = omega (arith, lt, e)
+      above_not_zero : (n m : ℕ) → m < n → n ≡ 0 → ⊥
+      above_not_zero n m lt e = omega (arith, lt, e)
 
 abbrev is_item_octet : ℕ → Bool
 is_item_octet c = is_run_octet c && not (eqb c 44)

@@ -1,5 +1,5 @@
 -- Fields that were written give their octets, and so do rows of them.
-use Rattle.std.proofs.Common.{◌≡◌, ◌≢◌, ℕ, suc, ◌+◌, ◌*◌, ◌/◌, ◌%◌, ◌^◌, ◌<◌, ◌≤◌, Bool, true, false, cond, eqb, ◌||◌, ◌&&◌, nat_le, List, [], ◌∷◌, ◌++◌, length, take, drop, zero, replicate, rules, get_or, decimal, codes, inl, inr, lit<, Option, Some, None, Result, Ok, refl, sym, ◌∙◌, ap, subst, append_assoc, arith}
+use Rattle.std.proofs.Common.{◌≡◌, ◌≢◌, ◌⊎◌, ℕ, suc, ◌+◌, ◌*◌, ◌/◌, ◌%◌, ◌^◌, ◌<◌, ◌≤◌, Bool, true, false, cond, eqb, ◌||◌, ◌&&◌, nat_le, List, [], ◌∷◌, ◌++◌, length, take, drop, zero, replicate, rules, get_or, decimal, codes, inl, inr, lit<, Option, Some, None, Result, Ok, refl, sym, ◌∙◌, ap, subst, append_assoc, arith}
 use Rattle.std.specs.Prelude.{flat_map, bytes_eq, slice_index}
 use Rattle.std.specs.Char.{to_ascii_lowercase, is_ascii_alphanumeric}
 use Rattle.std.specs.Int.{bytes_high_first}
@@ -210,9 +210,9 @@ octets_text origin s h = quoted_text s s h (record { value = s; is = text_form f
 pub tag_text : (origin : Option DomainName) (s : List ℕ) → s ≢ [] → AreRunOctets s → length s ≤ 255 → FieldText origin Tag s (string_octets s)
 tag_text origin s some h fits = plain_text s (string_octets s) some h
     (record { value = s; is = record { bare = refl; some = some_length s some; most = fits; value = refl }; same = refl }) where
-  some_length : (s : List ℕ) → s ≢ [] → 1 ≤ length s
-  some_length [] h = absurd (h refl)
-  some_length (c ∷ s) h = omega arith
+      some_length : (s : List ℕ) → s ≢ [] → 1 ≤ length s
+      some_length [] h = absurd (h refl)
+      some_length (c ∷ s) h = omega arith
 
 -- ---- numbers that have names
 
@@ -645,8 +645,8 @@ behind_same (c ∷ s) [] h k e = sym (both_none (c ∷ s) (sym e))
 behind_same (c ∷ s) (d ∷ u) h k e =
     let digits : encode_lower (c ∷ s) ≡ encode_lower (d ∷ u) = ap second_octets e in
     same_ok (c ∷ s) (d ∷ u) (sym (decode_of-encode_lower (c ∷ s) (bytes_of (c ∷ s) h)) ∙ ap hex_of digits ∙ decode_of-encode_lower (d ∷ u) (bytes_of (d ∷ u) k)) where
-  same_ok : (x y : List ℕ) → ◌≡◌ {A = Result (List ℕ) FromHexError} (Ok x) (Ok y) → x ≡ y
-  same_ok x y f = cc f
+      same_ok : (x y : List ℕ) → ◌≡◌ {A = Result (List ℕ) FromHexError} (Ok x) (Ok y) → x ≡ y
+      same_ok x y f = cc f
 
 rest_of : List Word → List Word
 rest_of [] = []

@@ -11,7 +11,7 @@ use Rattle.base64.specs.GeneralPurpose.{encode_of}
 use Rattle.hex.specs.Hex.{encode_lower}
 use Rattle.dns_fields.specs.Bitmaps.{block, minimal}
 use Rattle.dns_fields.specs.Fields.{field_octets, canonical, option_pieces, parameter_pieces}
-use Rattle.dns_fields.specs.Labels.{DomainName, AreLabels}
+use Rattle.dns_fields.specs.Labels.{DomainName, AreLabels, full_name}
 use Rattle.dns_fields.specs.Octets.{AreOctets}
 use Rattle.dns_fields.specs.Pieces.{is_some, string, pieces, Rising}
 use Rattle.dns_types.specs.RecordTypes.{record_type_of}
@@ -95,7 +95,7 @@ none_empty ([] ∷ labels) h = absurd (omega (arith, h.0.0))
 none_empty ((c ∷ l) ∷ labels) h = (λ e. cc, none_empty labels h.1)
 
 named : (origin : Option DomainName) (x : DomainName) → IsWritable x → FieldText origin Name (zone_name x) (name_octets x)
-named origin x h = name_text origin x h.octets (none_empty x.labels h.is_name.labels) h.is_name
+named origin x h = name_text origin (full_name x) h.octets (none_empty x.labels h.is_name.labels) refl (record { labels = h.is_name.labels; fits = h.is_name.fits })
 
 text : (origin : Option DomainName) (s : List ℕ) → IsString s → FieldText origin String (quoted s) (string s)
 text origin s h = string_text origin s h.octets (omega (arith, h.fits))

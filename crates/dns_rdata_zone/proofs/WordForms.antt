@@ -91,15 +91,13 @@ text_form joined s h = record {
       ap (λ (t : List ℕ). map octet_of (letters t)) (sym (append-nil (flat_map escaped s)))
       ∙ ap (map octet_of) (escaped_letters s [] h ∙ append-nil (map quoted_letter s))
       ∙ quoted_octets s
-  );
+      );
 }
 
 -- ---- names
 
-
 escapes_label : (s : List ℕ) → AreOctets s → Escapes (zone_label s)
 escapes_label s h = escapes_append (flat_map name_octet s) (codes ".") (escapes_flat name_octet escapes_name_octet s h) (escapes_one 46 refl)
-
 
 escapes_labels : (ls : List (List ℕ)) → AllByRecursion AreOctets ls → Escapes (flat_map zone_label ls)
 escapes_labels [] h = escapes_none
@@ -136,15 +134,17 @@ not_alone c [] rest h = absurd (h refl)
 not_alone c (d ∷ l) rest h =
     ap (is_alone c) (append_assoc (flat_map name_octet (d ∷ l)) (codes ".") rest ∙ append_assoc (name_octet d) (flat_map name_octet l) (46 ∷ rest))
     ∙ front_not (needs_backslash d) (nat_le 33 d && nat_le d 126) (flat_map name_octet l) where
-  two_not : (x y : ℕ) (t : List ℕ) → is_alone c (x ∷ y ∷ t) ≡ false
-  two_not x y t = refl
-  one_not : (x : ℕ) (t : List ℕ) → is_alone c (x ∷ (t ++ 46 ∷ rest)) ≡ false
-  one_not x [] = refl
-  one_not x (y ∷ t) = refl
-  front_not : (b e : Bool) (t : List ℕ) → is_alone c (cond b (92 ∷ d ∷ []) (cond e (d ∷ []) (three_digits d)) ++ (t ++ 46 ∷ rest)) ≡ false
-  front_not true e t = refl
-  front_not false true t = one_not d t
-  front_not false false t = refl
+      two_not : (x y : ℕ) (t : List ℕ) → is_alone c (x ∷ y ∷ t) ≡ false
+      two_not x y t = refl
+
+      one_not : (x : ℕ) (t : List ℕ) → is_alone c (x ∷ (t ++ 46 ∷ rest)) ≡ false
+      one_not x [] = refl
+      one_not x (y ∷ t) = refl
+
+      front_not : (b e : Bool) (t : List ℕ) → is_alone c (cond b (92 ∷ d ∷ []) (cond e (d ∷ []) (three_digits d)) ++ (t ++ 46 ∷ rest)) ≡ false
+      front_not true e t = refl
+      front_not false true t = one_not d t
+      front_not false false t = refl
 
 completes : (x : DomainName) (origin : Option DomainName) → x.fully_qualified ≡ true → completed x origin ≡ x
 completes x None q = refl

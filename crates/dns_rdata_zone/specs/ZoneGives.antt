@@ -13,7 +13,7 @@ use Rattle.dns_zone_rows.specs.Rows.{Row, RowGives}
 use Rattle.dns_zone_rows.specs.declared.row.ZoneRow.{ZoneRow}
 use Rattle.dns_zone_words.specs.Refusals.{IsMessage, IsMissing}
 use Rattle.dns_zone_words.specs.Remaining.{AreUnknown, IsUnknownMark}
-use Rattle.dns_zone_words.specs.Words.{Word, Cursor, zone_words}
+use Rattle.dns_zone_words.specs.Words.{Word, Cursor, words_at, zone_words}
 
 -- `\#`, and behind it a length and as many octets in hexadecimal digits, of data of any type
 abbrev pub AreUnknownData : List ℕ → List Word → Type 0
@@ -84,7 +84,7 @@ IsProto e = ⊥
 abbrev pub OwnFault : Option DomainName → RecordType → List ℕ → ParseError → Type 0
 OwnFault origin t text e =
     ((e ≡ parse.UnsupportedRecordType t) × (row_of t ≡ None))
-    ⊎ ((row : ZoneRow) × (row_of t ≡ Some (row_value row)) × RowFault origin row (at_start text) e)
+    ⊎ ((row : ZoneRow) × (cursor : Cursor) × (row_of t ≡ Some (row_value row)) × (words_at cursor ≡ zone_words text) × RowFault origin row cursor e)
 
 -- The octets are too many, or are the data of no value, and the refusal says why.
 abbrev pub OctetsFault : ParseError → Type 0

@@ -1,16 +1,17 @@
 //! Record data of a text of a zone file.
 
-ghost use Rattle.std.specs.Prelude.{◌≡◌, ◌↔◌, ◌⊎◌, IsTrue, IfOk, IfErr, length};
+ghost use Rattle.std.specs.Prelude.{◌≡◌, ◌↔◌, ◌⊎◌, IsTrue, IfSome, IfNone, IfOk, IfErr, length};
 ghost use Rattle.std.specs.Option.{option_copied};
 ghost use Rattle.dns_rdata.specs.Data.{shape, type_of, IsEmittable, data_octets};
 ghost use Rattle.dns_words.specs.Reads.{UnlessMemory};
 ghost use Rattle.dns_zone_rows.specs.RowTable.{row_of};
 ghost use Rattle.dns_zone_words.specs.Refusals.{IsMissing};
 ghost use Rattle.dns_zone_words.specs.Remaining.{ReadsAll};
+ghost use Rattle.dns_zone_words.specs.ZoneReads.{IsCutRefused};
 ghost use Rattle.dns_rdata_zone.specs.ZoneGives.{GiveByRow, has_name, AreDataOf, GivesValue, GivesNone, at_start, OwnFault, OctetsFault, ZoneFault};
-ghost use Rattle.dns_rdata_zone.specs.ZoneSteps.{AreNoData, UnknownIs, UnknownIsNone};
+ghost use Rattle.dns_rdata_zone.specs.ZoneSteps.{AreNoData, UnknownIs, UnknownIsNone, RowIs, RowIsNone, IsBehindMark, HasNoMark};
 
-use crate::services::octets_behind;
+use crate::services::count_octets;
 use dns_rdata::{BinDecoder, Name, ParseError, RData, RecordType, Restrict};
 use dns_types::Octets;
 use dns_zone_rows::{row_octets, row_of};
@@ -21,32 +22,83 @@ const TOO_LONG: &str = "record data past 65535 octets";
 
 const POINTER: &str = "pointer in a domain name of unknown data";
 
-/// Record data of a type from its text in a zone file (RFC 1035, 5.1; RFC 3597, 5; RFC 9460, 2.1; the RFCs of the types). The
-/// text is one record's data, behind its type, and need not be UTF-8.
+/// Record data of a type from its text in a zone file (RFC 1035, 5.1; RFC 3597, 5; RFC 9460, 2.1; the RFCs of the types).
+///
+/// The text is the data of one record, as it stands behind the type. It is octets, and need not be UTF-8: an octet stands
+/// for itself, `\DDD` for the octet of that number, `\` and any other character for that character. Words, parentheses,
+/// comments and line ends are as [`ZoneWords`](dns_zone_words::ZoneWords) has them; each type has the fields of its row
+/// ([`row_of`](dns_zone_rows::row_of)).
+///
+/// - A name without a last dot is completed by the origin; of none, it stands as it is. `@` alone is the origin.
+/// - Service parameters may come in any order, none twice.
+/// - `\#` without quotes in front begins the form of unknown data, of every type: a length, and as many octets in
+///   hexadecimal digits. They are read as by [`RData::read`], and a name among them has no pointer.
+///
+/// Refused by [`MissingToken`](ParseError::MissingToken) where a word is missing, and by
+/// [`Message`](ParseError::Message) where the text is not cut into words, where a field has no such word, where a word is
+/// too many, where the form of unknown data is not kept, and where there are more than 65535 octets; each names the field
+/// or says the cause. By [`Proto`](ParseError::Proto) where the octets are no data of the type, by
+/// [`UnsupportedRecordType`](ParseError::UnsupportedRecordType) for a type without a row that is not in the form of unknown
+/// data, and by [`Memory`](ParseError::Memory) where memory runs out.
+///
+/// ```rust
+/// fn read_mail(alloc: Global, origin: &Name) -> Result<RData, ParseError> {
+///     from_zone_text(alloc, RecordType::MX, b"10 mail ; in the origin", Some(origin))
+/// }
+/// ```
 pub fn from_zone_text(
     alloc: Global,
     record_type: RecordType,
     text: &[u8],
     origin: Option<&Name>,
 ) -> Result<RData, ParseError>
+    // A value is answered exactly where the text gives it.
     ensures found { IfOk result (GivesValue (option_copied origin.entry) record_type text.now) }
     ensures kind { IfOk result (λ v. type_of v ≡ record_type) }
+    // It can be emitted.
     ensures emittable { IfOk result IsEmittable }
+    // What is refused, but for memory, gives no value.
     ensures refused { IfErr result (λ e. UnlessMemory e (GivesNone (option_copied origin.entry) record_type text.now)) }
     ensures why { IfErr result (λ e. (e ≡ ParseError.Memory) ⊎ ZoneFault (option_copied origin.entry) record_type text.now e) }
 {
-    let mut behind = ZoneWords::new(text);
-    if let Some(first) = behind.next_word()? {
-        if is_unknown_mark(first) {
-            return from_unknown_data(alloc, record_type, &mut behind);
-        }
+    match behind_mark(text)? {
+        Some(mut words) => from_unknown_data(alloc, record_type, &mut words),
+        None => from_row(alloc, record_type, text, origin),
     }
-    let octets = own_octets(alloc, record_type, text, origin)?;
+}
+
+// The words behind `\#` without quotes, where it stands first.
+fn behind_mark(text: &[u8]) -> Result<Option<ZoneWords<'_>>, ParseError>
+    ensures marked { IfOk result (λ o. IfSome o (IsBehindMark text.now)) }
+    ensures unmarked { IfOk result (λ o. IfNone o (HasNoMark text.now)) }
+    ensures refused { IfErr result (IsCutRefused (at_start text.now)) }
+{
+    let mut words = ZoneWords::new(text);
+    match words.next_word()? {
+        Some(first) if is_unknown_mark(first) => Ok(Some(words)),
+        _ => Ok(None),
+    }
+}
+
+// The data that the words of a text give by the row of the type.
+fn from_row(
+    alloc: Global,
+    record_type: RecordType,
+    text: &[u8],
+    origin: Option<&Name>,
+) -> Result<RData, ParseError>
+    ensures found { IfOk result (RowIs (option_copied origin.entry) record_type text.now) }
+    ensures kind { IfOk result (λ v. type_of v ≡ record_type) }
+    ensures emittable { IfOk result IsEmittable }
+    ensures refused { IfErr result (λ e. UnlessMemory e (RowIsNone (option_copied origin.entry) record_type text.now)) }
+    ensures why { IfErr result (λ e. (e ≡ ParseError.Memory) ⊎ OctetsFault e ⊎ OwnFault (option_copied origin.entry) record_type text.now e) }
+{
+    let octets = row_data(alloc, record_type, text, origin)?;
     read_octets(alloc, record_type, octets.as_slice())
 }
 
 // The octets that the words of a text give by the row of the type.
-fn own_octets(
+fn row_data(
     alloc: Global,
     record_type: RecordType,
     text: &[u8],
@@ -82,11 +134,7 @@ fn from_unknown_data(
 }
 
 // The value of which the octets are the data.
-fn read_octets(
-    alloc: Global,
-    record_type: RecordType,
-    octets: &[u8],
-) -> Result<RData, ParseError>
+fn read_octets(alloc: Global, record_type: RecordType, octets: &[u8]) -> Result<RData, ParseError>
     ensures found { IfOk result (AreDataOf octets.now record_type) }
     ensures kind { IfOk result (λ v. type_of v ≡ record_type) }
     ensures emittable { IfOk result IsEmittable }
@@ -105,11 +153,10 @@ fn read_octets(
 fn is_as_long(value: &RData, n: usize) -> bool
     ensures { IsTrue result ↔ (length (data_octets value.now) ≡ n) }
 {
-    if n == 0 {
-        return octets_behind(value, 0).next().is_none();
+    match count_octets(value) {
+        Some(count) => count == n as u64,
+        None => false,
     }
-    let mut last = octets_behind(value, n - 1);
-    last.next().is_some() && last.next().is_none()
 }
 
 // Whether data of the type has domain names.

@@ -1,6 +1,6 @@
 //! Service bindings as zone files have them (RFC 9460, 2.1).
 
-ghost use Rattle.std.specs.Prelude.{◌≡◌, Some, IfSome, length, drop};
+ghost use Rattle.std.specs.Prelude.{◌≡◌, ◌^◌, ◌≤◌, Some, IfSome, IfNone, length, drop};
 ghost use Rattle.std.specs.Fmt.{DisplaysOnOk};
 ghost use Rattle.hex.specs.Hex.{encode_lower};
 ghost use Rattle.dns_fields.specs.Fields.{canonical};
@@ -54,8 +54,9 @@ pub(crate) fn write_service<W: fmt::Write>(
 }
 
 // How many canonical octets there are; none where 64 bits do not hold the number.
-fn count_octets(rdata: &RData) -> Option<u64>
-    ensures { IfSome result (λ n. n ≡ length (data_octets rdata.now)) }
+pub(crate) fn count_octets(rdata: &RData) -> Option<u64>
+    ensures some { IfSome result (λ n. n ≡ length (data_octets rdata.now)) }
+    ensures none { IfNone result (2 ^ 64 ≤ length (data_octets rdata.now)) }
 {
     let mut octets = rdata.canonical_octets();
     let mut count = 0u64;
@@ -69,7 +70,7 @@ fn count_octets(rdata: &RData) -> Option<u64>
 }
 
 // The canonical octets behind the first n.
-pub(crate) fn octets_behind(rdata: &RData, n: usize) -> CanonicalOctets<'_>
+fn octets_behind(rdata: &RData, n: usize) -> CanonicalOctets<'_>
     ensures { result.octets ≡ drop n (data_octets rdata.now) }
 {
     let mut octets = rdata.canonical_octets();

@@ -15,5 +15,5 @@ returns g c = λ p ok.
     ∙ ap (λ (t : List ℕ). t ++ field_octets (Number 2) x.svc_priority) c.new-head.ensures in
     let behind : c.octets_behind-octets.result.octets ≡ drop (length (lowname x.target_name) + 2) whole =
     c.octets_behind-octets.ensures ∙ ap (λ (n : ℕ). drop (n + 2) whole) c.len.ensures.value in
-    has_written_of_eq _ _ _ _ _ (service_generic x c.in-Some.count c.as_slice.result.now whole _ c.requires c.in-Some.ensures front behind)
+    has_written_of_eq _ _ _ _ _ (service_generic x c.in-Some.count c.as_slice.result.now whole _ c.requires c.in-Some.ensures.some front behind)
     (has_written_append _ _ _ _ _ _ first (c.write_digits.ensures first.plain ok))

@@ -1,0 +1,197 @@
+-- Texts of zone files that are read, step by step.
+use Rattle.std.proofs.Common.{◌≡◌, ◌≢◌, ℕ, ◌+◌, ◌<◌, ◌≤◌, ◌^◌, true, List, [], ◌∷◌, length, Option, Some, None, Result, Ok, Err, ◌⊎◌, inl, inr, refl, sym, ◌∙◌, ap, subst, arith}
+use Rattle.std.specs.Prelude.{IfOk, IfErr}
+use Rattle.std.specs.Option.{option_map}
+use Rattle.std.specs.Result.{IsErrAnd}
+use Rattle.dns_fields.specs.Labels.{DomainName}
+use Rattle.dns_names_wire.specs.Words.{UnlessMemory as UnlessRead}
+use Rattle.dns_rdata.specs.Data.{shape, Fills, NoValue, data_octets}
+use Rattle.dns_rdata.specs.declared.record_data.RData.{RData}
+use Rattle.dns_types.specs.Errors.{decode_refusal, proto_refusal}
+use Rattle.dns_types.specs.declared.error.DecodeError.{DecodeError}
+use Rattle.dns_types.specs.declared.error.DecodeError.TheVariants as decode
+use Rattle.dns_types.specs.declared.error.ParseError.{ParseError}
+use Rattle.dns_types.specs.declared.error.ParseError.TheVariants as parse
+use Rattle.dns_types.specs.declared.record_type.RecordType.{RecordType}
+use Rattle.dns_words.specs.Reads.{UnlessMemory}
+use Rattle.dns_zone_rows.specs.RowFaults.{row_value, RowFault}
+use Rattle.dns_zone_rows.specs.RowTable.{row_of}
+use Rattle.dns_zone_rows.specs.Rows.{Row}
+use Rattle.dns_zone_rows.specs.declared.row.ZoneRow.{ZoneRow}
+use Rattle.dns_zone_words.specs.Remaining.{AreUnknown, IsUnknownMark, TookAll, NoneOfAll}
+use Rattle.dns_zone_words.specs.Words.{Word, Cursor, words_at, with_word, zone_words}
+use Rattle.dns_zone_words.specs.declared.words_error.WordsError.{WordsError}
+use Rattle.dns_zone_words.proofs.FirstSteps.{unless_map}
+use Rattle.dns_rdata_zone.specs.ZoneGives.{AreUnknownData, AreUnmarked, GiveByRow, WordsGive, TextGives, IsWhole, has_name, AreDataOf, GivesValue, GivesNone, OwnFault}
+use Rattle.dns_rdata_zone.specs.ZoneSteps.{AreNoData, UnknownIs, UnknownIsNone, RowIs, RowIsNone, IsBehindMark, HasNoMark}
+use Rattle.dns_rdata_zone.proofs.ZoneOnce.{same_words, unknown_once, by_row_once, data_one}
+
+-- what is handed on
+pub exit_with : {T : Type 0} (F : Result T ParseError → Type 0) (e : ParseError) (r : Result T ParseError) → IsErrAnd r (λ y. y ≡ e) → F (Err e) → F r
+exit_with F e (Ok x) h f = elim h [ ]
+exit_with F e (Err y) h f = subst (λ (z : ParseError). F (Err z)) (sym h) f
+
+-- ---- octets that are read
+
+read_none : (e : DecodeError) (P : Type 0) → UnlessRead e P → UnlessMemory (proto_refusal (decode_refusal e)) P
+read_none decode.Memory P h = tt
+read_none e P h = h
+
+pub octets_refused : (e : DecodeError) (m octets : List ℕ) (p n : ℕ) (t : RecordType) → m ≡ octets → p ≡ 0 → n ≡ length octets → UnlessRead e (NoValue m p n t)
+    → UnlessMemory (proto_refusal (decode_refusal e)) (AreNoData octets t)
+octets_refused e m octets p n t same start all h = unless_map (proto_refusal (decode_refusal e)) (NoValue m p n t) (AreNoData octets t)
+    (λ none. record {
+      none = λ v is. none.none v (subst (λ (k : ℕ). Fills m p k t v) (sym all)
+          (subst (λ (k : ℕ). Fills m k (length octets) t v) (sym start) (subst (λ (o : List ℕ). Fills o 0 (length octets) t v) (sym same) is.fills)));
+    }) (read_none e (NoValue m p n t) h)
+
+-- ---- unknown data
+
+unknown_same : (t : RecordType) (v : RData) (octets : List ℕ) (cursor : Cursor) → TookAll AreUnknown octets cursor → (u : UnknownIs t v cursor) → u.octets ≡ octets
+unknown_same t v octets cursor took u =
+    let words : took.words ≡ u.words = same_words (words_at cursor) took.words u.words took.cut u.cut in
+    unknown_once u.octets octets u.words u.are (subst (AreUnknown octets) words took.value)
+
+pub unknown_refused : (e : ParseError) (t : RecordType) (octets s : List ℕ) (cursor : Cursor) → s ≡ octets → TookAll AreUnknown octets cursor → UnlessMemory e (AreNoData s t)
+    → UnlessMemory e (UnknownIsNone t cursor)
+unknown_refused e t octets s cursor same took h = unless_refused e t octets cursor took (subst (λ (o : List ℕ). UnlessMemory e (AreNoData o t)) same h) where
+  unless_refused : (e : ParseError) (t : RecordType) (octets : List ℕ) (cursor : Cursor) → TookAll AreUnknown octets cursor → UnlessMemory e (AreNoData octets t) → UnlessMemory e (UnknownIsNone t cursor)
+  unless_refused e t octets cursor took h = unless_map e (AreNoData octets t) (UnknownIsNone t cursor)
+      (λ none. record { none = λ v u. none.none v (subst (λ (o : List ℕ). AreDataOf o t v) (unknown_same t v octets cursor took u) u.is_data) }) h
+
+pub not_whole : (t : RecordType) (v : RData) (octets s : List ℕ) (n : ℕ) (cursor : Cursor) → s ≡ octets → n ≡ length octets → TookAll AreUnknown octets cursor
+    → AreDataOf s t v → has_name (shape t) ≡ true → length (data_octets v) ≢ n → UnknownIsNone t cursor
+not_whole t v octets s n cursor e counted took is named other = record {
+  none = λ w u.
+      let same = unknown_same t w octets cursor took u in
+      let value : w ≡ v = data_one octets t w v (subst (λ (o : List ℕ). AreDataOf o t w) same u.is_data) (subst (λ (o : List ℕ). AreDataOf o t v) e is) in
+      other (ap (λ (x : RData). length (data_octets x)) (sym value) ∙ u.whole named ∙ ap length same ∙ sym counted);
+}
+
+-- ---- rows
+
+row_none : (e : ParseError) (origin : Option DomainName) (t : RecordType) (octets text : List ℕ) (cursor : Cursor) → words_at cursor ≡ zone_words text
+    → TookAll (GiveByRow origin (row_of t)) octets cursor → UnlessMemory e (AreNoData octets t) → UnlessMemory e (RowIsNone origin t text)
+row_none e origin t octets text cursor starts took h = unless_map e (AreNoData octets t) (RowIsNone origin t text)
+    (λ none. record {
+      none = λ v u.
+          let words : u.words ≡ took.words = same_words (zone_words text) u.words took.words u.cut (sym starts ∙ took.cut) in
+          let give : GiveByRow origin (row_of t) u.octets took.words = subst (GiveByRow origin (row_of t) u.octets) words u.give in
+          let octets_same : u.octets ≡ octets = by_row_once origin (row_of t) u.octets octets took.words give took.value in
+          none.none v (subst (λ (o : List ℕ). AreDataOf o t v) octets_same u.is_data);
+    }) h
+
+pub row_refused : {T : Type 0} (r : Result T ParseError) (origin : Option DomainName) (t : RecordType) (octets s text : List ℕ) (cursor : Cursor) → words_at cursor ≡ zone_words text
+    → s ≡ octets → TookAll (GiveByRow origin (row_of t)) octets cursor → IfErr r (λ e. UnlessMemory e (AreNoData s t)) → IfErr r (λ e. UnlessMemory e (RowIsNone origin t text))
+row_refused (Ok x) origin t octets s text cursor starts same took h = tt
+row_refused (Err e) origin t octets s text cursor starts same took h =
+    row_none e origin t octets text cursor starts took (subst (λ (o : List ℕ). UnlessMemory e (AreNoData o t)) same h)
+
+pub words_refused : (e : ParseError) (origin : Option DomainName) (t : RecordType) (text : List ℕ) (cursor : Cursor) → words_at cursor ≡ zone_words text
+    → UnlessMemory e (NoneOfAll (GiveByRow origin (row_of t)) cursor) → UnlessMemory e (RowIsNone origin t text)
+words_refused e origin t text cursor starts h = unless_map e (NoneOfAll (GiveByRow origin (row_of t)) cursor) (RowIsNone origin t text)
+    (λ none. record { none = λ v u. none.none u.octets u.words (starts ∙ u.cut) u.give }) h
+
+same_rows : (o : Option ZoneRow) (row : ZoneRow) (r : Option Row) → o ≡ Some row → option_map row_value o ≡ r → r ≡ Some (row_value row)
+same_rows o row r e f = sym f ∙ ap (option_map row_value) e
+
+pub row_fault : {T : Type 0} (origin : Option DomainName) (t : RecordType) (text : List ℕ) (o : Option ZoneRow) (row : ZoneRow) (cursor : Cursor) (r : Result T ParseError)
+    → o ≡ Some row → option_map row_value o ≡ row_of t → words_at cursor ≡ zone_words text → IfErr r (λ e. (e ≡ parse.Memory) ⊎ RowFault origin row cursor e)
+    → IfErr r (λ e. (e ≡ parse.Memory) ⊎ OwnFault origin t text e)
+row_fault origin t text o row cursor (Ok x) e f starts h = tt
+row_fault origin t text o row cursor (Err y) e f starts (inl memory) = inl memory
+row_fault origin t text o row cursor (Err y) e f starts (inr fault) = inr (inr (row, cursor, same_rows o row (row_of t) e f, starts, fault))
+
+-- ---- a whole text
+
+first_ok : (first : Word) (behind : Result (List Word) WordsError) (all : List Word) → with_word first behind ≡ Ok all
+    → (rest : List Word) × (behind ≡ Ok rest) × (all ≡ first ∷ rest)
+first_ok first (Ok rest) all e = let same : first ∷ rest ≡ all = cc in (rest, refl, sym same)
+first_ok first (Err why) all e = absurd (cc)
+
+pub unknown_gives : (origin : Option DomainName) (t : RecordType) (text : List ℕ) (cursor : Cursor) (v : RData) → IsBehindMark text cursor → UnknownIs t v cursor
+    → GivesValue origin t text v
+unknown_gives origin t text cursor v b u = record {
+  octets = u.octets;
+  gives = record { words = b.first ∷ u.words; cut = b.cut ∙ ap (with_word b.first) u.cut; give = inl (b.mark, u.are) };
+  is_data = u.is_data;
+  whole = λ unknown. u.whole;
+}
+
+unknown_from : (t : RecordType) (v : RData) (octets : List ℕ) (words rest : List Word) (first : Word) (cursor : Cursor) → words ≡ first ∷ rest → words_at cursor ≡ Ok rest
+    → AreUnknownData octets words → AreDataOf octets t v → (AreUnknownData octets words → IsWhole t octets v) → UnknownIs t v cursor
+unknown_from t v octets words rest first cursor e cut unknown is whole = record {
+  words = rest;
+  cut = cut;
+  octets = octets;
+  are = (subst (AreUnknownData octets) e unknown).1;
+  is_data = is;
+  whole = whole unknown;
+}
+
+none_behind : (origin : Option DomainName) (t : RecordType) (text : List ℕ) (cursor : Cursor) → IsBehindMark text cursor → UnknownIsNone t cursor → GivesNone origin t text
+none_behind origin t text cursor b none = record {
+  none = λ v g.
+      let k = first_ok b.first (words_at cursor) g.gives.words (sym b.cut ∙ g.gives.cut) in
+      by_form v g k.0 k.1 k.2 g.gives.give;
+} where
+  by_form : (v : RData) (g : GivesValue origin t text v) (rest : List Word) → words_at cursor ≡ Ok rest → g.gives.words ≡ b.first ∷ rest → WordsGive origin t g.octets g.gives.words → ⊥
+  by_form v g rest cut e (inl unknown) = none.none v (unknown_from t v g.octets g.gives.words rest b.first cursor e cut unknown g.is_data g.whole)
+  by_form v g rest cut e (inr own) = (subst AreUnmarked e own.0) b.mark
+
+pub marked_refused : (e : ParseError) (origin : Option DomainName) (t : RecordType) (text : List ℕ) (cursor : Cursor) → IsBehindMark text cursor
+    → UnlessMemory e (UnknownIsNone t cursor) → UnlessMemory e (GivesNone origin t text)
+marked_refused e origin t text cursor b h = unless_map e (UnknownIsNone t cursor) (GivesNone origin t text) (none_behind origin t text cursor b) h
+
+not_marked : (octets : List ℕ) (words : List Word) → AreUnmarked words → AreUnknownData octets words → ⊥
+not_marked octets [] h k = k
+not_marked octets (first ∷ words) h k = h k.0
+
+pub row_gives : (origin : Option DomainName) (t : RecordType) (text : List ℕ) (v : RData) → HasNoMark text → RowIs origin t text v → GivesValue origin t text v
+row_gives origin t text v h u = record {
+  octets = u.octets;
+  gives = record { words = u.words; cut = u.cut; give = inr (h.unmarked u.words u.cut, u.give) };
+  is_data = u.is_data;
+  whole = λ unknown. absurd (not_marked u.octets u.words (h.unmarked u.words u.cut) unknown);
+}
+
+none_own : (origin : Option DomainName) (t : RecordType) (text : List ℕ) → HasNoMark text → RowIsNone origin t text → GivesNone origin t text
+none_own origin t text h none = record { none = λ v g. by_form v g g.gives.give } where
+  by_form : (v : RData) (g : GivesValue origin t text v) → WordsGive origin t g.octets g.gives.words → ⊥
+  by_form v g (inl unknown) = not_marked g.octets g.gives.words (h.unmarked g.gives.words g.gives.cut) unknown
+  by_form v g (inr own) = none.none v (record { words = g.gives.words; cut = g.gives.cut; octets = g.octets; give = own.1; is_data = g.is_data })
+
+pub own_refused : (e : ParseError) (origin : Option DomainName) (t : RecordType) (text : List ℕ) → HasNoMark text
+    → UnlessMemory e (RowIsNone origin t text) → UnlessMemory e (GivesNone origin t text)
+own_refused e origin t text h k = unless_map e (RowIsNone origin t text) (GivesNone origin t text) (none_own origin t text h) k
+
+-- a text that is not cut into words gives none
+pub uncut_gives : (origin : Option DomainName) (t : RecordType) (text : List ℕ) (why : WordsError) → zone_words text ≡ Err why → GivesNone origin t text
+uncut_gives origin t text why e = record { none = λ v g. let both : ◌≡◌ {A = Result (List Word) WordsError} (Ok g.gives.words) (Err why) = sym g.gives.cut ∙ e in absurd (cc) }
+
+-- ---- the first word
+
+pub no_mark_none : (text : List ℕ) → zone_words text ≡ Ok [] → HasNoMark text
+no_mark_none text e = record { unmarked = λ words cut. subst AreUnmarked (same_words (zone_words text) [] words e cut) tt }
+
+pub no_mark_other : (text : List ℕ) (first : Word) (behind : Result (List Word) WordsError) → zone_words text ≡ with_word first behind → (IsUnknownMark first → ⊥) → HasNoMark text
+no_mark_other text first behind e h = record {
+  unmarked = λ words cut. let k = first_ok first behind words (sym e ∙ cut) in subst AreUnmarked (sym k.2) h;
+}
+
+-- ---- what calls answer
+
+pub marked_answer : {T : Type 0} (r : Result T ParseError) (origin : Option DomainName) (t : RecordType) (text : List ℕ) (cursor : Cursor) → IsBehindMark text cursor
+    → IfErr r (λ e. UnlessMemory e (UnknownIsNone t cursor)) → IfErr r (λ e. UnlessMemory e (GivesNone origin t text))
+marked_answer (Ok x) origin t text cursor b h = tt
+marked_answer (Err e) origin t text cursor b h = marked_refused e origin t text cursor b h
+
+pub row_answer : {T : Type 0} (r : Result T ParseError) (origin : Option DomainName) (t : RecordType) (text : List ℕ) → HasNoMark text
+    → IfErr r (λ e. UnlessMemory e (RowIsNone origin t text)) → IfErr r (λ e. UnlessMemory e (GivesNone origin t text))
+row_answer (Ok x) origin t text m h = tt
+row_answer (Err e) origin t text m h = own_refused e origin t text m h
+
+pub row_found : (r : Result RData ParseError) (origin : Option DomainName) (t : RecordType) (text : List ℕ) → HasNoMark text
+    → IfOk r (RowIs origin t text) → IfOk r (GivesValue origin t text)
+row_found (Ok v) origin t text m h = row_gives origin t text v m h
+row_found (Err e) origin t text m h = tt

@@ -1,0 +1,13 @@
+use Rattle.std.specs.Option.{option_copied}
+use Rattle.dns_rdata_zone.proofs.ZoneSteps.{marked_answer, row_answer, row_found}
+use Rattle.dns_rdata_zone.proofs.reading.from_zone_text.Goals as goal
+
+pub returns-in-Some-clause-refused : goal.returns-in-Some-clause-refused
+returns-in-Some-clause-refused c = marked_answer c.from_unknown_data.result (option_copied c.args.origin) c.args.record_type c.args.text.now c.in-Some.words
+    (rw c.in-Some.is at c.in_ok-words.ensures.marked) c.from_unknown_data.ensures.refused
+
+pub returns-in-None-clause-found : goal.returns-in-None-clause-found
+returns-in-None-clause-found c = row_found c.from_row.result (option_copied c.args.origin) c.args.record_type c.args.text.now (rw c.in-None.is at c.in_ok-words.ensures.unmarked) c.from_row.ensures.found
+
+pub returns-in-None-clause-refused : goal.returns-in-None-clause-refused
+returns-in-None-clause-refused c = row_answer c.from_row.result (option_copied c.args.origin) c.args.record_type c.args.text.now (rw c.in-None.is at c.in_ok-words.ensures.unmarked) c.from_row.ensures.refused

@@ -1,0 +1,7 @@
+use Rattle.std.specs.Option.{option_copied}
+use Rattle.dns_rdata_zone.proofs.ZoneSteps.{row_fault}
+use Rattle.dns_rdata_zone.proofs.reading.row_data.Goals as goal
+
+pub returns-in-Some-clause-why : goal.returns-in-Some-clause-why
+returns-in-Some-clause-why c = row_fault (option_copied c.args.origin) c.args.record_type c.args.text.now c.row_of.result c.in-Some.row c.new.result c.row_octets.result
+    c.in-Some.is c.row_of.ensures c.new.ensures.words c.row_octets.ensures.why
