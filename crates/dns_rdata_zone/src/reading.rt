@@ -42,7 +42,7 @@ const POINTER: &str = "pointer in a domain name of unknown data";
 /// data, and by [`Memory`](ParseError::Memory) where memory runs out.
 ///
 /// ```rust
-/// fn read_mail(alloc: Global, origin: &Name) -> Result<RData, ParseError> {
+/// fn read_zone_mail(alloc: Global, origin: &Name) -> Result<RData, ParseError> {
 ///     from_zone_text(alloc, RecordType::MX, b"10 mail ; in the origin", Some(origin))
 /// }
 /// ```

@@ -6,6 +6,7 @@ mod again;
 mod messages;
 mod parts;
 mod record_data;
+mod zone_files;
 
 use again::reads_again;
 use anyhow::Result;
@@ -18,6 +19,7 @@ use messages::{print_records, write_message};
 use parts::{is_in_zone, only_issuer, port_of, server_of};
 use record_data::{emit_mail, host_of, parse_alias, parse_mail, read_address, sort_records};
 use std::alloc::Global;
+use zone_files::{print_zone_text, read_zone_mail};
 
 fn print_message(rt: &(impl AllocGlobal + Print)) -> Result<()> {
     let mut octets = Vec::new(rt.alloc());
@@ -99,11 +101,18 @@ fn print_again(rt: &(impl AllocGlobal + Print)) -> Result<()> {
     Ok(())
 }
 
+fn print_zone(rt: &(impl AllocGlobal + Print)) -> Result<()> {
+    let origin = Name::from_ascii(rt.alloc(), "example.com.")?;
+    let mail = Held(read_zone_mail(rt.alloc(), &origin)?);
+    print_zone_text(rt, &mail.0)
+}
+
 fn main(rt: HostRuntime) -> Result<()> {
     print_message(&rt)?;
     print_text(&rt)?;
     print_mail(&rt)?;
     print_sorted(&rt)?;
     print_parts(&rt)?;
-    print_again(&rt)
+    print_again(&rt)?;
+    print_zone(&rt)
 }
