@@ -43,7 +43,7 @@ const POINTER: &str = "pointer in a domain name of unknown data";
 ///
 /// ```rust
 /// fn read_zone_mail(alloc: Global, origin: &Name) -> Result<RData, ParseError> {
-///     from_zone_text(alloc, RecordType::MX, b"10 mail ; in the origin", Some(origin))
+///     from_zone_text(alloc, RecordType::MX, b"10 mail", Some(origin))
 /// }
 /// ```
 pub fn from_zone_text(

@@ -17,7 +17,10 @@ use dns_rdata::{
 use held_data::{Held, HeldList};
 use messages::{print_records, write_message};
 use parts::{is_in_zone, only_issuer, port_of, server_of};
-use record_data::{emit_mail, host_of, parse_alias, parse_mail, read_address, sort_records};
+use record_data::{
+    canonical_start, emit_mail, host_of, octets_of, parse_alias, parse_mail, parse_mail_of,
+    read_address, sort_records,
+};
 use std::alloc::Global;
 use zone_files::{print_zone_text, read_zone_mail};
 
@@ -104,7 +107,20 @@ fn print_again(rt: &(impl AllocGlobal + Print)) -> Result<()> {
 fn print_zone(rt: &(impl AllocGlobal + Print)) -> Result<()> {
     let origin = Name::from_ascii(rt.alloc(), "example.com.")?;
     let mail = Held(read_zone_mail(rt.alloc(), &origin)?);
-    print_zone_text(rt, &mail.0)
+    print_zone_text(rt, &mail.0)?;
+    let mail = Held(parse_mail_of(rt.alloc(), &origin)?);
+    print_octets(rt, &mail)
+}
+
+// Whole, and the first four of the canonical ones.
+fn print_octets(rt: &(impl AllocGlobal + Print), record: &Held) -> Result<()> {
+    let mut octets = Vec::new(rt.alloc());
+    octets_of(rt.alloc(), &record.0, &mut octets)?;
+    println!(rt; "{}", hex::encode(rt.alloc(), octets.as_slice())?)?;
+    let mut start = [0u8; 4];
+    let count = canonical_start(&record.0, &mut start);
+    println!(rt; "{count} {}", hex::encode(rt.alloc(), &start)?)?;
+    Ok(())
 }
 
 fn main(rt: HostRuntime) -> Result<()> {

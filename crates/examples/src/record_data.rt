@@ -50,3 +50,23 @@ pub fn sort_records(records: &mut Vec<RData>) {
     records.sort_unstable();
     records.dedup();
 }
+
+/// The same, with a name that is relative to the origin.
+pub fn parse_mail_of(alloc: Global, origin: &Name) -> Result<RData, ParseError> {
+    RData::try_from_str_with_origin(alloc, RecordType::MX, "10 mail", Some(origin))
+}
+
+/// The octets of record data, without pointers.
+pub fn octets_of(alloc: Global, data: &RData, octets: &mut Vec<u8>) -> ProtoResult<()>
+    requires { octets.old.items ≡ [] }
+{
+    let mut encoder = BinEncoder::new(alloc, octets);
+    data.emit_whole(&mut encoder)?;
+    encoder.into_bytes();
+    Ok(())
+}
+
+/// Fills a buffer with the first canonical octets, and answers how many there were.
+pub fn canonical_start(data: &RData, buffer: &mut [u8]) -> usize {
+    data.canonical_octets().copy_to(buffer)
+}
