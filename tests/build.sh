@@ -11,7 +11,7 @@ need_rt() { # WHO
 # The crates of the repository that a crate uses.
 uses() { # CRATE
   local name
-  for name in $(sed -n "s/^$1://p" "$top/crates.txt"); do
+  for name in $(sed -nE "s/^$1( staticlib)?://p" "$top/crates.txt"); do
     if grep -q "^$name:" "$top/crates.txt"; then echo "$name"; fi
   done
 }
