@@ -31,7 +31,7 @@ use Rattle.dns_words.proofs.Printed.{ipv4_back, ipv6_back}
 use Rattle.dns_zone_words.specs.Letters.{Letter, plain, letters, octet_of, escapes_stand}
 use Rattle.dns_zone_parameters.specs.Keys.{key_number as spelled_number}
 use Rattle.dns_zone_parameters.specs.Lists.{items_from, items_in, unescaped_from, escapes_end_from, IsProtocol, IsItem, IsList, IsListedKey, IsKeyList}
-use Rattle.dns_zone_parameters.specs.Values.{HasOctets, IsPort, IsValue}
+use Rattle.dns_zone_parameters.specs.Values.{HasOctets, IsPort, forbids_escapes, IsValue}
 use Rattle.dns_zone_parameters.specs.declared.key.ParameterKey.{ParameterKey}
 use Rattle.dns_zone_parameters.specs.declared.key.ParameterKey.TheVariants as keys
 use Rattle.dns_zone_parameters.specs.declared.lists.ListItem.{ListItem}
@@ -63,19 +63,30 @@ plain_escapes : (s : List ℕ) → AreRunOctets s → escapes_stand s ≡ true
 plain_escapes [] h = refl
 plain_escapes (c ∷ s) h = rw (run_slash c h.0) (plain_escapes s h.1)
 
+no_slash : (s : List ℕ) → AreRunOctets s → AllByRecursion (λ c. eqb c 92 ≡ false) s
+no_slash [] h = tt
+no_slash (c ∷ s) h = (run_slash c h.0, no_slash s h.1)
+
 -- a value whose text's octets stand for themselves
 pub plain_value : (key : ParameterKey) (s octets : List ℕ) → AreRunOctets s → HasOctets key s octets → length octets < 2 ^ 16 → IsValue key s octets
 plain_value key s octets h has fits = record {
+  plain = λ _. no_slash s h;
   escapes = plain_escapes s h;
   has = subst (λ (t : List ℕ). HasOctets key t octets) (sym (ap (map octet_of) (plain_letters s h) ∙ plain_octets s)) has;
   fits = fits;
 }
 
--- a value whose text was escaped
-pub escaped_value : (key : ParameterKey) (s octets : List ℕ) → AreOctets s → HasOctets key s octets → length octets < 2 ^ 16 → IsValue key (flat_map escaped s) octets
-escaped_value key s octets h has fits =
+-- a value whose text was escaped, of a key that does not forbid it
+pub escaped_value : (key : ParameterKey) (s octets : List ℕ) → forbids_escapes key ≡ false → AreOctets s → HasOctets key s octets → length octets < 2 ^ 16
+    → IsValue key (flat_map escaped s) octets
+escaped_value key s octets free h has fits =
     let form = text_form true s h in
-    record { escapes = form.escapes; has = subst (λ (t : List ℕ). HasOctets key t octets) form.value has; fits = fits }
+    record {
+      plain = λ forbidden. absurd (cc (forbidden, free));
+      escapes = form.escapes;
+      has = subst (λ (t : List ℕ). HasOctets key t octets) form.value has;
+      fits = fits;
+    }
 
 -- ---- lists whose items have no comma and no `\`
 

@@ -81,7 +81,7 @@ enclosed_at n key s octets h e quotes v = let k = spelled_at n key h e in number
 opaque_at : (n : ℕ) (s : List ℕ) → n < 65535 → 6 < n → AreOctets s → length s < 2 ^ 16 → ParameterText (key_name n ++ 61 ∷ quoted s) (n, s)
 opaque_at n s h above octets fits =
     (enclosed_at n (keys.Numbered n) (flat_map escaped s) s h (numbered_at n above) (spelled_quotes s octets)
-    (escaped_value (keys.Numbered n) s s octets refl fits))
+    (escaped_value (keys.Numbered n) s s refl octets refl fits))
 
 -- a value without quotes behind its key
 bare_behind : (n : ℕ) (key : ParameterKey) (s octets : List ℕ) → n < 65535 → key_of n ≡ key → AreRunOctets s → HasOctets key s octets → length octets < 2 ^ 16
@@ -126,7 +126,7 @@ behind_key n (Alpn x) has h fits =
     let octets = flat_map string x.0 in
     subst (λ (t : List ℕ). ParameterText (key_name n ++ 61 ∷ 34 ∷ (t ++ 34 ∷ [])) (n, octets)) (sym (list_spelled x.0))
     (enclosed_at n keys.Alpn (flat_map escaped list) octets (small_at 1 n (omega arith) own) (key_at 1 n keys.Alpn refl own) (spelled_quotes list (list_octets x.0 octets_are))
-    (escaped_value keys.Alpn list octets (list_octets x.0 octets_are) (names_list x.0 h.0 names) fits))
+    (escaped_value keys.Alpn list octets refl (list_octets x.0 octets_are) (names_list x.0 h.0 names) fits))
 behind_key n NoDefaultAlpn has h fits =
     let k = spelled_at n keys.NoDefaultAlpn (small_at 2 n (omega arith) has) (key_at 2 n keys.NoDefaultAlpn refl has) in
     subst (λ (t : List ℕ). ParameterText t (n, [])) (sym (append-nil (key_name n)))
