@@ -1,17 +1,16 @@
 -- Where the names of record data begin.
-use Rattle.std.proofs.Common.{◌≡◌, ◌∙◌, ℕ, ◌+◌, ◌≤◌, ◌⊎◌, inl, inr, List, [], ◌∷◌, length, refl, sym, ap, subst, arith, Option, Some, None, MatchOption, Result, Ok, Err, IfOk}
+use Rattle.std.proofs.Common.{◌≡◌, ℕ, ◌+◌, ◌≤◌, ◌⊎◌, inl, inr, List, length, refl, sym, subst, arith, Option, Some, None, MatchOption, Result, Ok, Err, IfOk}
 use Rattle.std.specs.Borrow.{Bor}
-use Rattle.std.specs.Int.{bytes_high_first}
 use Rattle.dns_fields.specs.Labels.{DomainName}
 use Rattle.dns_fields.specs.Names.{IsNameIn}
-use Rattle.dns_fields.specs.Fields.{Kind, Number, Text, Name, Value, Values, Field, Stands}
+use Rattle.dns_fields.specs.Fields.{Number, Text, Name, Field, Stands}
 use Rattle.dns_fields.proofs.Laws.{one_end}
 use Rattle.dns_fields.proofs.Numbers.{length-bytes}
 use Rattle.dns_rdata_base.specs.declared.naptr.NAPTR.{NAPTR}
 use Rattle.dns_rdata_base.specs.declared.soa.SOA.{SOA}
 use Rattle.dns_rdata.specs.declared.record_data.RData.{RData}
 use Rattle.dns_rdata.specs.declared.record_data.RData.TheVariants as rdata
-use Rattle.dns_rdata.specs.Data.{FieldsOf, Fills, fields_of}
+use Rattle.dns_rdata.specs.Data.{FieldsOf, fields_of}
 use Rattle.dns_rdata_c.specs.Names.{names_in, IsNameAt, IsFilledBy}
 
 -- the fields of a value stand where it fills the octets

@@ -1,11 +1,11 @@
 -- Where the options and parameters of record data begin.
-use Rattle.std.proofs.Common.{◌≡◌, ◌∙◌, ℕ, ◌+◌, ◌-◌, ◌<◌, ◌≤◌, inl, inr, List, [], ◌∷◌, zero, suc, slice_get, length, take, drop, map, refl, sym, ap, subst, arith, Option, Some, Result, Ok, Err, IfOk}
+use Rattle.std.proofs.Common.{◌≡◌, ◌∙◌, ℕ, ◌+◌, ◌-◌, ◌<◌, ◌≤◌, inl, inr, List, [], ◌∷◌, zero, suc, slice_get, length, take, drop, map, refl, sym, ap, subst, arith, Some, Result, Ok, Err, IfOk}
 use Rattle.std.proofs.lemmas.List.{length-map, length-take, length-drop}
 use Rattle.dns_fields.specs.Labels.{DomainName}
 use Rattle.dns_fields.specs.Names.{IsNameIn}
 use Rattle.dns_fields.specs.Octets.{At}
 use Rattle.dns_fields.specs.Pieces.{Numbered, pieces, ArePieces, AllHeld}
-use Rattle.dns_fields.specs.Fields.{Name, Number, Parameters, Field, Stands}
+use Rattle.dns_fields.specs.Fields.{Name, Stands}
 use Rattle.dns_fields.proofs.Laws.{one_end}
 use Rattle.dns_fields.proofs.Numbers.{length-bytes}
 use Rattle.dns_rdata_options.specs.OPT.{Pair, pair_value, opt_shape, opt_fields}
