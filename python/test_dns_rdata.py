@@ -61,7 +61,8 @@ class Calls(unittest.TestCase):
         self.assertEqual(lib.names(b"\x0a\0\0\1", 0, 4, lib.A), [])
         options = b"\0\x0a\0\2\1\2\0\x0c\0\0"
         self.assertEqual(lib.parts(options, 0, 10, lib.OPT), [(10, 4, 2), (12, 10, 0)])
-        self.assertEqual(lib.parts(options, 0, 9, lib.OPT), [])
+        self.assertEqual(lib.parts(options, 0, 8, lib.OPT), [])
+        self.refused(lib.Status.LENGTH, lib.parts, options, 0, 9, lib.OPT)
         self.refused(lib.Status.LENGTH, lib.names, MESSAGE, 17, 3, lib.MX)
 
     def test_types(self):

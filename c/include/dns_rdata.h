@@ -122,7 +122,8 @@ DNS_RDATA_NONNULL dns_rdata_status dns_rdata_name(const uint8_t *message, size_t
 /*
  * An option of OPT, or a parameter of SVCB and HTTPS: its code or key in *number, and in *begin the place in the message of the
  * first of its *count octets. They are counted from 0 in the order of the message. Where there is none of this number the answer
- * is DNS_RDATA_ABSENT; an OPT that ends within an option has none. The three are set with DNS_RDATA_OK alone.
+ * is DNS_RDATA_ABSENT. An OPT that ends behind a code, or within the octets of an option, is data and has none. The three are set
+ * with DNS_RDATA_OK alone.
  */
 DNS_RDATA_NONNULL dns_rdata_status dns_rdata_part(const uint8_t *message, size_t message_length, size_t place,
                                                   uint16_t length, uint16_t type, size_t index, uint16_t *number,

@@ -2,6 +2,6 @@ pub mod Equalities
 pub mod Fillings
 pub mod Whole
 pub mod Readings
-pub mod Names
-pub mod Parts
+pub mod NamePlaces
+pub mod PartPlaces
 pub mod Walking

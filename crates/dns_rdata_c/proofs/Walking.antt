@@ -1,5 +1,5 @@
 -- A walk over pieces.
-use Rattle.std.proofs.Common.{◌≡◌, ◌∙◌, ℕ, ◌+◌, ◌-◌, ◌<◌, ◌≤◌, ◌^◌, zero, suc, List, [], ◌∷◌, ◌++◌, length, take, drop, refl, sym, ap, subst, arith, add-one, append_assoc, length-append, Option, Some, slice_get}
+use Rattle.std.proofs.Common.{◌≡◌, ◌∙◌, ℕ, ◌+◌, ◌<◌, ◌≤◌, ◌^◌, zero, suc, List, [], ◌∷◌, ◌++◌, length, take, drop, refl, sym, ap, subst, arith, add-one, append_assoc, length-append, Some, slice_get}
 use Rattle.std.specs.Int.{bytes_high_first}
 use Rattle.std.proofs.lemmas.List.{append-nil, drop-drop, drop_at, take_at, length-drop}
 use Rattle.dns_fields.specs.Pieces.{Numbered, piece, pieces, IsPiece, ArePieces}
@@ -50,8 +50,13 @@ record Here (s : List ℕ) (index i at : ℕ) : Type 0 where
   next : at + (length x.1 + 4) ≡ length (pieces (take (suc i) walk.read))
 
 length-piece : (x : Numbered (List ℕ)) → length (piece x) ≡ length x.1 + 4
-length-piece x = omega (arith, length-append (bytes_high_first 2 x.0) (bytes_high_first 2 (length x.1) ++ x.1), length-append (bytes_high_first 2 (length x.1)) x.1,
-  length-bytes 2 x.0, length-bytes 2 (length x.1))
+length-piece x = omega (
+  arith,
+  length-append (bytes_high_first 2 x.0) (bytes_high_first 2 (length x.1) ++ x.1),
+  length-append (bytes_high_first 2 (length x.1)) x.1,
+  length-bytes 2 x.0,
+  length-bytes 2 (length x.1),
+)
 
 here_of : (s : List ℕ) (index i at : ℕ) → Walked s index i at → i ≤ index → Here s index i at
 here_of s index i at w h =
@@ -71,8 +76,15 @@ here_of s index i at w h =
 room : (s : List ℕ) (index i at : ℕ) (e : Here s index i at) → at + (length e.x.1 + 4) ≤ length s
 room s index i at e =
     let size : length (drop at s) ≡ length e.x.1 + 4 + length e.rest =
-    omega (arith, ap length e.stands, length-append (bytes_high_first 2 e.x.0) (bytes_high_first 2 (length e.x.1) ++ (e.x.1 ++ e.rest)),
-      length-append (bytes_high_first 2 (length e.x.1)) (e.x.1 ++ e.rest), length-append e.x.1 e.rest, length-bytes 2 e.x.0, length-bytes 2 (length e.x.1)) in
+    omega (
+      arith,
+      ap length e.stands,
+      length-append (bytes_high_first 2 e.x.0) (bytes_high_first 2 (length e.x.1) ++ (e.x.1 ++ e.rest)),
+      length-append (bytes_high_first 2 (length e.x.1)) (e.x.1 ++ e.rest),
+      length-append e.x.1 e.rest,
+      length-bytes 2 e.x.0,
+      length-bytes 2 (length e.x.1),
+    ) in
     omega (arith, size, length-drop at s)
 
 pub walk_room : (s : List ℕ) (index i at : ℕ) → Walked s index i at → i ≤ index → at + 4 ≤ length s

@@ -1,5 +1,5 @@
 -- What the calls give.
-use Rattle.std.specs.Prelude.{◌≡◌, ◌≢◌, ◌⊎◌, ℕ, ◌<◌, ◌≤◌, ℤ, pos, negsuc, Option, Some, None, List, [], length, true, false}
+use Rattle.std.specs.Prelude.{◌≡◌, ◌⊎◌, ℕ, ◌<◌, ◌≤◌, ℤ, pos, negsuc, Option, Some, None, List, [], length, false}
 use Rattle.std.specs.Ordering.{nat_cmp}
 use Rattle.std.specs.Cmp.Lexicographic.{slice_cmp}
 use Rattle.std.specs.declared.cmp.Ordering.{Ordering}
@@ -17,7 +17,6 @@ use Rattle.dns_types.specs.declared.record_type.RecordType.{RecordType}
 use Rattle.dns_rdata.specs.declared.record_data.RData.{RData}
 use Rattle.dns_rdata.specs.Data.{Fills, NoValue, fields_of, data_octets, IsEmittable}
 use Rattle.dns_rdata.specs.DataWords.{IsDataTextAt, GivesNoneAt}
-use Rattle.dns_rdata.specs.Laws.{HasEqual, ReadsCanonical}
 use Rattle.dns_rdata.specs.Texts.{data_text}
 use Rattle.dns_rdata_c.specs.declared.check.Refusal.{Refusal}
 use Rattle.dns_rdata_c.specs.Reading.{IsCause, HasData}

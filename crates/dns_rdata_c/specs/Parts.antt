@@ -1,6 +1,5 @@
 -- The options of OPT and the parameters of a service binding, and where their octets stand in the message.
-use Rattle.std.specs.Prelude.{◌≡◌, ℕ, ◌+◌, ◌<◌, List, length, take, Some, slice_get}
-use Rattle.dns_fields.specs.Labels.{DomainName}
+use Rattle.std.specs.Prelude.{◌≡◌, ℕ, ◌+◌, List, length, take, Some, slice_get}
 use Rattle.dns_fields.specs.Names.{IsNameIn}
 use Rattle.dns_fields.specs.Octets.{At}
 use Rattle.dns_fields.specs.Pieces.{Numbered, pieces, ArePieces}

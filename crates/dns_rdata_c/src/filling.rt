@@ -24,6 +24,10 @@ pub fn put_canonical(value: &RData, out: &mut [u8], count: &mut usize) -> u32
 {
     let mut left = value.canonical_octets();
     let mut len = left.copy_to(out);
+    if len < out.len() && len <= MAX_OCTETS {
+        *count = len;
+        return OK;
+    }
     let mut counted = [0; COUNTED];
     'pieces: loop {
         if len > MAX_OCTETS {

@@ -46,7 +46,7 @@ fn soa_name<'a>(
 ) -> Result<Option<(usize, &'a Name)>, DecodeError>
     ensures { IfOk result (λ found. MatchOption found (2 ≤ index)
         (λ it. ((index ≡ 0) × (it.0 ≡ place) × (it.1.now ≡ soa.now.mname))
-            ⊎ ((index ≡ 1) × ((x : _) × IsNameIn message.now place x it.0) × (it.1.now ≡ soa.now.rname)))) }
+        ⊎ ((index ≡ 1) × ((x : _) × IsNameIn message.now place x it.0) × (it.1.now ≡ soa.now.rname)))) }
 {
     match index {
         0 => Ok(Some((place, &soa.mname))),

@@ -1,11 +1,11 @@
 -- Where the options and parameters of record data begin.
-use Rattle.std.proofs.Common.{◌≡◌, ◌∙◌, ℕ, ◌+◌, ◌-◌, ◌<◌, ◌≤◌, inl, inr, List, [], ◌∷◌, suc, length, take, drop, map, refl, sym, ap, subst, arith, Option, Some}
+use Rattle.std.proofs.Common.{◌≡◌, ◌∙◌, ℕ, ◌+◌, ◌-◌, ◌<◌, ◌≤◌, inl, inr, List, [], ◌∷◌, zero, suc, slice_get, length, take, drop, map, refl, sym, ap, subst, arith, Some, Result, Ok, Err, IfOk}
 use Rattle.std.proofs.lemmas.List.{length-map, length-take, length-drop}
 use Rattle.dns_fields.specs.Labels.{DomainName}
 use Rattle.dns_fields.specs.Names.{IsNameIn}
 use Rattle.dns_fields.specs.Octets.{At}
 use Rattle.dns_fields.specs.Pieces.{Numbered, pieces, ArePieces, AllHeld}
-use Rattle.dns_fields.specs.Fields.{Name, Number, Parameters, Field, Stands}
+use Rattle.dns_fields.specs.Fields.{Name, Stands}
 use Rattle.dns_fields.proofs.Laws.{one_end}
 use Rattle.dns_fields.proofs.Numbers.{length-bytes}
 use Rattle.dns_rdata_options.specs.OPT.{Pair, pair_value, opt_shape, opt_fields}
@@ -17,7 +17,8 @@ use Rattle.dns_rdata.specs.declared.record_data.RData.TheVariants as rdata
 use Rattle.dns_rdata_c.specs.Names.{IsFilledBy}
 use Rattle.dns_rdata_c.specs.Parts.{parts_in, PartsBegin, IsPartAt}
 use Rattle.dns_rdata_c.specs.Pieces.{HoldsPieces, IsPieceOf}
-use Rattle.dns_rdata_c.proofs.Names.{fields_stand, stand_in}
+use Rattle.dns_rdata_c.proofs.Walking.{Walked, walk_room}
+use Rattle.dns_rdata_c.proofs.NamePlaces.{fields_stand, stand_in}
 
 length_held : {V : Type 0} (Held : ℕ → List ℕ → V → Type 0) (xs : List (Numbered (List ℕ))) (ys : List (Numbered V)) → AllHeld Held xs ys → length xs ≡ length ys
 length_held Held [] [] h = refl
@@ -32,11 +33,11 @@ window_is m s q e a = let size : e - q ≡ length s = omega (arith, a.ends) in a
 opt_holds : (m : List ℕ) (p e : ℕ) (x : List Pair) (i : ℕ) → Stands m p opt_shape (opt_fields x) e → i < length x → HoldsPieces (take (e - p) (drop p m)) i
 opt_holds m p e x i s h = elim s.1.is [
   | inl w ↦ record {
-      read = w.read;
-      is = window_is m (pieces w.read) p e (subst (λ (k : ℕ). At m p (pieces w.read) k) s.2 w.at);
-      are = w.fit;
-      few = omega (arith, h, length_held _ w.read (map pair_value x) w.held, length-map x pair_value);
-    }
+    read = w.read;
+    is = window_is m (pieces w.read) p e (subst (λ (k : ℕ). At m p (pieces w.read) k) s.2 w.at);
+    are = w.fit;
+    few = omega (arith, h, length_held _ w.read (map pair_value x) w.held, length-map x pair_value);
+  }
   | inr c ↦ absurd (let none : length x ≡ 0 = sym (length-map x pair_value) ∙ ap length c.0 in omega (arith, h, none))
 ]
 
@@ -111,3 +112,34 @@ placed m q e i number begin count h k w =
       begins = omega (arith, w.begins);
       told = w.told;
     }
+
+-- what a reader of names found, if it did
+pub svcb_found : {E : Type 0} (m : List ℕ) (p n : ℕ) (v : RData) (x : SVCB) (r : Result ℕ E) → v ≡ rdata.SVCB x → IsFilledBy m p n v → IfOk r (λ q. (y : DomainName) × IsNameIn m (p + 2) y q)
+    → IfOk r (λ q. PartsBegin m p v q × (q ≤ p + n))
+svcb_found m p n v x (Ok q) e f h = svcb_begins m p n q v x e f h
+svcb_found m p n v x (Err y) e f h = tt
+
+pub https_found : {E : Type 0} (m : List ℕ) (p n : ℕ) (v : RData) (x : _) (r : Result ℕ E) → v ≡ rdata.HTTPS x → IsFilledBy m p n v → IfOk r (λ q. (y : DomainName) × IsNameIn m (p + 2) y q)
+    → IfOk r (λ q. PartsBegin m p v q × (q ≤ p + n))
+https_found m p n v x (Ok q) e f h = https_begins m p n q v x e f h
+https_found m p n v x (Err y) e f h = tt
+
+pub found_begins : {E : Type 0} (m : List ℕ) (p n : ℕ) (v : RData) (r : Result ℕ E) → IfOk r (λ q. PartsBegin m p v q × (q ≤ p + n)) → IfOk r (PartsBegin m p v)
+found_begins m p n v (Ok q) h = h.0
+found_begins m p n v (Err y) h = tt
+
+pub found_within : {E : Type 0} (m : List ℕ) (p n : ℕ) (v : RData) (r : Result ℕ E) → IfOk r (λ q. PartsBegin m p v q × (q ≤ p + n)) → IfOk r (λ q. q ≤ p + n)
+found_within m p n v (Ok q) h = h.1
+found_within m p n v (Err y) h = tt
+
+got_within : (xs : List (Numbered (List ℕ))) (i : ℕ) (x : Numbered (List ℕ)) → slice_get xs i ≡ Some x → i < length xs
+got_within [] i x h = absurd cc
+got_within (y ∷ xs) zero x h = omega arith
+got_within (y ∷ xs) (suc i) x h = omega (arith, got_within xs i x h)
+
+-- a part begins within the message
+pub part_room : (m : List ℕ) (q e i number begin count : ℕ) → q ≤ e → e ≤ length m → IsPieceOf (take (e - q) (drop q m)) i number begin count → q + begin ≤ length m
+part_room m q e i number begin count h k w =
+    let s = take (e - q) (drop q m) in
+    let walked : Walked s i i (length (pieces (take i w.read))) = record { read = w.read; is = w.is; are = w.are; few = got_within w.read i (number, w.octets) w.get; here = refl } in
+    omega (arith, walk_room s i i (length (pieces (take i w.read))) walked (omega arith), w.begins, length-take (e - q) (drop q m), length-drop q m, h, k)
