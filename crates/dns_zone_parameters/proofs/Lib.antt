@@ -8,3 +8,4 @@ pub mod WordSteps
 pub mod ParameterSteps
 pub mod OneReading
 pub mod WrittenLists
+pub mod WrittenWords

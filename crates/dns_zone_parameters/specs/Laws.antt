@@ -1,10 +1,10 @@
 -- Laws of service parameters.
-use Rattle.std.specs.Prelude.{◌≡◌, ◌≢◌, ℕ, ◌≤◌, ◌==◌, ◌||◌, if◌then◌else◌, List, [], ◌∷◌, length, map}
+use Rattle.std.specs.Prelude.{◌≡◌, ◌≢◌, ℕ, ◌≤◌, ◌==◌, ◌||◌, if◌then◌else◌, true, false, List, [], ◌∷◌, ◌++◌, length, map}
 use Rattle.std.specs.List.{AllByRecursion, AllZip, flat_map, join_with_byte}
 use Rattle.dns_fields.specs.Pieces.{string}
 use Rattle.dns_zone_words.specs.Words.{Word}
 use Rattle.dns_zone_parameters.specs.Lists.{IsItem, IsList}
-use Rattle.dns_zone_parameters.specs.Parameters.{AreParameters}
+use Rattle.dns_zone_parameters.specs.Parameters.{Parameter, HasParameter, IsParameter, AreParameters}
 use Rattle.dns_zone_parameters.specs.declared.lists.ListItem.{ListItem}
 use Rattle.dns_zone_parameters.specs.declared.lists.ListItem.TheVariants.{Protocol}
 
@@ -34,3 +34,21 @@ IsPlainItem item = AllByRecursion (λ c. (c ≢ 44) × (c ≢ 92)) item
 abbrev pub PlainItemsRead : Type 0
 PlainItemsRead = (item : ListItem) (items parts : List (List ℕ)) → items ≢ [] → AllByRecursion IsPlainItem items → AllZip (IsItem item) items parts
     → IsList item (join_with_byte 44 items) (flat_map (λ part. part) parts)
+
+-- ---- parameters that are written
+
+-- no `=` stands in the name
+abbrev pub HasNoEquals : List ℕ → Type 0
+HasNoEquals name = AllByRecursion (λ c. c ≢ 61) name
+
+-- a word of these octets without quotes, right behind no other, and one in quotes right behind another
+abbrev pub alone : List ℕ → Word
+alone octets = record { octets = octets; quoted = false; joined = false }
+
+abbrev pub in_quotes : List ℕ → Word
+in_quotes octets = record { octets = octets; quoted = true; joined = true }
+
+-- a parameter is read from its name, `=` and its value, in quotes or without
+abbrev pub WordsRead : Type 0
+WordsRead = (name value : List ℕ) (p : Parameter) → HasNoEquals name → HasParameter name value p
+    → IsParameter p (alone (name ++ 61 ∷ value) ∷ []) × IsParameter p (alone (name ++ 61 ∷ []) ∷ in_quotes value ∷ [])
