@@ -42,10 +42,7 @@ pub fn value_of(alloc: Global, key: ParameterKey, text: &[u8]) -> Result<Octets,
 fn is_plain(key: ParameterKey, text: &[u8]) -> bool
     ensures { IsTrue result ↔ IsPlain key text.now }
 {
-    if takes_no_escapes(key) {
-        return has_no_escape(text);
-    }
-    true
+    !takes_no_escapes(key) || has_no_escape(text)
 }
 
 // Whether no escape may stand in a value of the key.
@@ -53,11 +50,8 @@ fn takes_no_escapes(key: ParameterKey) -> bool
     ensures { result ≡ forbids_escapes key }
 {
     match key {
-        ParameterKey::Mandatory => true,
-        ParameterKey::Port => true,
-        ParameterKey::Ipv4Hint => true,
-        ParameterKey::Ech => true,
-        ParameterKey::Ipv6Hint => true,
+        ParameterKey::Mandatory | ParameterKey::Port | ParameterKey::Ech => true,
+        ParameterKey::Ipv4Hint | ParameterKey::Ipv6Hint => true,
         _ => false,
     }
 }
