@@ -1,14 +1,18 @@
 -- A name is of one key at most, and why it is of none.
-use Rattle.std.proofs.Common.{◌≡◌, ℕ, zero, suc, arith, ◌&&◌, Bool, true, false, List, [], ◌∷◌, ◌++◌, drop, refl, sym, ◌∙◌, ap, subst, Some, None, inl, inr}
+use Rattle.std.proofs.Common.{◌≡◌, ℕ, zero, suc, arith, ◌&&◌, Bool, true, false, List, [], ◌∷◌, ◌++◌, drop, refl, sym, ◌∙◌, ap, subst, Some, None, inl, inr, ◌<◌, ◌^◌, length, get_or}
 use Rattle.std.specs.Prelude.{codes, bytes_eq}
 use Rattle.std.specs.Str.{IsUtf8, IsAscii}
-use Rattle.std.specs.Str.Parse.{digits_value}
+use Rattle.std.specs.Str.Parse.{AllDigits, digits_value}
+use Rattle.std.specs.Fmt.{decimal}
+use Rattle.std.proofs.lemmas.Str.Parse.{IsNumeralModel}
+use Rattle.std.proofs.lemmas.Fmt.{decimal-digits_value, decimal_is_IsNumeral, decimal_digit, decimal_injective, first_decimal}
+use Rattle.dns_zone_parameters.specs.Steps.{NumberSpelled}
 use Rattle.std.specs.Char.{is_ascii}
 use Rattle.std.specs.List.{list_all}
 use Rattle.std.proofs.lemmas.Bool.Decides.{nat_tests}
 use Rattle.std.proofs.lemmas.Option.{same_Some}
 use Rattle.std.proofs.lemmas.Slice.Eq.{bytes_eq-Decides}
-use Rattle.std.proofs.lemmas.Bool.{cases_Bool}
+use Rattle.std.proofs.lemmas.Bool.{cases_Bool, cases_lt}
 use Rattle.std.proofs.lemmas.Str.{IsUtf8-from_ascii}
 use Rattle.dns_zone_parameters.specs.Keys.{named_key, IsNumberedName, IsKeyName}
 use Rattle.dns_zone_parameters.specs.declared.key.ParameterKey.{ParameterKey}
@@ -48,11 +52,44 @@ no_text name isnt =
 numbered_none : (n : ℕ) (name : List ℕ) → IsNumberedName n name → named_key name ≡ None
 numbered_none n name is = ap named_key is.spelled
 
+digits_themselves : IsNumeralModel (AllDigits 10) (digits_value 10)
+digits_themselves = record { to = λ ds h. h; from = λ ds h. h; same = λ ds h. refl }
+
+-- digits without leading zeros are the number as it is written
+pub number_name : (n : ℕ) (name : List ℕ) → NumberSpelled n name → IsNumberedName n name
+number_name n name is =
+    let lead : get_or is.digits 0 0 ≡ 48 → length is.digits ≡ 1 = λ zero_first. elim (cases_lt 1 (length is.digits)) [
+      | inl more ↦ absurd (is.shortest more zero_first)
+      | inr one ↦ (let some = is.numeral.0 in omega (arith, some))
+    ] in
+    let small : digits_value 10 is.digits < 2 ^ 64 = (let v = is.value in let b = is.below in omega arith) in
+    let written : decimal (digits_value 10 is.digits) ≡ is.digits = decimal-digits_value digits_themselves is.digits is.numeral.1 is.numeral.0 lead small in
+    record { spelled = is.spelled ∙ ap (λ (ds : List ℕ). codes "key" ++ ds) (sym written ∙ ap decimal (sym is.value)); below = is.below }
+
+pub name_number : (n : ℕ) (name : List ℕ) → IsNumberedName n name → NumberSpelled n name
+name_number n name is =
+    let below = is.below in
+    let small : n < 2 ^ 64 = omega arith in
+    let own = decimal_is_IsNumeral n small in record {
+      digits = decimal n;
+      spelled = is.spelled;
+      numeral = own.0;
+      shortest = λ more zero_first. elim (cases_lt 0 n) [
+        | inl some ↦ (let first = first_decimal n some small in absurd (omega (arith, first, zero_first)))
+        | inr none ↦ (let zero_it : n ≡ 0 = omega arith in
+            let length_one : length (decimal n) ≡ 1 = ap (λ (m : ℕ). length (decimal m)) zero_it ∙ ap length (decimal_digit 0 (omega arith)) in
+            absurd (omega (arith, more, length_one)))
+      ];
+      value = sym own.1;
+      below = is.below;
+    }
+
 numbers_one : (name : List ℕ) (n m : ℕ) → IsNumberedName n name → IsNumberedName m name → n ≡ m
 numbers_one name n m a b =
-    let e : codes "key" ++ a.digits ≡ codes "key" ++ b.digits = sym a.spelled ∙ b.spelled in
-    let d : a.digits ≡ b.digits = ap (drop 3) e in
-    a.value ∙ ap (digits_value 10) d ∙ sym b.value
+    let e : codes "key" ++ decimal n ≡ codes "key" ++ decimal m = sym a.spelled ∙ b.spelled in
+    let below = a.below in
+    let other = b.below in
+    decimal_injective n m (omega arith) (omega arith) (ap (drop 3) e)
 
 not_both : (name : List ℕ) (key : ParameterKey) → named_key name ≡ Some key → named_key name ≡ None → ⊥
 not_both name key a b = let e : Some key ≡ None = sym a ∙ b in absurd (cc)

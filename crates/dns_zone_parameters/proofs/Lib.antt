@@ -7,3 +7,5 @@ pub mod ValueSteps
 pub mod WordSteps
 pub mod ParameterSteps
 pub mod OneReading
+pub mod WrittenLists
+pub mod WrittenWords

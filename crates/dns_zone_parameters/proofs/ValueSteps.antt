@@ -1,8 +1,10 @@
 -- Values, one step behind the other.
-use Rattle.std.proofs.Common.{◌≡◌, ℕ, ◌<◌, false, List, length, map, refl, sym, ap, subst, arith}
-use Rattle.std.specs.List.{AllZip}
+use Rattle.std.proofs.Common.{◌≡◌, ◌≢◌, ℕ, zero, suc, ◌<◌, Bool, true, false, eqb, get_or, List, [], ◌∷◌, length, map, refl, sym, ◌∙◌, ap, subst, arith}
+use Rattle.std.specs.Prelude.{◌↔◌, IsTrue}
+use Rattle.std.specs.List.{AllByRecursion, AllZip}
 use Rattle.std.specs.List.Sorted.{IsPermutation, IsSorted, IsStrictlyIncreasing}
 use Rattle.std.specs.Ordering.{nat_cmp}
+use Rattle.std.proofs.lemmas.Bool.Decides.{nat_tests}
 use Rattle.std.proofs.lemmas.List.Sorted.{IsNonDecreasingBy-from_sort}
 use Rattle.dns_types.specs.declared.error.ParseError.{ParseError}
 use Rattle.dns_words.specs.Forms.{ipv4, ipv6}
@@ -14,7 +16,7 @@ use Rattle.dns_zone_words.specs.ZoneReads.{NoValueOf}
 use Rattle.dns_zone_words.proofs.FirstSteps.{unless_map}
 use Rattle.dns_zone_parameters.specs.Keys.{IsKeyName}
 use Rattle.dns_zone_parameters.specs.Lists.{items_in, IsItem, IsListedKey, IsKeyList}
-use Rattle.dns_zone_parameters.specs.Values.{HasOctets, IsValue}
+use Rattle.dns_zone_parameters.specs.Values.{forbids_escapes, HasOctets, IsPlain, IsValue}
 use Rattle.dns_zone_parameters.specs.Parameters.{HasParameter}
 use Rattle.dns_zone_parameters.specs.declared.key.ParameterKey.{ParameterKey}
 use Rattle.dns_zone_parameters.specs.declared.lists.ListItem.{ListItem}
@@ -45,6 +47,27 @@ no_rise s keys order each same climbs isnt = record {
       same (climbs_sorted order (IsNonDecreasingBy-from_sort (λ x. x) order climbs)) in
       isnt (subst IsStrictlyIncreasing os is.rising);
 }
+
+-- ---- escapes
+
+plain_text : (s : List ℕ) → ((k : ℕ) → k < length s → get_or s k 0 ≢ 92) → AllByRecursion (λ c. eqb c 92 ≡ false) s
+plain_text [] h = tt
+plain_text (c ∷ s) h =
+    let other : c ≢ 92 = h 0 (omega arith) in
+    (grind (arith, nat_tests), plain_text s (λ k lt. h (suc k) (omega arith)))
+
+each_plain : (s : List ℕ) → AllByRecursion (λ c. eqb c 92 ≡ false) s → (k : ℕ) → k < length s → get_or s k 0 ≢ 92
+each_plain [] h k lt = absurd (omega arith)
+each_plain (c ∷ s) h zero lt = let other = h.0 in grind (arith, nat_tests)
+each_plain (c ∷ s) h (suc k) lt = each_plain s h.1 k (omega arith)
+
+-- a key that forbids escapes has a plain text where no `\` stands in it
+pub plain_where : (key : ParameterKey) (s : List ℕ) (b : Bool) → forbids_escapes key ≡ true → (IsTrue b ↔ ((k : ℕ) → k < length s → get_or s k 0 ≢ 92)) → IsTrue b ↔ IsPlain key s
+plain_where key s b forbids same = (λ h e. plain_text s (same.0 h), λ plain. same.1 (each_plain s (plain forbids)))
+
+-- and another key any text
+pub plain_always : (key : ParameterKey) (s : List ℕ) → forbids_escapes key ≡ false → IsTrue true ↔ IsPlain key s
+plain_always key s takes = (λ h e. let both : true ≡ false = sym e ∙ takes in absurd (cc), λ plain. refl)
 
 -- ---- values
 

@@ -10,7 +10,7 @@ use Rattle.dns_zone_words.specs.Remaining.{with_words}
 use Rattle.dns_zone_words.specs.Words.{Word, Cursor, words_at, with_word}
 use Rattle.dns_zone_words.specs.declared.words_error.WordsError.{WordsError}
 use Rattle.dns_zone_parameters.specs.Keys.{IsKeyName}
-use Rattle.dns_zone_parameters.specs.Values.{HasOctets}
+use Rattle.dns_zone_parameters.specs.Values.{HasOctets, IsPlain}
 use Rattle.dns_zone_parameters.specs.Parameters.{Parameter, StandsAlone, IsWritten, AreWritten}
 use Rattle.dns_zone_parameters.specs.declared.key.ParameterKey.{ParameterKey}
 use Rattle.dns_zone_parameters.specs.declared.key.ParameterKey.TheVariants.{Mandatory, Alpn, NoDefaultAlpn, Port, Ipv4Hint, Ech, Ipv6Hint, DohPath, Numbered}
@@ -42,12 +42,14 @@ pub record IsLong (key : ParameterKey) (text : List ℕ) : Type 0 where
   pub has : HasOctets key (meant text) octets
   pub long : 65535 < length octets
 
--- A text is no value of the key: a `\` has no meaning, it has not the key's form, or it is too long.
+-- A text is no value of the key: a `\` stands where the key forbids escapes, a `\` has no meaning, what the letters are has
+-- not the key's form, or it is too long.
 abbrev pub ValueFault : ParameterKey → List ℕ → ParseError → Type 0
 ValueFault key text e =
-    (Says (codes "`\\` without a meaning in a service parameter") e × (escapes_stand text ≡ false))
-    ⊎ (Says (wrong_value key) e × (escapes_stand text ≡ true) × NoValue (HasOctets key (meant text)))
-    ⊎ (Says (codes "service parameter of more than 65535 octets") e × (escapes_stand text ≡ true) × IsLong key text)
+    (Says (wrong_value key) e × (IsPlain key text → ⊥))
+    ⊎ (Says (codes "`\\` without a meaning in a service parameter") e × IsPlain key text × (escapes_stand text ≡ false))
+    ⊎ (Says (wrong_value key) e × IsPlain key text × (escapes_stand text ≡ true) × NoValue (HasOctets key (meant text)))
+    ⊎ (Says (codes "service parameter of more than 65535 octets") e × IsPlain key text × (escapes_stand text ≡ true) × IsLong key text)
 
 -- A name and a value are no parameter: the name is of no key, or the value is none of it.
 abbrev pub ParameterFault : List ℕ → List ℕ → ParseError → Type 0

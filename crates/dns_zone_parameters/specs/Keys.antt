@@ -1,6 +1,6 @@
 -- Keys of service parameters, as a zone file names them (RFC 9460, 2.1 and 14.3.2; RFC 9461, 5).
-use Rattle.std.specs.Prelude.{◌≡◌, ◌≢◌, ℕ, ◌<◌, bytes_eq, if◌then◌else◌, List, ◌++◌, length, slice_index, Option, Some, None, codes}
-use Rattle.std.specs.Str.Parse.{IsNumeral, digits_value}
+use Rattle.std.specs.Prelude.{◌≡◌, ℕ, ◌<◌, bytes_eq, if◌then◌else◌, List, ◌++◌, Option, Some, None, codes}
+use Rattle.std.specs.Fmt.{decimal}
 use Rattle.dns_zone_parameters.specs.declared.key.ParameterKey.{ParameterKey}
 use Rattle.dns_zone_parameters.specs.declared.key.ParameterKey.TheVariants.{Mandatory, Alpn, NoDefaultAlpn, Port, Ipv4Hint, Ech, Ipv6Hint, DohPath, Numbered}
 
@@ -29,13 +29,9 @@ named_key name =
     if bytes_eq name (codes "dohpath") then Some DohPath else
     None
 
--- `key` and a decimal number without leading zeros. 65535 is no key.
+-- `key` and a decimal number, without leading zeros. 65535 is no key.
 pub record IsNumberedName (n : ℕ) (name : List ℕ) : Type 0 where
-  pub digits : List ℕ
-  pub spelled : name ≡ codes "key" ++ digits
-  pub numeral : IsNumeral 10 digits
-  pub shortest : 1 < length digits → slice_index digits 0 ≢ 48
-  pub value : n ≡ digits_value 10 digits
+  pub spelled : name ≡ codes "key" ++ decimal n
   pub below : n < 65535
 
 -- the key has a name of its own, or is written by its number

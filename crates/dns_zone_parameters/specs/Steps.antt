@@ -1,5 +1,6 @@
 -- What the code keeps.
-use Rattle.std.specs.Prelude.{◌≡◌, ℕ, ◌+◌, ◌<◌, take, drop, map, List, [], ◌∷◌, ◌++◌, length, Result, Ok, Err, Option, Some, None}
+use Rattle.std.specs.Prelude.{◌≡◌, ℕ, ◌+◌, ◌<◌, take, drop, map, List, [], ◌∷◌, ◌++◌, length, Result, Ok, Err, Option, Some, None, ◌≢◌, codes, slice_index}
+use Rattle.std.specs.Str.Parse.{IsNumeral, digits_value}
 use Rattle.dns_types.specs.declared.error.ParseError.{ParseError}
 use Rattle.dns_words.specs.Reads.{UnlessMemory, NoValue}
 use Rattle.dns_zone_words.specs.Remaining.{with_words, NoneOfAll}
@@ -10,6 +11,15 @@ use Rattle.dns_zone_words.specs.Words.{Word, Cursor, words_at, with_word}
 use Rattle.dns_zone_parameters.specs.Lists.{items_in, IsItem}
 use Rattle.dns_zone_parameters.specs.Parameters.{Parameter, IsQuotedValue, IsWritten, HasParameter, IsParameter, AreWritten}
 use Rattle.dns_zone_parameters.specs.declared.lists.ListItem.{ListItem}
+
+-- `key` and digits of this number, the first of them 0 only where it is the only one
+pub record NumberSpelled (n : ℕ) (name : List ℕ) : Type 0 where
+  pub digits : List ℕ
+  pub spelled : name ≡ codes "key" ++ digits
+  pub numeral : IsNumeral 10 digits
+  pub shortest : 1 < length digits → slice_index digits 0 ≢ 48
+  pub value : n ≡ digits_value 10 digits
+  pub below : n < 65535
 
 -- the first item of the text has so many octets
 pub record ItemTaken (text : List ℕ) (n : ℕ) : Type 0 where

@@ -1,6 +1,7 @@
 -- Values of service parameters in texts of zone files (RFC 9460, 2.1, 7 and 8; RFC 9461, 5).
-use Rattle.std.specs.Prelude.{◌≡◌, ◌≢◌, ℕ, ◌<◌, ◌^◌, true, List, [], length, map, Ok}
+use Rattle.std.specs.Prelude.{◌≡◌, ◌≢◌, ℕ, ◌<◌, ◌^◌, ◌==◌, Bool, true, false, List, [], length, map, Ok}
 use Rattle.std.specs.Int.{bytes_high_first}
+use Rattle.std.specs.List.{AllByRecursion}
 use Rattle.std.specs.Str.Parse.{IsNumeral, digits_value}
 use Rattle.base64.specs.Engines.{standard}
 use Rattle.base64.specs.GeneralPurpose.{decode_of}
@@ -29,8 +30,22 @@ HasOctets Ipv6Hint text octets = IsList Ipv6 text octets
 HasOctets DohPath text octets = (octets ≡ text) × (octets ≢ [])
 HasOctets (Numbered n) text octets = octets ≡ text
 
+-- The keys whose values have no escapes in texts of zone files (RFC 9460, 7.2, 7.3 and 8; for `ech` RFC 9848, 3).
+abbrev pub forbids_escapes : ParameterKey → Bool
+forbids_escapes Mandatory = true
+forbids_escapes Port = true
+forbids_escapes Ipv4Hint = true
+forbids_escapes Ech = true
+forbids_escapes Ipv6Hint = true
+forbids_escapes key = false
+
+-- no `\` stands in the text of a value, as it stands, whose key forbids escapes
+abbrev pub IsPlain : ParameterKey → List ℕ → Type 0
+IsPlain key text = forbids_escapes key ≡ true → AllByRecursion (λ c. (c == 92) ≡ false) text
+
 -- the text of a value, as it stands, has these octets on the wire
 pub record IsValue (key : ParameterKey) (text octets : List ℕ) : Type 0 where
+  pub plain : IsPlain key text
   pub escapes : escapes_stand text ≡ true
   pub has : HasOctets key (map octet_of (letters text)) octets
   pub fits : length octets < 2 ^ 16

@@ -1,7 +1,8 @@
 //! Keys of service parameters, as a zone file names them (RFC 9460, 2.1 and 14.3.2; RFC 9461, 5).
 
 ghost use Rattle.std.specs.Prelude.{◌≡◌, ◌<◌, ℕ, IfSome, IfNone};
-ghost use Rattle.dns_zone_parameters.specs.Keys.{key_number, named_key, IsNumberedName, IsKeyName};
+ghost use Rattle.dns_zone_parameters.specs.Keys.{key_number, named_key, IsKeyName};
+ghost use Rattle.dns_zone_parameters.specs.Steps.{NumberSpelled};
 
 use dns_zone_words::{ZoneWord, u16_of};
 use std::str;
@@ -85,8 +86,8 @@ fn named(name: &[u8]) -> Option<ParameterKey>
 
 // The number behind `key`.
 fn numbered(name: &[u8]) -> Option<u16>
-    ensures some { IfSome result (λ n. IsNumberedName n name.now) }
-    ensures none { IfNone result ((n : ℕ) → IsNumberedName n name.now → ⊥) }
+    ensures some { IfSome result (λ n. NumberSpelled n name.now) }
+    ensures none { IfNone result ((n : ℕ) → NumberSpelled n name.now → ⊥) }
 {
     if name.len() < 4 || name[0] != b'k' || name[1] != b'e' || name[2] != b'y' {
         return None;

@@ -43,7 +43,8 @@ use std::alloc::{AllocError, Global};
 /// - `dohpath`: one octet or more, as they are.
 /// - `key` and a number, also that of a key above: the octets as they are.
 ///
-/// Lists have one item or more, with a comma between two. A value has at most 65535 octets.
+/// Lists have one item or more, with a comma between two. A value has at most 65535 octets. No `\` may stand in a value of
+/// `mandatory`, `port`, `ipv4hint`, `ech` or `ipv6hint` (RFC 9460, 7.2, 7.3 and 8).
 ///
 /// Refused by [`Message`](ParseError::Message), which names the key or the cause, or by
 /// [`Memory`](ParseError::Memory).
@@ -103,7 +104,7 @@ mod tests {
     use std::test::Fail;
 
     // Texts, and their octets in hexadecimal digits (RFC 9460, D.2; RFC 9461, 5).
-    const READ: [(&str, &str); 14] = [
+    const READ: [(&str, &str); 16] = [
         ("", ""),
         ("port=53", "000300020035"),
         ("key667=hello", "029b000568656c6c6f"),
@@ -139,10 +140,12 @@ mod tests {
         ),
         ("ech=\"AAAA\" key0=x", "000000017800050003000000"),
         ("key2 key65534=\"\"", "00020000fffe0000"),
+        ("alpn=\"h\\0502\"", "0001000403683232"),
+        ("key667=\\097", "029b000161"),
     ];
 
     // Texts that are refused (RFC 9460, D.3), and what is said of them.
-    const REFUSED: [(&str, &str); 22] = [
+    const REFUSED: [(&str, &str); 28] = [
         ("key123=abc key123=def", "key of a service parameter twice"),
         ("alpn=a key1=a", "key of a service parameter twice"),
         ("mandatory", "no list of different keys in mandatory"),
@@ -171,6 +174,15 @@ mod tests {
         (
             "key667=\\256",
             "`\\` without a meaning in a service parameter",
+        ),
+        ("port=\\0535", "no number of 16 bits in port"),
+        ("port=\"\\256\"", "no number of 16 bits in port"),
+        ("ipv4hint=192.0.2.\\049", "no list of addresses in ipv4hint"),
+        ("ipv6hint=\\058:1", "no list of addresses in ipv6hint"),
+        ("ech=\\097bcd", "no base64 in ech"),
+        (
+            "mandatory=al\\112n alpn=h2",
+            "no list of different keys in mandatory",
         ),
         ("alpn= \"h2\"", "no list of protocols in alpn"),
         (

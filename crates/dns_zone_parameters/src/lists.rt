@@ -88,10 +88,14 @@ fn listed_key(item: &[u8], wrong: &'static str) -> Result<u16, ParseError>
     ensures reads { Decides (IsListedKey item.now) (λ n. n) result }
     ensures why { IfErr result (λ e. e ≡ ParseError.Message wrong.entry) }
 {
-    match ParameterKey::of_name(item) {
-        Some(key) if key.number() != 0 => Ok(key.number()),
-        _ => Err(ParseError::Message(wrong)),
+    let Some(key) = ParameterKey::of_name(item) else {
+        return Err(ParseError::Message(wrong));
+    };
+    let number = key.number();
+    if number == 0 {
+        return Err(ParseError::Message(wrong));
     }
+    Ok(number)
 }
 
 // Whether each number is below the next.

@@ -1,9 +1,9 @@
 //! Values of service parameters (RFC 9460, 2.1, 7 and 8; RFC 9461, 5).
 
-ghost use Rattle.std.specs.Prelude.{◌≡◌, ◌⊎◌, IfErr};
+ghost use Rattle.std.specs.Prelude.{◌≡◌, ◌≢◌, ◌⊎◌, ◌↔◌, IsTrue, IfErr, EachIndex, slice_index};
 ghost use Rattle.dns_words.specs.Reads.{Decides};
 ghost use Rattle.dns_zone_parameters.specs.Faults.{Says, wrong_value, ValueFault};
-ghost use Rattle.dns_zone_parameters.specs.Values.{HasOctets, IsPort, IsValue};
+ghost use Rattle.dns_zone_parameters.specs.Values.{forbids_escapes, HasOctets, IsPlain, IsPort, IsValue};
 
 use crate::key::ParameterKey;
 use crate::lists::{ListItem, key_list_of, list_of};
@@ -17,11 +17,15 @@ const NO_ESCAPE: &str = "`\\` without a meaning in a service parameter";
 
 const LONG_VALUE: &str = "service parameter of more than 65535 octets";
 
-/// The octets on the wire of a value of the key, by its text as it stands.
+/// The octets on the wire of a value of the key, by its text as it stands. A `\` in a value whose key forbids escapes is
+/// refused as any other wrong value of the key (RFC 9460, 7.2, 7.3 and 8).
 pub fn value_of(alloc: Global, key: ParameterKey, text: &[u8]) -> Result<Octets, ParseError>
     ensures reads { Decides (IsValue key text.now) (λ x. x) result }
     ensures why { IfErr result (λ e. (e ≡ ParseError.Memory) ⊎ ValueFault key text.now e) }
 {
+    if !is_plain(key, text) {
+        return Err(ParseError::Message(wrong_value(key)));
+    }
     let word = ZoneWord {
         raw: text,
         quoted: true,
@@ -32,6 +36,31 @@ pub fn value_of(alloc: Global, key: ParameterKey, text: &[u8]) -> Result<Octets,
         return Err(ParseError::Message(LONG_VALUE));
     }
     Ok(octets)
+}
+
+// Whether the key takes escapes, or none stands in the text.
+fn is_plain(key: ParameterKey, text: &[u8]) -> bool
+    ensures { IsTrue result ↔ IsPlain key text.now }
+{
+    !takes_no_escapes(key) || has_no_escape(text)
+}
+
+// Whether no escape may stand in a value of the key.
+fn takes_no_escapes(key: ParameterKey) -> bool
+    ensures { result ≡ forbids_escapes key }
+{
+    match key {
+        ParameterKey::Mandatory | ParameterKey::Port | ParameterKey::Ech => true,
+        ParameterKey::Ipv4Hint | ParameterKey::Ipv6Hint => true,
+        _ => false,
+    }
+}
+
+// Whether no `\` stands in the text.
+fn has_no_escape(text: &[u8]) -> bool
+    ensures { IsTrue result ↔ EachIndex text.now (λ k. slice_index text.now k ≢ 92) }
+{
+    text.iter().all(|octet| *octet != b'\\')
 }
 
 // The same by the octets of the text.
