@@ -39,7 +39,7 @@ forbids_escapes Ech = true
 forbids_escapes Ipv6Hint = true
 forbids_escapes key = false
 
--- no `\` stands in the text of a value, as it stands, whose key forbids escapes
+-- where the key forbids escapes, no `\` stands in the text of the value
 abbrev pub IsPlain : ParameterKey → List ℕ → Type 0
 IsPlain key text = forbids_escapes key ≡ true → AllByRecursion (λ c. (c == 92) ≡ false) text
 

@@ -44,7 +44,7 @@ use std::alloc::{AllocError, Global};
 /// - `key` and a number, also that of a key above: the octets as they are.
 ///
 /// Lists have one item or more, with a comma between two. A value has at most 65535 octets. No `\` may stand in a value of
-/// `mandatory`, `port`, `ipv4hint`, `ech` or `ipv6hint` (RFC 9460, 7.2, 7.3 and 8).
+/// `mandatory`, `port`, `ipv4hint`, `ech` or `ipv6hint` (RFC 9460, 7.2, 7.3 and 8; RFC 9848, 3).
 ///
 /// Refused by [`Message`](ParseError::Message), which names the key or the cause, or by
 /// [`Memory`](ParseError::Memory).
