@@ -1,9 +1,8 @@
 -- A value that was read is that of its octets alone, names whole.
-use Rattle.std.proofs.Common.{◌≡◌, ℕ, zero, ◌+◌, ◌<◌, true, List, [], ◌∷◌, ◌++◌, map, length, inl, refl, sym, ◌∙◌, ap, subst, append_assoc, length-append, arith}
+use Rattle.std.proofs.Common.{◌≡◌, ℕ, List, [], ◌∷◌, ◌++◌, map, length, inl, refl, sym, ◌∙◌, ap, subst, append_assoc, length-append, arith}
 use Rattle.std.specs.Int.{bytes_high_first}
 use Rattle.std.specs.List.{flat_map}
 use Rattle.std.proofs.lemmas.List.{append-nil, drop_at}
-use Rattle.dns_fields.specs.Bitmaps.{block, minimal}
 use Rattle.dns_fields.specs.Fields.{Kind, Value, Values, Number, Octets, Name, Text, Texts, Rest, Options, Parameters, Bitmap, Field, Stands, Fits, Lawful, is_full, field_octets, option_pieces, parameter_pieces, canonical}
 use Rattle.dns_fields.specs.Labels.{wire}
 use Rattle.dns_fields.specs.Names.LabelsStand.{whole}

@@ -1,29 +1,22 @@
 -- Parameters that were written are read as they were.
-use Rattle.std.proofs.Common.{◌≡◌, ◌≢◌, ℕ, zero, suc, get_or, ◌+◌, ◌*◌, ◌^◌, ◌<◌, ◌≤◌, Bool, true, false, cond, eqb, ◌||◌, ◌&&◌, nat_lt, List, [], ◌∷◌, ◌++◌, map, length, take, drop, decimal, codes, refl, sym, ◌∙◌, ap, subst, append_assoc, arith}
-use Rattle.std.specs.Prelude.{flat_map, not, slice_index}
-use Rattle.std.specs.Int.{bytes_high_first}
-use Rattle.std.specs.List.{AllByRecursion, AllZip, list_all, position_or_len}
-use Rattle.std.specs.Net.Addr.{IsIpv4Addr, IsIpv6Addr}
+use Rattle.std.proofs.Common.{◌≡◌, ◌≢◌, ℕ, suc, get_or, ◌+◌, ◌^◌, ◌<◌, ◌≤◌, Bool, true, false, cond, eqb, List, [], ◌∷◌, ◌++◌, length, take, drop, decimal, codes, refl, sym, ◌∙◌, ap, subst, append_assoc, arith}
+use Rattle.std.specs.Prelude.{not}
+use Rattle.std.specs.List.{AllByRecursion, list_all, position_or_len}
 use Rattle.std.proofs.lemmas.Bool.Decides.{nat_tests}
-use Rattle.std.proofs.lemmas.Fmt.{decimal_is_IsNumeral, decimal_digit, first_decimal}
+use Rattle.std.proofs.lemmas.Fmt.{decimal_is_IsNumeral}
 use Rattle.std.proofs.lemmas.Str.Parse.{digit_at}
 use Rattle.dns_rdata_zone.proofs.Letters.{first_true, second_true}
-use Rattle.std.proofs.lemmas.List.{append-nil, take_at, take_all, drop_at, drop_all}
-use Rattle.std.proofs.lemmas.List.Sorted.{IsPermutation-refl}
+use Rattle.std.proofs.lemmas.List.{take_at, take_all, drop_at, drop_all}
 use Rattle.std.proofs.Common.{length-append}
-use Rattle.dns_fields.specs.Octets.{AreOctets}
-use Rattle.dns_fields.specs.Pieces.{Numbered, is_some}
-use Rattle.dns_zone_words.specs.Forms.{IsText}
-use Rattle.dns_zone_words.specs.Letters.{Letter, plain, letters, octet_of, escapes_stand}
 use Rattle.dns_zone_words.specs.Words.{Word}
-use Rattle.dns_zone_parameters.specs.Keys.{key_number, named_key, IsNumberedName, IsKeyName}
-use Rattle.dns_zone_parameters.specs.Parameters.{Parameter, is_equals, name_in, value_in, IsWritten, HasParameter, IsParameter, AreWritten}
-use Rattle.dns_zone_parameters.specs.Values.{HasOctets, IsValue}
+use Rattle.dns_zone_parameters.specs.Keys.{key_number, IsNumberedName, IsKeyName}
+use Rattle.dns_zone_parameters.specs.Parameters.{Parameter, is_equals, name_in, value_in, IsParameter}
+use Rattle.dns_zone_parameters.specs.Values.{IsValue}
 use Rattle.dns_rdata_zone.specs.Parameters.{key_name}
 use Rattle.dns_rdata_zone.specs.ZoneGives.{AreUnmarked}
 use Rattle.dns_zone_parameters.specs.declared.key.ParameterKey.{ParameterKey}
 use Rattle.dns_zone_parameters.specs.declared.key.ParameterKey.TheVariants as keys
-use Rattle.dns_rdata_zone.proofs.Cuts.{AreCut, cut_then, bare_word, quoted_word, is_run_octet, AreRunOctets, run_all, run_both, run_plain, begins_plain, plain_cut, BeginsRun, begins_append, InQuotes, joined_cut}
+use Rattle.dns_rdata_zone.proofs.Cuts.{AreCut, bare_word, quoted_word, AreRunOctets, run_both, begins_plain, plain_cut, InQuotes, joined_cut}
 use Rattle.dns_rdata_zone.proofs.RowForms.{bare_unmarked, run_first, run_tested, decimal_run}
 
 -- ---- names and values in words
@@ -164,14 +157,8 @@ pub record IsKeyOf (name : List ℕ) (key : ParameterKey) (n : ℕ) : Type 0 whe
 named_is : (key : ParameterKey) (n : ℕ) (name : List ℕ) → name ≢ [] → AreRunOctets name → HasNoEquals name → IsKeyName key name → key_number key ≡ n → IsKeyOf name key n
 named_is key n name some run whole named number = record { spelled = record { some = some; run = run; whole = whole; named = named }; number = number }
 
-decimal_first : (n : ℕ) → n < 2 ^ 64 → 1 < length (decimal n) → slice_index (decimal n) 0 ≢ 48
-decimal_first zero small more = let one = ap length (decimal_digit 0 (omega arith)) in absurd (omega (arith, more, one))
-decimal_first (suc n) small more = let first = first_decimal (suc n) (omega arith) small in λ e. absurd (omega (arith, first, e))
-
 numbered_name : (n : ℕ) → n < 65535 → IsNumberedName n (codes "key" ++ decimal n)
-numbered_name n h =
-    let num = decimal_is_IsNumeral n (omega (arith, h)) in
-    record { digits = decimal n; spelled = refl; numeral = num.0; shortest = decimal_first n (omega (arith, h)); value = sym num.1; below = h }
+numbered_name n h = record { spelled = refl; below = h }
 
 decimal_no_equals : (n : ℕ) → n < 2 ^ 64 → HasNoEquals (decimal n)
 decimal_no_equals n small =

@@ -1,5 +1,5 @@
 -- Values of parameters that were written are read as they were.
-use Rattle.std.proofs.Common.{rules, ◌≡◌, ◌≢◌, ℕ, zero, suc, ◌+◌, ◌*◌, ◌^◌, ◌<◌, ◌≤◌, Bool, true, false, cond, eqb, ◌||◌, ◌&&◌, nat_lt, List, [], ◌∷◌, ◌++◌, map, length, take, drop, get_or, All, inl, inr, decimal, codes, Ok, refl, sym, ◌∙◌, ap, subst, append_assoc, arith}
+use Rattle.std.proofs.Common.{rules, ◌≡◌, ◌≢◌, ℕ, zero, suc, ◌+◌, ◌^◌, ◌<◌, ◌≤◌, Bool, true, false, cond, eqb, ◌||◌, ◌&&◌, nat_lt, List, [], ◌∷◌, ◌++◌, map, length, take, drop, get_or, All, inl, inr, decimal, codes, Ok, refl, sym, ◌∙◌, ap, subst, append_assoc, arith}
 use Rattle.std.specs.Prelude.{flat_map, slice_index, not, bytes_eq}
 use Rattle.std.specs.Int.{bytes_high_first}
 use Rattle.std.specs.List.{AllByRecursion, AllZip, list_all}
@@ -29,20 +29,17 @@ use Rattle.dns_rdata_service.specs.SvcParamValue.{a_octets, aaaa_octets}
 use Rattle.dns_rdata_service.specs.declared.svcb.key.SvcParamKey.{SvcParamKey}
 use Rattle.dns_words.proofs.Printed.{ipv4_back, ipv6_back}
 use Rattle.dns_zone_words.specs.Letters.{Letter, plain, letters, octet_of, escapes_stand}
-use Rattle.dns_zone_parameters.specs.Keys.{key_number as spelled_number}
-use Rattle.dns_zone_parameters.specs.Lists.{items_from, items_in, unescaped_from, escapes_end_from, IsProtocol, IsItem, IsList, IsListedKey, IsKeyList}
+use Rattle.dns_zone_parameters.specs.Lists.{items_from, items_in, unescaped_from, escapes_end_from, IsItem, IsList, IsListedKey, IsKeyList}
 use Rattle.dns_zone_parameters.specs.Values.{HasOctets, IsPort, forbids_escapes, IsValue}
 use Rattle.dns_zone_parameters.specs.declared.key.ParameterKey.{ParameterKey}
-use Rattle.dns_zone_parameters.specs.declared.key.ParameterKey.TheVariants as keys
-use Rattle.dns_zone_parameters.specs.declared.lists.ListItem.{ListItem}
 use Rattle.dns_zone_parameters.specs.declared.lists.ListItem.TheVariants as items
 use Rattle.dns_rdata_zone.specs.Lists.{commas}
 use Rattle.dns_rdata_zone.specs.Parameters.{key_name, named_key, protocol, rises_from}
 use Rattle.dns_rdata_zone.specs.Spellings.{escaped, item_octet, protocol_octet}
-use Rattle.dns_rdata_zone.proofs.Cuts.{is_run_octet, AreRunOctets, run_both, InQuotes, plain_quotes, spelled_quotes, quoted_word}
+use Rattle.dns_rdata_zone.proofs.Cuts.{is_run_octet, AreRunOctets, run_both}
 use Rattle.dns_rdata_zone.proofs.Letters.{first_true, second_true}
-use Rattle.dns_rdata_zone.proofs.ParameterForms.{key_of, key_is, IsKeyOf, by_key}
-use Rattle.dns_rdata_zone.proofs.RowForms.{decimal_run, base64_run, base64_some, bytes_of, bounded}
+use Rattle.dns_rdata_zone.proofs.ParameterForms.{key_of, key_is, by_key}
+use Rattle.dns_rdata_zone.proofs.RowForms.{bytes_of, bounded}
 use Rattle.dns_rdata_zone.proofs.WordForms.{text_form}
 
 -- ---- texts of values

@@ -1,5 +1,5 @@
 -- The parameters of a service that was written give their octets.
-use Rattle.std.proofs.Common.{◌≡◌, ◌≢◌, ℕ, ◌+◌, ◌*◌, ◌^◌, ◌<◌, ◌≤◌, Bool, true, false, cond, eqb, ◌&&◌, nat_lt, List, [], ◌∷◌, ◌++◌, map, length, decimal, codes, refl, sym, ◌∙◌, ap, subst, append_assoc, arith}
+use Rattle.std.proofs.Common.{◌≡◌, ◌≢◌, ℕ, ◌^◌, ◌<◌, ◌≤◌, true, false, cond, eqb, nat_lt, List, [], ◌∷◌, ◌++◌, map, length, decimal, codes, refl, sym, ◌∙◌, ap, subst, arith}
 use Rattle.std.specs.Prelude.{flat_map}
 use Rattle.std.specs.Int.{bytes_high_first}
 use Rattle.std.specs.List.{AllByRecursion, list_all}
@@ -25,7 +25,7 @@ use Rattle.dns_zone_parameters.specs.Values.{HasOctets, IsValue}
 use Rattle.dns_zone_parameters.specs.declared.key.ParameterKey.{ParameterKey}
 use Rattle.dns_zone_parameters.specs.declared.key.ParameterKey.TheVariants as keys
 use Rattle.dns_rdata_zone.specs.Lists.{commas}
-use Rattle.dns_rdata_zone.specs.Parameters.{key_name, named_key, protocol, zone_value, zone_parameter, rises_from, value_has_text, has_text}
+use Rattle.dns_rdata_zone.specs.Parameters.{key_name, named_key, zone_value, zone_parameter, rises_from, value_has_text, has_text}
 use Rattle.dns_rdata_zone.specs.Readable.{IsString, IsWritableValue, IsWritableParameter}
 use Rattle.dns_rdata_zone.specs.Spellings.{escaped}
 use Rattle.dns_rdata_zone.specs.Strings.{quoted}
@@ -34,7 +34,7 @@ use Rattle.dns_rdata_zone.proofs.Cuts.{AreCut, cut_then, AreRunOctets, InQuotes,
 use Rattle.dns_rdata_zone.proofs.Letters.{first_true, second_true}
 use Rattle.dns_rdata_zone.proofs.ParameterForms.{ParameterText, IsSpelled, alone_text, bare_text, enclosed_text, key_of, key_is}
 use Rattle.dns_rdata_zone.proofs.ParameterValues.{plain_value, escaped_value, item_text, AreNames, names_list, list_octets, list_spelled, rises_above, keys_run, keys_list, hints4_run, hints4_list, hints6_run, hints6_list, port_is, ech_is}
-use Rattle.dns_rdata_zone.proofs.RowForms.{decimal_run, base64_run, base64_some}
+use Rattle.dns_rdata_zone.proofs.RowForms.{decimal_run, base64_run}
 
 -- the number is the one that the key's form asks for
 key_at : (m n : ℕ) (key : ParameterKey) → key_of m ≡ key → eqb n m ≡ true → key_of n ≡ key

@@ -1,5 +1,5 @@
 -- Fields that were written give their octets, and so do rows of them.
-use Rattle.std.proofs.Common.{◌≡◌, ◌≢◌, ◌⊎◌, ℕ, suc, ◌+◌, ◌*◌, ◌/◌, ◌%◌, ◌^◌, ◌<◌, ◌≤◌, Bool, true, false, cond, eqb, ◌||◌, ◌&&◌, nat_le, List, [], ◌∷◌, ◌++◌, length, take, drop, zero, replicate, rules, get_or, decimal, codes, inl, inr, lit<, Option, Some, None, Result, Ok, refl, sym, ◌∙◌, ap, subst, append_assoc, arith}
+use Rattle.std.proofs.Common.{◌≡◌, ◌≢◌, ◌⊎◌, ℕ, suc, ◌+◌, ◌*◌, ◌/◌, ◌%◌, ◌^◌, ◌<◌, ◌≤◌, Bool, true, false, cond, eqb, ◌&&◌, nat_le, List, [], ◌∷◌, ◌++◌, length, take, drop, zero, replicate, rules, get_or, decimal, codes, inl, inr, lit<, Option, Some, None, Result, Ok, refl, sym, ◌∙◌, ap, subst, append_assoc, arith}
 use Rattle.std.specs.Prelude.{flat_map, bytes_eq, slice_index}
 use Rattle.std.specs.Char.{to_ascii_lowercase, is_ascii_alphanumeric}
 use Rattle.std.specs.Int.{bytes_high_first}
@@ -21,16 +21,16 @@ use Rattle.dns_fields.specs.Labels.{DomainName, IsName}
 use Rattle.dns_fields.specs.Octets.{AreOctets}
 use Rattle.dns_fields.specs.Pieces.{string as string_octets}
 use Rattle.dns_fields.specs.Bitmaps.{block, minimal}
-use Rattle.dns_types.specs.RecordTypes.{number_of, record_type_of, type_text, IsTypeText, IsNumberText}
+use Rattle.dns_types.specs.RecordTypes.{number_of, record_type_of, IsTypeText}
 use Rattle.dns_types.specs.declared.record_type.RecordType.{RecordType}
 use Rattle.dns_types.specs.declared.record_type.RecordType.TheVariants.{ZERO, ANAME, Unknown}
 use Rattle.dns_types.proofs.RecordTypeLaws.{number_of-record_type_of}
 use Rattle.std.specs.Str.Parse.{digits_value}
 use Rattle.std.proofs.lemmas.Fmt.{length-decimal-le}
 use Rattle.dns_words.proofs.Printed.{ipv4_back, ipv6_back}
-use Rattle.dns_zone_words.specs.Forms.{ZoneForm, bare, number, text, string}
+use Rattle.dns_zone_words.specs.Forms.{text}
 use Rattle.dns_zone_words.specs.NameWords.{name}
-use Rattle.dns_zone_words.specs.Remaining.{with_words, AreUnknown, IsUnknownMark, AreStrings, AreHex, AreBase64}
+use Rattle.dns_zone_words.specs.Remaining.{AreUnknown, IsUnknownMark, AreStrings, AreHex, AreBase64}
 use Rattle.hex.specs.Hex.{encode_with, encode_lower, lower_digits, decode_of as hex_of, decode_pairs, IsBytes}
 use Rattle.hex.proofs.HexLemmas.{decode_of-encode_lower}
 use Rattle.base64.specs.Engines.{standard}
@@ -43,10 +43,10 @@ use Rattle.hex.specs.declared.error.FromHexError.{FromHexError}
 use Rattle.dns_zone_rows.proofs.Once.{row_once}
 use Rattle.dns_zone_rows.specs.Mnemonics.{Named, number_named, IsNamedNumber, cert_types, algorithms}
 use Rattle.dns_rdata_zone.specs.Names.{zone_label, zone_labels, zone_name}
-use Rattle.dns_zone_rows.specs.Rows.{Row, RowGives, IsTypeNumber, AreTypes, FieldKind, Number, NamedNumber, Ttl, Ipv4, Ipv6, Name, String, Tag, Octets, RestKind, NoWord, SomeStrings, SomeHex, SomeBase64, AnyTypes, Gives, name_octets, FieldGives, RestGives, InTwo, FieldsGive}
-use Rattle.dns_rdata_zone.specs.Spellings.{escaped, three_digits, needs_backslash, name_octet}
+use Rattle.dns_zone_rows.specs.Rows.{Row, RowGives, IsTypeNumber, AreTypes, FieldKind, Number, NamedNumber, Ttl, Ipv4, Ipv6, Name, String, Tag, Octets, RestKind, NoWord, SomeStrings, SomeHex, SomeBase64, AnyTypes, name_octets, FieldGives, RestGives, FieldsGive}
+use Rattle.dns_rdata_zone.specs.Spellings.{escaped, needs_backslash, name_octet}
 use Rattle.dns_rdata_zone.specs.Strings.{quoted, spaced}
-use Rattle.dns_rdata_zone.specs.ZoneGives.{GiveByRow, AreUnmarked, AreUnknownData, WordsGive, TextGives}
+use Rattle.dns_rdata_zone.specs.ZoneGives.{GiveByRow, AreUnmarked, TextGives}
 use Rattle.dns_zone_rows.specs.RowTable.{row_of}
 use Rattle.dns_rdata_zone.specs.Records.{zone_type}
 use Rattle.dns_rdata_zone.specs.Generic.{generic}

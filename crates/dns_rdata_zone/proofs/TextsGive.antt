@@ -1,11 +1,10 @@
 -- Record data gives its text, and the text gives it.
-use Rattle.std.proofs.Common.{◌≡◌, ◌≢◌, ℕ, ◌<◌, ◌≤◌, ◌^◌, cond, true, List, [], ◌∷◌, ◌++◌, map, length, codes, Option, Some, None, inl, inr, refl, sym, ◌∙◌, ap, subst, append_assoc, arith}
+use Rattle.std.proofs.Common.{◌≡◌, ℕ, ◌≤◌, cond, true, List, [], ◌∷◌, ◌++◌, map, length, codes, Option, Some, None, inl, inr, refl, sym, ◌∙◌, ap, subst, append_assoc, arith}
 use Rattle.std.specs.Prelude.{flat_map, decimal}
 use Rattle.std.specs.Char.{is_ascii_alphanumeric}
-use Rattle.std.specs.Int.{bytes_high_first, cast_unsigned, w32}
+use Rattle.std.specs.Int.{cast_unsigned, w32}
 use Rattle.std.specs.List.{AllByRecursion, list_all}
 use Rattle.std.proofs.lemmas.List.{append-nil}
-use Rattle.std.proofs.lemmas.Bool.Decides.{nat_tests}
 use Rattle.base64.specs.Engines.{standard}
 use Rattle.base64.specs.GeneralPurpose.{encode_of}
 use Rattle.hex.specs.Hex.{encode_lower}
@@ -22,36 +21,35 @@ use Rattle.dns_rdata.specs.declared.record_data.RData.{RData}
 use Rattle.dns_rdata.specs.declared.record_data.RData.TheVariants as rdata
 use Rattle.dns_rdata_base.specs.declared.naptr.NAPTR.{NAPTR}
 use Rattle.dns_rdata_base.specs.declared.soa.SOA.{SOA}
-use Rattle.dns_rdata_certs.specs.CERT.{cert_shape, cert_fields, cert_data_text}
+use Rattle.dns_rdata_certs.specs.CERT.{cert_data_text}
 use Rattle.dns_rdata_certs.specs.CertAlgorithm.{cert_algorithm_number}
 use Rattle.dns_rdata_certs.specs.CertType.{cert_type_number}
 use Rattle.dns_rdata_certs.specs.CertUsage.{cert_usage_number}
 use Rattle.dns_rdata_certs.specs.FingerprintType.{fingerprint_type_number}
 use Rattle.dns_rdata_certs.specs.Matching.{matching_number}
-use Rattle.dns_rdata_certs.specs.SSHFP.{sshfp_shape, sshfp_fields, sshfp_text}
 use Rattle.dns_rdata_certs.specs.Selector.{selector_number}
 use Rattle.dns_rdata_certs.specs.SshfpAlgorithm.{sshfp_algorithm_number}
-use Rattle.dns_rdata_certs.specs.TLSA.{tlsa_shape, tlsa_fields, tlsa_text}
+use Rattle.dns_rdata_certs.specs.TLSA.{tlsa_shape, tlsa_fields}
 use Rattle.dns_rdata_certs.specs.declared.cert.CERT.{CERT}
 use Rattle.dns_rdata_certs.specs.declared.sshfp.SSHFP.{SSHFP}
 use Rattle.dns_rdata_certs.specs.declared.tlsa.TLSA.{TLSA}
 use Rattle.dns_rdata_options.specs.OPT.{pair_value}
 use Rattle.dns_rdata_service.specs.Parameters.{Parameter, parameter_of}
 use Rattle.dns_rdata_service.specs.declared.svcb.SVCB.{SVCB}
-use Rattle.dns_rdata_sets.specs.CAA.{caa_shape, caa_fields, caa_flags}
+use Rattle.dns_rdata_sets.specs.CAA.{caa_flags}
 use Rattle.dns_rdata_sets.specs.CSYNC.{csync_flags}
 use Rattle.dns_rdata_sets.specs.declared.caa.CAA.{CAA}
 use Rattle.dns_rdata_sets.specs.declared.csync.CSYNC.{CSYNC}
 use Rattle.dns_zone_rows.specs.RowTable.{row_of}
-use Rattle.dns_zone_rows.specs.Rows.{FieldKind, Number, RestKind, Ttl, Name, String, NoWord, SomeHex, SomeBase64, SomeStrings, AnyTypes, AnyParameters}
+use Rattle.dns_zone_rows.specs.Rows.{FieldKind, Number, RestKind, Name, String, NoWord, SomeHex, SomeBase64, SomeStrings, AnyTypes, AnyParameters}
 use Rattle.dns_rdata_zone.specs.Generic.{generic}
 use Rattle.dns_rdata_zone.specs.Names.{zone_name}
 use Rattle.dns_rdata_zone.specs.Parameters.{has_text, zone_parameter}
 use Rattle.dns_rdata_zone.specs.Records.{zone_strings, zone_tlsa, zone_type, has_plain_tag}
-use Rattle.dns_rdata_zone.specs.Services.{service_octets, service_text, zone_service}
+use Rattle.dns_rdata_zone.specs.Services.{service_octets, zone_service}
 use Rattle.dns_rdata_zone.specs.Strings.{quoted}
 use Rattle.dns_rdata.specs.WholeOctets.{name_octets}
-use Rattle.dns_rdata_zone.specs.Readable.{IsString, IsWritable, IsWritableParameter, IsWritableService, IsWritableTlsa, FieldsFit, IsReadable}
+use Rattle.dns_rdata_zone.specs.Readable.{IsString, IsWritable, IsWritableParameter, IsWritableService, IsWritableTlsa, FieldsFit}
 use Rattle.dns_rdata_zone.specs.ZoneReads.{TextsGive, TextsTell}
 use Rattle.dns_rdata_zone.specs.ZoneTexts.{zone_text, zone_octets}
 use Rattle.dns_rdata_zone.proofs.Cuts.{NoneEmpty}

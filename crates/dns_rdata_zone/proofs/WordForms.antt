@@ -1,5 +1,5 @@
 -- What was written has the forms of its words.
-use Rattle.std.proofs.Common.{◌≡◌, ◌≢◌, ℕ, suc, ◌+◌, ◌-◌, ◌*◌, ◌/◌, ◌%◌, ◌^◌, ◌<◌, ◌≤◌, Bool, true, false, cond, eqb, ◌||◌, ◌&&◌, nat_le, List, [], ◌∷◌, ◌++◌, map, length, decimal, codes, Option, Some, None, Ok, refl, sym, ◌∙◌, ap, subst, append_assoc, arith}
+use Rattle.std.proofs.Common.{◌≡◌, ◌≢◌, ℕ, ◌+◌, ◌-◌, ◌*◌, ◌/◌, ◌%◌, ◌^◌, ◌<◌, ◌≤◌, Bool, true, false, cond, eqb, ◌||◌, ◌&&◌, nat_le, List, [], ◌∷◌, ◌++◌, map, decimal, codes, Option, Some, None, refl, sym, ◌∙◌, ap, append_assoc, arith}
 use Rattle.std.specs.Prelude.{flat_map}
 use Rattle.std.proofs.lemmas.Bool.Decides.{nat_tests}
 use Rattle.std.proofs.lemmas.Fmt.{decimal_is_IsNumeral}
@@ -11,9 +11,9 @@ use Rattle.std.specs.List.{AllByRecursion}
 use Rattle.dns_names_wire.specs.NameValues.{completed}
 use Rattle.dns_words.specs.Forms.{ttl}
 use Rattle.dns_words.proofs.Printed.{ttl_back}
-use Rattle.dns_zone_words.specs.Forms.{number, bare, text, string, IsText}
-use Rattle.dns_zone_words.specs.Letters.{Letter, Place, between, backslash, one_digit, two_digits, plain, kept, is_digit, letters, octet_of, stands_for, escapes_from, escapes_stand}
-use Rattle.dns_zone_words.specs.NameWords.{parts_from, name_of_parts, with_label, labelled, is_alone, named, name, IsNameWord}
+use Rattle.dns_zone_words.specs.Forms.{number, bare, IsText}
+use Rattle.dns_zone_words.specs.Letters.{Letter, plain, is_digit, letters, octet_of, escapes_stand}
+use Rattle.dns_zone_words.specs.NameWords.{parts_from, name_of_parts, with_label, labelled, is_alone, named, name}
 use Rattle.dns_rdata_zone.specs.Names.{zone_label, zone_labels, zone_name}
 use Rattle.dns_rdata_zone.specs.Spellings.{escaped, three_digits, needs_backslash, name_octet}
 use Rattle.dns_rdata_zone.proofs.Cuts.{bare_word, quoted_word, NoneEmpty}

@@ -1,19 +1,18 @@
 -- A text gives at most one value.
-use Rattle.std.proofs.Common.{◌≡◌, ℕ, List, [], ◌∷◌, Option, Some, None, Result, Ok, inl, inr, refl, sym, ◌∙◌, subst}
+use Rattle.std.proofs.Common.{◌≡◌, ℕ, List, [], ◌∷◌, Option, Some, None, Result, Ok, inl, inr, sym, ◌∙◌, subst}
 use Rattle.std.specs.Prelude.{length}
 use Rattle.hex.specs.declared.error.FromHexError.{FromHexError}
 use Rattle.dns_fields.specs.Labels.{DomainName}
-use Rattle.dns_rdata.specs.Data.{Fills}
 use Rattle.dns_rdata.specs.declared.record_data.RData.{RData}
 use Rattle.dns_rdata.proofs.DataLaws.{one_value}
 use Rattle.dns_types.specs.declared.record_type.RecordType.{RecordType}
 use Rattle.dns_zone_rows.specs.RowTable.{row_of}
 use Rattle.dns_zone_rows.specs.Rows.{Row}
 use Rattle.dns_zone_rows.proofs.Once.{row_once}
-use Rattle.dns_zone_words.specs.Remaining.{AreUnknown, IsUnknownMark}
+use Rattle.dns_zone_words.specs.Remaining.{AreUnknown}
 use Rattle.dns_zone_words.specs.Words.{Word}
 use Rattle.dns_zone_words.specs.declared.words_error.WordsError.{WordsError}
-use Rattle.dns_rdata_zone.specs.ZoneGives.{AreUnknownData, AreUnmarked, GiveByRow, WordsGive, TextGives, AreDataOf, GivesValue}
+use Rattle.dns_rdata_zone.specs.ZoneGives.{AreUnknownData, AreUnmarked, GiveByRow, WordsGive, AreDataOf}
 use Rattle.dns_rdata_zone.specs.ZoneReads.{OneGiven}
 
 pub same_words : (r : Result (List Word) WordsError) (a b : List Word) → r ≡ Ok a → r ≡ Ok b → a ≡ b

@@ -1,5 +1,5 @@
 -- Texts of zone files that are read, step by step.
-use Rattle.std.proofs.Common.{◌≡◌, ◌≢◌, ℕ, ◌+◌, ◌<◌, ◌≤◌, ◌^◌, true, List, [], ◌∷◌, length, Option, Some, None, Result, Ok, Err, ◌⊎◌, inl, inr, refl, sym, ◌∙◌, ap, subst, arith}
+use Rattle.std.proofs.Common.{◌≡◌, ◌≢◌, ℕ, true, List, [], ◌∷◌, length, Option, Some, Result, Ok, Err, ◌⊎◌, inl, inr, refl, sym, ◌∙◌, ap, subst}
 use Rattle.std.specs.Prelude.{IfOk, IfErr}
 use Rattle.std.specs.Option.{option_map}
 use Rattle.std.specs.Result.{IsErrAnd}
@@ -22,7 +22,7 @@ use Rattle.dns_zone_words.specs.Remaining.{AreUnknown, IsUnknownMark, TookAll, N
 use Rattle.dns_zone_words.specs.Words.{Word, Cursor, words_at, with_word, zone_words}
 use Rattle.dns_zone_words.specs.declared.words_error.WordsError.{WordsError}
 use Rattle.dns_zone_words.proofs.FirstSteps.{unless_map}
-use Rattle.dns_rdata_zone.specs.ZoneGives.{AreUnknownData, AreUnmarked, GiveByRow, WordsGive, TextGives, IsWhole, has_name, AreDataOf, GivesValue, GivesNone, OwnFault}
+use Rattle.dns_rdata_zone.specs.ZoneGives.{AreUnknownData, AreUnmarked, GiveByRow, WordsGive, IsWhole, has_name, AreDataOf, GivesValue, GivesNone, OwnFault}
 use Rattle.dns_rdata_zone.specs.ZoneSteps.{AreNoData, UnknownIs, UnknownIsNone, RowIs, RowIsNone, IsBehindMark, HasNoMark}
 use Rattle.dns_rdata_zone.proofs.ZoneOnce.{same_words, unknown_once, by_row_once, data_one}
 

@@ -1,5 +1,5 @@
 -- Which octets, and which record data, a text of a zone file gives (RFC 1035, 5.1; RFC 3597, 5).
-use Rattle.std.specs.Prelude.{◌≡◌, ◌⊎◌, ℕ, ◌<◌, Bool, true, false, ◌||◌, List, [], ◌∷◌, length, Option, Some, None, Ok, Err}
+use Rattle.std.specs.Prelude.{◌≡◌, ◌⊎◌, ℕ, ◌<◌, Bool, true, false, ◌||◌, List, [], ◌∷◌, length, Option, Some, None, Ok}
 use Rattle.dns_fields.specs.Fields.{Kind, Name}
 use Rattle.dns_fields.specs.Labels.{DomainName}
 use Rattle.dns_rdata.specs.Data.{shape, Fills, data_octets}

@@ -1,4 +1,4 @@
-use Rattle.std.proofs.Common.{◌∙◌, refl, sym}
+use Rattle.std.proofs.Common.{◌∙◌, sym}
 use Rattle.std.specs.Prelude.{IfErr}
 use Rattle.dns_words.specs.Reads.{UnlessMemory}
 use Rattle.dns_rdata_zone.specs.ZoneSteps.{UnknownIsNone}

@@ -1,4 +1,4 @@
-use Rattle.std.proofs.Common.{ap, length}
+use Rattle.std.proofs.Common.{ap}
 use Rattle.std.specs.Prelude.{IfErr}
 use Rattle.dns_names_wire.specs.State.{Reading}
 use Rattle.dns_words.specs.Reads.{UnlessMemory}
