@@ -2,7 +2,6 @@
 use Rattle.std.specs.Prelude.{◌≡◌, ◌⊎◌, ℕ, ◌<◌, true, false, List, length, map, Result, Ok, Err, IsPermutation, codes}
 use Rattle.dns_fields.specs.Pieces.{Rising}
 use Rattle.dns_types.specs.declared.error.ParseError.{ParseError}
-use Rattle.dns_types.specs.declared.error.ParseError.TheVariants as parse
 use Rattle.dns_words.specs.Reads.{NoValue}
 use Rattle.dns_zone_words.specs.Letters.{letters, octet_of, escapes_stand}
 use Rattle.dns_zone_words.specs.Refusals.{Says, cut_text}
