@@ -6,10 +6,11 @@ use Rattle.std.proofs.lemmas.List.Sorted.{IsPermutation-map}
 use Rattle.dns_fields.specs.Pieces.{pieces, Rising}
 use Rattle.dns_types.specs.declared.error.ParseError.{ParseError}
 use Rattle.dns_words.specs.Reads.{UnlessMemory, NoValue}
-use Rattle.dns_zone_words.specs.Remaining.{with_words, NoneOfAll, TookAll}
+use Rattle.dns_zone_words.specs.Remaining.{with_words, NoneOfAll, TookAll, PutAll}
 use Rattle.dns_zone_words.specs.Words.{Word, Cursor, words_at, with_word}
 use Rattle.dns_zone_words.specs.declared.words_error.WordsError.{WordsError}
 use Rattle.dns_zone_words.proofs.FirstSteps.{unless_map}
+use Rattle.dns_zone_words.proofs.RemainingSteps.{words_ok}
 use Rattle.dns_zone_parameters.specs.Faults.{KeyTwice}
 use Rattle.dns_zone_words.specs.Refusals.{Says}
 use Rattle.dns_zone_parameters.specs.Keys.{key_number}
@@ -111,10 +112,6 @@ one_parameter ps more p old now new so took e = subst (λ (x : List Parameter). 
   only = λ all words cut written. all_begin ps p all now new (so.only all words cut written) took.only;
 })
 
-words_ok : (words : List Word) → with_words words (Ok []) ≡ Ok words
-words_ok [] = refl
-words_ok (word ∷ words) = ap (with_word word) (words_ok words)
-
 nothing_written : (name value : List ℕ) (front behind : List Word) → [] ≡ front ++ behind → IsWritten name value front → ⊥
 nothing_written name value [] behind e is = is
 nothing_written name value (word ∷ front) behind e is = cc
@@ -199,3 +196,7 @@ are_parameters xs ys numbers octets cursor took same e rises wire = record {
     wire = wire;
   };
 }
+
+-- so they were put behind octets
+pub put_taken : {octets before after : List ℕ} {cursor : Cursor} → TookAll AreParameters octets cursor → after ≡ before ++ octets → PutAll AreParameters before after cursor
+put_taken {octets} took e = record { words = took.words; cut = took.cut; octets = octets; given = took.value; same = e }

@@ -1,20 +1,26 @@
 -- Values, one step behind the other.
-use Rattle.std.proofs.Common.{◌≡◌, ◌≢◌, ℕ, zero, suc, ◌<◌, Bool, true, false, eqb, get_or, List, [], ◌∷◌, length, map, refl, sym, ◌∙◌, ap, subst, arith}
-use Rattle.std.specs.Prelude.{◌↔◌, IsTrue}
+use Rattle.std.proofs.Common.{◌≡◌, ◌≢◌, ℕ, zero, suc, ◌<◌, ◌≤◌, ◌⊎◌, inl, inr, codes, Bool, true, false, eqb, get_or, take, drop, List, [], ◌∷◌, ◌++◌, length, map, refl, sym, ◌∙◌, ap, subst, arith, Result, Ok, Err}
+use Rattle.std.specs.Prelude.{◌↔◌, IsTrue, IfErr}
+use Rattle.std.proofs.lemmas.List.{append-nil, take_all, drop_all}
 use Rattle.std.specs.List.{AllByRecursion, AllZip}
 use Rattle.std.specs.List.Sorted.{IsPermutation, IsSorted, IsStrictlyIncreasing}
 use Rattle.std.specs.Ordering.{nat_cmp}
 use Rattle.std.proofs.lemmas.Bool.Decides.{nat_tests}
 use Rattle.std.proofs.lemmas.List.Sorted.{IsNonDecreasingBy-from_sort}
 use Rattle.dns_types.specs.declared.error.ParseError.{ParseError}
+use Rattle.dns_types.specs.declared.error.ParseError.TheVariants as parse
 use Rattle.dns_words.specs.Forms.{ipv4, ipv6}
-use Rattle.dns_words.specs.Reads.{UnlessMemory, NoValue}
-use Rattle.dns_zone_words.specs.Forms.{bare, text, IsText}
-use Rattle.dns_zone_words.specs.Letters.{letters, octet_of}
+use Rattle.dns_words.specs.Reads.{UnlessMemory, NoValue, Decides}
+use Rattle.dns_zone_words.specs.Forms.{bare, text}
+use Rattle.dns_zone_words.specs.Letters.{letters, octet_of, escapes_stand}
 use Rattle.dns_zone_words.specs.Words.{Word}
-use Rattle.dns_zone_words.specs.ZoneReads.{NoValueOf}
+use Rattle.dns_zone_words.specs.ZoneReads.{NoValueOf, PutAs}
+use Rattle.dns_zone_words.proofs.LetterSteps.{plain_letters}
 use Rattle.dns_zone_words.proofs.FirstSteps.{unless_map}
+use Rattle.dns_zone_words.specs.Refusals.{Says}
+use Rattle.dns_zone_parameters.specs.Faults.{wrong_value, ValueFault}
 use Rattle.dns_zone_parameters.specs.Keys.{IsKeyName}
+use Rattle.dns_zone_parameters.specs.Steps.{HasMeant}
 use Rattle.dns_zone_parameters.specs.Lists.{items_in, IsItem, IsListedKey, IsKeyList}
 use Rattle.dns_zone_parameters.specs.Values.{forbids_escapes, HasOctets, IsPlain, IsValue}
 use Rattle.dns_zone_parameters.specs.Parameters.{HasParameter}
@@ -61,32 +67,103 @@ each_plain [] h k lt = absurd (omega arith)
 each_plain (c ∷ s) h zero lt = let other = h.0 in grind (arith, nat_tests)
 each_plain (c ∷ s) h (suc k) lt = each_plain s h.1 k (omega arith)
 
--- a key that forbids escapes has a plain text where no `\` stands in it
-pub plain_where : (key : ParameterKey) (s : List ℕ) (b : Bool) → forbids_escapes key ≡ true → (IsTrue b ↔ ((k : ℕ) → k < length s → get_or s k 0 ≢ 92)) → IsTrue b ↔ IsPlain key s
-plain_where key s b forbids same = (λ h e. plain_text s (same.0 h), λ plain. same.1 (each_plain s (plain forbids)))
+-- a text in which a `\` stands, of a key that forbids it
+pub not_plain : (key : ParameterKey) (s : List ℕ) (b : Bool) → forbids_escapes key ≡ true → (IsTrue b ↔ ((k : ℕ) → k < length s → get_or s k 0 ≢ 92)) → b ≡ false → IsPlain key s → ⊥
+not_plain key s b forbids same h plain = let both : b ≡ true = same.1 (each_plain s (plain forbids)) in absurd (cc)
 
--- and another key any text
-pub plain_always : (key : ParameterKey) (s : List ℕ) → forbids_escapes key ≡ false → IsTrue true ↔ IsPlain key s
-plain_always key s takes = (λ h e. let both : true ≡ false = sym e ∙ takes in absurd (cc), λ plain. refl)
+-- and any text of another key
+pub always_plain : (key : ParameterKey) (s : List ℕ) → forbids_escapes key ≡ false → IsPlain key s
+always_plain key s takes = λ e. absurd (let both : true ≡ false = sym e ∙ takes in cc)
 
 -- ---- values
 
-pub no_escapes : (e : ParseError) (key : ParameterKey) (word : Word) → UnlessMemory e (NoValueOf text word) → UnlessMemory e (NoValue (IsValue key word.octets))
-no_escapes e key word none = unless_map e (NoValueOf text word) (NoValue (IsValue key word.octets))
-    (λ h. record { none = λ v is. h.none (map octet_of (letters word.octets)) (record { escapes = is.escapes; value = refl }) }) none
+-- a text without a `\` is what its letters are
+plain_meant : (s : List ℕ) → ((k : ℕ) → k < length s → get_or s k 0 ≢ 92) → (escapes_stand s ≡ true) × (map octet_of (letters s) ≡ s)
+plain_meant s h =
+    let own = plain_letters (length s) s (omega arith) h in
+    let none : drop (length s) s ≡ [] = drop_all (length s) s (omega arith) in (
+      own.0 ∙ ap escapes_stand none,
+      own.1 ∙ ap (λ (r : List ℕ). take (length s) s ++ map octet_of (letters r)) none ∙ append-nil (take (length s) s) ∙ take_all (length s) s (omega arith),
+    )
 
-pub no_octets : (e : ParseError) (key : ParameterKey) (word : Word) (s : List ℕ) → IsText s word → UnlessMemory e (NoValue (HasOctets key s)) → UnlessMemory e (NoValue (IsValue key word.octets))
-no_octets e key word s is none = unless_map e (NoValue (HasOctets key s)) (NoValue (IsValue key word.octets))
-    (λ h. record { none = λ v has. h.none v (subst (λ (x : List ℕ). HasOctets key x v) (sym is.value) has.has) }) none
+decides_as : {T V : Type 0} (P Q : V → Type 0) (view : T → V) (r : Result T ParseError) → ((v : V) → P v → Q v) → ((v : V) → Q v → P v) → Decides P view r → Decides Q view r
+decides_as P Q view (Ok x) f g h = f (view x) h
+decides_as P Q view (Err e) f g h = unless_map e (NoValue P) (NoValue Q) (λ n. record { none = λ v q. n.none v (g v q) }) h
 
-pub too_long : (key : ParameterKey) (word : Word) (s v : List ℕ) → IsText s word → HasOctets key s v → 65535 < length v → NoValue (IsValue key word.octets)
-too_long key word s v is has long = record {
+-- what its octets give by the key is what it gives
+pub meant_plain : {T : Type 0} (key : ParameterKey) (s : List ℕ) (view : T → List ℕ) (r : Result T ParseError) → ((k : ℕ) → k < length s → get_or s k 0 ≢ 92)
+    → Decides (HasOctets key s) view r → Decides (HasMeant key s) view r
+meant_plain key s view r h reads =
+    let own = plain_meant s h in
+    decides_as (HasOctets key s) (HasMeant key s) view r
+    (λ v has. record { plain = λ e. plain_text s h; escapes = own.0; has = subst (λ (x : List ℕ). HasOctets key x v) (sym own.1) has })
+    (λ v has. subst (λ (x : List ℕ). HasOctets key x v) own.1 has.has) reads
+
+-- and so is what the letters of a text with a `\` are
+pub meant_text : {T : Type 0} (key : ParameterKey) (word : Word) (meant : List ℕ) (view : T → List ℕ) (r : Result T ParseError) → forbids_escapes key ≡ false
+    → PutAs text (λ s. s) [] meant word → Decides (HasOctets key meant) view r → Decides (HasMeant key word.octets) view r
+meant_text key word meant view r takes put reads =
+    let same : meant ≡ map octet_of (letters word.octets) = put.same ∙ put.is.value in
+    decides_as (HasOctets key meant) (HasMeant key word.octets) view r
+    (λ v has. record { plain = always_plain key word.octets takes; escapes = put.is.escapes; has = subst (λ (x : List ℕ). HasOctets key x v) same has })
+    (λ v has. subst (λ (x : List ℕ). HasOctets key x v) (sym same) has.has) reads
+
+-- no value, since a `\` may not stand there, or has no meaning
+pub not_meant : (key : ParameterKey) (s : List ℕ) → (IsPlain key s → ⊥) → NoValue (HasMeant key s)
+not_meant key s isnt = record { none = λ v has. isnt has.plain }
+
+pub no_meaning : (e : ParseError) (key : ParameterKey) (word : Word) → UnlessMemory e (NoValueOf text word) → UnlessMemory e (NoValue (HasMeant key word.octets))
+no_meaning e key word none = unless_map e (NoValueOf text word) (NoValue (HasMeant key word.octets))
+    (λ h. record { none = λ v has. h.none (map octet_of (letters word.octets)) (record { escapes = has.escapes; value = refl }) }) none
+
+-- a refusal of the key's form tells that there is no value of it
+says_why : (key : ParameterKey) (P : Type 0) (e : ParseError) → (e ≡ parse.Memory) ⊎ Says (wrong_value key) e → UnlessMemory e P → (e ≡ parse.Memory) ⊎ (Says (wrong_value key) e × P)
+says_why key P e (inl memory) none = inl memory
+says_why key P (parse.Message said) (inr says) none = inr (says, none)
+says_why key P e (inr says) none = absurd says
+
+pub meant_fault : {T : Type 0} (key : ParameterKey) (text s : List ℕ) (view : T → List ℕ) (r : Result T ParseError) → IsPlain key text → escapes_stand text ≡ true
+    → s ≡ map octet_of (letters text) → Decides (HasOctets key s) view r → IfErr r (λ e. (e ≡ parse.Memory) ⊎ Says (wrong_value key) e)
+    → IfErr r (λ e. (e ≡ parse.Memory) ⊎ ValueFault key text e)
+meant_fault key text s view (Ok x) plain escapes same reads why = tt
+meant_fault key text s view (Err e) plain escapes same reads why = either (says_why key (NoValue (HasOctets key s)) e why reads)
+  where
+    either : (e ≡ parse.Memory) ⊎ (Says (wrong_value key) e × NoValue (HasOctets key s)) → (e ≡ parse.Memory) ⊎ ValueFault key text e
+    either (inl memory) = inl memory
+    either (inr fault) = inr (inr (inr (inl (fault.0, plain, escapes, subst (λ (x : List ℕ). NoValue (HasOctets key x)) same fault.1))))
+
+pub plain_fault : {T : Type 0} (key : ParameterKey) (s : List ℕ) (view : T → List ℕ) (r : Result T ParseError) → ((k : ℕ) → k < length s → get_or s k 0 ≢ 92)
+    → Decides (HasOctets key s) view r → IfErr r (λ e. (e ≡ parse.Memory) ⊎ Says (wrong_value key) e) → IfErr r (λ e. (e ≡ parse.Memory) ⊎ ValueFault key s e)
+plain_fault key s view r h reads why =
+    let own = plain_meant s h in meant_fault key s s view r (λ e. plain_text s h) own.0 (sym own.1) reads why
+
+pub text_fault : {T : Type 0} (key : ParameterKey) (word : Word) (meant : List ℕ) (view : T → List ℕ) (r : Result T ParseError) → forbids_escapes key ≡ false
+    → PutAs text (λ s. s) [] meant word → Decides (HasOctets key meant) view r → IfErr r (λ e. (e ≡ parse.Memory) ⊎ Says (wrong_value key) e)
+    → IfErr r (λ e. (e ≡ parse.Memory) ⊎ ValueFault key word.octets e)
+text_fault key word meant view r takes put reads why =
+    meant_fault key word.octets meant view r (always_plain key word.octets takes) put.is.escapes (put.same ∙ put.is.value) reads why
+
+-- ---- their length
+
+pub value_meant : (key : ParameterKey) (text v : List ℕ) → HasMeant key text v → length v ≤ 65535 → IsValue key text v
+value_meant key text v has short = record { plain = has.plain; escapes = has.escapes; has = has.has; fits = omega (arith, short) }
+
+pub no_meant : (e : ParseError) (key : ParameterKey) (text : List ℕ) → UnlessMemory e (NoValue (HasMeant key text)) → UnlessMemory e (NoValue (IsValue key text))
+no_meant e key text none = unless_map e (NoValue (HasMeant key text)) (NoValue (IsValue key text))
+    (λ h. record { none = λ v is. h.none v (record { plain = is.plain; escapes = is.escapes; has = is.has }) }) none
+
+pub too_long : (key : ParameterKey) (text v : List ℕ) → HasMeant key text v → 65535 < length v → NoValue (IsValue key text)
+too_long key text v has long = record {
   none = λ w other.
-      let same : v ≡ w = octets_once key s v w has (subst (λ (x : List ℕ). HasOctets key x w) (sym is.value) other.has) in
+      let same : v ≡ w = octets_once key (map octet_of (letters text)) v w has.has other.has in
       let l : length v ≡ length w = ap length same in
       let fits = other.fits in
       omega arith;
 }
+
+pub long_fault : (key : ParameterKey) (text v : List ℕ) (e : ParseError) → HasMeant key text v → 65535 < length v → Says (codes "service parameter of more than 65535 octets") e
+    → ValueFault key text e
+long_fault key text v e has long says = inr (inr (inr (says, has.plain, has.escapes, record { octets = v; has = has.has; long = long })))
 
 -- ---- parameters
 

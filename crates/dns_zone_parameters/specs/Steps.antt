@@ -1,5 +1,5 @@
 -- What the code keeps.
-use Rattle.std.specs.Prelude.{◌≡◌, ℕ, ◌+◌, ◌<◌, take, drop, map, List, [], ◌∷◌, ◌++◌, length, Result, Ok, Err, Option, Some, None, ◌≢◌, codes, slice_index}
+use Rattle.std.specs.Prelude.{◌≡◌, ℕ, ◌+◌, ◌<◌, take, drop, map, List, [], ◌∷◌, ◌++◌, length, Result, Ok, Err, Option, Some, None, true, ◌≢◌, codes, slice_index}
 use Rattle.std.specs.Str.Parse.{IsNumeral, digits_value}
 use Rattle.dns_types.specs.declared.error.ParseError.{ParseError}
 use Rattle.dns_words.specs.Reads.{UnlessMemory, NoValue}
@@ -10,7 +10,10 @@ use Rattle.dns_zone_parameters.specs.declared.parameter.Parameter.{Parameter as 
 use Rattle.dns_zone_words.specs.Words.{Word, Cursor, words_at, with_word}
 use Rattle.dns_zone_parameters.specs.Lists.{items_in, IsItem}
 use Rattle.dns_zone_parameters.specs.Parameters.{Parameter, IsQuotedValue, IsWritten, HasParameter, IsParameter, AreWritten}
+use Rattle.dns_zone_parameters.specs.Values.{HasOctets, IsPlain}
+use Rattle.dns_zone_parameters.specs.declared.key.ParameterKey.{ParameterKey}
 use Rattle.dns_zone_parameters.specs.declared.lists.ListItem.{ListItem}
+use Rattle.dns_zone_words.specs.Letters.{letters, octet_of, escapes_stand}
 
 -- `key` and digits of this number, the first of them 0 only where it is the only one
 pub record NumberSpelled (n : ℕ) (name : List ℕ) : Type 0 where
@@ -103,3 +106,9 @@ pub record TookParameters (ps : List Parameter) (cursor : Cursor) : Type 0 where
 abbrev pub ReadsParameters : {T : Type 0} → (T → List CodeParameter) → Result T ParseError → Cursor → Type 0
 ReadsParameters view (Ok x) cursor = TookParameters (map parameter_value (view x)) cursor
 ReadsParameters view (Err e) cursor = UnlessMemory e (NoneOfAll AreWritten cursor)
+
+-- what the letters of the text are has these octets on the wire, of any length
+pub record HasMeant (key : ParameterKey) (text octets : List ℕ) : Type 0 where
+  pub plain : IsPlain key text
+  pub escapes : escapes_stand text ≡ true
+  pub has : HasOctets key (map octet_of (letters text)) octets

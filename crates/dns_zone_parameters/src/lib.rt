@@ -8,9 +8,9 @@ mod parameter;
 mod values;
 mod written;
 
-ghost use Rattle.std.specs.Prelude.{◌≡◌, ◌⊎◌, map, IfOk, IfErr};
+ghost use Rattle.std.specs.Prelude.{◌≡◌, ◌⊎◌, ◌++◌, map, IfOk, IfErr, OnOk};
 ghost use Rattle.dns_fields.specs.Pieces.{pieces};
-ghost use Rattle.dns_zone_words.specs.Remaining.{ReadsAll};
+ghost use Rattle.dns_zone_words.specs.Remaining.{PutsAll};
 ghost use Rattle.dns_zone_parameters.specs.Faults.{FaultBehind, ParametersFault};
 ghost use Rattle.dns_zone_parameters.specs.Parameters.{AreParameters};
 ghost use Rattle.dns_zone_parameters.specs.Steps.{ReadsParameters};
@@ -19,13 +19,13 @@ ghost use Rattle.dns_zone_parameters.specs.Views.{parameter_value};
 use crate::lists::is_rising;
 use crate::parameter::Parameter;
 use crate::written::next_parameter;
-use dns_types::{Octets, ParseError};
+use dns_types::ParseError;
 use dns_zone_words::ZoneWords;
 pub use key::ParameterKey;
 use std::alloc::{AllocError, Global};
 
-/// The parameters that all words which are left give, as they go on the wire: in the order of their keys, each as key,
-/// length and value (RFC 9460, 2.2). No words give no octets. There may be more than 65535 octets.
+/// Puts the parameters that all words which are left give behind octets, as they go on the wire: in the order of their keys,
+/// each as key, length and value (RFC 9460, 2.2). No words give no octets. There may be more than 65535 octets.
 ///
 /// A parameter is a word without quotes that stands right behind no other: `key`, which has an empty value, `key=value`,
 /// or `key=` with a word in quotes right behind it. Parameters may stand in any order. A key comes once.
@@ -48,8 +48,12 @@ use std::alloc::{AllocError, Global};
 ///
 /// Refused by [`Message`](ParseError::Message), which names the key or the cause, or by
 /// [`Memory`](ParseError::Memory).
-pub fn all_parameters(alloc: Global, words: &mut ZoneWords<'_>) -> Result<Octets, ParseError>
-    ensures reads { ReadsAll AreParameters (λ x. x) result words.old }
+pub fn put_parameters(
+    alloc: Global,
+    words: &mut ZoneWords<'_>,
+    octets: &mut Vec<u8>,
+) -> Result<(), ParseError>
+    ensures puts { PutsAll AreParameters result octets.old.items octets.new.items words.old }
     ensures why { IfErr result (λ e. (e ≡ ParseError.Memory) ⊎ ParametersFault words.old e) }
 {
     let mut parameters = parameters_in(alloc, words)?;
@@ -58,7 +62,8 @@ pub fn all_parameters(alloc: Global, words: &mut ZoneWords<'_>) -> Result<Octets
     if !is_rising(numbers.as_slice()) {
         return Err(ParseError::Message("key of a service parameter twice"));
     }
-    Ok(wire_of(alloc, parameters.as_slice())?)
+    put_wire(octets, parameters.as_slice())?;
+    Ok(())
 }
 
 // The parameters in the order of the words.
@@ -85,17 +90,16 @@ fn numbers_of(alloc: Global, parameters: &[Parameter]) -> Result<Vec<u16>, Alloc
         .collect(alloc)
 }
 
-// Key, length and value of each.
-fn wire_of(alloc: Global, parameters: &[Parameter]) -> Result<Octets, AllocError>
-    ensures { IfOk result (λ octets. octets ≡ pieces (map parameter_value parameters.now)) }
+// Puts key, length and value of each behind octets.
+fn put_wire(octets: &mut Vec<u8>, parameters: &[Parameter]) -> Result<(), AllocError>
+    ensures { OnOk result (octets.new.items ≡ octets.old.items ++ pieces (map parameter_value parameters.now)) }
 {
-    let mut octets = Vec::new(alloc);
     for parameter in parameters {
         octets.extend_from_slice(&parameter.number.to_be_bytes())?;
         octets.extend_from_slice(&(parameter.value.len() as u16).to_be_bytes())?;
         octets.extend_from_slice(parameter.value.as_slice())?;
     }
-    Ok(Octets::from_vec(octets))
+    Ok(())
 }
 
 #[cfg(test)]
@@ -194,7 +198,12 @@ mod tests {
     #[test]
     fn reads_texts(rt: HostRuntime) -> Result<(), Fail> {
         for (text, digits) in READ.iter() {
-            let octets = all_parameters(rt.alloc(), &mut ZoneWords::new(text.as_bytes()))?;
+            let mut octets = Vec::new(rt.alloc());
+            put_parameters(
+                rt.alloc(),
+                &mut ZoneWords::new(text.as_bytes()),
+                &mut octets,
+            )?;
             let wanted = hex::decode(rt.alloc(), digits.as_bytes())?;
             assert_eq!(rt; octets.as_slice(), wanted.as_slice(), "{text}");
         }
@@ -204,7 +213,12 @@ mod tests {
     #[test]
     fn refuses_texts(rt: HostRuntime) {
         for (text, message) in REFUSED.iter() {
-            match all_parameters(rt.alloc(), &mut ZoneWords::new(text.as_bytes())) {
+            let mut octets = Vec::new(rt.alloc());
+            match put_parameters(
+                rt.alloc(),
+                &mut ZoneWords::new(text.as_bytes()),
+                &mut octets,
+            ) {
                 Err(ParseError::Message(said)) => assert_eq!(rt; said, *message, "{text}"),
                 _ => assert!(rt; false, "{text}"),
             }

@@ -4,14 +4,15 @@ ghost use Rattle.std.specs.Prelude.{◌≡◌, ◌≢◌, ◌⊎◌, ◌↔◌, 
 ghost use Rattle.dns_words.specs.Reads.{Decides};
 ghost use Rattle.dns_zone_words.specs.Refusals.{Says};
 ghost use Rattle.dns_zone_parameters.specs.Faults.{wrong_value, ValueFault};
-ghost use Rattle.dns_zone_parameters.specs.Values.{forbids_escapes, HasOctets, IsPlain, IsPort, IsValue};
+ghost use Rattle.dns_zone_parameters.specs.Steps.{HasMeant};
+ghost use Rattle.dns_zone_parameters.specs.Values.{forbids_escapes, HasOctets, IsPort, IsValue};
 
 use crate::key::ParameterKey;
 use crate::lists::{ListItem, key_list_of, list_of};
 use base64::DecodeAllocError;
 use base64::engine::general_purpose::STANDARD;
 use dns_types::{Octets, ParseError};
-use dns_zone_words::{ZoneWord, text_of, u16_of};
+use dns_zone_words::{ZoneWord, put_text, u16_of};
 use std::alloc::Global;
 
 const NO_ESCAPE: &str = "`\\` without a meaning in a service parameter";
@@ -24,7 +25,22 @@ pub fn value_of(alloc: Global, key: ParameterKey, text: &[u8]) -> Result<Octets,
     ensures reads { Decides (IsValue key text.now) (λ x. x) result }
     ensures why { IfErr result (λ e. (e ≡ ParseError.Memory) ⊎ ValueFault key text.now e) }
 {
-    if !is_plain(key, text) {
+    let octets = meant_octets(alloc, key, text)?;
+    if octets.len() > 65535 {
+        return Err(ParseError::Message(LONG_VALUE));
+    }
+    Ok(octets)
+}
+
+// The same of any length.
+fn meant_octets(alloc: Global, key: ParameterKey, text: &[u8]) -> Result<Octets, ParseError>
+    ensures reads { Decides (HasMeant key text.now) (λ x. x) result }
+    ensures why { IfErr result (λ e. (e ≡ ParseError.Memory) ⊎ ValueFault key text.now e) }
+{
+    if has_no_escape(text) {
+        return octets_of(alloc, key, text);
+    }
+    if takes_no_escapes(key) {
         return Err(ParseError::Message(wrong_value(key)));
     }
     let word = ZoneWord {
@@ -32,18 +48,9 @@ pub fn value_of(alloc: Global, key: ParameterKey, text: &[u8]) -> Result<Octets,
         quoted: true,
         joined: true,
     };
-    let octets = octets_of(alloc, key, text_of(alloc, word, NO_ESCAPE)?)?;
-    if octets.len() > 65535 {
-        return Err(ParseError::Message(LONG_VALUE));
-    }
-    Ok(octets)
-}
-
-// Whether the key takes escapes, or none stands in the text.
-fn is_plain(key: ParameterKey, text: &[u8]) -> bool
-    ensures { IsTrue result ↔ IsPlain key text.now }
-{
-    !takes_no_escapes(key) || has_no_escape(text)
+    let mut meant = Vec::with_capacity(alloc, text.len())?;
+    put_text(&mut meant, word, NO_ESCAPE)?;
+    octets_of(alloc, key, meant.as_slice())
 }
 
 // Whether no escape may stand in a value of the key.
@@ -64,22 +71,22 @@ fn has_no_escape(text: &[u8]) -> bool
     text.iter().all(|octet| *octet != b'\\')
 }
 
-// The same by the octets of the text.
-fn octets_of(alloc: Global, key: ParameterKey, text: Octets) -> Result<Octets, ParseError>
-    ensures reads { Decides (HasOctets key text) (λ x. x) result }
+// The octets on the wire by the octets of the text.
+fn octets_of(alloc: Global, key: ParameterKey, text: &[u8]) -> Result<Octets, ParseError>
+    ensures reads { Decides (HasOctets key text.now) (λ x. x) result }
     ensures why { IfErr result (λ e. (e ≡ ParseError.Memory) ⊎ Says (wrong_value key) e) }
 {
     let wrong = wrong_value(key);
     match key {
-        ParameterKey::Mandatory => key_list_of(alloc, text.as_slice(), wrong),
-        ParameterKey::Alpn => list_of(alloc, ListItem::Protocol, text.as_slice(), wrong),
-        ParameterKey::NoDefaultAlpn => nothing_of(text, wrong),
-        ParameterKey::Port => port_of(alloc, text.as_slice(), wrong),
-        ParameterKey::Ipv4Hint => list_of(alloc, ListItem::Ipv4, text.as_slice(), wrong),
-        ParameterKey::Ech => ech_of(alloc, text.as_slice(), wrong),
-        ParameterKey::Ipv6Hint => list_of(alloc, ListItem::Ipv6, text.as_slice(), wrong),
-        ParameterKey::DohPath => path_of(text, wrong),
-        ParameterKey::Numbered(_) => Ok(text),
+        ParameterKey::Mandatory => key_list_of(alloc, text, wrong),
+        ParameterKey::Alpn => list_of(alloc, ListItem::Protocol, text, wrong),
+        ParameterKey::NoDefaultAlpn => nothing_of(alloc, text, wrong),
+        ParameterKey::Port => port_of(alloc, text, wrong),
+        ParameterKey::Ipv4Hint => list_of(alloc, ListItem::Ipv4, text, wrong),
+        ParameterKey::Ech => ech_of(alloc, text, wrong),
+        ParameterKey::Ipv6Hint => list_of(alloc, ListItem::Ipv6, text, wrong),
+        ParameterKey::DohPath => path_of(alloc, text, wrong),
+        ParameterKey::Numbered(_) => Ok(Octets::from_slice(alloc, text)?),
     }
 }
 
@@ -101,25 +108,25 @@ fn wrong_value(key: ParameterKey) -> &'static str
 }
 
 // No octets, as no-default-alpn has them.
-fn nothing_of(octets: Octets, wrong: &'static str) -> Result<Octets, ParseError>
-    ensures reads { Decides (HasOctets ParameterKey.NoDefaultAlpn octets) (λ x. x) result }
+fn nothing_of(alloc: Global, text: &[u8], wrong: &'static str) -> Result<Octets, ParseError>
+    ensures reads { Decides (HasOctets ParameterKey.NoDefaultAlpn text.now) (λ x. x) result }
     ensures why { IfErr result (λ e. e ≡ ParseError.Message wrong.entry) }
 {
-    if octets.len() > 0 {
+    if text.len() > 0 {
         return Err(ParseError::Message(wrong));
     }
-    Ok(octets)
+    Ok(Octets::new(alloc))
 }
 
 // A path of one octet or more.
-fn path_of(octets: Octets, wrong: &'static str) -> Result<Octets, ParseError>
-    ensures reads { Decides (HasOctets ParameterKey.DohPath octets) (λ x. x) result }
-    ensures why { IfErr result (λ e. e ≡ ParseError.Message wrong.entry) }
+fn path_of(alloc: Global, text: &[u8], wrong: &'static str) -> Result<Octets, ParseError>
+    ensures reads { Decides (HasOctets ParameterKey.DohPath text.now) (λ x. x) result }
+    ensures why { IfErr result (λ e. (e ≡ ParseError.Memory) ⊎ (e ≡ ParseError.Message wrong.entry)) }
 {
-    if octets.len() == 0 {
+    if text.len() == 0 {
         return Err(ParseError::Message(wrong));
     }
-    Ok(octets)
+    Ok(Octets::from_slice(alloc, text)?)
 }
 
 // The two octets of a port.

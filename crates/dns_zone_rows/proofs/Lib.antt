@@ -3,3 +3,4 @@ pub mod Marking
 pub mod Once
 pub mod RowLoop
 pub mod TypeWords
+pub mod StringWords

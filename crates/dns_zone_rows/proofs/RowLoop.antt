@@ -8,13 +8,12 @@ use Rattle.dns_fields.specs.Labels.{DomainName}
 use Rattle.dns_types.specs.declared.error.ParseError.{ParseError}
 use Rattle.dns_types.specs.declared.error.ParseError.TheVariants as parse
 use Rattle.dns_words.specs.Reads.{UnlessMemory}
-use Rattle.dns_zone_words.specs.Remaining.{TookAll, NoneOfAll, ReadsAll}
+use Rattle.dns_zone_words.specs.Remaining.{TookAll, NoneOfAll, ReadsAll, PutAll}
 use Rattle.dns_zone_words.specs.Words.{Word, Cursor, words_at, with_word}
 use Rattle.dns_zone_words.proofs.FirstSteps.{unless_map, exit_fault}
-use Rattle.dns_zone_words.proofs.RemainingSteps.{exit_same}
-use Rattle.dns_zone_rows.proofs.TypeWords.{word_ok}
+use Rattle.dns_zone_words.proofs.RemainingSteps.{exit_same, word_ok}
 use Rattle.dns_zone_rows.specs.RowFaults.{kind_of, rest_kind_of, row_value, FieldFault, RestFault, FieldsFault, RowFault}
-use Rattle.dns_zone_rows.specs.RowSteps.{AddedFirst, NoFirstGives, AddedAll}
+use Rattle.dns_zone_rows.specs.RowSteps.{AddedFirst, NoFirstGives}
 use Rattle.dns_zone_rows.specs.Rows.{FieldGives, RestGives, FieldsGive, RowGives}
 use Rattle.dns_zone_rows.specs.declared.row.ZoneField.{ZoneField}
 use Rattle.dns_zone_rows.specs.declared.row.ZoneRest.{ZoneRest}
@@ -137,7 +136,7 @@ rest_refused origin row old now before e so none =
 
 -- all were taken
 fields_taken : (origin : Option DomainName) (row : ZoneRow) (old now : Cursor) (before after : List ℕ)
-    → FieldsSo origin row.fields.now [] row.rest old now before → AddedAll (RestGives (rest_kind_of row.rest)) before after now
+    → FieldsSo origin row.fields.now [] row.rest old now before → PutAll (RestGives (rest_kind_of row.rest)) before after now
     → TookAll (RowGives origin (row_value row)) after old
 fields_taken origin row old now before after so a =
     let at = so.gives a.octets (record { words = a.words; cut = a.cut; given = record { is = a.given } }) in
@@ -184,7 +183,7 @@ exit_rest_fault r origin row at old now before e h l so f = exit_fault (λ y. (y
     (rest_fault origin row old now before e (over origin row at old now before l so) f)
 
 pub row_taken : (origin : Option DomainName) (row : ZoneRow) (at : ℕ) (old now : Cursor) (before after result : List ℕ) → length row.fields.now ≤ at
-    → RowSo origin row at old now before → AddedAll (RestGives (rest_kind_of row.rest)) before after now → result ≡ after
+    → RowSo origin row at old now before → PutAll (RestGives (rest_kind_of row.rest)) before after now → result ≡ after
     → TookAll (RowGives origin (row_value row)) result old
 row_taken origin row at old now before after result l so a e =
     subst (λ (s : List ℕ). TookAll (RowGives origin (row_value row)) s old) (sym e)

@@ -2,7 +2,6 @@
 use Rattle.std.specs.Prelude.{◌≡◌, List, ◌∷◌, ◌++◌, ℕ, Result, Ok, Err}
 use Rattle.dns_types.specs.declared.error.ParseError.{ParseError}
 use Rattle.dns_words.specs.Reads.{UnlessMemory}
-use Rattle.dns_zone_words.specs.Remaining.{NoneOfAll}
 use Rattle.dns_zone_words.specs.Words.{Word, Cursor, words_at, with_word}
 
 -- the first word was taken, and the octets that it gives stand behind the others
@@ -21,16 +20,3 @@ pub record NoFirstGives (gives : List ℕ → Word → Type 0) (cursor : Cursor)
 abbrev pub AddsFirst : {T : Type 0} → (List ℕ → Word → Type 0) → Result T ParseError → List ℕ → List ℕ → Cursor → Cursor → Type 0
 AddsFirst gives (Ok x) before after old new = AddedFirst gives before after old new
 AddsFirst gives (Err e) before after old new = UnlessMemory e (NoFirstGives gives old)
-
--- all words that are left give these octets, which stand behind the others
-pub record AddedAll (gives : List ℕ → List Word → Type 0) (before after : List ℕ) (cursor : Cursor) : Type 0 where
-  pub words : List Word
-  pub cut : words_at cursor ≡ Ok words
-  pub octets : List ℕ
-  pub given : gives octets words
-  pub same : after ≡ before ++ octets
-
--- takes all words exactly where they give octets, and puts these behind the others
-abbrev pub AddsAll : {T : Type 0} → (List ℕ → List Word → Type 0) → Result T ParseError → List ℕ → List ℕ → Cursor → Type 0
-AddsAll gives (Ok x) before after cursor = AddedAll gives before after cursor
-AddsAll gives (Err e) before after cursor = UnlessMemory e (NoneOfAll gives cursor)

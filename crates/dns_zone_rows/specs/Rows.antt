@@ -5,13 +5,13 @@ use Rattle.std.specs.List.{flat_map}
 use Rattle.std.specs.Int.{bytes_high_first}
 use Rattle.dns_fields.specs.Bitmaps.{block, minimal}
 use Rattle.dns_fields.specs.Fields.{Kind, Value, Text}
-use Rattle.dns_fields.specs.Labels.{DomainName, wire}
+use Rattle.dns_fields.specs.Labels.{DomainName}
 use Rattle.dns_fields.specs.Pieces.{string as string_octets}
 use Rattle.dns_types.specs.RecordTypes.{number_of}
 use Rattle.dns_types.specs.declared.record_type.RecordType.{RecordType}
 use Rattle.dns_words.specs.Forms.{ttl, ipv4, ipv6}
 use Rattle.dns_zone_words.specs.Forms.{ZoneForm, bare, number, string, text, IsType}
-use Rattle.dns_zone_words.specs.NameWords.{name}
+use Rattle.dns_zone_words.specs.NameWords.{name, name_octets}
 use Rattle.dns_zone_words.specs.Remaining.{AreHex, AreBase64, AreStrings}
 use Rattle.dns_zone_words.specs.Words.{Word}
 use Rattle.dns_zone_parameters.specs.Parameters.{AreParameters}
@@ -63,10 +63,6 @@ pub record Gives {k : Kind} (form : ZoneForm k) (written : Value k → List ℕ)
   pub value : Value k
   pub is : form.is value word
   pub same : octets ≡ written value
-
--- a name's octets, whole and with its letters
-abbrev pub name_octets : DomainName → List ℕ
-name_octets x = wire x.labels ++ 0 ∷ []
 
 -- a word of 1 to 255 octets, without quotes, as it stands
 pub record IsTag (octets : List ℕ) (word : Word) : Type 0 where

@@ -6,28 +6,26 @@ ghost use Rattle.std.specs.Option.{option_copied};
 ghost use Rattle.dns_fields.specs.Pieces.{string as string_octets};
 ghost use Rattle.dns_words.specs.Forms.{ttl, ipv4, ipv6};
 ghost use Rattle.dns_zone_words.specs.Forms.{bare, number, string, text, StringFault, TextFault};
-ghost use Rattle.dns_zone_words.specs.NameWords.{name, NameFault};
+ghost use Rattle.dns_zone_words.specs.NameWords.{name, name_octets, NameFault};
 ghost use Rattle.dns_zone_words.specs.Views.{word_value};
 ghost use Rattle.dns_zone_words.specs.Words.{words_at, behind_first};
 ghost use Rattle.dns_zone_words.specs.ZoneReads.{ReadsAs, ReadsFirst, WhyNoField, WhyFirst};
 ghost use Rattle.dns_zone_rows.specs.Mnemonics.{named_number, cert_types, algorithms};
 ghost use Rattle.dns_zone_rows.specs.RowFaults.{kind_of, FieldFault};
 ghost use Rattle.dns_zone_rows.specs.RowSteps.{AddsFirst};
-ghost use Rattle.dns_zone_rows.specs.Rows.{Gives, FieldGives, tag, name_octets};
+ghost use Rattle.dns_zone_rows.specs.Rows.{Gives, FieldGives, tag};
 
 use crate::mnemonics::{next_algorithm, next_cert_type};
 use crate::row::ZoneField;
 use dns_names_wire::Name;
 use dns_types::ParseError;
 use dns_zone_words::{
-    Field, NameField, StringField, ZoneWord, ZoneWords, next_ipv4, next_ipv6, next_name,
-    next_string, next_text, next_ttl, next_u8, next_u16, next_u32, some_word,
+    Field, NameField, StringField, ZoneWord, ZoneWords, next_ipv4, next_ipv6, next_ttl, next_u8,
+    next_u16, next_u32, put_name, put_string, put_text, some_word,
 };
-use std::alloc::Global;
 
 // Takes the next word and puts the octets that it gives for the field behind the others.
 pub(crate) fn add_field(
-    alloc: Global,
     words: &mut ZoneWords<'_>,
     origin: Option<&Name>,
     field: &ZoneField,
@@ -43,12 +41,12 @@ pub(crate) fn add_field(
         ZoneField::Ttl(field) => add_ttl(words, *field, octets),
         ZoneField::Ipv4(field) => add_ipv4(words, *field, octets),
         ZoneField::Ipv6(field) => add_ipv6(words, *field, octets),
-        ZoneField::Name(field) => add_name(alloc, words, origin, field, octets),
-        ZoneField::String(field) => add_string(alloc, words, field, octets),
+        ZoneField::Name(field) => add_name(words, origin, field, octets),
+        ZoneField::String(field) => add_string(words, field, octets),
         ZoneField::Tag(field) => add_tag(words, *field, octets),
         ZoneField::CertType(field) => add_cert_type(words, *field, octets),
         ZoneField::Algorithm(field) => add_algorithm(words, *field, octets),
-        ZoneField::Text(field) => add_text(alloc, words, *field, octets),
+        ZoneField::Text(field) => add_text(words, *field, octets),
     }
 }
 
@@ -126,7 +124,6 @@ fn add_ipv6(words: &mut ZoneWords<'_>, field: Field, octets: &mut Vec<u8>) -> Re
 }
 
 fn add_name(
-    alloc: Global,
     words: &mut ZoneWords<'_>,
     origin: Option<&Name>,
     field: &NameField,
@@ -135,12 +132,11 @@ fn add_name(
     ensures adds { AddsFirst (Gives (name (option_copied origin.entry)) name_octets) result octets.old.items octets.new.items words.old words.new }
     ensures why { IfErr result (λ e. (e ≡ ParseError.Memory) ⊎ WhyFirst (ParseError.MissingToken field.now.name) (NameFault field.now (option_copied origin.entry)) words.old e) }
 {
-    let value = next_name(alloc, words, origin, field)?;
-    add_labels(octets, &value)
+    let word = some_word(words, field.name)?;
+    put_name(octets, word, origin, field)
 }
 
 fn add_string(
-    alloc: Global,
     words: &mut ZoneWords<'_>,
     field: &StringField,
     octets: &mut Vec<u8>,
@@ -148,8 +144,8 @@ fn add_string(
     ensures adds { AddsFirst (Gives string string_octets) result octets.old.items octets.new.items words.old words.new }
     ensures why { IfErr result (λ e. (e ≡ ParseError.Memory) ⊎ WhyFirst (ParseError.MissingToken field.now.name) (StringFault field.now) words.old e) }
 {
-    let value = next_string(alloc, words, field)?;
-    add_counted(octets, value.as_slice())
+    let word = some_word(words, field.name)?;
+    put_string(octets, word, field)
 }
 
 fn add_tag(words: &mut ZoneWords<'_>, field: Field, octets: &mut Vec<u8>) -> Result<(), ParseError>
@@ -160,17 +156,12 @@ fn add_tag(words: &mut ZoneWords<'_>, field: Field, octets: &mut Vec<u8>) -> Res
     add_counted(octets, value)
 }
 
-fn add_text(
-    alloc: Global,
-    words: &mut ZoneWords<'_>,
-    field: Field,
-    octets: &mut Vec<u8>,
-) -> Result<(), ParseError>
+fn add_text(words: &mut ZoneWords<'_>, field: Field, octets: &mut Vec<u8>) -> Result<(), ParseError>
     ensures adds { AddsFirst (Gives text (λ s. s)) result octets.old.items octets.new.items words.old words.new }
     ensures why { IfErr result (λ e. (e ≡ ParseError.Memory) ⊎ WhyFirst (ParseError.MissingToken field.name) (TextFault (ParseError.Message field.wrong)) words.old e) }
 {
-    let value = next_text(alloc, words, field)?;
-    add_octets(octets, value.as_slice())
+    let word = some_word(words, field.name)?;
+    put_text(octets, word, field.wrong)
 }
 
 // The next word, of 1 to 255 octets, without quotes, as it stands.
@@ -196,23 +187,9 @@ fn tag_of<'a>(word: ZoneWord<'a>, wrong: &'static str) -> Result<&'a [u8], Parse
     Ok(octets)
 }
 
-// Puts a name's labels behind octets, each with its length, and a 0 behind them.
-fn add_labels(octets: &mut Vec<u8>, name: &Name) -> Result<(), ParseError>
-    ensures added { OnOk result (octets.new.items ≡ octets.old.items ++ name_octets name.now) }
-    ensures memory { IfErr result (λ e. e ≡ ParseError.Memory) }
-{
-    // Called for its clauses: no label has more than 63 octets.
-    let _len = name.len();
-    for label in name.iter() {
-        add_counted(octets, label)?;
-    }
-    octets.push(0)?;
-    Ok(())
-}
-
 // Puts a string's length and its octets behind octets.
 #[inline]
-pub(crate) fn add_counted(octets: &mut Vec<u8>, string: &[u8]) -> Result<(), ParseError>
+fn add_counted(octets: &mut Vec<u8>, string: &[u8]) -> Result<(), ParseError>
     requires { length string.now ≤ 255 }
     ensures added { OnOk result (octets.new.items ≡ octets.old.items ++ string_octets string.now) }
     ensures memory { IfErr result (λ e. e ≡ ParseError.Memory) }

@@ -32,7 +32,7 @@ pub fn row_octets(
 {
     let mut octets = Vec::with_capacity(alloc, words.octets_left())?;
     for field in row.fields {
-        add_field(alloc, words, origin, field, &mut octets)?;
+        add_field(words, origin, field, &mut octets)?;
     }
     add_rest(alloc, words, &row.rest, &mut octets)?;
     Ok(Octets::from_vec(octets))

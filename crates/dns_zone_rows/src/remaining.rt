@@ -4,21 +4,20 @@ ghost use Rattle.std.specs.Prelude.{◌≡◌, ◌≢◌, ◌≤◌, ◌⊎◌, 
 ghost use Rattle.std.specs.List.{flat_map};
 ghost use Rattle.dns_fields.specs.Pieces.{string as string_octets};
 ghost use Rattle.dns_zone_words.specs.Forms.{StringFault};
-ghost use Rattle.dns_zone_words.specs.Remaining.{AmongFault, HexFault, Base64Fault};
+ghost use Rattle.dns_zone_words.specs.Remaining.{AmongFault, HexFault, Base64Fault, PutsAll};
 ghost use Rattle.dns_zone_words.specs.Words.{words_at};
 ghost use Rattle.dns_zone_words.specs.ZoneReads.{LacksFirst};
 ghost use Rattle.dns_zone_parameters.specs.Faults.{ParametersFault};
 ghost use Rattle.dns_zone_rows.specs.RowFaults.{rest_kind_of, SurplusFault, RestFault};
-ghost use Rattle.dns_zone_rows.specs.RowSteps.{AddsAll};
 ghost use Rattle.dns_zone_rows.specs.Rows.{NoWord, SomeStrings, SomeHex, SomeBase64, AnyParameters, RestGives};
 
-use crate::fields::{add_counted, add_octets};
+use crate::fields::add_octets;
 use crate::row::ZoneRest;
 use crate::types::add_types;
-use dns_types::{ParseError, Strings};
-use dns_zone_parameters::all_parameters;
+use dns_types::ParseError;
+use dns_zone_parameters::put_parameters;
 use dns_zone_words::{
-    Field, HexField, StringField, ZoneWords, all_base64, all_hex, all_strings, no_more, some_word,
+    Field, HexField, StringField, ZoneWords, all_base64, all_hex, no_more, put_string, some_word,
 };
 use std::alloc::Global;
 
@@ -29,15 +28,15 @@ pub(crate) fn add_rest(
     rest: &ZoneRest,
     octets: &mut Vec<u8>,
 ) -> Result<(), ParseError>
-    ensures adds { AddsAll (RestGives (rest_kind_of rest.now)) result octets.old.items octets.new.items words.old }
+    ensures adds { PutsAll (RestGives (rest_kind_of rest.now)) result octets.old.items octets.new.items words.old }
     ensures why { IfErr result (λ e. (e ≡ ParseError.Memory) ⊎ RestFault rest.now words.old e) }
 {
     match rest {
         ZoneRest::Nothing(surplus) => add_nothing(words, *surplus, octets),
-        ZoneRest::Strings(field) => add_strings(alloc, words, field, octets),
+        ZoneRest::Strings(field) => add_strings(words, field, octets),
         ZoneRest::Hex(missing, field) => add_hex(alloc, words, *missing, field, octets),
         ZoneRest::Base64(field) => add_base64(alloc, words, *field, octets),
-        ZoneRest::Types(field) => add_types(words, *field, octets),
+        ZoneRest::Types(field) => add_types(alloc, words, *field, octets),
         ZoneRest::Parameters => add_parameters(alloc, words, octets),
     }
 }
@@ -48,7 +47,7 @@ fn add_nothing(
     surplus: &'static str,
     octets: &mut Vec<u8>,
 ) -> Result<(), ParseError>
-    ensures adds { AddsAll (RestGives NoWord) result octets.old.items octets.new.items words.old }
+    ensures adds { PutsAll (RestGives NoWord) result octets.old.items octets.new.items words.old }
     ensures why { IfErr result (λ e. (e ≡ ParseError.Memory) ⊎ SurplusFault (ParseError.Message surplus.entry) words.old e) }
 {
     let _octets = octets.len();
@@ -56,17 +55,21 @@ fn add_nothing(
 }
 
 fn add_strings(
-    alloc: Global,
     words: &mut ZoneWords<'_>,
     field: &StringField,
     octets: &mut Vec<u8>,
 ) -> Result<(), ParseError>
-    ensures adds { AddsAll (RestGives SomeStrings) result octets.old.items octets.new.items words.old }
+    ensures adds { PutsAll (RestGives SomeStrings) result octets.old.items octets.new.items words.old }
     ensures why { IfErr result (λ e. (e ≡ ParseError.Memory) ⊎ LacksFirst (ParseError.MissingToken field.now.name) words.old e ⊎ AmongFault (StringFault field.now) words.old e) }
 {
-    ask_some(words, field.name)?;
-    let strings = all_strings(alloc, words, field)?;
-    add_all_counted(octets, &strings)
+    let first = some_word(words, field.name)?;
+    put_string(octets, first, field)?;
+    'words: loop {
+        match words.next_word()? {
+            Some(word) => put_string(octets, word, field)?,
+            None => return Ok(()),
+        }
+    }
 }
 
 fn add_hex(
@@ -76,7 +79,7 @@ fn add_hex(
     field: &HexField,
     octets: &mut Vec<u8>,
 ) -> Result<(), ParseError>
-    ensures adds { AddsAll (RestGives SomeHex) result octets.old.items octets.new.items words.old }
+    ensures adds { PutsAll (RestGives SomeHex) result octets.old.items octets.new.items words.old }
     ensures why { IfErr result (λ e. (e ≡ ParseError.Memory) ⊎ LacksFirst (ParseError.MissingToken missing.entry) words.old e ⊎ HexFault field.now words.old e) }
 {
     ask_some(words, missing)?;
@@ -90,7 +93,7 @@ fn add_base64(
     field: Field,
     octets: &mut Vec<u8>,
 ) -> Result<(), ParseError>
-    ensures adds { AddsAll (RestGives SomeBase64) result octets.old.items octets.new.items words.old }
+    ensures adds { PutsAll (RestGives SomeBase64) result octets.old.items octets.new.items words.old }
     ensures why { IfErr result (λ e. (e ≡ ParseError.Memory) ⊎ LacksFirst (ParseError.MissingToken field.name) words.old e ⊎ Base64Fault (ParseError.Message field.wrong) words.old e) }
 {
     ask_some(words, field.name)?;
@@ -103,11 +106,10 @@ fn add_parameters(
     words: &mut ZoneWords<'_>,
     octets: &mut Vec<u8>,
 ) -> Result<(), ParseError>
-    ensures adds { AddsAll (RestGives AnyParameters) result octets.old.items octets.new.items words.old }
+    ensures adds { PutsAll (RestGives AnyParameters) result octets.old.items octets.new.items words.old }
     ensures why { IfErr result (λ e. (e ≡ ParseError.Memory) ⊎ ParametersFault words.old e) }
 {
-    let parameters = all_parameters(alloc, words)?;
-    add_octets(octets, parameters.as_slice())
+    put_parameters(alloc, words, octets)
 }
 
 // That a word is left. Takes none.
@@ -117,18 +119,5 @@ fn ask_some(words: &ZoneWords<'_>, missing: &'static str) -> Result<(), ParseErr
     ensures refused { IfErr result (LacksFirst (ParseError.MissingToken missing.entry) words.now) }
 {
     some_word(&mut words.again(), missing)?;
-    Ok(())
-}
-
-// Puts strings behind octets, each behind its length.
-fn add_all_counted(octets: &mut Vec<u8>, strings: &Strings) -> Result<(), ParseError>
-    requires { All (λ string. length string ≤ 255) strings.now }
-    ensures added { OnOk result (octets.new.items ≡ octets.old.items ++ flat_map string_octets strings.now) }
-    ensures memory { IfErr result (λ e. e ≡ ParseError.Memory) }
-{
-    let strings = strings.as_slice();
-    for string in strings {
-        add_counted(octets, string.as_slice())?;
-    }
     Ok(())
 }

@@ -30,7 +30,7 @@ pub first_read : {T : Type 0} {k : Kind} (form : ZoneForm k) (view : T → Value
 first_read form view (Ok x) word old new first h = record { word = word; first = first; is = h }
 first_read form view (Err e) word old new first h = unless_map e (NoValueOf form word) (NoFirst form old) (none_first form word old new first) h
 
-unless_all : (e : ParseError) {P : Type 0} → P → UnlessMemory e P
+pub unless_all : (e : ParseError) {P : Type 0} → P → UnlessMemory e P
 unless_all parse.Memory h = tt
 unless_all e h = h
 

@@ -1,7 +1,12 @@
 -- Letters, one by one.
-use Rattle.std.proofs.Common.{◌≡◌, ℕ, ◌<◌, ◌≤◌, Bool, true, false, cond, eqb, List, [], ◌∷◌, length, map, get_or, suc, ◌≢◌, ap, refl, arith}
+use Rattle.std.proofs.Common.{◌≡◌, ℕ, ◌<◌, ◌≤◌, Bool, true, false, cond, eqb, List, [], ◌∷◌, ◌++◌, length, map, get_or, take, drop, length-drop, subst, ◌-◌, zero, suc, ◌≢◌, ap, refl, sym, ◌∙◌, arith, append_assoc}
+use Rattle.std.proofs.lemmas.List.{append-nil, take_all}
 use Rattle.std.proofs.lemmas.Bool.Decides.{nat_tests}
-use Rattle.dns_zone_words.specs.Letters.{is_digit, letters, octet_of, escapes_stand}
+use Rattle.dns_zone_words.specs.Forms.{text as text_form}
+use Rattle.dns_zone_words.specs.Letters.{Letter, is_digit, letters, octet_of, escapes_stand}
+use Rattle.dns_zone_words.specs.Views.{BeginsWith}
+use Rattle.dns_zone_words.specs.Words.{Word}
+use Rattle.dns_zone_words.specs.ZoneReads.{PutAs, NoValueOf}
 
 either_way : (b : Bool) → cond b false false ≡ false
 either_way true = refl
@@ -21,11 +26,77 @@ no_third (a ∷ b ∷ []) some few e low high = rw (is_ninety_two a e, digit_tes
 no_third (a ∷ b ∷ c ∷ []) some few e low high = rw (is_ninety_two a e, digit_test b low high) (either_way (is_digit c))
 no_third (a ∷ b ∷ c ∷ d ∷ s) some few e low high = absurd (omega arith)
 
--- a text without a `\` is its letters' octets
-pub plain_octets : (s : List ℕ) → ((k : ℕ) → k < length s → get_or s k 0 ≢ 92) → (escapes_stand s ≡ true) × (s ≡ map octet_of (letters s))
-plain_octets [] h = (refl, refl)
-plain_octets (c ∷ s) h =
+-- octets without a `\` are letters
+pub plain_letters : (n : ℕ) (s : List ℕ) → n ≤ length s → ((k : ℕ) → k < n → get_or s k 0 ≢ 92)
+    → (escapes_stand s ≡ escapes_stand (drop n s)) × (map octet_of (letters s) ≡ take n s ++ map octet_of (letters (drop n s)))
+plain_letters zero s w h = (refl, refl)
+plain_letters (suc n) [] w h = absurd (omega arith)
+plain_letters (suc n) (c ∷ s) w h =
     let other : c ≢ 92 = h 0 (omega arith) in
     let test : eqb c 92 ≡ false = grind (arith, nat_tests) in
-    let rest = plain_octets s (λ k lt. h (suc k) (omega arith)) in
+    let rest = plain_letters n s (omega arith) (λ k lt. h (suc k) (omega arith)) in
     (rw test rest.0, rw test (ap (λ (t : List ℕ). c ∷ t) rest.1))
+
+-- The octets of a text's letters were put behind others, up to the rest of the text.
+pub record PutSo (text rest before octets : List ℕ) : Type 0 where
+  pub escapes : escapes_stand text ≡ escapes_stand rest
+  pub value : before ++ map octet_of (letters text) ≡ octets ++ map octet_of (letters rest)
+
+pub put_none : (text before : List ℕ) → PutSo text text before before
+put_none text before = record { escapes = refl; value = refl }
+
+-- so were n octets more, none of them a `\`
+pub put_plain : (text rest before octets more : List ℕ) (n : ℕ) → PutSo text rest before octets → n ≤ length rest → ((k : ℕ) → k < n → get_or rest k 0 ≢ 92)
+    → more ≡ octets ++ take n rest → PutSo text (drop n rest) before more
+put_plain text rest before octets more n so w h e =
+    let own = plain_letters n rest w h in record {
+      escapes = so.escapes ∙ own.0;
+      value = so.value ∙ ap (λ (s : List ℕ). octets ++ s) own.1 ∙ sym (append_assoc octets (take n rest) (map octet_of (letters (drop n rest))))
+          ∙ ap (λ (s : List ℕ). s ++ map octet_of (letters (drop n rest))) (sym e);
+    }
+
+-- and so was a letter
+pub put_letter : (text rest left before octets more : List ℕ) (x : Letter) → PutSo text rest before octets → BeginsWith x rest left → more ≡ octets ++ octet_of x ∷ []
+    → PutSo text left before more
+put_letter text rest left before octets more x so begins e = record {
+  escapes = so.escapes ∙ begins.escapes;
+  value = so.value ∙ ap (λ (xs : List Letter). octets ++ map octet_of xs) begins.first
+      ∙ sym (append_assoc octets (octet_of x ∷ []) (map octet_of (letters left)))
+      ∙ ap (λ (s : List ℕ). s ++ map octet_of (letters left)) (sym e);
+}
+
+-- what a slice from a place on is
+pub from_place : (n : ℕ) (s : List ℕ) → take (length s - n) (drop n s) ≡ drop n s
+from_place n s = take_all (length s - n) (drop n s) (omega (arith, length-drop n s))
+
+pub none_left : (s : List ℕ) → length s ≡ 0 → s ≡ []
+none_left [] e = refl
+none_left (c ∷ s) e = absurd (omega arith)
+
+-- octets up to the rest behind n, none of them a `\`
+pub put_run : (text rest before octets more : List ℕ) (n : ℕ) → PutSo text rest before octets → n ≤ length rest → ((k : ℕ) → k < n → get_or rest k 0 ≢ 92)
+    → more ≡ octets ++ take n rest → PutSo text (take (length rest - n) (drop n rest)) before more
+put_run text rest before octets more n so w h e =
+    subst (λ (r : List ℕ). PutSo text r before more) (sym (from_place n rest)) (put_plain text rest before octets more n so w h e)
+
+-- and the letter behind them
+pub put_next : (text rest before octets more : List ℕ) (n : ℕ) (x : Letter) → PutSo text rest before octets → BeginsWith x rest (drop n rest) → more ≡ octets ++ octet_of x ∷ []
+    → PutSo text (take (length rest - n) (drop n rest)) before more
+put_next text rest before octets more n x so begins e =
+    subst (λ (r : List ℕ). PutSo text r before more) (sym (from_place n rest)) (put_letter text rest (drop n rest) before octets more x so begins e)
+
+-- all were
+pub put_all : (word : Word) (rest before octets : List ℕ) → PutSo word.octets rest before octets → length rest ≡ 0 → PutAs text_form (λ s. s) before octets word
+put_all word rest before octets so end =
+    let none : rest ≡ [] = none_left rest end in record {
+      value = map octet_of (letters word.octets);
+      is = record { escapes = so.escapes ∙ ap escapes_stand none; value = refl };
+      same = sym (so.value ∙ ap (λ (r : List ℕ). octets ++ map octet_of (letters r)) none ∙ append-nil octets);
+    }
+
+-- a `\` without a meaning is left
+pub put_fault : (text rest before octets : List ℕ) → PutSo text rest before octets → escapes_stand rest ≡ false → escapes_stand text ≡ false
+put_fault text rest before octets so bad = so.escapes ∙ bad
+
+pub no_text : (word : Word) → escapes_stand word.octets ≡ false → NoValueOf text_form word
+no_text word bad = record { none = λ v is. let both : true ≡ false = sym is.escapes ∙ bad in absurd (cc) }

@@ -1,50 +1,20 @@
 -- Labels of names, one by one.
-use Rattle.std.proofs.Common.{◌≡◌, ℕ, ◌+◌, ◌<◌, ◌≤◌, Bool, true, false, cond, List, [], ◌∷◌, ◌++◌, length, refl, sym, ◌∙◌, ap, subst, arith, append_assoc, ◌⊎◌, inl, inr, Option, Some, None}
+use Rattle.std.proofs.Common.{◌≡◌, ◌≢◌, ℕ, zero, suc, get_or, take, drop, length-drop, ◌-◌, ◌+◌, ◌<◌, ◌≤◌, Bool, true, false, cond, List, [], ◌∷◌, ◌++◌, length, refl, sym, ◌∙◌, ap, subst, arith, append_assoc, ◌⊎◌, inl, inr, Option, Some, None}
 use Rattle.std.specs.Prelude.{◌==◌}
 use Rattle.std.proofs.lemmas.Bool.Decides.{nat_tests}
-use Rattle.std.proofs.lemmas.List.{append-nil, length-append}
-use Rattle.dns_fields.specs.Labels.{DomainName, IsLabel, AreLabels, FitsName, IsName, wire}
-use Rattle.dns_fields.specs.Names.{IsNameIn}
-use Rattle.dns_fields.specs.Names.LabelsStand.{whole}
-use Rattle.dns_fields.proofs.NameLaws.{name_same}
+use Rattle.std.proofs.lemmas.List.{append-nil, length-append, get_or-drop, take_all}
+use Rattle.dns_fields.specs.Labels.{DomainName, IsLabel, AreLabels, IsName, wire}
 use Rattle.dns_fields.proofs.Runs.{wire-append, AreLabels-append}
-use Rattle.dns_fields.specs.Fields.{Name}
-use Rattle.dns_types.specs.Errors.{decode_refusal, proto_refusal}
-use Rattle.dns_types.specs.declared.error.DecodeError.{DecodeError}
-use Rattle.dns_types.specs.declared.error.DecodeError.TheVariants as decode
 use Rattle.dns_types.specs.declared.error.ParseError.{ParseError}
-use Rattle.dns_types.specs.declared.error.ParseError.TheVariants as parse
-use Rattle.dns_names_wire.specs.Words.{LacksField}
-use Rattle.dns_zone_words.specs.Letters.{Letter, letters, octet_of, stands_for, escapes_stand}
+use Rattle.dns_zone_words.specs.Letters.{Letter, plain, letters, octet_of, stands_for, escapes_stand}
 use Rattle.dns_zone_words.specs.NameWords.{parts_from, name_of_parts, with_label, labelled, is_alone, name, HasLabel, IsLongName, LabelsFault}
 use Rattle.dns_zone_words.specs.Words.{Word}
 use Rattle.dns_zone_words.specs.ZoneReads.{NoValueOf}
 use Rattle.dns_names_wire.specs.NameValues.{root_name, joined_name, completed}
 use Rattle.dns_zone_words.specs.Views.{BeginsWith}
-use Rattle.dns_zone_words.specs.NameSteps.{IsWire, IsWireOf, LabelsRead, NoLabels, NotClosed}
+use Rattle.dns_zone_words.proofs.LetterSteps.{from_place, none_left}
+use Rattle.dns_zone_words.specs.NameSteps.{ReadSo, LabelsRead, NoLabels, NotClosed}
 use Rattle.dns_zone_words.specs.declared.field.NameField.{NameField}
-
--- ---- a name in its octets
-
-stands : (octets : List ℕ) (labels : List (List ℕ)) → AreLabels labels → FitsName labels → octets ≡ wire labels ++ 0 ∷ []
-    → IsNameIn octets 0 (record { labels = labels; fully_qualified = true }) (0 + length (wire labels) + 1)
-stands octets labels are fits same = record {
-  stands = whole [] are same refl;
-  fits = fits;
-  qualified = refl;
-}
-
-pub wire_stands : (octets : List ℕ) → IsWire octets → (x : DomainName) × (end : ℕ) × IsNameIn octets 0 x end
-wire_stands octets is = (record { labels = is.labels; fully_qualified = true }, 0 + length (wire is.labels) + 1, stands octets is.labels is.are is.fits is.same)
-
-pub wire_read : (octets : List ℕ) (x : DomainName) (end : ℕ) → IsNameIn octets 0 x end → IsWireOf x octets
-wire_read octets x end is = record { only = λ labels are fits same. (name_same is (stands octets labels are fits same)).0 }
-
--- such octets are refused for want of memory alone
-pub refused_memory : (octets : List ℕ) (e : DecodeError) → IsWire octets
-    → (e ≡ decode.Memory) ⊎ ((e ≡ decode.NameInvalid) × LacksField (record { message = octets; index = 0 }) Name) → proto_refusal (decode_refusal e) ≡ parse.Memory
-refused_memory octets e is (inl same) = rw same refl
-refused_memory octets e is (inr other) = let there = wire_stands octets is in absurd (other.1.none there.0 there.1 (record { is = there.2 }))
 
 -- ---- parts and labels
 
@@ -87,18 +57,8 @@ mark_behind (label ∷ labels) name = ap (with_label label) (mark_behind labels 
 
 -- ---- labels read so far
 
--- These labels were read, and behind them the front of one.
-pub record ReadSo (text rest octets front : List ℕ) : Type 0 where
-  pub labels : List (List ℕ)
-  pub are : AreLabels labels
-  pub fits : length (wire labels) ≤ 254
-  pub same : octets ≡ wire labels
-  pub short : length front ≤ 63
-  pub escapes : escapes_stand text ≡ escapes_stand rest
-  pub parts : parts_from [] (letters text) ≡ labels ++ parts_from front (letters rest)
-
 pub read_none : (text octets front : List ℕ) → octets ≡ [] → front ≡ [] → ReadSo text text octets front
-read_none text octets front e f = rw (e, f) (record { labels = []; are = tt; fits = omega arith; same = refl; short = omega arith; escapes = refl; parts = refl })
+read_none text octets front e f = rw (e, f) (record { labels = []; are = tt; fits = omega arith; same = refl; escapes = refl; parts = refl })
 
 wire_more : (labels : List (List ℕ)) (label : List ℕ) → wire (labels ++ label ∷ []) ≡ wire labels ++ length label ∷ label
 wire_more labels label = wire-append labels (label ∷ []) ∙ ap (λ (x : List ℕ). wire labels ++ length label ∷ x) (append-nil label)
@@ -115,14 +75,13 @@ parts_behind : (text rest more octets front : List ℕ) (x : Letter) (so : ReadS
 parts_behind text rest more octets front x so begins = so.parts ∙ ap (λ (xs : List Letter). so.labels ++ parts_from front xs) begins.first
 
 pub read_dot : (text rest more octets front now : List ℕ) (x : Letter) → ReadSo text rest octets front → BeginsWith x rest more → stands_for 46 x ≡ true
-    → 1 ≤ length front → length octets + length front ≤ 253 → now ≡ octets ++ length front ∷ front → ReadSo text more now []
-read_dot text rest more octets front now x so begins h some room e =
+    → IsLabel front → length octets + length front ≤ 253 → now ≡ octets ++ length front ∷ front → ReadSo text more now []
+read_dot text rest more octets front now x so begins h is room e =
     let wired : now ≡ wire (so.labels ++ front ∷ []) = e ∙ ap (λ (o : List ℕ). o ++ length front ∷ front) so.same ∙ sym (wire_more so.labels front) in record {
       labels = so.labels ++ front ∷ [];
-      are = AreLabels-append so.labels (front ∷ []) so.are ((some, so.short), tt);
+      are = AreLabels-append so.labels (front ∷ []) so.are (is, tt);
       fits = omega (arith, ap length wired, ap length e, length-append octets (length front ∷ front));
       same = wired;
-      short = omega arith;
       escapes = so.escapes ∙ begins.escapes;
       parts = parts_behind text rest more octets front x so begins
           ∙ ap (λ (ps : List (List ℕ)). so.labels ++ ps) (dot_ends front x (letters more) h)
@@ -130,17 +89,80 @@ read_dot text rest more octets front now x so begins h some room e =
     }
 
 pub read_octet : (text rest more octets front now : List ℕ) (x : Letter) → ReadSo text rest octets front → BeginsWith x rest more → stands_for 46 x ≡ false
-    → length front < 63 → now ≡ front ++ octet_of x ∷ [] → ReadSo text more octets now
-read_octet text rest more octets front now x so begins h room e = record {
+    → now ≡ front ++ octet_of x ∷ [] → ReadSo text more octets now
+read_octet text rest more octets front now x so begins h e = record {
   labels = so.labels;
   are = so.are;
   fits = so.fits;
   same = so.same;
-  short = omega (arith, ap length e, length-append front (octet_of x ∷ []));
   escapes = so.escapes ∙ begins.escapes;
   parts = parts_behind text rest more octets front x so begins
       ∙ ap (λ (ps : List (List ℕ)). so.labels ++ ps) (octet_more front x (letters more) h ∙ ap (λ (f : List ℕ). parts_from f (letters more)) (sym e));
 }
+
+-- ---- octets that are neither a dot nor a `\`
+
+-- each of the first n
+abbrev pub PlainTo : ℕ → List ℕ → Type 0
+PlainTo n text = (k : ℕ) → k < n → (get_or text k 0 ≢ 46) × (get_or text k 0 ≢ 92)
+
+other_octet : (c d : ℕ) → c ≢ d → (c == d) ≡ false
+other_octet c d h = grind (arith, nat_tests)
+
+plain_parts : (front : List ℕ) (n : ℕ) (text : List ℕ) → n ≤ length text → PlainTo n text
+    → (parts_from front (letters text) ≡ parts_from (front ++ take n text) (letters (drop n text))) × (escapes_stand text ≡ escapes_stand (drop n text))
+plain_parts front zero text w h = (ap (λ (f : List ℕ). parts_from f (letters text)) (sym (append-nil front)), refl)
+plain_parts front (suc n) [] w h = absurd (omega arith)
+plain_parts front (suc n) (c ∷ text) w h =
+    let first = h 0 (omega arith) in
+    let dot : (c == 46) ≡ false = other_octet c 46 first.0 in
+    let slash : (c == 92) ≡ false = other_octet c 92 first.1 in
+    let more = plain_parts (front ++ c ∷ []) n text (omega arith) (λ k l. h (suc k) (omega arith)) in
+    let cut : parts_from front (letters (c ∷ text)) ≡ parts_from (front ++ c ∷ []) (letters text) = rw (slash, dot) refl in (
+      cut ∙ more.0 ∙ ap (λ (f : List ℕ). parts_from f (letters (drop n text))) (append_assoc front (c ∷ []) (take n text)),
+      rw slash more.1,
+    )
+
+-- such octets are the front of a label
+pub read_plain : (text rest octets : List ℕ) (n : ℕ) → ReadSo text rest octets [] → n ≤ length rest → PlainTo n rest → ReadSo text (drop n rest) octets (take n rest)
+read_plain text rest octets n so w h =
+    let cut = plain_parts [] n rest w h in record {
+      labels = so.labels;
+      are = so.are;
+      fits = so.fits;
+      same = so.same;
+      escapes = so.escapes ∙ cut.1;
+      parts = so.parts ∙ ap (λ (ps : List (List ℕ)). so.labels ++ ps) cut.0;
+    }
+
+pub front_read : (text rest octets : List ℕ) (n : ℕ) → ReadSo text rest octets [] → n ≤ length rest → PlainTo n rest
+    → ReadSo text (take (length rest - n) (drop n rest)) octets (take n rest)
+front_read text rest octets n so w h = subst (λ (r : List ℕ). ReadSo text r octets (take n rest)) (sym (from_place n rest)) (read_plain text rest octets n so w h)
+
+-- the octet that stops such octets is a dot where it is no `\`
+pub stops_at : (rest : List ℕ) (n : ℕ) → n ≤ length rest → (n < length rest → (get_or rest n 0 ≡ 46) ⊎ (get_or rest n 0 ≡ 92))
+    → length (take (length rest - n) (drop n rest)) ≢ 0 → get_or (take (length rest - n) (drop n rest)) 0 0 ≢ 92 → get_or (take (length rest - n) (drop n rest)) 0 0 ≡ 46
+stops_at rest n w stops some other =
+    let left : length (take (length rest - n) (drop n rest)) ≡ length rest - n = ap length (from_place n rest) ∙ length-drop n rest in
+    let none : n + 0 ≡ n = omega arith in
+    let here : get_or (take (length rest - n) (drop n rest)) 0 0 ≡ get_or rest n 0 = ap (λ (s : List ℕ). get_or s 0 0) (from_place n rest) ∙ get_or-drop n rest 0 0 ∙ ap (λ (m : ℕ). get_or rest m 0) none in
+    dot_or (get_or (take (length rest - n) (drop n rest)) 0 0) (subst (λ (c : ℕ). (c ≡ 46) ⊎ (c ≡ 92)) (sym here) (stops (omega arith))) other
+  where
+    dot_or : (c : ℕ) → (c ≡ 46) ⊎ (c ≡ 92) → c ≢ 92 → c ≡ 46
+    dot_or c (inl e) other = e
+    dot_or c (inr e) other = absurd (other e)
+
+dot_begins : (rest : List ℕ) → length rest ≢ 0 → get_or rest 0 0 ≡ 46 → BeginsWith (plain 46) rest (take (length rest - 1) (drop 1 rest))
+dot_begins [] l e = absurd (l refl)
+dot_begins (c ∷ rest) l e =
+    let whole : take (suc (length rest) - 1) rest ≡ rest = take_all (suc (length rest) - 1) rest (omega arith) in
+    subst (BeginsWith (plain 46) (c ∷ rest)) (sym whole) (rw e (record { first = refl; escapes = refl }))
+
+-- a label, and a dot behind it
+pub label_read : (text rest octets label now : List ℕ) → ReadSo text rest octets label → length rest ≢ 0 → get_or rest 0 0 ≡ 46
+    → IsLabel label → length octets + length label ≤ 253 → now ≡ octets ++ length label ∷ label → ReadSo text (take (length rest - 1) (drop 1 rest)) now []
+label_read text rest octets label now so some e is room put =
+    read_dot text rest (take (length rest - 1) (drop 1 rest)) octets label now (plain 46) so (dot_begins rest some e) refl is room put
 
 -- ---- refusals
 
@@ -177,7 +199,10 @@ close_fault : (field : NameField) (text : List ℕ) (labels : List (List ℕ)) (
 close_fault field text labels octets part parts e cut are same some (inl not) =
     let own = part_label text labels part parts cut are some in
     inr (inl (not.0, record { front = labels; label = part; behind = own.0; all = own.1; is = not.1 }))
-close_fault field text labels octets part parts e cut are same some (inr not) =
+close_fault field text labels octets part parts e cut are same some (inr (inl not)) =
+    let own = part_label text labels part parts cut are some in
+    inr (inr (inl (not.0, record { front = labels; label = part; behind = own.0; all = own.1; is = not.1 })))
+close_fault field text labels octets part parts e cut are same some (inr (inr not)) =
     let own = part_label text labels part parts cut are some in
     let long : IsLongName (labels ++ part ∷ own.0) = omega (arith, not.2, ap length same, wire_least labels part own.0) in
     inr (inr (inr (not.0, subst IsLongName (sym own.1) long)))
@@ -193,6 +218,11 @@ no_close field text rest more octets front x e so begins h not =
     (parts_behind text rest more octets front x so begins ∙ ap (λ (ps : List (List ℕ)). so.labels ++ ps) (dot_ends front x (letters more) h)) so.are so.same
     (inr (omega (arith, ap length next.are))) not
 
+pub no_label : (field : NameField) (text rest octets label : List ℕ) (e : ParseError) → ReadSo text rest octets label → length rest ≢ 0 → get_or rest 0 0 ≡ 46
+    → NotClosed field octets label e → LabelsFault field text e
+no_label field text rest octets label e so some dot not =
+    no_close field text rest (take (length rest - 1) (drop 1 rest)) octets label (plain 46) e so (dot_begins rest some dot) refl not
+
 pub no_room : (text rest more octets front : List ℕ) (x : Letter) → ReadSo text rest octets front → BeginsWith x rest more → stands_for 46 x ≡ false
     → length front ≡ 63 → HasLabel (λ label. 63 < length label) (labelled text).labels
 no_room text rest more octets front x so begins h full =
@@ -205,55 +235,45 @@ no_room text rest more octets front x so begins h full =
 
 -- ---- at the end
 
-end_parts : (text rest octets front : List ℕ) (so : ReadSo text rest octets front) → rest ≡ [] → parts_from [] (letters text) ≡ so.labels ++ front ∷ []
-end_parts text rest octets front so e = so.parts ∙ ap (λ (r : List ℕ). so.labels ++ parts_from front (letters r)) e
-
-pub no_last : (field : NameField) (text rest octets front : List ℕ) (e : ParseError) → ReadSo text rest octets front → rest ≡ [] → 1 ≤ length front
+pub no_last : (field : NameField) (text octets front : List ℕ) (e : ParseError) → ReadSo text [] octets front → 1 ≤ length front
     → NotClosed field octets front e → LabelsFault field text e
-no_last field text rest octets front e so end some not =
-    close_fault field text so.labels octets front [] e (end_parts text rest octets front so end) so.are so.same (inl some) not
+no_last field text octets front e so some not = close_fault field text so.labels octets front [] e so.parts so.are so.same (inl some) not
 
-end_escapes : (text rest octets front : List ℕ) → ReadSo text rest octets front → rest ≡ [] → escapes_stand text ≡ true
-end_escapes text rest octets front so e = so.escapes ∙ ap escapes_stand e
+pub at_end : (text rest octets front : List ℕ) → ReadSo text rest octets front → length rest ≡ 0 → ReadSo text [] octets front
+at_end text rest octets front so e = subst (λ (r : List ℕ). ReadSo text r octets front) (none_left rest e) so
 
-pub end_dot : (text rest octets front now : List ℕ) → ReadSo text rest octets front → rest ≡ [] → length front ≡ 0 → now ≡ octets ++ 0 ∷ [] → LabelsRead text true now
-end_dot text rest octets [] now so e none same = record {
-  escapes = end_escapes text rest octets [] so e;
+pub end_dot : (text octets front : List ℕ) → ReadSo text [] octets front → length front ≡ 0 → LabelsRead text true octets
+end_dot text octets [] so none = record {
+  escapes = so.escapes;
   labels = so.labels;
-  name = ap name_of_parts (end_parts text rest octets [] so e)
+  name = ap name_of_parts so.parts
       ∙ name_behind so.labels ([] ∷ []) so.are
       ∙ mark_behind so.labels root_name
       ∙ ap (λ (ls : List (List ℕ)). record { labels = ls; fully_qualified = true }) (append-nil so.labels);
   are = so.are;
   fits = omega (arith, so.fits);
-  same = same ∙ ap (λ (o : List ℕ). o ++ 0 ∷ []) so.same;
+  same = so.same;
 }
-end_dot text rest octets (c ∷ front) now so e none same = absurd (omega arith)
+end_dot text octets (c ∷ front) so none = absurd (omega arith)
 
 name_single : (front : List ℕ) → 1 ≤ length front → name_of_parts (front ∷ []) ≡ record { labels = front ∷ []; fully_qualified = false }
 name_single [] h = absurd (omega arith)
 name_single (c ∷ front) h = refl
 
-pub end_label : (text rest octets front closed now : List ℕ) → ReadSo text rest octets front → rest ≡ [] → 1 ≤ length front → length octets + length front ≤ 253
-    → closed ≡ octets ++ length front ∷ front → now ≡ closed ++ 0 ∷ [] → LabelsRead text false now
-end_label text rest octets front closed now so e some room put same =
+pub end_label : (text octets front closed : List ℕ) → ReadSo text [] octets front → IsLabel front → length octets + length front ≤ 253
+    → closed ≡ octets ++ length front ∷ front → LabelsRead text false closed
+end_label text octets front closed so is room put =
     let wired : closed ≡ wire (so.labels ++ front ∷ []) = put ∙ ap (λ (o : List ℕ). o ++ length front ∷ front) so.same ∙ sym (wire_more so.labels front) in record {
-      escapes = end_escapes text rest octets front so e;
+      escapes = so.escapes;
       labels = so.labels ++ front ∷ [];
-      name = ap name_of_parts (end_parts text rest octets front so e)
+      name = ap name_of_parts so.parts
           ∙ name_behind so.labels (front ∷ []) so.are
-          ∙ ap (with_labels so.labels) (name_single front some)
+          ∙ ap (with_labels so.labels) (name_single front is.0)
           ∙ mark_behind so.labels (record { labels = front ∷ []; fully_qualified = false });
-      are = AreLabels-append so.labels (front ∷ []) so.are ((some, so.short), tt);
+      are = AreLabels-append so.labels (front ∷ []) so.are (is, tt);
       fits = omega (arith, ap length wired, ap length put, length-append octets (length front ∷ front));
-      same = same ∙ ap (λ (o : List ℕ). o ++ 0 ∷ []) wired;
+      same = wired;
     }
-
-pub zero_by : (n : ℕ) → (n == 0) ≡ true → n ≡ 0
-zero_by n h = grind (arith, nat_tests)
-
-pub some_by : (n : ℕ) → (n == 0) ≡ false → 1 ≤ n
-some_by n h = grind (arith, nat_tests)
 
 -- ---- what is no name
 
@@ -293,23 +313,6 @@ fault_none field text e (inr (inr (inl fault))) = record {
       omega (arith, is.1, has.is);
 }
 fault_none field text e (inr (inr (inr fault))) = record { none = λ escapes are fits. omega (arith, fault.1, fits) }
-
-are_completed : (b : Bool) (name own : DomainName) → AreLabels name.labels → AreLabels own.labels → AreLabels (cond b name (joined_name name own)).labels
-are_completed true name own are others = are
-are_completed false name own are others = AreLabels-append name.labels own.labels are others
-
-long_by : (name : DomainName) → AreLabels name.labels → (IsName name → ⊥) → IsLongName name.labels
-long_by name are isnt =
-    let past : FitsName name.labels → ⊥ = λ fits. isnt (record { labels = are; fits = fits }) in
-    omega (arith, past)
-
--- labels that are no name with the origin's are too many
-pub completed_long : (name own : DomainName) (origin : Option DomainName) → origin ≡ Some own → AreLabels name.labels → AreLabels own.labels
-    → (IsName (completed name origin) → ⊥) → IsLongName (completed name origin).labels
-completed_long name own None same are others isnt = absurd (cc)
-completed_long name own (Some x) same are others isnt =
-    let e : own ≡ x = cc in
-    long_by (completed name (Some x)) (are_completed name.fully_qualified name x are (subst (λ (y : DomainName). AreLabels y.labels) e others)) isnt
 
 pub labels_read : {text : List ℕ} {mark : Bool} {octets : List ℕ} → LabelsRead text mark octets → AreLabels (labelled text).labels
 labels_read read = subst (λ (y : DomainName). AreLabels y.labels) (sym read.name) read.are

@@ -13,13 +13,13 @@ use Rattle.std.specs.Result.{IsErrAnd}
 use Rattle.dns_types.specs.declared.error.ParseError.{ParseError}
 use Rattle.dns_types.specs.declared.error.ParseError.TheVariants as parse
 use Rattle.dns_words.specs.Reads.{UnlessMemory}
-use Rattle.dns_zone_words.specs.Remaining.{AllBare, joined, AreJoined, AreHex, AreUnknown, AreStrings, TookAll, NoneOfAll, ReadsAll, with_words, AmongFault, QuotesFault, DigitsFault, HexFault, Base64Fault, NoBase64, UnknownFault}
-use Rattle.dns_zone_words.specs.Forms.{number, IsNumber, string}
+use Rattle.dns_zone_words.specs.Remaining.{AllBare, joined, AreJoined, AreHex, AreUnknown, TookAll, NoneOfAll, ReadsAll, with_words, AmongFault, QuotesFault, DigitsFault, HexFault, Base64Fault, NoBase64, UnknownFault}
+use Rattle.dns_zone_words.specs.Forms.{number, IsNumber}
 use Rattle.dns_words.specs.declared.field.Field.{Field}
 use Rattle.dns_zone_words.specs.Refusals.{Says}
-use Rattle.dns_zone_words.specs.ZoneReads.{NoValueOf, FirstHas, TookFirst, NoFirst, WhyNoField}
+use Rattle.dns_zone_words.specs.ZoneReads.{FirstHas, TookFirst, NoFirst, WhyNoField}
 use Rattle.dns_zone_words.specs.Words.{Word, Cursor, words_at, with_word}
-use Rattle.dns_zone_words.proofs.FirstSteps.{unless_map}
+use Rattle.dns_zone_words.proofs.FirstSteps.{unless_map, unless_all}
 use Rattle.dns_zone_words.specs.declared.words_error.WordsError.{WordsError}
 
 -- so many words were taken, none in quotes, and their octets are these
@@ -32,7 +32,7 @@ pub record TakenSo (old new : Cursor) (octets : List ℕ) : Type 0 where
 pub none_taken : (cursor : Cursor) → TakenSo cursor cursor []
 none_taken cursor = record { words = []; bare = tt; same = refl; behind = refl }
 
-words_more : (words : List Word) (word : Word) (behind : Result (List Word) WordsError) → with_words (words ++ word ∷ []) behind ≡ with_words words (with_word word behind)
+pub words_more : (words : List Word) (word : Word) (behind : Result (List Word) WordsError) → with_words (words ++ word ∷ []) behind ≡ with_words words (with_word word behind)
 words_more [] word behind = refl
 words_more (first ∷ words) word behind = ap (with_word first) (words_more words word behind)
 
@@ -53,11 +53,11 @@ one_taken old now new octets more word so first bare e = record {
   behind = so.behind ∙ ap (with_words so.words) first ∙ sym (words_more so.words word (words_at new));
 }
 
-words_ok : (words : List Word) → with_words words (Ok []) ≡ Ok words
+pub words_ok : (words : List Word) → with_words words (Ok []) ≡ Ok words
 words_ok [] = refl
 words_ok (word ∷ words) = ap (with_word word) (words_ok words)
 
-words_err : (words : List Word) (e : WordsError) → with_words words (Err e) ≡ Err e
+pub words_err : (words : List Word) (e : WordsError) → with_words words (Err e) ≡ Err e
 words_err [] e = refl
 words_err (word ∷ words) e = ap (with_word word) (words_err words e)
 
@@ -76,7 +76,7 @@ not_cut old now octets e so end = record {
       absurd (cc);
 }
 
-word_ok : (word : Word) (behind : Result (List Word) WordsError) (all : List Word) → with_word word behind ≡ Ok all
+pub word_ok : (word : Word) (behind : Result (List Word) WordsError) (all : List Word) → with_word word behind ≡ Ok all
     → (rest : List Word) × (behind ≡ Ok rest) × (all ≡ word ∷ rest)
 word_ok word (Ok rest) all e = let same : word ∷ rest ≡ all = cc in (rest, refl, sym same)
 word_ok word (Err why) all e = absurd (cc)
@@ -102,10 +102,6 @@ in_quotes old now new octets word so first quoted = record {
 pub exit_as : {T : Type 0} (P Q : ParseError → Type 0) (r : Result T ParseError) → IsErrAnd r P → ((e : ParseError) → P e → Q e) → IfErr r Q
 exit_as P Q (Ok x) h f = tt
 exit_as P Q (Err e) h f = f e h
-
-unless_all : (e : ParseError) {P : Type 0} → P → UnlessMemory e P
-unless_all parse.Memory h = tt
-unless_all e h = h
 
 -- a refusal is handed on
 pub exit_all : {T V : Type 0} (is : V → List Word → Type 0) (view : T → V) (cursor : Cursor) (r : Result T ParseError) (Q : ParseError → Type 0)
@@ -227,65 +223,6 @@ unknown_read n octets old mid took all same = record {
   cut = took.first ∙ ap (with_word took.word) all.cut;
   value = (subst (λ (k : ℕ). IsNumber k took.word) (sym same) took.is.0, subst (λ (k : ℕ). k < 2 ^ 16) (sym same) took.is.1, all.value);
 }
-
--- ---- strings
-
--- so many words were taken, and are these strings
-pub record StringsSo (old new : Cursor) (strings : List (List ℕ)) : Type 0 where
-  pub words : List Word
-  pub are : AreStrings strings words
-  pub behind : words_at old ≡ with_words words (words_at new)
-
-pub no_string : (cursor : Cursor) → StringsSo cursor cursor []
-no_string cursor = record { words = []; are = tt; behind = refl }
-
-strings_more : (strings : List (List ℕ)) (words : List Word) (octets : List ℕ) (word : Word) → AreStrings strings words → string.is octets word
-    → AreStrings (strings ++ octets ∷ []) (words ++ word ∷ [])
-strings_more [] [] octets word are is = (is, tt)
-strings_more (s ∷ strings) (w ∷ words) octets word are is = (are.0, strings_more strings words octets word are.1 is)
-strings_more [] (w ∷ words) octets word are is = absurd are
-strings_more (s ∷ strings) [] octets word are is = absurd are
-
-pub one_string : (old now new : Cursor) (strings more : List (List ℕ)) (octets : List ℕ) (word : Word) → StringsSo old now strings
-    → words_at now ≡ with_word word (words_at new) → string.is octets word → more ≡ strings ++ octets ∷ [] → StringsSo old new more
-one_string old now new strings more octets word so first is e = record {
-  words = so.words ++ word ∷ [];
-  are = subst (λ (ss : List (List ℕ)). AreStrings ss (so.words ++ word ∷ [])) (sym e) (strings_more strings so.words octets word so.are is);
-  behind = so.behind ∙ ap (with_words so.words) first ∙ sym (words_more so.words word (words_at new));
-}
-
-pub all_taken_strings : (old now : Cursor) (strings : List (List ℕ)) → StringsSo old now strings → words_at now ≡ Ok [] → TookAll AreStrings strings old
-all_taken_strings old now strings so end = record {
-  words = so.words;
-  cut = so.behind ∙ ap (with_words so.words) end ∙ words_ok so.words;
-  value = so.are;
-}
-
-pub strings_not_cut : (old now : Cursor) (strings : List (List ℕ)) (e : WordsError) → StringsSo old now strings → words_at now ≡ Err e → NoneOfAll AreStrings old
-strings_not_cut old now strings e so end = record {
-  none = λ v words cut is.
-      let other : words_at old ≡ Err e = so.behind ∙ ap (with_words so.words) end ∙ words_err so.words e in
-      let both : Ok words ≡ Err e = sym cut ∙ other in
-      absurd (cc);
-}
-
-pub strings_cut : (old now : Cursor) (strings : List (List ℕ)) (e : WordsError) → StringsSo old now strings → words_at now ≡ Err e → words_at old ≡ Err e
-strings_cut old now strings e so end = so.behind ∙ ap (with_words so.words) end ∙ words_err so.words e
-
-not_string : (words : List Word) (word : Word) (behind : Result (List Word) WordsError) (all : List Word) (v : List (List ℕ)) → NoValueOf string word
-    → with_words words (with_word word behind) ≡ Ok all → AreStrings v all → ⊥
-not_string [] word behind all [] none e are = let k = word_ok word behind all e in subst (AreStrings []) k.2 are
-not_string [] word behind all (s ∷ v) none e are = let k = word_ok word behind all e in none.none s (subst (AreStrings (s ∷ v)) k.2 are).0
-not_string (first ∷ words) word behind all [] none e are =
-    let k = word_ok first (with_words words (with_word word behind)) all e in subst (AreStrings []) k.2 are
-not_string (first ∷ words) word behind all (s ∷ v) none e are =
-    let k = word_ok first (with_words words (with_word word behind)) all e in
-    not_string words word behind k.0 v none k.1 (subst (AreStrings (s ∷ v)) k.2 are).1
-
-pub none_string : (e : ParseError) (old now new : Cursor) (strings : List (List ℕ)) (word : Word) → StringsSo old now strings → words_at now ≡ with_word word (words_at new)
-    → UnlessMemory e (NoValueOf string word) → UnlessMemory e (NoneOfAll AreStrings old)
-none_string e old now new strings word so first none = unless_map e (NoValueOf string word) (NoneOfAll AreStrings old)
-    (λ isnt. record { none = λ v words cut is. not_string so.words word (words_at new) words v isnt (sym (so.behind ∙ ap (with_words so.words) first) ∙ cut) is }) none
 
 -- ---- why it is no unknown data
 

@@ -51,6 +51,10 @@ pub record IsNameWord (origin : Option DomainName) (name : DomainName) (word : W
 abbrev pub name : Option DomainName → ZoneForm Name
 name origin = record { is = IsNameWord origin }
 
+-- a name's octets, whole and with its letters
+abbrev pub name_octets : DomainName → List ℕ
+name_octets x = wire x.labels ++ 0 ∷ []
+
 -- ---- why a word is no name, as the field's texts say
 
 -- one of the labels has this

@@ -10,16 +10,6 @@ abbrev pub Says : List ℕ → ParseError → Type 0
 Says text (parse.Message said) = said.now ≡ text
 Says text e = ⊥
 
--- the refusal is a message
-abbrev pub IsMessage : ParseError → Type 0
-IsMessage (parse.Message text) = Unit {0}
-IsMessage e = ⊥
-
--- a word is missing, and a text names what it stands for
-abbrev pub IsMissing : ParseError → Type 0
-IsMissing (parse.MissingToken text) = Unit {0}
-IsMissing e = ⊥
-
 -- why a text is not cut into words, as a refusal says it
 abbrev pub cut_text : WordsError → List ℕ
 cut_text OpenParenthesis = codes "`(` without `)`"

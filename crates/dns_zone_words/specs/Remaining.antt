@@ -1,5 +1,5 @@
 -- All words that are left of a text: strings, base64, hexadecimal digits, and the form of unknown data (RFC 3597, 5).
-use Rattle.std.specs.Prelude.{◌≡◌, ◌⊎◌, ℕ, ◌^◌, ◌%◌, ◌≢◌, ◌<◌, true, false, List, [], ◌∷◌, Result, Ok, Err, length, codes}
+use Rattle.std.specs.Prelude.{◌≡◌, ◌⊎◌, ℕ, ◌^◌, ◌%◌, ◌≢◌, ◌<◌, true, false, List, [], ◌∷◌, ◌++◌, Result, Ok, Err, length, codes}
 use Rattle.std.specs.List.{flat_map}
 use Rattle.base64.specs.Engines.{standard}
 use Rattle.base64.specs.GeneralPurpose.{decode_of as base64_of}
@@ -74,6 +74,19 @@ pub record NoneOfAll {V : Type 0} (is : V → List Word → Type 0) (cursor : Cu
 abbrev pub ReadsAll : {T V : Type 0} → (V → List Word → Type 0) → (T → V) → Result T ParseError → Cursor → Type 0
 ReadsAll is view (Ok x) cursor = TookAll is (view x) cursor
 ReadsAll is view (Err e) cursor = UnlessMemory e (NoneOfAll is cursor)
+
+-- all words that are left give these octets, which stand behind the others
+pub record PutAll (gives : List ℕ → List Word → Type 0) (before after : List ℕ) (cursor : Cursor) : Type 0 where
+  pub words : List Word
+  pub cut : words_at cursor ≡ Ok words
+  pub octets : List ℕ
+  pub given : gives octets words
+  pub same : after ≡ before ++ octets
+
+-- takes all words exactly where they give octets, and puts these behind the others
+abbrev pub PutsAll : {T : Type 0} → (List ℕ → List Word → Type 0) → Result T ParseError → List ℕ → List ℕ → Cursor → Type 0
+PutsAll gives (Ok x) before after cursor = PutAll gives before after cursor
+PutsAll gives (Err e) before after cursor = UnlessMemory e (NoneOfAll gives cursor)
 
 -- one of the words has a fault, of which the refusal tells
 pub record OneFault (fault : Word → ParseError → Type 0) (cursor : Cursor) (e : ParseError) : Type 0 where

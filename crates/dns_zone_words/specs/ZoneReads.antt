@@ -1,5 +1,5 @@
 -- What a reader of words of a text does, exactly.
-use Rattle.std.specs.Prelude.{◌≡◌, ◌⊎◌, List, [], ◌∷◌, Result, Ok, Err}
+use Rattle.std.specs.Prelude.{◌≡◌, ◌⊎◌, ℕ, List, [], ◌∷◌, ◌++◌, Result, Ok, Err}
 use Rattle.dns_types.specs.declared.error.ParseError.{ParseError}
 use Rattle.dns_types.specs.declared.error.ParseError.TheVariants as parse
 use Rattle.dns_fields.specs.Fields.{Kind, Value}
@@ -18,6 +18,17 @@ pub record NoValueOf {k : Kind} (form : ZoneForm k) (word : Word) : Type 0 where
 abbrev pub ReadsAs : {T : Type 0} {k : Kind} → ZoneForm k → (T → Value k) → Result T ParseError → Word → Type 0
 ReadsAs form view (Ok x) word = form.is (view x) word
 ReadsAs form view (Err e) word = UnlessMemory e (NoValueOf form word)
+
+-- a value of the word was put behind octets, as it is written
+pub record PutAs {k : Kind} (form : ZoneForm k) (written : Value k → List ℕ) (before after : List ℕ) (word : Word) : Type 0 where
+  pub value : Value k
+  pub is : form.is value word
+  pub same : after ≡ before ++ written value
+
+-- puts a value of the word behind octets exactly where it has the form
+abbrev pub PutsAs : {T : Type 0} {k : Kind} → ZoneForm k → (Value k → List ℕ) → Result T ParseError → List ℕ → List ℕ → Word → Type 0
+PutsAs form written (Ok x) before after word = PutAs form written before after word
+PutsAs form written (Err e) before after word = UnlessMemory e (NoValueOf form word)
 
 -- ---- the next word
 

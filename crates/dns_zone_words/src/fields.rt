@@ -8,13 +8,11 @@ ghost use Rattle.dns_zone_words.specs.Views.{word_value};
 ghost use Rattle.dns_zone_words.specs.Words.{words_at, with_word, behind_first};
 ghost use Rattle.dns_zone_words.specs.ZoneReads.{ReadsFirst, LacksFirst, WhyNoField, WhyFirst};
 
-use crate::field::StringField;
 use crate::numbers::{u8_of, u16_of, u32_of};
-use crate::texts::{ipv4_of, ipv6_of, string_of, text_of, ttl_of};
+use crate::texts::{ipv4_of, ipv6_of, ttl_of};
 use crate::words::{ZoneWord, ZoneWords};
-use dns_types::{Octets, ParseError};
+use dns_types::ParseError;
 use dns_words::Field;
-use std::alloc::Global;
 use std::net::{Ipv4Addr, Ipv6Addr};
 
 /// The next word. Refused by [`MissingToken`](ParseError::MissingToken) of the text `missing` where none is left, and
@@ -100,35 +98,4 @@ pub fn next_ipv6(words: &mut ZoneWords<'_>, field: Field) -> Result<Ipv6Addr, Pa
 {
     let word = some_word(words, field.name)?;
     ipv6_of(word, field.wrong)
-}
-
-/// A character string of at most 255 octets (`string_of`); the refusal names the field. The word is taken, even where it
-/// is refused. Takes memory once.
-#[inline]
-pub fn next_string(
-    alloc: Global,
-    words: &mut ZoneWords<'_>,
-    field: &StringField,
-) -> Result<Octets, ParseError>
-    ensures reads { ReadsFirst string (λ x. x) result words.old words.new }
-    ensures why { IfErr result (λ e. (e ≡ ParseError.Memory) ⊎ WhyFirst (ParseError.MissingToken field.now.name) (StringFault field.now) words.old e) }
-    ensures behind { words_at words.new ≡ behind_first (words_at words.old) }
-{
-    let word = some_word(words, field.name)?;
-    string_of(alloc, word, field)
-}
-
-/// Octets of any number (`text_of`), as `next_string`.
-#[inline]
-pub fn next_text(
-    alloc: Global,
-    words: &mut ZoneWords<'_>,
-    field: Field,
-) -> Result<Octets, ParseError>
-    ensures reads { ReadsFirst text (λ x. x) result words.old words.new }
-    ensures why { IfErr result (λ e. (e ≡ ParseError.Memory) ⊎ WhyFirst (ParseError.MissingToken field.name) (TextFault (ParseError.Message field.wrong)) words.old e) }
-    ensures behind { words_at words.new ≡ behind_first (words_at words.old) }
-{
-    let word = some_word(words, field.name)?;
-    text_of(alloc, word, field.wrong)
 }

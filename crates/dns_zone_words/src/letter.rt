@@ -91,7 +91,7 @@ impl<'a> Letters<'a> {
 
 /// The first letter of a text, and how many octets of the text it takes; none where a `\` has no meaning.
 #[inline]
-fn first_letter(text: &[u8]) -> Option<(Letter, usize)>
+pub(crate) fn first_letter(text: &[u8]) -> Option<(Letter, usize)>
     requires { 0 < length text.now }
     ensures some { IfSome result (λ r. BeginsWith (letter_value r.0) text.now (drop r.1 text.now)) }
     ensures taken { IfSome result (λ r. (1 ≤ r.1) × (r.1 ≤ length text.now)) }

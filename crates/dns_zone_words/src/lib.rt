@@ -13,13 +13,11 @@ pub mod words_error;
 
 pub use dns_words::{Field, number_field};
 pub use field::{HexField, NameField, StringField};
-pub use fields::{
-    next_ipv4, next_ipv6, next_string, next_text, next_ttl, next_u8, next_u16, next_u32, some_word,
-};
+pub use fields::{next_ipv4, next_ipv6, next_ttl, next_u8, next_u16, next_u32, some_word};
 pub use letter::{Letter, Letters};
-pub use names::{name_of, next_name};
+pub use names::{put_labels, put_name};
 pub use numbers::{u8_of, u16_of, u32_of};
-pub use remaining::{all_base64, all_hex, all_strings, is_unknown_mark, no_more, unknown_data};
-pub use texts::{ipv4_of, ipv6_of, string_of, text_of, ttl_of, type_of};
+pub use remaining::{all_base64, all_hex, is_unknown_mark, no_more, unknown_data};
+pub use texts::{ipv4_of, ipv6_of, put_string, put_text, ttl_of, type_of};
 pub use words::{ZoneWord, ZoneWords};
 pub use words_error::WordsError;

@@ -1,34 +1,32 @@
 //! Names in words (RFC 1035, 5.1).
 
-ghost use Rattle.std.specs.Prelude.{◌≡◌, ◌≤◌, ◌<◌, ◌+◌, ◌⊎◌, ◌∷◌, ◌++◌, [], length, IfOk, IfErr, OnOk};
+ghost use Rattle.std.specs.Prelude.{◌≡◌, ◌≢◌, ◌≤◌, ◌<◌, ◌+◌, ◌⊎◌, ◌∷◌, ◌++◌, ℕ, List, [], length, slice_index, IfOk, IfErr, OnOk};
 ghost use Rattle.std.specs.Option.{option_copied};
-ghost use Rattle.dns_zone_words.specs.NameWords.{name, is_alone, NameFault, LabelsFault};
-ghost use Rattle.dns_zone_words.specs.NameSteps.{IsWire, LabelsRead, NotClosed, IsWireOf};
+ghost use Rattle.dns_fields.specs.Labels.{IsLabel, IsName, lowname};
+ghost use Rattle.dns_zone_words.specs.NameWords.{name, name_octets, is_alone, NameFault, LabelsFault};
+ghost use Rattle.dns_zone_words.specs.NameSteps.{ReadSo, LabelsRead, NotClosed};
 ghost use Rattle.dns_zone_words.specs.Views.{word_value};
-ghost use Rattle.dns_zone_words.specs.Words.{words_at, behind_first};
-ghost use Rattle.dns_zone_words.specs.ZoneReads.{ReadsAs, ReadsFirst, WhyFirst};
+ghost use Rattle.dns_zone_words.specs.ZoneReads.{PutsAs};
 
 use crate::field::NameField;
-use crate::fields::some_word;
 use crate::letter::Letters;
-use crate::words::{ZoneWord, ZoneWords};
+use crate::words::ZoneWord;
 use arrayvec::ArrayVec;
-use dns_names_wire::{BinDecodable, BinDecoder, Name};
-use dns_types::{ParseError, ProtoError};
-use std::alloc::Global;
+use dns_names_wire::Name;
+use dns_types::ParseError;
 
-/// A name, without quotes: labels joined by dots, which the origin completes where no dot ends them. `@` alone is the
-/// origin, and a dot the root. A letter behind a `\` or of three digits is an octet of its label, whatever it is. Any
-/// other word is refused by [`Message`](ParseError::Message) of the field's text for what is wrong with it, and with the
-/// labels for what stands first: quotes, `@` without an origin, a `\` without a meaning, an empty label or one of more
-/// than 63 octets, more than 255 octets of the name.
-pub fn name_of(
-    alloc: Global,
+/// Puts a name behind octets: its labels, each behind its length, whole and with their letters, and a 0 (RFC 1035, 3.1).
+/// The word has no quotes: labels joined by dots, which the origin completes where no dot ends them. `@` alone is the
+/// origin, and a dot the root. A letter behind a `\` or of three digits is an octet of its label, whatever it is. Any other
+/// word is refused by [`Message`](ParseError::Message) of the field's text for what is wrong with it: quotes, `@` without an
+/// origin, a `\` without a meaning, an empty label or one of more than 63 octets, more than 255 octets of the name.
+pub fn put_name(
+    octets: &mut Vec<u8>,
     word: ZoneWord<'_>,
     origin: Option<&Name>,
     field: &NameField,
-) -> Result<Name, ParseError>
-    ensures reads { ReadsAs (name (option_copied origin.entry)) (λ x. x) result (word_value word.entry) }
+) -> Result<(), ParseError>
+    ensures puts { PutsAs (name (option_copied origin.entry)) name_octets result octets.old.items octets.new.items (word_value word.entry) }
     ensures why { IfErr result (λ e. (e ≡ ParseError.Memory) ⊎ NameFault field.now (option_copied origin.entry) (word_value word.entry) e) }
 {
     if word.quoted {
@@ -36,46 +34,69 @@ pub fn name_of(
     }
     if is_alone(b'@', word.raw) {
         return match origin {
-            Some(origin) => Ok(origin.clone()?),
+            Some(origin) => put_labels(octets, origin),
             None => Err(ParseError::Message(field.no_origin)),
         };
     }
     if is_alone(b'.', word.raw) {
-        return Ok(Name::root(alloc));
+        octets.push(0)?;
+        return Ok(());
     }
     let mut wire = ArrayVec::new();
     let is_fqdn = read_labels(word.raw, &mut wire, field)?;
-    let mut name = name_of_wire(alloc, wire.as_slice())?;
     if is_fqdn {
-        return Ok(name);
+        return put_whole(octets, wire.as_slice());
     }
-    name.set_fqdn(false);
-    let Some(origin) = origin else {
-        return Ok(name);
-    };
-    // The call's clause says that an origin is a name.
-    let _room = origin.len();
-    match name.append_name(origin) {
-        Ok(name) => Ok(name),
-        Err(ProtoError::Memory) => Err(ParseError::Memory),
-        Err(_) => Err(ParseError::Message(field.long_name)),
+    match origin {
+        Some(origin) => put_completed(octets, wire.as_slice(), origin, field),
+        None => put_whole(octets, wire.as_slice()),
     }
 }
 
-/// A name (`name_of`) of the next word; the refusal names the field. The word is taken, even where it is refused.
-#[inline]
-pub fn next_name(
-    alloc: Global,
-    words: &mut ZoneWords<'_>,
-    origin: Option<&Name>,
-    field: &NameField,
-) -> Result<Name, ParseError>
-    ensures reads { ReadsFirst (name (option_copied origin.entry)) (λ x. x) result words.old words.new }
-    ensures why { IfErr result (λ e. (e ≡ ParseError.Memory) ⊎ WhyFirst (ParseError.MissingToken field.now.name) (NameFault field.now (option_copied origin.entry)) words.old e) }
-    ensures behind { words_at words.new ≡ behind_first (words_at words.old) }
+// Puts labels behind octets, and a 0.
+fn put_whole(octets: &mut Vec<u8>, wire: &[u8]) -> Result<(), ParseError>
+    ensures put { OnOk result (octets.new.items ≡ octets.old.items ++ (wire.now ++ 0 ∷ [])) }
+    ensures memory { IfErr result (λ e. e ≡ ParseError.Memory) }
 {
-    let word = some_word(words, field.name)?;
-    name_of(alloc, word, origin, field)
+    octets.extend_from_slice(wire)?;
+    octets.push(0)?;
+    Ok(())
+}
+
+// Puts labels behind octets, and those of the origin and a 0, where there is room for all.
+fn put_completed(
+    octets: &mut Vec<u8>,
+    wire: &[u8],
+    origin: &Name,
+    field: &NameField,
+) -> Result<(), ParseError>
+    requires { length wire.now ≤ 254 }
+    ensures put { OnOk result (octets.new.items ≡ octets.old.items ++ (wire.now ++ name_octets origin.now)) }
+    ensures fits { OnOk result (length wire.now + length (lowname origin.now) ≤ 255) }
+    ensures name { IsName origin.now }
+    ensures refused { IfErr result (λ e. (e ≡ ParseError.Memory) ⊎ ((e ≡ ParseError.Message field.now.long_name) × (255 < length wire.now + length (lowname origin.now)))) }
+{
+    if wire.len() + origin.len() > 255 {
+        return Err(ParseError::Message(field.long_name));
+    }
+    octets.extend_from_slice(wire)?;
+    put_labels(octets, origin)
+}
+
+/// Puts a name's labels behind octets, each behind its length, and a 0 behind them.
+pub fn put_labels(octets: &mut Vec<u8>, name: &Name) -> Result<(), ParseError>
+    ensures put { OnOk result (octets.new.items ≡ octets.old.items ++ name_octets name.now) }
+    ensures name { IsName name.now }
+    ensures memory { IfErr result (λ e. e ≡ ParseError.Memory) }
+{
+    // Called for its clauses: no label has more than 63 octets.
+    let _len = name.len();
+    for label in name.iter() {
+        octets.push(label.len() as u8)?;
+        octets.extend_from_slice(label)?;
+    }
+    octets.push(0)?;
+    Ok(())
 }
 
 #[inline]
@@ -85,18 +106,73 @@ fn is_alone(octet: u8, text: &[u8]) -> bool
     text.len() == 1 && text[0] == octet
 }
 
-// Reads the labels of a text, each with its length, and a 0 behind them, and answers whether a dot ends them.
+// Reads the labels of a text, each behind its length, and answers whether a dot ends them.
 fn read_labels(
     text: &[u8],
-    wire: &mut ArrayVec<u8, 255>,
+    wire: &mut ArrayVec<u8, 254>,
     field: &NameField,
 ) -> Result<bool, ParseError>
     requires { wire.old.items ≡ [] }
     ensures ok { IfOk result (λ mark. LabelsRead text.now mark wire.new.items) }
     ensures refused { IfErr result (LabelsFault field.now text.now) }
 {
+    let mut rest = text;
+    'labels: loop {
+        let len = plain_len(rest);
+        let label = &rest[..len];
+        let behind = &rest[len..];
+        if behind.len() == 0 {
+            return last_label(wire, label, field);
+        }
+        if behind[0] == b'\\' {
+            return read_letters(rest, wire, field);
+        }
+        close_label(wire, label, field)?;
+        rest = &behind[1..];
+    }
+}
+
+// How many octets stand in front of the first dot or `\`, or of the text's end.
+#[inline]
+fn plain_len(text: &[u8]) -> usize
+    ensures within { result ≤ length text.now }
+    ensures plain { (k : ℕ) → k < result → (slice_index text.now k ≢ 46) × (slice_index text.now k ≢ 92) }
+    ensures stops { result < length text.now → (slice_index text.now result ≡ 46) ⊎ (slice_index text.now result ≡ 92) }
+{
+    let mut at = 0usize;
+    'octets: while at < text.len() && text[at] != b'.' && text[at] != b'\\' {
+        at += 1;
+    }
+    at
+}
+
+// Reads the last label of a text, if it has an octet, and answers whether it has none.
+fn last_label(
+    wire: &mut ArrayVec<u8, 254>,
+    label: &[u8],
+    field: &NameField,
+) -> Result<bool, ParseError>
+    ensures ok { IfOk result (λ mark. (text : List ℕ) → ReadSo text [] wire.old.items label.now → LabelsRead text mark wire.new.items) }
+    ensures refused { IfErr result (λ e. (text : List ℕ) → ReadSo text [] wire.old.items label.now → LabelsFault field.now text e) }
+{
+    if label.len() == 0 {
+        return Ok(true);
+    }
+    close_label(wire, label, field)?;
+    Ok(false)
+}
+
+// Reads what is left of a text, letter by letter, as `read_labels`.
+fn read_letters(
+    rest: &[u8],
+    wire: &mut ArrayVec<u8, 254>,
+    field: &NameField,
+) -> Result<bool, ParseError>
+    ensures ok { IfOk result (λ mark. (text : List ℕ) → ReadSo text rest.now wire.old.items [] → LabelsRead text mark wire.new.items) }
+    ensures refused { IfErr result (λ e. (text : List ℕ) → ReadSo text rest.now wire.old.items [] → LabelsFault field.now text e) }
+{
     let mut label: ArrayVec<u8, 63> = ArrayVec::new();
-    let mut letters = Letters::new(text);
+    let mut letters = Letters::new(rest);
     'letters: loop {
         match letters.next_letter(field.escape)? {
             Some(letter) => {
@@ -109,34 +185,27 @@ fn read_labels(
                     label.push(letter.octet());
                 }
             }
-            None => {
-                if label.is_empty() {
-                    wire.push(0);
-                    return Ok(true);
-                }
-                close_label(wire, label.as_slice(), field)?;
-                wire.push(0);
-                return Ok(false);
-            }
+            None => return last_label(wire, label.as_slice(), field),
         }
     }
 }
 
 // Puts a label with its length behind others, where it has an octet and there is room for it and a 0.
 fn close_label(
-    wire: &mut ArrayVec<u8, 255>,
+    wire: &mut ArrayVec<u8, 254>,
     label: &[u8],
     field: &NameField,
 ) -> Result<(), ParseError>
-    requires short { length label.now ≤ 63 }
-    requires room { length wire.old.items ≤ 254 }
     ensures put { OnOk result (wire.new.items ≡ wire.old.items ++ length label.now ∷ label.now) }
-    ensures some { OnOk result (1 ≤ length label.now) }
+    ensures label { OnOk result (IsLabel label.now) }
     ensures fits { OnOk result (length wire.old.items + length label.now ≤ 253) }
     ensures refused { IfErr result (NotClosed field.now wire.old.items label.now) }
 {
     if label.is_empty() {
         return Err(ParseError::Message(field.empty_label));
+    }
+    if label.len() > 63 {
+        return Err(ParseError::Message(field.long_label));
     }
     if wire.len() + label.len() > 253 {
         return Err(ParseError::Message(field.long_name));
@@ -144,17 +213,4 @@ fn close_label(
     wire.push(label.len() as u8);
     let _ = wire.try_extend_from_slice(label);
     Ok(())
-}
-
-// The fully qualified name of labels with their lengths, and a 0 behind them.
-fn name_of_wire(alloc: Global, wire: &[u8]) -> Result<Name, ParseError>
-    requires { IsWire wire.now }
-    ensures ok { IfOk result (λ x. IsWireOf x wire.now) }
-    ensures memory { IfErr result (λ e. e ≡ ParseError.Memory) }
-{
-    let mut decoder = BinDecoder::new(alloc, wire);
-    match Name::read(&mut decoder) {
-        Ok(name) => Ok(name),
-        Err(e) => Err(ParseError::from(e)),
-    }
 }

@@ -7,14 +7,13 @@ ghost use Rattle.dns_zone_words.specs.Views.{word_value};
 ghost use Rattle.dns_zone_words.specs.Words.{words_at};
 ghost use Rattle.dns_zone_words.specs.ZoneReads.{IsCutRefused};
 
-use crate::field::{HexField, StringField};
+use crate::field::HexField;
 use crate::fields::next_u16;
 use crate::hex_field;
-use crate::texts::string_of;
 use crate::words::{ZoneWord, ZoneWords};
 use base64::DecodeAllocError;
 use base64::engine::general_purpose::STANDARD;
-use dns_types::{Octets, ParseError, Strings};
+use dns_types::{Octets, ParseError};
 use dns_words::{Field, number_field};
 use hex::FromHexError;
 use std::alloc::Global;
@@ -87,28 +86,6 @@ pub fn unknown_data(alloc: Global, words: &mut ZoneWords<'_>) -> Result<Octets, 
         return Err(ParseError::Message(OTHER_LENGTH));
     }
     Ok(octets)
-}
-
-/// All words that are left as character strings of at most 255 octets (`string_of`); no words give none. Refused by
-/// [`Message`](ParseError::Message): where a word is no such string, of the field's text for it.
-pub fn all_strings(
-    alloc: Global,
-    words: &mut ZoneWords<'_>,
-    field: &StringField,
-) -> Result<Strings, ParseError>
-    ensures reads { ReadsAll AreStrings (λ x. x) result words.old }
-    ensures why { IfErr result (λ e. (e ≡ ParseError.Memory) ⊎ AmongFault (StringFault field.now) words.old e) }
-{
-    let mut strings = Strings::new(alloc);
-    'words: loop {
-        match words.next_word()? {
-            Some(word) => {
-                let string = string_of(alloc, word, field)?;
-                strings.push(string)?;
-            }
-            None => return Ok(strings),
-        }
-    }
 }
 
 /// That no word is left. Refused by [`Message`](ParseError::Message): of the text `surplus` where one is.

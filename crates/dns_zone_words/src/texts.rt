@@ -1,65 +1,82 @@
 //! Strings, times to live, addresses and record types in words.
 
-ghost use Rattle.std.specs.Prelude.{◌≡◌, ◌≢◌, ◌⊎◌, ◌↔◌, false, slice_index, EachIndex, IsTrue, IfErr};
+ghost use Rattle.std.specs.Prelude.{◌≡◌, ◌≢◌, ◌≤◌, ◌<◌, ◌⊎◌, ℕ, false, length, slice_index, IfErr};
+ghost use Rattle.dns_fields.specs.Pieces.{string as string_octets};
 ghost use Rattle.std.specs.Net.Addr.{ipv4_octets, ipv6_octets};
 ghost use Rattle.dns_words.specs.Forms.{ttl, ipv4, ipv6};
 ghost use Rattle.dns_words.specs.Reads.{Decides};
 ghost use Rattle.dns_zone_words.specs.Forms.{bare, string, text, IsType, StringFault, TextFault};
 ghost use Rattle.dns_zone_words.specs.Letters.{escapes_stand};
 ghost use Rattle.dns_zone_words.specs.Views.{word_value};
-ghost use Rattle.dns_zone_words.specs.ZoneReads.{ReadsAs};
+ghost use Rattle.dns_zone_words.specs.ZoneReads.{ReadsAs, PutsAs};
 
 use crate::field::StringField;
+use crate::letter::first_letter;
 use crate::words::ZoneWord;
-use dns_types::{Octets, ParseError, RecordType};
+use dns_types::{ParseError, RecordType};
 use dns_words::texts::ttl_of as ttl_of_text;
-use std::alloc::Global;
 use std::net::{Ipv4Addr, Ipv6Addr};
 use std::str;
 
-/// A character string of at most 255 octets, in quotes or not: each letter's octet. Any other word is refused by
-/// [`Message`](ParseError::Message) of the field's text for it: of a `\` without a meaning, or else of more than 255
-/// octets. Takes memory once.
-pub fn string_of(
-    alloc: Global,
+/// Puts a character string of at most 255 octets behind others, its length in front: each letter's octet, in quotes or not.
+/// Any other word is refused by [`Message`](ParseError::Message) of the field's text for it: of a `\` without a meaning, or
+/// else of more than 255 octets. Takes memory as the vector grows.
+pub fn put_string(
+    octets: &mut Vec<u8>,
     word: ZoneWord<'_>,
     field: &StringField,
-) -> Result<Octets, ParseError>
-    ensures reads { ReadsAs string (λ x. x) result (word_value word.entry) }
+) -> Result<(), ParseError>
+    ensures puts { PutsAs string string_octets result octets.old.items octets.new.items (word_value word.entry) }
     ensures why { IfErr result (λ e. (e ≡ ParseError.Memory) ⊎ StringFault field.now (word_value word.entry) e) }
 {
-    let octets = text_of(alloc, word, field.escape)?;
-    if octets.len() > 255 {
+    let start = octets.len();
+    octets.push(0)?;
+    put_text(octets, word, field.escape)?;
+    let len = octets.len() - start - 1;
+    if len > 255 {
         return Err(ParseError::Message(field.long));
     }
-    Ok(octets)
+    octets.as_mut_slice()[start] = len as u8;
+    Ok(())
 }
 
-/// As `string_of`, of any number of octets: refused by [`Message`](ParseError::Message) of the text `wrong` where a `\`
-/// has no meaning.
-pub fn text_of(alloc: Global, word: ZoneWord<'_>, wrong: &'static str) -> Result<Octets, ParseError>
-    ensures reads { ReadsAs text (λ x. x) result (word_value word.entry) }
+/// As `put_string`, of any number of octets and without a length: refused by [`Message`](ParseError::Message) of the text
+/// `wrong` where a `\` has no meaning.
+pub fn put_text(
+    octets: &mut Vec<u8>,
+    word: ZoneWord<'_>,
+    wrong: &'static str,
+) -> Result<(), ParseError>
+    ensures puts { PutsAs text (λ x. x) result octets.old.items octets.new.items (word_value word.entry) }
     ensures why { IfErr result (λ e. (e ≡ ParseError.Memory) ⊎ TextFault (ParseError.Message wrong.entry) (word_value word.entry) e) }
 {
-    if has_no_escape(word.raw) {
-        return Ok(Octets::from_slice(alloc, word.raw)?);
-    }
-    let mut octets = Vec::with_capacity(alloc, word.raw.len())?;
-    let mut letters = word.letters();
-    'letters: loop {
-        match letters.next_letter(wrong)? {
-            Some(letter) => octets.push(letter.octet())?,
-            None => return Ok(Octets::from_vec(octets)),
+    let mut rest = word.raw;
+    'runs: loop {
+        let len = plain_len(rest);
+        octets.extend_from_slice(&rest[..len])?;
+        let behind = &rest[len..];
+        if behind.len() == 0 {
+            return Ok(());
         }
+        let Some((letter, count)) = first_letter(behind) else {
+            return Err(ParseError::Message(wrong));
+        };
+        octets.push(letter.octet())?;
+        rest = &behind[count..];
     }
 }
 
-// Whether no `\` stands in the text.
+// How many octets stand in front of the first `\`, or of the text's end.
 #[inline]
-fn has_no_escape(text: &[u8]) -> bool
-    ensures { IsTrue result ↔ EachIndex text.now (λ k. slice_index text.now k ≢ 92) }
+fn plain_len(text: &[u8]) -> usize
+    ensures within { result ≤ length text.now }
+    ensures plain { (k : ℕ) → k < result → slice_index text.now k ≢ 92 }
 {
-    text.iter().all(|octet| *octet != b'\\')
+    let mut at = 0usize;
+    'octets: while at < text.len() && text[at] != b'\\' {
+        at += 1;
+    }
+    at
 }
 
 /// A time to live of 32 bits, without quotes: runs of digits, each followed by `w`, `d`, `h`, `m` or `s` of either

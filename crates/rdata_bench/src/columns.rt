@@ -2,6 +2,7 @@
 
 use anyhow::Result;
 use dns_rdata::{BinDecoder, BinEncodable, BinEncoder, DecodeError, Name, RData, RecordType};
+use dns_rdata_zone::ZoneText;
 use held_data::{Held, measured};
 use std::alloc::Global;
 use std::fmt::Write;
@@ -185,6 +186,19 @@ fn prints(row: &mut Row, passes: u64) -> Result<()> {
     Ok(())
 }
 
+// The texts of a zone file, of OPT too.
+#[inline(never)]
+fn prints_zone_texts(row: &mut Row, passes: u64) -> Result<()> {
+    let Row { values, text, .. } = row;
+    for _ in 0..passes {
+        for value in values.iter() {
+            text.clear();
+            write!(text, "{}", ZoneText::new(&value.0))?;
+        }
+    }
+    Ok(())
+}
+
 #[inline(never)]
 fn clones(row: &Row, passes: u64) -> Result<()> {
     for _ in 0..passes {
@@ -246,6 +260,7 @@ pub fn column(alloc: Global, row: &mut Row, name: &str, rounds: u64) -> Result<(
         "emit" => emits(alloc, row, passes),
         "fresh" => emits_fresh(alloc, row, passes),
         "print" => prints(row, passes),
+        "zone" => prints_zone_texts(row, passes),
         "clone" => clones(row, passes),
         "equal" => equals(row, passes),
         "cmp" => orders(row.values.as_slice(), row.others.as_slice(), passes),

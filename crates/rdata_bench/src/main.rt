@@ -2,14 +2,14 @@
 //!
 //! The first argument is the number of rounds. The first line names the columns, with tabs between: the type, and the
 //! nanoseconds of one call, in tenths: read, emit into an encoder that is kept, emit into a fresh encoder over a vector that
-//! is kept, print into a text that is kept, clone, `==`, `cmp` of equal values and `cmp` of a value and a next one. Each is
+//! is kept, print into a text that is kept, print the text of a zone file so, clone, `==`, `cmp` of equal values and `cmp` of a value and a next one. Each is
 //! the least of five parts of the rounds.
 //!
 //! A second argument, one of these words, takes that column alone and prints nothing: for runs under a counter of requests
 //! for memory. With a third, each value that is read or cloned is compared. In place of the number the word `growth`
 //! prints how the time grows with names, pointers, strings and windows, and `options` how long records of so many options
 //! take, 16,383 where no number follows, which is as many as fit. After the word `parse` and a number of rounds lines `TYPE TEXT` are read, and the nanoseconds of reading
-//! each text as record data printed. The word `sort` measures a million records that are sorted. After the word `names` and
+//! each text as record data printed: as hickory-proto reads it, and as a zone file's. The word `sort` measures a million records that are sorted. After the word `names` and
 //! a number of rounds 2,000 names of one zone are measured, written into one message and read back.
 #![tactic(auto)]
 
@@ -31,8 +31,8 @@ use std::io;
 use std::io::BufRead;
 use std::rt::Clock;
 
-const COLUMNS: [&str; 8] = [
-    "read", "emit", "fresh", "print", "clone", "equal", "cmp", "next",
+const COLUMNS: [&str; 9] = [
+    "read", "emit", "fresh", "print", "zone", "clone", "equal", "cmp", "next",
 ];
 
 fn read_row(alloc: Global, line: &str, compares: bool) -> Result<Row> {
@@ -120,7 +120,7 @@ fn main(rt: HostRuntime) -> Result<()> {
 }
 
 fn measure_texts(rt: &HostRuntime, rounds: u64) -> Result<()> {
-    println!(rt; "type\tparse")?;
+    println!(rt; "type\tparse\tzone")?;
     for line in io::BufReader::new(rt.alloc(), rt.reader())?.lines(rt.alloc()) {
         measure_text(rt, line?.as_str(), rounds)?;
     }

@@ -1,6 +1,6 @@
 use Rattle.std.proofs.Common.{◌≡◌, ◌++◌}
 use Rattle.dns_fields.specs.Labels.{AreLabels, wire}
-use Rattle.dns_zone_rows.proofs.fields.add_labels.Given as goal
+use Rattle.dns_zone_words.proofs.names.put_labels.Given as goal
 
 -- the octets of the labels so far were put there
 abbrev pub invariant-loop-label : goal.invariant-loop-label

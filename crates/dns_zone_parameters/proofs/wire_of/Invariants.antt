@@ -1,8 +1,0 @@
-use Rattle.std.proofs.Common.{◌≡◌, map, take}
-use Rattle.dns_fields.specs.Pieces.{pieces}
-use Rattle.dns_zone_parameters.specs.Views.{parameter_value}
-use Rattle.dns_zone_parameters.proofs.wire_of.Given as goal
-
--- the pieces so far
-abbrev pub invariant-loop-parameter : goal.invariant-loop-parameter
-invariant-loop-parameter l = l.octets.items ≡ pieces (map parameter_value (take l.parameter-index l.parameters))

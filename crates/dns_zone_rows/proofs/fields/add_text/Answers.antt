@@ -1,7 +1,0 @@
-use Rattle.dns_zone_words.specs.Forms.{text}
-use Rattle.dns_zone_rows.proofs.Adding.{exit_gives}
-use Rattle.dns_zone_rows.proofs.fields.add_text.Goals as goal
-
-pub returns-in_err-value-clause-adds : goal.returns-in_err-value-clause-adds
-returns-in_err-value-clause-adds c = exit_gives text (λ s. s) c.from_residual.result _ c.args.octets.now.items c.args.octets.now.items c.args.words.now
-    c.next_text.new.words c.from_residual.ensures.1 c.in_err-value.ensures.reads

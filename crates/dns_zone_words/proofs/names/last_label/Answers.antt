@@ -1,0 +1,19 @@
+use Rattle.std.proofs.Common.{List, ℕ, [], arith}
+use Rattle.dns_zone_words.specs.NameSteps.{ReadSo}
+use Rattle.dns_zone_words.specs.NameWords.{LabelsFault}
+use Rattle.dns_zone_words.proofs.FirstSteps.{exit_fault}
+use Rattle.dns_zone_words.proofs.NameLabels.{no_last, end_dot, end_label}
+use Rattle.dns_zone_words.proofs.names.last_label.Goals as goal
+
+pub returns-then-label-eq0-clause-ok : goal.returns-then-label-eq0-clause-ok
+returns-then-label-eq0-clause-ok c = λ text so. end_dot text c.args.wire.now.items c.args.label.now so c.if-label-eq0.true
+
+pub returns-in_err-close_label-clause-refused : goal.returns-in_err-close_label-clause-refused
+returns-in_err-close_label-clause-refused c =
+    exit_fault (λ e. (text : List ℕ) → ReadSo text [] c.args.wire.now.items c.args.label.now → LabelsFault c.args.field.now text e) c.from_residual.result _
+    c.from_residual.ensures.1
+    (λ text so. no_last c.args.field.now text c.args.wire.now.items c.args.label.now _ so (omega (arith, c.if-label-eq0.false)) c.in_err-close_label.ensures.refused)
+
+pub returns-clause-ok : goal.returns-clause-ok
+returns-clause-ok c = λ text so. end_label text c.args.wire.now.items c.args.label.now c.close_label.new.wire.items so c.in_ok-close_label.ensures.label
+    c.in_ok-close_label.ensures.fits c.in_ok-close_label.ensures.put

@@ -1,0 +1,48 @@
+use Rattle.std.proofs.Common.{◌∙◌, sym, refl}
+use Rattle.std.specs.Option.{option_copied}
+use Rattle.dns_zone_words.specs.NameWords.{name, name_octets, labelled}
+use Rattle.dns_zone_words.specs.Views.{word_value}
+use Rattle.dns_zone_words.proofs.NameLabels.{no_name, fault_none}
+use Rattle.dns_zone_words.proofs.NamePuts.{exit_put, dot_put, whole_put, is_completed, completed_put, completed_why, completed_full, completed_none, full_by}
+use Rattle.dns_zone_words.proofs.names.put_name.Goals as goal
+
+pub returns-then-is_alone-2-clause-puts : goal.returns-then-is_alone-2-clause-puts
+returns-then-is_alone-2-clause-puts c = dot_put (option_copied c.args.origin) (word_value c.args.word) c.args.octets.now.items _ c.if-word.false
+    (sym c.is_alone-2.ensures ∙ c.if-is_alone-2.true) c.in_ok-push.ensures.items
+
+pub returns-in_err-is_fqdn-clause-puts : goal.returns-in_err-is_fqdn-clause-puts
+returns-in_err-is_fqdn-clause-puts c = exit_put (name (option_copied c.args.origin)) name_octets c.from_residual-in_err-is_fqdn.result c.args.octets.now.items
+    c.args.octets.now.items (word_value c.args.word) _ c.from_residual-in_err-is_fqdn.ensures.1
+    (no_name (option_copied c.args.origin) (word_value c.args.word) (sym c.is_alone.ensures ∙ c.if-is_alone.false)
+    (sym c.is_alone-2.ensures ∙ c.if-is_alone-2.false) (fault_none c.args.field.now c.args.word.raw.now _ c.in_err-is_fqdn.ensures.refused))
+
+pub returns-then-is_fqdn-clause-puts : goal.returns-then-is_fqdn-clause-puts
+returns-then-is_fqdn-clause-puts c = whole_put (option_copied c.args.origin) (word_value c.args.word) c.in_ok-is_fqdn.is_fqdn c.put_whole.result c.args.octets.now.items
+    c.put_whole.new.octets.items c.read_labels.new.wire.items c.if-word.false (sym c.is_alone.ensures ∙ c.if-is_alone.false)
+    (sym c.is_alone-2.ensures ∙ c.if-is_alone-2.false) c.in_ok-is_fqdn.ensures.ok
+    (completed_full (labelled c.args.word.raw.now) (option_copied c.args.origin) (full_by c.in_ok-is_fqdn.ensures.ok c.if-is_fqdn.true))
+    (rw c.as_slice.ensures.value at c.put_whole.ensures.put) c.put_whole.ensures.memory
+
+pub returns-in-Some-origin-clause-puts : goal.returns-in-Some-origin-clause-puts
+returns-in-Some-origin-clause-puts c = completed_put (option_copied c.args.origin) c.in-Some-origin.origin.now (word_value c.args.word) c.put_completed.result
+    c.args.octets.now.items c.put_completed.new.octets.items c.read_labels.new.wire.items _
+    (is_completed (option_copied c.args.origin) c.in-Some-origin.origin.now (word_value c.args.word) c.read_labels.new.wire.items c.in_ok-is_fqdn.is_fqdn
+    (rw c.in-Some-origin.is refl) c.if-is_fqdn.false c.if-word.false (sym c.is_alone.ensures ∙ c.if-is_alone.false)
+    (sym c.is_alone-2.ensures ∙ c.if-is_alone-2.false) c.in_ok-is_fqdn.ensures.ok)
+    (rw c.as_slice-in-Some-origin.ensures.value at c.put_completed.ensures.put) (rw c.as_slice-in-Some-origin.ensures.value at c.put_completed.ensures.fits)
+    c.put_completed.ensures.name (rw c.as_slice-in-Some-origin.ensures.value at c.put_completed.ensures.refused)
+
+pub returns-in-Some-origin-clause-why : goal.returns-in-Some-origin-clause-why
+returns-in-Some-origin-clause-why c = completed_why (option_copied c.args.origin) c.in-Some-origin.origin.now (word_value c.args.word) c.args.field.now
+    c.put_completed.result c.read_labels.new.wire.items
+    (is_completed (option_copied c.args.origin) c.in-Some-origin.origin.now (word_value c.args.word) c.read_labels.new.wire.items c.in_ok-is_fqdn.is_fqdn
+    (rw c.in-Some-origin.is refl) c.if-is_fqdn.false c.if-word.false (sym c.is_alone.ensures ∙ c.if-is_alone.false)
+    (sym c.is_alone-2.ensures ∙ c.if-is_alone-2.false) c.in_ok-is_fqdn.ensures.ok)
+    (rw c.as_slice-in-Some-origin.ensures.value at c.put_completed.ensures.refused)
+
+pub returns-in-None-origin-clause-puts : goal.returns-in-None-origin-clause-puts
+returns-in-None-origin-clause-puts c = whole_put (option_copied c.args.origin) (word_value c.args.word) c.in_ok-is_fqdn.is_fqdn c.put_whole-in-None-origin.result
+    c.args.octets.now.items c.put_whole-in-None-origin.new.octets.items c.read_labels.new.wire.items c.if-word.false
+    (sym c.is_alone.ensures ∙ c.if-is_alone.false) (sym c.is_alone-2.ensures ∙ c.if-is_alone-2.false) c.in_ok-is_fqdn.ensures.ok
+    (completed_none (labelled c.args.word.raw.now) (option_copied c.args.origin) (rw c.in-None-origin.is refl))
+    (rw c.as_slice-in-None-origin.ensures.value at c.put_whole-in-None-origin.ensures.put) c.put_whole-in-None-origin.ensures.memory
