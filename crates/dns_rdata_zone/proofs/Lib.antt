@@ -3,6 +3,7 @@ pub mod Caa
 pub mod Cuts
 pub mod Digits
 pub mod Filled
+pub mod FirstOctet
 pub mod FilledLengths
 pub mod Joined
 pub mod Letters

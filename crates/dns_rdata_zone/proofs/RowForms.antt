@@ -29,7 +29,7 @@ use Rattle.std.specs.Str.Parse.{digits_value}
 use Rattle.std.proofs.lemmas.Fmt.{length-decimal-le}
 use Rattle.dns_words.proofs.Printed.{ipv4_back, ipv6_back}
 use Rattle.dns_zone_words.specs.Forms.{text}
-use Rattle.dns_zone_words.specs.NameWords.{name}
+use Rattle.dns_zone_words.specs.NameWords.{name, name_octets}
 use Rattle.dns_zone_words.specs.Remaining.{AreUnknown, IsUnknownMark, AreStrings, AreHex, AreBase64}
 use Rattle.hex.specs.Hex.{encode_with, encode_lower, lower_digits, decode_of as hex_of, decode_pairs, IsBytes}
 use Rattle.hex.proofs.HexLemmas.{decode_of-encode_lower}
@@ -43,7 +43,7 @@ use Rattle.hex.specs.declared.error.FromHexError.{FromHexError}
 use Rattle.dns_zone_rows.proofs.Once.{row_once}
 use Rattle.dns_zone_rows.specs.Mnemonics.{Named, number_named, IsNamedNumber, cert_types, algorithms}
 use Rattle.dns_rdata_zone.specs.Names.{zone_label, zone_labels, zone_name}
-use Rattle.dns_zone_rows.specs.Rows.{Row, RowGives, IsTypeNumber, AreTypes, FieldKind, Number, NamedNumber, Ttl, Ipv4, Ipv6, Name, String, Tag, Octets, RestKind, NoWord, SomeStrings, SomeHex, SomeBase64, AnyTypes, name_octets, FieldGives, RestGives, FieldsGive}
+use Rattle.dns_zone_rows.specs.Rows.{Row, RowGives, IsTypeNumber, AreTypes, FieldKind, Number, NamedNumber, Ttl, Ipv4, Ipv6, Name, String, Tag, Octets, RestKind, NoWord, SomeStrings, SomeHex, SomeBase64, AnyTypes, FieldGives, RestGives, FieldsGive}
 use Rattle.dns_rdata_zone.specs.Spellings.{escaped, needs_backslash, name_octet}
 use Rattle.dns_rdata_zone.specs.Strings.{quoted, spaced}
 use Rattle.dns_rdata_zone.specs.ZoneGives.{GiveByRow, AreUnmarked, TextGives}

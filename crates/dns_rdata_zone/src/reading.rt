@@ -1,6 +1,7 @@
 //! Record data of a text of a zone file.
 
 ghost use Rattle.std.specs.Prelude.{◌≡◌, ◌↔◌, ◌⊎◌, IsTrue, IfSome, IfNone, IfOk, IfErr, length};
+ghost use Rattle.std.specs.Bool.{OnTrue};
 ghost use Rattle.std.specs.Option.{option_copied};
 ghost use Rattle.dns_rdata.specs.Data.{shape, type_of, IsEmittable, data_octets};
 ghost use Rattle.dns_words.specs.Reads.{UnlessMemory};
@@ -74,11 +75,33 @@ fn behind_mark(text: &[u8]) -> Result<Option<ZoneWords<'_>>, ParseError>
     ensures unmarked { IfOk result (λ o. IfNone o (HasNoMark text.now)) }
     ensures refused { IfErr result (IsCutRefused (at_start text.now)) }
 {
+    if begins_plain(text) {
+        return Ok(None);
+    }
     let mut words = ZoneWords::new(text);
     match words.next_word()? {
         Some(first) if is_unknown_mark(first) => Ok(Some(words)),
         _ => Ok(None),
     }
+}
+
+// Whether an octet stands first that begins a word, and is no `\\`. Few texts begin otherwise, and of none that does so is a
+// word looked at.
+#[inline]
+fn begins_plain(text: &[u8]) -> bool
+    ensures { OnTrue result (HasNoMark text.now) }
+{
+    if text.len() == 0 {
+        return false;
+    }
+    let first = text[0];
+    if first == b'"' {
+        return true;
+    }
+    if first <= b')' || first == b';' || first == b'\\' {
+        return false;
+    }
+    true
 }
 
 // The data that the words of a text give by the row of the type.

@@ -2,15 +2,17 @@
 //!
 //! The first argument is the number of rounds. The first line names the columns, with tabs between: the type, and the
 //! nanoseconds of one call, in tenths: read, emit into an encoder that is kept, emit into a fresh encoder over a vector that
-//! is kept, print into a text that is kept, print the text of a zone file so, clone, `==`, `cmp` of equal values and `cmp` of a value and a next one. Each is
-//! the least of five parts of the rounds.
+//! is kept, print into a text that is kept, print the text of a zone file so, clone, `==`, `cmp` of equal values and `cmp` of
+//! a value and a next one. Each is the least of five parts of the rounds.
 //!
 //! A second argument, one of these words, takes that column alone and prints nothing: for runs under a counter of requests
 //! for memory. With a third, each value that is read or cloned is compared. In place of the number the word `growth`
 //! prints how the time grows with names, pointers, strings and windows, and `options` how long records of so many options
-//! take, 16,383 where no number follows, which is as many as fit. After the word `parse` and a number of rounds lines `TYPE TEXT` are read, and the nanoseconds of reading
-//! each text as record data printed: as hickory-proto reads it, and as a zone file's. The word `sort` measures a million records that are sorted. After the word `names` and
-//! a number of rounds 2,000 names of one zone are measured, written into one message and read back.
+//! take, 16,383 where no number follows, which is as many as fit. After the word `parse` and a number of rounds lines
+//! `TYPE TEXT` are read, and the nanoseconds of reading each text as record data printed: as hickory-proto reads it, and as a
+//! zone file's; nothing where it is not read so (`data/texts.txt`, `data/zone_texts.txt`). The word `sort` measures a million
+//! records that are sorted. After the word `names` and a number of rounds 2,000 names of one zone are measured, written into
+//! one message and read back.
 #![tactic(auto)]
 
 mod columns;
@@ -102,9 +104,10 @@ fn main(rt: HostRuntime) -> Result<()> {
     for line in io::BufReader::new(rt.alloc(), rt.reader())?.lines(rt.alloc()) {
         let line = line?;
         match &only {
-            Some(name) if name.as_str() == "parse" => {
+            Some(name) if name.as_str() == "parse" || name.as_str() == "zone_parse" => {
                 let (record_type, text) = text_row(line.as_str())?;
-                parses(rt.alloc(), record_type, text, rounds)?;
+                let is_zone = name.as_str() == "zone_parse";
+                parses(rt.alloc(), record_type, text, is_zone, rounds)?;
             }
             Some(name) => {
                 let mut row = read_row(rt.alloc(), line.as_str(), compares)?;

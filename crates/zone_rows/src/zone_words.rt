@@ -1,12 +1,12 @@
 //! Words of zone files.
 
 use anyhow::{Result, bail};
-use dns_names_wire::{Name, ParseError};
-use dns_types::RecordType;
+use dns_names_wire::{BinDecodable, BinDecoder, Name, ParseError};
+use dns_types::{Octets, RecordType, Strings};
 use dns_zone_rows::{row_octets, row_of};
 use dns_zone_words::{
-    Field, NameField, StringField, ZoneWords, all_base64, all_strings, ipv4_of, is_unknown_mark,
-    name_field, next_name, next_ttl, next_u16, number_field, some_word, string_field, type_of,
+    Field, NameField, StringField, ZoneWords, all_base64, ipv4_of, is_unknown_mark, name_field,
+    next_ttl, next_u16, number_field, put_name, put_string, some_word, string_field, type_of,
     unknown_data,
 };
 use std::alloc::Global;
@@ -45,6 +45,34 @@ fn row(alloc: Global, record_type: &str, text: &str) -> Result<String> {
     }
 }
 
+// The strings that all words are.
+fn strings(alloc: Global, words: &mut ZoneWords<'_>) -> std::result::Result<Strings, ParseError> {
+    let mut strings = Strings::new(alloc);
+    'words: loop {
+        let Some(word) = words.next_word()? else {
+            return Ok(strings);
+        };
+        let mut octets = Vec::new(alloc);
+        put_string(&mut octets, word, &STRING)?;
+        // without its length
+        let string = octets.as_slice().get(1..).unwrap_or(&[]);
+        strings.push(Octets::from_slice(alloc, string)?)?;
+    }
+}
+
+// The name that the first word is.
+fn name(
+    alloc: Global,
+    words: &mut ZoneWords<'_>,
+    origin: Option<&Name>,
+) -> std::result::Result<Name, ParseError> {
+    let word = some_word(words, NAME.name)?;
+    let mut octets = Vec::new(alloc);
+    put_name(&mut octets, word, origin, &NAME)?;
+    let mut decoder = BinDecoder::new(alloc, octets.as_slice());
+    Ok(Name::read(&mut decoder)?)
+}
+
 /// The value of a text's first words as a field of a kind, or why it is refused; of `row` and a type, the octets of all
 /// its words. Names are below `ex`, but for a `name alone`.
 pub fn field(alloc: Global, kind: &str, text: &str) -> Result<String> {
@@ -53,7 +81,7 @@ pub fn field(alloc: Global, kind: &str, text: &str) -> Result<String> {
     }
     let mut words = ZoneWords::new(text.as_bytes());
     match kind {
-        "strings" => show(alloc, all_strings(alloc, &mut words, &STRING)),
+        "strings" => show(alloc, strings(alloc, &mut words)),
         "base64" => show(alloc, all_base64(alloc, &mut words, "no base64")),
         "number" => show(alloc, next_u16(&mut words, NUMBER)),
         "ttl" => show(alloc, next_ttl(&mut words, NUMBER)),
@@ -64,10 +92,10 @@ pub fn field(alloc: Global, kind: &str, text: &str) -> Result<String> {
 fn word_field(alloc: Global, kind: &str, mut words: ZoneWords<'_>) -> Result<String> {
     if kind == "name" {
         let origin = Name::from_ascii(alloc, "ex.")?;
-        return show(alloc, next_name(alloc, &mut words, Some(&origin), &NAME));
+        return show(alloc, name(alloc, &mut words, Some(&origin)));
     }
     if kind == "name alone" {
-        return show(alloc, next_name(alloc, &mut words, None, &NAME));
+        return show(alloc, name(alloc, &mut words, None));
     }
     let word = some_word(&mut words, "word")?;
     match kind {
