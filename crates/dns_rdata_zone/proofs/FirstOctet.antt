@@ -10,7 +10,7 @@ use Rattle.dns_zone_words.specs.declared.words_error.WordsError.TheVariants.{Lin
 use Rattle.dns_zone_words.proofs.RemainingSteps.{word_ok}
 use Rattle.dns_zone_words.proofs.WordSteps.{stays_refused}
 use Rattle.dns_rdata_zone.specs.ZoneGives.{AreUnmarked}
-use Rattle.dns_rdata_zone.specs.ZoneSteps.{HasNoMark}
+use Rattle.dns_rdata_zone.specs.ZoneFaults.{HasNoMark}
 
 either_way : (b : Bool) → (b ≡ true) ⊎ (b ≡ false)
 either_way true = inl refl
