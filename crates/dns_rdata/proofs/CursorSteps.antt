@@ -11,12 +11,10 @@ use Rattle.dns_fields.specs.Pieces.{string, parameters_emittable}
 use Rattle.dns_fields.specs.Fields.{Kind, Text, Texts, Value, Values, field_octets, canonical, is_emittable, all_emittable}
 use Rattle.dns_pieces.specs.declared.step.Step.{Step}
 use Rattle.dns_pieces.specs.Steps.{is_short, AllShort, GivesStep, CountsPasses, CountsChoices}
-use Rattle.dns_rdata_base.specs.HINFO.{hinfo_shape, hinfo_fields}
-use Rattle.dns_rdata_base.specs.NAPTR.{naptr_shape, naptr_fields}
-use Rattle.dns_rdata_base.specs.TXT.{txt_shape, txt_fields}
-use Rattle.dns_rdata_options.specs.Steps.{pairs_emittable}
-use Rattle.dns_rdata_service.specs.Parameters.{parameter_of}
-use Rattle.dns_rdata_sets.specs.CAA.{caa_shape, caa_fields}
+use Rattle.dns_rdata_base.specs as base
+use Rattle.dns_rdata_options.specs as options
+use Rattle.dns_rdata_service.specs as service
+use Rattle.dns_rdata_sets.specs as sets
 use Rattle.dns_rdata.specs.declared.record_data.RData.{RData}
 use Rattle.dns_rdata.specs.declared.record_data.RData.TheVariants as rdata
 use Rattle.dns_rdata.specs.Data.{fields_of, data_octets}
@@ -54,13 +52,13 @@ emittable_short [] vs h = tt
 emittable_short (k ∷ kinds) vs h = (kind_short k vs.0 (first_so (is_emittable k vs.0) (all_emittable kinds vs.1) h), emittable_short kinds vs.1 (second_so (is_emittable k vs.0) (all_emittable kinds vs.1) h))
 
 pub begins_at : (v : RData) → all_emittable (fields_of v).kinds (fields_of v).values ≡ true → DataAt v 0 0 0
-begins_at (rdata.CAA x) h = emittable_short caa_shape (caa_fields x) h
-begins_at (rdata.HINFO x) h = emittable_short hinfo_shape (hinfo_fields x) h
-begins_at (rdata.HTTPS x) h = sym (with_true (parameters_emittable (map parameter_of x.0.svc_params))) ∙ h
-begins_at (rdata.NAPTR x) h = emittable_short naptr_shape (naptr_fields x) h
-begins_at (rdata.OPT x) h = (sym (with_true (pairs_emittable x)) ∙ h, tt)
-begins_at (rdata.SVCB x) h = sym (with_true (parameters_emittable (map parameter_of x.svc_params))) ∙ h
-begins_at (rdata.TXT x) h = emittable_short txt_shape (txt_fields x) h
+begins_at (rdata.CAA x) h = emittable_short sets.CAA.caa_shape (sets.CAA.caa_fields x) h
+begins_at (rdata.HINFO x) h = emittable_short base.HINFO.hinfo_shape (base.HINFO.hinfo_fields x) h
+begins_at (rdata.HTTPS x) h = sym (with_true (parameters_emittable (map service.Parameters.parameter_of x.0.svc_params))) ∙ h
+begins_at (rdata.NAPTR x) h = emittable_short base.NAPTR.naptr_shape (base.NAPTR.naptr_fields x) h
+begins_at (rdata.OPT x) h = (sym (with_true (options.Steps.pairs_emittable x)) ∙ h, tt)
+begins_at (rdata.SVCB x) h = sym (with_true (parameters_emittable (map service.Parameters.parameter_of x.svc_params))) ∙ h
+begins_at (rdata.TXT x) h = emittable_short base.TXT.txt_shape (base.TXT.txt_fields x) h
 begins_at v h = tt
 
 -- and nothing is kept at first

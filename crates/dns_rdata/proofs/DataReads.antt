@@ -14,18 +14,11 @@ use Rattle.dns_names_wire.specs.State.{Reading}
 use Rattle.dns_names_wire.specs.Words.{StaysBehind, UnlessMemory, NoWindow, TookWindow, RefusedWindow, ReadsWindow, LacksOctets}
 use Rattle.dns_names_wire.proofs.FieldReads.{stays, unless_all}
 use Rattle.dns_rdata_base.specs.declared.null.NULL.{NULL}
-use Rattle.dns_rdata_base.specs.NULL.{null_shape, null_fields}
-use Rattle.dns_rdata_base.specs.Refusing.{FirstLack, IsLack}
-use Rattle.dns_rdata_base.specs.NameRecords.{name_shape}
-use Rattle.dns_rdata_base.specs.MX.{mx_shape}
-use Rattle.dns_rdata_base.specs.NAPTR.{naptr_shape}
-use Rattle.dns_rdata_base.specs.SOA.{soa_shape}
-use Rattle.dns_rdata_base.specs.SRV.{srv_shape}
-use Rattle.dns_rdata_certs.specs.Rests.{rest_refusal}
 use Rattle.dns_rdata_options.proofs.Refusals.{opt_never}
 use Rattle.dns_rdata_service.proofs.SvcbValues.{svcb_never}
-use Rattle.dns_rdata_sets.specs.CAA.{tag_refusal}
-use Rattle.dns_rdata_sets.specs.RecordTypeSet.{bitmap_refusal}
+use Rattle.dns_rdata_base.specs as base
+use Rattle.dns_rdata_certs.specs as certs
+use Rattle.dns_rdata_sets.specs as sets
 use Rattle.dns_rdata.specs.declared.record_data.RData.{RData}
 use Rattle.dns_rdata.specs.declared.record_data.RData.TheVariants as rdata
 use Rattle.dns_rdata.specs.Data.{Row, row, unread, rowless, row_of, kinds_of, condition_of, is_rowless, is_never, FieldsOf, shape, condition}
@@ -69,23 +62,29 @@ pub record HasNoRow (t : RecordType) : Type 0 where
   pub rowless : IsRowless t
   pub read : IsNeverRead t → ⊥
 
-pub no_row : (t : RecordType) → t ≢ types.A → t ≢ types.AAAA → t ≢ types.ANAME → t ≢ types.CAA → t ≢ types.CERT → t ≢ types.CNAME → t ≢ types.CSYNC
-    → t ≢ types.HINFO → t ≢ types.HTTPS → t ≢ types.MX → t ≢ types.NAPTR → t ≢ types.NULL → t ≢ types.NS → t ≢ types.OPENPGPKEY → t ≢ types.OPT
-    → t ≢ types.PTR → t ≢ types.SMIMEA → t ≢ types.SOA → t ≢ types.SRV → t ≢ types.SSHFP → t ≢ types.SVCB → t ≢ types.TLSA → t ≢ types.TXT → t ≢ types.ZERO
-    → t ≢ types.ANY → t ≢ types.AXFR → t ≢ types.IXFR → HasNoRow t
-no_row types.A h0 h1 h2 h3 h4 h5 h6 h7 h8 h9 h10 h11 h12 h13 h14 h15 h16 h17 h18 h19 h20 h21 h22 h23 h24 h25 h26 = absurd (h0 refl)
-no_row t h0 h1 h2 h3 h4 h5 h6 h7 h8 h9 h10 h11 h12 h13 h14 h15 h16 h17 h18 h19 h20 h21 h22 h23 h24 h25 h26 = grind arith
+-- the type is none of these
+abbrev pub IsNone : RecordType → List RecordType → Type 0
+IsNone t [] = Unit {0}
+IsNone t (u ∷ us) = (t ≢ u) × IsNone t us
 
-took_rowless : (r : Row) {old new : Reading} {n : ℕ} (vs : Values null_shape) → is_rowless r → TookWindow old n null_shape (λ _. Unit {0}) vs new
-    → (ws : Values (kinds_of r)) × TookWindow old n (kinds_of r) (condition_of r) ws new × (fields_as null_shape vs ≡ fields_as (kinds_of r) ws)
+-- the types that have a row of their own, and those that are never read
+abbrev pub row_types : List RecordType
+row_types = types.A ∷ types.AAAA ∷ types.ANAME ∷ types.CAA ∷ types.CERT ∷ types.CNAME ∷ types.CSYNC ∷ types.HINFO ∷ types.HTTPS ∷ types.MX ∷ types.NAPTR ∷ types.NULL ∷ types.NS ∷ types.OPENPGPKEY ∷ types.OPT ∷ types.PTR ∷ types.SMIMEA ∷ types.SOA ∷ types.SRV ∷ types.SSHFP ∷ types.SVCB ∷ types.TLSA ∷ types.TXT ∷ types.ZERO ∷ types.ANY ∷ types.AXFR ∷ types.IXFR ∷ []
+
+pub has_no_row : (t : RecordType) → IsNone t row_types → HasNoRow t
+has_no_row types.A none = absurd (none.0 refl)
+has_no_row t none = grind arith
+
+took_rowless : (r : Row) {old new : Reading} {n : ℕ} (vs : Values base.NULL.null_shape) → is_rowless r → TookWindow old n base.NULL.null_shape (λ _. Unit {0}) vs new
+    → (ws : Values (kinds_of r)) × TookWindow old n (kinds_of r) (condition_of r) ws new × (fields_as base.NULL.null_shape vs ≡ fields_as (kinds_of r) ws)
 took_rowless (row kinds asked refusal) vs h w = absurd h
 took_rowless unread vs h w = absurd h
 took_rowless rowless vs h w = (vs, w, refl)
 
-pub unknown_took : {old new : Reading} (t : RecordType) (n : ℕ) (x : NULL) → HasNoRow t → TookWindow old n null_shape (λ _. Unit {0}) (null_fields x) new
+pub unknown_took : {old new : Reading} (t : RecordType) (n : ℕ) (x : NULL) → HasNoRow t → TookWindow old n base.NULL.null_shape (λ _. Unit {0}) (base.NULL.null_fields x) new
     → TookData old t n (rdata.Unknown t x) new
 unknown_took t n x h w =
-    let r = took_rowless (row_of t) (null_fields x) h.rowless w in
+    let r = took_rowless (row_of t) (base.NULL.null_fields x) h.rowless w in
     data_took t n (rdata.Unknown t x) r.0 (record { type = refl; fields = r.2; plain = h.rowless }) r.1
 
 -- ---- what reading answers, once the octets that were taken are counted
@@ -136,13 +135,13 @@ data_refused t n (Err e) old new read len h c =
     by_case (read == len) (λ b. IfErr {T = RData} (cond b (Err e) (Err (decode.IncorrectRDataLengthRead read len)))
     (λ e. UnlessMemory e (NoValue old.message old.index n t))) (λ _. no_value t h.none) (λ _. no_value t h.none)
 
-rest_never : (f n : ℕ) (old new : Reading) (k : ℕ) → rest_refusal f n old (decode.UnknownRecordTypeValue k) new → ⊥
+rest_never : (f n : ℕ) (old new : Reading) (k : ℕ) → certs.Rests.rest_refusal f n old (decode.UnknownRecordTypeValue k) new → ⊥
 rest_never f n old new k (inl h) = let e = h.error in cc e
 rest_never f n old new k (inr (inl h)) = let e = h.error in cc e
 rest_never f n old new k (inr (inr (inl h))) = let e = h.error in cc e
 rest_never f n old new k (inr (inr (inr h))) = let e = h.error in cc e
 
-first_never : (kinds : List Kind) (old new : Reading) (k : ℕ) → FirstLack kinds old (decode.UnknownRecordTypeValue k) new → ⊥
+first_never : (kinds : List Kind) (old new : Reading) (k : ℕ) → base.Refusing.FirstLack kinds old (decode.UnknownRecordTypeValue k) new → ⊥
 first_never [] old new k h = h
 first_never (Number w ∷ kinds) old new k (inl h) = let e = h.0 in cc e
 first_never (Name ∷ kinds) old new k (inl h) = let e = h.0 in cc e
@@ -150,11 +149,11 @@ first_never (Text ∷ kinds) old new k (inl h) = let e = h.0 in cc e
 first_never (l ∷ kinds) old new k (inl h) = h
 first_never (l ∷ kinds) old new k (inr h) = first_never kinds h.1 new k h.3
 
-lack_never : (kinds : List Kind) (old new : Reading) (k : ℕ) → IsLack kinds old (decode.UnknownRecordTypeValue k) new → ⊥
+lack_never : (kinds : List Kind) (old new : Reading) (k : ℕ) → base.Refusing.IsLack kinds old (decode.UnknownRecordTypeValue k) new → ⊥
 lack_never kinds old new k (inl e) = cc e
 lack_never kinds old new k (inr h) = first_never kinds old new k h
 
-tag_never : (n t : ℕ) (old new : Reading) (k : ℕ) → tag_refusal n t old (decode.UnknownRecordTypeValue k) new → ⊥
+tag_never : (n t : ℕ) (old new : Reading) (k : ℕ) → sets.CAA.tag_refusal n t old (decode.UnknownRecordTypeValue k) new → ⊥
 tag_never n t old new k (inl h) = let e = h.error in cc e
 tag_never n t old new k (inr (inl h)) = let e = h.error in cc e
 tag_never n t old new k (inr (inr (inl h))) = let e = h.error in cc e
@@ -164,7 +163,7 @@ either_never : (k : ℕ) {P : Type 0} → (decode.UnknownRecordTypeValue k ≡ d
 either_never k (inl e) = cc e
 either_never k (inr h) = let e = h.0 in cc e
 
-bitmap_never : (n : ℕ) (old new : Reading) (k : ℕ) → bitmap_refusal n old (decode.UnknownRecordTypeValue k) new → ⊥
+bitmap_never : (n : ℕ) (old new : Reading) (k : ℕ) → sets.RecordTypeSet.bitmap_refusal n old (decode.UnknownRecordTypeValue k) new → ⊥
 bitmap_never n old new k (inl h) = let e = h.error in cc e
 bitmap_never n old new k (inr (inl h)) = let e = h.error in cc e
 bitmap_never n old new k (inr (inr h)) = let e = h.error in cc e
@@ -189,15 +188,15 @@ own_never types.SSHFP n old new k h = absurd (rest_never 2 n old new k h)
 own_never types.TLSA n old new k h = absurd (rest_never 3 n old new k h)
 own_never types.TXT n old new k (inl e) = absurd (cc e)
 own_never types.TXT n old new k (inr h) = let e = h.0 in absurd (cc e)
-own_never types.NAPTR n old new k (inl h) = absurd (lack_never naptr_shape old new k h)
+own_never types.NAPTR n old new k (inl h) = absurd (lack_never base.NAPTR.naptr_shape old new k h)
 own_never types.NAPTR n old new k (inr h) = let e = h.error in absurd (cc e)
-own_never types.ANAME n old new k h = absurd (lack_never name_shape old new k h)
-own_never types.CNAME n old new k h = absurd (lack_never name_shape old new k h)
-own_never types.MX n old new k h = absurd (lack_never mx_shape old new k h)
-own_never types.NS n old new k h = absurd (lack_never name_shape old new k h)
-own_never types.PTR n old new k h = absurd (lack_never name_shape old new k h)
-own_never types.SOA n old new k h = absurd (lack_never soa_shape old new k h)
-own_never types.SRV n old new k h = absurd (lack_never srv_shape old new k h)
+own_never types.ANAME n old new k h = absurd (lack_never base.NameRecords.name_shape old new k h)
+own_never types.CNAME n old new k h = absurd (lack_never base.NameRecords.name_shape old new k h)
+own_never types.MX n old new k h = absurd (lack_never base.MX.mx_shape old new k h)
+own_never types.NS n old new k h = absurd (lack_never base.NameRecords.name_shape old new k h)
+own_never types.PTR n old new k h = absurd (lack_never base.NameRecords.name_shape old new k h)
+own_never types.SOA n old new k h = absurd (lack_never base.SOA.soa_shape old new k h)
+own_never types.SRV n old new k h = absurd (lack_never base.SRV.srv_shape old new k h)
 own_never types.CAA n old new k (inl h) = let e = h.error in absurd (cc e)
 own_never types.CAA n old new k (inr (inl h)) = absurd (tag_never n h.size h.between new k h.refused)
 own_never types.CAA n old new k (inr (inr h)) = absurd (either_never k h.error)
@@ -288,22 +287,22 @@ reads_counted {n = n} {old = old} {new = new} {r = r} t f fields never place c w
     mapped_counted t f r never place c (reads_mapped old new t n f fields r window value) (unless_each r _ own)
 
 pub null_counted : {n start : ℕ} {old new : Reading} {s : Result NULL DecodeError} (r : Result NULL DecodeError) → start ≡ old.index → s ≡ by_length r (new.index - start) n
-    → ReadsWindow null_shape (λ _. Unit {0}) null_fields n r old new
+    → ReadsWindow base.NULL.null_shape (λ _. Unit {0}) base.NULL.null_fields n r old new
     → IfErr r (λ e. (e ≡ decode.Memory) ⊎ ((e ≡ decode.InsufficientBytes) × LacksOctets old n))
     → ReadsCounted types.NULL n (mapped (λ x. rdata.NULL x) s) old new
 null_counted {n = n} {old = old} {new = new} r place c window own =
     mapped_counted types.NULL (λ x. rdata.NULL x) r (λ h. h) place c
-    (reads_mapped old new types.NULL n (λ x. rdata.NULL x) null_fields r window (λ x _. record { type = refl; fields = refl; plain = tt }))
+    (reads_mapped old new types.NULL n (λ x. rdata.NULL x) base.NULL.null_fields r window (λ x _. record { type = refl; fields = refl; plain = tt }))
     (unless_other r (λ e. (e ≡ decode.InsufficientBytes) × LacksOctets old n) own)
 
-refused_rowless : (q : Row) (old new : Reading) (n : ℕ) (e : DecodeError) → is_rowless q → RefusedWindow e old n null_shape (λ _. Unit {0}) new
+refused_rowless : (q : Row) (old new : Reading) (n : ℕ) (e : DecodeError) → is_rowless q → RefusedWindow e old n base.NULL.null_shape (λ _. Unit {0}) new
     → RefusedWindow e old n (kinds_of q) (condition_of q) new
 refused_rowless (row kinds asked refusal) old new n e h w = absurd h
 refused_rowless unread old new n e h w = absurd h
 refused_rowless rowless old new n e h w = w
 
 reads_rowless : (old new : Reading) (t : RecordType) (n : ℕ) (r : Result NULL DecodeError) → HasNoRow t
-    → ReadsWindow null_shape (λ _. Unit {0}) null_fields n r old new → ReadsData t n (mapped (λ x. rdata.Unknown t x) r) old new
+    → ReadsWindow base.NULL.null_shape (λ _. Unit {0}) base.NULL.null_fields n r old new → ReadsData t n (mapped (λ x. rdata.Unknown t x) r) old new
 reads_rowless old new t n (Ok x) h w = unknown_took t n x h w
 reads_rowless old new t n (Err e) h w = data_refuses t n e (refused_rowless (row_of t) old new n e h.rowless w)
 
@@ -315,7 +314,7 @@ own_rowless t unread old new n r h w = absurd h
 own_rowless t rowless old new n r h w = w
 
 pub unknown_counted : {n start : ℕ} {old new : Reading} {s : Result NULL DecodeError} (t : RecordType) (r : Result NULL DecodeError) → HasNoRow t → start ≡ old.index
-    → s ≡ by_length r (new.index - start) n → ReadsWindow null_shape (λ _. Unit {0}) null_fields n r old new
+    → s ≡ by_length r (new.index - start) n → ReadsWindow base.NULL.null_shape (λ _. Unit {0}) base.NULL.null_fields n r old new
     → IfErr r (λ e. (e ≡ decode.Memory) ⊎ ((e ≡ decode.InsufficientBytes) × LacksOctets old n))
     → ReadsCounted t n (mapped (λ x. rdata.Unknown t x) s) old new
 unknown_counted {n = n} {old = old} {new = new} t r h place c window own =

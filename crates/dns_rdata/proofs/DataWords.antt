@@ -1,5 +1,5 @@
 -- Words of each type.
-use Rattle.std.proofs.Common.{◌≡◌, ◌≢◌, ℕ, List, [], ◌∷◌, Option, None, Result, Ok, Err, IfErr, ◌⊎◌, inl, inr, refl, sym, subst, map, length, arith, ◌∙◌}
+use Rattle.std.proofs.Common.{◌≡◌, ◌≢◌, ℕ, List, [], ◌∷◌, Option, Result, Ok, Err, IfErr, ◌⊎◌, inl, inr, refl, sym, subst, map, length, arith, ◌∙◌}
 use Rattle.std.specs.Cow.{cow_str_bytes}
 use Rattle.std.specs.Vec.Iter.{into_iter_steps, into_iter_items, into_iter_len, into_iter_deque}
 use Rattle.std.specs.declared.vec.IntoIter.{IntoIter}
@@ -21,7 +21,7 @@ use Rattle.dns_rdata_service.specs.declared.svcb.SVCB.{SVCB}
 use Rattle.dns_rdata_service.specs.declared.https.HTTPS.{HTTPS}
 use Rattle.dns_words.specs.Reads.{UnlessMemory, Decides, TookWords, RefusedWords}
 use Rattle.dns_words.specs.Printed.{cut}
-use Rattle.dns_words.proofs.Steps.{holds_map, holds_all, unless_map, unless_all}
+use Rattle.dns_words.proofs.Steps.{holds_map, holds_all, unless_map}
 use Rattle.dns_rdata_base.specs.NameRecords.{name_fields}
 use Rattle.dns_rdata_base.specs.A.{a_fields}
 use Rattle.dns_rdata_base.specs.AAAA.{aaaa_fields}
@@ -36,7 +36,8 @@ use Rattle.dns_rdata.specs.declared.record_data.RData.{RData}
 use Rattle.dns_rdata.specs.declared.record_data.RData.TheVariants as rdata
 use Rattle.dns_rdata.specs.Data.{shape, IsValue, type_of}
 use Rattle.dns_rdata.specs.Texts.{text_of}
-use Rattle.dns_rdata.specs.DataWords.{StandIn, AreSvcbWords, svcb_words, https_words, HasNoWords, AreDataWords, TookDataWords, RefusedDataWords, ReadsDataWords, ReadsDataTextAt, IsPrinted, PrintsBack}
+use Rattle.dns_rdata.proofs.DataReads.{IsNone}
+use Rattle.dns_rdata.specs.DataWords.{StandIn, AreSvcbWords, svcb_words, https_words, HasNoWords, AreDataWords, TookDataWords, RefusedDataWords, ReadsDataWords, AnswersDataWords, ReadsDataTextAt, IsPrinted, PrintsBack}
 
 -- words of a service give its fields
 own_stands : (x : SVCB) (words : List (List ℕ)) → AreSvcbWords x words → service_words.stand (svcb_fields x) words
@@ -52,6 +53,20 @@ no_svcb words other v d = d
 no_https : (words : List (List ℕ)) → ((vs : Values svcb_shape) → service_words.stand vs words → ⊥) → (v : RData) → https_words v words → ⊥
 no_https words other (rdata.HTTPS x) d = other (svcb_fields x.0) (own_stands x.0 words d)
 no_https words other v d = d
+
+-- the types that have words
+abbrev pub word_types : List RecordType
+word_types = types.A ∷ types.AAAA ∷ types.ANAME ∷ types.CAA ∷ types.CERT ∷ types.CNAME ∷ types.CSYNC ∷ types.HINFO ∷ types.HTTPS ∷ types.MX ∷ types.NAPTR ∷ types.NS ∷ types.OPENPGPKEY ∷ types.PTR ∷ types.SMIMEA ∷ types.SOA ∷ types.SRV ∷ types.SSHFP ∷ types.SVCB ∷ types.TLSA ∷ types.TXT ∷ types.ZERO ∷ []
+
+-- every other type has none
+pub has_no_words : (t : RecordType) → IsNone t word_types → HasNoWords t
+has_no_words types.A none = absurd (none.0 refl)
+has_no_words t none = grind arith
+
+-- types whose words are not read
+no_words : (origin : Option DomainName) (t : RecordType) → HasNoWords t → (v : RData) (words : List (List ℕ)) → AreDataWords origin t v words → ⊥
+no_words origin types.A h v words w = absurd h
+no_words origin t h v words w = absurd (search)
 
 module _ {S I : Type 0} {gives : I → Option S → I → Type 0} {text : S → List ℕ} where
   -- words of a type's row give its value
@@ -78,37 +93,16 @@ module _ {S I : Type 0} {gives : I → Option S → I → Type 0} {text : S → 
   pub zero_took : {s : I} (origin : Option DomainName) → TookDataWords gives text origin types.ZERO rdata.ZERO s
   zero_took origin = record { type = refl; words = holds_all (λ words. AreDataWords origin types.ZERO rdata.ZERO words) (λ words. record { values = tt; stand = tt; value = record { type = refl; fields = refl; plain = tt } }) }
 
-  pub rowless_refused : {e : ParseError} {s : I} (origin : Option DomainName) (t : RecordType) → ((v : RData) (words : List (List ℕ)) → AreDataWords origin t v words → ⊥) → RefusedDataWords gives text e origin t s
-  rowless_refused {e} origin t none_is = record { none = unless_all e (holds_all (λ words. (v : RData) → AreDataWords origin t v words → ⊥) (λ words v d. none_is v words d)) }
+  -- what is answered of a type that has words
+  pub answers : {r : Result RData ParseError} {s : I} {origin : Option DomainName} (t : RecordType) → (HasNoWords t → ⊥) → ReadsDataWords gives text origin t r s → AnswersDataWords gives text origin t r s
+  answers t has reads = record { reads = reads; unsupported = λ h. absurd (has h) }
 
-pub has_words : {t : RecordType} (u : RecordType) → t ≡ u → (HasNoWords u → ⊥) → HasNoWords t → ⊥
-has_words u e f h = f (subst (λ (k : RecordType). HasNoWords k) e h)
-
--- types whose words are not read
-pub no_words : (origin : Option DomainName) (t : RecordType) → t ≢ types.A → t ≢ types.AAAA → t ≢ types.ANAME → t ≢ types.CAA → t ≢ types.CERT → t ≢ types.CNAME → t ≢ types.CSYNC → t ≢ types.HINFO → t ≢ types.HTTPS → t ≢ types.MX → t ≢ types.NAPTR → t ≢ types.NS → t ≢ types.OPENPGPKEY → t ≢ types.PTR → t ≢ types.SMIMEA → t ≢ types.SOA → t ≢ types.SRV → t ≢ types.SSHFP → t ≢ types.SVCB → t ≢ types.TLSA → t ≢ types.TXT → t ≢ types.ZERO → (v : RData) (words : List (List ℕ)) → AreDataWords origin t v words → ⊥
-no_words origin types.A h0 h1 h2 h3 h4 h5 h6 h7 h8 h9 h10 h11 h12 h13 h14 h15 h16 h17 h18 h19 h20 h21 v words w = h0 refl
-no_words origin types.AAAA h0 h1 h2 h3 h4 h5 h6 h7 h8 h9 h10 h11 h12 h13 h14 h15 h16 h17 h18 h19 h20 h21 v words w = h1 refl
-no_words origin types.ANAME h0 h1 h2 h3 h4 h5 h6 h7 h8 h9 h10 h11 h12 h13 h14 h15 h16 h17 h18 h19 h20 h21 v words w = h2 refl
-no_words origin types.CAA h0 h1 h2 h3 h4 h5 h6 h7 h8 h9 h10 h11 h12 h13 h14 h15 h16 h17 h18 h19 h20 h21 v words w = h3 refl
-no_words origin types.CERT h0 h1 h2 h3 h4 h5 h6 h7 h8 h9 h10 h11 h12 h13 h14 h15 h16 h17 h18 h19 h20 h21 v words w = h4 refl
-no_words origin types.CNAME h0 h1 h2 h3 h4 h5 h6 h7 h8 h9 h10 h11 h12 h13 h14 h15 h16 h17 h18 h19 h20 h21 v words w = h5 refl
-no_words origin types.CSYNC h0 h1 h2 h3 h4 h5 h6 h7 h8 h9 h10 h11 h12 h13 h14 h15 h16 h17 h18 h19 h20 h21 v words w = h6 refl
-no_words origin types.HINFO h0 h1 h2 h3 h4 h5 h6 h7 h8 h9 h10 h11 h12 h13 h14 h15 h16 h17 h18 h19 h20 h21 v words w = h7 refl
-no_words origin types.HTTPS h0 h1 h2 h3 h4 h5 h6 h7 h8 h9 h10 h11 h12 h13 h14 h15 h16 h17 h18 h19 h20 h21 v words w = h8 refl
-no_words origin types.MX h0 h1 h2 h3 h4 h5 h6 h7 h8 h9 h10 h11 h12 h13 h14 h15 h16 h17 h18 h19 h20 h21 v words w = h9 refl
-no_words origin types.NAPTR h0 h1 h2 h3 h4 h5 h6 h7 h8 h9 h10 h11 h12 h13 h14 h15 h16 h17 h18 h19 h20 h21 v words w = h10 refl
-no_words origin types.NS h0 h1 h2 h3 h4 h5 h6 h7 h8 h9 h10 h11 h12 h13 h14 h15 h16 h17 h18 h19 h20 h21 v words w = h11 refl
-no_words origin types.OPENPGPKEY h0 h1 h2 h3 h4 h5 h6 h7 h8 h9 h10 h11 h12 h13 h14 h15 h16 h17 h18 h19 h20 h21 v words w = h12 refl
-no_words origin types.PTR h0 h1 h2 h3 h4 h5 h6 h7 h8 h9 h10 h11 h12 h13 h14 h15 h16 h17 h18 h19 h20 h21 v words w = h13 refl
-no_words origin types.SMIMEA h0 h1 h2 h3 h4 h5 h6 h7 h8 h9 h10 h11 h12 h13 h14 h15 h16 h17 h18 h19 h20 h21 v words w = h14 refl
-no_words origin types.SOA h0 h1 h2 h3 h4 h5 h6 h7 h8 h9 h10 h11 h12 h13 h14 h15 h16 h17 h18 h19 h20 h21 v words w = h15 refl
-no_words origin types.SRV h0 h1 h2 h3 h4 h5 h6 h7 h8 h9 h10 h11 h12 h13 h14 h15 h16 h17 h18 h19 h20 h21 v words w = h16 refl
-no_words origin types.SSHFP h0 h1 h2 h3 h4 h5 h6 h7 h8 h9 h10 h11 h12 h13 h14 h15 h16 h17 h18 h19 h20 h21 v words w = h17 refl
-no_words origin types.SVCB h0 h1 h2 h3 h4 h5 h6 h7 h8 h9 h10 h11 h12 h13 h14 h15 h16 h17 h18 h19 h20 h21 v words w = h18 refl
-no_words origin types.TLSA h0 h1 h2 h3 h4 h5 h6 h7 h8 h9 h10 h11 h12 h13 h14 h15 h16 h17 h18 h19 h20 h21 v words w = h19 refl
-no_words origin types.TXT h0 h1 h2 h3 h4 h5 h6 h7 h8 h9 h10 h11 h12 h13 h14 h15 h16 h17 h18 h19 h20 h21 v words w = h20 refl
-no_words origin types.ZERO h0 h1 h2 h3 h4 h5 h6 h7 h8 h9 h10 h11 h12 h13 h14 h15 h16 h17 h18 h19 h20 h21 v words w = h21 refl
-no_words origin t h0 h1 h2 h3 h4 h5 h6 h7 h8 h9 h10 h11 h12 h13 h14 h15 h16 h17 h18 h19 h20 h21 v words w = w
+  -- and of a type that has none
+  pub answers_no_words : {s : I} (origin : Option DomainName) (t : RecordType) → HasNoWords t → AnswersDataWords gives text origin t (Err (parse.UnsupportedRecordType t)) s
+  answers_no_words origin t none = record {
+    reads = record { none = holds_all (λ words. (v : RData) → AreDataWords origin t v words → ⊥) (λ words v d. no_words origin t none v words d) };
+    unsupported = λ h. refl;
+  }
 
 -- ---- printed values
 

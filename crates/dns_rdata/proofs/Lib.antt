@@ -3,7 +3,6 @@ pub mod DataReads
 pub mod DataLaws
 pub mod CursorSteps
 pub mod DataWords
-pub mod KnownOrders
+pub mod QuickOrders
 pub mod OrderReads
-pub mod Ranks
 pub mod WholeOctets

@@ -11,28 +11,23 @@ use Rattle.dns_types.specs.declared.record_type.RecordType.{RecordType}
 use Rattle.dns_types.specs.declared.record_type.RecordType.TheVariants as types
 use Rattle.dns_names_wire.specs.Words.{Window}
 use Rattle.dns_fields.proofs.Laws.{stands_fit}
-use Rattle.dns_rdata_base.specs.SOA.{soa_shape}
 use Rattle.dns_rdata_base.proofs.SoaValues.{soa_from, soa_from-fields, soa_fields-from, soa_from-seconds}
 use Rattle.dns_rdata_base.proofs.Addresses.{octets_of-segments, segments_of-octets_of}
-use Rattle.dns_rdata_certs.specs.CERT.{cert_shape, cert_fields, cert_key_shape, cert_keys}
-use Rattle.dns_rdata_certs.specs.SMIMEA.{smimea_shape, smimea_fields, smimea_key_shape, smimea_keys}
-use Rattle.dns_rdata_certs.specs.SSHFP.{sshfp_shape, sshfp_fields, sshfp_key_shape, sshfp_keys}
-use Rattle.dns_rdata_certs.specs.TLSA.{tlsa_shape, tlsa_fields, tlsa_key_shape, tlsa_keys}
 use Rattle.dns_rdata_certs.proofs.Values.{cert_from, cert_from-fields, cert_fields-from, cert_from-read, cert_keys-same, smimea_from}
 use Rattle.dns_rdata_certs.proofs.Values.{smimea_from-fields, smimea_fields-from, smimea_from-read, smimea_keys-same, sshfp_from}
 use Rattle.dns_rdata_certs.proofs.Values.{sshfp_from-fields, sshfp_fields-from, sshfp_from-read, sshfp_keys-same, tlsa_from}
 use Rattle.dns_rdata_certs.proofs.Values.{tlsa_from-fields, tlsa_fields-from, tlsa_from-read, tlsa_keys-same}
-use Rattle.dns_rdata_service.specs.HTTPS.{https_shape}
-use Rattle.dns_rdata_service.specs.SVCB.{svcb_shape}
 use Rattle.dns_rdata_service.proofs.SvcbValues.{https_from, https_from-fields, https_fields-from, https_from-read, https_equal, svcb_from}
 use Rattle.dns_rdata_service.proofs.SvcbValues.{svcb_from-fields, svcb_fields-from, svcb_from-read, svcb_equal}
-use Rattle.dns_rdata_sets.specs.CAA.{caa_shape, caa_fields, caa_key_shape, caa_keys}
 use Rattle.dns_rdata_sets.proofs.CaaValues.{caa_from, caa_from-fields, caa_fields-from, caa_from-read, caa_keys-same}
-use Rattle.dns_rdata_sets.specs.CSYNC.{csync_shape, csync_fields, csync_key_shape, csync_keys}
 use Rattle.dns_rdata_sets.proofs.CsyncValues.{csync_from, csync_from-fields, csync_fields-from, csync_from-read, csync_keys-same}
-use Rattle.dns_rdata_options.specs.OPT.{opt_shape, opt_from}
 use Rattle.dns_rdata_options.proofs.Values.{opt_from-fields, opt_fields-from, opt_from-read, opt_equal}
 use Rattle.dns_rdata_base.specs.declared.null.NULL.{NULL}
+use Rattle.dns_rdata_base.specs as base
+use Rattle.dns_rdata_certs.specs as certs
+use Rattle.dns_rdata_options.specs as options
+use Rattle.dns_rdata_service.specs as service
+use Rattle.dns_rdata_sets.specs as sets
 use Rattle.dns_rdata.specs.declared.record_data.RData.{RData}
 use Rattle.dns_rdata.specs.declared.record_data.RData.TheVariants as rdata
 use Rattle.dns_rdata.specs.Data.{shape, condition, FieldsOf, fields_of, type_of, IsRowless, IsPlain, IsValue}
@@ -103,7 +98,7 @@ value_for types.NAPTR vs = rdata.NAPTR (record
 value_for types.NULL vs = rdata.NULL (record { anything = vs.0 })
 value_for types.NS vs = rdata.NS (record { 0 = vs.0 })
 value_for types.OPENPGPKEY vs = rdata.OPENPGPKEY (record { public_key = vs.0 })
-value_for types.OPT vs = rdata.OPT (opt_from vs)
+value_for types.OPT vs = rdata.OPT (options.OPT.opt_from vs)
 value_for types.PTR vs = rdata.PTR (record { 0 = vs.0 })
 value_for types.SMIMEA vs = rdata.SMIMEA (smimea_from vs)
 value_for types.SOA vs = rdata.SOA (soa_from vs)
@@ -165,22 +160,22 @@ window_value m p n types.AAAA vs w =
     let e : octets_of (segments_of vs.0) ≡ vs.0 = octets_of-segments 8 vs.0 w.stands.1.is.0 (AreOctets-at m p vs.0 w.stands.0 w.octets w.stands.1.is.1) in
     record { type = refl; fields = of_kinds (Octets 16 ∷ []) (ap (λ (o : List ℕ). (o, tt)) e); plain = tt }
 window_value m p n types.CAA vs w =
-    let f = stands_fit m p caa_shape vs (p + n) w.stands in
-    record { type = refl; fields = of_kinds caa_shape (caa_fields-from vs f); plain = caa_from-read vs }
-window_value m p n types.CERT vs w = record { type = refl; fields = of_kinds cert_shape (cert_fields-from vs); plain = cert_from-read vs }
-window_value m p n types.CSYNC vs w = record { type = refl; fields = of_kinds csync_shape (csync_fields-from vs); plain = csync_from-read vs }
+    let f = stands_fit m p sets.CAA.caa_shape vs (p + n) w.stands in
+    record { type = refl; fields = of_kinds sets.CAA.caa_shape (caa_fields-from vs f); plain = caa_from-read vs }
+window_value m p n types.CERT vs w = record { type = refl; fields = of_kinds certs.CERT.cert_shape (cert_fields-from vs); plain = cert_from-read vs }
+window_value m p n types.CSYNC vs w = record { type = refl; fields = of_kinds sets.CSYNC.csync_shape (csync_fields-from vs); plain = csync_from-read vs }
 window_value m p n types.OPT vs w = record
-    { type = refl; fields = of_kinds opt_shape (opt_fields-from m p vs (p + n) w.octets w.stands); plain = opt_from-read m p vs (p + n) w.octets w.stands }
+    { type = refl; fields = of_kinds options.OPT.opt_shape (opt_fields-from m p vs (p + n) w.octets w.stands); plain = opt_from-read m p vs (p + n) w.octets w.stands }
 window_value m p n types.SVCB vs w = record
-    { type = refl; fields = of_kinds svcb_shape (svcb_fields-from m p n (condition types.SVCB) vs w); plain = svcb_from-read vs }
+    { type = refl; fields = of_kinds service.SVCB.svcb_shape (svcb_fields-from m p n (condition types.SVCB) vs w); plain = svcb_from-read vs }
 window_value m p n types.HTTPS vs w = record
-    { type = refl; fields = of_kinds https_shape (https_fields-from m p n (condition types.HTTPS) vs w); plain = https_from-read vs }
-window_value m p n types.SMIMEA vs w = record { type = refl; fields = of_kinds smimea_shape (smimea_fields-from vs); plain = smimea_from-read vs }
+    { type = refl; fields = of_kinds service.HTTPS.https_shape (https_fields-from m p n (condition types.HTTPS) vs w); plain = https_from-read vs }
+window_value m p n types.SMIMEA vs w = record { type = refl; fields = of_kinds certs.SMIMEA.smimea_shape (smimea_fields-from vs); plain = smimea_from-read vs }
 window_value m p n types.SOA vs w =
-    let f = stands_fit m p soa_shape vs (p + n) w.stands in
-    record { type = refl; fields = of_kinds soa_shape (soa_fields-from vs f); plain = soa_from-seconds vs f }
-window_value m p n types.SSHFP vs w = record { type = refl; fields = of_kinds sshfp_shape (sshfp_fields-from vs); plain = sshfp_from-read vs }
-window_value m p n types.TLSA vs w = record { type = refl; fields = of_kinds tlsa_shape (tlsa_fields-from vs); plain = tlsa_from-read vs }
+    let f = stands_fit m p base.SOA.soa_shape vs (p + n) w.stands in
+    record { type = refl; fields = of_kinds base.SOA.soa_shape (soa_fields-from vs f); plain = soa_from-seconds vs f }
+window_value m p n types.SSHFP vs w = record { type = refl; fields = of_kinds certs.SSHFP.sshfp_shape (sshfp_fields-from vs); plain = sshfp_from-read vs }
+window_value m p n types.TLSA vs w = record { type = refl; fields = of_kinds certs.TLSA.tlsa_shape (tlsa_fields-from vs); plain = tlsa_from-read vs }
 window_value m p n types.ANY vs w = absurd w.holds
 window_value m p n types.AXFR vs w = absurd w.holds
 window_value m p n types.IXFR vs w = absurd w.holds
@@ -214,48 +209,34 @@ pub equal_values : (t : RecordType) (vs ws : Values (shape t)) → condition t v
     → equal (value_for t vs) (value_for t ws) ≡ values_eq (shape t) (fields_for t vs) (fields_for t ws)
 unfolding value_for values_as value_as
 equal_values types.CAA vs ws h a b = and_true _
-    ∙ equal_keys caa_key_shape caa_shape (caa_keys (caa_from vs)) (caa_keys (caa_from ws)) (caa_fields (caa_from vs)) (caa_fields (caa_from ws))
+    ∙ equal_keys sets.CAA.caa_key_shape sets.CAA.caa_shape (sets.CAA.caa_keys (caa_from vs)) (sets.CAA.caa_keys (caa_from ws)) (sets.CAA.caa_fields (caa_from vs)) (sets.CAA.caa_fields (caa_from ws))
     (tt, (tt, (tt, (tt, tt)))) (tt, (tt, (tt, (tt, tt)))) (tt, (tt, (tt, tt))) (tt, (tt, (tt, tt)))
     (caa_keys-same (caa_from vs) (caa_from ws) (caa_from-read vs) (caa_from-read ws))
 equal_values types.CERT vs ws h a b = and_true _
-    ∙ equal_keys cert_key_shape cert_shape (cert_keys (cert_from vs)) (cert_keys (cert_from ws)) (cert_fields (cert_from vs)) (cert_fields (cert_from ws))
+    ∙ equal_keys certs.CERT.cert_key_shape certs.CERT.cert_shape (certs.CERT.cert_keys (cert_from vs)) (certs.CERT.cert_keys (cert_from ws)) (certs.CERT.cert_fields (cert_from vs)) (certs.CERT.cert_fields (cert_from ws))
     (tt, (tt, (tt, (tt, (tt, (tt, tt)))))) (tt, (tt, (tt, (tt, (tt, (tt, tt)))))) (tt, (tt, (tt, (tt, tt)))) (tt, (tt, (tt, (tt, tt))))
     (cert_keys-same (cert_from vs) (cert_from ws) (cert_from-read vs) (cert_from-read ws))
 equal_values types.CSYNC vs ws h a b = and_true _
-    ∙ equal_keys csync_key_shape csync_shape (csync_keys (csync_from vs)) (csync_keys (csync_from ws)) (csync_fields (csync_from vs))
-    (csync_fields (csync_from ws)) (tt, (tt, (tt, (tt, (tt, tt))))) (tt, (tt, (tt, (tt, (tt, tt))))) (tt, (tt, (tt, tt))) (tt, (tt, (tt, tt)))
+    ∙ equal_keys sets.CSYNC.csync_key_shape sets.CSYNC.csync_shape (sets.CSYNC.csync_keys (csync_from vs)) (sets.CSYNC.csync_keys (csync_from ws)) (sets.CSYNC.csync_fields (csync_from vs))
+    (sets.CSYNC.csync_fields (csync_from ws)) (tt, (tt, (tt, (tt, (tt, tt))))) (tt, (tt, (tt, (tt, (tt, tt))))) (tt, (tt, (tt, tt))) (tt, (tt, (tt, tt)))
     (csync_keys-same (csync_from vs) (csync_from ws) (csync_from-read vs) (csync_from-read ws))
-equal_values types.OPT vs ws h a b = and_true _ ∙ opt_equal (opt_from vs) (opt_from ws) a b
+equal_values types.OPT vs ws h a b = and_true _ ∙ opt_equal (options.OPT.opt_from vs) (options.OPT.opt_from ws) a b
 equal_values types.SVCB vs ws h a b = and_true _ ∙ svcb_equal (svcb_from vs) (svcb_from ws) (svcb_from-read vs) (svcb_from-read ws)
 equal_values types.HTTPS vs ws h a b = and_true _ ∙ https_equal (https_from vs) (https_from ws) (https_from-read vs) (https_from-read ws)
 equal_values types.SMIMEA vs ws h a b = and_true _
-    ∙ equal_keys smimea_key_shape smimea_shape (smimea_keys (smimea_from vs)) (smimea_keys (smimea_from ws)) (smimea_fields (smimea_from vs))
-    (smimea_fields (smimea_from ws)) (tt, (tt, (tt, (tt, (tt, (tt, (tt, tt))))))) (tt, (tt, (tt, (tt, (tt, (tt, (tt, tt))))))) (tt, (tt, (tt, (tt, tt))))
+    ∙ equal_keys certs.SMIMEA.smimea_key_shape certs.SMIMEA.smimea_shape (certs.SMIMEA.smimea_keys (smimea_from vs)) (certs.SMIMEA.smimea_keys (smimea_from ws)) (certs.SMIMEA.smimea_fields (smimea_from vs))
+    (certs.SMIMEA.smimea_fields (smimea_from ws)) (tt, (tt, (tt, (tt, (tt, (tt, (tt, tt))))))) (tt, (tt, (tt, (tt, (tt, (tt, (tt, tt))))))) (tt, (tt, (tt, (tt, tt))))
     (tt, (tt, (tt, (tt, tt)))) (smimea_keys-same (smimea_from vs) (smimea_from ws) (smimea_from-read vs) (smimea_from-read ws))
 equal_values types.SSHFP vs ws h a b = and_true _
-    ∙ equal_keys sshfp_key_shape sshfp_shape (sshfp_keys (sshfp_from vs)) (sshfp_keys (sshfp_from ws)) (sshfp_fields (sshfp_from vs))
-    (sshfp_fields (sshfp_from ws)) (tt, (tt, (tt, (tt, (tt, tt))))) (tt, (tt, (tt, (tt, (tt, tt))))) (tt, (tt, (tt, tt))) (tt, (tt, (tt, tt)))
+    ∙ equal_keys certs.SSHFP.sshfp_key_shape certs.SSHFP.sshfp_shape (certs.SSHFP.sshfp_keys (sshfp_from vs)) (certs.SSHFP.sshfp_keys (sshfp_from ws)) (certs.SSHFP.sshfp_fields (sshfp_from vs))
+    (certs.SSHFP.sshfp_fields (sshfp_from ws)) (tt, (tt, (tt, (tt, (tt, tt))))) (tt, (tt, (tt, (tt, (tt, tt))))) (tt, (tt, (tt, tt))) (tt, (tt, (tt, tt)))
     (sshfp_keys-same (sshfp_from vs) (sshfp_from ws) (sshfp_from-read vs) (sshfp_from-read ws))
 equal_values types.TLSA vs ws h a b = and_true _
-    ∙ equal_keys tlsa_key_shape tlsa_shape (tlsa_keys (tlsa_from vs)) (tlsa_keys (tlsa_from ws)) (tlsa_fields (tlsa_from vs)) (tlsa_fields (tlsa_from ws))
+    ∙ equal_keys certs.TLSA.tlsa_key_shape certs.TLSA.tlsa_shape (certs.TLSA.tlsa_keys (tlsa_from vs)) (certs.TLSA.tlsa_keys (tlsa_from ws)) (certs.TLSA.tlsa_fields (tlsa_from vs)) (certs.TLSA.tlsa_fields (tlsa_from ws))
     (tt, (tt, (tt, (tt, (tt, (tt, (tt, tt))))))) (tt, (tt, (tt, (tt, (tt, (tt, (tt, tt))))))) (tt, (tt, (tt, (tt, tt)))) (tt, (tt, (tt, (tt, tt))))
     (tlsa_keys-same (tlsa_from vs) (tlsa_from ws) (tlsa_from-read vs) (tlsa_from-read ws))
-equal_values types.A vs ws h a b = and_true (values_eq (shape types.A) (vs.0, tt) (ws.0, tt))
-equal_values types.AAAA vs ws h a b = and_true _
-equal_values types.ANAME vs ws h a b = and_true _
-equal_values types.CNAME vs ws h a b = and_true _
-equal_values types.HINFO vs ws h a b = and_true _
-equal_values types.MX vs ws h a b = and_true _
-equal_values types.NAPTR vs ws h a b = and_true _
-equal_values types.NULL vs ws h a b = and_true _
-equal_values types.NS vs ws h a b = and_true _
-equal_values types.OPENPGPKEY vs ws h a b = and_true _
-equal_values types.PTR vs ws h a b = and_true _
-equal_values types.SOA vs ws h a b = and_true _
-equal_values types.SRV vs ws h a b = and_true _
-equal_values types.TXT vs ws h a b = and_true _
 equal_values types.ZERO vs ws h a b = refl
 equal_values types.ANY vs ws h a b = absurd h
 equal_values types.AXFR vs ws h a b = absurd h
 equal_values types.IXFR vs ws h a b = absurd h
-equal_values t vs ws h a b = rw (type_itself t) (and_true _)
+equal_values t vs ws h a b = simp (type_itself, and_true)

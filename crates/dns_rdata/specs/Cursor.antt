@@ -3,58 +3,43 @@ use Rattle.std.specs.Prelude.{◌≡◌, ℕ, ◌+◌, ◌-◌, ◌*◌, ◌<◌
 use Rattle.dns_pieces.specs.Runs.{Shares}
 use Rattle.dns_pieces.specs.Steps.{Left, AllShort, by_fields}
 use Rattle.dns_pieces.specs.declared.step.Step.{Step}
-use Rattle.dns_rdata_base.specs.Steps.{at_once, hinfo_begins, naptr_begins, soa_begins, texts_left}
-use Rattle.dns_rdata_options.specs.Steps.{pairs_emittable, opt_left, options_left, OptionsAt, HeadsKept}
 use Rattle.dns_rdata_options.specs.declared.heads.Heads.{Heads}
-use Rattle.dns_rdata_service.specs.Steps.{svcb_left, are_emittable}
-use Rattle.dns_rdata_sets.specs.Steps.{caa_begins, csync_left, csync_windows}
-use Rattle.dns_rdata_base.specs.A.{a_shape, a_fields}
-use Rattle.dns_rdata_base.specs.AAAA.{aaaa_shape, aaaa_fields}
-use Rattle.dns_rdata_base.specs.NameRecords.{name_shape, aname_fields, cname_fields, ns_fields, ptr_fields}
-use Rattle.dns_rdata_base.specs.HINFO.{hinfo_shape, hinfo_fields}
-use Rattle.dns_rdata_base.specs.MX.{mx_shape, mx_fields}
-use Rattle.dns_rdata_base.specs.NAPTR.{naptr_shape, naptr_fields}
-use Rattle.dns_rdata_base.specs.NULL.{null_shape, null_fields}
-use Rattle.dns_rdata_base.specs.OPENPGPKEY.{openpgpkey_shape, openpgpkey_fields}
-use Rattle.dns_rdata_base.specs.SOA.{soa_shape, soa_fields}
-use Rattle.dns_rdata_base.specs.SRV.{srv_shape, srv_fields}
-use Rattle.dns_rdata_base.specs.TXT.{txt_shape, txt_fields}
-use Rattle.dns_rdata_certs.specs.CERT.{cert_shape, cert_fields}
-use Rattle.dns_rdata_certs.specs.SMIMEA.{smimea_shape, smimea_fields}
-use Rattle.dns_rdata_certs.specs.SSHFP.{sshfp_shape, sshfp_fields}
-use Rattle.dns_rdata_certs.specs.TLSA.{tlsa_shape, tlsa_fields}
-use Rattle.dns_rdata_sets.specs.CAA.{caa_shape, caa_fields}
 use Rattle.dns_fields.specs.Fields.{all_emittable}
+use Rattle.dns_rdata_base.specs as base
+use Rattle.dns_rdata_certs.specs as certs
+use Rattle.dns_rdata_options.specs as options
+use Rattle.dns_rdata_service.specs as service
+use Rattle.dns_rdata_sets.specs as sets
 use Rattle.dns_rdata.specs.Data.{fields_of}
 use Rattle.dns_rdata.specs.declared.record_data.RData.{RData}
 use Rattle.dns_rdata.specs.declared.record_data.RData.TheVariants as rdata
 
 -- what is left of a value's canonical octets at each place
 abbrev pub data_left : RData → Left
-data_left (rdata.A x) = by_fields at_once a_shape (a_fields x)
-data_left (rdata.AAAA x) = by_fields at_once aaaa_shape (aaaa_fields x)
-data_left (rdata.ANAME x) = by_fields at_once name_shape (aname_fields x)
-data_left (rdata.CAA x) = by_fields caa_begins caa_shape (caa_fields x)
-data_left (rdata.CERT x) = by_fields at_once cert_shape (cert_fields x)
-data_left (rdata.CNAME x) = by_fields at_once name_shape (cname_fields x)
-data_left (rdata.CSYNC x) = csync_left x
-data_left (rdata.HINFO x) = by_fields hinfo_begins hinfo_shape (hinfo_fields x)
-data_left (rdata.HTTPS x) = svcb_left x.0
-data_left (rdata.MX x) = by_fields at_once mx_shape (mx_fields x)
-data_left (rdata.NAPTR x) = by_fields naptr_begins naptr_shape (naptr_fields x)
-data_left (rdata.NULL x) = by_fields at_once null_shape (null_fields x)
-data_left (rdata.NS x) = by_fields at_once name_shape (ns_fields x)
-data_left (rdata.OPENPGPKEY x) = by_fields at_once openpgpkey_shape (openpgpkey_fields x)
-data_left (rdata.OPT x) = opt_left x
-data_left (rdata.PTR x) = by_fields at_once name_shape (ptr_fields x)
-data_left (rdata.SMIMEA x) = by_fields at_once smimea_shape (smimea_fields x)
-data_left (rdata.SOA x) = by_fields soa_begins soa_shape (soa_fields x)
-data_left (rdata.SRV x) = by_fields at_once srv_shape (srv_fields x)
-data_left (rdata.SSHFP x) = by_fields at_once sshfp_shape (sshfp_fields x)
-data_left (rdata.SVCB x) = svcb_left x
-data_left (rdata.TLSA x) = by_fields at_once tlsa_shape (tlsa_fields x)
-data_left (rdata.TXT x) = texts_left x.txt_data
-data_left (rdata.Unknown code x) = by_fields at_once null_shape (null_fields x)
+data_left (rdata.A x) = by_fields base.Steps.at_once base.A.a_shape (base.A.a_fields x)
+data_left (rdata.AAAA x) = by_fields base.Steps.at_once base.AAAA.aaaa_shape (base.AAAA.aaaa_fields x)
+data_left (rdata.ANAME x) = by_fields base.Steps.at_once base.NameRecords.name_shape (base.NameRecords.aname_fields x)
+data_left (rdata.CAA x) = by_fields sets.Steps.caa_begins sets.CAA.caa_shape (sets.CAA.caa_fields x)
+data_left (rdata.CERT x) = by_fields base.Steps.at_once certs.CERT.cert_shape (certs.CERT.cert_fields x)
+data_left (rdata.CNAME x) = by_fields base.Steps.at_once base.NameRecords.name_shape (base.NameRecords.cname_fields x)
+data_left (rdata.CSYNC x) = sets.Steps.csync_left x
+data_left (rdata.HINFO x) = by_fields base.Steps.hinfo_begins base.HINFO.hinfo_shape (base.HINFO.hinfo_fields x)
+data_left (rdata.HTTPS x) = service.Steps.svcb_left x.0
+data_left (rdata.MX x) = by_fields base.Steps.at_once base.MX.mx_shape (base.MX.mx_fields x)
+data_left (rdata.NAPTR x) = by_fields base.Steps.naptr_begins base.NAPTR.naptr_shape (base.NAPTR.naptr_fields x)
+data_left (rdata.NULL x) = by_fields base.Steps.at_once base.NULL.null_shape (base.NULL.null_fields x)
+data_left (rdata.NS x) = by_fields base.Steps.at_once base.NameRecords.name_shape (base.NameRecords.ns_fields x)
+data_left (rdata.OPENPGPKEY x) = by_fields base.Steps.at_once base.OPENPGPKEY.openpgpkey_shape (base.OPENPGPKEY.openpgpkey_fields x)
+data_left (rdata.OPT x) = options.Steps.opt_left x
+data_left (rdata.PTR x) = by_fields base.Steps.at_once base.NameRecords.name_shape (base.NameRecords.ptr_fields x)
+data_left (rdata.SMIMEA x) = by_fields base.Steps.at_once certs.SMIMEA.smimea_shape (certs.SMIMEA.smimea_fields x)
+data_left (rdata.SOA x) = by_fields base.Steps.soa_begins base.SOA.soa_shape (base.SOA.soa_fields x)
+data_left (rdata.SRV x) = by_fields base.Steps.at_once base.SRV.srv_shape (base.SRV.srv_fields x)
+data_left (rdata.SSHFP x) = by_fields base.Steps.at_once certs.SSHFP.sshfp_shape (certs.SSHFP.sshfp_fields x)
+data_left (rdata.SVCB x) = service.Steps.svcb_left x
+data_left (rdata.TLSA x) = by_fields base.Steps.at_once certs.TLSA.tlsa_shape (certs.TLSA.tlsa_fields x)
+data_left (rdata.TXT x) = base.Steps.texts_left x.txt_data
+data_left (rdata.Unknown code x) = by_fields base.Steps.at_once base.NULL.null_shape (base.NULL.null_fields x)
 data_left (rdata.Update0 t) = λ n i j. []
 data_left rdata.ZERO = λ n i j. []
 
@@ -64,7 +49,7 @@ can_emit v = all_emittable (fields_of v).kinds (fields_of v).values
 
 -- how many windows of a set of types are not begun
 abbrev pub data_windows : RData → ℕ → ℕ → ℕ
-data_windows (rdata.CSYNC x) = csync_windows x
+data_windows (rdata.CSYNC x) = sets.Steps.csync_windows x
 data_windows v = λ n i. 0
 
 -- how many options there are, and how many are not begun
@@ -73,7 +58,7 @@ data_options (rdata.OPT x) = length x
 data_options v = 0
 
 abbrev pub data_options_left : RData → ℕ → ℕ → ℕ → ℕ
-data_options_left (rdata.OPT x) = options_left x
+data_options_left (rdata.OPT x) = options.Steps.options_left x
 data_options_left v = λ n i j. 0
 
 -- it has no counted step
@@ -84,18 +69,18 @@ IsUncounted v = Unit {0}
 
 -- a place that a cursor reaches, of a value that can be emitted
 abbrev pub DataAt : RData → ℕ → ℕ → ℕ → Type 0
-DataAt (rdata.CAA x) n i j = AllShort caa_shape (caa_fields x)
-DataAt (rdata.HINFO x) n i j = AllShort hinfo_shape (hinfo_fields x)
-DataAt (rdata.HTTPS x) n i j = are_emittable x.0.svc_params
-DataAt (rdata.NAPTR x) n i j = AllShort naptr_shape (naptr_fields x)
-DataAt (rdata.OPT x) n i j = (pairs_emittable x ≡ true) × OptionsAt x n i j
-DataAt (rdata.SVCB x) n i j = are_emittable x.svc_params
-DataAt (rdata.TXT x) n i j = AllShort txt_shape (txt_fields x)
+DataAt (rdata.CAA x) n i j = AllShort sets.CAA.caa_shape (sets.CAA.caa_fields x)
+DataAt (rdata.HINFO x) n i j = AllShort base.HINFO.hinfo_shape (base.HINFO.hinfo_fields x)
+DataAt (rdata.HTTPS x) n i j = service.Steps.are_emittable x.0.svc_params
+DataAt (rdata.NAPTR x) n i j = AllShort base.NAPTR.naptr_shape (base.NAPTR.naptr_fields x)
+DataAt (rdata.OPT x) n i j = (options.Steps.pairs_emittable x ≡ true) × options.Steps.OptionsAt x n i j
+DataAt (rdata.SVCB x) n i j = service.Steps.are_emittable x.svc_params
+DataAt (rdata.TXT x) n i j = AllShort base.TXT.txt_shape (base.TXT.txt_fields x)
 DataAt v n i j = Unit {0}
 
 -- what a cursor keeps there
 abbrev pub DataKept : RData → ℕ → ℕ → Option Heads → Type 0
-DataKept (rdata.OPT x) n i heads = HeadsKept x n i heads
+DataKept (rdata.OPT x) n i heads = options.Steps.HeadsKept x n i heads
 DataKept v n i heads = Unit {0}
 
 -- of a value that cannot be emitted there is nothing

@@ -9,27 +9,11 @@ use Rattle.dns_types.specs.declared.error.DecodeError.{DecodeError}
 use Rattle.dns_types.specs.declared.error.DecodeError.TheVariants as decode
 use Rattle.dns_names_wire.specs.State.{Reading}
 use Rattle.dns_names_wire.specs.Words.{StaysBehind, UnlessMemory, LacksOctets, Window, NoWindow}
-use Rattle.dns_rdata_base.specs.Refusing.{IsLack}
-use Rattle.dns_rdata_base.specs.A.{a_shape, a_fields, a_refusal}
-use Rattle.dns_rdata_base.specs.AAAA.{aaaa_shape, aaaa_fields, aaaa_refusal}
-use Rattle.dns_rdata_base.specs.NameRecords.{name_shape, aname_fields, cname_fields, ns_fields, ptr_fields}
-use Rattle.dns_rdata_certs.specs.CERT.{cert_shape, cert_fields, cert_condition, cert_refusal, IsReadCert}
-use Rattle.dns_rdata_base.specs.HINFO.{hinfo_shape, hinfo_fields, hinfo_refusal}
-use Rattle.dns_rdata_base.specs.MX.{mx_shape, mx_fields}
-use Rattle.dns_rdata_base.specs.NAPTR.{naptr_shape, naptr_fields, naptr_condition, naptr_refusal}
-use Rattle.dns_rdata_base.specs.NULL.{null_shape, null_fields}
-use Rattle.dns_rdata_base.specs.OPENPGPKEY.{openpgpkey_shape, openpgpkey_fields, openpgpkey_refusal}
-use Rattle.dns_rdata_certs.specs.SMIMEA.{smimea_shape, smimea_fields, smimea_refusal, IsReadSmimea}
-use Rattle.dns_rdata_base.specs.SOA.{soa_shape, soa_fields, HasSeconds}
-use Rattle.dns_rdata_base.specs.SRV.{srv_shape, srv_fields}
-use Rattle.dns_rdata_certs.specs.SSHFP.{sshfp_shape, sshfp_fields, sshfp_refusal, IsReadSshfp}
-use Rattle.dns_rdata_certs.specs.TLSA.{tlsa_shape, tlsa_fields, tlsa_refusal, IsReadTlsa}
-use Rattle.dns_rdata_base.specs.TXT.{txt_shape, txt_fields, txt_refusal}
-use Rattle.dns_rdata_options.specs.OPT.{opt_shape, opt_fields, opt_refusal, IsReadOpt}
-use Rattle.dns_rdata_service.specs.HTTPS.{https_shape, https_fields, https_condition, https_refusal, IsReadHttps}
-use Rattle.dns_rdata_service.specs.SVCB.{svcb_shape, svcb_fields, svcb_condition, svcb_refusal, IsReadSvcb}
-use Rattle.dns_rdata_sets.specs.CAA.{caa_shape, caa_fields, caa_condition, caa_refusal, IsReadCaa}
-use Rattle.dns_rdata_sets.specs.CSYNC.{csync_shape, csync_fields, csync_condition, csync_refusal, IsReadCsync}
+use Rattle.dns_rdata_base.specs as base
+use Rattle.dns_rdata_certs.specs as certs
+use Rattle.dns_rdata_options.specs as options
+use Rattle.dns_rdata_service.specs as service
+use Rattle.dns_rdata_sets.specs as sets
 use Rattle.dns_rdata.specs.declared.record_data.RData.{RData}
 use Rattle.dns_rdata.specs.declared.record_data.RData.TheVariants as rdata
 
@@ -48,36 +32,36 @@ anything kinds vs = Unit {0}
 
 -- memory ran out, or a field does not stand
 abbrev pub lacking : List Kind → ℕ → Reading → DecodeError → Reading → Type 0
-lacking kinds n old e new = IsLack kinds old e new
+lacking kinds n old e new = base.Refusing.IsLack kinds old e new
 
 -- fewer octets are left than the length
 abbrev pub short_refusal : ℕ → Reading → DecodeError → Reading → Type 0
 short_refusal n old e new = (e ≡ decode.InsufficientBytes) × LacksOctets old n
 
 abbrev pub row_of : RecordType → Row
-row_of types.A = row a_shape (anything a_shape) (λ n. a_refusal)
-row_of types.AAAA = row aaaa_shape (anything aaaa_shape) (λ n. aaaa_refusal)
-row_of types.ANAME = row name_shape (anything name_shape) (lacking name_shape)
-row_of types.CAA = row caa_shape caa_condition caa_refusal
-row_of types.CERT = row cert_shape cert_condition cert_refusal
-row_of types.CNAME = row name_shape (anything name_shape) (lacking name_shape)
-row_of types.CSYNC = row csync_shape csync_condition csync_refusal
-row_of types.HINFO = row hinfo_shape (anything hinfo_shape) (λ n. hinfo_refusal)
-row_of types.HTTPS = row https_shape https_condition https_refusal
-row_of types.MX = row mx_shape (anything mx_shape) (lacking mx_shape)
-row_of types.NAPTR = row naptr_shape naptr_condition (λ n. naptr_refusal)
-row_of types.NULL = row null_shape (anything null_shape) short_refusal
-row_of types.NS = row name_shape (anything name_shape) (lacking name_shape)
-row_of types.OPENPGPKEY = row openpgpkey_shape (anything openpgpkey_shape) openpgpkey_refusal
-row_of types.OPT = row opt_shape (anything opt_shape) opt_refusal
-row_of types.PTR = row name_shape (anything name_shape) (lacking name_shape)
-row_of types.SMIMEA = row smimea_shape (anything smimea_shape) smimea_refusal
-row_of types.SOA = row soa_shape (anything soa_shape) (lacking soa_shape)
-row_of types.SRV = row srv_shape (anything srv_shape) (lacking srv_shape)
-row_of types.SSHFP = row sshfp_shape (anything sshfp_shape) sshfp_refusal
-row_of types.SVCB = row svcb_shape svcb_condition svcb_refusal
-row_of types.TLSA = row tlsa_shape (anything tlsa_shape) tlsa_refusal
-row_of types.TXT = row txt_shape (anything txt_shape) txt_refusal
+row_of types.A = row base.A.a_shape (anything base.A.a_shape) (λ n. base.A.a_refusal)
+row_of types.AAAA = row base.AAAA.aaaa_shape (anything base.AAAA.aaaa_shape) (λ n. base.AAAA.aaaa_refusal)
+row_of types.ANAME = row base.NameRecords.name_shape (anything base.NameRecords.name_shape) (lacking base.NameRecords.name_shape)
+row_of types.CAA = row sets.CAA.caa_shape sets.CAA.caa_condition sets.CAA.caa_refusal
+row_of types.CERT = row certs.CERT.cert_shape certs.CERT.cert_condition certs.CERT.cert_refusal
+row_of types.CNAME = row base.NameRecords.name_shape (anything base.NameRecords.name_shape) (lacking base.NameRecords.name_shape)
+row_of types.CSYNC = row sets.CSYNC.csync_shape sets.CSYNC.csync_condition sets.CSYNC.csync_refusal
+row_of types.HINFO = row base.HINFO.hinfo_shape (anything base.HINFO.hinfo_shape) (λ n. base.HINFO.hinfo_refusal)
+row_of types.HTTPS = row service.HTTPS.https_shape service.HTTPS.https_condition service.HTTPS.https_refusal
+row_of types.MX = row base.MX.mx_shape (anything base.MX.mx_shape) (lacking base.MX.mx_shape)
+row_of types.NAPTR = row base.NAPTR.naptr_shape base.NAPTR.naptr_condition (λ n. base.NAPTR.naptr_refusal)
+row_of types.NULL = row base.NULL.null_shape (anything base.NULL.null_shape) short_refusal
+row_of types.NS = row base.NameRecords.name_shape (anything base.NameRecords.name_shape) (lacking base.NameRecords.name_shape)
+row_of types.OPENPGPKEY = row base.OPENPGPKEY.openpgpkey_shape (anything base.OPENPGPKEY.openpgpkey_shape) base.OPENPGPKEY.openpgpkey_refusal
+row_of types.OPT = row options.OPT.opt_shape (anything options.OPT.opt_shape) options.OPT.opt_refusal
+row_of types.PTR = row base.NameRecords.name_shape (anything base.NameRecords.name_shape) (lacking base.NameRecords.name_shape)
+row_of types.SMIMEA = row certs.SMIMEA.smimea_shape (anything certs.SMIMEA.smimea_shape) certs.SMIMEA.smimea_refusal
+row_of types.SOA = row base.SOA.soa_shape (anything base.SOA.soa_shape) (lacking base.SOA.soa_shape)
+row_of types.SRV = row base.SRV.srv_shape (anything base.SRV.srv_shape) (lacking base.SRV.srv_shape)
+row_of types.SSHFP = row certs.SSHFP.sshfp_shape (anything certs.SSHFP.sshfp_shape) certs.SSHFP.sshfp_refusal
+row_of types.SVCB = row service.SVCB.svcb_shape service.SVCB.svcb_condition service.SVCB.svcb_refusal
+row_of types.TLSA = row certs.TLSA.tlsa_shape (anything certs.TLSA.tlsa_shape) certs.TLSA.tlsa_refusal
+row_of types.TXT = row base.TXT.txt_shape (anything base.TXT.txt_shape) base.TXT.txt_refusal
 row_of types.ZERO = row [] (anything []) (λ n old e new. ⊥)
 row_of types.ANY = unread
 row_of types.AXFR = unread
@@ -126,30 +110,30 @@ pub record FieldsOf : Type 0 where
   pub values : Values kinds
 
 abbrev pub fields_of : RData → FieldsOf
-fields_of (rdata.A x) = record { kinds = a_shape; values = a_fields x }
-fields_of (rdata.AAAA x) = record { kinds = aaaa_shape; values = aaaa_fields x }
-fields_of (rdata.ANAME x) = record { kinds = name_shape; values = aname_fields x }
-fields_of (rdata.CAA x) = record { kinds = caa_shape; values = caa_fields x }
-fields_of (rdata.CERT x) = record { kinds = cert_shape; values = cert_fields x }
-fields_of (rdata.CNAME x) = record { kinds = name_shape; values = cname_fields x }
-fields_of (rdata.CSYNC x) = record { kinds = csync_shape; values = csync_fields x }
-fields_of (rdata.HINFO x) = record { kinds = hinfo_shape; values = hinfo_fields x }
-fields_of (rdata.HTTPS x) = record { kinds = https_shape; values = https_fields x }
-fields_of (rdata.MX x) = record { kinds = mx_shape; values = mx_fields x }
-fields_of (rdata.NAPTR x) = record { kinds = naptr_shape; values = naptr_fields x }
-fields_of (rdata.NULL x) = record { kinds = null_shape; values = null_fields x }
-fields_of (rdata.NS x) = record { kinds = name_shape; values = ns_fields x }
-fields_of (rdata.OPENPGPKEY x) = record { kinds = openpgpkey_shape; values = openpgpkey_fields x }
-fields_of (rdata.OPT x) = record { kinds = opt_shape; values = opt_fields x }
-fields_of (rdata.PTR x) = record { kinds = name_shape; values = ptr_fields x }
-fields_of (rdata.SMIMEA x) = record { kinds = smimea_shape; values = smimea_fields x }
-fields_of (rdata.SOA x) = record { kinds = soa_shape; values = soa_fields x }
-fields_of (rdata.SRV x) = record { kinds = srv_shape; values = srv_fields x }
-fields_of (rdata.SSHFP x) = record { kinds = sshfp_shape; values = sshfp_fields x }
-fields_of (rdata.SVCB x) = record { kinds = svcb_shape; values = svcb_fields x }
-fields_of (rdata.TLSA x) = record { kinds = tlsa_shape; values = tlsa_fields x }
-fields_of (rdata.TXT x) = record { kinds = txt_shape; values = txt_fields x }
-fields_of (rdata.Unknown code x) = record { kinds = null_shape; values = null_fields x }
+fields_of (rdata.A x) = record { kinds = base.A.a_shape; values = base.A.a_fields x }
+fields_of (rdata.AAAA x) = record { kinds = base.AAAA.aaaa_shape; values = base.AAAA.aaaa_fields x }
+fields_of (rdata.ANAME x) = record { kinds = base.NameRecords.name_shape; values = base.NameRecords.aname_fields x }
+fields_of (rdata.CAA x) = record { kinds = sets.CAA.caa_shape; values = sets.CAA.caa_fields x }
+fields_of (rdata.CERT x) = record { kinds = certs.CERT.cert_shape; values = certs.CERT.cert_fields x }
+fields_of (rdata.CNAME x) = record { kinds = base.NameRecords.name_shape; values = base.NameRecords.cname_fields x }
+fields_of (rdata.CSYNC x) = record { kinds = sets.CSYNC.csync_shape; values = sets.CSYNC.csync_fields x }
+fields_of (rdata.HINFO x) = record { kinds = base.HINFO.hinfo_shape; values = base.HINFO.hinfo_fields x }
+fields_of (rdata.HTTPS x) = record { kinds = service.HTTPS.https_shape; values = service.HTTPS.https_fields x }
+fields_of (rdata.MX x) = record { kinds = base.MX.mx_shape; values = base.MX.mx_fields x }
+fields_of (rdata.NAPTR x) = record { kinds = base.NAPTR.naptr_shape; values = base.NAPTR.naptr_fields x }
+fields_of (rdata.NULL x) = record { kinds = base.NULL.null_shape; values = base.NULL.null_fields x }
+fields_of (rdata.NS x) = record { kinds = base.NameRecords.name_shape; values = base.NameRecords.ns_fields x }
+fields_of (rdata.OPENPGPKEY x) = record { kinds = base.OPENPGPKEY.openpgpkey_shape; values = base.OPENPGPKEY.openpgpkey_fields x }
+fields_of (rdata.OPT x) = record { kinds = options.OPT.opt_shape; values = options.OPT.opt_fields x }
+fields_of (rdata.PTR x) = record { kinds = base.NameRecords.name_shape; values = base.NameRecords.ptr_fields x }
+fields_of (rdata.SMIMEA x) = record { kinds = certs.SMIMEA.smimea_shape; values = certs.SMIMEA.smimea_fields x }
+fields_of (rdata.SOA x) = record { kinds = base.SOA.soa_shape; values = base.SOA.soa_fields x }
+fields_of (rdata.SRV x) = record { kinds = base.SRV.srv_shape; values = base.SRV.srv_fields x }
+fields_of (rdata.SSHFP x) = record { kinds = certs.SSHFP.sshfp_shape; values = certs.SSHFP.sshfp_fields x }
+fields_of (rdata.SVCB x) = record { kinds = service.SVCB.svcb_shape; values = service.SVCB.svcb_fields x }
+fields_of (rdata.TLSA x) = record { kinds = certs.TLSA.tlsa_shape; values = certs.TLSA.tlsa_fields x }
+fields_of (rdata.TXT x) = record { kinds = base.TXT.txt_shape; values = base.TXT.txt_fields x }
+fields_of (rdata.Unknown code x) = record { kinds = base.NULL.null_shape; values = base.NULL.null_fields x }
 fields_of (rdata.Update0 t) = record { kinds = []; values = tt }
 fields_of rdata.ZERO = record { kinds = []; values = tt }
 
@@ -186,16 +170,16 @@ type_of rdata.ZERO = types.ZERO
 abbrev pub IsPlain : RData → Type 0
 IsPlain (rdata.Unknown code x) = IsRowless code
 IsPlain (rdata.Update0 t) = ⊥
-IsPlain (rdata.CERT x) = IsReadCert x
-IsPlain (rdata.SMIMEA x) = IsReadSmimea x
-IsPlain (rdata.SSHFP x) = IsReadSshfp x
-IsPlain (rdata.TLSA x) = IsReadTlsa x
-IsPlain (rdata.SOA x) = HasSeconds x
-IsPlain (rdata.CAA x) = IsReadCaa x
-IsPlain (rdata.CSYNC x) = IsReadCsync x
-IsPlain (rdata.OPT x) = IsReadOpt x
-IsPlain (rdata.HTTPS x) = IsReadHttps x
-IsPlain (rdata.SVCB x) = IsReadSvcb x
+IsPlain (rdata.CERT x) = certs.CERT.IsReadCert x
+IsPlain (rdata.SMIMEA x) = certs.SMIMEA.IsReadSmimea x
+IsPlain (rdata.SSHFP x) = certs.SSHFP.IsReadSshfp x
+IsPlain (rdata.TLSA x) = certs.TLSA.IsReadTlsa x
+IsPlain (rdata.SOA x) = base.SOA.HasSeconds x
+IsPlain (rdata.CAA x) = sets.CAA.IsReadCaa x
+IsPlain (rdata.CSYNC x) = sets.CSYNC.IsReadCsync x
+IsPlain (rdata.OPT x) = options.OPT.IsReadOpt x
+IsPlain (rdata.HTTPS x) = service.HTTPS.IsReadHttps x
+IsPlain (rdata.SVCB x) = service.SVCB.IsReadSvcb x
 IsPlain v = Unit {0}
 
 -- v is the value of the type with these fields

@@ -4,6 +4,7 @@ use Rattle.std.specs.Net.Addr.{IsIpv4Addr, IsIpv6Addr}
 use Rattle.dns_types.specs.declared.record_type.RecordType.{RecordType}
 use Rattle.dns_types.specs.declared.record_type.RecordType.TheVariants as types
 use Rattle.dns_types.specs.declared.error.ParseError.{ParseError}
+use Rattle.dns_types.specs.declared.error.ParseError.TheVariants as parse
 use Rattle.dns_fields.specs.Labels.{DomainName}
 use Rattle.dns_fields.specs.Fields.{Kind, Values}
 use Rattle.dns_text.specs.TextWords.{TextWords, NoTextWords}
@@ -11,11 +12,11 @@ use Rattle.dns_words.specs.Taking.{HoldsOfWords}
 use Rattle.dns_words.specs.Forms.{Row, word, number, name, ignored}
 use Rattle.dns_words.specs.Reads.{UnlessMemory}
 use Rattle.dns_words.specs.Printed.{cut, IsPrintedName}
-use Rattle.dns_rdata_base.specs.WordRows.{a_words, aaaa_words, name_words, hinfo_words, mx_words, naptr_words, openpgpkey_words, soa_words, srv_words, txt_words, IsPrintedMx, IsPrintedSrv, IsPrintedSoa}
-use Rattle.dns_rdata_certs.specs.WordRows.{cert_words, smimea_words, sshfp_words, tlsa_words, IsPrintedSshfp, IsPrintedTlsa}
-use Rattle.dns_rdata_sets.specs.WordRows.{caa_words, csync_words}
-use Rattle.dns_rdata_service.specs.WordRows.{these_parameters}
 use Rattle.dns_rdata_service.specs.declared.svcb.SVCB.{SVCB}
+use Rattle.dns_rdata_base.specs as base
+use Rattle.dns_rdata_certs.specs as certs
+use Rattle.dns_rdata_service.specs as service
+use Rattle.dns_rdata_sets.specs as sets
 use Rattle.dns_rdata.specs.declared.record_data.RData.{RData}
 use Rattle.dns_rdata.specs.declared.record_data.RData.TheVariants as rdata
 use Rattle.dns_rdata.specs.Data.{shape, IsValue, type_of}
@@ -23,7 +24,7 @@ use Rattle.dns_rdata.specs.Texts.{text_of}
 
 -- the words of this SVCB, in keys and values as a caller sees them (RFC 9460, 2.1); an origin completes no name
 abbrev pub AreSvcbWords : SVCB → List (List ℕ) → Type 0
-AreSvcbWords x words = (word (number 2) (word (name None) (these_parameters x.svc_params))).stand (x.svc_priority, (x.target_name, tt)) words
+AreSvcbWords x words = (word (number 2) (word (name None) (service.WordRows.these_parameters x.svc_params))).stand (x.svc_priority, (x.target_name, tt)) words
 
 abbrev pub svcb_words : RData → List (List ℕ) → Type 0
 svcb_words (rdata.SVCB x) words = AreSvcbWords x words
@@ -42,27 +43,27 @@ pub data Reading : List Kind → Type 1 where
 
 -- the words of each type; of ZERO no word is read, and of a type that isn't named here no words are
 abbrev pub reading_of : Option DomainName → (t : RecordType) → Reading (shape t)
-reading_of origin types.A = by a_words
-reading_of origin types.AAAA = by aaaa_words
-reading_of origin types.ANAME = by (name_words origin)
-reading_of origin types.CAA = by caa_words
-reading_of origin types.CERT = by cert_words
-reading_of origin types.CNAME = by (name_words origin)
-reading_of origin types.CSYNC = by csync_words
-reading_of origin types.HINFO = by hinfo_words
+reading_of origin types.A = by base.WordRows.a_words
+reading_of origin types.AAAA = by base.WordRows.aaaa_words
+reading_of origin types.ANAME = by (base.WordRows.name_words origin)
+reading_of origin types.CAA = by sets.WordRows.caa_words
+reading_of origin types.CERT = by certs.WordRows.cert_words
+reading_of origin types.CNAME = by (base.WordRows.name_words origin)
+reading_of origin types.CSYNC = by sets.WordRows.csync_words
+reading_of origin types.HINFO = by base.WordRows.hinfo_words
 reading_of origin types.HTTPS = own https_words
-reading_of origin types.MX = by (mx_words origin)
-reading_of origin types.NAPTR = by (naptr_words origin)
-reading_of origin types.NS = by (name_words origin)
-reading_of origin types.OPENPGPKEY = by openpgpkey_words
-reading_of origin types.PTR = by (name_words origin)
-reading_of origin types.SMIMEA = by smimea_words
-reading_of origin types.SOA = by (soa_words origin)
-reading_of origin types.SRV = by (srv_words origin)
-reading_of origin types.SSHFP = by sshfp_words
+reading_of origin types.MX = by (base.WordRows.mx_words origin)
+reading_of origin types.NAPTR = by (base.WordRows.naptr_words origin)
+reading_of origin types.NS = by (base.WordRows.name_words origin)
+reading_of origin types.OPENPGPKEY = by base.WordRows.openpgpkey_words
+reading_of origin types.PTR = by (base.WordRows.name_words origin)
+reading_of origin types.SMIMEA = by certs.WordRows.smimea_words
+reading_of origin types.SOA = by (base.WordRows.soa_words origin)
+reading_of origin types.SRV = by (base.WordRows.srv_words origin)
+reading_of origin types.SSHFP = by certs.WordRows.sshfp_words
 reading_of origin types.SVCB = own svcb_words
-reading_of origin types.TLSA = by tlsa_words
-reading_of origin types.TXT = by txt_words
+reading_of origin types.TLSA = by certs.WordRows.tlsa_words
+reading_of origin types.TXT = by base.WordRows.txt_words
 reading_of origin types.ZERO = by ignored
 reading_of origin t = refused
 
@@ -103,6 +104,11 @@ module _ {S I : Type 0} (gives : I → Option S → I → Type 0) (text : S → 
   ReadsDataWords origin t (Ok v) s = TookDataWords origin t v s
   ReadsDataWords origin t (Err e) s = RefusedDataWords e origin t s
 
+  -- and a type without words is refused by its name
+  pub record AnswersDataWords (origin : Option DomainName) (t : RecordType) (result : Result RData ParseError) (s : I) : Type 0 where
+    pub reads : ReadsDataWords origin t result s
+    pub unsupported : HasNoWords t → result ≡ Err (parse.UnsupportedRecordType t)
+
 -- A value whose printed words give it back: of addresses; of names that are fully qualified, numbers beside them that
 -- fit their fields, and times that are not negative; of fingerprints and certificates that have octets and the enums of
 -- their numbers.
@@ -111,14 +117,14 @@ IsPrinted (rdata.A x) = IsIpv4Addr x.0
 IsPrinted (rdata.AAAA x) = IsIpv6Addr x.0
 IsPrinted (rdata.ANAME x) = IsPrintedName x.0
 IsPrinted (rdata.CNAME x) = IsPrintedName x.0
-IsPrinted (rdata.MX x) = IsPrintedMx x
+IsPrinted (rdata.MX x) = base.WordRows.IsPrintedMx x
 IsPrinted (rdata.NS x) = IsPrintedName x.0
 IsPrinted (rdata.PTR x) = IsPrintedName x.0
-IsPrinted (rdata.SMIMEA x) = IsPrintedTlsa x.0
-IsPrinted (rdata.SOA x) = IsPrintedSoa x
-IsPrinted (rdata.SRV x) = IsPrintedSrv x
-IsPrinted (rdata.SSHFP x) = IsPrintedSshfp x
-IsPrinted (rdata.TLSA x) = IsPrintedTlsa x
+IsPrinted (rdata.SMIMEA x) = certs.WordRows.IsPrintedTlsa x.0
+IsPrinted (rdata.SOA x) = base.WordRows.IsPrintedSoa x
+IsPrinted (rdata.SRV x) = base.WordRows.IsPrintedSrv x
+IsPrinted (rdata.SSHFP x) = certs.WordRows.IsPrintedSshfp x
+IsPrinted (rdata.TLSA x) = certs.WordRows.IsPrintedTlsa x
 IsPrinted v = ⊥
 
 -- what is printed of a value of the type, cut at its blanks, gives it back

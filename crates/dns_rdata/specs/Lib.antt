@@ -1,10 +1,11 @@
 pub mod Data
 pub mod Cursor
 pub mod DataWords
+pub mod Keys
 pub mod Equal
 pub mod Hashing
 pub mod Laws
-pub mod KnownOrders
+pub mod QuickOrders
 pub mod Order
 pub mod Ties
 pub mod Refusals

@@ -2,9 +2,9 @@
 #![tactic(auto)]
 
 pub mod canonical;
-mod known;
 pub mod laws;
 pub mod order;
+mod quick_order;
 pub mod record_data;
 pub mod traits;
 mod words;

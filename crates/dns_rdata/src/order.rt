@@ -1,17 +1,10 @@
 //! The order of record data.
 
-ghost use Rattle.std.specs.Prelude.{◌≡◌, ◌∷◌, []};
-ghost use Rattle.dns_fields.specs.Fields.{Rest};
+ghost use Rattle.std.specs.Prelude.{◌≡◌};
 ghost use Rattle.dns_fields.specs.Order.{values_cmp};
 ghost use Rattle.dns_rdata_base.specs.A.{a_shape, a_fields};
 ghost use Rattle.dns_rdata_base.specs.AAAA.{aaaa_shape, aaaa_fields};
-ghost use Rattle.dns_rdata_base.specs.HINFO.{hinfo_shape, hinfo_fields};
-ghost use Rattle.dns_rdata_base.specs.MX.{mx_shape, mx_fields};
-ghost use Rattle.dns_rdata_base.specs.NAPTR.{naptr_shape, naptr_fields};
-ghost use Rattle.dns_rdata_base.specs.NameRecords.{name_shape, name_fields};
 ghost use Rattle.dns_rdata_base.specs.SOA.{soa_shape, soa_fields};
-ghost use Rattle.dns_rdata_base.specs.SRV.{srv_shape, srv_fields};
-ghost use Rattle.dns_rdata_base.specs.TXT.{txt_shape, txt_fields};
 ghost use Rattle.dns_rdata_certs.specs.CERT.{cert_key_shape, cert_keys};
 ghost use Rattle.dns_rdata_certs.specs.SSHFP.{sshfp_key_shape, sshfp_keys};
 ghost use Rattle.dns_rdata_certs.specs.TLSA.{tlsa_key_shape, tlsa_keys};
@@ -23,8 +16,7 @@ ghost use Rattle.dns_rdata.specs.Data.{data_octets};
 ghost use Rattle.dns_rdata.specs.Order.{rank, rdata_cmp, variants_cmp, Differ};
 
 use crate::record_data::RData;
-use dns_names_wire::{Name, SmallOctets};
-use dns_rdata_base::{A, AAAA, HINFO, MX, NAPTR, SOA, SRV, TXT};
+use dns_rdata_base::{A, AAAA, SOA};
 use dns_rdata_certs::{CERT, SSHFP, TLSA};
 use dns_rdata_service::ordering::svcb_cmp;
 use dns_rdata_sets::{CAA, CSYNC};
@@ -67,22 +59,14 @@ impl RData {
     }
 }
 
-// By the name.
-#[inline]
-#[tactic(auto, using(dns_pieces::proofs::Comparing::then_equal))]
-fn name_cmp(a: &Name, b: &Name) -> Ordering
-    ensures { result ≡ values_cmp name_shape (name_fields a.now) (name_fields b.now) }
-{
-    a.cmp(b)
-}
-
-// By the octets.
-#[inline]
-#[tactic(auto, using(dns_pieces::proofs::Comparing::then_equal))]
-fn rest_cmp(a: &SmallOctets<64>, b: &SmallOctets<64>) -> Ordering
-    ensures { result ≡ values_cmp (Rest ∷ []) (a.now, tt) (b.now, tt) }
-{
-    a.cmp(b)
+// The order by the first fields that differ, of fields that are given in turn.
+macro_rules! in_order {
+    ($order:expr) => {
+        $order
+    };
+    ($order:expr, $($rest:expr),+) => {
+        $order.then(in_order!($($rest),+))
+    };
 }
 
 // By the address.
@@ -109,11 +93,12 @@ fn aaaa_cmp(a: &AAAA, b: &AAAA) -> Ordering
 fn caa_cmp(a: &CAA, b: &CAA) -> Ordering
     ensures { result ≡ values_cmp caa_key_shape (caa_keys a.now) (caa_keys b.now) }
 {
-    let value = a.tag.cmp(&b.tag).then(a.value.cmp(&b.value));
-    let reserved = a.reserved_flags.cmp(&b.reserved_flags).then(value);
-    u8::from(a.issuer_critical)
-        .cmp(&u8::from(b.issuer_critical))
-        .then(reserved)
+    in_order!(
+        u8::from(a.issuer_critical).cmp(&u8::from(b.issuer_critical)),
+        a.reserved_flags.cmp(&b.reserved_flags),
+        a.tag.cmp(&b.tag),
+        a.value.cmp(&b.value)
+    )
 }
 
 // By the fields in order.
@@ -122,12 +107,12 @@ fn caa_cmp(a: &CAA, b: &CAA) -> Ordering
 fn cert_cmp(a: &CERT, b: &CERT) -> Ordering
     ensures { result ≡ values_cmp cert_key_shape (cert_keys a.now) (cert_keys b.now) }
 {
-    let algorithm = a
-        .algorithm
-        .cmp(&b.algorithm)
-        .then(a.cert_data.cmp(&b.cert_data));
-    let key_tag = a.key_tag.cmp(&b.key_tag).then(algorithm);
-    a.cert_type.cmp(&b.cert_type).then(key_tag)
+    in_order!(
+        a.cert_type.cmp(&b.cert_type),
+        a.key_tag.cmp(&b.key_tag),
+        a.algorithm.cmp(&b.algorithm),
+        a.cert_data.cmp(&b.cert_data)
+    )
 }
 
 // By the fields in order.
@@ -150,75 +135,18 @@ fn csync_cmp(a: &CSYNC, b: &CSYNC) -> Ordering
 // By the fields in order.
 #[inline]
 #[tactic(auto, using(dns_pieces::proofs::Comparing::then_equal))]
-fn hinfo_cmp(a: &HINFO, b: &HINFO) -> Ordering
-    ensures { result ≡ values_cmp hinfo_shape (hinfo_fields a.now) (hinfo_fields b.now) }
-{
-    a.cpu.cmp(&b.cpu).then(a.os.cmp(&b.os))
-}
-
-// By the fields in order.
-#[inline]
-#[tactic(auto, using(dns_pieces::proofs::Comparing::then_equal))]
-fn mx_cmp(a: &MX, b: &MX) -> Ordering
-    ensures { result ≡ values_cmp mx_shape (mx_fields a.now) (mx_fields b.now) }
-{
-    a.preference
-        .cmp(&b.preference)
-        .then(a.exchange.cmp(&b.exchange))
-}
-
-// By the fields in order.
-#[inline]
-#[tactic(auto, using(dns_pieces::proofs::Comparing::then_equal))]
-fn naptr_cmp(a: &NAPTR, b: &NAPTR) -> Ordering
-    ensures { result ≡ values_cmp naptr_shape (naptr_fields a.now) (naptr_fields b.now) }
-{
-    let regexp = a
-        .regexp
-        .cmp(&b.regexp)
-        .then(a.replacement.cmp(&b.replacement));
-    let services = a.services.cmp(&b.services).then(regexp);
-    let flags = a.flags.cmp(&b.flags).then(services);
-    let preference = a.preference.cmp(&b.preference).then(flags);
-    a.order.cmp(&b.order).then(preference)
-}
-
-// By the fields in order.
-#[inline]
-#[tactic(auto, using(dns_pieces::proofs::Comparing::then_equal))]
 fn soa_cmp(a: &SOA, b: &SOA) -> Ordering
     ensures { result ≡ values_cmp soa_shape (soa_fields a.now) (soa_fields b.now) }
 {
-    let minimum = a.minimum.cmp(&b.minimum);
-    let expire = a
-        .expire
-        .cast_unsigned()
-        .cmp(&b.expire.cast_unsigned())
-        .then(minimum);
-    let retry = a
-        .retry
-        .cast_unsigned()
-        .cmp(&b.retry.cast_unsigned())
-        .then(expire);
-    let refresh = a
-        .refresh
-        .cast_unsigned()
-        .cmp(&b.refresh.cast_unsigned())
-        .then(retry);
-    let serial = a.serial.cmp(&b.serial).then(refresh);
-    let rname = a.rname.cmp(&b.rname).then(serial);
-    a.mname.cmp(&b.mname).then(rname)
-}
-
-// By the fields in order.
-#[inline]
-#[tactic(auto, using(dns_pieces::proofs::Comparing::then_equal))]
-fn srv_cmp(a: &SRV, b: &SRV) -> Ordering
-    ensures { result ≡ values_cmp srv_shape (srv_fields a.now) (srv_fields b.now) }
-{
-    let port = a.port.cmp(&b.port).then(a.target.cmp(&b.target));
-    let weight = a.weight.cmp(&b.weight).then(port);
-    a.priority.cmp(&b.priority).then(weight)
+    in_order!(
+        a.mname.cmp(&b.mname),
+        a.rname.cmp(&b.rname),
+        a.serial.cmp(&b.serial),
+        a.refresh.cast_unsigned().cmp(&b.refresh.cast_unsigned()),
+        a.retry.cast_unsigned().cmp(&b.retry.cast_unsigned()),
+        a.expire.cast_unsigned().cmp(&b.expire.cast_unsigned()),
+        a.minimum.cmp(&b.minimum)
+    )
 }
 
 // By the fields in order.
@@ -227,11 +155,11 @@ fn srv_cmp(a: &SRV, b: &SRV) -> Ordering
 fn sshfp_cmp(a: &SSHFP, b: &SSHFP) -> Ordering
     ensures { result ≡ values_cmp sshfp_key_shape (sshfp_keys a.now) (sshfp_keys b.now) }
 {
-    let kind = a
-        .fingerprint_type
-        .cmp(&b.fingerprint_type)
-        .then(a.fingerprint.cmp(&b.fingerprint));
-    a.algorithm.cmp(&b.algorithm).then(kind)
+    in_order!(
+        a.algorithm.cmp(&b.algorithm),
+        a.fingerprint_type.cmp(&b.fingerprint_type),
+        a.fingerprint.cmp(&b.fingerprint)
+    )
 }
 
 // By the fields in order.
@@ -240,62 +168,71 @@ fn sshfp_cmp(a: &SSHFP, b: &SSHFP) -> Ordering
 fn tlsa_cmp(a: &TLSA, b: &TLSA) -> Ordering
     ensures { result ≡ values_cmp tlsa_key_shape (tlsa_keys a.now) (tlsa_keys b.now) }
 {
-    let matching = a
-        .matching
-        .cmp(&b.matching)
-        .then(a.cert_data.cmp(&b.cert_data));
-    let selector = a.selector.cmp(&b.selector).then(matching);
-    a.cert_usage.cmp(&b.cert_usage).then(selector)
-}
-
-// By the strings.
-#[inline]
-#[tactic(auto, using(dns_pieces::proofs::Comparing::then_equal))]
-fn txt_cmp(a: &TXT, b: &TXT) -> Ordering
-    ensures { result ≡ values_cmp txt_shape (txt_fields a.now) (txt_fields b.now) }
-{
-    a.txt_data.cmp(&b.txt_data)
+    in_order!(
+        a.cert_usage.cmp(&b.cert_usage),
+        a.selector.cmp(&b.selector),
+        a.matching.cmp(&b.matching),
+        a.cert_data.cmp(&b.cert_data)
+    )
 }
 
 impl RData {
-    // Of two values by variant, and then by the fields.
+    // Of two values by variant, and then by the fields and the type.
+    #[tactic(auto, using(dns_pieces::proofs::Comparing::then_equal))]
     fn cmp_fields(&self, other: &RData) -> Ordering
         ensures { result ≡ variants_cmp self.now other.now }
     {
         match (self, other) {
             (RData::A(a), RData::A(b)) => a_cmp(a, b),
             (RData::AAAA(a), RData::AAAA(b)) => aaaa_cmp(a, b),
-            (RData::ANAME(a), RData::ANAME(b)) => name_cmp(&a.0, &b.0),
+            (RData::ANAME(a), RData::ANAME(b)) => a.0.cmp(&b.0),
             (RData::CAA(a), RData::CAA(b)) => caa_cmp(a, b),
             (RData::CERT(a), RData::CERT(b)) => cert_cmp(a, b),
-            (RData::CNAME(a), RData::CNAME(b)) => name_cmp(&a.0, &b.0),
+            (RData::CNAME(a), RData::CNAME(b)) => a.0.cmp(&b.0),
             (RData::CSYNC(a), RData::CSYNC(b)) => csync_cmp(a, b),
-            (RData::HINFO(a), RData::HINFO(b)) => hinfo_cmp(a, b),
+            (RData::HINFO(a), RData::HINFO(b)) => in_order!(a.cpu.cmp(&b.cpu), a.os.cmp(&b.os)),
             (RData::HTTPS(a), RData::HTTPS(b)) => svcb_cmp(&a.0, &b.0),
-            (RData::MX(a), RData::MX(b)) => mx_cmp(a, b),
-            (RData::NAPTR(a), RData::NAPTR(b)) => naptr_cmp(a, b),
-            (RData::NULL(a), RData::NULL(b)) => rest_cmp(&a.anything, &b.anything),
-            (RData::NS(a), RData::NS(b)) => name_cmp(&a.0, &b.0),
-            (RData::OPENPGPKEY(a), RData::OPENPGPKEY(b)) => rest_cmp(&a.public_key, &b.public_key),
+            (RData::MX(a), RData::MX(b)) => in_order!(
+                a.preference.cmp(&b.preference),
+                a.exchange.cmp(&b.exchange)
+            ),
+            (RData::NAPTR(a), RData::NAPTR(b)) => in_order!(
+                a.order.cmp(&b.order),
+                a.preference.cmp(&b.preference),
+                a.flags.cmp(&b.flags),
+                a.services.cmp(&b.services),
+                a.regexp.cmp(&b.regexp),
+                a.replacement.cmp(&b.replacement)
+            ),
+            (RData::NULL(a), RData::NULL(b)) => a.anything.cmp(&b.anything),
+            (RData::NS(a), RData::NS(b)) => a.0.cmp(&b.0),
+            (RData::OPENPGPKEY(a), RData::OPENPGPKEY(b)) => a.public_key.cmp(&b.public_key),
             (RData::OPT(a), RData::OPT(b)) => a.cmp(b),
-            (RData::PTR(a), RData::PTR(b)) => name_cmp(&a.0, &b.0),
+            (RData::PTR(a), RData::PTR(b)) => a.0.cmp(&b.0),
             (RData::SMIMEA(a), RData::SMIMEA(b)) => tlsa_cmp(&a.0, &b.0),
             (RData::SOA(a), RData::SOA(b)) => soa_cmp(a, b),
-            (RData::SRV(a), RData::SRV(b)) => srv_cmp(a, b),
+            (RData::SRV(a), RData::SRV(b)) => in_order!(
+                a.priority.cmp(&b.priority),
+                a.weight.cmp(&b.weight),
+                a.port.cmp(&b.port),
+                a.target.cmp(&b.target)
+            ),
             (RData::SSHFP(a), RData::SSHFP(b)) => sshfp_cmp(a, b),
             (RData::SVCB(a), RData::SVCB(b)) => svcb_cmp(a, b),
             (RData::TLSA(a), RData::TLSA(b)) => tlsa_cmp(a, b),
-            (RData::TXT(a), RData::TXT(b)) => txt_cmp(a, b),
+            (RData::TXT(a), RData::TXT(b)) => a.txt_data.cmp(&b.txt_data),
             (
                 RData::Unknown { code, rdata },
                 RData::Unknown {
                     code: other_code,
                     rdata: other_rdata,
                 },
-            ) => code
-                .cmp(other_code)
-                .then(rest_cmp(&rdata.anything, &other_rdata.anything)),
+            ) => rdata
+                .anything
+                .cmp(&other_rdata.anything)
+                .then(code.cmp(other_code)),
             (RData::Update0(a), RData::Update0(b)) => a.cmp(b),
+            (RData::ZERO, RData::ZERO) => Ordering::Equal,
             _ => self.cmp_ranks(other),
         }
     }
@@ -320,10 +257,10 @@ impl RData {
     fn cmp_all(&self, other: &RData) -> Ordering
         ensures { result ≡ rdata_cmp self.now other.now }
     {
-        if let Some(order) = self.cmp_known(other) {
+        if let Some(order) = self.quick_cmp(other) {
             return order;
         }
-        // those that are equal are told sooner so
+        // This is quicker for values that are equal.
         if self == other {
             return Ordering::Equal;
         }

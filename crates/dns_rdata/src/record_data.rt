@@ -6,6 +6,7 @@ ghost use Rattle.dns_names_wire.specs.Words.{StaysBehind, UnlessMemory, EmitsAs,
 ghost use Rattle.dns_rdata.specs.Data.{IsNeverRead};
 ghost use Rattle.dns_rdata.specs.Refusals.{IsRefusal, by_length as answer_by_length};
 
+use crate::traits::RecordData;
 use dns_names_wire::{
     BinDecoder, BinEncodable, BinEncoder, DecodeError, ProtoError, RDataEncoding, RecordType,
     Restrict,
@@ -99,6 +100,76 @@ pub enum RData {
     ZERO,
 }
 
+// Calls a macro with the arguments in front of the types that have a record of their own.
+macro_rules! with_records {
+    ($macro:ident, $arguments:tt) => {
+        $macro!(
+            $arguments A AAAA ANAME CAA CERT CNAME CSYNC HINFO HTTPS MX NAPTR NULL NS OPENPGPKEY
+            OPT PTR SMIMEA SOA SRV SSHFP SVCB TLSA TXT
+        )
+    };
+}
+
+// Matches a value: the arms that are given first, and then one for each record, all with the same body.
+macro_rules! each {
+    (($value:expr, $x:ident => $body:expr, $($pattern:pat => $other:expr,)+) $($record:ident)+) => {
+        match $value {
+            $($pattern => $other,)+
+            $(RData::$record($x) => $body,)+
+        }
+    };
+    ($($arguments:tt)+) => {
+        with_records!(each, ($($arguments)+))
+    };
+}
+
+// Matches two values: the arms that are given first, and then one for two records of each type that is named.
+macro_rules! equal_each {
+    ($values:expr, [$($record:ident)+], $($pattern:pat => $other:expr),+; $last:expr) => {
+        match $values {
+            $($pattern => $other,)+
+            $((RData::$record(a), RData::$record(b)) => *a == *b,)+
+            _ => $last,
+        }
+    };
+}
+
+// Matches the type of the data: the arms that are given first, and then one for each record, which reads it, counts the
+// octets that were taken, and returns.
+macro_rules! read_each {
+    (
+        ($record_type:expr, $decoder:ident, $start:ident, $length:ident, $($pattern:pat => $other:expr),+; $code:ident => $last:expr)
+        $($record:ident)+
+    ) => {
+        match $record_type {
+            $($pattern => $other,)+
+            $(RecordType::$record => {
+                let data = $record::read_data($decoder, $length);
+                return Ok(RData::$record(by_length(data, $decoder, $start, $length)?));
+            })+
+            $code => $last,
+        }
+    };
+    ($($arguments:tt)+) => {
+        with_records!(read_each, ($($arguments)+))
+    };
+}
+
+// Copies a value: the arms that are given first, and then one for each record. Addresses are copied as they are.
+macro_rules! clone_each {
+    (($value:expr, $($pattern:pat => $other:expr,)+) A AAAA $($record:ident)+) => {
+        match $value {
+            $($pattern => $other,)+
+            RData::A(a) => return Ok(RData::A(*a)),
+            RData::AAAA(a) => return Ok(RData::AAAA(*a)),
+            $(RData::$record(data) => return Ok(RData::$record(data.clone()?)),)+
+        }
+    };
+    ($($arguments:tt)+) => {
+        with_records!(clone_each, ($($arguments)+))
+    };
+}
+
 impl RData {
     ghost use Rattle.dns_rdata.specs.Data.{Fills, NoValue, IsEmittable, fields_of, mode_for, type_of, data_octets};
     ghost use Rattle.dns_rdata.specs.Laws.{ReadsCanonical, address_of};
@@ -107,34 +178,11 @@ impl RData {
     pub fn record_type(&self) -> RecordType
         ensures { result ≡ type_of self.now }
     {
-        match self {
-            RData::A(_) => RecordType::A,
-            RData::AAAA(_) => RecordType::AAAA,
-            RData::ANAME(_) => RecordType::ANAME,
-            RData::CAA(_) => RecordType::CAA,
-            RData::CERT(_) => RecordType::CERT,
-            RData::CNAME(_) => RecordType::CNAME,
-            RData::CSYNC(_) => RecordType::CSYNC,
-            RData::HINFO(_) => RecordType::HINFO,
-            RData::HTTPS(_) => RecordType::HTTPS,
-            RData::MX(_) => RecordType::MX,
-            RData::NAPTR(_) => RecordType::NAPTR,
-            RData::NULL(_) => RecordType::NULL,
-            RData::NS(_) => RecordType::NS,
-            RData::OPENPGPKEY(_) => RecordType::OPENPGPKEY,
-            RData::OPT(_) => RecordType::OPT,
-            RData::PTR(_) => RecordType::PTR,
-            RData::SMIMEA(_) => RecordType::SMIMEA,
-            RData::SOA(_) => RecordType::SOA,
-            RData::SRV(_) => RecordType::SRV,
-            RData::SSHFP(_) => RecordType::SSHFP,
-            RData::SVCB(_) => RecordType::SVCB,
-            RData::TLSA(_) => RecordType::TLSA,
-            RData::TXT(_) => RecordType::TXT,
+        each!(self, x => RecordData::record_type(x),
             RData::Unknown { code, .. } => *code,
             RData::Update0(record_type) => *record_type,
             RData::ZERO => RecordType::ZERO,
-        }
+        )
     }
 
     /// The address of A and AAAA; of other data none.
@@ -198,109 +246,17 @@ impl RData {
         ensures emittable { IfOk result IsEmittable }
     {
         let start = decoder.index();
-        match record_type {
-            RecordType::A => {
-                let data = A::read_data(decoder, length);
-                return Ok(RData::A(by_length(data, decoder, start, length)?));
-            }
-            RecordType::AAAA => {
-                let data = AAAA::read_data(decoder, length);
-                return Ok(RData::AAAA(by_length(data, decoder, start, length)?));
-            }
-            RecordType::ANAME => {
-                let data = ANAME::read_data(decoder, length);
-                return Ok(RData::ANAME(by_length(data, decoder, start, length)?));
-            }
-            RecordType::CAA => {
-                let data = CAA::read_data(decoder, length);
-                return Ok(RData::CAA(by_length(data, decoder, start, length)?));
-            }
-            RecordType::CERT => {
-                let data = CERT::read_data(decoder, length);
-                return Ok(RData::CERT(by_length(data, decoder, start, length)?));
-            }
-            RecordType::CNAME => {
-                let data = CNAME::read_data(decoder, length);
-                return Ok(RData::CNAME(by_length(data, decoder, start, length)?));
-            }
-            RecordType::CSYNC => {
-                let data = CSYNC::read_data(decoder, length);
-                return Ok(RData::CSYNC(by_length(data, decoder, start, length)?));
-            }
-            RecordType::HINFO => {
-                let data = HINFO::read_data(decoder, length);
-                return Ok(RData::HINFO(by_length(data, decoder, start, length)?));
-            }
-            RecordType::HTTPS => {
-                let data = HTTPS::read_data(decoder, length);
-                return Ok(RData::HTTPS(by_length(data, decoder, start, length)?));
-            }
-            RecordType::MX => {
-                let data = MX::read_data(decoder, length);
-                return Ok(RData::MX(by_length(data, decoder, start, length)?));
-            }
-            RecordType::NAPTR => {
-                let data = NAPTR::read_data(decoder, length);
-                return Ok(RData::NAPTR(by_length(data, decoder, start, length)?));
-            }
-            RecordType::NULL => {
-                let data = NULL::read_data(decoder, length);
-                return Ok(RData::NULL(by_length(data, decoder, start, length)?));
-            }
-            RecordType::NS => {
-                let data = NS::read_data(decoder, length);
-                return Ok(RData::NS(by_length(data, decoder, start, length)?));
-            }
-            RecordType::OPENPGPKEY => {
-                let data = OPENPGPKEY::read_data(decoder, length);
-                return Ok(RData::OPENPGPKEY(by_length(data, decoder, start, length)?));
-            }
-            RecordType::OPT => {
-                let data = OPT::read_data(decoder, length);
-                return Ok(RData::OPT(by_length(data, decoder, start, length)?));
-            }
-            RecordType::PTR => {
-                let data = PTR::read_data(decoder, length);
-                return Ok(RData::PTR(by_length(data, decoder, start, length)?));
-            }
-            RecordType::SMIMEA => {
-                let data = SMIMEA::read_data(decoder, length);
-                return Ok(RData::SMIMEA(by_length(data, decoder, start, length)?));
-            }
-            RecordType::SOA => {
-                let data = SOA::read_data(decoder, length);
-                return Ok(RData::SOA(by_length(data, decoder, start, length)?));
-            }
-            RecordType::SRV => {
-                let data = SRV::read_data(decoder, length);
-                return Ok(RData::SRV(by_length(data, decoder, start, length)?));
-            }
-            RecordType::SSHFP => {
-                let data = SSHFP::read_data(decoder, length);
-                return Ok(RData::SSHFP(by_length(data, decoder, start, length)?));
-            }
-            RecordType::SVCB => {
-                let data = SVCB::read_data(decoder, length);
-                return Ok(RData::SVCB(by_length(data, decoder, start, length)?));
-            }
-            RecordType::TLSA => {
-                let data = TLSA::read_data(decoder, length);
-                return Ok(RData::TLSA(by_length(data, decoder, start, length)?));
-            }
-            RecordType::TXT => {
-                let data = TXT::read_data(decoder, length);
-                return Ok(RData::TXT(by_length(data, decoder, start, length)?));
-            }
+        read_each!(record_type, decoder, start, length,
             RecordType::ZERO => return by_length(Ok(RData::ZERO), decoder, start, length),
             RecordType::ANY | RecordType::AXFR | RecordType::IXFR => {
                 return Err(DecodeError::UnknownRecordTypeValue(record_type.into()));
-            }
+            };
             code => {
                 let data = NULL::read_data(decoder, length);
                 let rdata = by_length(data, decoder, start, length)?;
                 return Ok(RData::Unknown { code, rdata });
             }
-        }
+        )
     }
 }
 
@@ -431,40 +387,18 @@ impl RData {
     fn emit_by_type(&self, encoder: &mut BinEncoder<'_>) -> Result<(), ProtoError>
         ensures { EmitsAs (mode_for encoder.old.mode self.now) (fields_of self.now).kinds (fields_of self.now).values result encoder.old encoder.new }
     {
-        match self {
-            RData::A(a) => a.emit(encoder)?,
-            RData::AAAA(a) => a.emit(encoder)?,
-            RData::ANAME(rdata) => rdata.emit(encoder)?,
-            RData::CAA(rdata) => rdata.emit(encoder)?,
-            RData::CERT(rdata) => rdata.emit(encoder)?,
-            RData::CNAME(rdata) => rdata.emit(encoder)?,
-            RData::CSYNC(rdata) => rdata.emit(encoder)?,
-            RData::HINFO(rdata) => rdata.emit(encoder)?,
-            RData::HTTPS(rdata) => rdata.emit(encoder)?,
-            RData::MX(rdata) => rdata.emit(encoder)?,
-            RData::NAPTR(rdata) => rdata.emit(encoder)?,
-            RData::NULL(rdata) => rdata.emit(encoder)?,
-            RData::NS(rdata) => rdata.emit(encoder)?,
-            RData::OPENPGPKEY(rdata) => rdata.emit(encoder)?,
-            RData::OPT(rdata) => rdata.emit(encoder)?,
-            RData::PTR(rdata) => rdata.emit(encoder)?,
-            RData::SMIMEA(rdata) => rdata.emit(encoder)?,
-            RData::SOA(rdata) => rdata.emit(encoder)?,
-            RData::SRV(rdata) => rdata.emit(encoder)?,
-            RData::SSHFP(rdata) => rdata.emit(encoder)?,
-            RData::SVCB(rdata) => rdata.emit(encoder)?,
-            RData::TLSA(rdata) => rdata.emit(encoder)?,
-            RData::TXT(rdata) => rdata.emit(encoder)?,
-            RData::Unknown { rdata, .. } => rdata.emit(encoder)?,
+        each!(self, x => return x.emit(encoder),
+            RData::Unknown { rdata, .. } => return rdata.emit(encoder),
             RData::Update0(_) | RData::ZERO => return Ok(()),
-        }
-        Ok(())
+        )
     }
 }
 
 impl RData {
     ghost use Rattle.std.specs.Prelude.{◌&&◌};
-    ghost use Rattle.dns_rdata.specs.Equal.{equal, null_eq, record_type_eq};
+    ghost use Rattle.dns_fields.specs.Equal.{values_eq};
+    ghost use Rattle.dns_rdata_base.specs.NULL.{null_shape, null_fields};
+    ghost use Rattle.dns_rdata.specs.Equal.{equal, record_type_eq};
 
     // Whether both are octets of one type, and the same. A call, so that `is_same` keeps nothing across another one.
     #[inline(never)]
@@ -474,9 +408,9 @@ impl RData {
         other_code: RecordType,
         other_rdata: &NULL,
     ) -> bool
-        ensures { result ≡ record_type_eq code other_code && null_eq rdata.now other_rdata.now }
+        ensures { result ≡ values_eq null_shape (null_fields rdata.now) (null_fields other_rdata.now) && record_type_eq code other_code }
     {
-        code == other_code && *rdata == *other_rdata
+        *rdata == *other_rdata && code == other_code
     }
 
     // Whether both are of one variant, and equal there.
@@ -484,41 +418,20 @@ impl RData {
         ensures { result ≡ equal self.now other.now }
     {
         // The `==` of a record is a call, but for addresses and octets alone, so that this function needs hardly a frame.
-        match (self, other) {
-            (RData::A(a), RData::A(b)) => *a == *b,
-            (RData::AAAA(a), RData::AAAA(b)) => *a == *b,
-            (RData::ANAME(a), RData::ANAME(b)) => *a == *b,
-            (RData::CAA(a), RData::CAA(b)) => *a == *b,
-            (RData::CERT(a), RData::CERT(b)) => *a == *b,
-            (RData::CNAME(a), RData::CNAME(b)) => *a == *b,
-            (RData::CSYNC(a), RData::CSYNC(b)) => *a == *b,
-            (RData::HINFO(a), RData::HINFO(b)) => *a == *b,
-            (RData::HTTPS(a), RData::HTTPS(b)) => *a == *b,
-            (RData::MX(a), RData::MX(b)) => *a == *b,
-            (RData::NAPTR(a), RData::NAPTR(b)) => *a == *b,
+        equal_each!(
+            (self, other),
+            [A AAAA ANAME CAA CERT CNAME CSYNC HINFO HTTPS MX NAPTR NS OPT PTR SMIMEA SOA SRV SSHFP
+            SVCB TLSA TXT],
             (RData::NULL(a), RData::NULL(b)) => a.anything == b.anything,
-            (RData::NS(a), RData::NS(b)) => *a == *b,
             (RData::OPENPGPKEY(a), RData::OPENPGPKEY(b)) => a.public_key == b.public_key,
-            (RData::OPT(a), RData::OPT(b)) => *a == *b,
-            (RData::PTR(a), RData::PTR(b)) => *a == *b,
-            (RData::SMIMEA(a), RData::SMIMEA(b)) => *a == *b,
-            (RData::SOA(a), RData::SOA(b)) => *a == *b,
-            (RData::SRV(a), RData::SRV(b)) => *a == *b,
-            (RData::SSHFP(a), RData::SSHFP(b)) => *a == *b,
-            (RData::SVCB(a), RData::SVCB(b)) => *a == *b,
-            (RData::TLSA(a), RData::TLSA(b)) => *a == *b,
-            (RData::TXT(a), RData::TXT(b)) => *a == *b,
             (
                 RData::Unknown { code, rdata },
-                RData::Unknown {
-                    code: other_code,
-                    rdata: other_rdata,
-                },
+                RData::Unknown { code: other_code, rdata: other_rdata },
             ) => RData::is_same_unknown(*code, rdata, *other_code, other_rdata),
             (RData::Update0(a), RData::Update0(b)) => *a == *b,
-            (RData::ZERO, RData::ZERO) => true,
-            _ => false,
-        }
+            (RData::ZERO, RData::ZERO) => true;
+            false
+        )
     }
 }
 
@@ -557,33 +470,10 @@ impl Hash for RData {
     /// Feeds the type, and then the data.
     fn hash<H: Hasher>(&self, state: &mut H) {
         self.record_type().hash(state);
-        match self {
-            RData::A(a) => a.hash(state),
-            RData::AAAA(a) => a.hash(state),
-            RData::ANAME(rdata) => rdata.hash(state),
-            RData::CAA(rdata) => rdata.hash(state),
-            RData::CERT(rdata) => rdata.hash(state),
-            RData::CNAME(rdata) => rdata.hash(state),
-            RData::CSYNC(rdata) => rdata.hash(state),
-            RData::HINFO(rdata) => rdata.hash(state),
-            RData::HTTPS(rdata) => rdata.hash(state),
-            RData::MX(rdata) => rdata.hash(state),
-            RData::NAPTR(rdata) => rdata.hash(state),
-            RData::NULL(rdata) => rdata.hash(state),
-            RData::NS(rdata) => rdata.hash(state),
-            RData::OPENPGPKEY(rdata) => rdata.hash(state),
-            RData::OPT(rdata) => rdata.hash(state),
-            RData::PTR(rdata) => rdata.hash(state),
-            RData::SMIMEA(rdata) => rdata.hash(state),
-            RData::SOA(rdata) => rdata.hash(state),
-            RData::SRV(rdata) => rdata.hash(state),
-            RData::SSHFP(rdata) => rdata.hash(state),
-            RData::SVCB(rdata) => rdata.hash(state),
-            RData::TLSA(rdata) => rdata.hash(state),
-            RData::TXT(rdata) => rdata.hash(state),
+        each!(self, x => x.hash(state),
             RData::Unknown { rdata, .. } => rdata.hash(state),
             RData::Update0(_) | RData::ZERO => (),
-        }
+        )
     }
 }
 
@@ -597,39 +487,13 @@ impl Clone for RData {
     fn clone(&self) -> Result<RData, AllocError>
         ensures { IfOk result (λ copy. copy ≡ self.now) }
     {
-        match self {
-            RData::A(a) => return Ok(RData::A(*a)),
-            RData::AAAA(a) => return Ok(RData::AAAA(*a)),
-            RData::ANAME(rdata) => return Ok(RData::ANAME(rdata.clone()?)),
-            RData::CAA(rdata) => return Ok(RData::CAA(rdata.clone()?)),
-            RData::CERT(rdata) => return Ok(RData::CERT(rdata.clone()?)),
-            RData::CNAME(rdata) => return Ok(RData::CNAME(rdata.clone()?)),
-            RData::CSYNC(rdata) => return Ok(RData::CSYNC(rdata.clone()?)),
-            RData::HINFO(rdata) => return Ok(RData::HINFO(rdata.clone()?)),
-            RData::HTTPS(rdata) => return Ok(RData::HTTPS(rdata.clone()?)),
-            RData::MX(rdata) => return Ok(RData::MX(rdata.clone()?)),
-            RData::NAPTR(rdata) => return Ok(RData::NAPTR(rdata.clone()?)),
-            RData::NULL(rdata) => return Ok(RData::NULL(rdata.clone()?)),
-            RData::NS(rdata) => return Ok(RData::NS(rdata.clone()?)),
-            RData::OPENPGPKEY(rdata) => return Ok(RData::OPENPGPKEY(rdata.clone()?)),
-            RData::OPT(rdata) => return Ok(RData::OPT(rdata.clone()?)),
-            RData::PTR(rdata) => return Ok(RData::PTR(rdata.clone()?)),
-            RData::SMIMEA(rdata) => return Ok(RData::SMIMEA(rdata.clone()?)),
-            RData::SOA(rdata) => return Ok(RData::SOA(rdata.clone()?)),
-            RData::SRV(rdata) => return Ok(RData::SRV(rdata.clone()?)),
-            RData::SSHFP(rdata) => return Ok(RData::SSHFP(rdata.clone()?)),
-            RData::SVCB(rdata) => return Ok(RData::SVCB(rdata.clone()?)),
-            RData::TLSA(rdata) => return Ok(RData::TLSA(rdata.clone()?)),
-            RData::TXT(rdata) => return Ok(RData::TXT(rdata.clone()?)),
+        clone_each!(self,
             RData::Unknown { code, rdata } => {
-                return Ok(RData::Unknown {
-                    code: *code,
-                    rdata: rdata.clone()?,
-                });
-            }
+                return Ok(RData::Unknown { code: *code, rdata: rdata.clone()? });
+            },
             RData::Update0(record_type) => return Ok(RData::Update0(*record_type)),
             RData::ZERO => return Ok(RData::ZERO),
-        }
+        )
     }
 }
 
@@ -653,34 +517,14 @@ impl fmt::Display for RData {
         ensures styled { DisplaysStyledOnOk W.write_str_gives f.old result None f.new }
         ensures has_text { OnOk result (HasText self.now) }
     {
-        match self {
-            RData::A(a) => write!(f, "{a}"),
-            RData::AAAA(a) => write!(f, "{a}"),
-            RData::ANAME(rdata) => write!(f, "{rdata}"),
-            RData::CAA(rdata) => write!(f, "{rdata}"),
-            RData::CERT(rdata) => write!(f, "{rdata}"),
-            RData::CNAME(rdata) => write!(f, "{rdata}"),
-            RData::CSYNC(rdata) => write!(f, "{rdata}"),
-            RData::HINFO(rdata) => write!(f, "{rdata}"),
-            RData::HTTPS(rdata) => write!(f, "{rdata}"),
-            RData::MX(rdata) => write!(f, "{rdata}"),
-            RData::NAPTR(rdata) => write!(f, "{rdata}"),
-            RData::NULL(rdata) => write!(f, "{rdata}"),
-            RData::NS(rdata) => write!(f, "{rdata}"),
-            RData::OPENPGPKEY(rdata) => write!(f, "{rdata}"),
-            RData::OPT(_) => Err(fmt::Error),
-            RData::PTR(rdata) => write!(f, "{rdata}"),
-            RData::SMIMEA(rdata) => write!(f, "{rdata}"),
-            RData::SOA(rdata) => write!(f, "{rdata}"),
-            RData::SRV(rdata) => write!(f, "{rdata}"),
-            RData::SSHFP(rdata) => write!(f, "{rdata}"),
-            RData::SVCB(rdata) => write!(f, "{rdata}"),
-            RData::TLSA(rdata) => write!(f, "{rdata}"),
-            RData::TXT(rdata) => write!(f, "{rdata}"),
+        if let RData::OPT(_) = self {
+            return Err(fmt::Error);
+        }
+        each!(self, x => write!(f, "{x}"),
             RData::Unknown { rdata, .. } => write!(f, "{rdata}"),
             RData::Update0(_) => write!(f, "UPDATE"),
             RData::ZERO => Ok(()),
-        }
+        )
     }
 }
 

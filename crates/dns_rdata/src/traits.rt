@@ -1,14 +1,11 @@
 //! What record data has in common, whatever its type.
 
-ghost use Rattle.std.specs.Prelude.{◌≡◌, ◌↔◌, IsTrue, Option, Some, option_copied};
+ghost use Rattle.std.specs.Prelude.{◌≡◌, ◌↔◌, IsTrue, Option, Some, None, option_copied};
 ghost use Rattle.std.proofs.Common.{rules};
 ghost use Rattle.dns_rdata.specs.declared.record_data.RData.{RData as Data};
 ghost use Rattle.dns_rdata.specs.declared.record_data.RData.TheVariants as rdata;
 ghost use Rattle.dns_rdata.specs.Data.{type_of};
 ghost use Rattle.dns_rdata.specs.Laws.{IsUpdate};
-ghost use Rattle.dns_rdata.specs.Equal.{as_a, as_aaaa, as_aname, as_caa, as_cert, as_cname, as_csync, as_hinfo, as_https, as_mx, as_naptr};
-ghost use Rattle.dns_rdata.specs.Equal.{as_null, as_ns, as_openpgpkey, as_opt, as_ptr, as_smimea, as_soa, as_srv, as_sshfp, as_svcb};
-ghost use Rattle.dns_rdata.specs.Equal.{as_tlsa, as_txt};
 
 use crate::record_data::RData;
 use dns_names_wire::RecordType;
@@ -48,18 +45,25 @@ pub trait RecordData: Sized {
     ghost exactly: { (v : Data) (x : Self) → (borrowed v ≡ Some x) ↔ (wrapped x ≡ v) };
 }
 
+// The record of the type that the value holds, if it does.
+macro_rules! held {
+    ($rdata:expr, $record:ident) => {
+        match $rdata {
+            RData::$record(data) => Some(data),
+            _ => None,
+        }
+    };
+}
+
 impl RecordData for A {
     ghost wrapped = { λ x. rdata.A x };
 
-    ghost borrowed = { as_a };
+    ghost borrowed = { elim [ rdata.A x ↦ Some x | v ↦ None ] };
 
     ghost exactly = { Prim.search rules };
 
     fn try_borrow(rdata: &RData) -> Option<&A> {
-        match rdata {
-            RData::A(rdata) => Some(rdata),
-            _ => None,
-        }
+        held!(rdata, A)
     }
 
     fn record_type(&self) -> RecordType {
@@ -78,15 +82,12 @@ impl RecordData for A {
 impl RecordData for AAAA {
     ghost wrapped = { λ x. rdata.AAAA x };
 
-    ghost borrowed = { as_aaaa };
+    ghost borrowed = { elim [ rdata.AAAA x ↦ Some x | v ↦ None ] };
 
     ghost exactly = { Prim.search rules };
 
     fn try_borrow(rdata: &RData) -> Option<&AAAA> {
-        match rdata {
-            RData::AAAA(rdata) => Some(rdata),
-            _ => None,
-        }
+        held!(rdata, AAAA)
     }
 
     fn record_type(&self) -> RecordType {
@@ -105,15 +106,12 @@ impl RecordData for AAAA {
 impl RecordData for ANAME {
     ghost wrapped = { λ x. rdata.ANAME x };
 
-    ghost borrowed = { as_aname };
+    ghost borrowed = { elim [ rdata.ANAME x ↦ Some x | v ↦ None ] };
 
     ghost exactly = { Prim.search rules };
 
     fn try_borrow(rdata: &RData) -> Option<&ANAME> {
-        match rdata {
-            RData::ANAME(rdata) => Some(rdata),
-            _ => None,
-        }
+        held!(rdata, ANAME)
     }
 
     fn record_type(&self) -> RecordType {
@@ -132,15 +130,12 @@ impl RecordData for ANAME {
 impl RecordData for CAA {
     ghost wrapped = { λ x. rdata.CAA x };
 
-    ghost borrowed = { as_caa };
+    ghost borrowed = { elim [ rdata.CAA x ↦ Some x | v ↦ None ] };
 
     ghost exactly = { Prim.search rules };
 
     fn try_borrow(rdata: &RData) -> Option<&CAA> {
-        match rdata {
-            RData::CAA(rdata) => Some(rdata),
-            _ => None,
-        }
+        held!(rdata, CAA)
     }
 
     fn record_type(&self) -> RecordType {
@@ -159,15 +154,12 @@ impl RecordData for CAA {
 impl RecordData for CERT {
     ghost wrapped = { λ x. rdata.CERT x };
 
-    ghost borrowed = { as_cert };
+    ghost borrowed = { elim [ rdata.CERT x ↦ Some x | v ↦ None ] };
 
     ghost exactly = { Prim.search rules };
 
     fn try_borrow(rdata: &RData) -> Option<&CERT> {
-        match rdata {
-            RData::CERT(rdata) => Some(rdata),
-            _ => None,
-        }
+        held!(rdata, CERT)
     }
 
     fn record_type(&self) -> RecordType {
@@ -186,15 +178,12 @@ impl RecordData for CERT {
 impl RecordData for CNAME {
     ghost wrapped = { λ x. rdata.CNAME x };
 
-    ghost borrowed = { as_cname };
+    ghost borrowed = { elim [ rdata.CNAME x ↦ Some x | v ↦ None ] };
 
     ghost exactly = { Prim.search rules };
 
     fn try_borrow(rdata: &RData) -> Option<&CNAME> {
-        match rdata {
-            RData::CNAME(rdata) => Some(rdata),
-            _ => None,
-        }
+        held!(rdata, CNAME)
     }
 
     fn record_type(&self) -> RecordType {
@@ -213,15 +202,12 @@ impl RecordData for CNAME {
 impl RecordData for CSYNC {
     ghost wrapped = { λ x. rdata.CSYNC x };
 
-    ghost borrowed = { as_csync };
+    ghost borrowed = { elim [ rdata.CSYNC x ↦ Some x | v ↦ None ] };
 
     ghost exactly = { Prim.search rules };
 
     fn try_borrow(rdata: &RData) -> Option<&CSYNC> {
-        match rdata {
-            RData::CSYNC(rdata) => Some(rdata),
-            _ => None,
-        }
+        held!(rdata, CSYNC)
     }
 
     fn record_type(&self) -> RecordType {
@@ -240,15 +226,12 @@ impl RecordData for CSYNC {
 impl RecordData for HINFO {
     ghost wrapped = { λ x. rdata.HINFO x };
 
-    ghost borrowed = { as_hinfo };
+    ghost borrowed = { elim [ rdata.HINFO x ↦ Some x | v ↦ None ] };
 
     ghost exactly = { Prim.search rules };
 
     fn try_borrow(rdata: &RData) -> Option<&HINFO> {
-        match rdata {
-            RData::HINFO(rdata) => Some(rdata),
-            _ => None,
-        }
+        held!(rdata, HINFO)
     }
 
     fn record_type(&self) -> RecordType {
@@ -267,15 +250,12 @@ impl RecordData for HINFO {
 impl RecordData for HTTPS {
     ghost wrapped = { λ x. rdata.HTTPS x };
 
-    ghost borrowed = { as_https };
+    ghost borrowed = { elim [ rdata.HTTPS x ↦ Some x | v ↦ None ] };
 
     ghost exactly = { Prim.search rules };
 
     fn try_borrow(rdata: &RData) -> Option<&HTTPS> {
-        match rdata {
-            RData::HTTPS(rdata) => Some(rdata),
-            _ => None,
-        }
+        held!(rdata, HTTPS)
     }
 
     fn record_type(&self) -> RecordType {
@@ -294,15 +274,12 @@ impl RecordData for HTTPS {
 impl RecordData for MX {
     ghost wrapped = { λ x. rdata.MX x };
 
-    ghost borrowed = { as_mx };
+    ghost borrowed = { elim [ rdata.MX x ↦ Some x | v ↦ None ] };
 
     ghost exactly = { Prim.search rules };
 
     fn try_borrow(rdata: &RData) -> Option<&MX> {
-        match rdata {
-            RData::MX(rdata) => Some(rdata),
-            _ => None,
-        }
+        held!(rdata, MX)
     }
 
     fn record_type(&self) -> RecordType {
@@ -321,15 +298,12 @@ impl RecordData for MX {
 impl RecordData for NAPTR {
     ghost wrapped = { λ x. rdata.NAPTR x };
 
-    ghost borrowed = { as_naptr };
+    ghost borrowed = { elim [ rdata.NAPTR x ↦ Some x | v ↦ None ] };
 
     ghost exactly = { Prim.search rules };
 
     fn try_borrow(rdata: &RData) -> Option<&NAPTR> {
-        match rdata {
-            RData::NAPTR(rdata) => Some(rdata),
-            _ => None,
-        }
+        held!(rdata, NAPTR)
     }
 
     fn record_type(&self) -> RecordType {
@@ -348,15 +322,12 @@ impl RecordData for NAPTR {
 impl RecordData for NULL {
     ghost wrapped = { λ x. rdata.NULL x };
 
-    ghost borrowed = { as_null };
+    ghost borrowed = { elim [ rdata.NULL x ↦ Some x | v ↦ None ] };
 
     ghost exactly = { Prim.search rules };
 
     fn try_borrow(rdata: &RData) -> Option<&NULL> {
-        match rdata {
-            RData::NULL(rdata) => Some(rdata),
-            _ => None,
-        }
+        held!(rdata, NULL)
     }
 
     fn record_type(&self) -> RecordType {
@@ -375,15 +346,12 @@ impl RecordData for NULL {
 impl RecordData for NS {
     ghost wrapped = { λ x. rdata.NS x };
 
-    ghost borrowed = { as_ns };
+    ghost borrowed = { elim [ rdata.NS x ↦ Some x | v ↦ None ] };
 
     ghost exactly = { Prim.search rules };
 
     fn try_borrow(rdata: &RData) -> Option<&NS> {
-        match rdata {
-            RData::NS(rdata) => Some(rdata),
-            _ => None,
-        }
+        held!(rdata, NS)
     }
 
     fn record_type(&self) -> RecordType {
@@ -402,15 +370,12 @@ impl RecordData for NS {
 impl RecordData for OPENPGPKEY {
     ghost wrapped = { λ x. rdata.OPENPGPKEY x };
 
-    ghost borrowed = { as_openpgpkey };
+    ghost borrowed = { elim [ rdata.OPENPGPKEY x ↦ Some x | v ↦ None ] };
 
     ghost exactly = { Prim.search rules };
 
     fn try_borrow(rdata: &RData) -> Option<&OPENPGPKEY> {
-        match rdata {
-            RData::OPENPGPKEY(rdata) => Some(rdata),
-            _ => None,
-        }
+        held!(rdata, OPENPGPKEY)
     }
 
     fn record_type(&self) -> RecordType {
@@ -429,15 +394,12 @@ impl RecordData for OPENPGPKEY {
 impl RecordData for OPT {
     ghost wrapped = { λ x. rdata.OPT x };
 
-    ghost borrowed = { as_opt };
+    ghost borrowed = { elim [ rdata.OPT x ↦ Some x | v ↦ None ] };
 
     ghost exactly = { Prim.search rules };
 
     fn try_borrow(rdata: &RData) -> Option<&OPT> {
-        match rdata {
-            RData::OPT(rdata) => Some(rdata),
-            _ => None,
-        }
+        held!(rdata, OPT)
     }
 
     fn record_type(&self) -> RecordType {
@@ -456,15 +418,12 @@ impl RecordData for OPT {
 impl RecordData for PTR {
     ghost wrapped = { λ x. rdata.PTR x };
 
-    ghost borrowed = { as_ptr };
+    ghost borrowed = { elim [ rdata.PTR x ↦ Some x | v ↦ None ] };
 
     ghost exactly = { Prim.search rules };
 
     fn try_borrow(rdata: &RData) -> Option<&PTR> {
-        match rdata {
-            RData::PTR(rdata) => Some(rdata),
-            _ => None,
-        }
+        held!(rdata, PTR)
     }
 
     fn record_type(&self) -> RecordType {
@@ -483,15 +442,12 @@ impl RecordData for PTR {
 impl RecordData for SMIMEA {
     ghost wrapped = { λ x. rdata.SMIMEA x };
 
-    ghost borrowed = { as_smimea };
+    ghost borrowed = { elim [ rdata.SMIMEA x ↦ Some x | v ↦ None ] };
 
     ghost exactly = { Prim.search rules };
 
     fn try_borrow(rdata: &RData) -> Option<&SMIMEA> {
-        match rdata {
-            RData::SMIMEA(rdata) => Some(rdata),
-            _ => None,
-        }
+        held!(rdata, SMIMEA)
     }
 
     fn record_type(&self) -> RecordType {
@@ -510,15 +466,12 @@ impl RecordData for SMIMEA {
 impl RecordData for SOA {
     ghost wrapped = { λ x. rdata.SOA x };
 
-    ghost borrowed = { as_soa };
+    ghost borrowed = { elim [ rdata.SOA x ↦ Some x | v ↦ None ] };
 
     ghost exactly = { Prim.search rules };
 
     fn try_borrow(rdata: &RData) -> Option<&SOA> {
-        match rdata {
-            RData::SOA(rdata) => Some(rdata),
-            _ => None,
-        }
+        held!(rdata, SOA)
     }
 
     fn record_type(&self) -> RecordType {
@@ -537,15 +490,12 @@ impl RecordData for SOA {
 impl RecordData for SRV {
     ghost wrapped = { λ x. rdata.SRV x };
 
-    ghost borrowed = { as_srv };
+    ghost borrowed = { elim [ rdata.SRV x ↦ Some x | v ↦ None ] };
 
     ghost exactly = { Prim.search rules };
 
     fn try_borrow(rdata: &RData) -> Option<&SRV> {
-        match rdata {
-            RData::SRV(rdata) => Some(rdata),
-            _ => None,
-        }
+        held!(rdata, SRV)
     }
 
     fn record_type(&self) -> RecordType {
@@ -564,15 +514,12 @@ impl RecordData for SRV {
 impl RecordData for SSHFP {
     ghost wrapped = { λ x. rdata.SSHFP x };
 
-    ghost borrowed = { as_sshfp };
+    ghost borrowed = { elim [ rdata.SSHFP x ↦ Some x | v ↦ None ] };
 
     ghost exactly = { Prim.search rules };
 
     fn try_borrow(rdata: &RData) -> Option<&SSHFP> {
-        match rdata {
-            RData::SSHFP(rdata) => Some(rdata),
-            _ => None,
-        }
+        held!(rdata, SSHFP)
     }
 
     fn record_type(&self) -> RecordType {
@@ -591,15 +538,12 @@ impl RecordData for SSHFP {
 impl RecordData for SVCB {
     ghost wrapped = { λ x. rdata.SVCB x };
 
-    ghost borrowed = { as_svcb };
+    ghost borrowed = { elim [ rdata.SVCB x ↦ Some x | v ↦ None ] };
 
     ghost exactly = { Prim.search rules };
 
     fn try_borrow(rdata: &RData) -> Option<&SVCB> {
-        match rdata {
-            RData::SVCB(rdata) => Some(rdata),
-            _ => None,
-        }
+        held!(rdata, SVCB)
     }
 
     fn record_type(&self) -> RecordType {
@@ -618,15 +562,12 @@ impl RecordData for SVCB {
 impl RecordData for TLSA {
     ghost wrapped = { λ x. rdata.TLSA x };
 
-    ghost borrowed = { as_tlsa };
+    ghost borrowed = { elim [ rdata.TLSA x ↦ Some x | v ↦ None ] };
 
     ghost exactly = { Prim.search rules };
 
     fn try_borrow(rdata: &RData) -> Option<&TLSA> {
-        match rdata {
-            RData::TLSA(rdata) => Some(rdata),
-            _ => None,
-        }
+        held!(rdata, TLSA)
     }
 
     fn record_type(&self) -> RecordType {
@@ -645,15 +586,12 @@ impl RecordData for TLSA {
 impl RecordData for TXT {
     ghost wrapped = { λ x. rdata.TXT x };
 
-    ghost borrowed = { as_txt };
+    ghost borrowed = { elim [ rdata.TXT x ↦ Some x | v ↦ None ] };
 
     ghost exactly = { Prim.search rules };
 
     fn try_borrow(rdata: &RData) -> Option<&TXT> {
-        match rdata {
-            RData::TXT(rdata) => Some(rdata),
-            _ => None,
-        }
+        held!(rdata, TXT)
     }
 
     fn record_type(&self) -> RecordType {

@@ -5,7 +5,7 @@ ghost use Rattle.std.specs.Cow.{cow_str_bytes};
 ghost use Rattle.std.specs.Iterator.{IsFinite};
 ghost use Rattle.std.specs.Option.{option_copied};
 ghost use Rattle.dns_rdata.specs.Data.{type_of};
-ghost use Rattle.dns_rdata.specs.DataWords.{ReadsDataWords, ReadsDataText, ReadsDataTextAt, AreDataWords, PrintsBack, HasNoWords};
+ghost use Rattle.dns_rdata.specs.DataWords.{AnswersDataWords, ReadsDataWords, ReadsDataText, ReadsDataTextAt, AreDataWords, PrintsBack, HasNoWords};
 ghost use Rattle.dns_text.specs.TextWords.{NoTextWords};
 ghost use Rattle.dns_words.specs.Reads.{Decides, UnlessMemory};
 
@@ -30,8 +30,7 @@ impl RData {
     ) -> Result<RData, ParseError>
         requires can { I.can_next tokens }
         requires ends { IsFinite (I.remaining tokens) }
-        ensures reads { ReadsDataWords I.next_gives S.text (option_copied origin.entry) record_type result tokens }
-        ensures unsupported { HasNoWords record_type → result ≡ Err (ParseError.UnsupportedRecordType record_type) }
+        ensures { AnswersDataWords I.next_gives S.text (option_copied origin.entry) record_type result tokens }
     {
         match record_type {
             RecordType::A => Ok(RData::A(A::from_tokens(tokens)?)),

@@ -1,7 +1,7 @@
-use Rattle.std.proofs.Common.{◌≡◌, ◌++◌, ◌∙◌, [], ap, rules, arith}
+use Rattle.std.proofs.Common.{◌≡◌, [], rules}
 use Rattle.std.specs.Option.{option_copied}
 use Rattle.dns_pieces.proofs.Copying.{copied_step, copied_full, copied_end, none_left}
-use Rattle.dns_rdata.specs.Cursor.{left_of, options_of}
+use Rattle.dns_rdata.specs.Cursor.{left_of}
 use Rattle.dns_rdata.proofs.canonical.CanonicalOctets.copy_to.Goals as goal
 
 pub returns-then-filled-buffer-clause-octets : goal.returns-then-filled-buffer-clause-octets

@@ -1,4 +1,4 @@
--- Orders that tell values apart are those of record data.
+-- An order that the fields tell is that of record data.
 use Rattle.std.proofs.Common.{◌≡◌, ◌≢◌, ◌&&◌, ℕ, ◌+◌, ◌<◌, ◌==◌, Bool, true, false, true≢false, if◌then◌else◌, Option, Some, None, IfSome, List, [], ◌∷◌, ◌++◌, length, map, take, refl, sym, ap, ◌∙◌, subst, arith}
 use Rattle.std.proofs.lemmas.List.{append_cancel_left, length-append, take_at}
 use Rattle.std.specs.List.{flat_map}
@@ -17,31 +17,19 @@ use Rattle.dns_pieces.proofs.Comparing.{cmp_shared, then_kept}
 use Rattle.dns_pieces.proofs.Fronts.{AllEnd, by_fields, field_cmp, fields_cmp}
 use Rattle.dns_rdata_base.specs.declared.hinfo.HINFO.{HINFO}
 use Rattle.dns_rdata_base.specs.declared.txt.TXT.{TXT}
-use Rattle.dns_rdata_base.specs.HINFO.{hinfo_shape, hinfo_fields}
-use Rattle.dns_rdata_base.specs.TXT.{txt_shape, txt_fields}
 use Rattle.dns_rdata_certs.specs.declared.cert.CERT.{CERT}
 use Rattle.dns_rdata_certs.specs.declared.sshfp.SSHFP.{SSHFP}
 use Rattle.dns_rdata_certs.specs.declared.tlsa.TLSA.{TLSA}
-use Rattle.dns_rdata_certs.specs.CertAlgorithm.{cert_algorithm_number}
-use Rattle.dns_rdata_certs.specs.CertType.{cert_type_number}
-use Rattle.dns_rdata_certs.specs.CertUsage.{cert_usage_number}
-use Rattle.dns_rdata_certs.specs.FingerprintType.{fingerprint_type_number}
-use Rattle.dns_rdata_certs.specs.Matching.{matching_number}
-use Rattle.dns_rdata_certs.specs.Selector.{selector_number}
-use Rattle.dns_rdata_certs.specs.SshfpAlgorithm.{sshfp_algorithm_number}
-use Rattle.dns_rdata_certs.specs.CERT.{cert_shape, cert_fields}
-use Rattle.dns_rdata_certs.specs.SSHFP.{sshfp_shape, sshfp_fields}
-use Rattle.dns_rdata_certs.specs.TLSA.{tlsa_shape, tlsa_fields}
 use Rattle.std.proofs.lemmas.Bool.Decides.{nat_tests}
-use Rattle.dns_rdata_options.specs.OPT.{Pair, opt_shape, opt_fields, pair_value}
-use Rattle.dns_rdata_options.specs.Order.{opt_eq}
-use Rattle.dns_rdata_options.specs.Steps.{pairs_emittable}
 use Rattle.dns_rdata_sets.specs.declared.caa.CAA.{CAA}
-use Rattle.dns_rdata_sets.specs.CAA.{caa_shape, caa_fields, caa_key_shape, caa_keys}
+use Rattle.dns_rdata_base.specs as base
+use Rattle.dns_rdata_certs.specs as certs
+use Rattle.dns_rdata_options.specs as options
+use Rattle.dns_rdata_sets.specs as sets
 use Rattle.dns_rdata.specs.declared.record_data.RData.{RData}
 use Rattle.dns_rdata.specs.Data.{data_octets, fields_of, octets_of}
-use Rattle.dns_rdata.specs.Equal.{equal, caa_eq, hinfo_eq, txt_eq}
-use Rattle.dns_rdata.specs.KnownOrders.{IsKnown, Knows}
+use Rattle.dns_rdata.specs.Equal.{equal}
+use Rattle.dns_rdata.specs.QuickOrders.{IsOrder, IfSomeOrder, IfSomeFieldOrder}
 use Rattle.dns_rdata.specs.Order.{rdata_cmp}
 use Rattle.dns_rdata.specs.Ties.{equal_is, rdata_ties}
 
@@ -121,25 +109,25 @@ differs v w s a b o f g n first second e =
     let d : o ≡ slice_cmp nat_cmp (data_octets v) (data_octets w) = e ∙ rw (left, right) refl in
     d ∙ then_kept (slice_cmp nat_cmp (data_octets v) (data_octets w)) _ (λ t. n (d ∙ t))
 
-known : (v w : RData) (s : List Kind) (a b : Values s) (same : Bool) (o : Ordering) → fields_of v ≡ record { kinds = s; values = a }
-    → fields_of w ≡ record { kinds = s; values = b } → (same ≡ true → equal v w ≡ true) → IsKnown s a b same o → o ≡ rdata_cmp v w
-known v w s a b same Equal f g h k = sym (equal_is (rdata_cmp v w) (sym (rdata_ties v w) ∙ h (k.equal refl)))
-known v w s a b same Less f g h k = let n = less_apart in differs v w s a b Less f g n (k.first n) (k.second n) (k.octets n)
-known v w s a b same Greater f g h k = let n = greater_apart in differs v w s a b Greater f g n (k.first n) (k.second n) (k.octets n)
+is_rdata_cmp : (v w : RData) (s : List Kind) (a b : Values s) (same : Bool) (o : Ordering) → fields_of v ≡ record { kinds = s; values = a }
+    → fields_of w ≡ record { kinds = s; values = b } → (same ≡ true → equal v w ≡ true) → IsOrder s a b same o → o ≡ rdata_cmp v w
+is_rdata_cmp v w s a b same Equal f g h k = sym (equal_is (rdata_cmp v w) (sym (rdata_ties v w) ∙ h (k.equal refl)))
+is_rdata_cmp v w s a b same Less f g h k = let n = less_apart in differs v w s a b Less f g n (k.first n) (k.second n) (k.octets n)
+is_rdata_cmp v w s a b same Greater f g h k = let n = greater_apart in differs v w s a b Greater f g n (k.first n) (k.second n) (k.octets n)
 
--- of one variant
-pub in_variant : (v w v' w' : RData) (s : List Kind) (a b : Values s) (same : Bool) (r : Option Ordering) → v ≡ v' → w ≡ w'
+-- the order of two records is that of two values of their variant
+pub in_variant : {v w v' w' : RData} {s : List Kind} {a b : Values s} (same : Bool) (r : Option Ordering) → v ≡ v' → w ≡ w'
     → fields_of v' ≡ record { kinds = s; values = a } → fields_of w' ≡ record { kinds = s; values = b } → equal v' w' ≡ (same && true)
-    → Knows s a b same r → IfSome r (λ o. o ≡ rdata_cmp v w)
-in_variant v w v' w' s a b same None e l f g h k = tt
-in_variant v w v' w' s a b same (Some o) e l f g h k =
-    known v' w' s a b same o f g (λ t. h ∙ ap (λ (x : Bool). x && true) t) k ∙ ap (λ (x : RData). rdata_cmp x w') (sym e) ∙ ap (rdata_cmp v) (sym l)
+    → IfSomeOrder s a b same r → IfSome r (λ o. o ≡ rdata_cmp v w)
+in_variant same None e l f g h k = tt
+in_variant {v = v} {w = w} {v' = v'} {w' = w'} {s = s} {a = a} {b = b} same (Some o) e l f g h k =
+    is_rdata_cmp v' w' s a b same o f g (λ t. h ∙ ap (λ (x : Bool). x && true) t) k ∙ ap (λ (x : RData). rdata_cmp x w') (sym e) ∙ ap (rdata_cmp v) (sym l)
 
 -- where a tie was tested by `==`
-pub unless_tied_knows : (s : List Kind) (a b : Values s) (same : Bool) (order : Ordering) (r : Option Ordering) → all_emittable s a ≡ true → all_emittable s b ≡ true
-    → order ≡ canonical_cmp s a b → IfSome r (λ o. (o ≡ order) × (o ≡ Equal → same ≡ true)) → Knows s a b same r
-unless_tied_knows s a b same order None f g e h = tt
-unless_tied_knows s a b same order (Some o) f g e h = record { equal = h.1; first = λ n. f; second = λ n. g; octets = λ n. h.0 ∙ e }
+pub unless_tied_orders : (s : List Kind) (a b : Values s) {order : Ordering} (r : Option Ordering) → all_emittable s a ≡ true → all_emittable s b ≡ true
+    → order ≡ canonical_cmp s a b → IfSome r (λ o. (o ≡ order) × (o ≡ Equal → values_eq s a b ≡ true)) → IfSomeFieldOrder s a b r
+unless_tied_orders s a b None f g e h = tt
+unless_tied_orders s a b (Some o) f g e h = record { equal = h.1; first = λ n. f; second = λ n. g; octets = λ n. h.0 ∙ e }
 
 -- ---- of each record
 
@@ -153,47 +141,47 @@ tie Less h n = absurd (true≢false (sym h))
 tie Equal h n = absurd (n refl)
 tie Greater h n = absurd (true≢false (sym h))
 
-pub rest_knows : (a b : List ℕ) (o : Ordering) → o ≡ canonical_cmp (Rest ∷ []) (a, tt) (b, tt)
-    → IsKnown (Rest ∷ []) (a, tt) (b, tt) (values_eq (Rest ∷ []) (a, tt) (b, tt)) o
-rest_knows a b o e = record {
+pub rest_orders : (a b : List ℕ) (o : Ordering) → o ≡ canonical_cmp (Rest ∷ []) (a, tt) (b, tt)
+    → IsOrder (Rest ∷ []) (a, tt) (b, tt) (values_eq (Rest ∷ []) (a, tt) (b, tt)) o
+rest_orders a b o e = record {
   first = λ n. refl;
   second = λ n. refl;
   octets = λ n. e;
   equal = λ t. itself (Rest ∷ []) (a, tt) (b, tt) (rw (same_rest a b (tied_fields (Rest ∷ []) (a, tt) (b, tt) (tt, tt) (sym e ∙ t)).0) refl);
 }
 
-pub txt_knows : (x y : TXT) (o : Ordering) → (o ≢ Equal → all_emittable txt_shape (txt_fields x) ≡ true) → (o ≢ Equal → all_emittable txt_shape (txt_fields y) ≡ true)
-    → o ≡ canonical_cmp txt_shape (txt_fields x) (txt_fields y) → IsKnown txt_shape (txt_fields x) (txt_fields y) (txt_eq x y) o
-txt_knows x y o f g e = record {
+pub txt_orders : (x y : TXT) (o : Ordering) → (o ≢ Equal → all_emittable base.TXT.txt_shape (base.TXT.txt_fields x) ≡ true) → (o ≢ Equal → all_emittable base.TXT.txt_shape (base.TXT.txt_fields y) ≡ true)
+    → o ≡ canonical_cmp base.TXT.txt_shape (base.TXT.txt_fields x) (base.TXT.txt_fields y) → IsOrder base.TXT.txt_shape (base.TXT.txt_fields x) (base.TXT.txt_fields y) (values_eq base.TXT.txt_shape (base.TXT.txt_fields x) (base.TXT.txt_fields y)) o
+txt_orders x y o f g e = record {
   first = f;
   second = g;
   octets = λ n. e;
-  equal = λ t. itself txt_shape (txt_fields x) (txt_fields y)
-      (rw (same_texts x.txt_data y.txt_data (tied_fields txt_shape (txt_fields x) (txt_fields y) (tt, tt) (sym e ∙ t)).0) refl);
+  equal = λ t. itself base.TXT.txt_shape (base.TXT.txt_fields x) (base.TXT.txt_fields y)
+      (rw (same_texts x.txt_data y.txt_data (tied_fields base.TXT.txt_shape (base.TXT.txt_fields x) (base.TXT.txt_fields y) (tt, tt) (sym e ∙ t)).0) refl);
 }
 
-pub hinfo_knows : (x y : HINFO) (o : Ordering) → (o ≢ Equal → all_emittable hinfo_shape (hinfo_fields x) ≡ true) → (o ≢ Equal → all_emittable hinfo_shape (hinfo_fields y) ≡ true)
-    → o ≡ canonical_cmp hinfo_shape (hinfo_fields x) (hinfo_fields y) → IsKnown hinfo_shape (hinfo_fields x) (hinfo_fields y) (hinfo_eq x y) o
-hinfo_knows x y o f g e = record {
+pub hinfo_orders : (x y : HINFO) (o : Ordering) → (o ≢ Equal → all_emittable base.HINFO.hinfo_shape (base.HINFO.hinfo_fields x) ≡ true) → (o ≢ Equal → all_emittable base.HINFO.hinfo_shape (base.HINFO.hinfo_fields y) ≡ true)
+    → o ≡ canonical_cmp base.HINFO.hinfo_shape (base.HINFO.hinfo_fields x) (base.HINFO.hinfo_fields y) → IsOrder base.HINFO.hinfo_shape (base.HINFO.hinfo_fields x) (base.HINFO.hinfo_fields y) (values_eq base.HINFO.hinfo_shape (base.HINFO.hinfo_fields x) (base.HINFO.hinfo_fields y)) o
+hinfo_orders x y o f g e = record {
   first = f;
   second = g;
   octets = λ n. e;
   equal = λ t.
-      let tied = tied_fields hinfo_shape (hinfo_fields x) (hinfo_fields y) (tt, (tt, tt)) (sym e ∙ t) in
-      itself hinfo_shape (hinfo_fields x) (hinfo_fields y) (rw (same_text x.cpu y.cpu tied.0, same_text x.os y.os tied.1.0) refl);
+      let tied = tied_fields base.HINFO.hinfo_shape (base.HINFO.hinfo_fields x) (base.HINFO.hinfo_fields y) (tt, (tt, tt)) (sym e ∙ t) in
+      itself base.HINFO.hinfo_shape (base.HINFO.hinfo_fields x) (base.HINFO.hinfo_fields y) (rw (same_text x.cpu y.cpu tied.0, same_text x.os y.os tied.1.0) refl);
 }
 
-pub caa_knows : (x y : CAA) (o : Ordering) → (o ≢ Equal → all_emittable caa_shape (caa_fields x) ≡ true) → (o ≢ Equal → all_emittable caa_shape (caa_fields y) ≡ true)
-    → o ≡ canonical_cmp caa_shape (caa_fields x) (caa_fields y)
-    → (o ≡ Equal → (x.issuer_critical ≡ y.issuer_critical) × (x.reserved_flags ≡ y.reserved_flags)) → IsKnown caa_shape (caa_fields x) (caa_fields y) (caa_eq x y) o
-caa_knows x y o f g e h = record {
+pub caa_orders : (x y : CAA) (o : Ordering) → (o ≢ Equal → all_emittable sets.CAA.caa_shape (sets.CAA.caa_fields x) ≡ true) → (o ≢ Equal → all_emittable sets.CAA.caa_shape (sets.CAA.caa_fields y) ≡ true)
+    → o ≡ canonical_cmp sets.CAA.caa_shape (sets.CAA.caa_fields x) (sets.CAA.caa_fields y)
+    → (o ≡ Equal → (x.issuer_critical ≡ y.issuer_critical) × (x.reserved_flags ≡ y.reserved_flags)) → IsOrder sets.CAA.caa_shape (sets.CAA.caa_fields x) (sets.CAA.caa_fields y) (values_eq sets.CAA.caa_key_shape (sets.CAA.caa_keys x) (sets.CAA.caa_keys y)) o
+caa_orders x y o f g e h = record {
   first = f;
   second = g;
   octets = λ n. e;
   equal = λ t.
-      let tied = tied_fields caa_shape (caa_fields x) (caa_fields y) (tt, (tt, (tt, tt))) (sym e ∙ t) in
+      let tied = tied_fields sets.CAA.caa_shape (sets.CAA.caa_fields x) (sets.CAA.caa_fields y) (tt, (tt, (tt, tt))) (sym e ∙ t) in
       let flags = h t in
-      itself caa_key_shape (caa_keys x) (caa_keys y) (rw (flags.0, flags.1, same_text x.tag y.tag tied.1.0, same_rest x.value y.value tied.1.1.0) refl);
+      itself sets.CAA.caa_key_shape (sets.CAA.caa_keys x) (sets.CAA.caa_keys y) (rw (flags.0, flags.1, same_text x.tag y.tag tied.1.0, same_rest x.value y.value tied.1.1.0) refl);
 }
 
 -- ---- of octets to the end behind other fields
@@ -210,33 +198,33 @@ same_first k x y kinds a b e = cmp_shared {n = length (field_octets k y)} record
 abbrev pub rest_cmp : List ℕ → List ℕ → Ordering
 rest_cmp a b = canonical_cmp (Rest ∷ []) (a, tt) (b, tt)
 
-pub cert_front : (x y : CERT) → cert_type_number x.cert_type ≡ cert_type_number y.cert_type → x.key_tag ≡ y.key_tag
-    → cert_algorithm_number x.algorithm ≡ cert_algorithm_number y.algorithm
-    → canonical_cmp cert_shape (cert_fields x) (cert_fields y) ≡ rest_cmp x.cert_data y.cert_data
+pub cert_front : (x y : CERT) → certs.CertType.cert_type_number x.cert_type ≡ certs.CertType.cert_type_number y.cert_type → x.key_tag ≡ y.key_tag
+    → certs.CertAlgorithm.cert_algorithm_number x.algorithm ≡ certs.CertAlgorithm.cert_algorithm_number y.algorithm
+    → canonical_cmp certs.CERT.cert_shape (certs.CERT.cert_fields x) (certs.CERT.cert_fields y) ≡ rest_cmp x.cert_data y.cert_data
 cert_front x y e f g =
-    same_first (Number 2) (cert_type_number x.cert_type) (cert_type_number y.cert_type) (Number 2 ∷ Number 1 ∷ Rest ∷ []) (cert_fields x).1 (cert_fields y).1 e
-    ∙ same_first (Number 2) x.key_tag y.key_tag (Number 1 ∷ Rest ∷ []) (cert_fields x).1.1 (cert_fields y).1.1 f
-    ∙ same_first (Number 1) (cert_algorithm_number x.algorithm) (cert_algorithm_number y.algorithm) (Rest ∷ []) (x.cert_data, tt) (y.cert_data, tt) g
+    same_first (Number 2) (certs.CertType.cert_type_number x.cert_type) (certs.CertType.cert_type_number y.cert_type) (Number 2 ∷ Number 1 ∷ Rest ∷ []) (certs.CERT.cert_fields x).1 (certs.CERT.cert_fields y).1 e
+    ∙ same_first (Number 2) x.key_tag y.key_tag (Number 1 ∷ Rest ∷ []) (certs.CERT.cert_fields x).1.1 (certs.CERT.cert_fields y).1.1 f
+    ∙ same_first (Number 1) (certs.CertAlgorithm.cert_algorithm_number x.algorithm) (certs.CertAlgorithm.cert_algorithm_number y.algorithm) (Rest ∷ []) (x.cert_data, tt) (y.cert_data, tt) g
 
-pub sshfp_front : (x y : SSHFP) → sshfp_algorithm_number x.algorithm ≡ sshfp_algorithm_number y.algorithm
-    → fingerprint_type_number x.fingerprint_type ≡ fingerprint_type_number y.fingerprint_type
-    → canonical_cmp sshfp_shape (sshfp_fields x) (sshfp_fields y) ≡ rest_cmp x.fingerprint y.fingerprint
+pub sshfp_front : (x y : SSHFP) → certs.SshfpAlgorithm.sshfp_algorithm_number x.algorithm ≡ certs.SshfpAlgorithm.sshfp_algorithm_number y.algorithm
+    → certs.FingerprintType.fingerprint_type_number x.fingerprint_type ≡ certs.FingerprintType.fingerprint_type_number y.fingerprint_type
+    → canonical_cmp certs.SSHFP.sshfp_shape (certs.SSHFP.sshfp_fields x) (certs.SSHFP.sshfp_fields y) ≡ rest_cmp x.fingerprint y.fingerprint
 sshfp_front x y e f =
-    same_first (Number 1) (sshfp_algorithm_number x.algorithm) (sshfp_algorithm_number y.algorithm) (Number 1 ∷ Rest ∷ []) (sshfp_fields x).1 (sshfp_fields y).1 e
-    ∙ same_first (Number 1) (fingerprint_type_number x.fingerprint_type) (fingerprint_type_number y.fingerprint_type) (Rest ∷ [])
+    same_first (Number 1) (certs.SshfpAlgorithm.sshfp_algorithm_number x.algorithm) (certs.SshfpAlgorithm.sshfp_algorithm_number y.algorithm) (Number 1 ∷ Rest ∷ []) (certs.SSHFP.sshfp_fields x).1 (certs.SSHFP.sshfp_fields y).1 e
+    ∙ same_first (Number 1) (certs.FingerprintType.fingerprint_type_number x.fingerprint_type) (certs.FingerprintType.fingerprint_type_number y.fingerprint_type) (Rest ∷ [])
     (x.fingerprint, tt) (y.fingerprint, tt) f
 
-pub tlsa_front : (x y : TLSA) → cert_usage_number x.cert_usage ≡ cert_usage_number y.cert_usage → selector_number x.selector ≡ selector_number y.selector
-    → matching_number x.matching ≡ matching_number y.matching
-    → canonical_cmp tlsa_shape (tlsa_fields x) (tlsa_fields y) ≡ rest_cmp x.cert_data y.cert_data
+pub tlsa_front : (x y : TLSA) → certs.CertUsage.cert_usage_number x.cert_usage ≡ certs.CertUsage.cert_usage_number y.cert_usage → certs.Selector.selector_number x.selector ≡ certs.Selector.selector_number y.selector
+    → certs.Matching.matching_number x.matching ≡ certs.Matching.matching_number y.matching
+    → canonical_cmp certs.TLSA.tlsa_shape (certs.TLSA.tlsa_fields x) (certs.TLSA.tlsa_fields y) ≡ rest_cmp x.cert_data y.cert_data
 tlsa_front x y e f g =
-    same_first (Number 1) (cert_usage_number x.cert_usage) (cert_usage_number y.cert_usage) (Number 1 ∷ Number 1 ∷ Rest ∷ []) (tlsa_fields x).1 (tlsa_fields y).1 e
-    ∙ same_first (Number 1) (selector_number x.selector) (selector_number y.selector) (Number 1 ∷ Rest ∷ []) (tlsa_fields x).1.1 (tlsa_fields y).1.1 f
-    ∙ same_first (Number 1) (matching_number x.matching) (matching_number y.matching) (Rest ∷ []) (x.cert_data, tt) (y.cert_data, tt) g
+    same_first (Number 1) (certs.CertUsage.cert_usage_number x.cert_usage) (certs.CertUsage.cert_usage_number y.cert_usage) (Number 1 ∷ Number 1 ∷ Rest ∷ []) (certs.TLSA.tlsa_fields x).1 (certs.TLSA.tlsa_fields y).1 e
+    ∙ same_first (Number 1) (certs.Selector.selector_number x.selector) (certs.Selector.selector_number y.selector) (Number 1 ∷ Rest ∷ []) (certs.TLSA.tlsa_fields x).1.1 (certs.TLSA.tlsa_fields y).1.1 f
+    ∙ same_first (Number 1) (certs.Matching.matching_number x.matching) (certs.Matching.matching_number y.matching) (Rest ∷ []) (x.cert_data, tt) (y.cert_data, tt) g
 
 -- the octets decide, and tell the values
 pub by_rest : (s : List Kind) (a b : Values s) (same : Bool) (x y : List ℕ) (o : Ordering) → all_emittable s a ≡ true → all_emittable s b ≡ true
-    → canonical_cmp s a b ≡ rest_cmp x y → (x ≡ y → same ≡ true) → o ≡ rest_cmp x y → IsKnown s a b same o
+    → canonical_cmp s a b ≡ rest_cmp x y → (x ≡ y → same ≡ true) → o ≡ rest_cmp x y → IsOrder s a b same o
 by_rest s a b same x y o f g order equal e = record {
   equal = λ t. equal (same_rest x y (tied_fields (Rest ∷ []) (x, tt) (y, tt) (tt, tt) (sym e ∙ t)).0);
   first = λ n. f;
@@ -246,7 +234,7 @@ by_rest s a b same x y o f g order equal e = record {
 
 -- where only a difference was told
 pub differing : (s : List Kind) (a b : Values s) (same : Bool) (order : Ordering) (r : Option Ordering) → all_emittable s a ≡ true → all_emittable s b ≡ true
-    → order ≡ canonical_cmp s a b → IfSome r (λ o. (o ≡ order) × (o ≢ Equal)) → Knows s a b same r
+    → order ≡ canonical_cmp s a b → IfSome r (λ o. (o ≡ order) × (o ≢ Equal)) → IfSomeOrder s a b same r
 differing s a b same order None f g e h = tt
 differing s a b same order (Some o) f g e h = record { equal = λ t. absurd (h.1 t); first = λ n. f; second = λ n. g; octets = λ n. h.0 ∙ e }
 
@@ -262,11 +250,11 @@ put_length x (y ∷ ys) = by (is_gt (slice_cmp nat_cmp x y)) (put_length x ys)
     by false h = length-append x (flat_map (λ s. s) (y ∷ ys))
 
 -- some options have octets
-some_octets : (p : Pair) (ps : List Pair) → 0 < length (canonical opt_shape (opt_fields (p ∷ ps)))
+some_octets : (p : options.OPT.Pair) (ps : List options.OPT.Pair) → 0 < length (canonical options.OPT.opt_shape (options.OPT.opt_fields (p ∷ ps)))
 unfolding field_octets
 some_octets p ps =
-    let x = piece (as_piece option_octets (pair_value p)) in
-    let rest = sorted (slice_cmp nat_cmp) (map piece (option_pieces (map pair_value ps))) in
+    let x = piece (as_piece option_octets (options.OPT.pair_value p)) in
+    let rest = sorted (slice_cmp nat_cmp) (map piece (option_pieces (map options.OPT.pair_value ps))) in
     omega (arith, length-append (flat_map (λ s. s) (put (slice_cmp nat_cmp) x rest)) [], put_length x rest)
 
 before_some : (l : List ℕ) → 0 < length l → Less ≡ slice_cmp nat_cmp [] l
@@ -277,38 +265,38 @@ behind_none : (l : List ℕ) → 0 < length l → Greater ≡ slice_cmp nat_cmp 
 behind_none [] h = absurd (omega (arith, h))
 behind_none (x ∷ l) h = refl
 
-is_none : (a : List Pair) → true ≡ (length a == 0) → a ≡ []
+is_none : (a : List options.OPT.Pair) → true ≡ (length a == 0) → a ≡ []
 is_none [] h = refl
 is_none (p ∷ ps) h = absurd (above (length (p ∷ ps)) (omega arith) h)
   where
     above : (n : ℕ) → 0 < n → true ≡ (n == 0) → ⊥
     above n h e = grind (arith, nat_tests, h, e)
 
-none_first : (b : List Pair) → false ≡ (length b == 0) → Less ≡ canonical_cmp opt_shape (opt_fields []) (opt_fields b)
+none_first : (b : List options.OPT.Pair) → false ≡ (length b == 0) → Less ≡ canonical_cmp options.OPT.opt_shape (options.OPT.opt_fields []) (options.OPT.opt_fields b)
 unfolding field_octets
 none_first [] h = absurd (true≢false (sym h))
-none_first (p ∷ ps) h = before_some (canonical opt_shape (opt_fields (p ∷ ps))) (some_octets p ps)
+none_first (p ∷ ps) h = before_some (canonical options.OPT.opt_shape (options.OPT.opt_fields (p ∷ ps))) (some_octets p ps)
 
-some_last : (a : List Pair) → false ≡ (length a == 0) → Greater ≡ canonical_cmp opt_shape (opt_fields a) (opt_fields [])
+some_last : (a : List options.OPT.Pair) → false ≡ (length a == 0) → Greater ≡ canonical_cmp options.OPT.opt_shape (options.OPT.opt_fields a) (options.OPT.opt_fields [])
 unfolding field_octets
 some_last [] h = absurd (true≢false (sym h))
-some_last (p ∷ ps) h = behind_none (canonical opt_shape (opt_fields (p ∷ ps))) (some_octets p ps)
+some_last (p ∷ ps) h = behind_none (canonical options.OPT.opt_shape (options.OPT.opt_fields (p ∷ ps))) (some_octets p ps)
 
 -- a record of no options comes before one of some
-pub none_knows : (x y a b : List Pair) → x ≡ a → y ≡ b → true ≡ (length x == 0) → false ≡ (length y == 0) → pairs_emittable a ≡ true → pairs_emittable b ≡ true
-    → IsKnown opt_shape (opt_fields a) (opt_fields b) (opt_eq a b) Less
-none_knows x y a b e l n m f g = record {
+pub none_orders : (x y a b : List options.OPT.Pair) → x ≡ a → y ≡ b → true ≡ (length x == 0) → false ≡ (length y == 0) → options.Steps.pairs_emittable a ≡ true → options.Steps.pairs_emittable b ≡ true
+    → IsOrder options.OPT.opt_shape (options.OPT.opt_fields a) (options.OPT.opt_fields b) (options.Order.opt_eq a b) Less
+none_orders x y a b e l n m f g = record {
   equal = λ t. cc t;
   first = λ u. ap (λ (t : Bool). t && true) f;
   second = λ u. ap (λ (t : Bool). t && true) g;
-  octets = λ u. none_first b (rw (← l) m) ∙ ap (λ (c : List Pair). canonical_cmp opt_shape (opt_fields c) (opt_fields b)) (sym (sym e ∙ is_none x n));
+  octets = λ u. none_first b (rw (← l) m) ∙ ap (λ (c : List options.OPT.Pair). canonical_cmp options.OPT.opt_shape (options.OPT.opt_fields c) (options.OPT.opt_fields b)) (sym (sym e ∙ is_none x n));
 }
 
-pub some_knows : (x y a b : List Pair) → x ≡ a → y ≡ b → false ≡ (length x == 0) → true ≡ (length y == 0) → pairs_emittable a ≡ true → pairs_emittable b ≡ true
-    → IsKnown opt_shape (opt_fields a) (opt_fields b) (opt_eq a b) Greater
-some_knows x y a b e l n m f g = record {
+pub some_orders : (x y a b : List options.OPT.Pair) → x ≡ a → y ≡ b → false ≡ (length x == 0) → true ≡ (length y == 0) → options.Steps.pairs_emittable a ≡ true → options.Steps.pairs_emittable b ≡ true
+    → IsOrder options.OPT.opt_shape (options.OPT.opt_fields a) (options.OPT.opt_fields b) (options.Order.opt_eq a b) Greater
+some_orders x y a b e l n m f g = record {
   equal = λ t. cc t;
   first = λ u. ap (λ (t : Bool). t && true) f;
   second = λ u. ap (λ (t : Bool). t && true) g;
-  octets = λ u. some_last a (rw (← e) n) ∙ ap (λ (c : List Pair). canonical_cmp opt_shape (opt_fields a) (opt_fields c)) (sym (sym l ∙ is_none y m));
+  octets = λ u. some_last a (rw (← e) n) ∙ ap (λ (c : List options.OPT.Pair). canonical_cmp options.OPT.opt_shape (options.OPT.opt_fields a) (options.OPT.opt_fields c)) (sym (sym l ∙ is_none y m));
 }

@@ -1,4 +1,4 @@
-//! Record data of one variant, ordered by its fields without a cursor.
+//! The order of two values of one variant by their fields, where these tell it without a cursor.
 
 ghost use Rattle.std.specs.Prelude.{◌≡◌, ◌≢◌, ◌∷◌, [], IfSome, IsTrue, length, true};
 ghost use Rattle.std.specs.declared.cmp.Ordering.TheVariants.{Equal};
@@ -7,23 +7,22 @@ ghost use Rattle.dns_fields.specs.Equal.{values_eq};
 ghost use Rattle.dns_rdata_base.specs.HINFO.{hinfo_shape, hinfo_fields};
 ghost use Rattle.dns_rdata_base.specs.NAPTR.{naptr_shape, naptr_fields};
 ghost use Rattle.dns_rdata_base.specs.TXT.{txt_shape, txt_fields};
+ghost use Rattle.dns_rdata_certs.specs.CERT.{cert_key_shape, cert_keys, cert_shape, cert_fields};
 ghost use Rattle.dns_rdata_certs.specs.CertAlgorithm.{cert_algorithm_number};
 ghost use Rattle.dns_rdata_certs.specs.CertType.{cert_type_number};
 ghost use Rattle.dns_rdata_certs.specs.CertUsage.{cert_usage_number};
 ghost use Rattle.dns_rdata_certs.specs.FingerprintType.{fingerprint_type_number};
 ghost use Rattle.dns_rdata_certs.specs.Matching.{matching_number};
+ghost use Rattle.dns_rdata_certs.specs.SSHFP.{sshfp_key_shape, sshfp_keys, sshfp_shape, sshfp_fields};
 ghost use Rattle.dns_rdata_certs.specs.Selector.{selector_number};
 ghost use Rattle.dns_rdata_certs.specs.SshfpAlgorithm.{sshfp_algorithm_number};
-ghost use Rattle.dns_rdata_certs.specs.CERT.{cert_shape, cert_fields};
-ghost use Rattle.dns_rdata_certs.specs.SSHFP.{sshfp_shape, sshfp_fields};
-ghost use Rattle.dns_rdata_certs.specs.TLSA.{tlsa_shape, tlsa_fields};
+ghost use Rattle.dns_rdata_certs.specs.TLSA.{tlsa_key_shape, tlsa_keys, tlsa_shape, tlsa_fields};
 ghost use Rattle.dns_rdata_options.specs.OPT.{opt_shape, opt_fields};
 ghost use Rattle.dns_rdata_options.specs.Order.{opt_eq};
-ghost use Rattle.dns_rdata_sets.specs.CAA.{caa_shape, caa_fields};
-ghost use Rattle.dns_rdata_sets.specs.CSYNC.{csync_shape, csync_fields};
-ghost use Rattle.dns_rdata_service.specs.SVCB.{svcb_shape, svcb_fields};
-ghost use Rattle.dns_rdata.specs.Equal.{caa_eq, cert_eq, csync_eq, hinfo_eq, naptr_eq, sshfp_eq, svcb_eq, tlsa_eq, txt_eq};
-ghost use Rattle.dns_rdata.specs.KnownOrders.{Knows};
+ghost use Rattle.dns_rdata_service.specs.SVCB.{svcb_shape, svcb_fields, svcb_key_shape, svcb_keys};
+ghost use Rattle.dns_rdata_sets.specs.CAA.{caa_shape, caa_fields, caa_key_shape, caa_keys};
+ghost use Rattle.dns_rdata_sets.specs.CSYNC.{csync_shape, csync_fields, csync_key_shape, csync_keys};
+ghost use Rattle.dns_rdata.specs.QuickOrders.{IfSomeFieldOrder, IfSomeOrder};
 ghost use Rattle.dns_rdata.specs.Order.{rdata_cmp};
 
 use crate::record_data::RData;
@@ -47,7 +46,7 @@ use dns_rdata_sets::steps::caa_is_emittable;
 use dns_rdata_sets::{CAA, CSYNC};
 use std::cmp::Ordering;
 
-// The order, unless two values tie that are not equal.
+// The order that was found, but none where it ties two values that are not equal.
 #[inline]
 fn unless_tied<T: PartialEq>(order: Ordering, a: &T, b: &T) -> Option<Ordering>
     ensures { IfSome result (λ o. (o ≡ order) × (o ≡ Equal → T.eq a.now b.now ≡ true)) }
@@ -59,18 +58,18 @@ fn unless_tied<T: PartialEq>(order: Ordering, a: &T, b: &T) -> Option<Ordering>
     }
 }
 
-// Octets to the end tell the value.
+// Octets to the end are equal where they tie.
 #[inline]
-fn rest_known(a: &SmallOctets<64>, b: &SmallOctets<64>) -> Option<Ordering>
-    ensures { Knows (Rest ∷ []) (a.now, tt) (b.now, tt) (values_eq (Rest ∷ []) (a.now, tt) (b.now, tt)) result }
+fn rest_quick_cmp(a: &SmallOctets<64>, b: &SmallOctets<64>) -> Option<Ordering>
+    ensures { IfSomeFieldOrder (Rest ∷ []) (a.now, tt) (b.now, tt) result }
 {
     Some(rest_order(a.as_slice(), b.as_slice()))
 }
 
-// So do strings.
+// Strings are equal where their octets tie. Of others the order is found only if all can be emitted.
 #[inline]
-fn txt_known(a: &TXT, b: &TXT) -> Option<Ordering>
-    ensures { Knows txt_shape (txt_fields a.now) (txt_fields b.now) (txt_eq a.now b.now) result }
+fn txt_quick_cmp(a: &TXT, b: &TXT) -> Option<Ordering>
+    ensures { IfSomeFieldOrder txt_shape (txt_fields a.now) (txt_fields b.now) result }
 {
     let order = txt_order(a, b);
     if order.is_eq() {
@@ -82,10 +81,10 @@ fn txt_known(a: &TXT, b: &TXT) -> Option<Ordering>
     Some(order)
 }
 
-// So do two strings.
+// The two strings are equal where their octets tie. Of others the order is found only if all can be emitted.
 #[inline]
-fn hinfo_known(a: &HINFO, b: &HINFO) -> Option<Ordering>
-    ensures { Knows hinfo_shape (hinfo_fields a.now) (hinfo_fields b.now) (hinfo_eq a.now b.now) result }
+fn hinfo_quick_cmp(a: &HINFO, b: &HINFO) -> Option<Ordering>
+    ensures { IfSomeFieldOrder hinfo_shape (hinfo_fields a.now) (hinfo_fields b.now) result }
 {
     let order = hinfo_order(a, b);
     if order.is_eq() {
@@ -97,9 +96,10 @@ fn hinfo_known(a: &HINFO, b: &HINFO) -> Option<Ordering>
     Some(order)
 }
 
+// Found only if all strings can be emitted, and not where two records tie that are not equal.
 #[inline]
-fn naptr_known(a: &NAPTR, b: &NAPTR) -> Option<Ordering>
-    ensures { Knows naptr_shape (naptr_fields a.now) (naptr_fields b.now) (naptr_eq a.now b.now) result }
+fn naptr_quick_cmp(a: &NAPTR, b: &NAPTR) -> Option<Ordering>
+    ensures { IfSomeFieldOrder naptr_shape (naptr_fields a.now) (naptr_fields b.now) result }
 {
     if !naptr_is_emittable(a) || !naptr_is_emittable(b) {
         return None;
@@ -107,7 +107,7 @@ fn naptr_known(a: &NAPTR, b: &NAPTR) -> Option<Ordering>
     unless_tied(naptr_order(a, b), a, b)
 }
 
-// Whether the flags came from the same fields.
+// Whether flag and reserved bits are the same.
 #[inline]
 fn has_same_flags(a: &CAA, b: &CAA) -> bool
     ensures { IsTrue result → (a.now.issuer_critical ≡ b.now.issuer_critical) × (a.now.reserved_flags ≡ b.now.reserved_flags) }
@@ -115,10 +115,10 @@ fn has_same_flags(a: &CAA, b: &CAA) -> bool
     a.issuer_critical == b.issuer_critical && a.reserved_flags == b.reserved_flags
 }
 
-// The octets tell tag and value.
+// Where the octets tie, tag and value are equal, and the flags are compared.
 #[inline]
-fn caa_known(a: &CAA, b: &CAA) -> Option<Ordering>
-    ensures { Knows caa_shape (caa_fields a.now) (caa_fields b.now) (caa_eq a.now b.now) result }
+fn caa_quick_cmp(a: &CAA, b: &CAA) -> Option<Ordering>
+    ensures { IfSomeOrder caa_shape (caa_fields a.now) (caa_fields b.now) (values_eq caa_key_shape (caa_keys a.now) (caa_keys b.now)) result }
 {
     let order = caa_order(a, b);
     if order.is_eq() {
@@ -134,14 +134,15 @@ fn caa_known(a: &CAA, b: &CAA) -> Option<Ordering>
     Some(order)
 }
 
+// Found but where two records tie that are not equal.
 #[inline]
-fn csync_known(a: &CSYNC, b: &CSYNC) -> Option<Ordering>
-    ensures { Knows csync_shape (csync_fields a.now) (csync_fields b.now) (csync_eq a.now b.now) result }
+fn csync_quick_cmp(a: &CSYNC, b: &CSYNC) -> Option<Ordering>
+    ensures { IfSomeOrder csync_shape (csync_fields a.now) (csync_fields b.now) (values_eq csync_key_shape (csync_keys a.now) (csync_keys b.now)) result }
 {
     unless_tied(csync_order(a, b), a, b)
 }
 
-// An order that tells values apart.
+// The order that was found, but none where it ties.
 #[inline]
 fn if_differing(order: Ordering) -> Option<Ordering>
     ensures { IfSome result (λ o. (o ≡ order) × (o ≢ Equal)) }
@@ -149,19 +150,19 @@ fn if_differing(order: Ordering) -> Option<Ordering>
     if order.is_ne() { Some(order) } else { None }
 }
 
-// Whether all but the octets is equal.
+// Whether the fields in front of the octets are equal.
 #[inline]
 fn is_cert_front_same(a: &CERT, b: &CERT) -> bool
     ensures numbers { IsTrue result → (cert_type_number a.now.cert_type ≡ cert_type_number b.now.cert_type) × (a.now.key_tag ≡ b.now.key_tag) × (cert_algorithm_number a.now.algorithm ≡ cert_algorithm_number b.now.algorithm) }
-    ensures equal { IsTrue result → a.now.cert_data ≡ b.now.cert_data → cert_eq a.now b.now ≡ true }
+    ensures equal { IsTrue result → a.now.cert_data ≡ b.now.cert_data → values_eq cert_key_shape (cert_keys a.now) (cert_keys b.now) ≡ true }
 {
     a.cert_type == b.cert_type && a.key_tag == b.key_tag && a.algorithm == b.algorithm
 }
 
-// The octets tell the certificate.
+// By the octets of the certificate where the fields in front are equal.
 #[inline]
-fn cert_known(a: &CERT, b: &CERT) -> Option<Ordering>
-    ensures { Knows cert_shape (cert_fields a.now) (cert_fields b.now) (cert_eq a.now b.now) result }
+fn cert_quick_cmp(a: &CERT, b: &CERT) -> Option<Ordering>
+    ensures { IfSomeOrder cert_shape (cert_fields a.now) (cert_fields b.now) (values_eq cert_key_shape (cert_keys a.now) (cert_keys b.now)) result }
 {
     if is_cert_front_same(a, b) {
         return Some(rest_order(a.cert_data.as_slice(), b.cert_data.as_slice()));
@@ -169,19 +170,19 @@ fn cert_known(a: &CERT, b: &CERT) -> Option<Ordering>
     if_differing(cert_order(a, b))
 }
 
-// Whether all but the octets is equal.
+// Whether the fields in front of the octets are equal.
 #[inline]
 fn is_sshfp_front_same(a: &SSHFP, b: &SSHFP) -> bool
     ensures numbers { IsTrue result → (sshfp_algorithm_number a.now.algorithm ≡ sshfp_algorithm_number b.now.algorithm) × (fingerprint_type_number a.now.fingerprint_type ≡ fingerprint_type_number b.now.fingerprint_type) }
-    ensures equal { IsTrue result → a.now.fingerprint ≡ b.now.fingerprint → sshfp_eq a.now b.now ≡ true }
+    ensures equal { IsTrue result → a.now.fingerprint ≡ b.now.fingerprint → values_eq sshfp_key_shape (sshfp_keys a.now) (sshfp_keys b.now) ≡ true }
 {
     a.algorithm == b.algorithm && a.fingerprint_type == b.fingerprint_type
 }
 
-// The octets tell the fingerprint.
+// By the octets of the fingerprint where the fields in front are equal.
 #[inline]
-fn sshfp_known(a: &SSHFP, b: &SSHFP) -> Option<Ordering>
-    ensures { Knows sshfp_shape (sshfp_fields a.now) (sshfp_fields b.now) (sshfp_eq a.now b.now) result }
+fn sshfp_quick_cmp(a: &SSHFP, b: &SSHFP) -> Option<Ordering>
+    ensures { IfSomeOrder sshfp_shape (sshfp_fields a.now) (sshfp_fields b.now) (values_eq sshfp_key_shape (sshfp_keys a.now) (sshfp_keys b.now)) result }
 {
     if is_sshfp_front_same(a, b) {
         return Some(rest_order(a.fingerprint.as_slice(), b.fingerprint.as_slice()));
@@ -189,19 +190,19 @@ fn sshfp_known(a: &SSHFP, b: &SSHFP) -> Option<Ordering>
     if_differing(sshfp_order(a, b))
 }
 
-// Whether all but the octets is equal.
+// Whether the fields in front of the octets are equal.
 #[inline]
 fn is_tlsa_front_same(a: &TLSA, b: &TLSA) -> bool
     ensures numbers { IsTrue result → (cert_usage_number a.now.cert_usage ≡ cert_usage_number b.now.cert_usage) × (selector_number a.now.selector ≡ selector_number b.now.selector) × (matching_number a.now.matching ≡ matching_number b.now.matching) }
-    ensures equal { IsTrue result → a.now.cert_data ≡ b.now.cert_data → tlsa_eq a.now b.now ≡ true }
+    ensures equal { IsTrue result → a.now.cert_data ≡ b.now.cert_data → values_eq tlsa_key_shape (tlsa_keys a.now) (tlsa_keys b.now) ≡ true }
 {
     a.cert_usage == b.cert_usage && a.selector == b.selector && a.matching == b.matching
 }
 
-// The octets tell the certificate's data.
+// By the octets of the certificate where the fields in front are equal.
 #[inline]
-fn tlsa_known(a: &TLSA, b: &TLSA) -> Option<Ordering>
-    ensures { Knows tlsa_shape (tlsa_fields a.now) (tlsa_fields b.now) (tlsa_eq a.now b.now) result }
+fn tlsa_quick_cmp(a: &TLSA, b: &TLSA) -> Option<Ordering>
+    ensures { IfSomeOrder tlsa_shape (tlsa_fields a.now) (tlsa_fields b.now) (values_eq tlsa_key_shape (tlsa_keys a.now) (tlsa_keys b.now)) result }
 {
     if is_tlsa_front_same(a, b) {
         return Some(rest_order(a.cert_data.as_slice(), b.cert_data.as_slice()));
@@ -209,10 +210,10 @@ fn tlsa_known(a: &TLSA, b: &TLSA) -> Option<Ordering>
     if_differing(tlsa_order(a, b))
 }
 
-// Where the first parameters that differ decide, or none do.
+// Found where the first parameters that differ decide, or where none differ.
 #[inline]
-fn svcb_known(a: &SVCB, b: &SVCB) -> Option<Ordering>
-    ensures { Knows svcb_shape (svcb_fields a.now) (svcb_fields b.now) (svcb_eq a.now b.now) result }
+fn svcb_quick_cmp(a: &SVCB, b: &SVCB) -> Option<Ordering>
+    ensures { IfSomeOrder svcb_shape (svcb_fields a.now) (svcb_fields b.now) (values_eq svcb_key_shape (svcb_keys a.now) (svcb_keys b.now)) result }
 {
     let (order, alike) = svcb_front(a, b);
     if order.is_eq() {
@@ -228,7 +229,7 @@ fn svcb_known(a: &SVCB, b: &SVCB) -> Option<Ordering>
     Some(order)
 }
 
-// Whether as many parameters are all of both, and the targets are both relative or both not.
+// Whether both have just this many parameters, and both targets are relative or neither is.
 #[inline]
 fn is_all(a: &SVCB, b: &SVCB, count: usize) -> bool
     ensures { IsTrue result → (count ≡ length a.now.svc_params) × (count ≡ length b.now.svc_params) × (a.now.target_name.fully_qualified ≡ b.now.target_name.fully_qualified) }
@@ -238,10 +239,11 @@ fn is_all(a: &SVCB, b: &SVCB, count: usize) -> bool
         && a.target_name.is_fqdn() == b.target_name.is_fqdn()
 }
 
-// No options come before some; else where the least of the options that differ decides, or none do.
+// A record of no options comes first. Else the order is found where the least of the options that differ decides, or where
+// none differ.
 #[inline]
-fn opt_known(a: &OPT, b: &OPT) -> Option<Ordering>
-    ensures { Knows opt_shape (opt_fields a.now) (opt_fields b.now) (opt_eq a.now b.now) result }
+fn opt_quick_cmp(a: &OPT, b: &OPT) -> Option<Ordering>
+    ensures { IfSomeOrder opt_shape (opt_fields a.now) (opt_fields b.now) (opt_eq a.now b.now) result }
 {
     if !opt_is_emittable(a) || !opt_is_emittable(b) {
         return None;
@@ -254,38 +256,38 @@ fn opt_known(a: &OPT, b: &OPT) -> Option<Ordering>
 }
 
 impl RData {
-    // The order of two values of one variant, by the fields, where these tell it.
+    // The order of two values of one variant, where their fields tell it.
     #[inline]
-    pub(crate) fn cmp_known(&self, other: &RData) -> Option<Ordering>
+    pub(crate) fn quick_cmp(&self, other: &RData) -> Option<Ordering>
         ensures { IfSome result (λ o. o ≡ rdata_cmp self.now other.now) }
     {
         match (self, other) {
             (RData::A(a), RData::A(b)) => unless_tied(a_order(a, b), a, b),
             (RData::AAAA(a), RData::AAAA(b)) => unless_tied(aaaa_order(a, b), a, b),
             (RData::ANAME(a), RData::ANAME(b)) => unless_tied(name_order(&a.0, &b.0), a, b),
-            (RData::CAA(a), RData::CAA(b)) => caa_known(a, b),
-            (RData::CERT(a), RData::CERT(b)) => cert_known(a, b),
+            (RData::CAA(a), RData::CAA(b)) => caa_quick_cmp(a, b),
+            (RData::CERT(a), RData::CERT(b)) => cert_quick_cmp(a, b),
             (RData::CNAME(a), RData::CNAME(b)) => unless_tied(name_order(&a.0, &b.0), a, b),
-            (RData::CSYNC(a), RData::CSYNC(b)) => csync_known(a, b),
-            (RData::HINFO(a), RData::HINFO(b)) => hinfo_known(a, b),
-            (RData::HTTPS(a), RData::HTTPS(b)) => svcb_known(&a.0, &b.0),
+            (RData::CSYNC(a), RData::CSYNC(b)) => csync_quick_cmp(a, b),
+            (RData::HINFO(a), RData::HINFO(b)) => hinfo_quick_cmp(a, b),
+            (RData::HTTPS(a), RData::HTTPS(b)) => svcb_quick_cmp(&a.0, &b.0),
             (RData::MX(a), RData::MX(b)) => unless_tied(mx_order(a, b), a, b),
-            (RData::NAPTR(a), RData::NAPTR(b)) => naptr_known(a, b),
-            (RData::NULL(a), RData::NULL(b)) => rest_known(&a.anything, &b.anything),
+            (RData::NAPTR(a), RData::NAPTR(b)) => naptr_quick_cmp(a, b),
+            (RData::NULL(a), RData::NULL(b)) => rest_quick_cmp(&a.anything, &b.anything),
             (RData::NS(a), RData::NS(b)) => unless_tied(name_order(&a.0, &b.0), a, b),
-            (RData::OPENPGPKEY(a), RData::OPENPGPKEY(b)) => rest_known(
+            (RData::OPENPGPKEY(a), RData::OPENPGPKEY(b)) => rest_quick_cmp(
                 &a.public_key,
                 &b.public_key,
             ),
-            (RData::OPT(a), RData::OPT(b)) => opt_known(a, b),
+            (RData::OPT(a), RData::OPT(b)) => opt_quick_cmp(a, b),
             (RData::PTR(a), RData::PTR(b)) => unless_tied(name_order(&a.0, &b.0), a, b),
-            (RData::SMIMEA(a), RData::SMIMEA(b)) => tlsa_known(&a.0, &b.0),
+            (RData::SMIMEA(a), RData::SMIMEA(b)) => tlsa_quick_cmp(&a.0, &b.0),
             (RData::SOA(a), RData::SOA(b)) => unless_tied(soa_order(a, b), a, b),
             (RData::SRV(a), RData::SRV(b)) => unless_tied(srv_order(a, b), a, b),
-            (RData::SSHFP(a), RData::SSHFP(b)) => sshfp_known(a, b),
-            (RData::SVCB(a), RData::SVCB(b)) => svcb_known(a, b),
-            (RData::TLSA(a), RData::TLSA(b)) => tlsa_known(a, b),
-            (RData::TXT(a), RData::TXT(b)) => txt_known(a, b),
+            (RData::SSHFP(a), RData::SSHFP(b)) => sshfp_quick_cmp(a, b),
+            (RData::SVCB(a), RData::SVCB(b)) => svcb_quick_cmp(a, b),
+            (RData::TLSA(a), RData::TLSA(b)) => tlsa_quick_cmp(a, b),
+            (RData::TXT(a), RData::TXT(b)) => txt_quick_cmp(a, b),
             _ => None,
         }
     }
