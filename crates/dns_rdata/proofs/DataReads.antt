@@ -17,7 +17,6 @@ use Rattle.dns_rdata_base.specs.declared.null.NULL.{NULL}
 use Rattle.dns_rdata_options.proofs.Refusals.{opt_never}
 use Rattle.dns_rdata_service.proofs.SvcbValues.{svcb_never}
 use Rattle.dns_rdata_base.specs as base
-use Rattle.dns_rdata_certs.specs as certs
 use Rattle.dns_rdata_sets.specs as sets
 use Rattle.dns_rdata.specs.declared.record_data.RData.{RData}
 use Rattle.dns_rdata.specs.declared.record_data.RData.TheVariants as rdata
@@ -135,12 +134,6 @@ data_refused t n (Err e) old new read len h c =
     by_case (read == len) (λ b. IfErr {T = RData} (cond b (Err e) (Err (decode.IncorrectRDataLengthRead read len)))
     (λ e. UnlessMemory e (NoValue old.message old.index n t))) (λ _. no_value t h.none) (λ _. no_value t h.none)
 
-rest_never : (f n : ℕ) (old new : Reading) (k : ℕ) → certs.Rests.rest_refusal f n old (decode.UnknownRecordTypeValue k) new → ⊥
-rest_never f n old new k (inl h) = let e = h.error in cc e
-rest_never f n old new k (inr (inl h)) = let e = h.error in cc e
-rest_never f n old new k (inr (inr (inl h))) = let e = h.error in cc e
-rest_never f n old new k (inr (inr (inr h))) = let e = h.error in cc e
-
 first_never : (kinds : List Kind) (old new : Reading) (k : ℕ) → base.Refusing.FirstLack kinds old (decode.UnknownRecordTypeValue k) new → ⊥
 first_never [] old new k h = h
 first_never (Number w ∷ kinds) old new k (inl h) = let e = h.0 in cc e
@@ -154,19 +147,13 @@ lack_never kinds old new k (inl e) = cc e
 lack_never kinds old new k (inr h) = first_never kinds old new k h
 
 tag_never : (n t : ℕ) (old new : Reading) (k : ℕ) → sets.CAA.tag_refusal n t old (decode.UnknownRecordTypeValue k) new → ⊥
-tag_never n t old new k (inl h) = let e = h.error in cc e
-tag_never n t old new k (inr (inl h)) = let e = h.error in cc e
-tag_never n t old new k (inr (inr (inl h))) = let e = h.error in cc e
-tag_never n t old new k (inr (inr (inr h))) = let e = h.error in cc e
+tag_never n t old new k h = grind arith
 
 either_never : (k : ℕ) {P : Type 0} → (decode.UnknownRecordTypeValue k ≡ decode.Memory) ⊎ ((decode.UnknownRecordTypeValue k ≡ decode.InsufficientBytes) × P) → ⊥
-either_never k (inl e) = cc e
-either_never k (inr h) = let e = h.0 in cc e
+either_never k h = grind arith
 
 bitmap_never : (n : ℕ) (old new : Reading) (k : ℕ) → sets.RecordTypeSet.bitmap_refusal n old (decode.UnknownRecordTypeValue k) new → ⊥
-bitmap_never n old new k (inl h) = let e = h.error in cc e
-bitmap_never n old new k (inr (inl h)) = let e = h.error in cc e
-bitmap_never n old new k (inr (inr h)) = let e = h.error in cc e
+bitmap_never n old new k h = grind arith
 
 -- the refusal by number is that of types that are never read
 own_never : (t : RecordType) (n : ℕ) (old new : Reading) (k : ℕ) → OwnRefusal t n old new (decode.UnknownRecordTypeValue k) → IsNeverRead t × (k ≡ number_of t)
@@ -174,20 +161,7 @@ own_never types.ANY n old new k e = (tt, cc e)
 own_never types.AXFR n old new k e = (tt, cc e)
 own_never types.IXFR n old new k e = (tt, cc e)
 own_never types.ZERO n old new k e = absurd e
-own_never types.CERT n old new k (inl h) = let e = h.error in absurd (cc e)
-own_never types.CERT n old new k (inr (inl h)) = let e = h.error in absurd (cc e)
-own_never types.CERT n old new k (inr (inr (inl h))) = let e = h.error in absurd (cc e)
-own_never types.CERT n old new k (inr (inr (inr h))) = let e = h.error in absurd (cc e)
-own_never types.HINFO n old new k (inl e) = absurd (cc e)
-own_never types.HINFO n old new k (inr h) = let e = h.0 in absurd (cc e)
-own_never types.OPENPGPKEY n old new k (u, inl e) = absurd (cc e)
-own_never types.OPENPGPKEY n old new k (u, inr h) = let e = h.0 in absurd (cc e)
 own_never types.OPT n old new k h = absurd (opt_never n old new k h)
-own_never types.SMIMEA n old new k h = absurd (rest_never 3 n old new k h)
-own_never types.SSHFP n old new k h = absurd (rest_never 2 n old new k h)
-own_never types.TLSA n old new k h = absurd (rest_never 3 n old new k h)
-own_never types.TXT n old new k (inl e) = absurd (cc e)
-own_never types.TXT n old new k (inr h) = let e = h.0 in absurd (cc e)
 own_never types.NAPTR n old new k (inl h) = absurd (lack_never base.NAPTR.naptr_shape old new k h)
 own_never types.NAPTR n old new k (inr h) = let e = h.error in absurd (cc e)
 own_never types.ANAME n old new k h = absurd (lack_never base.NameRecords.name_shape old new k h)
@@ -206,7 +180,7 @@ own_never types.CSYNC n old new k (inr (inr (inl h))) = let e = h.error in absur
 own_never types.CSYNC n old new k (inr (inr (inr h))) = absurd (bitmap_never (n - 6) h.between new k h.refused)
 own_never types.HTTPS n old new k h = absurd (svcb_never n old new k h)
 own_never types.SVCB n old new k h = absurd (svcb_never n old new k h)
-own_never t n old new k h = let e = h.0 in absurd (cc e)
+own_never t n old new k h = absurd (grind arith)
 
 pub data_why : (t : RecordType) (n : ℕ) (o : Result RData DecodeError) (old new : Reading) (read len : ℕ) → ReadsData t n o old new
     → Counted old new n read len → IfErr o (λ e. UnlessMemory e (OwnRefusal t n old new e))

@@ -141,48 +141,40 @@ tie Less h n = absurd (true≢false (sym h))
 tie Equal h n = absurd (n refl)
 tie Greater h n = absurd (true≢false (sym h))
 
+-- an order of canonical octets, of records whose keys are the same where the octets of each field are
+orders : (s : List Kind) (a b : Values s) (t : List Kind) (c d : Values t) (o : Ordering) → (o ≢ Equal → all_emittable s a ≡ true) → (o ≢ Equal → all_emittable s b ≡ true)
+    → AllEnd s a b → o ≡ canonical_cmp s a b → (o ≡ Equal → AllTied s a b → c ≡ d) → IsOrder s a b (values_eq t c d) o
+orders s a b t c d o f g end e same = record {
+  first = f;
+  second = g;
+  octets = λ n. e;
+  equal = λ z. itself t c d (same z (tied_fields s a b end (sym e ∙ z)));
+}
+
 pub rest_orders : (a b : List ℕ) (o : Ordering) → o ≡ canonical_cmp (Rest ∷ []) (a, tt) (b, tt)
     → IsOrder (Rest ∷ []) (a, tt) (b, tt) (values_eq (Rest ∷ []) (a, tt) (b, tt)) o
-rest_orders a b o e = record {
-  first = λ n. refl;
-  second = λ n. refl;
-  octets = λ n. e;
-  equal = λ t. itself (Rest ∷ []) (a, tt) (b, tt) (rw (same_rest a b (tied_fields (Rest ∷ []) (a, tt) (b, tt) (tt, tt) (sym e ∙ t)).0) refl);
-}
+rest_orders a b o e = orders (Rest ∷ []) (a, tt) (b, tt) (Rest ∷ []) (a, tt) (b, tt) o (λ n. refl) (λ n. refl) (tt, tt) e (λ z tied. rw (same_rest a b tied.0) refl)
 
 pub txt_orders : (x y : TXT) (o : Ordering) → (o ≢ Equal → all_emittable base.TXT.txt_shape (base.TXT.txt_fields x) ≡ true) → (o ≢ Equal → all_emittable base.TXT.txt_shape (base.TXT.txt_fields y) ≡ true)
     → o ≡ canonical_cmp base.TXT.txt_shape (base.TXT.txt_fields x) (base.TXT.txt_fields y) → IsOrder base.TXT.txt_shape (base.TXT.txt_fields x) (base.TXT.txt_fields y) (values_eq base.TXT.txt_shape (base.TXT.txt_fields x) (base.TXT.txt_fields y)) o
-txt_orders x y o f g e = record {
-  first = f;
-  second = g;
-  octets = λ n. e;
-  equal = λ t. itself base.TXT.txt_shape (base.TXT.txt_fields x) (base.TXT.txt_fields y)
-      (rw (same_texts x.txt_data y.txt_data (tied_fields base.TXT.txt_shape (base.TXT.txt_fields x) (base.TXT.txt_fields y) (tt, tt) (sym e ∙ t)).0) refl);
-}
+txt_orders x y o f g e =
+    let s = base.TXT.txt_shape in
+    orders s (base.TXT.txt_fields x) (base.TXT.txt_fields y) s (base.TXT.txt_fields x) (base.TXT.txt_fields y) o f g (tt, tt) e
+    (λ z tied. rw (same_texts x.txt_data y.txt_data tied.0) refl)
 
 pub hinfo_orders : (x y : HINFO) (o : Ordering) → (o ≢ Equal → all_emittable base.HINFO.hinfo_shape (base.HINFO.hinfo_fields x) ≡ true) → (o ≢ Equal → all_emittable base.HINFO.hinfo_shape (base.HINFO.hinfo_fields y) ≡ true)
     → o ≡ canonical_cmp base.HINFO.hinfo_shape (base.HINFO.hinfo_fields x) (base.HINFO.hinfo_fields y) → IsOrder base.HINFO.hinfo_shape (base.HINFO.hinfo_fields x) (base.HINFO.hinfo_fields y) (values_eq base.HINFO.hinfo_shape (base.HINFO.hinfo_fields x) (base.HINFO.hinfo_fields y)) o
-hinfo_orders x y o f g e = record {
-  first = f;
-  second = g;
-  octets = λ n. e;
-  equal = λ t.
-      let tied = tied_fields base.HINFO.hinfo_shape (base.HINFO.hinfo_fields x) (base.HINFO.hinfo_fields y) (tt, (tt, tt)) (sym e ∙ t) in
-      itself base.HINFO.hinfo_shape (base.HINFO.hinfo_fields x) (base.HINFO.hinfo_fields y) (rw (same_text x.cpu y.cpu tied.0, same_text x.os y.os tied.1.0) refl);
-}
+hinfo_orders x y o f g e =
+    let s = base.HINFO.hinfo_shape in
+    orders s (base.HINFO.hinfo_fields x) (base.HINFO.hinfo_fields y) s (base.HINFO.hinfo_fields x) (base.HINFO.hinfo_fields y) o f g (tt, (tt, tt)) e
+    (λ z tied. rw (same_text x.cpu y.cpu tied.0, same_text x.os y.os tied.1.0) refl)
 
 pub caa_orders : (x y : CAA) (o : Ordering) → (o ≢ Equal → all_emittable sets.CAA.caa_shape (sets.CAA.caa_fields x) ≡ true) → (o ≢ Equal → all_emittable sets.CAA.caa_shape (sets.CAA.caa_fields y) ≡ true)
     → o ≡ canonical_cmp sets.CAA.caa_shape (sets.CAA.caa_fields x) (sets.CAA.caa_fields y)
     → (o ≡ Equal → (x.issuer_critical ≡ y.issuer_critical) × (x.reserved_flags ≡ y.reserved_flags)) → IsOrder sets.CAA.caa_shape (sets.CAA.caa_fields x) (sets.CAA.caa_fields y) (values_eq sets.CAA.caa_key_shape (sets.CAA.caa_keys x) (sets.CAA.caa_keys y)) o
-caa_orders x y o f g e h = record {
-  first = f;
-  second = g;
-  octets = λ n. e;
-  equal = λ t.
-      let tied = tied_fields sets.CAA.caa_shape (sets.CAA.caa_fields x) (sets.CAA.caa_fields y) (tt, (tt, (tt, tt))) (sym e ∙ t) in
-      let flags = h t in
-      itself sets.CAA.caa_key_shape (sets.CAA.caa_keys x) (sets.CAA.caa_keys y) (rw (flags.0, flags.1, same_text x.tag y.tag tied.1.0, same_rest x.value y.value tied.1.1.0) refl);
-}
+caa_orders x y o f g e h =
+    orders sets.CAA.caa_shape (sets.CAA.caa_fields x) (sets.CAA.caa_fields y) sets.CAA.caa_key_shape (sets.CAA.caa_keys x) (sets.CAA.caa_keys y) o f g
+    (tt, (tt, (tt, tt))) e (λ z tied. let flags = h z in rw (flags.0, flags.1, same_text x.tag y.tag tied.1.0, same_rest x.value y.value tied.1.1.0) refl)
 
 -- ---- of octets to the end behind other fields
 

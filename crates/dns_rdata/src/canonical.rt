@@ -245,6 +245,29 @@ fn refill<'a>(
     }
 }
 
+// Brings the next step of a cursor to hand and moves its place; where there is none, returns the answer.
+macro_rules! refill_or {
+    ($cursor:expr, $answer:expr) => {
+        match refill(
+            &mut $cursor.run,
+            $cursor.data,
+            $cursor.step,
+            $cursor.part,
+            $cursor.item,
+            &mut $cursor.heads,
+            &mut $cursor.choices,
+            &mut $cursor.passes,
+        ) {
+            None => return $answer,
+            Some((step, part, item)) => {
+                $cursor.step = step;
+                $cursor.part = part;
+                $cursor.item = item;
+            }
+        }
+    };
+}
+
 impl<'a> CanonicalOctets<'a> {
     /// The next octet. A call that gives one counts it. Options are compared only where one begins, at most twice as often
     /// as there are options; and a set of types is gone over only where a window of it begins, once.
@@ -262,23 +285,7 @@ impl<'a> CanonicalOctets<'a> {
                 self.taken.tick();
                 return Some(octet);
             }
-            match refill(
-                &mut self.run,
-                self.data,
-                self.step,
-                self.part,
-                self.item,
-                &mut self.heads,
-                &mut self.choices,
-                &mut self.passes,
-            ) {
-                None => return None,
-                Some((step, part, item)) => {
-                    self.step = step;
-                    self.part = part;
-                    self.item = item;
-                }
-            }
+            refill_or!(self, None);
         }
     }
 
@@ -305,23 +312,7 @@ impl<'a> CanonicalOctets<'a> {
             if filled == buffer.len() {
                 return filled;
             }
-            match refill(
-                &mut self.run,
-                self.data,
-                self.step,
-                self.part,
-                self.item,
-                &mut self.heads,
-                &mut self.choices,
-                &mut self.passes,
-            ) {
-                None => return filled,
-                Some((step, part, item)) => {
-                    self.step = step;
-                    self.part = part;
-                    self.item = item;
-                }
-            }
+            refill_or!(self, filled);
         }
     }
 

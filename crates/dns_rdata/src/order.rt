@@ -2,13 +2,8 @@
 
 ghost use Rattle.std.specs.Prelude.{◌≡◌};
 ghost use Rattle.dns_fields.specs.Order.{values_cmp};
-ghost use Rattle.dns_rdata_base.specs.A.{a_shape, a_fields};
-ghost use Rattle.dns_rdata_base.specs.AAAA.{aaaa_shape, aaaa_fields};
 ghost use Rattle.dns_rdata_base.specs.SOA.{soa_shape, soa_fields};
-ghost use Rattle.dns_rdata_certs.specs.CERT.{cert_key_shape, cert_keys};
-ghost use Rattle.dns_rdata_certs.specs.SSHFP.{sshfp_key_shape, sshfp_keys};
 ghost use Rattle.dns_rdata_certs.specs.TLSA.{tlsa_key_shape, tlsa_keys};
-ghost use Rattle.dns_rdata_sets.specs.CAA.{caa_key_shape, caa_keys};
 ghost use Rattle.dns_rdata_sets.specs.CSYNC.{csync_key_shape, csync_keys};
 ghost use Rattle.std.specs.Cmp.Lexicographic.{slice_cmp};
 ghost use Rattle.std.specs.Ordering.{nat_cmp};
@@ -16,10 +11,10 @@ ghost use Rattle.dns_rdata.specs.Data.{data_octets};
 ghost use Rattle.dns_rdata.specs.Order.{rank, rdata_cmp, variants_cmp, Differ};
 
 use crate::record_data::RData;
-use dns_rdata_base::{A, AAAA, SOA};
-use dns_rdata_certs::{CERT, SSHFP, TLSA};
+use dns_rdata_base::SOA;
+use dns_rdata_certs::TLSA;
 use dns_rdata_service::ordering::svcb_cmp;
-use dns_rdata_sets::{CAA, CSYNC};
+use dns_rdata_sets::CSYNC;
 use std::cmp::Ordering;
 
 impl RData {
@@ -69,52 +64,6 @@ macro_rules! in_order {
     };
 }
 
-// By the address.
-#[inline]
-#[tactic(auto, using(dns_pieces::proofs::Comparing::then_equal))]
-fn a_cmp(a: &A, b: &A) -> Ordering
-    ensures { result ≡ values_cmp a_shape (a_fields a.now) (a_fields b.now) }
-{
-    a.0.octets().as_slice().cmp(b.0.octets().as_slice())
-}
-
-// By the address.
-#[inline]
-#[tactic(auto, using(dns_pieces::proofs::Comparing::then_equal))]
-fn aaaa_cmp(a: &AAAA, b: &AAAA) -> Ordering
-    ensures { result ≡ values_cmp aaaa_shape (aaaa_fields a.now) (aaaa_fields b.now) }
-{
-    a.0.octets().as_slice().cmp(b.0.octets().as_slice())
-}
-
-// By the fields in order.
-#[inline]
-#[tactic(auto, using(dns_pieces::proofs::Comparing::then_equal))]
-fn caa_cmp(a: &CAA, b: &CAA) -> Ordering
-    ensures { result ≡ values_cmp caa_key_shape (caa_keys a.now) (caa_keys b.now) }
-{
-    in_order!(
-        u8::from(a.issuer_critical).cmp(&u8::from(b.issuer_critical)),
-        a.reserved_flags.cmp(&b.reserved_flags),
-        a.tag.cmp(&b.tag),
-        a.value.cmp(&b.value)
-    )
-}
-
-// By the fields in order.
-#[inline]
-#[tactic(auto, using(dns_pieces::proofs::Comparing::then_equal, dns_pieces::proofs::Comparing::then_assoc))]
-fn cert_cmp(a: &CERT, b: &CERT) -> Ordering
-    ensures { result ≡ values_cmp cert_key_shape (cert_keys a.now) (cert_keys b.now) }
-{
-    in_order!(
-        a.cert_type.cmp(&b.cert_type),
-        a.key_tag.cmp(&b.key_tag),
-        a.algorithm.cmp(&b.algorithm),
-        a.cert_data.cmp(&b.cert_data)
-    )
-}
-
 // By the fields in order.
 #[inline]
 #[tactic(auto, using(dns_pieces::proofs::Comparing::then_equal))]
@@ -152,19 +101,6 @@ fn soa_cmp(a: &SOA, b: &SOA) -> Ordering
 // By the fields in order.
 #[inline]
 #[tactic(auto, using(dns_pieces::proofs::Comparing::then_equal, dns_pieces::proofs::Comparing::then_assoc))]
-fn sshfp_cmp(a: &SSHFP, b: &SSHFP) -> Ordering
-    ensures { result ≡ values_cmp sshfp_key_shape (sshfp_keys a.now) (sshfp_keys b.now) }
-{
-    in_order!(
-        a.algorithm.cmp(&b.algorithm),
-        a.fingerprint_type.cmp(&b.fingerprint_type),
-        a.fingerprint.cmp(&b.fingerprint)
-    )
-}
-
-// By the fields in order.
-#[inline]
-#[tactic(auto, using(dns_pieces::proofs::Comparing::then_equal, dns_pieces::proofs::Comparing::then_assoc))]
 fn tlsa_cmp(a: &TLSA, b: &TLSA) -> Ordering
     ensures { result ≡ values_cmp tlsa_key_shape (tlsa_keys a.now) (tlsa_keys b.now) }
 {
@@ -178,16 +114,30 @@ fn tlsa_cmp(a: &TLSA, b: &TLSA) -> Ordering
 
 impl RData {
     // Of two values by variant, and then by the fields and the type.
-    #[tactic(auto, using(dns_pieces::proofs::Comparing::then_equal))]
+    #[tactic(auto, using(dns_pieces::proofs::Comparing::then_equal, dns_pieces::proofs::Comparing::then_assoc))]
     fn cmp_fields(&self, other: &RData) -> Ordering
         ensures { result ≡ variants_cmp self.now other.now }
     {
         match (self, other) {
-            (RData::A(a), RData::A(b)) => a_cmp(a, b),
-            (RData::AAAA(a), RData::AAAA(b)) => aaaa_cmp(a, b),
+            (RData::A(a), RData::A(b)) => a.0.octets().as_slice().cmp(b.0.octets().as_slice()),
+            (RData::AAAA(a), RData::AAAA(b)) => a
+                .0
+                .octets()
+                .as_slice()
+                .cmp(b.0.octets().as_slice()),
             (RData::ANAME(a), RData::ANAME(b)) => a.0.cmp(&b.0),
-            (RData::CAA(a), RData::CAA(b)) => caa_cmp(a, b),
-            (RData::CERT(a), RData::CERT(b)) => cert_cmp(a, b),
+            (RData::CAA(a), RData::CAA(b)) => in_order!(
+                u8::from(a.issuer_critical).cmp(&u8::from(b.issuer_critical)),
+                a.reserved_flags.cmp(&b.reserved_flags),
+                a.tag.cmp(&b.tag),
+                a.value.cmp(&b.value)
+            ),
+            (RData::CERT(a), RData::CERT(b)) => in_order!(
+                a.cert_type.cmp(&b.cert_type),
+                a.key_tag.cmp(&b.key_tag),
+                a.algorithm.cmp(&b.algorithm),
+                a.cert_data.cmp(&b.cert_data)
+            ),
             (RData::CNAME(a), RData::CNAME(b)) => a.0.cmp(&b.0),
             (RData::CSYNC(a), RData::CSYNC(b)) => csync_cmp(a, b),
             (RData::HINFO(a), RData::HINFO(b)) => in_order!(a.cpu.cmp(&b.cpu), a.os.cmp(&b.os)),
@@ -217,7 +167,11 @@ impl RData {
                 a.port.cmp(&b.port),
                 a.target.cmp(&b.target)
             ),
-            (RData::SSHFP(a), RData::SSHFP(b)) => sshfp_cmp(a, b),
+            (RData::SSHFP(a), RData::SSHFP(b)) => in_order!(
+                a.algorithm.cmp(&b.algorithm),
+                a.fingerprint_type.cmp(&b.fingerprint_type),
+                a.fingerprint.cmp(&b.fingerprint)
+            ),
             (RData::SVCB(a), RData::SVCB(b)) => svcb_cmp(a, b),
             (RData::TLSA(a), RData::TLSA(b)) => tlsa_cmp(a, b),
             (RData::TXT(a), RData::TXT(b)) => a.txt_data.cmp(&b.txt_data),
