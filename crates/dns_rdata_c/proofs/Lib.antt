@@ -3,5 +3,10 @@ pub mod Fillings
 pub mod Whole
 pub mod Readings
 pub mod NamePlaces
-pub mod PartPlaces
+pub mod NameWalks
+pub mod PieceWalks
 pub mod Walking
+pub mod PartWalks
+pub mod NamesStand
+pub mod PartTies
+pub mod ZoneReads
