@@ -2,7 +2,7 @@
 # Runs the built programs under a counter of requests for memory (tests/requests.c).
 # 1. How many requests one call makes, from the difference of two numbers of rounds.
 # 2. With the first, the second and each later request refused, until a run meets no refusal (tests/refusals.py): the
-#    program must print `memory` alone, with status 3.
+#    program `rdata` must print `memory` alone, with status 3, and `zone_text` nothing, with status 1.
 # The last line is 'N as wanted, M not'.
 set -u
 top=$(cd "$(dirname "$0")/.." && pwd)
@@ -14,11 +14,14 @@ want() { if [ "$2" = "$3" ]; then good=$((good + 1)); else bad=$((bad + 1)); ech
 
 rdata="$top/crates/rdata/out/rdata"
 bench="$top/crates/rdata_bench/out/rdata_bench"
-# Both were proved and built by `rt ci`, where nothing has changed since.
+zone_text="$top/crates/zone_text/out/zone_text"
+# All were proved and built by `rt ci`, where nothing has changed since.
 if ! is_built "$rdata" rdata; then "$top/prove" 2>&1; fi
-if ! is_built "$bench" rdata_bench; then
-  (cd "$top/crates/rdata_bench" && rt run </dev/null >/dev/null 2>"$dir/bench.log") || cat "$dir/bench.log"
-fi
+for name in rdata_bench zone_text; do
+  if ! is_built "$top/crates/$name/out/$name" "$name"; then
+    (cd "$top/crates/$name" && rt run </dev/null >/dev/null 2>"$dir/$name.log") || cat "$dir/$name.log"
+  fi
+done
 cc -shared -fPIC -O1 -o "$dir/requests.so" "$top/tests/requests.c" -ldl || { echo "0 as wanted, 1 not"; exit 1; }
 
 counted() { # ROUNDS CALL SAMPLE
@@ -39,7 +42,7 @@ while read -r call times sample; do
 done < "$top/tests/requests.txt"
 
 # each request refused in turn, on the words of all replayed runs
-refusals=$(python3 "$top/tests/refusals.py" "$rdata" "$dir/requests.so" 2>&1)
+refusals=$(python3 "$top/tests/refusals.py" "$rdata" "$zone_text" "$dir/requests.so" 2>&1)
 printf '%s\n' "$refusals" | sed '$d'
 counts=$(printf '%s\n' "$refusals" | tail -n 1 | sed -nE 's/^([0-9]+) as wanted, ([0-9]+) not$/\1 \2/p')
 counts=${counts:-0 1}

@@ -1,10 +1,11 @@
-"""Runs the program with each request for memory refused, on the words of all replayed runs.
+"""Runs programs with each request for memory refused: `rdata` on the words of all replayed runs, and `zone_text` on lines.
 
-Of each run the requests are counted (tests/requests.c). Then the Nth and every later one is refused, for each N: the program
-must print `memory` alone, with status 3. And the Nth alone is refused: the answer is the same, or, where the program asks
-again for less and gets that, the full one. The last line is 'N as wanted, M not'.
+Of each run the requests are counted (tests/requests.c). Then the Nth and every later one is refused, for each N: `rdata` must
+print `memory` alone, with status 3, and `zone_text` nothing, with status 1. And the Nth alone is refused: the answer is the
+same, or, where the program asks again for less and gets that, the full one. `zone_text` is run on the stored texts and on the
+records that it prints in the gate, with the requests refused from the Nth on. The last line is 'N as wanted, M not'.
 
-The arguments are the program and the counter of requests.
+The arguments are the two programs and the counter of requests.
 """
 
 import collections
@@ -15,53 +16,73 @@ import sys
 import tempfile
 
 from damaged import stored_rows
+from zone_texts import CRATE, ORIGIN, stored_texts
 
 MEMORY = (b"memory\n", 3)
+# `zone_text` gives no answer.
+NOTHING = (b"", 1)
 # How many runs of one command and type have each of their requests refused alone.
 ALONE = 40
 
 
-def answer(program, words, **environment):
-    """What the program prints and its status, with these variables."""
-    done = subprocess.run([program, *words], stdout=subprocess.PIPE, stderr=subprocess.STDOUT, env=environment, close_fds=False)
+def answer(run, **environment):
+    """What a run, a program's words and its standard input, prints, and its status, with these variables."""
+    words, line = run
+    errors = subprocess.STDOUT if line is None else subprocess.DEVNULL
+    source = {"stdin": subprocess.DEVNULL} if line is None else {"input": line}
+    done = subprocess.run(words, stdout=subprocess.PIPE, stderr=errors, env=environment, close_fds=False, **source)
     return done.stdout, done.returncode
 
 
-def requests_of(program, counter, words):
+def requests_of(counter, run):
     """How many requests for memory a run makes, with its answer."""
     with tempfile.NamedTemporaryFile() as file:
-        full = answer(program, words, LD_PRELOAD=counter, REQUESTS_COUNT=file.name)
+        full = answer(run, LD_PRELOAD=counter, REQUESTS_COUNT=file.name)
         return int(file.read() or 0), full
 
 
-def refusals(program, counter, words, alone):
+def refusals(counter, run, kinds, refused):
     """The counts of one run's refusals of each kind: how many are as wanted, and a text for each that is not."""
-    count, full = requests_of(program, counter, words)
-    good, bad = collections.Counter(), [] if count else [f"no request was counted of {words}"]
-    for kind in ("from", "alone")[: 1 + alone]:
+    count, full = requests_of(counter, run)
+    good, bad = collections.Counter(), [] if count else [f"no request was counted of {run}"]
+    for kind in kinds:
         for number in range(1, count + 2):
-            name = "REQUESTS_REFUSE" if kind == "from" else "REQUESTS_ALONE"
-            came = answer(program, words, LD_PRELOAD=counter, **{name: str(number)})
-            if came == (MEMORY if number <= count else full) or kind == "alone" and came == full:
+            name = "REQUESTS_ALONE" if kind == "alone" else "REQUESTS_REFUSE"
+            came = answer(run, LD_PRELOAD=counter, **{name: str(number)})
+            if came == (refused if number <= count else full) or kind == "alone" and came == full:
                 good[kind] += 1
             else:
-                bad.append(f"request {number} of {count} refused ({kind}) of {words}: {came}")
+                bad.append(f"request {number} of {count} refused ({kind}) of {run}: {came}")
     return good, bad
 
 
-def main(program, counter):
-    """Refuses on all runs, as many at a time as there are processors."""
-    seen, jobs = collections.Counter(), []
+def runs_of_rdata(program, counter):
+    """The replayed runs of the program, some of each kind with single requests refused, too."""
+    seen = collections.Counter()
     for _, words in stored_rows("rows.tsv"):
         seen[tuple(words[:2])] += 1
-        jobs.append((program, counter, words, seen[tuple(words[:2])] <= ALONE))
+        kinds = ("from", "alone") if seen[tuple(words[:2])] <= ALONE else ("from",)
+        yield counter, ([program, *words], None), kinds, MEMORY
+
+
+def runs_of_zone_text(program, counter):
+    """A run for each stored text, and for each record whose text is stored."""
+    for number, text, _ in stored_texts():
+        yield counter, ([program, "read", ORIGIN], f"{number} {text}\n".encode()), ("of zone texts",), NOTHING
+    for line in (CRATE / "stdin").read_bytes().splitlines(keepends=True):
+        yield counter, ([program], line), ("of zone texts",), NOTHING
+
+
+def main(program, zone_text, counter):
+    """Refuses on all runs, as many at a time as there are processors."""
+    jobs = [*runs_of_rdata(program, counter), *runs_of_zone_text(zone_text, counter)]
     good, bad = collections.Counter(), []
     with concurrent.futures.ProcessPoolExecutor(os.cpu_count()) as pool:
         for more, others in pool.map(refusals, *zip(*jobs), chunksize=8):
             good, bad = good + more, bad + others
     for text in bad[:20]:
         print("not as wanted:", text)
-    print(f"runs with a request and all later ones refused: {good['from']}, with it alone refused: {good['alone']}")
+    print(f"runs with a request and all later ones refused: {good['from']}, with it alone refused: {good['alone']}; of zone texts: {good['of zone texts']}")
     print(f"{sum(good.values())} as wanted, {len(bad)} not")
 
 

@@ -1,11 +1,13 @@
 -- Texts of zone files that are read, step by step.
 use Rattle.std.proofs.Common.{◌≡◌, ◌≢◌, ℕ, true, List, [], ◌∷◌, length, Option, Some, Result, Ok, Err, ◌⊎◌, inl, inr, refl, sym, ◌∙◌, ap, subst}
-use Rattle.std.specs.Prelude.{IfOk, IfErr}
+use Rattle.std.specs.Prelude.{IfOk, IfErr, codes}
 use Rattle.std.specs.Option.{option_map}
 use Rattle.std.specs.Result.{IsErrAnd}
 use Rattle.dns_fields.specs.Labels.{DomainName}
+use Rattle.dns_names_wire.specs.State.{Reading}
 use Rattle.dns_names_wire.specs.Words.{UnlessMemory as UnlessRead}
 use Rattle.dns_rdata.specs.Data.{shape, Fills, NoValue, data_octets}
+use Rattle.dns_rdata.specs.Refusals.{IsRefusal}
 use Rattle.dns_rdata.specs.declared.record_data.RData.{RData}
 use Rattle.dns_types.specs.Errors.{decode_refusal, proto_refusal}
 use Rattle.dns_types.specs.declared.error.DecodeError.{DecodeError}
@@ -18,12 +20,14 @@ use Rattle.dns_zone_rows.specs.RowFaults.{row_value, RowFault}
 use Rattle.dns_zone_rows.specs.RowTable.{row_of}
 use Rattle.dns_zone_rows.specs.Rows.{Row}
 use Rattle.dns_zone_rows.specs.declared.row.ZoneRow.{ZoneRow}
+use Rattle.dns_zone_words.specs.Refusals.{Says}
 use Rattle.dns_zone_words.specs.Remaining.{AreUnknown, IsUnknownMark, TookAll, NoneOfAll}
 use Rattle.dns_zone_words.specs.Words.{Word, Cursor, words_at, with_word, zone_words}
 use Rattle.dns_zone_words.specs.declared.words_error.WordsError.{WordsError}
 use Rattle.dns_zone_words.proofs.FirstSteps.{unless_map}
-use Rattle.dns_rdata_zone.specs.ZoneGives.{AreUnknownData, AreUnmarked, GiveByRow, WordsGive, IsWhole, has_name, AreDataOf, GivesValue, GivesNone, OwnFault}
-use Rattle.dns_rdata_zone.specs.ZoneSteps.{AreNoData, UnknownIs, UnknownIsNone, RowIs, RowIsNone, IsBehindMark, HasNoMark}
+use Rattle.dns_rdata_zone.specs.ZoneGives.{AreUnknownData, AreUnmarked, GiveByRow, WordsGive, IsWhole, has_name, AreDataOf, GivesValue, GivesNone, at_start}
+use Rattle.dns_rdata_zone.specs.ZoneFaults.{AreMany, AreRefused, OctetsFault, IsBehindMark, HasPointer, DataFault, BehindMarkFault, MarkedFault, HasNoMark, LacksRow, WordsFault, GivenFault, ByRowFault, UnmarkedFault, ZoneFault}
+use Rattle.dns_rdata_zone.specs.ZoneSteps.{AreNoData, UnknownIs, UnknownIsNone, RowIs, RowIsNone}
 use Rattle.dns_rdata_zone.proofs.ZoneOnce.{same_words, unknown_once, by_row_once, data_one}
 
 -- what is handed on
@@ -97,10 +101,69 @@ same_rows o row r e f = sym f ∙ ap (option_map row_value) e
 
 pub row_fault : {T : Type 0} (origin : Option DomainName) (t : RecordType) (text : List ℕ) (o : Option ZoneRow) (row : ZoneRow) (cursor : Cursor) (r : Result T ParseError)
     → o ≡ Some row → option_map row_value o ≡ row_of t → words_at cursor ≡ zone_words text → IfErr r (λ e. (e ≡ parse.Memory) ⊎ RowFault origin row cursor e)
-    → IfErr r (λ e. (e ≡ parse.Memory) ⊎ OwnFault origin t text e)
+    → IfErr r (λ e. (e ≡ parse.Memory) ⊎ LacksRow t e ⊎ WordsFault origin t text e)
 row_fault origin t text o row cursor (Ok x) e f starts h = tt
 row_fault origin t text o row cursor (Err y) e f starts (inl memory) = inl memory
-row_fault origin t text o row cursor (Err y) e f starts (inr fault) = inr (inr (row, cursor, same_rows o row (row_of t) e f, starts, fault))
+row_fault origin t text o row cursor (Err y) e f starts (inr fault) =
+    inr (inr (record { row = row; of_type = same_rows o row (row_of t) e f; cursor = cursor; starts = starts; has = fault }))
+
+-- ---- why octets are refused
+
+-- the octets that were read, from their beginning
+pub read_why : (cause : DecodeError) (old behind : Reading) (octets : List ℕ) (n : ℕ) (t : RecordType) → old ≡ record { message = octets; index = 0 } → n ≡ length octets
+    → IsRefusal t n old behind cause → OctetsFault octets t (proto_refusal (decode_refusal cause))
+read_why cause old behind octets n t start all h = inr (record {
+  cause = cause;
+  behind = behind;
+  refused = subst (λ (k : ℕ). IsRefusal t k (record { message = octets; index = 0 }) behind cause) all (subst (λ (o : Reading). IsRefusal t n o behind cause) start h);
+  says = refl;
+})
+
+pub unknown_why : (e : ParseError) (t : RecordType) (octets s : List ℕ) (cursor : Cursor) → s ≡ octets → TookAll AreUnknown octets cursor
+    → (e ≡ parse.Memory) ⊎ OctetsFault s t e → (e ≡ parse.Memory) ⊎ BehindMarkFault t cursor e
+unknown_why e t octets s cursor same took (inl memory) = inl memory
+unknown_why e t octets s cursor same took (inr fault) =
+    inr (inr (record { octets = octets; took = took; why = inl (subst (λ (o : List ℕ). OctetsFault o t e) same fault) }))
+
+pub pointer_why : (e : ParseError) (t : RecordType) (v : RData) (octets s : List ℕ) (n : ℕ) (cursor : Cursor) → s ≡ octets → n ≡ length octets → TookAll AreUnknown octets cursor
+    → AreDataOf s t v → has_name (shape t) ≡ true → length (data_octets v) ≢ n → Says (codes "pointer in a domain name of unknown data") e
+    → (e ≡ parse.Memory) ⊎ BehindMarkFault t cursor e
+pointer_why e t v octets s n cursor same counted took is named other says = inr (inr (record {
+  octets = octets;
+  took = took;
+  why = inr (record {
+    says = says;
+    value = v;
+    is_data = subst (λ (o : List ℕ). AreDataOf o t v) same is;
+    other = λ whole. other (whole named ∙ sym counted);
+  });
+}))
+
+pub given_why : {T : Type 0} (r : Result T ParseError) (origin : Option DomainName) (t : RecordType) (octets s text : List ℕ) → s ≡ octets
+    → TookAll (GiveByRow origin (row_of t)) octets (at_start text) → IfErr r (λ e. (e ≡ parse.Memory) ⊎ OctetsFault s t e)
+    → IfErr r (λ e. (e ≡ parse.Memory) ⊎ ByRowFault origin t text e)
+given_why (Ok x) origin t octets s text same took h = tt
+given_why (Err e) origin t octets s text same took (inl memory) = inl memory
+given_why (Err e) origin t octets s text same took (inr fault) =
+    inr (inr (inr (record { octets = octets; took = took; why = subst (λ (o : List ℕ). OctetsFault o t e) same fault })))
+
+pub words_why : (e : ParseError) (origin : Option DomainName) (t : RecordType) (text : List ℕ) → (e ≡ parse.Memory) ⊎ LacksRow t e ⊎ WordsFault origin t text e
+    → (e ≡ parse.Memory) ⊎ ByRowFault origin t text e
+words_why e origin t text (inl memory) = inl memory
+words_why e origin t text (inr (inl lacks)) = inr (inl lacks)
+words_why e origin t text (inr (inr fault)) = inr (inr (inl fault))
+
+pub marked_why : {T : Type 0} (r : Result T ParseError) (origin : Option DomainName) (t : RecordType) (text : List ℕ) (cursor : Cursor) → IsBehindMark text cursor
+    → IfErr r (λ e. (e ≡ parse.Memory) ⊎ BehindMarkFault t cursor e) → IfErr r (λ e. (e ≡ parse.Memory) ⊎ ZoneFault origin t text e)
+marked_why (Ok x) origin t text cursor b h = tt
+marked_why (Err e) origin t text cursor b (inl memory) = inl memory
+marked_why (Err e) origin t text cursor b (inr why) = inr (inr (inl (record { cursor = cursor; behind = b; why = why })))
+
+pub unmarked_why : {T : Type 0} (r : Result T ParseError) (origin : Option DomainName) (t : RecordType) (text : List ℕ) → HasNoMark text
+    → IfErr r (λ e. (e ≡ parse.Memory) ⊎ ByRowFault origin t text e) → IfErr r (λ e. (e ≡ parse.Memory) ⊎ ZoneFault origin t text e)
+unmarked_why (Ok x) origin t text m h = tt
+unmarked_why (Err e) origin t text m (inl memory) = inl memory
+unmarked_why (Err e) origin t text m (inr why) = inr (inr (inr (record { unmarked = m; why = why })))
 
 -- ---- a whole text
 

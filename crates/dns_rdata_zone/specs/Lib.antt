@@ -8,6 +8,7 @@ pub mod Records
 pub mod Services
 pub mod Spellings
 pub mod Strings
+pub mod ZoneFaults
 pub mod ZoneGives
 pub mod ZoneReads
 pub mod ZoneSteps

@@ -4,16 +4,11 @@ use Rattle.dns_fields.specs.Fields.{Kind, Name}
 use Rattle.dns_fields.specs.Labels.{DomainName}
 use Rattle.dns_rdata.specs.Data.{shape, Fills, data_octets}
 use Rattle.dns_rdata.specs.declared.record_data.RData.{RData}
-use Rattle.dns_types.specs.declared.error.ParseError.{ParseError}
-use Rattle.dns_types.specs.declared.error.ParseError.TheVariants as parse
 use Rattle.dns_types.specs.declared.record_type.RecordType.{RecordType}
-use Rattle.dns_zone_rows.specs.RowFaults.{row_value, RowFault}
 use Rattle.dns_zone_rows.specs.RowTable.{row_of}
 use Rattle.dns_zone_rows.specs.Rows.{Row, RowGives}
-use Rattle.dns_zone_rows.specs.declared.row.ZoneRow.{ZoneRow}
-use Rattle.dns_zone_words.specs.Refusals.{IsMessage, IsMissing}
 use Rattle.dns_zone_words.specs.Remaining.{AreUnknown, IsUnknownMark}
-use Rattle.dns_zone_words.specs.Words.{Word, Cursor, words_at, zone_words}
+use Rattle.dns_zone_words.specs.Words.{Word, Cursor, zone_words}
 
 -- `\#`, and behind it a length and as many octets in hexadecimal digits, of data of any type
 abbrev pub AreUnknownData : List ℕ → List Word → Type 0
@@ -70,27 +65,5 @@ pub record GivesValue (origin : Option DomainName) (t : RecordType) (text : List
 pub record GivesNone (origin : Option DomainName) (t : RecordType) (text : List ℕ) : Type 0 where
   pub none : (v : RData) → GivesValue origin t text v → ⊥
 
--- ---- why it gives none
-
 abbrev pub at_start : List ℕ → Cursor
 at_start text = record { depth = 0; joined = false; text = text }
-
--- what the library for octets of messages says
-abbrev pub IsProto : ParseError → Type 0
-IsProto (parse.Proto inner) = Unit {0}
-IsProto e = ⊥
-
--- The type has no row, or the words give no octets by it, and the refusal names the first field at fault.
-abbrev pub OwnFault : Option DomainName → RecordType → List ℕ → ParseError → Type 0
-OwnFault origin t text e =
-    ((e ≡ parse.UnsupportedRecordType t) × (row_of t ≡ None))
-    ⊎ ((row : ZoneRow) × (cursor : Cursor) × (row_of t ≡ Some (row_value row)) × (words_at cursor ≡ zone_words text) × RowFault origin row cursor e)
-
--- The octets are too many, or are the data of no value, and the refusal says why.
-abbrev pub OctetsFault : ParseError → Type 0
-OctetsFault e = IsMessage e ⊎ IsProto e
-
--- The text is not cut into words; the form of unknown data is not kept, or there is a pointer in it; the type's fields are not
--- there; or the octets are no data of the type.
-abbrev pub ZoneFault : Option DomainName → RecordType → List ℕ → ParseError → Type 0
-ZoneFault origin t text e = IsMissing e ⊎ OctetsFault e ⊎ OwnFault origin t text e

@@ -4,9 +4,9 @@ use Rattle.dns_fields.specs.Labels.{DomainName}
 use Rattle.dns_rdata.specs.declared.record_data.RData.{RData}
 use Rattle.dns_types.specs.declared.record_type.RecordType.{RecordType}
 use Rattle.dns_zone_rows.specs.RowTable.{row_of}
-use Rattle.dns_zone_words.specs.Remaining.{AreUnknown, IsUnknownMark}
-use Rattle.dns_zone_words.specs.Words.{Word, Cursor, words_at, with_word, zone_words}
-use Rattle.dns_rdata_zone.specs.ZoneGives.{AreUnmarked, GiveByRow, AreDataOf, IsWhole}
+use Rattle.dns_zone_words.specs.Remaining.{AreUnknown}
+use Rattle.dns_zone_words.specs.Words.{Word, Cursor, words_at, zone_words}
+use Rattle.dns_rdata_zone.specs.ZoneGives.{GiveByRow, AreDataOf, IsWhole}
 
 -- the octets are the data of no value
 pub record AreNoData (octets : List ℕ) (t : RecordType) : Type 0 where
@@ -36,13 +36,3 @@ pub record RowIs (origin : Option DomainName) (t : RecordType) (text : List ℕ)
 -- they are the data of none
 pub record RowIsNone (origin : Option DomainName) (t : RecordType) (text : List ℕ) : Type 0 where
   pub none : (v : RData) → RowIs origin t text v → ⊥
-
--- `\#` stands first in the text, and these words behind it
-pub record IsBehindMark (text : List ℕ) (cursor : Cursor) : Type 0 where
-  pub first : Word
-  pub mark : IsUnknownMark first
-  pub cut : zone_words text ≡ with_word first (words_at cursor)
-
--- it does not stand first
-pub record HasNoMark (text : List ℕ) : Type 0 where
-  pub unmarked : (words : List Word) → zone_words text ≡ Ok words → AreUnmarked words

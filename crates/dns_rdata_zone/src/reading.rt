@@ -5,11 +5,11 @@ ghost use Rattle.std.specs.Option.{option_copied};
 ghost use Rattle.dns_rdata.specs.Data.{shape, type_of, IsEmittable, data_octets};
 ghost use Rattle.dns_words.specs.Reads.{UnlessMemory};
 ghost use Rattle.dns_zone_rows.specs.RowTable.{row_of};
-ghost use Rattle.dns_zone_words.specs.Refusals.{IsMissing};
 ghost use Rattle.dns_zone_words.specs.Remaining.{ReadsAll};
 ghost use Rattle.dns_zone_words.specs.ZoneReads.{IsCutRefused};
-ghost use Rattle.dns_rdata_zone.specs.ZoneGives.{GiveByRow, has_name, AreDataOf, GivesValue, GivesNone, at_start, OwnFault, OctetsFault, ZoneFault};
-ghost use Rattle.dns_rdata_zone.specs.ZoneSteps.{AreNoData, UnknownIs, UnknownIsNone, RowIs, RowIsNone, IsBehindMark, HasNoMark};
+ghost use Rattle.dns_rdata_zone.specs.ZoneFaults.{OctetsFault, IsBehindMark, BehindMarkFault, HasNoMark, LacksRow, WordsFault, ByRowFault, ZoneFault};
+ghost use Rattle.dns_rdata_zone.specs.ZoneGives.{GiveByRow, has_name, AreDataOf, GivesValue, GivesNone, at_start};
+ghost use Rattle.dns_rdata_zone.specs.ZoneSteps.{AreNoData, UnknownIs, UnknownIsNone, RowIs, RowIsNone};
 
 use crate::services::count_octets;
 use dns_rdata::{BinDecoder, Name, ParseError, RData, RecordType, Restrict};
@@ -59,6 +59,7 @@ pub fn from_zone_text(
     ensures emittable { IfOk result IsEmittable }
     // What is refused, but for memory, gives no value.
     ensures refused { IfErr result (λ e. UnlessMemory e (GivesNone (option_copied origin.entry) record_type text.now)) }
+    // The refusal tells the cause, and of which field it is.
     ensures why { IfErr result (λ e. (e ≡ ParseError.Memory) ⊎ ZoneFault (option_copied origin.entry) record_type text.now e) }
 {
     match behind_mark(text)? {
@@ -91,7 +92,7 @@ fn from_row(
     ensures kind { IfOk result (λ v. type_of v ≡ record_type) }
     ensures emittable { IfOk result IsEmittable }
     ensures refused { IfErr result (λ e. UnlessMemory e (RowIsNone (option_copied origin.entry) record_type text.now)) }
-    ensures why { IfErr result (λ e. (e ≡ ParseError.Memory) ⊎ OctetsFault e ⊎ OwnFault (option_copied origin.entry) record_type text.now e) }
+    ensures why { IfErr result (λ e. (e ≡ ParseError.Memory) ⊎ ByRowFault (option_copied origin.entry) record_type text.now e) }
 {
     let octets = row_data(alloc, record_type, text, origin)?;
     read_octets(alloc, record_type, octets.as_slice())
@@ -105,7 +106,7 @@ fn row_data(
     origin: Option<&Name>,
 ) -> Result<Octets, ParseError>
     ensures reads { ReadsAll (GiveByRow (option_copied origin.entry) (row_of record_type)) (λ x. x) result (at_start text.now) }
-    ensures why { IfErr result (λ e. (e ≡ ParseError.Memory) ⊎ OwnFault (option_copied origin.entry) record_type text.now e) }
+    ensures why { IfErr result (λ e. (e ≡ ParseError.Memory) ⊎ LacksRow record_type e ⊎ WordsFault (option_copied origin.entry) record_type text.now e) }
 {
     match row_of(record_type) {
         Some(row) => row_octets(alloc, &mut ZoneWords::new(text), origin, &row),
@@ -123,7 +124,7 @@ fn from_unknown_data(
     ensures kind { IfOk result (λ v. type_of v ≡ record_type) }
     ensures emittable { IfOk result IsEmittable }
     ensures refused { IfErr result (λ e. UnlessMemory e (UnknownIsNone record_type words.old)) }
-    ensures why { IfErr result (λ e. (e ≡ ParseError.Memory) ⊎ IsMissing e ⊎ OctetsFault e) }
+    ensures why { IfErr result (λ e. (e ≡ ParseError.Memory) ⊎ BehindMarkFault record_type words.old e) }
 {
     let octets = unknown_data(alloc, words)?;
     let value = read_octets(alloc, record_type, octets.as_slice())?;
@@ -139,7 +140,7 @@ fn read_octets(alloc: Global, record_type: RecordType, octets: &[u8]) -> Result<
     ensures kind { IfOk result (λ v. type_of v ≡ record_type) }
     ensures emittable { IfOk result IsEmittable }
     ensures refused { IfErr result (λ e. UnlessMemory e (AreNoData octets.now record_type)) }
-    ensures why { IfErr result (λ e. (e ≡ ParseError.Memory) ⊎ OctetsFault e) }
+    ensures why { IfErr result (λ e. (e ≡ ParseError.Memory) ⊎ OctetsFault octets.now record_type e) }
 {
     if octets.len() > 65535 {
         return Err(ParseError::Message(TOO_LONG));

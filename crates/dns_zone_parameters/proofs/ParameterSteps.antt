@@ -10,7 +10,8 @@ use Rattle.dns_zone_words.specs.Remaining.{with_words, NoneOfAll, TookAll}
 use Rattle.dns_zone_words.specs.Words.{Word, Cursor, words_at, with_word}
 use Rattle.dns_zone_words.specs.declared.words_error.WordsError.{WordsError}
 use Rattle.dns_zone_words.proofs.FirstSteps.{unless_map}
-use Rattle.dns_zone_parameters.specs.Faults.{Says, KeyTwice}
+use Rattle.dns_zone_parameters.specs.Faults.{KeyTwice}
+use Rattle.dns_zone_words.specs.Refusals.{Says}
 use Rattle.dns_zone_parameters.specs.Keys.{key_number}
 use Rattle.dns_zone_parameters.specs.Parameters.{Parameter, IsWritten, HasParameter, IsParameter, AreWritten, AreParameters}
 use Rattle.dns_zone_parameters.specs.Steps.{BeginOnlySo, TookWritten, TookParameter, TookParameters}

@@ -2,10 +2,9 @@
 use Rattle.std.specs.Prelude.{◌≡◌, ◌⊎◌, ℕ, ◌<◌, true, false, List, length, map, Result, Ok, Err, IsPermutation, codes}
 use Rattle.dns_fields.specs.Pieces.{Rising}
 use Rattle.dns_types.specs.declared.error.ParseError.{ParseError}
-use Rattle.dns_types.specs.declared.error.ParseError.TheVariants as parse
 use Rattle.dns_words.specs.Reads.{NoValue}
 use Rattle.dns_zone_words.specs.Letters.{letters, octet_of, escapes_stand}
-use Rattle.dns_zone_words.specs.Refusals.{IsMessage}
+use Rattle.dns_zone_words.specs.Refusals.{Says, cut_text}
 use Rattle.dns_zone_words.specs.Remaining.{with_words}
 use Rattle.dns_zone_words.specs.Words.{Word, Cursor, words_at, with_word}
 use Rattle.dns_zone_words.specs.declared.words_error.WordsError.{WordsError}
@@ -14,11 +13,6 @@ use Rattle.dns_zone_parameters.specs.Values.{HasOctets, IsPlain}
 use Rattle.dns_zone_parameters.specs.Parameters.{Parameter, StandsAlone, IsWritten, AreWritten}
 use Rattle.dns_zone_parameters.specs.declared.key.ParameterKey.{ParameterKey}
 use Rattle.dns_zone_parameters.specs.declared.key.ParameterKey.TheVariants.{Mandatory, Alpn, NoDefaultAlpn, Port, Ipv4Hint, Ech, Ipv6Hint, DohPath, Numbered}
-
--- the refusal is a message of this text
-abbrev pub Says : List ℕ → ParseError → Type 0
-Says text (parse.Message said) = said.now ≡ text
-Says text e = ⊥
 
 -- what is said of a value that has not the form of the key
 abbrev pub wrong_value : ParameterKey → List ℕ
@@ -81,7 +75,7 @@ pub record WrittenFault (words : Words) (e : ParseError) : Type 0 where
 
 -- No parameter stands next: the text is not cut into words, or a word stands in a wrong place, or is no parameter.
 abbrev pub NextFault : Words → ParseError → Type 0
-NextFault words e = ((why : WordsError) × (words ≡ Err why) × IsMessage e) ⊎ WordFault words e ⊎ WrittenFault words e
+NextFault words e = ((why : WordsError) × (words ≡ Err why) × Says (cut_text why) e) ⊎ WordFault words e ⊎ WrittenFault words e
 
 -- behind parameters, none or more, stands none
 pub record FaultBehind (cursor : Cursor) (e : ParseError) : Type 0 where

@@ -3,7 +3,7 @@
 ghost use Rattle.std.specs.Prelude.{◌≡◌, ◌≤◌, ◌<◌, ◌⊎◌, [], length, Ok, IfOk, IfErr, IfSome, IfNone, OnErr};
 ghost use Rattle.std.specs.List.{position};
 ghost use Rattle.dns_words.specs.Reads.{Decides};
-ghost use Rattle.dns_zone_words.specs.Refusals.{IsMessage};
+ghost use Rattle.dns_zone_words.specs.ZoneReads.{IsCutRefused};
 ghost use Rattle.dns_zone_words.specs.Remaining.{NoneOfAll};
 ghost use Rattle.dns_zone_words.specs.Words.{words_at};
 ghost use Rattle.dns_zone_parameters.specs.Faults.{ParameterFault, NextFault};
@@ -106,7 +106,7 @@ fn quoted_value<'a>(words: &mut ZoneWords<'a>) -> Result<Option<&'a [u8]>, Parse
     ensures none { IfOk result (λ o. IfNone o (NoQuoted words.old)) }
     ensures stays { IfOk result (λ o. IfNone o (words.new ≡ words.old)) }
     ensures refused { OnErr result (IsUncut words.old) }
-    ensures why { IfErr result IsMessage }
+    ensures why { IfErr result (IsCutRefused words.old) }
 {
     let mut ahead = words.again();
     match ahead.next_word()? {

@@ -6,12 +6,11 @@ use Rattle.dns_types.specs.declared.error.ParseError.{ParseError}
 use Rattle.dns_types.specs.declared.error.ParseError.TheVariants as parse
 use Rattle.dns_words.specs.Reads.{NoValue}
 use Rattle.dns_words.specs.declared.field.Field.{Field}
-use Rattle.dns_zone_words.specs.Forms.{StringFault, IsType}
+use Rattle.dns_zone_words.specs.Forms.{StringFault, TextFault, IsType}
 use Rattle.dns_zone_words.specs.NameWords.{NameFault}
-use Rattle.dns_zone_words.specs.Refusals.{IsMessage}
-use Rattle.dns_zone_words.specs.Remaining.{AmongFault, HexFault}
+use Rattle.dns_zone_words.specs.Remaining.{AmongFault, HexFault, Base64Fault}
 use Rattle.dns_zone_words.specs.Words.{Word, Cursor, words_at, with_word}
-use Rattle.dns_zone_words.specs.ZoneReads.{IsCutRefused, LacksFirst, IsOfFieldOrCut, WhyFirst}
+use Rattle.dns_zone_words.specs.ZoneReads.{IsCutRefused, LacksFirst, WhyNoField, WhyFirst}
 use Rattle.dns_zone_parameters.specs.Faults.{ParametersFault}
 use Rattle.dns_zone_rows.specs.Mnemonics.{cert_types, algorithms}
 use Rattle.dns_zone_rows.specs.Rows.{FieldKind, Number, NamedNumber, Ttl, Ipv4, Ipv6, Name, String, Tag, Octets, RestKind, NoWord, SomeStrings, SomeHex, SomeBase64, AnyTypes, AnyParameters, Row, FieldGives}
@@ -52,18 +51,18 @@ row_value row = record { fields = map kind_of row.fields.now; rest = rest_kind_o
 
 -- why no first word gives octets of the field
 abbrev pub FieldFault : Option DomainName → ZoneField → Cursor → ParseError → Type 0
-FieldFault origin (field.U8 f) = IsOfFieldOrCut f
-FieldFault origin (field.U16 f) = IsOfFieldOrCut f
-FieldFault origin (field.U32 f) = IsOfFieldOrCut f
-FieldFault origin (field.Ttl f) = IsOfFieldOrCut f
-FieldFault origin (field.Ipv4 f) = IsOfFieldOrCut f
-FieldFault origin (field.Ipv6 f) = IsOfFieldOrCut f
+FieldFault origin (field.U8 f) = WhyNoField f
+FieldFault origin (field.U16 f) = WhyNoField f
+FieldFault origin (field.U32 f) = WhyNoField f
+FieldFault origin (field.Ttl f) = WhyNoField f
+FieldFault origin (field.Ipv4 f) = WhyNoField f
+FieldFault origin (field.Ipv6 f) = WhyNoField f
 FieldFault origin (field.Name f) = WhyFirst (parse.MissingToken f.name) (NameFault f origin)
 FieldFault origin (field.String f) = WhyFirst (parse.MissingToken f.name) (StringFault f)
-FieldFault origin (field.Tag f) = IsOfFieldOrCut f
-FieldFault origin (field.CertType f) = IsOfFieldOrCut f
-FieldFault origin (field.Algorithm f) = IsOfFieldOrCut f
-FieldFault origin (field.Text f) = IsOfFieldOrCut f
+FieldFault origin (field.Tag f) = WhyNoField f
+FieldFault origin (field.CertType f) = WhyNoField f
+FieldFault origin (field.Algorithm f) = WhyNoField f
+FieldFault origin (field.Text f) = WhyFirst (parse.MissingToken f.name) (TextFault (parse.Message f.wrong))
 
 -- the word is no type
 abbrev pub TypeFault : Field → Word → ParseError → Type 0
@@ -78,7 +77,7 @@ abbrev pub RestFault : ZoneRest → Cursor → ParseError → Type 0
 RestFault (rest.Nothing surplus) cursor e = SurplusFault (parse.Message surplus) cursor e
 RestFault (rest.Strings f) cursor e = LacksFirst (parse.MissingToken f.name) cursor e ⊎ AmongFault (StringFault f) cursor e
 RestFault (rest.Hex missing f) cursor e = LacksFirst (parse.MissingToken missing) cursor e ⊎ HexFault f cursor e
-RestFault (rest.Base64 f) cursor e = LacksFirst (parse.MissingToken f.name) cursor e ⊎ IsMessage e
+RestFault (rest.Base64 f) cursor e = LacksFirst (parse.MissingToken f.name) cursor e ⊎ Base64Fault (parse.Message f.wrong) cursor e
 RestFault (rest.Types f) cursor e = AmongFault (TypeFault f) cursor e
 RestFault rest.Parameters cursor e = ParametersFault cursor e
 

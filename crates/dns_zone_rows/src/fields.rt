@@ -5,11 +5,11 @@ ghost use Rattle.std.specs.Int.{bytes_high_first};
 ghost use Rattle.std.specs.Option.{option_copied};
 ghost use Rattle.dns_fields.specs.Pieces.{string as string_octets};
 ghost use Rattle.dns_words.specs.Forms.{ttl, ipv4, ipv6};
-ghost use Rattle.dns_zone_words.specs.Forms.{bare, number, string, text, StringFault};
+ghost use Rattle.dns_zone_words.specs.Forms.{bare, number, string, text, StringFault, TextFault};
 ghost use Rattle.dns_zone_words.specs.NameWords.{name, NameFault};
 ghost use Rattle.dns_zone_words.specs.Views.{word_value};
 ghost use Rattle.dns_zone_words.specs.Words.{words_at, behind_first};
-ghost use Rattle.dns_zone_words.specs.ZoneReads.{ReadsAs, ReadsFirst, IsOfFieldOrCut, WhyFirst};
+ghost use Rattle.dns_zone_words.specs.ZoneReads.{ReadsAs, ReadsFirst, WhyNoField, WhyFirst};
 ghost use Rattle.dns_zone_rows.specs.Mnemonics.{named_number, cert_types, algorithms};
 ghost use Rattle.dns_zone_rows.specs.RowFaults.{kind_of, FieldFault};
 ghost use Rattle.dns_zone_rows.specs.RowSteps.{AddsFirst};
@@ -55,7 +55,7 @@ pub(crate) fn add_field(
 // Takes a number of 8 bits. As `add_field`, and so are those below.
 fn add_u8(words: &mut ZoneWords<'_>, field: Field, octets: &mut Vec<u8>) -> Result<(), ParseError>
     ensures adds { AddsFirst (Gives (number 1) (bytes_high_first 1)) result octets.old.items octets.new.items words.old words.new }
-    ensures why { IfErr result (λ e. (e ≡ ParseError.Memory) ⊎ IsOfFieldOrCut field words.old e) }
+    ensures why { IfErr result (λ e. (e ≡ ParseError.Memory) ⊎ WhyNoField field words.old e) }
 {
     let value = next_u8(words, field)?;
     add_octets(octets, &value.to_be_bytes())
@@ -63,7 +63,7 @@ fn add_u8(words: &mut ZoneWords<'_>, field: Field, octets: &mut Vec<u8>) -> Resu
 
 fn add_u16(words: &mut ZoneWords<'_>, field: Field, octets: &mut Vec<u8>) -> Result<(), ParseError>
     ensures adds { AddsFirst (Gives (number 2) (bytes_high_first 2)) result octets.old.items octets.new.items words.old words.new }
-    ensures why { IfErr result (λ e. (e ≡ ParseError.Memory) ⊎ IsOfFieldOrCut field words.old e) }
+    ensures why { IfErr result (λ e. (e ≡ ParseError.Memory) ⊎ WhyNoField field words.old e) }
 {
     let value = next_u16(words, field)?;
     add_octets(octets, &value.to_be_bytes())
@@ -71,7 +71,7 @@ fn add_u16(words: &mut ZoneWords<'_>, field: Field, octets: &mut Vec<u8>) -> Res
 
 fn add_u32(words: &mut ZoneWords<'_>, field: Field, octets: &mut Vec<u8>) -> Result<(), ParseError>
     ensures adds { AddsFirst (Gives (number 4) (bytes_high_first 4)) result octets.old.items octets.new.items words.old words.new }
-    ensures why { IfErr result (λ e. (e ≡ ParseError.Memory) ⊎ IsOfFieldOrCut field words.old e) }
+    ensures why { IfErr result (λ e. (e ≡ ParseError.Memory) ⊎ WhyNoField field words.old e) }
 {
     let value = next_u32(words, field)?;
     add_octets(octets, &value.to_be_bytes())
@@ -79,7 +79,7 @@ fn add_u32(words: &mut ZoneWords<'_>, field: Field, octets: &mut Vec<u8>) -> Res
 
 fn add_ttl(words: &mut ZoneWords<'_>, field: Field, octets: &mut Vec<u8>) -> Result<(), ParseError>
     ensures adds { AddsFirst (Gives (bare (ttl 4294967295)) (bytes_high_first 4)) result octets.old.items octets.new.items words.old words.new }
-    ensures why { IfErr result (λ e. (e ≡ ParseError.Memory) ⊎ IsOfFieldOrCut field words.old e) }
+    ensures why { IfErr result (λ e. (e ≡ ParseError.Memory) ⊎ WhyNoField field words.old e) }
 {
     let value = next_ttl(words, field)?;
     add_octets(octets, &value.to_be_bytes())
@@ -91,7 +91,7 @@ fn add_cert_type(
     octets: &mut Vec<u8>,
 ) -> Result<(), ParseError>
     ensures adds { AddsFirst (Gives (named_number 2 cert_types) (bytes_high_first 2)) result octets.old.items octets.new.items words.old words.new }
-    ensures why { IfErr result (λ e. (e ≡ ParseError.Memory) ⊎ IsOfFieldOrCut field words.old e) }
+    ensures why { IfErr result (λ e. (e ≡ ParseError.Memory) ⊎ WhyNoField field words.old e) }
 {
     let value = next_cert_type(words, field)?;
     add_octets(octets, &value.to_be_bytes())
@@ -103,7 +103,7 @@ fn add_algorithm(
     octets: &mut Vec<u8>,
 ) -> Result<(), ParseError>
     ensures adds { AddsFirst (Gives (named_number 1 algorithms) (bytes_high_first 1)) result octets.old.items octets.new.items words.old words.new }
-    ensures why { IfErr result (λ e. (e ≡ ParseError.Memory) ⊎ IsOfFieldOrCut field words.old e) }
+    ensures why { IfErr result (λ e. (e ≡ ParseError.Memory) ⊎ WhyNoField field words.old e) }
 {
     let value = next_algorithm(words, field)?;
     add_octets(octets, &value.to_be_bytes())
@@ -111,7 +111,7 @@ fn add_algorithm(
 
 fn add_ipv4(words: &mut ZoneWords<'_>, field: Field, octets: &mut Vec<u8>) -> Result<(), ParseError>
     ensures adds { AddsFirst (Gives (bare ipv4) (λ s. s)) result octets.old.items octets.new.items words.old words.new }
-    ensures why { IfErr result (λ e. (e ≡ ParseError.Memory) ⊎ IsOfFieldOrCut field words.old e) }
+    ensures why { IfErr result (λ e. (e ≡ ParseError.Memory) ⊎ WhyNoField field words.old e) }
 {
     let value = next_ipv4(words, field)?;
     add_octets(octets, &value.octets())
@@ -119,7 +119,7 @@ fn add_ipv4(words: &mut ZoneWords<'_>, field: Field, octets: &mut Vec<u8>) -> Re
 
 fn add_ipv6(words: &mut ZoneWords<'_>, field: Field, octets: &mut Vec<u8>) -> Result<(), ParseError>
     ensures adds { AddsFirst (Gives (bare ipv6) (λ s. s)) result octets.old.items octets.new.items words.old words.new }
-    ensures why { IfErr result (λ e. (e ≡ ParseError.Memory) ⊎ IsOfFieldOrCut field words.old e) }
+    ensures why { IfErr result (λ e. (e ≡ ParseError.Memory) ⊎ WhyNoField field words.old e) }
 {
     let value = next_ipv6(words, field)?;
     add_octets(octets, &value.octets())
@@ -154,7 +154,7 @@ fn add_string(
 
 fn add_tag(words: &mut ZoneWords<'_>, field: Field, octets: &mut Vec<u8>) -> Result<(), ParseError>
     ensures adds { AddsFirst (Gives tag string_octets) result octets.old.items octets.new.items words.old words.new }
-    ensures why { IfErr result (λ e. (e ≡ ParseError.Memory) ⊎ IsOfFieldOrCut field words.old e) }
+    ensures why { IfErr result (λ e. (e ≡ ParseError.Memory) ⊎ WhyNoField field words.old e) }
 {
     let value = next_tag(words, field)?;
     add_counted(octets, value)
@@ -167,7 +167,7 @@ fn add_text(
     octets: &mut Vec<u8>,
 ) -> Result<(), ParseError>
     ensures adds { AddsFirst (Gives text (λ s. s)) result octets.old.items octets.new.items words.old words.new }
-    ensures why { IfErr result (λ e. (e ≡ ParseError.Memory) ⊎ IsOfFieldOrCut field words.old e) }
+    ensures why { IfErr result (λ e. (e ≡ ParseError.Memory) ⊎ WhyFirst (ParseError.MissingToken field.name) (TextFault (ParseError.Message field.wrong)) words.old e) }
 {
     let value = next_text(alloc, words, field)?;
     add_octets(octets, value.as_slice())
@@ -177,7 +177,7 @@ fn add_text(
 #[inline]
 fn next_tag<'a>(words: &mut ZoneWords<'a>, field: Field) -> Result<&'a [u8], ParseError>
     ensures reads { ReadsFirst tag (λ s. s.now) result words.old words.new }
-    ensures why { IfErr result (IsOfFieldOrCut field words.old) }
+    ensures why { IfErr result (WhyNoField field words.old) }
     ensures behind { words_at words.new ≡ behind_first (words_at words.old) }
 {
     let word = some_word(words, field.name)?;

@@ -6,7 +6,7 @@ ghost use Rattle.dns_zone_rows.specs.MnemonicViews.{named_values, IsByName, IsNo
 ghost use Rattle.dns_zone_rows.specs.Mnemonics.{number_named, named_number, cert_types, algorithms};
 ghost use Rattle.dns_zone_words.specs.Views.{word_value};
 ghost use Rattle.dns_zone_words.specs.Words.{words_at, behind_first};
-ghost use Rattle.dns_zone_words.specs.ZoneReads.{ReadsAs, ReadsFirst, IsOfFieldOrCut};
+ghost use Rattle.dns_zone_words.specs.ZoneReads.{ReadsAs, ReadsFirst, WhyNoField};
 
 use dns_types::ParseError;
 use dns_zone_words::{Field, ZoneWord, ZoneWords, some_word, u8_of, u16_of};
@@ -138,7 +138,7 @@ pub fn algorithm_of(word: ZoneWord<'_>, wrong: &'static str) -> Result<u8, Parse
 #[inline]
 pub fn next_cert_type(words: &mut ZoneWords<'_>, field: Field) -> Result<u16, ParseError>
     ensures reads { ReadsFirst (named_number 2 cert_types) (λ n. n) result words.old words.new }
-    ensures why { IfErr result (IsOfFieldOrCut field words.old) }
+    ensures why { IfErr result (WhyNoField field words.old) }
     ensures behind { words_at words.new ≡ behind_first (words_at words.old) }
 {
     let word = some_word(words, field.name)?;
@@ -149,7 +149,7 @@ pub fn next_cert_type(words: &mut ZoneWords<'_>, field: Field) -> Result<u16, Pa
 #[inline]
 pub fn next_algorithm(words: &mut ZoneWords<'_>, field: Field) -> Result<u8, ParseError>
     ensures reads { ReadsFirst (named_number 1 algorithms) (λ n. n) result words.old words.new }
-    ensures why { IfErr result (IsOfFieldOrCut field words.old) }
+    ensures why { IfErr result (WhyNoField field words.old) }
     ensures behind { words_at words.new ≡ behind_first (words_at words.old) }
 {
     let word = some_word(words, field.name)?;

@@ -4,8 +4,7 @@ ghost use Rattle.std.specs.Prelude.{◌≡◌, ◌≢◌, ◌≤◌, ◌⊎◌, 
 ghost use Rattle.std.specs.List.{flat_map};
 ghost use Rattle.dns_fields.specs.Pieces.{string as string_octets};
 ghost use Rattle.dns_zone_words.specs.Forms.{StringFault};
-ghost use Rattle.dns_zone_words.specs.Refusals.{IsMessage};
-ghost use Rattle.dns_zone_words.specs.Remaining.{AmongFault, HexFault};
+ghost use Rattle.dns_zone_words.specs.Remaining.{AmongFault, HexFault, Base64Fault};
 ghost use Rattle.dns_zone_words.specs.Words.{words_at};
 ghost use Rattle.dns_zone_words.specs.ZoneReads.{LacksFirst};
 ghost use Rattle.dns_zone_parameters.specs.Faults.{ParametersFault};
@@ -92,7 +91,7 @@ fn add_base64(
     octets: &mut Vec<u8>,
 ) -> Result<(), ParseError>
     ensures adds { AddsAll (RestGives SomeBase64) result octets.old.items octets.new.items words.old }
-    ensures why { IfErr result (λ e. (e ≡ ParseError.Memory) ⊎ LacksFirst (ParseError.MissingToken field.name) words.old e ⊎ IsMessage e) }
+    ensures why { IfErr result (λ e. (e ≡ ParseError.Memory) ⊎ LacksFirst (ParseError.MissingToken field.name) words.old e ⊎ Base64Fault (ParseError.Message field.wrong) words.old e) }
 {
     ask_some(words, field.name)?;
     let data = all_base64(alloc, words, field.wrong)?;

@@ -72,3 +72,9 @@ pub first_fault : {T : Type 0} (fault : Word → ParseError → Type 0) (missing
     → words_at old ≡ with_word word (words_at new) → IfErr r (λ e. (e ≡ parse.Memory) ⊎ fault word e) → IfErr r (λ e. (e ≡ parse.Memory) ⊎ WhyFirst missing fault old e)
 first_fault fault missing (Ok x) word old new first h = tt
 first_fault fault missing (Err e) word old new first h = fault_of missing word (words_at new) old e first h
+
+-- the first word is a wrong one
+pub first_wrong : {T : Type 0} (wrong missing : ParseError) (r : Result T ParseError) (word : Word) (old new : Cursor)
+    → words_at old ≡ with_word word (words_at new) → IfErr r (λ e. e ≡ wrong) → IfErr r (WhyFirst missing (λ word e. e ≡ wrong) old)
+first_wrong wrong missing (Ok x) word old new first h = tt
+first_wrong wrong missing (Err e) word old new first h = inr (record { word = word; behind = words_at new; first = first; has = h })

@@ -1,20 +1,23 @@
 -- Words that are left, one by one.
 use Rattle.std.proofs.Common.{◌≡◌, ◌≢◌, ℕ, ◌<◌, ◌^◌, length, Bool, true, false, cond, arith, ◌⊎◌, inl, inr, List, [], ◌∷◌, ◌++◌, Result, Ok, Err, refl, sym, ◌∙◌, ap, subst, append_assoc}
 use Rattle.std.proofs.lemmas.List.{append-nil}
-use Rattle.std.specs.Prelude.{IfErr, ◌%◌, ◌==◌}
+use Rattle.std.specs.Prelude.{IfErr, ◌%◌, ◌==◌, codes}
 use Rattle.std.proofs.lemmas.Bool.Decides.{nat_tests}
+use Rattle.base64.specs.Engines.{standard}
+use Rattle.base64.specs.GeneralPurpose.{decode_of as base64_of}
 use Rattle.hex.specs.Hex.{decode_of as hex_of, decode_pairs}
 use Rattle.hex.specs.declared.error.FromHexError.{FromHexError}
 use Rattle.hex.specs.declared.error.FromHexError.TheVariants.{OddLength}
 use Rattle.dns_zone_words.specs.declared.field.HexField.{HexField}
-use Rattle.dns_zone_words.specs.Refusals.{IsMessage}
 use Rattle.std.specs.Result.{IsErrAnd}
 use Rattle.dns_types.specs.declared.error.ParseError.{ParseError}
 use Rattle.dns_types.specs.declared.error.ParseError.TheVariants as parse
 use Rattle.dns_words.specs.Reads.{UnlessMemory}
-use Rattle.dns_zone_words.specs.Remaining.{AllBare, joined, AreJoined, AreHex, AreUnknown, AreStrings, TookAll, NoneOfAll, ReadsAll, with_words, AmongFault, QuotesFault, DigitsFault, HexFault}
+use Rattle.dns_zone_words.specs.Remaining.{AllBare, joined, AreJoined, AreHex, AreUnknown, AreStrings, TookAll, NoneOfAll, ReadsAll, with_words, AmongFault, QuotesFault, DigitsFault, HexFault, Base64Fault, NoBase64, UnknownFault}
 use Rattle.dns_zone_words.specs.Forms.{number, IsNumber, string}
-use Rattle.dns_zone_words.specs.ZoneReads.{NoValueOf, FirstHas, TookFirst, NoFirst}
+use Rattle.dns_words.specs.declared.field.Field.{Field}
+use Rattle.dns_zone_words.specs.Refusals.{Says}
+use Rattle.dns_zone_words.specs.ZoneReads.{NoValueOf, FirstHas, TookFirst, NoFirst, WhyNoField}
 use Rattle.dns_zone_words.specs.Words.{Word, Cursor, words_at, with_word}
 use Rattle.dns_zone_words.proofs.FirstSteps.{unless_map}
 use Rattle.dns_zone_words.specs.declared.words_error.WordsError.{WordsError}
@@ -119,12 +122,10 @@ exit_same is view cursor (Err y) e h none = subst (λ (z : ParseError). UnlessMe
 pub joined_cut : (old now : Cursor) (octets : List ℕ) (e : WordsError) → TakenSo old now octets → words_at now ≡ Err e → words_at old ≡ Err e
 joined_cut old now octets e so end = so.behind ∙ ap (with_words so.words) end ∙ words_err so.words e
 
--- quotes and cuts are told by messages
-pub quotes_message : {wrong : ParseError} {cursor : Cursor} → IsMessage wrong → (e : ParseError)
-    → (e ≡ parse.Memory) ⊎ AmongFault (QuotesFault wrong) cursor e → (e ≡ parse.Memory) ⊎ IsMessage e
-quotes_message is e (inl memory) = inl memory
-quotes_message is e (inr (inl cut)) = inr cut.2
-quotes_message is e (inr (inr one)) = inr (subst IsMessage (sym one.has.0) is)
+pub quotes_base64 : (wrong : ParseError) (cursor : Cursor) (e : ParseError)
+    → (e ≡ parse.Memory) ⊎ AmongFault (QuotesFault wrong) cursor e → (e ≡ parse.Memory) ⊎ Base64Fault wrong cursor e
+quotes_base64 wrong cursor e (inl memory) = inl memory
+quotes_base64 wrong cursor e (inr fault) = inr (inl fault)
 
 pub quotes_hex : (field : HexField) (cursor : Cursor) (e : ParseError)
     → (e ≡ parse.Memory) ⊎ AmongFault (QuotesFault (parse.Message field.quoted)) cursor e → (e ≡ parse.Memory) ⊎ HexFault field cursor e
@@ -170,6 +171,18 @@ digit_fault field octets cursor took even none = record {
     subst (λ (os : List ℕ). length os % 2 ≢ 1) took.value.same even,
     subst (λ (os : List ℕ). (v : List ℕ) → hex_of os ≡ Ok v → ⊥) took.value.same none,
   );
+}
+
+-- ---- base64
+
+pub base64_fault : (wrong : ParseError) (octets : List ℕ) (cursor : Cursor) → TookAll AreJoined octets cursor
+    → ((v : List ℕ) → base64_of standard octets ≡ Ok v → ⊥) → NoBase64 wrong cursor wrong
+base64_fault wrong octets cursor took none = record {
+  says = refl;
+  words = took.words;
+  cut = took.cut;
+  bare = took.value.bare;
+  none = subst (λ (os : List ℕ). (v : List ℕ) → base64_of standard os ≡ Ok v → ⊥) took.value.same none;
 }
 
 -- ---- unknown data
@@ -273,3 +286,18 @@ pub none_string : (e : ParseError) (old now new : Cursor) (strings : List (List 
     → UnlessMemory e (NoValueOf string word) → UnlessMemory e (NoneOfAll AreStrings old)
 none_string e old now new strings word so first none = unless_map e (NoValueOf string word) (NoneOfAll AreStrings old)
     (λ isnt. record { none = λ v words cut is. not_string so.words word (words_at new) words v isnt (sym (so.behind ∙ ap (with_words so.words) first) ∙ cut) is }) none
+
+-- ---- why it is no unknown data
+
+pub length_fault : (field : Field) (cursor : Cursor) (e : ParseError) → WhyNoField field cursor e → (e ≡ parse.Memory) ⊎ UnknownFault cursor e
+length_fault field cursor e why = inr (inl (field, why))
+
+pub digits_fault : {n : ℕ} (field : HexField) (old mid : Cursor) (e : ParseError) → TookFirst (number 2) n old mid
+    → (e ≡ parse.Memory) ⊎ HexFault field mid e → (e ≡ parse.Memory) ⊎ UnknownFault old e
+digits_fault field old mid e took (inl memory) = inl memory
+digits_fault field old mid e took (inr why) = inr (inr (record { n = _; behind = mid; took = took; why = inl (field, why) }))
+
+pub number_fault : {n : ℕ} (octets : List ℕ) (old mid : Cursor) (e : ParseError) → TookFirst (number 2) n old mid → TookAll AreHex octets mid
+    → length octets ≢ n → Says (codes "unknown data is not as many octets as its length says") e → (e ≡ parse.Memory) ⊎ UnknownFault old e
+number_fault octets old mid e took all other says =
+    inr (inr (record { n = _; behind = mid; took = took; why = inr (record { says = says; octets = octets; took = all; other = other }) }))

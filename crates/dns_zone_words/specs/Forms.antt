@@ -44,6 +44,10 @@ StringFault field word e =
     ((e ≡ parse.Message field.escape) × (escapes_stand word.octets ≡ false))
     ⊎ ((e ≡ parse.Message field.long) × (escapes_stand word.octets ≡ true) × (255 < length (map octet_of (letters word.octets))))
 
+-- why a word is no text: a `\` has no meaning
+abbrev pub TextFault : ParseError → Word → ParseError → Type 0
+TextFault wrong word e = (e ≡ wrong) × (escapes_stand word.octets ≡ false)
+
 -- octets to the end of a record, of any number
 abbrev pub text : ZoneForm Rest
 text = record { is = IsText }

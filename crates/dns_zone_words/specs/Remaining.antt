@@ -1,5 +1,5 @@
 -- All words that are left of a text: strings, base64, hexadecimal digits, and the form of unknown data (RFC 3597, 5).
-use Rattle.std.specs.Prelude.{◌≡◌, ◌⊎◌, ℕ, ◌^◌, ◌%◌, ◌≢◌, ◌<◌, true, false, List, [], ◌∷◌, Result, Ok, Err, length}
+use Rattle.std.specs.Prelude.{◌≡◌, ◌⊎◌, ℕ, ◌^◌, ◌%◌, ◌≢◌, ◌<◌, true, false, List, [], ◌∷◌, Result, Ok, Err, length, codes}
 use Rattle.std.specs.List.{flat_map}
 use Rattle.base64.specs.Engines.{standard}
 use Rattle.base64.specs.GeneralPurpose.{decode_of as base64_of}
@@ -8,9 +8,11 @@ use Rattle.dns_types.specs.declared.error.ParseError.{ParseError}
 use Rattle.dns_types.specs.declared.error.ParseError.TheVariants as parse
 use Rattle.dns_words.specs.Reads.{UnlessMemory}
 use Rattle.dns_zone_words.specs.declared.field.HexField.{HexField}
-use Rattle.dns_zone_words.specs.Forms.{IsNumber, string}
+use Rattle.dns_words.specs.declared.field.Field.{Field}
+use Rattle.dns_zone_words.specs.Forms.{IsNumber, number, string}
+use Rattle.dns_zone_words.specs.Refusals.{Says}
 use Rattle.dns_zone_words.specs.Words.{Word, Cursor, words_at, with_word}
-use Rattle.dns_zone_words.specs.ZoneReads.{IsCutRefused}
+use Rattle.dns_zone_words.specs.ZoneReads.{IsCutRefused, TookFirst, WhyNoField}
 use Rattle.dns_zone_words.specs.declared.words_error.WordsError.{WordsError}
 
 -- words, and those behind them
@@ -100,3 +102,35 @@ pub record DigitsFault (field : HexField) (cursor : Cursor) (e : ParseError) : T
 -- the text is not cut into words, one of them stands in quotes, or they are not hexadecimal digits
 abbrev pub HexFault : HexField → Cursor → ParseError → Type 0
 HexFault field cursor e = AmongFault (QuotesFault (parse.Message field.quoted)) cursor e ⊎ DigitsFault field cursor e
+
+-- the words, none of them in quotes, are no base64
+pub record NoBase64 (wrong : ParseError) (cursor : Cursor) (e : ParseError) : Type 0 where
+  pub says : e ≡ wrong
+  pub words : List Word
+  pub cut : words_at cursor ≡ Ok words
+  pub bare : AllBare words
+  pub none : (octets : List ℕ) → base64_of standard (joined words) ≡ Ok octets → ⊥
+
+-- the text is not cut into words, one of them stands in quotes, or they are no base64
+abbrev pub Base64Fault : ParseError → Cursor → ParseError → Type 0
+Base64Fault wrong cursor e = AmongFault (QuotesFault wrong) cursor e ⊎ NoBase64 wrong cursor e
+
+-- ---- why words are not unknown data
+
+-- the words are hexadecimal digits, of other than n octets
+pub record OtherNumber (n : ℕ) (cursor : Cursor) (e : ParseError) : Type 0 where
+  pub says : Says (codes "unknown data is not as many octets as its length says") e
+  pub octets : List ℕ
+  pub took : TookAll AreHex octets cursor
+  pub other : length octets ≢ n
+
+-- behind the length stand no hexadecimal digits, or they are of another number of octets
+pub record DataFault (cursor : Cursor) (e : ParseError) : Type 0 where
+  pub n : ℕ
+  pub behind : Cursor
+  pub took : TookFirst (number 2) n cursor behind
+  pub why : ((field : HexField) × HexFault field behind e) ⊎ OtherNumber n behind e
+
+-- there is no length of 16 bits, or behind it the data has a fault
+abbrev pub UnknownFault : Cursor → ParseError → Type 0
+UnknownFault cursor e = ((field : Field) × WhyNoField field cursor e) ⊎ DataFault cursor e

@@ -1,12 +1,12 @@
 -- What a reader of words of a text does, exactly.
 use Rattle.std.specs.Prelude.{◌≡◌, ◌⊎◌, List, [], ◌∷◌, Result, Ok, Err}
 use Rattle.dns_types.specs.declared.error.ParseError.{ParseError}
+use Rattle.dns_types.specs.declared.error.ParseError.TheVariants as parse
 use Rattle.dns_fields.specs.Fields.{Kind, Value}
 use Rattle.dns_words.specs.Reads.{UnlessMemory}
-use Rattle.dns_words.specs.Refusals.{IsOfField}
 use Rattle.dns_words.specs.declared.field.Field.{Field}
 use Rattle.dns_zone_words.specs.Forms.{ZoneForm}
-use Rattle.dns_zone_words.specs.Refusals.{IsMessage}
+use Rattle.dns_zone_words.specs.Refusals.{Says, cut_text}
 use Rattle.dns_zone_words.specs.Words.{Word, Cursor, words_at, with_word}
 use Rattle.dns_zone_words.specs.declared.words_error.WordsError.{WordsError}
 
@@ -41,17 +41,13 @@ abbrev pub ReadsFirst : {T : Type 0} {k : Kind} → ZoneForm k → (T → Value 
 ReadsFirst form view (Ok x) old new = TookFirst form (view x) old new
 ReadsFirst form view (Err e) old new = UnlessMemory e (NoFirst form old)
 
--- the text is not cut into words, and a message says why
+-- the text is not cut into words, and the refusal says why
 abbrev pub IsCutRefused : Cursor → ParseError → Type 0
-IsCutRefused cursor e = (why : WordsError) × (words_at cursor ≡ Err why) × IsMessage e
+IsCutRefused cursor e = (why : WordsError) × (words_at cursor ≡ Err why) × Says (cut_text why) e
 
 -- no word is left, which the refusal says, or the text is not cut into words
 abbrev pub LacksFirst : ParseError → Cursor → ParseError → Type 0
 LacksFirst missing cursor e = ((e ≡ missing) × (words_at cursor ≡ Ok [])) ⊎ IsCutRefused cursor e
-
--- the refusal names the field, or the text is not cut into words
-abbrev pub IsOfFieldOrCut : Field → Cursor → ParseError → Type 0
-IsOfFieldOrCut field cursor e = IsOfField field e ⊎ IsCutRefused cursor e
 
 -- the first word has a fault, of which the refusal tells
 pub record FirstFault (fault : Word → ParseError → Type 0) (cursor : Cursor) (e : ParseError) : Type 0 where
@@ -63,3 +59,7 @@ pub record FirstFault (fault : Word → ParseError → Type 0) (cursor : Cursor)
 -- there is no first word, or it has a fault
 abbrev pub WhyFirst : ParseError → (Word → ParseError → Type 0) → Cursor → ParseError → Type 0
 WhyFirst missing fault cursor e = LacksFirst missing cursor e ⊎ FirstFault fault cursor e
+
+-- no word is left, or the refusal is of the field's text for a wrong word, and there is one
+abbrev pub WhyNoField : Field → Cursor → ParseError → Type 0
+WhyNoField field = WhyFirst (parse.MissingToken field.name) (λ word e. e ≡ parse.Message field.wrong)

@@ -3,10 +3,10 @@
 ghost use Rattle.std.specs.Prelude.{◌≡◌, ◌⊎◌, IfOk, IfErr, OnErr};
 ghost use Rattle.std.specs.Net.Addr.{ipv4_octets, ipv6_octets};
 ghost use Rattle.dns_words.specs.Forms.{ttl, ipv4, ipv6};
-ghost use Rattle.dns_zone_words.specs.Forms.{bare, number, string, text, StringFault};
+ghost use Rattle.dns_zone_words.specs.Forms.{bare, number, string, text, StringFault, TextFault};
 ghost use Rattle.dns_zone_words.specs.Views.{word_value};
 ghost use Rattle.dns_zone_words.specs.Words.{words_at, with_word, behind_first};
-ghost use Rattle.dns_zone_words.specs.ZoneReads.{ReadsFirst, LacksFirst, IsOfFieldOrCut, WhyFirst};
+ghost use Rattle.dns_zone_words.specs.ZoneReads.{ReadsFirst, LacksFirst, WhyNoField, WhyFirst};
 
 use crate::field::StringField;
 use crate::numbers::{u8_of, u16_of, u32_of};
@@ -40,7 +40,7 @@ pub fn some_word<'a>(
 #[inline]
 pub fn next_u8(words: &mut ZoneWords<'_>, field: Field) -> Result<u8, ParseError>
     ensures reads { ReadsFirst (number 1) (λ n. n) result words.old words.new }
-    ensures why { IfErr result (IsOfFieldOrCut field words.old) }
+    ensures why { IfErr result (WhyNoField field words.old) }
     ensures behind { words_at words.new ≡ behind_first (words_at words.old) }
 {
     let word = some_word(words, field.name)?;
@@ -51,7 +51,7 @@ pub fn next_u8(words: &mut ZoneWords<'_>, field: Field) -> Result<u8, ParseError
 #[inline]
 pub fn next_u16(words: &mut ZoneWords<'_>, field: Field) -> Result<u16, ParseError>
     ensures reads { ReadsFirst (number 2) (λ n. n) result words.old words.new }
-    ensures why { IfErr result (IsOfFieldOrCut field words.old) }
+    ensures why { IfErr result (WhyNoField field words.old) }
     ensures behind { words_at words.new ≡ behind_first (words_at words.old) }
 {
     let word = some_word(words, field.name)?;
@@ -62,7 +62,7 @@ pub fn next_u16(words: &mut ZoneWords<'_>, field: Field) -> Result<u16, ParseErr
 #[inline]
 pub fn next_u32(words: &mut ZoneWords<'_>, field: Field) -> Result<u32, ParseError>
     ensures reads { ReadsFirst (number 4) (λ n. n) result words.old words.new }
-    ensures why { IfErr result (IsOfFieldOrCut field words.old) }
+    ensures why { IfErr result (WhyNoField field words.old) }
     ensures behind { words_at words.new ≡ behind_first (words_at words.old) }
 {
     let word = some_word(words, field.name)?;
@@ -73,7 +73,7 @@ pub fn next_u32(words: &mut ZoneWords<'_>, field: Field) -> Result<u32, ParseErr
 #[inline]
 pub fn next_ttl(words: &mut ZoneWords<'_>, field: Field) -> Result<u32, ParseError>
     ensures reads { ReadsFirst (bare (ttl 4294967295)) (λ n. n) result words.old words.new }
-    ensures why { IfErr result (IsOfFieldOrCut field words.old) }
+    ensures why { IfErr result (WhyNoField field words.old) }
     ensures behind { words_at words.new ≡ behind_first (words_at words.old) }
 {
     let word = some_word(words, field.name)?;
@@ -84,7 +84,7 @@ pub fn next_ttl(words: &mut ZoneWords<'_>, field: Field) -> Result<u32, ParseErr
 #[inline]
 pub fn next_ipv4(words: &mut ZoneWords<'_>, field: Field) -> Result<Ipv4Addr, ParseError>
     ensures reads { ReadsFirst (bare ipv4) ipv4_octets result words.old words.new }
-    ensures why { IfErr result (IsOfFieldOrCut field words.old) }
+    ensures why { IfErr result (WhyNoField field words.old) }
     ensures behind { words_at words.new ≡ behind_first (words_at words.old) }
 {
     let word = some_word(words, field.name)?;
@@ -95,7 +95,7 @@ pub fn next_ipv4(words: &mut ZoneWords<'_>, field: Field) -> Result<Ipv4Addr, Pa
 #[inline]
 pub fn next_ipv6(words: &mut ZoneWords<'_>, field: Field) -> Result<Ipv6Addr, ParseError>
     ensures reads { ReadsFirst (bare ipv6) ipv6_octets result words.old words.new }
-    ensures why { IfErr result (IsOfFieldOrCut field words.old) }
+    ensures why { IfErr result (WhyNoField field words.old) }
     ensures behind { words_at words.new ≡ behind_first (words_at words.old) }
 {
     let word = some_word(words, field.name)?;
@@ -126,7 +126,7 @@ pub fn next_text(
     field: Field,
 ) -> Result<Octets, ParseError>
     ensures reads { ReadsFirst text (λ x. x) result words.old words.new }
-    ensures why { IfErr result (λ e. (e ≡ ParseError.Memory) ⊎ IsOfFieldOrCut field words.old e) }
+    ensures why { IfErr result (λ e. (e ≡ ParseError.Memory) ⊎ WhyFirst (ParseError.MissingToken field.name) (TextFault (ParseError.Message field.wrong)) words.old e) }
     ensures behind { words_at words.new ≡ behind_first (words_at words.old) }
 {
     let word = some_word(words, field.name)?;

@@ -2,8 +2,7 @@
 
 ghost use Rattle.std.specs.Prelude.{◌≡◌, ◌≢◌, ◌↔◌, ◌⊎◌, [], Ok, IsTrue, IfErr, OnOk, OnErr};
 ghost use Rattle.dns_zone_words.specs.Forms.{StringFault};
-ghost use Rattle.dns_zone_words.specs.Refusals.{IsMessage, IsMissing};
-ghost use Rattle.dns_zone_words.specs.Remaining.{AreJoined, AreHex, AreBase64, AreUnknown, AreStrings, IsUnknownMark, ReadsAll, AmongFault, QuotesFault, HexFault};
+ghost use Rattle.dns_zone_words.specs.Remaining.{AreJoined, AreHex, AreBase64, AreUnknown, AreStrings, IsUnknownMark, ReadsAll, AmongFault, QuotesFault, HexFault, Base64Fault, UnknownFault};
 ghost use Rattle.dns_zone_words.specs.Views.{word_value};
 ghost use Rattle.dns_zone_words.specs.Words.{words_at};
 ghost use Rattle.dns_zone_words.specs.ZoneReads.{IsCutRefused};
@@ -64,7 +63,7 @@ pub fn all_base64(
     wrong: &'static str,
 ) -> Result<Octets, ParseError>
     ensures reads { ReadsAll AreBase64 (λ x. x) result words.old }
-    ensures why { IfErr result (λ e. (e ≡ ParseError.Memory) ⊎ IsMessage e) }
+    ensures why { IfErr result (λ e. (e ≡ ParseError.Memory) ⊎ Base64Fault (ParseError.Message wrong.entry) words.old e) }
 {
     let digits = all_joined(alloc, words, wrong)?;
     match STANDARD.decode(alloc, digits.as_slice()) {
@@ -80,7 +79,7 @@ pub fn all_base64(
 /// is of another number of octets.
 pub fn unknown_data(alloc: Global, words: &mut ZoneWords<'_>) -> Result<Octets, ParseError>
     ensures reads { ReadsAll AreUnknown (λ x. x) result words.old }
-    ensures why { IfErr result (λ e. (e ≡ ParseError.Memory) ⊎ IsMissing e ⊎ IsMessage e) }
+    ensures why { IfErr result (λ e. (e ≡ ParseError.Memory) ⊎ UnknownFault words.old e) }
 {
     let length = next_u16(words, UNKNOWN_LENGTH)?;
     let octets = all_hex(alloc, words, &UNKNOWN_DATA)?;

@@ -4,7 +4,7 @@ ghost use Rattle.std.specs.Prelude.{◌≡◌, ◌≢◌, ◌⊎◌, ◌↔◌, 
 ghost use Rattle.std.specs.Net.Addr.{ipv4_octets, ipv6_octets};
 ghost use Rattle.dns_words.specs.Forms.{ttl, ipv4, ipv6};
 ghost use Rattle.dns_words.specs.Reads.{Decides};
-ghost use Rattle.dns_zone_words.specs.Forms.{bare, string, text, IsType, StringFault};
+ghost use Rattle.dns_zone_words.specs.Forms.{bare, string, text, IsType, StringFault, TextFault};
 ghost use Rattle.dns_zone_words.specs.Letters.{escapes_stand};
 ghost use Rattle.dns_zone_words.specs.Views.{word_value};
 ghost use Rattle.dns_zone_words.specs.ZoneReads.{ReadsAs};
@@ -39,7 +39,7 @@ pub fn string_of(
 /// has no meaning.
 pub fn text_of(alloc: Global, word: ZoneWord<'_>, wrong: &'static str) -> Result<Octets, ParseError>
     ensures reads { ReadsAs text (λ x. x) result (word_value word.entry) }
-    ensures why { IfErr result (λ e. (e ≡ ParseError.Memory) ⊎ ((e ≡ ParseError.Message wrong.entry) × (escapes_stand word.entry.raw.now ≡ false))) }
+    ensures why { IfErr result (λ e. (e ≡ ParseError.Memory) ⊎ TextFault (ParseError.Message wrong.entry) (word_value word.entry) e) }
 {
     if has_no_escape(word.raw) {
         return Ok(Octets::from_slice(alloc, word.raw)?);

@@ -1,6 +1,7 @@
 //! Why a text has no words.
 
-ghost use Rattle.dns_zone_words.specs.Refusals.{IsMessage};
+ghost use Rattle.std.specs.Prelude.{◌≡◌};
+ghost use Rattle.dns_zone_words.specs.Refusals.{Says, cut_text};
 
 use dns_types::ParseError;
 use std::fmt;
@@ -22,7 +23,9 @@ pub enum WordsError {
 
 impl WordsError {
     /// The same in words.
-    pub fn text(self) -> &'static str {
+    pub fn text(self) -> &'static str
+        ensures { result.now ≡ cut_text self }
+    {
         match self {
             WordsError::OpenParenthesis => "`(` without `)`",
             WordsError::NoParenthesis => "`)` without `(`",
@@ -41,7 +44,7 @@ impl fmt::Display for WordsError {
 
 /// A message of the same text.
 impl From<WordsError> for ParseError {
-    ghost from_gives = { λ _ e. IsMessage e };
+    ghost from_gives = { λ why e. Says (cut_text why) e };
 
     fn from(e: WordsError) -> ParseError {
         ParseError::Message(e.text())

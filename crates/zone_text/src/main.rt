@@ -6,10 +6,12 @@
 //! - `read`: standard input has a line `TYPE TEXT` for each record. The answer is a line: the octets of the data in
 //!   hexadecimal digits, names whole and with their letters, `-` for none, or `refused: ` and the reason.
 //! - `read ORIGIN`: the same, names that no dot ends completed by this one.
+//!
+//! Where memory runs out the program ends with status 1, and the line has no answer.
 #![tactic(auto)]
 
 use anyhow::{Context, Result, bail};
-use dns_rdata::{BinDecoder, BinEncoder, Name};
+use dns_rdata::{BinDecoder, BinEncoder, DecodeError, Name, ParseError};
 use dns_rdata_zone::{ZoneText, from_zone_text};
 use held_data::{Held, record_type};
 use std::alloc::Global;
@@ -34,6 +36,7 @@ fn write_text<W: Write>(alloc: Global, line: &str, out: &mut W) -> Result<()> {
         return Ok(out.write_all(b"refused\n")?);
     }
     match Held::read(&mut decoder, kind, length) {
+        Err(DecodeError::Memory) => bail!("out of memory"),
         Err(_) => out.write_all(b"refused\n")?,
         Ok(held) => writeln!(out, "{}", ZoneText::new(&held.0))?,
     }
@@ -50,6 +53,7 @@ fn write_octets<W: Write>(
     let (kind, text) = line.split_once(' ').context("a text is missing")?;
     let held = match from_zone_text(alloc, record_type(kind)?, text.as_bytes(), origin) {
         Ok(value) => Held(value),
+        Err(ParseError::Memory) => bail!("out of memory"),
         Err(e) => return Ok(writeln!(out, "refused: {e}")?),
     };
     let mut octets = Vec::new(alloc);

@@ -1,5 +1,5 @@
 use Rattle.std.proofs.Common.{inl, inr}
-use Rattle.dns_zone_words.specs.Refusals.{IsMessage}
+use Rattle.dns_zone_words.specs.Refusals.{Says, cut_text}
 use Rattle.dns_zone_words.specs.Remaining.{AreJoined}
 use Rattle.dns_zone_words.specs.Views.{word_value}
 use Rattle.dns_zone_words.proofs.RemainingSteps.{one_taken, all_taken, not_cut, in_quotes, exit_all, none_taken, exit_as, joined_cut}
@@ -25,7 +25,7 @@ pub returns-in-None-clause-reads : goal.returns-in-None-clause-reads
 returns-in-None-clause-reads c = all_taken c.args.words.now c.words.words c.words.joined.items c.words.invariant (rw c.in-None.is at c.in_ok-word.ensures.end)
 
 pub returns-in_err-word-clause-why : goal.returns-in_err-word-clause-why
-returns-in_err-word-clause-why c = exit_as IsMessage _ c.from_residual-in_err-word.result c.from_residual-in_err-word.ensures.1
+returns-in_err-word-clause-why c = exit_as (Says (cut_text c.in_err-word.field-0.0)) _ c.from_residual-in_err-word.result c.from_residual-in_err-word.ensures.1
     (λ e message. inr (inl (
       c.in_err-word.field-0.0,
       joined_cut c.args.words.now c.words.words c.words.joined.items c.in_err-word.field-0.0 c.words.invariant

@@ -1,5 +1,5 @@
 use Rattle.std.proofs.Common.{inl, inr}
-use Rattle.dns_zone_words.specs.Refusals.{IsMessage}
+use Rattle.dns_zone_words.specs.Refusals.{Says, cut_text}
 use Rattle.dns_zone_words.specs.Remaining.{AreStrings}
 use Rattle.dns_zone_words.specs.Views.{word_value}
 use Rattle.dns_zone_words.proofs.RemainingSteps.{one_string, all_taken_strings, strings_not_cut, none_string, exit_all, exit_same, exit_as, strings_cut}
@@ -24,7 +24,7 @@ pub returns-in-None-clause-reads : goal.returns-in-None-clause-reads
 returns-in-None-clause-reads c = all_taken_strings c.args.words.now c.words.words c.words.strings c.words.invariant (rw c.in-None.is at c.in_ok-word.ensures.end)
 
 pub returns-in_err-word-clause-why : goal.returns-in_err-word-clause-why
-returns-in_err-word-clause-why c = exit_as IsMessage _ c.from_residual.result c.from_residual.ensures.1
+returns-in_err-word-clause-why c = exit_as (Says (cut_text c.in_err-word.field-0.0)) _ c.from_residual.result c.from_residual.ensures.1
     (λ e message. inr (inl (
       c.in_err-word.field-0.0,
       strings_cut c.args.words.now c.words.words c.words.strings c.in_err-word.field-0.0 c.words.invariant
