@@ -1,6 +1,7 @@
 pub mod Equalities
 pub mod Fillings
 pub mod Whole
+pub mod NameSpans
 pub mod Readings
 pub mod NamePlaces
 pub mod NameWalks

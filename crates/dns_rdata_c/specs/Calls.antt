@@ -181,7 +181,6 @@ IsZoneTextOf t text P = (m : List ℕ) (p n : ℕ) (v : RData) → Fills m p n t
 
 -- ---- written octets
 
-
 -- why a value is not written
 abbrev pub IsUnwritten : RData → ProtoError → Type 0
 IsUnwritten v e = Because e (65535 < length (canonical (fields_of v).kinds (fields_of v).values)) (all_emittable (fields_of v).kinds (fields_of v).values ≡ false)

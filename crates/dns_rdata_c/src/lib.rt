@@ -11,6 +11,7 @@ pub mod compare;
 pub mod display_text;
 mod emitting;
 mod filling;
+mod lowering;
 mod name_ends;
 pub mod names;
 pub mod parse;
