@@ -79,7 +79,7 @@ goes_on front labels rest last tail f a (inr (t, k, e)) h =
 name_goes_on : (s : List ℕ) (at : ℕ) (w : Passed s at) (octets tail : List ℕ) → AreNameOctets octets → s ≡ octets ++ tail → GoesOn w.rest
 name_goes_on s at w octets tail a e =
     goes_on w.labels a.labels w.rest a.last tail w.are a.are a.is_last
-        (sym w.is ∙ e ∙ ap (λ (l : List ℕ). l ++ tail) a.is ∙ append_assoc (wire a.labels) a.last tail)
+    (sym w.is ∙ e ∙ ap (λ (l : List ℕ). l ++ tail) a.is ∙ append_assoc (wire a.labels) a.last tail)
 
 -- the octet that stands there, and what is behind it
 pub here_at : (s : List ℕ) (at : ℕ) → at < length s → drop at s ≡ slice_index_or s at 0 ∷ drop (at + 1) s
@@ -142,7 +142,7 @@ ends_by_pointer s at o w room low =
     let first : 192 + t / 256 ≡ y = omega (arith, low, high, less) in
     let second : t % 256 ≡ z = omega (arith, low, high, less) in
     name_is s at (at + 2) (pointer t) r w (inr (t, omega (arith, low, high, less), refl))
-        (f ∙ ap (λ (x : ℕ). x ∷ z ∷ r) (sym first) ∙ ap (λ (x : ℕ). (192 + t / 256) ∷ x ∷ r) (sym second)) refl
+    (f ∙ ap (λ (x : ℕ). x ∷ z ∷ r) (sym first) ∙ ap (λ (x : ℕ). (192 + t / 256) ∷ x ∷ r) (sym second)) refl
 
 -- ---- one label more
 
@@ -157,7 +157,7 @@ pass_on s at w low high room =
     let size : length label ≡ y = length-take-le y r (omega (arith, left, room)) in
     let stands : w.rest ≡ wire (label ∷ []) ++ drop y r =
     sym (pass_behind s at w) ∙ f ∙ ap (λ (x : ℕ). x ∷ r) (sym size) ∙ ap (λ (l : List ℕ). length label ∷ l) (sym (take-append-drop y r))
-        ∙ ap (λ (l : List ℕ). length label ∷ (l ++ drop y r)) (sym (append-nil label)) in
+    ∙ ap (λ (l : List ℕ). length label ∷ (l ++ drop y r)) (sym (append-nil label)) in
     record {
       labels = w.labels ++ label ∷ [];
       are = AreLabels-append w.labels (label ∷ []) w.are ((omega (arith, size, low), omega (arith, size, high)), tt);

@@ -65,15 +65,15 @@ opt_tied m p n x inside s =
       })
       | inr c ↦ inr (
         let all = c.1 in
-        let long : length (take n (drop p m)) ≡ s.0 - p = omega (arith, length-take-le n (drop p m) (omega (arith, inside, length-drop p m)), s.2) in
-        record {
-          is_opt = refl;
-          parts = all.read;
-          stub = all.stub;
-          is = own (pieces all.read ++ all.stub) all.at;
-          are = all.fit;
-          cut = subst (λ (k : ℕ). IsCut k all.stub) (sym long) all.cut;
-        },
+            let long : length (take n (drop p m)) ≡ s.0 - p = omega (arith, length-take-le n (drop p m) (omega (arith, inside, length-drop p m)), s.2) in
+            record {
+              is_opt = refl;
+              parts = all.read;
+              stub = all.stub;
+              is = own (pieces all.read ++ all.stub) all.at;
+              are = all.fit;
+              cut = subst (λ (k : ℕ). IsCut k all.stub) (sym long) all.cut;
+            },
         sym (length-map x pair_value) ∙ ap length c.0,
       )
     ]
@@ -98,8 +98,8 @@ service_whole m p n x inside s =
     let first : take n l ≡ take 2 l ++ take ((q - (p + 2)) + ((p + n) - q)) (drop 2 l) = ap (λ (k : ℕ). take k l) whole_size ∙ halves l 2 _ (omega (arith, inside, further, room, length-drop p m)) in
     let second : take ((q - (p + 2)) + ((p + n) - q)) (drop 2 l) ≡ target ++ pieces read =
     ap (take ((q - (p + 2)) + ((p + n) - q))) (drop-drop 2 p m) ∙ halves (drop (p + 2) m) (q - (p + 2)) ((p + n) - q) (omega (arith, inside, further, room, length-drop (p + 2) m))
-        ∙ ap (λ (o : List ℕ). target ++ take ((p + n) - q) o) (drop-drop (q - (p + 2)) (p + 2) m ∙ ap (λ (k : ℕ). drop k m) (place q p further))
-        ∙ ap (λ (o : List ℕ). target ++ o) (window_is m (pieces read) q (p + n) ends) in (
+    ∙ ap (λ (o : List ℕ). target ++ take ((p + n) - q) o) (drop-drop (q - (p + 2)) (p + 2) m ∙ ap (λ (k : ℕ). drop k m) (place q p further))
+    ∙ ap (λ (o : List ℕ). target ++ o) (window_is m (pieces read) q (p + n) ends) in (
       take 2 l ++ target,
       read,
       record {
@@ -146,7 +146,7 @@ tied : (m : List ℕ) (p n : ℕ) (t : RecordType) (v : RData) → is_partless t
 tied m p n t v h f =
     let type = f.value.type in
     subst (λ (u : RecordType). Tied u (take n (drop p m)) v) type
-        (own_tied m p n v f.window.within f.value.plain (stands_of f) (subst (λ (u : RecordType). is_partless u ≡ false) (sym type) h))
+    (own_tied m p n v f.window.within f.value.plain (stands_of f) (subst (λ (u : RecordType). is_partless u ≡ false) (sym type) h))
 
 -- ---- what a walk tells of the value
 
@@ -169,17 +169,17 @@ pub same_part : (m : List ℕ) (p n : ℕ) (t : RecordType) (v : RData) (i numbe
 same_part m p n t v i number from count h w f = elim (tied m p n t v h f) [
   | inr c ↦ absurd (not_cut t _ w.front w.parts w.all c.0)
   | inl own ↦
-    let same = same_parts t _ own.front w.front own.parts w.parts own.all w.all in
-    let r = part_inside t _ i number from count w in
-    let stand = at_inside m p n r.front w.octets r.rest f.window.within r.whole in
-    record {
-      parts = w.parts;
-      hold = subst (HoldValue v) same.1 own.hold;
-      octets = w.octets;
-      is = w.is;
-      told = w.told;
-      stand = subst (λ (k : ℕ). At m (p + k) w.octets (p + k + count)) (sym r.long) (subst (λ (k : ℕ). At m (p + length r.front) w.octets (p + length r.front + k)) (sym w.told) stand);
-    }
+      let same = same_parts t _ own.front w.front own.parts w.parts own.all w.all in
+      let r = part_inside t _ i number from count w in
+      let stand = at_inside m p n r.front w.octets r.rest f.window.within r.whole in
+      record {
+        parts = w.parts;
+        hold = subst (HoldValue v) same.1 own.hold;
+        octets = w.octets;
+        is = w.is;
+        told = w.told;
+        stand = subst (λ (k : ℕ). At m (p + k) w.octets (p + k + count)) (sym r.long) (subst (λ (k : ℕ). At m (p + length r.front) w.octets (p + length r.front + k)) (sym w.told) stand);
+      }
 ]
 
 pub same_few : (m : List ℕ) (p n : ℕ) (t : RecordType) (v : RData) (i : ℕ) → is_partless t ≡ false → AreFewParts t (take n (drop p m)) i ⊎ AreCutOptions t (take n (drop p m))

@@ -34,7 +34,7 @@ front_of s n h name =
 pub no_front : (s : List ℕ) → HasNoNameEnd (drop 2 s) → (front rest : List ℕ) → IsServiceFront front → s ≡ front ++ rest → ⊥
 no_front s none front rest f e =
     none f.target rest f.is_name
-        (ap (drop 2) (e ∙ ap (λ (l : List ℕ). l ++ rest) f.is ∙ append_assoc f.priority f.target rest) ∙ drop_at f.priority (f.target ++ rest) 2 f.two)
+    (ap (drop 2) (e ∙ ap (λ (l : List ℕ). l ++ rest) f.is ∙ append_assoc f.priority f.target rest) ∙ drop_at f.priority (f.target ++ rest) 2 f.two)
 
 -- ---- octets begin with one front
 
@@ -118,14 +118,14 @@ damaged t s front rest r stub n count end f e many begins c short cut_off uncut 
     let some : 0 < length c.rest = omega (arith, short, c.ends, ap length c.is, length-append (pieces c.read) c.rest) in
     record {
       none = λ front' ps a.
-      let same = same_front t front front' rest (pieces ps) f a.is_front (sym e ∙ a.is) in
-      let both = same_split c.read ps c.rest [] c.are a.are c.none whole_none (sym is ∙ same.1 ∙ sym (append-nil (pieces ps))) in
-      omega (arith, some, ap length both.1);
+          let same = same_front t front front' rest (pieces ps) f a.is_front (sym e ∙ a.is) in
+          let both = same_split c.read ps c.rest [] c.are a.are c.none whole_none (sym is ∙ same.1 ∙ sym (append-nil (pieces ps))) in
+          omega (arith, some, ap length both.1);
       uncut = λ cut.
-      let none : front ≡ [] = subst (λ (u : RecordType). IsFront u front) cut.is_opt f in
-      let whole : pieces c.read ++ c.rest ≡ pieces cut.parts ++ cut.stub = sym is ∙ ap (λ (o : List ℕ). o ++ rest) (sym none) ∙ sym e ∙ cut.is in
-      let both = same_split c.read cut.parts c.rest cut.stub c.are cut.are c.none (λ x more fit h. cut_piece (length s) x more fit (subst (λ (o : List ℕ). IsCut (length s) o) h cut.cut)) whole in
-      uncut cut.is_opt (subst (λ (o : List ℕ). IsCut (length s) o) (sym (left ∙ both.1)) cut.cut);
+          let none : front ≡ [] = subst (λ (u : RecordType). IsFront u front) cut.is_opt f in
+          let whole : pieces c.read ++ c.rest ≡ pieces cut.parts ++ cut.stub = sym is ∙ ap (λ (o : List ℕ). o ++ rest) (sym none) ∙ sym e ∙ cut.is in
+          let both = same_split c.read cut.parts c.rest cut.stub c.are cut.are c.none (λ x more fit h. cut_piece (length s) x more fit (subst (λ (o : List ℕ). IsCut (length s) o) h cut.cut)) whole in
+          uncut cut.is_opt (subst (λ (o : List ℕ). IsCut (length s) o) (sym (left ∙ both.1)) cut.cut);
     }
 
 -- ---- room

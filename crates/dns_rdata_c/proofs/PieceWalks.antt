@@ -55,7 +55,7 @@ long_piece s n h f few x rest fit e = omega (arith, few, ap length e, length-app
 two_numbers : (s : List ℕ) (k c : ℕ) → bytes_high_first 2 k ≡ take 2 s → bytes_high_first 2 c ≡ take 2 (drop 2 s) → s ≡ bytes_high_first 2 k ++ (bytes_high_first 2 c ++ drop 2 (drop 2 s))
 two_numbers s k c e f =
     sym (take-append-drop 2 s) ∙ ap (λ (l : List ℕ). l ++ drop 2 s) (sym e)
-        ∙ ap (λ (l : List ℕ). bytes_high_first 2 k ++ l) (sym (take-append-drop 2 (drop 2 s)) ∙ ap (λ (l : List ℕ). l ++ drop 2 (drop 2 s)) (sym f))
+    ∙ ap (λ (l : List ℕ). bytes_high_first 2 k ++ l) (sym (take-append-drop 2 (drop 2 s)) ∙ ap (λ (l : List ℕ). l ++ drop 2 (drop 2 s)) (sym f))
 
 behind_two : (s : List ℕ) → length (drop 2 (drop 2 s)) ≡ length s - 4
 behind_two s = omega (arith, length-drop 2 (drop 2 s), length-drop 2 s)
@@ -68,8 +68,8 @@ piece_stands s c o h f few =
     let x : Numbered (List ℕ) = (k.0, take c t) in
     let whole : s ≡ bytes_high_first 2 k.0 ++ (bytes_high_first 2 (length (take c t)) ++ (take c t ++ drop c t)) =
     two_numbers s k.0 c k.2 f
-        ∙ ap (λ (n : ℕ). bytes_high_first 2 k.0 ++ (bytes_high_first 2 n ++ t)) (sym size)
-        ∙ ap (λ (l : List ℕ). bytes_high_first 2 k.0 ++ (bytes_high_first 2 (length (take c t)) ++ l)) (sym (take-append-drop c t)) in
+    ∙ ap (λ (n : ℕ). bytes_high_first 2 k.0 ++ (bytes_high_first 2 n ++ t)) (sym size)
+    ∙ ap (λ (l : List ℕ). bytes_high_first 2 k.0 ++ (bytes_high_first 2 (length (take c t)) ++ l)) (sym (take-append-drop c t)) in
     (x, drop c t, (k.1, omega (arith, size, h)), whole ∙ sym (piece_before x (drop c t)), omega (arith, length-piece x, size))
 
 -- ---- pieces one behind the other

@@ -66,8 +66,8 @@ pub put_again : (octets : List ℕ) (t : RecordType) (text old new : List ℕ) (
     → OfZoneText t text (λ octets. IsPut octets old new count)
 put_again octets t text old new count h = record {
   holds = λ m p n v f short e.
-  let given : GivesValue h.origin t text v = subst (λ (s : List ℕ). GivesValue h.origin t s v) (sym e) (fills_give h.origin m p n t v f (omega (arith, short))) in
-  subst (λ (w : RData). IsPut (whole_data w) old new count) (one_given h.origin t text h.value v h.gives given) h.holds.put;
+      let given : GivesValue h.origin t text v = subst (λ (s : List ℕ). GivesValue h.origin t s v) (sym e) (fills_give h.origin m p n t v f (omega (arith, short))) in
+      subst (λ (w : RData). IsPut (whole_data w) old new count) (one_given h.origin t text h.value v h.gives given) h.holds.put;
 }
 
 -- and is never refused

@@ -7,9 +7,9 @@ ghost use Rattle.dns_fields.specs.Pieces.{IsCut};
 ghost use Rattle.dns_rdata.specs.Data.{Fills, NoValue};
 ghost use Rattle.dns_rdata_c.specs.Parts.{is_partless as partless_type, IsServiceFront, IsFront, HasNoFront, AreNoParts, AreFewParts, AreCutOptions, IsPartOf, HasPart, LacksPart, parts_in, IsPartIn};
 
-use crate::status::{ABSENT, LENGTH, MISSING_OCTETS, NAME, OK, REFUSED};
 use crate::name_ends::name_length;
 use crate::pieces::{Part, count_pieces, is_cut, piece_of};
+use crate::status::{ABSENT, LENGTH, MISSING_OCTETS, NAME, OK, REFUSED};
 use dns_rdata::RecordType;
 
 // Whether data of the type has no parts.
@@ -67,12 +67,7 @@ fn stub_status(record_type: RecordType, stub: &[u8], length: u16) -> u32
 }
 
 // The part of this number among the octets of data, or the status of a refusal.
-fn find_part(
-    record_type: RecordType,
-    octets: &[u8],
-    length: u16,
-    index: usize,
-) -> Result<Part, u32>
+fn find_part(record_type: RecordType, octets: &[u8], length: u16, index: usize) -> Result<Part, u32>
     requires { size octets.now ≡ length }
     ensures found { IfOk result (λ part. IsPartOf record_type octets.now index part.number part.begin part.count) }
     ensures absent { IfErr result (λ s. s ≡ ABSENT → AreFewParts record_type octets.now index ⊎ AreCutOptions record_type octets.now) }

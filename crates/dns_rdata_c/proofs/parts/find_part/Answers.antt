@@ -13,7 +13,7 @@ returns-then-end-rest-clause-damaged c = λ is.
     let r = take (length s - n) (drop n s) in
     let stub = take (length r - end) (drop end r) in
     damaged c.args.record_type s begin.0 begin.1 r stub n _ end begin.2 begin.3 begin.4 (take_rest s n) c.count_pieces-parts.ensures (omega (arith, c.if-end-rest.true))
-        (take_rest r end) (λ opt. subst (λ (k : ℕ). ¬ (IsCut k stub)) (sym c.requires) (c.stub_status.ensures.damaged is opt))
+    (take_rest r end) (λ opt. subst (λ (k : ℕ). ¬ (IsCut k stub)) (sym c.requires) (c.stub_status.ensures.damaged is opt))
 
 pub overflow_add-result : goal.overflow_add-result
 overflow_add-result c =

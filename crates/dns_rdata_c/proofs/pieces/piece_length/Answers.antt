@@ -11,10 +11,10 @@ pub returns-then-length-left : goal.returns-then-length-left
 returns-then-length-left c =
     let o = c.args.octets.now in
     long_piece (drop c.args.at o) c.number_at.result c.number_at.type_inv (c.number_at.ensures ∙ ap (take 2) (sym (drop-drop 2 c.args.at o)))
-        (omega (arith, c.if-length-left.true, length-drop c.args.at o))
+    (omega (arith, c.if-length-left.true, length-drop c.args.at o))
 
 pub returns : goal.returns
 returns c =
     let o = c.args.octets.now in
     piece_stands (drop c.args.at o) c.number_at.result (AreOctets-drop c.args.at o (slice_octets o c.type_inv.octets)) c.number_at.type_inv
-        (c.number_at.ensures ∙ ap (take 2) (sym (drop-drop 2 c.args.at o))) (omega (arith, c.if-length-left.false, length-drop c.args.at o))
+    (c.number_at.ensures ∙ ap (take 2) (sym (drop-drop 2 c.args.at o))) (omega (arith, c.if-length-left.false, length-drop c.args.at o))
