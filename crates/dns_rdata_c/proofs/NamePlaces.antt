@@ -6,6 +6,7 @@ use Rattle.dns_fields.specs.Names.{IsNameIn}
 use Rattle.dns_fields.specs.Fields.{Number, Text, Name, Field, Stands}
 use Rattle.dns_fields.proofs.Laws.{one_end}
 use Rattle.dns_fields.proofs.Numbers.{length-bytes}
+use Rattle.dns_fields.proofs.Stays.{end_within}
 use Rattle.dns_rdata_base.specs.declared.naptr.NAPTR.{NAPTR}
 use Rattle.dns_rdata_base.specs.declared.soa.SOA.{SOA}
 use Rattle.dns_rdata.specs.declared.record_data.RData.{RData}
@@ -143,5 +144,5 @@ soa_answered {m} {p} {n} v x i r e f a =
     subst (λ (y : RData). Answered m p y i r) (sym e) (soa_found x i r (subst (λ (y : RData). IsFilledBy m p n y) e f) a)
 
 -- the first name of SOA stands in front
-pub soa_first : {m : List ℕ} {p n : ℕ} (v : RData) (x : SOA) → v ≡ rdata.SOA x → IsFilledBy m p n v → (q : ℕ) × IsNameIn m p x.mname q
-soa_first v x e f = let s = stand_in v (rdata.SOA x) e f in (s.0, s.1.is)
+pub soa_first : {m : List ℕ} {p n : ℕ} (v : RData) (x : SOA) → v ≡ rdata.SOA x → IsFilledBy m p n v → (p ≤ length m) × ((q : ℕ) × IsNameIn m p x.mname q)
+soa_first v x e f = let s = stand_in v (rdata.SOA x) e f in let inside = end_within s.1.is.stands in (omega (arith, inside.0, inside.1), (s.0, s.1.is))

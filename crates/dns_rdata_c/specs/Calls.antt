@@ -19,7 +19,8 @@ use Rattle.dns_rdata.specs.Data.{Fills, NoValue, fields_of, data_octets, IsEmitt
 use Rattle.dns_rdata.specs.DataWords.{IsDataTextAt, GivesNoneAt}
 use Rattle.dns_rdata.specs.Texts.{data_text}
 use Rattle.dns_rdata.specs.WholeOctets.{whole_data}
-use Rattle.dns_rdata_zone.specs.ZoneGives.{GivesValue, GivesNone, ZoneFault}
+use Rattle.dns_rdata_zone.specs.ZoneGives.{GivesValue, GivesNone}
+use Rattle.dns_rdata_zone.specs.ZoneFaults.{ZoneFault}
 use Rattle.dns_rdata_zone.specs.ZoneTexts.{zone_text}
 use Rattle.dns_rdata_c.specs.declared.check.Refusal.{Refusal}
 use Rattle.dns_rdata_c.specs.Reading.{IsCause, HasData}
@@ -175,9 +176,9 @@ pub record IsRefusedZoneText (octets : List ℕ) (t : RecordType) (text : List �
   pub is_origin : IsOrigin octets origin
   pub why : IsNoZoneText origin t text status
 
--- the text that a value of the type has in a zone file; P holds of the octets of the value
-abbrev pub IsZoneTextOf : RecordType → List ℕ → (List ℕ → Type 0) → Type 0
-IsZoneTextOf t text P = (m : List ℕ) (p n : ℕ) (v : RData) → Fills m p n t v → length (whole_data v) ≤ 65535 → text ≡ zone_text v → P (whole_data v)
+-- Of each value that fills octets of a message, and whose text in a zone file this is, P holds of the octets with whole names.
+pub record OfZoneText (t : RecordType) (text : List ℕ) (P : List ℕ → Type 0) : Type 0 where
+  pub holds : (m : List ℕ) (p n : ℕ) (v : RData) → Fills m p n t v → length (whole_data v) ≤ 65535 → text ≡ zone_text v → P (whole_data v)
 
 -- ---- written octets
 

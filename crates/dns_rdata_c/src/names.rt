@@ -1,6 +1,6 @@
 //! The names in record data.
 
-ghost use Rattle.std.specs.Prelude.{◌≡◌, ◌≢◌, ◌<◌, ◌≤◌, ◌⊎◌, MatchOption};
+ghost use Rattle.std.specs.Prelude.{◌≡◌, ◌≢◌, ◌<◌, ◌≤◌, ◌⊎◌, length as size, MatchOption};
 ghost use Rattle.dns_types.specs.RecordTypes.{record_type_of};
 ghost use Rattle.dns_fields.specs.Names.{IsNameIn};
 ghost use Rattle.dns_rdata.specs.Data.{NoValue, fields_of};
@@ -34,7 +34,7 @@ fn soa_name<'a>(
     soa: &'a SOA,
     index: usize,
 ) -> Option<(usize, &'a Name)>
-    requires { (q : _) × IsNameIn message.now place soa.now.mname q }
+    requires { (place ≤ size message.now) × ((q : _) × IsNameIn message.now place soa.now.mname q) }
     ensures { MatchOption result (2 ≤ index)
         (λ it. ((index ≡ 0) × (it.0 ≡ place) × (it.1.now ≡ soa.now.mname))
         ⊎ ((index ≡ 1) × ((x : _) × IsNameIn message.now place x it.0) × (it.1.now ≡ soa.now.rname))) }

@@ -5,7 +5,7 @@ ghost use Rattle.dns_types.specs.RecordTypes.{record_type_of};
 ghost use Rattle.dns_rdata.specs.WholeOctets.{whole_data};
 ghost use Rattle.dns_rdata_zone.specs.ZoneGives.{AreDataOf};
 ghost use Rattle.dns_rdata_c.specs.Buffers.{IsPut};
-ghost use Rattle.dns_rdata_c.specs.Calls.{HasZoneData, IsNoOrigin, IsRefusedZoneText, IsZoneTextOf, PutsWire, LacksRoomForWire};
+ghost use Rattle.dns_rdata_c.specs.Calls.{HasZoneData, IsNoOrigin, IsRefusedZoneText, OfZoneText, PutsWire, LacksRoomForWire};
 
 use crate::status::{BUFFER, MEMORY, NO_DATA_TEXT, OK, ORIGIN, TOO_LONG};
 use crate::values::{origin_of, read_zone_text};
@@ -34,8 +34,8 @@ pub extern "C" fn dns_rdata_parse(
     ensures refused { NO_DATA_TEXT ≤ result → IsRefusedZoneText origin.now (record_type_of type_number) text.now result }
     ensures status { (result ≡ OK) ⊎ (result ≡ MEMORY) ⊎ (result ≡ BUFFER) ⊎ (result ≡ TOO_LONG) ⊎ (result ≡ ORIGIN) ⊎ (NO_DATA_TEXT ≤ result) }
     // Of a text that is written of data, the octets are those of the data, and it is never refused.
-    ensures again { result ≡ OK → IsZoneTextOf (record_type_of type_number) text.now (λ octets. IsPut octets out.old out.new count.new) }
-    ensures never { NO_DATA_TEXT ≤ result → IsZoneTextOf (record_type_of type_number) text.now (λ octets. ⊥) }
+    ensures again { result ≡ OK → OfZoneText (record_type_of type_number) text.now (λ octets. IsPut octets out.old out.new count.new) }
+    ensures never { NO_DATA_TEXT ≤ result → OfZoneText (record_type_of type_number) text.now (λ octets. ⊥) }
     ensures kept { result ≢ OK → out.new ≡ out.old }
     ensures untold { result ≢ OK → result ≢ BUFFER → count.new ≡ count.old }
 {
