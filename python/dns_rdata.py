@@ -11,6 +11,8 @@ environment's DNS_RDATA_LIBRARY names.
     >>> check(message, 13, 3, MX)
     Traceback (most recent call last):
     dns_rdata.Refused: LENGTH: 4 octets were read, of 3
+    >>> parse("10 mail", MX, b"\\7example\\0").hex()
+    '000a046d61696c076578616d706c6500'
 
 Data is octets of a message: the message as bytes, the place of its first octet, its length, and the number of its type. What
 is refused is raised as `Refused`, with the status, its name and its numbers.
@@ -22,7 +24,7 @@ import os
 
 __all__ = [
     "A", "AAAA", "CNAME", "MX", "NS", "OPT", "SOA", "TXT", "Refused", "Status", "canonical", "check", "compare", "compare_canonical",
-    "display_text", "equal", "names", "parse_display_text", "parts", "text", "type_number", "type_text", "wire",
+    "display_text", "equal", "names", "parse", "parse_display_text", "parts", "text", "type_number", "type_text", "wire",
 ]
 
 A, NS, CNAME, SOA, MX, TXT, AAAA, OPT = 1, 2, 5, 6, 15, 16, 28, 41
@@ -98,6 +100,7 @@ CALLS = {
     "dns_rdata_compare": [*DATA, *DATA, SHORT, TELLS],
     "dns_rdata_equal": [*DATA, *DATA, SHORT, TELLS],
     "dns_rdata_compare_canonical": [OCTETS, SIZE, OCTETS, SIZE],
+    "dns_rdata_parse": [OCTETS, SIZE, SHORT, OCTETS, SIZE, *ROOM],
     "dns_rdata_parse_display_text": [OCTETS, SIZE, SHORT, OCTETS, SIZE, *ROOM],
     "dns_rdata_type_text": [SHORT, *ROOM],
     "dns_rdata_type_number": [OCTETS, SIZE, NUMBER],
@@ -219,6 +222,14 @@ def equal(data, other, type_number):
 def compare_canonical(octets, other):
     """-1, 0 or 1, the order of two lists of octets, a beginning of the other first."""
     return _library.dns_rdata_compare_canonical(bytes(octets), len(octets), bytes(other), len(other))
+
+
+def parse(text, type_number, origin=b""):
+    """The octets of the data that a text of a zone file gives, as it stands behind the type (RFC 1035, 5.1; RFC 9460, 2.1; RFC 3597, 5).
+    `text` is a str or octets, and `origin` the octets of a name, by which relative names are completed. What `text` writes is read
+    again as the octets of `wire`, whatever the origin."""
+    octets = text.encode() if isinstance(text, str) else bytes(text)
+    return _filled(_library.dns_rdata_parse, octets, len(octets), _short(type_number), bytes(origin), len(origin))
 
 
 def parse_display_text(text, type_number, origin=b""):

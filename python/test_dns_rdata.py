@@ -1,6 +1,7 @@
 """Tests of dns_rdata.py: each call, the example of its document, and, where dnspython is there, the same octets from both."""
 
 import doctest
+import pathlib
 import random
 import unittest
 
@@ -54,6 +55,33 @@ class Calls(unittest.TestCase):
         self.assertEqual(lib.text(b'\3a "\0', 0, 5, lib.TXT), r'"a \"" ""')
         self.assertEqual(lib.text(b"\xab\xcd", 0, 2, 4711), r"\# 2 abcd")
 
+    def test_zone_texts_are_read(self):
+        origin = b"\x07example\0"
+        self.assertEqual(lib.parse("10 mail", lib.MX, origin), b"\0\x0a\4mail\7example\0")
+        self.assertEqual(lib.parse(b'"a \\"" \xff', lib.TXT), b'\3a "\1\xff')
+        self.assertEqual(lib.parse(r"\# 2 abcd", 4711), b"\xab\xcd")
+        self.refused(lib.Status.MISSING_WORD, lib.parse, "10", lib.MX)
+        self.refused(lib.Status.WRONG_WORD, lib.parse, "1.2.3", lib.A)
+        self.refused(lib.Status.UNSUPPORTED_TYPE, lib.parse, "x", lib.OPT)
+        self.refused(lib.Status.WRONG_VALUE, lib.parse, r"\# 3 0a0000", lib.A)
+        self.refused(lib.Status.ORIGIN, lib.parse, "10 mail", lib.MX, b"\x07")
+
+    def samples(self):
+        """The samples of the benchmark: the number of a type, and octets."""
+        path = pathlib.Path(__file__).resolve().parents[1] / "crates/rdata_bench/data/samples.txt"
+        for line in path.read_text().split("\n"):
+            words = line.split()
+            if len(words) == 4:
+                yield lib.type_number(words[0]), bytes.fromhex("" if words[3] == "-" else words[3])
+
+    def test_samples_are_read_again(self):
+        count = 0
+        for number, octets in self.samples():
+            data = (octets, 0, len(octets), number)
+            self.assertEqual(lib.parse(lib.text(*data), number, b"\1o\0"), lib.wire(*data))
+            count += 1
+        self.assertGreater(count, 20)
+
     def test_names_and_parts(self):
         self.assertEqual(lib.names(MESSAGE, 17, 4, lib.MX), [(19, MESSAGE[:17])])
         soa = b"\1x\0\1Y\xc0\0" + bytes(20)
@@ -88,6 +116,17 @@ class Calls(unittest.TestCase):
             compared += 1
             self.assertEqual(lib.canonical(octets, 0, len(octets), number), peer)
         self.assertGreater(compared, 100)
+
+    @unittest.skipIf(dns is None, "dnspython is missing")
+    def test_zone_texts_beside_dnspython(self):
+        """The text of each reads the other's octets, where the peer knows the type."""
+        for number, octets in self.samples():
+            if number in (lib.OPT, 10, 65305):
+                continue
+            text = lib.text(octets, 0, len(octets), number)
+            peer = dns.rdata.from_text(dns.rdataclass.IN, number, text)
+            self.assertEqual(peer.to_wire(), lib.wire(octets, 0, len(octets), number))
+            self.assertEqual(lib.parse(peer.to_text(), number), lib.wire(octets, 0, len(octets), number))
 
 
 def load_tests(loader, tests, pattern):

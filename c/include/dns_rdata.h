@@ -11,7 +11,7 @@
  *  - `message` is any octets, well formed or not. `place` counts from its first octet, and may be past its end. Only the
  *    octets that the data and the pointers of its names lead to are looked at.
  *  - Values are made by malloc and freed before the call returns. Where malloc fails the answer is DNS_RDATA_MEMORY, and
- *    nothing is lost.
+ *    nothing is lost. Of some calls it is said that they take no memory.
  *  - Calls keep no state: threads may call at the same time. Not for signal handlers.
  *  - The answer is a status, DNS_RDATA_OK or why not. From DNS_RDATA_REFUSED on, the octets are the data of no record of that
  *    type; from DNS_RDATA_NO_DATA_TEXT on, the text is of none. Neither is ever answered for octets or texts that are.
@@ -48,10 +48,10 @@ enum {
     DNS_RDATA_BUFFER = 2,                /* the buffer is too small, and *count says how large it must be */
     DNS_RDATA_TOO_LONG = 3,              /* the octets are more than 65535, with all names whole */
     DNS_RDATA_NO_TEXT = 4,               /* there is no text of OPT (dns_rdata_display_text alone) */
-    DNS_RDATA_UNFIT = 5,                 /* a text's value has no octets: a string in it has more than 255, or the like */
+    DNS_RDATA_UNFIT = 5,                 /* a value without octets, as of a long string (dns_rdata_parse_display_text alone) */
     DNS_RDATA_ORIGIN = 6,                /* the octets of the origin are no name */
-    DNS_RDATA_NOT_UTF8 = 7,              /* the text is not UTF-8 */
-    DNS_RDATA_UNREAD = 8,                /* the text gives a value whose octets are not read again: a tag of CAA, say */
+    DNS_RDATA_NOT_UTF8 = 7,              /* the text is not UTF-8 (never of dns_rdata_parse) */
+    DNS_RDATA_UNREAD = 8,                /* a value whose octets are not read again (dns_rdata_parse_display_text alone) */
     DNS_RDATA_ABSENT = 9,                /* there is no name, option or parameter of this number */
 
     DNS_RDATA_REFUSED = 16,              /* the first refusal of octets */
@@ -72,9 +72,9 @@ enum {
     DNS_RDATA_NO_DATA_TEXT = 48,         /* the first refusal of a text */
     DNS_RDATA_MISSING_WORD = 48,         /* a word is missing */
     DNS_RDATA_WRONG_WORD = 49,           /* a word, or the whole text, is wrong */
-    DNS_RDATA_UNSUPPORTED_TYPE = 50,     /* no text is read of this type */
-    DNS_RDATA_WRONG_ADDRESS = 51,        /* a word is no address */
-    DNS_RDATA_WRONG_VALUE = 52           /* a name or a value in the text is wrong */
+    DNS_RDATA_UNSUPPORTED_TYPE = 50,     /* no text is read of this type, or none but \# and octets */
+    DNS_RDATA_WRONG_ADDRESS = 51,        /* a word is no address (dns_rdata_parse_display_text alone) */
+    DNS_RDATA_WRONG_VALUE = 52           /* a name or a value is wrong, or the octets of the text are no data of the type */
 };
 
 /* The numbers of a refusal; those that a status has nothing to say of are 0. */
@@ -121,9 +121,14 @@ DNS_RDATA_NONNULL dns_rdata_status dns_rdata_name(const uint8_t *message, size_t
 
 /*
  * An option of OPT, or a parameter of SVCB and HTTPS: its code or key in *number, and in *begin the place in the message of the
- * first of its *count octets. They are counted from 0 in the order of the message. Where there is none of this number the answer
- * is DNS_RDATA_ABSENT. An OPT that ends behind a code, or within the octets of an option, is data and has none. The three are set
- * with DNS_RDATA_OK alone.
+ * first of its *count octets. They are counted from 0 in the order of the message. Where there is none of this number, and of every
+ * other type, the answer is DNS_RDATA_ABSENT. An OPT that ends behind a code, or within the octets of an option, is data and has none.
+ * The three are set with DNS_RDATA_OK alone. Takes no memory.
+ *
+ * The octets are gone over and no value is read: the numbers and lengths to the end of the data, of SVCB and HTTPS behind a priority
+ * and a name, which is not followed where it ends by a pointer. So parts are found in octets that are otherwise no data of the type,
+ * too; octets that are data are never refused. Refused is by DNS_RDATA_MISSING_OCTETS where the message ends before the data does, by
+ * DNS_RDATA_NAME where no name stands behind the priority, and by DNS_RDATA_LENGTH where the octets end within a part.
  */
 DNS_RDATA_NONNULL dns_rdata_status dns_rdata_part(const uint8_t *message, size_t message_length, size_t place,
                                                   uint16_t length, uint16_t type, size_t index, uint16_t *number,
@@ -166,8 +171,8 @@ DNS_RDATA_NONNULL dns_rdata_status dns_rdata_text(const uint8_t *message, size_t
  * The text that hickory-proto prints of the data, with a 0 behind it. The buffer is written with DNS_RDATA_OK alone. OPT has
  * no text: DNS_RDATA_NO_TEXT.
  *
- * The text is for people; dns_rdata_text gives that of a zone file. Of addresses, names, MX, SOA, SRV, NAPTR, SSHFP, TLSA, CAA, CSYNC and the like it is a zone file's.
- * It is none of TXT and HINFO, whose strings stand without quotes, of NULL and of types without a form of their own, whose
+ * The text is for people; dns_rdata_text gives that of a zone file. Of addresses, names, MX, SOA, SRV, NAPTR, SSHFP, TLSA, CAA, CSYNC
+ * and the like it is a zone file's. It is none of TXT and HINFO, whose strings stand without quotes, of NULL and of types without a form of their own, whose
  * octets are base64, and of SVCB and HTTPS, whose lists end with a comma.
  */
 DNS_RDATA_NONNULL dns_rdata_status dns_rdata_display_text(const uint8_t *message, size_t message_length, size_t place,
@@ -184,6 +189,21 @@ DNS_RDATA_NONNULL dns_rdata_status dns_rdata_display_text(const uint8_t *message
 DNS_RDATA_NONNULL dns_rdata_status dns_rdata_parse_display_text(const char *text, size_t text_length, uint16_t type,
                                                                 const uint8_t *origin, size_t origin_length, uint8_t *out,
                                                                 size_t out_length, size_t *count);
+
+/*
+ * Data from its text in a zone file, as it stands behind the type, into the octets of dns_rdata_wire (RFC 1035, 5.1; RFC 9460, 2.1;
+ * the RFCs of the types). The form of unknown data, \# and octets, is read of every type (RFC 3597, 5), and of a type without a form
+ * of its own, of OPT, NULL, ANAME and 0 no other is. The text is octets, and need not be UTF-8. `origin` is the octets of a name,
+ * with its 0 at the end, by which relative names are completed; with origin_length 0 there is none, and they stand as if they were
+ * fully qualified.
+ *
+ * What is put into the buffer is data of the type (dns_rdata_check of it is DNS_RDATA_OK). What dns_rdata_text writes is read again,
+ * whatever the origin, as the octets that dns_rdata_wire gives. The buffer is written with DNS_RDATA_OK alone. Refused is by
+ * DNS_RDATA_MISSING_WORD and DNS_RDATA_WRONG_WORD, by DNS_RDATA_UNSUPPORTED_TYPE where the type has no other form than \#, and by
+ * DNS_RDATA_WRONG_VALUE where the octets that the text gives are no data of the type.
+ */
+DNS_RDATA_NONNULL dns_rdata_status dns_rdata_parse(const char *text, size_t text_length, uint16_t type, const uint8_t *origin,
+                                                   size_t origin_length, uint8_t *out, size_t out_length, size_t *count);
 
 /* The type's name in capitals, or TYPE and its number (RFC 3597, 5), with a 0 behind it. */
 DNS_RDATA_NONNULL dns_rdata_status dns_rdata_type_text(uint16_t type, char *out, size_t out_length, size_t *count);

@@ -114,6 +114,24 @@ int main(void) {
     status = dns_rdata_parse_display_text("ten mail", 8, 15, origin, sizeof origin, octets, sizeof octets, &count);
     printf("a wrong word: status %u\n", status);
 
+    const char *zone_mail = "( 10 MAIL ) ; a comment";
+    want(dns_rdata_parse(zone_mail, strlen(zone_mail), 15, origin, sizeof origin, octets, sizeof octets, &count) == DNS_RDATA_OK, "a zone file's text is read");
+    print_octets("zone parsed ", octets, count);
+    want(dns_rdata_parse("\\# 2 abcd", 9, 4711, origin, 0, octets, sizeof octets, &count) == DNS_RDATA_OK, "unknown data is read");
+    print_octets("zone parsed ", octets, count);
+    want(dns_rdata_text(strings, sizeof strings, 0, sizeof strings, 16, text, sizeof text, &count) == DNS_RDATA_OK, "strings again");
+    want(dns_rdata_parse(text, count, 16, origin, sizeof origin, octets, sizeof octets, &count) == DNS_RDATA_OK, "what is written is read");
+    want(count == sizeof strings && memcmp(octets, strings, count) == 0, "as it was");
+    want(dns_rdata_parse(text, 9, 16, origin, sizeof origin, octets, 4, &count) == DNS_RDATA_BUFFER && count == 5, "one octet short");
+    status = dns_rdata_parse("ten mail", 8, 15, origin, sizeof origin, octets, sizeof octets, &count);
+    printf("a wrong word in a zone file: status %u\n", status);
+    status = dns_rdata_parse("10", 2, 15, origin, sizeof origin, octets, sizeof octets, &count);
+    printf("a missing word: status %u\n", status);
+    status = dns_rdata_parse("x", 1, 41, origin, sizeof origin, octets, sizeof octets, &count);
+    printf("no other text of OPT: status %u\n", status);
+    status = dns_rdata_parse("\\# 3 0a0000", 11, 1, origin, sizeof origin, octets, sizeof octets, &count);
+    printf("no data of A: status %u\n", status);
+
     /* Sorting: canonical octets once, and then no memory and no failure. */
     struct key *keys = (struct key *)malloc(3 * sizeof *keys);
     const char *texts[3] = {"20 b.example.", "10 c.example.", "10 A.example."};

@@ -31,7 +31,7 @@ static unsigned long round;
 
 static const uint16_t types[] = {0, 1, 2, 5, 6, 10, 12, 13, 15, 16, 28, 33, 35, 37, 41, 44, 52, 53, 61, 62, 64, 65, 251, 252, 255, 257, 65305, 48, 4711};
 static const char *const words[] = {"10", "mail", "example.com.", "\"a b\"", "(", ")", ";x\n", "\\", "\"", "1.2.3.4", "::1", "0", "issue", "alpn=h2",
-    "port=443", "no-default-alpn", "YWJj", "00ff", "A", "TYPE65535", "1h", "65536", "\xff", "@", ".", "\\065", "key7=x", "300"};
+    "port=443", "no-default-alpn", "YWJj", "00ff", "A", "TYPE65535", "1h", "65536", "\xff", "@", ".", "\\065", "key7=x", "300", "\\#", "2", "4", "00ff0011", "alpn=\"h2,h3\"", "\\255x"};
 
 /* Each option or parameter stands behind its number and its length, and each name is data of a record with a name at its place. */
 static void parts_and_names(const uint8_t *message, size_t size, size_t place, uint16_t length, uint16_t type) {
@@ -65,8 +65,22 @@ static void parts_and_names(const uint8_t *message, size_t size, size_t place, u
     WANT(i == (type == 6 ? 2 : type == 2 || type == 5 || type == 12 || type == 15 || type == 33 || type == 35 || type == 64 || type == 65 || type == 65305));
 }
 
+/* Octets that are no data may have parts all the same, and these stand within them. */
+static void part_of_damaged(const uint8_t *message, size_t size, size_t place, uint16_t length, uint16_t type) {
+    uint16_t part = 79;
+    size_t begin = 78, count = 77;
+    dns_rdata_status status = dns_rdata_part(message, size, place, length, type, below(3), &part, &begin, &count);
+    if (status == DNS_RDATA_OK)
+        WANT(begin >= place + 4 && begin + count <= place + length && place + length <= size);
+    else {
+        WANT(status == DNS_RDATA_ABSENT || status == DNS_RDATA_MISSING_OCTETS || status == DNS_RDATA_NAME || status == DNS_RDATA_LENGTH);
+        WANT(part == 79 && begin == 78 && count == 77);
+    }
+    WANT(type == 41 || type == 64 || type == 65 || status == DNS_RDATA_ABSENT);
+}
+
 int main(int argc, char **argv) {
-    unsigned long rounds = argc > 1 ? strtoul(argv[1], NULL, 10) : 100000, accepted = 0, parsed = 0, unread = 0;
+    unsigned long rounds = argc > 1 ? strtoul(argv[1], NULL, 10) : 100000, accepted = 0, parsed = 0, unread = 0, zones = 0;
     if (argc > 2) state ^= strtoull(argv[2], NULL, 10) * 0x9e3779b97f4a7c15ull | 1;
     for (round = 0; round < rounds; round++) {
         /* a message: random, or mostly small octets, so that labels and lengths are often right */
@@ -103,6 +117,11 @@ int main(int argc, char **argv) {
             WANT(dns_rdata_text(message, size, place, length, type, zone, count + 1, &again) == DNS_RDATA_OK && again == count);
             WANT(zone[count] == 0);
             for (size_t i = 0; i < count; i++) WANT(zone[i] >= ' ' && zone[i] <= '~');
+            /* which is read again, whatever the origin, as the octets without pointers that are asked for below */
+            static const uint8_t far[] = {1, 'o', 0};
+            uint8_t *read = (uint8_t *)block(4096);
+            size_t read_count = 0, origin_length = below(2) ? sizeof far : 0;
+            WANT(dns_rdata_parse(zone, count, type, far, origin_length, read, 4096, &read_count) == DNS_RDATA_OK);
             free(zone);
             parts_and_names(message, size, place, length, type);
             /* canonical octets, which are data again with the same canonical octets */
@@ -139,6 +158,8 @@ int main(int argc, char **argv) {
             WANT(s == DNS_RDATA_BUFFER || (s == DNS_RDATA_OK && count == 0));
             uint8_t *wire = (uint8_t *)block(count);
             WANT(dns_rdata_wire(message, size, place, length, type, wire, count, &again) == DNS_RDATA_OK && again == count);
+            WANT(read_count == count && memcmp(read, wire, count) == 0);
+            free(read);
             WANT(dns_rdata_compare(wire, count, 0, (uint16_t)count, octets, need, 0, (uint16_t)need, type, &order) == DNS_RDATA_OK && order == 0);
             free(wire);
             free(octets);
@@ -149,9 +170,8 @@ int main(int argc, char **argv) {
             WANT(dns_rdata_wire(message, size, place, length, type, (uint8_t *)text, sizeof text, &count) == status && count == 77);
             WANT(dns_rdata_text(message, size, place, length, type, text, sizeof text, &count) == status && count == 77);
             WANT(dns_rdata_name(message, size, place, length, type, below(3), (uint8_t *)text, sizeof text, &count, &again) == status);
-            uint16_t part = 79;
-            WANT(dns_rdata_part(message, size, place, length, type, below(3), &part, &again, &count) == status);
-            WANT(count == 77 && again == 78 && part == 79);
+            WANT(count == 77 && again == 78);
+            part_of_damaged(message, size, place, length, type);
             int32_t equal = 5;
             WANT(dns_rdata_equal(message, size, place, length, message, size, place, length, type, &equal) == status && equal == 5);
             WANT(dns_rdata_compare(message, size, place, length, message, size, place, length, type, &equal) == status && equal == 5);
@@ -189,6 +209,13 @@ int main(int argc, char **argv) {
             WANT(dns_rdata_check(out, count, 0, (uint16_t)count, ttype, &why) == DNS_RDATA_OK);
         }
         unread += status == DNS_RDATA_UNREAD;
+        status = dns_rdata_parse(text, n, ttype, origin, many, out, room, &count);
+        WANT(status != DNS_RDATA_MEMORY && status < 64 && status != DNS_RDATA_UNFIT && status != DNS_RDATA_UNREAD && status != DNS_RDATA_NOT_UTF8);
+        if (status == DNS_RDATA_OK) {
+            zones++;
+            WANT(count <= room);
+            WANT(dns_rdata_check(out, count, 0, (uint16_t)count, ttype, &why) == DNS_RDATA_OK);
+        }
         uint16_t number = 9;
         status = dns_rdata_type_number(text, n, &number);
         WANT(status == DNS_RDATA_OK || status == DNS_RDATA_NO_TYPE || status == DNS_RDATA_NOT_UTF8);
@@ -201,6 +228,6 @@ int main(int argc, char **argv) {
         free(origin);
         free(out);
     }
-    printf("%lu rounds, %lu data, %lu texts, and %lu whose octets are not read\n", rounds, accepted, parsed, unread);
+    printf("%lu rounds, %lu data, %lu texts of a zone file, %lu others, and %lu whose octets are not read\n", rounds, accepted, zones, parsed, unread);
     return 0;
 }

@@ -60,13 +60,15 @@ static dns_rdata_status call(int n) {
     case 7: return dns_rdata_text(name, length, place, 4, 15, text, sizeof text, &count);
     case 8: return dns_rdata_name(name, length, place, 4, 15, 0, out, sizeof out, &count, &begin);
     case 9: return dns_rdata_part(service, sizeof service, 0, sizeof service, 64, 1, &number, &begin, &count);
-    default: return dns_rdata_parse_display_text(texts[n - 10], strlen(texts[n - 10]), kinds[n - 10], name, 73, out, sizeof out, &count);
+    case 10: case 11: case 12: case 13:
+        return dns_rdata_parse(texts[n - 10], strlen(texts[n - 10]), kinds[n - 10], name, 73, out, sizeof out, &count);
+    default: return dns_rdata_parse_display_text(texts[n - 14], strlen(texts[n - 14]), kinds[n - 14], name, 73, out, sizeof out, &count);
     }
 }
 
 int main(void) {
     int failed = 0;
-    for (int n = 0; n < 14; n++) {
+    for (int n = 0; n < 18; n++) {
         requests = refuse = 0;
         dns_rdata_status wanted = call(n);
         unsigned long all = requests;

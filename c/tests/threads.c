@@ -27,7 +27,8 @@ static unsigned long calls(const uint8_t *message, uint16_t length, uint16_t typ
     good += dns_rdata_equal(message, SIZE, 0, length, message, SIZE, 0, length, type, &equal) == DNS_RDATA_OK && equal == 1;
     good += dns_rdata_wire(message, SIZE, 0, length, type, out, sizeof out, &count) == DNS_RDATA_OK;
     good += dns_rdata_canonical(message, SIZE, 0, length, type, out, sizeof out, &count) == DNS_RDATA_OK;
-    good += dns_rdata_text(message, SIZE, 0, length, type, text, sizeof text, &count) == DNS_RDATA_OK;
+    good += dns_rdata_text(message, SIZE, 0, length, type, text, sizeof text, &count) == DNS_RDATA_OK
+        && dns_rdata_parse(text, count, type, (const uint8_t *)"", 1, out, sizeof out, &count) == DNS_RDATA_OK;
     size_t begin = 0;
     uint16_t number = 0;
     good += dns_rdata_name(message, SIZE, 0, length, type, 0, out, sizeof out, &count, &begin) != DNS_RDATA_MEMORY;

@@ -63,6 +63,10 @@ extern "C" {
         record_type: u16, equal: *mut i32,
     ) -> u32;
     fn dns_rdata_compare_canonical(octets: *const u8, octets_length: usize, other: *const u8, other_length: usize) -> i32;
+    fn dns_rdata_parse(
+        text: *const u8, text_length: usize, record_type: u16, origin: *const u8, origin_length: usize,
+        out: *mut u8, out_length: usize, count: *mut usize,
+    ) -> u32;
     fn dns_rdata_parse_display_text(
         text: *const u8, text_length: usize, record_type: u16, origin: *const u8, origin_length: usize,
         out: *mut u8, out_length: usize, count: *mut usize,
@@ -149,11 +153,11 @@ pub enum Error {
     MissingWord,
     /// A word, or the whole text, is wrong.
     WrongWord,
-    /// No text is read of this type.
+    /// No text is read of this type, or none but `\#` and octets.
     UnsupportedType(RecordType),
     /// A word is no address.
     WrongAddress,
-    /// A name or a value in the text is wrong.
+    /// A name or a value in the text is wrong, or the octets that it gives are no data of the type.
     WrongValue,
     /// A status that this version does not know.
     Status(u32),
@@ -552,6 +556,28 @@ impl Ord for CanonicalKey {
         };
         self.record_type.cmp(&other.record_type).then(order.cmp(&0))
     }
+}
+
+/// The octets of record data in its text of a zone file, as it stands behind the type, names whole (RFC 1035, 5.1; RFC 9460, 2.1; RFC
+/// 3597, 5). Relative names are completed by the name of the origin's octets; where there are none, they stand as if they were
+/// fully qualified. What [`Data::to_zone_text`] writes is read again as the octets of [`Data::wire`], whatever the origin.
+///
+/// ```
+/// use dns_rdata::{parse, RecordType};
+///
+/// assert_eq!(parse(b"10 mail", RecordType::MX, b"\x07example\x00")?, b"\x00\x0a\x04mail\x07example\x00");
+/// assert_eq!(parse(br#""a \"" \# "#, RecordType::TXT, b"")?, b"\x03a \"\x01#");
+/// # Ok::<(), dns_rdata::Error>(())
+/// ```
+pub fn parse(text: &[u8], record_type: RecordType, origin: &[u8]) -> Result<Vec<u8>, Error> {
+    // SAFETY: the text and the origin are slices', the buffer is `filled`'s, and they do not overlap.
+    filled(
+        512,
+        |out, room, count| unsafe {
+            dns_rdata_parse(text.as_ptr(), text.len(), record_type.0, origin.as_ptr(), origin.len(), out, room, count)
+        },
+        |status| Error::of(status, record_type, &RawRefusal::default()),
+    )
 }
 
 /// The octets of record data in a text as hickory-proto reads it, names whole. Relative names are completed by the name of the

@@ -1,4 +1,4 @@
-use dns_rdata::{parse_display_text, Data, Error, Part, RecordType};
+use dns_rdata::{parse, parse_display_text, Data, Error, Part, RecordType};
 use std::cmp::Ordering;
 use std::collections::HashSet;
 
@@ -72,6 +72,31 @@ fn names_and_parts() {
     let data = Data::whole(service, RecordType::SVCB).unwrap();
     assert_eq!(data.part(0), Ok(Some(Part { number: 3, place: 7, octets: &[1, 0xbb] })));
     assert_eq!(data.name(0).unwrap().unwrap().place, 2);
+}
+
+#[test]
+fn zone_texts_are_parsed() {
+    let origin = b"\x07example\x03com\x00";
+    assert_eq!(parse(b"10 mail", MX, origin), Ok(b"\x00\x0a\x04mail\x07example\x03com\x00".to_vec()));
+    assert_eq!(parse(b"( 10 ; a comment\n @ )", MX, origin), Ok(b"\x00\x0a\x07example\x03com\x00".to_vec()));
+    assert_eq!(parse(b"10 mail", MX, b""), Ok(b"\x00\x0a\x04mail\x00".to_vec()));
+    assert_eq!(parse(br#""a \"" b\255 """#, TXT, b""), Ok(b"\x03a \"\x02b\xff\x00".to_vec()));
+    assert_eq!(parse(b"\xff", TXT, b""), Ok(b"\x01\xff".to_vec()));
+    assert_eq!(parse(br"\# 4 0a000001", A, b""), Ok(vec![10, 0, 0, 1]));
+    assert_eq!(parse(br"\# 0", OPT, b""), Ok(vec![]));
+    assert_eq!(parse(br"1 . alpn=h2 port=443", RecordType::HTTPS, b""), Ok(b"\x00\x01\x00\x00\x01\x00\x03\x02h2\x00\x03\x00\x02\x01\xbb".to_vec()));
+    assert_eq!(parse(b"10", MX, origin), Err(Error::MissingWord));
+    assert_eq!(parse(b"ten mail", MX, origin), Err(Error::WrongWord));
+    assert_eq!(parse(b"10 mail", MX, b"\x07example"), Err(Error::Origin));
+    assert_eq!(parse(b"x", OPT, b""), Err(Error::UnsupportedType(OPT)));
+    assert_eq!(parse(br"\# 3 0a0000", A, b""), Err(Error::WrongValue));
+}
+
+#[test]
+fn zone_texts_are_read_again() {
+    let data = Data::whole(b"\x00\x05\x01X\x00\x00\x01\x00\x03\x02h,", RecordType::SVCB).unwrap();
+    let text = data.to_zone_text().unwrap();
+    assert_eq!(parse(text.as_bytes(), RecordType::SVCB, b"\x01o\x00"), data.wire());
 }
 
 #[test]

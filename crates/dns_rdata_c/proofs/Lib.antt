@@ -1,7 +1,13 @@
 pub mod Equalities
 pub mod Fillings
 pub mod Whole
+pub mod NameSpans
 pub mod Readings
 pub mod NamePlaces
-pub mod PartPlaces
+pub mod NameWalks
+pub mod PieceWalks
 pub mod Walking
+pub mod PartWalks
+pub mod NamesStand
+pub mod PartTies
+pub mod ZoneReads

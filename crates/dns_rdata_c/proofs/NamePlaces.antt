@@ -1,11 +1,12 @@
 -- Where the names of record data begin.
-use Rattle.std.proofs.Common.{◌≡◌, ℕ, ◌+◌, ◌≤◌, ◌⊎◌, inl, inr, List, length, refl, sym, subst, arith, Option, Some, None, MatchOption, Result, Ok, Err, IfOk}
+use Rattle.std.proofs.Common.{◌≡◌, ℕ, ◌+◌, ◌≤◌, ◌⊎◌, inl, inr, List, length, refl, sym, subst, arith, Option, Some, None, MatchOption}
 use Rattle.std.specs.Borrow.{Bor}
 use Rattle.dns_fields.specs.Labels.{DomainName}
 use Rattle.dns_fields.specs.Names.{IsNameIn}
 use Rattle.dns_fields.specs.Fields.{Number, Text, Name, Field, Stands}
 use Rattle.dns_fields.proofs.Laws.{one_end}
 use Rattle.dns_fields.proofs.Numbers.{length-bytes}
+use Rattle.dns_fields.proofs.Stays.{end_within}
 use Rattle.dns_rdata_base.specs.declared.naptr.NAPTR.{NAPTR}
 use Rattle.dns_rdata_base.specs.declared.soa.SOA.{SOA}
 use Rattle.dns_rdata.specs.declared.record_data.RData.{RData}
@@ -142,8 +143,6 @@ pub soa_answered : {m : List ℕ} {p n : ℕ} (v : RData) (x : SOA) (i : ℕ) (r
 soa_answered {m} {p} {n} v x i r e f a =
     subst (λ (y : RData). Answered m p y i r) (sym e) (soa_found x i r (subst (λ (y : RData). IsFilledBy m p n y) e f) a)
 
--- the same where the name is looked for in the message
-pub soa_looked : {m : List ℕ} {p n : ℕ} {E : Type 0} (v : RData) (x : SOA) (i : ℕ) (r : Result (Option (ℕ × Bor DomainName)) E) → v ≡ rdata.SOA x → IsFilledBy m p n v
-    → IfOk r (λ found. AskedOfTwo m found i p x) → IfOk r (λ found. Answered m p v i found)
-soa_looked v x i (Ok found) e f a = soa_answered v x i found e f a
-soa_looked v x i (Err y) e f a = tt
+-- the first name of SOA stands in front
+pub soa_first : {m : List ℕ} {p n : ℕ} (v : RData) (x : SOA) → v ≡ rdata.SOA x → IsFilledBy m p n v → (p ≤ length m) × ((q : ℕ) × IsNameIn m p x.mname q)
+soa_first v x e f = let s = stand_in v (rdata.SOA x) e f in let inside = end_within s.1.is.stands in (omega (arith, inside.0, inside.1), (s.0, s.1.is))

@@ -8,14 +8,14 @@ use Rattle.dns_fields.proofs.Pieces.{piece_before}
 use Rattle.dns_rdata_c.specs.Pieces.{HoldsPieces, IsPieceOf}
 
 -- piece number i, and the pieces in front of it and behind
-record SplitAt (read : List (Numbered (List ℕ))) (i : ℕ) : Type 0 where
-  at : Numbered (List ℕ)
-  fits : IsPiece at
-  get : slice_get read i ≡ Some at
-  whole : pieces read ≡ pieces (take i read) ++ (piece at ++ pieces (drop (suc i) read))
-  next : pieces (take (suc i) read) ≡ pieces (take i read) ++ piece at
+pub record SplitAt (read : List (Numbered (List ℕ))) (i : ℕ) : Type 0 where
+  pub at : Numbered (List ℕ)
+  pub fits : IsPiece at
+  pub get : slice_get read i ≡ Some at
+  pub whole : pieces read ≡ pieces (take i read) ++ (piece at ++ pieces (drop (suc i) read))
+  pub next : pieces (take (suc i) read) ≡ pieces (take i read) ++ piece at
 
-split : (read : List (Numbered (List ℕ))) (i : ℕ) → i < length read → ArePieces read → SplitAt read i
+pub split : (read : List (Numbered (List ℕ))) (i : ℕ) → i < length read → ArePieces read → SplitAt read i
 split [] i h are = absurd (omega arith)
 split (x ∷ read) zero h are = record { at = x; fits = are.0; get = refl; whole = refl; next = append-nil (piece x) }
 split (y ∷ read) (suc i) h are =

@@ -4,23 +4,27 @@ use Rattle.std.specs.Ordering.{nat_cmp}
 use Rattle.std.specs.Cmp.Lexicographic.{slice_cmp}
 use Rattle.std.specs.declared.cmp.Ordering.{Ordering}
 use Rattle.std.specs.declared.cmp.Ordering.TheVariants.{Less, Equal, Greater}
-use Rattle.dns_fields.specs.declared.RDataEncoding.TheVariants.{Other}
 use Rattle.dns_fields.specs.Labels.{DomainName}
 use Rattle.dns_fields.specs.Names.{IsNameIn}
 use Rattle.dns_names_wire.specs.Words.{Because}
 use Rattle.dns_types.specs.declared.error.ProtoError.{ProtoError}
-use Rattle.dns_fields.specs.Fields.{Wrote, canonical, all_emittable}
+use Rattle.dns_fields.specs.Fields.{canonical, all_emittable}
 use Rattle.dns_text.specs.TextWords.{NoTextWords}
 use Rattle.dns_types.specs.declared.error.DecodeError.{DecodeError}
 use Rattle.dns_types.specs.declared.error.DecodeError.TheVariants as decode
+use Rattle.dns_types.specs.declared.error.ParseError.{ParseError}
 use Rattle.dns_types.specs.declared.record_type.RecordType.{RecordType}
 use Rattle.dns_rdata.specs.declared.record_data.RData.{RData}
 use Rattle.dns_rdata.specs.Data.{Fills, NoValue, fields_of, data_octets, IsEmittable}
 use Rattle.dns_rdata.specs.DataWords.{IsDataTextAt, GivesNoneAt}
 use Rattle.dns_rdata.specs.Texts.{data_text}
+use Rattle.dns_rdata.specs.WholeOctets.{whole_data}
+use Rattle.dns_rdata_zone.specs.ZoneGives.{GivesValue, GivesNone}
+use Rattle.dns_rdata_zone.specs.ZoneFaults.{ZoneFault}
+use Rattle.dns_rdata_zone.specs.ZoneTexts.{zone_text}
 use Rattle.dns_rdata_c.specs.declared.check.Refusal.{Refusal}
 use Rattle.dns_rdata_c.specs.Reading.{IsCause, HasData}
-use Rattle.dns_rdata_c.specs.Status.{decode_status}
+use Rattle.dns_rdata_c.specs.Status.{decode_status, parse_status}
 use Rattle.dns_rdata_c.specs.Buffers.{IsPut, IsTooMany, IsTextPut, IsTextTooLong}
 
 -- ---- why octets are refused
@@ -56,35 +60,31 @@ pub record LacksRoomForText (v : RData) (old new : List ℕ) (count : ℕ) : Typ
 
 -- ---- octets
 
--- the octets are those of the value's fields, one behind the other, its names whole and with their letters
+-- the octets are those of the value, its names whole and with their letters
 pub record IsWire (v : RData) (octets : List ℕ) : Type 0 where
-  pub wrote : Wrote Other [] (fields_of v).kinds (fields_of v).values octets
+  pub is : octets ≡ whole_data v
   pub short : length octets ≤ 65535
 
--- the octets stand in the buffer
+-- the octets of the value stand in the buffer
 pub record PutsWire (v : RData) (old new : List ℕ) (count : ℕ) : Type 0 where
-  pub octets : List ℕ
-  pub is_wire : IsWire v octets
-  pub put : IsPut octets old new count
+  pub short : length (whole_data v) ≤ 65535
+  pub put : IsPut (whole_data v) old new count
 
 -- they do not fit
 pub record LacksRoomForWire (v : RData) (old new : List ℕ) (count : ℕ) : Type 0 where
-  pub octets : List ℕ
-  pub is_wire : IsWire v octets
-  pub too_many : IsTooMany octets old new count
+  pub short : length (whole_data v) ≤ 65535
+  pub too_many : IsTooMany (whole_data v) old new count
 
--- the octets stand in the buffer, and are data of the type
+-- the octets of the value stand in the buffer, and are data of the type
 pub record PutsData (t : RecordType) (v : RData) (old new : List ℕ) (count : ℕ) : Type 0 where
-  pub octets : List ℕ
-  pub is_wire : IsWire v octets
-  pub reads : HasData octets 0 (length octets) t (λ _. Unit {0})
-  pub put : IsPut octets old new count
+  pub short : length (whole_data v) ≤ 65535
+  pub reads : HasData (whole_data v) 0 (length (whole_data v)) t (λ _. Unit {0})
+  pub put : IsPut (whole_data v) old new count
 
--- the octets are no data of the type
+-- the octets of the value are no data of the type
 pub record IsUnread (t : RecordType) (v : RData) : Type 0 where
-  pub octets : List ℕ
-  pub is_wire : IsWire v octets
-  pub none : NoValue octets 0 (length octets) t
+  pub short : length (whole_data v) ≤ 65535
+  pub none : NoValue (whole_data v) 0 (length (whole_data v)) t
 
 -- ---- orders
 
@@ -153,11 +153,34 @@ pub record IsRefusedText (octets : List ℕ) (t : RecordType) (text : List ℕ) 
   pub is_origin : IsOrigin octets origin
   pub none : IsNoText origin t text
 
--- ---- written octets
+-- ---- data from the text of a zone file
 
--- the fields of the value, one behind the other, its names whole
-abbrev pub IsWritten : RData → List ℕ → Type 0
-IsWritten v octets = Wrote Other [] (fields_of v).kinds (fields_of v).values octets
+-- the octets are an origin, the text gives a value, and P holds of it
+pub record HasZoneData (octets : List ℕ) (t : RecordType) (text : List ℕ) (P : RData → Type 0) : Type 0 where
+  pub origin : Option DomainName
+  pub is_origin : IsOrigin octets origin
+  pub value : RData
+  pub gives : GivesValue origin t text value
+  pub holds : P value
+
+-- the text gives no value, and the status is that of the cause
+pub record IsNoZoneText (origin : Option DomainName) (t : RecordType) (text : List ℕ) (status : ℕ) : Type 0 where
+  pub none : GivesNone origin t text
+  pub error : ParseError
+  pub told : status ≡ parse_status error
+  pub fault : ZoneFault origin t text error
+
+-- the octets are an origin, and the text gives no value
+pub record IsRefusedZoneText (octets : List ℕ) (t : RecordType) (text : List ℕ) (status : ℕ) : Type 0 where
+  pub origin : Option DomainName
+  pub is_origin : IsOrigin octets origin
+  pub why : IsNoZoneText origin t text status
+
+-- Of each value that fills octets of a message, and whose text in a zone file this is, P holds of the octets with whole names.
+pub record OfZoneText (t : RecordType) (text : List ℕ) (P : List ℕ → Type 0) : Type 0 where
+  pub holds : (m : List ℕ) (p n : ℕ) (v : RData) → Fills m p n t v → length (whole_data v) ≤ 65535 → text ≡ zone_text v → P (whole_data v)
+
+-- ---- written octets
 
 -- why a value is not written
 abbrev pub IsUnwritten : RData → ProtoError → Type 0
@@ -165,4 +188,4 @@ IsUnwritten v e = Because e (65535 < length (canonical (fields_of v).kinds (fiel
 
 -- the status by which a value has no octets: memory ran out, or they are too many, or it cannot be emitted
 abbrev pub IsUnmade : RData → ℕ → Type 0
-IsUnmade v status = (status ≡ 1) ⊎ ((status ≡ 3) × (65535 < length (canonical (fields_of v).kinds (fields_of v).values))) ⊎ ((status ≡ 5) × ¬ (IsEmittable v))
+IsUnmade v status = (status ≡ 1) ⊎ ((status ≡ 3) × (65535 < length (whole_data v))) ⊎ ((status ≡ 5) × ¬ (IsEmittable v))

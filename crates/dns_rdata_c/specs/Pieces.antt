@@ -1,6 +1,24 @@
 -- Pieces one behind the other, each a number, a length and octets.
-use Rattle.std.specs.Prelude.{◌≡◌, ℕ, ◌+◌, ◌<◌, List, length, take, Some, slice_get}
-use Rattle.dns_fields.specs.Pieces.{Numbered, pieces, ArePieces}
+use Rattle.std.specs.Prelude.{◌≡◌, ℕ, ◌+◌, ◌<◌, List, ◌++◌, length, take, Some, slice_get}
+use Rattle.dns_fields.specs.Pieces.{Numbered, piece, pieces, IsPiece, ArePieces}
+
+-- no piece stands in front
+abbrev pub HasNoPiece : List ℕ → Type 0
+HasNoPiece s = (x : Numbered (List ℕ)) (rest : List ℕ) → IsPiece x → s ≡ piece x ++ rest → ⊥
+
+-- a piece of n octets stands in front
+abbrev pub IsPieceLength : List ℕ → ℕ → Type 0
+IsPieceLength s n = (x : Numbered (List ℕ)) × (rest : List ℕ) × IsPiece x × (s ≡ piece x ++ rest) × (n ≡ length (piece x))
+
+-- so many pieces stand one behind the other, up to this place, and there none stands
+pub record AreCounted (s : List ℕ) (count end : ℕ) : Type 0 where
+  pub read : List (Numbered (List ℕ))
+  pub are : ArePieces read
+  pub rest : List ℕ
+  pub is : s ≡ pieces read ++ rest
+  pub many : count ≡ length read
+  pub ends : end ≡ length (pieces read)
+  pub none : HasNoPiece rest
 
 -- the octets are pieces, more than i
 pub record HoldsPieces (s : List ℕ) (i : ℕ) : Type 0 where

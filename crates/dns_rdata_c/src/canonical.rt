@@ -8,8 +8,9 @@ ghost use Rattle.dns_rdata_c.specs.Reading.{HasData};
 ghost use Rattle.dns_rdata_c.specs.Buffers.{IsPut};
 
 use crate::filling::put_canonical;
-use crate::reading::read_at;
-use crate::status::{BUFFER, MEMORY, OK, REFUSED, TOO_LONG};
+use crate::reading::decode_at;
+use crate::status::{BUFFER, MEMORY, OK, REFUSED, TOO_LONG, status_of};
+use dns_rdata::RecordType;
 use std::alloc::Global;
 
 /// Puts the canonical octets of record data in a message into a buffer, and tells their number: names whole and in lower
@@ -35,8 +36,8 @@ pub extern "C" fn dns_rdata_canonical(
     ensures kept { result ≢ OK → result ≢ BUFFER → result ≢ TOO_LONG → out.new ≡ out.old }
     ensures untold { result ≢ OK → result ≢ BUFFER → count.new ≡ count.old }
 {
-    match read_at(alloc, message, place, length, type_number) {
-        Err(status) => status,
-        Ok(value) => put_canonical(&value, out, count),
+    match decode_at(alloc, message, place, length, RecordType::from(type_number)) {
+        Err(error) => status_of(error),
+        Ok(value) => put_canonical(alloc, &value, out, count),
     }
 }

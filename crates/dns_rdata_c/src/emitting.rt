@@ -1,8 +1,8 @@
 //! The octets of a value with its names whole.
 
 ghost use Rattle.std.specs.Prelude.{◌≡◌, [], IfErr, OnOk, IfOk};
-ghost use Rattle.dns_rdata.specs.WholeOctets.{name_octets};
-ghost use Rattle.dns_rdata_c.specs.Calls.{IsWritten, IsUnwritten, IsWire, IsUnmade};
+ghost use Rattle.dns_rdata.specs.WholeOctets.{name_octets, whole_data};
+ghost use Rattle.dns_rdata_c.specs.Calls.{IsUnwritten, IsWire, IsUnmade};
 
 use crate::status::{MEMORY, TOO_LONG, UNFIT};
 use dns_rdata::{BinEncodable, BinEncoder, Name, ProtoError, RData, RDataEncoding};
@@ -17,7 +17,7 @@ const FIRST_ROOM: usize = 512;
 // Writes the octets of a value to an empty vector, its names whole.
 fn emit_to(alloc: Global, octets: &mut Vec<u8>, value: &RData) -> Result<(), ProtoError>
     requires { octets.old.items ≡ [] }
-    ensures ok { OnOk result (IsWritten value.now octets.new.items) }
+    ensures ok { OnOk result (octets.new.items ≡ whole_data value.now) }
     ensures refused { IfErr result (IsUnwritten value.now) }
 {
     let mut encoder = BinEncoder::new(alloc, octets);
@@ -28,7 +28,7 @@ fn emit_to(alloc: Global, octets: &mut Vec<u8>, value: &RData) -> Result<(), Pro
 
 /// The octets of a value with its names whole, or the status of a refusal. `RData::emit` would write the names of CNAME, MX, NS,
 /// PTR and SOA with pointers, which are places of the encoder's own message.
-#[tactic(auto, using(crate::proofs::Whole::written_within))]
+#[tactic(auto, using(crate::proofs::Whole::as_many))]
 pub fn whole_octets(alloc: Global, value: &RData) -> Result<Vec<u8>, u32>
     ensures made { IfOk result (λ octets. IsWire value.now octets.items) }
     ensures refused { IfErr result (IsUnmade value.now) }

@@ -1,11 +1,13 @@
 //! Canonical octets that are copied into a buffer.
 
 ghost use Rattle.std.specs.Prelude.{◌≡◌, ◌≢◌, ◌<◌, ◌⊎◌, length as size};
-ghost use Rattle.dns_rdata.specs.Data.{data_octets};
+ghost use Rattle.dns_rdata.specs.Data.{data_octets, IsEmittable};
 ghost use Rattle.dns_rdata_c.specs.Buffers.{IsPut};
 
-use crate::status::{BUFFER, OK, TOO_LONG};
+use crate::lowering::{name_span, put_lowered};
+use crate::status::{BUFFER, MEMORY, OK, TOO_LONG};
 use dns_rdata::RData;
+use std::alloc::Global;
 
 // The most octets that the data of a record has (RFC 1035, 3.2.1).
 const MAX_OCTETS: usize = 65535;
@@ -14,8 +16,24 @@ const MAX_OCTETS: usize = 65535;
 const COUNTED: usize = 256;
 
 /// Puts the canonical octets of a value at the front of the buffer where they fit, and tells their number. Where they do not
-/// fit, the buffer holds those that do. Takes no memory.
-pub fn put_canonical(value: &RData, out: &mut [u8], count: &mut usize) -> u32
+/// fit, what is in the buffer is left open.
+pub fn put_canonical(alloc: Global, value: &RData, out: &mut [u8], count: &mut usize) -> u32
+    requires { IsEmittable value.now }
+    ensures ok { result ≡ OK → IsPut (data_octets value.now) out.old out.new count.new }
+    ensures buffer { result ≡ BUFFER → (size out.old < size (data_octets value.now)) × (count.new ≡ size (data_octets value.now)) }
+    ensures too_long { result ≡ TOO_LONG → 65535 < size (data_octets value.now) }
+    ensures status { (result ≡ OK) ⊎ (result ≡ MEMORY) ⊎ (result ≡ BUFFER) ⊎ (result ≡ TOO_LONG) }
+    ensures kept { result ≡ MEMORY → out.new ≡ out.old }
+    ensures untold { result ≢ OK → result ≢ BUFFER → count.new ≡ count.old }
+{
+    match name_span(value) {
+        Some((start, len)) => put_lowered(alloc, value, start, len, out, count),
+        None => fill_canonical(value, out, count),
+    }
+}
+
+// The same by a cursor, without memory. Where the octets do not fit, the buffer holds those that do.
+fn fill_canonical(value: &RData, out: &mut [u8], count: &mut usize) -> u32
     ensures ok { result ≡ OK → IsPut (data_octets value.now) out.old out.new count.new }
     ensures buffer { result ≡ BUFFER → (size out.old < size (data_octets value.now)) × (count.new ≡ size (data_octets value.now)) }
     ensures too_long { result ≡ TOO_LONG → 65535 < size (data_octets value.now) }

@@ -1,6 +1,6 @@
 //! The names in record data.
 
-ghost use Rattle.std.specs.Prelude.{◌≡◌, ◌≢◌, ◌<◌, ◌≤◌, ◌⊎◌, IfOk, MatchOption};
+ghost use Rattle.std.specs.Prelude.{◌≡◌, ◌≢◌, ◌<◌, ◌≤◌, ◌⊎◌, length as size, MatchOption};
 ghost use Rattle.dns_types.specs.RecordTypes.{record_type_of};
 ghost use Rattle.dns_fields.specs.Names.{IsNameIn};
 ghost use Rattle.dns_rdata.specs.Data.{NoValue, fields_of};
@@ -10,21 +10,12 @@ ghost use Rattle.dns_rdata_c.specs.Buffers.{IsPut, IsTooMany};
 ghost use Rattle.dns_rdata_c.specs.Names.{HasName, IsFilledBy, IsNameAt, names_in};
 
 use crate::emitting::octets_of_name;
+use crate::name_ends::name_length;
 use crate::putting::put_octets;
 use crate::reading::read_at;
 use crate::status::{ABSENT, BUFFER, MEMORY, OK, REFUSED};
-use dns_rdata::{BinDecodable, BinDecoder, DecodeError, Name, RData, SOA};
+use dns_rdata::{Name, RData, SOA};
 use std::alloc::Global;
-
-/// Where the name ends that stands at a place of a message.
-pub fn name_end(alloc: Global, message: &[u8], place: usize) -> Result<usize, DecodeError>
-    ensures { IfOk result (λ q. (t : _) × IsNameIn message.now place t q) }
-{
-    let mut decoder = BinDecoder::new(alloc, message);
-    let _before = decoder.read_slice(place)?;
-    let _name = Name::read(&mut decoder)?;
-    Ok(decoder.index())
-}
 
 // The name where it is asked for by number 0, and the place where it begins.
 fn only(name: &Name, begin: usize, index: usize) -> Option<(usize, &Name)>
@@ -38,54 +29,53 @@ fn only(name: &Name, begin: usize, index: usize) -> Option<(usize, &Name)>
 
 // The names of SOA, of which the second begins where the first ends.
 fn soa_name<'a>(
-    alloc: Global,
     message: &[u8],
     place: usize,
     soa: &'a SOA,
     index: usize,
-) -> Result<Option<(usize, &'a Name)>, DecodeError>
-    ensures { IfOk result (λ found. MatchOption found (2 ≤ index)
+) -> Option<(usize, &'a Name)>
+    requires { (place ≤ size message.now) × ((q : _) × IsNameIn message.now place soa.now.mname q) }
+    ensures { MatchOption result (2 ≤ index)
         (λ it. ((index ≡ 0) × (it.0 ≡ place) × (it.1.now ≡ soa.now.mname))
-        ⊎ ((index ≡ 1) × ((x : _) × IsNameIn message.now place x it.0) × (it.1.now ≡ soa.now.rname)))) }
+        ⊎ ((index ≡ 1) × ((x : _) × IsNameIn message.now place x it.0) × (it.1.now ≡ soa.now.rname))) }
 {
     match index {
-        0 => Ok(Some((place, &soa.mname))),
-        1 => {
-            let begin = name_end(alloc, message, place)?;
-            Ok(Some((begin, &soa.rname)))
-        }
-        _ => Ok(None),
+        0 => Some((place, &soa.mname)),
+        1 => match name_length(&message[place..]) {
+            None => None,
+            Some(length) => Some((place + length, &soa.rname)),
+        },
+        _ => None,
     }
 }
 
 // The name of this number in a value whose octets begin at a place of the message, and the place where the name begins.
 fn find_name<'a>(
-    alloc: Global,
     message: &[u8],
     place: usize,
     length: u16,
     value: &'a RData,
     index: usize,
-) -> Result<Option<(usize, &'a Name)>, DecodeError>
+) -> Option<(usize, &'a Name)>
     requires { IsFilledBy message.now place length value.now }
-    ensures { IfOk result (λ found. MatchOption found (names_in (fields_of value.now).kinds ≤ index)
-        (λ it. IsNameAt message.now place (fields_of value.now).kinds (fields_of value.now).values index it.0 it.1.now)) }
+    ensures { MatchOption result (names_in (fields_of value.now).kinds ≤ index)
+        (λ it. IsNameAt message.now place (fields_of value.now).kinds (fields_of value.now).values index it.0 it.1.now) }
 {
     match value {
-        RData::ANAME(x) => Ok(only(&x.0, place, index)),
-        RData::CNAME(x) => Ok(only(&x.0, place, index)),
-        RData::HTTPS(x) => Ok(only(&x.0.target_name, place + 2, index)),
-        RData::MX(x) => Ok(only(&x.exchange, place + 2, index)),
+        RData::ANAME(x) => only(&x.0, place, index),
+        RData::CNAME(x) => only(&x.0, place, index),
+        RData::HTTPS(x) => only(&x.0.target_name, place + 2, index),
+        RData::MX(x) => only(&x.exchange, place + 2, index),
         RData::NAPTR(x) => {
             let strings = x.flags.len() + x.services.len() + x.regexp.len();
-            Ok(only(&x.replacement, place + strings + 7, index))
+            only(&x.replacement, place + strings + 7, index)
         }
-        RData::NS(x) => Ok(only(&x.0, place, index)),
-        RData::PTR(x) => Ok(only(&x.0, place, index)),
-        RData::SOA(x) => soa_name(alloc, message, place, x, index),
-        RData::SRV(x) => Ok(only(&x.target, place + 6, index)),
-        RData::SVCB(x) => Ok(only(&x.target_name, place + 2, index)),
-        _ => Ok(None),
+        RData::NS(x) => only(&x.0, place, index),
+        RData::PTR(x) => only(&x.0, place, index),
+        RData::SOA(x) => soa_name(message, place, x, index),
+        RData::SRV(x) => only(&x.target, place + 6, index),
+        RData::SVCB(x) => only(&x.target_name, place + 2, index),
+        _ => None,
     }
 }
 
@@ -133,10 +123,8 @@ pub extern "C" fn dns_rdata_name(
         Ok(value) => value,
         Err(status) => return status,
     };
-    let (at, name) = match find_name(alloc, message, place, length, &value, index) {
-        Err(_) => return MEMORY,
-        Ok(None) => return ABSENT,
-        Ok(Some(found)) => found,
+    let Some((at, name)) = find_name(message, place, length, &value, index) else {
+        return ABSENT;
     };
     let status = put_name(alloc, name, out, count);
     if status != MEMORY {

@@ -2,11 +2,14 @@
 
 ghost use Rattle.std.specs.Prelude.{◌≡◌, ◌≤◌, ◌⊎◌, IfOk, IfErr};
 ghost use Rattle.std.specs.Option.{option_copied};
+ghost use Rattle.dns_rdata.specs.Data.{IsEmittable};
 ghost use Rattle.dns_rdata.specs.DataWords.{IsDataTextAt};
-ghost use Rattle.dns_rdata_c.specs.Calls.{IsOrigin, IsNoOrigin, IsNoText};
+ghost use Rattle.dns_rdata_zone.specs.ZoneGives.{GivesValue};
+ghost use Rattle.dns_rdata_c.specs.Calls.{IsOrigin, IsNoOrigin, IsNoText, IsNoZoneText};
 
 use crate::status::{MEMORY, ORIGIN, status_of_text};
 use dns_rdata::{BinDecodable, BinDecoder, DecodeError, Name, RData, RecordType};
+use dns_rdata_zone::from_zone_text;
 use std::alloc::Global;
 
 /// The name of these octets, or none where there are none.
@@ -28,6 +31,23 @@ pub fn origin_of(alloc: Global, octets: &[u8]) -> Result<Option<Name>, u32>
                 Err(ORIGIN)
             }
         }
+    }
+}
+
+/// The value of a text in a zone file, relative names in it completed by the origin, or the status of a refusal.
+pub fn read_zone_text(
+    alloc: Global,
+    record_type: RecordType,
+    text: &[u8],
+    origin: Option<&Name>,
+) -> Result<RData, u32>
+    ensures found { IfOk result (GivesValue (option_copied origin.entry) record_type text.now) }
+    ensures emittable { IfOk result IsEmittable }
+    ensures refused { IfErr result (λ s. (s ≡ 1) ⊎ ((48 ≤ s) × IsNoZoneText (option_copied origin.entry) record_type text.now s)) }
+{
+    match from_zone_text(alloc, record_type, text, origin) {
+        Ok(value) => Ok(value),
+        Err(error) => Err(status_of_text(error)),
     }
 }
 

@@ -2,8 +2,8 @@
 
 ghost use Rattle.std.specs.Prelude.{◌≡◌, ◌≢◌, ◌<◌, ◌≤◌, ◌⊎◌, length as size};
 ghost use Rattle.dns_types.specs.RecordTypes.{record_type_of};
-ghost use Rattle.dns_fields.specs.Fields.{canonical};
-ghost use Rattle.dns_rdata.specs.Data.{NoValue, fields_of, IsEmittable};
+ghost use Rattle.dns_rdata.specs.Data.{NoValue, IsEmittable};
+ghost use Rattle.dns_rdata.specs.WholeOctets.{whole_data};
 ghost use Rattle.dns_rdata_c.specs.Reading.{HasData};
 ghost use Rattle.dns_rdata_c.specs.Calls.{PutsWire, LacksRoomForWire};
 
@@ -14,11 +14,11 @@ use crate::status::{BUFFER, MEMORY, OK, REFUSED, TOO_LONG, UNFIT};
 use dns_rdata::RData;
 use std::alloc::Global;
 
-// Puts the octets of a value into a buffer, its names whole, and tells their number.
-fn put_wire(alloc: Global, value: &RData, out: &mut [u8], count: &mut usize) -> u32
+/// Puts the octets of a value into a buffer, its names whole, and tells their number.
+pub fn put_wire(alloc: Global, value: &RData, out: &mut [u8], count: &mut usize) -> u32
     ensures ok { result ≡ OK → PutsWire value.now out.old out.new count.new }
     ensures buffer { result ≡ BUFFER → LacksRoomForWire value.now out.old out.new count.new }
-    ensures too_long { result ≡ TOO_LONG → 65535 < size (canonical (fields_of value.now).kinds (fields_of value.now).values) }
+    ensures too_long { result ≡ TOO_LONG → 65535 < size (whole_data value.now) }
     ensures unfit { result ≡ UNFIT → ¬ (IsEmittable value.now) }
     ensures status { (result ≡ OK) ⊎ (result ≡ MEMORY) ⊎ (result ≡ BUFFER) ⊎ (result ≡ TOO_LONG) ⊎ (result ≡ UNFIT) }
     ensures kept { result ≢ OK → out.new ≡ out.old }
@@ -44,8 +44,7 @@ pub extern "C" fn dns_rdata_wire(
 ) -> u32
     ensures ok { result ≡ OK → HasData message.now place length (record_type_of type_number) (λ v. PutsWire v out.old out.new count.new) }
     ensures buffer { result ≡ BUFFER → HasData message.now place length (record_type_of type_number) (λ v. LacksRoomForWire v out.old out.new count.new) }
-    ensures too_long { result ≡ TOO_LONG → HasData message.now place length (record_type_of type_number)
-        (λ v. 65535 < size (canonical (fields_of v).kinds (fields_of v).values)) }
+    ensures too_long { result ≡ TOO_LONG → HasData message.now place length (record_type_of type_number) (λ v. 65535 < size (whole_data v)) }
     ensures refused { REFUSED ≤ result → NoValue message.now place length (record_type_of type_number) }
     ensures status { (result ≡ OK) ⊎ (result ≡ MEMORY) ⊎ (result ≡ BUFFER) ⊎ (result ≡ TOO_LONG) ⊎ (REFUSED ≤ result) }
     ensures kept { result ≢ OK → out.new ≡ out.old }

@@ -1,5 +1,5 @@
 use Rattle.std.proofs.Common.{arith}
-use Rattle.dns_rdata_c.proofs.NamePlaces.{naptr_room, aname_answered, cname_answered, https_answered, mx_answered, naptr_answered, ns_answered, ptr_answered, soa_looked, srv_answered, svcb_answered}
+use Rattle.dns_rdata_c.proofs.NamePlaces.{naptr_room, aname_answered, cname_answered, https_answered, mx_answered, naptr_answered, ns_answered, ptr_answered, soa_answered, soa_first, srv_answered, svcb_answered}
 use Rattle.dns_rdata_c.proofs.names.find_name.Goals as goal
 
 pub overflow_add-strings : goal.overflow_add-strings
@@ -37,10 +37,13 @@ pub returns-in-PTR : goal.returns-in-PTR
 returns-in-PTR c = ptr_answered c.args.value.now c.in-PTR.x c.args.index c.only-in-PTR.result c.in-PTR.is c.requires c.only-in-PTR.ensures
 
 pub returns-in-SOA : goal.returns-in-SOA
-returns-in-SOA c = soa_looked c.args.value.now c.in-SOA.x c.args.index c.soa_name.result c.in-SOA.is c.requires c.soa_name.ensures
+returns-in-SOA c = soa_answered c.args.value.now c.in-SOA.x c.args.index c.soa_name.result c.in-SOA.is c.requires c.soa_name.ensures
 
 pub returns-in-SRV : goal.returns-in-SRV
 returns-in-SRV c = srv_answered c.args.value.now c.in-SRV.x c.args.index c.only-in-SRV.result c.in-SRV.is c.requires c.only-in-SRV.ensures
 
 pub returns-in-SVCB : goal.returns-in-SVCB
 returns-in-SVCB c = svcb_answered c.args.value.now c.in-SVCB.x c.args.index c.only-in-SVCB.result c.in-SVCB.is c.requires c.only-in-SVCB.ensures
+
+pub soa_name-requires : goal.soa_name-requires
+soa_name-requires c = soa_first c.args.value.now c.in-SOA.x c.in-SOA.is c.requires

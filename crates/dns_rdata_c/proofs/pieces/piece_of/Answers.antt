@@ -1,6 +1,6 @@
 use Rattle.std.proofs.Common.{arith}
 use Rattle.dns_rdata_c.proofs.Walking.{walk_room, walk_on, walk_ends}
-use Rattle.dns_rdata_c.proofs.parts.piece_of.Goals as goal
+use Rattle.dns_rdata_c.proofs.pieces.piece_of.Goals as goal
 
 pub overflow_add-at : goal.overflow_add-at
 overflow_add-at c = omega (arith, walk_room _ _ _ _ c.loop-i.invariant (omega arith))

@@ -1,6 +1,6 @@
 use Rattle.std.proofs.Common.{◌≡◌, ◌+◌, length}
 use Rattle.dns_rdata.specs.Data.{data_octets}
-use Rattle.dns_rdata_c.proofs.filling.put_canonical.Given as goal
+use Rattle.dns_rdata_c.proofs.filling.fill_canonical.Given as goal
 
 -- the octets that were counted and those that are left are all
 abbrev pub invariant-pieces : goal.invariant-pieces

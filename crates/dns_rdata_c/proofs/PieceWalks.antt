@@ -1,0 +1,171 @@
+-- Pieces that are counted.
+use Rattle.std.proofs.Common.{◌≡◌, ◌∙◌, ◌↔◌, ℕ, ◌+◌, ◌-◌, ◌*◌, ◌/◌, ◌%◌, ◌<◌, ◌≤◌, ◌^◌, zero, suc, ⊎_elim, inl, inr, List, [], ◌∷◌, ◌++◌, length, take, drop, refl, sym, ap, subst, arith, append_assoc, length-append, length-take-le, Fits, w8, slice_index_or}
+use Rattle.std.proofs.Math.Facts.{Fits-lt-pow}
+use Rattle.std.proofs.lemmas.List.Elements.{All-from_get_or}
+use Rattle.std.specs.Int.{bytes_high_first}
+use Rattle.std.proofs.lemmas.List.{append-nil, drop-drop, drop_at, length-drop, take-append-drop}
+use Rattle.dns_fields.specs.Octets.{AreOctets}
+use Rattle.dns_fields.specs.Pieces.{Numbered, piece, pieces, IsPiece, ArePieces, IsCut}
+use Rattle.dns_fields.proofs.Numbers.{length-bytes, same_number}
+use Rattle.dns_fields.proofs.OctetLaws.{AreOctets-head, AreOctets-tail}
+use Rattle.dns_fields.proofs.Pieces.{first_piece, piece_before, length-piece}
+use Rattle.dns_rdata_c.specs.Pieces.{HasNoPiece, IsPieceLength, AreCounted}
+
+-- Pieces that stand in front are the same, and so is what is left, where no further piece stands there.
+pub same_split : (xs ys : List (Numbered (List ℕ))) (s t : List ℕ) → ArePieces xs → ArePieces ys → HasNoPiece s → HasNoPiece t → pieces xs ++ s ≡ pieces ys ++ t → (xs ≡ ys) × (s ≡ t)
+same_split [] [] s t f g h k e = (refl, e)
+same_split [] (y ∷ ys) s t f g h k e = absurd (h y (pieces ys ++ t) g.0 (e ∙ append_assoc (piece y) (pieces ys) t))
+same_split (x ∷ xs) [] s t f g h k e = absurd (k x (pieces xs ++ s) f.0 (sym e ∙ append_assoc (piece x) (pieces xs) s))
+same_split (x ∷ xs) (y ∷ ys) s t f g h k e =
+    let p = first_piece x y (pieces xs ++ s) (pieces ys ++ t) f.0 g.0 (sym (append_assoc (piece x) (pieces xs) s) ∙ e ∙ append_assoc (piece y) (pieces ys) t) in
+    let r = same_split xs ys s t f.1 g.1 h k p.1 in
+    (ap (λ (z : Numbered (List ℕ)). z ∷ xs) p.0 ∙ ap (λ (zs : List (Numbered (List ℕ))). y ∷ zs) r.0, r.1)
+
+-- what a slice of octets holds
+pub slice_octets : (s : List ℕ) → ((i : ℕ) → Fits w8 (slice_index_or s i 0)) → AreOctets s
+slice_octets s h = All-from_get_or (λ octet. octet < 256) s 0 (λ i inside. let small : slice_index_or s i 0 < 2 ^ 8 = Fits-lt-pow (h i) in small)
+
+-- ---- one piece
+
+-- the number of the first two octets
+number_of : (s : List ℕ) → AreOctets s → 2 ≤ length s → (n : ℕ) × (n < 256 ^ 2) × (bytes_high_first 2 n ≡ take 2 s)
+number_of [] o h = absurd (omega (arith, h))
+number_of (a ∷ []) o h = absurd (omega (arith, h))
+number_of (a ∷ b ∷ s) o h =
+    let high : a < 256 = AreOctets-head a (b ∷ s) o in
+    let low : b < 256 = AreOctets-head b s (AreOctets-tail a (b ∷ s) o) in
+    let n = a * 256 + b in
+    let first : n / 256 % 256 ≡ a = omega (arith, high, low) in
+    let second : n % 256 ≡ b = omega (arith, high, low) in
+    (n, omega (arith, high, low), ap (λ (x : ℕ). x ∷ n % 256 ∷ []) first ∙ ap (λ (x : ℕ). a ∷ x ∷ []) second)
+
+pub few_octets : (s : List ℕ) → length s < 4 → HasNoPiece s
+few_octets s h x rest fit e = omega (arith, h, ap length e, length-append (piece x) rest, length-piece x)
+
+-- the length of a piece that stands in front
+piece_says : (s : List ℕ) (n : ℕ) (x : Numbered (List ℕ)) (rest : List ℕ) → n < 256 ^ 2 → bytes_high_first 2 n ≡ take 2 (drop 2 s) → IsPiece x → s ≡ piece x ++ rest → n ≡ length x.1
+piece_says s n x rest h f fit e =
+    let second : take 2 (drop 2 s) ≡ bytes_high_first 2 (length x.1) = ap (λ (l : List ℕ). take 2 (drop 2 l)) (e ∙ piece_before x rest) in
+    same_number 2 n (length x.1) h fit.1 (f ∙ second)
+
+pub long_piece : (s : List ℕ) (n : ℕ) → n < 256 ^ 2 → bytes_high_first 2 n ≡ take 2 (drop 2 s) → length s < n + 4 → HasNoPiece s
+long_piece s n h f few x rest fit e = omega (arith, few, ap length e, length-append (piece x) rest, length-piece x, piece_says s n x rest h f fit e)
+
+-- two numbers and what is behind them
+two_numbers : (s : List ℕ) (k c : ℕ) → bytes_high_first 2 k ≡ take 2 s → bytes_high_first 2 c ≡ take 2 (drop 2 s) → s ≡ bytes_high_first 2 k ++ (bytes_high_first 2 c ++ drop 2 (drop 2 s))
+two_numbers s k c e f =
+    sym (take-append-drop 2 s) ∙ ap (λ (l : List ℕ). l ++ drop 2 s) (sym e)
+    ∙ ap (λ (l : List ℕ). bytes_high_first 2 k ++ l) (sym (take-append-drop 2 (drop 2 s)) ∙ ap (λ (l : List ℕ). l ++ drop 2 (drop 2 s)) (sym f))
+
+behind_two : (s : List ℕ) → length (drop 2 (drop 2 s)) ≡ length s - 4
+behind_two s = omega (arith, length-drop 2 (drop 2 s), length-drop 2 s)
+
+pub piece_stands : (s : List ℕ) (c : ℕ) → AreOctets s → c < 256 ^ 2 → bytes_high_first 2 c ≡ take 2 (drop 2 s) → c + 4 ≤ length s → IsPieceLength s (c + 4)
+piece_stands s c o h f few =
+    let k = number_of s o (omega (arith, few)) in
+    let t = drop 2 (drop 2 s) in
+    let size : length (take c t) ≡ c = length-take-le c t (omega (arith, few, behind_two s)) in
+    let x : Numbered (List ℕ) = (k.0, take c t) in
+    let whole : s ≡ bytes_high_first 2 k.0 ++ (bytes_high_first 2 (length (take c t)) ++ (take c t ++ drop c t)) =
+    two_numbers s k.0 c k.2 f
+    ∙ ap (λ (n : ℕ). bytes_high_first 2 k.0 ++ (bytes_high_first 2 n ++ t)) (sym size)
+    ∙ ap (λ (l : List ℕ). bytes_high_first 2 k.0 ++ (bytes_high_first 2 (length (take c t)) ++ l)) (sym (take-append-drop c t)) in
+    (x, drop c t, (k.1, omega (arith, size, h)), whole ∙ sym (piece_before x (drop c t)), omega (arith, length-piece x, size))
+
+-- ---- pieces one behind the other
+
+pub record Counting (s : List ℕ) (count end : ℕ) : Type 0 where
+  pub read : List (Numbered (List ℕ))
+  pub are : ArePieces read
+  pub rest : List ℕ
+  pub is : s ≡ pieces read ++ rest
+  pub many : count ≡ length read
+  pub ends : end ≡ length (pieces read)
+
+pub count_begins : (s : List ℕ) → Counting s 0 0
+count_begins s = record { read = []; are = tt; rest = s; is = refl; many = refl; ends = refl }
+
+pieces-append : (xs ys : List (Numbered (List ℕ))) → pieces (xs ++ ys) ≡ pieces xs ++ pieces ys
+pieces-append [] ys = refl
+pieces-append (x ∷ xs) ys = ap (λ (l : List ℕ). piece x ++ l) (pieces-append xs ys) ∙ sym (append_assoc (piece x) (pieces xs) (pieces ys))
+
+ArePieces-append : (xs ys : List (Numbered (List ℕ))) → ArePieces xs → ArePieces ys → ArePieces (xs ++ ys)
+ArePieces-append [] ys f g = g
+ArePieces-append (x ∷ xs) ys f g = (f.0, ArePieces-append xs ys f.1 g)
+
+few_pieces : (xs : List (Numbered (List ℕ))) → 4 * length xs ≤ length (pieces xs)
+few_pieces [] = omega arith
+few_pieces (x ∷ xs) = omega (arith, few_pieces xs, length-append (piece x) (pieces xs), length-piece x)
+
+-- the place is among the octets, and there are no more pieces than octets
+pub count_room : (s : List ℕ) (count end : ℕ) → Counting s count end → (count ≤ end) × (end ≤ length s)
+count_room s count end c = (omega (arith, c.many, c.ends, few_pieces c.read), omega (arith, c.ends, ap length c.is, length-append (pieces c.read) c.rest))
+
+behind : (s : List ℕ) (count end : ℕ) (c : Counting s count end) → drop end s ≡ c.rest
+behind s count end c = ap (drop end) c.is ∙ drop_at (pieces c.read) c.rest end (sym c.ends)
+
+pub count_on : (s : List ℕ) (count end n : ℕ) → Counting s count end → IsPieceLength (drop end s) n → Counting s (count + 1) (end + n)
+count_on s count end n c h =
+    let x = h.0 in
+    let rest : c.rest ≡ piece x ++ h.1 = sym (behind s count end c) ∙ h.3 in
+    let joined : pieces (c.read ++ x ∷ []) ≡ pieces c.read ++ piece x = pieces-append c.read (x ∷ []) ∙ ap (λ (l : List ℕ). pieces c.read ++ l) (append-nil (piece x)) in
+    record {
+      read = c.read ++ x ∷ [];
+      are = ArePieces-append c.read (x ∷ []) c.are (h.2, tt);
+      rest = h.1;
+      is = c.is ∙ ap (λ (l : List ℕ). pieces c.read ++ l) rest ∙ sym (append_assoc (pieces c.read) (piece x) h.1) ∙ ap (λ (l : List ℕ). l ++ h.1) (sym joined);
+      many = omega (arith, c.many, length-append c.read (x ∷ []));
+      ends = omega (arith, c.ends, h.4, ap length joined, length-append (pieces c.read) (piece x));
+    }
+
+pub count_further : (s : List ℕ) (count end n : ℕ) → Counting s count end → IsPieceLength (drop end s) n → (0 < n) × (end + n ≤ length s)
+count_further s count end n c h =
+    let further = count_on s count end n c h in
+    (omega (arith, h.4, length-piece h.0), (count_room s (count + 1) (end + n) further).1)
+
+pub count_ends : (s : List ℕ) (count end : ℕ) → Counting s count end → HasNoPiece (drop end s) → AreCounted s count end
+count_ends s count end c h = record {
+  read = c.read;
+  are = c.are;
+  rest = c.rest;
+  is = c.is;
+  many = c.many;
+  ends = c.ends;
+  none = subst HasNoPiece (behind s count end c) h;
+}
+
+-- ---- an option that is cut
+
+pub code_alone : (s : List ℕ) (n : ℕ) → AreOctets s → length s ≡ 2 → IsCut n s
+code_alone s n o h =
+    let k = number_of s o (omega (arith, h)) in
+    let none : drop 2 s ≡ [] = drop_none s h in
+    (k.0, k.1, inl (sym (take-append-drop 2 s) ∙ ap (λ (l : List ℕ). take 2 s ++ l) none ∙ append-nil (take 2 s) ∙ sym k.2))
+  where
+    drop_none : (s : List ℕ) → length s ≡ 2 → drop 2 s ≡ []
+    drop_none (a ∷ b ∷ []) h = refl
+    drop_none s h = absurd (omega (arith, h))
+
+pub cut_length : (s : List ℕ) (n : ℕ) → IsCut n s → length s < 4 → length s ≡ 2
+cut_length s n (code, h, inl e) few = omega (arith, ap length e, length-bytes 2 code)
+cut_length s n (code, h, inr r) few = absurd (omega (
+  arith,
+  few,
+  ap length r.5,
+  length-append (bytes_high_first 2 code) (bytes_high_first 2 r.0 ++ r.1),
+  length-append (bytes_high_first 2 r.0) r.1,
+  length-bytes 2 code,
+  length-bytes 2 r.0,
+))
+
+pub body_cut : (s : List ℕ) (n c : ℕ) → AreOctets s → 4 ≤ length s → c < 256 ^ 2 → bytes_high_first 2 c ≡ take 2 (drop 2 s) → c ≤ n → length s - 4 < c → IsCut n s
+body_cut s n c o few h f most long =
+    let k = number_of s o (omega (arith, few)) in
+    (k.0, k.1, inr (c, drop 2 (drop 2 s), h, most, omega (arith, behind_two s, long), two_numbers s k.0 c k.2 f))
+
+pub cut_says : (s : List ℕ) (n c : ℕ) → 4 ≤ length s → c < 256 ^ 2 → bytes_high_first 2 c ≡ take 2 (drop 2 s) → IsCut n s → (c ≤ n) × (length s - 4 < c)
+cut_says s n c few h f (code, k, inl e) = absurd (omega (arith, few, ap length e, length-bytes 2 code))
+cut_says s n c few h f (code, k, inr r) =
+    let second : take 2 (drop 2 s) ≡ bytes_high_first 2 r.0 = ap (λ (l : List ℕ). take 2 (drop 2 l)) r.5 in
+    let same : c ≡ r.0 = same_number 2 c r.0 h r.2 (f ∙ second) in
+    (omega (arith, same, r.3), omega (arith, same, ap length r.5, length-append (bytes_high_first 2 code) (bytes_high_first 2 r.0 ++ r.1), length-append (bytes_high_first 2 r.0) r.1, length-bytes 2 code, length-bytes 2 r.0, r.4))

@@ -1,0 +1,28 @@
+-- Where the octets of a name end that stands in a message: labels, and behind them an octet 0 or a pointer (RFC 1035, 3.1 and 4.1.4).
+use Rattle.std.specs.Prelude.{◌≡◌, ℕ, ◌<◌, ◌⊎◌, List, [], ◌∷◌, ◌++◌, length}
+use Rattle.dns_fields.specs.Labels.{AreLabels, wire}
+use Rattle.dns_fields.specs.Names.{pointer}
+
+-- an octet 0, or the two octets of a pointer
+abbrev pub IsLast : List ℕ → Type 0
+IsLast last = (last ≡ 0 ∷ []) ⊎ ((target : ℕ) × (target < 16384) × (last ≡ pointer target))
+
+-- labels, and what ends a name
+pub record AreNameOctets (octets : List ℕ) : Type 0 where
+  pub labels : List (List ℕ)
+  pub are : AreLabels labels
+  pub last : List ℕ
+  pub is_last : IsLast last
+  pub is : octets ≡ wire labels ++ last
+
+-- a name of n octets stands in front
+pub record IsNameLength (s : List ℕ) (n : ℕ) : Type 0 where
+  pub octets : List ℕ
+  pub are : AreNameOctets octets
+  pub rest : List ℕ
+  pub is : s ≡ octets ++ rest
+  pub many : n ≡ length octets
+
+-- no name stands in front
+abbrev pub HasNoNameEnd : List ℕ → Type 0
+HasNoNameEnd s = (octets rest : List ℕ) → AreNameOctets octets → s ≡ octets ++ rest → ⊥

@@ -1,0 +1,81 @@
+//! Canonical octets by those of a value with its names whole.
+
+ghost use Rattle.std.specs.Prelude.{◌≡◌, ◌≢◌, ◌+◌, ◌<◌, ◌≤◌, ◌⊎◌, IfSome, length as size};
+ghost use Rattle.dns_rdata.specs.Data.{data_octets, IsEmittable};
+ghost use Rattle.dns_rdata_c.specs.Buffers.{IsPut};
+ghost use Rattle.dns_rdata_c.specs.NameSpans.{lowered_at, HasNameAt};
+
+use crate::emitting::whole_octets;
+use crate::putting::put_octets;
+use crate::status::{BUFFER, MEMORY, OK, TOO_LONG};
+use dns_rdata::RData;
+use std::alloc::Global;
+
+/// Where the only name of a value stands among its octets with whole names, and how many octets it has; no octets where the
+/// value has no name. With these in lower case the octets are the canonical ones. `None` of SOA, which has two names, of
+/// NAPTR, whose name stands at no fixed place, and of OPT, whose options are put in order. Takes no memory.
+pub fn name_span(value: &RData) -> Option<(usize, usize)>
+    requires { IsEmittable value.now }
+    ensures { IfSome result (λ p. HasNameAt value.now p.0 p.1) }
+{
+    match value {
+        RData::ANAME(x) => Some((0, x.0.len())),
+        RData::CNAME(x) => Some((0, x.0.len())),
+        RData::NS(x) => Some((0, x.0.len())),
+        RData::PTR(x) => Some((0, x.0.len())),
+        RData::MX(x) => Some((2, x.exchange.len())),
+        RData::HTTPS(x) => Some((2, x.0.target_name.len())),
+        RData::SVCB(x) => Some((2, x.target_name.len())),
+        RData::SRV(x) => Some((6, x.target.len())),
+        RData::A(_) => Some((0, 0)),
+        RData::AAAA(_) => Some((0, 0)),
+        RData::CAA(_) => Some((0, 0)),
+        RData::CERT(_) => Some((0, 0)),
+        RData::CSYNC(_) => Some((0, 0)),
+        RData::HINFO(_) => Some((0, 0)),
+        RData::NULL(_) => Some((0, 0)),
+        RData::OPENPGPKEY(_) => Some((0, 0)),
+        RData::SMIMEA(_) => Some((0, 0)),
+        RData::SSHFP(_) => Some((0, 0)),
+        RData::TLSA(_) => Some((0, 0)),
+        RData::TXT(_) => Some((0, 0)),
+        RData::Unknown { .. } => Some((0, 0)),
+        _ => None,
+    }
+}
+
+// Puts so many octets from the place on in lower case.
+fn lower(octets: &mut [u8], start: usize, len: usize)
+    requires { start + len ≤ size octets.old }
+    ensures { octets.new ≡ lowered_at start len octets.old }
+{
+    octets[start..start + len].make_ascii_lowercase();
+}
+
+/// Puts the canonical octets of a value at the front of the buffer where they fit, and tells their number, by where its only
+/// name stands (`name_span`).
+pub fn put_lowered(
+    alloc: Global,
+    value: &RData,
+    start: usize,
+    len: usize,
+    out: &mut [u8],
+    count: &mut usize,
+) -> u32
+    requires emittable { IsEmittable value.now }
+    requires name { HasNameAt value.now start len }
+    ensures ok { result ≡ OK → IsPut (data_octets value.now) out.old out.new count.new }
+    ensures buffer { result ≡ BUFFER → (size out.old < size (data_octets value.now)) × (count.new ≡ size (data_octets value.now)) }
+    ensures too_long { result ≡ TOO_LONG → 65535 < size (data_octets value.now) }
+    ensures status { (result ≡ OK) ⊎ (result ≡ MEMORY) ⊎ (result ≡ BUFFER) ⊎ (result ≡ TOO_LONG) }
+    ensures kept { result ≢ OK → out.new ≡ out.old }
+    ensures untold { result ≢ OK → result ≢ BUFFER → count.new ≡ count.old }
+{
+    match whole_octets(alloc, value) {
+        Err(status) => status,
+        Ok(mut octets) => {
+            lower(octets.as_mut_slice(), start, len);
+            put_octets(octets.as_slice(), out, count)
+        }
+    }
+}

@@ -1,0 +1,85 @@
+//! Pieces that are gone over where they stand in a message, each a number, a length and octets. Takes no memory.
+
+ghost use Rattle.std.specs.Prelude.{◌≡◌, ◌↔◌, ◌+◌, ◌≤◌, length as size, take, drop, MatchOption, IsTrue};
+ghost use Rattle.std.specs.Int.{bytes_high_first};
+ghost use Rattle.dns_fields.specs.Pieces.{IsCut};
+ghost use Rattle.dns_rdata_c.specs.Pieces.{HasNoPiece, IsPieceLength, AreCounted, HoldsPieces, IsPieceOf};
+
+/// A piece: its code or key, where its octets begin, and how many they are.
+#[derive(Clone, Copy)]
+pub struct Part {
+    pub number: u16,
+    pub begin: usize,
+    pub count: usize,
+}
+
+// The number of two octets at a place, the higher first.
+fn number_at(octets: &[u8], at: usize) -> u16
+    requires { at + 2 ≤ size octets.now }
+    ensures { bytes_high_first 2 result ≡ take 2 (drop at octets.now) }
+{
+    u16::from_be_bytes([octets[at], octets[at + 1]])
+}
+
+// How many octets the piece has that stands at a place, if one does: a number and a length of two octets each, and as many octets
+// as the length says.
+fn piece_length(octets: &[u8], at: usize) -> Option<usize>
+    requires { at ≤ size octets.now }
+    ensures { MatchOption result (HasNoPiece (drop at octets.now)) (IsPieceLength (drop at octets.now)) }
+{
+    let left = octets.len() - at;
+    if left < 4 {
+        return None;
+    }
+    let length = number_at(octets, at + 2) as usize + 4;
+    if length > left {
+        return None;
+    }
+    Some(length)
+}
+
+/// How many pieces stand one behind the other, and where the last of them ends.
+pub fn count_pieces(octets: &[u8]) -> (usize, usize)
+    ensures { AreCounted octets.now result.0 result.1 }
+{
+    let mut count = 0usize;
+    let mut end = 0usize;
+    'pieces: loop {
+        match piece_length(octets, end) {
+            None => return (count, end),
+            Some(length) => {
+                count += 1;
+                end += length;
+            }
+        }
+    }
+}
+
+/// Whether these octets are an option that is cut, in data of so many octets.
+pub fn is_cut(octets: &[u8], most: u16) -> bool
+    ensures { IsTrue result ↔ IsCut most octets.now }
+{
+    let len = octets.len();
+    if len < 4 {
+        return len == 2;
+    }
+    let length = number_at(octets, 2);
+    length <= most && length as usize > len - 4
+}
+
+/// The piece of this number, with its place among the octets.
+pub fn piece_of(octets: &[u8], index: usize) -> Part
+    requires { HoldsPieces octets.now index }
+    ensures { IsPieceOf octets.now index result.number result.begin result.count }
+{
+    let mut at = 0usize;
+    for i in 0..index {
+        let count = number_at(octets, at + 2) as usize;
+        at += count + 4;
+    }
+    Part {
+        number: number_at(octets, at),
+        begin: at + 4,
+        count: number_at(octets, at + 2) as usize,
+    }
+}
