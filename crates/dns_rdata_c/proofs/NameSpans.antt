@@ -1,15 +1,18 @@
 -- Canonical octets by the octets with whole names.
-use Rattle.std.proofs.Common.{◌≡◌, ℕ, zero, suc, ◌+◌, ◌<◌, ◌≤◌, Bool, true, false, ◌&&◌, List, [], ◌∷◌, ◌++◌, length, take, drop, map, refl, sym, ◌∙◌, ap, subst, arith, append_assoc, if◌then◌else◌}
+use Rattle.std.proofs.Common.{◌≡◌, ℕ, zero, suc, ◌+◌, ◌<◌, ◌≤◌, Bool, true, false, ◌&&◌, List, [], ◌∷◌, ◌++◌, length, take, drop, map, refl, sym, ◌∙◌, ap, subst, arith, if◌then◌else◌}
 use Rattle.std.proofs.Common.{length-append, length-take-le}
 use Rattle.std.proofs.lemmas.List.{length-map, length-drop}
 use Rattle.std.specs.Cmp.{first_so, second_so}
 use Rattle.std.proofs.lemmas.Bool.Decides.{nat_tests}
 use Rattle.std.specs.Char.{to_ascii_lowercase}
 use Rattle.dns_fields.specs.Fields.{Kind, Number, Octets, Name, Text, Texts, Rest, Options, Parameters, Bitmap, Value, Values, field_octets, canonical}
-use Rattle.dns_fields.specs.Labels.{DomainName, IsLabel, AreLabels, IsName, wire, low_labels, lowered, lowname}
+use Rattle.dns_fields.specs.Labels.{DomainName, IsLabel, AreLabels, IsName, wire, low_labels, lowname}
 use Rattle.dns_fields.proofs.NameLaws.{low_wire}
 use Rattle.dns_fields.proofs.Numbers.{length-bytes}
 use Rattle.dns_rdata.specs.declared.record_data.RData.{RData}
+use Rattle.dns_rdata.specs.declared.record_data.RData.TheVariants as rdata
+use Rattle.dns_rdata.proofs.CursorSteps.{begins_at}
+use Rattle.dns_rdata_base.specs.declared.naptr.NAPTR.{NAPTR}
 use Rattle.dns_rdata.specs.Data.{fields_of, data_octets, IsEmittable}
 use Rattle.dns_rdata.specs.WholeOctets.{name_octets, whole_octets, all_whole, whole_data}
 use Rattle.dns_rdata_c.specs.NameSpans.{lowered_at, HasNameAt}
@@ -110,6 +113,20 @@ behind k kinds v vs s n h so = record {
 pub number_behind : (w : ℕ) (kinds : List Kind) (p : ℕ) (vs : Values kinds) (s n : ℕ) → LoweredIn kinds vs s n → LoweredIn (Number w ∷ kinds) (p, vs) (w + s) n
 unfolding field_octets
 number_behind w kinds p vs s n so = subst (λ (k : ℕ). LoweredIn (Number w ∷ kinds) (p, vs) (k + s) n) (length-bytes w p) (behind (Number w) kinds p vs s n refl so)
+
+-- a string in front
+pub text_behind : (kinds : List Kind) (t : List ℕ) (vs : Values kinds) (s n : ℕ) → LoweredIn kinds vs s n → LoweredIn (Text ∷ kinds) (t, vs) (length t + 1 + s) n
+unfolding field_octets
+text_behind kinds t vs s n so =
+    let same : suc (length t) + s ≡ length t + 1 + s = omega arith in
+    subst (λ (i : ℕ). LoweredIn (Text ∷ kinds) (t, vs) i n) same (behind Text kinds t vs s n refl so)
+
+pub moved : (kinds : List Kind) (vs : Values kinds) (s t n : ℕ) → s ≡ t → LoweredIn kinds vs s n → LoweredIn kinds vs t n
+moved kinds vs s t n e so = subst (λ (i : ℕ). LoweredIn kinds vs i n) e so
+
+-- the strings of NAPTR are short
+pub short_texts : (v : RData) (x : NAPTR) → v ≡ rdata.NAPTR x → IsEmittable v → (length x.flags < 256) × (length x.services < 256) × (length x.regexp < 256)
+short_texts v x e h = let short = begins_at (rdata.NAPTR x) (subst IsEmittable e h) in (short.1.1.0, short.1.1.1.0, short.1.1.1.1.0)
 
 -- ---- values
 

@@ -12,8 +12,8 @@ use dns_rdata::RData;
 use std::alloc::Global;
 
 /// Where the only name of a value stands among its octets with whole names, and how many octets it has; no octets where the
-/// value has no name. With these in lower case the octets are the canonical ones. `None` of SOA, which has two names, of
-/// NAPTR, whose name stands at no fixed place, and of OPT, whose options are put in order. Takes no memory.
+/// value has no name. With these in lower case the octets are the canonical ones. `None` of SOA, which has two names, and
+/// of OPT, whose options are put in order. Takes no memory.
 pub fn name_span(value: &RData) -> Option<(usize, usize)>
     requires { IsEmittable value.now }
     ensures { IfSome result (λ p. HasNameAt value.now p.0 p.1) }
@@ -27,6 +27,10 @@ pub fn name_span(value: &RData) -> Option<(usize, usize)>
         RData::HTTPS(x) => Some((2, x.0.target_name.len())),
         RData::SVCB(x) => Some((2, x.target_name.len())),
         RData::SRV(x) => Some((6, x.target.len())),
+        RData::NAPTR(x) => Some((
+            7 + x.flags.len() + x.services.len() + x.regexp.len(),
+            x.replacement.len(),
+        )),
         RData::A(_) => Some((0, 0)),
         RData::AAAA(_) => Some((0, 0)),
         RData::CAA(_) => Some((0, 0)),

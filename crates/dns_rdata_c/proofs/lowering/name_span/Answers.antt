@@ -1,6 +1,6 @@
-use Rattle.std.proofs.Common.{refl, [], ◌∷◌}
-use Rattle.dns_fields.specs.Fields.{Name, Parameters}
-use Rattle.dns_rdata_c.proofs.NameSpans.{name_first, number_behind, with_name, without_name}
+use Rattle.std.proofs.Common.{refl, [], ◌∷◌, arith}
+use Rattle.dns_fields.specs.Fields.{Parameters}
+use Rattle.dns_rdata_c.proofs.NameSpans.{short_texts, text_behind, moved, name_first, number_behind, with_name, without_name}
 use Rattle.dns_rdata_c.proofs.lowering.name_span.Goals as goal
 
 pub returns-in-ANAME : goal.returns-in-ANAME
@@ -70,3 +70,19 @@ returns-in-TXT c = without_name _ _ c.in-TXT.is c.requires refl
 
 pub returns-in-Unknown : goal.returns-in-Unknown
 returns-in-Unknown c = without_name _ _ c.in-Unknown.is c.requires refl
+
+pub overflow_add-result : goal.overflow_add-result
+overflow_add-result c = let short = short_texts _ _ c.in-NAPTR.is c.requires in omega (arith, short.0, c.len-in-NAPTR.ensures)
+
+pub overflow_add-result-in-NAPTR : goal.overflow_add-result-in-NAPTR
+overflow_add-result-in-NAPTR c = let short = short_texts _ _ c.in-NAPTR.is c.requires in omega (arith, short.0, short.1, c.len-in-NAPTR.ensures, c.len-in-NAPTR-2.ensures)
+
+pub overflow_add-result-in-NAPTR-2 : goal.overflow_add-result-in-NAPTR-2
+overflow_add-result-in-NAPTR-2 c = let short = short_texts _ _ c.in-NAPTR.is c.requires in
+    omega (arith, short.0, short.1, short.2, c.len-in-NAPTR.ensures, c.len-in-NAPTR-2.ensures, c.len-in-NAPTR-3.ensures)
+
+pub returns-in-NAPTR : goal.returns-in-NAPTR
+returns-in-NAPTR c = with_name _ _ _ _ c.in-NAPTR.is c.requires (moved _ _ _ _ _ (omega (arith, c.len-in-NAPTR.ensures, c.len-in-NAPTR-2.ensures, c.len-in-NAPTR-3.ensures))
+    (number_behind 2 _ _ _ _ _ (number_behind 2 _ _ _ _ _
+    (text_behind _ c.in-NAPTR.x.flags _ _ _ (text_behind _ c.in-NAPTR.x.services _ _ _ (text_behind _ c.in-NAPTR.x.regexp _ 0 _
+    (name_first [] _ tt _ refl c.len-in-NAPTR-4.ensures.name c.len-in-NAPTR-4.ensures.value)))))))
