@@ -10,8 +10,8 @@
  *    overlaps no other buffer of the call. Lengths are in octets, true, and at most SIZE_MAX / 2.
  *  - `message` is any octets, well formed or not. `place` counts from its first octet, and may be past its end. Only the
  *    octets that the data and the pointers of its names lead to are looked at.
- *  - Values are made by malloc and freed before the call returns. Where malloc fails the answer is DNS_RDATA_MEMORY, and
- *    nothing is lost. Of some calls it is said that they take no memory.
+ *  - Values are made by malloc and freed before the call returns. Where malloc fails the answer is DNS_RDATA_MEMORY, or
+ *    the right one all the same, and nothing is lost. Of some calls it is said that they take no memory.
  *  - Calls keep no state: threads may call at the same time. Not for signal handlers.
  *  - The answer is a status, DNS_RDATA_OK or why not. From DNS_RDATA_REFUSED on, the octets are the data of no record of that
  *    type; from DNS_RDATA_NO_DATA_TEXT on, the text is of none. Neither is ever answered for octets or texts that are.
