@@ -11,7 +11,7 @@ use byteorder::{ByteOrder, LittleEndian};
 use smallvec::SmallVec;
 use std::alloc::{AllocError, Global};
 
-// odd numbers without a pattern, one for each eight octets from the end of a name
+// The weights of a hash: odd numbers without a pattern, one for each eight octets from the end of a name.
 const WEIGHTS: [u64; 64] = [
     0x2cb0_f69f_4abe_a221,
     0x9417_0347_2314_8989,
@@ -82,16 +82,16 @@ const WEIGHTS: [u64; 64] = [
 /// A pointer has 14 bits for a place (RFC 1035, 4.1.4).
 const PLACES: usize = 16384;
 
-// no further entry
+// Stands for no entry.
 const NONE: u16 = 65535;
 
-// up to so many entries are one chain
+// Up to so many entries are one chain, and have no buckets.
 const FEW: usize = 16;
 
-// so many entries of a chain are looked at: a longer one is made by names that were chosen for it
+// At most so many entries of a chain are looked at. Only names that were chosen for it make a longer chain.
 const TRIES: usize = 64;
 
-// where a hash is mixed once more
+// The factor by which a hash is mixed before it is cut to 32 bits.
 const FACTOR: u64 = 0x9e37_79b9_7f4a_7c15;
 
 /// The hash of a name's octets.
@@ -166,7 +166,8 @@ fn short_hash(hash: u64) -> u32 {
     ((hash ^ (hash >> 32)).wrapping_mul(FACTOR) >> 32) as u32
 }
 
-// Which of so many buckets a hash is in: their number is a power of two, so the hash's last bits tell, without a division.
+// Which of so many buckets a hash is in. Their number is a power of two, so that the last bits of the hash are the answer,
+// without a division.
 #[inline]
 fn bucket_of(hash: u32, count: usize) -> usize
     requires { 0 < count }
@@ -205,7 +206,7 @@ const NOWHERE: Standing = Standing {
 };
 
 impl Standing {
-    // Whether the octets, which are labels, stand there.
+    // Whether these octets, which are labels, stand at the place as a name.
     #[inline]
     fn has(self, message: &[u8], octets: &[u8]) -> bool
         requires short { length octets.now ≤ 254 }
@@ -231,8 +232,8 @@ impl Standing {
     }
 }
 
-// Whether a label of the first one's length stands there that ends in the same octet: names of one zone that follow one
-// another mostly differ in that.
+// Whether the label at the place has the length and the last octet of the first label. Names of one zone that follow one
+// another mostly differ in one of these.
 #[inline]
 fn begins_alike(message: &[u8], place: usize, octets: &[u8]) -> bool {
     if octets.len() == 0 || place >= message.len() || message[place] != octets[0] {
@@ -247,17 +248,17 @@ fn begins_alike(message: &[u8], place: usize, octets: &[u8]) -> bool {
 /// They are hints: a place is used only where the octets that stand there are the name's.
 #[derive(Drop)]
 pub struct Places {
-    // the first ones stand in the value itself
+    // The first eight entries stand in the value itself.
     entries: SmallVec<Entry, 8>,
-    // none while the entries are few
+    // There are no buckets while the entries are few.
     buckets: Vec<Bucket>,
-    // the names that were noted or found last, which the next one often is; at first none
+    // The names that were noted or found last and before that. The next name is often one of these. At first there are none.
     recent: Standing,
     earlier: Standing,
-    // the place of the first name, which is noted only where another is sought, since many a message has no other, and how
-    // many octets it has; none where it is noted
-    waiting: u16,
-    waiting_len: u16,
+    // The place of the message's first name and how many octets it has; 0 octets once it is noted. It is noted only when
+    // another name is sought, since many a message has no other.
+    deferred: u16,
+    deferred_len: u16,
 }
 
 impl Places {
@@ -268,15 +269,15 @@ impl Places {
             buckets: Vec::new(alloc),
             recent: NOWHERE,
             earlier: NOWHERE,
-            waiting: 0,
-            waiting_len: 0,
+            deferred: 0,
+            deferred_len: 0,
         }
     }
 
-    /// Whether no name is noted, nor waits for that.
+    /// Whether no name is noted, and none is deferred.
     #[inline]
     pub(crate) fn is_empty(&self) -> bool {
-        self.entries.len() == 0 && self.waiting_len == 0
+        self.entries.len() == 0 && self.deferred_len == 0
     }
 
     #[inline]
@@ -298,16 +299,17 @@ impl Places {
         if octets.len() == 0 || place >= PLACES {
             return None;
         }
-        // the last one, where it stands whole, is looked at without a call
+        // The last name is looked at without a call, where it stands whole.
         if self.recent.front as usize == octets.len() && stands_whole(message, place, octets) {
             return Some(place);
         }
-        self.stands_otherwise(message, octets)
+        self.stands_in_part(message, octets)
     }
 
-    // The same of the last one where a pointer stands behind some of its labels, and of the one before.
+    // The place of the last name, where a pointer stands behind some of its labels, or of the one before, where the octets
+    // stand there.
     #[inline(never)]
-    fn stands_otherwise(&self, message: &[u8], octets: &[u8]) -> Option<usize>
+    fn stands_in_part(&self, message: &[u8], octets: &[u8]) -> Option<usize>
         requires short { length octets.now ≤ 254 }
         requires labels { (labels : List (List ℕ)) × AreLabels labels × (octets.now ≡ wire labels) }
         ensures { IfSome result (λ q. (q < 16384) × StandsFor message.now q octets.now) }
@@ -375,7 +377,7 @@ impl Places {
         requires { AreNameOctets octets.now }
         ensures { IsNameCut message.now octets.now result.0 result.1 }
     {
-        // most often all of it stands already, or nothing
+        // Most often the whole name stands already, or nothing of it.
         if self.entries.len() > 0 && octets.len() > 0 {
             if let Some(target) = self.find(message, octets, short_hash(hash)) {
                 self.remember(target);
@@ -386,7 +388,7 @@ impl Places {
         (octets.len(), None)
     }
 
-    // The same of the tails behind the first label.
+    // Where the longest tail behind the first label begins that stands in the message already, and its place.
     #[inline(never)]
     fn shorter_tail(&self, message: &[u8], octets: &[u8], hash: u64) -> (usize, Option<usize>)
         requires { AreNameOctets octets.now }
@@ -407,23 +409,23 @@ impl Places {
         (cut, None)
     }
 
-    /// Remembers where the first name was written, without a hash: `settle` notes it.
+    /// Remembers where the first name was written, without a hash. `note_deferred` notes it.
     #[inline]
-    pub(crate) fn wait(&mut self, start: usize, written: usize) {
+    pub(crate) fn defer(&mut self, start: usize, written: usize) {
         if start < PLACES && written > 0 && written < 256 {
             self.remember(Standing {
                 place: start as u16,
                 front: written as u16,
             });
-            self.waiting = start as u16;
-            self.waiting_len = written as u16;
+            self.deferred = start as u16;
+            self.deferred_len = written as u16;
         }
     }
 
-    /// Notes the first name, if it waits, so that it is found.
+    /// Notes the first name, if that was deferred, so that it is found.
     #[inline]
-    pub(crate) fn settle(&mut self, message: &[u8]) -> Result<(), AllocError> {
-        if self.waiting_len > 0 {
+    pub(crate) fn note_deferred(&mut self, message: &[u8]) -> Result<(), AllocError> {
+        if self.deferred_len > 0 {
             self.note_first(message)?;
         }
         Ok(())
@@ -431,8 +433,8 @@ impl Places {
 
     #[inline(never)]
     fn note_first(&mut self, message: &[u8]) -> Result<(), AllocError> {
-        let (start, len) = (self.waiting as usize, self.waiting_len as usize);
-        self.waiting_len = 0;
+        let (start, len) = (self.deferred as usize, self.deferred_len as usize);
+        self.deferred_len = 0;
         if start < message.len() && len <= message.len() - start {
             let name = &message[start..start + len];
             self.note_labels(start, name, len, name_hash(name))?;
@@ -476,7 +478,7 @@ impl Places {
             }
             self.push((start + at) as u16, short_hash(hash))?;
             let end = written.min(at + name[at] as usize + 1);
-            // behind the last label there is no hash to find
+            // Behind the last label no hash is needed.
             if end >= written {
                 return Ok(());
             }

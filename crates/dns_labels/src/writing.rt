@@ -66,7 +66,7 @@ fn cut_at_tail(places: &mut Places, message: &[u8], name: &[u8]) -> Result<Cut, 
             note: Note::First,
         });
     }
-    places.settle(message)?;
+    places.note_deferred(message)?;
     let hash = name_hash(name);
     let (written, target) = places.longest_tail(message, name, hash);
     Ok(Cut {
@@ -83,7 +83,7 @@ fn note_whole(places: &mut Places, message: &[u8], name: &[u8]) -> Result<Note, 
     if places.is_empty() {
         return Ok(Note::First);
     }
-    places.settle(message)?;
+    places.note_deferred(message)?;
     let hash = name_hash(name);
     if places.stands(message, name, hash) {
         return Ok(Note::Nothing);
@@ -229,7 +229,7 @@ fn write_new(
     out.reserve(len)?;
     match cut.note {
         Note::Nothing => {}
-        Note::First => places.wait(start, cut.written),
+        Note::First => places.defer(start, cut.written),
         Note::Hash(hash) => places.note(start, name, cut.written, hash)?,
     }
     append_front(out, front)?;

@@ -1,12 +1,12 @@
 -- The first difference of two lists, and what they begin with.
-use Rattle.std.proofs.Common.{◌≡◌, ◌≢◌, ℕ, ◌+◌, ◌==◌, true, Bool, if◌then◌else◌, Option, Some, None, MatchOption, is_some, subst, List, [], ◌∷◌, ◌++◌, length, refl, sym, ap, ◌∙◌, arith}
+use Rattle.std.proofs.Common.{◌≡◌, ◌≢◌, ℕ, ◌+◌, ◌==◌, true, false, Bool, if◌then◌else◌, Option, Some, None, MatchOption, is_some, subst, List, [], ◌∷◌, ◌++◌, length, refl, sym, ap, ◌∙◌, arith}
 use Rattle.std.proofs.lemmas.Bool.Decides.{nat_tests}
 use Rattle.std.specs.Cmp.{tied_itself, nat_cmp_total}
 use Rattle.std.specs.Cmp.Lexicographic.{slice_cmp}
 use Rattle.std.specs.Ordering.{nat_cmp, ordering_then}
 use Rattle.std.specs.declared.cmp.Ordering.{Ordering}
 use Rattle.std.specs.declared.cmp.Ordering.TheVariants.{Less, Equal, Greater}
-use Rattle.dns_pieces.specs.Runs.{Shares, common}
+use Rattle.dns_pieces.specs.Runs.{Shares, common, next_order}
 
 same_octet : (x : ℕ) → (x == x) ≡ true
 same_octet x = grind (arith, nat_tests)
@@ -57,17 +57,50 @@ they_agree a b c d x y e f h = rw (e, f, h) (sym (cmp_one y c d))
 pub they_share : (a b c d : List ℕ) (x y : ℕ) → a ≡ x ∷ c → b ≡ y ∷ d → x ≡ y → common a b ≡ common c d + 1
 they_share a b c d x y e f h = rw (e, f, h) (common_one y c d)
 
--- ---- by what a cursor answered
+-- ---- by what two cursors answered
 
-pub at_none : (P : Type 0) (Q : ℕ → Type 0) (r : Option ℕ) → r ≡ None → MatchOption r P Q → P
-at_none P Q None e h = h
-at_none P Q (Some x) e h = cc e
+-- what the next octet is, of the octets before and behind it
+abbrev pub NextGives : Option ℕ → List ℕ → List ℕ → Type 0
+NextGives r a c = MatchOption r ((a ≡ []) × (c ≡ [])) (λ x. a ≡ x ∷ c)
 
-pub at_some : (P : Type 0) (Q : ℕ → Type 0) (r : Option ℕ) (x : ℕ) → r ≡ Some x → MatchOption r P Q → Q x
-at_some P Q r x e h = subst (λ (o : Option ℕ). MatchOption o P Q) e h
+as_told : (p o : Ordering) (a b : List ℕ) → Some o ≡ Some p → p ≡ slice_cmp nat_cmp a b → o ≡ slice_cmp nat_cmp a b
+as_told p o a b h e = let k : o ≡ p = cc h in k ∙ e
 
-pub one_taken : (r : Option ℕ) (x n m : ℕ) → r ≡ Some x → n ≡ m + (if is_some r then 1 else 0) → n ≡ m + 1
-one_taken r x n m e h = subst (λ (o : Option ℕ). n ≡ m + (if is_some o then 1 else 0)) e h
+told_by : (t : Bool) (a b c d : List ℕ) (x y : ℕ) (o : Ordering) → (x == y) ≡ t → a ≡ x ∷ c → b ≡ y ∷ d
+    → Some o ≡ (if t then None else Some (nat_cmp x y)) → o ≡ slice_cmp nat_cmp a b
+told_by true a b c d x y o is e f h = cc h
+told_by false a b c d x y o is e f h = as_told (nat_cmp x y) o a b h (they_differ a b c d x y (nat_cmp x y) e f (λ same. grind (arith, nat_tests, is, same)) refl)
+
+-- they tell the order
+pub order_told : (r s : Option ℕ) (a b c d : List ℕ) (o : Ordering) → NextGives r a c → NextGives s b d → Some o ≡ next_order r s → o ≡ slice_cmp nat_cmp a b
+order_told None None a b c d o e f h = as_told Equal o a b h (both_end a b e.0 f.0)
+order_told None (Some y) a b c d o e f h = as_told Less o a b h (first_ends a b d y e.0 f)
+order_told (Some x) None a b c d o e f h = as_told Greater o a b h (second_ends a b c x e f.0)
+order_told (Some x) (Some y) a b c d o e f h = told_by (x == y) a b c d x y o refl e f h
+
+-- both lists go on with one octet
+pub record GoesOn (r s : Option ℕ) (a b c d : List ℕ) : Type 0 where
+  pub order : slice_cmp nat_cmp c d ≡ slice_cmp nat_cmp a b
+  pub common : common a b ≡ common c d + 1
+  pub first : is_some r ≡ true
+  pub second : is_some s ≡ true
+
+same_by : (t : Bool) (a b c d : List ℕ) (x y : ℕ) → (x == y) ≡ t → a ≡ x ∷ c → b ≡ y ∷ d
+    → None ≡ (if t then None else Some (nat_cmp x y)) → GoesOn (Some x) (Some y) a b c d
+same_by true a b c d x y is e f h =
+    let same : x ≡ y = grind (arith, nat_tests, is) in
+    record { order = they_agree a b c d x y e f same; common = they_share a b c d x y e f same; first = refl; second = refl }
+same_by false a b c d x y is e f h = cc h
+
+-- they do not tell it
+pub goes_on : (r s : Option ℕ) (a b c d : List ℕ) → NextGives r a c → NextGives s b d → None ≡ next_order r s → GoesOn r s a b c d
+goes_on None None a b c d e f h = cc h
+goes_on None (Some y) a b c d e f h = cc h
+goes_on (Some x) None a b c d e f h = cc h
+goes_on (Some x) (Some y) a b c d e f h = same_by (x == y) a b c d x y refl e f h
+
+pub one_taken : (r : Option ℕ) (n m : ℕ) → is_some r ≡ true → n ≡ m + (if is_some r then 1 else 0) → n ≡ m + 1
+one_taken r n m e h = subst (λ (t : Bool). n ≡ m + (if t then 1 else 0)) e h
 
 pub then_equal : (o : Ordering) → ordering_then o Equal ≡ o
 then_equal Less = refl

@@ -1,5 +1,8 @@
 -- Octets at hand.
-use Rattle.std.specs.Prelude.{◌≡◌, ◌==◌, ◌+◌, ◌≤◌, length, take, drop, min, ℕ, Bool, List, [], ◌∷◌, ◌++◌, if◌then◌else◌}
+use Rattle.std.specs.Prelude.{◌≡◌, ◌==◌, ◌+◌, ◌≤◌, length, take, drop, min, ℕ, Bool, Option, Some, None, List, [], ◌∷◌, ◌++◌, if◌then◌else◌}
+use Rattle.std.specs.Ordering.{nat_cmp}
+use Rattle.std.specs.declared.cmp.Ordering.{Ordering}
+use Rattle.std.specs.declared.cmp.Ordering.TheVariants.{Less, Equal, Greater}
 use Rattle.dns_labels.specs.Comparing.{lowered_octets}
 
 -- the octets of a slice, or the canonical ones of a name whose labels they are
@@ -30,3 +33,10 @@ pub record HasCopied (n : ℕ) (old new buffer filled : List ℕ) : Type 0 where
 pub record Copies (n : ℕ) (old new buffer filled : List ℕ) : Type 0 where
   pub count : n ≡ min (length old) (length buffer)
   pub copied : HasCopied n old new buffer filled
+
+-- how two lists are ordered by their next octets, where these tell it
+abbrev pub next_order : Option ℕ → Option ℕ → Option Ordering
+next_order None None = Some Equal
+next_order None (Some y) = Some Less
+next_order (Some x) None = Some Greater
+next_order (Some x) (Some y) = if x == y then None else Some (nat_cmp x y)

@@ -6,10 +6,25 @@ ghost use Rattle.std.specs.Int.{bytes_high_first};
 ghost use Rattle.std.specs.Ordering.{nat_cmp, ordering_then};
 ghost use Rattle.dns_fields.specs.Fields.{Name as NameKind, Number, Rest, Text, field_octets};
 ghost use Rattle.dns_fields.specs.Labels.{AreLabels};
+ghost use Rattle.dns_pieces.specs.Runs.{next_order};
 
 use crate::tail::Tail;
 use dns_names_wire::Name;
 use std::cmp::Ordering;
+
+/// How two lists of octets are ordered by the next octet of each, where these tell it: a list that has ended comes before
+/// one that goes on. `None` where both give the same octet.
+#[inline(always)]
+pub fn next_order(a: Option<u8>, b: Option<u8>) -> Option<Ordering>
+    ensures { result ≡ next_order a b }
+{
+    match (a, b) {
+        (None, None) => Some(Ordering::Equal),
+        (None, Some(_)) => Some(Ordering::Less),
+        (Some(_), None) => Some(Ordering::Greater),
+        (Some(x), Some(y)) => { if x == y { None } else { Some(x.cmp(&y)) } }
+    }
+}
 
 /// By the first octet that differs, a proper beginning before what goes on: what `cmp` of slices answers, quicker.
 #[inline]
@@ -29,13 +44,14 @@ pub fn octets_cmp(a: &[u8], b: &[u8]) -> Ordering
         }
         at += 8;
     }
-    // the last eight, of which some are known to be the same
+    // The last eight octets of the shorter one lap over some that are known to be the same.
     let x = word(&a[shorter - 8..shorter]);
     let y = word(&b[shorter - 8..shorter]);
     x.cmp(&y).then(a.len().cmp(&b.len()))
 }
 
-// The same where the shorter has less than eight: its first four, and its last four, of which some may be known.
+// The order of octets where one list has fewer than eight: by the first four of the shorter one, and then by its last four,
+// which may lap over those.
 #[inline]
 fn few_cmp(a: &[u8], b: &[u8]) -> Ordering
     requires { (length a.now < 8) ⊎ (length b.now < 8) }

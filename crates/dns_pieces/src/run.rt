@@ -7,6 +7,7 @@ ghost use Rattle.dns_pieces.specs.Runs.{Shares, Copies};
 
 use crate::common::common_few;
 use crate::head::Head;
+use crate::order::next_order;
 use crate::tail::{Tail, copy_front};
 use std::cmp::Ordering;
 use std::marker::Model;
@@ -108,17 +109,10 @@ impl<'a> Run<'a> {
         ensures { result ≡ slice_cmp nat_cmp self.old other.old }
     {
         'octets: loop {
-            match (self.next(), other.next()) {
-                (None, None) => return Ordering::Equal,
-                (None, Some(_)) => return Ordering::Less,
-                (Some(_), None) => return Ordering::Greater,
-                (Some(x), Some(y)) => {
-                    if x != y {
-                        return x.cmp(&y);
-                    }
-                }
-            }
-            self.skip_common(other);
+            match next_order(self.next(), other.next()) {
+                Some(order) => return order,
+                None => self.skip_common(other),
+            };
         }
     }
 }

@@ -8,6 +8,7 @@ ghost use Rattle.dns_fields.specs.Fields.{Name as NameKind, Rest, field_octets};
 ghost use Rattle.dns_pieces.specs.Runs.{Shares, Copies};
 
 use crate::common::{common_beginning, common_lowered};
+use crate::order::next_order;
 use dns_names_wire::Name;
 use std::cmp::Ordering;
 use std::marker::Model;
@@ -136,22 +137,15 @@ impl<'a> Tail<'a> {
         self.compare_next(other)
     }
 
-    // The same, where mostly the next octets differ.
+    // The order of the two where their next octets mostly differ, so that these are compared first.
     fn compare_next(&mut self, other: &mut Tail<'_>) -> Ordering
         ensures { result ≡ slice_cmp nat_cmp self.old other.old }
     {
         'octets: loop {
-            match (self.next(), other.next()) {
-                (None, None) => return Ordering::Equal,
-                (None, Some(_)) => return Ordering::Less,
-                (Some(_), None) => return Ordering::Greater,
-                (Some(x), Some(y)) => {
-                    if x != y {
-                        return x.cmp(&y);
-                    }
-                }
-            }
-            self.skip_common(other);
+            match next_order(self.next(), other.next()) {
+                Some(order) => return order,
+                None => self.skip_common(other),
+            };
         }
     }
 }
@@ -167,7 +161,7 @@ pub(crate) fn copy_front(octets: &[u8], buffer: &mut [u8]) -> usize
     n
 }
 
-// The same in lower case.
+// Copies octets to the front of a buffer in lower case, as many as fit, and answers how many these are.
 #[inline]
 fn copy_lowered(octets: &[u8], buffer: &mut [u8]) -> usize
     ensures count { result ≡ min (size octets.now) (size buffer.old) }

@@ -11,6 +11,7 @@ ghost use Rattle.dns_rdata.specs.Data.{data_octets, IsEmittable};
 ghost use Rattle.dns_rdata.specs.Cursor.{can_emit, data_left, data_windows, data_options, data_options_left, IsUncounted, DataAt, DataKept, IsAt, KeepsAt, Chooses, Advances, StepsOn, RefillsBy, Skips};
 
 use crate::record_data::RData;
+use dns_pieces::order::next_order;
 use dns_pieces::{Count, Head, Run, Step, Tail};
 use dns_rdata_base::steps::{
     a_step, aaaa_step, hinfo_is_emittable, hinfo_step, mx_step, name_step, naptr_is_emittable,
@@ -25,7 +26,7 @@ use std::cmp::Ordering;
 use std::marker::Model;
 
 impl RData {
-    // What comes next behind a place, where no step is counted.
+    //     The step behind a place of a record whose steps are not counted.
     fn plain_step<'a>(
         &'a self,
         step: usize,
@@ -65,7 +66,7 @@ impl RData {
         }
     }
 
-    // What comes next behind a place.
+    //     The step behind a place of the data.
     #[inline]
     fn step<'a>(
         &'a self,
@@ -179,7 +180,7 @@ impl RData {
     }
 }
 
-// What comes next behind a place of the data, if there are any.
+// The step behind a place of the data, where there are data and a step.
 #[inline]
 fn next_step<'a>(
     source: Option<&'a RData>,
@@ -316,7 +317,7 @@ impl<'a> CanonicalOctets<'a> {
         }
     }
 
-    // Takes octets that both begin with.
+    //     Takes from both as many octets as both begin with, of those at hand in one piece.
     #[inline]
     fn skip_common(&mut self, other: &mut CanonicalOctets<'_>)
         ensures { Skips self.old self.new other.old other.new }
@@ -340,17 +341,10 @@ impl<'a> CanonicalOctets<'a> {
         ensures other_passes { other.old.passes + other.old.windows ≡ other.new.passes + other.new.windows }
     {
         'octets: loop {
-            match (self.next(), other.next()) {
-                (None, None) => return Ordering::Equal,
-                (None, Some(_)) => return Ordering::Less,
-                (Some(_), None) => return Ordering::Greater,
-                (Some(x), Some(y)) => {
-                    if x != y {
-                        return x.cmp(&y);
-                    }
-                }
+            match next_order(self.next(), other.next()) {
+                Some(order) => return order,
+                None => self.skip_common(other),
             }
-            self.skip_common(other);
         }
     }
 }

@@ -46,7 +46,7 @@ use dns_rdata_sets::steps::caa_is_emittable;
 use dns_rdata_sets::{CAA, CSYNC};
 use std::cmp::Ordering;
 
-// The order that was found, but none where it ties two values that are not equal.
+// The order that was found. `None` where it ties two values that are not equal.
 #[inline]
 fn unless_tied<T: PartialEq>(order: Ordering, a: &T, b: &T) -> Option<Ordering>
     ensures { IfSome result (λ o. (o ≡ order) × (o ≡ Equal → T.eq a.now b.now ≡ true)) }
@@ -58,7 +58,7 @@ fn unless_tied<T: PartialEq>(order: Ordering, a: &T, b: &T) -> Option<Ordering>
     }
 }
 
-// Octets to the end are equal where they tie.
+// The order of two records of octets to the end, which are equal where they tie.
 #[inline]
 fn rest_quick_cmp(a: &SmallOctets<64>, b: &SmallOctets<64>) -> Option<Ordering>
     ensures { IfSomeFieldOrder (Rest ∷ []) (a.now, tt) (b.now, tt) result }
@@ -66,7 +66,8 @@ fn rest_quick_cmp(a: &SmallOctets<64>, b: &SmallOctets<64>) -> Option<Ordering>
     Some(rest_order(a.as_slice(), b.as_slice()))
 }
 
-// Strings are equal where their octets tie. Of others the order is found only if all can be emitted.
+// The order of two TXT. Strings are equal where their octets tie; of other strings the order is found only if all can be
+// emitted.
 #[inline]
 fn txt_quick_cmp(a: &TXT, b: &TXT) -> Option<Ordering>
     ensures { IfSomeFieldOrder txt_shape (txt_fields a.now) (txt_fields b.now) result }
@@ -81,7 +82,8 @@ fn txt_quick_cmp(a: &TXT, b: &TXT) -> Option<Ordering>
     Some(order)
 }
 
-// The two strings are equal where their octets tie. Of others the order is found only if all can be emitted.
+// The order of two HINFO. Both strings are equal where their octets tie; else the order is found only if all can be
+// emitted.
 #[inline]
 fn hinfo_quick_cmp(a: &HINFO, b: &HINFO) -> Option<Ordering>
     ensures { IfSomeFieldOrder hinfo_shape (hinfo_fields a.now) (hinfo_fields b.now) result }
@@ -96,7 +98,7 @@ fn hinfo_quick_cmp(a: &HINFO, b: &HINFO) -> Option<Ordering>
     Some(order)
 }
 
-// Found only if all strings can be emitted, and not where two records tie that are not equal.
+// The order of two NAPTR. It is found only if all strings can be emitted, and not where two records tie that are not equal.
 #[inline]
 fn naptr_quick_cmp(a: &NAPTR, b: &NAPTR) -> Option<Ordering>
     ensures { IfSomeFieldOrder naptr_shape (naptr_fields a.now) (naptr_fields b.now) result }
@@ -115,7 +117,7 @@ fn has_same_flags(a: &CAA, b: &CAA) -> bool
     a.issuer_critical == b.issuer_critical && a.reserved_flags == b.reserved_flags
 }
 
-// Where the octets tie, tag and value are equal, and the flags are compared.
+// The order of two CAA. Where their octets tie, tag and value are equal, and the flags are compared.
 #[inline]
 fn caa_quick_cmp(a: &CAA, b: &CAA) -> Option<Ordering>
     ensures { IfSomeOrder caa_shape (caa_fields a.now) (caa_fields b.now) (values_eq caa_key_shape (caa_keys a.now) (caa_keys b.now)) result }
@@ -134,7 +136,7 @@ fn caa_quick_cmp(a: &CAA, b: &CAA) -> Option<Ordering>
     Some(order)
 }
 
-// Found but where two records tie that are not equal.
+// The order of two CSYNC. It is not found where two records tie that are not equal.
 #[inline]
 fn csync_quick_cmp(a: &CSYNC, b: &CSYNC) -> Option<Ordering>
     ensures { IfSomeOrder csync_shape (csync_fields a.now) (csync_fields b.now) (values_eq csync_key_shape (csync_keys a.now) (csync_keys b.now)) result }
@@ -142,7 +144,7 @@ fn csync_quick_cmp(a: &CSYNC, b: &CSYNC) -> Option<Ordering>
     unless_tied(csync_order(a, b), a, b)
 }
 
-// The order that was found, but none where it ties.
+// The order that was found. `None` where it ties.
 #[inline]
 fn if_differing(order: Ordering) -> Option<Ordering>
     ensures { IfSome result (λ o. (o ≡ order) × (o ≢ Equal)) }
@@ -150,7 +152,7 @@ fn if_differing(order: Ordering) -> Option<Ordering>
     if order.is_ne() { Some(order) } else { None }
 }
 
-// Whether the fields in front of the octets are equal.
+// Whether two CERT have equal fields in front of the certificate.
 #[inline]
 fn is_cert_front_same(a: &CERT, b: &CERT) -> bool
     ensures numbers { IsTrue result → (cert_type_number a.now.cert_type ≡ cert_type_number b.now.cert_type) × (a.now.key_tag ≡ b.now.key_tag) × (cert_algorithm_number a.now.algorithm ≡ cert_algorithm_number b.now.algorithm) }
@@ -159,7 +161,7 @@ fn is_cert_front_same(a: &CERT, b: &CERT) -> bool
     a.cert_type == b.cert_type && a.key_tag == b.key_tag && a.algorithm == b.algorithm
 }
 
-// By the octets of the certificate where the fields in front are equal.
+// The order of two CERT: by the octets of the certificate where the fields in front are equal.
 #[inline]
 fn cert_quick_cmp(a: &CERT, b: &CERT) -> Option<Ordering>
     ensures { IfSomeOrder cert_shape (cert_fields a.now) (cert_fields b.now) (values_eq cert_key_shape (cert_keys a.now) (cert_keys b.now)) result }
@@ -170,7 +172,7 @@ fn cert_quick_cmp(a: &CERT, b: &CERT) -> Option<Ordering>
     if_differing(cert_order(a, b))
 }
 
-// Whether the fields in front of the octets are equal.
+// Whether two SSHFP have equal fields in front of the fingerprint.
 #[inline]
 fn is_sshfp_front_same(a: &SSHFP, b: &SSHFP) -> bool
     ensures numbers { IsTrue result → (sshfp_algorithm_number a.now.algorithm ≡ sshfp_algorithm_number b.now.algorithm) × (fingerprint_type_number a.now.fingerprint_type ≡ fingerprint_type_number b.now.fingerprint_type) }
@@ -179,7 +181,7 @@ fn is_sshfp_front_same(a: &SSHFP, b: &SSHFP) -> bool
     a.algorithm == b.algorithm && a.fingerprint_type == b.fingerprint_type
 }
 
-// By the octets of the fingerprint where the fields in front are equal.
+// The order of two SSHFP: by the octets of the fingerprint where the fields in front are equal.
 #[inline]
 fn sshfp_quick_cmp(a: &SSHFP, b: &SSHFP) -> Option<Ordering>
     ensures { IfSomeOrder sshfp_shape (sshfp_fields a.now) (sshfp_fields b.now) (values_eq sshfp_key_shape (sshfp_keys a.now) (sshfp_keys b.now)) result }
@@ -190,7 +192,7 @@ fn sshfp_quick_cmp(a: &SSHFP, b: &SSHFP) -> Option<Ordering>
     if_differing(sshfp_order(a, b))
 }
 
-// Whether the fields in front of the octets are equal.
+// Whether two TLSA have equal fields in front of the certificate.
 #[inline]
 fn is_tlsa_front_same(a: &TLSA, b: &TLSA) -> bool
     ensures numbers { IsTrue result → (cert_usage_number a.now.cert_usage ≡ cert_usage_number b.now.cert_usage) × (selector_number a.now.selector ≡ selector_number b.now.selector) × (matching_number a.now.matching ≡ matching_number b.now.matching) }
@@ -199,7 +201,7 @@ fn is_tlsa_front_same(a: &TLSA, b: &TLSA) -> bool
     a.cert_usage == b.cert_usage && a.selector == b.selector && a.matching == b.matching
 }
 
-// By the octets of the certificate where the fields in front are equal.
+// The order of two TLSA: by the octets of the certificate where the fields in front are equal.
 #[inline]
 fn tlsa_quick_cmp(a: &TLSA, b: &TLSA) -> Option<Ordering>
     ensures { IfSomeOrder tlsa_shape (tlsa_fields a.now) (tlsa_fields b.now) (values_eq tlsa_key_shape (tlsa_keys a.now) (tlsa_keys b.now)) result }
@@ -210,7 +212,7 @@ fn tlsa_quick_cmp(a: &TLSA, b: &TLSA) -> Option<Ordering>
     if_differing(tlsa_order(a, b))
 }
 
-// Found where the first parameters that differ decide, or where none differ.
+// The order of two SVCB. It is found where the first parameters that differ decide it, or where none differ.
 #[inline]
 fn svcb_quick_cmp(a: &SVCB, b: &SVCB) -> Option<Ordering>
     ensures { IfSomeOrder svcb_shape (svcb_fields a.now) (svcb_fields b.now) (values_eq svcb_key_shape (svcb_keys a.now) (svcb_keys b.now)) result }
@@ -239,8 +241,8 @@ fn is_all(a: &SVCB, b: &SVCB, count: usize) -> bool
         && a.target_name.is_fqdn() == b.target_name.is_fqdn()
 }
 
-// A record of no options comes first. Else the order is found where the least of the options that differ decides, or where
-// none differ.
+// The order of two OPT. A record without options comes first. Else the order is found where the least of the options that
+// differ decides it, or where none differ.
 #[inline]
 fn opt_quick_cmp(a: &OPT, b: &OPT) -> Option<Ordering>
     ensures { IfSomeOrder opt_shape (opt_fields a.now) (opt_fields b.now) (opt_eq a.now b.now) result }

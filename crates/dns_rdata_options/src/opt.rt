@@ -233,7 +233,8 @@ impl PartialEq for OPT {
     }
 }
 
-// Whether the options are the same as they stand, which is so of most that are equal and sooner told.
+// Whether both have the same options in the same order. Most lists that are equal do, and this is tested first since it is
+// quick.
 #[inline]
 fn stands_alike(a: &OPT, b: &OPT) -> bool
     ensures { IsTrue result → a.now ≡ b.now }

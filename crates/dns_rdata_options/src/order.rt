@@ -32,8 +32,8 @@ pub fn opt_order(a: &OPT, b: &OPT) -> Option<Ordering>
     order_of_many(a, b)
 }
 
-// By the least options that differ. Lists with the same octets that are not equal have no order here. It is not inlined,
-// so that only such long lists take the 4 KiB of the stack in which the walks keep their heads.
+// Orders two long lists by their least options that differ. `None` for lists with the same octets that are not equal. It is
+// not inlined, so that only long lists take the 4 KiB of the stack in which the walks keep their heads.
 #[inline(never)]
 fn order_of_many(a: &OPT, b: &OPT) -> Option<Ordering>
     requires first { pairs_emittable a.now ≡ true }
@@ -52,8 +52,8 @@ fn order_of_many(a: &OPT, b: &OPT) -> Option<Ordering>
     None
 }
 
-// Told in linear time where it can be: where both have as many options with the same codes at the same places, and the
-// least code of those that differ comes only once, with other octets. Else `None`.
+// Orders two lists in linear time where both have the same codes at the same places, and the least code of the options that
+// differ comes only once, with other octets. Else `None`.
 fn order_by_places(
     options: &[(EdnsCode, EdnsOption)],
     others: &[(EdnsCode, EdnsOption)],
@@ -72,7 +72,8 @@ fn order_by_places(
     }
 }
 
-// By the options at a place where they differ, if no other place has the least code of those that differ.
+// Orders two lists by the options at a place where they differ, if no other option has the code of these, which is the
+// least of those that differ. Else `None`.
 fn order_by(
     options: &[(EdnsCode, EdnsOption)],
     others: &[(EdnsCode, EdnsOption)],

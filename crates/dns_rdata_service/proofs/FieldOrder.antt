@@ -10,11 +10,9 @@ use Rattle.dns_pieces.proofs.Comparing.{then_equal}
 use Rattle.dns_fields.specs.Equal.{key_cmp, parameter_key, parameter_keys}
 use Rattle.dns_rdata_base.specs.Numbered.{numbered_cmp}
 use Rattle.dns_rdata_service.specs.SvcParamKey.{key_number, key_variant}
-use Rattle.dns_rdata_service.specs.SvcParamValue.{key_numbers, value_key, a_octets, aaaa_octets}
-use Rattle.dns_rdata_base.specs.declared.a.A.{A}
-use Rattle.dns_rdata_base.specs.declared.aaaa.AAAA.{AAAA}
+use Rattle.dns_rdata_service.specs.SvcParamValue.{key_numbers, value_key}
 use Rattle.dns_rdata_service.specs.Parameters.{Parameter, own_parameter}
-use Rattle.dns_rdata_service.specs.Ordering.{a_order, aaaa_order, parameter_order, value_place, Differ}
+use Rattle.dns_rdata_service.specs.Ordering.{octets_order, parameter_order, value_place, Differ}
 use Rattle.dns_rdata_service.specs.declared.svcb.key.SvcParamKey.{SvcParamKey}
 use Rattle.dns_rdata_service.specs.declared.svcb.value.SvcParamValue.{SvcParamValue}
 use Rattle.dns_rdata_service.specs.declared.svcb.value.SvcParamValue.TheVariants as variants
@@ -61,11 +59,8 @@ differ_order (variants.Unknown x) w d = refl
 differ_order variants.NoDefaultAlpn variants.NoDefaultAlpn d = refl
 differ_order variants.NoDefaultAlpn w d = refl
 
-pub hints4_order : (xs ys : List A) → slice_cmp a_order xs ys ≡ slice_cmp (slice_cmp nat_cmp) (map a_octets xs) (map a_octets ys)
-hints4_order xs ys = cmp_view a_order (slice_cmp nat_cmp) a_octets (λ x y. refl) xs ys
-
-pub hints6_order : (xs ys : List AAAA) → slice_cmp aaaa_order xs ys ≡ slice_cmp (slice_cmp nat_cmp) (map aaaa_octets xs) (map aaaa_octets ys)
-hints6_order xs ys = cmp_view aaaa_order (slice_cmp nat_cmp) aaaa_octets (λ x y. refl) xs ys
+pub hints_order : {T : Type 0} (octets : T → List ℕ) (xs ys : List T) → slice_cmp (octets_order octets) xs ys ≡ slice_cmp (slice_cmp nat_cmp) (map octets xs) (map octets ys)
+hints_order octets xs ys = cmp_view (octets_order octets) (slice_cmp nat_cmp) octets (λ x y. refl) xs ys
 
 -- of three fields
 pub fields_order : (r p t n m a b c : Ordering) → r ≡ ordering_then p t → p ≡ a → t ≡ ordering_then n m → n ≡ b → m ≡ c

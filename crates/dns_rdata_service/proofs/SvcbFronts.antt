@@ -22,7 +22,7 @@ use Rattle.dns_fields.proofs.Numbers.{number_cmp, length-bytes, same_number}
 use Rattle.dns_pieces.specs.Fronts.{canonical_cmp}
 use Rattle.dns_pieces.proofs.Comparing.{cmp_shared}
 use Rattle.dns_pieces.proofs.Fronts.{by_fields, field_cmp}
-use Rattle.dns_rdata_service.specs.Fronts.{OrderFirst}
+use Rattle.dns_rdata_service.specs.Fronts.{OrderFirst, joined, behind_length}
 use Rattle.dns_rdata_service.specs.OwnKeys.{value_eq, value_same}
 use Rattle.dns_rdata_service.specs.Parameters.{Parameter, own_parameter}
 use Rattle.dns_rdata_service.specs.Steps.{parameters_from}
@@ -57,8 +57,6 @@ number_first o w a b e p q x y =
     ∙ ap (λ (u : Ordering). ordering_then u (slice_cmp nat_cmp x y)) (number_cmp w a b p q ∙ sym e)
 
 -- octets behind their length in two octets
-abbrev pub behind_length : List ℕ → List ℕ
-behind_length s = bytes_high_first 2 (length s) ++ s
 
 sized_first : (s t : List ℕ) → length s ≤ 65535 → length t ≤ 65535
     → OrderFirst (ordering_then (nat_cmp (length s) (length t)) (slice_cmp nat_cmp s t)) (behind_length s) (behind_length t)
@@ -114,9 +112,6 @@ pub lists_tie : (o : Ordering) (ss ts : List (List ℕ)) → o ≡ slice_cmp (sl
 lists_tie o ss ts e f = slice_cmp-IsAntisymmetric (slice_cmp-IsAntisymmetric nat_cmp-IsAntisymmetric) ss ts (sym e ∙ f)
 
 -- ---- lists of as many octets each
-
-abbrev pub joined : List (List ℕ) → List ℕ
-joined ss = flat_map (λ s. s) ss
 
 module _ {X : Type 0} (octets_of : X → List ℕ) (k : ℕ) where
   abbrev Each : List X → Type 0

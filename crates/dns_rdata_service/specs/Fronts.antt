@@ -1,5 +1,7 @@
 -- The order of octets by what stands in front of others.
-use Rattle.std.specs.Prelude.{◌≡◌, ℕ, List, ◌++◌}
+use Rattle.std.specs.Prelude.{◌≡◌, ℕ, List, ◌++◌, length}
+use Rattle.std.specs.Int.{bytes_high_first}
+use Rattle.std.specs.List.{flat_map}
 use Rattle.std.specs.Cmp.Lexicographic.{slice_cmp}
 use Rattle.std.specs.Ordering.{nat_cmp, ordering_then}
 use Rattle.std.specs.declared.cmp.Ordering.{Ordering}
@@ -13,3 +15,11 @@ OrderFirst o s t = (x y : List ℕ) → slice_cmp nat_cmp (s ++ x) (t ++ y) ≡ 
 -- a parameter's key, its length and its value
 abbrev pub parameter_octets_of : Parameter → List ℕ
 parameter_octets_of p = piece (as_piece parameter_octets (parameter_of p))
+
+-- items one behind the other
+abbrev pub joined : List (List ℕ) → List ℕ
+joined ss = flat_map (λ s. s) ss
+
+-- octets behind their length in two octets
+abbrev pub behind_length : List ℕ → List ℕ
+behind_length s = bytes_high_first 2 (length s) ++ s

@@ -1,22 +1,16 @@
 -- The order of service bindings by their fields.
-use Rattle.std.specs.Prelude.{ℕ}
+use Rattle.std.specs.Prelude.{ℕ, List}
 use Rattle.std.specs.Cmp.Lexicographic.{slice_cmp}
 use Rattle.std.specs.Ordering.{nat_cmp}
 use Rattle.std.specs.declared.cmp.Ordering.{Ordering}
 use Rattle.dns_fields.specs.Equal.{key_cmp, parameter_key}
-use Rattle.dns_rdata_base.specs.declared.a.A.{A}
-use Rattle.dns_rdata_base.specs.declared.aaaa.AAAA.{AAAA}
-use Rattle.dns_rdata_service.specs.SvcParamValue.{a_octets, aaaa_octets}
 use Rattle.dns_rdata_service.specs.Parameters.{Parameter, own_parameter}
 use Rattle.dns_rdata_service.specs.declared.svcb.value.SvcParamValue.{SvcParamValue}
 use Rattle.dns_rdata_service.specs.declared.svcb.value.SvcParamValue.TheVariants as variants
 
 -- by their octets
-abbrev pub a_order : A → A → Ordering
-a_order a b = slice_cmp nat_cmp (a_octets a) (a_octets b)
-
-abbrev pub aaaa_order : AAAA → AAAA → Ordering
-aaaa_order a b = slice_cmp nat_cmp (aaaa_octets a) (aaaa_octets b)
+abbrev pub octets_order : {T : Type 0} → (T → List ℕ) → T → T → Ordering
+octets_order octets a b = slice_cmp nat_cmp (octets a) (octets b)
 
 -- by the keys that parameters are compared by
 abbrev pub parameter_order : Parameter → Parameter → Ordering

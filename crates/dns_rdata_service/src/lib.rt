@@ -1,6 +1,7 @@
 //! The data of DNS records that bind a service to its endpoints: SVCB, HTTPS.
 #![tactic(auto)]
 
+mod hints;
 pub mod https;
 pub mod items;
 pub mod order;

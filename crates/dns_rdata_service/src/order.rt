@@ -1,25 +1,24 @@
 //! Service bindings ordered by their canonical octets, up to the first parameters whose order is not easily told.
 
-ghost use Rattle.std.specs.Prelude.{◌≡◌, ◌≤◌, All, drop, length, map, true, IfSome, IsTrue};
+ghost use Rattle.std.specs.Prelude.{◌≡◌, ◌≤◌, drop, length, map, true, IfSome, IsTrue};
 ghost use Rattle.std.specs.Cmp.Lexicographic.{slice_cmp};
 ghost use Rattle.std.specs.List.{flat_map};
 ghost use Rattle.std.specs.Ordering.{nat_cmp, ordering_then};
 ghost use Rattle.std.specs.declared.cmp.Ordering.TheVariants.{Equal};
 ghost use Rattle.dns_fields.specs.Equal.{values_eq};
-ghost use Rattle.dns_fields.specs.Pieces.{string, Alpn as Names, Ipv4Hint as Addresses, Ipv6Hint as WideAddresses, Opaque, Port};
+ghost use Rattle.dns_fields.specs.Pieces.{string, Alpn as Names, Opaque, Port};
 ghost use Rattle.dns_pieces.specs.Fronts.{canonical_cmp};
 ghost use Rattle.dns_rdata_service.specs.Fronts.{OrderFirst, parameter_octets_of};
 ghost use Rattle.dns_rdata_service.specs.Parameters.{own_parameter};
 ghost use Rattle.dns_rdata_service.specs.Steps.{parameters_from};
-ghost use Rattle.dns_rdata_service.specs.SvcParamValue.{a_octets, aaaa_octets, sized, value_key, value_of};
+ghost use Rattle.dns_rdata_service.specs.SvcParamValue.{sized, value_key, value_of};
 ghost use Rattle.dns_rdata_service.specs.SVCB.{svcb_shape, svcb_fields, svcb_key_shape, svcb_keys};
 
+use crate::hints::hints_order;
 use crate::items::Items;
-use crate::ordering::{hint4_cmp, hint6_cmp};
 use crate::svcb::{SVCB, SvcParamKey, SvcParamValue};
 use dns_names_wire::SmallOctets;
 use dns_pieces::order::{name_behind, slices_behind, two_behind};
-use dns_rdata_base::{A, AAAA};
 use std::cmp::Ordering;
 
 /// How two service bindings are ordered by priority, target and the first parameters that are not alike, and how many
@@ -28,7 +27,7 @@ pub fn svcb_front(a: &SVCB, b: &SVCB) -> (Ordering, usize)
     ensures order { canonical_cmp svcb_shape (svcb_fields a.now) (svcb_fields b.now) ≡ ordering_then result.0 (slice_cmp nat_cmp (parameters_from a.now.svc_params result.1) (parameters_from b.now.svc_params result.1)) }
     ensures first { result.1 ≤ length a.now.svc_params }
     ensures second { result.1 ≤ length b.now.svc_params }
-    // Where all parameters are alike, they are equal, if the marks of the targets are.
+    //     Where no parameters differ, the records are equal if both targets are relative or neither is.
     ensures equal { result.0 ≡ Equal → result.1 ≡ length a.now.svc_params → result.1 ≡ length b.now.svc_params → a.now.target_name.fully_qualified ≡ b.now.target_name.fully_qualified → values_eq svcb_key_shape (svcb_keys a.now) (svcb_keys b.now) ≡ true }
 {
     let priority = two_behind(Ordering::Equal, a.svc_priority, b.svc_priority);
@@ -39,7 +38,8 @@ pub fn svcb_front(a: &SVCB, b: &SVCB) -> (Ordering, usize)
     parameters_front(a.svc_params.as_slice(), b.svc_params.as_slice())
 }
 
-// How the first parameters that are not alike are ordered, or Equal, and how many before them are alike.
+// The order of the first parameters that are not known to be the same, `Equal` where this is not known of any, and how many
+// parameters stand in front of them.
 fn parameters_front(
     a: &[(SvcParamKey, SvcParamValue)],
     b: &[(SvcParamKey, SvcParamValue)],
@@ -61,7 +61,7 @@ fn parameters_front(
     (Ordering::Equal, shorter)
 }
 
-// Of a key, a length and a value, in front of others: Equal only for those that are alike.
+// The order of two parameters by key, length and value, in front of others. `Equal` only where both are the same.
 #[inline]
 fn pair_order(
     a: &(SvcParamKey, SvcParamValue),
@@ -77,7 +77,7 @@ fn pair_order(
     if keys.is_ne() { Some(keys) } else { None }
 }
 
-// Of a length and a value, in front of others: Equal only for those that are alike.
+// The order of two values behind their lengths, in front of others. `Equal` only where both are the same.
 #[inline]
 fn value_order(a: &SvcParamValue, b: &SvcParamValue) -> Option<Ordering>
     ensures order { IfSome result (λ o. OrderFirst o (sized (value_of a.now)) (sized (value_of b.now))) }
@@ -87,13 +87,13 @@ fn value_order(a: &SvcParamValue, b: &SvcParamValue) -> Option<Ordering>
         (SvcParamValue::Alpn(x), SvcParamValue::Alpn(y)) => { names_order(&x.0, &y.0) }
         (SvcParamValue::Port(x), SvcParamValue::Port(y)) => Some(port_order(*x, *y)),
         (SvcParamValue::Ipv4Hint(x), SvcParamValue::Ipv4Hint(y)) => {
-            hint4_order(x.0.as_slice(), y.0.as_slice())
+            hints_order(x.0.as_slice(), y.0.as_slice())
         }
         (SvcParamValue::EchConfigList(x), SvcParamValue::EchConfigList(y)) => {
             octets_order(x.0.as_slice(), y.0.as_slice())
         }
         (SvcParamValue::Ipv6Hint(x), SvcParamValue::Ipv6Hint(y)) => {
-            hint6_order(x.0.as_slice(), y.0.as_slice())
+            hints_order(x.0.as_slice(), y.0.as_slice())
         }
         (SvcParamValue::DohPath(x), SvcParamValue::DohPath(y)) => {
             octets_order(x.0.as_slice(), y.0.as_slice())
@@ -105,7 +105,7 @@ fn value_order(a: &SvcParamValue, b: &SvcParamValue) -> Option<Ordering>
     }
 }
 
-// Of ports behind their length.
+// The order of two ports behind their length.
 #[inline]
 fn port_order(a: u16, b: u16) -> Ordering
     ensures order { OrderFirst result (sized (Port a)) (sized (Port b)) }
@@ -114,7 +114,7 @@ fn port_order(a: u16, b: u16) -> Ordering
     a.cmp(&b)
 }
 
-// Of octets behind their length.
+// The order of octets behind their length.
 #[inline]
 fn octets_order(a: &[u8], b: &[u8]) -> Option<Ordering>
     ensures order { IfSome result (λ o. OrderFirst o (sized (Opaque a.now)) (sized (Opaque b.now))) }
@@ -127,63 +127,7 @@ fn octets_order(a: &[u8], b: &[u8]) -> Option<Ordering>
     Some(slices_behind(lengths, a, b))
 }
 
-// Of addresses of four octets behind their length.
-#[inline]
-fn hint4_order(a: &[A], b: &[A]) -> Option<Ordering>
-    ensures order { IfSome result (λ o. OrderFirst o (sized (Addresses (map a_octets a.now))) (sized (Addresses (map a_octets b.now)))) }
-    ensures alike { IfSome result (λ o. o ≡ Equal → map a_octets a.now ≡ map a_octets b.now) }
-{
-    let order = hint4_cmp(a, b);
-    if order.is_eq() {
-        return Some(order);
-    }
-    if a.len() > 16383 || b.len() > 16383 {
-        return None;
-    }
-    have_four(a);
-    have_four(b);
-    Some(a.len().cmp(&b.len()).then(order))
-}
-
-// Each address has four octets. Nothing is done: reading them says so.
-#[inline]
-fn have_four(addresses: &[A])
-    ensures { All (λ x. length (a_octets x) ≡ 4) addresses.now }
-{
-    for address in addresses {
-        let _octets = address.0.octets();
-    }
-}
-
-// Of addresses of sixteen octets behind their length.
-#[inline]
-fn hint6_order(a: &[AAAA], b: &[AAAA]) -> Option<Ordering>
-    ensures order { IfSome result (λ o. OrderFirst o (sized (WideAddresses (map aaaa_octets a.now))) (sized (WideAddresses (map aaaa_octets b.now)))) }
-    ensures alike { IfSome result (λ o. o ≡ Equal → map aaaa_octets a.now ≡ map aaaa_octets b.now) }
-{
-    let order = hint6_cmp(a, b);
-    if order.is_eq() {
-        return Some(order);
-    }
-    if a.len() > 4095 || b.len() > 4095 {
-        return None;
-    }
-    have_sixteen(a);
-    have_sixteen(b);
-    Some(a.len().cmp(&b.len()).then(order))
-}
-
-// Each address has sixteen octets. Nothing is done: reading them says so.
-#[inline]
-fn have_sixteen(addresses: &[AAAA])
-    ensures { All (λ x. length (aaaa_octets x) ≡ 16) addresses.now }
-{
-    for address in addresses {
-        let _octets = address.0.octets();
-    }
-}
-
-// Of names behind their length, where they are alike or the lengths differ.
+// The order of names of protocols behind their length, where both lists are the same or their lengths differ. Else `None`.
 fn names_order(a: &Items<SmallOctets<16>>, b: &Items<SmallOctets<16>>) -> Option<Ordering>
     ensures order { IfSome result (λ o. OrderFirst o (sized (Names a.now)) (sized (Names b.now))) }
     ensures alike { IfSome result (λ o. o ≡ Equal → a.now ≡ b.now) }

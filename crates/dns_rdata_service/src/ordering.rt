@@ -6,62 +6,17 @@ ghost use Rattle.std.specs.Ordering.{nat_cmp};
 ghost use Rattle.dns_fields.specs.Order.{values_cmp};
 ghost use Rattle.dns_rdata_service.specs.SvcParamValue.{key_numbers, value_key};
 ghost use Rattle.dns_rdata_service.specs.SVCB.{svcb_key_shape, svcb_keys};
-ghost use Rattle.dns_rdata_service.specs.Ordering.{a_order, aaaa_order, parameter_order, value_place, Differ};
+ghost use Rattle.dns_rdata_service.specs.Ordering.{parameter_order, value_place, Differ};
 
+use crate::hints::hints_cmp;
 use crate::svcb::{SVCB, SvcParamKey, SvcParamValue};
-use dns_pieces::order::octets_cmp;
-use dns_rdata_base::{A, AAAA};
 use std::cmp::Ordering;
 
-// By number and then variant, key by key.
+// The order of two lists of keys: key by key, each by number and then by variant.
 fn keys_cmp(a: &[SvcParamKey], b: &[SvcParamKey]) -> Ordering
     ensures { result ≡ slice_cmp (slice_cmp nat_cmp) (map key_numbers a.now) (map key_numbers b.now) }
 {
     a.cmp(b)
-}
-
-// By the octets.
-#[inline]
-fn a_cmp(a: &A, b: &A) -> Ordering
-    ensures { result ≡ a_order a.now b.now }
-{
-    octets_cmp(&a.0.octets(), &b.0.octets())
-}
-
-// By the octets.
-#[inline]
-fn aaaa_cmp(a: &AAAA, b: &AAAA) -> Ordering
-    ensures { result ≡ aaaa_order a.now b.now }
-{
-    octets_cmp(&a.0.octets(), &b.0.octets())
-}
-
-// Address by address.
-pub(crate) fn hint4_cmp(a: &[A], b: &[A]) -> Ordering
-    ensures { result ≡ slice_cmp a_order a.now b.now }
-{
-    let shorter = a.len().min(b.len());
-    for i in 0..shorter {
-        let order = a_cmp(&a[i], &b[i]);
-        if order.is_ne() {
-            return order;
-        }
-    }
-    a.len().cmp(&b.len())
-}
-
-// Address by address.
-pub(crate) fn hint6_cmp(a: &[AAAA], b: &[AAAA]) -> Ordering
-    ensures { result ≡ slice_cmp aaaa_order a.now b.now }
-{
-    let shorter = a.len().min(b.len());
-    for i in 0..shorter {
-        let order = aaaa_cmp(&a[i], &b[i]);
-        if order.is_ne() {
-            return order;
-        }
-    }
-    a.len().cmp(&b.len())
 }
 
 // The place in the declaration.
@@ -82,7 +37,7 @@ fn place(value: &SvcParamValue) -> u8
     }
 }
 
-// By the place in the declaration.
+// The order of two values of different variants: by the place in the declaration.
 #[inline]
 fn places_cmp(a: &SvcParamValue, b: &SvcParamValue) -> Ordering
     requires { Differ a.now b.now }
@@ -91,7 +46,7 @@ fn places_cmp(a: &SvcParamValue, b: &SvcParamValue) -> Ordering
     place(a).cmp(&place(b))
 }
 
-// By variant, and then by what it holds.
+// The order of two values: by variant, and then by what both hold.
 fn value_cmp(a: &SvcParamValue, b: &SvcParamValue) -> Ordering
     ensures { result ≡ slice_cmp (slice_cmp nat_cmp) (value_key a.now) (value_key b.now) }
 {
@@ -102,11 +57,11 @@ fn value_cmp(a: &SvcParamValue, b: &SvcParamValue) -> Ordering
         (SvcParamValue::Alpn(x), SvcParamValue::Alpn(y)) => x.0.as_slice().cmp(y.0.as_slice()),
         (SvcParamValue::Port(m), SvcParamValue::Port(n)) => m.cmp(n),
         (SvcParamValue::Ipv4Hint(x), SvcParamValue::Ipv4Hint(y)) => {
-            hint4_cmp(x.0.as_slice(), y.0.as_slice())
+            hints_cmp(x.0.as_slice(), y.0.as_slice())
         }
         (SvcParamValue::EchConfigList(x), SvcParamValue::EchConfigList(y)) => x.0.cmp(&y.0),
         (SvcParamValue::Ipv6Hint(x), SvcParamValue::Ipv6Hint(y)) => {
-            hint6_cmp(x.0.as_slice(), y.0.as_slice())
+            hints_cmp(x.0.as_slice(), y.0.as_slice())
         }
         (SvcParamValue::DohPath(x), SvcParamValue::DohPath(y)) => x.0.cmp(&y.0),
         (SvcParamValue::Unknown(x), SvcParamValue::Unknown(y)) => x.0.cmp(&y.0),
@@ -114,14 +69,14 @@ fn value_cmp(a: &SvcParamValue, b: &SvcParamValue) -> Ordering
     }
 }
 
-// By key, and then by value.
+// The order of two parameters: by key, and then by value.
 fn parameter_cmp(a: &(SvcParamKey, SvcParamValue), b: &(SvcParamKey, SvcParamValue)) -> Ordering
     ensures { result ≡ parameter_order a.now b.now }
 {
     a.0.cmp(&b.0).then(value_cmp(&a.1, &b.1))
 }
 
-// Parameter by parameter.
+// The order of two lists of parameters: parameter by parameter, and a list that ends first comes first.
 fn parameters_cmp(
     a: &[(SvcParamKey, SvcParamValue)],
     b: &[(SvcParamKey, SvcParamValue)],

@@ -9,14 +9,14 @@ ghost use Rattle.dns_fields.specs.Pieces.{Mandatory as MandatoryKeys, Alpn as Na
 ghost use Rattle.dns_rdata_service.specs.Parameters.{parameter_of};
 ghost use Rattle.dns_pieces.specs.Steps.{GivesStep};
 ghost use Rattle.dns_rdata_service.specs.SvcParamKey.{key_number};
-ghost use Rattle.dns_rdata_service.specs.SvcParamValue.{value_of, fits_value, a_octets, aaaa_octets};
+ghost use Rattle.dns_rdata_service.specs.SvcParamValue.{value_of, fits_value};
 ghost use Rattle.dns_rdata_service.specs.Steps.{parameter_head, value_front, value_items, svcb_left, are_emittable, each_fits, GivesItem, GivesPiece};
 
+use crate::hints::{hint_item, hints_fit, hints_len};
 use crate::https::HTTPS;
 use crate::svcb::{SVCB, SvcParamKey, SvcParamValue};
 use dns_names_wire::SmallOctets;
 use dns_pieces::{Head, Step, Tail};
-use dns_rdata_base::{A, AAAA};
 
 // How many octets keys have.
 fn keys_len(keys: &[SvcParamKey]) -> u16
@@ -39,32 +39,6 @@ fn names_len(names: &[SmallOctets<16>]) -> u16
     size as u16
 }
 
-// How many octets addresses of four octets have.
-fn hint4_len(addresses: &[A]) -> u16
-    requires { length (flat_map a_octets addresses.now) ≤ 65535 }
-    ensures { result ≡ length (flat_map a_octets addresses.now) }
-{
-    let mut size = 0;
-    for address in addresses {
-        let octets = address.0.octets();
-        size += octets.as_slice().len();
-    }
-    size as u16
-}
-
-// How many octets addresses of sixteen octets have.
-fn hint6_len(addresses: &[AAAA]) -> u16
-    requires { length (flat_map aaaa_octets addresses.now) ≤ 65535 }
-    ensures { result ≡ length (flat_map aaaa_octets addresses.now) }
-{
-    let mut size = 0;
-    for address in addresses {
-        let octets = address.0.octets();
-        size += octets.as_slice().len();
-    }
-    size as u16
-}
-
 // How many octets a value has.
 fn value_len(value: &SvcParamValue) -> u16
     requires { fits_value (value_of value.now) ≡ true }
@@ -75,9 +49,9 @@ fn value_len(value: &SvcParamValue) -> u16
         SvcParamValue::Alpn(names) => names_len(names.0.as_slice()),
         SvcParamValue::NoDefaultAlpn => 0,
         SvcParamValue::Port(_) => 2,
-        SvcParamValue::Ipv4Hint(addresses) => hint4_len(addresses.0.as_slice()),
+        SvcParamValue::Ipv4Hint(addresses) => hints_len(addresses.0.as_slice()),
         SvcParamValue::EchConfigList(octets) => octets.0.len() as u16,
-        SvcParamValue::Ipv6Hint(addresses) => hint6_len(addresses.0.as_slice()),
+        SvcParamValue::Ipv6Hint(addresses) => hints_len(addresses.0.as_slice()),
         SvcParamValue::DohPath(path) => path.0.len() as u16,
         SvcParamValue::Unknown(octets) => octets.0.len() as u16,
     }
@@ -90,26 +64,6 @@ fn put_key<'a>(key: &'a SvcParamKey, head: &mut Head) -> Tail<'a>
     ensures { head.new ++ result ≡ bytes_high_first 2 (key_number key.now) }
 {
     head.two(u16::from(*key));
-    Tail::none()
-}
-
-// The octets of an address.
-fn put_a<'a>(address: &'a A, head: &mut Head) -> Tail<'a>
-    requires { head.old ≡ [] }
-    ensures octets { head.new ++ result ≡ a_octets address.now }
-    ensures some { 0 < length (head.new ++ result) }
-{
-    head.octets(&address.0.octets());
-    Tail::none()
-}
-
-// The octets of an address.
-fn put_aaaa<'a>(address: &'a AAAA, head: &mut Head) -> Tail<'a>
-    requires { head.old ≡ [] }
-    ensures octets { head.new ++ result ≡ aaaa_octets address.now }
-    ensures some { 0 < length (head.new ++ result) }
-{
-    head.octets(&address.0.octets());
     Tail::none()
 }
 
@@ -142,32 +96,6 @@ fn name_item<'a>(names: &'a [SmallOctets<16>], item: usize, head: &mut Head) -> 
     }
 }
 
-// The address of this number.
-fn hint4_item<'a>(addresses: &'a [A], item: usize, head: &mut Head) -> Option<Tail<'a>>
-    requires empty { head.old ≡ [] }
-    ensures item { GivesItem (map a_octets addresses.now) item head.new result }
-    ensures room { IfSome result (λ _. item + 2 < 2 ^ 64) }
-{
-    if item < addresses.len() {
-        Some(put_a(&addresses[item], head))
-    } else {
-        None
-    }
-}
-
-// The address of this number.
-fn hint6_item<'a>(addresses: &'a [AAAA], item: usize, head: &mut Head) -> Option<Tail<'a>>
-    requires empty { head.old ≡ [] }
-    ensures item { GivesItem (map aaaa_octets addresses.now) item head.new result }
-    ensures room { IfSome result (λ _. item + 2 < 2 ^ 64) }
-{
-    if item < addresses.len() {
-        Some(put_aaaa(&addresses[item], head))
-    } else {
-        None
-    }
-}
-
 // The item of this number in a value.
 fn put_item<'a>(value: &'a SvcParamValue, item: usize, head: &mut Head) -> Option<Tail<'a>>
     requires empty { head.old ≡ [] }
@@ -178,8 +106,8 @@ fn put_item<'a>(value: &'a SvcParamValue, item: usize, head: &mut Head) -> Optio
     match value {
         SvcParamValue::Mandatory(keys) => return key_item(keys.0.as_slice(), item, head),
         SvcParamValue::Alpn(names) => return name_item(names.0.as_slice(), item, head),
-        SvcParamValue::Ipv4Hint(addresses) => return hint4_item(addresses.0.as_slice(), item, head),
-        SvcParamValue::Ipv6Hint(addresses) => return hint6_item(addresses.0.as_slice(), item, head),
+        SvcParamValue::Ipv4Hint(addresses) => return hint_item(addresses.0.as_slice(), item, head),
+        SvcParamValue::Ipv6Hint(addresses) => return hint_item(addresses.0.as_slice(), item, head),
         _ => return None,
     }
 }
@@ -356,36 +284,6 @@ fn names_fit(names: &[SmallOctets<16>]) -> bool
     size != 0
 }
 
-// Whether the addresses have at most 65535 octets.
-fn hint4_fits(addresses: &[A]) -> bool
-    ensures { result ≡ nat_le (length (flat_map a_octets addresses.now)) 65535 }
-{
-    let mut size = 0;
-    for address in addresses {
-        let octets = address.0.octets();
-        size += octets.as_slice().len();
-        if size > 65535 {
-            return false;
-        }
-    }
-    true
-}
-
-// Whether the addresses have at most 65535 octets.
-fn hint6_fits(addresses: &[AAAA]) -> bool
-    ensures { result ≡ nat_le (length (flat_map aaaa_octets addresses.now)) 65535 }
-{
-    let mut size = 0;
-    for address in addresses {
-        let octets = address.0.octets();
-        size += octets.as_slice().len();
-        if size > 65535 {
-            return false;
-        }
-    }
-    true
-}
-
 // Whether a value can be emitted.
 fn value_fits(value: &SvcParamValue) -> bool
     ensures { result ≡ fits_value (value_of value.now) }
@@ -395,9 +293,9 @@ fn value_fits(value: &SvcParamValue) -> bool
         SvcParamValue::Alpn(names) => names_fit(names.0.as_slice()),
         SvcParamValue::NoDefaultAlpn => true,
         SvcParamValue::Port(_) => true,
-        SvcParamValue::Ipv4Hint(addresses) => hint4_fits(addresses.0.as_slice()),
+        SvcParamValue::Ipv4Hint(addresses) => hints_fit(addresses.0.as_slice()),
         SvcParamValue::EchConfigList(octets) => octets.0.len() <= 65535,
-        SvcParamValue::Ipv6Hint(addresses) => hint6_fits(addresses.0.as_slice()),
+        SvcParamValue::Ipv6Hint(addresses) => hints_fit(addresses.0.as_slice()),
         SvcParamValue::DohPath(path) => path.0.len() <= 65535,
         SvcParamValue::Unknown(octets) => octets.0.len() <= 65535,
     }

@@ -35,7 +35,7 @@ pub fn csync_order(a: &CSYNC, b: &CSYNC) -> Ordering
     types_behind(flags, &a.type_bit_maps, &b.type_bit_maps)
 }
 
-// Types, behind fields that were compared so.
+// The order of two sets of types behind fields that were compared already.
 #[inline]
 fn types_behind(first: Ordering, a: &RecordTypeSet, b: &RecordTypeSet) -> Ordering
     ensures { result ≡ ordering_then first (slice_cmp nat_cmp (field_octets Bitmap a.now) (field_octets Bitmap b.now)) }
@@ -46,7 +46,7 @@ fn types_behind(first: Ordering, a: &RecordTypeSet, b: &RecordTypeSet) -> Orderi
     numbers_order(a.numbers(), b.numbers())
 }
 
-// By the first number that only one of them has.
+// The order of two sets by the first number that only one of them has.
 #[inline]
 fn numbers_order(a: &[u16], b: &[u16]) -> Ordering
     requires first { IsTypeSet a.now }
@@ -110,7 +110,7 @@ fn last_of_window(numbers: &[u16], at: usize) -> u16
     requires within { at < length numbers.now }
     ensures { IsLastOf numbers.now (slice_index numbers.now at / 256) result }
 {
-    // mostly a set has one window
+    //     Mostly a set has one window.
     let end = numbers[numbers.len() - 1];
     if end / 256 == numbers[at] / 256 {
         return end;

@@ -33,7 +33,7 @@ pub fn next_piece<'a>(
     escaped_piece(alloc, text)
 }
 
-// The same, of a piece that may have a `\`.
+// The first piece of a list and the text behind its comma, where the piece may have a `\`, so that it is copied.
 fn escaped_piece<'a>(
     alloc: Global,
     text: &'a str,

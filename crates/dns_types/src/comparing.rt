@@ -12,7 +12,7 @@ pub fn same_octets(a: &[u8], b: &[u8]) -> bool
     if len != b.len() {
         return false;
     }
-    // most are compared where they stand, and many by a call
+    // Few octets are compared in place, and many by a call.
     if len < 8 {
         return same_few(a, b);
     }
@@ -26,7 +26,7 @@ pub fn same_octets(a: &[u8], b: &[u8]) -> bool
     same_block(&a[..32], &b[..32]) & same_block(&a[last..], &b[last..])
 }
 
-/// The same for eight to thirty-two octets, as most names have.
+/// Whether eight to thirty-two octets are the same, as most names have.
 #[inline(always)]
 pub fn same_middle(a: &[u8], b: &[u8]) -> bool
     requires many { 8 ≤ length a.now }
@@ -35,7 +35,7 @@ pub fn same_middle(a: &[u8], b: &[u8]) -> bool
     ensures { IsTrue result ↔ (a.now ≡ b.now) }
 {
     let len = a.len();
-    // the octets of one size from the beginning, and as many to the end, without a branch between
+    // A block from the beginning and one up to the end are compared without a branch between; they may lap.
     if len <= 16 {
         let last = len - 8;
         return same_word(&a[..8], &b[..8]) & same_word(&a[last..], &b[last..]);
@@ -60,7 +60,7 @@ pub fn same_arrays<const N: usize>(a: &[u8; N], b: &[u8; N]) -> bool
     same_octets(a, b)
 }
 
-// The same for thirty-two octets and more, by blocks of so many.
+// Whether thirty-two octets or more are the same, by blocks of thirty-two.
 #[inline]
 fn same_many(a: &[u8], b: &[u8]) -> bool
     requires many { 32 ≤ length a.now }
@@ -75,11 +75,11 @@ fn same_many(a: &[u8], b: &[u8]) -> bool
         }
         at += 32;
     }
-    // the last block, of which some octets may be known to be the same
+    // The last block may lap over octets that are known to be the same.
     same_block(&a[last..], &b[last..])
 }
 
-// The same for fewer than eight octets.
+// Whether fewer than eight octets are the same.
 #[inline]
 fn same_few(a: &[u8], b: &[u8]) -> bool
     requires few { length a.now < 8 }
@@ -93,7 +93,7 @@ fn same_few(a: &[u8], b: &[u8]) -> bool
     same_half(&a[..4], &b[..4]) & same_half(&a[last..], &b[last..])
 }
 
-// The same for up to three.
+// Whether up to three octets are the same.
 #[inline]
 fn same_fewest(a: &[u8], b: &[u8]) -> bool
     requires few { length a.now < 4 }
@@ -104,6 +104,7 @@ fn same_fewest(a: &[u8], b: &[u8]) -> bool
     len == 0 || (a[0] == b[0] && a[len / 2] == b[len / 2] && a[len - 1] == b[len - 1])
 }
 
+// Whether thirty-two octets are the same.
 #[inline]
 fn same_block(a: &[u8], b: &[u8]) -> bool
     requires { (length a.now ≡ 32) × (length b.now ≡ 32) }
@@ -112,6 +113,7 @@ fn same_block(a: &[u8], b: &[u8]) -> bool
     same_pair(&a[..16], &b[..16]) & same_pair(&a[16..], &b[16..])
 }
 
+// Whether sixteen octets are the same.
 #[inline]
 fn same_pair(a: &[u8], b: &[u8]) -> bool
     requires { (length a.now ≡ 16) × (length b.now ≡ 16) }
@@ -120,7 +122,7 @@ fn same_pair(a: &[u8], b: &[u8]) -> bool
     same_word(&a[..8], &b[..8]) & same_word(&a[8..], &b[8..])
 }
 
-// Eight octets as one number.
+// Whether eight octets are the same, as one number.
 #[inline]
 fn same_word(a: &[u8], b: &[u8]) -> bool
     requires { (length a.now ≡ 8) × (length b.now ≡ 8) }

@@ -24,10 +24,10 @@ use std::{fmt, slice};
 /// Up to `N` octets, without a request for memory.
 #[derive(Drop)]
 struct Inline<const N: usize> {
-    // fills a word, as the tag of `Kept` does with the zeros behind it: a load of the tag's word, where a vector has its
-    // parts, then meets one store, and need not wait for two
+    // The length fills a word. A word that is loaded where `Heap` has a part of its vector was then stored whole, and the
+    // processor need not join two stores.
     len: u64,
-    // with zeros behind so many, so that two of them are compared whole
+    // Behind the first `len` octets stand zeros, so that two arrays are compared whole.
     octets: [u8; N],
 }
 
@@ -65,7 +65,7 @@ impl<const N: usize> Inline<N> {
         &self.octets[..self.len as usize]
     }
 
-    // The same octets, and the zeros behind them: a move of one size, which needs no loop and no call.
+    // A copy of the whole array: its size is known, so it needs no loop and no call.
     #[inline]
     fn copied(&self) -> Inline<N>
         ensures { result ≡ self.now }
@@ -76,7 +76,7 @@ impl<const N: usize> Inline<N> {
         }
     }
 
-    // Whether the octets are the same, by the whole of both arrays and without a branch.
+    // Whether both have the same octets. The arrays are compared whole and without a branch.
     #[inline(always)]
     fn is_same(&self, other: &Inline<N>) -> bool
         ensures { IsTrue result ↔ (self.now ≡ other.now) }

@@ -94,7 +94,7 @@ pub fn name_of(alloc: Global, word: &str, origin: Option<&Name>) -> Result<Name,
 #[derive(Clone, Copy)]
 pub struct Base64Text<'a>(pub &'a [u8]);
 
-// As many octets are printed in one piece, from room that costs little to clear.
+// Up to so many octets are printed in one write, from a small buffer on the stack.
 const FEW: usize = 96;
 
 impl fmt::Display for Base64Text<'_> {

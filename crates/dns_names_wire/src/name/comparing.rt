@@ -34,7 +34,8 @@ impl PartialEq for Name {
     }
 }
 
-// Most names that are compared are the same octets, which is told sooner.
+// Whether two names have the same octets but for the case of letters. Most names that are equal have the same octets in
+// the same case, which is tested first.
 #[inline]
 fn is_same(a: &NameOctets, b: &NameOctets) -> bool
     ensures { IsTrue result ↔ (map to_ascii_lowercase a.now ≡ map to_ascii_lowercase b.now) }
@@ -42,7 +43,7 @@ fn is_same(a: &NameOctets, b: &NameOctets) -> bool
     *a == *b || is_same_lowered(a, b)
 }
 
-// The same for names that are not the same octets.
+// Whether two names have the same octets but for the case of letters, tested octet by octet.
 #[inline(never)]
 fn is_same_lowered(a: &NameOctets, b: &NameOctets) -> bool
     ensures { IsTrue result ↔ (map to_ascii_lowercase a.now ≡ map to_ascii_lowercase b.now) }
@@ -95,7 +96,7 @@ impl Hash for Name {
 }
 
 impl Name {
-    /// Whether it is the same name, the case of letters told.
+    /// Whether it is the same name, by every octet, so that letters of another case differ.
     #[inline]
     pub fn eq_case(&self, other: &Name) -> bool
         ensures { IsTrue result ↔ (self.now ≡ other.now) }

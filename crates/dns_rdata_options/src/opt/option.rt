@@ -97,7 +97,7 @@ impl BinEncodable for EdnsOption {
     }
 }
 
-// Appends octets of any form.
+// Appends the octets of an option of any form.
 #[tactic(auto, unfolding(dns_fields::specs::Fields::field_octets))]
 fn emit_octets(encoder: &mut BinEncoder<'_>, octets: &[u8]) -> Result<(), ProtoError>
     ensures { EmitsOctets (Unit {0}) octets.now result encoder.old encoder.new }

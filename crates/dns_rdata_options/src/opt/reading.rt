@@ -18,7 +18,8 @@ use dns_names_wire::{BinDecoder, DecodeError};
 // The code of client subnets.
 const SUBNET: u16 = 8;
 
-// How many options the first `length` octets are, going by their lengths alone; none where these go past the end.
+// How many options the first `length` octets are, going by the options' lengths alone. `None` where an option goes past the
+// end.
 pub(crate) fn count_options(octets: &[u8], length: usize) -> Option<usize>
     ensures { (read : List (Numbered (List ℕ))) → At octets.now 0 (pieces read) length → ArePieces read → result ≡ Some (list_length read) }
 {
@@ -34,7 +35,7 @@ pub(crate) fn count_options(octets: &[u8], length: usize) -> Option<usize>
     if place == length { Some(count) } else { None }
 }
 
-// Code and octets of the next option; none where the record is cut.
+// Code and octets of the next option. `None` where the record ends inside it.
 fn next_piece<'a>(
     decoder: &mut BinDecoder<'a>,
     start: usize,
@@ -90,7 +91,7 @@ fn check_octets(code: u16, octets: &[u8]) -> Result<(), DecodeError>
     Ok(())
 }
 
-// Passes the next option, where it has a value, without memory; none where the record is cut.
+// Passes the next option, whose octets must have a value, without memory. `None` where the record ends inside it.
 fn check_pair(
     decoder: &mut BinDecoder<'_>,
     start: usize,
@@ -110,7 +111,7 @@ fn check_pair(
     }
 }
 
-// The next option; none where the record is cut.
+// The next option. `None` where the record ends inside it.
 fn read_pair(
     decoder: &mut BinDecoder<'_>,
     start: usize,

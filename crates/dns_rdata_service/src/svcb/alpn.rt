@@ -73,7 +73,7 @@ pub(super) fn is_text(octets: &[u8]) -> bool
     }
 }
 
-// How many strings begin in the octets; where strings are all of them, their number.
+// How many strings begin in the octets. Where strings fill the octets, this is their number.
 fn strings_in(octets: &[u8]) -> usize
     ensures { (names : List (List ℕ)) → Field octets.now 0 Texts names (length octets.now) → result ≡ length names }
 {

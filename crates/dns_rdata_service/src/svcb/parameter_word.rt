@@ -71,7 +71,7 @@ fn with_value(
     Ok((key, value))
 }
 
-// What stands in quotes, or all where there are none round it; one quote alone is refused.
+// What stands between quotes, or the whole text where it has none round it. A text with one quote alone is refused.
 fn unquoted(value: &str) -> Option<&str>
     ensures some { IfSome result (λ text. IsUnquoted value.now text.now) }
     ensures none { IfNone result ((text : List ℕ) → IsUnquoted value.now text → ⊥) }
@@ -98,7 +98,7 @@ fn value_alone(alloc: Global, key: SvcParamKey) -> Result<SvcParamValue, ParseEr
     }
 }
 
-// What is said of a key that needs a value, or has no word.
+// The refusal of a key that stands without a value.
 fn without_value(key: SvcParamKey) -> &'static str {
     match key {
         SvcParamKey::Mandatory => "value of the parameter mandatory missing",

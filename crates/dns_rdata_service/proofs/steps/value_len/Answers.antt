@@ -4,14 +4,14 @@ use Rattle.dns_rdata_service.specs.SvcParamValue.{a_octets, aaaa_octets}
 use Rattle.dns_rdata_service.proofs.PieceSteps.{size_map, hint4_fits, hint6_fits}
 use Rattle.dns_rdata_service.proofs.steps.value_len.Goals as goal
 
-pub hint4_len-requires : goal.hint4_len-requires
-hint4_len-requires c = rw c.as_slice-in-Ipv4Hint.ensures (hint4_fits _ _ c.in-Ipv4Hint.is c.requires)
+pub hints_len-requires : goal.hints_len-requires
+hints_len-requires c = rw c.as_slice-in-Ipv4Hint.ensures (hint4_fits _ _ c.in-Ipv4Hint.is c.requires)
 
-pub hint6_len-requires : goal.hint6_len-requires
-hint6_len-requires c = rw c.as_slice-in-Ipv6Hint.ensures (hint6_fits _ _ c.in-Ipv6Hint.is c.requires)
+pub hints_len-in-Ipv6Hint-requires : goal.hints_len-in-Ipv6Hint-requires
+hints_len-in-Ipv6Hint-requires c = rw c.as_slice-in-Ipv6Hint.ensures (hint6_fits _ _ c.in-Ipv6Hint.is c.requires)
 
 pub returns-in-Ipv4Hint : goal.returns-in-Ipv4Hint
-returns-in-Ipv4Hint c = rw c.in-Ipv4Hint.is (c.hint4_len.ensures ∙ ap (λ l. length (flat_map a_octets l)) c.as_slice-in-Ipv4Hint.ensures ∙ sym (ap length (size_map a_octets c.in-Ipv4Hint.addresses.0)))
+returns-in-Ipv4Hint c = rw c.in-Ipv4Hint.is (c.hints_len.ensures ∙ ap (λ l. length (flat_map a_octets l)) c.as_slice-in-Ipv4Hint.ensures ∙ sym (ap length (size_map a_octets c.in-Ipv4Hint.addresses.0)))
 
 pub returns-in-Ipv6Hint : goal.returns-in-Ipv6Hint
-returns-in-Ipv6Hint c = rw c.in-Ipv6Hint.is (c.hint6_len.ensures ∙ ap (λ l. length (flat_map aaaa_octets l)) c.as_slice-in-Ipv6Hint.ensures ∙ sym (ap length (size_map aaaa_octets c.in-Ipv6Hint.addresses.0)))
+returns-in-Ipv6Hint c = rw c.in-Ipv6Hint.is (c.hints_len-in-Ipv6Hint.ensures ∙ ap (λ l. length (flat_map aaaa_octets l)) c.as_slice-in-Ipv6Hint.ensures ∙ sym (ap length (size_map aaaa_octets c.in-Ipv6Hint.addresses.0)))

@@ -1,7 +1,0 @@
-use Rattle.std.proofs.Common.{◌∙◌, arith}
-use Rattle.dns_rdata_service.specs.Ordering.{a_order}
-use Rattle.dns_rdata_service.proofs.FieldOrder.{by_lengths}
-use Rattle.dns_rdata_service.proofs.ordering.hint4_cmp.Goals as goal
-
-pub returns : goal.returns
-returns c = c.cmp.ensures ∙ by_lengths a_order c.args.a.now c.args.b.now c.loop-i.i _ (omega (arith, c.min-shorter.ensures)) (omega (arith, c.min-shorter.ensures)) (λ h k. omega (arith, c.min-shorter.ensures, c.loop-i-test.false, h, k)) c.loop-i.invariant
