@@ -9,7 +9,7 @@ use Rattle.std.proofs.lemmas.Bool.Decides.{Decides-and}
 use Rattle.std.proofs.lemmas.List.Sorted.{IsPermutation-map}
 use Rattle.dns_fields.specs.Labels.{lowname}
 use Rattle.dns_fields.specs.Pieces.{Numbered, OptionValue, Subnet, Plain, ParameterValue, Mandatory, Alpn, NoDefaultAlpn, Port, Ipv4Hint, Ipv6Hint, Opaque}
-use Rattle.dns_fields.specs.Fields.{Kind, Number, Octets, Name, Text, Texts, Rest, Options, Parameters, Bitmap, Value, Values, SameField, Same, is_full}
+use Rattle.dns_fields.specs.Fields.{Kind, Number, Octets, Name, Text, Texts, Rest, Options, Parameters, Bitmap, Value, Values, SameField, Same, IsFull}
 use Rattle.dns_fields.specs.Equal.{Key, key_eq, key_cmp, option_key_of, option_key, option_keys, parameter_key_of, parameter_key, parameter_keys, kind_eq}
 use Rattle.dns_fields.proofs.Orders.{key_total}
 use Rattle.dns_fields.specs.Laws.{EqualLaw}
@@ -92,7 +92,7 @@ parameters_decide a b =
 octets_decide : (a b : List ℕ) → Decides (pointwise nat_eq a b) (a ≡ b)
 octets_decide a b = pointwise_decides unsigned_Decides a b
 
-pub field_decide : (k : Kind) (a b : Value k) → is_full k a → is_full k b → Decides (kind_eq k a b) (SameField k a b)
+pub field_decide : (k : Kind) (a b : Value k) → IsFull k a → IsFull k b → Decides (kind_eq k a b) (SameField k a b)
 field_decide (Number w) a b f g = let d = unsigned_Decides a b in (λ h. record { is = d.0 h }, λ s. d.1 s.is)
 field_decide (Octets n) a b f g = let d = octets_decide a b in (λ h. record { is = d.0 h }, λ s. d.1 s.is)
 field_decide Name a b f g =

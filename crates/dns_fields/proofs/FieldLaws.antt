@@ -17,7 +17,7 @@ use Rattle.dns_fields.proofs.Pieces.{pieces_same, whole_or_cut, held_same, held_
 use Rattle.dns_fields.proofs.OptionLaws.{option_once, option_own, option_fit}
 use Rattle.dns_fields.proofs.ParameterLaws.{strings_same, parameter_once, parameter_own, parameter_fit}
 use Rattle.dns_fields.specs.declared.RDataEncoding.{RDataEncoding}
-use Rattle.dns_fields.specs.Fields.{Kind, Number, Octets, Name, Text, Texts, Rest, Value, field_octets, Fits, Field, WroteField, SameField, EndsItself, is_full}
+use Rattle.dns_fields.specs.Fields.{Kind, Number, Octets, Name, Text, Texts, Rest, Value, field_octets, Fits, Field, WroteField, SameField, EndsItself, IsFull}
 use Rattle.dns_fields.proofs.Numbers.{length-bytes, same_number}
 use Rattle.dns_fields.proofs.Places.{At-same_end, At-same_head, At-append, At-appended}
 use Rattle.dns_fields.specs.Labels.{full_name}
@@ -295,7 +295,7 @@ same_then {k = Parameters} s t = record { is = s.is ∙ t.is }
 same_then {k = Bitmap} s t = record { is = s.is ∙ t.is }
 
 -- the names that stand are fully qualified
-pub field_full : {m : List ℕ} {p : ℕ} {k : Kind} {v : Value k} {q : ℕ} → Field m p k v q → is_full k v
+pub field_full : {m : List ℕ} {p : ℕ} {k : Kind} {v : Value k} {q : ℕ} → Field m p k v q → IsFull k v
 field_full {k = Number w} f = tt
 field_full {k = Octets n} f = tt
 field_full {k = Name} f = f.is.qualified

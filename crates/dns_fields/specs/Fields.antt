@@ -124,19 +124,19 @@ pub record ParametersAt (m : List ℕ) (p : ℕ) (v : List (Numbered ParameterVa
   pub rising : Rising v
 
 -- the value stands as a field of this kind from p to q
-abbrev pub field_is : List ℕ → ℕ → (k : Kind) → Value k → ℕ → Type 0
-field_is m p (Number w) n q = (n < 256 ^ w) × At m p (bytes_high_first w n) q
-field_is m p (Octets n) s q = (length s ≡ n) × At m p s q
-field_is m p Name x q = IsNameIn m p x q
-field_is m p Text s q = (length s < 256) × At m p (string s) q
-field_is m p Texts ss q = AllByRecursion (λ s. length s < 256) ss × At m p (flat_map string ss) q
-field_is m p Rest s q = At m p s q
-field_is m p Options v q = WholeOptions m p v q ⊎ ((v ≡ []) × CutOptions m (q - p) p q)
-field_is m p Parameters v q = ParametersAt m p v q
-field_is m p Bitmap v q = BitmapAt m p v q
+abbrev pub IsField : List ℕ → ℕ → (k : Kind) → Value k → ℕ → Type 0
+IsField m p (Number w) n q = (n < 256 ^ w) × At m p (bytes_high_first w n) q
+IsField m p (Octets n) s q = (length s ≡ n) × At m p s q
+IsField m p Name x q = IsNameIn m p x q
+IsField m p Text s q = (length s < 256) × At m p (string s) q
+IsField m p Texts ss q = AllByRecursion (λ s. length s < 256) ss × At m p (flat_map string ss) q
+IsField m p Rest s q = At m p s q
+IsField m p Options v q = WholeOptions m p v q ⊎ ((v ≡ []) × CutOptions m (q - p) p q)
+IsField m p Parameters v q = ParametersAt m p v q
+IsField m p Bitmap v q = BitmapAt m p v q
 
 pub record Field (m : List ℕ) (p : ℕ) (k : Kind) (v : Value k) (q : ℕ) : Type 0 where
-  pub is : field_is m p k v q
+  pub is : IsField m p k v q
 
 -- the values stand from p to e, each field between two neighbours
 abbrev pub Stands : List ℕ → ℕ → (kinds : List Kind) → Values kinds → ℕ → Type 0
@@ -161,19 +161,19 @@ AllLawful [] vs = Unit {0}
 AllLawful (k ∷ kinds) vs = Lawful k vs.0 × AllLawful kinds vs.1
 
 -- one field written behind the octets m leaves the octets m', names in this mode
-abbrev pub written_is : RDataEncoding → List ℕ → (k : Kind) → Value k → List ℕ → Type 0
-written_is mode m (Number w) n m' = (n < 256 ^ w) × (m' ≡ m ++ bytes_high_first w n)
-written_is mode m (Octets n) s m' = (length s ≡ n) × (m' ≡ m ++ s)
-written_is mode m Name x m' = NameWrote mode m x m'
-written_is mode m Text s m' = (length s < 256) × (m' ≡ m ++ string s)
-written_is mode m Texts ss m' = AllByRecursion (λ s. length s < 256) ss × (m' ≡ m ++ flat_map string ss)
-written_is mode m Rest s m' = m' ≡ m ++ s
-written_is mode m Options v m' = AllByRecursion OptionFits v × (m' ≡ m ++ pieces (option_pieces v))
-written_is mode m Parameters v m' = AllByRecursion ParameterFits v × Rising v × (m' ≡ m ++ pieces (parameter_pieces v))
-written_is mode m Bitmap v m' = IsTypeSet v × (m' ≡ m ++ flat_map block (minimal v))
+abbrev pub IsWrittenAs : RDataEncoding → List ℕ → (k : Kind) → Value k → List ℕ → Type 0
+IsWrittenAs mode m (Number w) n m' = (n < 256 ^ w) × (m' ≡ m ++ bytes_high_first w n)
+IsWrittenAs mode m (Octets n) s m' = (length s ≡ n) × (m' ≡ m ++ s)
+IsWrittenAs mode m Name x m' = NameWrote mode m x m'
+IsWrittenAs mode m Text s m' = (length s < 256) × (m' ≡ m ++ string s)
+IsWrittenAs mode m Texts ss m' = AllByRecursion (λ s. length s < 256) ss × (m' ≡ m ++ flat_map string ss)
+IsWrittenAs mode m Rest s m' = m' ≡ m ++ s
+IsWrittenAs mode m Options v m' = AllByRecursion OptionFits v × (m' ≡ m ++ pieces (option_pieces v))
+IsWrittenAs mode m Parameters v m' = AllByRecursion ParameterFits v × Rising v × (m' ≡ m ++ pieces (parameter_pieces v))
+IsWrittenAs mode m Bitmap v m' = IsTypeSet v × (m' ≡ m ++ flat_map block (minimal v))
 
 pub record WroteField (mode : RDataEncoding) (m : List ℕ) (k : Kind) (v : Value k) (m' : List ℕ) : Type 0 where
-  pub is : written_is mode m k v m'
+  pub is : IsWrittenAs mode m k v m'
 
 -- the fields written one behind the other
 abbrev pub Wrote : RDataEncoding → List ℕ → (kinds : List Kind) → Values kinds → List ℕ → Type 0
@@ -181,13 +181,13 @@ Wrote mode m [] vs m' = m' ≡ m
 Wrote mode m (k ∷ kinds) vs m' = (between : List ℕ) × WroteField mode m k vs.0 between × Wrote mode between kinds vs.1 m'
 
 -- the same value: names but for ASCII case, options in any order
-abbrev pub same_is : (k : Kind) → Value k → Value k → Type 0
-same_is Name a b = SameName a b
-same_is Options a b = IsPermutation a b
-same_is k a b = a ≡ b
+abbrev pub IsSame : (k : Kind) → Value k → Value k → Type 0
+IsSame Name a b = SameName a b
+IsSame Options a b = IsPermutation a b
+IsSame k a b = a ≡ b
 
 pub record SameField (k : Kind) (a b : Value k) : Type 0 where
-  pub is : same_is k a b
+  pub is : IsSame k a b
 
 abbrev pub Same : (kinds : List Kind) → Values kinds → Values kinds → Type 0
 Same [] a b = Unit {0}
@@ -202,11 +202,11 @@ EndsItself Text = Unit {0}
 EndsItself k = ⊥
 
 -- a name is fully qualified
-abbrev pub is_full : (k : Kind) → Value k → Type 0
-is_full Name x = x.fully_qualified ≡ true
-is_full k v = Unit {0}
+abbrev pub IsFull : (k : Kind) → Value k → Type 0
+IsFull Name x = x.fully_qualified ≡ true
+IsFull k v = Unit {0}
 
 -- each name is fully qualified
 abbrev pub AllFull : (kinds : List Kind) → Values kinds → Type 0
 AllFull [] vs = Unit {0}
-AllFull (k ∷ kinds) vs = is_full k vs.0 × AllFull kinds vs.1
+AllFull (k ∷ kinds) vs = IsFull k vs.0 × AllFull kinds vs.1

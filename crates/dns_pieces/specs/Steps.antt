@@ -10,14 +10,14 @@ abbrev pub Left : Type 0
 Left = ℕ → ℕ → ℕ → List ℕ
 
 -- a character string has at most 255 octets
-abbrev pub is_short : (k : Kind) → Value k → Type 0
-is_short Text s = length s < 256
-is_short Texts ss = AllByRecursion (λ s. length s < 256) ss
-is_short k v = Unit {0}
+abbrev pub IsShort : (k : Kind) → Value k → Type 0
+IsShort Text s = length s < 256
+IsShort Texts ss = AllByRecursion (λ s. length s < 256) ss
+IsShort k v = Unit {0}
 
 abbrev pub AllShort : (kinds : List Kind) → Values kinds → Type 0
 AllShort [] vs = Unit {0}
-AllShort (k ∷ kinds) vs = is_short k vs.0 × AllShort kinds vs.1
+AllShort (k ∷ kinds) vs = IsShort k vs.0 × AllShort kinds vs.1
 
 -- the canonical octets from field f on
 abbrev pub from_field : ℕ → (kinds : List Kind) → Values kinds → List ℕ

@@ -10,7 +10,7 @@ use Rattle.std.specs.Cmp.{first_so, second_so}
 use Rattle.dns_fields.specs.Pieces.{string, parameters_emittable}
 use Rattle.dns_fields.specs.Fields.{Kind, Text, Texts, Value, Values, field_octets, canonical, is_emittable, all_emittable}
 use Rattle.dns_pieces.specs.declared.step.Step.{Step}
-use Rattle.dns_pieces.specs.Steps.{is_short, AllShort, GivesStep, CountsPasses, CountsChoices}
+use Rattle.dns_pieces.specs.Steps.{IsShort, AllShort, GivesStep, CountsPasses, CountsChoices}
 use Rattle.dns_rdata_base.specs as base
 use Rattle.dns_rdata_options.specs as options
 use Rattle.dns_rdata_service.specs as service
@@ -42,7 +42,7 @@ short_texts : (ss : List (List ℕ)) → list_all (λ s. nat_le (length s) 255) 
 short_texts [] h = tt
 short_texts (s ∷ ss) h = (short_text s (first_so (nat_le (length s) 255) (list_all (λ x. nat_le (length x) 255) ss) h), short_texts ss (second_so (nat_le (length s) 255) (list_all (λ x. nat_le (length x) 255) ss) h))
 
-kind_short : (k : Kind) (v : Value k) → is_emittable k v ≡ true → is_short k v
+kind_short : (k : Kind) (v : Value k) → is_emittable k v ≡ true → IsShort k v
 kind_short Text v h = short_text v h
 kind_short Texts v h = short_texts v h
 kind_short k v h = tt

@@ -3,7 +3,7 @@ use Rattle.std.proofs.Common.{◌≡◌, ◌≢◌, ◌∙◌, ℕ, List, [], �
 use Rattle.std.proofs.lemmas.List.{append-nil}
 use Rattle.dns_fields.specs.declared.RDataEncoding.{RDataEncoding}
 use Rattle.dns_fields.specs.declared.RDataEncoding.TheVariants.{StandardRecord, Other}
-use Rattle.dns_fields.specs.Fields.{Kind, Number, Octets, Name, Text, Texts, Rest, Options, Parameters, Bitmap, Value, Values, Wrote, written_is, field_octets}
+use Rattle.dns_fields.specs.Fields.{Kind, Number, Octets, Name, Text, Texts, Rest, Options, Parameters, Bitmap, Value, Values, Wrote, IsWrittenAs, field_octets}
 use Rattle.dns_types.specs.declared.error.ProtoError.{ProtoError}
 use Rattle.dns_names_wire.specs.State.{Writing}
 use Rattle.dns_names_wire.specs.Words.{EmitsAs}
@@ -16,7 +16,7 @@ other_whole : Other ≢ StandardRecord
 other_whole e = absurd cc
 
 -- a field that is written with whole names has its octets there
-wrote_field : (m : List ℕ) (k : Kind) (v : Value k) (m' : List ℕ) → written_is Other m k v m' → m' ≡ m ++ whole_octets k v
+wrote_field : (m : List ℕ) (k : Kind) (v : Value k) (m' : List ℕ) → IsWrittenAs Other m k v m' → m' ≡ m ++ whole_octets k v
 unfolding field_octets
 wrote_field m (Number w) v m' h = h.1
 wrote_field m (Octets n) v m' h = h.1

@@ -7,7 +7,6 @@ ghost use Rattle.std.specs.List.{flat_map};
 ghost use Rattle.std.specs.declared.cmp.Ordering.TheVariants.{Equal};
 ghost use Rattle.dns_rdata_service.specs.Fronts.{OrderFirst, behind_length, joined};
 ghost use Rattle.dns_rdata_service.specs.Ordering.{octets_order};
-ghost use Rattle.dns_rdata_service.specs.Steps.{GivesItem};
 ghost use Rattle.dns_rdata_service.specs.SvcParamValue.{a_octets, aaaa_octets};
 
 use dns_pieces::order::octets_cmp;
@@ -33,17 +32,17 @@ pub(crate) trait Address: Sized {
         ensures { result ≡ octets_order octets self.now other.now };
 
     /// Adds the octets to a head that has none.
-    fn put(&self, head: &mut Head)
+    fn put<'a>(&'a self, head: &mut Head) -> Tail<'a>
         requires { head.old ≡ [] }
-        ensures octets { head.new ≡ octets self.now }
-        ensures some { 0 < length head.new };
+        ensures octets { head.new ++ result ≡ octets self.now }
+        ensures some { 0 < length (head.new ++ result) };
 
     /// Whether so many addresses have at most 65535 octets.
     fn fit(count: usize) -> bool
         ensures { IsTrue result → count * width ≤ 65535 };
 
-    /// An address has an octet.
-    ghost some: { 0 < width };
+    /// An address has an octet, and at most sixteen.
+    ghost few: { (0 < width) × (width ≤ 16) };
 }
 
 impl Address for A {
@@ -51,7 +50,7 @@ impl Address for A {
 
     ghost octets = { a_octets };
 
-    ghost some = { lit≤ tt };
+    ghost few = { (lit≤ tt, lit≤ tt) };
 
     #[inline]
     fn size(&self) -> usize {
@@ -64,8 +63,9 @@ impl Address for A {
     }
 
     #[inline]
-    fn put(&self, head: &mut Head) {
+    fn put<'a>(&'a self, head: &mut Head) -> Tail<'a> {
         head.octets(&self.0.octets());
+        Tail::none()
     }
 
     #[inline]
@@ -79,7 +79,7 @@ impl Address for AAAA {
 
     ghost octets = { aaaa_octets };
 
-    ghost some = { lit≤ tt };
+    ghost few = { (lit≤ tt, lit≤ tt) };
 
     #[inline]
     fn size(&self) -> usize {
@@ -92,8 +92,9 @@ impl Address for AAAA {
     }
 
     #[inline]
-    fn put(&self, head: &mut Head) {
+    fn put<'a>(&'a self, head: &mut Head) -> Tail<'a> {
         head.octets(&self.0.octets());
+        Tail::none()
     }
 
     #[inline]
@@ -171,22 +172,4 @@ pub(crate) fn hints_fit<T: Address>(addresses: &[T]) -> bool
         }
     }
     true
-}
-
-/// The address of this number, in a head.
-#[inline]
-pub(crate) fn hint_item<'a, T: Address>(
-    addresses: &'a [T],
-    item: usize,
-    head: &mut Head,
-) -> Option<Tail<'a>>
-    requires empty { head.old ≡ [] }
-    ensures item { GivesItem (map T.octets addresses.now) item head.new result }
-    ensures room { IfSome result (λ _. item + 2 < 2 ^ 64) }
-{
-    if item >= addresses.len() {
-        return None;
-    }
-    addresses[item].put(head);
-    Some(Tail::none())
 }

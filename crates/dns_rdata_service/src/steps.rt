@@ -9,14 +9,15 @@ ghost use Rattle.dns_fields.specs.Pieces.{Mandatory as MandatoryKeys, Alpn as Na
 ghost use Rattle.dns_rdata_service.specs.Parameters.{parameter_of};
 ghost use Rattle.dns_pieces.specs.Steps.{GivesStep};
 ghost use Rattle.dns_rdata_service.specs.SvcParamKey.{key_number};
-ghost use Rattle.dns_rdata_service.specs.SvcParamValue.{value_of, fits_value};
+ghost use Rattle.dns_rdata_service.specs.SvcParamValue.{value_of, fits_value, a_octets, aaaa_octets};
 ghost use Rattle.dns_rdata_service.specs.Steps.{parameter_head, value_front, value_items, svcb_left, are_emittable, each_fits, GivesItem, GivesPiece};
 
-use crate::hints::{hint_item, hints_fit, hints_len};
+use crate::hints::{Address, hints_fit, hints_len};
 use crate::https::HTTPS;
 use crate::svcb::{SVCB, SvcParamKey, SvcParamValue};
 use dns_names_wire::SmallOctets;
 use dns_pieces::{Head, Step, Tail};
+use dns_rdata_base::{A, AAAA};
 
 // How many octets keys have.
 fn keys_len(keys: &[SvcParamKey]) -> u16
@@ -96,6 +97,32 @@ fn name_item<'a>(names: &'a [SmallOctets<16>], item: usize, head: &mut Head) -> 
     }
 }
 
+// The address of this number.
+fn hint4_item<'a>(addresses: &'a [A], item: usize, head: &mut Head) -> Option<Tail<'a>>
+    requires empty { head.old ≡ [] }
+    ensures item { GivesItem (map a_octets addresses.now) item head.new result }
+    ensures room { IfSome result (λ _. item + 2 < 2 ^ 64) }
+{
+    if item < addresses.len() {
+        Some(addresses[item].put(head))
+    } else {
+        None
+    }
+}
+
+// The address of this number.
+fn hint6_item<'a>(addresses: &'a [AAAA], item: usize, head: &mut Head) -> Option<Tail<'a>>
+    requires empty { head.old ≡ [] }
+    ensures item { GivesItem (map aaaa_octets addresses.now) item head.new result }
+    ensures room { IfSome result (λ _. item + 2 < 2 ^ 64) }
+{
+    if item < addresses.len() {
+        Some(addresses[item].put(head))
+    } else {
+        None
+    }
+}
+
 // The item of this number in a value.
 fn put_item<'a>(value: &'a SvcParamValue, item: usize, head: &mut Head) -> Option<Tail<'a>>
     requires empty { head.old ≡ [] }
@@ -106,8 +133,8 @@ fn put_item<'a>(value: &'a SvcParamValue, item: usize, head: &mut Head) -> Optio
     match value {
         SvcParamValue::Mandatory(keys) => return key_item(keys.0.as_slice(), item, head),
         SvcParamValue::Alpn(names) => return name_item(names.0.as_slice(), item, head),
-        SvcParamValue::Ipv4Hint(addresses) => return hint_item(addresses.0.as_slice(), item, head),
-        SvcParamValue::Ipv6Hint(addresses) => return hint_item(addresses.0.as_slice(), item, head),
+        SvcParamValue::Ipv4Hint(addresses) => return hint4_item(addresses.0.as_slice(), item, head),
+        SvcParamValue::Ipv6Hint(addresses) => return hint6_item(addresses.0.as_slice(), item, head),
         _ => return None,
     }
 }

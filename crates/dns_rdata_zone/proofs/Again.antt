@@ -3,7 +3,7 @@ use Rattle.std.proofs.Common.{◌≡◌, ℕ, List, [], ◌∷◌, ◌++◌, map
 use Rattle.std.specs.Int.{bytes_high_first}
 use Rattle.std.specs.List.{flat_map}
 use Rattle.std.proofs.lemmas.List.{append-nil, drop_at}
-use Rattle.dns_fields.specs.Fields.{Kind, Value, Values, Number, Octets, Name, Text, Texts, Rest, Options, Parameters, Bitmap, Field, Stands, Fits, Lawful, is_full, field_octets, option_pieces, parameter_pieces, canonical}
+use Rattle.dns_fields.specs.Fields.{Kind, Value, Values, Number, Octets, Name, Text, Texts, Rest, Options, Parameters, Bitmap, Field, Stands, Fits, Lawful, IsFull, field_octets, option_pieces, parameter_pieces, canonical}
 use Rattle.dns_fields.specs.Labels.{wire}
 use Rattle.dns_fields.specs.Names.LabelsStand.{whole}
 use Rattle.dns_fields.specs.Pieces.{string, piece, pieces, OptionHeld, OptionFits, option_octets, ParameterHeld, ParameterFits, parameter_octets}
@@ -15,7 +15,7 @@ use Rattle.dns_fields.proofs.Sorted.{octets_cmp, flat_map_all, length_sorted}
 use Rattle.dns_rdata.specs.WholeOctets.{whole_octets, all_whole}
 use Rattle.dns_rdata_zone.proofs.Digits.{length_low}
 
-own_field : (front : List ℕ) (k : Kind) (v : Value k) → Fits k v → Lawful k v → is_full k v
+own_field : (front : List ℕ) (k : Kind) (v : Value k) → Fits k v → Lawful k v → IsFull k v
     → Field (front ++ whole_octets k v) (length front) k v (length (front ++ whole_octets k v))
 unfolding field_octets
 own_field front (Number w) v h l q = record { is = (h, At-appended front (bytes_high_first w v)) }

@@ -16,8 +16,8 @@ returns-then-is_eq-clause-alike g c = lists_tie _ _ _ (c.hints_cmp-order.ensures
 
 pub returns-clause-order : goal.returns-clause-order
 returns-clause-order g c =
-    items_first g.T.Address.octets g.T.Address.width c.args.a.now c.args.b.now _ _ _ _ _ g.met.T.Address.some c.have_width.ensures c.have_width-2.ensures
-    c.then.ensures c.cmp.ensures refl refl (c.hints_cmp-order.ensures ∙ hints_order g.T.Address.octets c.args.a.now c.args.b.now) ? ?
+    items_first g.T.Address.octets g.T.Address.width c.args.a.now c.args.b.now _ _ _ _ _ g.met.T.Address.few.0 c.have_width.ensures c.have_width-2.ensures
+    c.then.ensures c.cmp.ensures refl refl (c.hints_cmp-order.ensures ∙ hints_order g.T.Address.octets c.args.a.now c.args.b.now) (c.fit.ensures c.if-not-fit.false) (c.fit-else-not-fit.ensures c.if-not-fit-2.false)
 
 pub returns-clause-alike : goal.returns-clause-alike
 returns-clause-alike g c = λ e. lists_tie _ _ _ (c.hints_cmp-order.ensures ∙ hints_order g.T.Address.octets c.args.a.now c.args.b.now) (then_ties _ _ _ c.then.ensures e)

@@ -3,7 +3,8 @@ use Rattle.std.specs.Cmp.{unsigned_Decides}
 use Rattle.std.specs.Cmp.Lexicographic.{pointwise_decides}
 use Rattle.std.specs.List.{flat_map}
 use Rattle.dns_fields.specs.Pieces.{string}
-use Rattle.dns_rdata_service.proofs.SvcbFronts.{alike_first, behind_length, lengths_first, ne_kept, ne_yes}
+use Rattle.dns_rdata_service.specs.Fronts.{behind_length}
+use Rattle.dns_rdata_service.proofs.SvcbFronts.{alike_first, lengths_first, ne_kept, ne_yes}
 use Rattle.dns_rdata_service.proofs.order.names_order.Goals as goal
 
 pub returns-then-eq-clause-order : goal.returns-then-eq-clause-order
