@@ -1,19 +1,20 @@
 //! OPENPGPKEY: a public key (RFC 7929, 2.1).
 
-ghost use Rattle.std.specs.Prelude.{◌≡◌, ◌⊎◌, IfErr, IfOk, ◌+◌, OnOk};
-ghost use Rattle.dns_names_wire.specs.Words.{ReadsWindow, Emits, LacksOctets};
-ghost use Rattle.dns_rdata_base.specs.OPENPGPKEY.{openpgpkey_shape, openpgpkey_fields, openpgpkey_refusal};
+ghost use Rattle.std.specs.Prelude.{◌≡◌, Some};
+ghost use Rattle.dns_names_wire.specs.Words.{Emits};
+ghost use Rattle.dns_pieces.specs.Facts.{same, same_equiv, same_partial};
+ghost use Rattle.dns_rdata_base.specs.OPENPGPKEY.{openpgpkey_shape, openpgpkey_fields, openpgpkey_facts, openpgpkey_text};
 
 use crate::traits::RecordDataDecodable;
 use dns_names_wire::{
     BinDecoder, BinEncodable, BinEncoder, DecodeError, ProtoError, Restrict, SmallOctets,
 };
+use dns_pieces::Record;
 use dns_words::Base64Text;
-use std::alloc::AllocError;
 use std::fmt;
 
 /// A public key in the format of OpenPGP, all octets of a record's length (RFC 7929, 2.1).
-#[derive(Debug, Drop, Hash)]
+#[derive(Clone, Debug, Drop, Hash)]
 pub struct OPENPGPKEY {
     /// The key's octets.
     pub public_key: SmallOctets<64>,
@@ -31,13 +32,9 @@ impl OPENPGPKEY {
 }
 
 impl PartialEq for OPENPGPKEY {
-    ghost use Rattle.std.specs.Cmp.{partial_equiv_from_equiv, on_equiv};
-    ghost use Rattle.dns_fields.specs.Equal.{values_eq};
-    ghost use Rattle.dns_fields.proofs.Equivalences.{values_equiv};
+    ghost eq = { same openpgpkey_shape openpgpkey_fields };
 
-    ghost eq = { λ a b. values_eq openpgpkey_shape (openpgpkey_fields a) (openpgpkey_fields b) };
-
-    ghost laws = { partial_equiv_from_equiv (on_equiv openpgpkey_fields (values_equiv openpgpkey_shape)) };
+    ghost laws = { same_partial openpgpkey_shape openpgpkey_fields };
 
     #[inline(never)]
     fn eq(&self, other: &OPENPGPKEY) -> bool {
@@ -46,33 +43,14 @@ impl PartialEq for OPENPGPKEY {
 }
 
 impl Eq for OPENPGPKEY {
-    ghost use Rattle.std.specs.Cmp.{on_equiv};
-    ghost use Rattle.dns_fields.proofs.Equivalences.{values_equiv};
-
-    ghost laws = { on_equiv openpgpkey_fields (values_equiv openpgpkey_shape) };
+    ghost laws = { same_equiv openpgpkey_shape openpgpkey_fields };
 }
 
-impl Clone for OPENPGPKEY {
-    ghost is_clone = { λ a b. b ≡ a };
-
-    /// The same key in memory of its own.
-    #[inline]
-    fn clone(&self) -> Result<OPENPGPKEY, AllocError>
-        ensures { IfOk result (λ copy. copy ≡ self.now) }
-    {
-        Ok(OPENPGPKEY {
-            public_key: self.public_key.clone()?,
-        })
-    }
+impl Record for OPENPGPKEY {
+    ghost facts = { openpgpkey_facts };
 }
 
 impl RecordDataDecodable for OPENPGPKEY {
-    ghost kinds = { openpgpkey_shape };
-
-    ghost condition = { λ _. Unit {0} };
-
-    ghost fields = { openpgpkey_fields };
-
     /// Reads all octets of the length, which asks for memory once where they are more than 64. Where fewer are left it
     /// is refused by [`InsufficientBytes`](DecodeError::InsufficientBytes), where memory runs out by
     /// [`Memory`](DecodeError::Memory); it then takes none.
@@ -80,11 +58,7 @@ impl RecordDataDecodable for OPENPGPKEY {
     fn read_data(
         decoder: &mut BinDecoder<'_>,
         length: Restrict<u16>,
-    ) -> Result<OPENPGPKEY, DecodeError>
-        ensures window { ReadsWindow openpgpkey_shape (λ _. Unit {0}) openpgpkey_fields length result decoder.old decoder.new }
-        ensures ends { OnOk result (decoder.new.index ≡ decoder.old.index + length) }
-        ensures refused { IfErr result (λ e. openpgpkey_refusal length decoder.old e decoder.new) }
-    {
+    ) -> Result<OPENPGPKEY, DecodeError> {
         // Called for its clauses: the message is octets, and the place is in it.
         let _start = decoder.index();
         let octets = decoder.read_small(length.unverified() as usize)?;
@@ -105,9 +79,6 @@ impl BinEncodable for OPENPGPKEY {
 }
 
 impl fmt::Display for OPENPGPKEY {
-    ghost use Rattle.std.specs.Prelude.{Some};
-    ghost use Rattle.dns_rdata_base.specs.OPENPGPKEY.{openpgpkey_text};
-
     ghost output = { λ x. Some (openpgpkey_text x) };
 
     /// Base64 (RFC 4648, 4).

@@ -1,8 +1,9 @@
 //! TLSA: a certificate of a service (RFC 6698, 2.1).
 
-ghost use Rattle.std.specs.Prelude.{◌≡◌, IfErr, IfOk, ◌+◌, OnOk};
-ghost use Rattle.dns_names_wire.specs.Words.{ReadsTo, ReadsWindow, Emits};
-ghost use Rattle.dns_rdata_certs.specs.TLSA.{tlsa_shape, tlsa_fields, tlsa_key_shape, tlsa_keys, IsReadTlsa, tlsa_refusal};
+ghost use Rattle.std.specs.Prelude.{◌≡◌, IfErr, IfOk, Some};
+ghost use Rattle.dns_names_wire.specs.Words.{ReadsTo, Emits};
+ghost use Rattle.dns_pieces.specs.Facts.{same, same_equiv, same_partial};
+ghost use Rattle.dns_rdata_certs.specs.TLSA.{tlsa_shape, tlsa_fields, tlsa_facts, tlsa_key_shape, tlsa_keys, IsReadTlsa, tlsa_refusal, tlsa_text};
 
 mod cert_usage;
 mod matching;
@@ -13,15 +14,15 @@ pub use cert_usage::CertUsage;
 use dns_names_wire::{
     BinDecoder, BinEncodable, BinEncoder, DecodeError, ProtoError, Restrict, SmallOctets,
 };
+use dns_pieces::Record;
 use dns_rdata_base::RecordDataDecodable;
 pub use matching::Matching;
 pub use selector::Selector;
-use std::alloc::AllocError;
 use std::fmt;
 
 /// A certificate, or what is compared with one, for a service (RFC 6698, 2.1): an octet each for usage, selector and
 /// matching type, and then the data to the end of the record's length.
-#[derive(Debug, Drop, Hash)]
+#[derive(Clone, Debug, Drop, Hash)]
 pub struct TLSA {
     /// How the certificate is used.
     pub cert_usage: CertUsage,
@@ -81,25 +82,18 @@ impl TLSA {
     }
 }
 
+impl Record for TLSA {
+    ghost facts = { tlsa_facts };
+}
+
 impl RecordDataDecodable for TLSA {
-    ghost kinds = { tlsa_shape };
-
-    ghost condition = { λ _. Unit {0} };
-
-    ghost fields = { tlsa_fields };
-
     /// Reads three octets of numbers, and the rest of the length, by one request for memory where that is more than 64
     /// octets. Where the three pass the length it is refused by
     /// [`IncorrectRDataLengthRead`](DecodeError::IncorrectRDataLengthRead) of 3 and the length. Where octets are
     /// missing it is refused by [`InsufficientBytes`](DecodeError::InsufficientBytes), and the numbers that are there
     /// are taken.
     #[inline(always)]
-    fn read_data(decoder: &mut BinDecoder<'_>, length: Restrict<u16>) -> Result<TLSA, DecodeError>
-        ensures window { ReadsWindow tlsa_shape (λ _. Unit {0}) tlsa_fields length result decoder.old decoder.new }
-        ensures ends { OnOk result (decoder.new.index ≡ decoder.old.index + length) }
-        ensures enums { IfOk result IsReadTlsa }
-        ensures refused { IfErr result (λ e. tlsa_refusal length decoder.old e decoder.new) }
-    {
+    fn read_data(decoder: &mut BinDecoder<'_>, length: Restrict<u16>) -> Result<TLSA, DecodeError> {
         // Called for its clauses: the message is octets, and the place is in it.
         let _start = decoder.index();
         TLSA::read_filled(decoder, length)
@@ -120,13 +114,9 @@ impl BinEncodable for TLSA {
 }
 
 impl PartialEq for TLSA {
-    ghost use Rattle.std.specs.Cmp.{partial_equiv_from_equiv, on_equiv};
-    ghost use Rattle.dns_fields.specs.Equal.{values_eq};
-    ghost use Rattle.dns_fields.proofs.Equivalences.{values_equiv};
+    ghost eq = { same tlsa_key_shape tlsa_keys };
 
-    ghost eq = { λ a b. values_eq tlsa_key_shape (tlsa_keys a) (tlsa_keys b) };
-
-    ghost laws = { partial_equiv_from_equiv (on_equiv tlsa_keys (values_equiv tlsa_key_shape)) };
+    ghost laws = { same_partial tlsa_key_shape tlsa_keys };
 
     #[inline(never)]
     fn eq(&self, other: &TLSA) -> bool {
@@ -138,33 +128,10 @@ impl PartialEq for TLSA {
 }
 
 impl Eq for TLSA {
-    ghost use Rattle.std.specs.Cmp.{on_equiv};
-    ghost use Rattle.dns_fields.proofs.Equivalences.{values_equiv};
-
-    ghost laws = { on_equiv tlsa_keys (values_equiv tlsa_key_shape) };
-}
-
-impl Clone for TLSA {
-    ghost is_clone = { λ a b. b ≡ a };
-
-    /// The same fields, the data in memory of its own.
-    #[inline]
-    fn clone(&self) -> Result<TLSA, AllocError>
-        ensures { IfOk result (λ copy. copy ≡ self.now) }
-    {
-        Ok(TLSA {
-            cert_usage: self.cert_usage,
-            selector: self.selector,
-            matching: self.matching,
-            cert_data: self.cert_data.clone()?,
-        })
-    }
+    ghost laws = { same_equiv tlsa_key_shape tlsa_keys };
 }
 
 impl fmt::Display for TLSA {
-    ghost use Rattle.std.specs.Prelude.{Some};
-    ghost use Rattle.dns_rdata_certs.specs.TLSA.{tlsa_text};
-
     ghost output = { λ x. Some (tlsa_text x) };
 
     /// The three numbers in decimal and the data in hexadecimal, a blank between: `3 1 1 abcd`.
