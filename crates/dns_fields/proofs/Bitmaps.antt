@@ -1,6 +1,6 @@
 -- Octets are a bitmap of one set, and the minimal bitmap of a set is one of them.
 use Rattle.std.proofs.Common.{◌≡◌, ◌≢◌, ℕ, zero, suc, ◌+◌, ◌-◌, ◌*◌, ◌/◌, ◌%◌, ◌≤◌, ◌<◌, ◌^◌, ◌==◌, ◌&&◌, ◌||◌, Bool, true, false, cond}
-use Rattle.std.proofs.Common.{◌⊎◌, inl, inr, ⊎_elim, List, [], ◌∷◌, ◌++◌, length, get_or, map, refl, sym, ap, ◌∙◌, arith, subst}
+use Rattle.std.proofs.Common.{◌⊎◌, inl, inr, ⊎_elim, List, [], ◌∷◌, ◌++◌, length, get_or, map, refl, sym, ap, ◌∙◌, arith, subst, pow-suc}
 use Rattle.std.specs.List.{flat_map, AllByRecursion, list_any, range_with_len}
 use Rattle.std.specs.Int.{bit_at}
 use Rattle.std.proofs.lemmas.List.FromFn.{get_or-map-range_with_len, length-map-range_with_len}
@@ -91,14 +91,18 @@ bitmap_append t f = record { blocks = f.blocks; at = At-append t f.at; fit = f.f
 
 -- ---- the minimal bitmap
 
-packed_small : (f : ℕ → ℕ) → ((b : ℕ) → f b < 2) → (n i : ℕ) → i < n → bit_at (packed f n) (n - 1 - i) ≡ f i
-packed_small f small zero i l = absurd (omega arith)
-packed_small f small (suc n) i l = elim (eqb_tells i n) [
+pub packed_less : (f : ℕ → ℕ) → ((b : ℕ) → f b < 2) → (n : ℕ) → packed f n < 2 ^ n
+packed_less f s zero = omega arith
+packed_less f s (suc n) = omega (arith, packed_less f s n, s n, pow-suc 2 n)
+
+pub packed_bit : (f : ℕ → ℕ) → ((b : ℕ) → f b < 2) → (n i : ℕ) → i < n → bit_at (packed f n) (n - 1 - i) ≡ f i
+packed_bit f small zero i l = absurd (omega arith)
+packed_bit f small (suc n) i l = elim (eqb_tells i n) [
   | inl e ↦ subst (λ (k : ℕ). bit_at (packed f (suc n)) (suc n - 1 - k) ≡ f k) (sym e.1) (
       let z : suc n - 1 - n ≡ 0 = omega arith in
       ap (bit_at (packed f (suc n))) z ∙ bit_at_cat_low (packed f n) 1 (f n) 0 (omega arith) ∙ bit_at_lowest (f n) ∙ last (f n) (small n))
   | inr e ↦ (
-      let h = packed_small f small n i (below i n l e.1) in
+      let h = packed_bit f small n i (below i n l e.1) in
       let z : suc n - 1 - i ≡ suc (n - 1 - i) = place n i (below i n l e.1) in
       let y : suc (n - 1 - i) - 1 ≡ n - 1 - i = omega arith in
       let lt : f n < 2 ^ 1 = small n in
@@ -155,7 +159,7 @@ window_bit v t =
     let low : t % 8 < 8 = omega arith in
     ap (λ (o : ℕ). bit_at o (7 - t % 8)) (trimmed_get (map (types_octet v k) (range_with_len 0 32)) j
     ∙ get_or-map-range_with_len (types_octet v k) 0 32 j j 0 inside (omega arith))
-    ∙ packed_small f (λ b. mark_small v (256 * k + (8 * j + b))) 8 (t % 8) low
+    ∙ packed_bit f (λ b. mark_small v (256 * k + (8 * j + b))) 8 (t % 8) low
     ∙ ap (mark v) place
 
 -- the block of window k has a type exactly where the set has it and k is its window

@@ -1,7 +1,7 @@
 -- The octets of a window, from the numbers of its types.
 use Rattle.std.proofs.Common.{◌≡◌, ◌≢◌, ℕ, zero, suc, ◌+◌, ◌-◌, ◌*◌, ◌/◌, ◌%◌, ◌<◌, ◌≤◌, ◌^◌, ◌==◌, ◌||◌, Bool, true, false, cond, inl}
 use Rattle.std.proofs.Common.{inr, ◌⊎◌, ⊎_elim, List, [], ◌∷◌, ◌++◌, length, get_or, take, map, replicate, bit_or, refl, sym, ap, ◌∙◌, subst}
-use Rattle.std.proofs.Common.{pow-suc, arith}
+use Rattle.std.proofs.Common.{arith}
 use Rattle.std.specs.List.{AllByRecursion, range_with_len}
 use Rattle.std.specs.Int.{bit_at, bytes_high_first}
 use Rattle.std.proofs.Math.ListN.{set}
@@ -11,10 +11,10 @@ use Rattle.std.proofs.lemmas.List.{get_or-set_same, get_or-set_other, get_or-rep
 use Rattle.std.proofs.lemmas.List.Folds.{list_any_more}
 use Rattle.std.proofs.lemmas.List.FromFn.{get_or-map-range_with_len, length-map-range_with_len}
 use Rattle.std.proofs.lemmas.Nat.{shr-shr}
-use Rattle.std.proofs.lemmas.Nat.Bits.{bit_at_set_same, bit_at_set_other, bit_at-zero, bit_at_lowest, bit_at_cat_low, bit_at_cat_high, same_from_bits_below}
+use Rattle.std.proofs.lemmas.Nat.Bits.{bit_at_set_same, bit_at_set_other, bit_at-zero, bit_at_cat_low, same_from_bits_below}
 use Rattle.dns_fields.specs.Octets.{AreOctets}
 use Rattle.dns_fields.specs.Bitmaps.{contains, Rises, packed, mark, keep, trimmed, types_octet, window}
-use Rattle.dns_fields.proofs.Bitmaps.{mark_small, none_great}
+use Rattle.dns_fields.proofs.Bitmaps.{packed_less, packed_bit, mark_small, none_great}
 use Rattle.dns_rdata_sets.specs.RecordTypeSet.{AreOfWindow}
 use Rattle.dns_rdata_sets.proofs.SetWrites.{above_at}
 use mir.Syntax.{w8, w64}
@@ -143,35 +143,6 @@ pub marks_more : (octets new run : List ℕ) (i k : ℕ) → i < length run → 
 marks_more octets new run i k l e a f = record { bits = λ n h. f n h ∙ marks_one run i k n _ l e h (a.bits n h) }
 
 -- ---- octets by their bits
-
-packed_less : (f : ℕ → ℕ) → ((b : ℕ) → f b < 2) → (n : ℕ) → packed f n < 2 ^ n
-packed_less f s zero = omega arith
-packed_less f s (suc n) = omega (arith, packed_less f s n, s n, pow-suc 2 n)
-
-packed_bit : (f : ℕ → ℕ) → ((b : ℕ) → f b < 2) → (n i : ℕ) → i < n → bit_at (packed f n) (n - 1 - i) ≡ f i
-packed_bit f small zero i l = absurd (omega arith)
-packed_bit f small (suc n) i l = elim (eqb_tells i n) [
-  | inl e ↦ subst (λ (k : ℕ). bit_at (packed f (suc n)) (suc n - 1 - k) ≡ f k) (sym e.1) (
-      let z : suc n - 1 - n ≡ 0 = omega arith in
-      ap (bit_at (packed f (suc n))) z ∙ bit_at_cat_low (packed f n) 1 (f n) 0 (omega arith) ∙ bit_at_lowest (f n) ∙ last (f n) (small n))
-  | inr e ↦ (
-      let h = packed_bit f small n i (below i n l e.1) in
-      let z : suc n - 1 - i ≡ suc (n - 1 - i) = place n i (below i n l e.1) in
-      let y : suc (n - 1 - i) - 1 ≡ n - 1 - i = omega arith in
-      let lt : f n < 2 ^ 1 = small n in
-      let some : 1 ≤ suc (n - 1 - i) = omega arith in
-      let goal : bit_at (packed f (suc n)) (suc n - 1 - i) ≡ f i = ap (bit_at (packed f (suc n))) z
-      ∙ bit_at_cat_high (packed f n) 1 (f n) (suc (n - 1 - i)) lt some ∙ ap (bit_at (packed f n)) y ∙ h in goal)
-]
-  where
-    last : (n : ℕ) → n < 2 → n % 2 ≡ n
-    last n h = omega arith
-
-    below : (i n : ℕ) → i < suc n → i ≢ n → i < n
-    below i n l ne = grind arith
-
-    place : (n i : ℕ) → i < n → suc n - 1 - i ≡ suc (n - 1 - i)
-    place n i l = omega arith
 
 octet_is : (octets run : List ℕ) (k j : ℕ) → HasMarks octets run k → j < 32 → get_or octets j 0 < 256 → get_or octets j 0 ≡ types_octet run k j
 unfolding types_octet
