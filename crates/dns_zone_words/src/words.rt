@@ -6,6 +6,7 @@ ghost use Rattle.dns_zone_words.specs.WordSteps.{NoGap, RunTaken, QuotesTaken, Q
 ghost use Rattle.dns_zone_words.specs.Views.{word_value};
 
 use crate::letter::Letters;
+use crate::quiet::quiet_len;
 use crate::words_error::WordsError;
 use std::marker::Model;
 
@@ -235,7 +236,8 @@ fn run_len(text: &[u8]) -> usize
     ensures word { RunTaken text.now result }
     ensures within { result ≤ length text.now }
 {
-    let mut at = 0usize;
+    // `)` is the last of those that end a word but `;`.
+    let mut at = quiet_len(b')', b';', b'\\', text);
     'octets: while at < text.len() && !ends_run(text[at]) {
         let behind = at + 1;
         if text[at] == b'\\' && behind < text.len() && !is_line_end(text[behind]) {
@@ -253,7 +255,7 @@ fn quoted_len(text: &[u8]) -> Result<usize, WordsError>
     ensures within { IfOk result (λ n. n < length text.now) }
     ensures refused { IfErr result (QuotesRefused text.now) }
 {
-    let mut at = 0usize;
+    let mut at = quiet_len(b'\n', b'"', b'\\', text);
     'octets: while at < text.len() && text[at] != b'"' {
         if text[at] == 10 {
             return Err(WordsError::LineInQuotes);

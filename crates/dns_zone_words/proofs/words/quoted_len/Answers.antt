@@ -1,7 +1,13 @@
 use Rattle.std.proofs.Common.{arith}
 use Rattle.std.proofs.lemmas.Bool.Decides.{nat_tests}
-use Rattle.dns_zone_words.proofs.WordSteps.{quotes_line, quotes_two}
+use Rattle.dns_zone_words.proofs.WordSteps.{quotes_line, quotes_quiet, quotes_two}
 use Rattle.dns_zone_words.proofs.words.quoted_len.Goals as goal
+
+pub octets-init : goal.octets-init
+octets-init c = record {
+  within = c.quiet_len-at.ensures.within;
+  so = quotes_quiet c.args.text.now c.quiet_len-at.result c.quiet_len-at.ensures.within c.quiet_len-at.ensures.quiet;
+}
 
 pub returns-then-text-at-eq10-clause-refused : goal.returns-then-text-at-eq10-clause-refused
 returns-then-text-at-eq10-clause-refused c = quotes_line c.args.text.now c.octets.at c.octets.invariant.so (omega arith) (grind (arith, nat_tests)) (grind (arith, nat_tests))
