@@ -261,7 +261,12 @@ fn quoted_len(text: &[u8]) -> Result<usize, WordsError>
             return Err(WordsError::LineInQuotes);
         }
         if text[at] == b'\\' && at + 1 < text.len() {
+            // Behind a number another one is likely, and its `\` is near.
+            let is_number = text[at + 1].is_ascii_digit();
             at += 2;
+            if !is_number {
+                at += quiet_len(b'\n', b'"', b'\\', &text[at..]);
+            }
         } else {
             at += 1;
         }
