@@ -14,8 +14,8 @@ returns-then-text-at-eq10-clause-refused c = quotes_line c.args.text.now c.octet
 
 pub octets-preserved-then-not-is_number : goal.octets-preserved-then-not-is_number
 octets-preserved-then-not-is_number c = record {
-  within = omega (arith, c.quiet_len-at-then-not-is_number.ensures.within);
-  so = quotes_more c.args.text.now (c.octets.at + 2) c.quiet_len-at-then-not-is_number.result
+  within = omega (arith, c.quiet_behind_escape-at.ensures.within);
+  so = quotes_more c.args.text.now (c.octets.at + 2) c.quiet_behind_escape-at.result
       (quotes_two c.args.text.now c.octets.at c.octets.invariant.so (omega arith) (grind (arith, nat_tests)) (grind (arith, nat_tests)) (grind (arith, nat_tests)))
-      (omega (arith, c.quiet_len-at-then-not-is_number.ensures.within)) c.quiet_len-at-then-not-is_number.ensures.quiet;
+      (omega (arith, c.quiet_behind_escape-at.ensures.within)) c.quiet_behind_escape-at.ensures.quiet;
 }
