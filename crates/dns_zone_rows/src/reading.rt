@@ -30,7 +30,9 @@ pub fn row_octets(
     ensures reads { ReadsAll (RowGives (option_copied origin.entry) (row_value row.now)) (λ x. x) result words.old }
     ensures why { IfErr result (λ e. (e ≡ ParseError.Memory) ⊎ RowFault (option_copied origin.entry) row.now words.old e) }
 {
-    let mut octets = Vec::with_capacity(alloc, words.octets_left())?;
+    // A name or a string that stands bare and alone gives an octet more than it has letters.
+    let letters = words.octets_left();
+    let mut octets = Vec::with_capacity(alloc, letters.saturating_add(letters.min(1)))?;
     for field in row.fields {
         add_field(words, origin, field, &mut octets)?;
     }

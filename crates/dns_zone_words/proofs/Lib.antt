@@ -3,6 +3,7 @@ pub mod FirstSteps
 pub mod LetterSteps
 pub mod NameLabels
 pub mod NamePuts
+pub mod QuietSteps
 pub mod RemainingSteps
 pub mod TextSteps
 pub mod WordSteps

@@ -2,6 +2,7 @@ pub mod Forms
 pub mod Letters
 pub mod NameSteps
 pub mod NameWords
+pub mod Quiet
 pub mod Refusals
 pub mod Remaining
 pub mod Views

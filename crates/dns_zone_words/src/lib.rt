@@ -6,6 +6,7 @@ pub mod fields;
 pub mod letter;
 pub mod names;
 pub mod numbers;
+mod quiet;
 pub mod remaining;
 pub mod texts;
 pub mod words;

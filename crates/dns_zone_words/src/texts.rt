@@ -12,6 +12,7 @@ ghost use Rattle.dns_zone_words.specs.ZoneReads.{ReadsAs, PutsAs};
 
 use crate::field::StringField;
 use crate::letter::first_letter;
+use crate::quiet::quiet_len;
 use crate::words::ZoneWord;
 use dns_types::{ParseError, RecordType};
 use dns_words::texts::ttl_of as ttl_of_text;
@@ -72,7 +73,11 @@ fn plain_len(text: &[u8]) -> usize
     ensures within { result ≤ length text.now }
     ensures plain { (k : ℕ) → k < result → slice_index text.now k ≢ 92 }
 {
-    let mut at = 0usize;
+    // Often one `\` stands behind another.
+    if text.len() == 0 || text[0] == b'\\' {
+        return 0;
+    }
+    let mut at = quiet_len(0, b'\\', b'\\', text);
     'octets: while at < text.len() && text[at] != b'\\' {
         at += 1;
     }

@@ -1,11 +1,13 @@
 //! Words of a text of a zone file (RFC 1035, 5.1).
 
 ghost use Rattle.std.specs.Prelude.{◌≡◌, ℕ, ◌<◌, ◌≤◌, false, true, [], length, slice_index, Ok, Err, IfSome, IfNone, IfOk, IfErr, OnOk, OnErr};
+ghost use Rattle.dns_zone_words.specs.Quiet.{IsQuiet};
 ghost use Rattle.dns_zone_words.specs.Words.{is_blank, is_line_end, begins_gap, ends_run, between, comment, over, over_comment, words_from, words_at, with_word, zone_words};
 ghost use Rattle.dns_zone_words.specs.WordSteps.{NoGap, RunTaken, QuotesTaken, QuotesRefused};
 ghost use Rattle.dns_zone_words.specs.Views.{word_value};
 
 use crate::letter::Letters;
+use crate::quiet::quiet_len;
 use crate::words_error::WordsError;
 use std::marker::Model;
 
@@ -235,7 +237,8 @@ fn run_len(text: &[u8]) -> usize
     ensures word { RunTaken text.now result }
     ensures within { result ≤ length text.now }
 {
-    let mut at = 0usize;
+    // `)` is the last of those that end a word but `;`.
+    let mut at = quiet_len(b')', b';', b'\\', text);
     'octets: while at < text.len() && !ends_run(text[at]) {
         let behind = at + 1;
         if text[at] == b'\\' && behind < text.len() && !is_line_end(text[behind]) {
@@ -253,13 +256,18 @@ fn quoted_len(text: &[u8]) -> Result<usize, WordsError>
     ensures within { IfOk result (λ n. n < length text.now) }
     ensures refused { IfErr result (QuotesRefused text.now) }
 {
-    let mut at = 0usize;
+    let mut at = quiet_len(b'\n', b'"', b'\\', text);
     'octets: while at < text.len() && text[at] != b'"' {
         if text[at] == 10 {
             return Err(WordsError::LineInQuotes);
         }
         if text[at] == b'\\' && at + 1 < text.len() {
+            // Behind a number another one is likely, and its `\` is near.
+            let is_number = text[at + 1].is_ascii_digit();
             at += 2;
+            if !is_number {
+                at += quiet_behind_escape(&text[at..]);
+            }
         } else {
             at += 1;
         }
@@ -268,6 +276,16 @@ fn quoted_len(text: &[u8]) -> Result<usize, WordsError>
         return Err(WordsError::OpenQuotes);
     }
     Ok(at)
+}
+
+// At how many octets no reader stops that stand within quotes, behind a `\` and a character. Few strings have one, so it is
+// kept out of line.
+#[inline(never)]
+fn quiet_behind_escape(text: &[u8]) -> usize
+    ensures within { result ≤ length text.now }
+    ensures quiet { (k : ℕ) → k < result → IsQuiet 10 34 92 (slice_index text.now k) }
+{
+    quiet_len(b'\n', b'"', b'\\', text)
 }
 
 // Behind the line: only blanks, line ends and comments are left.
