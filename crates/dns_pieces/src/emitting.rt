@@ -1,22 +1,15 @@
 //! Record data whose names are written in a mode of its type.
 
-ghost use Rattle.std.specs.Prelude.{List};
-ghost use Rattle.dns_fields.specs.Fields.{Kind, Values};
 ghost use Rattle.dns_names_wire.specs.Words.{Emits, EmitsAs, Extends, Keeps};
 
+use crate::facts::Record;
 use dns_names_wire::{BinEncoder, ProtoError, RDataEncoding};
 
-/// What is emitted as fields one behind the other.
-pub trait EncodesFields {
-    /// The kinds of its fields, in order.
-    ghost emitted: { List Kind };
-
-    /// Its fields.
-    ghost parts: { Self → Values emitted };
-
+/// A record that is emitted as its fields, one behind the other.
+pub trait EncodesFields: Record {
     /// Appends the fields, names in the encoder's mode.
     fn emit_fields(&self, encoder: &mut BinEncoder<'_>) -> Result<(), ProtoError>
-        ensures emits { Emits emitted (parts self.now) result encoder.old encoder.new };
+        ensures emits { Emits Self.facts.kinds (Self.facts.fields self.now) result encoder.old encoder.new };
 }
 
 /// Appends the fields, names in this mode. The encoder is then in the mode that it was in, refused or not.
@@ -26,7 +19,7 @@ pub fn emit_in<T: EncodesFields>(
     value: &T,
     encoder: &mut BinEncoder<'_>,
 ) -> Result<(), ProtoError>
-    ensures emits { EmitsAs mode T.emitted (T.parts value.now) result encoder.old encoder.new }
+    ensures emits { EmitsAs mode T.facts.kinds (T.facts.fields value.now) result encoder.old encoder.new }
     ensures extends { Extends encoder.old encoder.new }
     ensures keeps { Keeps encoder.old encoder.new }
 {

@@ -5,6 +5,7 @@
 pub mod common;
 pub mod count;
 pub mod emitting;
+pub mod facts;
 pub mod head;
 pub mod order;
 pub mod run;
@@ -13,6 +14,7 @@ pub mod tail;
 
 pub use count::Count;
 pub use emitting::{EncodesFields, emit_in};
+pub use facts::Record;
 pub use head::Head;
 pub use run::Run;
 pub use step::Step;

@@ -3,5 +3,5 @@ use Rattle.dns_pieces.proofs.emitting.emit_in.Goals as goal
 
 pub returns-clause-extends : goal.returns-clause-extends
 returns-clause-extends g c = emits_extend _ _ _ _ _ _
-    (emitted_as g.T.EncodesFields.emitted (g.T.EncodesFields.parts c.args.value.now) c.args.mode _ _ _ _ _ _ c.with_rdata_behavior-earlier.ensures.earlier
+    (emitted_as g.T.Record.facts.kinds (g.T.Record.facts.fields c.args.value.now) c.args.mode _ _ _ _ _ _ c.with_rdata_behavior-earlier.ensures.earlier
     c.with_rdata_behavior-earlier.ensures.set c.emit_fields-outcome.ensures.emits c.with_rdata_behavior.ensures.set)

@@ -1,0 +1,47 @@
+-- What the data of a record is: the fields, which reading, emitting and comparing it speak of.
+use Rattle.std.specs.Prelude.{ℕ, ◌≡◌, ◌+◌, ◌⊎◌, Bool, List}
+use Rattle.std.specs.Cmp.{IsEquivalence, IsPartialEquivalence, on_equiv, partial_equiv_from_equiv}
+use Rattle.dns_types.specs.declared.error.DecodeError.{DecodeError}
+use Rattle.dns_fields.specs.Equal.{values_eq}
+use Rattle.dns_fields.specs.Fields.{Kind, Values, Stands}
+use Rattle.dns_fields.proofs.Equivalences.{values_equiv}
+use Rattle.dns_names_wire.specs.State.{Reading}
+use Rattle.dns_names_wire.specs.Words.{Refused}
+
+-- the kinds of the fields, what is asked of them beside that they stand, the fields themselves; why data of so many
+-- octets is refused, and what holds of a value that was read from so many, and of where the decoder is then
+pub record Facts (T : Type 0) : Type 1 where
+  pub kinds : List Kind
+  pub condition : Values kinds → Type 0
+  pub fields : T → Values kinds
+  pub refusal : ℕ → Reading → DecodeError → Reading → Type 0
+  pub made : ℕ → T → Reading → Reading → Type 0
+
+-- fields that fill the length, of which nothing is asked
+abbrev pub filling : {T : Type 0} (kinds : List Kind) → (Values kinds → Type 0) → (T → Values kinds) → (ℕ → Reading → DecodeError → Reading → Type 0) → (T → Type 0)
+    → Facts T
+filling kinds condition fields refusal IsRead = record {
+  kinds = kinds;
+  condition = condition;
+  fields = fields;
+  refusal = refusal;
+  made = λ n x old new. IsRead x × (new.index ≡ old.index + n);
+}
+
+-- the fields of the value stand, and hold what is asked
+abbrev pub record_stands : {T : Type 0} → Facts T → List ℕ → ℕ → T → ℕ → Type 0
+record_stands f m p x q = Stands m p f.kinds (f.fields x) q × f.condition (f.fields x)
+
+-- it is refused, and no such fields stand
+abbrev pub record_refuses : {T : Type 0} → Facts T → Reading → DecodeError → Reading → Type 0
+record_refuses f old e new = ((n : ℕ) → f.refusal n old e new) × Refused e old f.kinds (λ vs _. f.condition vs) new
+
+-- values are compared by their fields
+abbrev pub same : {T : Type 0} (kinds : List Kind) → (T → Values kinds) → T → T → Bool
+same kinds fields a b = values_eq kinds (fields a) (fields b)
+
+pub same_equiv : {T : Type 0} (kinds : List Kind) (fields : T → Values kinds) → IsEquivalence (same kinds fields)
+same_equiv kinds fields = on_equiv fields (values_equiv kinds)
+
+pub same_partial : {T : Type 0} (kinds : List Kind) (fields : T → Values kinds) → IsPartialEquivalence (same kinds fields)
+same_partial kinds fields = partial_equiv_from_equiv (same_equiv kinds fields)
