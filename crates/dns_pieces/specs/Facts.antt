@@ -1,12 +1,14 @@
 -- What the data of a record is: the fields, which reading, emitting and comparing it speak of.
-use Rattle.std.specs.Prelude.{ℕ, ◌≡◌, ◌+◌, ◌⊎◌, Bool, List}
+use Rattle.std.specs.Prelude.{ℕ, ◌≡◌, ◌+◌, Bool, List, Result}
 use Rattle.std.specs.Cmp.{IsEquivalence, IsPartialEquivalence, on_equiv, partial_equiv_from_equiv}
 use Rattle.dns_types.specs.declared.error.DecodeError.{DecodeError}
+use Rattle.dns_types.specs.declared.error.ProtoError.{ProtoError}
+use Rattle.dns_fields.specs.declared.RDataEncoding.{RDataEncoding}
 use Rattle.dns_fields.specs.Equal.{values_eq}
 use Rattle.dns_fields.specs.Fields.{Kind, Values, Stands}
 use Rattle.dns_fields.proofs.Equivalences.{values_equiv}
-use Rattle.dns_names_wire.specs.State.{Reading}
-use Rattle.dns_names_wire.specs.Words.{Refused}
+use Rattle.dns_names_wire.specs.State.{Reading, Writing}
+use Rattle.dns_names_wire.specs.Words.{Refused, EmitsAs}
 
 -- the kinds of the fields, what is asked of them beside that they stand, the fields themselves; why data of so many
 -- octets is refused, and what holds of a value that was read from so many, and of where the decoder is then
@@ -17,7 +19,17 @@ pub record Facts (T : Type 0) : Type 1 where
   pub refusal : ℕ → Reading → DecodeError → Reading → Type 0
   pub made : ℕ → T → Reading → Reading → Type 0
 
--- fields that fill the length, of which nothing is asked
+-- fields that say themselves where they end
+abbrev pub ending : {T : Type 0} (kinds : List Kind) → (Values kinds → Type 0) → (T → Values kinds) → (Reading → DecodeError → Reading → Type 0) → Facts T
+ending kinds condition fields refusal = record {
+  kinds = kinds;
+  condition = condition;
+  fields = fields;
+  refusal = λ n. refusal;
+  made = λ n x old new. Unit {0};
+}
+
+-- fields that fill the length
 abbrev pub filling : {T : Type 0} (kinds : List Kind) → (Values kinds → Type 0) → (T → Values kinds) → (ℕ → Reading → DecodeError → Reading → Type 0) → (T → Type 0)
     → Facts T
 filling kinds condition fields refusal IsRead = record {
@@ -35,6 +47,10 @@ record_stands f m p x q = Stands m p f.kinds (f.fields x) q × f.condition (f.fi
 -- it is refused, and no such fields stand
 abbrev pub record_refuses : {T : Type 0} → Facts T → Reading → DecodeError → Reading → Type 0
 record_refuses f old e new = ((n : ℕ) → f.refusal n old e new) × Refused e old f.kinds (λ vs _. f.condition vs) new
+
+-- the fields of the value are emitted, the names in this mode
+abbrev pub record_emits : {T : Type 0} → RDataEncoding → Facts T → T → Result (Unit {0}) ProtoError → Writing → Writing → Type 0
+record_emits mode f x r old new = EmitsAs mode f.kinds (f.fields x) r old new
 
 -- values are compared by their fields
 abbrev pub same : {T : Type 0} (kinds : List Kind) → (T → Values kinds) → T → T → Bool

@@ -7,6 +7,7 @@ use Rattle.dns_types.specs.declared.error.DecodeError.TheVariants as decode
 use Rattle.dns_fields.specs.Fields.{Kind, Octets, Values}
 use Rattle.dns_names_wire.specs.State.{Reading}
 use Rattle.dns_names_wire.specs.Words.{LacksOctets}
+use Rattle.dns_pieces.specs.Facts.{Facts, ending}
 use Rattle.dns_rdata_base.specs.declared.a.A.{A}
 
 -- the four octets of the address
@@ -23,3 +24,6 @@ a_text x = ipv4_text (ipv4_octets x.0)
 -- Why an address is refused: fewer than its octets are left. They are taken.
 abbrev pub a_refusal : Reading → DecodeError → Reading → Type 0
 a_refusal old e new = (e ≡ decode.InsufficientBytes) × LacksOctets old 4 × (new.index ≡ length old.message)
+
+abbrev pub a_facts : Facts A
+a_facts = ending a_shape (λ _. Unit {0}) a_fields a_refusal

@@ -7,6 +7,7 @@ use Rattle.dns_types.specs.declared.error.DecodeError.TheVariants as decode
 use Rattle.dns_fields.specs.Fields.{Kind, Octets, Values}
 use Rattle.dns_names_wire.specs.State.{Reading}
 use Rattle.dns_names_wire.specs.Words.{LacksOctets}
+use Rattle.dns_pieces.specs.Facts.{Facts, ending}
 use Rattle.dns_rdata_base.specs.declared.aaaa.AAAA.{AAAA}
 
 -- the sixteen octets of the address, the highest first
@@ -23,3 +24,6 @@ aaaa_text x = ipv6_text (ipv6_segments x.0)
 -- Why an address is refused: fewer than its octets are left. Whole pairs of them are taken.
 abbrev pub aaaa_refusal : Reading → DecodeError → Reading → Type 0
 aaaa_refusal old e new = (e ≡ decode.InsufficientBytes) × LacksOctets old 16 × (new.index ≡ old.index + (length old.message - old.index) / 2 * 2)
+
+abbrev pub aaaa_facts : Facts AAAA
+aaaa_facts = ending aaaa_shape (λ _. Unit {0}) aaaa_fields aaaa_refusal

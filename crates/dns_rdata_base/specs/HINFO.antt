@@ -6,6 +6,7 @@ use Rattle.dns_types.specs.declared.error.DecodeError.TheVariants as decode
 use Rattle.dns_names_wire.specs.State.{Reading}
 use Rattle.dns_names_wire.specs.Words.{TookField, LacksText}
 use Rattle.dns_rdata_base.specs.Lossy.{lossy}
+use Rattle.dns_pieces.specs.Facts.{Facts, ending}
 use Rattle.dns_rdata_base.specs.declared.hinfo.HINFO.{HINFO}
 
 -- cpu, os
@@ -25,3 +26,6 @@ LacksTwoTexts old new = LacksText old new ⊎ ((cpu : List ℕ) × (between : Re
 
 abbrev pub hinfo_refusal : Reading → DecodeError → Reading → Type 0
 hinfo_refusal old e new = (e ≡ decode.Memory) ⊎ ((e ≡ decode.InsufficientBytes) × LacksTwoTexts old new)
+
+abbrev pub hinfo_facts : Facts HINFO
+hinfo_facts = ending hinfo_shape (λ _. Unit {0}) hinfo_fields hinfo_refusal

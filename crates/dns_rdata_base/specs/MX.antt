@@ -2,6 +2,8 @@
 use Rattle.std.specs.Prelude.{ℕ, List, [], ◌∷◌, ◌++◌, codes, decimal}
 use Rattle.dns_fields.specs.Fields.{Kind, Number, Name, Values}
 use Rattle.dns_labels.specs.Text.{name_text}
+use Rattle.dns_pieces.specs.Facts.{Facts}
+use Rattle.dns_rdata_base.specs.Refusing.{straight}
 use Rattle.dns_rdata_base.specs.declared.mx.MX.{MX}
 
 -- preference, exchange
@@ -10,6 +12,9 @@ mx_shape = Number 2 ∷ Name ∷ []
 
 abbrev pub mx_fields : MX → Values mx_shape
 mx_fields x = (x.preference, (x.exchange, tt))
+
+abbrev pub mx_facts : Facts MX
+mx_facts = straight mx_shape mx_fields
 
 -- the fields, a blank between
 abbrev pub mx_text : MX → List ℕ

@@ -10,6 +10,7 @@ use Rattle.dns_names_wire.specs.State.{Reading}
 use Rattle.dns_names_wire.specs.Words.{Took}
 use Rattle.dns_rdata_base.specs.Lossy.{lossy}
 use Rattle.dns_rdata_base.specs.Refusing.{IsLack}
+use Rattle.dns_pieces.specs.Facts.{Facts, ending}
 use Rattle.dns_rdata_base.specs.declared.naptr.NAPTR.{NAPTR}
 
 -- order, preference
@@ -52,6 +53,9 @@ pub record BadFlags (old : Reading) (e : DecodeError) (new : Reading) : Type 0 w
 
 abbrev pub naptr_refusal : Reading → DecodeError → Reading → Type 0
 naptr_refusal old e new = IsLack naptr_shape old e new ⊎ BadFlags old e new
+
+abbrev pub naptr_facts : Facts NAPTR
+naptr_facts = ending naptr_shape naptr_condition naptr_fields naptr_refusal
 
 -- the fields, a blank between, the strings in quotes
 abbrev pub naptr_text : NAPTR → List ℕ

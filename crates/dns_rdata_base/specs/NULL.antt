@@ -1,8 +1,13 @@
 -- NULL: octets without a form (RFC 1035, 3.3.10).
-use Rattle.std.specs.Prelude.{ℕ, List, [], ◌∷◌}
+use Rattle.std.specs.Prelude.{◌≡◌, ◌⊎◌, ℕ, List, [], ◌∷◌}
 use Rattle.base64.specs.Engines.{standard}
 use Rattle.base64.specs.GeneralPurpose.{encode_of}
 use Rattle.dns_fields.specs.Fields.{Kind, Rest, Values}
+use Rattle.dns_types.specs.declared.error.DecodeError.{DecodeError}
+use Rattle.dns_types.specs.declared.error.DecodeError.TheVariants as decode
+use Rattle.dns_names_wire.specs.State.{Reading}
+use Rattle.dns_names_wire.specs.Words.{LacksOctets}
+use Rattle.dns_pieces.specs.Facts.{Facts, filling}
 use Rattle.dns_rdata_base.specs.declared.null.NULL.{NULL}
 
 -- all octets
@@ -15,3 +20,10 @@ null_fields x = (x.anything, tt)
 -- base64 (RFC 4648, 4)
 abbrev pub null_text : NULL → List ℕ
 null_text x = encode_of standard x.anything
+
+-- fewer than n octets are left, and none is taken
+abbrev pub null_refusal : ℕ → Reading → DecodeError → Reading → Type 0
+null_refusal n old e new = (new ≡ old) × ((e ≡ decode.Memory) ⊎ ((e ≡ decode.InsufficientBytes) × LacksOctets old n))
+
+abbrev pub null_facts : Facts NULL
+null_facts = filling null_shape (λ _. Unit {0}) null_fields null_refusal (λ _. Unit {0})

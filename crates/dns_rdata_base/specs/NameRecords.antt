@@ -3,6 +3,8 @@ use Rattle.std.specs.Prelude.{ℕ, List, [], ◌∷◌}
 use Rattle.dns_fields.specs.Fields.{Kind, Name, Values}
 use Rattle.dns_fields.specs.Labels.{DomainName}
 use Rattle.dns_labels.specs.Text.{name_text}
+use Rattle.dns_pieces.specs.Facts.{Facts}
+use Rattle.dns_rdata_base.specs.Refusing.{straight}
 use Rattle.dns_rdata_base.specs.declared.name.CNAME.{CNAME}
 use Rattle.dns_rdata_base.specs.declared.name.NS.{NS}
 use Rattle.dns_rdata_base.specs.declared.name.PTR.{PTR}
@@ -17,11 +19,17 @@ name_fields n = (n, tt)
 abbrev pub cname_fields : CNAME → Values name_shape
 cname_fields x = name_fields x.0
 
+abbrev pub cname_facts : Facts CNAME
+cname_facts = straight name_shape cname_fields
+
 abbrev pub cname_text : CNAME → List ℕ
 cname_text x = name_text x.0
 
 abbrev pub ns_fields : NS → Values name_shape
 ns_fields x = name_fields x.0
+
+abbrev pub ns_facts : Facts NS
+ns_facts = straight name_shape ns_fields
 
 abbrev pub ns_text : NS → List ℕ
 ns_text x = name_text x.0
@@ -29,11 +37,17 @@ ns_text x = name_text x.0
 abbrev pub ptr_fields : PTR → Values name_shape
 ptr_fields x = name_fields x.0
 
+abbrev pub ptr_facts : Facts PTR
+ptr_facts = straight name_shape ptr_fields
+
 abbrev pub ptr_text : PTR → List ℕ
 ptr_text x = name_text x.0
 
 abbrev pub aname_fields : ANAME → Values name_shape
 aname_fields x = name_fields x.0
+
+abbrev pub aname_facts : Facts ANAME
+aname_facts = straight name_shape aname_fields
 
 abbrev pub aname_text : ANAME → List ℕ
 aname_text x = name_text x.0

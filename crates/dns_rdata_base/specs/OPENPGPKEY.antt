@@ -1,12 +1,12 @@
 -- OPENPGPKEY: a public key (RFC 7929, 2.1).
-use Rattle.std.specs.Prelude.{◌≡◌, ◌⊎◌, ℕ, List, [], ◌∷◌}
+use Rattle.std.specs.Prelude.{ℕ, List, [], ◌∷◌}
 use Rattle.base64.specs.Engines.{standard}
 use Rattle.base64.specs.GeneralPurpose.{encode_of}
 use Rattle.dns_fields.specs.Fields.{Kind, Rest, Values}
 use Rattle.dns_types.specs.declared.error.DecodeError.{DecodeError}
-use Rattle.dns_types.specs.declared.error.DecodeError.TheVariants as decode
 use Rattle.dns_names_wire.specs.State.{Reading}
-use Rattle.dns_names_wire.specs.Words.{LacksOctets}
+use Rattle.dns_pieces.specs.Facts.{Facts, filling}
+use Rattle.dns_rdata_base.specs.NULL.{null_refusal}
 use Rattle.dns_rdata_base.specs.declared.openpgpkey.OPENPGPKEY.{OPENPGPKEY}
 
 -- all octets are the key
@@ -20,6 +20,8 @@ openpgpkey_fields x = (x.public_key, tt)
 abbrev pub openpgpkey_text : OPENPGPKEY → List ℕ
 openpgpkey_text x = encode_of standard x.public_key
 
--- fewer than n octets are left, and none is taken
 abbrev pub openpgpkey_refusal : ℕ → Reading → DecodeError → Reading → Type 0
-openpgpkey_refusal n old e new = (new ≡ old) × ((e ≡ decode.Memory) ⊎ ((e ≡ decode.InsufficientBytes) × LacksOctets old n))
+openpgpkey_refusal = null_refusal
+
+abbrev pub openpgpkey_facts : Facts OPENPGPKEY
+openpgpkey_facts = filling openpgpkey_shape (λ _. Unit {0}) openpgpkey_fields openpgpkey_refusal (λ _. Unit {0})

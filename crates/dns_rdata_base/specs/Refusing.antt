@@ -2,9 +2,10 @@
 use Rattle.std.specs.Prelude.{◌≡◌, ◌⊎◌, List, [], ◌∷◌}
 use Rattle.dns_types.specs.declared.error.DecodeError.{DecodeError}
 use Rattle.dns_types.specs.declared.error.DecodeError.TheVariants as decode
-use Rattle.dns_fields.specs.Fields.{Kind, Number, Name, Text, Value}
+use Rattle.dns_fields.specs.Fields.{Kind, Number, Name, Text, Value, Values}
 use Rattle.dns_names_wire.specs.State.{Reading}
 use Rattle.dns_names_wire.specs.Words.{TookField, LacksOctets, LacksText, LacksField}
+use Rattle.dns_pieces.specs.Facts.{Facts, ending}
 
 -- no number, name or character string stands there: of the last alone its length octet is taken
 abbrev pub LacksHere : Kind → Reading → DecodeError → Reading → Type 0
@@ -21,3 +22,7 @@ FirstLack (k ∷ kinds) old e new = LacksHere k old e new ⊎ ((v : Value k) × 
 -- memory ran out, or a field doesn't stand
 abbrev pub IsLack : List Kind → Reading → DecodeError → Reading → Type 0
 IsLack kinds old e new = (e ≡ decode.Memory) ⊎ FirstLack kinds old e new
+
+-- numbers, names and character strings one behind the other, of which nothing is asked
+abbrev pub straight : {T : Type 0} (kinds : List Kind) → (T → Values kinds) → Facts T
+straight kinds fields = ending kinds (λ _. Unit {0}) fields (IsLack kinds)

@@ -4,6 +4,8 @@ use Rattle.dns_fields.specs.Fields.{Kind, Number, Name, Values}
 use Rattle.dns_labels.specs.Text.{name_text}
 use Rattle.std.specs.Fmt.{signed_decimal}
 use Rattle.std.specs.Int.{cast_unsigned, w32}
+use Rattle.dns_pieces.specs.Facts.{Facts}
+use Rattle.dns_rdata_base.specs.Refusing.{straight}
 use Rattle.dns_rdata_base.specs.declared.soa.SOA.{SOA}
 
 -- serial, refresh, retry, expire, minimum
@@ -29,6 +31,9 @@ pub record HasSeconds (x : SOA) : Type 0 where
   pub refresh : FitsSigned w32 x.refresh
   pub retry : FitsSigned w32 x.retry
   pub expire : FitsSigned w32 x.expire
+
+abbrev pub soa_facts : Facts SOA
+soa_facts = record (straight soa_shape soa_fields) { made = λ n x old new. HasSeconds x }
 
 -- the fields, a blank between
 abbrev pub soa_text : SOA → List ℕ

@@ -2,6 +2,8 @@
 use Rattle.std.specs.Prelude.{ℕ, List, [], ◌∷◌, ◌++◌, codes, decimal}
 use Rattle.dns_fields.specs.Fields.{Kind, Number, Name, Values}
 use Rattle.dns_labels.specs.Text.{name_text}
+use Rattle.dns_pieces.specs.Facts.{Facts}
+use Rattle.dns_rdata_base.specs.Refusing.{straight}
 use Rattle.dns_rdata_base.specs.declared.srv.SRV.{SRV}
 
 -- priority, weight, port
@@ -17,6 +19,9 @@ srv_shape = Number 2 ∷ Number 2 ∷ Number 2 ∷ Name ∷ []
 
 abbrev pub srv_fields : SRV → Values srv_shape
 srv_fields x = (x.priority, (x.weight, (x.port, (x.target, tt))))
+
+abbrev pub srv_facts : Facts SRV
+srv_facts = straight srv_shape srv_fields
 
 -- the fields, a blank between
 abbrev pub srv_text : SRV → List ℕ

@@ -1,11 +1,12 @@
 -- TXT: character strings (RFC 1035, 3.3.14).
-use Rattle.std.specs.Prelude.{◌≡◌, ◌⊎◌, ◌+◌, ◌<◌, ℕ, List, [], ◌∷◌}
+use Rattle.std.specs.Prelude.{◌≡◌, ◌⊎◌, ◌+◌, ◌<◌, ◌≤◌, ℕ, List, [], ◌∷◌}
 use Rattle.std.specs.List.{flat_map}
 use Rattle.dns_fields.specs.Fields.{Kind, Texts, Values}
 use Rattle.dns_types.specs.declared.error.DecodeError.{DecodeError}
 use Rattle.dns_types.specs.declared.error.DecodeError.TheVariants as decode
 use Rattle.dns_names_wire.specs.State.{Reading}
 use Rattle.dns_names_wire.specs.Words.{TookField, LacksText}
+use Rattle.dns_pieces.specs.Facts.{Facts}
 use Rattle.dns_rdata_base.specs.Lossy.{lossy}
 use Rattle.dns_rdata_base.specs.declared.txt.TXT.{TXT}
 
@@ -30,3 +31,13 @@ pub record LacksString (n : ℕ) (old new : Reading) : Type 0 where
 
 abbrev pub txt_refusal : ℕ → Reading → DecodeError → Reading → Type 0
 txt_refusal n old e new = (e ≡ decode.Memory) ⊎ ((e ≡ decode.InsufficientBytes) × LacksString n old new)
+
+-- the strings that were taken reach the length, or pass it
+abbrev pub txt_facts : Facts TXT
+txt_facts = record {
+  kinds = txt_shape;
+  condition = λ _. Unit {0};
+  fields = txt_fields;
+  refusal = txt_refusal;
+  made = λ n x old new. TookField old Texts x.txt_data new × (old.index + n ≤ new.index);
+}

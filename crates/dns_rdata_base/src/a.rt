@@ -2,15 +2,16 @@
 
 ghost use Rattle.std.specs.Prelude.{◌≡◌, ◌+◌, ◌<◌, ◌≤◌, ◌++◌, ℕ, List, [], ◌∷◌, length, length as list_length, decimal, OnErr, IfErr};
 ghost use Rattle.std.specs.Net.Addr.{ipv4_octets};
-ghost use Rattle.dns_names_wire.specs.Words.{ReadsIf, ReadsBy, ReadsWindow, Emits, LacksOctets, always, IsCut};
-ghost use Rattle.dns_rdata_base.specs.A.{a_shape, a_fields, a_refusal};
+ghost use Rattle.dns_names_wire.specs.Words.{ReadsIf, ReadsBy, Emits, LacksOctets, always, IsCut};
+ghost use Rattle.dns_pieces.specs.Facts.{same, same_equiv, same_partial};
+ghost use Rattle.dns_rdata_base.specs.A.{a_shape, a_fields, a_facts};
 
-use crate::decoding::{DecodesFields, read_whole};
-use crate::traits::{RecordDataDecodable, TakesOctet};
+use crate::decoding::DecodesFields;
+use crate::traits::TakesOctet;
 use dns_names_wire::{
     AddrParseError, BinDecodable, BinDecoder, BinEncodable, BinEncoder, DecodeError, ProtoError,
-    Restrict,
 };
+use dns_pieces::Record;
 use std::marker::Model;
 use std::net::Ipv4Addr;
 use std::ops::Deref;
@@ -57,40 +58,16 @@ impl TakesOctet for A {
     ghost takes = { a_takes };
 }
 
+impl Record for A {
+    ghost facts = { a_facts };
+}
+
 impl DecodesFields for A {
-    ghost decoded = { a_shape };
-
-    ghost asked = { λ _. Unit {0} };
-
-    ghost taken = { a_fields };
-
-    ghost refusal = { λ old e new. a_refusal old e new };
-
-    ghost made = { λ _. Unit {0} };
-
     ghost ends = { (tt, (tt, tt)) };
 
     #[inline]
     fn read_fields(decoder: &mut BinDecoder<'_>) -> Result<A, DecodeError> {
         A::read(decoder)
-    }
-}
-
-impl RecordDataDecodable for A {
-    ghost kinds = { a_shape };
-
-    ghost condition = { λ _. Unit {0} };
-
-    ghost fields = { a_fields };
-
-    /// Reads the four octets, whatever the length.
-    #[inline]
-    fn read_data(decoder: &mut BinDecoder<'_>, length: Restrict<u16>) -> Result<A, DecodeError>
-        ensures window { ReadsWindow a_shape (λ _. Unit {0}) a_fields length result decoder.old decoder.new }
-        ensures fields { ReadsIf a_shape (always a_shape) a_fields result decoder.old decoder.new }
-        ensures refused { IfErr result (λ e. a_refusal decoder.old e decoder.new) }
-    {
-        read_whole(decoder, length)
     }
 }
 
@@ -105,13 +82,9 @@ impl BinEncodable for A {
 }
 
 impl PartialEq for A {
-    ghost use Rattle.std.specs.Cmp.{partial_equiv_from_equiv, on_equiv};
-    ghost use Rattle.dns_fields.specs.Equal.{values_eq};
-    ghost use Rattle.dns_fields.proofs.Equivalences.{values_equiv};
+    ghost eq = { same a_shape a_fields };
 
-    ghost eq = { λ a b. values_eq a_shape (a_fields a) (a_fields b) };
-
-    ghost laws = { partial_equiv_from_equiv (on_equiv a_fields (values_equiv a_shape)) };
+    ghost laws = { same_partial a_shape a_fields };
 
     #[inline]
     fn eq(&self, other: &A) -> bool {
@@ -120,10 +93,7 @@ impl PartialEq for A {
 }
 
 impl Eq for A {
-    ghost use Rattle.std.specs.Cmp.{on_equiv};
-    ghost use Rattle.dns_fields.proofs.Equivalences.{values_equiv};
-
-    ghost laws = { on_equiv a_fields (values_equiv a_shape) };
+    ghost laws = { same_equiv a_shape a_fields };
 }
 
 impl From<Ipv4Addr> for A {

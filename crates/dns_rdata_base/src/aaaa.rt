@@ -2,15 +2,16 @@
 
 ghost use Rattle.std.specs.Prelude.{◌≡◌, ◌+◌, ◌-◌, ◌*◌, ◌/◌, ◌<◌, ◌≤◌, ℕ, List, [], ◌∷◌, length, length as list_length, OnErr, IfErr};
 ghost use Rattle.std.specs.Net.Addr.{ipv6_segments, ipv6_octets};
-ghost use Rattle.dns_names_wire.specs.Words.{ReadsIf, ReadsBy, ReadsWindow, Emits, LacksOctets, always, IsCut};
-ghost use Rattle.dns_rdata_base.specs.AAAA.{aaaa_shape, aaaa_fields, aaaa_refusal};
+ghost use Rattle.dns_names_wire.specs.Words.{ReadsIf, ReadsBy, Emits, LacksOctets, always, IsCut};
+ghost use Rattle.dns_pieces.specs.Facts.{same, same_equiv, same_partial};
+ghost use Rattle.dns_rdata_base.specs.AAAA.{aaaa_shape, aaaa_fields, aaaa_facts};
 
-use crate::decoding::{DecodesFields, read_whole};
-use crate::traits::{RecordDataDecodable, TakesOctet};
+use crate::decoding::DecodesFields;
+use crate::traits::TakesOctet;
 use dns_names_wire::{
     AddrParseError, BinDecodable, BinDecoder, BinEncodable, BinEncoder, DecodeError, ProtoError,
-    Restrict,
 };
+use dns_pieces::Record;
 use std::fmt;
 use std::hash::{Hash, Hasher};
 use std::net::Ipv6Addr;
@@ -58,40 +59,16 @@ impl TakesOctet for AAAA {
     ghost takes = { aaaa_takes };
 }
 
+impl Record for AAAA {
+    ghost facts = { aaaa_facts };
+}
+
 impl DecodesFields for AAAA {
-    ghost decoded = { aaaa_shape };
-
-    ghost asked = { λ _. Unit {0} };
-
-    ghost taken = { aaaa_fields };
-
-    ghost refusal = { λ old e new. aaaa_refusal old e new };
-
-    ghost made = { λ _. Unit {0} };
-
     ghost ends = { (tt, (tt, tt)) };
 
     #[inline]
     fn read_fields(decoder: &mut BinDecoder<'_>) -> Result<AAAA, DecodeError> {
         AAAA::read(decoder)
-    }
-}
-
-impl RecordDataDecodable for AAAA {
-    ghost kinds = { aaaa_shape };
-
-    ghost condition = { λ _. Unit {0} };
-
-    ghost fields = { aaaa_fields };
-
-    /// Reads the sixteen octets, whatever the length.
-    #[inline]
-    fn read_data(decoder: &mut BinDecoder<'_>, length: Restrict<u16>) -> Result<AAAA, DecodeError>
-        ensures window { ReadsWindow aaaa_shape (λ _. Unit {0}) aaaa_fields length result decoder.old decoder.new }
-        ensures fields { ReadsIf aaaa_shape (always aaaa_shape) aaaa_fields result decoder.old decoder.new }
-        ensures refused { IfErr result (λ e. aaaa_refusal decoder.old e decoder.new) }
-    {
-        read_whole(decoder, length)
     }
 }
 
@@ -106,13 +83,9 @@ impl BinEncodable for AAAA {
 }
 
 impl PartialEq for AAAA {
-    ghost use Rattle.std.specs.Cmp.{partial_equiv_from_equiv, on_equiv};
-    ghost use Rattle.dns_fields.specs.Equal.{values_eq};
-    ghost use Rattle.dns_fields.proofs.Equivalences.{values_equiv};
+    ghost eq = { same aaaa_shape aaaa_fields };
 
-    ghost eq = { λ a b. values_eq aaaa_shape (aaaa_fields a) (aaaa_fields b) };
-
-    ghost laws = { partial_equiv_from_equiv (on_equiv aaaa_fields (values_equiv aaaa_shape)) };
+    ghost laws = { same_partial aaaa_shape aaaa_fields };
 
     #[inline(always)]
     fn eq(&self, other: &AAAA) -> bool {
@@ -125,10 +98,7 @@ impl PartialEq for AAAA {
 }
 
 impl Eq for AAAA {
-    ghost use Rattle.std.specs.Cmp.{on_equiv};
-    ghost use Rattle.dns_fields.proofs.Equivalences.{values_equiv};
-
-    ghost laws = { on_equiv aaaa_fields (values_equiv aaaa_shape) };
+    ghost laws = { same_equiv aaaa_shape aaaa_fields };
 }
 
 impl Hash for AAAA {

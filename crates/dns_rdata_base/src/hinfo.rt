@@ -1,18 +1,18 @@
 //! HINFO: a machine and its system (RFC 1035, 3.3.2).
 
-ghost use Rattle.std.specs.Prelude.{◌≡◌, ◌⊎◌, IfErr, IfOk};
+ghost use Rattle.std.specs.Prelude.{◌≡◌, IfOk};
 ghost use Rattle.std.specs.Box.{boxed_slice_items};
 ghost use Rattle.std.specs.String.{string_bytes};
-ghost use Rattle.dns_names_wire.specs.Words.{ReadsIf, ReadsBy, ReadsWindow, Emits, always};
-ghost use Rattle.dns_rdata_base.specs.HINFO.{hinfo_shape, hinfo_fields, hinfo_refusal};
+ghost use Rattle.dns_names_wire.specs.Words.{Emits};
+ghost use Rattle.dns_pieces.specs.Facts.{record_refuses, record_stands, same, same_equiv, same_partial};
+ghost use Rattle.dns_rdata_base.specs.HINFO.{hinfo_shape, hinfo_fields, hinfo_facts};
 
-use crate::decoding::{DecodesFields, read_whole};
-use crate::traits::RecordDataDecodable;
+use crate::decoding::{DecodesFields, read_record};
 use bstr::BStr;
 use dns_names_wire::{
-    BinDecodable, BinDecoder, BinEncodable, BinEncoder, DecodeError, ProtoError, Restrict,
-    SmallOctets,
+    BinDecodable, BinDecoder, BinEncodable, BinEncoder, DecodeError, ProtoError, SmallOctets,
 };
+use dns_pieces::Record;
 use std::alloc::AllocError;
 use std::boxed::BoxedSlice;
 use std::fmt;
@@ -50,22 +50,15 @@ impl HINFO {
     }
 }
 
-impl BinDecodable for HINFO {
-    ghost use Rattle.dns_fields.specs.Fields.{Stands};
+impl Record for HINFO {
+    ghost facts = { hinfo_facts };
+}
 
-    ghost stands = { λ m p x q. Stands m p hinfo_shape (hinfo_fields x) q };
+impl DecodesFields for HINFO {
+    ghost ends = { (tt, (tt, (tt, tt))) };
 
-    ghost refuses = { hinfo_refusal };
-
-    /// Reads two character strings. Where one lacks octets it is refused by
-    /// [`InsufficientBytes`](DecodeError::InsufficientBytes): the strings before it, and its length octet where that is
-    /// there, are taken. Memory is asked for once for each string of more than 32 octets, when both were read.
     #[tactic(auto, using(dns_names_wire::proofs::FieldReads::reading))]
-    fn read(decoder: &mut BinDecoder<'_>) -> Result<HINFO, DecodeError>
-        ensures reads { ReadsBy (λ m p x q. Stands m p hinfo_shape (hinfo_fields x) q) result decoder.old decoder.new }
-        ensures fields { ReadsIf hinfo_shape (always hinfo_shape) hinfo_fields result decoder.old decoder.new }
-        ensures refused { IfErr result (λ e. hinfo_refusal decoder.old e decoder.new) }
-    {
+    fn read_fields(decoder: &mut BinDecoder<'_>) -> Result<HINFO, DecodeError> {
         let alloc = decoder.allocator();
         let cpu = decoder.read_character_data()?.unverified();
         let os = decoder.read_character_data()?.unverified();
@@ -75,40 +68,17 @@ impl BinDecodable for HINFO {
     }
 }
 
-impl DecodesFields for HINFO {
-    ghost decoded = { hinfo_shape };
+impl BinDecodable for HINFO {
+    ghost stands = { record_stands hinfo_facts };
 
-    ghost asked = { λ _. Unit {0} };
+    ghost refuses = { record_refuses hinfo_facts };
 
-    ghost taken = { hinfo_fields };
-
-    ghost refusal = { λ old e new. hinfo_refusal old e new };
-
-    ghost made = { λ _. Unit {0} };
-
-    ghost ends = { (tt, (tt, (tt, tt))) };
-
+    /// Reads two character strings. Where one lacks octets it is refused by
+    /// [`InsufficientBytes`](DecodeError::InsufficientBytes): the strings before it, and its length octet where that is
+    /// there, are taken. Memory is asked for once for each string of more than 32 octets, when both were read.
     #[inline]
-    fn read_fields(decoder: &mut BinDecoder<'_>) -> Result<HINFO, DecodeError> {
-        HINFO::read(decoder)
-    }
-}
-
-impl RecordDataDecodable for HINFO {
-    ghost kinds = { hinfo_shape };
-
-    ghost condition = { λ _. Unit {0} };
-
-    ghost fields = { hinfo_fields };
-
-    /// Reads two character strings, whatever the length.
-    #[inline]
-    fn read_data(decoder: &mut BinDecoder<'_>, length: Restrict<u16>) -> Result<HINFO, DecodeError>
-        ensures window { ReadsWindow hinfo_shape (λ _. Unit {0}) hinfo_fields length result decoder.old decoder.new }
-        ensures fields { ReadsIf hinfo_shape (always hinfo_shape) hinfo_fields result decoder.old decoder.new }
-        ensures refused { IfErr result (λ e. hinfo_refusal decoder.old e decoder.new) }
-    {
-        read_whole(decoder, length)
+    fn read(decoder: &mut BinDecoder<'_>) -> Result<HINFO, DecodeError> {
+        read_record(decoder)
     }
 }
 
@@ -126,13 +96,9 @@ impl BinEncodable for HINFO {
 }
 
 impl PartialEq for HINFO {
-    ghost use Rattle.std.specs.Cmp.{partial_equiv_from_equiv, on_equiv};
-    ghost use Rattle.dns_fields.specs.Equal.{values_eq};
-    ghost use Rattle.dns_fields.proofs.Equivalences.{values_equiv};
+    ghost eq = { same hinfo_shape hinfo_fields };
 
-    ghost eq = { λ a b. values_eq hinfo_shape (hinfo_fields a) (hinfo_fields b) };
-
-    ghost laws = { partial_equiv_from_equiv (on_equiv hinfo_fields (values_equiv hinfo_shape)) };
+    ghost laws = { same_partial hinfo_shape hinfo_fields };
 
     #[inline(never)]
     fn eq(&self, other: &HINFO) -> bool {
@@ -141,10 +107,7 @@ impl PartialEq for HINFO {
 }
 
 impl Eq for HINFO {
-    ghost use Rattle.std.specs.Cmp.{on_equiv};
-    ghost use Rattle.dns_fields.proofs.Equivalences.{values_equiv};
-
-    ghost laws = { on_equiv hinfo_fields (values_equiv hinfo_shape) };
+    ghost laws = { same_equiv hinfo_shape hinfo_fields };
 }
 
 impl Clone for HINFO {

@@ -20,7 +20,7 @@ mod words;
 
 pub use a::A;
 pub use aaaa::AAAA;
-pub use decoding::{DecodesFields, read_whole};
+pub use decoding::{DecodesFields, read_record};
 pub use hinfo::HINFO;
 pub use mx::MX;
 pub use name::{ANAME, CNAME, NS, PTR};

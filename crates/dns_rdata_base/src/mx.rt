@@ -1,19 +1,16 @@
 //! MX: a mail exchange (RFC 1035, 3.3.9).
 
-ghost use Rattle.std.specs.Prelude.{◌≡◌, IfErr, IfOk};
-ghost use Rattle.dns_fields.specs.Fields.{Stands};
+ghost use Rattle.std.specs.Prelude.{◌≡◌, IfOk};
 ghost use Rattle.dns_fields.specs.declared.RDataEncoding.TheVariants as modes;
-ghost use Rattle.dns_names_wire.specs.Words.{ReadsIf, ReadsBy, ReadsWindow, Emits, EmitsAs, Extends, Keeps, always};
-ghost use Rattle.dns_rdata_base.specs.Refusing.{IsLack};
-ghost use Rattle.dns_rdata_base.specs.MX.{mx_shape, mx_fields};
+ghost use Rattle.dns_pieces.specs.Facts.{record_emits, record_refuses, record_stands, same, same_equiv, same_partial};
+ghost use Rattle.dns_rdata_base.specs.MX.{mx_shape, mx_fields, mx_facts};
 
-use crate::decoding::{DecodesFields, read_whole};
-use crate::traits::RecordDataDecodable;
+use crate::decoding::{DecodesFields, read_record};
 use dns_names_wire::{
     BinDecodable, BinDecoder, BinEncodable, BinEncoder, DecodeError, Name, ProtoError,
-    RDataEncoding, Restrict,
+    RDataEncoding,
 };
-use dns_pieces::{EncodesFields, emit_in};
+use dns_pieces::{EncodesFields, Record, emit_in};
 use std::alloc::AllocError;
 use std::fmt;
 
@@ -38,21 +35,15 @@ impl MX {
     }
 }
 
-impl BinDecodable for MX {
-    ghost stands = { λ m p x q. Stands m p mx_shape (mx_fields x) q };
+impl Record for MX {
+    ghost facts = { mx_facts };
+}
 
-    ghost refuses = { IsLack mx_shape };
+impl DecodesFields for MX {
+    ghost ends = { (tt, (tt, (tt, tt))) };
 
-    /// Reads the fields in order. Where one does not stand it is refused, and those before it are taken: by
-    /// [`InsufficientBytes`](DecodeError::InsufficientBytes) where a number lacks octets,
-    /// [`NameInvalid`](DecodeError::NameInvalid) where no name stands, [`Memory`](DecodeError::Memory) where memory
-    /// runs out.
     #[tactic(auto, using(dns_names_wire::proofs::FieldReads::reading))]
-    fn read(decoder: &mut BinDecoder<'_>) -> Result<MX, DecodeError>
-        ensures reads { ReadsBy (λ m p x q. Stands m p mx_shape (mx_fields x) q) result decoder.old decoder.new }
-        ensures fields { ReadsIf mx_shape (always mx_shape) mx_fields result decoder.old decoder.new }
-        ensures refused { IfErr result (λ e. IsLack mx_shape decoder.old e decoder.new) }
-    {
+    fn read_fields(decoder: &mut BinDecoder<'_>) -> Result<MX, DecodeError> {
         let preference = decoder.read_u16()?.unverified();
         let exchange = Name::read(decoder)?;
         Ok(MX {
@@ -62,48 +53,22 @@ impl BinDecodable for MX {
     }
 }
 
-impl DecodesFields for MX {
-    ghost decoded = { mx_shape };
+impl BinDecodable for MX {
+    ghost stands = { record_stands mx_facts };
 
-    ghost asked = { λ _. Unit {0} };
+    ghost refuses = { record_refuses mx_facts };
 
-    ghost taken = { mx_fields };
-
-    ghost refusal = { λ old e new. IsLack mx_shape old e new };
-
-    ghost made = { λ _. Unit {0} };
-
-    ghost ends = { (tt, (tt, (tt, tt))) };
-
+    /// Reads the fields in order. Where one does not stand it is refused, and those before it are taken: by
+    /// [`InsufficientBytes`](DecodeError::InsufficientBytes) where a number lacks octets,
+    /// [`NameInvalid`](DecodeError::NameInvalid) where no name stands, [`Memory`](DecodeError::Memory) where memory
+    /// runs out.
     #[inline]
-    fn read_fields(decoder: &mut BinDecoder<'_>) -> Result<MX, DecodeError> {
-        MX::read(decoder)
-    }
-}
-
-impl RecordDataDecodable for MX {
-    ghost kinds = { mx_shape };
-
-    ghost condition = { λ _. Unit {0} };
-
-    ghost fields = { mx_fields };
-
-    /// As `read`, whatever the length.
-    #[inline]
-    fn read_data(decoder: &mut BinDecoder<'_>, length: Restrict<u16>) -> Result<MX, DecodeError>
-        ensures window { ReadsWindow mx_shape (λ _. Unit {0}) mx_fields length result decoder.old decoder.new }
-        ensures fields { ReadsIf mx_shape (always mx_shape) mx_fields result decoder.old decoder.new }
-        ensures refused { IfErr result (λ e. IsLack mx_shape decoder.old e decoder.new) }
-    {
-        read_whole(decoder, length)
+    fn read(decoder: &mut BinDecoder<'_>) -> Result<MX, DecodeError> {
+        read_record(decoder)
     }
 }
 
 impl EncodesFields for MX {
-    ghost emitted = { mx_shape };
-
-    ghost parts = { mx_fields };
-
     #[tactic(auto, using(dns_names_wire::proofs::FieldWrites::writing))]
     fn emit_fields(&self, encoder: &mut BinEncoder<'_>) -> Result<(), ProtoError> {
         encoder.emit_u16(self.preference)?;
@@ -113,28 +78,20 @@ impl EncodesFields for MX {
 }
 
 impl BinEncodable for MX {
-    ghost emits = { λ x r old new. EmitsAs modes.StandardRecord mx_shape (mx_fields x) r old new };
+    ghost emits = { record_emits modes.StandardRecord mx_facts };
 
     /// Appends the octets; a name ends with a pointer to an earlier place where it can (RFC 1035, 4.1.4). It is refused
     /// by [`MaxBufferSizeExceeded`](ProtoError::MaxBufferSizeExceeded) or [`Memory`](ProtoError::Memory) alone. The
     /// encoder is then in the mode that it was in, refused or not.
-    fn emit(&self, encoder: &mut BinEncoder<'_>) -> Result<(), ProtoError>
-        ensures emits { EmitsAs RDataEncoding.StandardRecord mx_shape (mx_fields self.now) result encoder.old encoder.new }
-        ensures extends { Extends encoder.old encoder.new }
-        ensures keeps { Keeps encoder.old encoder.new }
-    {
+    fn emit(&self, encoder: &mut BinEncoder<'_>) -> Result<(), ProtoError> {
         emit_in(RDataEncoding::StandardRecord, self, encoder)
     }
 }
 
 impl PartialEq for MX {
-    ghost use Rattle.std.specs.Cmp.{partial_equiv_from_equiv, on_equiv};
-    ghost use Rattle.dns_fields.specs.Equal.{values_eq};
-    ghost use Rattle.dns_fields.proofs.Equivalences.{values_equiv};
+    ghost eq = { same mx_shape mx_fields };
 
-    ghost eq = { λ a b. values_eq mx_shape (mx_fields a) (mx_fields b) };
-
-    ghost laws = { partial_equiv_from_equiv (on_equiv mx_fields (values_equiv mx_shape)) };
+    ghost laws = { same_partial mx_shape mx_fields };
 
     #[inline(never)]
     fn eq(&self, other: &MX) -> bool {
@@ -143,10 +100,7 @@ impl PartialEq for MX {
 }
 
 impl Eq for MX {
-    ghost use Rattle.std.specs.Cmp.{on_equiv};
-    ghost use Rattle.dns_fields.proofs.Equivalences.{values_equiv};
-
-    ghost laws = { on_equiv mx_fields (values_equiv mx_shape) };
+    ghost laws = { same_equiv mx_shape mx_fields };
 }
 
 impl Clone for MX {

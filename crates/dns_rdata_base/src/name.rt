@@ -1,19 +1,16 @@
 //! Records of one name: CNAME, NS, PTR (RFC 1035, 3.3) and ANAME.
 
-ghost use Rattle.std.specs.Prelude.{◌≡◌, IfErr, IfOk};
-ghost use Rattle.dns_fields.specs.Fields.{Stands};
+ghost use Rattle.std.specs.Prelude.{◌≡◌, IfOk};
 ghost use Rattle.dns_fields.specs.declared.RDataEncoding.TheVariants as modes;
-ghost use Rattle.dns_names_wire.specs.Words.{ReadsIf, ReadsBy, ReadsWindow, Emits, EmitsAs, Extends, Keeps, always};
-ghost use Rattle.dns_rdata_base.specs.Refusing.{IsLack};
-ghost use Rattle.dns_rdata_base.specs.NameRecords.{name_shape, cname_fields, ns_fields, ptr_fields, aname_fields};
+ghost use Rattle.dns_pieces.specs.Facts.{record_emits, record_refuses, record_stands, same, same_equiv, same_partial};
+ghost use Rattle.dns_rdata_base.specs.NameRecords.{name_shape, cname_fields, cname_facts, ns_fields, ns_facts, ptr_fields, ptr_facts, aname_fields, aname_facts};
 
-use crate::decoding::{DecodesFields, read_whole};
-use crate::traits::RecordDataDecodable;
+use crate::decoding::{DecodesFields, read_record};
 use dns_names_wire::{
     BinDecodable, BinDecoder, BinEncodable, BinEncoder, DecodeError, Name, ProtoError,
-    RDataEncoding, Restrict,
+    RDataEncoding,
 };
-use dns_pieces::{EncodesFields, emit_in};
+use dns_pieces::{EncodesFields, Record, emit_in};
 use std::alloc::AllocError;
 use std::fmt;
 use std::ops::Deref;
@@ -22,65 +19,33 @@ use std::ops::Deref;
 #[derive(Debug, Drop, Hash)]
 pub struct CNAME(pub Name);
 
-impl BinDecodable for CNAME {
-    ghost stands = { λ m p x q. Stands m p name_shape (cname_fields x) q };
+impl Record for CNAME {
+    ghost facts = { cname_facts };
+}
 
-    ghost refuses = { IsLack name_shape };
+impl DecodesFields for CNAME {
+    ghost ends = { (tt, (tt, tt)) };
 
-    /// Reads the name. Where none stands it is refused by [`NameInvalid`](DecodeError::NameInvalid), where memory runs
-    /// out by [`Memory`](DecodeError::Memory); the place is then as it was.
     #[tactic(auto, using(dns_names_wire::proofs::FieldReads::reading))]
-    fn read(decoder: &mut BinDecoder<'_>) -> Result<CNAME, DecodeError>
-        ensures reads { ReadsBy (λ m p x q. Stands m p name_shape (cname_fields x) q) result decoder.old decoder.new }
-        ensures fields { ReadsIf name_shape (always name_shape) cname_fields result decoder.old decoder.new }
-        ensures refused { IfErr result (λ e. IsLack name_shape decoder.old e decoder.new) }
-    {
+    fn read_fields(decoder: &mut BinDecoder<'_>) -> Result<CNAME, DecodeError> {
         Ok(CNAME(Name::read(decoder)?))
     }
 }
 
-impl DecodesFields for CNAME {
-    ghost decoded = { name_shape };
+impl BinDecodable for CNAME {
+    ghost stands = { record_stands cname_facts };
 
-    ghost asked = { λ _. Unit {0} };
+    ghost refuses = { record_refuses cname_facts };
 
-    ghost taken = { cname_fields };
-
-    ghost refusal = { λ old e new. IsLack name_shape old e new };
-
-    ghost made = { λ _. Unit {0} };
-
-    ghost ends = { (tt, (tt, tt)) };
-
+    /// Reads the name. Where none stands it is refused by [`NameInvalid`](DecodeError::NameInvalid), where memory runs
+    /// out by [`Memory`](DecodeError::Memory); the place is then as it was.
     #[inline]
-    fn read_fields(decoder: &mut BinDecoder<'_>) -> Result<CNAME, DecodeError> {
-        CNAME::read(decoder)
-    }
-}
-
-impl RecordDataDecodable for CNAME {
-    ghost kinds = { name_shape };
-
-    ghost condition = { λ _. Unit {0} };
-
-    ghost fields = { cname_fields };
-
-    /// As `read`, whatever the length.
-    #[inline]
-    fn read_data(decoder: &mut BinDecoder<'_>, length: Restrict<u16>) -> Result<CNAME, DecodeError>
-        ensures window { ReadsWindow name_shape (λ _. Unit {0}) cname_fields length result decoder.old decoder.new }
-        ensures fields { ReadsIf name_shape (always name_shape) cname_fields result decoder.old decoder.new }
-        ensures refused { IfErr result (λ e. IsLack name_shape decoder.old e decoder.new) }
-    {
-        read_whole(decoder, length)
+    fn read(decoder: &mut BinDecoder<'_>) -> Result<CNAME, DecodeError> {
+        read_record(decoder)
     }
 }
 
 impl EncodesFields for CNAME {
-    ghost emitted = { name_shape };
-
-    ghost parts = { cname_fields };
-
     #[tactic(auto, using(dns_names_wire::proofs::FieldWrites::writing))]
     fn emit_fields(&self, encoder: &mut BinEncoder<'_>) -> Result<(), ProtoError> {
         self.0.emit(encoder)?;
@@ -89,16 +54,12 @@ impl EncodesFields for CNAME {
 }
 
 impl BinEncodable for CNAME {
-    ghost emits = { λ x r old new. EmitsAs modes.StandardRecord name_shape (cname_fields x) r old new };
+    ghost emits = { record_emits modes.StandardRecord cname_facts };
 
     /// Appends the octets; a name ends with a pointer to an earlier place where it can (RFC 1035, 4.1.4). It is refused
     /// by [`MaxBufferSizeExceeded`](ProtoError::MaxBufferSizeExceeded) or [`Memory`](ProtoError::Memory) alone. The
     /// encoder is then in the mode that it was in, refused or not.
-    fn emit(&self, encoder: &mut BinEncoder<'_>) -> Result<(), ProtoError>
-        ensures emits { EmitsAs RDataEncoding.StandardRecord name_shape (cname_fields self.now) result encoder.old encoder.new }
-        ensures extends { Extends encoder.old encoder.new }
-        ensures keeps { Keeps encoder.old encoder.new }
-    {
+    fn emit(&self, encoder: &mut BinEncoder<'_>) -> Result<(), ProtoError> {
         emit_in(RDataEncoding::StandardRecord, self, encoder)
     }
 }
@@ -114,13 +75,9 @@ impl Deref for CNAME {
 }
 
 impl PartialEq for CNAME {
-    ghost use Rattle.std.specs.Cmp.{partial_equiv_from_equiv, on_equiv};
-    ghost use Rattle.dns_fields.specs.Equal.{values_eq};
-    ghost use Rattle.dns_fields.proofs.Equivalences.{values_equiv};
+    ghost eq = { same name_shape cname_fields };
 
-    ghost eq = { λ a b. values_eq name_shape (cname_fields a) (cname_fields b) };
-
-    ghost laws = { partial_equiv_from_equiv (on_equiv cname_fields (values_equiv name_shape)) };
+    ghost laws = { same_partial name_shape cname_fields };
 
     #[inline(never)]
     fn eq(&self, other: &CNAME) -> bool {
@@ -129,10 +86,7 @@ impl PartialEq for CNAME {
 }
 
 impl Eq for CNAME {
-    ghost use Rattle.std.specs.Cmp.{on_equiv};
-    ghost use Rattle.dns_fields.proofs.Equivalences.{values_equiv};
-
-    ghost laws = { on_equiv cname_fields (values_equiv name_shape) };
+    ghost laws = { same_equiv name_shape cname_fields };
 }
 
 impl Clone for CNAME {
@@ -163,65 +117,33 @@ impl fmt::Display for CNAME {
 #[derive(Debug, Drop, Hash)]
 pub struct NS(pub Name);
 
-impl BinDecodable for NS {
-    ghost stands = { λ m p x q. Stands m p name_shape (ns_fields x) q };
+impl Record for NS {
+    ghost facts = { ns_facts };
+}
 
-    ghost refuses = { IsLack name_shape };
+impl DecodesFields for NS {
+    ghost ends = { (tt, (tt, tt)) };
 
-    /// Reads the name. Where none stands it is refused by [`NameInvalid`](DecodeError::NameInvalid), where memory runs
-    /// out by [`Memory`](DecodeError::Memory); the place is then as it was.
     #[tactic(auto, using(dns_names_wire::proofs::FieldReads::reading))]
-    fn read(decoder: &mut BinDecoder<'_>) -> Result<NS, DecodeError>
-        ensures reads { ReadsBy (λ m p x q. Stands m p name_shape (ns_fields x) q) result decoder.old decoder.new }
-        ensures fields { ReadsIf name_shape (always name_shape) ns_fields result decoder.old decoder.new }
-        ensures refused { IfErr result (λ e. IsLack name_shape decoder.old e decoder.new) }
-    {
+    fn read_fields(decoder: &mut BinDecoder<'_>) -> Result<NS, DecodeError> {
         Ok(NS(Name::read(decoder)?))
     }
 }
 
-impl DecodesFields for NS {
-    ghost decoded = { name_shape };
+impl BinDecodable for NS {
+    ghost stands = { record_stands ns_facts };
 
-    ghost asked = { λ _. Unit {0} };
+    ghost refuses = { record_refuses ns_facts };
 
-    ghost taken = { ns_fields };
-
-    ghost refusal = { λ old e new. IsLack name_shape old e new };
-
-    ghost made = { λ _. Unit {0} };
-
-    ghost ends = { (tt, (tt, tt)) };
-
+    /// Reads the name. Where none stands it is refused by [`NameInvalid`](DecodeError::NameInvalid), where memory runs
+    /// out by [`Memory`](DecodeError::Memory); the place is then as it was.
     #[inline]
-    fn read_fields(decoder: &mut BinDecoder<'_>) -> Result<NS, DecodeError> {
-        NS::read(decoder)
-    }
-}
-
-impl RecordDataDecodable for NS {
-    ghost kinds = { name_shape };
-
-    ghost condition = { λ _. Unit {0} };
-
-    ghost fields = { ns_fields };
-
-    /// As `read`, whatever the length.
-    #[inline]
-    fn read_data(decoder: &mut BinDecoder<'_>, length: Restrict<u16>) -> Result<NS, DecodeError>
-        ensures window { ReadsWindow name_shape (λ _. Unit {0}) ns_fields length result decoder.old decoder.new }
-        ensures fields { ReadsIf name_shape (always name_shape) ns_fields result decoder.old decoder.new }
-        ensures refused { IfErr result (λ e. IsLack name_shape decoder.old e decoder.new) }
-    {
-        read_whole(decoder, length)
+    fn read(decoder: &mut BinDecoder<'_>) -> Result<NS, DecodeError> {
+        read_record(decoder)
     }
 }
 
 impl EncodesFields for NS {
-    ghost emitted = { name_shape };
-
-    ghost parts = { ns_fields };
-
     #[tactic(auto, using(dns_names_wire::proofs::FieldWrites::writing))]
     fn emit_fields(&self, encoder: &mut BinEncoder<'_>) -> Result<(), ProtoError> {
         self.0.emit(encoder)?;
@@ -230,16 +152,12 @@ impl EncodesFields for NS {
 }
 
 impl BinEncodable for NS {
-    ghost emits = { λ x r old new. EmitsAs modes.StandardRecord name_shape (ns_fields x) r old new };
+    ghost emits = { record_emits modes.StandardRecord ns_facts };
 
     /// Appends the octets; a name ends with a pointer to an earlier place where it can (RFC 1035, 4.1.4). It is refused
     /// by [`MaxBufferSizeExceeded`](ProtoError::MaxBufferSizeExceeded) or [`Memory`](ProtoError::Memory) alone. The
     /// encoder is then in the mode that it was in, refused or not.
-    fn emit(&self, encoder: &mut BinEncoder<'_>) -> Result<(), ProtoError>
-        ensures emits { EmitsAs RDataEncoding.StandardRecord name_shape (ns_fields self.now) result encoder.old encoder.new }
-        ensures extends { Extends encoder.old encoder.new }
-        ensures keeps { Keeps encoder.old encoder.new }
-    {
+    fn emit(&self, encoder: &mut BinEncoder<'_>) -> Result<(), ProtoError> {
         emit_in(RDataEncoding::StandardRecord, self, encoder)
     }
 }
@@ -255,13 +173,9 @@ impl Deref for NS {
 }
 
 impl PartialEq for NS {
-    ghost use Rattle.std.specs.Cmp.{partial_equiv_from_equiv, on_equiv};
-    ghost use Rattle.dns_fields.specs.Equal.{values_eq};
-    ghost use Rattle.dns_fields.proofs.Equivalences.{values_equiv};
+    ghost eq = { same name_shape ns_fields };
 
-    ghost eq = { λ a b. values_eq name_shape (ns_fields a) (ns_fields b) };
-
-    ghost laws = { partial_equiv_from_equiv (on_equiv ns_fields (values_equiv name_shape)) };
+    ghost laws = { same_partial name_shape ns_fields };
 
     #[inline(never)]
     fn eq(&self, other: &NS) -> bool {
@@ -270,10 +184,7 @@ impl PartialEq for NS {
 }
 
 impl Eq for NS {
-    ghost use Rattle.std.specs.Cmp.{on_equiv};
-    ghost use Rattle.dns_fields.proofs.Equivalences.{values_equiv};
-
-    ghost laws = { on_equiv ns_fields (values_equiv name_shape) };
+    ghost laws = { same_equiv name_shape ns_fields };
 }
 
 impl Clone for NS {
@@ -304,65 +215,33 @@ impl fmt::Display for NS {
 #[derive(Debug, Drop, Hash)]
 pub struct PTR(pub Name);
 
-impl BinDecodable for PTR {
-    ghost stands = { λ m p x q. Stands m p name_shape (ptr_fields x) q };
+impl Record for PTR {
+    ghost facts = { ptr_facts };
+}
 
-    ghost refuses = { IsLack name_shape };
+impl DecodesFields for PTR {
+    ghost ends = { (tt, (tt, tt)) };
 
-    /// Reads the name. Where none stands it is refused by [`NameInvalid`](DecodeError::NameInvalid), where memory runs
-    /// out by [`Memory`](DecodeError::Memory); the place is then as it was.
     #[tactic(auto, using(dns_names_wire::proofs::FieldReads::reading))]
-    fn read(decoder: &mut BinDecoder<'_>) -> Result<PTR, DecodeError>
-        ensures reads { ReadsBy (λ m p x q. Stands m p name_shape (ptr_fields x) q) result decoder.old decoder.new }
-        ensures fields { ReadsIf name_shape (always name_shape) ptr_fields result decoder.old decoder.new }
-        ensures refused { IfErr result (λ e. IsLack name_shape decoder.old e decoder.new) }
-    {
+    fn read_fields(decoder: &mut BinDecoder<'_>) -> Result<PTR, DecodeError> {
         Ok(PTR(Name::read(decoder)?))
     }
 }
 
-impl DecodesFields for PTR {
-    ghost decoded = { name_shape };
+impl BinDecodable for PTR {
+    ghost stands = { record_stands ptr_facts };
 
-    ghost asked = { λ _. Unit {0} };
+    ghost refuses = { record_refuses ptr_facts };
 
-    ghost taken = { ptr_fields };
-
-    ghost refusal = { λ old e new. IsLack name_shape old e new };
-
-    ghost made = { λ _. Unit {0} };
-
-    ghost ends = { (tt, (tt, tt)) };
-
+    /// Reads the name. Where none stands it is refused by [`NameInvalid`](DecodeError::NameInvalid), where memory runs
+    /// out by [`Memory`](DecodeError::Memory); the place is then as it was.
     #[inline]
-    fn read_fields(decoder: &mut BinDecoder<'_>) -> Result<PTR, DecodeError> {
-        PTR::read(decoder)
-    }
-}
-
-impl RecordDataDecodable for PTR {
-    ghost kinds = { name_shape };
-
-    ghost condition = { λ _. Unit {0} };
-
-    ghost fields = { ptr_fields };
-
-    /// As `read`, whatever the length.
-    #[inline]
-    fn read_data(decoder: &mut BinDecoder<'_>, length: Restrict<u16>) -> Result<PTR, DecodeError>
-        ensures window { ReadsWindow name_shape (λ _. Unit {0}) ptr_fields length result decoder.old decoder.new }
-        ensures fields { ReadsIf name_shape (always name_shape) ptr_fields result decoder.old decoder.new }
-        ensures refused { IfErr result (λ e. IsLack name_shape decoder.old e decoder.new) }
-    {
-        read_whole(decoder, length)
+    fn read(decoder: &mut BinDecoder<'_>) -> Result<PTR, DecodeError> {
+        read_record(decoder)
     }
 }
 
 impl EncodesFields for PTR {
-    ghost emitted = { name_shape };
-
-    ghost parts = { ptr_fields };
-
     #[tactic(auto, using(dns_names_wire::proofs::FieldWrites::writing))]
     fn emit_fields(&self, encoder: &mut BinEncoder<'_>) -> Result<(), ProtoError> {
         self.0.emit(encoder)?;
@@ -371,16 +250,12 @@ impl EncodesFields for PTR {
 }
 
 impl BinEncodable for PTR {
-    ghost emits = { λ x r old new. EmitsAs modes.StandardRecord name_shape (ptr_fields x) r old new };
+    ghost emits = { record_emits modes.StandardRecord ptr_facts };
 
     /// Appends the octets; a name ends with a pointer to an earlier place where it can (RFC 1035, 4.1.4). It is refused
     /// by [`MaxBufferSizeExceeded`](ProtoError::MaxBufferSizeExceeded) or [`Memory`](ProtoError::Memory) alone. The
     /// encoder is then in the mode that it was in, refused or not.
-    fn emit(&self, encoder: &mut BinEncoder<'_>) -> Result<(), ProtoError>
-        ensures emits { EmitsAs RDataEncoding.StandardRecord name_shape (ptr_fields self.now) result encoder.old encoder.new }
-        ensures extends { Extends encoder.old encoder.new }
-        ensures keeps { Keeps encoder.old encoder.new }
-    {
+    fn emit(&self, encoder: &mut BinEncoder<'_>) -> Result<(), ProtoError> {
         emit_in(RDataEncoding::StandardRecord, self, encoder)
     }
 }
@@ -396,13 +271,9 @@ impl Deref for PTR {
 }
 
 impl PartialEq for PTR {
-    ghost use Rattle.std.specs.Cmp.{partial_equiv_from_equiv, on_equiv};
-    ghost use Rattle.dns_fields.specs.Equal.{values_eq};
-    ghost use Rattle.dns_fields.proofs.Equivalences.{values_equiv};
+    ghost eq = { same name_shape ptr_fields };
 
-    ghost eq = { λ a b. values_eq name_shape (ptr_fields a) (ptr_fields b) };
-
-    ghost laws = { partial_equiv_from_equiv (on_equiv ptr_fields (values_equiv name_shape)) };
+    ghost laws = { same_partial name_shape ptr_fields };
 
     #[inline(never)]
     fn eq(&self, other: &PTR) -> bool {
@@ -411,10 +282,7 @@ impl PartialEq for PTR {
 }
 
 impl Eq for PTR {
-    ghost use Rattle.std.specs.Cmp.{on_equiv};
-    ghost use Rattle.dns_fields.proofs.Equivalences.{values_equiv};
-
-    ghost laws = { on_equiv ptr_fields (values_equiv name_shape) };
+    ghost laws = { same_equiv name_shape ptr_fields };
 }
 
 impl Clone for PTR {
@@ -445,65 +313,33 @@ impl fmt::Display for PTR {
 #[derive(Debug, Drop, Hash)]
 pub struct ANAME(pub Name);
 
-impl BinDecodable for ANAME {
-    ghost stands = { λ m p x q. Stands m p name_shape (aname_fields x) q };
+impl Record for ANAME {
+    ghost facts = { aname_facts };
+}
 
-    ghost refuses = { IsLack name_shape };
+impl DecodesFields for ANAME {
+    ghost ends = { (tt, (tt, tt)) };
 
-    /// Reads the name. Where none stands it is refused by [`NameInvalid`](DecodeError::NameInvalid), where memory runs
-    /// out by [`Memory`](DecodeError::Memory); the place is then as it was.
     #[tactic(auto, using(dns_names_wire::proofs::FieldReads::reading))]
-    fn read(decoder: &mut BinDecoder<'_>) -> Result<ANAME, DecodeError>
-        ensures reads { ReadsBy (λ m p x q. Stands m p name_shape (aname_fields x) q) result decoder.old decoder.new }
-        ensures fields { ReadsIf name_shape (always name_shape) aname_fields result decoder.old decoder.new }
-        ensures refused { IfErr result (λ e. IsLack name_shape decoder.old e decoder.new) }
-    {
+    fn read_fields(decoder: &mut BinDecoder<'_>) -> Result<ANAME, DecodeError> {
         Ok(ANAME(Name::read(decoder)?))
     }
 }
 
-impl DecodesFields for ANAME {
-    ghost decoded = { name_shape };
+impl BinDecodable for ANAME {
+    ghost stands = { record_stands aname_facts };
 
-    ghost asked = { λ _. Unit {0} };
+    ghost refuses = { record_refuses aname_facts };
 
-    ghost taken = { aname_fields };
-
-    ghost refusal = { λ old e new. IsLack name_shape old e new };
-
-    ghost made = { λ _. Unit {0} };
-
-    ghost ends = { (tt, (tt, tt)) };
-
+    /// Reads the name. Where none stands it is refused by [`NameInvalid`](DecodeError::NameInvalid), where memory runs
+    /// out by [`Memory`](DecodeError::Memory); the place is then as it was.
     #[inline]
-    fn read_fields(decoder: &mut BinDecoder<'_>) -> Result<ANAME, DecodeError> {
-        ANAME::read(decoder)
-    }
-}
-
-impl RecordDataDecodable for ANAME {
-    ghost kinds = { name_shape };
-
-    ghost condition = { λ _. Unit {0} };
-
-    ghost fields = { aname_fields };
-
-    /// As `read`, whatever the length.
-    #[inline]
-    fn read_data(decoder: &mut BinDecoder<'_>, length: Restrict<u16>) -> Result<ANAME, DecodeError>
-        ensures window { ReadsWindow name_shape (λ _. Unit {0}) aname_fields length result decoder.old decoder.new }
-        ensures fields { ReadsIf name_shape (always name_shape) aname_fields result decoder.old decoder.new }
-        ensures refused { IfErr result (λ e. IsLack name_shape decoder.old e decoder.new) }
-    {
-        read_whole(decoder, length)
+    fn read(decoder: &mut BinDecoder<'_>) -> Result<ANAME, DecodeError> {
+        read_record(decoder)
     }
 }
 
 impl EncodesFields for ANAME {
-    ghost emitted = { name_shape };
-
-    ghost parts = { aname_fields };
-
     #[tactic(auto, using(dns_names_wire::proofs::FieldWrites::writing))]
     fn emit_fields(&self, encoder: &mut BinEncoder<'_>) -> Result<(), ProtoError> {
         self.0.emit(encoder)?;
@@ -512,16 +348,12 @@ impl EncodesFields for ANAME {
 }
 
 impl BinEncodable for ANAME {
-    ghost emits = { λ x r old new. EmitsAs modes.Other name_shape (aname_fields x) r old new };
+    ghost emits = { record_emits modes.Other aname_facts };
 
     /// Appends the octets, the name whole, its letters kept. It is refused by
     /// [`MaxBufferSizeExceeded`](ProtoError::MaxBufferSizeExceeded) or [`Memory`](ProtoError::Memory) alone. The
     /// encoder is then in the mode that it was in, refused or not.
-    fn emit(&self, encoder: &mut BinEncoder<'_>) -> Result<(), ProtoError>
-        ensures emits { EmitsAs RDataEncoding.Other name_shape (aname_fields self.now) result encoder.old encoder.new }
-        ensures extends { Extends encoder.old encoder.new }
-        ensures keeps { Keeps encoder.old encoder.new }
-    {
+    fn emit(&self, encoder: &mut BinEncoder<'_>) -> Result<(), ProtoError> {
         emit_in(RDataEncoding::Other, self, encoder)
     }
 }
@@ -537,13 +369,9 @@ impl Deref for ANAME {
 }
 
 impl PartialEq for ANAME {
-    ghost use Rattle.std.specs.Cmp.{partial_equiv_from_equiv, on_equiv};
-    ghost use Rattle.dns_fields.specs.Equal.{values_eq};
-    ghost use Rattle.dns_fields.proofs.Equivalences.{values_equiv};
+    ghost eq = { same name_shape aname_fields };
 
-    ghost eq = { λ a b. values_eq name_shape (aname_fields a) (aname_fields b) };
-
-    ghost laws = { partial_equiv_from_equiv (on_equiv aname_fields (values_equiv name_shape)) };
+    ghost laws = { same_partial name_shape aname_fields };
 
     #[inline(never)]
     fn eq(&self, other: &ANAME) -> bool {
@@ -552,10 +380,7 @@ impl PartialEq for ANAME {
 }
 
 impl Eq for ANAME {
-    ghost use Rattle.std.specs.Cmp.{on_equiv};
-    ghost use Rattle.dns_fields.proofs.Equivalences.{values_equiv};
-
-    ghost laws = { on_equiv aname_fields (values_equiv name_shape) };
+    ghost laws = { same_equiv name_shape aname_fields };
 }
 
 impl Clone for ANAME {

@@ -1,23 +1,21 @@
 //! NAPTR: a rule that rewrites a name (RFC 3403, 4).
 
-ghost use Rattle.std.specs.Prelude.{◌≡◌, IfErr, IfOk};
+ghost use Rattle.std.specs.Prelude.{◌≡◌, IfOk};
 ghost use Rattle.std.specs.Box.{boxed_slice_items};
 ghost use Rattle.std.specs.Char.{is_ascii_alphanumeric};
 ghost use Rattle.std.specs.List.{list_all};
-ghost use Rattle.dns_fields.specs.Fields.{Stands};
 ghost use Rattle.dns_fields.specs.declared.RDataEncoding.TheVariants as modes;
-ghost use Rattle.dns_names_wire.specs.Words.{ReadsIf, ReadsBy, ReadsWindow, Emits, EmitsAs, Extends, Keeps};
-ghost use Rattle.dns_rdata_base.specs.NAPTR.{naptr_numbers_shape, naptr_numbers, naptr_rest_shape, naptr_rest, naptr_shape, naptr_fields};
-ghost use Rattle.dns_rdata_base.specs.NAPTR.{naptr_condition, naptr_refusal};
+ghost use Rattle.dns_names_wire.specs.Words.{Emits};
+ghost use Rattle.dns_pieces.specs.Facts.{record_emits, record_refuses, record_stands, same, same_equiv, same_partial};
+ghost use Rattle.dns_rdata_base.specs.NAPTR.{naptr_numbers_shape, naptr_numbers, naptr_rest_shape, naptr_rest, naptr_shape, naptr_fields, naptr_facts};
 
-use crate::decoding::{DecodesFields, read_whole};
-use crate::traits::RecordDataDecodable;
+use crate::decoding::{DecodesFields, read_record};
 use bstr::BStr;
 use dns_names_wire::{
     BinDecodable, BinDecoder, BinEncodable, BinEncoder, DecodeError, Name, Octets, ProtoError,
-    RDataEncoding, Restrict,
+    RDataEncoding,
 };
-use dns_pieces::{EncodesFields, emit_in};
+use dns_pieces::{EncodesFields, Record, emit_in};
 use std::alloc::AllocError;
 use std::boxed::BoxedSlice;
 use std::fmt;
@@ -78,13 +76,15 @@ impl NAPTR {
     }
 }
 
-impl NAPTR {
-    // Reads the fields in order.
+impl Record for NAPTR {
+    ghost facts = { naptr_facts };
+}
+
+impl DecodesFields for NAPTR {
+    ghost ends = { (tt, (tt, (tt, (tt, (tt, (tt, (tt, tt))))))) };
+
     #[tactic(auto, using(dns_names_wire::proofs::FieldReads::reading))]
-    fn read_in_order(decoder: &mut BinDecoder<'_>) -> Result<NAPTR, DecodeError>
-        ensures fields { ReadsIf naptr_shape (λ vs _. naptr_condition vs) naptr_fields result decoder.old decoder.new }
-        ensures refused { IfErr result (λ e. naptr_refusal decoder.old e decoder.new) }
-    {
+    fn read_fields(decoder: &mut BinDecoder<'_>) -> Result<NAPTR, DecodeError> {
         let alloc = decoder.allocator();
         let order = decoder.read_u16()?.unverified();
         let preference = decoder.read_u16()?.unverified();
@@ -110,58 +110,18 @@ impl NAPTR {
 }
 
 impl BinDecodable for NAPTR {
-    ghost stands = { λ m p x q. Stands m p naptr_shape (naptr_fields x) q × naptr_condition (naptr_fields x) };
+    ghost stands = { record_stands naptr_facts };
 
-    ghost refuses = { naptr_refusal };
+    ghost refuses = { record_refuses naptr_facts };
 
     /// Reads the fields in order. The flags are tested as soon as they are taken: where an octet of theirs is no letter
     /// and no digit it is refused by [`NaptrFlagsInvalid`](DecodeError::NaptrFlagsInvalid). Where a field does not
     /// stand it is refused by [`InsufficientBytes`](DecodeError::InsufficientBytes) or
     /// [`NameInvalid`](DecodeError::NameInvalid), and those before it are taken; where memory runs out by
     /// [`Memory`](DecodeError::Memory).
-    fn read(decoder: &mut BinDecoder<'_>) -> Result<NAPTR, DecodeError>
-        ensures reads { ReadsBy (λ m p x q. Stands m p naptr_shape (naptr_fields x) q × naptr_condition (naptr_fields x)) result decoder.old decoder.new }
-        ensures fields { ReadsIf naptr_shape (λ vs _. naptr_condition vs) naptr_fields result decoder.old decoder.new }
-        ensures refused { IfErr result (λ e. naptr_refusal decoder.old e decoder.new) }
-    {
-        NAPTR::read_in_order(decoder)
-    }
-}
-
-impl DecodesFields for NAPTR {
-    ghost decoded = { naptr_shape };
-
-    ghost asked = { naptr_condition };
-
-    ghost taken = { naptr_fields };
-
-    ghost refusal = { λ old e new. naptr_refusal old e new };
-
-    ghost made = { λ _. Unit {0} };
-
-    ghost ends = { (tt, (tt, (tt, (tt, (tt, (tt, (tt, tt))))))) };
-
     #[inline]
-    fn read_fields(decoder: &mut BinDecoder<'_>) -> Result<NAPTR, DecodeError> {
-        NAPTR::read(decoder)
-    }
-}
-
-impl RecordDataDecodable for NAPTR {
-    ghost kinds = { naptr_shape };
-
-    ghost condition = { naptr_condition };
-
-    ghost fields = { naptr_fields };
-
-    /// As `read`, whatever the length.
-    #[inline]
-    fn read_data(decoder: &mut BinDecoder<'_>, length: Restrict<u16>) -> Result<NAPTR, DecodeError>
-        ensures window { ReadsWindow naptr_shape naptr_condition naptr_fields length result decoder.old decoder.new }
-        ensures fields { ReadsIf naptr_shape (λ vs _. naptr_condition vs) naptr_fields result decoder.old decoder.new }
-        ensures refused { IfErr result (λ e. naptr_refusal decoder.old e decoder.new) }
-    {
-        read_whole(decoder, length)
+    fn read(decoder: &mut BinDecoder<'_>) -> Result<NAPTR, DecodeError> {
+        read_record(decoder)
     }
 }
 
@@ -190,10 +150,6 @@ impl NAPTR {
 }
 
 impl EncodesFields for NAPTR {
-    ghost emitted = { naptr_shape };
-
-    ghost parts = { naptr_fields };
-
     fn emit_fields(&self, encoder: &mut BinEncoder<'_>) -> Result<(), ProtoError> {
         self.emit_numbers(encoder)?;
         self.emit_rest(encoder)
@@ -201,28 +157,20 @@ impl EncodesFields for NAPTR {
 }
 
 impl BinEncodable for NAPTR {
-    ghost emits = { λ x r old new. EmitsAs modes.Canonical naptr_shape (naptr_fields x) r old new };
+    ghost emits = { record_emits modes.Canonical naptr_facts };
 
     /// Appends the octets, the name whole, its letters kept. A string of more than 255 octets is refused by
     /// [`Message`](ProtoError::Message); what comes before it may then stand behind the start. The encoder is then in
     /// the mode that it was in, refused or not.
-    fn emit(&self, encoder: &mut BinEncoder<'_>) -> Result<(), ProtoError>
-        ensures emits { EmitsAs RDataEncoding.Canonical naptr_shape (naptr_fields self.now) result encoder.old encoder.new }
-        ensures extends { Extends encoder.old encoder.new }
-        ensures keeps { Keeps encoder.old encoder.new }
-    {
+    fn emit(&self, encoder: &mut BinEncoder<'_>) -> Result<(), ProtoError> {
         emit_in(RDataEncoding::Canonical, self, encoder)
     }
 }
 
 impl PartialEq for NAPTR {
-    ghost use Rattle.std.specs.Cmp.{partial_equiv_from_equiv, on_equiv};
-    ghost use Rattle.dns_fields.specs.Equal.{values_eq};
-    ghost use Rattle.dns_fields.proofs.Equivalences.{values_equiv};
+    ghost eq = { same naptr_shape naptr_fields };
 
-    ghost eq = { λ a b. values_eq naptr_shape (naptr_fields a) (naptr_fields b) };
-
-    ghost laws = { partial_equiv_from_equiv (on_equiv naptr_fields (values_equiv naptr_shape)) };
+    ghost laws = { same_partial naptr_shape naptr_fields };
 
     #[inline(never)]
     fn eq(&self, other: &NAPTR) -> bool {
@@ -236,10 +184,7 @@ impl PartialEq for NAPTR {
 }
 
 impl Eq for NAPTR {
-    ghost use Rattle.std.specs.Cmp.{on_equiv};
-    ghost use Rattle.dns_fields.proofs.Equivalences.{values_equiv};
-
-    ghost laws = { on_equiv naptr_fields (values_equiv naptr_shape) };
+    ghost laws = { same_equiv naptr_shape naptr_fields };
 }
 
 impl Clone for NAPTR {

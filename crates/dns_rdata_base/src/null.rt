@@ -1,13 +1,15 @@
 //! NULL: octets without a form (RFC 1035, 3.3.10).
 
-ghost use Rattle.std.specs.Prelude.{◌≡◌, ◌≢◌, ◌+◌, ◌<◌, ◌⊎◌, List, [], IfErr, IfOk, OnOk, OnErr};
-ghost use Rattle.dns_names_wire.specs.Words.{ReadsWindow, Emits, LacksOctets};
-ghost use Rattle.dns_rdata_base.specs.NULL.{null_shape, null_fields};
+ghost use Rattle.std.specs.Prelude.{◌≡◌, ◌≢◌, [], IfOk};
+ghost use Rattle.dns_names_wire.specs.Words.{Emits};
+ghost use Rattle.dns_pieces.specs.Facts.{same, same_equiv, same_partial};
+ghost use Rattle.dns_rdata_base.specs.NULL.{null_shape, null_fields, null_facts};
 
 use crate::traits::RecordDataDecodable;
 use dns_names_wire::{
     BinDecoder, BinEncodable, BinEncoder, DecodeError, ProtoError, Restrict, SmallOctets,
 };
+use dns_pieces::Record;
 use dns_words::Base64Text;
 use std::alloc::{AllocError, Global};
 use std::fmt;
@@ -48,13 +50,9 @@ impl NULL {
 }
 
 impl PartialEq for NULL {
-    ghost use Rattle.std.specs.Cmp.{partial_equiv_from_equiv, on_equiv};
-    ghost use Rattle.dns_fields.specs.Equal.{values_eq};
-    ghost use Rattle.dns_fields.proofs.Equivalences.{values_equiv};
+    ghost eq = { same null_shape null_fields };
 
-    ghost eq = { λ a b. values_eq null_shape (null_fields a) (null_fields b) };
-
-    ghost laws = { partial_equiv_from_equiv (on_equiv null_fields (values_equiv null_shape)) };
+    ghost laws = { same_partial null_shape null_fields };
 
     #[inline(never)]
     fn eq(&self, other: &NULL) -> bool {
@@ -63,10 +61,7 @@ impl PartialEq for NULL {
 }
 
 impl Eq for NULL {
-    ghost use Rattle.std.specs.Cmp.{on_equiv};
-    ghost use Rattle.dns_fields.proofs.Equivalences.{values_equiv};
-
-    ghost laws = { on_equiv null_fields (values_equiv null_shape) };
+    ghost laws = { same_equiv null_shape null_fields };
 }
 
 impl Clone for NULL {
@@ -83,24 +78,16 @@ impl Clone for NULL {
     }
 }
 
+impl Record for NULL {
+    ghost facts = { null_facts };
+}
+
 impl RecordDataDecodable for NULL {
-    ghost kinds = { null_shape };
-
-    ghost condition = { λ _. Unit {0} };
-
-    ghost fields = { null_fields };
-
     /// Reads all octets of the length, which asks for memory once where they are more than 64. Where fewer are left it
     /// is refused by [`InsufficientBytes`](DecodeError::InsufficientBytes), where memory runs out by
     /// [`Memory`](DecodeError::Memory); it then takes none.
     #[inline]
-    fn read_data(decoder: &mut BinDecoder<'_>, length: Restrict<u16>) -> Result<NULL, DecodeError>
-        ensures window { ReadsWindow null_shape (λ _. Unit {0}) null_fields length result decoder.old decoder.new }
-        ensures ends { OnOk result (decoder.new.index ≡ decoder.old.index + length) }
-        ensures refused { IfErr result (λ e. (e ≡ DecodeError.Memory)
-            ⊎ ((e ≡ DecodeError.InsufficientBytes) × LacksOctets decoder.old length)) }
-        ensures unchanged { OnErr result (decoder.new ≡ decoder.old) }
-    {
+    fn read_data(decoder: &mut BinDecoder<'_>, length: Restrict<u16>) -> Result<NULL, DecodeError> {
         // Called for its clauses: the message is octets, and the place is in it.
         let _start = decoder.index();
         let octets = decoder.read_small(length.unverified() as usize)?;

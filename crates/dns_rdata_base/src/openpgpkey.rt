@@ -1,13 +1,15 @@
 //! OPENPGPKEY: a public key (RFC 7929, 2.1).
 
-ghost use Rattle.std.specs.Prelude.{◌≡◌, ◌⊎◌, IfErr, IfOk, ◌+◌, OnOk};
-ghost use Rattle.dns_names_wire.specs.Words.{ReadsWindow, Emits, LacksOctets};
-ghost use Rattle.dns_rdata_base.specs.OPENPGPKEY.{openpgpkey_shape, openpgpkey_fields, openpgpkey_refusal};
+ghost use Rattle.std.specs.Prelude.{◌≡◌, IfOk};
+ghost use Rattle.dns_names_wire.specs.Words.{Emits};
+ghost use Rattle.dns_pieces.specs.Facts.{same, same_equiv, same_partial};
+ghost use Rattle.dns_rdata_base.specs.OPENPGPKEY.{openpgpkey_shape, openpgpkey_fields, openpgpkey_facts};
 
 use crate::traits::RecordDataDecodable;
 use dns_names_wire::{
     BinDecoder, BinEncodable, BinEncoder, DecodeError, ProtoError, Restrict, SmallOctets,
 };
+use dns_pieces::Record;
 use dns_words::Base64Text;
 use std::alloc::AllocError;
 use std::fmt;
@@ -31,13 +33,9 @@ impl OPENPGPKEY {
 }
 
 impl PartialEq for OPENPGPKEY {
-    ghost use Rattle.std.specs.Cmp.{partial_equiv_from_equiv, on_equiv};
-    ghost use Rattle.dns_fields.specs.Equal.{values_eq};
-    ghost use Rattle.dns_fields.proofs.Equivalences.{values_equiv};
+    ghost eq = { same openpgpkey_shape openpgpkey_fields };
 
-    ghost eq = { λ a b. values_eq openpgpkey_shape (openpgpkey_fields a) (openpgpkey_fields b) };
-
-    ghost laws = { partial_equiv_from_equiv (on_equiv openpgpkey_fields (values_equiv openpgpkey_shape)) };
+    ghost laws = { same_partial openpgpkey_shape openpgpkey_fields };
 
     #[inline(never)]
     fn eq(&self, other: &OPENPGPKEY) -> bool {
@@ -46,10 +44,7 @@ impl PartialEq for OPENPGPKEY {
 }
 
 impl Eq for OPENPGPKEY {
-    ghost use Rattle.std.specs.Cmp.{on_equiv};
-    ghost use Rattle.dns_fields.proofs.Equivalences.{values_equiv};
-
-    ghost laws = { on_equiv openpgpkey_fields (values_equiv openpgpkey_shape) };
+    ghost laws = { same_equiv openpgpkey_shape openpgpkey_fields };
 }
 
 impl Clone for OPENPGPKEY {
@@ -66,13 +61,11 @@ impl Clone for OPENPGPKEY {
     }
 }
 
+impl Record for OPENPGPKEY {
+    ghost facts = { openpgpkey_facts };
+}
+
 impl RecordDataDecodable for OPENPGPKEY {
-    ghost kinds = { openpgpkey_shape };
-
-    ghost condition = { λ _. Unit {0} };
-
-    ghost fields = { openpgpkey_fields };
-
     /// Reads all octets of the length, which asks for memory once where they are more than 64. Where fewer are left it
     /// is refused by [`InsufficientBytes`](DecodeError::InsufficientBytes), where memory runs out by
     /// [`Memory`](DecodeError::Memory); it then takes none.
@@ -80,11 +73,7 @@ impl RecordDataDecodable for OPENPGPKEY {
     fn read_data(
         decoder: &mut BinDecoder<'_>,
         length: Restrict<u16>,
-    ) -> Result<OPENPGPKEY, DecodeError>
-        ensures window { ReadsWindow openpgpkey_shape (λ _. Unit {0}) openpgpkey_fields length result decoder.old decoder.new }
-        ensures ends { OnOk result (decoder.new.index ≡ decoder.old.index + length) }
-        ensures refused { IfErr result (λ e. openpgpkey_refusal length decoder.old e decoder.new) }
-    {
+    ) -> Result<OPENPGPKEY, DecodeError> {
         // Called for its clauses: the message is octets, and the place is in it.
         let _start = decoder.index();
         let octets = decoder.read_small(length.unverified() as usize)?;

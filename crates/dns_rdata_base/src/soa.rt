@@ -2,19 +2,18 @@
 
 ghost use Rattle.std.specs.Prelude.{◌≡◌, ◌+◌, ◌++◌, ◌%◌, IfErr, IfOk};
 ghost use Rattle.std.specs.Int.{bytes_high_first};
-ghost use Rattle.dns_fields.specs.Fields.{Stands};
 ghost use Rattle.dns_fields.specs.declared.RDataEncoding.TheVariants as modes;
-ghost use Rattle.dns_names_wire.specs.Words.{ReadsIf, ReadsBy, ReadsWindow, Emits, EmitsAs, Extends, Keeps, always};
+ghost use Rattle.dns_names_wire.specs.Words.{ReadsIf, ReadsBy, Emits, always};
+ghost use Rattle.dns_pieces.specs.Facts.{record_emits, record_refuses, record_stands, same, same_equiv, same_partial};
 ghost use Rattle.dns_rdata_base.specs.Refusing.{IsLack};
-ghost use Rattle.dns_rdata_base.specs.SOA.{soa_shape, soa_fields, soa_numbers_shape, soa_numbers, soa_numbers_of, HasSeconds};
+ghost use Rattle.dns_rdata_base.specs.SOA.{soa_shape, soa_fields, soa_facts, soa_numbers_shape, soa_numbers, soa_numbers_of, HasSeconds};
 
-use crate::decoding::{DecodesFields, read_whole};
-use crate::traits::RecordDataDecodable;
+use crate::decoding::{DecodesFields, read_record};
 use dns_names_wire::{
     BinDecodable, BinDecoder, BinEncodable, BinEncoder, DecodeError, Name, ProtoError,
-    RDataEncoding, Restrict,
+    RDataEncoding,
 };
-use dns_pieces::{EncodesFields, emit_in};
+use dns_pieces::{EncodesFields, Record, emit_in};
 use std::alloc::AllocError;
 use std::fmt;
 
@@ -129,22 +128,15 @@ fn five_numbers(a: u32, b: u32, c: u32, d: u32, e: u32) -> [u8; 20]
     octets
 }
 
-impl BinDecodable for SOA {
-    ghost stands = { λ m p x q. Stands m p soa_shape (soa_fields x) q };
+impl Record for SOA {
+    ghost facts = { soa_facts };
+}
 
-    ghost refuses = { IsLack soa_shape };
+impl DecodesFields for SOA {
+    ghost ends = { (tt, (tt, (tt, (tt, (tt, (tt, (tt, (tt, tt)))))))) };
 
-    /// Reads the fields in order. Where one does not stand it is refused, and those before it are taken: by
-    /// [`InsufficientBytes`](DecodeError::InsufficientBytes) where a number lacks octets,
-    /// [`NameInvalid`](DecodeError::NameInvalid) where no name stands, [`Memory`](DecodeError::Memory) where memory
-    /// runs out.
     #[tactic(auto, using(dns_names_wire::proofs::FieldReads::reading))]
-    fn read(decoder: &mut BinDecoder<'_>) -> Result<SOA, DecodeError>
-        ensures reads { ReadsBy (λ m p x q. Stands m p soa_shape (soa_fields x) q) result decoder.old decoder.new }
-        ensures fields { ReadsIf soa_shape (always soa_shape) soa_fields result decoder.old decoder.new }
-        ensures seconds { IfOk result HasSeconds }
-        ensures refused { IfErr result (λ e. IsLack soa_shape decoder.old e decoder.new) }
-    {
+    fn read_fields(decoder: &mut BinDecoder<'_>) -> Result<SOA, DecodeError> {
         let mname = Name::read(decoder)?;
         let rname = Name::read(decoder)?;
         let (serial, refresh, retry, expire, minimum) = SOA::read_numbers(decoder)?;
@@ -160,49 +152,26 @@ impl BinDecodable for SOA {
     }
 }
 
-impl DecodesFields for SOA {
-    ghost decoded = { soa_shape };
+impl BinDecodable for SOA {
+    ghost stands = { record_stands soa_facts };
 
-    ghost asked = { λ _. Unit {0} };
+    ghost refuses = { record_refuses soa_facts };
 
-    ghost taken = { soa_fields };
-
-    ghost refusal = { λ old e new. IsLack soa_shape old e new };
-
-    ghost made = { HasSeconds };
-
-    ghost ends = { (tt, (tt, (tt, (tt, (tt, (tt, (tt, (tt, tt)))))))) };
-
+    /// Reads the fields in order. Where one does not stand it is refused, and those before it are taken: by
+    /// [`InsufficientBytes`](DecodeError::InsufficientBytes) where a number lacks octets,
+    /// [`NameInvalid`](DecodeError::NameInvalid) where no name stands, [`Memory`](DecodeError::Memory) where memory
+    /// runs out.
     #[inline]
-    fn read_fields(decoder: &mut BinDecoder<'_>) -> Result<SOA, DecodeError> {
-        SOA::read(decoder)
-    }
-}
-
-impl RecordDataDecodable for SOA {
-    ghost kinds = { soa_shape };
-
-    ghost condition = { λ _. Unit {0} };
-
-    ghost fields = { soa_fields };
-
-    /// As `read`, whatever the length.
-    #[inline]
-    fn read_data(decoder: &mut BinDecoder<'_>, length: Restrict<u16>) -> Result<SOA, DecodeError>
-        ensures window { ReadsWindow soa_shape (λ _. Unit {0}) soa_fields length result decoder.old decoder.new }
-        ensures fields { ReadsIf soa_shape (always soa_shape) soa_fields result decoder.old decoder.new }
+    fn read(decoder: &mut BinDecoder<'_>) -> Result<SOA, DecodeError>
+        ensures reads { ReadsBy (record_stands soa_facts) result decoder.old decoder.new }
+        ensures why { IfErr result (λ e. record_refuses soa_facts decoder.old e decoder.new) }
         ensures seconds { IfOk result HasSeconds }
-        ensures refused { IfErr result (λ e. IsLack soa_shape decoder.old e decoder.new) }
     {
-        read_whole(decoder, length)
+        read_record(decoder)
     }
 }
 
 impl EncodesFields for SOA {
-    ghost emitted = { soa_shape };
-
-    ghost parts = { soa_fields };
-
     #[tactic(auto, using(dns_names_wire::proofs::FieldWrites::writing))]
     fn emit_fields(&self, encoder: &mut BinEncoder<'_>) -> Result<(), ProtoError> {
         self.mname.emit(encoder)?;
@@ -212,28 +181,20 @@ impl EncodesFields for SOA {
 }
 
 impl BinEncodable for SOA {
-    ghost emits = { λ x r old new. EmitsAs modes.StandardRecord soa_shape (soa_fields x) r old new };
+    ghost emits = { record_emits modes.StandardRecord soa_facts };
 
     /// Appends the octets; a name ends with a pointer to an earlier place where it can (RFC 1035, 4.1.4). It is refused
     /// by [`MaxBufferSizeExceeded`](ProtoError::MaxBufferSizeExceeded) or [`Memory`](ProtoError::Memory) alone. The
     /// encoder is then in the mode that it was in, refused or not.
-    fn emit(&self, encoder: &mut BinEncoder<'_>) -> Result<(), ProtoError>
-        ensures emits { EmitsAs RDataEncoding.StandardRecord soa_shape (soa_fields self.now) result encoder.old encoder.new }
-        ensures extends { Extends encoder.old encoder.new }
-        ensures keeps { Keeps encoder.old encoder.new }
-    {
+    fn emit(&self, encoder: &mut BinEncoder<'_>) -> Result<(), ProtoError> {
         emit_in(RDataEncoding::StandardRecord, self, encoder)
     }
 }
 
 impl PartialEq for SOA {
-    ghost use Rattle.std.specs.Cmp.{partial_equiv_from_equiv, on_equiv};
-    ghost use Rattle.dns_fields.specs.Equal.{values_eq};
-    ghost use Rattle.dns_fields.proofs.Equivalences.{values_equiv};
+    ghost eq = { same soa_shape soa_fields };
 
-    ghost eq = { λ a b. values_eq soa_shape (soa_fields a) (soa_fields b) };
-
-    ghost laws = { partial_equiv_from_equiv (on_equiv soa_fields (values_equiv soa_shape)) };
+    ghost laws = { same_partial soa_shape soa_fields };
 
     #[inline(never)]
     fn eq(&self, other: &SOA) -> bool {
@@ -248,10 +209,7 @@ impl PartialEq for SOA {
 }
 
 impl Eq for SOA {
-    ghost use Rattle.std.specs.Cmp.{on_equiv};
-    ghost use Rattle.dns_fields.proofs.Equivalences.{values_equiv};
-
-    ghost laws = { on_equiv soa_fields (values_equiv soa_shape) };
+    ghost laws = { same_equiv soa_shape soa_fields };
 }
 
 impl Clone for SOA {

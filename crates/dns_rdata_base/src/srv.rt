@@ -1,19 +1,17 @@
 //! SRV: a host of a service (RFC 2782).
 
-ghost use Rattle.std.specs.Prelude.{◌≡◌, IfErr, IfOk};
-ghost use Rattle.dns_fields.specs.Fields.{Stands};
+ghost use Rattle.std.specs.Prelude.{◌≡◌, IfOk};
 ghost use Rattle.dns_fields.specs.declared.RDataEncoding.TheVariants as modes;
-ghost use Rattle.dns_names_wire.specs.Words.{ReadsIf, ReadsBy, ReadsWindow, Emits, EmitsAs, Extends, Keeps, always};
-ghost use Rattle.dns_rdata_base.specs.Refusing.{IsLack};
-ghost use Rattle.dns_rdata_base.specs.SRV.{srv_numbers_shape, srv_numbers, srv_shape, srv_fields};
+ghost use Rattle.dns_names_wire.specs.Words.{Emits};
+ghost use Rattle.dns_pieces.specs.Facts.{record_emits, record_refuses, record_stands, same, same_equiv, same_partial};
+ghost use Rattle.dns_rdata_base.specs.SRV.{srv_numbers_shape, srv_numbers, srv_shape, srv_fields, srv_facts};
 
-use crate::decoding::{DecodesFields, read_whole};
-use crate::traits::RecordDataDecodable;
+use crate::decoding::{DecodesFields, read_record};
 use dns_names_wire::{
     BinDecodable, BinDecoder, BinEncodable, BinEncoder, DecodeError, Name, ProtoError,
-    RDataEncoding, Restrict,
+    RDataEncoding,
 };
-use dns_pieces::{EncodesFields, emit_in};
+use dns_pieces::{EncodesFields, Record, emit_in};
 use std::alloc::AllocError;
 use std::fmt;
 
@@ -44,21 +42,15 @@ impl SRV {
     }
 }
 
-impl BinDecodable for SRV {
-    ghost stands = { λ m p x q. Stands m p srv_shape (srv_fields x) q };
+impl Record for SRV {
+    ghost facts = { srv_facts };
+}
 
-    ghost refuses = { IsLack srv_shape };
+impl DecodesFields for SRV {
+    ghost ends = { (tt, (tt, (tt, (tt, (tt, tt))))) };
 
-    /// Reads the fields in order. Where one does not stand it is refused, and those before it are taken: by
-    /// [`InsufficientBytes`](DecodeError::InsufficientBytes) where a number lacks octets,
-    /// [`NameInvalid`](DecodeError::NameInvalid) where no name stands, [`Memory`](DecodeError::Memory) where memory
-    /// runs out.
     #[tactic(auto, using(dns_names_wire::proofs::FieldReads::reading))]
-    fn read(decoder: &mut BinDecoder<'_>) -> Result<SRV, DecodeError>
-        ensures reads { ReadsBy (λ m p x q. Stands m p srv_shape (srv_fields x) q) result decoder.old decoder.new }
-        ensures fields { ReadsIf srv_shape (always srv_shape) srv_fields result decoder.old decoder.new }
-        ensures refused { IfErr result (λ e. IsLack srv_shape decoder.old e decoder.new) }
-    {
+    fn read_fields(decoder: &mut BinDecoder<'_>) -> Result<SRV, DecodeError> {
         let priority = decoder.read_u16()?.unverified();
         let weight = decoder.read_u16()?.unverified();
         let port = decoder.read_u16()?.unverified();
@@ -72,40 +64,18 @@ impl BinDecodable for SRV {
     }
 }
 
-impl DecodesFields for SRV {
-    ghost decoded = { srv_shape };
+impl BinDecodable for SRV {
+    ghost stands = { record_stands srv_facts };
 
-    ghost asked = { λ _. Unit {0} };
+    ghost refuses = { record_refuses srv_facts };
 
-    ghost taken = { srv_fields };
-
-    ghost refusal = { λ old e new. IsLack srv_shape old e new };
-
-    ghost made = { λ _. Unit {0} };
-
-    ghost ends = { (tt, (tt, (tt, (tt, (tt, tt))))) };
-
+    /// Reads the fields in order. Where one does not stand it is refused, and those before it are taken: by
+    /// [`InsufficientBytes`](DecodeError::InsufficientBytes) where a number lacks octets,
+    /// [`NameInvalid`](DecodeError::NameInvalid) where no name stands, [`Memory`](DecodeError::Memory) where memory
+    /// runs out.
     #[inline]
-    fn read_fields(decoder: &mut BinDecoder<'_>) -> Result<SRV, DecodeError> {
-        SRV::read(decoder)
-    }
-}
-
-impl RecordDataDecodable for SRV {
-    ghost kinds = { srv_shape };
-
-    ghost condition = { λ _. Unit {0} };
-
-    ghost fields = { srv_fields };
-
-    /// As `read`, whatever the length.
-    #[inline]
-    fn read_data(decoder: &mut BinDecoder<'_>, length: Restrict<u16>) -> Result<SRV, DecodeError>
-        ensures window { ReadsWindow srv_shape (λ _. Unit {0}) srv_fields length result decoder.old decoder.new }
-        ensures fields { ReadsIf srv_shape (always srv_shape) srv_fields result decoder.old decoder.new }
-        ensures refused { IfErr result (λ e. IsLack srv_shape decoder.old e decoder.new) }
-    {
-        read_whole(decoder, length)
+    fn read(decoder: &mut BinDecoder<'_>) -> Result<SRV, DecodeError> {
+        read_record(decoder)
     }
 }
 
@@ -130,10 +100,6 @@ impl SRV {
 }
 
 impl EncodesFields for SRV {
-    ghost emitted = { srv_shape };
-
-    ghost parts = { srv_fields };
-
     fn emit_fields(&self, encoder: &mut BinEncoder<'_>) -> Result<(), ProtoError> {
         self.emit_numbers(encoder)?;
         self.target.emit(encoder)?;
@@ -142,28 +108,20 @@ impl EncodesFields for SRV {
 }
 
 impl BinEncodable for SRV {
-    ghost emits = { λ x r old new. EmitsAs modes.Canonical srv_shape (srv_fields x) r old new };
+    ghost emits = { record_emits modes.Canonical srv_facts };
 
     /// Appends the octets, the name whole, its letters kept. It is refused by
     /// [`MaxBufferSizeExceeded`](ProtoError::MaxBufferSizeExceeded) or [`Memory`](ProtoError::Memory) alone. The
     /// encoder is then in the mode that it was in, refused or not.
-    fn emit(&self, encoder: &mut BinEncoder<'_>) -> Result<(), ProtoError>
-        ensures emits { EmitsAs RDataEncoding.Canonical srv_shape (srv_fields self.now) result encoder.old encoder.new }
-        ensures extends { Extends encoder.old encoder.new }
-        ensures keeps { Keeps encoder.old encoder.new }
-    {
+    fn emit(&self, encoder: &mut BinEncoder<'_>) -> Result<(), ProtoError> {
         emit_in(RDataEncoding::Canonical, self, encoder)
     }
 }
 
 impl PartialEq for SRV {
-    ghost use Rattle.std.specs.Cmp.{partial_equiv_from_equiv, on_equiv};
-    ghost use Rattle.dns_fields.specs.Equal.{values_eq};
-    ghost use Rattle.dns_fields.proofs.Equivalences.{values_equiv};
+    ghost eq = { same srv_shape srv_fields };
 
-    ghost eq = { λ a b. values_eq srv_shape (srv_fields a) (srv_fields b) };
-
-    ghost laws = { partial_equiv_from_equiv (on_equiv srv_fields (values_equiv srv_shape)) };
+    ghost laws = { same_partial srv_shape srv_fields };
 
     #[inline(never)]
     fn eq(&self, other: &SRV) -> bool {
@@ -175,10 +133,7 @@ impl PartialEq for SRV {
 }
 
 impl Eq for SRV {
-    ghost use Rattle.std.specs.Cmp.{on_equiv};
-    ghost use Rattle.dns_fields.proofs.Equivalences.{values_equiv};
-
-    ghost laws = { on_equiv srv_fields (values_equiv srv_shape) };
+    ghost laws = { same_equiv srv_shape srv_fields };
 }
 
 impl Clone for SRV {

@@ -1,16 +1,18 @@
 //! TXT: character strings (RFC 1035, 3.3.14).
 
-ghost use Rattle.std.specs.Prelude.{◌≡◌, ◌⊎◌, ◌≤◌, ◌+◌, ℕ, List, map, length as list_length, IfErr, IfOk};
+ghost use Rattle.std.specs.Prelude.{◌≡◌, ◌≤◌, ℕ, List, map, length as list_length, IfOk};
 ghost use Rattle.std.specs.String.{string_bytes};
 ghost use Rattle.dns_fields.specs.Fields.{Texts, Field};
-ghost use Rattle.dns_names_wire.specs.Words.{TookField, ReadsWindow, Emits};
-ghost use Rattle.dns_rdata_base.specs.TXT.{txt_shape, txt_fields, txt_refusal};
+ghost use Rattle.dns_names_wire.specs.Words.{Emits};
+ghost use Rattle.dns_pieces.specs.Facts.{same, same_equiv, same_partial};
+ghost use Rattle.dns_rdata_base.specs.TXT.{txt_shape, txt_fields, txt_facts};
 
 use crate::traits::RecordDataDecodable;
 use bstr::BStr;
 use dns_names_wire::{
     BinDecoder, BinEncodable, BinEncoder, DecodeError, Octets, ProtoError, Restrict,
 };
+use dns_pieces::Record;
 use dns_types::Strings;
 use std::alloc::AllocError;
 use std::fmt;
@@ -52,23 +54,16 @@ impl TXT {
     }
 }
 
+impl Record for TXT {
+    ghost facts = { txt_facts };
+}
+
 impl RecordDataDecodable for TXT {
-    ghost kinds = { txt_shape };
-
-    ghost condition = { λ _. Unit {0} };
-
-    ghost fields = { txt_fields };
-
     /// Reads character strings until the length is reached or passed. Where it is passed, no strings fill it, and the
     /// value is that of the strings that were taken. Where a string lacks octets it is refused by
     /// [`InsufficientBytes`](DecodeError::InsufficientBytes): the strings before it, and its length octet where that is
     /// there, are taken. Memory is asked for once for the list, and once for each string.
-    fn read_data(decoder: &mut BinDecoder<'_>, length: Restrict<u16>) -> Result<TXT, DecodeError>
-        ensures window { ReadsWindow txt_shape (λ _. Unit {0}) txt_fields length result decoder.old decoder.new }
-        ensures taken { IfOk result (λ x. TookField decoder.old Texts x.txt_data decoder.new) }
-        ensures reached { IfOk result (λ x. decoder.old.index + length ≤ decoder.new.index) }
-        ensures refused { IfErr result (λ e. txt_refusal length decoder.old e decoder.new) }
-    {
+    fn read_data(decoder: &mut BinDecoder<'_>, length: Restrict<u16>) -> Result<TXT, DecodeError> {
         let length = length.unverified() as usize;
         let end = decoder.index() + length;
         let alloc = decoder.allocator();
@@ -110,13 +105,9 @@ impl BinEncodable for TXT {
 }
 
 impl PartialEq for TXT {
-    ghost use Rattle.std.specs.Cmp.{partial_equiv_from_equiv, on_equiv};
-    ghost use Rattle.dns_fields.specs.Equal.{values_eq};
-    ghost use Rattle.dns_fields.proofs.Equivalences.{values_equiv};
+    ghost eq = { same txt_shape txt_fields };
 
-    ghost eq = { λ a b. values_eq txt_shape (txt_fields a) (txt_fields b) };
-
-    ghost laws = { partial_equiv_from_equiv (on_equiv txt_fields (values_equiv txt_shape)) };
+    ghost laws = { same_partial txt_shape txt_fields };
 
     #[inline(never)]
     fn eq(&self, other: &TXT) -> bool {
@@ -125,10 +116,7 @@ impl PartialEq for TXT {
 }
 
 impl Eq for TXT {
-    ghost use Rattle.std.specs.Cmp.{on_equiv};
-    ghost use Rattle.dns_fields.proofs.Equivalences.{values_equiv};
-
-    ghost laws = { on_equiv txt_fields (values_equiv txt_shape) };
+    ghost laws = { same_equiv txt_shape txt_fields };
 }
 
 impl Hash for TXT {

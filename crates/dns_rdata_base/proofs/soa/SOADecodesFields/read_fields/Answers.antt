@@ -1,35 +1,23 @@
-use Rattle.std.proofs.Common.{Err, ◌∷◌}
+use Rattle.std.proofs.Common.{◌∷◌}
 use Rattle.std.proofs.lemmas.Result.{err_from_is_err_and}
 use Rattle.dns_names_wire.proofs.FieldReads.{refused_then, refused_first}
 use Rattle.dns_fields.specs.Fields.{Name}
-use Rattle.dns_rdata_base.specs.SOA.{soa_shape, soa_numbers_shape, soa_fields}
-use Rattle.dns_rdata_base.proofs.Lacking.{fields_stand, is_lack_then}
-use Rattle.dns_rdata_base.proofs.soa.SOABinDecodable.read.Goals as goal
+use Rattle.dns_rdata_base.specs.SOA.{soa_numbers_shape}
+use Rattle.dns_rdata_base.proofs.Lacking.{is_lack_then}
+use Rattle.dns_rdata_base.proofs.soa.SOADecodesFields.read_fields.Goals as goal
 
 pub returns-in_err-rname-clause-fields : goal.returns-in_err-rname-clause-fields
 returns-in_err-rname-clause-fields c =
     let p = err_from_is_err_and c.from_residual-in_err-rname.result c.from_residual-in_err-rname.ensures.1 in
     rw (p.1, p.2) (refused_then c.in_ok-mname.ensures.field tt (refused_first c.in_err-rname.ensures.field))
 
-pub returns-in_err-rname-clause-reads : goal.returns-in_err-rname-clause-reads
-returns-in_err-rname-clause-reads c =
-    let p = err_from_is_err_and c.from_residual-in_err-rname.result c.from_residual-in_err-rname.ensures.1 in
-    rw (p.1, p.2) (fields_stand soa_shape soa_fields (Err c.in_err-rname.field-0.0) _ _
-    (refused_then c.in_ok-mname.ensures.field tt (refused_first c.in_err-rname.ensures.field)))
-
 pub returns-in_err-serial-clause-fields : goal.returns-in_err-serial-clause-fields
 returns-in_err-serial-clause-fields c =
     let p = err_from_is_err_and c.from_residual-in_err-serial.result c.from_residual-in_err-serial.ensures.1 in
     rw (p.1, p.2) (refused_then c.in_ok-mname.ensures.field tt (refused_then c.in_ok-rname.ensures.field tt c.in_err-serial.ensures.fields))
 
-pub returns-in_err-serial-clause-reads : goal.returns-in_err-serial-clause-reads
-returns-in_err-serial-clause-reads c =
-    let p = err_from_is_err_and c.from_residual-in_err-serial.result c.from_residual-in_err-serial.ensures.1 in
-    rw (p.1, p.2) (fields_stand soa_shape soa_fields (Err c.in_err-serial.field-0.0) _ _
-    (refused_then c.in_ok-mname.ensures.field tt (refused_then c.in_ok-rname.ensures.field tt c.in_err-serial.ensures.fields)))
-
 pub returns-in_err-serial-clause-refused : goal.returns-in_err-serial-clause-refused
 returns-in_err-serial-clause-refused c =
     let p = err_from_is_err_and c.from_residual-in_err-serial.result c.from_residual-in_err-serial.ensures.1 in
-    rw (p.1, p.2) (is_lack_then (Name ∷ soa_numbers_shape) _ _ c.in_ok-mname.ensures.field
+    rw (p.1, p.2) (λ n. is_lack_then (Name ∷ soa_numbers_shape) _ _ c.in_ok-mname.ensures.field
     (is_lack_then soa_numbers_shape _ _ c.in_ok-rname.ensures.field c.in_err-serial.ensures.refused))
