@@ -7,6 +7,7 @@ use Rattle.dns_types.specs.declared.error.DecodeError.TheVariants as decode
 use Rattle.dns_fields.specs.Fields.{Kind, Number, Rest, Values}
 use Rattle.dns_names_wire.specs.State.{Reading}
 use Rattle.dns_names_wire.specs.Words.{LacksOctets, UnlessMemory, Window, NoWindow}
+use Rattle.dns_pieces.specs.Facts.{Facts, filling}
 use Rattle.dns_rdata_certs.specs.CertType.{cert_type_number, cert_type_variant, cert_type_of, cert_type_text}
 use Rattle.dns_rdata_certs.specs.CertAlgorithm.{cert_algorithm_number, cert_algorithm_variant, cert_algorithm_of, cert_algorithm_text}
 use Rattle.dns_rdata_certs.specs.declared.cert.CERT.{CERT}
@@ -100,3 +101,6 @@ whole_cert_refusal n e =
     ((n ≤ 5) × (e ≡ decode.IncorrectRDataLengthRead n 6))
     ⊎ (((65535 < n) × (e ≡ decode.IncorrectRDataLengthRead n 65535))
     ⊎ ((5 < n) × (n ≤ 65535) × (e ≡ decode.Memory)))
+
+abbrev pub cert_facts : Facts CERT
+cert_facts = filling cert_shape cert_condition cert_fields cert_refusal IsReadCert

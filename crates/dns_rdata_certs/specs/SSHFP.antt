@@ -4,6 +4,7 @@ use Rattle.hex.specs.Hex.{encode_lower}
 use Rattle.dns_types.specs.declared.error.DecodeError.{DecodeError}
 use Rattle.dns_fields.specs.Fields.{Kind, Number, Rest, Values}
 use Rattle.dns_names_wire.specs.State.{Reading}
+use Rattle.dns_pieces.specs.Facts.{Facts, filling}
 use Rattle.dns_rdata_certs.specs.SshfpAlgorithm.{sshfp_algorithm_number, sshfp_algorithm_variant, sshfp_algorithm_of}
 use Rattle.dns_rdata_certs.specs.FingerprintType.{fingerprint_type_number, fingerprint_type_variant, fingerprint_type_of}
 use Rattle.dns_rdata_certs.specs.Rests.{rest_refusal}
@@ -48,3 +49,6 @@ sshfp_text x = decimal (sshfp_algorithm_number x.algorithm) ++ codes " " ++ deci
 -- two octets of fixed fields
 abbrev pub sshfp_refusal : ℕ → Reading → DecodeError → Reading → Type 0
 sshfp_refusal n old e new = rest_refusal 2 n old e new
+
+abbrev pub sshfp_facts : Facts SSHFP
+sshfp_facts = filling sshfp_shape (λ _. Unit {0}) sshfp_fields sshfp_refusal IsReadSshfp

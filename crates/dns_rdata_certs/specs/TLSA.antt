@@ -4,6 +4,7 @@ use Rattle.hex.specs.Hex.{encode_lower}
 use Rattle.dns_types.specs.declared.error.DecodeError.{DecodeError}
 use Rattle.dns_fields.specs.Fields.{Kind, Number, Rest, Values}
 use Rattle.dns_names_wire.specs.State.{Reading}
+use Rattle.dns_pieces.specs.Facts.{Facts, filling}
 use Rattle.dns_rdata_certs.specs.CertUsage.{cert_usage_number, cert_usage_variant, cert_usage_of}
 use Rattle.dns_rdata_certs.specs.Selector.{selector_number, selector_variant, selector_of}
 use Rattle.dns_rdata_certs.specs.Matching.{matching_number, matching_variant, matching_of}
@@ -56,3 +57,6 @@ tlsa_text x = decimal (cert_usage_number x.cert_usage) ++ codes " " ++ decimal (
 -- three octets of fixed fields
 abbrev pub tlsa_refusal : ℕ → Reading → DecodeError → Reading → Type 0
 tlsa_refusal n old e new = rest_refusal 3 n old e new
+
+abbrev pub tlsa_facts : Facts TLSA
+tlsa_facts = filling tlsa_shape (λ _. Unit {0}) tlsa_fields tlsa_refusal IsReadTlsa

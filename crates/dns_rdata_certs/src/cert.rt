@@ -1,9 +1,10 @@
 //! CERT: a certificate (RFC 4398, 2).
 
-ghost use Rattle.std.specs.Prelude.{◌≡◌, length as list_length, IfErr, IfOk, ◌+◌, OnOk};
+ghost use Rattle.std.specs.Prelude.{◌≡◌, length as list_length, IfErr, IfOk};
 ghost use Rattle.std.specs.String.{string_bytes};
-ghost use Rattle.dns_names_wire.specs.Words.{ReadsTo, ReadsWindow, Emits};
-ghost use Rattle.dns_rdata_certs.specs.CERT.{cert_shape, cert_fields, cert_condition, cert_key_shape, cert_keys, IsReadCert};
+ghost use Rattle.dns_names_wire.specs.Words.{ReadsTo, Emits};
+ghost use Rattle.dns_pieces.specs.Facts.{same, same_equiv, same_partial};
+ghost use Rattle.dns_rdata_certs.specs.CERT.{cert_shape, cert_fields, cert_facts, cert_condition, cert_key_shape, cert_keys, IsReadCert};
 ghost use Rattle.dns_rdata_certs.specs.CERT.{cert_data_text, cert_refusal, ReadsWholeCert, whole_cert_refusal};
 
 mod algorithm;
@@ -15,6 +16,7 @@ pub use cert_type::CertType;
 use dns_names_wire::{
     BinDecoder, BinEncodable, BinEncoder, DecodeError, ProtoError, Restrict, SmallOctets,
 };
+use dns_pieces::Record;
 use dns_rdata_base::RecordDataDecodable;
 use dns_words::Base64Text;
 use std::alloc::{AllocError, Global};
@@ -102,24 +104,17 @@ impl CERT {
     }
 }
 
+impl Record for CERT {
+    ghost facts = { cert_facts };
+}
+
 impl RecordDataDecodable for CERT {
-    ghost kinds = { cert_shape };
-
-    ghost condition = { cert_condition };
-
-    ghost fields = { cert_fields };
-
     /// Reads five octets of numbers, and the rest of the length, by one request for memory where that is more than 64
     /// octets. A length below 6 is refused by [`IncorrectRDataLengthRead`](DecodeError::IncorrectRDataLengthRead) of
     /// the length and 6, and nothing is taken. Where octets are missing it is refused by
     /// [`InsufficientBytes`](DecodeError::InsufficientBytes), and the numbers that are there are taken.
     #[inline]
-    fn read_data(decoder: &mut BinDecoder<'_>, length: Restrict<u16>) -> Result<CERT, DecodeError>
-        ensures window { ReadsWindow cert_shape cert_condition cert_fields length result decoder.old decoder.new }
-        ensures ends { OnOk result (decoder.new.index ≡ decoder.old.index + length) }
-        ensures enums { IfOk result IsReadCert }
-        ensures refused { IfErr result (λ e. cert_refusal length decoder.old e decoder.new) }
-    {
+    fn read_data(decoder: &mut BinDecoder<'_>, length: Restrict<u16>) -> Result<CERT, DecodeError> {
         // Called for its clauses: the message is octets, and the place is in it.
         let _start = decoder.index();
         CERT::read_filled(decoder, length)
@@ -140,13 +135,9 @@ impl BinEncodable for CERT {
 }
 
 impl PartialEq for CERT {
-    ghost use Rattle.std.specs.Cmp.{partial_equiv_from_equiv, on_equiv};
-    ghost use Rattle.dns_fields.specs.Equal.{values_eq};
-    ghost use Rattle.dns_fields.proofs.Equivalences.{values_equiv};
+    ghost eq = { same cert_key_shape cert_keys };
 
-    ghost eq = { λ a b. values_eq cert_key_shape (cert_keys a) (cert_keys b) };
-
-    ghost laws = { partial_equiv_from_equiv (on_equiv cert_keys (values_equiv cert_key_shape)) };
+    ghost laws = { same_partial cert_key_shape cert_keys };
 
     #[inline(never)]
     fn eq(&self, other: &CERT) -> bool {
@@ -158,10 +149,7 @@ impl PartialEq for CERT {
 }
 
 impl Eq for CERT {
-    ghost use Rattle.std.specs.Cmp.{on_equiv};
-    ghost use Rattle.dns_fields.proofs.Equivalences.{values_equiv};
-
-    ghost laws = { on_equiv cert_keys (values_equiv cert_key_shape) };
+    ghost laws = { same_equiv cert_key_shape cert_keys };
 }
 
 impl Clone for CERT {

@@ -1,11 +1,13 @@
 //! SMIMEA: a certificate of a mail user (RFC 8162, 2).
 
-ghost use Rattle.std.specs.Prelude.{◌≡◌, IfErr, IfOk, ◌+◌, OnOk};
-ghost use Rattle.dns_names_wire.specs.Words.{ReadsWindow, Emits};
-ghost use Rattle.dns_rdata_certs.specs.SMIMEA.{smimea_shape, smimea_fields, smimea_key_shape, smimea_keys, IsReadSmimea, smimea_refusal};
+ghost use Rattle.std.specs.Prelude.{◌≡◌, IfOk};
+ghost use Rattle.dns_names_wire.specs.Words.{Emits};
+ghost use Rattle.dns_pieces.specs.Facts.{same, same_equiv, same_partial};
+ghost use Rattle.dns_rdata_certs.specs.SMIMEA.{smimea_shape, smimea_fields, smimea_facts, smimea_key_shape, smimea_keys};
 
 use crate::tlsa::{CertUsage, Matching, Selector, TLSA};
 use dns_names_wire::{BinDecoder, BinEncodable, BinEncoder, DecodeError, ProtoError, Restrict};
+use dns_pieces::Record;
 use dns_rdata_base::RecordDataDecodable;
 use std::alloc::AllocError;
 use std::fmt;
@@ -32,21 +34,17 @@ impl SMIMEA {
     }
 }
 
+impl Record for SMIMEA {
+    ghost facts = { smimea_facts };
+}
+
 impl RecordDataDecodable for SMIMEA {
-    ghost kinds = { smimea_shape };
-
-    ghost condition = { λ _. Unit {0} };
-
-    ghost fields = { smimea_fields };
-
     /// Reads the fields of TLSA, and is refused as that is.
     #[inline]
-    fn read_data(decoder: &mut BinDecoder<'_>, length: Restrict<u16>) -> Result<SMIMEA, DecodeError>
-        ensures window { ReadsWindow smimea_shape (λ _. Unit {0}) smimea_fields length result decoder.old decoder.new }
-        ensures ends { OnOk result (decoder.new.index ≡ decoder.old.index + length) }
-        ensures enums { IfOk result IsReadSmimea }
-        ensures refused { IfErr result (λ e. smimea_refusal length decoder.old e decoder.new) }
-    {
+    fn read_data(
+        decoder: &mut BinDecoder<'_>,
+        length: Restrict<u16>,
+    ) -> Result<SMIMEA, DecodeError> {
         match TLSA::read_data(decoder, length) {
             Ok(certificate) => Ok(SMIMEA(certificate)),
             Err(e) => Err(e),
@@ -76,13 +74,9 @@ impl Deref for SMIMEA {
 }
 
 impl PartialEq for SMIMEA {
-    ghost use Rattle.std.specs.Cmp.{partial_equiv_from_equiv, on_equiv};
-    ghost use Rattle.dns_fields.specs.Equal.{values_eq};
-    ghost use Rattle.dns_fields.proofs.Equivalences.{values_equiv};
+    ghost eq = { same smimea_key_shape smimea_keys };
 
-    ghost eq = { λ a b. values_eq smimea_key_shape (smimea_keys a) (smimea_keys b) };
-
-    ghost laws = { partial_equiv_from_equiv (on_equiv smimea_keys (values_equiv smimea_key_shape)) };
+    ghost laws = { same_partial smimea_key_shape smimea_keys };
 
     #[inline(always)]
     fn eq(&self, other: &SMIMEA) -> bool {
@@ -91,10 +85,7 @@ impl PartialEq for SMIMEA {
 }
 
 impl Eq for SMIMEA {
-    ghost use Rattle.std.specs.Cmp.{on_equiv};
-    ghost use Rattle.dns_fields.proofs.Equivalences.{values_equiv};
-
-    ghost laws = { on_equiv smimea_keys (values_equiv smimea_key_shape) };
+    ghost laws = { same_equiv smimea_key_shape smimea_keys };
 }
 
 impl Clone for SMIMEA {

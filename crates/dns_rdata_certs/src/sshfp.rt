@@ -1,8 +1,9 @@
 //! SSHFP: the fingerprint of a host's key (RFC 4255, 3.1).
 
-ghost use Rattle.std.specs.Prelude.{◌≡◌, IfErr, IfOk, ◌+◌, OnOk};
-ghost use Rattle.dns_names_wire.specs.Words.{ReadsTo, ReadsWindow, Emits};
-ghost use Rattle.dns_rdata_certs.specs.SSHFP.{sshfp_shape, sshfp_fields, sshfp_key_shape, sshfp_keys, IsReadSshfp, sshfp_refusal};
+ghost use Rattle.std.specs.Prelude.{◌≡◌, IfErr, IfOk};
+ghost use Rattle.dns_names_wire.specs.Words.{ReadsTo, Emits};
+ghost use Rattle.dns_pieces.specs.Facts.{same, same_equiv, same_partial};
+ghost use Rattle.dns_rdata_certs.specs.SSHFP.{sshfp_shape, sshfp_fields, sshfp_facts, sshfp_key_shape, sshfp_keys, IsReadSshfp, sshfp_refusal};
 
 mod algorithm;
 mod fingerprint_type;
@@ -12,6 +13,7 @@ pub use algorithm::Algorithm;
 use dns_names_wire::{
     BinDecoder, BinEncodable, BinEncoder, DecodeError, ProtoError, Restrict, SmallOctets,
 };
+use dns_pieces::Record;
 use dns_rdata_base::RecordDataDecodable;
 pub use fingerprint_type::FingerprintType;
 use std::alloc::AllocError;
@@ -75,25 +77,21 @@ impl SSHFP {
     }
 }
 
+impl Record for SSHFP {
+    ghost facts = { sshfp_facts };
+}
+
 impl RecordDataDecodable for SSHFP {
-    ghost kinds = { sshfp_shape };
-
-    ghost condition = { λ _. Unit {0} };
-
-    ghost fields = { sshfp_fields };
-
     /// Reads two octets of numbers, and the rest of the length, by one request for memory where that is more than 64
     /// octets. Where the two pass the length it is refused by
     /// [`IncorrectRDataLengthRead`](DecodeError::IncorrectRDataLengthRead) of 2 and the length. Where octets are
     /// missing it is refused by [`InsufficientBytes`](DecodeError::InsufficientBytes), and the numbers that are there
     /// are taken.
     #[inline]
-    fn read_data(decoder: &mut BinDecoder<'_>, length: Restrict<u16>) -> Result<SSHFP, DecodeError>
-        ensures window { ReadsWindow sshfp_shape (λ _. Unit {0}) sshfp_fields length result decoder.old decoder.new }
-        ensures ends { OnOk result (decoder.new.index ≡ decoder.old.index + length) }
-        ensures enums { IfOk result IsReadSshfp }
-        ensures refused { IfErr result (λ e. sshfp_refusal length decoder.old e decoder.new) }
-    {
+    fn read_data(
+        decoder: &mut BinDecoder<'_>,
+        length: Restrict<u16>,
+    ) -> Result<SSHFP, DecodeError> {
         // Called for its clauses: the message is octets, and the place is in it.
         let _start = decoder.index();
         SSHFP::read_filled(decoder, length)
@@ -112,13 +110,9 @@ impl BinEncodable for SSHFP {
 }
 
 impl PartialEq for SSHFP {
-    ghost use Rattle.std.specs.Cmp.{partial_equiv_from_equiv, on_equiv};
-    ghost use Rattle.dns_fields.specs.Equal.{values_eq};
-    ghost use Rattle.dns_fields.proofs.Equivalences.{values_equiv};
+    ghost eq = { same sshfp_key_shape sshfp_keys };
 
-    ghost eq = { λ a b. values_eq sshfp_key_shape (sshfp_keys a) (sshfp_keys b) };
-
-    ghost laws = { partial_equiv_from_equiv (on_equiv sshfp_keys (values_equiv sshfp_key_shape)) };
+    ghost laws = { same_partial sshfp_key_shape sshfp_keys };
 
     #[inline(never)]
     fn eq(&self, other: &SSHFP) -> bool {
@@ -129,10 +123,7 @@ impl PartialEq for SSHFP {
 }
 
 impl Eq for SSHFP {
-    ghost use Rattle.std.specs.Cmp.{on_equiv};
-    ghost use Rattle.dns_fields.proofs.Equivalences.{values_equiv};
-
-    ghost laws = { on_equiv sshfp_keys (values_equiv sshfp_key_shape) };
+    ghost laws = { same_equiv sshfp_key_shape sshfp_keys };
 }
 
 impl Clone for SSHFP {

@@ -1,8 +1,9 @@
 //! TLSA: a certificate of a service (RFC 6698, 2.1).
 
-ghost use Rattle.std.specs.Prelude.{◌≡◌, IfErr, IfOk, ◌+◌, OnOk};
-ghost use Rattle.dns_names_wire.specs.Words.{ReadsTo, ReadsWindow, Emits};
-ghost use Rattle.dns_rdata_certs.specs.TLSA.{tlsa_shape, tlsa_fields, tlsa_key_shape, tlsa_keys, IsReadTlsa, tlsa_refusal};
+ghost use Rattle.std.specs.Prelude.{◌≡◌, IfErr, IfOk};
+ghost use Rattle.dns_names_wire.specs.Words.{ReadsTo, Emits};
+ghost use Rattle.dns_pieces.specs.Facts.{same, same_equiv, same_partial};
+ghost use Rattle.dns_rdata_certs.specs.TLSA.{tlsa_shape, tlsa_fields, tlsa_facts, tlsa_key_shape, tlsa_keys, IsReadTlsa, tlsa_refusal};
 
 mod cert_usage;
 mod matching;
@@ -13,6 +14,7 @@ pub use cert_usage::CertUsage;
 use dns_names_wire::{
     BinDecoder, BinEncodable, BinEncoder, DecodeError, ProtoError, Restrict, SmallOctets,
 };
+use dns_pieces::Record;
 use dns_rdata_base::RecordDataDecodable;
 pub use matching::Matching;
 pub use selector::Selector;
@@ -81,25 +83,18 @@ impl TLSA {
     }
 }
 
+impl Record for TLSA {
+    ghost facts = { tlsa_facts };
+}
+
 impl RecordDataDecodable for TLSA {
-    ghost kinds = { tlsa_shape };
-
-    ghost condition = { λ _. Unit {0} };
-
-    ghost fields = { tlsa_fields };
-
     /// Reads three octets of numbers, and the rest of the length, by one request for memory where that is more than 64
     /// octets. Where the three pass the length it is refused by
     /// [`IncorrectRDataLengthRead`](DecodeError::IncorrectRDataLengthRead) of 3 and the length. Where octets are
     /// missing it is refused by [`InsufficientBytes`](DecodeError::InsufficientBytes), and the numbers that are there
     /// are taken.
     #[inline(always)]
-    fn read_data(decoder: &mut BinDecoder<'_>, length: Restrict<u16>) -> Result<TLSA, DecodeError>
-        ensures window { ReadsWindow tlsa_shape (λ _. Unit {0}) tlsa_fields length result decoder.old decoder.new }
-        ensures ends { OnOk result (decoder.new.index ≡ decoder.old.index + length) }
-        ensures enums { IfOk result IsReadTlsa }
-        ensures refused { IfErr result (λ e. tlsa_refusal length decoder.old e decoder.new) }
-    {
+    fn read_data(decoder: &mut BinDecoder<'_>, length: Restrict<u16>) -> Result<TLSA, DecodeError> {
         // Called for its clauses: the message is octets, and the place is in it.
         let _start = decoder.index();
         TLSA::read_filled(decoder, length)
@@ -120,13 +115,9 @@ impl BinEncodable for TLSA {
 }
 
 impl PartialEq for TLSA {
-    ghost use Rattle.std.specs.Cmp.{partial_equiv_from_equiv, on_equiv};
-    ghost use Rattle.dns_fields.specs.Equal.{values_eq};
-    ghost use Rattle.dns_fields.proofs.Equivalences.{values_equiv};
+    ghost eq = { same tlsa_key_shape tlsa_keys };
 
-    ghost eq = { λ a b. values_eq tlsa_key_shape (tlsa_keys a) (tlsa_keys b) };
-
-    ghost laws = { partial_equiv_from_equiv (on_equiv tlsa_keys (values_equiv tlsa_key_shape)) };
+    ghost laws = { same_partial tlsa_key_shape tlsa_keys };
 
     #[inline(never)]
     fn eq(&self, other: &TLSA) -> bool {
@@ -138,10 +129,7 @@ impl PartialEq for TLSA {
 }
 
 impl Eq for TLSA {
-    ghost use Rattle.std.specs.Cmp.{on_equiv};
-    ghost use Rattle.dns_fields.proofs.Equivalences.{values_equiv};
-
-    ghost laws = { on_equiv tlsa_keys (values_equiv tlsa_key_shape) };
+    ghost laws = { same_equiv tlsa_key_shape tlsa_keys };
 }
 
 impl Clone for TLSA {

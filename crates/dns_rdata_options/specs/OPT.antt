@@ -9,6 +9,7 @@ use Rattle.dns_fields.specs.Fields.{Kind, Number, Options, Values, WholeOptions}
 use Rattle.dns_names_wire.specs.State.{Reading}
 use Rattle.dns_names_wire.specs.Words.{TookField, Took, LacksOctets}
 use Rattle.dns_rdata_base.specs.Numbered.{numbered_eq}
+use Rattle.dns_pieces.specs.Facts.{Facts, filling}
 use Rattle.dns_rdata_options.specs.EdnsCode.{edns_code_number, edns_code_variant, edns_code_of}
 use Rattle.dns_rdata_options.specs.ClientSubnet.{subnet_of}
 use Rattle.dns_rdata_options.specs.EdnsOption.{option_value, option_refusal}
@@ -141,3 +142,6 @@ pub record RefusedNext (n : ℕ) (old : Reading) (e : DecodeError) (new : Readin
 
 abbrev pub opt_refusal : ℕ → Reading → DecodeError → Reading → Type 0
 opt_refusal n old e new = (e ≡ decode.Memory) ⊎ RefusedNext n old e new
+
+abbrev pub opt_facts : Facts (List Pair)
+opt_facts = filling opt_shape (λ _. Unit {0}) opt_fields opt_refusal IsReadOpt

@@ -1,13 +1,13 @@
 //! OPT: the options of EDNS (RFC 6891).
 
-ghost use Rattle.std.specs.Prelude.{◌≡◌, ◌+◌, ◌<◌, ◌++◌, ◌∷◌, [], map, slice_get, IfOk, IfErr, IsTrue, OnOk, OnErr};
+ghost use Rattle.std.specs.Prelude.{◌≡◌, ◌+◌, ◌<◌, ◌++◌, ◌∷◌, [], map, slice_get, IfOk, IsTrue, OnOk, OnErr};
 ghost use Rattle.std.specs.Option.{option_copied};
 ghost use Rattle.dns_fields.specs.Pieces.{piece, as_piece, option_octets, OptionFits};
-ghost use Rattle.dns_names_wire.specs.Words.{ReadsWindow, Emits};
+ghost use Rattle.dns_names_wire.specs.Words.{Emits};
 ghost use Rattle.dns_rdata_options.specs.Words.{EmitsOctets};
 ghost use Rattle.dns_rdata_options.specs.EdnsCode.{edns_code_number};
 ghost use Rattle.dns_rdata_options.specs.EdnsOption.{code_of};
-ghost use Rattle.dns_rdata_options.specs.OPT.{opt_shape, opt_fields, pair_value, IsReadOpt, options_of, without, opt_refusal};
+ghost use Rattle.dns_rdata_options.specs.OPT.{opt_shape, opt_fields, opt_facts, pair_value, options_of, without};
 
 mod code;
 pub(crate) mod headed;
@@ -21,6 +21,7 @@ mod subnet;
 
 pub use code::EdnsCode;
 use dns_names_wire::{BinDecoder, BinEncodable, BinEncoder, DecodeError, ProtoError, Restrict};
+use dns_pieces::Record;
 use dns_rdata_base::RecordDataDecodable;
 pub use net::IpNet;
 pub use option::EdnsOption;
@@ -144,13 +145,11 @@ impl OPT {
     }
 }
 
+impl Record for OPT {
+    ghost facts = { opt_facts };
+}
+
 impl RecordDataDecodable for OPT {
-    ghost kinds = { opt_shape };
-
-    ghost condition = { λ _. Unit {0} };
-
-    ghost fields = { opt_fields };
-
     /// Reads options to the end of the length, and keeps their order. A record that ends behind a code, or behind a
     /// code, a length of at most the record's and fewer octets, is cut: it has no options, and takes no memory. Else
     /// memory is asked for once for the list, and once for each option that is no subnet.
@@ -161,12 +160,7 @@ impl RecordDataDecodable for OPT {
     /// where a code or a length goes past the record's end; by `IncorrectRDataLengthRead` of the record's length and
     /// the option's, where the option's is greater; as `EdnsOption::try_from`, behind the option's octets.
     #[inline(always)]
-    fn read_data(decoder: &mut BinDecoder<'_>, length: Restrict<u16>) -> Result<OPT, DecodeError>
-        ensures window { ReadsWindow opt_shape (λ _. Unit {0}) opt_fields length result decoder.old decoder.new }
-        ensures ends { OnOk result (decoder.new.index ≡ decoder.old.index + length) }
-        ensures read { IfOk result IsReadOpt }
-        ensures refused { IfErr result (λ e. opt_refusal length decoder.old e decoder.new) }
-    {
+    fn read_data(decoder: &mut BinDecoder<'_>, length: Restrict<u16>) -> Result<OPT, DecodeError> {
         let _start = decoder.index();
         reading::read_options(decoder, length.unverified())
     }

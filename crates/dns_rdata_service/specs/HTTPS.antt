@@ -3,6 +3,7 @@ use Rattle.std.specs.Prelude.{ℕ, List}
 use Rattle.dns_types.specs.declared.error.DecodeError.{DecodeError}
 use Rattle.dns_fields.specs.Fields.{Kind, Values}
 use Rattle.dns_names_wire.specs.State.{Reading}
+use Rattle.dns_pieces.specs.Facts.{Facts}
 use Rattle.dns_rdata_service.specs.SVCB.{svcb_shape, svcb_fields, svcb_condition, svcb_key_shape, svcb_keys, IsReadSvcb, svcb_text, svcb_refusal}
 use Rattle.dns_rdata_service.specs.declared.https.HTTPS.{HTTPS}
 
@@ -29,3 +30,12 @@ https_text x = svcb_text x.0
 
 abbrev pub https_refusal : ℕ → Reading → DecodeError → Reading → Type 0
 https_refusal n old e new = svcb_refusal n old e new
+
+abbrev pub https_facts : Facts HTTPS
+https_facts = record {
+  kinds = https_shape;
+  condition = https_condition;
+  fields = https_fields;
+  refusal = https_refusal;
+  made = λ n x old new. IsReadHttps x;
+}

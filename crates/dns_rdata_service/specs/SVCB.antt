@@ -9,6 +9,7 @@ use Rattle.dns_labels.specs.Text.{name_text}
 use Rattle.dns_names_wire.specs.State.{Reading}
 use Rattle.dns_names_wire.specs.Words.{Took}
 use Rattle.dns_rdata_base.specs.Refusing.{IsLack}
+use Rattle.dns_pieces.specs.Facts.{Facts}
 use Rattle.dns_rdata_service.specs.SvcParamKey.{key_number, key_text}
 use Rattle.dns_rdata_service.specs.SvcParamValue.{value_text}
 use Rattle.dns_rdata_service.specs.Parameters.{Parameter, parameter_of, own_parameter, AreRead, HaveTexts, parameters_refusal}
@@ -81,3 +82,12 @@ pub record RefusedParameters (n : ℕ) (old : Reading) (e : DecodeError) (new : 
 -- a record of n octets
 abbrev pub svcb_refusal : ℕ → Reading → DecodeError → Reading → Type 0
 svcb_refusal n old e new = IsLack (Number 2 ∷ Name ∷ []) old e new ⊎ (PassedHead n old e new ⊎ RefusedParameters n old e new)
+
+abbrev pub svcb_facts : Facts SVCB
+svcb_facts = record {
+  kinds = svcb_shape;
+  condition = svcb_condition;
+  fields = svcb_fields;
+  refusal = svcb_refusal;
+  made = λ n x old new. IsReadSvcb x;
+}

@@ -1,17 +1,17 @@
 //! HTTPS: how a web service is reached (RFC 9460, 9).
 
-ghost use Rattle.std.specs.Prelude.{◌≡◌, ◌≤◌, length, IfErr, IfOk};
+ghost use Rattle.std.specs.Prelude.{◌≡◌, ◌≤◌, length, IfOk};
 ghost use Rattle.std.specs.List.Sorted.{IsPermutation, IsNonDecreasingBy, IsStableByKey};
 ghost use Rattle.std.specs.Ordering.{nat_cmp};
-ghost use Rattle.dns_names_wire.specs.Words.{ReadsWindow, EmitsAs, Extends, Keeps};
+ghost use Rattle.dns_pieces.specs.Facts.{record_emits, same, same_equiv, same_partial};
 ghost use Rattle.dns_rdata_service.specs.SVCB.{number_of_parameter};
-ghost use Rattle.dns_rdata_service.specs.HTTPS.{https_shape, https_fields, https_condition, https_key_shape, https_keys, IsReadHttps, https_refusal};
+ghost use Rattle.dns_rdata_service.specs.HTTPS.{https_facts, https_key_shape, https_keys};
 
 use crate::svcb::SVCB;
 use dns_names_wire::{
     BinDecoder, BinEncodable, BinEncoder, DecodeError, ProtoError, RDataEncoding, Restrict,
 };
-use dns_pieces::EncodesFields;
+use dns_pieces::{EncodesFields, Record};
 use dns_rdata_base::RecordDataDecodable;
 use std::alloc::AllocError;
 use std::fmt;
@@ -37,20 +37,17 @@ impl HTTPS {
     }
 }
 
+impl Record for HTTPS {
+    ghost facts = { https_facts };
+}
+
 impl RecordDataDecodable for HTTPS {
-    ghost kinds = { https_shape };
-
-    ghost condition = { https_condition };
-
-    ghost fields = { https_fields };
-
     /// Reads the data of an SVCB, and is refused as that.
     #[inline]
-    fn read_data(decoder: &mut BinDecoder<'_>, length: Restrict<u16>) -> Result<HTTPS, DecodeError>
-        ensures window { ReadsWindow https_shape https_condition https_fields length result decoder.old decoder.new }
-        ensures read { IfOk result IsReadHttps }
-        ensures refused { IfErr result (λ e. https_refusal length decoder.old e decoder.new) }
-    {
+    fn read_data(
+        decoder: &mut BinDecoder<'_>,
+        length: Restrict<u16>,
+    ) -> Result<HTTPS, DecodeError> {
         match SVCB::read_data(decoder, length) {
             Ok(svcb) => Ok(HTTPS(svcb)),
             Err(e) => Err(e),
@@ -59,10 +56,6 @@ impl RecordDataDecodable for HTTPS {
 }
 
 impl EncodesFields for HTTPS {
-    ghost emitted = { https_shape };
-
-    ghost parts = { https_fields };
-
     /// Appends the fields of the SVCB.
     #[inline]
     fn emit_fields(&self, encoder: &mut BinEncoder<'_>) -> Result<(), ProtoError> {
@@ -73,15 +66,11 @@ impl EncodesFields for HTTPS {
 impl BinEncodable for HTTPS {
     ghost use Rattle.dns_fields.specs.declared.RDataEncoding.TheVariants as modes;
 
-    ghost emits = { λ x r old new. EmitsAs modes.Other https_shape (https_fields x) r old new };
+    ghost emits = { record_emits modes.Other https_facts };
 
     /// Appends the octets of the SVCB, and is refused as that.
     #[inline]
-    fn emit(&self, encoder: &mut BinEncoder<'_>) -> Result<(), ProtoError>
-        ensures emits { EmitsAs RDataEncoding.Other https_shape (https_fields self.now) result encoder.old encoder.new }
-        ensures extends { Extends encoder.old encoder.new }
-        ensures keeps { Keeps encoder.old encoder.new }
-    {
+    fn emit(&self, encoder: &mut BinEncoder<'_>) -> Result<(), ProtoError> {
         self.0.emit(encoder)
     }
 }
@@ -99,13 +88,9 @@ impl Deref for HTTPS {
 }
 
 impl PartialEq for HTTPS {
-    ghost use Rattle.std.specs.Cmp.{partial_equiv_from_equiv, on_equiv};
-    ghost use Rattle.dns_fields.specs.Equal.{values_eq};
-    ghost use Rattle.dns_fields.proofs.Equivalences.{values_equiv};
+    ghost eq = { same https_key_shape https_keys };
 
-    ghost eq = { λ a b. values_eq https_key_shape (https_keys a) (https_keys b) };
-
-    ghost laws = { partial_equiv_from_equiv (on_equiv https_keys (values_equiv https_key_shape)) };
+    ghost laws = { same_partial https_key_shape https_keys };
 
     #[inline(always)]
     fn eq(&self, other: &HTTPS) -> bool {
@@ -114,10 +99,7 @@ impl PartialEq for HTTPS {
 }
 
 impl Eq for HTTPS {
-    ghost use Rattle.std.specs.Cmp.{on_equiv};
-    ghost use Rattle.dns_fields.proofs.Equivalences.{values_equiv};
-
-    ghost laws = { on_equiv https_keys (values_equiv https_key_shape) };
+    ghost laws = { same_equiv https_key_shape https_keys };
 }
 
 impl Hash for HTTPS {

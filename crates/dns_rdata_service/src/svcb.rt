@@ -1,13 +1,13 @@
 //! SVCB: how a service is reached (RFC 9460).
 
-ghost use Rattle.std.specs.Prelude.{◌≡◌, ◌≤◌, length, IfErr, IfOk};
+ghost use Rattle.std.specs.Prelude.{◌≡◌, ◌≤◌, length, IfOk};
 ghost use Rattle.std.specs.Option.{option_copied};
 ghost use Rattle.std.specs.List.Sorted.{IsPermutation, IsNonDecreasingBy, IsStableByKey};
 ghost use Rattle.std.specs.Ordering.{nat_cmp};
 ghost use Rattle.std.specs.Cmp.Lexicographic.{pointwise};
-ghost use Rattle.dns_names_wire.specs.Words.{ReadsWindow, EmitsAs, Extends, Keeps};
+ghost use Rattle.dns_pieces.specs.Facts.{record_emits, same, same_equiv, same_partial};
 ghost use Rattle.dns_rdata_service.specs.OwnKeys.{value_eq, parameter_eq};
-ghost use Rattle.dns_rdata_service.specs.SVCB.{svcb_shape, svcb_fields, svcb_condition, svcb_key_shape, svcb_keys, IsReadSvcb, svcb_refusal, number_of_parameter, value_at};
+ghost use Rattle.dns_rdata_service.specs.SVCB.{svcb_facts, svcb_key_shape, svcb_keys, number_of_parameter, value_at};
 ghost use Rattle.dns_rdata_service.specs.SvcParamKey.{key_number};
 
 mod alpn;
@@ -29,7 +29,7 @@ use dns_names_wire::{
     BinDecodable, BinDecoder, BinEncodable, BinEncoder, DecodeError, Name, ProtoError,
     RDataEncoding, Restrict,
 };
-use dns_pieces::{EncodesFields, emit_in};
+use dns_pieces::{EncodesFields, Record, emit_in};
 use dns_rdata_base::RecordDataDecodable;
 pub use doh_path::DohPath;
 pub use ech_config_list::EchConfigList;
@@ -109,13 +109,11 @@ impl SVCB {
     }
 }
 
+impl Record for SVCB {
+    ghost facts = { svcb_facts };
+}
+
 impl RecordDataDecodable for SVCB {
-    ghost kinds = { svcb_shape };
-
-    ghost condition = { svcb_condition };
-
-    ghost fields = { svcb_fields };
-
     /// Reads priority and target, and then parameters while at least four octets of the length are left; one to three
     /// stay untaken. Memory is asked for once for the list, and for what the values hold.
     ///
@@ -125,11 +123,7 @@ impl RecordDataDecodable for SVCB {
     /// before, behind its value, by [`SvcParamsOutOfOrder`](DecodeError::SvcParamsOutOfOrder); and where a value's
     /// octets are none of its key, as the value's `read` refuses them.
     #[inline(always)]
-    fn read_data(decoder: &mut BinDecoder<'_>, length: Restrict<u16>) -> Result<SVCB, DecodeError>
-        ensures window { ReadsWindow svcb_shape svcb_condition svcb_fields length result decoder.old decoder.new }
-        ensures read { IfOk result IsReadSvcb }
-        ensures refused { IfErr result (λ e. svcb_refusal length decoder.old e decoder.new) }
-    {
+    fn read_data(decoder: &mut BinDecoder<'_>, length: Restrict<u16>) -> Result<SVCB, DecodeError> {
         let start = decoder.index();
         let svc_priority = decoder.read_u16()?.unverified();
         let target_name = Name::read(decoder)?;
@@ -148,10 +142,6 @@ impl RecordDataDecodable for SVCB {
 }
 
 impl EncodesFields for SVCB {
-    ghost emitted = { svcb_shape };
-
-    ghost parts = { svcb_fields };
-
     /// Appends priority, target and parameters in their order.
     #[tactic(auto, using(dns_names_wire::proofs::FieldWrites::writing))]
     fn emit_fields(&self, encoder: &mut BinEncoder<'_>) -> Result<(), ProtoError> {
@@ -165,17 +155,13 @@ impl EncodesFields for SVCB {
 impl BinEncodable for SVCB {
     ghost use Rattle.dns_fields.specs.declared.RDataEncoding.TheVariants as modes;
 
-    ghost emits = { λ x r old new. EmitsAs modes.Other svcb_shape (svcb_fields x) r old new };
+    ghost emits = { record_emits modes.Other svcb_facts };
 
     /// Appends priority, target and parameters, the name whole and with its letters. Keys that do not strictly rise, no
     /// mandatory keys, no protocols, a protocol of more than 255 octets, and a value of more than 65535 octets are
     /// refused by [`Message`](ProtoError::Message).
     #[inline(always)]
-    fn emit(&self, encoder: &mut BinEncoder<'_>) -> Result<(), ProtoError>
-        ensures emits { EmitsAs RDataEncoding.Other svcb_shape (svcb_fields self.now) result encoder.old encoder.new }
-        ensures extends { Extends encoder.old encoder.new }
-        ensures keeps { Keeps encoder.old encoder.new }
-    {
+    fn emit(&self, encoder: &mut BinEncoder<'_>) -> Result<(), ProtoError> {
         emit_in(RDataEncoding::Other, self, encoder)
     }
 }
@@ -219,13 +205,9 @@ fn same_parameters(a: &[(SvcParamKey, SvcParamValue)], b: &[(SvcParamKey, SvcPar
 }
 
 impl PartialEq for SVCB {
-    ghost use Rattle.std.specs.Cmp.{partial_equiv_from_equiv, on_equiv};
-    ghost use Rattle.dns_fields.specs.Equal.{values_eq};
-    ghost use Rattle.dns_fields.proofs.Equivalences.{values_equiv};
+    ghost eq = { same svcb_key_shape svcb_keys };
 
-    ghost eq = { λ a b. values_eq svcb_key_shape (svcb_keys a) (svcb_keys b) };
-
-    ghost laws = { partial_equiv_from_equiv (on_equiv svcb_keys (values_equiv svcb_key_shape)) };
+    ghost laws = { same_partial svcb_key_shape svcb_keys };
 
     #[inline(never)]
     fn eq(&self, other: &SVCB) -> bool {
@@ -236,10 +218,7 @@ impl PartialEq for SVCB {
 }
 
 impl Eq for SVCB {
-    ghost use Rattle.std.specs.Cmp.{on_equiv};
-    ghost use Rattle.dns_fields.proofs.Equivalences.{values_equiv};
-
-    ghost laws = { on_equiv svcb_keys (values_equiv svcb_key_shape) };
+    ghost laws = { same_equiv svcb_key_shape svcb_keys };
 }
 
 impl Hash for SVCB {

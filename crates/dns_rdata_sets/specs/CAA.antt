@@ -11,6 +11,7 @@ use Rattle.dns_fields.specs.Fields.{Kind, Number, Octets, Text, Rest, Values}
 use Rattle.dns_names_wire.specs.State.{Reading}
 use Rattle.dns_names_wire.specs.Words.{Took, TookField, LacksOctets, IsMessage}
 use Rattle.dns_rdata_base.specs.Lossy.{lossy}
+use Rattle.dns_pieces.specs.Facts.{Facts, filling}
 use Rattle.dns_rdata_sets.specs.Issuer.{issuer_refusal}
 use Rattle.dns_rdata_sets.specs.declared.caa.CAA.{CAA}
 
@@ -145,3 +146,6 @@ pub record RefusedCaaValue (n : ℕ) (old : Reading) (e : DecodeError) (new : Re
 -- a record of n octets
 abbrev pub caa_refusal : ℕ → Reading → DecodeError → Reading → Type 0
 caa_refusal n old e new = CutCaaHead old e new ⊎ (RefusedTag n old e new ⊎ RefusedCaaValue n old e new)
+
+abbrev pub caa_facts : Facts CAA
+caa_facts = filling caa_shape caa_condition caa_fields caa_refusal IsReadCaa

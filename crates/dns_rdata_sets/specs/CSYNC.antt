@@ -8,6 +8,7 @@ use Rattle.dns_fields.specs.Fields.{Kind, Number, Bitmap, Values}
 use Rattle.dns_names_wire.specs.State.{Reading}
 use Rattle.dns_names_wire.specs.Words.{Took}
 use Rattle.dns_rdata_base.specs.Refusing.{FirstLack}
+use Rattle.dns_pieces.specs.Facts.{Facts, filling}
 use Rattle.dns_rdata_sets.specs.RecordTypeSet.{bitmap_refusal}
 use Rattle.dns_rdata_sets.specs.declared.csync.CSYNC.{CSYNC}
 
@@ -93,3 +94,6 @@ pub record RefusedTypes (n : ℕ) (old : Reading) (e : DecodeError) (new : Readi
 -- the first of: octets of the serial or of the flags are missing, the flags are not known, the length is too short, the types are refused
 abbrev pub csync_refusal : ℕ → Reading → DecodeError → Reading → Type 0
 csync_refusal n old e new = FirstLack (Number 4 ∷ Number 2 ∷ []) old e new ⊎ (UnknownFlags old e new ⊎ (ShortCsync n old e new ⊎ RefusedTypes n old e new))
+
+abbrev pub csync_facts : Facts CSYNC
+csync_facts = filling csync_shape csync_condition csync_fields csync_refusal IsReadCsync

@@ -1,10 +1,11 @@
 //! CAA: a property of a domain's issuers of certificates (RFC 8659).
 
-ghost use Rattle.std.specs.Prelude.{◌≡◌, ◌≤◌, ◌<◌, ◌+◌, false, take, get_or, length as list_length, IfErr, IfOk, OnOk};
+ghost use Rattle.std.specs.Prelude.{◌≡◌, ◌≤◌, ◌<◌, ◌+◌, false, take, get_or, length as list_length, IfErr, IfOk};
 ghost use Rattle.std.specs.Char.{is_ascii_alphanumeric};
 ghost use Rattle.dns_fields.specs.Fields.{Octets as OctetsKind};
-ghost use Rattle.dns_names_wire.specs.Words.{ReadsTo, ReadsWindow, TookField, StaysBehind, Emits, Extends, IsMessage};
-ghost use Rattle.dns_rdata_sets.specs.CAA.{caa_shape, caa_flags, caa_fields, caa_condition, caa_key_shape, caa_keys, AreTagOctets, IsTag};
+ghost use Rattle.dns_names_wire.specs.Words.{ReadsTo, TookField, StaysBehind, Emits, Extends, IsMessage};
+ghost use Rattle.dns_pieces.specs.Facts.{same, same_equiv, same_partial};
+ghost use Rattle.dns_rdata_sets.specs.CAA.{caa_shape, caa_flags, caa_fields, caa_facts, caa_condition, caa_key_shape, caa_keys, AreTagOctets, IsTag};
 ghost use Rattle.dns_rdata_sets.specs.CAA.{IsReadCaa, tag_refusal, caa_refusal};
 
 mod issuer;
@@ -14,6 +15,7 @@ use bstr::BStr;
 use dns_names_wire::{
     BinDecoder, BinEncodable, BinEncoder, DecodeError, ProtoError, Restrict, SmallOctets,
 };
+use dns_pieces::Record;
 use dns_rdata_base::RecordDataDecodable;
 pub use issuer::{KeyValue, issuers_hold, read_iodef, read_issuer};
 use std::alloc::AllocError;
@@ -133,13 +135,11 @@ fn count_letters(octets: &[u8]) -> usize
     count
 }
 
+impl Record for CAA {
+    ghost facts = { caa_facts };
+}
+
 impl RecordDataDecodable for CAA {
-    ghost kinds = { caa_shape };
-
-    ghost condition = { caa_condition };
-
-    ghost fields = { caa_fields };
-
     /// Reads an octet of flags, the tag, and the rest of the length, which asks for memory once where it is more than
     /// 64 octets.
     ///
@@ -152,12 +152,7 @@ impl RecordDataDecodable for CAA {
     /// the tag. Where octets of tag or value are missing it is refused by `InsufficientBytes`; the tag's octets that
     /// are there are taken, and the value's are not.
     #[inline]
-    fn read_data(decoder: &mut BinDecoder<'_>, length: Restrict<u16>) -> Result<CAA, DecodeError>
-        ensures window { ReadsWindow caa_shape caa_condition caa_fields length result decoder.old decoder.new }
-        ensures ends { OnOk result (decoder.new.index ≡ decoder.old.index + length) }
-        ensures flags { IfOk result IsReadCaa }
-        ensures refused { IfErr result (λ e. caa_refusal length decoder.old e decoder.new) }
-    {
+    fn read_data(decoder: &mut BinDecoder<'_>, length: Restrict<u16>) -> Result<CAA, DecodeError> {
         // Called for its clauses: the message is octets, and the place is in it.
         let _start = decoder.index();
         CAA::read_filled(decoder, length)
@@ -180,13 +175,9 @@ impl BinEncodable for CAA {
 }
 
 impl PartialEq for CAA {
-    ghost use Rattle.std.specs.Cmp.{partial_equiv_from_equiv, on_equiv};
-    ghost use Rattle.dns_fields.specs.Equal.{values_eq};
-    ghost use Rattle.dns_fields.proofs.Equivalences.{values_equiv};
+    ghost eq = { same caa_key_shape caa_keys };
 
-    ghost eq = { λ a b. values_eq caa_key_shape (caa_keys a) (caa_keys b) };
-
-    ghost laws = { partial_equiv_from_equiv (on_equiv caa_keys (values_equiv caa_key_shape)) };
+    ghost laws = { same_partial caa_key_shape caa_keys };
 
     // Inlined, and the flags told by one branch: a call costs as much as the comparison.
     #[inline(always)]
@@ -199,10 +190,7 @@ impl PartialEq for CAA {
 }
 
 impl Eq for CAA {
-    ghost use Rattle.std.specs.Cmp.{on_equiv};
-    ghost use Rattle.dns_fields.proofs.Equivalences.{values_equiv};
-
-    ghost laws = { on_equiv caa_keys (values_equiv caa_key_shape) };
+    ghost laws = { same_equiv caa_key_shape caa_keys };
 }
 
 impl Clone for CAA {

@@ -1,19 +1,21 @@
 //! CSYNC: which records of a child zone its parent copies (RFC 7477, 2.1).
 
-ghost use Rattle.std.specs.Prelude.{◌≡◌, IfErr, IfOk, ◌+◌, ◌++◌, OnOk, List, map};
+ghost use Rattle.std.specs.Prelude.{◌≡◌, IfErr, IfOk, ◌+◌, ◌++◌, List, map};
 ghost use Rattle.std.specs.Int.{bytes_high_first};
 ghost use Rattle.std.specs.Iterator.{Drains, IsFinite};
 ghost use Rattle.dns_types.specs.RecordTypes.{number_of};
 ghost use Rattle.dns_types.specs.declared.record_type.RecordType.{RecordType as RecordTypeValue};
-ghost use Rattle.dns_names_wire.specs.Words.{ReadsTo, ReadsWindow, Emits};
+ghost use Rattle.dns_names_wire.specs.Words.{ReadsTo, Emits};
+ghost use Rattle.dns_pieces.specs.Facts.{same, same_equiv, same_partial};
 ghost use Rattle.dns_rdata_sets.specs.RecordTypeSet.{IsSetOf};
-ghost use Rattle.dns_rdata_sets.specs.CSYNC.{csync_numbers_shape, csync_numbers, csync_shape, csync_flags, csync_fields, csync_condition};
+ghost use Rattle.dns_rdata_sets.specs.CSYNC.{csync_numbers_shape, csync_numbers, csync_shape, csync_flags, csync_fields, csync_facts, csync_condition};
 ghost use Rattle.dns_rdata_sets.specs.CSYNC.{csync_key_shape, csync_keys, IsReadCsync, csync_refusal};
 
 use crate::record_type_set::RecordTypeSet;
 use dns_names_wire::{
     BinDecoder, BinEncodable, BinEncoder, DecodeError, ProtoError, RecordType, Restrict,
 };
+use dns_pieces::Record;
 use dns_rdata_base::RecordDataDecodable;
 use std::alloc::{AllocError, Global};
 use std::fmt;
@@ -121,25 +123,21 @@ impl CSYNC {
     }
 }
 
+impl Record for CSYNC {
+    ghost facts = { csync_facts };
+}
+
 impl RecordDataDecodable for CSYNC {
-    ghost kinds = { csync_shape };
-
-    ghost condition = { csync_condition };
-
-    ghost fields = { csync_fields };
-
     /// Reads serial and flags, and the types to the end of the length. Flags with any of 0x00fc are refused by
     /// [`UnrecognizedCsyncFlags`](DecodeError::UnrecognizedCsyncFlags) as soon as they are taken; then a length below
     /// 6, by [`IncorrectRDataLengthRead`](DecodeError::IncorrectRDataLengthRead) of 6 and the length; then octets that
     /// are no bitmap, by [`BitmapInvalid`](DecodeError::BitmapInvalid). Where octets are missing it is refused by
     /// [`InsufficientBytes`](DecodeError::InsufficientBytes), and the numbers that are there are taken.
     #[inline]
-    fn read_data(decoder: &mut BinDecoder<'_>, length: Restrict<u16>) -> Result<CSYNC, DecodeError>
-        ensures window { ReadsWindow csync_shape csync_condition csync_fields length result decoder.old decoder.new }
-        ensures ends { OnOk result (decoder.new.index ≡ decoder.old.index + length) }
-        ensures read { IfOk result IsReadCsync }
-        ensures refused { IfErr result (λ e. csync_refusal length decoder.old e decoder.new) }
-    {
+    fn read_data(
+        decoder: &mut BinDecoder<'_>,
+        length: Restrict<u16>,
+    ) -> Result<CSYNC, DecodeError> {
         // Called for its clauses: the message is octets, and the place is in it.
         let _start = decoder.index();
         CSYNC::read_filled(decoder, length)
@@ -180,13 +178,9 @@ impl BinEncodable for CSYNC {
 }
 
 impl PartialEq for CSYNC {
-    ghost use Rattle.std.specs.Cmp.{partial_equiv_from_equiv, on_equiv};
-    ghost use Rattle.dns_fields.specs.Equal.{values_eq};
-    ghost use Rattle.dns_fields.proofs.Equivalences.{values_equiv};
+    ghost eq = { same csync_key_shape csync_keys };
 
-    ghost eq = { λ a b. values_eq csync_key_shape (csync_keys a) (csync_keys b) };
-
-    ghost laws = { partial_equiv_from_equiv (on_equiv csync_keys (values_equiv csync_key_shape)) };
+    ghost laws = { same_partial csync_key_shape csync_keys };
 
     #[inline(never)]
     fn eq(&self, other: &CSYNC) -> bool {
@@ -199,10 +193,7 @@ impl PartialEq for CSYNC {
 }
 
 impl Eq for CSYNC {
-    ghost use Rattle.std.specs.Cmp.{on_equiv};
-    ghost use Rattle.dns_fields.proofs.Equivalences.{values_equiv};
-
-    ghost laws = { on_equiv csync_keys (values_equiv csync_key_shape) };
+    ghost laws = { same_equiv csync_key_shape csync_keys };
 }
 
 impl Clone for CSYNC {

@@ -78,16 +78,16 @@ pub returns-in_err-by_length-in-ANAME : goal.returns-in_err-by_length-in-ANAME
 returns-in_err-by_length-in-ANAME c = fails c.from_residual-in_err-by_length-in-ANAME.result c.in-ANAME.is c.from_residual-in_err-by_length-in-ANAME.ensures.1 (reads_counted types.ANAME rdata.ANAME base.NameRecords.aname_fields (λ h. h) c.index-start.ensures.place c.in_err-by_length-in-ANAME.ensures c.read_data-data-in-ANAME.ensures.window c.read_data-data-in-ANAME.ensures.refused (λ x _. record { type = refl; fields = refl; plain = tt }))
 
 pub returns-in-CAA : goal.returns-in-CAA
-returns-in-CAA c = gives c.in-CAA.is (reads_counted types.CAA rdata.CAA sets.CAA.caa_fields (λ h. h) c.index-start.ensures.place c.in_ok-by_length-in-CAA.ensures c.read_data-data-in-CAA.ensures.window c.read_data-data-in-CAA.ensures.refused (λ x e. record { type = refl; fields = refl; plain = of_read _ c.read_data-data-in-CAA.ensures.flags e }))
+returns-in-CAA c = gives c.in-CAA.is (reads_counted types.CAA rdata.CAA sets.CAA.caa_fields (λ h. h) c.index-start.ensures.place c.in_ok-by_length-in-CAA.ensures c.read_data-data-in-CAA.ensures.window c.read_data-data-in-CAA.ensures.refused (λ x e. record { type = refl; fields = refl; plain = (of_read _ c.read_data-data-in-CAA.ensures.made e).0 }))
 
 pub returns-in_err-by_length-in-CAA : goal.returns-in_err-by_length-in-CAA
-returns-in_err-by_length-in-CAA c = fails c.from_residual-in_err-by_length-in-CAA.result c.in-CAA.is c.from_residual-in_err-by_length-in-CAA.ensures.1 (reads_counted types.CAA rdata.CAA sets.CAA.caa_fields (λ h. h) c.index-start.ensures.place c.in_err-by_length-in-CAA.ensures c.read_data-data-in-CAA.ensures.window c.read_data-data-in-CAA.ensures.refused (λ x e. record { type = refl; fields = refl; plain = of_read _ c.read_data-data-in-CAA.ensures.flags e }))
+returns-in_err-by_length-in-CAA c = fails c.from_residual-in_err-by_length-in-CAA.result c.in-CAA.is c.from_residual-in_err-by_length-in-CAA.ensures.1 (reads_counted types.CAA rdata.CAA sets.CAA.caa_fields (λ h. h) c.index-start.ensures.place c.in_err-by_length-in-CAA.ensures c.read_data-data-in-CAA.ensures.window c.read_data-data-in-CAA.ensures.refused (λ x e. record { type = refl; fields = refl; plain = (of_read _ c.read_data-data-in-CAA.ensures.made e).0 }))
 
 pub returns-in-CERT : goal.returns-in-CERT
-returns-in-CERT c = gives c.in-CERT.is (reads_counted types.CERT rdata.CERT certs.CERT.cert_fields (λ h. h) c.index-start.ensures.place c.in_ok-by_length-in-CERT.ensures c.read_data-data-in-CERT.ensures.window c.read_data-data-in-CERT.ensures.refused (λ x e. record { type = refl; fields = refl; plain = of_read _ c.read_data-data-in-CERT.ensures.enums e }))
+returns-in-CERT c = gives c.in-CERT.is (reads_counted types.CERT rdata.CERT certs.CERT.cert_fields (λ h. h) c.index-start.ensures.place c.in_ok-by_length-in-CERT.ensures c.read_data-data-in-CERT.ensures.window c.read_data-data-in-CERT.ensures.refused (λ x e. record { type = refl; fields = refl; plain = (of_read _ c.read_data-data-in-CERT.ensures.made e).0 }))
 
 pub returns-in_err-by_length-in-CERT : goal.returns-in_err-by_length-in-CERT
-returns-in_err-by_length-in-CERT c = fails c.from_residual-in_err-by_length-in-CERT.result c.in-CERT.is c.from_residual-in_err-by_length-in-CERT.ensures.1 (reads_counted types.CERT rdata.CERT certs.CERT.cert_fields (λ h. h) c.index-start.ensures.place c.in_err-by_length-in-CERT.ensures c.read_data-data-in-CERT.ensures.window c.read_data-data-in-CERT.ensures.refused (λ x e. record { type = refl; fields = refl; plain = of_read _ c.read_data-data-in-CERT.ensures.enums e }))
+returns-in_err-by_length-in-CERT c = fails c.from_residual-in_err-by_length-in-CERT.result c.in-CERT.is c.from_residual-in_err-by_length-in-CERT.ensures.1 (reads_counted types.CERT rdata.CERT certs.CERT.cert_fields (λ h. h) c.index-start.ensures.place c.in_err-by_length-in-CERT.ensures c.read_data-data-in-CERT.ensures.window c.read_data-data-in-CERT.ensures.refused (λ x e. record { type = refl; fields = refl; plain = (of_read _ c.read_data-data-in-CERT.ensures.made e).0 }))
 
 pub returns-in-CNAME : goal.returns-in-CNAME
 returns-in-CNAME c = gives c.in-CNAME.is (reads_counted types.CNAME rdata.CNAME base.NameRecords.cname_fields (λ h. h) c.index-start.ensures.place c.in_ok-by_length-in-CNAME.ensures c.read_data-data-in-CNAME.ensures.window c.read_data-data-in-CNAME.ensures.refused (λ x _. record { type = refl; fields = refl; plain = tt }))
@@ -96,10 +96,10 @@ pub returns-in_err-by_length-in-CNAME : goal.returns-in_err-by_length-in-CNAME
 returns-in_err-by_length-in-CNAME c = fails c.from_residual-in_err-by_length-in-CNAME.result c.in-CNAME.is c.from_residual-in_err-by_length-in-CNAME.ensures.1 (reads_counted types.CNAME rdata.CNAME base.NameRecords.cname_fields (λ h. h) c.index-start.ensures.place c.in_err-by_length-in-CNAME.ensures c.read_data-data-in-CNAME.ensures.window c.read_data-data-in-CNAME.ensures.refused (λ x _. record { type = refl; fields = refl; plain = tt }))
 
 pub returns-in-CSYNC : goal.returns-in-CSYNC
-returns-in-CSYNC c = gives c.in-CSYNC.is (reads_counted types.CSYNC rdata.CSYNC sets.CSYNC.csync_fields (λ h. h) c.index-start.ensures.place c.in_ok-by_length-in-CSYNC.ensures c.read_data-data-in-CSYNC.ensures.window c.read_data-data-in-CSYNC.ensures.refused (λ x e. record { type = refl; fields = refl; plain = of_read _ c.read_data-data-in-CSYNC.ensures.read e }))
+returns-in-CSYNC c = gives c.in-CSYNC.is (reads_counted types.CSYNC rdata.CSYNC sets.CSYNC.csync_fields (λ h. h) c.index-start.ensures.place c.in_ok-by_length-in-CSYNC.ensures c.read_data-data-in-CSYNC.ensures.window c.read_data-data-in-CSYNC.ensures.refused (λ x e. record { type = refl; fields = refl; plain = (of_read _ c.read_data-data-in-CSYNC.ensures.made e).0 }))
 
 pub returns-in_err-by_length-in-CSYNC : goal.returns-in_err-by_length-in-CSYNC
-returns-in_err-by_length-in-CSYNC c = fails c.from_residual-in_err-by_length-in-CSYNC.result c.in-CSYNC.is c.from_residual-in_err-by_length-in-CSYNC.ensures.1 (reads_counted types.CSYNC rdata.CSYNC sets.CSYNC.csync_fields (λ h. h) c.index-start.ensures.place c.in_err-by_length-in-CSYNC.ensures c.read_data-data-in-CSYNC.ensures.window c.read_data-data-in-CSYNC.ensures.refused (λ x e. record { type = refl; fields = refl; plain = of_read _ c.read_data-data-in-CSYNC.ensures.read e }))
+returns-in_err-by_length-in-CSYNC c = fails c.from_residual-in_err-by_length-in-CSYNC.result c.in-CSYNC.is c.from_residual-in_err-by_length-in-CSYNC.ensures.1 (reads_counted types.CSYNC rdata.CSYNC sets.CSYNC.csync_fields (λ h. h) c.index-start.ensures.place c.in_err-by_length-in-CSYNC.ensures c.read_data-data-in-CSYNC.ensures.window c.read_data-data-in-CSYNC.ensures.refused (λ x e. record { type = refl; fields = refl; plain = (of_read _ c.read_data-data-in-CSYNC.ensures.made e).0 }))
 
 pub returns-in-HINFO : goal.returns-in-HINFO
 returns-in-HINFO c = gives c.in-HINFO.is (reads_counted types.HINFO rdata.HINFO base.HINFO.hinfo_fields (λ h. h) c.index-start.ensures.place c.in_ok-by_length-in-HINFO.ensures c.read_data-data-in-HINFO.ensures.window c.read_data-data-in-HINFO.ensures.refused (λ x _. record { type = refl; fields = refl; plain = tt }))
@@ -108,10 +108,10 @@ pub returns-in_err-by_length-in-HINFO : goal.returns-in_err-by_length-in-HINFO
 returns-in_err-by_length-in-HINFO c = fails c.from_residual-in_err-by_length-in-HINFO.result c.in-HINFO.is c.from_residual-in_err-by_length-in-HINFO.ensures.1 (reads_counted types.HINFO rdata.HINFO base.HINFO.hinfo_fields (λ h. h) c.index-start.ensures.place c.in_err-by_length-in-HINFO.ensures c.read_data-data-in-HINFO.ensures.window c.read_data-data-in-HINFO.ensures.refused (λ x _. record { type = refl; fields = refl; plain = tt }))
 
 pub returns-in-HTTPS : goal.returns-in-HTTPS
-returns-in-HTTPS c = gives c.in-HTTPS.is (reads_counted types.HTTPS rdata.HTTPS service.HTTPS.https_fields (λ h. h) c.index-start.ensures.place c.in_ok-by_length-in-HTTPS.ensures c.read_data-data-in-HTTPS.ensures.window c.read_data-data-in-HTTPS.ensures.refused (λ x e. record { type = refl; fields = refl; plain = of_read _ c.read_data-data-in-HTTPS.ensures.read e }))
+returns-in-HTTPS c = gives c.in-HTTPS.is (reads_counted types.HTTPS rdata.HTTPS service.HTTPS.https_fields (λ h. h) c.index-start.ensures.place c.in_ok-by_length-in-HTTPS.ensures c.read_data-data-in-HTTPS.ensures.window c.read_data-data-in-HTTPS.ensures.refused (λ x e. record { type = refl; fields = refl; plain = of_read _ c.read_data-data-in-HTTPS.ensures.made e }))
 
 pub returns-in_err-by_length-in-HTTPS : goal.returns-in_err-by_length-in-HTTPS
-returns-in_err-by_length-in-HTTPS c = fails c.from_residual-in_err-by_length-in-HTTPS.result c.in-HTTPS.is c.from_residual-in_err-by_length-in-HTTPS.ensures.1 (reads_counted types.HTTPS rdata.HTTPS service.HTTPS.https_fields (λ h. h) c.index-start.ensures.place c.in_err-by_length-in-HTTPS.ensures c.read_data-data-in-HTTPS.ensures.window c.read_data-data-in-HTTPS.ensures.refused (λ x e. record { type = refl; fields = refl; plain = of_read _ c.read_data-data-in-HTTPS.ensures.read e }))
+returns-in_err-by_length-in-HTTPS c = fails c.from_residual-in_err-by_length-in-HTTPS.result c.in-HTTPS.is c.from_residual-in_err-by_length-in-HTTPS.ensures.1 (reads_counted types.HTTPS rdata.HTTPS service.HTTPS.https_fields (λ h. h) c.index-start.ensures.place c.in_err-by_length-in-HTTPS.ensures c.read_data-data-in-HTTPS.ensures.window c.read_data-data-in-HTTPS.ensures.refused (λ x e. record { type = refl; fields = refl; plain = of_read _ c.read_data-data-in-HTTPS.ensures.made e }))
 
 pub returns-in-MX : goal.returns-in-MX
 returns-in-MX c = gives c.in-MX.is (reads_counted types.MX rdata.MX base.MX.mx_fields (λ h. h) c.index-start.ensures.place c.in_ok-by_length-in-MX.ensures c.read_data-data-in-MX.ensures.window c.read_data-data-in-MX.ensures.refused (λ x _. record { type = refl; fields = refl; plain = tt }))
@@ -144,10 +144,10 @@ pub returns-in_err-by_length-in-OPENPGPKEY : goal.returns-in_err-by_length-in-OP
 returns-in_err-by_length-in-OPENPGPKEY c = fails c.from_residual-in_err-by_length-in-OPENPGPKEY.result c.in-OPENPGPKEY.is c.from_residual-in_err-by_length-in-OPENPGPKEY.ensures.1 (reads_counted types.OPENPGPKEY rdata.OPENPGPKEY base.OPENPGPKEY.openpgpkey_fields (λ h. h) c.index-start.ensures.place c.in_err-by_length-in-OPENPGPKEY.ensures c.read_data-data-in-OPENPGPKEY.ensures.window c.read_data-data-in-OPENPGPKEY.ensures.refused (λ x _. record { type = refl; fields = refl; plain = tt }))
 
 pub returns-in-OPT : goal.returns-in-OPT
-returns-in-OPT c = gives c.in-OPT.is (reads_counted types.OPT rdata.OPT options.OPT.opt_fields (λ h. h) c.index-start.ensures.place c.in_ok-by_length-in-OPT.ensures c.read_data-data-in-OPT.ensures.window c.read_data-data-in-OPT.ensures.refused (λ x e. record { type = refl; fields = refl; plain = of_read _ c.read_data-data-in-OPT.ensures.read e }))
+returns-in-OPT c = gives c.in-OPT.is (reads_counted types.OPT rdata.OPT options.OPT.opt_fields (λ h. h) c.index-start.ensures.place c.in_ok-by_length-in-OPT.ensures c.read_data-data-in-OPT.ensures.window c.read_data-data-in-OPT.ensures.refused (λ x e. record { type = refl; fields = refl; plain = (of_read _ c.read_data-data-in-OPT.ensures.made e).0 }))
 
 pub returns-in_err-by_length-in-OPT : goal.returns-in_err-by_length-in-OPT
-returns-in_err-by_length-in-OPT c = fails c.from_residual-in_err-by_length-in-OPT.result c.in-OPT.is c.from_residual-in_err-by_length-in-OPT.ensures.1 (reads_counted types.OPT rdata.OPT options.OPT.opt_fields (λ h. h) c.index-start.ensures.place c.in_err-by_length-in-OPT.ensures c.read_data-data-in-OPT.ensures.window c.read_data-data-in-OPT.ensures.refused (λ x e. record { type = refl; fields = refl; plain = of_read _ c.read_data-data-in-OPT.ensures.read e }))
+returns-in_err-by_length-in-OPT c = fails c.from_residual-in_err-by_length-in-OPT.result c.in-OPT.is c.from_residual-in_err-by_length-in-OPT.ensures.1 (reads_counted types.OPT rdata.OPT options.OPT.opt_fields (λ h. h) c.index-start.ensures.place c.in_err-by_length-in-OPT.ensures c.read_data-data-in-OPT.ensures.window c.read_data-data-in-OPT.ensures.refused (λ x e. record { type = refl; fields = refl; plain = (of_read _ c.read_data-data-in-OPT.ensures.made e).0 }))
 
 pub returns-in-PTR : goal.returns-in-PTR
 returns-in-PTR c = gives c.in-PTR.is (reads_counted types.PTR rdata.PTR base.NameRecords.ptr_fields (λ h. h) c.index-start.ensures.place c.in_ok-by_length-in-PTR.ensures c.read_data-data-in-PTR.ensures.window c.read_data-data-in-PTR.ensures.refused (λ x _. record { type = refl; fields = refl; plain = tt }))
@@ -156,16 +156,16 @@ pub returns-in_err-by_length-in-PTR : goal.returns-in_err-by_length-in-PTR
 returns-in_err-by_length-in-PTR c = fails c.from_residual-in_err-by_length-in-PTR.result c.in-PTR.is c.from_residual-in_err-by_length-in-PTR.ensures.1 (reads_counted types.PTR rdata.PTR base.NameRecords.ptr_fields (λ h. h) c.index-start.ensures.place c.in_err-by_length-in-PTR.ensures c.read_data-data-in-PTR.ensures.window c.read_data-data-in-PTR.ensures.refused (λ x _. record { type = refl; fields = refl; plain = tt }))
 
 pub returns-in-SMIMEA : goal.returns-in-SMIMEA
-returns-in-SMIMEA c = gives c.in-SMIMEA.is (reads_counted types.SMIMEA rdata.SMIMEA certs.SMIMEA.smimea_fields (λ h. h) c.index-start.ensures.place c.in_ok-by_length-in-SMIMEA.ensures c.read_data-data-in-SMIMEA.ensures.window c.read_data-data-in-SMIMEA.ensures.refused (λ x e. record { type = refl; fields = refl; plain = of_read _ c.read_data-data-in-SMIMEA.ensures.enums e }))
+returns-in-SMIMEA c = gives c.in-SMIMEA.is (reads_counted types.SMIMEA rdata.SMIMEA certs.SMIMEA.smimea_fields (λ h. h) c.index-start.ensures.place c.in_ok-by_length-in-SMIMEA.ensures c.read_data-data-in-SMIMEA.ensures.window c.read_data-data-in-SMIMEA.ensures.refused (λ x e. record { type = refl; fields = refl; plain = (of_read _ c.read_data-data-in-SMIMEA.ensures.made e).0 }))
 
 pub returns-in_err-by_length-in-SMIMEA : goal.returns-in_err-by_length-in-SMIMEA
-returns-in_err-by_length-in-SMIMEA c = fails c.from_residual-in_err-by_length-in-SMIMEA.result c.in-SMIMEA.is c.from_residual-in_err-by_length-in-SMIMEA.ensures.1 (reads_counted types.SMIMEA rdata.SMIMEA certs.SMIMEA.smimea_fields (λ h. h) c.index-start.ensures.place c.in_err-by_length-in-SMIMEA.ensures c.read_data-data-in-SMIMEA.ensures.window c.read_data-data-in-SMIMEA.ensures.refused (λ x e. record { type = refl; fields = refl; plain = of_read _ c.read_data-data-in-SMIMEA.ensures.enums e }))
+returns-in_err-by_length-in-SMIMEA c = fails c.from_residual-in_err-by_length-in-SMIMEA.result c.in-SMIMEA.is c.from_residual-in_err-by_length-in-SMIMEA.ensures.1 (reads_counted types.SMIMEA rdata.SMIMEA certs.SMIMEA.smimea_fields (λ h. h) c.index-start.ensures.place c.in_err-by_length-in-SMIMEA.ensures c.read_data-data-in-SMIMEA.ensures.window c.read_data-data-in-SMIMEA.ensures.refused (λ x e. record { type = refl; fields = refl; plain = (of_read _ c.read_data-data-in-SMIMEA.ensures.made e).0 }))
 
 pub returns-in-SOA : goal.returns-in-SOA
-returns-in-SOA c = gives c.in-SOA.is (reads_counted types.SOA rdata.SOA base.SOA.soa_fields (λ h. h) c.index-start.ensures.place c.in_ok-by_length-in-SOA.ensures c.read_data-data-in-SOA.ensures.window c.read_data-data-in-SOA.ensures.refused (λ x e. record { type = refl; fields = refl; plain = of_read _ c.read_data-data-in-SOA.ensures.seconds e }))
+returns-in-SOA c = gives c.in-SOA.is (reads_counted types.SOA rdata.SOA base.SOA.soa_fields (λ h. h) c.index-start.ensures.place c.in_ok-by_length-in-SOA.ensures c.read_data-data-in-SOA.ensures.window c.read_data-data-in-SOA.ensures.refused (λ x e. record { type = refl; fields = refl; plain = of_read _ c.read_data-data-in-SOA.ensures.made e }))
 
 pub returns-in_err-by_length-in-SOA : goal.returns-in_err-by_length-in-SOA
-returns-in_err-by_length-in-SOA c = fails c.from_residual-in_err-by_length-in-SOA.result c.in-SOA.is c.from_residual-in_err-by_length-in-SOA.ensures.1 (reads_counted types.SOA rdata.SOA base.SOA.soa_fields (λ h. h) c.index-start.ensures.place c.in_err-by_length-in-SOA.ensures c.read_data-data-in-SOA.ensures.window c.read_data-data-in-SOA.ensures.refused (λ x e. record { type = refl; fields = refl; plain = of_read _ c.read_data-data-in-SOA.ensures.seconds e }))
+returns-in_err-by_length-in-SOA c = fails c.from_residual-in_err-by_length-in-SOA.result c.in-SOA.is c.from_residual-in_err-by_length-in-SOA.ensures.1 (reads_counted types.SOA rdata.SOA base.SOA.soa_fields (λ h. h) c.index-start.ensures.place c.in_err-by_length-in-SOA.ensures c.read_data-data-in-SOA.ensures.window c.read_data-data-in-SOA.ensures.refused (λ x e. record { type = refl; fields = refl; plain = of_read _ c.read_data-data-in-SOA.ensures.made e }))
 
 pub returns-in-SRV : goal.returns-in-SRV
 returns-in-SRV c = gives c.in-SRV.is (reads_counted types.SRV rdata.SRV base.SRV.srv_fields (λ h. h) c.index-start.ensures.place c.in_ok-by_length-in-SRV.ensures c.read_data-data-in-SRV.ensures.window c.read_data-data-in-SRV.ensures.refused (λ x _. record { type = refl; fields = refl; plain = tt }))
@@ -174,22 +174,22 @@ pub returns-in_err-by_length-in-SRV : goal.returns-in_err-by_length-in-SRV
 returns-in_err-by_length-in-SRV c = fails c.from_residual-in_err-by_length-in-SRV.result c.in-SRV.is c.from_residual-in_err-by_length-in-SRV.ensures.1 (reads_counted types.SRV rdata.SRV base.SRV.srv_fields (λ h. h) c.index-start.ensures.place c.in_err-by_length-in-SRV.ensures c.read_data-data-in-SRV.ensures.window c.read_data-data-in-SRV.ensures.refused (λ x _. record { type = refl; fields = refl; plain = tt }))
 
 pub returns-in-SSHFP : goal.returns-in-SSHFP
-returns-in-SSHFP c = gives c.in-SSHFP.is (reads_counted types.SSHFP rdata.SSHFP certs.SSHFP.sshfp_fields (λ h. h) c.index-start.ensures.place c.in_ok-by_length-in-SSHFP.ensures c.read_data-data-in-SSHFP.ensures.window c.read_data-data-in-SSHFP.ensures.refused (λ x e. record { type = refl; fields = refl; plain = of_read _ c.read_data-data-in-SSHFP.ensures.enums e }))
+returns-in-SSHFP c = gives c.in-SSHFP.is (reads_counted types.SSHFP rdata.SSHFP certs.SSHFP.sshfp_fields (λ h. h) c.index-start.ensures.place c.in_ok-by_length-in-SSHFP.ensures c.read_data-data-in-SSHFP.ensures.window c.read_data-data-in-SSHFP.ensures.refused (λ x e. record { type = refl; fields = refl; plain = (of_read _ c.read_data-data-in-SSHFP.ensures.made e).0 }))
 
 pub returns-in_err-by_length-in-SSHFP : goal.returns-in_err-by_length-in-SSHFP
-returns-in_err-by_length-in-SSHFP c = fails c.from_residual-in_err-by_length-in-SSHFP.result c.in-SSHFP.is c.from_residual-in_err-by_length-in-SSHFP.ensures.1 (reads_counted types.SSHFP rdata.SSHFP certs.SSHFP.sshfp_fields (λ h. h) c.index-start.ensures.place c.in_err-by_length-in-SSHFP.ensures c.read_data-data-in-SSHFP.ensures.window c.read_data-data-in-SSHFP.ensures.refused (λ x e. record { type = refl; fields = refl; plain = of_read _ c.read_data-data-in-SSHFP.ensures.enums e }))
+returns-in_err-by_length-in-SSHFP c = fails c.from_residual-in_err-by_length-in-SSHFP.result c.in-SSHFP.is c.from_residual-in_err-by_length-in-SSHFP.ensures.1 (reads_counted types.SSHFP rdata.SSHFP certs.SSHFP.sshfp_fields (λ h. h) c.index-start.ensures.place c.in_err-by_length-in-SSHFP.ensures c.read_data-data-in-SSHFP.ensures.window c.read_data-data-in-SSHFP.ensures.refused (λ x e. record { type = refl; fields = refl; plain = (of_read _ c.read_data-data-in-SSHFP.ensures.made e).0 }))
 
 pub returns-in-SVCB : goal.returns-in-SVCB
-returns-in-SVCB c = gives c.in-SVCB.is (reads_counted types.SVCB rdata.SVCB service.SVCB.svcb_fields (λ h. h) c.index-start.ensures.place c.in_ok-by_length-in-SVCB.ensures c.read_data-data-in-SVCB.ensures.window c.read_data-data-in-SVCB.ensures.refused (λ x e. record { type = refl; fields = refl; plain = of_read _ c.read_data-data-in-SVCB.ensures.read e }))
+returns-in-SVCB c = gives c.in-SVCB.is (reads_counted types.SVCB rdata.SVCB service.SVCB.svcb_fields (λ h. h) c.index-start.ensures.place c.in_ok-by_length-in-SVCB.ensures c.read_data-data-in-SVCB.ensures.window c.read_data-data-in-SVCB.ensures.refused (λ x e. record { type = refl; fields = refl; plain = of_read _ c.read_data-data-in-SVCB.ensures.made e }))
 
 pub returns-in_err-by_length-in-SVCB : goal.returns-in_err-by_length-in-SVCB
-returns-in_err-by_length-in-SVCB c = fails c.from_residual-in_err-by_length-in-SVCB.result c.in-SVCB.is c.from_residual-in_err-by_length-in-SVCB.ensures.1 (reads_counted types.SVCB rdata.SVCB service.SVCB.svcb_fields (λ h. h) c.index-start.ensures.place c.in_err-by_length-in-SVCB.ensures c.read_data-data-in-SVCB.ensures.window c.read_data-data-in-SVCB.ensures.refused (λ x e. record { type = refl; fields = refl; plain = of_read _ c.read_data-data-in-SVCB.ensures.read e }))
+returns-in_err-by_length-in-SVCB c = fails c.from_residual-in_err-by_length-in-SVCB.result c.in-SVCB.is c.from_residual-in_err-by_length-in-SVCB.ensures.1 (reads_counted types.SVCB rdata.SVCB service.SVCB.svcb_fields (λ h. h) c.index-start.ensures.place c.in_err-by_length-in-SVCB.ensures c.read_data-data-in-SVCB.ensures.window c.read_data-data-in-SVCB.ensures.refused (λ x e. record { type = refl; fields = refl; plain = of_read _ c.read_data-data-in-SVCB.ensures.made e }))
 
 pub returns-in-TLSA : goal.returns-in-TLSA
-returns-in-TLSA c = gives c.in-TLSA.is (reads_counted types.TLSA rdata.TLSA certs.TLSA.tlsa_fields (λ h. h) c.index-start.ensures.place c.in_ok-by_length-in-TLSA.ensures c.read_data-data-in-TLSA.ensures.window c.read_data-data-in-TLSA.ensures.refused (λ x e. record { type = refl; fields = refl; plain = of_read _ c.read_data-data-in-TLSA.ensures.enums e }))
+returns-in-TLSA c = gives c.in-TLSA.is (reads_counted types.TLSA rdata.TLSA certs.TLSA.tlsa_fields (λ h. h) c.index-start.ensures.place c.in_ok-by_length-in-TLSA.ensures c.read_data-data-in-TLSA.ensures.window c.read_data-data-in-TLSA.ensures.refused (λ x e. record { type = refl; fields = refl; plain = (of_read _ c.read_data-data-in-TLSA.ensures.made e).0 }))
 
 pub returns-in_err-by_length-in-TLSA : goal.returns-in_err-by_length-in-TLSA
-returns-in_err-by_length-in-TLSA c = fails c.from_residual-in_err-by_length-in-TLSA.result c.in-TLSA.is c.from_residual-in_err-by_length-in-TLSA.ensures.1 (reads_counted types.TLSA rdata.TLSA certs.TLSA.tlsa_fields (λ h. h) c.index-start.ensures.place c.in_err-by_length-in-TLSA.ensures c.read_data-data-in-TLSA.ensures.window c.read_data-data-in-TLSA.ensures.refused (λ x e. record { type = refl; fields = refl; plain = of_read _ c.read_data-data-in-TLSA.ensures.enums e }))
+returns-in_err-by_length-in-TLSA c = fails c.from_residual-in_err-by_length-in-TLSA.result c.in-TLSA.is c.from_residual-in_err-by_length-in-TLSA.ensures.1 (reads_counted types.TLSA rdata.TLSA certs.TLSA.tlsa_fields (λ h. h) c.index-start.ensures.place c.in_err-by_length-in-TLSA.ensures c.read_data-data-in-TLSA.ensures.window c.read_data-data-in-TLSA.ensures.refused (λ x e. record { type = refl; fields = refl; plain = (of_read _ c.read_data-data-in-TLSA.ensures.made e).0 }))
 
 pub returns-in-TXT : goal.returns-in-TXT
 returns-in-TXT c = gives c.in-TXT.is (reads_counted types.TXT rdata.TXT base.TXT.txt_fields (λ h. h) c.index-start.ensures.place c.in_ok-by_length-in-TXT.ensures c.read_data-data-in-TXT.ensures.window c.read_data-data-in-TXT.ensures.refused (λ x _. record { type = refl; fields = refl; plain = tt }))
