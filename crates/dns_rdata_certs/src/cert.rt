@@ -1,10 +1,10 @@
 //! CERT: a certificate (RFC 4398, 2).
 
-ghost use Rattle.std.specs.Prelude.{◌≡◌, length as list_length, IfErr, IfOk};
+ghost use Rattle.std.specs.Prelude.{◌≡◌, length as list_length, IfErr, IfOk, Some};
 ghost use Rattle.std.specs.String.{string_bytes};
 ghost use Rattle.dns_names_wire.specs.Words.{ReadsTo, Emits};
 ghost use Rattle.dns_pieces.specs.Facts.{same, same_equiv, same_partial};
-ghost use Rattle.dns_rdata_certs.specs.CERT.{cert_shape, cert_fields, cert_facts, cert_condition, cert_key_shape, cert_keys, IsReadCert};
+ghost use Rattle.dns_rdata_certs.specs.CERT.{cert_shape, cert_fields, cert_facts, cert_condition, cert_key_shape, cert_keys, IsReadCert, cert_text};
 ghost use Rattle.dns_rdata_certs.specs.CERT.{cert_data_text, cert_refusal, ReadsWholeCert, whole_cert_refusal};
 
 mod algorithm;
@@ -24,7 +24,7 @@ use std::fmt;
 
 /// A certificate (RFC 4398, 2): two octets of its type, two of a key tag, one of an algorithm, and then the certificate
 /// to the end of the record's length. One without octets is emitted, and never read.
-#[derive(Debug, Drop, Hash)]
+#[derive(Clone, Debug, Drop, Hash)]
 pub struct CERT {
     /// The type of the certificate.
     pub cert_type: CertType,
@@ -152,27 +152,7 @@ impl Eq for CERT {
     ghost laws = { same_equiv cert_key_shape cert_keys };
 }
 
-impl Clone for CERT {
-    ghost is_clone = { λ a b. b ≡ a };
-
-    /// The same fields, the certificate in memory of its own.
-    #[inline]
-    fn clone(&self) -> Result<CERT, AllocError>
-        ensures { IfOk result (λ copy. copy ≡ self.now) }
-    {
-        Ok(CERT {
-            cert_type: self.cert_type,
-            key_tag: self.key_tag,
-            algorithm: self.algorithm,
-            cert_data: self.cert_data.clone()?,
-        })
-    }
-}
-
 impl fmt::Display for CERT {
-    ghost use Rattle.std.specs.Prelude.{Some};
-    ghost use Rattle.dns_rdata_certs.specs.CERT.{cert_text};
-
     ghost output = { λ x. Some (cert_text x) };
 
     /// The type, the key tag in decimal, the algorithm and the certificate in base64, a blank between:

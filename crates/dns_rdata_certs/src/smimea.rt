@@ -1,20 +1,19 @@
 //! SMIMEA: a certificate of a mail user (RFC 8162, 2).
 
-ghost use Rattle.std.specs.Prelude.{◌≡◌, IfOk};
+ghost use Rattle.std.specs.Prelude.{◌≡◌, Some};
 ghost use Rattle.dns_names_wire.specs.Words.{Emits};
 ghost use Rattle.dns_pieces.specs.Facts.{same, same_equiv, same_partial};
-ghost use Rattle.dns_rdata_certs.specs.SMIMEA.{smimea_shape, smimea_fields, smimea_facts, smimea_key_shape, smimea_keys};
+ghost use Rattle.dns_rdata_certs.specs.SMIMEA.{smimea_shape, smimea_fields, smimea_facts, smimea_key_shape, smimea_keys, smimea_text};
 
 use crate::tlsa::{CertUsage, Matching, Selector, TLSA};
 use dns_names_wire::{BinDecoder, BinEncodable, BinEncoder, DecodeError, ProtoError, Restrict};
 use dns_pieces::Record;
 use dns_rdata_base::RecordDataDecodable;
-use std::alloc::AllocError;
 use std::fmt;
 use std::ops::Deref;
 
 /// A certificate of a mail user, with the fields of TLSA (RFC 8162, 2).
-#[derive(Debug, Drop, Hash)]
+#[derive(Clone, Debug, Drop, Hash)]
 pub struct SMIMEA(pub TLSA);
 
 impl SMIMEA {
@@ -88,22 +87,7 @@ impl Eq for SMIMEA {
     ghost laws = { same_equiv smimea_key_shape smimea_keys };
 }
 
-impl Clone for SMIMEA {
-    ghost is_clone = { λ a b. b ≡ a };
-
-    /// The same fields, the data in memory of its own.
-    #[inline]
-    fn clone(&self) -> Result<SMIMEA, AllocError>
-        ensures { IfOk result (λ copy. copy ≡ self.now) }
-    {
-        Ok(SMIMEA(self.0.clone()?))
-    }
-}
-
 impl fmt::Display for SMIMEA {
-    ghost use Rattle.std.specs.Prelude.{Some};
-    ghost use Rattle.dns_rdata_certs.specs.SMIMEA.{smimea_text};
-
     ghost output = { λ x. Some (smimea_text x) };
 
     /// As TLSA prints: `3 1 1 abcd`.

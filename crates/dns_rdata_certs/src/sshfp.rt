@@ -1,9 +1,9 @@
 //! SSHFP: the fingerprint of a host's key (RFC 4255, 3.1).
 
-ghost use Rattle.std.specs.Prelude.{◌≡◌, IfErr, IfOk};
+ghost use Rattle.std.specs.Prelude.{◌≡◌, IfErr, IfOk, Some};
 ghost use Rattle.dns_names_wire.specs.Words.{ReadsTo, Emits};
 ghost use Rattle.dns_pieces.specs.Facts.{same, same_equiv, same_partial};
-ghost use Rattle.dns_rdata_certs.specs.SSHFP.{sshfp_shape, sshfp_fields, sshfp_facts, sshfp_key_shape, sshfp_keys, IsReadSshfp, sshfp_refusal};
+ghost use Rattle.dns_rdata_certs.specs.SSHFP.{sshfp_shape, sshfp_fields, sshfp_facts, sshfp_key_shape, sshfp_keys, IsReadSshfp, sshfp_refusal, sshfp_text};
 
 mod algorithm;
 mod fingerprint_type;
@@ -16,12 +16,11 @@ use dns_names_wire::{
 use dns_pieces::Record;
 use dns_rdata_base::RecordDataDecodable;
 pub use fingerprint_type::FingerprintType;
-use std::alloc::AllocError;
 use std::fmt;
 
 /// The fingerprint of a host's key (RFC 4255, 3.1): an octet each for the key's algorithm and the fingerprint's type,
 /// and then the fingerprint to the end of the record's length.
-#[derive(Debug, Drop, Hash)]
+#[derive(Clone, Debug, Drop, Hash)]
 pub struct SSHFP {
     /// The algorithm of the key.
     pub algorithm: Algorithm,
@@ -126,26 +125,7 @@ impl Eq for SSHFP {
     ghost laws = { same_equiv sshfp_key_shape sshfp_keys };
 }
 
-impl Clone for SSHFP {
-    ghost is_clone = { λ a b. b ≡ a };
-
-    /// The same fields, the fingerprint in memory of its own.
-    #[inline]
-    fn clone(&self) -> Result<SSHFP, AllocError>
-        ensures { IfOk result (λ copy. copy ≡ self.now) }
-    {
-        Ok(SSHFP {
-            algorithm: self.algorithm,
-            fingerprint_type: self.fingerprint_type,
-            fingerprint: self.fingerprint.clone()?,
-        })
-    }
-}
-
 impl fmt::Display for SSHFP {
-    ghost use Rattle.std.specs.Prelude.{Some};
-    ghost use Rattle.dns_rdata_certs.specs.SSHFP.{sshfp_text};
-
     ghost output = { λ x. Some (sshfp_text x) };
 
     /// The two numbers in decimal and the fingerprint in hexadecimal, a blank between: `2 1 3b6b`.

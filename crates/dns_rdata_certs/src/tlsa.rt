@@ -1,9 +1,9 @@
 //! TLSA: a certificate of a service (RFC 6698, 2.1).
 
-ghost use Rattle.std.specs.Prelude.{◌≡◌, IfErr, IfOk};
+ghost use Rattle.std.specs.Prelude.{◌≡◌, IfErr, IfOk, Some};
 ghost use Rattle.dns_names_wire.specs.Words.{ReadsTo, Emits};
 ghost use Rattle.dns_pieces.specs.Facts.{same, same_equiv, same_partial};
-ghost use Rattle.dns_rdata_certs.specs.TLSA.{tlsa_shape, tlsa_fields, tlsa_facts, tlsa_key_shape, tlsa_keys, IsReadTlsa, tlsa_refusal};
+ghost use Rattle.dns_rdata_certs.specs.TLSA.{tlsa_shape, tlsa_fields, tlsa_facts, tlsa_key_shape, tlsa_keys, IsReadTlsa, tlsa_refusal, tlsa_text};
 
 mod cert_usage;
 mod matching;
@@ -18,12 +18,11 @@ use dns_pieces::Record;
 use dns_rdata_base::RecordDataDecodable;
 pub use matching::Matching;
 pub use selector::Selector;
-use std::alloc::AllocError;
 use std::fmt;
 
 /// A certificate, or what is compared with one, for a service (RFC 6698, 2.1): an octet each for usage, selector and
 /// matching type, and then the data to the end of the record's length.
-#[derive(Debug, Drop, Hash)]
+#[derive(Clone, Debug, Drop, Hash)]
 pub struct TLSA {
     /// How the certificate is used.
     pub cert_usage: CertUsage,
@@ -132,27 +131,7 @@ impl Eq for TLSA {
     ghost laws = { same_equiv tlsa_key_shape tlsa_keys };
 }
 
-impl Clone for TLSA {
-    ghost is_clone = { λ a b. b ≡ a };
-
-    /// The same fields, the data in memory of its own.
-    #[inline]
-    fn clone(&self) -> Result<TLSA, AllocError>
-        ensures { IfOk result (λ copy. copy ≡ self.now) }
-    {
-        Ok(TLSA {
-            cert_usage: self.cert_usage,
-            selector: self.selector,
-            matching: self.matching,
-            cert_data: self.cert_data.clone()?,
-        })
-    }
-}
-
 impl fmt::Display for TLSA {
-    ghost use Rattle.std.specs.Prelude.{Some};
-    ghost use Rattle.dns_rdata_certs.specs.TLSA.{tlsa_text};
-
     ghost output = { λ x. Some (tlsa_text x) };
 
     /// The three numbers in decimal and the data in hexadecimal, a blank between: `3 1 1 abcd`.

@@ -1,11 +1,11 @@
 //! CAA: a property of a domain's issuers of certificates (RFC 8659).
 
-ghost use Rattle.std.specs.Prelude.{◌≡◌, ◌≤◌, ◌<◌, ◌+◌, false, take, get_or, length as list_length, IfErr, IfOk};
+ghost use Rattle.std.specs.Prelude.{◌≡◌, ◌≤◌, ◌<◌, ◌+◌, false, take, get_or, length as list_length, IfErr, IfOk, Some};
 ghost use Rattle.std.specs.Char.{is_ascii_alphanumeric};
 ghost use Rattle.dns_fields.specs.Fields.{Octets as OctetsKind};
 ghost use Rattle.dns_names_wire.specs.Words.{ReadsTo, TookField, StaysBehind, Emits, Extends, IsMessage};
 ghost use Rattle.dns_pieces.specs.Facts.{same, same_equiv, same_partial};
-ghost use Rattle.dns_rdata_sets.specs.CAA.{caa_shape, caa_flags, caa_fields, caa_facts, caa_condition, caa_key_shape, caa_keys, AreTagOctets, IsTag};
+ghost use Rattle.dns_rdata_sets.specs.CAA.{caa_shape, caa_flags, caa_fields, caa_facts, caa_condition, caa_key_shape, caa_keys, AreTagOctets, IsTag, caa_text};
 ghost use Rattle.dns_rdata_sets.specs.CAA.{IsReadCaa, tag_refusal, caa_refusal};
 
 mod issuer;
@@ -29,7 +29,7 @@ use std::fmt;
 ///     CAA::new_issue(true, Some(issuer), Vec::new(alloc))
 /// }
 /// ```
-#[derive(Debug, Drop, Hash)]
+#[derive(Clone, Debug, Drop, Hash)]
 pub struct CAA {
     /// Whether an issuer that does not know the tag may not issue: 0x80 of the flags.
     pub issuer_critical: bool,
@@ -193,27 +193,7 @@ impl Eq for CAA {
     ghost laws = { same_equiv caa_key_shape caa_keys };
 }
 
-impl Clone for CAA {
-    ghost is_clone = { λ a b. b ≡ a };
-
-    /// The same fields, tag and value in memory of their own.
-    #[inline]
-    fn clone(&self) -> Result<CAA, AllocError>
-        ensures { IfOk result (λ copy. copy ≡ self.now) }
-    {
-        Ok(CAA {
-            issuer_critical: self.issuer_critical,
-            reserved_flags: self.reserved_flags,
-            tag: self.tag.clone()?,
-            value: self.value.clone()?,
-        })
-    }
-}
-
 impl fmt::Display for CAA {
-    ghost use Rattle.std.specs.Prelude.{Some};
-    ghost use Rattle.dns_rdata_sets.specs.CAA.{caa_text};
-
     ghost output = { λ x. Some (caa_text x) };
 
     /// The flags in decimal, the tag, and the value in quotes: `128 issue ";"`. U+FFFD stands for octets that are not

@@ -1,6 +1,6 @@
 //! CSYNC: which records of a child zone its parent copies (RFC 7477, 2.1).
 
-ghost use Rattle.std.specs.Prelude.{◌≡◌, IfErr, IfOk, ◌+◌, ◌++◌, List, map};
+ghost use Rattle.std.specs.Prelude.{◌≡◌, IfErr, IfOk, ◌+◌, ◌++◌, List, map, Some};
 ghost use Rattle.std.specs.Int.{bytes_high_first};
 ghost use Rattle.std.specs.Iterator.{Drains, IsFinite};
 ghost use Rattle.dns_types.specs.RecordTypes.{number_of};
@@ -8,7 +8,7 @@ ghost use Rattle.dns_types.specs.declared.record_type.RecordType.{RecordType as 
 ghost use Rattle.dns_names_wire.specs.Words.{ReadsTo, Emits};
 ghost use Rattle.dns_pieces.specs.Facts.{same, same_equiv, same_partial};
 ghost use Rattle.dns_rdata_sets.specs.RecordTypeSet.{IsSetOf};
-ghost use Rattle.dns_rdata_sets.specs.CSYNC.{csync_numbers_shape, csync_numbers, csync_shape, csync_flags, csync_fields, csync_facts, csync_condition};
+ghost use Rattle.dns_rdata_sets.specs.CSYNC.{csync_numbers_shape, csync_numbers, csync_shape, csync_flags, csync_fields, csync_facts, csync_condition, csync_text};
 ghost use Rattle.dns_rdata_sets.specs.CSYNC.{csync_key_shape, csync_keys, IsReadCsync, csync_refusal};
 
 use crate::record_type_set::RecordTypeSet;
@@ -30,7 +30,7 @@ const UNKNOWN: u16 = 0x00FC;
 
 /// What a parent copies from a child zone (RFC 7477, 2.1): a serial in four octets, flags in two, and then a bitmap of
 /// record types to the end of the record's length.
-#[derive(Debug, Drop, Hash)]
+#[derive(Clone, Debug, Drop, Hash)]
 pub struct CSYNC {
     /// A serial of the child zone: where `soa_minimum` is set, nothing is copied while the zone has a lower one.
     pub soa_serial: u32,
@@ -196,28 +196,7 @@ impl Eq for CSYNC {
     ghost laws = { same_equiv csync_key_shape csync_keys };
 }
 
-impl Clone for CSYNC {
-    ghost is_clone = { λ a b. b ≡ a };
-
-    /// The same fields, the types in memory of their own.
-    #[inline]
-    fn clone(&self) -> Result<CSYNC, AllocError>
-        ensures { IfOk result (λ copy. copy ≡ self.now) }
-    {
-        Ok(CSYNC {
-            soa_serial: self.soa_serial,
-            immediate: self.immediate,
-            soa_minimum: self.soa_minimum,
-            reserved_flags: self.reserved_flags,
-            type_bit_maps: self.type_bit_maps.clone()?,
-        })
-    }
-}
-
 impl fmt::Display for CSYNC {
-    ghost use Rattle.std.specs.Prelude.{Some};
-    ghost use Rattle.dns_rdata_sets.specs.CSYNC.{csync_text};
-
     ghost output = { λ x. Some (csync_text x) };
 
     /// Serial and flags in decimal, and each type in rising order by number, a blank between: `123 3 A NS AAAA`.
