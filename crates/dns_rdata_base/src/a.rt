@@ -1,10 +1,10 @@
 //! A: an IPv4 address (RFC 1035, 3.4.1).
 
-ghost use Rattle.std.specs.Prelude.{◌≡◌, ◌+◌, ◌<◌, ◌≤◌, ◌++◌, ℕ, List, [], ◌∷◌, length, length as list_length, decimal, OnErr, IfErr};
+ghost use Rattle.std.specs.Prelude.{◌≡◌, ◌+◌, ◌<◌, ◌≤◌, ◌++◌, ℕ, List, [], ◌∷◌, length, length as list_length, decimal, OnErr, IfErr, Some};
 ghost use Rattle.std.specs.Net.Addr.{ipv4_octets};
 ghost use Rattle.dns_names_wire.specs.Words.{ReadsIf, ReadsBy, Emits, LacksOctets, always, IsCut};
 ghost use Rattle.dns_pieces.specs.Facts.{same, same_equiv, same_partial};
-ghost use Rattle.dns_rdata_base.specs.A.{a_shape, a_fields, a_facts};
+ghost use Rattle.dns_rdata_base.specs.A.{a_shape, a_fields, a_facts, a_text};
 
 use crate::decoding::DecodesFields;
 use crate::traits::TakesOctet;
@@ -141,9 +141,6 @@ impl FromStr for A {
 }
 
 impl fmt::Display for A {
-    ghost use Rattle.std.specs.Prelude.{Some};
-    ghost use Rattle.dns_rdata_base.specs.A.{a_text};
-
     ghost output = { λ a. Some (a_text a) };
 
     /// The four octets in decimal, a point between: `192.0.2.1`.

@@ -1,10 +1,10 @@
 //! AAAA: an IPv6 address (RFC 3596, 2.2).
 
-ghost use Rattle.std.specs.Prelude.{◌≡◌, ◌+◌, ◌-◌, ◌*◌, ◌/◌, ◌<◌, ◌≤◌, ℕ, List, [], ◌∷◌, length, length as list_length, OnErr, IfErr};
+ghost use Rattle.std.specs.Prelude.{◌≡◌, ◌+◌, ◌-◌, ◌*◌, ◌/◌, ◌<◌, ◌≤◌, ℕ, List, [], ◌∷◌, length, length as list_length, OnErr, IfErr, Some};
 ghost use Rattle.std.specs.Net.Addr.{ipv6_segments, ipv6_octets};
 ghost use Rattle.dns_names_wire.specs.Words.{ReadsIf, ReadsBy, Emits, LacksOctets, always, IsCut};
 ghost use Rattle.dns_pieces.specs.Facts.{same, same_equiv, same_partial};
-ghost use Rattle.dns_rdata_base.specs.AAAA.{aaaa_shape, aaaa_fields, aaaa_facts};
+ghost use Rattle.dns_rdata_base.specs.AAAA.{aaaa_shape, aaaa_fields, aaaa_facts, aaaa_text};
 
 use crate::decoding::DecodesFields;
 use crate::traits::TakesOctet;
@@ -161,9 +161,6 @@ impl FromStr for AAAA {
 }
 
 impl fmt::Display for AAAA {
-    ghost use Rattle.std.specs.Prelude.{Some};
-    ghost use Rattle.dns_rdata_base.specs.AAAA.{aaaa_text};
-
     ghost output = { λ a. Some (aaaa_text a) };
 
     /// Eight groups in hexadecimal, the first longest run of at least two groups of zero as `::`: `2001:db8::1`; an

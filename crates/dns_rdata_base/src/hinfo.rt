@@ -1,11 +1,11 @@
 //! HINFO: a machine and its system (RFC 1035, 3.3.2).
 
-ghost use Rattle.std.specs.Prelude.{◌≡◌, IfOk};
+ghost use Rattle.std.specs.Prelude.{◌≡◌, Some};
 ghost use Rattle.std.specs.Box.{boxed_slice_items};
 ghost use Rattle.std.specs.String.{string_bytes};
 ghost use Rattle.dns_names_wire.specs.Words.{Emits};
 ghost use Rattle.dns_pieces.specs.Facts.{record_refuses, record_stands, same, same_equiv, same_partial};
-ghost use Rattle.dns_rdata_base.specs.HINFO.{hinfo_shape, hinfo_fields, hinfo_facts};
+ghost use Rattle.dns_rdata_base.specs.HINFO.{hinfo_shape, hinfo_fields, hinfo_facts, hinfo_text};
 
 use crate::decoding::{DecodesFields, read_record};
 use bstr::BStr;
@@ -13,12 +13,11 @@ use dns_names_wire::{
     BinDecodable, BinDecoder, BinEncodable, BinEncoder, DecodeError, ProtoError, SmallOctets,
 };
 use dns_pieces::Record;
-use std::alloc::AllocError;
 use std::boxed::BoxedSlice;
 use std::fmt;
 
 /// A machine and its system, each a character string (RFC 1035, 3.3.2).
-#[derive(Debug, Drop, Hash)]
+#[derive(Clone, Debug, Drop, Hash)]
 pub struct HINFO {
     /// The machine; at most 255 octets are emitted.
     pub cpu: SmallOctets<32>,
@@ -110,25 +109,7 @@ impl Eq for HINFO {
     ghost laws = { same_equiv hinfo_shape hinfo_fields };
 }
 
-impl Clone for HINFO {
-    ghost is_clone = { λ a b. b ≡ a };
-
-    /// The same strings in memory of their own.
-    #[inline]
-    fn clone(&self) -> Result<HINFO, AllocError>
-        ensures { IfOk result (λ copy. copy ≡ self.now) }
-    {
-        Ok(HINFO {
-            cpu: self.cpu.clone()?,
-            os: self.os.clone()?,
-        })
-    }
-}
-
 impl fmt::Display for HINFO {
-    ghost use Rattle.std.specs.Prelude.{Some};
-    ghost use Rattle.dns_rdata_base.specs.HINFO.{hinfo_text};
-
     ghost output = { λ x. Some (hinfo_text x) };
 
     /// The two strings, a blank between; U+FFFD stands for octets that are not UTF-8.

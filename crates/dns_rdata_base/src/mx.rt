@@ -1,9 +1,9 @@
 //! MX: a mail exchange (RFC 1035, 3.3.9).
 
-ghost use Rattle.std.specs.Prelude.{◌≡◌, IfOk};
+ghost use Rattle.std.specs.Prelude.{◌≡◌, Some};
 ghost use Rattle.dns_fields.specs.declared.RDataEncoding.TheVariants as modes;
 ghost use Rattle.dns_pieces.specs.Facts.{record_emits, record_refuses, record_stands, same, same_equiv, same_partial};
-ghost use Rattle.dns_rdata_base.specs.MX.{mx_shape, mx_fields, mx_facts};
+ghost use Rattle.dns_rdata_base.specs.MX.{mx_shape, mx_fields, mx_facts, mx_text};
 
 use crate::decoding::{DecodesFields, read_record};
 use dns_names_wire::{
@@ -11,11 +11,10 @@ use dns_names_wire::{
     RDataEncoding,
 };
 use dns_pieces::{EncodesFields, Record, emit_in};
-use std::alloc::AllocError;
 use std::fmt;
 
 /// A host that takes mail for the owner: a preference of two octets and a name (RFC 1035, 3.3.9).
-#[derive(Debug, Drop, Hash)]
+#[derive(Clone, Debug, Drop, Hash)]
 pub struct MX {
     /// Lower values are tried first; 16 bits.
     pub preference: u16,
@@ -103,25 +102,7 @@ impl Eq for MX {
     ghost laws = { same_equiv mx_shape mx_fields };
 }
 
-impl Clone for MX {
-    ghost is_clone = { λ a b. b ≡ a };
-
-    /// The same value in memory of its own.
-    #[inline]
-    fn clone(&self) -> Result<MX, AllocError>
-        ensures { IfOk result (λ copy. copy ≡ self.now) }
-    {
-        Ok(MX {
-            preference: self.preference,
-            exchange: self.exchange.clone()?,
-        })
-    }
-}
-
 impl fmt::Display for MX {
-    ghost use Rattle.std.specs.Prelude.{Some};
-    ghost use Rattle.dns_rdata_base.specs.MX.{mx_text};
-
     ghost output = { λ x. Some (mx_text x) };
 
     /// The fields in order, a blank between.

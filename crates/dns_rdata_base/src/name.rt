@@ -1,9 +1,9 @@
 //! Records of one name: CNAME, NS, PTR (RFC 1035, 3.3) and ANAME.
 
-ghost use Rattle.std.specs.Prelude.{◌≡◌, IfOk};
+ghost use Rattle.std.specs.Prelude.{◌≡◌, Some};
 ghost use Rattle.dns_fields.specs.declared.RDataEncoding.TheVariants as modes;
 ghost use Rattle.dns_pieces.specs.Facts.{record_emits, record_refuses, record_stands, same, same_equiv, same_partial};
-ghost use Rattle.dns_rdata_base.specs.NameRecords.{name_shape, cname_fields, cname_facts, ns_fields, ns_facts, ptr_fields, ptr_facts, aname_fields, aname_facts};
+ghost use Rattle.dns_rdata_base.specs.NameRecords.{name_shape, cname_fields, cname_facts, ns_fields, ns_facts, ptr_fields, ptr_facts, aname_fields, aname_facts, cname_text, ns_text, ptr_text, aname_text};
 
 use crate::decoding::{DecodesFields, read_record};
 use dns_names_wire::{
@@ -11,12 +11,11 @@ use dns_names_wire::{
     RDataEncoding,
 };
 use dns_pieces::{EncodesFields, Record, emit_in};
-use std::alloc::AllocError;
 use std::fmt;
 use std::ops::Deref;
 
 /// The canonical name of an alias: a name to the end (RFC 1035, 3.3.1).
-#[derive(Debug, Drop, Hash)]
+#[derive(Clone, Debug, Drop, Hash)]
 pub struct CNAME(pub Name);
 
 impl Record for CNAME {
@@ -48,8 +47,7 @@ impl BinDecodable for CNAME {
 impl EncodesFields for CNAME {
     #[tactic(auto, using(dns_names_wire::proofs::FieldWrites::writing))]
     fn emit_fields(&self, encoder: &mut BinEncoder<'_>) -> Result<(), ProtoError> {
-        self.0.emit(encoder)?;
-        Ok(())
+        self.0.emit(encoder)
     }
 }
 
@@ -89,22 +87,7 @@ impl Eq for CNAME {
     ghost laws = { same_equiv name_shape cname_fields };
 }
 
-impl Clone for CNAME {
-    ghost is_clone = { λ a b. b ≡ a };
-
-    /// The same value in memory of its own.
-    #[inline]
-    fn clone(&self) -> Result<CNAME, AllocError>
-        ensures { IfOk result (λ copy. copy ≡ self.now) }
-    {
-        Ok(CNAME(self.0.clone()?))
-    }
-}
-
 impl fmt::Display for CNAME {
-    ghost use Rattle.std.specs.Prelude.{Some};
-    ghost use Rattle.dns_rdata_base.specs.NameRecords.{cname_text};
-
     ghost output = { λ x. Some (cname_text x) };
 
     /// The name.
@@ -114,7 +97,7 @@ impl fmt::Display for CNAME {
 }
 
 /// A name server of the zone: a name to the end (RFC 1035, 3.3.11).
-#[derive(Debug, Drop, Hash)]
+#[derive(Clone, Debug, Drop, Hash)]
 pub struct NS(pub Name);
 
 impl Record for NS {
@@ -146,8 +129,7 @@ impl BinDecodable for NS {
 impl EncodesFields for NS {
     #[tactic(auto, using(dns_names_wire::proofs::FieldWrites::writing))]
     fn emit_fields(&self, encoder: &mut BinEncoder<'_>) -> Result<(), ProtoError> {
-        self.0.emit(encoder)?;
-        Ok(())
+        self.0.emit(encoder)
     }
 }
 
@@ -187,22 +169,7 @@ impl Eq for NS {
     ghost laws = { same_equiv name_shape ns_fields };
 }
 
-impl Clone for NS {
-    ghost is_clone = { λ a b. b ≡ a };
-
-    /// The same value in memory of its own.
-    #[inline]
-    fn clone(&self) -> Result<NS, AllocError>
-        ensures { IfOk result (λ copy. copy ≡ self.now) }
-    {
-        Ok(NS(self.0.clone()?))
-    }
-}
-
 impl fmt::Display for NS {
-    ghost use Rattle.std.specs.Prelude.{Some};
-    ghost use Rattle.dns_rdata_base.specs.NameRecords.{ns_text};
-
     ghost output = { λ x. Some (ns_text x) };
 
     /// The name.
@@ -212,7 +179,7 @@ impl fmt::Display for NS {
 }
 
 /// The name that is pointed to: a name to the end (RFC 1035, 3.3.12).
-#[derive(Debug, Drop, Hash)]
+#[derive(Clone, Debug, Drop, Hash)]
 pub struct PTR(pub Name);
 
 impl Record for PTR {
@@ -244,8 +211,7 @@ impl BinDecodable for PTR {
 impl EncodesFields for PTR {
     #[tactic(auto, using(dns_names_wire::proofs::FieldWrites::writing))]
     fn emit_fields(&self, encoder: &mut BinEncoder<'_>) -> Result<(), ProtoError> {
-        self.0.emit(encoder)?;
-        Ok(())
+        self.0.emit(encoder)
     }
 }
 
@@ -285,22 +251,7 @@ impl Eq for PTR {
     ghost laws = { same_equiv name_shape ptr_fields };
 }
 
-impl Clone for PTR {
-    ghost is_clone = { λ a b. b ≡ a };
-
-    /// The same value in memory of its own.
-    #[inline]
-    fn clone(&self) -> Result<PTR, AllocError>
-        ensures { IfOk result (λ copy. copy ≡ self.now) }
-    {
-        Ok(PTR(self.0.clone()?))
-    }
-}
-
 impl fmt::Display for PTR {
-    ghost use Rattle.std.specs.Prelude.{Some};
-    ghost use Rattle.dns_rdata_base.specs.NameRecords.{ptr_text};
-
     ghost output = { λ x. Some (ptr_text x) };
 
     /// The name.
@@ -310,7 +261,7 @@ impl fmt::Display for PTR {
 }
 
 /// The name whose addresses the owner has: a name to the end (draft-ietf-dnsop-aname).
-#[derive(Debug, Drop, Hash)]
+#[derive(Clone, Debug, Drop, Hash)]
 pub struct ANAME(pub Name);
 
 impl Record for ANAME {
@@ -342,8 +293,7 @@ impl BinDecodable for ANAME {
 impl EncodesFields for ANAME {
     #[tactic(auto, using(dns_names_wire::proofs::FieldWrites::writing))]
     fn emit_fields(&self, encoder: &mut BinEncoder<'_>) -> Result<(), ProtoError> {
-        self.0.emit(encoder)?;
-        Ok(())
+        self.0.emit(encoder)
     }
 }
 
@@ -383,22 +333,7 @@ impl Eq for ANAME {
     ghost laws = { same_equiv name_shape aname_fields };
 }
 
-impl Clone for ANAME {
-    ghost is_clone = { λ a b. b ≡ a };
-
-    /// The same value in memory of its own.
-    #[inline]
-    fn clone(&self) -> Result<ANAME, AllocError>
-        ensures { IfOk result (λ copy. copy ≡ self.now) }
-    {
-        Ok(ANAME(self.0.clone()?))
-    }
-}
-
 impl fmt::Display for ANAME {
-    ghost use Rattle.std.specs.Prelude.{Some};
-    ghost use Rattle.dns_rdata_base.specs.NameRecords.{aname_text};
-
     ghost output = { λ x. Some (aname_text x) };
 
     /// The name.

@@ -1,13 +1,13 @@
 //! NAPTR: a rule that rewrites a name (RFC 3403, 4).
 
-ghost use Rattle.std.specs.Prelude.{◌≡◌, IfOk};
+ghost use Rattle.std.specs.Prelude.{◌≡◌, Some};
 ghost use Rattle.std.specs.Box.{boxed_slice_items};
 ghost use Rattle.std.specs.Char.{is_ascii_alphanumeric};
 ghost use Rattle.std.specs.List.{list_all};
 ghost use Rattle.dns_fields.specs.declared.RDataEncoding.TheVariants as modes;
 ghost use Rattle.dns_names_wire.specs.Words.{Emits};
 ghost use Rattle.dns_pieces.specs.Facts.{record_emits, record_refuses, record_stands, same, same_equiv, same_partial};
-ghost use Rattle.dns_rdata_base.specs.NAPTR.{naptr_numbers_shape, naptr_numbers, naptr_rest_shape, naptr_rest, naptr_shape, naptr_fields, naptr_facts};
+ghost use Rattle.dns_rdata_base.specs.NAPTR.{naptr_numbers_shape, naptr_numbers, naptr_rest_shape, naptr_rest, naptr_shape, naptr_fields, naptr_facts, naptr_text};
 
 use crate::decoding::{DecodesFields, read_record};
 use bstr::BStr;
@@ -16,13 +16,12 @@ use dns_names_wire::{
     RDataEncoding,
 };
 use dns_pieces::{EncodesFields, Record, emit_in};
-use std::alloc::AllocError;
 use std::boxed::BoxedSlice;
 use std::fmt;
 
 /// A rule that rewrites a name: order and preference of two octets each, three character strings and a name (RFC 3403,
 /// 4.1).
-#[derive(Debug, Drop, Hash)]
+#[derive(Clone, Debug, Drop, Hash)]
 pub struct NAPTR {
     /// Lower values are tried first; 16 bits.
     pub order: u16,
@@ -187,29 +186,7 @@ impl Eq for NAPTR {
     ghost laws = { same_equiv naptr_shape naptr_fields };
 }
 
-impl Clone for NAPTR {
-    ghost is_clone = { λ a b. b ≡ a };
-
-    /// The same value in memory of its own.
-    #[inline]
-    fn clone(&self) -> Result<NAPTR, AllocError>
-        ensures { IfOk result (λ copy. copy ≡ self.now) }
-    {
-        Ok(NAPTR {
-            order: self.order,
-            preference: self.preference,
-            flags: self.flags.clone()?,
-            services: self.services.clone()?,
-            regexp: self.regexp.clone()?,
-            replacement: self.replacement.clone()?,
-        })
-    }
-}
-
 impl fmt::Display for NAPTR {
-    ghost use Rattle.std.specs.Prelude.{Some};
-    ghost use Rattle.dns_rdata_base.specs.NAPTR.{naptr_text};
-
     ghost output = { λ x. Some (naptr_text x) };
 
     /// The fields in order, a blank between, the strings in quotes; U+FFFD stands for octets that are not UTF-8.

@@ -1,9 +1,9 @@
 //! NULL: octets without a form (RFC 1035, 3.3.10).
 
-ghost use Rattle.std.specs.Prelude.{◌≡◌, ◌≢◌, [], IfOk};
+ghost use Rattle.std.specs.Prelude.{◌≡◌, ◌≢◌, [], Some};
 ghost use Rattle.dns_names_wire.specs.Words.{Emits};
 ghost use Rattle.dns_pieces.specs.Facts.{same, same_equiv, same_partial};
-ghost use Rattle.dns_rdata_base.specs.NULL.{null_shape, null_fields, null_facts};
+ghost use Rattle.dns_rdata_base.specs.NULL.{null_shape, null_fields, null_facts, null_text};
 
 use crate::traits::RecordDataDecodable;
 use dns_names_wire::{
@@ -11,11 +11,11 @@ use dns_names_wire::{
 };
 use dns_pieces::Record;
 use dns_words::Base64Text;
-use std::alloc::{AllocError, Global};
+use std::alloc::Global;
 use std::fmt;
 
 /// Octets of any number without a form, all of a record's length (RFC 1035, 3.3.10).
-#[derive(Debug, Drop, Hash)]
+#[derive(Clone, Debug, Drop, Hash)]
 pub struct NULL {
     /// The octets.
     pub anything: SmallOctets<64>,
@@ -64,20 +64,6 @@ impl Eq for NULL {
     ghost laws = { same_equiv null_shape null_fields };
 }
 
-impl Clone for NULL {
-    ghost is_clone = { λ a b. b ≡ a };
-
-    /// The same octets in memory of their own.
-    #[inline]
-    fn clone(&self) -> Result<NULL, AllocError>
-        ensures { IfOk result (λ copy. copy ≡ self.now) }
-    {
-        Ok(NULL {
-            anything: self.anything.clone()?,
-        })
-    }
-}
-
 impl Record for NULL {
     ghost facts = { null_facts };
 }
@@ -108,9 +94,6 @@ impl BinEncodable for NULL {
 }
 
 impl fmt::Display for NULL {
-    ghost use Rattle.std.specs.Prelude.{Some};
-    ghost use Rattle.dns_rdata_base.specs.NULL.{null_text};
-
     ghost output = { λ x. Some (null_text x) };
 
     /// Base64 (RFC 4648, 4).

@@ -1,9 +1,9 @@
 //! OPENPGPKEY: a public key (RFC 7929, 2.1).
 
-ghost use Rattle.std.specs.Prelude.{◌≡◌, IfOk};
+ghost use Rattle.std.specs.Prelude.{◌≡◌, Some};
 ghost use Rattle.dns_names_wire.specs.Words.{Emits};
 ghost use Rattle.dns_pieces.specs.Facts.{same, same_equiv, same_partial};
-ghost use Rattle.dns_rdata_base.specs.OPENPGPKEY.{openpgpkey_shape, openpgpkey_fields, openpgpkey_facts};
+ghost use Rattle.dns_rdata_base.specs.OPENPGPKEY.{openpgpkey_shape, openpgpkey_fields, openpgpkey_facts, openpgpkey_text};
 
 use crate::traits::RecordDataDecodable;
 use dns_names_wire::{
@@ -11,11 +11,10 @@ use dns_names_wire::{
 };
 use dns_pieces::Record;
 use dns_words::Base64Text;
-use std::alloc::AllocError;
 use std::fmt;
 
 /// A public key in the format of OpenPGP, all octets of a record's length (RFC 7929, 2.1).
-#[derive(Debug, Drop, Hash)]
+#[derive(Clone, Debug, Drop, Hash)]
 pub struct OPENPGPKEY {
     /// The key's octets.
     pub public_key: SmallOctets<64>,
@@ -45,20 +44,6 @@ impl PartialEq for OPENPGPKEY {
 
 impl Eq for OPENPGPKEY {
     ghost laws = { same_equiv openpgpkey_shape openpgpkey_fields };
-}
-
-impl Clone for OPENPGPKEY {
-    ghost is_clone = { λ a b. b ≡ a };
-
-    /// The same key in memory of its own.
-    #[inline]
-    fn clone(&self) -> Result<OPENPGPKEY, AllocError>
-        ensures { IfOk result (λ copy. copy ≡ self.now) }
-    {
-        Ok(OPENPGPKEY {
-            public_key: self.public_key.clone()?,
-        })
-    }
 }
 
 impl Record for OPENPGPKEY {
@@ -94,9 +79,6 @@ impl BinEncodable for OPENPGPKEY {
 }
 
 impl fmt::Display for OPENPGPKEY {
-    ghost use Rattle.std.specs.Prelude.{Some};
-    ghost use Rattle.dns_rdata_base.specs.OPENPGPKEY.{openpgpkey_text};
-
     ghost output = { λ x. Some (openpgpkey_text x) };
 
     /// Base64 (RFC 4648, 4).

@@ -1,12 +1,12 @@
 //! SOA: the start of a zone of authority (RFC 1035, 3.3.13).
 
-ghost use Rattle.std.specs.Prelude.{◌≡◌, ◌+◌, ◌++◌, ◌%◌, IfErr, IfOk};
+ghost use Rattle.std.specs.Prelude.{◌≡◌, ◌+◌, ◌++◌, ◌%◌, IfErr, IfOk, Some};
 ghost use Rattle.std.specs.Int.{bytes_high_first};
 ghost use Rattle.dns_fields.specs.declared.RDataEncoding.TheVariants as modes;
 ghost use Rattle.dns_names_wire.specs.Words.{ReadsIf, ReadsBy, Emits, always};
 ghost use Rattle.dns_pieces.specs.Facts.{record_emits, record_refuses, record_stands, same, same_equiv, same_partial};
 ghost use Rattle.dns_rdata_base.specs.Refusing.{IsLack};
-ghost use Rattle.dns_rdata_base.specs.SOA.{soa_shape, soa_fields, soa_facts, soa_numbers_shape, soa_numbers, soa_numbers_of, HasSeconds};
+ghost use Rattle.dns_rdata_base.specs.SOA.{soa_shape, soa_fields, soa_facts, soa_numbers_shape, soa_numbers, soa_numbers_of, HasSeconds, soa_text};
 
 use crate::decoding::{DecodesFields, read_record};
 use dns_names_wire::{
@@ -14,12 +14,11 @@ use dns_names_wire::{
     RDataEncoding,
 };
 use dns_pieces::{EncodesFields, Record, emit_in};
-use std::alloc::AllocError;
 use std::fmt;
 
 /// The start of a zone of authority: two names, and five numbers of four octets each (RFC 1035, 3.3.13). Refresh, retry
 /// and expire are read as signed numbers, in two's complement.
-#[derive(Debug, Drop, Hash)]
+#[derive(Clone, Debug, Drop, Hash)]
 pub struct SOA {
     /// The name server that the data came from.
     pub mname: Name,
@@ -212,30 +211,7 @@ impl Eq for SOA {
     ghost laws = { same_equiv soa_shape soa_fields };
 }
 
-impl Clone for SOA {
-    ghost is_clone = { λ a b. b ≡ a };
-
-    /// The same value in memory of its own.
-    #[inline]
-    fn clone(&self) -> Result<SOA, AllocError>
-        ensures { IfOk result (λ copy. copy ≡ self.now) }
-    {
-        Ok(SOA {
-            mname: self.mname.clone()?,
-            rname: self.rname.clone()?,
-            serial: self.serial,
-            refresh: self.refresh,
-            retry: self.retry,
-            expire: self.expire,
-            minimum: self.minimum,
-        })
-    }
-}
-
 impl fmt::Display for SOA {
-    ghost use Rattle.std.specs.Prelude.{Some};
-    ghost use Rattle.dns_rdata_base.specs.SOA.{soa_text};
-
     ghost output = { λ x. Some (soa_text x) };
 
     /// The fields in order, a blank between.

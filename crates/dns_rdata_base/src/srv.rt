@@ -1,10 +1,10 @@
 //! SRV: a host of a service (RFC 2782).
 
-ghost use Rattle.std.specs.Prelude.{◌≡◌, IfOk};
+ghost use Rattle.std.specs.Prelude.{◌≡◌, Some};
 ghost use Rattle.dns_fields.specs.declared.RDataEncoding.TheVariants as modes;
 ghost use Rattle.dns_names_wire.specs.Words.{Emits};
 ghost use Rattle.dns_pieces.specs.Facts.{record_emits, record_refuses, record_stands, same, same_equiv, same_partial};
-ghost use Rattle.dns_rdata_base.specs.SRV.{srv_numbers_shape, srv_numbers, srv_shape, srv_fields, srv_facts};
+ghost use Rattle.dns_rdata_base.specs.SRV.{srv_numbers_shape, srv_numbers, srv_shape, srv_fields, srv_facts, srv_text};
 
 use crate::decoding::{DecodesFields, read_record};
 use dns_names_wire::{
@@ -12,11 +12,10 @@ use dns_names_wire::{
     RDataEncoding,
 };
 use dns_pieces::{EncodesFields, Record, emit_in};
-use std::alloc::AllocError;
 use std::fmt;
 
 /// A host and port of a service: priority, weight and port of two octets each, and a name (RFC 2782).
-#[derive(Debug, Drop, Hash)]
+#[derive(Clone, Debug, Drop, Hash)]
 pub struct SRV {
     /// Lower values are tried first; 16 bits.
     pub priority: u16,
@@ -136,27 +135,7 @@ impl Eq for SRV {
     ghost laws = { same_equiv srv_shape srv_fields };
 }
 
-impl Clone for SRV {
-    ghost is_clone = { λ a b. b ≡ a };
-
-    /// The same value in memory of its own.
-    #[inline]
-    fn clone(&self) -> Result<SRV, AllocError>
-        ensures { IfOk result (λ copy. copy ≡ self.now) }
-    {
-        Ok(SRV {
-            priority: self.priority,
-            weight: self.weight,
-            port: self.port,
-            target: self.target.clone()?,
-        })
-    }
-}
-
 impl fmt::Display for SRV {
-    ghost use Rattle.std.specs.Prelude.{Some};
-    ghost use Rattle.dns_rdata_base.specs.SRV.{srv_text};
-
     ghost output = { λ x. Some (srv_text x) };
 
     /// The fields in order, a blank between.

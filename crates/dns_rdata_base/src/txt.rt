@@ -1,11 +1,11 @@
 //! TXT: character strings (RFC 1035, 3.3.14).
 
-ghost use Rattle.std.specs.Prelude.{◌≡◌, ◌≤◌, ℕ, List, map, length as list_length, IfOk};
+ghost use Rattle.std.specs.Prelude.{◌≡◌, ◌≤◌, ℕ, List, map, length as list_length, IfOk, Some};
 ghost use Rattle.std.specs.String.{string_bytes};
 ghost use Rattle.dns_fields.specs.Fields.{Texts, Field};
 ghost use Rattle.dns_names_wire.specs.Words.{Emits};
 ghost use Rattle.dns_pieces.specs.Facts.{same, same_equiv, same_partial};
-ghost use Rattle.dns_rdata_base.specs.TXT.{txt_shape, txt_fields, txt_facts};
+ghost use Rattle.dns_rdata_base.specs.TXT.{txt_shape, txt_fields, txt_facts, txt_text};
 
 use crate::traits::RecordDataDecodable;
 use bstr::BStr;
@@ -19,7 +19,7 @@ use std::fmt;
 use std::hash::{Hash, Hasher};
 
 /// Character strings, none or more, which fill a record's length (RFC 1035, 3.3.14).
-#[derive(Debug, Drop)]
+#[derive(Clone, Debug, Drop)]
 pub struct TXT {
     /// The strings, in order; of each at most 255 octets are emitted.
     pub txt_data: Strings,
@@ -137,24 +137,7 @@ impl Hash for TXT {
     }
 }
 
-impl Clone for TXT {
-    ghost is_clone = { λ a b. b ≡ a };
-
-    /// The same strings in memory of their own.
-    #[inline]
-    fn clone(&self) -> Result<TXT, AllocError>
-        ensures { IfOk result (λ copy. copy ≡ self.now) }
-    {
-        Ok(TXT {
-            txt_data: self.txt_data.clone()?,
-        })
-    }
-}
-
 impl fmt::Display for TXT {
-    ghost use Rattle.std.specs.Prelude.{Some};
-    ghost use Rattle.dns_rdata_base.specs.TXT.{txt_text};
-
     ghost output = { λ x. Some (txt_text x) };
 
     /// The strings, nothing between; U+FFFD stands for octets that are not UTF-8.

@@ -42,9 +42,7 @@ impl ANAME {
 }
 
 impl CNAME {
-    /// From one word, the text of a name, which the origin completes where one is given. Further words are not read.
-    /// Refused by [`MissingToken`](ParseError::MissingToken), by [`Proto`](ParseError::Proto) where the word is no
-    /// name, or by [`Memory`](ParseError::Memory).
+    /// From one word, the name, as `ANAME::from_tokens`.
     #[tactic(auto, using(dns_words::proofs::Steps::reading))]
     pub fn from_tokens<S: AsStr + Drop, I: Iterator<Item = S>>(
         alloc: Global,
@@ -60,9 +58,7 @@ impl CNAME {
 }
 
 impl NS {
-    /// From one word, the text of a name, which the origin completes where one is given. Further words are not read.
-    /// Refused by [`MissingToken`](ParseError::MissingToken), by [`Proto`](ParseError::Proto) where the word is no
-    /// name, or by [`Memory`](ParseError::Memory).
+    /// From one word, the name, as `ANAME::from_tokens`.
     #[tactic(auto, using(dns_words::proofs::Steps::reading))]
     pub fn from_tokens<S: AsStr + Drop, I: Iterator<Item = S>>(
         alloc: Global,
@@ -78,9 +74,7 @@ impl NS {
 }
 
 impl PTR {
-    /// From one word, the text of a name, which the origin completes where one is given. Further words are not read.
-    /// Refused by [`MissingToken`](ParseError::MissingToken), by [`Proto`](ParseError::Proto) where the word is no
-    /// name, or by [`Memory`](ParseError::Memory).
+    /// From one word, the name, as `ANAME::from_tokens`.
     #[tactic(auto, using(dns_words::proofs::Steps::reading))]
     pub fn from_tokens<S: AsStr + Drop, I: Iterator<Item = S>>(
         alloc: Global,
