@@ -9,6 +9,7 @@ use Rattle.dns_types.specs.declared.error.DecodeError.{DecodeError}
 use Rattle.dns_types.specs.declared.error.DecodeError.TheVariants as decode
 use Rattle.dns_names_wire.specs.State.{Reading}
 use Rattle.dns_names_wire.specs.Words.{StaysBehind, UnlessMemory, LacksOctets, Window, NoWindow}
+use Rattle.dns_pieces.specs.Facts.{Facts}
 use Rattle.dns_rdata_base.specs as base
 use Rattle.dns_rdata_certs.specs as certs
 use Rattle.dns_rdata_options.specs as options
@@ -30,38 +31,38 @@ pub data Row : Type 1 where
 abbrev pub anything : (kinds : List Kind) → Values kinds → Type 0
 anything kinds vs = Unit {0}
 
--- memory ran out, or a field does not stand
-abbrev pub lacking : List Kind → ℕ → Reading → DecodeError → Reading → Type 0
-lacking kinds n old e new = base.Refusing.IsLack kinds old e new
-
 -- fewer octets are left than the length
 abbrev pub short_refusal : ℕ → Reading → DecodeError → Reading → Type 0
 short_refusal n old e new = (e ≡ decode.InsufficientBytes) × LacksOctets old n
 
+-- as the facts of the record say
+abbrev pub row_by : {T : Type 0} → Facts T → Row
+row_by f = row f.kinds f.condition f.refusal
+
 abbrev pub row_of : RecordType → Row
-row_of types.A = row base.A.a_shape (anything base.A.a_shape) (λ n. base.A.a_refusal)
-row_of types.AAAA = row base.AAAA.aaaa_shape (anything base.AAAA.aaaa_shape) (λ n. base.AAAA.aaaa_refusal)
-row_of types.ANAME = row base.NameRecords.name_shape (anything base.NameRecords.name_shape) (lacking base.NameRecords.name_shape)
-row_of types.CAA = row sets.CAA.caa_shape sets.CAA.caa_condition sets.CAA.caa_refusal
-row_of types.CERT = row certs.CERT.cert_shape certs.CERT.cert_condition certs.CERT.cert_refusal
-row_of types.CNAME = row base.NameRecords.name_shape (anything base.NameRecords.name_shape) (lacking base.NameRecords.name_shape)
-row_of types.CSYNC = row sets.CSYNC.csync_shape sets.CSYNC.csync_condition sets.CSYNC.csync_refusal
-row_of types.HINFO = row base.HINFO.hinfo_shape (anything base.HINFO.hinfo_shape) (λ n. base.HINFO.hinfo_refusal)
-row_of types.HTTPS = row service.HTTPS.https_shape service.HTTPS.https_condition service.HTTPS.https_refusal
-row_of types.MX = row base.MX.mx_shape (anything base.MX.mx_shape) (lacking base.MX.mx_shape)
-row_of types.NAPTR = row base.NAPTR.naptr_shape base.NAPTR.naptr_condition (λ n. base.NAPTR.naptr_refusal)
+row_of types.A = row_by base.A.a_facts
+row_of types.AAAA = row_by base.AAAA.aaaa_facts
+row_of types.ANAME = row_by base.NameRecords.aname_facts
+row_of types.CAA = row_by sets.CAA.caa_facts
+row_of types.CERT = row_by certs.CERT.cert_facts
+row_of types.CNAME = row_by base.NameRecords.cname_facts
+row_of types.CSYNC = row_by sets.CSYNC.csync_facts
+row_of types.HINFO = row_by base.HINFO.hinfo_facts
+row_of types.HTTPS = row_by service.HTTPS.https_facts
+row_of types.MX = row_by base.MX.mx_facts
+row_of types.NAPTR = row_by base.NAPTR.naptr_facts
 row_of types.NULL = row base.NULL.null_shape (anything base.NULL.null_shape) short_refusal
-row_of types.NS = row base.NameRecords.name_shape (anything base.NameRecords.name_shape) (lacking base.NameRecords.name_shape)
-row_of types.OPENPGPKEY = row base.OPENPGPKEY.openpgpkey_shape (anything base.OPENPGPKEY.openpgpkey_shape) base.OPENPGPKEY.openpgpkey_refusal
-row_of types.OPT = row options.OPT.opt_shape (anything options.OPT.opt_shape) options.OPT.opt_refusal
-row_of types.PTR = row base.NameRecords.name_shape (anything base.NameRecords.name_shape) (lacking base.NameRecords.name_shape)
-row_of types.SMIMEA = row certs.SMIMEA.smimea_shape (anything certs.SMIMEA.smimea_shape) certs.SMIMEA.smimea_refusal
-row_of types.SOA = row base.SOA.soa_shape (anything base.SOA.soa_shape) (lacking base.SOA.soa_shape)
-row_of types.SRV = row base.SRV.srv_shape (anything base.SRV.srv_shape) (lacking base.SRV.srv_shape)
-row_of types.SSHFP = row certs.SSHFP.sshfp_shape (anything certs.SSHFP.sshfp_shape) certs.SSHFP.sshfp_refusal
-row_of types.SVCB = row service.SVCB.svcb_shape service.SVCB.svcb_condition service.SVCB.svcb_refusal
-row_of types.TLSA = row certs.TLSA.tlsa_shape (anything certs.TLSA.tlsa_shape) certs.TLSA.tlsa_refusal
-row_of types.TXT = row base.TXT.txt_shape (anything base.TXT.txt_shape) base.TXT.txt_refusal
+row_of types.NS = row_by base.NameRecords.ns_facts
+row_of types.OPENPGPKEY = row_by base.OPENPGPKEY.openpgpkey_facts
+row_of types.OPT = row_by options.OPT.opt_facts
+row_of types.PTR = row_by base.NameRecords.ptr_facts
+row_of types.SMIMEA = row_by certs.SMIMEA.smimea_facts
+row_of types.SOA = row_by base.SOA.soa_facts
+row_of types.SRV = row_by base.SRV.srv_facts
+row_of types.SSHFP = row_by certs.SSHFP.sshfp_facts
+row_of types.SVCB = row_by service.SVCB.svcb_facts
+row_of types.TLSA = row_by certs.TLSA.tlsa_facts
+row_of types.TXT = row_by base.TXT.txt_facts
 row_of types.ZERO = row [] (anything []) (λ n old e new. ⊥)
 row_of types.ANY = unread
 row_of types.AXFR = unread
@@ -109,31 +110,34 @@ pub record FieldsOf : Type 0 where
   pub kinds : List Kind
   pub values : Values kinds
 
+abbrev pub fields_by : {T : Type 0} → Facts T → T → FieldsOf
+fields_by f x = record { kinds = f.kinds; values = f.fields x }
+
 abbrev pub fields_of : RData → FieldsOf
-fields_of (rdata.A x) = record { kinds = base.A.a_shape; values = base.A.a_fields x }
-fields_of (rdata.AAAA x) = record { kinds = base.AAAA.aaaa_shape; values = base.AAAA.aaaa_fields x }
-fields_of (rdata.ANAME x) = record { kinds = base.NameRecords.name_shape; values = base.NameRecords.aname_fields x }
-fields_of (rdata.CAA x) = record { kinds = sets.CAA.caa_shape; values = sets.CAA.caa_fields x }
-fields_of (rdata.CERT x) = record { kinds = certs.CERT.cert_shape; values = certs.CERT.cert_fields x }
-fields_of (rdata.CNAME x) = record { kinds = base.NameRecords.name_shape; values = base.NameRecords.cname_fields x }
-fields_of (rdata.CSYNC x) = record { kinds = sets.CSYNC.csync_shape; values = sets.CSYNC.csync_fields x }
-fields_of (rdata.HINFO x) = record { kinds = base.HINFO.hinfo_shape; values = base.HINFO.hinfo_fields x }
-fields_of (rdata.HTTPS x) = record { kinds = service.HTTPS.https_shape; values = service.HTTPS.https_fields x }
-fields_of (rdata.MX x) = record { kinds = base.MX.mx_shape; values = base.MX.mx_fields x }
-fields_of (rdata.NAPTR x) = record { kinds = base.NAPTR.naptr_shape; values = base.NAPTR.naptr_fields x }
-fields_of (rdata.NULL x) = record { kinds = base.NULL.null_shape; values = base.NULL.null_fields x }
-fields_of (rdata.NS x) = record { kinds = base.NameRecords.name_shape; values = base.NameRecords.ns_fields x }
-fields_of (rdata.OPENPGPKEY x) = record { kinds = base.OPENPGPKEY.openpgpkey_shape; values = base.OPENPGPKEY.openpgpkey_fields x }
-fields_of (rdata.OPT x) = record { kinds = options.OPT.opt_shape; values = options.OPT.opt_fields x }
-fields_of (rdata.PTR x) = record { kinds = base.NameRecords.name_shape; values = base.NameRecords.ptr_fields x }
-fields_of (rdata.SMIMEA x) = record { kinds = certs.SMIMEA.smimea_shape; values = certs.SMIMEA.smimea_fields x }
-fields_of (rdata.SOA x) = record { kinds = base.SOA.soa_shape; values = base.SOA.soa_fields x }
-fields_of (rdata.SRV x) = record { kinds = base.SRV.srv_shape; values = base.SRV.srv_fields x }
-fields_of (rdata.SSHFP x) = record { kinds = certs.SSHFP.sshfp_shape; values = certs.SSHFP.sshfp_fields x }
-fields_of (rdata.SVCB x) = record { kinds = service.SVCB.svcb_shape; values = service.SVCB.svcb_fields x }
-fields_of (rdata.TLSA x) = record { kinds = certs.TLSA.tlsa_shape; values = certs.TLSA.tlsa_fields x }
-fields_of (rdata.TXT x) = record { kinds = base.TXT.txt_shape; values = base.TXT.txt_fields x }
-fields_of (rdata.Unknown code x) = record { kinds = base.NULL.null_shape; values = base.NULL.null_fields x }
+fields_of (rdata.A x) = fields_by base.A.a_facts x
+fields_of (rdata.AAAA x) = fields_by base.AAAA.aaaa_facts x
+fields_of (rdata.ANAME x) = fields_by base.NameRecords.aname_facts x
+fields_of (rdata.CAA x) = fields_by sets.CAA.caa_facts x
+fields_of (rdata.CERT x) = fields_by certs.CERT.cert_facts x
+fields_of (rdata.CNAME x) = fields_by base.NameRecords.cname_facts x
+fields_of (rdata.CSYNC x) = fields_by sets.CSYNC.csync_facts x
+fields_of (rdata.HINFO x) = fields_by base.HINFO.hinfo_facts x
+fields_of (rdata.HTTPS x) = fields_by service.HTTPS.https_facts x
+fields_of (rdata.MX x) = fields_by base.MX.mx_facts x
+fields_of (rdata.NAPTR x) = fields_by base.NAPTR.naptr_facts x
+fields_of (rdata.NULL x) = fields_by base.NULL.null_facts x
+fields_of (rdata.NS x) = fields_by base.NameRecords.ns_facts x
+fields_of (rdata.OPENPGPKEY x) = fields_by base.OPENPGPKEY.openpgpkey_facts x
+fields_of (rdata.OPT x) = fields_by options.OPT.opt_facts x
+fields_of (rdata.PTR x) = fields_by base.NameRecords.ptr_facts x
+fields_of (rdata.SMIMEA x) = fields_by certs.SMIMEA.smimea_facts x
+fields_of (rdata.SOA x) = fields_by base.SOA.soa_facts x
+fields_of (rdata.SRV x) = fields_by base.SRV.srv_facts x
+fields_of (rdata.SSHFP x) = fields_by certs.SSHFP.sshfp_facts x
+fields_of (rdata.SVCB x) = fields_by service.SVCB.svcb_facts x
+fields_of (rdata.TLSA x) = fields_by certs.TLSA.tlsa_facts x
+fields_of (rdata.TXT x) = fields_by base.TXT.txt_facts x
+fields_of (rdata.Unknown code x) = fields_by base.NULL.null_facts x
 fields_of (rdata.Update0 t) = record { kinds = []; values = tt }
 fields_of rdata.ZERO = record { kinds = []; values = tt }
 
