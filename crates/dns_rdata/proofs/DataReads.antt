@@ -260,10 +260,10 @@ pub reads_counted : {X : Type 0} {n start : ℕ} {old new : Reading} {r s : Resu
 reads_counted {n = n} {old = old} {new = new} {r = r} t f fields never place c window own value =
     mapped_counted t f r never place c (reads_mapped old new t n f fields r window value) (unless_each r _ own)
 
-null_lacks : {n : ℕ} {old new : Reading} (r : Result NULL DecodeError) → IfErr r (λ e. base.NULL.null_refusal n old e new)
+null_lacks : (n : ℕ) (old new : Reading) (r : Result NULL DecodeError) → IfErr r (λ e. base.NULL.null_refusal n old e new)
     → IfErr r (λ e. (e ≡ decode.Memory) ⊎ ((e ≡ decode.InsufficientBytes) × LacksOctets old n))
-null_lacks (Ok x) h = tt
-null_lacks (Err e) h = h.1
+null_lacks n old new (Ok x) h = tt
+null_lacks n old new (Err e) h = h.1
 
 pub null_counted : {n start : ℕ} {old new : Reading} {s : Result NULL DecodeError} (r : Result NULL DecodeError) → start ≡ old.index → s ≡ by_length r (new.index - start) n
     → ReadsWindow base.NULL.null_shape (λ _. Unit {0}) base.NULL.null_fields n r old new
@@ -272,7 +272,7 @@ pub null_counted : {n start : ℕ} {old new : Reading} {s : Result NULL DecodeEr
 null_counted {n = n} {old = old} {new = new} r place c window own =
     mapped_counted types.NULL (λ x. rdata.NULL x) r (λ h. h) place c
     (reads_mapped old new types.NULL n (λ x. rdata.NULL x) base.NULL.null_fields r window (λ x _. record { type = refl; fields = refl; plain = tt }))
-    (unless_other r (λ e. (e ≡ decode.InsufficientBytes) × LacksOctets old n) (null_lacks r own))
+    (unless_other r (λ e. (e ≡ decode.InsufficientBytes) × LacksOctets old n) (null_lacks n old new r own))
 
 refused_rowless : (q : Row) (old new : Reading) (n : ℕ) (e : DecodeError) → is_rowless q → RefusedWindow e old n base.NULL.null_shape (λ _. Unit {0}) new
     → RefusedWindow e old n (kinds_of q) (condition_of q) new
@@ -298,7 +298,7 @@ pub unknown_counted : {n start : ℕ} {old new : Reading} {s : Result NULL Decod
     → ReadsCounted t n (mapped (λ x. rdata.Unknown t x) s) old new
 unknown_counted {n = n} {old = old} {new = new} t r h place c window own =
     mapped_counted t (λ x. rdata.Unknown t x) r h.read place c (reads_rowless old new t n r h window)
-    (own_rowless t (row_of t) old new n r h.rowless (unless_other r (λ e. (e ≡ decode.InsufficientBytes) × LacksOctets old n) (null_lacks r own)))
+    (own_rowless t (row_of t) old new n r h.rowless (unless_other r (λ e. (e ≡ decode.InsufficientBytes) × LacksOctets old n) (null_lacks n old new r own)))
 
 pub zero_counted : {n start : ℕ} {d : Reading} {s : Result RData DecodeError} → n < 65536 → d.index ≤ length d.message → AreOctets d.message
     → start ≡ d.index → s ≡ by_length (Ok rdata.ZERO) (d.index - start) n → ReadsCounted types.ZERO n s d d
