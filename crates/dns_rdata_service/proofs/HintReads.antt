@@ -1,6 +1,6 @@
 -- Addresses that are read and emitted one after the other, as octets.
 use Rattle.std.proofs.Common.{◌≡◌, true, ℕ, ◌+◌, ◌*◌, ◌%◌, ◌<◌, ◌≤◌, List, [], ◌∷◌, ◌++◌, length, take, drop, map, refl, sym, ap, ◌∙◌}
-use Rattle.std.proofs.Common.{arith, subst, append_assoc, Result, Ok, Err}
+use Rattle.std.proofs.Common.{inl, arith, subst, append_assoc, Result, Ok, Err}
 use Rattle.std.specs.Prelude.{IfOk, IfErr}
 use Rattle.std.specs.List.{flat_map, AllByRecursion}
 use Rattle.std.proofs.lemmas.List.{append-nil, length-drop, length-take, drop_all}
@@ -9,6 +9,7 @@ use Rattle.dns_types.specs.declared.error.DecodeError.TheVariants as decode
 use Rattle.dns_types.specs.declared.error.ProtoError.{ProtoError}
 use Rattle.dns_fields.specs.Octets.{At, AreOctets}
 use Rattle.dns_fields.specs.Fields.{Octets, Stands, field_octets}
+use Rattle.dns_fields.specs.Pieces.{Addresses4, Addresses16}
 use Rattle.dns_fields.proofs.OctetLaws.{AreOctets-at}
 use Rattle.dns_names_wire.specs.State.{Reading, Writing}
 use Rattle.dns_names_wire.specs.Words.{UnlessMemory, Emits}
@@ -18,7 +19,7 @@ use Rattle.dns_rdata_base.specs.declared.a.A.{A}
 use Rattle.dns_rdata_base.specs.declared.aaaa.AAAA.{AAAA}
 use Rattle.dns_rdata_service.specs.Emitting.{EmitsOctets}
 use Rattle.dns_rdata_service.specs.Hints.{StandEach, StopsBefore, StandToEnd, ReadsEach, EmitsEach}
-use Rattle.dns_rdata_service.specs.SvcParamValue.{a_octets, aaaa_octets, a_of, aaaa_of}
+use Rattle.dns_rdata_service.specs.SvcParamValue.{a_octets, aaaa_octets, a_of, aaaa_of, value_refusal}
 use Rattle.dns_rdata_service.specs.declared.svcb.ip_hint.IpHint.{IpHint}
 use Rattle.dns_rdata_service.proofs.Splits.{at_split}
 use Rattle.dns_rdata_service.proofs.EachEmits.{emits_list, emits_as, all_pass}
@@ -92,20 +93,24 @@ aaaa_octets_of : (s : List ℕ) → length s ≡ 16 → AreOctets s → (x : AAA
 aaaa_octets_of s n all = (aaaa_of s, octets_of-segments 8 s (omega arith) all)
 
 pub hint4_refused : (body : List ℕ) (new : Reading) (r : Result (IpHint A) DecodeError) → AreOctets body → length body % 4 ≡ 0
-    → ReadsEach (GroupAt 4 a_octets) (λ x. x.0) r (record { message = body; index = 0 }) new → IfErr r (λ e. e ≡ decode.Memory)
+    → ReadsEach (GroupAt 4 a_octets) (λ x. x.0) r (record { message = body; index = 0 }) new → IfErr r (value_refusal Addresses4 body)
 hint4_refused body new (Ok x) all whole h = tt
-hint4_refused body new (Err e) all whole h = unless_none e _ h.1 (no_stop 4 a_octets body (λ k lt. omega (arith, whole, lt)) a_octets_of all)
+hint4_refused body new (Err e) all whole h = inl (unless_none e _ h.1 (no_stop 4 a_octets body (λ k lt. omega (arith, whole, lt)) a_octets_of all))
 
 pub hint6_refused : (body : List ℕ) (new : Reading) (r : Result (IpHint AAAA) DecodeError) → AreOctets body → length body % 16 ≡ 0
-    → ReadsEach (GroupAt 16 aaaa_octets) (λ x. x.0) r (record { message = body; index = 0 }) new → IfErr r (λ e. e ≡ decode.Memory)
+    → ReadsEach (GroupAt 16 aaaa_octets) (λ x. x.0) r (record { message = body; index = 0 }) new → IfErr r (value_refusal Addresses16 body)
 hint6_refused body new (Ok x) all whole h = tt
-hint6_refused body new (Err e) all whole h = unless_none e _ h.1 (no_stop 16 aaaa_octets body (λ k lt. omega (arith, whole, lt)) aaaa_octets_of all)
+hint6_refused body new (Err e) all whole h = inl (unless_none e _ h.1 (no_stop 16 aaaa_octets body (λ k lt. omega (arith, whole, lt)) aaaa_octets_of all))
 
-pub groups_taken : {T : Type 0} (w : ℕ) (octets : T → List ℕ) (body : List ℕ) (new : Reading) (r : Result (IpHint T) DecodeError)
-    → ReadsEach (GroupAt w octets) (λ x. x.0) r (record { message = body; index = 0 }) new
-    → IfOk r (λ x. AllByRecursion (λ s. length s ≡ w) (map octets x.0) × (body ≡ flat_map (λ s. s) (map octets x.0)))
-groups_taken w octets body new (Ok x) h = groups_read w octets body x.0 new h
-groups_taken w octets body new (Err e) h = tt
+pub groups_fit : {T : Type 0} (w : ℕ) (octets : T → List ℕ) (body : List ℕ) (new : Reading) (r : Result (IpHint T) DecodeError)
+    → ReadsEach (GroupAt w octets) (λ x. x.0) r (record { message = body; index = 0 }) new → IfOk r (λ x. AllByRecursion (λ s. length s ≡ w) (map octets x.0))
+groups_fit w octets body new (Ok x) h = (groups_read w octets body x.0 new h).0
+groups_fit w octets body new (Err e) h = tt
+
+pub groups_body : {T : Type 0} (w : ℕ) (octets : T → List ℕ) (body : List ℕ) (new : Reading) (r : Result (IpHint T) DecodeError)
+    → ReadsEach (GroupAt w octets) (λ x. x.0) r (record { message = body; index = 0 }) new → IfOk r (λ x. body ≡ flat_map (λ s. s) (map octets x.0))
+groups_body w octets body new (Ok x) h = (groups_read w octets body x.0 new h).1
+groups_body w octets body new (Err e) h = tt
 
 -- ---- emitting
 
