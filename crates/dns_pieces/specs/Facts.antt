@@ -41,16 +41,16 @@ filling kinds condition fields refusal IsRead = record {
 }
 
 -- the fields of the value stand, and hold what is asked
-abbrev pub record_stands : {T : Type 0} → Facts T → List ℕ → ℕ → T → ℕ → Type 0
-record_stands f m p x q = Stands m p f.kinds (f.fields x) q × f.condition (f.fields x)
+abbrev pub RecordStands : {T : Type 0} → Facts T → List ℕ → ℕ → T → ℕ → Type 0
+RecordStands f m p x q = Stands m p f.kinds (f.fields x) q × f.condition (f.fields x)
 
 -- it is refused, and no such fields stand
-abbrev pub record_refuses : {T : Type 0} → Facts T → Reading → DecodeError → Reading → Type 0
-record_refuses f old e new = ((n : ℕ) → f.refusal n old e new) × Refused e old f.kinds (λ vs _. f.condition vs) new
+abbrev pub RecordRefuses : {T : Type 0} → Facts T → Reading → DecodeError → Reading → Type 0
+RecordRefuses f old e new = ((n : ℕ) → f.refusal n old e new) × Refused e old f.kinds (λ vs _. f.condition vs) new
 
 -- the fields of the value are emitted, the names in this mode
-abbrev pub record_emits : {T : Type 0} → RDataEncoding → Facts T → T → Result (Unit {0}) ProtoError → Writing → Writing → Type 0
-record_emits mode f x r old new = EmitsAs mode f.kinds (f.fields x) r old new
+abbrev pub RecordEmits : {T : Type 0} → RDataEncoding → Facts T → T → Result (Unit {0}) ProtoError → Writing → Writing → Type 0
+RecordEmits mode f x r old new = EmitsAs mode f.kinds (f.fields x) r old new
 
 -- values are compared by their fields
 abbrev pub same : {T : Type 0} (kinds : List Kind) → (T → Values kinds) → T → T → Bool

@@ -20,10 +20,10 @@ use Rattle.dns_rdata_base.specs as base
 use Rattle.dns_rdata_sets.specs as sets
 use Rattle.dns_rdata.specs.declared.record_data.RData.{RData}
 use Rattle.dns_rdata.specs.declared.record_data.RData.TheVariants as rdata
-use Rattle.dns_rdata.specs.Data.{Row, row, unread, rowless, row_of, kinds_of, condition_of, is_rowless, is_never, FieldsOf, shape, condition}
+use Rattle.dns_rdata.specs.Data.{Row, row, unread, rowless, row_of, kinds_of, MeetsConditionOf, IsRowlessRow, IsNever, FieldsOf, shape, condition}
 use Rattle.dns_rdata.specs.Data.{IsRowless, IsValue, Fills, NoValue, TookData, RefusedData, ReadsData, type_of}
 use Rattle.dns_rdata.specs.Data.{IsNeverRead}
-use Rattle.dns_rdata.specs.Refusals.{own_refusal, OwnRefusal, IsRefusal, by_length}
+use Rattle.dns_rdata.specs.Refusals.{IsOwnRefusal, OwnRefusal, IsRefusal, by_length}
 
 -- what fills a window as fields fills it as a value
 pub data_took : {old new : Reading} (t : RecordType) (n : ℕ) (v : RData) (vs : Values (shape t)) → IsValue t vs v
@@ -74,8 +74,8 @@ pub has_no_row : (t : RecordType) → IsNone t row_types → HasNoRow t
 has_no_row types.A none = absurd (none.0 refl)
 has_no_row t none = grind arith
 
-took_rowless : (r : Row) {old new : Reading} {n : ℕ} (vs : Values base.NULL.null_shape) → is_rowless r → TookWindow old n base.NULL.null_shape (λ _. Unit {0}) vs new
-    → (ws : Values (kinds_of r)) × TookWindow old n (kinds_of r) (condition_of r) ws new × (fields_as base.NULL.null_shape vs ≡ fields_as (kinds_of r) ws)
+took_rowless : (r : Row) {old new : Reading} {n : ℕ} (vs : Values base.NULL.null_shape) → IsRowlessRow r → TookWindow old n base.NULL.null_shape (λ _. Unit {0}) vs new
+    → (ws : Values (kinds_of r)) × TookWindow old n (kinds_of r) (MeetsConditionOf r) ws new × (fields_as base.NULL.null_shape vs ≡ fields_as (kinds_of r) ws)
 took_rowless (row kinds asked refusal) vs h w = absurd h
 took_rowless unread vs h w = absurd h
 took_rowless rowless vs h w = (vs, w, refl)
@@ -146,13 +146,13 @@ lack_never : (kinds : List Kind) (old new : Reading) (k : ℕ) → base.Refusing
 lack_never kinds old new k (inl e) = cc e
 lack_never kinds old new k (inr h) = first_never kinds old new k h
 
-tag_never : (n t : ℕ) (old new : Reading) (k : ℕ) → sets.CAA.tag_refusal n t old (decode.UnknownRecordTypeValue k) new → ⊥
+tag_never : (n t : ℕ) (old new : Reading) (k : ℕ) → sets.CAA.IsTagRefusal n t old (decode.UnknownRecordTypeValue k) new → ⊥
 tag_never n t old new k h = grind arith
 
 either_never : (k : ℕ) {P : Type 0} → (decode.UnknownRecordTypeValue k ≡ decode.Memory) ⊎ ((decode.UnknownRecordTypeValue k ≡ decode.InsufficientBytes) × P) → ⊥
 either_never k h = grind arith
 
-bitmap_never : (n : ℕ) (old new : Reading) (k : ℕ) → sets.RecordTypeSet.bitmap_refusal n old (decode.UnknownRecordTypeValue k) new → ⊥
+bitmap_never : (n : ℕ) (old new : Reading) (k : ℕ) → sets.RecordTypeSet.IsBitmapRefusal n old (decode.UnknownRecordTypeValue k) new → ⊥
 bitmap_never n old new k h = grind arith
 
 -- the refusal by number is that of types that are never read
@@ -274,8 +274,8 @@ null_counted {n = n} {old = old} {new = new} r place c window own =
     (reads_mapped old new types.NULL n (λ x. rdata.NULL x) base.NULL.null_fields r window (λ x _. record { type = refl; fields = refl; plain = tt }))
     (unless_other r (λ e. (e ≡ decode.InsufficientBytes) × LacksOctets old n) (null_lacks n old new r own))
 
-refused_rowless : (q : Row) (old new : Reading) (n : ℕ) (e : DecodeError) → is_rowless q → RefusedWindow e old n base.NULL.null_shape (λ _. Unit {0}) new
-    → RefusedWindow e old n (kinds_of q) (condition_of q) new
+refused_rowless : (q : Row) (old new : Reading) (n : ℕ) (e : DecodeError) → IsRowlessRow q → RefusedWindow e old n base.NULL.null_shape (λ _. Unit {0}) new
+    → RefusedWindow e old n (kinds_of q) (MeetsConditionOf q) new
 refused_rowless (row kinds asked refusal) old new n e h w = absurd h
 refused_rowless unread old new n e h w = absurd h
 refused_rowless rowless old new n e h w = w
@@ -285,9 +285,9 @@ reads_rowless : (old new : Reading) (t : RecordType) (n : ℕ) (r : Result NULL 
 reads_rowless old new t n (Ok x) h w = unknown_took t n x h w
 reads_rowless old new t n (Err e) h w = data_refuses t n e (refused_rowless (row_of t) old new n e h.rowless w)
 
-own_rowless : (t : RecordType) (q : Row) (old new : Reading) (n : ℕ) (r : Result NULL DecodeError) → is_rowless q
+own_rowless : (t : RecordType) (q : Row) (old new : Reading) (n : ℕ) (r : Result NULL DecodeError) → IsRowlessRow q
     → IfErr r (λ e. UnlessMemory e ((e ≡ decode.InsufficientBytes) × LacksOctets old n))
-    → IfErr r (λ e. UnlessMemory e (own_refusal t q n old new e))
+    → IfErr r (λ e. UnlessMemory e (IsOwnRefusal t q n old new e))
 own_rowless t (row kinds asked refusal) old new n r h w = absurd h
 own_rowless t unread old new n r h w = absurd h
 own_rowless t rowless old new n r h w = w
@@ -310,12 +310,12 @@ zero_counted {n = n} {d = d} short inside octets place c = record {
   counted = c ∙ ap (λ k. by_length (Ok rdata.ZERO) (d.index - k) n) place;
 }
 
-unread_none : (q : Row) (m : List ℕ) (p n : ℕ) → is_never q → NoWindow m p n (kinds_of q) (condition_of q)
+unread_none : (q : Row) (m : List ℕ) (p n : ℕ) → IsNever q → NoWindow m p n (kinds_of q) (MeetsConditionOf q)
 unread_none (row kinds asked refusal) m p n h = absurd h
 unread_none unread m p n h = record { none = λ vs w. w.holds }
 unread_none rowless m p n h = absurd h
 
-own_unread : (t : RecordType) (q : Row) (d : Reading) (n : ℕ) → is_never q → own_refusal t q n d d (decode.UnknownRecordTypeValue (number_of t))
+own_unread : (t : RecordType) (q : Row) (d : Reading) (n : ℕ) → IsNever q → IsOwnRefusal t q n d d (decode.UnknownRecordTypeValue (number_of t))
 own_unread t (row kinds asked refusal) d n h = absurd h
 own_unread t unread d n h = refl
 own_unread t rowless d n h = absurd h

@@ -37,7 +37,7 @@ use Rattle.dns_rdata.specs.declared.record_data.RData.TheVariants as rdata
 use Rattle.dns_rdata.specs.Data.{shape, IsValue, type_of}
 use Rattle.dns_rdata.specs.Texts.{text_of}
 use Rattle.dns_rdata.proofs.DataReads.{IsNone}
-use Rattle.dns_rdata.specs.DataWords.{StandIn, AreSvcbWords, svcb_words, https_words, HasNoWords, AreDataWords, TookDataWords, RefusedDataWords, ReadsDataWords, AnswersDataWords, ReadsDataTextAt, IsPrinted, PrintsBack}
+use Rattle.dns_rdata.specs.DataWords.{StandIn, AreSvcbWords, HasSvcbWords, HasHttpsWords, HasNoWords, AreDataWords, TookDataWords, RefusedDataWords, ReadsDataWords, AnswersDataWords, ReadsDataTextAt, IsPrinted, PrintsBack}
 
 -- words of a service give its fields
 own_stands : (x : SVCB) (words : List (List ℕ)) → AreSvcbWords x words → service_words.stand (svcb_fields x) words
@@ -46,11 +46,11 @@ own_stands x [] d = d
 own_stands x (a ∷ []) d = (d.0, d.1)
 own_stands x (a ∷ b ∷ words) d = (d.0, (d.1.0, (x.svc_params, d.1.1, refl)))
 
-no_svcb : (words : List (List ℕ)) → ((vs : Values svcb_shape) → service_words.stand vs words → ⊥) → (v : RData) → svcb_words v words → ⊥
+no_svcb : (words : List (List ℕ)) → ((vs : Values svcb_shape) → service_words.stand vs words → ⊥) → (v : RData) → HasSvcbWords v words → ⊥
 no_svcb words other (rdata.SVCB x) d = other (svcb_fields x) (own_stands x words d)
 no_svcb words other v d = d
 
-no_https : (words : List (List ℕ)) → ((vs : Values svcb_shape) → service_words.stand vs words → ⊥) → (v : RData) → https_words v words → ⊥
+no_https : (words : List (List ℕ)) → ((vs : Values svcb_shape) → service_words.stand vs words → ⊥) → (v : RData) → HasHttpsWords v words → ⊥
 no_https words other (rdata.HTTPS x) d = other (svcb_fields x.0) (own_stands x.0 words d)
 no_https words other v d = d
 

@@ -32,8 +32,8 @@ abbrev pub anything : (kinds : List Kind) → Values kinds → Type 0
 anything kinds vs = Unit {0}
 
 -- fewer octets are left than the length
-abbrev pub short_refusal : ℕ → Reading → DecodeError → Reading → Type 0
-short_refusal n old e new = (e ≡ decode.InsufficientBytes) × LacksOctets old n
+abbrev pub IsShortRefusal : ℕ → Reading → DecodeError → Reading → Type 0
+IsShortRefusal n old e new = (e ≡ decode.InsufficientBytes) × LacksOctets old n
 
 -- as the facts of the record say
 abbrev pub row_by : {T : Type 0} → Facts T → Row
@@ -51,7 +51,7 @@ row_of types.HINFO = row_by base.HINFO.hinfo_facts
 row_of types.HTTPS = row_by service.HTTPS.https_facts
 row_of types.MX = row_by base.MX.mx_facts
 row_of types.NAPTR = row_by base.NAPTR.naptr_facts
-row_of types.NULL = row base.NULL.null_shape (anything base.NULL.null_shape) short_refusal
+row_of types.NULL = row base.NULL.null_shape (anything base.NULL.null_shape) IsShortRefusal
 row_of types.NS = row_by base.NameRecords.ns_facts
 row_of types.OPENPGPKEY = row_by base.OPENPGPKEY.openpgpkey_facts
 row_of types.OPT = row_by options.OPT.opt_facts
@@ -74,10 +74,10 @@ kinds_of (row kinds asked refusal) = kinds
 kinds_of unread = []
 kinds_of rowless = Rest ∷ []
 
-abbrev pub condition_of : (r : Row) → Values (kinds_of r) → Type 0
-condition_of (row kinds asked refusal) vs = asked vs
-condition_of unread vs = ⊥
-condition_of rowless vs = Unit {0}
+abbrev pub MeetsConditionOf : (r : Row) → Values (kinds_of r) → Type 0
+MeetsConditionOf (row kinds asked refusal) vs = asked vs
+MeetsConditionOf unread vs = ⊥
+MeetsConditionOf rowless vs = Unit {0}
 
 -- the kinds of the fields of each type, in order
 abbrev pub shape : RecordType → List Kind
@@ -85,25 +85,25 @@ shape t = kinds_of (row_of t)
 
 -- what is asked of the fields beside that they stand
 abbrev pub condition : (t : RecordType) → Values (shape t) → Type 0
-condition t vs = condition_of (row_of t) vs
+condition t vs = MeetsConditionOf (row_of t) vs
 
-abbrev pub is_never : Row → Type 0
-is_never (row kinds asked refusal) = ⊥
-is_never unread = Unit {0}
-is_never rowless = ⊥
+abbrev pub IsNever : Row → Type 0
+IsNever (row kinds asked refusal) = ⊥
+IsNever unread = Unit {0}
+IsNever rowless = ⊥
 
-abbrev pub is_rowless : Row → Type 0
-is_rowless (row kinds asked refusal) = ⊥
-is_rowless unread = ⊥
-is_rowless rowless = Unit {0}
+abbrev pub IsRowlessRow : Row → Type 0
+IsRowlessRow (row kinds asked refusal) = ⊥
+IsRowlessRow unread = ⊥
+IsRowlessRow rowless = Unit {0}
 
 -- no data of the type is read
 abbrev pub IsNeverRead : RecordType → Type 0
-IsNeverRead t = is_never (row_of t)
+IsNeverRead t = IsNever (row_of t)
 
 -- no row of its own says what the data of the type is
 abbrev pub IsRowless : RecordType → Type 0
-IsRowless t = is_rowless (row_of t)
+IsRowless t = IsRowlessRow (row_of t)
 
 -- fields of some kinds
 pub record FieldsOf : Type 0 where

@@ -26,13 +26,13 @@ use Rattle.dns_rdata.specs.Texts.{text_of}
 abbrev pub AreSvcbWords : SVCB → List (List ℕ) → Type 0
 AreSvcbWords x words = (word (number 2) (word (name None) (service.WordRows.these_parameters x.svc_params))).stand (x.svc_priority, (x.target_name, tt)) words
 
-abbrev pub svcb_words : RData → List (List ℕ) → Type 0
-svcb_words (rdata.SVCB x) words = AreSvcbWords x words
-svcb_words v words = ⊥
+abbrev pub HasSvcbWords : RData → List (List ℕ) → Type 0
+HasSvcbWords (rdata.SVCB x) words = AreSvcbWords x words
+HasSvcbWords v words = ⊥
 
-abbrev pub https_words : RData → List (List ℕ) → Type 0
-https_words (rdata.HTTPS x) words = AreSvcbWords x.0 words
-https_words v words = ⊥
+abbrev pub HasHttpsWords : RData → List (List ℕ) → Type 0
+HasHttpsWords (rdata.HTTPS x) words = AreSvcbWords x.0 words
+HasHttpsWords v words = ⊥
 
 -- How the words of a type are read: by a row for the fields; by a relation of their own for the value, where values of
 -- one form differ for a caller; or not at all.
@@ -51,7 +51,7 @@ reading_of origin types.CERT = by certs.WordRows.cert_words
 reading_of origin types.CNAME = by (base.WordRows.name_words origin)
 reading_of origin types.CSYNC = by sets.WordRows.csync_words
 reading_of origin types.HINFO = by base.WordRows.hinfo_words
-reading_of origin types.HTTPS = own https_words
+reading_of origin types.HTTPS = own HasHttpsWords
 reading_of origin types.MX = by (base.WordRows.mx_words origin)
 reading_of origin types.NAPTR = by (base.WordRows.naptr_words origin)
 reading_of origin types.NS = by (base.WordRows.name_words origin)
@@ -61,7 +61,7 @@ reading_of origin types.SMIMEA = by certs.WordRows.smimea_words
 reading_of origin types.SOA = by (base.WordRows.soa_words origin)
 reading_of origin types.SRV = by (base.WordRows.srv_words origin)
 reading_of origin types.SSHFP = by certs.WordRows.sshfp_words
-reading_of origin types.SVCB = own svcb_words
+reading_of origin types.SVCB = own HasSvcbWords
 reading_of origin types.TLSA = by certs.WordRows.tlsa_words
 reading_of origin types.TXT = by base.WordRows.txt_words
 reading_of origin types.ZERO = by ignored
@@ -73,23 +73,23 @@ pub record StandIn (t : RecordType) (row : Row (shape t)) (v : RData) (words : L
   pub stand : row.stand values words
   pub value : IsValue t values v
 
-abbrev pub give_by : (t : RecordType) → Reading (shape t) → RData → List (List ℕ) → Type 0
-give_by t (by row) v words = StandIn t row v words
-give_by t (own are) v words = are v words
-give_by t refused v words = ⊥
+abbrev pub GiveBy : (t : RecordType) → Reading (shape t) → RData → List (List ℕ) → Type 0
+GiveBy t (by row) v words = StandIn t row v words
+GiveBy t (own are) v words = are v words
+GiveBy t refused v words = ⊥
 
-abbrev pub is_refused : {kinds : List Kind} → Reading kinds → Type 0
-is_refused (by row) = ⊥
-is_refused (own are) = ⊥
-is_refused refused = Unit {0}
+abbrev pub IsRefusedReading : {kinds : List Kind} → Reading kinds → Type 0
+IsRefusedReading (by row) = ⊥
+IsRefusedReading (own are) = ⊥
+IsRefusedReading refused = Unit {0}
 
 -- no words are read of the type
 abbrev pub HasNoWords : RecordType → Type 0
-HasNoWords t = is_refused (reading_of (None) t)
+HasNoWords t = IsRefusedReading (reading_of (None) t)
 
 -- the words give the value, of this type
 abbrev pub AreDataWords : Option DomainName → RecordType → RData → List (List ℕ) → Type 0
-AreDataWords origin t v words = give_by t (reading_of origin t) v words
+AreDataWords origin t v words = GiveBy t (reading_of origin t) v words
 
 module _ {S I : Type 0} (gives : I → Option S → I → Type 0) (text : S → List ℕ) where
   pub record TookDataWords (origin : Option DomainName) (t : RecordType) (v : RData) (s : I) : Type 0 where

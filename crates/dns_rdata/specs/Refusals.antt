@@ -5,16 +5,16 @@ use Rattle.dns_types.specs.declared.error.DecodeError.TheVariants as decode
 use Rattle.dns_types.specs.declared.record_type.RecordType.{RecordType}
 use Rattle.dns_types.specs.RecordTypes.{number_of}
 use Rattle.dns_names_wire.specs.State.{Reading}
-use Rattle.dns_rdata.specs.Data.{Row, row, unread, rowless, row_of, short_refusal, IsNeverRead}
+use Rattle.dns_rdata.specs.Data.{Row, row, unread, rowless, row_of, IsShortRefusal, IsNeverRead}
 
 -- the refusals of the record itself, under the length n, with their cause
-abbrev pub own_refusal : RecordType → Row → ℕ → Reading → Reading → DecodeError → Type 0
-own_refusal t (row kinds asked refusal) n old new e = refusal n old e new
-own_refusal t unread n old new e = e ≡ decode.UnknownRecordTypeValue (number_of t)
-own_refusal t rowless n old new e = short_refusal n old e new
+abbrev pub IsOwnRefusal : RecordType → Row → ℕ → Reading → Reading → DecodeError → Type 0
+IsOwnRefusal t (row kinds asked refusal) n old new e = refusal n old e new
+IsOwnRefusal t unread n old new e = e ≡ decode.UnknownRecordTypeValue (number_of t)
+IsOwnRefusal t rowless n old new e = IsShortRefusal n old e new
 
 abbrev pub OwnRefusal : RecordType → ℕ → Reading → Reading → DecodeError → Type 0
-OwnRefusal t n old new e = own_refusal t (row_of t) n old new e
+OwnRefusal t n old new e = IsOwnRefusal t (row_of t) n old new e
 
 -- A refusal to read n octets: for memory; of a type that is never read, with its number; because other than n octets
 -- were taken, with both numbers; or by the record itself, where just n were taken.

@@ -18,8 +18,8 @@ use Rattle.dns_names_wire.proofs.WindowReads.{Given}
 use Rattle.dns_names_wire.proofs.Strings.{at_front, at_rest, at_then}
 use Rattle.dns_rdata_base.specs.TXT.{txt_shape, LacksString}
 
-abbrev pub any_strings : Values txt_shape → Type 0
-any_strings vs = Unit {0}
+abbrev pub AnyStrings : Values txt_shape → Type 0
+AnyStrings vs = Unit {0}
 
 -- what a loop has read of the strings up to the end, and what is left of any way to fill it
 pub record ReadsOn (old : Reading) (end : ℕ) (strings : List (List ℕ)) (d : Reading) : Type 0 where
@@ -107,7 +107,7 @@ taken r = record { message = r.message; field = r.took }
 
 -- a string is refused on the way
 pub reads_none : {e : DecodeError} {old d b : Reading} {end : ℕ} {xs : List (List ℕ)} (n : ℕ) → end ≡ old.index + n → d.index < end → ReadsOn old end xs d
-    → RefusedField e d Text b → RefusedWindow e old n txt_shape any_strings b
+    → RefusedField e d Text b → RefusedWindow e old n txt_shape AnyStrings b
 reads_none {e} {old} {d} {b} {end} {xs} n is lt r f = record {
   behind = record { message = f.behind.message ∙ r.message; index = omega (arith, r.behind, f.behind.index) };
   none = unless_map e _ _ (λ (l : LacksField d Text). record {
@@ -125,17 +125,17 @@ pub reads_lacking : {old d b : Reading} {end : ℕ} {xs : List (List ℕ)} (n : 
 reads_lacking {old} {d} {b} {end} {xs} n is lt r l = record { strings = xs; between = d; took = taken r; before = omega (arith, is, lt); lacks = l }
 
 -- memory runs out before a string
-pub reads_stopped : {old d : Reading} {end : ℕ} {xs : List (List ℕ)} (n : ℕ) → ReadsOn old end xs d → RefusedWindow decode.Memory old n txt_shape any_strings d
+pub reads_stopped : {old d : Reading} {end : ℕ} {xs : List (List ℕ)} (n : ℕ) → ReadsOn old end xs d → RefusedWindow decode.Memory old n txt_shape AnyStrings d
 reads_stopped {old} {d} n r = record { behind = record { message = r.message; index = r.behind }; none = tt }
 
 -- or behind one
 pub reads_stopped_behind : {old d b : Reading} {end : ℕ} {xs : List (List ℕ)} {s : List ℕ} (n : ℕ) → ReadsOn old end xs d → TookField d Text s b
-    → RefusedWindow decode.Memory old n txt_shape any_strings b
+    → RefusedWindow decode.Memory old n txt_shape AnyStrings b
 reads_stopped_behind {old} {d} {b} n r f = record { behind = record { message = f.message ∙ r.message; index = omega (arith, r.behind, longer f) }; none = tt }
 
 -- or the end is reached
 pub reads_done : {old d : Reading} {end : ℕ} {xs : List (List ℕ)} (n : ℕ) → Given old n → end ≡ old.index + n → end ≤ d.index → ReadsOn old end xs d
-    → TookWindow old n txt_shape any_strings (xs, tt) d
+    → TookWindow old n txt_shape AnyStrings (xs, tt) d
 reads_done {old} {d} {end} {xs} n g is le r = record {
   behind = record { message = r.message; index = r.behind };
   here = λ same.

@@ -22,8 +22,8 @@ abbrev pub a_text : A → List ℕ
 a_text x = ipv4_text (ipv4_octets x.0)
 
 -- Why an address is refused: fewer than its octets are left. They are taken.
-abbrev pub a_refusal : Reading → DecodeError → Reading → Type 0
-a_refusal old e new = (e ≡ decode.InsufficientBytes) × LacksOctets old 4 × (new.index ≡ length old.message)
+abbrev pub IsARefusal : Reading → DecodeError → Reading → Type 0
+IsARefusal old e new = (e ≡ decode.InsufficientBytes) × LacksOctets old 4 × (new.index ≡ length old.message)
 
 abbrev pub a_facts : Facts A
-a_facts = ending a_shape (λ _. Unit {0}) a_fields a_refusal
+a_facts = ending a_shape (λ _. Unit {0}) a_fields IsARefusal

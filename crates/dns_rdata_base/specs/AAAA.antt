@@ -22,8 +22,8 @@ abbrev pub aaaa_text : AAAA → List ℕ
 aaaa_text x = ipv6_text (ipv6_segments x.0)
 
 -- Why an address is refused: fewer than its octets are left. Whole pairs of them are taken.
-abbrev pub aaaa_refusal : Reading → DecodeError → Reading → Type 0
-aaaa_refusal old e new = (e ≡ decode.InsufficientBytes) × LacksOctets old 16 × (new.index ≡ old.index + (length old.message - old.index) / 2 * 2)
+abbrev pub IsAaaaRefusal : Reading → DecodeError → Reading → Type 0
+IsAaaaRefusal old e new = (e ≡ decode.InsufficientBytes) × LacksOctets old 16 × (new.index ≡ old.index + (length old.message - old.index) / 2 * 2)
 
 abbrev pub aaaa_facts : Facts AAAA
-aaaa_facts = ending aaaa_shape (λ _. Unit {0}) aaaa_fields aaaa_refusal
+aaaa_facts = ending aaaa_shape (λ _. Unit {0}) aaaa_fields IsAaaaRefusal

@@ -24,8 +24,8 @@ hinfo_text x = lossy x.cpu ++ codes " " ++ lossy x.os
 abbrev pub LacksTwoTexts : Reading → Reading → Type 0
 LacksTwoTexts old new = LacksText old new ⊎ ((cpu : List ℕ) × (between : Reading) × TookField old Text cpu between × LacksText between new)
 
-abbrev pub hinfo_refusal : Reading → DecodeError → Reading → Type 0
-hinfo_refusal old e new = (e ≡ decode.Memory) ⊎ ((e ≡ decode.InsufficientBytes) × LacksTwoTexts old new)
+abbrev pub IsHinfoRefusal : Reading → DecodeError → Reading → Type 0
+IsHinfoRefusal old e new = (e ≡ decode.Memory) ⊎ ((e ≡ decode.InsufficientBytes) × LacksTwoTexts old new)
 
 abbrev pub hinfo_facts : Facts HINFO
-hinfo_facts = ending hinfo_shape (λ _. Unit {0}) hinfo_fields hinfo_refusal
+hinfo_facts = ending hinfo_shape (λ _. Unit {0}) hinfo_fields IsHinfoRefusal

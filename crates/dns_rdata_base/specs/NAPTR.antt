@@ -39,8 +39,8 @@ abbrev pub AreFlags : List ℕ → Type 0
 AreFlags flags = IsTrue (list_all is_ascii_alphanumeric flags)
 
 -- the flags are digits and letters
-abbrev pub naptr_condition : Values naptr_shape → Type 0
-naptr_condition vs = AreFlags vs.1.1.0
+abbrev pub MeetsNaptrCondition : Values naptr_shape → Type 0
+MeetsNaptrCondition vs = AreFlags vs.1.1.0
 
 -- the flags, behind order and preference, have another octet
 pub record BadFlags (old : Reading) (e : DecodeError) (new : Reading) : Type 0 where
@@ -51,11 +51,11 @@ pub record BadFlags (old : Reading) (e : DecodeError) (new : Reading) : Type 0 w
   pub took : Took old (Number 2 ∷ Number 2 ∷ Text ∷ []) (order, (preference, (flags, tt))) new
   pub bad : AreFlags flags → ⊥
 
-abbrev pub naptr_refusal : Reading → DecodeError → Reading → Type 0
-naptr_refusal old e new = IsLack naptr_shape old e new ⊎ BadFlags old e new
+abbrev pub IsNaptrRefusal : Reading → DecodeError → Reading → Type 0
+IsNaptrRefusal old e new = IsLack naptr_shape old e new ⊎ BadFlags old e new
 
 abbrev pub naptr_facts : Facts NAPTR
-naptr_facts = ending naptr_shape naptr_condition naptr_fields naptr_refusal
+naptr_facts = ending naptr_shape MeetsNaptrCondition naptr_fields IsNaptrRefusal
 
 -- the fields, a blank between, the strings in quotes
 abbrev pub naptr_text : NAPTR → List ℕ

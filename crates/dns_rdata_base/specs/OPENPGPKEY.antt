@@ -20,8 +20,8 @@ openpgpkey_fields x = (x.public_key, tt)
 abbrev pub openpgpkey_text : OPENPGPKEY → List ℕ
 openpgpkey_text x = encode_of standard x.public_key
 
-abbrev pub openpgpkey_refusal : ℕ → Reading → DecodeError → Reading → Type 0
-openpgpkey_refusal = null_refusal
+abbrev pub IsOpenpgpkeyRefusal : ℕ → Reading → DecodeError → Reading → Type 0
+IsOpenpgpkeyRefusal = null_refusal
 
 abbrev pub openpgpkey_facts : Facts OPENPGPKEY
-openpgpkey_facts = filling openpgpkey_shape (λ _. Unit {0}) openpgpkey_fields openpgpkey_refusal (λ _. Unit {0})
+openpgpkey_facts = filling openpgpkey_shape (λ _. Unit {0}) openpgpkey_fields IsOpenpgpkeyRefusal (λ _. Unit {0})

@@ -29,8 +29,8 @@ pub record LacksString (n : ℕ) (old new : Reading) : Type 0 where
   pub before : between.index < old.index + n
   pub lacks : LacksText between new
 
-abbrev pub txt_refusal : ℕ → Reading → DecodeError → Reading → Type 0
-txt_refusal n old e new = (e ≡ decode.Memory) ⊎ ((e ≡ decode.InsufficientBytes) × LacksString n old new)
+abbrev pub IsTxtRefusal : ℕ → Reading → DecodeError → Reading → Type 0
+IsTxtRefusal n old e new = (e ≡ decode.Memory) ⊎ ((e ≡ decode.InsufficientBytes) × LacksString n old new)
 
 -- the strings that were taken reach the length, or pass it
 abbrev pub txt_facts : Facts TXT
@@ -38,6 +38,6 @@ txt_facts = record {
   kinds = txt_shape;
   condition = λ _. Unit {0};
   fields = txt_fields;
-  refusal = txt_refusal;
+  refusal = IsTxtRefusal;
   made = λ n x old new. TookField old Texts x.txt_data new × (old.index + n ≤ new.index);
 }

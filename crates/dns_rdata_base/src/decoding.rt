@@ -2,7 +2,7 @@
 
 ghost use Rattle.std.specs.Prelude.{ℕ, IfOk, IfErr};
 ghost use Rattle.dns_names_wire.specs.Words.{ReadsIf, ReadsBy, ReadsWindow, IsLong, AllEnd};
-ghost use Rattle.dns_pieces.specs.Facts.{record_stands, record_refuses};
+ghost use Rattle.dns_pieces.specs.Facts.{RecordStands, RecordRefuses};
 
 use crate::traits::RecordDataDecodable;
 use dns_names_wire::{BinDecoder, DecodeError, Restrict};
@@ -40,8 +40,8 @@ impl<T: DecodesFields> RecordDataDecodable for T {
 /// Reads the fields, as the record's own `read`.
 #[inline(always)]
 pub fn read_record<T: DecodesFields>(decoder: &mut BinDecoder<'_>) -> Result<T, DecodeError>
-    ensures reads { ReadsBy (record_stands T.facts) result decoder.old decoder.new }
-    ensures why { IfErr result (λ e. record_refuses T.facts decoder.old e decoder.new) }
+    ensures reads { ReadsBy (RecordStands T.facts) result decoder.old decoder.new }
+    ensures why { IfErr result (λ e. RecordRefuses T.facts decoder.old e decoder.new) }
     ensures made { IfOk result (λ x. (n : ℕ) → T.facts.made n x decoder.old decoder.new) }
 {
     T::read_fields(decoder)

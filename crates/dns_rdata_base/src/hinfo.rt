@@ -4,7 +4,7 @@ ghost use Rattle.std.specs.Prelude.{◌≡◌, Some};
 ghost use Rattle.std.specs.Box.{boxed_slice_items};
 ghost use Rattle.std.specs.String.{string_bytes};
 ghost use Rattle.dns_names_wire.specs.Words.{Emits};
-ghost use Rattle.dns_pieces.specs.Facts.{record_refuses, record_stands, same, same_equiv, same_partial};
+ghost use Rattle.dns_pieces.specs.Facts.{RecordRefuses, RecordStands, same, same_equiv, same_partial};
 ghost use Rattle.dns_rdata_base.specs.HINFO.{hinfo_shape, hinfo_fields, hinfo_facts, hinfo_text};
 
 use crate::decoding::{DecodesFields, read_record};
@@ -68,9 +68,9 @@ impl DecodesFields for HINFO {
 }
 
 impl BinDecodable for HINFO {
-    ghost stands = { record_stands hinfo_facts };
+    ghost stands = { RecordStands hinfo_facts };
 
-    ghost refuses = { record_refuses hinfo_facts };
+    ghost refuses = { RecordRefuses hinfo_facts };
 
     /// Reads two character strings. Where one lacks octets it is refused by
     /// [`InsufficientBytes`](DecodeError::InsufficientBytes): the strings before it, and its length octet where that is

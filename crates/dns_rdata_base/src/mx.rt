@@ -2,7 +2,7 @@
 
 ghost use Rattle.std.specs.Prelude.{◌≡◌, Some};
 ghost use Rattle.dns_fields.specs.declared.RDataEncoding.TheVariants as modes;
-ghost use Rattle.dns_pieces.specs.Facts.{record_emits, record_refuses, record_stands, same, same_equiv, same_partial};
+ghost use Rattle.dns_pieces.specs.Facts.{RecordEmits, RecordRefuses, RecordStands, same, same_equiv, same_partial};
 ghost use Rattle.dns_rdata_base.specs.MX.{mx_shape, mx_fields, mx_facts, mx_text};
 
 use crate::decoding::{DecodesFields, read_record};
@@ -53,9 +53,9 @@ impl DecodesFields for MX {
 }
 
 impl BinDecodable for MX {
-    ghost stands = { record_stands mx_facts };
+    ghost stands = { RecordStands mx_facts };
 
-    ghost refuses = { record_refuses mx_facts };
+    ghost refuses = { RecordRefuses mx_facts };
 
     /// Reads the fields in order. Where one does not stand it is refused, and those before it are taken: by
     /// [`InsufficientBytes`](DecodeError::InsufficientBytes) where a number lacks octets,
@@ -77,7 +77,7 @@ impl EncodesFields for MX {
 }
 
 impl BinEncodable for MX {
-    ghost emits = { record_emits modes.StandardRecord mx_facts };
+    ghost emits = { RecordEmits modes.StandardRecord mx_facts };
 
     /// Appends the octets; a name ends with a pointer to an earlier place where it can (RFC 1035, 4.1.4). It is refused
     /// by [`MaxBufferSizeExceeded`](ProtoError::MaxBufferSizeExceeded) or [`Memory`](ProtoError::Memory) alone. The

@@ -2,7 +2,7 @@
 
 ghost use Rattle.std.specs.Prelude.{◌≡◌, Some};
 ghost use Rattle.dns_fields.specs.declared.RDataEncoding.TheVariants as modes;
-ghost use Rattle.dns_pieces.specs.Facts.{record_emits, record_refuses, record_stands, same, same_equiv, same_partial};
+ghost use Rattle.dns_pieces.specs.Facts.{RecordEmits, RecordRefuses, RecordStands, same, same_equiv, same_partial};
 ghost use Rattle.dns_rdata_base.specs.NameRecords.{name_shape, cname_fields, cname_facts, ns_fields, ns_facts, ptr_fields, ptr_facts, aname_fields, aname_facts, cname_text, ns_text, ptr_text, aname_text};
 
 use crate::decoding::{DecodesFields, read_record};
@@ -32,9 +32,9 @@ impl DecodesFields for CNAME {
 }
 
 impl BinDecodable for CNAME {
-    ghost stands = { record_stands cname_facts };
+    ghost stands = { RecordStands cname_facts };
 
-    ghost refuses = { record_refuses cname_facts };
+    ghost refuses = { RecordRefuses cname_facts };
 
     /// Reads the name. Where none stands it is refused by [`NameInvalid`](DecodeError::NameInvalid), where memory runs
     /// out by [`Memory`](DecodeError::Memory); the place is then as it was.
@@ -52,7 +52,7 @@ impl EncodesFields for CNAME {
 }
 
 impl BinEncodable for CNAME {
-    ghost emits = { record_emits modes.StandardRecord cname_facts };
+    ghost emits = { RecordEmits modes.StandardRecord cname_facts };
 
     /// Appends the octets; a name ends with a pointer to an earlier place where it can (RFC 1035, 4.1.4). It is refused
     /// by [`MaxBufferSizeExceeded`](ProtoError::MaxBufferSizeExceeded) or [`Memory`](ProtoError::Memory) alone. The
@@ -114,9 +114,9 @@ impl DecodesFields for NS {
 }
 
 impl BinDecodable for NS {
-    ghost stands = { record_stands ns_facts };
+    ghost stands = { RecordStands ns_facts };
 
-    ghost refuses = { record_refuses ns_facts };
+    ghost refuses = { RecordRefuses ns_facts };
 
     /// Reads the name. Where none stands it is refused by [`NameInvalid`](DecodeError::NameInvalid), where memory runs
     /// out by [`Memory`](DecodeError::Memory); the place is then as it was.
@@ -134,7 +134,7 @@ impl EncodesFields for NS {
 }
 
 impl BinEncodable for NS {
-    ghost emits = { record_emits modes.StandardRecord ns_facts };
+    ghost emits = { RecordEmits modes.StandardRecord ns_facts };
 
     /// Appends the octets; a name ends with a pointer to an earlier place where it can (RFC 1035, 4.1.4). It is refused
     /// by [`MaxBufferSizeExceeded`](ProtoError::MaxBufferSizeExceeded) or [`Memory`](ProtoError::Memory) alone. The
@@ -196,9 +196,9 @@ impl DecodesFields for PTR {
 }
 
 impl BinDecodable for PTR {
-    ghost stands = { record_stands ptr_facts };
+    ghost stands = { RecordStands ptr_facts };
 
-    ghost refuses = { record_refuses ptr_facts };
+    ghost refuses = { RecordRefuses ptr_facts };
 
     /// Reads the name. Where none stands it is refused by [`NameInvalid`](DecodeError::NameInvalid), where memory runs
     /// out by [`Memory`](DecodeError::Memory); the place is then as it was.
@@ -216,7 +216,7 @@ impl EncodesFields for PTR {
 }
 
 impl BinEncodable for PTR {
-    ghost emits = { record_emits modes.StandardRecord ptr_facts };
+    ghost emits = { RecordEmits modes.StandardRecord ptr_facts };
 
     /// Appends the octets; a name ends with a pointer to an earlier place where it can (RFC 1035, 4.1.4). It is refused
     /// by [`MaxBufferSizeExceeded`](ProtoError::MaxBufferSizeExceeded) or [`Memory`](ProtoError::Memory) alone. The
@@ -278,9 +278,9 @@ impl DecodesFields for ANAME {
 }
 
 impl BinDecodable for ANAME {
-    ghost stands = { record_stands aname_facts };
+    ghost stands = { RecordStands aname_facts };
 
-    ghost refuses = { record_refuses aname_facts };
+    ghost refuses = { RecordRefuses aname_facts };
 
     /// Reads the name. Where none stands it is refused by [`NameInvalid`](DecodeError::NameInvalid), where memory runs
     /// out by [`Memory`](DecodeError::Memory); the place is then as it was.
@@ -298,7 +298,7 @@ impl EncodesFields for ANAME {
 }
 
 impl BinEncodable for ANAME {
-    ghost emits = { record_emits modes.Other aname_facts };
+    ghost emits = { RecordEmits modes.Other aname_facts };
 
     /// Appends the octets, the name whole, its letters kept. It is refused by
     /// [`MaxBufferSizeExceeded`](ProtoError::MaxBufferSizeExceeded) or [`Memory`](ProtoError::Memory) alone. The

@@ -6,7 +6,7 @@ ghost use Rattle.std.specs.Char.{is_ascii_alphanumeric};
 ghost use Rattle.std.specs.List.{list_all};
 ghost use Rattle.dns_fields.specs.declared.RDataEncoding.TheVariants as modes;
 ghost use Rattle.dns_names_wire.specs.Words.{Emits};
-ghost use Rattle.dns_pieces.specs.Facts.{record_emits, record_refuses, record_stands, same, same_equiv, same_partial};
+ghost use Rattle.dns_pieces.specs.Facts.{RecordEmits, RecordRefuses, RecordStands, same, same_equiv, same_partial};
 ghost use Rattle.dns_rdata_base.specs.NAPTR.{naptr_numbers_shape, naptr_numbers, naptr_rest_shape, naptr_rest, naptr_shape, naptr_fields, naptr_facts, naptr_text};
 
 use crate::decoding::{DecodesFields, read_record};
@@ -109,9 +109,9 @@ impl DecodesFields for NAPTR {
 }
 
 impl BinDecodable for NAPTR {
-    ghost stands = { record_stands naptr_facts };
+    ghost stands = { RecordStands naptr_facts };
 
-    ghost refuses = { record_refuses naptr_facts };
+    ghost refuses = { RecordRefuses naptr_facts };
 
     /// Reads the fields in order. The flags are tested as soon as they are taken: where an octet of theirs is no letter
     /// and no digit it is refused by [`NaptrFlagsInvalid`](DecodeError::NaptrFlagsInvalid). Where a field does not
@@ -156,7 +156,7 @@ impl EncodesFields for NAPTR {
 }
 
 impl BinEncodable for NAPTR {
-    ghost emits = { record_emits modes.Canonical naptr_facts };
+    ghost emits = { RecordEmits modes.Canonical naptr_facts };
 
     /// Appends the octets, the name whole, its letters kept. A string of more than 255 octets is refused by
     /// [`Message`](ProtoError::Message); what comes before it may then stand behind the start. The encoder is then in

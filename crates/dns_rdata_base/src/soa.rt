@@ -4,7 +4,7 @@ ghost use Rattle.std.specs.Prelude.{◌≡◌, ◌+◌, ◌++◌, ◌%◌, IfErr
 ghost use Rattle.std.specs.Int.{bytes_high_first};
 ghost use Rattle.dns_fields.specs.declared.RDataEncoding.TheVariants as modes;
 ghost use Rattle.dns_names_wire.specs.Words.{ReadsIf, ReadsBy, Emits, always};
-ghost use Rattle.dns_pieces.specs.Facts.{record_emits, record_refuses, record_stands, same, same_equiv, same_partial};
+ghost use Rattle.dns_pieces.specs.Facts.{RecordEmits, RecordRefuses, RecordStands, same, same_equiv, same_partial};
 ghost use Rattle.dns_rdata_base.specs.Refusing.{IsLack};
 ghost use Rattle.dns_rdata_base.specs.SOA.{soa_shape, soa_fields, soa_facts, soa_numbers_shape, soa_numbers, soa_numbers_of, HasSeconds, soa_text};
 
@@ -152,9 +152,9 @@ impl DecodesFields for SOA {
 }
 
 impl BinDecodable for SOA {
-    ghost stands = { record_stands soa_facts };
+    ghost stands = { RecordStands soa_facts };
 
-    ghost refuses = { record_refuses soa_facts };
+    ghost refuses = { RecordRefuses soa_facts };
 
     /// Reads the fields in order. Where one does not stand it is refused, and those before it are taken: by
     /// [`InsufficientBytes`](DecodeError::InsufficientBytes) where a number lacks octets,
@@ -162,8 +162,8 @@ impl BinDecodable for SOA {
     /// runs out.
     #[inline]
     fn read(decoder: &mut BinDecoder<'_>) -> Result<SOA, DecodeError>
-        ensures reads { ReadsBy (record_stands soa_facts) result decoder.old decoder.new }
-        ensures why { IfErr result (λ e. record_refuses soa_facts decoder.old e decoder.new) }
+        ensures reads { ReadsBy (RecordStands soa_facts) result decoder.old decoder.new }
+        ensures why { IfErr result (λ e. RecordRefuses soa_facts decoder.old e decoder.new) }
         ensures seconds { IfOk result HasSeconds }
     {
         read_record(decoder)
@@ -180,7 +180,7 @@ impl EncodesFields for SOA {
 }
 
 impl BinEncodable for SOA {
-    ghost emits = { record_emits modes.StandardRecord soa_facts };
+    ghost emits = { RecordEmits modes.StandardRecord soa_facts };
 
     /// Appends the octets; a name ends with a pointer to an earlier place where it can (RFC 1035, 4.1.4). It is refused
     /// by [`MaxBufferSizeExceeded`](ProtoError::MaxBufferSizeExceeded) or [`Memory`](ProtoError::Memory) alone. The

@@ -3,7 +3,7 @@
 ghost use Rattle.std.specs.Prelude.{◌≡◌, Some};
 ghost use Rattle.dns_fields.specs.declared.RDataEncoding.TheVariants as modes;
 ghost use Rattle.dns_names_wire.specs.Words.{Emits};
-ghost use Rattle.dns_pieces.specs.Facts.{record_emits, record_refuses, record_stands, same, same_equiv, same_partial};
+ghost use Rattle.dns_pieces.specs.Facts.{RecordEmits, RecordRefuses, RecordStands, same, same_equiv, same_partial};
 ghost use Rattle.dns_rdata_base.specs.SRV.{srv_numbers_shape, srv_numbers, srv_shape, srv_fields, srv_facts, srv_text};
 
 use crate::decoding::{DecodesFields, read_record};
@@ -64,9 +64,9 @@ impl DecodesFields for SRV {
 }
 
 impl BinDecodable for SRV {
-    ghost stands = { record_stands srv_facts };
+    ghost stands = { RecordStands srv_facts };
 
-    ghost refuses = { record_refuses srv_facts };
+    ghost refuses = { RecordRefuses srv_facts };
 
     /// Reads the fields in order. Where one does not stand it is refused, and those before it are taken: by
     /// [`InsufficientBytes`](DecodeError::InsufficientBytes) where a number lacks octets,
@@ -107,7 +107,7 @@ impl EncodesFields for SRV {
 }
 
 impl BinEncodable for SRV {
-    ghost emits = { record_emits modes.Canonical srv_facts };
+    ghost emits = { RecordEmits modes.Canonical srv_facts };
 
     /// Appends the octets, the name whole, its letters kept. It is refused by
     /// [`MaxBufferSizeExceeded`](ProtoError::MaxBufferSizeExceeded) or [`Memory`](ProtoError::Memory) alone. The

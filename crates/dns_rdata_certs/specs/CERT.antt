@@ -20,8 +20,8 @@ abbrev pub cert_fields : CERT → Values cert_shape
 cert_fields x = (cert_type_number x.cert_type, (x.key_tag, (cert_algorithm_number x.algorithm, (x.cert_data, tt))))
 
 -- the certificate has octets
-abbrev pub cert_condition : Values cert_shape → Type 0
-cert_condition vs = vs.1.1.1.0 ≢ []
+abbrev pub MeetsCertCondition : Values cert_shape → Type 0
+MeetsCertCondition vs = vs.1.1.1.0 ≢ []
 
 -- what is compared: of each enum the number and then the variant
 abbrev pub cert_key_shape : List Kind
@@ -87,20 +87,20 @@ pub record NoCertMemory (n : ℕ) (old : Reading) (e : DecodeError) (new : Readi
   pub long : 5 < n
   pub index : new.index ≡ old.index + 5
 
-abbrev pub cert_refusal : ℕ → Reading → DecodeError → Reading → Type 0
-cert_refusal n old e new = ShortCert n old e new ⊎ (CutCertFields n old e new ⊎ (CutCert n old e new ⊎ NoCertMemory n old e new))
+abbrev pub IsCertRefusal : ℕ → Reading → DecodeError → Reading → Type 0
+IsCertRefusal n old e new = ShortCert n old e new ⊎ (CutCertFields n old e new ⊎ (CutCert n old e new ⊎ NoCertMemory n old e new))
 
 -- the octets are a whole certificate record, and are refused where they are none
 abbrev pub ReadsWholeCert : List ℕ → Result CERT DecodeError → Type 0
-ReadsWholeCert octets (Ok x) = Window octets 0 (length octets) cert_shape cert_condition (cert_fields x)
-ReadsWholeCert octets (Err e) = UnlessMemory e (NoWindow octets 0 (length octets) cert_shape cert_condition)
+ReadsWholeCert octets (Ok x) = Window octets 0 (length octets) cert_shape MeetsCertCondition (cert_fields x)
+ReadsWholeCert octets (Err e) = UnlessMemory e (NoWindow octets 0 (length octets) cert_shape MeetsCertCondition)
 
 -- of n octets: too few, or more than a record has
-abbrev pub whole_cert_refusal : ℕ → DecodeError → Type 0
-whole_cert_refusal n e =
+abbrev pub IsWholeCertRefusal : ℕ → DecodeError → Type 0
+IsWholeCertRefusal n e =
     ((n ≤ 5) × (e ≡ decode.IncorrectRDataLengthRead n 6))
     ⊎ (((65535 < n) × (e ≡ decode.IncorrectRDataLengthRead n 65535))
     ⊎ ((5 < n) × (n ≤ 65535) × (e ≡ decode.Memory)))
 
 abbrev pub cert_facts : Facts CERT
-cert_facts = filling cert_shape cert_condition cert_fields cert_refusal IsReadCert
+cert_facts = filling cert_shape MeetsCertCondition cert_fields IsCertRefusal IsReadCert

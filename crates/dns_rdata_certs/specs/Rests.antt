@@ -31,5 +31,5 @@ pub record NoMemory (f n : ℕ) (old : Reading) (e : DecodeError) (new : Reading
   pub index : new.index ≡ old.index + f
 
 -- a record of f fixed octets and a rest, of n octets
-abbrev pub rest_refusal : ℕ → ℕ → Reading → DecodeError → Reading → Type 0
-rest_refusal f n old e new = CutFields f old e new ⊎ (PassedLength f n old e new ⊎ (CutRest f n old e new ⊎ NoMemory f n old e new))
+abbrev pub IsRestRefusal : ℕ → ℕ → Reading → DecodeError → Reading → Type 0
+IsRestRefusal f n old e new = CutFields f old e new ⊎ (PassedLength f n old e new ⊎ (CutRest f n old e new ⊎ NoMemory f n old e new))

@@ -4,7 +4,7 @@ use Rattle.dns_types.specs.declared.error.DecodeError.{DecodeError}
 use Rattle.dns_fields.specs.Fields.{Kind, Values}
 use Rattle.dns_names_wire.specs.State.{Reading}
 use Rattle.dns_pieces.specs.Facts.{Facts, filling}
-use Rattle.dns_rdata_certs.specs.TLSA.{tlsa_shape, tlsa_fields, tlsa_key_shape, tlsa_keys, IsReadTlsa, tlsa_text, tlsa_refusal}
+use Rattle.dns_rdata_certs.specs.TLSA.{tlsa_shape, tlsa_fields, tlsa_key_shape, tlsa_keys, IsReadTlsa, tlsa_text, IsTlsaRefusal}
 use Rattle.dns_rdata_certs.specs.declared.smimea.SMIMEA.{SMIMEA}
 
 abbrev pub smimea_shape : List Kind
@@ -25,8 +25,8 @@ IsReadSmimea x = IsReadTlsa x.0
 abbrev pub smimea_text : SMIMEA → List ℕ
 smimea_text x = tlsa_text x.0
 
-abbrev pub smimea_refusal : ℕ → Reading → DecodeError → Reading → Type 0
-smimea_refusal n old e new = tlsa_refusal n old e new
+abbrev pub IsSmimeaRefusal : ℕ → Reading → DecodeError → Reading → Type 0
+IsSmimeaRefusal n old e new = IsTlsaRefusal n old e new
 
 abbrev pub smimea_facts : Facts SMIMEA
-smimea_facts = filling smimea_shape (λ _. Unit {0}) smimea_fields smimea_refusal IsReadSmimea
+smimea_facts = filling smimea_shape (λ _. Unit {0}) smimea_fields IsSmimeaRefusal IsReadSmimea

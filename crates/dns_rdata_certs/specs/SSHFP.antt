@@ -7,7 +7,7 @@ use Rattle.dns_names_wire.specs.State.{Reading}
 use Rattle.dns_pieces.specs.Facts.{Facts, filling}
 use Rattle.dns_rdata_certs.specs.SshfpAlgorithm.{sshfp_algorithm_number, sshfp_algorithm_variant, sshfp_algorithm_of}
 use Rattle.dns_rdata_certs.specs.FingerprintType.{fingerprint_type_number, fingerprint_type_variant, fingerprint_type_of}
-use Rattle.dns_rdata_certs.specs.Rests.{rest_refusal}
+use Rattle.dns_rdata_certs.specs.Rests.{IsRestRefusal}
 use Rattle.dns_rdata_certs.specs.declared.sshfp.SSHFP.{SSHFP}
 
 -- algorithm, fingerprint type, fingerprint
@@ -47,8 +47,8 @@ sshfp_text x = decimal (sshfp_algorithm_number x.algorithm) ++ codes " " ++ deci
     ++ encode_lower x.fingerprint
 
 -- two octets of fixed fields
-abbrev pub sshfp_refusal : ℕ → Reading → DecodeError → Reading → Type 0
-sshfp_refusal n old e new = rest_refusal 2 n old e new
+abbrev pub IsSshfpRefusal : ℕ → Reading → DecodeError → Reading → Type 0
+IsSshfpRefusal n old e new = IsRestRefusal 2 n old e new
 
 abbrev pub sshfp_facts : Facts SSHFP
-sshfp_facts = filling sshfp_shape (λ _. Unit {0}) sshfp_fields sshfp_refusal IsReadSshfp
+sshfp_facts = filling sshfp_shape (λ _. Unit {0}) sshfp_fields IsSshfpRefusal IsReadSshfp

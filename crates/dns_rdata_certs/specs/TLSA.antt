@@ -8,7 +8,7 @@ use Rattle.dns_pieces.specs.Facts.{Facts, filling}
 use Rattle.dns_rdata_certs.specs.CertUsage.{cert_usage_number, cert_usage_variant, cert_usage_of}
 use Rattle.dns_rdata_certs.specs.Selector.{selector_number, selector_variant, selector_of}
 use Rattle.dns_rdata_certs.specs.Matching.{matching_number, matching_variant, matching_of}
-use Rattle.dns_rdata_certs.specs.Rests.{rest_refusal}
+use Rattle.dns_rdata_certs.specs.Rests.{IsRestRefusal}
 use Rattle.dns_rdata_certs.specs.declared.tlsa.TLSA.{TLSA}
 
 -- usage, selector, matching type, data
@@ -55,8 +55,8 @@ tlsa_text x = decimal (cert_usage_number x.cert_usage) ++ codes " " ++ decimal (
     ++ decimal (matching_number x.matching) ++ codes " " ++ encode_lower x.cert_data
 
 -- three octets of fixed fields
-abbrev pub tlsa_refusal : ℕ → Reading → DecodeError → Reading → Type 0
-tlsa_refusal n old e new = rest_refusal 3 n old e new
+abbrev pub IsTlsaRefusal : ℕ → Reading → DecodeError → Reading → Type 0
+IsTlsaRefusal n old e new = IsRestRefusal 3 n old e new
 
 abbrev pub tlsa_facts : Facts TLSA
-tlsa_facts = filling tlsa_shape (λ _. Unit {0}) tlsa_fields tlsa_refusal IsReadTlsa
+tlsa_facts = filling tlsa_shape (λ _. Unit {0}) tlsa_fields IsTlsaRefusal IsReadTlsa

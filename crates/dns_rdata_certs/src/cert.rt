@@ -4,8 +4,8 @@ ghost use Rattle.std.specs.Prelude.{◌≡◌, length as list_length, IfErr, IfO
 ghost use Rattle.std.specs.String.{string_bytes};
 ghost use Rattle.dns_names_wire.specs.Words.{ReadsTo, Emits};
 ghost use Rattle.dns_pieces.specs.Facts.{same, same_equiv, same_partial};
-ghost use Rattle.dns_rdata_certs.specs.CERT.{cert_shape, cert_fields, cert_facts, cert_condition, cert_key_shape, cert_keys, IsReadCert, cert_text};
-ghost use Rattle.dns_rdata_certs.specs.CERT.{cert_data_text, cert_refusal, ReadsWholeCert, whole_cert_refusal};
+ghost use Rattle.dns_rdata_certs.specs.CERT.{cert_shape, cert_fields, cert_facts, MeetsCertCondition, cert_key_shape, cert_keys, IsReadCert, cert_text};
+ghost use Rattle.dns_rdata_certs.specs.CERT.{cert_data_text, IsCertRefusal, ReadsWholeCert, IsWholeCertRefusal};
 
 mod algorithm;
 mod cert_type;
@@ -65,7 +65,7 @@ impl CERT {
     pub fn try_from(alloc: Global, octets: &[u8]) -> Result<CERT, DecodeError>
         ensures reads { ReadsWholeCert octets.now result }
         ensures enums { IfOk result IsReadCert }
-        ensures refused { IfErr result (λ e. whole_cert_refusal (list_length octets.now) e) }
+        ensures refused { IfErr result (λ e. IsWholeCertRefusal (list_length octets.now) e) }
     {
         let read = octets.len();
         if read > 65535 {
@@ -81,9 +81,9 @@ impl CERT {
     #[inline]
     #[tactic(auto, using(dns_names_wire::proofs::FieldReads::reading))]
     fn read_filled(decoder: &mut BinDecoder<'_>, length: Restrict<u16>) -> Result<CERT, DecodeError>
-        ensures fields { ReadsTo cert_shape cert_condition length cert_fields result decoder.old decoder.new }
+        ensures fields { ReadsTo cert_shape MeetsCertCondition length cert_fields result decoder.old decoder.new }
         ensures enums { IfOk result IsReadCert }
-        ensures refused { IfErr result (λ e. cert_refusal length decoder.old e decoder.new) }
+        ensures refused { IfErr result (λ e. IsCertRefusal length decoder.old e decoder.new) }
     {
         // Called for its clauses: the message is octets, and the place is in it.
         let _start = decoder.index();

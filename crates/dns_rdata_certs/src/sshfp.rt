@@ -3,7 +3,7 @@
 ghost use Rattle.std.specs.Prelude.{◌≡◌, IfErr, IfOk, Some};
 ghost use Rattle.dns_names_wire.specs.Words.{ReadsTo, Emits};
 ghost use Rattle.dns_pieces.specs.Facts.{same, same_equiv, same_partial};
-ghost use Rattle.dns_rdata_certs.specs.SSHFP.{sshfp_shape, sshfp_fields, sshfp_facts, sshfp_key_shape, sshfp_keys, IsReadSshfp, sshfp_refusal, sshfp_text};
+ghost use Rattle.dns_rdata_certs.specs.SSHFP.{sshfp_shape, sshfp_fields, sshfp_facts, sshfp_key_shape, sshfp_keys, IsReadSshfp, IsSshfpRefusal, sshfp_text};
 
 mod algorithm;
 mod fingerprint_type;
@@ -57,7 +57,7 @@ impl SSHFP {
     ) -> Result<SSHFP, DecodeError>
         ensures fields { ReadsTo sshfp_shape (λ _. Unit {0}) length sshfp_fields result decoder.old decoder.new }
         ensures enums { IfOk result IsReadSshfp }
-        ensures refused { IfErr result (λ e. sshfp_refusal length decoder.old e decoder.new) }
+        ensures refused { IfErr result (λ e. IsSshfpRefusal length decoder.old e decoder.new) }
     {
         let start = decoder.index();
         let algorithm = Algorithm::from(decoder.read_u8()?.unverified());

@@ -3,7 +3,7 @@
 ghost use Rattle.std.specs.Prelude.{◌≡◌, IfErr, IfOk, Some};
 ghost use Rattle.dns_names_wire.specs.Words.{ReadsTo, Emits};
 ghost use Rattle.dns_pieces.specs.Facts.{same, same_equiv, same_partial};
-ghost use Rattle.dns_rdata_certs.specs.TLSA.{tlsa_shape, tlsa_fields, tlsa_facts, tlsa_key_shape, tlsa_keys, IsReadTlsa, tlsa_refusal, tlsa_text};
+ghost use Rattle.dns_rdata_certs.specs.TLSA.{tlsa_shape, tlsa_fields, tlsa_facts, tlsa_key_shape, tlsa_keys, IsReadTlsa, IsTlsaRefusal, tlsa_text};
 
 mod cert_usage;
 mod matching;
@@ -61,7 +61,7 @@ impl TLSA {
     fn read_filled(decoder: &mut BinDecoder<'_>, length: Restrict<u16>) -> Result<TLSA, DecodeError>
         ensures fields { ReadsTo tlsa_shape (λ _. Unit {0}) length tlsa_fields result decoder.old decoder.new }
         ensures enums { IfOk result IsReadTlsa }
-        ensures refused { IfErr result (λ e. tlsa_refusal length decoder.old e decoder.new) }
+        ensures refused { IfErr result (λ e. IsTlsaRefusal length decoder.old e decoder.new) }
     {
         let start = decoder.index();
         let cert_usage = CertUsage::from(decoder.read_u8()?.unverified());

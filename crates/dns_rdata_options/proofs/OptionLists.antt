@@ -15,7 +15,7 @@ use Rattle.dns_names_wire.specs.State.{Reading}
 use Rattle.dns_names_wire.specs.Words.{TookField, LacksField, LacksOctets, StaysBehind}
 use Rattle.dns_names_wire.proofs.FieldReads.{stays, took_stays, took_then, took_last, took_number}
 use Rattle.dns_names_wire.proofs.Strings.{at_front, at_rest, at_then}
-use Rattle.dns_rdata_options.specs.OPT.{TookHead, piece_refusal}
+use Rattle.dns_rdata_options.specs.OPT.{TookHead, IsPieceRefusal}
 use Rattle.dns_rdata_options.specs.OptionReads.{Left, NoneLeft, TookPiece, TookCut, RefusedLeft, NoValue}
 
 -- ---- what begins the rest
@@ -171,7 +171,7 @@ lacks_two : {d : Reading} → LacksOctets d 2 → LacksField d (Number 2)
 lacks_two l = record { none = λ v q f. omega (arith, f.is.1.ends, f.is.1.within, length-bytes 2 v, l) }
 
 pub refused_code : {d new : Reading} {start n : ℕ} (e : DecodeError) → start ≤ d.index → d.index < start + n → e ≡ decode.InsufficientBytes
-    → LacksOctets d 2 → new ≡ d → RefusedLeft d n (start + n) new × piece_refusal start n d e new
+    → LacksOctets d 2 → new ≡ d → RefusedLeft d n (start + n) new × IsPieceRefusal start n d e new
 refused_code {d} {new} e le lt is lacks same = (
   record { behind = rw same (stays d); none = no_code lt (omega (arith, le)) (lacks_two lacks) },
   inl
@@ -179,7 +179,7 @@ refused_code {d} {new} e le lt is lacks same = (
 )
 
 pub refused_code_past : {d b : Reading} {v start n : ℕ} (read : ℕ) → start ≤ d.index → d.index < start + n → TookField d (Number 2) v b
-    → start + n < b.index → read ≡ b.index - start → RefusedLeft d n (start + n) b × piece_refusal start n d (decode.IncorrectRDataLengthRead read n) b
+    → start + n < b.index → read ≡ b.index - start → RefusedLeft d n (start + n) b × IsPieceRefusal start n d (decode.IncorrectRDataLengthRead read n) b
 refused_code_past {d} {b} {n = n} read le lt f past is = (
   record { behind = behind_one f; none = code_past lt (omega (arith, le)) f past },
   inr
@@ -193,7 +193,7 @@ refused_code_past {d} {b} {n = n} read le lt f past is = (
 )
 
 pub refused_size : {d b new : Reading} {v start n : ℕ} (e : DecodeError) → start ≤ d.index → d.index < start + n → TookField d (Number 2) v b
-    → b.index < start + n → e ≡ decode.InsufficientBytes → LacksOctets b 2 → new ≡ b → RefusedLeft d n (start + n) new × piece_refusal start n d e new
+    → b.index < start + n → e ≡ decode.InsufficientBytes → LacksOctets b 2 → new ≡ b → RefusedLeft d n (start + n) new × IsPieceRefusal start n d e new
 refused_size {d} {b} {new} {v} {start} {n} e le lt f more is lacks same =
     rw same (
       record { behind = behind_one f; none = no_size lt (omega (arith, le)) f more (lacks_two lacks) },
@@ -203,7 +203,7 @@ refused_size {d} {b} {new} {v} {start} {n} e le lt f more is lacks same =
 
 pub refused_size_past : {d b c : Reading} {v w start n : ℕ} (read : ℕ) → start ≤ d.index → d.index < start + n → TookField d (Number 2) v b
     → b.index < start + n → TookField b (Number 2) w c → start + n < c.index → read ≡ c.index - start
-    → RefusedLeft d n (start + n) c × piece_refusal start n d (decode.IncorrectRDataLengthRead read n) c
+    → RefusedLeft d n (start + n) c × IsPieceRefusal start n d (decode.IncorrectRDataLengthRead read n) c
 refused_size_past {d} {b} {c} {n = n} read le lt f more g past is = (
   record { behind = behind_two f g; none = size_past lt (omega (arith, le)) f more g past },
   inr
@@ -221,7 +221,7 @@ took_head {c = c} f g = took_then f (took_then g (took_last c))
 
 pub refused_long : {d b c : Reading} {v w start n : ℕ} → start ≤ d.index → d.index < start + n → TookField d (Number 2) v b → b.index < start + n
     → TookField b (Number 2) w c → c.index ≤ start + n → n < w
-    → RefusedLeft d n (start + n) c × piece_refusal start n d (decode.IncorrectRDataLengthRead n w) c
+    → RefusedLeft d n (start + n) c × IsPieceRefusal start n d (decode.IncorrectRDataLengthRead n w) c
 refused_long {v = v} {w = w} le lt f more g inside great = (
   record { behind = behind_two f g; none = size_great lt (omega (arith, le)) f more g great },
   inr
@@ -231,7 +231,7 @@ refused_long {v = v} {w = w} le lt f more g inside great = (
 pub refused_body : {d b c new : Reading} {v w start n : ℕ} (e : DecodeError) → start ≤ d.index → d.index < start + n → TookField d (Number 2) v b
     → b.index < start + n → TookField b (Number 2) w c → w ≤ n → length c.message < c.index + w → length c.message < start + n
     → e ≡ decode.InsufficientBytes → new.message ≡ c.message → c.index ≤ length c.message → new.index ≡ length c.message
-    → RefusedLeft d n (start + n) new × piece_refusal start n d e new
+    → RefusedLeft d n (start + n) new × IsPieceRefusal start n d e new
 refused_body {d} {b} {c} {new} {v} {w} {start} {n} e le lt f more g most short past is message inside index =
     let lengths : length c.message ≡ length d.message = ap length (g.message ∙ f.message) in (
       record {

@@ -13,12 +13,12 @@ use Rattle.dns_names_wire.specs.State.{Reading, IsInside}
 use Rattle.dns_names_wire.specs.Words.{Took, Refused, StaysBehind, UnlessMemory}
 use Rattle.dns_names_wire.proofs.FieldReads.{unless_map}
 use Rattle.dns_names_wire.proofs.Strings.{at_then}
-use Rattle.dns_rdata_options.specs.OPT.{Pair, pair_value, pair_of, opt_shape, IsReadOpt, next_refusal, opt_refusal}
+use Rattle.dns_rdata_options.specs.OPT.{Pair, pair_value, pair_of, opt_shape, IsReadOpt, IsNextRefusal, IsOptRefusal}
 use Rattle.dns_rdata_options.specs.OptionReads.{Left, NoneLeft, TookOption, TookCut, NoWhole}
 use Rattle.dns_rdata_options.proofs.OptionLists.{first_left}
 
-abbrev pub any_options : Values opt_shape → Type 0
-any_options vs = Unit {0}
+abbrev pub AnyOptions : Values opt_shape → Type 0
+AnyOptions vs = Unit {0}
 
 -- what was read of the options up to the end, and what is left of any way to fill the record
 pub record ReadsOptions (old : Reading) (n end : ℕ) (done : List (Numbered OptionValue)) (d : Reading) : Type 0 where
@@ -93,10 +93,10 @@ field_left {m} {p} {q} {v} f = of f.is where
 
 -- what a refused option says of the record
 abbrev pub RefusedHere : DecodeError → Reading → ℕ → ℕ → Reading → Type 0
-RefusedHere e d start n b = StaysBehind d b × UnlessMemory e (NoneLeft d.message n d.index (start + n)) × ((e ≡ decode.Memory) ⊎ next_refusal start n d e b)
+RefusedHere e d start n b = StaysBehind d b × UnlessMemory e (NoneLeft d.message n d.index (start + n)) × ((e ≡ decode.Memory) ⊎ IsNextRefusal start n d e b)
 
 pub options_none : {e : DecodeError} {old d b : Reading} {done : List (Numbered OptionValue)} (start n : ℕ) → start ≡ old.index
-    → ReadsOptions old n (start + n) done d → RefusedHere e d start n b → Refused e old opt_shape (λ vs q. (q ≡ old.index + n) × any_options vs) b
+    → ReadsOptions old n (start + n) done d → RefusedHere e d start n b → Refused e old opt_shape (λ vs q. (q ≡ old.index + n) × AnyOptions vs) b
 options_none {e} {old} {d} {b} {done} start n is r f = record {
   behind = record { message = f.0.message ∙ r.message; index = omega (arith, r.behind, f.0.index) };
   none = unless_map e _ _ (λ (l : NoneLeft d.message n d.index (start + n)). record {
@@ -111,20 +111,20 @@ options_none {e} {old} {d} {b} {done} start n is r f = record {
 }
 
 pub options_refusal : {e : DecodeError} {old d b : Reading} {done : List (Numbered OptionValue)} (start n : ℕ) → start ≡ old.index → d.index < start + n
-    → ReadsOptions old n (start + n) done d → RefusedHere e d start n b → opt_refusal n old e b
+    → ReadsOptions old n (start + n) done d → RefusedHere e d start n b → IsOptRefusal n old e b
 options_refusal {e} {old} {d} {b} {done} start n is before r f = of f.2 where
-  of : (e ≡ decode.Memory) ⊎ next_refusal start n d e b → opt_refusal n old e b
+  of : (e ≡ decode.Memory) ⊎ IsNextRefusal start n d e b → IsOptRefusal n old e b
   of (inl m) = inl m
   of (inr h) = inr (record {
     between = d;
     before = record { message = r.message; values = done; took = r.took; before = omega (arith, before, is) };
     next =
-        subst (λ (k : ℕ). next_refusal k n d e b) is h;
+        subst (λ (k : ℕ). IsNextRefusal k n d e b) is h;
   })
 
 -- memory ran out behind options
 pub options_stopped : {old d b : Reading} {n end : ℕ} {done : List (Numbered OptionValue)} {x : Numbered OptionValue} → ReadsOptions old n end done d
-    → TookOption d end x b → Refused decode.Memory old opt_shape (λ vs q. (q ≡ old.index + n) × any_options vs) b
+    → TookOption d end x b → Refused decode.Memory old opt_shape (λ vs q. (q ≡ old.index + n) × AnyOptions vs) b
 options_stopped r o = record { behind = record { message = o.took.message ∙ r.message; index = omega (arith, r.behind, option_long o) }; none = tt }
 
 pub options_done : {old d : Reading} {done : List (Numbered OptionValue)} (start n : ℕ) → start ≡ old.index → start + n ≤ d.index

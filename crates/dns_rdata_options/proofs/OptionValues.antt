@@ -11,9 +11,9 @@ use Rattle.dns_fields.specs.Pieces.{Numbered, piece, OptionValue, Subnet, Plain,
 use Rattle.dns_fields.proofs.OctetLaws.{AreOctets-at, AreOctets-back, AreOctets-front, AreOctets-same, AreOctets-tail}
 use Rattle.dns_rdata_base.proofs.NumberLaws.{number-numbered_of}
 use Rattle.dns_rdata_options.specs.EdnsCode.{edns_code_number, named_edns_codes, other_edns_code, edns_code_of}
-use Rattle.dns_rdata_options.specs.ClientSubnet.{subnet_value, subnet_of, NoSubnet, ReadsSubnet, subnet_refusal}
-use Rattle.dns_rdata_options.specs.EdnsOption.{option_value, IsOptionOf, option_refusal}
-use Rattle.dns_rdata_options.specs.OPT.{option_of, next_refusal}
+use Rattle.dns_rdata_options.specs.ClientSubnet.{subnet_value, subnet_of, NoSubnet, ReadsSubnet, IsSubnetRefusal}
+use Rattle.dns_rdata_options.specs.EdnsOption.{option_value, IsOptionOf, IsOptionRefusal}
+use Rattle.dns_rdata_options.specs.OPT.{option_of, IsNextRefusal}
 use Rattle.dns_rdata_options.specs.OptionReads.{HasValue, NoValue, NoneLeft, TookPiece, TookOption, TookSome, TookPair}
 use Rattle.dns_names_wire.specs.State.{Reading}
 use Rattle.dns_names_wire.specs.Words.{StaysBehind, UnlessMemory}
@@ -49,7 +49,7 @@ pub record IsOther (code : EdnsCode) : Type 0 where
   pub not_subnet : code ≢ codes.Subnet
   pub not_nsid : code ≢ codes.NSID
   pub option : (s : List ℕ) (x : EdnsOption) → IsOptionOf code s x → x ≡ edns.Unknown (edns_code_number code) s
-  pub refusal : (s : List ℕ) (e : DecodeError) → option_refusal code s e → ⊥
+  pub refusal : (s : List ℕ) (e : DecodeError) → IsOptionRefusal code s e → ⊥
 
 abbrev pub Which : EdnsCode → Type 0
 Which code = (code ≡ codes.Subnet) ⊎ ((code ≡ codes.NSID) ⊎ IsOther code)
@@ -126,21 +126,21 @@ no_subnet_value s are none (Subnet f source scope a) h =
     })
 no_subnet_value s are none (Plain t) h = h.0 refl
 
-pub no_value_of : (n : ℕ) (s : List ℕ) (e : DecodeError) → length s < 65536 → AreOctets s → option_refusal (edns_code_of n) s e → NoValue n s
+pub no_value_of : (n : ℕ) (s : List ℕ) (e : DecodeError) → length s < 65536 → AreOctets s → IsOptionRefusal (edns_code_of n) s e → NoValue n s
 no_value_of n s e short are r = by (which (edns_code_of n)) where
   by : Which (edns_code_of n) → NoValue n s
-  by (inl c) = let t = subst (λ (k : EdnsCode). option_refusal k s e) c r in
+  by (inl c) = let t = subst (λ (k : EdnsCode). IsOptionRefusal k s e) c r in
       subst (λ (k : ℕ). NoValue k s) (sym (is_8 n c)) (record { none = no_subnet_value s are t.0 })
-  by (inr (inl c)) = let t = subst (λ (k : EdnsCode). option_refusal k s e) c r in absurd (omega (arith, t.0, short))
+  by (inr (inl c)) = let t = subst (λ (k : EdnsCode). IsOptionRefusal k s e) c r in absurd (omega (arith, t.0, short))
   by (inr (inr o)) = absurd (o.refusal s e r)
 
-refusal_8 : (n : ℕ) (s : List ℕ) (e : DecodeError) → n ≡ 8 → NoSubnet s × subnet_refusal s e → option_refusal (edns_code_of n) s e
-refusal_8 n s e is h = subst (λ (c : EdnsCode). option_refusal c s e) (sym (ap edns_code_of is ∙ of_8)) h
+refusal_8 : (n : ℕ) (s : List ℕ) (e : DecodeError) → n ≡ 8 → NoSubnet s × IsSubnetRefusal s e → IsOptionRefusal (edns_code_of n) s e
+refusal_8 n s e is h = subst (λ (c : EdnsCode). IsOptionRefusal c s e) (sym (ap edns_code_of is ∙ of_8)) h
 
 pub subnet_refused : (n : ℕ) (s : List ℕ) (r : Result (Unit {0}) DecodeError) (e : DecodeError) → n ≡ 8 → IsErrAnd r (λ y. y ≡ e)
-    → NoSubnet s × subnet_refusal s e → IfErr r (λ y. option_refusal (edns_code_of n) s y)
+    → NoSubnet s × IsSubnetRefusal s e → IfErr r (λ y. IsOptionRefusal (edns_code_of n) s y)
 subnet_refused n s (Ok u) e is h f = tt
-subnet_refused n s (Err y) e is h f = subst (λ (z : DecodeError). option_refusal (edns_code_of n) s z) (sym h) (refusal_8 n s e is f)
+subnet_refused n s (Err y) e is h f = subst (λ (z : DecodeError). IsOptionRefusal (edns_code_of n) s z) (sym h) (refusal_8 n s e is f)
 
 pub subnet_has : (n : ℕ) (s : List ℕ) (x : ClientSubnet) → n ≡ 8 → ReadsSubnet s (Ok x) → HasValue n s
 subnet_has n s x is h = subst (λ (k : ℕ). HasValue k s) (sym is) (record { value = subnet_value x; held = (subnet_held s (edns.Subnet x) h).held })
@@ -160,8 +160,8 @@ piece_behind t = record { message = t.message; index = omega (arith, t.at.ends) 
 
 -- an option without a value
 pub refused_value : {d new : Reading} (start n : ℕ) (x : Numbered (List ℕ)) (e : DecodeError) → AreOctets d.message → TookPiece d (start + n) x new
-    → option_refusal (edns_code_of x.0) x.1 e
-    → StaysBehind d new × UnlessMemory e (NoneLeft d.message n d.index (start + n)) × ((e ≡ decode.Memory) ⊎ next_refusal start n d e new)
+    → IsOptionRefusal (edns_code_of x.0) x.1 e
+    → StaysBehind d new × UnlessMemory e (NoneLeft d.message n d.index (start + n)) × ((e ≡ decode.Memory) ⊎ IsNextRefusal start n d e new)
 refused_value start n x e are t r = (
   piece_behind t,
   unless_all e (no_value t (no_value_of x.0 x.1 e (omega (arith, t.fits.1)) (body_octets are t) r)),
@@ -170,8 +170,8 @@ refused_value start n x e are t r = (
 
 -- or one for which memory ran out
 pub refused_option : {d new : Reading} (start n : ℕ) (x : Numbered (List ℕ)) (e : DecodeError) → AreOctets d.message → TookPiece d (start + n) x new
-    → (e ≡ decode.Memory) ⊎ option_refusal (edns_code_of x.0) x.1 e
-    → StaysBehind d new × UnlessMemory e (NoneLeft d.message n d.index (start + n)) × ((e ≡ decode.Memory) ⊎ next_refusal start n d e new)
+    → (e ≡ decode.Memory) ⊎ IsOptionRefusal (edns_code_of x.0) x.1 e
+    → StaysBehind d new × UnlessMemory e (NoneLeft d.message n d.index (start + n)) × ((e ≡ decode.Memory) ⊎ IsNextRefusal start n d e new)
 refused_option {d} start n x e are t (inl m) =
     (piece_behind t, subst (λ (z : DecodeError). UnlessMemory z (NoneLeft d.message n d.index (start + n))) (sym m) tt, inl m)
 refused_option start n x e are t (inr r) = refused_value start n x e are t r

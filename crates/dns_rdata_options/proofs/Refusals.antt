@@ -2,35 +2,35 @@
 use Rattle.std.proofs.Common.{inl, inr, ℕ, List}
 use Rattle.dns_types.specs.declared.error.DecodeError.TheVariants as decode
 use Rattle.dns_names_wire.specs.State.{Reading}
-use Rattle.dns_rdata_options.specs.ClientSubnet.{subnet_refusal}
-use Rattle.dns_rdata_options.specs.EdnsOption.{option_refusal}
-use Rattle.dns_rdata_options.specs.OPT.{piece_refusal, next_refusal, opt_refusal}
+use Rattle.dns_rdata_options.specs.ClientSubnet.{IsSubnetRefusal}
+use Rattle.dns_rdata_options.specs.EdnsOption.{IsOptionRefusal}
+use Rattle.dns_rdata_options.specs.OPT.{IsPieceRefusal, IsNextRefusal, IsOptRefusal}
 use Rattle.dns_rdata_options.specs.declared.opt.code.EdnsCode.{EdnsCode}
 use Rattle.dns_rdata_options.specs.declared.opt.code.EdnsCode.TheVariants as codes
 
-subnet_never : (s : List ℕ) (k : ℕ) → subnet_refusal s (decode.UnknownRecordTypeValue k) → ⊥
+subnet_never : (s : List ℕ) (k : ℕ) → IsSubnetRefusal s (decode.UnknownRecordTypeValue k) → ⊥
 subnet_never s k (inl h) = let e = h.error in cc e
 subnet_never s k (inr (inl h)) = let e = h.error in cc e
 subnet_never s k (inr (inr (inl h))) = let e = h.error in cc e
 subnet_never s k (inr (inr (inr (inl h)))) = let e = h.error in cc e
 subnet_never s k (inr (inr (inr (inr h)))) = let e = h.error in cc e
 
-option_never : (code : EdnsCode) (s : List ℕ) (k : ℕ) → option_refusal code s (decode.UnknownRecordTypeValue k) → ⊥
+option_never : (code : EdnsCode) (s : List ℕ) (k : ℕ) → IsOptionRefusal code s (decode.UnknownRecordTypeValue k) → ⊥
 option_never codes.Subnet s k h = subnet_never s k h.1
 option_never codes.NSID s k h = let e = h.1 in cc e
 option_never code s k h = h
 
-piece_never : (start n : ℕ) (old new : Reading) (k : ℕ) → piece_refusal start n old (decode.UnknownRecordTypeValue k) new → ⊥
+piece_never : (start n : ℕ) (old new : Reading) (k : ℕ) → IsPieceRefusal start n old (decode.UnknownRecordTypeValue k) new → ⊥
 piece_never start n old new k (inl h) = let e = h.error in cc e
 piece_never start n old new k (inr (inl h)) = let e = h.error in cc e
 piece_never start n old new k (inr (inr (inl h))) = let e = h.error in cc e
 piece_never start n old new k (inr (inr (inr (inl h)))) = let e = h.error in cc e
 piece_never start n old new k (inr (inr (inr (inr h)))) = let e = h.error in cc e
 
-next_never : (start n : ℕ) (old new : Reading) (k : ℕ) → next_refusal start n old (decode.UnknownRecordTypeValue k) new → ⊥
+next_never : (start n : ℕ) (old new : Reading) (k : ℕ) → IsNextRefusal start n old (decode.UnknownRecordTypeValue k) new → ⊥
 next_never start n old new k (inl h) = piece_never start n old new k h
 next_never start n old new k (inr h) = option_never _ h.body k h.refused
 
-pub opt_never : (n : ℕ) (old new : Reading) (k : ℕ) → opt_refusal n old (decode.UnknownRecordTypeValue k) new → ⊥
+pub opt_never : (n : ℕ) (old new : Reading) (k : ℕ) → IsOptRefusal n old (decode.UnknownRecordTypeValue k) new → ⊥
 opt_never n old new k (inl e) = cc e
 opt_never n old new k (inr h) = next_never old.index n h.between new k h.next

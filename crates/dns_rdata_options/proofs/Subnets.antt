@@ -19,7 +19,7 @@ use Rattle.dns_fields.proofs.OctetLaws.{AreOctets-nil, AreOctets-cons, AreOctets
 use Rattle.dns_rdata_base.proofs.Addresses.{octets_of-segments}
 use Rattle.dns_rdata_options.specs.ClientSubnet.{family_of, address_octets, prefix_octets, family_octets, padded, address_of, subnet_of}
 use Rattle.dns_rdata_options.specs.ClientSubnet.{subnet_value, IsReadSubnet, SubnetAt, IsFamily}
-use Rattle.dns_rdata_options.specs.ClientSubnet.{SubnetHead, subnet_refusal, NoSubnet}
+use Rattle.dns_rdata_options.specs.ClientSubnet.{SubnetHead, IsSubnetRefusal, NoSubnet}
 use Rattle.dns_rdata_options.specs.declared.opt.subnet.ClientSubnet.{ClientSubnet}
 
 -- octets as numbers of eight bits, as code knows them
@@ -51,22 +51,22 @@ head_first s f n b e known = record { octets = family_first s f (omega arith) b 
 
 -- ---- refusals
 
-pub no_family : (s : List ℕ) → length s < 2 → subnet_refusal s decode.InsufficientBytes
+pub no_family : (s : List ℕ) → length s < 2 → IsSubnetRefusal s decode.InsufficientBytes
 no_family s n = inl (record { error = refl; short = n })
 
 pub unknown_family : (s : List ℕ) (f : ℕ) → f < 65536 → 2 ≤ length s → Eights s → f ≡ from_be_bytes w16 (get_or s 0 0 ∷ get_or s 1 0 ∷ [])
-    → (IsFamily f → ⊥) → subnet_refusal s (decode.UnknownAddressFamily f)
+    → (IsFamily f → ⊥) → IsSubnetRefusal s (decode.UnknownAddressFamily f)
 unknown_family s f small n b e unknown =
     inr (inl (record { family = f; rest = drop 2 s; octets = family_first s f n b e; small = small; unknown = unknown; error = refl }))
 
 pub no_prefixes : (s : List ℕ) (f : ℕ) → 2 ≤ length s → length s < 4 → Eights s → f ≡ from_be_bytes w16 (get_or s 0 0 ∷ get_or s 1 0 ∷ []) → IsFamily f
-    → subnet_refusal s decode.InsufficientBytes
+    → IsSubnetRefusal s decode.InsufficientBytes
 no_prefixes s f n short b e known = inr (inr
     (inl (record { family = f; rest = drop 2 s; octets = family_first s f n b e; known = known; short = omega (arith, length-drop 2 s); error = refl })))
 
 pub long_prefix : (s : List ℕ) (f : ℕ) → 4 ≤ length s → Eights s → f ≡ from_be_bytes w16 (get_or s 0 0 ∷ get_or s 1 0 ∷ []) → IsFamily f
     → family_octets f < prefix_octets (get_or s 2 0)
-    → subnet_refusal s (decode.IncorrectRDataLengthRead (family_octets f) (prefix_octets (get_or s 2 0)))
+    → IsSubnetRefusal s (decode.IncorrectRDataLengthRead (family_octets f) (prefix_octets (get_or s 2 0)))
 long_prefix s f n b e known long = inr (inr
     (inr (inl (record {
       family = f;
@@ -81,7 +81,7 @@ long_prefix s f n b e known long = inr (inr
 
 pub no_address : (s : List ℕ) (f : ℕ) → 4 ≤ length s → Eights s → f ≡ from_be_bytes w16 (get_or s 0 0 ∷ get_or s 1 0 ∷ []) → IsFamily f
     → prefix_octets (get_or s 2 0) ≤ family_octets f → length s - 4 < prefix_octets (get_or s 2 0)
-    → subnet_refusal s decode.InsufficientBytes
+    → IsSubnetRefusal s decode.InsufficientBytes
 no_address s f n b e known most short = inr
     (inr (inr (inr (record {
       family = f;
@@ -215,7 +215,7 @@ begins-length : {s : List ℕ} {f source scope : ℕ} {a rest : List ℕ} → Be
 begins-length {s} {f} {source} {scope} {a} {rest} b =
     omega (arith, ap length b.octets, length-append (bytes_high_first 2 f) (source ∷ scope ∷ (a ++ rest)), length-bytes 2 f, length-append a rest)
 
-none_begins : {s : List ℕ} {e : DecodeError} {f source scope : ℕ} {a rest : List ℕ} → subnet_refusal s e → Begins s f source scope a rest → ⊥
+none_begins : {s : List ℕ} {e : DecodeError} {f source scope : ℕ} {a rest : List ℕ} → IsSubnetRefusal s e → Begins s f source scope a rest → ⊥
 none_begins (inl h) b = omega (arith, h.short, begins-length b)
 none_begins {f = f} {source = source} {a = a} (inr (inl h)) b =
     let same = number_first f h.family _ _ (family_small f source a b.address) h.small (sym b.octets ∙ h.octets) in
@@ -234,7 +234,7 @@ none_begins {f = f} {source = source} {scope = scope} {a = a} {rest = rest} (inr
     let rests : a ++ rest ≡ h.rest = let x : source ∷ scope ∷ (a ++ rest) ≡ h.source ∷ h.scope ∷ h.rest = same.1 in cc in
     omega (arith, h.short, b.address.long, sources, ap length rests, length-append a rest)
 
-pub no_subnet : (s : List ℕ) (e : DecodeError) → subnet_refusal s e → NoSubnet s
+pub no_subnet : (s : List ℕ) (e : DecodeError) → IsSubnetRefusal s e → NoSubnet s
 no_subnet s e r = record {
   none = λ x q h. none_begins r
       (begins (family_of x.address) x.source_prefix x.scope_prefix (take (prefix_octets x.source_prefix) (address_octets x.address)) h.fits h.at);

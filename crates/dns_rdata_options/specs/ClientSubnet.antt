@@ -107,8 +107,8 @@ pub record LacksAddress (s : List ℕ) (e : DecodeError) : Type 0 where
   pub short : length rest < prefix_octets source
   pub error : e ≡ decode.InsufficientBytes
 
-abbrev pub subnet_refusal : List ℕ → DecodeError → Type 0
-subnet_refusal s e = LacksFamily s e ⊎ (UnknownFamily s e ⊎ (LacksPrefixes s e ⊎ (LongPrefix s e ⊎ LacksAddress s e)))
+abbrev pub IsSubnetRefusal : List ℕ → DecodeError → Type 0
+IsSubnetRefusal s e = LacksFamily s e ⊎ (UnknownFamily s e ⊎ (LacksPrefixes s e ⊎ (LongPrefix s e ⊎ LacksAddress s e)))
 
 -- no subnet begins the octets
 pub record NoSubnet (s : List ℕ) : Type 0 where
@@ -117,4 +117,4 @@ pub record NoSubnet (s : List ℕ) : Type 0 where
 -- a subnet begins the octets, whatever follows, or none does
 abbrev pub ReadsSubnet : List ℕ → Result ClientSubnet DecodeError → Type 0
 ReadsSubnet s (Ok x) = (q : ℕ) × SubnetAt s 0 x q
-ReadsSubnet s (Err e) = NoSubnet s × subnet_refusal s e
+ReadsSubnet s (Err e) = NoSubnet s × IsSubnetRefusal s e

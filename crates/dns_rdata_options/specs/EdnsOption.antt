@@ -4,7 +4,7 @@ use Rattle.dns_types.specs.declared.error.DecodeError.{DecodeError}
 use Rattle.dns_types.specs.declared.error.DecodeError.TheVariants as decode
 use Rattle.dns_fields.specs.Pieces.{OptionValue, Plain}
 use Rattle.dns_rdata_options.specs.EdnsCode.{edns_code_number, edns_code_of}
-use Rattle.dns_rdata_options.specs.ClientSubnet.{prefix_octets, subnet_value, ReadsSubnet, NoSubnet, subnet_refusal}
+use Rattle.dns_rdata_options.specs.ClientSubnet.{prefix_octets, subnet_value, ReadsSubnet, NoSubnet, IsSubnetRefusal}
 use Rattle.dns_rdata_options.specs.declared.opt.code.EdnsCode.{EdnsCode}
 use Rattle.dns_rdata_options.specs.declared.opt.code.EdnsCode.TheVariants as codes
 use Rattle.dns_rdata_options.specs.declared.opt.option.EdnsOption.{EdnsOption}
@@ -39,11 +39,11 @@ IsOptionOf codes.NSID s x = ⊥
 IsOptionOf code s x = x ≡ Unknown (edns_code_number code) s
 
 -- why they have none: a subnet's octets don't begin with one, or a payload has more than 65535
-abbrev pub option_refusal : EdnsCode → List ℕ → DecodeError → Type 0
-option_refusal codes.Subnet s e = NoSubnet s × subnet_refusal s e
-option_refusal codes.NSID s e = (65535 < length s) × (e ≡ decode.IncorrectRDataLengthRead (length s) 65535)
-option_refusal code s e = ⊥
+abbrev pub IsOptionRefusal : EdnsCode → List ℕ → DecodeError → Type 0
+IsOptionRefusal codes.Subnet s e = NoSubnet s × IsSubnetRefusal s e
+IsOptionRefusal codes.NSID s e = (65535 < length s) × (e ≡ decode.IncorrectRDataLengthRead (length s) 65535)
+IsOptionRefusal code s e = ⊥
 
 abbrev pub ReadsOption : EdnsCode → List ℕ → Result EdnsOption DecodeError → Type 0
 ReadsOption code s (Ok x) = IsOptionOf code s x
-ReadsOption code s (Err e) = (e ≡ decode.Memory) ⊎ option_refusal code s e
+ReadsOption code s (Err e) = (e ≡ decode.Memory) ⊎ IsOptionRefusal code s e

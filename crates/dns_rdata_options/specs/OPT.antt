@@ -12,7 +12,7 @@ use Rattle.dns_rdata_base.specs.Numbered.{numbered_eq}
 use Rattle.dns_pieces.specs.Facts.{Facts, filling}
 use Rattle.dns_rdata_options.specs.EdnsCode.{edns_code_number, edns_code_variant, edns_code_of}
 use Rattle.dns_rdata_options.specs.ClientSubnet.{subnet_of}
-use Rattle.dns_rdata_options.specs.EdnsOption.{option_value, option_refusal}
+use Rattle.dns_rdata_options.specs.EdnsOption.{option_value, IsOptionRefusal}
 use Rattle.dns_rdata_options.specs.declared.opt.code.EdnsCode.{EdnsCode}
 use Rattle.dns_rdata_options.specs.declared.opt.option.EdnsOption.{EdnsOption}
 use Rattle.dns_rdata_options.specs.declared.opt.option.EdnsOption.TheVariants.{Subnet, NSID, Unknown}
@@ -124,24 +124,24 @@ pub record BadOption (end : ℕ) (d : Reading) (e : DecodeError) (new : Reading)
   pub at : At d.message d.index (piece (code, body)) new.index
   pub fits : IsPiece (code, body)
   pub inside : new.index ≤ end
-  pub refused : option_refusal (edns_code_of code) body e
+  pub refused : IsOptionRefusal (edns_code_of code) body e
 
 -- no code, no length, or no octets of them stand
-abbrev pub piece_refusal : ℕ → ℕ → Reading → DecodeError → Reading → Type 0
-piece_refusal start n d e new = LacksCode d e new
+abbrev pub IsPieceRefusal : ℕ → ℕ → Reading → DecodeError → Reading → Type 0
+IsPieceRefusal start n d e new = LacksCode d e new
     ⊎ (LacksLength (start + n) d e new ⊎ (PassedEnd start n d e new ⊎ (LongOption n (start + n) d e new ⊎ LacksBody n (start + n) d e new)))
 
-abbrev pub next_refusal : ℕ → ℕ → Reading → DecodeError → Reading → Type 0
-next_refusal start n d e new = piece_refusal start n d e new ⊎ BadOption (start + n) d e new
+abbrev pub IsNextRefusal : ℕ → ℕ → Reading → DecodeError → Reading → Type 0
+IsNextRefusal start n d e new = IsPieceRefusal start n d e new ⊎ BadOption (start + n) d e new
 
 -- behind whole options the next one is refused
 pub record RefusedNext (n : ℕ) (old : Reading) (e : DecodeError) (new : Reading) : Type 0 where
   pub between : Reading
   pub before : OptionsBefore old n between
-  pub next : next_refusal old.index n between e new
+  pub next : IsNextRefusal old.index n between e new
 
-abbrev pub opt_refusal : ℕ → Reading → DecodeError → Reading → Type 0
-opt_refusal n old e new = (e ≡ decode.Memory) ⊎ RefusedNext n old e new
+abbrev pub IsOptRefusal : ℕ → Reading → DecodeError → Reading → Type 0
+IsOptRefusal n old e new = (e ≡ decode.Memory) ⊎ RefusedNext n old e new
 
 abbrev pub opt_facts : Facts (List Pair)
-opt_facts = filling opt_shape (λ _. Unit {0}) opt_fields opt_refusal IsReadOpt
+opt_facts = filling opt_shape (λ _. Unit {0}) opt_fields IsOptRefusal IsReadOpt

@@ -6,7 +6,7 @@ use Rattle.dns_fields.specs.Octets.{At}
 use Rattle.dns_fields.specs.Pieces.{Numbered, piece, pieces, IsPiece, ArePieces, AllHeld, OptionValue, OptionHeld, IsCut}
 use Rattle.dns_names_wire.specs.State.{Reading}
 use Rattle.dns_names_wire.specs.Words.{StaysBehind, UnlessMemory}
-use Rattle.dns_rdata_options.specs.OPT.{Pair, pair_value, pair_of, piece_refusal, next_refusal}
+use Rattle.dns_rdata_options.specs.OPT.{Pair, pair_value, pair_of, IsPieceRefusal, IsNextRefusal}
 
 -- what is left from a place to the end of a record of n octets: whole options, maybe a cut one
 pub record Left (m : List ℕ) (n i end : ℕ) : Type 0 where
@@ -50,7 +50,7 @@ pub record RefusedLeft (old : Reading) (n end : ℕ) (new : Reading) : Type 0 wh
 abbrev pub ReadsPiece : {T : Type 0} → (T → Numbered (List ℕ)) → ℕ → ℕ → Result (Option T) DecodeError → Reading → Reading → Type 0
 ReadsPiece view start n (Ok (Some x)) old new = TookPiece old (start + n) (view x) new
 ReadsPiece view start n (Ok None) old new = TookCut old n (start + n) new
-ReadsPiece view start n (Err e) old new = RefusedLeft old n (start + n) new × piece_refusal start n old e new
+ReadsPiece view start n (Err e) old new = RefusedLeft old n (start + n) new × IsPieceRefusal start n old e new
 
 -- no value is in the octets
 pub record NoValue (code : ℕ) (body : List ℕ) : Type 0 where
@@ -65,7 +65,7 @@ abbrev pub ReadsNext : {T : Type 0} → (T → Reading → Reading → Type 0) �
 ReadsNext took start n (Ok (Some x)) old new = took x old new
 ReadsNext took start n (Ok None) old new = TookCut old n (start + n) new
 ReadsNext took start n (Err e) old new = StaysBehind old new × UnlessMemory e (NoneLeft old.message n old.index (start + n))
-    × ((e ≡ decode.Memory) ⊎ next_refusal start n old e new)
+    × ((e ≡ decode.Memory) ⊎ IsNextRefusal start n old e new)
 
 -- the pair is the one of the option that stands next
 pub record TookPair (end : ℕ) (x : Pair) (old new : Reading) : Type 0 where

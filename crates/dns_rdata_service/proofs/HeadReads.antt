@@ -9,16 +9,16 @@ use Rattle.dns_names_wire.specs.State.{Reading}
 use Rattle.dns_names_wire.specs.Words.{TookField, Window, NoWindow, TookWindow, RefusedWindow}
 use Rattle.dns_names_wire.proofs.FieldReads.{unless_map, refused_then, refused_past, took_stays}
 use Rattle.dns_names_wire.proofs.WindowReads.{Given, filled_window}
-use Rattle.dns_rdata_service.specs.SVCB.{svcb_shape, svcb_fields, svcb_condition}
+use Rattle.dns_rdata_service.specs.SVCB.{svcb_shape, svcb_fields, MeetsSvcbCondition}
 use Rattle.dns_rdata_service.specs.declared.svcb.SVCB.{SVCB}
 use Rattle.dns_rdata_service.proofs.ParameterReads.{texts}
 
 -- asked of the fields behind the first
-abbrev pub behind_one : (k : Kind) (kinds : List Kind) → (Values kinds → Type 0) → Values (k ∷ kinds) → Type 0
-behind_one k kinds C vs = C vs.1
+abbrev pub BehindOne : (k : Kind) (kinds : List Kind) → (Values kinds → Type 0) → Values (k ∷ kinds) → Type 0
+BehindOne k kinds C vs = C vs.1
 
 none_then : {d b : Reading} {k : Kind} {v : Value k} {kinds : List Kind} {n r : ℕ} (C : Values kinds → Type 0) → EndsItself k → TookField d k v b
-    → b.index + r ≡ d.index + n → NoWindow b.message b.index r kinds C → NoWindow d.message d.index n (k ∷ kinds) (behind_one k kinds C)
+    → b.index + r ≡ d.index + n → NoWindow b.message b.index r kinds C → NoWindow d.message d.index n (k ∷ kinds) (BehindOne k kinds C)
 none_then {d} {b} {k} {v} {kinds} {n} {r} C ends f all h = record {
   none = λ vs w.
       let s = w.stands in
@@ -38,7 +38,7 @@ none_then {d} {b} {k} {v} {kinds} {n} {r} C ends f all h = record {
 
 took_then : {d b e : Reading} {k : Kind} {v : Value k} {kinds : List Kind} {vs : Values kinds} {n r : ℕ} (C : Values kinds → Type 0) → EndsItself k
     → TookField d k v b → n < 65536 → b.index + r ≡ d.index + n → TookWindow b r kinds C vs e
-    → TookWindow d n (k ∷ kinds) (behind_one k kinds C) (v, vs) e
+    → TookWindow d n (k ∷ kinds) (BehindOne k kinds C) (v, vs) e
 took_then {d} {b} {e} {k} {v} {kinds} {vs} {n} {r} C ends f short all h = record {
   behind = took_stays f h.behind;
   here = λ same.
@@ -58,7 +58,7 @@ took_then {d} {b} {e} {k} {v} {kinds} {vs} {n} {r} C ends f short all h = record
 
 refused_behind : {e : DecodeError} {d b c : Reading} {k : Kind} {v : Value k} {kinds : List Kind} {n r : ℕ} (C : Values kinds → Type 0)
     → EndsItself k → TookField d k v b → b.index + r ≡ d.index + n → RefusedWindow e b r kinds C c
-    → RefusedWindow e d n (k ∷ kinds) (behind_one k kinds C) c
+    → RefusedWindow e d n (k ∷ kinds) (BehindOne k kinds C) c
 refused_behind {e} C ends f all h = record { behind = took_stays f h.behind; none = unless_map e _ _ (none_then C ends f all) h.none }
 
 -- ---- SVCB
@@ -66,30 +66,30 @@ refused_behind {e} C ends f all h = record { behind = took_stays f h.behind; non
 abbrev Tail : List Kind
 Tail = Parameters ∷ []
 
-abbrev behind_name : Values (Name ∷ Tail) → Type 0
-behind_name = behind_one Name Tail texts
+abbrev BehindName : Values (Name ∷ Tail) → Type 0
+BehindName = BehindOne Name Tail texts
 
 pub svcb_took : {d a b e : Reading} {priority : ℕ} {target : DomainName} {vs : Values Tail} (n r : ℕ) → TookField d (Number 2) priority a
     → TookField a Name target b → n < 65536 → b.index + r ≡ d.index + n → TookWindow b r Tail texts vs e
-    → TookWindow d n svcb_shape svcb_condition (priority, (target, vs)) e
+    → TookWindow d n svcb_shape MeetsSvcbCondition (priority, (target, vs)) e
 svcb_took {d} {a} {b} {e} {priority} {target} {vs} n r f g short all h =
     let left : (k : ℕ) × (a.index + k ≡ d.index + n) = rest_of a.index (d.index + n) (omega (arith, (field_inside g.field).0, all)) in
-    took_then behind_name tt f short left.1 (took_then texts tt g (omega (arith, left.1, (field_inside f.field).0, short)) (omega (arith, left.1, all)) h)
+    took_then BehindName tt f short left.1 (took_then texts tt g (omega (arith, left.1, (field_inside f.field).0, short)) (omega (arith, left.1, all)) h)
   where
     rest_of : (x y : ℕ) → x ≤ y → (k : ℕ) × (x + k ≡ y)
     rest_of x y le = (y - x, omega arith)
 
 pub svcb_refused : {e : DecodeError} {d a b c : Reading} {priority : ℕ} {target : DomainName} (n r : ℕ) → TookField d (Number 2) priority a
     → TookField a Name target b → b.index + r ≡ d.index + n → RefusedWindow e b r Tail texts c
-    → RefusedWindow e d n svcb_shape svcb_condition c
+    → RefusedWindow e d n svcb_shape MeetsSvcbCondition c
 svcb_refused {e} {d} {a} {b} {c} n r f g all h =
     let left : (k : ℕ) × (a.index + k ≡ d.index + n) = rest_of a.index (d.index + n) (omega (arith, (field_inside g.field).0, all)) in
-    refused_behind behind_name tt f left.1 (refused_behind texts tt g (omega (arith, left.1, all)) h)
+    refused_behind BehindName tt f left.1 (refused_behind texts tt g (omega (arith, left.1, all)) h)
   where
     rest_of : (x y : ℕ) → x ≤ y → (k : ℕ) × (x + k ≡ y)
     rest_of x y le = (y - x, omega arith)
 
 pub svcb_passed : {d a b : Reading} {priority : ℕ} {target : DomainName} (e : DecodeError) (n : ℕ) → Given d n → TookField d (Number 2) priority a
-    → TookField a Name target b → d.index + n < b.index → RefusedWindow e d n svcb_shape svcb_condition b
-svcb_passed {d} {a} {b} e n given f g past = filled_window {T = SVCB} svcb_shape svcb_condition svcb_fields (Err e) d b n tt given
+    → TookField a Name target b → d.index + n < b.index → RefusedWindow e d n svcb_shape MeetsSvcbCondition b
+svcb_passed {d} {a} {b} e n given f g past = filled_window {T = SVCB} svcb_shape MeetsSvcbCondition svcb_fields (Err e) d b n tt given
     (refused_then f tt (refused_then g tt (refused_past b (λ vs q c. omega (arith, c.0, past)))))

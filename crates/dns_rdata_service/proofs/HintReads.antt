@@ -19,7 +19,7 @@ use Rattle.dns_rdata_base.specs.declared.a.A.{A}
 use Rattle.dns_rdata_base.specs.declared.aaaa.AAAA.{AAAA}
 use Rattle.dns_rdata_service.specs.Emitting.{EmitsOctets}
 use Rattle.dns_rdata_service.specs.Hints.{StandEach, StopsBefore, StandToEnd, ReadsEach, EmitsEach}
-use Rattle.dns_rdata_service.specs.SvcParamValue.{a_octets, aaaa_octets, a_of, aaaa_of, value_refusal}
+use Rattle.dns_rdata_service.specs.SvcParamValue.{a_octets, aaaa_octets, a_of, aaaa_of, IsValueRefusal}
 use Rattle.dns_rdata_service.specs.declared.svcb.ip_hint.IpHint.{IpHint}
 use Rattle.dns_rdata_service.proofs.Splits.{at_split}
 use Rattle.dns_rdata_service.proofs.EachEmits.{emits_list, emits_as, all_pass}
@@ -93,12 +93,12 @@ aaaa_octets_of : (s : List ℕ) → length s ≡ 16 → AreOctets s → (x : AAA
 aaaa_octets_of s n all = (aaaa_of s, octets_of-segments 8 s (omega arith) all)
 
 pub hint4_refused : (body : List ℕ) (new : Reading) (r : Result (IpHint A) DecodeError) → AreOctets body → length body % 4 ≡ 0
-    → ReadsEach (GroupAt 4 a_octets) (λ x. x.0) r (record { message = body; index = 0 }) new → IfErr r (value_refusal Addresses4 body)
+    → ReadsEach (GroupAt 4 a_octets) (λ x. x.0) r (record { message = body; index = 0 }) new → IfErr r (IsValueRefusal Addresses4 body)
 hint4_refused body new (Ok x) all whole h = tt
 hint4_refused body new (Err e) all whole h = inl (unless_none e _ h.1 (no_stop 4 a_octets body (λ k lt. omega (arith, whole, lt)) a_octets_of all))
 
 pub hint6_refused : (body : List ℕ) (new : Reading) (r : Result (IpHint AAAA) DecodeError) → AreOctets body → length body % 16 ≡ 0
-    → ReadsEach (GroupAt 16 aaaa_octets) (λ x. x.0) r (record { message = body; index = 0 }) new → IfErr r (value_refusal Addresses16 body)
+    → ReadsEach (GroupAt 16 aaaa_octets) (λ x. x.0) r (record { message = body; index = 0 }) new → IfErr r (IsValueRefusal Addresses16 body)
 hint6_refused body new (Ok x) all whole h = tt
 hint6_refused body new (Err e) all whole h = inl (unless_none e _ h.1 (no_stop 16 aaaa_octets body (λ k lt. omega (arith, whole, lt)) aaaa_octets_of all))
 

@@ -19,7 +19,7 @@ use Rattle.dns_rdata_base.specs.Refusing.{FirstLack}
 use Rattle.dns_rdata_service.specs.SvcParamKey.{key_number}
 use Rattle.dns_rdata_service.specs.SvcParamValue.{value_of, HasText}
 use Rattle.dns_rdata_service.specs.Parameters.{Parameter, parameter_of, parameter_from, AreRead, HaveTexts, IsAbove, CutValue, RefusedValue}
-use Rattle.dns_rdata_service.specs.Parameters.{parameter_refusal, parameters_refusal}
+use Rattle.dns_rdata_service.specs.Parameters.{IsParameterRefusal, IsParametersRefusal}
 use Rattle.dns_rdata_service.proofs.Splits.{at_split}
 use Rattle.dns_rdata_service.proofs.Refusals.{NoKeyValue, key_none}
 use Rattle.dns_rdata_service.proofs.ValueReads.{stays_then, all_push}
@@ -110,7 +110,7 @@ value_refused {old} {new} {e} c = unless_map e _ _ (λ (n : NoKeyValue c.key c.o
 }) (key_none c.key c.octets e c.refused)
 
 -- what is refused as a parameter is none
-parameter_none : {old new : Reading} (e : DecodeError) → parameter_refusal old e new → UnlessMemory e (NoParameter old)
+parameter_none : {old new : Reading} (e : DecodeError) → IsParameterRefusal old e new → UnlessMemory e (NoParameter old)
 parameter_none e (inl h) = unless_all e (lacking_none h)
 parameter_none e (inr (inl h)) = unless_all e (cut_none h)
 parameter_none e (inr (inr h)) = value_refused h
@@ -118,7 +118,7 @@ parameter_none e (inr (inr h)) = value_refused h
 took_two : {old new : Reading} {a b : ℕ} → Took old (Number 2 ∷ Number 2 ∷ []) (a, (b, tt)) new → StaysBehind old new
 took_two t = let s = t.stands in record { message = t.message; index = omega (arith, (field_inside s.1).0, (field_inside s.2.1).0, s.2.2) }
 
-parameter_behind : {old new : Reading} (e : DecodeError) → parameter_refusal old e new → StaysBehind old new
+parameter_behind : {old new : Reading} (e : DecodeError) → IsParameterRefusal old e new → StaysBehind old new
 parameter_behind {old} {new} e (inl (inl h)) =
     record { message = ap (λ (r : Reading). r.message) h.2; index = omega (arith, ap (λ (r : Reading). r.index) h.2) }
 parameter_behind {old} {new} e (inl (inr (n, between, took, inl h))) =
@@ -213,7 +213,7 @@ no_window {old} {n} {end} is none = record
 
 -- a parameter is refused
 pub on_refused : {e : DecodeError} {old d b : Reading} {ps : List Parameter} {last : Option ℕ} {end : ℕ} (n : ℕ) → end ≡ old.index + n → d.index + 4 ≤ end
-    → ParametersOn old ps last d → parameter_refusal d e b → RefusedWindow e old n (Parameters ∷ []) texts b
+    → ParametersOn old ps last d → IsParameterRefusal d e b → RefusedWindow e old n (Parameters ∷ []) texts b
 on_refused {e} {old} {d} {b} {ps} {last} {end} n is room on h = record {
   behind = stays_then on.behind (parameter_behind e h);
   none = unless_map e _ _ (λ (l : NoParameter d). no_window is (λ v f u.
@@ -273,7 +273,7 @@ on_done {old} {d} {ps} {last} {end} n g is le short on = record {
 -- ---- why it is refused
 
 pub order_refusal : {old d b : Reading} {ps : List Parameter} {last : Option ℕ} {x : Numbered ParameterValue} (p n : ℕ) → ParametersOn old ps last d
-    → TookField d Parameters (x ∷ []) b → (IsAbove last x.0 → ⊥) → parameters_refusal p n old decode.SvcParamsOutOfOrder b
+    → TookField d Parameters (x ∷ []) b → (IsAbove last x.0 → ⊥) → IsParametersRefusal p n old decode.SvcParamsOutOfOrder b
 order_refusal {old} {d} {b} {ps} {last} {x} p n on f fails =
     inr (inr (inl (record {
       before = map parameter_of ps;
@@ -287,6 +287,6 @@ order_refusal {old} {d} {b} {ps} {last} {x} p n on f fails =
     })))
 
 pub passed_refusal : {old d : Reading} {ps : List Parameter} {last : Option ℕ} (p n size : ℕ) → ParametersOn old ps last d → n < size → d.index ≡ p + size
-    → parameters_refusal p n old (decode.IncorrectRDataLengthRead size n) d
+    → IsParametersRefusal p n old (decode.IncorrectRDataLengthRead size n) d
 passed_refusal {ps = ps} p n size on passed index =
     inr (inr (inr (record { taken = map parameter_of ps; size = size; took = on_taken on; error = refl; passed = passed; index = index })))

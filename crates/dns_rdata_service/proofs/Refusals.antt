@@ -10,7 +10,7 @@ use Rattle.dns_fields.specs.Pieces.{Nothing, PortNumber, Addresses4, Addresses16
 use Rattle.dns_fields.proofs.Numbers.{length-bytes}
 use Rattle.dns_names_wire.specs.Words.{UnlessMemory}
 use Rattle.dns_names_wire.proofs.FieldReads.{unless_all, unless_map}
-use Rattle.dns_rdata_service.specs.SvcParamValue.{HasText, form_refusal, value_refusal, key_refusal}
+use Rattle.dns_rdata_service.specs.SvcParamValue.{HasText, IsFormRefusal, IsValueRefusal, IsKeyRefusal}
 use Rattle.dns_rdata_service.proofs.Splits.{length_numbers, string_first, strings_prefix}
 
 -- no value of the form is in the octets
@@ -41,7 +41,7 @@ wrong_name : (name rest : List ℕ) (names : List (List ℕ)) → (IsUtf8 name �
 wrong_name name rest [] wrong h e = let f : [] ≡ length name ∷ (name ++ rest) = e in absurd cc
 wrong_name name rest (s ∷ ss) wrong h e = wrong (subst IsUtf8 (string_first s name (flat_map string ss) rest e).0 h.0)
 
-names_none : (body : List ℕ) (e : DecodeError) (names : List (List ℕ)) → form_refusal Names body e → names ≢ [] → AllByRecursion IsUtf8 names
+names_none : (body : List ℕ) (e : DecodeError) (names : List (List ℕ)) → IsFormRefusal Names body e → names ≢ [] → AllByRecursion IsUtf8 names
     → body ≡ flat_map string names → ⊥
 names_none body e names (inl h) some texts b = no_name names some (sym h.1 ∙ b)
 names_none body e names (inr (inl h)) some texts b =
@@ -53,12 +53,12 @@ names_none body e names (inr (inr h)) some texts b =
     let p = strings_prefix c.names names (string c.name ++ c.rest) (sym b ∙ c.split) in
     wrong_name c.name c.rest p.0 c.wrong (texts_behind c.names p.0 (subst (AllByRecursion IsUtf8) p.1 texts)) p.2
 
-keys_none : (body : List ℕ) (e : DecodeError) (keys : List ℕ) → form_refusal Keys body e → keys ≢ [] → body ≡ flat_map (bytes_high_first 2) keys → ⊥
+keys_none : (body : List ℕ) (e : DecodeError) (keys : List ℕ) → IsFormRefusal Keys body e → keys ≢ [] → body ≡ flat_map (bytes_high_first 2) keys → ⊥
 keys_none body e [] (inl h) some b = some refl
 keys_none body e (k ∷ ks) (inl h) some b = omega (arith, length_numbers (k ∷ ks), ap length b, ap length h.1)
 keys_none body e keys (inr h) some b = omega (arith, h.1, length_numbers keys, ap length b)
 
-refused_none : (form : Form) (body : List ℕ) (e : DecodeError) → form_refusal form body e → (v : ParameterValue) → form_of v ≡ form → IsEmittable v
+refused_none : (form : Form) (body : List ℕ) (e : DecodeError) → IsFormRefusal form body e → (v : ParameterValue) → form_of v ≡ form → IsEmittable v
     → IsBody body v → ⊥
 refused_none Keys body e h (Mandatory keys) f s b = keys_none body e keys h s.0 b
 refused_none Names body e h (Alpn names) f s b = names_none body e names h s.0 b.0 b.1
@@ -69,7 +69,7 @@ refused_none Addresses16 body e h (Ipv6Hint as') f s b = h.1 (omega (arith, ap l
 refused_none AnyOctets body e h v f s b = elim h [ ]
 refused_none form body e h v f s b = absurd (cc f)
 
-pub value_none : (form : Form) (body : List ℕ) (e : DecodeError) → value_refusal form body e → UnlessMemory e (HoldsNone form body)
+pub value_none : (form : Form) (body : List ℕ) (e : DecodeError) → IsValueRefusal form body e → UnlessMemory e (HoldsNone form body)
 value_none form body e (inl m) = subst (λ (x : DecodeError). UnlessMemory x (HoldsNone form body)) (sym m) tt
 value_none form body e (inr h) = unless_all e (record { none = refused_none form body e h })
 
@@ -81,7 +81,7 @@ no_path : (key : ℕ) (body : List ℕ) → key ≡ 7 → (IsUtf8 body → ⊥) 
 no_path key body is wrong (Opaque s) h text = wrong (subst IsUtf8 (sym h.2) (text is))
 no_path key body is wrong v h text = let e : form_of v ≡ form_for 7 = h.0 ∙ ap form_for is in absurd (cc e)
 
-pub key_none : (key : ℕ) (body : List ℕ) (e : DecodeError) → key_refusal key body e → UnlessMemory e (NoKeyValue key body)
+pub key_none : (key : ℕ) (body : List ℕ) (e : DecodeError) → IsKeyRefusal key body e → UnlessMemory e (NoKeyValue key body)
 key_none key body e (inl h) = unless_map e _ _ (λ (n : HoldsNone (form_for key) body). record { none = λ v held text. n.none v held.0 held.1 held.2 })
     (value_none (form_for key) body e h)
 key_none key body e (inr (is, inl m)) = subst (λ (x : DecodeError). UnlessMemory x (NoKeyValue key body)) (sym m) tt

@@ -18,9 +18,9 @@ use Rattle.dns_rdata_base.specs.Refusing.{FirstLack}
 use Rattle.dns_rdata_base.proofs.Addresses.{octets_of-segments, segments_of-octets_of}
 use Rattle.std.specs.Net.Addr.{segments_of}
 use Rattle.dns_rdata_service.specs.SvcParamKey.{key_number, key_of}
-use Rattle.dns_rdata_service.specs.SvcParamValue.{value_of, value_from, value_key, key_numbers, a_octets, a_of, aaaa_octets, aaaa_of, value_refusal, key_refusal}
-use Rattle.dns_rdata_service.specs.Parameters.{Parameter, parameter_of, parameter_from, own_parameter, AreRead, parameter_refusal, parameters_refusal}
-use Rattle.dns_rdata_service.specs.SVCB.{svcb_shape, svcb_fields, svcb_key_shape, svcb_keys, IsReadSvcb, svcb_refusal}
+use Rattle.dns_rdata_service.specs.SvcParamValue.{value_of, value_from, value_key, key_numbers, a_octets, a_of, aaaa_octets, aaaa_of, IsValueRefusal, IsKeyRefusal}
+use Rattle.dns_rdata_service.specs.Parameters.{Parameter, parameter_of, parameter_from, own_parameter, AreRead, IsParameterRefusal, IsParametersRefusal}
+use Rattle.dns_rdata_service.specs.SVCB.{svcb_shape, svcb_fields, svcb_key_shape, svcb_keys, IsReadSvcb, IsSvcbRefusal}
 use Rattle.dns_rdata_service.specs.HTTPS.{https_shape, https_fields, https_key_shape, https_keys, IsReadHttps}
 use Rattle.dns_rdata_service.specs.declared.svcb.key.SvcParamKey.{SvcParamKey}
 use Rattle.dns_rdata_service.specs.declared.svcb.value.SvcParamValue.{SvcParamValue}
@@ -240,7 +240,7 @@ head_never old new k (inl h) = let e = h.0 in cc e
 head_never old new k (inr (v, b, f, inl h)) = let e = h.0 in cc e
 head_never old new k (inr (v, b, f, inr h)) = elim h.3 [ ]
 
-value_never : (f : Form) (body : List ℕ) (k : ℕ) → value_refusal f body (decode.UnknownRecordTypeValue k) → ⊥
+value_never : (f : Form) (body : List ℕ) (k : ℕ) → IsValueRefusal f body (decode.UnknownRecordTypeValue k) → ⊥
 value_never f body k (inl e) = cc e
 value_never Keys body k (inr (inl h)) = let e = h.0 in cc e
 value_never Keys body k (inr (inr h)) = let e = h.0 in cc e
@@ -253,23 +253,23 @@ value_never Addresses4 body k (inr h) = let e = h.0 in cc e
 value_never Addresses16 body k (inr h) = let e = h.0 in cc e
 value_never AnyOctets body k (inr h) = elim h [ ]
 
-key_never : (key : ℕ) (body : List ℕ) (k : ℕ) → key_refusal key body (decode.UnknownRecordTypeValue k) → ⊥
+key_never : (key : ℕ) (body : List ℕ) (k : ℕ) → IsKeyRefusal key body (decode.UnknownRecordTypeValue k) → ⊥
 key_never key body k (inl h) = value_never (form_for key) body k h
 key_never key body k (inr (is, inl e)) = cc e
 key_never key body k (inr (is, inr h)) = let e = h.0 in cc e
 
-parameter_never : (old new : Reading) (k : ℕ) → parameter_refusal old (decode.UnknownRecordTypeValue k) new → ⊥
+parameter_never : (old new : Reading) (k : ℕ) → IsParameterRefusal old (decode.UnknownRecordTypeValue k) new → ⊥
 parameter_never old new k (inl h) = head_never old new k h
 parameter_never old new k (inr (inl h)) = let e = h.error in cc e
 parameter_never old new k (inr (inr h)) = key_never h.key h.octets k h.refused
 
-parameters_never : (p n : ℕ) (old new : Reading) (k : ℕ) → parameters_refusal p n old (decode.UnknownRecordTypeValue k) new → ⊥
+parameters_never : (p n : ℕ) (old new : Reading) (k : ℕ) → IsParametersRefusal p n old (decode.UnknownRecordTypeValue k) new → ⊥
 parameters_never p n old new k (inl e) = cc e
 parameters_never p n old new k (inr (inl h)) = parameter_never h.between new k h.refused
 parameters_never p n old new k (inr (inr (inl h))) = let e = h.error in cc e
 parameters_never p n old new k (inr (inr (inr h))) = let e = h.error in cc e
 
-pub svcb_never : (n : ℕ) (old new : Reading) (k : ℕ) → svcb_refusal n old (decode.UnknownRecordTypeValue k) new → ⊥
+pub svcb_never : (n : ℕ) (old new : Reading) (k : ℕ) → IsSvcbRefusal n old (decode.UnknownRecordTypeValue k) new → ⊥
 svcb_never n old new k (inl (inl e)) = cc e
 svcb_never n old new k (inl (inr h)) = lack_never old new k h
 svcb_never n old new k (inr (inl h)) = let e = h.error in cc e

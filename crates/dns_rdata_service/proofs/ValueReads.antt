@@ -12,7 +12,7 @@ use Rattle.dns_names_wire.specs.Words.{TookField, StaysBehind, UnlessMemory, Lac
 use Rattle.dns_names_wire.proofs.FieldReads.{unless_map}
 use Rattle.dns_rdata_base.specs.Numbered.{NumberedAt}
 use Rattle.dns_rdata_service.specs.SvcParamKey.{key_number, key_of}
-use Rattle.dns_rdata_service.specs.SvcParamValue.{AreGiven, ToEnd, MandatoryAt, AlpnAt, CutName, WrongName, value_refusal}
+use Rattle.dns_rdata_service.specs.SvcParamValue.{AreGiven, ToEnd, MandatoryAt, AlpnAt, CutName, WrongName, IsValueRefusal}
 use Rattle.dns_rdata_service.specs.declared.svcb.key.SvcParamKey.{SvcParamKey}
 use Rattle.dns_rdata_service.proofs.Splits.{at_split, split_push, octet_split, length_numbers}
 use Rattle.dns_rdata_service.proofs.Refusals.{HoldsNone, value_none}
@@ -20,7 +20,7 @@ use Rattle.dns_rdata_service.proofs.Refusals.{HoldsNone, value_none}
 -- what is refused is none of the values that a type holds
 pub refused_by : {T : Type 0} (form : Form) (view : T → ParameterValue) (S : List ℕ → ℕ → T → ℕ → Type 0) (old new : Reading) (e : DecodeError)
     → ((x : T) → form_of (view x) ≡ form) → ((m : List ℕ) (p : ℕ) (x : T) (q : ℕ) → S m p x q → ToEnd m p (view x) q) → StaysBehind old new
-    → value_refusal form (drop old.index old.message) e → StaysBehind old new × UnlessMemory e ((x : T) (q : ℕ) → S old.message old.index x q → ⊥)
+    → IsValueRefusal form (drop old.index old.message) e → StaysBehind old new × UnlessMemory e ((x : T) (q : ℕ) → S old.message old.index x q → ⊥)
 refused_by form view S old new e is to behind h = (
   behind,
   unless_map e (HoldsNone form (drop old.index old.message)) _

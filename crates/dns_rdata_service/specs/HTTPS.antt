@@ -4,7 +4,7 @@ use Rattle.dns_types.specs.declared.error.DecodeError.{DecodeError}
 use Rattle.dns_fields.specs.Fields.{Kind, Values}
 use Rattle.dns_names_wire.specs.State.{Reading}
 use Rattle.dns_pieces.specs.Facts.{Facts}
-use Rattle.dns_rdata_service.specs.SVCB.{svcb_shape, svcb_fields, svcb_condition, svcb_key_shape, svcb_keys, IsReadSvcb, svcb_text, svcb_refusal}
+use Rattle.dns_rdata_service.specs.SVCB.{svcb_shape, svcb_fields, MeetsSvcbCondition, svcb_key_shape, svcb_keys, IsReadSvcb, svcb_text, IsSvcbRefusal}
 use Rattle.dns_rdata_service.specs.declared.https.HTTPS.{HTTPS}
 
 abbrev pub https_shape : List Kind
@@ -13,8 +13,8 @@ https_shape = svcb_shape
 abbrev pub https_fields : HTTPS → Values https_shape
 https_fields x = svcb_fields x.0
 
-abbrev pub https_condition : Values https_shape → Type 0
-https_condition = svcb_condition
+abbrev pub MeetsHttpsCondition : Values https_shape → Type 0
+MeetsHttpsCondition = MeetsSvcbCondition
 
 abbrev pub https_key_shape : List Kind
 https_key_shape = svcb_key_shape
@@ -28,14 +28,14 @@ IsReadHttps x = IsReadSvcb x.0
 abbrev pub https_text : HTTPS → List ℕ
 https_text x = svcb_text x.0
 
-abbrev pub https_refusal : ℕ → Reading → DecodeError → Reading → Type 0
-https_refusal n old e new = svcb_refusal n old e new
+abbrev pub IsHttpsRefusal : ℕ → Reading → DecodeError → Reading → Type 0
+IsHttpsRefusal n old e new = IsSvcbRefusal n old e new
 
 abbrev pub https_facts : Facts HTTPS
 https_facts = record {
   kinds = https_shape;
-  condition = https_condition;
+  condition = MeetsHttpsCondition;
   fields = https_fields;
-  refusal = https_refusal;
+  refusal = IsHttpsRefusal;
   made = λ n x old new. IsReadHttps x;
 }

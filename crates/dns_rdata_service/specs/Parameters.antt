@@ -11,7 +11,7 @@ use Rattle.dns_names_wire.specs.Words.{Took, TookField}
 use Rattle.dns_rdata_base.specs.Refusing.{FirstLack}
 use Rattle.dns_rdata_service.specs.Emitting.{EmitsOctets}
 use Rattle.dns_rdata_service.specs.SvcParamKey.{key_number, key_variant, key_of}
-use Rattle.dns_rdata_service.specs.SvcParamValue.{value_of, value_from, value_key, HasText, key_refusal, fits_value}
+use Rattle.dns_rdata_service.specs.SvcParamValue.{value_of, value_from, value_key, HasText, IsKeyRefusal, fits_value}
 use Rattle.dns_rdata_service.specs.declared.svcb.key.SvcParamKey.{SvcParamKey}
 use Rattle.dns_rdata_service.specs.declared.svcb.value.SvcParamValue.{SvcParamValue}
 
@@ -65,11 +65,11 @@ pub record RefusedValue (old : Reading) (e : DecodeError) (new : Reading) : Type
   pub key : ℕ
   pub octets : List ℕ
   pub took : Took old (Number 2 ∷ Number 2 ∷ Rest ∷ []) (key, (length octets, (octets, tt))) new
-  pub refused : key_refusal key octets e
+  pub refused : IsKeyRefusal key octets e
 
 -- one parameter: octets of key or length are missing, or the value is refused
-abbrev pub parameter_refusal : Reading → DecodeError → Reading → Type 0
-parameter_refusal old e new = FirstLack (Number 2 ∷ Number 2 ∷ []) old e new ⊎ (CutValue old e new ⊎ RefusedValue old e new)
+abbrev pub IsParameterRefusal : Reading → DecodeError → Reading → Type 0
+IsParameterRefusal old e new = FirstLack (Number 2 ∷ Number 2 ∷ []) old e new ⊎ (CutValue old e new ⊎ RefusedValue old e new)
 
 -- behind parameters that are taken, one is refused
 pub record RefusedParameter (end : ℕ) (old : Reading) (e : DecodeError) (new : Reading) : Type 0 where
@@ -77,7 +77,7 @@ pub record RefusedParameter (end : ℕ) (old : Reading) (e : DecodeError) (new :
   pub between : Reading
   pub took : TookField old Parameters before between
   pub room : between.index + 4 ≤ end
-  pub refused : parameter_refusal between e new
+  pub refused : IsParameterRefusal between e new
 
 -- behind parameters that are taken, one is taken whose key is not above theirs
 pub record WrongOrder (old : Reading) (e : DecodeError) (new : Reading) : Type 0 where
@@ -99,5 +99,5 @@ pub record PassedParameters (p n : ℕ) (old : Reading) (e : DecodeError) (new :
   pub index : new.index ≡ p + size
 
 -- parameters to the end of a record of n octets from p
-abbrev pub parameters_refusal : ℕ → ℕ → Reading → DecodeError → Reading → Type 0
-parameters_refusal p n old e new = (e ≡ decode.Memory) ⊎ (RefusedParameter (p + n) old e new ⊎ (WrongOrder old e new ⊎ PassedParameters p n old e new))
+abbrev pub IsParametersRefusal : ℕ → ℕ → Reading → DecodeError → Reading → Type 0
+IsParametersRefusal p n old e new = (e ≡ decode.Memory) ⊎ (RefusedParameter (p + n) old e new ⊎ (WrongOrder old e new ⊎ PassedParameters p n old e new))

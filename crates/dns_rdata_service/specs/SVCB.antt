@@ -12,7 +12,7 @@ use Rattle.dns_rdata_base.specs.Refusing.{IsLack}
 use Rattle.dns_pieces.specs.Facts.{Facts}
 use Rattle.dns_rdata_service.specs.SvcParamKey.{key_number, key_text}
 use Rattle.dns_rdata_service.specs.SvcParamValue.{value_text}
-use Rattle.dns_rdata_service.specs.Parameters.{Parameter, parameter_of, own_parameter, AreRead, HaveTexts, parameters_refusal}
+use Rattle.dns_rdata_service.specs.Parameters.{Parameter, parameter_of, own_parameter, AreRead, HaveTexts, IsParametersRefusal}
 use Rattle.dns_rdata_service.specs.declared.svcb.SVCB.{SVCB}
 use Rattle.dns_rdata_service.specs.declared.svcb.value.SvcParamValue.{SvcParamValue}
 
@@ -24,8 +24,8 @@ abbrev pub svcb_fields : SVCB → Values svcb_shape
 svcb_fields x = (x.svc_priority, (x.target_name, (map parameter_of x.svc_params, tt)))
 
 -- a path of DNS queries is UTF-8
-abbrev pub svcb_condition : Values svcb_shape → Type 0
-svcb_condition vs = HaveTexts vs.1.1.0
+abbrev pub MeetsSvcbCondition : Values svcb_shape → Type 0
+MeetsSvcbCondition vs = HaveTexts vs.1.1.0
 
 -- what is compared
 abbrev pub svcb_key_shape : List Kind
@@ -77,17 +77,17 @@ pub record RefusedParameters (n : ℕ) (old : Reading) (e : DecodeError) (new : 
   pub between : Reading
   pub took : Took old (Number 2 ∷ Name ∷ []) (priority, (target, tt)) between
   pub fits : between.index ≤ old.index + n
-  pub refused : parameters_refusal old.index n between e new
+  pub refused : IsParametersRefusal old.index n between e new
 
 -- a record of n octets
-abbrev pub svcb_refusal : ℕ → Reading → DecodeError → Reading → Type 0
-svcb_refusal n old e new = IsLack (Number 2 ∷ Name ∷ []) old e new ⊎ (PassedHead n old e new ⊎ RefusedParameters n old e new)
+abbrev pub IsSvcbRefusal : ℕ → Reading → DecodeError → Reading → Type 0
+IsSvcbRefusal n old e new = IsLack (Number 2 ∷ Name ∷ []) old e new ⊎ (PassedHead n old e new ⊎ RefusedParameters n old e new)
 
 abbrev pub svcb_facts : Facts SVCB
 svcb_facts = record {
   kinds = svcb_shape;
-  condition = svcb_condition;
+  condition = MeetsSvcbCondition;
   fields = svcb_fields;
-  refusal = svcb_refusal;
+  refusal = IsSvcbRefusal;
   made = λ n x old new. IsReadSvcb x;
 }

@@ -162,27 +162,27 @@ pub record WrongName (body : List ℕ) : Type 0 where
   pub wrong : IsUtf8 name → ⊥
 
 -- why octets are no value of a form
-abbrev pub form_refusal : Form → List ℕ → DecodeError → Type 0
-form_refusal Keys body e = ((e ≡ decode.SvcParamMissingValue) × (body ≡ [])) ⊎ ((e ≡ decode.InsufficientBytes) × (length body % 2 ≡ 1))
-form_refusal Names body e = ((e ≡ decode.SvcParamMissingValue) × (body ≡ []))
+abbrev pub IsFormRefusal : Form → List ℕ → DecodeError → Type 0
+IsFormRefusal Keys body e = ((e ≡ decode.SvcParamMissingValue) × (body ≡ [])) ⊎ ((e ≡ decode.InsufficientBytes) × (length body % 2 ≡ 1))
+IsFormRefusal Names body e = ((e ≡ decode.SvcParamMissingValue) × (body ≡ []))
     ⊎ (((e ≡ decode.InsufficientBytes) × CutName body) ⊎ ((e ≡ decode.Utf8) × WrongName body))
-form_refusal Nothing body e = (e ≡ decode.IncorrectRDataLengthRead (length body) 0) × (body ≢ [])
-form_refusal PortNumber body e = (e ≡ decode.InsufficientBytes) × (length body < 2)
-form_refusal Addresses4 body e = (e ≡ decode.InsufficientBytes) × (length body % 4 ≢ 0)
-form_refusal Addresses16 body e = (e ≡ decode.InsufficientBytes) × (length body % 16 ≢ 0)
-form_refusal AnyOctets body e = ⊥
+IsFormRefusal Nothing body e = (e ≡ decode.IncorrectRDataLengthRead (length body) 0) × (body ≢ [])
+IsFormRefusal PortNumber body e = (e ≡ decode.InsufficientBytes) × (length body < 2)
+IsFormRefusal Addresses4 body e = (e ≡ decode.InsufficientBytes) × (length body % 4 ≢ 0)
+IsFormRefusal Addresses16 body e = (e ≡ decode.InsufficientBytes) × (length body % 16 ≢ 0)
+IsFormRefusal AnyOctets body e = ⊥
 
 -- or memory runs out
-abbrev pub value_refusal : Form → List ℕ → DecodeError → Type 0
-value_refusal form body e = (e ≡ decode.Memory) ⊎ form_refusal form body e
+abbrev pub IsValueRefusal : Form → List ℕ → DecodeError → Type 0
+IsValueRefusal form body e = (e ≡ decode.Memory) ⊎ IsFormRefusal form body e
 
 -- why octets are no path of DNS queries, or memory runs out
-abbrev pub path_refusal : List ℕ → DecodeError → Type 0
-path_refusal body e = (e ≡ decode.Memory) ⊎ ((e ≡ decode.Utf8) × (IsUtf8 body → ⊥))
+abbrev pub IsPathRefusal : List ℕ → DecodeError → Type 0
+IsPathRefusal body e = (e ≡ decode.Memory) ⊎ ((e ≡ decode.Utf8) × (IsUtf8 body → ⊥))
 
 -- why octets are no value of a key
-abbrev pub key_refusal : ℕ → List ℕ → DecodeError → Type 0
-key_refusal key body e = value_refusal (form_for key) body e ⊎ ((key ≡ 7) × path_refusal body e)
+abbrev pub IsKeyRefusal : ℕ → List ℕ → DecodeError → Type 0
+IsKeyRefusal key body e = IsValueRefusal (form_for key) body e ⊎ ((key ≡ 7) × IsPathRefusal body e)
 
 -- ---- emitting
 

@@ -3,7 +3,7 @@
 ghost use Rattle.std.specs.Prelude.{◌≡◌, ◌≤◌, length, IfOk};
 ghost use Rattle.std.specs.List.Sorted.{IsPermutation, IsNonDecreasingBy, IsStableByKey};
 ghost use Rattle.std.specs.Ordering.{nat_cmp};
-ghost use Rattle.dns_pieces.specs.Facts.{record_emits, same, same_equiv, same_partial};
+ghost use Rattle.dns_pieces.specs.Facts.{RecordEmits, same, same_equiv, same_partial};
 ghost use Rattle.dns_rdata_service.specs.SVCB.{number_of_parameter};
 ghost use Rattle.dns_rdata_service.specs.HTTPS.{https_facts, https_key_shape, https_keys};
 
@@ -66,7 +66,7 @@ impl EncodesFields for HTTPS {
 impl BinEncodable for HTTPS {
     ghost use Rattle.dns_fields.specs.declared.RDataEncoding.TheVariants as modes;
 
-    ghost emits = { record_emits modes.Other https_facts };
+    ghost emits = { RecordEmits modes.Other https_facts };
 
     /// Appends the octets of the SVCB, and is refused as that.
     #[inline]

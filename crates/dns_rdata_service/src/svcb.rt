@@ -5,7 +5,7 @@ ghost use Rattle.std.specs.Option.{option_copied};
 ghost use Rattle.std.specs.List.Sorted.{IsPermutation, IsNonDecreasingBy, IsStableByKey};
 ghost use Rattle.std.specs.Ordering.{nat_cmp};
 ghost use Rattle.std.specs.Cmp.Lexicographic.{pointwise};
-ghost use Rattle.dns_pieces.specs.Facts.{record_emits, same, same_equiv, same_partial};
+ghost use Rattle.dns_pieces.specs.Facts.{RecordEmits, same, same_equiv, same_partial};
 ghost use Rattle.dns_rdata_service.specs.OwnKeys.{value_eq, parameter_eq};
 ghost use Rattle.dns_rdata_service.specs.SVCB.{svcb_facts, svcb_key_shape, svcb_keys, number_of_parameter, value_at};
 ghost use Rattle.dns_rdata_service.specs.SvcParamKey.{key_number};
@@ -155,7 +155,7 @@ impl EncodesFields for SVCB {
 impl BinEncodable for SVCB {
     ghost use Rattle.dns_fields.specs.declared.RDataEncoding.TheVariants as modes;
 
-    ghost emits = { record_emits modes.Other svcb_facts };
+    ghost emits = { RecordEmits modes.Other svcb_facts };
 
     /// Appends priority, target and parameters, the name whole and with its letters. Keys that do not strictly rise, no
     /// mandatory keys, no protocols, a protocol of more than 255 octets, and a value of more than 65535 octets are

@@ -19,7 +19,7 @@ use Rattle.dns_names_wire.proofs.FieldReads.{unless_all, took_stays, took_then, 
 use Rattle.dns_names_wire.proofs.Strings.{text_taken, at_rest}
 use Rattle.dns_fields.proofs.Places.{At-same_head}
 use Rattle.dns_fields.proofs.FieldLaws.{field_inside}
-use Rattle.dns_rdata_sets.specs.CAA.{caa_shape, caa_fields, AreTagOctets, IsTag, tag_refusal, caa_refusal}
+use Rattle.dns_rdata_sets.specs.CAA.{caa_shape, caa_fields, AreTagOctets, IsTag, IsTagRefusal, IsCaaRefusal}
 
 -- the flags' two parts make them again
 pub flags_back : (f : ℕ) → f < 256 → f ≡ f % 128 % 128 + cond (nat_le 128 f) 128 0
@@ -65,7 +65,7 @@ string_behind {d} {b} {t} {s} {q} f g =
 abbrev Filled : (start n : ℕ) → Values (Text ∷ Rest ∷ []) → ℕ → Type 0
 Filled start n vs q = (q ≡ start + n) × IsTag vs.0
 
-tag_none : (start n t : ℕ) (d b new : Reading) (e : DecodeError) → start + 1 ≡ d.index → TookField d (Number 1) t b → tag_refusal n t b e new
+tag_none : (start n t : ℕ) (d b new : Reading) (e : DecodeError) → start + 1 ≡ d.index → TookField d (Number 1) t b → IsTagRefusal n t b e new
     → (vs : Values (Text ∷ Rest ∷ [])) (q p : ℕ) → Field d.message d.index Text vs.0 p → p ≤ q → Filled start n vs q → ⊥
 tag_none start n t d b new e place f (inl r) vs q p g on c =
     let x = string_behind f g in
@@ -86,7 +86,7 @@ tag_none start n t d b new e place f (inr (inr (inr r))) vs q p g on c =
 
 -- no tag and value stand where the tag is refused
 pub tag_refused : (start n t : ℕ) (d b new : Reading) (e : DecodeError) → start + 1 ≡ d.index → TookField d (Number 1) t b → StaysBehind b new
-    → tag_refusal n t b e new
+    → IsTagRefusal n t b e new
     → Refused e d (Text ∷ Rest ∷ []) (λ vs q. (q ≡ start + n) × IsTag vs.0) new
 tag_refused start n t d b new e place f behind r = record {
   behind = took_stays f behind;
@@ -99,7 +99,7 @@ tag_refused start n t d b new e place f behind r = record {
 
 pub refused_value : {old a b new : Reading} {e : DecodeError} (n f t : ℕ) (tag : List ℕ) → TookField old (Number 1) f a → TookField a (Number 1) t b
     → TookField b (Octets t) tag new → IsTag tag × (t + 2 ≤ n)
-    → (e ≡ decode.Memory) ⊎ ((e ≡ decode.InsufficientBytes) × LacksOctets new (n - t - 2)) → caa_refusal n old e new
+    → (e ≡ decode.Memory) ⊎ ((e ≡ decode.InsufficientBytes) × LacksOctets new (n - t - 2)) → IsCaaRefusal n old e new
 refused_value {old} {a} {b} {new} {e} n f t tag x y z g why = inr (inr (record {
   flags = f;
   tag = tag;

@@ -10,7 +10,7 @@ use Rattle.dns_types.specs.declared.error.ProtoError.TheVariants as proto
 use Rattle.dns_names_wire.specs.State.{Reading, Writing}
 use Rattle.dns_names_wire.specs.Words.{Emits, IsMessage}
 use Rattle.dns_fields.specs.Fields.{Values, AllFit, Same}
-use Rattle.dns_rdata_sets.specs.CAA.{tag_refusal, caa_refusal, caa_shape, caa_fields, caa_flags, caa_key_shape, caa_keys, critical_number, IsReadCaa}
+use Rattle.dns_rdata_sets.specs.CAA.{IsTagRefusal, IsCaaRefusal, caa_shape, caa_fields, caa_flags, caa_key_shape, caa_keys, critical_number, IsReadCaa}
 use Rattle.dns_rdata_sets.specs.declared.caa.CAA.{CAA}
 use Rattle.dns_rdata_sets.proofs.CaaReads.{flags_back}
 
@@ -59,7 +59,7 @@ caa_keys-same a b x y = (
 
 -- ---- the refusal by a type's number is none of CAA's
 
-tag_never : (n t : ℕ) (d new : Reading) (k : ℕ) → tag_refusal n t d (decode.UnknownRecordTypeValue k) new → ⊥
+tag_never : (n t : ℕ) (d new : Reading) (k : ℕ) → IsTagRefusal n t d (decode.UnknownRecordTypeValue k) new → ⊥
 tag_never n t d new k (inl h) = let e = h.error in cc e
 tag_never n t d new k (inr (inl h)) = let e = h.error in cc e
 tag_never n t d new k (inr (inr (inl h))) = let e = h.error in cc e
@@ -69,7 +69,7 @@ value_never : (k : ℕ) (P : Type 0) → (decode.UnknownRecordTypeValue k ≡ de
 value_never k P (inl e) = cc e
 value_never k P (inr h) = let e = h.0 in cc e
 
-pub caa_never : (n : ℕ) (old new : Reading) (k : ℕ) → caa_refusal n old (decode.UnknownRecordTypeValue k) new → ⊥
+pub caa_never : (n : ℕ) (old new : Reading) (k : ℕ) → IsCaaRefusal n old (decode.UnknownRecordTypeValue k) new → ⊥
 caa_never n old new k (inl h) = let e = h.error in cc e
 caa_never n old new k (inr (inl h)) = tag_never n h.size h.between new k h.refused
 caa_never n old new k (inr (inr h)) = value_never k _ h.error

@@ -17,7 +17,7 @@ use Rattle.dns_labels.proofs.TextSteps.{printed_text}
 use Rattle.dns_labels.proofs.NameTexts.{one_name, name_reads}
 use Rattle.dns_names_wire.specs.NameValues.{IsTextRefusal}
 use Rattle.dns_rdata_sets.specs.Issuer.{Parameter, is_no_semicolon, IsParameter, IsNamed, IsWritable, StartsWithout, parameter_octets}
-use Rattle.dns_rdata_sets.specs.Issuer.{Splits, AreParameters, IsIssuerName, name_refusal, IsIssuer, issuer_refusal, parameters_text}
+use Rattle.dns_rdata_sets.specs.Issuer.{Splits, AreParameters, IsIssuerName, IsNameRefusal, IsIssuer, IsIssuerRefusal, parameters_text}
 use Rattle.dns_rdata_sets.specs.Issuer.{issuer_value}
 use Rattle.dns_rdata_sets.proofs.Splitting.{same_split}
 use Rattle.dns_rdata_sets.proofs.IssuerSteps.{Follow, follow_alone, alone_follow, one_list}
@@ -35,7 +35,7 @@ no_text front None some none h = some h
 no_text front (Some name) some none h = none name h.2
 
 -- the name is refused
-pub name_stop : (octets front rest : List ℕ) (e : ProtoError) → Splits is_no_semicolon octets front rest → name_refusal front e → issuer_refusal octets e
+pub name_stop : (octets front rest : List ℕ) (e : ProtoError) → Splits is_no_semicolon octets front rest → IsNameRefusal front e → IsIssuerRefusal octets e
 name_stop octets front rest proto.Memory s h = tt
 name_stop octets front rest proto.MaxBufferSizeExceeded s h = h
 name_stop octets front rest (proto.Decode d) s h = (
@@ -52,7 +52,7 @@ name_stop octets front rest (proto.Message t) s h = (
 
 -- the parameters are refused
 pub parameters_stop : (octets front rest : List ℕ) (name : Option DomainName) (e : ProtoError) → Splits is_no_semicolon octets front rest
-    → IsIssuerName front name → IsTextRefusal e ((xs : List Parameter) → AreParameters rest xs → ⊥) → issuer_refusal octets e
+    → IsIssuerName front name → IsTextRefusal e ((xs : List Parameter) → AreParameters rest xs → ⊥) → IsIssuerRefusal octets e
 parameters_stop octets front rest name proto.Memory s n h = tt
 parameters_stop octets front rest name proto.MaxBufferSizeExceeded s n h = h
 parameters_stop octets front rest name (proto.Decode d) s n h = absurd h
@@ -153,7 +153,7 @@ issuer_written (Some name) xs n w h = record {
 
 -- a value that is read, or refused, is read as the name and the parameters that it has
 pub issuer_again : {T : Type 0} (octets : List ℕ) (view : T → Option DomainName × List Parameter) (r : Result T ProtoError)
-    → IfOk r (λ x. IsIssuer octets (view x).0 (view x).1) → IfErr r (λ e. issuer_refusal octets e)
+    → IfOk r (λ x. IsIssuer octets (view x).0 (view x).1) → IfErr r (λ e. IsIssuerRefusal octets e)
     → (name : Option DomainName) (xs : List Parameter) → IsIssuer octets name xs
     → MatchResult r (λ x. ((view x).0 ≡ name) × ((view x).1 ≡ xs)) (λ e. e ≡ proto.Memory)
 issuer_again octets view (Ok x) h k name xs i = one_issuer octets (view x).0 name (view x).1 xs h i

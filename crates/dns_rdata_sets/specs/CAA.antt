@@ -12,7 +12,7 @@ use Rattle.dns_names_wire.specs.State.{Reading}
 use Rattle.dns_names_wire.specs.Words.{Took, TookField, LacksOctets, IsMessage}
 use Rattle.dns_rdata_base.specs.Lossy.{lossy}
 use Rattle.dns_pieces.specs.Facts.{Facts, filling}
-use Rattle.dns_rdata_sets.specs.Issuer.{issuer_refusal}
+use Rattle.dns_rdata_sets.specs.Issuer.{IsIssuerRefusal}
 use Rattle.dns_rdata_sets.specs.declared.caa.CAA.{CAA}
 
 -- flags, tag, value
@@ -36,8 +36,8 @@ pub record IsTag (tag : List ℕ) : Type 0 where
   pub short : length tag ≤ 15
   pub letters : AreTagOctets tag
 
-abbrev pub caa_condition : Values caa_shape → Type 0
-caa_condition vs = IsTag vs.1.0
+abbrev pub MeetsCaaCondition : Values caa_shape → Type 0
+MeetsCaaCondition vs = IsTag vs.1.0
 
 -- what is compared: both parts of the flags
 abbrev pub caa_key_shape : List Kind
@@ -72,12 +72,12 @@ abbrev pub IsIodefTag : List ℕ → Type 0
 IsIodefTag tag = low_tag tag ≡ codes "iodef"
 
 -- no tag of an issuer; or one, and a value that is refused
-abbrev pub issuer_value_refusal : CAA → ProtoError → Type 0
-issuer_value_refusal x e = (IsMessage e × (IsIssuerTag x.tag → ⊥)) ⊎ (IsIssuerTag x.tag × issuer_refusal x.value e)
+abbrev pub IsIssuerValueRefusal : CAA → ProtoError → Type 0
+IsIssuerValueRefusal x e = (IsMessage e × (IsIssuerTag x.tag → ⊥)) ⊎ (IsIssuerTag x.tag × IsIssuerRefusal x.value e)
 
 -- no tag of a URL; or one, and a value that is not UTF-8
-abbrev pub iodef_value_refusal : CAA → ProtoError → Type 0
-iodef_value_refusal x e = (IsMessage e × (IsIodefTag x.tag → ⊥)) ⊎ (IsIodefTag x.tag × (e ≡ proto.Decode decode.Utf8) × (IsUtf8 x.value → ⊥))
+abbrev pub IsIodefValueRefusal : CAA → ProtoError → Type 0
+IsIodefValueRefusal x e = (IsMessage e × (IsIodefTag x.tag → ⊥)) ⊎ (IsIodefTag x.tag × (e ≡ proto.Decode decode.Utf8) × (IsUtf8 x.value → ⊥))
 
 -- ---- refusals
 
@@ -123,8 +123,8 @@ pub record CutTag (n t : ℕ) (d : Reading) (e : DecodeError) (new : Reading) : 
   pub index : new.index ≡ length d.message
 
 -- a tag of t octets
-abbrev pub tag_refusal : ℕ → ℕ → Reading → DecodeError → Reading → Type 0
-tag_refusal n t d e new = PassedCaaLength n t d e new ⊎ (BadTagLength n t d e new ⊎ (BadTagOctet n t d e new ⊎ CutTag n t d e new))
+abbrev pub IsTagRefusal : ℕ → ℕ → Reading → DecodeError → Reading → Type 0
+IsTagRefusal n t d e new = PassedCaaLength n t d e new ⊎ (BadTagLength n t d e new ⊎ (BadTagOctet n t d e new ⊎ CutTag n t d e new))
 
 -- flags and the tag's length are taken, and the tag is refused
 pub record RefusedTag (n : ℕ) (old : Reading) (e : DecodeError) (new : Reading) : Type 0 where
@@ -132,7 +132,7 @@ pub record RefusedTag (n : ℕ) (old : Reading) (e : DecodeError) (new : Reading
   pub size : ℕ
   pub between : Reading
   pub head : Took old (Number 1 ∷ Number 1 ∷ []) (flags, (size, tt)) between
-  pub refused : tag_refusal n size between e new
+  pub refused : IsTagRefusal n size between e new
 
 -- flags and a tag are taken, and the value lacks octets, or memory for the tag or the value runs out
 pub record RefusedCaaValue (n : ℕ) (old : Reading) (e : DecodeError) (new : Reading) : Type 0 where
@@ -144,8 +144,8 @@ pub record RefusedCaaValue (n : ℕ) (old : Reading) (e : DecodeError) (new : Re
   pub error : (e ≡ decode.Memory) ⊎ ((e ≡ decode.InsufficientBytes) × LacksOctets old n)
 
 -- a record of n octets
-abbrev pub caa_refusal : ℕ → Reading → DecodeError → Reading → Type 0
-caa_refusal n old e new = CutCaaHead old e new ⊎ (RefusedTag n old e new ⊎ RefusedCaaValue n old e new)
+abbrev pub IsCaaRefusal : ℕ → Reading → DecodeError → Reading → Type 0
+IsCaaRefusal n old e new = CutCaaHead old e new ⊎ (RefusedTag n old e new ⊎ RefusedCaaValue n old e new)
 
 abbrev pub caa_facts : Facts CAA
-caa_facts = filling caa_shape caa_condition caa_fields caa_refusal IsReadCaa
+caa_facts = filling caa_shape MeetsCaaCondition caa_fields IsCaaRefusal IsReadCaa

@@ -9,7 +9,7 @@ use Rattle.dns_names_wire.specs.State.{Reading}
 use Rattle.dns_names_wire.specs.Words.{Took}
 use Rattle.dns_rdata_base.specs.Refusing.{FirstLack}
 use Rattle.dns_pieces.specs.Facts.{Facts, filling}
-use Rattle.dns_rdata_sets.specs.RecordTypeSet.{bitmap_refusal}
+use Rattle.dns_rdata_sets.specs.RecordTypeSet.{IsBitmapRefusal}
 use Rattle.dns_rdata_sets.specs.declared.csync.CSYNC.{CSYNC}
 
 -- serial, flags, types
@@ -37,8 +37,8 @@ csync_fields x = (x.soa_serial, (csync_flags x, (x.type_bit_maps, tt)))
 abbrev pub AreKnownFlags : ℕ → Type 0
 AreKnownFlags flags = bit_and flags 252 ≡ 0
 
-abbrev pub csync_condition : Values csync_shape → Type 0
-csync_condition vs = AreKnownFlags vs.1.0
+abbrev pub MeetsCsyncCondition : Values csync_shape → Type 0
+MeetsCsyncCondition vs = AreKnownFlags vs.1.0
 
 -- what is compared: serial, immediate, soaminimum, reserved flags, types
 abbrev pub csync_key_shape : List Kind
@@ -89,11 +89,11 @@ pub record RefusedTypes (n : ℕ) (old : Reading) (e : DecodeError) (new : Readi
   pub known : AreKnownFlags flags
   pub fits : 6 ≤ n
   pub taken : TookFlags old flags between
-  pub refused : bitmap_refusal (n - 6) between e new
+  pub refused : IsBitmapRefusal (n - 6) between e new
 
 -- the first of: octets of the serial or of the flags are missing, the flags are not known, the length is too short, the types are refused
-abbrev pub csync_refusal : ℕ → Reading → DecodeError → Reading → Type 0
-csync_refusal n old e new = FirstLack (Number 4 ∷ Number 2 ∷ []) old e new ⊎ (UnknownFlags old e new ⊎ (ShortCsync n old e new ⊎ RefusedTypes n old e new))
+abbrev pub IsCsyncRefusal : ℕ → Reading → DecodeError → Reading → Type 0
+IsCsyncRefusal n old e new = FirstLack (Number 4 ∷ Number 2 ∷ []) old e new ⊎ (UnknownFlags old e new ⊎ (ShortCsync n old e new ⊎ RefusedTypes n old e new))
 
 abbrev pub csync_facts : Facts CSYNC
-csync_facts = filling csync_shape csync_condition csync_fields csync_refusal IsReadCsync
+csync_facts = filling csync_shape MeetsCsyncCondition csync_fields IsCsyncRefusal IsReadCsync

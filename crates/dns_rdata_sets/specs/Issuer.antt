@@ -71,11 +71,11 @@ IsIssuerName octets None = octets ≡ []
 IsIssuerName octets (Some name) = (octets ≢ []) × IsUtf8 octets × IsNameText name octets
 
 -- memory ran out; or they are not UTF-8; or they are, and a message says that they are the text of no name
-abbrev pub name_refusal : List ℕ → ProtoError → Type 0
-name_refusal octets proto.Memory = Unit {0}
-name_refusal octets (proto.Decode e) = (e ≡ decode.Utf8) × (IsUtf8 octets → ⊥) × (octets ≢ [])
-name_refusal octets (proto.Message text) = IsUtf8 octets × (octets ≢ []) × ((name : DomainName) → IsNameText name octets → ⊥)
-name_refusal octets e = ⊥
+abbrev pub IsNameRefusal : List ℕ → ProtoError → Type 0
+IsNameRefusal octets proto.Memory = Unit {0}
+IsNameRefusal octets (proto.Decode e) = (e ≡ decode.Utf8) × (IsUtf8 octets → ⊥) × (octets ≢ [])
+IsNameRefusal octets (proto.Message text) = IsUtf8 octets × (octets ≢ []) × ((name : DomainName) → IsNameText name octets → ⊥)
+IsNameRefusal octets e = ⊥
 
 -- a name in front of the first semicolon, and behind that semicolon, where there is one, parameters
 pub record IsIssuer (octets : List ℕ) (name : Option DomainName) (xs : List Parameter) : Type 0 where
@@ -90,12 +90,12 @@ NoIssuer octets = (name : Option DomainName) (xs : List Parameter) → IsIssuer 
 
 -- Memory ran out; or the octets in front of the first semicolon are not UTF-8; or they are, and a message says that
 -- the octets are not the value of an issuer property.
-abbrev pub issuer_refusal : List ℕ → ProtoError → Type 0
-issuer_refusal octets proto.Memory = Unit {0}
-issuer_refusal octets (proto.Decode e) = (e ≡ decode.Utf8) × NoIssuer octets
+abbrev pub IsIssuerRefusal : List ℕ → ProtoError → Type 0
+IsIssuerRefusal octets proto.Memory = Unit {0}
+IsIssuerRefusal octets (proto.Decode e) = (e ≡ decode.Utf8) × NoIssuer octets
     × ((front rest : List ℕ) → Splits is_no_semicolon octets front rest → IsUtf8 front → ⊥)
-issuer_refusal octets (proto.Message text) = NoIssuer octets × ((front rest : List ℕ) → Splits is_no_semicolon octets front rest → IsUtf8 front)
-issuer_refusal octets e = ⊥
+IsIssuerRefusal octets (proto.Message text) = NoIssuer octets × ((front rest : List ℕ) → Splits is_no_semicolon octets front rest → IsUtf8 front)
+IsIssuerRefusal octets e = ⊥
 
 -- ---- what is written
 

@@ -49,8 +49,8 @@ pub record NoMemoryForSet (n : ℕ) (old : Reading) (e : DecodeError) (new : Rea
   pub index : new.index ≡ old.index + n
 
 -- a bitmap of n octets is refused
-abbrev pub bitmap_refusal : ℕ → Reading → DecodeError → Reading → Type 0
-bitmap_refusal n old e new = CutBitmap n old e new ⊎ (WrongBitmap n old e new ⊎ NoMemoryForSet n old e new)
+abbrev pub IsBitmapRefusal : ℕ → Reading → DecodeError → Reading → Type 0
+IsBitmapRefusal n old e new = CutBitmap n old e new ⊎ (WrongBitmap n old e new ⊎ NoMemoryForSet n old e new)
 
 -- ---- its parts
 
@@ -92,8 +92,8 @@ pub record FitsBlock (octets : List ℕ) (n : ℕ) : Type 0 where
   pub most : n ≤ 32
   pub whole : n ≤ length octets - 2
 
-abbrev pub block_refusal : DecodeError → Type 0 → Type 0
-block_refusal e wrong = (e ≡ decode.Memory) ⊎ ((e ≡ decode.BitmapInvalid) × wrong)
+abbrev pub IsBlockRefusal : DecodeError → Type 0 → Type 0
+IsBlockRefusal e wrong = (e ≡ decode.Memory) ⊎ ((e ≡ decode.BitmapInvalid) × wrong)
 
 -- ---- marks: a bit for each number, the highest bit of an octet first, and whether a window was met
 

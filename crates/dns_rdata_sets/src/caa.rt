@@ -5,8 +5,8 @@ ghost use Rattle.std.specs.Char.{is_ascii_alphanumeric};
 ghost use Rattle.dns_fields.specs.Fields.{Octets as OctetsKind};
 ghost use Rattle.dns_names_wire.specs.Words.{ReadsTo, TookField, StaysBehind, Emits, Extends, IsMessage};
 ghost use Rattle.dns_pieces.specs.Facts.{same, same_equiv, same_partial};
-ghost use Rattle.dns_rdata_sets.specs.CAA.{caa_shape, caa_flags, caa_fields, caa_facts, caa_condition, caa_key_shape, caa_keys, AreTagOctets, IsTag, caa_text};
-ghost use Rattle.dns_rdata_sets.specs.CAA.{IsReadCaa, tag_refusal, caa_refusal};
+ghost use Rattle.dns_rdata_sets.specs.CAA.{caa_shape, caa_flags, caa_fields, caa_facts, MeetsCaaCondition, caa_key_shape, caa_keys, AreTagOctets, IsTag, caa_text};
+ghost use Rattle.dns_rdata_sets.specs.CAA.{IsReadCaa, IsTagRefusal, IsCaaRefusal};
 
 mod issuer;
 mod values;
@@ -66,9 +66,9 @@ impl CAA {
     #[inline]
     #[tactic(auto, using(dns_names_wire::proofs::FieldReads::reading))]
     fn read_filled(decoder: &mut BinDecoder<'_>, length: Restrict<u16>) -> Result<CAA, DecodeError>
-        ensures fields { ReadsTo caa_shape caa_condition length caa_fields result decoder.old decoder.new }
+        ensures fields { ReadsTo caa_shape MeetsCaaCondition length caa_fields result decoder.old decoder.new }
         ensures flags { IfOk result IsReadCaa }
-        ensures refused { IfErr result (λ e. caa_refusal length decoder.old e decoder.new) }
+        ensures refused { IfErr result (λ e. IsCaaRefusal length decoder.old e decoder.new) }
     {
         let alloc = decoder.allocator();
         // Called for its clauses: the message is octets, and the place is in it.
@@ -97,7 +97,7 @@ fn read_tag<'a>(
     requires { size ≤ 255 }
     ensures taken { IfOk result (λ tag. TookField decoder.old (OctetsKind size) tag.now decoder.new) }
     ensures tag { IfOk result (λ tag. IsTag tag.now × (size + 2 ≤ len)) }
-    ensures refused { IfErr result (λ e. tag_refusal len size decoder.old e decoder.new) }
+    ensures refused { IfErr result (λ e. IsTagRefusal len size decoder.old e decoder.new) }
     ensures behind { StaysBehind decoder.old decoder.new }
 {
     if len < size + 2 {

@@ -8,8 +8,8 @@ ghost use Rattle.dns_types.specs.declared.record_type.RecordType.{RecordType as 
 ghost use Rattle.dns_names_wire.specs.Words.{ReadsTo, Emits};
 ghost use Rattle.dns_pieces.specs.Facts.{same, same_equiv, same_partial};
 ghost use Rattle.dns_rdata_sets.specs.RecordTypeSet.{IsSetOf};
-ghost use Rattle.dns_rdata_sets.specs.CSYNC.{csync_numbers_shape, csync_numbers, csync_shape, csync_flags, csync_fields, csync_facts, csync_condition, csync_text};
-ghost use Rattle.dns_rdata_sets.specs.CSYNC.{csync_key_shape, csync_keys, IsReadCsync, csync_refusal};
+ghost use Rattle.dns_rdata_sets.specs.CSYNC.{csync_numbers_shape, csync_numbers, csync_shape, csync_flags, csync_fields, csync_facts, MeetsCsyncCondition, csync_text};
+ghost use Rattle.dns_rdata_sets.specs.CSYNC.{csync_key_shape, csync_keys, IsReadCsync, IsCsyncRefusal};
 
 use crate::record_type_set::RecordTypeSet;
 use dns_names_wire::{
@@ -103,9 +103,9 @@ impl CSYNC {
         decoder: &mut BinDecoder<'_>,
         length: Restrict<u16>,
     ) -> Result<CSYNC, DecodeError>
-        ensures fields { ReadsTo csync_shape csync_condition length csync_fields result decoder.old decoder.new }
+        ensures fields { ReadsTo csync_shape MeetsCsyncCondition length csync_fields result decoder.old decoder.new }
         ensures read { IfOk result IsReadCsync }
-        ensures refused { IfErr result (λ e. csync_refusal length decoder.old e decoder.new) }
+        ensures refused { IfErr result (λ e. IsCsyncRefusal length decoder.old e decoder.new) }
     {
         let start = decoder.index();
         let soa_serial = decoder.read_u32()?.unverified();

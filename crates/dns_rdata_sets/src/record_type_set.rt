@@ -11,7 +11,7 @@ ghost use Rattle.dns_types.specs.declared.record_type.RecordType.{RecordType as 
 ghost use Rattle.dns_fields.specs.Bitmaps.{IsTypeSet, contains};
 ghost use Rattle.dns_fields.specs.Fields.{Bitmap};
 ghost use Rattle.dns_names_wire.specs.Words.{ReadsTo, EmitsField};
-ghost use Rattle.dns_rdata_sets.specs.RecordTypeSet.{IsSetOf, set_shape, set_fields, bitmap_refusal};
+ghost use Rattle.dns_rdata_sets.specs.RecordTypeSet.{IsSetOf, set_shape, set_fields, IsBitmapRefusal};
 
 mod marking;
 mod reading;
@@ -88,7 +88,7 @@ impl RecordTypeSet {
         length: Restrict<u16>,
     ) -> Result<RecordTypeSet, DecodeError>
         ensures fields { ReadsTo set_shape (λ _. Unit {0}) length set_fields result decoder.old decoder.new }
-        ensures refused { IfErr result (λ e. bitmap_refusal length decoder.old e decoder.new) }
+        ensures refused { IfErr result (λ e. IsBitmapRefusal length decoder.old e decoder.new) }
     {
         let octets = decoder
             .read_slice(length.unverified() as usize)?

@@ -103,11 +103,11 @@ nothing_rest = (refl, refl)
 
 -- ---- words that begin with an octet that is no `\`
 
-abbrev pub other_first : List ℕ → Type 0
-other_first [] = ⊥
-other_first (c ∷ s) = c ≢ 92
+abbrev pub OtherFirst : List ℕ → Type 0
+OtherFirst [] = ⊥
+OtherFirst (c ∷ s) = c ≢ 92
 
-pub bare_unmarked : (s : List ℕ) → other_first s → IsUnmarked (bare_word s)
+pub bare_unmarked : (s : List ℕ) → OtherFirst s → IsUnmarked (bare_word s)
 bare_unmarked [] h mark = h
 bare_unmarked (c ∷ s) h mark = let e : c ∷ s ≡ 92 ∷ 35 ∷ [] = mark.octets in h (cc e)
 
@@ -116,7 +116,7 @@ quoted_unmarked joined s mark = let e : true ≡ false = mark.bare in absurd (cc
 
 -- ---- fields
 
-pub run_first : (s : List ℕ) → s ≢ [] → AreRunOctets s → other_first s
+pub run_first : (s : List ℕ) → s ≢ [] → AreRunOctets s → OtherFirst s
 run_first [] some h = absurd (some refl)
 run_first (c ∷ s) some h = λ e. run_not c h.0 e
 

@@ -5,8 +5,8 @@ ghost use Rattle.dns_fields.specs.Octets.{At};
 ghost use Rattle.dns_fields.specs.Pieces.{Numbered, pieces, ArePieces, OptionValue, OptionHeld};
 ghost use Rattle.dns_names_wire.specs.Words.{ReadsTo};
 ghost use Rattle.dns_rdata_options.specs.EdnsCode.{edns_code_of};
-ghost use Rattle.dns_rdata_options.specs.EdnsOption.{option_refusal};
-ghost use Rattle.dns_rdata_options.specs.OPT.{opt_shape, opt_fields, IsReadOpt, opt_refusal};
+ghost use Rattle.dns_rdata_options.specs.EdnsOption.{IsOptionRefusal};
+ghost use Rattle.dns_rdata_options.specs.OPT.{opt_shape, opt_fields, IsReadOpt, IsOptRefusal};
 ghost use Rattle.dns_rdata_options.specs.OptionReads.{ReadsPiece, ReadsNext, TookPair, TookSome, HasValue, NoWhole};
 
 use crate::opt::OPT;
@@ -83,7 +83,7 @@ fn passed(read: usize, len: u16) -> DecodeError
 // Whether octets of an option with this code have a value.
 fn check_octets(code: u16, octets: &[u8]) -> Result<(), DecodeError>
     ensures value { OnOk result (HasValue code octets.now) }
-    ensures refused { IfErr result (λ e. option_refusal (edns_code_of code) octets.now e) }
+    ensures refused { IfErr result (λ e. IsOptionRefusal (edns_code_of code) octets.now e) }
 {
     if code == SUBNET {
         let _subnet = ClientSubnet::try_from(octets)?;
@@ -137,7 +137,7 @@ fn read_pair(
 fn read_whole(decoder: &mut BinDecoder<'_>, length: u16, count: usize) -> Result<OPT, DecodeError>
     ensures fields { ReadsTo opt_shape (λ _. Unit {0}) length opt_fields result decoder.old decoder.new }
     ensures read { IfOk result IsReadOpt }
-    ensures refused { IfErr result (λ e. opt_refusal length decoder.old e decoder.new) }
+    ensures refused { IfErr result (λ e. IsOptRefusal length decoder.old e decoder.new) }
 {
     let start = decoder.index();
     let end = start + length as usize;
@@ -157,7 +157,7 @@ fn read_cut(decoder: &mut BinDecoder<'_>, length: u16) -> Result<OPT, DecodeErro
     requires none { NoWhole decoder.old.message decoder.old.index (decoder.old.index + length) }
     ensures fields { ReadsTo opt_shape (λ _. Unit {0}) length opt_fields result decoder.old decoder.new }
     ensures read { IfOk result IsReadOpt }
-    ensures refused { IfErr result (λ e. opt_refusal length decoder.old e decoder.new) }
+    ensures refused { IfErr result (λ e. IsOptRefusal length decoder.old e decoder.new) }
 {
     let start = decoder.index();
     let end = start + length as usize;
@@ -174,7 +174,7 @@ fn read_cut(decoder: &mut BinDecoder<'_>, length: u16) -> Result<OPT, DecodeErro
 pub(crate) fn read_options(decoder: &mut BinDecoder<'_>, length: u16) -> Result<OPT, DecodeError>
     ensures fields { ReadsTo opt_shape (λ _. Unit {0}) length opt_fields result decoder.old decoder.new }
     ensures read { IfOk result IsReadOpt }
-    ensures refused { IfErr result (λ e. opt_refusal length decoder.old e decoder.new) }
+    ensures refused { IfErr result (λ e. IsOptRefusal length decoder.old e decoder.new) }
 {
     let _place = decoder.index();
     match count_options(decoder.unread().unverified(), length as usize) {

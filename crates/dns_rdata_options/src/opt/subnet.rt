@@ -4,7 +4,7 @@ ghost use Rattle.std.specs.Prelude.{◌≡◌, ◌+◌, ◌<◌, ◌≤◌, ◌/
 ghost use Rattle.dns_fields.specs.Pieces.{option_octets, IsEmittableOption, IsAddress, Subnet as SubnetValue};
 ghost use Rattle.dns_names_wire.specs.Words.{ReadsBy, IsMessage};
 ghost use Rattle.dns_rdata_options.specs.Words.{EmitsOctets};
-ghost use Rattle.dns_rdata_options.specs.ClientSubnet.{subnet_value, SubnetAt, NoSubnet, subnet_refusal, ReadsSubnet, prefix_octets};
+ghost use Rattle.dns_rdata_options.specs.ClientSubnet.{subnet_value, SubnetAt, NoSubnet, IsSubnetRefusal, ReadsSubnet, prefix_octets};
 ghost use Rattle.dns_rdata_options.specs.ClientSubnet.{family_octets, address_of, address_octets, family_of, padded, IsFamily};
 ghost use Rattle.dns_rdata_options.specs.IpNet.{masked_address};
 
@@ -181,7 +181,7 @@ fn family_octets(family: u16) -> usize
 // The subnet that begins the octets, and how many octets it has.
 fn read_front(octets: &[u8]) -> Result<(ClientSubnet, usize), DecodeError>
     ensures read { IfOk result (λ x. SubnetAt octets.now 0 x.0 x.1) }
-    ensures refused { IfErr result (λ e. subnet_refusal octets.now e) }
+    ensures refused { IfErr result (λ e. IsSubnetRefusal octets.now e) }
 {
     if octets.len() < 2 {
         return Err(DecodeError::InsufficientBytes);
@@ -208,7 +208,7 @@ fn read_front(octets: &[u8]) -> Result<(ClientSubnet, usize), DecodeError>
 impl BinDecodable for ClientSubnet {
     ghost stands = { SubnetAt };
 
-    ghost refuses = { λ old e _. subnet_refusal (drop old.index old.message) e };
+    ghost refuses = { λ old e _. IsSubnetRefusal (drop old.index old.message) e };
 
     /// Reads a subnet, and leaves what follows. Octets of the address that do not stand are 0. It is refused, and takes
     /// nothing, for the first of these: by [`UnknownAddressFamily`](DecodeError::UnknownAddressFamily) for a family
@@ -217,7 +217,7 @@ impl BinDecodable for ClientSubnet {
     /// [`InsufficientBytes`](DecodeError::InsufficientBytes) where octets are missing.
     fn read(decoder: &mut BinDecoder<'_>) -> Result<ClientSubnet, DecodeError>
         ensures reads { ReadsBy SubnetAt result decoder.old decoder.new }
-        ensures refused { IfErr result (λ e. subnet_refusal (drop decoder.old.index decoder.old.message) e) }
+        ensures refused { IfErr result (λ e. IsSubnetRefusal (drop decoder.old.index decoder.old.message) e) }
         ensures unchanged { OnErr result (decoder.new ≡ decoder.old) }
     {
         let _start = decoder.index();

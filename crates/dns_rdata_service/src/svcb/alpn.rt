@@ -5,7 +5,7 @@ ghost use Rattle.dns_fields.specs.Fields.{Texts, Field};
 ghost use Rattle.std.specs.String.{string_bytes};
 ghost use Rattle.dns_fields.specs.Pieces.{Names};
 ghost use Rattle.dns_names_wire.specs.Words.{ReadsBy};
-ghost use Rattle.dns_rdata_service.specs.SvcParamValue.{alpn_value, AlpnAt, value_refusal, EmitsValue};
+ghost use Rattle.dns_rdata_service.specs.SvcParamValue.{alpn_value, AlpnAt, IsValueRefusal, EmitsValue};
 
 use crate::items::Items;
 use bstr::BStr;
@@ -36,7 +36,7 @@ impl Alpn {
 impl BinDecodable for Alpn {
     ghost stands = { AlpnAt };
 
-    ghost refuses = { λ old e _. value_refusal Names (drop old.index old.message) e };
+    ghost refuses = { λ old e _. IsValueRefusal Names (drop old.index old.message) e };
 
     /// Reads names to the message's end, by one request for memory for the list and one for each name of more than 16
     /// octets. None are refused by [`SvcParamMissingValue`](DecodeError::SvcParamMissingValue), a name that lacks
@@ -44,7 +44,7 @@ impl BinDecodable for Alpn {
     /// [`Utf8`](DecodeError::Utf8).
     fn read(decoder: &mut BinDecoder<'_>) -> Result<Alpn, DecodeError>
         ensures reads { ReadsBy AlpnAt result decoder.old decoder.new }
-        ensures refused { IfErr result (λ e. value_refusal Names (drop decoder.old.index decoder.old.message) e) }
+        ensures refused { IfErr result (λ e. IsValueRefusal Names (drop decoder.old.index decoder.old.message) e) }
     {
         if decoder.len() == 0 {
             return Err(DecodeError::SvcParamMissingValue);

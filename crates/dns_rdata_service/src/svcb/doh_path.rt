@@ -3,7 +3,7 @@
 ghost use Rattle.std.specs.Prelude.{◌≡◌, drop, IfErr, IfOk};
 ghost use Rattle.std.specs.String.{string_bytes};
 ghost use Rattle.dns_names_wire.specs.Words.{ReadsBy};
-ghost use Rattle.dns_rdata_service.specs.SvcParamValue.{doh_path_value, DohPathAt, path_refusal, EmitsValue};
+ghost use Rattle.dns_rdata_service.specs.SvcParamValue.{doh_path_value, DohPathAt, IsPathRefusal, EmitsValue};
 
 use crate::svcb::alpn::is_text;
 use bstr::BStr;
@@ -30,13 +30,13 @@ impl DohPath {
 impl BinDecodable for DohPath {
     ghost stands = { DohPathAt };
 
-    ghost refuses = { λ old e _. path_refusal (drop old.index old.message) e };
+    ghost refuses = { λ old e _. IsPathRefusal (drop old.index old.message) e };
 
     /// Reads the octets to the message's end. What is not UTF-8 is refused by [`Utf8`](DecodeError::Utf8).
     #[inline]
     fn read(decoder: &mut BinDecoder<'_>) -> Result<DohPath, DecodeError>
         ensures reads { ReadsBy DohPathAt result decoder.old decoder.new }
-        ensures refused { IfErr result (path_refusal (drop decoder.old.index decoder.old.message)) }
+        ensures refused { IfErr result (IsPathRefusal (drop decoder.old.index decoder.old.message)) }
     {
         let left = decoder.len();
         let path = decoder.read_slice(left)?.unverified();

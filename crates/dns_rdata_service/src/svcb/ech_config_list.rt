@@ -3,7 +3,7 @@
 ghost use Rattle.std.specs.Prelude.{◌≡◌, drop, IfErr, IfOk};
 ghost use Rattle.dns_fields.specs.Pieces.{AnyOctets};
 ghost use Rattle.dns_names_wire.specs.Words.{ReadsBy};
-ghost use Rattle.dns_rdata_service.specs.SvcParamValue.{ech_value, EchConfigListAt, value_refusal, EmitsValue};
+ghost use Rattle.dns_rdata_service.specs.SvcParamValue.{ech_value, EchConfigListAt, IsValueRefusal, EmitsValue};
 
 use dns_names_wire::{
     BinDecodable, BinDecoder, BinEncodable, BinEncoder, DecodeError, Octets, ProtoError,
@@ -19,13 +19,13 @@ pub struct EchConfigList(pub Octets);
 impl BinDecodable for EchConfigList {
     ghost stands = { EchConfigListAt };
 
-    ghost refuses = { λ old e _. value_refusal AnyOctets (drop old.index old.message) e };
+    ghost refuses = { λ old e _. IsValueRefusal AnyOctets (drop old.index old.message) e };
 
     /// Reads the octets to the message's end, by one request for memory.
     #[inline]
     fn read(decoder: &mut BinDecoder<'_>) -> Result<EchConfigList, DecodeError>
         ensures reads { ReadsBy EchConfigListAt result decoder.old decoder.new }
-        ensures refused { IfErr result (λ e. value_refusal AnyOctets (drop decoder.old.index decoder.old.message) e) }
+        ensures refused { IfErr result (λ e. IsValueRefusal AnyOctets (drop decoder.old.index decoder.old.message) e) }
     {
         let left = decoder.len();
         let octets = decoder.read_vec(left)?.unverified();

@@ -3,7 +3,7 @@
 ghost use Rattle.std.specs.Prelude.{◌≡◌, drop, IfErr, IfOk};
 ghost use Rattle.dns_fields.specs.Pieces.{Keys};
 ghost use Rattle.dns_names_wire.specs.Words.{ReadsBy};
-ghost use Rattle.dns_rdata_service.specs.SvcParamValue.{mandatory_value, MandatoryAt, value_refusal, EmitsValue};
+ghost use Rattle.dns_rdata_service.specs.SvcParamValue.{mandatory_value, MandatoryAt, IsValueRefusal, EmitsValue};
 
 use crate::items::Items;
 use crate::svcb::key::SvcParamKey;
@@ -28,14 +28,14 @@ impl Mandatory {
 impl BinDecodable for Mandatory {
     ghost stands = { MandatoryAt };
 
-    ghost refuses = { λ old e _. value_refusal Keys (drop old.index old.message) e };
+    ghost refuses = { λ old e _. IsValueRefusal Keys (drop old.index old.message) e };
 
     /// Reads keys to the message's end, by one request for memory. None are refused by
     /// [`SvcParamMissingValue`](DecodeError::SvcParamMissingValue), and an odd octet by
     /// [`InsufficientBytes`](DecodeError::InsufficientBytes).
     fn read(decoder: &mut BinDecoder<'_>) -> Result<Mandatory, DecodeError>
         ensures reads { ReadsBy MandatoryAt result decoder.old decoder.new }
-        ensures refused { IfErr result (λ e. value_refusal Keys (drop decoder.old.index decoder.old.message) e) }
+        ensures refused { IfErr result (λ e. IsValueRefusal Keys (drop decoder.old.index decoder.old.message) e) }
     {
         if decoder.len() == 0 {
             return Err(DecodeError::SvcParamMissingValue);

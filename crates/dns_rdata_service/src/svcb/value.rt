@@ -3,7 +3,7 @@
 ghost use Rattle.std.specs.Prelude.{◌≡◌, IfErr, IfOk, length};
 ghost use Rattle.dns_fields.specs.Pieces.{form_for, IsEmittable, IsBody, Addresses4, Addresses16};
 ghost use Rattle.dns_rdata_service.specs.SvcParamKey.{key_number, key_of};
-ghost use Rattle.dns_rdata_service.specs.SvcParamValue.{value_of, hint4_value, hint6_value, IsValueOf, key_refusal, value_refusal, EmitsValue, EmitsSized};
+ghost use Rattle.dns_rdata_service.specs.SvcParamValue.{value_of, hint4_value, hint6_value, IsValueOf, IsKeyRefusal, IsValueRefusal, EmitsValue, EmitsSized};
 
 use crate::svcb::alpn::Alpn;
 use crate::svcb::doh_path::DohPath;
@@ -50,7 +50,7 @@ impl SvcParamValue {
     ) -> Result<SvcParamValue, DecodeError>
         requires { key ≡ key_of (key_number key) }
         ensures read { IfOk result (λ v. IsValueOf (key_number key) octets.now v) }
-        ensures refused { IfErr result (λ e. key_refusal (key_number key) octets.now e) }
+        ensures refused { IfErr result (λ e. IsKeyRefusal (key_number key) octets.now e) }
     {
         let mut decoder = BinDecoder::new(alloc, octets);
         match key {
@@ -93,7 +93,7 @@ impl SvcParamValue {
 // The value without octets.
 fn no_octets(octets: &[u8]) -> Result<SvcParamValue, DecodeError>
     ensures read { IfOk result (λ v. IsValueOf 2 octets.now v) }
-    ensures refused { IfErr result (λ e. value_refusal (form_for 2) octets.now e) }
+    ensures refused { IfErr result (λ e. IsValueRefusal (form_for 2) octets.now e) }
 {
     if octets.len() != 0 {
         return Err(DecodeError::IncorrectRDataLengthRead {
@@ -108,7 +108,7 @@ fn no_octets(octets: &[u8]) -> Result<SvcParamValue, DecodeError>
 fn hint4(alloc: Global, octets: &[u8]) -> Result<IpHint<A>, DecodeError>
     ensures fit { IfOk result (λ x. IsEmittable (hint4_value x)) }
     ensures body { IfOk result (λ x. IsBody octets.now (hint4_value x)) }
-    ensures refused { IfErr result (λ e. value_refusal Addresses4 octets.now e) }
+    ensures refused { IfErr result (λ e. IsValueRefusal Addresses4 octets.now e) }
 {
     if octets.len() % 4 != 0 {
         return Err(DecodeError::InsufficientBytes);
@@ -122,7 +122,7 @@ fn hint4(alloc: Global, octets: &[u8]) -> Result<IpHint<A>, DecodeError>
 fn hint6(alloc: Global, octets: &[u8]) -> Result<IpHint<AAAA>, DecodeError>
     ensures fit { IfOk result (λ x. IsEmittable (hint6_value x)) }
     ensures body { IfOk result (λ x. IsBody octets.now (hint6_value x)) }
-    ensures refused { IfErr result (λ e. value_refusal Addresses16 octets.now e) }
+    ensures refused { IfErr result (λ e. IsValueRefusal Addresses16 octets.now e) }
 {
     if octets.len() % 16 != 0 {
         return Err(DecodeError::InsufficientBytes);

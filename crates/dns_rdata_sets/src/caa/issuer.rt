@@ -14,8 +14,8 @@ ghost use Rattle.dns_types.specs.declared.error.ProtoError.TheVariants as proto;
 ghost use Rattle.dns_fields.specs.Labels.{DomainName};
 ghost use Rattle.dns_names_wire.specs.NameValues.{IsTextRefusal};
 ghost use Rattle.dns_rdata_sets.specs.Issuer.{Parameter, is_blank, is_key_octet, is_value_octet, is_no_semicolon, AllOf, Splits, IsKey};
-ghost use Rattle.dns_rdata_sets.specs.Issuer.{IsParameter, parameter_octets, AreParameters, IsIssuerName, name_refusal, IsIssuer};
-ghost use Rattle.dns_rdata_sets.specs.Issuer.{issuer_refusal, IsNamed, IsWritable, issuer_name_text, parameters_text, issuer_value};
+ghost use Rattle.dns_rdata_sets.specs.Issuer.{IsParameter, parameter_octets, AreParameters, IsIssuerName, IsNameRefusal, IsIssuer};
+ghost use Rattle.dns_rdata_sets.specs.Issuer.{IsIssuerRefusal, IsNamed, IsWritable, issuer_name_text, parameters_text, issuer_value};
 
 use dns_names_wire::{DecodeError, Name, ProtoError, ProtoResult};
 use std::alloc::{AllocError, Global};
@@ -218,7 +218,7 @@ fn read_pairs(alloc: Global, octets: &[u8]) -> ProtoResult<Vec<KeyValue>>
 // The name that all these octets are the text of, or none.
 fn read_name(alloc: Global, octets: &[u8]) -> ProtoResult<Option<Name>>
     ensures read { IfOk result (λ x. IsIssuerName octets.now x) }
-    ensures refused { IfErr result (λ e. name_refusal octets.now e) }
+    ensures refused { IfErr result (λ e. IsNameRefusal octets.now e) }
 {
     if octets.len() == 0 {
         return Ok(None);
@@ -232,7 +232,7 @@ fn read_name(alloc: Global, octets: &[u8]) -> ProtoResult<Option<Name>>
 // The name and the parameters of an issuer.
 fn read_parts(alloc: Global, octets: &[u8]) -> ProtoResult<(Option<Name>, Vec<KeyValue>)>
     ensures read { IfOk result (λ x. IsIssuer octets.now x.0 x.1.items) }
-    ensures refused { IfErr result (λ e. issuer_refusal octets.now e) }
+    ensures refused { IfErr result (λ e. IsIssuerRefusal octets.now e) }
 {
     let (name, rest) = cut_at(octets, b';');
     let name = read_name(alloc, name)?;
@@ -252,7 +252,7 @@ fn read_parts(alloc: Global, octets: &[u8]) -> ProtoResult<(Option<Name>, Vec<Ke
 /// [`Message`](ProtoError::Message).
 pub fn read_issuer(alloc: Global, octets: &[u8]) -> ProtoResult<(Option<Name>, Vec<KeyValue>)>
     ensures read { IfOk result (λ x. IsIssuer octets.now x.0 x.1.items) }
-    ensures refused { IfErr result (λ e. issuer_refusal octets.now e) }
+    ensures refused { IfErr result (λ e. IsIssuerRefusal octets.now e) }
     // the value of a name and parameters is read as these
     ensures reads_back { (name : Option DomainName) (xs : List Parameter) → IsIssuer octets.now name xs →
         MatchResult result (λ x. (x.0 ≡ name) × (x.1.items ≡ xs)) (λ e. e ≡ ProtoError.Memory) }

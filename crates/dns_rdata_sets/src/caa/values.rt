@@ -6,7 +6,7 @@ ghost use Rattle.std.specs.Option.{option_copied};
 ghost use Rattle.std.specs.Str.{IsUtf8};
 ghost use Rattle.std.specs.String.{string_bytes};
 ghost use Rattle.dns_names_wire.specs.NameValues.{IsTextRefusal};
-ghost use Rattle.dns_rdata_sets.specs.CAA.{IsIssuerTag, IsIodefTag, issuer_value_refusal, iodef_value_refusal};
+ghost use Rattle.dns_rdata_sets.specs.CAA.{IsIssuerTag, IsIodefTag, IsIssuerValueRefusal, IsIodefValueRefusal};
 ghost use Rattle.dns_rdata_sets.specs.Issuer.{IsParameter, IsIssuer, IsWritable, issuer_value};
 
 use crate::caa::CAA;
@@ -141,7 +141,7 @@ impl CAA {
     pub fn value_as_issue(&self) -> ProtoResult<(Option<Name>, Vec<KeyValue>)>
         ensures read { IfOk result (λ x. IsIssuer self.now.value x.0 x.1.items) }
         ensures tag { OnOk result (IsIssuerTag self.now.tag) }
-        ensures refused { IfErr result (λ e. issuer_value_refusal self.now e) }
+        ensures refused { IfErr result (λ e. IsIssuerValueRefusal self.now e) }
     {
         if !is_issuer_tag(self.tag.as_slice()) {
             return Err(NO_ISSUER_TAG);
@@ -154,7 +154,7 @@ impl CAA {
     pub fn value_as_iodef(&self) -> ProtoResult<&str>
         ensures read { IfOk result (λ text. (text.now ≡ self.now.value) × IsUtf8 self.now.value) }
         ensures tag { OnOk result (IsIodefTag self.now.tag) }
-        ensures refused { IfErr result (λ e. iodef_value_refusal self.now e) }
+        ensures refused { IfErr result (λ e. IsIodefValueRefusal self.now e) }
     {
         if !is_iodef_tag(self.tag.as_slice()) {
             return Err(NO_IODEF_TAG);

@@ -3,7 +3,7 @@
 ghost use Rattle.std.specs.Prelude.{◌≡◌, ◌*◌, ◌<◌, length, IfOk, IfErr, OnOk};
 ghost use Rattle.dns_types.specs.declared.error.DecodeError.TheVariants as decode;
 ghost use Rattle.dns_fields.specs.Bitmaps.{has_type};
-ghost use Rattle.dns_rdata_sets.specs.RecordTypeSet.{Adds, octet_has, FitsBlock, TookBlock, NoBlock, AreBlocks, NoBlocks, block_refusal};
+ghost use Rattle.dns_rdata_sets.specs.RecordTypeSet.{Adds, octet_has, FitsBlock, TookBlock, NoBlock, AreBlocks, NoBlocks, IsBlockRefusal};
 
 use crate::record_type_set::marking::read_marked;
 use dns_names_wire::DecodeError;
@@ -16,7 +16,7 @@ pub(super) const MOST: usize = 32;
 // as the RFC asks; else by marking them, so that a window which stands again takes no memory again.
 pub(super) fn read_blocks(alloc: Global, octets: &[u8]) -> Result<Vec<u16>, DecodeError>
     ensures read { IfOk result (λ numbers. AreBlocks octets.now numbers.items) }
-    ensures refused { IfErr result (λ e. block_refusal e (NoBlocks octets.now)) }
+    ensures refused { IfErr result (λ e. IsBlockRefusal e (NoBlocks octets.now)) }
 {
     if !windows_rise(octets) {
         return read_marked(alloc, octets);
@@ -68,7 +68,7 @@ pub(super) fn block_len(octets: &[u8]) -> Result<usize, DecodeError>
 // Adds the types of the block in front, and answers what is behind it.
 fn read_block<'a>(octets: &'a [u8], numbers: &mut Vec<u16>) -> Result<&'a [u8], DecodeError>
     ensures read { IfOk result (λ rest. TookBlock octets.now rest.now numbers.old.items numbers.new.items) }
-    ensures refused { IfErr result (λ e. block_refusal e (NoBlock octets.now)) }
+    ensures refused { IfErr result (λ e. IsBlockRefusal e (NoBlock octets.now)) }
 {
     let len = block_len(octets)?;
     add_octets(numbers, octets[0], &octets[2..2 + len])?;
