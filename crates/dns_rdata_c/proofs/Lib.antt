@@ -2,6 +2,8 @@ pub mod Equalities
 pub mod Fillings
 pub mod Whole
 pub mod NameSpans
+pub mod LabelsWritten
+pub mod NamesPut
 pub mod Readings
 pub mod NamePlaces
 pub mod NameWalks
@@ -11,3 +13,8 @@ pub mod PartWalks
 pub mod NamesStand
 pub mod PartTies
 pub mod ZoneReads
+pub mod Lengths
+pub mod PartOctets
+pub mod FieldPlaces
+pub mod FieldWindows
+pub mod ValueWindows

@@ -1,6 +1,6 @@
 -- Canonical octets by the octets with whole names.
 use Rattle.std.proofs.Common.{◌≡◌, ℕ, zero, suc, ◌+◌, ◌<◌, ◌≤◌, Bool, true, false, ◌&&◌, List, [], ◌∷◌, ◌++◌, length, take, drop, map, refl, sym, ◌∙◌, ap, subst, arith, if◌then◌else◌}
-use Rattle.std.proofs.Common.{length-append, length-take-le}
+use Rattle.std.proofs.Common.{append_assoc, length-append, length-take-le}
 use Rattle.std.proofs.lemmas.List.{length-map, length-drop}
 use Rattle.std.specs.Cmp.{first_so, second_so}
 use Rattle.std.proofs.lemmas.Bool.Decides.{nat_tests}
@@ -99,6 +99,23 @@ name_first kinds x vs n h is count =
       within = omega (arith, size, length-append (name_octets x) (all_whole kinds vs));
       is = ap (λ (l : List ℕ). lowname x ++ l) (plain_fields kinds vs h) ∙ ap (λ (l : List ℕ). l ++ all_whole kinds vs) (sym (low_name x is))
           ∙ sym (lowered_front (name_octets x) (all_whole kinds vs)) ∙ ap (λ (k : ℕ). lowered_at 0 k (name_octets x ++ all_whole kinds vs)) (sym size);
+    }
+
+-- two names
+pub names_first : (kinds : List Kind) (x y : DomainName) (vs : Values kinds) (n : ℕ) → are_plain kinds ≡ true → IsName x → IsName y → n ≡ length (lowname x) + length (lowname y)
+    → LoweredIn (Name ∷ Name ∷ kinds) (x, (y, vs)) 0 n
+unfolding field_octets
+names_first kinds x y vs n h is also count =
+    let a = name_octets x in
+    let b = name_octets y in
+    let w = all_whole kinds vs in
+    let size : n ≡ length (a ++ b) = omega (arith, count, as_long x is, as_long y also, length-append a b) in
+    let low : lowname x ++ lowname y ≡ map to_ascii_lowercase (a ++ b) =
+    ap (λ (l : List ℕ). l ++ lowname y) (sym (low_name x is)) ∙ ap (λ (l : List ℕ). map to_ascii_lowercase a ++ l) (sym (low_name y also)) ∙ sym (map_append a b) in
+    record {
+      within = omega (arith, size, length-append a b, length-append a (b ++ w), length-append b w);
+      is = ap (λ (l : List ℕ). lowname x ++ (lowname y ++ l)) (plain_fields kinds vs h) ∙ sym (append_assoc (lowname x) (lowname y) w) ∙ ap (λ (l : List ℕ). l ++ w) low
+          ∙ sym (lowered_front (a ++ b) w) ∙ ap (λ (k : ℕ). lowered_at 0 k ((a ++ b) ++ w)) (sym size) ∙ ap (lowered_at 0 n) (append_assoc a b w);
     }
 
 pub behind : (k : Kind) (kinds : List Kind) (v : Value k) (vs : Values kinds) (s n : ℕ) → is_plain k ≡ true → LoweredIn kinds vs s n

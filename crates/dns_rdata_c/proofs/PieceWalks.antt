@@ -1,9 +1,9 @@
 -- Pieces that are counted.
-use Rattle.std.proofs.Common.{◌≡◌, ◌∙◌, ◌↔◌, ℕ, ◌+◌, ◌-◌, ◌*◌, ◌/◌, ◌%◌, ◌<◌, ◌≤◌, ◌^◌, zero, suc, ⊎_elim, inl, inr, List, [], ◌∷◌, ◌++◌, length, take, drop, refl, sym, ap, subst, arith, append_assoc, length-append, length-take-le, Fits, w8, slice_index_or}
+use Rattle.std.proofs.Common.{◌≡◌, ◌∙◌, ℕ, ◌+◌, ◌-◌, ◌*◌, ◌/◌, ◌%◌, ◌<◌, ◌≤◌, ◌^◌, inl, inr, List, [], ◌∷◌, ◌++◌, length, take, drop, refl, sym, ap, subst, arith, append_assoc, length-append, length-take-le, Fits, w8, slice_index_or}
 use Rattle.std.proofs.Math.Facts.{Fits-lt-pow}
 use Rattle.std.proofs.lemmas.List.Elements.{All-from_get_or}
 use Rattle.std.specs.Int.{bytes_high_first}
-use Rattle.std.proofs.lemmas.List.{append-nil, drop-drop, drop_at, length-drop, take-append-drop}
+use Rattle.std.proofs.lemmas.List.{append-nil, drop_at, length-drop, take-append-drop}
 use Rattle.dns_fields.specs.Octets.{AreOctets}
 use Rattle.dns_fields.specs.Pieces.{Numbered, piece, pieces, IsPiece, ArePieces, IsCut}
 use Rattle.dns_fields.proofs.Numbers.{length-bytes, same_number}
@@ -85,11 +85,11 @@ pub record Counting (s : List ℕ) (count end : ℕ) : Type 0 where
 pub count_begins : (s : List ℕ) → Counting s 0 0
 count_begins s = record { read = []; are = tt; rest = s; is = refl; many = refl; ends = refl }
 
-pieces-append : (xs ys : List (Numbered (List ℕ))) → pieces (xs ++ ys) ≡ pieces xs ++ pieces ys
+pub pieces-append : (xs ys : List (Numbered (List ℕ))) → pieces (xs ++ ys) ≡ pieces xs ++ pieces ys
 pieces-append [] ys = refl
 pieces-append (x ∷ xs) ys = ap (λ (l : List ℕ). piece x ++ l) (pieces-append xs ys) ∙ sym (append_assoc (piece x) (pieces xs) (pieces ys))
 
-ArePieces-append : (xs ys : List (Numbered (List ℕ))) → ArePieces xs → ArePieces ys → ArePieces (xs ++ ys)
+pub ArePieces-append : (xs ys : List (Numbered (List ℕ))) → ArePieces xs → ArePieces ys → ArePieces (xs ++ ys)
 ArePieces-append [] ys f g = g
 ArePieces-append (x ∷ xs) ys f g = (f.0, ArePieces-append xs ys f.1 g)
 

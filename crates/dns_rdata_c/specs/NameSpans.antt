@@ -1,9 +1,11 @@
--- Octets of which some are put in lower case.
+-- Octets of record data as they stand in a message, and with names whole or in lower case.
 use Rattle.std.specs.Prelude.{◌≡◌, ℕ, ◌+◌, ◌≤◌, List, ◌++◌, take, drop, map, length}
 use Rattle.std.specs.Char.{to_ascii_lowercase}
+use Rattle.dns_fields.specs.Fields.{Kind, Values, Stands}
+use Rattle.dns_fields.specs.Labels.{DomainName}
 use Rattle.dns_rdata.specs.declared.record_data.RData.{RData}
-use Rattle.dns_rdata.specs.Data.{data_octets}
-use Rattle.dns_rdata.specs.WholeOctets.{whole_data}
+use Rattle.dns_rdata.specs.Data.{fields_of, data_octets}
+use Rattle.dns_rdata.specs.WholeOctets.{name_octets, whole_data}
 
 -- the octets, n of them from the place s on in lower case
 abbrev pub lowered_at : ℕ → ℕ → List ℕ → List ℕ
@@ -13,3 +15,26 @@ lowered_at s n octets = take s octets ++ (map to_ascii_lowercase (take n (drop s
 pub record HasNameAt (v : RData) (s n : ℕ) : Type 0 where
   pub within : s + n ≤ length (whole_data v)
   pub lowered : data_octets v ≡ lowered_at s n (whole_data v)
+
+-- the octets are those that stand for the fields in some message
+pub record AreFields (octets : List ℕ) (kinds : List Kind) (vs : Values kinds) : Type 0 where
+  pub message : List ℕ
+  pub place : ℕ
+  pub within : place + length octets ≤ length message
+  pub stands : Stands message place kinds vs (place + length octets)
+  pub is : octets ≡ take (length octets) (drop place message)
+
+-- the octets are those that stand for the value in some message
+abbrev pub AreOf : List ℕ → RData → Type 0
+AreOf octets v = AreFields octets (fields_of v).kinds (fields_of v).values
+
+-- Whatever octets stand for the value, they are those with whole names.
+pub record StandsWhole (v : RData) : Type 0 where
+  pub same : (octets : List ℕ) → AreOf octets v → octets ≡ whole_data v
+
+-- The value ends by a name. In front of it stand s octets, which are the same with whole names; and the name stands whole where
+-- there are as many octets as with whole names.
+pub record EndsByName (v : RData) (s : ℕ) (x : DomainName) : Type 0 where
+  pub room : (octets : List ℕ) → AreOf octets v → s ≤ length octets
+  pub front : (octets : List ℕ) → AreOf octets v → whole_data v ≡ take s octets ++ name_octets x
+  pub whole : (octets : List ℕ) → AreOf octets v → s + length (name_octets x) ≡ length octets → octets ≡ whole_data v

@@ -1,5 +1,6 @@
 -- Pieces one behind the other, each a number, a length and octets.
 use Rattle.std.specs.Prelude.{◌≡◌, ℕ, ◌+◌, ◌<◌, List, ◌++◌, length, take, Some, slice_get}
+use Rattle.std.specs.List.{AllByRecursion}
 use Rattle.dns_fields.specs.Pieces.{Numbered, piece, pieces, IsPiece, ArePieces}
 
 -- no piece stands in front
@@ -36,3 +37,11 @@ pub record IsPieceOf (s : List ℕ) (i number begin count : ℕ) : Type 0 where
   pub get : slice_get read i ≡ Some (number, octets)
   pub begins : begin ≡ length (pieces (take i read)) + 4
   pub told : count ≡ length octets
+
+-- each piece of this number has so many octets
+abbrev pub AreAsLong : ℕ → ℕ → List (Numbered (List ℕ)) → Type 0
+AreAsLong number count read = AllByRecursion (λ x. x.0 ≡ number → length x.1 ≡ count) read
+
+-- whatever pieces the octets are
+abbrev pub HoldAsLong : List ℕ → ℕ → ℕ → Type 0
+HoldAsLong s number count = (read : List (Numbered (List ℕ))) → ArePieces read → s ≡ pieces read → AreAsLong number count read

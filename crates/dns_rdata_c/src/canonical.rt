@@ -8,7 +8,7 @@ ghost use Rattle.dns_rdata_c.specs.Reading.{HasData};
 ghost use Rattle.dns_rdata_c.specs.Buffers.{IsPut};
 
 use crate::filling::put_canonical;
-use crate::reading::decode_at;
+use crate::reading::{decode_at, octets_at};
 use crate::status::{BUFFER, MEMORY, OK, REFUSED, TOO_LONG, status_of};
 use dns_rdata::RecordType;
 use std::alloc::Global;
@@ -38,6 +38,9 @@ pub extern "C" fn dns_rdata_canonical(
 {
     match decode_at(alloc, message, place, length, RecordType::from(type_number)) {
         Err(error) => status_of(error),
-        Ok(value) => put_canonical(alloc, &value, out, count),
+        Ok(value) => {
+            let octets = octets_at(message, place, length);
+            put_canonical(alloc, octets, &value, out, count)
+        }
     }
 }

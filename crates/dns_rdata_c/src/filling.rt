@@ -1,8 +1,9 @@
-//! Canonical octets that are copied into a buffer.
+//! Canonical octets that are put into a buffer.
 
-ghost use Rattle.std.specs.Prelude.{◌≡◌, ◌≢◌, ◌<◌, ◌⊎◌, length as size};
+ghost use Rattle.std.specs.Prelude.{◌≡◌, ◌≢◌, ◌<◌, ◌≤◌, ◌⊎◌, length as size};
 ghost use Rattle.dns_rdata.specs.Data.{data_octets, IsEmittable};
 ghost use Rattle.dns_rdata_c.specs.Buffers.{IsPut};
+ghost use Rattle.dns_rdata_c.specs.NameSpans.{AreOf};
 
 use crate::lowering::{name_span, put_lowered};
 use crate::status::{BUFFER, MEMORY, OK, TOO_LONG};
@@ -15,10 +16,18 @@ const MAX_OCTETS: usize = 65535;
 // How many octets are counted at once that are put nowhere.
 const COUNTED: usize = 256;
 
-/// Puts the canonical octets of a value at the front of the buffer where they fit, and tells their number. Where they do not
-/// fit, what is in the buffer is left open.
-pub fn put_canonical(alloc: Global, value: &RData, out: &mut [u8], count: &mut usize) -> u32
-    requires { IsEmittable value.now }
+/// Puts the canonical octets of a value at the front of the buffer where they fit, and tells their number, by the octets from
+/// which the value was read. Where they do not fit, what is in the buffer is left open.
+pub fn put_canonical(
+    alloc: Global,
+    octets: &[u8],
+    value: &RData,
+    out: &mut [u8],
+    count: &mut usize,
+) -> u32
+    requires emittable { IsEmittable value.now }
+    requires stand { AreOf octets.now value.now }
+    requires short { size octets.now ≤ 65535 }
     ensures ok { result ≡ OK → IsPut (data_octets value.now) out.old out.new count.new }
     ensures buffer { result ≡ BUFFER → (size out.old < size (data_octets value.now)) × (count.new ≡ size (data_octets value.now)) }
     ensures too_long { result ≡ TOO_LONG → 65535 < size (data_octets value.now) }
@@ -27,7 +36,7 @@ pub fn put_canonical(alloc: Global, value: &RData, out: &mut [u8], count: &mut u
     ensures untold { result ≢ OK → result ≢ BUFFER → count.new ≡ count.old }
 {
     match name_span(value) {
-        Some((start, len)) => put_lowered(alloc, value, start, len, out, count),
+        Some((start, len)) => put_lowered(alloc, octets, value, start, len, out, count),
         None => fill_canonical(value, out, count),
     }
 }

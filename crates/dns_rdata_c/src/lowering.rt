@@ -1,19 +1,20 @@
-//! Canonical octets by those of a value with its names whole.
+//! Canonical octets by those with whole names.
 
 ghost use Rattle.std.specs.Prelude.{◌≡◌, ◌≢◌, ◌+◌, ◌<◌, ◌≤◌, ◌⊎◌, IfSome, length as size};
 ghost use Rattle.dns_rdata.specs.Data.{data_octets, IsEmittable};
 ghost use Rattle.dns_rdata_c.specs.Buffers.{IsPut};
-ghost use Rattle.dns_rdata_c.specs.NameSpans.{lowered_at, HasNameAt};
+ghost use Rattle.dns_rdata_c.specs.NameSpans.{lowered_at, HasNameAt, AreOf};
 
 use crate::emitting::whole_octets;
 use crate::putting::put_octets;
+use crate::standing::put_standing;
 use crate::status::{BUFFER, MEMORY, OK, TOO_LONG};
 use dns_rdata::RData;
 use std::alloc::Global;
 
-/// Where the only name of a value stands among its octets with whole names, and how many octets it has; no octets where the
-/// value has no name. With these in lower case the octets are the canonical ones. `None` of SOA, which has two names, and
-/// of OPT, whose options are put in order. Takes no memory.
+/// Where the names of a value stand among its octets with whole names, and how many octets they have; no octets where the
+/// value has no name. With these in lower case the octets are the canonical ones. `None` of OPT, whose options are put in
+/// order. Takes no memory.
 pub fn name_span(value: &RData) -> Option<(usize, usize)>
     requires { IsEmittable value.now }
     ensures { IfSome result (λ p. HasNameAt value.now p.0 p.1) }
@@ -31,6 +32,7 @@ pub fn name_span(value: &RData) -> Option<(usize, usize)>
             7 + x.flags.len() + x.services.len() + x.regexp.len(),
             x.replacement.len(),
         )),
+        RData::SOA(x) => Some((0, x.mname.len() + x.rname.len())),
         RData::A(_) => Some((0, 0)),
         RData::AAAA(_) => Some((0, 0)),
         RData::CAA(_) => Some((0, 0)),
@@ -56,9 +58,9 @@ fn lower(octets: &mut [u8], start: usize, len: usize)
     octets[start..start + len].make_ascii_lowercase();
 }
 
-/// Puts the canonical octets of a value at the front of the buffer where they fit, and tells their number, by where its only
-/// name stands (`name_span`).
-pub fn put_lowered(
+// Puts the canonical octets of a value at the front of the buffer where they fit, and tells their number: its octets with whole
+// names are emitted, and put in lower case where a name stands.
+fn put_emitted(
     alloc: Global,
     value: &RData,
     start: usize,
@@ -82,4 +84,35 @@ pub fn put_lowered(
             put_octets(octets.as_slice(), out, count)
         }
     }
+}
+
+/// The same by the octets from which the value was read, where they are at hand (`put_standing`), and else by emission.
+pub fn put_lowered(
+    alloc: Global,
+    octets: &[u8],
+    value: &RData,
+    start: usize,
+    len: usize,
+    out: &mut [u8],
+    count: &mut usize,
+) -> u32
+    requires emittable { IsEmittable value.now }
+    requires stand { AreOf octets.now value.now }
+    requires short { size octets.now ≤ 65535 }
+    requires name { HasNameAt value.now start len }
+    ensures ok { result ≡ OK → IsPut (data_octets value.now) out.old out.new count.new }
+    ensures buffer { result ≡ BUFFER → (size out.old < size (data_octets value.now)) × (count.new ≡ size (data_octets value.now)) }
+    ensures too_long { result ≡ TOO_LONG → 65535 < size (data_octets value.now) }
+    ensures status { (result ≡ OK) ⊎ (result ≡ MEMORY) ⊎ (result ≡ BUFFER) ⊎ (result ≡ TOO_LONG) }
+    ensures kept { result ≢ OK → out.new ≡ out.old }
+    ensures untold { result ≢ OK → result ≢ BUFFER → count.new ≡ count.old }
+{
+    let Some(status) = put_standing(octets, value, out, count) else {
+        return put_emitted(alloc, value, start, len, out, count);
+    };
+    if status != OK {
+        return status;
+    }
+    lower(out, start, len);
+    OK
 }

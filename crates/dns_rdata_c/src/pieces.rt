@@ -3,7 +3,7 @@
 ghost use Rattle.std.specs.Prelude.{◌≡◌, ◌↔◌, ◌+◌, ◌≤◌, length as size, take, drop, MatchOption, IsTrue};
 ghost use Rattle.std.specs.Int.{bytes_high_first};
 ghost use Rattle.dns_fields.specs.Pieces.{IsCut};
-ghost use Rattle.dns_rdata_c.specs.Pieces.{HasNoPiece, IsPieceLength, AreCounted, HoldsPieces, IsPieceOf};
+ghost use Rattle.dns_rdata_c.specs.Pieces.{HasNoPiece, IsPieceLength, AreCounted, HoldsPieces, IsPieceOf, HoldAsLong};
 
 /// A piece: its code or key, where its octets begin, and how many they are.
 #[derive(Clone, Copy)]
@@ -49,6 +49,24 @@ pub fn count_pieces(octets: &[u8]) -> (usize, usize)
             None => return (count, end),
             Some(length) => {
                 count += 1;
+                end += length;
+            }
+        }
+    }
+}
+
+/// Whether each piece of this number has so many octets.
+pub fn are_as_long(octets: &[u8], number: u16, count: usize) -> bool
+    ensures { IsTrue result → HoldAsLong octets.now number count }
+{
+    let mut end = 0usize;
+    'pieces: loop {
+        match piece_length(octets, end) {
+            None => return true,
+            Some(length) => {
+                if number_at(octets, end) == number && length - 4 != count {
+                    return false;
+                }
                 end += length;
             }
         }

@@ -6,10 +6,12 @@ ghost use Rattle.dns_rdata.specs.Data.{NoValue, IsEmittable};
 ghost use Rattle.dns_rdata.specs.WholeOctets.{whole_data};
 ghost use Rattle.dns_rdata_c.specs.Reading.{HasData};
 ghost use Rattle.dns_rdata_c.specs.Calls.{PutsWire, LacksRoomForWire};
+ghost use Rattle.dns_rdata_c.specs.NameSpans.{AreOf};
 
 use crate::emitting::whole_octets;
 use crate::putting::put_octets;
-use crate::reading::read_at;
+use crate::reading::{octets_at, read_at};
+use crate::standing::put_standing;
 use crate::status::{BUFFER, MEMORY, OK, REFUSED, TOO_LONG, UNFIT};
 use dns_rdata::RData;
 use std::alloc::Global;
@@ -27,6 +29,30 @@ pub fn put_wire(alloc: Global, value: &RData, out: &mut [u8], count: &mut usize)
     match whole_octets(alloc, value) {
         Err(status) => status,
         Ok(octets) => put_octets(octets.as_slice(), out, count),
+    }
+}
+
+// The same by the octets from which the value was read, where they are at hand (`put_standing`), and else by emission.
+fn put_read(
+    alloc: Global,
+    octets: &[u8],
+    value: &RData,
+    out: &mut [u8],
+    count: &mut usize,
+) -> u32
+    requires emittable { IsEmittable value.now }
+    requires stand { AreOf octets.now value.now }
+    requires short { size octets.now ≤ 65535 }
+    ensures ok { result ≡ OK → PutsWire value.now out.old out.new count.new }
+    ensures buffer { result ≡ BUFFER → LacksRoomForWire value.now out.old out.new count.new }
+    ensures too_long { result ≡ TOO_LONG → 65535 < size (whole_data value.now) }
+    ensures status { (result ≡ OK) ⊎ (result ≡ MEMORY) ⊎ (result ≡ BUFFER) ⊎ (result ≡ TOO_LONG) }
+    ensures kept { result ≢ OK → out.new ≡ out.old }
+    ensures untold { result ≢ OK → result ≢ BUFFER → count.new ≡ count.old }
+{
+    match put_standing(octets, value, out, count) {
+        Some(status) => status,
+        None => put_wire(alloc, value, out, count),
     }
 }
 
@@ -52,6 +78,9 @@ pub extern "C" fn dns_rdata_wire(
 {
     match read_at(alloc, message, place, length, type_number) {
         Err(status) => status,
-        Ok(value) => put_wire(alloc, &value, out, count),
+        Ok(value) => {
+            let octets = octets_at(message, place, length);
+            put_read(alloc, octets, &value, out, count)
+        }
     }
 }

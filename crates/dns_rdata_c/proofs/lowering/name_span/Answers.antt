@@ -1,6 +1,6 @@
 use Rattle.std.proofs.Common.{refl, [], ◌∷◌, arith}
 use Rattle.dns_fields.specs.Fields.{Parameters}
-use Rattle.dns_rdata_c.proofs.NameSpans.{short_texts, text_behind, moved, name_first, number_behind, with_name, without_name}
+use Rattle.dns_rdata_c.proofs.NameSpans.{short_texts, text_behind, moved, name_first, names_first, number_behind, with_name, without_name}
 use Rattle.dns_rdata_c.proofs.lowering.name_span.Goals as goal
 
 pub returns-in-ANAME : goal.returns-in-ANAME
@@ -31,6 +31,10 @@ pub returns-in-SRV : goal.returns-in-SRV
 returns-in-SRV c = with_name _ _ 6 _ c.in-SRV.is c.requires
     (number_behind 2 _ _ _ 4 _ (number_behind 2 _ _ _ 2 _ (number_behind 2 _ _ _ 0 _
     (name_first [] _ tt _ refl c.len-in-SRV.ensures.name c.len-in-SRV.ensures.value))))
+
+pub returns-in-SOA : goal.returns-in-SOA
+returns-in-SOA c = with_name _ _ 0 _ c.in-SOA.is c.requires (names_first _ _ _ _ _ refl c.len-in-SOA.ensures.name c.len-in-SOA-2.ensures.name
+    (omega (arith, c.len-in-SOA.ensures.value, c.len-in-SOA-2.ensures.value)))
 
 pub returns-in-A : goal.returns-in-A
 returns-in-A c = without_name _ _ c.in-A.is c.requires refl
