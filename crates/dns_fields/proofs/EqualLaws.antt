@@ -9,12 +9,11 @@ use Rattle.std.proofs.lemmas.Bool.Decides.{Decides-and}
 use Rattle.std.proofs.lemmas.List.Sorted.{IsPermutation-map}
 use Rattle.dns_fields.specs.Labels.{lowname}
 use Rattle.dns_fields.specs.Pieces.{Numbered, OptionValue, Subnet, Plain, ParameterValue, Mandatory, Alpn, NoDefaultAlpn, Port, Ipv4Hint, Ipv6Hint, Opaque}
-use Rattle.dns_fields.specs.Fields.{Kind, Number, Octets, Name, Text, Texts, Rest, Options, Parameters, Bitmap, Value, Values, SameField, Same, IsFull}
+use Rattle.dns_fields.specs.Fields.{Kind, Number, Octets, Name, Text, Texts, Rest, Options, Parameters, Bitmap, Value, SameField, IsFull}
 use Rattle.dns_fields.specs.Equal.{Key, key_eq, key_cmp, option_key_of, option_key, option_keys, parameter_key_of, parameter_key, parameter_keys, kind_eq}
 use Rattle.dns_fields.proofs.Orders.{key_total}
 use Rattle.dns_fields.specs.Laws.{EqualLaw}
 use Rattle.dns_fields.proofs.Sorted.{sorted_one, sorted_apart}
-use Rattle.dns_fields.proofs.Laws.{values_refl}
 
 -- ---- a key tells its pair: the pair is read back
 
@@ -115,7 +114,3 @@ field_decide Bitmap a b f g = let d = octets_decide a b in (λ h. record { is = 
 pub values_decide : EqualLaw
 values_decide [] a b f g = (λ h. tt, λ s. refl)
 values_decide (k ∷ s) a b f g = Decides-and _ _ (field_decide k a.0 b.0 f.0 g.0) (values_decide s a.1 b.1 f.1 g.1)
-
--- what is one value is the same
-pub values_same : (s : List Kind) (a b : Values s) → a ≡ b → Same s a b
-values_same s a b e = subst (λ (v : Values s). Same s a v) e (values_refl s a)

@@ -261,17 +261,6 @@ octets_same {k = Options} {a} {b} s =
 octets_same {k = Parameters} s = ap (λ (v : List (Numbered ParameterValue)). pieces (parameter_pieces v)) s.is
 octets_same {k = Bitmap} s = ap (λ (v : List ℕ). flat_map block (minimal v)) s.is
 
-pub same_refl : (k : Kind) (a : Value k) → SameField k a a
-same_refl (Number w) a = record { is = refl }
-same_refl (Octets n) a = record { is = refl }
-same_refl Name a = record { is = record { low = refl } }
-same_refl Text a = record { is = refl }
-same_refl Texts a = record { is = refl }
-same_refl Rest a = record { is = refl }
-same_refl Options a = record { is = IsPermutation-refl a }
-same_refl Parameters a = record { is = refl }
-same_refl Bitmap a = record { is = refl }
-
 pub same_sym : {k : Kind} {a b : Value k} → SameField k a b → SameField k b a
 same_sym {k = Number w} s = record { is = sym s.is }
 same_sym {k = Octets n} s = record { is = sym s.is }

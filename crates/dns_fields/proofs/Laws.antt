@@ -6,7 +6,7 @@ use Rattle.dns_fields.specs.declared.RDataEncoding.{RDataEncoding}
 use Rattle.dns_fields.specs.declared.RDataEncoding.TheVariants.{Other}
 use Rattle.dns_fields.specs.Laws.{IsShape, StandsLaw, OneEnd, CanonicalLaw, CanonicalReads}
 use Rattle.dns_fields.proofs.FieldLaws.{field_append, field_same, field_end, field_fits, field_lawful, wrote_field, wrote_tail, wrote_fits}
-use Rattle.dns_fields.proofs.FieldLaws.{octets_wrote, octets_same, same_refl, same_sym, same_then, field_full}
+use Rattle.dns_fields.proofs.FieldLaws.{octets_wrote, octets_same, same_sym, same_then, field_full}
 
 -- at most one list of values fills a window
 pub stands_same : (m : List ℕ) (p : ℕ) (s : List Kind) (a b : Values s) (e : ℕ) → IsShape s → Stands m p s a e → Stands m p s b e → a ≡ b
@@ -23,10 +23,6 @@ stands_same m p (k ∷ l ∷ kinds) a b e shape f g =
     let rest : a.1 ≡ b.1 = stands_same m g.0 (l ∷ kinds) a.1 b.1 e shape.1 (rw (← there) f.2) g.2 in
     ap (λ (v : Value k). (v, a.1)) first ∙ ap (λ (vs : Values (l ∷ kinds)). (b.0, vs)) rest
 
-pub stands_append : (m : List ℕ) (p : ℕ) (s : List Kind) (a : Values s) (e : ℕ) (t : List ℕ) → Stands m p s a e → Stands (m ++ t) p s a e
-stands_append m p [] a e t f = f
-stands_append m p (k ∷ kinds) a e t f = (f.0, field_append t f.1, stands_append m f.0 kinds a.1 e t f.2)
-
 pub stands_fit : (m : List ℕ) (p : ℕ) (s : List Kind) (a : Values s) (e : ℕ) → Stands m p s a e → AllFit s a
 stands_fit m p [] a e f = tt
 stands_fit m p (k ∷ kinds) a e f = (field_fits f.1, stands_fit m f.0 kinds a.1 e f.2)
@@ -34,10 +30,6 @@ stands_fit m p (k ∷ kinds) a e f = (field_fits f.1, stands_fit m f.0 kinds a.1
 pub stands_lawful : (m : List ℕ) (p : ℕ) (s : List Kind) (a : Values s) (e : ℕ) → Stands m p s a e → AllLawful s a
 stands_lawful m p [] a e f = tt
 stands_lawful m p (k ∷ kinds) a e f = (field_lawful f.1, stands_lawful m f.0 kinds a.1 e f.2)
-
-pub wrote_fit : (mode : RDataEncoding) (m : List ℕ) (s : List Kind) (a : Values s) (m' : List ℕ) → Wrote mode m s a m' → AllFit s a
-wrote_fit mode m [] a m' f = tt
-wrote_fit mode m (k ∷ kinds) a m' f = (wrote_fits f.1, wrote_fit mode f.0 kinds a.1 m' f.2)
 
 pub wrote_behind : (mode : RDataEncoding) (m : List ℕ) (s : List Kind) (a : Values s) (m' : List ℕ) → Wrote mode m s a m'
     → (t : List ℕ) × (m' ≡ m ++ t) × (length t ≤ length (canonical s a))
@@ -83,10 +75,6 @@ canonical_wrote mode m (k ∷ kinds) a h l =
 pub canonical_same : (s : List Kind) (a b : Values s) → Same s a b → canonical s a ≡ canonical s b
 canonical_same [] a b h = refl
 canonical_same (k ∷ kinds) a b h = let e = octets_same h.0 in let f = canonical_same kinds a.1 b.1 h.1 in rw (e, f) refl
-
-pub values_refl : (s : List Kind) (a : Values s) → Same s a a
-values_refl [] a = tt
-values_refl (k ∷ kinds) a = (same_refl k a.0, values_refl kinds a.1)
 
 pub values_sym : (s : List Kind) (a b : Values s) → Same s a b → Same s b a
 values_sym [] a b h = tt

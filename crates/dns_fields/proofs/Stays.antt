@@ -37,8 +37,3 @@ end_within {m} {p} {e} {x} (pointed f rest t re b h s lt lp st j ends) = let n =
 
 pub stays_name : (m more : List ℕ) (p : ℕ) (x : DomainName) (e : ℕ) → IsNameIn m p x e → IsNameIn (m ++ more) p x e
 stays_name m more p x e h = record { stands = stays more h.stands; fits = h.fits; qualified = h.qualified }
-
--- what stood before octets were added stands afterwards, whatever follows
-pub stays_behind : (m added now more : List ℕ) (p : ℕ) (x : DomainName) (e : ℕ) → now ≡ m ++ added → IsNameIn m p x e → IsNameIn (now ++ more) p x e
-stays_behind m added now more p x e n h = subst (λ (w : List ℕ). IsNameIn w p x e) (sym (ap (λ (w : List ℕ). w ++ more) n ∙ append_assoc m added more))
-    (stays_name m (added ++ more) p x e h)

@@ -2,11 +2,9 @@
 use Rattle.std.proofs.Common.{◌≡◌, ℕ, ◌+◌, ◌≤◌, ◌<◌, List, [], ◌∷◌, length, refl, sym, ◌∙◌, arith, subst}
 use Rattle.dns_names_wire.specs.State.{Reading}
 use Rattle.dns_fields.specs.Fields.{Kind, Number, Value, Values, Field, Stands, EndsItself}
-use Rattle.std.proofs.Common.{Result, Ok, Err}
-use Rattle.std.specs.Result.{IsErrAnd}
 use Rattle.dns_types.specs.declared.error.DecodeError.{DecodeError}
 use Rattle.dns_types.specs.declared.error.DecodeError.TheVariants as decode
-use Rattle.dns_names_wire.specs.Words.{TookField, LacksField, Took, Lacks, StaysBehind, UnlessMemory, RefusedField, Refused, ReadsIf, ReadsField, IsLong}
+use Rattle.dns_names_wire.specs.Words.{TookField, LacksField, Took, Lacks, StaysBehind, UnlessMemory, RefusedField, Refused, IsLong}
 use Rattle.dns_fields.proofs.Numbers.{length-bytes}
 use Rattle.dns_fields.proofs.FieldLaws.{field_inside, field_same, field_end}
 
@@ -43,11 +41,6 @@ lacks_then {d} {b} {k} {v} {kinds} {condition} ends f l = record {
       l.none vs.1 e rest (subst (λ (w : Value k). condition (w, vs.1) e) first c);
 }
 
--- or where the condition fails
-pub lacks_if : {d : Reading} {kinds : List Kind} {condition : Values kinds → ℕ → Type 0} → ((vs : Values kinds) (e : ℕ) → condition vs e → ⊥)
-    → Lacks d kinds condition
-lacks_if fails = record { none = λ vs e s c. fails vs e c }
-
 -- or where the end is before the place
 pub lacks_past : {d : Reading} {kinds : List Kind} {condition : Values kinds → ℕ → Type 0} → ((vs : Values kinds) (e : ℕ) → condition vs e → e < d.index)
     → Lacks d kinds condition
@@ -77,52 +70,17 @@ pub refused_then : {e : DecodeError} {d b n : Reading} {k : Kind} {v : Value k} 
     → TookField d k v b → EndsItself k → Refused e b kinds (λ vs q. condition (v, vs) q) n → Refused e d (k ∷ kinds) condition n
 refused_then {e} f ends r = record { behind = took_stays f r.behind; none = unless_map e _ _ (lacks_then ends f) r.none }
 
-pub refused_memory : (d : Reading) (kinds : List Kind) (condition : Values kinds → ℕ → Type 0) → Refused decode.Memory d kinds condition d
-refused_memory d kinds condition = record { behind = stays d; none = tt }
-
-pub exit : {T : Type 0} {kinds : List Kind} {condition : Values kinds → ℕ → Type 0} {old new : Reading} (view : T → Values kinds) (r : Result T DecodeError)
-    (e : DecodeError) → IsErrAnd r (λ y. y ≡ e) → Refused e old kinds condition new → ReadsIf kinds condition view r old new
-exit view (Ok x) e h f = elim h [ ]
-exit {kinds = kinds} {condition = condition} {old = old} {new = new} view (Err y) e h f = subst (λ (z : DecodeError). Refused z old kinds condition new)
-    (sym h) f
-
-pub exit_field : {T : Type 0} {k : Kind} {old new : Reading} (view : T → Value k) (r : Result T DecodeError) (e : DecodeError) → IsErrAnd r (λ y. y ≡ e)
-    → RefusedField e old k new → ReadsField k view r old new
-exit_field view (Ok x) e h f = elim h [ ]
-exit_field {k = k} {old = old} {new = new} view (Err y) e h f = subst (λ (z : DecodeError). RefusedField z old k new) (sym h) f
-
 pub stands_within : (m : List ℕ) (p : ℕ) (s : List Kind) (a : Values s) (e : ℕ) → IsLong s → Stands m p s a e → e ≤ length m
 stands_within m p [] a e h f = elim h [ ]
 stands_within m p (k ∷ []) a e h f = omega (arith, (field_inside f.1).1, f.2)
 stands_within m p (k ∷ l ∷ kinds) a e h f = stands_within m f.0 (l ∷ kinds) a.1 e tt f.2
-
--- a condition that fails
-pub refused_if : {e : DecodeError} (d : Reading) {kinds : List Kind} {condition : Values kinds → ℕ → Type 0}
-    → ((vs : Values kinds) (q : ℕ) → condition vs q → ⊥) → Refused e d kinds condition d
-refused_if {e} d f = record { behind = stays d; none = unless_all e (lacks_if f) }
 
 -- an end before the place
 pub refused_past : {e : DecodeError} (d : Reading) {kinds : List Kind} {condition : Values kinds → ℕ → Type 0}
     → ((vs : Values kinds) (q : ℕ) → condition vs q → q < d.index) → Refused e d kinds condition d
 refused_past {e} d f = record { behind = stays d; none = unless_all e (lacks_past f) }
 
--- an end past the message
-pub refused_short : {e : DecodeError} (d : Reading) {k : Kind} {kinds : List Kind} {condition : Values (k ∷ kinds) → ℕ → Type 0}
-    → ((vs : Values (k ∷ kinds)) (q : ℕ) → condition vs q → length d.message < q) → Refused e d (k ∷ kinds) condition d
-refused_short {e} d {k} {kinds} {condition} f =
-    record {
-      behind = stays d;
-      none = unless_all e
-          (record { none = λ vs q s c. let h = f vs q c in let i = stands_within d.message d.index (k ∷ kinds) vs q tt s in omega arith });
-    }
-
 pub took_number : {d b : Reading} {w v : ℕ} → TookField d (Number w) v b → b.index ≡ d.index + w
 took_number {d} {b} {w} {v} f = omega (arith, f.field.is.1.ends, length-bytes w v)
-
--- memory ran out behind the fields
-pub refused_end : (d n : Reading) (kinds : List Kind) (vs : Values kinds) (condition : Values kinds → ℕ → Type 0) → Took d kinds vs n
-    → Refused decode.Memory d kinds condition n
-refused_end d n kinds vs condition f = record
-    { behind = record { message = f.message; index = stands_inside d.message d.index kinds vs n.index f.stands }; none = tt }
 
 pub ruleset reading = (took_last, took_then)

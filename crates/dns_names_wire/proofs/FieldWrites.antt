@@ -42,9 +42,6 @@ appended_then {w} {b} {e} {kinds = kinds} {vs = vs} f g =
           (b.octets, f.field, subst (λ (mode : RDataEncoding). Wrote mode b.octets kinds vs e.octets) f.keeps.mode g.fields);
     }
 
-pub extends_none : (w : Writing) → Extends w w
-extends_none w = record { keeps = keeps_same w; tail = []; octets = sym (append-nil w.octets) }
-
 pub extends_then : {w b e : Writing} {k : Kind} {v : Value k} → AppendedField w k v b → Extends b e → Extends w e
 extends_then {w} {b} {e} f g =
     let t = wrote_tail f.field in
@@ -143,19 +140,9 @@ emitted_as kinds vs mode earlier r old set emitted new e s h n =
     subst (λ (m : RDataEncoding). EmitsAs mode kinds vs r old (record emitted { mode = m })) (sym e) (in_mode kinds vs mode r old emitted x) in
     subst (λ (w : Writing). EmitsAs mode kinds vs r old w) (sym n) y
 
--- refused or not, limit, mode and vector stay
-pub emits_keeps : (kinds : List Kind) (vs : Values kinds) (mode : RDataEncoding) (r : Result (Unit {0}) ProtoError) (old new : Writing)
-    → EmitsAs mode kinds vs r old new → Keeps old new
-emits_keeps kinds vs mode (Ok x) old new h = h.keeps
-emits_keeps kinds vs mode (Err e) old new h = h.extends.keeps
-
 pub ruleset writing = (appended_last, appended_then)
 
 -- ---- what was there stands
-
-pub field_extends : (k : Kind) (v : Value k) (r : Result (Unit {0}) ProtoError) (old new : Writing) → EmitsField k v r old new → Extends old new
-field_extends k v (Ok x) old new h = let t = wrote_tail h.field in record { keeps = h.keeps; tail = t.0; octets = t.1 }
-field_extends k v (Err e) old new h = h.extends
 
 pub all_tail : (mode : RDataEncoding) (kinds : List Kind) (vs : Values kinds) (m m' : List ℕ) → Wrote mode m kinds vs m' → (t : List ℕ) × (m' ≡ m ++ t)
 all_tail mode [] vs m m' h = ([], h ∙ sym (append-nil m))

@@ -1,14 +1,11 @@
 -- A character string by its octets.
-use Rattle.std.proofs.Common.{◌≡◌, ℕ, ◌+◌, ◌≤◌, ◌<◌, ◌%◌, List, [], ◌∷◌, ◌++◌, length, take, drop, refl, sym, ap, ◌∙◌, arith, subst}
+use Rattle.std.proofs.Common.{◌≡◌, ℕ, ◌+◌, ◌%◌, List, [], ◌∷◌, ◌++◌, length, take, drop, refl, sym, ap, ◌∙◌, arith, subst}
 use Rattle.std.proofs.lemmas.List.{length-append, drop-drop, take-take, take_at, drop_at, drop-take, take-append-drop}
 use Rattle.std.proofs.Math.Nat.{mod-eq_of_lt}
 use Rattle.dns_names_wire.specs.State.{Reading}
-use Rattle.dns_fields.specs.Fields.{Kind, Number, Octets, Text, Rest, Values, Field}
-use Rattle.dns_names_wire.specs.Words.{RefusedField, Refused, TookField, LacksField}
+use Rattle.dns_fields.specs.Fields.{Number, Octets, Text, Rest, Field}
+use Rattle.dns_names_wire.specs.Words.{TookField}
 use Rattle.dns_fields.specs.Octets.{At}
-use Rattle.dns_types.specs.declared.error.DecodeError.{DecodeError}
-use Rattle.dns_fields.proofs.Places.{At-same_head}
-use Rattle.dns_names_wire.proofs.FieldReads.{unless_map, unless_all, took_stays, stays, stands_inside}
 
 -- the front and the rest of octets that stand
 pub at_front : {m : List ℕ} {p r : ℕ} (x y : List ℕ) → At m p (x ++ y) r → At m p x (p + length x)
@@ -44,13 +41,7 @@ at_then {m} {p} {q} {r} {x} {y} a b = record {
 octet_at : {m : List ℕ} {p : ℕ} {n : ℕ} {q : ℕ} → Field m p (Number 1) n q → At m p (n ∷ []) q
 octet_at {m} {p} {n} {q} f = let e : n % 256 ≡ n = mod-eq_of_lt f.is.0 in subst (λ (k : ℕ). At m p (k ∷ []) q) e f.is.1
 
-at_octet : {m : List ℕ} {p : ℕ} {n : ℕ} {q : ℕ} → n < 256 → At m p (n ∷ []) q → Field m p (Number 1) n q
-at_octet {m} {p} {n} {q} lt a = let e : n ≡ n % 256 = sym (mod-eq_of_lt lt) in record { is = (lt, subst (λ (k : ℕ). At m p (k ∷ []) q) e a) }
-
 -- ---- a character string is an octet of length, and the octets
-
-text_front : {m : List ℕ} {p : ℕ} {s : List ℕ} {q : ℕ} → Field m p Text s q → Field m p (Number 1) (length s) (p + 1)
-text_front {m} {p} {s} {q} f = at_octet f.is.0 (at_front (length s ∷ []) s f.is.1)
 
 pub text_then : {d b e : Reading} {n : ℕ} {s : List ℕ} → TookField d (Number 1) n b → TookField b Rest s e → length s ≡ n → TookField d Text s e
 text_then {d} {b} {e} {n} {s} f g len = record {
@@ -67,34 +58,3 @@ text_then {d} {b} {e} {n} {s} f g len = record {
 -- the octets of the length that was read, behind it
 pub text_taken : {d b e : Reading} {n l : ℕ} {s : List ℕ} → l ≡ n → TookField d (Number 1) n b → TookField b (Octets l) s e → TookField d Text s e
 text_taken {d} {b} {e} {n} {l} {s} same f g = text_then f (record { message = g.message; field = record { is = g.field.is.1 } }) (g.field.is.0 ∙ same)
-
-pub text_no_octet : {d : Reading} → LacksField d (Number 1) → LacksField d Text
-text_no_octet {d} l = record { none = λ s q f. l.none (length s) (d.index + 1) (text_front f) }
-
-pub text_short : {d b : Reading} {n : ℕ} → TookField d (Number 1) n b → length b.message < b.index + n → LacksField d Text
-text_short {d} {b} {n} f short = record {
-  none = λ s q g.
-      let len : n ≡ length s = At-same_head (octet_at f.field) g.is.1 in
-      omega (arith, g.is.1.ends, g.is.1.within, (octet_at f.field).ends, ap length f.message);
-}
-
--- ---- a character string whose length octet was read by itself
-
-pub text_refused : {e : DecodeError} {d n : Reading} → RefusedField e d (Number 1) n → RefusedField e d Text n
-text_refused {e} r = record { behind = r.behind; none = unless_map e _ _ text_no_octet r.none }
-
--- nothing stands where each string of that length is refused
-pub text_none : {e : DecodeError} {d b : Reading} {t : ℕ} {kinds : List Kind} {condition : Values (Text ∷ kinds) → ℕ → Type 0} → TookField d (Number 1) t b
-    → ((s : List ℕ) (vs : Values kinds) (q : ℕ) → length s ≡ t → b.index + t ≤ length b.message → b.index + t ≤ q → condition (s, vs) q → ⊥)
-    → Refused e d (Text ∷ kinds) condition b
-text_none {e} {d} {b} {t} {kinds} {condition} f none = record {
-  behind = took_stays f (stays b);
-  none = unless_all e (record {
-    none = λ vs q s c.
-        let len : t ≡ length vs.0 = At-same_head (octet_at f.field) s.1.is.1 in
-        let place : s.0 ≡ b.index + t = omega (arith, s.1.is.1.ends, (octet_at f.field).ends) in
-        let inside : s.0 ≤ length d.message = s.1.is.1.within in
-        let on : s.0 ≤ q = stands_inside d.message s.0 kinds vs.1 q s.2 in
-        none vs.0 vs.1 q (sym len) (omega (arith, ap length f.message)) (omega arith) c;
-  });
-}

@@ -1,5 +1,5 @@
 -- The steps by which a name is found to be in a zone.
-use Rattle.std.proofs.Common.{◌≡◌, ◌↔◌, IsTrue, ℕ, Bool, ◌<◌, ◌≤◌, List, [], ◌∷◌, ◌++◌, length, map, drop, refl, sym, ap, ◌∙◌, arith, append_assoc}
+use Rattle.std.proofs.Common.{◌≡◌, ◌↔◌, IsTrue, ℕ, Bool, ◌<◌, ◌≤◌, List, [], ◌∷◌, ◌++◌, length, map, drop, sym, ap, ◌∙◌, arith, append_assoc}
 use Rattle.std.proofs.lemmas.List.{length-append, length-map}
 use Rattle.std.specs.Char.{to_ascii_lowercase}
 use Rattle.dns_fields.specs.Labels.{DomainName, wire, low_labels}
@@ -12,9 +12,6 @@ pub record ZoneSoFar (labels zone : List (List ℕ)) (rest : List ℕ) : Type 0 
   pub front : List (List ℕ)
   pub sound : low_labels labels ≡ front ++ low_labels (labels_of rest)
   pub complete : (f : List (List ℕ)) → low_labels labels ≡ f ++ low_labels zone → (g : List (List ℕ)) × (low_labels (labels_of rest) ≡ g ++ low_labels zone)
-
-pub zone_start : (octets : List ℕ) (zone : List (List ℕ)) → AreNameOctets octets → ZoneSoFar (labels_of octets) zone octets
-zone_start octets zone n = record { are = n; front = []; sound = refl; complete = λ f e. (f, e) }
 
 low_size : (octets : List ℕ) → AreNameOctets octets → length (wire (low_labels (labels_of octets))) ≡ length octets
 low_size octets n = sym (ap length (wire_low octets n)) ∙ length-map octets to_ascii_lowercase

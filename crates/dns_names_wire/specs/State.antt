@@ -1,5 +1,5 @@
 -- What contracts see of a decoder and of an encoder.
-use Rattle.std.specs.Prelude.{ℕ, List, ◌≤◌, length}
+use Rattle.std.specs.Prelude.{ℕ, List}
 use Rattle.dns_fields.specs.declared.RDataEncoding.{RDataEncoding}
 
 pub record Reading : Type 0 where
@@ -12,7 +12,3 @@ pub record Writing : Type 0 where
   pub limit : ℕ
   pub mode : RDataEncoding
   pub target : ℕ
-
--- the place is in the message, or at its end
-abbrev pub IsInside : Reading → Type 0
-IsInside d = d.index ≤ length d.message

@@ -1,6 +1,6 @@
 -- Octets that two runs gave.
 use Rattle.std.proofs.Common.{◌≡◌, ℕ, ◌+◌, ◌-◌, ◌≤◌, Bool, true, false, true≢false, not, nat_eq, List, [], ◌∷◌, ◌++◌, length, take, drop, map, refl, sym, ap, ◌∙◌, arith, append_assoc, length-append, length-take-le}
-use Rattle.std.proofs.lemmas.List.{drop-drop, take-append-drop, drop_all, map-append, take_all, length-drop}
+use Rattle.std.proofs.lemmas.List.{drop-drop, take-append-drop, map-append, take_all, length-drop}
 use Rattle.std.proofs.Math.Seq.{take-add}
 use Rattle.std.specs.Cmp.{unsigned_Decides}
 use Rattle.std.specs.Cmp.Lexicographic.{pointwise, pointwise_decides}
@@ -16,9 +16,6 @@ shares_both {n} {m} {a} {b} {c} {d} {e} {f} g h = record {
   left = g.left ∙ ap (λ (x : List ℕ). g.shared ++ x) h.left ∙ sym (append_assoc g.shared h.shared c);
   right = g.right ∙ ap (λ (x : List ℕ). g.shared ++ x) h.right ∙ sym (append_assoc g.shared h.shared f);
 }
-
-pub shares_none : (a d : List ℕ) → Shares 0 a a d d
-shares_none a d = record { shared = []; count = refl; left = refl; right = refl }
 
 later : (at n : ℕ) (xs t : List ℕ) → drop at xs ++ t ≡ take n (drop at xs) ++ (drop (at + n) xs ++ t)
 later at n xs t =
@@ -40,11 +37,6 @@ heads_share n at at' head head' t t' few same =
       left = later at n head t;
       right = later at' n head' t' ∙ ap (λ (l : List ℕ). l ++ (drop (at' + n) head' ++ t')) (sym e);
     }
-
--- with nothing left of the heads
-pub tails_share : (n at at' : ℕ) (head head' t u t' u' : List ℕ) → length head ≤ at → length head' ≤ at' → Shares n t u t' u'
-    → Shares n (drop at head ++ t) (drop at head ++ u) (drop at' head' ++ t') (drop at' head' ++ u')
-tails_share n at at' head head' t u t' u' h k s = rw (drop_all at head h, drop_all at' head' k) s
 
 names_left : (n : ℕ) (rest : List ℕ) → lowered_octets rest ≡ map to_ascii_lowercase (take n rest) ++ lowered_octets (take (length rest - n) (drop n rest))
 names_left n rest =

@@ -79,16 +79,6 @@ pub begins_none : (v : RData) → all_emittable (fields_of v).kinds (fields_of v
 unfolding left_of
 begins_none v h = ap (λ (t : Bool). if t then canonical (fields_of v).kinds (fields_of v).values else []) (sym h)
 
--- ---- steps without a count
-
-pub no_passes : (c n i : ℕ) (head : List ℕ) (r : Option Step) → CountsPasses c c (λ n i. 0) n i head r
-no_passes c n i head None = refl
-no_passes c n i head (Some s) = record { passes = refl; one = omega arith; begun = omega arith }
-
-pub no_choices : (c n i j : ℕ) (head : List ℕ) (r : Option Step) → CountsChoices c c 0 (λ n i j. 0) n i j head r
-no_choices c n i j head None = refl
-no_choices c n i j head (Some s) = record { more = omega arith; most = omega arith; one = omega arith; begun = omega arith }
-
 -- ---- steps of a cursor
 
 pub steps_on : (v : RData) (n i j : ℕ) (head : List ℕ) (c c' p p' : ℕ) (r : Option Step) → GivesStep (data_left v) n i j head r

@@ -1,7 +1,7 @@
 -- The laws of record data of every type.
-use Rattle.std.proofs.Common.{◌≡◌, ℕ, ◌+◌, ◌-◌, ◌<◌, ◌≤◌, Bool, true, false, List, length, refl, sym, ap, ◌∙◌, arith, subst, Result, Ok, Err}
+use Rattle.std.proofs.Common.{◌≡◌, ℕ, ◌+◌, ◌-◌, ◌<◌, ◌≤◌, Bool, true, List, length, refl, sym, ap, ◌∙◌, arith, subst, Result, Ok, Err}
 use Rattle.std.specs.Bool.{Decides}
-use Rattle.std.specs.Result.{IfOk, IfErr, OnOk}
+use Rattle.std.specs.Result.{IfOk, OnOk}
 use Rattle.std.proofs.lemmas.List.{length-append}
 use Rattle.dns_fields.specs.declared.RDataEncoding.{RDataEncoding}
 use Rattle.dns_fields.specs.Octets.{AreOctets}
@@ -15,11 +15,10 @@ use Rattle.dns_fields.proofs.Laws.{stands_same, stands_fit, stands_lawful, stand
 use Rattle.dns_fields.proofs.Laws.{canonical_same, canonical_stands, canonical_injective}
 use Rattle.dns_types.specs.declared.error.DecodeError.{DecodeError}
 use Rattle.dns_types.specs.declared.error.ProtoError.{ProtoError}
-use Rattle.dns_types.specs.declared.error.ProtoError.TheVariants as proto
 use Rattle.dns_types.specs.declared.record_type.RecordType.{RecordType}
 use Rattle.dns_types.specs.declared.record_type.RecordType.TheVariants as types
 use Rattle.dns_names_wire.specs.State.{Writing}
-use Rattle.dns_names_wire.specs.Words.{Window, Appended, EmitsAs, IsMessage}
+use Rattle.dns_names_wire.specs.Words.{Window, Appended, EmitsAs}
 use Rattle.dns_rdata_base.specs.NAPTR.{AreFlags}
 use Rattle.dns_rdata_service.specs.Parameters.{HaveTexts}
 use Rattle.dns_rdata_sets.specs.CAA.{IsTag}
@@ -157,10 +156,6 @@ pub emits_at : (v w : RData) (r : Result (Unit {0}) ProtoError) (old new : Writi
     → EmitsAs (mode_for old.mode v) (fields_of v).kinds (fields_of v).values r old new
 emits_at v w r old new e h = subst (λ (x : RData). EmitsAs (mode_for old.mode x) (fields_of x).kinds (fields_of x).values r old new) (sym e) h
 
-pub appended_at : (v w : RData) (old new : Writing) → v ≡ w → Appended (mode_for old.mode w) old (fields_of w).kinds (fields_of w).values new
-    → Appended (mode_for old.mode v) old (fields_of v).kinds (fields_of v).values new
-appended_at v w old new e h = emits_at v w (Ok tt) old new e h
-
 -- what was read can be emitted
 pub emittable_of : (t : RecordType) (m : List ℕ) (p n : ℕ) (r : Result RData DecodeError) → IfOk r (λ v. Fills m p n t v) → IfOk r IsEmittable
 emittable_of t m p n (Ok v) f = fills_emittable f
@@ -172,11 +167,3 @@ pub emits_emittable : (v : RData) (mode : RDataEncoding) (r : Result (Unit {0}) 
 emits_emittable v mode (Ok x) old new h =
     all_fit_emittable (fields_of v).kinds (fields_of v).values (wrote_all_fit mode old.octets (fields_of v).kinds (fields_of v).values new.octets h.fields)
 emits_emittable v mode (Err e) old new h = tt
-
-pub message_unfit : (v : RData) (mode : RDataEncoding) (r : Result (Unit {0}) ProtoError) (old new : Writing)
-    → EmitsAs mode (fields_of v).kinds (fields_of v).values r old new → IfErr r (λ e. IsMessage e → ¬ (IsEmittable v))
-message_unfit v mode (Ok x) old new h = tt
-message_unfit v mode (Err (proto.Message t)) old new h = λ m can. let e : true ≡ false = sym can ∙ h.why.unfit in cc e
-message_unfit v mode (Err proto.Memory) old new h = λ m. absurd m
-message_unfit v mode (Err proto.MaxBufferSizeExceeded) old new h = λ m. absurd m
-message_unfit v mode (Err (proto.Decode d)) old new h = λ m. absurd m

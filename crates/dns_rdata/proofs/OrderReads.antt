@@ -1,5 +1,5 @@
 -- Values that were read are ordered by their canonical octets.
-use Rattle.std.proofs.Common.{◌≡◌, Bool, true, sym, ◌∙◌, refl}
+use Rattle.std.proofs.Common.{◌≡◌, sym, ◌∙◌, refl}
 use Rattle.std.specs.Ordering.{nat_cmp, ordering_then}
 use Rattle.std.specs.Cmp.Lexicographic.{slice_cmp}
 use Rattle.std.specs.FinMap.{nat_cmp-IsAntisymmetric, slice_cmp-IsAntisymmetric}
@@ -7,7 +7,6 @@ use Rattle.std.specs.declared.cmp.Ordering.{Ordering}
 use Rattle.std.specs.declared.cmp.Ordering.TheVariants.{Less, Equal, Greater}
 use Rattle.dns_rdata.specs.declared.record_data.RData.{RData}
 use Rattle.dns_rdata.specs.Data.{data_octets}
-use Rattle.dns_rdata.specs.Equal.{equal}
 use Rattle.dns_rdata.specs.Order.{rdata_cmp, OrdersRead}
 use Rattle.dns_rdata.specs.Ties.{equal_is, rdata_ties}
 use Rattle.dns_rdata.proofs.DataLaws.{tells_apart}
@@ -22,12 +21,3 @@ orders_read v w t m p n m' p' n' f g =
     then_tied (slice_cmp nat_cmp (data_octets v) (data_octets w)) _ (λ e.
     let same : data_octets v ≡ data_octets w = slice_cmp-IsAntisymmetric nat_cmp-IsAntisymmetric (data_octets v) (data_octets w) e in
     equal_is (rdata_cmp v w) (sym (rdata_ties v w) ∙ (tells_apart v w t m p n m' p' n' f g).1 same))
-
--- what is equal has the same octets
-pub equal_octets : (v w : RData) (b : Bool) → b ≡ equal v w → b ≡ true → Equal ≡ slice_cmp nat_cmp (data_octets v) (data_octets w)
-equal_octets v w b e h = first_tied _ _ (equal_is (rdata_cmp v w) (sym (rdata_ties v w) ∙ sym e ∙ h))
-  where
-    first_tied : (o q : Ordering) → ordering_then o q ≡ Equal → Equal ≡ o
-    first_tied Less q t = sym t
-    first_tied Equal q t = refl
-    first_tied Greater q t = sym t

@@ -6,17 +6,15 @@ use Rattle.std.proofs.lemmas.List.{append-nil, length-append}
 use Rattle.std.proofs.lemmas.List.Concat.{flat_map-cons}
 use Rattle.std.proofs.lemmas.Grind.{flat_map-append}
 use Rattle.dns_types.specs.declared.error.DecodeError.{DecodeError}
-use Rattle.dns_types.specs.declared.error.DecodeError.TheVariants as decode
 use Rattle.dns_fields.specs.Octets.{At}
 use Rattle.dns_fields.specs.Fields.{Text, Texts, Field, Values}
 use Rattle.dns_fields.specs.Pieces.{string}
 use Rattle.dns_fields.proofs.FieldLaws.{field_inside, field_end}
 use Rattle.dns_names_wire.specs.State.{Reading}
-use Rattle.dns_names_wire.specs.Words.{TookField, LacksField, LacksText, RefusedField, TookWindow, RefusedWindow}
+use Rattle.dns_names_wire.specs.Words.{TookField, LacksField, RefusedField, RefusedWindow}
 use Rattle.dns_names_wire.proofs.FieldReads.{unless_map}
-use Rattle.dns_names_wire.proofs.WindowReads.{Given}
 use Rattle.dns_names_wire.proofs.Strings.{at_front, at_rest, at_then}
-use Rattle.dns_rdata_base.specs.TXT.{txt_shape, LacksString}
+use Rattle.dns_rdata_base.specs.TXT.{txt_shape}
 
 abbrev pub AnyStrings : Values txt_shape → Type 0
 AnyStrings vs = Unit {0}
@@ -39,9 +37,6 @@ joined xs s = let e : flat_map string (s ∷ []) ≡ string s
 
 texts_push : {m : List ℕ} {p q r : ℕ} {xs : List (List ℕ)} {s : List ℕ} → Field m p Texts xs q → Field m q Text s r → Field m p Texts (xs ++ s ∷ []) r
 texts_push {m} {p} {q} {r} {xs} {s} f g = record { is = (fits_push xs s f.is.0 g.is.0, rw (← joined xs s) (at_then f.is.1 g.is.1)) }
-
-no_texts : (d : Reading) → d.index ≤ length d.message → Field d.message d.index Texts [] d.index
-no_texts d inside = record { is = (tt, record { ends = omega arith; within = inside; same = refl }) }
 
 first_text : (m : List ℕ) (q e : ℕ) (vs : List (List ℕ)) → q < e → Field m q Texts vs e
     → (s : List ℕ) × (ws : List (List ℕ)) × Field m q Text s (q + length (string s)) × Field m (q + length (string s)) Texts ws e
@@ -79,9 +74,6 @@ no_text m q e (s ∷ ws) past f =
     let rest : q + length (string s) ≤ e = omega (arith, whole.ends, length-append (string s) (flat_map string ws)) in
     elim past [ inl h ↦ absurd (omega arith) | inr h ↦ absurd (omega (arith, front.within)) ]
 
-pub reads_first : (d : Reading) (end : ℕ) → d.index ≤ length d.message → ReadsOn d end [] d
-reads_first d end inside = record { message = refl; behind = omega arith; took = no_texts d inside; rest = λ ws f. (ws, f) }
-
 pub reads_more : {old d b : Reading} {end : ℕ} {xs : List (List ℕ)} {s : List ℕ} → d.index < end → ReadsOn old end xs d → TookField d Text s b
     → ReadsOn old end (xs ++ s ∷ []) b
 reads_more {old} {d} {b} {end} {xs} {s} lt r f =
@@ -96,12 +88,6 @@ reads_more {old} {d} {b} {end} {xs} {s} lt r f =
           let there : d.index + length (string x.0) ≡ b.index = field_end {k = Text} tt x.2 g in
           (x.1, subst (λ (q : ℕ). Field old.message q Texts x.1 end) there x.3);
     }
-
-pub longer : {d b : Reading} {s : List ℕ} → TookField d Text s b → d.index < b.index
-longer f = omega (arith, f.field.is.1.ends)
-
-pub taken : {old d : Reading} {end : ℕ} {xs : List (List ℕ)} → ReadsOn old end xs d → TookField old Texts xs d
-taken r = record { message = r.message; field = r.took }
 
 -- ---- how a loop ends
 
@@ -119,36 +105,6 @@ reads_none {e} {old} {d} {b} {end} {xs} n is lt r f = record {
   }) f.none;
 }
 
--- because it lacks octets
-pub reads_lacking : {old d b : Reading} {end : ℕ} {xs : List (List ℕ)} (n : ℕ) → end ≡ old.index + n → d.index < end → ReadsOn old end xs d → LacksText d b
-    → LacksString n old b
-reads_lacking {old} {d} {b} {end} {xs} n is lt r l = record { strings = xs; between = d; took = taken r; before = omega (arith, is, lt); lacks = l }
-
--- memory runs out before a string
-pub reads_stopped : {old d : Reading} {end : ℕ} {xs : List (List ℕ)} (n : ℕ) → ReadsOn old end xs d → RefusedWindow decode.Memory old n txt_shape AnyStrings d
-reads_stopped {old} {d} n r = record { behind = record { message = r.message; index = r.behind }; none = tt }
-
--- or behind one
-pub reads_stopped_behind : {old d b : Reading} {end : ℕ} {xs : List (List ℕ)} {s : List ℕ} (n : ℕ) → ReadsOn old end xs d → TookField d Text s b
-    → RefusedWindow decode.Memory old n txt_shape AnyStrings b
-reads_stopped_behind {old} {d} {b} n r f = record { behind = record { message = f.message ∙ r.message; index = omega (arith, r.behind, longer f) }; none = tt }
-
--- or the end is reached
-pub reads_done : {old d : Reading} {end : ℕ} {xs : List (List ℕ)} (n : ℕ) → Given old n → end ≡ old.index + n → end ≤ d.index → ReadsOn old end xs d
-    → TookWindow old n txt_shape AnyStrings (xs, tt) d
-reads_done {old} {d} {end} {xs} n g is le r = record {
-  behind = record { message = r.message; index = r.behind };
-  here = λ same.
-      let f : Field old.message old.index Texts xs (old.index + n) = subst (λ (q : ℕ). Field old.message old.index Texts xs q) same r.took in
-      record { octets = g.octets; short = g.short; within = (field_inside f).1; stands = (old.index + n, f, refl); holds = tt };
-  elsewhere = λ ne. record {
-    none = λ vs w.
-        let h : Field old.message old.index Texts vs.0 end = rw (is, ← w.stands.2) w.stands.1 in
-        let ws = r.rest vs.0 h in
-        ne (omega (arith, (field_inside ws.1).0, is, le));
-  };
-}
-
 -- ---- how many strings there are
 
 -- behind some strings that were counted, the others stand
@@ -160,9 +116,6 @@ first_octet {m} {q} {r} {s} lt f =
     let whole : take (suc (length s)) (get_or m q 0 ∷ drop (suc q) m) ≡ length s ∷ s =
     ap (λ (d : List ℕ). take (suc (length s)) d) (sym (drop-cons m q 0 lt)) ∙ f.is.1.same in
     cc
-
-pub counts_first : (m : List ℕ) (end : ℕ) → CountsOn m end 0 0
-counts_first m end = record { rest = λ ws f. (ws, f, omega arith) }
 
 pub counts_more : {m : List ℕ} {end count q : ℕ} → q < end → q < length m → CountsOn m end count q → CountsOn m end (count + 1) (q + (1 + get_or m q 0))
 counts_more {m} {end} {count} {q} lt inside c = record {

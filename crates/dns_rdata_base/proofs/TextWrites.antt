@@ -1,7 +1,7 @@
 -- Character strings that are written one after the other.
 use Rattle.std.proofs.Common.{◌≡◌, ℕ, ◌+◌, ◌<◌, List, [], ◌∷◌, ◌++◌, length, take, drop, get_or, sym, ap, ◌∙◌, arith, append_assoc, nat_le, false, refl}
-use Rattle.std.specs.List.{flat_map, list_all, AllByRecursion}
-use Rattle.std.proofs.lemmas.List.{append-nil, length-append, drop_more, take-append-drop}
+use Rattle.std.specs.List.{flat_map, list_all}
+use Rattle.std.proofs.lemmas.List.{length-append, drop_more, take-append-drop}
 use Rattle.std.proofs.lemmas.List.Concat.{flat_map-cons}
 use Rattle.std.proofs.lemmas.Grind.{flat_map-append}
 use Rattle.dns_types.specs.declared.error.ProtoError.{ProtoError}
@@ -9,11 +9,7 @@ use Rattle.dns_fields.specs.Fields.{Text, Texts, field_octets}
 use Rattle.dns_fields.specs.Pieces.{string}
 use Rattle.dns_names_wire.specs.State.{Writing}
 use Rattle.dns_names_wire.specs.Words.{AppendedField, StoppedField, NoRoomField, UnfitField}
-use Rattle.dns_names_wire.proofs.FieldWrites.{keeps_same, keeps_then, because_map, and_false}
-
-fits_push : (xs : List (List ℕ)) (s : List ℕ) → AllByRecursion (λ s. length s < 256) xs → length s < 256 → AllByRecursion (λ s. length s < 256) (xs ++ s ∷ [])
-fits_push [] s a h = (h, tt)
-fits_push (x ∷ xs) s a h = (a.0, fits_push xs s a.1 h)
+use Rattle.dns_names_wire.proofs.FieldWrites.{keeps_then, because_map, and_false}
 
 long_inner : (xs : List (List ℕ)) (s : List ℕ) (ys : List (List ℕ)) → nat_le (length s) 255 ≡ false
     → list_all (λ s. nat_le (length s) 255) (xs ++ s ∷ ys) ≡ false
@@ -22,17 +18,6 @@ long_inner (x ∷ xs) s ys e = rw (long_inner xs s ys e) (and_false (nat_le (len
 
 joined : (xs : List (List ℕ)) (s : List ℕ) (ys : List (List ℕ)) → flat_map string (xs ++ s ∷ ys) ≡ flat_map string xs ++ (string s ++ flat_map string ys)
 joined xs s ys = flat_map-append string xs (s ∷ ys) ∙ ap (λ (t : List ℕ). flat_map string xs ++ t) (flat_map-cons string s ys)
-
-pub no_strings : (w : Writing) → AppendedField w Texts [] w
-no_strings w = record { keeps = keeps_same w; field = record { is = (tt, sym (append-nil w.octets)) } }
-
-pub more_strings : {w b e : Writing} {xs : List (List ℕ)} {s : List ℕ} → AppendedField w Texts xs b → AppendedField b Text s e
-    → AppendedField w Texts (xs ++ s ∷ []) e
-more_strings {w} {b} {e} {xs} {s} f g =
-    let octets : e.octets ≡ w.octets ++ flat_map string (xs ++ s ∷ []) =
-    g.field.is.1 ∙ ap (λ (t : List ℕ). t ++ string s) f.field.is.1 ∙ append_assoc w.octets (flat_map string xs) (string s)
-    ∙ ap (λ (t : List ℕ). w.octets ++ t) (sym (joined xs s [] ∙ ap (λ (t : List ℕ). flat_map string xs ++ t) (append-nil (string s)))) in
-    record { keeps = keeps_then f.keeps g.keeps; field = record { is = (fits_push xs s f.field.is.0 g.field.is.0, octets) } }
 
 -- a string is refused behind others
 pub stopped_strings : {e : ProtoError} {w b n : Writing} (xs : List (List ℕ)) (s : List ℕ) (ys : List (List ℕ)) → AppendedField w Texts xs b

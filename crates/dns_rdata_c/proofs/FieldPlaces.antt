@@ -152,14 +152,6 @@ ends_moved kinds vs s t x e so = subst (λ (i : ℕ). EndsBy kinds vs i x) e so
 
 -- ---- two names in front
 
-pub two_names : (m : List ℕ) (p : ℕ) (kinds : List Kind) (x y : DomainName) (vs : Values kinds) (e a b : ℕ) → are_simple kinds ≡ true → e ≤ length m
-    → (s : Stands m p (Name ∷ Name ∷ kinds) (x, (y, vs)) e) → p + a ≡ s.0 → a ≡ length (name_octets x) → b ≡ length (name_octets y)
-    → e ≡ p + (a + b + length (all_whole kinds vs)) → At m p (name_octets x ++ (name_octets y ++ all_whole kinds vs)) e
-two_names m p kinds x y vs e a b simple inside s first long more sum =
-    let behind = simple_fields m s.2.0 kinds vs e simple inside s.2.2 in
-    both_stand (name_octets x) (name_octets y ++ all_whole kinds vs) (name_whole x s.1.is (omega (arith, first, long)))
-    (both_stand (name_octets y) (all_whole kinds vs) (name_whole y s.2.1.is (omega (arith, behind.ends, first, sum, more))) behind)
-
 -- numbers
 pub number_long : (w : ℕ) (kinds : List Kind) (p : ℕ) (vs : Values kinds) (n : ℕ) → n ≡ length (all_whole kinds vs) → w + n ≡ length (all_whole (Number w ∷ kinds) (p, vs))
 unfolding field_octets

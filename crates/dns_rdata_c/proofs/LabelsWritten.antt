@@ -2,7 +2,7 @@
 use Rattle.std.proofs.Common.{◌≡◌, ◌∙◌, ℕ, ◌+◌, ◌-◌, ◌<◌, ◌≤◌, List, [], ◌∷◌, ◌++◌, length, take, drop, set, refl, sym, ap, subst, arith, append_assoc, length-append, length-take-le}
 use Rattle.std.proofs.lemmas.List.{take_at, drop_at, take-append-drop, drop-drop, length-drop, length-set, drop-set-lt, append-nil}
 use Rattle.std.proofs.lemmas.Grind.{take-set_at}
-use Rattle.dns_fields.specs.Labels.{DomainName, AreLabels, IsName, wire}
+use Rattle.dns_fields.specs.Labels.{DomainName, AreLabels, wire}
 use Rattle.dns_rdata.specs.WholeOctets.{name_octets}
 
 -- Octets are written behind those in front, and what is behind them is as it was.
@@ -18,14 +18,6 @@ pub record Labelled (old new : List ℕ) (start at : ℕ) (left labels : List (L
   pub written : Written old new start at octets
   pub all : octets ++ wire left ≡ wire labels
   pub are : AreLabels left
-
-pub labels_begin : (out : List ℕ) (start : ℕ) (name : DomainName) → IsName name → Labelled out out start start name.labels name.labels
-labels_begin out start name is = record {
-  octets = [];
-  written = record { here = omega arith; front = sym (append-nil (take start out)); behind = refl; size = refl };
-  all = refl;
-  are = is.labels;
-}
 
 drop_more : (old new : List ℕ) (at n : ℕ) → at ≤ n → drop at new ≡ drop at old → drop n new ≡ drop n old
 drop_more old new at n h e =

@@ -20,9 +20,6 @@ pub record Measured (s : List ℕ) (number count end : ℕ) : Type 0 where
 pub measure_begins : (s : List ℕ) (number count : ℕ) → Measured s number count 0
 measure_begins s number count = record { read = []; are = tt; long = tt; rest = s; is = refl; ends = refl }
 
-pub measure_room : (s : List ℕ) (number count end : ℕ) → Measured s number count end → end ≤ length s
-measure_room s number count end c = omega (arith, c.ends, ap length c.is, length-append (pieces c.read) c.rest)
-
 behind : (s : List ℕ) (number count end : ℕ) (c : Measured s number count end) → drop end s ≡ c.rest
 behind s number count end c = ap (drop end) c.is ∙ drop_at (pieces c.read) c.rest end (sym c.ends)
 

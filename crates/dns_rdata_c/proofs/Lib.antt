@@ -1,5 +1,4 @@
 pub mod Equalities
-pub mod Fillings
 pub mod Whole
 pub mod NameSpans
 pub mod LabelsWritten

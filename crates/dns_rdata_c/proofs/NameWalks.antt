@@ -18,12 +18,6 @@ pub record Passed (s : List ℕ) (at : ℕ) : Type 0 where
   pub is : s ≡ wire labels ++ rest
   pub here : at ≡ length (wire labels)
 
-pub pass_begins : (s : List ℕ) → Passed s 0
-pass_begins s = record { labels = []; are = tt; rest = s; is = refl; here = refl }
-
-pub pass_room : (s : List ℕ) (at : ℕ) → Passed s at → at ≤ length s
-pass_room s at w = omega (arith, w.here, ap length w.is, length-append (wire w.labels) w.rest)
-
 pass_behind : (s : List ℕ) (at : ℕ) (w : Passed s at) → drop at s ≡ w.rest
 pass_behind s at w = ap (drop at) w.is ∙ drop_at (wire w.labels) w.rest at (sym w.here)
 
@@ -55,9 +49,6 @@ first_of y r (x ∷ labels) last tail a l h =
 last_some : (last : List ℕ) → IsLast last → 1 ≤ length last
 last_some last (inl e) = omega (arith, ap length e)
 last_some last (inr (t, k, e)) = omega (arith, ap length e)
-
-none_left : (labels : List (List ℕ)) (last tail : List ℕ) → IsLast last → [] ≡ wire labels ++ (last ++ tail) → ⊥
-none_left labels last tail l h = omega (arith, ap length h, length-append (wire labels) (last ++ tail), length-append last tail, last_some last l)
 
 -- a name in front of the octets goes on behind labels that were passed
 record GoesOn (rest : List ℕ) : Type 0 where

@@ -1,5 +1,5 @@
 -- The parts of octets that are the data of a value.
-use Rattle.std.proofs.Common.{◌≡◌, ◌∙◌, ◌⊎◌, ℕ, ◌+◌, ◌-◌, ◌<◌, ◌≤◌, suc, Bool, true, false, true≢false, inl, inr, List, [], ◌∷◌, ◌++◌, length, take, drop, map, refl, sym, ap, subst, arith, append_assoc, length-append, length-take-le}
+use Rattle.std.proofs.Common.{◌≡◌, ◌∙◌, ◌⊎◌, ℕ, ◌+◌, ◌-◌, ◌<◌, ◌≤◌, suc, Bool, false, true≢false, inl, inr, List, [], ◌∷◌, ◌++◌, length, take, drop, map, refl, sym, ap, subst, arith, append_assoc, length-append, length-take-le}
 use Rattle.std.proofs.lemmas.List.{drop_at, take_at, drop-drop, length-drop, length-map, take-append-drop}
 use Rattle.std.proofs.Math.Seq.{take-append-add}
 use Rattle.dns_fields.specs.Fields.{Stands}
@@ -206,13 +206,3 @@ no_parts t s h = record {
   none = λ front ps a. h front (pieces ps) a.is_front a.is;
   uncut = λ c. h [] s (subst (λ (u : RecordType). IsFront u []) (sym c.is_opt) refl) refl;
 }
-
--- parts that data has where its type has none
-pub partless : (m : List ℕ) (p n : ℕ) (t : RecordType) (v : RData) → is_partless t ≡ true → Fills m p n t v → parts_in v ≡ 0
-partless m p n t v h f = own_partless v (subst (λ (u : RecordType). is_partless u ≡ true) (sym f.value.type) h)
-  where
-    own_partless : (v : RData) → is_partless (type_of v) ≡ true → parts_in v ≡ 0
-    own_partless (rdata.OPT x) h = absurd (true≢false (sym h))
-    own_partless (rdata.HTTPS x) h = absurd (true≢false (sym h))
-    own_partless (rdata.SVCB x) h = absurd (true≢false (sym h))
-    own_partless v h = refl

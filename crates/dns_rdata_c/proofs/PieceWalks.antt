@@ -1,5 +1,5 @@
 -- Pieces that are counted.
-use Rattle.std.proofs.Common.{◌≡◌, ◌∙◌, ℕ, ◌+◌, ◌-◌, ◌*◌, ◌/◌, ◌%◌, ◌<◌, ◌≤◌, ◌^◌, inl, inr, List, [], ◌∷◌, ◌++◌, length, take, drop, refl, sym, ap, subst, arith, append_assoc, length-append, length-take-le, Fits, w8, slice_index_or}
+use Rattle.std.proofs.Common.{◌≡◌, ◌∙◌, ℕ, ◌+◌, ◌-◌, ◌*◌, ◌/◌, ◌%◌, ◌<◌, ◌≤◌, ◌^◌, inl, inr, List, [], ◌∷◌, ◌++◌, length, take, drop, refl, sym, ap, arith, append_assoc, length-append, length-take-le, Fits, w8, slice_index_or}
 use Rattle.std.proofs.Math.Facts.{Fits-lt-pow}
 use Rattle.std.proofs.lemmas.List.Elements.{All-from_get_or}
 use Rattle.std.specs.Int.{bytes_high_first}
@@ -9,7 +9,7 @@ use Rattle.dns_fields.specs.Pieces.{Numbered, piece, pieces, IsPiece, ArePieces,
 use Rattle.dns_fields.proofs.Numbers.{length-bytes, same_number}
 use Rattle.dns_fields.proofs.OctetLaws.{AreOctets-head, AreOctets-tail}
 use Rattle.dns_fields.proofs.Pieces.{first_piece, piece_before, length-piece}
-use Rattle.dns_rdata_c.specs.Pieces.{HasNoPiece, IsPieceLength, AreCounted}
+use Rattle.dns_rdata_c.specs.Pieces.{HasNoPiece, IsPieceLength}
 
 -- Pieces that stand in front are the same, and so is what is left, where no further piece stands there.
 pub same_split : (xs ys : List (Numbered (List ℕ))) (s t : List ℕ) → ArePieces xs → ArePieces ys → HasNoPiece s → HasNoPiece t → pieces xs ++ s ≡ pieces ys ++ t → (xs ≡ ys) × (s ≡ t)
@@ -82,9 +82,6 @@ pub record Counting (s : List ℕ) (count end : ℕ) : Type 0 where
   pub many : count ≡ length read
   pub ends : end ≡ length (pieces read)
 
-pub count_begins : (s : List ℕ) → Counting s 0 0
-count_begins s = record { read = []; are = tt; rest = s; is = refl; many = refl; ends = refl }
-
 pub pieces-append : (xs ys : List (Numbered (List ℕ))) → pieces (xs ++ ys) ≡ pieces xs ++ pieces ys
 pieces-append [] ys = refl
 pieces-append (x ∷ xs) ys = ap (λ (l : List ℕ). piece x ++ l) (pieces-append xs ys) ∙ sym (append_assoc (piece x) (pieces xs) (pieces ys))
@@ -122,17 +119,6 @@ pub count_further : (s : List ℕ) (count end n : ℕ) → Counting s count end 
 count_further s count end n c h =
     let further = count_on s count end n c h in
     (omega (arith, h.4, length-piece h.0), (count_room s (count + 1) (end + n) further).1)
-
-pub count_ends : (s : List ℕ) (count end : ℕ) → Counting s count end → HasNoPiece (drop end s) → AreCounted s count end
-count_ends s count end c h = record {
-  read = c.read;
-  are = c.are;
-  rest = c.rest;
-  is = c.is;
-  many = c.many;
-  ends = c.ends;
-  none = subst HasNoPiece (behind s count end c) h;
-}
 
 -- ---- an option that is cut
 

@@ -1,13 +1,11 @@
 -- Values whose octets are copied from where they stand.
-use Rattle.std.proofs.Common.{◌≡◌, ◌⊎◌, inl, inr, ◌∙◌, ℕ, ◌+◌, ◌-◌, ◌<◌, ◌≤◌, true, List, [], ◌∷◌, ◌++◌, length, take, drop, refl, sym, ap, subst, arith, length-take-le}
-use Rattle.std.proofs.lemmas.List.{length-drop}
-use Rattle.dns_fields.specs.Fields.{Number, Stands}
+use Rattle.std.proofs.Common.{◌≡◌, ◌⊎◌, inl, inr, ◌∙◌, ℕ, ◌-◌, ◌≤◌, true, List, [], ◌∷◌, ◌++◌, length, drop, refl, sym, ap, subst, arith}
+use Rattle.dns_fields.specs.Fields.{Number}
 use Rattle.dns_fields.specs.Labels.{DomainName}
-use Rattle.dns_types.specs.declared.record_type.RecordType.{RecordType}
 use Rattle.dns_rdata_base.specs.declared.soa.SOA.{SOA}
 use Rattle.dns_rdata_base.specs.SOA.{soa_shape, soa_fields, soa_numbers_shape, soa_numbers_of}
 use Rattle.dns_rdata.specs.declared.record_data.RData.{RData}
-use Rattle.dns_rdata.specs.Data.{FieldsOf, Fills, fields_of}
+use Rattle.dns_rdata.specs.Data.{fields_of}
 use Rattle.dns_rdata.specs.WholeOctets.{name_octets, all_whole, whole_data}
 use Rattle.dns_rdata_c.specs.Buffers.{IsPut, IsTooMany, Puts}
 use Rattle.dns_rdata_c.specs.NameSpans.{AreFields, AreOf, StandsWhole, EndsByName}
@@ -49,25 +47,6 @@ pub soa_behind : (octets : List ℕ) (x : SOA) → AreFields octets soa_shape (s
 soa_behind octets x f =
     let b = numbers_behind octets soa_numbers_shape x.mname x.rname (soa_numbers_of x) 20 refl (numbers_long x) f in
     (b.0, ap (λ (l : List ℕ). name_octets x.mname ++ (name_octets x.rname ++ l)) b.1)
-
--- ---- the octets of a value that was read
-
-stands_of : {m : List ℕ} {p n : ℕ} {t : RecordType} {v : RData} → Fills m p n t v → Stands m p (fields_of v).kinds (fields_of v).values (p + n)
-stands_of {m} {p} {n} f = subst (λ (x : FieldsOf). Stands m p x.kinds x.values (p + n)) (sym f.value.fields) f.window.stands
-
-pub are_of : (m : List ℕ) (p n : ℕ) (t : RecordType) (v : RData) (octets : List ℕ) → Fills m p n t v → octets ≡ take n (drop p m) → AreOf octets v
-are_of m p n t v octets f e =
-    let size : length octets ≡ n = ap length e ∙ length-take-le n (drop p m) (omega (arith, f.window.within, length-drop p m)) in
-    record {
-      message = m;
-      place = p;
-      within = omega (arith, size, f.window.within);
-      stands = subst (λ (k : ℕ). Stands m p (fields_of v).kinds (fields_of v).values (p + k)) (sym size) (stands_of f);
-      is = e ∙ ap (λ (k : ℕ). take k (drop p m)) (sym size);
-    }
-
-pub short_of : (m : List ℕ) (p n : ℕ) (octets : List ℕ) → p + n ≤ length m → n < 65536 → octets ≡ take n (drop p m) → length octets ≤ 65535
-short_of m p n octets inside h e = omega (arith, h, ap length e, length-take-le n (drop p m) (omega (arith, inside, length-drop p m)))
 
 -- ---- what is put
 

@@ -5,7 +5,7 @@ use Rattle.std.proofs.lemmas.List.{append-nil, drop-drop, drop_at, take_at, leng
 use Rattle.dns_fields.specs.Pieces.{Numbered, piece, pieces, IsPiece, ArePieces}
 use Rattle.dns_fields.proofs.Numbers.{length-bytes, same_number}
 use Rattle.dns_fields.proofs.Pieces.{piece_before}
-use Rattle.dns_rdata_c.specs.Pieces.{HoldsPieces, IsPieceOf}
+use Rattle.dns_rdata_c.specs.Pieces.{IsPieceOf}
 
 -- piece number i, and the pieces in front of it and behind
 pub record SplitAt (read : List (Numbered (List ℕ))) (i : ℕ) : Type 0 where
@@ -35,9 +35,6 @@ pub record Walked (s : List ℕ) (index i at : ℕ) : Type 0 where
   pub are : ArePieces read
   pub few : index < length read
   pub here : at ≡ length (pieces (take i read))
-
-pub walk_begins : (s : List ℕ) (index : ℕ) → HoldsPieces s index → Walked s index 0 0
-walk_begins s index h = record { read = h.read; is = h.is; are = h.are; few = h.few; here = refl }
 
 -- what stands there
 record Here (s : List ℕ) (index i at : ℕ) : Type 0 where

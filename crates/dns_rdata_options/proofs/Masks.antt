@@ -1,27 +1,12 @@
 -- The first bits of octets.
-use Rattle.std.proofs.Common.{◌≡◌, ℕ, suc, ◌+◌, ◌-◌, ◌*◌, ◌<◌, ◌≤◌, List, [], ◌∷◌, length, get_or, refl, ◌∙◌, ap, ⊎_elim, arith, subst}
-use Rattle.std.specs.Prelude.{slice_set}
-use Rattle.std.proofs.lemmas.List.{get_or-set_same, get_or-set_other, length-set}
+use Rattle.std.proofs.Common.{◌≡◌, ℕ, suc, ◌-◌, ◌*◌, ◌<◌, ◌≤◌, List, [], ◌∷◌, length, get_or, refl, ◌∙◌, ap, arith}
 use Rattle.dns_rdata_options.specs.IpNet.{masked_octet, masked_octets}
-use Rattle.dns_rdata_options.proofs.ChoiceSteps.{last_or}
 
 -- the octets in front of place i are masked, and the others as they were
 pub record Masked (bits i : ℕ) (old new : List ℕ) : Type 0 where
   pub size : length new ≡ length old
   pub done : (k : ℕ) → k < i → get_or new k 0 ≡ masked_octet (bits - 8 * k) (get_or old k 0)
   pub rest : (k : ℕ) → i ≤ k → get_or new k 0 ≡ get_or old k 0
-
-pub masked_more : (bits i x : ℕ) (old new : List ℕ) → i < length new → x ≡ masked_octet (bits - 8 * i) (get_or new i 0) → Masked bits i old new
-    → Masked bits (i + 1) old (slice_set new i x)
-masked_more bits i x old new lt e m = record {
-  size = length-set new i x ∙ m.size;
-  done = λ k h. ⊎_elim
-      (λ (l : k < i). get_or-set_other new i k x 0 (λ (s : k ≡ i). absurd (omega (arith, l, s))) ∙ m.done k l)
-      (λ (s : i ≡ k). subst (λ (j : ℕ). get_or (slice_set new i x) j 0 ≡ masked_octet (bits - 8 * j) (get_or old j 0)) s
-      (get_or-set_same new i x 0 lt ∙ e ∙ ap (masked_octet (bits - 8 * i)) (m.rest i (omega arith))))
-      (last_or k i h);
-  rest = λ k h. get_or-set_other new i k x 0 (λ (s : k ≡ i). absurd (omega (arith, h, s))) ∙ m.rest k (omega (arith, h));
-}
 
 pub masked_all : (bits : ℕ) (old new : List ℕ) → length new ≡ length old
     → ((k : ℕ) → k < length old → get_or new k 0 ≡ masked_octet (bits - 8 * k) (get_or old k 0)) → new ≡ masked_octets bits old

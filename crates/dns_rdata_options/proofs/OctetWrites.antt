@@ -1,20 +1,12 @@
 -- Plain octets that are appended in parts.
-use Rattle.std.proofs.Common.{◌≡◌, ℕ, ◌≤◌, List, ◌++◌, length, ap, ◌∙◌, arith, append_assoc}
+use Rattle.std.proofs.Common.{◌≡◌, ℕ, ◌≤◌, List, ◌++◌, length, ap, arith}
 use Rattle.std.proofs.lemmas.List.{length-append}
 use Rattle.dns_types.specs.declared.error.ProtoError.{ProtoError}
 use Rattle.dns_fields.specs.Fields.{Rest, field_octets}
 use Rattle.dns_names_wire.specs.State.{Writing}
 use Rattle.dns_names_wire.specs.Words.{AppendedField, StoppedField, NoRoomField, UnfitField}
-use Rattle.dns_names_wire.proofs.FieldWrites.{keeps_then, extends_then, because_map}
-use Rattle.dns_rdata_options.specs.Words.{AppendedOctets, StoppedOctets}
-
-pub appended_two : {old mid new : Writing} {asked : Type 0} (s t whole : List ℕ) → AppendedField old Rest s mid → AppendedField mid Rest t new
-    → s ++ t ≡ whole → asked → AppendedOctets asked whole old new
-appended_two {old} s t whole f g is holds = record {
-  keeps = keeps_then f.keeps g.keeps;
-  octets = g.field.is ∙ ap (λ (o : List ℕ). o ++ t) f.field.is ∙ append_assoc old.octets s t ∙ ap (λ (o : List ℕ). old.octets ++ o) is;
-  holds = holds;
-}
+use Rattle.dns_names_wire.proofs.FieldWrites.{extends_then, because_map}
+use Rattle.dns_rdata_options.specs.Words.{StoppedOctets}
 
 pub stopped_one : {e : ProtoError} {old new : Writing} {asked : Type 0} (s t whole : List ℕ) → StoppedField e old Rest s new → s ++ t ≡ whole
     → StoppedOctets e asked whole old new

@@ -70,11 +70,6 @@ counts_short {m} {end} {count} {place} lt short h read a g =
     let y = next_piece m place end r.0 lt r.1 r.2 in
     omega (arith, y.2.within, length-piece y.0)
 
--- the lengths go past the end
-pub counts_past : {m : List ℕ} {end count place : ℕ} → end < place → CountsOn m end count place → (read : List (Numbered (List ℕ)))
-    → At m 0 (pieces read) end → ArePieces read → ⊥
-counts_past lt h read a g = let r = h.on read a g in omega (arith, r.1.ends)
-
 -- the end is reached
 pub counts_all : {m : List ℕ} {end count place : ℕ} → place ≡ end → CountsOn m end count place → (read : List (Numbered (List ℕ)))
     → At m 0 (pieces read) end → ArePieces read → length read ≡ count

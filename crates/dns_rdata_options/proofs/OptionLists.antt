@@ -154,11 +154,6 @@ size_great : {d b c : Reading} {v w n end : ℕ} → d.index < end → end ≤ d
     → n < w → NoneLeft d.message n d.index end
 size_great lt fits f more g great = record { none = λ h. let s = same_size lt fits f more g h in omega (arith, s.0.most, s.1) }
 
--- the message ends before the record does
-body_short : {d b c : Reading} {v w n end : ℕ} → d.index < end → end ≤ d.index + n → TookField d (Number 2) v b → b.index < end → TookField b (Number 2) w c
-    → length d.message < end → NoneLeft d.message n d.index end
-body_short {d} {b} lt fits f more g short = record { none = λ h. let s = same_size lt fits f more g h in omega (arith, s.0.within, ap length f.message) }
-
 -- ---- each of them, with its cause
 
 behind_one : {d b : Reading} {v : ℕ} → TookField d (Number 2) v b → StaysBehind d b
@@ -228,31 +223,6 @@ refused_long {v = v} {w = w} le lt f more g inside great = (
       (inr (inr (inl (record { code = v; size = w; took = took_head f g; inside = inside; long = great; error = refl })))),
 )
 
-pub refused_body : {d b c new : Reading} {v w start n : ℕ} (e : DecodeError) → start ≤ d.index → d.index < start + n → TookField d (Number 2) v b
-    → b.index < start + n → TookField b (Number 2) w c → w ≤ n → length c.message < c.index + w → length c.message < start + n
-    → e ≡ decode.InsufficientBytes → new.message ≡ c.message → c.index ≤ length c.message → new.index ≡ length c.message
-    → RefusedLeft d n (start + n) new × IsPieceRefusal start n d e new
-refused_body {d} {b} {c} {new} {v} {w} {start} {n} e le lt f more g most short past is message inside index =
-    let lengths : length c.message ≡ length d.message = ap length (g.message ∙ f.message) in (
-      record {
-        behind = record { message = message ∙ g.message ∙ f.message; index = omega (arith, took_number f, took_number g, index, inside) };
-        none =
-            body_short lt (omega (arith, le)) f more g (omega (arith, past, lengths));
-      },
-      inr (inr (inr (inr (record {
-        code = v;
-        size = w;
-        between = c;
-        took = took_head f g;
-        most = most;
-        body = short;
-        record_left =
-            omega (arith, past, lengths);
-        error = is;
-        index = index ∙ lengths;
-      })))),
-    )
-
 -- ---- what was read
 
 -- the octets of two numbers and of what follows
@@ -265,16 +235,6 @@ third : {d b c e : Reading} {v w k : ℕ} {x : List ℕ} → TookField d (Number
 third {d} {b} {c} {e} {v} {w} {k} {x} f g h =
     let back : At d.message c.index x e.index = subst (λ (m : List ℕ). At m c.index x e.index) (g.message ∙ f.message) h.field.is.1 in
     subst (λ (o : List ℕ). At d.message d.index o e.index) (append_assoc (bytes_high_first 2 v) (bytes_high_first 2 w) x) (at_then (heads f g) back)
-
-pub cut_code : {d b : Reading} {v n end : ℕ} → TookField d (Number 2) v b → b.index ≡ end → TookCut d n end b
-cut_code {d} {b} {v} {n} {end} f e = record {
-  message = f.message;
-  stub = bytes_high_first 2 v;
-  at = subst (λ (q : ℕ). At d.message d.index (bytes_high_first 2 v) q) e f.field.is.1;
-  cut =
-      (v, f.field.is.0, inl refl);
-  there = e;
-}
 
 pub cut_short : {d b c e : Reading} {v w k n end : ℕ} {x : List ℕ} → TookField d (Number 2) v b → TookField b (Number 2) w c → TookField c (Octets k) x e
     → c.index + k ≡ end → w ≤ n → k < w → TookCut d n end e

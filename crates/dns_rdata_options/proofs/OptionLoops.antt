@@ -8,13 +8,12 @@ use Rattle.dns_types.specs.declared.error.DecodeError.TheVariants as decode
 use Rattle.dns_fields.specs.Octets.{At}
 use Rattle.dns_fields.specs.Pieces.{Numbered, piece, pieces, IsPiece, ArePieces, AllHeld, OptionValue, OptionHeld, IsCut}
 use Rattle.dns_fields.specs.Fields.{Options, Field, Values, WholeOptions, CutOptions}
-use Rattle.dns_fields.proofs.Pieces.{length-piece}
-use Rattle.dns_names_wire.specs.State.{Reading, IsInside}
+use Rattle.dns_names_wire.specs.State.{Reading}
 use Rattle.dns_names_wire.specs.Words.{Took, Refused, StaysBehind, UnlessMemory}
 use Rattle.dns_names_wire.proofs.FieldReads.{unless_map}
 use Rattle.dns_names_wire.proofs.Strings.{at_then}
 use Rattle.dns_rdata_options.specs.OPT.{Pair, pair_value, pair_of, opt_shape, IsReadOpt, IsNextRefusal, IsOptRefusal}
-use Rattle.dns_rdata_options.specs.OptionReads.{Left, NoneLeft, TookOption, TookCut, NoWhole}
+use Rattle.dns_rdata_options.specs.OptionReads.{Left, NoneLeft, TookOption, TookCut}
 use Rattle.dns_rdata_options.proofs.OptionLists.{first_left}
 
 abbrev pub AnyOptions : Values opt_shape → Type 0
@@ -27,16 +26,6 @@ pub record ReadsOptions (old : Reading) (n end : ℕ) (done : List (Numbered Opt
   pub inside : d.index ≤ end
   pub took : WholeOptions old.message old.index done d.index
   pub rest : Left old.message n old.index end → Left old.message n d.index end
-
-pub options_first : (d : Reading) (n end : ℕ) → IsInside d → d.index ≤ end → ReadsOptions d n end [] d
-options_first d n end inside le = record {
-  message = refl;
-  behind = omega arith;
-  inside = le;
-  took =
-      record { read = []; at = record { ends = omega arith; within = inside; same = refl }; fit = tt; held = tt };
-  rest = λ h. h;
-}
 
 held_more : (xs : List (Numbered (List ℕ))) (a : List (Numbered OptionValue)) (x : Numbered (List ℕ)) (v : OptionValue) → AllHeld OptionHeld xs a
     → OptionHeld x.0 x.1 v → AllHeld OptionHeld (xs ++ x ∷ []) (a ++ (x.0, v) ∷ [])
@@ -71,9 +60,6 @@ options_more {old} {d} {b} {n} {end} {done} {x} r o =
       };
       rest = λ h. (first_left at t.fits t.inside (r.rest h)).left;
     }
-
-pub option_long : {d b : Reading} {end : ℕ} {x : Numbered OptionValue} → TookOption d end x b → d.index < b.index
-option_long {x = x} o = omega (arith, o.took.at.ends, length-piece (x.0, o.body))
 
 -- a field of options leaves all of it at its start
 field_left : {m : List ℕ} {p q : ℕ} {v : List (Numbered OptionValue)} → Field m p Options v q → Left m (q - p) p q
@@ -122,16 +108,6 @@ options_refusal {e} {old} {d} {b} {done} start n is before r f = of f.2 where
         subst (λ (k : ℕ). IsNextRefusal k n d e b) is h;
   })
 
--- memory ran out behind options
-pub options_stopped : {old d b : Reading} {n end : ℕ} {done : List (Numbered OptionValue)} {x : Numbered OptionValue} → ReadsOptions old n end done d
-    → TookOption d end x b → Refused decode.Memory old opt_shape (λ vs q. (q ≡ old.index + n) × AnyOptions vs) b
-options_stopped r o = record { behind = record { message = o.took.message ∙ r.message; index = omega (arith, r.behind, option_long o) }; none = tt }
-
-pub options_done : {old d : Reading} {done : List (Numbered OptionValue)} (start n : ℕ) → start ≡ old.index → start + n ≤ d.index
-    → ReadsOptions old n (start + n) done d → Took old opt_shape (done, tt) d × ((d.index ≡ old.index + n) × Unit {0})
-options_done {old} {d} {done} start n is le r =
-    (record { message = r.message; stands = (d.index, record { is = inl r.took }, refl) }, (omega (arith, r.inside), tt))
-
 pub options_cut : {old d b : Reading} {done : List (Numbered OptionValue)} (start n : ℕ) → start ≡ old.index → ReadsOptions old n (start + n) done d
     → TookCut d n (start + n) b → Took old opt_shape ([], tt) b × ((b.index ≡ old.index + n) × Unit {0})
 options_cut {old} {d} {b} {done} start n is r t =
@@ -150,13 +126,6 @@ options_cut {old} {d} {b} {done} start n is r t =
           subst (λ (k : ℕ). IsCut k t.stub) size t.cut;
     } in
     (record { message = t.message ∙ r.message; stands = (end, record { is = inr (refl, cut) }, sym t.there) }, (omega (arith, t.there, is), tt))
-
--- whole options, where none are
-pub options_never : {old d : Reading} {done : List (Numbered OptionValue)} (start n : ℕ) → start ≡ old.index → start + n ≤ d.index
-    → ReadsOptions old n (start + n) done d → NoWhole old.message old.index (old.index + n) → ⊥
-options_never {old} {d} start n is le r none =
-    let there : d.index ≡ old.index + n = omega (arith, r.inside) in
-    none.none r.took.read (subst (λ (q : ℕ). At old.message old.index (pieces r.took.read) q) there r.took.at) r.took.fit
 
 -- one pair more that was read
 pub read_more : (xs : List Pair) (x : Pair) → IsReadOpt xs → x ≡ pair_of (pair_value x) → IsReadOpt (xs ++ x ∷ [])

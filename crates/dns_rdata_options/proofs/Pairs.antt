@@ -11,7 +11,7 @@ use Rattle.dns_fields.specs.Fields.{Options, field_octets, option_pieces}
 use Rattle.dns_fields.proofs.Sorted.{octets_cmp, flat_map_all, length_sorted}
 use Rattle.dns_names_wire.specs.State.{Writing}
 use Rattle.dns_names_wire.specs.Words.{AppendedField, StoppedField}
-use Rattle.dns_names_wire.proofs.FieldWrites.{keeps_same, keeps_then, because_map, and_false}
+use Rattle.dns_names_wire.proofs.FieldWrites.{keeps_then, because_map, and_false}
 use Rattle.dns_rdata_options.specs.EdnsCode.{edns_code_number}
 use Rattle.dns_rdata_options.specs.Words.{AppendedOctets, StoppedOctets}
 use Rattle.dns_rdata_options.specs.OPT.{Pair, pair_value}
@@ -60,9 +60,6 @@ unfit_inner : (xs : List (Numbered OptionValue)) (x : Numbered OptionValue) (ys 
 unfolding is_fit
 unfit_inner [] x ys e = rw e refl
 unfit_inner (y ∷ xs) x ys e = rw (unfit_inner xs x ys e) (and_false (nat_le (length (option_octets y.1)) 65535 && option_emittable y.1))
-
-pub no_options : (w : Writing) → AppendedField w Options [] w
-no_options w = record { keeps = keeps_same w; field = record { is = (tt, sym (append-nil w.octets)) } }
 
 pub more_options : {w b e : Writing} (xs : List (Numbered OptionValue)) (x : Numbered OptionValue) → AppendedField w Options xs b
     → AppendedOctets (OptionFits x) (piece (as_piece option_octets x)) b e → AppendedField w Options (xs ++ x ∷ []) e

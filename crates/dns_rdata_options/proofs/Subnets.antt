@@ -1,5 +1,5 @@
 -- The subnet that begins octets, and why none does.
-use Rattle.std.proofs.Common.{◌≡◌, ◌⊎◌, inl, inr, ℕ, zero, suc, ◌+◌, ◌-◌, ◌<◌, ◌≤◌, ◌^◌, List, [], ◌∷◌, ◌++◌, length, take}
+use Rattle.std.proofs.Common.{◌≡◌, ◌⊎◌, inl, inr, ℕ, zero, suc, ◌+◌, ◌-◌, ◌<◌, ◌≤◌, List, [], ◌∷◌, ◌++◌, length, take}
 use Rattle.std.proofs.Common.{drop, replicate, get_or, Bool, true, false, cond, ◌==◌, eqb-true, refl, sym, ap, ◌∙◌, arith, subst}
 use Rattle.std.proofs.Common.{append_assoc}
 use Rattle.std.specs.Int.{w16, from_be_bytes, bytes_high_first}
@@ -8,18 +8,16 @@ use Rattle.std.specs.declared.net.ip_addr.IpAddr.TheVariants.{V4, V6}
 use Rattle.std.specs.declared.net.ipv6_addr.Ipv6Addr.{Ipv6Addr}
 use Rattle.std.proofs.lemmas.Nat.{be_bytes_2}
 use Rattle.std.proofs.lemmas.List.{length-append, length-take-le, length-drop, length-replicate, take-append-drop, take_at}
-use Rattle.dns_types.specs.declared.error.DecodeError.{DecodeError}
 use Rattle.dns_types.specs.declared.error.DecodeError.TheVariants as decode
 use Rattle.dns_fields.specs.Octets.{At}
 use Rattle.dns_fields.specs.Octets.{AreOctets}
 use Rattle.dns_fields.specs.Pieces.{OptionValue, Subnet, option_octets, IsAddress, IsEmittableOption}
 use Rattle.dns_fields.proofs.Numbers.{length-bytes}
-use Rattle.dns_fields.proofs.Pieces.{number_first}
 use Rattle.dns_fields.proofs.OctetLaws.{AreOctets-nil, AreOctets-cons, AreOctets-append, AreOctets-take, AreOctets-drop}
 use Rattle.dns_rdata_base.proofs.Addresses.{octets_of-segments}
 use Rattle.dns_rdata_options.specs.ClientSubnet.{family_of, address_octets, prefix_octets, family_octets, padded, address_of, subnet_of}
 use Rattle.dns_rdata_options.specs.ClientSubnet.{subnet_value, IsReadSubnet, SubnetAt, IsFamily}
-use Rattle.dns_rdata_options.specs.ClientSubnet.{SubnetHead, IsSubnetRefusal, NoSubnet}
+use Rattle.dns_rdata_options.specs.ClientSubnet.{SubnetHead, IsSubnetRefusal}
 use Rattle.dns_rdata_options.specs.declared.opt.subnet.ClientSubnet.{ClientSubnet}
 
 -- octets as numbers of eight bits, as code knows them
@@ -50,9 +48,6 @@ pub head_first : (s : List ℕ) (f : ℕ) → 4 ≤ length s → Eights s → f 
 head_first s f n b e known = record { octets = family_first s f (omega arith) b e ∙ ap (λ (o : List ℕ). bytes_high_first 2 f ++ o) (heads s n); known = known }
 
 -- ---- refusals
-
-pub no_family : (s : List ℕ) → length s < 2 → IsSubnetRefusal s decode.InsufficientBytes
-no_family s n = inl (record { error = refl; short = n })
 
 pub unknown_family : (s : List ℕ) (f : ℕ) → f < 65536 → 2 ≤ length s → Eights s → f ≡ from_be_bytes w16 (get_or s 0 0 ∷ get_or s 1 0 ∷ [])
     → (IsFamily f → ⊥) → IsSubnetRefusal s (decode.UnknownAddressFamily f)
@@ -191,16 +186,6 @@ subnet_stands s f x n b e known most enough is =
 pub begun : {s x : List ℕ} {q : ℕ} → At s 0 x q → s ≡ x ++ drop (length x) s
 begun {s} {x} a = sym (take-append-drop (length x) s) ∙ ap (λ (o : List ℕ). o ++ drop (length x) s) a.same
 
-pub family_small : (f source : ℕ) (s : List ℕ) → IsAddress f source s → f < 256 ^ 2
-family_small f source s a = small (address_known f source s a).0 where
-  small : IsFamily f → f < 256 ^ 2
-  small (inl e) = omega (arith, e)
-  small (inr e) = omega (arith, e)
-
-known_small : (f : ℕ) → IsFamily f → f < 256 ^ 2
-known_small f (inl e) = omega (arith, e)
-known_small f (inr e) = omega (arith, e)
-
 -- family, source prefix and address octets that octets begin with
 pub record Begins (s : List ℕ) (f source scope : ℕ) (a rest : List ℕ) : Type 0 where
   pub octets : s ≡ bytes_high_first 2 f ++ (source ∷ scope ∷ (a ++ rest))
@@ -210,46 +195,3 @@ begins : {s : List ℕ} {q : ℕ} (f source scope : ℕ) (a : List ℕ) → IsAd
     → Begins s f source scope a (drop (length (option_octets (Subnet f source scope a))) s)
 begins {s} f source scope a is at = record
     { octets = begun at ∙ append_assoc (bytes_high_first 2 f) (source ∷ scope ∷ a) (drop (length (option_octets (Subnet f source scope a))) s); address = is }
-
-begins-length : {s : List ℕ} {f source scope : ℕ} {a rest : List ℕ} → Begins s f source scope a rest → length s ≡ 4 + length a + length rest
-begins-length {s} {f} {source} {scope} {a} {rest} b =
-    omega (arith, ap length b.octets, length-append (bytes_high_first 2 f) (source ∷ scope ∷ (a ++ rest)), length-bytes 2 f, length-append a rest)
-
-none_begins : {s : List ℕ} {e : DecodeError} {f source scope : ℕ} {a rest : List ℕ} → IsSubnetRefusal s e → Begins s f source scope a rest → ⊥
-none_begins (inl h) b = omega (arith, h.short, begins-length b)
-none_begins {f = f} {source = source} {a = a} (inr (inl h)) b =
-    let same = number_first f h.family _ _ (family_small f source a b.address) h.small (sym b.octets ∙ h.octets) in
-    h.unknown (subst IsFamily same.0 (address_known f source a b.address).0)
-none_begins (inr (inr (inl h))) b = omega
-    (arith, h.short, begins-length b, ap length h.octets, length-append (bytes_high_first 2 h.family) h.rest, length-bytes 2 h.family)
-none_begins {f = f} {source = source} {scope = scope} {a = a} {rest = rest} (inr (inr (inr (inl h)))) b =
-    let same = number_first f h.family _ _ (family_small f source a b.address) (known_small h.family h.head.known) (sym b.octets ∙ h.head.octets) in
-    let sources : source ≡ h.source = let x : source ∷ scope ∷ (a ++ rest) ≡ h.source ∷ h.scope ∷ h.rest = same.1 in cc in
-    let most : length a ≤ family_octets f = (address_known f source a b.address).1 in
-    let most' : length a ≤ family_octets h.family = rw (← same.0) most in
-    omega (arith, most', h.long, b.address.long, sources)
-none_begins {f = f} {source = source} {scope = scope} {a = a} {rest = rest} (inr (inr (inr (inr h)))) b =
-    let same = number_first f h.family _ _ (family_small f source a b.address) (known_small h.family h.head.known) (sym b.octets ∙ h.head.octets) in
-    let sources : source ≡ h.source = let x : source ∷ scope ∷ (a ++ rest) ≡ h.source ∷ h.scope ∷ h.rest = same.1 in cc in
-    let rests : a ++ rest ≡ h.rest = let x : source ∷ scope ∷ (a ++ rest) ≡ h.source ∷ h.scope ∷ h.rest = same.1 in cc in
-    omega (arith, h.short, b.address.long, sources, ap length rests, length-append a rest)
-
-pub no_subnet : (s : List ℕ) (e : DecodeError) → IsSubnetRefusal s e → NoSubnet s
-no_subnet s e r = record {
-  none = λ x q h. none_begins r
-      (begins (family_of x.address) x.source_prefix x.scope_prefix (take (prefix_octets x.source_prefix) (address_octets x.address)) h.fits h.at);
-}
-
--- ---- behind a place of a message
-
-pub at_behind : {m x : List ℕ} {p q : ℕ} → p ≤ length m → At (drop p m) 0 x q → At m p x (p + q)
-at_behind {m} {x} {p} {q} inside a = record { ends = omega (arith, a.ends); within = omega (arith, a.within, length-drop p m); same = a.same }
-
-at_drop : {m x : List ℕ} {p q : ℕ} → At m p x q → At (drop p m) 0 x (length x)
-at_drop {m} {x} {p} {q} a = record { ends = omega arith; within = omega (arith, a.ends, a.within, length-drop p m); same = a.same }
-
-pub subnet_behind : {m : List ℕ} {x : ClientSubnet} {p q : ℕ} → p ≤ length m → SubnetAt (drop p m) 0 x q → SubnetAt m p x (p + q)
-subnet_behind inside h = record { fits = h.fits; at = at_behind inside h.at; read = h.read }
-
-pub no_subnet_behind : {m : List ℕ} {p : ℕ} → NoSubnet (drop p m) → (x : ClientSubnet) (q : ℕ) → SubnetAt m p x q → ⊥
-no_subnet_behind n x q h = n.none x _ (record { fits = h.fits; at = at_drop h.at; read = h.read })

@@ -1,9 +1,9 @@
 -- Lists compared item by item, and under a view.
-use Rattle.std.proofs.Common.{◌≡◌, ℕ, ◌+◌, ◌-◌, ◌<◌, ◌≤◌, true, false, List, [], ◌∷◌, length, get_or, drop, map, refl, sym, ap, ◌∙◌, arith}
+use Rattle.std.proofs.Common.{◌≡◌, ℕ, ◌-◌, ◌<◌, ◌≤◌, List, [], ◌∷◌, length, drop, map, refl, sym, ap, ◌∙◌, arith}
 use Rattle.std.proofs.lemmas.Bool.Decides.{nat_tests}
-use Rattle.std.proofs.lemmas.List.{drop_more, length-drop}
+use Rattle.std.proofs.lemmas.List.{length-drop}
 use Rattle.std.specs.Cmp.Lexicographic.{slice_cmp}
-use Rattle.std.specs.Ordering.{nat_cmp, ordering_then, is_ne}
+use Rattle.std.specs.Ordering.{nat_cmp, ordering_then}
 use Rattle.std.specs.declared.cmp.Ordering.{Ordering}
 use Rattle.std.specs.declared.cmp.Ordering.TheVariants.{Less, Equal, Greater}
 use Rattle.dns_pieces.proofs.Comparing.{then_equal}
@@ -33,11 +33,6 @@ keys_order xs ys = cmp_view (numbered_cmp key_number key_variant) (slice_cmp nat
 pub parameters_order : (ps qs : List Parameter) → slice_cmp parameter_order ps qs ≡ slice_cmp key_cmp (parameter_keys (map own_parameter ps)) (parameter_keys (map own_parameter qs))
 parameters_order ps qs = cmp_view parameter_order (λ x y. key_cmp (parameter_key x) (parameter_key y)) own_parameter (λ x y. refl) ps qs
     ∙ cmp_view (λ x y. key_cmp (parameter_key x) (parameter_key y)) key_cmp parameter_key (λ x y. refl) (map own_parameter ps) (map own_parameter qs)
-
-pub one_order : (n v k : Ordering) → ordering_then (ordering_then n v) k ≡ ordering_then (ordering_then n Equal) (ordering_then (ordering_then v Equal) k)
-one_order Less v k = refl
-one_order Equal v k = ap (λ o. ordering_then o k) (sym (then_equal v))
-one_order Greater v k = refl
 
 pub differ_order : (v w : SvcParamValue) → Differ v w → nat_cmp (value_place v) (value_place w) ≡ slice_cmp (slice_cmp nat_cmp) (value_key v) (value_key w)
 differ_order (variants.Mandatory x) (variants.Mandatory y) d = absurd d
@@ -69,29 +64,7 @@ fields_order r p t n m a b c e f g h k = e ∙ (λ i. ordering_then (f i) (g i))
 
 -- ---- item by item
 
-then_decided : (o s : Ordering) → is_ne o ≡ true → o ≡ ordering_then o s
-then_decided Less s h = refl
-then_decided Equal s h = cc h
-then_decided Greater s h = refl
-
-then_goes_on : (o s : Ordering) → is_ne o ≡ false → ordering_then o s ≡ s
-then_goes_on Less s h = cc h
-then_goes_on Equal s h = refl
-then_goes_on Greater s h = cc h
-
 module _ {X : Type 0} (R : X → X → Ordering) (xs ys : List X) where
-  next_items : (i : ℕ) (d e : X) → i < length xs → i < length ys
-      → slice_cmp R (drop i xs) (drop i ys) ≡ ordering_then (R (get_or xs i d) (get_or ys i e)) (slice_cmp R (drop (i + 1) xs) (drop (i + 1) ys))
-  next_items i d e h k = (λ j. slice_cmp R (drop_more xs i d h j) (drop_more ys i e k j))
-
-  pub decided : (i : ℕ) (d e : X) (o w : Ordering) → i < length xs → i < length ys → o ≡ R (get_or xs i d) (get_or ys i e) → is_ne o ≡ true
-      → slice_cmp R (drop i xs) (drop i ys) ≡ w → o ≡ w
-  decided i d e o w h k is n same = then_decided o _ n ∙ ap (λ p. ordering_then p (slice_cmp R (drop (i + 1) xs) (drop (i + 1) ys))) is ∙ sym (next_items i d e h k) ∙ same
-
-  pub goes_on : (i : ℕ) (d e : X) (o w : Ordering) → i < length xs → i < length ys → o ≡ R (get_or xs i d) (get_or ys i e) → is_ne o ≡ false
-      → slice_cmp R (drop i xs) (drop i ys) ≡ w → slice_cmp R (drop (i + 1) xs) (drop (i + 1) ys) ≡ w
-  goes_on i d e o w h k is n same = sym (then_goes_on o _ n) ∙ ap (λ p. ordering_then p (slice_cmp R (drop (i + 1) xs) (drop (i + 1) ys))) is ∙ sym (next_items i d e h k) ∙ same
-
   pub by_lengths : (i : ℕ) (w : Ordering) → i ≤ length xs → i ≤ length ys → (i < length xs → i < length ys → ⊥) → slice_cmp R (drop i xs) (drop i ys) ≡ w → nat_cmp (length xs) (length ys) ≡ w
   by_lengths i w h k end same = by (drop i xs) (drop i ys) (length-drop i xs) (length-drop i ys) ∙ same
     where

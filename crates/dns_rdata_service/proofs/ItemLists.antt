@@ -1,9 +1,8 @@
 -- Items of a list, read piece by piece.
-use Rattle.std.proofs.Common.{◌≡◌, ℕ, List, [], ◌∷◌, ◌++◌, refl, sym, ◌∙◌, ap, subst, append_assoc}
+use Rattle.std.proofs.Common.{◌≡◌, ℕ, List, [], ◌∷◌, ◌++◌, sym, ◌∙◌, ap, subst, append_assoc}
 use Rattle.std.proofs.Common.{◌≢◌, Result, Ok, Err}
 use Rattle.std.specs.Prelude.{IfErr}
 use Rattle.std.specs.List.{AllZip}
-use Rattle.std.proofs.lemmas.List.{append-nil}
 use Rattle.dns_text.specs.Lists.{pieces_of, IsItem}
 use Rattle.dns_rdata_service.specs.ParameterWords.{ItemOf, ListOf}
 use Rattle.dns_types.specs.declared.error.ParseError.{ParseError}
@@ -29,9 +28,6 @@ pub record SoFar {T : Type 0} (Is : List ℕ → T → Type 0) (text rest : List
   pub cut : pieces_of text ≡ front ++ pieces_of rest
   pub each : AllZip (ItemOf Is) front xs
 
-pub so_far_none : {T : Type 0} (Is : List ℕ → T → Type 0) (text : List ℕ) (xs : List T) → xs ≡ [] → SoFar Is text text xs
-so_far_none Is text xs e = rw e (record { front = []; cut = refl; each = tt })
-
 pub so_far_more : {T : Type 0} (Is : List ℕ → T → Type 0) (text rest piece more : List ℕ) (xs all : List T) (x : T) → SoFar Is text rest xs
     → pieces_of rest ≡ piece ∷ pieces_of more → ItemOf Is piece x → all ≡ xs ++ x ∷ [] → SoFar Is text more all
 so_far_more Is text rest piece more xs all x s e i a = rw a (record {
@@ -39,11 +35,6 @@ so_far_more Is text rest piece more xs all x s e i a = rw a (record {
   cut = s.cut ∙ (ap (λ (p : List (List ℕ)). s.front ++ p) e ∙ sym (append_assoc s.front (piece ∷ []) (pieces_of more)));
   each = zip_more (ItemOf Is) s.front xs piece x s.each i;
 })
-
-pub so_far_all : {T : Type 0} (Is : List ℕ → T → Type 0) (text rest : List ℕ) (xs : List T) → SoFar Is text rest xs → pieces_of rest ≡ [] → ListOf Is text xs
-so_far_all Is text rest xs s e =
-    let whole : pieces_of text ≡ s.front = s.cut ∙ (ap (λ (p : List (List ℕ)). s.front ++ p) e ∙ append-nil s.front) in
-    record { each = subst (λ (p : List (List ℕ)). AllZip (ItemOf Is) p xs) (sym whole) s.each }
 
 pub so_far_refused : {T : Type 0} (Is : List ℕ → T → Type 0) (text rest piece more : List ℕ) (xs : List T) → SoFar Is text rest xs
     → pieces_of rest ≡ piece ∷ pieces_of more → ((x : T) → ItemOf Is piece x → ⊥) → (all : List T) → ListOf Is text all → ⊥

@@ -1,5 +1,5 @@
 -- Reading parameters one after the other.
-use Rattle.std.proofs.Common.{◌≡◌, inl, inr, ℕ, ◌+◌, ◌<◌, ◌≤◌, List, [], ◌∷◌, ◌++◌, length, drop, map, Option, Some, None, refl, sym, ap, ◌∙◌, arith, subst}
+use Rattle.std.proofs.Common.{◌≡◌, inl, inr, ℕ, ◌+◌, ◌<◌, ◌≤◌, List, [], ◌∷◌, ◌++◌, length, drop, map, Option, Some, refl, sym, ap, ◌∙◌, arith, subst}
 use Rattle.std.specs.Int.{bytes_high_first}
 use Rattle.std.proofs.lemmas.List.{length-append, append-nil, length-drop}
 use Rattle.dns_types.specs.declared.error.DecodeError.{DecodeError}
@@ -23,7 +23,7 @@ use Rattle.dns_rdata_service.specs.Parameters.{IsParameterRefusal, IsParametersR
 use Rattle.dns_rdata_service.proofs.Splits.{at_split}
 use Rattle.dns_rdata_service.proofs.Refusals.{NoKeyValue, key_none}
 use Rattle.dns_rdata_service.proofs.ValueReads.{stays_then, all_push}
-use Rattle.dns_rdata_service.proofs.ParameterLists.{Risen, risen_first, risen_push, risen_not, rest_of, parameters_push, FirstOf, first_of}
+use Rattle.dns_rdata_service.proofs.ParameterLists.{Risen, risen_push, risen_not, rest_of, parameters_push, FirstOf, first_of}
 use Rattle.dns_rdata_service.proofs.ParameterLists.{OneOf, one_of, one_once, all_behind}
 
 -- ---- one parameter
@@ -150,15 +150,6 @@ read_push ps p g e =
     ap (λ (l : List Parameter). l ++ p ∷ []) g ∙ ap (λ (x : Parameter). map parameter_from (map parameter_of ps) ++ x ∷ []) e
     ∙ sym (ap (map parameter_from) (map_push parameter_of ps p) ∙ map_push parameter_from (map parameter_of ps) (parameter_of p))
 
-pub on_first : (d : Reading) → d.index ≤ length d.message → ParametersOn d [] None d
-on_first d inside = record {
-  behind = record { message = refl; index = omega arith };
-  took = record { is = record { read = []; at = record { ends = omega arith; within = inside; same = refl }; fit = tt; held = tt; rising = tt } };
-  risen = risen_first;
-  read = refl;
-  texts = tt;
-}
-
 one_here : {old d b : Reading} {ps : List Parameter} {last : Option ℕ} {x : Numbered ParameterValue} → ParametersOn old ps last d
     → TookField d Parameters (x ∷ []) b → Field old.message d.index Parameters (x ∷ []) b.index
 one_here {old} {d} {b} {x = x} on f = subst (λ (m : List ℕ). Field m d.index Parameters (x ∷ []) b.index) on.behind.message f.field
@@ -245,15 +236,6 @@ on_passed {old} {d} {b} {ps} {last} {end} {x} e n is room on f past = record {
       let y = next_of on (omega (arith, room)) g in
       omega (arith, (one_once y.3.field (one_here on f)).1, y.3.before, past)));
 }
-
--- memory runs out
-pub on_stopped : {old d : Reading} {ps : List Parameter} {last : Option ℕ} (n : ℕ) → ParametersOn old ps last d
-    → RefusedWindow decode.Memory old n (Parameters ∷ []) texts d
-on_stopped n on = record { behind = on.behind; none = tt }
-
-pub on_stopped_behind : {old d b : Reading} {ps : List Parameter} {last : Option ℕ} {x : Numbered ParameterValue} (n : ℕ) → ParametersOn old ps last d
-    → TookField d Parameters (x ∷ []) b → RefusedWindow decode.Memory old n (Parameters ∷ []) texts b
-on_stopped_behind n on f = record { behind = stays_then on.behind (one_behind f); none = tt }
 
 -- or fewer than four octets are left
 pub on_done : {old d : Reading} {ps : List Parameter} {last : Option ℕ} {end : ℕ} (n : ℕ) → Given old n → end ≡ old.index + n → d.index ≤ end

@@ -8,7 +8,7 @@ use Rattle.std.proofs.lemmas.Option.{slice_get-get_or, slice_get_past}
 use Rattle.std.specs.List.{flat_map, list_all}
 use Rattle.std.specs.Int.{bytes_high_first}
 use Rattle.std.specs.Cmp.{first_so, second_so}
-use Rattle.dns_fields.specs.Pieces.{string, piece, pieces, as_piece, ParameterValue, Mandatory, Alpn, NoDefaultAlpn, Port, Ipv4Hint, Ipv6Hint, Opaque, parameter_octets, parameter_emittable, rising, is_some as some_name}
+use Rattle.dns_fields.specs.Pieces.{string, piece, pieces, as_piece, ParameterValue, Mandatory, Alpn, NoDefaultAlpn, Port, Ipv4Hint, Ipv6Hint, Opaque, parameter_octets, parameter_emittable, rising}
 use Rattle.dns_fields.specs.Fields.{Name, field_octets, parameter_pieces}
 use Rattle.dns_pieces.specs.declared.step.Step.{Step}
 use Rattle.dns_pieces.specs.Steps.{GivesStep, StepAt}
@@ -32,13 +32,6 @@ numbers_size (n ∷ ns) = let e = numbers_size ns in let f : 2 * suc (length ns)
 pub length_map : {X Y : Type 0} (f : X → Y) (xs : List X) → length (map f xs) ≡ length xs
 length_map f [] = refl
 length_map f (x ∷ xs) = let e = length_map f xs in omega (arith, e)
-
--- the octets of an item, and those behind it
-pub size_next : {X : Type 0} (f : X → List ℕ) (xs : List X) (i : ℕ) (x : X) → i < length xs → x ≡ get_or xs i x
-    → length (flat_map f (drop i xs)) ≡ length (f x) + length (flat_map f (drop (i + 1) xs))
-size_next f xs i x h e =
-    ap (λ l. length (flat_map f l)) (drop_more xs i x h) ∙ length-append (f (get_or xs i x)) (flat_map f (drop (i + 1) xs))
-    ∙ ap (λ y. length (f y) + length (flat_map f (drop (i + 1) xs))) (sym e)
 
 pub size_map : {X : Type 0} (f : X → List ℕ) (xs : List X) → flat_map (λ a. a) (map f xs) ≡ flat_map f xs
 size_map f [] = refl
@@ -85,17 +78,6 @@ item_got f xs i d s h r = item_given f xs i (get_or xs i d) s h (same xs i d (ge
 pub numbers_map : {X : Type 0} (g : X → ℕ) (xs : List X) → map (λ x. bytes_high_first 2 (g x)) xs ≡ map (bytes_high_first 2) (map g xs)
 numbers_map g [] = refl
 numbers_map g (x ∷ xs) = ap (λ l. bytes_high_first 2 (g x) ∷ l) (numbers_map g xs)
-
-pub item_none : {X : Type 0} (f : X → List ℕ) (xs : List X) (i : ℕ) → length xs ≤ i → drop i (map f xs) ≡ []
-item_none f xs i h = let e = length_map f xs in drop_all i (map f xs) (omega (arith, e, h))
-
-pub short_at : (ss : List (List ℕ)) (i : ℕ) (s : List ℕ) → list_all (λ t. nat_le (length t) 255) ss ≡ true → i < length ss → s ≡ get_or ss i s → length s < 256
-short_at [] i s a h e = absurd (omega (arith, h))
-short_at (t ∷ ss) zero s a h e = rw e (few t (first_so (nat_le (length t) 255) (list_all (λ x. nat_le (length x) 255) ss) a))
-  where
-    few : (s : List ℕ) → nat_le (length s) 255 ≡ true → length s < 256
-    few s h = grind (arith, nat_tests, h)
-short_at (t ∷ ss) (suc i) s a h e = short_at ss i s (second_so (nat_le (length t) 255) (list_all (λ x. nat_le (length x) 255) ss) a) (omega (arith, h)) e
 
 -- ---- parameters
 
@@ -230,15 +212,6 @@ too_many size rest total b e h = let f : nat_le total 65535 ≡ false = past tot
     past : (n : ℕ) → 65535 < n → nat_le n 65535 ≡ false
     past n h = grind (arith, nat_tests, h)
 
-pub many_alone : (size rest total : ℕ) → size + rest ≡ total → 65535 < size → false ≡ nat_le total 65535
-many_alone size rest total e h = past total (omega (arith, e, h))
-  where
-    past : (n : ℕ) → 65535 < n → false ≡ nat_le n 65535
-    past n h = grind (arith, nat_tests, h)
-
-pub few_enough : (total : ℕ) → total ≤ 65535 → true ≡ nat_le total 65535
-few_enough total h = grind (arith, nat_tests, h)
-
 -- without the last
 pub with_true : (b : Bool) → b && true ≡ b
 with_true true = refl
@@ -258,22 +231,3 @@ keys_then ns n e h = keys_decide ns n (nat_le n 32767) e (some n h)
   where
     some : (n : ℕ) → n ≢ 0 → nat_le n 32767 ≡ (not (n == 0) && nat_le n 32767)
     some n h = grind (arith, nat_tests, h)
-
-and_none : (a : Bool) → a && false ≡ false
-and_none true = refl
-and_none false = refl
-
-pub names_long : (names : List (List ℕ)) → list_all (λ s. nat_le (length s) 255) names ≡ false → false ≡ fits_value (Alpn names)
-names_long names h =
-    let e : some_name names && list_all (λ s. nat_le (length s) 255) names ≡ false = ap (λ b. some_name names && b) h ∙ and_none (some_name names) in
-    sym (ap (λ b. nat_le (length (flat_map string names)) 65535 && b) e ∙ and_none (nat_le (length (flat_map string names)) 65535))
-
-pub names_end : (names : List (List ℕ)) (size : ℕ) → size ≡ length (flat_map string names) → size ≤ 65535 → list_all (λ s. nat_le (length s) 255) names ≡ true
-    → not (size == 0) ≡ fits_value (Alpn names)
-names_end [] size e h a = ap (λ n. not (n == 0)) e
-names_end (x ∷ names) size e h a =
-    let t : true ≡ nat_le (length (flat_map string (x ∷ names))) 65535 = few_enough (length (flat_map string (x ∷ names))) (omega (arith, e, h)) in
-    not_none size (omega (arith, e)) ∙ rw (← t, a) refl
-  where
-    not_none : (n : ℕ) → 0 < n → not (n == 0) ≡ true
-    not_none n h = grind (arith, nat_tests, h)

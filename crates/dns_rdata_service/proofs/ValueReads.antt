@@ -1,18 +1,18 @@
 -- Reading values to the end of a message.
-use Rattle.std.proofs.Common.{◌≡◌, ◌≢◌, ℕ, ◌+◌, ◌%◌, ◌<◌, ◌^◌, inl, inr, List, [], ◌∷◌, ◌++◌, length, drop, map, refl, sym, ap, ◌∙◌, arith, subst}
+use Rattle.std.proofs.Common.{◌≡◌, ℕ, ◌%◌, ◌<◌, ◌^◌, inl, inr, List, [], ◌∷◌, ◌++◌, length, drop, map, refl, sym, ap, ◌∙◌, arith, subst}
 use Rattle.std.specs.List.{flat_map, AllByRecursion}
 use Rattle.std.specs.Int.{bytes_high_first}
 use Rattle.std.specs.Prelude.{IsUtf8}
-use Rattle.std.proofs.lemmas.List.{length-append, append-nil, length-drop, drop_all}
+use Rattle.std.proofs.lemmas.List.{length-append, length-drop}
 use Rattle.dns_types.specs.declared.error.DecodeError.{DecodeError}
-use Rattle.dns_fields.specs.Fields.{Text, Octets}
+use Rattle.dns_fields.specs.Fields.{Text}
 use Rattle.dns_fields.specs.Pieces.{string, ParameterValue, Form, form_of}
 use Rattle.dns_names_wire.specs.State.{Reading}
 use Rattle.dns_names_wire.specs.Words.{TookField, StaysBehind, UnlessMemory, LacksOctets, LacksText}
 use Rattle.dns_names_wire.proofs.FieldReads.{unless_map}
 use Rattle.dns_rdata_base.specs.Numbered.{NumberedAt}
 use Rattle.dns_rdata_service.specs.SvcParamKey.{key_number, key_of}
-use Rattle.dns_rdata_service.specs.SvcParamValue.{AreGiven, ToEnd, MandatoryAt, AlpnAt, CutName, WrongName, IsValueRefusal}
+use Rattle.dns_rdata_service.specs.SvcParamValue.{AreGiven, ToEnd, CutName, WrongName, IsValueRefusal}
 use Rattle.dns_rdata_service.specs.declared.svcb.key.SvcParamKey.{SvcParamKey}
 use Rattle.dns_rdata_service.proofs.Splits.{at_split, split_push, octet_split, length_numbers}
 use Rattle.dns_rdata_service.proofs.Refusals.{HoldsNone, value_none}
@@ -52,9 +52,6 @@ given_push keys k g e =
 pub stays_then : {a b c : Reading} → StaysBehind a b → StaysBehind b c → StaysBehind a c
 stays_then f g = record { message = g.message ∙ f.message; index = omega (arith, f.index, g.index) }
 
-pub keys_first : (d : Reading) → KeysOn d [] d
-keys_first d = record { behind = record { message = refl; index = omega arith }; split = refl; small = tt; given = refl }
-
 pub keys_more : {old d b : Reading} {keys : List SvcParamKey} {k : SvcParamKey} → KeysOn old keys d → StaysBehind d b
     → NumberedAt 2 key_number key_of d.message d.index k b.index → KeysOn old (keys ++ k ∷ []) b
 keys_more {old} {d} {b} {keys} {k} on f n = record {
@@ -67,21 +64,6 @@ keys_more {old} {d} {b} {keys} {k} on f n = record {
   small = rw map_push (all_push (λ n. n < 256 ^ 2) (map key_number keys) (key_number k) on.small n.field.is.0);
   given = given_push keys k on.given n.given;
 }
-
-nothing_left : (q : ℕ) (m : List ℕ) → q ≡ length m → drop q m ≡ []
-nothing_left q m e = drop_all q m (omega (arith, e))
-
-pub keys_done : {old d : Reading} {keys : List SvcParamKey} → KeysOn old keys d → old.index < length old.message → d.index ≡ length d.message
-    → StaysBehind old d × MandatoryAt old.message old.index (record { 0 = keys }) d.index
-keys_done {old} {d} {keys} on some end =
-    let stop : d.index ≡ length old.message = end ∙ ap length on.behind.message in
-    let body : drop old.index old.message ≡ flat_map (bytes_high_first 2) (map key_number keys) = on.split
-    ∙ ap (λ (l : List ℕ). flat_map (bytes_high_first 2) (map key_number keys) ++ l) (nothing_left d.index old.message stop)
-    ∙ append-nil (flat_map (bytes_high_first 2) (map key_number keys)) in
-    (on.behind, (record { ends = stop; emittable = (some_keys body, on.small); body = body }, on.given))
-  where
-    some_keys : drop old.index old.message ≡ flat_map (bytes_high_first 2) (map key_number keys) → map key_number keys ≢ []
-    some_keys body none = omega (arith, ap length body, length-drop old.index old.message, some, length_numbers (map key_number keys), ap length none)
 
 pub keys_odd : {old d : Reading} {keys : List SvcParamKey} → KeysOn old keys d → d.index < length d.message → LacksOctets d 2
     → length (drop old.index old.message) % 2 ≡ 1
@@ -104,9 +86,6 @@ pub record NamesOn (old : Reading) (names : List (List ℕ)) (d : Reading) : Typ
   pub short : AllByRecursion (λ s. length s < 256) names
   pub texts : AllByRecursion IsUtf8 names
 
-pub names_first : (d : Reading) → NamesOn d [] d
-names_first d = record { behind = record { message = refl; index = omega arith }; split = refl; short = tt; texts = tt }
-
 text_left : {old d b : Reading} {s : List ℕ} {names : List (List ℕ)} → NamesOn old names d → TookField d Text s b
     → drop d.index old.message ≡ string s ++ drop b.index old.message
 text_left {old} {d} {b} {s} on f = subst (λ (m : List ℕ). drop d.index m ≡ string s ++ drop b.index m) on.behind.message (at_split f.field.is.1)
@@ -122,24 +101,6 @@ names_more {old} {d} {b} {names} {s} on f u = record {
   short = all_push (λ s. length s < 256) names s on.short f.field.is.0;
   texts = all_push IsUtf8 names s on.texts u;
 }
-
-pub names_done : {old d : Reading} {names : List (List ℕ)} → NamesOn old names d → old.index < length old.message → d.index ≡ length d.message
-    → StaysBehind old d × AlpnAt old.message old.index (record { 0 = names }) d.index
-names_done {old} {d} {names} on some end =
-    let stop : d.index ≡ length old.message = end ∙ ap length on.behind.message in
-    let body : drop old.index old.message ≡ flat_map string names = on.split
-    ∙ ap (λ (l : List ℕ). flat_map string names ++ l) (nothing_left d.index old.message stop) ∙ append-nil (flat_map string names) in
-    (on.behind, record { ends = stop; emittable = (some_names names body, on.short); body = (on.texts, body) })
-  where
-    some_names : (ns : List (List ℕ)) → drop old.index old.message ≡ flat_map string ns → ns ≢ []
-    some_names ns body none = omega (
-      arith,
-      ap length body,
-      length-drop old.index old.message,
-      some,
-      ap (λ (x : List (List ℕ)). length (flat_map string x))
-          none,
-    )
 
 pub names_cut : {old d b : Reading} {names : List (List ℕ)} → NamesOn old names d → d.index < length d.message → LacksText d b
     → CutName (drop old.index old.message)
@@ -166,15 +127,3 @@ names_wrong {old} {d} {b} {names} {s} on f wrong =
           ∙ ap (λ (x : List ℕ). flat_map string names ++ x) (text_left on f);
       wrong = wrong;
     }
-
--- ---- any octets
-
-pub any_done : {old d : Reading} {n : ℕ} {s : List ℕ} → old.index + n ≡ length old.message → TookField old (Octets n) s d
-    → StaysBehind old d × (d.index ≡ length old.message) × (drop old.index old.message ≡ s)
-any_done {old} {d} {n} {s} all f =
-    let stop : d.index ≡ length old.message = omega (arith, f.field.is.1.ends, f.field.is.0, all) in (
-      record { message = f.message; index = omega (arith, f.field.is.1.ends) },
-      stop,
-      at_split f.field.is.1
-          ∙ ap (λ (l : List ℕ). s ++ l) (nothing_left d.index old.message stop) ∙ append-nil s,
-    )

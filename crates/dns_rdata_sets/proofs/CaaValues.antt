@@ -1,16 +1,15 @@
 -- CAA by its fields: a record that was read is told by them, and fields that fit make one.
-use Rattle.std.proofs.Common.{◌≡◌, ◌↔◌, ◌⊎◌, inl, inr, ◌<◌, ℕ, ◌+◌, ◌%◌, Bool, true, false, cond, nat_le, nat_lt, length, Result, Ok, Err}
+use Rattle.std.proofs.Common.{◌≡◌, ◌↔◌, ◌<◌, ℕ, ◌+◌, ◌%◌, Bool, true, false, cond, nat_le, nat_lt, length, Result, Ok, Err}
 use Rattle.std.proofs.Common.{refl, sym, ap, ◌∙◌, arith, ltb-true}
 use Rattle.std.specs.Prelude.{IfErr}
 use Rattle.std.proofs.lemmas.Grind.{common_steps}
 use Rattle.std.proofs.lemmas.Bool.Decides.{nat_tests}
-use Rattle.dns_types.specs.declared.error.DecodeError.TheVariants as decode
 use Rattle.dns_types.specs.declared.error.ProtoError.{ProtoError}
 use Rattle.dns_types.specs.declared.error.ProtoError.TheVariants as proto
-use Rattle.dns_names_wire.specs.State.{Reading, Writing}
+use Rattle.dns_names_wire.specs.State.{Writing}
 use Rattle.dns_names_wire.specs.Words.{Emits, IsMessage}
 use Rattle.dns_fields.specs.Fields.{Values, AllFit, Same}
-use Rattle.dns_rdata_sets.specs.CAA.{IsTagRefusal, IsCaaRefusal, caa_shape, caa_fields, caa_flags, caa_key_shape, caa_keys, critical_number, IsReadCaa}
+use Rattle.dns_rdata_sets.specs.CAA.{caa_shape, caa_fields, caa_flags, caa_key_shape, caa_keys, critical_number, IsReadCaa}
 use Rattle.dns_rdata_sets.specs.declared.caa.CAA.{CAA}
 use Rattle.dns_rdata_sets.proofs.CaaReads.{flags_back}
 
@@ -56,23 +55,6 @@ caa_keys-same a b x y = (
       let k = critical_same a.issuer_critical b.issuer_critical a.reserved_flags b.reserved_flags x y s.0.is in
       (record { is = k.0 }, (record { is = k.1 }, s.1)),
 )
-
--- ---- the refusal by a type's number is none of CAA's
-
-tag_never : (n t : ℕ) (d new : Reading) (k : ℕ) → IsTagRefusal n t d (decode.UnknownRecordTypeValue k) new → ⊥
-tag_never n t d new k (inl h) = let e = h.error in cc e
-tag_never n t d new k (inr (inl h)) = let e = h.error in cc e
-tag_never n t d new k (inr (inr (inl h))) = let e = h.error in cc e
-tag_never n t d new k (inr (inr (inr h))) = let e = h.error in cc e
-
-value_never : (k : ℕ) (P : Type 0) → (decode.UnknownRecordTypeValue k ≡ decode.Memory) ⊎ ((decode.UnknownRecordTypeValue k ≡ decode.InsufficientBytes) × P) → ⊥
-value_never k P (inl e) = cc e
-value_never k P (inr h) = let e = h.0 in cc e
-
-pub caa_never : (n : ℕ) (old new : Reading) (k : ℕ) → IsCaaRefusal n old (decode.UnknownRecordTypeValue k) new → ⊥
-caa_never n old new k (inl h) = let e = h.error in cc e
-caa_never n old new k (inr (inl h)) = tag_never n h.size h.between new k h.refused
-caa_never n old new k (inr (inr h)) = value_never k _ h.error
 
 -- ---- what is emitted
 

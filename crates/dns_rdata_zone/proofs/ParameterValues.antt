@@ -246,9 +246,6 @@ list_spelled (s ∷ names) =
 
 -- ---- keys
 
-abbrev pub AreKeys : List SvcParamKey → Type 0
-AreKeys ks = AllByRecursion (λ k. key_number k < 65535) ks
-
 -- strictly above the last one
 abbrev pub Above : ℕ → List ℕ → Type 0
 Above last [] = Unit {0}

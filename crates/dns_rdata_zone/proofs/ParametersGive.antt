@@ -20,7 +20,6 @@ use Rattle.dns_rdata_service.specs.declared.svcb.value.SvcParamValue.{SvcParamVa
 use Rattle.dns_rdata_service.specs.declared.svcb.value.SvcParamValue.TheVariants.{Mandatory, Alpn, NoDefaultAlpn, Port, Ipv4Hint, EchConfigList, Ipv6Hint, DohPath, Unknown}
 use Rattle.dns_zone_words.specs.Words.{Word}
 use Rattle.dns_zone_parameters.specs.Parameters.{Parameter as Spelled, IsParameter, AreWritten, AreParameters}
-use Rattle.dns_zone_parameters.specs.Keys.{key_number as spelled_number}
 use Rattle.dns_zone_parameters.specs.Values.{HasOctets, IsValue}
 use Rattle.dns_zone_parameters.specs.declared.key.ParameterKey.{ParameterKey}
 use Rattle.dns_zone_parameters.specs.declared.key.ParameterKey.TheVariants as keys
@@ -55,10 +54,6 @@ numbered_at n h =
 pub some_there : {X : Type 0} (xs : List X) → is_some xs ≡ true → xs ≢ []
 some_there [] h = absurd (cc h)
 some_there (x ∷ xs) h = λ e. absurd (cc e)
-
-not_none : {X Y : Type 0} (f : X → Y) (xs : List X) → xs ≢ [] → map f xs ≢ []
-not_none f [] h = absurd (h refl)
-not_none f (x ∷ xs) h = λ e. absurd (cc e)
 
 -- the key is spelled so, and has this number
 spelled_at : (n : ℕ) (key : ParameterKey) → n < 65535 → key_of n ≡ key → IsSpelled key (key_name n) × (spelled_number key ≡ n)

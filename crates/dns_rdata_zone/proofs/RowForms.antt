@@ -19,7 +19,6 @@ use Rattle.std.proofs.lemmas.List.Elements.{All-head, All-tail}
 use Rattle.std.proofs.lemmas.Str.Parse.{digit_at}
 use Rattle.dns_fields.specs.Labels.{DomainName, IsName}
 use Rattle.dns_fields.specs.Octets.{AreOctets}
-use Rattle.dns_fields.specs.Pieces.{string as string_octets}
 use Rattle.dns_fields.specs.Bitmaps.{block, minimal}
 use Rattle.dns_types.specs.RecordTypes.{number_of, record_type_of, IsTypeText}
 use Rattle.dns_types.specs.declared.record_type.RecordType.{RecordType}
@@ -43,7 +42,7 @@ use Rattle.hex.specs.declared.error.FromHexError.{FromHexError}
 use Rattle.dns_zone_rows.proofs.Once.{row_once}
 use Rattle.dns_zone_rows.specs.Mnemonics.{Named, number_named, IsNamedNumber, cert_types, algorithms}
 use Rattle.dns_rdata_zone.specs.Names.{zone_label, zone_labels, zone_name}
-use Rattle.dns_zone_rows.specs.Rows.{Row, RowGives, IsTypeNumber, AreTypes, FieldKind, Number, NamedNumber, Ttl, Ipv4, Ipv6, Name, String, Tag, Octets, RestKind, NoWord, SomeStrings, SomeHex, SomeBase64, AnyTypes, FieldGives, RestGives, FieldsGive}
+use Rattle.dns_zone_rows.specs.Rows.{Row, RowGives, IsTypeNumber, AreTypes, FieldKind, Number, NamedNumber, Ttl, Ipv4, Ipv6, Name, String, Tag, Octets, RestKind, SomeStrings, SomeHex, SomeBase64, AnyTypes, FieldGives, RestGives, FieldsGive}
 use Rattle.dns_rdata_zone.specs.Spellings.{escaped, needs_backslash, name_octet}
 use Rattle.dns_rdata_zone.specs.Strings.{quoted, spaced}
 use Rattle.dns_rdata_zone.specs.ZoneGives.{GiveByRow, AreUnmarked, TextGives}
@@ -97,9 +96,6 @@ row_last {x = x} y h k = record {
 pub row_text : {origin : Option DomainName} {fields : List FieldKind} {rest : RestKind} {a b x : List ℕ} → a ≡ b → RowText origin fields rest b x
     → RowText origin fields rest a x
 row_text {origin = origin} {fields = fields} {rest = rest} {x = x} e h = subst (λ (t : List ℕ). RowText origin fields rest t x) (sym e) h
-
-pub nothing_rest : RestGives NoWord [] []
-nothing_rest = (refl, refl)
 
 -- ---- words that begin with an octet that is no `\`
 
@@ -587,9 +583,6 @@ row_list {a = a} {b = b} f [] z h k e = row_text (list_alone a b) (row_then h (r
 row_list {a = a} {b = b} f (w ∷ ws) z h k e = row_text (list_behind a b (f w) (flat_map (λ v. codes " " ++ f v) ws)) (row_then h (row_then k (row_rest e)))
 
 -- ---- unknown data
-
-mark_word : Word
-mark_word = bare_word (92 ∷ 35 ∷ [])
 
 mark_cut : AreCut (92 ∷ 35 ∷ []) (bare_word (92 ∷ 35 ∷ []) ∷ [])
 mark_cut = bare_cut (92 ∷ 35 ∷ []) mark_begins

@@ -134,9 +134,6 @@ not_alone c [] rest h = absurd (h refl)
 not_alone c (d ∷ l) rest h =
     ap (is_alone c) (append_assoc (flat_map name_octet (d ∷ l)) (codes ".") rest ∙ append_assoc (name_octet d) (flat_map name_octet l) (46 ∷ rest))
     ∙ front_not (needs_backslash d) (nat_le 33 d && nat_le d 126) (flat_map name_octet l) where
-      two_not : (x y : ℕ) (t : List ℕ) → is_alone c (x ∷ y ∷ t) ≡ false
-      two_not x y t = refl
-
       one_not : (x : ℕ) (t : List ℕ) → is_alone c (x ∷ (t ++ 46 ∷ rest)) ≡ false
       one_not x [] = refl
       one_not x (y ∷ t) = refl

@@ -5,7 +5,6 @@ use Rattle.std.specs.Option.{option_map}
 use Rattle.std.specs.Result.{IsErrAnd}
 use Rattle.dns_fields.specs.Labels.{DomainName}
 use Rattle.dns_names_wire.specs.State.{Reading}
-use Rattle.dns_names_wire.specs.Words.{UnlessMemory as UnlessRead}
 use Rattle.dns_rdata.specs.Data.{shape, Fills, NoValue, data_octets}
 use Rattle.dns_rdata.specs.Refusals.{IsRefusal}
 use Rattle.dns_rdata.specs.declared.record_data.RData.{RData}
@@ -21,7 +20,7 @@ use Rattle.dns_zone_rows.specs.RowTable.{row_of}
 use Rattle.dns_zone_rows.specs.Rows.{Row}
 use Rattle.dns_zone_rows.specs.declared.row.ZoneRow.{ZoneRow}
 use Rattle.dns_zone_words.specs.Refusals.{Says}
-use Rattle.dns_zone_words.specs.Remaining.{AreUnknown, IsUnknownMark, TookAll, NoneOfAll}
+use Rattle.dns_zone_words.specs.Remaining.{AreUnknown, TookAll}
 use Rattle.dns_zone_words.specs.Words.{Word, Cursor, words_at, with_word, zone_words}
 use Rattle.dns_zone_words.specs.declared.words_error.WordsError.{WordsError}
 use Rattle.dns_zone_words.proofs.FirstSteps.{unless_map}
@@ -91,11 +90,6 @@ row_refused (Ok x) origin t octets s text cursor starts same took h = tt
 row_refused (Err e) origin t octets s text cursor starts same took h =
     row_none e origin t octets text cursor starts took (subst (λ (o : List ℕ). UnlessMemory e (AreNoData o t)) same h)
 
-pub words_refused : (e : ParseError) (origin : Option DomainName) (t : RecordType) (text : List ℕ) (cursor : Cursor) → words_at cursor ≡ zone_words text
-    → UnlessMemory e (NoneOfAll (GiveByRow origin (row_of t)) cursor) → UnlessMemory e (RowIsNone origin t text)
-words_refused e origin t text cursor starts h = unless_map e (NoneOfAll (GiveByRow origin (row_of t)) cursor) (RowIsNone origin t text)
-    (λ none. record { none = λ v u. none.none u.octets u.words (starts ∙ u.cut) u.give }) h
-
 same_rows : (o : Option ZoneRow) (row : ZoneRow) (r : Option Row) → o ≡ Some row → option_map row_value o ≡ r → r ≡ Some (row_value row)
 same_rows o row r e f = sym f ∙ ap (option_map row_value) e
 
@@ -147,12 +141,6 @@ given_why (Err e) origin t octets s text same took (inl memory) = inl memory
 given_why (Err e) origin t octets s text same took (inr fault) =
     inr (inr (inr (record { octets = octets; took = took; why = subst (λ (o : List ℕ). OctetsFault o t e) same fault })))
 
-pub words_why : (e : ParseError) (origin : Option DomainName) (t : RecordType) (text : List ℕ) → (e ≡ parse.Memory) ⊎ LacksRow t e ⊎ WordsFault origin t text e
-    → (e ≡ parse.Memory) ⊎ ByRowFault origin t text e
-words_why e origin t text (inl memory) = inl memory
-words_why e origin t text (inr (inl lacks)) = inr (inl lacks)
-words_why e origin t text (inr (inr fault)) = inr (inr (inl fault))
-
 pub marked_why : {T : Type 0} (r : Result T ParseError) (origin : Option DomainName) (t : RecordType) (text : List ℕ) (cursor : Cursor) → IsBehindMark text cursor
     → IfErr r (λ e. (e ≡ parse.Memory) ⊎ BehindMarkFault t cursor e) → IfErr r (λ e. (e ≡ parse.Memory) ⊎ ZoneFault origin t text e)
 marked_why (Ok x) origin t text cursor b h = tt
@@ -171,15 +159,6 @@ first_ok : (first : Word) (behind : Result (List Word) WordsError) (all : List W
     → (rest : List Word) × (behind ≡ Ok rest) × (all ≡ first ∷ rest)
 first_ok first (Ok rest) all e = let same : first ∷ rest ≡ all = cc in (rest, refl, sym same)
 first_ok first (Err why) all e = absurd (cc)
-
-pub unknown_gives : (origin : Option DomainName) (t : RecordType) (text : List ℕ) (cursor : Cursor) (v : RData) → IsBehindMark text cursor → UnknownIs t v cursor
-    → GivesValue origin t text v
-unknown_gives origin t text cursor v b u = record {
-  octets = u.octets;
-  gives = record { words = b.first ∷ u.words; cut = b.cut ∙ ap (with_word b.first) u.cut; give = inl (b.mark, u.are) };
-  is_data = u.is_data;
-  whole = λ unknown. u.whole;
-}
 
 unknown_from : (t : RecordType) (v : RData) (octets : List ℕ) (words rest : List Word) (first : Word) (cursor : Cursor) → words ≡ first ∷ rest → words_at cursor ≡ Ok rest
     → AreUnknownData octets words → AreDataOf octets t v → (AreUnknownData octets words → IsWhole t octets v) → UnknownIs t v cursor
@@ -227,20 +206,6 @@ none_own origin t text h none = record { none = λ v g. by_form v g g.gives.give
 pub own_refused : (e : ParseError) (origin : Option DomainName) (t : RecordType) (text : List ℕ) → HasNoMark text
     → UnlessMemory e (RowIsNone origin t text) → UnlessMemory e (GivesNone origin t text)
 own_refused e origin t text h k = unless_map e (RowIsNone origin t text) (GivesNone origin t text) (none_own origin t text h) k
-
--- a text that is not cut into words gives none
-pub uncut_gives : (origin : Option DomainName) (t : RecordType) (text : List ℕ) (why : WordsError) → zone_words text ≡ Err why → GivesNone origin t text
-uncut_gives origin t text why e = record { none = λ v g. let both : ◌≡◌ {A = Result (List Word) WordsError} (Ok g.gives.words) (Err why) = sym g.gives.cut ∙ e in absurd (cc) }
-
--- ---- the first word
-
-pub no_mark_none : (text : List ℕ) → zone_words text ≡ Ok [] → HasNoMark text
-no_mark_none text e = record { unmarked = λ words cut. subst AreUnmarked (same_words (zone_words text) [] words e cut) tt }
-
-pub no_mark_other : (text : List ℕ) (first : Word) (behind : Result (List Word) WordsError) → zone_words text ≡ with_word first behind → (IsUnknownMark first → ⊥) → HasNoMark text
-no_mark_other text first behind e h = record {
-  unmarked = λ words cut. let k = first_ok first behind words (sym e ∙ cut) in subst AreUnmarked (sym k.2) h;
-}
 
 -- ---- what calls answer
 

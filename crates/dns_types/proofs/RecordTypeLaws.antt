@@ -1,11 +1,11 @@
 -- Codes and numbers tell types apart.
-use Rattle.std.proofs.Common.{◌≡◌, ℕ, ◌<◌, ◌≤◌, ◌+◌, ◌*◌, ◌/◌, ◌%◌, ◌==◌, Bool, true, false, cond, IsTrue, List, [], ◌∷◌, find, unwrap_or}
+use Rattle.std.proofs.Common.{◌≡◌, ℕ, ◌+◌, ◌*◌, ◌/◌, ◌%◌, ◌==◌, Bool, true, false, cond, List, [], ◌∷◌, find, unwrap_or}
 use Rattle.std.proofs.Common.{Option, Some, eqb-true, refl, sym, ◌∙◌, ap, arith}
 use Rattle.std.specs.Bool.{Decides}
 use Rattle.std.specs.Cmp.{unsigned_Decides}
 use Rattle.dns_types.specs.declared.record_type.RecordType.{RecordType}
 use Rattle.dns_types.specs.declared.record_type.RecordType.TheVariants.{Unknown}
-use Rattle.dns_types.specs.RecordTypes.{number_of, is_named, named_types, record_type_of, code_of}
+use Rattle.dns_types.specs.RecordTypes.{number_of, named_types, record_type_of, code_of}
 
 -- the type of a code
 type_of_code : ℕ → RecordType
@@ -29,21 +29,6 @@ code_of-Decides a b =
     let codes = unsigned_Decides (code_of a) (code_of b) in
     (λ e. code_of-injective a b (codes.0 e), λ e. codes.1 (ap code_of e))
 
--- codes stand in the order of the numbers
-pub code_of-low : (t : RecordType) → 2 * number_of t ≤ code_of t
-code_of-low (Unknown n) = omega arith
-code_of-low t = omega arith
-
-pub code_of-high : (t : RecordType) → code_of t ≤ 2 * number_of t + 1
-code_of-high (Unknown n) = omega arith
-code_of-high t = omega arith
-
-pub code_of-rises : (a b : RecordType) → number_of a < number_of b → code_of a < code_of b
-code_of-rises a b lower =
-    let high = code_of-high a in
-    let low = code_of-low b in
-    omega arith
-
 named_number : (n : ℕ) (b : Bool) (t rest : RecordType) → (number_of t == n) ≡ b → number_of rest ≡ n → number_of (cond b t rest) ≡ n
 named_number n true t rest e later = eqb-true (number_of t) n e
 named_number n false t rest e later = later
@@ -62,8 +47,3 @@ first_number (t ∷ ts) n =
 -- the type of a number has that number
 pub number_of-record_type_of : (n : ℕ) → number_of (record_type_of n) ≡ n
 number_of-record_type_of n = first_number named_types n
-
--- a named type is the one of its number
-pub record_type_of-number_of : (t : RecordType) → IsTrue (is_named t) → record_type_of (number_of t) ≡ t
-record_type_of-number_of (Unknown n) e = let bad : ⊥ = cc in absurd bad
-record_type_of-number_of t e = refl

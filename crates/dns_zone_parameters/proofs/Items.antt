@@ -17,9 +17,6 @@ pub record ItemsSo {Y : Type 0} (R : List ℕ → Y → Type 0) (text rest : Lis
   pub cut : items_in text ≡ done ++ items_in rest
   pub each : AllZip R done ys
 
-pub no_items_yet : {Y : Type 0} (R : List ℕ → Y → Type 0) (text : List ℕ) → ItemsSo R text text []
-no_items_yet R text = record { done = []; cut = refl; each = tt }
-
 push_both : {X Y : Type 0} (R : X → Y → Type 0) (xs : List X) (ys : List Y) (x : X) (y : Y) → AllZip R xs ys → R x y → AllZip R (xs ++ x ∷ []) (ys ++ y ∷ [])
 push_both R [] [] x y h is = (is, tt)
 push_both R [] (b ∷ ys) x y h is = absurd h

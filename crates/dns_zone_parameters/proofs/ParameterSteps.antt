@@ -17,7 +17,6 @@ use Rattle.dns_zone_parameters.specs.Keys.{key_number}
 use Rattle.dns_zone_parameters.specs.Parameters.{Parameter, IsWritten, HasParameter, IsParameter, AreWritten, AreParameters}
 use Rattle.dns_zone_parameters.specs.Steps.{BeginOnlySo, TookWritten, TookParameter, TookParameters}
 use Rattle.dns_zone_parameters.specs.Views.{parameter_value}
-use Rattle.dns_zone_parameters.specs.declared.parameter.Parameter.{Parameter as CodeParameter}
 use Rattle.dns_zone_parameters.proofs.KeyNames.{key_once}
 use Rattle.dns_zone_parameters.proofs.Rises.{Climbs, climbs_rising, order_once, rising_from, rising_to}
 
@@ -66,14 +65,6 @@ pub record ParametersSo (ps : List Parameter) (old new : Cursor) : Type 0 where
   pub cut : words_at old ≡ with_words words (words_at new)
   pub written : AreWritten ps words
   pub only : (all : List Parameter) (words : List Word) → words_at old ≡ Ok words → AreWritten all words → AllBeginSo (map (λ p. p.0) ps) all new
-
-pub none_yet : (cursor : Cursor) → ParametersSo [] cursor cursor
-none_yet cursor = record {
-  words = [];
-  cut = refl;
-  written = refl;
-  only = λ all words cut written. record { front = []; others = all; words = words; split = refl; same = refl; cut = cut; written = written };
-}
 
 written_more : (ps : List Parameter) (words : List Word) (p : Parameter) (front : List Word) → AreWritten ps words → IsParameter p front → AreWritten (ps ++ p ∷ []) (words ++ front)
 written_more [] words p front none is = (front, [], ap (λ (x : List Word). x ++ front) none ∙ sym (append-nil front), is, refl)
@@ -133,10 +124,6 @@ all_taken ps old now so end = record {
       let split : qs ≡ a.front = a.split ∙ ap (λ (x : List Parameter). a.front ++ x) others ∙ append-nil a.front in
       ap (map (λ (q : Parameter). q.0)) split ∙ a.same;
 }
-
-pub none_left : (e : ParseError) (ps : List Parameter) (old now : Cursor) → ParametersSo ps old now → UnlessMemory e (NoneOfAll AreWritten now) → UnlessMemory e (NoneOfAll AreWritten old)
-none_left e ps old now so none = unless_map e (NoneOfAll AreWritten now) (NoneOfAll AreWritten old)
-    (λ h. record { none = λ qs words cut written. let a = so.only qs words cut written in h.none a.others a.words a.cut a.written }) none
 
 -- ---- their octets
 

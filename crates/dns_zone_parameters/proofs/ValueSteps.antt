@@ -1,6 +1,6 @@
 -- Values, one step behind the other.
-use Rattle.std.proofs.Common.{◌≡◌, ◌≢◌, ℕ, zero, suc, ◌<◌, ◌≤◌, ◌⊎◌, inl, inr, codes, Bool, true, false, eqb, get_or, take, drop, List, [], ◌∷◌, ◌++◌, length, map, refl, sym, ◌∙◌, ap, subst, arith, Result, Ok, Err}
-use Rattle.std.specs.Prelude.{◌↔◌, IsTrue, IfErr}
+use Rattle.std.proofs.Common.{◌≡◌, ◌≢◌, ℕ, suc, ◌<◌, ◌⊎◌, inl, inr, true, false, eqb, get_or, take, drop, List, [], ◌∷◌, ◌++◌, length, map, refl, sym, ◌∙◌, ap, subst, arith, Result, Ok, Err}
+use Rattle.std.specs.Prelude.{IfErr}
 use Rattle.std.proofs.lemmas.List.{append-nil, take_all, drop_all}
 use Rattle.std.specs.List.{AllByRecursion, AllZip}
 use Rattle.std.specs.List.Sorted.{IsPermutation, IsSorted, IsStrictlyIncreasing}
@@ -13,21 +13,17 @@ use Rattle.dns_words.specs.Forms.{ipv4, ipv6}
 use Rattle.dns_words.specs.Reads.{UnlessMemory, NoValue, Decides}
 use Rattle.dns_zone_words.specs.Forms.{bare, text}
 use Rattle.dns_zone_words.specs.Letters.{letters, octet_of, escapes_stand}
-use Rattle.dns_zone_words.specs.Words.{Word}
-use Rattle.dns_zone_words.specs.ZoneReads.{NoValueOf, PutAs}
+use Rattle.dns_zone_words.specs.ZoneReads.{NoValueOf}
 use Rattle.dns_zone_words.proofs.LetterSteps.{plain_letters}
 use Rattle.dns_zone_words.proofs.FirstSteps.{unless_map}
 use Rattle.dns_zone_words.specs.Refusals.{Says}
 use Rattle.dns_zone_parameters.specs.Faults.{wrong_value, ValueFault}
-use Rattle.dns_zone_parameters.specs.Keys.{IsKeyName}
 use Rattle.dns_zone_parameters.specs.Steps.{HasMeant}
 use Rattle.dns_zone_parameters.specs.Lists.{items_in, IsItem, IsListedKey, IsKeyList}
-use Rattle.dns_zone_parameters.specs.Values.{forbids_escapes, HasOctets, IsPlain, IsValue}
-use Rattle.dns_zone_parameters.specs.Parameters.{HasParameter}
+use Rattle.dns_zone_parameters.specs.Values.{HasOctets, IsPlain, IsValue}
 use Rattle.dns_zone_parameters.specs.declared.key.ParameterKey.{ParameterKey}
 use Rattle.dns_zone_parameters.specs.declared.lists.ListItem.{ListItem}
 use Rattle.dns_zone_parameters.specs.declared.lists.ListItem.TheVariants.{Ipv4, Ipv6}
-use Rattle.dns_zone_parameters.proofs.KeyNames.{key_once}
 use Rattle.dns_zone_parameters.proofs.Once.{keys_once, octets_once}
 use Rattle.dns_zone_parameters.proofs.Rises.{climbs_rising, climbs_sorted, order_once}
 
@@ -62,19 +58,6 @@ plain_text (c ∷ s) h =
     let other : c ≢ 92 = h 0 (omega arith) in
     (grind (arith, nat_tests), plain_text s (λ k lt. h (suc k) (omega arith)))
 
-each_plain : (s : List ℕ) → AllByRecursion (λ c. eqb c 92 ≡ false) s → (k : ℕ) → k < length s → get_or s k 0 ≢ 92
-each_plain [] h k lt = absurd (omega arith)
-each_plain (c ∷ s) h zero lt = let other = h.0 in grind (arith, nat_tests)
-each_plain (c ∷ s) h (suc k) lt = each_plain s h.1 k (omega arith)
-
--- a text in which a `\` stands, of a key that forbids it
-pub not_plain : (key : ParameterKey) (s : List ℕ) (b : Bool) → forbids_escapes key ≡ true → (IsTrue b ↔ ((k : ℕ) → k < length s → get_or s k 0 ≢ 92)) → b ≡ false → IsPlain key s → ⊥
-not_plain key s b forbids same h plain = let both : b ≡ true = same.1 (each_plain s (plain forbids)) in absurd (cc)
-
--- and any text of another key
-pub always_plain : (key : ParameterKey) (s : List ℕ) → forbids_escapes key ≡ false → IsPlain key s
-always_plain key s takes = λ e. absurd (let both : true ≡ false = sym e ∙ takes in cc)
-
 -- ---- values
 
 -- a text without a `\` is what its letters are
@@ -99,23 +82,6 @@ meant_plain key s view r h reads =
     (λ v has. record { plain = λ e. plain_text s h; escapes = own.0; has = subst (λ (x : List ℕ). HasOctets key x v) (sym own.1) has })
     (λ v has. subst (λ (x : List ℕ). HasOctets key x v) own.1 has.has) reads
 
--- and so is what the letters of a text with a `\` are
-pub meant_text : {T : Type 0} (key : ParameterKey) (word : Word) (meant : List ℕ) (view : T → List ℕ) (r : Result T ParseError) → forbids_escapes key ≡ false
-    → PutAs text (λ s. s) [] meant word → Decides (HasOctets key meant) view r → Decides (HasMeant key word.octets) view r
-meant_text key word meant view r takes put reads =
-    let same : meant ≡ map octet_of (letters word.octets) = put.same ∙ put.is.value in
-    decides_as (HasOctets key meant) (HasMeant key word.octets) view r
-    (λ v has. record { plain = always_plain key word.octets takes; escapes = put.is.escapes; has = subst (λ (x : List ℕ). HasOctets key x v) same has })
-    (λ v has. subst (λ (x : List ℕ). HasOctets key x v) (sym same) has.has) reads
-
--- no value, since a `\` may not stand there, or has no meaning
-pub not_meant : (key : ParameterKey) (s : List ℕ) → (IsPlain key s → ⊥) → NoValue (HasMeant key s)
-not_meant key s isnt = record { none = λ v has. isnt has.plain }
-
-pub no_meaning : (e : ParseError) (key : ParameterKey) (word : Word) → UnlessMemory e (NoValueOf text word) → UnlessMemory e (NoValue (HasMeant key word.octets))
-no_meaning e key word none = unless_map e (NoValueOf text word) (NoValue (HasMeant key word.octets))
-    (λ h. record { none = λ v has. h.none (map octet_of (letters word.octets)) (record { escapes = has.escapes; value = refl }) }) none
-
 -- a refusal of the key's form tells that there is no value of it
 says_why : (key : ParameterKey) (P : Type 0) (e : ParseError) → (e ≡ parse.Memory) ⊎ Says (wrong_value key) e → UnlessMemory e P → (e ≡ parse.Memory) ⊎ (Says (wrong_value key) e × P)
 says_why key P e (inl memory) none = inl memory
@@ -137,20 +103,7 @@ pub plain_fault : {T : Type 0} (key : ParameterKey) (s : List ℕ) (view : T →
 plain_fault key s view r h reads why =
     let own = plain_meant s h in meant_fault key s s view r (λ e. plain_text s h) own.0 (sym own.1) reads why
 
-pub text_fault : {T : Type 0} (key : ParameterKey) (word : Word) (meant : List ℕ) (view : T → List ℕ) (r : Result T ParseError) → forbids_escapes key ≡ false
-    → PutAs text (λ s. s) [] meant word → Decides (HasOctets key meant) view r → IfErr r (λ e. (e ≡ parse.Memory) ⊎ Says (wrong_value key) e)
-    → IfErr r (λ e. (e ≡ parse.Memory) ⊎ ValueFault key word.octets e)
-text_fault key word meant view r takes put reads why =
-    meant_fault key word.octets meant view r (always_plain key word.octets takes) put.is.escapes (put.same ∙ put.is.value) reads why
-
 -- ---- their length
-
-pub value_meant : (key : ParameterKey) (text v : List ℕ) → HasMeant key text v → length v ≤ 65535 → IsValue key text v
-value_meant key text v has short = record { plain = has.plain; escapes = has.escapes; has = has.has; fits = omega (arith, short) }
-
-pub no_meant : (e : ParseError) (key : ParameterKey) (text : List ℕ) → UnlessMemory e (NoValue (HasMeant key text)) → UnlessMemory e (NoValue (IsValue key text))
-no_meant e key text none = unless_map e (NoValue (HasMeant key text)) (NoValue (IsValue key text))
-    (λ h. record { none = λ v is. h.none v (record { plain = is.plain; escapes = is.escapes; has = is.has }) }) none
 
 pub too_long : (key : ParameterKey) (text v : List ℕ) → HasMeant key text v → 65535 < length v → NoValue (IsValue key text)
 too_long key text v has long = record {
@@ -160,16 +113,3 @@ too_long key text v has long = record {
       let fits = other.fits in
       omega arith;
 }
-
-pub long_fault : (key : ParameterKey) (text v : List ℕ) (e : ParseError) → HasMeant key text v → 65535 < length v → Says (codes "service parameter of more than 65535 octets") e
-    → ValueFault key text e
-long_fault key text v e has long says = inr (inr (inr (says, has.plain, has.escapes, record { octets = v; has = has.has; long = long })))
-
--- ---- parameters
-
-pub no_value : (e : ParseError) (key : ParameterKey) (name value : List ℕ) → IsKeyName key name → UnlessMemory e (NoValue (IsValue key value))
-    → UnlessMemory e (NoValue (HasParameter name value))
-no_value e key name value named none = unless_map e (NoValue (IsValue key value)) (NoValue (HasParameter name value))
-    (λ h. record {
-      none = λ p is. h.none p.1 (subst (λ (k : ParameterKey). IsValue k value p.1) (key_once is.key key name is.named named) is.octets);
-    }) none

@@ -3,7 +3,6 @@ use Rattle.std.proofs.Common.{◌≡◌, ◌≢◌, ℕ, List, [], ◌∷◌, �
 use Rattle.std.specs.List.{flat_map}
 use Rattle.std.specs.Result.{IsErrAnd}
 use Rattle.std.proofs.lemmas.List.{append-nil}
-use Rattle.dns_fields.specs.Pieces.{string as string_octets}
 use Rattle.dns_types.specs.declared.error.ParseError.{ParseError}
 use Rattle.dns_types.specs.declared.error.ParseError.TheVariants as parse
 use Rattle.dns_words.specs.Reads.{UnlessMemory}
@@ -93,26 +92,10 @@ none_by words word behind cursor cut isnt = record { none = λ v all all_cut is.
 not_cut : (cursor : Cursor) (e : WordsError) → words_at cursor ≡ Err e → NoneOfAll (RestGives SomeStrings) cursor
 not_cut cursor e cut = record { none = λ v all all_cut is. let both : Ok all ≡ Err e = sym all_cut ∙ cut in absurd (cc) }
 
-no_word : (cursor : Cursor) → words_at cursor ≡ Ok [] → NoneOfAll (RestGives SomeStrings) cursor
-no_word cursor end = record {
-  none = λ v all all_cut is.
-      let both : ◌≡◌ {A = Result (List Word) WordsError} (Ok all) (Ok []) = sym all_cut ∙ end in
-      let same : all ≡ [] = cc in
-      is.0 same;
-}
-
 exit_none : {T : Type 0} (r : Result T ParseError) (e : ParseError) (before after : List ℕ) (cursor : Cursor) → IsErrAnd r (λ y. y ≡ e)
     → UnlessMemory e (NoneOfAll (RestGives SomeStrings) cursor) → PutsAll (RestGives SomeStrings) r before after cursor
 exit_none (Ok x) e before after cursor h none = elim h [ ]
 exit_none (Err y) e before after cursor h none = subst (λ (z : ParseError). UnlessMemory z (NoneOfAll (RestGives SomeStrings) cursor)) (sym h) none
-
-none_lacks : (missing : ParseError) (cursor : Cursor) (e : ParseError) → LacksFirst missing cursor e → NoneOfAll (RestGives SomeStrings) cursor
-none_lacks missing cursor e (inl lacks) = no_word cursor lacks.1
-none_lacks missing cursor e (inr cut) = not_cut cursor cut.0 cut.1
-
-pub exit_lacks : {T : Type 0} (r : Result T ParseError) (e missing : ParseError) (before after : List ℕ) (cursor : Cursor) → IsErrAnd r (λ y. y ≡ e)
-    → LacksFirst missing cursor e → PutsAll (RestGives SomeStrings) r before after cursor
-exit_lacks r e missing before after cursor h lacks = exit_none r e before after cursor h (unless_all e (none_lacks missing cursor e lacks))
 
 pub exit_first : {T : Type 0} (r : Result T ParseError) (e : ParseError) (before after : List ℕ) (old new : Cursor) (word : Word) → IsErrAnd r (λ y. y ≡ e)
     → words_at old ≡ with_word word (words_at new) → UnlessMemory e (NoValueOf string word) → PutsAll (RestGives SomeStrings) r before after old

@@ -2,7 +2,6 @@
 use Rattle.std.proofs.Common.{◌≡◌, ℕ, ◌<◌, ◌≤◌, Bool, true, false, cond, eqb, List, [], ◌∷◌, ◌++◌, length, map, get_or, take, drop, length-drop, subst, ◌-◌, zero, suc, ◌≢◌, ap, refl, sym, ◌∙◌, arith, append_assoc}
 use Rattle.std.proofs.lemmas.List.{append-nil, take_all}
 use Rattle.std.proofs.lemmas.Bool.Decides.{nat_tests}
-use Rattle.dns_zone_words.specs.Forms.{text as text_form}
 use Rattle.dns_zone_words.specs.Letters.{Letter, is_digit, letters, octet_of, escapes_stand}
 use Rattle.dns_zone_words.specs.Views.{BeginsWith}
 use Rattle.dns_zone_words.specs.Words.{Word}
@@ -41,9 +40,6 @@ plain_letters (suc n) (c ∷ s) w h =
 pub record PutSo (text rest before octets : List ℕ) : Type 0 where
   pub escapes : escapes_stand text ≡ escapes_stand rest
   pub value : before ++ map octet_of (letters text) ≡ octets ++ map octet_of (letters rest)
-
-pub put_none : (text before : List ℕ) → PutSo text text before before
-put_none text before = record { escapes = refl; value = refl }
 
 -- so were n octets more, none of them a `\`
 pub put_plain : (text rest before octets more : List ℕ) (n : ℕ) → PutSo text rest before octets → n ≤ length rest → ((k : ℕ) → k < n → get_or rest k 0 ≢ 92)

@@ -57,9 +57,6 @@ mark_behind (label ∷ labels) name = ap (with_label label) (mark_behind labels 
 
 -- ---- labels read so far
 
-pub read_none : (text octets front : List ℕ) → octets ≡ [] → front ≡ [] → ReadSo text text octets front
-read_none text octets front e f = rw (e, f) (record { labels = []; are = tt; fits = omega arith; same = refl; escapes = refl; parts = refl })
-
 wire_more : (labels : List (List ℕ)) (label : List ℕ) → wire (labels ++ label ∷ []) ≡ wire labels ++ length label ∷ label
 wire_more labels label = wire-append labels (label ∷ []) ∙ ap (λ (x : List ℕ). wire labels ++ length label ∷ x) (append-nil label)
 
@@ -87,18 +84,6 @@ read_dot text rest more octets front now x so begins h is room e =
           ∙ ap (λ (ps : List (List ℕ)). so.labels ++ ps) (dot_ends front x (letters more) h)
           ∙ sym (append_assoc so.labels (front ∷ []) (parts_from [] (letters more)));
     }
-
-pub read_octet : (text rest more octets front now : List ℕ) (x : Letter) → ReadSo text rest octets front → BeginsWith x rest more → stands_for 46 x ≡ false
-    → now ≡ front ++ octet_of x ∷ [] → ReadSo text more octets now
-read_octet text rest more octets front now x so begins h e = record {
-  labels = so.labels;
-  are = so.are;
-  fits = so.fits;
-  same = so.same;
-  escapes = so.escapes ∙ begins.escapes;
-  parts = parts_behind text rest more octets front x so begins
-      ∙ ap (λ (ps : List (List ℕ)). so.labels ++ ps) (octet_more front x (letters more) h ∙ ap (λ (f : List ℕ). parts_from f (letters more)) (sym e));
-}
 
 -- ---- octets that are neither a dot nor a `\`
 

@@ -1,23 +1,13 @@
 -- Words that are left, one by one.
-use Rattle.std.proofs.Common.{◌≡◌, ◌≢◌, ℕ, ◌<◌, ◌^◌, length, Bool, true, false, cond, arith, ◌⊎◌, inl, inr, List, [], ◌∷◌, ◌++◌, Result, Ok, Err, refl, sym, ◌∙◌, ap, subst, append_assoc}
+use Rattle.std.proofs.Common.{◌≡◌, ℕ, length, true, false, List, [], ◌∷◌, ◌++◌, Result, Ok, Err, refl, sym, ◌∙◌, ap, subst, append_assoc}
 use Rattle.std.proofs.lemmas.List.{append-nil}
-use Rattle.std.specs.Prelude.{IfErr, ◌%◌, ◌==◌, codes}
-use Rattle.std.proofs.lemmas.Bool.Decides.{nat_tests}
-use Rattle.base64.specs.Engines.{standard}
-use Rattle.base64.specs.GeneralPurpose.{decode_of as base64_of}
-use Rattle.hex.specs.Hex.{decode_of as hex_of, decode_pairs}
-use Rattle.hex.specs.declared.error.FromHexError.{FromHexError}
-use Rattle.hex.specs.declared.error.FromHexError.TheVariants.{OddLength}
-use Rattle.dns_zone_words.specs.declared.field.HexField.{HexField}
+use Rattle.std.specs.Prelude.{IfErr}
 use Rattle.std.specs.Result.{IsErrAnd}
 use Rattle.dns_types.specs.declared.error.ParseError.{ParseError}
-use Rattle.dns_types.specs.declared.error.ParseError.TheVariants as parse
 use Rattle.dns_words.specs.Reads.{UnlessMemory}
-use Rattle.dns_zone_words.specs.Remaining.{AllBare, joined, AreJoined, AreHex, AreUnknown, TookAll, NoneOfAll, ReadsAll, with_words, AmongFault, QuotesFault, DigitsFault, HexFault, Base64Fault, NoBase64, UnknownFault}
-use Rattle.dns_zone_words.specs.Forms.{number, IsNumber}
-use Rattle.dns_words.specs.declared.field.Field.{Field}
-use Rattle.dns_zone_words.specs.Refusals.{Says}
-use Rattle.dns_zone_words.specs.ZoneReads.{FirstHas, TookFirst, NoFirst, WhyNoField}
+use Rattle.dns_zone_words.specs.Remaining.{AllBare, joined, AreJoined, AreUnknown, TookAll, NoneOfAll, ReadsAll, with_words}
+use Rattle.dns_zone_words.specs.Forms.{number}
+use Rattle.dns_zone_words.specs.ZoneReads.{FirstHas, NoFirst}
 use Rattle.dns_zone_words.specs.Words.{Word, Cursor, words_at, with_word}
 use Rattle.dns_zone_words.proofs.FirstSteps.{unless_map, unless_all}
 use Rattle.dns_zone_words.specs.declared.words_error.WordsError.{WordsError}
@@ -118,69 +108,6 @@ exit_same is view cursor (Err y) e h none = subst (λ (z : ParseError). UnlessMe
 pub joined_cut : (old now : Cursor) (octets : List ℕ) (e : WordsError) → TakenSo old now octets → words_at now ≡ Err e → words_at old ≡ Err e
 joined_cut old now octets e so end = so.behind ∙ ap (with_words so.words) end ∙ words_err so.words e
 
-pub quotes_base64 : (wrong : ParseError) (cursor : Cursor) (e : ParseError)
-    → (e ≡ parse.Memory) ⊎ AmongFault (QuotesFault wrong) cursor e → (e ≡ parse.Memory) ⊎ Base64Fault wrong cursor e
-quotes_base64 wrong cursor e (inl memory) = inl memory
-quotes_base64 wrong cursor e (inr fault) = inr (inl fault)
-
-pub quotes_hex : (field : HexField) (cursor : Cursor) (e : ParseError)
-    → (e ≡ parse.Memory) ⊎ AmongFault (QuotesFault (parse.Message field.quoted)) cursor e → (e ≡ parse.Memory) ⊎ HexFault field cursor e
-quotes_hex field cursor e (inl memory) = inl memory
-quotes_hex field cursor e (inr fault) = inr (inl fault)
-
--- ---- hexadecimal digits
-
-same_words : (r : Result (List Word) WordsError) (a b : List Word) → r ≡ Ok a → r ≡ Ok b → a ≡ b
-same_words r a b e f = let both : ◌≡◌ {A = Result (List Word) WordsError} (Ok a) (Ok b) = sym e ∙ f in cc
-
-odd_by : (b : Bool) (r : Result (List ℕ) FromHexError) (v : List ℕ) → b ≡ true → cond b (Err OddLength) r ≡ Ok v → ⊥
-odd_by true r v h e = absurd (cc)
-odd_by false r v h e = absurd (cc)
-
-pub odd_digits : (octets v : List ℕ) → length octets % 2 ≡ 1 → hex_of octets ≡ Ok v → ⊥
-odd_digits octets v odd e = odd_by (length octets % 2 == 1) (decode_pairs 0 octets) v (grind (arith, nat_tests)) e
-
-pub no_digits : (octets : List ℕ) (cursor : Cursor) → TookAll AreJoined octets cursor → ((v : List ℕ) → hex_of octets ≡ Ok v → ⊥) → NoneOfAll AreHex cursor
-no_digits octets cursor took none = record {
-  none = λ v words cut is.
-      let ws : words ≡ took.words = same_words (words_at cursor) words took.words cut took.cut in
-      none v (ap hex_of (took.value.same ∙ ap joined (sym ws)) ∙ is.digits);
-}
-
-pub odd_fault : (field : HexField) (octets : List ℕ) (cursor : Cursor) → TookAll AreJoined octets cursor → length octets % 2 ≡ 1
-    → DigitsFault field cursor (parse.Message field.odd)
-odd_fault field octets cursor took odd = record {
-  words = took.words;
-  cut = took.cut;
-  bare = took.value.bare;
-  why = inl (refl, ap (λ (os : List ℕ). length os % 2) (sym took.value.same) ∙ odd);
-}
-
-pub digit_fault : (field : HexField) (octets : List ℕ) (cursor : Cursor) → TookAll AreJoined octets cursor → length octets % 2 ≢ 1
-    → ((v : List ℕ) → hex_of octets ≡ Ok v → ⊥) → DigitsFault field cursor (parse.Message field.digit)
-digit_fault field octets cursor took even none = record {
-  words = took.words;
-  cut = took.cut;
-  bare = took.value.bare;
-  why = inr (
-    refl,
-    subst (λ (os : List ℕ). length os % 2 ≢ 1) took.value.same even,
-    subst (λ (os : List ℕ). (v : List ℕ) → hex_of os ≡ Ok v → ⊥) took.value.same none,
-  );
-}
-
--- ---- base64
-
-pub base64_fault : (wrong : ParseError) (octets : List ℕ) (cursor : Cursor) → TookAll AreJoined octets cursor
-    → ((v : List ℕ) → base64_of standard octets ≡ Ok v → ⊥) → NoBase64 wrong cursor wrong
-base64_fault wrong octets cursor took none = record {
-  says = refl;
-  words = took.words;
-  cut = took.cut;
-  bare = took.value.bare;
-  none = subst (λ (os : List ℕ). (v : List ℕ) → base64_of standard os ≡ Ok v → ⊥) took.value.same none;
-}
-
 -- ---- unknown data
 
 has_length : (v : List ℕ) (words : List Word) → AreUnknown v words → FirstHas (number 2) (length v) words
@@ -192,49 +119,3 @@ no_length old h = record { none = λ v words cut is. h.none (length v) words cut
 
 pub unknown_no_length : (e : ParseError) (old : Cursor) → UnlessMemory e (NoFirst (number 2) old) → UnlessMemory e (NoneOfAll AreUnknown old)
 unknown_no_length e old h = unless_map e (NoFirst (number 2) old) (NoneOfAll AreUnknown old) (no_length old) h
-
-no_data : {n : ℕ} (old mid : Cursor) → TookFirst (number 2) n old mid → NoneOfAll AreHex mid → NoneOfAll AreUnknown old
-no_data old mid took h = record {
-  none = λ v words cut is.
-      let k = word_ok took.word (words_at mid) words (sym took.first ∙ cut) in
-      h.none v k.0 k.1 (subst (AreUnknown v) k.2 is).2;
-}
-
-pub unknown_no_data : {n : ℕ} (e : ParseError) (old mid : Cursor) → TookFirst (number 2) n old mid → UnlessMemory e (NoneOfAll AreHex mid) → UnlessMemory e (NoneOfAll AreUnknown old)
-unknown_no_data e old mid took h = unless_map e (NoneOfAll AreHex mid) (NoneOfAll AreUnknown old) (no_data old mid took) h
-
-same_hex : (v octets : List ℕ) (words : List Word) → AreHex v words → AreHex octets words → v ≡ octets
-same_hex v octets words a b = let p = a.digits in let q = b.digits in cc
-
-pub unknown_other_length : (n : ℕ) (octets : List ℕ) (old mid : Cursor) → TookFirst (number 2) n old mid → TookAll AreHex octets mid → length octets ≢ n → NoneOfAll AreUnknown old
-unknown_other_length n octets old mid took all other = record {
-  none = λ v words cut is.
-      let k = word_ok took.word (words_at mid) words (sym took.first ∙ cut) in
-      let has = subst (AreUnknown v) k.2 is in
-      let ws : k.0 ≡ all.words = same_words (words_at mid) k.0 all.words k.1 all.cut in
-      let same : v ≡ octets = same_hex v octets all.words (subst (AreHex v) ws has.2) all.value in
-      let value : length v ≡ n = has.0.value ∙ sym took.is.0.value in
-      other (ap length (sym same) ∙ value);
-}
-
-pub unknown_read : (n : ℕ) (octets : List ℕ) (old mid : Cursor) → TookFirst (number 2) n old mid → TookAll AreHex octets mid → length octets ≡ n → TookAll AreUnknown octets old
-unknown_read n octets old mid took all same = record {
-  words = took.word ∷ all.words;
-  cut = took.first ∙ ap (with_word took.word) all.cut;
-  value = (subst (λ (k : ℕ). IsNumber k took.word) (sym same) took.is.0, subst (λ (k : ℕ). k < 2 ^ 16) (sym same) took.is.1, all.value);
-}
-
--- ---- why it is no unknown data
-
-pub length_fault : (field : Field) (cursor : Cursor) (e : ParseError) → WhyNoField field cursor e → (e ≡ parse.Memory) ⊎ UnknownFault cursor e
-length_fault field cursor e why = inr (inl (field, why))
-
-pub digits_fault : {n : ℕ} (field : HexField) (old mid : Cursor) (e : ParseError) → TookFirst (number 2) n old mid
-    → (e ≡ parse.Memory) ⊎ HexFault field mid e → (e ≡ parse.Memory) ⊎ UnknownFault old e
-digits_fault field old mid e took (inl memory) = inl memory
-digits_fault field old mid e took (inr why) = inr (inr (record { n = _; behind = mid; took = took; why = inl (field, why) }))
-
-pub number_fault : {n : ℕ} (octets : List ℕ) (old mid : Cursor) (e : ParseError) → TookFirst (number 2) n old mid → TookAll AreHex octets mid
-    → length octets ≢ n → Says (codes "unknown data is not as many octets as its length says") e → (e ≡ parse.Memory) ⊎ UnknownFault old e
-number_fault octets old mid e took all other says =
-    inr (inr (record { n = _; behind = mid; took = took; why = inr (record { says = says; octets = octets; took = all; other = other }) }))

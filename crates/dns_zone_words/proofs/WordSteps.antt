@@ -6,7 +6,7 @@ use Rattle.dns_zone_words.specs.declared.words_error.WordsError.TheVariants.{NoP
 use Rattle.std.proofs.lemmas.Bool.Decides.{nat_tests}
 use Rattle.std.proofs.lemmas.Simd.{get_or-chunk}
 use Rattle.dns_zone_words.specs.Quiet.{IsQuiet}
-use Rattle.dns_zone_words.specs.Words.{is_blank, is_line_end, ends_run, between, run, quotes, over, over_comment, refused, words_from}
+use Rattle.dns_zone_words.specs.Words.{is_blank, is_line_end, ends_run, between, run, quotes, over, refused, words_from}
 use Rattle.dns_zone_words.specs.WordSteps.{QuotesRefused}
 use Rattle.dns_zone_words.proofs.QuietSteps.{AreQuiet}
 
@@ -121,10 +121,6 @@ pub further : (text : List ℕ) → 0 < length text → is_blank (get_or text 0 
     → words_from over text ≡ Err FurtherLine
 further [] some h k e = absurd (omega arith)
 further (c ∷ text) some h k e = rw (h, k, e) (stays_refused FurtherLine text)
-
-pub over_remark : (text : List ℕ) → 0 < length text → get_or text 0 0 ≡ 59 → words_from over text ≡ words_from over_comment (drop 1 text)
-over_remark [] some h = absurd (omega arith)
-over_remark (c ∷ text) some h = rw h refl
 
 -- ---- between words
 

@@ -1,9 +1,8 @@
 -- Words that ask for an order.
-use Rattle.std.proofs.Common.{◌≡◌, ℕ, ◌<◌, ◌≤◌, List, [], ◌∷◌, length, get_or, codes, subst, ap, arith}
+use Rattle.std.proofs.Common.{◌≡◌, ℕ, ◌<◌, ◌≤◌, List, [], ◌∷◌, length, get_or, codes, subst, arith}
 use Rattle.dns_types.specs.declared.record_type.RecordType.{RecordType}
 use Rattle.rdata_command.specs.Request.{IsTypeWord, IsOctetsWord}
-use Rattle.rdata_command.specs.Comparing.{AsksOrder, NoOrderRequest, NotCompare}
-use Rattle.rdata_command.proofs.Words.{octets_one}
+use Rattle.rdata_command.specs.Comparing.{AsksOrder, NoOrderRequest}
 
 -- four elements, each by its place
 pub four_items : {X : Type 0} (xs : List X) (a b c d : X) → 4 ≤ length xs → length xs < 5 → a ≡ get_or xs 0 a → b ≡ get_or xs 1 b → c ≡ get_or xs 2 c
@@ -14,9 +13,6 @@ four_items (v ∷ w ∷ []) a b c d h k _ _ _ _ = absurd (omega arith)
 four_items (v ∷ w ∷ x ∷ []) a b c d h k _ _ _ _ = absurd (omega arith)
 four_items (v ∷ w ∷ x ∷ y ∷ []) a b c d h k p q r s = cc
 four_items (v ∷ w ∷ x ∷ y ∷ z ∷ xs) a b c d h k _ _ _ _ = absurd (omega arith)
-
-pub no_words : {words : List (List ℕ)} → NotCompare words → NoOrderRequest words
-no_words not = record { none = λ t left right k. not k.type_word k.left_word k.right_word k.spelled }
 
 abbrev pub CompareWords : List (List ℕ) → List ℕ → List ℕ → List ℕ → Type 0
 CompareWords words a b c = words ≡ codes "cmp" ∷ a ∷ b ∷ c ∷ []
@@ -34,17 +30,3 @@ module _ {words : List (List ℕ)} {a b c : List ℕ} (is : CompareWords words a
 
   pub no_right : ((m : List ℕ) → ¬ (IsOctetsWord c m)) → NoOrderRequest words
   no_right none = record { none = λ t left right k. none right (subst (λ (w : List ℕ). IsOctetsWord w right) (same_words k).2 k.right_is) }
-
-  pub left_long : {m : List ℕ} → IsOctetsWord b m → 65535 < length m → NoOrderRequest words
-  left_long {m} octets long = record {
-    none = λ t left right k.
-        let same : left ≡ m = octets_one b (subst (λ (w : List ℕ). IsOctetsWord w left) (same_words k).1 k.left_is) octets in
-        omega (arith, k.left_short, ap length same, long);
-  }
-
-  pub right_long : {m : List ℕ} → IsOctetsWord c m → 65535 < length m → NoOrderRequest words
-  right_long {m} octets long = record {
-    none = λ t left right k.
-        let same : right ≡ m = octets_one c (subst (λ (w : List ℕ). IsOctetsWord w right) (same_words k).2 k.right_is) octets in
-        omega (arith, k.right_short, ap length same, long);
-  }

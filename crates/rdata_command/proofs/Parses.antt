@@ -2,7 +2,7 @@
 use Rattle.std.proofs.Common.{◌≡◌, ℕ, ◌<◌, ◌≤◌, List, [], ◌∷◌, length, get_or, codes, subst, arith}
 use Rattle.dns_types.specs.declared.record_type.RecordType.{RecordType}
 use Rattle.rdata_command.specs.Request.{IsTypeWord}
-use Rattle.rdata_command.specs.Parsing.{AsksText, NoTextRequest, NotParse}
+use Rattle.rdata_command.specs.Parsing.{AsksText, NoTextRequest}
 
 -- three elements, each by its place
 pub three_items : {X : Type 0} (xs : List X) (a b c : X) → 3 ≤ length xs → length xs < 4 → a ≡ get_or xs 0 a → b ≡ get_or xs 1 b → c ≡ get_or xs 2 c → xs ≡ a ∷ b ∷ c ∷ []
@@ -11,9 +11,6 @@ three_items (v ∷ []) a b c h k _ _ _ = absurd (omega arith)
 three_items (v ∷ w ∷ []) a b c h k _ _ _ = absurd (omega arith)
 three_items (v ∷ w ∷ x ∷ []) a b c h k p q r = cc
 three_items (v ∷ w ∷ x ∷ y ∷ xs) a b c h k _ _ _ = absurd (omega arith)
-
-pub no_words : {words : List (List ℕ)} → NotParse words → NoTextRequest words
-no_words not = record { none = λ t text k. not k.type_word text k.spelled }
 
 pub no_type : {words : List (List ℕ)} {a b : List ℕ} → words ≡ codes "parse" ∷ a ∷ b ∷ [] → ((t : RecordType) → ¬ (IsTypeWord a t)) → NoTextRequest words
 no_type {words} {a} {b} is none = record { none = λ t text k. let e : words ≡ codes "parse" ∷ k.type_word ∷ text ∷ [] = k.spelled in let same : k.type_word ≡ a = cc in none t (subst (λ (w : List ℕ). IsTypeWord w t) same k.type_is) }

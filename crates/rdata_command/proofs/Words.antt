@@ -1,11 +1,10 @@
 -- Words that are numbers and types.
 use Rattle.std.proofs.Common.{◌≡◌, ℕ, ◌<◌, ◌≤◌, ◌^◌, ◌==◌, false, List, [], ◌∷◌, length, get_or, Result, Ok, Err, MatchOption, refl, sym}
-use Rattle.std.proofs.Common.{ap, ◌∙◌, subst, arith, slice_index, codes, inl, inr, ⊎_elim}
+use Rattle.std.proofs.Common.{ap, ◌∙◌, subst, arith, slice_index, codes, inr, ⊎_elim}
 use Rattle.std.specs.Result.{result_ok}
 use Rattle.std.specs.Str.Parse.{IsNumeral, digits_value, ParsesUnsigned, without_leading_plus}
 use Rattle.std.proofs.lemmas.Int.Digits.{digits_value-lt}
 use Rattle.std.proofs.Math.Nat.{pow-le-pow_right}
-use Rattle.hex.specs.Hex.{decode_of}
 use Rattle.dns_types.specs.declared.error.DecodeError.{DecodeError}
 use Rattle.dns_types.specs.declared.record_type.RecordType.{RecordType}
 use Rattle.dns_types.specs.RecordTypes.{record_type_of, ReadsType}
@@ -32,16 +31,6 @@ pub type_read : (w : List ℕ) (r : Result RecordType DecodeError) → ReadsType
     → MatchOption (result_ok r) ((t : RecordType) → ¬ (IsTypeWord w t)) (λ t. IsTypeWord w t)
 type_read w (Ok t) h none = inr h.0
 type_read w (Err e) h none = λ t is. ⊎_elim (λ (k : (n : ℕ) × IsNumberWord w n × (n < 65536) × (t ≡ record_type_of n)). none k.0 k.1 k.2) (λ k. h.1 t k) is
-
--- a word is one number, and of one list of octets
-number_one : {w : List ℕ} {m n : ℕ} → IsNumberWord w m → IsNumberWord w n → m ≡ n
-number_one a b = a.value ∙ sym b.value
-
-pub octets_one : (w : List ℕ) {m n : List ℕ} → IsOctetsWord w m → IsOctetsWord w n → m ≡ n
-octets_one w (inl a) (inl b) = a.1 ∙ sym b.1
-octets_one w {m} {n} (inl a) (inr b) = let e : decode_of w ≡ Ok n = b.1 in let f = rw a.0 at e in absurd (cc f)
-octets_one w {m} {n} (inr a) (inl b) = let e : decode_of w ≡ Ok m = a.1 in let f = rw b.0 at e in absurd (cc f)
-octets_one w {m} {n} (inr a) (inr b) = let e : decode_of w ≡ Ok m = a.1 in let f : decode_of w ≡ Ok n = b.1 in cc
 
 -- five elements, each by its place
 pub five_items : {X : Type 0} (xs : List X) (a b c d e : X) → 5 ≤ length xs → length xs < 6 → a ≡ get_or xs 0 a → b ≡ get_or xs 1 b → c ≡ get_or xs 2 c
@@ -75,11 +64,3 @@ module _ {words : List (List ℕ)} {a b c d : List ℕ} (is : ReadWords words a 
 
   pub no_octets : ((m : List ℕ) → ¬ (IsOctetsWord d m)) → NoRequest words
   no_octets none = record { none = λ t p n m k. none m (subst (λ (w : List ℕ). IsOctetsWord w m) (same_words k).3 k.octets_are) }
-
-  pub no_room : {p : ℕ} {m : List ℕ} → IsNumberWord b p → IsOctetsWord d m → length m < p → NoRequest words
-  no_room {p} {m} at octets past = record {
-    none = λ t q n l k.
-        let place : q ≡ p = number_one (subst (λ (w : List ℕ). IsNumberWord w q) (same_words k).1 k.place_is) at in
-        let message : l ≡ m = octets_one d (subst (λ (w : List ℕ). IsOctetsWord w l) (same_words k).3 k.octets_are) octets in
-        omega (arith, k.inside, place, ap length message, past);
-  }
