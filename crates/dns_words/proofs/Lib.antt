@@ -1,5 +1,4 @@
 pub mod Steps
 pub mod Printed
-pub mod ListWords
 pub mod Ttls
 pub mod Yielded
