@@ -1,5 +1,6 @@
 pub mod State
 pub mod Words
+pub mod Facts
 pub mod NameValues
 pub use Rattle.dns_fields.specs.Octets
 pub use Rattle.dns_fields.specs.Labels

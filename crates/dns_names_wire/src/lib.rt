@@ -5,6 +5,7 @@ pub mod binary;
 pub mod decoder;
 pub mod encoder;
 pub mod name;
+pub mod record;
 
 pub use binary::{BinDecodable, BinEncodable};
 pub use decoder::BinDecoder;
@@ -16,3 +17,4 @@ pub use dns_types::{
 };
 pub use encoder::{BinEncoder, Place};
 pub use name::Name;
+pub use record::{DecodesFields, EncodesFields, Record, RecordDataDecodable, emit_in};

@@ -1,4 +1,3 @@
-pub mod Facts
 pub mod Fronts
 pub mod Runs
 pub mod Steps

@@ -1,11 +1,9 @@
 //! The octets of record data in pieces: a few that are kept, a slice or a name's labels behind them, and steps from one
-//! place of a record to the next; and fields that are emitted in the mode of a record's type.
+//! place of a record to the next.
 #![tactic(auto)]
 
 pub mod common;
 pub mod count;
-pub mod emitting;
-pub mod facts;
 pub mod head;
 pub mod order;
 pub mod run;
@@ -13,8 +11,6 @@ pub mod step;
 pub mod tail;
 
 pub use count::Count;
-pub use emitting::{EncodesFields, emit_in};
-pub use facts::Record;
 pub use head::Head;
 pub use run::Run;
 pub use step::Step;

@@ -8,13 +8,11 @@ ghost use Rattle.dns_rdata.specs.Refusals.{IsRefusal, by_length as answer_by_len
 
 use crate::traits::RecordData;
 use dns_names_wire::{
-    BinDecoder, BinEncodable, BinEncoder, DecodeError, ProtoError, RDataEncoding, RecordType,
-    Restrict,
+    BinDecoder, BinEncodable, BinEncoder, DecodeError, ProtoError, RDataEncoding,
+    RecordDataDecodable, RecordType, Restrict, emit_in,
 };
-use dns_pieces::emit_in;
 use dns_rdata_base::{
-    A, AAAA, ANAME, CNAME, HINFO, MX, NAPTR, NS, NULL, OPENPGPKEY, PTR, RecordDataDecodable, SOA,
-    SRV, TXT,
+    A, AAAA, ANAME, CNAME, HINFO, MX, NAPTR, NS, NULL, OPENPGPKEY, PTR, SOA, SRV, TXT,
 };
 use dns_rdata_certs::{CERT, SMIMEA, SSHFP, TLSA};
 use dns_rdata_options::OPT;

@@ -10,7 +10,7 @@ use Rattle.dns_names_wire.specs.State.{Reading}
 use Rattle.dns_names_wire.specs.Words.{Took}
 use Rattle.dns_rdata_base.specs.Lossy.{lossy}
 use Rattle.dns_rdata_base.specs.Refusing.{IsLack}
-use Rattle.dns_pieces.specs.Facts.{Facts, ending}
+use Rattle.dns_names_wire.specs.Facts.{Facts, ending}
 use Rattle.dns_rdata_base.specs.declared.naptr.NAPTR.{NAPTR}
 
 -- order, preference

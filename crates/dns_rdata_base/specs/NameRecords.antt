@@ -3,7 +3,7 @@ use Rattle.std.specs.Prelude.{ℕ, List, [], ◌∷◌}
 use Rattle.dns_fields.specs.Fields.{Kind, Name, Values}
 use Rattle.dns_fields.specs.Labels.{DomainName}
 use Rattle.dns_labels.specs.Text.{name_text}
-use Rattle.dns_pieces.specs.Facts.{Facts}
+use Rattle.dns_names_wire.specs.Facts.{Facts}
 use Rattle.dns_rdata_base.specs.Refusing.{straight}
 use Rattle.dns_rdata_base.specs.declared.name.CNAME.{CNAME}
 use Rattle.dns_rdata_base.specs.declared.name.NS.{NS}

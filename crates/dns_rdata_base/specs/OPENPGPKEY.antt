@@ -5,7 +5,7 @@ use Rattle.base64.specs.GeneralPurpose.{encode_of}
 use Rattle.dns_fields.specs.Fields.{Kind, Rest, Values}
 use Rattle.dns_types.specs.declared.error.DecodeError.{DecodeError}
 use Rattle.dns_names_wire.specs.State.{Reading}
-use Rattle.dns_pieces.specs.Facts.{Facts, filling}
+use Rattle.dns_names_wire.specs.Facts.{Facts, filling}
 use Rattle.dns_rdata_base.specs.NULL.{null_refusal}
 use Rattle.dns_rdata_base.specs.declared.openpgpkey.OPENPGPKEY.{OPENPGPKEY}
 

@@ -4,7 +4,7 @@ use Rattle.dns_fields.specs.Fields.{Kind, Number, Name, Values}
 use Rattle.dns_labels.specs.Text.{name_text}
 use Rattle.std.specs.Fmt.{signed_decimal}
 use Rattle.std.specs.Int.{cast_unsigned, w32}
-use Rattle.dns_pieces.specs.Facts.{Facts}
+use Rattle.dns_names_wire.specs.Facts.{Facts}
 use Rattle.dns_rdata_base.specs.Refusing.{straight}
 use Rattle.dns_rdata_base.specs.declared.soa.SOA.{SOA}
 

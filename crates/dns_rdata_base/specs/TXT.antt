@@ -6,7 +6,7 @@ use Rattle.dns_types.specs.declared.error.DecodeError.{DecodeError}
 use Rattle.dns_types.specs.declared.error.DecodeError.TheVariants as decode
 use Rattle.dns_names_wire.specs.State.{Reading}
 use Rattle.dns_names_wire.specs.Words.{TookField, LacksText}
-use Rattle.dns_pieces.specs.Facts.{Facts}
+use Rattle.dns_names_wire.specs.Facts.{Facts}
 use Rattle.dns_rdata_base.specs.Lossy.{lossy}
 use Rattle.dns_rdata_base.specs.declared.txt.TXT.{TXT}
 

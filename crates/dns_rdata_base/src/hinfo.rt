@@ -4,15 +4,14 @@ ghost use Rattle.std.specs.Prelude.{◌≡◌, Some};
 ghost use Rattle.std.specs.Box.{boxed_slice_items};
 ghost use Rattle.std.specs.String.{string_bytes};
 ghost use Rattle.dns_names_wire.specs.Words.{Emits};
-ghost use Rattle.dns_pieces.specs.Facts.{RecordRefuses, RecordStands, same, same_equiv, same_partial};
+ghost use Rattle.dns_names_wire.specs.Facts.{RecordRefuses, RecordStands, same, same_equiv, same_partial};
 ghost use Rattle.dns_rdata_base.specs.HINFO.{hinfo_shape, hinfo_fields, hinfo_facts, hinfo_text};
 
-use crate::decoding::{DecodesFields, read_record};
 use bstr::BStr;
 use dns_names_wire::{
-    BinDecodable, BinDecoder, BinEncodable, BinEncoder, DecodeError, ProtoError, SmallOctets,
+    BinDecodable, BinDecoder, BinEncodable, BinEncoder, DecodeError, DecodesFields, ProtoError,
+    Record, SmallOctets,
 };
-use dns_pieces::Record;
 use std::boxed::BoxedSlice;
 use std::fmt;
 
@@ -77,7 +76,7 @@ impl BinDecodable for HINFO {
     /// there, are taken. Memory is asked for once for each string of more than 32 octets, when both were read.
     #[inline]
     fn read(decoder: &mut BinDecoder<'_>) -> Result<HINFO, DecodeError> {
-        read_record(decoder)
+        HINFO::read_fields(decoder)
     }
 }
 

@@ -3,7 +3,6 @@
 
 pub mod a;
 pub mod aaaa;
-pub mod decoding;
 pub mod hinfo;
 pub mod mx;
 pub mod name;
@@ -20,7 +19,7 @@ mod words;
 
 pub use a::A;
 pub use aaaa::AAAA;
-pub use decoding::{DecodesFields, read_record};
+pub use dns_names_wire::{DecodesFields, RecordDataDecodable};
 pub use hinfo::HINFO;
 pub use mx::MX;
 pub use name::{ANAME, CNAME, NS, PTR};
@@ -29,5 +28,5 @@ pub use null::NULL;
 pub use openpgpkey::OPENPGPKEY;
 pub use soa::SOA;
 pub use srv::SRV;
-pub use traits::{RecordDataDecodable, TakesOctet};
+pub use traits::TakesOctet;
 pub use txt::TXT;

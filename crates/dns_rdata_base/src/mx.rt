@@ -2,15 +2,13 @@
 
 ghost use Rattle.std.specs.Prelude.{◌≡◌, Some};
 ghost use Rattle.dns_fields.specs.declared.RDataEncoding.TheVariants as modes;
-ghost use Rattle.dns_pieces.specs.Facts.{RecordEmits, RecordRefuses, RecordStands, same, same_equiv, same_partial};
+ghost use Rattle.dns_names_wire.specs.Facts.{same, same_equiv, same_partial};
 ghost use Rattle.dns_rdata_base.specs.MX.{mx_shape, mx_fields, mx_facts, mx_text};
 
-use crate::decoding::{DecodesFields, read_record};
 use dns_names_wire::{
-    BinDecodable, BinDecoder, BinEncodable, BinEncoder, DecodeError, Name, ProtoError,
-    RDataEncoding,
+    BinDecodable, BinDecoder, BinEncodable, BinEncoder, DecodeError, DecodesFields, EncodesFields,
+    Name, ProtoError, RDataEncoding, Record,
 };
-use dns_pieces::{EncodesFields, Record, emit_in};
 use std::fmt;
 
 /// A host that takes mail for the owner: a preference of two octets and a name (RFC 1035, 3.3.9).
@@ -44,46 +42,21 @@ impl DecodesFields for MX {
     #[tactic(auto, using(dns_names_wire::proofs::FieldReads::reading))]
     fn read_fields(decoder: &mut BinDecoder<'_>) -> Result<MX, DecodeError> {
         let preference = decoder.read_u16()?.unverified();
-        let exchange = Name::read(decoder)?;
-        Ok(MX {
-            preference,
-            exchange,
-        })
-    }
-}
-
-impl BinDecodable for MX {
-    ghost stands = { RecordStands mx_facts };
-
-    ghost refuses = { RecordRefuses mx_facts };
-
-    /// Reads the fields in order. Where one does not stand it is refused, and those before it are taken: by
-    /// [`InsufficientBytes`](DecodeError::InsufficientBytes) where a number lacks octets,
-    /// [`NameInvalid`](DecodeError::NameInvalid) where no name stands, [`Memory`](DecodeError::Memory) where memory
-    /// runs out.
-    #[inline]
-    fn read(decoder: &mut BinDecoder<'_>) -> Result<MX, DecodeError> {
-        read_record(decoder)
+        Ok(MX::new(preference, Name::read(decoder)?))
     }
 }
 
 impl EncodesFields for MX {
+    /// A name ends with a pointer to an earlier place where it can (RFC 1035, 4.1.4).
+    const MODE: RDataEncoding = RDataEncoding::StandardRecord;
+
+    ghost MODE = { modes.StandardRecord };
+
     #[tactic(auto, using(dns_names_wire::proofs::FieldWrites::writing))]
     fn emit_fields(&self, encoder: &mut BinEncoder<'_>) -> Result<(), ProtoError> {
         encoder.emit_u16(self.preference)?;
         self.exchange.emit(encoder)?;
         Ok(())
-    }
-}
-
-impl BinEncodable for MX {
-    ghost emits = { RecordEmits modes.StandardRecord mx_facts };
-
-    /// Appends the octets; a name ends with a pointer to an earlier place where it can (RFC 1035, 4.1.4). It is refused
-    /// by [`MaxBufferSizeExceeded`](ProtoError::MaxBufferSizeExceeded) or [`Memory`](ProtoError::Memory) alone. The
-    /// encoder is then in the mode that it was in, refused or not.
-    fn emit(&self, encoder: &mut BinEncoder<'_>) -> Result<(), ProtoError> {
-        emit_in(RDataEncoding::StandardRecord, self, encoder)
     }
 }
 

@@ -2,15 +2,13 @@
 
 ghost use Rattle.std.specs.Prelude.{◌≡◌, Some};
 ghost use Rattle.dns_fields.specs.declared.RDataEncoding.TheVariants as modes;
-ghost use Rattle.dns_pieces.specs.Facts.{RecordEmits, RecordRefuses, RecordStands, same, same_equiv, same_partial};
+ghost use Rattle.dns_names_wire.specs.Facts.{same, same_equiv, same_partial};
 ghost use Rattle.dns_rdata_base.specs.NameRecords.{name_shape, cname_fields, cname_facts, ns_fields, ns_facts, ptr_fields, ptr_facts, aname_fields, aname_facts, cname_text, ns_text, ptr_text, aname_text};
 
-use crate::decoding::{DecodesFields, read_record};
 use dns_names_wire::{
-    BinDecodable, BinDecoder, BinEncodable, BinEncoder, DecodeError, Name, ProtoError,
-    RDataEncoding,
+    BinDecodable, BinDecoder, BinEncodable, BinEncoder, DecodeError, DecodesFields, EncodesFields,
+    Name, ProtoError, RDataEncoding, Record,
 };
-use dns_pieces::{EncodesFields, Record, emit_in};
 use std::fmt;
 use std::ops::Deref;
 
@@ -31,34 +29,15 @@ impl DecodesFields for CNAME {
     }
 }
 
-impl BinDecodable for CNAME {
-    ghost stands = { RecordStands cname_facts };
-
-    ghost refuses = { RecordRefuses cname_facts };
-
-    /// Reads the name. Where none stands it is refused by [`NameInvalid`](DecodeError::NameInvalid), where memory runs
-    /// out by [`Memory`](DecodeError::Memory); the place is then as it was.
-    #[inline]
-    fn read(decoder: &mut BinDecoder<'_>) -> Result<CNAME, DecodeError> {
-        read_record(decoder)
-    }
-}
-
 impl EncodesFields for CNAME {
+    /// A name ends with a pointer to an earlier place where it can (RFC 1035, 4.1.4).
+    const MODE: RDataEncoding = RDataEncoding::StandardRecord;
+
+    ghost MODE = { modes.StandardRecord };
+
     #[tactic(auto, using(dns_names_wire::proofs::FieldWrites::writing))]
     fn emit_fields(&self, encoder: &mut BinEncoder<'_>) -> Result<(), ProtoError> {
         self.0.emit(encoder)
-    }
-}
-
-impl BinEncodable for CNAME {
-    ghost emits = { RecordEmits modes.StandardRecord cname_facts };
-
-    /// Appends the octets; a name ends with a pointer to an earlier place where it can (RFC 1035, 4.1.4). It is refused
-    /// by [`MaxBufferSizeExceeded`](ProtoError::MaxBufferSizeExceeded) or [`Memory`](ProtoError::Memory) alone. The
-    /// encoder is then in the mode that it was in, refused or not.
-    fn emit(&self, encoder: &mut BinEncoder<'_>) -> Result<(), ProtoError> {
-        emit_in(RDataEncoding::StandardRecord, self, encoder)
     }
 }
 
@@ -113,34 +92,15 @@ impl DecodesFields for NS {
     }
 }
 
-impl BinDecodable for NS {
-    ghost stands = { RecordStands ns_facts };
-
-    ghost refuses = { RecordRefuses ns_facts };
-
-    /// Reads the name. Where none stands it is refused by [`NameInvalid`](DecodeError::NameInvalid), where memory runs
-    /// out by [`Memory`](DecodeError::Memory); the place is then as it was.
-    #[inline]
-    fn read(decoder: &mut BinDecoder<'_>) -> Result<NS, DecodeError> {
-        read_record(decoder)
-    }
-}
-
 impl EncodesFields for NS {
+    /// A name ends with a pointer to an earlier place where it can (RFC 1035, 4.1.4).
+    const MODE: RDataEncoding = RDataEncoding::StandardRecord;
+
+    ghost MODE = { modes.StandardRecord };
+
     #[tactic(auto, using(dns_names_wire::proofs::FieldWrites::writing))]
     fn emit_fields(&self, encoder: &mut BinEncoder<'_>) -> Result<(), ProtoError> {
         self.0.emit(encoder)
-    }
-}
-
-impl BinEncodable for NS {
-    ghost emits = { RecordEmits modes.StandardRecord ns_facts };
-
-    /// Appends the octets; a name ends with a pointer to an earlier place where it can (RFC 1035, 4.1.4). It is refused
-    /// by [`MaxBufferSizeExceeded`](ProtoError::MaxBufferSizeExceeded) or [`Memory`](ProtoError::Memory) alone. The
-    /// encoder is then in the mode that it was in, refused or not.
-    fn emit(&self, encoder: &mut BinEncoder<'_>) -> Result<(), ProtoError> {
-        emit_in(RDataEncoding::StandardRecord, self, encoder)
     }
 }
 
@@ -195,34 +155,15 @@ impl DecodesFields for PTR {
     }
 }
 
-impl BinDecodable for PTR {
-    ghost stands = { RecordStands ptr_facts };
-
-    ghost refuses = { RecordRefuses ptr_facts };
-
-    /// Reads the name. Where none stands it is refused by [`NameInvalid`](DecodeError::NameInvalid), where memory runs
-    /// out by [`Memory`](DecodeError::Memory); the place is then as it was.
-    #[inline]
-    fn read(decoder: &mut BinDecoder<'_>) -> Result<PTR, DecodeError> {
-        read_record(decoder)
-    }
-}
-
 impl EncodesFields for PTR {
+    /// A name ends with a pointer to an earlier place where it can (RFC 1035, 4.1.4).
+    const MODE: RDataEncoding = RDataEncoding::StandardRecord;
+
+    ghost MODE = { modes.StandardRecord };
+
     #[tactic(auto, using(dns_names_wire::proofs::FieldWrites::writing))]
     fn emit_fields(&self, encoder: &mut BinEncoder<'_>) -> Result<(), ProtoError> {
         self.0.emit(encoder)
-    }
-}
-
-impl BinEncodable for PTR {
-    ghost emits = { RecordEmits modes.StandardRecord ptr_facts };
-
-    /// Appends the octets; a name ends with a pointer to an earlier place where it can (RFC 1035, 4.1.4). It is refused
-    /// by [`MaxBufferSizeExceeded`](ProtoError::MaxBufferSizeExceeded) or [`Memory`](ProtoError::Memory) alone. The
-    /// encoder is then in the mode that it was in, refused or not.
-    fn emit(&self, encoder: &mut BinEncoder<'_>) -> Result<(), ProtoError> {
-        emit_in(RDataEncoding::StandardRecord, self, encoder)
     }
 }
 
@@ -277,34 +218,15 @@ impl DecodesFields for ANAME {
     }
 }
 
-impl BinDecodable for ANAME {
-    ghost stands = { RecordStands aname_facts };
-
-    ghost refuses = { RecordRefuses aname_facts };
-
-    /// Reads the name. Where none stands it is refused by [`NameInvalid`](DecodeError::NameInvalid), where memory runs
-    /// out by [`Memory`](DecodeError::Memory); the place is then as it was.
-    #[inline]
-    fn read(decoder: &mut BinDecoder<'_>) -> Result<ANAME, DecodeError> {
-        read_record(decoder)
-    }
-}
-
 impl EncodesFields for ANAME {
+    /// The name is written whole, its letters kept.
+    const MODE: RDataEncoding = RDataEncoding::Other;
+
+    ghost MODE = { modes.Other };
+
     #[tactic(auto, using(dns_names_wire::proofs::FieldWrites::writing))]
     fn emit_fields(&self, encoder: &mut BinEncoder<'_>) -> Result<(), ProtoError> {
         self.0.emit(encoder)
-    }
-}
-
-impl BinEncodable for ANAME {
-    ghost emits = { RecordEmits modes.Other aname_facts };
-
-    /// Appends the octets, the name whole, its letters kept. It is refused by
-    /// [`MaxBufferSizeExceeded`](ProtoError::MaxBufferSizeExceeded) or [`Memory`](ProtoError::Memory) alone. The
-    /// encoder is then in the mode that it was in, refused or not.
-    fn emit(&self, encoder: &mut BinEncoder<'_>) -> Result<(), ProtoError> {
-        emit_in(RDataEncoding::Other, self, encoder)
     }
 }
 

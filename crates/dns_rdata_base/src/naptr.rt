@@ -6,16 +6,14 @@ ghost use Rattle.std.specs.Char.{is_ascii_alphanumeric};
 ghost use Rattle.std.specs.List.{list_all};
 ghost use Rattle.dns_fields.specs.declared.RDataEncoding.TheVariants as modes;
 ghost use Rattle.dns_names_wire.specs.Words.{Emits};
-ghost use Rattle.dns_pieces.specs.Facts.{RecordEmits, RecordRefuses, RecordStands, same, same_equiv, same_partial};
+ghost use Rattle.dns_names_wire.specs.Facts.{same, same_equiv, same_partial};
 ghost use Rattle.dns_rdata_base.specs.NAPTR.{naptr_numbers_shape, naptr_numbers, naptr_rest_shape, naptr_rest, naptr_shape, naptr_fields, naptr_facts, naptr_text};
 
-use crate::decoding::{DecodesFields, read_record};
 use bstr::BStr;
 use dns_names_wire::{
-    BinDecodable, BinDecoder, BinEncodable, BinEncoder, DecodeError, Name, Octets, ProtoError,
-    RDataEncoding,
+    BinDecodable, BinDecoder, BinEncodable, BinEncoder, DecodeError, DecodesFields, EncodesFields,
+    Name, Octets, ProtoError, RDataEncoding, Record,
 };
-use dns_pieces::{EncodesFields, Record, emit_in};
 use std::boxed::BoxedSlice;
 use std::fmt;
 
@@ -82,6 +80,8 @@ impl Record for NAPTR {
 impl DecodesFields for NAPTR {
     ghost ends = { (tt, (tt, (tt, (tt, (tt, (tt, (tt, tt))))))) };
 
+    /// The flags are tested as soon as they are taken: where an octet of theirs is no letter and no digit, the data is
+    /// refused by [`NaptrFlagsInvalid`](DecodeError::NaptrFlagsInvalid).
     #[tactic(auto, using(dns_names_wire::proofs::FieldReads::reading))]
     fn read_fields(decoder: &mut BinDecoder<'_>) -> Result<NAPTR, DecodeError> {
         let alloc = decoder.allocator();
@@ -105,22 +105,6 @@ impl DecodesFields for NAPTR {
             regexp,
             replacement,
         })
-    }
-}
-
-impl BinDecodable for NAPTR {
-    ghost stands = { RecordStands naptr_facts };
-
-    ghost refuses = { RecordRefuses naptr_facts };
-
-    /// Reads the fields in order. The flags are tested as soon as they are taken: where an octet of theirs is no letter
-    /// and no digit it is refused by [`NaptrFlagsInvalid`](DecodeError::NaptrFlagsInvalid). Where a field does not
-    /// stand it is refused by [`InsufficientBytes`](DecodeError::InsufficientBytes) or
-    /// [`NameInvalid`](DecodeError::NameInvalid), and those before it are taken; where memory runs out by
-    /// [`Memory`](DecodeError::Memory).
-    #[inline]
-    fn read(decoder: &mut BinDecoder<'_>) -> Result<NAPTR, DecodeError> {
-        read_record(decoder)
     }
 }
 
@@ -149,20 +133,16 @@ impl NAPTR {
 }
 
 impl EncodesFields for NAPTR {
+    /// The name is written whole, its letters kept.
+    const MODE: RDataEncoding = RDataEncoding::Canonical;
+
+    ghost MODE = { modes.Canonical };
+
+    /// A string of more than 255 octets is refused by [`Message`](ProtoError::Message); what comes before it may then
+    /// stand behind the start.
     fn emit_fields(&self, encoder: &mut BinEncoder<'_>) -> Result<(), ProtoError> {
         self.emit_numbers(encoder)?;
         self.emit_rest(encoder)
-    }
-}
-
-impl BinEncodable for NAPTR {
-    ghost emits = { RecordEmits modes.Canonical naptr_facts };
-
-    /// Appends the octets, the name whole, its letters kept. A string of more than 255 octets is refused by
-    /// [`Message`](ProtoError::Message); what comes before it may then stand behind the start. The encoder is then in
-    /// the mode that it was in, refused or not.
-    fn emit(&self, encoder: &mut BinEncoder<'_>) -> Result<(), ProtoError> {
-        emit_in(RDataEncoding::Canonical, self, encoder)
     }
 }
 

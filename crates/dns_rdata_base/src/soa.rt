@@ -1,19 +1,17 @@
 //! SOA: the start of a zone of authority (RFC 1035, 3.3.13).
 
-ghost use Rattle.std.specs.Prelude.{◌≡◌, ◌+◌, ◌++◌, ◌%◌, IfErr, IfOk, Some};
+ghost use Rattle.std.specs.Prelude.{◌≡◌, ◌+◌, ◌++◌, ◌%◌, IfErr, Some};
 ghost use Rattle.std.specs.Int.{bytes_high_first};
 ghost use Rattle.dns_fields.specs.declared.RDataEncoding.TheVariants as modes;
-ghost use Rattle.dns_names_wire.specs.Words.{ReadsIf, ReadsBy, Emits, always};
-ghost use Rattle.dns_pieces.specs.Facts.{RecordEmits, RecordRefuses, RecordStands, same, same_equiv, same_partial};
+ghost use Rattle.dns_names_wire.specs.Words.{ReadsIf, Emits, always};
+ghost use Rattle.dns_names_wire.specs.Facts.{same, same_equiv, same_partial};
 ghost use Rattle.dns_rdata_base.specs.Refusing.{IsLack};
-ghost use Rattle.dns_rdata_base.specs.SOA.{soa_shape, soa_fields, soa_facts, soa_numbers_shape, soa_numbers, soa_numbers_of, HasSeconds, soa_text};
+ghost use Rattle.dns_rdata_base.specs.SOA.{soa_shape, soa_fields, soa_facts, soa_numbers_shape, soa_numbers, soa_numbers_of, soa_text};
 
-use crate::decoding::{DecodesFields, read_record};
 use dns_names_wire::{
-    BinDecodable, BinDecoder, BinEncodable, BinEncoder, DecodeError, Name, ProtoError,
-    RDataEncoding,
+    BinDecodable, BinDecoder, BinEncodable, BinEncoder, DecodeError, DecodesFields, EncodesFields,
+    Name, ProtoError, RDataEncoding, Record,
 };
-use dns_pieces::{EncodesFields, Record, emit_in};
 use std::fmt;
 
 /// The start of a zone of authority: two names, and five numbers of four octets each (RFC 1035, 3.3.13). Refresh, retry
@@ -151,42 +149,17 @@ impl DecodesFields for SOA {
     }
 }
 
-impl BinDecodable for SOA {
-    ghost stands = { RecordStands soa_facts };
-
-    ghost refuses = { RecordRefuses soa_facts };
-
-    /// Reads the fields in order. Where one does not stand it is refused, and those before it are taken: by
-    /// [`InsufficientBytes`](DecodeError::InsufficientBytes) where a number lacks octets,
-    /// [`NameInvalid`](DecodeError::NameInvalid) where no name stands, [`Memory`](DecodeError::Memory) where memory
-    /// runs out.
-    #[inline]
-    fn read(decoder: &mut BinDecoder<'_>) -> Result<SOA, DecodeError>
-        ensures reads { ReadsBy (RecordStands soa_facts) result decoder.old decoder.new }
-        ensures why { IfErr result (λ e. RecordRefuses soa_facts decoder.old e decoder.new) }
-        ensures seconds { IfOk result HasSeconds }
-    {
-        read_record(decoder)
-    }
-}
-
 impl EncodesFields for SOA {
+    /// Names end with a pointer to an earlier place where they can (RFC 1035, 4.1.4).
+    const MODE: RDataEncoding = RDataEncoding::StandardRecord;
+
+    ghost MODE = { modes.StandardRecord };
+
     #[tactic(auto, using(dns_names_wire::proofs::FieldWrites::writing))]
     fn emit_fields(&self, encoder: &mut BinEncoder<'_>) -> Result<(), ProtoError> {
         self.mname.emit(encoder)?;
         self.rname.emit(encoder)?;
         self.emit_numbers(encoder)
-    }
-}
-
-impl BinEncodable for SOA {
-    ghost emits = { RecordEmits modes.StandardRecord soa_facts };
-
-    /// Appends the octets; a name ends with a pointer to an earlier place where it can (RFC 1035, 4.1.4). It is refused
-    /// by [`MaxBufferSizeExceeded`](ProtoError::MaxBufferSizeExceeded) or [`Memory`](ProtoError::Memory) alone. The
-    /// encoder is then in the mode that it was in, refused or not.
-    fn emit(&self, encoder: &mut BinEncoder<'_>) -> Result<(), ProtoError> {
-        emit_in(RDataEncoding::StandardRecord, self, encoder)
     }
 }
 

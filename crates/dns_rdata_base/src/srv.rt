@@ -3,15 +3,13 @@
 ghost use Rattle.std.specs.Prelude.{◌≡◌, Some};
 ghost use Rattle.dns_fields.specs.declared.RDataEncoding.TheVariants as modes;
 ghost use Rattle.dns_names_wire.specs.Words.{Emits};
-ghost use Rattle.dns_pieces.specs.Facts.{RecordEmits, RecordRefuses, RecordStands, same, same_equiv, same_partial};
+ghost use Rattle.dns_names_wire.specs.Facts.{same, same_equiv, same_partial};
 ghost use Rattle.dns_rdata_base.specs.SRV.{srv_numbers_shape, srv_numbers, srv_shape, srv_fields, srv_facts, srv_text};
 
-use crate::decoding::{DecodesFields, read_record};
 use dns_names_wire::{
-    BinDecodable, BinDecoder, BinEncodable, BinEncoder, DecodeError, Name, ProtoError,
-    RDataEncoding,
+    BinDecodable, BinDecoder, BinEncodable, BinEncoder, DecodeError, DecodesFields, EncodesFields,
+    Name, ProtoError, RDataEncoding, Record,
 };
-use dns_pieces::{EncodesFields, Record, emit_in};
 use std::fmt;
 
 /// A host and port of a service: priority, weight and port of two octets each, and a name (RFC 2782).
@@ -63,21 +61,6 @@ impl DecodesFields for SRV {
     }
 }
 
-impl BinDecodable for SRV {
-    ghost stands = { RecordStands srv_facts };
-
-    ghost refuses = { RecordRefuses srv_facts };
-
-    /// Reads the fields in order. Where one does not stand it is refused, and those before it are taken: by
-    /// [`InsufficientBytes`](DecodeError::InsufficientBytes) where a number lacks octets,
-    /// [`NameInvalid`](DecodeError::NameInvalid) where no name stands, [`Memory`](DecodeError::Memory) where memory
-    /// runs out.
-    #[inline]
-    fn read(decoder: &mut BinDecoder<'_>) -> Result<SRV, DecodeError> {
-        read_record(decoder)
-    }
-}
-
 impl SRV {
     // Appends priority, weight and port at once.
     #[inline]
@@ -99,21 +82,15 @@ impl SRV {
 }
 
 impl EncodesFields for SRV {
+    /// The name is written whole, its letters kept.
+    const MODE: RDataEncoding = RDataEncoding::Canonical;
+
+    ghost MODE = { modes.Canonical };
+
     fn emit_fields(&self, encoder: &mut BinEncoder<'_>) -> Result<(), ProtoError> {
         self.emit_numbers(encoder)?;
         self.target.emit(encoder)?;
         Ok(())
-    }
-}
-
-impl BinEncodable for SRV {
-    ghost emits = { RecordEmits modes.Canonical srv_facts };
-
-    /// Appends the octets, the name whole, its letters kept. It is refused by
-    /// [`MaxBufferSizeExceeded`](ProtoError::MaxBufferSizeExceeded) or [`Memory`](ProtoError::Memory) alone. The
-    /// encoder is then in the mode that it was in, refused or not.
-    fn emit(&self, encoder: &mut BinEncoder<'_>) -> Result<(), ProtoError> {
-        emit_in(RDataEncoding::Canonical, self, encoder)
     }
 }
 

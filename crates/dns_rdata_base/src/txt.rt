@@ -4,15 +4,14 @@ ghost use Rattle.std.specs.Prelude.{◌≡◌, ◌≤◌, ℕ, List, map, length
 ghost use Rattle.std.specs.String.{string_bytes};
 ghost use Rattle.dns_fields.specs.Fields.{Texts, Field};
 ghost use Rattle.dns_names_wire.specs.Words.{Emits};
-ghost use Rattle.dns_pieces.specs.Facts.{same, same_equiv, same_partial};
+ghost use Rattle.dns_names_wire.specs.Facts.{same, same_equiv, same_partial};
 ghost use Rattle.dns_rdata_base.specs.TXT.{txt_shape, txt_fields, txt_facts, txt_text};
 
-use crate::traits::RecordDataDecodable;
 use bstr::BStr;
 use dns_names_wire::{
-    BinDecoder, BinEncodable, BinEncoder, DecodeError, Octets, ProtoError, Restrict,
+    BinDecoder, BinEncodable, BinEncoder, DecodeError, Octets, ProtoError, Record,
+    RecordDataDecodable, Restrict,
 };
-use dns_pieces::Record;
 use dns_types::Strings;
 use std::alloc::AllocError;
 use std::fmt;

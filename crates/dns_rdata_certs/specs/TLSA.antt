@@ -4,7 +4,7 @@ use Rattle.hex.specs.Hex.{encode_lower}
 use Rattle.dns_types.specs.declared.error.DecodeError.{DecodeError}
 use Rattle.dns_fields.specs.Fields.{Kind, Number, Rest, Values}
 use Rattle.dns_names_wire.specs.State.{Reading}
-use Rattle.dns_pieces.specs.Facts.{Facts, filling}
+use Rattle.dns_names_wire.specs.Facts.{Facts, filling}
 use Rattle.dns_rdata_certs.specs.CertUsage.{cert_usage_number, cert_usage_variant, cert_usage_of}
 use Rattle.dns_rdata_certs.specs.Selector.{selector_number, selector_variant, selector_of}
 use Rattle.dns_rdata_certs.specs.Matching.{matching_number, matching_variant, matching_of}

@@ -3,7 +3,7 @@
 ghost use Rattle.std.specs.Prelude.{◌≡◌, length as list_length, IfErr, IfOk, Some};
 ghost use Rattle.std.specs.String.{string_bytes};
 ghost use Rattle.dns_names_wire.specs.Words.{ReadsTo, Emits};
-ghost use Rattle.dns_pieces.specs.Facts.{same, same_equiv, same_partial};
+ghost use Rattle.dns_names_wire.specs.Facts.{same, same_equiv, same_partial};
 ghost use Rattle.dns_rdata_certs.specs.CERT.{cert_shape, cert_fields, cert_facts, MeetsCertCondition, cert_key_shape, cert_keys, IsReadCert, cert_text};
 ghost use Rattle.dns_rdata_certs.specs.CERT.{cert_data_text, IsCertRefusal, ReadsWholeCert, IsWholeCertRefusal};
 
@@ -14,10 +14,9 @@ pub use algorithm::Algorithm;
 use base64::engine::general_purpose::STANDARD;
 pub use cert_type::CertType;
 use dns_names_wire::{
-    BinDecoder, BinEncodable, BinEncoder, DecodeError, ProtoError, Restrict, SmallOctets,
+    BinDecoder, BinEncodable, BinEncoder, DecodeError, ProtoError, Record, RecordDataDecodable,
+    Restrict, SmallOctets,
 };
-use dns_pieces::Record;
-use dns_rdata_base::RecordDataDecodable;
 use dns_words::Base64Text;
 use std::alloc::{AllocError, Global};
 use std::fmt;

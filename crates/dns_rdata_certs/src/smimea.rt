@@ -2,13 +2,14 @@
 
 ghost use Rattle.std.specs.Prelude.{◌≡◌, Some};
 ghost use Rattle.dns_names_wire.specs.Words.{Emits};
-ghost use Rattle.dns_pieces.specs.Facts.{same, same_equiv, same_partial};
+ghost use Rattle.dns_names_wire.specs.Facts.{same, same_equiv, same_partial};
 ghost use Rattle.dns_rdata_certs.specs.SMIMEA.{smimea_shape, smimea_fields, smimea_facts, smimea_key_shape, smimea_keys, smimea_text};
 
 use crate::tlsa::{CertUsage, Matching, Selector, TLSA};
-use dns_names_wire::{BinDecoder, BinEncodable, BinEncoder, DecodeError, ProtoError, Restrict};
-use dns_pieces::Record;
-use dns_rdata_base::RecordDataDecodable;
+use dns_names_wire::{
+    BinDecoder, BinEncodable, BinEncoder, DecodeError, ProtoError, Record, RecordDataDecodable,
+    Restrict,
+};
 use std::fmt;
 use std::ops::Deref;
 

@@ -2,7 +2,7 @@
 
 ghost use Rattle.std.specs.Prelude.{◌≡◌, IfErr, IfOk, Some};
 ghost use Rattle.dns_names_wire.specs.Words.{ReadsTo, Emits};
-ghost use Rattle.dns_pieces.specs.Facts.{same, same_equiv, same_partial};
+ghost use Rattle.dns_names_wire.specs.Facts.{same, same_equiv, same_partial};
 ghost use Rattle.dns_rdata_certs.specs.SSHFP.{sshfp_shape, sshfp_fields, sshfp_facts, sshfp_key_shape, sshfp_keys, IsReadSshfp, IsSshfpRefusal, sshfp_text};
 
 mod algorithm;
@@ -11,10 +11,9 @@ mod fingerprint_type;
 use crate::hexadecimal::Hexadecimal;
 pub use algorithm::Algorithm;
 use dns_names_wire::{
-    BinDecoder, BinEncodable, BinEncoder, DecodeError, ProtoError, Restrict, SmallOctets,
+    BinDecoder, BinEncodable, BinEncoder, DecodeError, ProtoError, Record, RecordDataDecodable,
+    Restrict, SmallOctets,
 };
-use dns_pieces::Record;
-use dns_rdata_base::RecordDataDecodable;
 pub use fingerprint_type::FingerprintType;
 use std::fmt;
 

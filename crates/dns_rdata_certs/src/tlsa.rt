@@ -2,7 +2,7 @@
 
 ghost use Rattle.std.specs.Prelude.{◌≡◌, IfErr, IfOk, Some};
 ghost use Rattle.dns_names_wire.specs.Words.{ReadsTo, Emits};
-ghost use Rattle.dns_pieces.specs.Facts.{same, same_equiv, same_partial};
+ghost use Rattle.dns_names_wire.specs.Facts.{same, same_equiv, same_partial};
 ghost use Rattle.dns_rdata_certs.specs.TLSA.{tlsa_shape, tlsa_fields, tlsa_facts, tlsa_key_shape, tlsa_keys, IsReadTlsa, IsTlsaRefusal, tlsa_text};
 
 mod cert_usage;
@@ -12,10 +12,9 @@ mod selector;
 use crate::hexadecimal::Hexadecimal;
 pub use cert_usage::CertUsage;
 use dns_names_wire::{
-    BinDecoder, BinEncodable, BinEncoder, DecodeError, ProtoError, Restrict, SmallOctets,
+    BinDecoder, BinEncodable, BinEncoder, DecodeError, ProtoError, Record, RecordDataDecodable,
+    Restrict, SmallOctets,
 };
-use dns_pieces::Record;
-use dns_rdata_base::RecordDataDecodable;
 pub use matching::Matching;
 pub use selector::Selector;
 use std::fmt;

@@ -9,7 +9,7 @@ use Rattle.dns_fields.specs.Fields.{Kind, Number, Options, Values, WholeOptions}
 use Rattle.dns_names_wire.specs.State.{Reading}
 use Rattle.dns_names_wire.specs.Words.{TookField, Took, LacksOctets}
 use Rattle.dns_rdata_base.specs.Numbered.{numbered_eq}
-use Rattle.dns_pieces.specs.Facts.{Facts, filling}
+use Rattle.dns_names_wire.specs.Facts.{Facts, filling}
 use Rattle.dns_rdata_options.specs.EdnsCode.{edns_code_number, edns_code_variant, edns_code_of}
 use Rattle.dns_rdata_options.specs.ClientSubnet.{subnet_of}
 use Rattle.dns_rdata_options.specs.EdnsOption.{option_value, IsOptionRefusal}

@@ -20,9 +20,10 @@ mod reading;
 mod subnet;
 
 pub use code::EdnsCode;
-use dns_names_wire::{BinDecoder, BinEncodable, BinEncoder, DecodeError, ProtoError, Restrict};
-use dns_pieces::Record;
-use dns_rdata_base::RecordDataDecodable;
+use dns_names_wire::{
+    BinDecoder, BinEncodable, BinEncoder, DecodeError, ProtoError, Record, RecordDataDecodable,
+    Restrict,
+};
 pub use net::IpNet;
 pub use option::EdnsOption;
 use order::{hash_sorted, sorted_cmp};

@@ -9,7 +9,7 @@ use Rattle.dns_labels.specs.Text.{name_text}
 use Rattle.dns_names_wire.specs.State.{Reading}
 use Rattle.dns_names_wire.specs.Words.{Took}
 use Rattle.dns_rdata_base.specs.Refusing.{IsLack}
-use Rattle.dns_pieces.specs.Facts.{Facts}
+use Rattle.dns_names_wire.specs.Facts.{Facts}
 use Rattle.dns_rdata_service.specs.SvcParamKey.{key_number, key_text}
 use Rattle.dns_rdata_service.specs.SvcParamValue.{value_text}
 use Rattle.dns_rdata_service.specs.Parameters.{Parameter, parameter_of, own_parameter, AreRead, HaveTexts, IsParametersRefusal}

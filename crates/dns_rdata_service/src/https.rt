@@ -3,16 +3,15 @@
 ghost use Rattle.std.specs.Prelude.{◌≡◌, ◌≤◌, length, IfOk};
 ghost use Rattle.std.specs.List.Sorted.{IsPermutation, IsNonDecreasingBy, IsStableByKey};
 ghost use Rattle.std.specs.Ordering.{nat_cmp};
-ghost use Rattle.dns_pieces.specs.Facts.{RecordEmits, same, same_equiv, same_partial};
+ghost use Rattle.dns_names_wire.specs.Facts.{same, same_equiv, same_partial};
 ghost use Rattle.dns_rdata_service.specs.SVCB.{number_of_parameter};
 ghost use Rattle.dns_rdata_service.specs.HTTPS.{https_facts, https_key_shape, https_keys};
 
 use crate::svcb::SVCB;
 use dns_names_wire::{
-    BinDecoder, BinEncodable, BinEncoder, DecodeError, ProtoError, RDataEncoding, Restrict,
+    BinDecoder, BinEncoder, DecodeError, EncodesFields, ProtoError, RDataEncoding, Record,
+    RecordDataDecodable, Restrict,
 };
-use dns_pieces::{EncodesFields, Record};
-use dns_rdata_base::RecordDataDecodable;
 use std::alloc::AllocError;
 use std::fmt;
 use std::hash::{Hash, Hasher};
@@ -56,22 +55,17 @@ impl RecordDataDecodable for HTTPS {
 }
 
 impl EncodesFields for HTTPS {
-    /// Appends the fields of the SVCB.
+    ghost use Rattle.dns_fields.specs.declared.RDataEncoding.TheVariants as modes;
+
+    /// The target is written whole, its letters kept.
+    const MODE: RDataEncoding = RDataEncoding::Other;
+
+    ghost MODE = { modes.Other };
+
+    /// Appends the fields of the SVCB, and is refused as that.
     #[inline]
     fn emit_fields(&self, encoder: &mut BinEncoder<'_>) -> Result<(), ProtoError> {
         self.0.emit_fields(encoder)
-    }
-}
-
-impl BinEncodable for HTTPS {
-    ghost use Rattle.dns_fields.specs.declared.RDataEncoding.TheVariants as modes;
-
-    ghost emits = { RecordEmits modes.Other https_facts };
-
-    /// Appends the octets of the SVCB, and is refused as that.
-    #[inline]
-    fn emit(&self, encoder: &mut BinEncoder<'_>) -> Result<(), ProtoError> {
-        self.0.emit(encoder)
     }
 }
 

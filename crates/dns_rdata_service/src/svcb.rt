@@ -5,7 +5,7 @@ ghost use Rattle.std.specs.Option.{option_copied};
 ghost use Rattle.std.specs.List.Sorted.{IsPermutation, IsNonDecreasingBy, IsStableByKey};
 ghost use Rattle.std.specs.Ordering.{nat_cmp};
 ghost use Rattle.std.specs.Cmp.Lexicographic.{pointwise};
-ghost use Rattle.dns_pieces.specs.Facts.{RecordEmits, same, same_equiv, same_partial};
+ghost use Rattle.dns_names_wire.specs.Facts.{same, same_equiv, same_partial};
 ghost use Rattle.dns_rdata_service.specs.OwnKeys.{value_eq, parameter_eq};
 ghost use Rattle.dns_rdata_service.specs.SVCB.{svcb_facts, svcb_key_shape, svcb_keys, number_of_parameter, value_at};
 ghost use Rattle.dns_rdata_service.specs.SvcParamKey.{key_number};
@@ -26,11 +26,9 @@ mod value;
 use crate::items::Items;
 pub use alpn::Alpn;
 use dns_names_wire::{
-    BinDecodable, BinDecoder, BinEncodable, BinEncoder, DecodeError, Name, ProtoError,
-    RDataEncoding, Restrict,
+    BinDecodable, BinDecoder, BinEncodable, BinEncoder, DecodeError, EncodesFields, Name,
+    ProtoError, RDataEncoding, Record, RecordDataDecodable, Restrict,
 };
-use dns_pieces::{EncodesFields, Record, emit_in};
-use dns_rdata_base::RecordDataDecodable;
 pub use doh_path::DohPath;
 pub use ech_config_list::EchConfigList;
 pub use ip_hint::IpHint;
@@ -142,27 +140,22 @@ impl RecordDataDecodable for SVCB {
 }
 
 impl EncodesFields for SVCB {
-    /// Appends priority, target and parameters in their order.
+    ghost use Rattle.dns_fields.specs.declared.RDataEncoding.TheVariants as modes;
+
+    /// The target is written whole, its letters kept.
+    const MODE: RDataEncoding = RDataEncoding::Other;
+
+    ghost MODE = { modes.Other };
+
+    /// Appends priority, target and parameters in their order. Keys that do not strictly rise, no mandatory keys, no
+    /// protocols, a protocol of more than 255 octets, and a value of more than 65535 octets are refused by
+    /// [`Message`](ProtoError::Message).
     #[tactic(auto, using(dns_names_wire::proofs::FieldWrites::writing))]
     fn emit_fields(&self, encoder: &mut BinEncoder<'_>) -> Result<(), ProtoError> {
         encoder.emit_u16(self.svc_priority)?;
         self.target_name.emit(encoder)?;
         parameters::emit_parameters(encoder, self.svc_params.as_slice())?;
         Ok(())
-    }
-}
-
-impl BinEncodable for SVCB {
-    ghost use Rattle.dns_fields.specs.declared.RDataEncoding.TheVariants as modes;
-
-    ghost emits = { RecordEmits modes.Other svcb_facts };
-
-    /// Appends priority, target and parameters, the name whole and with its letters. Keys that do not strictly rise, no
-    /// mandatory keys, no protocols, a protocol of more than 255 octets, and a value of more than 65535 octets are
-    /// refused by [`Message`](ProtoError::Message).
-    #[inline(always)]
-    fn emit(&self, encoder: &mut BinEncoder<'_>) -> Result<(), ProtoError> {
-        emit_in(RDataEncoding::Other, self, encoder)
     }
 }
 

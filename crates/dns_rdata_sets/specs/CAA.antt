@@ -11,7 +11,7 @@ use Rattle.dns_fields.specs.Fields.{Kind, Number, Octets, Text, Rest, Values}
 use Rattle.dns_names_wire.specs.State.{Reading}
 use Rattle.dns_names_wire.specs.Words.{Took, TookField, LacksOctets, IsMessage}
 use Rattle.dns_rdata_base.specs.Lossy.{lossy}
-use Rattle.dns_pieces.specs.Facts.{Facts, filling}
+use Rattle.dns_names_wire.specs.Facts.{Facts, filling}
 use Rattle.dns_rdata_sets.specs.Issuer.{IsIssuerRefusal}
 use Rattle.dns_rdata_sets.specs.declared.caa.CAA.{CAA}
 

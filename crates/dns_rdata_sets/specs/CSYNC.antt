@@ -8,7 +8,7 @@ use Rattle.dns_fields.specs.Fields.{Kind, Number, Bitmap, Values}
 use Rattle.dns_names_wire.specs.State.{Reading}
 use Rattle.dns_names_wire.specs.Words.{Took}
 use Rattle.dns_rdata_base.specs.Refusing.{FirstLack}
-use Rattle.dns_pieces.specs.Facts.{Facts, filling}
+use Rattle.dns_names_wire.specs.Facts.{Facts, filling}
 use Rattle.dns_rdata_sets.specs.RecordTypeSet.{IsBitmapRefusal}
 use Rattle.dns_rdata_sets.specs.declared.csync.CSYNC.{CSYNC}
 

@@ -4,7 +4,7 @@ ghost use Rattle.std.specs.Prelude.{◌≡◌, ◌≤◌, ◌<◌, ◌+◌, fals
 ghost use Rattle.std.specs.Char.{is_ascii_alphanumeric};
 ghost use Rattle.dns_fields.specs.Fields.{Octets as OctetsKind};
 ghost use Rattle.dns_names_wire.specs.Words.{ReadsTo, TookField, StaysBehind, Emits, Extends, IsMessage};
-ghost use Rattle.dns_pieces.specs.Facts.{same, same_equiv, same_partial};
+ghost use Rattle.dns_names_wire.specs.Facts.{same, same_equiv, same_partial};
 ghost use Rattle.dns_rdata_sets.specs.CAA.{caa_shape, caa_flags, caa_fields, caa_facts, MeetsCaaCondition, caa_key_shape, caa_keys, AreTagOctets, IsTag, caa_text};
 ghost use Rattle.dns_rdata_sets.specs.CAA.{IsReadCaa, IsTagRefusal, IsCaaRefusal};
 
@@ -13,10 +13,9 @@ mod values;
 
 use bstr::BStr;
 use dns_names_wire::{
-    BinDecoder, BinEncodable, BinEncoder, DecodeError, ProtoError, Restrict, SmallOctets,
+    BinDecoder, BinEncodable, BinEncoder, DecodeError, ProtoError, Record, RecordDataDecodable,
+    Restrict, SmallOctets,
 };
-use dns_pieces::Record;
-use dns_rdata_base::RecordDataDecodable;
 pub use issuer::{KeyValue, issuers_hold, read_iodef, read_issuer};
 use std::alloc::AllocError;
 use std::fmt;

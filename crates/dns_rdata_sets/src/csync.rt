@@ -6,17 +6,16 @@ ghost use Rattle.std.specs.Iterator.{Drains, IsFinite};
 ghost use Rattle.dns_types.specs.RecordTypes.{number_of};
 ghost use Rattle.dns_types.specs.declared.record_type.RecordType.{RecordType as RecordTypeValue};
 ghost use Rattle.dns_names_wire.specs.Words.{ReadsTo, Emits};
-ghost use Rattle.dns_pieces.specs.Facts.{same, same_equiv, same_partial};
+ghost use Rattle.dns_names_wire.specs.Facts.{same, same_equiv, same_partial};
 ghost use Rattle.dns_rdata_sets.specs.RecordTypeSet.{IsSetOf};
 ghost use Rattle.dns_rdata_sets.specs.CSYNC.{csync_numbers_shape, csync_numbers, csync_shape, csync_flags, csync_fields, csync_facts, MeetsCsyncCondition, csync_text};
 ghost use Rattle.dns_rdata_sets.specs.CSYNC.{csync_key_shape, csync_keys, IsReadCsync, IsCsyncRefusal};
 
 use crate::record_type_set::RecordTypeSet;
 use dns_names_wire::{
-    BinDecoder, BinEncodable, BinEncoder, DecodeError, ProtoError, RecordType, Restrict,
+    BinDecoder, BinEncodable, BinEncoder, DecodeError, ProtoError, Record, RecordDataDecodable,
+    RecordType, Restrict,
 };
-use dns_pieces::Record;
-use dns_rdata_base::RecordDataDecodable;
 use std::alloc::{AllocError, Global};
 use std::fmt;
 

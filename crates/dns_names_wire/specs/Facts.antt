@@ -8,7 +8,7 @@ use Rattle.dns_fields.specs.Equal.{values_eq}
 use Rattle.dns_fields.specs.Fields.{Kind, Values, Stands}
 use Rattle.dns_fields.proofs.Equivalences.{values_equiv}
 use Rattle.dns_names_wire.specs.State.{Reading, Writing}
-use Rattle.dns_names_wire.specs.Words.{Refused, EmitsAs}
+use Rattle.dns_names_wire.specs.Words.{EmitsAs, Refused}
 
 -- the kinds of the fields, what is asked of them beside that they stand, the fields themselves; why data of so many
 -- octets is refused, and what holds of a value that was read from so many, and of where the decoder is then

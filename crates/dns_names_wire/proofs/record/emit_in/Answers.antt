@@ -1,5 +1,5 @@
 use Rattle.dns_names_wire.proofs.FieldWrites.{emitted_as, emits_extend}
-use Rattle.dns_pieces.proofs.emitting.emit_in.Goals as goal
+use Rattle.dns_names_wire.proofs.record.emit_in.Goals as goal
 
 pub returns-clause-extends : goal.returns-clause-extends
 returns-clause-extends g c = emits_extend _ _ _ _ _ _
