@@ -36,23 +36,15 @@ parameters_order ps qs = cmp_view parameter_order (λ x y. key_cmp (parameter_ke
 
 pub differ_order : (v w : SvcParamValue) → Differ v w → nat_cmp (value_place v) (value_place w) ≡ slice_cmp (slice_cmp nat_cmp) (value_key v) (value_key w)
 differ_order (variants.Mandatory x) (variants.Mandatory y) d = absurd d
-differ_order (variants.Mandatory x) w d = refl
 differ_order (variants.Alpn x) (variants.Alpn y) d = absurd d
-differ_order (variants.Alpn x) w d = refl
 differ_order (variants.Port m) (variants.Port n) d = absurd d
-differ_order (variants.Port m) w d = refl
 differ_order (variants.Ipv4Hint x) (variants.Ipv4Hint y) d = absurd d
-differ_order (variants.Ipv4Hint x) w d = refl
 differ_order (variants.EchConfigList x) (variants.EchConfigList y) d = absurd d
-differ_order (variants.EchConfigList x) w d = refl
 differ_order (variants.Ipv6Hint x) (variants.Ipv6Hint y) d = absurd d
-differ_order (variants.Ipv6Hint x) w d = refl
 differ_order (variants.DohPath x) (variants.DohPath y) d = absurd d
-differ_order (variants.DohPath x) w d = refl
 differ_order (variants.Unknown x) (variants.Unknown y) d = absurd d
-differ_order (variants.Unknown x) w d = refl
 differ_order variants.NoDefaultAlpn variants.NoDefaultAlpn d = refl
-differ_order variants.NoDefaultAlpn w d = refl
+differ_order v w d = refl
 
 pub hints_order : {T : Type 0} (octets : T → List ℕ) (xs ys : List T) → slice_cmp (octets_order octets) xs ys ≡ slice_cmp (slice_cmp nat_cmp) (map octets xs) (map octets ys)
 hints_order octets xs ys = cmp_view (octets_order octets) (slice_cmp nat_cmp) octets (λ x y. refl) xs ys

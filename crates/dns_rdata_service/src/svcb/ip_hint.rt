@@ -2,6 +2,7 @@
 
 ghost use Rattle.std.specs.Prelude.{◌≡◌, ◌⊎◌, ◌∷◌, IfOk, IfErr};
 ghost use Rattle.std.specs.List.{AllZip};
+ghost use Rattle.dns_names_wire.specs.Words.{Extends};
 ghost use Rattle.dns_rdata_service.specs.Hints.{ReadsEach, RefusedBehind, EmitsEach};
 
 use crate::items::Items;
@@ -49,11 +50,23 @@ impl<T: BinEncodable> BinEncodable for IpHint<T> {
 
     /// Appends the addresses.
     fn emit(&self, encoder: &mut BinEncoder<'_>) -> Result<(), ProtoError> {
-        for item in self.0.as_slice() {
-            item.emit(encoder)?;
-        }
-        Ok(())
+        emit_each(self.0.as_slice(), encoder)
     }
+}
+
+// Appends values one behind the other.
+#[inline]
+pub(super) fn emit_each<T: BinEncodable>(
+    items: &[T],
+    encoder: &mut BinEncoder<'_>,
+) -> Result<(), ProtoError>
+    ensures emits { EmitsEach T.emits items.now result encoder.old encoder.new }
+    ensures extends { Extends encoder.old encoder.new }
+{
+    for item in items {
+        item.emit(encoder)?;
+    }
+    Ok(())
 }
 
 impl<T: Clone> Clone for IpHint<T> {

@@ -6,6 +6,7 @@ ghost use Rattle.dns_names_wire.specs.Words.{ReadsBy};
 ghost use Rattle.dns_rdata_service.specs.SvcParamValue.{mandatory_value, MandatoryAt, IsValueRefusal, EmitsValue};
 
 use crate::items::Items;
+use crate::svcb::ip_hint::emit_each;
 use crate::svcb::key::SvcParamKey;
 use dns_names_wire::{BinDecodable, BinDecoder, BinEncodable, BinEncoder, DecodeError, ProtoError};
 use std::alloc::AllocError;
@@ -56,10 +57,7 @@ impl BinEncodable for Mandatory {
         if self.0.len() == 0 {
             return Err(ProtoError::Message("no mandatory keys"));
         }
-        for key in self.0.as_slice() {
-            key.emit(encoder)?;
-        }
-        Ok(())
+        emit_each(self.0.as_slice(), encoder)
     }
 }
 

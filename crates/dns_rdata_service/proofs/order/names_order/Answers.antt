@@ -3,8 +3,9 @@ use Rattle.std.specs.Cmp.{unsigned_Decides}
 use Rattle.std.specs.Cmp.Lexicographic.{pointwise_decides}
 use Rattle.std.specs.List.{flat_map}
 use Rattle.dns_fields.specs.Pieces.{string}
+use Rattle.dns_pieces.proofs.Comparing.{then_kept}
 use Rattle.dns_rdata_service.specs.Fronts.{behind_length}
-use Rattle.dns_rdata_service.proofs.SvcbFronts.{alike_first, lengths_first, ne_kept, ne_yes}
+use Rattle.dns_rdata_service.proofs.SvcbFronts.{alike_first, lengths_first, ne_yes}
 use Rattle.dns_rdata_service.proofs.order.names_order.Goals as goal
 
 pub returns-then-eq-clause-order : goal.returns-then-eq-clause-order
@@ -17,7 +18,7 @@ returns-then-eq-clause-alike c = λ e. (pointwise_decides (pointwise_decides uns
 
 pub returns-then-is_ne-clause-order : goal.returns-then-is_ne-clause-order
 returns-then-is_ne-clause-order c =
-    lengths_first _ _ _ _ _ (flat_map string c.args.a.now) (flat_map string c.args.b.now) (ne_kept _ _ (sym c.is_ne.ensures ∙ c.if-is_ne.true)) c.cmp-order.ensures
+    lengths_first _ _ _ _ _ (flat_map string c.args.a.now) (flat_map string c.args.b.now) (then_kept _ _ (ne_yes _ (sym c.is_ne.ensures ∙ c.if-is_ne.true))) c.cmp-order.ensures
     (rw c.as_slice.ensures at c.in_ok-size.ensures.size) (rw c.as_slice-2.ensures at c.in_ok-other_size.ensures.size) refl c.in_ok-size.ensures.few c.in_ok-other_size.ensures.few
 
 pub returns-then-is_ne-clause-alike : goal.returns-then-is_ne-clause-alike

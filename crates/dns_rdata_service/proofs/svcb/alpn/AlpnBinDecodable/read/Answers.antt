@@ -3,7 +3,9 @@ use Rattle.std.proofs.lemmas.List.{drop_all}
 use Rattle.std.proofs.lemmas.Result.{err_from_is_err_and}
 use Rattle.dns_fields.specs.Pieces.{Names}
 use Rattle.dns_rdata_service.specs.SvcParamValue.{alpn_value, AlpnAt}
-use Rattle.dns_rdata_service.proofs.ValueReads.{refused_by, names_more, names_cut, names_wrong, text_behind, stays_then}
+use Rattle.dns_rdata_service.proofs.EachReads.{each_more}
+use Rattle.dns_rdata_service.proofs.Splits.{stays_then}
+use Rattle.dns_rdata_service.proofs.ValueReads.{refused_by, names_cut, names_wrong, text_behind, NameAt, names_read}
 use Rattle.dns_rdata_service.proofs.svcb.alpn.AlpnBinDecodable.read.Goals as goal
 
 pub returns-then-len-eq0-clause-reads : goal.returns-then-len-eq0-clause-reads
@@ -40,4 +42,13 @@ pub names-preserved : goal.names-preserved
 names-preserved c =
     let u = c.if-not-is_text.ensures.0 (search rules) in
     rw (c.in_ok-push.ensures.ok, c.in_ok-from_slice.ensures, c.unverified-name.ensures)
-    (names_more c.names.invariant c.in_ok-read_character_data.ensures.taken (rw c.unverified-name.ensures at u))
+    (each_more NameAt c.names.invariant (text_behind c.in_ok-read_character_data.ensures.taken) (c.in_ok-read_character_data.ensures.taken.field, rw c.unverified-name.ensures at u))
+
+pub returns-clause-reads : goal.returns-clause-reads
+returns-clause-reads c = (c.names.invariant.behind, names_read c.names.invariant (omega arith) (omega arith) (omega arith))
+
+pub returns-in_err-read_character_data-clause-refused : goal.returns-in_err-read_character_data-clause-refused
+returns-in_err-read_character_data-clause-refused c =
+    let p = err_from_is_err_and c.from_residual-in_err-read_character_data.result c.from_residual-in_err-read_character_data.ensures.1 in
+    let l = c.in_err-read_character_data.ensures.lacking in
+    rw (p.1, p.2) (inr (inr (inl (l.0, names_cut c.names.invariant (omega (arith, c.len-in-names.ensures.left)) l.1))))

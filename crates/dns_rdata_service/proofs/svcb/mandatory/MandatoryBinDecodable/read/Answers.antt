@@ -3,7 +3,9 @@ use Rattle.std.proofs.lemmas.List.{drop_all}
 use Rattle.std.proofs.lemmas.Result.{err_from_is_err_and}
 use Rattle.dns_fields.specs.Pieces.{Keys}
 use Rattle.dns_rdata_service.specs.SvcParamValue.{mandatory_value, MandatoryAt}
-use Rattle.dns_rdata_service.proofs.ValueReads.{refused_by, keys_more, keys_odd, stays_then}
+use Rattle.dns_rdata_service.proofs.EachReads.{each_more}
+use Rattle.dns_rdata_service.proofs.Splits.{stays_then}
+use Rattle.dns_rdata_service.proofs.ValueReads.{refused_by, keys_odd, KeyAt, keys_read}
 use Rattle.dns_rdata_service.proofs.svcb.mandatory.MandatoryBinDecodable.read.Goals as goal
 
 pub returns-then-len-eq0-clause-reads : goal.returns-then-len-eq0-clause-reads
@@ -30,4 +32,7 @@ returns-in_err-read-clause-refused c =
     )))
 
 pub keys-preserved : goal.keys-preserved
-keys-preserved c = rw c.in_ok-push.ensures.ok (keys_more c.keys.invariant c.in_ok-read.ensures.reads.0 c.in_ok-read.ensures.reads.1)
+keys-preserved c = rw c.in_ok-push.ensures.ok (each_more KeyAt c.keys.invariant c.in_ok-read.ensures.reads.0 c.in_ok-read.ensures.reads.1)
+
+pub returns-clause-reads : goal.returns-clause-reads
+returns-clause-reads c = (c.keys.invariant.behind, keys_read c.keys.invariant (omega arith) (omega arith) (omega arith))
