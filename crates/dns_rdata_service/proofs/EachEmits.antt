@@ -139,6 +139,9 @@ pub octets_extend : (P : Type 0) (test : Bool) (s : List ℕ) (r : Result (Unit 
 octets_extend P test s (Ok u) old new h = record { keeps = h.1.keeps; tail = s; octets = h.1.octets }
 octets_extend P test s (Err e) old new h = h.extends
 
+pub rest_extends : (s : List ℕ) (r : Result (Unit {0}) ProtoError) (old new : Writing) → EmitsField Rest s r old new → Extends old new
+rest_extends s r old new h = octets_extend (Unit {0}) true s r old new (rest_emits s r old new h)
+
 pub extends_on : {a b c : Writing} → Extends a b → Extends b c → Extends a c
 extends_on {a} {b} {c} f g = record {
   keeps = keeps_then f.keeps g.keeps;

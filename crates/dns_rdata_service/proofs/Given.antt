@@ -12,6 +12,7 @@ use Rattle.dns_rdata_service.specs.SvcParamKey.{key_number, key_variant, named_k
 use Rattle.dns_rdata_service.specs.declared.svcb.key.SvcParamKey.{SvcParamKey}
 use Rattle.dns_rdata_service.specs.declared.svcb.key.SvcParamKey.TheVariants.{Key, Key65535, Unknown}
 use Rattle.dns_rdata_service.specs.SvcParamValue.{a_octets, aaaa_octets, a_of, aaaa_of, IsValueOf}
+use Rattle.dns_rdata_service.specs.declared.svcb.ip_hint.IpHint.{IpHint}
 use Rattle.dns_rdata_service.specs.declared.svcb.unknown.Unknown.{Unknown as Other}
 use Rattle.dns_rdata_service.specs.declared.svcb.value.SvcParamValue.TheVariants.{Unknown as OtherValue}
 
@@ -70,3 +71,9 @@ plain_of k g is = plain_above (key_number k) (above_named (key_number k) (rw (�
 -- the value of a key without a form of its own
 pub plain_value : (n : ℕ) (body : List ℕ) (x : Other) → IsPlainKey n → body ≡ x.0 → IsValueOf n body (OtherValue x)
 plain_value n body x p e = record { held = (sym p.form, tt, e); given = rw (p.other, p.no_path) refl; text = λ is. absurd (p.no_text is) }
+
+pub hint4_back : (x : IpHint A) → x ≡ record { 0 = map a_of (map a_octets x.0) }
+hint4_back x = ap (λ (as' : List A). record { 0 = as' }) (a_list_back x.0)
+
+pub hint6_back : (x : IpHint AAAA) → x ≡ record { 0 = map aaaa_of (map aaaa_octets x.0) }
+hint6_back x = ap (λ (as' : List AAAA). record { 0 = as' }) (aaaa_list_back x.0)

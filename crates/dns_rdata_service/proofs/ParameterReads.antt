@@ -1,12 +1,12 @@
 -- Reading parameters one after the other.
 use Rattle.std.proofs.Common.{◌≡◌, inl, inr, ℕ, ◌+◌, ◌<◌, ◌≤◌, List, [], ◌∷◌, ◌++◌, length, drop, map, Option, Some, refl, sym, ap, ◌∙◌, arith, subst}
 use Rattle.std.specs.Int.{bytes_high_first}
-use Rattle.std.proofs.lemmas.List.{length-append, length-drop, map_push}
+use Rattle.std.proofs.lemmas.List.{length-append, append-nil, length-drop, map_push}
 use Rattle.dns_types.specs.declared.error.DecodeError.{DecodeError}
 use Rattle.dns_types.specs.declared.error.DecodeError.TheVariants as decode
 use Rattle.dns_fields.specs.Octets.{At}
 use Rattle.dns_fields.specs.Fields.{Number, Octets, Parameters, Field, Values}
-use Rattle.dns_fields.specs.Pieces.{Numbered, ParameterValue, ParameterHeld, piece, Rising}
+use Rattle.dns_fields.specs.Pieces.{Numbered, ParameterValue, ParameterHeld, AllHeld, piece, pieces, Rising}
 use Rattle.dns_fields.proofs.Numbers.{length-bytes}
 use Rattle.dns_fields.proofs.Pieces.{piece_before, heads_same, first_piece}
 use Rattle.dns_fields.proofs.FieldLaws.{field_inside}
@@ -176,30 +176,29 @@ next_of {old} {d} {ps} {last} {end} {v} on lt f =
     some (x ∷ rest) same s = record { next = x; rest = rest; same = same; place = s.0; one = s.1; before = each_inside old.message s.0 rest end s.2 }
 
 -- no window, where no parameters stand to its end
-no_window : {old : Reading} {n end : ℕ} → end ≡ old.index + n
-    → ((v : List (Numbered ParameterValue)) → Field old.message old.index Parameters v end → HaveTexts v → ⊥)
+no_window : {old : Reading} {n : ℕ} → ((v : List (Numbered ParameterValue)) → Field old.message old.index Parameters v (old.index + n) → HaveTexts v → ⊥)
     → NoWindow old.message old.index n (Parameters ∷ []) texts
-no_window {old} {n} {end} is none = record
-    { none = λ vs w. none vs.0 (subst (λ (q : ℕ). Field old.message old.index Parameters vs.0 q) (w.stands.2 ∙ sym is) w.stands.1) w.holds }
+no_window {old} {n} none = record
+    { none = λ vs w. none vs.0 (subst (λ (q : ℕ). Field old.message old.index Parameters vs.0 q) w.stands.2 w.stands.1) w.holds }
 
 -- a parameter is refused
-pub on_refused : {e : DecodeError} {old d b : Reading} {ps : List Parameter} {last : Option ℕ} {end : ℕ} (n : ℕ) → end ≡ old.index + n → d.index + 4 ≤ end
+pub on_refused : {e : DecodeError} {old d b : Reading} {ps : List Parameter} {last : Option ℕ} (n : ℕ) → d.index + 4 ≤ old.index + n
     → ParametersOn old ps last d → IsParameterRefusal d e b → RefusedWindow e old n (Parameters ∷ []) texts b
-on_refused {e} {old} {d} {b} {ps} {last} {end} n is room on h = record {
+on_refused {e} {old} {d} {b} {ps} {last} n room on h = record {
   behind = stays_then on.each.behind (parameter_behind e h);
-  none = unless_map e _ _ (λ (l : NoParameter d). no_window is (λ v f u.
+  none = unless_map e _ _ (λ (l : NoParameter d). no_window (λ v f u.
       let x = next_of on (omega (arith, room)) f in
       let text = all_behind (λ y. HasText y.0 y.1) (map parameter_of ps) (x.next ∷ x.rest) (subst HaveTexts x.same u) in
       l.none x.next x.place (subst (λ (m : List ℕ). OneOf m d.index x.next x.place) (sym on.each.behind.message) x.one) text.0)) (parameter_none e h);
 }
 
 -- a key is not above the last one
-pub on_order : {old d b : Reading} {ps : List Parameter} {last : Option ℕ} {end : ℕ} {x : Numbered ParameterValue} (e : DecodeError) (n : ℕ)
-    → end ≡ old.index + n → d.index + 4 ≤ end → ParametersOn old ps last d → TookField d Parameters (x ∷ []) b → (IsAbove last x.0 → ⊥)
+pub on_order : {old d b : Reading} {ps : List Parameter} {last : Option ℕ} {x : Numbered ParameterValue} (e : DecodeError) (n : ℕ)
+    → d.index + 4 ≤ old.index + n → ParametersOn old ps last d → TookField d Parameters (x ∷ []) b → (IsAbove last x.0 → ⊥)
     → RefusedWindow e old n (Parameters ∷ []) texts b
-on_order {old} {d} {b} {ps} {last} {end} {x} e n is room on f fails = record {
+on_order {old} {d} {b} {ps} {last} {x} e n room on f fails = record {
   behind = stays_then on.each.behind (one_behind f);
-  none = unless_all e (no_window is (λ v g u.
+  none = unless_all e (no_window (λ v g u.
       let y = next_of on (omega (arith, room)) g in
       let same : y.next ≡ x = (one_once y.one (one_here on f)).0 in
       let whole : v ≡ map parameter_of ps ++ x ∷ y.rest = y.same ∙ ap (λ (z : Numbered ParameterValue). map parameter_of ps ++ z ∷ y.rest) same in
@@ -207,28 +206,27 @@ on_order {old} {d} {b} {ps} {last} {end} {x} e n is room on f fails = record {
 }
 
 -- a parameter ends behind the record
-pub on_passed : {old d b : Reading} {ps : List Parameter} {last : Option ℕ} {end : ℕ} {x : Numbered ParameterValue} (e : DecodeError) (n : ℕ)
-    → end ≡ old.index + n → d.index + 4 ≤ end → ParametersOn old ps last d → TookField d Parameters (x ∷ []) b → end < b.index
+pub on_passed : {old d b : Reading} {ps : List Parameter} {last : Option ℕ} {x : Numbered ParameterValue} (e : DecodeError) (n : ℕ)
+    → d.index + 4 ≤ old.index + n → ParametersOn old ps last d → TookField d Parameters (x ∷ []) b → old.index + n < b.index
     → RefusedWindow e old n (Parameters ∷ []) texts b
-on_passed {old} {d} {b} {ps} {last} {end} {x} e n is room on f past = record {
+on_passed {old} {d} {b} {ps} {last} {x} e n room on f past = record {
   behind = stays_then on.each.behind (one_behind f);
-  none = unless_all e (no_window is (λ v g u.
+  none = unless_all e (no_window (λ v g u.
       let y = next_of on (omega (arith, room)) g in
       omega (arith, (one_once y.one (one_here on f)).1, y.before, past)));
 }
 
 -- or fewer than four octets are left
-pub on_done : {old d : Reading} {ps : List Parameter} {last : Option ℕ} {end : ℕ} (n : ℕ) → Given old n → end ≡ old.index + n → d.index ≤ end
-    → end < d.index + 4 → ParametersOn old ps last d → TookWindow old n (Parameters ∷ []) texts (map parameter_of ps, tt) d
-on_done {old} {d} {ps} {last} {end} n g is le short on = record {
+pub on_done : {old d : Reading} {ps : List Parameter} {last : Option ℕ} (n : ℕ) → Given old n → d.index ≤ old.index + n
+    → old.index + n < d.index + 4 → ParametersOn old ps last d → TookWindow old n (Parameters ∷ []) texts (map parameter_of ps, tt) d
+on_done {old} {d} {ps} {last} n g le short on = record {
   behind = on.each.behind;
   here = λ same.
       let f : Field old.message old.index Parameters (map parameter_of ps) (old.index + n) =
       subst (λ (q : ℕ). Field old.message old.index Parameters (map parameter_of ps) q) same (on_taken on).field in
       record { octets = g.octets; short = g.short; within = (field_inside f).1; stands = (old.index + n, f, refl); holds = on.texts };
-  elsewhere = λ ne. no_window is (λ v f u.
-      let lt : d.index < end = omega (arith, le, is, ne) in
-      let x = next_of on lt f in
+  elsewhere = λ ne. no_window (λ v f u.
+      let x = next_of on (omega (arith, le, ne)) f in
       omega (arith, one_long x.one, x.before, short));
 }
 

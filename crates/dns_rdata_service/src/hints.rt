@@ -3,6 +3,7 @@
 ghost use Rattle.std.specs.Prelude.{◌≡◌, ◌+◌, ◌*◌, ◌<◌, ◌≤◌, ◌^◌, ◌++◌, ℕ, List, [], IfSome, IsTrue, length, map, nat_le};
 ghost use Rattle.std.proofs.Common.{lit≤};
 ghost use Rattle.std.specs.Cmp.Lexicographic.{slice_cmp};
+ghost use Rattle.std.specs.Ordering.{nat_cmp};
 ghost use Rattle.std.specs.List.{AllByRecursion};
 ghost use Rattle.std.specs.declared.cmp.Ordering.TheVariants.{Equal};
 ghost use Rattle.dns_rdata_service.specs.Fronts.{OrderFirst, behind_length, joined};
@@ -106,7 +107,7 @@ impl Address for AAAA {
 /// The order of two lists, address by address.
 #[inline]
 pub(crate) fn hints_cmp<T: Address>(a: &[T], b: &[T]) -> Ordering
-    ensures { result ≡ slice_cmp (octets_order T.octets) a.now b.now }
+    ensures { result ≡ slice_cmp (slice_cmp nat_cmp) (map T.octets a.now) (map T.octets b.now) }
 {
     let shorter = a.len().min(b.len());
     for i in 0..shorter {

@@ -53,6 +53,7 @@ impl BinEncodable for Mandatory {
     ghost emits = { λ x r old new. EmitsValue (mandatory_value x) r old new };
 
     /// Appends the keys' numbers. None are refused by [`Message`](ProtoError::Message).
+    #[tactic(auto, using(crate::proofs::ValueEmits::keys_emit))]
     fn emit(&self, encoder: &mut BinEncoder<'_>) -> Result<(), ProtoError> {
         if self.0.len() == 0 {
             return Err(ProtoError::Message("no mandatory keys"));

@@ -45,6 +45,7 @@ impl BinEncodable for Unknown {
 
 // Appends the octets of a value that is octets.
 #[inline]
+#[tactic(auto, using(crate::proofs::EachEmits::rest_emits, crate::proofs::EachEmits::rest_extends))]
 pub(super) fn emit_octets(octets: &[u8], encoder: &mut BinEncoder<'_>) -> Result<(), ProtoError>
     ensures emits { EmitsValue (Opaque octets.now) result encoder.old encoder.new }
     ensures extends { Extends encoder.old encoder.new }
