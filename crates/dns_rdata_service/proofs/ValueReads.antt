@@ -6,14 +6,16 @@ use Rattle.std.specs.Prelude.{IsUtf8}
 use Rattle.std.proofs.lemmas.List.{length-append, length-drop, map-id}
 use Rattle.dns_types.specs.declared.error.DecodeError.{DecodeError}
 use Rattle.dns_fields.specs.Fields.{Text, Field}
-use Rattle.dns_fields.specs.Pieces.{string, ParameterValue, Form, form_of}
+use Rattle.dns_fields.specs.Pieces.{string, ParameterValue, Form, Keys, Names, form_of}
 use Rattle.dns_names_wire.specs.State.{Reading}
 use Rattle.dns_names_wire.specs.Words.{TookField, StaysBehind, UnlessMemory, LacksOctets, LacksText}
 use Rattle.dns_names_wire.proofs.FieldReads.{unless_map}
 use Rattle.dns_rdata_base.specs.Numbered.{NumberedAt}
 use Rattle.dns_rdata_service.specs.SvcParamKey.{key_number, key_of}
-use Rattle.dns_rdata_service.specs.SvcParamValue.{AreGiven, ToEnd, MandatoryAt, AlpnAt, CutName, WrongName, IsValueRefusal}
+use Rattle.dns_rdata_service.specs.SvcParamValue.{mandatory_value, alpn_value, AreGiven, ToEnd, MandatoryAt, AlpnAt, CutName, WrongName, IsValueRefusal}
 use Rattle.dns_rdata_service.specs.declared.svcb.key.SvcParamKey.{SvcParamKey}
+use Rattle.dns_rdata_service.specs.declared.svcb.mandatory.Mandatory.{Mandatory as MandatoryKeys}
+use Rattle.dns_rdata_service.specs.declared.svcb.alpn.Alpn.{Alpn as Protocols}
 use Rattle.dns_rdata_service.specs.Hints.{StandEach}
 use Rattle.dns_rdata_service.proofs.EachReads.{EachOn, AreSplit, each_split, to_end}
 use Rattle.dns_rdata_service.proofs.Splits.{at_split, octet_split, length_numbers}
@@ -68,6 +70,10 @@ keys_odd {old} {d} {keys} on some lacks =
       length_numbers (map key_number keys),
       l,
     )
+
+pub keys_refused : {old new : Reading} (e : DecodeError) → StaysBehind old new → IsValueRefusal Keys (drop old.index old.message) e
+    → StaysBehind old new × UnlessMemory e ((x : MandatoryKeys) (q : ℕ) → MandatoryAt old.message old.index x q → ⊥)
+keys_refused {old} {new} e = refused_by Keys mandatory_value MandatoryAt old new e (λ x. refl) (λ m p x q s. s.0)
 
 -- ---- names of protocols
 
@@ -129,3 +135,7 @@ names_wrong {old} {d} {b} {names} {s} on f wrong =
           ∙ ap (λ (x : List ℕ). flat_map string names ++ x) (text_left on f);
       wrong = wrong;
     }
+
+pub names_refused : {old new : Reading} (e : DecodeError) → StaysBehind old new → IsValueRefusal Names (drop old.index old.message) e
+    → StaysBehind old new × UnlessMemory e ((x : Protocols) (q : ℕ) → AlpnAt old.message old.index x q → ⊥)
+names_refused {old} {new} e = refused_by Names alpn_value AlpnAt old new e (λ x. refl) (λ m p x q s. s)

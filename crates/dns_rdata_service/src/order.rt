@@ -107,6 +107,7 @@ fn value_order(a: &SvcParamValue, b: &SvcParamValue) -> Option<Ordering>
 
 // The order of two ports behind their length.
 #[inline]
+#[tactic(auto, using(crate::proofs::SvcbFronts::port_first))]
 fn port_order(a: u16, b: u16) -> Ordering
     ensures order { OrderFirst result (sized (Port a)) (sized (Port b)) }
     ensures alike { result ≡ Equal → a ≡ b }

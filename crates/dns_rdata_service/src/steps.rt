@@ -157,6 +157,7 @@ fn pair_head<'a>(pair: &'a (SvcParamKey, SvcParamValue), head: &mut Head) -> Tai
 }
 
 // The head of the parameter of this number.
+#[tactic(auto, using(crate::proofs::PieceSteps::fits_at))]
 fn head_step<'a>(
     parameters: &'a [(SvcParamKey, SvcParamValue)],
     part: usize,

@@ -57,6 +57,7 @@ impl<T: BinEncodable> BinEncodable for IpHint<T> {
 
 // Appends values one behind the other.
 #[inline]
+#[tactic(auto, using(crate::proofs::EachEmits::emits_refused, crate::proofs::EachEmits::extends_on))]
 pub(super) fn emit_each<T: BinEncodable>(
     items: &[T],
     encoder: &mut BinEncoder<'_>,

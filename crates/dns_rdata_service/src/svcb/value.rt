@@ -140,6 +140,7 @@ impl BinEncodable for SvcParamValue {
     /// Appends the value's length in two octets, and its octets. No keys or protocols, and a protocol of more than 255
     /// octets are refused by [`Message`](ProtoError::Message); a value of more than 65535 octets has no room in any
     /// message.
+    #[tactic(auto, using(crate::proofs::ValueEmits::place_refused, crate::proofs::ValueEmits::sized_refused))]
     fn emit(&self, encoder: &mut BinEncoder<'_>) -> Result<(), ProtoError> {
         let place = encoder.place()?;
         self.emit_octets(encoder)?;
