@@ -40,9 +40,12 @@ pub appended_then : {w b n : Writing} {s t : List ℕ} → AppendedOctets w s b 
 appended_then {w} {b} {n} {s} {t} f g = record
     { keeps = keeps_then f.keeps g.keeps; octets = g.octets ∙ ap (λ (l : List ℕ). l ++ t) f.octets ∙ append_assoc w.octets s t }
 
-pub extends_behind : {w b n : Writing} {s : List ℕ} → AppendedOctets w s b → Extends b n → Extends w n
-extends_behind {w} {b} {n} {s} f g = record
-    { keeps = keeps_then f.keeps g.keeps; tail = s ++ g.tail; octets = g.octets ∙ ap (λ (l : List ℕ). l ++ g.tail) f.octets ∙ append_assoc w.octets s g.tail }
+pub extends_on : {a b c : Writing} → Extends a b → Extends b c → Extends a c
+extends_on {a} {b} {c} f g = record {
+  keeps = keeps_then f.keeps g.keeps;
+  tail = f.tail ++ g.tail;
+  octets = g.octets ∙ ap (λ (l : List ℕ). l ++ g.tail) f.octets ∙ append_assoc a.octets f.tail g.tail;
+}
 
 -- what is in front is refused, or what is behind
 pub stopped_first : {e : ProtoError} {w n : Writing} {a b : Bool} {s : List ℕ} (t : List ℕ) → (a ≡ false → b ≡ false) → StoppedOctets e w a s n
@@ -53,7 +56,7 @@ pub stopped_then : {e : ProtoError} {w b n : Writing} {x y : Bool} {s t : List �
     → StoppedOctets e w y (s ++ t) n
 stopped_then {e} {w} {b} {n} {s = s} {t = t} f a h =
     record {
-      extends = extends_behind a h.extends;
+      extends = extends_on (record { keeps = a.keeps; tail = s; octets = a.octets }) h.extends;
       why =
           because_map e _ _ _ _ (λ r. omega (arith, r, a.keeps.limit, ap length a.octets, length-append w.octets s, length-append s t)) f h.why;
     }
@@ -141,11 +144,3 @@ octets_extend P test s (Err e) old new h = h.extends
 
 pub rest_extends : (s : List ℕ) (r : Result (Unit {0}) ProtoError) (old new : Writing) → EmitsField Rest s r old new → Extends old new
 rest_extends s r old new h = octets_extend (Unit {0}) true s r old new (rest_emits s r old new h)
-
-pub extends_on : {a b c : Writing} → Extends a b → Extends b c → Extends a c
-extends_on {a} {b} {c} f g = record {
-  keeps = keeps_then f.keeps g.keeps;
-  tail = f.tail ++ g.tail;
-  octets = g.octets
-      ∙ ap (λ (l : List ℕ). l ++ g.tail) f.octets ∙ append_assoc a.octets f.tail g.tail;
-}

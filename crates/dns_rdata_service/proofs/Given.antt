@@ -43,17 +43,8 @@ pub map_back : {X Y : Type 0} (f : X → Y) (g : Y → X) → ((x : X) → x ≡
 map_back f g h [] = refl
 map_back f g h (x ∷ xs) = ap (λ y. y ∷ xs) (h x) ∙ ap (λ ys. g (f x) ∷ ys) (map_back f g h xs)
 
-a_back : (x : A) → x ≡ a_of (a_octets x)
-a_back x = refl
-
-aaaa_back : (x : AAAA) → x ≡ aaaa_of (aaaa_octets x)
-aaaa_back x = ap (λ (s : List ℕ). record { 0 = record { segments = s } }) (sym (segments_of-octets_of x.0.segments))
-
-pub a_list_back : (xs : List A) → xs ≡ map a_of (map a_octets xs)
-a_list_back = map_back a_octets a_of a_back
-
 pub aaaa_list_back : (xs : List AAAA) → xs ≡ map aaaa_of (map aaaa_octets xs)
-aaaa_list_back = map_back aaaa_octets aaaa_of aaaa_back
+aaaa_list_back = map_back aaaa_octets aaaa_of (λ x. ap (λ (s : List ℕ). record { 0 = record { segments = s } }) (sym (segments_of-octets_of x.0.segments)))
 
 -- the numbers below 8 are those of keys with forms
 above_named : (n : ℕ) → 8 ≤ key_variant (key_of n) → 8 ≤ n
@@ -73,7 +64,7 @@ pub plain_value : (n : ℕ) (body : List ℕ) (x : Other) → IsPlainKey n → b
 plain_value n body x p e = record { held = (sym p.form, tt, e); given = rw (p.other, p.no_path) refl; text = λ is. absurd (p.no_text is) }
 
 pub hint4_back : (x : IpHint A) → x ≡ record { 0 = map a_of (map a_octets x.0) }
-hint4_back x = ap (λ (as' : List A). record { 0 = as' }) (a_list_back x.0)
+hint4_back x = ap (λ (as' : List A). record { 0 = as' }) (map_back a_octets a_of (λ a. refl) x.0)
 
 pub hint6_back : (x : IpHint AAAA) → x ≡ record { 0 = map aaaa_of (map aaaa_octets x.0) }
 hint6_back x = ap (λ (as' : List AAAA). record { 0 = as' }) (aaaa_list_back x.0)

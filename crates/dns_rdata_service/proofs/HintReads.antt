@@ -36,14 +36,10 @@ are_groups w octets m = each_split octets (λ s. s) (λ s. length s ≡ w) (Grou
     (λ p x q s. (s.1.is.0, subst (λ (e : ℕ). At m p (octets x) e) s.2 s.1.is.1))
 
 -- w octets stand wherever so many are left
-pub record GroupHere (w : ℕ) (m : List ℕ) (p : ℕ) : Type 0 where
-  pub size : length (take w (drop p m)) ≡ w
-  pub at : At m p (take w (drop p m)) (p + w)
-
-group_here : (w : ℕ) (m : List ℕ) (p : ℕ) → p + w ≤ length m → GroupHere w m p
+group_here : (w : ℕ) (m : List ℕ) (p : ℕ) → p + w ≤ length m → (length (take w (drop p m)) ≡ w) × At m p (take w (drop p m)) (p + w)
 group_here w m p inside =
     let n : length (take w (drop p m)) ≡ w = omega (arith, length-take w (drop p m), length-drop p m) in
-    record { size = n; at = record { ends = omega (arith, n); within = inside; same = ap (λ (k : ℕ). take k (drop p m)) n } }
+    (n, record { ends = omega (arith, n); within = inside; same = ap (λ (k : ℕ). take k (drop p m)) n })
 
 -- whole groups leave no octet
 no_stop : {T : Type 0} (w : ℕ) (octets : T → List ℕ) (m : List ℕ) → ((k : ℕ) → w * k < length m → w * k + w ≤ length m)
@@ -61,9 +57,9 @@ no_stop w octets m room of all h =
     ) in
     let inside : h.place + w ≤ length m = omega (arith, place, room count (omega (arith, place, h.before))) in
     let here = group_here w m h.place inside in
-    let x = of (take w (drop h.place m)) here.size (AreOctets-at m h.place (take w (drop h.place m)) (h.place + w) all here.at) in
+    let x = of (take w (drop h.place m)) here.0 (AreOctets-at m h.place (take w (drop h.place m)) (h.place + w) all here.1) in
     h.none x.0 (h.place + w) (subst (λ (s : List ℕ). Stands m h.place (Octets w ∷ []) (s, tt) (h.place + w)) (sym x.1)
-    (h.place + w, record { is = (here.size, here.at) }, refl))
+    (h.place + w, record { is = here }, refl))
 
 unless_none : (e : DecodeError) (P : Type 0) → UnlessMemory e P → (P → ⊥) → e ≡ decode.Memory
 unless_none decode.Memory P h n = refl

@@ -150,12 +150,6 @@ svcb_equal a b x y = ap (λ (t : Bool). kind_eq (Number 2) a.svc_priority b.svc_
 
 -- ---- the refusal by a type's number is none of SVCB's
 
-lack_never : (old new : Reading) (k : ℕ) → FirstLack (Number 2 ∷ Name ∷ []) old (decode.UnknownRecordTypeValue k) new → ⊥
-lack_never old new k h = grind arith
-
-head_never : (old new : Reading) (k : ℕ) → FirstLack (Number 2 ∷ Number 2 ∷ []) old (decode.UnknownRecordTypeValue k) new → ⊥
-head_never old new k h = grind arith
-
 form_never : (f : Form) (body : List ℕ) (k : ℕ) → IsFormRefusal f body (decode.UnknownRecordTypeValue k) → ⊥
 form_never Keys body k h = grind arith
 form_never Names body k h = grind arith
@@ -169,13 +163,13 @@ parameters_never : (p n : ℕ) (old new : Reading) (k : ℕ) → IsParametersRef
 parameters_never p n old new k (inl e) = cc e
 parameters_never p n old new k (inr (inl h)) = parameter_never h.between new k h.refused where
   parameter_never : (old new : Reading) (k : ℕ) → IsParameterRefusal old (decode.UnknownRecordTypeValue k) new → ⊥
-  parameter_never old new k (inl h) = head_never old new k h
+  parameter_never old new k (inl h) = grind arith
   parameter_never old new k (inr (inl h)) = let e = h.error in cc e
   parameter_never old new k (inr (inr h)) = key_never h.key h.octets k h.refused
 parameters_never p n old new k (inr (inr h)) = grind arith
 
 pub svcb_never : (n : ℕ) (old new : Reading) (k : ℕ) → IsSvcbRefusal n old (decode.UnknownRecordTypeValue k) new → ⊥
-svcb_never n old new k (inl h) = grind (arith, lack_never old new k)
+svcb_never n old new k (inl h) = grind arith
 svcb_never n old new k (inr (inl h)) = let e = h.error in cc e
 svcb_never n old new k (inr (inr h)) = parameters_never old.index n h.between new k h.refused
 
