@@ -2,7 +2,7 @@
 use Rattle.std.proofs.Common.{◌≡◌, ◌≢◌, ℕ, suc, ◌*◌, ◌<◌, ◌≤◌, ◌^◌, ◌&&◌, true, false, true≢false, List, [], ◌∷◌, ◌++◌, length, drop, map, refl, sym, ap, ◌∙◌, arith}
 use Rattle.std.specs.Prelude.{nat_eq}
 use Rattle.std.specs.Int.{bytes_high_first}
-use Rattle.std.specs.List.{AllByRecursion}
+use Rattle.std.specs.List.{AllByRecursion, flat_map}
 use Rattle.std.specs.FinMap.{nat_cmp-IsAntisymmetric, slice_cmp-IsAntisymmetric}
 use Rattle.std.proofs.lemmas.List.{drop_all, length-map}
 use Rattle.std.proofs.lemmas.Bool.Decides.{Decides-and}
@@ -14,12 +14,12 @@ use Rattle.std.specs.declared.cmp.Ordering.{Ordering}
 use Rattle.std.specs.declared.cmp.Ordering.TheVariants.{Less, Equal, Greater}
 use Rattle.dns_fields.specs.Comparing.{name_eq}
 use Rattle.dns_fields.specs.Equal.{key_eq, parameter_keys, values_eq}
-use Rattle.dns_fields.specs.Pieces.{Port}
+use Rattle.dns_fields.specs.Pieces.{string, Alpn, Opaque, Port}
 use Rattle.dns_fields.specs.Fields.{Number, Name, field_octets}
 use Rattle.dns_fields.specs.Labels.{AreLabels, lowname}
 use Rattle.dns_fields.proofs.Numbers.{number_cmp, length-bytes, same_number}
 use Rattle.dns_pieces.specs.Fronts.{canonical_cmp}
-use Rattle.dns_pieces.proofs.Comparing.{cmp_shared}
+use Rattle.dns_pieces.proofs.Comparing.{cmp_shared, then_kept}
 use Rattle.dns_pieces.proofs.Fronts.{by_fields, field_cmp, front_then}
 use Rattle.dns_rdata_service.proofs.Refusals.{length_groups}
 use Rattle.dns_rdata_service.specs.Fronts.{OrderFirst, joined, behind_length}
@@ -27,7 +27,8 @@ use Rattle.dns_rdata_service.specs.OwnKeys.{value_eq, value_same}
 use Rattle.dns_rdata_service.specs.Parameters.{Parameter, own_parameter}
 use Rattle.dns_rdata_service.specs.Steps.{parameters_from}
 use Rattle.dns_rdata_service.specs.SVCB.{svcb_shape, svcb_fields, svcb_key_shape, svcb_keys}
-use Rattle.dns_rdata_service.specs.SvcParamValue.{value_key, sized}
+use Rattle.dns_rdata_service.specs.SvcParamValue.{value_key, value_of, sized}
+use Rattle.dns_rdata_service.proofs.OwnValues.{value_given}
 use Rattle.dns_rdata_service.specs.declared.svcb.SVCB.{SVCB}
 use Rattle.dns_rdata_service.specs.declared.svcb.value.SvcParamValue.{SvcParamValue}
 
@@ -142,9 +143,29 @@ pub port_first : (o : Ordering) (a b : ℕ) → o ≡ nat_cmp a b → a < 256 ^ 
 port_first o a b e p q =
     rw (e ∙ sym (number_cmp 2 a b p q)) (sized_first (bytes_high_first 2 a) (bytes_high_first 2 b) (omega arith) (omega arith))
 
+-- octets, and then by them
+pub octets_first : (r c : Ordering) (s t : List ℕ) → r ≡ ordering_then c (slice_cmp nat_cmp s t) → c ≡ nat_cmp (length s) (length t) → length s ≤ 65535
+    → length t ≤ 65535 → OrderFirst r (sized (Opaque s)) (sized (Opaque t))
+octets_first r c s t e f h k = rw (e, f) (sized_first s t h k)
+
+pub names_same : (a b : List (List ℕ)) → pointwise (pointwise nat_eq) a b ≡ true → a ≡ b
+names_same a b e = (pointwise_decides (pointwise_decides unsigned_Decides) a b).0 e
+
+-- names of protocols that are the same, or differ in their octets' number
+pub names_alike : (a b : List (List ℕ)) → pointwise (pointwise nat_eq) a b ≡ true → OrderFirst Equal (sized (Alpn a)) (sized (Alpn b))
+names_alike a b e = alike_first Equal (sized (Alpn a)) (sized (Alpn b)) refl (ap (λ l. sized (Alpn l)) (names_same a b e))
+
+pub names_differ : (o : Ordering) (n m : ℕ) (a b : List (List ℕ)) → o ≡ nat_cmp n m → is_ne o ≡ true → n ≡ length (flat_map string a)
+    → m ≡ length (flat_map string b) → n ≤ 65535 → m ≤ 65535 → OrderFirst o (sized (Alpn a)) (sized (Alpn b))
+names_differ o n m a b e ne p q h k =
+    lengths_first o o (slice_cmp nat_cmp (flat_map string a) (flat_map string b)) n m (flat_map string a) (flat_map string b) (then_kept o _ (ne_yes o ne)) e p q refl h k
+
 -- equal values are compared by the same
 pub equal_values : (v w : SvcParamValue) → value_eq v w ≡ true → value_key v ≡ value_key w
 equal_values v w h = (pointwise_decides (pointwise_decides unsigned_Decides) (value_key v) (value_key w)).0 (sym (value_same v w) ∙ h)
+
+pub equal_first : (v w : SvcParamValue) → value_eq v w ≡ true → OrderFirst Equal (sized (value_of v)) (sized (value_of w))
+equal_first v w h = alike_first Equal (sized (value_of v)) (sized (value_of w)) refl (ap sized (value_given v w (equal_values v w h)))
 
 abbrev pub rest_cmp : List Parameter → List Parameter → ℕ → Ordering
 rest_cmp ps qs i = slice_cmp nat_cmp (parameters_from ps i) (parameters_from qs i)

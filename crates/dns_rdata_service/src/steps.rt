@@ -179,6 +179,7 @@ fn head_step<'a>(
 }
 
 // An item of the parameter of this number, or the head of the next one.
+#[tactic(auto, using(crate::proofs::PieceSteps::past_items))]
 fn item_step<'a>(
     parameters: &'a [(SvcParamKey, SvcParamValue)],
     part: usize,

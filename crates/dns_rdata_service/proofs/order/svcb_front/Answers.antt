@@ -10,9 +10,6 @@ returns-then-is_ne-clause-order c =
     parameters_behind c.args.a.now c.args.b.now c.name_behind-order.result c.name_behind-order.ensures.labels
     (also _ _ _ c.name_behind-order.ensures.order c.two_behind-priority.ensures)
 
-pub returns-then-is_ne-clause-equal : goal.returns-then-is_ne-clause-equal
-returns-then-is_ne-clause-equal c = λ tie. absurd (ne_yes _ (sym c.is_ne.ensures ∙ c.if-is_ne.true) tie)
-
 pub returns-clause-order : goal.returns-clause-order
 returns-clause-order c =
     parameters_behind c.args.a.now c.args.b.now c.name_behind-order.result c.name_behind-order.ensures.labels

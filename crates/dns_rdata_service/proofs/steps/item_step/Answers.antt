@@ -2,9 +2,6 @@ use Rattle.std.proofs.Common.{arith}
 use Rattle.dns_rdata_service.proofs.PieceSteps.{emittable_at, item_piece, after_items, past_items}
 use Rattle.dns_rdata_service.proofs.steps.item_step.Goals as goal
 
-pub returns-then-part-parameters : goal.returns-then-part-parameters
-returns-then-part-parameters c = past_items _ _ _ _ c.if-part-parameters.true c.requires.empty
-
 pub put_item-requires-clause-emittable : goal.put_item-requires-clause-emittable
 put_item-requires-clause-emittable c = rw (← c.index-parameters-part.is) (emittable_at c.args.parameters.now c.args.part c.index-parameters-part.result c.requires.emittable (omega (arith, c.if-part-parameters.false)) c.index-parameters-part.is)
 

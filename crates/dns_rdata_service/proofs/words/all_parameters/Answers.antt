@@ -17,11 +17,6 @@ loop-word-preserved g c =
     rw (map-append g.S.AsStr.text c.loop-word.yielded (c.in-Some.word ∷ []), c.in_ok-push.ensures.ok)
     (zip_more IsParameterWord _ _ _ _ c.loop-word.invariant (rw (← c.as_str.ensures) c.in_ok-parameter.ensures.ok))
 
-pub returns-clause-reads : goal.returns-clause-reads
-returns-clause-reads g c =
-    rw (← c.into_iter-word-iterator.ensures.into_iter_gives)
-    (parameters_took _ _ _ _ c.loop-word.yielded_by c.in-None.ensures.steps c.loop-word.invariant)
-
 pub returns-clause-own : goal.returns-clause-own
 returns-clause-own g c =
     rw (← c.into_iter-word-iterator.ensures.into_iter_gives)
