@@ -29,6 +29,10 @@ pub item_got : {X : Type 0} (f : X → List ℕ) (xs : List X) (i : ℕ) (d : X)
 item_got f xs i d s h e =
     drop_more (map f xs) i s (omega (arith, length-map xs f, h)) ∙ ap (λ t. t ∷ drop (i + 1) (map f xs)) (get_or-map f xs i d s h ∙ sym e)
 
+pub item_gives : {X : Type 0} (f : X → List ℕ) (xs : List X) (i : ℕ) (x : X) (s : List ℕ) → i < length xs → x ≡ get_or xs i x → s ≡ f x
+    → drop i (map f xs) ≡ s ∷ drop (i + 1) (map f xs)
+item_gives f xs i x s h is e = item_got f xs i x s h (e ∙ ap f is)
+
 -- ---- parameters
 
 -- a value is what stands in one piece, and its items

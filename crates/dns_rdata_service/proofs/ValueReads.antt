@@ -3,13 +3,14 @@ use Rattle.std.proofs.Common.{◌≡◌, ℕ, ◌%◌, ◌<◌, ◌≤◌, ◌^�
 use Rattle.std.specs.List.{flat_map, AllByRecursion}
 use Rattle.std.specs.Int.{bytes_high_first}
 use Rattle.std.specs.Prelude.{IsUtf8}
-use Rattle.std.proofs.lemmas.List.{length-append, length-drop, map-id}
+use Rattle.std.proofs.lemmas.List.{drop_all, length-append, length-drop, map-id}
 use Rattle.dns_types.specs.declared.error.DecodeError.{DecodeError}
+use Rattle.dns_types.specs.declared.error.DecodeError.TheVariants as decode
 use Rattle.dns_fields.specs.Fields.{Text, Field}
 use Rattle.dns_fields.specs.Pieces.{string, ParameterValue, Form, Keys, Names, form_of}
 use Rattle.dns_names_wire.specs.State.{Reading}
 use Rattle.dns_names_wire.specs.Words.{TookField, StaysBehind, UnlessMemory, LacksOctets, LacksText}
-use Rattle.dns_names_wire.proofs.FieldReads.{unless_map}
+use Rattle.dns_names_wire.proofs.FieldReads.{stays, unless_map}
 use Rattle.dns_rdata_base.specs.Numbered.{NumberedAt}
 use Rattle.dns_rdata_service.specs.SvcParamKey.{key_number, key_of}
 use Rattle.dns_rdata_service.specs.SvcParamValue.{mandatory_value, alpn_value, AreGiven, ToEnd, MandatoryAt, AlpnAt, CutName, WrongName, IsValueRefusal}
@@ -75,6 +76,10 @@ pub keys_refused : {old new : Reading} (e : DecodeError) → StaysBehind old new
     → StaysBehind old new × UnlessMemory e ((x : MandatoryKeys) (q : ℕ) → MandatoryAt old.message old.index x q → ⊥)
 keys_refused {old} {new} e = refused_by Keys mandatory_value MandatoryAt old new e (λ x. refl) (λ m p x q s. s.0)
 
+pub keys_missing : (d : Reading) → length d.message ≤ d.index
+    → StaysBehind d d × UnlessMemory decode.SvcParamMissingValue ((x : MandatoryKeys) (q : ℕ) → MandatoryAt d.message d.index x q → ⊥)
+keys_missing d none = keys_refused decode.SvcParamMissingValue (stays d) (inr (inl (refl, drop_all d.index d.message none)))
+
 -- ---- names of protocols
 
 abbrev pub NameAt : List ℕ → ℕ → List ℕ → ℕ → Type 0
@@ -139,3 +144,7 @@ names_wrong {old} {d} {b} {names} {s} on f wrong =
 pub names_refused : {old new : Reading} (e : DecodeError) → StaysBehind old new → IsValueRefusal Names (drop old.index old.message) e
     → StaysBehind old new × UnlessMemory e ((x : Protocols) (q : ℕ) → AlpnAt old.message old.index x q → ⊥)
 names_refused {old} {new} e = refused_by Names alpn_value AlpnAt old new e (λ x. refl) (λ m p x q s. s)
+
+pub names_missing : (d : Reading) → length d.message ≤ d.index
+    → StaysBehind d d × UnlessMemory decode.SvcParamMissingValue ((x : Protocols) (q : ℕ) → AlpnAt d.message d.index x q → ⊥)
+names_missing d none = names_refused decode.SvcParamMissingValue (stays d) (inr (inl (refl, drop_all d.index d.message none)))

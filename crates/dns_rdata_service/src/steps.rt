@@ -83,7 +83,7 @@ fn key_item<'a>(keys: &'a [SvcParamKey], item: usize, head: &mut Head) -> Option
 }
 
 // The name of this number.
-#[tactic(auto, unfolding(dns_fields::specs::Fields::field_octets))]
+#[tactic(auto, using(crate::proofs::PieceSteps::item_gives), unfolding(dns_fields::specs::Fields::field_octets))]
 fn name_item<'a>(names: &'a [SmallOctets<16>], item: usize, head: &mut Head) -> Option<Tail<'a>>
     requires empty { head.old ≡ [] }
     requires short { list_all (λ s. nat_le (length s) 255) names.now ≡ true }
@@ -98,6 +98,7 @@ fn name_item<'a>(names: &'a [SmallOctets<16>], item: usize, head: &mut Head) -> 
 }
 
 // The address of this number.
+#[tactic(auto, using(crate::proofs::PieceSteps::item_gives))]
 fn hint_item<'a, T: Address>(addresses: &'a [T], item: usize, head: &mut Head) -> Option<Tail<'a>>
     requires empty { head.old ≡ [] }
     ensures item { GivesItem (map T.octets addresses.now) item head.new result }

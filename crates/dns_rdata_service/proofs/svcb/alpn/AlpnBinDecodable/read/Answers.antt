@@ -6,10 +6,6 @@ use Rattle.dns_rdata_service.proofs.Splits.{stays_then}
 use Rattle.dns_rdata_service.proofs.ValueReads.{text_behind, names_cut, names_wrong, names_refused}
 use Rattle.dns_rdata_service.proofs.svcb.alpn.AlpnBinDecodable.read.Goals as goal
 
-pub returns-then-len-eq0-clause-reads : goal.returns-then-len-eq0-clause-reads
-returns-then-len-eq0-clause-reads c =
-    names_refused _ (stays c.args.decoder.now) (inr (inl (refl, drop_all c.args.decoder.now.index c.args.decoder.now.message (omega (arith, c.len.ensures.left)))))
-
 pub returns-in_err-read_character_data-clause-reads : goal.returns-in_err-read_character_data-clause-reads
 returns-in_err-read_character_data-clause-reads c =
     let p = err_from_is_err_and c.from_residual-in_err-read_character_data.result c.from_residual-in_err-read_character_data.ensures.1 in
