@@ -3,6 +3,7 @@ use Rattle.std.proofs.Common.{◌≡◌, ◌≢◌, ℕ, zero, suc, ◌+◌, ◌
 use Rattle.std.proofs.Common.{length, get_or, drop, map, slice_get, refl, sym, ap, ◌∙◌, subst, arith, append_assoc, length-append}
 use Rattle.std.proofs.lemmas.Bool.Decides.{nat_tests}
 use Rattle.std.proofs.lemmas.List.{append-nil, drop_more, drop_all, get_or-map, length-map}
+use Rattle.std.proofs.lemmas.Simd.{map-map}
 use Rattle.std.proofs.lemmas.List.Sums.{AllPass-from_list_all}
 use Rattle.dns_fields.proofs.Sorted.{flat_map_all}
 use Rattle.dns_rdata_service.proofs.Splits.{length_numbers}
@@ -32,6 +33,10 @@ item_got f xs i d s h e =
 pub item_gives : {X : Type 0} (f : X → List ℕ) (xs : List X) (i : ℕ) (x : X) (s : List ℕ) → i < length xs → x ≡ get_or xs i x → s ≡ f x
     → drop i (map f xs) ≡ s ∷ drop (i + 1) (map f xs)
 item_gives f xs i x s h is e = item_got f xs i x s h (e ∙ ap f is)
+
+pub key_gives : (keys : List SvcParamKey) (i : ℕ) (d : SvcParamKey) (s : List ℕ) → i < length keys → s ≡ bytes_high_first 2 (key_number (get_or keys i d))
+    → drop i (map (bytes_high_first 2) (map key_number keys)) ≡ s ∷ drop (i + 1) (map (bytes_high_first 2) (map key_number keys))
+key_gives keys i d s h e = rw (map-map (bytes_high_first 2) key_number keys) (item_got (λ k. bytes_high_first 2 (key_number k)) keys i d s h e)
 
 -- ---- parameters
 

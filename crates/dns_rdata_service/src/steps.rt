@@ -69,7 +69,7 @@ fn put_key<'a>(key: &'a SvcParamKey, head: &mut Head) -> Tail<'a>
 }
 
 // The key of this number.
-#[tactic(auto, unfolding(dns_fields::specs::Fields::field_octets))]
+#[tactic(auto, using(crate::proofs::PieceSteps::key_gives), unfolding(dns_fields::specs::Fields::field_octets))]
 fn key_item<'a>(keys: &'a [SvcParamKey], item: usize, head: &mut Head) -> Option<Tail<'a>>
     requires empty { head.old ≡ [] }
     ensures item { GivesItem (map (bytes_high_first 2) (map key_number keys.now)) item head.new result }
