@@ -1,12 +1,12 @@
 -- Reading parameters one after the other.
 use Rattle.std.proofs.Common.{◌≡◌, inl, inr, ℕ, ◌+◌, ◌<◌, ◌≤◌, List, [], ◌∷◌, ◌++◌, length, drop, map, Option, Some, refl, sym, ap, ◌∙◌, arith, subst}
 use Rattle.std.specs.Int.{bytes_high_first}
-use Rattle.std.proofs.lemmas.List.{length-append, append-nil, length-drop, map_push}
+use Rattle.std.proofs.lemmas.List.{length-append, length-drop, map_push}
 use Rattle.dns_types.specs.declared.error.DecodeError.{DecodeError}
 use Rattle.dns_types.specs.declared.error.DecodeError.TheVariants as decode
 use Rattle.dns_fields.specs.Octets.{At}
 use Rattle.dns_fields.specs.Fields.{Number, Octets, Parameters, Field, Values}
-use Rattle.dns_fields.specs.Pieces.{Numbered, ParameterValue, ParameterHeld, AllHeld, piece, pieces, Rising}
+use Rattle.dns_fields.specs.Pieces.{Numbered, ParameterValue, ParameterHeld, piece, Rising}
 use Rattle.dns_fields.proofs.Numbers.{length-bytes}
 use Rattle.dns_fields.proofs.Pieces.{piece_before, heads_same, first_piece}
 use Rattle.dns_fields.proofs.FieldLaws.{field_inside}

@@ -1,8 +1,7 @@
-use Rattle.std.proofs.Common.{◌∙◌, map, ap, sym, refl, arith}
+use Rattle.std.proofs.Common.{◌∙◌, map, ap, sym}
 use Rattle.std.specs.Cmp.{Equal-is}
 use Rattle.dns_rdata_service.specs.Fronts.{behind_length, joined}
-use Rattle.dns_rdata_service.proofs.FieldOrder.{hints_order}
-use Rattle.dns_rdata_service.proofs.SvcbFronts.{alike_first, items_first, lists_tie, then_ties}
+use Rattle.dns_rdata_service.proofs.SvcbFronts.{alike_first, items_first, lists_tie}
 use Rattle.dns_rdata_service.proofs.hints.hints_order.Goals as goal
 
 pub returns-then-is_eq-clause-order : goal.returns-then-is_eq-clause-order

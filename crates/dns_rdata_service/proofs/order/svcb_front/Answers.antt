@@ -2,7 +2,7 @@ use Rattle.std.proofs.Common.{◌∙◌, ap, sym, arith}
 use Rattle.std.specs.Ordering.{ordering_then}
 use Rattle.std.specs.declared.cmp.Ordering.{Ordering}
 use Rattle.dns_pieces.proofs.Fronts.{also}
-use Rattle.dns_rdata_service.proofs.SvcbFronts.{all_alike, ne_no, ne_yes, none_behind, parameters_behind, rest_cmp}
+use Rattle.dns_rdata_service.proofs.SvcbFronts.{all_alike, ne_no, none_behind, parameters_behind, rest_cmp}
 use Rattle.dns_rdata_service.proofs.order.svcb_front.Goals as goal
 
 pub returns-then-is_ne-clause-order : goal.returns-then-is_ne-clause-order

@@ -1,5 +1,5 @@
 use Rattle.std.proofs.Common.{arith}
-use Rattle.dns_rdata_service.proofs.PieceSteps.{emittable_at, item_piece, after_items, past_items}
+use Rattle.dns_rdata_service.proofs.PieceSteps.{emittable_at, item_piece, after_items}
 use Rattle.dns_rdata_service.proofs.steps.item_step.Goals as goal
 
 pub put_item-requires-clause-emittable : goal.put_item-requires-clause-emittable

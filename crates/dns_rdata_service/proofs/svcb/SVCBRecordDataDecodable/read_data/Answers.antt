@@ -1,4 +1,4 @@
-use Rattle.std.proofs.Common.{◌≡◌, ◌+◌, ◌-◌, arith}
+use Rattle.std.proofs.Common.{arith}
 use Rattle.std.proofs.lemmas.Result.{err_from_is_err_and}
 use Rattle.dns_rdata_service.proofs.HeadReads.{svcb_took, svcb_refused, svcb_passed}
 use Rattle.dns_rdata_service.proofs.svcb.SVCBRecordDataDecodable.read_data.Goals as goal

@@ -1,7 +1,5 @@
 use Rattle.std.proofs.Common.{inl, inr, refl, arith}
-use Rattle.std.proofs.lemmas.List.{drop_all}
 use Rattle.std.proofs.lemmas.Result.{err_from_is_err_and}
-use Rattle.dns_names_wire.proofs.FieldReads.{stays}
 use Rattle.dns_rdata_service.proofs.Splits.{stays_then}
 use Rattle.dns_rdata_service.proofs.ValueReads.{text_behind, names_cut, names_wrong, names_refused}
 use Rattle.dns_rdata_service.proofs.svcb.alpn.AlpnBinDecodable.read.Goals as goal

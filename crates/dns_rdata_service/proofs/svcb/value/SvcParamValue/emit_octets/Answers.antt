@@ -1,5 +1,4 @@
 use Rattle.dns_rdata_service.specs.SvcParamValue.{a_octets, aaaa_octets}
-use Rattle.dns_rdata_service.proofs.EachEmits.{number_emits}
 use Rattle.dns_rdata_service.proofs.HintReads.{groups_emit}
 use Rattle.dns_rdata_service.proofs.svcb.value.SvcParamValue.emit_octets.Goals as goal
 
