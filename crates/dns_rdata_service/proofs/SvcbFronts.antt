@@ -7,9 +7,9 @@ use Rattle.std.specs.FinMap.{nat_cmp-IsAntisymmetric, slice_cmp-IsAntisymmetric}
 use Rattle.std.proofs.lemmas.List.{drop_all, length-map}
 use Rattle.std.proofs.lemmas.Bool.Decides.{Decides-and}
 use Rattle.std.proofs.Math.Nat.{mul-le-mul_left, mul_comm}
-use Rattle.std.specs.Cmp.{ranks, nat_cmp_is, unsigned_Decides, booleans_Decides}
+use Rattle.std.specs.Cmp.{Equal-is, ranks, nat_cmp_is, unsigned_Decides, booleans_Decides}
 use Rattle.std.specs.Cmp.Lexicographic.{pointwise, slice_cmp, pointwise_decides}
-use Rattle.std.specs.Ordering.{MatchOrdering, nat_cmp, ordering_then, is_ne}
+use Rattle.std.specs.Ordering.{MatchOrdering, nat_cmp, ordering_then, is_eq, is_ne}
 use Rattle.std.specs.declared.cmp.Ordering.{Ordering}
 use Rattle.std.specs.declared.cmp.Ordering.TheVariants.{Less, Equal, Greater}
 use Rattle.dns_fields.specs.Comparing.{name_eq}
@@ -136,6 +136,12 @@ items_first octets_of k xs ys r c o some h g e f i few less =
   where
     size : (zs : List _) → AllByRecursion (λ s. length s ≡ k) (map octets_of zs) → length zs * k ≡ length (joined (map octets_of zs))
     size zs h = mul_comm (length zs) k ∙ ap (λ n. k * n) (sym (length-map zs octets_of)) ∙ sym (length_groups k (map octets_of zs) h)
+
+-- or they are the same
+pub items_alike : {X : Type 0} (octets_of : X → List ℕ) (xs ys : List X) (o : Ordering) → o ≡ slice_cmp (slice_cmp nat_cmp) (map octets_of xs) (map octets_of ys)
+    → is_eq o ≡ true → OrderFirst o (behind_length (joined (map octets_of xs))) (behind_length (joined (map octets_of ys)))
+items_alike octets_of xs ys o e h =
+    let tie = (Equal-is o).0 h in alike_first o _ _ tie (ap (λ l. behind_length (joined l)) (lists_tie o (map octets_of xs) (map octets_of ys) e tie))
 
 -- ---- parameters
 

@@ -121,7 +121,7 @@ pub(crate) fn hints_cmp<T: Address>(a: &[T], b: &[T]) -> Ordering
 
 /// The order of two lists behind their length in octets.
 #[inline]
-#[tactic(auto, using(crate::proofs::SvcbFronts::lists_tie, crate::proofs::SvcbFronts::then_ties))]
+#[tactic(auto, using(crate::proofs::SvcbFronts::items_alike, crate::proofs::SvcbFronts::lists_tie, crate::proofs::SvcbFronts::then_ties))]
 pub(crate) fn hints_order<T: Address>(a: &[T], b: &[T]) -> Option<Ordering>
     ensures order { IfSome result (λ o. OrderFirst o (behind_length (joined (map T.octets a.now))) (behind_length (joined (map T.octets b.now)))) }
     ensures alike { IfSome result (λ o. o ≡ Equal → map T.octets a.now ≡ map T.octets b.now) }

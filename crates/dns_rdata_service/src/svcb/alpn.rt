@@ -75,6 +75,7 @@ pub(super) fn is_text(octets: &[u8]) -> bool
 }
 
 // How many strings begin in the octets. Where strings fill the octets, this is their number.
+#[tactic(auto, using(dns_rdata_base::proofs::TextLists::counts_all))]
 fn strings_in(octets: &[u8]) -> usize
     ensures { (names : List (List ℕ)) → Field octets.now 0 Texts names (length octets.now) → result ≡ length names }
 {

@@ -4,13 +4,6 @@ use Rattle.dns_rdata_service.specs.Fronts.{behind_length, joined}
 use Rattle.dns_rdata_service.proofs.SvcbFronts.{alike_first, items_first, lists_tie}
 use Rattle.dns_rdata_service.proofs.hints.hints_order.Goals as goal
 
-pub returns-then-is_eq-clause-order : goal.returns-then-is_eq-clause-order
-returns-then-is_eq-clause-order g c =
-    let octets = g.T.Address.octets in
-    let tie = (Equal-is _).0 (sym c.is_eq.ensures ∙ c.if-is_eq.true) in
-    alike_first _ _ _ tie
-    (ap (λ l. behind_length (joined l)) {x = map octets c.args.a.now} {y = map octets c.args.b.now} (lists_tie _ _ _ c.hints_cmp-order.ensures tie))
-
 pub returns-clause-order : goal.returns-clause-order
 returns-clause-order g c =
     items_first g.T.Address.octets g.T.Address.width c.args.a.now c.args.b.now _ _ _ g.met.T.Address.few.0 c.have_width.ensures c.have_width-2.ensures

@@ -8,6 +8,3 @@ loop-place-preserved c = record {
   small = omega (arith, c.type_inv.octets c.loop-place.place, c.loop-place-test.true);
   counts = counts_more c.loop-place-test.true c.loop-place-test.true c.loop-place.invariant.counts;
 }
-
-pub returns : goal.returns
-returns c = counts_all c.loop-place.invariant.counts (inl c.loop-place-test.false)
