@@ -1,7 +1,4 @@
-use Rattle.std.proofs.Common.{◌∙◌, map, ap, sym}
-use Rattle.std.specs.Cmp.{Equal-is}
-use Rattle.dns_rdata_service.specs.Fronts.{behind_length, joined}
-use Rattle.dns_rdata_service.proofs.SvcbFronts.{alike_first, items_first, lists_tie}
+use Rattle.dns_rdata_service.proofs.SvcbFronts.{items_first}
 use Rattle.dns_rdata_service.proofs.hints.hints_order.Goals as goal
 
 pub returns-clause-order : goal.returns-clause-order

@@ -1,5 +1,5 @@
-use Rattle.std.proofs.Common.{inl, arith}
-use Rattle.dns_rdata_base.proofs.TextLists.{counts_more, counts_all}
+use Rattle.std.proofs.Common.{arith}
+use Rattle.dns_rdata_base.proofs.TextLists.{counts_more}
 use Rattle.dns_rdata_service.proofs.svcb.alpn.strings_in.Goals as goal
 
 pub loop-place-preserved : goal.loop-place-preserved
