@@ -1,9 +1,9 @@
 -- Values that are emitted one after the other.
-use Rattle.std.proofs.Common.{◌≡◌, ◌≢◌, Bool, true, false, ◌&&◌, nat_le, ℕ, ◌+◌, ◌<◌, inl, inr, ◌^◌, List, [], ◌∷◌, ◌++◌, length, map}
+use Rattle.std.proofs.Common.{◌≡◌, Bool, true, false, ◌&&◌, nat_le, ℕ, ◌+◌, ◌<◌, inl, inr, ◌^◌, List, [], ◌∷◌, ◌++◌, length, map}
 use Rattle.std.proofs.Common.{take, drop, get_or, refl, sym, ap, ◌∙◌, arith, subst, append_assoc, Result, Ok, Err}
 use Rattle.std.specs.List.{flat_map, list_all, AllByRecursion}
 use Rattle.std.specs.Int.{bytes_high_first}
-use Rattle.dns_fields.specs.Pieces.{string, is_some}
+use Rattle.dns_fields.specs.Pieces.{string}
 use Rattle.std.proofs.lemmas.List.{length-append, append-nil, drop_more, take-append-drop, take_more}
 use Rattle.dns_types.specs.declared.error.ProtoError.{ProtoError}
 use Rattle.dns_fields.specs.Fields.{Number, Text, Rest, field_octets}
@@ -40,9 +40,12 @@ pub appended_then : {w b n : Writing} {s t : List ℕ} → AppendedOctets w s b 
 appended_then {w} {b} {n} {s} {t} f g = record
     { keeps = keeps_then f.keeps g.keeps; octets = g.octets ∙ ap (λ (l : List ℕ). l ++ t) f.octets ∙ append_assoc w.octets s t }
 
-pub extends_behind : {w b n : Writing} {s : List ℕ} → AppendedOctets w s b → Extends b n → Extends w n
-extends_behind {w} {b} {n} {s} f g = record
-    { keeps = keeps_then f.keeps g.keeps; tail = s ++ g.tail; octets = g.octets ∙ ap (λ (l : List ℕ). l ++ g.tail) f.octets ∙ append_assoc w.octets s g.tail }
+pub extends_on : {a b c : Writing} → Extends a b → Extends b c → Extends a c
+extends_on {a} {b} {c} f g = record {
+  keeps = keeps_then f.keeps g.keeps;
+  tail = f.tail ++ g.tail;
+  octets = g.octets ∙ ap (λ (l : List ℕ). l ++ g.tail) f.octets ∙ append_assoc a.octets f.tail g.tail;
+}
 
 -- what is in front is refused, or what is behind
 pub stopped_first : {e : ProtoError} {w n : Writing} {a b : Bool} {s : List ℕ} (t : List ℕ) → (a ≡ false → b ≡ false) → StoppedOctets e w a s n
@@ -53,7 +56,7 @@ pub stopped_then : {e : ProtoError} {w b n : Writing} {x y : Bool} {s t : List �
     → StoppedOctets e w y (s ++ t) n
 stopped_then {e} {w} {b} {n} {s = s} {t = t} f a h =
     record {
-      extends = extends_behind a h.extends;
+      extends = extends_on (record { keeps = a.keeps; tail = s; octets = a.octets }) h.extends;
       why =
           because_map e _ _ _ _ (λ r. omega (arith, r, a.keeps.limit, ap length a.octets, length-append w.octets s, length-append s t)) f h.why;
     }
@@ -65,25 +68,26 @@ pub and_second : (a b : Bool) → b ≡ false → a && b ≡ false
 and_second true b e = e
 and_second false b e = refl
 
-pub emits_all : {T : Type 0} (E : T → Result (Unit {0}) ProtoError → Writing → Writing → Type 0) (F : T → Type 0) (test : T → Bool) (f : T → List ℕ)
-    → ((x : T) (r : Result (Unit {0}) ProtoError) (w n : Writing) → E x r w n → EmitsOctets (F x) (test x) (f x) r w n)
-    → (xs : List T) (r : Result (Unit {0}) ProtoError) (w n : Writing) → EmitsEach E xs r w n
-    → EmitsOctets (AllByRecursion F xs) (list_all test xs) (flat_map f xs) r w n
-emits_all E F test f each [] (Ok u) w n h = (tt, subst (λ (v : Writing). AppendedOctets w [] v) (sym h) (appended_none w))
-emits_all E F test f each [] (Err e) w n h = absurd h
-emits_all E F test f each (x ∷ xs) (Ok u) w n (inl h) =
+-- each is emitted as octets, under a view
+pub emits_all : {X Y : Type 0} (view : X → Y) (F : Y → Type 0) (test : Y → Bool) (f : Y → List ℕ)
+    (E : X → Result (Unit {0}) ProtoError → Writing → Writing → Type 0)
+    → ((x : X) (r : Result (Unit {0}) ProtoError) (w n : Writing) → E x r w n → EmitsOctets (F (view x)) (test (view x)) (f (view x)) r w n)
+    → (xs : List X) (r : Result (Unit {0}) ProtoError) (w n : Writing) → EmitsEach E xs r w n
+    → EmitsOctets (AllByRecursion F (map view xs)) (list_all test (map view xs)) (flat_map f (map view xs)) r w n
+emits_all view F test f E each [] (Ok u) w n h = (tt, subst (λ (v : Writing). AppendedOctets w [] v) (sym h) (appended_none w))
+emits_all view F test f E each [] (Err e) w n h = absurd h
+emits_all view F test f E each (x ∷ xs) (Ok u) w n (inl h) =
     let first = each x (Ok tt) w h.0 h.1 in
-    let rest = emits_all E F test f each xs (Ok u) h.0 n h.2 in
+    let rest = emits_all view F test f E each xs (Ok u) h.0 n h.2 in
     ((first.0, rest.0), appended_then first.1 rest.1)
-emits_all E F test f each (x ∷ xs) (Err e) w n (inl h) =
-    let first = each x (Ok tt) w h.0 h.1 in
-    let rest = emits_all E F test f each xs (Err e) h.0 n h.2 in
-    stopped_then (and_second (test x) (list_all test xs)) first.1 rest
-emits_all E F test f each (x ∷ xs) (Ok u) w n (inr h) = absurd (cc h.1)
-emits_all E F test f each (x ∷ xs) (Err e) w n (inr h) =
+emits_all view F test f E each (x ∷ xs) (Err e) w n (inl h) =
+    stopped_then (and_second (test (view x)) (list_all test (map view xs))) (each x (Ok tt) w h.0 h.1).1 (emits_all view F test f E each xs (Err e) h.0 n h.2)
+emits_all view F test f E each (x ∷ xs) (Ok u) w n (inr h) = absurd (cc h.1)
+emits_all view F test f E each (x ∷ xs) (Err e) w n (inr h) =
     let same : h.0 ≡ e = cc (h.1) in
-    let first : StoppedOctets e w (test x) (f x) n = subst (λ (y : ProtoError). StoppedOctets y w (test x) (f x) n) same (each x (Err h.0) w n h.2) in
-    stopped_first (flat_map f xs) (and_first (test x) (list_all test xs)) first
+    let first : StoppedOctets e w (test (view x)) (f (view x)) n =
+    subst (λ (y : ProtoError). StoppedOctets y w (test (view x)) (f (view x)) n) same (each x (Err h.0) w n h.2) in
+    stopped_first (flat_map f (map view xs)) (and_first (test (view x)) (list_all test (map view xs))) first
 
 -- ---- fields as octets
 
@@ -104,20 +108,6 @@ unfolding field_octets
 rest_emits s (Ok u) old new h = (tt, record { keeps = h.keeps; octets = h.field.is })
 rest_emits s (Err e) old new h = record { extends = h.extends; why = because_map e _ _ _ _ (λ r. r.full) (λ u. u.unfit) h.why }
 
--- ---- lists under a view
-
-pub flat_map_view : {X Y : Type 0} (g : X → Y) (f : Y → List ℕ) (xs : List X) → flat_map (λ x. f (g x)) xs ≡ flat_map f (map g xs)
-flat_map_view g f [] = refl
-flat_map_view g f (x ∷ xs) = ap (λ (l : List ℕ). f (g x) ++ l) (flat_map_view g f xs)
-
-all_view : {X Y : Type 0} (g : X → Y) (F : Y → Type 0) (xs : List X) → AllByRecursion (λ x. F (g x)) xs → AllByRecursion F (map g xs)
-all_view g F [] h = tt
-all_view g F (x ∷ xs) h = (h.0, all_view g F xs h.1)
-
-test_view : {X Y : Type 0} (g : X → Y) (test : Y → Bool) (xs : List X) → list_all (λ x. test (g x)) xs ≡ list_all test (map g xs)
-test_view g test [] = refl
-test_view g test (x ∷ xs) = ap (λ b. test (g x) && b) (test_view g test xs)
-
 -- a test that each passes
 pub all_pass : {X : Type 0} (xs : List X) → list_all (λ x. true) xs ≡ true
 all_pass [] = refl
@@ -129,27 +119,15 @@ emits_as {P} {Q} {a} {b} {s} {t} (Ok u) old new f g e h = (f h.0, subst (λ (x :
 emits_as {P} {Q} {a} {b} {s} {t} (Err x) old new f g e h =
     record { extends = h.extends; why = because_map x _ _ _ _ (λ r. omega (arith, r, ap length e)) g h.why }
 
--- a list that is emitted under a view
-pub emits_list : {X Y : Type 0} (g : X → Y) (F : Y → Type 0) (test : Y → Bool) (f : Y → List ℕ)
-    (E : X → Result (Unit {0}) ProtoError → Writing → Writing → Type 0)
-    → ((x : X) (r : Result (Unit {0}) ProtoError) (w n : Writing) → E x r w n → EmitsOctets (F (g x)) (test (g x)) (f (g x)) r w n)
-    → (xs : List X) (r : Result (Unit {0}) ProtoError) (w n : Writing) → EmitsEach E xs r w n
-    → EmitsOctets (AllByRecursion F (map g xs)) (list_all test (map g xs)) (flat_map f (map g xs)) r w n
-emits_list g F test f E each xs r w n h = emits_as r w n (all_view g F xs) (λ q. sym (test_view g test xs) ∙ q) (flat_map_view g f xs)
-    (emits_all E (λ x. F (g x)) (λ x. test (g x)) (λ x. f (g x)) each xs r w n h)
-
--- of a list that is not empty
-pub emits_some : {T : Type 0} (P : Type 0) (test : Bool) (s : List ℕ) (xs : List T) (r : Result (Unit {0}) ProtoError) (old new : Writing) → length xs ≢ 0
-    → EmitsOctets P test s r old new → EmitsOctets ((xs ≢ []) × P) (is_some xs && test) s r old new
-emits_some P test s xs (Ok u) old new some h = ((λ e. some (ap length e), h.0), h.1)
-emits_some P test s xs (Err x) old new some h = record { extends = h.extends; why = because_map x _ _ _ _ (λ r. r) (and_second (is_some xs) test) h.why }
+-- one more of a list
+pub one_more : {T : Type 0} (i : ℕ) (xs : List T) (x d : T) → x ≡ get_or xs i d → i < length xs → take (i + 1) xs ≡ take i xs ++ x ∷ []
+one_more i xs x d is lt = take_more xs i d lt ∙ ap (λ y. take i xs ++ y ∷ []) (sym is)
 
 -- some were emitted, and then one more
 pub emits_next : {T : Type 0} (E : T → Result (Unit {0}) ProtoError → Writing → Writing → Type 0) (i : ℕ) (xs : List T) (x d : T) (w b n : Writing)
     → x ≡ get_or xs i d → i < length xs → EmitsEach E (take i xs) (Ok tt) w b → E x (Ok tt) b n → EmitsEach E (take (i + 1) xs) (Ok tt) w n
 emits_next E i xs x d w b n is lt h s =
-    let one : take (i + 1) xs ≡ take i xs ++ x ∷ [] = take_more xs i d lt ∙ ap (λ y. take i xs ++ y ∷ []) (sym is) in
-    subst (λ zs. EmitsEach E zs (Ok tt) w n) (sym one) (emits_push E (take i xs) x w b n h s)
+    subst (λ zs. EmitsEach E zs (Ok tt) w n) (sym (one_more i xs x d is lt)) (emits_push E (take i xs) x w b n h s)
 
 -- or one that is refused
 pub emits_refused : {T : Type 0} (E : T → Result (Unit {0}) ProtoError → Writing → Writing → Type 0) (i : ℕ) (xs : List T) (x d : T) (e : ProtoError)
@@ -164,10 +142,5 @@ pub octets_extend : (P : Type 0) (test : Bool) (s : List ℕ) (r : Result (Unit 
 octets_extend P test s (Ok u) old new h = record { keeps = h.1.keeps; tail = s; octets = h.1.octets }
 octets_extend P test s (Err e) old new h = h.extends
 
-pub extends_on : {a b c : Writing} → Extends a b → Extends b c → Extends a c
-extends_on {a} {b} {c} f g = record {
-  keeps = keeps_then f.keeps g.keeps;
-  tail = f.tail ++ g.tail;
-  octets = g.octets
-      ∙ ap (λ (l : List ℕ). l ++ g.tail) f.octets ∙ append_assoc a.octets f.tail g.tail;
-}
+pub rest_extends : (s : List ℕ) (r : Result (Unit {0}) ProtoError) (old new : Writing) → EmitsField Rest s r old new → Extends old new
+rest_extends s r old new h = octets_extend (Unit {0}) true s r old new (rest_emits s r old new h)

@@ -2,12 +2,12 @@
 use Rattle.std.proofs.Common.{◌≡◌, ℕ, ◌+◌, ◌<◌, List, [], ◌∷◌, ◌++◌, length, take, get_or, codes, Option, Some, None, Result, Ok, refl}
 use Rattle.std.proofs.Common.{sym, ap, ◌∙◌, subst, append_assoc}
 use Rattle.std.specs.List.{flat_map}
-use Rattle.std.proofs.lemmas.List.{take_more}
 use Rattle.std.proofs.lemmas.Grind.{put_two}
 use Rattle.std.specs.Fmt.{◌++?◌, HasWritten, IsPlainFormatter, DisplaysOnOk}
 use Rattle.std.specs.declared.fmt.Formatter.{Formatter}
 use Rattle.std.specs.declared.fmt.Error.{Error}
 use Rattle.dns_rdata_service.specs.Hints.{each_text}
+use Rattle.dns_rdata_service.proofs.EachEmits.{one_more}
 
 split_texts : (a b : Option (List ℕ)) (t : List ℕ) → a ++? b ≡ Some t → (s : List ℕ) × (u : List ℕ) × (a ≡ Some s) × (b ≡ Some u) × (s ++ u ≡ t)
 split_texts (Some s) (Some u) t e = (s, u, refl, refl, cc e)
@@ -42,8 +42,7 @@ pub texts_more : {T W : Type 0} (took : W → List ℕ → W → Type 0) (text :
     → DisplaysOnOk took g (okay u) (text x ++? Some (codes ",")) h
     → IsPlainFormatter f → (t : List ℕ) → each_text text (take (i + 1) xs) ≡ Some t → HasWritten took f t h
 texts_more took text i xs x f g h u is lt before one plain t e =
-    let more : take (i + 1) xs ≡ take i xs ++ x ∷ [] = take_more xs i x lt ∙ ap (λ y. take i xs ++ y ∷ []) (sym is) in
-    let whole : each_text text (take i xs) ++? (text x ++? Some (codes ",")) ≡ Some t = sym (each_push text (take i xs) x) ∙ ap (each_text text) (sym more)
+    let whole : each_text text (take i xs) ++? (text x ++? Some (codes ",")) ≡ Some t = sym (each_push text (take i xs) x) ∙ ap (each_text text) (sym (one_more i xs x x is lt))
     ∙ e in
     let p = split_texts (each_text text (take i xs)) (text x ++? Some (codes ",")) t whole in
     let first : HasWritten took f p.0 g = before plain p.0 p.2 in

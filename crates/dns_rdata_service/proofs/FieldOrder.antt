@@ -36,37 +36,25 @@ parameters_order ps qs = cmp_view parameter_order (λ x y. key_cmp (parameter_ke
 
 pub differ_order : (v w : SvcParamValue) → Differ v w → nat_cmp (value_place v) (value_place w) ≡ slice_cmp (slice_cmp nat_cmp) (value_key v) (value_key w)
 differ_order (variants.Mandatory x) (variants.Mandatory y) d = absurd d
-differ_order (variants.Mandatory x) w d = refl
 differ_order (variants.Alpn x) (variants.Alpn y) d = absurd d
-differ_order (variants.Alpn x) w d = refl
 differ_order (variants.Port m) (variants.Port n) d = absurd d
-differ_order (variants.Port m) w d = refl
 differ_order (variants.Ipv4Hint x) (variants.Ipv4Hint y) d = absurd d
-differ_order (variants.Ipv4Hint x) w d = refl
 differ_order (variants.EchConfigList x) (variants.EchConfigList y) d = absurd d
-differ_order (variants.EchConfigList x) w d = refl
 differ_order (variants.Ipv6Hint x) (variants.Ipv6Hint y) d = absurd d
-differ_order (variants.Ipv6Hint x) w d = refl
 differ_order (variants.DohPath x) (variants.DohPath y) d = absurd d
-differ_order (variants.DohPath x) w d = refl
 differ_order (variants.Unknown x) (variants.Unknown y) d = absurd d
-differ_order (variants.Unknown x) w d = refl
 differ_order variants.NoDefaultAlpn variants.NoDefaultAlpn d = refl
-differ_order variants.NoDefaultAlpn w d = refl
+differ_order v w d = refl
 
 pub hints_order : {T : Type 0} (octets : T → List ℕ) (xs ys : List T) → slice_cmp (octets_order octets) xs ys ≡ slice_cmp (slice_cmp nat_cmp) (map octets xs) (map octets ys)
 hints_order octets xs ys = cmp_view (octets_order octets) (slice_cmp nat_cmp) octets (λ x y. refl) xs ys
 
--- of three fields
-pub fields_order : (r p t n m a b c : Ordering) → r ≡ ordering_then p t → p ≡ a → t ≡ ordering_then n m → n ≡ b → m ≡ c
-    → r ≡ ordering_then a (ordering_then b (ordering_then c Equal))
-fields_order r p t n m a b c e f g h k = e ∙ (λ i. ordering_then (f i) (g i)) ∙ (λ i. ordering_then a (ordering_then (h i) (k i))) ∙ ap (λ o. ordering_then a (ordering_then b o)) (sym (then_equal c))
-
 -- ---- item by item
 
 module _ {X : Type 0} (R : X → X → Ordering) (xs ys : List X) where
-  pub by_lengths : (i : ℕ) (w : Ordering) → i ≤ length xs → i ≤ length ys → (i < length xs → i < length ys → ⊥) → slice_cmp R (drop i xs) (drop i ys) ≡ w → nat_cmp (length xs) (length ys) ≡ w
-  by_lengths i w h k end same = by (drop i xs) (drop i ys) (length-drop i xs) (length-drop i ys) ∙ same
+  pub by_lengths : (i : ℕ) → i ≤ length xs → i ≤ length ys → (i < length xs → i < length ys → ⊥)
+      → nat_cmp (length xs) (length ys) ≡ slice_cmp R (drop i xs) (drop i ys)
+  by_lengths i h k end = by (drop i xs) (drop i ys) (length-drop i xs) (length-drop i ys)
     where
       less : (a b : ℕ) → a < b → nat_cmp a b ≡ Less
       less a b h = grind (arith, nat_tests, h)

@@ -1,5 +1,5 @@
 -- Keys and values that were read are those of their numbers.
-use Rattle.std.proofs.Common.{◌≡◌, ◌≢◌, ◌⊎◌, inl, inr, ℕ, suc, zero, ◌==◌, Bool, true, false, List, [], ◌∷◌, map, nat_le, if◌then◌else◌, refl}
+use Rattle.std.proofs.Common.{◌≡◌, ◌≢◌, ◌⊎◌, inl, inr, ℕ, ◌==◌, Bool, true, false, List, [], ◌∷◌, map, nat_le, if◌then◌else◌, refl}
 use Rattle.std.proofs.Common.{sym, ap, ◌∙◌, ◌≤◌, arith}
 use Rattle.std.proofs.lemmas.Grind.{common_steps}
 use Rattle.std.proofs.lemmas.Bool.Decides.{nat_tests}
@@ -8,10 +8,11 @@ use Rattle.dns_rdata_base.proofs.Addresses.{segments_of-octets_of}
 use Rattle.dns_rdata_base.specs.declared.a.A.{A}
 use Rattle.dns_rdata_base.specs.declared.aaaa.AAAA.{AAAA}
 use Rattle.dns_fields.specs.Pieces.{AnyOctets, form_for}
-use Rattle.dns_rdata_service.specs.SvcParamKey.{key_number, named_keys, other_key, key_of}
+use Rattle.dns_rdata_service.specs.SvcParamKey.{key_number, key_variant, named_keys, other_key, key_of}
 use Rattle.dns_rdata_service.specs.declared.svcb.key.SvcParamKey.{SvcParamKey}
 use Rattle.dns_rdata_service.specs.declared.svcb.key.SvcParamKey.TheVariants.{Key, Key65535, Unknown}
 use Rattle.dns_rdata_service.specs.SvcParamValue.{a_octets, aaaa_octets, a_of, aaaa_of, IsValueOf}
+use Rattle.dns_rdata_service.specs.declared.svcb.ip_hint.IpHint.{IpHint}
 use Rattle.dns_rdata_service.specs.declared.svcb.unknown.Unknown.{Unknown as Other}
 use Rattle.dns_rdata_service.specs.declared.svcb.value.SvcParamValue.TheVariants.{Unknown as OtherValue}
 
@@ -38,55 +39,32 @@ plain_above n h = record {
   no_text = λ e. omega (arith, e, h);
 }
 
-pub plain_unknown : (n : ℕ) → Unknown n ≡ key_of n → IsPlainKey n
-unfolding key_of
-plain_unknown zero e = absurd (cc e)
-plain_unknown (suc zero) e = absurd (cc e)
-plain_unknown (suc (suc zero)) e = absurd (cc e)
-plain_unknown (suc (suc (suc zero))) e = absurd (cc e)
-plain_unknown (suc (suc (suc (suc zero)))) e = absurd (cc e)
-plain_unknown (suc (suc (suc (suc (suc zero))))) e = absurd (cc e)
-plain_unknown (suc (suc (suc (suc (suc (suc zero)))))) e = absurd (cc e)
-plain_unknown (suc (suc (suc (suc (suc (suc (suc zero))))))) e = absurd (cc e)
-plain_unknown (suc (suc (suc (suc (suc (suc (suc (suc n)))))))) e = plain_above (suc (suc (suc (suc (suc (suc (suc (suc n)))))))) (omega arith)
-
-pub plain_key : (n : ℕ) → Key n ≡ key_of n → IsPlainKey n
-unfolding key_of
-plain_key zero e = absurd (cc e)
-plain_key (suc zero) e = absurd (cc e)
-plain_key (suc (suc zero)) e = absurd (cc e)
-plain_key (suc (suc (suc zero))) e = absurd (cc e)
-plain_key (suc (suc (suc (suc zero)))) e = absurd (cc e)
-plain_key (suc (suc (suc (suc (suc zero))))) e = absurd (cc e)
-plain_key (suc (suc (suc (suc (suc (suc zero)))))) e = absurd (cc e)
-plain_key (suc (suc (suc (suc (suc (suc (suc zero))))))) e = absurd (cc e)
-plain_key (suc (suc (suc (suc (suc (suc (suc (suc n)))))))) e = plain_above (suc (suc (suc (suc (suc (suc (suc (suc n)))))))) (omega arith)
-
 pub map_back : {X Y : Type 0} (f : X → Y) (g : Y → X) → ((x : X) → x ≡ g (f x)) → (xs : List X) → xs ≡ map g (map f xs)
 map_back f g h [] = refl
 map_back f g h (x ∷ xs) = ap (λ y. y ∷ xs) (h x) ∙ ap (λ ys. g (f x) ∷ ys) (map_back f g h xs)
 
-a_back : (x : A) → x ≡ a_of (a_octets x)
-a_back x = refl
-
-aaaa_back : (x : AAAA) → x ≡ aaaa_of (aaaa_octets x)
-aaaa_back x = ap (λ (s : List ℕ). record { 0 = record { segments = s } }) (sym (segments_of-octets_of x.0.segments))
-
-pub a_list_back : (xs : List A) → xs ≡ map a_of (map a_octets xs)
-a_list_back = map_back a_octets a_of a_back
-
 pub aaaa_list_back : (xs : List AAAA) → xs ≡ map aaaa_of (map aaaa_octets xs)
-aaaa_list_back = map_back aaaa_octets aaaa_of aaaa_back
+aaaa_list_back = map_back aaaa_octets aaaa_of (λ x. ap (λ (s : List ℕ). record { 0 = record { segments = s } }) (sym (segments_of-octets_of x.0.segments)))
 
-plain_reserved : IsPlainKey 65535
-plain_reserved = plain_above 65535 (omega arith)
+-- the numbers below 8 are those of keys with forms
+above_named : (n : ℕ) → 8 ≤ key_variant (key_of n) → 8 ≤ n
+unfolding key_of
+above_named n h = grind (arith, nat_tests, h)
 
 pub plain_of : (k : SvcParamKey) → k ≡ key_of (key_number k) → ((x : ℕ) × (k ≡ Key x)) ⊎ ((k ≡ Key65535) ⊎ ((x : ℕ) × (k ≡ Unknown x)))
     → IsPlainKey (key_number k)
-plain_of k g (inl h) = rw h.1 (plain_key h.0 (rw h.1 at g))
-plain_of k g (inr (inl h)) = rw h plain_reserved
-plain_of k g (inr (inr h)) = rw h.1 (plain_unknown h.0 (rw h.1 at g))
+plain_of k g is = plain_above (key_number k) (above_named (key_number k) (rw (← g) (last k is))) where
+  last : (k : SvcParamKey) → ((x : ℕ) × (k ≡ Key x)) ⊎ ((k ≡ Key65535) ⊎ ((x : ℕ) × (k ≡ Unknown x))) → 8 ≤ key_variant k
+  last k (inl h) = rw h.1 (omega arith)
+  last k (inr (inl h)) = rw h (omega arith)
+  last k (inr (inr h)) = rw h.1 (omega arith)
 
 -- the value of a key without a form of its own
 pub plain_value : (n : ℕ) (body : List ℕ) (x : Other) → IsPlainKey n → body ≡ x.0 → IsValueOf n body (OtherValue x)
 plain_value n body x p e = record { held = (sym p.form, tt, e); given = rw (p.other, p.no_path) refl; text = λ is. absurd (p.no_text is) }
+
+pub hint4_back : (x : IpHint A) → x ≡ record { 0 = map a_of (map a_octets x.0) }
+hint4_back x = ap (λ (as' : List A). record { 0 = as' }) (map_back a_octets a_of (λ a. refl) x.0)
+
+pub hint6_back : (x : IpHint AAAA) → x ≡ record { 0 = map aaaa_of (map aaaa_octets x.0) }
+hint6_back x = ap (λ (as' : List AAAA). record { 0 = as' }) (aaaa_list_back x.0)

@@ -1,5 +1,5 @@
 -- Fields in front of the data of a known length.
-use Rattle.std.proofs.Common.{◌≡◌, ℕ, ◌+◌, ◌-◌, ◌<◌, ◌≤◌, List, [], ◌∷◌, length, sym, ap, arith, subst, Err}
+use Rattle.std.proofs.Common.{◌≡◌, ℕ, ◌+◌, ◌-◌, ◌<◌, List, [], ◌∷◌, length, sym, ap, arith, subst, Err}
 use Rattle.dns_types.specs.declared.error.DecodeError.{DecodeError}
 use Rattle.dns_fields.specs.Octets.{AreOctets}
 use Rattle.dns_fields.specs.Labels.{DomainName}
@@ -73,21 +73,15 @@ pub svcb_took : {d a b e : Reading} {priority : ℕ} {target : DomainName} {vs :
     → TookField a Name target b → n < 65536 → b.index + r ≡ d.index + n → TookWindow b r Tail texts vs e
     → TookWindow d n svcb_shape MeetsSvcbCondition (priority, (target, vs)) e
 svcb_took {d} {a} {b} {e} {priority} {target} {vs} n r f g short all h =
-    let left : (k : ℕ) × (a.index + k ≡ d.index + n) = rest_of a.index (d.index + n) (omega (arith, (field_inside g.field).0, all)) in
-    took_then BehindName tt f short left.1 (took_then texts tt g (omega (arith, left.1, (field_inside f.field).0, short)) (omega (arith, left.1, all)) h)
-  where
-    rest_of : (x y : ℕ) → x ≤ y → (k : ℕ) × (x + k ≡ y)
-    rest_of x y le = (y - x, omega arith)
+    let left : a.index + (d.index + n - a.index) ≡ d.index + n = omega (arith, (field_inside g.field).0, all) in
+    took_then BehindName tt f short left (took_then texts tt g (omega (arith, left, (field_inside f.field).0, short)) (omega (arith, left, all)) h)
 
 pub svcb_refused : {e : DecodeError} {d a b c : Reading} {priority : ℕ} {target : DomainName} (n r : ℕ) → TookField d (Number 2) priority a
     → TookField a Name target b → b.index + r ≡ d.index + n → RefusedWindow e b r Tail texts c
     → RefusedWindow e d n svcb_shape MeetsSvcbCondition c
 svcb_refused {e} {d} {a} {b} {c} n r f g all h =
-    let left : (k : ℕ) × (a.index + k ≡ d.index + n) = rest_of a.index (d.index + n) (omega (arith, (field_inside g.field).0, all)) in
-    refused_behind BehindName tt f left.1 (refused_behind texts tt g (omega (arith, left.1, all)) h)
-  where
-    rest_of : (x y : ℕ) → x ≤ y → (k : ℕ) × (x + k ≡ y)
-    rest_of x y le = (y - x, omega arith)
+    let left : a.index + (d.index + n - a.index) ≡ d.index + n = omega (arith, (field_inside g.field).0, all) in
+    refused_behind BehindName tt f left (refused_behind texts tt g (omega (arith, left, all)) h)
 
 pub svcb_passed : {d a b : Reading} {priority : ℕ} {target : DomainName} (e : DecodeError) (n : ℕ) → Given d n → TookField d (Number 2) priority a
     → TookField a Name target b → d.index + n < b.index → RefusedWindow e d n svcb_shape MeetsSvcbCondition b

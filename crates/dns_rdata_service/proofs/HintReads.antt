@@ -1,9 +1,9 @@
 -- Addresses that are read and emitted one after the other, as octets.
-use Rattle.std.proofs.Common.{◌≡◌, true, ℕ, ◌+◌, ◌*◌, ◌%◌, ◌<◌, ◌≤◌, List, [], ◌∷◌, ◌++◌, length, take, drop, map, refl, sym, ap, ◌∙◌}
-use Rattle.std.proofs.Common.{inl, arith, subst, append_assoc, Result, Ok, Err}
+use Rattle.std.proofs.Common.{◌≡◌, true, ℕ, ◌+◌, ◌*◌, ◌%◌, ◌<◌, ◌≤◌, List, [], ◌∷◌, length, take, drop, map, refl, sym, ap, ◌∙◌}
+use Rattle.std.proofs.Common.{inl, arith, subst, Result, Ok, Err}
 use Rattle.std.specs.Prelude.{IfOk, IfErr}
 use Rattle.std.specs.List.{flat_map, AllByRecursion}
-use Rattle.std.proofs.lemmas.List.{append-nil, length-drop, length-take, drop_all}
+use Rattle.std.proofs.lemmas.List.{append-nil, length-append, length-drop, length-take}
 use Rattle.dns_types.specs.declared.error.DecodeError.{DecodeError}
 use Rattle.dns_types.specs.declared.error.DecodeError.TheVariants as decode
 use Rattle.dns_types.specs.declared.error.ProtoError.{ProtoError}
@@ -21,55 +21,45 @@ use Rattle.dns_rdata_service.specs.Emitting.{EmitsOctets}
 use Rattle.dns_rdata_service.specs.Hints.{StandEach, StopsBefore, StandToEnd, ReadsEach, EmitsEach}
 use Rattle.dns_rdata_service.specs.SvcParamValue.{a_octets, aaaa_octets, a_of, aaaa_of, IsValueRefusal}
 use Rattle.dns_rdata_service.specs.declared.svcb.ip_hint.IpHint.{IpHint}
-use Rattle.dns_rdata_service.proofs.Splits.{at_split}
-use Rattle.dns_rdata_service.proofs.EachEmits.{emits_list, emits_as, all_pass}
+use Rattle.dns_rdata_service.proofs.EachEmits.{emits_all, emits_as, all_pass}
+use Rattle.dns_rdata_service.proofs.EachReads.{AreSplit, each_split, to_end}
+use Rattle.dns_rdata_service.proofs.Refusals.{length_groups}
 
 -- ---- reading, of any type of a known number of octets
-
--- the octets of what stands
-pub record AreGroups {T : Type 0} (w : ℕ) (octets : T → List ℕ) (m : List ℕ) (p : ℕ) (items : List T) (q : ℕ) : Type 0 where
-  pub sizes : AllByRecursion (λ s. length s ≡ w) (map octets items)
-  pub split : drop p m ≡ flat_map (λ s. s) (map octets items) ++ drop q m
-  pub ends : q ≡ p + w * length items
 
 abbrev pub GroupAt : {T : Type 0} (w : ℕ) → (T → List ℕ) → List ℕ → ℕ → T → ℕ → Type 0
 GroupAt w octets m p x q = Stands m p (Octets w ∷ []) (octets x, tt) q
 
-pub are_groups : {T : Type 0} (w : ℕ) (octets : T → List ℕ) (m : List ℕ) (p : ℕ) (items : List T) (q : ℕ) → StandEach (GroupAt w octets) m p items q
-    → AreGroups w octets m p items q
-are_groups w octets m p [] q e = record { sizes = tt; split = ap (λ (k : ℕ). drop k m) e; ends = omega (arith, e) }
-are_groups w octets m p (x ∷ xs) q s =
-    let rest = are_groups w octets m s.0 xs q s.2 in
-    let field = s.1.1.is in
-    let here : s.1.0 ≡ s.0 = s.1.2 in
-    let first : drop p m ≡ octets x ++ drop s.0 m = at_split field.1 ∙ ap (λ (k : ℕ). octets x ++ drop k m) here in
-    record {
-      sizes = (field.0, rest.sizes);
-      split = first ∙ ap (λ (l : List ℕ). octets x ++ l) rest.split ∙ sym (append_assoc (octets x) (flat_map (λ s. s) (map octets xs)) (drop q m));
-      ends = omega (arith, rest.ends, field.1.ends, field.0, here);
-    }
+are_groups : {T : Type 0} (w : ℕ) (octets : T → List ℕ) (m : List ℕ) (p : ℕ) (items : List T) (q : ℕ) → StandEach (GroupAt w octets) m p items q
+    → AreSplit octets (λ s. s) (λ s. length s ≡ w) m p items q
+are_groups w octets m = each_split octets (λ s. s) (λ s. length s ≡ w) (GroupAt w octets) m
+    (λ p x q s. (s.1.is.0, subst (λ (e : ℕ). At m p (octets x) e) s.2 s.1.is.1))
 
 -- w octets stand wherever so many are left
-pub record GroupHere (w : ℕ) (m : List ℕ) (p : ℕ) : Type 0 where
-  pub size : length (take w (drop p m)) ≡ w
-  pub at : At m p (take w (drop p m)) (p + w)
-
-group_here : (w : ℕ) (m : List ℕ) (p : ℕ) → p + w ≤ length m → GroupHere w m p
+group_here : (w : ℕ) (m : List ℕ) (p : ℕ) → p + w ≤ length m → (length (take w (drop p m)) ≡ w) × At m p (take w (drop p m)) (p + w)
 group_here w m p inside =
     let n : length (take w (drop p m)) ≡ w = omega (arith, length-take w (drop p m), length-drop p m) in
-    record { size = n; at = record { ends = omega (arith, n); within = inside; same = ap (λ (k : ℕ). take k (drop p m)) n } }
+    (n, record { ends = omega (arith, n); within = inside; same = ap (λ (k : ℕ). take k (drop p m)) n })
 
 -- whole groups leave no octet
 no_stop : {T : Type 0} (w : ℕ) (octets : T → List ℕ) (m : List ℕ) → ((k : ℕ) → w * k < length m → w * k + w ≤ length m)
     → ((s : List ℕ) → length s ≡ w → AreOctets s → (x : T) × (octets x ≡ s)) → AreOctets m → StopsBefore (GroupAt w octets) m 0 → ⊥
 no_stop w octets m room of all h =
     let g = are_groups w octets m 0 h.items h.place h.stand in
-    let place : h.place ≡ w * length h.items = omega (arith, g.ends) in
-    let inside : h.place + w ≤ length m = omega (arith, place, room (length h.items) (omega (arith, place, h.before))) in
+    let count = length (map octets h.items) in
+    let place : h.place ≡ w * count = omega (
+      arith,
+      h.before,
+      ap length g.split,
+      length-append (flat_map (λ s. s) (map octets h.items)) (drop h.place m),
+      length_groups w (map octets h.items) g.all,
+      length-drop h.place m,
+    ) in
+    let inside : h.place + w ≤ length m = omega (arith, place, room count (omega (arith, place, h.before))) in
     let here = group_here w m h.place inside in
-    let x = of (take w (drop h.place m)) here.size (AreOctets-at m h.place (take w (drop h.place m)) (h.place + w) all here.at) in
+    let x = of (take w (drop h.place m)) here.0 (AreOctets-at m h.place (take w (drop h.place m)) (h.place + w) all here.1) in
     h.none x.0 (h.place + w) (subst (λ (s : List ℕ). Stands m h.place (Octets w ∷ []) (s, tt) (h.place + w)) (sym x.1)
-    (h.place + w, record { is = (here.size, here.at) }, refl))
+    (h.place + w, record { is = here }, refl))
 
 unless_none : (e : DecodeError) (P : Type 0) → UnlessMemory e P → (P → ⊥) → e ≡ decode.Memory
 unless_none decode.Memory P h n = refl
@@ -80,11 +70,8 @@ pub groups_read : {T : Type 0} (w : ℕ) (octets : T → List ℕ) (body : List 
     → StandToEnd (GroupAt w octets) (record { message = body; index = 0 }) items new
     → AllByRecursion (λ s. length s ≡ w) (map octets items) × (body ≡ flat_map (λ s. s) (map octets items))
 groups_read w octets body items new h =
-    let g = are_groups w octets body 0 items (length body) h.stand in (
-      g.sizes,
-      g.split ∙ ap (λ (l : List ℕ). flat_map (λ s. s) (map octets items) ++ l) (drop_all (length body) body (omega arith))
-          ∙ append-nil (flat_map (λ s. s) (map octets items)),
-    )
+    let g = are_groups w octets body 0 items (length body) h.stand in
+    (g.all, to_end body 0 (length body) (flat_map (λ s. s) (map octets items)) (omega arith) g.split)
 
 a_octets_of : (s : List ℕ) → length s ≡ 4 → AreOctets s → (x : A) × (a_octets x ≡ s)
 a_octets_of s n all = (a_of s, refl)
@@ -126,5 +113,4 @@ pub groups_emit : {T : Type 0} (w : ℕ) (octets : T → List ℕ) (xs : List T)
     → EmitsOctets (AllByRecursion (λ s. length s ≡ w) (map octets xs)) true (flat_map (λ s. s) (map octets xs)) r old new
 groups_emit w octets xs r old new h =
     emits_as r old new (λ p. p) (λ q. sym (all_pass (map octets xs)) ∙ q) refl
-    (emits_list octets (λ s. length s ≡ w) (λ s. true) (λ s. s) (λ x r w' n. Emits (Octets w ∷ []) (octets x, tt) r w' n)
-    (λ x. group_emits w (octets x)) xs r old new h)
+    (emits_all octets (λ s. length s ≡ w) (λ s. true) (λ s. s) (λ x r w' n. Emits (Octets w ∷ []) (octets x, tt) r w' n) (λ x. group_emits w (octets x)) xs r old new h)

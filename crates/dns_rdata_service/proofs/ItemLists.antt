@@ -45,10 +45,7 @@ so_far_refused Is text rest piece more xs s e none all l =
     none found.0 found.1
 
 -- a text's item has no value, or the text has no item
-pub other_item : {T : Type 0} (Is : List ℕ → T → Type 0) (text item : List ℕ) → IsItem text item → ((x : T) → Is item x → ⊥) → (x : T) → ItemOf Is text x → ⊥
-other_item Is text item i none x o = none x (subst (λ (t : List ℕ). Is t x) (item_one o.is_item i) o.is)
-
 pub item_refused : {T : Type 0} (Is : List ℕ → T → Type 0) (text item : List ℕ) (r : Result T ParseError) → IsItem text item
     → IfErr r (λ e. e ≢ parse.Memory → (x : T) → Is item x → ⊥) → IfErr r (λ e. e ≢ parse.Memory → (x : T) → ItemOf Is text x → ⊥)
 item_refused Is text item (Ok x) i h = tt
-item_refused Is text item (Err e) i h = λ n. other_item Is text item i (h n)
+item_refused Is text item (Err e) i h = λ n x o. h n x (subst (λ (t : List ℕ). Is t x) (item_one o.is_item i) o.is)

@@ -1,9 +1,12 @@
 -- Parameters, piece by piece.
-use Rattle.std.proofs.Common.{◌≡◌, ◌≢◌, ℕ, zero, suc, ◌+◌, ◌*◌, ◌<◌, ◌≤◌, ◌&&◌, nat_le, Bool, true, false, not, ◌==◌, Option, Some, None, List, [], ◌∷◌, ◌++◌}
+use Rattle.std.proofs.Common.{◌≡◌, ◌≢◌, ℕ, zero, suc, ◌+◌, ◌*◌, ◌<◌, ◌≤◌, ◌&&◌, nat_le, true, Option, Some, None, List, [], ◌∷◌, ◌++◌}
 use Rattle.std.proofs.Common.{length, get_or, drop, map, slice_get, refl, sym, ap, ◌∙◌, subst, arith, append_assoc, length-append}
-use native.Mathlib.Nat.{mul-suc}
 use Rattle.std.proofs.lemmas.Bool.Decides.{nat_tests}
-use Rattle.std.proofs.lemmas.List.{append-nil, drop_more, drop_all}
+use Rattle.std.proofs.lemmas.List.{append-nil, drop_more, drop_all, get_or-map, length-map}
+use Rattle.std.proofs.lemmas.Simd.{map-map}
+use Rattle.std.proofs.lemmas.List.Sums.{AllPass-from_list_all}
+use Rattle.dns_fields.proofs.Sorted.{flat_map_all}
+use Rattle.dns_rdata_service.proofs.Splits.{length_numbers}
 use Rattle.std.proofs.lemmas.Option.{slice_get-get_or, slice_get_past}
 use Rattle.std.specs.List.{flat_map, list_all}
 use Rattle.std.specs.Int.{bytes_high_first}
@@ -13,92 +16,45 @@ use Rattle.dns_fields.specs.Fields.{Name, field_octets, parameter_pieces}
 use Rattle.dns_pieces.specs.declared.step.Step.{Step}
 use Rattle.dns_pieces.specs.Steps.{GivesStep, StepAt}
 use Rattle.dns_fields.specs.Labels.{lowname}
-use Rattle.dns_rdata_service.specs.SvcParamValue.{value_of, fits_value, a_octets, aaaa_octets}
-use Rattle.dns_rdata_base.specs.declared.a.A.{A}
-use Rattle.dns_rdata_base.specs.declared.aaaa.AAAA.{AAAA}
-use Rattle.dns_rdata_service.specs.declared.svcb.ip_hint.IpHint.{IpHint}
-use Rattle.dns_rdata_service.specs.declared.svcb.value.SvcParamValue.{SvcParamValue}
-use Rattle.dns_rdata_service.specs.declared.svcb.value.SvcParamValue.TheVariants as variants
+use Rattle.dns_rdata_service.specs.SvcParamValue.{value_of, fits_value}
 use Rattle.dns_rdata_service.specs.Parameters.{Parameter, parameter_of}
 use Rattle.dns_rdata_service.specs.Steps.{parameter_head, value_front, value_items, parameters_from, items_of, parameters_left, svcb_left, are_emittable, NextPiece, GivesPiece}
+use Rattle.dns_rdata_service.specs.SvcParamKey.{key_number}
+use Rattle.dns_rdata_service.specs.declared.svcb.key.SvcParamKey.{SvcParamKey}
 use Rattle.dns_rdata_service.specs.declared.svcb.SVCB.{SVCB}
-
--- ---- how many octets
-
-pub numbers_size : (ns : List ℕ) → length (flat_map (bytes_high_first 2) ns) ≡ 2 * length ns
-numbers_size [] = refl
-numbers_size (n ∷ ns) = let e = numbers_size ns in let f : 2 * suc (length ns) ≡ 2 * length ns + 2 = mul-suc 2 (length ns) in omega (arith, e, f)
-
-pub length_map : {X Y : Type 0} (f : X → Y) (xs : List X) → length (map f xs) ≡ length xs
-length_map f [] = refl
-length_map f (x ∷ xs) = let e = length_map f xs in omega (arith, e)
-
-pub size_map : {X : Type 0} (f : X → List ℕ) (xs : List X) → flat_map (λ a. a) (map f xs) ≡ flat_map f xs
-size_map f [] = refl
-size_map f (x ∷ xs) = ap (λ l. f x ++ l) (size_map f xs)
-
-few_octets : (n : ℕ) (b : Bool) → nat_le n 65535 && b ≡ true → n ≤ 65535
-few_octets n b h = few n (first_so (nat_le n 65535) b h)
-  where
-    few : (n : ℕ) → nat_le n 65535 ≡ true → n ≤ 65535
-    few n h = grind (arith, nat_tests, h)
-
-pub hint4_fits : (v : SvcParamValue) (x : IpHint A) → v ≡ variants.Ipv4Hint x → fits_value (value_of v) ≡ true → length (flat_map a_octets x.0) ≤ 65535
-hint4_fits v x e h =
-    let t : fits_value (value_of (variants.Ipv4Hint x)) ≡ true = subst (λ (y : SvcParamValue). fits_value (value_of y) ≡ true) e h in
-    let f = few_octets (length (flat_map (λ a. a) (map a_octets x.0))) true t in
-    omega (arith, f, ap length (size_map a_octets x.0))
-
-pub hint6_fits : (v : SvcParamValue) (x : IpHint AAAA) → v ≡ variants.Ipv6Hint x → fits_value (value_of v) ≡ true → length (flat_map aaaa_octets x.0) ≤ 65535
-hint6_fits v x e h =
-    let t : fits_value (value_of (variants.Ipv6Hint x)) ≡ true = subst (λ (y : SvcParamValue). fits_value (value_of y) ≡ true) e h in
-    let f = few_octets (length (flat_map (λ a. a) (map aaaa_octets x.0))) true t in
-    omega (arith, f, ap length (size_map aaaa_octets x.0))
 
 -- ---- items
 
-pub item_given : {X : Type 0} (f : X → List ℕ) (xs : List X) (i : ℕ) (x : X) (s : List ℕ) → i < length xs → x ≡ get_or xs i x → s ≡ f x
-    → drop i (map f xs) ≡ s ∷ drop (i + 1) (map f xs)
-item_given f xs i x s h e r = by_suc f xs i x s h e r ∙ (let g : suc i ≡ i + 1 = omega arith in ap (λ n. s ∷ drop n (map f xs)) g)
-  where
-    by_suc : {X : Type 0} (f : X → List ℕ) (xs : List X) (i : ℕ) (x : X) (s : List ℕ) → i < length xs → x ≡ get_or xs i x → s ≡ f x → drop i (map f xs) ≡ s ∷ drop (suc i) (map f xs)
-    by_suc f [] i x s h e r = absurd (omega (arith, h))
-    by_suc f (y ∷ ys) zero x s h e r = let g : f y ≡ s = ap f (sym e) ∙ sym r in ap (λ l. l ∷ map f ys) g
-    by_suc f (y ∷ ys) (suc i) x s h e r = by_suc f ys i x s (omega (arith, h)) e r
-
 pub item_got : {X : Type 0} (f : X → List ℕ) (xs : List X) (i : ℕ) (d : X) (s : List ℕ) → i < length xs → s ≡ f (get_or xs i d)
     → drop i (map f xs) ≡ s ∷ drop (i + 1) (map f xs)
-item_got f xs i d s h r = item_given f xs i (get_or xs i d) s h (same xs i d (get_or xs i d) h) r
-  where
-    same : {X : Type 0} (xs : List X) (i : ℕ) (d e : X) → i < length xs → get_or xs i d ≡ get_or xs i e
-    same [] i d e h = absurd (omega (arith, h))
-    same (x ∷ xs) zero d e h = refl
-    same (x ∷ xs) (suc i) d e h = same xs i d e (omega (arith, h))
+item_got f xs i d s h e =
+    drop_more (map f xs) i s (omega (arith, length-map xs f, h)) ∙ ap (λ t. t ∷ drop (i + 1) (map f xs)) (get_or-map f xs i d s h ∙ sym e)
 
-pub numbers_map : {X : Type 0} (g : X → ℕ) (xs : List X) → map (λ x. bytes_high_first 2 (g x)) xs ≡ map (bytes_high_first 2) (map g xs)
-numbers_map g [] = refl
-numbers_map g (x ∷ xs) = ap (λ l. bytes_high_first 2 (g x) ∷ l) (numbers_map g xs)
+pub item_gives : {X : Type 0} (f : X → List ℕ) (xs : List X) (i : ℕ) (x : X) (s : List ℕ) → i < length xs → x ≡ get_or xs i x → s ≡ f x
+    → drop i (map f xs) ≡ s ∷ drop (i + 1) (map f xs)
+item_gives f xs i x s h is e = item_got f xs i x s h (e ∙ ap f is)
+
+pub key_gives : (keys : List SvcParamKey) (i : ℕ) (d : SvcParamKey) (s : List ℕ) → i < length keys → s ≡ bytes_high_first 2 (key_number (get_or keys i d))
+    → drop i (map (bytes_high_first 2) (map key_number keys)) ≡ s ∷ drop (i + 1) (map (bytes_high_first 2) (map key_number keys))
+key_gives keys i d s h e = rw (map-map (bytes_high_first 2) key_number keys) (item_got (λ k. bytes_high_first 2 (key_number k)) keys i d s h e)
 
 -- ---- parameters
 
 -- a value is what stands in one piece, and its items
 pub value_parts : (v : ParameterValue) → parameter_octets v ≡ value_front v ++ flat_map (λ s. s) (value_items v)
-value_parts (Mandatory keys) = sym (size_map (bytes_high_first 2) keys)
-value_parts (Alpn names) = sym (size_map string names)
+value_parts (Mandatory keys) = sym (flat_map_all (bytes_high_first 2) keys)
+value_parts (Alpn names) = sym (flat_map_all string names)
 value_parts NoDefaultAlpn = refl
 value_parts (Port n) = sym (append-nil (bytes_high_first 2 n))
 value_parts (Ipv4Hint addresses) = refl
 value_parts (Ipv6Hint addresses) = refl
 value_parts (Opaque s) = sym (append-nil s)
 
-fits_each : (ps : List Parameter) (i : ℕ) (p : Parameter) → list_all (λ x. nat_le (length (parameter_octets x.1)) 65535 && parameter_emittable x.1) (map parameter_of ps) ≡ true
-    → i < length ps → p ≡ get_or ps i p → fits_value (value_of p.1) ≡ true
-fits_each [] i p a h e = absurd (omega (arith, h))
-fits_each (q ∷ ps) zero p a h e = rw e (first_so (fits_value (value_of q.1)) (list_all (λ x. nat_le (length (parameter_octets x.1)) 65535 && parameter_emittable x.1) (map parameter_of ps)) a)
-fits_each (q ∷ ps) (suc i) p a h e = fits_each ps i p (second_so (fits_value (value_of q.1)) (list_all (λ x. nat_le (length (parameter_octets x.1)) 65535 && parameter_emittable x.1) (map parameter_of ps)) a) (omega (arith, h)) e
-
 pub fits_at : (ps : List Parameter) (i : ℕ) (p : Parameter) → are_emittable ps → i < length ps → p ≡ get_or ps i p → fits_value (value_of p.1) ≡ true
-fits_at ps i p a h e = fits_each ps i p (first_so (list_all (λ x. nat_le (length (parameter_octets x.1)) 65535 && parameter_emittable x.1) (map parameter_of ps)) (rising (map parameter_of ps)) a) h e
+fits_at ps i p a h e =
+    let xs = map parameter_of ps in
+    subst (λ x. fits_value x.1 ≡ true) (get_or-map parameter_of ps i p (parameter_of p) h ∙ ap parameter_of (sym e))
+    (AllPass-from_list_all (λ x. fits_value x.1) xs (first_so (list_all (λ x. fits_value x.1) xs) (rising xs) a) i (parameter_of p) (omega (arith, length-map ps parameter_of, h)))
 
 pub emittable_at : (ps : List Parameter) (i : ℕ) (p : Parameter) → are_emittable ps → i < length ps → p ≡ get_or ps i p → parameter_emittable (value_of p.1) ≡ true
 emittable_at ps i p a h e = second_so (nat_le (length (parameter_octets (value_of p.1))) 65535) (parameter_emittable (value_of p.1)) (fits_at ps i p a h e)
@@ -206,28 +162,12 @@ next_piece x i j head (Some s) g =
 
 -- ---- what can be emitted
 
-pub too_many : (size rest total : ℕ) (b : Bool) → size + rest ≡ total → 65535 < size → false ≡ (nat_le total 65535 && b)
-too_many size rest total b e h = let f : nat_le total 65535 ≡ false = past total (omega (arith, e, h)) in rw f refl
-  where
-    past : (n : ℕ) → 65535 < n → nat_le n 65535 ≡ false
-    past n h = grind (arith, nat_tests, h)
+pub keys_size : (keys : List SvcParamKey) → length (flat_map (bytes_high_first 2) (map key_number keys)) ≡ 2 * length keys
+keys_size keys = length_numbers (map key_number keys) ∙ ap (λ n. 2 * n) (length-map keys key_number)
 
--- without the last
-pub with_true : (b : Bool) → b && true ≡ b
-with_true true = refl
-with_true false = refl
-
-pub keys_decide : (ns : List ℕ) (n : ℕ) (r : Bool) → n ≡ length ns → r ≡ (not (n == 0) && nat_le n 32767) → r ≡ fits_value (Mandatory ns)
-keys_decide [] n r e h = h ∙ ap (λ k. not (k == 0) && nat_le k 32767) e
-keys_decide (x ∷ ns) n r e h =
-    let s = numbers_size (x ∷ ns) in
-    h ∙ ap (λ k. not (k == 0) && nat_le k 32767) e ∙ both (length (x ∷ ns)) (omega arith) ∙ ap (λ k. nat_le k 65535 && true) (sym s)
+pub keys_then : (keys : List SvcParamKey) → length keys ≢ 0 → nat_le (length keys) 32767 ≡ fits_value (Mandatory (map key_number keys))
+keys_then [] some = absurd (some refl)
+keys_then (k ∷ ks) some = both (length (k ∷ ks)) (omega arith) ∙ ap (λ n. nat_le n 65535 && true) (sym (keys_size (k ∷ ks)))
   where
-    both : (n : ℕ) → 0 < n → (not (n == 0) && nat_le n 32767) ≡ (nat_le (2 * n) 65535 && true)
+    both : (n : ℕ) → 0 < n → nat_le n 32767 ≡ (nat_le (2 * n) 65535 && true)
     both n h = grind (arith, nat_tests, h)
-
-pub keys_then : (ns : List ℕ) (n : ℕ) → n ≡ length ns → n ≢ 0 → nat_le n 32767 ≡ fits_value (Mandatory ns)
-keys_then ns n e h = keys_decide ns n (nat_le n 32767) e (some n h)
-  where
-    some : (n : ℕ) → n ≢ 0 → nat_le n 32767 ≡ (not (n == 0) && nat_le n 32767)
-    some n h = grind (arith, nat_tests, h)

@@ -11,19 +11,15 @@ use Rattle.dns_fields.proofs.Numbers.{length-bytes}
 use Rattle.dns_names_wire.specs.Words.{UnlessMemory}
 use Rattle.dns_names_wire.proofs.FieldReads.{unless_all, unless_map}
 use Rattle.dns_rdata_service.specs.SvcParamValue.{HasText, IsFormRefusal, IsValueRefusal, IsKeyRefusal}
-use Rattle.dns_rdata_service.proofs.Splits.{length_numbers, string_first, strings_prefix}
+use Rattle.dns_rdata_service.proofs.Splits.{length_numbers, string_first, strings_prefix, all_behind}
 
 -- no value of the form is in the octets
 pub record HoldsNone (form : Form) (body : List ℕ) : Type 0 where
   pub none : (v : ParameterValue) → form_of v ≡ form → IsEmittable v → IsBody body v → ⊥
 
-length_groups : (n : ℕ) (as' : List (List ℕ)) → AllByRecursion (λ a. length a ≡ n) as' → length (flat_map (λ a. a) as') ≡ n * length as'
+pub length_groups : (n : ℕ) (as' : List (List ℕ)) → AllByRecursion (λ a. length a ≡ n) as' → length (flat_map (λ a. a) as') ≡ n * length as'
 length_groups n [] h = omega arith
 length_groups n (a ∷ as') h = omega (arith, length-append a (flat_map (λ x. x) as'), h.0, length_groups n as' h.1)
-
-texts_behind : (xs ys : List (List ℕ)) → AllByRecursion IsUtf8 (xs ++ ys) → AllByRecursion IsUtf8 ys
-texts_behind [] ys h = h
-texts_behind (x ∷ xs) ys h = texts_behind xs ys h.1
 
 no_name : (names : List (List ℕ)) → names ≢ [] → [] ≡ flat_map string names → ⊥
 no_name [] some e = some refl
@@ -51,7 +47,7 @@ names_none body e names (inr (inl h)) some texts b =
 names_none body e names (inr (inr h)) some texts b =
     let c = h.1 in
     let p = strings_prefix c.names names (string c.name ++ c.rest) (sym b ∙ c.split) in
-    wrong_name c.name c.rest p.0 c.wrong (texts_behind c.names p.0 (subst (AllByRecursion IsUtf8) p.1 texts)) p.2
+    wrong_name c.name c.rest p.0 c.wrong (all_behind IsUtf8 c.names p.0 (subst (AllByRecursion IsUtf8) p.1 texts)) p.2
 
 keys_none : (body : List ℕ) (e : DecodeError) (keys : List ℕ) → IsFormRefusal Keys body e → keys ≢ [] → body ≡ flat_map (bytes_high_first 2) keys → ⊥
 keys_none body e [] (inl h) some b = some refl

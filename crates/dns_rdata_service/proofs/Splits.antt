@@ -1,15 +1,16 @@
 -- Octets that were taken are the front of those that were left.
 use Rattle.std.proofs.Common.{◌≡◌, ℕ, ◌*◌, ◌%◌, List, [], ◌∷◌, ◌++◌, length, drop, refl, sym, ap, ◌∙◌, arith, append_assoc}
-use Rattle.std.specs.List.{flat_map}
+use Rattle.std.specs.List.{flat_map, AllByRecursion}
 use Rattle.std.specs.Int.{bytes_high_first}
 use Rattle.std.proofs.lemmas.List.{length-append, drop-drop, take-append-drop}
-use Rattle.std.proofs.lemmas.Grind.{flat_map-append}
 use Rattle.std.proofs.Math.Nat.{mod-eq_of_lt}
 use Rattle.dns_fields.specs.Octets.{At}
 use Rattle.dns_fields.specs.Fields.{Number, Field}
 use Rattle.dns_fields.specs.Pieces.{string}
 use Rattle.dns_fields.proofs.Numbers.{length-bytes}
 use Rattle.dns_fields.proofs.Pieces.{parts}
+use Rattle.dns_names_wire.specs.State.{Reading}
+use Rattle.dns_names_wire.specs.Words.{StaysBehind}
 
 pub at_split : {m : List ℕ} {p : ℕ} {x : List ℕ} {q : ℕ} → At m p x q → drop p m ≡ x ++ drop q m
 at_split {m} {p} {x} {q} a =
@@ -17,16 +18,8 @@ at_split {m} {p} {x} {q} a =
     ∙ ap (λ (l : List ℕ). l ++ drop (length x) (drop p m)) a.same
     ∙ ap (λ (l : List ℕ). x ++ l) (drop-drop (length x) p m ∙ ap (λ (k : ℕ). drop k m) (sym a.ends))
 
--- one more behind others
-pub split_push : {T : Type 0} (f : T → List ℕ) (xs : List T) (x : T) (body left rest : List ℕ) → body ≡ flat_map f xs ++ left → left ≡ f x ++ rest
-    → body ≡ flat_map f (xs ++ x ∷ []) ++ rest
-split_push f xs x body left rest e g =
-    e ∙ ap (λ (l : List ℕ). flat_map f xs ++ l) g ∙ sym (append_assoc (flat_map f xs) (f x) rest)
-    ∙ ap (λ (l : List ℕ). l ++ rest) (ap (λ (l : List ℕ). flat_map f xs ++ l) (sym (append-nil (f x))) ∙ sym (flat_map-append f xs (x ∷ [])))
-  where
-    append-nil : (l : List ℕ) → l ++ [] ≡ l
-    append-nil [] = refl
-    append-nil (y ∷ ys) = ap (λ (t : List ℕ). y ∷ t) (append-nil ys)
+pub stays_then : {a b c : Reading} → StaysBehind a b → StaysBehind b c → StaysBehind a c
+stays_then f g = record { message = g.message ∙ f.message; index = omega (arith, f.index, g.index) }
 
 pub length_numbers : (ns : List ℕ) → length (flat_map (bytes_high_first 2) ns) ≡ 2 * length ns
 length_numbers [] = refl
@@ -57,3 +50,13 @@ strings_prefix (x ∷ xs) (y ∷ ys) r e =
     let h = string_first y x (flat_map string ys) (flat_map string xs ++ r) f in
     let t = strings_prefix xs ys r h.1 in
     (t.0, ap (λ (z : List ℕ). z ∷ ys) h.0 ∙ ap (λ (zs : List (List ℕ)). x ∷ zs) t.1, t.2)
+
+-- ---- a fact of each
+
+pub all_behind : {T : Type 0} (P : T → Type 0) (a b : List T) → AllByRecursion P (a ++ b) → AllByRecursion P b
+all_behind P [] b f = f
+all_behind P (x ∷ a) b f = all_behind P a b f.1
+
+pub all_append : {T : Type 0} (P : T → Type 0) (a b : List T) → AllByRecursion P a → AllByRecursion P b → AllByRecursion P (a ++ b)
+all_append P [] b f g = g
+all_append P (x ∷ a) b f g = (f.0, all_append P a b f.1 g)

@@ -1,33 +1,34 @@
 -- Service bindings, compared field by field and parameter by parameter.
-use Rattle.std.proofs.Common.{◌≡◌, ◌≢◌, ℕ, suc, ◌*◌, ◌<◌, ◌≤◌, ◌^◌, ◌&&◌, true, false, true≢false, List, [], ◌∷◌, ◌++◌, length, drop, map, All, refl, sym, ap, ◌∙◌, arith, length-append}
+use Rattle.std.proofs.Common.{◌≡◌, ◌≢◌, ℕ, suc, ◌*◌, ◌<◌, ◌≤◌, ◌^◌, ◌&&◌, true, false, true≢false, List, [], ◌∷◌, ◌++◌, length, drop, map, refl, sym, ap, ◌∙◌, arith}
 use Rattle.std.specs.Prelude.{nat_eq}
 use Rattle.std.specs.Int.{bytes_high_first}
 use Rattle.std.specs.List.{AllByRecursion, flat_map}
 use Rattle.std.specs.FinMap.{nat_cmp-IsAntisymmetric, slice_cmp-IsAntisymmetric}
-use Rattle.std.proofs.lemmas.List.{append-nil, drop_all}
+use Rattle.std.proofs.lemmas.List.{drop_all, length-map}
 use Rattle.std.proofs.lemmas.Bool.Decides.{Decides-and}
-use Rattle.std.proofs.lemmas.List.Elements.{recursion_from_All}
-use Rattle.std.proofs.Math.Nat.{mul-le-mul_left}
-use Rattle.std.specs.Cmp.{ranks, nat_cmp_is, unsigned_Decides, booleans_Decides}
+use Rattle.std.proofs.Math.Nat.{mul-le-mul_left, mul_comm}
+use Rattle.std.specs.Cmp.{Equal-is, ranks, nat_cmp_is, unsigned_Decides, booleans_Decides}
 use Rattle.std.specs.Cmp.Lexicographic.{pointwise, slice_cmp, pointwise_decides}
 use Rattle.std.specs.Ordering.{MatchOrdering, nat_cmp, ordering_then, is_eq, is_ne}
 use Rattle.std.specs.declared.cmp.Ordering.{Ordering}
 use Rattle.std.specs.declared.cmp.Ordering.TheVariants.{Less, Equal, Greater}
 use Rattle.dns_fields.specs.Comparing.{name_eq}
 use Rattle.dns_fields.specs.Equal.{key_eq, parameter_keys, values_eq}
-use Rattle.dns_fields.specs.Pieces.{Port}
-use Rattle.dns_fields.specs.Fields.{Number, Name, Octets, Rest, field_octets}
+use Rattle.dns_fields.specs.Pieces.{string, Alpn, Opaque, Port}
+use Rattle.dns_fields.specs.Fields.{Number, Name, field_octets}
 use Rattle.dns_fields.specs.Labels.{AreLabels, lowname}
 use Rattle.dns_fields.proofs.Numbers.{number_cmp, length-bytes, same_number}
 use Rattle.dns_pieces.specs.Fronts.{canonical_cmp}
-use Rattle.dns_pieces.proofs.Comparing.{cmp_shared}
-use Rattle.dns_pieces.proofs.Fronts.{by_fields, field_cmp}
+use Rattle.dns_pieces.proofs.Comparing.{cmp_shared, then_kept}
+use Rattle.dns_pieces.proofs.Fronts.{by_fields, field_cmp, front_then}
+use Rattle.dns_rdata_service.proofs.Refusals.{length_groups}
 use Rattle.dns_rdata_service.specs.Fronts.{OrderFirst, joined, behind_length}
 use Rattle.dns_rdata_service.specs.OwnKeys.{value_eq, value_same}
 use Rattle.dns_rdata_service.specs.Parameters.{Parameter, own_parameter}
 use Rattle.dns_rdata_service.specs.Steps.{parameters_from}
 use Rattle.dns_rdata_service.specs.SVCB.{svcb_shape, svcb_fields, svcb_key_shape, svcb_keys}
-use Rattle.dns_rdata_service.specs.SvcParamValue.{value_key, sized}
+use Rattle.dns_rdata_service.specs.SvcParamValue.{value_key, value_of, sized}
+use Rattle.dns_rdata_service.proofs.OwnValues.{value_given}
 use Rattle.dns_rdata_service.specs.declared.svcb.SVCB.{SVCB}
 use Rattle.dns_rdata_service.specs.declared.svcb.value.SvcParamValue.{SvcParamValue}
 
@@ -42,22 +43,13 @@ alike_first o s t e f x y = rw e (cmp_shared {n = length s} record {
   right = ap (λ (r : List ℕ). r ++ y) (sym f);
 })
 
--- as many of both
-as_many_first : (s t : List ℕ) → length s ≡ length t → OrderFirst (slice_cmp nat_cmp s t) s t
-unfolding field_octets
-as_many_first s t h x y =
-    let fields : slice_cmp nat_cmp (s ++ (x ++ [])) (t ++ (y ++ [])) ≡ ordering_then (slice_cmp nat_cmp s t) (slice_cmp nat_cmp x y) =
-    sym (by_fields (Octets (length s) ∷ Rest ∷ []) (s, (x, tt)) (t, (y, tt)) (h, (tt, tt))) in
-    rw (append-nil x, append-nil y) at fields
-
 -- numbers in as many octets
 number_first : (o : Ordering) (w a b : ℕ) → o ≡ nat_cmp a b → a < 256 ^ w → b < 256 ^ w → OrderFirst o (bytes_high_first w a) (bytes_high_first w b)
 number_first o w a b e p q x y =
-    as_many_first (bytes_high_first w a) (bytes_high_first w b) (length-bytes w a ∙ sym (length-bytes w b)) x y
+    front_then (bytes_high_first w a) (bytes_high_first w b) x y (length-bytes w a ∙ sym (length-bytes w b))
     ∙ ap (λ (u : Ordering). ordering_then u (slice_cmp nat_cmp x y)) (number_cmp w a b p q ∙ sym e)
 
 -- octets behind their length in two octets
-
 sized_first : (s t : List ℕ) → length s ≤ 65535 → length t ≤ 65535
     → OrderFirst (ordering_then (nat_cmp (length s) (length t)) (slice_cmp nat_cmp s t)) (behind_length s) (behind_length t)
 sized_first s t h k x y =
@@ -67,7 +59,7 @@ sized_first s t h k x y =
     by : (o : Ordering) → MatchOrdering o (length s < length t) (length s ≡ length t) (length t < length s)
         → ordering_then o (slice_cmp nat_cmp (s ++ x) (t ++ y)) ≡ ordering_then (ordering_then o (slice_cmp nat_cmp s t)) (slice_cmp nat_cmp x y)
     by Less e = refl
-    by Equal e = as_many_first s t e x y
+    by Equal e = front_then s t x y e
     by Greater e = refl
 
 -- by two numbers, and then by octets of which these are the lengths
@@ -90,19 +82,8 @@ ne_no Less h = absurd (true≢false h)
 ne_no Equal h = refl
 ne_no Greater h = absurd (true≢false h)
 
-pub eq_yes : (o : Ordering) → is_eq o ≡ true → o ≡ Equal
-eq_yes Less h = absurd (true≢false (sym h))
-eq_yes Equal h = refl
-eq_yes Greater h = absurd (true≢false (sym h))
-
 pub ne_yes : (o : Ordering) → is_ne o ≡ true → o ≢ Equal
 ne_yes o h e = absurd (true≢false (sym h ∙ ap is_ne e))
-
--- one that is no tie stays what it is
-pub ne_kept : (o p : Ordering) → is_ne o ≡ true → o ≡ ordering_then o p
-ne_kept Less p h = refl
-ne_kept Equal p h = absurd (true≢false (sym h))
-ne_kept Greater p h = refl
 
 -- octets that tie are the same
 pub octets_tie : (o : Ordering) (s t : List ℕ) → o ≡ slice_cmp nat_cmp s t → o ≡ Equal → s ≡ t
@@ -113,30 +94,25 @@ lists_tie o ss ts e f = slice_cmp-IsAntisymmetric (slice_cmp-IsAntisymmetric nat
 
 -- ---- lists of as many octets each
 
-module _ {X : Type 0} (octets_of : X → List ℕ) (k : ℕ) where
-  abbrev Each : List X → Type 0
-  Each xs = AllByRecursion (λ x. length (octets_of x) ≡ k) xs
+module _ (k : ℕ) where
+  abbrev Each : List (List ℕ) → Type 0
+  Each ss = AllByRecursion (λ s. length s ≡ k) ss
 
-  joined_length : (xs : List X) → Each xs → length (joined (map octets_of xs)) ≡ length xs * k
-  joined_length [] h = omega arith
-  joined_length (x ∷ xs) h = let rest = joined_length xs h.1 in omega (arith, length-append (octets_of x) (joined (map octets_of xs)), rest, h.0)
-
-  joined_cmp : (xs ys : List X) → 0 < k → Each xs → Each ys
-      → slice_cmp nat_cmp (joined (map octets_of xs)) (joined (map octets_of ys)) ≡ slice_cmp (slice_cmp nat_cmp) (map octets_of xs) (map octets_of ys)
+  joined_cmp : (ss ts : List (List ℕ)) → 0 < k → Each ss → Each ts → slice_cmp nat_cmp (joined ss) (joined ts) ≡ slice_cmp (slice_cmp nat_cmp) ss ts
   joined_cmp [] [] some h g = refl
-  joined_cmp [] (y ∷ ys) some h g = by (octets_of y) (omega (arith, g.0, some))
+  joined_cmp [] (t ∷ ts) some h g = by t (omega (arith, g.0, some))
     where
-      by : (t : List ℕ) → 0 < length t → slice_cmp nat_cmp [] (t ++ joined (map octets_of ys)) ≡ Less
+      by : (t : List ℕ) → 0 < length t → slice_cmp nat_cmp [] (t ++ joined ts) ≡ Less
       by [] e = absurd (omega arith)
       by (u ∷ t) e = refl
-  joined_cmp (x ∷ xs) [] some h g = by (octets_of x) (omega (arith, h.0, some))
+  joined_cmp (s ∷ ss) [] some h g = by s (omega (arith, h.0, some))
     where
-      by : (s : List ℕ) → 0 < length s → slice_cmp nat_cmp (s ++ joined (map octets_of xs)) [] ≡ Greater
+      by : (s : List ℕ) → 0 < length s → slice_cmp nat_cmp (s ++ joined ss) [] ≡ Greater
       by [] e = absurd (omega arith)
       by (u ∷ s) e = refl
-  joined_cmp (x ∷ xs) (y ∷ ys) some h g =
-      as_many_first (octets_of x) (octets_of y) (h.0 ∙ sym g.0) (joined (map octets_of xs)) (joined (map octets_of ys))
-      ∙ ap (λ (o : Ordering). ordering_then (slice_cmp nat_cmp (octets_of x) (octets_of y)) o) (joined_cmp xs ys some h.1 g.1)
+  joined_cmp (s ∷ ss) (t ∷ ts) some h g =
+      front_then s t (joined ss) (joined ts) (h.0 ∙ sym g.0)
+      ∙ ap (λ (o : Ordering). ordering_then (slice_cmp nat_cmp s t) o) (joined_cmp ss ts some h.1 g.1)
 
 scaled : (k n m : ℕ) → 0 < k → nat_cmp n m ≡ nat_cmp (n * k) (m * k)
 scaled k n m some = nat_cmp_is (n * k) (m * k) (nat_cmp n m) (by (nat_cmp n m) (ranks n m))
@@ -150,16 +126,22 @@ scaled k n m some = nat_cmp_is (n * k) (m * k) (nat_cmp n m) (by (nat_cmp n m) (
     by Greater h = below m n h
 
 -- by their number, and then item by item
-pub items_first : {X : Type 0} (octets_of : X → List ℕ) (k : ℕ) (xs ys : List X) (r c o : Ordering) (n m : ℕ) → 0 < k
-    → All (λ x. length (octets_of x) ≡ k) xs → All (λ x. length (octets_of x) ≡ k) ys
-    → r ≡ ordering_then c o → c ≡ nat_cmp n m → n ≡ length xs → m ≡ length ys → o ≡ slice_cmp (slice_cmp nat_cmp) (map octets_of xs) (map octets_of ys)
-    → n * k ≤ 65535 → m * k ≤ 65535 → OrderFirst r (behind_length (joined (map octets_of xs))) (behind_length (joined (map octets_of ys)))
-items_first octets_of k xs ys r c o n m some h g e f p q i few less =
-    let a = recursion_from_All _ _ h in
-    let b = recursion_from_All _ _ g in
-    lengths_first r c o (n * k) (m * k) (joined (map octets_of xs)) (joined (map octets_of ys)) e (f ∙ scaled k n m some)
-    (ap (λ (j : ℕ). j * k) p ∙ sym (joined_length octets_of k xs a)) (ap (λ (j : ℕ). j * k) q ∙ sym (joined_length octets_of k ys b))
-    (i ∙ sym (joined_cmp octets_of k xs ys some a b)) few less
+pub items_first : {X : Type 0} (octets_of : X → List ℕ) (k : ℕ) (xs ys : List X) (r c o : Ordering) → 0 < k
+    → AllByRecursion (λ s. length s ≡ k) (map octets_of xs) → AllByRecursion (λ s. length s ≡ k) (map octets_of ys)
+    → r ≡ ordering_then c o → c ≡ nat_cmp (length xs) (length ys) → o ≡ slice_cmp (slice_cmp nat_cmp) (map octets_of xs) (map octets_of ys)
+    → length xs * k ≤ 65535 → length ys * k ≤ 65535 → OrderFirst r (behind_length (joined (map octets_of xs))) (behind_length (joined (map octets_of ys)))
+items_first octets_of k xs ys r c o some h g e f i few less =
+    lengths_first r c o (length xs * k) (length ys * k) _ _ e (f ∙ scaled k (length xs) (length ys) some) (size xs h) (size ys g)
+    (i ∙ sym (joined_cmp k _ _ some h g)) few less
+  where
+    size : (zs : List _) → AllByRecursion (λ s. length s ≡ k) (map octets_of zs) → length zs * k ≡ length (joined (map octets_of zs))
+    size zs h = mul_comm (length zs) k ∙ ap (λ n. k * n) (sym (length-map zs octets_of)) ∙ sym (length_groups k (map octets_of zs) h)
+
+-- or they are the same
+pub items_alike : {X : Type 0} (octets_of : X → List ℕ) (xs ys : List X) (o : Ordering) → o ≡ slice_cmp (slice_cmp nat_cmp) (map octets_of xs) (map octets_of ys)
+    → is_eq o ≡ true → OrderFirst o (behind_length (joined (map octets_of xs))) (behind_length (joined (map octets_of ys)))
+items_alike octets_of xs ys o e h =
+    let tie = (Equal-is o).0 h in alike_first o _ _ tie (ap (λ l. behind_length (joined l)) (lists_tie o (map octets_of xs) (map octets_of ys) e tie))
 
 -- ---- parameters
 
@@ -167,9 +149,29 @@ pub port_first : (o : Ordering) (a b : ℕ) → o ≡ nat_cmp a b → a < 256 ^ 
 port_first o a b e p q =
     rw (e ∙ sym (number_cmp 2 a b p q)) (sized_first (bytes_high_first 2 a) (bytes_high_first 2 b) (omega arith) (omega arith))
 
+-- octets, and then by them
+pub octets_first : (r c : Ordering) (s t : List ℕ) → r ≡ ordering_then c (slice_cmp nat_cmp s t) → c ≡ nat_cmp (length s) (length t) → length s ≤ 65535
+    → length t ≤ 65535 → OrderFirst r (sized (Opaque s)) (sized (Opaque t))
+octets_first r c s t e f h k = rw (e, f) (sized_first s t h k)
+
+pub names_same : (a b : List (List ℕ)) → pointwise (pointwise nat_eq) a b ≡ true → a ≡ b
+names_same a b e = (pointwise_decides (pointwise_decides unsigned_Decides) a b).0 e
+
+-- names of protocols that are the same, or differ in their octets' number
+pub names_alike : (a b : List (List ℕ)) → pointwise (pointwise nat_eq) a b ≡ true → OrderFirst Equal (sized (Alpn a)) (sized (Alpn b))
+names_alike a b e = alike_first Equal (sized (Alpn a)) (sized (Alpn b)) refl (ap (λ l. sized (Alpn l)) (names_same a b e))
+
+pub names_differ : (o : Ordering) (n m : ℕ) (a b : List (List ℕ)) → o ≡ nat_cmp n m → is_ne o ≡ true → n ≡ length (flat_map string a)
+    → m ≡ length (flat_map string b) → n ≤ 65535 → m ≤ 65535 → OrderFirst o (sized (Alpn a)) (sized (Alpn b))
+names_differ o n m a b e ne p q h k =
+    lengths_first o o (slice_cmp nat_cmp (flat_map string a) (flat_map string b)) n m (flat_map string a) (flat_map string b) (then_kept o _ (ne_yes o ne)) e p q refl h k
+
 -- equal values are compared by the same
 pub equal_values : (v w : SvcParamValue) → value_eq v w ≡ true → value_key v ≡ value_key w
 equal_values v w h = (pointwise_decides (pointwise_decides unsigned_Decides) (value_key v) (value_key w)).0 (sym (value_same v w) ∙ h)
+
+pub equal_first : (v w : SvcParamValue) → value_eq v w ≡ true → OrderFirst Equal (sized (value_of v)) (sized (value_of w))
+equal_first v w h = alike_first Equal (sized (value_of v)) (sized (value_of w)) refl (ap sized (value_given v w (equal_values v w h)))
 
 abbrev pub rest_cmp : List Parameter → List Parameter → ℕ → Ordering
 rest_cmp ps qs i = slice_cmp nat_cmp (parameters_from ps i) (parameters_from qs i)

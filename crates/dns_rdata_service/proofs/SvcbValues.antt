@@ -1,33 +1,31 @@
 -- SVCB and HTTPS by their fields: a record that was read is told by them, and fields of a window make one.
-use Rattle.std.proofs.Common.{◌≡◌, ◌↔◌, inl, inr, ℕ, zero, suc, ◌==◌, ◌&&◌, Bool, true, false, if◌then◌else◌, List, [], ◌∷◌, length, map}
+use Rattle.std.proofs.Common.{◌≡◌, inl, inr, ℕ, ◌==◌, ◌&&◌, Bool, true, false, if◌then◌else◌, List, [], ◌∷◌, length, map}
 use Rattle.std.proofs.Common.{refl, sym, ap, ◌∙◌, arith}
 use Rattle.std.specs.List.{flat_map, AllByRecursion}
 use Rattle.dns_types.specs.declared.error.DecodeError.TheVariants as decode
 use Rattle.dns_fields.specs.Octets.{AreOctets}
 use Rattle.dns_fields.specs.Fields.{Number, Name, Values, Parameters}
 use Rattle.dns_fields.specs.Pieces.{Numbered, ParameterValue, Mandatory, Alpn, NoDefaultAlpn, Port, Ipv4Hint, Ipv6Hint, Opaque}
-use Rattle.dns_fields.specs.Pieces.{ParameterHeld, AllHeld, piece, pieces, Form, Keys, Names, Nothing, PortNumber, Addresses4, Addresses16}
+use Rattle.dns_fields.specs.Pieces.{ParameterHeld, AllHeld, piece, pieces, Form, Keys, Names}
 use Rattle.dns_fields.specs.Pieces.{AnyOctets, form_for}
 use Rattle.dns_fields.specs.Equal.{kind_eq, values_eq}
 use Rattle.dns_fields.proofs.EqualLaws.{field_decide}
-use Rattle.std.specs.Bool.{Decides}
+use Rattle.std.proofs.lemmas.Bool.Decides.{same_from_decides, Decides-like}
 use Rattle.dns_fields.proofs.OctetLaws.{AreOctets-at, AreOctets-front, AreOctets-back, AreOctets-same, piece_body}
 use Rattle.dns_names_wire.specs.State.{Reading}
 use Rattle.dns_names_wire.specs.Words.{Window}
-use Rattle.dns_rdata_base.specs.Refusing.{FirstLack}
-use Rattle.dns_rdata_base.proofs.Addresses.{octets_of-segments, segments_of-octets_of}
-use Rattle.std.specs.Net.Addr.{segments_of}
+use Rattle.dns_rdata_base.proofs.Addresses.{octets_of-segments}
 use Rattle.dns_rdata_service.specs.SvcParamKey.{key_number, key_of}
-use Rattle.dns_rdata_service.specs.SvcParamValue.{value_of, value_from, value_key, key_numbers, a_octets, a_of, aaaa_octets, aaaa_of, IsValueRefusal, IsKeyRefusal}
+use Rattle.dns_rdata_service.specs.SvcParamValue.{value_of, value_from, a_octets, a_of, aaaa_octets, aaaa_of, IsFormRefusal, IsKeyRefusal}
 use Rattle.dns_rdata_service.specs.Parameters.{Parameter, parameter_of, parameter_from, own_parameter, AreRead, IsParameterRefusal, IsParametersRefusal}
 use Rattle.dns_rdata_service.specs.SVCB.{svcb_shape, svcb_fields, svcb_key_shape, svcb_keys, IsReadSvcb, IsSvcbRefusal}
 use Rattle.dns_rdata_service.specs.HTTPS.{https_shape, https_fields, https_key_shape, https_keys, IsReadHttps}
-use Rattle.dns_rdata_service.specs.declared.svcb.key.SvcParamKey.{SvcParamKey}
 use Rattle.dns_rdata_service.specs.declared.svcb.value.SvcParamValue.{SvcParamValue}
 use Rattle.dns_rdata_service.specs.declared.svcb.value.SvcParamValue.TheVariants as variants
 use Rattle.dns_rdata_service.specs.declared.svcb.SVCB.{SVCB}
 use Rattle.dns_rdata_service.specs.declared.https.HTTPS.{HTTPS}
-use Rattle.dns_rdata_service.proofs.Given.{key_number-of}
+use Rattle.dns_rdata_service.proofs.Given.{key_number-of, map_back, aaaa_list_back}
+use Rattle.dns_rdata_service.proofs.OwnValues.{own_fields}
 
 abbrev pub svcb_from : Values svcb_shape → SVCB
 svcb_from vs = record { svc_priority = vs.0; target_name = vs.1.0; svc_params = map parameter_from vs.1.1.0 }
@@ -37,29 +35,11 @@ svcb_from-fields x r = ap (λ (ps : List Parameter). record x { svc_params = ps 
 
 -- ---- what fields give is read
 
-map_same : {X Y : Type 0} (f g : X → Y) → ((x : X) → f x ≡ g x) → (xs : List X) → map f xs ≡ map g xs
-map_same f g h [] = refl
-map_same f g h (x ∷ xs) = ap (λ y. y ∷ map f xs) (h x) ∙ ap (λ ys. g x ∷ ys) (map_same f g h xs)
+numbers_back : (ks : List ℕ) → ks ≡ map key_number (map key_of ks)
+numbers_back = map_back key_of key_number (λ n. sym (key_number-of n))
 
-map_twice : {X Y Z : Type 0} (f : X → Y) (g : Y → Z) (xs : List X) → map g (map f xs) ≡ map (λ x. g (f x)) xs
-map_twice f g [] = refl
-map_twice f g (x ∷ xs) = ap (λ ys. g (f x) ∷ ys) (map_twice f g xs)
-
-map_itself : {X : Type 0} (f : X → X) → ((x : X) → f x ≡ x) → (xs : List X) → map f xs ≡ xs
-map_itself f h [] = refl
-map_itself f h (x ∷ xs) = ap (λ y. y ∷ map f xs) (h x) ∙ ap (λ ys. x ∷ ys) (map_itself f h xs)
-
-numbers_back : (ks : List ℕ) → map key_number (map key_of ks) ≡ ks
-numbers_back ks = map_twice key_of key_number ks ∙ map_itself (λ k. key_number (key_of k)) key_number-of ks
-
-groups_back : (ss : List (List ℕ)) → map a_octets (map a_of ss) ≡ ss
-groups_back ss = map_twice a_of a_octets ss ∙ map_itself (λ s. a_octets (a_of s)) (λ s. refl) ss
-
-segments_back : (ss : List (List ℕ)) → map aaaa_of ss ≡ map aaaa_of (map aaaa_octets (map aaaa_of ss))
-segments_back ss =
-    map_same aaaa_of (λ s. aaaa_of (aaaa_octets (aaaa_of s)))
-    (λ s. ap (λ (l : List ℕ). record { 0 = record { segments = l } }) (sym (segments_of-octets_of (segments_of s)))) ss
-    ∙ sym (ap (map aaaa_of) (map_twice aaaa_of aaaa_octets ss) ∙ map_twice (λ s. aaaa_octets (aaaa_of s)) aaaa_of ss)
+groups_back : (ss : List (List ℕ)) → ss ≡ map a_octets (map a_of ss)
+groups_back = map_back a_of a_octets (λ s. refl)
 
 opaque_value : (b c : Bool) (s : List ℕ)
     → value_of (if b then variants.EchConfigList (record { 0 = s }) else if c then variants.DohPath (record { 0 = s }) else variants.Unknown (record { 0 = s })) ≡ Opaque s
@@ -68,12 +48,12 @@ opaque_value false true s = refl
 opaque_value false false s = refl
 
 value_again : (n : ℕ) (v : ParameterValue) → value_from n v ≡ value_from n (value_of (value_from n v))
-value_again n (Mandatory ks) = ap (λ (l : List ℕ). variants.Mandatory (record { 0 = map key_of l })) (sym (numbers_back ks))
+value_again n (Mandatory ks) = ap (λ (l : List ℕ). variants.Mandatory (record { 0 = map key_of l })) (numbers_back ks)
 value_again n (Alpn names) = refl
 value_again n NoDefaultAlpn = refl
 value_again n (Port p) = refl
-value_again n (Ipv4Hint ss) = ap (λ (l : List (List ℕ)). variants.Ipv4Hint (record { 0 = map a_of l })) (sym (groups_back ss))
-value_again n (Ipv6Hint ss) = ap (λ as'. variants.Ipv6Hint (record { 0 = as' })) (segments_back ss)
+value_again n (Ipv4Hint ss) = ap (λ (l : List (List ℕ)). variants.Ipv4Hint (record { 0 = map a_of l })) (groups_back ss)
+value_again n (Ipv6Hint ss) = ap (λ as'. variants.Ipv6Hint (record { 0 = as' })) (aaaa_list_back (map aaaa_of ss))
 value_again n (Opaque s) = ap (value_from n) (sym (opaque_value (n == 5) (n == 7) s))
 
 parameter_again : (x : Numbered ParameterValue) → parameter_from x ≡ parameter_from (parameter_of (parameter_from x))
@@ -81,11 +61,14 @@ parameter_again x =
     ap (λ (v : SvcParamValue). (key_of x.0, v)) (value_again x.0 x.1)
     ∙ ap (λ (k : ℕ). (key_of k, value_from k (value_of (value_from x.0 x.1)))) (sym (key_number-of x.0))
 
+parameters_again : (v : List (Numbered ParameterValue)) → AreRead (map parameter_from v)
+parameters_again [] = refl
+parameters_again (x ∷ xs) =
+    ap (λ (p : Parameter). p ∷ map parameter_from xs) (parameter_again x)
+    ∙ ap (λ (ps : List Parameter). parameter_from (parameter_of (parameter_from x)) ∷ ps) (parameters_again xs)
+
 pub svcb_from-read : (vs : Values svcb_shape) → IsReadSvcb (svcb_from vs)
-svcb_from-read vs =
-    let ps = vs.1.1.0 in
-    map_same parameter_from (λ x. parameter_from (parameter_of (parameter_from x))) parameter_again ps
-    ∙ sym (ap (map parameter_from) (map_twice parameter_from parameter_of ps) ∙ map_twice (λ x. parameter_of (parameter_from x)) parameter_from ps)
+svcb_from-read vs = parameters_again vs.1.1.0
 
 -- ---- and has the fields, where addresses are octets
 
@@ -98,11 +81,11 @@ wide_back [] h = refl
 wide_back (s ∷ ss) h = ap (λ t. t ∷ map aaaa_octets (map aaaa_of ss)) (octets_of-segments 8 s (omega (arith, h.0.0)) h.0.1) ∙ ap (λ t. s ∷ t) (wide_back ss h.1)
 
 value_back : (n : ℕ) (v : ParameterValue) → IsWide v → value_of (value_from n v) ≡ v
-value_back n (Mandatory ks) h = ap Mandatory (numbers_back ks)
+value_back n (Mandatory ks) h = ap Mandatory (sym (numbers_back ks))
 value_back n (Alpn names) h = refl
 value_back n NoDefaultAlpn h = refl
 value_back n (Port p) h = refl
-value_back n (Ipv4Hint ss) h = ap Ipv4Hint (groups_back ss)
+value_back n (Ipv4Hint ss) h = ap Ipv4Hint (sym (groups_back ss))
 value_back n (Ipv6Hint ss) h = ap Ipv6Hint (wide_back ss h)
 value_back n (Opaque s) h = opaque_value (n == 5) (n == 7) s
 
@@ -147,80 +130,16 @@ svcb_fields-from m p n condition vs w =
 
 -- ---- keys are the same exactly where fields are
 
-first_number : List ℕ → ℕ
-first_number [] = 0
-first_number (n ∷ ns) = n
-
-first_list : List (List ℕ) → List ℕ
-first_list [] = []
-first_list (s ∷ ss) = s
-
--- the value of these contents, by the place in the declaration
-shown : ℕ → List (List ℕ) → ParameterValue
-shown zero ss = Mandatory (map first_number ss)
-shown (suc zero) ss = Alpn ss
-shown (suc (suc zero)) ss = NoDefaultAlpn
-shown (suc (suc (suc zero))) ss = Port (first_number (first_list ss))
-shown (suc (suc (suc (suc zero)))) ss = Ipv4Hint ss
-shown (suc (suc (suc (suc (suc zero))))) ss = Opaque (first_list ss)
-shown (suc (suc (suc (suc (suc (suc zero)))))) ss = Ipv6Hint ss
-shown (suc (suc (suc (suc (suc (suc (suc n))))))) ss = Opaque (first_list ss)
-
-shown_value : List (List ℕ) → ParameterValue
-shown_value [] = NoDefaultAlpn
-shown_value (s ∷ ss) = shown (first_number s) ss
-
-shown_parameter : Numbered ParameterValue → Numbered ParameterValue
-shown_parameter (n, Alpn (s ∷ ss)) = (n, shown_value ss)
-shown_parameter (n, v) = (n, v)
-
-first_numbers : (ks : List SvcParamKey) → map first_number (map key_numbers ks) ≡ map key_number ks
-unfolding first_number
-first_numbers [] = refl
-first_numbers (k ∷ ks) = ap (λ l. key_number k ∷ l) (first_numbers ks)
-
-value_shown : (v : SvcParamValue) → shown_value (value_key v) ≡ value_of v
-unfolding shown_value shown first_number first_list
-value_shown (variants.Mandatory x) = ap Mandatory (first_numbers x.0)
-value_shown (variants.Alpn x) = refl
-value_shown variants.NoDefaultAlpn = refl
-value_shown (variants.Port n) = refl
-value_shown (variants.Ipv4Hint x) = refl
-value_shown (variants.EchConfigList x) = refl
-value_shown (variants.Ipv6Hint x) = refl
-value_shown (variants.DohPath x) = refl
-value_shown (variants.Unknown x) = refl
-
-parameter_shown : (p : Parameter) → shown_parameter (own_parameter p) ≡ parameter_of p
-unfolding shown_parameter
-parameter_shown p = ap (λ (v : ParameterValue). (key_number p.0, v)) (value_shown p.1)
-
-parameters_shown : (ps : List Parameter) → map parameter_of ps ≡ map shown_parameter (map own_parameter ps)
-parameters_shown ps = map_same parameter_of (λ p. shown_parameter (own_parameter p)) (λ p. sym (parameter_shown p)) ps
-    ∙ sym (map_twice own_parameter shown_parameter ps)
-
-keys_fields : (ps qs : List Parameter) → map own_parameter ps ≡ map own_parameter qs → map parameter_of ps ≡ map parameter_of qs
-keys_fields ps qs e = parameters_shown ps ∙ ap (map shown_parameter) e ∙ sym (parameters_shown qs)
-
 fields_keys : (ps qs : List Parameter) → AreRead ps → AreRead qs → map parameter_of ps ≡ map parameter_of qs → map own_parameter ps ≡ map own_parameter qs
 fields_keys ps qs x y e = ap (map own_parameter) (x ∙ ap (map parameter_from) e ∙ sym y)
-
-parameters_same : (ps qs : List Parameter) → AreRead ps → AreRead qs
-    → (map own_parameter ps ≡ map own_parameter qs) ↔ (map parameter_of ps ≡ map parameter_of qs)
-parameters_same ps qs x y = (keys_fields ps qs, fields_keys ps qs x y)
-
-decided_same : (a b : Bool) {P Q : Type 0} → Decides a P → Decides b Q → P ↔ Q → a ≡ b
-decided_same true true d e s = refl
-decided_same false false d e s = refl
-decided_same true false d e s = sym (e.1 (s.0 (d.0 refl)))
-decided_same false true d e s = d.1 (s.1 (e.0 refl))
 
 parameters_equal : (ps qs : List Parameter) → AreRead ps → AreRead qs
     → kind_eq Parameters (map own_parameter ps) (map own_parameter qs) ≡ kind_eq Parameters (map parameter_of ps) (map parameter_of qs)
 parameters_equal ps qs x y =
-    let s = parameters_same ps qs x y in
-    decided_same _ _ (field_decide Parameters (map own_parameter ps) (map own_parameter qs) tt tt)
-    (field_decide Parameters (map parameter_of ps) (map parameter_of qs) tt tt) (λ e. record { is = s.0 e.is }, λ e. record { is = s.1 e.is })
+    same_from_decides _ _
+    (Decides-like _ (λ e. record { is = own_fields ps qs e.is }) (λ e. record { is = fields_keys ps qs x y e.is })
+    (field_decide Parameters (map own_parameter ps) (map own_parameter qs) tt tt))
+    (field_decide Parameters (map parameter_of ps) (map parameter_of qs) tt tt)
 
 -- what was read is compared as its fields are
 pub svcb_equal : (a b : SVCB) → IsReadSvcb a → IsReadSvcb b
@@ -230,48 +149,26 @@ svcb_equal a b x y = ap (λ (t : Bool). kind_eq (Number 2) a.svc_priority b.svc_
 
 -- ---- the refusal by a type's number is none of SVCB's
 
-lack_never : (old new : Reading) (k : ℕ) → FirstLack (Number 2 ∷ Name ∷ []) old (decode.UnknownRecordTypeValue k) new → ⊥
-lack_never old new k (inl h) = let e = h.0 in cc e
-lack_never old new k (inr (v, b, f, inl h)) = let e = h.0 in cc e
-lack_never old new k (inr (v, b, f, inr h)) = elim h.3 [ ]
-
-head_never : (old new : Reading) (k : ℕ) → FirstLack (Number 2 ∷ Number 2 ∷ []) old (decode.UnknownRecordTypeValue k) new → ⊥
-head_never old new k (inl h) = let e = h.0 in cc e
-head_never old new k (inr (v, b, f, inl h)) = let e = h.0 in cc e
-head_never old new k (inr (v, b, f, inr h)) = elim h.3 [ ]
-
-value_never : (f : Form) (body : List ℕ) (k : ℕ) → IsValueRefusal f body (decode.UnknownRecordTypeValue k) → ⊥
-value_never f body k (inl e) = cc e
-value_never Keys body k (inr (inl h)) = let e = h.0 in cc e
-value_never Keys body k (inr (inr h)) = let e = h.0 in cc e
-value_never Names body k (inr (inl h)) = let e = h.0 in cc e
-value_never Names body k (inr (inr (inl h))) = let e = h.0 in cc e
-value_never Names body k (inr (inr (inr h))) = let e = h.0 in cc e
-value_never Nothing body k (inr h) = let e = h.0 in cc e
-value_never PortNumber body k (inr h) = let e = h.0 in cc e
-value_never Addresses4 body k (inr h) = let e = h.0 in cc e
-value_never Addresses16 body k (inr h) = let e = h.0 in cc e
-value_never AnyOctets body k (inr h) = elim h [ ]
+form_never : (f : Form) (body : List ℕ) (k : ℕ) → IsFormRefusal f body (decode.UnknownRecordTypeValue k) → ⊥
+form_never Keys body k h = grind arith
+form_never Names body k h = grind arith
+form_never AnyOctets body k h = h
+form_never f body k h = let e = h.0 in cc e
 
 key_never : (key : ℕ) (body : List ℕ) (k : ℕ) → IsKeyRefusal key body (decode.UnknownRecordTypeValue k) → ⊥
-key_never key body k (inl h) = value_never (form_for key) body k h
-key_never key body k (inr (is, inl e)) = cc e
-key_never key body k (inr (is, inr h)) = let e = h.0 in cc e
-
-parameter_never : (old new : Reading) (k : ℕ) → IsParameterRefusal old (decode.UnknownRecordTypeValue k) new → ⊥
-parameter_never old new k (inl h) = head_never old new k h
-parameter_never old new k (inr (inl h)) = let e = h.error in cc e
-parameter_never old new k (inr (inr h)) = key_never h.key h.octets k h.refused
+key_never key body k h = grind (arith, form_never (form_for key) body k)
 
 parameters_never : (p n : ℕ) (old new : Reading) (k : ℕ) → IsParametersRefusal p n old (decode.UnknownRecordTypeValue k) new → ⊥
 parameters_never p n old new k (inl e) = cc e
-parameters_never p n old new k (inr (inl h)) = parameter_never h.between new k h.refused
-parameters_never p n old new k (inr (inr (inl h))) = let e = h.error in cc e
-parameters_never p n old new k (inr (inr (inr h))) = let e = h.error in cc e
+parameters_never p n old new k (inr (inl h)) = parameter_never h.between new k h.refused where
+  parameter_never : (old new : Reading) (k : ℕ) → IsParameterRefusal old (decode.UnknownRecordTypeValue k) new → ⊥
+  parameter_never old new k (inl h) = grind arith
+  parameter_never old new k (inr (inl h)) = let e = h.error in cc e
+  parameter_never old new k (inr (inr h)) = key_never h.key h.octets k h.refused
+parameters_never p n old new k (inr (inr h)) = grind arith
 
 pub svcb_never : (n : ℕ) (old new : Reading) (k : ℕ) → IsSvcbRefusal n old (decode.UnknownRecordTypeValue k) new → ⊥
-svcb_never n old new k (inl (inl e)) = cc e
-svcb_never n old new k (inl (inr h)) = lack_never old new k h
+svcb_never n old new k (inl h) = grind arith
 svcb_never n old new k (inr (inl h)) = let e = h.error in cc e
 svcb_never n old new k (inr (inr h)) = parameters_never old.index n h.between new k h.refused
 

@@ -1,7 +1,7 @@
 -- Values that are emitted.
-use Rattle.std.proofs.Common.{◌≡◌, ◌≢◌, Bool, true, false, ◌&&◌, nat_le, ℕ, ◌<◌, ◌^◌, Result, map, List, length, refl, sym, ap, ◌∙◌, ◌+◌, arith}
-use Rattle.std.specs.List.{flat_map, list_all, AllByRecursion}
-use Rattle.std.proofs.lemmas.List.{length-map, length-append}
+use Rattle.std.proofs.Common.{◌≡◌, ◌≢◌, true, true≢false, nat_le, ℕ, ◌<◌, ◌^◌, Result, map, List, length, refl, sym, ap, ◌∙◌, ◌+◌, arith}
+use Rattle.std.specs.List.{list_all}
+use Rattle.std.proofs.lemmas.List.{length-map, length-append, map-id}
 use Rattle.std.specs.Int.{bytes_high_first}
 use Rattle.dns_types.specs.declared.error.ProtoError.{ProtoError}
 use Rattle.dns_fields.specs.Fields.{Number, Text, field_octets}
@@ -14,7 +14,7 @@ use Rattle.dns_rdata_service.specs.SvcParamValue.{fits_value, sized, EmitsValue}
 use Rattle.dns_rdata_service.specs.Hints.{EmitsEach}
 use Rattle.dns_rdata_service.specs.SvcParamKey.{key_number}
 use Rattle.dns_rdata_service.specs.declared.svcb.key.SvcParamKey.{SvcParamKey}
-use Rattle.dns_rdata_service.proofs.EachEmits.{emits_as, emits_list, emits_some, emits_all, octets_extend, all_pass, number_emits, text_emits}
+use Rattle.dns_rdata_service.proofs.EachEmits.{emits_as, emits_all, and_second, octets_extend, all_pass, number_emits, text_emits}
 
 pub place_refused : (v : ParameterValue) {e : ProtoError} {old new : Writing} → StoppedField e old (Number 2) 0 new
     → StoppedOctets e old (fits_value v) (sized v) new
@@ -39,24 +39,17 @@ EmitsKey k r w n = EmitsField (Number 2) (key_number k) r w n
 abbrev pub EmitsName : List ℕ → Result (Unit {0}) ProtoError → Writing → Writing → Type 0
 EmitsName s r w n = EmitsField Text s r w n
 
-passes : (a b : Bool) → b ≡ true → a && b ≡ false → a ≡ false
-passes true b e f = sym e ∙ f
-passes false b e f = refl
-
 pub keys_emit : (keys : List SvcParamKey) (r : Result (Unit {0}) ProtoError) (w n : Writing) → length keys ≢ 0 → EmitsEach EmitsKey keys r w n
     → EmitsValue (Mandatory (map key_number keys)) r w n
 keys_emit keys r w n some h =
-    let ks = map key_number keys in
-    let all = emits_list key_number (λ n. n < 256 ^ 2) (λ n. true) (bytes_high_first 2) EmitsKey (λ k. number_emits 2 (key_number k)) keys r w n h in
-    let whole = emits_some (AllByRecursion (λ n. n < 256 ^ 2) ks) (list_all (λ n. true) ks) (flat_map (bytes_high_first 2) ks) ks r w n (rw length-map some)
-    all in
-    emits_as r w n (λ p. p) (passes (is_some ks) (list_all (λ n. true) ks) (all_pass ks)) refl whole
+    emits_as r w n (λ p. (λ e. some (sym (length-map keys key_number) ∙ ap length e), p)) (λ q. absurd (true≢false (sym (all_pass (map key_number keys)) ∙ q))) refl
+    (emits_all key_number (λ n. n < 256 ^ 2) (λ n. true) (bytes_high_first 2) EmitsKey (λ k. number_emits 2 (key_number k)) keys r w n h)
 
 pub names_emit : (names : List (List ℕ)) (r : Result (Unit {0}) ProtoError) (w n : Writing) → length names ≢ 0 → EmitsEach EmitsName names r w n
     → EmitsValue (Alpn names) r w n
 names_emit names r w n some h =
-    emits_some (AllByRecursion (λ s. length s < 256) names) (list_all (λ s. nat_le (length s) 255) names) (flat_map string names) names r w n some
-    (emits_all EmitsName (λ s. length s < 256) (λ s. nat_le (length s) 255) string text_emits names r w n h)
+    emits_as r w n (λ p. (λ e. some (ap length e), p)) (and_second (is_some names) (list_all (λ s. nat_le (length s) 255) names)) refl
+    (rw (map-id names) at (emits_all (λ s. s) (λ s. length s < 256) (λ s. nat_le (length s) 255) string EmitsName text_emits names r w n h))
 
 pub value_extends : (v : ParameterValue) (r : Result (Unit {0}) ProtoError) (old new : Writing) → EmitsValue v r old new → Extends old new
 value_extends v r old new h = octets_extend (IsEmittable v) (parameter_emittable v) (parameter_octets v) r old new h

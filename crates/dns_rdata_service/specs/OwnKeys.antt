@@ -2,7 +2,7 @@
 use Rattle.std.specs.Prelude.{◌≡◌, Bool, true, false, ◌&&◌, List, [], ◌∷◌, map, nat_eq}
 use Rattle.std.specs.Cmp.Lexicographic.{pointwise}
 use Rattle.std.proofs.Common.{refl, sym, ap, ◌∙◌}
-use Rattle.dns_fields.specs.Equal.{key_eq, parameter_keys, values_eq}
+use Rattle.dns_fields.specs.Equal.{key_eq, parameter_key, parameter_keys, values_eq}
 use Rattle.dns_rdata_base.specs.A.{a_shape, a_fields}
 use Rattle.dns_rdata_base.specs.AAAA.{aaaa_shape, aaaa_fields}
 use Rattle.dns_rdata_base.specs.Numbered.{numbered_eq}
@@ -72,9 +72,6 @@ parameter_same p q =
 -- lists of parameters
 pub parameters_same : (ps qs : List Parameter)
     → pointwise parameter_eq ps qs ≡ pointwise key_eq (parameter_keys (map own_parameter ps)) (parameter_keys (map own_parameter qs))
-parameters_same [] [] = refl
-parameters_same [] (q ∷ qs) = refl
-parameters_same (p ∷ ps) [] = refl
-parameters_same (p ∷ ps) (q ∷ qs) = ap (λ b. b && pointwise parameter_eq ps qs) (parameter_same p q)
-    ∙ ap (λ b. (pointwise nat_eq (key_number p.0 ∷ 1 ∷ []) (key_number q.0 ∷ 1 ∷ [])
-    && key_eq ((key_variant p.0 ∷ []) ∷ value_key p.1) ((key_variant q.0 ∷ []) ∷ value_key q.1)) && b) (parameters_same ps qs)
+parameters_same ps qs =
+    pointwise_view parameter_eq (λ x y. key_eq (parameter_key x) (parameter_key y)) own_parameter parameter_same ps qs
+    ∙ pointwise_view (λ x y. key_eq (parameter_key x) (parameter_key y)) key_eq parameter_key (λ x y. refl) (map own_parameter ps) (map own_parameter qs)

@@ -1,9 +1,10 @@
 //! Addresses in hints, of four or of sixteen octets.
 
-ghost use Rattle.std.specs.Prelude.{◌≡◌, ◌+◌, ◌*◌, ◌<◌, ◌≤◌, ◌^◌, ◌++◌, ℕ, List, [], All, IfSome, IsTrue, length, map, nat_le};
+ghost use Rattle.std.specs.Prelude.{◌≡◌, ◌+◌, ◌*◌, ◌<◌, ◌≤◌, ◌^◌, ◌++◌, ℕ, List, [], IfSome, IsTrue, length, map, nat_le};
 ghost use Rattle.std.proofs.Common.{lit≤};
 ghost use Rattle.std.specs.Cmp.Lexicographic.{slice_cmp};
-ghost use Rattle.std.specs.List.{flat_map};
+ghost use Rattle.std.specs.Ordering.{nat_cmp};
+ghost use Rattle.std.specs.List.{AllByRecursion};
 ghost use Rattle.std.specs.declared.cmp.Ordering.TheVariants.{Equal};
 ghost use Rattle.dns_rdata_service.specs.Fronts.{OrderFirst, behind_length, joined};
 ghost use Rattle.dns_rdata_service.specs.Ordering.{octets_order};
@@ -106,7 +107,7 @@ impl Address for AAAA {
 /// The order of two lists, address by address.
 #[inline]
 pub(crate) fn hints_cmp<T: Address>(a: &[T], b: &[T]) -> Ordering
-    ensures { result ≡ slice_cmp (octets_order T.octets) a.now b.now }
+    ensures { result ≡ slice_cmp (slice_cmp nat_cmp) (map T.octets a.now) (map T.octets b.now) }
 {
     let shorter = a.len().min(b.len());
     for i in 0..shorter {
@@ -120,6 +121,7 @@ pub(crate) fn hints_cmp<T: Address>(a: &[T], b: &[T]) -> Ordering
 
 /// The order of two lists behind their length in octets.
 #[inline]
+#[tactic(auto, using(crate::proofs::SvcbFronts::items_alike, crate::proofs::SvcbFronts::lists_tie, crate::proofs::SvcbFronts::then_ties))]
 pub(crate) fn hints_order<T: Address>(a: &[T], b: &[T]) -> Option<Ordering>
     ensures order { IfSome result (λ o. OrderFirst o (behind_length (joined (map T.octets a.now))) (behind_length (joined (map T.octets b.now)))) }
     ensures alike { IfSome result (λ o. o ≡ Equal → map T.octets a.now ≡ map T.octets b.now) }
@@ -139,7 +141,7 @@ pub(crate) fn hints_order<T: Address>(a: &[T], b: &[T]) -> Option<Ordering>
 // Nothing is done here: reading the addresses shows for the proof how many octets each has.
 #[inline]
 fn have_width<T: Address>(addresses: &[T])
-    ensures { All (λ x. length (T.octets x) ≡ T.width) addresses.now }
+    ensures { AllByRecursion (λ s. length s ≡ T.width) (map T.octets addresses.now) }
 {
     for address in addresses {
         let _size = address.size();
@@ -149,8 +151,8 @@ fn have_width<T: Address>(addresses: &[T])
 /// How many octets the addresses have.
 #[inline]
 pub(crate) fn hints_len<T: Address>(addresses: &[T]) -> u16
-    requires { length (flat_map T.octets addresses.now) ≤ 65535 }
-    ensures { result ≡ length (flat_map T.octets addresses.now) }
+    requires { length (joined (map T.octets addresses.now)) ≤ 65535 }
+    ensures { result ≡ length (joined (map T.octets addresses.now)) }
 {
     let mut size = 0;
     for address in addresses {
@@ -162,7 +164,7 @@ pub(crate) fn hints_len<T: Address>(addresses: &[T]) -> u16
 /// Whether the addresses have at most 65535 octets.
 #[inline]
 pub(crate) fn hints_fit<T: Address>(addresses: &[T]) -> bool
-    ensures { result ≡ nat_le (length (flat_map T.octets addresses.now)) 65535 }
+    ensures { result ≡ nat_le (length (joined (map T.octets addresses.now))) 65535 }
 {
     let mut size = 0;
     for address in addresses {

@@ -23,6 +23,7 @@ use std::cmp::Ordering;
 
 /// How two service bindings are ordered by priority, target and the first parameters that are not alike, and how many
 /// before these are alike. Equal where that is not easily told: what stands behind those that are alike then decides.
+#[tactic(auto, using(crate::proofs::SvcbFronts::ne_yes))]
 pub fn svcb_front(a: &SVCB, b: &SVCB) -> (Ordering, usize)
     ensures order { canonical_cmp svcb_shape (svcb_fields a.now) (svcb_fields b.now) ≡ ordering_then result.0 (slice_cmp nat_cmp (parameters_from a.now.svc_params result.1) (parameters_from b.now.svc_params result.1)) }
     ensures first { result.1 ≤ length a.now.svc_params }
@@ -79,6 +80,7 @@ fn pair_order(
 
 // The order of two values behind their lengths, in front of others. `Equal` only where both are the same.
 #[inline]
+#[tactic(auto, using(crate::proofs::SvcbFronts::equal_values, crate::proofs::SvcbFronts::equal_first))]
 fn value_order(a: &SvcParamValue, b: &SvcParamValue) -> Option<Ordering>
     ensures order { IfSome result (λ o. OrderFirst o (sized (value_of a.now)) (sized (value_of b.now))) }
     ensures alike { IfSome result (λ o. o ≡ Equal → value_key a.now ≡ value_key b.now) }
@@ -107,6 +109,7 @@ fn value_order(a: &SvcParamValue, b: &SvcParamValue) -> Option<Ordering>
 
 // The order of two ports behind their length.
 #[inline]
+#[tactic(auto, using(crate::proofs::SvcbFronts::port_first))]
 fn port_order(a: u16, b: u16) -> Ordering
     ensures order { OrderFirst result (sized (Port a)) (sized (Port b)) }
     ensures alike { result ≡ Equal → a ≡ b }
@@ -116,6 +119,7 @@ fn port_order(a: u16, b: u16) -> Ordering
 
 // The order of octets behind their length.
 #[inline]
+#[tactic(auto, using(crate::proofs::SvcbFronts::octets_first, crate::proofs::SvcbFronts::octets_tie, crate::proofs::SvcbFronts::then_ties))]
 fn octets_order(a: &[u8], b: &[u8]) -> Option<Ordering>
     ensures order { IfSome result (λ o. OrderFirst o (sized (Opaque a.now)) (sized (Opaque b.now))) }
     ensures alike { IfSome result (λ o. o ≡ Equal → a.now ≡ b.now) }
@@ -128,6 +132,7 @@ fn octets_order(a: &[u8], b: &[u8]) -> Option<Ordering>
 }
 
 // The order of names of protocols behind their length, where both lists are the same or their lengths differ. Else `None`.
+#[tactic(auto, using(crate::proofs::SvcbFronts::names_same, crate::proofs::SvcbFronts::names_alike, crate::proofs::SvcbFronts::names_differ, crate::proofs::SvcbFronts::ne_yes))]
 fn names_order(a: &Items<SmallOctets<16>>, b: &Items<SmallOctets<16>>) -> Option<Ordering>
     ensures order { IfSome result (λ o. OrderFirst o (sized (Names a.now)) (sized (Names b.now))) }
     ensures alike { IfSome result (λ o. o ≡ Equal → a.now ≡ b.now) }

@@ -3,7 +3,9 @@
 ghost use Rattle.std.specs.Prelude.{◌≡◌, map};
 ghost use Rattle.std.specs.Cmp.Lexicographic.{slice_cmp};
 ghost use Rattle.std.specs.Ordering.{nat_cmp};
+ghost use Rattle.dns_fields.specs.Equal.{key_cmp, parameter_keys};
 ghost use Rattle.dns_fields.specs.Order.{values_cmp};
+ghost use Rattle.dns_rdata_service.specs.Parameters.{own_parameter};
 ghost use Rattle.dns_rdata_service.specs.SvcParamValue.{key_numbers, value_key};
 ghost use Rattle.dns_rdata_service.specs.SVCB.{svcb_key_shape, svcb_keys};
 ghost use Rattle.dns_rdata_service.specs.Ordering.{parameter_order, value_place, Differ};
@@ -13,6 +15,7 @@ use crate::svcb::{SVCB, SvcParamKey, SvcParamValue};
 use std::cmp::Ordering;
 
 // The order of two lists of keys: key by key, each by number and then by variant.
+#[tactic(auto, using(crate::proofs::FieldOrder::keys_order))]
 fn keys_cmp(a: &[SvcParamKey], b: &[SvcParamKey]) -> Ordering
     ensures { result ≡ slice_cmp (slice_cmp nat_cmp) (map key_numbers a.now) (map key_numbers b.now) }
 {
@@ -39,6 +42,7 @@ fn place(value: &SvcParamValue) -> u8
 
 // The order of two values of different variants: by the place in the declaration.
 #[inline]
+#[tactic(auto, using(crate::proofs::FieldOrder::differ_order))]
 fn places_cmp(a: &SvcParamValue, b: &SvcParamValue) -> Ordering
     requires { Differ a.now b.now }
     ensures { result ≡ slice_cmp (slice_cmp nat_cmp) (value_key a.now) (value_key b.now) }
@@ -81,7 +85,7 @@ fn parameters_cmp(
     a: &[(SvcParamKey, SvcParamValue)],
     b: &[(SvcParamKey, SvcParamValue)],
 ) -> Ordering
-    ensures { result ≡ slice_cmp parameter_order a.now b.now }
+    ensures { result ≡ slice_cmp key_cmp (parameter_keys (map own_parameter a.now)) (parameter_keys (map own_parameter b.now)) }
 {
     let shorter = a.len().min(b.len());
     for i in 0..shorter {
@@ -94,6 +98,7 @@ fn parameters_cmp(
 }
 
 /// By priority, target and parameters: each by its key's number and variant, its value's variant, and what that holds.
+#[tactic(auto, using(dns_pieces::proofs::Comparing::then_equal))]
 pub fn svcb_cmp(a: &SVCB, b: &SVCB) -> Ordering
     ensures { result ≡ values_cmp svcb_key_shape (svcb_keys a.now) (svcb_keys b.now) }
 {

@@ -9,7 +9,7 @@ ghost use Rattle.dns_fields.specs.Pieces.{Mandatory as MandatoryKeys, Alpn as Na
 ghost use Rattle.dns_rdata_service.specs.Parameters.{parameter_of};
 ghost use Rattle.dns_pieces.specs.Steps.{GivesStep};
 ghost use Rattle.dns_rdata_service.specs.SvcParamKey.{key_number};
-ghost use Rattle.dns_rdata_service.specs.SvcParamValue.{value_of, fits_value, a_octets, aaaa_octets};
+ghost use Rattle.dns_rdata_service.specs.SvcParamValue.{value_of, fits_value};
 ghost use Rattle.dns_rdata_service.specs.Steps.{parameter_head, value_front, value_items, svcb_left, are_emittable, each_fits, GivesItem, GivesPiece};
 
 use crate::hints::{Address, hints_fit, hints_len};
@@ -17,9 +17,9 @@ use crate::https::HTTPS;
 use crate::svcb::{SVCB, SvcParamKey, SvcParamValue};
 use dns_names_wire::SmallOctets;
 use dns_pieces::{Head, Step, Tail};
-use dns_rdata_base::{A, AAAA};
 
 // How many octets keys have.
+#[tactic(auto, using(crate::proofs::PieceSteps::keys_size))]
 fn keys_len(keys: &[SvcParamKey]) -> u16
     requires { length (flat_map (bytes_high_first 2) (map key_number keys.now)) ≤ 65535 }
     ensures { result ≡ length (flat_map (bytes_high_first 2) (map key_number keys.now)) }
@@ -69,7 +69,7 @@ fn put_key<'a>(key: &'a SvcParamKey, head: &mut Head) -> Tail<'a>
 }
 
 // The key of this number.
-#[tactic(auto, unfolding(dns_fields::specs::Fields::field_octets))]
+#[tactic(auto, using(crate::proofs::PieceSteps::key_gives), unfolding(dns_fields::specs::Fields::field_octets))]
 fn key_item<'a>(keys: &'a [SvcParamKey], item: usize, head: &mut Head) -> Option<Tail<'a>>
     requires empty { head.old ≡ [] }
     ensures item { GivesItem (map (bytes_high_first 2) (map key_number keys.now)) item head.new result }
@@ -83,7 +83,7 @@ fn key_item<'a>(keys: &'a [SvcParamKey], item: usize, head: &mut Head) -> Option
 }
 
 // The name of this number.
-#[tactic(auto, unfolding(dns_fields::specs::Fields::field_octets))]
+#[tactic(auto, using(crate::proofs::PieceSteps::item_gives), unfolding(dns_fields::specs::Fields::field_octets))]
 fn name_item<'a>(names: &'a [SmallOctets<16>], item: usize, head: &mut Head) -> Option<Tail<'a>>
     requires empty { head.old ≡ [] }
     requires short { list_all (λ s. nat_le (length s) 255) names.now ≡ true }
@@ -98,23 +98,11 @@ fn name_item<'a>(names: &'a [SmallOctets<16>], item: usize, head: &mut Head) -> 
 }
 
 // The address of this number.
-fn hint4_item<'a>(addresses: &'a [A], item: usize, head: &mut Head) -> Option<Tail<'a>>
+#[tactic(auto, using(crate::proofs::PieceSteps::item_gives))]
+fn hint_item<'a, T: Address>(addresses: &'a [T], item: usize, head: &mut Head) -> Option<Tail<'a>>
     requires empty { head.old ≡ [] }
-    ensures item { GivesItem (map a_octets addresses.now) item head.new result }
-    ensures room { IfSome result (λ _. item + 2 < 2 ^ 64) }
-{
-    if item < addresses.len() {
-        Some(addresses[item].put(head))
-    } else {
-        None
-    }
-}
-
-// The address of this number.
-fn hint6_item<'a>(addresses: &'a [AAAA], item: usize, head: &mut Head) -> Option<Tail<'a>>
-    requires empty { head.old ≡ [] }
-    ensures item { GivesItem (map aaaa_octets addresses.now) item head.new result }
-    ensures room { IfSome result (λ _. item + 2 < 2 ^ 64) }
+    ensures item { GivesItem (map T.octets addresses.now) item head.new result }
+    ensures room { IfSome result (λ _. item < length addresses.now) }
 {
     if item < addresses.len() {
         Some(addresses[item].put(head))
@@ -133,24 +121,10 @@ fn put_item<'a>(value: &'a SvcParamValue, item: usize, head: &mut Head) -> Optio
     match value {
         SvcParamValue::Mandatory(keys) => return key_item(keys.0.as_slice(), item, head),
         SvcParamValue::Alpn(names) => return name_item(names.0.as_slice(), item, head),
-        SvcParamValue::Ipv4Hint(addresses) => return hint4_item(addresses.0.as_slice(), item, head),
-        SvcParamValue::Ipv6Hint(addresses) => return hint6_item(addresses.0.as_slice(), item, head),
+        SvcParamValue::Ipv4Hint(addresses) => return hint_item(addresses.0.as_slice(), item, head),
+        SvcParamValue::Ipv6Hint(addresses) => return hint_item(addresses.0.as_slice(), item, head),
         _ => return None,
     }
-}
-
-// The item of this number in the value of a parameter.
-fn pair_item<'a>(
-    pair: &'a (SvcParamKey, SvcParamValue),
-    item: usize,
-    head: &mut Head,
-) -> Option<Tail<'a>>
-    requires empty { head.old ≡ [] }
-    requires emittable { parameter_emittable (value_of pair.now.1) ≡ true }
-    ensures item { GivesItem (value_items (value_of pair.now.1)) item head.new result }
-    ensures room { IfSome result (λ _. item + 2 < 2 ^ 64) }
-{
-    put_item(&pair.1, item, head)
 }
 
 // Adds what stands of a value in one piece, or answers it as a tail.
@@ -184,6 +158,7 @@ fn pair_head<'a>(pair: &'a (SvcParamKey, SvcParamValue), head: &mut Head) -> Tai
 }
 
 // The head of the parameter of this number.
+#[tactic(auto, using(crate::proofs::PieceSteps::fits_at))]
 fn head_step<'a>(
     parameters: &'a [(SvcParamKey, SvcParamValue)],
     part: usize,
@@ -205,6 +180,7 @@ fn head_step<'a>(
 }
 
 // An item of the parameter of this number, or the head of the next one.
+#[tactic(auto, using(crate::proofs::PieceSteps::past_items))]
 fn item_step<'a>(
     parameters: &'a [(SvcParamKey, SvcParamValue)],
     part: usize,
@@ -218,7 +194,7 @@ fn item_step<'a>(
     if part >= parameters.len() {
         return None;
     }
-    match pair_item(&parameters[part], item, head) {
+    match put_item(&parameters[part].1, item, head) {
         Some(tail) => Some(Step {
             tail,
             step: 1,
@@ -287,6 +263,7 @@ pub fn https_step<'a>(
 }
 
 // Whether there are keys, of at most 65535 octets.
+#[tactic(auto, using(crate::proofs::PieceSteps::keys_then))]
 fn keys_fit(keys: &[SvcParamKey]) -> bool
     ensures { result ≡ fits_value (MandatoryKeys (map key_number keys.now)) }
 {
@@ -328,30 +305,16 @@ fn value_fits(value: &SvcParamValue) -> bool
     }
 }
 
-// Whether the value of a parameter can be emitted.
-fn pair_fits(pair: &(SvcParamKey, SvcParamValue)) -> bool
-    ensures { result ≡ fits_value (value_of pair.now.1) }
-{
-    value_fits(&pair.1)
-}
-
 // Whether each value can be emitted.
 fn values_fit(parameters: &[(SvcParamKey, SvcParamValue)]) -> bool
     ensures { result ≡ each_fits parameters.now }
 {
-    for pair in parameters {
-        if !pair_fits(pair) {
+    for (_, value) in parameters {
+        if !value_fits(value) {
             return false;
         }
     }
     true
-}
-
-// The number of a parameter's key.
-fn pair_number(pair: &(SvcParamKey, SvcParamValue)) -> u16
-    ensures { result ≡ key_number pair.now.0 }
-{
-    u16::from(pair.0)
 }
 
 // Whether the numbers of the keys rise behind this one.
@@ -359,8 +322,8 @@ fn keys_rise_behind(last: u16, parameters: &[(SvcParamKey, SvcParamValue)]) -> b
     ensures { result ≡ rising_behind last (map parameter_of parameters.now) }
 {
     let mut before = last;
-    for pair in parameters {
-        let number = pair_number(pair);
+    for (key, _) in parameters {
+        let number = u16::from(*key);
         if number <= before {
             return false;
         }
@@ -376,8 +339,7 @@ fn keys_rise(parameters: &[(SvcParamKey, SvcParamValue)]) -> bool
     if parameters.len() == 0 {
         return true;
     }
-    let first = pair_number(&parameters[0]);
-    keys_rise_behind(first, &parameters[1..])
+    keys_rise_behind(u16::from(parameters[0].0), &parameters[1..])
 }
 
 /// Whether the keys rise, and each value can be emitted: there are keys and protocols where these are the value, no

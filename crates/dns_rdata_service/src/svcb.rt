@@ -203,6 +203,7 @@ impl PartialEq for SVCB {
     ghost laws = { same_partial svcb_key_shape svcb_keys };
 
     #[inline(never)]
+    #[tactic(auto, using(crate::specs::OwnKeys::parameters_same))]
     fn eq(&self, other: &SVCB) -> bool {
         self.svc_priority == other.svc_priority
             && self.target_name == other.target_name

@@ -19,6 +19,7 @@ use std::convert::AsStr;
 const SVC_PRIORITY: Field = number_field!("SvcPriority");
 
 // The parameters of all further words.
+#[tactic(auto, using(crate::proofs::WordParameters::parameters_took))]
 fn all_parameters<S: AsStr + Drop, I: Iterator<Item = S>>(
     alloc: Global,
     words: I,

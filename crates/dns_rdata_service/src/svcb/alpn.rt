@@ -42,6 +42,7 @@ impl BinDecodable for Alpn {
     /// octets. None are refused by [`SvcParamMissingValue`](DecodeError::SvcParamMissingValue), a name that lacks
     /// octets by [`InsufficientBytes`](DecodeError::InsufficientBytes), and one that is not UTF-8 by
     /// [`Utf8`](DecodeError::Utf8).
+    #[tactic(auto, using(crate::proofs::EachReads::each_more, crate::proofs::ValueReads::names_read, crate::proofs::ValueReads::names_missing, crate::proofs::ValueReads::text_behind))]
     fn read(decoder: &mut BinDecoder<'_>) -> Result<Alpn, DecodeError>
         ensures reads { ReadsBy AlpnAt result decoder.old decoder.new }
         ensures refused { IfErr result (λ e. IsValueRefusal Names (drop decoder.old.index decoder.old.message) e) }
@@ -74,6 +75,7 @@ pub(super) fn is_text(octets: &[u8]) -> bool
 }
 
 // How many strings begin in the octets. Where strings fill the octets, this is their number.
+#[tactic(auto, using(dns_rdata_base::proofs::TextLists::counts_all))]
 fn strings_in(octets: &[u8]) -> usize
     ensures { (names : List (List ℕ)) → Field octets.now 0 Texts names (length octets.now) → result ≡ length names }
 {

@@ -6,6 +6,7 @@ ghost use Rattle.dns_names_wire.specs.Words.{ReadsBy};
 ghost use Rattle.dns_rdata_service.specs.SvcParamValue.{doh_path_value, DohPathAt, IsPathRefusal, EmitsValue};
 
 use crate::svcb::alpn::is_text;
+use crate::svcb::unknown::emit_octets;
 use bstr::BStr;
 use dns_names_wire::{
     BinDecodable, BinDecoder, BinEncodable, BinEncoder, DecodeError, ProtoError, SmallOctets,
@@ -53,7 +54,7 @@ impl BinEncodable for DohPath {
     /// Appends the octets.
     #[inline]
     fn emit(&self, encoder: &mut BinEncoder<'_>) -> Result<(), ProtoError> {
-        encoder.emit_vec(self.0.as_slice())
+        emit_octets(self.0.as_slice(), encoder)
     }
 }
 

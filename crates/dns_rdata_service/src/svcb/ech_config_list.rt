@@ -5,6 +5,7 @@ ghost use Rattle.dns_fields.specs.Pieces.{AnyOctets};
 ghost use Rattle.dns_names_wire.specs.Words.{ReadsBy};
 ghost use Rattle.dns_rdata_service.specs.SvcParamValue.{ech_value, EchConfigListAt, IsValueRefusal, EmitsValue};
 
+use crate::svcb::unknown::emit_octets;
 use dns_names_wire::{
     BinDecodable, BinDecoder, BinEncodable, BinEncoder, DecodeError, Octets, ProtoError,
 };
@@ -39,7 +40,7 @@ impl BinEncodable for EchConfigList {
     /// Appends the octets.
     #[inline]
     fn emit(&self, encoder: &mut BinEncoder<'_>) -> Result<(), ProtoError> {
-        encoder.emit_vec(self.0.as_slice())
+        emit_octets(self.0.as_slice(), encoder)
     }
 }
 

@@ -2,6 +2,7 @@
 
 ghost use Rattle.std.specs.Prelude.{◌≡◌, ◌⊎◌, ◌∷◌, IfOk, IfErr};
 ghost use Rattle.std.specs.List.{AllZip};
+ghost use Rattle.dns_names_wire.specs.Words.{Extends};
 ghost use Rattle.dns_rdata_service.specs.Hints.{ReadsEach, RefusedBehind, EmitsEach};
 
 use crate::items::Items;
@@ -28,6 +29,7 @@ impl<T: TakesOctet + Drop> IpHint<T> {
     /// Reads addresses to the message's end. Where each has as many octets as the first, it asks for memory once beside
     /// what an address asks for itself. Where one is refused, so are all, by the same error; where memory runs out, by
     /// [`Memory`](DecodeError::Memory).
+    #[tactic(auto, using(crate::proofs::EachReads::each_more))]
     pub fn read(decoder: &mut BinDecoder<'_>) -> Result<IpHint<T>, DecodeError>
         ensures reads { ReadsEach T.stands (λ x. x.0) result decoder.old decoder.new }
         ensures refused { IfErr result (λ e. (e ≡ DecodeError.Memory) ⊎ RefusedBehind T.stands T.refuses decoder.old e decoder.new) }
@@ -49,11 +51,24 @@ impl<T: BinEncodable> BinEncodable for IpHint<T> {
 
     /// Appends the addresses.
     fn emit(&self, encoder: &mut BinEncoder<'_>) -> Result<(), ProtoError> {
-        for item in self.0.as_slice() {
-            item.emit(encoder)?;
-        }
-        Ok(())
+        emit_each(self.0.as_slice(), encoder)
     }
+}
+
+// Appends values one behind the other.
+#[inline]
+#[tactic(auto, using(crate::proofs::EachEmits::emits_refused, crate::proofs::EachEmits::extends_on))]
+pub(super) fn emit_each<T: BinEncodable>(
+    items: &[T],
+    encoder: &mut BinEncoder<'_>,
+) -> Result<(), ProtoError>
+    ensures emits { EmitsEach T.emits items.now result encoder.old encoder.new }
+    ensures extends { Extends encoder.old encoder.new }
+{
+    for item in items {
+        item.emit(encoder)?;
+    }
+    Ok(())
 }
 
 impl<T: Clone> Clone for IpHint<T> {

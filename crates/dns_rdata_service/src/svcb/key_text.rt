@@ -27,7 +27,7 @@ impl FromStr for SvcParamKey {
 
     ghost from_str_gives = { λ text r. Parses IsKeyText text r × IfErr r (λ e. e ≢ proto.Memory) };
 
-    #[tactic(auto, unfolding(crate::specs::SvcParamKey::key_text))]
+    #[tactic(auto, using(crate::proofs::KeyTexts::no_key, crate::proofs::KeyTexts::not_memory), unfolding(crate::specs::SvcParamKey::key_text))]
     fn from_str(text: &str) -> Result<SvcParamKey, ProtoError> {
         match text {
             "mandatory" => Ok(SvcParamKey::Mandatory),

@@ -6,6 +6,7 @@ ghost use Rattle.dns_names_wire.specs.Words.{ReadsBy};
 ghost use Rattle.dns_rdata_service.specs.SvcParamValue.{mandatory_value, MandatoryAt, IsValueRefusal, EmitsValue};
 
 use crate::items::Items;
+use crate::svcb::ip_hint::emit_each;
 use crate::svcb::key::SvcParamKey;
 use dns_names_wire::{BinDecodable, BinDecoder, BinEncodable, BinEncoder, DecodeError, ProtoError};
 use std::alloc::AllocError;
@@ -33,6 +34,7 @@ impl BinDecodable for Mandatory {
     /// Reads keys to the message's end, by one request for memory. None are refused by
     /// [`SvcParamMissingValue`](DecodeError::SvcParamMissingValue), and an odd octet by
     /// [`InsufficientBytes`](DecodeError::InsufficientBytes).
+    #[tactic(auto, using(crate::proofs::EachReads::each_more, crate::proofs::ValueReads::keys_read, crate::proofs::ValueReads::keys_odd, crate::proofs::ValueReads::keys_refused, crate::proofs::ValueReads::keys_missing, crate::proofs::Splits::stays_then))]
     fn read(decoder: &mut BinDecoder<'_>) -> Result<Mandatory, DecodeError>
         ensures reads { ReadsBy MandatoryAt result decoder.old decoder.new }
         ensures refused { IfErr result (λ e. IsValueRefusal Keys (drop decoder.old.index decoder.old.message) e) }
@@ -52,14 +54,12 @@ impl BinEncodable for Mandatory {
     ghost emits = { λ x r old new. EmitsValue (mandatory_value x) r old new };
 
     /// Appends the keys' numbers. None are refused by [`Message`](ProtoError::Message).
+    #[tactic(auto, using(crate::proofs::ValueEmits::keys_emit))]
     fn emit(&self, encoder: &mut BinEncoder<'_>) -> Result<(), ProtoError> {
         if self.0.len() == 0 {
             return Err(ProtoError::Message("no mandatory keys"));
         }
-        for key in self.0.as_slice() {
-            key.emit(encoder)?;
-        }
-        Ok(())
+        emit_each(self.0.as_slice(), encoder)
     }
 }
 

@@ -47,7 +47,7 @@ pub(crate) fn parameter_of(
 // The parameter of a key alone.
 fn alone(alloc: Global, word: &str) -> Result<(SvcParamKey, SvcParamValue), ParseError>
     ensures ok { IfOk result (λ p. IsKeyText word.now p.0 × IsValueAlone p.0 p.1) }
-    ensures refused { IfErr result (λ e. e ≢ parse.Memory → (p : Parameter) → IsKeyText word.now p.0 → IsValueAlone p.0 p.1 → ⊥) }
+    ensures refused { IfErr result (λ e. e ≢ parse.Memory → (p : Parameter) → IsKeyText word.now p.0 × IsValueAlone p.0 p.1 → ⊥) }
 {
     let key = word.parse::<SvcParamKey>()?;
     let value = value_alone(alloc, key)?;
@@ -61,7 +61,7 @@ fn with_value(
     value: &str,
 ) -> Result<(SvcParamKey, SvcParamValue), ParseError>
     ensures ok { IfOk result (λ p. IsKeyText key.now p.0 × HasValue value.now p) }
-    ensures refused { IfErr result (λ e. e ≢ parse.Memory → (p : Parameter) → IsKeyText key.now p.0 → HasValue value.now p → ⊥) }
+    ensures refused { IfErr result (λ e. e ≢ parse.Memory → (p : Parameter) → IsKeyText key.now p.0 × HasValue value.now p → ⊥) }
 {
     let Some(text) = unquoted(value) else {
         return Err(ParseError::Message("one quote alone as the value of a parameter"));

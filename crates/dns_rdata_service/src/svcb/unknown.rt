@@ -1,8 +1,8 @@
 //! Values of keys without a form of their own.
 
 ghost use Rattle.std.specs.Prelude.{◌≡◌, drop, IfErr, IfOk};
-ghost use Rattle.dns_fields.specs.Pieces.{AnyOctets};
-ghost use Rattle.dns_names_wire.specs.Words.{ReadsBy};
+ghost use Rattle.dns_fields.specs.Pieces.{AnyOctets, Opaque};
+ghost use Rattle.dns_names_wire.specs.Words.{Extends, ReadsBy};
 ghost use Rattle.dns_rdata_service.specs.SvcParamValue.{unknown_value, UnknownAt, IsValueRefusal, EmitsValue};
 
 use bstr::BStr;
@@ -39,8 +39,18 @@ impl BinEncodable for Unknown {
     /// Appends the octets.
     #[inline]
     fn emit(&self, encoder: &mut BinEncoder<'_>) -> Result<(), ProtoError> {
-        encoder.emit_vec(self.0.as_slice())
+        emit_octets(self.0.as_slice(), encoder)
     }
+}
+
+// Appends the octets of a value that is octets.
+#[inline]
+#[tactic(auto, using(crate::proofs::EachEmits::rest_emits, crate::proofs::EachEmits::rest_extends))]
+pub(super) fn emit_octets(octets: &[u8], encoder: &mut BinEncoder<'_>) -> Result<(), ProtoError>
+    ensures emits { EmitsValue (Opaque octets.now) result encoder.old encoder.new }
+    ensures extends { Extends encoder.old encoder.new }
+{
+    encoder.emit_vec(octets)
 }
 
 impl Clone for Unknown {

@@ -43,6 +43,7 @@ pub enum SvcParamValue {
 
 impl SvcParamValue {
     // The value of this key in these octets.
+    #[tactic(auto, using(crate::proofs::Given::hint4_back, crate::proofs::Given::hint6_back))]
     pub(super) fn of_octets(
         alloc: Global,
         key: SvcParamKey,
@@ -73,6 +74,7 @@ impl SvcParamValue {
     }
 
     // Appends the octets without their length.
+    #[tactic(auto, using(crate::proofs::EachEmits::number_emits))]
     fn emit_octets(&self, encoder: &mut BinEncoder<'_>) -> Result<(), ProtoError>
         ensures { EmitsValue (value_of self.now) result encoder.old encoder.new }
     {
@@ -138,6 +140,7 @@ impl BinEncodable for SvcParamValue {
     /// Appends the value's length in two octets, and its octets. No keys or protocols, and a protocol of more than 255
     /// octets are refused by [`Message`](ProtoError::Message); a value of more than 65535 octets has no room in any
     /// message.
+    #[tactic(auto, using(crate::proofs::ValueEmits::place_refused, crate::proofs::ValueEmits::sized_refused))]
     fn emit(&self, encoder: &mut BinEncoder<'_>) -> Result<(), ProtoError> {
         let place = encoder.place()?;
         self.emit_octets(encoder)?;

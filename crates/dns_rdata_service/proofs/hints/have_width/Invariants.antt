@@ -1,5 +1,8 @@
-use Rattle.std.proofs.Common.{◌≡◌, length, take, All}
+use Rattle.std.proofs.Common.{◌≡◌, length, drop, map}
+use Rattle.std.specs.List.{AllByRecursion}
 use Rattle.dns_rdata_service.proofs.hints.have_width.Given as goal
 
 abbrev pub invariant-loop-address : goal.invariant-loop-address
-invariant-loop-address g l = All (λ x. length (g.T.Address.octets x) ≡ g.T.Address.width) (take l.address-index l.addresses)
+invariant-loop-address g l =
+    AllByRecursion (λ s. length s ≡ g.T.Address.width) (map g.T.Address.octets (drop l.address-index l.addresses))
+    → AllByRecursion (λ s. length s ≡ g.T.Address.width) (map g.T.Address.octets l.addresses)

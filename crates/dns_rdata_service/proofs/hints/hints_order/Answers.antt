@@ -1,23 +1,7 @@
-use Rattle.std.proofs.Common.{◌∙◌, map, ap, sym, refl, arith}
-use Rattle.dns_rdata_service.specs.Fronts.{behind_length, joined}
-use Rattle.dns_rdata_service.proofs.FieldOrder.{hints_order}
-use Rattle.dns_rdata_service.proofs.SvcbFronts.{alike_first, eq_yes, items_first, lists_tie, then_ties}
+use Rattle.dns_rdata_service.proofs.SvcbFronts.{items_first}
 use Rattle.dns_rdata_service.proofs.hints.hints_order.Goals as goal
-
-pub returns-then-is_eq-clause-order : goal.returns-then-is_eq-clause-order
-returns-then-is_eq-clause-order g c =
-    let octets = g.T.Address.octets in
-    let tie = eq_yes _ (sym c.is_eq.ensures ∙ c.if-is_eq.true) in
-    alike_first _ _ _ tie
-    (ap (λ l. behind_length (joined l)) {x = map octets c.args.a.now} {y = map octets c.args.b.now} (lists_tie _ _ _ (c.hints_cmp-order.ensures ∙ hints_order octets c.args.a.now c.args.b.now) tie))
-
-pub returns-then-is_eq-clause-alike : goal.returns-then-is_eq-clause-alike
-returns-then-is_eq-clause-alike g c = lists_tie _ _ _ (c.hints_cmp-order.ensures ∙ hints_order g.T.Address.octets c.args.a.now c.args.b.now)
 
 pub returns-clause-order : goal.returns-clause-order
 returns-clause-order g c =
-    items_first g.T.Address.octets g.T.Address.width c.args.a.now c.args.b.now _ _ _ _ _ g.met.T.Address.few.0 c.have_width.ensures c.have_width-2.ensures
-    c.then.ensures c.cmp.ensures refl refl (c.hints_cmp-order.ensures ∙ hints_order g.T.Address.octets c.args.a.now c.args.b.now) (c.fit.ensures c.if-not-fit.false) (c.fit-else-not-fit.ensures c.if-not-fit-2.false)
-
-pub returns-clause-alike : goal.returns-clause-alike
-returns-clause-alike g c = λ e. lists_tie _ _ _ (c.hints_cmp-order.ensures ∙ hints_order g.T.Address.octets c.args.a.now c.args.b.now) (then_ties _ _ _ c.then.ensures e)
+    items_first g.T.Address.octets g.T.Address.width c.args.a.now c.args.b.now _ _ _ g.met.T.Address.few.0 c.have_width.ensures c.have_width-2.ensures
+    c.then.ensures c.cmp.ensures c.hints_cmp-order.ensures (c.fit.ensures c.if-not-fit.false) (c.fit-else-not-fit.ensures c.if-not-fit-2.false)

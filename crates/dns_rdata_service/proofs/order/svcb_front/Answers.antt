@@ -2,16 +2,13 @@ use Rattle.std.proofs.Common.{◌∙◌, ap, sym, arith}
 use Rattle.std.specs.Ordering.{ordering_then}
 use Rattle.std.specs.declared.cmp.Ordering.{Ordering}
 use Rattle.dns_pieces.proofs.Fronts.{also}
-use Rattle.dns_rdata_service.proofs.SvcbFronts.{all_alike, ne_no, ne_yes, none_behind, parameters_behind, rest_cmp}
+use Rattle.dns_rdata_service.proofs.SvcbFronts.{all_alike, ne_no, none_behind, parameters_behind, rest_cmp}
 use Rattle.dns_rdata_service.proofs.order.svcb_front.Goals as goal
 
 pub returns-then-is_ne-clause-order : goal.returns-then-is_ne-clause-order
 returns-then-is_ne-clause-order c =
     parameters_behind c.args.a.now c.args.b.now c.name_behind-order.result c.name_behind-order.ensures.labels
     (also _ _ _ c.name_behind-order.ensures.order c.two_behind-priority.ensures)
-
-pub returns-then-is_ne-clause-equal : goal.returns-then-is_ne-clause-equal
-returns-then-is_ne-clause-equal c = λ tie. absurd (ne_yes _ (sym c.is_ne.ensures ∙ c.if-is_ne.true) tie)
 
 pub returns-clause-order : goal.returns-clause-order
 returns-clause-order c =

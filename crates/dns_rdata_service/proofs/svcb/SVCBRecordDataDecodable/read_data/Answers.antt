@@ -1,4 +1,4 @@
-use Rattle.std.proofs.Common.{◌≡◌, ◌+◌, ◌-◌, arith}
+use Rattle.std.proofs.Common.{arith}
 use Rattle.std.proofs.lemmas.Result.{err_from_is_err_and}
 use Rattle.dns_rdata_service.proofs.HeadReads.{svcb_took, svcb_refused, svcb_passed}
 use Rattle.dns_rdata_service.proofs.svcb.SVCBRecordDataDecodable.read_data.Goals as goal
@@ -11,15 +11,10 @@ returns-then-len-read-clause-window c =
 pub returns-in_err-svc_params-clause-window : goal.returns-in_err-svc_params-clause-window
 returns-in_err-svc_params-clause-window c =
     let p = err_from_is_err_and c.from_residual-in_err-svc_params.result c.from_residual-in_err-svc_params.ensures.1 in
-    let r = c.index-start.result + c.unverified-len.result - c.read.new.decoder.index in
-    let all : c.read.new.decoder.index + r ≡ c.args.decoder.now.index + c.args.length =
-    omega (arith, c.index-start.ensures.place, c.index.ensures.place, c.if-len-read.false, c.unverified-len.ensures) in
-    rw (p.1, p.2) (svcb_refused c.args.length r c.in_ok-read_u16.ensures.taken c.in_ok-target_name.ensures.field all c.in_err-svc_params.ensures.window)
+    rw (p.1, p.2) (svcb_refused c.args.length _ c.in_ok-read_u16.ensures.taken c.in_ok-target_name.ensures.field
+    (omega (arith, c.index-start.ensures.place, c.index.ensures.place, c.if-len-read.false, c.unverified-len.ensures)) c.in_err-svc_params.ensures.window)
 
 pub returns-clause-window : goal.returns-clause-window
 returns-clause-window c =
-    let r = c.index-start.result + c.unverified-len.result - c.read.new.decoder.index in
-    let all : c.read.new.decoder.index + r ≡ c.args.decoder.now.index + c.args.length =
-    omega (arith, c.index-start.ensures.place, c.index.ensures.place, c.if-len-read.false, c.unverified-len.ensures) in
-    rw c.unverified-svc_priority.ensures (svcb_took c.args.length r c.in_ok-read_u16.ensures.taken c.in_ok-target_name.ensures.field (omega arith) all
-    c.in_ok-svc_params.ensures.window)
+    rw c.unverified-svc_priority.ensures (svcb_took c.args.length _ c.in_ok-read_u16.ensures.taken c.in_ok-target_name.ensures.field (omega arith)
+    (omega (arith, c.index-start.ensures.place, c.index.ensures.place, c.if-len-read.false, c.unverified-len.ensures)) c.in_ok-svc_params.ensures.window)

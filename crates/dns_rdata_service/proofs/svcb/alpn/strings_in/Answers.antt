@@ -1,5 +1,5 @@
-use Rattle.std.proofs.Common.{inl, arith}
-use Rattle.dns_rdata_base.proofs.TextLists.{counts_more, counts_all}
+use Rattle.std.proofs.Common.{arith}
+use Rattle.dns_rdata_base.proofs.TextLists.{counts_more}
 use Rattle.dns_rdata_service.proofs.svcb.alpn.strings_in.Goals as goal
 
 pub loop-place-preserved : goal.loop-place-preserved
@@ -8,6 +8,3 @@ loop-place-preserved c = record {
   small = omega (arith, c.type_inv.octets c.loop-place.place, c.loop-place-test.true);
   counts = counts_more c.loop-place-test.true c.loop-place-test.true c.loop-place.invariant.counts;
 }
-
-pub returns : goal.returns
-returns c = counts_all c.loop-place.invariant.counts (inl c.loop-place-test.false)

@@ -1,10 +1,6 @@
 use Rattle.dns_rdata_service.specs.SvcParamValue.{a_octets, aaaa_octets}
-use Rattle.dns_rdata_service.proofs.EachEmits.{number_emits}
 use Rattle.dns_rdata_service.proofs.HintReads.{groups_emit}
 use Rattle.dns_rdata_service.proofs.svcb.value.SvcParamValue.emit_octets.Goals as goal
-
-pub returns-in-Port : goal.returns-in-Port
-returns-in-Port c = rw c.in-Port.is (number_emits 2 c.in-Port.port c.emit_u16.result c.args.encoder.now c.emit_u16.new.self c.emit_u16.ensures.emits)
 
 pub returns-in-Ipv4Hint : goal.returns-in-Ipv4Hint
 returns-in-Ipv4Hint c = rw c.in-Ipv4Hint.is

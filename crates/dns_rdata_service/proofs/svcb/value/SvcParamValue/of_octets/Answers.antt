@@ -1,30 +1,5 @@
-use Rattle.std.proofs.Common.{refl, ap, arith}
-use Rattle.dns_rdata_service.specs.declared.svcb.value.SvcParamValue.TheVariants.{Ipv4Hint, Ipv6Hint}
-use Rattle.dns_rdata_base.specs.declared.a.A.{A}
-use Rattle.dns_rdata_base.specs.declared.aaaa.AAAA.{AAAA}
-use Rattle.std.proofs.Common.{List}
-use Rattle.dns_rdata_service.proofs.Given.{a_list_back, aaaa_list_back, plain_of, plain_value}
+use Rattle.dns_rdata_service.proofs.Given.{plain_of, plain_value}
 use Rattle.dns_rdata_service.proofs.svcb.value.SvcParamValue.of_octets.Goals as goal
-
-pub returns-in_ok-hint4-in-Ipv4Hint-clause-read : goal.returns-in_ok-hint4-in-Ipv4Hint-clause-read
-returns-in_ok-hint4-in-Ipv4Hint-clause-read c =
-    let x = c.in_ok-hint4-in-Ipv4Hint.field-0 in
-    rw c.in-Ipv4Hint.is (record {
-      held = (refl, c.in_ok-hint4-in-Ipv4Hint.ensures.fit, c.in_ok-hint4-in-Ipv4Hint.ensures.body);
-      given =
-          ap (λ (as' : List A). Ipv4Hint (record { 0 = as' })) (a_list_back x.0);
-      text = λ is. absurd (omega (arith, is));
-    })
-
-pub returns-in_ok-hint6-in-Ipv6Hint-clause-read : goal.returns-in_ok-hint6-in-Ipv6Hint-clause-read
-returns-in_ok-hint6-in-Ipv6Hint-clause-read c =
-    let x = c.in_ok-hint6-in-Ipv6Hint.field-0 in
-    rw c.in-Ipv6Hint.is (record {
-      held = (refl, c.in_ok-hint6-in-Ipv6Hint.ensures.fit, c.in_ok-hint6-in-Ipv6Hint.ensures.body);
-      given =
-          ap (λ (as' : List AAAA). Ipv6Hint (record { 0 = as' })) (aaaa_list_back x.0);
-      text = λ is. absurd (omega (arith, is));
-    })
 
 pub returns-in_ok-read-in-Key-clause-read : goal.returns-in_ok-read-in-Key-clause-read
 returns-in_ok-read-in-Key-clause-read c = plain_value _ _ _ (plain_of c.args.key c.requires c.in-Key.is)
