@@ -2,6 +2,7 @@ mod CaaReads
 mod FirstNumbers
 mod IssuerSteps
 mod Issuers
+mod Rising
 mod Splitting
 pub mod Blocks
 pub mod CaaValues

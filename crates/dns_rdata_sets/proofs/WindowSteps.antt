@@ -1,19 +1,17 @@
 -- Windows of a set, step by step.
-use Rattle.std.proofs.Common.{◌≡◌, ℕ, ◌+◌, ◌-◌, ◌%◌, ◌<◌, ◌≤◌, List, [], ◌∷◌, ◌++◌, length, take, drop, length-take-le, length-drop, length-append, refl, sym, ap, ◌∙◌, arith}
+use Rattle.std.proofs.Common.{◌≡◌, ℕ, ◌+◌, ◌-◌, ◌%◌, ◌<◌, ◌≤◌, List, [], ◌∷◌, ◌++◌, length, take, drop, length-take-le, length-drop, length-append, sym, ap, ◌∙◌, arith}
 use Rattle.std.proofs.lemmas.List.{append-nil, drop_all, drop-drop, take_all}
-use Rattle.std.specs.List.{range_with_len, flat_map}
-use Rattle.dns_fields.specs.Bitmaps.{block, minimal, windows, IsTypeSet}
+use Rattle.std.specs.List.{flat_map}
+use Rattle.dns_fields.specs.Bitmaps.{block, minimal, IsTypeSet}
 use Rattle.dns_fields.specs.Fields.{Number, field_octets}
 use Rattle.dns_pieces.specs.Steps.{StepAt, Ended, PassedWindow}
 use Rattle.dns_rdata_sets.specs.declared.csync.CSYNC.{CSYNC}
 use Rattle.dns_rdata_sets.specs.Steps.{csync_left, csync_windows}
-use Rattle.dns_rdata_sets.proofs.SetWrites.{rises_drop, small_drop, windows_skip}
-
-pub set_drop : (v : List ℕ) (i : ℕ) → IsTypeSet v → IsTypeSet (drop i v)
-set_drop v i s = record { rises = rises_drop i v s.rises; numbers = small_drop i v s.numbers }
+use Rattle.dns_rdata_sets.proofs.NextWindow.{minimal_none}
+use Rattle.dns_rdata_sets.proofs.Rising.{set_drop}
 
 pub set_behind : (v : List ℕ) (i : ℕ) → IsTypeSet v → IsTypeSet (take (length v - i) (drop i v))
-set_behind v i s = rw (take_all (length v - i) (drop i v) (omega (arith, length-drop i v))) (set_drop v i s)
+set_behind v i s = rw (take_all (length v - i) (drop i v) (omega (arith, length-drop i v))) (set_drop i v s)
 
 -- the window at a place, in the octets of a head
 pub record WindowMade (v : List ℕ) (i number len count : ℕ) (octets head : List ℕ) : Type 0 where
@@ -68,10 +66,6 @@ window_passed x old new i number len count octets head w pass =
       one = omega (arith, pass);
       begun = omega (arith, pass, some);
     }
-
-minimal_none : minimal [] ≡ []
-unfolding minimal
-minimal_none = let e : 256 ≡ 256 + 0 = omega arith in ap (λ (c : ℕ). windows [] (range_with_len 0 c)) e ∙ windows_skip [] 0 256 0 (λ u p q. refl)
 
 pub window_none : (x : CSYNC) (i j : ℕ) (head : List ℕ) → length x.type_bit_maps ≤ i → head ≡ [] → Ended (csync_left x) 1 i j head
 window_none x i j head h e = record {

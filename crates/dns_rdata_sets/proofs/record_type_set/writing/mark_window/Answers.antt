@@ -1,4 +1,4 @@
-use Rattle.dns_rdata_sets.proofs.Windows.{front_marks, marks_more, of_window}
+use Rattle.dns_rdata_sets.proofs.Windows.{front_marks, marks_more}
 use Rattle.dns_rdata_sets.proofs.record_type_set.writing.mark_window.Goals as goal
 
 pub loop-at-init : goal.loop-at-init
@@ -10,5 +10,5 @@ pub loop-at-preserved : goal.loop-at-preserved
 loop-at-preserved c =
     let run = c.args.run.now in
     let i = c.loop-at.at in
-    marks_more c.loop-at.octets c.mark_bit.new.octets run i _ c.loop-at-test.true (of_window _ run i c.requires.run c.loop-at-test.true) c.loop-at.invariant
+    marks_more c.loop-at.octets c.mark_bit.new.octets run i _ c.loop-at-test.true (c.requires.run i 0 c.loop-at-test.true) c.loop-at.invariant
     c.mark_bit.ensures
