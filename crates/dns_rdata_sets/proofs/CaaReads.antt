@@ -119,21 +119,13 @@ refused_value {old} {a} {b} {new} {e} n f t tag x y z g why = inr (inr (record {
     ),
   )
 
-caa_fields_taken : {old a b c new : Reading} (n f t : ℕ) (tag value : List ℕ) → f < 256 → TookField old (Number 1) f a → TookField a (Number 1) t b
+-- the fields of a record that was read
+pub caa_taken : {old a b c new : Reading} (n f t : ℕ) (tag value : List ℕ) → f < 256 → TookField old (Number 1) f a → TookField a (Number 1) t b
     → TookField b (Octets t) tag c → TookField c (Octets (n - t - 2)) value new → IsTag tag × (t + 2 ≤ n)
     → Took old (Number 1 ∷ Text ∷ Rest ∷ []) (f % 128 % 128 + cond (nat_le 128 f) 128 0, (tag, (value, tt))) new × ((new.index ≡ old.index + n) × IsTag tag)
-caa_fields_taken {old} {a} {b} {c} {new} n f t tag value lt x y z w g =
+caa_taken {old} {a} {b} {c} {new} n f t tag value lt x y z w g =
     let first : TookField old (Number 1) (f % 128 % 128 + cond (nat_le 128 f) 128 0) a = subst (λ (k : ℕ). TookField old (Number 1) k a) (flags_back f lt) x in
     let last : TookField c Rest value new = record { message = w.message; field = record { is = w.field.is.1 } } in (
       took_then first (took_then (text_taken refl y z) (took_then last (took_last _))),
       (omega (arith, g.1, took_number x, took_number y, z.field.is.0, z.field.is.1.ends, w.field.is.0, w.field.is.1.ends), g.0),
     )
-
--- the fields of a record that was read
-pub caa_taken : {old a b c new : Reading} (n f t : ℕ) (tag value : List ℕ) (flags : ℕ) (owned kept : List ℕ) → f < 256 → flags ≡ f → owned ≡ tag
-    → kept ≡ value → TookField old (Number 1) f a → TookField a (Number 1) t b → TookField b (Octets t) tag c
-    → TookField c (Octets (n - t - 2)) value new → IsTag tag × (t + 2 ≤ n)
-    → Took old caa_shape (caa_fields (record { issuer_critical = nat_le 128 flags; reserved_flags = flags % 128; tag = owned; value = kept })) new
-    × ((new.index ≡ old.index + n) × IsTag owned)
-caa_taken {old} {a} {b} {c} {new} n f t tag value flags owned kept lt same-flags same-tag same-value x y z w g =
-    rw (same-flags, same-tag, same-value) (caa_fields_taken n f t tag value lt x y z w g)

@@ -8,7 +8,6 @@ pub mod Blocks
 pub mod CaaValues
 pub mod CsyncReads
 pub mod CsyncValues
-pub mod Flags
 pub mod Marks
 pub mod NextWindow
 pub mod Numbers

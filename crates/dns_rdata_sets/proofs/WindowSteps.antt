@@ -10,23 +10,17 @@ use Rattle.dns_rdata_sets.specs.Steps.{csync_left, csync_windows}
 use Rattle.dns_rdata_sets.proofs.NextWindow.{minimal_none}
 use Rattle.dns_rdata_sets.proofs.Rising.{set_drop}
 
-pub set_behind : (v : List ℕ) (i : ℕ) → IsTypeSet v → IsTypeSet (take (length v - i) (drop i v))
-set_behind v i s = rw (take_all (length v - i) (drop i v) (omega (arith, length-drop i v))) (set_drop i v s)
-
 -- the window at a place, in the octets of a head
 pub record WindowMade (v : List ℕ) (i number len count : ℕ) (octets head : List ℕ) : Type 0 where
-  pub some : i < length v
   pub few : len ≤ 32
   pub long : length octets ≡ 32
   pub small : number < 256
-  pub next : minimal (take (length v - i) (drop i v)) ≡ (number, take len octets) ∷ minimal (drop count (take (length v - i) (drop i v)))
+  pub next : minimal (drop i v) ≡ (number, take len octets) ∷ minimal (drop count (drop i v))
   pub made : head ≡ (([] ++ field_octets (Number 1) number) ++ field_octets (Number 1) len) ++ take len octets
 
 later : (v : List ℕ) (i number len count : ℕ) (octets head : List ℕ) → WindowMade v i number len count octets head
     → minimal (drop i v) ≡ (number, take len octets) ∷ minimal (drop (i + count) v)
-later v i number len count octets head w =
-    let all : take (length v - i) (drop i v) ≡ drop i v = take_all (length v - i) (drop i v) (omega (arith, length-drop i v)) in
-    ap minimal (sym all) ∙ w.next ∙ ap (λ (x : List ℕ). (number, take len octets) ∷ minimal (drop count x)) all ∙ ap (λ (x : List ℕ). (number, take len octets) ∷ minimal x) (drop-drop count i v)
+later v i number len count octets head w = w.next ∙ ap (λ (x : List ℕ). (number, take len octets) ∷ minimal x) (drop-drop count i v)
 
 head_is : (v : List ℕ) (i number len count : ℕ) (octets head : List ℕ) → WindowMade v i number len count octets head → head ≡ block (number, take len octets)
 unfolding field_octets

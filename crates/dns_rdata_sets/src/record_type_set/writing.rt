@@ -95,6 +95,7 @@ fn put_word(octets: &mut [u8], at: usize, word: u64)
 
 // Sets bit b of a window, the highest of its octet first.
 #[inline]
+#[tactic(auto, using(crate::proofs::Windows::marked))]
 fn mark_bit(octets: &mut [u8], b: usize)
     requires bit { b < 256 }
     requires window { length octets.old ≡ 32 }

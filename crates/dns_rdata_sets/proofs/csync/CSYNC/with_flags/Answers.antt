@@ -1,5 +1,5 @@
 use Rattle.std.proofs.Common.{ℕ, ap, arith}
-use Rattle.dns_rdata_sets.proofs.Flags.{flags_again}
+use Rattle.dns_rdata_sets.proofs.CsyncValues.{flags_again}
 use Rattle.dns_rdata_sets.proofs.csync.CSYNC.with_flags.Goals as goal
 
 pub returns-clause-fields : goal.returns-clause-fields
