@@ -1,7 +1,7 @@
 mod CaaReads
 mod FirstNumbers
 mod IssuerSteps
-mod Issuers
+pub mod Issuers
 mod Rising
 mod Splitting
 pub mod Blocks

@@ -8,7 +8,7 @@ use Rattle.std.specs.declared.cmp.Ordering.{Ordering}
 use Rattle.std.specs.declared.cmp.Ordering.TheVariants.{Greater}
 use Rattle.std.proofs.lemmas.Bool.{cases_eq, cases_lt}
 use Rattle.std.proofs.lemmas.Grind.{same_number_lists}
-use Rattle.std.proofs.lemmas.List.{get_or_past}
+use Rattle.std.proofs.lemmas.List.{get_or-take, get_or_past}
 use Rattle.std.proofs.lemmas.List.FromFn.{get_or-map-range_with_len, length-map-range_with_len}
 use Rattle.dns_fields.specs.Bitmaps.{contains, packed, mark, keep, trimmed, types_octet, window}
 use Rattle.dns_fields.proofs.Bitmaps.{mark_small}
@@ -117,37 +117,27 @@ trimmed_stops [] n z = omega arith
 trimmed_stops (x ∷ xs) zero z = let e : length (trimmed (x ∷ xs)) ≡ 0 = ap length (trimmed_zeros (x ∷ xs) (λ i. z i (omega arith))) in omega (arith, e)
 trimmed_stops (x ∷ xs) (suc n) z = kept_stops x (trimmed xs) n (trimmed_stops xs n (λ i l. z (suc i) (omega (arith, l))))
 
-greater : (x y : ℕ) (p q : List ℕ) → y < x → slice_cmp nat_cmp (x ∷ p) (y ∷ q) ≡ Greater
-greater x y p q l = ap (λ (o : Ordering). ordering_then o (slice_cmp nat_cmp p q)) (sym (nat_cmp_is x y Greater l))
+trimmed_at : (xs : List ℕ) (i : ℕ) → i < length (trimmed xs) → get_or (trimmed xs) i 0 ≡ get_or xs i 0
+trimmed_at xs i l = ap (λ (s : List ℕ). get_or s i 0) (trimmed_front xs) ∙ get_or-take (length (trimmed xs)) xs i 0 l
 
-kept_greater : (x y : ℕ) (p q : List ℕ) → y < x → length (keep x p) ≡ length (keep y q) → slice_cmp nat_cmp (keep x p) (keep y q) ≡ Greater
-kept_greater zero y p q l e = absurd (omega arith)
-kept_greater (suc x) zero p [] l e = absurd (let s = kept_some (suc x) p (omega arith) in omega (arith, s, e))
-kept_greater (suc x) (suc y) [] [] l e = greater (suc x) (suc y) [] [] l
-kept_greater (suc x) (suc y) (a ∷ p) [] l e = greater (suc x) (suc y) (a ∷ p) [] l
-kept_greater (suc x) y [] (b ∷ q) l e = greater (suc x) y [] (b ∷ q) l
-kept_greater (suc x) y (a ∷ p) (b ∷ q) l e = greater (suc x) y (a ∷ p) (b ∷ q) l
+-- the first octet that differs decides
+first_greater : (xs ys : List ℕ) (j : ℕ) → j < length xs → j < length ys → ((i : ℕ) → i < j → get_or xs i 0 ≡ get_or ys i 0) → get_or ys j 0 < get_or xs j 0
+    → slice_cmp nat_cmp xs ys ≡ Greater
+first_greater [] ys j l m same g = absurd (omega (arith, l))
+first_greater (x ∷ xs) [] j l m same g = absurd (omega (arith, m))
+first_greater (x ∷ xs) (y ∷ ys) zero l m same g = ap (λ (o : Ordering). ordering_then o (slice_cmp nat_cmp xs ys)) (sym (nat_cmp_is x y Greater g))
+first_greater (x ∷ xs) (y ∷ ys) (suc j) l m same g =
+    ap (λ (z : ℕ). slice_cmp nat_cmp (x ∷ xs) (z ∷ ys)) (sym (same 0 (omega arith))) ∙ cmp_one x xs ys
+    ∙ first_greater xs ys j (omega (arith, l)) (omega (arith, m)) (λ i n. same (suc i) (omega (arith, n))) g
 
-kept_further : (x : ℕ) (p q : List ℕ) → length (keep x p) ≡ length (keep x q) → (length p ≡ length q → slice_cmp nat_cmp p q ≡ Greater)
-    → slice_cmp nat_cmp (keep x p) (keep x q) ≡ Greater
-kept_further x [] [] e h = let bad = h refl in absurd (cc bad)
-kept_further zero [] (b ∷ q) e h = absurd (omega (arith, e))
-kept_further (suc x) [] (b ∷ q) e h = absurd (omega (arith, e))
-kept_further zero (a ∷ p) [] e h = absurd (omega (arith, e))
-kept_further (suc x) (a ∷ p) [] e h = absurd (omega (arith, e))
-kept_further x (a ∷ p) (b ∷ q) e h = cmp_one x (a ∷ p) (b ∷ q) ∙ h (omega (arith, e))
-
--- as long ones are ordered by the first octet that differs
-trimmed_greater : (xs ys : List ℕ) (j : ℕ) → length xs ≡ length ys → ((i : ℕ) → i < j → get_or xs i 0 ≡ get_or ys i 0) → get_or ys j 0 < get_or xs j 0
+-- also of lists as long as each other without these zeros
+trimmed_greater : (xs ys : List ℕ) (j : ℕ) → ((i : ℕ) → i < j → get_or xs i 0 ≡ get_or ys i 0) → get_or ys j 0 < get_or xs j 0
     → length (trimmed xs) ≡ length (trimmed ys) → slice_cmp nat_cmp (trimmed xs) (trimmed ys) ≡ Greater
-trimmed_greater [] ys j n same l e = absurd (omega (arith, l))
-trimmed_greater (x ∷ xs) [] j n same l e = absurd (omega (arith, n))
-trimmed_greater (x ∷ xs) (y ∷ ys) zero n same l e = kept_greater x y (trimmed xs) (trimmed ys) l e
-trimmed_greater (x ∷ xs) (y ∷ ys) (suc j) n same l e =
-    let head : y ≡ x = sym (same 0 (omega arith)) in
-    let lens : length (keep x (trimmed xs)) ≡ length (keep x (trimmed ys)) = e ∙ ap (λ (z : ℕ). length (keep z (trimmed ys))) head in
-    ap (λ (z : ℕ). slice_cmp nat_cmp (keep x (trimmed xs)) (keep z (trimmed ys))) head
-    ∙ kept_further x (trimmed xs) (trimmed ys) lens (trimmed_greater xs ys j (omega (arith, n)) (λ i m. same (suc i) (omega (arith, m))) l)
+trimmed_greater xs ys j same less e =
+    let here : j < length (trimmed xs) = trimmed_reaches xs j (omega (arith, less)) in
+    first_greater (trimmed xs) (trimmed ys) j here (omega (arith, here, e))
+    (λ i m. trimmed_at xs i (omega (arith, m, here)) ∙ same i m ∙ sym (trimmed_at ys i (omega (arith, m, here, e))))
+    (omega (arith, less, trimmed_at xs j here, trimmed_at ys j (omega (arith, here, e))))
 
 -- ---- the octets of a window
 
@@ -190,6 +180,5 @@ unfolding window
 window_greater {v} {w} {x} k o e l =
     let j : ℕ = x % 256 / 8 in
     trimmed_greater (map (types_octet v k) (range_with_len 0 32)) (map (types_octet w k) (range_with_len 0 32)) j
-    (length-map-range_with_len (types_octet v k) 0 32 ∙ sym (length-map-range_with_len (types_octet w k) 0 32))
     (λ i m. octet_at v k i (omega (arith, m)) ∙ octet_same v w k i (λ u a b. o.below u (omega (arith, e, m, b))) ∙ sym (octet_at w k i (omega (arith, m))))
     (rw (octet_at v k j (omega arith), octet_at w k j (omega arith)) (octet_less k o e)) l

@@ -83,6 +83,7 @@ impl CSYNC {
 
     // With the flags as a number.
     #[inline]
+    #[tactic(auto, using(crate::proofs::CsyncValues::flags_again))]
     pub(crate) fn with_flags(soa_serial: u32, flags: u16, type_bit_maps: RecordTypeSet) -> CSYNC
         ensures fields { csync_fields result ≡ (soa_serial, (flags, (type_bit_maps, tt))) }
         ensures read { IsReadCsync result }

@@ -12,6 +12,7 @@ use crate::record_type_set::windows::first_window;
 use dns_names_wire::{BinEncoder, ProtoError};
 
 // Appends the blocks of a set's numbers, which rise.
+#[tactic(auto, using(crate::proofs::SetWrites::left_first))]
 pub(super) fn emit_blocks(encoder: &mut BinEncoder<'_>, numbers: &[u16]) -> Result<(), ProtoError>
     requires { IsTypeSet numbers.now }
     ensures { EmitsField Bitmap numbers.now result encoder.old encoder.new }
@@ -69,6 +70,7 @@ pub(super) fn mark_window(octets: &mut [u8; 32], run: &[u16])
 // The bits of the numbers in front that are below 64 in their window, as most are, the first one highest, and how many these
 // numbers are. Octets that are stored one by one are slow to load together, so these are put together in one number.
 #[inline]
+#[tactic(auto, using(crate::proofs::Windows::front_more))]
 fn first_word(run: &[u16]) -> (u64, usize)
     requires { AreOfWindow (first_window run.now) run.now }
     ensures count { result.1 ≤ length run.now }

@@ -8,6 +8,3 @@ loop-i-init c = none_of_window c.args.window c.args.octets.now _
 
 pub loop-i-preserved : goal.loop-i-preserved
 loop-i-preserved c = octet_added c.args.window c.loop-i.i c.args.octets.now _ _ _ c.loop-i-test.true (omega arith) c.loop-i.invariant c.in_ok-add_octet.ensures
-
-pub returns : goal.returns
-returns c = rw (take_all c.loop-i.i c.args.octets.now c.loop-i-test.false) at c.loop-i.invariant

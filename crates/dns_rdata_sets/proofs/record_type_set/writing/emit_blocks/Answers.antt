@@ -4,9 +4,6 @@ use Rattle.dns_rdata_sets.proofs.Rising.{set_drop}
 use Rattle.dns_rdata_sets.proofs.SetWrites.{left_first, left_next, left_stopped, left_none}
 use Rattle.dns_rdata_sets.proofs.record_type_set.writing.emit_blocks.Goals as goal
 
-pub loop-rest-init : goal.loop-rest-init
-loop-rest-init c = left_first c.args.encoder.now c.requires
-
 pub returns-in_err-emit_both : goal.returns-in_err-emit_both
 returns-in_err-emit_both c =
     let p = err_from_is_err_and c.from_residual.result c.from_residual.ensures.1 in
