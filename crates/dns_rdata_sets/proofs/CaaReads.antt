@@ -18,7 +18,7 @@ use Rattle.dns_names_wire.proofs.Strings.{text_taken, at_rest}
 use Rattle.dns_fields.proofs.Places.{At-same_head}
 use Rattle.dns_fields.proofs.FieldLaws.{field_inside}
 use Rattle.dns_rdata_sets.proofs.Splitting.{all_halves, all_parts}
-use Rattle.dns_rdata_sets.specs.CAA.{caa_shape, caa_fields, AreTagOctets, IsTag, IsTagRefusal, IsCaaRefusal}
+use Rattle.dns_rdata_sets.specs.CAA.{AreTagOctets, IsTag, IsTagRefusal, IsCaaRefusal}
 
 -- the flags' two parts make them again
 pub flags_back : (f : ℕ) → f < 256 → f ≡ f % 128 % 128 + cond (nat_le 128 f) 128 0

@@ -1,14 +1,13 @@
 -- Windows of a set, step by step.
-use Rattle.std.proofs.Common.{◌≡◌, ℕ, ◌+◌, ◌-◌, ◌%◌, ◌<◌, ◌≤◌, List, [], ◌∷◌, ◌++◌, length, take, drop, length-take-le, length-drop, length-append, sym, ap, ◌∙◌, arith}
-use Rattle.std.proofs.lemmas.List.{append-nil, drop_all, drop-drop, take_all}
+use Rattle.std.proofs.Common.{◌≡◌, ℕ, ◌+◌, ◌%◌, ◌<◌, ◌≤◌, List, [], ◌∷◌, ◌++◌, length, take, drop, length-take-le, length-append, sym, ap, ◌∙◌, arith}
+use Rattle.std.proofs.lemmas.List.{append-nil, drop_all, drop-drop}
 use Rattle.std.specs.List.{flat_map}
-use Rattle.dns_fields.specs.Bitmaps.{block, minimal, IsTypeSet}
+use Rattle.dns_fields.specs.Bitmaps.{block, minimal}
 use Rattle.dns_fields.specs.Fields.{Number, field_octets}
 use Rattle.dns_pieces.specs.Steps.{StepAt, Ended, PassedWindow}
 use Rattle.dns_rdata_sets.specs.declared.csync.CSYNC.{CSYNC}
 use Rattle.dns_rdata_sets.specs.Steps.{csync_left, csync_windows}
 use Rattle.dns_rdata_sets.proofs.NextWindow.{minimal_none}
-use Rattle.dns_rdata_sets.proofs.Rising.{set_drop}
 
 -- the window at a place, in the octets of a head
 pub record WindowMade (v : List ℕ) (i number len count : ℕ) (octets head : List ℕ) : Type 0 where

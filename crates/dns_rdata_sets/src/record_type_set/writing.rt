@@ -54,6 +54,7 @@ pub(super) fn as_octets(octets: &[u8]) -> &[u8]
 }
 
 // Makes of 32 octets those of a window whose types these are, zeros at the end too.
+#[tactic(auto, using(crate::proofs::Windows::marks_more))]
 pub(super) fn mark_window(octets: &mut [u8; 32], run: &[u16])
     requires some { 0 < length run.now }
     requires run { AreOfWindow (first_window run.now) run.now }

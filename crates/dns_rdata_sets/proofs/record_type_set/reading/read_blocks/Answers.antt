@@ -1,6 +1,6 @@
-use Rattle.std.proofs.Common.{inl, inr, ⊎_elim, refl, arith}
+use Rattle.std.proofs.Common.{inl, inr, ⊎_elim}
 use Rattle.std.proofs.lemmas.Result.{err_from_is_err_and}
-use Rattle.dns_rdata_sets.proofs.Blocks.{left_all, left_less, left_shorter, are_blocks, no_blocks}
+use Rattle.dns_rdata_sets.proofs.Blocks.{left_less, no_blocks}
 use Rattle.dns_rdata_sets.proofs.record_type_set.reading.read_blocks.Goals as goal
 
 pub loop-rest-preserved : goal.loop-rest-preserved

@@ -1,5 +1,5 @@
 use Rattle.std.proofs.Common.{arith}
-use Rattle.dns_rdata_sets.proofs.Windows.{front_none, front_more}
+use Rattle.dns_rdata_sets.proofs.Windows.{front_none}
 use Rattle.dns_rdata_sets.proofs.record_type_set.writing.first_word.Goals as goal
 
 pub loop-count-init : goal.loop-count-init
