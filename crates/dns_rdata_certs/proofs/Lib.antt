@@ -1,5 +1,5 @@
 mod HexText
 pub mod Numbers
 pub mod Values
-mod Wholes
+pub mod Wholes
 pub mod WordsBack

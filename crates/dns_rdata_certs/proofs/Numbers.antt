@@ -1,5 +1,6 @@
 -- The number of what a number gives is that number; values of one number that a number gives are one value.
 use Rattle.std.proofs.Common.{◌≡◌, ℕ, Bool, true, false, if◌then◌else◌, nat_le, refl, sym, ap, ◌∙◌}
+use Rattle.dns_fields.specs.Fields.{Number, SameField}
 use Rattle.dns_rdata_base.proofs.NumberLaws.{number-numbered_of}
 use Rattle.dns_rdata_certs.specs.CertType.{cert_type_number, named_cert_types, other_cert_type, cert_type_of}
 use Rattle.dns_rdata_certs.specs.declared.cert.cert_type.CertType.TheVariants.{Unassigned, Experimental}
@@ -42,5 +43,7 @@ pub matching_number-of : (n : ℕ) → matching_number (matching_of n) ≡ n
 unfolding matching_of
 matching_number-of n = number-numbered_of matching_number named_matchings other_matching n refl
 
-pub one_of_number : {T : Type 0} (number : T → ℕ) (of : ℕ → T) (a b : T) → a ≡ of (number a) → b ≡ of (number b) → number a ≡ number b → a ≡ b
-one_of_number number of a b x y same = x ∙ ap of same ∙ sym y
+-- so the variant is told by the number, too
+pub same_variant : {T : Type 0} (number variant : T → ℕ) (of : ℕ → T) {a b : T} {w : ℕ} → a ≡ of (number a) → b ≡ of (number b)
+    → SameField (Number w) (number a) (number b) → SameField (Number 1) (variant a) (variant b)
+same_variant number variant of x y s = record { is = ap variant (x ∙ ap of s.is ∙ sym y) }

@@ -1,6 +1,6 @@
 -- Records by their fields: each record that was read is told by them, and any fields make one. What is compared of two
 -- records that were read is the same exactly where their fields are.
-use Rattle.std.proofs.Common.{◌≡◌, ◌↔◌, ℕ, sym, ap, ◌∙◌}
+use Rattle.std.proofs.Common.{◌≡◌, ◌↔◌, refl, sym, ap}
 use Rattle.dns_fields.specs.Fields.{Values, Same}
 use Rattle.dns_rdata_certs.specs.TLSA.{tlsa_shape, tlsa_fields, tlsa_key_shape, tlsa_keys, IsReadTlsa}
 use Rattle.dns_rdata_certs.specs.SSHFP.{sshfp_shape, sshfp_fields, sshfp_key_shape, sshfp_keys, IsReadSshfp}
@@ -14,19 +14,12 @@ use Rattle.dns_rdata_certs.specs.CertUsage.{cert_usage_number, cert_usage_varian
 use Rattle.dns_rdata_certs.specs.Selector.{selector_number, selector_variant, selector_of}
 use Rattle.dns_rdata_certs.specs.Matching.{matching_number, matching_variant, matching_of}
 use Rattle.dns_rdata_certs.specs.declared.tlsa.TLSA.{TLSA}
-use Rattle.dns_rdata_certs.specs.declared.tlsa.cert_usage.CertUsage.{CertUsage}
-use Rattle.dns_rdata_certs.specs.declared.tlsa.selector.Selector.{Selector}
-use Rattle.dns_rdata_certs.specs.declared.tlsa.matching.Matching.{Matching}
 use Rattle.dns_rdata_certs.specs.declared.smimea.SMIMEA.{SMIMEA}
 use Rattle.dns_rdata_certs.specs.declared.sshfp.SSHFP.{SSHFP}
-use Rattle.dns_rdata_certs.specs.declared.sshfp.algorithm.Algorithm.{Algorithm as SshfpAlgorithm}
-use Rattle.dns_rdata_certs.specs.declared.sshfp.fingerprint_type.FingerprintType.{FingerprintType}
 use Rattle.dns_rdata_certs.specs.declared.cert.CERT.{CERT}
-use Rattle.dns_rdata_certs.specs.declared.cert.cert_type.CertType.{CertType}
-use Rattle.dns_rdata_certs.specs.declared.cert.algorithm.Algorithm.{Algorithm as CertAlgorithm}
 use Rattle.dns_rdata_certs.proofs.Numbers.{cert_type_number-of, cert_algorithm_number-of, sshfp_algorithm_number-of}
 use Rattle.dns_rdata_certs.proofs.Numbers.{fingerprint_type_number-of, cert_usage_number-of, selector_number-of, matching_number-of}
-use Rattle.dns_rdata_certs.proofs.Numbers.{one_of_number}
+use Rattle.dns_rdata_certs.proofs.Numbers.{same_variant}
 
 -- ---- TLSA
 
@@ -34,21 +27,10 @@ abbrev pub tlsa_from : Values tlsa_shape → TLSA
 tlsa_from vs = record { cert_usage = cert_usage_of vs.0; selector = selector_of vs.1.0; matching = matching_of vs.1.1.0; cert_data = vs.1.1.1.0 }
 
 pub tlsa_from-fields : (x : TLSA) → IsReadTlsa x → x ≡ tlsa_from (tlsa_fields x)
-tlsa_from-fields x r =
-    ap (λ (u : CertUsage). record x { cert_usage = u }) r.usage
-    ∙ ap (λ (s : Selector). record x { cert_usage = cert_usage_of (cert_usage_number x.cert_usage); selector = s }) r.selector
-    ∙ ap (λ (m : Matching). record x {
-      cert_usage = cert_usage_of (cert_usage_number x.cert_usage);
-      selector =
-          selector_of (selector_number x.selector);
-      matching = m;
-    }) r.matching
+tlsa_from-fields x r = rw (← r.usage, ← r.selector, ← r.matching) refl
 
 pub tlsa_fields-from : (vs : Values tlsa_shape) → tlsa_fields (tlsa_from vs) ≡ vs
-tlsa_fields-from vs =
-    ap (λ (n : ℕ). (n, (selector_number (selector_of vs.1.0), (matching_number (matching_of vs.1.1.0), vs.1.1.1)))) (cert_usage_number-of vs.0)
-    ∙ ap (λ (n : ℕ). (vs.0, (n, (matching_number (matching_of vs.1.1.0), vs.1.1.1)))) (selector_number-of vs.1.0)
-    ∙ ap (λ (n : ℕ). (vs.0, (vs.1.0, (n, vs.1.1.1)))) (matching_number-of vs.1.1.0)
+tlsa_fields-from vs = rw (cert_usage_number-of vs.0, selector_number-of vs.1.0, matching_number-of vs.1.1.0) refl
 
 pub tlsa_from-read : (vs : Values tlsa_shape) → IsReadTlsa (tlsa_from vs)
 tlsa_from-read vs = record {
@@ -61,25 +43,11 @@ pub tlsa_keys-same : (a b : TLSA) → IsReadTlsa a → IsReadTlsa b
     → Same tlsa_key_shape (tlsa_keys a) (tlsa_keys b) ↔ Same tlsa_shape (tlsa_fields a) (tlsa_fields b)
 tlsa_keys-same a b x y = (
   λ s. (s.0, (s.1.1.0, (s.1.1.1.1.0, (s.1.1.1.1.1.1.0, tt)))),
-  λ s. (
-    s.0,
-    (
-      record { is = ap cert_usage_variant (one_of_number cert_usage_number cert_usage_of a.cert_usage b.cert_usage x.usage y.usage s.0.is) },
-      (
-        s.1.0,
-        (
-          record { is = ap selector_variant (one_of_number selector_number selector_of a.selector b.selector x.selector y.selector s.1.0.is) },
-          (
-            s.1.1.0,
-            (
-              record { is = ap matching_variant (one_of_number matching_number matching_of a.matching b.matching x.matching y.matching s.1.1.0.is) },
-              (s.1.1.1.0, tt),
-            ),
-          ),
-        ),
-      ),
-    ),
-  ),
+  λ s.
+      let usage = same_variant cert_usage_number cert_usage_variant cert_usage_of x.usage y.usage s.0 in
+      let selector = same_variant selector_number selector_variant selector_of x.selector y.selector s.1.0 in
+      let matching = same_variant matching_number matching_variant matching_of x.matching y.matching s.1.1.0 in
+      (s.0, (usage, (s.1.0, (selector, (s.1.1.0, (matching, (s.1.1.1.0, tt))))))),
 )
 
 -- ---- SMIMEA
@@ -106,14 +74,10 @@ abbrev pub sshfp_from : Values sshfp_shape → SSHFP
 sshfp_from vs = record { algorithm = sshfp_algorithm_of vs.0; fingerprint_type = fingerprint_type_of vs.1.0; fingerprint = vs.1.1.0 }
 
 pub sshfp_from-fields : (x : SSHFP) → IsReadSshfp x → x ≡ sshfp_from (sshfp_fields x)
-sshfp_from-fields x r =
-    ap (λ (a : SshfpAlgorithm). record x { algorithm = a }) r.algorithm
-    ∙ ap (λ (t : FingerprintType). record x { algorithm = sshfp_algorithm_of (sshfp_algorithm_number x.algorithm); fingerprint_type = t }) r.type
+sshfp_from-fields x r = rw (← r.algorithm, ← r.type) refl
 
 pub sshfp_fields-from : (vs : Values sshfp_shape) → sshfp_fields (sshfp_from vs) ≡ vs
-sshfp_fields-from vs =
-    ap (λ (n : ℕ). (n, (fingerprint_type_number (fingerprint_type_of vs.1.0), vs.1.1))) (sshfp_algorithm_number-of vs.0)
-    ∙ ap (λ (n : ℕ). (vs.0, (n, vs.1.1))) (fingerprint_type_number-of vs.1.0)
+sshfp_fields-from vs = rw (sshfp_algorithm_number-of vs.0, fingerprint_type_number-of vs.1.0) refl
 
 pub sshfp_from-read : (vs : Values sshfp_shape) → IsReadSshfp (sshfp_from vs)
 sshfp_from-read vs = record {
@@ -125,25 +89,10 @@ pub sshfp_keys-same : (a b : SSHFP) → IsReadSshfp a → IsReadSshfp b
     → Same sshfp_key_shape (sshfp_keys a) (sshfp_keys b) ↔ Same sshfp_shape (sshfp_fields a) (sshfp_fields b)
 sshfp_keys-same a b x y = (
   λ s. (s.0, (s.1.1.0, (s.1.1.1.1.0, tt))),
-  λ s. (
-    s.0,
-    (
-      record {
-        is = ap sshfp_algorithm_variant
-            (one_of_number sshfp_algorithm_number sshfp_algorithm_of a.algorithm b.algorithm x.algorithm y.algorithm s.0.is);
-      },
-      (
-        s.1.0,
-        (
-          record {
-            is = ap fingerprint_type_variant
-                (one_of_number fingerprint_type_number fingerprint_type_of a.fingerprint_type b.fingerprint_type x.type y.type s.1.0.is);
-          },
-          (s.1.1.0, tt),
-        ),
-      ),
-    ),
-  ),
+  λ s.
+      let algorithm = same_variant sshfp_algorithm_number sshfp_algorithm_variant sshfp_algorithm_of x.algorithm y.algorithm s.0 in
+      let kind = same_variant fingerprint_type_number fingerprint_type_variant fingerprint_type_of x.type y.type s.1.0 in
+      (s.0, (algorithm, (s.1.0, (kind, (s.1.1.0, tt))))),
 )
 
 -- ---- CERT
@@ -152,14 +101,10 @@ abbrev pub cert_from : Values cert_shape → CERT
 cert_from vs = record { cert_type = cert_type_of vs.0; key_tag = vs.1.0; algorithm = cert_algorithm_of vs.1.1.0; cert_data = vs.1.1.1.0 }
 
 pub cert_from-fields : (x : CERT) → IsReadCert x → x ≡ cert_from (cert_fields x)
-cert_from-fields x r =
-    ap (λ (t : CertType). record x { cert_type = t }) r.type
-    ∙ ap (λ (a : CertAlgorithm). record x { cert_type = cert_type_of (cert_type_number x.cert_type); algorithm = a }) r.algorithm
+cert_from-fields x r = rw (← r.type, ← r.algorithm) refl
 
 pub cert_fields-from : (vs : Values cert_shape) → cert_fields (cert_from vs) ≡ vs
-cert_fields-from vs =
-    ap (λ (n : ℕ). (n, (vs.1.0, (cert_algorithm_number (cert_algorithm_of vs.1.1.0), vs.1.1.1)))) (cert_type_number-of vs.0)
-    ∙ ap (λ (n : ℕ). (vs.0, (vs.1.0, (n, vs.1.1.1)))) (cert_algorithm_number-of vs.1.1.0)
+cert_fields-from vs = rw (cert_type_number-of vs.0, cert_algorithm_number-of vs.1.1.0) refl
 
 pub cert_from-read : (vs : Values cert_shape) → IsReadCert (cert_from vs)
 cert_from-read vs = record {
@@ -171,23 +116,8 @@ pub cert_keys-same : (a b : CERT) → IsReadCert a → IsReadCert b
     → Same cert_key_shape (cert_keys a) (cert_keys b) ↔ Same cert_shape (cert_fields a) (cert_fields b)
 cert_keys-same a b x y = (
   λ s. (s.0, (s.1.1.0, (s.1.1.1.0, (s.1.1.1.1.1.0, tt)))),
-  λ s. (
-    s.0,
-    (
-      record { is = ap cert_type_variant (one_of_number cert_type_number cert_type_of a.cert_type b.cert_type x.type y.type s.0.is) },
-      (
-        s.1.0,
-        (
-          s.1.1.0,
-          (
-            record {
-              is = ap cert_algorithm_variant (one_of_number cert_algorithm_number cert_algorithm_of a.algorithm b.algorithm x.algorithm y.algorithm
-                  s.1.1.0.is);
-            },
-            (s.1.1.1.0, tt),
-          ),
-        ),
-      ),
-    ),
-  ),
+  λ s.
+      let kind = same_variant cert_type_number cert_type_variant cert_type_of x.type y.type s.0 in
+      let algorithm = same_variant cert_algorithm_number cert_algorithm_variant cert_algorithm_of x.algorithm y.algorithm s.1.1.0 in
+      (s.0, (kind, (s.1.0, (s.1.1.0, (algorithm, (s.1.1.1.0, tt)))))),
 )

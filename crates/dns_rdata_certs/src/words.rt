@@ -99,6 +99,7 @@ fn next_data<S: AsStr + Drop, I: Iterator<Item = S>>(
 }
 
 // The octets of all further words, joined; none are refused.
+#[tactic(auto, using(crate::proofs::WordsBack::hex_read))]
 fn all_hex<S: AsStr + Drop, I: Iterator<Item = S>>(
     alloc: Global,
     words: I,

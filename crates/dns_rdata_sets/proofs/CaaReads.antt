@@ -1,10 +1,8 @@
 -- Reading a CAA record: flags, tag, value.
-use Rattle.std.proofs.Common.{◌≡◌, ◌⊎◌, inl, inr, ℕ, ◌+◌, ◌%◌, ◌≤◌, ◌<◌, true, false, cond, nat_le, List, [], ◌∷◌, ◌++◌, length, take}
+use Rattle.std.proofs.Common.{◌≡◌, ◌⊎◌, inl, inr, ℕ, ◌+◌, ◌%◌, ◌≤◌, ◌<◌, false, cond, nat_le, List, [], ◌∷◌, ◌++◌, length, take}
 use Rattle.std.proofs.Common.{drop, refl, sym, ap, ◌∙◌, arith, subst, ◌-◌}
 use Rattle.std.proofs.lemmas.List.{length-append, take-take, take-append-drop}
-use Rattle.std.proofs.lemmas.Bool.{and_parts}
 use Rattle.std.proofs.Math.Nat.{mod-eq_of_lt}
-use Rattle.std.proofs.lemmas.List.Folds.{list_all-append}
 use Rattle.std.proofs.lemmas.Grind.{common_steps}
 use Rattle.std.proofs.lemmas.Bool.Decides.{nat_tests}
 use Rattle.std.specs.List.{list_all}
@@ -19,20 +17,12 @@ use Rattle.dns_names_wire.proofs.FieldReads.{unless_all, took_stays, took_then, 
 use Rattle.dns_names_wire.proofs.Strings.{text_taken, at_rest}
 use Rattle.dns_fields.proofs.Places.{At-same_head}
 use Rattle.dns_fields.proofs.FieldLaws.{field_inside}
-use Rattle.dns_rdata_sets.specs.CAA.{caa_shape, caa_fields, AreTagOctets, IsTag, IsTagRefusal, IsCaaRefusal}
+use Rattle.dns_rdata_sets.proofs.Splitting.{all_halves, all_parts}
+use Rattle.dns_rdata_sets.specs.CAA.{AreTagOctets, IsTag, IsTagRefusal, IsCaaRefusal}
 
 -- the flags' two parts make them again
 pub flags_back : (f : ℕ) → f < 256 → f ≡ f % 128 % 128 + cond (nat_le 128 f) 128 0
 flags_back f lt = grind (arith, common_steps, nat_tests)
-
-letters_front : (xs ys : List ℕ) → AreTagOctets (xs ++ ys) → AreTagOctets xs
-letters_front xs ys h = (and_parts (list_all is_ascii_alphanumeric xs) (list_all is_ascii_alphanumeric ys)
-    (sym (list_all-append is_ascii_alphanumeric xs ys) ∙ h)).0
-
-letters_bad : (front : List ℕ) (octet : ℕ) → is_ascii_alphanumeric octet ≡ false → AreTagOctets (front ++ octet ∷ []) → ⊥
-letters_bad [] octet bad h = let t = (and_parts (is_ascii_alphanumeric octet) true h).0 in cc
-letters_bad (c ∷ front) octet bad h = letters_bad front octet bad
-    (and_parts (is_ascii_alphanumeric c) (list_all is_ascii_alphanumeric (front ++ octet ∷ [])) h).1
 
 -- octets that begin with others, read at one place
 begins : {m : List ℕ} {p q r : ℕ} (s x : List ℕ) → At m p s q → At m p x r → length x ≤ length s → take (length x) s ≡ x
@@ -47,8 +37,10 @@ bad_octet s front octet a b within bad letters =
     let whole : take (length (front ++ octet ∷ [])) s ++ drop (length (front ++ octet ∷ [])) s ≡ s = take-append-drop (length (front ++ octet ∷ [])) s in
     let all : AreTagOctets (take (length (front ++ octet ∷ [])) s ++ drop (length (front ++ octet ∷ [])) s) = ap (list_all is_ascii_alphanumeric) whole
     ∙ letters in
-    letters_bad front octet bad (ap (list_all is_ascii_alphanumeric) (sym t)
-    ∙ letters_front (take (length (front ++ octet ∷ [])) s) (drop (length (front ++ octet ∷ [])) s) all)
+    let there = (all_halves is_ascii_alphanumeric (take (length (front ++ octet ∷ [])) s) (drop (length (front ++ octet ∷ [])) s) all).0 in
+    let last = (all_halves is_ascii_alphanumeric front (octet ∷ []) (ap (list_all is_ascii_alphanumeric) (sym t) ∙ there)).1 in
+    let good = (all_parts is_ascii_alphanumeric octet [] last).0 in
+    cc
 
 octet_at : {m : List ℕ} {p n q : ℕ} → Field m p (Number 1) n q → At m p (n ∷ []) q
 octet_at {m} {p} {n} {q} f = let e : n % 256 ≡ n = mod-eq_of_lt f.is.0 in subst (λ (k : ℕ). At m p (k ∷ []) q) e f.is.1
@@ -127,21 +119,13 @@ refused_value {old} {a} {b} {new} {e} n f t tag x y z g why = inr (inr (record {
     ),
   )
 
-caa_fields_taken : {old a b c new : Reading} (n f t : ℕ) (tag value : List ℕ) → f < 256 → TookField old (Number 1) f a → TookField a (Number 1) t b
+-- the fields of a record that was read
+pub caa_taken : {old a b c new : Reading} (n f t : ℕ) (tag value : List ℕ) → f < 256 → TookField old (Number 1) f a → TookField a (Number 1) t b
     → TookField b (Octets t) tag c → TookField c (Octets (n - t - 2)) value new → IsTag tag × (t + 2 ≤ n)
     → Took old (Number 1 ∷ Text ∷ Rest ∷ []) (f % 128 % 128 + cond (nat_le 128 f) 128 0, (tag, (value, tt))) new × ((new.index ≡ old.index + n) × IsTag tag)
-caa_fields_taken {old} {a} {b} {c} {new} n f t tag value lt x y z w g =
+caa_taken {old} {a} {b} {c} {new} n f t tag value lt x y z w g =
     let first : TookField old (Number 1) (f % 128 % 128 + cond (nat_le 128 f) 128 0) a = subst (λ (k : ℕ). TookField old (Number 1) k a) (flags_back f lt) x in
     let last : TookField c Rest value new = record { message = w.message; field = record { is = w.field.is.1 } } in (
       took_then first (took_then (text_taken refl y z) (took_then last (took_last _))),
       (omega (arith, g.1, took_number x, took_number y, z.field.is.0, z.field.is.1.ends, w.field.is.0, w.field.is.1.ends), g.0),
     )
-
--- the fields of a record that was read
-pub caa_taken : {old a b c new : Reading} (n f t : ℕ) (tag value : List ℕ) (flags : ℕ) (owned kept : List ℕ) → f < 256 → flags ≡ f → owned ≡ tag
-    → kept ≡ value → TookField old (Number 1) f a → TookField a (Number 1) t b → TookField b (Octets t) tag c
-    → TookField c (Octets (n - t - 2)) value new → IsTag tag × (t + 2 ≤ n)
-    → Took old caa_shape (caa_fields (record { issuer_critical = nat_le 128 flags; reserved_flags = flags % 128; tag = owned; value = kept })) new
-    × ((new.index ≡ old.index + n) × IsTag owned)
-caa_taken {old} {a} {b} {c} {new} n f t tag value flags owned kept lt same-flags same-tag same-value x y z w g =
-    rw (same-flags, same-tag, same-value) (caa_fields_taken n f t tag value lt x y z w g)

@@ -1,9 +1,11 @@
 -- The grammar of issuer parameters: at most one list of parameters, read from the front.
 use Rattle.std.proofs.Common.{◌≡◌, ℕ, Bool, true, false, not, ◌⊎◌, inl, inr, List, [], ◌∷◌, ◌++◌, refl, ap, sym, subst, ◌∙◌, arith}
-use Rattle.std.proofs.Common.{append_assoc, ◌==◌, ◌<◌, ◌≤◌, All, length}
+use Rattle.std.proofs.Common.{append_assoc, length-append, ◌==◌, ◌<◌, ◌≤◌, length}
+use Rattle.std.proofs.lemmas.Bool.{or_left}
 use Rattle.std.proofs.lemmas.Bool.Decides.{nat_tests}
 use Rattle.std.proofs.lemmas.List.{append-nil}
-use Rattle.std.proofs.lemmas.List.Elements.{All-nil, All-cons}
+use Rattle.std.proofs.lemmas.List.Elements.{All-weaker}
+use Rattle.std.proofs.lemmas.List.Sums.{AllPass-from_list_all}
 use Rattle.std.proofs.lemmas.Str.{IsUtf8-from_ascii}
 use Rattle.std.proofs.lemmas.Str.Ascii.{IsAscii-from_all}
 use Rattle.std.specs.Str.{IsUtf8}
@@ -13,30 +15,24 @@ use Rattle.dns_types.specs.declared.error.ProtoError.TheVariants as proto
 use Rattle.dns_names_wire.specs.NameValues.{IsTextRefusal}
 use Rattle.dns_rdata_sets.specs.Issuer.{Parameter, is_blank, is_no_semicolon, is_key_octet, is_value_octet, AllOf, StartsWithout, Splits}
 use Rattle.dns_rdata_sets.specs.Issuer.{IsKey, IsParameter, parameter_octets, AreParameters}
-use Rattle.dns_rdata_sets.proofs.Splitting.{all_parts, all_cons, all_append, all_back, all_weaker, split_once}
+use Rattle.dns_rdata_sets.proofs.Splitting.{all_parts, all_cons, all_append, all_halves, all_weaker, split_once}
 
 -- ---- octets of keys and values
 
 abbrev pub is_no_equals : ℕ → Bool
 is_no_equals c = not (c == 61)
 
-alphanumeric_no_blank : (c : ℕ) → is_ascii_alphanumeric c ≡ true → is_blank c ≡ false
-alphanumeric_no_blank c h = grind (arith, nat_tests)
+key_no_blank : (c : ℕ) → is_key_octet c ≡ true → is_blank c ≡ false
+key_no_blank c h = grind (arith, nat_tests)
 
-alphanumeric_no_equals : (c : ℕ) → is_ascii_alphanumeric c ≡ true → is_no_equals c ≡ true
-alphanumeric_no_equals c h = grind (arith, nat_tests)
+key_no_equals : (c : ℕ) → is_key_octet c ≡ true → is_no_equals c ≡ true
+key_no_equals c h = grind (arith, nat_tests)
 
-key_octet_no_equals : (c : ℕ) → is_key_octet c ≡ true → is_no_equals c ≡ true
-key_octet_no_equals c h = grind (arith, nat_tests)
+key_no_semicolon : (c : ℕ) → is_key_octet c ≡ true → is_no_semicolon c ≡ true
+key_no_semicolon c h = grind (arith, nat_tests)
 
-alphanumeric_no_semicolon : (c : ℕ) → is_ascii_alphanumeric c ≡ true → is_no_semicolon c ≡ true
-alphanumeric_no_semicolon c h = grind (arith, nat_tests)
-
-key_octet_no_semicolon : (c : ℕ) → is_key_octet c ≡ true → is_no_semicolon c ≡ true
-key_octet_no_semicolon c h = grind (arith, nat_tests)
-
-value_octet_no_semicolon : (c : ℕ) → is_value_octet c ≡ true → is_no_semicolon c ≡ true
-value_octet_no_semicolon c h = grind (arith, nat_tests)
+value_no_semicolon : (c : ℕ) → is_value_octet c ≡ true → is_no_semicolon c ≡ true
+value_no_semicolon c h = grind (arith, nat_tests)
 
 no_semicolon_is : (c : ℕ) → is_no_semicolon c ≡ false → c ≡ 59
 no_semicolon_is c h = grind (arith, nat_tests)
@@ -44,12 +40,15 @@ no_semicolon_is c h = grind (arith, nat_tests)
 no_equals_is : (c : ℕ) → is_no_equals c ≡ false → c ≡ 61
 no_equals_is c h = grind (arith, nat_tests)
 
--- a test that letters, digits and key octets pass
-key_all : (p : ℕ → Bool) → ((c : ℕ) → is_ascii_alphanumeric c ≡ true → p c ≡ true) → ((c : ℕ) → is_key_octet c ≡ true → p c ≡ true) → (key : List ℕ)
-    → IsKey key → AllOf p key
-key_all p f g [] h = absurd h
-key_all p f g (c ∷ []) h = all_cons p c [] (f c h) refl
-key_all p f g (c ∷ d ∷ ds) h = all_cons p c (d ∷ ds) (f c h.0) (all_cons p d ds (f d h.1) (all_weaker is_key_octet p g ds h.2))
+-- letters and digits are octets of keys, too
+key_octets : (key : List ℕ) → IsKey key → AllOf is_key_octet key
+key_octets [] h = absurd h
+key_octets (c ∷ []) h = all_cons is_key_octet c [] (or_left (is_ascii_alphanumeric c) (c == 45) h) refl
+key_octets (c ∷ d ∷ key) h = all_cons is_key_octet c (d ∷ key) (or_left (is_ascii_alphanumeric c) (c == 45) h.0)
+    (all_cons is_key_octet d key (or_left (is_ascii_alphanumeric d) (d == 45) h.1) h.2)
+
+key_all : (p : ℕ → Bool) → ((c : ℕ) → is_key_octet c ≡ true → p c ≡ true) → (key : List ℕ) → IsKey key → AllOf p key
+key_all p f key h = all_weaker is_key_octet p f key (key_octets key h)
 
 -- ---- one parameter
 
@@ -58,37 +57,29 @@ starts : (x : Parameter) (rest : List ℕ) → IsKey x.key → StartsWithout is_
 starts x rest h = by_key x.key x.value h where
   by_key : (key value : List ℕ) → IsKey key → StartsWithout is_blank ((key ++ 61 ∷ value) ++ rest)
   by_key [] value h = absurd h
-  by_key (c ∷ []) value h = alphanumeric_no_blank c h
-  by_key (c ∷ d ∷ ds) value h = alphanumeric_no_blank c h.0
+  by_key (c ∷ key) value h = key_no_blank c (all_parts is_key_octet c key (key_octets (c ∷ key) h)).0
 
 -- it has octets
-some_octets : (x : Parameter) (rest : List ℕ) → parameter_octets x ++ rest ≡ [] → ⊥
-some_octets x rest e = by_key x.key x.value e where
-  by_key : (key value : List ℕ) → (key ++ 61 ∷ value) ++ rest ≡ [] → ⊥
-  by_key [] value e = cc
-  by_key (c ∷ key) value e = cc
+long : (x : Parameter) (rest : List ℕ) → 0 < length (parameter_octets x ++ rest)
+long x rest = omega (arith, length-append (parameter_octets x) rest, length-append x.key (61 ∷ x.value))
 
 -- it has no semicolon
 no_semicolon : (x : Parameter) → IsParameter x → AllOf is_no_semicolon (parameter_octets x)
 no_semicolon x h =
-    all_append is_no_semicolon x.key (61 ∷ x.value) (key_all is_no_semicolon alphanumeric_no_semicolon key_octet_no_semicolon x.key h.key)
-    (all_cons is_no_semicolon 61 x.value refl (all_weaker is_value_octet is_no_semicolon value_octet_no_semicolon x.value h.value))
+    all_append is_no_semicolon x.key (61 ∷ x.value) (key_all is_no_semicolon key_no_semicolon x.key h.key)
+    (all_cons is_no_semicolon 61 x.value refl (all_weaker is_value_octet is_no_semicolon value_no_semicolon x.value h.value))
 
 -- it is cut at its first equals sign
 pub parameter_cut : (octets key rest : List ℕ) (x : Parameter) → Splits is_no_equals octets key rest → octets ≡ parameter_octets x → IsParameter x
     → (key ≡ x.key) × (rest ≡ 61 ∷ x.value)
 parameter_cut octets key rest x s e h = split_once is_no_equals key rest x.key (61 ∷ x.value) (sym s.whole ∙ e) s.passes s.stops
-    (key_all is_no_equals alphanumeric_no_equals key_octet_no_equals x.key h.key) refl
+    (key_all is_no_equals key_no_equals x.key h.key) refl
 
 parameter_same : (x y : Parameter) → IsParameter x → IsParameter y → parameter_octets x ≡ parameter_octets y → x ≡ y
 parameter_same x y a b e =
-    let none : (z : Parameter) → IsParameter z
-    → AllOf is_no_equals z.key = λ z h. key_all is_no_equals alphanumeric_no_equals key_octet_no_equals z.key h.key in
-    let p = split_once is_no_equals x.key (61 ∷ x.value) y.key (61 ∷ y.value) e (none x a) refl (none y b) refl in
-    let v : x.value ≡ y.value = tail p.1 in
-    ap (λ (k : List ℕ). record x { key = k }) p.0 ∙ ap (λ (w : List ℕ). record { key = y.key; value = w }) v where
-      tail : {v w : List ℕ} → 61 ∷ v ≡ 61 ∷ w → v ≡ w
-      tail e = cc
+    let p = parameter_cut (parameter_octets x) x.key (61 ∷ x.value) y (record { whole = refl; passes = key_all is_no_equals key_no_equals x.key a.key; stops = refl }) e b in
+    let v : x.value ≡ y.value = let t = p.1 in cc in
+    ap (λ (k : List ℕ). record x { key = k }) p.0 ∙ ap (λ (w : List ℕ). record { key = y.key; value = w }) v
 
 -- ---- parameters
 
@@ -107,7 +98,7 @@ blanks_before front rest (x ∷ xs) b h = (
 
 pub blanks_behind : (front rest : List ℕ) (xs : List Parameter) → AllOf is_blank front → StartsWithout is_blank rest → AreParameters (front ++ rest) xs
     → AreParameters rest xs
-blanks_behind front rest [] b s h = all_back is_blank front rest h
+blanks_behind front rest [] b s h = (all_halves is_blank front rest h).1
 blanks_behind front rest (x ∷ xs) b s h =
     let cut = split_once is_blank front rest h.0 (parameter_octets x ++ h.1) h.2 b s h.3 (starts x h.1 h.4.key) in
     ([], h.1, cut.1, refl, h.4, h.5)
@@ -124,7 +115,7 @@ blank_off c rest (x ∷ xs) b (d ∷ blanks, behind, e, all, is, more) =
 
 no_parameters : (xs : List Parameter) → AreParameters [] xs → xs ≡ []
 no_parameters [] h = refl
-no_parameters (x ∷ xs) ([], behind, e, all, is, more) = absurd (some_octets x behind (sym e))
+no_parameters (x ∷ xs) ([], behind, e, all, is, more) = absurd (omega (arith, long x behind, ap length e))
 no_parameters (x ∷ xs) (d ∷ b, behind, e, all, is, more) = cc
 
 -- what follows a parameter in the grammar
@@ -147,23 +138,25 @@ follow_stops : (behind : List ℕ) (xs : List Parameter) → Follow behind xs �
 follow_stops behind xs (inl h) = rw h.0 tt
 follow_stops behind xs (inr h) = rw h.1 refl
 
+no_blanks : (octets : List ℕ) → 0 < length octets → StartsWithout is_blank octets → AllOf is_blank octets → ⊥
+no_blanks [] some s h = omega (arith, some)
+no_blanks (c ∷ rest) some s h = let k = (all_parts is_blank c rest h).0 in cc
+
 -- the first of parameters that begin with no blank
-pub first_parameter : (c : ℕ) (rest front behind : List ℕ) (ys : List Parameter) → StartsWithout is_blank (c ∷ rest)
-    → Splits is_no_semicolon (c ∷ rest) front behind → AreParameters (c ∷ rest) ys
+first_parameter : (octets front behind : List ℕ) (ys : List Parameter) → 0 < length octets → StartsWithout is_blank octets
+    → Splits is_no_semicolon octets front behind → AreParameters octets ys
     → (y : Parameter) × (xs : List Parameter) × (ys ≡ y ∷ xs) × (front ≡ parameter_octets y) × IsParameter y × AreParameters behind xs
-first_parameter c rest front behind [] s t h =
-    let k = (all_parts is_blank c rest h).0 in
-    cc
-first_parameter c rest front behind (y ∷ xs) s t ([], after, e, blanks, is, more) =
+first_parameter octets front behind [] some s t h = absurd (no_blanks octets some s h)
+first_parameter octets front behind (y ∷ xs) some s t ([], after, e, blanks, is, more) =
     let p = split_once is_no_semicolon front behind (parameter_octets y) after (sym t.whole ∙ e) t.passes t.stops (no_semicolon y is)
     (follow_stops after xs more) in
     (y, xs, refl, p.0, is, subst (λ (l : List ℕ). AreParameters l xs) (sym p.1) (follow_alone after xs more))
-first_parameter c rest front behind (y ∷ xs) s t (d ∷ b, after, e, blanks, is, more) =
+first_parameter octets front behind (y ∷ xs) some s t (d ∷ b, after, e, blanks, is, more) =
     let k : is_blank d ≡ true = (all_parts is_blank d b blanks).0 in
     let l : is_blank d ≡ false = subst (λ (l : List ℕ). StartsWithout is_blank l) e s in
     cc
 
-pub first_then : (octets front behind : List ℕ) (x : Parameter) (xs : List Parameter) → Splits is_no_semicolon octets front behind
+first_then : (octets front behind : List ℕ) (x : Parameter) (xs : List Parameter) → Splits is_no_semicolon octets front behind
     → front ≡ parameter_octets x → IsParameter x → AreParameters behind xs → AreParameters octets (x ∷ xs)
 first_then octets front behind x xs t e is h = ([], behind, t.whole ∙ ap (λ (l : List ℕ). l ++ behind) e, refl, is, alone_follow behind xs t.stops h)
 
@@ -182,49 +175,36 @@ pending_first octets front rest s = record {
   complete = λ ys h. (ys, refl, blanks_behind front rest ys s.passes s.stops (subst (λ (l : List ℕ). AreParameters l ys) s.whole h));
 }
 
-pub pending_then : (octets : List ℕ) (read : List Parameter) (c : ℕ) (others front behind blanks rest : List ℕ) (x : Parameter)
-    → Pending octets read (c ∷ others) → Splits is_no_semicolon (c ∷ others) front behind → front ≡ parameter_octets x → IsParameter x
-    → Splits is_blank behind blanks rest → Pending octets (read ++ x ∷ []) rest
-pending_then octets read c others front behind blanks rest x p t e is s = record {
+pub pending_step : (octets : List ℕ) (read more : List Parameter) (now front behind blanks rest : List ℕ) (x : Parameter) → Pending octets read now
+    → 0 < length now → Splits is_no_semicolon now front behind → (front ≡ parameter_octets x) × IsParameter x
+    → Splits is_blank behind blanks rest → more ≡ read ++ x ∷ [] → Pending octets more rest
+pending_step octets read more now front behind blanks rest x p some t is s e = rw e (record {
   starts = s.stops;
   sound = λ xs h.
       let b : AreParameters behind xs = subst (λ (l : List ℕ). AreParameters l xs) (sym s.whole) (blanks_before blanks rest xs s.passes h) in
       subst (λ (l : List Parameter). AreParameters octets l) (sym (append_assoc read (x ∷ []) xs))
-      (p.sound (x ∷ xs) (first_then (c ∷ others) front behind x xs t e is b));
+      (p.sound (x ∷ xs) (first_then now front behind x xs t is.0 is.1 b));
   complete = λ ys h.
       let k = p.complete ys h in
-      let f = first_parameter c others front behind k.0 p.starts t k.2 in
-      let same : f.0 ≡ x = parameter_same f.0 x f.4 is (sym f.3 ∙ e) in (
+      let f = first_parameter now front behind k.0 some p.starts t k.2 in
+      let same : f.0 ≡ x = parameter_same f.0 x f.4 is.1 (sym f.3 ∙ is.0) in (
         f.1,
         k.1 ∙ ap (λ (l : List Parameter). read ++ l) (f.2 ∙ ap (λ (z : Parameter). z ∷ f.1) same) ∙ sym (append_assoc read (x ∷ []) f.1),
         blanks_behind blanks rest f.1 s.passes s.stops (subst (λ (l : List ℕ). AreParameters l f.1) s.whole f.5),
       );
-}
+})
 
 pub pending_last : (octets : List ℕ) (read : List Parameter) (rest : List ℕ) → Pending octets read rest → length rest ≤ 0 → AreParameters octets read
 pending_last octets read [] p e = subst (λ (l : List Parameter). AreParameters octets l) (append-nil read) (p.sound [] refl)
 pending_last octets read (c ∷ rest) p e = absurd (omega (arith, e))
 
-pub pending_refused : (octets : List ℕ) (read : List Parameter) (c : ℕ) (others front behind : List ℕ) → Pending octets read (c ∷ others)
-    → Splits is_no_semicolon (c ∷ others) front behind → ((x : Parameter) → front ≡ parameter_octets x → IsParameter x → ⊥)
-    → (ys : List Parameter) → AreParameters octets ys → ⊥
-pending_refused octets read c others front behind p t none ys h =
-    let k = p.complete ys h in
-    let f = first_parameter c others front behind k.0 p.starts t k.2 in
-    none f.0 f.3 f.4
-
-pub pending_step : (octets : List ℕ) (read more : List Parameter) (now front behind blanks rest : List ℕ) (x : Parameter) → Pending octets read now
-    → 0 < length now → Splits is_no_semicolon now front behind → (front ≡ parameter_octets x) × IsParameter x
-    → Splits is_blank behind blanks rest → more ≡ read ++ x ∷ [] → Pending octets more rest
-pending_step octets read more [] front behind blanks rest x p some t is s e = absurd (omega (arith, some))
-pending_step octets read more (c ∷ others) front behind blanks rest x p some t is s e =
-    rw e (pending_then octets read c others front behind blanks rest x p t is.0 is.1 s)
-
 pub pending_stop : (octets : List ℕ) (read : List Parameter) (now front behind : List ℕ) → Pending octets read now → 0 < length now
     → Splits is_no_semicolon now front behind → ((x : Parameter) → front ≡ parameter_octets x → IsParameter x → ⊥)
     → (ys : List Parameter) → AreParameters octets ys → ⊥
-pending_stop octets read [] front behind p some t none ys h = omega (arith, some)
-pending_stop octets read (c ∷ others) front behind p some t none ys h = pending_refused octets read c others front behind p t none ys h
+pending_stop octets read now front behind p some t none ys h =
+    let k = p.complete ys h in
+    let f = first_parameter now front behind k.0 some p.starts t k.2 in
+    none f.0 f.3 f.4
 
 -- a message says more
 pub refusal_map : (e : ProtoError) (P Q : Type 0) → (P → Q) → IsTextRefusal e P → IsTextRefusal e Q
@@ -236,12 +216,8 @@ refusal_map (proto.Decode d) P Q f h = h
 -- ---- at most one list
 
 no_first : (octets : List ℕ) (y : Parameter) (ys : List Parameter) → AllOf is_blank octets → AreParameters octets (y ∷ ys) → ⊥
-no_first octets y ys b h =
-    let back : AllOf is_blank (parameter_octets y ++ h.1) =
-    all_back is_blank h.0 (parameter_octets y ++ h.1) (subst (λ (l : List ℕ). AllOf is_blank l) h.2 b) in
-    let cut = split_once is_blank (parameter_octets y ++ h.1) [] [] (parameter_octets y ++ h.1) (append-nil (parameter_octets y ++ h.1)) back tt refl
-    (starts y h.1 h.4.key) in
-    some_octets y h.1 cut.0
+no_first octets y ys b h = no_blanks (parameter_octets y ++ h.1) (long y h.1) (starts y h.1 h.4.key)
+    (all_halves is_blank h.0 (parameter_octets y ++ h.1) (subst (λ (l : List ℕ). AllOf is_blank l) h.2 b)).1
 
 pub one_list : (octets : List ℕ) (xs ys : List Parameter) → AreParameters octets xs → AreParameters octets ys → xs ≡ ys
 one_list octets [] [] h k = refl
@@ -258,30 +234,20 @@ one_list octets (x ∷ xs) (y ∷ ys) h k =
 
 -- ---- texts
 
-alphanumeric_ascii : (c : ℕ) → is_ascii_alphanumeric c ≡ true → c < 128
-alphanumeric_ascii c h = grind (arith, nat_tests)
+key_ascii : (c : ℕ) → is_key_octet c ≡ true → c < 128
+key_ascii c h = grind (arith, nat_tests)
 
-key_octet_ascii : (c : ℕ) → is_key_octet c ≡ true → c < 128
-key_octet_ascii c h = grind (arith, nat_tests)
+value_ascii : (c : ℕ) → is_value_octet c ≡ true → c < 128
+value_ascii c h = grind (arith, nat_tests)
 
-value_octet_ascii : (c : ℕ) → is_value_octet c ≡ true → c < 128
-value_octet_ascii c h = grind (arith, nat_tests)
-
-each_ascii : (p : ℕ → Bool) → ((c : ℕ) → p c ≡ true → c < 128) → (octets : List ℕ) → AllOf p octets → All (λ b. b < 128) octets
-each_ascii p f [] h = All-nil (λ b. b < 128)
-each_ascii p f (c ∷ octets) h = let t = all_parts p c octets h in All-cons (λ b. b < 128) c octets (f c t.0) (each_ascii p f octets t.1)
-
-key_ascii : (key : List ℕ) → IsKey key → All (λ b. b < 128) key
-key_ascii [] h = absurd h
-key_ascii (c ∷ []) h = All-cons (λ b. b < 128) c [] (alphanumeric_ascii c h) (All-nil (λ b. b < 128))
-key_ascii (c ∷ d ∷ ds) h = All-cons (λ b. b < 128) c (d ∷ ds) (alphanumeric_ascii c h.0)
-    (All-cons (λ b. b < 128) d ds (alphanumeric_ascii d h.1) (each_ascii is_key_octet key_octet_ascii ds h.2))
+utf8 : (p : ℕ → Bool) → ((c : ℕ) → p c ≡ true → c < 128) → (octets : List ℕ) → AllOf p octets → IsUtf8 octets
+utf8 p f octets h = IsUtf8-from_ascii octets (IsAscii-from_all octets (All-weaker (λ c. p c ≡ true) (λ c. c < 128) f octets (AllPass-from_list_all p octets h)))
 
 pub key_utf8 : (key : List ℕ) → IsKey key → IsUtf8 key
-key_utf8 key h = IsUtf8-from_ascii key (IsAscii-from_all key (key_ascii key h))
+key_utf8 key h = utf8 is_key_octet key_ascii key (key_octets key h)
 
 pub value_utf8 : (value : List ℕ) → AllOf is_value_octet value → IsUtf8 value
-value_utf8 value h = IsUtf8-from_ascii value (IsAscii-from_all value (each_ascii is_value_octet value_octet_ascii value h))
+value_utf8 value h = utf8 is_value_octet value_ascii value h
 
 -- a key, an equals sign and a value that were cut
 pub parameter_read : (octets key rest : List ℕ) (first : ℕ) (value : List ℕ) {x : Parameter} → Splits is_no_equals octets key rest → rest ≡ first ∷ value

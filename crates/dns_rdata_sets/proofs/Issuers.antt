@@ -1,12 +1,12 @@
 -- Values of issuer properties: read, and written.
 use Rattle.std.proofs.Common.{◌≡◌, ◌≢◌, ℕ, ◌+◌, ◌<◌, Bool, true, false, cond, All, inl, inr, List, [], ◌∷◌, ◌++◌, flat_map, Option, Some}
 use Rattle.std.proofs.Common.{None, Result, Ok, Err, refl, ap, sym, subst, arith}
-use Rattle.std.proofs.lemmas.List.Elements.{All-nil, All-cons, All-head, All-tail, All-append}
-use Rattle.std.proofs.lemmas.Str.{IsUtf8-nil, IsUtf8-from_ascii}
-use Rattle.std.proofs.lemmas.Str.Ascii.{IsAscii-from_all}
+use Rattle.std.proofs.lemmas.List.Elements.{All-head, All-tail, All-weaker}
+use Rattle.std.proofs.lemmas.Str.{IsUtf8-nil, IsUtf8-from_ascii, IsAscii-append}
+use Rattle.std.proofs.lemmas.Str.Ascii.{IsAscii-nil, IsAscii-cons}
 use Rattle.std.specs.Prelude.{IfOk, IfErr, MatchResult}
 use Rattle.std.specs.List.{AllByRecursion}
-use Rattle.std.specs.Str.{IsUtf8}
+use Rattle.std.specs.Str.{IsAscii, IsUtf8}
 use Rattle.dns_types.specs.declared.error.ProtoError.{ProtoError}
 use Rattle.dns_types.specs.declared.error.ProtoError.TheVariants as proto
 use Rattle.dns_fields.specs.Labels.{DomainName}
@@ -79,40 +79,35 @@ one_issuer octets a b xs ys h k =
 
 -- ---- what is written
 
-octet_ascii : {n : ℕ} {text : List ℕ} → OctetText n text → All (λ b. b < 128) text
-octet_ascii {n} (plain g a b) = All-cons (λ b. b < 128) n [] (omega (arith, g.1)) (All-nil (λ b. b < 128))
+octet_ascii : {n : ℕ} {text : List ℕ} → OctetText n text → IsAscii text
+octet_ascii {n} (plain g a b) = IsAscii-cons n [] (omega (arith, g.1)) IsAscii-nil
 octet_ascii (decimal h t o a b c d e) =
-    All-cons (λ b. b < 128) 92 ((48 + h) ∷ (48 + t) ∷ (48 + o) ∷ []) (omega arith)
-    (All-cons (λ b. b < 128) (48 + h) ((48 + t) ∷ (48 + o) ∷ []) (omega (arith, a))
-    (All-cons (λ b. b < 128) (48 + t) ((48 + o) ∷ []) (omega (arith, b))
-    (All-cons (λ b. b < 128) (48 + o) [] (omega (arith, c)) (All-nil (λ b. b < 128)))))
-octet_ascii {n} (quoted g a) = All-cons (λ b. b < 128) 92 (n ∷ []) (omega arith) (All-cons (λ b. b < 128) n [] (omega (arith, g.1)) (All-nil (λ b. b < 128)))
+    IsAscii-cons 92 ((48 + h) ∷ (48 + t) ∷ (48 + o) ∷ []) (omega arith) (IsAscii-cons (48 + h) ((48 + t) ∷ (48 + o) ∷ []) (omega (arith, a))
+    (IsAscii-cons (48 + t) ((48 + o) ∷ []) (omega (arith, b)) (IsAscii-cons (48 + o) [] (omega (arith, c)) IsAscii-nil)))
+octet_ascii {n} (quoted g a) = IsAscii-cons 92 (n ∷ []) (omega arith) (IsAscii-cons n [] (omega (arith, g.1)) IsAscii-nil)
 
-label_ascii : (label : List ℕ) → AreOctets label → All (λ b. b < 128) (label_text label)
-label_ascii [] h = All-nil (λ b. b < 128)
-label_ascii (c ∷ label) h = All-append (λ b. b < 128) (printed c) (label_text label) (octet_ascii (printed_text c (All-head (λ b. b < 256) c label h)))
-    (label_ascii label (All-tail (λ b. b < 256) c label h))
+pieces_ascii : {X : Type 0} (f : X → List ℕ) (xs : List X) → All (λ x. IsAscii (f x)) xs → IsAscii (flat_map f xs)
+pieces_ascii f [] h = IsAscii-nil
+pieces_ascii f (x ∷ xs) h = IsAscii-append (f x) (flat_map f xs) (All-head (λ x. IsAscii (f x)) x xs h) (pieces_ascii f xs (All-tail (λ x. IsAscii (f x)) x xs h))
 
-labels_ascii : (labels : List (List ℕ)) → All AreOctets labels → All (λ b. b < 128) (flat_map (λ other. 46 ∷ label_text other) labels)
-labels_ascii [] h = All-nil (λ b. b < 128)
-labels_ascii (label ∷ labels) h =
-    All-cons (λ b. b < 128) 46 (label_text label ++ flat_map (λ other. 46 ∷ label_text other) labels) (omega arith)
-    (All-append (λ b. b < 128) (label_text label) (flat_map (λ other. 46 ∷ label_text other) labels) (label_ascii label (All-head AreOctets label labels h))
-    (labels_ascii labels (All-tail AreOctets label labels h)))
+label_ascii : (label : List ℕ) → AreOctets label → IsAscii (label_text label)
+label_ascii label h = pieces_ascii printed label (All-weaker (λ b. b < 256) (λ b. IsAscii (printed b)) (λ b l. octet_ascii (printed_text b l)) label h)
 
-joined_ascii : (labels : List (List ℕ)) → All AreOctets labels → All (λ b. b < 128) (joined_text labels)
-joined_ascii [] h = All-nil (λ b. b < 128)
-joined_ascii (label ∷ labels) h = All-append (λ b. b < 128) (label_text label) (flat_map (λ other. 46 ∷ label_text other) labels)
-    (label_ascii label (All-head AreOctets label labels h)) (labels_ascii labels (All-tail AreOctets label labels h))
+joined_ascii : (labels : List (List ℕ)) → All AreOctets labels → IsAscii (joined_text labels)
+joined_ascii [] h = IsAscii-nil
+joined_ascii (label ∷ labels) h =
+    let behind : List ℕ → List ℕ = λ other. 46 ∷ label_text other in
+    IsAscii-append (label_text label) (flat_map behind labels) (label_ascii label (All-head AreOctets label labels h))
+    (pieces_ascii behind labels (All-weaker AreOctets (λ other. IsAscii (behind other)) (λ other l. IsAscii-cons 46 (label_text other) (omega arith) (label_ascii other l))
+    labels (All-tail AreOctets label labels h)))
 
-mark_ascii : (mark : Bool) → All (λ b. b < 128) (cond mark (46 ∷ []) [])
-mark_ascii true = All-cons (λ b. b < 128) 46 [] (omega arith) (All-nil (λ b. b < 128))
-mark_ascii false = All-nil (λ b. b < 128)
+mark_ascii : (mark : Bool) → IsAscii (cond mark (46 ∷ []) [])
+mark_ascii true = IsAscii-cons 46 [] (omega arith) IsAscii-nil
+mark_ascii false = IsAscii-nil
 
 name_text_utf8 : (name : DomainName) → HasOctets name → IsUtf8 (name_text name)
 name_text_utf8 name h = IsUtf8-from_ascii (name_text name)
-    (IsAscii-from_all (name_text name) (All-append (λ b. b < 128) (joined_text name.labels) (cond name.fully_qualified (46 ∷ []) [])
-    (joined_ascii name.labels h) (mark_ascii name.fully_qualified)))
+    (IsAscii-append (joined_text name.labels) (cond name.fully_qualified (46 ∷ []) []) (joined_ascii name.labels h) (mark_ascii name.fully_qualified))
 
 written_parameters : (xs : List Parameter) → AllByRecursion IsParameter xs → Follow (parameters_text xs) xs
 written_parameters [] h = inl (refl, refl)

@@ -1,13 +1,13 @@
 mod CaaReads
 mod FirstNumbers
 mod IssuerSteps
-mod Issuers
+pub mod Issuers
+mod Rising
 mod Splitting
 pub mod Blocks
 pub mod CaaValues
 pub mod CsyncReads
 pub mod CsyncValues
-pub mod Flags
 pub mod Marks
 pub mod NextWindow
 pub mod Numbers

@@ -1,6 +1,9 @@
 -- Octets that are cut at the first one that fails a test.
 use Rattle.std.proofs.Common.{◌≡◌, ℕ, Bool, true, false, List, [], ◌∷◌, ◌++◌, refl, ap, sym, ◌∙◌, subst}
-use Rattle.std.proofs.lemmas.Bool.{and_parts}
+use Rattle.std.proofs.lemmas.Bool.{and_from, and_parts}
+use Rattle.std.proofs.lemmas.List.Elements.{All-weaker}
+use Rattle.std.proofs.lemmas.List.Folds.{list_all-append}
+use Rattle.std.proofs.lemmas.List.Sums.{AllPass-from_list_all, list_all-from_AllPass}
 use Rattle.std.specs.List.{list_all}
 use Rattle.dns_rdata_sets.specs.Issuer.{AllOf, StartsWithout, Splits}
 
@@ -8,19 +11,16 @@ pub all_parts : (p : ℕ → Bool) (x : ℕ) (xs : List ℕ) → AllOf p (x ∷ 
 all_parts p x xs h = and_parts (p x) (list_all p xs) h
 
 pub all_cons : (p : ℕ → Bool) (x : ℕ) (xs : List ℕ) → p x ≡ true → AllOf p xs → AllOf p (x ∷ xs)
-all_cons p x xs a b = rw (a, b) refl
+all_cons p x xs a b = and_from (p x) (list_all p xs) a b
 
 pub all_append : (p : ℕ → Bool) (xs ys : List ℕ) → AllOf p xs → AllOf p ys → AllOf p (xs ++ ys)
-all_append p [] ys a b = b
-all_append p (x ∷ xs) ys a b = let h = all_parts p x xs a in all_cons p x (xs ++ ys) h.0 (all_append p xs ys h.1 b)
+all_append p xs ys a b = list_all-append p xs ys ∙ and_from (list_all p xs) (list_all p ys) a b
 
-pub all_back : (p : ℕ → Bool) (xs ys : List ℕ) → AllOf p (xs ++ ys) → AllOf p ys
-all_back p [] ys a = a
-all_back p (x ∷ xs) ys a = all_back p xs ys (all_parts p x (xs ++ ys) a).1
+pub all_halves : (p : ℕ → Bool) (xs ys : List ℕ) → AllOf p (xs ++ ys) → AllOf p xs × AllOf p ys
+all_halves p xs ys a = and_parts (list_all p xs) (list_all p ys) (sym (list_all-append p xs ys) ∙ a)
 
 pub all_weaker : (p q : ℕ → Bool) → ((c : ℕ) → p c ≡ true → q c ≡ true) → (xs : List ℕ) → AllOf p xs → AllOf q xs
-all_weaker p q f [] h = refl
-all_weaker p q f (x ∷ xs) h = let t = all_parts p x xs h in all_cons q x xs (f x t.0) (all_weaker p q f xs t.1)
+all_weaker p q f xs h = list_all-from_AllPass q xs (All-weaker (λ c. p c ≡ true) (λ c. q c ≡ true) f xs (AllPass-from_list_all p xs h))
 
 -- octets are cut in one way
 pub split_once : (p : ℕ → Bool) (a x b y : List ℕ) → a ++ x ≡ b ++ y → AllOf p a → StartsWithout p x → AllOf p b → StartsWithout p y → (a ≡ b) × (x ≡ y)

@@ -11,8 +11,8 @@ use Rattle.dns_fields.specs.Bitmaps.{Block, block, contains, window, with_block,
 use Rattle.dns_pieces.proofs.Comparing.{cmp_shared, then_assoc}
 use Rattle.dns_pieces.proofs.Fronts.{sized_then}
 use Rattle.dns_rdata_sets.specs.RecordTypeSet.{IsLastOf}
-use Rattle.dns_rdata_sets.proofs.SetWrites.{window_same, windows_skip}
-use Rattle.dns_rdata_sets.proofs.WindowOctets.{OwnFirst, window_none, window_reaches, window_stops, window_greater}
+use Rattle.dns_rdata_sets.proofs.NextWindow.{no_windows}
+use Rattle.dns_rdata_sets.proofs.WindowOctets.{OwnFirst, window_same, window_none, window_reaches, window_stops, window_greater}
 
 abbrev pub sets_cmp : List ℕ → List ℕ → Ordering
 sets_cmp v w = slice_cmp nat_cmp (flat_map block (minimal v)) (flat_map block (minimal w))
@@ -147,11 +147,6 @@ window_before {v} {w} {x} y o none h l m =
 
 -- ---- the other has ended
 
-no_windows : (w : List ℕ) (x n : ℕ) → ((u : ℕ) → x ≤ u → contains u w ≡ false) → windows w (range_with_len (x / 256 + 1) n) ≡ []
-no_windows w x n none =
-    let all : n ≡ n + 0 = omega arith in
-    ap (λ (c : ℕ). windows w (range_with_len (x / 256 + 1) c)) all ∙ windows_skip w (x / 256 + 1) n 0 (λ u l m. none u (omega (arith, l)))
-
 not_longer : (n m : ℕ) → m ≤ n → ordering_then (nat_cmp n m) Greater ≡ Greater
 not_longer n m l = by (nat_cmp n m) (ranks n m)
   where
@@ -164,7 +159,7 @@ pub other_ends : {v w : List ℕ} {x : ℕ} → OwnFirst v w x → ((u : ℕ) �
 other_ends {v} {w} {x} o none = by (window w (x / 256)) refl
   where
     by : (p : List ℕ) → window w (x / 256) ≡ p → sets_cmp v w ≡ Greater
-    by [] e = one_alone Greater o e (λ t. ap (λ (bs : List Block). slice_cmp nat_cmp (x / 256 ∷ t) (flat_map block bs)) (no_windows w x (255 - x / 256) none))
+    by [] e = one_alone Greater o e (λ t. ap (λ (bs : List Block). slice_cmp nat_cmp (x / 256 ∷ t) (flat_map block bs)) (no_windows w (x / 256 + 1) (255 - x / 256) (λ u l. none u (omega (arith, l)))))
     by (a ∷ p) e =
         let k : ℕ = x / 256 in
         let some : 0 < length (window w k) = rw e (omega arith) in

@@ -1,34 +1,25 @@
 -- Windows of a set, step by step.
-use Rattle.std.proofs.Common.{◌≡◌, ℕ, ◌+◌, ◌-◌, ◌%◌, ◌<◌, ◌≤◌, List, [], ◌∷◌, ◌++◌, length, take, drop, length-take-le, length-drop, length-append, refl, sym, ap, ◌∙◌, arith}
-use Rattle.std.proofs.lemmas.List.{append-nil, drop_all, drop-drop, take_all}
-use Rattle.std.specs.List.{range_with_len, flat_map}
-use Rattle.dns_fields.specs.Bitmaps.{block, minimal, windows, IsTypeSet}
+use Rattle.std.proofs.Common.{◌≡◌, ℕ, ◌+◌, ◌%◌, ◌<◌, ◌≤◌, List, [], ◌∷◌, ◌++◌, length, take, drop, length-take-le, length-append, sym, ap, ◌∙◌, arith}
+use Rattle.std.proofs.lemmas.List.{append-nil, drop_all, drop-drop}
+use Rattle.std.specs.List.{flat_map}
+use Rattle.dns_fields.specs.Bitmaps.{block, minimal}
 use Rattle.dns_fields.specs.Fields.{Number, field_octets}
 use Rattle.dns_pieces.specs.Steps.{StepAt, Ended, PassedWindow}
 use Rattle.dns_rdata_sets.specs.declared.csync.CSYNC.{CSYNC}
 use Rattle.dns_rdata_sets.specs.Steps.{csync_left, csync_windows}
-use Rattle.dns_rdata_sets.proofs.SetWrites.{rises_drop, small_drop, windows_skip}
-
-pub set_drop : (v : List ℕ) (i : ℕ) → IsTypeSet v → IsTypeSet (drop i v)
-set_drop v i s = record { rises = rises_drop i v s.rises; numbers = small_drop i v s.numbers }
-
-pub set_behind : (v : List ℕ) (i : ℕ) → IsTypeSet v → IsTypeSet (take (length v - i) (drop i v))
-set_behind v i s = rw (take_all (length v - i) (drop i v) (omega (arith, length-drop i v))) (set_drop v i s)
+use Rattle.dns_rdata_sets.proofs.NextWindow.{minimal_none}
 
 -- the window at a place, in the octets of a head
 pub record WindowMade (v : List ℕ) (i number len count : ℕ) (octets head : List ℕ) : Type 0 where
-  pub some : i < length v
   pub few : len ≤ 32
   pub long : length octets ≡ 32
   pub small : number < 256
-  pub next : minimal (take (length v - i) (drop i v)) ≡ (number, take len octets) ∷ minimal (drop count (take (length v - i) (drop i v)))
+  pub next : minimal (drop i v) ≡ (number, take len octets) ∷ minimal (drop count (drop i v))
   pub made : head ≡ (([] ++ field_octets (Number 1) number) ++ field_octets (Number 1) len) ++ take len octets
 
 later : (v : List ℕ) (i number len count : ℕ) (octets head : List ℕ) → WindowMade v i number len count octets head
     → minimal (drop i v) ≡ (number, take len octets) ∷ minimal (drop (i + count) v)
-later v i number len count octets head w =
-    let all : take (length v - i) (drop i v) ≡ drop i v = take_all (length v - i) (drop i v) (omega (arith, length-drop i v)) in
-    ap minimal (sym all) ∙ w.next ∙ ap (λ (x : List ℕ). (number, take len octets) ∷ minimal (drop count x)) all ∙ ap (λ (x : List ℕ). (number, take len octets) ∷ minimal x) (drop-drop count i v)
+later v i number len count octets head w = w.next ∙ ap (λ (x : List ℕ). (number, take len octets) ∷ minimal x) (drop-drop count i v)
 
 head_is : (v : List ℕ) (i number len count : ℕ) (octets head : List ℕ) → WindowMade v i number len count octets head → head ≡ block (number, take len octets)
 unfolding field_octets
@@ -68,10 +59,6 @@ window_passed x old new i number len count octets head w pass =
       one = omega (arith, pass);
       begun = omega (arith, pass, some);
     }
-
-minimal_none : minimal [] ≡ []
-unfolding minimal
-minimal_none = let e : 256 ≡ 256 + 0 = omega arith in ap (λ (c : ℕ). windows [] (range_with_len 0 c)) e ∙ windows_skip [] 0 256 0 (λ u p q. refl)
 
 pub window_none : (x : CSYNC) (i j : ℕ) (head : List ℕ) → length x.type_bit_maps ≤ i → head ≡ [] → Ended (csync_left x) 1 i j head
 window_none x i j head h e = record {

@@ -1,9 +1,9 @@
 -- Sets of record types: what stands for one, and what their readers and emitters do (RFC 4034, 4.1.2).
-use Rattle.std.specs.Prelude.{◌≡◌, ℕ, ◌+◌, ◌-◌, ◌/◌, ◌%◌, ◌≤◌, ◌==◌, ◌&&◌, ◌||◌, ◌<◌, ◌⊎◌, Bool, true, false, List, [], ◌∷◌, ◌++◌, length, slice_index, slice_index_or, slice_set}
-use Rattle.std.specs.List.{flat_map, AllByRecursion, list_any}
+use Rattle.std.specs.Prelude.{◌≡◌, ℕ, ◌+◌, ◌-◌, ◌/◌, ◌%◌, ◌≤◌, ◌==◌, ◌&&◌, ◌||◌, ◌<◌, ◌⊎◌, Bool, true, false, List, [], ◌∷◌, ◌++◌, length, slice_index, slice_index_or}
+use Rattle.std.specs.List.{flat_map, All, AllByRecursion, list_any}
 use Rattle.std.specs.Int.{bit_at}
-use Rattle.dns_fields.specs.Bitmaps.{Block, block, IsBlock, has_type, contains, IsTypeSet, BitmapAt, window}
-use Rattle.dns_fields.specs.Fields.{Kind, Bitmap, Number, Rest, Values}
+use Rattle.dns_fields.specs.Bitmaps.{Block, block, IsBlock, has_type, contains, IsTypeSet, BitmapAt}
+use Rattle.dns_fields.specs.Fields.{Kind, Bitmap, Values}
 use Rattle.dns_types.specs.declared.error.DecodeError.{DecodeError}
 use Rattle.dns_types.specs.declared.error.DecodeError.TheVariants as decode
 use Rattle.dns_names_wire.specs.State.{Reading}
@@ -52,33 +52,40 @@ pub record NoMemoryForSet (n : ℕ) (old : Reading) (e : DecodeError) (new : Rea
 abbrev pub IsBitmapRefusal : ℕ → Reading → DecodeError → Reading → Type 0
 IsBitmapRefusal n old e new = CutBitmap n old e new ⊎ (WrongBitmap n old e new ⊎ NoMemoryForSet n old e new)
 
--- ---- its parts
+-- ---- its parts: which numbers a list has, and which are marked, as a test
 
--- new has the numbers of old, and those that the test passes
-pub record Adds (test : ℕ → Bool) (old new : List ℕ) : Type 0 where
-  pub types : (t : ℕ) → contains t new ≡ (contains t old || test t)
+abbrev pub held : List ℕ → ℕ → Bool
+held v t = contains t v
+
+-- marked by a bit for each number, the highest bit of an octet first
+abbrev pub is_marked : List ℕ → ℕ → Bool
+is_marked marks t = bit_at (slice_index marks (t / 8)) (7 - t % 8) == 1
+
+-- those of before, and those that the test passes
+pub record Adds (test before after : ℕ → Bool) : Type 0 where
+  pub types : (t : ℕ) → after t ≡ (before t || test t)
 
 -- octet g of all octets has the type's bit: the types 8 g to 8 g + 7, from its highest bit on
 abbrev pub octet_has : ℕ → ℕ → ℕ → Bool
 octet_has g octet t = (t / 8 == g) && (bit_at octet (7 - t % 8) == 1)
 
--- a block stands in front of the rest, and its types were added
-pub record TookBlock (octets rest : List ℕ) (old new : List ℕ) : Type 0 where
+-- a block of which this holds stands in front of the rest
+pub record TookBlock (octets rest : List ℕ) (what : Block → Type 0) : Type 0 where
   pub taken : Block
   pub is : IsBlock taken
   pub front : octets ≡ block taken ++ rest
-  pub adds : Adds (λ t. has_type t taken) old new
+  pub holds : what taken
 
 -- no block stands in front
 pub record NoBlock (octets : List ℕ) : Type 0 where
   pub none : (b : Block) (rest : List ℕ) → IsBlock b → octets ≡ block b ++ rest → ⊥
 
 -- the octets are blocks, whose types are these numbers
-pub record AreBlocks (octets numbers : List ℕ) : Type 0 where
+pub record AreBlocks (octets : List ℕ) (numbers : ℕ → Bool) : Type 0 where
   pub blocks : List Block
   pub fit : AllByRecursion IsBlock blocks
   pub spelled : octets ≡ flat_map block blocks
-  pub adds : Adds (λ t. list_any (has_type t) blocks) [] numbers
+  pub types : (t : ℕ) → numbers t ≡ list_any (has_type t) blocks
 
 -- they are not
 pub record NoBlocks (octets : List ℕ) : Type 0 where
@@ -95,40 +102,15 @@ pub record FitsBlock (octets : List ℕ) (n : ℕ) : Type 0 where
 abbrev pub IsBlockRefusal : DecodeError → Type 0 → Type 0
 IsBlockRefusal e wrong = (e ≡ decode.Memory) ⊎ ((e ≡ decode.BitmapInvalid) × wrong)
 
--- ---- marks: a bit for each number, the highest bit of an octet first, and whether a window was met
-
-abbrev pub is_marked : List ℕ → ℕ → Bool
-is_marked marks t = bit_at (slice_index marks (t / 8)) (7 - t % 8) == 1
-
--- marked are the numbers that were, and those that the test passes
-pub record Marks (test : ℕ → Bool) (old new : List ℕ) : Type 0 where
-  pub types : (t : ℕ) → is_marked new t ≡ (is_marked old t || test t)
-
 -- a number that is marked is of a window that was met
 pub record AreMet (marks : List ℕ) (met : List Bool) : Type 0 where
   pub windows : (t : ℕ) → is_marked marks t ≡ true → slice_index_or met (t / 256) false ≡ true
-
--- a block stands in front of the rest, its types were marked and its window was met
-pub record MarkedBlock (octets rest : List ℕ) (old new : List ℕ) (had has : List Bool) : Type 0 where
-  pub taken : Block
-  pub is : IsBlock taken
-  pub front : octets ≡ block taken ++ rest
-  pub marks : Marks (λ t. has_type t taken) old new
-  pub met : has ≡ slice_set had taken.0 true
-
--- the octets are blocks, whose types are marked, and whose windows were met
-pub record MarkedBlocks (octets marks : List ℕ) (met : List Bool) : Type 0 where
-  pub blocks : List Block
-  pub fit : AllByRecursion IsBlock blocks
-  pub spelled : octets ≡ flat_map block blocks
-  pub types : (t : ℕ) → is_marked marks t ≡ list_any (has_type t) blocks
-  pub windows : AreMet marks met
 
 -- ---- emitting
 
 -- each number is of window k
 abbrev pub AreOfWindow : ℕ → List ℕ → Type 0
-AreOfWindow k numbers = AllByRecursion (λ t. t / 256 ≡ k) numbers
+AreOfWindow k numbers = All (λ t. t / 256 ≡ k) numbers
 
 -- the window of the first number
 abbrev pub first_window : List ℕ → ℕ
@@ -139,14 +121,3 @@ pub record IsLastOf (v : List ℕ) (k t : ℕ) : Type 0 where
   pub has : contains t v ≡ true
   pub of : t / 256 ≡ k
   pub last : (u : ℕ) → t < u → u / 256 ≡ k → contains u v ≡ false
-
--- the shortest block of numbers of one window
-abbrev pub window_block : List ℕ → Block
-window_block run = (first_window run, window run (first_window run))
-
--- a block's number, length and octets
-abbrev pub block_shape : List Kind
-block_shape = Number 1 ∷ Number 1 ∷ Rest ∷ []
-
-abbrev pub block_fields : Block → Values block_shape
-block_fields b = (b.0, (length b.1, (b.1, tt)))

@@ -1,5 +1,6 @@
 -- The words of each record.
 use Rattle.std.specs.Prelude.{◌≡◌, ℕ, ◌%◌, List, [], ◌∷◌, map}
+use Rattle.std.specs.List.{AllZip}
 use Rattle.dns_types.specs.RecordTypes.{number_of, IsTypeText}
 use Rattle.dns_types.specs.declared.record_type.RecordType.{RecordType}
 use Rattle.dns_fields.specs.Fields.{Number, Bitmap}
@@ -16,15 +17,9 @@ caa_words = word (number 1) (word kept (word kept_rest ignored))
 abbrev pub known_flags : Form (Number 2)
 known_flags = record { is = λ flags word. (n : ℕ) × IsNumberWord 16 n word × (flags ≡ n % 4) }
 
--- each word is the text of a type
-abbrev pub AreTypeTexts : List (List ℕ) → List RecordType → Type 0
-AreTypeTexts [] [] = Unit {0}
-AreTypeTexts (first ∷ words) (t ∷ types) = IsTypeText first t × AreTypeTexts words types
-AreTypeTexts words types = ⊥
-
--- every further word is a type, in any order, also repeatedly
+-- every further word is the text of a type, in any order, also repeatedly
 abbrev pub type_words : Row (Bitmap ∷ [])
-type_words = record { stand = λ vs words. (types : List RecordType) × AreTypeTexts words types × IsSetOf (map number_of types) vs.0 }
+type_words = record { stand = λ vs words. (types : List RecordType) × AllZip IsTypeText words types × IsSetOf (map number_of types) vs.0 }
 
 -- serial, flags, types
 abbrev pub csync_words : Row csync_shape

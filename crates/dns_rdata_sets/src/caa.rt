@@ -151,6 +151,7 @@ impl RecordDataDecodable for CAA {
     /// the tag. Where octets of tag or value are missing it is refused by `InsufficientBytes`; the tag's octets that
     /// are there are taken, and the value's are not.
     #[inline]
+    #[tactic(auto, using(dns_names_wire::proofs::WindowReads::filled_window))]
     fn read_data(decoder: &mut BinDecoder<'_>, length: Restrict<u16>) -> Result<CAA, DecodeError> {
         // Called for its clauses: the message is octets, and the place is in it.
         let _start = decoder.index();
@@ -164,6 +165,7 @@ impl BinEncodable for CAA {
     /// Appends the flags, the tag behind its length, and the value. A tag of more than 255 octets is refused, and no
     /// other is refused by [`Message`](ProtoError::Message).
     #[inline]
+    #[tactic(auto, using(crate::proofs::CaaValues::long_tag))]
     fn emit(&self, encoder: &mut BinEncoder<'_>) -> Result<(), ProtoError>
         ensures emits { Emits caa_shape (caa_fields self.now) result encoder.old encoder.new }
         ensures extends { Extends encoder.old encoder.new }

@@ -82,6 +82,7 @@ impl CSYNC {
 
     // With the flags as a number.
     #[inline]
+    #[tactic(auto, using(crate::proofs::CsyncValues::flags_again))]
     pub(crate) fn with_flags(soa_serial: u32, flags: u16, type_bit_maps: RecordTypeSet) -> CSYNC
         ensures fields { csync_fields result ≡ (soa_serial, (flags, (type_bit_maps, tt))) }
         ensures read { IsReadCsync result }
@@ -171,8 +172,7 @@ impl BinEncodable for CSYNC {
     /// Appends serial, flags and the shortest bitmap of the types.
     fn emit(&self, encoder: &mut BinEncoder<'_>) -> Result<(), ProtoError> {
         self.emit_numbers(encoder)?;
-        self.type_bit_maps.emit(encoder)?;
-        Ok(())
+        self.type_bit_maps.emit(encoder)
     }
 }
 

@@ -115,6 +115,6 @@ fn last_of_window(numbers: &[u16], at: usize) -> u16
     if end / 256 == numbers[at] / 256 {
         return end;
     }
-    let rest = &numbers[at..];
+    let rest = numbers.split_at(at).1;
     rest[run_len(rest) - 1]
 }

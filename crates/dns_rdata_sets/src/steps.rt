@@ -69,7 +69,7 @@ fn window_step<'a>(
     if part >= numbers.len() {
         return None;
     }
-    let window = next_window(&numbers[part..], passes);
+    let window = next_window(numbers.split_at(part).1, passes);
     head.one(window.number);
     head.one(window.len as u8);
     head.octets(&window.octets[..window.len]);

@@ -64,35 +64,29 @@ pub enum Algorithm {
     Unassigned(u8),
 }
 
+// The variants that have one number: its name, the number, its place in the declaration.
+macro_rules! algorithms {
+    ($macro:ident, $arguments:tt) => {
+        $macro!(
+            $arguments Algorithm
+            (RSAMD5 1 1) (DH 2 2) (DSA 3 3) (ECC 4 4) (RSASHA1 5 5) (INDIRECT 252 6)
+            (PRIVATEDNS 253 7) (PRIVATEOID 254 8) (DSANSEC3SHA1 6 9) (RSASHA1NSEC3SHA1 7 10)
+            (RSASHA256 8 11) (RSASHA512 10 12) (ECCGOST 12 13) (ECDSAP256SHA256 13 14)
+            (ECDSAP384SHA384 14 15) (ED25519 15 16) (ED448 16 17) (SM2SM3 17 18) (ECCGOST12 23 19)
+        )
+    };
+}
+
 #[tactic(auto, unfolding(crate::specs::CertAlgorithm::cert_algorithm_of))]
 impl From<u8> for Algorithm {
     ghost from_gives = { λ n e. (e ≡ cert_algorithm_of n) × (cert_algorithm_number e ≡ n) };
 
     #[inline]
     fn from(value: u8) -> Algorithm {
-        match value {
+        of_number!(algorithms, value,
             0 | 9 | 11 => Algorithm::Reserved(value),
-            1 => Algorithm::RSAMD5,
-            2 => Algorithm::DH,
-            3 => Algorithm::DSA,
-            4 => Algorithm::ECC,
-            5 => Algorithm::RSASHA1,
-            6 => Algorithm::DSANSEC3SHA1,
-            7 => Algorithm::RSASHA1NSEC3SHA1,
-            8 => Algorithm::RSASHA256,
-            10 => Algorithm::RSASHA512,
-            12 => Algorithm::ECCGOST,
-            13 => Algorithm::ECDSAP256SHA256,
-            14 => Algorithm::ECDSAP384SHA384,
-            15 => Algorithm::ED25519,
-            16 => Algorithm::ED448,
-            17 => Algorithm::SM2SM3,
-            23 => Algorithm::ECCGOST12,
-            252 => Algorithm::INDIRECT,
-            253 => Algorithm::PRIVATEDNS,
-            254 => Algorithm::PRIVATEOID,
             _ => Algorithm::Unassigned(value),
-        }
+        )
     }
 }
 
@@ -101,29 +95,10 @@ impl From<Algorithm> for u8 {
 
     #[inline]
     fn from(value: Algorithm) -> u8 {
-        match value {
+        number_of!(algorithms, value,
             Algorithm::Reserved(number) => number,
-            Algorithm::RSAMD5 => 1,
-            Algorithm::DH => 2,
-            Algorithm::DSA => 3,
-            Algorithm::ECC => 4,
-            Algorithm::RSASHA1 => 5,
-            Algorithm::INDIRECT => 252,
-            Algorithm::PRIVATEDNS => 253,
-            Algorithm::PRIVATEOID => 254,
-            Algorithm::DSANSEC3SHA1 => 6,
-            Algorithm::RSASHA1NSEC3SHA1 => 7,
-            Algorithm::RSASHA256 => 8,
-            Algorithm::RSASHA512 => 10,
-            Algorithm::ECCGOST => 12,
-            Algorithm::ECDSAP256SHA256 => 13,
-            Algorithm::ECDSAP384SHA384 => 14,
-            Algorithm::ED25519 => 15,
-            Algorithm::ED448 => 16,
-            Algorithm::SM2SM3 => 17,
-            Algorithm::ECCGOST12 => 23,
             Algorithm::Unassigned(number) => number,
-        }
+        )
     }
 }
 
@@ -141,29 +116,10 @@ impl Algorithm {
     fn variant(self) -> u8
         ensures { result ≡ cert_algorithm_variant self }
     {
-        match self {
+        place_of!(algorithms, self,
             Algorithm::Reserved(_) => 0,
-            Algorithm::RSAMD5 => 1,
-            Algorithm::DH => 2,
-            Algorithm::DSA => 3,
-            Algorithm::ECC => 4,
-            Algorithm::RSASHA1 => 5,
-            Algorithm::INDIRECT => 6,
-            Algorithm::PRIVATEDNS => 7,
-            Algorithm::PRIVATEOID => 8,
-            Algorithm::DSANSEC3SHA1 => 9,
-            Algorithm::RSASHA1NSEC3SHA1 => 10,
-            Algorithm::RSASHA256 => 11,
-            Algorithm::RSASHA512 => 12,
-            Algorithm::ECCGOST => 13,
-            Algorithm::ECDSAP256SHA256 => 14,
-            Algorithm::ECDSAP384SHA384 => 15,
-            Algorithm::ED25519 => 16,
-            Algorithm::ED448 => 17,
-            Algorithm::SM2SM3 => 18,
-            Algorithm::ECCGOST12 => 19,
             Algorithm::Unassigned(_) => 20,
-        }
+        )
     }
 }
 
@@ -257,28 +213,9 @@ impl fmt::Display for Algorithm {
     /// The variant's name, and its number in parentheses where it has one inside: `RSASHA256`, `Unassigned(18)`.
     #[tactic(auto, unfolding(crate::specs::CertAlgorithm::cert_algorithm_text))]
     fn fmt<W: fmt::Write>(&self, f: &mut fmt::Formatter<W>) -> fmt::Result {
-        match *self {
+        write_name!(algorithms, *self, f,
             Algorithm::Reserved(number) => write!(f, "Reserved({number})"),
-            Algorithm::RSAMD5 => f.write_str("RSAMD5"),
-            Algorithm::DH => f.write_str("DH"),
-            Algorithm::DSA => f.write_str("DSA"),
-            Algorithm::ECC => f.write_str("ECC"),
-            Algorithm::RSASHA1 => f.write_str("RSASHA1"),
-            Algorithm::INDIRECT => f.write_str("INDIRECT"),
-            Algorithm::PRIVATEDNS => f.write_str("PRIVATEDNS"),
-            Algorithm::PRIVATEOID => f.write_str("PRIVATEOID"),
-            Algorithm::DSANSEC3SHA1 => f.write_str("DSANSEC3SHA1"),
-            Algorithm::RSASHA1NSEC3SHA1 => f.write_str("RSASHA1NSEC3SHA1"),
-            Algorithm::RSASHA256 => f.write_str("RSASHA256"),
-            Algorithm::RSASHA512 => f.write_str("RSASHA512"),
-            Algorithm::ECCGOST => f.write_str("ECCGOST"),
-            Algorithm::ECDSAP256SHA256 => f.write_str("ECDSAP256SHA256"),
-            Algorithm::ECDSAP384SHA384 => f.write_str("ECDSAP384SHA384"),
-            Algorithm::ED25519 => f.write_str("ED25519"),
-            Algorithm::ED448 => f.write_str("ED448"),
-            Algorithm::SM2SM3 => f.write_str("SM2SM3"),
-            Algorithm::ECCGOST12 => f.write_str("ECCGOST12"),
             Algorithm::Unassigned(number) => write!(f, "Unassigned({number})"),
-        }
+        )
     }
 }

@@ -51,29 +51,28 @@ pub enum CertType {
     Reserved65535,
 }
 
+// The variants that have one number: its name, the number, its place in the declaration.
+macro_rules! cert_types {
+    ($macro:ident, $arguments:tt) => {
+        $macro!(
+            $arguments CertType
+            (Reserved0 0 0) (PKIX 1 1) (SPKI 2 2) (PGP 3 3) (IPKIX 4 4) (ISPKI 5 5) (IPGP 6 6)
+            (ACPKIX 7 7) (IACPKIX 8 8) (URI 253 9) (OID 254 10) (Reserved255 255 11)
+            (Reserved65535 65535 14)
+        )
+    };
+}
+
 #[tactic(auto, unfolding(crate::specs::CertType::cert_type_of))]
 impl From<u16> for CertType {
     ghost from_gives = { λ n e. (e ≡ cert_type_of n) × (cert_type_number e ≡ n) };
 
     #[inline]
     fn from(value: u16) -> CertType {
-        match value {
-            0 => CertType::Reserved0,
-            1 => CertType::PKIX,
-            2 => CertType::SPKI,
-            3 => CertType::PGP,
-            4 => CertType::IPKIX,
-            5 => CertType::ISPKI,
-            6 => CertType::IPGP,
-            7 => CertType::ACPKIX,
-            8 => CertType::IACPKIX,
-            253 => CertType::URI,
-            254 => CertType::OID,
-            255 => CertType::Reserved255,
+        of_number!(cert_types, value,
             65280..=65534 => CertType::Experimental(value),
-            65535 => CertType::Reserved65535,
             _ => CertType::Unassigned(value),
-        }
+        )
     }
 }
 
@@ -82,23 +81,10 @@ impl From<CertType> for u16 {
 
     #[inline]
     fn from(value: CertType) -> u16 {
-        match value {
-            CertType::Reserved0 => 0,
-            CertType::PKIX => 1,
-            CertType::SPKI => 2,
-            CertType::PGP => 3,
-            CertType::IPKIX => 4,
-            CertType::ISPKI => 5,
-            CertType::IPGP => 6,
-            CertType::ACPKIX => 7,
-            CertType::IACPKIX => 8,
-            CertType::URI => 253,
-            CertType::OID => 254,
-            CertType::Reserved255 => 255,
+        number_of!(cert_types, value,
             CertType::Unassigned(number) => number,
             CertType::Experimental(number) => number,
-            CertType::Reserved65535 => 65535,
-        }
+        )
     }
 }
 
@@ -116,23 +102,10 @@ impl CertType {
     fn variant(self) -> u8
         ensures { result ≡ cert_type_variant self }
     {
-        match self {
-            CertType::Reserved0 => 0,
-            CertType::PKIX => 1,
-            CertType::SPKI => 2,
-            CertType::PGP => 3,
-            CertType::IPKIX => 4,
-            CertType::ISPKI => 5,
-            CertType::IPGP => 6,
-            CertType::ACPKIX => 7,
-            CertType::IACPKIX => 8,
-            CertType::URI => 9,
-            CertType::OID => 10,
-            CertType::Reserved255 => 11,
+        place_of!(cert_types, self,
             CertType::Unassigned(_) => 12,
             CertType::Experimental(_) => 13,
-            CertType::Reserved65535 => 14,
-        }
+        )
     }
 }
 
@@ -226,22 +199,9 @@ impl fmt::Display for CertType {
     /// The variant's name, and its number in parentheses where it has one inside: `PKIX`, `Unassigned(9)`.
     #[tactic(auto, unfolding(crate::specs::CertType::cert_type_text))]
     fn fmt<W: fmt::Write>(&self, f: &mut fmt::Formatter<W>) -> fmt::Result {
-        match *self {
-            CertType::Reserved0 => f.write_str("Reserved0"),
-            CertType::PKIX => f.write_str("PKIX"),
-            CertType::SPKI => f.write_str("SPKI"),
-            CertType::PGP => f.write_str("PGP"),
-            CertType::IPKIX => f.write_str("IPKIX"),
-            CertType::ISPKI => f.write_str("ISPKI"),
-            CertType::IPGP => f.write_str("IPGP"),
-            CertType::ACPKIX => f.write_str("ACPKIX"),
-            CertType::IACPKIX => f.write_str("IACPKIX"),
-            CertType::URI => f.write_str("URI"),
-            CertType::OID => f.write_str("OID"),
-            CertType::Reserved255 => f.write_str("Reserved255"),
+        write_name!(cert_types, *self, f,
             CertType::Unassigned(number) => write!(f, "Unassigned({number})"),
             CertType::Experimental(number) => write!(f, "Experimental({number})"),
-            CertType::Reserved65535 => f.write_str("Reserved65535"),
-        }
+        )
     }
 }

@@ -32,21 +32,25 @@ pub enum Algorithm {
     Unassigned(u8),
 }
 
+// The variants that have one number: its name, the number, its place in the declaration.
+macro_rules! algorithms {
+    ($macro:ident, $arguments:tt) => {
+        $macro!(
+            $arguments Algorithm
+            (Reserved 0 0) (RSA 1 1) (DSA 2 2) (ECDSA 3 3) (Ed25519 4 4) (Ed448 6 5)
+        )
+    };
+}
+
 #[tactic(auto, unfolding(crate::specs::SshfpAlgorithm::sshfp_algorithm_of))]
 impl From<u8> for Algorithm {
     ghost from_gives = { λ n e. (e ≡ sshfp_algorithm_of n) × (sshfp_algorithm_number e ≡ n) };
 
     #[inline]
     fn from(value: u8) -> Algorithm {
-        match value {
-            0 => Algorithm::Reserved,
-            1 => Algorithm::RSA,
-            2 => Algorithm::DSA,
-            3 => Algorithm::ECDSA,
-            4 => Algorithm::Ed25519,
-            6 => Algorithm::Ed448,
+        of_number!(algorithms, value,
             _ => Algorithm::Unassigned(value),
-        }
+        )
     }
 }
 
@@ -55,15 +59,9 @@ impl From<Algorithm> for u8 {
 
     #[inline]
     fn from(value: Algorithm) -> u8 {
-        match value {
-            Algorithm::Reserved => 0,
-            Algorithm::RSA => 1,
-            Algorithm::DSA => 2,
-            Algorithm::ECDSA => 3,
-            Algorithm::Ed25519 => 4,
-            Algorithm::Ed448 => 6,
+        number_of!(algorithms, value,
             Algorithm::Unassigned(number) => number,
-        }
+        )
     }
 }
 
@@ -81,15 +79,9 @@ impl Algorithm {
     fn variant(self) -> u8
         ensures { result ≡ sshfp_algorithm_variant self }
     {
-        match self {
-            Algorithm::Reserved => 0,
-            Algorithm::RSA => 1,
-            Algorithm::DSA => 2,
-            Algorithm::ECDSA => 3,
-            Algorithm::Ed25519 => 4,
-            Algorithm::Ed448 => 5,
+        place_of!(algorithms, self,
             Algorithm::Unassigned(_) => 6,
-        }
+        )
     }
 }
 

@@ -26,18 +26,25 @@ pub enum FingerprintType {
     Unassigned(u8),
 }
 
+// The variants that have one number: its name, the number, its place in the declaration.
+macro_rules! types {
+    ($macro:ident, $arguments:tt) => {
+        $macro!(
+            $arguments FingerprintType
+            (Reserved 0 0) (SHA1 1 1) (SHA256 2 2)
+        )
+    };
+}
+
 #[tactic(auto, unfolding(crate::specs::FingerprintType::fingerprint_type_of))]
 impl From<u8> for FingerprintType {
     ghost from_gives = { λ n e. (e ≡ fingerprint_type_of n) × (fingerprint_type_number e ≡ n) };
 
     #[inline]
     fn from(value: u8) -> FingerprintType {
-        match value {
-            0 => FingerprintType::Reserved,
-            1 => FingerprintType::SHA1,
-            2 => FingerprintType::SHA256,
+        of_number!(types, value,
             _ => FingerprintType::Unassigned(value),
-        }
+        )
     }
 }
 
@@ -46,12 +53,9 @@ impl From<FingerprintType> for u8 {
 
     #[inline]
     fn from(value: FingerprintType) -> u8 {
-        match value {
-            FingerprintType::Reserved => 0,
-            FingerprintType::SHA1 => 1,
-            FingerprintType::SHA256 => 2,
+        number_of!(types, value,
             FingerprintType::Unassigned(number) => number,
-        }
+        )
     }
 }
 
@@ -69,12 +73,9 @@ impl FingerprintType {
     fn variant(self) -> u8
         ensures { result ≡ fingerprint_type_variant self }
     {
-        match self {
-            FingerprintType::Reserved => 0,
-            FingerprintType::SHA1 => 1,
-            FingerprintType::SHA256 => 2,
+        place_of!(types, self,
             FingerprintType::Unassigned(_) => 3,
-        }
+        )
     }
 }
 

@@ -30,20 +30,25 @@ pub enum CertUsage {
     Private,
 }
 
+// The variants that have one number: its name, the number, its place in the declaration.
+macro_rules! usages {
+    ($macro:ident, $arguments:tt) => {
+        $macro!(
+            $arguments CertUsage
+            (PkixTa 0 0) (PkixEe 1 1) (DaneTa 2 2) (DaneEe 3 3) (Private 255 5)
+        )
+    };
+}
+
 #[tactic(auto, unfolding(crate::specs::CertUsage::cert_usage_of))]
 impl From<u8> for CertUsage {
     ghost from_gives = { λ n e. (e ≡ cert_usage_of n) × (cert_usage_number e ≡ n) };
 
     #[inline]
     fn from(value: u8) -> CertUsage {
-        match value {
-            0 => CertUsage::PkixTa,
-            1 => CertUsage::PkixEe,
-            2 => CertUsage::DaneTa,
-            3 => CertUsage::DaneEe,
-            255 => CertUsage::Private,
+        of_number!(usages, value,
             _ => CertUsage::Unassigned(value),
-        }
+        )
     }
 }
 
@@ -52,14 +57,9 @@ impl From<CertUsage> for u8 {
 
     #[inline]
     fn from(value: CertUsage) -> u8 {
-        match value {
-            CertUsage::PkixTa => 0,
-            CertUsage::PkixEe => 1,
-            CertUsage::DaneTa => 2,
-            CertUsage::DaneEe => 3,
+        number_of!(usages, value,
             CertUsage::Unassigned(number) => number,
-            CertUsage::Private => 255,
-        }
+        )
     }
 }
 
@@ -77,14 +77,9 @@ impl CertUsage {
     fn variant(self) -> u8
         ensures { result ≡ cert_usage_variant self }
     {
-        match self {
-            CertUsage::PkixTa => 0,
-            CertUsage::PkixEe => 1,
-            CertUsage::DaneTa => 2,
-            CertUsage::DaneEe => 3,
+        place_of!(usages, self,
             CertUsage::Unassigned(_) => 4,
-            CertUsage::Private => 5,
-        }
+        )
     }
 }
 

@@ -28,19 +28,25 @@ pub enum Matching {
     Private,
 }
 
+// The variants that have one number: its name, the number, its place in the declaration.
+macro_rules! ways {
+    ($macro:ident, $arguments:tt) => {
+        $macro!(
+            $arguments Matching
+            (Raw 0 0) (Sha256 1 1) (Sha512 2 2) (Private 255 4)
+        )
+    };
+}
+
 #[tactic(auto, unfolding(crate::specs::Matching::matching_of))]
 impl From<u8> for Matching {
     ghost from_gives = { λ n e. (e ≡ matching_of n) × (matching_number e ≡ n) };
 
     #[inline]
     fn from(value: u8) -> Matching {
-        match value {
-            0 => Matching::Raw,
-            1 => Matching::Sha256,
-            2 => Matching::Sha512,
-            255 => Matching::Private,
+        of_number!(ways, value,
             _ => Matching::Unassigned(value),
-        }
+        )
     }
 }
 
@@ -49,13 +55,9 @@ impl From<Matching> for u8 {
 
     #[inline]
     fn from(value: Matching) -> u8 {
-        match value {
-            Matching::Raw => 0,
-            Matching::Sha256 => 1,
-            Matching::Sha512 => 2,
+        number_of!(ways, value,
             Matching::Unassigned(number) => number,
-            Matching::Private => 255,
-        }
+        )
     }
 }
 
@@ -73,13 +75,9 @@ impl Matching {
     fn variant(self) -> u8
         ensures { result ≡ matching_variant self }
     {
-        match self {
-            Matching::Raw => 0,
-            Matching::Sha256 => 1,
-            Matching::Sha512 => 2,
+        place_of!(ways, self,
             Matching::Unassigned(_) => 3,
-            Matching::Private => 4,
-        }
+        )
     }
 }
 

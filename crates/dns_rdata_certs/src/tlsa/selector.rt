@@ -27,18 +27,25 @@ pub enum Selector {
     Private,
 }
 
+// The variants that have one number: its name, the number, its place in the declaration.
+macro_rules! parts {
+    ($macro:ident, $arguments:tt) => {
+        $macro!(
+            $arguments Selector
+            (Full 0 0) (Spki 1 1) (Private 255 3)
+        )
+    };
+}
+
 #[tactic(auto, unfolding(crate::specs::Selector::selector_of))]
 impl From<u8> for Selector {
     ghost from_gives = { λ n e. (e ≡ selector_of n) × (selector_number e ≡ n) };
 
     #[inline]
     fn from(value: u8) -> Selector {
-        match value {
-            0 => Selector::Full,
-            1 => Selector::Spki,
-            255 => Selector::Private,
+        of_number!(parts, value,
             _ => Selector::Unassigned(value),
-        }
+        )
     }
 }
 
@@ -47,12 +54,9 @@ impl From<Selector> for u8 {
 
     #[inline]
     fn from(value: Selector) -> u8 {
-        match value {
-            Selector::Full => 0,
-            Selector::Spki => 1,
+        number_of!(parts, value,
             Selector::Unassigned(number) => number,
-            Selector::Private => 255,
-        }
+        )
     }
 }
 
@@ -70,12 +74,9 @@ impl Selector {
     fn variant(self) -> u8
         ensures { result ≡ selector_variant self }
     {
-        match self {
-            Selector::Full => 0,
-            Selector::Spki => 1,
+        place_of!(parts, self,
             Selector::Unassigned(_) => 2,
-            Selector::Private => 3,
-        }
+        )
     }
 }
 

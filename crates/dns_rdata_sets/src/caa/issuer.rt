@@ -230,6 +230,7 @@ fn read_name(alloc: Global, octets: &[u8]) -> ProtoResult<Option<Name>>
 }
 
 // The name and the parameters of an issuer.
+#[tactic(auto, using(crate::proofs::Issuers::issuer_read))]
 fn read_parts(alloc: Global, octets: &[u8]) -> ProtoResult<(Option<Name>, Vec<KeyValue>)>
     ensures read { IfOk result (λ x. IsIssuer octets.now x.0 x.1.items) }
     ensures refused { IfErr result (λ e. IsIssuerRefusal octets.now e) }

@@ -63,6 +63,7 @@ impl CAA {
     }
 
     // A property of issuers with this tag.
+    #[tactic(auto, using(crate::proofs::Issuers::issuer_written))]
     fn with_issuer(
         issuer_critical: bool,
         tag: &[u8],
@@ -100,6 +101,7 @@ impl CAA {
     /// Sets the value of an issuer, as `new_issue` makes it. A tag other than `issue` and `issuewild`, the case of
     /// ASCII letters ignored, is refused by [`Message`](ProtoError::Message). After a refusal, for memory too, the
     /// record is as it was.
+    #[tactic(auto, using(crate::proofs::Issuers::issuer_written))]
     pub fn set_issuer_value(
         &mut self,
         name: Option<&Name>,

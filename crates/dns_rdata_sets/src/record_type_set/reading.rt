@@ -3,7 +3,7 @@
 ghost use Rattle.std.specs.Prelude.{◌≡◌, ◌*◌, ◌<◌, length, IfOk, IfErr, OnOk};
 ghost use Rattle.dns_types.specs.declared.error.DecodeError.TheVariants as decode;
 ghost use Rattle.dns_fields.specs.Bitmaps.{has_type};
-ghost use Rattle.dns_rdata_sets.specs.RecordTypeSet.{Adds, octet_has, FitsBlock, TookBlock, NoBlock, AreBlocks, NoBlocks, IsBlockRefusal};
+ghost use Rattle.dns_rdata_sets.specs.RecordTypeSet.{held, Adds, octet_has, FitsBlock, TookBlock, NoBlock, AreBlocks, NoBlocks, IsBlockRefusal};
 
 use crate::record_type_set::marking::read_marked;
 use dns_names_wire::DecodeError;
@@ -14,8 +14,9 @@ pub(super) const MOST: usize = 32;
 
 // The numbers of the types of blocks: in the order of the bits where the windows rise, as in every bitmap that is written
 // as the RFC asks; else by marking them, so that a window which stands again takes no memory again.
+#[tactic(auto, using(crate::proofs::Blocks::left_all, crate::proofs::Blocks::left_shorter, crate::proofs::Blocks::are_blocks))]
 pub(super) fn read_blocks(alloc: Global, octets: &[u8]) -> Result<Vec<u16>, DecodeError>
-    ensures read { IfOk result (λ numbers. AreBlocks octets.now numbers.items) }
+    ensures read { IfOk result (λ numbers. AreBlocks octets.now (held numbers.items)) }
     ensures refused { IfErr result (λ e. IsBlockRefusal e (NoBlocks octets.now)) }
 {
     if !windows_rise(octets) {
@@ -67,7 +68,8 @@ pub(super) fn block_len(octets: &[u8]) -> Result<usize, DecodeError>
 
 // Adds the types of the block in front, and answers what is behind it.
 fn read_block<'a>(octets: &'a [u8], numbers: &mut Vec<u16>) -> Result<&'a [u8], DecodeError>
-    ensures read { IfOk result (λ rest. TookBlock octets.now rest.now numbers.old.items numbers.new.items) }
+    ensures read { IfOk result (λ rest. TookBlock octets.now rest.now
+        (λ b. Adds (λ t. has_type t b) (held numbers.old.items) (held numbers.new.items))) }
     ensures refused { IfErr result (λ e. IsBlockRefusal e (NoBlock octets.now)) }
 {
     let len = block_len(octets)?;
@@ -76,13 +78,14 @@ fn read_block<'a>(octets: &'a [u8], numbers: &mut Vec<u16>) -> Result<&'a [u8], 
 }
 
 // Adds the types of a window's octets.
+#[tactic(auto, using(std::proofs::lemmas::List::take_all))]
 pub(super) fn add_octets(
     numbers: &mut Vec<u16>,
     window: u8,
     octets: &[u8],
 ) -> Result<(), AllocError>
     requires { length octets.now < 33 }
-    ensures { OnOk result (Adds (λ t. has_type t (window, octets.now)) numbers.old.items numbers.new.items) }
+    ensures { OnOk result (Adds (λ t. has_type t (window, octets.now)) (held numbers.old.items) (held numbers.new.items)) }
 {
     for (i, octet) in octets.iter().enumerate() {
         add_octet(numbers, window as usize * MOST + i, *octet)?;
@@ -92,9 +95,10 @@ pub(super) fn add_octets(
 
 // Adds the types of octet g of all.
 #[inline]
+#[tactic(auto, using(crate::proofs::Blocks::bit_within, crate::proofs::Blocks::bit_taken))]
 fn add_octet(numbers: &mut Vec<u16>, g: usize, octet: u8) -> Result<(), AllocError>
     requires { g < 8192 }
-    ensures { OnOk result (Adds (octet_has g octet) numbers.old.items numbers.new.items) }
+    ensures { OnOk result (Adds (octet_has g octet) (held numbers.old.items) (held numbers.new.items)) }
 {
     let mut left = octet;
     while left != 0 {

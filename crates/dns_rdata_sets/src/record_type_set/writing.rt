@@ -3,23 +3,26 @@
 ghost use Rattle.std.specs.Prelude.{◌≡◌, ◌≢◌, ◌+◌, ◌-◌, ◌*◌, ◌/◌, ◌%◌, ◌<◌, ◌≤◌, ◌==◌, ◌++◌, ℕ, if◌then◌else◌, length, take, drop, slice_index};
 ghost use Rattle.std.specs.Int.{bit_at, bytes_high_first};
 ghost use Rattle.dns_fields.specs.Octets.{AreOctets};
-ghost use Rattle.dns_fields.specs.Bitmaps.{IsBlock, IsTypeSet, Rises, mark};
+ghost use Rattle.dns_fields.specs.Bitmaps.{IsTypeSet, mark};
 ghost use Rattle.dns_fields.specs.Fields.{Bitmap};
-ghost use Rattle.dns_names_wire.specs.Words.{Emits, EmitsField};
-ghost use Rattle.dns_rdata_sets.specs.RecordTypeSet.{AreOfWindow, first_window, window_block, block_shape, block_fields};
+ghost use Rattle.dns_names_wire.specs.Words.{EmitsField};
+ghost use Rattle.dns_rdata_sets.specs.RecordTypeSet.{AreOfWindow, first_window};
 
+use crate::record_type_set::windows::first_window;
 use dns_names_wire::{BinEncoder, ProtoError};
 
 // Appends the blocks of a set's numbers, which rise.
+#[tactic(auto, using(crate::proofs::SetWrites::left_first))]
 pub(super) fn emit_blocks(encoder: &mut BinEncoder<'_>, numbers: &[u16]) -> Result<(), ProtoError>
     requires { IsTypeSet numbers.now }
     ensures { EmitsField Bitmap numbers.now result encoder.old encoder.new }
 {
     let mut rest = numbers;
     while rest.len() > 0 {
-        let end = run_len(rest);
-        emit_block(encoder, &rest[..end])?;
-        rest = &rest[end..];
+        let window = first_window(rest);
+        let head = [window.number, window.len as u8];
+        encoder.emit_both(&head, &window.octets[..window.len])?;
+        rest = rest.split_at(window.count).1;
     }
     Ok(())
 }
@@ -41,21 +44,6 @@ pub(crate) fn run_len(numbers: &[u16]) -> usize
     end
 }
 
-// Appends the block of a window whose types these are.
-fn emit_block(encoder: &mut BinEncoder<'_>, run: &[u16]) -> Result<(), ProtoError>
-    requires some { 0 < length run.now }
-    requires rises { Rises run.now }
-    requires run { AreOfWindow (first_window run.now) run.now }
-    ensures block { IsBlock (window_block run.now) }
-    ensures emits { Emits block_shape (block_fields (window_block run.now)) result encoder.old encoder.new }
-{
-    let number = (run[0] / 256) as u8;
-    let len = run[run.len() - 1] as usize % 256 / 8 + 1;
-    let mut octets = [0u8; 32];
-    mark_window(&mut octets, run);
-    emit_parts(encoder, number, &as_octets(&octets)[..len])
-}
-
 // The slice as it is, with what its type says of each item.
 #[inline]
 pub(super) fn as_octets(octets: &[u8]) -> &[u8]
@@ -65,16 +53,8 @@ pub(super) fn as_octets(octets: &[u8]) -> &[u8]
     octets
 }
 
-// Appends a block of these parts.
-#[inline]
-fn emit_parts(encoder: &mut BinEncoder<'_>, number: u8, octets: &[u8]) -> Result<(), ProtoError>
-    requires { length octets.now ≤ 32 }
-    ensures { Emits block_shape (block_fields (number, octets.now)) result encoder.old encoder.new }
-{
-    encoder.emit_both(&[number, octets.len() as u8], octets)
-}
-
 // Makes of 32 octets those of a window whose types these are, zeros at the end too.
+#[tactic(auto, using(crate::proofs::Windows::marks_more))]
 pub(super) fn mark_window(octets: &mut [u8; 32], run: &[u16])
     requires some { 0 < length run.now }
     requires run { AreOfWindow (first_window run.now) run.now }
@@ -91,6 +71,7 @@ pub(super) fn mark_window(octets: &mut [u8; 32], run: &[u16])
 // The bits of the numbers in front that are below 64 in their window, as most are, the first one highest, and how many these
 // numbers are. Octets that are stored one by one are slow to load together, so these are put together in one number.
 #[inline]
+#[tactic(auto, using(crate::proofs::Windows::front_more))]
 fn first_word(run: &[u16]) -> (u64, usize)
     requires { AreOfWindow (first_window run.now) run.now }
     ensures count { result.1 ≤ length run.now }
@@ -117,6 +98,7 @@ fn put_word(octets: &mut [u8], at: usize, word: u64)
 
 // Sets bit b of a window, the highest of its octet first.
 #[inline]
+#[tactic(auto, using(crate::proofs::Windows::marked))]
 fn mark_bit(octets: &mut [u8], b: usize)
     requires bit { b < 256 }
     requires window { length octets.old ≡ 32 }

@@ -23,7 +23,7 @@ unfolding field_octets
 returns c =
     let a = c.args.a.now in
     let b = c.args.b.now in
-    let own = own_first a b c.args.at c.requires.first c.requires.second c.requires.within.0 c.requires.same (λ _. c.requires.lower) in
+    let own = own_first a b c.args.at c.requires.first c.requires.second c.requires.within.0 (omega arith) c.requires.same (λ _. c.requires.lower) in
     let shared : get_or b c.if-b-at.other 0 / 256 ≡ get_or a c.args.at 0 / 256 = elim c.if-b-at.branch [
       | then-b-at+else-at-eq0+else-b-at-2 w ↦ ap (λ (k : ℕ). get_or b k 0 / 256) w.other-is ∙ w.if-b-at-2.false
       | else-b-at w ↦ ap (λ (k : ℕ). get_or b k 0 / 256) w.other-is ∙ w.if-b-at.false

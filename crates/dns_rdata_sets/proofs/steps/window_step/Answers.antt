@@ -1,30 +1,31 @@
 use Rattle.std.proofs.Common.{ℕ, List, ◌++◌, take, ap, ◌∙◌}
 use Rattle.dns_fields.specs.Fields.{Number, field_octets}
-use Rattle.dns_rdata_sets.proofs.WindowSteps.{set_behind, window_given, window_passed, window_none}
+use Rattle.dns_rdata_sets.proofs.Rising.{set_drop}
+use Rattle.dns_rdata_sets.proofs.WindowSteps.{WindowMade, window_given, window_passed, window_none}
 use Rattle.dns_rdata_sets.proofs.steps.window_step.Goals as goal
 
 pub next_window-window-requires-clause-set : goal.next_window-window-requires-clause-set
-next_window-window-requires-clause-set c = rw c.numbers-numbers.ensures.value (set_behind _ c.args.part c.numbers-numbers.ensures.set)
+next_window-window-requires-clause-set c = rw (c.split_at.ensures.back, c.numbers-numbers.ensures.value) (set_drop c.args.part _ c.numbers-numbers.ensures.set)
 
 pub returns-then-part-numbers-clause-octets : goal.returns-then-part-numbers-clause-octets
 returns-then-part-numbers-clause-octets c = λ j. window_none _ _ j _ (rw c.numbers-numbers.ensures.value at c.if-part-numbers.true) c.requires.empty
 
-pub returns-clause-octets : goal.returns-clause-octets
-returns-clause-octets c =
+pub returns : goal.returns
+returns c =
+    let x = c.args.x.now in
+    let i = c.args.part in
     let w = c.next_window-window.result in
-    let h = rw c.numbers-numbers.ensures.value at c.if-part-numbers.false in
-    let next = rw c.numbers-numbers.ensures.value at c.next_window-window.ensures.next in
-    let made =
-    c.octets.ensures.value
-    ∙ ap (λ (l : List ℕ). l ++ take w.len w.octets) (c.one-2.ensures.value ∙ ap (λ (l : List ℕ). l ++ field_octets (Number 1) w.len) (c.one.ensures.value ∙ ap (λ (l : List ℕ). l ++ field_octets (Number 1) w.number) c.requires.empty)) in
-    λ j. rw c.none.ensures (window_given c.args.x.now c.args.part w.number w.len w.count j w.octets _ (record { some = h; few = c.next_window-window.ensures.len; long = c.next_window-window.ensures.room; small = c.next_window-window.ensures.number; next = next; made = made }))
-
-pub returns-clause-passes : goal.returns-clause-passes
-returns-clause-passes c =
-    let w = c.next_window-window.result in
-    let h = rw c.numbers-numbers.ensures.value at c.if-part-numbers.false in
-    let next = rw c.numbers-numbers.ensures.value at c.next_window-window.ensures.next in
-    let made =
-    c.octets.ensures.value
-    ∙ ap (λ (l : List ℕ). l ++ take w.len w.octets) (c.one-2.ensures.value ∙ ap (λ (l : List ℕ). l ++ field_octets (Number 1) w.len) (c.one.ensures.value ∙ ap (λ (l : List ℕ). l ++ field_octets (Number 1) w.number) c.requires.empty)) in
-    rw c.none.ensures (window_passed c.args.x.now _ _ c.args.part w.number w.len w.count w.octets _ (record { some = h; few = c.next_window-window.ensures.len; long = c.next_window-window.ensures.room; small = c.next_window-window.ensures.number; next = next; made = made }) c.next_window-window.ensures.pass)
+    let e = c.next_window-window.ensures in
+    let made : WindowMade x.type_bit_maps i w.number w.len w.count w.octets c.octets.new.self = record {
+      few = e.len;
+      long = e.room;
+      small = e.number;
+      next = rw (c.split_at.ensures.back, c.numbers-numbers.ensures.value) at e.next;
+      made = c.octets.ensures.value
+          ∙ ap (λ (l : List ℕ). l ++ take w.len w.octets) (c.one-2.ensures.value ∙ ap (λ (l : List ℕ). l ++ field_octets (Number 1) w.len) (c.one.ensures.value
+          ∙ ap (λ (l : List ℕ). l ++ field_octets (Number 1) w.number) c.requires.empty));
+    } in
+    rw c.none.ensures (record {
+      octets = λ j. window_given x i w.number w.len w.count j w.octets _ made;
+      passes = window_passed x _ _ i w.number w.len w.count w.octets _ made e.pass;
+    })

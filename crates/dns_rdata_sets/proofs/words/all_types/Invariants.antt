@@ -1,8 +1,8 @@
 use Rattle.std.proofs.Common.{◌≡◌, map, List}
-use Rattle.dns_types.specs.RecordTypes.{number_of}
+use Rattle.std.specs.List.{AllZip}
+use Rattle.dns_types.specs.RecordTypes.{number_of, IsTypeText}
 use Rattle.dns_types.specs.declared.record_type.RecordType.{RecordType}
-use Rattle.dns_rdata_sets.specs.WordRows.{AreTypeTexts}
 use Rattle.dns_rdata_sets.proofs.words.all_types.Given as goal
 
 abbrev pub invariant-loop-word : goal.invariant-loop-word
-invariant-loop-word g l = (types : List RecordType) × AreTypeTexts (map g.S.AsStr.text l.yielded) types × (l.numbers.items ≡ map number_of types)
+invariant-loop-word g l = (types : List RecordType) × AllZip IsTypeText (map g.S.AsStr.text l.yielded) types × (l.numbers.items ≡ map number_of types)

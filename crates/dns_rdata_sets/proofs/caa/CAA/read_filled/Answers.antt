@@ -27,9 +27,7 @@ returns-in_err-read_small-clause-refused c =
     (rw (c.unverified-size.ensures, c.unverified-len.ensures) at c.in_err-read_small.ensures.refused))
 
 pub returns-clause-fields : goal.returns-clause-fields
-returns-clause-fields c =
-    caa_taken {old = c.args.decoder.now} {new = c.read_small.new.self} c.args.length _ _ _ _ c.unverified-flags.result c.in_ok-tag-2.tag c.unverified-value.result
-    (omega arith) c.unverified-flags.ensures c.in_ok-tag-2.ensures c.unverified-value.ensures c.in_ok-read_u8.ensures.taken
-    c.in_ok-read_u8-2.ensures.taken (rw c.unverified-size.ensures at c.in_ok-tag.ensures.taken)
-    (rw (c.unverified-size.ensures, c.unverified-len.ensures) at c.in_ok-read_small.ensures.taken)
-    (rw (c.unverified-size.ensures, c.unverified-len.ensures) at c.in_ok-tag.ensures.tag)
+returns-clause-fields c = rw (c.unverified-flags.ensures, c.in_ok-tag-2.ensures, c.unverified-value.ensures)
+    (caa_taken c.args.length _ _ _ _ (omega arith) c.in_ok-read_u8.ensures.taken c.in_ok-read_u8-2.ensures.taken
+    (rw c.unverified-size.ensures at c.in_ok-tag.ensures.taken) (rw (c.unverified-size.ensures, c.unverified-len.ensures) at c.in_ok-read_small.ensures.taken)
+    (rw (c.unverified-size.ensures, c.unverified-len.ensures) at c.in_ok-tag.ensures.tag))

@@ -1,5 +1,5 @@
 use Rattle.std.proofs.lemmas.Result.{err_from_is_err_and}
-use Rattle.dns_rdata_sets.proofs.Issuers.{issuer_read, name_stop, parameters_stop}
+use Rattle.dns_rdata_sets.proofs.Issuers.{name_stop, parameters_stop}
 use Rattle.dns_rdata_sets.proofs.caa.issuer.read_parts.Goals as goal
 
 pub returns-in_err-name-clause-refused : goal.returns-in_err-name-clause-refused
@@ -11,6 +11,3 @@ pub returns-in_err-pairs-clause-refused : goal.returns-in_err-pairs-clause-refus
 returns-in_err-pairs-clause-refused c =
     let p = err_from_is_err_and c.from_residual-in_err-pairs.result c.from_residual-in_err-pairs.ensures.1 in
     rw (p.1, p.2) (parameters_stop _ _ _ _ _ c.cut_at.ensures c.in_ok-name.ensures.read c.in_err-pairs.ensures.refused)
-
-pub returns-clause-read : goal.returns-clause-read
-returns-clause-read c = issuer_read _ _ _ _ _ c.cut_at.ensures c.in_ok-name.ensures.read c.in_ok-pairs.ensures.read

@@ -4,19 +4,15 @@ use Rattle.dns_names_wire.proofs.FieldReads.{took_number}
 use Rattle.dns_rdata_sets.proofs.CsyncReads.{types_refused, types_refusal}
 use Rattle.dns_rdata_sets.proofs.csync.CSYNC.read_filled.Goals as goal
 
-pub returns-in_err-type_bit_maps-clause-fields : goal.returns-in_err-type_bit_maps-clause-fields
-returns-in_err-type_bit_maps-clause-fields c =
+pub returns-in_err-type_bit_maps : goal.returns-in_err-type_bit_maps
+returns-in_err-type_bit_maps c =
     let p = err_from_is_err_and c.from_residual-in_err-type_bit_maps.result c.from_residual-in_err-type_bit_maps.ensures.1 in
     let f = c.in_ok-read_u32.ensures.taken in
     let g = c.in_ok-read_u16.ensures.taken in
+    let r = c.in_err-type_bit_maps.ensures in
     let all : c.new.result + 6 ≡ c.args.length = omega (arith, took_number f, took_number g) in
-    rw (p.1, p.2) (types_refused c.new.result c.args.length f g all c.in_err-type_bit_maps.ensures.fields)
-
-pub returns-in_err-type_bit_maps-clause-refused : goal.returns-in_err-type_bit_maps-clause-refused
-returns-in_err-type_bit_maps-clause-refused c =
-    let p = err_from_is_err_and c.from_residual-in_err-type_bit_maps.result c.from_residual-in_err-type_bit_maps.ensures.1 in
-    let f = c.in_ok-read_u32.ensures.taken in
-    let g = c.in_ok-read_u16.ensures.taken in
-    let all : c.new.result + 6 ≡ c.args.length = omega (arith, took_number f, took_number g) in
-    rw (p.1, p.2) (types_refusal c.new.result c.args.length f g all (rw c.unverified-flags.ensures at c.if-flags-ne0.false)
-    c.in_err-type_bit_maps.ensures.refused)
+    rw (p.1, p.2) (record {
+      fields = types_refused c.new.result c.args.length f g all r.fields;
+      read = tt;
+      refused = types_refusal c.new.result c.args.length f g all (rw c.unverified-flags.ensures at c.if-flags-ne0.false) r.refused;
+    })

@@ -1,19 +1,10 @@
-use Rattle.std.proofs.Common.{inl, inr, ⊎_elim, arith}
+use Rattle.std.proofs.Common.{inl, inr, ⊎_elim}
 use Rattle.std.proofs.lemmas.Result.{err_from_is_err_and}
-use Rattle.dns_rdata_sets.proofs.Blocks.{left_all, left_less, left_shorter, are_blocks, no_blocks}
+use Rattle.dns_rdata_sets.proofs.Blocks.{left_less, no_blocks}
 use Rattle.dns_rdata_sets.proofs.record_type_set.reading.read_blocks.Goals as goal
 
-pub loop-rest-init : goal.loop-rest-init
-loop-rest-init c = rw c.in_ok-numbers.ensures.items (left_all c.args.octets.now)
-
 pub loop-rest-preserved : goal.loop-rest-preserved
-loop-rest-preserved c = left_less c.loop-rest.invariant c.in_ok-rest.ensures.read
-
-pub loop-rest-smaller : goal.loop-rest-smaller
-loop-rest-smaller c = left_shorter c.in_ok-rest.ensures.read
-
-pub returns-clause-read : goal.returns-clause-read
-returns-clause-read c = are_blocks (omega arith) c.loop-rest.invariant
+loop-rest-preserved c = let g = c.in_ok-rest.ensures.read in left_less c.loop-rest.invariant g g.holds
 
 pub returns-in_err-rest-clause-refused : goal.returns-in_err-rest-clause-refused
 returns-in_err-rest-clause-refused c =

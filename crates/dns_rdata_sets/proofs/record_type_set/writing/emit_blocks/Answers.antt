@@ -1,31 +1,23 @@
-use Rattle.std.proofs.Common.{◌≡◌, ◌-◌, length, take, drop, length-drop, arith}
-use Rattle.std.proofs.lemmas.List.{take_all}
+use Rattle.std.proofs.Common.{◌≡◌, length, take, length-take, arith}
 use Rattle.std.proofs.lemmas.Result.{err_from_is_err_and}
-use Rattle.dns_rdata_sets.proofs.SetWrites.{left_first, left_next, left_stopped, left_none, is_run, rises_take}
+use Rattle.dns_rdata_sets.proofs.Rising.{set_drop}
+use Rattle.dns_rdata_sets.proofs.SetWrites.{left_next, left_stopped, left_none}
 use Rattle.dns_rdata_sets.proofs.record_type_set.writing.emit_blocks.Goals as goal
 
-pub loop-rest-init : goal.loop-rest-init
-loop-rest-init c = left_first c.args.encoder.now c.requires
-
-pub emit_block-requires-clause-rises : goal.emit_block-requires-clause-rises
-emit_block-requires-clause-rises c = rises_take _ _ c.loop-rest.invariant.rises
-
-pub returns-in_err-emit_block : goal.returns-in_err-emit_block
-returns-in_err-emit_block c =
+pub returns-in_err-emit_both : goal.returns-in_err-emit_both
+returns-in_err-emit_both c =
     let p = err_from_is_err_and c.from_residual.result c.from_residual.ensures.1 in
-    let e = c.run_len-end.result in
-    let run = is_run e c.loop-rest.invariant c.run_len-end.ensures.some c.run_len-end.ensures.run c.run_len-end.ensures.next in
-    rw (p.1, p.2) (left_stopped _ c.loop-rest.invariant run c.loop-rest-test.true c.in_err-emit_block.ensures.block.some
-    c.in_err-emit_block.ensures.block.most c.in_err-emit_block.ensures.emits)
+    let w = c.first_window-window.result in
+    let size : length (take w.len w.octets) ≡ w.len = omega (arith, length-take w.len w.octets) in
+    rw (p.1, p.2) (left_stopped _ (w.number, take w.len w.octets) _ c.loop-rest.invariant c.first_window-window.ensures.next
+    (rw size c.in_err-emit_both.ensures.emits))
 
 pub loop-rest-preserved : goal.loop-rest-preserved
 loop-rest-preserved c =
-    let e = c.run_len-end.result in
-    let rest = c.loop-rest.rest.now in
-    let run = is_run e c.loop-rest.invariant c.run_len-end.ensures.some c.run_len-end.ensures.run c.run_len-end.ensures.next in
-    let whole : take (length rest - e) (drop e rest) ≡ drop e rest = take_all (length rest - e) (drop e rest) (omega (arith, length-drop e rest)) in
-    rw whole (left_next c.loop-rest.invariant run c.loop-rest-test.true c.in_ok-emit_block.ensures.block.some c.in_ok-emit_block.ensures.block.most
-    c.in_ok-emit_block.ensures.emits)
+    let w = c.first_window-window.result in
+    let size : length (take w.len w.octets) ≡ w.len = omega (arith, length-take w.len w.octets) in
+    rw c.split_at.ensures.back (left_next (w.number, take w.len w.octets) _ c.loop-rest.invariant c.first_window-window.ensures.next
+    (set_drop w.count _ c.loop-rest.invariant.set) (rw size c.in_ok-emit_both.ensures.emits))
 
 pub returns : goal.returns
 returns c = left_none c.requires (omega arith) c.loop-rest.invariant
