@@ -1,6 +1,7 @@
 -- Which options codes and octets give, and the values of the wire that they hold.
-use Rattle.std.proofs.Common.{◌≡◌, ◌≢◌, ◌⊎◌, inl, inr, ℕ, ◌+◌, ◌<◌, ◌==◌, Bool, true, false, cond, eqb-true, List, ◌∷◌, ◌++◌}
+use Rattle.std.proofs.Common.{◌≡◌, ◌≢◌, ◌⊎◌, inl, inr, ℕ, ◌+◌, ◌<◌, ◌==◌, false, cond, List, ◌∷◌, ◌++◌}
 use Rattle.std.proofs.Common.{length, drop, Result, Ok, Err, refl, sym, ap, ◌∙◌, arith, subst}
+use Rattle.std.proofs.lemmas.Bool.Decides.{nat_tests}
 use Rattle.std.specs.Int.{bytes_high_first}
 use Rattle.std.specs.Prelude.{IfErr}
 use Rattle.std.specs.Result.{IsErrAnd}
@@ -90,10 +91,7 @@ nsid_held s (edns.NSID t) h = record { held = ((λ e. omega (arith, e)), sym h.0
 nsid_held s (edns.Unknown n t) h = absurd h
 
 three_else : (n : ℕ) (x y : EdnsOption) → n ≢ 3 → cond (n == 3) x y ≡ y
-three_else n x y h = chosen (n == 3) refl where
-  chosen : (b : Bool) → (n == 3) ≡ b → cond b x y ≡ y
-  chosen true e = absurd (h (eqb-true n 3 e))
-  chosen false e = refl
+three_else n x y h = let no : (n == 3) ≡ false = grind (arith, nat_tests) in rw no refl
 
 other_held : (n m : ℕ) (s : List ℕ) (x : EdnsOption) → n ≢ 8 → n ≢ 3 → m ≡ n → x ≡ edns.Unknown m s → HeldAs n s x
 other_held n m s x not8 not3 same is =

@@ -121,6 +121,7 @@ fn least_difference(
 
 /// Whether they are of one variant and one number.
 #[inline]
+#[tactic(auto, using(crate::proofs::Values::code_decides))]
 pub(crate) fn is_code_alike(a: EdnsCode, b: EdnsCode) -> bool
     ensures { IsTrue result → a ≡ b }
 {
@@ -129,6 +130,7 @@ pub(crate) fn is_code_alike(a: EdnsCode, b: EdnsCode) -> bool
 
 /// Whether they are of one variant and hold the same.
 #[inline]
+#[tactic(auto, using(crate::proofs::Values::option_decides))]
 pub(crate) fn is_option_alike(a: &EdnsOption, b: &EdnsOption) -> bool
     ensures { IsTrue result → a.now ≡ b.now }
 {
