@@ -15,7 +15,7 @@ use Rattle.dns_rdata_options.specs.EdnsCode.{edns_code_number, named_edns_codes,
 use Rattle.dns_rdata_options.specs.ClientSubnet.{subnet_value, subnet_of, NoSubnet, ReadsSubnet, IsSubnetRefusal}
 use Rattle.dns_rdata_options.specs.EdnsOption.{option_value, IsOptionOf, IsOptionRefusal}
 use Rattle.dns_rdata_options.specs.OPT.{option_of, IsNextRefusal}
-use Rattle.dns_rdata_options.specs.OptionReads.{HasValue, NoValue, NoneLeft, TookPiece, TookOption, TookSome, TookPair}
+use Rattle.dns_rdata_options.specs.OptionReads.{HasValue, NoValue, NoneLeft, TookPiece, TookOption, TookSome, TookPair, RefusedHere}
 use Rattle.dns_names_wire.specs.State.{Reading}
 use Rattle.dns_names_wire.specs.Words.{StaysBehind, UnlessMemory}
 use Rattle.dns_names_wire.proofs.FieldReads.{unless_all}
@@ -159,7 +159,7 @@ piece_behind t = record { message = t.message; index = omega (arith, t.at.ends) 
 -- an option without a value
 pub refused_value : {d new : Reading} (start n : ℕ) (x : Numbered (List ℕ)) (e : DecodeError) → AreOctets d.message → TookPiece d (start + n) x new
     → IsOptionRefusal (edns_code_of x.0) x.1 e
-    → StaysBehind d new × UnlessMemory e (NoneLeft d.message n d.index (start + n)) × ((e ≡ decode.Memory) ⊎ IsNextRefusal start n d e new)
+    → RefusedHere e d start n new
 refused_value start n x e are t r = (
   piece_behind t,
   unless_all e (no_value t (no_value_of x.0 x.1 e (omega (arith, t.fits.1)) (body_octets are t) r)),
@@ -169,7 +169,7 @@ refused_value start n x e are t r = (
 -- or one for which memory ran out
 pub refused_option : {d new : Reading} (start n : ℕ) (x : Numbered (List ℕ)) (e : DecodeError) → AreOctets d.message → TookPiece d (start + n) x new
     → (e ≡ decode.Memory) ⊎ IsOptionRefusal (edns_code_of x.0) x.1 e
-    → StaysBehind d new × UnlessMemory e (NoneLeft d.message n d.index (start + n)) × ((e ≡ decode.Memory) ⊎ IsNextRefusal start n d e new)
+    → RefusedHere e d start n new
 refused_option {d} start n x e are t (inl m) =
     (piece_behind t, subst (λ (z : DecodeError). UnlessMemory z (NoneLeft d.message n d.index (start + n))) (sym m) tt, inl m)
 refused_option start n x e are t (inr r) = refused_value start n x e are t r
