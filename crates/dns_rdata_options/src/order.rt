@@ -74,6 +74,7 @@ fn order_by_places(
 
 // Orders two lists by the options at a place where they differ, if no other option has the code of these, which is the
 // least of those that differ. Else `None`.
+#[tactic(auto, using(crate::proofs::ChoiceSteps::pair_at))]
 fn order_by(
     options: &[(EdnsCode, EdnsOption)],
     others: &[(EdnsCode, EdnsOption)],
