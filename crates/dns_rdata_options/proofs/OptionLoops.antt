@@ -9,7 +9,7 @@ use Rattle.dns_fields.specs.Octets.{At}
 use Rattle.dns_fields.specs.Pieces.{Numbered, piece, pieces, IsPiece, ArePieces, AllHeld, OptionValue, OptionHeld, IsCut}
 use Rattle.dns_fields.specs.Fields.{Options, Field, Values, WholeOptions, CutOptions}
 use Rattle.dns_names_wire.specs.State.{Reading}
-use Rattle.dns_names_wire.specs.Words.{Took, Refused, StaysBehind, UnlessMemory}
+use Rattle.dns_names_wire.specs.Words.{Took, Refused}
 use Rattle.dns_names_wire.proofs.FieldReads.{unless_map}
 use Rattle.dns_names_wire.proofs.Strings.{at_then}
 use Rattle.dns_rdata_options.specs.OPT.{Pair, pair_value, pair_of, opt_shape, IsReadOpt, IsNextRefusal, IsOptRefusal}

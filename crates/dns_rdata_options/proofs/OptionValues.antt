@@ -14,7 +14,7 @@ use Rattle.dns_rdata_base.proofs.NumberLaws.{number-numbered_of}
 use Rattle.dns_rdata_options.specs.EdnsCode.{edns_code_number, named_edns_codes, other_edns_code, edns_code_of}
 use Rattle.dns_rdata_options.specs.ClientSubnet.{subnet_value, subnet_of, NoSubnet, ReadsSubnet, IsSubnetRefusal}
 use Rattle.dns_rdata_options.specs.EdnsOption.{option_value, IsOptionOf, IsOptionRefusal}
-use Rattle.dns_rdata_options.specs.OPT.{option_of, IsNextRefusal}
+use Rattle.dns_rdata_options.specs.OPT.{option_of}
 use Rattle.dns_rdata_options.specs.OptionReads.{HasValue, NoValue, NoneLeft, TookPiece, TookOption, TookSome, TookPair, RefusedHere}
 use Rattle.dns_names_wire.specs.State.{Reading}
 use Rattle.dns_names_wire.specs.Words.{StaysBehind, UnlessMemory}
