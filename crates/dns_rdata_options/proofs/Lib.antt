@@ -2,9 +2,7 @@ pub mod ChoiceSteps
 pub mod Codes
 pub mod Differences
 pub mod HeadSteps
-pub mod HeadedSteps
 pub mod InOrder
-pub mod Least
 pub mod Masks
 pub mod NetTexts
 pub mod OctetWrites

@@ -1,6 +1,6 @@
 -- Where the prefix of a net's text begins.
 use Rattle.std.proofs.Common.{◌≡◌, ◌≢◌, ℕ, ◌<◌, ◌≤◌, ◌+◌, List, [], ◌∷◌, ◌++◌, length, take, drop, get_or, refl, arith, ap, sym, ◌∙◌, subst}
-use Rattle.std.proofs.Common.{append_assoc, inl, inr, zero, suc, ◌^◌, true}
+use Rattle.std.proofs.Common.{append_assoc, inl, inr, ◌^◌, true}
 use Rattle.std.specs.Prelude.{codes, decimal, MatchOption, IfSome, IfNone}
 use Rattle.std.specs.Option.{ok_or}
 use Rattle.std.specs.Net.Addr.{ipv4_octets, ipv6_segments, segments_of}
@@ -14,6 +14,8 @@ use Rattle.dns_rdata_options.specs.IpNet.{address_bits}
 use Rattle.std.specs.declared.option.Option.{Option}
 use Rattle.std.specs.declared.option.Option.TheVariants.{Some, None}
 use Rattle.std.proofs.lemmas.List.{take-append-drop}
+use Rattle.std.specs.List.{AllByRecursion}
+use Rattle.std.proofs.lemmas.List.Elements.{recursion_from_All, All-from_get_or}
 use Rattle.std.proofs.lemmas.Str.Parse.{digit_at}
 use Rattle.std.proofs.lemmas.Str.Pattern.{NoCharPasses-char, drop_at_char}
 use Rattle.std.specs.Str.Pattern.{RFindsChar}
@@ -22,17 +24,17 @@ use Rattle.dns_rdata_options.specs.NetText.{IsNetText, IsPrefixText}
 use denote.Ref.{Bor}
 
 -- the octet c does not stand in s
-pub record Lacks (c : ℕ) (s : List ℕ) : Type 0 where
-  pub none : (i : ℕ) → i < length s → get_or s i 0 ≢ c
+abbrev pub Lacks : ℕ → List ℕ → Type 0
+Lacks c s = AllByRecursion (λ x. x ≢ c) s
 
-at_end : (us vs : List ℕ) (c : ℕ) → (length us < length (us ++ (c ∷ vs))) × (get_or (us ++ (c ∷ vs)) (length us) 0 ≡ c)
-at_end [] vs c = (omega arith, refl)
-at_end (u ∷ us) vs c = let later = at_end us vs c in (omega arith, later.1)
+lacks_each : (c : ℕ) (s : List ℕ) → ((i : ℕ) → i < length s → get_or s i 0 ≢ c) → Lacks c s
+lacks_each c s h = recursion_from_All (λ x. x ≢ c) s (All-from_get_or (λ x. x ≢ c) s 0 h)
 
 not_behind : (c : ℕ) (ys us vs : List ℕ) → Lacks c ys → ys ≡ us ++ (c ∷ vs) → ⊥
-not_behind c ys us vs n e =
-    let at = at_end us vs c in
-    n.none (length us) (rw e at.0) (rw e at.1)
+not_behind c ys us vs n e = found us (subst (Lacks c) e n) where
+  found : (us : List ℕ) → Lacks c (us ++ (c ∷ vs)) → ⊥
+  found [] h = h.0 refl
+  found (u ∷ us) h = found us h.1
 
 -- a text has one last c
 last_one : (c : ℕ) (xs ys us vs : List ℕ) → xs ++ (c ∷ ys) ≡ us ++ (c ∷ vs) → Lacks c ys → Lacks c vs → (xs ≡ us) × (ys ≡ vs)
@@ -54,15 +56,15 @@ pub rsplit_parts : (c : ℕ) (text : List ℕ) (r : Option (Bor (List ℕ) × Bo
     → MatchOption r (RFindsChar c text None) (λ x. (i : ℕ) × (j : ℕ) × RFindsChar c text (Some (i, j)) × (x.0.now ≡ take i text) × (x.1.now ≡ drop j text)
     × (i ≤ j) × (length x.0.now ≡ i) × (length x.1.now + j ≡ length text))
     → c < 128 → MatchOption r (Lacks c text) (λ x. SplitsLast c text x.0.now x.1.now)
-rsplit_parts c text None h low = record { none = λ i l. NoCharPasses-char c text i h low l }
+rsplit_parts c text None h low = lacks_each c text (λ i l. NoCharPasses-char c text i h low l)
 rsplit_parts c text (Some x) (i, j, finds, front, back, _, _, _) low =
     let at : drop i text ≡ c ∷ drop j text = drop_at_char c text i j finds.1 low in record {
       cut = sym (take-append-drop i text) ∙ rw (at, front, back) refl;
-      last = record { none = λ k l. rw back (NoCharPasses-char c (drop j text) k finds.0 low (rw back at l)) };
+      last = lacks_each c x.1.now (λ k l. rw back (NoCharPasses-char c (drop j text) k finds.0 low (rw back at l)));
     }
 
 digits_lack : (digits : List ℕ) (n : ℕ) → IsPrefixText digits n → Lacks 47 digits
-digits_lack digits n p = record { none = λ i l e. let digit = digit_at digits i p.numeral.1 l in omega arith }
+digits_lack digits n p = lacks_each 47 digits (λ i l e. let digit = digit_at digits i p.numeral.1 l in omega arith)
 
 -- no `/`, no net
 pub no_slash : (text : List ℕ) (net : IpAddr × ℕ) → Lacks 47 text → IsNetText text net → ⊥
@@ -97,34 +99,18 @@ prefix_value a b = a.value ∙ sym b.value
 
 -- ---- no IPv4 text is an IPv6 text
 
-lacks_each : (c x : ℕ) (xs : List ℕ) → x ≢ c → Lacks c xs → (i : ℕ) → i < length (x ∷ xs) → get_or (x ∷ xs) i 0 ≢ c
-lacks_each c x xs m n zero l = m
-lacks_each c x xs m n (suc i) l = n.none i (omega arith)
-
-lacks_more : (c x : ℕ) (xs : List ℕ) → x ≢ c → Lacks c xs → Lacks c (x ∷ xs)
-lacks_more c x xs m n = record { none = lacks_each c x xs m n }
-
-lacks_nil : (c : ℕ) → Lacks c []
-lacks_nil c = record { none = λ i l. absurd (omega arith) }
-
 lacks_append : (c : ℕ) (xs ys : List ℕ) → Lacks c xs → Lacks c ys → Lacks c (xs ++ ys)
 lacks_append c [] ys m n = n
-lacks_append c (x ∷ xs) ys m n =
-    let front : Lacks c xs = record { none = λ i l. m.none (suc i) (omega arith) } in
-    let first : x ≢ c = m.none 0 (omega arith) in
-    lacks_more c x (xs ++ ys) first (lacks_append c xs ys front n)
-
-dot_lacks : (c d : ℕ) → d ≢ c → Lacks c (d ∷ [])
-dot_lacks c d n = lacks_more c d [] n (lacks_nil c)
+lacks_append c (x ∷ xs) ys m n = (m.0, lacks_append c xs ys m.1 n)
 
 decimal_lacks : (n : ℕ) → n < 256 → Lacks 58 (decimal n)
 decimal_lacks n small =
     let written = decimal_is_IsNumeral n (omega arith) in
-    record { none = λ i l e. let digit = digit_at (decimal n) i written.0.1 l in omega arith }
+    lacks_each 58 (decimal n) (λ i l e. let digit = digit_at (decimal n) i written.0.1 l in omega arith)
 
 dotted_lacks : (text octets : List ℕ) → IsDotted text octets → Lacks 58 text
 dotted_lacks text octets d =
-    let dot : Lacks 58 (46 ∷ []) = dot_lacks 58 46 (omega arith) in
+    let dot : Lacks 58 (46 ∷ []) = ((λ e. absurd (omega (arith, e))), tt) in
     let one = lacks_append 58 _ _ (decimal_lacks d.a d.fit.0) dot in
     let two = lacks_append 58 _ _ (lacks_append 58 _ _ one (decimal_lacks d.b d.fit.1)) dot in
     let three = lacks_append 58 _ _ (lacks_append 58 _ _ two (decimal_lacks d.c d.fit.2)) dot in

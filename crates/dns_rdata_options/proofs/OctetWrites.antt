@@ -8,15 +8,6 @@ use Rattle.dns_names_wire.specs.Words.{AppendedField, StoppedField, NoRoomField,
 use Rattle.dns_names_wire.proofs.FieldWrites.{extends_then, because_map}
 use Rattle.dns_rdata_options.specs.Words.{StoppedOctets}
 
-pub stopped_one : {e : ProtoError} {old new : Writing} {asked : Type 0} (s t whole : List ℕ) → StoppedField e old Rest s new → s ++ t ≡ whole
-    → StoppedOctets e asked whole old new
-unfolding field_octets
-stopped_one {e} {old} s t whole f is = record {
-  extends = f.extends;
-  why = because_map e _ _ _ _ (λ (r : NoRoomField old Rest s). omega (arith, r.full, ap length is, length-append s t))
-      (λ (u : UnfitField Rest s) _. let e = u.unfit in cc e) f.why;
-}
-
 pub stopped_two : {e : ProtoError} {old mid new : Writing} {asked : Type 0} (s t whole : List ℕ) → AppendedField old Rest s mid
     → StoppedField e mid Rest t new → s ++ t ≡ whole → StoppedOctets e asked whole old new
 unfolding field_octets

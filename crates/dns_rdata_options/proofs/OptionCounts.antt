@@ -1,8 +1,8 @@
 -- How many options there are, by their lengths.
-use Rattle.std.proofs.Common.{◌≡◌, ℕ, zero, suc, ◌+◌, ◌≤◌, ◌<◌, ◌^◌, List, [], ◌∷◌, ◌++◌, length, drop}
+use Rattle.std.proofs.Common.{◌≡◌, ℕ, suc, ◌+◌, ◌≤◌, ◌<◌, ◌^◌, List, [], ◌∷◌, ◌++◌, length, drop}
 use Rattle.std.proofs.Common.{get_or, refl, sym, ap, ◌∙◌, arith, subst}
 use Rattle.std.specs.Int.{bytes_high_first, from_be_bytes, w16}
-use Rattle.std.proofs.lemmas.List.{length-append, length-drop}
+use Rattle.std.proofs.lemmas.List.{length-append, length-drop, get_or-drop}
 use Rattle.dns_fields.specs.Octets.{At}
 use Rattle.dns_fields.specs.Pieces.{Numbered, piece, pieces, IsPiece, ArePieces}
 use Rattle.dns_fields.proofs.Numbers.{length-bytes}
@@ -31,11 +31,6 @@ number_there : (d : List ℕ) (l f : ℕ) (r : List ℕ) → l < 256 ^ 2 → f <
     → f ≡ from_be_bytes w16 (get_or d 0 0 ∷ get_or d 1 0 ∷ []) → l ≡ f
 number_there d l f r small most n b e is = (number_first l f r (drop 2 d) small most (sym e ∙ family_first d f n b is)).0
 
-get_or-drop : (n : ℕ) (m : List ℕ) (i : ℕ) → get_or (drop n m) i 0 ≡ get_or m (n + i) 0
-get_or-drop zero m i = ap (λ (k : ℕ). get_or m k 0) (let e : i ≡ 0 + i = omega arith in e)
-get_or-drop (suc n) [] i = ap (λ (k : ℕ). get_or {A = ℕ} [] k 0) (let e : i ≡ i = refl in e)
-get_or-drop (suc n) (x ∷ m) i = get_or-drop n m i ∙ ap (λ (k : ℕ). get_or (x ∷ m) k 0) (let e : suc (n + i) ≡ suc n + i = omega arith in e)
-
 -- one option more
 pub counts_more : {m : List ℕ} {end count place : ℕ} (f : ℕ) → place < end → place + 4 ≤ length m → f < 65536 → ((i : ℕ) → get_or m i 0 < 256)
     → f ≡ from_be_bytes w16 (get_or m (place + 2) 0 ∷ get_or m (place + 3) 0 ∷ []) → CountsOn m end count place → CountsOn m end (count + 1) (place + (4 + f))
@@ -50,10 +45,10 @@ counts_more {m} {end} {count} {place} f lt enough small b is h = record {
       at_front (bytes_high_first 2 (length y.0.1)) y.0.1
       (subst (λ (k : ℕ). At m (place + k) (bytes_high_first 2 (length y.0.1) ++ y.0.1) (place + length (piece y.0))) (length-bytes 2 y.0.0) tail) in
       let octets : d ≡ bytes_high_first 2 (length y.0.1) ++ drop (length (bytes_high_first 2 (length y.0.1))) d = sym (prefix size) in
-      let eights : Eights d = λ i. let e = get_or-drop (place + 2) m i in let k = b (place + 2 + i) in omega (arith, e, k) in
-      let zero' : get_or d 0 0 ≡ get_or m (place + 2) 0 = get_or-drop (place + 2) m 0
+      let eights : Eights d = λ i. let e = get_or-drop (place + 2) m i 0 in let k = b (place + 2 + i) in omega (arith, e, k) in
+      let zero' : get_or d 0 0 ≡ get_or m (place + 2) 0 = get_or-drop (place + 2) m 0 0
       ∙ ap (λ (k : ℕ). get_or m k 0) (let e : place + 2 + 0 ≡ place + 2 = omega arith in e) in
-      let one : get_or d 1 0 ≡ get_or m (place + 3) 0 = get_or-drop (place + 2) m 1
+      let one : get_or d 1 0 ≡ get_or m (place + 3) 0 = get_or-drop (place + 2) m 1 0
       ∙ ap (λ (k : ℕ). get_or m k 0) (let e : place + 2 + 1 ≡ place + 3 = omega arith in e) in
       let same : length y.0.1 ≡ f = number_there d (length y.0.1) f _ y.4.1 small (omega (arith, length-drop (place + 2) m)) eights octets
       (is ∙ ap (λ (x : ℕ). from_be_bytes w16 (x ∷ get_or m (place + 3) 0 ∷ [])) (sym zero')

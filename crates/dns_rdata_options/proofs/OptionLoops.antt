@@ -9,11 +9,11 @@ use Rattle.dns_fields.specs.Octets.{At}
 use Rattle.dns_fields.specs.Pieces.{Numbered, piece, pieces, IsPiece, ArePieces, AllHeld, OptionValue, OptionHeld, IsCut}
 use Rattle.dns_fields.specs.Fields.{Options, Field, Values, WholeOptions, CutOptions}
 use Rattle.dns_names_wire.specs.State.{Reading}
-use Rattle.dns_names_wire.specs.Words.{Took, Refused, StaysBehind, UnlessMemory}
+use Rattle.dns_names_wire.specs.Words.{Took, Refused}
 use Rattle.dns_names_wire.proofs.FieldReads.{unless_map}
 use Rattle.dns_names_wire.proofs.Strings.{at_then}
 use Rattle.dns_rdata_options.specs.OPT.{Pair, pair_value, pair_of, opt_shape, IsReadOpt, IsNextRefusal, IsOptRefusal}
-use Rattle.dns_rdata_options.specs.OptionReads.{Left, NoneLeft, TookOption, TookCut}
+use Rattle.dns_rdata_options.specs.OptionReads.{Left, NoneLeft, TookOption, TookCut, RefusedHere}
 use Rattle.dns_rdata_options.proofs.OptionLists.{first_left}
 
 abbrev pub AnyOptions : Values opt_shape → Type 0
@@ -76,10 +76,6 @@ field_left {m} {p} {q} {v} f = of f.is where
     ends = inl refl;
   }
   of (inr c) = record { read = c.1.read; values = c.1.dropped; stub = c.1.stub; at = c.1.at; fit = c.1.fit; held = c.1.held; ends = inr c.1.cut }
-
--- what a refused option says of the record
-abbrev pub RefusedHere : DecodeError → Reading → ℕ → ℕ → Reading → Type 0
-RefusedHere e d start n b = StaysBehind d b × UnlessMemory e (NoneLeft d.message n d.index (start + n)) × ((e ≡ decode.Memory) ⊎ IsNextRefusal start n d e b)
 
 pub options_none : {e : DecodeError} {old d b : Reading} {done : List (Numbered OptionValue)} (start n : ℕ) → start ≡ old.index
     → ReadsOptions old n (start + n) done d → RefusedHere e d start n b → Refused e old opt_shape (λ vs q. (q ≡ old.index + n) × AnyOptions vs) b

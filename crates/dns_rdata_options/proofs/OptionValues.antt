@@ -1,6 +1,7 @@
 -- Which options codes and octets give, and the values of the wire that they hold.
-use Rattle.std.proofs.Common.{◌≡◌, ◌≢◌, ◌⊎◌, inl, inr, ℕ, ◌+◌, ◌<◌, ◌==◌, Bool, true, false, cond, eqb-true, List, ◌∷◌, ◌++◌}
+use Rattle.std.proofs.Common.{◌≡◌, ◌≢◌, ◌⊎◌, inl, inr, ℕ, ◌+◌, ◌<◌, ◌==◌, false, cond, List, ◌∷◌, ◌++◌}
 use Rattle.std.proofs.Common.{length, drop, Result, Ok, Err, refl, sym, ap, ◌∙◌, arith, subst}
+use Rattle.std.proofs.lemmas.Bool.Decides.{nat_tests}
 use Rattle.std.specs.Int.{bytes_high_first}
 use Rattle.std.specs.Prelude.{IfErr}
 use Rattle.std.specs.Result.{IsErrAnd}
@@ -13,8 +14,8 @@ use Rattle.dns_rdata_base.proofs.NumberLaws.{number-numbered_of}
 use Rattle.dns_rdata_options.specs.EdnsCode.{edns_code_number, named_edns_codes, other_edns_code, edns_code_of}
 use Rattle.dns_rdata_options.specs.ClientSubnet.{subnet_value, subnet_of, NoSubnet, ReadsSubnet, IsSubnetRefusal}
 use Rattle.dns_rdata_options.specs.EdnsOption.{option_value, IsOptionOf, IsOptionRefusal}
-use Rattle.dns_rdata_options.specs.OPT.{option_of, IsNextRefusal}
-use Rattle.dns_rdata_options.specs.OptionReads.{HasValue, NoValue, NoneLeft, TookPiece, TookOption, TookSome, TookPair}
+use Rattle.dns_rdata_options.specs.OPT.{option_of}
+use Rattle.dns_rdata_options.specs.OptionReads.{HasValue, NoValue, NoneLeft, TookPiece, TookOption, TookSome, TookPair, RefusedHere}
 use Rattle.dns_names_wire.specs.State.{Reading}
 use Rattle.dns_names_wire.specs.Words.{StaysBehind, UnlessMemory}
 use Rattle.dns_names_wire.proofs.FieldReads.{unless_all}
@@ -90,10 +91,7 @@ nsid_held s (edns.NSID t) h = record { held = ((λ e. omega (arith, e)), sym h.0
 nsid_held s (edns.Unknown n t) h = absurd h
 
 three_else : (n : ℕ) (x y : EdnsOption) → n ≢ 3 → cond (n == 3) x y ≡ y
-three_else n x y h = chosen (n == 3) refl where
-  chosen : (b : Bool) → (n == 3) ≡ b → cond b x y ≡ y
-  chosen true e = absurd (h (eqb-true n 3 e))
-  chosen false e = refl
+three_else n x y h = let no : (n == 3) ≡ false = grind (arith, nat_tests) in rw no refl
 
 other_held : (n m : ℕ) (s : List ℕ) (x : EdnsOption) → n ≢ 8 → n ≢ 3 → m ≡ n → x ≡ edns.Unknown m s → HeldAs n s x
 other_held n m s x not8 not3 same is =
@@ -161,7 +159,7 @@ piece_behind t = record { message = t.message; index = omega (arith, t.at.ends) 
 -- an option without a value
 pub refused_value : {d new : Reading} (start n : ℕ) (x : Numbered (List ℕ)) (e : DecodeError) → AreOctets d.message → TookPiece d (start + n) x new
     → IsOptionRefusal (edns_code_of x.0) x.1 e
-    → StaysBehind d new × UnlessMemory e (NoneLeft d.message n d.index (start + n)) × ((e ≡ decode.Memory) ⊎ IsNextRefusal start n d e new)
+    → RefusedHere e d start n new
 refused_value start n x e are t r = (
   piece_behind t,
   unless_all e (no_value t (no_value_of x.0 x.1 e (omega (arith, t.fits.1)) (body_octets are t) r)),
@@ -171,7 +169,7 @@ refused_value start n x e are t r = (
 -- or one for which memory ran out
 pub refused_option : {d new : Reading} (start n : ℕ) (x : Numbered (List ℕ)) (e : DecodeError) → AreOctets d.message → TookPiece d (start + n) x new
     → (e ≡ decode.Memory) ⊎ IsOptionRefusal (edns_code_of x.0) x.1 e
-    → StaysBehind d new × UnlessMemory e (NoneLeft d.message n d.index (start + n)) × ((e ≡ decode.Memory) ⊎ IsNextRefusal start n d e new)
+    → RefusedHere e d start n new
 refused_option {d} start n x e are t (inl m) =
     (piece_behind t, subst (λ (z : DecodeError). UnlessMemory z (NoneLeft d.message n d.index (start + n))) (sym m) tt, inl m)
 refused_option start n x e are t (inr r) = refused_value start n x e are t r

@@ -3,7 +3,9 @@ use Rattle.std.proofs.Common.{◌≡◌, ℕ, ◌+◌, ◌<◌, ◌≤◌, ◌/�
 use Rattle.std.proofs.Common.{◌++◌, length, map, take, drop, get_or, refl, sym, ap, ◌∙◌, arith, append_assoc, subst}
 use Rattle.std.specs.List.{AllByRecursion}
 use Rattle.std.proofs.lemmas.Bool.Decides.{nat_tests}
-use Rattle.std.proofs.lemmas.List.{append-nil, length-append, drop_more, take_more, take-append-drop}
+use Rattle.std.specs.Cmp.{first_so, second_so}
+use Rattle.std.proofs.lemmas.Grind.{flat_map-append}
+use Rattle.std.proofs.lemmas.List.{map-append, append-nil, length-append, drop_more, take_more, take-append-drop}
 use Rattle.dns_types.specs.declared.error.ProtoError.{ProtoError}
 use Rattle.dns_fields.specs.Pieces.{Numbered, piece, pieces, as_piece, OptionValue, Subnet, Plain, option_octets, OptionFits}
 use Rattle.dns_fields.specs.Pieces.{IsEmittableOption, option_emittable, options_emittable}
@@ -18,9 +20,7 @@ use Rattle.dns_rdata_options.specs.OPT.{Pair, pair_value}
 
 joined : (xs : List (Numbered OptionValue)) (x : Numbered OptionValue) (ys : List (Numbered OptionValue))
     → pieces (option_pieces (xs ++ x ∷ ys)) ≡ pieces (option_pieces xs) ++ (piece (as_piece option_octets x) ++ pieces (option_pieces ys))
-joined [] x ys = refl
-joined (y ∷ xs) x ys = ap (λ (o : List ℕ). piece (as_piece option_octets y) ++ o) (joined xs x ys)
-    ∙ sym (append_assoc (piece (as_piece option_octets y)) (pieces (option_pieces xs)) (piece (as_piece option_octets x) ++ pieces (option_pieces ys)))
+joined xs x ys = ap pieces (map-append (as_piece option_octets) xs (x ∷ ys)) ∙ flat_map-append piece (option_pieces xs) (option_pieces (x ∷ ys))
 
 fits_push : (xs : List (Numbered OptionValue)) (x : Numbered OptionValue) → AllByRecursion OptionFits xs → OptionFits x
     → AllByRecursion OptionFits (xs ++ x ∷ [])
@@ -31,15 +31,13 @@ fits_push (y ∷ xs) x a h = (a.0, fits_push xs x a.1 h)
 is_fit : Numbered OptionValue → Bool
 is_fit x = nat_le (length (option_octets x.1)) 65535 && option_emittable x.1
 
-true_parts : (a b : Bool) → (a && b) ≡ true → (a ≡ true) × (b ≡ true)
-true_parts true b h = (refl, h)
-true_parts false b h = cc h
-
 emittable_option : (v : OptionValue) → option_emittable v ≡ true → IsEmittableOption v
 emittable_option (Plain s) h = tt
 emittable_option (Subnet family source scope address) h =
-    let t = true_parts (length address == (source + 7) / 8) _ h in
-    record { long = eqb-true (length address) ((source + 7) / 8) t.0; most = most family (length address) t.1 }
+    record {
+      long = eqb-true (length address) ((source + 7) / 8) (first_so (length address == (source + 7) / 8) _ h);
+      most = most family (length address) (second_so (length address == (source + 7) / 8) _ h);
+    }
   where
     most : (f n : ℕ) → ((f == 1 && nat_le n 4) || (f == 2 && nat_le n 16)) ≡ true → ((f ≡ 1) × (n ≤ 4)) ⊎ ((f ≡ 2) × (n ≤ 16))
     most f n h = grind (arith, nat_tests)
@@ -52,8 +50,8 @@ unfit x small none = by (nat_le (length (option_octets x.1)) 65535 && option_emi
 
   by : (b : Bool) → (nat_le (length (option_octets x.1)) 65535 && option_emittable x.1) ≡ b → b ≡ false
   by false e = refl
-  by true e = let t = true_parts (nat_le (length (option_octets x.1)) 65535) (option_emittable x.1) e in
-      absurd (none ((omega (arith, small), omega (arith, short (length (option_octets x.1)) t.0)), emittable_option x.1 t.1))
+  by true e = let few = short (length (option_octets x.1)) (first_so (nat_le (length (option_octets x.1)) 65535) _ e) in
+      absurd (none ((omega (arith, small), omega (arith, few)), emittable_option x.1 (second_so (nat_le (length (option_octets x.1)) 65535) _ e)))
 
 unfit_inner : (xs : List (Numbered OptionValue)) (x : Numbered OptionValue) (ys : List (Numbered OptionValue)) → is_fit x ≡ false
     → options_emittable (xs ++ x ∷ ys) ≡ false
@@ -105,14 +103,10 @@ stopped_options {e} {w} {b} {n} xs x ys small f g =
           g.why;
     }
 
-map_append : (a b : List Pair) → map pair_value (a ++ b) ≡ map pair_value a ++ map pair_value b
-map_append [] b = refl
-map_append (y ∷ a) b = ap (λ (l : List (Numbered OptionValue)). pair_value y ∷ l) (map_append a b)
-
 -- a list about one of its places
 split : (xs : List Pair) (i : ℕ) (x : Pair) → x ≡ get_or xs i x → i < length xs
     → map pair_value (take i xs) ++ pair_value x ∷ map pair_value (drop (i + 1) xs) ≡ map pair_value xs
-split xs i x is lt = sym (map_append (take i xs) (x ∷ drop (i + 1) xs))
+split xs i x is lt = sym (map-append pair_value (take i xs) (x ∷ drop (i + 1) xs))
     ∙ ap (map pair_value) (ap (λ (y : Pair). take i xs ++ y ∷ drop (i + 1) xs) is ∙ ap (λ (t : List Pair). take i xs ++ t) (sym (drop_more xs i x lt))
     ∙ take-append-drop i xs)
 
@@ -123,7 +117,7 @@ pub more_pairs : {w b e : Writing} (xs : List Pair) (i : ℕ) (x : Pair) → x �
 more_pairs {w} {b} {e} xs i x is lt f g =
     let longer : take (i + 1) xs ≡ take i xs ++ x ∷ [] = take_more xs i x lt ∙ ap (λ (y : Pair). take i xs ++ y ∷ []) (sym is) in
     subst (λ (v : List (Numbered OptionValue)). AppendedField w Options v e)
-    (sym (ap (map pair_value) longer ∙ map_append (take i xs) (x ∷ [])))
+    (sym (ap (map pair_value) longer ∙ map-append pair_value (take i xs) (x ∷ [])))
     (more_options (map pair_value (take i xs)) (pair_value x) f g)
 
 pub stopped_pair : {e : ProtoError} {w b n : Writing} (xs : List Pair) (i : ℕ) (x : Pair) → x ≡ get_or xs i x → i < length xs → edns_code_number x.0 < 65536

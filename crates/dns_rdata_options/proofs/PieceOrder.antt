@@ -1,5 +1,5 @@
 -- The order of the octets of options, and of lists that they begin.
-use Rattle.std.proofs.Common.{◌≡◌, ◌≢◌, ℕ, ◌<◌, ◌≤◌, ◌^◌, nat_le, Bool, true, false, if◌then◌else◌, arith, List, [], ◌∷◌, ◌++◌, length, map, count_by, refl, sym, ap, ◌∙◌, subst, append_assoc}
+use Rattle.std.proofs.Common.{◌≡◌, ◌≢◌, ℕ, ◌<◌, ◌≤◌, ◌^◌, nat_le, true, arith, List, [], ◌∷◌, ◌++◌, length, map, count_by, refl, sym, ap, ◌∙◌, subst, append_assoc}
 use Rattle.std.proofs.lemmas.Bool.Decides.{nat_tests}
 use Rattle.std.proofs.lemmas.List.{append-nil}
 use Rattle.std.proofs.lemmas.Grind.{flat_map-append}
@@ -7,12 +7,13 @@ use Rattle.std.specs.Int.{bytes_high_first}
 use Rattle.std.specs.List.{flat_map, AllByRecursion}
 use Rattle.std.specs.Cmp.{ranks, first_so, second_so}
 use Rattle.std.specs.Cmp.Lexicographic.{slice_cmp}
-use Rattle.std.specs.Ordering.{MatchOrdering, is_eq, is_gt, eq_by_cmp, nat_cmp, ordering_then}
+use Rattle.std.specs.Ordering.{MatchOrdering, is_eq, eq_by_cmp, nat_cmp, ordering_then}
 use Rattle.std.specs.declared.cmp.Ordering.{Ordering}
 use Rattle.std.specs.declared.cmp.Ordering.TheVariants.{Less, Equal, Greater}
-use Rattle.dns_fields.specs.Fields.{Options, field_octets}
+use Rattle.dns_fields.specs.Fields.{Options, field_octets, option_pieces}
+use Rattle.dns_fields.proofs.Sorted.{sorted_all, map_sorted, flat_map_all}
 use Rattle.dns_fields.specs.Pieces.{piece, option_octets}
-use Rattle.dns_fields.specs.Sorting.{put, sorted}
+use Rattle.dns_fields.specs.Sorting.{sorted}
 use Rattle.dns_fields.proofs.Multisets.{count_sorted, sorted_risen, same_counts}
 use Rattle.dns_fields.proofs.Numbers.{number_cmp}
 use Rattle.dns_pieces.specs.Fronts.{canonical_cmp}
@@ -23,7 +24,7 @@ use Rattle.dns_rdata_options.specs.Facing.{code_number}
 use Rattle.dns_rdata_options.specs.OPT.{Pair, pair_value, opt_shape, opt_fields}
 use Rattle.dns_rdata_options.specs.Order.{pair_cmp, risen, opt_eq}
 use Rattle.dns_rdata_options.specs.OrderLaws.{pair_total, opt_ties}
-use Rattle.dns_rdata_options.specs.Steps.{octets_cmp, piece_cmp, own_piece, own_pieces, pair_emittable, pairs_emittable}
+use Rattle.dns_rdata_options.specs.Steps.{octets_cmp, piece_cmp, own_piece, pair_emittable, pairs_emittable}
 
 -- the codes come first, then the lengths, and then what the pieces hold
 by_parts : (c d : ℕ) (s t u v : List ℕ) → length s < 256 ^ 2 → length t < 256 ^ 2
@@ -87,14 +88,14 @@ pairs_decide p q u v e f apart = then_kept (octets_cmp (own_piece p) (own_piece 
 
 -- ---- lists
 
--- the octets of lists that begin with the same ones
-pub behind_same : (front xs ys : List (List ℕ))
-    → octets_cmp (flat_map (λ s. s) (front ++ xs)) (flat_map (λ s. s) (front ++ ys)) ≡ octets_cmp (flat_map (λ s. s) xs) (flat_map (λ s. s) ys)
-behind_same front xs ys = cmp_shared {n = length (flat_map (λ s. s) front)} record {
-  shared = flat_map (λ s. s) front;
+-- the octets of lists that begin with the same pairs
+pub behind_same : (front xs ys : List Pair)
+    → octets_cmp (flat_map own_piece (front ++ xs)) (flat_map own_piece (front ++ ys)) ≡ octets_cmp (flat_map own_piece xs) (flat_map own_piece ys)
+behind_same front xs ys = cmp_shared {n = length (flat_map own_piece front)} record {
+  shared = flat_map own_piece front;
   count = refl;
-  left = flat_map-append (λ s. s) front xs;
-  right = flat_map-append (λ s. s) front ys;
+  left = flat_map-append own_piece front xs;
+  right = flat_map-append own_piece front ys;
 }
 
 -- each pair can be emitted
@@ -105,45 +106,31 @@ each_emittable : (x : List Pair) → pairs_emittable x ≡ true → AllEmittable
 each_emittable [] h = tt
 each_emittable (p ∷ x) h = (first_so (pair_emittable p) (pairs_emittable x) h, each_emittable x (second_so (pair_emittable p) (pairs_emittable x) h))
 
-put_all : (p : Pair) (x : List Pair) → pair_emittable p ≡ true → AllEmittable x → AllEmittable (put piece_cmp p x)
-put_all p [] h k = (h, tt)
-put_all p (q ∷ x) h k = by (is_gt (piece_cmp p q)) (put_all p x h k.1) where
-  by : (b : Bool) → AllEmittable (put piece_cmp p x) → AllEmittable (if b then q ∷ put piece_cmp p x else p ∷ q ∷ x)
-  by true rest = (k.0, rest)
-  by false rest = (h, k)
-
-sorted_all : (x : List Pair) → AllEmittable x → AllEmittable (sorted piece_cmp x)
-sorted_all [] h = tt
-sorted_all (p ∷ x) h = put_all p (sorted piece_cmp x) h.0 (sorted_all x h.1)
-
--- pieces in order are those of the pairs in order
-put_pieces : (p : Pair) (x : List Pair) → own_pieces (put piece_cmp p x) ≡ put octets_cmp (own_piece p) (own_pieces x)
-put_pieces p [] = refl
-put_pieces p (q ∷ x) = by (is_gt (piece_cmp p q)) (put_pieces p x) where
-  by : (b : Bool) → own_pieces (put piece_cmp p x) ≡ put octets_cmp (own_piece p) (own_pieces x)
-      → own_pieces (if b then q ∷ put piece_cmp p x else p ∷ q ∷ x) ≡ (if b then own_piece q ∷ put octets_cmp (own_piece p) (own_pieces x) else own_piece p ∷ own_piece q ∷ own_pieces x)
-  by true rest = ap (λ (l : List (List ℕ)). own_piece q ∷ l) rest
-  by false rest = refl
-
-sorted_pieces : (x : List Pair) → own_pieces (sorted piece_cmp x) ≡ sorted octets_cmp (own_pieces x)
-sorted_pieces [] = refl
-sorted_pieces (p ∷ x) = put_pieces p (sorted piece_cmp x) ∙ ap (put octets_cmp (own_piece p)) (sorted_pieces x)
+-- the octets of the options in order
+pub in_order : (x : List Pair) → flat_map (λ s. s) (sorted octets_cmp (map piece (option_pieces (map pair_value x)))) ≡ flat_map own_piece (sorted piece_cmp x)
+in_order x = ap (λ (l : List (List ℕ)). flat_map (λ s. s) (sorted octets_cmp l)) (of_pairs x) ∙ ap (flat_map (λ s. s)) (sym (map_sorted octets_cmp own_piece x))
+    ∙ flat_map_all own_piece (sorted piece_cmp x)
+  where
+    of_pairs : (x : List Pair) → map piece (option_pieces (map pair_value x)) ≡ map own_piece x
+    of_pairs [] = refl
+    of_pairs (p ∷ x) = ap (λ (l : List (List ℕ)). own_piece p ∷ l) (of_pairs x)
 
 -- pairs in a row are ordered by the first ones whose octets differ
-rows_cmp : (x y : List Pair) → AllEmittable x → AllEmittable y → slice_cmp piece_cmp x y ≡ octets_cmp (flat_map (λ s. s) (own_pieces x)) (flat_map (λ s. s) (own_pieces y))
+rows_cmp : (x y : List Pair) → AllEmittable x → AllEmittable y → slice_cmp piece_cmp x y ≡ octets_cmp (flat_map own_piece x) (flat_map own_piece y)
 rows_cmp [] [] h k = refl
 rows_cmp [] (q ∷ y) h k = refl
 rows_cmp (p ∷ x) [] h k = refl
 rows_cmp (p ∷ x) (q ∷ y) h k =
-    ap (ordering_then (piece_cmp p q)) (rows_cmp x y h.1 k.1) ∙ sym (pairs_then p q (flat_map (λ s. s) (own_pieces x)) (flat_map (λ s. s) (own_pieces y)) h.0 k.0)
+    ap (ordering_then (piece_cmp p q)) (rows_cmp x y h.1 k.1) ∙ sym (pairs_then p q (flat_map own_piece x) (flat_map own_piece y) h.0 k.0)
 
 -- records of options are ordered by their pairs in rising order
 pub by_pieces : (xs ys : List Pair) → pairs_emittable xs ≡ true → pairs_emittable ys ≡ true
     → slice_cmp piece_cmp (sorted piece_cmp xs) (sorted piece_cmp ys) ≡ canonical_cmp opt_shape (opt_fields xs) (opt_fields ys)
 unfolding field_octets
 by_pieces xs ys h k =
-    rows_cmp (sorted piece_cmp xs) (sorted piece_cmp ys) (sorted_all xs (each_emittable xs h)) (sorted_all ys (each_emittable ys k))
-    ∙ (λ i. octets_cmp (flat_map (λ s. s) (sorted_pieces xs i)) (flat_map (λ s. s) (sorted_pieces ys i)))
+    rows_cmp (sorted piece_cmp xs) (sorted piece_cmp ys) (sorted_all piece_cmp (λ p. pair_emittable p ≡ true) xs (each_emittable xs h))
+    (sorted_all piece_cmp (λ p. pair_emittable p ≡ true) ys (each_emittable ys k))
+    ∙ (λ i. octets_cmp (sym (in_order xs) i) (sym (in_order ys) i))
     ∙ alone Options (map pair_value xs) (map pair_value ys)
 
 -- and are equal where these pairs are the same

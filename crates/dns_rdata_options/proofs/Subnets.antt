@@ -1,11 +1,12 @@
 -- The subnet that begins octets, and why none does.
 use Rattle.std.proofs.Common.{◌≡◌, ◌⊎◌, inl, inr, ℕ, zero, suc, ◌+◌, ◌-◌, ◌<◌, ◌≤◌, List, [], ◌∷◌, ◌++◌, length, take}
-use Rattle.std.proofs.Common.{drop, replicate, get_or, Bool, true, false, cond, ◌==◌, eqb-true, refl, sym, ap, ◌∙◌, arith, subst}
+use Rattle.std.proofs.Common.{drop, replicate, get_or, false, ◌==◌, refl, sym, ap, ◌∙◌, arith, subst}
 use Rattle.std.proofs.Common.{append_assoc}
 use Rattle.std.specs.Int.{w16, from_be_bytes, bytes_high_first}
 use Rattle.std.specs.Net.Addr.{segments_of, ipv6_segments}
-use Rattle.std.specs.declared.net.ip_addr.IpAddr.TheVariants.{V4, V6}
+use Rattle.std.specs.declared.net.ip_addr.IpAddr.TheVariants.{V6}
 use Rattle.std.specs.declared.net.ipv6_addr.Ipv6Addr.{Ipv6Addr}
+use Rattle.std.proofs.lemmas.Bool.Decides.{nat_tests}
 use Rattle.std.proofs.lemmas.Nat.{be_bytes_2}
 use Rattle.std.proofs.lemmas.List.{length-append, length-take-le, length-drop, length-replicate, take-append-drop, take_at}
 use Rattle.dns_types.specs.declared.error.DecodeError.TheVariants as decode
@@ -101,11 +102,7 @@ family_back f s (inr e) = rw e refl
 
 pub six : (family : ℕ) (octets : List ℕ) (ip : Ipv6Addr) → (family ≡ 1 → ⊥) → ipv6_segments ip ≡ segments_of (padded 16 octets)
     → V6 ip ≡ address_of family octets
-six family octets ip not e = chosen (family == 1) refl where
-  chosen : (b : Bool) → (family == 1) ≡ b → V6 ip ≡ cond b (V4 (record { octets = padded 4 octets }))
-      (V6 (record { segments = segments_of (padded 16 octets) }))
-  chosen true h = absurd (not (eqb-true family 1 h))
-  chosen false h = ap (λ (s : List ℕ). V6 (record { segments = s })) e
+six family octets ip not e = let no : (family == 1) ≡ false = grind (arith, nat_tests) in rw no (ap (λ (s : List ℕ). V6 (record { segments = s })) e)
 
 octets_back : (f : ℕ) (s : List ℕ) → IsFamily f → length s ≤ family_octets f → AreOctets (padded 16 s)
     → address_octets (address_of f s) ≡ padded (family_octets f) s

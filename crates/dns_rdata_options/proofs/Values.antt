@@ -1,8 +1,9 @@
 -- Records of options by their fields: one that was read is told by them, and fields that stand make one. `==` of records
 -- tells whether one is the other in another order; of two that were read, whether their fields are.
-use Rattle.std.proofs.Common.{◌≡◌, ◌↔◌, ◌⊎◌, inl, inr, ℕ, ◌-◌, ◌==◌, ◌&&◌, Bool, true, false, cond, List, [], ◌∷◌, ◌++◌}
+use Rattle.std.proofs.Common.{◌≡◌, ◌↔◌, ◌⊎◌, inl, inr, ℕ, ◌-◌, ◌==◌, Bool, true, false, cond, List, [], ◌∷◌, ◌++◌}
 use Rattle.std.proofs.Common.{map, count_by, refl, sym, ap, ◌∙◌, subst}
 use Rattle.std.specs.Bool.{Decides}
+use Rattle.std.proofs.lemmas.Bool.Decides.{same_from_decides, Decides-and, Decides-like}
 use Rattle.std.specs.Cmp.{unsigned_Decides}
 use Rattle.std.specs.Cmp.Lexicographic.{pointwise, pointwise_decides}
 use Rattle.std.specs.Ordering.{is_eq, eq_by_cmp}
@@ -78,13 +79,8 @@ opt_from-fields x h = h.given
 
 -- ---- `==` of pairs tells them apart
 
-both : (x y : Bool) {P Q : Type 0} → Decides x P → Decides y Q → Decides (x && y) (P × Q)
-both true true d e = (λ h. (d.0 refl, e.0 refl), λ k. refl)
-both true false d e = (λ h. cc h, λ k. e.1 k.1)
-both false y d e = (λ h. cc h, λ k. let t = d.1 k.0 in cc t)
-
 told : (x : Bool) {P Q : Type 0} → Decides x P → P ↔ Q → Decides x Q
-told x d s = (λ h. s.0 (d.0 h), λ q. d.1 (s.1 q))
+told x d s = Decides-like x s.0 s.1 d
 
 octets_decide : (a b : List ℕ) → Decides (pointwise ◌==◌ a b) (a ≡ b)
 octets_decide a b = pointwise_decides unsigned_Decides a b
@@ -110,7 +106,7 @@ code_again codes.Chain = refl
 code_again (codes.Unknown n) = refl
 
 pub code_decides : (a b : EdnsCode) → Decides (code_eq a b) (a ≡ b)
-code_decides a b = told (code_eq a b) (both _ _ (unsigned_Decides (edns_code_number a) (edns_code_number b))
+code_decides a b = told (code_eq a b) (Decides-and _ _ (unsigned_Decides (edns_code_number a) (edns_code_number b))
     (unsigned_Decides (edns_code_variant a) (edns_code_variant b)))
     (λ h. sym (code_again a) ∙ (λ i. code_back (h.0 i) (h.1 i)) ∙ code_again b, λ e. (ap edns_code_number e, ap edns_code_variant e))
 
@@ -122,8 +118,8 @@ address_decides (V6 a) (V6 b) = told _ (octets_decide a.segments b.segments) (λ
 
 subnet_decides : (a b : ClientSubnet) → Decides (equal_subnets.ghosts.eq a b) (a ≡ b)
 subnet_decides a b =
-    told _ (both _ _ (address_decides a.address b.address)
-    (both _ _ (unsigned_Decides a.source_prefix b.source_prefix) (unsigned_Decides a.scope_prefix b.scope_prefix))) (
+    told _ (Decides-and _ _ (address_decides a.address b.address)
+    (Decides-and _ _ (unsigned_Decides a.source_prefix b.source_prefix) (unsigned_Decides a.scope_prefix b.scope_prefix))) (
       λ h. (λ i. record { address = h.0 i; source_prefix = h.1.0 i; scope_prefix = h.1.1 i }),
       λ e.
           (ap (λ (x : ClientSubnet). x.address) e, (ap (λ (x : ClientSubnet). x.source_prefix) e, ap (λ (x : ClientSubnet). x.scope_prefix) e)),
@@ -138,7 +134,7 @@ pub option_decides : (a b : EdnsOption) → Decides (equal_options.ghosts.eq a b
 unfolding subnet_within
 option_decides (edns.Subnet a) (edns.Subnet b) = told _ (subnet_decides a b) (λ e. ap edns.Subnet e, λ e. ap (λ (o : EdnsOption). subnet_within o a) e)
 option_decides (edns.NSID a) (edns.NSID b) = told _ (octets_decide a b) (λ e. ap edns.NSID e, λ e. cc e)
-option_decides (edns.Unknown n a) (edns.Unknown m b) = told _ (both _ _ (unsigned_Decides n m) (octets_decide a b))
+option_decides (edns.Unknown n a) (edns.Unknown m b) = told _ (Decides-and _ _ (unsigned_Decides n m) (octets_decide a b))
     (λ e i. edns.Unknown (e.0 i) (e.1 i), λ e. (cc e, cc e))
 option_decides (edns.Subnet a) (edns.NSID b) = (λ h. cc h, λ e. cc e)
 option_decides (edns.Subnet a) (edns.Unknown m b) = (λ h. cc h, λ e. cc e)
@@ -148,7 +144,7 @@ option_decides (edns.Unknown n a) (edns.Subnet b) = (λ h. cc h, λ e. cc e)
 option_decides (edns.Unknown n a) (edns.NSID b) = (λ h. cc h, λ e. cc e)
 
 pub pair_decides : (a b : Pair) → Decides (pair_eq a b) (a ≡ b)
-pair_decides a b = told _ (both _ _ (code_decides a.0 b.0) (option_decides a.1 b.1))
+pair_decides a b = told _ (Decides-and _ _ (code_decides a.0 b.0) (option_decides a.1 b.1))
     (λ h i. (h.0 i, h.1 i), λ e. (ap (λ (p : Pair). p.0) e, ap (λ (p : Pair). p.1) e))
 
 pair_same : IsAntisymmetric pair_cmp
@@ -174,13 +170,9 @@ same_fields a b x y = (
       (subst (λ (l : List Pair). IsPermutation (map pair_of (map pair_value a)) l) (sym y.given) back),
 )
 
-decided_same : (a b : Bool) {P Q : Type 0} → Decides a P → Decides b Q → P ↔ Q → a ≡ b
-decided_same true true d e s = refl
-decided_same false false d e s = refl
-decided_same true false d e s = sym (e.1 (s.0 (d.0 refl)))
-decided_same false true d e s = d.1 (s.1 (e.0 refl))
-
 -- `==` of two records that were read is that of their fields
 pub opt_equal : (a b : List Pair) → IsReadOpt a → IsReadOpt b → opt_eq a b ≡ values_eq opt_shape (opt_fields a) (opt_fields b)
-opt_equal a b x y = decided_same (opt_eq a b) (values_eq opt_shape (opt_fields a) (opt_fields b)) (opt_permutes a b)
-    (values_decide opt_shape (opt_fields a) (opt_fields b) (tt, tt) (tt, tt)) (same_fields a b x y)
+opt_equal a b x y =
+    let same = same_fields a b x y in
+    same_from_decides (opt_eq a b) (values_eq opt_shape (opt_fields a) (opt_fields b)) (opt_permutes a b)
+    (told _ (values_decide opt_shape (opt_fields a) (opt_fields b) (tt, tt) (tt, tt)) (same.1, same.0))

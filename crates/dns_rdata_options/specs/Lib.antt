@@ -9,11 +9,9 @@ pub mod Lent
 pub mod Order
 pub mod OrderLaws
 pub mod Places
-pub mod PlaceLaws
 pub mod Walking
 pub mod OptionReads
 pub mod Words
 pub mod Steps
-pub mod PieceLaws
 pub mod Facing
 pub mod Heads

@@ -60,12 +60,15 @@ pub record HasValue (code : ℕ) (body : List ℕ) : Type 0 where
   pub value : OptionValue
   pub held : OptionHeld code body value
 
--- the next option, or a cut one; want of memory says nothing
+-- the next option is refused; want of memory says nothing of what is left
+abbrev pub RefusedHere : DecodeError → Reading → ℕ → ℕ → Reading → Type 0
+RefusedHere e d start n new = StaysBehind d new × UnlessMemory e (NoneLeft d.message n d.index (start + n)) × ((e ≡ decode.Memory) ⊎ IsNextRefusal start n d e new)
+
+-- the next option, or a cut one
 abbrev pub ReadsNext : {T : Type 0} → (T → Reading → Reading → Type 0) → ℕ → ℕ → Result (Option T) DecodeError → Reading → Reading → Type 0
 ReadsNext took start n (Ok (Some x)) old new = took x old new
 ReadsNext took start n (Ok None) old new = TookCut old n (start + n) new
-ReadsNext took start n (Err e) old new = StaysBehind old new × UnlessMemory e (NoneLeft old.message n old.index (start + n))
-    × ((e ≡ decode.Memory) ⊎ IsNextRefusal start n old e new)
+ReadsNext took start n (Err e) old new = RefusedHere e old start n new
 
 -- the pair is the one of the option that stands next
 pub record TookPair (end : ℕ) (x : Pair) (old new : Reading) : Type 0 where

@@ -11,6 +11,7 @@ ghost use Rattle.dns_rdata_options.specs.declared.opt.subnet.ClientSubnet.{Clien
 use crate::opt::{ClientSubnet, EdnsCode, EdnsOption, NSIDPayload};
 
 /// How `cmp` orders codes, subnets, payloads and options, whatever the places in their declarations.
+#[tactic(auto, using(crate::proofs::OptionOrders::subnet_is, crate::proofs::OptionOrders::option_is))]
 pub fn orders_hold()
     // codes by number, and of two with one number the one with a name before `Unknown`
     ensures code { (a b : Code) → ⟦<EdnsCode as Ord>⟧.cmp a b ≡ code_cmp a b }
@@ -23,6 +24,7 @@ pub fn orders_hold()
 {}
 
 /// What `OPT::get` and `OPT::get_all` find in lists that grow by `insert` and lose options by `remove`.
+#[tactic(auto, using(crate::proofs::OptionsOf::options_joined, crate::proofs::OptionsOf::options_removed, crate::proofs::OptionsOf::options_kept))]
 pub fn options_hold()
     // of two lists one behind the other, the options of the first, and then those of the second
     ensures joined { (code : Code) (x y : List Pair) → options_of code (x ++ y) ≡ options_of code x ++ options_of code y }

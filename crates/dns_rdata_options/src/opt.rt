@@ -224,7 +224,7 @@ impl PartialEq for OPT {
         if stands_alike(self, other) {
             return true;
         }
-        sorted_cmp(self.options.as_slice(), other.options.as_slice()).is_eq()
+        self.cmp(other).is_eq()
     }
 }
 
@@ -275,7 +275,7 @@ impl Ord for OPT {
 
     /// The order of the pairs in rising order, by the first that differs. Takes no memory.
     fn cmp(&self, other: &OPT) -> Ordering {
-        sorted_cmp(self.options.as_slice(), other.options.as_slice())
+        sorted_cmp(self.as_ref(), other.as_ref())
     }
 }
 

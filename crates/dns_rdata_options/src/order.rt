@@ -74,6 +74,7 @@ fn order_by_places(
 
 // Orders two lists by the options at a place where they differ, if no other option has the code of these, which is the
 // least of those that differ. Else `None`.
+#[tactic(auto, using(crate::proofs::ChoiceSteps::pair_at))]
 fn order_by(
     options: &[(EdnsCode, EdnsOption)],
     others: &[(EdnsCode, EdnsOption)],
@@ -121,6 +122,7 @@ fn least_difference(
 
 /// Whether they are of one variant and one number.
 #[inline]
+#[tactic(auto, using(crate::proofs::Values::code_decides))]
 pub(crate) fn is_code_alike(a: EdnsCode, b: EdnsCode) -> bool
     ensures { IsTrue result → a ≡ b }
 {
@@ -129,6 +131,7 @@ pub(crate) fn is_code_alike(a: EdnsCode, b: EdnsCode) -> bool
 
 /// Whether they are of one variant and hold the same.
 #[inline]
+#[tactic(auto, using(crate::proofs::Values::option_decides))]
 pub(crate) fn is_option_alike(a: &EdnsOption, b: &EdnsOption) -> bool
     ensures { IsTrue result → a.now ≡ b.now }
 {

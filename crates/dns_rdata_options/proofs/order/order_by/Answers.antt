@@ -4,13 +4,6 @@ use Rattle.dns_rdata_options.proofs.ChoiceSteps.{pair_at}
 use Rattle.dns_rdata_options.proofs.Differences.{least_decides}
 use Rattle.dns_rdata_options.proofs.order.order_by.Goals as goal
 
-pub compare_pairs-order-requires-clause-first : goal.compare_pairs-order-requires-clause-first
-compare_pairs-order-requires-clause-first c = pair_at c.args.options.now c.args.place c.index-options-place.result c.requires.first c.requires.least.0.before c.index-options-place.is
-
-pub compare_pairs-order-requires-clause-second : goal.compare_pairs-order-requires-clause-second
-compare_pairs-order-requires-clause-second c = let l = c.requires.least.0.before in
-    pair_at c.args.others.now c.args.place c.index-others-place.result c.requires.second (omega (arith, l)) c.index-others-place.is
-
 pub returns-clause-order : goal.returns-clause-order
 returns-clause-order c =
     let xs = c.args.options.now in

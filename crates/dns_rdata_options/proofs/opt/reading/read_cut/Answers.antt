@@ -1,6 +1,5 @@
-use Rattle.std.proofs.Common.{◌+◌, ◌<◌, ◌++◌, ◌∷◌, [], arith, subst, Ok}
+use Rattle.std.proofs.Common.{◌+◌, ◌<◌, ◌++◌, ◌∷◌, [], arith}
 use Rattle.std.proofs.lemmas.Result.{err_from_is_err_and}
-use Rattle.dns_rdata_options.specs.OptionReads.{ReadsNext, TookSome, TookCut}
 use Rattle.dns_rdata_options.proofs.OptionLoops.{options_more, options_none, options_refusal, options_cut}
 use Rattle.dns_rdata_options.proofs.opt.reading.read_cut.Goals as goal
 
@@ -17,14 +16,10 @@ returns-in_err-check_pair-clause-refused c =
 
 pub loop-decoder-preserved : goal.loop-decoder-preserved
 loop-decoder-preserved c =
-    let t : TookSome (c.index-start.result + c.args.length) c.loop-decoder.decoder c.check_pair.new.decoder =
-    subst (λ o. ReadsNext (λ _ old new. TookSome (c.index-start.result + c.args.length) old new) c.index-start.result c.args.length (Ok o)
-    c.loop-decoder.decoder c.check_pair.new.decoder) c.in-Some.is c.in_ok-check_pair.ensures in
+    let t = rw c.in-Some.is at c.in_ok-check_pair.ensures in
     (c.loop-decoder.invariant.0 ++ t.value ∷ [], options_more c.loop-decoder.invariant.1 t.took)
 
 pub returns-in-None-clause-fields : goal.returns-in-None-clause-fields
 returns-in-None-clause-fields c =
-    let t : TookCut c.loop-decoder.decoder c.args.length (c.index-start.result + c.args.length) c.check_pair.new.decoder =
-    subst (λ o. ReadsNext (λ _ old new. TookSome (c.index-start.result + c.args.length) old new) c.index-start.result c.args.length (Ok o)
-    c.loop-decoder.decoder c.check_pair.new.decoder) c.in-None.is c.in_ok-check_pair.ensures in
+    let t = rw c.in-None.is at c.in_ok-check_pair.ensures in
     rw (c.new-in-None.ensures, c.new.ensures.items) (options_cut c.index-start.result c.args.length c.index-start.ensures.place c.loop-decoder.invariant.1 t)

@@ -1,7 +1,6 @@
-use Rattle.std.proofs.Common.{◌+◌, ◌<◌, arith, subst, Ok}
+use Rattle.std.proofs.Common.{◌+◌, ◌<◌, arith}
 use Rattle.std.proofs.lemmas.Result.{err_from_is_err_and}
 use Rattle.std.proofs.lemmas.List.{map_push}
-use Rattle.dns_rdata_options.specs.OptionReads.{ReadsNext, TookPair, TookCut}
 use Rattle.dns_rdata_options.proofs.OptionLoops.{options_more, options_none, options_refusal, options_cut, read_more}
 use Rattle.dns_rdata_options.proofs.opt.reading.read_whole.Goals as goal
 
@@ -18,9 +17,7 @@ returns-in_err-pair-clause-refused c =
 
 pub loop-alloc-preserved : goal.loop-alloc-preserved
 loop-alloc-preserved c =
-    let t : TookPair (c.index-start.result + c.args.length) c.in-Some.pair c.loop-alloc.decoder c.read_pair.new.decoder =
-    subst (λ o. ReadsNext (TookPair (c.index-start.result + c.args.length)) c.index-start.result c.args.length (Ok o) c.loop-alloc.decoder
-    c.read_pair.new.decoder) c.in-Some.is c.in_ok-pair.ensures in
+    let t = rw c.in-Some.is at c.in_ok-pair.ensures in
     rw c.in_ok-push-in-Some.ensures.items (record {
       reads = rw map_push (options_more c.loop-alloc.invariant.reads t.took);
       read = read_more _ _ c.loop-alloc.invariant.read t.read;
@@ -28,7 +25,5 @@ loop-alloc-preserved c =
 
 pub returns-in-None-clause-fields : goal.returns-in-None-clause-fields
 returns-in-None-clause-fields c =
-    let t : TookCut c.loop-alloc.decoder c.args.length (c.index-start.result + c.args.length) c.read_pair.new.decoder =
-    subst (λ o. ReadsNext (TookPair (c.index-start.result + c.args.length)) c.index-start.result c.args.length (Ok o) c.loop-alloc.decoder
-    c.read_pair.new.decoder) c.in-None.is c.in_ok-pair.ensures in
+    let t = rw c.in-None.is at c.in_ok-pair.ensures in
     rw (c.new-in-None.ensures, c.new.ensures.items) (options_cut c.index-start.result c.args.length c.index-start.ensures.place c.loop-alloc.invariant.reads t)
