@@ -102,6 +102,13 @@ pub exit_emit : {kinds : List Kind} {vs : Values kinds} {old new : Writing} (r :
 exit_emit (Ok x) e h f = elim h [ ]
 exit_emit {kinds = kinds} {vs = vs} {old = old} {new = new} (Err y) e h f = subst (λ (z : ProtoError). Stopped z old kinds vs new) (sym h) f
 
+-- ---- fields behind a field
+
+pub emits_then : {w b : Writing} {k : Kind} {v : Value k} (kinds : List Kind) (vs : Values kinds) (r : Result (Unit {0}) ProtoError) (e : Writing)
+    → AppendedField w k v b → Emits kinds vs r b e → Emits (k ∷ kinds) (v, vs) r w e
+emits_then kinds vs (Ok x) e f g = appended_then f g
+emits_then kinds vs (Err y) e f g = stopped_then f g
+
 -- ---- a record of one field
 
 pub emits_one : (k : Kind) (v : Value k) (r : Result (Unit {0}) ProtoError) (old new : Writing) → EmitsField k v r old new → Emits (k ∷ []) (v, tt) r old new
@@ -140,7 +147,7 @@ emitted_as kinds vs mode earlier r old set emitted new e s h n =
     subst (λ (m : RDataEncoding). EmitsAs mode kinds vs r old (record emitted { mode = m })) (sym e) (in_mode kinds vs mode r old emitted x) in
     subst (λ (w : Writing). EmitsAs mode kinds vs r old w) (sym n) y
 
-pub ruleset writing = (appended_last, appended_then)
+pub ruleset writing = (appended_last, appended_then, exit_emit, stopped_first, stopped_then)
 
 -- ---- what was there stands
 

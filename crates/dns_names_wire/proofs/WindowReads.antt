@@ -1,5 +1,6 @@
 -- From fields that were read to the data of a known length.
 use Rattle.std.proofs.Common.{◌≡◌, ℕ, ◌+◌, ◌<◌, List, [], ◌∷◌, refl, sym, ◌∙◌, Result, Ok, Err}
+use Rattle.std.specs.Result.{IfErr}
 use Rattle.dns_types.specs.declared.error.DecodeError.{DecodeError}
 use Rattle.dns_fields.specs.Octets.{AreOctets}
 use Rattle.dns_fields.specs.Fields.{Kind, Values, Stands}
@@ -62,3 +63,9 @@ pub fields_by : {T : Type 0} (s : List Kind) (condition : Values s → Type 0) (
     → ReadsIf s (λ vs e. condition vs) view r old new → ReadsBy (λ m p x q. Stands m p s (view x) q × condition (view x)) r old new
 fields_by s condition view (Ok x) old new h = (took_behind h.0, (h.0.stands, h.1))
 fields_by s condition view (Err e) old new h = (h.behind, unless_map e _ _ (λ l x q f. l.none (view x) q f.0 f.1) h.none)
+
+-- why they are refused, and that none stand there
+pub fields_why : {T : Type 0} (s : List Kind) (condition : Values s → Type 0) (view : T → Values s) (P : DecodeError → Type 0) (r : Result T DecodeError)
+    (old new : Reading) → ReadsIf s (λ vs e. condition vs) view r old new → IfErr r P → IfErr r (λ e. P e × Refused e old s (λ vs e. condition vs) new)
+fields_why s condition view P (Ok x) old new h p = tt
+fields_why s condition view P (Err e) old new h p = (p, h)

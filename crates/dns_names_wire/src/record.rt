@@ -89,8 +89,10 @@ pub fn emit_in<T: EncodesFields>(
 impl<T: EncodesFields> BinEncodable for T {
     ghost emits = { RecordEmits T.MODE T.facts };
 
-    /// Appends the octets; where the type's mode has it, a name ends with a pointer to an earlier place where it can
-    /// (RFC 1035, 4.1.4). The encoder is then in the mode that it was in, refused or not.
+    /// Appends the fields in order, names in the type's mode: with a pointer to an earlier place where they can end so
+    /// (RFC 1035, 4.1.4), or whole. It is refused by [`MaxBufferSizeExceeded`](ProtoError::MaxBufferSizeExceeded) or
+    /// [`Memory`](ProtoError::Memory), or by [`Message`](ProtoError::Message) where a field has no octets; what comes
+    /// before it may then stand behind the start. The encoder is then in the mode that it was in, refused or not.
     #[inline]
     fn emit(&self, encoder: &mut BinEncoder<'_>) -> Result<(), ProtoError> {
         emit_in(T::MODE, self, encoder)
@@ -102,7 +104,10 @@ impl<T: DecodesFields + EncodesFields> BinDecodable for T {
 
     ghost refuses = { RecordRefuses T.facts };
 
-    /// Reads the fields in order. Where one does not stand it is refused, and those before it are taken.
+    /// Reads the fields in order. Where one does not stand it is refused, and those before it are taken: by
+    /// [`InsufficientBytes`](DecodeError::InsufficientBytes) where a number or a character string lacks octets,
+    /// [`NameInvalid`](DecodeError::NameInvalid) where no name stands, [`Memory`](DecodeError::Memory) where memory
+    /// runs out. What else is refused is said at the record's `read_fields`.
     #[inline]
     fn read(decoder: &mut BinDecoder<'_>) -> Result<T, DecodeError>
         ensures reads { ReadsBy (RecordStands T.facts) result decoder.old decoder.new }

@@ -1,5 +1,4 @@
 pub mod Addresses
-pub mod FieldsBehind
 pub mod Lacking
 pub mod NumberLaws
 pub mod NumberedLaws

@@ -75,7 +75,6 @@ impl BinDecodable for HINFO {
     /// [`InsufficientBytes`](DecodeError::InsufficientBytes): the strings before it, and its length octet where that is
     /// there, are taken. Memory is asked for once for each string of more than 32 octets, when both were read.
     #[inline]
-    #[tactic(auto, using(dns_names_wire::proofs::WindowReads::fields_by))]
     fn read(decoder: &mut BinDecoder<'_>) -> Result<HINFO, DecodeError> {
         HINFO::read_fields(decoder)
     }

@@ -23,8 +23,6 @@ impl Record for CNAME {
 impl DecodesFields for CNAME {
     ghost ends = { (tt, (tt, tt)) };
 
-    /// Reads the name. Where none stands it is refused by [`NameInvalid`](DecodeError::NameInvalid), where memory runs
-    /// out by [`Memory`](DecodeError::Memory); the place is then as it was.
     #[tactic(auto, using(dns_names_wire::proofs::FieldReads::reading))]
     fn read_fields(decoder: &mut BinDecoder<'_>) -> Result<CNAME, DecodeError> {
         Ok(CNAME(Name::read(decoder)?))
@@ -88,8 +86,6 @@ impl Record for NS {
 impl DecodesFields for NS {
     ghost ends = { (tt, (tt, tt)) };
 
-    /// Reads the name. Where none stands it is refused by [`NameInvalid`](DecodeError::NameInvalid), where memory runs
-    /// out by [`Memory`](DecodeError::Memory); the place is then as it was.
     #[tactic(auto, using(dns_names_wire::proofs::FieldReads::reading))]
     fn read_fields(decoder: &mut BinDecoder<'_>) -> Result<NS, DecodeError> {
         Ok(NS(Name::read(decoder)?))
@@ -153,8 +149,6 @@ impl Record for PTR {
 impl DecodesFields for PTR {
     ghost ends = { (tt, (tt, tt)) };
 
-    /// Reads the name. Where none stands it is refused by [`NameInvalid`](DecodeError::NameInvalid), where memory runs
-    /// out by [`Memory`](DecodeError::Memory); the place is then as it was.
     #[tactic(auto, using(dns_names_wire::proofs::FieldReads::reading))]
     fn read_fields(decoder: &mut BinDecoder<'_>) -> Result<PTR, DecodeError> {
         Ok(PTR(Name::read(decoder)?))
@@ -218,8 +212,6 @@ impl Record for ANAME {
 impl DecodesFields for ANAME {
     ghost ends = { (tt, (tt, tt)) };
 
-    /// Reads the name. Where none stands it is refused by [`NameInvalid`](DecodeError::NameInvalid), where memory runs
-    /// out by [`Memory`](DecodeError::Memory); the place is then as it was.
     #[tactic(auto, using(dns_names_wire::proofs::FieldReads::reading))]
     fn read_fields(decoder: &mut BinDecoder<'_>) -> Result<ANAME, DecodeError> {
         Ok(ANAME(Name::read(decoder)?))

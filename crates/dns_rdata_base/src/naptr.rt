@@ -80,11 +80,8 @@ impl Record for NAPTR {
 impl DecodesFields for NAPTR {
     ghost ends = { (tt, (tt, (tt, (tt, (tt, (tt, (tt, tt))))))) };
 
-    /// Reads the fields in order. The flags are tested as soon as they are taken: where an octet of theirs is no letter
-    /// and no digit it is refused by [`NaptrFlagsInvalid`](DecodeError::NaptrFlagsInvalid). Where a field does not
-    /// stand it is refused by [`InsufficientBytes`](DecodeError::InsufficientBytes) or
-    /// [`NameInvalid`](DecodeError::NameInvalid), and those before it are taken; where memory runs out by
-    /// [`Memory`](DecodeError::Memory).
+    /// The flags are tested as soon as they are taken: where an octet of theirs is no letter and no digit, the data is
+    /// refused by [`NaptrFlagsInvalid`](DecodeError::NaptrFlagsInvalid).
     #[tactic(auto, using(dns_names_wire::proofs::FieldReads::reading))]
     fn read_fields(decoder: &mut BinDecoder<'_>) -> Result<NAPTR, DecodeError> {
         let alloc = decoder.allocator();

@@ -46,10 +46,6 @@ impl Record for SRV {
 impl DecodesFields for SRV {
     ghost ends = { (tt, (tt, (tt, (tt, (tt, tt))))) };
 
-    /// Reads the fields in order. Where one does not stand it is refused, and those before it are taken: by
-    /// [`InsufficientBytes`](DecodeError::InsufficientBytes) where a number lacks octets,
-    /// [`NameInvalid`](DecodeError::NameInvalid) where no name stands, [`Memory`](DecodeError::Memory) where memory
-    /// runs out.
     #[tactic(auto, using(dns_names_wire::proofs::FieldReads::reading))]
     fn read_fields(decoder: &mut BinDecoder<'_>) -> Result<SRV, DecodeError> {
         let priority = decoder.read_u16()?.unverified();

@@ -105,10 +105,7 @@ impl MX {
     {
         let preference = next_u16(&mut tokens, MX_PREFERENCE)?;
         let exchange = next_name(alloc, &mut tokens, origin, "MX exchange")?;
-        Ok(MX {
-            preference,
-            exchange,
-        })
+        Ok(MX::new(preference, exchange))
     }
 }
 
