@@ -18,3 +18,4 @@ pub mod Orders
 pub mod EqualLaws
 pub mod OctetLaws
 pub mod Examples
+pub mod SameFields

@@ -1,22 +1,18 @@
 -- `==` of record data holds exactly where its order answers Equal.
-use Rattle.std.specs.Prelude.{◌≡◌, ℕ, Bool, true, false, not, ◌&&◌, ◌||◌, if◌then◌else◌, is_some, Option, Some, None, List, [], ◌∷◌, length, nat_le, refl}
+use Rattle.std.specs.Prelude.{◌≡◌, ℕ, Bool, true, false, ◌&&◌, if◌then◌else◌, is_some, Option, Some, None, List, [], ◌∷◌, refl}
 use Rattle.std.proofs.Common.{ap, ◌∙◌, sym, true≢false, arith, ◌+◌, ◌*◌, ◌/◌, ◌%◌}
-use Rattle.std.specs.Cmp.{first_so, second_so, both_tied, nat_cmp_total, tied_itself, unsigned_Decides}
-use Rattle.std.specs.Cmp.Lexicographic.{slice_cmp, nat_list_cmp_total, pointwise_decides}
+use Rattle.std.specs.Cmp.{first_so, second_so, both_tied, nat_cmp_total, tied_itself}
+use Rattle.std.specs.Cmp.Lexicographic.{slice_cmp, nat_list_cmp_total}
 use Rattle.std.specs.Option.{option_cmp, option_eq}
 use Rattle.std.specs.Ordering.{nat_cmp, is_eq, ordering_then}
-use Rattle.std.specs.List.{list_all, list_any}
-use Rattle.std.specs.List.Sorted.{IsPermutation}
-use Rattle.std.proofs.lemmas.List.Sorted.{IsPermutation-map, list_any-IsPermutation}
+use Rattle.std.proofs.lemmas.List.Sorted.{IsPermutation-map}
 use Rattle.std.specs.declared.cmp.Ordering.{Ordering}
 use Rattle.std.specs.declared.cmp.Ordering.TheVariants.{Less, Equal, Greater}
-use Rattle.dns_fields.specs.Fields.{Kind, Number, Octets, Name, Text, Texts, Rest, Options, Parameters, Bitmap, Value, Values, SameField, Same, is_emittable, all_emittable}
-use Rattle.dns_fields.specs.Labels.{lowname}
-use Rattle.dns_fields.specs.Equal.{kind_eq, values_eq}
+use Rattle.dns_fields.specs.Fields.{Kind, Values, Same}
+use Rattle.dns_fields.specs.Equal.{values_eq}
 use Rattle.dns_fields.specs.Order.{values_cmp}
-use Rattle.dns_fields.specs.Pieces.{option_octets, option_emittable, parameters_emittable}
 use Rattle.dns_fields.proofs.Orders.{values_ties}
-use Rattle.dns_fields.proofs.EqualLaws.{field_decide}
+use Rattle.dns_fields.proofs.SameFields.{emittable_same, equal_same}
 use Rattle.dns_fields.proofs.Laws.{canonical_same}
 use Rattle.dns_types.specs.contracts.record_type.RecordTypeOrd.TheImpl.Laws as type_laws
 use Rattle.dns_rdata_options.specs.Order.{opt_eq, opt_cmp}
@@ -35,47 +31,9 @@ use Rattle.dns_rdata.specs.declared.record_data.RData.TheVariants as rdata
 use Rattle.dns_rdata.specs.Data.{type_of, octets_of, data_octets}
 use Rattle.dns_rdata.specs.Keys.{Row, rows}
 use Rattle.dns_rdata.specs.Equal.{equal, record_type_eq, row_eq, rows_eq}
-use Rattle.dns_rdata.specs.Order.{rank, record_type_cmp, row_cmp, rows_cmp, rdata_cmp}
+use Rattle.dns_rdata.specs.Order.{holds, place_in, rank, record_type_cmp, row_cmp, rows_cmp, rdata_cmp}
 
 -- ---- equal fields have the same octets
-
-field_same : (k : Kind) (a b : Value k) → kind_eq k a b ≡ true → SameField k a b
-field_same (Number w) a b h = (field_decide (Number w) a b tt tt).0 h
-field_same (Octets n) a b h = (field_decide (Octets n) a b tt tt).0 h
-field_same Name a b h = record { is = record { low = (pointwise_decides unsigned_Decides (lowname a) (lowname b)).0 (first_so _ _ h) } }
-field_same Text a b h = (field_decide Text a b tt tt).0 h
-field_same Texts a b h = (field_decide Texts a b tt tt).0 h
-field_same Rest a b h = (field_decide Rest a b tt tt).0 h
-field_same Options a b h = (field_decide Options a b tt tt).0 h
-field_same Parameters a b h = (field_decide Parameters a b tt tt).0 h
-field_same Bitmap a b h = (field_decide Bitmap a b tt tt).0 h
-
-pub equal_same : (s : List Kind) (a b : Values s) → values_eq s a b ≡ true → Same s a b
-equal_same [] a b h = tt
-equal_same (k ∷ s) a b h = (field_same k a.0 b.0 (first_so (kind_eq k a.0 b.0) (values_eq s a.1 b.1) h), equal_same s a.1 b.1 (second_so (kind_eq k a.0 b.0) (values_eq s a.1 b.1) h))
-
-all_any : {X : Type 0} (p : X → Bool) (xs : List X) → list_all p xs ≡ not (list_any (λ x. not (p x)) xs)
-all_any p [] = refl
-all_any p (x ∷ xs) = ap (λ b. p x && b) (all_any p xs) ∙ either (p x) (list_any (λ y. not (p y)) xs)
-  where
-    either : (a b : Bool) → a && not b ≡ not (not a || b)
-    either true b = refl
-    either false b = refl
-
--- of two orders of one list all pass a test, or none
-all_permutes : {X : Type 0} (p : X → Bool) (xs ys : List X) → IsPermutation xs ys → list_all p xs ≡ list_all p ys
-all_permutes p xs ys h = all_any p xs ∙ ap not (list_any-IsPermutation (λ x. not (p x)) xs ys h) ∙ sym (all_any p ys)
-
-emittable_field : (k : Kind) (a b : Value k) → SameField k a b → is_emittable k a ≡ is_emittable k b
-emittable_field Text a b s = ap (λ (x : List ℕ). nat_le (length x) 255) s.is
-emittable_field Texts a b s = ap (list_all (λ (x : List ℕ). nat_le (length x) 255)) s.is
-emittable_field Options a b s = all_permutes (λ x. nat_le (length (option_octets x.1)) 65535 && option_emittable x.1) a b s.is
-emittable_field Parameters a b s = ap parameters_emittable s.is
-emittable_field k a b s = refl
-
-emittable_same : (s : List Kind) (a b : Values s) → Same s a b → all_emittable s a ≡ all_emittable s b
-emittable_same [] a b h = refl
-emittable_same (k ∷ s) a b h = let e = emittable_field k a.0 b.0 h.0 in let f = emittable_same s a.1 b.1 h.1 in rw (e, f) refl
 
 pub octets_same : (s : List Kind) (a b : Values s) → Same s a b → octets_of (record { kinds = s; values = a }) ≡ octets_of (record { kinds = s; values = b })
 octets_same s a b h = let e = emittable_same s a b h in let f = canonical_same s a b h in rw (e, f) refl
@@ -141,11 +99,6 @@ same_type : (given : List Row) (v w : RData) → rows_eq given v w ≡ true → 
 same_type [] v w h = equal_is (record_type_cmp (type_of v) (type_of w)) (sym (type_laws.matches_eq-law (type_of v) (type_of w)) ∙ h)
 same_type (row ∷ rest) v w h = same_type rest v w (second_so (row_eq row v w) (rows_eq rest v w) h)
 
--- whether a value is of the row's variant
-abbrev holds : Row → RData → Bool
-holds (Row.fields kinds held) v = is_some (held v)
-holds (Row.options held) v = is_some (held v)
-
 both_some : {X : Type 0} (e : X → X → Bool) (a b : Option X) → option_eq e a b ≡ true → is_some a ≡ is_some b
 both_some e None None h = refl
 both_some e (Some x) (Some y) h = refl
@@ -154,15 +107,6 @@ both_some e a b h = absurd (true≢false (sym h))
 both_hold : (row : Row) (v w : RData) → row_eq row v w ≡ true → holds row v ≡ holds row w
 both_hold (Row.fields kinds held) v w h = both_some (values_eq kinds) (held v) (held w) h
 both_hold (Row.options held) v w h = both_some opt_eq (held v) (held w) h
-
--- how many rows stand before that of the value
-abbrev place_in : List Row → RData → ℕ
-place_in [] v = 0
-place_in (row ∷ rest) v = if holds row v then 0 else place_in rest v + 1
-
-rank_place : (v : RData) → rank v ≡ place_in rows v
-rank_place (rdata.A x) = refl
-rank_place v = refl
 
 same_place : (given : List Row) (v w : RData) → rows_eq given v w ≡ true → place_in given v ≡ place_in given w
 same_place [] v w h = refl
@@ -173,8 +117,7 @@ same_place (row ∷ rest) v w h =
 
 same_rank : (v w : RData) → equal v w ≡ true → nat_cmp (rank v) (rank w) ≡ Equal
 same_rank v w h =
-    let same : rank v ≡ rank w = rank_place v ∙ same_place rows v w h ∙ sym (rank_place w) in
-    ap (nat_cmp (rank v)) (sym same) ∙ tied_itself nat_cmp_total (rank v)
+    ap (nat_cmp (rank v)) (sym (same_place rows v w h)) ∙ tied_itself nat_cmp_total (rank v)
 
 -- ---- the fields tie exactly where they are equal
 

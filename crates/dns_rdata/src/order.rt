@@ -113,7 +113,7 @@ fn tlsa_cmp(a: &TLSA, b: &TLSA) -> Ordering
 }
 
 impl RData {
-    //     The order of two values by variant, and then by their fields; of unknown data by octets and then by type.
+    // The order of two values by variant, and then by their fields; of unknown data by octets and then by type.
     #[tactic(auto, using(dns_pieces::proofs::Comparing::then_equal, dns_pieces::proofs::Comparing::then_assoc))]
     fn cmp_fields(&self, other: &RData) -> Ordering
         ensures { result ≡ variants_cmp self.now other.now }
@@ -191,7 +191,7 @@ impl RData {
         }
     }
 
-    //     The order of two values of different variants, by the place of the variant.
+    // The order of two values of different variants, by the place of the variant.
     fn cmp_ranks(&self, other: &RData) -> Ordering
         requires { Differ self.now other.now }
         ensures { result ≡ variants_cmp self.now other.now }
@@ -199,7 +199,7 @@ impl RData {
         self.rank().cmp(&other.rank())
     }
 
-    //     The order of two values by their canonical octets, which two cursors give.
+    // The order of two values by their canonical octets, which two cursors give.
     fn cmp_octets(&self, other: &RData) -> Ordering
         ensures { result ≡ slice_cmp nat_cmp (data_octets self.now) (data_octets other.now) }
     {
@@ -207,14 +207,14 @@ impl RData {
             .compare(&mut other.canonical_octets())
     }
 
-    //     The whole order: by the canonical octets, then by type, then by variant, then by the fields.
+    // The whole order: by the canonical octets, then by type, then by variant, then by the fields.
     fn cmp_all(&self, other: &RData) -> Ordering
         ensures { result ≡ rdata_cmp self.now other.now }
     {
         if let Some(order) = self.quick_cmp(other) {
             return order;
         }
-        //         Equal values are found out sooner by `==` than by two cursors.
+        // Equal values are found out sooner by `==` than by two cursors.
         if self == other {
             return Ordering::Equal;
         }
@@ -264,7 +264,7 @@ impl Ord for RData {
     /// the fields as declared. `Equal` exactly where `==` holds. Takes no memory.
     fn cmp(&self, other: &RData) -> Ordering
         ensures value { result ≡ rdata_cmp self.now other.now }
-        //         Two values that were read under one type are ordered by their canonical octets.
+        // Two values that were read under one type are ordered by their canonical octets.
         ensures canonical { OrdersRead self.now other.now result }
     {
         self.cmp_all(other)
