@@ -26,7 +26,7 @@ use std::cmp::Ordering;
 use std::marker::Model;
 
 impl RData {
-    //     The step behind a place of a record whose steps are not counted.
+    // The step behind a place of a record whose steps are not counted.
     fn plain_step<'a>(
         &'a self,
         step: usize,
@@ -66,7 +66,7 @@ impl RData {
         }
     }
 
-    //     The step behind a place of the data.
+    // The step behind a place of the data.
     #[inline]
     fn step<'a>(
         &'a self,
@@ -317,7 +317,7 @@ impl<'a> CanonicalOctets<'a> {
         }
     }
 
-    //     Takes from both as many octets as both begin with, of those at hand in one piece.
+    // Takes from both as many octets as both begin with, of those at hand in one piece.
     #[inline]
     fn skip_common(&mut self, other: &mut CanonicalOctets<'_>)
         ensures { Skips self.old self.new other.old other.new }
