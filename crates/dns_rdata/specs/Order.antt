@@ -1,5 +1,5 @@
 -- The order of record data: by canonical octets, by type, by variant, and by the fields.
-use Rattle.std.specs.Prelude.{◌≡◌, ◌==◌, ◌+◌, ℕ, Bool, IsTrue, not, if◌then◌else◌, is_some, List, [], ◌∷◌}
+use Rattle.std.specs.Prelude.{◌≡◌, ◌==◌, ℕ, IsTrue, not, List, [], ◌∷◌}
 use Rattle.std.specs.Cmp.{IsTotalOrder, then_total, on_total, nat_cmp_total}
 use Rattle.std.specs.Cmp.Lexicographic.{slice_cmp, nat_list_cmp_total, options_total}
 use Rattle.std.specs.Option.{option_cmp}
@@ -13,22 +13,38 @@ use Rattle.dns_types.specs.contracts.record_type.RecordTypeOrd.TheImpl.Laws as t
 use Rattle.dns_rdata_options.specs.Order.{opt_cmp}
 use Rattle.dns_rdata_options.specs.OrderLaws.{opt_total}
 use Rattle.dns_rdata.specs.declared.record_data.RData.{RData}
+use Rattle.dns_rdata.specs.declared.record_data.RData.TheVariants as rdata
 use Rattle.dns_rdata.specs.Data.{type_of, data_octets, Fills}
 use Rattle.dns_rdata.specs.Keys.{Row, fields, options, rows}
 
--- whether a value is of the row's variant
-abbrev pub holds : Row → RData → Bool
-holds (fields kinds held) v = is_some (held v)
-holds (options held) v = is_some (held v)
-
--- how many rows stand before that of the value
-abbrev pub place_in : List Row → RData → ℕ
-place_in [] v = 0
-place_in (row ∷ rest) v = if holds row v then 0 else place_in rest v + 1
-
 -- the place of the variant among all
 abbrev pub rank : RData → ℕ
-rank = place_in rows
+rank (rdata.A x) = 0
+rank (rdata.AAAA x) = 1
+rank (rdata.ANAME x) = 2
+rank (rdata.CAA x) = 3
+rank (rdata.CERT x) = 4
+rank (rdata.CNAME x) = 5
+rank (rdata.CSYNC x) = 6
+rank (rdata.HINFO x) = 7
+rank (rdata.HTTPS x) = 8
+rank (rdata.MX x) = 9
+rank (rdata.NAPTR x) = 10
+rank (rdata.NULL x) = 11
+rank (rdata.NS x) = 12
+rank (rdata.OPENPGPKEY x) = 13
+rank (rdata.OPT x) = 14
+rank (rdata.PTR x) = 15
+rank (rdata.SMIMEA x) = 16
+rank (rdata.SOA x) = 17
+rank (rdata.SRV x) = 18
+rank (rdata.SSHFP x) = 19
+rank (rdata.SVCB x) = 20
+rank (rdata.TLSA x) = 21
+rank (rdata.TXT x) = 22
+rank (rdata.Unknown code x) = 23
+rank (rdata.Update0 t) = 24
+rank rdata.ZERO = 25
 
 abbrev pub record_type_cmp : RecordType → RecordType → Ordering
 record_type_cmp = type_ord.ghosts.cmp

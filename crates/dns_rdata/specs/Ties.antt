@@ -31,7 +31,7 @@ use Rattle.dns_rdata.specs.declared.record_data.RData.TheVariants as rdata
 use Rattle.dns_rdata.specs.Data.{type_of, octets_of, data_octets}
 use Rattle.dns_rdata.specs.Keys.{Row, rows}
 use Rattle.dns_rdata.specs.Equal.{equal, record_type_eq, row_eq, rows_eq}
-use Rattle.dns_rdata.specs.Order.{holds, place_in, rank, record_type_cmp, row_cmp, rows_cmp, rdata_cmp}
+use Rattle.dns_rdata.specs.Order.{rank, record_type_cmp, row_cmp, rows_cmp, rdata_cmp}
 
 -- ---- equal fields have the same octets
 
@@ -99,6 +99,11 @@ same_type : (given : List Row) (v w : RData) → rows_eq given v w ≡ true → 
 same_type [] v w h = equal_is (record_type_cmp (type_of v) (type_of w)) (sym (type_laws.matches_eq-law (type_of v) (type_of w)) ∙ h)
 same_type (row ∷ rest) v w h = same_type rest v w (second_so (row_eq row v w) (rows_eq rest v w) h)
 
+-- whether a value is of the row's variant
+abbrev holds : Row → RData → Bool
+holds (Row.fields kinds held) v = is_some (held v)
+holds (Row.options held) v = is_some (held v)
+
 both_some : {X : Type 0} (e : X → X → Bool) (a b : Option X) → option_eq e a b ≡ true → is_some a ≡ is_some b
 both_some e None None h = refl
 both_some e (Some x) (Some y) h = refl
@@ -107,6 +112,15 @@ both_some e a b h = absurd (true≢false (sym h))
 both_hold : (row : Row) (v w : RData) → row_eq row v w ≡ true → holds row v ≡ holds row w
 both_hold (Row.fields kinds held) v w h = both_some (values_eq kinds) (held v) (held w) h
 both_hold (Row.options held) v w h = both_some opt_eq (held v) (held w) h
+
+-- how many rows stand before that of the value
+abbrev place_in : List Row → RData → ℕ
+place_in [] v = 0
+place_in (row ∷ rest) v = if holds row v then 0 else place_in rest v + 1
+
+rank_place : (v : RData) → rank v ≡ place_in rows v
+rank_place (rdata.A x) = refl
+rank_place v = refl
 
 same_place : (given : List Row) (v w : RData) → rows_eq given v w ≡ true → place_in given v ≡ place_in given w
 same_place [] v w h = refl
@@ -117,7 +131,8 @@ same_place (row ∷ rest) v w h =
 
 same_rank : (v w : RData) → equal v w ≡ true → nat_cmp (rank v) (rank w) ≡ Equal
 same_rank v w h =
-    ap (nat_cmp (rank v)) (sym (same_place rows v w h)) ∙ tied_itself nat_cmp_total (rank v)
+    let same : rank v ≡ rank w = rank_place v ∙ same_place rows v w h ∙ sym (rank_place w) in
+    ap (nat_cmp (rank v)) (sym same) ∙ tied_itself nat_cmp_total (rank v)
 
 -- ---- the fields tie exactly where they are equal
 
