@@ -8,6 +8,7 @@ use Rattle.std.proofs.lemmas.List.{append-nil}
 use Rattle.std.proofs.lemmas.List.Sorted.{IsPermutation-refl}
 use Rattle.base64.specs.Engines.{standard}
 use Rattle.base64.specs.GeneralPurpose.{encode_of}
+use Rattle.dns_zone_parameters.specs.Keys.{key_number as spelled_number}
 use Rattle.dns_fields.specs.Fields.{parameter_pieces}
 use Rattle.dns_fields.specs.Octets.{AreOctets}
 use Rattle.dns_fields.specs.Pieces.{Numbered, ParameterValue, string, pieces, as_piece, is_some, parameter_octets, Below, Rising}

@@ -17,6 +17,7 @@ use Rattle.std.proofs.lemmas.Fmt.{decimal_is_IsNumeral}
 use Rattle.std.proofs.lemmas.List.{append-nil}
 use Rattle.std.proofs.lemmas.List.Elements.{All-head, All-tail}
 use Rattle.std.proofs.lemmas.Str.Parse.{digit_at}
+use Rattle.dns_fields.specs.Pieces.{string as string_octets}
 use Rattle.dns_fields.specs.Labels.{DomainName, IsName}
 use Rattle.dns_fields.specs.Octets.{AreOctets}
 use Rattle.dns_fields.specs.Bitmaps.{block, minimal}

@@ -3,6 +3,7 @@ use Rattle.std.proofs.Common.{◌≡◌, ◌≢◌, ℕ, true, List, [], ◌∷�
 use Rattle.std.specs.Prelude.{IfOk, IfErr, codes}
 use Rattle.std.specs.Option.{option_map}
 use Rattle.std.specs.Result.{IsErrAnd}
+use Rattle.dns_names_wire.specs.Words.{UnlessMemory as UnlessRead}
 use Rattle.dns_fields.specs.Labels.{DomainName}
 use Rattle.dns_names_wire.specs.State.{Reading}
 use Rattle.dns_rdata.specs.Data.{shape, Fills, NoValue, data_octets}
