@@ -9,7 +9,7 @@ use Rattle.dns_words.specs.Reads.{UnlessMemory, NoValue}
 use Rattle.dns_zone_words.specs.Remaining.{with_words, NoneOfAll, TookAll, PutAll}
 use Rattle.dns_zone_words.specs.Words.{Word, Cursor, words_at, with_word}
 use Rattle.dns_zone_words.specs.declared.words_error.WordsError.{WordsError}
-use Rattle.dns_zone_words.proofs.FirstSteps.{unless_map}
+use Rattle.dns_words.proofs.Steps.{unless_map}
 use Rattle.dns_zone_words.proofs.RemainingSteps.{words_ok}
 use Rattle.dns_zone_parameters.specs.Faults.{KeyTwice}
 use Rattle.dns_zone_words.specs.Refusals.{Says}
@@ -17,6 +17,7 @@ use Rattle.dns_zone_parameters.specs.Keys.{key_number}
 use Rattle.dns_zone_parameters.specs.Parameters.{Parameter, IsWritten, HasParameter, IsParameter, AreWritten, AreParameters}
 use Rattle.dns_zone_parameters.specs.Steps.{BeginOnlySo, TookWritten, TookParameter, TookParameters}
 use Rattle.dns_zone_parameters.specs.Views.{parameter_value}
+use Rattle.dns_zone_parameters.specs.declared.parameter.Parameter.{Parameter as CodeParameter}
 use Rattle.dns_zone_parameters.proofs.KeyNames.{key_once}
 use Rattle.dns_zone_parameters.proofs.Rises.{Climbs, climbs_rising, order_once, rising_from, rising_to}
 

@@ -7,7 +7,7 @@ use Rattle.dns_words.specs.Reads.{UnlessMemory}
 use Rattle.dns_zone_words.specs.Forms.{ZoneForm}
 use Rattle.dns_zone_words.specs.Words.{Cursor}
 use Rattle.dns_zone_words.specs.ZoneReads.{NoFirst}
-use Rattle.dns_zone_words.proofs.FirstSteps.{unless_map}
+use Rattle.dns_words.proofs.Steps.{unless_map}
 use Rattle.dns_zone_rows.specs.RowSteps.{NoFirstGives, AddsFirst}
 use Rattle.dns_zone_rows.specs.Rows.{Gives}
 

@@ -3,6 +3,7 @@ use Rattle.std.proofs.Common.{◌≡◌, ◌≢◌, ℕ, List, [], ◌∷◌, �
 use Rattle.std.specs.List.{flat_map}
 use Rattle.std.specs.Result.{IsErrAnd}
 use Rattle.std.proofs.lemmas.List.{append-nil}
+use Rattle.dns_fields.specs.Pieces.{string as string_octets}
 use Rattle.dns_types.specs.declared.error.ParseError.{ParseError}
 use Rattle.dns_types.specs.declared.error.ParseError.TheVariants as parse
 use Rattle.dns_words.specs.Reads.{UnlessMemory}
@@ -11,7 +12,7 @@ use Rattle.dns_zone_words.specs.Remaining.{AreStrings, with_words, NoneOfAll, Pu
 use Rattle.dns_zone_words.specs.Words.{Word, Cursor, words_at, with_word}
 use Rattle.dns_zone_words.specs.ZoneReads.{LacksFirst, NoValueOf, PutAs}
 use Rattle.dns_zone_words.specs.declared.words_error.WordsError.{WordsError}
-use Rattle.dns_zone_words.proofs.FirstSteps.{unless_map, unless_all}
+use Rattle.dns_words.proofs.Steps.{unless_map, unless_all}
 use Rattle.dns_zone_words.proofs.RemainingSteps.{words_more, words_ok, words_err, word_ok}
 use Rattle.dns_zone_rows.specs.Rows.{RestGives, SomeStrings}
 
