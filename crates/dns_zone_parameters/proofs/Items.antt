@@ -70,7 +70,7 @@ pair front c d text h e = rw (h, e) refl
 -- a `\` and the octet behind it belong to the item
 pub two_more : (text : List ℕ) (n : ℕ) → items_from false [] text ≡ items_from false (take n text) (drop n text) → n + 1 < length text
     → eqb (get_or text n 0) 44 ≡ false → eqb (get_or text n 0) 92 ≡ true → items_from false [] text ≡ items_from false (take (n + 2) text) (drop (n + 2) text)
-two_more text n so lt h e = two_passed (items_from false) text n so lt (pair (take n text) _ _ _ h e)
+two_more text n so lt h e = two_passed (items_from false) text n so lt (pair (take n text) (get_or text n 0) (get_or text (n + 1) 0) (drop (n + 1 + 1) text) h e)
 
 -- ---- what lists are made of
 

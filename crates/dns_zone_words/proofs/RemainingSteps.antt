@@ -22,9 +22,9 @@ pub record TakenSo (old new : Cursor) (octets : List ℕ) : Type 0 where
 pub none_taken : (cursor : Cursor) → TakenSo cursor cursor []
 none_taken cursor = record { words = []; bare = tt; same = refl; behind = refl }
 
-pub words_more : (words : List Word) (word : Word) (behind : Result (List Word) WordsError) → with_words (words ++ word ∷ []) behind ≡ with_words words (with_word word behind)
-words_more [] word behind = refl
-words_more (first ∷ words) word behind = ap (with_word first) (words_more words word behind)
+pub words_more : (words front : List Word) (behind : Result (List Word) WordsError) → with_words (words ++ front) behind ≡ with_words words (with_words front behind)
+words_more [] front behind = refl
+words_more (first ∷ words) front behind = ap (with_word first) (words_more words front behind)
 
 bare_more : (words : List Word) (word : Word) → AllBare words → word.quoted ≡ false → AllBare (words ++ word ∷ [])
 bare_more [] word h e = (e, tt)
@@ -39,7 +39,7 @@ one_taken old now new octets more word so first bare e = record {
   words = so.words ++ word ∷ [];
   bare = bare_more so.words word so.bare bare;
   same = e ∙ ap (λ (x : List ℕ). x ++ word.octets) so.same ∙ sym (joined_more so.words word);
-  behind = so.behind ∙ ap (with_words so.words) first ∙ sym (words_more so.words word (words_at new));
+  behind = so.behind ∙ ap (with_words so.words) first ∙ sym (words_more so.words (word ∷ []) (words_at new));
 }
 
 pub words_ok : (words : List Word) → with_words words (Ok []) ≡ Ok words
