@@ -24,7 +24,7 @@ use Rattle.dns_zone_words.specs.Refusals.{Says}
 use Rattle.dns_zone_words.specs.Remaining.{AreUnknown, TookAll}
 use Rattle.dns_zone_words.specs.Words.{Word, Cursor, words_at, with_word, zone_words}
 use Rattle.dns_zone_words.specs.declared.words_error.WordsError.{WordsError}
-use Rattle.dns_zone_words.proofs.FirstSteps.{unless_map}
+use Rattle.dns_words.proofs.Steps.{unless_map}
 use Rattle.dns_rdata_zone.specs.ZoneGives.{AreUnknownData, AreUnmarked, GiveByRow, WordsGive, IsWhole, has_name, AreDataOf, GivesValue, GivesNone, at_start}
 use Rattle.dns_rdata_zone.specs.ZoneFaults.{AreMany, AreRefused, OctetsFault, IsBehindMark, HasPointer, DataFault, BehindMarkFault, MarkedFault, HasNoMark, LacksRow, WordsFault, GivenFault, ByRowFault, UnmarkedFault, ZoneFault}
 use Rattle.dns_rdata_zone.specs.ZoneSteps.{AreNoData, UnknownIs, UnknownIsNone, RowIs, RowIsNone}

@@ -1,11 +1,13 @@
 -- Items of a list, one by one.
-use Rattle.std.proofs.Common.{◌≡◌, ℕ, ◌+◌, ◌<◌, true, false, eqb, get_or, add-one, List, [], ◌∷◌, ◌++◌, length, take, drop, refl, sym, ◌∙◌, ap, subst, arith, append_assoc, Option, Some, None}
-use Rattle.std.proofs.Math.Seq.{take-suc, drop-cons}
+use Rattle.std.proofs.Common.{◌≡◌, ℕ, ◌+◌, ◌<◌, true, false, eqb, get_or, List, [], ◌∷◌, ◌++◌, length, take, drop, refl, sym, ◌∙◌, ap, subst, arith, append_assoc, Option, Some, None}
 use Rattle.std.specs.List.{AllZip, flat_map}
 use Rattle.std.proofs.lemmas.Grind.{flat_map-append}
+use Rattle.std.proofs.lemmas.Slice.Zip.{all_zipped_more}
 use Rattle.std.proofs.lemmas.List.{append-nil}
 use Rattle.dns_types.specs.declared.error.ParseError.{ParseError}
-use Rattle.dns_zone_words.proofs.FirstSteps.{unless_map}
+use Rattle.dns_words.proofs.Steps.{unless_map}
+use Rattle.dns_zone_words.proofs.RemainingSteps.{one_of_both}
+use Rattle.dns_zone_words.proofs.WordSteps.{two_passed}
 use Rattle.dns_zone_parameters.specs.declared.lists.ListItem.{ListItem}
 use Rattle.dns_words.specs.Reads.{UnlessMemory, NoValue}
 use Rattle.dns_zone_parameters.specs.Lists.{items_from, items_in, IsItem, IsList}
@@ -17,25 +19,13 @@ pub record ItemsSo {Y : Type 0} (R : List ℕ → Y → Type 0) (text rest : Lis
   pub cut : items_in text ≡ done ++ items_in rest
   pub each : AllZip R done ys
 
-push_both : {X Y : Type 0} (R : X → Y → Type 0) (xs : List X) (ys : List Y) (x : X) (y : Y) → AllZip R xs ys → R x y → AllZip R (xs ++ x ∷ []) (ys ++ y ∷ [])
-push_both R [] [] x y h is = (is, tt)
-push_both R [] (b ∷ ys) x y h is = absurd h
-push_both R (a ∷ xs) [] x y h is = absurd h
-push_both R (a ∷ xs) (b ∷ ys) x y h is = (h.0, push_both R xs ys x y h.1 is)
-
-one_of_both : {X Y : Type 0} (R : X → Y → Type 0) (xs : List X) (x : X) (more : List X) (ys : List Y) → AllZip R (xs ++ x ∷ more) ys → (y : Y) × R x y
-one_of_both R [] x more [] h = absurd h
-one_of_both R [] x more (y ∷ ys) h = (y, h.0)
-one_of_both R (a ∷ xs) x more [] h = absurd h
-one_of_both R (a ∷ xs) x more (y ∷ ys) h = one_of_both R xs x more ys h.1
-
 -- one item more, and others behind it
 pub one_item : {Y : Type 0} (R : List ℕ → Y → Type 0) (text rest new item : List ℕ) (ys more : List Y) (y : Y) → ItemsSo R text rest ys → items_in rest ≡ item ∷ items_in new
     → R item y → more ≡ ys ++ y ∷ [] → ItemsSo R text new more
 one_item {Y} R text rest new item ys more y so first is e = record {
   done = so.done ++ item ∷ [];
   cut = so.cut ∙ ap (λ (l : List (List ℕ)). so.done ++ l) first ∙ sym (append_assoc so.done (item ∷ []) (items_in new));
-  each = subst (λ (l : List Y). AllZip R (so.done ++ item ∷ []) l) (sym e) (push_both R so.done ys item y so.each is);
+  each = subst (λ (l : List Y). AllZip R (so.done ++ item ∷ []) l) (sym e) (all_zipped_more R so.done ys item y so.each is);
 }
 
 -- the last item
@@ -43,7 +33,7 @@ pub last_item : {Y : Type 0} (R : List ℕ → Y → Type 0) (text rest item : L
     → R item y → more ≡ ys ++ y ∷ [] → AllZip R (items_in text) more
 last_item {Y} R text rest item ys more y so first is e =
     let cut : items_in text ≡ so.done ++ item ∷ [] = so.cut ∙ ap (λ (l : List (List ℕ)). so.done ++ l) first in
-    let each : AllZip R (so.done ++ item ∷ []) more = subst (λ (l : List Y). AllZip R (so.done ++ item ∷ []) l) (sym e) (push_both R so.done ys item y so.each is) in
+    let each : AllZip R (so.done ++ item ∷ []) more = subst (λ (l : List Y). AllZip R (so.done ++ item ∷ []) l) (sym e) (all_zipped_more R so.done ys item y so.each is) in
     subst (λ (l : List (List ℕ)). AllZip R l more) (sym cut) each
 
 first_of : (text item : List ℕ) (behind : Option (List ℕ)) → ItemCut text item behind → (more : List (List ℕ)) × (items_in text ≡ item ∷ more)
@@ -73,12 +63,6 @@ same_both {X} {Y} R one (a ∷ xs) (b ∷ ys) (c ∷ zs) h k =
 
 -- ---- the octets of an item
 
-next_drop : (text : List ℕ) (n : ℕ) → n < length text → drop n text ≡ get_or text n 0 ∷ drop (n + 1) text
-next_drop text n h = rw add-one (drop-cons text n 0 h)
-
-next_take : (text : List ℕ) (n : ℕ) → n < length text → take (n + 1) text ≡ take n text ++ get_or text n 0 ∷ []
-next_take text n h = rw add-one (take-suc text n 0 h)
-
 pair : (front : List ℕ) (c d : ℕ) (text : List ℕ) → eqb c 44 ≡ false → eqb c 92 ≡ true
     → items_from false front (c ∷ d ∷ text) ≡ items_from false ((front ++ c ∷ []) ++ d ∷ []) text
 pair front c d text h e = rw (h, e) refl
@@ -86,18 +70,7 @@ pair front c d text h e = rw (h, e) refl
 -- a `\` and the octet behind it belong to the item
 pub two_more : (text : List ℕ) (n : ℕ) → items_from false [] text ≡ items_from false (take n text) (drop n text) → n + 1 < length text
     → eqb (get_or text n 0) 44 ≡ false → eqb (get_or text n 0) 92 ≡ true → items_from false [] text ≡ items_from false (take (n + 2) text) (drop (n + 2) text)
-two_more text n so lt h e =
-    let first : drop n text ≡ get_or text n 0 ∷ drop (n + 1) text = next_drop text n (omega arith) in
-    let second : drop (n + 1) text ≡ get_or text (n + 1) 0 ∷ drop (n + 1 + 1) text = next_drop text (n + 1) lt in
-    let front : take (n + 1 + 1) text ≡ (take n text ++ get_or text n 0 ∷ []) ++ get_or text (n + 1) 0 ∷ [] =
-    next_take text (n + 1) lt ∙ ap (λ (x : List ℕ). x ++ get_or text (n + 1) 0 ∷ []) (next_take text n (omega arith)) in
-    let two : n + 1 + 1 ≡ n + 2 = omega arith in
-    rw (← two) (
-    so
-    ∙ ap (items_from false (take n text)) (first ∙ ap (λ (x : List ℕ). get_or text n 0 ∷ x) second)
-    ∙ pair (take n text) (get_or text n 0) (get_or text (n + 1) 0) (drop (n + 1 + 1) text) h e
-    ∙ ap (λ (x : List ℕ). items_from false x (drop (n + 1 + 1) text)) (sym front)
-    )
+two_more text n so lt h e = two_passed (items_from false) text n so lt (pair (take n text) (get_or text n 0) (get_or text (n + 1) 0) (drop (n + 1 + 1) text) h e)
 
 -- ---- what lists are made of
 

@@ -1,7 +1,7 @@
 -- A name is of one key at most, and why it is of none.
-use Rattle.std.proofs.Common.{◌≡◌, ℕ, zero, suc, arith, ◌&&◌, Bool, true, false, List, [], ◌∷◌, ◌++◌, drop, refl, sym, ◌∙◌, ap, subst, Some, None, inl, inr, ◌<◌, ◌^◌, length, get_or}
+use Rattle.std.proofs.Common.{◌≡◌, ℕ, arith, true, false, List, [], ◌∷◌, ◌++◌, drop, refl, sym, ◌∙◌, ap, subst, Some, None, inl, inr, ◌<◌, ◌^◌, length, get_or}
 use Rattle.std.specs.Prelude.{codes, bytes_eq}
-use Rattle.std.specs.Str.{IsUtf8, IsAscii}
+use Rattle.std.specs.Str.{IsUtf8}
 use Rattle.std.specs.Str.Parse.{AllDigits, digits_value}
 use Rattle.std.specs.Fmt.{decimal}
 use Rattle.std.proofs.lemmas.Str.Parse.{IsNumeralModel}
@@ -9,23 +9,13 @@ use Rattle.std.proofs.lemmas.Fmt.{decimal-digits_value, decimal_is_IsNumeral, de
 use Rattle.dns_zone_parameters.specs.Steps.{NumberSpelled}
 use Rattle.std.specs.Char.{is_ascii}
 use Rattle.std.specs.List.{list_all}
-use Rattle.std.proofs.lemmas.Bool.Decides.{nat_tests}
 use Rattle.std.proofs.lemmas.Option.{same_Some}
 use Rattle.std.proofs.lemmas.Slice.Eq.{bytes_eq-Decides}
 use Rattle.std.proofs.lemmas.Bool.{cases_Bool, cases_lt}
-use Rattle.std.proofs.lemmas.Str.{IsUtf8-from_ascii}
+use Rattle.dns_zone_words.proofs.TextSteps.{ascii_utf8}
 use Rattle.dns_zone_parameters.specs.Keys.{named_key, IsNumberedName, IsKeyName}
 use Rattle.dns_zone_parameters.specs.declared.key.ParameterKey.{ParameterKey}
 use Rattle.dns_zone_parameters.specs.declared.key.ParameterKey.TheVariants.{Numbered}
-
-second_true : (a b : Bool) → a && b ≡ true → b ≡ true
-second_true true b h = h
-second_true false b h = absurd (cc h)
-
-all_ascii : (text : List ℕ) → list_all is_ascii text ≡ true → IsAscii text
-all_ascii [] h i = omega arith
-all_ascii (c ∷ text) h zero = grind (arith, nat_tests)
-all_ascii (c ∷ text) h (suc i) = all_ascii text (second_true (is_ascii c) (list_all is_ascii text) h) i
 
 other_name : (name own : List ℕ) → IsUtf8 own → ¬ (IsUtf8 name) → bytes_eq name own ≡ false
 other_name name own is isnt = elim (cases_Bool (bytes_eq name own)) [
@@ -37,7 +27,7 @@ other_name name own is isnt = elim (cases_Bool (bytes_eq name own)) [
 pub no_text : (name : List ℕ) → ¬ (IsUtf8 name) → named_key name ≡ None
 no_text name isnt =
     let other : (own : List ℕ) → list_all is_ascii own ≡ true → bytes_eq name own ≡ false =
-    λ own is. other_name name own (IsUtf8-from_ascii own (all_ascii own is)) isnt in
+    λ own is. other_name name own (ascii_utf8 own is) isnt in
     rw (
       other (codes "mandatory") refl,
       other (codes "alpn") refl,

@@ -1,4 +1,3 @@
-pub mod Exits
 pub mod KeyNames
 pub mod Items
 pub mod Rises

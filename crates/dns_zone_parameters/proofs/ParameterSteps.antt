@@ -3,20 +3,22 @@ use Rattle.std.proofs.Common.{◌≡◌, ℕ, zero, suc, List, [], ◌∷◌, �
 use Rattle.std.specs.List.Sorted.{IsPermutation, IsNonDecreasingBy, IsStrictlyIncreasing}
 use Rattle.std.proofs.lemmas.List.{append-nil, map-append}
 use Rattle.std.proofs.lemmas.List.Sorted.{IsPermutation-map}
+use Rattle.std.proofs.lemmas.Simd.{map-map}
 use Rattle.dns_fields.specs.Pieces.{pieces, Rising}
 use Rattle.dns_types.specs.declared.error.ParseError.{ParseError}
 use Rattle.dns_words.specs.Reads.{UnlessMemory, NoValue}
 use Rattle.dns_zone_words.specs.Remaining.{with_words, NoneOfAll, TookAll, PutAll}
 use Rattle.dns_zone_words.specs.Words.{Word, Cursor, words_at, with_word}
 use Rattle.dns_zone_words.specs.declared.words_error.WordsError.{WordsError}
-use Rattle.dns_zone_words.proofs.FirstSteps.{unless_map}
-use Rattle.dns_zone_words.proofs.RemainingSteps.{words_ok}
+use Rattle.dns_words.proofs.Steps.{unless_map}
+use Rattle.dns_zone_words.proofs.RemainingSteps.{words_more, words_ok}
 use Rattle.dns_zone_parameters.specs.Faults.{KeyTwice}
 use Rattle.dns_zone_words.specs.Refusals.{Says}
 use Rattle.dns_zone_parameters.specs.Keys.{key_number}
 use Rattle.dns_zone_parameters.specs.Parameters.{Parameter, IsWritten, HasParameter, IsParameter, AreWritten, AreParameters}
 use Rattle.dns_zone_parameters.specs.Steps.{BeginOnlySo, TookWritten, TookParameter, TookParameters}
 use Rattle.dns_zone_parameters.specs.Views.{parameter_value}
+use Rattle.dns_zone_parameters.specs.declared.parameter.Parameter.{Parameter as CodeParameter}
 use Rattle.dns_zone_parameters.proofs.KeyNames.{key_once}
 use Rattle.dns_zone_parameters.proofs.Rises.{Climbs, climbs_rising, order_once, rising_from, rising_to}
 
@@ -76,10 +78,6 @@ written_more (q ∷ ps) words p front h is = (
   written_more ps h.1 p front h.4 is,
 )
 
-words_joined : (words front : List Word) (behind : Result (List Word) WordsError) → with_words (words ++ front) behind ≡ with_words words (with_words front behind)
-words_joined [] front behind = refl
-words_joined (word ∷ words) front behind = ap (with_word word) (words_joined words front behind)
-
 all_begin : (ps : List Parameter) (p : Parameter) (all : List Parameter) (now new : Cursor) → AllBeginSo (map (λ q. q.0) ps) all now → BeginOnlySo (λ q. q.0 ≡ p.0) now new
     → AllBeginSo (map (λ q. q.0) (ps ++ p ∷ [])) all new
 all_begin ps p all now new a only =
@@ -98,7 +96,7 @@ all_begin ps p all now new a only =
 pub one_parameter : (ps more : List Parameter) (p : Parameter) (old now new : Cursor) → ParametersSo ps old now → TookParameter p now new → more ≡ ps ++ p ∷ [] → ParametersSo more old new
 one_parameter ps more p old now new so took e = subst (λ (x : List Parameter). ParametersSo x old new) (sym e) (record {
   words = so.words ++ took.front;
-  cut = so.cut ∙ ap (with_words so.words) took.cut ∙ sym (words_joined so.words took.front (words_at new));
+  cut = so.cut ∙ ap (with_words so.words) took.cut ∙ sym (words_more so.words took.front (words_at new));
   written = written_more ps so.words p took.front so.written took.is;
   only = λ all words cut written. all_begin ps p all now new (so.only all words cut written) took.only;
 })
@@ -128,8 +126,7 @@ all_taken ps old now so end = record {
 -- ---- their octets
 
 numbers_of_values : (xs : List CodeParameter) → map (λ p. p.0) (map parameter_value xs) ≡ map (λ x. x.number) xs
-numbers_of_values [] = refl
-numbers_of_values (x ∷ xs) = ap (λ (l : List ℕ). x.number ∷ l) (numbers_of_values xs)
+numbers_of_values xs = map-map (λ (p : Parameter). p.0) parameter_value xs
 
 climbs_by : (xs : List CodeParameter) → IsNonDecreasingBy (λ x. x.number) xs → Climbs (map (λ x. x.number) xs)
 climbs_by [] h k lt = absurd (omega arith)

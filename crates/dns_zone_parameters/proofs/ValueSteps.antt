@@ -15,7 +15,7 @@ use Rattle.dns_zone_words.specs.Forms.{bare, text}
 use Rattle.dns_zone_words.specs.Letters.{letters, octet_of, escapes_stand}
 use Rattle.dns_zone_words.specs.ZoneReads.{NoValueOf}
 use Rattle.dns_zone_words.proofs.LetterSteps.{plain_letters}
-use Rattle.dns_zone_words.proofs.FirstSteps.{unless_map}
+use Rattle.dns_words.proofs.Steps.{unless_map}
 use Rattle.dns_zone_words.specs.Refusals.{Says}
 use Rattle.dns_zone_parameters.specs.Faults.{wrong_value, ValueFault}
 use Rattle.dns_zone_parameters.specs.Steps.{HasMeant}

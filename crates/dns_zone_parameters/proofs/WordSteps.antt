@@ -9,15 +9,9 @@ use Rattle.std.proofs.lemmas.Bool.Decides.{nat_tests}
 use Rattle.std.proofs.lemmas.List.Sums.{passes_at_first}
 use Rattle.dns_zone_words.specs.Remaining.{NoneOfAll}
 use Rattle.dns_zone_words.specs.Words.{Word, Cursor, words_at, with_word}
-use Rattle.dns_zone_words.specs.declared.words_error.WordsError.{WordsError}
+use Rattle.dns_zone_words.proofs.RemainingSteps.{word_ok}
 use Rattle.dns_zone_parameters.specs.Parameters.{Parameter, is_equals, name_in, value_in, StandsAlone, IsQuotedValue, IsWritten, HasParameter, AreWritten}
 use Rattle.dns_zone_parameters.specs.Steps.{NoQuoted, BeginSo, TookWritten}
-
--- the words behind one, where they are cut
-ok_behind : (word : Word) (behind : Result (List Word) WordsError) (all : List Word) → with_word word behind ≡ Ok all
-    → (rest : List Word) × (behind ≡ Ok rest) × (all ≡ word ∷ rest)
-ok_behind word (Ok rest) all e = let same : word ∷ rest ≡ all = cc in (rest, refl, sym same)
-ok_behind word (Err why) all e = absurd (cc)
 
 front_alone : (name value : List ℕ) (front behind : List Word) (word : Word) (rest : List Word) → word ∷ rest ≡ front ++ behind → IsWritten name value front → StandsAlone word
 front_alone name value [] behind word rest e is = absurd is
@@ -72,11 +66,11 @@ took_alone word old new first alone other = record {
   where
     begins : (all : List Parameter) (words : List Word) → words_at old ≡ Ok words → AreWritten all words → BeginSo (HasParameter (name_in word.octets) (value_in word.octets)) all new
     begins [] words cut written =
-        let k = ok_behind word (words_at new) words (sym first ∙ cut) in
+        let k = word_ok word (words_at new) words (sym first ∙ cut) in
         let none : word ∷ k.0 ≡ [] = sym k.2 ∙ written in
         absurd (cc)
     begins (p ∷ ps) words cut h =
-        let k = ok_behind word (words_at new) words (sym first ∙ cut) in
+        let k = word_ok word (words_at new) words (sym first ∙ cut) in
         begin_alone word k.0 new k.1 other p ps h.3.name h.3.value h.0 h.1 (sym k.2 ∙ h.2) h.3.written h.3.has h.4
 
 begin_quoted : (word quoted : Word) (rest : List Word) (new : Cursor) → words_at new ≡ Ok rest → IsQuotedValue quoted
@@ -114,12 +108,12 @@ took_quoted word quoted old mid new first second alone ends is_value = record {
   where
     begins : (all : List Parameter) (words : List Word) → words_at old ≡ Ok words → AreWritten all words → BeginSo (HasParameter (name_in word.octets) quoted.octets) all new
     begins [] words cut written =
-        let k = ok_behind word (words_at mid) words (sym first ∙ cut) in
+        let k = word_ok word (words_at mid) words (sym first ∙ cut) in
         let none : word ∷ k.0 ≡ [] = sym k.2 ∙ written in
         absurd (cc)
     begins (p ∷ ps) words cut h =
-        let k = ok_behind word (words_at mid) words (sym first ∙ cut) in
-        let m = ok_behind quoted (words_at new) k.0 (sym second ∙ k.1) in
+        let k = word_ok word (words_at mid) words (sym first ∙ cut) in
+        let m = word_ok quoted (words_at new) k.0 (sym second ∙ k.1) in
         let all : word ∷ quoted ∷ m.0 ≡ h.0 ++ h.1 = ap (λ (x : List Word). word ∷ x) (sym m.2) ∙ sym k.2 ∙ h.2 in
         begin_quoted word quoted m.0 new m.1 is_value p ps h.3.name h.3.value h.0 h.1 all h.3.written h.3.has h.4
 
@@ -189,6 +183,6 @@ to_end word n = sym (take_all (length word - n) (drop n word) (omega (arith, len
 pub not_alone : (word : Word) (old new : Cursor) → words_at old ≡ with_word word (words_at new) → (StandsAlone word → ⊥) → NoneOfAll AreWritten old
 not_alone word old new first isnt = record {
   none = λ ps words cut written.
-      let k = ok_behind word (words_at new) words (sym first ∙ cut) in
+      let k = word_ok word (words_at new) words (sym first ∙ cut) in
       isnt (starts_alone ps word k.0 (subst (AreWritten ps) k.2 written));
 }

@@ -7,7 +7,8 @@ use Rattle.dns_words.specs.Reads.{UnlessMemory}
 use Rattle.dns_zone_words.specs.Forms.{ZoneForm}
 use Rattle.dns_zone_words.specs.Words.{Cursor}
 use Rattle.dns_zone_words.specs.ZoneReads.{NoFirst}
-use Rattle.dns_zone_words.proofs.FirstSteps.{unless_map}
+use Rattle.dns_words.proofs.Steps.{unless_map}
+use Rattle.dns_zone_words.proofs.FirstSteps.{exit_with}
 use Rattle.dns_zone_rows.specs.RowSteps.{NoFirstGives, AddsFirst}
 use Rattle.dns_zone_rows.specs.Rows.{Gives}
 
@@ -17,7 +18,5 @@ none_given form written cursor h = record { none = λ octets word words cut give
 -- a word that has no value gives no octets
 pub exit_gives : {T : Type 0} {k : Kind} (form : ZoneForm k) (written : Value k → List ℕ) (r : Result T ParseError) (e : ParseError) (before after : List ℕ)
     (old new : Cursor) → IsErrAnd r (λ y. y ≡ e) → UnlessMemory e (NoFirst form old) → AddsFirst (Gives form written) r before after old new
-exit_gives form written (Ok x) e before after old new h none = elim h [ ]
-exit_gives form written (Err y) e before after old new h none =
-    subst (λ (z : ParseError). UnlessMemory z (NoFirstGives (Gives form written) old)) (sym h)
+exit_gives form written r e before after old new h none = exit_with (λ r. AddsFirst (Gives form written) r before after old new) e r h
     (unless_map e (NoFirst form old) (NoFirstGives (Gives form written) old) (none_given form written old) none)

@@ -4,8 +4,6 @@ use Rattle.std.specs.List.{flat_map}
 use Rattle.std.specs.Net.Addr.{ipv4_octets, ipv6_octets}
 use Rattle.std.specs.Str.Parse.{digits_value}
 use Rattle.std.proofs.NetLemmas.Theorems.{IsIpv4Text_unique, IsIpv6Text_unique}
-use Rattle.base64.specs.declared.decode.DecodeError.{DecodeError}
-use Rattle.hex.specs.declared.error.FromHexError.{FromHexError}
 use Rattle.dns_fields.specs.Bitmaps.{block, minimal}
 use Rattle.dns_fields.specs.Fields.{Kind, Value}
 use Rattle.dns_fields.specs.Labels.{DomainName}
@@ -18,12 +16,12 @@ use Rattle.dns_types.proofs.TypeTexts.{reads_name}
 use Rattle.dns_words.specs.Forms.{ttl, ipv4, ipv6}
 use Rattle.dns_zone_words.specs.Forms.{ZoneForm, bare, number, string, text}
 use Rattle.dns_zone_words.specs.NameWords.{name}
-use Rattle.dns_zone_words.specs.Remaining.{AreStrings}
 use Rattle.dns_zone_words.specs.Words.{Word}
+use Rattle.dns_zone_parameters.proofs.Items.{same_both}
 use Rattle.dns_zone_parameters.proofs.OneReading.{one_reading}
 use Rattle.dns_zone_rows.specs.Mnemonics.{Named, number_named, IsNamedNumber, named_number}
 use Rattle.dns_zone_rows.specs.Rows.{FieldKind, Number, NamedNumber, Ttl, Ipv4, Ipv6, Name, String, Tag, Octets, RestKind, NoWord, SomeStrings, SomeHex, SomeBase64, AnyTypes, AnyParameters, Row}
-use Rattle.dns_zone_rows.specs.Rows.{Gives, tag, FieldGives, AreTypes, RestGives, FieldsGive, RowGives}
+use Rattle.dns_zone_rows.specs.Rows.{Gives, tag, FieldGives, IsTypeNumber, RestGives, FieldsGive, RowGives}
 
 -- ---- one word
 
@@ -103,43 +101,20 @@ type_once octets t u (inl n) y = sym (only_name octets t u n y)
 type_once octets t u (inr n) (inl m) = only_name octets u t m (inr n)
 type_once octets t u (inr n) (inr m) = same_number octets t u n m
 
-types_once : (a b : List ℕ) (words : List Word) → AreTypes a words → AreTypes b words → a ≡ b
-types_once [] [] [] x y = refl
-types_once (n ∷ a) (m ∷ b) (word ∷ words) x y =
-    let one : n ≡ m = x.0.number ∙ ap number_of (type_once word.octets x.0.record_type y.0.record_type x.0.is.text y.0.is.text) ∙ sym y.0.number in
-    ap (λ (k : ℕ). k ∷ a) one ∙ ap (λ (s : List ℕ). m ∷ s) (types_once a b words x.1 y.1)
-types_once [] [] (word ∷ words) x y = absurd x
-types_once [] (m ∷ b) [] x y = absurd y
-types_once [] (m ∷ b) (word ∷ words) x y = absurd x
-types_once (n ∷ a) [] [] x y = absurd x
-types_once (n ∷ a) [] (word ∷ words) x y = absurd y
-types_once (n ∷ a) (m ∷ b) [] x y = absurd x
+number_type_once : (word : Word) (n m : ℕ) → IsTypeNumber n word → IsTypeNumber m word → n ≡ m
+number_type_once word n m x y = x.number ∙ ap number_of (type_once word.octets x.record_type y.record_type x.is.text y.is.text) ∙ sym y.number
 
 -- ---- all words that are left
 
-strings_once : (a b : List (List ℕ)) (words : List Word) → AreStrings a words → AreStrings b words → a ≡ b
-strings_once [] [] [] x y = refl
-strings_once (s ∷ a) (t ∷ b) (word ∷ words) x y =
-    ap (λ (o : List ℕ). o ∷ a) (string_once.one word s t x.0 y.0) ∙ ap (λ (ss : List (List ℕ)). t ∷ ss) (strings_once a b words x.1 y.1)
-strings_once [] [] (word ∷ words) x y = absurd x
-strings_once [] (t ∷ b) [] x y = absurd y
-strings_once [] (t ∷ b) (word ∷ words) x y = absurd x
-strings_once (s ∷ a) [] [] x y = absurd x
-strings_once (s ∷ a) [] (word ∷ words) x y = absurd y
-strings_once (s ∷ a) (t ∷ b) [] x y = absurd x
-
-same_hex : (r : Result (List ℕ) FromHexError) (a b : List ℕ) → r ≡ Ok a → r ≡ Ok b → a ≡ b
-same_hex r a b e f = cc
-
-same_base64 : (r : Result (List ℕ) DecodeError) (a b : List ℕ) → r ≡ Ok a → r ≡ Ok b → a ≡ b
-same_base64 r a b e f = cc
+same_ok : {E : Type 0} (r : Result (List ℕ) E) (a b : List ℕ) → r ≡ Ok a → r ≡ Ok b → a ≡ b
+same_ok r a b e f = cc
 
 rest_once : (rest : RestKind) (a b : List ℕ) (words : List Word) → RestGives rest a words → RestGives rest b words → a ≡ b
 rest_once NoWord a b words x y = x.1 ∙ sym y.1
-rest_once SomeStrings a b words x y = x.1.same ∙ ap (flat_map string_octets) (strings_once x.1.strings y.1.strings words x.1.are y.1.are) ∙ sym y.1.same
-rest_once SomeHex a b words x y = same_hex _ a b x.1.digits y.1.digits
-rest_once SomeBase64 a b words x y = same_base64 _ a b x.1.digits y.1.digits
-rest_once AnyTypes a b words x y = x.same ∙ ap (λ (ns : List ℕ). flat_map block (minimal ns)) (types_once x.numbers y.numbers words x.are y.are) ∙ sym y.same
+rest_once SomeStrings a b words x y = x.1.same ∙ ap (flat_map string_octets) (same_both (λ w s. string.is s w) string_once.one words x.1.strings y.1.strings x.1.are y.1.are) ∙ sym y.1.same
+rest_once SomeHex a b words x y = same_ok _ a b x.1.digits y.1.digits
+rest_once SomeBase64 a b words x y = same_ok _ a b x.1.digits y.1.digits
+rest_once AnyTypes a b words x y = x.same ∙ ap (λ (ns : List ℕ). flat_map block (minimal ns)) (same_both (λ w n. IsTypeNumber n w) number_type_once words x.numbers y.numbers x.are y.are) ∙ sym y.same
 rest_once AnyParameters a b words x y = one_reading words a b x y
 
 -- ---- rows

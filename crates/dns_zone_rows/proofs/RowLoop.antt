@@ -10,8 +10,9 @@ use Rattle.dns_types.specs.declared.error.ParseError.TheVariants as parse
 use Rattle.dns_words.specs.Reads.{UnlessMemory}
 use Rattle.dns_zone_words.specs.Remaining.{TookAll, NoneOfAll, ReadsAll, PutAll}
 use Rattle.dns_zone_words.specs.Words.{Word, Cursor, words_at, with_word}
-use Rattle.dns_zone_words.proofs.FirstSteps.{unless_map, exit_fault}
-use Rattle.dns_zone_words.proofs.RemainingSteps.{exit_same, word_ok}
+use Rattle.dns_words.proofs.Steps.{unless_map}
+use Rattle.dns_zone_words.proofs.FirstSteps.{exit_fault, exit_with}
+use Rattle.dns_zone_words.proofs.RemainingSteps.{word_ok}
 use Rattle.dns_zone_rows.specs.RowFaults.{kind_of, rest_kind_of, row_value, FieldFault, RestFault, FieldsFault, RowFault}
 use Rattle.dns_zone_rows.specs.RowSteps.{AddedFirst, NoFirstGives}
 use Rattle.dns_zone_rows.specs.Rows.{FieldGives, RestGives, FieldsGive, RowGives}
@@ -161,7 +162,7 @@ rest_fault origin row old now before e so (inr f) = inr (record { fault = so.fau
 pub exit_field : {T : Type 0} (view : T → List ℕ) (r : Result T ParseError) (origin : Option DomainName) (row : ZoneRow) (at : ℕ) (old now : Cursor) (before : List ℕ)
     (d : ZoneField) (e : ParseError) → IsErrAnd r (λ y. y ≡ e) → at < length row.fields.now → RowSo origin row at old now before
     → UnlessMemory e (NoFirstGives (FieldGives origin (kind_of (get_or row.fields.now at d))) now) → ReadsAll (RowGives origin (row_value row)) view r old
-exit_field view r origin row at old now before d e h l so none = exit_same (RowGives origin (row_value row)) view old r e h
+exit_field view r origin row at old now before d e h l so none = exit_with (λ r. ReadsAll (RowGives origin (row_value row)) view r old) e r h
     (field_refused origin row (get_or row.fields.now at d) (drop (suc at) row.fields.now) old now before e (here origin row at old now before d l so) none)
 
 pub exit_field_fault : {T : Type 0} (r : Result T ParseError) (origin : Option DomainName) (row : ZoneRow) (at : ℕ) (old now : Cursor) (before : List ℕ)
@@ -173,7 +174,7 @@ exit_field_fault r origin row at old now before d e h l so f = exit_fault (λ y.
 pub exit_rest : {T : Type 0} (view : T → List ℕ) (r : Result T ParseError) (origin : Option DomainName) (row : ZoneRow) (at : ℕ) (old now : Cursor) (before : List ℕ)
     (e : ParseError) → IsErrAnd r (λ y. y ≡ e) → length row.fields.now ≤ at → RowSo origin row at old now before
     → UnlessMemory e (NoneOfAll (RestGives (rest_kind_of row.rest)) now) → ReadsAll (RowGives origin (row_value row)) view r old
-exit_rest view r origin row at old now before e h l so none = exit_same (RowGives origin (row_value row)) view old r e h
+exit_rest view r origin row at old now before e h l so none = exit_with (λ r. ReadsAll (RowGives origin (row_value row)) view r old) e r h
     (rest_refused origin row old now before e (over origin row at old now before l so) none)
 
 pub exit_rest_fault : {T : Type 0} (r : Result T ParseError) (origin : Option DomainName) (row : ZoneRow) (at : ℕ) (old now : Cursor) (before : List ℕ)

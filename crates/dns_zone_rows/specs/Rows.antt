@@ -1,7 +1,7 @@
 -- Rows of fields: which octets the words of a record's data give (RFC 1035, 5.1), as they are sent, names whole and with
 -- their letters.
 use Rattle.std.specs.Prelude.{◌≡◌, ◌≢◌, ℕ, ◌≤◌, false, List, [], ◌∷◌, ◌++◌, length, Option}
-use Rattle.std.specs.List.{flat_map}
+use Rattle.std.specs.List.{AllZip, flat_map}
 use Rattle.std.specs.Int.{bytes_high_first}
 use Rattle.dns_fields.specs.Bitmaps.{block, minimal}
 use Rattle.dns_fields.specs.Fields.{Kind, Value, Text}
@@ -102,9 +102,7 @@ pub record IsTypeNumber (n : ℕ) (word : Word) : Type 0 where
 
 -- each word is a type of this number
 abbrev pub AreTypes : List ℕ → List Word → Type 0
-AreTypes [] [] = Unit {0}
-AreTypes (n ∷ numbers) (word ∷ words) = IsTypeNumber n word × AreTypes numbers words
-AreTypes numbers words = ⊥
+AreTypes numbers words = AllZip (λ word n. IsTypeNumber n word) words numbers
 
 -- the words are types, and the octets the shortest bitmap of them
 pub record TypesGive (octets : List ℕ) (words : List Word) : Type 0 where

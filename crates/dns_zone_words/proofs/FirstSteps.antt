@@ -3,17 +3,12 @@ use Rattle.std.proofs.Common.{◌≡◌, List, [], ◌∷◌, Result, Ok, Err, s
 use Rattle.std.specs.Prelude.{IfErr}
 use Rattle.std.specs.Result.{IsErrAnd}
 use Rattle.dns_types.specs.declared.error.ParseError.{ParseError}
-use Rattle.dns_types.specs.declared.error.ParseError.TheVariants as parse
 use Rattle.dns_fields.specs.Fields.{Kind, Value}
-use Rattle.dns_words.specs.Reads.{UnlessMemory}
+use Rattle.dns_words.proofs.Steps.{unless_map}
 use Rattle.dns_zone_words.specs.Forms.{ZoneForm}
 use Rattle.dns_zone_words.specs.Words.{Word, Cursor, words_at, with_word}
 use Rattle.dns_zone_words.specs.ZoneReads.{NoValueOf, ReadsAs, FirstHas, NoFirst, ReadsFirst}
 use Rattle.dns_zone_words.specs.declared.words_error.WordsError.{WordsError}
-
-pub unless_map : (e : ParseError) (P Q : Type 0) → (P → Q) → UnlessMemory e P → UnlessMemory e Q
-unless_map parse.Memory P Q f h = tt
-unless_map e P Q f h = f h
 
 -- the first of the words is the one that stands in front
 pub first_is : {k : Kind} (form : ZoneForm k) (v : Value k) (word : Word) (behind : Result (List Word) WordsError) (words : List Word)
@@ -30,11 +25,17 @@ pub first_read : {T : Type 0} {k : Kind} (form : ZoneForm k) (view : T → Value
 first_read form view (Ok x) word old new first h = record { word = word; first = first; is = h }
 first_read form view (Err e) word old new first h = unless_map e (NoValueOf form word) (NoFirst form old) (none_first form word old new first) h
 
-pub unless_all : (e : ParseError) {P : Type 0} → P → UnlessMemory e P
-unless_all parse.Memory h = tt
-unless_all e h = h
+-- what holds of a refusal, as it is handed on
+pub exit_as : {T : Type 0} (F : Result T ParseError → Type 0) (Q : ParseError → Type 0) (r : Result T ParseError) → IsErrAnd r Q → ((e : ParseError) → Q e → F (Err e)) → F r
+exit_as F Q (Ok x) h f = elim h [ ]
+exit_as F Q (Err e) h f = f e h
 
--- why it is refused is handed on
+pub exit_with : {T : Type 0} (F : Result T ParseError → Type 0) (e : ParseError) (r : Result T ParseError) → IsErrAnd r (λ y. y ≡ e) → F (Err e) → F r
+exit_with F e r h f = exit_as F (λ y. y ≡ e) r h (λ y same. subst (λ (z : ParseError). F (Err z)) (sym same) f)
+
+-- why it is refused
+pub exit_why : {T : Type 0} (P Q : ParseError → Type 0) (r : Result T ParseError) → IsErrAnd r P → ((e : ParseError) → P e → Q e) → IfErr r Q
+exit_why P Q r h f = exit_as (λ r. IfErr r Q) P r h f
+
 pub exit_fault : {T : Type 0} (Q : ParseError → Type 0) (r : Result T ParseError) (e : ParseError) → IsErrAnd r (λ y. y ≡ e) → Q e → IfErr r Q
-exit_fault Q (Ok x) e h q = tt
-exit_fault Q (Err y) e h q = subst Q (sym h) q
+exit_fault Q r e h q = exit_with (λ r. IfErr r Q) e r h q

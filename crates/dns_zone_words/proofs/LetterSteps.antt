@@ -2,6 +2,7 @@
 use Rattle.std.proofs.Common.{◌≡◌, ℕ, ◌<◌, ◌≤◌, Bool, true, false, cond, eqb, List, [], ◌∷◌, ◌++◌, length, map, get_or, take, drop, length-drop, subst, ◌-◌, zero, suc, ◌≢◌, ap, refl, sym, ◌∙◌, arith, append_assoc}
 use Rattle.std.proofs.lemmas.List.{append-nil, take_all}
 use Rattle.std.proofs.lemmas.Bool.Decides.{nat_tests}
+use Rattle.dns_zone_words.specs.Forms.{text as text_form}
 use Rattle.dns_zone_words.specs.Letters.{Letter, is_digit, letters, octet_of, escapes_stand}
 use Rattle.dns_zone_words.specs.Views.{BeginsWith}
 use Rattle.dns_zone_words.specs.Words.{Word}

@@ -47,10 +47,6 @@ name_behind [] parts are = refl
 name_behind ([] ∷ labels) parts are = absurd (omega (arith, are.0.0))
 name_behind ((c ∷ label) ∷ labels) parts are = ap (with_label (c ∷ label)) (name_behind labels parts are.1)
 
-labels_behind : (labels : List (List ℕ)) (name : DomainName) → (with_labels labels name).labels ≡ labels ++ name.labels
-labels_behind [] name = refl
-labels_behind (label ∷ labels) name = ap (λ (x : List (List ℕ)). label ∷ x) (labels_behind labels name)
-
 mark_behind : (labels : List (List ℕ)) (name : DomainName) → with_labels labels name ≡ record { labels = labels ++ name.labels; fully_qualified = name.fully_qualified }
 mark_behind [] name = refl
 mark_behind (label ∷ labels) name = ap (with_label label) (mark_behind labels name)
@@ -173,7 +169,7 @@ part_label text labels part parts e are some =
       rest.0,
       ap (λ (ps : List (List ℕ)). (name_of_parts ps).labels) e
           ∙ ap (λ (name : DomainName). name.labels) (name_behind labels (part ∷ parts) are)
-          ∙ labels_behind labels (name_of_parts (part ∷ parts))
+          ∙ ap (λ (name : DomainName). name.labels) (mark_behind labels (name_of_parts (part ∷ parts)))
           ∙ ap (λ (ls : List (List ℕ)). labels ++ ls) rest.1,
     )
 
@@ -282,20 +278,17 @@ some_named true b origin x v h k e = absurd (cc)
 some_named false true origin x v h k e = absurd (cc)
 some_named false false origin x v h k e = cc
 
+has_label : {holds : List ℕ → Type 0} (labels : List (List ℕ)) (has : HasLabel holds labels) → AreLabels labels → IsLabel has.label × holds has.label
+has_label labels has are = (label_among has.front has.label has.behind (subst AreLabels has.all are), has.is)
+
 -- with a fault there are no labels
 pub fault_none : (field : NameField) (text : List ℕ) (e : ParseError) → LabelsFault field text e → NoLabels text
 fault_none field text e (inl fault) = record { none = λ escapes are fits. let both : true ≡ false = sym escapes ∙ fault.1 in absurd (cc) }
 fault_none field text e (inr (inl fault)) = record {
-  none = λ escapes are fits.
-      let has = fault.1 in
-      let is = label_among has.front has.label has.behind (subst AreLabels has.all are) in
-      omega (arith, is.0, has.is);
+  none = λ escapes are fits. let is = has_label (labelled text).labels fault.1 are in omega (arith, is.0.0, is.1);
 }
 fault_none field text e (inr (inr (inl fault))) = record {
-  none = λ escapes are fits.
-      let has = fault.1 in
-      let is = label_among has.front has.label has.behind (subst AreLabels has.all are) in
-      omega (arith, is.1, has.is);
+  none = λ escapes are fits. let is = has_label (labelled text).labels fault.1 are in omega (arith, is.0.1, is.1);
 }
 fault_none field text e (inr (inr (inr fault))) = record { none = λ escapes are fits. omega (arith, fault.1, fits) }
 

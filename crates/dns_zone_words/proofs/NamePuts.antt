@@ -2,24 +2,21 @@
 use Rattle.std.proofs.Common.{◌≡◌, ℕ, ◌+◌, ◌<◌, ◌≤◌, Bool, true, false, List, [], ◌∷◌, ◌++◌, length, map, refl, sym, ◌∙◌, ap, subst, arith, append_assoc, ◌⊎◌, inl, inr, Option, Some, None, Result, Ok, Err}
 use Rattle.std.specs.Prelude.{IfOk, IfErr, OnOk}
 use Rattle.std.specs.Char.{to_ascii_lowercase}
-use Rattle.std.specs.Result.{IsErrAnd}
 use Rattle.std.proofs.lemmas.Bool.Decides.{nat_tests}
 use Rattle.std.proofs.lemmas.List.{length-append, length-map}
 use Rattle.dns_fields.specs.Labels.{DomainName, AreLabels, IsName, lowered, lowname, wire}
-use Rattle.dns_fields.specs.Fields.{Kind, Value}
 use Rattle.dns_fields.proofs.Runs.{wire-append, AreLabels-append}
 use Rattle.dns_types.specs.declared.error.ParseError.{ParseError}
 use Rattle.dns_types.specs.declared.error.ParseError.TheVariants as parse
 use Rattle.dns_names_wire.specs.NameValues.{root_name, joined_name, completed}
 use Rattle.dns_words.specs.Reads.{UnlessMemory}
-use Rattle.dns_zone_words.specs.Forms.{ZoneForm}
 use Rattle.dns_zone_words.specs.Letters.{escapes_stand}
 use Rattle.dns_zone_words.specs.NameSteps.{LabelsRead}
 use Rattle.dns_zone_words.specs.NameWords.{labelled, is_alone, named, name, name_octets, NameFault}
 use Rattle.dns_zone_words.specs.Words.{Word}
-use Rattle.dns_zone_words.specs.ZoneReads.{NoValueOf, PutAs, PutsAs}
+use Rattle.dns_zone_words.specs.ZoneReads.{PutAs, PutsAs}
 use Rattle.dns_zone_words.specs.declared.field.NameField.{NameField}
-use Rattle.dns_zone_words.proofs.FirstSteps.{unless_all}
+use Rattle.dns_words.proofs.Steps.{unless_all}
 use Rattle.dns_zone_words.proofs.NameLabels.{labels_read}
 
 -- of an answer
@@ -31,12 +28,6 @@ if_ok P Q (Err e) f h = tt
 pub if_err : {T E : Type 0} (P Q : E → Type 0) (r : Result T E) → ((e : E) → P e → Q e) → IfErr r P → IfErr r Q
 if_err P Q (Ok x) f h = tt
 if_err P Q (Err e) f h = f e h
-
--- a refusal is handed on
-pub exit_put : {T : Type 0} {k : Kind} (form : ZoneForm k) (written : Value k → List ℕ) (r : Result T ParseError) (before after : List ℕ) (word : Word) (Q : ParseError → Type 0)
-    → IsErrAnd r Q → NoValueOf form word → PutsAs form written r before after word
-exit_put form written (Ok x) before after word Q h none = elim h [ ]
-exit_put form written (Err e) before after word Q h none = unless_all e none
 
 -- ---- the root
 

@@ -1,15 +1,15 @@
 -- Words that are left, one by one.
-use Rattle.std.proofs.Common.{◌≡◌, ℕ, length, true, false, List, [], ◌∷◌, ◌++◌, Result, Ok, Err, refl, sym, ◌∙◌, ap, subst, append_assoc}
+use Rattle.std.proofs.Common.{◌≡◌, ℕ, length, true, false, List, [], ◌∷◌, ◌++◌, Result, Ok, Err, refl, sym, ◌∙◌, ap, subst}
 use Rattle.std.proofs.lemmas.List.{append-nil}
-use Rattle.std.specs.Prelude.{IfErr}
-use Rattle.std.specs.Result.{IsErrAnd}
+use Rattle.std.specs.List.{AllZip}
+use Rattle.std.proofs.lemmas.Grind.{flat_map-append}
 use Rattle.dns_types.specs.declared.error.ParseError.{ParseError}
 use Rattle.dns_words.specs.Reads.{UnlessMemory}
-use Rattle.dns_zone_words.specs.Remaining.{AllBare, joined, AreJoined, AreUnknown, TookAll, NoneOfAll, ReadsAll, with_words}
+use Rattle.dns_zone_words.specs.Remaining.{AllBare, joined, AreJoined, AreUnknown, TookAll, NoneOfAll, with_words}
 use Rattle.dns_zone_words.specs.Forms.{number}
 use Rattle.dns_zone_words.specs.ZoneReads.{FirstHas, NoFirst}
 use Rattle.dns_zone_words.specs.Words.{Word, Cursor, words_at, with_word}
-use Rattle.dns_zone_words.proofs.FirstSteps.{unless_map, unless_all}
+use Rattle.dns_words.proofs.Steps.{unless_map}
 use Rattle.dns_zone_words.specs.declared.words_error.WordsError.{WordsError}
 
 -- so many words were taken, none in quotes, and their octets are these
@@ -22,17 +22,16 @@ pub record TakenSo (old new : Cursor) (octets : List ℕ) : Type 0 where
 pub none_taken : (cursor : Cursor) → TakenSo cursor cursor []
 none_taken cursor = record { words = []; bare = tt; same = refl; behind = refl }
 
-pub words_more : (words : List Word) (word : Word) (behind : Result (List Word) WordsError) → with_words (words ++ word ∷ []) behind ≡ with_words words (with_word word behind)
-words_more [] word behind = refl
-words_more (first ∷ words) word behind = ap (with_word first) (words_more words word behind)
+pub words_more : (words front : List Word) (behind : Result (List Word) WordsError) → with_words (words ++ front) behind ≡ with_words words (with_words front behind)
+words_more [] front behind = refl
+words_more (first ∷ words) front behind = ap (with_word first) (words_more words front behind)
 
 bare_more : (words : List Word) (word : Word) → AllBare words → word.quoted ≡ false → AllBare (words ++ word ∷ [])
 bare_more [] word h e = (e, tt)
 bare_more (first ∷ words) word h e = (h.0, bare_more words word h.1 e)
 
 joined_more : (words : List Word) (word : Word) → joined (words ++ word ∷ []) ≡ joined words ++ word.octets
-joined_more [] word = append-nil word.octets
-joined_more (first ∷ words) word = ap (λ (x : List ℕ). first.octets ++ x) (joined_more words word) ∙ sym (append_assoc first.octets (joined words) word.octets)
+joined_more words word = flat_map-append (λ (w : Word). w.octets) words (word ∷ []) ∙ ap (λ (x : List ℕ). joined words ++ x) (append-nil word.octets)
 
 pub one_taken : (old now new : Cursor) (octets more : List ℕ) (word : Word) → TakenSo old now octets → words_at now ≡ with_word word (words_at new)
     → word.quoted ≡ false → more ≡ octets ++ word.octets → TakenSo old new more
@@ -40,7 +39,7 @@ one_taken old now new octets more word so first bare e = record {
   words = so.words ++ word ∷ [];
   bare = bare_more so.words word so.bare bare;
   same = e ∙ ap (λ (x : List ℕ). x ++ word.octets) so.same ∙ sym (joined_more so.words word);
-  behind = so.behind ∙ ap (with_words so.words) first ∙ sym (words_more so.words word (words_at new));
+  behind = so.behind ∙ ap (with_words so.words) first ∙ sym (words_more so.words (word ∷ []) (words_at new));
 }
 
 pub words_ok : (words : List Word) → with_words words (Ok []) ≡ Ok words
@@ -71,38 +70,41 @@ pub word_ok : (word : Word) (behind : Result (List Word) WordsError) (all : List
 word_ok word (Ok rest) all e = let same : word ∷ rest ≡ all = cc in (rest, refl, sym same)
 word_ok word (Err why) all e = absurd (cc)
 
-is_quoted : (word : Word) → word.quoted ≡ true → word.quoted ≡ false → ⊥
-is_quoted word a b = let both : true ≡ false = sym a ∙ b in absurd (cc)
+-- a word among others
+pub split_ok : (front : List Word) (word : Word) (behind : Result (List Word) WordsError) (all : List Word) → with_words front (with_word word behind) ≡ Ok all
+    → (rest : List Word) × (all ≡ front ++ word ∷ rest)
+split_ok [] word behind all e = let k = word_ok word behind all e in (k.0, k.2)
+split_ok (first ∷ front) word behind all e =
+    let k = word_ok first (with_words front (with_word word behind)) all e in
+    let m = split_ok front word behind k.0 k.1 in
+    (m.0, k.2 ∙ ap (λ (x : List Word). first ∷ x) m.1)
 
-not_bare : (words : List Word) (word : Word) (behind : Result (List Word) WordsError) (all : List Word) → word.quoted ≡ true
-    → with_words words (with_word word behind) ≡ Ok all → AllBare all → ⊥
-not_bare [] word behind all quoted e bare =
-    let k = word_ok word behind all e in
-    is_quoted word quoted (subst AllBare k.2 bare).0
-not_bare (first ∷ words) word behind all quoted e bare =
-    let k = word_ok first (with_words words (with_word word behind)) all e in
-    not_bare words word behind k.0 quoted k.1 (subst AllBare k.2 bare).1
+bare_among : (front : List Word) (word : Word) (rest : List Word) → AllBare (front ++ word ∷ rest) → word.quoted ≡ false
+bare_among [] word rest bare = bare.0
+bare_among (first ∷ front) word rest bare = bare_among front word rest bare.1
+
+-- what belongs to one of the elements
+pub one_of_both : {X Y : Type 0} (R : X → Y → Type 0) (xs : List X) (x : X) (more : List X) (ys : List Y) → AllZip R (xs ++ x ∷ more) ys → (y : Y) × R x y
+one_of_both R [] x more [] h = absurd h
+one_of_both R [] x more (y ∷ ys) h = (y, h.0)
+one_of_both R (a ∷ xs) x more [] h = absurd h
+one_of_both R (a ∷ xs) x more (y ∷ ys) h = one_of_both R xs x more ys h.1
+
+-- and to one of the words
+pub one_among : {V : Type 0} (R : Word → V → Type 0) (front : List Word) (word : Word) (behind : Result (List Word) WordsError) (all : List Word) (vs : List V)
+    → with_words front (with_word word behind) ≡ Ok all → AllZip R all vs → (v : V) × R word v
+one_among {V} R front word behind all vs e are =
+    let m = split_ok front word behind all e in
+    one_of_both R front word m.0 vs (subst (λ (ws : List Word). AllZip R ws vs) m.1 are)
 
 pub in_quotes : (old now new : Cursor) (octets : List ℕ) (word : Word) → TakenSo old now octets → words_at now ≡ with_word word (words_at new) → word.quoted ≡ true → NoneOfAll AreJoined old
 in_quotes old now new octets word so first quoted = record {
-  none = λ v words cut is. not_bare so.words word (words_at new) words quoted (sym (so.behind ∙ ap (with_words so.words) first) ∙ cut) is.bare;
+  none = λ v words cut is.
+      let m = split_ok so.words word (words_at new) words (sym (so.behind ∙ ap (with_words so.words) first) ∙ cut) in
+      let bare = bare_among so.words word m.0 (subst AllBare m.1 is.bare) in
+      let both : true ≡ false = sym quoted ∙ bare in
+      absurd (cc);
 }
-
--- why a refusal is handed on
-pub exit_as : {T : Type 0} (P Q : ParseError → Type 0) (r : Result T ParseError) → IsErrAnd r P → ((e : ParseError) → P e → Q e) → IfErr r Q
-exit_as P Q (Ok x) h f = tt
-exit_as P Q (Err e) h f = f e h
-
--- a refusal is handed on
-pub exit_all : {T V : Type 0} (is : V → List Word → Type 0) (view : T → V) (cursor : Cursor) (r : Result T ParseError) (Q : ParseError → Type 0)
-    → IsErrAnd r Q → NoneOfAll is cursor → ReadsAll is view r cursor
-exit_all is view cursor (Ok x) Q h none = elim h [ ]
-exit_all is view cursor (Err e) Q h none = unless_all e none
-
-pub exit_same : {T V : Type 0} (is : V → List Word → Type 0) (view : T → V) (cursor : Cursor) (r : Result T ParseError) (e : ParseError)
-    → IsErrAnd r (λ y. y ≡ e) → UnlessMemory e (NoneOfAll is cursor) → ReadsAll is view r cursor
-exit_same is view cursor (Ok x) e h none = elim h [ ]
-exit_same is view cursor (Err y) e h none = subst (λ (z : ParseError). UnlessMemory z (NoneOfAll is cursor)) (sym h) none
 
 -- why the words are not cut
 pub joined_cut : (old now : Cursor) (octets : List ℕ) (e : WordsError) → TakenSo old now octets → words_at now ≡ Err e → words_at old ≡ Err e

@@ -59,7 +59,7 @@ second_true true b h = h
 second_true false b h = absurd (cc h)
 
 -- each octet is ASCII
-ascii_utf8 : (text : List ℕ) → list_all is_ascii text ≡ true → IsUtf8 text
+pub ascii_utf8 : (text : List ℕ) → list_all is_ascii text ≡ true → IsUtf8 text
 ascii_utf8 [] h = IsUtf8-nil
 ascii_utf8 (c ∷ text) h = IsUtf8-append (c ∷ []) text (one_utf8 c (grind (arith, nat_tests))) (ascii_utf8 text (second_true (is_ascii c) (list_all is_ascii text) h))
 

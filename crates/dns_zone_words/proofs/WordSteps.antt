@@ -1,13 +1,14 @@
 -- Words of a text, octet by octet.
-use Rattle.std.proofs.Common.{◌≡◌, ℕ, zero, suc, ◌+◌, ◌-◌, ◌<◌, ◌≤◌, Bool, true, false, eqb, List, [], ◌∷◌, ◌++◌, length, take, drop, get_or, refl, sym, subst, ◌∙◌, ap, add-one, arith, Err}
+use Rattle.std.proofs.Common.{◌≡◌, ℕ, zero, suc, ◌+◌, ◌-◌, ◌<◌, ◌≤◌, Bool, true, false, eqb, List, [], ◌∷◌, ◌++◌, length, take, drop, get_or, refl, sym, subst, ◌∙◌, ap, add-one, arith, Result, Err}
 use Rattle.std.proofs.Math.Seq.{take-suc, drop-cons}
 use Rattle.dns_zone_words.specs.declared.words_error.WordsError.{WordsError}
 use Rattle.dns_zone_words.specs.declared.words_error.WordsError.TheVariants.{NoParenthesis, LineInQuotes, FurtherLine}
 use Rattle.std.proofs.lemmas.Bool.Decides.{nat_tests}
-use Rattle.std.proofs.lemmas.Simd.{get_or-chunk}
+use Rattle.std.proofs.lemmas.List.{get_or-drop}
 use Rattle.dns_zone_words.specs.Quiet.{IsQuiet}
-use Rattle.dns_zone_words.specs.Words.{is_blank, is_line_end, ends_run, between, run, quotes, over, refused, words_from}
+use Rattle.dns_zone_words.specs.Words.{Word, is_blank, is_line_end, ends_run, between, run, quotes, over, refused, words_from}
 use Rattle.dns_zone_words.specs.WordSteps.{QuotesRefused}
+use Rattle.dns_zone_words.proofs.LetterSteps.{from_place}
 use Rattle.dns_zone_words.proofs.QuietSteps.{AreQuiet}
 
 -- a refused text stays so
@@ -15,17 +16,58 @@ pub stays_refused : (e : WordsError) (text : List ℕ) → words_from (refused e
 stays_refused e [] = refl
 stays_refused e (c ∷ text) = stays_refused e text
 
+-- ---- a reader that keeps the octets that it passed
+
+module _ {A : Type 0} (go : List ℕ → List ℕ → A) (text : List ℕ) where
+  -- behind the first n octets it goes on with these
+  abbrev pub PassedTo : ℕ → Type 0
+  PassedTo n = go [] text ≡ go (take n text) (drop n text)
+
+  abbrev octet : ℕ → ℕ
+  octet n = get_or text n 0
+
+  next_drop : (n : ℕ) → n < length text → drop n text ≡ octet n ∷ drop (n + 1) text
+  next_drop n h = rw add-one (drop-cons text n 0 h)
+
+  next_take : (n : ℕ) → n < length text → take (n + 1) text ≡ take n text ++ octet n ∷ []
+  next_take n h = rw add-one (take-suc text n 0 h)
+
+  pub one_passed : (n : ℕ) → PassedTo n → n < length text
+      → go (take n text) (octet n ∷ drop (n + 1) text) ≡ go (take n text ++ octet n ∷ []) (drop (n + 1) text) → PassedTo (n + 1)
+  one_passed n so h step =
+      so ∙ ap (go (take n text)) (next_drop n h) ∙ step ∙ ap (λ (x : List ℕ). go x (drop (n + 1) text)) (sym (next_take n h))
+
+  pub two_passed : (n : ℕ) → PassedTo n → n + 1 < length text
+      → go (take n text) (octet n ∷ octet (n + 1) ∷ drop (n + 1 + 1) text) ≡ go ((take n text ++ octet n ∷ []) ++ octet (n + 1) ∷ []) (drop (n + 1 + 1) text)
+      → PassedTo (n + 2)
+  two_passed n so h step =
+      let two : n + 1 + 1 ≡ n + 2 = omega arith in
+      let front : take (n + 1 + 1) text ≡ (take n text ++ octet n ∷ []) ++ octet (n + 1) ∷ [] =
+      next_take (n + 1) h ∙ ap (λ (x : List ℕ). x ++ octet (n + 1) ∷ []) (next_take n (omega arith)) in
+      rw (← two) (
+      so
+      ∙ ap (go (take n text)) (next_drop n (omega arith) ∙ ap (λ (x : List ℕ). octet n ∷ x) (next_drop (n + 1) h))
+      ∙ step
+      ∙ ap (λ (x : List ℕ). go x (drop (n + 1 + 1) text)) (sym front)
+      )
+
+  -- m octets more, at none of which it stops
+  pub quiet_passed : (most b c n m at : ℕ) → ((front : List ℕ) (d : ℕ) (rest : List ℕ) → IsQuiet most b c d → go front (d ∷ rest) ≡ go (front ++ d ∷ []) rest)
+      → PassedTo n → m ≤ length text - n → AreQuiet most b c (drop n text) m → at ≡ n + m → PassedTo at
+  quiet_passed most b c n zero at step so within quiet e = let same : at ≡ n = omega arith in rw same so
+  quiet_passed most b c n (suc m) at step so within quiet e =
+      let next : at ≡ n + m + 1 = omega arith in
+      rw next (one_passed (n + m) (quiet_passed most b c n m (n + m) step so (omega arith) (λ k lt. quiet k (omega arith)) refl) (omega arith)
+      (step (take (n + m) text) (octet (n + m)) (drop (n + m + 1) text) (subst (IsQuiet most b c) (get_or-drop n text m 0) (quiet m (omega arith)))))
+
 -- ---- strings in quotes
 
-next_drop : (text : List ℕ) (n : ℕ) → n < length text → drop n text ≡ get_or text n 0 ∷ drop (n + 1) text
-next_drop text n h = rw add-one (drop-cons text n 0 h)
-
-next_take : (text : List ℕ) (n : ℕ) → n < length text → take (n + 1) text ≡ take n text ++ get_or text n 0 ∷ []
-next_take text n h = rw add-one (take-suc text n 0 h)
+abbrev quoted : ℕ → Bool → List ℕ → List ℕ → Result (List Word) WordsError
+quoted depth joined front = words_from (quotes depth joined front)
 
 -- the first n octets stand in the quotes, and more may
 abbrev pub QuotesOn : List ℕ → ℕ → Type 0
-QuotesOn text n = (depth : ℕ) (joined : Bool) → words_from (quotes depth joined []) text ≡ words_from (quotes depth joined (take n text)) (drop n text)
+QuotesOn text n = (depth : ℕ) (joined : Bool) → PassedTo (quoted depth joined) text n
 
 line_feed : (depth : ℕ) (joined : Bool) (front : List ℕ) (c : ℕ) (text : List ℕ) → eqb c 34 ≡ false → eqb c 10 ≡ true
     → words_from (quotes depth joined front) (c ∷ text) ≡ Err LineInQuotes
@@ -36,7 +78,7 @@ pub quotes_line : (text : List ℕ) (n : ℕ) → QuotesOn text n → n < length
 quotes_line text n so lt h k = record {
   why = λ depth joined.
       so depth joined
-      ∙ ap (words_from (quotes depth joined (take n text))) (next_drop text n lt)
+      ∙ ap (words_from (quotes depth joined (take n text))) (next_drop (quoted depth joined) text n lt)
       ∙ line_feed depth joined (take n text) (get_or text n 0) (drop (n + 1) text) h k;
 }
 
@@ -46,18 +88,7 @@ pair depth joined front c d text h k e = rw (h, k, e) refl
 
 pub quotes_two : (text : List ℕ) (n : ℕ) → QuotesOn text n → n + 1 < length text → eqb (get_or text n 0) 34 ≡ false → eqb (get_or text n 0) 10 ≡ false
     → eqb (get_or text n 0) 92 ≡ true → QuotesOn text (n + 2)
-quotes_two text n so lt h k e depth joined =
-    let first : drop n text ≡ get_or text n 0 ∷ drop (n + 1) text = next_drop text n (omega arith) in
-    let second : drop (n + 1) text ≡ get_or text (n + 1) 0 ∷ drop (n + 1 + 1) text = next_drop text (n + 1) lt in
-    let front : take (n + 1 + 1) text ≡ (take n text ++ get_or text n 0 ∷ []) ++ get_or text (n + 1) 0 ∷ [] =
-    next_take text (n + 1) lt ∙ ap (λ (x : List ℕ). x ++ get_or text (n + 1) 0 ∷ []) (next_take text n (omega arith)) in
-    let two : n + 1 + 1 ≡ n + 2 = omega arith in
-    rw (← two) (
-    so depth joined
-    ∙ ap (words_from (quotes depth joined (take n text))) (first ∙ ap (λ (x : List ℕ). get_or text n 0 ∷ x) second)
-    ∙ pair depth joined (take n text) (get_or text n 0) (get_or text (n + 1) 0) (drop (n + 1 + 1) text) h k e
-    ∙ ap (λ (x : List ℕ). words_from (quotes depth joined x) (drop (n + 1 + 1) text)) (sym front)
-    )
+quotes_two text n so lt h k e depth joined = two_passed (quoted depth joined) text n (so depth joined) lt (pair depth joined (take n text) _ _ _ h k e)
 
 -- octets at which no reader stops, and that neither end the quotes nor begin with a `\`
 quotes_one : (depth : ℕ) (joined : Bool) (front : List ℕ) (c : ℕ) (text : List ℕ) → IsQuiet 10 34 92 c
@@ -68,30 +99,14 @@ quotes_one depth joined front c text quiet =
     let e : eqb c 92 ≡ false = grind (arith, nat_tests) in
     rw (h, k, e) refl
 
-quotes_next : (text : List ℕ) (n : ℕ) → QuotesOn text n → n < length text → IsQuiet 10 34 92 (get_or text n 0) → QuotesOn text (n + 1)
-quotes_next text n so lt quiet depth joined =
-    so depth joined
-    ∙ ap (words_from (quotes depth joined (take n text))) (next_drop text n lt)
-    ∙ quotes_one depth joined (take n text) (get_or text n 0) (drop (n + 1) text) quiet
-    ∙ ap (λ (x : List ℕ). words_from (quotes depth joined x) (drop (n + 1) text)) (sym (next_take text n lt))
-
 pub quotes_quiet : (text : List ℕ) (n : ℕ) → n ≤ length text → AreQuiet 10 34 92 text n → QuotesOn text n
-quotes_quiet text zero within quiet = λ depth joined. refl
-quotes_quiet text (suc n) within quiet =
-    let next : suc n ≡ n + 1 = omega arith in
-    rw next (quotes_next text n (quotes_quiet text n (omega arith) (λ k lt. quiet k (omega arith))) (omega arith) (quiet n (omega arith)))
+quotes_quiet text n within quiet depth joined = quiet_passed (quoted depth joined) text 10 34 92 0 n n (quotes_one depth joined) refl (omega arith) quiet (omega arith)
 
 -- and as many of them behind a place
 pub quotes_more : (text : List ℕ) (n m : ℕ) → QuotesOn text n → m ≤ length text - n → AreQuiet 10 34 92 (take (length text - n) (drop n text)) m
     → QuotesOn text (n + m)
-quotes_more text n zero so within quiet =
-    let same : n + zero ≡ n = omega arith in
-    rw same so
-quotes_more text n (suc m) so within quiet =
-    let next : n + suc m ≡ n + m + 1 = omega arith in
-    let octet : get_or (take (length text - n) (drop n text)) m 0 ≡ get_or text (n + m) 0 = get_or-chunk n (length text - n) text m 0 (omega arith) in
-    rw next (quotes_next text (n + m) (quotes_more text n m so (omega arith) (λ k lt. quiet k (omega arith))) (omega arith)
-    (subst (λ x. IsQuiet 10 34 92 x) octet (quiet m (omega arith))))
+quotes_more text n m so within quiet depth joined = quiet_passed (quoted depth joined) text 10 34 92 n m (n + m) (quotes_one depth joined) (so depth joined) within
+    (subst (λ (s : List ℕ). AreQuiet 10 34 92 s m) (from_place n text) quiet) refl
 
 -- ---- words without quotes
 
@@ -104,16 +119,8 @@ run_one depth joined front c text quiet =
 
 pub run_quiet : (text : List ℕ) (n : ℕ) → n ≤ length text → AreQuiet 41 59 92 text n
     → (depth : ℕ) (joined : Bool) → words_from (run depth joined []) text ≡ words_from (run depth joined (take n text)) (drop n text)
-run_quiet text zero within quiet depth joined = refl
-run_quiet text (suc n) within quiet depth joined =
-    let octet = get_or text n 0 in
-    let next : suc n ≡ n + 1 = omega arith in
-    rw next (
-    run_quiet text n (omega arith) (λ k lt. quiet k (omega arith)) depth joined
-    ∙ ap (words_from (run depth joined (take n text))) (next_drop text n (omega arith))
-    ∙ run_one depth joined (take n text) octet (drop (n + 1) text) (quiet n (omega arith))
-    ∙ ap (λ (x : List ℕ). words_from (run depth joined x) (drop (n + 1) text)) (sym (next_take text n (omega arith)))
-    )
+run_quiet text n within quiet depth joined =
+    quiet_passed (λ (front : List ℕ). words_from (run depth joined front)) text 41 59 92 0 n n (run_one depth joined) refl (omega arith) quiet (omega arith)
 
 -- ---- behind the line
 

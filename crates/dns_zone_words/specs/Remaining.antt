@@ -1,6 +1,6 @@
 -- All words that are left of a text: strings, base64, hexadecimal digits, and the form of unknown data (RFC 3597, 5).
 use Rattle.std.specs.Prelude.{◌≡◌, ◌⊎◌, ℕ, ◌^◌, ◌%◌, ◌≢◌, ◌<◌, true, false, List, [], ◌∷◌, ◌++◌, Result, Ok, Err, length, codes}
-use Rattle.std.specs.List.{flat_map}
+use Rattle.std.specs.List.{AllZip, flat_map}
 use Rattle.base64.specs.Engines.{standard}
 use Rattle.base64.specs.GeneralPurpose.{decode_of as base64_of}
 use Rattle.hex.specs.Hex.{decode_of as hex_of}
@@ -51,9 +51,7 @@ AreUnknown octets (first ∷ words) = IsNumber (length octets) first × (length 
 
 -- each word is a character string
 abbrev pub AreStrings : List (List ℕ) → List Word → Type 0
-AreStrings [] [] = Unit {0}
-AreStrings (octets ∷ strings) (word ∷ words) = string.is octets word × AreStrings strings words
-AreStrings strings words = ⊥
+AreStrings strings words = AllZip (λ word octets. string.is octets word) words strings
 
 -- the word `\#` without quotes, which begins the form of unknown data
 pub record IsUnknownMark (word : Word) : Type 0 where

@@ -80,6 +80,7 @@ pub fn next_ttl(words: &mut ZoneWords<'_>, field: Field) -> Result<u32, ParseErr
 
 /// An IPv4 address, as `next_u8`.
 #[inline]
+#[tactic(auto, using(crate::proofs::FirstSteps::first_read))]
 pub fn next_ipv4(words: &mut ZoneWords<'_>, field: Field) -> Result<Ipv4Addr, ParseError>
     ensures reads { ReadsFirst (bare ipv4) ipv4_octets result words.old words.new }
     ensures why { IfErr result (WhyNoField field words.old) }
@@ -91,6 +92,7 @@ pub fn next_ipv4(words: &mut ZoneWords<'_>, field: Field) -> Result<Ipv4Addr, Pa
 
 /// An IPv6 address, as `next_u8`.
 #[inline]
+#[tactic(auto, using(crate::proofs::FirstSteps::first_read))]
 pub fn next_ipv6(words: &mut ZoneWords<'_>, field: Field) -> Result<Ipv6Addr, ParseError>
     ensures reads { ReadsFirst (bare ipv6) ipv6_octets result words.old words.new }
     ensures why { IfErr result (WhyNoField field words.old) }

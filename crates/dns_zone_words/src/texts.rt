@@ -87,6 +87,7 @@ fn plain_len(text: &[u8]) -> usize
 /// A time to live of 32 bits, without quotes: runs of digits, each followed by `w`, `d`, `h`, `m` or `s` of either
 /// case; the last may have no unit, and then gives seconds. Any other word is refused by
 /// [`Message`](ParseError::Message) of the text `wrong`. Takes no memory.
+#[tactic(auto, using(crate::proofs::TextSteps::no_ttl))]
 pub fn ttl_of(word: ZoneWord<'_>, wrong: &'static str) -> Result<u32, ParseError>
     ensures reads { ReadsAs (bare (ttl 4294967295)) (λ n. n) result (word_value word.entry) }
     ensures why { IfErr result (λ e. e ≡ ParseError.Message wrong.entry) }
@@ -102,6 +103,7 @@ pub fn ttl_of(word: ZoneWord<'_>, wrong: &'static str) -> Result<u32, ParseError
 
 /// An IPv4 address, without quotes. Any other word is refused by [`Message`](ParseError::Message) of the text `wrong`.
 /// Takes no memory.
+#[tactic(auto, using(crate::proofs::TextSteps::no_ipv4))]
 pub fn ipv4_of(word: ZoneWord<'_>, wrong: &'static str) -> Result<Ipv4Addr, ParseError>
     ensures reads { ReadsAs (bare ipv4) ipv4_octets result (word_value word.entry) }
     ensures why { IfErr result (λ e. e ≡ ParseError.Message wrong.entry) }
@@ -116,6 +118,7 @@ pub fn ipv4_of(word: ZoneWord<'_>, wrong: &'static str) -> Result<Ipv4Addr, Pars
 }
 
 /// An IPv6 address (RFC 4291, 2.2), as `ipv4_of`.
+#[tactic(auto, using(crate::proofs::TextSteps::no_ipv6))]
 pub fn ipv6_of(word: ZoneWord<'_>, wrong: &'static str) -> Result<Ipv6Addr, ParseError>
     ensures reads { ReadsAs (bare ipv6) ipv6_octets result (word_value word.entry) }
     ensures why { IfErr result (λ e. e ≡ ParseError.Message wrong.entry) }

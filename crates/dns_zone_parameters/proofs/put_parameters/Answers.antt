@@ -5,7 +5,7 @@ use Rattle.dns_fields.specs.Pieces.{pieces}
 use Rattle.dns_zone_parameters.specs.Views.{parameter_value}
 use Rattle.dns_zone_words.specs.Remaining.{PutsAll}
 use Rattle.dns_zone_parameters.specs.Parameters.{AreParameters}
-use Rattle.dns_zone_parameters.proofs.Exits.{exit_with}
+use Rattle.dns_zone_words.proofs.FirstSteps.{exit_with}
 use Rattle.dns_zone_parameters.proofs.ParameterSteps.{no_rise, key_twice, are_parameters, put_taken, not_written}
 use Rattle.dns_zone_parameters.proofs.put_parameters.Goals as goal
 

@@ -2,7 +2,7 @@ use Rattle.std.specs.List.{AllZip}
 use Rattle.std.specs.Option.{option_copied}
 use Rattle.dns_words.specs.Reads.{Decides}
 use Rattle.dns_zone_parameters.specs.Lists.{items_in, IsListedKey}
-use Rattle.dns_zone_parameters.proofs.Exits.{exit_with}
+use Rattle.dns_zone_words.proofs.FirstSteps.{exit_with}
 use Rattle.dns_zone_parameters.proofs.Items.{one_item, last_item, none_of}
 use Rattle.dns_zone_parameters.proofs.lists.keys_in.Goals as goal
 

@@ -2,7 +2,7 @@ use Rattle.std.proofs.Common.{[], ◌∷◌, ◌++◌, refl, ◌∙◌}
 use Rattle.std.specs.Option.{option_copied}
 use Rattle.dns_words.specs.Reads.{Decides}
 use Rattle.dns_zone_parameters.specs.Lists.{IsItem, IsList}
-use Rattle.dns_zone_parameters.proofs.Exits.{exit_with}
+use Rattle.dns_zone_words.proofs.FirstSteps.{exit_with}
 use Rattle.dns_zone_parameters.proofs.Items.{one_item, last_item, none_of, no_list, joined_more}
 use Rattle.dns_zone_parameters.proofs.lists.list_of.Goals as goal
 

@@ -1,5 +1,5 @@
 use Rattle.dns_zone_parameters.specs.Steps.{PushesItem}
-use Rattle.dns_zone_parameters.proofs.Exits.{exit_with}
+use Rattle.dns_zone_words.proofs.FirstSteps.{exit_with}
 use Rattle.dns_zone_parameters.proofs.ValueSteps.{no_ipv4, no_ipv6}
 use Rattle.dns_zone_parameters.proofs.lists.push_item.Goals as goal
 

@@ -8,8 +8,7 @@ use Rattle.dns_zone_words.specs.Views.{word_value}
 use Rattle.dns_zone_words.specs.Words.{Cursor}
 use Rattle.dns_zone_words.specs.ZoneReads.{LacksFirst}
 use Rattle.dns_zone_words.specs.declared.field.StringField.{StringField}
-use Rattle.dns_zone_words.proofs.FirstSteps.{exit_fault}
-use Rattle.dns_zone_words.proofs.RemainingSteps.{exit_as}
+use Rattle.dns_zone_words.proofs.FirstSteps.{exit_fault, exit_why}
 use Rattle.dns_zone_rows.proofs.StringWords.{first_string, one_string, all_strings, exit_first, exit_string, exit_cut, strings_cut, first_why, string_why}
 use Rattle.dns_zone_rows.proofs.remaining.add_strings.Goals as goal
 
@@ -37,7 +36,7 @@ returns-in_err-word-clause-adds c = exit_cut _ c.from_residual-in_err-word.resul
     (strings_cut c.args.words.now c.words.words c.args.octets.now.items c.words.octets.items c.in_err-word.field-0.0 c.words.invariant c.in_err-word.ensures.refused)
 
 pub returns-in_err-word-clause-why : goal.returns-in_err-word-clause-why
-returns-in_err-word-clause-why c = exit_as (Says (cut_text c.in_err-word.field-0.0)) (Why c.args.field.now c.args.words.now) c.from_residual-in_err-word.result c.from_residual-in_err-word.ensures.1
+returns-in_err-word-clause-why c = exit_why (Says (cut_text c.in_err-word.field-0.0)) (Why c.args.field.now c.args.words.now) c.from_residual-in_err-word.result c.from_residual-in_err-word.ensures.1
     (λ e message. inr (inr (inl (
       c.in_err-word.field-0.0,
       strings_cut c.args.words.now c.words.words c.args.octets.now.items c.words.octets.items c.in_err-word.field-0.0 c.words.invariant

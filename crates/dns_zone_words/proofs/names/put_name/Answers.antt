@@ -2,8 +2,11 @@ use Rattle.std.proofs.Common.{◌∙◌, sym, refl}
 use Rattle.std.specs.Option.{option_copied}
 use Rattle.dns_zone_words.specs.NameWords.{name, name_octets, labelled}
 use Rattle.dns_zone_words.specs.Views.{word_value}
+use Rattle.dns_words.proofs.Steps.{unless_all}
+use Rattle.dns_zone_words.specs.ZoneReads.{PutsAs}
+use Rattle.dns_zone_words.proofs.FirstSteps.{exit_as}
 use Rattle.dns_zone_words.proofs.NameLabels.{no_name, fault_none}
-use Rattle.dns_zone_words.proofs.NamePuts.{exit_put, dot_put, whole_put, is_completed, completed_put, completed_why, completed_full, completed_none, full_by}
+use Rattle.dns_zone_words.proofs.NamePuts.{dot_put, whole_put, is_completed, completed_put, completed_why, completed_full, completed_none, full_by}
 use Rattle.dns_zone_words.proofs.names.put_name.Goals as goal
 
 pub returns-then-is_alone-2-clause-puts : goal.returns-then-is_alone-2-clause-puts
@@ -11,10 +14,10 @@ returns-then-is_alone-2-clause-puts c = dot_put (option_copied c.args.origin) (w
     (sym c.is_alone-2.ensures ∙ c.if-is_alone-2.true) c.in_ok-push.ensures.items
 
 pub returns-in_err-is_fqdn-clause-puts : goal.returns-in_err-is_fqdn-clause-puts
-returns-in_err-is_fqdn-clause-puts c = exit_put (name (option_copied c.args.origin)) name_octets c.from_residual-in_err-is_fqdn.result c.args.octets.now.items
-    c.args.octets.now.items (word_value c.args.word) _ c.from_residual-in_err-is_fqdn.ensures.1
-    (no_name (option_copied c.args.origin) (word_value c.args.word) (sym c.is_alone.ensures ∙ c.if-is_alone.false)
-    (sym c.is_alone-2.ensures ∙ c.if-is_alone-2.false) (fault_none c.args.field.now c.args.word.raw.now _ c.in_err-is_fqdn.ensures.refused))
+returns-in_err-is_fqdn-clause-puts c = exit_as (λ r. PutsAs (name (option_copied c.args.origin)) name_octets r c.args.octets.now.items c.args.octets.now.items (word_value c.args.word))
+    _ c.from_residual-in_err-is_fqdn.result c.from_residual-in_err-is_fqdn.ensures.1
+    (λ e _. unless_all e (no_name (option_copied c.args.origin) (word_value c.args.word) (sym c.is_alone.ensures ∙ c.if-is_alone.false)
+    (sym c.is_alone-2.ensures ∙ c.if-is_alone-2.false) (fault_none c.args.field.now c.args.word.raw.now _ c.in_err-is_fqdn.ensures.refused)))
 
 pub returns-then-is_fqdn-clause-puts : goal.returns-then-is_fqdn-clause-puts
 returns-then-is_fqdn-clause-puts c = whole_put (option_copied c.args.origin) (word_value c.args.word) c.in_ok-is_fqdn.is_fqdn c.put_whole.result c.args.octets.now.items
