@@ -1,5 +1,5 @@
 -- The definitions, checked against octets that were worked out by hand.
-use Rattle.std.proofs.Common.{◌≡◌, ◌≢◌, ℕ, zero, suc, ◌-◌, ◌/◌, ◌%◌, ◌≤◌, ◌<◌, ◌^◌, ◌⊎◌, inl, inr, ⊎_elim, false, ◌==◌, ◌&&◌, ◌||◌, List}
+use Rattle.std.proofs.Common.{◌≡◌, ◌≢◌, ℕ, zero, suc, ◌+◌, drop, ◌-◌, ◌/◌, ◌%◌, ◌≤◌, ◌<◌, ◌^◌, ◌⊎◌, inl, inr, ⊎_elim, false, ◌==◌, ◌&&◌, ◌||◌, List}
 use Rattle.std.proofs.Common.{[], ◌∷◌, ◌++◌, length, take, get_or, refl, sym, ap, ◌∙◌, arith, subst, append_assoc, append-nil, true}
 use Rattle.std.proofs.Common.{IsUtf8}
 use Rattle.std.specs.List.{flat_map, AllByRecursion, list_any}
@@ -8,14 +8,15 @@ use Rattle.std.specs.Str.{IsAscii, is_utf8, chars}
 use Rattle.std.proofs.lemmas.List.{length-append, take_all, take_at}
 use Rattle.std.proofs.lemmas.Str.{IsUtf8-from_ascii, is_utf8-from_IsUtf8}
 use Rattle.dns_fields.specs.Octets.{At}
-use Rattle.dns_fields.specs.Names.{LabelsStand, IsNameIn}
+use Rattle.dns_fields.specs.Labels.{DomainName, FitsName}
+use Rattle.dns_fields.specs.Names.{LabelsStand}
 use Rattle.dns_fields.specs.Names.LabelsStand.{whole, pointed}
-use Rattle.dns_fields.specs.Pieces.{IsAddress, string, Numbered, piece, pieces, ArePieces, OptionValue, Subnet, Plain, OptionHeld, AllHeld}
-use Rattle.dns_fields.specs.Pieces.{IsCut, ParameterValue, ParameterHeld, Rising, Port, Mandatory, Alpn, NoDefaultAlpn, Ipv6Hint, Opaque}
+use Rattle.dns_fields.specs.Pieces.{IsAddress, string, Numbered, piece, pieces, IsPiece, ArePieces, OptionValue, Subnet, Plain, OptionHeld, AllHeld}
+use Rattle.dns_fields.specs.Pieces.{IsCut, ParameterValue, ParameterHeld, Rising, Port, Mandatory, Alpn, NoDefaultAlpn, Ipv4Hint, Ipv6Hint, Opaque}
 use Rattle.dns_fields.specs.Pieces.{form_of, Keys, Names, Nothing, PortNumber}
-use Rattle.dns_fields.specs.Bitmaps.{Block, block, IsBlock, has_type, minimal, window, types_octet, mark, contains, BitmapAt}
-use Rattle.dns_fields.specs.Fields.{Number, Name, Rest, Options, Parameters, Values, Stands, field_octets, WholeOptions, ParametersAt}
-use Rattle.dns_fields.specs.Examples.{HoldsNone, AddressReads, AddressIsFour, TwoTextsRead, EmptyStringsRead, CutString, RestReads, full}
+use Rattle.dns_fields.specs.Bitmaps.{Block, block, IsBlock, IsTypeSet, has_type, minimal, window, types_octet, mark, BitmapAt}
+use Rattle.dns_fields.specs.Fields.{Kind, Number, Name, Options, Parameters, Bitmap, Values, Field, Stands, canonical, field_octets, WholeOptions, ParametersAt}
+use Rattle.dns_fields.specs.Examples.{Reads, HoldsNone, AddressReads, AddressIsFour, TwoTextsRead, EmptyStringsRead, CutString, RestReads, full}
 use Rattle.dns_fields.specs.Examples.{www_label, www_twice, PointedNameReads, CutPointer, PointerToItself, ReservedLabel, LettersRead}
 use Rattle.dns_fields.specs.Examples.{MarksApart, example_label, com_label, xxx_label, twenty, StartOfAuthorityReads, CutOptionReads}
 use Rattle.dns_fields.specs.Examples.{CutDropsAll, BrokenOption, OptionsInOrder, OptionsCounted, SubnetReads, SubnetOfSixReads, SubnetEnds}
@@ -28,14 +29,39 @@ use Rattle.dns_fields.proofs.NameLaws.{name_same}
 use Rattle.dns_fields.proofs.Pieces.{number_first, heads_same, piece_before, length-piece, pieces_same, whole_or_cut}
 use Rattle.dns_fields.proofs.Bitmaps.{minimal_first, minimal_types}
 
+-- ---- what the examples are made of
+
+reads : {message : List ℕ} {start end : ℕ} {kinds : List Kind} {values : Values kinds} {octets : List ℕ} → Stands message start kinds values end
+    → canonical kinds values ≡ octets → Reads message start end kinds values octets
+reads stands same = record { stands = stands; canonical_octets = same }
+
+-- something up to a place, and what follows from there
+next : {P Q : ℕ → Type 0} (q : ℕ) → P q → Q q → (q : ℕ) × P q × Q q
+next q p r = (q, p, r)
+
+-- octets stand there
+at : {m x : List ℕ} {p q : ℕ} → q ≡ p + length x → q ≤ length m → take (length x) (drop p m) ≡ x → At m p x q
+at ends within same = record { ends = ends; within = within; same = same }
+
+-- octets that are the whole message, from either side
+At-all : (m x : List ℕ) → x ≡ m → At m 0 x (length m)
+At-all m x e = at (omega (arith, ap length e)) (omega arith) (take_all (length x) m (omega (arith, ap length e)) ∙ sym e)
+
+At-whole : (m x : List ℕ) (q : ℕ) → At m 0 x q → q ≡ length m → x ≡ m
+At-whole m x q a e = let n = a.ends in sym a.same ∙ take_all (length x) m (omega arith)
+
+number : {m : List ℕ} {p w n q : ℕ} → n < 256 ^ w → q ≡ p + length (bytes_high_first w n) → q ≤ length m
+    → take (length (bytes_high_first w n)) (drop p m) ≡ bytes_high_first w n → Field m p (Number w) n q
+number small ends within same = record { is = (small, at ends within same) }
+
+name : {m : List ℕ} {p q : ℕ} {x : DomainName} → LabelsStand m p x.labels q → FitsName x.labels → x.fully_qualified ≡ true → Field m p Name x q
+name stands fits qualified = record { is = record { stands = stands; fits = fits; qualified = qualified } }
+
 -- ---- numbers, octets and strings
 
 pub address_reads : AddressReads
 unfolding field_octets
-address_reads = record {
-  stands = (4, record { is = (refl, record { ends = refl; within = omega arith; same = refl }) }, refl);
-  canonical_octets = refl;
-}
+address_reads = reads (4, record { is = (refl, at refl (omega arith) refl) }, refl) refl
 
 pub address_is_four : AddressIsFour
 address_is_four =
@@ -43,26 +69,16 @@ address_is_four =
 
 pub two_texts_read : TwoTextsRead
 unfolding field_octets
-two_texts_read = record {
-  stands = (
-    4,
-    record { is = (omega arith, record { ends = refl; within = omega arith; same = refl }) },
-    (7, record { is = (omega arith, record { ends = refl; within = omega arith; same = refl }) }, refl),
-  );
-  canonical_octets = refl;
-}
+two_texts_read = reads
+    (4, record { is = (omega arith, at refl (omega arith) refl) }, (7, record { is = (omega arith, at refl (omega arith) refl) }, refl)) refl
 
 pub empty_strings_read : EmptyStringsRead
 unfolding field_octets
 empty_strings_read = (
-  record { stands = (0, record { is = (tt, record { ends = refl; within = omega arith; same = refl }) }, refl); canonical_octets = refl },
-  record { stands = (1, record { is = ((omega arith, tt), record { ends = refl; within = omega arith; same = refl }) }, refl); canonical_octets = refl },
+  reads (0, record { is = (tt, at refl (omega arith) refl) }, refl) refl,
+  reads (1, record { is = ((omega arith, tt), at refl (omega arith) refl) }, refl) refl,
   refl,
 )
-
--- what fills a message is the message
-At-whole : (m x : List ℕ) (q : ℕ) → At m 0 x q → q ≡ length m → x ≡ m
-At-whole m x q a e = let n = a.ends in sym a.same ∙ take_all (length x) m (omega arith)
 
 pub cut_string : CutString
 cut_string v f = none v.0 (At-whole (2 ∷ 0x61 ∷ []) (flat_map string v.0) f.0 f.1.is.1 f.2) where
@@ -77,57 +93,46 @@ cut_string v f = none v.0 (At-whole (2 ∷ 0x61 ∷ []) (flat_map string v.0) f.
 pub rest_reads : RestReads
 unfolding field_octets
 rest_reads = (
-  record { stands = (2, record { is = record { ends = refl; within = omega arith; same = refl } }, refl); canonical_octets = refl },
-  record { stands = (1, record { is = record { ends = refl; within = omega arith; same = refl } }, refl); canonical_octets = refl },
+  reads (2, record { is = at refl (omega arith) refl }, refl) refl,
+  reads (1, record { is = at refl (omega arith) refl }, refl) refl,
 )
 
 -- ---- names
 
-www_stands : LabelsStand (take 5 www_twice) 0 (www_label ∷ []) 5
-www_stands = whole [] ((omega arith, omega arith), tt) refl refl
-
-pointed_stands : IsNameIn www_twice 5 (full (www_label ∷ [])) 7
-pointed_stands = record {
-  stands = pointed [] (www_label ∷ []) 0 5 [] tt refl (omega arith) (omega arith) www_stands refl refl;
-  fits = omega arith;
-  qualified = refl;
-}
+pointed_stands : Field www_twice 5 Name (full (www_label ∷ [])) 7
+pointed_stands = name
+    (pointed [] (www_label ∷ []) 0 5 [] tt refl (omega arith) (omega arith) (whole [] ((omega arith, omega arith), tt) refl refl) refl refl)
+    (omega arith) refl
 
 pub pointed_name_reads : PointedNameReads
 unfolding field_octets
-pointed_name_reads = record { stands = (7, record { is = pointed_stands }, refl); canonical_octets = refl }
+pointed_name_reads = reads (7, pointed_stands, refl) refl
 
 pub cut_pointer : CutPointer
-cut_pointer v f = let ends = (name_same f.1.is pointed_stands).1 in omega (arith, f.2)
+cut_pointer v f = let ends = (name_same f.1.is pointed_stands.is).1 in omega (arith, f.2)
+
+-- an octet that is no label's length, at the message's beginning
+no_name : (first : ℕ) {labels : List (List ℕ)} {e : ℕ} → 64 ≤ first → LabelsStand (first ∷ 0x00 ∷ []) 0 labels e → ⊥
+no_name first {labels} high (whole behind are s ends) =
+    let k = no_labels labels (0x00 ∷ []) (0 ∷ behind) first are (λ _. high) s in
+    let same : first ∷ 0x00 ∷ [] ≡ 0 ∷ behind = k.1 in
+    let none : first ≡ 0 = cc in
+    omega arith
+no_name first high (pointed front rest target rest_end behind are s small earlier stands joined ends) = omega arith
 
 pub pointer_to_itself : PointerToItself
-pointer_to_itself v f = none f.1.is.stands where
-  none : {labels : List (List ℕ)} {e : ℕ} → LabelsStand (0xc0 ∷ 0x00 ∷ []) 0 labels e → ⊥
-  none {labels} {e} (whole behind are s ends) =
-      let k = no_labels labels (0x00 ∷ []) (0 ∷ behind) 0xc0 are (λ _. omega arith) s in
-      let first : 0xc0 ∷ 0x00 ∷ [] ≡ 0 ∷ behind = k.1 in
-      cc first
-  none {labels} {e} (pointed front rest target rest_end behind are s small earlier stands joined ends) = omega arith
+pointer_to_itself v f = no_name 0xc0 (omega arith) f.1.is.stands
 
 pub reserved_label : ReservedLabel
-reserved_label v f = none f.1.is.stands where
-  none : {labels : List (List ℕ)} {e : ℕ} → LabelsStand (0x40 ∷ 0x00 ∷ []) 0 labels e → ⊥
-  none {labels} {e} (whole behind are s ends) =
-      let k = no_labels labels (0x00 ∷ []) (0 ∷ behind) 0x40 are (λ _. omega arith) s in
-      let first : 0x40 ∷ 0x00 ∷ [] ≡ 0 ∷ behind = k.1 in
-      cc first
-  none {labels} {e} (pointed front rest target rest_end behind are s small earlier stands joined ends) = omega arith
+reserved_label v f = no_name 0x40 (omega arith) f.1.is.stands
 
 letters_stand : (c : ℕ) → Stands (0x01 ∷ 0x00 ∷ 0x01 ∷ c ∷ 0x00 ∷ []) 0 (Number 2 ∷ Name ∷ []) (256, (full ((c ∷ []) ∷ []), tt)) 5
-letters_stand c = (
-  2,
-  record { is = (omega arith, record { ends = refl; within = omega arith; same = refl }) },
-  (5, record { is = record { stands = whole [] ((omega arith, omega arith), tt) refl refl; fits = omega arith; qualified = refl } }, refl),
-)
+letters_stand c =
+    (2, number (omega arith) refl (omega arith) refl, (5, name (whole [] ((omega arith, omega arith), tt) refl refl) (omega arith) refl, refl))
 
 pub letters_read : LettersRead
 unfolding field_octets
-letters_read = (record { stands = letters_stand 0x4e; canonical_octets = refl }, record { stands = letters_stand 0x6e; canonical_octets = refl }, refl, refl)
+letters_read = (reads (letters_stand 0x4e) refl, reads (letters_stand 0x6e) refl, refl, refl)
 
 pub marks_apart : MarksApart
 marks_apart = (refl, refl)
@@ -135,134 +140,52 @@ marks_apart = (refl, refl)
 -- "xxx" and a pointer to "example.com."
 pub start_of_authority_reads : StartOfAuthorityReads
 unfolding field_octets
-start_of_authority_reads = record {
-  stands = (
-    17,
-    record {
-      is = record {
-        stands = whole (0x03 ∷ 0x78 ∷ 0x78 ∷ 0x78 ∷ 0xc0 ∷ 0x04 ∷ twenty)
-            ((omega arith, omega arith), ((omega arith, omega arith), ((omega arith, omega arith), tt))) refl refl;
-        fits = omega arith;
-        qualified = refl;
-      };
-    },
-    (
-      23,
-      record {
-        is = record {
-          stands = pointed (xxx_label ∷ []) (example_label ∷ com_label ∷ []) 4 17 twenty ((omega arith, omega arith), tt) refl (omega arith) (omega arith)
-              (whole [] ((omega arith, omega arith), ((omega arith, omega arith), tt)) refl refl) refl refl;
-          fits = omega arith;
-          qualified = refl;
-        };
-      },
-      (
-        27,
-        record { is = (omega arith, record { ends = refl; within = omega arith; same = refl }) },
-        (
-          31,
-          record { is = (omega arith, record { ends = refl; within = omega arith; same = refl }) },
-          (
-            35,
-            record { is = (omega arith, record { ends = refl; within = omega arith; same = refl }) },
-            (
-              39,
-              record { is = (omega arith, record { ends = refl; within = omega arith; same = refl }) },
-              (43, record { is = (omega arith, record { ends = refl; within = omega arith; same = refl }) }, refl),
-            ),
-          ),
-        ),
-      ),
-    ),
-  );
-  canonical_octets = refl;
-}
+start_of_authority_reads = reads
+    (next 17 (name (whole (0x03 ∷ 0x78 ∷ 0x78 ∷ 0x78 ∷ 0xc0 ∷ 0x04 ∷ twenty)
+    ((omega arith, omega arith), ((omega arith, omega arith), ((omega arith, omega arith), tt))) refl refl) (omega arith) refl)
+    (next 23 (name (pointed (xxx_label ∷ []) (example_label ∷ com_label ∷ []) 4 17 twenty ((omega arith, omega arith), tt) refl (omega arith) (omega arith)
+    (whole [] ((omega arith, omega arith), ((omega arith, omega arith), tt)) refl refl) refl refl) (omega arith) refl)
+    (next 27 (number (omega arith) refl (omega arith) refl) (next 31 (number (omega arith) refl (omega arith) refl)
+    (next 35 (number (omega arith) refl (omega arith) refl) (next 39 (number (omega arith) refl (omega arith) refl)
+    (next 43 (number (omega arith) refl (omega arith) refl) refl))))))) refl
 
 -- ---- options
 
 -- options that stand whole
 whole_options : (m : List ℕ) (v : List (Numbered OptionValue)) (read : List (Numbered (List ℕ))) → pieces read ≡ m → ArePieces read
     → AllHeld OptionHeld read v → Stands m 0 (Options ∷ []) (v, tt) (length m)
-whole_options m v read e fit held =
-    (length m, record { is = inl (record { read = read; at = rw (← e) (At-all (pieces read)); fit = fit; held = held }) }, refl)
-  where
-    At-all : (x : List ℕ) → At x 0 x (length x)
-    At-all x = record { ends = omega arith; within = omega arith; same = take_all (length x) x (omega arith) }
+whole_options m v read e fit held = (length m, record { is = inl (record { read = read; at = At-all m (pieces read) e; fit = fit; held = held }) }, refl)
 
-cut_option : (m rest : List ℕ) → IsCut (length m - 0) m → Stands (m ++ rest) 0 (Options ∷ []) ([], tt) (length m)
-cut_option m rest cut = (
-  length m,
-  record {
-    is = inr (
-      refl,
-      record {
-        read = [];
-        dropped = [];
-        stub = m;
-        at = record { ends = omega arith; within = omega (arith, length-append m rest); same = take_at m rest (length m) refl };
-        fit = tt;
-        held = tt;
-        cut = cut;
-      },
-    );
-  },
-  refl,
-)
+-- options of which the last one is cut
+cut_options : (m rest : List ℕ) (read : List (Numbered (List ℕ))) (dropped : List (Numbered OptionValue)) (stub : List ℕ) → pieces read ++ stub ≡ m
+    → ArePieces read → AllHeld OptionHeld read dropped → IsCut (length m - 0) stub → Stands (m ++ rest) 0 (Options ∷ []) ([], tt) (length m)
+cut_options m rest read dropped stub e fit held cut =
+    let there : At (m ++ rest) 0 (pieces read ++ stub) (length m) =
+        rw e (at (omega arith) (omega (arith, length-append m rest)) (take_at m rest (length m) refl)) in
+    (length m, record { is = inr (refl, record { read = read; dropped = dropped; stub = stub; at = there; fit = fit; held = held; cut = cut }) }, refl)
 
 pub cut_option_reads : CutOptionReads
 unfolding field_octets
 cut_option_reads = (
-  record { stands = cut_option (0x00 ∷ 0x0a ∷ []) [] (10, omega arith, inl refl); canonical_octets = refl },
-  record { stands = cut_option (0x00 ∷ 0x0a ∷ 0x00 ∷ 0x05 ∷ 0x01 ∷ 0x02 ∷ []) [] cut; canonical_octets = refl },
-  record { stands = cut_option (0x00 ∷ 0x0a ∷ 0x00 ∷ 0x05 ∷ 0x01 ∷ 0x02 ∷ []) (0x03 ∷ 0x04 ∷ 0x05 ∷ []) cut; canonical_octets = refl },
+  reads (cut_options (0x00 ∷ 0x0a ∷ []) [] [] [] (0x00 ∷ 0x0a ∷ []) refl tt tt (10, omega arith, inl refl)) refl,
+  reads (cut_options stub [] [] [] stub refl tt tt cut) refl,
+  reads (cut_options stub (0x03 ∷ 0x04 ∷ 0x05 ∷ []) [] [] stub refl tt tt cut) refl,
 )
   where
-    cut : IsCut 6 (0x00 ∷ 0x0a ∷ 0x00 ∷ 0x05 ∷ 0x01 ∷ 0x02 ∷ [])
-    cut = (10, omega arith, inr (5, 0x01 ∷ 0x02 ∷ [], omega arith, omega arith, omega arith, refl))
+    abbrev stub : List ℕ
+    stub = 0x00 ∷ 0x0a ∷ 0x00 ∷ 0x05 ∷ 0x01 ∷ 0x02 ∷ []
 
--- a cut behind one whole option that holds a value
-cut_behind : (m : List ℕ) (x : Numbered (List ℕ)) (v : Numbered OptionValue) (stub : List ℕ) → piece x ++ stub ≡ m → ArePieces (x ∷ [])
-    → AllHeld OptionHeld (x ∷ []) (v ∷ []) → IsCut (length m - 0) stub → Stands m 0 (Options ∷ []) ([], tt) (length m)
-cut_behind m x v stub e fit held cut = (
-  length m,
-  record {
-    is = inr (
-      refl,
-      record {
-        read = x ∷ [];
-        dropped = v ∷ [];
-        stub = stub;
-        at = record {
-          ends = omega (arith, ap length whole);
-          within = omega arith;
-          same =
-              take_all (length (pieces (x ∷ []) ++ stub)) m (omega (arith, ap length whole)) ∙ sym whole;
-        };
-        fit = fit;
-        held = held;
-        cut = cut;
-      },
-    );
-  },
-  refl,
-)
-  where
-    whole : pieces (x ∷ []) ++ stub ≡ m
-    whole = ap (λ (t : List ℕ). t ++ stub) (append-nil (piece x)) ∙ e
+    cut : IsCut 6 stub
+    cut = (10, omega arith, inr (5, 0x01 ∷ 0x02 ∷ [], omega arith, omega arith, omega arith, refl))
 
 pub cut_drops_all : CutDropsAll
 unfolding field_octets
 cut_drops_all = (
-  record {
-    stands = cut_behind (0x00 ∷ 0x0f ∷ 0x00 ∷ 0x01 ∷ 0x05 ∷ 0x00 ∷ 0x0a ∷ []) (15, 0x05 ∷ []) (15, Plain (0x05 ∷ [])) (0x00 ∷ 0x0a ∷ []) refl
-        ((omega arith, omega arith), tt) (refl, (λ e. omega arith, refl), tt) (10, omega arith, inl refl);
-    canonical_octets = refl;
-  },
-  record {
-    stands = cut_option (0x00 ∷ 0x0a ∷ 0x00 ∷ 0x09 ∷ 0x00 ∷ 0x0f ∷ 0x00 ∷ 0x01 ∷ 0x05 ∷ []) []
-        (10, omega arith, inr (9, 0x00 ∷ 0x0f ∷ 0x00 ∷ 0x01 ∷ 0x05 ∷ [], omega arith, omega arith, omega arith, refl));
-    canonical_octets = refl;
-  },
+  reads (cut_options (0x00 ∷ 0x0f ∷ 0x00 ∷ 0x01 ∷ 0x05 ∷ 0x00 ∷ 0x0a ∷ []) [] ((15, 0x05 ∷ []) ∷ []) ((15, Plain (0x05 ∷ [])) ∷ []) (0x00 ∷ 0x0a ∷ []) refl
+      ((omega arith, omega arith), tt) (refl, (λ e. omega arith, refl), tt) (10, omega arith, inl refl)) refl,
+  reads (cut_options (0x00 ∷ 0x0a ∷ 0x00 ∷ 0x09 ∷ 0x00 ∷ 0x0f ∷ 0x00 ∷ 0x01 ∷ 0x05 ∷ []) [] [] []
+      (0x00 ∷ 0x0a ∷ 0x00 ∷ 0x09 ∷ 0x00 ∷ 0x0f ∷ 0x00 ∷ 0x01 ∷ 0x05 ∷ []) refl tt tt
+      (10, omega arith, inr (9, 0x00 ∷ 0x0f ∷ 0x00 ∷ 0x01 ∷ 0x05 ∷ [], omega arith, omega arith, omega arith, refl))) refl,
 )
 
 -- no piece begins where a length asks for more octets than there are
@@ -309,8 +232,7 @@ broken_option = (length_past, λ v f. odd (0x00 ∷ []) v (omega arith, omega ar
           arith,
           ap length h.5,
           length-append (bytes_high_first 2 c.0) (bytes_high_first 2 h.0 ++ h.1),
-          length-append
-              (bytes_high_first 2 h.0) h.1,
+          length-append (bytes_high_first 2 h.0) h.1,
           length-bytes 2 c.0,
           length-bytes 2 h.0,
         )))
@@ -326,102 +248,89 @@ broken_option = (length_past, λ v f. odd (0x00 ∷ []) v (omega arith, omega ar
 pub options_in_order : OptionsInOrder
 unfolding field_octets
 options_in_order = (
-  record {
-    stands = whole_options (0x00 ∷ 0x0f ∷ 0x00 ∷ 0x01 ∷ 0x05 ∷ 0x00 ∷ 0x0a ∷ 0x00 ∷ 0x01 ∷ 0x05 ∷ [])
-        ((15, Plain (0x05 ∷ [])) ∷ (10, Plain (0x05 ∷ [])) ∷ []) ((15, 0x05 ∷ []) ∷ (10, 0x05 ∷ []) ∷ []) refl
-        ((omega arith, omega arith), ((omega arith, omega arith), tt)) (refl, (λ e. omega arith, refl), (refl, (λ e. omega arith, refl), tt));
-    canonical_octets = refl;
-  },
+  reads (whole_options (0x00 ∷ 0x0f ∷ 0x00 ∷ 0x01 ∷ 0x05 ∷ 0x00 ∷ 0x0a ∷ 0x00 ∷ 0x01 ∷ 0x05 ∷ [])
+      ((15, Plain (0x05 ∷ [])) ∷ (10, Plain (0x05 ∷ [])) ∷ []) ((15, 0x05 ∷ []) ∷ (10, 0x05 ∷ []) ∷ []) refl
+      ((omega arith, omega arith), ((omega arith, omega arith), tt)) (refl, (λ e. omega arith, refl), (refl, (λ e. omega arith, refl), tt))) refl,
   refl,
 )
 
 pub options_counted : OptionsCounted
 options_counted = (refl, refl)
 
+-- one option that stands whole
+whole_option : (k : ℕ) (body : List ℕ) (v : OptionValue) → IsPiece (k, body) → OptionHeld k body v
+    → Stands (piece (k, body)) 0 (Options ∷ []) ((k, v) ∷ [], tt) (length (piece (k, body)))
+whole_option k body v fit held = whole_options (piece (k, body)) ((k, v) ∷ []) ((k, body) ∷ []) (append-nil (piece (k, body))) (fit, tt) (refl, held, tt)
+
 abbrev cookie : List ℕ
 cookie = 0x0b ∷ 0x64 ∷ 0xb4 ∷ 0xdc ∷ 0xd7 ∷ 0xb0 ∷ 0xcc ∷ 0x8f ∷ []
 
 pub subnet_reads : SubnetReads
 unfolding field_octets
-subnet_reads = record {
-  stands = whole_options
-      (0x00 ∷ 0x0a ∷ 0x00 ∷ 0x08 ∷ 0x0b ∷ 0x64 ∷ 0xb4 ∷ 0xdc ∷ 0xd7 ∷ 0xb0 ∷ 0xcc ∷ 0x8f ∷ 0x00 ∷ 0x08 ∷ 0x00 ∷ 0x04 ∷ 0x00 ∷ 0x01 ∷ 0x00 ∷ 0x00 ∷ 0x00 ∷
-      0x0b ∷ 0x00 ∷ 0x00 ∷ [])
-      ((10, Plain cookie) ∷ (8, Subnet 1 0 0 []) ∷ (11, Plain []) ∷ [])
-      ((10, cookie) ∷ (8, 0x00 ∷ 0x01 ∷ 0x00 ∷ 0x00 ∷ []) ∷ (11, []) ∷ [])
-      refl
-      ((omega arith, omega arith), ((omega arith, omega arith), ((omega arith, omega arith), tt)))
-      (refl, (λ e. omega arith, refl), (refl, (refl, record { long = refl; most = inl (refl, omega arith) }, [], refl), (refl, (λ e. omega arith, refl), tt)));
-  canonical_octets = refl;
-}
+subnet_reads = reads (whole_options
+    (0x00 ∷ 0x0a ∷ 0x00 ∷ 0x08 ∷ 0x0b ∷ 0x64 ∷ 0xb4 ∷ 0xdc ∷ 0xd7 ∷ 0xb0 ∷ 0xcc ∷ 0x8f ∷ 0x00 ∷ 0x08 ∷ 0x00 ∷ 0x04 ∷ 0x00 ∷ 0x01 ∷ 0x00 ∷ 0x00 ∷ 0x00 ∷
+    0x0b ∷ 0x00 ∷ 0x00 ∷ [])
+    ((10, Plain cookie) ∷ (8, Subnet 1 0 0 []) ∷ (11, Plain []) ∷ [])
+    ((10, cookie) ∷ (8, 0x00 ∷ 0x01 ∷ 0x00 ∷ 0x00 ∷ []) ∷ (11, []) ∷ []) refl
+    ((omega arith, omega arith), ((omega arith, omega arith), ((omega arith, omega arith), tt)))
+    (refl, (λ e. omega arith, refl), (refl, (refl, record { long = refl; most = inl (refl, omega arith) }, [], refl),
+    (refl, (λ e. omega arith, refl), tt)))) refl
 
 pub subnet_of_six_reads : SubnetOfSixReads
 unfolding field_octets
-subnet_of_six_reads = record {
-  stands = whole_options (0x00 ∷ 0x08 ∷ 0x00 ∷ 0x07 ∷ 0x00 ∷ 0x02 ∷ 0x18 ∷ 0x00 ∷ 0x20 ∷ 0x01 ∷ 0x0d ∷ []) ((8, Subnet 2 24 0 (0x20 ∷ 0x01 ∷ 0x0d ∷ [])) ∷ [])
-      ((8, 0x00 ∷ 0x02 ∷ 0x18 ∷ 0x00 ∷ 0x20 ∷ 0x01 ∷ 0x0d ∷ []) ∷ []) refl ((omega arith, omega arith), tt)
-      (refl, (refl, record { long = refl; most = inr (refl, omega arith) }, [], refl), tt);
-  canonical_octets = refl;
-}
+subnet_of_six_reads = reads (whole_option 8 (0x00 ∷ 0x02 ∷ 0x18 ∷ 0x00 ∷ 0x20 ∷ 0x01 ∷ 0x0d ∷ []) (Subnet 2 24 0 (0x20 ∷ 0x01 ∷ 0x0d ∷ []))
+    (omega arith, omega arith) (refl, record { long = refl; most = inr (refl, omega arith) }, [], refl)) refl
 
 pub server_identifier_reads : ServerIdentifierReads
 unfolding field_octets
-server_identifier_reads = record {
-  stands = whole_options (0x00 ∷ 0x03 ∷ 0x00 ∷ 0x03 ∷ 0xc0 ∷ 0xff ∷ 0xee ∷ []) ((3, Plain (0xc0 ∷ 0xff ∷ 0xee ∷ [])) ∷ [])
-      ((3, 0xc0 ∷ 0xff ∷ 0xee ∷ []) ∷ []) refl ((omega arith, omega arith), tt) (refl, (λ e. omega arith, refl), tt);
-  canonical_octets = refl;
-}
+server_identifier_reads = reads
+    (whole_option 3 (0xc0 ∷ 0xff ∷ 0xee ∷ []) (Plain (0xc0 ∷ 0xff ∷ 0xee ∷ [])) (omega arith, omega arith) (λ e. omega arith, refl)) refl
 
 pub subnet_ends : SubnetEnds
 unfolding field_octets
-subnet_ends = record {
-  stands = whole_options (0x00 ∷ 0x08 ∷ 0x00 ∷ 0x09 ∷ 0x00 ∷ 0x01 ∷ 0x19 ∷ 0x00 ∷ 0xac ∷ 0x01 ∷ 0x01 ∷ 0xff ∷ 0xff ∷ [])
-      ((8, Subnet 1 25 0 (0xac ∷ 0x01 ∷ 0x01 ∷ 0xff ∷ [])) ∷ [])
-      ((8, 0x00 ∷ 0x01 ∷ 0x19 ∷ 0x00 ∷ 0xac ∷ 0x01 ∷ 0x01 ∷ 0xff ∷ 0xff ∷ []) ∷ []) refl ((omega arith, omega arith), tt)
-      (refl, (refl, record { long = refl; most = inl (refl, omega arith) }, 0xff ∷ [], refl), tt);
-  canonical_octets = refl;
-}
+subnet_ends = reads (whole_option 8 (0x00 ∷ 0x01 ∷ 0x19 ∷ 0x00 ∷ 0xac ∷ 0x01 ∷ 0x01 ∷ 0xff ∷ 0xff ∷ []) (Subnet 1 25 0 (0xac ∷ 0x01 ∷ 0x01 ∷ 0xff ∷ []))
+    (omega arith, omega arith) (refl, record { long = refl; most = inl (refl, omega arith) }, 0xff ∷ [], refl)) refl
 
--- pieces that fill the message and hold no options
-no_options : (m : List ℕ) (known : List (Numbered (List ℕ))) → ArePieces known → pieces known ≡ m
-    → ((v : List (Numbered OptionValue)) → AllHeld OptionHeld known v → ⊥) → HoldsNone m 0 (length m) (Options ∷ [])
-no_options m known fit e none v f = ⊎_elim
+-- a piece that holds no value is that of no list of one
+first_held : {V : Type 0} (Held : ℕ → List ℕ → V → Type 0) (k : ℕ) (body : List ℕ) (v : List (Numbered V)) → ((w : V) → Held k body w → ⊥)
+    → AllHeld Held ((k, body) ∷ []) v → ⊥
+first_held Held k body [] none h = h
+first_held Held k body (x ∷ xs) none h = none x.1 (subst (λ n. Held n body x.1) (sym h.0) h.1)
+
+-- an option that fills the message and holds no value
+no_option : (k : ℕ) (body : List ℕ) → IsPiece (k, body) → ((w : OptionValue) → OptionHeld k body w → ⊥)
+    → HoldsNone (piece (k, body)) 0 (length (piece (k, body))) (Options ∷ [])
+no_option k body fit none v f =
+    let m = piece (k, body) in
+    let known : List (Numbered (List ℕ)) = (k, body) ∷ [] in
+    let e : pieces known ≡ m = append-nil m in
+    ⊎_elim
     (λ (w : WholeOptions m 0 v.0 f.0).
-    let same : w.read ≡ known = pieces_same w.read known w.fit fit (At-whole m (pieces w.read) f.0 w.at f.2 ∙ sym e) in
-    none v.0 (subst (λ (xs : List (Numbered (List ℕ))). AllHeld OptionHeld xs v.0) same w.held))
-    (λ c. whole_or_cut (f.0 - 0) known c.1.read c.1.stub fit c.1.fit c.1.cut (e ∙ sym (At-whole m (pieces c.1.read ++ c.1.stub) f.0 c.1.at f.2)))
+    let same : w.read ≡ known = pieces_same w.read known w.fit (fit, tt) (At-whole m (pieces w.read) f.0 w.at f.2 ∙ sym e) in
+    first_held OptionHeld k body v.0 none (rw same at w.held))
+    (λ c. whole_or_cut (f.0 - 0) known c.1.read c.1.stub (fit, tt) c.1.fit c.1.cut (e ∙ sym (At-whole m (pieces c.1.read ++ c.1.stub) f.0 c.1.at f.2)))
     f.1.is
 
 -- the family, the source prefix and the address of a subnet whose octets begin with these
-subnet_begins : (family source scope : ℕ) (rest : List ℕ) (k : ℕ) (w : OptionValue) → 8 ≡ k → family < 256 ^ 2
-    → OptionHeld k (bytes_high_first 2 family ++ (source ∷ scope ∷ rest)) w → (address : List ℕ) × IsAddress family source address
-subnet_begins family source scope rest k (Subnet f s c a) e l h =
+subnet_begins : (family source scope : ℕ) (rest : List ℕ) (w : OptionValue) → family < 256 ^ 2
+    → OptionHeld 8 (bytes_high_first 2 family ++ (source ∷ scope ∷ rest)) w → (address : List ℕ) × IsAddress family source address
+subnet_begins family source scope rest (Subnet f s c a) l h =
     let small : f < 256 ^ 2 = ⊎_elim (λ x. omega (arith, x.0)) (λ x. omega (arith, x.0)) h.1.most in
     let n = number_first f family (s ∷ c ∷ (a ++ h.2)) (source ∷ scope ∷ rest) small l (sym h.3) in
     let t : s ∷ c ∷ (a ++ h.2) ≡ source ∷ scope ∷ rest = n.1 in
     let prefix : s ≡ source = cc in
-    (a, subst (λ (x : ℕ). IsAddress x source a) n.0 (subst (λ (x : ℕ). IsAddress f x a) prefix h.1))
-subnet_begins family source scope rest k (Plain s) e l h = absurd (h.0 (sym e))
+    (a, rw (n.0, prefix) at h.1)
+subnet_begins family source scope rest (Plain s) l h = absurd (h.0 refl)
 
 pub broken_subnet : BrokenSubnet
 broken_subnet = (
-  no_options (0x00 ∷ 0x08 ∷ 0x00 ∷ 0x04 ∷ 0x00 ∷ 0x03 ∷ 0x00 ∷ 0x00 ∷ []) ((8, 0x00 ∷ 0x03 ∷ 0x00 ∷ 0x00 ∷ []) ∷ []) ((omega arith, omega arith), tt) refl
-      family_three,
-  no_options (0x00 ∷ 0x08 ∷ 0x00 ∷ 0x09 ∷ 0x00 ∷ 0x01 ∷ 0x21 ∷ 0x00 ∷ 0x01 ∷ 0x02 ∷ 0x03 ∷ 0x04 ∷ 0x05 ∷ [])
-      ((8, 0x00 ∷ 0x01 ∷ 0x21 ∷ 0x00 ∷ 0x01 ∷ 0x02 ∷ 0x03 ∷ 0x04 ∷ 0x05 ∷ []) ∷ []) ((omega arith, omega arith), tt) refl prefix_33,
+  no_option 8 (0x00 ∷ 0x03 ∷ 0x00 ∷ 0x00 ∷ []) (omega arith, omega arith)
+      (λ w h. let b = subnet_begins 3 0 0 [] w (omega arith) h in ⊎_elim (λ a. omega (arith, a.0)) (λ a. omega (arith, a.0)) b.1.most),
+  no_option 8 (0x00 ∷ 0x01 ∷ 0x21 ∷ 0x00 ∷ 0x01 ∷ 0x02 ∷ 0x03 ∷ 0x04 ∷ 0x05 ∷ []) (omega arith, omega arith)
+      (λ w h.
+      let b = subnet_begins 1 33 0 (0x01 ∷ 0x02 ∷ 0x03 ∷ 0x04 ∷ 0x05 ∷ []) w (omega arith) h in
+      ⊎_elim (λ a. omega (arith, a.1, b.1.long)) (λ a. omega (arith, a.0)) b.1.most),
 )
-  where
-    family_three : (v : List (Numbered OptionValue)) → AllHeld OptionHeld ((8, 0x00 ∷ 0x03 ∷ 0x00 ∷ 0x00 ∷ []) ∷ []) v → ⊥
-    family_three [] h = h
-    family_three (x ∷ xs) h =
-        let b = subnet_begins 3 0 0 [] x.0 x.1 h.0 (omega arith) h.1 in
-        ⊎_elim (λ a. omega (arith, a.0)) (λ a. omega (arith, a.0)) b.1.most
-
-    prefix_33 : (v : List (Numbered OptionValue)) → AllHeld OptionHeld ((8, 0x00 ∷ 0x01 ∷ 0x21 ∷ 0x00 ∷ 0x01 ∷ 0x02 ∷ 0x03 ∷ 0x04 ∷ 0x05 ∷ []) ∷ []) v → ⊥
-    prefix_33 [] h = h
-    prefix_33 (x ∷ xs) h =
-        let b = subnet_begins 1 33 0 (0x01 ∷ 0x02 ∷ 0x03 ∷ 0x04 ∷ 0x05 ∷ []) x.0 x.1 h.0 (omega arith) h.1 in
-        ⊎_elim (λ a. omega (arith, a.1, b.1.long)) (λ a. omega (arith, a.0)) b.1.most
 
 -- ---- parameters
 
@@ -431,7 +340,28 @@ known_held : (m : List ℕ) (known : List (Numbered (List ℕ))) → ArePieces k
 known_held m known fit e v f =
     let g : ParametersAt m 0 v.0 f.0 = f.1.is in
     let same : g.read ≡ known = pieces_same g.read known g.fit fit (At-whole m (pieces g.read) f.0 g.at f.2 ∙ sym e) in
-    subst (λ (xs : List (Numbered (List ℕ))). AllHeld ParameterHeld xs v.0) same g.held
+    rw same at g.held
+
+-- a parameter that fills the message and holds no value
+no_parameter : (k : ℕ) (body : List ℕ) → IsPiece (k, body) → ((w : ParameterValue) → ParameterHeld k body w → ⊥)
+    → HoldsNone (piece (k, body)) 0 (length (piece (k, body))) (Parameters ∷ [])
+no_parameter k body fit none v f =
+    first_held ParameterHeld k body v.0 none (known_held (piece (k, body)) ((k, body) ∷ []) (fit, tt) (append-nil (piece (k, body))) v f)
+
+-- one parameter that fills the message
+one_parameter : (k : ℕ) (body : List ℕ) (v : ParameterValue) → IsPiece (k, body) → ParameterHeld k body v
+    → Stands (piece (k, body)) 0 (Parameters ∷ []) ((k, v) ∷ [], tt) (length (piece (k, body)))
+one_parameter k body v fit held =
+    let m = piece (k, body) in
+    next (length m) (record {
+      is = record {
+        read = (k, body) ∷ [];
+        at = At-all m (pieces ((k, body) ∷ [])) (append-nil m);
+        fit = (fit, tt);
+        held = (refl, held, tt);
+        rising = (tt, tt);
+      };
+    }) refl
 
 h2_ascii : IsAscii (0x68 ∷ 0x32 ∷ [])
 h2_ascii zero = omega arith
@@ -440,132 +370,60 @@ h2_ascii (suc (suc i)) = omega arith
 
 pub service_reads : ServiceReads
 unfolding field_octets
-service_reads = record {
-  stands = (
-    2,
-    record { is = (omega arith, record { ends = refl; within = omega arith; same = refl }) },
-    (
-      3,
-      record {
-        is = record {
-          stands = whole (0x00 ∷ 0x01 ∷ 0x00 ∷ 0x03 ∷ 0x02 ∷ 0x68 ∷ 0x32 ∷ 0x00 ∷ 0x03 ∷ 0x00 ∷ 0x04 ∷ 0x01 ∷ 0xbb ∷ 0xff ∷ 0xff ∷ []) tt
-              refl refl;
-          fits = omega arith;
-          qualified = refl;
-        };
-      },
-      (
-        18,
-        record {
-          is = record {
-            read = (1, 0x02 ∷ 0x68 ∷ 0x32 ∷ []) ∷ (3, 0x01 ∷ 0xbb ∷ 0xff ∷ 0xff ∷ []) ∷ [];
-            at = record { ends = refl; within = omega arith; same = refl };
-            fit = ((omega arith, omega arith), ((omega arith, omega arith), tt));
-            held = (
-              refl,
-              (refl, (λ e. cc e, (omega arith, tt)), ((IsUtf8-from_ascii (0x68 ∷ 0x32 ∷ []) h2_ascii, tt), refl)),
-              (refl, (refl, omega arith, (0xff ∷ 0xff ∷ [], refl)), tt),
-            );
-            rising = ((omega arith, tt), (tt, tt));
-          };
-        },
-        refl,
-      ),
-    ),
-  );
-  canonical_octets = refl;
-}
-
--- one parameter that fills the message
-one_parameter : (m : List ℕ) (x : Numbered (List ℕ)) (v : Numbered ParameterValue) → piece x ≡ m → ArePieces (x ∷ [])
-    → AllHeld ParameterHeld (x ∷ []) (v ∷ []) → Stands m 0 (Parameters ∷ []) (v ∷ [], tt) (length m)
-one_parameter m x v e fit held = (
-  length m,
-  record {
-    is = record {
-      read = x ∷ [];
-      at = record {
-        ends = omega (arith, ap length whole);
-        within = omega arith;
-        same =
-            take_all (length (pieces (x ∷ []))) m (omega (arith, ap length whole)) ∙ sym whole;
-      };
-      fit = fit;
-      held = held;
-      rising = (tt, tt);
-    };
-  },
-  refl,
-)
+service_reads = reads
+    (next 2 (number (omega arith) refl (omega arith) refl)
+    (next 3 (name (whole (0x00 ∷ 0x01 ∷ 0x00 ∷ 0x03 ∷ 0x02 ∷ 0x68 ∷ 0x32 ∷ 0x00 ∷ 0x03 ∷ 0x00 ∷ 0x04 ∷ 0x01 ∷ 0xbb ∷ 0xff ∷ 0xff ∷ []) tt refl refl)
+    (omega arith) refl)
+    (next 18 (record { is = parameters }) refl))) refl
   where
-    whole : pieces (x ∷ []) ≡ m
-    whole = append-nil (piece x) ∙ e
+    parameters : ParametersAt
+        (0x00 ∷ 0x01 ∷ 0x00 ∷ 0x00 ∷ 0x01 ∷ 0x00 ∷ 0x03 ∷ 0x02 ∷ 0x68 ∷ 0x32 ∷ 0x00 ∷ 0x03 ∷ 0x00 ∷ 0x04 ∷ 0x01 ∷ 0xbb ∷ 0xff ∷ 0xff ∷ []) 3 ((1, Alpn ((0x68 ∷ 0x32 ∷ []) ∷ [])) ∷ (3, Port 443) ∷ []) 18
+    parameters = record {
+      read = (1, 0x02 ∷ 0x68 ∷ 0x32 ∷ []) ∷ (3, 0x01 ∷ 0xbb ∷ 0xff ∷ 0xff ∷ []) ∷ [];
+      at = at refl (omega arith) refl;
+      fit = ((omega arith, omega arith), ((omega arith, omega arith), tt));
+      held = (
+        refl,
+        (refl, (λ e. cc e, (omega arith, tt)), ((IsUtf8-from_ascii (0x68 ∷ 0x32 ∷ []) h2_ascii, tt), refl)),
+        (refl, (refl, omega arith, (0xff ∷ 0xff ∷ [], refl)), tt),
+      );
+      rising = ((omega arith, tt), (tt, tt));
+    }
 
 pub mandatory_reads : MandatoryReads
 unfolding field_octets
-mandatory_reads = record {
-  stands = one_parameter (0x00 ∷ 0x00 ∷ 0x00 ∷ 0x02 ∷ 0x00 ∷ 0x01 ∷ []) (0, 0x00 ∷ 0x01 ∷ []) (0, Mandatory (1 ∷ [])) refl ((omega arith, omega arith), tt)
-      (refl, (refl, (λ e. cc e, (omega arith, tt)), refl), tt);
-  canonical_octets = refl;
-}
+mandatory_reads = reads (one_parameter 0 (0x00 ∷ 0x01 ∷ []) (Mandatory (1 ∷ [])) (omega arith, omega arith) (refl, (λ e. cc e, (omega arith, tt)), refl)) refl
 
 pub octets_of_key_five : OctetsOfKeyFive
 unfolding field_octets
-octets_of_key_five = record {
-  stands = one_parameter (0x00 ∷ 0x05 ∷ 0x00 ∷ 0x03 ∷ 0x00 ∷ 0x01 ∷ 0x02 ∷ []) (5, 0x00 ∷ 0x01 ∷ 0x02 ∷ []) (5, Opaque (0x00 ∷ 0x01 ∷ 0x02 ∷ [])) refl
-      ((omega arith, omega arith), tt) (refl, (refl, tt, refl), tt);
-  canonical_octets = refl;
-}
+octets_of_key_five = reads (one_parameter 5 (0x00 ∷ 0x01 ∷ 0x02 ∷ []) (Opaque (0x00 ∷ 0x01 ∷ 0x02 ∷ [])) (omega arith, omega arith) (refl, tt, refl)) refl
 
 abbrev address_of_six : List ℕ
 address_of_six = 0x20 ∷ 0x01 ∷ 0x0d ∷ 0xb8 ∷ 0x00 ∷ 0x00 ∷ 0x00 ∷ 0x00 ∷ 0x00 ∷ 0x00 ∷ 0x00 ∷ 0x00 ∷ 0x00 ∷ 0x00 ∷ 0x00 ∷ 0x01 ∷ []
 
 pub hint_of_six_reads : HintOfSixReads
 unfolding field_octets
-hint_of_six_reads = record {
-  stands = one_parameter (0x00 ∷ 0x06 ∷ 0x00 ∷ 0x10 ∷ address_of_six) (6, address_of_six) (6, Ipv6Hint (address_of_six ∷ [])) refl
-      ((omega arith, omega arith), tt) (refl, (refl, (refl, tt), refl), tt);
-  canonical_octets = refl;
-}
+hint_of_six_reads = reads (one_parameter 6 address_of_six (Ipv6Hint (address_of_six ∷ [])) (omega arith, omega arith) (refl, (refl, tt), refl)) refl
 
 pub no_hints_read : NoHintsRead
 unfolding field_octets
-no_hints_read = record {
-  stands = (
-    4,
-    record {
-      is = record {
-        read = (4, []) ∷ [];
-        at = record { ends = refl; within = omega arith; same = refl };
-        fit = ((omega arith, omega arith), tt);
-        held = (refl, (refl, tt, refl), tt);
-        rising = (tt, tt);
-      };
-    },
-    refl,
-  );
-  canonical_octets = refl;
-}
+no_hints_read = reads (one_parameter 4 [] (Ipv4Hint []) (omega arith, omega arith) (refl, tt, refl)) refl
+
+-- two parameters that fill the message, the second of a key that is not above the first
+not_rising : (a b : Numbered (List ℕ)) → IsPiece a → IsPiece b → b.0 ≤ a.0 → HoldsNone (piece a ++ piece b) 0 (length (piece a ++ piece b)) (Parameters ∷ [])
+not_rising a b p q low v f =
+    none v.0 (known_held (piece a ++ piece b) (a ∷ b ∷ []) (p, (q, tt)) (ap (λ t. piece a ++ t) (append-nil (piece b))) v f) f.1.is.rising
+  where
+    none : (v : List (Numbered ParameterValue)) → AllHeld ParameterHeld (a ∷ b ∷ []) v → Rising v → ⊥
+    none [] h r = h
+    none (x ∷ []) h r = h.2
+    none (x ∷ y ∷ rest) h r = omega (arith, h.0, h.2.0, r.0.0)
 
 pub keys_rise : KeysRise
-keys_rise v f =
-    twice v.0 (known_held (0x00 ∷ 0x03 ∷ 0x00 ∷ 0x02 ∷ 0x00 ∷ 0x35 ∷ 0x00 ∷ 0x03 ∷ 0x00 ∷ 0x02 ∷ 0x00 ∷ 0x35 ∷ [])
-    ((3, 0x00 ∷ 0x35 ∷ []) ∷ (3, 0x00 ∷ 0x35 ∷ []) ∷ []) ((omega arith, omega arith), ((omega arith, omega arith), tt)) refl v f) f.1.is.rising
-  where
-    twice : (v : List (Numbered ParameterValue)) → AllHeld ParameterHeld ((3, 0x00 ∷ 0x35 ∷ []) ∷ (3, 0x00 ∷ 0x35 ∷ []) ∷ []) v → Rising v → ⊥
-    twice [] h r = h
-    twice (a ∷ []) h r = h.2
-    twice (a ∷ b ∷ rest) h r = omega (arith, h.0, h.2.0, r.0.0)
+keys_rise = not_rising (3, 0x00 ∷ 0x35 ∷ []) (3, 0x00 ∷ 0x35 ∷ []) (omega arith, omega arith) (omega arith, omega arith) (omega arith)
 
 pub keys_do_not_fall : KeysDoNotFall
-keys_do_not_fall v f =
-    falls v.0 (known_held (0x00 ∷ 0x03 ∷ 0x00 ∷ 0x02 ∷ 0x00 ∷ 0x35 ∷ 0x00 ∷ 0x01 ∷ 0x00 ∷ 0x03 ∷ 0x02 ∷ 0x68 ∷ 0x32 ∷ [])
-    ((3, 0x00 ∷ 0x35 ∷ []) ∷ (1, 0x02 ∷ 0x68 ∷ 0x32 ∷ []) ∷ []) ((omega arith, omega arith), ((omega arith, omega arith), tt)) refl v f) f.1.is.rising
-  where
-    falls : (v : List (Numbered ParameterValue)) → AllHeld ParameterHeld ((3, 0x00 ∷ 0x35 ∷ []) ∷ (1, 0x02 ∷ 0x68 ∷ 0x32 ∷ []) ∷ []) v → Rising v → ⊥
-    falls [] h r = h
-    falls (a ∷ []) h r = h.2
-    falls (a ∷ b ∷ rest) h r = omega (arith, h.0, h.2.0, r.0.0)
+keys_do_not_fall = not_rising (3, 0x00 ∷ 0x35 ∷ []) (1, 0x02 ∷ 0x68 ∷ 0x32 ∷ []) (omega arith, omega arith) (omega arith, omega arith) (omega arith)
 
 -- no character's UTF-8 begins with 255
 not_utf8 : IsUtf8 (0xff ∷ []) → ⊥
@@ -574,19 +432,13 @@ not_utf8 u = let e : is_utf8 (0xff ∷ []) ≡ true = is_utf8-from_IsUtf8 (0xff 
 
 pub broken_protocols : BrokenProtocols
 broken_protocols = (
-  λ v f. first_none v.0 (known_held (0x00 ∷ 0x02 ∷ 0x00 ∷ 0x01 ∷ 0x00 ∷ []) ((2, 0x00 ∷ []) ∷ []) ((omega arith, omega arith), tt) refl v f),
-  λ v f. first_names v.0 (known_held (0x00 ∷ 0x01 ∷ 0x00 ∷ 0x02 ∷ 0x01 ∷ 0xff ∷ []) ((1, 0x01 ∷ 0xff ∷ []) ∷ []) ((omega arith, omega arith), tt) refl v f),
+  no_parameter 2 (0x00 ∷ []) (omega arith, omega arith) none_form,
+  no_parameter 1 (0x01 ∷ 0xff ∷ []) (omega arith, omega arith) names_form,
 )
   where
-    none_form : (w : ParameterValue) → form_of w ≡ Nothing → ParameterHeld 2 (0x00 ∷ []) w → ⊥
-    none_form NoDefaultAlpn e h = cc h.2
-    none_form w e h = cc e
-
-    first_none : (v : List (Numbered ParameterValue)) → AllHeld ParameterHeld ((2, 0x00 ∷ []) ∷ []) v → ⊥
-    first_none [] h = h
-    first_none (x ∷ xs) h =
-        let held : ParameterHeld 2 (0x00 ∷ []) x.1 = subst (λ (k : ℕ). ParameterHeld k (0x00 ∷ []) x.1) (sym h.0) h.1 in
-        none_form x.1 held.0 held
+    none_form : (w : ParameterValue) → ParameterHeld 2 (0x00 ∷ []) w → ⊥
+    none_form NoDefaultAlpn h = cc h.2
+    none_form w h = let e : form_of w ≡ Nothing = h.0 in cc e
 
     one_name : (names : List (List ℕ)) → AllByRecursion IsUtf8 names → flat_map string names ≡ 0x01 ∷ 0xff ∷ [] → ⊥
     one_name [] u e = cc e
@@ -595,53 +447,37 @@ broken_protocols = (
         let n : length s ≡ 1 = cc in
         let t : s ++ flat_map string names ≡ 0xff ∷ [] = cc in
         let first : s ≡ 0xff ∷ [] = sym (take_at s (flat_map string names) 1 n) ∙ ap (take 1) t in
-        not_utf8 (subst IsUtf8 first u.0)
+        not_utf8 (rw first at u.0)
 
-    names_form : (w : ParameterValue) → form_of w ≡ Names → ParameterHeld 1 (0x01 ∷ 0xff ∷ []) w → ⊥
-    names_form (Alpn names) e h = one_name names h.2.0 (sym h.2.1)
-    names_form w e h = cc e
-
-    first_names : (v : List (Numbered ParameterValue)) → AllHeld ParameterHeld ((1, 0x01 ∷ 0xff ∷ []) ∷ []) v → ⊥
-    first_names [] h = h
-    first_names (x ∷ xs) h =
-        let held : ParameterHeld 1 (0x01 ∷ 0xff ∷ []) x.1 = subst (λ (k : ℕ). ParameterHeld k (0x01 ∷ 0xff ∷ []) x.1) (sym h.0) h.1 in
-        names_form x.1 held.0 held
+    names_form : (w : ParameterValue) → ParameterHeld 1 (0x01 ∷ 0xff ∷ []) w → ⊥
+    names_form (Alpn names) h = one_name names h.2.0 (sym h.2.1)
+    names_form w h = let e : form_of w ≡ Names = h.0 in cc e
 
 pub broken_parameter : BrokenParameter
 broken_parameter = (
-  λ v f. first_keys v.0 (known_held (0x00 ∷ 0x00 ∷ 0x00 ∷ 0x00 ∷ []) ((0, []) ∷ []) ((omega arith, omega arith), tt) refl v f),
-  λ v f. first_port v.0 (known_held (0x00 ∷ 0x03 ∷ 0x00 ∷ 0x01 ∷ 0x35 ∷ []) ((3, 0x35 ∷ []) ∷ []) ((omega arith, omega arith), tt) refl v f),
+  no_parameter 0 [] (omega arith, omega arith) keys_form,
+  no_parameter 3 (0x35 ∷ []) (omega arith, omega arith) port_form,
 )
   where
     some_keys : (keys : List ℕ) → keys ≢ [] → [] ≡ flat_map (bytes_high_first 2) keys → ⊥
     some_keys [] some e = some refl
     some_keys (k ∷ keys) some e = cc e
 
-    keys_form : (w : ParameterValue) → form_of w ≡ Keys → ParameterHeld 0 [] w → ⊥
-    keys_form (Mandatory keys) e h = some_keys keys h.1.0 h.2
-    keys_form w e h = cc e
+    keys_form : (w : ParameterValue) → ParameterHeld 0 [] w → ⊥
+    keys_form (Mandatory keys) h = some_keys keys h.1.0 h.2
+    keys_form w h = let e : form_of w ≡ Keys = h.0 in cc e
 
-    first_keys : (v : List (Numbered ParameterValue)) → AllHeld ParameterHeld ((0, []) ∷ []) v → ⊥
-    first_keys [] h = h
-    first_keys (x ∷ xs) h =
-        let held : ParameterHeld 0 [] x.1 = subst (λ (k : ℕ). ParameterHeld k [] x.1) (sym h.0) h.1 in
-        keys_form x.1 held.0 held
-
-    port_form : (w : ParameterValue) → form_of w ≡ PortNumber → ParameterHeld 3 (0x35 ∷ []) w → ⊥
-    port_form (Port n) e h = omega (arith, ap length h.2.1, length-append (bytes_high_first 2 n) h.2.0, length-bytes 2 n)
-    port_form w e h = cc e
-
-    first_port : (v : List (Numbered ParameterValue)) → AllHeld ParameterHeld ((3, 0x35 ∷ []) ∷ []) v → ⊥
-    first_port [] h = h
-    first_port (x ∷ xs) h =
-        let held : ParameterHeld 3 (0x35 ∷ []) x.1 = subst (λ (k : ℕ). ParameterHeld k (0x35 ∷ []) x.1) (sym h.0) h.1 in
-        port_form x.1 held.0 held
+    port_form : (w : ParameterValue) → ParameterHeld 3 (0x35 ∷ []) w → ⊥
+    port_form (Port n) h = omega (arith, ap length h.2.1, length-append (bytes_high_first 2 n) h.2.0, length-bytes 2 n)
+    port_form w h = let e : form_of w ≡ PortNumber = h.0 in cc e
 
 -- ---- bitmaps
 
--- blocks that are the minimal ones of a set have its types
-minimal_is : (v : List ℕ) (blocks : List Block) → AllByRecursion (λ t. t < 65536) v → minimal v ≡ blocks → (t : ℕ) → contains t v ≡ list_any (has_type t) blocks
-minimal_is v blocks small e t = minimal_types v small t ∙ ap (list_any (has_type t)) e
+-- blocks from a place on that are the minimal ones of a set
+bitmap : {m : List ℕ} {p q : ℕ} (v : List ℕ) (blocks : List Block) → At m p (flat_map block blocks) q → AllByRecursion IsBlock blocks → IsTypeSet v
+    → minimal v ≡ blocks → Field m p Bitmap v q
+bitmap v blocks there fit set e =
+    record { is = record { blocks = blocks; at = there; fit = fit; set = set; types = λ t. minimal_types v set.numbers t ∙ ap (list_any (has_type t)) e } }
 
 three_types : minimal (1 ∷ 2 ∷ 28 ∷ []) ≡ (0, 0x60 ∷ 0x00 ∷ 0x00 ∷ 0x08 ∷ []) ∷ []
 unfolding window types_octet mark
@@ -649,34 +485,15 @@ three_types = minimal_first (1 ∷ 2 ∷ 28 ∷ []) 1 (omega arith) (omega arith
 
 pub types_read : TypesRead
 unfolding field_octets
-types_read = record {
-  stands = (
-    4,
-    record { is = (omega arith, record { ends = refl; within = omega arith; same = refl }) },
-    (
-      6,
-      record { is = (omega arith, record { ends = refl; within = omega arith; same = refl }) },
-      (
-        12,
-        record {
-          is = record {
-            blocks = (0, 0x60 ∷ 0x00 ∷ 0x00 ∷ 0x08 ∷ []) ∷ [];
-            at = record { ends = refl; within = omega arith; same = refl };
-            fit = (record { number = omega arith; some = omega arith; most = omega arith }, tt);
-            set = record {
-              rises = ((omega arith, (omega arith, tt)), ((omega arith, tt), (tt, tt)));
-              numbers =
-                  (omega arith, (omega arith, (omega arith, tt)));
-            };
-            types = minimal_is (1 ∷ 2 ∷ 28 ∷ []) ((0, 0x60 ∷ 0x00 ∷ 0x00 ∷ 0x08 ∷ []) ∷ []) (omega arith, (omega arith, (omega arith, tt))) three_types;
-          };
-        },
-        refl,
-      ),
-    ),
-  );
-  canonical_octets = ap (λ (bs : List Block). 0x00 ∷ 0x00 ∷ 0x00 ∷ 0x7b ∷ 0x00 ∷ 0x03 ∷ (flat_map block bs ++ [])) three_types;
-}
+types_read = reads
+    (next 4 (number (omega arith) refl (omega arith) refl)
+    (next 6 (number (omega arith) refl (omega arith) refl)
+    (next 12 (bitmap (1 ∷ 2 ∷ 28 ∷ []) ((0, 0x60 ∷ 0x00 ∷ 0x00 ∷ 0x08 ∷ []) ∷ []) (at refl (omega arith) refl)
+    (record { number = omega arith; some = omega arith; most = omega arith }, tt)
+    (record { rises = ((omega arith, (omega arith, tt)), ((omega arith, tt), (tt, tt))); numbers = (omega arith, (omega arith, (omega arith, tt))) })
+    three_types)
+    refl)))
+    (ap (λ (bs : List Block). 0x00 ∷ 0x00 ∷ 0x00 ∷ 0x7b ∷ 0x00 ∷ 0x03 ∷ (flat_map block bs ++ [])) three_types)
 
 two_windows : minimal (1 ∷ 256 ∷ 257 ∷ []) ≡ (0, 0x40 ∷ []) ∷ (1, 0xc0 ∷ []) ∷ []
 unfolding window types_octet mark
@@ -684,25 +501,15 @@ two_windows = minimal_first (1 ∷ 256 ∷ 257 ∷ []) 2 (omega arith) (omega ar
 
 pub windows_read : WindowsRead
 unfolding field_octets
-windows_read = record {
-  stands = (
-    6,
-    record {
-      is = record {
-        blocks = (0, 0x40 ∷ []) ∷ (1, 0xc0 ∷ []) ∷ [];
-        at = record { ends = refl; within = omega arith; same = refl };
-        fit = (
-          record { number = omega arith; some = omega arith; most = omega arith },
-          (record { number = omega arith; some = omega arith; most = omega arith }, tt),
-        );
-        set = record { rises = ((omega arith, (omega arith, tt)), ((omega arith, tt), (tt, tt))); numbers = (omega arith, (omega arith, (omega arith, tt))) };
-        types = minimal_is (1 ∷ 256 ∷ 257 ∷ []) ((0, 0x40 ∷ []) ∷ (1, 0xc0 ∷ []) ∷ []) (omega arith, (omega arith, (omega arith, tt))) two_windows;
-      };
-    },
-    refl,
-  );
-  canonical_octets = ap (λ (bs : List Block). flat_map block bs ++ []) two_windows;
-}
+windows_read = reads
+    (next 6 (bitmap (1 ∷ 256 ∷ 257 ∷ []) ((0, 0x40 ∷ []) ∷ (1, 0xc0 ∷ []) ∷ []) (at refl (omega arith) refl) (
+      record { number = omega arith; some = omega arith; most = omega arith },
+      (record { number = omega arith; some = omega arith; most = omega arith }, tt),
+    )
+    (record { rises = ((omega arith, (omega arith, tt)), ((omega arith, tt), (tt, tt))); numbers = (omega arith, (omega arith, (omega arith, tt))) })
+    two_windows)
+    refl)
+    (ap (λ (bs : List Block). flat_map block bs ++ []) two_windows)
 
 one_octet : minimal (1 ∷ 2 ∷ []) ≡ (0, 0x60 ∷ []) ∷ []
 unfolding window types_octet mark
@@ -720,22 +527,17 @@ zero_has t = ap (λ (o : ℕ). ((t / 256 == 0) && (bit_at o (7 - t % 8) == 1)) |
 
 pub zeros_dropped : ZerosDropped
 unfolding field_octets
-zeros_dropped = record {
-  stands = (
-    4,
-    record {
+zeros_dropped = reads
+    (next 4 (record {
       is = record {
         blocks = (0, 0x60 ∷ 0x00 ∷ []) ∷ [];
-        at = record { ends = refl; within = omega arith; same = refl };
+        at = at refl (omega arith) refl;
         fit = (record { number = omega arith; some = omega arith; most = omega arith }, tt);
         set = record { rises = ((omega arith, tt), (tt, tt)); numbers = (omega arith, (omega arith, tt)) };
-        types = λ t. minimal_is (1 ∷ 2 ∷ []) ((0, 0x60 ∷ []) ∷ []) (omega arith, (omega arith, tt)) one_octet t ∙ zero_has t;
+        types = λ t. minimal_types (1 ∷ 2 ∷ []) (omega arith, (omega arith, tt)) t ∙ ap (list_any (has_type t)) one_octet ∙ zero_has t;
       };
-    },
-    refl,
-  );
-  canonical_octets = ap (λ (bs : List Block). flat_map block bs ++ []) one_octet;
-}
+    }) refl)
+    (ap (λ (bs : List Block). flat_map block bs ++ []) one_octet)
 
 pub broken_window : BrokenWindow
 broken_window = (
