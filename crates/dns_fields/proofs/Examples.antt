@@ -161,8 +161,11 @@ cut_options : (m rest : List ℕ) (read : List (Numbered (List ℕ))) (dropped :
     → ArePieces read → AllHeld OptionHeld read dropped → IsCut (length m - 0) stub → Stands (m ++ rest) 0 (Options ∷ []) ([], tt) (length m)
 cut_options m rest read dropped stub e fit held cut =
     let there : At (m ++ rest) 0 (pieces read ++ stub) (length m) =
-        rw e (at (omega arith) (omega (arith, length-append m rest)) (take_at m rest (length m) refl)) in
+    rw e (at (omega arith) (omega (arith, length-append m rest)) (take_at m rest (length m) refl)) in
     (length m, record { is = inr (refl, record { read = read; dropped = dropped; stub = stub; at = there; fit = fit; held = held; cut = cut }) }, refl)
+
+abbrev stub : List ℕ
+stub = 0x00 ∷ 0x0a ∷ 0x00 ∷ 0x05 ∷ 0x01 ∷ 0x02 ∷ []
 
 pub cut_option_reads : CutOptionReads
 unfolding field_octets
@@ -172,9 +175,6 @@ cut_option_reads = (
   reads (cut_options stub (0x03 ∷ 0x04 ∷ 0x05 ∷ []) [] [] stub refl tt tt cut) refl,
 )
   where
-    abbrev stub : List ℕ
-    stub = 0x00 ∷ 0x0a ∷ 0x00 ∷ 0x05 ∷ 0x01 ∷ 0x02 ∷ []
-
     cut : IsCut 6 stub
     cut = (10, omega arith, inr (5, 0x01 ∷ 0x02 ∷ [], omega arith, omega arith, omega arith, refl))
 
@@ -272,9 +272,15 @@ subnet_reads = reads (whole_options
     0x0b ∷ 0x00 ∷ 0x00 ∷ [])
     ((10, Plain cookie) ∷ (8, Subnet 1 0 0 []) ∷ (11, Plain []) ∷ [])
     ((10, cookie) ∷ (8, 0x00 ∷ 0x01 ∷ 0x00 ∷ 0x00 ∷ []) ∷ (11, []) ∷ []) refl
-    ((omega arith, omega arith), ((omega arith, omega arith), ((omega arith, omega arith), tt)))
-    (refl, (λ e. omega arith, refl), (refl, (refl, record { long = refl; most = inl (refl, omega arith) }, [], refl),
-    (refl, (λ e. omega arith, refl), tt)))) refl
+    ((omega arith, omega arith), ((omega arith, omega arith), ((omega arith, omega arith), tt))) (
+      refl,
+      (λ e. omega arith, refl),
+      (
+        refl,
+        (refl, record { long = refl; most = inl (refl, omega arith) }, [], refl),
+        (refl, (λ e. omega arith, refl), tt),
+      ),
+    )) refl
 
 pub subnet_of_six_reads : SubnetOfSixReads
 unfolding field_octets
@@ -377,7 +383,8 @@ service_reads = reads
     (next 18 (record { is = parameters }) refl))) refl
   where
     parameters : ParametersAt
-        (0x00 ∷ 0x01 ∷ 0x00 ∷ 0x00 ∷ 0x01 ∷ 0x00 ∷ 0x03 ∷ 0x02 ∷ 0x68 ∷ 0x32 ∷ 0x00 ∷ 0x03 ∷ 0x00 ∷ 0x04 ∷ 0x01 ∷ 0xbb ∷ 0xff ∷ 0xff ∷ []) 3 ((1, Alpn ((0x68 ∷ 0x32 ∷ []) ∷ [])) ∷ (3, Port 443) ∷ []) 18
+        (0x00 ∷ 0x01 ∷ 0x00 ∷ 0x00 ∷ 0x01 ∷ 0x00 ∷ 0x03 ∷ 0x02 ∷ 0x68 ∷ 0x32 ∷ 0x00 ∷ 0x03 ∷ 0x00 ∷ 0x04 ∷ 0x01 ∷ 0xbb ∷ 0xff ∷ 0xff ∷ []) 3
+        ((1, Alpn ((0x68 ∷ 0x32 ∷ []) ∷ [])) ∷ (3, Port 443) ∷ []) 18
     parameters = record {
       read = (1, 0x02 ∷ 0x68 ∷ 0x32 ∷ []) ∷ (3, 0x01 ∷ 0xbb ∷ 0xff ∷ 0xff ∷ []) ∷ [];
       at = at refl (omega arith) refl;
@@ -479,6 +486,10 @@ bitmap : {m : List ℕ} {p q : ℕ} (v : List ℕ) (blocks : List Block) → At 
 bitmap v blocks there fit set e =
     record { is = record { blocks = blocks; at = there; fit = fit; set = set; types = λ t. minimal_types v set.numbers t ∙ ap (list_any (has_type t)) e } }
 
+-- three numbers that rise
+three_rise : {a b c : ℕ} → a < b → b < c → c < 65536 → IsTypeSet (a ∷ b ∷ c ∷ [])
+three_rise p q r = record { rises = ((p, (omega arith, tt)), ((q, tt), (tt, tt))); numbers = (omega arith, (omega arith, (r, tt))) }
+
 three_types : minimal (1 ∷ 2 ∷ 28 ∷ []) ≡ (0, 0x60 ∷ 0x00 ∷ 0x00 ∷ 0x08 ∷ []) ∷ []
 unfolding window types_octet mark
 three_types = minimal_first (1 ∷ 2 ∷ 28 ∷ []) 1 (omega arith) (omega arith, (omega arith, (omega arith, tt)))
@@ -490,8 +501,7 @@ types_read = reads
     (next 6 (number (omega arith) refl (omega arith) refl)
     (next 12 (bitmap (1 ∷ 2 ∷ 28 ∷ []) ((0, 0x60 ∷ 0x00 ∷ 0x00 ∷ 0x08 ∷ []) ∷ []) (at refl (omega arith) refl)
     (record { number = omega arith; some = omega arith; most = omega arith }, tt)
-    (record { rises = ((omega arith, (omega arith, tt)), ((omega arith, tt), (tt, tt))); numbers = (omega arith, (omega arith, (omega arith, tt))) })
-    three_types)
+    (three_rise (omega arith) (omega arith) (omega arith)) three_types)
     refl)))
     (ap (λ (bs : List Block). 0x00 ∷ 0x00 ∷ 0x00 ∷ 0x7b ∷ 0x00 ∷ 0x03 ∷ (flat_map block bs ++ [])) three_types)
 
@@ -506,8 +516,7 @@ windows_read = reads
       record { number = omega arith; some = omega arith; most = omega arith },
       (record { number = omega arith; some = omega arith; most = omega arith }, tt),
     )
-    (record { rises = ((omega arith, (omega arith, tt)), ((omega arith, tt), (tt, tt))); numbers = (omega arith, (omega arith, (omega arith, tt))) })
-    two_windows)
+    (three_rise (omega arith) (omega arith) (omega arith)) two_windows)
     refl)
     (ap (λ (bs : List Block). flat_map block bs ++ []) two_windows)
 

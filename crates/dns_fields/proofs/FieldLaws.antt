@@ -61,28 +61,22 @@ sorted_options : List (Numbered OptionValue) → List (Numbered OptionValue)
 sorted_options v = sorted (on (λ (x : Numbered OptionValue). piece (as_piece option_octets x)) octets_cmp) v
 
 pub field_inside : {m : List ℕ} {p : ℕ} {k : Kind} {v : Value k} {q : ℕ} → Field m p k v q → (p ≤ q) × (q ≤ length m)
-field_inside {k = Number w} f = (omega (arith, f.is.1.ends), f.is.1.within)
-field_inside {k = Octets n} f = (omega (arith, f.is.1.ends), f.is.1.within)
 field_inside {k = Name} f = name_inside f.is
-field_inside {k = Text} f = (omega (arith, f.is.1.ends), f.is.1.within)
-field_inside {k = Texts} f = (omega (arith, f.is.1.ends), f.is.1.within)
 field_inside {k = Rest} f = (omega (arith, f.is.ends), f.is.within)
 field_inside {m} {p} {k = Options} {v} {q} f = options_inside f.is
 field_inside {k = Parameters} f = (omega (arith, f.is.at.ends), f.is.at.within)
 field_inside {k = Bitmap} f = (omega (arith, f.is.at.ends), f.is.at.within)
+field_inside f = (omega (arith, f.is.1.ends), f.is.1.within)
 
 -- it stands where it does whatever follows the message
 pub field_append : {m : List ℕ} {p : ℕ} {k : Kind} {v : Value k} {q : ℕ} (t : List ℕ) → Field m p k v q → Field (m ++ t) p k v q
-field_append {k = Number w} t f = record { is = (f.is.0, At-append t f.is.1) }
-field_append {k = Octets n} t f = record { is = (f.is.0, At-append t f.is.1) }
 field_append {k = Name} t f = record { is = name_append t f.is }
-field_append {k = Text} t f = record { is = (f.is.0, At-append t f.is.1) }
-field_append {k = Texts} t f = record { is = (f.is.0, At-append t f.is.1) }
 field_append {k = Rest} t f = record { is = At-append t f.is }
 field_append {k = Options} t f = record { is = options_append t f.is }
 field_append {k = Parameters} t f = record
     { is = record { read = f.is.read; at = At-append t f.is.at; fit = f.is.fit; held = f.is.held; rising = f.is.rising } }
 field_append {k = Bitmap} t f = record { is = bitmap_append t f.is }
+field_append t f = record { is = (f.is.0, At-append t f.is.1) }
 
 -- between two places stands at most one value
 pub field_same : {m : List ℕ} {p : ℕ} {k : Kind} {v w : Value k} {q : ℕ} → Field m p k v q → Field m p k w q → v ≡ w
@@ -105,35 +99,22 @@ field_end {k = Number n} {v} {w} h f g = omega (arith, f.is.1.ends, g.is.1.ends,
 field_end {k = Octets n} h f g = omega (arith, f.is.1.ends, g.is.1.ends, f.is.0, g.is.0)
 field_end {k = Name} h f g = (name_same f.is g.is).1
 field_end {k = Text} {v} {w} h f g = let n : length v ≡ length w = At-same_head f.is.1 g.is.1 in omega (arith, f.is.1.ends, g.is.1.ends)
-field_end {k = Texts} h f g = elim h [ ]
-field_end {k = Rest} h f g = elim h [ ]
-field_end {k = Options} h f g = elim h [ ]
-field_end {k = Parameters} h f g = elim h [ ]
-field_end {k = Bitmap} h f g = elim h [ ]
+field_end h f g = elim h [ ]
 
 -- what stands can be written
 pub field_fits : {m : List ℕ} {p : ℕ} {k : Kind} {v : Value k} {q : ℕ} → Field m p k v q → Fits k v
-field_fits {k = Number w} f = f.is.0
-field_fits {k = Octets n} f = f.is.0
 field_fits {k = Name} f = name_is f.is
-field_fits {k = Text} f = f.is.0
-field_fits {k = Texts} f = f.is.0
 field_fits {k = Rest} f = tt
 field_fits {k = Options} f = options_fit f.is
 field_fits {k = Parameters} {v} f = (held_fit ParameterHeld parameter_octets ParameterFits parameter_fit f.is.read v f.is.fit f.is.held, f.is.rising)
 field_fits {k = Bitmap} f = f.is.set
+field_fits f = f.is.0
 
 -- what stands is of a read
 pub field_lawful : {m : List ℕ} {p : ℕ} {k : Kind} {v : Value k} {q : ℕ} → Field m p k v q → Lawful k v
-field_lawful {k = Number w} f = tt
-field_lawful {k = Octets n} f = tt
-field_lawful {k = Name} f = tt
-field_lawful {k = Text} f = tt
-field_lawful {k = Texts} f = tt
-field_lawful {k = Rest} f = tt
 field_lawful {k = Options} f = options_lawful f.is
 field_lawful {k = Parameters} {v} f = held_lawful ParameterHeld parameter_octets parameter_own f.is.read v f.is.held
-field_lawful {k = Bitmap} f = tt
+field_lawful f = tt
 
 -- what was written reads there as the same value
 pub wrote_field : {mode : RDataEncoding} {m : List ℕ} {k : Kind} {v : Value k} {m' : List ℕ} → Lawful k v → WroteField mode m k v m'
@@ -189,15 +170,10 @@ wrote_tail {m} {k = Parameters} {v} f = (pieces (parameter_pieces v), f.is.2, om
 wrote_tail {m} {k = Bitmap} {v} f = (flat_map block (minimal v), f.is.1, omega arith)
 
 pub wrote_fits : {mode : RDataEncoding} {m : List ℕ} {k : Kind} {v : Value k} {m' : List ℕ} → WroteField mode m k v m' → Fits k v
-wrote_fits {k = Number w} f = f.is.0
-wrote_fits {k = Octets n} f = f.is.0
 wrote_fits {k = Name} f = f.is.is_name
-wrote_fits {k = Text} f = f.is.0
-wrote_fits {k = Texts} f = f.is.0
 wrote_fits {k = Rest} f = tt
-wrote_fits {k = Options} f = f.is.0
 wrote_fits {k = Parameters} f = (f.is.0, f.is.1)
-wrote_fits {k = Bitmap} f = f.is.0
+wrote_fits f = f.is.0
 
 -- a value that is written
 pub record Written (mode : RDataEncoding) (m : List ℕ) (k : Kind) (v : Value k) (m' : List ℕ) : Type 0 where
@@ -223,8 +199,6 @@ options_sorted v =
 -- the canonical octets are one of the ways to write an equal value
 pub octets_wrote : (mode : RDataEncoding) (m : List ℕ) (k : Kind) (v : Value k) → Fits k v → Lawful k v → Written mode m k v (m ++ field_octets k v)
 unfolding field_octets sorted_options
-octets_wrote mode m (Number w) v h l = record { value = v; same = record { is = refl }; lawful = tt; wrote = record { is = (h, refl) } }
-octets_wrote mode m (Octets n) v h l = record { value = v; same = record { is = refl }; lawful = tt; wrote = record { is = (h, refl) } }
 octets_wrote mode m Name v h l = record {
   value = low_name v;
   same = record { is = low_name_same v };
@@ -232,8 +206,6 @@ octets_wrote mode m Name v h l = record {
   wrote =
       record { is = low_name_wrote mode m v h };
 }
-octets_wrote mode m Text v h l = record { value = v; same = record { is = refl }; lawful = tt; wrote = record { is = (h, refl) } }
-octets_wrote mode m Texts v h l = record { value = v; same = record { is = refl }; lawful = tt; wrote = record { is = (h, refl) } }
 octets_wrote mode m Rest v h l = record { value = v; same = record { is = refl }; lawful = tt; wrote = record { is = refl } }
 octets_wrote mode m Options v h l =
     let R = on (λ (x : Numbered OptionValue). piece (as_piece option_octets x)) octets_cmp in
@@ -244,7 +216,7 @@ octets_wrote mode m Options v h l =
       wrote = record { is = (sorted_all R OptionFits v h, ap (λ (o : List ℕ). m ++ o) (options_sorted v)) };
     }
 octets_wrote mode m Parameters v h l = record { value = v; same = record { is = refl }; lawful = l; wrote = record { is = (h.0, h.1, refl) } }
-octets_wrote mode m Bitmap v h l = record { value = v; same = record { is = refl }; lawful = tt; wrote = record { is = (h, refl) } }
+octets_wrote mode m k v h l = record { value = v; same = record { is = refl }; lawful = tt; wrote = record { is = (h, refl) } }
 
 -- the same value has the same canonical octets
 pub octets_same : {k : Kind} {a b : Value k} → SameField k a b → field_octets k a ≡ field_octets k b
@@ -262,35 +234,16 @@ octets_same {k = Parameters} s = ap (λ (v : List (Numbered ParameterValue)). pi
 octets_same {k = Bitmap} s = ap (λ (v : List ℕ). flat_map block (minimal v)) s.is
 
 pub same_sym : {k : Kind} {a b : Value k} → SameField k a b → SameField k b a
-same_sym {k = Number w} s = record { is = sym s.is }
-same_sym {k = Octets n} s = record { is = sym s.is }
 same_sym {k = Name} s = record { is = record { low = sym s.is.low } }
-same_sym {k = Text} s = record { is = sym s.is }
-same_sym {k = Texts} s = record { is = sym s.is }
-same_sym {k = Rest} s = record { is = sym s.is }
 same_sym {k = Options} {a} {b} s = record { is = IsPermutation-sym a b s.is }
-same_sym {k = Parameters} s = record { is = sym s.is }
-same_sym {k = Bitmap} s = record { is = sym s.is }
+same_sym s = record { is = sym s.is }
 
 pub same_then : {k : Kind} {a b c : Value k} → SameField k a b → SameField k b c → SameField k a c
-same_then {k = Number w} s t = record { is = s.is ∙ t.is }
-same_then {k = Octets n} s t = record { is = s.is ∙ t.is }
 same_then {k = Name} s t = record { is = record { low = s.is.low ∙ t.is.low } }
-same_then {k = Text} s t = record { is = s.is ∙ t.is }
-same_then {k = Texts} s t = record { is = s.is ∙ t.is }
-same_then {k = Rest} s t = record { is = s.is ∙ t.is }
 same_then {k = Options} {a} {b} {c} s t = record { is = IsPermutation-trans a b c s.is t.is }
-same_then {k = Parameters} s t = record { is = s.is ∙ t.is }
-same_then {k = Bitmap} s t = record { is = s.is ∙ t.is }
+same_then s t = record { is = s.is ∙ t.is }
 
 -- the names that stand are fully qualified
 pub field_full : {m : List ℕ} {p : ℕ} {k : Kind} {v : Value k} {q : ℕ} → Field m p k v q → IsFull k v
-field_full {k = Number w} f = tt
-field_full {k = Octets n} f = tt
 field_full {k = Name} f = f.is.qualified
-field_full {k = Text} f = tt
-field_full {k = Texts} f = tt
-field_full {k = Rest} f = tt
-field_full {k = Options} f = tt
-field_full {k = Parameters} f = tt
-field_full {k = Bitmap} f = tt
+field_full f = tt
