@@ -9,7 +9,7 @@ use Rattle.std.proofs.lemmas.Bool.Decides.{Decides-and}
 use Rattle.std.proofs.lemmas.List.Sorted.{IsPermutation-map}
 use Rattle.dns_fields.specs.Labels.{lowname}
 use Rattle.dns_fields.specs.Pieces.{Numbered, OptionValue, Subnet, Plain, ParameterValue, Mandatory, Alpn, NoDefaultAlpn, Port, Ipv4Hint, Ipv6Hint, Opaque}
-use Rattle.dns_fields.specs.Fields.{Kind, Number, Octets, Name, Text, Texts, Rest, Options, Parameters, Bitmap, Value, SameField, IsFull}
+use Rattle.dns_fields.specs.Fields.{Kind, Number, Name, Texts, Options, Parameters, Value, SameField, IsFull}
 use Rattle.dns_fields.specs.Equal.{Key, key_eq, key_cmp, option_key_of, option_key, option_keys, parameter_key_of, parameter_key, parameter_keys, kind_eq}
 use Rattle.dns_fields.proofs.Orders.{key_total}
 use Rattle.dns_fields.specs.Laws.{EqualLaw}
@@ -48,12 +48,7 @@ parameter_of key = (0, NoDefaultAlpn)
 parameter_back : (key : ℕ) (v : ParameterValue) → parameter_of (parameter_key_of key v) ≡ (key, v)
 unfolding parameter_value parameter_of
 parameter_back key (Mandatory keys) = refl
-parameter_back key (Alpn names) = refl
-parameter_back key NoDefaultAlpn = refl
-parameter_back key (Port n) = refl
-parameter_back key (Ipv4Hint addresses) = refl
-parameter_back key (Ipv6Hint addresses) = refl
-parameter_back key (Opaque s) = refl
+parameter_back key v = refl
 
 map_back : {X Y : Type 0} (f : X → Y) (g : Y → X) → ((x : X) → g (f x) ≡ x) → (xs : List X) → map g (map f xs) ≡ xs
 map_back f g back [] = refl
@@ -93,13 +88,10 @@ octets_decide a b = pointwise_decides unsigned_Decides a b
 
 pub field_decide : (k : Kind) (a b : Value k) → IsFull k a → IsFull k b → Decides (kind_eq k a b) (SameField k a b)
 field_decide (Number w) a b f g = let d = unsigned_Decides a b in (λ h. record { is = d.0 h }, λ s. d.1 s.is)
-field_decide (Octets n) a b f g = let d = octets_decide a b in (λ h. record { is = d.0 h }, λ s. d.1 s.is)
 field_decide Name a b f g =
     let d = Decides-and _ _ (octets_decide (lowname a) (lowname b)) (booleans_Decides a.fully_qualified b.fully_qualified) in
     (λ h. record { is = record { low = (d.0 h).0 } }, λ s. d.1 (s.is.low, f ∙ sym g))
-field_decide Text a b f g = let d = octets_decide a b in (λ h. record { is = d.0 h }, λ s. d.1 s.is)
 field_decide Texts a b f g = let d = pointwise_decides octets_decide a b in (λ h. record { is = d.0 h }, λ s. d.1 s.is)
-field_decide Rest a b f g = let d = octets_decide a b in (λ h. record { is = d.0 h }, λ s. d.1 s.is)
 field_decide Options a b f g =
     let d = keys_decide (option_keys a) (option_keys b) in
     let o = options_decide a b in
@@ -108,7 +100,7 @@ field_decide Parameters a b f g =
     let d = keys_decide (parameter_keys a) (parameter_keys b) in
     let o = parameters_decide a b in
     (λ h. record { is = o.0 (d.0 h) }, λ s. d.1 (o.1 s.is))
-field_decide Bitmap a b f g = let d = octets_decide a b in (λ h. record { is = d.0 h }, λ s. d.1 s.is)
+field_decide k a b f g = let d = octets_decide a b in (λ h. record { is = d.0 h }, λ s. d.1 s.is)
 
 -- values whose names are fully qualified are equal exactly where they are the same
 pub values_decide : EqualLaw

@@ -6,21 +6,18 @@ use Rattle.std.specs.Cmp.Lexicographic.{pointwise, lists_equiv, nat_list_eq_equi
 use Rattle.dns_fields.specs.Labels.{lowname}
 use Rattle.dns_fields.specs.Comparing.{is_qualified}
 use Rattle.dns_fields.specs.Equal.{key_eq, option_keys, parameter_keys, kind_eq, values_eq}
-use Rattle.dns_fields.specs.Fields.{Kind, Number, Octets, Name, Text, Texts, Rest, Options, Parameters, Bitmap, Values}
+use Rattle.dns_fields.specs.Fields.{Kind, Number, Name, Texts, Options, Parameters, Values}
 
 keys_equiv : IsEquivalence (pointwise key_eq)
 keys_equiv = lists_equiv (lists_equiv nat_list_eq_equiv)
 
 pub kind_equiv : (k : Kind) → IsEquivalence (kind_eq k)
 kind_equiv (Number w) = nat_eq_equiv
-kind_equiv (Octets n) = nat_list_eq_equiv
 kind_equiv Name = and_equiv (on_texts_equal lowname) (on_equiv is_qualified bool_eq_equiv)
-kind_equiv Text = nat_list_eq_equiv
 kind_equiv Texts = lists_equiv nat_list_eq_equiv
-kind_equiv Rest = nat_list_eq_equiv
 kind_equiv Options = on_equiv option_keys keys_equiv
 kind_equiv Parameters = on_equiv parameter_keys keys_equiv
-kind_equiv Bitmap = nat_list_eq_equiv
+kind_equiv k = nat_list_eq_equiv
 
 pub values_equiv : (kinds : List Kind) → IsEquivalence (values_eq kinds)
 values_equiv [] = point_equiv

@@ -9,21 +9,18 @@ use Rattle.dns_fields.specs.Labels.{lowname}
 use Rattle.dns_fields.specs.Comparing.{is_qualified}
 use Rattle.dns_fields.specs.Equal.{Key, key_eq, key_cmp, option_keys, parameter_keys, kind_eq, values_eq}
 use Rattle.dns_fields.specs.Order.{kind_cmp, values_cmp}
-use Rattle.dns_fields.specs.Fields.{Kind, Number, Octets, Name, Text, Texts, Rest, Options, Parameters, Bitmap, Value, Values}
+use Rattle.dns_fields.specs.Fields.{Kind, Number, Name, Texts, Options, Parameters, Value, Values}
 
 pub key_total : IsTotalOrder key_cmp
 key_total = lists_total nat_list_cmp_total
 
 pub kind_total : (k : Kind) → IsTotalOrder (kind_cmp k)
 kind_total (Number w) = nat_cmp_total
-kind_total (Octets n) = nat_list_cmp_total
 kind_total Name = then_total (on_total lowname nat_list_cmp_total) (on_total is_qualified bool_cmp_total)
-kind_total Text = nat_list_cmp_total
 kind_total Texts = lists_total nat_list_cmp_total
-kind_total Rest = nat_list_cmp_total
 kind_total Options = on_total option_keys (lists_total key_total)
 kind_total Parameters = on_total parameter_keys (lists_total key_total)
-kind_total Bitmap = nat_list_cmp_total
+kind_total k = nat_list_cmp_total
 
 pub values_total : (kinds : List Kind) → IsTotalOrder (values_cmp kinds)
 values_total [] = point_total
@@ -41,15 +38,12 @@ keys_tie a b = lists_ties key_cmp (lists_ties (slice_cmp nat_cmp) texts_ties) a 
 
 pub kind_ties : (k : Kind) (a b : Value k) → kind_eq k a b ≡ is_eq (kind_cmp k a b)
 kind_ties (Number w) a b = unsigned_ties a b
-kind_ties (Octets n) a b = texts_ties a b
 kind_ties Name a b = both_tied _ _ (slice_cmp nat_cmp (lowname a) (lowname b)) (bool_cmp a.fully_qualified b.fully_qualified)
     (texts_ties (lowname a) (lowname b)) (booleans_tie a.fully_qualified b.fully_qualified)
-kind_ties Text a b = texts_ties a b
 kind_ties Texts a b = lists_ties (slice_cmp nat_cmp) texts_ties a b
-kind_ties Rest a b = texts_ties a b
 kind_ties Options a b = keys_tie (option_keys a) (option_keys b)
 kind_ties Parameters a b = keys_tie (parameter_keys a) (parameter_keys b)
-kind_ties Bitmap a b = texts_ties a b
+kind_ties k a b = texts_ties a b
 
 -- `==` holds exactly where the order answers Equal
 pub values_ties : (kinds : List Kind) (a b : Values kinds) → values_eq kinds a b ≡ is_eq (values_cmp kinds a b)

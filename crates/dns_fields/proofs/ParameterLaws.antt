@@ -66,25 +66,18 @@ parameter_once k d (Opaque a) (Opaque b) x y = ap Opaque (sym x.2 ∙ y.2)
 parameter_once k d v w x y = let e = x.0 ∙ sym y.0 in absurd (cc e)
 
 own_body : (v : ParameterValue) (d : List ℕ) → IsBody d v → IsBody (parameter_octets v) v
-own_body (Mandatory a) d x = refl
 own_body (Alpn a) d x = (x.0, refl)
-own_body NoDefaultAlpn d x = refl
 own_body (Port n) d x = ([], sym (append-nil (bytes_high_first 2 n)))
-own_body (Ipv4Hint a) d x = refl
-own_body (Ipv6Hint a) d x = refl
-own_body (Opaque s) d x = refl
+own_body v d x = refl
 
 pub parameter_own : (k : ℕ) (d : List ℕ) (v : ParameterValue) → ParameterHeld k d v → ParameterHeld k (parameter_octets v) v
 parameter_own k d v x = (x.0, x.1, own_body v d x.2)
 
 body_long : (v : ParameterValue) (d : List ℕ) → IsBody d v → length (parameter_octets v) ≤ length d
-body_long (Mandatory a) d x = omega (arith, ap length x)
 body_long (Alpn a) d x = omega (arith, ap length x.1)
 body_long NoDefaultAlpn d x = omega arith
 body_long (Port n) d x = omega (arith, ap length x.1, length-append (bytes_high_first 2 n) x.0)
-body_long (Ipv4Hint a) d x = omega (arith, ap length x)
-body_long (Ipv6Hint a) d x = omega (arith, ap length x)
-body_long (Opaque s) d x = omega (arith, ap length x)
+body_long v d x = omega (arith, ap length x)
 
 pub parameter_fit : (k : ℕ) (d : List ℕ) (v : ParameterValue) → k < 256 ^ 2 → length d < 256 ^ 2 → ParameterHeld k d v → ParameterFits (k, v)
 parameter_fit k d v p q x = ((p, omega (arith, q, body_long v d x.2)), x.1)
