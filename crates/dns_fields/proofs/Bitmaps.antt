@@ -3,6 +3,7 @@ use Rattle.std.proofs.Common.{◌≡◌, ◌≢◌, ℕ, zero, suc, ◌+◌, ◌
 use Rattle.std.proofs.Common.{◌⊎◌, inl, inr, ⊎_elim, List, [], ◌∷◌, ◌++◌, length, get_or, map, refl, sym, ap, ◌∙◌, arith, subst, pow-suc}
 use Rattle.std.specs.List.{flat_map, AllByRecursion, list_any, range_with_len}
 use Rattle.std.specs.Int.{bit_at}
+use Rattle.std.proofs.Math.Bool.{and-false}
 use Rattle.std.proofs.lemmas.List.FromFn.{get_or-map-range_with_len, length-map-range_with_len}
 use Rattle.std.proofs.lemmas.Nat.Bits.{bit_at_lowest, bit_at-zero, bit_at_cat_low, bit_at_cat_high}
 use Rattle.std.proofs.lemmas.Bool.Decides.{eqb_tells, nat_tests}
@@ -174,11 +175,7 @@ window_has v t k = elim (eqb_tells (t / 256) k) [
 with_has : (t k : ℕ) (w : List ℕ) (bs : List Block) → list_any (has_type t) (with_block k w bs) ≡ has_type t (k, w) || list_any (has_type t) bs
 unfolding has_type
 with_has t k [] bs = let z : bit_at 0 (7 - t % 8) ≡ 0 = bit_at-zero (7 - t % 8) in
-    ap (λ (b : Bool). b || list_any (has_type t) bs) (sym (none (t / 256 == k)) ∙ ap (λ (n : ℕ). (t / 256 == k) && (n == 1)) (sym z))
-  where
-    none : (b : Bool) → b && false ≡ false
-    none true = refl
-    none false = refl
+    ap (λ (b : Bool). b || list_any (has_type t) bs) (sym (and-false (t / 256 == k)) ∙ ap (λ (n : ℕ). (t / 256 == k) && (n == 1)) (sym z))
 with_has t k (x ∷ xs) bs = refl
 
 windows_have : (v : List ℕ) (t : ℕ) (ks : List ℕ) → list_any (has_type t) (windows v ks) ≡ list_any (λ k. t / 256 == k) ks && contains t v
@@ -189,14 +186,10 @@ windows_have v t (k ∷ ks) =
     ∙ spread (t / 256 == k) (list_any (λ k. t / 256 == k) ks) (contains t v)
   where
     spread : (a b c : Bool) → (a && c) || (b && c) ≡ (a || b) && c
-    spread true true true = refl
+    spread true b true = refl
     spread true true false = refl
-    spread true false true = refl
     spread true false false = refl
-    spread false true true = refl
-    spread false true false = refl
-    spread false false true = refl
-    spread false false false = refl
+    spread false b c = refl
 
 in_range : (a n x : ℕ) → a ≤ x → x < a + n → list_any (λ k. x == k) (range_with_len a n) ≡ true
 in_range a zero x l h = absurd (omega arith)
@@ -220,13 +213,9 @@ minimal_types v a t = ⊎_elim
     sym (windows_have v t (range_with_len 0 256) ∙ ap (λ (b : Bool). b && contains t v) (in_range 0 256 (t / 256) (omega arith) inside)))
     (λ (g : 65536 ≤ t). let n = none_great 65536 v t a g in n
     ∙ sym (windows_have v t (range_with_len 0 256) ∙ ap (λ (b : Bool). list_any (λ k. t / 256 == k) (range_with_len 0 256) && b) n
-    ∙ none (list_any (λ k. t / 256 == k) (range_with_len 0 256))))
+    ∙ and-false (list_any (λ k. t / 256 == k) (range_with_len 0 256))))
     (either t)
   where
-    none : (b : Bool) → b && false ≡ false
-    none true = refl
-    none false = refl
-
     either : (t : ℕ) → (t < 65536) ⊎ (65536 ≤ t)
     either t = grind arith
 

@@ -1,6 +1,6 @@
 -- Canonical octets of what stands in octets are octets.
 use Rattle.std.proofs.Common.{◌≡◌, ℕ, zero, suc, ◌+◌, ◌*◌, ◌/◌, ◌%◌, ◌<◌, ◌^◌, ◌⊎◌, inl, inr, List, [], ◌∷◌, ◌++◌, length, take, drop, map}
-use Rattle.std.proofs.Common.{refl, sym, arith, subst, pow-suc}
+use Rattle.std.proofs.Common.{refl, sym, arith, subst}
 use Rattle.std.specs.List.{flat_map, AllByRecursion, range_with_len}
 use Rattle.std.specs.Int.{byte_at, bytes_high_first}
 use Rattle.std.specs.Char.{to_ascii_lowercase}
@@ -15,13 +15,13 @@ use Rattle.dns_fields.specs.Sorting.{sorted}
 use Rattle.dns_fields.specs.Pieces.{string, Numbered, piece, pieces, AllHeld, as_piece, OptionValue, Subnet, Plain, option_octets}
 use Rattle.dns_fields.specs.Pieces.{OptionHeld, ParameterValue, Mandatory, Alpn, NoDefaultAlpn, Port, Ipv4Hint, Ipv6Hint, Opaque}
 use Rattle.dns_fields.specs.Pieces.{parameter_octets, IsBody, ParameterHeld}
-use Rattle.dns_fields.specs.Bitmaps.{Block, block, IsBlock, packed, mark, keep, trimmed, types_octet, window, with_block, windows, minimal}
+use Rattle.dns_fields.specs.Bitmaps.{Block, block, IsBlock, mark, keep, trimmed, types_octet, window, with_block, windows, minimal}
 use Rattle.dns_fields.specs.Fields.{Kind, Number, Octets, Name, Text, Texts, Rest, Options, Parameters, Bitmap, Value, Field, field_octets}
 use Rattle.dns_fields.specs.Fields.{canonical, option_pieces, parameter_pieces, WholeOptions, CutOptions}
 use Rattle.dns_fields.specs.Laws.{OctetsLaw}
 use Rattle.dns_fields.proofs.Stays.{labels_stand}
 use Rattle.dns_fields.proofs.Sorted.{octets_cmp, sorted_all}
-use Rattle.dns_fields.proofs.Bitmaps.{mark_small, minimal_fit}
+use Rattle.dns_fields.proofs.Bitmaps.{mark_small, minimal_fit, packed_less}
 
 abbrev IsOctet : ℕ → Type 0
 IsOctet octet = octet < 256
@@ -157,14 +157,6 @@ options_octets m p v q n a (inr c) = subst (λ (l : List (Numbered OptionValue))
 
 -- ---- the minimal bitmap
 
-packed_small : (f : ℕ → ℕ) → ((b : ℕ) → f b < 2) → (n : ℕ) → packed f n < 2 ^ n
-packed_small f small zero = omega arith
-packed_small f small (suc n) =
-    let h = packed_small f small n in
-    let one = small n in
-    let wider : 2 ^ suc n ≡ 2 ^ n * 2 = pow-suc 2 n in
-    omega arith
-
 window_octets : (v : List ℕ) (k : ℕ) → AreOctets (window v k)
 unfolding window types_octet
 window_octets v k = trimmed_octets (map (types_octet v k) (range_with_len 0 32)) (mapped (range_with_len 0 32))
@@ -181,7 +173,7 @@ window_octets v k = trimmed_octets (map (types_octet v k) (range_with_len 0 32))
     mapped : (js : List ℕ) → AreOctets (map (types_octet v k) js)
     mapped [] = AreOctets-nil
     mapped (j ∷ js) = AreOctets-cons (types_octet v k j) (map (types_octet v k) js)
-        (packed_small (λ b. mark v (256 * k + (8 * j + b))) (λ b. mark_small v (256 * k + (8 * j + b))) 8) (mapped js)
+        (packed_less (λ b. mark v (256 * k + (8 * j + b))) (λ b. mark_small v (256 * k + (8 * j + b))) 8) (mapped js)
 
 windows_octets : (v ks : List ℕ) → AllByRecursion (λ (b : Block). AreOctets b.1) (windows v ks)
 windows_octets v [] = tt
