@@ -1,16 +1,13 @@
 -- Octets are a bitmap of one set, and the minimal bitmap of a set is one of them.
-use Rattle.std.proofs.Common.{◌≡◌, ◌≢◌, ℕ, zero, suc, ◌+◌, ◌-◌, ◌*◌, ◌/◌, ◌%◌, ◌≤◌, ◌<◌, ◌^◌, ◌==◌, ◌&&◌, ◌||◌, Bool, true, false, cond}
-use Rattle.std.proofs.Common.{◌⊎◌, inl, inr, ⊎_elim, List, [], ◌∷◌, ◌++◌, length, get_or, map, refl, sym, ap, ◌∙◌, arith, subst, pow-suc}
-use Rattle.std.specs.List.{flat_map, AllByRecursion, list_any, range_with_len}
-use Rattle.std.specs.Int.{bit_at}
-use Rattle.std.proofs.Math.Bool.{and-false}
+use Rattle.std.proofs.Common.{◌≡◌, ◌≢◌, ℕ, zero, suc, ◌+◌, ◌-◌, ◌*◌, ◌/◌, ◌%◌, ◌≤◌, ◌<◌, ◌^◌, ◌==◌, ◌&&◌, ◌||◌, Bool, true, false, cond, ◌⊎◌, inl}
+use Rattle.std.proofs.Common.{inr, ⊎_elim, List, [], ◌∷◌, ◌++◌, length, get_or, map, refl, sym, ap, ◌∙◌, arith, subst, pow-suc}
+use Rattle.std.specs.{List.flat_map, List.AllByRecursion, List.list_any, List.range_with_len, Int.bit_at}
+use Rattle.std.proofs.{Math.Bool.and-false, lemmas.Bool.Decides.eqb_tells, lemmas.Bool.Decides.nat_tests}
 use Rattle.std.proofs.lemmas.List.FromFn.{get_or-map-range_with_len, length-map-range_with_len}
 use Rattle.std.proofs.lemmas.Nat.Bits.{bit_at_lowest, bit_at-zero, bit_at_cat_low, bit_at_cat_high}
-use Rattle.std.proofs.lemmas.Bool.Decides.{eqb_tells, nat_tests}
-use Rattle.dns_fields.specs.Bitmaps.{Block, block, IsBlock, has_type, contains, AllAbove, Rises, IsTypeSet, BitmapAt, packed, mark, keep}
-use Rattle.dns_fields.specs.Bitmaps.{trimmed, types_octet, window, with_block, windows, minimal}
-use Rattle.dns_fields.proofs.Places.{At-same_end, At-appended, At-append}
-use Rattle.dns_fields.proofs.Pieces.{parts}
+use Rattle.dns_fields.specs.Bitmaps.{Block, block, IsBlock, has_type, contains, AllAbove, Rises, IsTypeSet, BitmapAt, packed, mark, keep, trimmed}
+use Rattle.dns_fields.specs.Bitmaps.{types_octet, window, with_block, windows, minimal}
+use Rattle.dns_fields.proofs.{Places.At-same_end, Places.At-appended, Places.At-append, Pieces.parts}
 
 -- ---- blocks are told by their octets
 

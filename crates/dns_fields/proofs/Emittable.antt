@@ -1,11 +1,11 @@
 -- What fits its fields can be emitted.
-use Rattle.std.proofs.Common.{◌≡◌, ◌≢◌, ℕ, ◌+◌, ◌/◌, ◌<◌, ◌≤◌, ◌^◌, ◌==◌, ◌&&◌, ◌||◌, ◌⊎◌, inl, inr, nat_le, nat_lt, Bool, true}
-use Rattle.std.proofs.Common.{List, [], ◌∷◌, length, refl, arith}
+use Rattle.std.proofs.Common.{◌≡◌, ◌≢◌, ℕ, ◌+◌, ◌/◌, ◌<◌, ◌≤◌, ◌^◌, ◌==◌, ◌&&◌, ◌||◌, ◌⊎◌, inl, inr, nat_le, nat_lt, Bool, true, List, [], ◌∷◌}
+use Rattle.std.proofs.Common.{length, refl, arith}
 use Rattle.std.specs.List.{list_all, AllByRecursion}
 use Rattle.std.proofs.lemmas.Bool.Decides.{nat_tests}
-use Rattle.dns_fields.specs.Pieces.{Numbered, OptionValue, Subnet, Plain, option_octets, OptionFits, IsAddress, option_emittable}
-use Rattle.dns_fields.specs.Pieces.{options_emittable, ParameterValue, Mandatory, Alpn, parameter_octets, ParameterFits, IsEmittable}
-use Rattle.dns_fields.specs.Pieces.{parameter_emittable, is_some, Below, Rising, rising_behind, rising}
+use Rattle.dns_fields.specs.Pieces.{Numbered, OptionValue, Subnet, Plain, option_octets, OptionFits, IsAddress, option_emittable, options_emittable}
+use Rattle.dns_fields.specs.Pieces.{ParameterValue, Mandatory, Alpn, parameter_octets, ParameterFits, IsEmittable, parameter_emittable, is_some}
+use Rattle.dns_fields.specs.Pieces.{Below, Rising, rising_behind, rising}
 use Rattle.dns_fields.specs.Fields.{Kind, Text, Texts, Options, Parameters, Value, Values, Fits, AllFit, is_emittable, all_emittable}
 
 both : (a b : Bool) → a ≡ true → b ≡ true → (a && b) ≡ true

@@ -1,19 +1,14 @@
 -- `==` of fields tells whether they are the same.
 use Rattle.std.proofs.Common.{◌≡◌, ℕ, zero, suc, ◌↔◌, List, [], ◌∷◌, map, nat_eq, refl, sym, ap, ◌∙◌, subst}
-use Rattle.std.specs.Bool.{Decides}
-use Rattle.std.specs.Cmp.{unsigned_Decides, booleans_Decides}
-use Rattle.std.specs.Cmp.Lexicographic.{pointwise, pointwise_decides}
-use Rattle.std.specs.FinMap.{IsAntisymmetric, nat_cmp-IsAntisymmetric, slice_cmp-IsAntisymmetric}
-use Rattle.std.specs.List.Sorted.{IsPermutation}
-use Rattle.std.proofs.lemmas.Bool.Decides.{Decides-and}
-use Rattle.std.proofs.lemmas.List.Sorted.{IsPermutation-map}
-use Rattle.dns_fields.specs.Labels.{lowname}
-use Rattle.dns_fields.specs.Pieces.{Numbered, OptionValue, Subnet, Plain, ParameterValue, Mandatory, Alpn, NoDefaultAlpn, Port, Ipv4Hint, Ipv6Hint, Opaque}
-use Rattle.dns_fields.specs.Fields.{Kind, Number, Name, Texts, Options, Parameters, Value, SameField, IsFull}
-use Rattle.dns_fields.specs.Equal.{Key, key_eq, key_cmp, option_key_of, option_key, option_keys, parameter_key_of, parameter_key, parameter_keys, kind_eq}
-use Rattle.dns_fields.proofs.Orders.{key_total}
-use Rattle.dns_fields.specs.Laws.{EqualLaw}
-use Rattle.dns_fields.proofs.Sorted.{sorted_one, sorted_apart}
+use Rattle.std.specs.{Bool.Decides, Cmp.unsigned_Decides, Cmp.booleans_Decides, Cmp.Lexicographic.pointwise, Cmp.Lexicographic.pointwise_decides}
+use Rattle.std.specs.{FinMap.IsAntisymmetric, FinMap.nat_cmp-IsAntisymmetric, FinMap.slice_cmp-IsAntisymmetric, List.Sorted.IsPermutation}
+use Rattle.std.proofs.{lemmas.Bool.Decides.Decides-and, lemmas.List.Sorted.IsPermutation-map}
+use Rattle.dns_fields.specs.{Labels.lowname, Fields.Kind, Fields.Number, Fields.Name, Fields.Texts, Fields.Options, Fields.Parameters, Fields.Value}
+use Rattle.dns_fields.specs.{Fields.SameField, Fields.IsFull, Equal.Key, Equal.key_eq, Equal.key_cmp, Equal.option_key_of, Equal.option_key}
+use Rattle.dns_fields.specs.{Equal.option_keys, Equal.parameter_key_of, Equal.parameter_key, Equal.parameter_keys, Equal.kind_eq, Laws.EqualLaw}
+use Rattle.dns_fields.specs.Pieces.{Numbered, OptionValue, Subnet, Plain, ParameterValue, Mandatory, Alpn, NoDefaultAlpn, Port, Ipv4Hint, Ipv6Hint}
+use Rattle.dns_fields.specs.Pieces.{Opaque}
+use Rattle.dns_fields.proofs.{Orders.key_total, Sorted.sorted_one, Sorted.sorted_apart}
 
 -- ---- a key tells its pair: the pair is read back
 

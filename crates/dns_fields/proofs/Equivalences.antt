@@ -1,12 +1,9 @@
 -- Equality of fields is an equivalence.
 use Rattle.std.specs.Prelude.{[], ◌∷◌, List}
-use Rattle.std.specs.Cmp.{IsEquivalence, and_equiv, on_equiv, bool_eq_equiv, nat_eq_equiv}
-use Rattle.std.specs.Cmp.Derive.{point_equiv}
+use Rattle.std.specs.{Cmp.IsEquivalence, Cmp.and_equiv, Cmp.on_equiv, Cmp.bool_eq_equiv, Cmp.nat_eq_equiv, Cmp.Derive.point_equiv}
 use Rattle.std.specs.Cmp.Lexicographic.{pointwise, lists_equiv, nat_list_eq_equiv, on_texts_equal}
-use Rattle.dns_fields.specs.Labels.{lowname}
-use Rattle.dns_fields.specs.Comparing.{is_qualified}
-use Rattle.dns_fields.specs.Equal.{key_eq, option_keys, parameter_keys, kind_eq, values_eq}
-use Rattle.dns_fields.specs.Fields.{Kind, Number, Name, Texts, Options, Parameters, Values}
+use Rattle.dns_fields.specs.{Labels.lowname, Comparing.is_qualified, Equal.key_eq, Equal.option_keys, Equal.parameter_keys, Equal.kind_eq}
+use Rattle.dns_fields.specs.{Equal.values_eq, Fields.Kind, Fields.Number, Fields.Name, Fields.Texts, Fields.Options, Fields.Parameters, Fields.Values}
 
 keys_equiv : IsEquivalence (pointwise key_eq)
 keys_equiv = lists_equiv (lists_equiv nat_list_eq_equiv)

@@ -1,33 +1,24 @@
 -- The definitions, checked against octets that were worked out by hand.
 use Rattle.std.proofs.Common.{◌≡◌, ◌≢◌, ℕ, zero, suc, ◌+◌, drop, ◌-◌, ◌/◌, ◌%◌, ◌≤◌, ◌<◌, ◌^◌, ◌⊎◌, inl, inr, ⊎_elim, false, ◌==◌, ◌&&◌, ◌||◌, List}
-use Rattle.std.proofs.Common.{[], ◌∷◌, ◌++◌, length, take, get_or, refl, sym, ap, ◌∙◌, arith, subst, append_assoc, append-nil, true}
-use Rattle.std.proofs.Common.{IsUtf8}
-use Rattle.std.specs.List.{flat_map, AllByRecursion, list_any}
-use Rattle.std.specs.Int.{bytes_high_first, bit_at}
-use Rattle.std.specs.Str.{IsAscii, is_utf8, chars}
+use Rattle.std.proofs.Common.{[], ◌∷◌, ◌++◌, length, take, get_or, refl, sym, ap, ◌∙◌, arith, subst, append_assoc, append-nil, true, IsUtf8}
+use Rattle.std.specs.{List.flat_map, List.AllByRecursion, List.list_any, Int.bytes_high_first, Int.bit_at, Str.IsAscii, Str.is_utf8, Str.chars}
 use Rattle.std.proofs.lemmas.List.{length-append, take_all, take_at}
 use Rattle.std.proofs.lemmas.Str.{IsUtf8-from_ascii, is_utf8-from_IsUtf8}
-use Rattle.dns_fields.specs.Octets.{At}
-use Rattle.dns_fields.specs.Labels.{DomainName, FitsName}
-use Rattle.dns_fields.specs.Names.{LabelsStand}
-use Rattle.dns_fields.specs.Names.LabelsStand.{whole, pointed}
+use Rattle.dns_fields.specs.{Octets.At, Labels.DomainName, Labels.FitsName, Names.LabelsStand, Names.LabelsStand.whole, Names.LabelsStand.pointed}
 use Rattle.dns_fields.specs.Pieces.{IsAddress, string, Numbered, piece, pieces, IsPiece, ArePieces, OptionValue, Subnet, Plain, OptionHeld, AllHeld}
 use Rattle.dns_fields.specs.Pieces.{IsCut, ParameterValue, ParameterHeld, Rising, Port, Mandatory, Alpn, NoDefaultAlpn, Ipv4Hint, Ipv6Hint, Opaque}
 use Rattle.dns_fields.specs.Pieces.{form_of, Keys, Names, Nothing, PortNumber}
 use Rattle.dns_fields.specs.Bitmaps.{Block, block, IsBlock, IsTypeSet, has_type, minimal, window, types_octet, mark, BitmapAt}
-use Rattle.dns_fields.specs.Fields.{Kind, Number, Name, Options, Parameters, Bitmap, Values, Field, Stands, canonical, field_octets, WholeOptions, ParametersAt}
+use Rattle.dns_fields.specs.Fields.{Kind, Number, Name, Options, Parameters, Bitmap, Values, Field, Stands, canonical, field_octets, WholeOptions}
+use Rattle.dns_fields.specs.Fields.{ParametersAt}
 use Rattle.dns_fields.specs.Examples.{Reads, HoldsNone, AddressReads, AddressIsFour, TwoTextsRead, EmptyStringsRead, CutString, RestReads, full}
-use Rattle.dns_fields.specs.Examples.{www_label, www_twice, PointedNameReads, CutPointer, PointerToItself, ReservedLabel, LettersRead}
-use Rattle.dns_fields.specs.Examples.{MarksApart, example_label, com_label, xxx_label, twenty, StartOfAuthorityReads, CutOptionReads}
-use Rattle.dns_fields.specs.Examples.{CutDropsAll, BrokenOption, OptionsInOrder, OptionsCounted, SubnetReads, SubnetOfSixReads, SubnetEnds}
-use Rattle.dns_fields.specs.Examples.{ServerIdentifierReads, BrokenSubnet, ServiceReads, MandatoryReads, OctetsOfKeyFive, NoHintsRead}
-use Rattle.dns_fields.specs.Examples.{HintOfSixReads, KeysRise, KeysDoNotFall, BrokenProtocols, BrokenParameter, TypesRead, WindowsRead}
-use Rattle.dns_fields.specs.Examples.{ZerosDropped, BrokenWindow}
-use Rattle.dns_fields.proofs.Numbers.{length-bytes}
-use Rattle.dns_fields.proofs.Runs.{no_labels}
-use Rattle.dns_fields.proofs.NameLaws.{name_same}
+use Rattle.dns_fields.specs.Examples.{www_label, www_twice, PointedNameReads, CutPointer, PointerToItself, ReservedLabel, LettersRead, MarksApart}
+use Rattle.dns_fields.specs.Examples.{example_label, com_label, xxx_label, twenty, StartOfAuthorityReads, CutOptionReads, CutDropsAll, BrokenOption}
+use Rattle.dns_fields.specs.Examples.{OptionsInOrder, OptionsCounted, SubnetReads, SubnetOfSixReads, SubnetEnds, ServerIdentifierReads, BrokenSubnet}
+use Rattle.dns_fields.specs.Examples.{ServiceReads, MandatoryReads, OctetsOfKeyFive, NoHintsRead, HintOfSixReads, KeysRise, KeysDoNotFall}
+use Rattle.dns_fields.specs.Examples.{BrokenProtocols, BrokenParameter, TypesRead, WindowsRead, ZerosDropped, BrokenWindow}
+use Rattle.dns_fields.proofs.{Numbers.length-bytes, Runs.no_labels, NameLaws.name_same, Bitmaps.minimal_first, Bitmaps.minimal_types}
 use Rattle.dns_fields.proofs.Pieces.{number_first, heads_same, piece_before, length-piece, pieces_same, whole_or_cut}
-use Rattle.dns_fields.proofs.Bitmaps.{minimal_first, minimal_types}
 
 -- ---- what the examples are made of
 

@@ -1,26 +1,18 @@
 -- The laws of one field, by cases on its kind.
-use Rattle.std.proofs.Common.{◌≡◌, ℕ, ◌≤◌, List, [], ◌∷◌, ◌++◌, length, refl, sym, ap, ◌∙◌, arith, subst}
-use Rattle.std.specs.List.{flat_map, AllByRecursion}
-use Rattle.std.specs.Int.{bytes_high_first}
-use Rattle.std.proofs.Common.{◌-◌, ◌⊎◌, inl, inr, map}
-use Rattle.std.specs.Ordering.{on}
+use Rattle.std.proofs.Common.{◌≡◌, ℕ, ◌≤◌, List, [], ◌∷◌, ◌++◌, length, refl, sym, ap, ◌∙◌, arith, subst, ◌-◌, ◌⊎◌, inl, inr, map}
+use Rattle.std.specs.{List.flat_map, List.AllByRecursion, Int.bytes_high_first, Ordering.on}
 use Rattle.std.proofs.lemmas.List.Sorted.{IsPermutation-refl, IsPermutation-sym, IsPermutation-trans, IsPermutation-map}
-use Rattle.dns_fields.specs.Sorting.{sorted}
-use Rattle.dns_fields.specs.Pieces.{string, Numbered, piece, pieces, AllHeld, as_piece, HoldThemselves, OptionValue, option_octets}
-use Rattle.dns_fields.specs.Pieces.{OptionHeld, OptionFits, ParameterValue, parameter_octets, ParameterHeld, ParameterFits}
-use Rattle.dns_fields.specs.Fields.{Options, Parameters, Lawful, option_pieces, parameter_pieces, WholeOptions, CutOptions}
-use Rattle.dns_fields.specs.Fields.{Bitmap}
-use Rattle.dns_fields.specs.Bitmaps.{block, minimal}
-use Rattle.dns_fields.proofs.Bitmaps.{bitmap_same, bitmap_append, minimal_stands}
+use Rattle.dns_fields.specs.{Sorting.sorted, Bitmaps.block, Bitmaps.minimal, declared.RDataEncoding.RDataEncoding, Labels.full_name}
+use Rattle.dns_fields.specs.Pieces.{string, Numbered, piece, pieces, AllHeld, as_piece, HoldThemselves, OptionValue, option_octets, OptionHeld}
+use Rattle.dns_fields.specs.Pieces.{OptionFits, ParameterValue, parameter_octets, ParameterHeld, ParameterFits}
+use Rattle.dns_fields.specs.Fields.{Options, Parameters, Lawful, option_pieces, parameter_pieces, WholeOptions, CutOptions, Bitmap, Kind, Number}
+use Rattle.dns_fields.specs.Fields.{Octets, Name, Text, Texts, Rest, Value, field_octets, Fits, Field, WroteField, SameField, EndsItself, IsFull}
+use Rattle.dns_fields.proofs.{Bitmaps.bitmap_same, Bitmaps.bitmap_append, Bitmaps.minimal_stands, Numbers.length-bytes, Numbers.same_number}
 use Rattle.dns_fields.proofs.Sorted.{octets_cmp, sorted_same, sorted_permutes, sorted_all, map_sorted, flat_map_all, length_sorted}
 use Rattle.dns_fields.proofs.Pieces.{pieces_same, whole_or_cut, held_same, held_lawful, held_fit, lawful_held, fit_pieces}
 use Rattle.dns_fields.proofs.OptionLaws.{option_once, option_own, option_fit}
 use Rattle.dns_fields.proofs.ParameterLaws.{strings_same, parameter_once, parameter_own, parameter_fit}
-use Rattle.dns_fields.specs.declared.RDataEncoding.{RDataEncoding}
-use Rattle.dns_fields.specs.Fields.{Kind, Number, Octets, Name, Text, Texts, Rest, Value, field_octets, Fits, Field, WroteField, SameField, EndsItself, IsFull}
-use Rattle.dns_fields.proofs.Numbers.{length-bytes, same_number}
 use Rattle.dns_fields.proofs.Places.{At-same_end, At-same_head, At-append, At-appended}
-use Rattle.dns_fields.specs.Labels.{full_name}
 use Rattle.dns_fields.proofs.NameLaws.{name_same, name_append, name_inside, name_is, low_name, low_name_same, low_name_wrote}
 
 options_inside : {m : List ℕ} {p : ℕ} {v : List (Numbered OptionValue)} {q : ℕ} → WholeOptions m p v q ⊎ ((v ≡ []) × CutOptions m (q - p) p q)

@@ -1,14 +1,10 @@
 -- The laws of names that the grammar of fields stands on.
 use Rattle.std.proofs.Common.{◌≡◌, ℕ, ◌+◌, ◌≤◌, Bool, true, List, [], ◌∷◌, ◌++◌, length, map, drop, refl, sym, ap, ◌∙◌, arith, append_assoc}
-use Rattle.std.proofs.lemmas.List.{length-append, length-map, drop_at}
-use Rattle.std.proofs.lemmas.Bool.Decides.{nat_tests}
+use Rattle.std.proofs.{lemmas.List.length-append, lemmas.List.length-map, lemmas.List.drop_at, lemmas.Bool.Decides.nat_tests}
 use Rattle.std.specs.Char.{to_ascii_lowercase}
-use Rattle.dns_fields.specs.declared.RDataEncoding.{RDataEncoding}
+use Rattle.dns_fields.specs.{declared.RDataEncoding.RDataEncoding, Names.LabelsStand.whole, Names.IsNameIn, Names.SameName, Names.NameWrote}
 use Rattle.dns_fields.specs.Labels.{AreLabels, wire, FitsName, DomainName, IsName, low_labels, lowered, lowname}
-use Rattle.dns_fields.specs.Names.LabelsStand.{whole}
-use Rattle.dns_fields.specs.Names.{IsNameIn, SameName, NameWrote}
-use Rattle.dns_fields.proofs.Stays.{labels_stand, stays_name, end_within}
-use Rattle.dns_fields.proofs.Unique.{unique}
+use Rattle.dns_fields.proofs.{Stays.labels_stand, Stays.stays_name, Stays.end_within, Unique.unique}
 
 made : (x y : DomainName) → x.labels ≡ y.labels → x.fully_qualified ≡ y.fully_qualified → x ≡ y
 made x y e f = let both : (x.labels, x.fully_qualified) ≡ (y.labels, y.fully_qualified) = cc in

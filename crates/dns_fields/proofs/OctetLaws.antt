@@ -1,27 +1,18 @@
 -- Canonical octets of what stands in octets are octets.
-use Rattle.std.proofs.Common.{◌≡◌, ℕ, zero, suc, ◌+◌, ◌*◌, ◌/◌, ◌%◌, ◌<◌, ◌^◌, ◌⊎◌, inl, inr, List, [], ◌∷◌, ◌++◌, length, take, drop, map}
-use Rattle.std.proofs.Common.{refl, sym, arith, subst}
-use Rattle.std.specs.List.{flat_map, AllByRecursion, range_with_len}
-use Rattle.std.specs.Int.{byte_at, bytes_high_first}
-use Rattle.std.specs.Char.{to_ascii_lowercase}
-use Rattle.std.proofs.lemmas.List.{take_at, drop_at}
+use Rattle.std.proofs.Common.{◌≡◌, ℕ, zero, suc, ◌+◌, ◌*◌, ◌/◌, ◌%◌, ◌<◌, ◌^◌, ◌⊎◌, inl, inr, List, [], ◌∷◌, ◌++◌, length, take, drop, map, refl, sym}
+use Rattle.std.proofs.Common.{arith, subst}
+use Rattle.std.specs.{List.flat_map, List.AllByRecursion, List.range_with_len, Int.byte_at, Int.bytes_high_first, Char.to_ascii_lowercase}
+use Rattle.std.proofs.{lemmas.List.take_at, lemmas.List.drop_at, lemmas.Bool.Decides.nat_tests}
 use Rattle.std.proofs.lemmas.List.Elements.{All-nil, All-cons, All-head, All-tail, All-same, All-append, All-take, All-drop}
-use Rattle.std.proofs.lemmas.Bool.Decides.{nat_tests}
-use Rattle.dns_fields.specs.Octets.{AreOctets, At}
-use Rattle.dns_fields.specs.Labels.{AreLabels, wire, lowered}
-use Rattle.dns_fields.specs.Names.{LabelsStand, pointer}
-use Rattle.dns_fields.specs.Names.LabelsStand.{whole, pointed}
-use Rattle.dns_fields.specs.Sorting.{sorted}
-use Rattle.dns_fields.specs.Pieces.{string, Numbered, piece, pieces, AllHeld, as_piece, OptionValue, Subnet, Plain, option_octets}
-use Rattle.dns_fields.specs.Pieces.{OptionHeld, ParameterValue, Mandatory, Alpn, NoDefaultAlpn, Port, Ipv4Hint, Ipv6Hint, Opaque}
-use Rattle.dns_fields.specs.Pieces.{parameter_octets, IsBody, ParameterHeld}
+use Rattle.dns_fields.specs.{Octets.AreOctets, Octets.At, Labels.AreLabels, Labels.wire, Labels.lowered, Names.LabelsStand, Names.pointer}
+use Rattle.dns_fields.specs.{Names.LabelsStand.whole, Names.LabelsStand.pointed, Sorting.sorted, Laws.OctetsLaw}
+use Rattle.dns_fields.specs.Pieces.{string, Numbered, piece, pieces, AllHeld, as_piece, OptionValue, Subnet, Plain, option_octets, OptionHeld}
+use Rattle.dns_fields.specs.Pieces.{ParameterValue, Mandatory, Alpn, NoDefaultAlpn, Port, Ipv4Hint, Ipv6Hint, Opaque, parameter_octets, IsBody}
+use Rattle.dns_fields.specs.Pieces.{ParameterHeld}
 use Rattle.dns_fields.specs.Bitmaps.{Block, block, IsBlock, mark, keep, trimmed, types_octet, window, with_block, windows, minimal}
-use Rattle.dns_fields.specs.Fields.{Kind, Number, Octets, Name, Text, Texts, Rest, Options, Parameters, Bitmap, Value, Field, field_octets}
-use Rattle.dns_fields.specs.Fields.{canonical, option_pieces, parameter_pieces, WholeOptions, CutOptions}
-use Rattle.dns_fields.specs.Laws.{OctetsLaw}
-use Rattle.dns_fields.proofs.Stays.{labels_stand}
-use Rattle.dns_fields.proofs.Sorted.{octets_cmp, sorted_all}
-use Rattle.dns_fields.proofs.Bitmaps.{mark_small, minimal_fit, packed_less}
+use Rattle.dns_fields.specs.Fields.{Kind, Number, Octets, Name, Text, Texts, Rest, Options, Parameters, Bitmap, Value, Field, field_octets, canonical}
+use Rattle.dns_fields.specs.Fields.{option_pieces, parameter_pieces, WholeOptions, CutOptions}
+use Rattle.dns_fields.proofs.{Stays.labels_stand, Sorted.octets_cmp, Sorted.sorted_all, Bitmaps.mark_small, Bitmaps.minimal_fit, Bitmaps.packed_less}
 
 abbrev IsOctet : ℕ → Type 0
 IsOctet octet = octet < 256

@@ -1,14 +1,10 @@
 -- The order of fields is total, and answers Equal exactly where `==` holds.
 use Rattle.std.specs.Prelude.{◌≡◌, Bool, true, false, List, [], ◌∷◌, refl}
-use Rattle.std.specs.Bool.{beq}
+use Rattle.std.specs.{Bool.beq, Cmp.Derive.point_total, Ordering.nat_cmp, Ordering.bool_cmp, Ordering.is_eq}
 use Rattle.std.specs.Cmp.{IsTotalOrder, then_total, on_total, nat_cmp_total, bool_cmp_total, unsigned_ties, both_tied}
-use Rattle.std.specs.Cmp.Derive.{point_total}
 use Rattle.std.specs.Cmp.Lexicographic.{pointwise, slice_cmp, lists_total, lists_ties, texts_ties, nat_list_cmp_total}
-use Rattle.std.specs.Ordering.{nat_cmp, bool_cmp, is_eq}
-use Rattle.dns_fields.specs.Labels.{lowname}
-use Rattle.dns_fields.specs.Comparing.{is_qualified}
+use Rattle.dns_fields.specs.{Labels.lowname, Comparing.is_qualified, Order.kind_cmp, Order.values_cmp}
 use Rattle.dns_fields.specs.Equal.{Key, key_eq, key_cmp, option_keys, parameter_keys, kind_eq, values_eq}
-use Rattle.dns_fields.specs.Order.{kind_cmp, values_cmp}
 use Rattle.dns_fields.specs.Fields.{Kind, Number, Name, Texts, Options, Parameters, Value, Values}
 
 pub key_total : IsTotalOrder key_cmp

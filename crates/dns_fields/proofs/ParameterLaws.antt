@@ -1,12 +1,10 @@
 -- What a parameter's octets hold.
 use Rattle.std.proofs.Common.{◌≡◌, ℕ, ◌≤◌, ◌<◌, ◌^◌, List, [], ◌∷◌, ◌++◌, length, refl, sym, ap, ◌∙◌, arith}
-use Rattle.std.specs.List.{flat_map, AllByRecursion}
-use Rattle.std.specs.Int.{bytes_high_first}
+use Rattle.std.specs.{List.flat_map, List.AllByRecursion, Int.bytes_high_first}
 use Rattle.std.proofs.lemmas.List.{length-append, append-nil}
-use Rattle.dns_fields.specs.Pieces.{string, ParameterValue, Mandatory, Alpn, NoDefaultAlpn, Port, Ipv4Hint, Ipv6Hint, Opaque}
-use Rattle.dns_fields.specs.Pieces.{parameter_octets, IsBody, ParameterHeld, ParameterFits}
-use Rattle.dns_fields.proofs.Numbers.{length-bytes}
-use Rattle.dns_fields.proofs.Pieces.{parts, number_first}
+use Rattle.dns_fields.specs.Pieces.{string, ParameterValue, Mandatory, Alpn, NoDefaultAlpn, Port, Ipv4Hint, Ipv6Hint, Opaque, parameter_octets}
+use Rattle.dns_fields.specs.Pieces.{IsBody, ParameterHeld, ParameterFits}
+use Rattle.dns_fields.proofs.{Numbers.length-bytes, Pieces.parts, Pieces.number_first}
 
 -- ---- lists of parts of a known length
 

@@ -1,7 +1,7 @@
 -- Pieces are of one list of numbers and octets, and what they hold is one list of values.
-use Rattle.std.proofs.Common.{◌≡◌, ℕ, ◌+◌, ◌<◌, ◌^◌, ⊎_elim, List, [], ◌∷◌, ◌++◌, length, take, drop, map, refl, sym, ap, ◌∙◌, arith, subst, append_assoc}
-use Rattle.std.specs.List.{AllByRecursion}
-use Rattle.std.specs.Int.{bytes_high_first}
+use Rattle.std.proofs.Common.{◌≡◌, ℕ, ◌+◌, ◌<◌, ◌^◌, ⊎_elim, List, [], ◌∷◌, ◌++◌, length, take, drop, map, refl, sym, ap, ◌∙◌, arith, subst}
+use Rattle.std.proofs.Common.{append_assoc}
+use Rattle.std.specs.{List.AllByRecursion, Int.bytes_high_first}
 use Rattle.std.proofs.lemmas.List.{length-append, take_at, drop_at}
 use Rattle.dns_fields.specs.Pieces.{Numbered, piece, pieces, IsPiece, ArePieces, AllHeld, as_piece, HoldThemselves, IsCut}
 use Rattle.dns_fields.proofs.Numbers.{length-bytes, same_number}

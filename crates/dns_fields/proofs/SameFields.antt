@@ -1,14 +1,12 @@
 -- Fields that are equal are the same, and can be emitted both or not.
 use Rattle.std.specs.Prelude.{◌≡◌, ℕ, Bool, true, false, not, ◌&&◌, ◌||◌, List, [], ◌∷◌, length, nat_le, refl}
 use Rattle.std.proofs.Common.{ap, ◌∙◌, sym}
+use Rattle.std.specs.{Cmp.Lexicographic.pointwise_decides, List.list_all, List.list_any, List.Sorted.IsPermutation}
 use Rattle.std.specs.Cmp.{first_so, second_so, unsigned_Decides}
-use Rattle.std.specs.Cmp.Lexicographic.{pointwise_decides}
-use Rattle.std.specs.List.{list_all, list_any}
-use Rattle.std.specs.List.Sorted.{IsPermutation}
 use Rattle.std.proofs.lemmas.List.Sorted.{list_any-IsPermutation}
-use Rattle.dns_fields.specs.Fields.{Kind, Number, Octets, Name, Text, Texts, Rest, Options, Parameters, Bitmap, Value, Values, SameField, Same, is_emittable, all_emittable}
-use Rattle.dns_fields.specs.Labels.{lowname}
-use Rattle.dns_fields.specs.Equal.{kind_eq, values_eq}
+use Rattle.dns_fields.specs.{Labels.lowname, Equal.kind_eq, Equal.values_eq}
+use Rattle.dns_fields.specs.Fields.{Kind, Number, Octets, Name, Text, Texts, Rest, Options, Parameters, Bitmap, Value, Values, SameField, Same}
+use Rattle.dns_fields.specs.Fields.{is_emittable, all_emittable}
 use Rattle.dns_fields.specs.Pieces.{option_octets, option_emittable, parameters_emittable}
 use Rattle.dns_fields.proofs.EqualLaws.{field_decide}
 

@@ -1,8 +1,8 @@
 -- What becomes of a name when the message grows.
-use Rattle.std.proofs.Common.{◌≡◌, ℕ, ◌<◌, ◌≤◌, List, ◌∷◌, ◌++◌, length, take, drop, sym, ◌∙◌, ap, subst, append_assoc, arith, length-append, length-drop}
+use Rattle.std.proofs.Common.{◌≡◌, ℕ, ◌<◌, ◌≤◌, List, ◌∷◌, ◌++◌, length, take, drop, sym, ◌∙◌, ap, subst, append_assoc, arith, length-append}
+use Rattle.std.proofs.Common.{length-drop}
 use Rattle.std.proofs.lemmas.List.{drop-append-le, take-append-le}
-use Rattle.dns_fields.specs.Labels.{wire, DomainName, AreLabels}
-use Rattle.dns_fields.specs.Names.{LabelsStand, pointer, IsNameIn}
+use Rattle.dns_fields.specs.{Labels.wire, Labels.DomainName, Labels.AreLabels, Names.LabelsStand, Names.pointer, Names.IsNameIn}
 use Rattle.dns_fields.specs.Names.LabelsStand.{whole, pointed}
 use Rattle.dns_fields.proofs.Runs.{AreLabels-append}
 

@@ -1,8 +1,6 @@
 -- From one place stands at most one name.
 use Rattle.std.proofs.Common.{◌≡◌, ℕ, ◌+◌, ◌/◌, ◌%◌, List, ◌∷◌, ◌++◌, length, take, sym, ◌∙◌, ap, subst, arith}
-use Rattle.dns_fields.specs.Labels.{wire}
-use Rattle.dns_fields.specs.Names.{LabelsStand, pointer}
-use Rattle.dns_fields.specs.Names.LabelsStand.{whole, pointed}
+use Rattle.dns_fields.specs.{Labels.wire, Names.LabelsStand, Names.pointer, Names.LabelsStand.whole, Names.LabelsStand.pointed}
 use Rattle.dns_fields.proofs.Runs.{IsStop, same_run}
 
 pub pointer_stop : (t : ℕ) → IsStop (192 + t / 256)

@@ -1,8 +1,7 @@
 -- Sets of type numbers (RFC 4034, 4.1.2).
-use Rattle.std.specs.Prelude.{◌≡◌, ℕ, zero, suc, ◌+◌, ◌-◌, ◌*◌, ◌/◌, ◌%◌, ◌<◌, ◌≤◌, ◌^◌, ◌==◌, ◌&&◌, Bool, if◌then◌else◌, List, [], ◌∷◌}
-use Rattle.std.specs.Prelude.{length, map, slice_index_or}
-use Rattle.std.specs.List.{flat_map, AllByRecursion, list_any, range_with_len}
-use Rattle.std.specs.Int.{bit_at}
+use Rattle.std.specs.Prelude.{◌≡◌, ℕ, zero, suc, ◌+◌, ◌-◌, ◌*◌, ◌/◌, ◌%◌, ◌<◌, ◌≤◌, ◌^◌, ◌==◌, ◌&&◌, Bool, if◌then◌else◌, List, [], ◌∷◌, length, map}
+use Rattle.std.specs.Prelude.{slice_index_or}
+use Rattle.std.specs.{List.flat_map, List.AllByRecursion, List.list_any, List.range_with_len, Int.bit_at}
 use Rattle.dns_fields.specs.Octets.{At}
 
 -- a window's number, and octets whose bits are its types

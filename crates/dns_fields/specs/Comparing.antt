@@ -1,10 +1,7 @@
 -- The equality and the order of names, and what they feed a hasher.
 use Rattle.std.specs.Prelude.{ℕ, Bool, List, ◌∷◌, ◌==◌}
-use Rattle.std.specs.Hash.{bool}
-use Rattle.std.specs.Bool.{beq}
-use Rattle.std.specs.Cmp.Lexicographic.{slice_cmp, pointwise}
+use Rattle.std.specs.{Hash.bool, Bool.beq, Cmp.Lexicographic.slice_cmp, Cmp.Lexicographic.pointwise, declared.cmp.Ordering.Ordering}
 use Rattle.std.specs.Ordering.{nat_cmp, bool_cmp, on, then_cmp, eq_of_both}
-use Rattle.std.specs.declared.cmp.Ordering.{Ordering}
 use Rattle.dns_fields.specs.Labels.{DomainName, lowname}
 
 abbrev pub is_qualified : DomainName → Bool

@@ -1,11 +1,9 @@
 -- The grammar at work: octets that hold values, and octets that hold none.
 use Rattle.std.specs.Prelude.{◌≡◌, ℕ, true, false, List, [], ◌∷◌}
 use Rattle.std.specs.declared.cmp.Ordering.TheVariants.{Less, Equal}
-use Rattle.dns_fields.specs.Labels.{DomainName}
+use Rattle.dns_fields.specs.{Labels.DomainName, Equal.values_eq, Order.values_cmp}
 use Rattle.dns_fields.specs.Pieces.{Subnet, Plain, Mandatory, Alpn, Port, Ipv4Hint, Ipv6Hint, Opaque}
 use Rattle.dns_fields.specs.Fields.{Kind, Number, Octets, Name, Text, Texts, Rest, Options, Parameters, Bitmap, Values, Stands, canonical}
-use Rattle.dns_fields.specs.Equal.{values_eq}
-use Rattle.dns_fields.specs.Order.{values_cmp}
 
 -- in the message the values stand between two places, and these are their canonical octets
 pub record Reads (message : List ℕ) (start end : ℕ) (kinds : List Kind) (values : Values kinds) (octets : List ℕ) : Type 0 where

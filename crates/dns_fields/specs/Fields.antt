@@ -1,20 +1,12 @@
 -- The grammar of record data: each type is a list of kinds of fields.
-use Rattle.std.specs.Prelude.{◌≡◌, Bool, true, nat_le, ◌&&◌, ℕ, ◌<◌, ◌^◌, List, [], ◌∷◌, ◌++◌, length}
+use Rattle.std.specs.Prelude.{◌≡◌, Bool, true, nat_le, ◌&&◌, ℕ, ◌<◌, ◌^◌, List, [], ◌∷◌, ◌++◌, length, ◌-◌, ◌⊎◌, map}
+use Rattle.std.specs.{Int.bytes_high_first, List.Sorted.IsPermutation, Ordering.nat_cmp, Cmp.Lexicographic.slice_cmp}
 use Rattle.std.specs.List.{flat_map, list_all, AllByRecursion}
-use Rattle.std.specs.Int.{bytes_high_first}
-use Rattle.std.specs.Prelude.{◌-◌, ◌⊎◌, map}
-use Rattle.std.specs.List.Sorted.{IsPermutation}
-use Rattle.std.specs.Ordering.{nat_cmp}
-use Rattle.std.specs.Cmp.Lexicographic.{slice_cmp}
-use Rattle.dns_fields.specs.Octets.{At}
-use Rattle.dns_fields.specs.Sorting.{sorted}
-use Rattle.dns_fields.specs.declared.RDataEncoding.{RDataEncoding}
-use Rattle.dns_fields.specs.Labels.{DomainName, IsName, lowname}
-use Rattle.dns_fields.specs.Names.{IsNameIn, NameWrote, SameName}
-use Rattle.dns_fields.specs.Pieces.{string, Numbered, piece, pieces, ArePieces, AllHeld, as_piece, HoldThemselves, OptionValue}
-use Rattle.dns_fields.specs.Pieces.{option_octets, OptionHeld, OptionFits, options_emittable, IsCut, ParameterValue, parameter_octets}
-use Rattle.dns_fields.specs.Pieces.{ParameterHeld, ParameterFits, Rising, parameters_emittable}
-use Rattle.dns_fields.specs.Bitmaps.{block, IsTypeSet, BitmapAt, minimal}
+use Rattle.dns_fields.specs.{Octets.At, Sorting.sorted, declared.RDataEncoding.RDataEncoding, Labels.DomainName, Labels.IsName, Labels.lowname}
+use Rattle.dns_fields.specs.{Names.IsNameIn, Names.NameWrote, Names.SameName, Bitmaps.block, Bitmaps.IsTypeSet, Bitmaps.BitmapAt, Bitmaps.minimal}
+use Rattle.dns_fields.specs.Pieces.{string, Numbered, piece, pieces, ArePieces, AllHeld, as_piece, HoldThemselves, OptionValue, option_octets}
+use Rattle.dns_fields.specs.Pieces.{OptionHeld, OptionFits, options_emittable, IsCut, ParameterValue, parameter_octets, ParameterHeld, ParameterFits}
+use Rattle.dns_fields.specs.Pieces.{Rising, parameters_emittable}
 
 pub data Kind : Type 0 where
   -- an unsigned number of so many octets, the highest first

@@ -1,13 +1,8 @@
 -- What holds of every list of kinds.
 use Rattle.std.specs.Prelude.{◌≡◌, ◌↔◌, ℕ, List, [], ◌∷◌, length}
-use Rattle.dns_fields.specs.declared.RDataEncoding.{RDataEncoding}
-use Rattle.std.specs.Bool.{Decides}
-use Rattle.std.specs.Cmp.{IsEquivalence, IsTotalOrder}
-use Rattle.std.specs.Ordering.{is_eq}
-use Rattle.dns_fields.specs.Octets.{AreOctets}
-use Rattle.dns_fields.specs.Equal.{values_eq}
-use Rattle.dns_fields.specs.Order.{values_cmp}
+use Rattle.dns_fields.specs.{declared.RDataEncoding.RDataEncoding, Octets.AreOctets, Equal.values_eq, Order.values_cmp}
 use Rattle.dns_fields.specs.Fields.{Kind, Value, Values, Field, Stands, canonical, AllFit, AllLawful, AllFull, Wrote, Same, EndsItself}
+use Rattle.std.specs.{Bool.Decides, Cmp.IsEquivalence, Cmp.IsTotalOrder, Ordering.is_eq}
 
 -- each field but the last says where it ends
 abbrev pub IsShape : List Kind → Type 0

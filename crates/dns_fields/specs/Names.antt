@@ -1,7 +1,6 @@
 -- Where domain names stand in a message, and what writing one may leave (RFC 1035, 4.1.4).
 use Rattle.std.specs.Prelude.{◌≡◌, ◌≢◌, ℕ, ◌+◌, ◌/◌, ◌%◌, ◌<◌, ◌≤◌, List, [], ◌∷◌, ◌++◌, length, take, drop, true}
-use Rattle.dns_fields.specs.declared.RDataEncoding.{RDataEncoding}
-use Rattle.dns_fields.specs.declared.RDataEncoding.TheVariants.{StandardRecord}
+use Rattle.dns_fields.specs.{declared.RDataEncoding.RDataEncoding, declared.RDataEncoding.TheVariants.StandardRecord}
 use Rattle.dns_fields.specs.Labels.{DomainName, full_name, AreLabels, wire, FitsName, IsName, lowname}
 
 -- two octets with the two highest bits set, whose other 14 bits are a place

@@ -1,11 +1,8 @@
 -- The order of fields. Of options and parameters it is that of values that were read, as their equality is.
 use Rattle.std.specs.Prelude.{List, [], ◌∷◌}
-use Rattle.std.specs.Cmp.Lexicographic.{slice_cmp}
-use Rattle.std.specs.Ordering.{nat_cmp, ordering_then}
-use Rattle.std.specs.declared.cmp.Ordering.{Ordering}
+use Rattle.std.specs.{Cmp.Lexicographic.slice_cmp, Ordering.nat_cmp, Ordering.ordering_then, declared.cmp.Ordering.Ordering}
 use Rattle.std.specs.declared.cmp.Ordering.TheVariants.{Equal}
-use Rattle.dns_fields.specs.Comparing.{name_cmp}
-use Rattle.dns_fields.specs.Equal.{key_cmp, option_keys, parameter_keys}
+use Rattle.dns_fields.specs.{Comparing.name_cmp, Equal.key_cmp, Equal.option_keys, Equal.parameter_keys}
 use Rattle.dns_fields.specs.Fields.{Kind, Number, Octets, Name, Text, Texts, Rest, Options, Parameters, Bitmap, Value, Values}
 
 abbrev pub kind_cmp : (k : Kind) → Value k → Value k → Ordering

@@ -1,7 +1,8 @@
 //! The grammar of DNS record data.
 #![tactic(auto)]
 
-ghost use Rattle.dns_fields.specs.Laws.{StandsLaw, OneEnd, CanonicalLaw, CanonicalReads, WrittenReads, OctetsLaw, EqualLaw, EquivalenceLaw, OrderLaw, TiesLaw};
+ghost use Rattle.dns_fields.specs.Laws.{StandsLaw, OneEnd, CanonicalLaw, CanonicalReads, WrittenReads, OctetsLaw, EqualLaw, EquivalenceLaw, OrderLaw};
+ghost use Rattle.dns_fields.specs.Laws.{TiesLaw};
 ghost use Rattle.dns_fields.specs.Examples.{StringExamples, NameExamples, OptionExamples, ParameterExamples, BitmapExamples};
 
 /// How domain names in record data are written.

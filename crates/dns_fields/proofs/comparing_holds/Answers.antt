@@ -1,6 +1,4 @@
-use Rattle.dns_fields.proofs.Equivalences.{values_equiv}
-use Rattle.dns_fields.proofs.Orders.{values_total, values_ties}
-use Rattle.dns_fields.proofs.EqualLaws.{values_decide}
+use Rattle.dns_fields.proofs.{Equivalences.values_equiv, Orders.values_total, Orders.values_ties, EqualLaws.values_decide}
 use Rattle.dns_fields.proofs.comparing_holds.Goals as goal
 
 pub returns-clause-equal : goal.returns-clause-equal

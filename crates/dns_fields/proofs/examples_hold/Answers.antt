@@ -1,10 +1,9 @@
-use Rattle.dns_fields.proofs.Examples.{address_reads, address_is_four, two_texts_read, empty_strings_read, cut_string, rest_reads}
-use Rattle.dns_fields.proofs.Examples.{pointed_name_reads, cut_pointer, pointer_to_itself, reserved_label, letters_read, marks_apart}
-use Rattle.dns_fields.proofs.Examples.{start_of_authority_reads, cut_option_reads, cut_drops_all, broken_option, options_in_order}
-use Rattle.dns_fields.proofs.Examples.{options_counted, subnet_reads, subnet_of_six_reads, subnet_ends, server_identifier_reads}
-use Rattle.dns_fields.proofs.Examples.{broken_subnet, service_reads, mandatory_reads, octets_of_key_five, no_hints_read, hint_of_six_reads}
-use Rattle.dns_fields.proofs.Examples.{keys_rise, keys_do_not_fall, broken_protocols, broken_parameter, types_read, windows_read}
-use Rattle.dns_fields.proofs.Examples.{zeros_dropped, broken_window}
+use Rattle.dns_fields.proofs.Examples.{address_reads, address_is_four, two_texts_read, empty_strings_read, cut_string, rest_reads, pointed_name_reads}
+use Rattle.dns_fields.proofs.Examples.{cut_pointer, pointer_to_itself, reserved_label, letters_read, marks_apart, start_of_authority_reads}
+use Rattle.dns_fields.proofs.Examples.{cut_option_reads, cut_drops_all, broken_option, options_in_order, options_counted, subnet_reads}
+use Rattle.dns_fields.proofs.Examples.{subnet_of_six_reads, subnet_ends, server_identifier_reads, broken_subnet, service_reads, mandatory_reads}
+use Rattle.dns_fields.proofs.Examples.{octets_of_key_five, no_hints_read, hint_of_six_reads, keys_rise, keys_do_not_fall, broken_protocols}
+use Rattle.dns_fields.proofs.Examples.{broken_parameter, types_read, windows_read, zeros_dropped, broken_window}
 use Rattle.dns_fields.proofs.examples_hold.Goals as goal
 
 pub returns-clause-strings : goal.returns-clause-strings
