@@ -21,12 +21,8 @@ ArePlain [] = Unit {0}
 ArePlain (Number w ∷ kinds) = ArePlain kinds
 ArePlain (Octets n ∷ kinds) = ArePlain kinds
 ArePlain (Rest ∷ kinds) = ArePlain kinds
-ArePlain (Name ∷ kinds) = ⊥
 ArePlain (Text ∷ kinds) = ArePlain kinds
-ArePlain (Texts ∷ kinds) = ⊥
-ArePlain (Options ∷ kinds) = ⊥
-ArePlain (Parameters ∷ kinds) = ⊥
-ArePlain (Bitmap ∷ kinds) = ⊥
+ArePlain x = ⊥
 
 wrote_plain : (mode : RDataEncoding) (m : List ℕ) (kinds : List Kind) (vs : Values kinds) → ArePlain kinds → AllFit kinds vs
     → Wrote mode m kinds vs (m ++ canonical kinds vs)
@@ -53,7 +49,6 @@ wrote_plain mode m (Rest ∷ kinds) vs p f =
       subst (λ (x : List ℕ). Wrote mode next kinds vs.1 x) (append_assoc m vs.0 (canonical kinds vs.1))
           (wrote_plain mode next kinds vs.1 p f.1),
     )
-wrote_plain mode m (Name ∷ kinds) vs p f = absurd p
 wrote_plain mode m (Text ∷ kinds) vs p f =
     let next = m ++ string vs.0 in (
       next,
@@ -61,10 +56,7 @@ wrote_plain mode m (Text ∷ kinds) vs p f =
       subst (λ (x : List ℕ). Wrote mode next kinds vs.1 x) (append_assoc m (string vs.0) (canonical kinds vs.1))
           (wrote_plain mode next kinds vs.1 p f.1),
     )
-wrote_plain mode m (Texts ∷ kinds) vs p f = absurd p
-wrote_plain mode m (Options ∷ kinds) vs p f = absurd p
-wrote_plain mode m (Parameters ∷ kinds) vs p f = absurd p
-wrote_plain mode m (Bitmap ∷ kinds) vs p f = absurd p
+wrote_plain mode m x vs p f = absurd p
 
 -- the canonical octets of such fields, appended at once, are the fields
 pub emits_plain : (kinds : List Kind) (vs : Values kinds) (s : List ℕ) (r : Result (Unit {0}) ProtoError) (old new : Writing) → ArePlain kinds

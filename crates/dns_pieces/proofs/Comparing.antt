@@ -104,10 +104,8 @@ one_taken r n m e h = subst (λ (t : Bool). n ≡ m + (if t then 1 else 0)) e h
 
 pub then_equal : (o : Ordering) → ordering_then o Equal ≡ o
 then_equal Less = refl
-then_equal Equal = refl
-then_equal Greater = refl
+then_equal x = refl
 
 pub then_assoc : (o p q : Ordering) → ordering_then (ordering_then o p) q ≡ ordering_then o (ordering_then p q)
 then_assoc Less p q = refl
-then_assoc Equal p q = refl
-then_assoc Greater p q = refl
+then_assoc x p q = refl
