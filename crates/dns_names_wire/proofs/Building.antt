@@ -1,20 +1,14 @@
 -- Names put together.
-use Rattle.std.proofs.Common.{◌≡◌, ℕ, ◌+◌, ◌<◌, ◌≤◌, Option, List, [], ◌∷◌, ◌++◌, length, map, take, drop, get_or, sym, ap, ◌∙◌, arith, subst, append_assoc}
+use Rattle.std.proofs.Common.{◌≡◌, ℕ, ◌+◌, ◌<◌, ◌≤◌, Option, List, [], ◌∷◌, ◌++◌, length, map, take, drop, get_or, sym, ap, ◌∙◌, arith, subst}
+use Rattle.std.proofs.Common.{append_assoc, Result, Ok, Err}
 use Rattle.std.proofs.lemmas.List.{length-append, length-map, map-append, append_cancel_right, take_at, drop_more, take-append-drop}
-use Rattle.std.specs.Char.{to_ascii_lowercase}
-use Rattle.std.proofs.Common.{Result, Ok, Err}
-use Rattle.std.specs.Result.{IfErr}
+use Rattle.std.specs.{Char.to_ascii_lowercase, Result.IfErr}
 use Rattle.dns_types.specs.declared.error.ProtoError.{ProtoError}
 use Rattle.dns_types.specs.declared.error.ProtoError.TheVariants as proto
 use Rattle.dns_fields.specs.Labels.{DomainName, AreLabels, IsName, wire, low_labels}
-use Rattle.dns_fields.proofs.NameLaws.{are_low, low_wire}
-use Rattle.dns_fields.proofs.Runs.{wire-append}
-use Rattle.dns_labels.specs.Labels.{AreNameOctets, labels_of}
-use Rattle.dns_labels.specs.Text.{IsNameText}
-use Rattle.dns_labels.proofs.Built.{AreJoined}
-use Rattle.dns_labels.proofs.Lowered.{lowered-of}
-use Rattle.dns_labels.proofs.NameTexts.{one_name}
-use Rattle.dns_labels.proofs.Octets.{labels_from, are_name_octets, first_label}
+use Rattle.dns_fields.proofs.{NameLaws.are_low, NameLaws.low_wire, Runs.wire-append}
+use Rattle.dns_labels.specs.{Labels.AreNameOctets, Labels.labels_of, Text.IsNameText}
+use Rattle.dns_labels.proofs.{Built.AreJoined, Lowered.lowered-of, NameTexts.one_name, Octets.labels_from, Octets.are_name_octets, Octets.first_label}
 use Rattle.dns_names_wire.specs.NameValues.{qualified, completed, IsParsed, IsTextRefusal}
 
 pub wire_low : (octets : List ℕ) → AreNameOctets octets → map to_ascii_lowercase octets ≡ wire (low_labels (labels_of octets))

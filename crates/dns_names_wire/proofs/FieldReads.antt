@@ -1,12 +1,11 @@
 -- Reading fields one after the other.
 use Rattle.std.proofs.Common.{◌≡◌, ℕ, ◌+◌, ◌≤◌, ◌<◌, List, [], ◌∷◌, length, refl, sym, ◌∙◌, arith, subst}
 use Rattle.dns_names_wire.specs.State.{Reading}
+use Rattle.dns_names_wire.specs.Words.{TookField, LacksField, Took, Lacks, StaysBehind, UnlessMemory, RefusedField, Refused, IsLong}
 use Rattle.dns_fields.specs.Fields.{Kind, Number, Value, Values, Field, Stands, EndsItself}
 use Rattle.dns_types.specs.declared.error.DecodeError.{DecodeError}
 use Rattle.dns_types.specs.declared.error.DecodeError.TheVariants as decode
-use Rattle.dns_names_wire.specs.Words.{TookField, LacksField, Took, Lacks, StaysBehind, UnlessMemory, RefusedField, Refused, IsLong}
-use Rattle.dns_fields.proofs.Numbers.{length-bytes}
-use Rattle.dns_fields.proofs.FieldLaws.{field_inside, field_same, field_end}
+use Rattle.dns_fields.proofs.{Numbers.length-bytes, FieldLaws.field_inside, FieldLaws.field_same, FieldLaws.field_end}
 
 pub stands_inside : (m : List ℕ) (p : ℕ) (s : List Kind) (a : Values s) (e : ℕ) → Stands m p s a e → p ≤ e
 stands_inside m p [] a e f = omega (arith, f)

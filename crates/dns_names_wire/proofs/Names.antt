@@ -3,10 +3,8 @@ use Rattle.std.proofs.Common.{◌≡◌, ℕ, Bool, ◌+◌, ◌<◌, ◌≤◌,
 use Rattle.std.specs.Result.{OnOk, OnErr, IfErr}
 use Rattle.std.proofs.lemmas.List.{append-nil}
 use Rattle.dns_labels.specs.Labels.{AreNameOctets, name_of}
+use Rattle.dns_fields.specs.{Labels.DomainName, Names.NameWrote, Names.IsNameIn, Fields.Name, Fields.field_octets}
 use Rattle.dns_fields.specs.declared.RDataEncoding.{RDataEncoding}
-use Rattle.dns_fields.specs.Labels.{DomainName}
-use Rattle.dns_fields.specs.Names.{NameWrote, IsNameIn}
-use Rattle.dns_fields.specs.Fields.{Name, field_octets}
 use Rattle.dns_fields.proofs.NameLaws.{lowname_length, name_inside}
 use Rattle.dns_types.specs.declared.error.ProtoError.{ProtoError}
 use Rattle.dns_names_wire.specs.State.{Reading, Writing}

@@ -1,14 +1,12 @@
 -- Numbers and octets that are appended at once, and fields behind others.
-use Rattle.std.proofs.Common.{◌≡◌, Bool, true, false, ◌&&◌, ℕ, ◌<◌, ◌≤◌, ◌%◌, List, [], ◌∷◌, ◌++◌, length, refl, sym, ap, ◌∙◌, arith}
-use Rattle.std.proofs.Common.{append_assoc, subst, Result, Ok, Err}
+use Rattle.std.proofs.Common.{◌≡◌, Bool, true, false, ◌&&◌, ℕ, ◌<◌, ◌≤◌, ◌%◌, List, [], ◌∷◌, ◌++◌, length, refl, sym, ap, ◌∙◌, arith, append_assoc}
+use Rattle.std.proofs.Common.{subst, Result, Ok, Err}
 use Rattle.std.proofs.lemmas.List.{length-append, append-nil}
 use Rattle.std.specs.Int.{bytes_high_first}
-use Rattle.dns_names_wire.specs.State.{Writing}
-use Rattle.dns_fields.specs.declared.RDataEncoding.{RDataEncoding}
-use Rattle.dns_fields.specs.Pieces.{string}
-use Rattle.dns_fields.specs.Fields.{Kind, Number, Octets, Name, Text, Texts, Rest, Options, Parameters, Bitmap, Values, Wrote, AllFit}
-use Rattle.dns_fields.specs.Fields.{is_emittable, all_emittable, canonical, field_octets}
-use Rattle.dns_names_wire.specs.Words.{AppendedField, Appended, WithinLimit, Stopped, Emits, EmitsField}
+use Rattle.dns_names_wire.specs.{State.Writing, Words.AppendedField, Words.Appended, Words.WithinLimit, Words.Stopped, Words.Emits, Words.EmitsField}
+use Rattle.dns_fields.specs.{declared.RDataEncoding.RDataEncoding, Pieces.string}
+use Rattle.dns_fields.specs.Fields.{Kind, Number, Octets, Name, Text, Texts, Rest, Options, Parameters, Bitmap, Values, Wrote, AllFit, is_emittable}
+use Rattle.dns_fields.specs.Fields.{all_emittable, canonical, field_octets}
 use Rattle.dns_types.specs.declared.error.ProtoError.{ProtoError}
 use Rattle.dns_names_wire.proofs.FieldWrites.{keeps_then, appended_then, stopped_then, because_map, all_tail}
 use Rattle.dns_fields.proofs.FieldLaws.{wrote_tail}

@@ -2,10 +2,8 @@
 use Rattle.std.proofs.Common.{◌≡◌, ℕ, ◌+◌, ◌%◌, List, [], ◌∷◌, ◌++◌, length, take, drop, refl, sym, ap, ◌∙◌, arith, subst}
 use Rattle.std.proofs.lemmas.List.{length-append, drop-drop, take-take, take_at, drop_at, drop-take, take-append-drop}
 use Rattle.std.proofs.Math.Nat.{mod-eq_of_lt}
-use Rattle.dns_names_wire.specs.State.{Reading}
-use Rattle.dns_fields.specs.Fields.{Number, Octets, Text, Rest, Field}
-use Rattle.dns_names_wire.specs.Words.{TookField}
-use Rattle.dns_fields.specs.Octets.{At}
+use Rattle.dns_names_wire.specs.{State.Reading, Words.TookField}
+use Rattle.dns_fields.specs.{Fields.Number, Fields.Octets, Fields.Text, Fields.Rest, Fields.Field, Octets.At}
 
 -- the front and the rest of octets that stand
 pub at_front : {m : List ℕ} {p r : ℕ} (x y : List ℕ) → At m p (x ++ y) r → At m p x (p + length x)

@@ -2,11 +2,10 @@
 use Rattle.std.proofs.Common.{◌≡◌, ℕ, ◌+◌, ◌<◌, List, [], ◌∷◌, refl, sym, ◌∙◌, Result, Ok, Err}
 use Rattle.std.specs.Result.{IfErr}
 use Rattle.dns_types.specs.declared.error.DecodeError.{DecodeError}
-use Rattle.dns_fields.specs.Octets.{AreOctets}
-use Rattle.dns_fields.specs.Fields.{Kind, Values, Stands}
+use Rattle.dns_fields.specs.{Octets.AreOctets, Fields.Kind, Fields.Values, Fields.Stands}
 use Rattle.dns_fields.proofs.FieldLaws.{field_end}
-use Rattle.dns_names_wire.specs.State.{Reading}
-use Rattle.dns_names_wire.specs.Words.{Took, Lacks, Refused, StaysBehind, ReadsIf, ReadsTo, ReadsBy, IsLong, AllEnd, Window, RefusedWindow, ReadsWindow}
+use Rattle.dns_names_wire.specs.{State.Reading, Words.Took, Words.Lacks, Words.Refused, Words.StaysBehind, Words.ReadsIf, Words.ReadsTo}
+use Rattle.dns_names_wire.specs.{Words.ReadsBy, Words.IsLong, Words.AllEnd, Words.Window, Words.RefusedWindow, Words.ReadsWindow}
 use Rattle.dns_names_wire.proofs.FieldReads.{stands_inside, stands_within, unless_map}
 
 -- fields that say themselves where they end have one end

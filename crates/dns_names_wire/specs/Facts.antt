@@ -1,14 +1,10 @@
 -- What the data of a record is: the fields, which reading, emitting and comparing it speak of.
 use Rattle.std.specs.Prelude.{ℕ, ◌≡◌, ◌+◌, Bool, List, Result}
 use Rattle.std.specs.Cmp.{IsEquivalence, IsPartialEquivalence, on_equiv, partial_equiv_from_equiv}
-use Rattle.dns_types.specs.declared.error.DecodeError.{DecodeError}
-use Rattle.dns_types.specs.declared.error.ProtoError.{ProtoError}
-use Rattle.dns_fields.specs.declared.RDataEncoding.{RDataEncoding}
-use Rattle.dns_fields.specs.Equal.{values_eq}
-use Rattle.dns_fields.specs.Fields.{Kind, Values, Stands}
+use Rattle.dns_types.specs.{declared.error.DecodeError.DecodeError, declared.error.ProtoError.ProtoError}
+use Rattle.dns_fields.specs.{declared.RDataEncoding.RDataEncoding, Equal.values_eq, Fields.Kind, Fields.Values, Fields.Stands}
 use Rattle.dns_fields.proofs.Equivalences.{values_equiv}
-use Rattle.dns_names_wire.specs.State.{Reading, Writing}
-use Rattle.dns_names_wire.specs.Words.{EmitsAs, Refused}
+use Rattle.dns_names_wire.specs.{State.Reading, State.Writing, Words.EmitsAs, Words.Refused}
 
 -- the kinds of the fields, what is asked of them beside that they stand, the fields themselves; why data of so many
 -- octets is refused, and what holds of a value that was read from so many, and of where the decoder is then

@@ -1,11 +1,9 @@
 -- What a reader and an emitter of fields do, exactly.
 use Rattle.std.specs.Prelude.{◌≡◌, ◌≢◌, ℕ, ◌+◌, ◌<◌, ◌≤◌, ◌⊎◌, false, List, [], ◌∷◌, ◌++◌, length, Result, Ok, Err}
-use Rattle.dns_types.specs.declared.error.DecodeError.{DecodeError}
+use Rattle.dns_types.specs.{declared.error.DecodeError.DecodeError, declared.error.ProtoError.ProtoError}
 use Rattle.dns_types.specs.declared.error.DecodeError.TheVariants as decode
-use Rattle.dns_types.specs.declared.error.ProtoError.{ProtoError}
 use Rattle.dns_types.specs.declared.error.ProtoError.TheVariants as proto
-use Rattle.dns_fields.specs.declared.RDataEncoding.{RDataEncoding}
-use Rattle.dns_fields.specs.Octets.{AreOctets}
+use Rattle.dns_fields.specs.{declared.RDataEncoding.RDataEncoding, Octets.AreOctets}
 use Rattle.dns_fields.specs.Fields.{Kind, Number, Name, Value, Values, Field, Stands, WroteField, Wrote, is_emittable, all_emittable, EndsItself}
 use Rattle.dns_fields.specs.Fields.{canonical, field_octets}
 use Rattle.dns_names_wire.specs.State.{Reading, Writing}

@@ -1,12 +1,10 @@
 //! What is read from a message and written to one.
 
 ghost use Rattle.std.specs.Prelude.{◌≡◌, ℕ, List, Result, IfErr, OnErr};
-ghost use Rattle.dns_types.specs.RecordTypes.{number_of, record_type_of};
-ghost use Rattle.dns_fields.specs.Fields.{Field, Number};
+ghost use Rattle.dns_types.specs.{RecordTypes.number_of, RecordTypes.record_type_of, declared.error.ProtoError.ProtoError as ProtoErrorValue};
 ghost use Rattle.dns_types.specs.declared.error.DecodeError.{DecodeError as DecodeErrorValue};
-ghost use Rattle.dns_types.specs.declared.error.ProtoError.{ProtoError as ProtoErrorValue};
-ghost use Rattle.dns_names_wire.specs.State.{Reading, Writing};
-ghost use Rattle.dns_names_wire.specs.Words.{ReadsBy, IsCut, EmitsField, Extends, LacksOctets};
+ghost use Rattle.dns_fields.specs.Fields.{Field, Number};
+ghost use Rattle.dns_names_wire.specs.{State.Reading, State.Writing, Words.ReadsBy, Words.IsCut, Words.EmitsField, Words.Extends, Words.LacksOctets};
 
 use crate::decoder::BinDecoder;
 use crate::encoder::BinEncoder;

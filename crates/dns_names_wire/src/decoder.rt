@@ -2,8 +2,7 @@
 
 ghost use Rattle.std.specs.Prelude.{◌≡◌, true, ◌+◌, ◌*◌, ◌-◌, ◌/◌, ◌^◌, ◌<◌, ◌≤◌, ◌⊎◌, ℕ, ◌↔◌, IsTrue, length, drop, slice_get, IfOk, IfErr, OnErr};
 ghost use Rattle.std.specs.Int.{cast_unsigned, w32};
-ghost use Rattle.dns_fields.specs.Fields.{Number, Octets, Text, Name};
-ghost use Rattle.dns_fields.specs.Octets.{AreOctets};
+ghost use Rattle.dns_fields.specs.{Fields.Number, Fields.Octets, Fields.Text, Fields.Name, Octets.AreOctets};
 ghost use Rattle.dns_names_wire.specs.Words.{TookField, LacksField, ReadsField, LacksOctets, LacksText};
 ghost use Rattle.dns_labels.specs.Labels.{AreNameOctets, name_of};
 

@@ -1,11 +1,10 @@
 //! A message that is being written.
 
-ghost use Rattle.std.specs.Prelude.{◌≡◌, ◌≢◌, ◌+◌, ◌<◌, ◌≤◌, ◌^◌, ◌↔◌, ◌⊎◌, ℕ, Bool, IsTrue, IfErr, List, [], ◌∷◌, ◌++◌, length, take, drop, IfOk, OnOk, OnErr};
+ghost use Rattle.std.specs.Prelude.{◌≡◌, ◌≢◌, ◌+◌, ◌<◌, ◌≤◌, ◌^◌, ◌↔◌, ◌⊎◌, ℕ, Bool, IsTrue, IfErr, List, [], ◌∷◌, ◌++◌, length, take, drop, IfOk};
+ghost use Rattle.std.specs.Prelude.{OnOk, OnErr};
 ghost use Rattle.std.specs.Int.{cast_unsigned, bytes_high_first, w32};
-ghost use Rattle.dns_fields.specs.Fields.{Number, Rest, Text, Name};
-ghost use Rattle.dns_fields.specs.Octets.{AreOctets};
+ghost use Rattle.dns_fields.specs.{Fields.Number, Fields.Rest, Fields.Text, Fields.Name, Octets.AreOctets, Names.NameWrote};
 ghost use Rattle.dns_names_wire.specs.Words.{EmitsField, AppendedField, StoppedField, Keeps, Because};
-ghost use Rattle.dns_fields.specs.Names.{NameWrote};
 ghost use Rattle.dns_labels.specs.Labels.{AreNameOctets, name_of};
 
 use dns_fields::RDataEncoding;

@@ -1,12 +1,8 @@
 //! Domain names (RFC 1035, 3.1).
 
 ghost use Rattle.std.specs.Prelude.{◌≡◌, ◌≤◌, ◌<◌, ◌↔◌, ◌⊎◌, ℕ, Bool, true, false, [], length, slice_get, IsTrue, IfOk, IfErr, IfSome, OnOk, OnErr};
-ghost use Rattle.dns_fields.specs.Labels.{IsName, lowname};
-ghost use Rattle.dns_fields.specs.Names.{IsNameIn};
-ghost use Rattle.dns_fields.specs.Octets.{AreOctets};
-ghost use Rattle.dns_fields.specs.Fields.{Name as NameKind};
-ghost use Rattle.dns_labels.specs.Labels.{AreNameOctets, name_of};
-ghost use Rattle.dns_labels.specs.Text.{HasOctets};
+ghost use Rattle.dns_fields.specs.{Labels.IsName, Labels.lowname, Names.IsNameIn, Octets.AreOctets, Fields.Name as NameKind};
+ghost use Rattle.dns_labels.specs.{Labels.AreNameOctets, Labels.name_of, Text.HasOctets};
 ghost use Rattle.dns_names_wire.specs.Words.{ReadsField, ReadsBy, LacksField, EmitsField, Extends, IsNoName};
 ghost use Rattle.dns_names_wire.specs.NameValues.{root_name, label_count, has_asterisk};
 
@@ -46,8 +42,7 @@ pub struct Name {
 }
 
 impl Model for Name {
-    ghost use Rattle.dns_fields.specs.Labels.{DomainName};
-    ghost use Rattle.dns_fields.specs.Octets.{AreOctets};
+    ghost use Rattle.dns_fields.specs.{Labels.DomainName, Octets.AreOctets};
     ghost use Rattle.dns_labels.specs.Labels.{AreNameOctets, name_of};
 
     ghost Value = { DomainName };

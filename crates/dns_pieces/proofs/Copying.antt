@@ -1,8 +1,9 @@
 -- Octets that are copied into a buffer.
-use Rattle.std.proofs.Common.{◌≡◌, ◌≢◌, ℕ, ◌+◌, ◌-◌, ◌<◌, ◌≤◌, ◌⊎◌, inl, inr, min, suc, zero, List, [], ◌∷◌, ◌++◌, length, take, drop, map, refl, sym, ap, ◌∙◌, subst, arith, append_assoc, length-append, length-take-le}
-use Rattle.std.proofs.lemmas.List.{append-nil, drop-drop, drop_all, drop_at, drop-append-le, length-drop, length-map, take_all, take_at, take_rest, take-append-le, take-map, drop-map}
-use Rattle.std.proofs.Math.ListN.{set}
-use Rattle.std.proofs.Math.Seq.{take-add}
+use Rattle.std.proofs.Common.{◌≡◌, ◌≢◌, ℕ, ◌+◌, ◌-◌, ◌<◌, ◌≤◌, ◌⊎◌, inl, inr, min, suc, zero, List, [], ◌∷◌, ◌++◌, length, take, drop, map, refl, sym}
+use Rattle.std.proofs.Common.{ap, ◌∙◌, subst, arith, append_assoc, length-append, length-take-le}
+use Rattle.std.proofs.{Math.ListN.set, Math.Seq.take-add}
+use Rattle.std.proofs.lemmas.List.{append-nil, drop-drop, drop_all, drop_at, drop-append-le, length-drop, length-map, take_all, take_at, take_rest}
+use Rattle.std.proofs.lemmas.List.{take-append-le, take-map, drop-map}
 use Rattle.std.specs.Char.{to_ascii_lowercase}
 use Rattle.dns_labels.specs.Comparing.{lowered_octets}
 use Rattle.dns_pieces.specs.Runs.{HasCopied, Copies}

@@ -1,14 +1,12 @@
 -- Canonical octets are ordered field by field.
-use Rattle.std.proofs.Common.{◌≡◌, ◌≢◌, ℕ, ◌+◌, ◌-◌, ◌<◌, ◌≤◌, ◌^◌, List, [], ◌∷◌, ◌++◌, length, take, drop, map, refl, sym, ap, ◌∙◌, arith, append_assoc}
+use Rattle.std.proofs.Common.{◌≡◌, ◌≢◌, ℕ, ◌+◌, ◌-◌, ◌<◌, ◌≤◌, ◌^◌, List, [], ◌∷◌, ◌++◌, length, take, drop, map, refl, sym, ap, ◌∙◌, arith}
+use Rattle.std.proofs.Common.{append_assoc}
 use Rattle.std.proofs.lemmas.List.{append-nil, drop-drop, length-drop, length-map, take-append-drop, take-take}
-use Rattle.std.specs.Int.{bytes_high_first}
-use Rattle.std.specs.Char.{to_ascii_lowercase}
-use Rattle.std.specs.Cmp.{nat_cmp_is, ranks}
-use Rattle.std.specs.Cmp.Lexicographic.{slice_cmp}
-use Rattle.std.specs.Ordering.{MatchOrdering, nat_cmp, ordering_then}
-use Rattle.std.specs.declared.cmp.Ordering.{Ordering}
+use Rattle.std.specs.{Int.bytes_high_first, Char.to_ascii_lowercase, Cmp.nat_cmp_is, Cmp.ranks, Cmp.Lexicographic.slice_cmp, Ordering.MatchOrdering}
+use Rattle.std.specs.{Ordering.nat_cmp, Ordering.ordering_then, declared.cmp.Ordering.Ordering}
 use Rattle.std.specs.declared.cmp.Ordering.TheVariants.{Less, Equal, Greater}
-use Rattle.dns_fields.specs.Fields.{Kind, Number, Octets, Name, Text, Texts, Rest, Options, Parameters, Bitmap, Value, Values, field_octets, canonical}
+use Rattle.dns_fields.specs.Fields.{Kind, Number, Octets, Name, Text, Texts, Rest, Options, Parameters, Bitmap, Value, Values, field_octets}
+use Rattle.dns_fields.specs.Fields.{canonical}
 use Rattle.dns_fields.specs.Labels.{AreLabels, lowered}
 use Rattle.dns_fields.proofs.Numbers.{number_cmp, length-bytes}
 use Rattle.dns_pieces.specs.Fronts.{canonical_cmp}

@@ -1,8 +1,6 @@
 -- The order of canonical octets.
 use Rattle.std.specs.Prelude.{List}
-use Rattle.std.specs.Cmp.Lexicographic.{slice_cmp}
-use Rattle.std.specs.Ordering.{nat_cmp}
-use Rattle.std.specs.declared.cmp.Ordering.{Ordering}
+use Rattle.std.specs.{Cmp.Lexicographic.slice_cmp, Ordering.nat_cmp, declared.cmp.Ordering.Ordering}
 use Rattle.dns_fields.specs.Fields.{Kind, Values, canonical}
 
 -- by the first difference of the canonical octets, a proper beginning before what goes on

@@ -1,11 +1,8 @@
 //! Canonical octets compared field by field, without a cursor.
 
 ghost use Rattle.std.specs.Prelude.{◌≡◌, ◌<◌, ◌≤◌, ◌^◌, ◌⊎◌, length};
-ghost use Rattle.std.specs.Cmp.Lexicographic.{slice_cmp};
-ghost use Rattle.std.specs.Int.{bytes_high_first};
-ghost use Rattle.std.specs.Ordering.{nat_cmp, ordering_then};
-ghost use Rattle.dns_fields.specs.Fields.{Name as NameKind, Number, Rest, Text, field_octets};
-ghost use Rattle.dns_fields.specs.Labels.{AreLabels};
+ghost use Rattle.std.specs.{Cmp.Lexicographic.slice_cmp, Int.bytes_high_first, Ordering.nat_cmp, Ordering.ordering_then};
+ghost use Rattle.dns_fields.specs.{Fields.Name as NameKind, Fields.Number, Fields.Rest, Fields.Text, Fields.field_octets, Labels.AreLabels};
 ghost use Rattle.dns_pieces.specs.Runs.{next_order};
 
 use crate::tail::Tail;

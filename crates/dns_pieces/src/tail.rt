@@ -1,9 +1,7 @@
 //! A slice, or the labels of a name.
 
 ghost use Rattle.std.specs.Prelude.{◌≡◌, ◌+◌, ◌<◌, ◌^◌, [], ◌∷◌, ◌++◌, length as size, take, drop, map, min, MatchOption};
-ghost use Rattle.std.specs.Cmp.Lexicographic.{slice_cmp};
-ghost use Rattle.std.specs.Char.{to_ascii_lowercase};
-ghost use Rattle.std.specs.Ordering.{nat_cmp};
+ghost use Rattle.std.specs.{Cmp.Lexicographic.slice_cmp, Char.to_ascii_lowercase, Ordering.nat_cmp};
 ghost use Rattle.dns_fields.specs.Fields.{Name as NameKind, Rest, field_octets};
 ghost use Rattle.dns_pieces.specs.Runs.{Shares, Copies};
 

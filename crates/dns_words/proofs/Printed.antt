@@ -1,21 +1,15 @@
 -- Printed words, cut at their blanks, are read back.
-use Rattle.std.proofs.Common.{◌≡◌, ◌≢◌, ℕ, zero, suc, ◌*◌, ◌^◌, ◌<◌, ◌≤◌, true, false, eqb, nat_le, List, [], ◌∷◌, ◌++◌, length, get_or, decimal, codes, Option, Some, None, Bool, cond, ◌||◌, ◌&&◌, All, take, drop, refl, ap, sym, subst, ◌∙◌, arith, append_assoc}
-use Rattle.std.specs.List.{flat_map}
-use Rattle.std.specs.Prelude.{bytes_eq}
-use Rattle.std.specs.Str.Parse.{IsNumeral, digits_value}
-use Rattle.std.proofs.lemmas.Bool.Decides.{nat_tests}
-use Rattle.std.proofs.lemmas.List.{append-nil}
-use Rattle.std.proofs.lemmas.List.Elements.{All-head, All-tail}
-use Rattle.std.proofs.lemmas.Fmt.{decimal_is_IsNumeral}
-use Rattle.std.proofs.lemmas.Str.Parse.{without_leading_plus_none, digit_at}
+use Rattle.std.proofs.Common.{◌≡◌, ◌≢◌, ℕ, zero, suc, ◌*◌, ◌^◌, ◌<◌, ◌≤◌, true, false, eqb, nat_le, List, [], ◌∷◌, ◌++◌, length, get_or, decimal}
+use Rattle.std.proofs.Common.{codes, Option, Some, None, Bool, cond, ◌||◌, ◌&&◌, All, take, drop, refl, ap, sym, subst, ◌∙◌, arith, append_assoc}
+use Rattle.std.specs.{List.flat_map, Str.Parse.IsNumeral, Str.Parse.digits_value, Net.Text.ipv4_text, Net.Text.ipv6_text, Net.Text.hex_groups_text}
+use Rattle.std.specs.{declared.net.ipv4_addr.Ipv4Addr.Ipv4Addr, declared.net.ipv6_addr.Ipv6Addr.Ipv6Addr}
 use Rattle.std.specs.Net.Addr.{IsIpv4Addr, IsIpv6Addr, ipv4_octets, ipv6_octets, ipv6_segments, octets_of}
-use Rattle.std.specs.Net.Text.{ipv4_text, ipv6_text, hex_groups_text}
-use Rattle.std.specs.declared.net.ipv4_addr.Ipv4Addr.{Ipv4Addr}
-use Rattle.std.specs.declared.net.ipv6_addr.Ipv6Addr.{Ipv6Addr}
+use Rattle.std.specs.Prelude.{bytes_eq}
+use Rattle.std.proofs.{lemmas.Bool.Decides.nat_tests, lemmas.List.append-nil, lemmas.List.Elements.All-head, lemmas.List.Elements.All-tail}
+use Rattle.std.proofs.{lemmas.Fmt.decimal_is_IsNumeral, lemmas.Str.Parse.without_leading_plus_none, lemmas.Str.Parse.digit_at}
 use Rattle.std.proofs.NetLemmas.Alphabet.{IsDigitOrDot, IsHexOrColon, All-ipv4_text, All-hex_groups_text}
 use Rattle.std.proofs.NetLemmas.Texts.{IsDotted-ipv4_text, IsColonHex-ipv6_text, AllSegments, AllSegments-drop}
-use Rattle.dns_fields.specs.Labels.{DomainName}
-use Rattle.dns_fields.specs.Fields.{Kind, Value, Values}
+use Rattle.dns_fields.specs.{Labels.DomainName, Fields.Kind, Fields.Value, Fields.Values}
 use Rattle.dns_labels.specs.Text.{printed, label_text, joined_text, name_text}
 use Rattle.dns_labels.proofs.NameTexts.{name_reads}
 use Rattle.dns_text.specs.Ttl.Periods.{plain}

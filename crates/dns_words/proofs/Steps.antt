@@ -1,16 +1,13 @@
 -- Words read one after the other.
-use Rattle.std.proofs.Common.{◌≡◌, ℕ, List, [], ◌∷◌, Option, Some, None, Result, Ok, Err, refl, subst, sym}
-use Rattle.std.proofs.Common.{inl, inr}
+use Rattle.std.proofs.Common.{◌≡◌, ℕ, List, [], ◌∷◌, Option, Some, None, Result, Ok, Err, refl, subst, sym, inl, inr}
 use Rattle.std.specs.Prelude.{map}
-use Rattle.std.specs.List.{flat_map}
-use Rattle.std.specs.Iterator.{Yields, Drains}
-use Rattle.std.specs.Result.{IsErrAnd}
+use Rattle.std.specs.{List.flat_map, Iterator.Yields, Iterator.Drains, Result.IsErrAnd}
 use Rattle.dns_types.specs.declared.error.ParseError.{ParseError}
 use Rattle.dns_types.specs.declared.error.ParseError.TheVariants as parse
 use Rattle.dns_fields.specs.Fields.{Kind, Value, Values}
-use Rattle.dns_words.specs.Taking.{HoldsBehind, HoldsOfWords}
-use Rattle.dns_words.specs.Forms.{Form, Row, word, ignored, nothing, every_text}
-use Rattle.dns_words.specs.Reads.{UnlessMemory, NoWord, AreTexts, AreJoined, ReadsText, FirstIs, TookWord, RefusedWord, ReadsWord, TookWords, RefusedWords, ReadsRow}
+use Rattle.dns_words.specs.{Taking.HoldsBehind, Taking.HoldsOfWords, Forms.Form, Forms.Row, Forms.word, Forms.ignored, Forms.nothing}
+use Rattle.dns_words.specs.{Forms.every_text, Reads.UnlessMemory, Reads.NoWord, Reads.AreTexts, Reads.AreJoined, Reads.ReadsText, Reads.FirstIs}
+use Rattle.dns_words.specs.{Reads.TookWord, Reads.RefusedWord, Reads.ReadsWord, Reads.TookWords, Reads.RefusedWords, Reads.ReadsRow}
 
 pub unless_map : (e : ParseError) (P Q : Type 0) → (P → Q) → UnlessMemory e P → UnlessMemory e Q
 unless_map parse.Memory P Q f h = tt

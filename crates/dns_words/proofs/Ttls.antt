@@ -2,11 +2,9 @@
 use Rattle.std.proofs.Common.{ℕ, ◌<◌, List, arith}
 use Rattle.dns_text.specs.Ttl.{IsTtl}
 use Rattle.dns_text.proofs.TtlSteps.{periods_one}
+use Rattle.std.specs.{declared.net.ipv4_addr.Ipv4Addr.Ipv4Addr, declared.net.ipv6_addr.Ipv6Addr.Ipv6Addr}
 use Rattle.std.specs.Net.Grammar.{IsIpv4Text, IsIpv6Text}
-use Rattle.std.specs.declared.net.ipv4_addr.Ipv4Addr.{Ipv4Addr}
-use Rattle.std.specs.declared.net.ipv6_addr.Ipv6Addr.{Ipv6Addr}
-use Rattle.dns_words.specs.Forms.{ttl, ipv4, ipv6}
-use Rattle.dns_words.specs.Reads.{NoWord}
+use Rattle.dns_words.specs.{Forms.ttl, Forms.ipv4, Forms.ipv6, Reads.NoWord}
 
 -- a text of a greater time to live has no lesser one
 pub no_ttl : {text : List ℕ} {n : ℕ} (most : ℕ) → IsTtl text n → most < n → NoWord (ttl most) text

@@ -1,7 +1,6 @@
 -- Printed words, cut at their blanks, are read back.
 use Rattle.std.specs.Prelude.{◌≡◌, ℕ, ◌==◌, if◌then◌else◌, true, List, [], ◌∷◌, ◌++◌}
-use Rattle.dns_fields.specs.Labels.{DomainName, IsName}
-use Rattle.dns_fields.specs.Fields.{Kind, Values}
+use Rattle.dns_fields.specs.{Labels.DomainName, Labels.IsName, Fields.Kind, Fields.Values}
 use Rattle.dns_labels.specs.Text.{HasOctets}
 use Rattle.dns_words.specs.Forms.{Row}
 

@@ -1,12 +1,10 @@
 -- What a reader of words does, exactly.
 use Rattle.std.specs.Prelude.{◌≡◌, ℕ, List, [], ◌∷◌, Option, Some, Result, Ok, Err, OnOk, map}
-use Rattle.std.specs.Iterator.{Count, IsFinite, Drains}
-use Rattle.std.specs.List.{flat_map}
+use Rattle.std.specs.{Iterator.Count, Iterator.IsFinite, Iterator.Drains, List.flat_map}
 use Rattle.dns_types.specs.declared.error.ParseError.{ParseError}
 use Rattle.dns_types.specs.declared.error.ParseError.TheVariants as parse
 use Rattle.dns_fields.specs.Fields.{Kind, Value, Values}
-use Rattle.dns_words.specs.Taking.{HoldsOfWords}
-use Rattle.dns_words.specs.Forms.{Form, Row}
+use Rattle.dns_words.specs.{Taking.HoldsOfWords, Forms.Form, Forms.Row}
 
 -- want of memory says nothing
 abbrev pub UnlessMemory : ParseError → Type 0 → Type 0

@@ -2,10 +2,8 @@
 
 ghost use Rattle.std.specs.Prelude.{List, [], ◌∷◌, Option};
 ghost use Rattle.std.specs.Option.{option_copied};
-ghost use Rattle.dns_fields.specs.Fields.{Kind, Name as NameKind, Values};
-ghost use Rattle.dns_fields.specs.Labels.{DomainName};
-ghost use Rattle.dns_words.specs.Forms.{Row, name, word, ignored};
-ghost use Rattle.dns_words.specs.Reads.{ReadsRow};
+ghost use Rattle.dns_fields.specs.{Fields.Kind, Fields.Name as NameKind, Fields.Values, Labels.DomainName};
+ghost use Rattle.dns_words.specs.{Forms.Row, Forms.name, Forms.word, Forms.ignored, Reads.ReadsRow};
 
 use crate::reading::next_name;
 use dns_names_wire::{Name, ParseError};

@@ -1,10 +1,7 @@
 //! Words read from an iterator.
 
 ghost use Rattle.std.specs.Prelude.{FitsSigned, ◌≡◌, ◌≢◌, ◌⊎◌, [], Some, None, IfOk, IfErr};
-ghost use Rattle.std.specs.Option.{option_copied};
-ghost use Rattle.std.specs.Int.{cast_unsigned, w32};
-ghost use Rattle.std.specs.Iterator.{IsFinite};
-ghost use Rattle.std.specs.Net.Addr.{ipv4_octets, ipv6_octets};
+ghost use Rattle.std.specs.{Option.option_copied, Int.cast_unsigned, Int.w32, Iterator.IsFinite, Net.Addr.ipv4_octets, Net.Addr.ipv6_octets};
 ghost use Rattle.dns_types.specs.declared.error.ParseError.TheVariants as parse;
 ghost use Rattle.dns_words.specs.Forms.{number, ttl, name, base64, kept, kept_rest, ipv4, ipv6, nothing};
 ghost use Rattle.dns_words.specs.Refusals.{IsOfField};

@@ -1,9 +1,7 @@
 //! Values read from one word.
 
 ghost use Rattle.std.specs.Prelude.{◌≡◌, ◌⊎◌, IfErr};
-ghost use Rattle.std.specs.Int.{cast_unsigned, w32};
-ghost use Rattle.std.specs.Net.Addr.{ipv4_octets, ipv6_octets};
-ghost use Rattle.std.specs.Option.{option_copied};
+ghost use Rattle.std.specs.{Int.cast_unsigned, Int.w32, Net.Addr.ipv4_octets, Net.Addr.ipv6_octets, Option.option_copied};
 ghost use Rattle.dns_words.specs.Forms.{number, ttl, name, base64, kept, kept_rest, ipv4, ipv6};
 ghost use Rattle.dns_words.specs.Reads.{ReadsText};
 
@@ -99,8 +97,7 @@ const FEW: usize = 96;
 
 impl fmt::Display for Base64Text<'_> {
     ghost use Rattle.std.specs.Prelude.{Some};
-    ghost use Rattle.base64.specs.Engines.{standard};
-    ghost use Rattle.base64.specs.GeneralPurpose.{encode_of};
+    ghost use Rattle.base64.specs.{Engines.standard, GeneralPurpose.encode_of};
 
     ghost output = { λ t. Some (encode_of standard t.0.now) };
 

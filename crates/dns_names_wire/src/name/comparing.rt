@@ -1,14 +1,11 @@
 //! Names compared without the case of ASCII letters.
 
 ghost use Rattle.std.specs.Prelude.{◌≡◌, ◌↔◌, IsTrue, map};
-ghost use Rattle.std.specs.Char.{to_ascii_lowercase};
-ghost use Rattle.std.proofs.Common.{rules};
-ghost use Rattle.std.specs.Cmp.{partial_order_from_own_ties};
+ghost use Rattle.std.specs.{Char.to_ascii_lowercase, Cmp.partial_order_from_own_ties, Ordering.as_partial_cmp};
 ghost use Rattle.std.specs.Cmp.Rules.{comparing, hashing};
-ghost use Rattle.std.specs.Ordering.{as_partial_cmp};
+ghost use Rattle.std.proofs.Common.{rules};
 ghost use Rattle.dns_names_wire.specs.NameValues.{IsInZone};
-ghost use Rattle.dns_fields.specs.Labels.{lowname};
-ghost use Rattle.dns_fields.specs.Comparing.{name_cmp, name_eq, name_fed};
+ghost use Rattle.dns_fields.specs.{Labels.lowname, Comparing.name_cmp, Comparing.name_eq, Comparing.name_fed};
 
 use crate::name::Name;
 use crate::name::building::without_first;

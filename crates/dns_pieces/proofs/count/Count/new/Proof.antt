@@ -21,9 +21,8 @@ use denote.Triple.Entry.{on_entry}
 use denote.Triple.Spec.{Meets, triple_of}
 use denote.Triple.Table.{entered}
 use denote.Triple.Walked.{says, ends_at, walked, walk_Meets}
-use Rattle.dns_pieces.specs.declared.count.Count.{Count}
+use Rattle.dns_pieces.specs.{declared.count.Count.Count, contracts.count.Count.new.Key.name as #it}
 use Rattle.dns_pieces.specs.contracts.count.Count as T
-use Rattle.dns_pieces.specs.contracts.count.Count.new.Key.{name as #it}
 use Rattle.dns_pieces.specs.contracts.count.Count.new as it
 use Rattle.dns_pieces.proofs.count.Count.new.Statement as stated
 use Rattle.dns_pieces.proofs.count.Count.new.Code as code

@@ -25,9 +25,8 @@ use denote.Triple.Entry.{on_entry}
 use denote.Triple.Spec.{Meets, triple_of}
 use denote.Triple.Table.{entered}
 use denote.Triple.Walked.{says, Stays, stay_ref, walk_of, AllGo, Goes-ref, Walks, ends_at, walked, walk_Meets}
-use Rattle.dns_pieces.specs.declared.count.Count.{Count}
+use Rattle.dns_pieces.specs.{declared.count.Count.Count, contracts.count.Count.tick.Key.name as #it}
 use Rattle.dns_pieces.specs.contracts.count.Count as T
-use Rattle.dns_pieces.specs.contracts.count.Count.tick.Key.{name as #it}
 use Rattle.dns_pieces.specs.contracts.count.Count.tick as it
 use Rattle.dns_pieces.proofs.count.Count.tick.Statement as stated
 use Rattle.dns_pieces.proofs.count.Count.tick.Code as code

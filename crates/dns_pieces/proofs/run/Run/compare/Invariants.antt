@@ -1,6 +1,5 @@
 use Rattle.std.proofs.Common.{◌≡◌, length}
-use Rattle.std.specs.Ordering.{nat_cmp}
-use Rattle.std.specs.Cmp.Lexicographic.{slice_cmp}
+use Rattle.std.specs.{Ordering.nat_cmp, Cmp.Lexicographic.slice_cmp}
 use Rattle.dns_pieces.proofs.run.Run.compare.Given as goal
 
 abbrev pub decreases-octets : goal.decreases-octets

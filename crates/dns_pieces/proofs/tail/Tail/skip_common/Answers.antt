@@ -1,7 +1,7 @@
 use Rattle.std.proofs.Common.{◌≡◌, true, false}
 use Rattle.dns_pieces.proofs.Sharing.{names_share, rests_share, names_both, names_neither}
-use Rattle.dns_pieces.proofs.tail.Tail.skip_common.Goals as goal
 use Rattle.dns_pieces.proofs.tail.Tail.skip_common.Goals.{then-self, else-self}
+use Rattle.dns_pieces.proofs.tail.Tail.skip_common.Goals as goal
 
 pub returns-clause-shares : goal.returns-clause-shares
 returns-clause-shares c =

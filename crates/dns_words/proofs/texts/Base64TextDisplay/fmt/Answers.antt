@@ -1,6 +1,5 @@
 use Rattle.std.proofs.lemmas.Str.{IsUtf8-from_ascii}
-use Rattle.base64.specs.Engines.{standard}
-use Rattle.base64.specs.GeneralPurpose.{encode_of}
+use Rattle.base64.specs.{Engines.standard, GeneralPurpose.encode_of}
 use Rattle.base64.proofs.EngineFacts.{IsAscii-encode_of, encoded_prefix}
 use Rattle.dns_words.proofs.texts.Base64TextDisplay.fmt.Goals as goal
 

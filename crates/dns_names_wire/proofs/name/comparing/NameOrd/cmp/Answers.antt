@@ -1,6 +1,5 @@
 use Rattle.std.proofs.Common.{ap, ◌∙◌}
-use Rattle.std.specs.Ordering.{ordering_then, bool_cmp}
-use Rattle.std.specs.declared.cmp.Ordering.{Ordering}
+use Rattle.std.specs.{Ordering.ordering_then, Ordering.bool_cmp, declared.cmp.Ordering.Ordering}
 use Rattle.dns_labels.proofs.Lowered.{compared}
 use Rattle.dns_names_wire.proofs.name.comparing.NameOrd.cmp.Goals as goal
 
