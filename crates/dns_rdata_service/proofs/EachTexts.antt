@@ -16,7 +16,9 @@ split_texts None b t e = absurd (cc e)
 
 texts_assoc : (a b c : Option (List ℕ)) → a ++? (b ++? c) ≡ (a ++? b) ++? c
 texts_assoc (Some a) (Some b) (Some c) = ap Some (sym (append_assoc a b c))
-texts_assoc x y z = refl
+texts_assoc (Some a) (Some b) None = refl
+texts_assoc (Some a) None c = refl
+texts_assoc None b c = refl
 
 one_text : (a : Option (List ℕ)) → a ++? (Some (codes ",") ++? Some []) ≡ Some [] ++? (a ++? Some (codes ","))
 one_text (Some a) = refl

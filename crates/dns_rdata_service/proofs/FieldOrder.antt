@@ -19,8 +19,10 @@ use Rattle.dns_rdata_service.specs.declared.svcb.value.SvcParamValue.TheVariants
 
 pub cmp_view : {X Y : Type 0} (E : X → X → Ordering) (F : Y → Y → Ordering) (f : X → Y) → ((x y : X) → E x y ≡ F (f x) (f y)) → (xs ys : List X)
     → slice_cmp E xs ys ≡ slice_cmp F (map f xs) (map f ys)
+cmp_view E F f same [] [] = refl
+cmp_view E F f same [] (y ∷ ys) = refl
+cmp_view E F f same (x ∷ xs) [] = refl
 cmp_view E F f same (x ∷ xs) (y ∷ ys) = ap (λ o. ordering_then o (slice_cmp E xs ys)) (same x y) ∙ ap (ordering_then (F (f x) (f y))) (cmp_view E F f same xs ys)
-cmp_view E F f same x y = refl
 
 numbers_order : (j k : SvcParamKey) → numbered_cmp key_number key_variant j k ≡ slice_cmp nat_cmp (key_numbers j) (key_numbers k)
 numbers_order j k = ap (ordering_then (nat_cmp (key_number j) (key_number k))) (sym (then_equal (nat_cmp (key_variant j) (key_variant k))))
@@ -33,9 +35,16 @@ parameters_order ps qs = cmp_view parameter_order (λ x y. key_cmp (parameter_ke
     ∙ cmp_view (λ x y. key_cmp (parameter_key x) (parameter_key y)) key_cmp parameter_key (λ x y. refl) (map own_parameter ps) (map own_parameter qs)
 
 pub differ_order : (v w : SvcParamValue) → Differ v w → nat_cmp (value_place v) (value_place w) ≡ slice_cmp (slice_cmp nat_cmp) (value_key v) (value_key w)
+differ_order (variants.Mandatory x) (variants.Mandatory y) d = absurd d
+differ_order (variants.Alpn x) (variants.Alpn y) d = absurd d
+differ_order (variants.Port m) (variants.Port n) d = absurd d
+differ_order (variants.Ipv4Hint x) (variants.Ipv4Hint y) d = absurd d
+differ_order (variants.EchConfigList x) (variants.EchConfigList y) d = absurd d
+differ_order (variants.Ipv6Hint x) (variants.Ipv6Hint y) d = absurd d
+differ_order (variants.DohPath x) (variants.DohPath y) d = absurd d
+differ_order (variants.Unknown x) (variants.Unknown y) d = absurd d
 differ_order variants.NoDefaultAlpn variants.NoDefaultAlpn d = refl
 differ_order v w d = refl
-differ_order x y d = absurd d
 
 pub hints_order : {T : Type 0} (octets : T → List ℕ) (xs ys : List T) → slice_cmp (octets_order octets) xs ys ≡ slice_cmp (slice_cmp nat_cmp) (map octets xs) (map octets ys)
 hints_order octets xs ys = cmp_view (octets_order octets) (slice_cmp nat_cmp) octets (λ x y. refl) xs ys

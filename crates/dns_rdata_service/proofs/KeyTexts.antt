@@ -52,7 +52,15 @@ told text (Key n) is =
     other true f = absurd (f refl)
     other false f = refl
 told text (Unknown n) is = absurd is
-told text x is = ap key_from is
+told text Mandatory is = ap key_from is
+told text Alpn is = ap key_from is
+told text NoDefaultAlpn is = ap key_from is
+told text Port is = ap key_from is
+told text Ipv4Hint is = ap key_from is
+told text EchConfigList is = ap key_from is
+told text Ipv6Hint is = ap key_from is
+told text DohPath is = ap key_from is
+told text Key65535 is = ap key_from is
 
 pub key_one : (text : List ℕ) (a b : SvcParamKey) → IsKeyText text a → IsKeyText text b → a ≡ b
 key_one text a b x y = sym (told text a x) ∙ told text b y

@@ -14,9 +14,15 @@ firsts (k ∷ ks) = ap (λ l. key_number k ∷ l) (firsts ks)
 
 pub value_given : (v w : SvcParamValue) → value_key v ≡ value_key w → value_of v ≡ value_of w
 value_given (variants.Mandatory x) (variants.Mandatory y) h = ap Mandatory (sym (firsts x.0) ∙ ap (λ l. map (λ s. get_or s 0 0) (drop 1 l)) h ∙ firsts y.0)
+value_given (variants.Alpn x) (variants.Alpn y) h = cc h
 value_given variants.NoDefaultAlpn variants.NoDefaultAlpn h = refl
+value_given (variants.Port m) (variants.Port n) h = cc h
+value_given (variants.Ipv4Hint x) (variants.Ipv4Hint y) h = cc h
+value_given (variants.EchConfigList x) (variants.EchConfigList y) h = cc h
+value_given (variants.Ipv6Hint x) (variants.Ipv6Hint y) h = cc h
+value_given (variants.DohPath x) (variants.DohPath y) h = cc h
+value_given (variants.Unknown x) (variants.Unknown y) h = cc h
 value_given v w h = absurd (cc h)
-value_given x y h = cc h
 
 pub own_fields : (ps qs : List Parameter) → map own_parameter ps ≡ map own_parameter qs → map parameter_of ps ≡ map parameter_of qs
 own_fields [] [] h = refl

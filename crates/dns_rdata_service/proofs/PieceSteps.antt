@@ -44,9 +44,11 @@ key_gives keys i d s h e = rw (map-map (bytes_high_first 2) key_number keys) (it
 pub value_parts : (v : ParameterValue) → parameter_octets v ≡ value_front v ++ flat_map (λ s. s) (value_items v)
 value_parts (Mandatory keys) = sym (flat_map_all (bytes_high_first 2) keys)
 value_parts (Alpn names) = sym (flat_map_all string names)
+value_parts NoDefaultAlpn = refl
 value_parts (Port n) = sym (append-nil (bytes_high_first 2 n))
+value_parts (Ipv4Hint addresses) = refl
+value_parts (Ipv6Hint addresses) = refl
 value_parts (Opaque s) = sym (append-nil s)
-value_parts x = refl
 
 pub fits_at : (ps : List Parameter) (i : ℕ) (p : Parameter) → are_emittable ps → i < length ps → p ≡ get_or ps i p → fits_value (value_of p.1) ≡ true
 fits_at ps i p a h e =

@@ -49,10 +49,12 @@ opaque_value false false s = refl
 
 value_again : (n : ℕ) (v : ParameterValue) → value_from n v ≡ value_from n (value_of (value_from n v))
 value_again n (Mandatory ks) = ap (λ (l : List ℕ). variants.Mandatory (record { 0 = map key_of l })) (numbers_back ks)
+value_again n (Alpn names) = refl
+value_again n NoDefaultAlpn = refl
+value_again n (Port p) = refl
 value_again n (Ipv4Hint ss) = ap (λ (l : List (List ℕ)). variants.Ipv4Hint (record { 0 = map a_of l })) (groups_back ss)
 value_again n (Ipv6Hint ss) = ap (λ as'. variants.Ipv6Hint (record { 0 = as' })) (aaaa_list_back (map aaaa_of ss))
 value_again n (Opaque s) = ap (value_from n) (sym (opaque_value (n == 5) (n == 7) s))
-value_again n x = refl
 
 parameter_again : (x : Numbered ParameterValue) → parameter_from x ≡ parameter_from (parameter_of (parameter_from x))
 parameter_again x =
@@ -80,10 +82,12 @@ wide_back (s ∷ ss) h = ap (λ t. t ∷ map aaaa_octets (map aaaa_of ss)) (octe
 
 value_back : (n : ℕ) (v : ParameterValue) → IsWide v → value_of (value_from n v) ≡ v
 value_back n (Mandatory ks) h = ap Mandatory (sym (numbers_back ks))
+value_back n (Alpn names) h = refl
+value_back n NoDefaultAlpn h = refl
+value_back n (Port p) h = refl
 value_back n (Ipv4Hint ss) h = ap Ipv4Hint (sym (groups_back ss))
 value_back n (Ipv6Hint ss) h = ap Ipv6Hint (wide_back ss h)
 value_back n (Opaque s) h = opaque_value (n == 5) (n == 7) s
-value_back n x h = refl
 
 parameters_back : (v : List (Numbered ParameterValue)) → AllByRecursion (λ x. IsWide x.1) v → map parameter_of (map parameter_from v) ≡ v
 parameters_back [] h = refl
@@ -99,7 +103,12 @@ groups_wide (s ∷ ss) h a = ((h.0, AreOctets-front s (flat_map (λ x. x) ss) a)
 
 held_wide : (k : ℕ) (body : List ℕ) (v : ParameterValue) → ParameterHeld k body v → AreOctets body → IsWide v
 held_wide k body (Ipv6Hint ss) h a = groups_wide ss h.1 (AreOctets-same body (flat_map (λ s. s) ss) h.2 a)
-held_wide k body x h a = tt
+held_wide k body (Mandatory ks) h a = tt
+held_wide k body (Alpn names) h a = tt
+held_wide k body NoDefaultAlpn h a = tt
+held_wide k body (Port p) h a = tt
+held_wide k body (Ipv4Hint ss) h a = tt
+held_wide k body (Opaque s) h a = tt
 
 all_wide : (read : List (Numbered (List ℕ))) (v : List (Numbered ParameterValue)) → AllHeld ParameterHeld read v → AreOctets (pieces read)
     → AllByRecursion (λ x. IsWide x.1) v
