@@ -69,6 +69,4 @@ long_tag x (Err (proto.Message t)) old new h = λ m. past (nat_lt 255 (length x.
   past : (b : Bool) → nat_lt 255 (length x.tag) ≡ b → 255 < length x.tag
   past true e = ltb-true 255 (length x.tag) e
   past false e = let f = rw (not_long (length x.tag) e) at h.why.unfit in absurd (cc f)
-long_tag x (Err proto.Memory) old new h = λ m. absurd m
-long_tag x (Err proto.MaxBufferSizeExceeded) old new h = λ m. absurd m
-long_tag x (Err (proto.Decode d)) old new h = λ m. absurd m
+long_tag x y old new h = λ m. absurd m

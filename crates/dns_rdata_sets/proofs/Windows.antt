@@ -23,15 +23,9 @@ use mir.Syntax.{w8, w64}
 
 -- octet k of eight, the highest first
 bytes_at : (w k : ℕ) → k < 8 → get_or (bytes_high_first 8 w) k 0 ≡ w / 2 ^ (8 * (7 - k)) % 2 ^ 8
-bytes_at w zero h = refl
-bytes_at w (suc zero) h = refl
-bytes_at w (suc (suc zero)) h = refl
-bytes_at w (suc (suc (suc zero))) h = refl
-bytes_at w (suc (suc (suc (suc zero)))) h = refl
-bytes_at w (suc (suc (suc (suc (suc zero))))) h = refl
-bytes_at w (suc (suc (suc (suc (suc (suc zero)))))) h = refl
 bytes_at w (suc (suc (suc (suc (suc (suc (suc zero))))))) h = omega arith
 bytes_at w (suc (suc (suc (suc (suc (suc (suc (suc k)))))))) h = absurd (omega arith)
+bytes_at w x h = refl
 
 octet_bit : (w a j : ℕ) → j < 8 → bit_at (w / 2 ^ a % 2 ^ 8) j ≡ bit_at w (a + j)
 octet_bit w a j h =

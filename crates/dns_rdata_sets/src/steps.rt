@@ -69,10 +69,11 @@ fn window_step<'a>(
     if part >= numbers.len() {
         return None;
     }
-    let window = next_window(numbers.split_at(part).1, passes);
+    let mut octets = [0; 32];
+    let window = next_window(numbers.split_at(part).1, &mut octets, passes);
     head.one(window.number);
     head.one(window.len as u8);
-    head.octets(&window.octets[..window.len]);
+    head.octets(&octets[..window.len]);
     Some(Step {
         tail: Tail::none(),
         step: 1,
@@ -83,18 +84,18 @@ fn window_step<'a>(
 
 // The one function that runs over a set of types, and counts that.
 #[inline]
-fn next_window(numbers: &[u16], passes: &mut Count) -> Window
+fn next_window(numbers: &[u16], octets: &mut [u8; 32], passes: &mut Count) -> Window
     requires some { 0 < length numbers.now }
     requires set { IsTypeSet numbers.now }
     ensures pass { passes.new.n ≡ passes.old.n + 1 }
     ensures number { result.number < 256 }
-    ensures room { length result.octets ≡ 32 }
+    ensures room { length octets.new ≡ 32 }
     ensures len { result.len ≤ 32 }
-    ensures next { minimal numbers.now ≡ (result.number, take result.len result.octets) ∷ minimal (drop result.count numbers.now) }
+    ensures next { minimal numbers.now ≡ (result.number, take result.len octets.new) ∷ minimal (drop result.count numbers.now) }
     ensures count { (0 < result.count) × (result.count ≤ length numbers.now) }
 {
     passes.tick();
-    first_window(numbers)
+    first_window(numbers, octets)
 }
 
 /// Whether the tag has at most 255 octets.

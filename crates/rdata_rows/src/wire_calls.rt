@@ -12,27 +12,10 @@ mod words;
 mod zone_texts;
 
 use anyhow::{Result, bail};
-use replay::Interpreter;
 use std::alloc::Global;
 
-/// The calls.
-pub struct WireCalls;
-
-impl Interpreter for WireCalls {
-    fn difference(&self, alloc: Global, fields: &[String]) -> Result<Option<String>> {
-        let [command, wanted, words @ ..] = fields else {
-            bail!("a command or an answer is missing");
-        };
-        let came = answer(alloc, command.as_str(), words)?;
-        if came.as_str() == wanted.as_str() {
-            return Ok(None);
-        }
-        Ok(Some(came))
-    }
-}
-
-// What a command with its words answers.
-fn answer(alloc: Global, command: &str, words: &[String]) -> Result<String> {
+/// What a command with its words answers.
+pub fn answer(alloc: Global, command: &str, words: &[String]) -> Result<String> {
     match command {
         "write" => labels::write(alloc, words),
         "name" => names::steps(alloc, words),

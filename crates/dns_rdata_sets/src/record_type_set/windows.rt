@@ -6,11 +6,10 @@ ghost use Rattle.dns_fields.specs.Bitmaps.{IsTypeSet, minimal};
 use crate::record_type_set::RecordTypeSet;
 use crate::record_type_set::writing::{as_octets, mark_window, run_len};
 
-/// A window of numbers: its number, its octets with zeros at the end, how many of these count, and how many numbers it has.
+/// A window of numbers: its number, how many of its 32 octets count, and how many numbers it has.
 #[derive(Drop)]
 pub struct Window {
     pub number: u8,
-    pub octets: [u8; 32],
     pub len: usize,
     pub count: usize,
 }
@@ -26,25 +25,23 @@ impl RecordTypeSet {
     }
 }
 
-/// The first window of numbers that rise, by one pass over them.
-pub fn first_window(numbers: &[u16]) -> Window
+/// The first window of numbers that rise, by one pass over them. Its octets, and zeros behind them, come to stand in place of
+/// the 32 that are given.
+#[inline]
+pub fn first_window(numbers: &[u16], octets: &mut [u8; 32]) -> Window
     requires some { 0 < length numbers.now }
     requires set { IsTypeSet numbers.now }
     ensures len { result.len ≤ 32 }
-    ensures next { minimal numbers.now ≡ (result.number, take result.len result.octets) ∷ minimal (drop result.count numbers.now) }
+    ensures next { minimal numbers.now ≡ (result.number, take result.len octets.new) ∷ minimal (drop result.count numbers.now) }
     ensures count { (0 < result.count) × (result.count ≤ length numbers.now) }
 {
     let count = run_len(numbers);
     let run = &numbers[..count];
-    let mut octets = [0u8; 32];
-    mark_window(&mut octets, run);
-    let _octets = as_octets(&octets);
-    let number = (run[0] / 256) as u8;
-    let len = run[run.len() - 1] as usize % 256 / 8 + 1;
+    mark_window(octets, run);
+    let _octets = as_octets(octets);
     Window {
-        number,
-        octets,
-        len,
+        number: (run[0] / 256) as u8,
+        len: run[run.len() - 1] as usize % 256 / 8 + 1,
         count,
     }
 }

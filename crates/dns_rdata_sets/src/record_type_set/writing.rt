@@ -19,9 +19,10 @@ pub(super) fn emit_blocks(encoder: &mut BinEncoder<'_>, numbers: &[u16]) -> Resu
 {
     let mut rest = numbers;
     while rest.len() > 0 {
-        let window = first_window(rest);
+        let mut octets = [0; 32];
+        let window = first_window(rest, &mut octets);
         let head = [window.number, window.len as u8];
-        encoder.emit_both(&head, &window.octets[..window.len])?;
+        encoder.emit_both(&head, &octets[..window.len])?;
         rest = rest.split_at(window.count).1;
     }
     Ok(())

@@ -1,8 +1,9 @@
 //! Lists as their users go over them.
 
+use crate::shared::{emitted, emitted_digits};
 use anyhow::Result;
 use dns_rdata::svcb::SvcParamKey;
-use dns_rdata::{BinEncodable, BinEncoder, Octets, ProtoError, SVCB, SmallOctets, Strings};
+use dns_rdata::{Octets, SVCB, SmallOctets, Strings};
 use replay::octets;
 use std::alloc::{AllocError, Global};
 
@@ -53,19 +54,12 @@ pub fn strings(alloc: Global, text: &str) -> Result<String> {
     Ok(format!(in alloc; "{lengths} {third}")?)
 }
 
-fn emitted(alloc: Global, service: &SVCB) -> Result<Vec<u8>, ProtoError> {
-    let mut octets = Vec::new(alloc);
-    service.emit(&mut BinEncoder::new(alloc, &mut octets))?;
-    Ok(octets)
-}
-
 /// Whether the service of these words is emitted, and its octets once its parameters are sorted.
 pub fn sorted(alloc: Global, words: &str) -> Result<String> {
     let mut service = SVCB::from_tokens(alloc, words.split(' '))?;
     let early = emitted(alloc, &service).is_ok();
     service.sort_params();
-    let octets = emitted(alloc, &service)?;
-    let digits = hex::encode(alloc, octets.as_slice())?;
+    let digits = emitted_digits(alloc, &service)?;
     Ok(format!(in alloc; "{early} {digits}")?)
 }
 

@@ -1,39 +1,12 @@
 //! Issuers, synchronized types, and sets of types.
 
-use anyhow::{Context, Result};
+use crate::shared::{emitted_digits, fed, issuer, record, types};
+use anyhow::Result;
 use dns_rdata::caa::{CAA, KeyValue, read_iodef, read_issuer};
-use dns_rdata::{
-    BinDecoder, BinEncodable, BinEncoder, CSYNC, DecodeError, Name, ProtoError, RData,
-    RecordDataDecodable, RecordType, RecordTypeSet, Restrict,
-};
+use dns_rdata::{BinDecoder, CSYNC, DecodeError, Name, ProtoError, RData, RecordTypeSet, Restrict};
 use held_data::Held;
 use replay::octets;
 use std::alloc::{AllocError, Global};
-use std::hash::{DefaultHasher, Hash, Hasher};
-
-// The pair of a text `KEY=VALUE`.
-fn pair(alloc: Global, text: &str) -> Result<KeyValue> {
-    let (key, value) = text.split_once('=').context("a value")?;
-    Ok(KeyValue::new(
-        String::from_str(alloc, key)?,
-        String::from_str(alloc, value)?,
-    ))
-}
-
-// The name and the pairs of a text `NAME;PAIR;PAIR ..`, where a dash is no name.
-fn issuer(alloc: Global, text: &str) -> Result<(Option<Name>, Vec<KeyValue>)> {
-    let mut pairs = Vec::new(alloc);
-    for text in text.split(';').skip(1) {
-        pairs.push(pair(alloc, text)?)?;
-    }
-    let name = text.split(';').next().unwrap_or("-");
-    let name = if name == "-" {
-        None
-    } else {
-        Some(Name::from_ascii(alloc, name)?)
-    };
-    Ok((name, pairs))
-}
 
 /// An issuer, critical, or one of wildcards, not critical.
 pub fn issue(alloc: Global, kind: &str, text: &str) -> Result<Held> {
@@ -76,21 +49,13 @@ pub fn url_of(alloc: Global, digits: &str) -> Result<String> {
     Ok(String::from_str(alloc, read_iodef(octets.as_slice()).unwrap_or("refused"))?)
 }
 
-// The issuer whose octets these are.
-fn record(alloc: Global, digits: &str) -> Result<CAA> {
-    let octets = octets(alloc, digits)?;
-    let length = octets.len().min(65535) as u16;
-    let mut decoder = BinDecoder::new(alloc, octets.as_slice());
-    Ok(CAA::read_data(&mut decoder, Restrict::new(length))?)
-}
-
 /// The issuer of a record that is set to another one, which stays where a URL is refused; and the record's octets.
 pub fn set_issuer(alloc: Global, digits: &str, text: &str) -> Result<String> {
-    let mut value = record(alloc, digits)?;
+    let mut value = record::<CAA>(alloc, octets(alloc, digits)?.as_slice())?;
     let (name, pairs) = issuer(alloc, text)?;
     value.set_issuer_value(name.as_ref(), pairs.as_slice())?;
     let refused = value.set_iodef_value("x").is_err() && value.value_as_iodef().is_err();
-    let mut shown = emitted(alloc, &value)?;
+    let mut shown = emitted_digits(alloc, &value)?;
     write!(shown, " {refused} ")?;
     let (name, pairs) = value.value_as_issue()?;
     show(&name, pairs.as_slice(), &mut shown)?;
@@ -100,31 +65,11 @@ pub fn set_issuer(alloc: Global, digits: &str, text: &str) -> Result<String> {
 /// The URL of a record that is set to another one, which stays where an issuer is refused, and whether the record is one
 /// that is made of it.
 pub fn set_url(alloc: Global, digits: &str, url: &str) -> Result<String> {
-    let mut value = record(alloc, digits)?;
+    let mut value = record::<CAA>(alloc, octets(alloc, digits)?.as_slice())?;
     value.set_iodef_value(url)?;
     let refused = value.set_issuer_value(None, &[]).is_err() && value.value_as_issue().is_err();
     let made = CAA::new_iodef(false, String::from_str(alloc, url)?)? == value;
     Ok(format!(in alloc; "{} {refused} {made}", value.value_as_iodef()?)?)
-}
-
-// The octets that a value appends to an encoder without any, as digits.
-fn emitted<T: BinEncodable>(alloc: Global, value: &T) -> Result<String> {
-    let mut octets = Vec::new(alloc);
-    let mut encoder = BinEncoder::new(alloc, &mut octets);
-    value.emit(&mut encoder)?;
-    encoder.into_bytes();
-    Ok(hex::encode(alloc, octets.as_slice())?)
-}
-
-// The types of numbers with a comma between each two. A dash is none.
-fn types(alloc: Global, text: &str) -> Result<Vec<RecordType>> {
-    let mut all = Vec::new(alloc);
-    if text != "-" {
-        for number in text.split(',') {
-            all.push(RecordType::from(number.parse::<u16>()?))?;
-        }
-    }
-    Ok(all)
 }
 
 /// Synchronized types of serial 123, at once and with a least serial.
@@ -139,16 +84,15 @@ fn set_of(alloc: Global, text: &str) -> Result<RecordTypeSet> {
 }
 
 fn set_of_octets(alloc: Global, octets: &[u8]) -> Result<RecordTypeSet, DecodeError> {
-    let mut decoder = BinDecoder::new(alloc, octets);
     let length = octets.len().min(65535) as u16;
-    RecordTypeSet::read_data(&mut decoder, Restrict::new(length))
+    RecordTypeSet::read_data(&mut BinDecoder::new(alloc, octets), Restrict::new(length))
 }
 
 /// The octets of the set of types, whether they are read as an equal one and a copy is equal, how many types there are,
 /// and these.
 pub fn set(alloc: Global, text: &str) -> Result<String> {
     let set = set_of(alloc, text)?;
-    let mut shown = emitted(alloc, &set)?;
+    let mut shown = emitted_digits(alloc, &set)?;
     let octets = octets(alloc, shown.as_str())?;
     let read = set_of_octets(alloc, octets.as_slice())?;
     let kept = read == set && set.clone()? == read;
@@ -161,14 +105,8 @@ pub fn set(alloc: Global, text: &str) -> Result<String> {
 
 /// The octets that a set is emitted as which is read from other ones.
 pub fn shortest(alloc: Global, digits: &str) -> Result<String> {
-    let octets = octets(alloc, digits)?;
-    emitted(alloc, &set_of_octets(alloc, octets.as_slice())?)
-}
-
-fn fed(value: &RecordTypeSet) -> u64 {
-    let mut state = DefaultHasher::new();
-    value.hash(&mut state);
-    state.finish()
+    let set = set_of_octets(alloc, octets(alloc, digits)?.as_slice())?;
+    emitted_digits(alloc, &set)
 }
 
 /// Whether two sets are equal, and whether they feed a hasher the same.

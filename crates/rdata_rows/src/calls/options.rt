@@ -1,24 +1,18 @@
 //! Options of OPT.
 
+use crate::shared::{emitted_digits, record};
 use anyhow::{Context, Result};
+use dns_rdata::ProtoError;
 use dns_rdata::opt::{ClientSubnet, EdnsCode, EdnsOption, IpNet, NSIDPayload, OPT};
-use dns_rdata::{BinDecoder, BinEncodable, BinEncoder, ProtoError, RecordDataDecodable, Restrict};
 use dns_rdata_options::order::opt_order;
 use dns_rdata_options::steps::opt_is_emittable;
 use replay::octets;
 use std::alloc::Global;
 use std::net::IpAddr;
 
-fn record(alloc: Global, digits: &str) -> Result<OPT> {
-    let octets = octets(alloc, digits)?;
-    let length = octets.len().min(65535) as u16;
-    let mut decoder = BinDecoder::new(alloc, octets.as_slice());
-    Ok(OPT::read_data(&mut decoder, Restrict::new(length))?)
-}
-
 /// How many options a record has, how many of them are cookies, and whether it gives a cookie and padding.
 pub fn options(alloc: Global, digits: &str) -> Result<String> {
-    let opt = record(alloc, digits)?;
+    let opt = record::<OPT>(alloc, octets(alloc, digits)?.as_slice())?;
     let (count, cookies) = (opt.as_ref().len(), opt.get_all(EdnsCode::Cookie)?.len());
     let cookie = opt.get(EdnsCode::Cookie).is_some();
     let padding = opt.get(EdnsCode::Padding).is_some();
@@ -27,23 +21,14 @@ pub fn options(alloc: Global, digits: &str) -> Result<String> {
 
 /// How the records of these octets are ordered, where that is told without a cursor.
 pub fn order(alloc: Global, left: &str, right: &str) -> Result<String> {
-    let left = record(alloc, left)?;
-    let right = record(alloc, right)?;
+    let left = record::<OPT>(alloc, octets(alloc, left)?.as_slice())?;
+    let right = record::<OPT>(alloc, octets(alloc, right)?.as_slice())?;
     anyhow::ensure!(
         opt_is_emittable(&left) && opt_is_emittable(&right),
         "not emitted"
     );
     let order = opt_order(&left, &right);
     Ok(format!(in alloc; "{order:?}")?)
-}
-
-// The octets of options, as digits.
-fn emitted(alloc: Global, opt: &OPT) -> Result<String> {
-    let mut octets = Vec::new(alloc);
-    let mut encoder = BinEncoder::new(alloc, &mut octets);
-    opt.emit(&mut encoder)?;
-    encoder.into_bytes();
-    Ok(hex::encode(alloc, octets.as_slice())?)
 }
 
 // A cookie, and the name of a server.
@@ -57,10 +42,10 @@ fn inserted(alloc: Global) -> Result<OPT, ProtoError> {
 /// The octets of a cookie of octet 5 and of the name c0ffee of a server, and those without the cookie.
 pub fn insert(alloc: Global) -> Result<String> {
     let mut opt = inserted(alloc)?;
-    let mut shown = emitted(alloc, &opt)?;
+    let mut shown = emitted_digits(alloc, &opt)?;
     opt.remove(EdnsCode::Cookie);
     shown.push(' ')?;
-    shown.push_str(emitted(alloc, &opt)?.as_str())?;
+    shown.push_str(emitted_digits(alloc, &opt)?.as_str())?;
     Ok(shown)
 }
 

@@ -2,29 +2,23 @@
 
 ghost use Rattle.std.specs.Prelude.{◌<◌};
 
+use crate::shared::{emitted, emitted_digits, record};
 use anyhow::{Result, bail};
 use dns_rdata::svcb::{
     Alpn, DohPath, EchConfigList, IpHint, Mandatory, SvcParamKey, SvcParamValue, Unknown,
 };
 use dns_rdata::{
-    A, AAAA, BinDecodable, BinDecoder, BinEncodable, BinEncoder, DecodeError, RecordDataDecodable,
-    Restrict, SVCB, TakesOctet, WordList,
+    A, AAAA, BinDecodable, BinDecoder, BinEncodable, DecodeError, SVCB, TakesOctet, WordList,
 };
 use dns_rdata_service::order::svcb_front;
 use replay::octets;
 use std::alloc::{AllocError, Global};
 use std::fmt;
 
-fn record(alloc: Global, octets: &[u8]) -> Result<SVCB, DecodeError> {
-    let length = octets.len().min(65535) as u16;
-    let mut decoder = BinDecoder::new(alloc, octets);
-    SVCB::read_data(&mut decoder, Restrict::new(length))
-}
-
 /// How two records are ordered at their front, and how many parameters are alike.
 pub fn front(alloc: Global, left: &str, right: &str) -> Result<String> {
-    let left = record(alloc, octets(alloc, left)?.as_slice())?;
-    let right = record(alloc, octets(alloc, right)?.as_slice())?;
+    let left = record::<SVCB>(alloc, octets(alloc, left)?.as_slice())?;
+    let right = record::<SVCB>(alloc, octets(alloc, right)?.as_slice())?;
     let (order, alike) = svcb_front(&left, &right);
     Ok(format!(in alloc; "{order:?} {alike}")?)
 }
@@ -45,17 +39,8 @@ fn many(alloc: Global, count: u16) -> Result<Vec<u8>, AllocError>
 /// How many parameters a record of so many has.
 pub fn keys(alloc: Global, count: &str) -> Result<String> {
     let octets = many(alloc, count.parse::<u16>()?.min(15999))?;
-    let count = record(alloc, octets.as_slice())?.svc_params.len();
+    let count = record::<SVCB>(alloc, octets.as_slice())?.svc_params.len();
     Ok(format!(in alloc; "{count}")?)
-}
-
-// The octets that a value appends to an encoder without any.
-fn emitted<T: BinEncodable>(alloc: Global, value: &T) -> Result<Vec<u8>> {
-    let mut octets = Vec::new(alloc);
-    let mut encoder = BinEncoder::new(alloc, &mut octets);
-    value.emit(&mut encoder)?;
-    encoder.into_bytes();
-    Ok(octets)
 }
 
 // The text of the value that octets are read as to their end, and whether it is emitted as them.
@@ -138,8 +123,8 @@ fn protocols_of(alloc: Global, text: &str) -> Result<Alpn, AllocError> {
 /// The octets of protocols, or that they are refused.
 pub fn protocols(alloc: Global, text: &str) -> Result<String> {
     let alpn = protocols_of(alloc, text)?;
-    match emitted(alloc, &alpn) {
-        Ok(octets) => Ok(hex::encode(alloc, octets.as_slice())?),
+    match emitted_digits(alloc, &alpn) {
+        Ok(digits) => Ok(digits),
         Err(_) => Ok(String::from_str(alloc, "refused")?),
     }
 }

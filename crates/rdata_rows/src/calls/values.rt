@@ -1,13 +1,14 @@
 //! Values that words of the lines say, each `KIND:TEXT`, and what is told of one or of two.
 
 use super::made;
+use crate::shared;
+use crate::shared::fed;
 use anyhow::Result;
-use dns_rdata::{BinEncodable, BinEncoder, ProtoError, RData, RecordData};
+use dns_rdata::{RData, RecordData};
 use held_data::{Held, record_type};
 use replay::{octets, parts};
 use std::alloc::{AllocError, Global};
 use std::cmp::Ordering;
-use std::hash::{DefaultHasher, Hash, Hasher};
 
 // The value whose data is a whole message, `TYPE:OCTETS`.
 fn read(alloc: Global, text: &str) -> Result<Held> {
@@ -47,15 +48,6 @@ pub fn value(alloc: Global, word: &str) -> Result<Held> {
     }
 }
 
-// The octets that a value appends to an encoder without any.
-fn emitted_octets(alloc: Global, value: &RData) -> Result<Vec<u8>, ProtoError> {
-    let mut octets = Vec::new(alloc);
-    let mut encoder = BinEncoder::new(alloc, &mut octets);
-    value.emit(&mut encoder)?;
-    encoder.into_bytes();
-    Ok(octets)
-}
-
 // Whether these octets are read as an equal value, and a copy is equal.
 fn is_kept(alloc: Global, value: &Held, octets: &[u8]) -> Result<bool, AllocError> {
     let copy = value.copy()?;
@@ -68,7 +60,7 @@ fn is_kept(alloc: Global, value: &Held, octets: &[u8]) -> Result<bool, AllocErro
 /// The octets that a value is emitted as, and whether they are read as an equal value, and a copy is equal.
 pub fn emitted(alloc: Global, word: &str) -> Result<String> {
     let value = value(alloc, word)?;
-    let octets = emitted_octets(alloc, &value.0)?;
+    let octets = shared::emitted(alloc, &value.0)?;
     let kept = is_kept(alloc, &value, octets.as_slice())?;
     let digits = hex::encode(alloc, octets.as_slice())?;
     Ok(format!(in alloc; "{digits} {kept}")?)
@@ -91,12 +83,6 @@ pub fn told(alloc: Global, word: &str) -> Result<String> {
         value.0.is_update(),
     );
     Ok(format!(in alloc; "{kind} {address:?} {is_update}")?)
-}
-
-fn fed(value: &RData) -> u64 {
-    let mut state = DefaultHasher::new();
-    value.hash(&mut state);
-    state.finish()
 }
 
 /// The order of two values, whether they are equal, and whether they feed a hasher the same.

@@ -2,13 +2,13 @@
 
 use crate::marked::Marks;
 use crate::marked::given::value;
+use crate::shared::fed;
 use anyhow::Result;
 use dns_rdata::opt::EdnsCode;
 use dns_rdata::svcb::SvcParamKey;
 use dns_rdata::{A, HTTPS, MX, RData, RecordData, RecordType, SVCB};
 use std::alloc::AllocError;
 use std::cmp::Ordering;
-use std::hash::{DefaultHasher, Hash, Hasher};
 use std::net::IpAddr;
 
 // What is answered without memory.
@@ -20,12 +20,6 @@ enum Answer {
     Kind(RecordType),
     Address(Option<IpAddr>),
     Nothing,
-}
-
-fn fed(value: &RData) -> u64 {
-    let mut state = DefaultHasher::new();
-    value.hash(&mut state);
-    state.finish()
 }
 
 // The order of two values by their cursors.

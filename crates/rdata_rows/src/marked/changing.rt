@@ -1,7 +1,8 @@
 //! Records that are changed, and what stands behind a call.
 
 use crate::marked::Marks;
-use crate::marked::given::{issuer, record};
+use crate::marked::given::record;
+use crate::shared::issuer;
 use anyhow::Result;
 use dns_rdata::caa::{CAA, KeyValue, read_iodef};
 use dns_rdata::opt::{ClientSubnet, EdnsCode, EdnsOption, IpNet, OPT};

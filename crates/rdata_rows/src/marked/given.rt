@@ -1,8 +1,8 @@
 //! What words of the lines give before a call.
 
+use crate::shared;
 use anyhow::{Context, Result};
-use dns_rdata::caa::KeyValue;
-use dns_rdata::{BinDecoder, Name, RecordDataDecodable, RecordType, Restrict};
+use dns_rdata::{BinDecoder, RecordDataDecodable, RecordType};
 use held_data::{Held, record_type};
 use std::alloc::Global;
 
@@ -40,32 +40,5 @@ pub fn value(alloc: Global, text: &str) -> Result<Held> {
 
 /// The record whose octets these are.
 pub fn record<T: RecordDataDecodable>(alloc: Global, digits: &str) -> Result<T> {
-    let octets = hex::decode(alloc, digits)?;
-    let length = octets.len().min(65535) as u16;
-    let mut decoder = BinDecoder::new(alloc, octets.as_slice());
-    Ok(T::read_data(&mut decoder, Restrict::new(length))?)
-}
-
-// The pair of a text `KEY=VALUE`.
-fn pair(alloc: Global, text: &str) -> Result<KeyValue> {
-    let (key, value) = text.split_once('=').context("a value")?;
-    Ok(KeyValue::new(
-        String::from_str(alloc, key)?,
-        String::from_str(alloc, value)?,
-    ))
-}
-
-/// The name and the pairs of a text `NAME;PAIR;PAIR ..`, where a dash is no name.
-pub fn issuer(alloc: Global, text: &str) -> Result<(Option<Name>, Vec<KeyValue>)> {
-    let mut pairs = Vec::new(alloc);
-    for text in text.split(';').skip(1) {
-        pairs.push(pair(alloc, text)?)?;
-    }
-    let name = text.split(';').next().unwrap_or("-");
-    let name = if name == "-" {
-        None
-    } else {
-        Some(Name::from_ascii(alloc, name)?)
-    };
-    Ok((name, pairs))
+    Ok(shared::record::<T>(alloc, hex::decode(alloc, digits)?.as_slice())?)
 }

@@ -1,7 +1,8 @@
 //! Values, texts and octets that calls make.
 
 use crate::marked::Marks;
-use crate::marked::given::{issuer as issuer_of, read_given, value as value_of};
+use crate::marked::given::{read_given, value as value_of};
+use crate::shared;
 use anyhow::Result;
 use dns_rdata::caa::CAA;
 use dns_rdata::opt::{ClientSubnet, EdnsCode, EdnsOption, NSIDPayload};
@@ -114,7 +115,7 @@ pub fn octets(marks: &Marks<'_>, call: &str, digits: &str) -> Result<String> {
 
 /// An issuer of a name and pairs.
 pub fn issuer(marks: &Marks<'_>, call: &str, text: &str) -> Result<String> {
-    let (name, pairs) = issuer_of(marks.alloc(), text)?;
+    let (name, pairs) = shared::issuer(marks.alloc(), text)?;
     marks.begin()?;
     let made = match call {
         "new_issue" => CAA::new_issue(true, name, pairs),
@@ -135,10 +136,7 @@ pub fn location(marks: &Marks<'_>, text: &str) -> Result<String> {
 
 /// Types that are synchronized, with a comma between each two.
 pub fn types(marks: &Marks<'_>, text: &str) -> Result<String> {
-    let mut types = Vec::new(marks.alloc());
-    for number in text.split(',') {
-        types.push(RecordType::from(number.parse::<u16>()?))?;
-    }
+    let types = shared::types(marks.alloc(), text)?;
     marks.begin()?;
     let made = CSYNC::new(marks.alloc(), 123, true, true, types.into_iter());
     marks.end()?;

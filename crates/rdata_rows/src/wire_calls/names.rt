@@ -1,10 +1,10 @@
 //! Names as values.
 
+use crate::shared::fed;
 use anyhow::{Result, bail};
 use dns_names_wire::{Name, ProtoError, ProtoResult};
 use replay::{octets, parts};
 use std::alloc::{AllocError, Global};
-use std::hash::{DefaultHasher, Hash, Hasher};
 
 // The name of labels with a comma between each two.
 fn joined(alloc: Global, text: &str) -> Result<ProtoResult<Name>> {
@@ -92,12 +92,6 @@ pub fn steps(alloc: Global, words: &[String]) -> Result<String> {
 pub fn octet(alloc: Global, text: &str, place: &str) -> Result<String> {
     let octet = Name::from_ascii(alloc, text)?.octet(place.parse::<usize>()?);
     Ok(format!(in alloc; "{octet:?}")?)
-}
-
-fn fed(name: &Name) -> u64 {
-    let mut state = DefaultHasher::new();
-    name.hash(&mut state);
-    state.finish()
 }
 
 /// The order of a name and of another in lower case, whether they are equal, and whether they feed a hasher the same.

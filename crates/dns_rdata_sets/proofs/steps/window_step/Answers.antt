@@ -15,17 +15,18 @@ returns c =
     let x = c.args.x.now in
     let i = c.args.part in
     let w = c.next_window-window.result in
+    let o = c.next_window-window.new.octets in
     let e = c.next_window-window.ensures in
-    let made : WindowMade x.type_bit_maps i w.number w.len w.count w.octets c.octets.new.self = record {
+    let made : WindowMade x.type_bit_maps i w.number w.len w.count o c.octets.new.self = record {
       few = e.len;
       long = e.room;
       small = e.number;
       next = rw (c.split_at.ensures.back, c.numbers-numbers.ensures.value) at e.next;
       made = c.octets.ensures.value
-          ∙ ap (λ (l : List ℕ). l ++ take w.len w.octets) (c.one-2.ensures.value ∙ ap (λ (l : List ℕ). l ++ field_octets (Number 1) w.len) (c.one.ensures.value
+          ∙ ap (λ (l : List ℕ). l ++ take w.len o) (c.one-2.ensures.value ∙ ap (λ (l : List ℕ). l ++ field_octets (Number 1) w.len) (c.one.ensures.value
           ∙ ap (λ (l : List ℕ). l ++ field_octets (Number 1) w.number) c.requires.empty));
     } in
     rw c.none.ensures (record {
-      octets = λ j. window_given x i w.number w.len w.count j w.octets _ made;
-      passes = window_passed x _ _ i w.number w.len w.count w.octets _ made e.pass;
+      octets = λ j. window_given x i w.number w.len w.count j o _ made;
+      passes = window_passed x _ _ i w.number w.len w.count o _ made e.pass;
     })
