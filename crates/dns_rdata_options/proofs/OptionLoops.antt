@@ -1,20 +1,21 @@
 -- Options that are read up to the end of a record.
-use Rattle.std.proofs.Common.{◌≡◌, ℕ, ◌+◌, ◌-◌, ◌≤◌, ◌<◌, ◌⊎◌, inl, inr, List, [], ◌∷◌, ◌++◌, map, refl}
+use Rattle.std.proofs.Common.{◌≡◌, ℕ, ◌+◌, ◌-◌, ◌≤◌, ◌<◌, ◌⊎◌, inl, inr, Bool, true, List, [], ◌∷◌, ◌++◌, map, refl}
 use Rattle.std.proofs.Common.{sym, ap, ◌∙◌, arith, subst}
 use Rattle.std.proofs.lemmas.List.{map_push, append-nil}
 use Rattle.std.proofs.lemmas.Grind.{flat_map-append}
 use Rattle.dns_types.specs.declared.error.DecodeError.{DecodeError}
 use Rattle.dns_types.specs.declared.error.DecodeError.TheVariants as decode
 use Rattle.dns_fields.specs.Octets.{At}
-use Rattle.dns_fields.specs.Pieces.{Numbered, piece, pieces, IsPiece, ArePieces, AllHeld, OptionValue, OptionHeld, IsCut}
+use Rattle.dns_fields.specs.Pieces.{Numbered, piece, pieces, IsPiece, AllHeld, OptionValue, OptionHeld, IsCut}
 use Rattle.dns_fields.specs.Fields.{Options, Field, Values, WholeOptions, CutOptions}
 use Rattle.dns_names_wire.specs.State.{Reading}
 use Rattle.dns_names_wire.specs.Words.{Took, Refused}
 use Rattle.dns_names_wire.proofs.FieldReads.{unless_map}
 use Rattle.dns_names_wire.proofs.Strings.{at_then}
-use Rattle.dns_rdata_options.specs.OPT.{Pair, pair_value, pair_of, opt_shape, IsReadOpt, IsNextRefusal, IsOptRefusal}
-use Rattle.dns_rdata_options.specs.OptionReads.{Left, NoneLeft, TookOption, TookCut, RefusedHere}
-use Rattle.dns_rdata_options.proofs.OptionLists.{first_left}
+use Rattle.dns_rdata_options.specs.OPT.{Pair, pair_value, pair_of, opt_shape, IsNextRefusal, IsOptRefusal}
+use Rattle.dns_rdata_options.specs.OptionReads.{Left, NoneLeft, TookPiece, TookCut, KeptOption}
+use Rattle.dns_rdata_options.proofs.OptionLists.{RefusedHere, first_left}
+use Rattle.dns_rdata_options.proofs.Selection.{all_push}
 
 abbrev pub AnyOptions : Values opt_shape → Type 0
 AnyOptions vs = Unit {0}
@@ -34,29 +35,23 @@ held_more [] (a ∷ as') x v f h = absurd f
 held_more (y ∷ ys) [] x v f h = absurd f
 held_more (y ∷ ys) (a ∷ as') x v f h = (f.0, f.1, held_more ys as' x v f.2 h)
 
-fit_more : (xs : List (Numbered (List ℕ))) (x : Numbered (List ℕ)) → ArePieces xs → IsPiece x → ArePieces (xs ++ x ∷ [])
-fit_more [] x a h = (h, tt)
-fit_more (y ∷ ys) x a h = (a.0, fit_more ys x a.1 h)
-
 pieces_more : (xs : List (Numbered (List ℕ))) (x : Numbered (List ℕ)) → pieces xs ++ piece x ≡ pieces (xs ++ x ∷ [])
 pieces_more xs x = sym (flat_map-append piece xs (x ∷ []) ∙ ap (λ (t : List ℕ). pieces xs ++ t) (append-nil (piece x)))
 
-pub options_more : {old d b : Reading} {n end : ℕ} {done : List (Numbered OptionValue)} {x : Numbered OptionValue} → ReadsOptions old n end done d
-    → TookOption d end x b → ReadsOptions old n end (done ++ x ∷ []) b
-options_more {old} {d} {b} {n} {end} {done} {x} r o =
-    let t = o.took in
-    let y : Numbered (List ℕ) = (x.0, o.body) in
-    let at : At old.message d.index (piece y) b.index = subst (λ (m : List ℕ). At m d.index (piece y) b.index) r.message t.at in
+pub options_more : {old d b : Reading} {n end : ℕ} {done : List (Numbered OptionValue)} {x : Numbered (List ℕ)} (v : OptionValue) → ReadsOptions old n end done d
+    → TookPiece d end x b → OptionHeld x.0 x.1 v → ReadsOptions old n end (done ++ (x.0, v) ∷ []) b
+options_more {old} {d} {b} {n} {end} {done} {x} v r t held =
+    let at : At old.message d.index (piece x) b.index = subst (λ (m : List ℕ). At m d.index (piece x) b.index) r.message t.at in
     record {
       message = t.message ∙ r.message;
       behind = omega (arith, r.behind, at.ends);
       inside = t.inside;
       took = record {
-        read = r.took.read ++ y ∷ [];
-        at = subst (λ (o : List ℕ). At old.message old.index o b.index) (pieces_more r.took.read y)
+        read = r.took.read ++ x ∷ [];
+        at = subst (λ (o : List ℕ). At old.message old.index o b.index) (pieces_more r.took.read x)
             (at_then r.took.at at);
-        fit = fit_more r.took.read y r.took.fit t.fits;
-        held = held_more r.took.read done y x.1 r.took.held o.held;
+        fit = all_push IsPiece r.took.read x r.took.fit t.fits;
+        held = held_more r.took.read done x v r.took.held held;
       };
       rest = λ h. (first_left at t.fits t.inside (r.rest h)).left;
     }
@@ -123,10 +118,20 @@ options_cut {old} {d} {b} {done} start n is r t =
     } in
     (record { message = t.message ∙ r.message; stands = (end, record { is = inr (refl, cut) }, sym t.there) }, (omega (arith, t.there, is), tt))
 
--- one pair more that was read
-pub read_more : (xs : List Pair) (x : Pair) → IsReadOpt xs → x ≡ pair_of (pair_value x) → IsReadOpt (xs ++ x ∷ [])
-read_more xs x h is = record {
-  given =
-      ap (λ (l : List Pair). l ++ x ∷ []) h.given ∙ ap (λ (y : Pair). map pair_of (map pair_value xs) ++ y ∷ []) is
-      ∙ sym (ap (map pair_of) (map_push pair_value xs x) ∙ map_push pair_of (map pair_value xs) (pair_value x));
-}
+-- ---- the pairs that are kept
+
+-- the pairs of these values, as they are read
+pub record AreRead (xs : List Pair) (done : List (Numbered OptionValue)) : Type 0 where
+  pub values : map pair_value xs ≡ done
+  pub pairs : xs ≡ map pair_of done
+
+pub read_more : {keeps : Bool} {code : ℕ} {body : List ℕ} {old new : List Pair} {done : List (Numbered OptionValue)} (k : KeptOption keeps code body old new)
+    → (keeps ≡ true → AreRead old done) → keeps ≡ true → AreRead new (done ++ (code, k.value) ∷ [])
+read_more {code = code} {old = old} {done = done} k h t =
+    let r = h t in
+    let p = k.pair t in
+    let x = pair_of (code, k.value) in
+    record {
+      values = ap (map pair_value) p.0 ∙ map_push pair_value old x ∙ (λ i. r.values i ++ p.1 i ∷ []);
+      pairs = p.0 ∙ ap (λ (l : List Pair). l ++ x ∷ []) r.pairs ∙ sym (map_push pair_of done (code, k.value));
+    }

@@ -44,9 +44,8 @@ segments_cmp (x ∷ xs) (y ∷ ys) =
 
 pub address_is : (a b : IpAddr) → ordered_addresses.ghosts.cmp a b ≡ address_cmp a b
 address_is (V4 a) (V4 b) = refl
-address_is (V4 a) (V6 b) = refl
-address_is (V6 a) (V4 b) = refl
 address_is (V6 a) (V6 b) = segments_cmp (ipv6_segments a) (ipv6_segments b)
+address_is a b = refl
 
 pub subnet_is : (a b : ClientSubnet) → ordered_subnets.ghosts.cmp a b ≡ subnet_cmp a b
 subnet_is a b = ap (λ (o : Ordering). ordering_then o (ordering_then (nat_cmp a.source_prefix b.source_prefix) (nat_cmp a.scope_prefix b.scope_prefix)))
@@ -54,11 +53,6 @@ subnet_is a b = ap (λ (o : Ordering). ordering_then o (ordering_then (nat_cmp a
 
 pub option_is : (a b : EdnsOption) → ordered_options.ghosts.cmp a b ≡ option_cmp a b
 option_is (Subnet a) (Subnet b) = subnet_is a b
-option_is (Subnet a) (NSID b) = refl
-option_is (Subnet a) (Unknown m t) = refl
-option_is (NSID a) (Subnet b) = refl
 option_is (NSID a) (NSID b) = refl
-option_is (NSID a) (Unknown m t) = refl
-option_is (Unknown n s) (Subnet b) = refl
-option_is (Unknown n s) (NSID b) = refl
 option_is (Unknown n s) (Unknown m t) = refl
+option_is a b = refl
