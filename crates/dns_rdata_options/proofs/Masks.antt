@@ -2,12 +2,6 @@
 use Rattle.std.proofs.Common.{◌≡◌, ℕ, suc, ◌-◌, ◌*◌, ◌<◌, ◌≤◌, List, [], ◌∷◌, length, get_or, refl, ◌∙◌, ap, arith}
 use Rattle.dns_rdata_options.specs.IpNet.{masked_octet, masked_octets}
 
--- the octets in front of place i are masked, and the others as they were
-pub record Masked (bits i : ℕ) (old new : List ℕ) : Type 0 where
-  pub size : length new ≡ length old
-  pub done : (k : ℕ) → k < i → get_or new k 0 ≡ masked_octet (bits - 8 * k) (get_or old k 0)
-  pub rest : (k : ℕ) → i ≤ k → get_or new k 0 ≡ get_or old k 0
-
 pub masked_all : (bits : ℕ) (old new : List ℕ) → length new ≡ length old
     → ((k : ℕ) → k < length old → get_or new k 0 ≡ masked_octet (bits - 8 * k) (get_or old k 0)) → new ≡ masked_octets bits old
 masked_all bits [] [] n h = refl

@@ -72,7 +72,7 @@ field_left {m} {p} {q} {v} f = of f.is where
   }
   of (inr c) = record { read = c.1.read; values = c.1.dropped; stub = c.1.stub; at = c.1.at; fit = c.1.fit; held = c.1.held; ends = inr c.1.cut }
 
-pub options_none : {e : DecodeError} {old d b : Reading} {done : List (Numbered OptionValue)} (start n : ℕ) → start ≡ old.index
+options_none : {e : DecodeError} {old d b : Reading} {done : List (Numbered OptionValue)} (start n : ℕ) → start ≡ old.index
     → ReadsOptions old n (start + n) done d → RefusedHere e d start n b → Refused e old opt_shape (λ vs q. (q ≡ old.index + n) × AnyOptions vs) b
 options_none {e} {old} {d} {b} {done} start n is r f = record {
   behind = record { message = f.0.message ∙ r.message; index = omega (arith, r.behind, f.0.index) };
@@ -87,7 +87,7 @@ options_none {e} {old} {d} {b} {done} start n is r f = record {
   }) f.1;
 }
 
-pub options_refusal : {e : DecodeError} {old d b : Reading} {done : List (Numbered OptionValue)} (start n : ℕ) → start ≡ old.index → d.index < start + n
+options_refusal : {e : DecodeError} {old d b : Reading} {done : List (Numbered OptionValue)} (start n : ℕ) → start ≡ old.index → d.index < start + n
     → ReadsOptions old n (start + n) done d → RefusedHere e d start n b → IsOptRefusal n old e b
 options_refusal {e} {old} {d} {b} {done} start n is before r f = of f.2 where
   of : (e ≡ decode.Memory) ⊎ IsNextRefusal start n d e b → IsOptRefusal n old e b
@@ -98,6 +98,11 @@ options_refusal {e} {old} {d} {b} {done} start n is before r f = of f.2 where
     next =
         subst (λ (k : ℕ). IsNextRefusal k n d e b) is h;
   })
+
+pub options_refused : {e : DecodeError} {old d b : Reading} {done : List (Numbered OptionValue)} (start n : ℕ) → start ≡ old.index → d.index < start + n
+    → ReadsOptions old n (start + n) done d → RefusedHere e d start n b
+    → record { fields : Refused e old opt_shape (λ vs q. (q ≡ old.index + n) × AnyOptions vs) b; read : Unit {0}; refused : IsOptRefusal n old e b }
+options_refused start n is before r f = record { fields = options_none start n is r f; read = tt; refused = options_refusal start n is before r f }
 
 pub options_cut : {old d b : Reading} {done : List (Numbered OptionValue)} (start n : ℕ) → start ≡ old.index → ReadsOptions old n (start + n) done d
     → TookCut d n (start + n) b → Took old opt_shape ([], tt) b × ((b.index ≡ old.index + n) × Unit {0})

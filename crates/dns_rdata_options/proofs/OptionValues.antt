@@ -37,60 +37,28 @@ of_3 : edns_code_of 3 ≡ codes.NSID
 unfolding edns_code_of
 of_3 = refl
 
-is_8 : (n : ℕ) → edns_code_of n ≡ codes.Subnet → n ≡ 8
-is_8 n e = sym (edns_code_number-of n) ∙ ap edns_code_number e
-
-is_3 : (n : ℕ) → edns_code_of n ≡ codes.NSID → n ≡ 3
-is_3 n e = sym (edns_code_number-of n) ∙ ap edns_code_number e
-
--- a code that is neither
-pub record IsOther (code : EdnsCode) : Type 0 where
-  pub not_subnet : code ≢ codes.Subnet
-  pub not_nsid : code ≢ codes.NSID
-  pub option : (s : List ℕ) (x : EdnsOption) → IsOptionOf code s x → x ≡ edns.Unknown (edns_code_number code) s
-  pub refusal : (s : List ℕ) (e : DecodeError) → IsOptionRefusal code s e → ⊥
-
-abbrev pub Which : EdnsCode → Type 0
-Which code = (code ≡ codes.Subnet) ⊎ ((code ≡ codes.NSID) ⊎ IsOther code)
-
-which : (code : EdnsCode) → Which code
-which codes.Subnet = inl refl
-which codes.NSID = inr (inl refl)
-which code = inr (inr (record { not_subnet = λ e. cc e; not_nsid = λ e. cc e; option = λ s x h. h; refusal = λ s e h. h }))
-
 -- ---- the value that an option holds
 
 pub record HeldAs (n : ℕ) (s : List ℕ) (x : EdnsOption) : Type 0 where
   pub held : OptionHeld n s (option_value x)
   pub given : x ≡ option_of n (option_value x)
 
-subnet_held : (s : List ℕ) (x : EdnsOption) → IsOptionOf codes.Subnet s x → HeldAs 8 s x
-subnet_held s (edns.Subnet x) h = record {
-  held = (refl, h.1.fits, drop (length (option_octets (subnet_value x))) s, begun h.1.at);
-  given = ap edns.Subnet h.1.read.padded;
-}
-subnet_held s x h = absurd h
-
-nsid_held : (s : List ℕ) (x : EdnsOption) → IsOptionOf codes.NSID s x → HeldAs 3 s x
-nsid_held s (edns.NSID t) h = record { held = ((λ e. omega (arith, e)), sym h.0); given = refl }
-nsid_held s x h = absurd h
-
 three_else : (n : ℕ) (x y : EdnsOption) → n ≢ 3 → cond (n == 3) x y ≡ y
 three_else n x y h = let no : (n == 3) ≡ false = grind (arith, nat_tests) in rw no refl
 
-other_held : (n m : ℕ) (s : List ℕ) (x : EdnsOption) → n ≢ 8 → n ≢ 3 → m ≡ n → x ≡ edns.Unknown m s → HeldAs n s x
-other_held n m s x not8 not3 same is =
-    let e : x ≡ edns.Unknown n s = is ∙ ap (λ (k : ℕ). edns.Unknown k s) same in
-    subst (HeldAs n s) (sym e) (record { held = (not8, refl); given = sym (three_else n (edns.NSID s) (edns.Unknown n s) not3) })
-
--- what an option's code and octets give holds these octets' value, and is the option that the value gives
-pub held_of : (n : ℕ) (s : List ℕ) (x : EdnsOption) → IsOptionOf (edns_code_of n) s x → HeldAs n s x
-held_of n s x h = by (which (edns_code_of n)) where
-  by : Which (edns_code_of n) → HeldAs n s x
-  by (inl e) = subst (λ (k : ℕ). HeldAs k s x) (sym (is_8 n e)) (subnet_held s x (subst (λ (c : EdnsCode). IsOptionOf c s x) e h))
-  by (inr (inl e)) = subst (λ (k : ℕ). HeldAs k s x) (sym (is_3 n e)) (nsid_held s x (subst (λ (c : EdnsCode). IsOptionOf c s x) e h))
-  by (inr (inr o)) = other_held n (edns_code_number (edns_code_of n)) s x (λ e. o.not_subnet (ap edns_code_of e ∙ of_8))
-      (λ e. o.not_nsid (ap edns_code_of e ∙ of_3)) (edns_code_number-of n) (o.option s x h)
+-- what a code and octets give holds these octets' value, and is the option that the value gives
+held_code : (code : EdnsCode) (s : List ℕ) (x : EdnsOption) → edns_code_of (edns_code_number code) ≡ code → IsOptionOf code s x → HeldAs (edns_code_number code) s x
+held_code codes.Subnet s (edns.Subnet x) e h = record {
+  held = (refl, h.1.fits, drop (length (option_octets (subnet_value x))) s, begun h.1.at);
+  given = ap edns.Subnet h.1.read.padded;
+}
+held_code codes.NSID s (edns.NSID t) e h = record { held = ((λ k. omega (arith, k)), sym h.0); given = refl }
+held_code codes.Subnet s x e h = absurd h
+held_code codes.NSID s x e h = absurd h
+held_code code s x e h =
+    let n = edns_code_number code in
+    let other = three_else n (edns.NSID s) (edns.Unknown n s) (λ k. cc (sym e ∙ ap edns_code_of k ∙ of_3)) in
+    subst (HeldAs n s) (sym h) (record { held = ((λ k. cc (sym e ∙ ap edns_code_of k ∙ of_8)), refl); given = sym other })
 
 -- ---- where there is none
 
@@ -108,20 +76,18 @@ no_subnet_value s are none (Subnet f source scope a) h =
     })
 no_subnet_value s are none (Plain t) h = h.0 refl
 
-pub no_value_of : (n : ℕ) (s : List ℕ) (e : DecodeError) → length s < 65536 → AreOctets s → IsOptionRefusal (edns_code_of n) s e → NoValue n s
-no_value_of n s e short are r = by (which (edns_code_of n)) where
-  by : Which (edns_code_of n) → NoValue n s
-  by (inl c) = let t = subst (λ (k : EdnsCode). IsOptionRefusal k s e) c r in
-      subst (λ (k : ℕ). NoValue k s) (sym (is_8 n c)) (record { none = no_subnet_value s are t.0 })
-  by (inr (inl c)) = let t = subst (λ (k : EdnsCode). IsOptionRefusal k s e) c r in absurd (omega (arith, t.0, short))
-  by (inr (inr o)) = absurd (o.refusal s e r)
+no_value_code : (code : EdnsCode) (s : List ℕ) (e : DecodeError) → length s < 65536 → AreOctets s → IsOptionRefusal code s e → NoValue (edns_code_number code) s
+no_value_code codes.Subnet s e short are r = record { none = no_subnet_value s are r.0 }
+no_value_code codes.NSID s e short are r = absurd (omega (arith, r.0, short))
+no_value_code code s e short are r = absurd r
 
 -- ---- the next option
 
 pub option_kept : {keeps : Bool} {old new : List Pair} (n : ℕ) (s : List ℕ) (code : EdnsCode) (x : EdnsOption) → code ≡ edns_code_of n → IsOptionOf code s x
     → new ≡ old ++ (code, x) ∷ [] → KeptOption keeps n s old new
 option_kept {old = old} n s code x is h pushed =
-    let v = held_of n s x (subst (λ (c : EdnsCode). IsOptionOf c s x) is h) in
+    let same : edns_code_number code ≡ n = ap edns_code_number is ∙ edns_code_number-of n in
+    let v = subst (λ (k : ℕ). HeldAs k s x) same (held_code code s x (ap edns_code_of same ∙ sym is) h) in
     record {
       value = option_value x;
       held = v.held;
@@ -134,7 +100,7 @@ option_kept {old = old} n s code x is h pushed =
 pub subnet_tested : {keeps : Bool} {old new : List Pair} (n : ℕ) (s : List ℕ) (x : ClientSubnet) → keeps ≡ false → n ≡ 8 → ReadsSubnet s (Ok x) → KeptOption keeps n s old new
 subnet_tested n s x off is h = record {
   value = subnet_value x;
-  held = subst (λ (k : ℕ). OptionHeld k s (subnet_value x)) (sym is) (subnet_held s (edns.Subnet x) h).held;
+  held = subst (λ (k : ℕ). OptionHeld k s (subnet_value x)) (sym is) (held_code codes.Subnet s (edns.Subnet x) of_8 h).held;
   pair = λ t. cc (t, off);
 }
 
@@ -159,6 +125,6 @@ refused_option {d} start n x e are t (inl m) =
     (piece_behind t, subst (λ (z : DecodeError). UnlessMemory z (NoneLeft d.message n d.index (start + n))) (sym m) tt, inl m)
 refused_option start n x e are t (inr r) = (
   piece_behind t,
-  unless_all e (no_value t (no_value_of x.0 x.1 e (omega (arith, t.fits.1)) (body_octets are t) r)),
+  unless_all e (no_value t (subst (λ (k : ℕ). NoValue k x.1) (edns_code_number-of x.0) (no_value_code (edns_code_of x.0) x.1 e (omega (arith, t.fits.1)) (body_octets are t) r))),
   inr (inr (record { code = x.0; body = x.1; at = t.at; fits = t.fits; inside = t.inside; refused = r })),
 )

@@ -1,8 +1,9 @@
 -- Records of options by their fields: one that was read is told by them, and fields that stand make one. `==` of records
 -- tells whether one is the other in another order; of two that were read, whether their fields are.
 use Rattle.std.proofs.Common.{◌≡◌, ◌↔◌, ◌⊎◌, inl, inr, ℕ, ◌-◌, ◌==◌, Bool, true, false, cond, List, [], ◌∷◌, ◌++◌}
-use Rattle.std.proofs.Common.{map, count_by, refl, sym, ap, ◌∙◌, subst}
+use Rattle.std.proofs.Common.{map, count_by, get_or, slice_get, Some, refl, sym, ap, ◌∙◌, subst}
 use Rattle.std.specs.Bool.{Decides}
+use Rattle.std.proofs.lemmas.Option.{get_or_from_slice_get}
 use Rattle.std.proofs.lemmas.Bool.Decides.{same_from_decides, Decides-and, Decides-like}
 use Rattle.std.specs.Cmp.{unsigned_Decides}
 use Rattle.std.specs.Cmp.Lexicographic.{pointwise, pointwise_decides}
@@ -126,6 +127,11 @@ option_decides a b = (λ h. cc h, λ e. cc e)
 pub pair_decides : (a b : Pair) → Decides (pair_eq a b) (a ≡ b)
 pair_decides a b = told _ (Decides-and _ _ (code_decides a.0 b.0) (option_decides a.1 b.1))
     (λ h i. (h.0 i, h.1 i), λ e. (ap (λ (p : Pair). p.0) e, ap (λ (p : Pair). p.1) e))
+
+pub pair_same_at : (xs ys : List Pair) (i j : ℕ) (p q x y : Pair) → p ≡ get_or xs i p → q ≡ get_or ys j q → slice_get xs i ≡ Some x → slice_get ys j ≡ Some y
+    → pair_eq p q ≡ true → x ≡ y
+pair_same_at xs ys i j p q x y e f g h t =
+    sym (get_or_from_slice_get xs i x p g) ∙ sym e ∙ (pair_decides p q).0 t ∙ f ∙ get_or_from_slice_get ys j y q h
 
 pair_same : IsAntisymmetric pair_cmp
 pair_same a b e = (pair_decides a b).0 (pair_ties a b ∙ ap is_eq e)
