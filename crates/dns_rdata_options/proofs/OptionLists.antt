@@ -189,10 +189,9 @@ goes_on : (x s u v : List ℕ) → x ++ u ≡ s ++ v → length x ≤ length s �
 goes_on x s u v e short = ap (λ (o : List ℕ). o ++ drop (length x) s)
     (sym (take_at x u (length x) refl) ∙ ap (take (length x)) e ∙ take-append-le (length x) s v short) ∙ take-append-drop (length x) s
 
-pub record GoesOn (m : List ℕ) (n : ℕ) (x : Numbered (List ℕ)) (j end : ℕ) : Type 0 where
-  pub value : OptionValue
-  pub held : OptionHeld x.0 x.1 value
-  pub left : Left m n j end
+-- an option that stands holds a value, and the rest is left
+abbrev pub GoesOn : List ℕ → ℕ → Numbered (List ℕ) → ℕ → ℕ → Type 0
+GoesOn m n x j end = (value : OptionValue) × OptionHeld x.0 x.1 value × Left m n j end
 
 pub first_left : {m : List ℕ} {n i j end : ℕ} {x : Numbered (List ℕ)} → At m i (piece x) j → IsPiece x → j ≤ end → Left m n i end → GoesOn m n x j end
 first_left {m} {n} {i} {j} {end} {x} a f inside h = first h.read h.values h.at h.fit h.held where
@@ -212,21 +211,19 @@ first_left {m} {n} {i} {j} {end} {x} a f inside h = first h.read h.values h.at h
       let rest : At m (i + length (piece y)) (pieces ys ++ h.stub) end = at_rest (piece y) (pieces ys ++ h.stub) b' in
       let same : y ≡ x = (first_piece y x _ _ g.0 f (prefix front ∙ sym (prefix a))).0 in
       let there : i + length (piece y) ≡ j = ap (λ (z : Numbered (List ℕ)). i + length (piece z)) same ∙ sym a.ends in
-      let codes : v.0 ≡ x.0 = sym held.0 ∙ ap (λ (z : Numbered (List ℕ)). z.0) same in
-      record {
-        value = v.1;
-        held = subst (λ (k : ℕ). OptionHeld k x.1 v.1) codes (subst (λ (o : List ℕ). OptionHeld v.0 o v.1) (ap (λ (z : Numbered (List ℕ)). z.1) same) held.1);
-        left = record {
+      let codes : v.0 ≡ x.0 = sym held.0 ∙ ap (λ (z : Numbered (List ℕ)). z.0) same in (
+        v.1,
+        subst (λ (k : ℕ). OptionHeld k x.1 v.1) codes (subst (λ (o : List ℕ). OptionHeld v.0 o v.1) (ap (λ (z : Numbered (List ℕ)). z.1) same) held.1),
+        record {
           read = ys;
           values = vs;
           stub = h.stub;
           at = subst (λ (q : ℕ). At m q (pieces ys ++ h.stub) end) there rest;
           fit = g.1;
-          held =
-              held.2;
+          held = held.2;
           ends = h.ends;
-        };
-      }
+        },
+      )
 
 pub no_value : {d e : Reading} {n end : ℕ} {x : Numbered (List ℕ)} → TookPiece d end x e → NoValue x.0 x.1 → NoneLeft d.message n d.index end
-no_value t l = record { none = λ left. let g = first_left t.at t.fits t.inside left in l.none g.value g.held }
+no_value t l = record { none = λ left. let g = first_left t.at t.fits t.inside left in l.none g.0 g.1 }

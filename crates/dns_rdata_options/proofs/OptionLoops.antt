@@ -31,9 +31,8 @@ pub record ReadsOptions (old : Reading) (n end : ℕ) (done : List (Numbered Opt
 held_more : (xs : List (Numbered (List ℕ))) (a : List (Numbered OptionValue)) (x : Numbered (List ℕ)) (v : OptionValue) → AllHeld OptionHeld xs a
     → OptionHeld x.0 x.1 v → AllHeld OptionHeld (xs ++ x ∷ []) (a ++ (x.0, v) ∷ [])
 held_more [] [] x v f h = (refl, h, tt)
-held_more [] (a ∷ as') x v f h = absurd f
-held_more (y ∷ ys) [] x v f h = absurd f
 held_more (y ∷ ys) (a ∷ as') x v f h = (f.0, f.1, held_more ys as' x v f.2 h)
+held_more xs a x v f h = absurd f
 
 pieces_more : (xs : List (Numbered (List ℕ))) (x : Numbered (List ℕ)) → pieces xs ++ piece x ≡ pieces (xs ++ x ∷ [])
 pieces_more xs x = sym (flat_map-append piece xs (x ∷ []) ∙ ap (λ (t : List ℕ). pieces xs ++ t) (append-nil (piece x)))
@@ -53,7 +52,7 @@ options_more {old} {d} {b} {n} {end} {done} {x} v r t held =
         fit = all_push IsPiece r.took.read x r.took.fit t.fits;
         held = held_more r.took.read done x v r.took.held held;
       };
-      rest = λ h. (first_left at t.fits t.inside (r.rest h)).left;
+      rest = λ h. (first_left at t.fits t.inside (r.rest h)).2;
     }
 
 -- a field of options leaves all of it at its start

@@ -101,9 +101,9 @@ in_order x = ap (λ (l : List (List ℕ)). flat_map (λ s. s) (sorted octets_cmp
 rows_cmp : (x y : List Pair) → AllEmittable x → AllEmittable y → slice_cmp piece_cmp x y ≡ octets_cmp (flat_map own_piece x) (flat_map own_piece y)
 rows_cmp [] [] h k = refl
 rows_cmp [] (q ∷ y) h k = refl
-rows_cmp (p ∷ x) [] h k = refl
 rows_cmp (p ∷ x) (q ∷ y) h k =
     ap (ordering_then (piece_cmp p q)) (rows_cmp x y h.1 k.1) ∙ sym (pairs_then p q (flat_map own_piece x) (flat_map own_piece y) h.0 k.0)
+rows_cmp x y h k = refl
 
 -- records of options are ordered by their pairs in rising order
 pub by_pieces : (xs ys : List Pair) → pairs_emittable xs ≡ true → pairs_emittable ys ≡ true

@@ -33,16 +33,12 @@ pair_small p q a b (suc (suc i)) = omega arith
 -- the family, and what follows
 pub family_first : (s : List ℕ) (f : ℕ) → 2 ≤ length s → Eights s → f ≡ from_be_bytes w16 (get_or s 0 0 ∷ get_or s 1 0 ∷ [])
     → s ≡ bytes_high_first 2 f ++ drop 2 s
-family_first [] f n b e = absurd (omega arith)
-family_first (p ∷ []) f n b e = absurd (omega arith)
 family_first (p ∷ q ∷ s) f n b e = ap (λ (o : List ℕ). o ++ s) (sym (be_bytes_2 (p ∷ q ∷ []) f refl (pair_small p q (b 0) (b 1)) e))
+family_first s f n b e = absurd (omega arith)
 
 heads : (s : List ℕ) → 4 ≤ length s → drop 2 s ≡ get_or s 2 0 ∷ get_or s 3 0 ∷ drop 4 s
-heads [] n = absurd (omega arith)
-heads (p ∷ []) n = absurd (omega arith)
-heads (p ∷ q ∷ []) n = absurd (omega arith)
-heads (p ∷ q ∷ r ∷ []) n = absurd (omega arith)
 heads (p ∷ q ∷ r ∷ t ∷ s) n = refl
+heads s n = absurd (omega arith)
 
 pub head_first : (s : List ℕ) (f : ℕ) → 4 ≤ length s → Eights s → f ≡ from_be_bytes w16 (get_or s 0 0 ∷ get_or s 1 0 ∷ []) → IsFamily f
     → SubnetHead s f (get_or s 2 0) (get_or s 3 0) (drop 4 s)

@@ -54,8 +54,6 @@ held_value n s (Plain t) are h = either (n == 3) where
 pairs_back : (read : List (Numbered (List ℕ))) (v : List (Numbered OptionValue)) → AreOctets (pieces read) → AllHeld OptionHeld read v
     → map pair_value (map pair_of v) ≡ v
 pairs_back [] [] are h = refl
-pairs_back [] (y ∷ ys) are h = absurd h
-pairs_back (x ∷ xs) [] are h = absurd h
 pairs_back (x ∷ xs) (y ∷ ys) are h =
     let first : AreOctets (piece x) = AreOctets-front (piece x) (pieces xs) are in
     let rest : AreOctets (pieces xs) = AreOctets-back (piece x) (pieces xs) are in
@@ -63,6 +61,7 @@ pairs_back (x ∷ xs) (y ∷ ys) are h =
     ap (λ (n : ℕ). (n, option_value (option_of y.0 y.1)) ∷ map pair_value (map pair_of ys)) (edns_code_number-of y.0)
     ∙ ap (λ (v : OptionValue). (y.0, v) ∷ map pair_value (map pair_of ys)) (held_value y.0 x.1 y.1 body h.1)
     ∙ ap (λ (l : List (Numbered OptionValue)). y ∷ l) (pairs_back xs ys rest h.2)
+pairs_back xs v are h = absurd h
 
 -- the fields of options that stand are those of the record that they make
 pub opt_fields-from : (m : List ℕ) (p : ℕ) (vs : Values opt_shape) (q : ℕ) → AreOctets m → Stands m p opt_shape vs q → opt_fields (opt_from vs) ≡ vs
