@@ -7,7 +7,7 @@ use Rattle.dns_types.specs.declared.error.DecodeError.{DecodeError}
 use Rattle.dns_types.specs.declared.error.DecodeError.TheVariants as decode
 use Rattle.dns_fields.specs.Octets.{At}
 use Rattle.dns_fields.specs.Pieces.{Numbered, piece, pieces, IsPiece, AllHeld, OptionValue, OptionHeld, IsCut}
-use Rattle.dns_fields.specs.Fields.{Options, Field, Values, WholeOptions, CutOptions}
+use Rattle.dns_fields.specs.Fields.{Options, Field, WholeOptions, CutOptions}
 use Rattle.dns_names_wire.specs.State.{Reading}
 use Rattle.dns_names_wire.specs.Words.{Took, Refused}
 use Rattle.dns_names_wire.proofs.FieldReads.{unless_map}
@@ -16,9 +16,6 @@ use Rattle.dns_rdata_options.specs.OPT.{Pair, pair_value, pair_of, opt_shape, Is
 use Rattle.dns_rdata_options.specs.OptionReads.{Left, NoneLeft, TookPiece, TookCut, KeptOption}
 use Rattle.dns_rdata_options.proofs.OptionLists.{RefusedHere, first_left}
 use Rattle.dns_rdata_options.proofs.Selection.{all_push}
-
-abbrev pub AnyOptions : Values opt_shape → Type 0
-AnyOptions vs = Unit {0}
 
 -- what was read of the options up to the end, and what is left of any way to fill the record
 pub record ReadsOptions (old : Reading) (n end : ℕ) (done : List (Numbered OptionValue)) (d : Reading) : Type 0 where
@@ -72,7 +69,7 @@ field_left {m} {p} {q} {v} f = of f.is where
   of (inr c) = record { read = c.1.read; values = c.1.dropped; stub = c.1.stub; at = c.1.at; fit = c.1.fit; held = c.1.held; ends = inr c.1.cut }
 
 options_none : {e : DecodeError} {old d b : Reading} {done : List (Numbered OptionValue)} (start n : ℕ) → start ≡ old.index
-    → ReadsOptions old n (start + n) done d → RefusedHere e d start n b → Refused e old opt_shape (λ vs q. (q ≡ old.index + n) × AnyOptions vs) b
+    → ReadsOptions old n (start + n) done d → RefusedHere e d start n b → Refused e old opt_shape (λ vs q. (q ≡ old.index + n) × Unit {0}) b
 options_none {e} {old} {d} {b} {done} start n is r f = record {
   behind = record { message = f.0.message ∙ r.message; index = omega (arith, r.behind, f.0.index) };
   none = unless_map e _ _ (λ (l : NoneLeft d.message n d.index (start + n)). record {
@@ -100,7 +97,7 @@ options_refusal {e} {old} {d} {b} {done} start n is before r f = of f.2 where
 
 pub options_refused : {e : DecodeError} {old d b : Reading} {done : List (Numbered OptionValue)} (start n : ℕ) → start ≡ old.index → d.index < start + n
     → ReadsOptions old n (start + n) done d → RefusedHere e d start n b
-    → record { fields : Refused e old opt_shape (λ vs q. (q ≡ old.index + n) × AnyOptions vs) b; read : Unit {0}; refused : IsOptRefusal n old e b }
+    → record { fields : Refused e old opt_shape (λ vs q. (q ≡ old.index + n) × Unit {0}) b; read : Unit {0}; refused : IsOptRefusal n old e b }
 options_refused start n is before r f = record { fields = options_none start n is r f; read = tt; refused = options_refusal start n is before r f }
 
 pub options_cut : {old d b : Reading} {done : List (Numbered OptionValue)} (start n : ℕ) → start ≡ old.index → ReadsOptions old n (start + n) done d

@@ -37,15 +37,15 @@ emittable_option (Subnet family source scope address) h =
     most : (f n : ℕ) → ((f == 1 && nat_le n 4) || (f == 2 && nat_le n 16)) ≡ true → ((f ≡ 1) × (n ≤ 4)) ⊎ ((f ≡ 2) × (n ≤ 16))
     most f n h = grind (arith, nat_tests)
 
+pub is_short : (n : ℕ) → nat_le n 65535 ≡ true → n < 65536
+is_short n h = grind (arith, nat_tests)
+
 unfit : (x : Numbered OptionValue) → x.0 < 65536 → (OptionFits x → ⊥) → is_fit x ≡ false
 unfolding is_fit
 unfit x small none = by (nat_le (length (option_octets x.1)) 65535 && option_emittable x.1) refl where
-  short : (n : ℕ) → nat_le n 65535 ≡ true → n < 65536
-  short n h = grind (arith, nat_tests)
-
   by : (b : Bool) → (nat_le (length (option_octets x.1)) 65535 && option_emittable x.1) ≡ b → b ≡ false
   by false e = refl
-  by true e = let few = short (length (option_octets x.1)) (first_so (nat_le (length (option_octets x.1)) 65535) _ e) in
+  by true e = let few = is_short (length (option_octets x.1)) (first_so (nat_le (length (option_octets x.1)) 65535) _ e) in
       absurd (none ((omega (arith, small), omega (arith, few)), emittable_option x.1 (second_so (nat_le (length (option_octets x.1)) 65535) _ e)))
 
 unfit_inner : (xs : List (Numbered OptionValue)) (x : Numbered OptionValue) (ys : List (Numbered OptionValue)) → is_fit x ≡ false

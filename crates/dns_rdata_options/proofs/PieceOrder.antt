@@ -1,6 +1,5 @@
 -- The order of the octets of options, and of lists that they begin.
-use Rattle.std.proofs.Common.{◌≡◌, ◌≢◌, ℕ, ◌<◌, ◌≤◌, ◌^◌, nat_le, true, arith, List, [], ◌∷◌, ◌++◌, length, map, count_by, refl, sym, ap, ◌∙◌}
-use Rattle.std.proofs.lemmas.Bool.Decides.{nat_tests}
+use Rattle.std.proofs.Common.{◌≡◌, ◌≢◌, ℕ, ◌<◌, ◌^◌, nat_le, true, List, [], ◌∷◌, ◌++◌, length, map, count_by, refl, sym, ap, ◌∙◌}
 use Rattle.std.proofs.lemmas.List.{append-nil}
 use Rattle.std.proofs.lemmas.Grind.{flat_map-append}
 use Rattle.std.specs.Int.{bytes_high_first}
@@ -27,6 +26,7 @@ use Rattle.dns_rdata_options.specs.OPT.{Pair, pair_value, opt_shape, opt_fields}
 use Rattle.dns_rdata_options.specs.Order.{pair_cmp, risen, opt_eq}
 use Rattle.dns_rdata_options.specs.OrderLaws.{pair_total, opt_ties}
 use Rattle.dns_rdata_options.specs.Steps.{octets_cmp, piece_cmp, own_piece, pair_emittable, pairs_emittable}
+use Rattle.dns_rdata_options.proofs.Pairs.{is_short}
 
 behind : (o s t u : Ordering) → (o ≡ Equal → s ≡ ordering_then t u) → ordering_then o s ≡ ordering_then (ordering_then o t) u
 behind Less s t u h = refl
@@ -55,9 +55,7 @@ abbrev pub held : Pair → List ℕ
 held p = option_octets (option_value p.1)
 
 few_octets : (p : Pair) → pair_emittable p ≡ true → length (held p) < 256 ^ 2
-few_octets p h = short (length (held p)) (first_so (nat_le (length (held p)) 65535) _ h) where
-  short : (n : ℕ) → nat_le n 65535 ≡ true → n < 256 ^ 2
-  short n t = let l : n ≤ 65535 = grind (arith, nat_tests) in omega (arith, l)
+few_octets p h = is_short (length (held p)) (first_so (nat_le (length (held p)) 65535) _ h)
 
 pub pairs_then : (p q : Pair) (u v : List ℕ) → pair_emittable p ≡ true → pair_emittable q ≡ true
     → octets_cmp (own_piece p ++ u) (own_piece q ++ v) ≡ ordering_then (octets_cmp (own_piece p) (own_piece q)) (octets_cmp u v)

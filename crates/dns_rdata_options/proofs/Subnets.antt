@@ -1,7 +1,6 @@
 -- The subnet that begins octets, and why none does.
 use Rattle.std.proofs.Common.{◌≡◌, ◌⊎◌, inl, inr, ℕ, zero, suc, ◌+◌, ◌-◌, ◌<◌, ◌≤◌, List, [], ◌∷◌, ◌++◌, length, take}
-use Rattle.std.proofs.Common.{drop, replicate, get_or, false, ◌==◌, refl, sym, ap, ◌∙◌, arith, subst}
-use Rattle.std.proofs.Common.{append_assoc}
+use Rattle.std.proofs.Common.{drop, replicate, get_or, false, ◌==◌, refl, sym, ap, ◌∙◌, arith, subst, append_assoc}
 use Rattle.std.specs.Int.{w16, from_be_bytes, bytes_high_first}
 use Rattle.std.specs.Net.Addr.{segments_of, ipv6_segments}
 use Rattle.std.specs.declared.net.ip_addr.IpAddr.TheVariants.{V6}
@@ -10,15 +9,13 @@ use Rattle.std.proofs.lemmas.Bool.Decides.{nat_tests}
 use Rattle.std.proofs.lemmas.Nat.{be_bytes_2}
 use Rattle.std.proofs.lemmas.List.{length-append, length-take-le, length-drop, length-replicate, take-append-drop, take_at}
 use Rattle.dns_types.specs.declared.error.DecodeError.TheVariants as decode
-use Rattle.dns_fields.specs.Octets.{At}
-use Rattle.dns_fields.specs.Octets.{AreOctets}
+use Rattle.dns_fields.specs.Octets.{At, AreOctets}
 use Rattle.dns_fields.specs.Pieces.{OptionValue, Subnet, option_octets, IsAddress, IsEmittableOption}
 use Rattle.dns_fields.proofs.Numbers.{length-bytes}
 use Rattle.dns_fields.proofs.OctetLaws.{AreOctets-nil, AreOctets-cons, AreOctets-append, AreOctets-take, AreOctets-drop}
 use Rattle.dns_rdata_base.proofs.Addresses.{octets_of-segments}
 use Rattle.dns_rdata_options.specs.ClientSubnet.{family_of, address_octets, prefix_octets, family_octets, padded, address_of, subnet_of}
-use Rattle.dns_rdata_options.specs.ClientSubnet.{subnet_value, IsReadSubnet, SubnetAt, IsFamily}
-use Rattle.dns_rdata_options.specs.ClientSubnet.{SubnetHead, IsSubnetRefusal}
+use Rattle.dns_rdata_options.specs.ClientSubnet.{subnet_value, IsReadSubnet, SubnetAt, IsFamily, SubnetHead, IsSubnetRefusal}
 use Rattle.dns_rdata_options.specs.declared.opt.subnet.ClientSubnet.{ClientSubnet}
 
 -- octets as numbers of eight bits, as code knows them
