@@ -1,5 +1,4 @@
 pub mod ChoiceSteps
-pub mod Codes
 pub mod Differences
 pub mod HeadSteps
 pub mod InOrder

@@ -1,14 +1,11 @@
 -- Where the prefix of a net's text begins.
 use Rattle.std.proofs.Common.{◌≡◌, ◌≢◌, ℕ, ◌<◌, ◌≤◌, ◌+◌, List, [], ◌∷◌, ◌++◌, length, take, drop, get_or, refl, arith, ap, sym, ◌∙◌, subst}
-use Rattle.std.proofs.Common.{append_assoc, inl, inr, ◌^◌, true}
-use Rattle.std.specs.Prelude.{codes, decimal, MatchOption, IfSome, IfNone}
+use Rattle.std.proofs.Common.{◌^◌}
+use Rattle.std.specs.Prelude.{MatchOption, IfSome, IfNone}
 use Rattle.std.specs.Option.{ok_or}
-use Rattle.std.specs.Net.Addr.{ipv4_octets, ipv6_segments, segments_of}
-use Rattle.std.specs.Net.Grammar.{Parses, IsIpText, IsIpv4Text, IsIpv6Text, IsDotted, IsGroups, IsGroupsAfter, IsColonHex}
+use Rattle.std.specs.Net.Grammar.{Parses, IsIpText}
 use Rattle.std.specs.declared.net.ip_addr.IpAddr.TheVariants.{V4, V6}
-use Rattle.std.specs.declared.net.ipv4_addr.Ipv4Addr.{Ipv4Addr}
-use Rattle.std.specs.declared.net.ipv6_addr.Ipv6Addr.{Ipv6Addr}
-use Rattle.std.proofs.lemmas.Fmt.{decimal_is_IsNumeral}
+use Rattle.std.proofs.NetLemmas.Theorems.{IsIpText_unique}
 use Rattle.dns_types.specs.declared.error.AddrParseError.{AddrParseError}
 use Rattle.dns_rdata_options.specs.IpNet.{address_bits}
 use Rattle.std.specs.declared.option.Option.{Option}
@@ -97,59 +94,6 @@ no_address text front back net s none is =
 prefix_value : {text : List ℕ} {n m : ℕ} → IsPrefixText text n → IsPrefixText text m → n ≡ m
 prefix_value a b = a.value ∙ sym b.value
 
--- ---- no IPv4 text is an IPv6 text
-
-lacks_append : (c : ℕ) (xs ys : List ℕ) → Lacks c xs → Lacks c ys → Lacks c (xs ++ ys)
-lacks_append c [] ys m n = n
-lacks_append c (x ∷ xs) ys m n = (m.0, lacks_append c xs ys m.1 n)
-
-decimal_lacks : (n : ℕ) → n < 256 → Lacks 58 (decimal n)
-decimal_lacks n small =
-    let written = decimal_is_IsNumeral n (omega arith) in
-    lacks_each 58 (decimal n) (λ i l e. let digit = digit_at (decimal n) i written.0.1 l in omega arith)
-
-dotted_lacks : (text octets : List ℕ) → IsDotted text octets → Lacks 58 text
-dotted_lacks text octets d =
-    let dot : Lacks 58 (46 ∷ []) = ((λ e. absurd (omega (arith, e))), tt) in
-    let one = lacks_append 58 _ _ (decimal_lacks d.a d.fit.0) dot in
-    let two = lacks_append 58 _ _ (lacks_append 58 _ _ one (decimal_lacks d.b d.fit.1)) dot in
-    let three = lacks_append 58 _ _ (lacks_append 58 _ _ two (decimal_lacks d.c d.fit.2)) dot in
-    rw d.spelled (lacks_append 58 _ _ three (decimal_lacks d.d d.fit.3))
-
--- the octet c stands in s
-abbrev pub Has : ℕ → List ℕ → Type 0
-Has c s = (us : List ℕ) × (vs : List ℕ) × (s ≡ us ++ (c ∷ vs))
-
-later_groups : (rest : List ℕ) (s : ℕ) (segments : List ℕ) → IsGroupsAfter true (codes ":") rest (s ∷ segments) → (vs : List ℕ) × (rest ≡ 58 ∷ vs)
-later_groups rest s segments (inl (group, more, cut, _, _)) = (group ++ more, cut)
-later_groups rest s segments (inr (last, octets, _, cut, _, _)) = (last, cut)
-
-groups_colon : (text : List ℕ) (s t : ℕ) (segments : List ℕ) → IsGroups true text (s ∷ t ∷ segments) → 0 < length segments → Has 58 text
-groups_colon text s t segments (inl (group, rest, cut, _, later)) some =
-    let colon = later_groups rest t segments later in
-    (group, colon.0, cut ∙ ap (λ (r : List ℕ). group ++ r) colon.1)
-groups_colon text s t segments (inr (last, octets, _, _, dotted, same)) some =
-    let four : octets ≡ dotted.a ∷ dotted.b ∷ dotted.c ∷ dotted.d ∷ [] = dotted.value in
-    let two : length (s ∷ t ∷ segments) ≡ 2 = ap length same ∙ ap (λ (o : List ℕ). length (segments_of o)) four in
-    absurd (omega arith)
-
-colon_hex : (text segments : List ℕ) → IsColonHex text segments → Has 58 text
-colon_hex text (s ∷ t ∷ segments) (inl (groups, eight)) = groups_colon text s t segments groups (omega arith)
-colon_hex text (s ∷ []) (inl (groups, eight)) = absurd (omega arith)
-colon_hex text [] (inl (groups, eight)) = absurd (omega arith)
-colon_hex text segments (inr elided) = (elided.head_text, 58 ∷ elided.tail_text, elided.spelled ∙ append_assoc elided.head_text (58 ∷ 58 ∷ []) elided.tail_text)
-
-pub one_family : (text : List ℕ) (a : Ipv4Addr) (b : Ipv6Addr) → IsIpv4Text text a → IsIpv6Text text b → ⊥
-one_family text a b four six =
-    let colon = colon_hex text (ipv6_segments b) six in
-    not_behind 58 text colon.0 colon.1 (dotted_lacks text (ipv4_octets a) four) colon.2
-
-one_size : (text : List ℕ) (a b : IpAddr) → IsIpText text a → IsIpText text b → address_bits a ≡ address_bits b
-one_size text (V4 a) (V4 b) x y = refl
-one_size text (V4 a) (V6 b) x y = absurd (one_family text a b x y)
-one_size text (V6 a) (V4 b) x y = absurd (one_family text b a y x)
-one_size text (V6 a) (V6 b) x y = refl
-
 -- an address with a prefix is a net where the prefix has no more bits than the address
 pub net_read : (text front back : List ℕ) (ip : IpAddr) (n : ℕ) (o : Option (IpAddr × ℕ)) (e : AddrParseError) → SplitsLast 47 text front back → IsIpText front ip
     → IsPrefixText back n → IfSome o (λ net. (net ≡ (ip, n)) × (n ≤ address_bits ip)) → IfNone o (address_bits ip < n) → Parses IsNetText text (ok_or o e)
@@ -159,6 +103,7 @@ net_read text front back ip n (Some net) e s is prefix some none =
 net_read text front back ip n None e s is prefix some none = λ net other.
     let parts = net_parts text front back net s other in
     let same_n : net.1 ≡ n = prefix_value (subst (λ (t : List ℕ). IsPrefixText t net.1) parts.1 other.prefix) prefix in
-    let bits : address_bits net.0 ≡ address_bits ip = one_size front net.0 ip (subst (λ (t : List ℕ). IsIpText t net.0) parts.0 other.address_text) is in
+    let bits : address_bits net.0 ≡ address_bits ip =
+    ap address_bits (IsIpText_unique front net.0 ip (subst (λ (t : List ℕ). IsIpText t net.0) parts.0 other.address_text) is) in
     let most : net.1 ≤ address_bits net.0 = other.most in
     absurd (omega arith)

@@ -2,159 +2,63 @@
 use Rattle.std.proofs.Common.{◌≡◌, ℕ, ◌+◌, ◌-◌, ◌≤◌, ◌<◌, ◌^◌, ◌⊎◌, inl, inr, ⊎_elim, List, [], ◌∷◌}
 use Rattle.std.proofs.Common.{◌++◌, length, take, drop, refl, sym, ap, ◌∙◌, arith, subst, append_assoc}
 use Rattle.std.specs.Int.{bytes_high_first}
-use Rattle.std.proofs.lemmas.List.{length-append, append-nil, take-append-drop, take_at, take-append-le}
+use Rattle.std.proofs.lemmas.List.{length-append, take-append-drop, take_at, take-append-le}
 use Rattle.dns_types.specs.declared.error.DecodeError.{DecodeError}
 use Rattle.dns_types.specs.declared.error.DecodeError.TheVariants as decode
 use Rattle.dns_fields.specs.Octets.{At}
 use Rattle.dns_fields.specs.Pieces.{Numbered, piece, pieces, IsPiece, ArePieces, AllHeld, OptionValue, OptionHeld, IsCut}
 use Rattle.dns_fields.specs.Fields.{Number, Octets, Field}
 use Rattle.dns_fields.proofs.Numbers.{length-bytes}
-use Rattle.dns_fields.proofs.Pieces.{first_piece, cut_piece, length-piece}
+use Rattle.dns_fields.proofs.Pieces.{first_piece, cut_piece, length-piece, piece_before}
 use Rattle.dns_fields.proofs.FieldLaws.{field_same}
 use Rattle.dns_names_wire.specs.State.{Reading}
-use Rattle.dns_names_wire.specs.Words.{TookField, LacksField, LacksOctets, StaysBehind}
-use Rattle.dns_names_wire.proofs.FieldReads.{stays, took_stays, took_then, took_last, took_number}
+use Rattle.dns_names_wire.specs.Words.{TookField, LacksOctets, StaysBehind, UnlessMemory}
+use Rattle.dns_names_wire.proofs.FieldReads.{stays, unless_all, took_stays, took_then, took_last, took_number}
 use Rattle.dns_names_wire.proofs.Strings.{at_front, at_rest, at_then}
-use Rattle.dns_rdata_options.specs.OPT.{TookHead, IsPieceRefusal}
+use Rattle.dns_rdata_options.specs.OPT.{IsPieceRefusal, IsNextRefusal}
 use Rattle.dns_rdata_options.specs.OptionReads.{Left, NoneLeft, TookPiece, TookCut, RefusedLeft, NoValue}
 
 -- ---- what begins the rest
 
--- a code, and then nothing, or a length of at most n and more
+-- the two octets of a code, and where more follows, those of a length of at most n
 pub record Begins (m : List ℕ) (n i end : ℕ) : Type 0 where
-  pub code : ℕ
-  pub small : code < 256 ^ 2
-  pub after : List ℕ
-  pub at : At m i (bytes_high_first 2 code ++ after) end
-  pub more : (after ≡ []) ⊎ ((l : ℕ) × (x : List ℕ) × (l < 256 ^ 2) × (l ≤ n) × (after ≡ bytes_high_first 2 l ++ x) × ((length x < l) ⊎ (l ≤ length x)))
+  pub code : i + 2 ≤ end
+  pub within : end ≤ length m
+  pub size : i + 2 < end → (l : ℕ) × (l ≤ n) × Field m (i + 2) (Number 2) l (i + 2 + 2) × (i + 2 + 2 ≤ end)
 
 pub begins : {m : List ℕ} {n i end : ℕ} → i < end → end ≤ i + n → Left m n i end → Begins m n i end
 begins {m} {n} {i} {end} lt fits h = first h.read h.stub h.at h.fit h.ends where
-  stubbed : (s : List ℕ) → At m i s end → IsCut n s → Begins m n i end
-  stubbed s a c = ⊎_elim
-      (λ (e : s ≡ bytes_high_first 2 c.0). record {
-        code = c.0;
-        small = c.1;
-        after = [];
-        at = subst (λ (o : List ℕ). At m i o end) (e ∙ sym (append-nil (bytes_high_first 2 c.0))) a;
-        more =
-            inl refl;
-      })
-      (λ t. record {
-        code = c.0;
-        small = c.1;
-        after = bytes_high_first 2 t.0
-            ++ t.1;
-        at = subst (λ (o : List ℕ). At m i o end) t.5 a;
-        more = inr (t.0, t.1, t.2, t.3, refl, inl t.4);
-      })
-      c.2
+  sized : (c l : ℕ) (x : List ℕ) → l < 256 ^ 2 → l ≤ n → At m i (bytes_high_first 2 c ++ (bytes_high_first 2 l ++ x)) end → Begins m n i end
+  sized c l x small most a =
+      let rest : At m (i + 2) (bytes_high_first 2 l ++ x) end = at_rest (bytes_high_first 2 c) (bytes_high_first 2 l ++ x) a in
+      let inside : i + 2 + 2 ≤ end = omega (arith, rest.ends, length-append (bytes_high_first 2 l) x, length-bytes 2 l) in
+      record { code = omega (arith, inside); within = a.within; size = λ _. (l, most, record { is = (small, at_front (bytes_high_first 2 l) x rest) }, inside) }
 
   first : (read : List (Numbered (List ℕ))) (s : List ℕ) → At m i (pieces read ++ s) end → ArePieces read → (s ≡ []) ⊎ IsCut n s → Begins m n i end
-  first [] s a f (inl e) = absurd (let k : length s ≡ 0 = ap length e in omega (arith, a.ends, k))
-  first [] s a f (inr c) = stubbed s a c
-  first (y ∷ ys) s a f e =
-      let rest = y.1 ++ pieces ys ++ s in
-      let whole : (piece y ++ pieces ys) ++ s ≡ bytes_high_first 2 y.0 ++ (bytes_high_first 2 (length y.1) ++ rest) =
-      ap (λ (o : List ℕ). o ++ s) (append_assoc (bytes_high_first 2 y.0) (bytes_high_first 2 (length y.1) ++ y.1) (pieces ys)
-      ∙ ap (λ (o : List ℕ). bytes_high_first 2 y.0 ++ o) (append_assoc (bytes_high_first 2 (length y.1)) y.1 (pieces ys)))
-      ∙ append_assoc (bytes_high_first 2 y.0) (bytes_high_first 2 (length y.1) ++ (y.1 ++ pieces ys)) s
-      ∙ ap (λ (o : List ℕ). bytes_high_first 2 y.0 ++ o) (append_assoc (bytes_high_first 2 (length y.1)) (y.1 ++ pieces ys) s) in
-      let n1 : length ((piece y ++ pieces ys) ++ s) ≡ length (piece y ++ pieces ys) + length s = length-append (piece y ++ pieces ys) s in
-      let n2 : length (piece y ++ pieces ys) ≡ length (piece y) + length (pieces ys) = length-append (piece y) (pieces ys) in
-      let n3 : length (piece y) ≡ 4 + length y.1 = length-piece y in
-      let ends : end ≡ i + length ((piece y ++ pieces ys) ++ s) = a.ends in
-      let n4 : length rest ≡ length (y.1 ++ pieces ys) + length s = length-append (y.1 ++ pieces ys) s in
-      let n5 : length (y.1 ++ pieces ys) ≡ length y.1 + length (pieces ys) = length-append y.1 (pieces ys) in
-      record {
-        code = y.0;
-        small = f.0.0;
-        after = bytes_high_first 2 (length y.1)
-            ++ rest;
-        at = subst (λ (o : List ℕ). At m i o end) whole a;
-        more = inr (length y.1, rest, f.0.1, omega arith, refl, inr (omega arith));
-      }
+  first [] s a f (inl e) = absurd (let k : length s ≡ 0 = ap length e in omega (arith, lt, a.ends, k))
+  first [] s a f (inr (c, small, inl e)) =
+      let k : length s ≡ 2 = ap length e in
+      record { code = omega (arith, a.ends, k); within = a.within; size = λ l. absurd (omega (arith, l, a.ends, k)) }
+  first [] s a f (inr (c, small, inr (l, x, fit, most, short, e))) = sized c l x fit most (subst (λ (o : List ℕ). At m i o end) e a)
+  first (y ∷ ys) s a f e = sized y.0 (length y.1) (y.1 ++ (pieces ys ++ s)) f.0.1
+      (omega (arith, fits, a.ends, length-append (piece y ++ pieces ys) s, length-append (piece y) (pieces ys), length-piece y))
+      (subst (λ (o : List ℕ). At m i o end) (append_assoc (piece y) (pieces ys) s ∙ piece_before y (pieces ys ++ s)) a)
 
-begins_number : {m : List ℕ} {n i end : ℕ} (b : Begins m n i end) → Field m i (Number 2) b.code (i + 2)
-begins_number {m} {n} {i} b = record {
-  is = (
-    b.small,
-    subst (λ (q : ℕ). At m i (bytes_high_first 2 b.code) q) (ap (λ (k : ℕ). i + k) (length-bytes 2 b.code))
-        (at_front (bytes_high_first 2 b.code) b.after b.at),
-  );
-}
-
-begins_end : {m : List ℕ} {n i end : ℕ} (b : Begins m n i end) → end ≡ i + 2 + length b.after
-begins_end b = omega (arith, b.at.ends, length-append (bytes_high_first 2 b.code) b.after, length-bytes 2 b.code)
-
--- the length that follows the code
-pub record Sized (m : List ℕ) (n j end : ℕ) : Type 0 where
-  pub size : ℕ
-  pub most : size ≤ n
-  pub field : Field m j (Number 2) size (j + 2)
-  pub inside : j + 2 ≤ end
-  pub within : end ≤ length m
-
-sized : {m : List ℕ} {n i end : ℕ} → Begins m n i end → i + 2 < end → Sized m n (i + 2) end
-sized {m} {n} {i} {end} b lt = ⊎_elim
-    (λ (e : b.after ≡ []). absurd (let k : length b.after ≡ 0 = ap length e in let t = begins_end b in omega arith))
-    (λ h.
-    let rest : At m (i + length (bytes_high_first 2 b.code)) b.after end = at_rest (bytes_high_first 2 b.code) b.after b.at in
-    let there : At m (i + 2) (bytes_high_first 2 h.0 ++ h.1) end =
-    subst (λ (o : List ℕ). At m (i + 2) o end) h.4 (subst (λ (k : ℕ). At m (i + k) b.after end) (length-bytes 2 b.code) rest) in
-    record {
-      size = h.0;
-      most = h.3;
-      field =
-          record {
-            is = (
-              h.2,
-              subst (λ (k : ℕ). At m (i + 2) (bytes_high_first 2 h.0) (i + 2 + k)) (length-bytes 2 h.0)
-                  (at_front (bytes_high_first 2 h.0) h.1 there),
-            );
-          };
-      inside =
-          omega (arith, there.ends, length-append (bytes_high_first 2 h.0) h.1, length-bytes 2 h.0);
-      within = there.within;
-    })
-    b.more
-
--- ---- refusals
-
-no_code : {d : Reading} {n end : ℕ} → d.index < end → end ≤ d.index + n → LacksField d (Number 2) → NoneLeft d.message n d.index end
-no_code lt fits l = record { none = λ h. let b = begins lt fits h in l.none b.code _ (begins_number b) }
-
-code_past : {d b : Reading} {v n end : ℕ} → d.index < end → end ≤ d.index + n → TookField d (Number 2) v b → end < b.index → NoneLeft d.message n d.index end
-code_past lt fits f past = record { none = λ h. let e = begins_end (begins lt fits h) in omega (arith, took_number f, e) }
-
-sized_after : {d b : Reading} {v n end : ℕ} → d.index < end → end ≤ d.index + n → TookField d (Number 2) v b → b.index < end → Left d.message n d.index end
-    → Sized b.message n b.index end
-sized_after {d} {b} {v} {n} {end} lt fits f more h =
+-- the length behind the code that was read
+sized : {d b : Reading} {v n end : ℕ} → d.index < end → end ≤ d.index + n → TookField d (Number 2) v b → b.index < end → Left d.message n d.index end
+    → (l : ℕ) × (l ≤ n) × Field b.message b.index (Number 2) l (b.index + 2) × (b.index + 2 ≤ end) × (end ≤ length b.message)
+sized {d} {b} {v} {n} {end} lt fits f more h =
+    let g = begins lt fits h in
     let there : d.index + 2 ≡ b.index = sym (took_number f) in
-    subst (λ (m : List ℕ). Sized m n b.index end) (sym f.message)
-    (subst (λ (j : ℕ). Sized d.message n j end) there (sized (begins lt fits h) (omega (arith, there))))
+    let (l, most, field, inside) = g.size (omega (arith, there, more)) in (
+      l,
+      most,
+      subst (λ (m : List ℕ). Field m b.index (Number 2) l (b.index + 2)) (sym f.message) (subst (λ (j : ℕ). Field d.message j (Number 2) l (j + 2)) there field),
+      omega (arith, there, inside),
+      omega (arith, ap length f.message, g.within),
+    )
 
-no_size : {d b : Reading} {v n end : ℕ} → d.index < end → end ≤ d.index + n → TookField d (Number 2) v b → b.index < end → LacksField b (Number 2)
-    → NoneLeft d.message n d.index end
-no_size lt fits f more l = record { none = λ h. let s = sized_after lt fits f more h in l.none s.size _ s.field }
-
-size_past : {d b c : Reading} {v w n end : ℕ} → d.index < end → end ≤ d.index + n → TookField d (Number 2) v b → b.index < end → TookField b (Number 2) w c
-    → end < c.index → NoneLeft d.message n d.index end
-size_past lt fits f more g past = record { none = λ h. let s = sized_after lt fits f more h in omega (arith, s.inside, took_number g) }
-
-same_size : {d b c : Reading} {v w n end : ℕ} → d.index < end → end ≤ d.index + n → TookField d (Number 2) v b → b.index < end → TookField b (Number 2) w c
-    → (h : Left d.message n d.index end) → (s : Sized b.message n b.index end) × (s.size ≡ w)
-same_size {d} {b} {c} {v} {w} {n} {end} lt fits f more g h =
-    let s = sized_after lt fits f more h in
-    let e : b.index + 2 ≡ c.index = sym (took_number g) in
-    let x : Field b.message b.index (Number 2) s.size c.index = subst (λ (q : ℕ). Field b.message b.index (Number 2) s.size q) e s.field in
-    (s, field_same x g.field)
-
-size_great : {d b c : Reading} {v w n end : ℕ} → d.index < end → end ≤ d.index + n → TookField d (Number 2) v b → b.index < end → TookField b (Number 2) w c
-    → n < w → NoneLeft d.message n d.index end
-size_great lt fits f more g great = record { none = λ h. let s = same_size lt fits f more g h in omega (arith, s.0.most, s.1) }
-
--- ---- each of them, with its cause
+-- ---- refusals, each with its cause
 
 behind_one : {d b : Reading} {v : ℕ} → TookField d (Number 2) v b → StaysBehind d b
 behind_one {b = b} f = took_stays f (stays b)
@@ -162,66 +66,84 @@ behind_one {b = b} f = took_stays f (stays b)
 behind_two : {d b c : Reading} {v w : ℕ} → TookField d (Number 2) v b → TookField b (Number 2) w c → StaysBehind d c
 behind_two {c = c} f g = took_stays f (took_stays g (stays c))
 
-lacks_two : {d : Reading} → LacksOctets d 2 → LacksField d (Number 2)
-lacks_two l = record { none = λ v q f. omega (arith, f.is.1.ends, f.is.1.within, length-bytes 2 v, l) }
-
 pub refused_code : {d new : Reading} {start n : ℕ} (e : DecodeError) → start ≤ d.index → d.index < start + n → e ≡ decode.InsufficientBytes
     → LacksOctets d 2 → new ≡ d → RefusedLeft d n (start + n) new × IsPieceRefusal start n d e new
-refused_code {d} {new} e le lt is lacks same = (
-  record { behind = rw same (stays d); none = no_code lt (omega (arith, le)) (lacks_two lacks) },
-  inl
-      (record { error = is; lacks = lacks; unchanged = same }),
+refused_code {d} e le lt is lacks same = (
+  record {
+    behind = rw same (stays d);
+    none = record { none = λ h. let b = begins lt (omega (arith, le)) h in omega (arith, b.code, b.within, lacks) };
+  },
+  inl (record { error = is; lacks = lacks; unchanged = same }),
 )
 
 pub refused_code_past : {d b : Reading} {v start n : ℕ} (read : ℕ) → start ≤ d.index → d.index < start + n → TookField d (Number 2) v b
     → start + n < b.index → read ≡ b.index - start → RefusedLeft d n (start + n) b × IsPieceRefusal start n d (decode.IncorrectRDataLengthRead read n) b
-refused_code_past {d} {b} {n = n} read le lt f past is = (
-  record { behind = behind_one f; none = code_past lt (omega (arith, le)) f past },
-  inr
-      (inr (inl (record {
-        error = ap (λ (k : ℕ). decode.IncorrectRDataLengthRead k n) is;
-        past = past;
-        short = omega (arith, took_number f);
-        message =
-            f.message;
-      }))),
+refused_code_past {n = n} read le lt f past is = (
+  record { behind = behind_one f; none = record { none = λ h. let b = begins lt (omega (arith, le)) h in omega (arith, took_number f, b.code, past) } },
+  inr (inr (inl (record {
+    error = ap (λ (k : ℕ). decode.IncorrectRDataLengthRead k n) is;
+    past = past;
+    short = omega (arith, took_number f);
+    message = f.message;
+  }))),
 )
 
 pub refused_size : {d b new : Reading} {v start n : ℕ} (e : DecodeError) → start ≤ d.index → d.index < start + n → TookField d (Number 2) v b
     → b.index < start + n → e ≡ decode.InsufficientBytes → LacksOctets b 2 → new ≡ b → RefusedLeft d n (start + n) new × IsPieceRefusal start n d e new
-refused_size {d} {b} {new} {v} {start} {n} e le lt f more is lacks same =
-    rw same (
-      record { behind = behind_one f; none = no_size lt (omega (arith, le)) f more (lacks_two lacks) },
-      inr
-          (inl (record { error = is; code = v; took = f; before = more; lacks = lacks })),
-    )
+refused_size {v = v} e le lt f more is lacks same = rw same (
+  record {
+    behind = behind_one f;
+    none = record { none = λ h. let s = sized lt (omega (arith, le)) f more h in omega (arith, s.3, s.4, lacks) };
+  },
+  inr (inl (record { error = is; code = v; took = f; before = more; lacks = lacks })),
+)
 
 pub refused_size_past : {d b c : Reading} {v w start n : ℕ} (read : ℕ) → start ≤ d.index → d.index < start + n → TookField d (Number 2) v b
     → b.index < start + n → TookField b (Number 2) w c → start + n < c.index → read ≡ c.index - start
     → RefusedLeft d n (start + n) c × IsPieceRefusal start n d (decode.IncorrectRDataLengthRead read n) c
-refused_size_past {d} {b} {c} {n = n} read le lt f more g past is = (
-  record { behind = behind_two f g; none = size_past lt (omega (arith, le)) f more g past },
-  inr
-      (inr (inl (record {
-        error = ap (λ (k : ℕ). decode.IncorrectRDataLengthRead k n) is;
-        past = past;
-        short =
-            omega (arith, took_number f, took_number g);
-        message = g.message ∙ f.message;
-      }))),
+refused_size_past {n = n} read le lt f more g past is = (
+  record {
+    behind = behind_two f g;
+    none = record { none = λ h. let s = sized lt (omega (arith, le)) f more h in omega (arith, s.3, took_number g, past) };
+  },
+  inr (inr (inl (record {
+    error = ap (λ (k : ℕ). decode.IncorrectRDataLengthRead k n) is;
+    past = past;
+    short = omega (arith, took_number f, took_number g);
+    message = g.message ∙ f.message;
+  }))),
 )
-
-took_head : {d b c : Reading} {v w : ℕ} → TookField d (Number 2) v b → TookField b (Number 2) w c → TookHead d v w c
-took_head {c = c} f g = took_then f (took_then g (took_last c))
 
 pub refused_long : {d b c : Reading} {v w start n : ℕ} → start ≤ d.index → d.index < start + n → TookField d (Number 2) v b → b.index < start + n
     → TookField b (Number 2) w c → c.index ≤ start + n → n < w
     → RefusedLeft d n (start + n) c × IsPieceRefusal start n d (decode.IncorrectRDataLengthRead n w) c
-refused_long {v = v} {w = w} le lt f more g inside great = (
-  record { behind = behind_two f g; none = size_great lt (omega (arith, le)) f more g great },
-  inr
-      (inr (inr (inl (record { code = v; size = w; took = took_head f g; inside = inside; long = great; error = refl })))),
+refused_long {d} {b} {c} {v} {w} {start} {n} le lt f more g inside great = (
+  record {
+    behind = behind_two f g;
+    none = record {
+      none = λ h.
+          let s = sized lt (omega (arith, le)) f more h in
+          let e : b.index + 2 ≡ c.index = sym (took_number g) in
+          let same : s.0 ≡ w = field_same (subst (λ (q : ℕ). Field b.message b.index (Number 2) s.0 q) e s.2) g.field in
+          omega (arith, s.1, same, great);
+    };
+  },
+  inr (inr (inr (inl (record {
+    code = v;
+    size = w;
+    took = took_then f (took_then g (took_last c));
+    inside = inside;
+    long = great;
+    error = refl;
+  })))),
 )
+
+-- the next option is refused; want of memory says nothing of what is left
+abbrev pub RefusedHere : DecodeError → Reading → ℕ → ℕ → Reading → Type 0
+RefusedHere e d start n new = StaysBehind d new × UnlessMemory e (NoneLeft d.message n d.index (start + n)) × ((e ≡ decode.Memory) ⊎ IsNextRefusal start n d e new)
+
+pub piece_refused : {e : DecodeError} {d new : Reading} (start n : ℕ) → RefusedLeft d n (start + n) new × IsPieceRefusal start n d e new → RefusedHere e d start n new
+piece_refused {e} start n h = (h.0.behind, unless_all e h.0.none, inr (inl h.1))
 
 -- ---- what was read
 
@@ -267,10 +189,9 @@ goes_on : (x s u v : List ℕ) → x ++ u ≡ s ++ v → length x ≤ length s �
 goes_on x s u v e short = ap (λ (o : List ℕ). o ++ drop (length x) s)
     (sym (take_at x u (length x) refl) ∙ ap (take (length x)) e ∙ take-append-le (length x) s v short) ∙ take-append-drop (length x) s
 
-pub record GoesOn (m : List ℕ) (n : ℕ) (x : Numbered (List ℕ)) (j end : ℕ) : Type 0 where
-  pub value : OptionValue
-  pub held : OptionHeld x.0 x.1 value
-  pub left : Left m n j end
+-- an option that stands holds a value, and the rest is left
+abbrev pub GoesOn : List ℕ → ℕ → Numbered (List ℕ) → ℕ → ℕ → Type 0
+GoesOn m n x j end = (value : OptionValue) × OptionHeld x.0 x.1 value × Left m n j end
 
 pub first_left : {m : List ℕ} {n i j end : ℕ} {x : Numbered (List ℕ)} → At m i (piece x) j → IsPiece x → j ≤ end → Left m n i end → GoesOn m n x j end
 first_left {m} {n} {i} {j} {end} {x} a f inside h = first h.read h.values h.at h.fit h.held where
@@ -290,21 +211,19 @@ first_left {m} {n} {i} {j} {end} {x} a f inside h = first h.read h.values h.at h
       let rest : At m (i + length (piece y)) (pieces ys ++ h.stub) end = at_rest (piece y) (pieces ys ++ h.stub) b' in
       let same : y ≡ x = (first_piece y x _ _ g.0 f (prefix front ∙ sym (prefix a))).0 in
       let there : i + length (piece y) ≡ j = ap (λ (z : Numbered (List ℕ)). i + length (piece z)) same ∙ sym a.ends in
-      let codes : v.0 ≡ x.0 = sym held.0 ∙ ap (λ (z : Numbered (List ℕ)). z.0) same in
-      record {
-        value = v.1;
-        held = subst (λ (k : ℕ). OptionHeld k x.1 v.1) codes (subst (λ (o : List ℕ). OptionHeld v.0 o v.1) (ap (λ (z : Numbered (List ℕ)). z.1) same) held.1);
-        left = record {
+      let codes : v.0 ≡ x.0 = sym held.0 ∙ ap (λ (z : Numbered (List ℕ)). z.0) same in (
+        v.1,
+        subst (λ (k : ℕ). OptionHeld k x.1 v.1) codes (subst (λ (o : List ℕ). OptionHeld v.0 o v.1) (ap (λ (z : Numbered (List ℕ)). z.1) same) held.1),
+        record {
           read = ys;
           values = vs;
           stub = h.stub;
           at = subst (λ (q : ℕ). At m q (pieces ys ++ h.stub) end) there rest;
           fit = g.1;
-          held =
-              held.2;
+          held = held.2;
           ends = h.ends;
-        };
-      }
+        },
+      )
 
 pub no_value : {d e : Reading} {n end : ℕ} {x : Numbered (List ℕ)} → TookPiece d end x e → NoValue x.0 x.1 → NoneLeft d.message n d.index end
-no_value t l = record { none = λ left. let g = first_left t.at t.fits t.inside left in l.none g.value g.held }
+no_value t l = record { none = λ left. let g = first_left t.at t.fits t.inside left in l.none g.0 g.1 }

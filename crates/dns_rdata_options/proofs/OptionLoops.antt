@@ -1,23 +1,21 @@
 -- Options that are read up to the end of a record.
-use Rattle.std.proofs.Common.{◌≡◌, ℕ, ◌+◌, ◌-◌, ◌≤◌, ◌<◌, ◌⊎◌, inl, inr, List, [], ◌∷◌, ◌++◌, map, refl}
+use Rattle.std.proofs.Common.{◌≡◌, ℕ, ◌+◌, ◌-◌, ◌≤◌, ◌<◌, ◌⊎◌, inl, inr, Bool, true, List, [], ◌∷◌, ◌++◌, map, refl}
 use Rattle.std.proofs.Common.{sym, ap, ◌∙◌, arith, subst}
 use Rattle.std.proofs.lemmas.List.{map_push, append-nil}
 use Rattle.std.proofs.lemmas.Grind.{flat_map-append}
 use Rattle.dns_types.specs.declared.error.DecodeError.{DecodeError}
 use Rattle.dns_types.specs.declared.error.DecodeError.TheVariants as decode
 use Rattle.dns_fields.specs.Octets.{At}
-use Rattle.dns_fields.specs.Pieces.{Numbered, piece, pieces, IsPiece, ArePieces, AllHeld, OptionValue, OptionHeld, IsCut}
-use Rattle.dns_fields.specs.Fields.{Options, Field, Values, WholeOptions, CutOptions}
+use Rattle.dns_fields.specs.Pieces.{Numbered, piece, pieces, IsPiece, AllHeld, OptionValue, OptionHeld, IsCut}
+use Rattle.dns_fields.specs.Fields.{Options, Field, WholeOptions, CutOptions}
 use Rattle.dns_names_wire.specs.State.{Reading}
 use Rattle.dns_names_wire.specs.Words.{Took, Refused}
 use Rattle.dns_names_wire.proofs.FieldReads.{unless_map}
 use Rattle.dns_names_wire.proofs.Strings.{at_then}
-use Rattle.dns_rdata_options.specs.OPT.{Pair, pair_value, pair_of, opt_shape, IsReadOpt, IsNextRefusal, IsOptRefusal}
-use Rattle.dns_rdata_options.specs.OptionReads.{Left, NoneLeft, TookOption, TookCut, RefusedHere}
-use Rattle.dns_rdata_options.proofs.OptionLists.{first_left}
-
-abbrev pub AnyOptions : Values opt_shape → Type 0
-AnyOptions vs = Unit {0}
+use Rattle.dns_rdata_options.specs.OPT.{Pair, pair_value, pair_of, opt_shape, IsNextRefusal, IsOptRefusal}
+use Rattle.dns_rdata_options.specs.OptionReads.{Left, NoneLeft, TookPiece, TookCut, KeptOption}
+use Rattle.dns_rdata_options.proofs.OptionLists.{RefusedHere, first_left}
+use Rattle.dns_rdata_options.proofs.Selection.{all_push}
 
 -- what was read of the options up to the end, and what is left of any way to fill the record
 pub record ReadsOptions (old : Reading) (n end : ℕ) (done : List (Numbered OptionValue)) (d : Reading) : Type 0 where
@@ -30,35 +28,28 @@ pub record ReadsOptions (old : Reading) (n end : ℕ) (done : List (Numbered Opt
 held_more : (xs : List (Numbered (List ℕ))) (a : List (Numbered OptionValue)) (x : Numbered (List ℕ)) (v : OptionValue) → AllHeld OptionHeld xs a
     → OptionHeld x.0 x.1 v → AllHeld OptionHeld (xs ++ x ∷ []) (a ++ (x.0, v) ∷ [])
 held_more [] [] x v f h = (refl, h, tt)
-held_more [] (a ∷ as') x v f h = absurd f
-held_more (y ∷ ys) [] x v f h = absurd f
 held_more (y ∷ ys) (a ∷ as') x v f h = (f.0, f.1, held_more ys as' x v f.2 h)
-
-fit_more : (xs : List (Numbered (List ℕ))) (x : Numbered (List ℕ)) → ArePieces xs → IsPiece x → ArePieces (xs ++ x ∷ [])
-fit_more [] x a h = (h, tt)
-fit_more (y ∷ ys) x a h = (a.0, fit_more ys x a.1 h)
+held_more xs a x v f h = absurd f
 
 pieces_more : (xs : List (Numbered (List ℕ))) (x : Numbered (List ℕ)) → pieces xs ++ piece x ≡ pieces (xs ++ x ∷ [])
 pieces_more xs x = sym (flat_map-append piece xs (x ∷ []) ∙ ap (λ (t : List ℕ). pieces xs ++ t) (append-nil (piece x)))
 
-pub options_more : {old d b : Reading} {n end : ℕ} {done : List (Numbered OptionValue)} {x : Numbered OptionValue} → ReadsOptions old n end done d
-    → TookOption d end x b → ReadsOptions old n end (done ++ x ∷ []) b
-options_more {old} {d} {b} {n} {end} {done} {x} r o =
-    let t = o.took in
-    let y : Numbered (List ℕ) = (x.0, o.body) in
-    let at : At old.message d.index (piece y) b.index = subst (λ (m : List ℕ). At m d.index (piece y) b.index) r.message t.at in
+pub options_more : {old d b : Reading} {n end : ℕ} {done : List (Numbered OptionValue)} {x : Numbered (List ℕ)} (v : OptionValue) → ReadsOptions old n end done d
+    → TookPiece d end x b → OptionHeld x.0 x.1 v → ReadsOptions old n end (done ++ (x.0, v) ∷ []) b
+options_more {old} {d} {b} {n} {end} {done} {x} v r t held =
+    let at : At old.message d.index (piece x) b.index = subst (λ (m : List ℕ). At m d.index (piece x) b.index) r.message t.at in
     record {
       message = t.message ∙ r.message;
       behind = omega (arith, r.behind, at.ends);
       inside = t.inside;
       took = record {
-        read = r.took.read ++ y ∷ [];
-        at = subst (λ (o : List ℕ). At old.message old.index o b.index) (pieces_more r.took.read y)
+        read = r.took.read ++ x ∷ [];
+        at = subst (λ (o : List ℕ). At old.message old.index o b.index) (pieces_more r.took.read x)
             (at_then r.took.at at);
-        fit = fit_more r.took.read y r.took.fit t.fits;
-        held = held_more r.took.read done y x.1 r.took.held o.held;
+        fit = all_push IsPiece r.took.read x r.took.fit t.fits;
+        held = held_more r.took.read done x v r.took.held held;
       };
-      rest = λ h. (first_left at t.fits t.inside (r.rest h)).left;
+      rest = λ h. (first_left at t.fits t.inside (r.rest h)).2;
     }
 
 -- a field of options leaves all of it at its start
@@ -77,8 +68,8 @@ field_left {m} {p} {q} {v} f = of f.is where
   }
   of (inr c) = record { read = c.1.read; values = c.1.dropped; stub = c.1.stub; at = c.1.at; fit = c.1.fit; held = c.1.held; ends = inr c.1.cut }
 
-pub options_none : {e : DecodeError} {old d b : Reading} {done : List (Numbered OptionValue)} (start n : ℕ) → start ≡ old.index
-    → ReadsOptions old n (start + n) done d → RefusedHere e d start n b → Refused e old opt_shape (λ vs q. (q ≡ old.index + n) × AnyOptions vs) b
+options_none : {e : DecodeError} {old d b : Reading} {done : List (Numbered OptionValue)} (start n : ℕ) → start ≡ old.index
+    → ReadsOptions old n (start + n) done d → RefusedHere e d start n b → Refused e old opt_shape (λ vs q. (q ≡ old.index + n) × Unit {0}) b
 options_none {e} {old} {d} {b} {done} start n is r f = record {
   behind = record { message = f.0.message ∙ r.message; index = omega (arith, r.behind, f.0.index) };
   none = unless_map e _ _ (λ (l : NoneLeft d.message n d.index (start + n)). record {
@@ -92,7 +83,7 @@ options_none {e} {old} {d} {b} {done} start n is r f = record {
   }) f.1;
 }
 
-pub options_refusal : {e : DecodeError} {old d b : Reading} {done : List (Numbered OptionValue)} (start n : ℕ) → start ≡ old.index → d.index < start + n
+options_refusal : {e : DecodeError} {old d b : Reading} {done : List (Numbered OptionValue)} (start n : ℕ) → start ≡ old.index → d.index < start + n
     → ReadsOptions old n (start + n) done d → RefusedHere e d start n b → IsOptRefusal n old e b
 options_refusal {e} {old} {d} {b} {done} start n is before r f = of f.2 where
   of : (e ≡ decode.Memory) ⊎ IsNextRefusal start n d e b → IsOptRefusal n old e b
@@ -103,6 +94,11 @@ options_refusal {e} {old} {d} {b} {done} start n is before r f = of f.2 where
     next =
         subst (λ (k : ℕ). IsNextRefusal k n d e b) is h;
   })
+
+pub options_refused : {e : DecodeError} {old d b : Reading} {done : List (Numbered OptionValue)} (start n : ℕ) → start ≡ old.index → d.index < start + n
+    → ReadsOptions old n (start + n) done d → RefusedHere e d start n b
+    → record { fields : Refused e old opt_shape (λ vs q. (q ≡ old.index + n) × Unit {0}) b; read : Unit {0}; refused : IsOptRefusal n old e b }
+options_refused start n is before r f = record { fields = options_none start n is r f; read = tt; refused = options_refusal start n is before r f }
 
 pub options_cut : {old d b : Reading} {done : List (Numbered OptionValue)} (start n : ℕ) → start ≡ old.index → ReadsOptions old n (start + n) done d
     → TookCut d n (start + n) b → Took old opt_shape ([], tt) b × ((b.index ≡ old.index + n) × Unit {0})
@@ -123,10 +119,20 @@ options_cut {old} {d} {b} {done} start n is r t =
     } in
     (record { message = t.message ∙ r.message; stands = (end, record { is = inr (refl, cut) }, sym t.there) }, (omega (arith, t.there, is), tt))
 
--- one pair more that was read
-pub read_more : (xs : List Pair) (x : Pair) → IsReadOpt xs → x ≡ pair_of (pair_value x) → IsReadOpt (xs ++ x ∷ [])
-read_more xs x h is = record {
-  given =
-      ap (λ (l : List Pair). l ++ x ∷ []) h.given ∙ ap (λ (y : Pair). map pair_of (map pair_value xs) ++ y ∷ []) is
-      ∙ sym (ap (map pair_of) (map_push pair_value xs x) ∙ map_push pair_of (map pair_value xs) (pair_value x));
-}
+-- ---- the pairs that are kept
+
+-- the pairs of these values, as they are read
+pub record AreRead (xs : List Pair) (done : List (Numbered OptionValue)) : Type 0 where
+  pub values : map pair_value xs ≡ done
+  pub pairs : xs ≡ map pair_of done
+
+pub read_more : {keeps : Bool} {code : ℕ} {body : List ℕ} {old new : List Pair} {done : List (Numbered OptionValue)} (k : KeptOption keeps code body old new)
+    → (keeps ≡ true → AreRead old done) → keeps ≡ true → AreRead new (done ++ (code, k.value) ∷ [])
+read_more {code = code} {old = old} {done = done} k h t =
+    let r = h t in
+    let p = k.pair t in
+    let x = pair_of (code, k.value) in
+    record {
+      values = ap (map pair_value) p.0 ∙ map_push pair_value old x ∙ (λ i. r.values i ++ p.1 i ∷ []);
+      pairs = p.0 ∙ ap (λ (l : List Pair). l ++ x ∷ []) r.pairs ∙ sym (map_push pair_of done (code, k.value));
+    }

@@ -4,7 +4,7 @@ use Rattle.std.specs.Cmp.{nat_cmp_is, ranks}
 use Rattle.std.specs.Cmp.Lexicographic.{slice_cmp}
 use Rattle.std.specs.Ordering.{MatchOrdering, nat_cmp, ordering_then}
 use Rattle.std.specs.declared.cmp.Ordering.{Ordering}
-use Rattle.std.specs.declared.cmp.Ordering.TheVariants.{Less, Equal, Greater}
+use Rattle.std.specs.declared.cmp.Ordering.TheVariants.{Less, Equal}
 use Rattle.std.specs.declared.net.ip_addr.IpAddr.{IpAddr}
 use Rattle.std.specs.declared.net.ip_addr.IpAddr.TheVariants.{V4, V6}
 use Rattle.std.specs.Net.Addr.{octets_of, ipv6_segments}
@@ -25,28 +25,25 @@ by_octets x y = nat_cmp_is x y _ (both (nat_cmp (x / 256) (y / 256)) (nat_cmp (x
         → MatchOrdering p (x % 256 < y % 256) (x % 256 ≡ y % 256) (y % 256 < x % 256) → MatchOrdering (ordering_then o p) (x < y) (x ≡ y) (y < x)
     both Less p h k = omega arith
     both Equal Less h k = omega arith
-    both Equal Equal h k = omega arith
-    both Equal Greater h k = omega arith
-    both Greater p h k = omega arith
+    both o p h k = omega arith
 
 -- and so are segments of an address
 pub segments_cmp : (xs ys : List ℕ) → slice_cmp nat_cmp xs ys ≡ slice_cmp nat_cmp (octets_of xs) (octets_of ys)
 segments_cmp [] [] = refl
 segments_cmp [] (y ∷ ys) = refl
-segments_cmp (x ∷ xs) [] = refl
 segments_cmp (x ∷ xs) (y ∷ ys) =
     let rest : Ordering = slice_cmp nat_cmp xs ys in
     ap (λ (o : Ordering). ordering_then o rest) (sym (by_octets x y))
     ∙ then_assoc (nat_cmp (x / 256) (y / 256)) (nat_cmp (x % 256) (y % 256)) rest
     ∙ ap (λ (o : Ordering). ordering_then (nat_cmp (x / 256) (y / 256)) (ordering_then (nat_cmp (x % 256) (y % 256)) o)) (segments_cmp xs ys)
+segments_cmp xs ys = refl
 
 -- ---- the derived orders
 
 pub address_is : (a b : IpAddr) → ordered_addresses.ghosts.cmp a b ≡ address_cmp a b
 address_is (V4 a) (V4 b) = refl
-address_is (V4 a) (V6 b) = refl
-address_is (V6 a) (V4 b) = refl
 address_is (V6 a) (V6 b) = segments_cmp (ipv6_segments a) (ipv6_segments b)
+address_is a b = refl
 
 pub subnet_is : (a b : ClientSubnet) → ordered_subnets.ghosts.cmp a b ≡ subnet_cmp a b
 subnet_is a b = ap (λ (o : Ordering). ordering_then o (ordering_then (nat_cmp a.source_prefix b.source_prefix) (nat_cmp a.scope_prefix b.scope_prefix)))
@@ -54,11 +51,6 @@ subnet_is a b = ap (λ (o : Ordering). ordering_then o (ordering_then (nat_cmp a
 
 pub option_is : (a b : EdnsOption) → ordered_options.ghosts.cmp a b ≡ option_cmp a b
 option_is (Subnet a) (Subnet b) = subnet_is a b
-option_is (Subnet a) (NSID b) = refl
-option_is (Subnet a) (Unknown m t) = refl
-option_is (NSID a) (Subnet b) = refl
 option_is (NSID a) (NSID b) = refl
-option_is (NSID a) (Unknown m t) = refl
-option_is (Unknown n s) (Subnet b) = refl
-option_is (Unknown n s) (NSID b) = refl
 option_is (Unknown n s) (Unknown m t) = refl
+option_is a b = refl

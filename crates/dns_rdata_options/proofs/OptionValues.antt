@@ -1,10 +1,8 @@
 -- Which options codes and octets give, and the values of the wire that they hold.
-use Rattle.std.proofs.Common.{◌≡◌, ◌≢◌, ◌⊎◌, inl, inr, ℕ, ◌+◌, ◌<◌, ◌==◌, false, cond, List, ◌∷◌, ◌++◌}
-use Rattle.std.proofs.Common.{length, drop, Result, Ok, Err, refl, sym, ap, ◌∙◌, arith, subst}
+use Rattle.std.proofs.Common.{◌≡◌, ◌≢◌, ◌⊎◌, inl, inr, ℕ, ◌+◌, ◌<◌, ◌==◌, Bool, false, cond, List, [], ◌∷◌, ◌++◌}
+use Rattle.std.proofs.Common.{length, drop, Ok, refl, sym, ap, ◌∙◌, arith, subst}
 use Rattle.std.proofs.lemmas.Bool.Decides.{nat_tests}
 use Rattle.std.specs.Int.{bytes_high_first}
-use Rattle.std.specs.Prelude.{IfErr}
-use Rattle.std.specs.Result.{IsErrAnd}
 use Rattle.dns_types.specs.declared.error.DecodeError.{DecodeError}
 use Rattle.dns_types.specs.declared.error.DecodeError.TheVariants as decode
 use Rattle.dns_fields.specs.Octets.{AreOctets, At}
@@ -14,8 +12,8 @@ use Rattle.dns_rdata_base.proofs.NumberLaws.{number-numbered_of}
 use Rattle.dns_rdata_options.specs.EdnsCode.{edns_code_number, named_edns_codes, other_edns_code, edns_code_of}
 use Rattle.dns_rdata_options.specs.ClientSubnet.{subnet_value, subnet_of, NoSubnet, ReadsSubnet, IsSubnetRefusal}
 use Rattle.dns_rdata_options.specs.EdnsOption.{option_value, IsOptionOf, IsOptionRefusal}
-use Rattle.dns_rdata_options.specs.OPT.{option_of}
-use Rattle.dns_rdata_options.specs.OptionReads.{HasValue, NoValue, NoneLeft, TookPiece, TookOption, TookSome, TookPair, RefusedHere}
+use Rattle.dns_rdata_options.specs.OPT.{Pair, option_of}
+use Rattle.dns_rdata_options.specs.OptionReads.{KeptOption, NoValue, NoneLeft, TookPiece}
 use Rattle.dns_names_wire.specs.State.{Reading}
 use Rattle.dns_names_wire.specs.Words.{StaysBehind, UnlessMemory}
 use Rattle.dns_names_wire.proofs.FieldReads.{unless_all}
@@ -24,8 +22,8 @@ use Rattle.dns_rdata_options.specs.declared.opt.code.EdnsCode.{EdnsCode}
 use Rattle.dns_rdata_options.specs.declared.opt.code.EdnsCode.TheVariants as codes
 use Rattle.dns_rdata_options.specs.declared.opt.option.EdnsOption.{EdnsOption}
 use Rattle.dns_rdata_options.specs.declared.opt.option.EdnsOption.TheVariants as edns
-use Rattle.dns_rdata_options.proofs.OptionLists.{no_value}
-use Rattle.dns_rdata_options.proofs.Subnets.{address_known, value_back, made_read, at_zero, begun}
+use Rattle.dns_rdata_options.proofs.OptionLists.{RefusedHere, no_value}
+use Rattle.dns_rdata_options.proofs.Subnets.{value_back, made_read, at_zero, begun}
 
 pub edns_code_number-of : (n : ℕ) → edns_code_number (edns_code_of n) ≡ n
 unfolding edns_code_of
@@ -39,73 +37,28 @@ of_3 : edns_code_of 3 ≡ codes.NSID
 unfolding edns_code_of
 of_3 = refl
 
-is_8 : (n : ℕ) → edns_code_of n ≡ codes.Subnet → n ≡ 8
-is_8 n e = sym (edns_code_number-of n) ∙ ap edns_code_number e
-
-is_3 : (n : ℕ) → edns_code_of n ≡ codes.NSID → n ≡ 3
-is_3 n e = sym (edns_code_number-of n) ∙ ap edns_code_number e
-
--- a code that is neither
-pub record IsOther (code : EdnsCode) : Type 0 where
-  pub not_subnet : code ≢ codes.Subnet
-  pub not_nsid : code ≢ codes.NSID
-  pub option : (s : List ℕ) (x : EdnsOption) → IsOptionOf code s x → x ≡ edns.Unknown (edns_code_number code) s
-  pub refusal : (s : List ℕ) (e : DecodeError) → IsOptionRefusal code s e → ⊥
-
-abbrev pub Which : EdnsCode → Type 0
-Which code = (code ≡ codes.Subnet) ⊎ ((code ≡ codes.NSID) ⊎ IsOther code)
-
-which : (code : EdnsCode) → Which code
-which codes.Subnet = inl refl
-which codes.NSID = inr (inl refl)
-which codes.Zero = inr (inr (record { not_subnet = λ e. cc e; not_nsid = λ e. cc e; option = λ s x h. h; refusal = λ s e h. h }))
-which codes.LLQ = inr (inr (record { not_subnet = λ e. cc e; not_nsid = λ e. cc e; option = λ s x h. h; refusal = λ s e h. h }))
-which codes.UL = inr (inr (record { not_subnet = λ e. cc e; not_nsid = λ e. cc e; option = λ s x h. h; refusal = λ s e h. h }))
-which codes.DAU = inr (inr (record { not_subnet = λ e. cc e; not_nsid = λ e. cc e; option = λ s x h. h; refusal = λ s e h. h }))
-which codes.DHU = inr (inr (record { not_subnet = λ e. cc e; not_nsid = λ e. cc e; option = λ s x h. h; refusal = λ s e h. h }))
-which codes.N3U = inr (inr (record { not_subnet = λ e. cc e; not_nsid = λ e. cc e; option = λ s x h. h; refusal = λ s e h. h }))
-which codes.Expire = inr (inr (record { not_subnet = λ e. cc e; not_nsid = λ e. cc e; option = λ s x h. h; refusal = λ s e h. h }))
-which codes.Cookie = inr (inr (record { not_subnet = λ e. cc e; not_nsid = λ e. cc e; option = λ s x h. h; refusal = λ s e h. h }))
-which codes.Keepalive = inr (inr (record { not_subnet = λ e. cc e; not_nsid = λ e. cc e; option = λ s x h. h; refusal = λ s e h. h }))
-which codes.Padding = inr (inr (record { not_subnet = λ e. cc e; not_nsid = λ e. cc e; option = λ s x h. h; refusal = λ s e h. h }))
-which codes.Chain = inr (inr (record { not_subnet = λ e. cc e; not_nsid = λ e. cc e; option = λ s x h. h; refusal = λ s e h. h }))
-which (codes.Unknown n) = inr (inr (record { not_subnet = λ e. cc e; not_nsid = λ e. cc e; option = λ s x h. h; refusal = λ s e h. h }))
-
 -- ---- the value that an option holds
 
 pub record HeldAs (n : ℕ) (s : List ℕ) (x : EdnsOption) : Type 0 where
   pub held : OptionHeld n s (option_value x)
   pub given : x ≡ option_of n (option_value x)
 
-subnet_held : (s : List ℕ) (x : EdnsOption) → IsOptionOf codes.Subnet s x → HeldAs 8 s x
-subnet_held s (edns.Subnet x) h = record {
-  held = (refl, h.1.fits, drop (length (option_octets (subnet_value x))) s, begun h.1.at);
-  given = ap edns.Subnet h.1.read.padded;
-}
-subnet_held s (edns.NSID t) h = absurd h
-subnet_held s (edns.Unknown n t) h = absurd h
-
-nsid_held : (s : List ℕ) (x : EdnsOption) → IsOptionOf codes.NSID s x → HeldAs 3 s x
-nsid_held s (edns.Subnet x) h = absurd h
-nsid_held s (edns.NSID t) h = record { held = ((λ e. omega (arith, e)), sym h.0); given = refl }
-nsid_held s (edns.Unknown n t) h = absurd h
-
 three_else : (n : ℕ) (x y : EdnsOption) → n ≢ 3 → cond (n == 3) x y ≡ y
 three_else n x y h = let no : (n == 3) ≡ false = grind (arith, nat_tests) in rw no refl
 
-other_held : (n m : ℕ) (s : List ℕ) (x : EdnsOption) → n ≢ 8 → n ≢ 3 → m ≡ n → x ≡ edns.Unknown m s → HeldAs n s x
-other_held n m s x not8 not3 same is =
-    let e : x ≡ edns.Unknown n s = is ∙ ap (λ (k : ℕ). edns.Unknown k s) same in
-    subst (HeldAs n s) (sym e) (record { held = (not8, refl); given = sym (three_else n (edns.NSID s) (edns.Unknown n s) not3) })
-
--- what an option's code and octets give holds these octets' value, and is the option that the value gives
-pub held_of : (n : ℕ) (s : List ℕ) (x : EdnsOption) → IsOptionOf (edns_code_of n) s x → HeldAs n s x
-held_of n s x h = by (which (edns_code_of n)) where
-  by : Which (edns_code_of n) → HeldAs n s x
-  by (inl e) = subst (λ (k : ℕ). HeldAs k s x) (sym (is_8 n e)) (subnet_held s x (subst (λ (c : EdnsCode). IsOptionOf c s x) e h))
-  by (inr (inl e)) = subst (λ (k : ℕ). HeldAs k s x) (sym (is_3 n e)) (nsid_held s x (subst (λ (c : EdnsCode). IsOptionOf c s x) e h))
-  by (inr (inr o)) = other_held n (edns_code_number (edns_code_of n)) s x (λ e. o.not_subnet (ap edns_code_of e ∙ of_8))
-      (λ e. o.not_nsid (ap edns_code_of e ∙ of_3)) (edns_code_number-of n) (o.option s x h)
+-- what a code and octets give holds these octets' value, and is the option that the value gives
+held_code : (code : EdnsCode) (s : List ℕ) (x : EdnsOption) → edns_code_of (edns_code_number code) ≡ code → IsOptionOf code s x → HeldAs (edns_code_number code) s x
+held_code codes.Subnet s (edns.Subnet x) e h = record {
+  held = (refl, h.1.fits, drop (length (option_octets (subnet_value x))) s, begun h.1.at);
+  given = ap edns.Subnet h.1.read.padded;
+}
+held_code codes.NSID s (edns.NSID t) e h = record { held = ((λ k. omega (arith, k)), sym h.0); given = refl }
+held_code codes.Subnet s x e h = absurd h
+held_code codes.NSID s x e h = absurd h
+held_code code s x e h =
+    let n = edns_code_number code in
+    let other = three_else n (edns.NSID s) (edns.Unknown n s) (λ k. cc (sym e ∙ ap edns_code_of k ∙ of_3)) in
+    subst (HeldAs n s) (sym h) (record { held = ((λ k. cc (sym e ∙ ap edns_code_of k ∙ of_8)), refl); given = sym other })
 
 -- ---- where there is none
 
@@ -114,39 +67,45 @@ no_subnet_value s are none (Subnet f source scope a) h =
     let octets : AreOctets a = AreOctets-tail scope a
     (AreOctets-tail source (scope ∷ a) (AreOctets-back (bytes_high_first 2 f) (source ∷ scope ∷ a)
     (AreOctets-front (option_octets (Subnet f source scope a)) h.2 (AreOctets-same s _ h.3 are)))) in
-    let k = address_known f source a h.1 in
-    let value : subnet_value (subnet_of f source scope a) ≡ Subnet f source scope a = value_back f source scope a k.0 h.1.long k.1 octets in
+    let value : subnet_value (subnet_of f source scope a) ≡ Subnet f source scope a = value_back f source scope a h.1 octets in
     none.none (subnet_of f source scope a) _ (record {
       fits = subst IsEmittableOption (sym value) h.1;
       at = subst (λ (v : OptionValue). At s 0 (option_octets v) (length (option_octets (Subnet f source scope a)))) (sym value)
           (at_zero s (option_octets (Subnet f source scope a)) h.2 h.3);
-      read = made_read f source scope a k.0 h.1.long k.1 octets;
+      read = made_read f source scope a h.1 octets;
     })
 no_subnet_value s are none (Plain t) h = h.0 refl
 
-pub no_value_of : (n : ℕ) (s : List ℕ) (e : DecodeError) → length s < 65536 → AreOctets s → IsOptionRefusal (edns_code_of n) s e → NoValue n s
-no_value_of n s e short are r = by (which (edns_code_of n)) where
-  by : Which (edns_code_of n) → NoValue n s
-  by (inl c) = let t = subst (λ (k : EdnsCode). IsOptionRefusal k s e) c r in
-      subst (λ (k : ℕ). NoValue k s) (sym (is_8 n c)) (record { none = no_subnet_value s are t.0 })
-  by (inr (inl c)) = let t = subst (λ (k : EdnsCode). IsOptionRefusal k s e) c r in absurd (omega (arith, t.0, short))
-  by (inr (inr o)) = absurd (o.refusal s e r)
-
-refusal_8 : (n : ℕ) (s : List ℕ) (e : DecodeError) → n ≡ 8 → NoSubnet s × IsSubnetRefusal s e → IsOptionRefusal (edns_code_of n) s e
-refusal_8 n s e is h = subst (λ (c : EdnsCode). IsOptionRefusal c s e) (sym (ap edns_code_of is ∙ of_8)) h
-
-pub subnet_refused : (n : ℕ) (s : List ℕ) (r : Result (Unit {0}) DecodeError) (e : DecodeError) → n ≡ 8 → IsErrAnd r (λ y. y ≡ e)
-    → NoSubnet s × IsSubnetRefusal s e → IfErr r (λ y. IsOptionRefusal (edns_code_of n) s y)
-subnet_refused n s (Ok u) e is h f = tt
-subnet_refused n s (Err y) e is h f = subst (λ (z : DecodeError). IsOptionRefusal (edns_code_of n) s z) (sym h) (refusal_8 n s e is f)
-
-pub subnet_has : (n : ℕ) (s : List ℕ) (x : ClientSubnet) → n ≡ 8 → ReadsSubnet s (Ok x) → HasValue n s
-subnet_has n s x is h = subst (λ (k : ℕ). HasValue k s) (sym is) (record { value = subnet_value x; held = (subnet_held s (edns.Subnet x) h).held })
-
-pub plain_has : (n : ℕ) (s : List ℕ) → n ≢ 8 → HasValue n s
-plain_has n s h = record { value = Plain s; held = (h, refl) }
+no_value_code : (code : EdnsCode) (s : List ℕ) (e : DecodeError) → length s < 65536 → AreOctets s → IsOptionRefusal code s e → NoValue (edns_code_number code) s
+no_value_code codes.Subnet s e short are r = record { none = no_subnet_value s are r.0 }
+no_value_code codes.NSID s e short are r = absurd (omega (arith, r.0, short))
+no_value_code code s e short are r = absurd r
 
 -- ---- the next option
+
+pub option_kept : {keeps : Bool} {old new : List Pair} (n : ℕ) (s : List ℕ) (code : EdnsCode) (x : EdnsOption) → code ≡ edns_code_of n → IsOptionOf code s x
+    → new ≡ old ++ (code, x) ∷ [] → KeptOption keeps n s old new
+option_kept {old = old} n s code x is h pushed =
+    let same : edns_code_number code ≡ n = ap edns_code_number is ∙ edns_code_number-of n in
+    let v = subst (λ (k : ℕ). HeldAs k s x) same (held_code code s x (ap edns_code_of same ∙ sym is) h) in
+    record {
+      value = option_value x;
+      held = v.held;
+      pair = λ _. (
+        pushed ∙ (λ i. old ++ (is i, v.given i) ∷ []),
+        λ i. (edns_code_number-of n i, option_value (sym v.given i)),
+      );
+    }
+
+pub subnet_tested : {keeps : Bool} {old new : List Pair} (n : ℕ) (s : List ℕ) (x : ClientSubnet) → keeps ≡ false → n ≡ 8 → ReadsSubnet s (Ok x) → KeptOption keeps n s old new
+subnet_tested n s x off is h = record {
+  value = subnet_value x;
+  held = subst (λ (k : ℕ). OptionHeld k s (subnet_value x)) (sym is) (held_code codes.Subnet s (edns.Subnet x) of_8 h).held;
+  pair = λ t. cc (t, off);
+}
+
+pub plain_tested : {keeps : Bool} {old new : List Pair} (n : ℕ) (s : List ℕ) → keeps ≡ false → n ≢ 8 → KeptOption keeps n s old new
+plain_tested n s off h = record { value = Plain s; held = (h, refl); pair = λ t. cc (t, off) }
 
 body_octets : {d new : Reading} {end : ℕ} {x : Numbered (List ℕ)} → AreOctets d.message → TookPiece d end x new → AreOctets x.1
 body_octets {d} {new} {end} {x} are t =
@@ -156,34 +115,16 @@ body_octets {d} {new} {end} {x} are t =
 piece_behind : {d new : Reading} {end : ℕ} {x : Numbered (List ℕ)} → TookPiece d end x new → StaysBehind d new
 piece_behind t = record { message = t.message; index = omega (arith, t.at.ends) }
 
--- an option without a value
-pub refused_value : {d new : Reading} (start n : ℕ) (x : Numbered (List ℕ)) (e : DecodeError) → AreOctets d.message → TookPiece d (start + n) x new
-    → IsOptionRefusal (edns_code_of x.0) x.1 e
-    → RefusedHere e d start n new
-refused_value start n x e are t r = (
-  piece_behind t,
-  unless_all e (no_value t (no_value_of x.0 x.1 e (omega (arith, t.fits.1)) (body_octets are t) r)),
-  inr (inr (record { code = x.0; body = x.1; at = t.at; fits = t.fits; inside = t.inside; refused = r })),
-)
+pub subnet_refused : (n : ℕ) (s : List ℕ) (e : DecodeError) → n ≡ 8 → NoSubnet s × IsSubnetRefusal s e → IsOptionRefusal (edns_code_of n) s e
+subnet_refused n s e is h = subst (λ (c : EdnsCode). IsOptionRefusal c s e) (sym (ap edns_code_of is ∙ of_8)) h
 
--- or one for which memory ran out
+-- an option without a value, or one for which memory ran out
 pub refused_option : {d new : Reading} (start n : ℕ) (x : Numbered (List ℕ)) (e : DecodeError) → AreOctets d.message → TookPiece d (start + n) x new
-    → (e ≡ decode.Memory) ⊎ IsOptionRefusal (edns_code_of x.0) x.1 e
-    → RefusedHere e d start n new
+    → (e ≡ decode.Memory) ⊎ IsOptionRefusal (edns_code_of x.0) x.1 e → RefusedHere e d start n new
 refused_option {d} start n x e are t (inl m) =
     (piece_behind t, subst (λ (z : DecodeError). UnlessMemory z (NoneLeft d.message n d.index (start + n))) (sym m) tt, inl m)
-refused_option start n x e are t (inr r) = refused_value start n x e are t r
-
-pub took_some : {d new : Reading} {end : ℕ} {x : Numbered (List ℕ)} → TookPiece d end x new → HasValue x.0 x.1 → TookSome end d new
-took_some {x = x} t v = record { value = (x.0, v.value); took = record { body = x.1; took = t; held = v.held } }
-
-pub took_pair : {d new : Reading} {end : ℕ} (n : ℕ) (s : List ℕ) (code : EdnsCode) (x : EdnsOption) → TookPiece d end (n, s) new → code ≡ edns_code_of n
-    → IsOptionOf code s x → TookPair end (code, x) d new
-took_pair {d} {new} {end} n s code x t is h =
-    let same : edns_code_number code ≡ n = ap edns_code_number is ∙ edns_code_number-of n in
-    let v = held_of n s x (subst (λ (c : EdnsCode). IsOptionOf c s x) is h) in
-    record {
-      took = subst (λ (k : ℕ). TookOption d end (k, option_value x) new) (sym same) (record { body = s; took = t; held = v.held });
-      read = ap (λ (c : EdnsCode). (c, x)) is ∙ ap (λ (o : EdnsOption). (edns_code_of n, o)) v.given
-          ∙ ap (λ (k : ℕ). (edns_code_of k, option_of k (option_value x))) (sym same);
-    }
+refused_option start n x e are t (inr r) = (
+  piece_behind t,
+  unless_all e (no_value t (subst (λ (k : ℕ). NoValue k x.1) (edns_code_number-of x.0) (no_value_code (edns_code_of x.0) x.1 e (omega (arith, t.fits.1)) (body_octets are t) r))),
+  inr (inr (record { code = x.0; body = x.1; at = t.at; fits = t.fits; inside = t.inside; refused = r })),
+)

@@ -1,7 +1,6 @@
 -- Options that are emitted one after the other.
 use Rattle.std.proofs.Common.{◌≡◌, ℕ, ◌+◌, ◌<◌, ◌≤◌, ◌/◌, ◌==◌, ◌&&◌, ◌||◌, ◌⊎◌, nat_le, eqb-true, Bool, true, false, List, [], ◌∷◌}
 use Rattle.std.proofs.Common.{◌++◌, length, map, take, drop, get_or, refl, sym, ap, ◌∙◌, arith, append_assoc, subst}
-use Rattle.std.specs.List.{AllByRecursion}
 use Rattle.std.proofs.lemmas.Bool.Decides.{nat_tests}
 use Rattle.std.specs.Cmp.{first_so, second_so}
 use Rattle.std.proofs.lemmas.Grind.{flat_map-append}
@@ -17,15 +16,11 @@ use Rattle.dns_names_wire.proofs.FieldWrites.{keeps_then, because_map, and_false
 use Rattle.dns_rdata_options.specs.EdnsCode.{edns_code_number}
 use Rattle.dns_rdata_options.specs.Words.{AppendedOctets, StoppedOctets}
 use Rattle.dns_rdata_options.specs.OPT.{Pair, pair_value}
+use Rattle.dns_rdata_options.proofs.Selection.{all_push}
 
 joined : (xs : List (Numbered OptionValue)) (x : Numbered OptionValue) (ys : List (Numbered OptionValue))
     → pieces (option_pieces (xs ++ x ∷ ys)) ≡ pieces (option_pieces xs) ++ (piece (as_piece option_octets x) ++ pieces (option_pieces ys))
 joined xs x ys = ap pieces (map-append (as_piece option_octets) xs (x ∷ ys)) ∙ flat_map-append piece (option_pieces xs) (option_pieces (x ∷ ys))
-
-fits_push : (xs : List (Numbered OptionValue)) (x : Numbered OptionValue) → AllByRecursion OptionFits xs → OptionFits x
-    → AllByRecursion OptionFits (xs ++ x ∷ [])
-fits_push [] x a h = (h, tt)
-fits_push (y ∷ xs) x a h = (a.0, fits_push xs x a.1 h)
 
 -- what an option's emission tests
 is_fit : Numbered OptionValue → Bool
@@ -42,15 +37,15 @@ emittable_option (Subnet family source scope address) h =
     most : (f n : ℕ) → ((f == 1 && nat_le n 4) || (f == 2 && nat_le n 16)) ≡ true → ((f ≡ 1) × (n ≤ 4)) ⊎ ((f ≡ 2) × (n ≤ 16))
     most f n h = grind (arith, nat_tests)
 
+pub is_short : (n : ℕ) → nat_le n 65535 ≡ true → n < 65536
+is_short n h = grind (arith, nat_tests)
+
 unfit : (x : Numbered OptionValue) → x.0 < 65536 → (OptionFits x → ⊥) → is_fit x ≡ false
 unfolding is_fit
 unfit x small none = by (nat_le (length (option_octets x.1)) 65535 && option_emittable x.1) refl where
-  short : (n : ℕ) → nat_le n 65535 ≡ true → n < 65536
-  short n h = grind (arith, nat_tests)
-
   by : (b : Bool) → (nat_le (length (option_octets x.1)) 65535 && option_emittable x.1) ≡ b → b ≡ false
   by false e = refl
-  by true e = let few = short (length (option_octets x.1)) (first_so (nat_le (length (option_octets x.1)) 65535) _ e) in
+  by true e = let few = is_short (length (option_octets x.1)) (first_so (nat_le (length (option_octets x.1)) 65535) _ e) in
       absurd (none ((omega (arith, small), omega (arith, few)), emittable_option x.1 (second_so (nat_le (length (option_octets x.1)) 65535) _ e)))
 
 unfit_inner : (xs : List (Numbered OptionValue)) (x : Numbered OptionValue) (ys : List (Numbered OptionValue)) → is_fit x ≡ false
@@ -66,7 +61,7 @@ more_options {w} {b} {e} xs x f g =
     let octets : e.octets ≡ w.octets ++ pieces (option_pieces (xs ++ x ∷ [])) =
     g.octets ∙ ap (λ (t : List ℕ). t ++ s) f.field.is.1 ∙ append_assoc w.octets (pieces (option_pieces xs)) s
     ∙ ap (λ (t : List ℕ). w.octets ++ t) (sym (joined xs x [] ∙ ap (λ (t : List ℕ). pieces (option_pieces xs) ++ t) (append-nil s))) in
-    record { keeps = keeps_then f.keeps g.keeps; field = record { is = (fits_push xs x f.field.is.0 g.holds, octets) } }
+    record { keeps = keeps_then f.keeps g.keeps; field = record { is = (all_push OptionFits xs x f.field.is.0 g.holds, octets) } }
 
 canonical_length : (v : List (Numbered OptionValue)) → length (field_octets Options v) ≡ length (pieces (option_pieces v))
 unfolding field_octets

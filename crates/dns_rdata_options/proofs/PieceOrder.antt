@@ -1,13 +1,13 @@
 -- The order of the octets of options, and of lists that they begin.
-use Rattle.std.proofs.Common.{◌≡◌, ◌≢◌, ℕ, ◌<◌, ◌≤◌, ◌^◌, nat_le, true, arith, List, [], ◌∷◌, ◌++◌, length, map, count_by, refl, sym, ap, ◌∙◌, subst, append_assoc}
-use Rattle.std.proofs.lemmas.Bool.Decides.{nat_tests}
+use Rattle.std.proofs.Common.{◌≡◌, ◌≢◌, ℕ, ◌<◌, ◌^◌, nat_le, true, List, [], ◌∷◌, ◌++◌, length, map, count_by, refl, sym, ap, ◌∙◌}
 use Rattle.std.proofs.lemmas.List.{append-nil}
 use Rattle.std.proofs.lemmas.Grind.{flat_map-append}
 use Rattle.std.specs.Int.{bytes_high_first}
 use Rattle.std.specs.List.{flat_map, AllByRecursion}
-use Rattle.std.specs.Cmp.{ranks, first_so, second_so}
+use Rattle.std.specs.Cmp.{first_so, second_so}
+use Rattle.std.specs.FinMap.{nat_cmp-IsAntisymmetric}
 use Rattle.std.specs.Cmp.Lexicographic.{slice_cmp}
-use Rattle.std.specs.Ordering.{MatchOrdering, is_eq, eq_by_cmp, nat_cmp, ordering_then}
+use Rattle.std.specs.Ordering.{is_eq, eq_by_cmp, nat_cmp, ordering_then}
 use Rattle.std.specs.declared.cmp.Ordering.{Ordering}
 use Rattle.std.specs.declared.cmp.Ordering.TheVariants.{Less, Equal, Greater}
 use Rattle.dns_fields.specs.Fields.{Options, field_octets, option_pieces}
@@ -15,56 +15,38 @@ use Rattle.dns_fields.proofs.Sorted.{sorted_all, map_sorted, flat_map_all}
 use Rattle.dns_fields.specs.Pieces.{piece, option_octets}
 use Rattle.dns_fields.specs.Sorting.{sorted}
 use Rattle.dns_fields.proofs.Multisets.{count_sorted, sorted_risen, same_counts}
-use Rattle.dns_fields.proofs.Numbers.{number_cmp}
+use Rattle.dns_fields.proofs.Numbers.{length-bytes}
+use Rattle.dns_fields.proofs.Pieces.{parts, number_first, piece_before}
 use Rattle.dns_pieces.specs.Fronts.{canonical_cmp}
-use Rattle.dns_pieces.proofs.Comparing.{cmp_shared, then_assoc, then_kept}
-use Rattle.dns_pieces.proofs.Fronts.{front_then, alone}
+use Rattle.dns_pieces.proofs.Comparing.{cmp_shared, then_kept}
+use Rattle.dns_pieces.proofs.Fronts.{alone}
 use Rattle.dns_rdata_options.specs.EdnsOption.{option_value}
 use Rattle.dns_rdata_options.specs.Facing.{code_number}
 use Rattle.dns_rdata_options.specs.OPT.{Pair, pair_value, opt_shape, opt_fields}
 use Rattle.dns_rdata_options.specs.Order.{pair_cmp, risen, opt_eq}
 use Rattle.dns_rdata_options.specs.OrderLaws.{pair_total, opt_ties}
 use Rattle.dns_rdata_options.specs.Steps.{octets_cmp, piece_cmp, own_piece, pair_emittable, pairs_emittable}
+use Rattle.dns_rdata_options.proofs.Pairs.{is_short}
 
--- the codes come first, then the lengths, and then what the pieces hold
-by_parts : (c d : ℕ) (s t u v : List ℕ) → length s < 256 ^ 2 → length t < 256 ^ 2
-    → octets_cmp (piece (c, s) ++ u) (piece (d, t) ++ v)
-    ≡ ordering_then (octets_cmp (bytes_high_first 2 c) (bytes_high_first 2 d)) (ordering_then (nat_cmp (length s) (length t)) (octets_cmp (s ++ u) (t ++ v)))
-by_parts c d s t u v h k =
-    (λ i. octets_cmp (parts c s u i) (parts d t v i))
-    ∙ front_then (bytes_high_first 2 c) (bytes_high_first 2 d) (bytes_high_first 2 (length s) ++ (s ++ u)) (bytes_high_first 2 (length t) ++ (t ++ v)) refl
-    ∙ ap (ordering_then (octets_cmp (bytes_high_first 2 c) (bytes_high_first 2 d))) (
-    front_then (bytes_high_first 2 (length s)) (bytes_high_first 2 (length t)) (s ++ u) (t ++ v) refl
-    ∙ ap (λ (o : Ordering). ordering_then o (octets_cmp (s ++ u) (t ++ v))) (number_cmp 2 (length s) (length t) h k)
-    )
-  where
-    parts : (c : ℕ) (s u : List ℕ) → piece (c, s) ++ u ≡ bytes_high_first 2 c ++ (bytes_high_first 2 (length s) ++ (s ++ u))
-    parts c s u = append_assoc (bytes_high_first 2 c) (bytes_high_first 2 (length s) ++ s) u
-        ∙ ap (λ (l : List ℕ). bytes_high_first 2 c ++ l) (append_assoc (bytes_high_first 2 (length s)) s u)
+behind : (o s t u : Ordering) → (o ≡ Equal → s ≡ ordering_then t u) → ordering_then o s ≡ ordering_then (ordering_then o t) u
+behind Less s t u h = refl
+behind Equal s t u h = h refl
+behind Greater s t u h = refl
 
-where_tied : (o s t : Ordering) → (o ≡ Equal → s ≡ t) → ordering_then o s ≡ ordering_then o t
-where_tied Less s t h = refl
-where_tied Equal s t h = h refl
-where_tied Greater s t h = refl
+-- of octets of which neither are the beginning of the other the first difference decides, and where they are the same what comes behind
+free_then : (p q u v : List ℕ) → ((r s : List ℕ) → p ++ r ≡ q ++ s → p ≡ q) → octets_cmp (p ++ u) (q ++ v) ≡ ordering_then (octets_cmp p q) (octets_cmp u v)
+free_then [] [] u v h = refl
+free_then [] (b ∷ q) u v h = let e : [] ≡ b ∷ q = h (b ∷ q) [] (sym (append-nil (b ∷ q))) in cc e
+free_then (a ∷ p) [] u v h = let e : a ∷ p ≡ [] = h [] (a ∷ p) (append-nil (a ∷ p)) in cc e
+free_then (a ∷ p) (b ∷ q) u v h = behind (nat_cmp a b) (octets_cmp (p ++ u) (q ++ v)) (octets_cmp p q) (octets_cmp u v)
+    (λ e. free_then p q u v (λ r s f. let g : a ∷ p ≡ b ∷ q = h r s (λ i. nat_cmp-IsAntisymmetric a b e i ∷ f i) in cc g))
 
--- two pieces decide, and where they are the same what comes behind them
-pieces_then : (c d : ℕ) (s t u v : List ℕ) → length s < 256 ^ 2 → length t < 256 ^ 2
-    → octets_cmp (piece (c, s) ++ u) (piece (d, t) ++ v) ≡ ordering_then (octets_cmp (piece (c, s)) (piece (d, t))) (octets_cmp u v)
-pieces_then c d s t u v h k =
-    let codes : Ordering = octets_cmp (bytes_high_first 2 c) (bytes_high_first 2 d) in
-    let sizes : Ordering = nat_cmp (length s) (length t) in
-    let alone : octets_cmp (piece (c, s)) (piece (d, t)) ≡ ordering_then codes (ordering_then sizes (octets_cmp s t)) =
-    (λ i. octets_cmp (sym (append-nil (piece (c, s))) i) (sym (append-nil (piece (d, t))) i))
-    ∙ by_parts c d s t [] [] h k
-    ∙ (λ i. ordering_then codes (ordering_then sizes (octets_cmp (append-nil s i) (append-nil t i)))) in
-    by_parts c d s t u v h k
-    ∙ ap (ordering_then codes) (
-    where_tied sizes (octets_cmp (s ++ u) (t ++ v)) (ordering_then (octets_cmp s t) (octets_cmp u v))
-    (λ e. front_then s t u v (subst (λ (o : Ordering). MatchOrdering o (length s < length t) (length s ≡ length t) (length t < length s)) e (ranks (length s) (length t))))
-    ∙ sym (then_assoc sizes (octets_cmp s t) (octets_cmp u v))
-    )
-    ∙ sym (then_assoc codes (ordering_then sizes (octets_cmp s t)) (octets_cmp u v))
-    ∙ ap (λ (o : Ordering). ordering_then o (octets_cmp u v)) (sym alone)
+same_piece : (c d : ℕ) (s t u v : List ℕ) → length s < 256 ^ 2 → length t < 256 ^ 2 → piece (c, s) ++ u ≡ piece (d, t) ++ v → piece (c, s) ≡ piece (d, t)
+same_piece c d s t u v h k e =
+    let f = parts (bytes_high_first 2 c) _ (bytes_high_first 2 d) _ (length-bytes 2 c ∙ sym (length-bytes 2 d)) (sym (piece_before (c, s) u) ∙ e ∙ piece_before (d, t) v) in
+    let g = number_first (length s) (length t) (s ++ u) (t ++ v) h k f.1 in
+    let o = parts s u t v g.0 g.1 in
+    λ i. f.0 i ++ (bytes_high_first 2 (length (o.0 i)) ++ o.0 i)
 
 -- ---- pairs
 
@@ -73,13 +55,11 @@ abbrev pub held : Pair → List ℕ
 held p = option_octets (option_value p.1)
 
 few_octets : (p : Pair) → pair_emittable p ≡ true → length (held p) < 256 ^ 2
-few_octets p h = short (length (held p)) (first_so (nat_le (length (held p)) 65535) _ h) where
-  short : (n : ℕ) → nat_le n 65535 ≡ true → n < 256 ^ 2
-  short n t = let l : n ≤ 65535 = grind (arith, nat_tests) in omega (arith, l)
+few_octets p h = is_short (length (held p)) (first_so (nat_le (length (held p)) 65535) _ h)
 
 pub pairs_then : (p q : Pair) (u v : List ℕ) → pair_emittable p ≡ true → pair_emittable q ≡ true
     → octets_cmp (own_piece p ++ u) (own_piece q ++ v) ≡ ordering_then (octets_cmp (own_piece p) (own_piece q)) (octets_cmp u v)
-pairs_then p q u v e f = pieces_then (code_number p) (code_number q) (held p) (held q) u v (few_octets p e) (few_octets q f)
+pairs_then p q u v e f = free_then (own_piece p) (own_piece q) u v (λ r s. same_piece (code_number p) (code_number q) (held p) (held q) r s (few_octets p e) (few_octets q f))
 
 -- pieces that differ decide whatever comes behind them
 pub pairs_decide : (p q : Pair) (u v : List ℕ) → pair_emittable p ≡ true → pair_emittable q ≡ true
@@ -119,9 +99,9 @@ in_order x = ap (λ (l : List (List ℕ)). flat_map (λ s. s) (sorted octets_cmp
 rows_cmp : (x y : List Pair) → AllEmittable x → AllEmittable y → slice_cmp piece_cmp x y ≡ octets_cmp (flat_map own_piece x) (flat_map own_piece y)
 rows_cmp [] [] h k = refl
 rows_cmp [] (q ∷ y) h k = refl
-rows_cmp (p ∷ x) [] h k = refl
 rows_cmp (p ∷ x) (q ∷ y) h k =
     ap (ordering_then (piece_cmp p q)) (rows_cmp x y h.1 k.1) ∙ sym (pairs_then p q (flat_map own_piece x) (flat_map own_piece y) h.0 k.0)
+rows_cmp x y h k = refl
 
 -- records of options are ordered by their pairs in rising order
 pub by_pieces : (xs ys : List Pair) → pairs_emittable xs ≡ true → pairs_emittable ys ≡ true

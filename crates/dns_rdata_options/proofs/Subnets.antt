@@ -1,7 +1,6 @@
 -- The subnet that begins octets, and why none does.
 use Rattle.std.proofs.Common.{◌≡◌, ◌⊎◌, inl, inr, ℕ, zero, suc, ◌+◌, ◌-◌, ◌<◌, ◌≤◌, List, [], ◌∷◌, ◌++◌, length, take}
-use Rattle.std.proofs.Common.{drop, replicate, get_or, false, ◌==◌, refl, sym, ap, ◌∙◌, arith, subst}
-use Rattle.std.proofs.Common.{append_assoc}
+use Rattle.std.proofs.Common.{drop, replicate, get_or, false, ◌==◌, refl, sym, ap, ◌∙◌, arith, subst, append_assoc}
 use Rattle.std.specs.Int.{w16, from_be_bytes, bytes_high_first}
 use Rattle.std.specs.Net.Addr.{segments_of, ipv6_segments}
 use Rattle.std.specs.declared.net.ip_addr.IpAddr.TheVariants.{V6}
@@ -10,15 +9,13 @@ use Rattle.std.proofs.lemmas.Bool.Decides.{nat_tests}
 use Rattle.std.proofs.lemmas.Nat.{be_bytes_2}
 use Rattle.std.proofs.lemmas.List.{length-append, length-take-le, length-drop, length-replicate, take-append-drop, take_at}
 use Rattle.dns_types.specs.declared.error.DecodeError.TheVariants as decode
-use Rattle.dns_fields.specs.Octets.{At}
-use Rattle.dns_fields.specs.Octets.{AreOctets}
+use Rattle.dns_fields.specs.Octets.{At, AreOctets}
 use Rattle.dns_fields.specs.Pieces.{OptionValue, Subnet, option_octets, IsAddress, IsEmittableOption}
 use Rattle.dns_fields.proofs.Numbers.{length-bytes}
 use Rattle.dns_fields.proofs.OctetLaws.{AreOctets-nil, AreOctets-cons, AreOctets-append, AreOctets-take, AreOctets-drop}
 use Rattle.dns_rdata_base.proofs.Addresses.{octets_of-segments}
 use Rattle.dns_rdata_options.specs.ClientSubnet.{family_of, address_octets, prefix_octets, family_octets, padded, address_of, subnet_of}
-use Rattle.dns_rdata_options.specs.ClientSubnet.{subnet_value, IsReadSubnet, SubnetAt, IsFamily}
-use Rattle.dns_rdata_options.specs.ClientSubnet.{SubnetHead, IsSubnetRefusal}
+use Rattle.dns_rdata_options.specs.ClientSubnet.{subnet_value, IsReadSubnet, SubnetAt, IsFamily, SubnetHead, IsSubnetRefusal}
 use Rattle.dns_rdata_options.specs.declared.opt.subnet.ClientSubnet.{ClientSubnet}
 
 -- octets as numbers of eight bits, as code knows them
@@ -33,16 +30,12 @@ pair_small p q a b (suc (suc i)) = omega arith
 -- the family, and what follows
 pub family_first : (s : List ℕ) (f : ℕ) → 2 ≤ length s → Eights s → f ≡ from_be_bytes w16 (get_or s 0 0 ∷ get_or s 1 0 ∷ [])
     → s ≡ bytes_high_first 2 f ++ drop 2 s
-family_first [] f n b e = absurd (omega arith)
-family_first (p ∷ []) f n b e = absurd (omega arith)
 family_first (p ∷ q ∷ s) f n b e = ap (λ (o : List ℕ). o ++ s) (sym (be_bytes_2 (p ∷ q ∷ []) f refl (pair_small p q (b 0) (b 1)) e))
+family_first s f n b e = absurd (omega arith)
 
 heads : (s : List ℕ) → 4 ≤ length s → drop 2 s ≡ get_or s 2 0 ∷ get_or s 3 0 ∷ drop 4 s
-heads [] n = absurd (omega arith)
-heads (p ∷ []) n = absurd (omega arith)
-heads (p ∷ q ∷ []) n = absurd (omega arith)
-heads (p ∷ q ∷ r ∷ []) n = absurd (omega arith)
 heads (p ∷ q ∷ r ∷ t ∷ s) n = refl
+heads s n = absurd (omega arith)
 
 pub head_first : (s : List ℕ) (f : ℕ) → 4 ≤ length s → Eights s → f ≡ from_be_bytes w16 (get_or s 0 0 ∷ get_or s 1 0 ∷ []) → IsFamily f
     → SubnetHead s f (get_or s 2 0) (get_or s 3 0) (drop 4 s)
@@ -117,32 +110,29 @@ zeros : (n : ℕ) → AreOctets (replicate n 0)
 zeros zero = AreOctets-nil
 zeros (suc n) = AreOctets-cons 0 (replicate n 0) (omega arith) (zeros n)
 
--- the octets of the address that octets begin are these
-octets_front : (f source : ℕ) (s : List ℕ) → IsFamily f → length s ≡ prefix_octets source → length s ≤ family_octets f → AreOctets s
-    → take (prefix_octets source) (address_octets (address_of f s)) ≡ s
-octets_front f source s known long le are =
-    ap (take (prefix_octets source)) (octets_back f s known le (AreOctets-append s (replicate (16 - length s) 0) are (zeros (16 - length s))))
-    ∙ take_at s (replicate (family_octets f - length s) 0) (prefix_octets source) long
-
--- a subnet that is made of its parts has these parts
-pub value_back : (f source scope : ℕ) (s : List ℕ) → IsFamily f → length s ≡ prefix_octets source → length s ≤ family_octets f → AreOctets s
-    → subnet_value (subnet_of f source scope s) ≡ Subnet f source scope s
-value_back f source scope s known long le are = rw (family_back f s known, octets_front f source s known long le are) refl
-
-pub made_read : (f source scope : ℕ) (s : List ℕ) → IsFamily f → length s ≡ prefix_octets source → length s ≤ family_octets f → AreOctets s
-    → IsReadSubnet (subnet_of f source scope s)
-made_read f source scope s known long le are = record { padded = rw (family_back f s known, octets_front f source s known long le are) refl }
-
-pub is_address : (f source : ℕ) (s : List ℕ) → IsFamily f → length s ≡ prefix_octets source → length s ≤ family_octets f → IsAddress f source s
-is_address f source s (inl e) long le = record { long = long; most = inl (e, omega (arith, rw e at le)) }
-is_address f source s (inr e) long le = record { long = long; most = inr (e, omega (arith, rw e at le)) }
-
--- and the other way about
 pub address_known : (f source : ℕ) (s : List ℕ) → IsAddress f source s → IsFamily f × (length s ≤ family_octets f)
 address_known f source s a = most a.most where
   most : ((f ≡ 1) × (length s ≤ 4)) ⊎ ((f ≡ 2) × (length s ≤ 16)) → IsFamily f × (length s ≤ family_octets f)
   most (inl h) = (inl h.0, rw h.0 (h.1))
   most (inr h) = (inr h.0, rw h.0 (h.1))
+
+-- the octets of the address that octets begin are these
+octets_front : (f source : ℕ) (s : List ℕ) → IsAddress f source s → AreOctets s → take (prefix_octets source) (address_octets (address_of f s)) ≡ s
+octets_front f source s a are =
+    let k = address_known f source s a in
+    ap (take (prefix_octets source)) (octets_back f s k.0 k.1 (AreOctets-append s (replicate (16 - length s) 0) are (zeros (16 - length s))))
+    ∙ take_at s (replicate (family_octets f - length s) 0) (prefix_octets source) a.long
+
+-- a subnet that is made of its parts has these parts
+pub value_back : (f source scope : ℕ) (s : List ℕ) → IsAddress f source s → AreOctets s → subnet_value (subnet_of f source scope s) ≡ Subnet f source scope s
+value_back f source scope s a are = rw (family_back f s (address_known f source s a).0, octets_front f source s a are) refl
+
+pub made_read : (f source scope : ℕ) (s : List ℕ) → IsAddress f source s → AreOctets s → IsReadSubnet (subnet_of f source scope s)
+made_read f source scope s a are = record { padded = rw (family_back f s (address_known f source s a).0, octets_front f source s a are) refl }
+
+pub is_address : (f source : ℕ) (s : List ℕ) → IsFamily f → length s ≡ prefix_octets source → length s ≤ family_octets f → IsAddress f source s
+is_address f source s (inl e) long le = record { long = long; most = inl (e, omega (arith, rw e at le)) }
+is_address f source s (inr e) long le = record { long = long; most = inr (e, omega (arith, rw e at le)) }
 
 pub at_zero : (s x r : List ℕ) → s ≡ x ++ r → At s 0 x (length x)
 at_zero s x r e = record {
@@ -161,9 +151,9 @@ subnet_stands s f x n b e known most enough is =
     let k = prefix_octets source in
     let a = take k (drop 4 s) in
     let long : length a ≡ k = length-take-le k (drop 4 s) (omega (arith, length-drop 4 s)) in
-    let le : length a ≤ family_octets f = omega (arith, long, most) in
     let are : AreOctets a = AreOctets-take k (drop 4 s) (AreOctets-drop 4 s (eights_octets s b)) in
-    let value : subnet_value (subnet_of f source scope a) ≡ Subnet f source scope a = value_back f source scope a known long le are in
+    let address = is_address f source a known long (omega (arith, long, most)) in
+    let value : subnet_value (subnet_of f source scope a) ≡ Subnet f source scope a = value_back f source scope a address are in
     let octets : s ≡ option_octets (Subnet f source scope a) ++ drop k (drop 4 s) =
     (head_first s f n b e known).octets ∙ ap (λ (o : List ℕ). bytes_high_first 2 f ++ (source ∷ scope ∷ o)) (sym (take-append-drop k (drop 4 s)))
     ∙ sym (append_assoc (bytes_high_first 2 f) (source ∷ scope ∷ a) (drop k (drop 4 s))) in
@@ -172,9 +162,9 @@ subnet_stands s f x n b e known most enough is =
     let at : At s 0 (option_octets (Subnet f source scope a)) (4 + k) = subst (At s 0 (option_octets (Subnet f source scope a))) there
     (at_zero s (option_octets (Subnet f source scope a)) (drop k (drop 4 s)) octets) in
     subst (λ (y : ClientSubnet). SubnetAt s 0 y (4 + k)) (sym is) (record {
-      fits = subst IsEmittableOption (sym value) (is_address f source a known long le);
+      fits = subst IsEmittableOption (sym value) address;
       at = subst (λ (v : OptionValue). At s 0 (option_octets v) (4 + k)) (sym value) at;
-      read = made_read f source scope a known long le are;
+      read = made_read f source scope a address are;
     })
 
 -- ---- where no subnet stands
@@ -182,13 +172,3 @@ subnet_stands s f x n b e known most enough is =
 -- the octets that a subnet begins
 pub begun : {s x : List ℕ} {q : ℕ} → At s 0 x q → s ≡ x ++ drop (length x) s
 begun {s} {x} a = sym (take-append-drop (length x) s) ∙ ap (λ (o : List ℕ). o ++ drop (length x) s) a.same
-
--- family, source prefix and address octets that octets begin with
-pub record Begins (s : List ℕ) (f source scope : ℕ) (a rest : List ℕ) : Type 0 where
-  pub octets : s ≡ bytes_high_first 2 f ++ (source ∷ scope ∷ (a ++ rest))
-  pub address : IsAddress f source a
-
-begins : {s : List ℕ} {q : ℕ} (f source scope : ℕ) (a : List ℕ) → IsAddress f source a → At s 0 (option_octets (Subnet f source scope a)) q
-    → Begins s f source scope a (drop (length (option_octets (Subnet f source scope a))) s)
-begins {s} f source scope a is at = record
-    { octets = begun at ∙ append_assoc (bytes_high_first 2 f) (source ∷ scope ∷ a) (drop (length (option_octets (Subnet f source scope a))) s); address = is }

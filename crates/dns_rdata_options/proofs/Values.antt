@@ -1,8 +1,9 @@
 -- Records of options by their fields: one that was read is told by them, and fields that stand make one. `==` of records
 -- tells whether one is the other in another order; of two that were read, whether their fields are.
 use Rattle.std.proofs.Common.{◌≡◌, ◌↔◌, ◌⊎◌, inl, inr, ℕ, ◌-◌, ◌==◌, Bool, true, false, cond, List, [], ◌∷◌, ◌++◌}
-use Rattle.std.proofs.Common.{map, count_by, refl, sym, ap, ◌∙◌, subst}
+use Rattle.std.proofs.Common.{map, count_by, get_or, slice_get, Some, refl, sym, ap, ◌∙◌, subst}
 use Rattle.std.specs.Bool.{Decides}
+use Rattle.std.proofs.lemmas.Option.{get_or_from_slice_get}
 use Rattle.std.proofs.lemmas.Bool.Decides.{same_from_decides, Decides-and, Decides-like}
 use Rattle.std.specs.Cmp.{unsigned_Decides}
 use Rattle.std.specs.Cmp.Lexicographic.{pointwise, pointwise_decides}
@@ -35,7 +36,7 @@ use Rattle.dns_rdata_options.specs.declared.opt.subnet.ClientSubnet.{ClientSubne
 use Rattle.dns_rdata_options.specs.contracts.opt.option.EdnsOptionPartialEq.TheImpl as equal_options
 use Rattle.dns_rdata_options.specs.contracts.opt.subnet.ClientSubnetPartialEq.TheImpl as equal_subnets
 use Rattle.dns_rdata_options.proofs.OptionValues.{edns_code_number-of}
-use Rattle.dns_rdata_options.proofs.Subnets.{address_known, value_back}
+use Rattle.dns_rdata_options.proofs.Subnets.{value_back}
 
 -- ---- values that were read
 
@@ -44,8 +45,7 @@ held_value n s (Subnet f source scope a) are h =
     let octets : AreOctets a = AreOctets-tail scope a
     (AreOctets-tail source (scope ∷ a) (AreOctets-back (bytes_high_first 2 f) (source ∷ scope ∷ a)
     (AreOctets-front (option_octets (Subnet f source scope a)) h.2 (AreOctets-same s _ h.3 are)))) in
-    let k = address_known f source a h.1 in
-    value_back f source scope a k.0 h.1.long k.1 octets
+    value_back f source scope a h.1 octets
 held_value n s (Plain t) are h = either (n == 3) where
   either : (b : Bool) → option_value (cond b (edns.NSID t) (edns.Unknown n t)) ≡ Plain t
   either true = refl
@@ -54,8 +54,6 @@ held_value n s (Plain t) are h = either (n == 3) where
 pairs_back : (read : List (Numbered (List ℕ))) (v : List (Numbered OptionValue)) → AreOctets (pieces read) → AllHeld OptionHeld read v
     → map pair_value (map pair_of v) ≡ v
 pairs_back [] [] are h = refl
-pairs_back [] (y ∷ ys) are h = absurd h
-pairs_back (x ∷ xs) [] are h = absurd h
 pairs_back (x ∷ xs) (y ∷ ys) are h =
     let first : AreOctets (piece x) = AreOctets-front (piece x) (pieces xs) are in
     let rest : AreOctets (pieces xs) = AreOctets-back (piece x) (pieces xs) are in
@@ -63,6 +61,7 @@ pairs_back (x ∷ xs) (y ∷ ys) are h =
     ap (λ (n : ℕ). (n, option_value (option_of y.0 y.1)) ∷ map pair_value (map pair_of ys)) (edns_code_number-of y.0)
     ∙ ap (λ (v : OptionValue). (y.0, v) ∷ map pair_value (map pair_of ys)) (held_value y.0 x.1 y.1 body h.1)
     ∙ ap (λ (l : List (Numbered OptionValue)). y ∷ l) (pairs_back xs ys rest h.2)
+pairs_back xs v are h = absurd h
 
 -- the fields of options that stand are those of the record that they make
 pub opt_fields-from : (m : List ℕ) (p : ℕ) (vs : Values opt_shape) (q : ℕ) → AreOctets m → Stands m p opt_shape vs q → opt_fields (opt_from vs) ≡ vs
@@ -90,20 +89,8 @@ code_back n v = cond (v == 13) (codes.Unknown n) (edns_code_of n)
 
 code_again : (c : EdnsCode) → code_back (edns_code_number c) (edns_code_variant c) ≡ c
 unfolding code_back edns_code_of
-code_again codes.Zero = refl
-code_again codes.LLQ = refl
-code_again codes.UL = refl
-code_again codes.NSID = refl
-code_again codes.DAU = refl
-code_again codes.DHU = refl
-code_again codes.N3U = refl
-code_again codes.Subnet = refl
-code_again codes.Expire = refl
-code_again codes.Cookie = refl
-code_again codes.Keepalive = refl
-code_again codes.Padding = refl
-code_again codes.Chain = refl
 code_again (codes.Unknown n) = refl
+code_again c = refl
 
 pub code_decides : (a b : EdnsCode) → Decides (code_eq a b) (a ≡ b)
 code_decides a b = told (code_eq a b) (Decides-and _ _ (unsigned_Decides (edns_code_number a) (edns_code_number b))
@@ -112,9 +99,8 @@ code_decides a b = told (code_eq a b) (Decides-and _ _ (unsigned_Decides (edns_c
 
 address_decides : (a b : IpAddr) → Decides (equal_addresses.ghosts.eq a b) (a ≡ b)
 address_decides (V4 a) (V4 b) = told _ (octets_decide a.octets b.octets) (λ e. ap (λ (s : List ℕ). V4 (record { octets = s })) e, λ e. cc e)
-address_decides (V4 a) (V6 b) = (λ h. cc h, λ e. cc e)
-address_decides (V6 a) (V4 b) = (λ h. cc h, λ e. cc e)
 address_decides (V6 a) (V6 b) = told _ (octets_decide a.segments b.segments) (λ e. ap (λ (s : List ℕ). V6 (record { segments = s })) e, λ e. cc e)
+address_decides a b = (λ h. cc h, λ e. cc e)
 
 subnet_decides : (a b : ClientSubnet) → Decides (equal_subnets.ghosts.eq a b) (a ≡ b)
 subnet_decides a b =
@@ -127,8 +113,7 @@ subnet_decides a b =
 
 subnet_within : EdnsOption → ClientSubnet → ClientSubnet
 subnet_within (edns.Subnet x) y = x
-subnet_within (edns.NSID s) y = y
-subnet_within (edns.Unknown n s) y = y
+subnet_within o y = y
 
 pub option_decides : (a b : EdnsOption) → Decides (equal_options.ghosts.eq a b) (a ≡ b)
 unfolding subnet_within
@@ -136,16 +121,16 @@ option_decides (edns.Subnet a) (edns.Subnet b) = told _ (subnet_decides a b) (λ
 option_decides (edns.NSID a) (edns.NSID b) = told _ (octets_decide a b) (λ e. ap edns.NSID e, λ e. cc e)
 option_decides (edns.Unknown n a) (edns.Unknown m b) = told _ (Decides-and _ _ (unsigned_Decides n m) (octets_decide a b))
     (λ e i. edns.Unknown (e.0 i) (e.1 i), λ e. (cc e, cc e))
-option_decides (edns.Subnet a) (edns.NSID b) = (λ h. cc h, λ e. cc e)
-option_decides (edns.Subnet a) (edns.Unknown m b) = (λ h. cc h, λ e. cc e)
-option_decides (edns.NSID a) (edns.Subnet b) = (λ h. cc h, λ e. cc e)
-option_decides (edns.NSID a) (edns.Unknown m b) = (λ h. cc h, λ e. cc e)
-option_decides (edns.Unknown n a) (edns.Subnet b) = (λ h. cc h, λ e. cc e)
-option_decides (edns.Unknown n a) (edns.NSID b) = (λ h. cc h, λ e. cc e)
+option_decides a b = (λ h. cc h, λ e. cc e)
 
 pub pair_decides : (a b : Pair) → Decides (pair_eq a b) (a ≡ b)
 pair_decides a b = told _ (Decides-and _ _ (code_decides a.0 b.0) (option_decides a.1 b.1))
     (λ h i. (h.0 i, h.1 i), λ e. (ap (λ (p : Pair). p.0) e, ap (λ (p : Pair). p.1) e))
+
+pub pair_same_at : (xs ys : List Pair) (i j : ℕ) (p q x y : Pair) → p ≡ get_or xs i p → q ≡ get_or ys j q → slice_get xs i ≡ Some x → slice_get ys j ≡ Some y
+    → pair_eq p q ≡ true → x ≡ y
+pair_same_at xs ys i j p q x y e f g h t =
+    sym (get_or_from_slice_get xs i x p g) ∙ sym e ∙ (pair_decides p q).0 t ∙ f ∙ get_or_from_slice_get ys j y q h
 
 pair_same : IsAntisymmetric pair_cmp
 pair_same a b e = (pair_decides a b).0 (pair_ties a b ∙ ap is_eq e)

@@ -221,20 +221,12 @@ impl PartialEq for OPT {
         ensures permutation { IsTrue result ↔ IsPermutation self.now other.now }
         ensures multiset { IsTrue result ↔ ((p : Pair) → count_by (pair_eq p) self.now ≡ count_by (pair_eq p) other.now) }
     {
-        if stands_alike(self, other) {
+        // Most lists that are equal have the same order, and this test is quick.
+        if self.options.as_slice() == other.options.as_slice() {
             return true;
         }
         self.cmp(other).is_eq()
     }
-}
-
-// Whether both have the same options in the same order. Most lists that are equal do, and this is tested first since it is
-// quick.
-#[inline]
-fn stands_alike(a: &OPT, b: &OPT) -> bool
-    ensures { IsTrue result → a.now ≡ b.now }
-{
-    a.options.as_slice() == b.options.as_slice()
 }
 
 impl Eq for OPT {

@@ -110,32 +110,14 @@ fn least_difference(
     for i in 0..options.len() {
         let option = &options[i];
         let other = &others[i];
-        if !is_code_alike(option.0, other.0) {
+        if option.0 != other.0 {
             return None;
         }
-        if !is_option_alike(&option.1, &other.1) {
+        if option.1 != other.1 {
             least = lesser(least, i, u16::from(option.0));
         }
     }
     Some(least)
-}
-
-/// Whether they are of one variant and one number.
-#[inline]
-#[tactic(auto, using(crate::proofs::Values::code_decides))]
-pub(crate) fn is_code_alike(a: EdnsCode, b: EdnsCode) -> bool
-    ensures { IsTrue result → a ≡ b }
-{
-    a == b
-}
-
-/// Whether they are of one variant and hold the same.
-#[inline]
-#[tactic(auto, using(crate::proofs::Values::option_decides))]
-pub(crate) fn is_option_alike(a: &EdnsOption, b: &EdnsOption) -> bool
-    ensures { IsTrue result → a.now ≡ b.now }
-{
-    a == b
 }
 
 // The place that is kept, unless the other one has a lesser code.

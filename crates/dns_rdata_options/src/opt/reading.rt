@@ -2,12 +2,12 @@
 
 ghost use Rattle.std.specs.Prelude.{◌≡◌, ◌⊎◌, ◌+◌, ◌≤◌, ◌<◌, ℕ, List, Some, length as list_length, IfOk, IfErr, OnOk};
 ghost use Rattle.dns_fields.specs.Octets.{At};
-ghost use Rattle.dns_fields.specs.Pieces.{Numbered, pieces, ArePieces, OptionValue, OptionHeld};
+ghost use Rattle.dns_fields.specs.Pieces.{Numbered, pieces, ArePieces};
 ghost use Rattle.dns_names_wire.specs.Words.{ReadsTo};
 ghost use Rattle.dns_rdata_options.specs.EdnsCode.{edns_code_of};
 ghost use Rattle.dns_rdata_options.specs.EdnsOption.{IsOptionRefusal};
 ghost use Rattle.dns_rdata_options.specs.OPT.{opt_shape, opt_fields, IsReadOpt, IsOptRefusal};
-ghost use Rattle.dns_rdata_options.specs.OptionReads.{ReadsPiece, ReadsNext, TookPair, TookSome, HasValue, NoWhole};
+ghost use Rattle.dns_rdata_options.specs.OptionReads.{ReadsPiece, KeptOption};
 
 use crate::opt::OPT;
 use crate::opt::code::EdnsCode;
@@ -80,105 +80,45 @@ fn passed(read: usize, len: u16) -> DecodeError
     }
 }
 
-// Whether octets of an option with this code have a value.
-fn check_octets(code: u16, octets: &[u8]) -> Result<(), DecodeError>
-    ensures value { OnOk result (HasValue code octets.now) }
-    ensures refused { IfErr result (λ e. IsOptionRefusal (edns_code_of code) octets.now e) }
+// Appends the option of this number and these octets, or only tests that the octets have a value.
+fn keep_option(
+    options: &mut Vec<(EdnsCode, EdnsOption)>,
+    keeps: bool,
+    number: u16,
+    octets: &[u8],
+) -> Result<(), DecodeError>
+    ensures kept { OnOk result (KeptOption keeps number octets.now options.old.items options.new.items) }
+    ensures refused { IfErr result (λ e. (e ≡ DecodeError.Memory) ⊎ IsOptionRefusal (edns_code_of number) octets.now e) }
 {
-    if code == SUBNET {
+    if keeps {
+        let code = EdnsCode::from(number);
+        let option = EdnsOption::try_from(*options.allocator(), (code, octets))?;
+        options.push((code, option))?;
+        return Ok(());
+    }
+    if number == SUBNET {
         let _subnet = ClientSubnet::try_from(octets)?;
     }
     Ok(())
 }
 
-// Passes the next option, whose octets must have a value, without memory. `None` where the record ends inside it.
-fn check_pair(
-    decoder: &mut BinDecoder<'_>,
-    start: usize,
-    length: u16,
-) -> Result<Option<()>, DecodeError>
-    requires behind { start ≤ decoder.old.index }
-    requires before { decoder.old.index < start + length }
-    ensures { ReadsNext (λ _ old new. TookSome (start + length) old new) start length result decoder.old decoder.new }
-{
-    let _place = decoder.index();
-    match next_piece(decoder, start, length)? {
-        Some((code, octets)) => {
-            check_octets(code, octets)?;
-            Ok(Some(()))
-        }
-        None => Ok(None),
-    }
-}
-
-// The next option. `None` where the record ends inside it.
-fn read_pair(
-    decoder: &mut BinDecoder<'_>,
-    start: usize,
-    length: u16,
-) -> Result<Option<(EdnsCode, EdnsOption)>, DecodeError>
-    requires behind { start ≤ decoder.old.index }
-    requires before { decoder.old.index < start + length }
-    ensures { ReadsNext (TookPair (start + length)) start length result decoder.old decoder.new }
-{
-    let _place = decoder.index();
-    let alloc = decoder.allocator();
-    match next_piece(decoder, start, length)? {
-        Some((number, octets)) => {
-            let code = EdnsCode::from(number);
-            let option = EdnsOption::try_from(alloc, (code, octets))?;
-            Ok(Some((code, option)))
-        }
-        None => Ok(None),
-    }
-}
-
-// Reads the options of a record in which none is cut, this many.
-fn read_whole(decoder: &mut BinDecoder<'_>, length: u16, count: usize) -> Result<OPT, DecodeError>
-    ensures fields { ReadsTo opt_shape (λ _. Unit {0}) length opt_fields result decoder.old decoder.new }
-    ensures read { IfOk result IsReadOpt }
-    ensures refused { IfErr result (λ e. IsOptRefusal length decoder.old e decoder.new) }
-{
-    let start = decoder.index();
-    let end = start + length as usize;
-    let alloc = decoder.allocator();
-    let mut options = Vec::with_capacity(alloc, count)?;
-    while decoder.index() < end {
-        match read_pair(decoder, start, length)? {
-            Some(pair) => options.push(pair)?,
-            None => return Ok(OPT::new(Vec::new(alloc))),
-        }
-    }
-    Ok(OPT::new(options))
-}
-
-// Reads the options of a record in which one is cut. None is kept, so that no memory is taken.
-fn read_cut(decoder: &mut BinDecoder<'_>, length: u16) -> Result<OPT, DecodeError>
-    requires none { NoWhole decoder.old.message decoder.old.index (decoder.old.index + length) }
-    ensures fields { ReadsTo opt_shape (λ _. Unit {0}) length opt_fields result decoder.old decoder.new }
-    ensures read { IfOk result IsReadOpt }
-    ensures refused { IfErr result (λ e. IsOptRefusal length decoder.old e decoder.new) }
-{
-    let start = decoder.index();
-    let end = start + length as usize;
-    while decoder.index() < end {
-        match check_pair(decoder, start, length)? {
-            Some(()) => {}
-            None => return Ok(OPT::new(Vec::new(decoder.allocator()))),
-        }
-    }
-    Ok(OPT::new(Vec::new(decoder.allocator())))
-}
-
-// Reads the options that fill the length, or are cut at its end.
+// Reads the options that fill the length, or are cut at its end. Of those none is kept, so that no memory is taken.
 pub(crate) fn read_options(decoder: &mut BinDecoder<'_>, length: u16) -> Result<OPT, DecodeError>
     ensures fields { ReadsTo opt_shape (λ _. Unit {0}) length opt_fields result decoder.old decoder.new }
     ensures read { IfOk result IsReadOpt }
     ensures refused { IfErr result (λ e. IsOptRefusal length decoder.old e decoder.new) }
 {
-    let _place = decoder.index();
-    match count_options(decoder.unread().unverified(), length as usize) {
-        Some(count) => read_whole(decoder, length, count),
-        None => read_cut(decoder, length),
+    let start = decoder.index();
+    let end = start + length as usize;
+    let alloc = decoder.allocator();
+    let count = count_options(decoder.unread().unverified(), length as usize);
+    let keeps = count.is_some();
+    let mut options = Vec::with_capacity(alloc, count.unwrap_or(0))?;
+    'pieces: while decoder.index() < end {
+        match next_piece(decoder, start, length)? {
+            Some((number, octets)) => keep_option(&mut options, keeps, number, octets)?,
+            None => return Ok(OPT::new(Vec::new(alloc))),
+        }
     }
+    Ok(OPT::new(options))
 }

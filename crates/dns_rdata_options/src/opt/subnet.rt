@@ -1,6 +1,6 @@
 //! The subnet of a client (RFC 7871, 6).
 
-ghost use Rattle.std.specs.Prelude.{◌≡◌, ◌+◌, ◌<◌, ◌≤◌, ◌/◌, ◌⊎◌, ◌↔◌, IsTrue, Bool, false, length, drop, take, Result, IfOk, IfErr, OnErr};
+ghost use Rattle.std.specs.Prelude.{◌≡◌, ◌+◌, ◌<◌, ◌≤◌, ◌/◌, ◌⊎◌, IfSome, IfNone, Bool, false, length, drop, take, Result, IfOk, IfErr, OnErr};
 ghost use Rattle.dns_fields.specs.Pieces.{option_octets, IsEmittableOption, IsAddress, Subnet as SubnetValue};
 ghost use Rattle.dns_names_wire.specs.Words.{ReadsBy, IsMessage};
 ghost use Rattle.dns_rdata_options.specs.Words.{EmitsOctets};
@@ -162,20 +162,17 @@ fn address_of(family: u16, octets: &[u8]) -> IpAddr
     }
 }
 
-// Whether addresses of the family are known.
+// How many octets an address of the family has, if such addresses are known.
 #[inline]
-fn is_family(family: u16) -> bool
-    ensures { IsTrue result ↔ IsFamily family }
+fn octets_of_family(family: u16) -> Option<usize>
+    ensures known { IfSome result (λ read. IsFamily family × (read ≡ family_octets family)) }
+    ensures unknown { IfNone result (IsFamily family → ⊥) }
 {
-    family == 1 || family == 2
-}
-
-// How many octets an address of the family has.
-#[inline]
-fn family_octets(family: u16) -> usize
-    ensures { result ≡ family_octets family }
-{
-    if family == 1 { 4 } else { 16 }
+    match family {
+        1 => Some(4),
+        2 => Some(16),
+        _ => None,
+    }
 }
 
 // The subnet that begins the octets, and how many octets it has.
@@ -187,14 +184,13 @@ fn read_front(octets: &[u8]) -> Result<(ClientSubnet, usize), DecodeError>
         return Err(DecodeError::InsufficientBytes);
     }
     let family = u16::from_be_bytes([octets[0], octets[1]]);
-    if !is_family(family) {
+    let Some(read) = octets_of_family(family) else {
         return Err(DecodeError::UnknownAddressFamily(family));
-    }
+    };
     if octets.len() < 4 {
         return Err(DecodeError::InsufficientBytes);
     }
     let len = (octets[2] as usize + 7) / 8;
-    let read = family_octets(family);
     if read < len {
         return Err(DecodeError::IncorrectRDataLengthRead { read, len });
     }

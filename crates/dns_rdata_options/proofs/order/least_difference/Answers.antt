@@ -1,14 +1,19 @@
-use Rattle.std.proofs.Common.{◌+◌, arith, length, refl, sym, ap, ◌∙◌, subst}
+use Rattle.std.proofs.Common.{◌≡◌, ◌+◌, arith, Bool, true, false, not, length, refl, sym, ap, ◌∙◌, subst}
 use Rattle.std.proofs.lemmas.Option.{slice_get_read}
 use Rattle.dns_rdata_options.specs.EdnsCode.{edns_code_number}
 use Rattle.dns_rdata_options.specs.Facing.{Facing, lesser, code_number}
 use Rattle.dns_rdata_options.specs.OPT.{Pair}
 use Rattle.dns_rdata_options.proofs.Differences.{none_facing, next_alike, next_differs}
+use Rattle.dns_rdata_options.proofs.Values.{code_decides, option_decides}
 use Rattle.dns_rdata_options.proofs.order.least_difference.Goals as goal
-use Rattle.dns_rdata_options.proofs.order.least_difference.Goals.{then-not-is_option_alike, else-not-is_option_alike}
+use Rattle.dns_rdata_options.proofs.order.least_difference.Goals.{then-ne-2, else-ne-2}
 
 pub loop-i-init : goal.loop-i-init
 loop-i-init c = none_facing c.args.options.now c.args.others.now
+
+equal : (b : Bool) {r : Bool} → r ≡ not b → r ≡ false → b ≡ true
+equal true e f = refl
+equal false e f = cc (e, f)
 
 pub loop-i-preserved : goal.loop-i-preserved
 loop-i-preserved c =
@@ -19,10 +24,10 @@ loop-i-preserved c =
     let y : Pair = c.index-others-i.result in
     let first = slice_get_read xs (length xs) i x refl (omega arith) c.index-options-i.is in
     let second = slice_get_read ys (length ys) i y refl (omega arith) c.index-others-i.is in
-    let codes = c.is_code_alike.ensures c.if-not-is_code_alike.false in
-    elim c.if-not-is_option_alike.branch [
-      | then-not-is_option_alike w ↦ subst (Facing xs ys (i + 1)) (sym (w.least-is ∙ w.lesser-least.ensures ∙ ap (lesser c.loop-i.least i) w.from.ensures))
+    let codes = (code_decides x.0 y.0).0 (equal _ c.ne.ensures c.if-ne.false) in
+    elim c.if-ne-2.branch [
+      | then-ne-2 w ↦ subst (Facing xs ys (i + 1)) (sym (w.least-is ∙ w.lesser-least.ensures ∙ ap (lesser c.loop-i.least i) w.from.ensures))
           (next_differs xs ys i x y first second c.loop-i.least (code_number x) (ap edns_code_number codes) refl c.loop-i.invariant)
-      | else-not-is_option_alike w ↦ subst (Facing xs ys (i + 1)) (sym w.least-is)
-          (next_alike xs ys i x y first second c.loop-i.least (λ k. (codes k, c.is_option_alike.ensures w.if-not-is_option_alike.false k)) c.loop-i.invariant)
+      | else-ne-2 w ↦ subst (Facing xs ys (i + 1)) (sym w.least-is)
+          (next_alike xs ys i x y first second c.loop-i.least (λ k. (codes k, (option_decides x.1 y.1).0 (equal _ c.ne-in-loop-i.ensures w.if-ne-2.false) k)) c.loop-i.invariant)
     ]

@@ -1,24 +1,30 @@
-use Rattle.std.proofs.Common.{◌≡◌, ◌∙◌, sym, ap, subst, true}
+use Rattle.std.proofs.Common.{◌≡◌, ◌↔◌, ◌∙◌, sym, ap, Bool, IsTrue, List, count_by}
 use Rattle.std.specs.Ordering.{is_eq}
+use Rattle.std.specs.Cmp.Lexicographic.{pointwise_decides}
+use Rattle.std.specs.List.Sorted.{IsPermutation}
 use Rattle.dns_fields.proofs.Multisets.{counts_decide}
-use Rattle.dns_rdata_options.specs.Order.{pair_eq, pair_cmp}
+use Rattle.dns_rdata_options.specs.OPT.{Pair}
+use Rattle.dns_rdata_options.specs.Order.{pair_eq, pair_cmp, opt_eq}
 use Rattle.dns_rdata_options.specs.OrderLaws.{pair_total, pair_ties, opt_equiv, opt_ties}
-use Rattle.dns_rdata_options.proofs.Values.{opt_permutes}
-use Rattle.dns_rdata_options.specs.Order.{opt_eq}
+use Rattle.dns_rdata_options.proofs.Values.{opt_permutes, pair_decides}
 use Rattle.dns_rdata_options.proofs.opt.OPTPartialEq.eq.Goals as goal
 
-pub returns-then-stands_alike-clause-answer : goal.returns-then-stands_alike-clause-answer
-returns-then-stands_alike-clause-answer c =
-    subst (λ y. true ≡ opt_eq c.args.self.now y) (c.stands_alike.ensures c.if-stands_alike.true) (sym (opt_equiv.refl c.args.self.now))
+clauses : (a b : List Pair) (r : Bool) → r ≡ opt_eq a b
+    → record { answer : r ≡ opt_eq a b; permutation : IsTrue r ↔ IsPermutation a b; multiset : IsTrue r ↔ ((p : Pair) → count_by (pair_eq p) a ≡ count_by (pair_eq p) b) }
+clauses a b r e =
+    let permutes = opt_permutes a b in
+    record {
+      answer = e;
+      permutation = (λ t. permutes.0 (sym e ∙ t), λ p. e ∙ permutes.1 p);
+      multiset = counts_decide pair_cmp pair_total pair_eq pair_ties a b r (e ∙ opt_ties a b);
+    }
 
-pub returns-clause-answer : goal.returns-clause-answer
-returns-clause-answer c = c.is_eq.ensures ∙ ap is_eq c.cmp.ensures ∙ sym (opt_ties c.args.self.now c.args.other.now)
+pub returns-then-eq : goal.returns-then-eq
+returns-then-eq c =
+    let x : c.as_slice.result.now ≡ c.args.self.now = c.as_slice.ensures.value ∙ c.self.view_is in
+    let y : c.as_slice-2.result.now ≡ c.args.other.now = c.as_slice-2.ensures.value ∙ c.other.view_is in
+    let same = (pointwise_decides pair_decides c.as_slice.result.now c.as_slice-2.result.now).0 (sym c.eq.ensures ∙ c.if-eq.true) in
+    clauses c.args.self.now c.args.other.now _ (sym (opt_equiv.refl c.args.self.now) ∙ ap (opt_eq c.args.self.now) (sym x ∙ same ∙ y))
 
-pub returns-clause-multiset : goal.returns-clause-multiset
-returns-clause-multiset c = counts_decide pair_cmp pair_total pair_eq pair_ties c.args.self.now c.args.other.now c.is_eq.result (c.is_eq.ensures ∙ ap is_eq c.cmp.ensures)
-
-pub returns-clause-permutation : goal.returns-clause-permutation
-returns-clause-permutation c =
-    let answer = c.is_eq.ensures ∙ ap is_eq c.cmp.ensures ∙ sym (opt_ties c.args.self.now c.args.other.now) in
-    let d = opt_permutes c.args.self.now c.args.other.now in
-    (λ t. d.0 (sym answer ∙ t), λ p. answer ∙ d.1 p)
+pub returns : goal.returns
+returns c = clauses c.args.self.now c.args.other.now _ (c.is_eq.ensures ∙ ap is_eq c.cmp.ensures ∙ sym (opt_ties c.args.self.now c.args.other.now))
