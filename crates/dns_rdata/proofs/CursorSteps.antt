@@ -1,24 +1,20 @@
 -- Cursors over record data.
-use Rattle.std.proofs.Common.{◌-◌, ◌++◌, drop, is_some, MatchOption}
-use Rattle.std.proofs.Common.{◌≡◌, ◌↔◌, IsTrue, true≢false, ℕ, ◌+◌, ◌*◌, ◌≤◌, ◌<◌, nat_le, ◌&&◌, Bool, true, false, if◌then◌else◌, Option, Some, None, List, [], ◌∷◌, map, length, refl, sym, ap, ◌∙◌, arith, subst, IfSome}
-use Rattle.std.proofs.lemmas.Bool.Decides.{nat_tests}
+use Rattle.std.proofs.Common.{◌-◌, ◌++◌, drop, is_some, MatchOption, ◌≡◌, ◌↔◌, IsTrue, true≢false, ℕ, ◌+◌, ◌*◌, ◌≤◌, ◌<◌, nat_le, ◌&&◌, Bool, true}
+use Rattle.std.proofs.Common.{false, if◌then◌else◌, Option, Some, None, List, [], ◌∷◌, map, length, refl, sym, ap, ◌∙◌, arith, subst, IfSome}
+use Rattle.std.proofs.{lemmas.Bool.Decides.nat_tests, Math.ListN.drop_of_length-le, Math.Seq.drop-append_seam}
 use Rattle.std.proofs.lemmas.List.{append-nil, drop-drop}
-use Rattle.std.proofs.Math.ListN.{drop_of_length-le}
-use Rattle.std.proofs.Math.Seq.{drop-append_seam}
-use Rattle.std.specs.List.{flat_map, AllByRecursion, list_all}
-use Rattle.std.specs.Cmp.{first_so, second_so}
+use Rattle.std.specs.{List.flat_map, List.AllByRecursion, List.list_all, Cmp.first_so, Cmp.second_so}
 use Rattle.dns_fields.specs.Pieces.{string, parameters_emittable}
 use Rattle.dns_fields.specs.Fields.{Kind, Text, Texts, Value, Values, field_octets, canonical, is_emittable, all_emittable}
-use Rattle.dns_pieces.specs.declared.step.Step.{Step}
-use Rattle.dns_pieces.specs.Steps.{IsShort, AllShort, GivesStep, CountsPasses, CountsChoices}
+use Rattle.dns_pieces.specs.{declared.step.Step.Step, Steps.IsShort, Steps.AllShort, Steps.GivesStep, Steps.CountsPasses, Steps.CountsChoices}
 use Rattle.dns_rdata_base.specs as base
 use Rattle.dns_rdata_options.specs as options
 use Rattle.dns_rdata_service.specs as service
 use Rattle.dns_rdata_sets.specs as sets
-use Rattle.dns_rdata.specs.declared.record_data.RData.{RData}
+use Rattle.dns_rdata.specs.{declared.record_data.RData.RData, Data.fields_of, Data.data_octets}
+use Rattle.dns_rdata.specs.Cursor.{can_emit, data_left, data_windows, data_options, data_options_left, DataAt, DataKept, left_of, windows_of}
+use Rattle.dns_rdata.specs.Cursor.{options_of, options_left_of, StepsOn, Remaining, Chooses, Advances}
 use Rattle.dns_rdata.specs.declared.record_data.RData.TheVariants as rdata
-use Rattle.dns_rdata.specs.Data.{fields_of, data_octets}
-use Rattle.dns_rdata.specs.Cursor.{can_emit, data_left, data_windows, data_options, data_options_left, DataAt, DataKept, left_of, windows_of, options_of, options_left_of, StepsOn, Remaining, Chooses, Advances}
 
 pub with_true : (b : Bool) → b && true ≡ b
 with_true true = refl

@@ -1,31 +1,20 @@
 -- The laws of record data of every type.
 use Rattle.std.proofs.Common.{◌≡◌, ℕ, ◌+◌, ◌-◌, ◌<◌, ◌≤◌, Bool, true, List, length, refl, sym, ap, ◌∙◌, arith, subst, Result, Ok, Err}
-use Rattle.std.specs.Bool.{Decides}
-use Rattle.std.specs.Result.{IfOk, OnOk}
+use Rattle.std.specs.{Bool.Decides, Result.IfOk, Result.OnOk}
 use Rattle.std.proofs.lemmas.List.{length-append}
-use Rattle.dns_fields.specs.declared.RDataEncoding.{RDataEncoding}
-use Rattle.dns_fields.specs.Octets.{AreOctets}
+use Rattle.dns_fields.specs.{declared.RDataEncoding.RDataEncoding, Octets.AreOctets, Equal.values_eq, Laws.IsShape}
 use Rattle.dns_fields.specs.Fields.{Kind, Values, AllFit, all_emittable, Stands, Same, Wrote, canonical}
-use Rattle.dns_fields.specs.Equal.{values_eq}
-use Rattle.dns_fields.specs.Laws.{IsShape}
-use Rattle.dns_fields.proofs.EqualLaws.{values_decide}
-use Rattle.dns_fields.proofs.Emittable.{all_fit_emittable}
-use Rattle.dns_fields.proofs.OctetLaws.{canonical_octets_are}
-use Rattle.dns_fields.proofs.Laws.{stands_same, stands_fit, stands_lawful, stands_full, wrote_stands, wrote_behind, wrote_all_fit}
-use Rattle.dns_fields.proofs.Laws.{canonical_same, canonical_stands, canonical_injective}
-use Rattle.dns_types.specs.declared.error.DecodeError.{DecodeError}
-use Rattle.dns_types.specs.declared.error.ProtoError.{ProtoError}
-use Rattle.dns_types.specs.declared.record_type.RecordType.{RecordType}
+use Rattle.dns_fields.proofs.{EqualLaws.values_decide, Emittable.all_fit_emittable, OctetLaws.canonical_octets_are}
+use Rattle.dns_fields.proofs.Laws.{stands_same, stands_fit, stands_lawful, stands_full, wrote_stands, wrote_behind, wrote_all_fit, canonical_same}
+use Rattle.dns_fields.proofs.Laws.{canonical_stands, canonical_injective}
+use Rattle.dns_types.specs.{declared.error.DecodeError.DecodeError, declared.error.ProtoError.ProtoError, declared.record_type.RecordType.RecordType}
 use Rattle.dns_types.specs.declared.record_type.RecordType.TheVariants as types
-use Rattle.dns_names_wire.specs.State.{Writing}
-use Rattle.dns_names_wire.specs.Words.{Window, Appended, EmitsAs}
+use Rattle.dns_names_wire.specs.{State.Writing, Words.Window, Words.Appended, Words.EmitsAs}
 use Rattle.dns_rdata_base.specs.NAPTR.{AreFlags}
 use Rattle.dns_rdata_service.specs.Parameters.{HaveTexts}
-use Rattle.dns_rdata_sets.specs.CAA.{IsTag}
-use Rattle.dns_rdata_sets.specs.CSYNC.{AreKnownFlags}
-use Rattle.dns_rdata.specs.declared.record_data.RData.{RData}
+use Rattle.dns_rdata_sets.specs.{CAA.IsTag, CSYNC.AreKnownFlags}
+use Rattle.dns_rdata.specs.{declared.record_data.RData.RData, Equal.equal}
 use Rattle.dns_rdata.specs.Data.{shape, condition, FieldsOf, fields_of, Fills, IsEmittable, octets_of, data_octets, mode_for}
-use Rattle.dns_rdata.specs.Equal.{equal}
 use Rattle.dns_rdata.specs.Laws.{OneValue, EachWindow, HasEqual, TellsApart, ReadsCanonical, ReadsBack}
 use Rattle.dns_rdata.proofs.Values.{values_as, values_as-same, value_for, value_is, window_value, fields_for, equal_values}
 

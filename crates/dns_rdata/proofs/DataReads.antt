@@ -1,15 +1,12 @@
 -- Reading data of each type.
-use Rattle.std.proofs.Common.{[], ◌∷◌, ◌≡◌, ◌≢◌, ℕ, ◌+◌, ◌-◌, ◌<◌, ◌≤◌, ◌==◌, ◌⊎◌, inl, inr, Bool, true, false, cond, List, length, refl}
-use Rattle.std.proofs.Common.{arith, subst, ap, ◌∙◌, Result, Ok, Err}
+use Rattle.std.proofs.Common.{[], ◌∷◌, ◌≡◌, ◌≢◌, ℕ, ◌+◌, ◌-◌, ◌<◌, ◌≤◌, ◌==◌, ◌⊎◌, inl, inr, Bool, true, false, cond, List, length, refl, arith}
+use Rattle.std.proofs.Common.{subst, ap, ◌∙◌, Result, Ok, Err}
 use Rattle.std.specs.Result.{IfOk, IfErr, OnOk}
 use Rattle.std.proofs.lemmas.Bool.Decides.{nat_tests}
-use Rattle.dns_fields.specs.Octets.{AreOctets}
-use Rattle.dns_fields.specs.Fields.{Values, Kind, Number, Name, Text}
-use Rattle.dns_types.specs.declared.error.DecodeError.{DecodeError}
+use Rattle.dns_fields.specs.{Octets.AreOctets, Fields.Values, Fields.Kind, Fields.Number, Fields.Name, Fields.Text}
+use Rattle.dns_types.specs.{declared.error.DecodeError.DecodeError, declared.record_type.RecordType.RecordType, RecordTypes.number_of}
 use Rattle.dns_types.specs.declared.error.DecodeError.TheVariants as decode
-use Rattle.dns_types.specs.declared.record_type.RecordType.{RecordType}
 use Rattle.dns_types.specs.declared.record_type.RecordType.TheVariants as types
-use Rattle.dns_types.specs.RecordTypes.{number_of}
 use Rattle.dns_names_wire.specs.State.{Reading}
 use Rattle.dns_names_wire.specs.Words.{StaysBehind, UnlessMemory, NoWindow, TookWindow, RefusedWindow, ReadsWindow, LacksOctets}
 use Rattle.dns_names_wire.proofs.FieldReads.{stays, unless_all}
@@ -18,12 +15,10 @@ use Rattle.dns_rdata_options.proofs.Refusals.{opt_never}
 use Rattle.dns_rdata_service.proofs.SvcbValues.{svcb_never}
 use Rattle.dns_rdata_base.specs as base
 use Rattle.dns_rdata_sets.specs as sets
-use Rattle.dns_rdata.specs.declared.record_data.RData.{RData}
-use Rattle.dns_rdata.specs.declared.record_data.RData.TheVariants as rdata
+use Rattle.dns_rdata.specs.{declared.record_data.RData.RData, Refusals.IsOwnRefusal, Refusals.OwnRefusal, Refusals.IsRefusal, Refusals.by_length}
 use Rattle.dns_rdata.specs.Data.{Row, row, unread, rowless, row_of, kinds_of, MeetsConditionOf, IsRowlessRow, IsNever, FieldsOf, shape, condition}
-use Rattle.dns_rdata.specs.Data.{IsRowless, IsValue, Fills, NoValue, TookData, RefusedData, ReadsData, type_of}
-use Rattle.dns_rdata.specs.Data.{IsNeverRead}
-use Rattle.dns_rdata.specs.Refusals.{IsOwnRefusal, OwnRefusal, IsRefusal, by_length}
+use Rattle.dns_rdata.specs.Data.{IsRowless, IsValue, Fills, NoValue, TookData, RefusedData, ReadsData, type_of, IsNeverRead}
+use Rattle.dns_rdata.specs.declared.record_data.RData.TheVariants as rdata
 
 -- what fills a window as fields fills it as a value
 pub data_took : {old new : Reading} (t : RecordType) (n : ℕ) (v : RData) (vs : Values (shape t)) → IsValue t vs v

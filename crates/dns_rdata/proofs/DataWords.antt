@@ -1,43 +1,26 @@
 -- Words of each type.
 use Rattle.std.proofs.Common.{◌≡◌, ◌≢◌, ℕ, List, [], ◌∷◌, Option, Result, Ok, Err, IfErr, ◌⊎◌, inl, inr, refl, sym, subst, map, length, arith, ◌∙◌}
-use Rattle.std.specs.Cow.{cow_str_bytes}
+use Rattle.std.specs.{Cow.cow_str_bytes, declared.vec.IntoIter.IntoIter, declared.borrow.CowStr.CowStr, declared.alloc.Global.Global, Result.IsErrAnd}
 use Rattle.std.specs.Vec.Iter.{into_iter_steps, into_iter_items, into_iter_len, into_iter_deque}
-use Rattle.std.specs.declared.vec.IntoIter.{IntoIter}
-use Rattle.std.specs.declared.borrow.CowStr.{CowStr}
-use Rattle.std.specs.declared.alloc.Global.{Global}
-use Rattle.dns_types.specs.declared.record_type.RecordType.{RecordType}
+use Rattle.dns_types.specs.{declared.record_type.RecordType.RecordType, declared.error.ParseError.ParseError}
 use Rattle.dns_types.specs.declared.record_type.RecordType.TheVariants as types
-use Rattle.dns_types.specs.declared.error.ParseError.{ParseError}
 use Rattle.dns_types.specs.declared.error.ParseError.TheVariants as parse
-use Rattle.std.specs.Result.{IsErrAnd}
 use Rattle.dns_text.specs.TextWords.{TextWords, NoTextWords}
-use Rattle.dns_words.specs.Taking.{HoldsBehind, HoldsOfWords}
-use Rattle.dns_fields.specs.Labels.{DomainName}
-use Rattle.dns_fields.specs.Fields.{Values}
-use Rattle.dns_words.specs.Forms.{Row, word}
-use Rattle.dns_rdata_service.specs.SVCB.{svcb_shape, svcb_fields}
-use Rattle.dns_rdata_service.specs.WordRows.{AreWordsOf, svcb_words as service_words}
-use Rattle.dns_rdata_service.specs.declared.svcb.SVCB.{SVCB}
-use Rattle.dns_rdata_service.specs.declared.https.HTTPS.{HTTPS}
+use Rattle.dns_words.specs.{Taking.HoldsBehind, Taking.HoldsOfWords, Forms.Row, Forms.word, Printed.cut}
 use Rattle.dns_words.specs.Reads.{UnlessMemory, Decides, TookWords, RefusedWords}
-use Rattle.dns_words.specs.Printed.{cut}
+use Rattle.dns_fields.specs.{Labels.DomainName, Fields.Values}
+use Rattle.dns_rdata_service.specs.{SVCB.svcb_shape, SVCB.svcb_fields, declared.svcb.SVCB.SVCB, declared.https.HTTPS.HTTPS}
+use Rattle.dns_rdata_service.specs.WordRows.{AreWordsOf, svcb_words as service_words}
 use Rattle.dns_words.proofs.Steps.{holds_map, holds_all, unless_map}
-use Rattle.dns_rdata_base.specs.NameRecords.{name_fields}
-use Rattle.dns_rdata_base.specs.A.{a_fields}
-use Rattle.dns_rdata_base.specs.AAAA.{aaaa_fields}
-use Rattle.dns_rdata_base.specs.MX.{mx_fields}
-use Rattle.dns_rdata_base.specs.SOA.{soa_fields}
-use Rattle.dns_rdata_base.specs.SRV.{srv_fields}
-use Rattle.dns_rdata_certs.specs.SSHFP.{sshfp_fields}
-use Rattle.dns_rdata_certs.specs.TLSA.{tlsa_fields}
+use Rattle.dns_rdata_base.specs.{NameRecords.name_fields, A.a_fields, AAAA.aaaa_fields, MX.mx_fields, SOA.soa_fields, SRV.srv_fields}
+use Rattle.dns_rdata_certs.specs.{SSHFP.sshfp_fields, TLSA.tlsa_fields}
 use Rattle.dns_rdata_base.proofs.WordsBack.{a_back, aaaa_back, one_name_back, mx_back, srv_back, soa_back}
 use Rattle.dns_rdata_certs.proofs.WordsBack.{sshfp_back, tlsa_back}
-use Rattle.dns_rdata.specs.declared.record_data.RData.{RData}
+use Rattle.dns_rdata.specs.{declared.record_data.RData.RData, Data.shape, Data.IsValue, Data.type_of, Texts.text_of}
+use Rattle.dns_rdata.specs.DataWords.{StandIn, AreSvcbWords, HasSvcbWords, HasHttpsWords, HasNoWords, AreDataWords, TookDataWords, RefusedDataWords}
+use Rattle.dns_rdata.specs.DataWords.{ReadsDataWords, AnswersDataWords, ReadsDataTextAt, IsPrinted, PrintsBack}
 use Rattle.dns_rdata.specs.declared.record_data.RData.TheVariants as rdata
-use Rattle.dns_rdata.specs.Data.{shape, IsValue, type_of}
-use Rattle.dns_rdata.specs.Texts.{text_of}
 use Rattle.dns_rdata.proofs.DataReads.{IsNone}
-use Rattle.dns_rdata.specs.DataWords.{StandIn, AreSvcbWords, HasSvcbWords, HasHttpsWords, HasNoWords, AreDataWords, TookDataWords, RefusedDataWords, ReadsDataWords, AnswersDataWords, ReadsDataTextAt, IsPrinted, PrintsBack}
 
 -- words of a service give its fields
 own_stands : (x : SVCB) (words : List (List ℕ)) → AreSvcbWords x words → service_words.stand (svcb_fields x) words

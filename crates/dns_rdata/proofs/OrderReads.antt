@@ -1,14 +1,9 @@
 -- Values that were read are ordered by their canonical octets.
 use Rattle.std.proofs.Common.{◌≡◌, sym, ◌∙◌, refl}
-use Rattle.std.specs.Ordering.{nat_cmp, ordering_then}
-use Rattle.std.specs.Cmp.Lexicographic.{slice_cmp}
+use Rattle.std.specs.{Ordering.nat_cmp, Ordering.ordering_then, Cmp.Lexicographic.slice_cmp, declared.cmp.Ordering.Ordering}
 use Rattle.std.specs.FinMap.{nat_cmp-IsAntisymmetric, slice_cmp-IsAntisymmetric}
-use Rattle.std.specs.declared.cmp.Ordering.{Ordering}
 use Rattle.std.specs.declared.cmp.Ordering.TheVariants.{Less, Equal, Greater}
-use Rattle.dns_rdata.specs.declared.record_data.RData.{RData}
-use Rattle.dns_rdata.specs.Data.{data_octets}
-use Rattle.dns_rdata.specs.Order.{rdata_cmp, OrdersRead}
-use Rattle.dns_rdata.specs.Ties.{equal_is, rdata_ties}
+use Rattle.dns_rdata.specs.{declared.record_data.RData.RData, Data.data_octets, Order.rdata_cmp, Order.OrdersRead, Ties.equal_is, Ties.rdata_ties}
 use Rattle.dns_rdata.proofs.DataLaws.{tells_apart}
 
 then_tied : (o q : Ordering) → (o ≡ Equal → ordering_then o q ≡ Equal) → ordering_then o q ≡ o

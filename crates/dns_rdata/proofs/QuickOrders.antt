@@ -1,37 +1,24 @@
 -- An order that the fields tell is that of record data.
-use Rattle.std.proofs.Common.{◌≡◌, ◌≢◌, ◌&&◌, ℕ, ◌+◌, ◌<◌, ◌==◌, Bool, true, false, true≢false, if◌then◌else◌, Option, Some, None, IfSome, List, [], ◌∷◌, ◌++◌, length, map, take, refl, sym, ap, ◌∙◌, subst, arith}
-use Rattle.std.proofs.lemmas.List.{append_cancel_left, length-append, take_at}
-use Rattle.std.specs.List.{flat_map}
-use Rattle.std.specs.Cmp.Lexicographic.{slice_cmp}
-use Rattle.std.specs.FinMap.{nat_cmp-IsAntisymmetric, slice_cmp-IsAntisymmetric}
-use Rattle.std.specs.Ordering.{is_eq, is_gt, nat_cmp, ordering_then}
-use Rattle.std.specs.declared.cmp.Ordering.{Ordering}
+use Rattle.std.proofs.Common.{◌≡◌, ◌≢◌, ◌&&◌, ℕ, ◌+◌, ◌<◌, ◌==◌, Bool, true, false, true≢false, if◌then◌else◌, Option, Some, None, IfSome, List, []}
+use Rattle.std.proofs.Common.{◌∷◌, ◌++◌, length, map, take, refl, sym, ap, ◌∙◌, subst, arith}
+use Rattle.std.proofs.{lemmas.List.append_cancel_left, lemmas.List.length-append, lemmas.List.take_at, lemmas.Bool.Decides.nat_tests}
+use Rattle.std.specs.{List.flat_map, Cmp.Lexicographic.slice_cmp, FinMap.nat_cmp-IsAntisymmetric, FinMap.slice_cmp-IsAntisymmetric, Ordering.is_eq}
+use Rattle.std.specs.{Ordering.is_gt, Ordering.nat_cmp, Ordering.ordering_then, declared.cmp.Ordering.Ordering}
 use Rattle.std.specs.declared.cmp.Ordering.TheVariants.{Less, Equal, Greater}
-use Rattle.dns_fields.specs.Equal.{values_eq}
+use Rattle.dns_fields.specs.{Equal.values_eq, Pieces.as_piece, Pieces.option_octets, Pieces.piece, Pieces.string, Sorting.put, Sorting.sorted}
 use Rattle.dns_fields.specs.Fields.{Kind, Number, Text, Texts, Rest, Value, Values, all_emittable, canonical, field_octets, option_pieces}
-use Rattle.dns_fields.specs.Pieces.{as_piece, option_octets, piece, string}
-use Rattle.dns_fields.specs.Sorting.{put, sorted}
 use Rattle.dns_fields.proofs.Equivalences.{values_equiv}
 use Rattle.dns_pieces.specs.Fronts.{canonical_cmp}
-use Rattle.dns_pieces.proofs.Comparing.{cmp_shared, then_kept}
-use Rattle.dns_pieces.proofs.Fronts.{AllEnd, by_fields, field_cmp, fields_cmp}
-use Rattle.dns_rdata_base.specs.declared.hinfo.HINFO.{HINFO}
-use Rattle.dns_rdata_base.specs.declared.txt.TXT.{TXT}
-use Rattle.dns_rdata_certs.specs.declared.cert.CERT.{CERT}
-use Rattle.dns_rdata_certs.specs.declared.sshfp.SSHFP.{SSHFP}
-use Rattle.dns_rdata_certs.specs.declared.tlsa.TLSA.{TLSA}
-use Rattle.std.proofs.lemmas.Bool.Decides.{nat_tests}
+use Rattle.dns_pieces.proofs.{Comparing.cmp_shared, Comparing.then_kept, Fronts.AllEnd, Fronts.by_fields, Fronts.field_cmp, Fronts.fields_cmp}
+use Rattle.dns_rdata_base.specs.{declared.hinfo.HINFO.HINFO, declared.txt.TXT.TXT}
+use Rattle.dns_rdata_certs.specs.{declared.cert.CERT.CERT, declared.sshfp.SSHFP.SSHFP, declared.tlsa.TLSA.TLSA}
 use Rattle.dns_rdata_sets.specs.declared.caa.CAA.{CAA}
 use Rattle.dns_rdata_base.specs as base
 use Rattle.dns_rdata_certs.specs as certs
 use Rattle.dns_rdata_options.specs as options
 use Rattle.dns_rdata_sets.specs as sets
-use Rattle.dns_rdata.specs.declared.record_data.RData.{RData}
-use Rattle.dns_rdata.specs.Data.{data_octets, fields_of, octets_of}
-use Rattle.dns_rdata.specs.Equal.{equal}
-use Rattle.dns_rdata.specs.QuickOrders.{IsOrder, IfSomeOrder, IfSomeFieldOrder}
-use Rattle.dns_rdata.specs.Order.{rdata_cmp}
-use Rattle.dns_rdata.specs.Ties.{equal_is, rdata_ties}
+use Rattle.dns_rdata.specs.{declared.record_data.RData.RData, Data.data_octets, Data.fields_of, Data.octets_of, Equal.equal, QuickOrders.IsOrder}
+use Rattle.dns_rdata.specs.{QuickOrders.IfSomeOrder, QuickOrders.IfSomeFieldOrder, Order.rdata_cmp, Ties.equal_is, Ties.rdata_ties}
 
 -- ---- of what ties
 

@@ -1,22 +1,19 @@
 -- A value of record data is told by its type and its fields.
 use Rattle.std.proofs.Common.{◌≡◌, ◌↔◌, ℕ, ◌+◌, Bool, true, false, ◌&&◌, List, [], ◌∷◌, refl, sym, ap, ◌∙◌, arith}
 use Rattle.std.proofs.lemmas.Bool.Decides.{nat_tests}
-use Rattle.std.specs.Bool.{Decides}
-use Rattle.std.specs.Net.Addr.{segments_of, octets_of}
+use Rattle.std.specs.{Bool.Decides, Net.Addr.segments_of, Net.Addr.octets_of}
 use Rattle.dns_fields.specs.Fields.{Kind, Number, Octets, Name, Text, Texts, Rest, Options, Parameters, Bitmap, Value, Values, AllFull, Same}
 use Rattle.dns_fields.specs.Equal.{values_eq}
-use Rattle.dns_fields.proofs.EqualLaws.{values_decide}
-use Rattle.dns_fields.proofs.OctetLaws.{AreOctets-at}
+use Rattle.dns_fields.proofs.{EqualLaws.values_decide, OctetLaws.AreOctets-at, Laws.stands_fit}
 use Rattle.dns_types.specs.declared.record_type.RecordType.{RecordType}
 use Rattle.dns_types.specs.declared.record_type.RecordType.TheVariants as types
 use Rattle.dns_names_wire.specs.Words.{Window}
-use Rattle.dns_fields.proofs.Laws.{stands_fit}
 use Rattle.dns_rdata_base.proofs.SoaValues.{soa_from, soa_from-fields, soa_fields-from, soa_from-seconds}
 use Rattle.dns_rdata_base.proofs.Addresses.{octets_of-segments, segments_of-octets_of}
 use Rattle.dns_rdata_certs.proofs.Values.{cert_from, cert_from-fields, cert_fields-from, cert_from-read, cert_keys-same, smimea_from}
-use Rattle.dns_rdata_certs.proofs.Values.{smimea_from-fields, smimea_fields-from, smimea_from-read, smimea_keys-same, sshfp_from}
-use Rattle.dns_rdata_certs.proofs.Values.{sshfp_from-fields, sshfp_fields-from, sshfp_from-read, sshfp_keys-same, tlsa_from}
-use Rattle.dns_rdata_certs.proofs.Values.{tlsa_from-fields, tlsa_fields-from, tlsa_from-read, tlsa_keys-same}
+use Rattle.dns_rdata_certs.proofs.Values.{smimea_from-fields, smimea_fields-from, smimea_from-read, smimea_keys-same, sshfp_from, sshfp_from-fields}
+use Rattle.dns_rdata_certs.proofs.Values.{sshfp_fields-from, sshfp_from-read, sshfp_keys-same, tlsa_from, tlsa_from-fields, tlsa_fields-from}
+use Rattle.dns_rdata_certs.proofs.Values.{tlsa_from-read, tlsa_keys-same}
 use Rattle.dns_rdata_service.proofs.SvcbValues.{https_from, https_from-fields, https_fields-from, https_from-read, https_equal, svcb_from}
 use Rattle.dns_rdata_service.proofs.SvcbValues.{svcb_from-fields, svcb_fields-from, svcb_from-read, svcb_equal}
 use Rattle.dns_rdata_sets.proofs.CaaValues.{caa_from, caa_from-fields, caa_fields-from, caa_from-read, caa_keys-same}
@@ -28,10 +25,9 @@ use Rattle.dns_rdata_certs.specs as certs
 use Rattle.dns_rdata_options.specs as options
 use Rattle.dns_rdata_service.specs as service
 use Rattle.dns_rdata_sets.specs as sets
-use Rattle.dns_rdata.specs.declared.record_data.RData.{RData}
-use Rattle.dns_rdata.specs.declared.record_data.RData.TheVariants as rdata
+use Rattle.dns_rdata.specs.{declared.record_data.RData.RData, Equal.equal, Equal.record_type_eq}
 use Rattle.dns_rdata.specs.Data.{shape, condition, FieldsOf, fields_of, type_of, IsRowless, IsPlain, IsValue}
-use Rattle.dns_rdata.specs.Equal.{equal, record_type_eq}
+use Rattle.dns_rdata.specs.declared.record_data.RData.TheVariants as rdata
 
 -- ---- values as those of other kinds
 

@@ -3,14 +3,12 @@ use Rattle.std.proofs.Common.{◌≡◌, ◌≢◌, ◌∙◌, ℕ, List, [], �
 use Rattle.std.proofs.lemmas.List.{append-nil}
 use Rattle.dns_fields.specs.declared.RDataEncoding.{RDataEncoding}
 use Rattle.dns_fields.specs.declared.RDataEncoding.TheVariants.{StandardRecord, Other}
-use Rattle.dns_fields.specs.Fields.{Kind, Number, Octets, Name, Text, Texts, Rest, Options, Parameters, Bitmap, Value, Values, Wrote, IsWrittenAs, field_octets}
+use Rattle.dns_fields.specs.Fields.{Kind, Number, Octets, Name, Text, Texts, Rest, Options, Parameters, Bitmap, Value, Values, Wrote, IsWrittenAs}
+use Rattle.dns_fields.specs.Fields.{field_octets}
 use Rattle.dns_types.specs.declared.error.ProtoError.{ProtoError}
-use Rattle.dns_names_wire.specs.State.{Writing}
-use Rattle.dns_names_wire.specs.Words.{EmitsAs}
+use Rattle.dns_names_wire.specs.{State.Writing, Words.EmitsAs}
 use Rattle.dns_names_wire.proofs.FieldWrites.{emitted_as}
-use Rattle.dns_rdata.specs.declared.record_data.RData.{RData}
-use Rattle.dns_rdata.specs.Data.{fields_of}
-use Rattle.dns_rdata.specs.WholeOctets.{whole_octets, all_whole, whole_data}
+use Rattle.dns_rdata.specs.{declared.record_data.RData.RData, Data.fields_of, WholeOctets.whole_octets, WholeOctets.all_whole, WholeOctets.whole_data}
 
 other_whole : Other ≢ StandardRecord
 other_whole e = absurd cc

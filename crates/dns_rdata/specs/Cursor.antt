@@ -1,8 +1,6 @@
 -- What a cursor over canonical octets still gives, and what it counts.
 use Rattle.std.specs.Prelude.{◌≡◌, ℕ, ◌+◌, ◌-◌, ◌*◌, ◌<◌, ◌≤◌, ◌++◌, true, length, drop, Bool, Option, Some, None, List, []}
-use Rattle.dns_pieces.specs.Runs.{Shares}
-use Rattle.dns_pieces.specs.Steps.{Left, AllShort, by_fields}
-use Rattle.dns_pieces.specs.declared.step.Step.{Step}
+use Rattle.dns_pieces.specs.{Runs.Shares, Steps.Left, Steps.AllShort, Steps.by_fields, declared.step.Step.Step}
 use Rattle.dns_rdata_options.specs.declared.heads.Heads.{Heads}
 use Rattle.dns_fields.specs.Fields.{all_emittable}
 use Rattle.dns_rdata_base.specs as base
@@ -10,8 +8,7 @@ use Rattle.dns_rdata_certs.specs as certs
 use Rattle.dns_rdata_options.specs as options
 use Rattle.dns_rdata_service.specs as service
 use Rattle.dns_rdata_sets.specs as sets
-use Rattle.dns_rdata.specs.Data.{fields_of}
-use Rattle.dns_rdata.specs.declared.record_data.RData.{RData}
+use Rattle.dns_rdata.specs.{Data.fields_of, declared.record_data.RData.RData}
 use Rattle.dns_rdata.specs.declared.record_data.RData.TheVariants as rdata
 
 -- what is left of a value's canonical octets at each place

@@ -1,15 +1,11 @@
 -- Record data of every type: its fields, and when a value fills a window of a message (RFC 1035, 3.2.1).
 use Rattle.std.specs.Prelude.{◌≡◌, ◌≢◌, ℕ, ◌+◌, true, if◌then◌else◌, List, [], ◌∷◌, Result, Ok, Err}
-use Rattle.dns_fields.specs.declared.RDataEncoding.{RDataEncoding}
+use Rattle.dns_fields.specs.{declared.RDataEncoding.RDataEncoding, Fields.Kind, Fields.Rest, Fields.Values, Fields.all_emittable, Fields.canonical}
 use Rattle.dns_fields.specs.declared.RDataEncoding.TheVariants as modes
-use Rattle.dns_fields.specs.Fields.{Kind, Rest, Values, all_emittable, canonical}
-use Rattle.dns_types.specs.declared.record_type.RecordType.{RecordType}
+use Rattle.dns_types.specs.{declared.record_type.RecordType.RecordType, declared.error.DecodeError.DecodeError}
 use Rattle.dns_types.specs.declared.record_type.RecordType.TheVariants as types
-use Rattle.dns_types.specs.declared.error.DecodeError.{DecodeError}
 use Rattle.dns_types.specs.declared.error.DecodeError.TheVariants as decode
-use Rattle.dns_names_wire.specs.State.{Reading}
-use Rattle.dns_names_wire.specs.Words.{StaysBehind, UnlessMemory, LacksOctets, Window, NoWindow}
-use Rattle.dns_names_wire.specs.Facts.{Facts}
+use Rattle.dns_names_wire.specs.{State.Reading, Words.StaysBehind, Words.UnlessMemory, Words.LacksOctets, Words.Window, Words.NoWindow, Facts.Facts}
 use Rattle.dns_rdata_base.specs as base
 use Rattle.dns_rdata_certs.specs as certs
 use Rattle.dns_rdata_options.specs as options

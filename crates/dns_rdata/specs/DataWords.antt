@@ -1,26 +1,20 @@
 -- The words of record data of every type.
 use Rattle.std.specs.Prelude.{◌≡◌, ◌⊎◌, ℕ, List, Option, None, Result, Ok, Err}
 use Rattle.std.specs.Net.Addr.{IsIpv4Addr, IsIpv6Addr}
-use Rattle.dns_types.specs.declared.record_type.RecordType.{RecordType}
+use Rattle.dns_types.specs.{declared.record_type.RecordType.RecordType, declared.error.ParseError.ParseError}
 use Rattle.dns_types.specs.declared.record_type.RecordType.TheVariants as types
-use Rattle.dns_types.specs.declared.error.ParseError.{ParseError}
 use Rattle.dns_types.specs.declared.error.ParseError.TheVariants as parse
-use Rattle.dns_fields.specs.Labels.{DomainName}
-use Rattle.dns_fields.specs.Fields.{Kind, Values}
+use Rattle.dns_fields.specs.{Labels.DomainName, Fields.Kind, Fields.Values}
 use Rattle.dns_text.specs.TextWords.{TextWords, NoTextWords}
-use Rattle.dns_words.specs.Taking.{HoldsOfWords}
+use Rattle.dns_words.specs.{Taking.HoldsOfWords, Reads.UnlessMemory, Printed.cut, Printed.IsPrintedName}
 use Rattle.dns_words.specs.Forms.{Row, word, number, name, ignored}
-use Rattle.dns_words.specs.Reads.{UnlessMemory}
-use Rattle.dns_words.specs.Printed.{cut, IsPrintedName}
 use Rattle.dns_rdata_service.specs.declared.svcb.SVCB.{SVCB}
 use Rattle.dns_rdata_base.specs as base
 use Rattle.dns_rdata_certs.specs as certs
 use Rattle.dns_rdata_service.specs as service
 use Rattle.dns_rdata_sets.specs as sets
-use Rattle.dns_rdata.specs.declared.record_data.RData.{RData}
+use Rattle.dns_rdata.specs.{declared.record_data.RData.RData, Data.shape, Data.IsValue, Data.type_of, Texts.text_of}
 use Rattle.dns_rdata.specs.declared.record_data.RData.TheVariants as rdata
-use Rattle.dns_rdata.specs.Data.{shape, IsValue, type_of}
-use Rattle.dns_rdata.specs.Texts.{text_of}
 
 -- the words of this SVCB, in keys and values as a caller sees them (RFC 9460, 2.1); an origin completes no name
 abbrev pub AreSvcbWords : SVCB → List (List ℕ) → Type 0

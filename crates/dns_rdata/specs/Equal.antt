@@ -1,19 +1,14 @@
 -- When two values of record data are equal, and that it is an equivalence.
 use Rattle.std.specs.Prelude.{Bool, List, [], ◌∷◌}
+use Rattle.std.specs.{Cmp.Lexicographic.options_equiv, Option.option_eq, Ordering.on, Ordering.eq_of_both}
 use Rattle.std.specs.Cmp.{IsEquivalence, and_equiv, on_equiv}
-use Rattle.std.specs.Cmp.Lexicographic.{options_equiv}
-use Rattle.std.specs.Option.{option_eq}
-use Rattle.std.specs.Ordering.{on, eq_of_both}
 use Rattle.dns_fields.specs.Equal.{values_eq}
 use Rattle.dns_fields.proofs.Equivalences.{values_equiv}
 use Rattle.dns_types.specs.declared.record_type.RecordType.{RecordType}
 use Rattle.dns_types.specs.contracts.record_type.RecordTypePartialEq.TheImpl as type_eq
 use Rattle.dns_types.specs.contracts.record_type.RecordTypeEq.TheImpl.Laws as type_laws
-use Rattle.dns_rdata_options.specs.Order.{opt_eq}
-use Rattle.dns_rdata_options.specs.OrderLaws.{opt_equiv}
-use Rattle.dns_rdata.specs.declared.record_data.RData.{RData}
-use Rattle.dns_rdata.specs.Data.{type_of}
-use Rattle.dns_rdata.specs.Keys.{Row, fields, options, rows}
+use Rattle.dns_rdata_options.specs.{Order.opt_eq, OrderLaws.opt_equiv}
+use Rattle.dns_rdata.specs.{declared.record_data.RData.RData, Data.type_of, Keys.Row, Keys.fields, Keys.options, Keys.rows}
 
 abbrev pub record_type_eq : RecordType → RecordType → Bool
 record_type_eq = type_eq.ghosts.eq

@@ -1,7 +1,6 @@
 -- What values of record data feed a hasher: equal values the same.
 use Rattle.std.specs.Prelude.{◌≡◌, Bool, true, ◌&&◌, ◌++◌, List, [], ◌∷◌}
-use Rattle.std.specs.Cmp.{first_so, second_so}
-use Rattle.std.specs.Hash.{HashWrites}
+use Rattle.std.specs.{Cmp.first_so, Cmp.second_so, Hash.HashWrites}
 use Rattle.std.proofs.Common.{ap, ◌∙◌, refl, true≢false, sym}
 use Rattle.dns_types.specs.contracts.record_type.RecordTypeHash.TheImpl as type_hash
 use Rattle.dns_types.specs.contracts.record_type.RecordTypeHash.TheImpl.Laws as type_hash_laws
@@ -10,11 +9,9 @@ use Rattle.dns_rdata_certs.specs.contracts as certs
 use Rattle.dns_rdata_options.specs.contracts as options
 use Rattle.dns_rdata_service.specs.contracts as service
 use Rattle.dns_rdata_sets.specs.contracts as sets
-use Rattle.dns_rdata.specs.declared.record_data.RData.{RData}
-use Rattle.dns_rdata.specs.declared.record_data.RData.TheVariants as rdata
-use Rattle.dns_rdata.specs.Data.{type_of}
-use Rattle.dns_rdata.specs.Keys.{Row, rows}
+use Rattle.dns_rdata.specs.{declared.record_data.RData.RData, Data.type_of, Keys.Row, Keys.rows}
 use Rattle.dns_rdata.specs.Equal.{equal, record_type_eq, row_eq, rows_eq}
+use Rattle.dns_rdata.specs.declared.record_data.RData.TheVariants as rdata
 
 -- what the data of the type feeds
 abbrev pub record_fed : RData → HashWrites

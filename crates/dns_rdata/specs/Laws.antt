@@ -1,15 +1,11 @@
 -- What holds of record data of every type.
 use Rattle.std.specs.Prelude.{◌≡◌, ◌↔◌, ℕ, ◌-◌, ◌<◌, IsTrue, Bool, Option, Some, None, List, length}
-use Rattle.std.specs.declared.net.ip_addr.IpAddr.{IpAddr}
-use Rattle.std.specs.declared.net.ip_addr.IpAddr.TheVariants.{V4, V6}
+use Rattle.std.specs.{declared.net.ip_addr.IpAddr.IpAddr, declared.net.ip_addr.IpAddr.TheVariants.V4, declared.net.ip_addr.IpAddr.TheVariants.V6}
 use Rattle.dns_types.specs.declared.record_type.RecordType.{RecordType}
-use Rattle.dns_names_wire.specs.State.{Writing}
-use Rattle.dns_names_wire.specs.Words.{Window}
+use Rattle.dns_names_wire.specs.{State.Writing, Words.Window}
 use Rattle.dns_fields.specs.Fields.{Values}
-use Rattle.dns_rdata.specs.declared.record_data.RData.{RData}
+use Rattle.dns_rdata.specs.{declared.record_data.RData.RData, Data.shape, Data.condition, Data.Fills, Data.data_octets, Equal.equal}
 use Rattle.dns_rdata.specs.declared.record_data.RData.TheVariants as rdata
-use Rattle.dns_rdata.specs.Data.{shape, condition, Fills, data_octets}
-use Rattle.dns_rdata.specs.Equal.{equal}
 
 -- octets are the data of at most one value of a type
 abbrev pub OneValue : Type 0

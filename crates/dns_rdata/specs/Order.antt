@@ -1,21 +1,17 @@
 -- The order of record data: by canonical octets, by type, by variant, and by the fields.
 use Rattle.std.specs.Prelude.{◌≡◌, ◌==◌, ℕ, IsTrue, not, List, [], ◌∷◌}
+use Rattle.std.specs.{Option.option_cmp, Ordering.on, Ordering.then_cmp, Ordering.nat_cmp, declared.cmp.Ordering.Ordering}
 use Rattle.std.specs.Cmp.{IsTotalOrder, then_total, on_total, nat_cmp_total}
 use Rattle.std.specs.Cmp.Lexicographic.{slice_cmp, nat_list_cmp_total, options_total}
-use Rattle.std.specs.Option.{option_cmp}
-use Rattle.std.specs.Ordering.{on, then_cmp, nat_cmp}
-use Rattle.std.specs.declared.cmp.Ordering.{Ordering}
 use Rattle.dns_fields.specs.Order.{values_cmp}
 use Rattle.dns_fields.proofs.Orders.{values_total}
 use Rattle.dns_types.specs.declared.record_type.RecordType.{RecordType}
 use Rattle.dns_types.specs.contracts.record_type.RecordTypeOrd.TheImpl as type_ord
 use Rattle.dns_types.specs.contracts.record_type.RecordTypeOrd.TheImpl.Laws as type_laws
-use Rattle.dns_rdata_options.specs.Order.{opt_cmp}
-use Rattle.dns_rdata_options.specs.OrderLaws.{opt_total}
-use Rattle.dns_rdata.specs.declared.record_data.RData.{RData}
-use Rattle.dns_rdata.specs.declared.record_data.RData.TheVariants as rdata
-use Rattle.dns_rdata.specs.Data.{type_of, data_octets, Fills}
+use Rattle.dns_rdata_options.specs.{Order.opt_cmp, OrderLaws.opt_total}
+use Rattle.dns_rdata.specs.{declared.record_data.RData.RData, Data.type_of, Data.data_octets, Data.Fills}
 use Rattle.dns_rdata.specs.Keys.{Row, fields, options, rows}
+use Rattle.dns_rdata.specs.declared.record_data.RData.TheVariants as rdata
 
 -- the place of the variant among all
 abbrev pub rank : RData → ℕ

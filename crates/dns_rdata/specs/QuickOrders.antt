@@ -1,9 +1,7 @@
 -- The order of two records of one type, found by their fields.
 use Rattle.std.specs.Prelude.{◌≡◌, ◌≢◌, true, Bool, Option, Some, None, List}
-use Rattle.std.specs.declared.cmp.Ordering.{Ordering}
-use Rattle.std.specs.declared.cmp.Ordering.TheVariants.{Equal}
-use Rattle.dns_fields.specs.Fields.{Kind, Values, all_emittable}
-use Rattle.dns_fields.specs.Equal.{values_eq}
+use Rattle.std.specs.{declared.cmp.Ordering.Ordering, declared.cmp.Ordering.TheVariants.Equal}
+use Rattle.dns_fields.specs.{Fields.Kind, Fields.Values, Fields.all_emittable, Equal.values_eq}
 use Rattle.dns_pieces.specs.Fronts.{canonical_cmp}
 
 -- Where o is Equal the two are equal; else both can be emitted, and o is the order of their canonical octets.

@@ -1,9 +1,7 @@
 -- Why record data is refused.
 use Rattle.std.specs.Prelude.{◌≡◌, ◌≢◌, ℕ, ◌+◌, ◌-◌, ◌==◌, ◌⊎◌, if◌then◌else◌, Result, Err}
-use Rattle.dns_types.specs.declared.error.DecodeError.{DecodeError}
+use Rattle.dns_types.specs.{declared.error.DecodeError.DecodeError, declared.record_type.RecordType.RecordType, RecordTypes.number_of}
 use Rattle.dns_types.specs.declared.error.DecodeError.TheVariants as decode
-use Rattle.dns_types.specs.declared.record_type.RecordType.{RecordType}
-use Rattle.dns_types.specs.RecordTypes.{number_of}
 use Rattle.dns_names_wire.specs.State.{Reading}
 use Rattle.dns_rdata.specs.Data.{Row, row, unread, rowless, row_of, IsShortRefusal, IsNeverRead}
 

@@ -1,22 +1,15 @@
 -- `==` of record data holds exactly where its order answers Equal.
 use Rattle.std.specs.Prelude.{◌≡◌, ℕ, Bool, true, false, ◌&&◌, if◌then◌else◌, is_some, Option, Some, None, List, [], ◌∷◌, refl}
 use Rattle.std.proofs.Common.{ap, ◌∙◌, sym, true≢false, arith, ◌+◌, ◌*◌, ◌/◌, ◌%◌}
+use Rattle.std.specs.{Option.option_cmp, Option.option_eq, Ordering.nat_cmp, Ordering.is_eq, Ordering.ordering_then, declared.cmp.Ordering.Ordering}
 use Rattle.std.specs.Cmp.{first_so, second_so, both_tied, nat_cmp_total, tied_itself}
 use Rattle.std.specs.Cmp.Lexicographic.{slice_cmp, nat_list_cmp_total}
-use Rattle.std.specs.Option.{option_cmp, option_eq}
-use Rattle.std.specs.Ordering.{nat_cmp, is_eq, ordering_then}
-use Rattle.std.proofs.lemmas.List.Sorted.{IsPermutation-map}
-use Rattle.std.specs.declared.cmp.Ordering.{Ordering}
 use Rattle.std.specs.declared.cmp.Ordering.TheVariants.{Less, Equal, Greater}
-use Rattle.dns_fields.specs.Fields.{Kind, Values, Same}
-use Rattle.dns_fields.specs.Equal.{values_eq}
-use Rattle.dns_fields.specs.Order.{values_cmp}
-use Rattle.dns_fields.proofs.Orders.{values_ties}
-use Rattle.dns_fields.proofs.SameFields.{emittable_same, equal_same}
-use Rattle.dns_fields.proofs.Laws.{canonical_same}
+use Rattle.std.proofs.lemmas.List.Sorted.{IsPermutation-map}
+use Rattle.dns_fields.specs.{Fields.Kind, Fields.Values, Fields.Same, Equal.values_eq, Order.values_cmp}
+use Rattle.dns_fields.proofs.{Orders.values_ties, SameFields.emittable_same, SameFields.equal_same, Laws.canonical_same}
 use Rattle.dns_types.specs.contracts.record_type.RecordTypeOrd.TheImpl.Laws as type_laws
-use Rattle.dns_rdata_options.specs.Order.{opt_eq, opt_cmp}
-use Rattle.dns_rdata_options.specs.OrderLaws.{opt_ties}
+use Rattle.dns_rdata_options.specs.{Order.opt_eq, Order.opt_cmp, OrderLaws.opt_ties}
 use Rattle.dns_rdata_options.proofs.Values.{opt_permutes}
 use Rattle.dns_rdata_service.specs.declared.svcb.SVCB.{SVCB}
 use Rattle.dns_rdata_service.proofs.OwnValues.{own_fields}
@@ -26,12 +19,10 @@ use Rattle.dns_rdata_certs.specs as certs
 use Rattle.dns_rdata_options.specs as options
 use Rattle.dns_rdata_service.specs as service
 use Rattle.dns_rdata_sets.specs as sets
-use Rattle.dns_rdata.specs.declared.record_data.RData.{RData}
-use Rattle.dns_rdata.specs.declared.record_data.RData.TheVariants as rdata
-use Rattle.dns_rdata.specs.Data.{type_of, octets_of, data_octets}
-use Rattle.dns_rdata.specs.Keys.{Row, rows}
+use Rattle.dns_rdata.specs.{declared.record_data.RData.RData, Data.type_of, Data.octets_of, Data.data_octets, Keys.Row, Keys.rows}
 use Rattle.dns_rdata.specs.Equal.{equal, record_type_eq, row_eq, rows_eq}
 use Rattle.dns_rdata.specs.Order.{rank, record_type_cmp, row_cmp, rows_cmp, rdata_cmp}
+use Rattle.dns_rdata.specs.declared.record_data.RData.TheVariants as rdata
 
 -- ---- equal fields have the same octets
 

@@ -1,10 +1,8 @@
 -- The octets of record data without pointers: names whole and with their letters, options in their order.
 use Rattle.std.specs.Prelude.{ℕ, List, [], ◌∷◌, ◌++◌}
+use Rattle.dns_fields.specs.{Labels.DomainName, Labels.wire, Pieces.pieces}
 use Rattle.dns_fields.specs.Fields.{Kind, Value, Values, Name, Options, field_octets, option_pieces}
-use Rattle.dns_fields.specs.Labels.{DomainName, wire}
-use Rattle.dns_fields.specs.Pieces.{pieces}
-use Rattle.dns_rdata.specs.declared.record_data.RData.{RData}
-use Rattle.dns_rdata.specs.Data.{fields_of}
+use Rattle.dns_rdata.specs.{declared.record_data.RData.RData, Data.fields_of}
 
 -- a name's octets, uncompressed, with its letters (RFC 1035, 3.1)
 abbrev pub name_octets : DomainName → List ℕ

@@ -1,14 +1,11 @@
 //! Canonical octets, one after the other.
 
 ghost use Rattle.std.specs.Prelude.{◌≡◌, ◌↔◌, ◌+◌, ◌≤◌, ℕ, true, IsTrue, [], ◌∷◌, if◌then◌else◌, is_some, IfNone, IfSome, MatchOption, slice_get};
-ghost use Rattle.std.specs.Ordering.{nat_cmp};
-ghost use Rattle.std.specs.Option.{option_copied};
-ghost use Rattle.std.specs.Cmp.Lexicographic.{slice_cmp};
-ghost use Rattle.std.specs.Iterator.{YieldsFirstBy, item_count};
-ghost use Rattle.dns_pieces.specs.Runs.{common, Copies};
-ghost use Rattle.dns_pieces.specs.Steps.{GivesStep, CountsPasses, CountsChoices};
+ghost use Rattle.std.specs.{Ordering.nat_cmp, Option.option_copied, Cmp.Lexicographic.slice_cmp, Iterator.YieldsFirstBy, Iterator.item_count};
+ghost use Rattle.dns_pieces.specs.{Runs.common, Runs.Copies, Steps.GivesStep, Steps.CountsPasses, Steps.CountsChoices};
 ghost use Rattle.dns_rdata.specs.Data.{data_octets, IsEmittable};
-ghost use Rattle.dns_rdata.specs.Cursor.{can_emit, data_left, data_windows, data_options, data_options_left, IsUncounted, DataAt, DataKept, IsAt, KeepsAt, Chooses, Advances, StepsOn, RefillsBy, Skips};
+ghost use Rattle.dns_rdata.specs.Cursor.{can_emit, data_left, data_windows, data_options, data_options_left, IsUncounted, DataAt, DataKept, IsAt};
+ghost use Rattle.dns_rdata.specs.Cursor.{KeepsAt, Chooses, Advances, StepsOn, RefillsBy, Skips};
 
 use crate::record_data::RData;
 use dns_pieces::order::next_order;

@@ -5,10 +5,8 @@ ghost use Rattle.dns_fields.specs.Order.{values_cmp};
 ghost use Rattle.dns_rdata_base.specs.SOA.{soa_shape, soa_fields};
 ghost use Rattle.dns_rdata_certs.specs.TLSA.{tlsa_key_shape, tlsa_keys};
 ghost use Rattle.dns_rdata_sets.specs.CSYNC.{csync_key_shape, csync_keys};
-ghost use Rattle.std.specs.Cmp.Lexicographic.{slice_cmp};
-ghost use Rattle.std.specs.Ordering.{nat_cmp};
-ghost use Rattle.dns_rdata.specs.Data.{data_octets};
-ghost use Rattle.dns_rdata.specs.Order.{rank, rdata_cmp, variants_cmp, Differ};
+ghost use Rattle.std.specs.{Cmp.Lexicographic.slice_cmp, Ordering.nat_cmp};
+ghost use Rattle.dns_rdata.specs.{Data.data_octets, Order.rank, Order.rdata_cmp, Order.variants_cmp, Order.Differ};
 
 use crate::record_data::RData;
 use dns_rdata_base::SOA;
@@ -232,10 +230,8 @@ impl RData {
 
 impl PartialOrd for RData {
     ghost use Rattle.std.specs.Prelude.{refl};
-    ghost use Rattle.std.specs.Cmp.{partial_order_from_agreeing_total};
-    ghost use Rattle.std.specs.Ordering.{as_partial_cmp};
-    ghost use Rattle.dns_rdata.specs.Order.{rdata_total};
-    ghost use Rattle.dns_rdata.specs.Ties.{rdata_ties};
+    ghost use Rattle.std.specs.{Cmp.partial_order_from_agreeing_total, Ordering.as_partial_cmp};
+    ghost use Rattle.dns_rdata.specs.{Order.rdata_total, Ties.rdata_ties};
 
     ghost partial_cmp = { as_partial_cmp rdata_cmp };
 
@@ -249,8 +245,7 @@ impl PartialOrd for RData {
 
 impl Ord for RData {
     ghost use Rattle.std.specs.Prelude.{refl};
-    ghost use Rattle.dns_rdata.specs.Order.{rdata_total, OrdersRead};
-    ghost use Rattle.dns_rdata.specs.Ties.{rdata_ties};
+    ghost use Rattle.dns_rdata.specs.{Order.rdata_total, Order.OrdersRead, Ties.rdata_ties};
 
     ghost cmp = { rdata_cmp };
 

@@ -2,28 +2,18 @@
 
 ghost use Rattle.std.specs.Prelude.{◌≡◌, ◌≢◌, ◌∷◌, [], IfSome, IsTrue, length, true};
 ghost use Rattle.std.specs.declared.cmp.Ordering.TheVariants.{Equal};
-ghost use Rattle.dns_fields.specs.Fields.{Rest};
-ghost use Rattle.dns_fields.specs.Equal.{values_eq};
-ghost use Rattle.dns_rdata_base.specs.HINFO.{hinfo_shape, hinfo_fields};
-ghost use Rattle.dns_rdata_base.specs.NAPTR.{naptr_shape, naptr_fields};
-ghost use Rattle.dns_rdata_base.specs.TXT.{txt_shape, txt_fields};
-ghost use Rattle.dns_rdata_certs.specs.CERT.{cert_key_shape, cert_keys, cert_shape, cert_fields};
-ghost use Rattle.dns_rdata_certs.specs.CertAlgorithm.{cert_algorithm_number};
-ghost use Rattle.dns_rdata_certs.specs.CertType.{cert_type_number};
-ghost use Rattle.dns_rdata_certs.specs.CertUsage.{cert_usage_number};
-ghost use Rattle.dns_rdata_certs.specs.FingerprintType.{fingerprint_type_number};
-ghost use Rattle.dns_rdata_certs.specs.Matching.{matching_number};
+ghost use Rattle.dns_fields.specs.{Fields.Rest, Equal.values_eq};
+ghost use Rattle.dns_rdata_base.specs.{HINFO.hinfo_shape, HINFO.hinfo_fields, NAPTR.naptr_shape, NAPTR.naptr_fields, TXT.txt_shape, TXT.txt_fields};
+ghost use Rattle.dns_rdata_certs.specs.{CERT.cert_key_shape, CERT.cert_keys, CERT.cert_shape, CERT.cert_fields, CertAlgorithm.cert_algorithm_number};
+ghost use Rattle.dns_rdata_certs.specs.{CertType.cert_type_number, CertUsage.cert_usage_number, FingerprintType.fingerprint_type_number};
+ghost use Rattle.dns_rdata_certs.specs.{Matching.matching_number, Selector.selector_number, SshfpAlgorithm.sshfp_algorithm_number};
 ghost use Rattle.dns_rdata_certs.specs.SSHFP.{sshfp_key_shape, sshfp_keys, sshfp_shape, sshfp_fields};
-ghost use Rattle.dns_rdata_certs.specs.Selector.{selector_number};
-ghost use Rattle.dns_rdata_certs.specs.SshfpAlgorithm.{sshfp_algorithm_number};
 ghost use Rattle.dns_rdata_certs.specs.TLSA.{tlsa_key_shape, tlsa_keys, tlsa_shape, tlsa_fields};
-ghost use Rattle.dns_rdata_options.specs.OPT.{opt_shape, opt_fields};
-ghost use Rattle.dns_rdata_options.specs.Order.{opt_eq};
+ghost use Rattle.dns_rdata_options.specs.{OPT.opt_shape, OPT.opt_fields, Order.opt_eq};
 ghost use Rattle.dns_rdata_service.specs.SVCB.{svcb_shape, svcb_fields, svcb_key_shape, svcb_keys};
 ghost use Rattle.dns_rdata_sets.specs.CAA.{caa_shape, caa_fields, caa_key_shape, caa_keys};
 ghost use Rattle.dns_rdata_sets.specs.CSYNC.{csync_shape, csync_fields, csync_key_shape, csync_keys};
-ghost use Rattle.dns_rdata.specs.QuickOrders.{IfSomeFieldOrder, IfSomeOrder};
-ghost use Rattle.dns_rdata.specs.Order.{rdata_cmp};
+ghost use Rattle.dns_rdata.specs.{QuickOrders.IfSomeFieldOrder, QuickOrders.IfSomeOrder, Order.rdata_cmp};
 
 use crate::record_data::RData;
 use dns_names_wire::SmallOctets;

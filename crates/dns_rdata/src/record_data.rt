@@ -3,8 +3,7 @@
 ghost use Rattle.std.specs.Prelude.{◌≡◌, ◌≢◌, ◌+◌, ◌-◌, ◌<◌, ◌++◌, ℕ, List, length as size, IsTrue, ◌↔◌, Some, Err, IfOk, IfErr, OnOk};
 ghost use Rattle.dns_types.specs.RecordTypes.{number_of};
 ghost use Rattle.dns_names_wire.specs.Words.{StaysBehind, UnlessMemory, EmitsAs, Extends, Keeps, IsMessage};
-ghost use Rattle.dns_rdata.specs.Data.{IsNeverRead};
-ghost use Rattle.dns_rdata.specs.Refusals.{IsRefusal, by_length as answer_by_length};
+ghost use Rattle.dns_rdata.specs.{Data.IsNeverRead, Refusals.IsRefusal, Refusals.by_length as answer_by_length};
 
 use crate::traits::RecordData;
 use dns_names_wire::{
@@ -286,8 +285,7 @@ fn by_length<T: Drop>(
 }
 
 impl BinEncodable for RData {
-    ghost use Rattle.dns_rdata.specs.Data.{IsEmittable, fields_of, mode_for};
-    ghost use Rattle.dns_rdata.specs.Laws.{ReadsBack};
+    ghost use Rattle.dns_rdata.specs.{Data.IsEmittable, Data.fields_of, Data.mode_for, Laws.ReadsBack};
 
     ghost emits = { λ v r old new. EmitsAs (mode_for old.mode v) (fields_of v).kinds (fields_of v).values r old new };
 
@@ -326,9 +324,7 @@ impl BinEncodable for RData {
 }
 
 impl RData {
-    ghost use Rattle.dns_rdata.specs.Data.{IsEmittable, fields_of, mode_for};
-    ghost use Rattle.dns_rdata.specs.Laws.{ReadsBack};
-    ghost use Rattle.dns_rdata.specs.WholeOctets.{whole_data};
+    ghost use Rattle.dns_rdata.specs.{Data.IsEmittable, Data.fields_of, Data.mode_for, Laws.ReadsBack, WholeOctets.whole_data};
 
     /// Appends the octets of the value, its names whole and with their letters, whatever the mode of the encoder: no name
     /// ends by a pointer, so the octets mean the same at any place of any message. Refused as by
@@ -435,8 +431,7 @@ impl RData {
 
 impl PartialEq for RData {
     ghost use Rattle.std.specs.Cmp.{partial_equiv_from_equiv};
-    ghost use Rattle.dns_rdata.specs.Equal.{equal, equal_equiv};
-    ghost use Rattle.dns_rdata.specs.Laws.{TellsApart};
+    ghost use Rattle.dns_rdata.specs.{Equal.equal, Equal.equal_equiv, Laws.TellsApart};
 
     ghost eq = { equal };
 

@@ -2,10 +2,8 @@
 
 ghost use Rattle.std.specs.Prelude.{◌≡◌, ◌↔◌, IsTrue, Option, Some, None, option_copied};
 ghost use Rattle.std.proofs.Common.{rules};
-ghost use Rattle.dns_rdata.specs.declared.record_data.RData.{RData as Data};
+ghost use Rattle.dns_rdata.specs.{declared.record_data.RData.RData as Data, Data.type_of, Laws.IsUpdate};
 ghost use Rattle.dns_rdata.specs.declared.record_data.RData.TheVariants as rdata;
-ghost use Rattle.dns_rdata.specs.Data.{type_of};
-ghost use Rattle.dns_rdata.specs.Laws.{IsUpdate};
 
 use crate::record_data::RData;
 use dns_names_wire::RecordType;

@@ -1,9 +1,7 @@
 //! Record data read from words (RFC 1035, 5.1).
 
 ghost use Rattle.std.specs.Prelude.{◌≡◌, ◌⊎◌, None, Err, IfOk, IfErr, map};
-ghost use Rattle.std.specs.Cow.{cow_str_bytes};
-ghost use Rattle.std.specs.Iterator.{IsFinite};
-ghost use Rattle.std.specs.Option.{option_copied};
+ghost use Rattle.std.specs.{Cow.cow_str_bytes, Iterator.IsFinite, Option.option_copied};
 ghost use Rattle.dns_rdata.specs.Data.{type_of};
 ghost use Rattle.dns_rdata.specs.DataWords.{AnswersDataWords, ReadsDataWords, ReadsDataText, ReadsDataTextAt, AreDataWords, PrintsBack, HasNoWords};
 ghost use Rattle.dns_text.specs.TextWords.{NoTextWords};

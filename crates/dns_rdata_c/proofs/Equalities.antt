@@ -1,7 +1,6 @@
 -- Whether two values that were read are equal.
 use Rattle.std.proofs.Common.{◌≡◌, ◌∙◌, pos, Bool, true, false, refl, sym, inl, inr, true≢false}
-use Rattle.dns_rdata.specs.declared.record_data.RData.{RData}
-use Rattle.dns_rdata.specs.Equal.{equal}
+use Rattle.dns_rdata.specs.{declared.record_data.RData.RData, Equal.equal}
 use Rattle.dns_rdata.proofs.DataLaws.{tells_apart}
 use Rattle.dns_rdata_c.specs.Calls.{TellsEqual}
 

@@ -1,19 +1,16 @@
 -- The octets of data with whole names, where they stand in a message.
-use Rattle.std.proofs.Common.{◌≡◌, ◌∙◌, ℕ, suc, ◌+◌, ◌-◌, ◌≤◌, Bool, true, false, ◌&&◌, List, [], ◌∷◌, ◌++◌, length, take, drop, refl, sym, ap, subst, arith, append_assoc, length-append, length-take-le}
+use Rattle.std.proofs.Common.{◌≡◌, ◌∙◌, ℕ, suc, ◌+◌, ◌-◌, ◌≤◌, Bool, true, false, ◌&&◌, List, [], ◌∷◌, ◌++◌, length, take, drop, refl, sym, ap, subst}
+use Rattle.std.proofs.Common.{arith, append_assoc, length-append, length-take-le}
 use Rattle.std.proofs.lemmas.List.{append-nil, take_at, drop-drop, length-drop, take-append-drop}
 use Rattle.std.proofs.Math.Seq.{take-append-add}
-use Rattle.std.specs.Cmp.{first_so, second_so}
-use Rattle.dns_fields.specs.Octets.{At}
-use Rattle.dns_fields.specs.Fields.{Kind, Number, Octets, Name, Text, Texts, Rest, Options, Parameters, Bitmap, Value, Values, Field, Stands, field_octets, ParametersAt}
-use Rattle.dns_fields.specs.Labels.{DomainName, AreLabels, wire}
-use Rattle.dns_fields.specs.Names.{IsNameIn, LabelsStand}
+use Rattle.std.specs.{Cmp.first_so, Cmp.second_so, Int.bytes_high_first}
+use Rattle.dns_fields.specs.{Octets.At, Labels.DomainName, Labels.AreLabels, Labels.wire, Names.IsNameIn, Names.LabelsStand}
+use Rattle.dns_fields.specs.Fields.{Kind, Number, Octets, Name, Text, Texts, Rest, Options, Parameters, Bitmap, Value, Values, Field, Stands}
+use Rattle.dns_fields.specs.Fields.{field_octets, ParametersAt}
 use Rattle.dns_fields.specs.Names.LabelsStand.{whole, pointed}
-use Rattle.dns_fields.proofs.Numbers.{length-bytes}
-use Rattle.dns_fields.proofs.Runs.{wire-append}
-use Rattle.dns_fields.proofs.Stays.{end_within, labels_stand}
+use Rattle.dns_fields.proofs.{Numbers.length-bytes, Runs.wire-append, Stays.end_within, Stays.labels_stand}
 use Rattle.dns_rdata_c.specs.Pieces.{HoldAsLong}
 use Rattle.dns_rdata_c.proofs.PartOctets.{parameters_stand}
-use Rattle.std.specs.Int.{bytes_high_first}
 use Rattle.dns_rdata.specs.WholeOctets.{name_octets, whole_octets, all_whole}
 
 -- ---- octets in a message

@@ -1,14 +1,11 @@
 -- Fields whose octets are copied from where they stand.
-use Rattle.std.proofs.Common.{◌≡◌, ◌∙◌, ℕ, ◌+◌, ◌-◌, ◌≤◌, true, List, [], ◌∷◌, ◌++◌, length, take, drop, refl, sym, ap, subst, arith, append_assoc, length-append}
+use Rattle.std.proofs.Common.{◌≡◌, ◌∙◌, ℕ, ◌+◌, ◌-◌, ◌≤◌, true, List, [], ◌∷◌, ◌++◌, length, take, drop, refl, sym, ap, subst, arith, append_assoc}
+use Rattle.std.proofs.Common.{length-append}
 use Rattle.std.proofs.lemmas.List.{drop-drop, drop-take, length-drop, take-append-drop, take-append-le, drop-append-le}
-use Rattle.dns_fields.specs.Fields.{Kind, Number, Name, Parameters, Value, Values, Field}
-use Rattle.dns_fields.specs.Labels.{DomainName}
-use Rattle.dns_fields.proofs.Numbers.{length-bytes}
-use Rattle.dns_fields.proofs.Stays.{end_within}
+use Rattle.dns_fields.specs.{Fields.Kind, Fields.Number, Fields.Name, Fields.Parameters, Fields.Value, Fields.Values, Fields.Field, Labels.DomainName}
+use Rattle.dns_fields.proofs.{Numbers.length-bytes, Stays.end_within}
 use Rattle.dns_rdata.specs.WholeOctets.{name_octets, all_whole}
-use Rattle.dns_rdata_c.specs.NameEnds.{IsNameLength}
-use Rattle.dns_rdata_c.specs.Pieces.{HoldAsLong}
-use Rattle.dns_rdata_c.specs.NameSpans.{AreFields}
+use Rattle.dns_rdata_c.specs.{NameEnds.IsNameLength, Pieces.HoldAsLong, NameSpans.AreFields}
 use Rattle.dns_rdata_c.proofs.NamesStand.{name_found}
 use Rattle.dns_rdata_c.proofs.FieldPlaces.{window_of, are_simple, simple_fields, EndsBy, name_and_parameters}
 

@@ -1,10 +1,10 @@
 -- Pieces whose lengths are looked at.
-use Rattle.std.proofs.Common.{◌≡◌, ◌∙◌, ℕ, ◌+◌, ◌<◌, ◌≤◌, ◌^◌, List, [], ◌∷◌, ◌++◌, length, take, drop, refl, sym, ap, subst, arith, append_assoc, length-append}
+use Rattle.std.proofs.Common.{◌≡◌, ◌∙◌, ℕ, ◌+◌, ◌<◌, ◌≤◌, ◌^◌, List, [], ◌∷◌, ◌++◌, length, take, drop, refl, sym, ap, subst, arith, append_assoc}
+use Rattle.std.proofs.Common.{length-append}
 use Rattle.std.specs.Int.{bytes_high_first}
 use Rattle.std.proofs.lemmas.List.{append-nil, drop_at, take_at}
 use Rattle.dns_fields.specs.Pieces.{Numbered, piece, pieces, IsPiece, ArePieces}
-use Rattle.dns_fields.proofs.Numbers.{length-bytes, same_number}
-use Rattle.dns_fields.proofs.Pieces.{piece_before, length-piece, no_piece}
+use Rattle.dns_fields.proofs.{Numbers.length-bytes, Numbers.same_number, Pieces.piece_before, Pieces.length-piece, Pieces.no_piece}
 use Rattle.dns_rdata_c.specs.Pieces.{HasNoPiece, IsPieceLength, AreAsLong, HoldAsLong}
 use Rattle.dns_rdata_c.proofs.PieceWalks.{pieces-append, ArePieces-append, same_split}
 

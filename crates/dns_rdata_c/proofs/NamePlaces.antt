@@ -1,17 +1,11 @@
 -- Where the names of record data begin.
 use Rattle.std.proofs.Common.{◌≡◌, ℕ, ◌+◌, ◌≤◌, ◌⊎◌, inl, inr, List, length, refl, sym, subst, arith, Option, Some, None, MatchOption}
 use Rattle.std.specs.Borrow.{Bor}
-use Rattle.dns_fields.specs.Labels.{DomainName}
-use Rattle.dns_fields.specs.Names.{IsNameIn}
-use Rattle.dns_fields.specs.Fields.{Number, Text, Name, Field, Stands}
-use Rattle.dns_fields.proofs.Laws.{one_end}
-use Rattle.dns_fields.proofs.Numbers.{length-bytes}
-use Rattle.dns_fields.proofs.Stays.{end_within}
-use Rattle.dns_rdata_base.specs.declared.naptr.NAPTR.{NAPTR}
-use Rattle.dns_rdata_base.specs.declared.soa.SOA.{SOA}
-use Rattle.dns_rdata.specs.declared.record_data.RData.{RData}
+use Rattle.dns_fields.specs.{Labels.DomainName, Names.IsNameIn, Fields.Number, Fields.Text, Fields.Name, Fields.Field, Fields.Stands}
+use Rattle.dns_fields.proofs.{Laws.one_end, Numbers.length-bytes, Stays.end_within}
+use Rattle.dns_rdata_base.specs.{declared.naptr.NAPTR.NAPTR, declared.soa.SOA.SOA}
+use Rattle.dns_rdata.specs.{declared.record_data.RData.RData, Data.FieldsOf, Data.fields_of}
 use Rattle.dns_rdata.specs.declared.record_data.RData.TheVariants as rdata
-use Rattle.dns_rdata.specs.Data.{FieldsOf, fields_of}
 use Rattle.dns_rdata_c.specs.Names.{names_in, IsNameAt, IsFilledBy}
 
 -- the fields of a value stand where it fills the octets

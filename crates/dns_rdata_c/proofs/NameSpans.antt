@@ -1,20 +1,17 @@
 -- Canonical octets by the octets with whole names.
-use Rattle.std.proofs.Common.{◌≡◌, ℕ, zero, suc, ◌+◌, ◌<◌, ◌≤◌, Bool, true, false, ◌&&◌, List, [], ◌∷◌, ◌++◌, length, take, drop, map, refl, sym, ◌∙◌, ap, subst, arith, if◌then◌else◌}
-use Rattle.std.proofs.Common.{append_assoc, length-append, length-take-le}
-use Rattle.std.proofs.lemmas.List.{length-map, length-drop}
-use Rattle.std.specs.Cmp.{first_so, second_so}
-use Rattle.std.proofs.lemmas.Bool.Decides.{nat_tests}
-use Rattle.std.specs.Char.{to_ascii_lowercase}
-use Rattle.dns_fields.specs.Fields.{Kind, Number, Octets, Name, Text, Texts, Rest, Options, Parameters, Bitmap, Value, Values, field_octets, canonical}
+use Rattle.std.proofs.Common.{◌≡◌, ℕ, zero, suc, ◌+◌, ◌<◌, ◌≤◌, Bool, true, false, ◌&&◌, List, [], ◌∷◌, ◌++◌, length, take, drop, map, refl, sym, ◌∙◌}
+use Rattle.std.proofs.Common.{ap, subst, arith, if◌then◌else◌, append_assoc, length-append, length-take-le}
+use Rattle.std.proofs.{lemmas.List.length-map, lemmas.List.length-drop, lemmas.Bool.Decides.nat_tests}
+use Rattle.std.specs.{Cmp.first_so, Cmp.second_so, Char.to_ascii_lowercase}
+use Rattle.dns_fields.specs.Fields.{Kind, Number, Octets, Name, Text, Texts, Rest, Options, Parameters, Bitmap, Value, Values, field_octets}
+use Rattle.dns_fields.specs.Fields.{canonical}
 use Rattle.dns_fields.specs.Labels.{DomainName, IsLabel, AreLabels, IsName, wire, low_labels, lowname}
-use Rattle.dns_fields.proofs.NameLaws.{low_wire}
-use Rattle.dns_fields.proofs.Numbers.{length-bytes}
-use Rattle.dns_rdata.specs.declared.record_data.RData.{RData}
+use Rattle.dns_fields.proofs.{NameLaws.low_wire, Numbers.length-bytes}
+use Rattle.dns_rdata.specs.{declared.record_data.RData.RData, Data.fields_of, Data.data_octets, Data.IsEmittable}
+use Rattle.dns_rdata.specs.WholeOctets.{name_octets, whole_octets, all_whole, whole_data}
 use Rattle.dns_rdata.specs.declared.record_data.RData.TheVariants as rdata
 use Rattle.dns_rdata.proofs.CursorSteps.{begins_at}
 use Rattle.dns_rdata_base.specs.declared.naptr.NAPTR.{NAPTR}
-use Rattle.dns_rdata.specs.Data.{fields_of, data_octets, IsEmittable}
-use Rattle.dns_rdata.specs.WholeOctets.{name_octets, whole_octets, all_whole, whole_data}
 use Rattle.dns_rdata_c.specs.NameSpans.{lowered_at, HasNameAt}
 
 -- ---- lists

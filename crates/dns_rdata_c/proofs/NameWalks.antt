@@ -1,13 +1,11 @@
 -- Where the octets of a name end.
-use Rattle.std.proofs.Common.{◌≡◌, ◌∙◌, ℕ, ◌+◌, ◌-◌, ◌*◌, ◌/◌, ◌%◌, ◌<◌, ◌≤◌, ◌⊎◌, zero, suc, inl, inr, List, [], ◌∷◌, ◌++◌, length, take, drop, refl, sym, ap, subst, arith, append_assoc, length-append, length-take-le}
+use Rattle.std.proofs.Common.{◌≡◌, ◌∙◌, ℕ, ◌+◌, ◌-◌, ◌*◌, ◌/◌, ◌%◌, ◌<◌, ◌≤◌, ◌⊎◌, zero, suc, inl, inr, List, [], ◌∷◌, ◌++◌, length, take, drop, refl}
+use Rattle.std.proofs.Common.{sym, ap, subst, arith, append_assoc, length-append, length-take-le}
 use Rattle.std.specs.Prelude.{slice_index_or}
 use Rattle.std.proofs.lemmas.List.{append-nil, drop_at, drop_more, length-drop, take-append-drop}
-use Rattle.dns_fields.specs.Labels.{AreLabels, wire}
-use Rattle.dns_fields.specs.Names.{pointer}
-use Rattle.dns_fields.specs.Octets.{AreOctets}
+use Rattle.dns_fields.specs.{Labels.AreLabels, Labels.wire, Names.pointer, Octets.AreOctets}
+use Rattle.dns_fields.proofs.{Runs.rest_of, Runs.wire-append, Runs.AreLabels-append, Unique.pointer_stop, Unique.zero_stop}
 use Rattle.dns_fields.proofs.OctetLaws.{AreOctets-head, AreOctets-tail, AreOctets-same, AreOctets-drop}
-use Rattle.dns_fields.proofs.Runs.{rest_of, wire-append, AreLabels-append}
-use Rattle.dns_fields.proofs.Unique.{pointer_stop, zero_stop}
 use Rattle.dns_rdata_c.specs.NameEnds.{IsLast, AreNameOctets, IsNameLength, HasNoNameEnd}
 
 -- behind labels

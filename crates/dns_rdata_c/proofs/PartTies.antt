@@ -1,25 +1,21 @@
 -- The parts of octets that are the data of a value.
-use Rattle.std.proofs.Common.{◌≡◌, ◌∙◌, ◌⊎◌, ℕ, ◌+◌, ◌-◌, ◌<◌, ◌≤◌, suc, Bool, false, true≢false, inl, inr, List, [], ◌∷◌, ◌++◌, length, take, drop, map, refl, sym, ap, subst, arith, append_assoc, length-append, length-take-le}
+use Rattle.std.proofs.Common.{◌≡◌, ◌∙◌, ◌⊎◌, ℕ, ◌+◌, ◌-◌, ◌<◌, ◌≤◌, suc, Bool, false, true≢false, inl, inr, List, [], ◌∷◌, ◌++◌, length, take, drop}
+use Rattle.std.proofs.Common.{map, refl, sym, ap, subst, arith, append_assoc, length-append, length-take-le}
 use Rattle.std.proofs.lemmas.List.{drop_at, take_at, drop-drop, length-drop, length-map, take-append-drop}
 use Rattle.std.proofs.Math.Seq.{take-append-add}
-use Rattle.dns_fields.specs.Fields.{Stands}
-use Rattle.dns_fields.specs.Names.{IsNameIn}
-use Rattle.dns_fields.specs.Octets.{At}
+use Rattle.dns_fields.specs.{Fields.Stands, Names.IsNameIn, Octets.At}
 use Rattle.dns_fields.specs.Pieces.{Numbered, pieces, ArePieces, AllHeld, IsCut, ParameterHeld}
-use Rattle.dns_fields.proofs.Numbers.{length-bytes}
-use Rattle.dns_fields.proofs.Stays.{end_within}
+use Rattle.dns_fields.proofs.{Numbers.length-bytes, Stays.end_within}
 use Rattle.dns_types.specs.declared.record_type.RecordType.{RecordType}
 use Rattle.dns_types.specs.declared.record_type.RecordType.TheVariants as types
 use Rattle.dns_rdata.specs.declared.record_data.RData.{RData}
-use Rattle.dns_rdata.specs.declared.record_data.RData.TheVariants as rdata
 use Rattle.dns_rdata.specs.Data.{FieldsOf, fields_of, type_of, Fills, NoValue, IsPlain, IsRowless}
+use Rattle.dns_rdata.specs.declared.record_data.RData.TheVariants as rdata
 use Rattle.dns_rdata_options.specs.OPT.{Pair, pair_value, opt_shape, opt_fields}
-use Rattle.dns_rdata_service.specs.Parameters.{parameter_of}
-use Rattle.dns_rdata_service.specs.SVCB.{svcb_shape, svcb_fields}
-use Rattle.dns_rdata_service.specs.declared.svcb.SVCB.{SVCB}
-use Rattle.dns_rdata_c.specs.Parts.{is_partless, IsServiceFront, IsFront, HasNoFront, AreParts, AreNoParts, AreFewParts, AreCutOptions, IsPartOf, parts_in, HoldValue, IsPartIn}
-use Rattle.dns_rdata_c.proofs.NamesStand.{name_octets}
-use Rattle.dns_rdata_c.proofs.PartWalks.{same_parts, not_cut, part_inside}
+use Rattle.dns_rdata_service.specs.{Parameters.parameter_of, SVCB.svcb_shape, SVCB.svcb_fields, declared.svcb.SVCB.SVCB}
+use Rattle.dns_rdata_c.specs.Parts.{is_partless, IsServiceFront, IsFront, HasNoFront, AreParts, AreNoParts, AreFewParts, AreCutOptions, IsPartOf}
+use Rattle.dns_rdata_c.specs.Parts.{parts_in, HoldValue, IsPartIn}
+use Rattle.dns_rdata_c.proofs.{NamesStand.name_octets, PartWalks.same_parts, PartWalks.not_cut, PartWalks.part_inside}
 
 -- ---- the octets of fields that stand in a message
 

@@ -1,13 +1,11 @@
 -- Pieces that are counted.
-use Rattle.std.proofs.Common.{◌≡◌, ◌∙◌, ℕ, ◌+◌, ◌-◌, ◌*◌, ◌/◌, ◌%◌, ◌<◌, ◌≤◌, ◌^◌, inl, inr, List, [], ◌∷◌, ◌++◌, length, take, drop, refl, sym, ap, arith, append_assoc, length-append, length-take-le, Fits, w8, slice_index_or}
-use Rattle.std.proofs.Math.Facts.{Fits-lt-pow}
-use Rattle.std.proofs.lemmas.List.Elements.{All-from_get_or}
-use Rattle.std.specs.Int.{bytes_high_first}
+use Rattle.std.proofs.Common.{◌≡◌, ◌∙◌, ℕ, ◌+◌, ◌-◌, ◌*◌, ◌/◌, ◌%◌, ◌<◌, ◌≤◌, ◌^◌, inl, inr, List, [], ◌∷◌, ◌++◌, length, take, drop, refl, sym, ap}
+use Rattle.std.proofs.Common.{arith, append_assoc, length-append, length-take-le, Fits, w8, slice_index_or}
+use Rattle.std.proofs.{Math.Facts.Fits-lt-pow, lemmas.List.Elements.All-from_get_or}
 use Rattle.std.proofs.lemmas.List.{append-nil, drop_at, length-drop, take-append-drop}
-use Rattle.dns_fields.specs.Octets.{AreOctets}
-use Rattle.dns_fields.specs.Pieces.{Numbered, piece, pieces, IsPiece, ArePieces, IsCut}
-use Rattle.dns_fields.proofs.Numbers.{length-bytes, same_number}
-use Rattle.dns_fields.proofs.OctetLaws.{AreOctets-head, AreOctets-tail}
+use Rattle.std.specs.Int.{bytes_high_first}
+use Rattle.dns_fields.specs.{Octets.AreOctets, Pieces.Numbered, Pieces.piece, Pieces.pieces, Pieces.IsPiece, Pieces.ArePieces, Pieces.IsCut}
+use Rattle.dns_fields.proofs.{Numbers.length-bytes, Numbers.same_number, OctetLaws.AreOctets-head, OctetLaws.AreOctets-tail}
 use Rattle.dns_fields.proofs.Pieces.{first_piece, piece_before, length-piece}
 use Rattle.dns_rdata_c.specs.Pieces.{HasNoPiece, IsPieceLength}
 

@@ -1,12 +1,8 @@
 -- Values whose octets are copied from where they stand.
 use Rattle.std.proofs.Common.{◌≡◌, ◌⊎◌, inl, inr, ◌∙◌, ℕ, ◌-◌, ◌≤◌, true, List, [], ◌∷◌, ◌++◌, length, drop, refl, sym, ap, subst, arith}
-use Rattle.dns_fields.specs.Fields.{Number}
-use Rattle.dns_fields.specs.Labels.{DomainName}
-use Rattle.dns_rdata_base.specs.declared.soa.SOA.{SOA}
-use Rattle.dns_rdata_base.specs.SOA.{soa_shape, soa_fields, soa_numbers_shape, soa_numbers_of}
-use Rattle.dns_rdata.specs.declared.record_data.RData.{RData}
-use Rattle.dns_rdata.specs.Data.{fields_of}
-use Rattle.dns_rdata.specs.WholeOctets.{name_octets, all_whole, whole_data}
+use Rattle.dns_fields.specs.{Fields.Number, Labels.DomainName}
+use Rattle.dns_rdata_base.specs.{declared.soa.SOA.SOA, SOA.soa_shape, SOA.soa_fields, SOA.soa_numbers_shape, SOA.soa_numbers_of}
+use Rattle.dns_rdata.specs.{declared.record_data.RData.RData, Data.fields_of, WholeOctets.name_octets, WholeOctets.all_whole, WholeOctets.whole_data}
 use Rattle.dns_rdata_c.specs.Buffers.{IsPut, IsTooMany, Puts}
 use Rattle.dns_rdata_c.specs.NameSpans.{AreFields, AreOf, StandsWhole, EndsByName}
 use Rattle.dns_rdata_c.proofs.FieldPlaces.{are_simple, EndsBy, number_long}

@@ -1,10 +1,10 @@
 -- A walk over pieces.
-use Rattle.std.proofs.Common.{◌≡◌, ◌∙◌, ℕ, ◌+◌, ◌<◌, ◌≤◌, ◌^◌, zero, suc, List, [], ◌∷◌, ◌++◌, length, take, drop, refl, sym, ap, subst, arith, add-one, append_assoc, length-append, Some, slice_get}
+use Rattle.std.proofs.Common.{◌≡◌, ◌∙◌, ℕ, ◌+◌, ◌<◌, ◌≤◌, ◌^◌, zero, suc, List, [], ◌∷◌, ◌++◌, length, take, drop, refl, sym, ap, subst, arith}
+use Rattle.std.proofs.Common.{add-one, append_assoc, length-append, Some, slice_get}
 use Rattle.std.specs.Int.{bytes_high_first}
 use Rattle.std.proofs.lemmas.List.{append-nil, drop-drop, drop_at, take_at, length-drop}
 use Rattle.dns_fields.specs.Pieces.{Numbered, piece, pieces, IsPiece, ArePieces}
-use Rattle.dns_fields.proofs.Numbers.{length-bytes, same_number}
-use Rattle.dns_fields.proofs.Pieces.{piece_before}
+use Rattle.dns_fields.proofs.{Numbers.length-bytes, Numbers.same_number, Pieces.piece_before}
 use Rattle.dns_rdata_c.specs.Pieces.{IsPieceOf}
 
 -- piece number i, and the pieces in front of it and behind

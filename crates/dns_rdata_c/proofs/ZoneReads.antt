@@ -1,25 +1,15 @@
 -- What a text of a zone file gives, and what is read of it again.
 use Rattle.std.proofs.Common.{◌≡◌, ◌⊎◌, ℕ, ◌+◌, ◌<◌, ◌≤◌, inl, inr, List, [], ◌++◌, length, drop, sym, ap, subst, arith, Option}
-use Rattle.dns_fields.specs.Fields.{Values, Stands}
-use Rattle.dns_fields.specs.Labels.{DomainName}
-use Rattle.dns_fields.specs.Octets.{AreOctets}
+use Rattle.dns_fields.specs.{Fields.Values, Fields.Stands, Labels.DomainName, Octets.AreOctets}
 use Rattle.dns_fields.proofs.OctetLaws.{AreOctets-front, AreOctets-same}
-use Rattle.dns_types.specs.declared.error.ParseError.{ParseError}
+use Rattle.dns_types.specs.{declared.error.ParseError.ParseError, declared.record_type.RecordType.RecordType}
 use Rattle.dns_types.specs.declared.error.ParseError.TheVariants as parse
-use Rattle.dns_types.specs.declared.record_type.RecordType.{RecordType}
-use Rattle.dns_rdata.specs.declared.record_data.RData.{RData}
+use Rattle.dns_rdata.specs.{declared.record_data.RData.RData, WholeOctets.all_whole, WholeOctets.whole_data}
 use Rattle.dns_rdata.specs.Data.{FieldsOf, fields_of, shape, Fills, IsValue}
-use Rattle.dns_rdata.specs.WholeOctets.{all_whole, whole_data}
 use Rattle.dns_words.specs.Reads.{UnlessMemory}
-use Rattle.dns_rdata_zone.specs.ZoneGives.{AreDataOf, GivesValue, GivesNone}
-use Rattle.dns_rdata_zone.specs.ZoneFaults.{ZoneFault}
-use Rattle.dns_rdata_zone.specs.ZoneTexts.{zone_text}
-use Rattle.dns_rdata_zone.proofs.Again.{own_fields}
-use Rattle.dns_rdata_zone.proofs.Filled.{fills_give}
-use Rattle.dns_rdata_zone.proofs.ZoneOnce.{one_given}
-use Rattle.dns_rdata_c.specs.Buffers.{IsPut}
-use Rattle.dns_rdata_c.specs.Calls.{HasZoneData, IsNoZoneText, OfZoneText, PutsWire}
-use Rattle.dns_rdata_c.specs.Status.{parse_status}
+use Rattle.dns_rdata_zone.specs.{ZoneGives.AreDataOf, ZoneGives.GivesValue, ZoneGives.GivesNone, ZoneFaults.ZoneFault, ZoneTexts.zone_text}
+use Rattle.dns_rdata_zone.proofs.{Again.own_fields, Filled.fills_give, ZoneOnce.one_given}
+use Rattle.dns_rdata_c.specs.{Buffers.IsPut, Calls.HasZoneData, Calls.IsNoZoneText, Calls.OfZoneText, Calls.PutsWire, Status.parse_status}
 
 -- ---- octets that are put
 

@@ -1,30 +1,17 @@
 -- What the calls give.
 use Rattle.std.specs.Prelude.{◌≡◌, ◌⊎◌, ℕ, ◌<◌, ◌≤◌, ℤ, pos, negsuc, Option, Some, None, List, [], length, false}
-use Rattle.std.specs.Ordering.{nat_cmp}
-use Rattle.std.specs.Cmp.Lexicographic.{slice_cmp}
-use Rattle.std.specs.declared.cmp.Ordering.{Ordering}
+use Rattle.std.specs.{Ordering.nat_cmp, Cmp.Lexicographic.slice_cmp, declared.cmp.Ordering.Ordering}
 use Rattle.std.specs.declared.cmp.Ordering.TheVariants.{Less, Equal, Greater}
-use Rattle.dns_fields.specs.Labels.{DomainName}
-use Rattle.dns_fields.specs.Names.{IsNameIn}
+use Rattle.dns_fields.specs.{Labels.DomainName, Names.IsNameIn, Fields.canonical, Fields.all_emittable}
 use Rattle.dns_names_wire.specs.Words.{Because}
-use Rattle.dns_types.specs.declared.error.ProtoError.{ProtoError}
-use Rattle.dns_fields.specs.Fields.{canonical, all_emittable}
-use Rattle.dns_text.specs.TextWords.{NoTextWords}
-use Rattle.dns_types.specs.declared.error.DecodeError.{DecodeError}
-use Rattle.dns_types.specs.declared.error.DecodeError.TheVariants as decode
-use Rattle.dns_types.specs.declared.error.ParseError.{ParseError}
+use Rattle.dns_types.specs.{declared.error.ProtoError.ProtoError, declared.error.DecodeError.DecodeError, declared.error.ParseError.ParseError}
 use Rattle.dns_types.specs.declared.record_type.RecordType.{RecordType}
-use Rattle.dns_rdata.specs.declared.record_data.RData.{RData}
+use Rattle.dns_text.specs.TextWords.{NoTextWords}
+use Rattle.dns_types.specs.declared.error.DecodeError.TheVariants as decode
+use Rattle.dns_rdata.specs.{declared.record_data.RData.RData, DataWords.IsDataTextAt, DataWords.GivesNoneAt, Texts.data_text, WholeOctets.whole_data}
 use Rattle.dns_rdata.specs.Data.{Fills, NoValue, fields_of, data_octets, IsEmittable}
-use Rattle.dns_rdata.specs.DataWords.{IsDataTextAt, GivesNoneAt}
-use Rattle.dns_rdata.specs.Texts.{data_text}
-use Rattle.dns_rdata.specs.WholeOctets.{whole_data}
-use Rattle.dns_rdata_zone.specs.ZoneGives.{GivesValue, GivesNone}
-use Rattle.dns_rdata_zone.specs.ZoneFaults.{ZoneFault}
-use Rattle.dns_rdata_zone.specs.ZoneTexts.{zone_text}
-use Rattle.dns_rdata_c.specs.declared.check.Refusal.{Refusal}
-use Rattle.dns_rdata_c.specs.Reading.{IsCause, HasData}
-use Rattle.dns_rdata_c.specs.Status.{decode_status, parse_status}
+use Rattle.dns_rdata_zone.specs.{ZoneGives.GivesValue, ZoneGives.GivesNone, ZoneFaults.ZoneFault, ZoneTexts.zone_text}
+use Rattle.dns_rdata_c.specs.{declared.check.Refusal.Refusal, Reading.IsCause, Reading.HasData, Status.decode_status, Status.parse_status}
 use Rattle.dns_rdata_c.specs.Buffers.{IsPut, IsTooMany, IsTextPut, IsTextTooLong}
 
 -- ---- why octets are refused

@@ -1,7 +1,6 @@
 -- Where the octets of a name end that stands in a message: labels, and behind them an octet 0 or a pointer (RFC 1035, 3.1 and 4.1.4).
 use Rattle.std.specs.Prelude.{◌≡◌, ℕ, ◌<◌, ◌⊎◌, List, [], ◌∷◌, ◌++◌, length}
-use Rattle.dns_fields.specs.Labels.{AreLabels, wire}
-use Rattle.dns_fields.specs.Names.{pointer}
+use Rattle.dns_fields.specs.{Labels.AreLabels, Labels.wire, Names.pointer}
 
 -- an octet 0, or the two octets of a pointer
 abbrev pub IsLast : List ℕ → Type 0

@@ -1,11 +1,8 @@
 -- Octets of record data as they stand in a message, and with names whole or in lower case.
 use Rattle.std.specs.Prelude.{◌≡◌, ℕ, ◌+◌, ◌≤◌, List, ◌++◌, take, drop, map, length}
 use Rattle.std.specs.Char.{to_ascii_lowercase}
-use Rattle.dns_fields.specs.Fields.{Kind, Values, Stands}
-use Rattle.dns_fields.specs.Labels.{DomainName}
-use Rattle.dns_rdata.specs.declared.record_data.RData.{RData}
-use Rattle.dns_rdata.specs.Data.{fields_of, data_octets}
-use Rattle.dns_rdata.specs.WholeOctets.{name_octets, whole_data}
+use Rattle.dns_fields.specs.{Fields.Kind, Fields.Values, Fields.Stands, Labels.DomainName}
+use Rattle.dns_rdata.specs.{declared.record_data.RData.RData, Data.fields_of, Data.data_octets, WholeOctets.name_octets, WholeOctets.whole_data}
 
 -- the octets, n of them from the place s on in lower case
 abbrev pub lowered_at : ℕ → ℕ → List ℕ → List ℕ

@@ -1,10 +1,8 @@
 -- The names in record data, and where they begin in the message.
 use Rattle.std.specs.Prelude.{◌≡◌, ℕ, zero, suc, List, [], ◌∷◌}
-use Rattle.dns_fields.specs.Fields.{Kind, Name, Values, Field}
-use Rattle.dns_fields.specs.Labels.{DomainName}
+use Rattle.dns_fields.specs.{Fields.Kind, Fields.Name, Fields.Values, Fields.Field, Labels.DomainName}
 use Rattle.dns_types.specs.declared.record_type.RecordType.{RecordType}
-use Rattle.dns_rdata.specs.declared.record_data.RData.{RData}
-use Rattle.dns_rdata.specs.Data.{Fills, fields_of}
+use Rattle.dns_rdata.specs.{declared.record_data.RData.RData, Data.Fills, Data.fields_of}
 
 -- how many of the fields are names
 abbrev pub names_in : List Kind → ℕ

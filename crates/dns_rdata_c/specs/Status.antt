@@ -1,8 +1,7 @@
 -- The numbers of refusals.
 use Rattle.std.specs.Prelude.{ℕ}
-use Rattle.dns_types.specs.declared.error.DecodeError.{DecodeError}
+use Rattle.dns_types.specs.{declared.error.DecodeError.DecodeError, declared.error.ParseError.ParseError}
 use Rattle.dns_types.specs.declared.error.DecodeError.TheVariants as decode
-use Rattle.dns_types.specs.declared.error.ParseError.{ParseError}
 use Rattle.dns_types.specs.declared.error.ParseError.TheVariants as parse
 
 abbrev pub decode_status : DecodeError → ℕ

@@ -2,10 +2,8 @@
 
 ghost use Rattle.std.specs.Prelude.{◌≡◌, ◌≢◌, ◌<◌, ◌≤◌, ◌⊎◌, length as size};
 ghost use Rattle.dns_types.specs.RecordTypes.{record_type_of};
-ghost use Rattle.dns_rdata.specs.Data.{NoValue, data_octets};
-ghost use Rattle.dns_rdata.specs.Laws.{ReadsCanonical};
-ghost use Rattle.dns_rdata_c.specs.Reading.{HasData};
-ghost use Rattle.dns_rdata_c.specs.Buffers.{IsPut};
+ghost use Rattle.dns_rdata.specs.{Data.NoValue, Data.data_octets, Laws.ReadsCanonical};
+ghost use Rattle.dns_rdata_c.specs.{Reading.HasData, Buffers.IsPut};
 
 use crate::filling::put_canonical;
 use crate::reading::{decode_at, octets_at};

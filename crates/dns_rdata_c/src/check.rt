@@ -3,8 +3,7 @@
 ghost use Rattle.std.specs.Prelude.{◌≡◌, ◌≢◌, ◌≤◌, ◌⊎◌};
 ghost use Rattle.dns_types.specs.RecordTypes.{record_type_of};
 ghost use Rattle.dns_rdata.specs.Data.{NoValue};
-ghost use Rattle.dns_rdata_c.specs.Reading.{HasData};
-ghost use Rattle.dns_rdata_c.specs.Calls.{IsWhy, numbers_of};
+ghost use Rattle.dns_rdata_c.specs.{Reading.HasData, Calls.IsWhy, Calls.numbers_of};
 
 use crate::reading::decode_at;
 use crate::status::{MEMORY, OK, REFUSED, status_of};

@@ -2,10 +2,8 @@
 
 ghost use Rattle.std.specs.Prelude.{◌≡◌, ◌≢◌, ◌≤◌, ◌⊎◌, None, Some, IfOk, MatchOption, string_bytes};
 ghost use Rattle.dns_types.specs.RecordTypes.{record_type_of};
-ghost use Rattle.dns_rdata.specs.Data.{NoValue};
-ghost use Rattle.dns_rdata.specs.Texts.{data_text};
-ghost use Rattle.dns_rdata_c.specs.Reading.{HasData};
-ghost use Rattle.dns_rdata_c.specs.Calls.{PutsText, LacksRoomForText};
+ghost use Rattle.dns_rdata.specs.{Data.NoValue, Texts.data_text};
+ghost use Rattle.dns_rdata_c.specs.{Reading.HasData, Calls.PutsText, Calls.LacksRoomForText};
 
 use crate::putting::put_text;
 use crate::reading::read_at;

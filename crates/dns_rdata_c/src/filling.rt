@@ -2,8 +2,7 @@
 
 ghost use Rattle.std.specs.Prelude.{◌≡◌, ◌≢◌, ◌<◌, ◌≤◌, ◌⊎◌, length as size};
 ghost use Rattle.dns_rdata.specs.Data.{data_octets, IsEmittable};
-ghost use Rattle.dns_rdata_c.specs.Buffers.{IsPut};
-ghost use Rattle.dns_rdata_c.specs.NameSpans.{AreOf};
+ghost use Rattle.dns_rdata_c.specs.{Buffers.IsPut, NameSpans.AreOf};
 
 use crate::lowering::{name_span, put_lowered};
 use crate::status::{BUFFER, MEMORY, OK, TOO_LONG};

@@ -2,8 +2,7 @@
 
 ghost use Rattle.std.specs.Prelude.{◌≡◌, ◌≢◌, ◌+◌, ◌<◌, ◌≤◌, ◌⊎◌, IfSome, length as size};
 ghost use Rattle.dns_rdata.specs.Data.{data_octets, IsEmittable};
-ghost use Rattle.dns_rdata_c.specs.Buffers.{IsPut};
-ghost use Rattle.dns_rdata_c.specs.NameSpans.{lowered_at, HasNameAt, AreOf};
+ghost use Rattle.dns_rdata_c.specs.{Buffers.IsPut, NameSpans.lowered_at, NameSpans.HasNameAt, NameSpans.AreOf};
 
 use crate::emitting::whole_octets;
 use crate::putting::put_octets;

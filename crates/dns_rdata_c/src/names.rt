@@ -3,10 +3,8 @@
 ghost use Rattle.std.specs.Prelude.{◌≡◌, ◌≢◌, ◌<◌, ◌≤◌, ◌⊎◌, length as size, MatchOption};
 ghost use Rattle.dns_types.specs.RecordTypes.{record_type_of};
 ghost use Rattle.dns_fields.specs.Names.{IsNameIn};
-ghost use Rattle.dns_rdata.specs.Data.{NoValue, fields_of};
-ghost use Rattle.dns_rdata.specs.WholeOctets.{name_octets};
-ghost use Rattle.dns_rdata_c.specs.Reading.{HasData};
-ghost use Rattle.dns_rdata_c.specs.Buffers.{IsPut, IsTooMany};
+ghost use Rattle.dns_rdata.specs.{Data.NoValue, Data.fields_of, WholeOctets.name_octets};
+ghost use Rattle.dns_rdata_c.specs.{Reading.HasData, Buffers.IsPut, Buffers.IsTooMany};
 ghost use Rattle.dns_rdata_c.specs.Names.{HasName, IsFilledBy, IsNameAt, names_in};
 
 use crate::emitting::octets_of_name;

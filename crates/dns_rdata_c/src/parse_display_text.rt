@@ -3,8 +3,7 @@
 ghost use Rattle.std.specs.Prelude.{◌≡◌, ◌≢◌, ◌<◌, ◌≤◌, ◌⊎◌, length as size};
 ghost use Rattle.std.specs.Str.{IsUtf8};
 ghost use Rattle.dns_types.specs.RecordTypes.{record_type_of};
-ghost use Rattle.dns_rdata.specs.Data.{NoValue, IsEmittable};
-ghost use Rattle.dns_rdata.specs.WholeOctets.{whole_data};
+ghost use Rattle.dns_rdata.specs.{Data.NoValue, Data.IsEmittable, WholeOctets.whole_data};
 ghost use Rattle.dns_rdata_c.specs.Reading.{HasData};
 ghost use Rattle.dns_rdata_c.specs.Calls.{HasTextData, IsNoOrigin, IsRefusedText, IsUnread, PutsData, LacksRoomForWire};
 

@@ -5,7 +5,8 @@ ghost use Rattle.dns_types.specs.declared.record_type.RecordType.TheVariants as 
 ghost use Rattle.dns_types.specs.RecordTypes.{record_type_of};
 ghost use Rattle.dns_fields.specs.Pieces.{IsCut};
 ghost use Rattle.dns_rdata.specs.Data.{Fills, NoValue};
-ghost use Rattle.dns_rdata_c.specs.Parts.{is_partless as partless_type, IsServiceFront, IsFront, HasNoFront, AreNoParts, AreFewParts, AreCutOptions, IsPartOf, HasPart, LacksPart, parts_in, IsPartIn};
+ghost use Rattle.dns_rdata_c.specs.Parts.{is_partless as partless_type, IsServiceFront, IsFront, HasNoFront, AreNoParts, AreFewParts, AreCutOptions};
+ghost use Rattle.dns_rdata_c.specs.Parts.{IsPartOf, HasPart, LacksPart, parts_in, IsPartIn};
 
 use crate::name_ends::name_length;
 use crate::pieces::{Part, count_pieces, is_cut, piece_of};

@@ -1,12 +1,10 @@
 //! Octets of record data with whole names, copied from where they stand in a message. Takes no memory.
 
 ghost use Rattle.std.specs.Prelude.{◌≡◌, ◌≤◌, None, IfSome, IsTrue, length as size};
-ghost use Rattle.dns_rdata.specs.Data.{IsEmittable};
-ghost use Rattle.dns_rdata.specs.WholeOctets.{all_whole, whole_data};
+ghost use Rattle.dns_rdata.specs.{Data.IsEmittable, WholeOctets.all_whole, WholeOctets.whole_data};
 ghost use Rattle.dns_rdata_base.specs.SOA.{soa_shape, soa_fields};
 ghost use Rattle.dns_rdata_service.specs.SVCB.{svcb_shape, svcb_fields};
-ghost use Rattle.dns_rdata_c.specs.Buffers.{Puts};
-ghost use Rattle.dns_rdata_c.specs.NameSpans.{AreFields, AreOf, StandsWhole, EndsByName};
+ghost use Rattle.dns_rdata_c.specs.{Buffers.Puts, NameSpans.AreFields, NameSpans.AreOf, NameSpans.StandsWhole, NameSpans.EndsByName};
 
 use crate::labels::{name_len, put_named, put_two_names};
 use crate::name_ends::name_length;

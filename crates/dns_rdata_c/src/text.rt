@@ -4,8 +4,7 @@ ghost use Rattle.std.specs.Prelude.{◌≡◌, ◌≢◌, ◌≤◌, ◌⊎◌, 
 ghost use Rattle.dns_types.specs.RecordTypes.{record_type_of};
 ghost use Rattle.dns_rdata.specs.Data.{NoValue};
 ghost use Rattle.dns_rdata_zone.specs.ZoneTexts.{zone_text};
-ghost use Rattle.dns_rdata_c.specs.Reading.{HasData};
-ghost use Rattle.dns_rdata_c.specs.Buffers.{IsTextPut, IsTextTooLong};
+ghost use Rattle.dns_rdata_c.specs.{Reading.HasData, Buffers.IsTextPut, Buffers.IsTextTooLong};
 
 use crate::putting::put_text;
 use crate::reading::read_at;

@@ -2,8 +2,7 @@
 
 ghost use Rattle.std.specs.Prelude.{◌≡◌, ◌≤◌, ◌⊎◌, IfOk, IfErr};
 ghost use Rattle.std.specs.Option.{option_copied};
-ghost use Rattle.dns_rdata.specs.Data.{IsEmittable};
-ghost use Rattle.dns_rdata.specs.DataWords.{IsDataTextAt};
+ghost use Rattle.dns_rdata.specs.{Data.IsEmittable, DataWords.IsDataTextAt};
 ghost use Rattle.dns_rdata_zone.specs.ZoneGives.{GivesValue};
 ghost use Rattle.dns_rdata_c.specs.Calls.{IsOrigin, IsNoOrigin, IsNoText, IsNoZoneText};
 

@@ -2,11 +2,8 @@
 
 ghost use Rattle.std.specs.Prelude.{◌≡◌, ◌≢◌, ◌<◌, ◌≤◌, ◌⊎◌, length as size};
 ghost use Rattle.dns_types.specs.RecordTypes.{record_type_of};
-ghost use Rattle.dns_rdata.specs.Data.{NoValue, IsEmittable};
-ghost use Rattle.dns_rdata.specs.WholeOctets.{whole_data};
-ghost use Rattle.dns_rdata_c.specs.Reading.{HasData};
-ghost use Rattle.dns_rdata_c.specs.Calls.{PutsWire, LacksRoomForWire};
-ghost use Rattle.dns_rdata_c.specs.NameSpans.{AreOf};
+ghost use Rattle.dns_rdata.specs.{Data.NoValue, Data.IsEmittable, WholeOctets.whole_data};
+ghost use Rattle.dns_rdata_c.specs.{Reading.HasData, Calls.PutsWire, Calls.LacksRoomForWire, NameSpans.AreOf};
 
 use crate::emitting::whole_octets;
 use crate::putting::put_octets;

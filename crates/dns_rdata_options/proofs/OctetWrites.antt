@@ -3,8 +3,7 @@ use Rattle.std.proofs.Common.{◌≡◌, ℕ, ◌≤◌, List, ◌++◌, length,
 use Rattle.std.proofs.lemmas.List.{length-append}
 use Rattle.dns_types.specs.declared.error.ProtoError.{ProtoError}
 use Rattle.dns_fields.specs.Fields.{Rest, field_octets}
-use Rattle.dns_names_wire.specs.State.{Writing}
-use Rattle.dns_names_wire.specs.Words.{AppendedField, StoppedField, NoRoomField, UnfitField}
+use Rattle.dns_names_wire.specs.{State.Writing, Words.AppendedField, Words.StoppedField, Words.NoRoomField, Words.UnfitField}
 use Rattle.dns_names_wire.proofs.FieldWrites.{extends_then, because_map}
 use Rattle.dns_rdata_options.specs.Words.{StoppedOctets}
 

@@ -1,10 +1,8 @@
 -- How many options there are, by their lengths.
 use Rattle.std.proofs.Common.{◌≡◌, ℕ, suc, ◌+◌, ◌<◌, List, [], ◌∷◌, length, get_or, refl, sym, ap, ◌∙◌, arith, subst}
 use Rattle.std.specs.Int.{bytes_high_first, from_be_bytes, w16}
-use Rattle.std.proofs.lemmas.List.{length-append, get_or-drop}
-use Rattle.std.proofs.lemmas.Nat.{from_be_bytes-to_be_bytes_2}
-use Rattle.dns_fields.specs.Octets.{At}
-use Rattle.dns_fields.specs.Pieces.{Numbered, piece, pieces, IsPiece, ArePieces}
+use Rattle.std.proofs.{lemmas.List.length-append, lemmas.List.get_or-drop, lemmas.Nat.from_be_bytes-to_be_bytes_2}
+use Rattle.dns_fields.specs.{Octets.At, Pieces.Numbered, Pieces.piece, Pieces.pieces, Pieces.IsPiece, Pieces.ArePieces}
 use Rattle.dns_fields.proofs.Pieces.{length-piece}
 use Rattle.dns_names_wire.proofs.Strings.{at_front, at_rest}
 use Rattle.dns_rdata_options.proofs.OptionLists.{prefix}

@@ -1,18 +1,15 @@
 -- Options one after the other.
-use Rattle.std.proofs.Common.{◌≡◌, ℕ, ◌+◌, ◌-◌, ◌≤◌, ◌<◌, ◌^◌, ◌⊎◌, inl, inr, ⊎_elim, List, [], ◌∷◌}
-use Rattle.std.proofs.Common.{◌++◌, length, take, drop, refl, sym, ap, ◌∙◌, arith, subst, append_assoc}
+use Rattle.std.proofs.Common.{◌≡◌, ℕ, ◌+◌, ◌-◌, ◌≤◌, ◌<◌, ◌^◌, ◌⊎◌, inl, inr, ⊎_elim, List, [], ◌∷◌, ◌++◌, length, take, drop, refl, sym, ap, ◌∙◌}
+use Rattle.std.proofs.Common.{arith, subst, append_assoc}
 use Rattle.std.specs.Int.{bytes_high_first}
 use Rattle.std.proofs.lemmas.List.{length-append, take-append-drop, take_at, take-append-le}
 use Rattle.dns_types.specs.declared.error.DecodeError.{DecodeError}
 use Rattle.dns_types.specs.declared.error.DecodeError.TheVariants as decode
-use Rattle.dns_fields.specs.Octets.{At}
+use Rattle.dns_fields.specs.{Octets.At, Fields.Number, Fields.Octets, Fields.Field}
 use Rattle.dns_fields.specs.Pieces.{Numbered, piece, pieces, IsPiece, ArePieces, AllHeld, OptionValue, OptionHeld, IsCut}
-use Rattle.dns_fields.specs.Fields.{Number, Octets, Field}
-use Rattle.dns_fields.proofs.Numbers.{length-bytes}
+use Rattle.dns_fields.proofs.{Numbers.length-bytes, FieldLaws.field_same}
 use Rattle.dns_fields.proofs.Pieces.{first_piece, cut_piece, length-piece, piece_before}
-use Rattle.dns_fields.proofs.FieldLaws.{field_same}
-use Rattle.dns_names_wire.specs.State.{Reading}
-use Rattle.dns_names_wire.specs.Words.{TookField, LacksOctets, StaysBehind, UnlessMemory}
+use Rattle.dns_names_wire.specs.{State.Reading, Words.TookField, Words.LacksOctets, Words.StaysBehind, Words.UnlessMemory}
 use Rattle.dns_names_wire.proofs.FieldReads.{stays, unless_all, took_stays, took_then, took_last, took_number}
 use Rattle.dns_names_wire.proofs.Strings.{at_front, at_rest, at_then}
 use Rattle.dns_rdata_options.specs.OPT.{IsPieceRefusal, IsNextRefusal}

@@ -1,21 +1,15 @@
 -- Options that are read up to the end of a record.
-use Rattle.std.proofs.Common.{◌≡◌, ℕ, ◌+◌, ◌-◌, ◌≤◌, ◌<◌, ◌⊎◌, inl, inr, Bool, true, List, [], ◌∷◌, ◌++◌, map, refl}
-use Rattle.std.proofs.Common.{sym, ap, ◌∙◌, arith, subst}
-use Rattle.std.proofs.lemmas.List.{map_push, append-nil}
-use Rattle.std.proofs.lemmas.Grind.{flat_map-append}
+use Rattle.std.proofs.Common.{◌≡◌, ℕ, ◌+◌, ◌-◌, ◌≤◌, ◌<◌, ◌⊎◌, inl, inr, Bool, true, List, [], ◌∷◌, ◌++◌, map, refl, sym, ap, ◌∙◌, arith, subst}
+use Rattle.std.proofs.{lemmas.List.map_push, lemmas.List.append-nil, lemmas.Grind.flat_map-append}
 use Rattle.dns_types.specs.declared.error.DecodeError.{DecodeError}
 use Rattle.dns_types.specs.declared.error.DecodeError.TheVariants as decode
-use Rattle.dns_fields.specs.Octets.{At}
+use Rattle.dns_fields.specs.{Octets.At, Fields.Options, Fields.Field, Fields.WholeOptions, Fields.CutOptions}
 use Rattle.dns_fields.specs.Pieces.{Numbered, piece, pieces, IsPiece, AllHeld, OptionValue, OptionHeld, IsCut}
-use Rattle.dns_fields.specs.Fields.{Options, Field, WholeOptions, CutOptions}
-use Rattle.dns_names_wire.specs.State.{Reading}
-use Rattle.dns_names_wire.specs.Words.{Took, Refused}
-use Rattle.dns_names_wire.proofs.FieldReads.{unless_map}
-use Rattle.dns_names_wire.proofs.Strings.{at_then}
+use Rattle.dns_names_wire.specs.{State.Reading, Words.Took, Words.Refused}
+use Rattle.dns_names_wire.proofs.{FieldReads.unless_map, Strings.at_then}
 use Rattle.dns_rdata_options.specs.OPT.{Pair, pair_value, pair_of, opt_shape, IsNextRefusal, IsOptRefusal}
 use Rattle.dns_rdata_options.specs.OptionReads.{Left, NoneLeft, TookPiece, TookCut, KeptOption}
-use Rattle.dns_rdata_options.proofs.OptionLists.{RefusedHere, first_left}
-use Rattle.dns_rdata_options.proofs.Selection.{all_push}
+use Rattle.dns_rdata_options.proofs.{OptionLists.RefusedHere, OptionLists.first_left, Selection.all_push}
 
 -- what was read of the options up to the end, and what is left of any way to fill the record
 pub record ReadsOptions (old : Reading) (n end : ℕ) (done : List (Numbered OptionValue)) (d : Reading) : Type 0 where

@@ -1,19 +1,14 @@
 -- The orders of options are those that their definitions say.
 use Rattle.std.proofs.Common.{◌≡◌, ℕ, ◌/◌, ◌%◌, ◌<◌, List, [], ◌∷◌, refl, sym, ap, ◌∙◌, arith}
-use Rattle.std.specs.Cmp.{nat_cmp_is, ranks}
-use Rattle.std.specs.Cmp.Lexicographic.{slice_cmp}
-use Rattle.std.specs.Ordering.{MatchOrdering, nat_cmp, ordering_then}
-use Rattle.std.specs.declared.cmp.Ordering.{Ordering}
+use Rattle.std.specs.{Cmp.nat_cmp_is, Cmp.ranks, Cmp.Lexicographic.slice_cmp, Ordering.MatchOrdering, Ordering.nat_cmp, Ordering.ordering_then}
+use Rattle.std.specs.{declared.cmp.Ordering.Ordering, declared.net.ip_addr.IpAddr.IpAddr, Net.Addr.octets_of, Net.Addr.ipv6_segments}
 use Rattle.std.specs.declared.cmp.Ordering.TheVariants.{Less, Equal}
-use Rattle.std.specs.declared.net.ip_addr.IpAddr.{IpAddr}
 use Rattle.std.specs.declared.net.ip_addr.IpAddr.TheVariants.{V4, V6}
-use Rattle.std.specs.Net.Addr.{octets_of, ipv6_segments}
 use Rattle.std.specs.contracts.net.ip_addr.IpAddrOrd.TheImpl as ordered_addresses
 use Rattle.dns_pieces.proofs.Comparing.{then_assoc}
+use Rattle.dns_rdata_options.specs.{declared.opt.option.EdnsOption.EdnsOption, declared.opt.subnet.ClientSubnet.ClientSubnet}
 use Rattle.dns_rdata_options.specs.Order.{address_cmp, subnet_cmp, option_cmp}
-use Rattle.dns_rdata_options.specs.declared.opt.option.EdnsOption.{EdnsOption}
 use Rattle.dns_rdata_options.specs.declared.opt.option.EdnsOption.TheVariants.{Subnet, NSID, Unknown}
-use Rattle.dns_rdata_options.specs.declared.opt.subnet.ClientSubnet.{ClientSubnet}
 use Rattle.dns_rdata_options.specs.contracts.opt.option.EdnsOptionOrd.TheImpl as ordered_options
 use Rattle.dns_rdata_options.specs.contracts.opt.subnet.ClientSubnetOrd.TheImpl as ordered_subnets
 

@@ -1,11 +1,9 @@
 -- The options of a code, in lists that grow and that lose those of a code.
 use Rattle.std.proofs.Common.{◌≡◌, Bool, true, false, not, List, [], ◌∷◌, ◌++◌, cond, filter, map, refl, sym, ap, ◌∙◌}
-use Rattle.std.proofs.lemmas.List.{map-append}
-use Rattle.std.proofs.lemmas.List.Elements.{filter-append}
+use Rattle.std.proofs.{lemmas.List.map-append, lemmas.List.Elements.filter-append}
 use Rattle.dns_rdata_base.proofs.NumberedLaws.{numbered_equiv}
+use Rattle.dns_rdata_options.specs.{OPT.Pair, OPT.code_eq, OPT.options_of, OPT.without, declared.opt.code.EdnsCode.EdnsCode}
 use Rattle.dns_rdata_options.specs.EdnsCode.{edns_code_number, edns_code_variant}
-use Rattle.dns_rdata_options.specs.OPT.{Pair, code_eq, options_of, without}
-use Rattle.dns_rdata_options.specs.declared.opt.code.EdnsCode.{EdnsCode}
 
 -- what passes a test passes the other, so it is not lost
 filter_kept : {X : Type 0} (p q : X → Bool) (xs : List X) → ((a : X) → p a ≡ true → q a ≡ true) → filter p (filter q xs) ≡ filter p xs

@@ -1,21 +1,17 @@
 -- Options that are emitted one after the other.
-use Rattle.std.proofs.Common.{◌≡◌, ℕ, ◌+◌, ◌<◌, ◌≤◌, ◌/◌, ◌==◌, ◌&&◌, ◌||◌, ◌⊎◌, nat_le, eqb-true, Bool, true, false, List, [], ◌∷◌}
-use Rattle.std.proofs.Common.{◌++◌, length, map, take, drop, get_or, refl, sym, ap, ◌∙◌, arith, append_assoc, subst}
-use Rattle.std.proofs.lemmas.Bool.Decides.{nat_tests}
-use Rattle.std.specs.Cmp.{first_so, second_so}
-use Rattle.std.proofs.lemmas.Grind.{flat_map-append}
+use Rattle.std.proofs.Common.{◌≡◌, ℕ, ◌+◌, ◌<◌, ◌≤◌, ◌/◌, ◌==◌, ◌&&◌, ◌||◌, ◌⊎◌, nat_le, eqb-true, Bool, true, false, List, [], ◌∷◌, ◌++◌, length}
+use Rattle.std.proofs.Common.{map, take, drop, get_or, refl, sym, ap, ◌∙◌, arith, append_assoc, subst}
+use Rattle.std.proofs.{lemmas.Bool.Decides.nat_tests, lemmas.Grind.flat_map-append}
 use Rattle.std.proofs.lemmas.List.{map-append, append-nil, length-append, drop_more, take_more, take-append-drop}
+use Rattle.std.specs.Cmp.{first_so, second_so}
 use Rattle.dns_types.specs.declared.error.ProtoError.{ProtoError}
-use Rattle.dns_fields.specs.Pieces.{Numbered, piece, pieces, as_piece, OptionValue, Subnet, Plain, option_octets, OptionFits}
-use Rattle.dns_fields.specs.Pieces.{IsEmittableOption, option_emittable, options_emittable}
+use Rattle.dns_fields.specs.Pieces.{Numbered, piece, pieces, as_piece, OptionValue, Subnet, Plain, option_octets, OptionFits, IsEmittableOption}
+use Rattle.dns_fields.specs.Pieces.{option_emittable, options_emittable}
 use Rattle.dns_fields.specs.Fields.{Options, field_octets, option_pieces}
 use Rattle.dns_fields.proofs.Sorted.{octets_cmp, flat_map_all, length_sorted}
-use Rattle.dns_names_wire.specs.State.{Writing}
-use Rattle.dns_names_wire.specs.Words.{AppendedField, StoppedField}
+use Rattle.dns_names_wire.specs.{State.Writing, Words.AppendedField, Words.StoppedField}
 use Rattle.dns_names_wire.proofs.FieldWrites.{keeps_then, because_map, and_false}
-use Rattle.dns_rdata_options.specs.EdnsCode.{edns_code_number}
-use Rattle.dns_rdata_options.specs.Words.{AppendedOctets, StoppedOctets}
-use Rattle.dns_rdata_options.specs.OPT.{Pair, pair_value}
+use Rattle.dns_rdata_options.specs.{EdnsCode.edns_code_number, Words.AppendedOctets, Words.StoppedOctets, OPT.Pair, OPT.pair_value}
 use Rattle.dns_rdata_options.proofs.Selection.{all_push}
 
 joined : (xs : List (Numbered OptionValue)) (x : Numbered OptionValue) (ys : List (Numbered OptionValue))

@@ -1,30 +1,17 @@
 -- The order of the octets of options, and of lists that they begin.
 use Rattle.std.proofs.Common.{◌≡◌, ◌≢◌, ℕ, ◌<◌, ◌^◌, nat_le, true, List, [], ◌∷◌, ◌++◌, length, map, count_by, refl, sym, ap, ◌∙◌}
-use Rattle.std.proofs.lemmas.List.{append-nil}
-use Rattle.std.proofs.lemmas.Grind.{flat_map-append}
-use Rattle.std.specs.Int.{bytes_high_first}
-use Rattle.std.specs.List.{flat_map, AllByRecursion}
-use Rattle.std.specs.Cmp.{first_so, second_so}
-use Rattle.std.specs.FinMap.{nat_cmp-IsAntisymmetric}
-use Rattle.std.specs.Cmp.Lexicographic.{slice_cmp}
+use Rattle.std.proofs.{lemmas.List.append-nil, lemmas.Grind.flat_map-append}
+use Rattle.std.specs.{Int.bytes_high_first, List.flat_map, List.AllByRecursion, Cmp.first_so, Cmp.second_so, FinMap.nat_cmp-IsAntisymmetric}
+use Rattle.std.specs.{Cmp.Lexicographic.slice_cmp, declared.cmp.Ordering.Ordering}
 use Rattle.std.specs.Ordering.{is_eq, eq_by_cmp, nat_cmp, ordering_then}
-use Rattle.std.specs.declared.cmp.Ordering.{Ordering}
 use Rattle.std.specs.declared.cmp.Ordering.TheVariants.{Less, Equal, Greater}
-use Rattle.dns_fields.specs.Fields.{Options, field_octets, option_pieces}
-use Rattle.dns_fields.proofs.Sorted.{sorted_all, map_sorted, flat_map_all}
-use Rattle.dns_fields.specs.Pieces.{piece, option_octets}
-use Rattle.dns_fields.specs.Sorting.{sorted}
-use Rattle.dns_fields.proofs.Multisets.{count_sorted, sorted_risen, same_counts}
-use Rattle.dns_fields.proofs.Numbers.{length-bytes}
-use Rattle.dns_fields.proofs.Pieces.{parts, number_first, piece_before}
+use Rattle.dns_fields.specs.{Fields.Options, Fields.field_octets, Fields.option_pieces, Pieces.piece, Pieces.option_octets, Sorting.sorted}
+use Rattle.dns_fields.proofs.{Sorted.sorted_all, Sorted.map_sorted, Sorted.flat_map_all, Multisets.count_sorted, Multisets.sorted_risen}
+use Rattle.dns_fields.proofs.{Multisets.same_counts, Numbers.length-bytes, Pieces.parts, Pieces.number_first, Pieces.piece_before}
 use Rattle.dns_pieces.specs.Fronts.{canonical_cmp}
-use Rattle.dns_pieces.proofs.Comparing.{cmp_shared, then_kept}
-use Rattle.dns_pieces.proofs.Fronts.{alone}
-use Rattle.dns_rdata_options.specs.EdnsOption.{option_value}
-use Rattle.dns_rdata_options.specs.Facing.{code_number}
-use Rattle.dns_rdata_options.specs.OPT.{Pair, pair_value, opt_shape, opt_fields}
-use Rattle.dns_rdata_options.specs.Order.{pair_cmp, risen, opt_eq}
-use Rattle.dns_rdata_options.specs.OrderLaws.{pair_total, opt_ties}
+use Rattle.dns_pieces.proofs.{Comparing.cmp_shared, Comparing.then_kept, Fronts.alone}
+use Rattle.dns_rdata_options.specs.{EdnsOption.option_value, Facing.code_number, OPT.Pair, OPT.pair_value, OPT.opt_shape, OPT.opt_fields}
+use Rattle.dns_rdata_options.specs.{Order.pair_cmp, Order.risen, Order.opt_eq, OrderLaws.pair_total, OrderLaws.opt_ties}
 use Rattle.dns_rdata_options.specs.Steps.{octets_cmp, piece_cmp, own_piece, pair_emittable, pairs_emittable}
 use Rattle.dns_rdata_options.proofs.Pairs.{is_short}
 

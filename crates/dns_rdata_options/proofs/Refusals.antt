@@ -2,10 +2,8 @@
 use Rattle.std.proofs.Common.{inl, inr, ℕ, List}
 use Rattle.dns_types.specs.declared.error.DecodeError.TheVariants as decode
 use Rattle.dns_names_wire.specs.State.{Reading}
-use Rattle.dns_rdata_options.specs.ClientSubnet.{IsSubnetRefusal}
-use Rattle.dns_rdata_options.specs.EdnsOption.{IsOptionRefusal}
+use Rattle.dns_rdata_options.specs.{ClientSubnet.IsSubnetRefusal, EdnsOption.IsOptionRefusal, declared.opt.code.EdnsCode.EdnsCode}
 use Rattle.dns_rdata_options.specs.OPT.{IsPieceRefusal, IsNextRefusal, IsOptRefusal}
-use Rattle.dns_rdata_options.specs.declared.opt.code.EdnsCode.{EdnsCode}
 use Rattle.dns_rdata_options.specs.declared.opt.code.EdnsCode.TheVariants as codes
 
 subnet_never : (s : List ℕ) (k : ℕ) → IsSubnetRefusal s (decode.UnknownRecordTypeValue k) → ⊥

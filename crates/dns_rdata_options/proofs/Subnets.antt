@@ -1,12 +1,9 @@
 -- The subnet that begins octets, and why none does.
-use Rattle.std.proofs.Common.{◌≡◌, ◌⊎◌, inl, inr, ℕ, zero, suc, ◌+◌, ◌-◌, ◌<◌, ◌≤◌, List, [], ◌∷◌, ◌++◌, length, take}
-use Rattle.std.proofs.Common.{drop, replicate, get_or, false, ◌==◌, refl, sym, ap, ◌∙◌, arith, subst, append_assoc}
-use Rattle.std.specs.Int.{w16, from_be_bytes, bytes_high_first}
-use Rattle.std.specs.Net.Addr.{segments_of, ipv6_segments}
-use Rattle.std.specs.declared.net.ip_addr.IpAddr.TheVariants.{V6}
-use Rattle.std.specs.declared.net.ipv6_addr.Ipv6Addr.{Ipv6Addr}
-use Rattle.std.proofs.lemmas.Bool.Decides.{nat_tests}
-use Rattle.std.proofs.lemmas.Nat.{be_bytes_2}
+use Rattle.std.proofs.Common.{◌≡◌, ◌⊎◌, inl, inr, ℕ, zero, suc, ◌+◌, ◌-◌, ◌<◌, ◌≤◌, List, [], ◌∷◌, ◌++◌, length, take, drop, replicate, get_or, false}
+use Rattle.std.proofs.Common.{◌==◌, refl, sym, ap, ◌∙◌, arith, subst, append_assoc}
+use Rattle.std.specs.{Int.w16, Int.from_be_bytes, Int.bytes_high_first, Net.Addr.segments_of, Net.Addr.ipv6_segments}
+use Rattle.std.specs.{declared.net.ip_addr.IpAddr.TheVariants.V6, declared.net.ipv6_addr.Ipv6Addr.Ipv6Addr}
+use Rattle.std.proofs.{lemmas.Bool.Decides.nat_tests, lemmas.Nat.be_bytes_2}
 use Rattle.std.proofs.lemmas.List.{length-append, length-take-le, length-drop, length-replicate, take-append-drop, take_at}
 use Rattle.dns_types.specs.declared.error.DecodeError.TheVariants as decode
 use Rattle.dns_fields.specs.Octets.{At, AreOctets}
@@ -14,8 +11,8 @@ use Rattle.dns_fields.specs.Pieces.{OptionValue, Subnet, option_octets, IsAddres
 use Rattle.dns_fields.proofs.Numbers.{length-bytes}
 use Rattle.dns_fields.proofs.OctetLaws.{AreOctets-nil, AreOctets-cons, AreOctets-append, AreOctets-take, AreOctets-drop}
 use Rattle.dns_rdata_base.proofs.Addresses.{octets_of-segments}
-use Rattle.dns_rdata_options.specs.ClientSubnet.{family_of, address_octets, prefix_octets, family_octets, padded, address_of, subnet_of}
-use Rattle.dns_rdata_options.specs.ClientSubnet.{subnet_value, IsReadSubnet, SubnetAt, IsFamily, SubnetHead, IsSubnetRefusal}
+use Rattle.dns_rdata_options.specs.ClientSubnet.{family_of, address_octets, prefix_octets, family_octets, padded, address_of, subnet_of, subnet_value}
+use Rattle.dns_rdata_options.specs.ClientSubnet.{IsReadSubnet, SubnetAt, IsFamily, SubnetHead, IsSubnetRefusal}
 use Rattle.dns_rdata_options.specs.declared.opt.subnet.ClientSubnet.{ClientSubnet}
 
 -- octets as numbers of eight bits, as code knows them

@@ -1,42 +1,27 @@
 -- Records of options by their fields: one that was read is told by them, and fields that stand make one. `==` of records
 -- tells whether one is the other in another order; of two that were read, whether their fields are.
-use Rattle.std.proofs.Common.{◌≡◌, ◌↔◌, ◌⊎◌, inl, inr, ℕ, ◌-◌, ◌==◌, Bool, true, false, cond, List, [], ◌∷◌, ◌++◌}
-use Rattle.std.proofs.Common.{map, count_by, get_or, slice_get, Some, refl, sym, ap, ◌∙◌, subst}
-use Rattle.std.specs.Bool.{Decides}
-use Rattle.std.proofs.lemmas.Option.{get_or_from_slice_get}
-use Rattle.std.proofs.lemmas.Bool.Decides.{same_from_decides, Decides-and, Decides-like}
-use Rattle.std.specs.Cmp.{unsigned_Decides}
-use Rattle.std.specs.Cmp.Lexicographic.{pointwise, pointwise_decides}
-use Rattle.std.specs.Ordering.{is_eq, eq_by_cmp}
-use Rattle.std.specs.FinMap.{IsAntisymmetric}
-use Rattle.std.specs.List.Sorted.{IsPermutation}
-use Rattle.std.proofs.lemmas.List.Sorted.{IsPermutation-map}
-use Rattle.std.specs.Int.{bytes_high_first}
-use Rattle.std.specs.declared.net.ip_addr.IpAddr.{IpAddr}
+use Rattle.std.proofs.Common.{◌≡◌, ◌↔◌, ◌⊎◌, inl, inr, ℕ, ◌-◌, ◌==◌, Bool, true, false, cond, List, [], ◌∷◌, ◌++◌, map, count_by, get_or, slice_get}
+use Rattle.std.proofs.Common.{Some, refl, sym, ap, ◌∙◌, subst}
+use Rattle.std.specs.{Bool.Decides, Cmp.unsigned_Decides, Cmp.Lexicographic.pointwise, Cmp.Lexicographic.pointwise_decides, Ordering.is_eq}
+use Rattle.std.specs.{Ordering.eq_by_cmp, FinMap.IsAntisymmetric, List.Sorted.IsPermutation, Int.bytes_high_first, declared.net.ip_addr.IpAddr.IpAddr}
 use Rattle.std.specs.declared.net.ip_addr.IpAddr.TheVariants.{V4, V6}
+use Rattle.std.proofs.{lemmas.Option.get_or_from_slice_get, lemmas.List.Sorted.IsPermutation-map}
+use Rattle.std.proofs.lemmas.Bool.Decides.{same_from_decides, Decides-and, Decides-like}
 use Rattle.std.specs.contracts.net.ip_addr.IpAddrPartialEq.TheImpl as equal_addresses
-use Rattle.dns_fields.specs.Octets.{AreOctets}
+use Rattle.dns_fields.specs.{Octets.AreOctets, Fields.Values, Fields.WholeOptions, Fields.CutOptions, Fields.Stands, Fields.Same, Equal.values_eq}
 use Rattle.dns_fields.specs.Pieces.{Numbered, piece, pieces, AllHeld, OptionValue, Subnet, Plain, option_octets, OptionHeld}
-use Rattle.dns_fields.specs.Fields.{Values, WholeOptions, CutOptions, Stands, Same}
-use Rattle.dns_fields.specs.Equal.{values_eq}
-use Rattle.dns_fields.proofs.EqualLaws.{values_decide}
+use Rattle.dns_fields.proofs.{EqualLaws.values_decide, Multisets.count_ext, Multisets.counts_decide, Sorted.permutation_counts}
 use Rattle.dns_fields.proofs.OctetLaws.{AreOctets-at, AreOctets-front, AreOctets-back, AreOctets-same, AreOctets-tail}
-use Rattle.dns_fields.proofs.Multisets.{count_ext, counts_decide}
-use Rattle.dns_fields.proofs.Sorted.{permutation_counts}
+use Rattle.dns_rdata_options.specs.{EdnsOption.option_value, Order.pair_eq, Order.pair_cmp, Order.opt_eq, declared.opt.code.EdnsCode.EdnsCode}
+use Rattle.dns_rdata_options.specs.{declared.opt.option.EdnsOption.EdnsOption, declared.opt.subnet.ClientSubnet.ClientSubnet}
 use Rattle.dns_rdata_options.specs.EdnsCode.{edns_code_number, edns_code_variant, edns_code_of}
-use Rattle.dns_rdata_options.specs.EdnsOption.{option_value}
 use Rattle.dns_rdata_options.specs.OPT.{Pair, pair_value, option_of, pair_of, opt_shape, opt_fields, opt_from, IsReadOpt, code_eq}
-use Rattle.dns_rdata_options.specs.Order.{pair_eq, pair_cmp, opt_eq}
 use Rattle.dns_rdata_options.specs.OrderLaws.{pair_total, pair_ties, opt_ties}
-use Rattle.dns_rdata_options.specs.declared.opt.code.EdnsCode.{EdnsCode}
 use Rattle.dns_rdata_options.specs.declared.opt.code.EdnsCode.TheVariants as codes
-use Rattle.dns_rdata_options.specs.declared.opt.option.EdnsOption.{EdnsOption}
 use Rattle.dns_rdata_options.specs.declared.opt.option.EdnsOption.TheVariants as edns
-use Rattle.dns_rdata_options.specs.declared.opt.subnet.ClientSubnet.{ClientSubnet}
 use Rattle.dns_rdata_options.specs.contracts.opt.option.EdnsOptionPartialEq.TheImpl as equal_options
 use Rattle.dns_rdata_options.specs.contracts.opt.subnet.ClientSubnetPartialEq.TheImpl as equal_subnets
-use Rattle.dns_rdata_options.proofs.OptionValues.{edns_code_number-of}
-use Rattle.dns_rdata_options.proofs.Subnets.{value_back}
+use Rattle.dns_rdata_options.proofs.{OptionValues.edns_code_number-of, Subnets.value_back}
 
 -- ---- values that were read
 

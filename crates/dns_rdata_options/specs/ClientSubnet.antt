@@ -1,14 +1,11 @@
 -- The subnet of a client (RFC 7871, 6).
-use Rattle.std.specs.Prelude.{◌≡◌, ◌⊎◌, ℕ, ◌+◌, ◌-◌, ◌/◌, ◌<◌, ◌≤◌, ◌^◌, ◌==◌, if◌then◌else◌, List, ◌∷◌, ◌++◌, length, take}
-use Rattle.std.specs.Prelude.{replicate, Result, Ok, Err}
-use Rattle.std.specs.Int.{bytes_high_first}
-use Rattle.std.specs.declared.net.ip_addr.IpAddr.{IpAddr}
+use Rattle.std.specs.Prelude.{◌≡◌, ◌⊎◌, ℕ, ◌+◌, ◌-◌, ◌/◌, ◌<◌, ◌≤◌, ◌^◌, ◌==◌, if◌then◌else◌, List, ◌∷◌, ◌++◌, length, take, replicate, Result, Ok}
+use Rattle.std.specs.Prelude.{Err}
+use Rattle.std.specs.{Int.bytes_high_first, declared.net.ip_addr.IpAddr.IpAddr, Net.Addr.ipv4_octets, Net.Addr.ipv6_octets, Net.Addr.segments_of}
 use Rattle.std.specs.declared.net.ip_addr.IpAddr.TheVariants.{V4, V6}
-use Rattle.std.specs.Net.Addr.{ipv4_octets, ipv6_octets, segments_of}
 use Rattle.dns_types.specs.declared.error.DecodeError.{DecodeError}
 use Rattle.dns_types.specs.declared.error.DecodeError.TheVariants as decode
-use Rattle.dns_fields.specs.Octets.{At}
-use Rattle.dns_fields.specs.Pieces.{OptionValue, Subnet, option_octets, IsEmittableOption}
+use Rattle.dns_fields.specs.{Octets.At, Pieces.OptionValue, Pieces.Subnet, Pieces.option_octets, Pieces.IsEmittableOption}
 use Rattle.dns_rdata_options.specs.declared.opt.subnet.ClientSubnet.{ClientSubnet}
 
 -- 1 for IPv4, 2 for IPv6

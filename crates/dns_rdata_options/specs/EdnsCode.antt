@@ -2,8 +2,8 @@
 use Rattle.std.specs.Prelude.{ℕ, List, [], ◌∷◌}
 use Rattle.dns_rdata_base.specs.Numbered.{numbered_of}
 use Rattle.dns_rdata_options.specs.declared.opt.code.EdnsCode.{EdnsCode}
-use Rattle.dns_rdata_options.specs.declared.opt.code.EdnsCode.TheVariants.{Zero, LLQ, UL, NSID, DAU, DHU, N3U, Subnet, Expire, Cookie}
-use Rattle.dns_rdata_options.specs.declared.opt.code.EdnsCode.TheVariants.{Keepalive, Padding, Chain, Unknown}
+use Rattle.dns_rdata_options.specs.declared.opt.code.EdnsCode.TheVariants.{Zero, LLQ, UL, NSID, DAU, DHU, N3U, Subnet, Expire, Cookie, Keepalive}
+use Rattle.dns_rdata_options.specs.declared.opt.code.EdnsCode.TheVariants.{Padding, Chain, Unknown}
 
 abbrev pub edns_code_number : EdnsCode → ℕ
 edns_code_number Zero = 0

@@ -3,12 +3,11 @@ use Rattle.std.specs.Prelude.{◌≡◌, ◌⊎◌, ℕ, ◌+◌, ◌<◌, ◌�
 use Rattle.dns_types.specs.declared.error.DecodeError.{DecodeError}
 use Rattle.dns_types.specs.declared.error.DecodeError.TheVariants as decode
 use Rattle.dns_fields.specs.Pieces.{OptionValue, Plain}
+use Rattle.dns_rdata_options.specs.{declared.opt.code.EdnsCode.EdnsCode, declared.opt.option.EdnsOption.EdnsOption}
 use Rattle.dns_rdata_options.specs.EdnsCode.{edns_code_number, edns_code_of}
 use Rattle.dns_rdata_options.specs.ClientSubnet.{prefix_octets, subnet_value, ReadsSubnet, NoSubnet, IsSubnetRefusal}
-use Rattle.dns_rdata_options.specs.declared.opt.code.EdnsCode.{EdnsCode}
-use Rattle.dns_rdata_options.specs.declared.opt.code.EdnsCode.TheVariants as codes
-use Rattle.dns_rdata_options.specs.declared.opt.option.EdnsOption.{EdnsOption}
 use Rattle.dns_rdata_options.specs.declared.opt.option.EdnsOption.TheVariants.{Subnet, NSID, Unknown}
+use Rattle.dns_rdata_options.specs.declared.opt.code.EdnsCode.TheVariants as codes
 
 -- what it holds on the wire, whatever its code
 abbrev pub option_value : EdnsOption → OptionValue

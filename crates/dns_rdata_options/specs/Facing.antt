@@ -1,7 +1,6 @@
 -- Two lists of options, the options at the same places next to each other.
 use Rattle.std.specs.Prelude.{◌≡◌, ◌≢◌, ◌⊎◌, ℕ, ◌<◌, ◌≤◌, nat_le, if◌then◌else◌, Option, Some, None, List, slice_get}
-use Rattle.dns_rdata_options.specs.EdnsCode.{edns_code_number}
-use Rattle.dns_rdata_options.specs.OPT.{Pair}
+use Rattle.dns_rdata_options.specs.{EdnsCode.edns_code_number, OPT.Pair}
 
 -- the number of a pair's code
 abbrev pub code_number : Pair → ℕ

@@ -1,8 +1,7 @@
 -- How many bits an address has, and the first bits of an address.
 use Rattle.std.specs.Prelude.{ℕ, ◌-◌, ◌*◌, ◌/◌, ◌^◌, List, [], ◌∷◌}
-use Rattle.std.specs.declared.net.ip_addr.IpAddr.{IpAddr}
+use Rattle.std.specs.{declared.net.ip_addr.IpAddr.IpAddr, Net.Addr.ipv4_octets, Net.Addr.ipv6_octets, Net.Addr.segments_of}
 use Rattle.std.specs.declared.net.ip_addr.IpAddr.TheVariants.{V4, V6}
-use Rattle.std.specs.Net.Addr.{ipv4_octets, ipv6_octets, segments_of}
 
 abbrev pub address_bits : IpAddr → ℕ
 address_bits (V4 ip) = 32

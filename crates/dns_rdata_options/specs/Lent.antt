@@ -2,10 +2,9 @@
 use denote.RattleType.{RattleType}
 use denote.Struct.Tuple.{Tuple}
 use Rattle.std.specs.Prelude.{[], ◌∷◌}
-use Rattle.std.specs.Borrow.{Lends, MutBor, Fml}
+use Rattle.std.specs.{Borrow.Lends, Borrow.MutBor, Borrow.Fml, contracts.impls.GlobalAllocator.TheImpl.ghosts}
 use Rattle.std.specs.contracts.alloc.Global as global
 use Rattle.std.specs.contracts.vec.Vec as vec
-use Rattle.std.specs.contracts.impls.GlobalAllocator.TheImpl.{ghosts}
 use Rattle.dns_rdata_options.specs.contracts.opt.code.EdnsCode as code
 use Rattle.dns_rdata_options.specs.contracts.opt.option.EdnsOption as option
 use Rattle.dns_rdata_options.specs.contracts.opt.OPT.{the_row}

@@ -1,10 +1,7 @@
 -- Texts of nets: an address, `/`, and how many of its bits are a prefix.
 use Rattle.std.specs.Prelude.{◌≡◌, ℕ, ◌≤◌, List, ◌++◌, length, codes}
-use Rattle.std.specs.Net.Grammar.{IsIpText}
-use Rattle.std.specs.Str.Parse.{IsNumeral, digits_value}
-use Rattle.std.specs.declared.net.ip_addr.IpAddr.{IpAddr}
-use Rattle.dns_rdata_options.specs.IpNet.{address_bits}
-use Rattle.dns_rdata_options.specs.declared.opt.subnet.ClientSubnet.{ClientSubnet}
+use Rattle.std.specs.{Net.Grammar.IsIpText, Str.Parse.IsNumeral, Str.Parse.digits_value, declared.net.ip_addr.IpAddr.IpAddr}
+use Rattle.dns_rdata_options.specs.{IpNet.address_bits, declared.opt.subnet.ClientSubnet.ClientSubnet}
 
 -- one to three decimal digits of this number, leading zeros allowed
 pub record IsPrefixText (text : List ℕ) (n : ℕ) : Type 0 where

@@ -2,19 +2,14 @@
 use Rattle.std.specs.Prelude.{◌≡◌, ◌⊎◌, ℕ, ◌+◌, ◌-◌, ◌≤◌, ◌<◌, ◌==◌, Bool, not, List, [], ◌∷◌, length, map, filter, if◌then◌else◌}
 use Rattle.dns_types.specs.declared.error.DecodeError.{DecodeError}
 use Rattle.dns_types.specs.declared.error.DecodeError.TheVariants as decode
-use Rattle.dns_fields.specs.Octets.{At}
+use Rattle.dns_fields.specs.{Octets.At, Fields.Kind, Fields.Number, Fields.Options, Fields.Values, Fields.WholeOptions}
 use Rattle.dns_fields.specs.Pieces.{Numbered, piece, IsPiece, OptionValue, Plain}
 use Rattle.dns_fields.specs.Pieces as pieces
-use Rattle.dns_fields.specs.Fields.{Kind, Number, Options, Values, WholeOptions}
-use Rattle.dns_names_wire.specs.State.{Reading}
-use Rattle.dns_names_wire.specs.Words.{TookField, Took, LacksOctets}
+use Rattle.dns_names_wire.specs.{State.Reading, Words.TookField, Words.Took, Words.LacksOctets, Facts.Facts, Facts.filling}
 use Rattle.dns_rdata_base.specs.Numbered.{numbered_eq}
-use Rattle.dns_names_wire.specs.Facts.{Facts, filling}
+use Rattle.dns_rdata_options.specs.{ClientSubnet.subnet_of, declared.opt.code.EdnsCode.EdnsCode, declared.opt.option.EdnsOption.EdnsOption}
 use Rattle.dns_rdata_options.specs.EdnsCode.{edns_code_number, edns_code_variant, edns_code_of}
-use Rattle.dns_rdata_options.specs.ClientSubnet.{subnet_of}
 use Rattle.dns_rdata_options.specs.EdnsOption.{option_value, IsOptionRefusal}
-use Rattle.dns_rdata_options.specs.declared.opt.code.EdnsCode.{EdnsCode}
-use Rattle.dns_rdata_options.specs.declared.opt.option.EdnsOption.{EdnsOption}
 use Rattle.dns_rdata_options.specs.declared.opt.option.EdnsOption.TheVariants.{Subnet, NSID, Unknown}
 
 -- an option with its code, as a value holds them

@@ -3,8 +3,7 @@ use Rattle.std.specs.Prelude.{◌≡◌, ℕ, ◌+◌, ◌≤◌, ◌⊎◌, Boo
 use Rattle.dns_types.specs.declared.error.DecodeError.{DecodeError}
 use Rattle.dns_fields.specs.Octets.{At}
 use Rattle.dns_fields.specs.Pieces.{Numbered, piece, pieces, IsPiece, ArePieces, AllHeld, OptionValue, OptionHeld, IsCut}
-use Rattle.dns_names_wire.specs.State.{Reading}
-use Rattle.dns_names_wire.specs.Words.{StaysBehind}
+use Rattle.dns_names_wire.specs.{State.Reading, Words.StaysBehind}
 use Rattle.dns_rdata_options.specs.OPT.{Pair, pair_value, pair_of, IsPieceRefusal}
 
 -- what is left from a place to the end of a record of n octets: whole options, maybe a cut one

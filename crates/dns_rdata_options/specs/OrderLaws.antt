@@ -1,11 +1,9 @@
 -- Records of options have a lawful equality and order.
 use Rattle.std.specs.Prelude.{◌≡◌, List}
+use Rattle.std.specs.{Cmp.Lexicographic.lists_equiv, Cmp.Lexicographic.lists_total, Cmp.Lexicographic.lists_ties, Ordering.is_eq}
 use Rattle.std.specs.Cmp.{IsEquivalence, IsTotalOrder, on_equiv, and_equiv, on_total, then_total, both_tied}
-use Rattle.std.specs.Cmp.Lexicographic.{lists_equiv, lists_total, lists_ties}
-use Rattle.std.specs.Ordering.{is_eq}
 use Rattle.dns_rdata_base.proofs.NumberedLaws.{numbered_equiv, numbered_total, numbered_ties}
-use Rattle.dns_rdata_options.specs.EdnsCode.{edns_code_number, edns_code_variant}
-use Rattle.dns_rdata_options.specs.OPT.{Pair}
+use Rattle.dns_rdata_options.specs.{EdnsCode.edns_code_number, EdnsCode.edns_code_variant, OPT.Pair}
 use Rattle.dns_rdata_options.specs.Order.{code_cmp, pair_eq, pair_cmp, risen, opt_eq, opt_cmp}
 use Rattle.dns_rdata_options.specs.contracts.opt.option.EdnsOptionEq.TheImpl.Laws as equal_laws
 use Rattle.dns_rdata_options.specs.contracts.opt.option.EdnsOptionOrd.TheImpl as ordered_options

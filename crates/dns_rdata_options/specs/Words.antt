@@ -1,8 +1,7 @@
 -- What an emitter of plain octets does, exactly.
 use Rattle.std.specs.Prelude.{◌≡◌, ◌+◌, ◌<◌, ℕ, List, ◌++◌, length, Result, Ok, Err}
 use Rattle.dns_types.specs.declared.error.ProtoError.{ProtoError}
-use Rattle.dns_names_wire.specs.State.{Writing}
-use Rattle.dns_names_wire.specs.Words.{Keeps, Extends, Because}
+use Rattle.dns_names_wire.specs.{State.Writing, Words.Keeps, Words.Extends, Words.Because}
 
 -- the octets stand behind those that were there, and meet what is asked of them
 pub record AppendedOctets (asked : Type 0) (s : List ℕ) (old new : Writing) : Type 0 where

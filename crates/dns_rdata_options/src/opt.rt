@@ -4,9 +4,7 @@ ghost use Rattle.std.specs.Prelude.{◌≡◌, ◌+◌, ◌<◌, ◌++◌, ◌�
 ghost use Rattle.std.specs.Option.{option_copied};
 ghost use Rattle.dns_fields.specs.Pieces.{piece, as_piece, option_octets, OptionFits};
 ghost use Rattle.dns_names_wire.specs.Words.{Emits};
-ghost use Rattle.dns_rdata_options.specs.Words.{EmitsOctets};
-ghost use Rattle.dns_rdata_options.specs.EdnsCode.{edns_code_number};
-ghost use Rattle.dns_rdata_options.specs.EdnsOption.{code_of};
+ghost use Rattle.dns_rdata_options.specs.{Words.EmitsOctets, EdnsCode.edns_code_number, EdnsOption.code_of};
 ghost use Rattle.dns_rdata_options.specs.OPT.{opt_shape, opt_fields, opt_facts, pair_value, options_of, without};
 
 mod code;
@@ -56,8 +54,7 @@ pub struct OPT {
 
 impl Model for OPT {
     ghost use Rattle.std.specs.Prelude.{List};
-    ghost use Rattle.dns_rdata_options.specs.declared.opt.code.EdnsCode.{EdnsCode as Code};
-    ghost use Rattle.dns_rdata_options.specs.declared.opt.option.EdnsOption.{EdnsOption as Content};
+    ghost use Rattle.dns_rdata_options.specs.{declared.opt.code.EdnsCode.EdnsCode as Code, declared.opt.option.EdnsOption.EdnsOption as Content};
 
     ghost Value = { List (Code × Content) };
 
@@ -204,11 +201,8 @@ impl BinEncodable for OPT {
 
 impl PartialEq for OPT {
     ghost use Rattle.std.specs.Prelude.{◌≡◌, ◌↔◌, IsTrue, count_by};
-    ghost use Rattle.std.specs.List.Sorted.{IsPermutation};
-    ghost use Rattle.std.specs.Cmp.{partial_equiv_from_equiv};
-    ghost use Rattle.dns_rdata_options.specs.OPT.{Pair};
-    ghost use Rattle.dns_rdata_options.specs.Order.{pair_eq, opt_eq};
-    ghost use Rattle.dns_rdata_options.specs.OrderLaws.{opt_equiv};
+    ghost use Rattle.std.specs.{List.Sorted.IsPermutation, Cmp.partial_equiv_from_equiv};
+    ghost use Rattle.dns_rdata_options.specs.{OPT.Pair, Order.pair_eq, Order.opt_eq, OrderLaws.opt_equiv};
 
     ghost eq = { opt_eq };
 
@@ -237,10 +231,8 @@ impl Eq for OPT {
 
 impl PartialOrd for OPT {
     ghost use Rattle.std.specs.Prelude.{refl};
-    ghost use Rattle.std.specs.Ordering.{as_partial_cmp};
-    ghost use Rattle.std.specs.Cmp.{partial_order_from_agreeing_total};
-    ghost use Rattle.dns_rdata_options.specs.Order.{opt_cmp};
-    ghost use Rattle.dns_rdata_options.specs.OrderLaws.{opt_total, opt_ties};
+    ghost use Rattle.std.specs.{Ordering.as_partial_cmp, Cmp.partial_order_from_agreeing_total};
+    ghost use Rattle.dns_rdata_options.specs.{Order.opt_cmp, OrderLaws.opt_total, OrderLaws.opt_ties};
 
     ghost partial_cmp = { as_partial_cmp opt_cmp };
 
@@ -254,8 +246,7 @@ impl PartialOrd for OPT {
 
 impl Ord for OPT {
     ghost use Rattle.std.specs.Prelude.{refl};
-    ghost use Rattle.dns_rdata_options.specs.Order.{opt_cmp};
-    ghost use Rattle.dns_rdata_options.specs.OrderLaws.{opt_total, opt_ties};
+    ghost use Rattle.dns_rdata_options.specs.{Order.opt_cmp, OrderLaws.opt_total, OrderLaws.opt_ties};
 
     ghost cmp = { opt_cmp };
 
@@ -273,10 +264,8 @@ impl Ord for OPT {
 
 impl Hash for OPT {
     ghost use Rattle.std.specs.Hash.{slice, on_Alike, items_Alike, and-Alike};
-    ghost use Rattle.dns_rdata_options.specs.OPT.{Pair};
-    ghost use Rattle.dns_rdata_options.specs.Order.{risen};
-    ghost use Rattle.dns_rdata_options.specs.contracts.opt.code.EdnsCodeHash.TheImpl.Laws.{respects_eq-law as code_fed};
-    ghost use Rattle.dns_rdata_options.specs.contracts.opt.option.EdnsOptionHash.TheImpl.Laws.{respects_eq-law as option_fed};
+    ghost use Rattle.dns_rdata_options.specs.{OPT.Pair, Order.risen, contracts.opt.code.EdnsCodeHash.TheImpl.Laws.respects_eq-law as code_fed};
+    ghost use Rattle.dns_rdata_options.specs.{contracts.opt.option.EdnsOptionHash.TheImpl.Laws.respects_eq-law as option_fed};
 
     ghost hash_input = { λ o. slice ⟦<(EdnsCode, EdnsOption) as Hash>⟧.hash_input (risen o) };
 

@@ -2,10 +2,8 @@
 
 ghost use Rattle.std.specs.Prelude.{◌≡◌, ◌≢◌, ◌≤◌, true, length, IfSome, IsTrue, Some};
 ghost use Rattle.dns_pieces.specs.Fronts.{canonical_cmp};
+ghost use Rattle.dns_rdata_options.specs.{OPT.opt_shape, OPT.opt_fields, Order.opt_eq, Steps.pairs_emittable};
 ghost use Rattle.dns_rdata_options.specs.Facing.{lesser, Facing, IsAlone};
-ghost use Rattle.dns_rdata_options.specs.OPT.{opt_shape, opt_fields};
-ghost use Rattle.dns_rdata_options.specs.Order.{opt_eq};
-ghost use Rattle.dns_rdata_options.specs.Steps.{pairs_emittable};
 
 use crate::opt::headed::headed_cmp;
 use crate::opt::order::are_many;

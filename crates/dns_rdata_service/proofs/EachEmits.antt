@@ -1,17 +1,13 @@
 -- Values that are emitted one after the other.
-use Rattle.std.proofs.Common.{◌≡◌, Bool, true, false, ◌&&◌, nat_le, ℕ, ◌+◌, ◌<◌, inl, inr, ◌^◌, List, [], ◌∷◌, ◌++◌, length, map}
-use Rattle.std.proofs.Common.{take, drop, get_or, refl, sym, ap, ◌∙◌, arith, subst, append_assoc, Result, Ok, Err}
-use Rattle.std.specs.List.{flat_map, list_all, AllByRecursion}
-use Rattle.std.specs.Int.{bytes_high_first}
-use Rattle.dns_fields.specs.Pieces.{string}
+use Rattle.std.proofs.Common.{◌≡◌, Bool, true, false, ◌&&◌, nat_le, ℕ, ◌+◌, ◌<◌, inl, inr, ◌^◌, List, [], ◌∷◌, ◌++◌, length, map, take, drop, get_or}
+use Rattle.std.proofs.Common.{refl, sym, ap, ◌∙◌, arith, subst, append_assoc, Result, Ok, Err}
+use Rattle.std.specs.{List.flat_map, List.list_all, List.AllByRecursion, Int.bytes_high_first}
+use Rattle.dns_fields.specs.{Pieces.string, Fields.Number, Fields.Text, Fields.Rest, Fields.field_octets}
 use Rattle.std.proofs.lemmas.List.{length-append, append-nil, drop_more, take-append-drop, take_more}
 use Rattle.dns_types.specs.declared.error.ProtoError.{ProtoError}
-use Rattle.dns_fields.specs.Fields.{Number, Text, Rest, field_octets}
-use Rattle.dns_names_wire.specs.State.{Writing}
-use Rattle.dns_names_wire.specs.Words.{Extends, EmitsField}
+use Rattle.dns_names_wire.specs.{State.Writing, Words.Extends, Words.EmitsField}
 use Rattle.dns_names_wire.proofs.FieldWrites.{keeps_same, keeps_then, because_map}
-use Rattle.dns_rdata_service.specs.Emitting.{AppendedOctets, StoppedOctets, EmitsOctets}
-use Rattle.dns_rdata_service.specs.Hints.{EmitsEach}
+use Rattle.dns_rdata_service.specs.{Emitting.AppendedOctets, Emitting.StoppedOctets, Emitting.EmitsOctets, Hints.EmitsEach}
 
 -- ---- any emitter
 

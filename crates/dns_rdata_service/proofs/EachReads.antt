@@ -3,8 +3,7 @@ use Rattle.std.proofs.Common.{◌≡◌, ℕ, ◌≤◌, List, [], ◌∷◌, �
 use Rattle.std.specs.List.{flat_map, AllByRecursion}
 use Rattle.std.proofs.lemmas.List.{append-nil, drop_all}
 use Rattle.dns_fields.specs.Octets.{At}
-use Rattle.dns_names_wire.specs.State.{Reading}
-use Rattle.dns_names_wire.specs.Words.{StaysBehind}
+use Rattle.dns_names_wire.specs.{State.Reading, Words.StaysBehind}
 use Rattle.dns_rdata_service.specs.Hints.{StandEach}
 use Rattle.dns_rdata_service.proofs.Splits.{at_split, stays_then}
 

@@ -1,11 +1,9 @@
 -- Texts of values one after the other.
-use Rattle.std.proofs.Common.{◌≡◌, ℕ, ◌+◌, ◌<◌, List, [], ◌∷◌, ◌++◌, length, take, get_or, codes, Option, Some, None, Result, Ok, refl}
-use Rattle.std.proofs.Common.{sym, ap, ◌∙◌, subst, append_assoc}
-use Rattle.std.specs.List.{flat_map}
-use Rattle.std.proofs.lemmas.Grind.{put_two}
+use Rattle.std.proofs.Common.{◌≡◌, ℕ, ◌+◌, ◌<◌, List, [], ◌∷◌, ◌++◌, length, take, get_or, codes, Option, Some, None, Result, Ok, refl, sym, ap, ◌∙◌}
+use Rattle.std.proofs.Common.{subst, append_assoc}
+use Rattle.std.specs.{List.flat_map, declared.fmt.Formatter.Formatter, declared.fmt.Error.Error}
 use Rattle.std.specs.Fmt.{◌++?◌, HasWritten, IsPlainFormatter, DisplaysOnOk}
-use Rattle.std.specs.declared.fmt.Formatter.{Formatter}
-use Rattle.std.specs.declared.fmt.Error.{Error}
+use Rattle.std.proofs.lemmas.Grind.{put_two}
 use Rattle.dns_rdata_service.specs.Hints.{each_text}
 use Rattle.dns_rdata_service.proofs.EachEmits.{one_more}
 

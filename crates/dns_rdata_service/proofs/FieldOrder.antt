@@ -1,20 +1,15 @@
 -- Lists compared item by item, and under a view.
 use Rattle.std.proofs.Common.{◌≡◌, ℕ, ◌-◌, ◌<◌, ◌≤◌, List, [], ◌∷◌, length, drop, map, refl, sym, ap, ◌∙◌, arith}
-use Rattle.std.proofs.lemmas.Bool.Decides.{nat_tests}
-use Rattle.std.proofs.lemmas.List.{length-drop}
-use Rattle.std.specs.Cmp.Lexicographic.{slice_cmp}
-use Rattle.std.specs.Ordering.{nat_cmp, ordering_then}
-use Rattle.std.specs.declared.cmp.Ordering.{Ordering}
+use Rattle.std.proofs.{lemmas.Bool.Decides.nat_tests, lemmas.List.length-drop}
+use Rattle.std.specs.{Cmp.Lexicographic.slice_cmp, Ordering.nat_cmp, Ordering.ordering_then, declared.cmp.Ordering.Ordering}
 use Rattle.std.specs.declared.cmp.Ordering.TheVariants.{Less, Equal, Greater}
 use Rattle.dns_pieces.proofs.Comparing.{then_equal}
 use Rattle.dns_fields.specs.Equal.{key_cmp, parameter_key, parameter_keys}
 use Rattle.dns_rdata_base.specs.Numbered.{numbered_cmp}
-use Rattle.dns_rdata_service.specs.SvcParamKey.{key_number, key_variant}
+use Rattle.dns_rdata_service.specs.{SvcParamKey.key_number, SvcParamKey.key_variant, Parameters.Parameter, Parameters.own_parameter}
+use Rattle.dns_rdata_service.specs.{declared.svcb.key.SvcParamKey.SvcParamKey, declared.svcb.value.SvcParamValue.SvcParamValue}
 use Rattle.dns_rdata_service.specs.SvcParamValue.{key_numbers, value_key}
-use Rattle.dns_rdata_service.specs.Parameters.{Parameter, own_parameter}
 use Rattle.dns_rdata_service.specs.Ordering.{octets_order, parameter_order, value_place, Differ}
-use Rattle.dns_rdata_service.specs.declared.svcb.key.SvcParamKey.{SvcParamKey}
-use Rattle.dns_rdata_service.specs.declared.svcb.value.SvcParamValue.{SvcParamValue}
 use Rattle.dns_rdata_service.specs.declared.svcb.value.SvcParamValue.TheVariants as variants
 
 pub cmp_view : {X Y : Type 0} (E : X → X → Ordering) (F : Y → Y → Ordering) (f : X → Y) → ((x y : X) → E x y ≡ F (f x) (f y)) → (xs ys : List X)

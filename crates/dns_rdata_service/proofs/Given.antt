@@ -1,18 +1,14 @@
 -- Keys and values that were read are those of their numbers.
-use Rattle.std.proofs.Common.{◌≡◌, ◌≢◌, ◌⊎◌, inl, inr, ℕ, ◌==◌, Bool, true, false, List, [], ◌∷◌, map, nat_le, if◌then◌else◌, refl}
-use Rattle.std.proofs.Common.{sym, ap, ◌∙◌, ◌≤◌, arith}
-use Rattle.std.proofs.lemmas.Grind.{common_steps}
-use Rattle.std.proofs.lemmas.Bool.Decides.{nat_tests}
-use Rattle.dns_rdata_base.proofs.NumberLaws.{number-numbered_of}
-use Rattle.dns_rdata_base.proofs.Addresses.{segments_of-octets_of}
-use Rattle.dns_rdata_base.specs.declared.a.A.{A}
-use Rattle.dns_rdata_base.specs.declared.aaaa.AAAA.{AAAA}
+use Rattle.std.proofs.Common.{◌≡◌, ◌≢◌, ◌⊎◌, inl, inr, ℕ, ◌==◌, Bool, true, false, List, [], ◌∷◌, map, nat_le, if◌then◌else◌, refl, sym, ap, ◌∙◌, ◌≤◌}
+use Rattle.std.proofs.Common.{arith}
+use Rattle.std.proofs.{lemmas.Grind.common_steps, lemmas.Bool.Decides.nat_tests}
+use Rattle.dns_rdata_base.proofs.{NumberLaws.number-numbered_of, Addresses.segments_of-octets_of}
+use Rattle.dns_rdata_base.specs.{declared.a.A.A, declared.aaaa.AAAA.AAAA}
 use Rattle.dns_fields.specs.Pieces.{AnyOctets, form_for}
+use Rattle.dns_rdata_service.specs.{declared.svcb.key.SvcParamKey.SvcParamKey, declared.svcb.ip_hint.IpHint.IpHint}
 use Rattle.dns_rdata_service.specs.SvcParamKey.{key_number, key_variant, named_keys, other_key, key_of}
-use Rattle.dns_rdata_service.specs.declared.svcb.key.SvcParamKey.{SvcParamKey}
 use Rattle.dns_rdata_service.specs.declared.svcb.key.SvcParamKey.TheVariants.{Key, Key65535, Unknown}
 use Rattle.dns_rdata_service.specs.SvcParamValue.{a_octets, aaaa_octets, a_of, aaaa_of, IsValueOf}
-use Rattle.dns_rdata_service.specs.declared.svcb.ip_hint.IpHint.{IpHint}
 use Rattle.dns_rdata_service.specs.declared.svcb.unknown.Unknown.{Unknown as Other}
 use Rattle.dns_rdata_service.specs.declared.svcb.value.SvcParamValue.TheVariants.{Unknown as OtherValue}
 

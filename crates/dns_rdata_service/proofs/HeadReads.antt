@@ -1,16 +1,13 @@
 -- Fields in front of the data of a known length.
 use Rattle.std.proofs.Common.{◌≡◌, ℕ, ◌+◌, ◌-◌, ◌<◌, List, [], ◌∷◌, length, sym, ap, arith, subst, Err}
 use Rattle.dns_types.specs.declared.error.DecodeError.{DecodeError}
-use Rattle.dns_fields.specs.Octets.{AreOctets}
-use Rattle.dns_fields.specs.Labels.{DomainName}
+use Rattle.dns_fields.specs.{Octets.AreOctets, Labels.DomainName}
 use Rattle.dns_fields.specs.Fields.{Kind, Number, Name, Parameters, Value, Values, Stands, EndsItself}
 use Rattle.dns_fields.proofs.FieldLaws.{field_end, field_inside}
-use Rattle.dns_names_wire.specs.State.{Reading}
-use Rattle.dns_names_wire.specs.Words.{TookField, Window, NoWindow, TookWindow, RefusedWindow}
+use Rattle.dns_names_wire.specs.{State.Reading, Words.TookField, Words.Window, Words.NoWindow, Words.TookWindow, Words.RefusedWindow}
 use Rattle.dns_names_wire.proofs.FieldReads.{unless_map, refused_then, refused_past, took_stays}
 use Rattle.dns_names_wire.proofs.WindowReads.{Given, filled_window}
-use Rattle.dns_rdata_service.specs.SVCB.{svcb_shape, svcb_fields, MeetsSvcbCondition}
-use Rattle.dns_rdata_service.specs.declared.svcb.SVCB.{SVCB}
+use Rattle.dns_rdata_service.specs.{SVCB.svcb_shape, SVCB.svcb_fields, SVCB.MeetsSvcbCondition, declared.svcb.SVCB.SVCB}
 use Rattle.dns_rdata_service.proofs.ParameterReads.{texts}
 
 -- asked of the fields behind the first

@@ -1,29 +1,22 @@
 -- Addresses that are read and emitted one after the other, as octets.
-use Rattle.std.proofs.Common.{◌≡◌, true, ℕ, ◌+◌, ◌*◌, ◌%◌, ◌<◌, ◌≤◌, List, [], ◌∷◌, length, take, drop, map, refl, sym, ap, ◌∙◌}
-use Rattle.std.proofs.Common.{inl, arith, subst, Result, Ok, Err}
+use Rattle.std.proofs.Common.{◌≡◌, true, ℕ, ◌+◌, ◌*◌, ◌%◌, ◌<◌, ◌≤◌, List, [], ◌∷◌, length, take, drop, map, refl, sym, ap, ◌∙◌, inl, arith, subst}
+use Rattle.std.proofs.Common.{Result, Ok, Err}
 use Rattle.std.specs.Prelude.{IfOk, IfErr}
 use Rattle.std.specs.List.{flat_map, AllByRecursion}
 use Rattle.std.proofs.lemmas.List.{append-nil, length-append, length-drop, length-take}
-use Rattle.dns_types.specs.declared.error.DecodeError.{DecodeError}
+use Rattle.dns_types.specs.{declared.error.DecodeError.DecodeError, declared.error.ProtoError.ProtoError}
 use Rattle.dns_types.specs.declared.error.DecodeError.TheVariants as decode
-use Rattle.dns_types.specs.declared.error.ProtoError.{ProtoError}
-use Rattle.dns_fields.specs.Octets.{At, AreOctets}
-use Rattle.dns_fields.specs.Fields.{Octets, Stands, field_octets}
-use Rattle.dns_fields.specs.Pieces.{Addresses4, Addresses16}
+use Rattle.dns_fields.specs.{Octets.At, Octets.AreOctets, Fields.Octets, Fields.Stands, Fields.field_octets, Pieces.Addresses4, Pieces.Addresses16}
 use Rattle.dns_fields.proofs.OctetLaws.{AreOctets-at}
-use Rattle.dns_names_wire.specs.State.{Reading, Writing}
-use Rattle.dns_names_wire.specs.Words.{UnlessMemory, Emits}
+use Rattle.dns_names_wire.specs.{State.Reading, State.Writing, Words.UnlessMemory, Words.Emits}
 use Rattle.dns_names_wire.proofs.FieldWrites.{because_map}
 use Rattle.dns_rdata_base.proofs.Addresses.{octets_of-segments}
-use Rattle.dns_rdata_base.specs.declared.a.A.{A}
-use Rattle.dns_rdata_base.specs.declared.aaaa.AAAA.{AAAA}
-use Rattle.dns_rdata_service.specs.Emitting.{EmitsOctets}
+use Rattle.dns_rdata_base.specs.{declared.a.A.A, declared.aaaa.AAAA.AAAA}
+use Rattle.dns_rdata_service.specs.{Emitting.EmitsOctets, declared.svcb.ip_hint.IpHint.IpHint}
 use Rattle.dns_rdata_service.specs.Hints.{StandEach, StopsBefore, StandToEnd, ReadsEach, EmitsEach}
 use Rattle.dns_rdata_service.specs.SvcParamValue.{a_octets, aaaa_octets, a_of, aaaa_of, IsValueRefusal}
-use Rattle.dns_rdata_service.specs.declared.svcb.ip_hint.IpHint.{IpHint}
+use Rattle.dns_rdata_service.proofs.{EachReads.AreSplit, EachReads.each_split, EachReads.to_end, Refusals.length_groups}
 use Rattle.dns_rdata_service.proofs.EachEmits.{emits_all, emits_as, all_pass}
-use Rattle.dns_rdata_service.proofs.EachReads.{AreSplit, each_split, to_end}
-use Rattle.dns_rdata_service.proofs.Refusals.{length_groups}
 
 -- ---- reading, of any type of a known number of octets
 

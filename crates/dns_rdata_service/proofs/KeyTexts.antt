@@ -1,16 +1,13 @@
 -- A text is of one key at most, and why it is of none.
-use Rattle.std.proofs.Common.{◌≡◌, ◌≢◌, ℕ, List, [], ◌∷◌, ◌++◌, drop, refl, sym, ◌∙◌, ap}
-use Rattle.std.proofs.Common.{find, unwrap_or, ◌==◌, if◌then◌else◌, Bool, true, false, Bor}
-use Rattle.std.specs.Cmp.{unsigned_Decides}
-use Rattle.std.specs.Prelude.{codes}
+use Rattle.std.proofs.Common.{◌≡◌, ◌≢◌, ℕ, List, [], ◌∷◌, ◌++◌, drop, refl, sym, ◌∙◌, ap, find, unwrap_or, ◌==◌, if◌then◌else◌, Bool, true, false}
+use Rattle.std.proofs.Common.{Bor}
+use Rattle.std.specs.{Cmp.unsigned_Decides, Str.Parse.digits_value, Str.Parse.without_leading_plus}
 use Rattle.std.specs.Cmp.Lexicographic.{pointwise, pointwise_decides}
-use Rattle.std.specs.Str.Parse.{digits_value, without_leading_plus}
+use Rattle.std.specs.Prelude.{codes}
 use Rattle.dns_types.specs.declared.error.ProtoError.TheVariants as proto
-use Rattle.dns_rdata_service.specs.SvcParamKey.{key_text}
-use Rattle.dns_rdata_service.specs.KeyTexts.{IsNumberedKey, IsKeyText}
-use Rattle.dns_rdata_service.specs.declared.svcb.key.SvcParamKey.{SvcParamKey}
-use Rattle.dns_rdata_service.specs.declared.svcb.key.SvcParamKey.TheVariants.{Mandatory, Alpn, NoDefaultAlpn, Port, Ipv4Hint}
-use Rattle.dns_rdata_service.specs.declared.svcb.key.SvcParamKey.TheVariants.{EchConfigList, Ipv6Hint, DohPath, Key, Key65535, Unknown}
+use Rattle.dns_rdata_service.specs.{SvcParamKey.key_text, KeyTexts.IsNumberedKey, KeyTexts.IsKeyText, declared.svcb.key.SvcParamKey.SvcParamKey}
+use Rattle.dns_rdata_service.specs.declared.svcb.key.SvcParamKey.TheVariants.{Mandatory, Alpn, NoDefaultAlpn, Port, Ipv4Hint, EchConfigList, Ipv6Hint}
+use Rattle.dns_rdata_service.specs.declared.svcb.key.SvcParamKey.TheVariants.{DohPath, Key, Key65535, Unknown}
 
 -- a text that is no name and has no number is of no key
 pub no_key : (text : List ℕ) → text ≢ codes "mandatory" → text ≢ codes "alpn" → text ≢ codes "no-default-alpn" → text ≢ codes "port"

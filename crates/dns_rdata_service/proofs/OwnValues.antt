@@ -1,11 +1,9 @@
 -- The keys that parameters are compared by tell their fields.
 use Rattle.std.proofs.Common.{◌≡◌, List, [], ◌∷◌, map, drop, get_or, refl, sym, ap, ◌∙◌}
 use Rattle.dns_fields.specs.Pieces.{Mandatory}
-use Rattle.dns_rdata_service.specs.SvcParamKey.{key_number}
+use Rattle.dns_rdata_service.specs.{SvcParamKey.key_number, Parameters.Parameter, Parameters.parameter_of, Parameters.own_parameter}
+use Rattle.dns_rdata_service.specs.{declared.svcb.key.SvcParamKey.SvcParamKey, declared.svcb.value.SvcParamValue.SvcParamValue}
 use Rattle.dns_rdata_service.specs.SvcParamValue.{key_numbers, value_key, value_of}
-use Rattle.dns_rdata_service.specs.Parameters.{Parameter, parameter_of, own_parameter}
-use Rattle.dns_rdata_service.specs.declared.svcb.key.SvcParamKey.{SvcParamKey}
-use Rattle.dns_rdata_service.specs.declared.svcb.value.SvcParamValue.{SvcParamValue}
 use Rattle.dns_rdata_service.specs.declared.svcb.value.SvcParamValue.TheVariants as variants
 
 firsts : (ks : List SvcParamKey) → map (λ l. get_or l 0 0) (map key_numbers ks) ≡ map key_number ks

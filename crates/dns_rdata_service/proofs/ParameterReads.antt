@@ -4,29 +4,20 @@ use Rattle.std.specs.Int.{bytes_high_first}
 use Rattle.std.proofs.lemmas.List.{length-append, length-drop, map_push}
 use Rattle.dns_types.specs.declared.error.DecodeError.{DecodeError}
 use Rattle.dns_types.specs.declared.error.DecodeError.TheVariants as decode
-use Rattle.dns_fields.specs.Octets.{At}
-use Rattle.dns_fields.specs.Fields.{Number, Octets, Parameters, Field, Values}
+use Rattle.dns_fields.specs.{Octets.At, Fields.Number, Fields.Octets, Fields.Parameters, Fields.Field, Fields.Values}
 use Rattle.dns_fields.specs.Pieces.{Numbered, ParameterValue, ParameterHeld, piece, Rising}
-use Rattle.dns_fields.proofs.Numbers.{length-bytes}
-use Rattle.dns_fields.proofs.Pieces.{piece_before, heads_same, first_piece}
-use Rattle.dns_fields.proofs.FieldLaws.{field_inside}
+use Rattle.dns_fields.proofs.{Numbers.length-bytes, Pieces.piece_before, Pieces.heads_same, Pieces.first_piece, FieldLaws.field_inside}
 use Rattle.dns_names_wire.specs.State.{Reading}
 use Rattle.dns_names_wire.specs.Words.{Took, TookField, StaysBehind, UnlessMemory, TookWindow, RefusedWindow, NoWindow}
-use Rattle.dns_names_wire.proofs.FieldReads.{unless_map, unless_all}
-use Rattle.dns_names_wire.proofs.WindowReads.{Given}
-use Rattle.dns_names_wire.proofs.Strings.{at_then}
+use Rattle.dns_names_wire.proofs.{FieldReads.unless_map, FieldReads.unless_all, WindowReads.Given, Strings.at_then}
 use Rattle.dns_rdata_base.specs.Refusing.{FirstLack}
-use Rattle.dns_rdata_service.specs.SvcParamKey.{key_number}
-use Rattle.dns_rdata_service.specs.SvcParamValue.{value_of, HasText}
+use Rattle.dns_rdata_service.specs.{SvcParamKey.key_number, SvcParamValue.value_of, SvcParamValue.HasText, Hints.StandEach}
 use Rattle.dns_rdata_service.specs.Parameters.{Parameter, parameter_of, parameter_from, AreRead, HaveTexts, IsAbove, CutValue, RefusedValue}
 use Rattle.dns_rdata_service.specs.Parameters.{IsParameterRefusal, IsParametersRefusal}
-use Rattle.dns_rdata_service.proofs.Splits.{at_split, stays_then, all_behind}
-use Rattle.dns_rdata_service.proofs.Refusals.{NoKeyValue, key_none}
-use Rattle.dns_rdata_service.proofs.Splits.{all_append}
-use Rattle.dns_rdata_service.proofs.ParameterLists.{Risen, risen_push, risen_not}
-use Rattle.dns_rdata_service.proofs.ParameterLists.{OneOf, one_long, one_once, one_of, parameters_each, each_parameters, each_inside, each_rest}
-use Rattle.dns_rdata_service.specs.Hints.{StandEach}
-use Rattle.dns_rdata_service.proofs.EachReads.{EachOn, each_more}
+use Rattle.dns_rdata_service.proofs.{Refusals.NoKeyValue, Refusals.key_none, EachReads.EachOn, EachReads.each_more}
+use Rattle.dns_rdata_service.proofs.Splits.{at_split, stays_then, all_behind, all_append}
+use Rattle.dns_rdata_service.proofs.ParameterLists.{Risen, risen_push, risen_not, OneOf, one_long, one_once, one_of, parameters_each, each_parameters}
+use Rattle.dns_rdata_service.proofs.ParameterLists.{each_inside, each_rest}
 
 -- ---- one parameter
 

@@ -1,19 +1,16 @@
 -- Words of parameters: what is taken of each, and why it is of none.
-use Rattle.std.proofs.Common.{◌≡◌, ◌≢◌, ℕ, List, [], ◌∷◌, ◌++◌, refl, sym, ◌∙◌, subst, inl, inr, ⊎_elim}
-use Rattle.std.proofs.lemmas.List.{append_cancel_right, get_or_default}
-use Rattle.std.proofs.Math.Seq.{get_or-append_seam}
-use Rattle.std.proofs.Common.{◌<◌, length, length-append, get_or, arith, Option, Some, None, Result, Ok, Err}
-use Rattle.std.specs.Prelude.{IfOk, IfErr}
+use Rattle.std.proofs.Common.{◌≡◌, ◌≢◌, ℕ, List, [], ◌∷◌, ◌++◌, refl, sym, ◌∙◌, subst, inl, inr, ⊎_elim, ◌<◌, length, length-append, get_or, arith}
+use Rattle.std.proofs.Common.{Option, Some, None, Result, Ok, Err}
+use Rattle.std.proofs.{lemmas.List.append_cancel_right, lemmas.List.get_or_default, Math.Seq.get_or-append_seam}
 use Rattle.std.proofs.lemmas.Str.Pattern.{IsSplitOnceResult, split_parts, split_after}
+use Rattle.std.specs.Prelude.{IfOk, IfErr}
 use denote.Ref.{Bor}
 use Rattle.dns_types.specs.declared.error.ParseError.{ParseError}
 use Rattle.dns_types.specs.declared.error.ParseError.TheVariants as parse
-use Rattle.dns_rdata_service.specs.KeyTexts.{IsKeyText}
-use Rattle.dns_rdata_service.specs.Parameters.{Parameter}
-use Rattle.dns_rdata_service.specs.ParameterWords.{ItemOf, ListOf, IsValueAlone, IsValueText, IsUnquoted, HasNoEquals}
-use Rattle.dns_rdata_service.specs.ParameterWords.{HasValue, IsKeyAlone, IsKeyWithValue, IsParameterWord}
+use Rattle.dns_rdata_service.specs.{KeyTexts.IsKeyText, Parameters.Parameter, declared.svcb.value.SvcParamValue.SvcParamValue}
+use Rattle.dns_rdata_service.specs.ParameterWords.{ItemOf, ListOf, IsValueAlone, IsValueText, IsUnquoted, HasNoEquals, HasValue, IsKeyAlone}
+use Rattle.dns_rdata_service.specs.ParameterWords.{IsKeyWithValue, IsParameterWord}
 use Rattle.dns_rdata_service.specs.declared.svcb.key.SvcParamKey.TheVariants as keys
-use Rattle.dns_rdata_service.specs.declared.svcb.value.SvcParamValue.{SvcParamValue}
 use Rattle.dns_rdata_service.specs.declared.svcb.value.SvcParamValue.TheVariants as values
 
 -- a value that begins with no quote

@@ -1,27 +1,20 @@
 -- Parameters, piece by piece.
-use Rattle.std.proofs.Common.{◌≡◌, ◌≢◌, ℕ, zero, suc, ◌+◌, ◌*◌, ◌<◌, ◌≤◌, ◌&&◌, nat_le, true, Option, Some, None, List, [], ◌∷◌, ◌++◌}
-use Rattle.std.proofs.Common.{length, get_or, drop, map, slice_get, refl, sym, ap, ◌∙◌, subst, arith, append_assoc, length-append}
-use Rattle.std.proofs.lemmas.Bool.Decides.{nat_tests}
+use Rattle.std.proofs.Common.{◌≡◌, ◌≢◌, ℕ, zero, suc, ◌+◌, ◌*◌, ◌<◌, ◌≤◌, ◌&&◌, nat_le, true, Option, Some, None, List, [], ◌∷◌, ◌++◌, length, get_or}
+use Rattle.std.proofs.Common.{drop, map, slice_get, refl, sym, ap, ◌∙◌, subst, arith, append_assoc, length-append}
+use Rattle.std.proofs.{lemmas.Bool.Decides.nat_tests, lemmas.Simd.map-map, lemmas.List.Sums.AllPass-from_list_all}
 use Rattle.std.proofs.lemmas.List.{append-nil, drop_more, drop_all, get_or-map, length-map}
-use Rattle.std.proofs.lemmas.Simd.{map-map}
-use Rattle.std.proofs.lemmas.List.Sums.{AllPass-from_list_all}
+use Rattle.std.proofs.lemmas.Option.{slice_get-get_or, slice_get_past}
 use Rattle.dns_fields.proofs.Sorted.{flat_map_all}
 use Rattle.dns_rdata_service.proofs.Splits.{length_numbers}
-use Rattle.std.proofs.lemmas.Option.{slice_get-get_or, slice_get_past}
-use Rattle.std.specs.List.{flat_map, list_all}
-use Rattle.std.specs.Int.{bytes_high_first}
-use Rattle.std.specs.Cmp.{first_so, second_so}
-use Rattle.dns_fields.specs.Pieces.{string, piece, pieces, as_piece, ParameterValue, Mandatory, Alpn, NoDefaultAlpn, Port, Ipv4Hint, Ipv6Hint, Opaque, parameter_octets, parameter_emittable, rising}
-use Rattle.dns_fields.specs.Fields.{Name, field_octets, parameter_pieces}
-use Rattle.dns_pieces.specs.declared.step.Step.{Step}
-use Rattle.dns_pieces.specs.Steps.{GivesStep, StepAt}
-use Rattle.dns_fields.specs.Labels.{lowname}
-use Rattle.dns_rdata_service.specs.SvcParamValue.{value_of, fits_value}
-use Rattle.dns_rdata_service.specs.Parameters.{Parameter, parameter_of}
-use Rattle.dns_rdata_service.specs.Steps.{parameter_head, value_front, value_items, parameters_from, items_of, parameters_left, svcb_left, are_emittable, NextPiece, GivesPiece}
-use Rattle.dns_rdata_service.specs.SvcParamKey.{key_number}
-use Rattle.dns_rdata_service.specs.declared.svcb.key.SvcParamKey.{SvcParamKey}
-use Rattle.dns_rdata_service.specs.declared.svcb.SVCB.{SVCB}
+use Rattle.std.specs.{List.flat_map, List.list_all, Int.bytes_high_first, Cmp.first_so, Cmp.second_so}
+use Rattle.dns_fields.specs.{Fields.Name, Fields.field_octets, Fields.parameter_pieces, Labels.lowname}
+use Rattle.dns_fields.specs.Pieces.{string, piece, pieces, as_piece, ParameterValue, Mandatory, Alpn, NoDefaultAlpn, Port, Ipv4Hint, Ipv6Hint, Opaque}
+use Rattle.dns_fields.specs.Pieces.{parameter_octets, parameter_emittable, rising}
+use Rattle.dns_pieces.specs.{declared.step.Step.Step, Steps.GivesStep, Steps.StepAt}
+use Rattle.dns_rdata_service.specs.{SvcParamValue.value_of, SvcParamValue.fits_value, Parameters.Parameter, Parameters.parameter_of}
+use Rattle.dns_rdata_service.specs.{SvcParamKey.key_number, declared.svcb.key.SvcParamKey.SvcParamKey, declared.svcb.SVCB.SVCB}
+use Rattle.dns_rdata_service.specs.Steps.{parameter_head, value_front, value_items, parameters_from, items_of, parameters_left, svcb_left}
+use Rattle.dns_rdata_service.specs.Steps.{are_emittable, NextPiece, GivesPiece}
 
 -- ---- items
 

@@ -1,16 +1,10 @@
 -- Octets that were taken are the front of those that were left.
 use Rattle.std.proofs.Common.{◌≡◌, ℕ, ◌*◌, ◌%◌, List, [], ◌∷◌, ◌++◌, length, drop, refl, sym, ap, ◌∙◌, arith, append_assoc}
-use Rattle.std.specs.List.{flat_map, AllByRecursion}
-use Rattle.std.specs.Int.{bytes_high_first}
-use Rattle.std.proofs.lemmas.List.{length-append, drop-drop, take-append-drop}
-use Rattle.std.proofs.Math.Nat.{mod-eq_of_lt}
-use Rattle.dns_fields.specs.Octets.{At}
-use Rattle.dns_fields.specs.Fields.{Number, Field}
-use Rattle.dns_fields.specs.Pieces.{string}
-use Rattle.dns_fields.proofs.Numbers.{length-bytes}
-use Rattle.dns_fields.proofs.Pieces.{parts}
-use Rattle.dns_names_wire.specs.State.{Reading}
-use Rattle.dns_names_wire.specs.Words.{StaysBehind}
+use Rattle.std.specs.{List.flat_map, List.AllByRecursion, Int.bytes_high_first}
+use Rattle.std.proofs.{lemmas.List.length-append, lemmas.List.drop-drop, lemmas.List.take-append-drop, Math.Nat.mod-eq_of_lt}
+use Rattle.dns_fields.specs.{Octets.At, Fields.Number, Fields.Field, Pieces.string}
+use Rattle.dns_fields.proofs.{Numbers.length-bytes, Pieces.parts}
+use Rattle.dns_names_wire.specs.{State.Reading, Words.StaysBehind}
 
 pub at_split : {m : List ℕ} {p : ℕ} {x : List ℕ} {q : ℕ} → At m p x q → drop p m ≡ x ++ drop q m
 at_split {m} {p} {x} {q} a =

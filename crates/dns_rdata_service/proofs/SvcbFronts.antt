@@ -1,36 +1,23 @@
 -- Service bindings, compared field by field and parameter by parameter.
-use Rattle.std.proofs.Common.{◌≡◌, ◌≢◌, ℕ, suc, ◌*◌, ◌<◌, ◌≤◌, ◌^◌, ◌&&◌, true, false, true≢false, List, [], ◌∷◌, ◌++◌, length, drop, map, refl, sym, ap, ◌∙◌, arith}
+use Rattle.std.proofs.Common.{◌≡◌, ◌≢◌, ℕ, suc, ◌*◌, ◌<◌, ◌≤◌, ◌^◌, ◌&&◌, true, false, true≢false, List, [], ◌∷◌, ◌++◌, length, drop, map, refl, sym}
+use Rattle.std.proofs.Common.{ap, ◌∙◌, arith}
 use Rattle.std.specs.Prelude.{nat_eq}
-use Rattle.std.specs.Int.{bytes_high_first}
-use Rattle.std.specs.List.{AllByRecursion, flat_map}
-use Rattle.std.specs.FinMap.{nat_cmp-IsAntisymmetric, slice_cmp-IsAntisymmetric}
-use Rattle.std.proofs.lemmas.List.{drop_all, length-map}
-use Rattle.std.proofs.lemmas.Bool.Decides.{Decides-and}
-use Rattle.std.proofs.Math.Nat.{mul-le-mul_left, mul_comm}
-use Rattle.std.specs.Cmp.{Equal-is, ranks, nat_cmp_is, unsigned_Decides, booleans_Decides}
+use Rattle.std.specs.{Int.bytes_high_first, List.AllByRecursion, List.flat_map, FinMap.nat_cmp-IsAntisymmetric, FinMap.slice_cmp-IsAntisymmetric}
+use Rattle.std.specs.{Cmp.Equal-is, Cmp.ranks, Cmp.nat_cmp_is, Cmp.unsigned_Decides, Cmp.booleans_Decides, declared.cmp.Ordering.Ordering}
 use Rattle.std.specs.Cmp.Lexicographic.{pointwise, slice_cmp, pointwise_decides}
 use Rattle.std.specs.Ordering.{MatchOrdering, nat_cmp, ordering_then, is_eq, is_ne}
-use Rattle.std.specs.declared.cmp.Ordering.{Ordering}
 use Rattle.std.specs.declared.cmp.Ordering.TheVariants.{Less, Equal, Greater}
-use Rattle.dns_fields.specs.Comparing.{name_eq}
-use Rattle.dns_fields.specs.Equal.{key_eq, parameter_keys, values_eq}
-use Rattle.dns_fields.specs.Pieces.{string, Alpn, Opaque, Port}
-use Rattle.dns_fields.specs.Fields.{Number, Name, field_octets}
-use Rattle.dns_fields.specs.Labels.{AreLabels, lowname}
+use Rattle.std.proofs.{lemmas.List.drop_all, lemmas.List.length-map, lemmas.Bool.Decides.Decides-and, Math.Nat.mul-le-mul_left, Math.Nat.mul_comm}
+use Rattle.dns_fields.specs.{Comparing.name_eq, Equal.key_eq, Equal.parameter_keys, Equal.values_eq, Pieces.string, Pieces.Alpn, Pieces.Opaque}
+use Rattle.dns_fields.specs.{Pieces.Port, Fields.Number, Fields.Name, Fields.field_octets, Labels.AreLabels, Labels.lowname}
 use Rattle.dns_fields.proofs.Numbers.{number_cmp, length-bytes, same_number}
 use Rattle.dns_pieces.specs.Fronts.{canonical_cmp}
-use Rattle.dns_pieces.proofs.Comparing.{cmp_shared, then_kept}
-use Rattle.dns_pieces.proofs.Fronts.{by_fields, field_cmp, front_then}
-use Rattle.dns_rdata_service.proofs.Refusals.{length_groups}
-use Rattle.dns_rdata_service.specs.Fronts.{OrderFirst, joined, behind_length}
-use Rattle.dns_rdata_service.specs.OwnKeys.{value_eq, value_same}
-use Rattle.dns_rdata_service.specs.Parameters.{Parameter, own_parameter}
-use Rattle.dns_rdata_service.specs.Steps.{parameters_from}
-use Rattle.dns_rdata_service.specs.SVCB.{svcb_shape, svcb_fields, svcb_key_shape, svcb_keys}
+use Rattle.dns_pieces.proofs.{Comparing.cmp_shared, Comparing.then_kept, Fronts.by_fields, Fronts.field_cmp, Fronts.front_then}
+use Rattle.dns_rdata_service.proofs.{Refusals.length_groups, OwnValues.value_given}
+use Rattle.dns_rdata_service.specs.{Fronts.OrderFirst, Fronts.joined, Fronts.behind_length, OwnKeys.value_eq, OwnKeys.value_same}
+use Rattle.dns_rdata_service.specs.{Parameters.Parameter, Parameters.own_parameter, Steps.parameters_from, SVCB.svcb_shape, SVCB.svcb_fields}
+use Rattle.dns_rdata_service.specs.{SVCB.svcb_key_shape, SVCB.svcb_keys, declared.svcb.SVCB.SVCB, declared.svcb.value.SvcParamValue.SvcParamValue}
 use Rattle.dns_rdata_service.specs.SvcParamValue.{value_key, value_of, sized}
-use Rattle.dns_rdata_service.proofs.OwnValues.{value_given}
-use Rattle.dns_rdata_service.specs.declared.svcb.SVCB.{SVCB}
-use Rattle.dns_rdata_service.specs.declared.svcb.value.SvcParamValue.{SvcParamValue}
 
 -- ---- octets in front of others
 

@@ -1,31 +1,24 @@
 -- SVCB and HTTPS by their fields: a record that was read is told by them, and fields of a window make one.
-use Rattle.std.proofs.Common.{◌≡◌, inl, inr, ℕ, ◌==◌, ◌&&◌, Bool, true, false, if◌then◌else◌, List, [], ◌∷◌, length, map}
-use Rattle.std.proofs.Common.{refl, sym, ap, ◌∙◌, arith}
+use Rattle.std.proofs.Common.{◌≡◌, inl, inr, ℕ, ◌==◌, ◌&&◌, Bool, true, false, if◌then◌else◌, List, [], ◌∷◌, length, map, refl, sym, ap, ◌∙◌, arith}
 use Rattle.std.specs.List.{flat_map, AllByRecursion}
 use Rattle.dns_types.specs.declared.error.DecodeError.TheVariants as decode
-use Rattle.dns_fields.specs.Octets.{AreOctets}
-use Rattle.dns_fields.specs.Fields.{Number, Name, Values, Parameters}
-use Rattle.dns_fields.specs.Pieces.{Numbered, ParameterValue, Mandatory, Alpn, NoDefaultAlpn, Port, Ipv4Hint, Ipv6Hint, Opaque}
-use Rattle.dns_fields.specs.Pieces.{ParameterHeld, AllHeld, piece, pieces, Form, Keys, Names}
-use Rattle.dns_fields.specs.Pieces.{AnyOctets, form_for}
-use Rattle.dns_fields.specs.Equal.{kind_eq, values_eq}
+use Rattle.dns_fields.specs.{Octets.AreOctets, Fields.Number, Fields.Name, Fields.Values, Fields.Parameters, Equal.kind_eq, Equal.values_eq}
+use Rattle.dns_fields.specs.Pieces.{Numbered, ParameterValue, Mandatory, Alpn, NoDefaultAlpn, Port, Ipv4Hint, Ipv6Hint, Opaque, ParameterHeld}
+use Rattle.dns_fields.specs.Pieces.{AllHeld, piece, pieces, Form, Keys, Names, AnyOctets, form_for}
 use Rattle.dns_fields.proofs.EqualLaws.{field_decide}
-use Rattle.std.proofs.lemmas.Bool.Decides.{same_from_decides, Decides-like}
 use Rattle.dns_fields.proofs.OctetLaws.{AreOctets-at, AreOctets-front, AreOctets-back, AreOctets-same, piece_body}
-use Rattle.dns_names_wire.specs.State.{Reading}
-use Rattle.dns_names_wire.specs.Words.{Window}
+use Rattle.std.proofs.lemmas.Bool.Decides.{same_from_decides, Decides-like}
+use Rattle.dns_names_wire.specs.{State.Reading, Words.Window}
 use Rattle.dns_rdata_base.proofs.Addresses.{octets_of-segments}
-use Rattle.dns_rdata_service.specs.SvcParamKey.{key_number, key_of}
+use Rattle.dns_rdata_service.specs.{SvcParamKey.key_number, SvcParamKey.key_of, declared.svcb.SVCB.SVCB, declared.https.HTTPS.HTTPS}
 use Rattle.dns_rdata_service.specs.SvcParamValue.{value_of, value_from, a_octets, a_of, aaaa_octets, aaaa_of, IsFormRefusal, IsKeyRefusal}
-use Rattle.dns_rdata_service.specs.Parameters.{Parameter, parameter_of, parameter_from, own_parameter, AreRead, IsParameterRefusal, IsParametersRefusal}
+use Rattle.dns_rdata_service.specs.Parameters.{Parameter, parameter_of, parameter_from, own_parameter, AreRead, IsParameterRefusal}
+use Rattle.dns_rdata_service.specs.Parameters.{IsParametersRefusal}
 use Rattle.dns_rdata_service.specs.SVCB.{svcb_shape, svcb_fields, svcb_key_shape, svcb_keys, IsReadSvcb, IsSvcbRefusal}
 use Rattle.dns_rdata_service.specs.HTTPS.{https_shape, https_fields, https_key_shape, https_keys, IsReadHttps}
 use Rattle.dns_rdata_service.specs.declared.svcb.value.SvcParamValue.{SvcParamValue}
 use Rattle.dns_rdata_service.specs.declared.svcb.value.SvcParamValue.TheVariants as variants
-use Rattle.dns_rdata_service.specs.declared.svcb.SVCB.{SVCB}
-use Rattle.dns_rdata_service.specs.declared.https.HTTPS.{HTTPS}
-use Rattle.dns_rdata_service.proofs.Given.{key_number-of, map_back, aaaa_list_back}
-use Rattle.dns_rdata_service.proofs.OwnValues.{own_fields}
+use Rattle.dns_rdata_service.proofs.{Given.key_number-of, Given.map_back, Given.aaaa_list_back, OwnValues.own_fields}
 
 abbrev pub svcb_from : Values svcb_shape → SVCB
 svcb_from vs = record { svc_priority = vs.0; target_name = vs.1.0; svc_params = map parameter_from vs.1.1.0 }

@@ -1,19 +1,14 @@
 -- Values that are emitted.
 use Rattle.std.proofs.Common.{◌≡◌, ◌≢◌, true, true≢false, nat_le, ℕ, ◌<◌, ◌^◌, Result, map, List, length, refl, sym, ap, ◌∙◌, ◌+◌, arith}
-use Rattle.std.specs.List.{list_all}
+use Rattle.std.specs.{List.list_all, Int.bytes_high_first}
 use Rattle.std.proofs.lemmas.List.{length-map, length-append, map-id}
-use Rattle.std.specs.Int.{bytes_high_first}
 use Rattle.dns_types.specs.declared.error.ProtoError.{ProtoError}
 use Rattle.dns_fields.specs.Fields.{Number, Text, field_octets}
 use Rattle.dns_fields.specs.Pieces.{ParameterValue, Mandatory, Alpn, string, is_some, IsEmittable, parameter_octets, parameter_emittable}
-use Rattle.dns_names_wire.specs.State.{Writing}
-use Rattle.dns_names_wire.specs.Words.{AppendedField, EmitsField, StoppedField, Extends}
+use Rattle.dns_names_wire.specs.{State.Writing, Words.AppendedField, Words.EmitsField, Words.StoppedField, Words.Extends}
 use Rattle.dns_names_wire.proofs.FieldWrites.{and_false, because_map, extends_then}
-use Rattle.dns_rdata_service.specs.Emitting.{StoppedOctets}
+use Rattle.dns_rdata_service.specs.{Emitting.StoppedOctets, Hints.EmitsEach, SvcParamKey.key_number, declared.svcb.key.SvcParamKey.SvcParamKey}
 use Rattle.dns_rdata_service.specs.SvcParamValue.{fits_value, sized, EmitsValue}
-use Rattle.dns_rdata_service.specs.Hints.{EmitsEach}
-use Rattle.dns_rdata_service.specs.SvcParamKey.{key_number}
-use Rattle.dns_rdata_service.specs.declared.svcb.key.SvcParamKey.{SvcParamKey}
 use Rattle.dns_rdata_service.proofs.EachEmits.{emits_as, emits_all, and_second, octets_extend, all_pass, number_emits, text_emits}
 
 pub place_refused : (v : ParameterValue) {e : ProtoError} {old new : Writing} → StoppedField e old (Number 2) 0 new

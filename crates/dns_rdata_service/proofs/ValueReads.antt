@@ -1,26 +1,21 @@
 -- Reading values to the end of a message.
 use Rattle.std.proofs.Common.{◌≡◌, ℕ, ◌%◌, ◌<◌, ◌≤◌, ◌^◌, inl, inr, List, [], ◌∷◌, ◌++◌, length, drop, map, refl, ap, ◌∙◌, arith, subst}
-use Rattle.std.specs.List.{flat_map, AllByRecursion}
-use Rattle.std.specs.Int.{bytes_high_first}
+use Rattle.std.specs.{List.flat_map, List.AllByRecursion, Int.bytes_high_first}
 use Rattle.std.specs.Prelude.{IsUtf8}
 use Rattle.std.proofs.lemmas.List.{drop_all, length-append, length-drop, map-id}
 use Rattle.dns_types.specs.declared.error.DecodeError.{DecodeError}
 use Rattle.dns_types.specs.declared.error.DecodeError.TheVariants as decode
-use Rattle.dns_fields.specs.Fields.{Text, Field}
-use Rattle.dns_fields.specs.Pieces.{string, ParameterValue, Form, Keys, Names, form_of}
-use Rattle.dns_names_wire.specs.State.{Reading}
-use Rattle.dns_names_wire.specs.Words.{TookField, StaysBehind, UnlessMemory, LacksOctets, LacksText}
+use Rattle.dns_fields.specs.{Fields.Text, Fields.Field, Pieces.string, Pieces.ParameterValue, Pieces.Form, Pieces.Keys, Pieces.Names, Pieces.form_of}
+use Rattle.dns_names_wire.specs.{State.Reading, Words.TookField, Words.StaysBehind, Words.UnlessMemory, Words.LacksOctets, Words.LacksText}
 use Rattle.dns_names_wire.proofs.FieldReads.{stays, unless_map}
 use Rattle.dns_rdata_base.specs.Numbered.{NumberedAt}
-use Rattle.dns_rdata_service.specs.SvcParamKey.{key_number, key_of}
-use Rattle.dns_rdata_service.specs.SvcParamValue.{mandatory_value, alpn_value, AreGiven, ToEnd, MandatoryAt, AlpnAt, CutName, WrongName, IsValueRefusal}
-use Rattle.dns_rdata_service.specs.declared.svcb.key.SvcParamKey.{SvcParamKey}
+use Rattle.dns_rdata_service.specs.{SvcParamKey.key_number, SvcParamKey.key_of, declared.svcb.key.SvcParamKey.SvcParamKey, Hints.StandEach}
+use Rattle.dns_rdata_service.specs.SvcParamValue.{mandatory_value, alpn_value, AreGiven, ToEnd, MandatoryAt, AlpnAt, CutName, WrongName}
+use Rattle.dns_rdata_service.specs.SvcParamValue.{IsValueRefusal}
 use Rattle.dns_rdata_service.specs.declared.svcb.mandatory.Mandatory.{Mandatory as MandatoryKeys}
 use Rattle.dns_rdata_service.specs.declared.svcb.alpn.Alpn.{Alpn as Protocols}
-use Rattle.dns_rdata_service.specs.Hints.{StandEach}
+use Rattle.dns_rdata_service.proofs.{Splits.at_split, Splits.octet_split, Splits.length_numbers, Refusals.HoldsNone, Refusals.value_none}
 use Rattle.dns_rdata_service.proofs.EachReads.{EachOn, AreSplit, each_split, to_end}
-use Rattle.dns_rdata_service.proofs.Splits.{at_split, octet_split, length_numbers}
-use Rattle.dns_rdata_service.proofs.Refusals.{HoldsNone, value_none}
 
 -- what is refused is none of the values that a type holds
 pub refused_by : {T : Type 0} (form : Form) (view : T → ParameterValue) (S : List ℕ → ℕ → T → ℕ → Type 0) (old new : Reading) (e : DecodeError)

@@ -1,15 +1,12 @@
 -- Parameters read from words.
 use Rattle.std.proofs.Common.{◌≢◌, ◌≡◌, ℕ, List, [], ◌∷◌, ◌++◌, Option, Some, None, refl, subst, sym, map}
-use Rattle.std.specs.Iterator.{Yields}
-use Rattle.std.specs.List.{AllZip}
+use Rattle.std.specs.{Iterator.Yields, List.AllZip}
 use Rattle.dns_types.specs.declared.error.ParseError.{ParseError}
 use Rattle.dns_types.specs.declared.error.ParseError.TheVariants as parse
 use Rattle.dns_fields.specs.Fields.{Parameters, Values}
 use Rattle.dns_words.specs.Reads.{UnlessMemory, TookWords, RefusedWords}
-use Rattle.dns_words.proofs.Steps.{holds_word, holds_all, holds_drained}
-use Rattle.dns_words.proofs.Yielded.{holds_yielded}
-use Rattle.dns_rdata_service.specs.Parameters.{Parameter, parameter_of}
-use Rattle.dns_rdata_service.specs.ParameterWords.{IsParameterWord}
+use Rattle.dns_words.proofs.{Steps.holds_word, Steps.holds_all, Steps.holds_drained, Yielded.holds_yielded}
+use Rattle.dns_rdata_service.specs.{Parameters.Parameter, Parameters.parameter_of, ParameterWords.IsParameterWord}
 use Rattle.dns_rdata_service.specs.WordRows.{these_parameters, parameter_words}
 use Rattle.dns_rdata_service.proofs.ItemLists.{zip_at}
 

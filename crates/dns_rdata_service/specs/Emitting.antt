@@ -1,8 +1,7 @@
 -- What an emitter of octets does that not every value has.
 use Rattle.std.specs.Prelude.{◌≡◌, ℕ, ◌+◌, ◌<◌, Bool, false, List, ◌++◌, length, Result, Ok, Err}
 use Rattle.dns_types.specs.declared.error.ProtoError.{ProtoError}
-use Rattle.dns_names_wire.specs.State.{Writing}
-use Rattle.dns_names_wire.specs.Words.{Keeps, Extends, Because}
+use Rattle.dns_names_wire.specs.{State.Writing, Words.Keeps, Words.Extends, Words.Because}
 
 -- the octets stand behind the others
 pub record AppendedOctets (old : Writing) (s : List ℕ) (new : Writing) : Type 0 where

@@ -1,10 +1,7 @@
 -- The order of octets by what stands in front of others.
 use Rattle.std.specs.Prelude.{◌≡◌, ℕ, List, ◌++◌, length}
-use Rattle.std.specs.Int.{bytes_high_first}
-use Rattle.std.specs.List.{flat_map}
-use Rattle.std.specs.Cmp.Lexicographic.{slice_cmp}
+use Rattle.std.specs.{Int.bytes_high_first, List.flat_map, Cmp.Lexicographic.slice_cmp, declared.cmp.Ordering.Ordering}
 use Rattle.std.specs.Ordering.{nat_cmp, ordering_then}
-use Rattle.std.specs.declared.cmp.Ordering.{Ordering}
 use Rattle.dns_fields.specs.Pieces.{piece, as_piece, parameter_octets}
 use Rattle.dns_rdata_service.specs.Parameters.{Parameter, parameter_of}
 

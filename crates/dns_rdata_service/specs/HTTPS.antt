@@ -2,8 +2,7 @@
 use Rattle.std.specs.Prelude.{ℕ, List}
 use Rattle.dns_types.specs.declared.error.DecodeError.{DecodeError}
 use Rattle.dns_fields.specs.Fields.{Kind, Values}
-use Rattle.dns_names_wire.specs.State.{Reading}
-use Rattle.dns_names_wire.specs.Facts.{Facts}
+use Rattle.dns_names_wire.specs.{State.Reading, Facts.Facts}
 use Rattle.dns_rdata_service.specs.SVCB.{svcb_shape, svcb_fields, MeetsSvcbCondition, svcb_key_shape, svcb_keys, IsReadSvcb, svcb_text, IsSvcbRefusal}
 use Rattle.dns_rdata_service.specs.declared.https.HTTPS.{HTTPS}
 

@@ -1,19 +1,13 @@
 -- What a record of a service feeds a hasher: equal records the same.
 use Rattle.std.specs.Prelude.{◌≡◌, Bool, true, ◌&&◌, ◌++◌, map, nat_eq}
-use Rattle.std.specs.Cmp.{first_so, second_so, unsigned_Decides}
-use Rattle.std.specs.Cmp.Lexicographic.{pointwise}
-use Rattle.std.specs.Hash.{HashWrites, items_Alike}
+use Rattle.std.specs.{Cmp.first_so, Cmp.second_so, Cmp.unsigned_Decides, Cmp.Lexicographic.pointwise, Hash.HashWrites, Hash.items_Alike}
 use Rattle.std.specs.Hash as fed
 use Rattle.std.proofs.Common.{ap, ◌∙◌}
-use Rattle.dns_fields.specs.Comparing.{name_eq, name_fed}
-use Rattle.dns_fields.specs.Equal.{values_eq, key_eq, parameter_keys}
+use Rattle.dns_fields.specs.{Comparing.name_eq, Comparing.name_fed, Equal.values_eq, Equal.key_eq, Equal.parameter_keys}
 use Rattle.dns_names_wire.specs.contracts.name.comparing.NameHash.TheImpl.Laws as name_hash_laws
 use Rattle.dns_rdata_base.specs.Numbered.{numbered_eq}
-use Rattle.dns_rdata_service.specs.SvcParamKey.{key_number, key_variant}
-use Rattle.dns_rdata_service.specs.Parameters.{Parameter, own_parameter}
-use Rattle.dns_rdata_service.specs.OwnKeys.{value_eq, parameter_eq, parameters_same}
-use Rattle.dns_rdata_service.specs.SVCB.{svcb_key_shape, svcb_keys}
-use Rattle.dns_rdata_service.specs.declared.svcb.SVCB.{SVCB}
+use Rattle.dns_rdata_service.specs.{SvcParamKey.key_number, SvcParamKey.key_variant, Parameters.Parameter, Parameters.own_parameter, OwnKeys.value_eq}
+use Rattle.dns_rdata_service.specs.{OwnKeys.parameter_eq, OwnKeys.parameters_same, SVCB.svcb_key_shape, SVCB.svcb_keys, declared.svcb.SVCB.SVCB}
 use Rattle.dns_rdata_service.specs.contracts.svcb.key.SvcParamKeyHash.TheImpl as key_hash
 use Rattle.dns_rdata_service.specs.contracts.svcb.key.SvcParamKeyHash.TheImpl.Laws as key_hash_laws
 use Rattle.dns_rdata_service.specs.contracts.svcb.value.SvcParamValueHash.TheImpl as value_hash

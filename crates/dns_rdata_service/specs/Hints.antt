@@ -1,10 +1,8 @@
 -- Values one behind the other, each by the relations of its type.
 use Rattle.std.specs.Prelude.{◌≡◌, ℕ, ◌<◌, ◌⊎◌, List, [], ◌∷◌, length, Option, Some, codes, Result, Ok, Err}
 use Rattle.std.specs.Fmt.{◌++?◌}
-use Rattle.dns_types.specs.declared.error.DecodeError.{DecodeError}
-use Rattle.dns_types.specs.declared.error.ProtoError.{ProtoError}
-use Rattle.dns_names_wire.specs.State.{Reading, Writing}
-use Rattle.dns_names_wire.specs.Words.{StaysBehind, UnlessMemory}
+use Rattle.dns_types.specs.{declared.error.DecodeError.DecodeError, declared.error.ProtoError.ProtoError}
+use Rattle.dns_names_wire.specs.{State.Reading, State.Writing, Words.StaysBehind, Words.UnlessMemory}
 
 -- they stand from p to q
 abbrev pub StandEach : {T : Type 0} → (List ℕ → ℕ → T → ℕ → Type 0) → List ℕ → ℕ → List T → ℕ → Type 0

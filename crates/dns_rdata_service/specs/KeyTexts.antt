@@ -1,8 +1,7 @@
 -- Texts of keys of service parameters (RFC 9460, 2.1 and 14.3.2).
 use Rattle.std.specs.Prelude.{◌≡◌, ◌≢◌, ℕ, List, ◌++◌, codes}
 use Rattle.dns_words.specs.Forms.{IsNumberWord}
-use Rattle.dns_rdata_service.specs.SvcParamKey.{key_text}
-use Rattle.dns_rdata_service.specs.declared.svcb.key.SvcParamKey.{SvcParamKey}
+use Rattle.dns_rdata_service.specs.{SvcParamKey.key_text, declared.svcb.key.SvcParamKey.SvcParamKey}
 use Rattle.dns_rdata_service.specs.declared.svcb.key.SvcParamKey.TheVariants.{Key, Key65535, Unknown}
 
 -- `key` and a number of 16 bits

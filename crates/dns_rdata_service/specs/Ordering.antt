@@ -1,11 +1,8 @@
 -- The order of service bindings by their fields.
 use Rattle.std.specs.Prelude.{ℕ, List}
-use Rattle.std.specs.Cmp.Lexicographic.{slice_cmp}
-use Rattle.std.specs.Ordering.{nat_cmp}
-use Rattle.std.specs.declared.cmp.Ordering.{Ordering}
+use Rattle.std.specs.{Cmp.Lexicographic.slice_cmp, Ordering.nat_cmp, declared.cmp.Ordering.Ordering}
 use Rattle.dns_fields.specs.Equal.{key_cmp, parameter_key}
-use Rattle.dns_rdata_service.specs.Parameters.{Parameter, own_parameter}
-use Rattle.dns_rdata_service.specs.declared.svcb.value.SvcParamValue.{SvcParamValue}
+use Rattle.dns_rdata_service.specs.{Parameters.Parameter, Parameters.own_parameter, declared.svcb.value.SvcParamValue.SvcParamValue}
 use Rattle.dns_rdata_service.specs.declared.svcb.value.SvcParamValue.TheVariants as variants
 
 -- by their octets

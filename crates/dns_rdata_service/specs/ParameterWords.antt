@@ -1,16 +1,12 @@
 -- Words of service parameters (RFC 9460, 2.1 and appendix A; RFC 9461, 5).
 use Rattle.std.specs.Prelude.{◌≡◌, ◌≢◌, ◌⊎◌, ℕ, List, [], ◌∷◌, ◌++◌, All, Ok}
-use Rattle.std.specs.List.{AllZip}
-use Rattle.std.specs.Net.Grammar.{IsIpv4Text, IsIpv6Text}
-use Rattle.base64.specs.Engines.{standard}
-use Rattle.base64.specs.GeneralPurpose.{decode_of}
+use Rattle.std.specs.{List.AllZip, Net.Grammar.IsIpv4Text, Net.Grammar.IsIpv6Text}
+use Rattle.base64.specs.{Engines.standard, GeneralPurpose.decode_of}
 use Rattle.dns_text.specs.Lists.{IsItem, pieces_of}
 use Rattle.dns_words.specs.Forms.{IsNumberWord}
-use Rattle.dns_rdata_service.specs.KeyTexts.{IsKeyText}
-use Rattle.dns_rdata_service.specs.Parameters.{Parameter}
-use Rattle.dns_rdata_service.specs.declared.svcb.key.SvcParamKey.{SvcParamKey}
-use Rattle.dns_rdata_service.specs.declared.svcb.key.SvcParamKey.TheVariants as keys
+use Rattle.dns_rdata_service.specs.{KeyTexts.IsKeyText, Parameters.Parameter, declared.svcb.key.SvcParamKey.SvcParamKey}
 use Rattle.dns_rdata_service.specs.declared.svcb.value.SvcParamValue.{SvcParamValue}
+use Rattle.dns_rdata_service.specs.declared.svcb.key.SvcParamKey.TheVariants as keys
 use Rattle.dns_rdata_service.specs.declared.svcb.value.SvcParamValue.TheVariants as values
 
 -- the text's item (its first token, a word) is the text of x

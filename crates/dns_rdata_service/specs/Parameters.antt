@@ -1,19 +1,15 @@
 -- The parameters of a service as fields, and why they are refused (RFC 9460, 2.2).
 use Rattle.std.specs.Prelude.{◌≡◌, ◌⊎◌, ℕ, ◌+◌, ◌<◌, ◌≤◌, List, [], ◌∷◌, ◌++◌, length, map, Option, Some, None, Result}
 use Rattle.std.specs.List.{AllByRecursion}
-use Rattle.dns_types.specs.declared.error.DecodeError.{DecodeError}
+use Rattle.dns_types.specs.{declared.error.DecodeError.DecodeError, declared.error.ProtoError.ProtoError}
 use Rattle.dns_types.specs.declared.error.DecodeError.TheVariants as decode
-use Rattle.dns_types.specs.declared.error.ProtoError.{ProtoError}
 use Rattle.dns_fields.specs.Fields.{Number, Rest, Parameters}
 use Rattle.dns_fields.specs.Pieces.{Numbered, ParameterValue, Alpn, ParameterFits, piece, as_piece, parameter_octets, Rising}
-use Rattle.dns_names_wire.specs.State.{Reading, Writing}
-use Rattle.dns_names_wire.specs.Words.{Took, TookField}
+use Rattle.dns_names_wire.specs.{State.Reading, State.Writing, Words.Took, Words.TookField}
 use Rattle.dns_rdata_base.specs.Refusing.{FirstLack}
-use Rattle.dns_rdata_service.specs.Emitting.{EmitsOctets}
+use Rattle.dns_rdata_service.specs.{Emitting.EmitsOctets, declared.svcb.key.SvcParamKey.SvcParamKey, declared.svcb.value.SvcParamValue.SvcParamValue}
 use Rattle.dns_rdata_service.specs.SvcParamKey.{key_number, key_variant, key_of}
 use Rattle.dns_rdata_service.specs.SvcParamValue.{value_of, value_from, value_key, HasText, IsKeyRefusal, fits_value}
-use Rattle.dns_rdata_service.specs.declared.svcb.key.SvcParamKey.{SvcParamKey}
-use Rattle.dns_rdata_service.specs.declared.svcb.value.SvcParamValue.{SvcParamValue}
 
 -- a key and its value
 abbrev pub Parameter : Type 0

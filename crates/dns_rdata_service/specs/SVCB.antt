@@ -3,17 +3,12 @@ use Rattle.std.specs.Prelude.{◌≡◌, ◌⊎◌, ℕ, ◌+◌, ◌≤◌, ◌
 use Rattle.std.specs.List.{flat_map}
 use Rattle.dns_types.specs.declared.error.DecodeError.{DecodeError}
 use Rattle.dns_types.specs.declared.error.DecodeError.TheVariants as decode
-use Rattle.dns_fields.specs.Labels.{DomainName}
-use Rattle.dns_fields.specs.Fields.{Kind, Number, Name, Parameters, Values}
+use Rattle.dns_fields.specs.{Labels.DomainName, Fields.Kind, Fields.Number, Fields.Name, Fields.Parameters, Fields.Values}
 use Rattle.dns_labels.specs.Text.{name_text}
-use Rattle.dns_names_wire.specs.State.{Reading}
-use Rattle.dns_names_wire.specs.Words.{Took}
+use Rattle.dns_names_wire.specs.{State.Reading, Words.Took, Facts.Facts}
 use Rattle.dns_rdata_base.specs.Refusing.{IsLack}
-use Rattle.dns_names_wire.specs.Facts.{Facts}
-use Rattle.dns_rdata_service.specs.SvcParamKey.{key_number, key_text}
-use Rattle.dns_rdata_service.specs.SvcParamValue.{value_text}
+use Rattle.dns_rdata_service.specs.{SvcParamKey.key_number, SvcParamKey.key_text, SvcParamValue.value_text, declared.svcb.SVCB.SVCB}
 use Rattle.dns_rdata_service.specs.Parameters.{Parameter, parameter_of, own_parameter, AreRead, HaveTexts, IsParametersRefusal}
-use Rattle.dns_rdata_service.specs.declared.svcb.SVCB.{SVCB}
 use Rattle.dns_rdata_service.specs.declared.svcb.value.SvcParamValue.{SvcParamValue}
 
 -- priority, target name, parameters

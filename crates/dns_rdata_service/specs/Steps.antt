@@ -1,17 +1,14 @@
 -- The canonical octets of service bindings, step by step: priority and target, and then each parameter, its key, its length
 -- and what stands in one piece, and then item by item what its value lists.
-use Rattle.std.specs.Prelude.{◌≡◌, ℕ, zero, suc, ◌+◌, ◌<◌, ◌&&◌, nat_le, Bool, Option, Some, None, List, [], ◌∷◌, ◌++◌, length, drop, map, slice_get, true}
-use Rattle.std.specs.List.{flat_map, list_all}
-use Rattle.std.specs.Int.{bytes_high_first}
-use Rattle.dns_fields.specs.Pieces.{string, pieces, ParameterValue, Mandatory, Alpn, Port, Ipv4Hint, Ipv6Hint, Opaque, parameter_octets, parameter_emittable, parameters_emittable}
+use Rattle.std.specs.Prelude.{◌≡◌, ℕ, zero, suc, ◌+◌, ◌<◌, ◌&&◌, nat_le, Bool, Option, Some, None, List, [], ◌∷◌, ◌++◌, length, drop, map, slice_get}
+use Rattle.std.specs.Prelude.{true}
+use Rattle.std.specs.{List.flat_map, List.list_all, Int.bytes_high_first}
+use Rattle.dns_fields.specs.Pieces.{string, pieces, ParameterValue, Mandatory, Alpn, Port, Ipv4Hint, Ipv6Hint, Opaque, parameter_octets}
+use Rattle.dns_fields.specs.Pieces.{parameter_emittable, parameters_emittable}
 use Rattle.dns_fields.specs.Fields.{canonical, parameter_pieces}
-use Rattle.dns_pieces.specs.Steps.{Left}
-use Rattle.dns_pieces.specs.declared.step.Step.{Step}
-use Rattle.dns_rdata_service.specs.SvcParamKey.{key_number}
-use Rattle.dns_rdata_service.specs.SvcParamValue.{value_of}
+use Rattle.dns_pieces.specs.{Steps.Left, declared.step.Step.Step}
+use Rattle.dns_rdata_service.specs.{SvcParamKey.key_number, SvcParamValue.value_of, SVCB.svcb_shape, SVCB.svcb_fields, declared.svcb.SVCB.SVCB}
 use Rattle.dns_rdata_service.specs.Parameters.{Parameter, parameter_of}
-use Rattle.dns_rdata_service.specs.SVCB.{svcb_shape, svcb_fields}
-use Rattle.dns_rdata_service.specs.declared.svcb.SVCB.{SVCB}
 
 -- what stands in one piece
 abbrev pub value_front : ParameterValue → List ℕ

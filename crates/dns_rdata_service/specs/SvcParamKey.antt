@@ -3,8 +3,8 @@
 use Rattle.std.specs.Prelude.{ℕ, nat_le, if◌then◌else◌, List, [], ◌∷◌, ◌++◌, codes, decimal}
 use Rattle.dns_rdata_base.specs.Numbered.{numbered_of}
 use Rattle.dns_rdata_service.specs.declared.svcb.key.SvcParamKey.{SvcParamKey}
-use Rattle.dns_rdata_service.specs.declared.svcb.key.SvcParamKey.TheVariants.{Mandatory, Alpn, NoDefaultAlpn, Port, Ipv4Hint}
-use Rattle.dns_rdata_service.specs.declared.svcb.key.SvcParamKey.TheVariants.{EchConfigList, Ipv6Hint, DohPath, Key, Key65535, Unknown}
+use Rattle.dns_rdata_service.specs.declared.svcb.key.SvcParamKey.TheVariants.{Mandatory, Alpn, NoDefaultAlpn, Port, Ipv4Hint, EchConfigList, Ipv6Hint}
+use Rattle.dns_rdata_service.specs.declared.svcb.key.SvcParamKey.TheVariants.{DohPath, Key, Key65535, Unknown}
 
 abbrev pub key_number : SvcParamKey → ℕ
 key_number Mandatory = 0

@@ -2,12 +2,9 @@
 use Rattle.std.specs.Prelude.{◌≡◌, ℕ, List, [], ◌∷◌, map, Option, None}
 use Rattle.std.specs.List.{AllZip}
 use Rattle.dns_fields.specs.Fields.{Parameters}
-use Rattle.dns_words.specs.Forms.{Row, word, number, name}
-use Rattle.dns_words.specs.Reads.{TookWords}
+use Rattle.dns_words.specs.{Forms.Row, Forms.word, Forms.number, Forms.name, Reads.TookWords}
+use Rattle.dns_rdata_service.specs.{ParameterWords.IsParameterWord, SVCB.svcb_shape, declared.svcb.SVCB.SVCB}
 use Rattle.dns_rdata_service.specs.Parameters.{Parameter, parameter_of}
-use Rattle.dns_rdata_service.specs.ParameterWords.{IsParameterWord}
-use Rattle.dns_rdata_service.specs.SVCB.{svcb_shape}
-use Rattle.dns_rdata_service.specs.declared.svcb.SVCB.{SVCB}
 
 -- every further word is that of the parameter at its place
 abbrev pub these_parameters : List Parameter → Row []

@@ -2,13 +2,9 @@
 
 ghost use Rattle.std.specs.Prelude.{◌≡◌, ◌+◌, ◌*◌, ◌<◌, ◌≤◌, ◌^◌, ◌++◌, ℕ, List, [], IfSome, IsTrue, length, map, nat_le};
 ghost use Rattle.std.proofs.Common.{lit≤};
-ghost use Rattle.std.specs.Cmp.Lexicographic.{slice_cmp};
-ghost use Rattle.std.specs.Ordering.{nat_cmp};
-ghost use Rattle.std.specs.List.{AllByRecursion};
-ghost use Rattle.std.specs.declared.cmp.Ordering.TheVariants.{Equal};
+ghost use Rattle.std.specs.{Cmp.Lexicographic.slice_cmp, Ordering.nat_cmp, List.AllByRecursion, declared.cmp.Ordering.TheVariants.Equal};
+ghost use Rattle.dns_rdata_service.specs.{Ordering.octets_order, SvcParamValue.a_octets, SvcParamValue.aaaa_octets};
 ghost use Rattle.dns_rdata_service.specs.Fronts.{OrderFirst, behind_length, joined};
-ghost use Rattle.dns_rdata_service.specs.Ordering.{octets_order};
-ghost use Rattle.dns_rdata_service.specs.SvcParamValue.{a_octets, aaaa_octets};
 
 use dns_pieces::order::octets_cmp;
 use dns_pieces::{Head, Tail};

@@ -1,11 +1,9 @@
 //! HTTPS: how a web service is reached (RFC 9460, 9).
 
 ghost use Rattle.std.specs.Prelude.{◌≡◌, ◌≤◌, length, IfOk};
-ghost use Rattle.std.specs.List.Sorted.{IsPermutation, IsNonDecreasingBy, IsStableByKey};
-ghost use Rattle.std.specs.Ordering.{nat_cmp};
+ghost use Rattle.std.specs.{List.Sorted.IsPermutation, List.Sorted.IsNonDecreasingBy, List.Sorted.IsStableByKey, Ordering.nat_cmp};
 ghost use Rattle.dns_names_wire.specs.Facts.{same, same_equiv, same_partial};
-ghost use Rattle.dns_rdata_service.specs.SVCB.{number_of_parameter};
-ghost use Rattle.dns_rdata_service.specs.HTTPS.{https_facts, https_key_shape, https_keys};
+ghost use Rattle.dns_rdata_service.specs.{SVCB.number_of_parameter, HTTPS.https_facts, HTTPS.https_key_shape, HTTPS.https_keys};
 
 use crate::svcb::SVCB;
 use dns_names_wire::{

@@ -1,14 +1,9 @@
 //! Lists of values that a value owns.
 ghost use Rattle.std.specs.Prelude.{◌≡◌, ◌<◌, ◌^◌, ◌++◌, ◌∷◌, ◌↔◌, [], IfOk, IsTrue, OnOk, OnErr, length};
-ghost use Rattle.std.specs.List.{AllZip};
-ghost use Rattle.std.specs.Global.{Global};
-ghost use Rattle.std.specs.Slice.Iter.{iter_rest};
-ghost use Rattle.std.specs.Vec.Iter.{into_iter_items, into_iter_len, into_iter_steps};
-ghost use Rattle.std.specs.Iterator.Adapters.{IterYieldsInOrder};
-ghost use Rattle.std.specs.Iterator.Runs.{EveryRun, ItemsAre};
-ghost use Rattle.std.specs.Cmp.Lexicographic.{pointwise, lists_equiv, lists_per};
+ghost use Rattle.std.specs.{List.AllZip, Global.Global, Slice.Iter.iter_rest, Vec.Iter.into_iter_items, Vec.Iter.into_iter_len};
+ghost use Rattle.std.specs.{Vec.Iter.into_iter_steps, Iterator.Adapters.IterYieldsInOrder, Iterator.Runs.EveryRun, Iterator.Runs.ItemsAre};
+ghost use Rattle.std.specs.{Cmp.Lexicographic.pointwise, Cmp.Lexicographic.lists_equiv, Cmp.Lexicographic.lists_per, Hash.items_Alike};
 ghost use Rattle.std.specs.Hash as fed;
-ghost use Rattle.std.specs.Hash.{items_Alike};
 
 use std::alloc::{AllocError, Global};
 use std::hash::{Hash, Hasher};

@@ -1,16 +1,11 @@
 //! Service bindings ordered by their canonical octets, up to the first parameters whose order is not easily told.
 
 ghost use Rattle.std.specs.Prelude.{◌≡◌, ◌≤◌, drop, length, map, true, IfSome, IsTrue};
-ghost use Rattle.std.specs.Cmp.Lexicographic.{slice_cmp};
-ghost use Rattle.std.specs.List.{flat_map};
-ghost use Rattle.std.specs.Ordering.{nat_cmp, ordering_then};
+ghost use Rattle.std.specs.{Cmp.Lexicographic.slice_cmp, List.flat_map, Ordering.nat_cmp, Ordering.ordering_then};
 ghost use Rattle.std.specs.declared.cmp.Ordering.TheVariants.{Equal};
-ghost use Rattle.dns_fields.specs.Equal.{values_eq};
-ghost use Rattle.dns_fields.specs.Pieces.{string, Alpn as Names, Opaque, Port};
+ghost use Rattle.dns_fields.specs.{Equal.values_eq, Pieces.string, Pieces.Alpn as Names, Pieces.Opaque, Pieces.Port};
 ghost use Rattle.dns_pieces.specs.Fronts.{canonical_cmp};
-ghost use Rattle.dns_rdata_service.specs.Fronts.{OrderFirst, parameter_octets_of};
-ghost use Rattle.dns_rdata_service.specs.Parameters.{own_parameter};
-ghost use Rattle.dns_rdata_service.specs.Steps.{parameters_from};
+ghost use Rattle.dns_rdata_service.specs.{Fronts.OrderFirst, Fronts.parameter_octets_of, Parameters.own_parameter, Steps.parameters_from};
 ghost use Rattle.dns_rdata_service.specs.SvcParamValue.{sized, value_key, value_of};
 ghost use Rattle.dns_rdata_service.specs.SVCB.{svcb_shape, svcb_fields, svcb_key_shape, svcb_keys};
 

@@ -1,16 +1,12 @@
 //! The canonical octets of service bindings, step by step.
 
-ghost use Rattle.std.specs.Prelude.{◌≡◌, ◌+◌, ◌<◌, ◌≤◌, ◌^◌, ◌++◌, ℕ, [], true, IfSome, List, length, map};
-ghost use Rattle.std.specs.List.{flat_map, list_all};
-ghost use Rattle.std.specs.Prelude.{nat_le};
-ghost use Rattle.std.specs.Int.{bytes_high_first};
+ghost use Rattle.std.specs.Prelude.{◌≡◌, ◌+◌, ◌<◌, ◌≤◌, ◌^◌, ◌++◌, ℕ, [], true, IfSome, List, length, map, nat_le};
+ghost use Rattle.std.specs.{List.flat_map, List.list_all, Int.bytes_high_first};
 ghost use Rattle.dns_fields.specs.Pieces.{string, parameter_octets, parameter_emittable, parameters_emittable, rising, rising_behind};
 ghost use Rattle.dns_fields.specs.Pieces.{Mandatory as MandatoryKeys, Alpn as Names};
-ghost use Rattle.dns_rdata_service.specs.Parameters.{parameter_of};
-ghost use Rattle.dns_pieces.specs.Steps.{GivesStep};
-ghost use Rattle.dns_rdata_service.specs.SvcParamKey.{key_number};
-ghost use Rattle.dns_rdata_service.specs.SvcParamValue.{value_of, fits_value};
+ghost use Rattle.dns_rdata_service.specs.{Parameters.parameter_of, SvcParamKey.key_number, SvcParamValue.value_of, SvcParamValue.fits_value};
 ghost use Rattle.dns_rdata_service.specs.Steps.{parameter_head, value_front, value_items, svcb_left, are_emittable, each_fits, GivesItem, GivesPiece};
+ghost use Rattle.dns_pieces.specs.Steps.{GivesStep};
 
 use crate::hints::{Address, hints_fit, hints_len};
 use crate::https::HTTPS;

@@ -3,9 +3,7 @@
 ghost use Rattle.std.specs.Prelude.{map, IfOk};
 ghost use Rattle.std.specs.Iterator.{IsFinite};
 ghost use Rattle.dns_words.specs.Reads.{ReadsRow, TookWords};
-ghost use Rattle.dns_rdata_service.specs.HTTPS.{https_fields};
-ghost use Rattle.dns_rdata_service.specs.Parameters.{parameter_of};
-ghost use Rattle.dns_rdata_service.specs.SVCB.{svcb_fields};
+ghost use Rattle.dns_rdata_service.specs.{HTTPS.https_fields, Parameters.parameter_of, SVCB.svcb_fields};
 ghost use Rattle.dns_rdata_service.specs.WordRows.{these_parameters, parameter_words, svcb_words, AreWordsOf};
 
 use crate::https::HTTPS;

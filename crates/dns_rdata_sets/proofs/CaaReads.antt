@@ -1,22 +1,16 @@
 -- Reading a CAA record: flags, tag, value.
-use Rattle.std.proofs.Common.{◌≡◌, ◌⊎◌, inl, inr, ℕ, ◌+◌, ◌%◌, ◌≤◌, ◌<◌, false, cond, nat_le, List, [], ◌∷◌, ◌++◌, length, take}
-use Rattle.std.proofs.Common.{drop, refl, sym, ap, ◌∙◌, arith, subst, ◌-◌}
+use Rattle.std.proofs.Common.{◌≡◌, ◌⊎◌, inl, inr, ℕ, ◌+◌, ◌%◌, ◌≤◌, ◌<◌, false, cond, nat_le, List, [], ◌∷◌, ◌++◌, length, take, drop, refl, sym, ap}
+use Rattle.std.proofs.Common.{◌∙◌, arith, subst, ◌-◌}
+use Rattle.std.proofs.{Math.Nat.mod-eq_of_lt, lemmas.Grind.common_steps, lemmas.Bool.Decides.nat_tests}
 use Rattle.std.proofs.lemmas.List.{length-append, take-take, take-append-drop}
-use Rattle.std.proofs.Math.Nat.{mod-eq_of_lt}
-use Rattle.std.proofs.lemmas.Grind.{common_steps}
-use Rattle.std.proofs.lemmas.Bool.Decides.{nat_tests}
-use Rattle.std.specs.List.{list_all}
-use Rattle.std.specs.Char.{is_ascii_alphanumeric}
+use Rattle.std.specs.{List.list_all, Char.is_ascii_alphanumeric}
 use Rattle.dns_types.specs.declared.error.DecodeError.{DecodeError}
 use Rattle.dns_types.specs.declared.error.DecodeError.TheVariants as decode
-use Rattle.dns_fields.specs.Octets.{At}
-use Rattle.dns_fields.specs.Fields.{Number, Octets, Text, Rest, Values, Field}
-use Rattle.dns_names_wire.specs.State.{Reading}
-use Rattle.dns_names_wire.specs.Words.{TookField, Took, Refused, StaysBehind, LacksOctets}
+use Rattle.dns_fields.specs.{Octets.At, Fields.Number, Fields.Octets, Fields.Text, Fields.Rest, Fields.Values, Fields.Field}
+use Rattle.dns_names_wire.specs.{State.Reading, Words.TookField, Words.Took, Words.Refused, Words.StaysBehind, Words.LacksOctets}
 use Rattle.dns_names_wire.proofs.FieldReads.{unless_all, took_stays, took_then, took_last, took_number}
 use Rattle.dns_names_wire.proofs.Strings.{text_taken, at_rest}
-use Rattle.dns_fields.proofs.Places.{At-same_head}
-use Rattle.dns_fields.proofs.FieldLaws.{field_inside}
+use Rattle.dns_fields.proofs.{Places.At-same_head, FieldLaws.field_inside}
 use Rattle.dns_rdata_sets.proofs.Splitting.{all_halves, all_parts}
 use Rattle.dns_rdata_sets.specs.CAA.{AreTagOctets, IsTag, IsTagRefusal, IsCaaRefusal}
 

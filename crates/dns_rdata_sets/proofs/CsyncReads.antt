@@ -2,8 +2,7 @@
 use Rattle.std.proofs.Common.{◌≡◌, ℕ, ◌+◌, ◌-◌, inr, subst, arith}
 use Rattle.dns_types.specs.declared.error.DecodeError.{DecodeError}
 use Rattle.dns_fields.specs.Fields.{Number}
-use Rattle.dns_names_wire.specs.State.{Reading}
-use Rattle.dns_names_wire.specs.Words.{TookField, Refused}
+use Rattle.dns_names_wire.specs.{State.Reading, Words.TookField, Words.Refused}
 use Rattle.dns_names_wire.proofs.FieldReads.{refused_then, unless_map, took_then, took_last, took_number}
 use Rattle.dns_rdata_sets.specs.RecordTypeSet.{set_shape, IsBitmapRefusal}
 use Rattle.dns_rdata_sets.specs.CSYNC.{csync_shape, MeetsCsyncCondition, IsCsyncRefusal, AreKnownFlags}

@@ -1,17 +1,14 @@
 -- Rising lists that begin alike: the first number that only one of them has.
-use Rattle.std.proofs.Common.{◌≡◌, ◌≢◌, ℕ, suc, ◌+◌, ◌-◌, ◌*◌, ◌/◌, ◌≤◌, ◌<◌, false, List, length, get_or, take, drop, length-take, length-drop, sym, ap, ◌∙◌, subst, arith}
-use Rattle.std.specs.List.{flat_map}
-use Rattle.std.specs.Cmp.{ranks, tied_itself}
+use Rattle.std.proofs.Common.{◌≡◌, ◌≢◌, ℕ, suc, ◌+◌, ◌-◌, ◌*◌, ◌/◌, ◌≤◌, ◌<◌, false, List, length, get_or, take, drop, length-take, length-drop, sym}
+use Rattle.std.proofs.Common.{ap, ◌∙◌, subst, arith}
+use Rattle.std.specs.{List.flat_map, Cmp.ranks, Cmp.tied_itself, declared.cmp.Ordering.Ordering}
 use Rattle.std.specs.Ordering.{MatchOrdering, nat_cmp, ordering_reverse}
-use Rattle.std.specs.declared.cmp.Ordering.{Ordering}
 use Rattle.std.specs.declared.cmp.Ordering.TheVariants.{Less, Equal, Greater}
-use Rattle.std.proofs.lemmas.Cmp.{nat_list_cmp_total}
-use Rattle.std.proofs.lemmas.List.{get_or-drop, get_or-take, take_all}
+use Rattle.std.proofs.{lemmas.Cmp.nat_list_cmp_total, lemmas.List.get_or-drop, lemmas.List.get_or-take, lemmas.List.take_all}
 use Rattle.dns_fields.specs.Bitmaps.{block, contains, minimal, IsTypeSet}
 use Rattle.dns_rdata_sets.specs.RecordTypeSet.{AreOfWindow, IsLastOf, first_window}
+use Rattle.dns_rdata_sets.proofs.{WindowOctets.OwnFirst, WindowOrders.sets_cmp, WindowOrders.window_before, WindowOrders.other_ends}
 use Rattle.dns_rdata_sets.proofs.Rising.{lacks, has_at, in_front, ascends, front_below, rest_from, small_at}
-use Rattle.dns_rdata_sets.proofs.WindowOctets.{OwnFirst}
-use Rattle.dns_rdata_sets.proofs.WindowOrders.{sets_cmp, window_before, other_ends}
 
 -- no number from n up to m is in a set whose numbers at a place skip these
 skips : (n m i : ℕ) (v : List ℕ) → IsTypeSet v → i ≤ length v → (0 < i → get_or v (i - 1) 0 < n) → (i < length v → m ≤ get_or v i 0)

@@ -1,20 +1,14 @@
 -- The grammar of issuer parameters: at most one list of parameters, read from the front.
-use Rattle.std.proofs.Common.{◌≡◌, ℕ, Bool, true, false, not, ◌⊎◌, inl, inr, List, [], ◌∷◌, ◌++◌, refl, ap, sym, subst, ◌∙◌, arith}
-use Rattle.std.proofs.Common.{append_assoc, length-append, ◌==◌, ◌<◌, ◌≤◌, length}
-use Rattle.std.proofs.lemmas.Bool.{or_left}
-use Rattle.std.proofs.lemmas.Bool.Decides.{nat_tests}
-use Rattle.std.proofs.lemmas.List.{append-nil}
-use Rattle.std.proofs.lemmas.List.Elements.{All-weaker}
-use Rattle.std.proofs.lemmas.List.Sums.{AllPass-from_list_all}
-use Rattle.std.proofs.lemmas.Str.{IsUtf8-from_ascii}
-use Rattle.std.proofs.lemmas.Str.Ascii.{IsAscii-from_all}
-use Rattle.std.specs.Str.{IsUtf8}
-use Rattle.std.specs.Char.{is_ascii_alphanumeric}
+use Rattle.std.proofs.Common.{◌≡◌, ℕ, Bool, true, false, not, ◌⊎◌, inl, inr, List, [], ◌∷◌, ◌++◌, refl, ap, sym, subst, ◌∙◌, arith, append_assoc}
+use Rattle.std.proofs.Common.{length-append, ◌==◌, ◌<◌, ◌≤◌, length}
+use Rattle.std.proofs.{lemmas.Bool.or_left, lemmas.Bool.Decides.nat_tests, lemmas.List.append-nil, lemmas.List.Elements.All-weaker}
+use Rattle.std.proofs.{lemmas.List.Sums.AllPass-from_list_all, lemmas.Str.IsUtf8-from_ascii, lemmas.Str.Ascii.IsAscii-from_all}
+use Rattle.std.specs.{Str.IsUtf8, Char.is_ascii_alphanumeric}
 use Rattle.dns_types.specs.declared.error.ProtoError.{ProtoError}
 use Rattle.dns_types.specs.declared.error.ProtoError.TheVariants as proto
 use Rattle.dns_names_wire.specs.NameValues.{IsTextRefusal}
-use Rattle.dns_rdata_sets.specs.Issuer.{Parameter, is_blank, is_no_semicolon, is_key_octet, is_value_octet, AllOf, StartsWithout, Splits}
-use Rattle.dns_rdata_sets.specs.Issuer.{IsKey, IsParameter, parameter_octets, AreParameters}
+use Rattle.dns_rdata_sets.specs.Issuer.{Parameter, is_blank, is_no_semicolon, is_key_octet, is_value_octet, AllOf, StartsWithout, Splits, IsKey}
+use Rattle.dns_rdata_sets.specs.Issuer.{IsParameter, parameter_octets, AreParameters}
 use Rattle.dns_rdata_sets.proofs.Splitting.{all_parts, all_cons, all_append, all_halves, all_weaker, split_once}
 
 -- ---- octets of keys and values

@@ -3,10 +3,8 @@ use Rattle.std.proofs.Common.{◌≡◌, ℕ, List, [], ◌∷◌, ◌++◌, len
 use Rattle.std.specs.List.{flat_map}
 use Rattle.std.proofs.lemmas.List.{append-nil, nil_from_length}
 use Rattle.dns_types.specs.declared.error.ProtoError.{ProtoError}
-use Rattle.dns_fields.specs.Bitmaps.{Block, block, IsTypeSet, minimal}
-use Rattle.dns_fields.specs.Fields.{Bitmap, Rest, field_octets}
-use Rattle.dns_names_wire.specs.State.{Writing}
-use Rattle.dns_names_wire.specs.Words.{Keeps, AppendedField, StoppedField}
+use Rattle.dns_fields.specs.{Bitmaps.Block, Bitmaps.block, Bitmaps.IsTypeSet, Bitmaps.minimal, Fields.Bitmap, Fields.Rest, Fields.field_octets}
+use Rattle.dns_names_wire.specs.{State.Writing, Words.Keeps, Words.AppendedField, Words.StoppedField}
 use Rattle.dns_names_wire.proofs.FieldWrites.{keeps_same, keeps_then, because_map}
 use Rattle.dns_rdata_sets.proofs.NextWindow.{minimal_none}
 

@@ -1,15 +1,12 @@
 -- Sets of types, ordered by the first number that only one of them has.
-use Rattle.std.proofs.Common.{◌≡◌, ℕ, zero, suc, ◌+◌, ◌-◌, ◌/◌, ◌%◌, ◌≤◌, ◌<◌, true, false, inl, inr, List, [], ◌∷◌, ◌++◌, length, refl, sym, ap, ◌∙◌, arith}
-use Rattle.std.specs.List.{flat_map, range_with_len}
-use Rattle.std.specs.Cmp.{ranks, nat_cmp_is, tied_itself, nat_cmp_total}
-use Rattle.std.specs.Cmp.Lexicographic.{slice_cmp}
-use Rattle.std.specs.Ordering.{MatchOrdering, nat_cmp, ordering_then}
-use Rattle.std.specs.declared.cmp.Ordering.{Ordering}
+use Rattle.std.proofs.Common.{◌≡◌, ℕ, zero, suc, ◌+◌, ◌-◌, ◌/◌, ◌%◌, ◌≤◌, ◌<◌, true, false, inl, inr, List, [], ◌∷◌, ◌++◌, length, refl, sym, ap, ◌∙◌}
+use Rattle.std.proofs.Common.{arith}
+use Rattle.std.specs.{List.flat_map, List.range_with_len, Cmp.ranks, Cmp.nat_cmp_is, Cmp.tied_itself, Cmp.nat_cmp_total, Cmp.Lexicographic.slice_cmp}
+use Rattle.std.specs.{Ordering.MatchOrdering, Ordering.nat_cmp, Ordering.ordering_then, declared.cmp.Ordering.Ordering}
 use Rattle.std.specs.declared.cmp.Ordering.TheVariants.{Less, Equal, Greater}
 use Rattle.std.proofs.lemmas.Bool.Decides.{eqb_tells}
 use Rattle.dns_fields.specs.Bitmaps.{Block, block, contains, window, with_block, windows, minimal}
-use Rattle.dns_pieces.proofs.Comparing.{cmp_shared, then_assoc}
-use Rattle.dns_pieces.proofs.Fronts.{sized_then}
+use Rattle.dns_pieces.proofs.{Comparing.cmp_shared, Comparing.then_assoc, Fronts.sized_then}
 use Rattle.dns_rdata_sets.specs.RecordTypeSet.{IsLastOf}
 use Rattle.dns_rdata_sets.proofs.NextWindow.{no_windows}
 use Rattle.dns_rdata_sets.proofs.WindowOctets.{OwnFirst, window_same, window_none, window_reaches, window_stops, window_greater}

@@ -2,11 +2,9 @@
 use Rattle.std.proofs.Common.{◌≡◌, ℕ, ◌+◌, ◌%◌, ◌<◌, ◌≤◌, List, [], ◌∷◌, ◌++◌, length, take, drop, length-take-le, length-append, sym, ap, ◌∙◌, arith}
 use Rattle.std.proofs.lemmas.List.{append-nil, drop_all, drop-drop}
 use Rattle.std.specs.List.{flat_map}
-use Rattle.dns_fields.specs.Bitmaps.{block, minimal}
-use Rattle.dns_fields.specs.Fields.{Number, field_octets}
+use Rattle.dns_fields.specs.{Bitmaps.block, Bitmaps.minimal, Fields.Number, Fields.field_octets}
 use Rattle.dns_pieces.specs.Steps.{StepAt, Ended, PassedWindow}
-use Rattle.dns_rdata_sets.specs.declared.csync.CSYNC.{CSYNC}
-use Rattle.dns_rdata_sets.specs.Steps.{csync_left, csync_windows}
+use Rattle.dns_rdata_sets.specs.{declared.csync.CSYNC.CSYNC, Steps.csync_left, Steps.csync_windows}
 use Rattle.dns_rdata_sets.proofs.NextWindow.{minimal_none}
 
 -- the window at a place, in the octets of a head

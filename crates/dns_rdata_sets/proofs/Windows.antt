@@ -1,15 +1,10 @@
 -- The octets of a window, from the numbers of its types.
-use Rattle.std.proofs.Common.{◌≡◌, ℕ, zero, suc, ◌+◌, ◌-◌, ◌*◌, ◌/◌, ◌%◌, ◌<◌, ◌≤◌, ◌^◌, ◌==◌, ◌||◌, Bool, true, false, cond, inl}
-use Rattle.std.proofs.Common.{inr, List, ◌++◌, length, get_or, take, map, replicate, bit_or, refl, sym, ap, ◌∙◌, subst, arith}
-use Rattle.std.specs.List.{range_with_len}
-use Rattle.std.specs.Int.{bit_at, bytes_high_first}
-use Rattle.std.proofs.Math.ListN.{set}
-use Rattle.std.proofs.lemmas.Bool.{cases_lt}
-use Rattle.std.proofs.lemmas.Bool.Decides.{eqb_tells, nat_tests}
+use Rattle.std.proofs.Common.{◌≡◌, ℕ, zero, suc, ◌+◌, ◌-◌, ◌*◌, ◌/◌, ◌%◌, ◌<◌, ◌≤◌, ◌^◌, ◌==◌, ◌||◌, Bool, true, false, cond, inl, inr, List, ◌++◌}
+use Rattle.std.proofs.Common.{length, get_or, take, map, replicate, bit_or, refl, sym, ap, ◌∙◌, subst, arith}
+use Rattle.std.specs.{List.range_with_len, Int.bit_at, Int.bytes_high_first}
+use Rattle.std.proofs.{Math.ListN.set, lemmas.Bool.cases_lt, lemmas.Bool.Decides.eqb_tells, lemmas.Bool.Decides.nat_tests}
+use Rattle.std.proofs.{lemmas.List.Elements.All-from_get_or, lemmas.List.Folds.list_any_more, lemmas.Nat.shr-shr}
 use Rattle.std.proofs.lemmas.List.{get_or-set_same, get_or-set_other, get_or-replicate, get_or_append_left, get_or-append_right}
-use Rattle.std.proofs.lemmas.List.Elements.{All-from_get_or}
-use Rattle.std.proofs.lemmas.List.Folds.{list_any_more}
-use Rattle.std.proofs.lemmas.Nat.{shr-shr}
 use Rattle.std.proofs.lemmas.Nat.Bits.{bit_at_set_same, bit_at_set_other, bit_at-zero, bit_at_cat_low, same_from_bits_below}
 use Rattle.dns_fields.specs.Octets.{AreOctets}
 use Rattle.dns_fields.specs.Bitmaps.{contains, Rises, packed, mark, trimmed, types_octet, window}

@@ -1,16 +1,12 @@
 -- Types read from words.
 use Rattle.std.proofs.Common.{◌≡◌, ℕ, List, [], ◌∷◌, ◌++◌, Option, Some, None, sym, subst, map}
-use Rattle.std.specs.Iterator.{Yields}
-use Rattle.std.specs.List.{AllZip}
+use Rattle.std.specs.{Iterator.Yields, List.AllZip}
+use Rattle.dns_types.specs.{declared.error.ParseError.ParseError, declared.record_type.RecordType.RecordType}
 use Rattle.dns_types.specs.RecordTypes.{number_of, IsTypeText}
-use Rattle.dns_types.specs.declared.error.ParseError.{ParseError}
-use Rattle.dns_types.specs.declared.record_type.RecordType.{RecordType}
 use Rattle.dns_fields.specs.Fields.{Bitmap, Values}
 use Rattle.dns_words.specs.Reads.{TookWords, RefusedWords}
-use Rattle.dns_words.proofs.Steps.{holds_word, holds_all, holds_drained, unless_all}
-use Rattle.dns_words.proofs.Yielded.{holds_yielded}
-use Rattle.dns_rdata_sets.specs.RecordTypeSet.{IsSetOf}
-use Rattle.dns_rdata_sets.specs.WordRows.{type_words}
+use Rattle.dns_words.proofs.{Steps.holds_word, Steps.holds_all, Steps.holds_drained, Steps.unless_all, Yielded.holds_yielded}
+use Rattle.dns_rdata_sets.specs.{RecordTypeSet.IsSetOf, WordRows.type_words}
 
 -- every word of a list of types is the text of one
 has_type : (front : List (List ℕ)) (w : List ℕ) (words : List (List ℕ)) (types : List RecordType) → AllZip IsTypeText (front ++ w ∷ words) types → (k : RecordType) × IsTypeText w k

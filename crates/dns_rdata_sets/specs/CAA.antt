@@ -1,19 +1,14 @@
 -- CAA: a property of a domain's issuers of certificates (RFC 8659, 4.1).
-use Rattle.std.specs.Prelude.{◌≡◌, ◌⊎◌, ℕ, ◌+◌, ◌%◌, ◌<◌, ◌≤◌, Bool, true, false, if◌then◌else◌, List, [], ◌∷◌, ◌++◌, codes, decimal, length, drop, map}
-use Rattle.std.specs.List.{list_all}
-use Rattle.std.specs.Char.{is_ascii_alphanumeric, to_ascii_lowercase}
-use Rattle.std.specs.Str.{IsUtf8}
-use Rattle.dns_types.specs.declared.error.DecodeError.{DecodeError}
+use Rattle.std.specs.Prelude.{◌≡◌, ◌⊎◌, ℕ, ◌+◌, ◌%◌, ◌<◌, ◌≤◌, Bool, true, false, if◌then◌else◌, List, [], ◌∷◌, ◌++◌, codes, decimal, length, drop}
+use Rattle.std.specs.Prelude.{map}
+use Rattle.std.specs.{List.list_all, Char.is_ascii_alphanumeric, Char.to_ascii_lowercase, Str.IsUtf8}
+use Rattle.dns_types.specs.{declared.error.DecodeError.DecodeError, declared.error.ProtoError.ProtoError}
 use Rattle.dns_types.specs.declared.error.DecodeError.TheVariants as decode
-use Rattle.dns_types.specs.declared.error.ProtoError.{ProtoError}
 use Rattle.dns_types.specs.declared.error.ProtoError.TheVariants as proto
 use Rattle.dns_fields.specs.Fields.{Kind, Number, Octets, Text, Rest, Values}
-use Rattle.dns_names_wire.specs.State.{Reading}
-use Rattle.dns_names_wire.specs.Words.{Took, TookField, LacksOctets, IsMessage}
+use Rattle.dns_names_wire.specs.{State.Reading, Words.Took, Words.TookField, Words.LacksOctets, Words.IsMessage, Facts.Facts, Facts.filling}
 use Rattle.dns_rdata_base.specs.Lossy.{lossy}
-use Rattle.dns_names_wire.specs.Facts.{Facts, filling}
-use Rattle.dns_rdata_sets.specs.Issuer.{IsIssuerRefusal}
-use Rattle.dns_rdata_sets.specs.declared.caa.CAA.{CAA}
+use Rattle.dns_rdata_sets.specs.{Issuer.IsIssuerRefusal, declared.caa.CAA.CAA}
 
 -- flags, tag, value
 abbrev pub caa_shape : List Kind

@@ -1,16 +1,12 @@
 -- CSYNC: which records of a child zone its parent copies (RFC 7477, 2.1).
 use Rattle.std.specs.Prelude.{◌≡◌, ◌≢◌, ◌⊎◌, ℕ, ◌+◌, ◌-◌, ◌*◌, ◌/◌, ◌%◌, ◌<◌, ◌≤◌, Bool, if◌then◌else◌, List, [], ◌∷◌, ◌++◌, bit_and, codes, decimal}
 use Rattle.std.specs.List.{flat_map}
-use Rattle.dns_types.specs.RecordTypes.{record_type_of, type_text}
-use Rattle.dns_types.specs.declared.error.DecodeError.{DecodeError}
+use Rattle.dns_types.specs.{RecordTypes.record_type_of, RecordTypes.type_text, declared.error.DecodeError.DecodeError}
 use Rattle.dns_types.specs.declared.error.DecodeError.TheVariants as decode
 use Rattle.dns_fields.specs.Fields.{Kind, Number, Bitmap, Values}
-use Rattle.dns_names_wire.specs.State.{Reading}
-use Rattle.dns_names_wire.specs.Words.{Took}
+use Rattle.dns_names_wire.specs.{State.Reading, Words.Took, Facts.Facts, Facts.filling}
 use Rattle.dns_rdata_base.specs.Refusing.{FirstLack}
-use Rattle.dns_names_wire.specs.Facts.{Facts, filling}
-use Rattle.dns_rdata_sets.specs.RecordTypeSet.{IsBitmapRefusal}
-use Rattle.dns_rdata_sets.specs.declared.csync.CSYNC.{CSYNC}
+use Rattle.dns_rdata_sets.specs.{RecordTypeSet.IsBitmapRefusal, declared.csync.CSYNC.CSYNC}
 
 -- serial, flags, types
 abbrev pub csync_shape : List Kind

@@ -1,13 +1,12 @@
 -- Sets of record types: what stands for one, and what their readers and emitters do (RFC 4034, 4.1.2).
-use Rattle.std.specs.Prelude.{◌≡◌, ℕ, ◌+◌, ◌-◌, ◌/◌, ◌%◌, ◌≤◌, ◌==◌, ◌&&◌, ◌||◌, ◌<◌, ◌⊎◌, Bool, true, false, List, [], ◌∷◌, ◌++◌, length, slice_index, slice_index_or}
-use Rattle.std.specs.List.{flat_map, All, AllByRecursion, list_any}
-use Rattle.std.specs.Int.{bit_at}
+use Rattle.std.specs.Prelude.{◌≡◌, ℕ, ◌+◌, ◌-◌, ◌/◌, ◌%◌, ◌≤◌, ◌==◌, ◌&&◌, ◌||◌, ◌<◌, ◌⊎◌, Bool, true, false, List, [], ◌∷◌, ◌++◌, length}
+use Rattle.std.specs.Prelude.{slice_index, slice_index_or}
+use Rattle.std.specs.{List.flat_map, List.All, List.AllByRecursion, List.list_any, Int.bit_at}
 use Rattle.dns_fields.specs.Bitmaps.{Block, block, IsBlock, has_type, contains, IsTypeSet, BitmapAt}
 use Rattle.dns_fields.specs.Fields.{Kind, Bitmap, Values}
 use Rattle.dns_types.specs.declared.error.DecodeError.{DecodeError}
 use Rattle.dns_types.specs.declared.error.DecodeError.TheVariants as decode
-use Rattle.dns_names_wire.specs.State.{Reading}
-use Rattle.dns_names_wire.specs.Words.{LacksOctets}
+use Rattle.dns_names_wire.specs.{State.Reading, Words.LacksOctets}
 
 -- v is the set of these numbers
 pub record IsSetOf (numbers v : List ℕ) : Type 0 where

@@ -1,11 +1,9 @@
 -- The steps of records with sets of types, and of CAA.
 use Rattle.std.specs.Prelude.{ℕ, zero, suc, List, [], ◌∷◌, length, drop}
 use Rattle.std.specs.List.{flat_map}
-use Rattle.dns_fields.specs.Bitmaps.{block, minimal}
-use Rattle.dns_fields.specs.Fields.{canonical}
+use Rattle.dns_fields.specs.{Bitmaps.block, Bitmaps.minimal, Fields.canonical}
 use Rattle.dns_pieces.specs.Steps.{Left}
-use Rattle.dns_rdata_sets.specs.CSYNC.{csync_shape, csync_fields}
-use Rattle.dns_rdata_sets.specs.declared.csync.CSYNC.{CSYNC}
+use Rattle.dns_rdata_sets.specs.{CSYNC.csync_shape, CSYNC.csync_fields, declared.csync.CSYNC.CSYNC}
 
 -- flags and tag, the value
 abbrev pub caa_begins : List ℕ

@@ -1,13 +1,10 @@
 -- The words of each record.
 use Rattle.std.specs.Prelude.{◌≡◌, ℕ, ◌%◌, List, [], ◌∷◌, map}
 use Rattle.std.specs.List.{AllZip}
-use Rattle.dns_types.specs.RecordTypes.{number_of, IsTypeText}
-use Rattle.dns_types.specs.declared.record_type.RecordType.{RecordType}
+use Rattle.dns_types.specs.{RecordTypes.number_of, RecordTypes.IsTypeText, declared.record_type.RecordType.RecordType}
 use Rattle.dns_fields.specs.Fields.{Number, Bitmap}
 use Rattle.dns_words.specs.Forms.{Form, Row, word, ignored, number, kept, kept_rest, IsNumberWord}
-use Rattle.dns_rdata_sets.specs.CAA.{caa_shape}
-use Rattle.dns_rdata_sets.specs.CSYNC.{csync_shape}
-use Rattle.dns_rdata_sets.specs.RecordTypeSet.{IsSetOf}
+use Rattle.dns_rdata_sets.specs.{CAA.caa_shape, CSYNC.csync_shape, RecordTypeSet.IsSetOf}
 
 -- flags, tag, value
 abbrev pub caa_words : Row caa_shape

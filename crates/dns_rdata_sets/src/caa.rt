@@ -5,8 +5,8 @@ ghost use Rattle.std.specs.Char.{is_ascii_alphanumeric};
 ghost use Rattle.dns_fields.specs.Fields.{Octets as OctetsKind};
 ghost use Rattle.dns_names_wire.specs.Words.{ReadsTo, TookField, StaysBehind, Emits, Extends, IsMessage};
 ghost use Rattle.dns_names_wire.specs.Facts.{same, same_equiv, same_partial};
-ghost use Rattle.dns_rdata_sets.specs.CAA.{caa_shape, caa_flags, caa_fields, caa_facts, MeetsCaaCondition, caa_key_shape, caa_keys, AreTagOctets, IsTag, caa_text};
-ghost use Rattle.dns_rdata_sets.specs.CAA.{IsReadCaa, IsTagRefusal, IsCaaRefusal};
+ghost use Rattle.dns_rdata_sets.specs.CAA.{caa_shape, caa_flags, caa_fields, caa_facts, MeetsCaaCondition, caa_key_shape, caa_keys, AreTagOctets};
+ghost use Rattle.dns_rdata_sets.specs.CAA.{IsTag, caa_text, IsReadCaa, IsTagRefusal, IsCaaRefusal};
 
 mod issuer;
 mod values;

@@ -1,15 +1,12 @@
 //! CSYNC: which records of a child zone its parent copies (RFC 7477, 2.1).
 
 ghost use Rattle.std.specs.Prelude.{◌≡◌, IfErr, IfOk, ◌+◌, ◌++◌, List, map, Some};
-ghost use Rattle.std.specs.Int.{bytes_high_first};
-ghost use Rattle.std.specs.Iterator.{Drains, IsFinite};
-ghost use Rattle.dns_types.specs.RecordTypes.{number_of};
-ghost use Rattle.dns_types.specs.declared.record_type.RecordType.{RecordType as RecordTypeValue};
-ghost use Rattle.dns_names_wire.specs.Words.{ReadsTo, Emits};
-ghost use Rattle.dns_names_wire.specs.Facts.{same, same_equiv, same_partial};
+ghost use Rattle.std.specs.{Int.bytes_high_first, Iterator.Drains, Iterator.IsFinite};
+ghost use Rattle.dns_types.specs.{RecordTypes.number_of, declared.record_type.RecordType.RecordType as RecordTypeValue};
+ghost use Rattle.dns_names_wire.specs.{Words.ReadsTo, Words.Emits, Facts.same, Facts.same_equiv, Facts.same_partial};
 ghost use Rattle.dns_rdata_sets.specs.RecordTypeSet.{IsSetOf};
-ghost use Rattle.dns_rdata_sets.specs.CSYNC.{csync_numbers_shape, csync_numbers, csync_shape, csync_flags, csync_fields, csync_facts, MeetsCsyncCondition, csync_text};
-ghost use Rattle.dns_rdata_sets.specs.CSYNC.{csync_key_shape, csync_keys, IsReadCsync, IsCsyncRefusal};
+ghost use Rattle.dns_rdata_sets.specs.CSYNC.{csync_numbers_shape, csync_numbers, csync_shape, csync_flags, csync_fields, csync_facts};
+ghost use Rattle.dns_rdata_sets.specs.CSYNC.{MeetsCsyncCondition, csync_text, csync_key_shape, csync_keys, IsReadCsync, IsCsyncRefusal};
 
 use crate::record_type_set::RecordTypeSet;
 use dns_names_wire::{

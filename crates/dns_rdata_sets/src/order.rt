@@ -1,14 +1,10 @@
 //! Records ordered by their canonical octets, field by field.
 
 ghost use Rattle.std.specs.Prelude.{◌≡◌, ◌≢◌, ◌<◌, ◌≤◌, ◌/◌, length, slice_index, take};
-ghost use Rattle.std.specs.Cmp.Lexicographic.{slice_cmp};
-ghost use Rattle.std.specs.Ordering.{nat_cmp, ordering_then};
-ghost use Rattle.dns_fields.specs.Bitmaps.{IsTypeSet};
-ghost use Rattle.dns_fields.specs.Fields.{Bitmap, field_octets};
+ghost use Rattle.std.specs.{Cmp.Lexicographic.slice_cmp, Ordering.nat_cmp, Ordering.ordering_then};
+ghost use Rattle.dns_fields.specs.{Bitmaps.IsTypeSet, Fields.Bitmap, Fields.field_octets};
 ghost use Rattle.dns_pieces.specs.Fronts.{canonical_cmp};
-ghost use Rattle.dns_rdata_sets.specs.CAA.{caa_shape, caa_fields};
-ghost use Rattle.dns_rdata_sets.specs.CSYNC.{csync_shape, csync_fields};
-ghost use Rattle.dns_rdata_sets.specs.RecordTypeSet.{IsLastOf};
+ghost use Rattle.dns_rdata_sets.specs.{CAA.caa_shape, CAA.caa_fields, CSYNC.csync_shape, CSYNC.csync_fields, RecordTypeSet.IsLastOf};
 
 use crate::record_type_set::{RecordTypeSet, run_len};
 use crate::{CAA, CSYNC};

@@ -1,15 +1,11 @@
 //! Sets of record types, as bitmaps of their numbers (RFC 4034, 4.1.2).
 ghost use Rattle.std.specs.Prelude.{◌≡◌, ◌==◌, ◌↔◌, ℕ, List, [], map, length as list_length, IsTrue, IfOk, IfErr};
+ghost use Rattle.std.specs.{List.Sorted.IsStrictlyIncreasing, Cmp.Lexicographic.pointwise, Cmp.Rules.comparing, Cmp.Rules.hashing};
 ghost use Rattle.std.specs.Iterator.{Drains, IsFinite, YieldsFirst, item_count};
-ghost use Rattle.std.specs.List.Sorted.{IsStrictlyIncreasing};
-ghost use Rattle.std.specs.Cmp.Lexicographic.{pointwise};
-ghost use Rattle.std.specs.Cmp.Rules.{comparing, hashing};
 ghost use Rattle.std.specs.Hash as fed;
 ghost use Rattle.std.proofs.Common.{rules};
-ghost use Rattle.dns_types.specs.RecordTypes.{number_of, record_type_of};
-ghost use Rattle.dns_types.specs.declared.record_type.RecordType.{RecordType as RecordTypeValue};
-ghost use Rattle.dns_fields.specs.Bitmaps.{IsTypeSet, contains};
-ghost use Rattle.dns_fields.specs.Fields.{Bitmap};
+ghost use Rattle.dns_types.specs.{RecordTypes.number_of, RecordTypes.record_type_of, declared.record_type.RecordType.RecordType as RecordTypeValue};
+ghost use Rattle.dns_fields.specs.{Bitmaps.IsTypeSet, Bitmaps.contains, Fields.Bitmap};
 ghost use Rattle.dns_names_wire.specs.Words.{ReadsTo, EmitsField};
 ghost use Rattle.dns_rdata_sets.specs.RecordTypeSet.{IsSetOf, set_shape, set_fields, IsBitmapRefusal};
 
@@ -214,8 +210,7 @@ pub struct RecordTypes<'a> {
 
 impl<'a> Model for RecordTypes<'a> {
     ghost use Rattle.std.specs.Prelude.{List, map};
-    ghost use Rattle.dns_types.specs.RecordTypes.{record_type_of};
-    ghost use Rattle.dns_types.specs.declared.record_type.RecordType.{RecordType};
+    ghost use Rattle.dns_types.specs.{RecordTypes.record_type_of, declared.record_type.RecordType.RecordType};
 
     ghost Value = { List RecordType };
 

@@ -1,11 +1,9 @@
 //! The canonical octets of records, step by step.
 
 ghost use Rattle.std.specs.Prelude.{◌≡◌, ◌<◌, ◌≤◌, ◌+◌, ℕ, [], ◌∷◌, length, take, drop};
-ghost use Rattle.dns_fields.specs.Bitmaps.{IsTypeSet, minimal};
-ghost use Rattle.dns_fields.specs.Fields.{all_emittable};
+ghost use Rattle.dns_fields.specs.{Bitmaps.IsTypeSet, Bitmaps.minimal, Fields.all_emittable};
 ghost use Rattle.dns_pieces.specs.Steps.{AllShort, CountsPasses, GivesStep, by_fields};
-ghost use Rattle.dns_rdata_sets.specs.CAA.{caa_shape, caa_fields};
-ghost use Rattle.dns_rdata_sets.specs.Steps.{caa_begins, csync_left, csync_windows};
+ghost use Rattle.dns_rdata_sets.specs.{CAA.caa_shape, CAA.caa_fields, Steps.caa_begins, Steps.csync_left, Steps.csync_windows};
 
 use crate::record_type_set::{Window, first_window};
 use crate::{CAA, CSYNC};

@@ -5,8 +5,7 @@ ghost use Rattle.std.specs.Iterator.{IsFinite};
 ghost use Rattle.dns_types.specs.RecordTypes.{IsTypeText};
 ghost use Rattle.dns_types.specs.declared.error.ParseError.TheVariants as parse;
 ghost use Rattle.dns_words.specs.Reads.{ReadsText, ReadsWord, ReadsRow, GoesOn};
-ghost use Rattle.dns_rdata_sets.specs.CAA.{caa_fields, IsReadCaa};
-ghost use Rattle.dns_rdata_sets.specs.CSYNC.{csync_fields, IsReadCsync};
+ghost use Rattle.dns_rdata_sets.specs.{CAA.caa_fields, CAA.IsReadCaa, CSYNC.csync_fields, CSYNC.IsReadCsync};
 ghost use Rattle.dns_rdata_sets.specs.WordRows.{caa_words, known_flags, type_words, csync_words};
 
 use crate::caa::CAA;

@@ -1,17 +1,13 @@
 -- A value that was read is that of its octets alone, names whole.
 use Rattle.std.proofs.Common.{◌≡◌, ℕ, List, [], ◌∷◌, ◌++◌, map, length, inl, refl, sym, ◌∙◌, ap, subst, append_assoc, length-append, arith}
-use Rattle.std.specs.Int.{bytes_high_first}
-use Rattle.std.specs.List.{flat_map}
+use Rattle.std.specs.{Int.bytes_high_first, List.flat_map}
 use Rattle.std.proofs.lemmas.List.{append-nil, drop_at}
-use Rattle.dns_fields.specs.Fields.{Kind, Value, Values, Number, Octets, Name, Text, Texts, Rest, Options, Parameters, Bitmap, Field, Stands, Fits, Lawful, IsFull, field_octets, option_pieces, parameter_pieces, canonical}
-use Rattle.dns_fields.specs.Labels.{wire}
-use Rattle.dns_fields.specs.Names.LabelsStand.{whole}
+use Rattle.dns_fields.specs.{Labels.wire, Names.LabelsStand.whole}
+use Rattle.dns_fields.specs.Fields.{Kind, Value, Values, Number, Octets, Name, Text, Texts, Rest, Options, Parameters, Bitmap, Field, Stands, Fits}
+use Rattle.dns_fields.specs.Fields.{Lawful, IsFull, field_octets, option_pieces, parameter_pieces, canonical}
 use Rattle.dns_fields.specs.Pieces.{string, piece, pieces, OptionHeld, OptionFits, option_octets, ParameterHeld, ParameterFits, parameter_octets}
-use Rattle.dns_fields.proofs.Bitmaps.{minimal_stands}
-use Rattle.dns_fields.proofs.FieldLaws.{field_append, field_fits, field_lawful, field_full}
-use Rattle.dns_fields.proofs.Pieces.{lawful_held, fit_pieces}
-use Rattle.dns_fields.proofs.Places.{At-appended}
-use Rattle.dns_fields.proofs.Sorted.{octets_cmp, flat_map_all, length_sorted}
+use Rattle.dns_fields.proofs.{Bitmaps.minimal_stands, FieldLaws.field_append, FieldLaws.field_fits, FieldLaws.field_lawful, FieldLaws.field_full}
+use Rattle.dns_fields.proofs.{Pieces.lawful_held, Pieces.fit_pieces, Places.At-appended, Sorted.octets_cmp, Sorted.flat_map_all, Sorted.length_sorted}
 use Rattle.dns_rdata.specs.WholeOctets.{whole_octets, all_whole}
 use Rattle.dns_rdata_zone.proofs.Digits.{length_low}
 

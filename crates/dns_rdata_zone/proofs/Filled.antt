@@ -1,39 +1,34 @@
 -- What was read from a message is told by its text.
-use Rattle.std.proofs.Common.{◌≡◌, Bool, true, cond, ℕ, zero, suc, ◌+◌, ◌*◌, ◌/◌, ◌%◌, ◌<◌, ◌^◌, List, [], ◌∷◌, ◌++◌, map, length, inl, inr, ◌⊎◌, refl, sym, ◌∙◌, ap, subst, arith}
+use Rattle.std.proofs.Common.{◌≡◌, Bool, true, cond, ℕ, zero, suc, ◌+◌, ◌*◌, ◌/◌, ◌%◌, ◌<◌, ◌^◌, List, [], ◌∷◌, ◌++◌, map, length, inl, inr, ◌⊎◌}
+use Rattle.std.proofs.Common.{refl, sym, ◌∙◌, ap, subst, arith}
 use Rattle.std.specs.Prelude.{flat_map, slice_index}
-use Rattle.std.specs.List.{AllByRecursion}
-use Rattle.std.specs.Net.Addr.{IsIpv4Addr, IsIpv6Addr, ipv6_segments, octets_of}
-use Rattle.dns_fields.specs.Fields.{Kind, Value, Values, Name, Options, Field, Stands, WholeOptions, CutOptions, option_pieces, all_emittable, canonical}
-use Rattle.dns_fields.specs.Labels.{DomainName, AreLabels, wire}
-use Rattle.dns_fields.specs.Octets.{AreOctets, At}
-use Rattle.dns_fields.specs.Pieces.{Numbered, piece, pieces, string, as_piece, AllHeld, IsPiece, OptionValue, Subnet, Plain, option_octets, OptionHeld, ParameterHeld, IsEmittable, IsBody}
-use Rattle.dns_fields.proofs.OctetLaws.{AreOctets-nil, AreOctets-cons, AreOctets-head, AreOctets-tail, AreOctets-same, AreOctets-append, AreOctets-front, AreOctets-back, AreOctets-at, labels_octets, piece_octets, piece_body, field_octets_are}
+use Rattle.std.specs.{List.AllByRecursion, Net.Addr.IsIpv4Addr, Net.Addr.IsIpv6Addr, Net.Addr.ipv6_segments, Net.Addr.octets_of}
+use Rattle.dns_fields.specs.{Labels.DomainName, Labels.AreLabels, Labels.wire, Octets.AreOctets, Octets.At}
+use Rattle.dns_fields.specs.Fields.{Kind, Value, Values, Name, Options, Field, Stands, WholeOptions, CutOptions, option_pieces, all_emittable}
+use Rattle.dns_fields.specs.Fields.{canonical}
+use Rattle.dns_fields.specs.Pieces.{Numbered, piece, pieces, string, as_piece, AllHeld, IsPiece, OptionValue, Subnet, Plain, option_octets}
+use Rattle.dns_fields.specs.Pieces.{OptionHeld, ParameterHeld, IsEmittable, IsBody}
+use Rattle.dns_fields.proofs.OctetLaws.{AreOctets-nil, AreOctets-cons, AreOctets-head, AreOctets-tail, AreOctets-same, AreOctets-append}
+use Rattle.dns_fields.proofs.OctetLaws.{AreOctets-front, AreOctets-back, AreOctets-at, labels_octets, piece_octets, piece_body, field_octets_are}
 use Rattle.dns_fields.proofs.Stays.{labels_stand}
 use Rattle.dns_types.specs.declared.record_type.RecordType.{RecordType}
+use Rattle.dns_rdata.specs.{declared.record_data.RData.RData, WholeOctets.whole_octets, WholeOctets.all_whole}
 use Rattle.dns_rdata.specs.Data.{FieldsOf, fields_of, shape, data_octets, Fills, IsValue}
 use Rattle.dns_rdata.proofs.DataLaws.{fills_emittable}
-use Rattle.dns_rdata.specs.declared.record_data.RData.{RData}
 use Rattle.dns_rdata.specs.declared.record_data.RData.TheVariants as rdata
-use Rattle.dns_rdata_base.specs.declared.a.A.{A}
-use Rattle.dns_rdata_base.specs.declared.aaaa.AAAA.{AAAA}
-use Rattle.dns_rdata_certs.specs.TLSA.{tlsa_shape, tlsa_fields}
-use Rattle.dns_rdata_certs.specs.declared.tlsa.TLSA.{TLSA}
-use Rattle.dns_rdata_service.specs.Parameters.{Parameter, parameter_of}
-use Rattle.dns_rdata_service.specs.SVCB.{svcb_shape, svcb_fields}
-use Rattle.dns_rdata_service.specs.SvcParamKey.{key_number}
+use Rattle.dns_rdata_base.specs.{declared.a.A.A, declared.aaaa.AAAA.AAAA}
+use Rattle.dns_rdata_certs.specs.{TLSA.tlsa_shape, TLSA.tlsa_fields, declared.tlsa.TLSA.TLSA}
+use Rattle.dns_rdata_service.specs.{Parameters.Parameter, Parameters.parameter_of, SVCB.svcb_shape, SVCB.svcb_fields, SvcParamKey.key_number}
+use Rattle.dns_rdata_service.specs.{declared.svcb.SVCB.SVCB, declared.svcb.value.SvcParamValue.SvcParamValue}
 use Rattle.dns_rdata_service.specs.SvcParamValue.{value_of, a_octets, aaaa_octets}
-use Rattle.dns_rdata_service.specs.declared.svcb.SVCB.{SVCB}
-use Rattle.dns_rdata_service.specs.declared.svcb.value.SvcParamValue.{SvcParamValue}
-use Rattle.dns_rdata_service.specs.declared.svcb.value.SvcParamValue.TheVariants.{Mandatory, Alpn, NoDefaultAlpn, Port, Ipv4Hint, EchConfigList, Ipv6Hint, DohPath, Unknown}
-use Rattle.dns_rdata_zone.specs.Readable.{IsString, IsWritable, IsWritableTlsa, IsWritableValue, IsWritableParameter, IsWritableService, FieldsFit, IsReadable}
-use Rattle.dns_rdata.specs.WholeOctets.{whole_octets, all_whole}
-use Rattle.dns_rdata_zone.specs.ZoneGives.{AreDataOf, TextGives}
-use Rattle.dns_rdata_zone.specs.ZoneReads.{FillsGive, FillsTell}
+use Rattle.dns_rdata_service.specs.declared.svcb.value.SvcParamValue.TheVariants.{Mandatory, Alpn, NoDefaultAlpn, Port, Ipv4Hint, EchConfigList}
+use Rattle.dns_rdata_service.specs.declared.svcb.value.SvcParamValue.TheVariants.{Ipv6Hint, DohPath, Unknown}
+use Rattle.dns_rdata_zone.specs.{ZoneGives.AreDataOf, ZoneGives.TextGives, ZoneReads.FillsGive, ZoneReads.FillsTell}
+use Rattle.dns_rdata_zone.specs.Readable.{IsString, IsWritable, IsWritableTlsa, IsWritableValue, IsWritableParameter, IsWritableService, FieldsFit}
+use Rattle.dns_rdata_zone.specs.Readable.{IsReadable}
 use Rattle.dns_rdata_zone.specs.ZoneTexts.{zone_text, zone_octets}
-use Rattle.dns_rdata_zone.proofs.RowForms.{bytes_of}
-use Rattle.dns_rdata_zone.proofs.Again.{own_fields, same_length}
+use Rattle.dns_rdata_zone.proofs.{RowForms.bytes_of, Again.own_fields, Again.same_length, TextsGive.texts_give, TextsGive.texts_tell}
 use Rattle.dns_rdata_zone.proofs.FilledLengths.{all_short, few_fields, body_short}
-use Rattle.dns_rdata_zone.proofs.TextsGive.{texts_give, texts_tell}
 
 -- ---- the octets of fields, names whole
 

@@ -1,18 +1,15 @@
 -- What was read from a message has few octets.
 use Rattle.std.proofs.Common.{◌≡◌, ℕ, suc, ◌+◌, ◌*◌, ◌≤◌, List, [], ◌∷◌, ◌++◌, map, length, inl, inr, ◌⊎◌, refl, ap, arith, length-append}
-use Rattle.std.specs.List.{flat_map, AllByRecursion, range_with_len}
-use Rattle.std.specs.Int.{bytes_high_first}
+use Rattle.std.specs.{List.flat_map, List.AllByRecursion, List.range_with_len, Int.bytes_high_first}
 use Rattle.dns_fields.specs.Bitmaps.{Block, block, IsBlock, minimal, window, windows, with_block}
-use Rattle.dns_fields.specs.Fields.{Kind, Value, Values, Number, Octets, Name, Text, Texts, Rest, Options, Parameters, Bitmap, field_octets, Field, Stands, WholeOptions, CutOptions, option_pieces}
+use Rattle.dns_fields.specs.Fields.{Kind, Value, Values, Number, Octets, Name, Text, Texts, Rest, Options, Parameters, Bitmap, field_octets, Field}
+use Rattle.dns_fields.specs.Fields.{Stands, WholeOptions, CutOptions, option_pieces}
 use Rattle.dns_fields.specs.Labels.{wire}
-use Rattle.dns_fields.specs.Pieces.{Numbered, piece, pieces, as_piece, AllHeld, OptionValue, Subnet, Plain, option_octets, OptionHeld}
-use Rattle.dns_fields.specs.Pieces.{ParameterValue, Mandatory, Alpn, NoDefaultAlpn, Port, Ipv4Hint, Ipv6Hint, Opaque, parameter_octets, ParameterHeld, IsBody}
-use Rattle.dns_fields.proofs.Bitmaps.{minimal_fit}
-use Rattle.dns_fields.proofs.FieldLaws.{field_inside}
-use Rattle.dns_rdata.specs.Data.{fields_of}
-use Rattle.dns_rdata.specs.declared.record_data.RData.{RData}
+use Rattle.dns_fields.specs.Pieces.{Numbered, piece, pieces, as_piece, AllHeld, OptionValue, Subnet, Plain, option_octets, OptionHeld, ParameterValue}
+use Rattle.dns_fields.specs.Pieces.{Mandatory, Alpn, NoDefaultAlpn, Port, Ipv4Hint, Ipv6Hint, Opaque, parameter_octets, ParameterHeld, IsBody}
+use Rattle.dns_fields.proofs.{Bitmaps.minimal_fit, FieldLaws.field_inside}
+use Rattle.dns_rdata.specs.{Data.fields_of, declared.record_data.RData.RData, WholeOctets.whole_octets, WholeOctets.all_whole}
 use Rattle.dns_rdata.specs.declared.record_data.RData.TheVariants as rdata
-use Rattle.dns_rdata.specs.WholeOctets.{whole_octets, all_whole}
 
 -- ---- pieces: a value has no more octets than those that hold it
 

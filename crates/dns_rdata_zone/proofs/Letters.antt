@@ -1,12 +1,11 @@
 -- The letters of what was written: strings in quotes, labels and words.
-use Rattle.std.proofs.Common.{◌≡◌, ℕ, ◌+◌, ◌-◌, ◌*◌, ◌/◌, ◌%◌, ◌<◌, Bool, true, false, cond, eqb, ◌||◌, ◌&&◌, nat_le, List, [], ◌∷◌, ◌++◌, map, refl, ◌∙◌, ap, append_assoc, arith}
+use Rattle.std.proofs.Common.{◌≡◌, ℕ, ◌+◌, ◌-◌, ◌*◌, ◌/◌, ◌%◌, ◌<◌, Bool, true, false, cond, eqb, ◌||◌, ◌&&◌, nat_le, List, [], ◌∷◌, ◌++◌, map, refl}
+use Rattle.std.proofs.Common.{◌∙◌, ap, append_assoc, arith}
 use Rattle.std.specs.Prelude.{flat_map}
-use Rattle.std.proofs.lemmas.Bool.Decides.{nat_tests}
-use Rattle.std.proofs.lemmas.List.Elements.{All-head, All-tail}
+use Rattle.std.proofs.{lemmas.Bool.Decides.nat_tests, lemmas.List.Elements.All-head, lemmas.List.Elements.All-tail}
 use Rattle.dns_fields.specs.Octets.{AreOctets}
 use Rattle.dns_zone_words.specs.Letters.{Letter, plain, kept, is_digit, letters, octet_of, stands_for}
-use Rattle.dns_rdata_zone.specs.Names.{zone_label}
-use Rattle.dns_rdata_zone.specs.Spellings.{escaped, three_digits, needs_backslash, name_octet}
+use Rattle.dns_rdata_zone.specs.{Names.zone_label, Spellings.escaped, Spellings.three_digits, Spellings.needs_backslash, Spellings.name_octet}
 
 -- ---- letters
 

@@ -3,8 +3,7 @@ use Rattle.std.proofs.Common.{◌≡◌, ℕ, ◌%◌, ◌<◌, ◌≤◌, List,
 use Rattle.std.specs.Prelude.{flat_map}
 use Rattle.std.specs.Int.{bytes_high_first}
 use Rattle.hex.specs.Hex.{encode_lower}
-use Rattle.dns_fields.specs.Fields.{Number, field_octets, option_pieces}
-use Rattle.dns_fields.specs.Pieces.{piece, pieces}
+use Rattle.dns_fields.specs.{Fields.Number, Fields.field_octets, Fields.option_pieces, Pieces.piece, Pieces.pieces}
 use Rattle.dns_rdata_options.specs.OPT.{Pair, pair_value}
 use Rattle.dns_rdata_zone.specs.Options.{pair_octets, option_digits, options_octets, zone_options}
 use Rattle.dns_rdata_zone.proofs.Digits.{hex_append, hex_none, generic_is}

@@ -1,23 +1,18 @@
 -- Parameters that were written are read as they were.
-use Rattle.std.proofs.Common.{◌≡◌, ◌≢◌, ℕ, suc, get_or, ◌+◌, ◌^◌, ◌<◌, ◌≤◌, Bool, true, false, cond, eqb, List, [], ◌∷◌, ◌++◌, length, take, drop, decimal, codes, refl, sym, ◌∙◌, ap, subst, append_assoc, arith}
+use Rattle.std.proofs.Common.{◌≡◌, ◌≢◌, ℕ, suc, get_or, ◌+◌, ◌^◌, ◌<◌, ◌≤◌, Bool, true, false, cond, eqb, List, [], ◌∷◌, ◌++◌, length, take, drop}
+use Rattle.std.proofs.Common.{decimal, codes, refl, sym, ◌∙◌, ap, subst, append_assoc, arith, length-append}
 use Rattle.std.specs.Prelude.{not}
 use Rattle.std.specs.List.{AllByRecursion, list_all, position_or_len}
-use Rattle.std.proofs.lemmas.Bool.Decides.{nat_tests}
-use Rattle.std.proofs.lemmas.Fmt.{decimal_is_IsNumeral}
-use Rattle.std.proofs.lemmas.Str.Parse.{digit_at}
-use Rattle.dns_rdata_zone.proofs.Letters.{first_true, second_true}
+use Rattle.std.proofs.{lemmas.Bool.Decides.nat_tests, lemmas.Fmt.decimal_is_IsNumeral, lemmas.Str.Parse.digit_at}
 use Rattle.std.proofs.lemmas.List.{take_at, take_all, drop_at, drop_all}
-use Rattle.std.proofs.Common.{length-append}
-use Rattle.dns_zone_words.specs.Words.{Word}
-use Rattle.dns_zone_parameters.specs.Keys.{key_number, IsNumberedName, IsKeyName}
-use Rattle.dns_zone_parameters.specs.Parameters.{Parameter, is_equals, name_in, value_in, IsParameter}
-use Rattle.dns_zone_parameters.specs.Values.{IsValue}
-use Rattle.dns_rdata_zone.specs.Parameters.{key_name}
-use Rattle.dns_rdata_zone.specs.ZoneGives.{AreUnmarked}
-use Rattle.dns_zone_parameters.specs.declared.key.ParameterKey.{ParameterKey}
-use Rattle.dns_zone_parameters.specs.declared.key.ParameterKey.TheVariants as keys
+use Rattle.dns_rdata_zone.proofs.Letters.{first_true, second_true}
 use Rattle.dns_rdata_zone.proofs.Cuts.{AreCut, bare_word, quoted_word, AreRunOctets, run_both, begins_plain, plain_cut, InQuotes, joined_cut}
 use Rattle.dns_rdata_zone.proofs.RowForms.{bare_unmarked, run_first, run_tested, decimal_run}
+use Rattle.dns_zone_words.specs.Words.{Word}
+use Rattle.dns_zone_parameters.specs.{Keys.key_number, Keys.IsNumberedName, Keys.IsKeyName, Values.IsValue, declared.key.ParameterKey.ParameterKey}
+use Rattle.dns_zone_parameters.specs.Parameters.{Parameter, is_equals, name_in, value_in, IsParameter}
+use Rattle.dns_rdata_zone.specs.{Parameters.key_name, ZoneGives.AreUnmarked}
+use Rattle.dns_zone_parameters.specs.declared.key.ParameterKey.TheVariants as keys
 
 -- ---- names and values in words
 

@@ -1,46 +1,30 @@
 -- Values of parameters that were written are read as they were.
-use Rattle.std.proofs.Common.{rules, ◌≡◌, ◌≢◌, ℕ, zero, suc, ◌+◌, ◌^◌, ◌<◌, ◌≤◌, Bool, true, false, cond, eqb, ◌||◌, ◌&&◌, nat_lt, List, [], ◌∷◌, ◌++◌, map, length, take, drop, get_or, All, inl, inr, decimal, codes, Ok, refl, sym, ◌∙◌, ap, subst, append_assoc, arith}
+use Rattle.std.proofs.Common.{rules, ◌≡◌, ◌≢◌, ℕ, zero, suc, ◌+◌, ◌^◌, ◌<◌, ◌≤◌, Bool, true, false, cond, eqb, ◌||◌, ◌&&◌, nat_lt, List, [], ◌∷◌}
+use Rattle.std.proofs.Common.{◌++◌, map, length, take, drop, get_or, All, inl, inr, decimal, codes, Ok, refl, sym, ◌∙◌, ap, subst, append_assoc}
+use Rattle.std.proofs.Common.{arith}
 use Rattle.std.specs.Prelude.{flat_map, slice_index, not, bytes_eq}
-use Rattle.std.specs.Int.{bytes_high_first}
-use Rattle.std.specs.List.{AllByRecursion, AllZip, list_all}
-use Rattle.std.specs.List.Sorted.{IsStrictlyIncreasing}
+use Rattle.std.specs.{Int.bytes_high_first, List.AllByRecursion, List.AllZip, List.list_all, List.Sorted.IsStrictlyIncreasing}
 use Rattle.std.specs.Net.Addr.{IsIpv4Addr, IsIpv6Addr, ipv4_octets, ipv6_segments, octets_of}
 use Rattle.std.specs.Net.Text.{ipv4_text, ipv6_text, hex_groups_text}
+use Rattle.std.proofs.{NetLemmas.Texts.AllSegments, NetLemmas.Texts.AllSegments-drop, lemmas.Str.Parse.digit_at, lemmas.Bool.Decides.nat_tests}
+use Rattle.std.proofs.{lemmas.Fmt.decimal_is_IsNumeral, lemmas.Grind.flat_map-append, lemmas.List.append-nil, lemmas.List.Sorted.IsPermutation-refl}
 use Rattle.std.proofs.NetLemmas.Alphabet.{IsDigitOrDot, IsHexOrColon, All-ipv4_text, All-hex_groups_text}
-use Rattle.std.proofs.NetLemmas.Texts.{AllSegments, AllSegments-drop}
-use Rattle.std.proofs.lemmas.Str.Parse.{digit_at}
-use Rattle.std.proofs.lemmas.Bool.Decides.{nat_tests}
-use Rattle.std.proofs.lemmas.Fmt.{decimal_is_IsNumeral}
-use Rattle.std.proofs.lemmas.Grind.{flat_map-append}
-use Rattle.std.proofs.lemmas.List.{append-nil}
 use Rattle.std.proofs.lemmas.List.Elements.{All-append, All-cons, All-head, All-nil, All-tail}
-use Rattle.std.proofs.lemmas.List.Sorted.{IsPermutation-refl}
-use Rattle.base64.specs.Engines.{standard}
-use Rattle.base64.specs.GeneralPurpose.{encode_of, decode_of}
+use Rattle.base64.specs.{Engines.standard, GeneralPurpose.encode_of, GeneralPurpose.decode_of}
 use Rattle.base64.proofs.EngineFacts.{decode_of-encode_of}
-use Rattle.dns_fields.specs.Octets.{AreOctets}
-use Rattle.dns_fields.specs.Pieces.{string}
-use Rattle.dns_rdata_base.specs.A.{a_text}
-use Rattle.dns_rdata_base.specs.AAAA.{aaaa_text}
-use Rattle.dns_rdata_base.specs.declared.a.A.{A}
-use Rattle.dns_rdata_base.specs.declared.aaaa.AAAA.{AAAA}
-use Rattle.dns_rdata_service.specs.SvcParamKey.{key_number}
+use Rattle.dns_fields.specs.{Octets.AreOctets, Pieces.string}
+use Rattle.dns_rdata_base.specs.{A.a_text, AAAA.aaaa_text, declared.a.A.A, declared.aaaa.AAAA.AAAA}
+use Rattle.dns_rdata_service.specs.{SvcParamKey.key_number, declared.svcb.key.SvcParamKey.SvcParamKey}
 use Rattle.dns_rdata_service.specs.SvcParamValue.{a_octets, aaaa_octets}
-use Rattle.dns_rdata_service.specs.declared.svcb.key.SvcParamKey.{SvcParamKey}
 use Rattle.dns_words.proofs.Printed.{ipv4_back, ipv6_back}
 use Rattle.dns_zone_words.specs.Letters.{Letter, plain, letters, octet_of, escapes_stand}
+use Rattle.dns_zone_parameters.specs.{Values.HasOctets, Values.IsPort, Values.forbids_escapes, Values.IsValue, declared.key.ParameterKey.ParameterKey}
 use Rattle.dns_zone_parameters.specs.Lists.{items_from, items_in, unescaped_from, escapes_end_from, IsItem, IsList, IsListedKey, IsKeyList}
-use Rattle.dns_zone_parameters.specs.Values.{HasOctets, IsPort, forbids_escapes, IsValue}
-use Rattle.dns_zone_parameters.specs.declared.key.ParameterKey.{ParameterKey}
 use Rattle.dns_zone_parameters.specs.declared.lists.ListItem.TheVariants as items
-use Rattle.dns_rdata_zone.specs.Lists.{commas}
+use Rattle.dns_rdata_zone.specs.{Lists.commas, Spellings.escaped, Spellings.item_octet, Spellings.protocol_octet}
 use Rattle.dns_rdata_zone.specs.Parameters.{key_name, named_key, protocol, rises_from}
-use Rattle.dns_rdata_zone.specs.Spellings.{escaped, item_octet, protocol_octet}
-use Rattle.dns_rdata_zone.proofs.Cuts.{is_run_octet, AreRunOctets, run_both}
-use Rattle.dns_rdata_zone.proofs.Letters.{first_true, second_true}
-use Rattle.dns_rdata_zone.proofs.ParameterForms.{key_of, key_is, by_key}
-use Rattle.dns_rdata_zone.proofs.RowForms.{bytes_of, bounded}
-use Rattle.dns_rdata_zone.proofs.WordForms.{text_form}
+use Rattle.dns_rdata_zone.proofs.{Cuts.is_run_octet, Cuts.AreRunOctets, Cuts.run_both, Letters.first_true, Letters.second_true, ParameterForms.key_of}
+use Rattle.dns_rdata_zone.proofs.{ParameterForms.key_is, ParameterForms.by_key, RowForms.bytes_of, RowForms.bounded, WordForms.text_form}
 
 -- ---- texts of values
 

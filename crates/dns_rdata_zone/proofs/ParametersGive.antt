@@ -1,40 +1,29 @@
 -- The parameters of a service that was written give their octets.
-use Rattle.std.proofs.Common.{◌≡◌, ◌≢◌, ℕ, ◌^◌, ◌<◌, ◌≤◌, true, false, cond, eqb, nat_lt, List, [], ◌∷◌, ◌++◌, map, length, decimal, codes, refl, sym, ◌∙◌, ap, subst, arith}
+use Rattle.std.proofs.Common.{◌≡◌, ◌≢◌, ℕ, ◌^◌, ◌<◌, ◌≤◌, true, false, cond, eqb, nat_lt, List, [], ◌∷◌, ◌++◌, map, length, decimal, codes, refl, sym}
+use Rattle.std.proofs.Common.{◌∙◌, ap, subst, arith}
 use Rattle.std.specs.Prelude.{flat_map}
-use Rattle.std.specs.Int.{bytes_high_first}
-use Rattle.std.specs.List.{AllByRecursion, list_all}
-use Rattle.std.proofs.lemmas.Bool.Decides.{nat_tests}
-use Rattle.std.proofs.lemmas.List.{append-nil}
-use Rattle.std.proofs.lemmas.List.Sorted.{IsPermutation-refl}
-use Rattle.base64.specs.Engines.{standard}
-use Rattle.base64.specs.GeneralPurpose.{encode_of}
-use Rattle.dns_zone_parameters.specs.Keys.{key_number as spelled_number}
-use Rattle.dns_fields.specs.Fields.{parameter_pieces}
-use Rattle.dns_fields.specs.Octets.{AreOctets}
-use Rattle.dns_fields.specs.Pieces.{Numbered, ParameterValue, string, pieces, as_piece, is_some, parameter_octets, Below, Rising}
-use Rattle.dns_rdata_base.specs.A.{a_text}
-use Rattle.dns_rdata_base.specs.AAAA.{aaaa_text}
-use Rattle.dns_rdata_service.specs.Parameters.{Parameter, parameter_of}
-use Rattle.dns_rdata_service.specs.SvcParamKey.{key_number}
-use Rattle.dns_rdata_service.specs.SvcParamValue.{value_of}
-use Rattle.dns_rdata_service.specs.declared.svcb.value.SvcParamValue.{SvcParamValue}
-use Rattle.dns_rdata_service.specs.declared.svcb.value.SvcParamValue.TheVariants.{Mandatory, Alpn, NoDefaultAlpn, Port, Ipv4Hint, EchConfigList, Ipv6Hint, DohPath, Unknown}
-use Rattle.dns_zone_words.specs.Words.{Word}
+use Rattle.std.specs.{Int.bytes_high_first, List.AllByRecursion, List.list_all}
+use Rattle.std.proofs.{lemmas.Bool.Decides.nat_tests, lemmas.List.append-nil, lemmas.List.Sorted.IsPermutation-refl}
+use Rattle.base64.specs.{Engines.standard, GeneralPurpose.encode_of}
+use Rattle.dns_zone_parameters.specs.{Keys.key_number as spelled_number, Values.HasOctets, Values.IsValue, declared.key.ParameterKey.ParameterKey}
 use Rattle.dns_zone_parameters.specs.Parameters.{Parameter as Spelled, IsParameter, AreWritten, AreParameters}
-use Rattle.dns_zone_parameters.specs.Values.{HasOctets, IsValue}
-use Rattle.dns_zone_parameters.specs.declared.key.ParameterKey.{ParameterKey}
+use Rattle.dns_fields.specs.{Fields.parameter_pieces, Octets.AreOctets}
+use Rattle.dns_fields.specs.Pieces.{Numbered, ParameterValue, string, pieces, as_piece, is_some, parameter_octets, Below, Rising}
+use Rattle.dns_rdata_base.specs.{A.a_text, AAAA.aaaa_text}
+use Rattle.dns_rdata_service.specs.{Parameters.Parameter, Parameters.parameter_of, SvcParamKey.key_number, SvcParamValue.value_of}
+use Rattle.dns_rdata_service.specs.declared.svcb.value.SvcParamValue.{SvcParamValue}
+use Rattle.dns_rdata_service.specs.declared.svcb.value.SvcParamValue.TheVariants.{Mandatory, Alpn, NoDefaultAlpn, Port, Ipv4Hint, EchConfigList}
+use Rattle.dns_rdata_service.specs.declared.svcb.value.SvcParamValue.TheVariants.{Ipv6Hint, DohPath, Unknown}
+use Rattle.dns_zone_words.specs.Words.{Word}
 use Rattle.dns_zone_parameters.specs.declared.key.ParameterKey.TheVariants as keys
-use Rattle.dns_rdata_zone.specs.Lists.{commas}
+use Rattle.dns_rdata_zone.specs.{Lists.commas, Spellings.escaped, Strings.quoted, ZoneGives.AreUnmarked}
 use Rattle.dns_rdata_zone.specs.Parameters.{key_name, named_key, zone_value, zone_parameter, rises_from, value_has_text, has_text}
 use Rattle.dns_rdata_zone.specs.Readable.{IsString, IsWritableValue, IsWritableParameter}
-use Rattle.dns_rdata_zone.specs.Spellings.{escaped}
-use Rattle.dns_rdata_zone.specs.Strings.{quoted}
-use Rattle.dns_rdata_zone.specs.ZoneGives.{AreUnmarked}
+use Rattle.dns_rdata_zone.proofs.{Letters.first_true, Letters.second_true, RowForms.decimal_run, RowForms.base64_run}
 use Rattle.dns_rdata_zone.proofs.Cuts.{AreCut, cut_then, AreRunOctets, InQuotes, plain_quotes, spelled_quotes}
-use Rattle.dns_rdata_zone.proofs.Letters.{first_true, second_true}
 use Rattle.dns_rdata_zone.proofs.ParameterForms.{ParameterText, IsSpelled, alone_text, bare_text, enclosed_text, key_of, key_is}
-use Rattle.dns_rdata_zone.proofs.ParameterValues.{plain_value, escaped_value, item_text, AreNames, names_list, list_octets, list_spelled, rises_above, keys_run, keys_list, hints4_run, hints4_list, hints6_run, hints6_list, port_is, ech_is}
-use Rattle.dns_rdata_zone.proofs.RowForms.{decimal_run, base64_run}
+use Rattle.dns_rdata_zone.proofs.ParameterValues.{plain_value, escaped_value, item_text, AreNames, names_list, list_octets, list_spelled, rises_above}
+use Rattle.dns_rdata_zone.proofs.ParameterValues.{keys_run, keys_list, hints4_run, hints4_list, hints6_run, hints6_list, port_is, ech_is}
 
 -- the number is the one that the key's form asks for
 key_at : (m n : ℕ) (key : ParameterKey) → key_of m ≡ key → eqb n m ≡ true → key_of n ≡ key

@@ -1,16 +1,12 @@
 -- A service binding in the form of unknown data.
-use Rattle.std.proofs.Common.{◌≡◌, ℕ, ◌+◌, ◌≤◌, Bool, true, false, cond, List, [], ◌∷◌, ◌++◌, length, drop, decimal, Option, Some, None, MatchOption, refl, sym, ◌∙◌, ap, append_assoc, arith, length-append}
+use Rattle.std.proofs.Common.{◌≡◌, ℕ, ◌+◌, ◌≤◌, Bool, true, false, cond, List, [], ◌∷◌, ◌++◌, length, drop, decimal, Option, Some, None, MatchOption}
+use Rattle.std.proofs.Common.{refl, sym, ◌∙◌, ap, append_assoc, arith, length-append}
 use Rattle.std.proofs.lemmas.List.{append-nil, drop_at}
 use Rattle.hex.specs.Hex.{encode_lower}
-use Rattle.dns_fields.specs.Labels.{lowname}
-use Rattle.dns_fields.specs.Fields.{Number, Parameters, canonical, field_octets, all_emittable}
-use Rattle.dns_rdata.specs.Data.{fields_of, data_octets}
-use Rattle.dns_rdata.specs.declared.record_data.RData.{RData}
-use Rattle.dns_rdata_service.specs.SVCB.{svcb_shape, svcb_fields}
-use Rattle.dns_rdata_service.specs.declared.svcb.SVCB.{SVCB}
-use Rattle.dns_rdata_zone.specs.Generic.{generic}
-use Rattle.dns_rdata.specs.WholeOctets.{name_octets}
-use Rattle.dns_rdata_zone.specs.Services.{service_octets}
+use Rattle.dns_fields.specs.{Labels.lowname, Fields.Number, Fields.Parameters, Fields.canonical, Fields.field_octets, Fields.all_emittable}
+use Rattle.dns_rdata.specs.{Data.fields_of, Data.data_octets, declared.record_data.RData.RData, WholeOctets.name_octets}
+use Rattle.dns_rdata_service.specs.{SVCB.svcb_shape, SVCB.svcb_fields, declared.svcb.SVCB.SVCB}
+use Rattle.dns_rdata_zone.specs.{Generic.generic, Services.service_octets}
 use Rattle.dns_rdata_zone.proofs.Digits.{hex_append, hex_none, generic_is, length_low}
 
 pub next_drop : (r : Option ℕ) (old new : List ℕ) → MatchOption r ((old ≡ []) × (new ≡ [])) (λ x. old ≡ x ∷ new) → new ≡ drop 1 old

@@ -1,62 +1,38 @@
 -- Record data gives its text, and the text gives it.
-use Rattle.std.proofs.Common.{◌≡◌, ℕ, ◌≤◌, cond, true, List, [], ◌∷◌, ◌++◌, map, length, codes, Option, Some, None, inl, inr, refl, sym, ◌∙◌, ap, subst, append_assoc, arith}
+use Rattle.std.proofs.Common.{◌≡◌, ℕ, ◌≤◌, cond, true, List, [], ◌∷◌, ◌++◌, map, length, codes, Option, Some, None, inl, inr, refl, sym, ◌∙◌, ap}
+use Rattle.std.proofs.Common.{subst, append_assoc, arith}
 use Rattle.std.specs.Prelude.{flat_map, decimal}
-use Rattle.std.specs.Char.{is_ascii_alphanumeric}
-use Rattle.std.specs.Int.{cast_unsigned, w32}
-use Rattle.std.specs.List.{AllByRecursion, list_all}
+use Rattle.std.specs.{Char.is_ascii_alphanumeric, Int.cast_unsigned, Int.w32, List.AllByRecursion, List.list_all}
 use Rattle.std.proofs.lemmas.List.{append-nil}
-use Rattle.base64.specs.Engines.{standard}
-use Rattle.base64.specs.GeneralPurpose.{encode_of}
+use Rattle.base64.specs.{Engines.standard, GeneralPurpose.encode_of}
 use Rattle.hex.specs.Hex.{encode_lower}
-use Rattle.dns_fields.specs.Bitmaps.{block, minimal}
+use Rattle.dns_fields.specs.{Bitmaps.block, Bitmaps.minimal, Labels.DomainName, Labels.AreLabels, Labels.full_name, Octets.AreOctets}
 use Rattle.dns_fields.specs.Fields.{field_octets, canonical, option_pieces, parameter_pieces}
-use Rattle.dns_fields.specs.Labels.{DomainName, AreLabels, full_name}
-use Rattle.dns_fields.specs.Octets.{AreOctets}
 use Rattle.dns_fields.specs.Pieces.{is_some, string, pieces, Rising}
-use Rattle.dns_types.specs.RecordTypes.{record_type_of}
-use Rattle.dns_types.specs.declared.record_type.RecordType.{RecordType}
+use Rattle.dns_types.specs.{RecordTypes.record_type_of, declared.record_type.RecordType.RecordType}
 use Rattle.dns_types.specs.declared.record_type.RecordType.TheVariants as types
-use Rattle.dns_rdata.specs.Data.{type_of}
-use Rattle.dns_rdata.specs.declared.record_data.RData.{RData}
+use Rattle.dns_rdata.specs.{Data.type_of, declared.record_data.RData.RData, WholeOctets.name_octets}
 use Rattle.dns_rdata.specs.declared.record_data.RData.TheVariants as rdata
-use Rattle.dns_rdata_base.specs.declared.naptr.NAPTR.{NAPTR}
-use Rattle.dns_rdata_base.specs.declared.soa.SOA.{SOA}
-use Rattle.dns_rdata_certs.specs.CERT.{cert_data_text}
-use Rattle.dns_rdata_certs.specs.CertAlgorithm.{cert_algorithm_number}
-use Rattle.dns_rdata_certs.specs.CertType.{cert_type_number}
-use Rattle.dns_rdata_certs.specs.CertUsage.{cert_usage_number}
+use Rattle.dns_rdata_base.specs.{declared.naptr.NAPTR.NAPTR, declared.soa.SOA.SOA}
+use Rattle.dns_rdata_certs.specs.{CERT.cert_data_text, CertAlgorithm.cert_algorithm_number, CertType.cert_type_number, CertUsage.cert_usage_number}
+use Rattle.dns_rdata_certs.specs.{Matching.matching_number, Selector.selector_number, SshfpAlgorithm.sshfp_algorithm_number, TLSA.tlsa_shape}
+use Rattle.dns_rdata_certs.specs.{TLSA.tlsa_fields, declared.cert.CERT.CERT, declared.sshfp.SSHFP.SSHFP, declared.tlsa.TLSA.TLSA}
 use Rattle.dns_rdata_certs.specs.FingerprintType.{fingerprint_type_number}
-use Rattle.dns_rdata_certs.specs.Matching.{matching_number}
-use Rattle.dns_rdata_certs.specs.Selector.{selector_number}
-use Rattle.dns_rdata_certs.specs.SshfpAlgorithm.{sshfp_algorithm_number}
-use Rattle.dns_rdata_certs.specs.TLSA.{tlsa_shape, tlsa_fields}
-use Rattle.dns_rdata_certs.specs.declared.cert.CERT.{CERT}
-use Rattle.dns_rdata_certs.specs.declared.sshfp.SSHFP.{SSHFP}
-use Rattle.dns_rdata_certs.specs.declared.tlsa.TLSA.{TLSA}
 use Rattle.dns_rdata_options.specs.OPT.{pair_value}
-use Rattle.dns_rdata_service.specs.Parameters.{Parameter, parameter_of}
-use Rattle.dns_rdata_service.specs.declared.svcb.SVCB.{SVCB}
-use Rattle.dns_rdata_sets.specs.CAA.{caa_flags}
-use Rattle.dns_rdata_sets.specs.CSYNC.{csync_flags}
-use Rattle.dns_rdata_sets.specs.declared.caa.CAA.{CAA}
-use Rattle.dns_rdata_sets.specs.declared.csync.CSYNC.{CSYNC}
+use Rattle.dns_rdata_service.specs.{Parameters.Parameter, Parameters.parameter_of, declared.svcb.SVCB.SVCB}
+use Rattle.dns_rdata_sets.specs.{CAA.caa_flags, CSYNC.csync_flags, declared.caa.CAA.CAA, declared.csync.CSYNC.CSYNC}
 use Rattle.dns_zone_rows.specs.RowTable.{row_of}
 use Rattle.dns_zone_rows.specs.Rows.{FieldKind, Number, RestKind, Name, String, NoWord, SomeHex, SomeBase64, SomeStrings, AnyTypes, AnyParameters}
-use Rattle.dns_rdata_zone.specs.Generic.{generic}
-use Rattle.dns_rdata_zone.specs.Names.{zone_name}
-use Rattle.dns_rdata_zone.specs.Parameters.{has_text, zone_parameter}
-use Rattle.dns_rdata_zone.specs.Records.{zone_strings, zone_tlsa, zone_type, has_plain_tag}
-use Rattle.dns_rdata_zone.specs.Services.{service_octets, zone_service}
-use Rattle.dns_rdata_zone.specs.Strings.{quoted}
-use Rattle.dns_rdata.specs.WholeOctets.{name_octets}
+use Rattle.dns_rdata_zone.specs.{Generic.generic, Names.zone_name, Parameters.has_text, Parameters.zone_parameter, Records.zone_strings}
+use Rattle.dns_rdata_zone.specs.{Records.zone_tlsa, Records.zone_type, Records.has_plain_tag, Services.service_octets, Services.zone_service}
+use Rattle.dns_rdata_zone.specs.{Strings.quoted, ZoneReads.TextsGive, ZoneReads.TextsTell, ZoneTexts.zone_text, ZoneTexts.zone_octets}
 use Rattle.dns_rdata_zone.specs.Readable.{IsString, IsWritable, IsWritableParameter, IsWritableService, IsWritableTlsa, FieldsFit}
-use Rattle.dns_rdata_zone.specs.ZoneReads.{TextsGive, TextsTell}
-use Rattle.dns_rdata_zone.specs.ZoneTexts.{zone_text, zone_octets}
-use Rattle.dns_rdata_zone.proofs.Cuts.{NoneEmpty}
-use Rattle.dns_rdata_zone.proofs.Letters.{first_true, second_true}
-use Rattle.dns_rdata_zone.proofs.OptionDigits.{options_pieces}
+use Rattle.dns_rdata_zone.proofs.{Cuts.NoneEmpty, Letters.first_true, Letters.second_true, OptionDigits.options_pieces}
 use Rattle.dns_rdata_zone.proofs.ParametersGive.{some_there, parameters_text, parameters_are}
-use Rattle.dns_rdata_zone.proofs.RowForms.{FieldText, RowText, RestText, ListText, OwnText, TextIs, row_then, row_last, row_rest, row_text, row_list, short_text, cert_text, algorithm_text, ttl_text, name_text, string_text, octets_text, tag_text, ipv4_text_of, ipv6_text_of, hex_text, base64_text, strings_text, types_text, alphanumeric_run, text_gives, text_same, one_of}
+use Rattle.dns_rdata_zone.proofs.RowForms.{FieldText, RowText, RestText, ListText, OwnText, TextIs, row_then, row_last, row_rest, row_text, row_list}
+use Rattle.dns_rdata_zone.proofs.RowForms.{short_text, cert_text, algorithm_text, ttl_text, name_text, string_text, octets_text, tag_text}
+use Rattle.dns_rdata_zone.proofs.RowForms.{ipv4_text_of, ipv6_text_of, hex_text, base64_text, strings_text, types_text, alphanumeric_run, text_gives}
+use Rattle.dns_rdata_zone.proofs.RowForms.{text_same, one_of}
 
 -- ---- parts with a blank between two, however they were grouped
 

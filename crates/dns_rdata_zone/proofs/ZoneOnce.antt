@@ -6,12 +6,9 @@ use Rattle.dns_fields.specs.Labels.{DomainName}
 use Rattle.dns_rdata.specs.declared.record_data.RData.{RData}
 use Rattle.dns_rdata.proofs.DataLaws.{one_value}
 use Rattle.dns_types.specs.declared.record_type.RecordType.{RecordType}
-use Rattle.dns_zone_rows.specs.RowTable.{row_of}
-use Rattle.dns_zone_rows.specs.Rows.{Row}
+use Rattle.dns_zone_rows.specs.{RowTable.row_of, Rows.Row}
 use Rattle.dns_zone_rows.proofs.Once.{row_once}
-use Rattle.dns_zone_words.specs.Remaining.{AreUnknown}
-use Rattle.dns_zone_words.specs.Words.{Word}
-use Rattle.dns_zone_words.specs.declared.words_error.WordsError.{WordsError}
+use Rattle.dns_zone_words.specs.{Remaining.AreUnknown, Words.Word, declared.words_error.WordsError.WordsError}
 use Rattle.dns_rdata_zone.specs.ZoneGives.{AreUnknownData, AreUnmarked, GiveByRow, WordsGive, AreDataOf}
 use Rattle.dns_rdata_zone.specs.ZoneReads.{OneGiven}
 

@@ -1,32 +1,23 @@
 -- Texts of zone files that are read, step by step.
 use Rattle.std.proofs.Common.{◌≡◌, ◌≢◌, ℕ, true, List, [], ◌∷◌, length, Option, Some, Result, Ok, Err, ◌⊎◌, inl, inr, refl, sym, ◌∙◌, ap, subst}
 use Rattle.std.specs.Prelude.{IfOk, IfErr, codes}
-use Rattle.std.specs.Option.{option_map}
-use Rattle.std.specs.Result.{IsErrAnd}
-use Rattle.dns_names_wire.specs.Words.{UnlessMemory as UnlessRead}
+use Rattle.std.specs.{Option.option_map, Result.IsErrAnd}
+use Rattle.dns_names_wire.specs.{Words.UnlessMemory as UnlessRead, State.Reading}
 use Rattle.dns_fields.specs.Labels.{DomainName}
-use Rattle.dns_names_wire.specs.State.{Reading}
-use Rattle.dns_rdata.specs.Data.{shape, Fills, NoValue, data_octets}
-use Rattle.dns_rdata.specs.Refusals.{IsRefusal}
-use Rattle.dns_rdata.specs.declared.record_data.RData.{RData}
-use Rattle.dns_types.specs.Errors.{decode_refusal, proto_refusal}
-use Rattle.dns_types.specs.declared.error.DecodeError.{DecodeError}
-use Rattle.dns_types.specs.declared.error.DecodeError.TheVariants as decode
-use Rattle.dns_types.specs.declared.error.ParseError.{ParseError}
-use Rattle.dns_types.specs.declared.error.ParseError.TheVariants as parse
+use Rattle.dns_rdata.specs.{Data.shape, Data.Fills, Data.NoValue, Data.data_octets, Refusals.IsRefusal, declared.record_data.RData.RData}
+use Rattle.dns_types.specs.{Errors.decode_refusal, Errors.proto_refusal, declared.error.DecodeError.DecodeError, declared.error.ParseError.ParseError}
 use Rattle.dns_types.specs.declared.record_type.RecordType.{RecordType}
+use Rattle.dns_types.specs.declared.error.DecodeError.TheVariants as decode
+use Rattle.dns_types.specs.declared.error.ParseError.TheVariants as parse
 use Rattle.dns_words.specs.Reads.{UnlessMemory}
-use Rattle.dns_zone_rows.specs.RowFaults.{row_value, RowFault}
-use Rattle.dns_zone_rows.specs.RowTable.{row_of}
-use Rattle.dns_zone_rows.specs.Rows.{Row}
-use Rattle.dns_zone_rows.specs.declared.row.ZoneRow.{ZoneRow}
-use Rattle.dns_zone_words.specs.Refusals.{Says}
-use Rattle.dns_zone_words.specs.Remaining.{AreUnknown, TookAll}
+use Rattle.dns_zone_rows.specs.{RowFaults.row_value, RowFaults.RowFault, RowTable.row_of, Rows.Row, declared.row.ZoneRow.ZoneRow}
+use Rattle.dns_zone_words.specs.{Refusals.Says, Remaining.AreUnknown, Remaining.TookAll, declared.words_error.WordsError.WordsError}
 use Rattle.dns_zone_words.specs.Words.{Word, Cursor, words_at, with_word, zone_words}
-use Rattle.dns_zone_words.specs.declared.words_error.WordsError.{WordsError}
 use Rattle.dns_words.proofs.Steps.{unless_map}
-use Rattle.dns_rdata_zone.specs.ZoneGives.{AreUnknownData, AreUnmarked, GiveByRow, WordsGive, IsWhole, has_name, AreDataOf, GivesValue, GivesNone, at_start}
-use Rattle.dns_rdata_zone.specs.ZoneFaults.{AreMany, AreRefused, OctetsFault, IsBehindMark, HasPointer, DataFault, BehindMarkFault, MarkedFault, HasNoMark, LacksRow, WordsFault, GivenFault, ByRowFault, UnmarkedFault, ZoneFault}
+use Rattle.dns_rdata_zone.specs.ZoneGives.{AreUnknownData, AreUnmarked, GiveByRow, WordsGive, IsWhole, has_name, AreDataOf, GivesValue, GivesNone}
+use Rattle.dns_rdata_zone.specs.ZoneGives.{at_start}
+use Rattle.dns_rdata_zone.specs.ZoneFaults.{AreMany, AreRefused, OctetsFault, IsBehindMark, HasPointer, DataFault, BehindMarkFault, MarkedFault}
+use Rattle.dns_rdata_zone.specs.ZoneFaults.{HasNoMark, LacksRow, WordsFault, GivenFault, ByRowFault, UnmarkedFault, ZoneFault}
 use Rattle.dns_rdata_zone.specs.ZoneSteps.{AreNoData, UnknownIs, UnknownIsNone, RowIs, RowIsNone}
 use Rattle.dns_rdata_zone.proofs.ZoneOnce.{same_words, unknown_once, by_row_once, data_one}
 

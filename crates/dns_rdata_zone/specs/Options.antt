@@ -2,8 +2,7 @@
 use Rattle.std.specs.Prelude.{ℕ, List, flat_map, take}
 use Rattle.hex.specs.Hex.{encode_lower}
 use Rattle.dns_fields.specs.Pieces.{piece, as_piece, option_octets, Subnet}
-use Rattle.dns_rdata_options.specs.ClientSubnet.{prefix_octets}
-use Rattle.dns_rdata_options.specs.OPT.{Pair, pair_value}
+use Rattle.dns_rdata_options.specs.{ClientSubnet.prefix_octets, OPT.Pair, OPT.pair_value}
 use Rattle.dns_rdata_zone.specs.Generic.{generic}
 
 -- a subnet of a family, with the octets of the address that the source prefix asks for (RFC 7871, 6)

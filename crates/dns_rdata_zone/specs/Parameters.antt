@@ -1,19 +1,14 @@
 -- Service parameters as zone files have them (RFC 9460, 2.1, 7 and appendix A).
 use Rattle.std.specs.Prelude.{ℕ, ◌==◌, ◌&&◌, nat_lt, Bool, true, if◌then◌else◌, List, [], ◌∷◌, ◌++◌, flat_map, map, codes, decimal}
 use Rattle.std.specs.List.{list_all}
-use Rattle.base64.specs.Engines.{standard}
-use Rattle.base64.specs.GeneralPurpose.{encode_of}
+use Rattle.base64.specs.{Engines.standard, GeneralPurpose.encode_of}
 use Rattle.dns_fields.specs.Pieces.{is_some}
-use Rattle.dns_rdata_base.specs.A.{a_text}
-use Rattle.dns_rdata_base.specs.AAAA.{aaaa_text}
-use Rattle.dns_rdata_service.specs.SvcParamKey.{key_number}
-use Rattle.dns_rdata_service.specs.Parameters.{Parameter}
-use Rattle.dns_rdata_service.specs.declared.svcb.key.SvcParamKey.{SvcParamKey}
+use Rattle.dns_rdata_base.specs.{A.a_text, AAAA.aaaa_text}
+use Rattle.dns_rdata_service.specs.{SvcParamKey.key_number, Parameters.Parameter, declared.svcb.key.SvcParamKey.SvcParamKey}
 use Rattle.dns_rdata_service.specs.declared.svcb.value.SvcParamValue.{SvcParamValue}
-use Rattle.dns_rdata_service.specs.declared.svcb.value.SvcParamValue.TheVariants.{Mandatory, Alpn, NoDefaultAlpn, Port, Ipv4Hint, EchConfigList, Ipv6Hint, DohPath, Unknown}
-use Rattle.dns_rdata_zone.specs.Lists.{commas}
-use Rattle.dns_rdata_zone.specs.Spellings.{protocol_octet}
-use Rattle.dns_rdata_zone.specs.Strings.{quoted}
+use Rattle.dns_rdata_service.specs.declared.svcb.value.SvcParamValue.TheVariants.{Mandatory, Alpn, NoDefaultAlpn, Port, Ipv4Hint, EchConfigList}
+use Rattle.dns_rdata_service.specs.declared.svcb.value.SvcParamValue.TheVariants.{Ipv6Hint, DohPath, Unknown}
+use Rattle.dns_rdata_zone.specs.{Lists.commas, Spellings.protocol_octet, Strings.quoted}
 
 -- A key's name (RFC 9460, 14.3.2), and `key` and the number of one without a name (2.1). Key 7 goes by its number, since
 -- readers from before RFC 9461 do not know `dohpath`.

@@ -1,30 +1,17 @@
 -- What every value has that can be emitted. Contracts see numbers and octets as numbers of any size, so laws ask for it.
 use Rattle.std.specs.Prelude.{◌≢◌, ℕ, ◌<◌, ◌^◌, List, [], length, map}
-use Rattle.std.specs.Int.{cast_unsigned, w32}
-use Rattle.std.specs.List.{AllByRecursion}
-use Rattle.std.specs.Net.Addr.{IsIpv4Addr, IsIpv6Addr}
-use Rattle.dns_fields.specs.Labels.{DomainName, IsName}
-use Rattle.dns_fields.specs.Octets.{AreOctets}
-use Rattle.dns_fields.specs.Pieces.{parameter_octets, Rising}
+use Rattle.std.specs.{Int.cast_unsigned, Int.w32, List.AllByRecursion, Net.Addr.IsIpv4Addr, Net.Addr.IsIpv6Addr}
+use Rattle.dns_fields.specs.{Labels.DomainName, Labels.IsName, Octets.AreOctets, Pieces.parameter_octets, Pieces.Rising}
 use Rattle.dns_rdata.specs.declared.record_data.RData.{RData}
 use Rattle.dns_rdata.specs.declared.record_data.RData.TheVariants as rdata
 use Rattle.dns_rdata_base.specs.declared.soa.SOA.{SOA}
-use Rattle.dns_rdata_certs.specs.CertAlgorithm.{cert_algorithm_number}
-use Rattle.dns_rdata_certs.specs.CertType.{cert_type_number}
-use Rattle.dns_rdata_certs.specs.CertUsage.{cert_usage_number}
+use Rattle.dns_rdata_certs.specs.{CertAlgorithm.cert_algorithm_number, CertType.cert_type_number, CertUsage.cert_usage_number}
+use Rattle.dns_rdata_certs.specs.{Matching.matching_number, Selector.selector_number, SshfpAlgorithm.sshfp_algorithm_number, declared.tlsa.TLSA.TLSA}
 use Rattle.dns_rdata_certs.specs.FingerprintType.{fingerprint_type_number}
-use Rattle.dns_rdata_certs.specs.Matching.{matching_number}
-use Rattle.dns_rdata_certs.specs.Selector.{selector_number}
-use Rattle.dns_rdata_certs.specs.SshfpAlgorithm.{sshfp_algorithm_number}
-use Rattle.dns_rdata_certs.specs.declared.tlsa.TLSA.{TLSA}
-use Rattle.dns_rdata_service.specs.Parameters.{Parameter, parameter_of}
-use Rattle.dns_rdata_service.specs.SvcParamKey.{key_number}
-use Rattle.dns_rdata_service.specs.SvcParamValue.{value_of}
-use Rattle.dns_rdata_service.specs.declared.svcb.SVCB.{SVCB}
-use Rattle.dns_rdata_service.specs.declared.svcb.value.SvcParamValue.{SvcParamValue}
+use Rattle.dns_rdata_service.specs.{Parameters.Parameter, Parameters.parameter_of, SvcParamKey.key_number, SvcParamValue.value_of}
+use Rattle.dns_rdata_service.specs.{declared.svcb.SVCB.SVCB, declared.svcb.value.SvcParamValue.SvcParamValue}
 use Rattle.dns_rdata_service.specs.declared.svcb.value.SvcParamValue.TheVariants as values
-use Rattle.dns_rdata_sets.specs.CAA.{caa_flags}
-use Rattle.dns_rdata_sets.specs.CSYNC.{csync_flags}
+use Rattle.dns_rdata_sets.specs.{CAA.caa_flags, CSYNC.csync_flags}
 use Rattle.dns_rdata_zone.specs.ZoneTexts.{zone_octets}
 
 -- octets, fewer than 2 ^ 64

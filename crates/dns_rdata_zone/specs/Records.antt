@@ -1,34 +1,16 @@
 -- Records in the form that name servers read.
 use Rattle.std.specs.Prelude.{ℕ, ◌&&◌, Bool, if◌then◌else◌, List, [], ◌∷◌, ◌++◌, flat_map, codes, decimal}
-use Rattle.std.specs.List.{list_all}
-use Rattle.std.specs.Char.{is_ascii_alphanumeric}
-use Rattle.std.specs.Int.{cast_unsigned, w32}
-use Rattle.dns_fields.specs.Fields.{canonical}
-use Rattle.dns_fields.specs.Pieces.{is_some}
-use Rattle.dns_types.specs.RecordTypes.{type_text, record_type_of}
-use Rattle.dns_types.specs.declared.record_type.RecordType.{RecordType}
+use Rattle.std.specs.{List.list_all, Char.is_ascii_alphanumeric, Int.cast_unsigned, Int.w32}
+use Rattle.dns_fields.specs.{Fields.canonical, Pieces.is_some}
+use Rattle.dns_types.specs.{RecordTypes.type_text, RecordTypes.record_type_of, declared.record_type.RecordType.RecordType}
 use Rattle.dns_types.specs.declared.record_type.RecordType.TheVariants.{ZERO, ANAME}
-use Rattle.dns_rdata_base.specs.declared.hinfo.HINFO.{HINFO}
-use Rattle.dns_rdata_base.specs.declared.naptr.NAPTR.{NAPTR}
-use Rattle.dns_rdata_base.specs.declared.openpgpkey.OPENPGPKEY.{OPENPGPKEY}
-use Rattle.dns_rdata_base.specs.declared.soa.SOA.{SOA}
-use Rattle.dns_rdata_base.specs.declared.txt.TXT.{TXT}
-use Rattle.dns_rdata_certs.specs.declared.cert.CERT.{CERT}
-use Rattle.dns_rdata_certs.specs.declared.sshfp.SSHFP.{SSHFP}
-use Rattle.dns_rdata_certs.specs.declared.tlsa.TLSA.{TLSA}
-use Rattle.dns_rdata_sets.specs.declared.caa.CAA.{CAA}
-use Rattle.dns_rdata_sets.specs.declared.csync.CSYNC.{CSYNC}
-use Rattle.dns_rdata_base.specs.OPENPGPKEY.{openpgpkey_text}
-use Rattle.dns_rdata_certs.specs.CERT.{cert_shape, cert_fields, cert_data_text}
-use Rattle.dns_rdata_certs.specs.CertType.{cert_type_number}
-use Rattle.dns_rdata_certs.specs.CertAlgorithm.{cert_algorithm_number}
-use Rattle.dns_rdata_certs.specs.SSHFP.{sshfp_shape, sshfp_fields, sshfp_text}
-use Rattle.dns_rdata_certs.specs.TLSA.{tlsa_shape, tlsa_fields, tlsa_text}
-use Rattle.dns_rdata_sets.specs.CAA.{caa_shape, caa_fields, caa_flags}
-use Rattle.dns_rdata_sets.specs.CSYNC.{csync_flags}
-use Rattle.dns_rdata_zone.specs.Generic.{generic}
-use Rattle.dns_rdata_zone.specs.Strings.{quoted, spaced}
-use Rattle.dns_rdata_zone.specs.Names.{zone_name}
+use Rattle.dns_rdata_base.specs.{declared.hinfo.HINFO.HINFO, declared.naptr.NAPTR.NAPTR, declared.openpgpkey.OPENPGPKEY.OPENPGPKEY}
+use Rattle.dns_rdata_base.specs.{declared.soa.SOA.SOA, declared.txt.TXT.TXT, OPENPGPKEY.openpgpkey_text}
+use Rattle.dns_rdata_certs.specs.{declared.cert.CERT.CERT, declared.sshfp.SSHFP.SSHFP, declared.tlsa.TLSA.TLSA, CERT.cert_shape, CERT.cert_fields}
+use Rattle.dns_rdata_certs.specs.{CERT.cert_data_text, CertType.cert_type_number, CertAlgorithm.cert_algorithm_number, SSHFP.sshfp_shape}
+use Rattle.dns_rdata_certs.specs.{SSHFP.sshfp_fields, SSHFP.sshfp_text, TLSA.tlsa_shape, TLSA.tlsa_fields, TLSA.tlsa_text}
+use Rattle.dns_rdata_sets.specs.{declared.caa.CAA.CAA, declared.csync.CSYNC.CSYNC, CAA.caa_shape, CAA.caa_fields, CAA.caa_flags, CSYNC.csync_flags}
+use Rattle.dns_rdata_zone.specs.{Generic.generic, Strings.quoted, Strings.spaced, Names.zone_name}
 
 -- two strings
 abbrev pub zone_hinfo : HINFO → List ℕ

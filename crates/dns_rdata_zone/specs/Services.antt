@@ -1,11 +1,8 @@
 -- Service bindings as zone files have them (RFC 9460, 2.1).
 use Rattle.std.specs.Prelude.{ℕ, if◌then◌else◌, List, ◌++◌, flat_map, codes, decimal}
 use Rattle.std.specs.List.{list_all}
-use Rattle.dns_rdata_service.specs.SVCB.{svcb_shape, svcb_fields}
-use Rattle.dns_rdata_service.specs.declared.svcb.SVCB.{SVCB}
-use Rattle.dns_rdata_zone.specs.Generic.{generic}
-use Rattle.dns_rdata_zone.specs.Names.{zone_name}
-use Rattle.dns_rdata_zone.specs.Parameters.{zone_parameter, has_text}
+use Rattle.dns_rdata_service.specs.{SVCB.svcb_shape, SVCB.svcb_fields, declared.svcb.SVCB.SVCB}
+use Rattle.dns_rdata_zone.specs.{Generic.generic, Names.zone_name, Parameters.zone_parameter, Parameters.has_text}
 use Rattle.dns_rdata.specs.WholeOctets.{all_whole}
 
 -- priority, target, parameters

@@ -2,20 +2,13 @@
 use Rattle.std.specs.Prelude.{◌≡◌, ◌⊎◌, ℕ, ◌<◌, List, length, Option, Some, None, Ok, codes}
 use Rattle.dns_fields.specs.Labels.{DomainName}
 use Rattle.dns_names_wire.specs.State.{Reading}
-use Rattle.dns_rdata.specs.Refusals.{IsRefusal}
-use Rattle.dns_rdata.specs.declared.record_data.RData.{RData}
-use Rattle.dns_types.specs.Errors.{decode_refusal, proto_refusal}
-use Rattle.dns_types.specs.declared.error.DecodeError.{DecodeError}
-use Rattle.dns_types.specs.declared.error.ParseError.{ParseError}
-use Rattle.dns_types.specs.declared.error.ParseError.TheVariants as parse
+use Rattle.dns_rdata.specs.{Refusals.IsRefusal, declared.record_data.RData.RData}
+use Rattle.dns_types.specs.{Errors.decode_refusal, Errors.proto_refusal, declared.error.DecodeError.DecodeError, declared.error.ParseError.ParseError}
 use Rattle.dns_types.specs.declared.record_type.RecordType.{RecordType}
-use Rattle.dns_zone_rows.specs.RowFaults.{row_value, RowFault}
-use Rattle.dns_zone_rows.specs.RowTable.{row_of}
-use Rattle.dns_zone_rows.specs.declared.row.ZoneRow.{ZoneRow}
-use Rattle.dns_zone_words.specs.Refusals.{Says}
+use Rattle.dns_types.specs.declared.error.ParseError.TheVariants as parse
+use Rattle.dns_zone_rows.specs.{RowFaults.row_value, RowFaults.RowFault, RowTable.row_of, declared.row.ZoneRow.ZoneRow}
+use Rattle.dns_zone_words.specs.{Refusals.Says, Words.Word, Words.Cursor, Words.words_at, Words.with_word, Words.zone_words, ZoneReads.IsCutRefused}
 use Rattle.dns_zone_words.specs.Remaining.{AreUnknown, IsUnknownMark, TookAll, UnknownFault}
-use Rattle.dns_zone_words.specs.Words.{Word, Cursor, words_at, with_word, zone_words}
-use Rattle.dns_zone_words.specs.ZoneReads.{IsCutRefused}
 use Rattle.dns_rdata_zone.specs.ZoneGives.{AreUnmarked, GiveByRow, AreDataOf, IsWhole, at_start}
 
 -- ---- octets

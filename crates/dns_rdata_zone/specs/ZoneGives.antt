@@ -1,14 +1,10 @@
 -- Which octets, and which record data, a text of a zone file gives (RFC 1035, 5.1; RFC 3597, 5).
 use Rattle.std.specs.Prelude.{◌≡◌, ◌⊎◌, ℕ, ◌<◌, Bool, true, false, ◌||◌, List, [], ◌∷◌, length, Option, Some, None, Ok}
-use Rattle.dns_fields.specs.Fields.{Kind, Name}
-use Rattle.dns_fields.specs.Labels.{DomainName}
-use Rattle.dns_rdata.specs.Data.{shape, Fills, data_octets}
-use Rattle.dns_rdata.specs.declared.record_data.RData.{RData}
+use Rattle.dns_fields.specs.{Fields.Kind, Fields.Name, Labels.DomainName}
+use Rattle.dns_rdata.specs.{Data.shape, Data.Fills, Data.data_octets, declared.record_data.RData.RData}
 use Rattle.dns_types.specs.declared.record_type.RecordType.{RecordType}
-use Rattle.dns_zone_rows.specs.RowTable.{row_of}
-use Rattle.dns_zone_rows.specs.Rows.{Row, RowGives}
-use Rattle.dns_zone_words.specs.Remaining.{AreUnknown, IsUnknownMark}
-use Rattle.dns_zone_words.specs.Words.{Word, Cursor, zone_words}
+use Rattle.dns_zone_rows.specs.{RowTable.row_of, Rows.Row, Rows.RowGives}
+use Rattle.dns_zone_words.specs.{Remaining.AreUnknown, Remaining.IsUnknownMark, Words.Word, Words.Cursor, Words.zone_words}
 
 -- `\#`, and behind it a length and as many octets in hexadecimal digits, of data of any type
 abbrev pub AreUnknownData : List ℕ → List Word → Type 0

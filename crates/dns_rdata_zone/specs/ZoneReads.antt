@@ -1,12 +1,9 @@
 -- What a text of a zone file tells: read by the rules of its type it is the octets of the record, and the record.
 use Rattle.std.specs.Prelude.{◌≡◌, ℕ, ◌<◌, List, length, Option}
 use Rattle.dns_fields.specs.Labels.{DomainName}
-use Rattle.dns_rdata.specs.Data.{type_of, Fills}
-use Rattle.dns_rdata.specs.declared.record_data.RData.{RData}
+use Rattle.dns_rdata.specs.{Data.type_of, Data.Fills, declared.record_data.RData.RData}
 use Rattle.dns_types.specs.declared.record_type.RecordType.{RecordType}
-use Rattle.dns_rdata_zone.specs.Readable.{IsReadable}
-use Rattle.dns_rdata_zone.specs.ZoneGives.{TextGives, GivesValue}
-use Rattle.dns_rdata_zone.specs.ZoneTexts.{zone_text, zone_octets}
+use Rattle.dns_rdata_zone.specs.{Readable.IsReadable, ZoneGives.TextGives, ZoneGives.GivesValue, ZoneTexts.zone_text, ZoneTexts.zone_octets}
 
 -- the text of a value, whose octets are at most 65535, gives its octets, whatever the origin
 abbrev pub TextsGive : Type 0

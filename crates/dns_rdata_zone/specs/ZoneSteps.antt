@@ -4,8 +4,7 @@ use Rattle.dns_fields.specs.Labels.{DomainName}
 use Rattle.dns_rdata.specs.declared.record_data.RData.{RData}
 use Rattle.dns_types.specs.declared.record_type.RecordType.{RecordType}
 use Rattle.dns_zone_rows.specs.RowTable.{row_of}
-use Rattle.dns_zone_words.specs.Remaining.{AreUnknown}
-use Rattle.dns_zone_words.specs.Words.{Word, Cursor, words_at, zone_words}
+use Rattle.dns_zone_words.specs.{Remaining.AreUnknown, Words.Word, Words.Cursor, Words.words_at, Words.zone_words}
 use Rattle.dns_rdata_zone.specs.ZoneGives.{GiveByRow, AreDataOf, IsWhole}
 
 -- the octets are the data of no value

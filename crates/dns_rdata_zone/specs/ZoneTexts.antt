@@ -1,16 +1,11 @@
 -- Record data in the form that name servers read.
 use Rattle.std.specs.Prelude.{ℕ, List, [], ◌++◌, codes, decimal}
-use Rattle.dns_rdata.specs.Data.{fields_of}
-use Rattle.dns_rdata.specs.declared.record_data.RData.{RData}
+use Rattle.dns_rdata.specs.{Data.fields_of, declared.record_data.RData.RData, WholeOctets.name_octets, WholeOctets.all_whole}
 use Rattle.dns_rdata.specs.declared.record_data.RData.TheVariants as rdata
-use Rattle.dns_rdata_base.specs.A.{a_text}
-use Rattle.dns_rdata_base.specs.AAAA.{aaaa_text}
-use Rattle.dns_rdata_zone.specs.Generic.{generic}
-use Rattle.dns_rdata_zone.specs.Options.{zone_options}
-use Rattle.dns_rdata_zone.specs.Records.{zone_hinfo, zone_txt, zone_naptr, zone_soa, zone_caa, zone_cert, zone_sshfp, zone_tlsa, zone_openpgpkey, zone_csync}
-use Rattle.dns_rdata_zone.specs.Services.{zone_service}
-use Rattle.dns_rdata.specs.WholeOctets.{name_octets, all_whole}
-use Rattle.dns_rdata_zone.specs.Names.{zone_name}
+use Rattle.dns_rdata_base.specs.{A.a_text, AAAA.aaaa_text}
+use Rattle.dns_rdata_zone.specs.{Generic.generic, Options.zone_options, Services.zone_service, Names.zone_name}
+use Rattle.dns_rdata_zone.specs.Records.{zone_hinfo, zone_txt, zone_naptr, zone_soa, zone_caa, zone_cert, zone_sshfp, zone_tlsa, zone_openpgpkey}
+use Rattle.dns_rdata_zone.specs.Records.{zone_csync}
 
 -- ---- the octets
 

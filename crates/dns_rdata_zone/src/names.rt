@@ -2,8 +2,7 @@
 
 ghost use Rattle.std.specs.Prelude.{◌≡◌, ◌<◌, Some};
 ghost use Rattle.std.specs.Bool.{OnTrue};
-ghost use Rattle.dns_rdata_zone.specs.Spellings.{name_octet, needs_backslash};
-ghost use Rattle.dns_rdata_zone.specs.Names.{zone_label, zone_name};
+ghost use Rattle.dns_rdata_zone.specs.{Spellings.name_octet, Spellings.needs_backslash, Names.zone_label, Names.zone_name};
 
 use crate::spelling::{Spelled, Spelling, write_digits, write_escaped};
 use dns_rdata::Name;

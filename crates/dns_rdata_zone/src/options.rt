@@ -4,8 +4,7 @@ ghost use Rattle.std.specs.Prelude.{◌≡◌, ◌+◌, ◌≤◌, Some, IfSome,
 ghost use Rattle.std.specs.Fmt.{DisplaysOnOk};
 ghost use Rattle.hex.specs.Hex.{encode_lower};
 ghost use Rattle.dns_fields.specs.Pieces.{option_octets};
-ghost use Rattle.dns_rdata_options.specs.ClientSubnet.{prefix_octets, subnet_value};
-ghost use Rattle.dns_rdata_options.specs.EdnsOption.{option_value};
+ghost use Rattle.dns_rdata_options.specs.{ClientSubnet.prefix_octets, ClientSubnet.subnet_value, EdnsOption.option_value};
 ghost use Rattle.dns_rdata_zone.specs.Options.{subnet_octets, option_digits, options_octets, zone_options};
 
 use dns_pieces::Head;

@@ -2,12 +2,10 @@
 
 ghost use Rattle.std.specs.Prelude.{◌≡◌, Some, flat_map, map, true};
 ghost use Rattle.std.specs.List.{list_all};
-ghost use Rattle.dns_rdata_base.specs.A.{a_text};
-ghost use Rattle.dns_rdata_base.specs.AAAA.{aaaa_text};
+ghost use Rattle.dns_rdata_base.specs.{A.a_text, AAAA.aaaa_text};
 ghost use Rattle.dns_rdata_service.specs.SvcParamKey.{key_number};
 ghost use Rattle.dns_rdata_zone.specs.Spellings.{protocol_octet};
-ghost use Rattle.dns_rdata_zone.specs.Parameters.{key_name, named_key, protocol, zone_value, zone_parameter};
-ghost use Rattle.dns_rdata_zone.specs.Parameters.{rises_from, has_text, are_some};
+ghost use Rattle.dns_rdata_zone.specs.Parameters.{key_name, named_key, protocol, zone_value, zone_parameter, rises_from, has_text, are_some};
 
 use crate::lists::{Commas, ListItem};
 use crate::spelling::{Spelled, Spelling};

@@ -1,13 +1,11 @@
 //! Record data of a text of a zone file.
 
 ghost use Rattle.std.specs.Prelude.{◌≡◌, ◌↔◌, ◌⊎◌, IsTrue, IfSome, IfNone, IfOk, IfErr, length};
-ghost use Rattle.std.specs.Bool.{OnTrue};
-ghost use Rattle.std.specs.Option.{option_copied};
+ghost use Rattle.std.specs.{Bool.OnTrue, Option.option_copied};
 ghost use Rattle.dns_rdata.specs.Data.{shape, type_of, IsEmittable, data_octets};
 ghost use Rattle.dns_words.specs.Reads.{UnlessMemory};
 ghost use Rattle.dns_zone_rows.specs.RowTable.{row_of};
-ghost use Rattle.dns_zone_words.specs.Remaining.{ReadsAll};
-ghost use Rattle.dns_zone_words.specs.ZoneReads.{IsCutRefused};
+ghost use Rattle.dns_zone_words.specs.{Remaining.ReadsAll, ZoneReads.IsCutRefused};
 ghost use Rattle.dns_rdata_zone.specs.ZoneFaults.{OctetsFault, IsBehindMark, BehindMarkFault, HasNoMark, LacksRow, WordsFault, ByRowFault, ZoneFault};
 ghost use Rattle.dns_rdata_zone.specs.ZoneGives.{GiveByRow, has_name, AreDataOf, GivesValue, GivesNone, at_start};
 ghost use Rattle.dns_rdata_zone.specs.ZoneSteps.{AreNoData, UnknownIs, UnknownIsNone, RowIs, RowIsNone};

@@ -1,10 +1,8 @@
 //! Records of numbers, strings and names, where their text is not that of `RData`, or not always.
 
 ghost use Rattle.std.specs.Prelude.{◌≡◌, Some};
-ghost use Rattle.std.specs.Char.{is_ascii_alphanumeric};
-ghost use Rattle.std.specs.List.{list_all};
-ghost use Rattle.dns_rdata_zone.specs.Records.{zone_hinfo, zone_txt, zone_naptr, zone_soa, has_plain_tag, zone_caa};
-ghost use Rattle.dns_rdata_zone.specs.Records.{zone_type, zone_csync};
+ghost use Rattle.std.specs.{Char.is_ascii_alphanumeric, List.list_all};
+ghost use Rattle.dns_rdata_zone.specs.Records.{zone_hinfo, zone_txt, zone_naptr, zone_soa, has_plain_tag, zone_caa, zone_type, zone_csync};
 
 use crate::names::ZoneName;
 use crate::strings::{Quoted, Spaced};

@@ -6,8 +6,7 @@ ghost use Rattle.hex.specs.Hex.{encode_lower};
 ghost use Rattle.dns_fields.specs.Fields.{canonical};
 ghost use Rattle.dns_rdata.specs.Data.{data_octets};
 ghost use Rattle.dns_rdata_service.specs.SVCB.{svcb_shape, svcb_fields};
-ghost use Rattle.dns_rdata_zone.specs.Generic.{generic};
-ghost use Rattle.dns_rdata_zone.specs.Services.{service_text, service_octets, zone_service};
+ghost use Rattle.dns_rdata_zone.specs.{Generic.generic, Services.service_text, Services.service_octets, Services.zone_service};
 
 use crate::generic::NameDigits;
 use crate::names::ZoneName;

@@ -1,8 +1,7 @@
 //! Octets in texts of zone files (RFC 1035, 5.1): as they stand, behind a `\`, or as `\` and three digits.
 
 ghost use Rattle.std.specs.Prelude.{◌≡◌, ◌<◌, ℕ, List, [], ◌∷◌, Some, flat_map};
-ghost use Rattle.std.specs.Bool.{OnTrue};
-ghost use Rattle.std.specs.Fmt.{DisplaysOnOk};
+ghost use Rattle.std.specs.{Bool.OnTrue, Fmt.DisplaysOnOk};
 ghost use Rattle.dns_rdata_zone.specs.Spellings.{three_digits};
 
 use std::{fmt, str};

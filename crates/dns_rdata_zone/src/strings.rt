@@ -1,8 +1,7 @@
 //! Character strings in quotes (RFC 1035, 5.1).
 
 ghost use Rattle.std.specs.Prelude.{Some, flat_map};
-ghost use Rattle.dns_rdata_zone.specs.Spellings.{escaped};
-ghost use Rattle.dns_rdata_zone.specs.Strings.{quoted, spaced};
+ghost use Rattle.dns_rdata_zone.specs.{Spellings.escaped, Strings.quoted, Strings.spaced};
 
 use crate::spelling::{Spelled, Spelling, write_digits, write_escaped};
 use dns_rdata::Octets;

@@ -1,17 +1,13 @@
 -- Items of a list, one by one.
-use Rattle.std.proofs.Common.{◌≡◌, ℕ, ◌+◌, ◌<◌, true, false, eqb, get_or, List, [], ◌∷◌, ◌++◌, length, take, drop, refl, sym, ◌∙◌, ap, subst, arith, append_assoc, Option, Some, None}
+use Rattle.std.proofs.Common.{◌≡◌, ℕ, ◌+◌, ◌<◌, true, false, eqb, get_or, List, [], ◌∷◌, ◌++◌, length, take, drop, refl, sym, ◌∙◌, ap, subst, arith}
+use Rattle.std.proofs.Common.{append_assoc, Option, Some, None}
 use Rattle.std.specs.List.{AllZip, flat_map}
-use Rattle.std.proofs.lemmas.Grind.{flat_map-append}
-use Rattle.std.proofs.lemmas.Slice.Zip.{all_zipped_more}
-use Rattle.std.proofs.lemmas.List.{append-nil}
+use Rattle.std.proofs.{lemmas.Grind.flat_map-append, lemmas.Slice.Zip.all_zipped_more, lemmas.List.append-nil}
 use Rattle.dns_types.specs.declared.error.ParseError.{ParseError}
 use Rattle.dns_words.proofs.Steps.{unless_map}
-use Rattle.dns_zone_words.proofs.RemainingSteps.{one_of_both}
-use Rattle.dns_zone_words.proofs.WordSteps.{two_passed}
-use Rattle.dns_zone_parameters.specs.declared.lists.ListItem.{ListItem}
+use Rattle.dns_zone_words.proofs.{RemainingSteps.one_of_both, WordSteps.two_passed}
+use Rattle.dns_zone_parameters.specs.{declared.lists.ListItem.ListItem, Lists.items_from, Lists.items_in, Lists.IsItem, Lists.IsList, Steps.ItemCut}
 use Rattle.dns_words.specs.Reads.{UnlessMemory, NoValue}
-use Rattle.dns_zone_parameters.specs.Lists.{items_from, items_in, IsItem, IsList}
-use Rattle.dns_zone_parameters.specs.Steps.{ItemCut}
 
 -- some items of the text were passed, and these belong to them
 pub record ItemsSo {Y : Type 0} (R : List ℕ → Y → Type 0) (text rest : List ℕ) (ys : List Y) : Type 0 where

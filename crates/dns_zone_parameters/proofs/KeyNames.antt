@@ -1,21 +1,14 @@
 -- A name is of one key at most, and why it is of none.
-use Rattle.std.proofs.Common.{◌≡◌, ℕ, arith, true, false, List, [], ◌∷◌, ◌++◌, drop, refl, sym, ◌∙◌, ap, subst, Some, None, inl, inr, ◌<◌, ◌^◌, length, get_or}
+use Rattle.std.proofs.Common.{◌≡◌, ℕ, arith, true, false, List, [], ◌∷◌, ◌++◌, drop, refl, sym, ◌∙◌, ap, subst, Some, None, inl, inr, ◌<◌, ◌^◌}
+use Rattle.std.proofs.Common.{length, get_or}
 use Rattle.std.specs.Prelude.{codes, bytes_eq}
-use Rattle.std.specs.Str.{IsUtf8}
-use Rattle.std.specs.Str.Parse.{AllDigits, digits_value}
-use Rattle.std.specs.Fmt.{decimal}
-use Rattle.std.proofs.lemmas.Str.Parse.{IsNumeralModel}
+use Rattle.std.specs.{Str.IsUtf8, Str.Parse.AllDigits, Str.Parse.digits_value, Fmt.decimal, Char.is_ascii, List.list_all}
+use Rattle.std.proofs.{lemmas.Str.Parse.IsNumeralModel, lemmas.Option.same_Some, lemmas.Slice.Eq.bytes_eq-Decides}
 use Rattle.std.proofs.lemmas.Fmt.{decimal-digits_value, decimal_is_IsNumeral, decimal_digit, decimal_injective, first_decimal}
-use Rattle.dns_zone_parameters.specs.Steps.{NumberSpelled}
-use Rattle.std.specs.Char.{is_ascii}
-use Rattle.std.specs.List.{list_all}
-use Rattle.std.proofs.lemmas.Option.{same_Some}
-use Rattle.std.proofs.lemmas.Slice.Eq.{bytes_eq-Decides}
 use Rattle.std.proofs.lemmas.Bool.{cases_Bool, cases_lt}
-use Rattle.dns_zone_words.proofs.TextSteps.{ascii_utf8}
+use Rattle.dns_zone_parameters.specs.{Steps.NumberSpelled, declared.key.ParameterKey.ParameterKey, declared.key.ParameterKey.TheVariants.Numbered}
 use Rattle.dns_zone_parameters.specs.Keys.{named_key, IsNumberedName, IsKeyName}
-use Rattle.dns_zone_parameters.specs.declared.key.ParameterKey.{ParameterKey}
-use Rattle.dns_zone_parameters.specs.declared.key.ParameterKey.TheVariants.{Numbered}
+use Rattle.dns_zone_words.proofs.TextSteps.{ascii_utf8}
 
 other_name : (name own : List ℕ) → IsUtf8 own → ¬ (IsUtf8 name) → bytes_eq name own ≡ false
 other_name name own is isnt = elim (cases_Bool (bytes_eq name own)) [

@@ -1,22 +1,15 @@
 -- A value has one list of octets at most.
 use Rattle.std.proofs.Common.{◌≡◌, ℕ, List, sym, ◌∙◌, ap, subst, Ok, Result}
-use Rattle.std.specs.Int.{bytes_high_first}
-use Rattle.std.specs.List.{AllZip, flat_map}
-use Rattle.std.specs.List.Sorted.{IsPermutation}
-use Rattle.std.specs.Net.Addr.{ipv4_octets, ipv6_octets}
+use Rattle.std.specs.{Int.bytes_high_first, List.AllZip, List.flat_map, List.Sorted.IsPermutation, Net.Addr.ipv4_octets, Net.Addr.ipv6_octets}
 use Rattle.std.proofs.NetLemmas.Theorems.{IsIpv4Text_unique, IsIpv6Text_unique}
 use Rattle.base64.specs.declared.decode.DecodeError.{DecodeError}
 use Rattle.dns_fields.specs.Pieces.{string}
-use Rattle.dns_zone_parameters.specs.Keys.{key_number}
+use Rattle.dns_zone_parameters.specs.{Keys.key_number, Values.HasOctets, declared.key.ParameterKey.ParameterKey, declared.lists.ListItem.ListItem}
 use Rattle.dns_zone_parameters.specs.Lists.{items_in, IsItem, IsList, IsListedKey, IsKeyList}
-use Rattle.dns_zone_parameters.specs.Values.{HasOctets}
-use Rattle.dns_zone_parameters.specs.declared.key.ParameterKey.{ParameterKey}
-use Rattle.dns_zone_parameters.specs.declared.key.ParameterKey.TheVariants.{Mandatory, Alpn, NoDefaultAlpn, Port, Ipv4Hint, Ech, Ipv6Hint, DohPath, Numbered}
-use Rattle.dns_zone_parameters.specs.declared.lists.ListItem.{ListItem}
+use Rattle.dns_zone_parameters.specs.declared.key.ParameterKey.TheVariants.{Mandatory, Alpn, NoDefaultAlpn, Port, Ipv4Hint, Ech, Ipv6Hint, DohPath}
+use Rattle.dns_zone_parameters.specs.declared.key.ParameterKey.TheVariants.{Numbered}
 use Rattle.dns_zone_parameters.specs.declared.lists.ListItem.TheVariants.{Protocol, Ipv4, Ipv6}
-use Rattle.dns_zone_parameters.proofs.Items.{same_both}
-use Rattle.dns_zone_parameters.proofs.KeyNames.{key_once}
-use Rattle.dns_zone_parameters.proofs.Rises.{climbs_rising, order_once}
+use Rattle.dns_zone_parameters.proofs.{Items.same_both, KeyNames.key_once, Rises.climbs_rising, Rises.order_once}
 
 item_once : (item : ListItem) (text a b : List ℕ) → IsItem item text a → IsItem item text b → a ≡ b
 item_once Protocol text a b h k = let e : h.0 ≡ k.0 = h.1.value ∙ sym k.1.value in h.2 ∙ ap string e ∙ sym k.2

@@ -1,19 +1,12 @@
 -- Words have one list of octets at most.
 use Rattle.std.proofs.Common.{◌≡◌, ℕ, zero, suc, ◌<◌, List, [], ◌∷◌, ◌++◌, length, get_or, refl, sym, ◌∙◌, ap, subst, arith, ◌⊎◌, inl, inr}
-use Rattle.std.specs.List.{Contains}
-use Rattle.std.specs.List.Sorted.{IsPermutation}
+use Rattle.std.specs.{List.Contains, List.Sorted.IsPermutation}
 use Rattle.std.proofs.lemmas.List.Sorted.{IsPermutation-sym, Contains-permutation}
 use Rattle.dns_fields.specs.Pieces.{Numbered, pieces, Below, Rising}
 use Rattle.dns_zone_words.specs.Words.{Word}
-use Rattle.dns_zone_parameters.specs.Keys.{key_number}
-use Rattle.dns_zone_parameters.specs.Laws.{OneReading}
+use Rattle.dns_zone_parameters.specs.{Keys.key_number, Laws.OneReading, Values.IsValue, declared.key.ParameterKey.ParameterKey}
 use Rattle.dns_zone_parameters.specs.Parameters.{Parameter, name_in, value_in, IsWritten, HasParameter, AreWritten}
-use Rattle.dns_zone_parameters.specs.Values.{IsValue}
-use Rattle.dns_zone_parameters.specs.declared.key.ParameterKey.{ParameterKey}
-use Rattle.dns_zone_parameters.proofs.KeyNames.{key_once}
-use Rattle.dns_zone_parameters.proofs.Once.{octets_once}
-use Rattle.dns_zone_parameters.proofs.WordSteps.{starts_alone, is_quoted}
-use Rattle.dns_zone_parameters.proofs.ParameterSteps.{no_words}
+use Rattle.dns_zone_parameters.proofs.{KeyNames.key_once, Once.octets_once, WordSteps.starts_alone, WordSteps.is_quoted, ParameterSteps.no_words}
 
 -- ---- one order
 

@@ -1,26 +1,18 @@
 -- All parameters, one by one.
 use Rattle.std.proofs.Common.{◌≡◌, ℕ, zero, suc, List, [], ◌∷◌, ◌++◌, map, Result, Ok, refl, sym, ◌∙◌, ap, subst, arith, append_assoc, codes}
 use Rattle.std.specs.List.Sorted.{IsPermutation, IsNonDecreasingBy, IsStrictlyIncreasing}
-use Rattle.std.proofs.lemmas.List.{append-nil, map-append}
-use Rattle.std.proofs.lemmas.List.Sorted.{IsPermutation-map}
-use Rattle.std.proofs.lemmas.Simd.{map-map}
+use Rattle.std.proofs.{lemmas.List.append-nil, lemmas.List.map-append, lemmas.List.Sorted.IsPermutation-map, lemmas.Simd.map-map}
 use Rattle.dns_fields.specs.Pieces.{pieces, Rising}
 use Rattle.dns_types.specs.declared.error.ParseError.{ParseError}
 use Rattle.dns_words.specs.Reads.{UnlessMemory, NoValue}
+use Rattle.dns_zone_words.specs.{Words.Word, Words.Cursor, Words.words_at, Words.with_word, declared.words_error.WordsError.WordsError, Refusals.Says}
 use Rattle.dns_zone_words.specs.Remaining.{with_words, NoneOfAll, TookAll, PutAll}
-use Rattle.dns_zone_words.specs.Words.{Word, Cursor, words_at, with_word}
-use Rattle.dns_zone_words.specs.declared.words_error.WordsError.{WordsError}
 use Rattle.dns_words.proofs.Steps.{unless_map}
 use Rattle.dns_zone_words.proofs.RemainingSteps.{words_more, words_ok}
-use Rattle.dns_zone_parameters.specs.Faults.{KeyTwice}
-use Rattle.dns_zone_words.specs.Refusals.{Says}
-use Rattle.dns_zone_parameters.specs.Keys.{key_number}
+use Rattle.dns_zone_parameters.specs.{Faults.KeyTwice, Keys.key_number, Steps.BeginOnlySo, Steps.TookWritten, Steps.TookParameter}
+use Rattle.dns_zone_parameters.specs.{Steps.TookParameters, Views.parameter_value, declared.parameter.Parameter.Parameter as CodeParameter}
 use Rattle.dns_zone_parameters.specs.Parameters.{Parameter, IsWritten, HasParameter, IsParameter, AreWritten, AreParameters}
-use Rattle.dns_zone_parameters.specs.Steps.{BeginOnlySo, TookWritten, TookParameter, TookParameters}
-use Rattle.dns_zone_parameters.specs.Views.{parameter_value}
-use Rattle.dns_zone_parameters.specs.declared.parameter.Parameter.{Parameter as CodeParameter}
-use Rattle.dns_zone_parameters.proofs.KeyNames.{key_once}
-use Rattle.dns_zone_parameters.proofs.Rises.{Climbs, climbs_rising, order_once, rising_from, rising_to}
+use Rattle.dns_zone_parameters.proofs.{KeyNames.key_once, Rises.Climbs, Rises.climbs_rising, Rises.order_once, Rises.rising_from, Rises.rising_to}
 
 -- ---- the next parameter
 

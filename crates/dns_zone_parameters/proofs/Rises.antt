@@ -1,12 +1,9 @@
 -- Numbers that rise.
 use Rattle.std.proofs.Common.{◌≡◌, ℕ, zero, suc, ◌<◌, ◌≤◌, false, List, [], ◌∷◌, length, map, get_or, refl, sym, ◌∙◌, ap, arith, add-one}
-use Rattle.std.specs.Ordering.{is_gt, nat_cmp}
+use Rattle.std.specs.{Ordering.is_gt, Ordering.nat_cmp, FinMap.nat_cmp-IsAntisymmetric}
 use Rattle.std.specs.List.Sorted.{IsPermutation, IsNonDecreasing, IsStrictlyIncreasing}
-use Rattle.std.specs.FinMap.{nat_cmp-IsAntisymmetric}
-use Rattle.std.proofs.lemmas.Cmp.{nat_cmp_total}
-use Rattle.std.proofs.lemmas.Bool.Decides.{nat_tests}
-use Rattle.dns_fields.specs.Pieces.{Numbered, Below, Rising}
-use Rattle.dns_fields.specs.Sorting.{put, sorted}
+use Rattle.std.proofs.{lemmas.Cmp.nat_cmp_total, lemmas.Bool.Decides.nat_tests}
+use Rattle.dns_fields.specs.{Pieces.Numbered, Pieces.Below, Pieces.Rising, Sorting.put, Sorting.sorted}
 use Rattle.dns_fields.proofs.Sorted.{sorted_one}
 
 -- no number is below the one before

@@ -1,31 +1,22 @@
 -- Values, one step behind the other.
-use Rattle.std.proofs.Common.{◌≡◌, ◌≢◌, ℕ, suc, ◌<◌, ◌⊎◌, inl, inr, true, false, eqb, get_or, take, drop, List, [], ◌∷◌, ◌++◌, length, map, refl, sym, ◌∙◌, ap, subst, arith, Result, Ok, Err}
+use Rattle.std.proofs.Common.{◌≡◌, ◌≢◌, ℕ, suc, ◌<◌, ◌⊎◌, inl, inr, true, false, eqb, get_or, take, drop, List, [], ◌∷◌, ◌++◌, length, map, refl, sym}
+use Rattle.std.proofs.Common.{◌∙◌, ap, subst, arith, Result, Ok, Err}
 use Rattle.std.specs.Prelude.{IfErr}
+use Rattle.std.proofs.{lemmas.Bool.Decides.nat_tests, lemmas.List.Sorted.IsNonDecreasingBy-from_sort}
 use Rattle.std.proofs.lemmas.List.{append-nil, take_all, drop_all}
-use Rattle.std.specs.List.{AllByRecursion, AllZip}
+use Rattle.std.specs.{List.AllByRecursion, List.AllZip, Ordering.nat_cmp}
 use Rattle.std.specs.List.Sorted.{IsPermutation, IsSorted, IsStrictlyIncreasing}
-use Rattle.std.specs.Ordering.{nat_cmp}
-use Rattle.std.proofs.lemmas.Bool.Decides.{nat_tests}
-use Rattle.std.proofs.lemmas.List.Sorted.{IsNonDecreasingBy-from_sort}
 use Rattle.dns_types.specs.declared.error.ParseError.{ParseError}
 use Rattle.dns_types.specs.declared.error.ParseError.TheVariants as parse
-use Rattle.dns_words.specs.Forms.{ipv4, ipv6}
-use Rattle.dns_words.specs.Reads.{UnlessMemory, NoValue, Decides}
-use Rattle.dns_zone_words.specs.Forms.{bare, text}
-use Rattle.dns_zone_words.specs.Letters.{letters, octet_of, escapes_stand}
-use Rattle.dns_zone_words.specs.ZoneReads.{NoValueOf}
+use Rattle.dns_words.specs.{Forms.ipv4, Forms.ipv6, Reads.UnlessMemory, Reads.NoValue, Reads.Decides}
+use Rattle.dns_zone_words.specs.{Forms.bare, Forms.text, Letters.letters, Letters.octet_of, Letters.escapes_stand, ZoneReads.NoValueOf, Refusals.Says}
 use Rattle.dns_zone_words.proofs.LetterSteps.{plain_letters}
 use Rattle.dns_words.proofs.Steps.{unless_map}
-use Rattle.dns_zone_words.specs.Refusals.{Says}
-use Rattle.dns_zone_parameters.specs.Faults.{wrong_value, ValueFault}
-use Rattle.dns_zone_parameters.specs.Steps.{HasMeant}
+use Rattle.dns_zone_parameters.specs.{Faults.wrong_value, Faults.ValueFault, Steps.HasMeant, Values.HasOctets, Values.IsPlain, Values.IsValue}
+use Rattle.dns_zone_parameters.specs.{declared.key.ParameterKey.ParameterKey, declared.lists.ListItem.ListItem}
 use Rattle.dns_zone_parameters.specs.Lists.{items_in, IsItem, IsListedKey, IsKeyList}
-use Rattle.dns_zone_parameters.specs.Values.{HasOctets, IsPlain, IsValue}
-use Rattle.dns_zone_parameters.specs.declared.key.ParameterKey.{ParameterKey}
-use Rattle.dns_zone_parameters.specs.declared.lists.ListItem.{ListItem}
 use Rattle.dns_zone_parameters.specs.declared.lists.ListItem.TheVariants.{Ipv4, Ipv6}
-use Rattle.dns_zone_parameters.proofs.Once.{keys_once, octets_once}
-use Rattle.dns_zone_parameters.proofs.Rises.{climbs_rising, climbs_sorted, order_once}
+use Rattle.dns_zone_parameters.proofs.{Once.keys_once, Once.octets_once, Rises.climbs_rising, Rises.climbs_sorted, Rises.order_once}
 
 -- ---- items
 

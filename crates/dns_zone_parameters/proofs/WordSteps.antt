@@ -1,16 +1,14 @@
 -- Parameters in words, one by one.
-use Rattle.std.proofs.Common.{◌≡◌, ℕ, suc, ◌+◌, ◌-◌, ◌<◌, ◌≤◌, true, false, cond, ltb, min, List, [], ◌∷◌, ◌++◌, length, take, drop, get_or, Option, Some, None, Result, Ok, Err, refl, sym, ◌∙◌, ap, subst, arith, inl, inr, length-append}
+use Rattle.std.proofs.Common.{◌≡◌, ℕ, suc, ◌+◌, ◌-◌, ◌<◌, ◌≤◌, true, false, cond, ltb, min, List, [], ◌∷◌, ◌++◌, length, take, drop, get_or, Option}
+use Rattle.std.proofs.Common.{Some, None, Result, Ok, Err, refl, sym, ◌∙◌, ap, subst, arith, inl, inr, length-append}
 use Rattle.std.specs.List.{position, position_or_len}
-use Rattle.std.proofs.Math.Seq.{drop-cons}
+use Rattle.std.proofs.{Math.Seq.drop-cons, lemmas.Bool.cases_Bool, lemmas.Option.same_Some, lemmas.Bool.Decides.nat_tests}
 use Rattle.std.proofs.lemmas.List.{drop_all, take_all, take-append-drop, length-take, length-drop}
-use Rattle.std.proofs.lemmas.Bool.{cases_Bool}
-use Rattle.std.proofs.lemmas.Option.{same_Some}
-use Rattle.std.proofs.lemmas.Bool.Decides.{nat_tests}
 use Rattle.std.proofs.lemmas.List.Sums.{passes_at_first}
-use Rattle.dns_zone_words.specs.Remaining.{NoneOfAll}
-use Rattle.dns_zone_words.specs.Words.{Word, Cursor, words_at, with_word}
+use Rattle.dns_zone_words.specs.{Remaining.NoneOfAll, Words.Word, Words.Cursor, Words.words_at, Words.with_word}
 use Rattle.dns_zone_words.proofs.RemainingSteps.{word_ok}
-use Rattle.dns_zone_parameters.specs.Parameters.{Parameter, is_equals, name_in, value_in, StandsAlone, IsQuotedValue, IsWritten, HasParameter, AreWritten}
+use Rattle.dns_zone_parameters.specs.Parameters.{Parameter, is_equals, name_in, value_in, StandsAlone, IsQuotedValue, IsWritten, HasParameter}
+use Rattle.dns_zone_parameters.specs.Parameters.{AreWritten}
 use Rattle.dns_zone_parameters.specs.Steps.{NoQuoted, BeginSo, TookWritten}
 
 front_alone : (name value : List ℕ) (front behind : List Word) (word : Word) (rest : List Word) → word ∷ rest ≡ front ++ behind → IsWritten name value front → StandsAlone word

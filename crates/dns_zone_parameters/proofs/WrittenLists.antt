@@ -2,9 +2,7 @@
 use Rattle.std.proofs.Common.{◌≡◌, ◌≢◌, ℕ, Bool, true, false, eqb, List, [], ◌∷◌, ◌++◌, map, refl, sym, ◌∙◌, ap, subst, arith, append_assoc, inl, inr}
 use Rattle.std.specs.Prelude.{◌||◌}
 use Rattle.std.specs.List.{AllByRecursion, AllZip, flat_map, join_with_byte}
-use Rattle.std.proofs.lemmas.Bool.{cases_Bool}
-use Rattle.std.proofs.lemmas.Bool.Decides.{nat_tests}
-use Rattle.std.proofs.lemmas.List.{append-nil}
+use Rattle.std.proofs.{lemmas.Bool.cases_Bool, lemmas.Bool.Decides.nat_tests, lemmas.List.append-nil}
 use Rattle.dns_fields.specs.Pieces.{string}
 use Rattle.dns_zone_parameters.specs.Laws.{escaped, IsProtocolName, NamesRead, IsPlainItem, PlainItemsRead}
 use Rattle.dns_zone_parameters.specs.Lists.{items_from, items_in, unescaped_from, escapes_end_from, IsProtocol, IsItem}

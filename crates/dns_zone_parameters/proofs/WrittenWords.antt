@@ -1,10 +1,8 @@
 -- Parameters are read as they are written.
 use Rattle.std.proofs.Common.{◌≡◌, ℕ, ◌+◌, false, eqb, List, [], ◌∷◌, ◌++◌, length, take, drop, refl, sym, ◌∙◌, ap, arith}
 use Rattle.std.specs.List.{position_or_len}
-use Rattle.std.proofs.Math.Seq.{take-append_seam, drop-append-add}
-use Rattle.std.proofs.lemmas.Bool.Decides.{nat_tests}
-use Rattle.dns_zone_parameters.specs.Laws.{HasNoEquals, WordsRead}
-use Rattle.dns_zone_parameters.specs.Parameters.{is_equals, name_in, value_in}
+use Rattle.std.proofs.{Math.Seq.take-append_seam, Math.Seq.drop-append-add, lemmas.Bool.Decides.nat_tests}
+use Rattle.dns_zone_parameters.specs.{Laws.HasNoEquals, Laws.WordsRead, Parameters.is_equals, Parameters.name_in, Parameters.value_in}
 
 -- the `=` behind a name is the first
 first_equals : (name value : List ℕ) → HasNoEquals name → position_or_len is_equals (name ++ 61 ∷ value) ≡ length name

@@ -3,16 +3,12 @@ use Rattle.std.specs.Prelude.{◌≡◌, ◌⊎◌, ℕ, ◌<◌, true, false, L
 use Rattle.dns_fields.specs.Pieces.{Rising}
 use Rattle.dns_types.specs.declared.error.ParseError.{ParseError}
 use Rattle.dns_words.specs.Reads.{NoValue}
-use Rattle.dns_zone_words.specs.Letters.{letters, octet_of, escapes_stand}
-use Rattle.dns_zone_words.specs.Refusals.{Says, cut_text}
-use Rattle.dns_zone_words.specs.Remaining.{with_words}
-use Rattle.dns_zone_words.specs.Words.{Word, Cursor, words_at, with_word}
-use Rattle.dns_zone_words.specs.declared.words_error.WordsError.{WordsError}
-use Rattle.dns_zone_parameters.specs.Keys.{IsKeyName}
-use Rattle.dns_zone_parameters.specs.Values.{HasOctets, IsPlain}
+use Rattle.dns_zone_words.specs.{Letters.letters, Letters.octet_of, Letters.escapes_stand, Refusals.Says, Refusals.cut_text, Remaining.with_words}
+use Rattle.dns_zone_words.specs.{Words.Word, Words.Cursor, Words.words_at, Words.with_word, declared.words_error.WordsError.WordsError}
+use Rattle.dns_zone_parameters.specs.{Keys.IsKeyName, Values.HasOctets, Values.IsPlain, declared.key.ParameterKey.ParameterKey}
 use Rattle.dns_zone_parameters.specs.Parameters.{Parameter, StandsAlone, IsWritten, AreWritten}
-use Rattle.dns_zone_parameters.specs.declared.key.ParameterKey.{ParameterKey}
-use Rattle.dns_zone_parameters.specs.declared.key.ParameterKey.TheVariants.{Mandatory, Alpn, NoDefaultAlpn, Port, Ipv4Hint, Ech, Ipv6Hint, DohPath, Numbered}
+use Rattle.dns_zone_parameters.specs.declared.key.ParameterKey.TheVariants.{Mandatory, Alpn, NoDefaultAlpn, Port, Ipv4Hint, Ech, Ipv6Hint, DohPath}
+use Rattle.dns_zone_parameters.specs.declared.key.ParameterKey.TheVariants.{Numbered}
 
 -- what is said of a value that has not the form of the key
 abbrev pub wrong_value : ParameterKey → List ℕ

@@ -2,7 +2,8 @@
 use Rattle.std.specs.Prelude.{◌≡◌, ℕ, ◌<◌, bytes_eq, if◌then◌else◌, List, ◌++◌, Option, Some, None, codes}
 use Rattle.std.specs.Fmt.{decimal}
 use Rattle.dns_zone_parameters.specs.declared.key.ParameterKey.{ParameterKey}
-use Rattle.dns_zone_parameters.specs.declared.key.ParameterKey.TheVariants.{Mandatory, Alpn, NoDefaultAlpn, Port, Ipv4Hint, Ech, Ipv6Hint, DohPath, Numbered}
+use Rattle.dns_zone_parameters.specs.declared.key.ParameterKey.TheVariants.{Mandatory, Alpn, NoDefaultAlpn, Port, Ipv4Hint, Ech, Ipv6Hint, DohPath}
+use Rattle.dns_zone_parameters.specs.declared.key.ParameterKey.TheVariants.{Numbered}
 
 -- the number of a key
 abbrev pub key_number : ParameterKey → ℕ

@@ -3,10 +3,8 @@ use Rattle.std.specs.Prelude.{◌≡◌, ◌≢◌, ℕ, ◌≤◌, ◌==◌, �
 use Rattle.std.specs.List.{AllByRecursion, AllZip, flat_map, join_with_byte}
 use Rattle.dns_fields.specs.Pieces.{string}
 use Rattle.dns_zone_words.specs.Words.{Word}
-use Rattle.dns_zone_parameters.specs.Lists.{IsItem, IsList}
+use Rattle.dns_zone_parameters.specs.{Lists.IsItem, Lists.IsList, declared.lists.ListItem.ListItem, declared.lists.ListItem.TheVariants.Protocol}
 use Rattle.dns_zone_parameters.specs.Parameters.{Parameter, HasParameter, IsParameter, AreParameters}
-use Rattle.dns_zone_parameters.specs.declared.lists.ListItem.{ListItem}
-use Rattle.dns_zone_parameters.specs.declared.lists.ListItem.TheVariants.{Protocol}
 
 -- words have one list of octets at most
 abbrev pub OneReading : Type 0

@@ -1,13 +1,9 @@
 -- Values that are lists (RFC 9460, 7.1.1, 7.3, 8 and appendix A.1).
 use Rattle.std.specs.Prelude.{◌≡◌, ◌≢◌, ℕ, ◌≤◌, ◌==◌, if◌then◌else◌, Bool, true, false, List, [], ◌∷◌, ◌++◌, length, IsPermutation}
-use Rattle.std.specs.Int.{bytes_high_first}
-use Rattle.std.specs.List.{AllZip, flat_map}
-use Rattle.std.specs.List.Sorted.{IsStrictlyIncreasing}
+use Rattle.std.specs.{Int.bytes_high_first, List.AllZip, List.flat_map, List.Sorted.IsStrictlyIncreasing}
 use Rattle.dns_fields.specs.Pieces.{string}
 use Rattle.dns_words.specs.Forms.{ipv4, ipv6}
-use Rattle.dns_zone_parameters.specs.Keys.{key_number, IsKeyName}
-use Rattle.dns_zone_parameters.specs.declared.key.ParameterKey.{ParameterKey}
-use Rattle.dns_zone_parameters.specs.declared.lists.ListItem.{ListItem}
+use Rattle.dns_zone_parameters.specs.{Keys.key_number, Keys.IsKeyName, declared.key.ParameterKey.ParameterKey, declared.lists.ListItem.ListItem}
 use Rattle.dns_zone_parameters.specs.declared.lists.ListItem.TheVariants.{Protocol, Ipv4, Ipv6}
 
 -- The items of a text, behind the front of the first of them. A comma ends an item, unless a `\` stands before it that no

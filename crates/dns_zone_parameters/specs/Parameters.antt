@@ -3,9 +3,7 @@ use Rattle.std.specs.Prelude.{◌≡◌, ℕ, ◌==◌, Bool, true, false, List,
 use Rattle.std.specs.List.{before_first, after_first}
 use Rattle.dns_fields.specs.Pieces.{Numbered, pieces, Rising}
 use Rattle.dns_zone_words.specs.Words.{Word}
-use Rattle.dns_zone_parameters.specs.Keys.{key_number, IsKeyName}
-use Rattle.dns_zone_parameters.specs.Values.{IsValue}
-use Rattle.dns_zone_parameters.specs.declared.key.ParameterKey.{ParameterKey}
+use Rattle.dns_zone_parameters.specs.{Keys.key_number, Keys.IsKeyName, Values.IsValue, declared.key.ParameterKey.ParameterKey}
 
 -- a parameter: the number of its key, and the octets of its value
 abbrev pub Parameter : Type 0

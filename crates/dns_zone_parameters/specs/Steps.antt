@@ -1,19 +1,14 @@
 -- What the code keeps.
-use Rattle.std.specs.Prelude.{◌≡◌, ℕ, ◌+◌, ◌<◌, take, drop, map, List, [], ◌∷◌, ◌++◌, length, Result, Ok, Err, Option, Some, None, true, ◌≢◌, codes, slice_index}
+use Rattle.std.specs.Prelude.{◌≡◌, ℕ, ◌+◌, ◌<◌, take, drop, map, List, [], ◌∷◌, ◌++◌, length, Result, Ok, Err, Option, Some, None, true, ◌≢◌, codes}
+use Rattle.std.specs.Prelude.{slice_index}
 use Rattle.std.specs.Str.Parse.{IsNumeral, digits_value}
 use Rattle.dns_types.specs.declared.error.ParseError.{ParseError}
 use Rattle.dns_words.specs.Reads.{UnlessMemory, NoValue}
-use Rattle.dns_zone_words.specs.Remaining.{with_words, NoneOfAll}
-use Rattle.dns_zone_words.specs.declared.words_error.WordsError.{WordsError}
-use Rattle.dns_zone_parameters.specs.Views.{parameter_value}
-use Rattle.dns_zone_parameters.specs.declared.parameter.Parameter.{Parameter as CodeParameter}
-use Rattle.dns_zone_words.specs.Words.{Word, Cursor, words_at, with_word}
-use Rattle.dns_zone_parameters.specs.Lists.{items_in, IsItem}
+use Rattle.dns_zone_words.specs.{Remaining.with_words, Remaining.NoneOfAll, declared.words_error.WordsError.WordsError, Words.Word, Words.Cursor}
+use Rattle.dns_zone_words.specs.{Words.words_at, Words.with_word, Letters.letters, Letters.octet_of, Letters.escapes_stand}
+use Rattle.dns_zone_parameters.specs.{Views.parameter_value, declared.parameter.Parameter.Parameter as CodeParameter, Lists.items_in, Lists.IsItem}
+use Rattle.dns_zone_parameters.specs.{Values.HasOctets, Values.IsPlain, declared.key.ParameterKey.ParameterKey, declared.lists.ListItem.ListItem}
 use Rattle.dns_zone_parameters.specs.Parameters.{Parameter, IsQuotedValue, IsWritten, HasParameter, IsParameter, AreWritten}
-use Rattle.dns_zone_parameters.specs.Values.{HasOctets, IsPlain}
-use Rattle.dns_zone_parameters.specs.declared.key.ParameterKey.{ParameterKey}
-use Rattle.dns_zone_parameters.specs.declared.lists.ListItem.{ListItem}
-use Rattle.dns_zone_words.specs.Letters.{letters, octet_of, escapes_stand}
 
 -- `key` and digits of this number, the first of them 0 only where it is the only one
 pub record NumberSpelled (n : ℕ) (name : List ℕ) : Type 0 where

@@ -1,14 +1,11 @@
 -- Values of service parameters in texts of zone files (RFC 9460, 2.1, 7 and 8; RFC 9461, 5).
 use Rattle.std.specs.Prelude.{◌≡◌, ◌≢◌, ℕ, ◌<◌, ◌^◌, ◌==◌, Bool, true, false, List, [], length, map, Ok}
-use Rattle.std.specs.Int.{bytes_high_first}
-use Rattle.std.specs.List.{AllByRecursion}
-use Rattle.std.specs.Str.Parse.{IsNumeral, digits_value}
-use Rattle.base64.specs.Engines.{standard}
-use Rattle.base64.specs.GeneralPurpose.{decode_of}
+use Rattle.std.specs.{Int.bytes_high_first, List.AllByRecursion, Str.Parse.IsNumeral, Str.Parse.digits_value}
+use Rattle.base64.specs.{Engines.standard, GeneralPurpose.decode_of}
 use Rattle.dns_zone_words.specs.Letters.{letters, octet_of, escapes_stand}
-use Rattle.dns_zone_parameters.specs.Lists.{IsList, IsKeyList}
-use Rattle.dns_zone_parameters.specs.declared.key.ParameterKey.{ParameterKey}
-use Rattle.dns_zone_parameters.specs.declared.key.ParameterKey.TheVariants.{Mandatory, Alpn, NoDefaultAlpn, Port, Ipv4Hint, Ech, Ipv6Hint, DohPath, Numbered}
+use Rattle.dns_zone_parameters.specs.{Lists.IsList, Lists.IsKeyList, declared.key.ParameterKey.ParameterKey}
+use Rattle.dns_zone_parameters.specs.declared.key.ParameterKey.TheVariants.{Mandatory, Alpn, NoDefaultAlpn, Port, Ipv4Hint, Ech, Ipv6Hint, DohPath}
+use Rattle.dns_zone_parameters.specs.declared.key.ParameterKey.TheVariants.{Numbered}
 use Rattle.dns_zone_parameters.specs.declared.lists.ListItem.TheVariants.{Protocol, Ipv4, Ipv6}
 
 -- a decimal number of 16 bits

@@ -1,8 +1,7 @@
 //! Keys of service parameters, as a zone file names them (RFC 9460, 2.1 and 14.3.2; RFC 9461, 5).
 
 ghost use Rattle.std.specs.Prelude.{◌≡◌, ◌<◌, ℕ, IfSome, IfNone};
-ghost use Rattle.dns_zone_parameters.specs.Keys.{key_number, named_key, IsKeyName};
-ghost use Rattle.dns_zone_parameters.specs.Steps.{NumberSpelled};
+ghost use Rattle.dns_zone_parameters.specs.{Keys.key_number, Keys.named_key, Keys.IsKeyName, Steps.NumberSpelled};
 
 use dns_zone_words::{ZoneWord, u16_of};
 use std::str;

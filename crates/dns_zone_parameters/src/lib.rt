@@ -11,10 +11,8 @@ mod written;
 ghost use Rattle.std.specs.Prelude.{◌≡◌, ◌⊎◌, ◌++◌, map, IfOk, IfErr, OnOk};
 ghost use Rattle.dns_fields.specs.Pieces.{pieces};
 ghost use Rattle.dns_zone_words.specs.Remaining.{PutsAll};
+ghost use Rattle.dns_zone_parameters.specs.{Parameters.AreParameters, Steps.ReadsParameters, Views.parameter_value};
 ghost use Rattle.dns_zone_parameters.specs.Faults.{FaultBehind, ParametersFault};
-ghost use Rattle.dns_zone_parameters.specs.Parameters.{AreParameters};
-ghost use Rattle.dns_zone_parameters.specs.Steps.{ReadsParameters};
-ghost use Rattle.dns_zone_parameters.specs.Views.{parameter_value};
 
 use crate::lists::is_rising;
 use crate::parameter::Parameter;

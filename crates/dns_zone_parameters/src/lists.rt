@@ -1,9 +1,7 @@
 //! Values that are lists (RFC 9460, 7.1.1, 7.3, 8 and appendix A.1).
 
 ghost use Rattle.std.specs.Prelude.{◌≡◌, ◌≤◌, ◌<◌, ◌++◌, ◌⊎◌, ◌↔◌, true, false, IsTrue, IfSome, IfNone, IfErr, OnOk, length};
-ghost use Rattle.std.specs.List.{AllZip};
-ghost use Rattle.std.specs.Option.{option_copied};
-ghost use Rattle.std.specs.List.Sorted.{IsStrictlyIncreasing};
+ghost use Rattle.std.specs.{List.AllZip, Option.option_copied, List.Sorted.IsStrictlyIncreasing};
 ghost use Rattle.dns_words.specs.Reads.{Decides};
 ghost use Rattle.dns_zone_parameters.specs.Lists.{items_in, IsList, IsKeyList, IsListedKey, unescaped_from, escapes_end_from};
 ghost use Rattle.dns_zone_parameters.specs.Steps.{ItemCut, ItemTaken, PushesItem};

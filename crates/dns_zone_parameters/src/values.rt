@@ -3,8 +3,7 @@
 ghost use Rattle.std.specs.Prelude.{◌≡◌, ◌≢◌, ◌⊎◌, ◌↔◌, IsTrue, IfErr, EachIndex, slice_index};
 ghost use Rattle.dns_words.specs.Reads.{Decides};
 ghost use Rattle.dns_zone_words.specs.Refusals.{Says};
-ghost use Rattle.dns_zone_parameters.specs.Faults.{wrong_value, ValueFault};
-ghost use Rattle.dns_zone_parameters.specs.Steps.{HasMeant};
+ghost use Rattle.dns_zone_parameters.specs.{Faults.wrong_value, Faults.ValueFault, Steps.HasMeant};
 ghost use Rattle.dns_zone_parameters.specs.Values.{forbids_escapes, HasOctets, IsPort, IsValue};
 
 use crate::key::ParameterKey;

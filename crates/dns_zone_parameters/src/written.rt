@@ -3,13 +3,10 @@
 ghost use Rattle.std.specs.Prelude.{◌≡◌, ◌≤◌, ◌<◌, ◌⊎◌, [], length, Ok, IfOk, IfErr, IfSome, IfNone, OnErr};
 ghost use Rattle.std.specs.List.{position};
 ghost use Rattle.dns_words.specs.Reads.{Decides};
-ghost use Rattle.dns_zone_words.specs.ZoneReads.{IsCutRefused};
-ghost use Rattle.dns_zone_words.specs.Remaining.{NoneOfAll};
-ghost use Rattle.dns_zone_words.specs.Words.{words_at};
-ghost use Rattle.dns_zone_parameters.specs.Faults.{ParameterFault, NextFault};
+ghost use Rattle.dns_zone_words.specs.{ZoneReads.IsCutRefused, Remaining.NoneOfAll, Words.words_at};
+ghost use Rattle.dns_zone_parameters.specs.{Faults.ParameterFault, Faults.NextFault, Views.parameter_value};
 ghost use Rattle.dns_zone_parameters.specs.Parameters.{is_equals, HasParameter, AreWritten};
 ghost use Rattle.dns_zone_parameters.specs.Steps.{NoQuoted, TookQuoted, TookWritten, IsUncut, ReadsNext};
-ghost use Rattle.dns_zone_parameters.specs.Views.{parameter_value};
 
 use crate::key::ParameterKey;
 use crate::parameter::Parameter;

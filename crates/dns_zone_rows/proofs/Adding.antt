@@ -4,13 +4,10 @@ use Rattle.std.specs.Result.{IsErrAnd}
 use Rattle.dns_fields.specs.Fields.{Kind, Value}
 use Rattle.dns_types.specs.declared.error.ParseError.{ParseError}
 use Rattle.dns_words.specs.Reads.{UnlessMemory}
-use Rattle.dns_zone_words.specs.Forms.{ZoneForm}
-use Rattle.dns_zone_words.specs.Words.{Cursor}
-use Rattle.dns_zone_words.specs.ZoneReads.{NoFirst}
+use Rattle.dns_zone_words.specs.{Forms.ZoneForm, Words.Cursor, ZoneReads.NoFirst}
 use Rattle.dns_words.proofs.Steps.{unless_map}
 use Rattle.dns_zone_words.proofs.FirstSteps.{exit_with}
-use Rattle.dns_zone_rows.specs.RowSteps.{NoFirstGives, AddsFirst}
-use Rattle.dns_zone_rows.specs.Rows.{Gives}
+use Rattle.dns_zone_rows.specs.{RowSteps.NoFirstGives, RowSteps.AddsFirst, Rows.Gives}
 
 none_given : {k : Kind} (form : ZoneForm k) (written : Value k → List ℕ) (cursor : Cursor) → NoFirst form cursor → NoFirstGives (Gives form written) cursor
 none_given form written cursor h = record { none = λ octets word words cut given. h.none given.value (word ∷ words) cut given.is }

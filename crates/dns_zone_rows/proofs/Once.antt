@@ -1,27 +1,20 @@
 -- Words give at most one list of octets by a row.
-use Rattle.std.proofs.Common.{◌≡◌, ℕ, true, List, [], ◌∷◌, ◌++◌, drop, find, codes, Option, Some, None, Result, Ok, refl, sym, ap, ◌∙◌, subst, inl, inr}
-use Rattle.std.specs.List.{flat_map}
-use Rattle.std.specs.Net.Addr.{ipv4_octets, ipv6_octets}
-use Rattle.std.specs.Str.Parse.{digits_value}
+use Rattle.std.proofs.Common.{◌≡◌, ℕ, true, List, [], ◌∷◌, ◌++◌, drop, find, codes, Option, Some, None, Result, Ok, refl, sym, ap, ◌∙◌, subst, inl}
+use Rattle.std.proofs.Common.{inr}
+use Rattle.std.specs.{List.flat_map, Net.Addr.ipv4_octets, Net.Addr.ipv6_octets, Str.Parse.digits_value}
 use Rattle.std.proofs.NetLemmas.Theorems.{IsIpv4Text_unique, IsIpv6Text_unique}
-use Rattle.dns_fields.specs.Bitmaps.{block, minimal}
-use Rattle.dns_fields.specs.Fields.{Kind, Value}
-use Rattle.dns_fields.specs.Labels.{DomainName}
-use Rattle.dns_fields.specs.Pieces.{string as string_octets}
+use Rattle.dns_fields.specs.{Bitmaps.block, Bitmaps.minimal, Fields.Kind, Fields.Value, Labels.DomainName, Pieces.string as string_octets}
 use Rattle.dns_text.proofs.TtlSteps.{periods_one}
+use Rattle.dns_types.specs.{declared.record_type.RecordType.RecordType, declared.record_type.RecordType.TheVariants.Unknown}
 use Rattle.dns_types.specs.RecordTypes.{number_of, is_named, named_types, record_type_of, type_text, has_name, IsTypeName, IsNumberText, IsTypeText}
-use Rattle.dns_types.specs.declared.record_type.RecordType.{RecordType}
-use Rattle.dns_types.specs.declared.record_type.RecordType.TheVariants.{Unknown}
 use Rattle.dns_types.proofs.TypeTexts.{reads_name}
 use Rattle.dns_words.specs.Forms.{ttl, ipv4, ipv6}
-use Rattle.dns_zone_words.specs.Forms.{ZoneForm, bare, number, string, text}
-use Rattle.dns_zone_words.specs.NameWords.{name}
-use Rattle.dns_zone_words.specs.Words.{Word}
-use Rattle.dns_zone_parameters.proofs.Items.{same_both}
-use Rattle.dns_zone_parameters.proofs.OneReading.{one_reading}
+use Rattle.dns_zone_words.specs.{Forms.ZoneForm, Forms.bare, Forms.number, Forms.string, Forms.text, NameWords.name, Words.Word}
+use Rattle.dns_zone_parameters.proofs.{Items.same_both, OneReading.one_reading}
 use Rattle.dns_zone_rows.specs.Mnemonics.{Named, number_named, IsNamedNumber, named_number}
-use Rattle.dns_zone_rows.specs.Rows.{FieldKind, Number, NamedNumber, Ttl, Ipv4, Ipv6, Name, String, Tag, Octets, RestKind, NoWord, SomeStrings, SomeHex, SomeBase64, AnyTypes, AnyParameters, Row}
-use Rattle.dns_zone_rows.specs.Rows.{Gives, tag, FieldGives, IsTypeNumber, RestGives, FieldsGive, RowGives}
+use Rattle.dns_zone_rows.specs.Rows.{FieldKind, Number, NamedNumber, Ttl, Ipv4, Ipv6, Name, String, Tag, Octets, RestKind, NoWord, SomeStrings}
+use Rattle.dns_zone_rows.specs.Rows.{SomeHex, SomeBase64, AnyTypes, AnyParameters, Row, Gives, tag, FieldGives, IsTypeNumber, RestGives, FieldsGive}
+use Rattle.dns_zone_rows.specs.Rows.{RowGives}
 
 -- ---- one word
 

@@ -1,7 +1,7 @@
 -- Fields taken one after the other.
-use Rattle.std.proofs.Common.{◌≡◌, ℕ, suc, ◌+◌, ◌<◌, List, [], ◌∷◌, ◌++◌, length, map, drop, get_or, Option, Result, Ok, refl, sym, subst, ap, ◌∙◌, inl, inr, ◌⊎◌, ◌≤◌, append_assoc, add-one}
-use Rattle.std.proofs.Math.Seq.{drop-cons}
-use Rattle.std.proofs.lemmas.List.{drop_all}
+use Rattle.std.proofs.Common.{◌≡◌, ℕ, suc, ◌+◌, ◌<◌, List, [], ◌∷◌, ◌++◌, length, map, drop, get_or, Option, Result, Ok, refl, sym, subst, ap, ◌∙◌}
+use Rattle.std.proofs.Common.{inl, inr, ◌⊎◌, ◌≤◌, append_assoc, add-one}
+use Rattle.std.proofs.{Math.Seq.drop-cons, lemmas.List.drop_all}
 use Rattle.std.specs.Prelude.{IfErr}
 use Rattle.std.specs.Result.{IsErrAnd}
 use Rattle.dns_fields.specs.Labels.{DomainName}
@@ -11,14 +11,10 @@ use Rattle.dns_words.specs.Reads.{UnlessMemory}
 use Rattle.dns_zone_words.specs.Remaining.{TookAll, NoneOfAll, ReadsAll, PutAll}
 use Rattle.dns_zone_words.specs.Words.{Word, Cursor, words_at, with_word}
 use Rattle.dns_words.proofs.Steps.{unless_map}
-use Rattle.dns_zone_words.proofs.FirstSteps.{exit_fault, exit_with}
-use Rattle.dns_zone_words.proofs.RemainingSteps.{word_ok}
+use Rattle.dns_zone_words.proofs.{FirstSteps.exit_fault, FirstSteps.exit_with, RemainingSteps.word_ok}
+use Rattle.dns_zone_rows.specs.{RowSteps.AddedFirst, RowSteps.NoFirstGives, Rows.FieldGives, Rows.RestGives, Rows.FieldsGive, Rows.RowGives}
+use Rattle.dns_zone_rows.specs.{declared.row.ZoneField.ZoneField, declared.row.ZoneRest.ZoneRest, declared.row.ZoneRow.ZoneRow}
 use Rattle.dns_zone_rows.specs.RowFaults.{kind_of, rest_kind_of, row_value, FieldFault, RestFault, FieldsFault, RowFault}
-use Rattle.dns_zone_rows.specs.RowSteps.{AddedFirst, NoFirstGives}
-use Rattle.dns_zone_rows.specs.Rows.{FieldGives, RestGives, FieldsGive, RowGives}
-use Rattle.dns_zone_rows.specs.declared.row.ZoneField.{ZoneField}
-use Rattle.dns_zone_rows.specs.declared.row.ZoneRest.{ZoneRest}
-use Rattle.dns_zone_rows.specs.declared.row.ZoneRow.{ZoneRow}
 
 -- the octets that the words give by these fields
 pub record Given (origin : Option DomainName) (fields : List ZoneField) (rest : ZoneRest) (octets : List ℕ) (words : List Word) : Type 0 where

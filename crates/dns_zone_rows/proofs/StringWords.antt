@@ -1,19 +1,14 @@
 -- Strings in the words that are left, one by one.
 use Rattle.std.proofs.Common.{◌≡◌, ◌≢◌, ℕ, List, [], ◌∷◌, ◌++◌, Result, Ok, Err, refl, sym, ◌∙◌, ap, subst, ◌⊎◌, inl, inr, append_assoc}
-use Rattle.std.specs.List.{flat_map}
-use Rattle.std.specs.Result.{IsErrAnd}
-use Rattle.std.proofs.lemmas.Grind.{flat_map-append}
-use Rattle.std.proofs.lemmas.List.{append-nil}
-use Rattle.std.proofs.lemmas.Slice.Zip.{all_zipped_more}
+use Rattle.std.specs.{List.flat_map, Result.IsErrAnd}
+use Rattle.std.proofs.{lemmas.Grind.flat_map-append, lemmas.List.append-nil, lemmas.Slice.Zip.all_zipped_more}
 use Rattle.dns_fields.specs.Pieces.{string as string_octets}
 use Rattle.dns_types.specs.declared.error.ParseError.{ParseError}
 use Rattle.dns_types.specs.declared.error.ParseError.TheVariants as parse
 use Rattle.dns_words.specs.Reads.{UnlessMemory}
-use Rattle.dns_zone_words.specs.Forms.{string}
+use Rattle.dns_zone_words.specs.{Forms.string, Words.Word, Words.Cursor, Words.words_at, Words.with_word, declared.words_error.WordsError.WordsError}
 use Rattle.dns_zone_words.specs.Remaining.{AreStrings, with_words, NoneOfAll, PutAll, PutsAll, AmongFault}
-use Rattle.dns_zone_words.specs.Words.{Word, Cursor, words_at, with_word}
 use Rattle.dns_zone_words.specs.ZoneReads.{LacksFirst, NoValueOf, PutAs}
-use Rattle.dns_zone_words.specs.declared.words_error.WordsError.{WordsError}
 use Rattle.dns_words.proofs.Steps.{unless_map, unless_all}
 use Rattle.dns_zone_words.proofs.FirstSteps.{exit_as, exit_with}
 use Rattle.dns_zone_words.proofs.RemainingSteps.{words_more, words_ok, words_err, one_among}

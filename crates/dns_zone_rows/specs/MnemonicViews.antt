@@ -1,8 +1,7 @@
 -- The code's names of numbers, as the definitions have them.
 use Rattle.std.specs.Prelude.{◌≡◌, ◌⊎◌, ℕ, true, false, List, map, Some, None}
-use Rattle.dns_zone_rows.specs.Mnemonics.{Named, named, number_named}
+use Rattle.dns_zone_rows.specs.{Mnemonics.Named, Mnemonics.named, Mnemonics.number_named, declared.mnemonics.Mnemonic.Mnemonic}
 use Rattle.dns_zone_words.specs.Words.{Word}
-use Rattle.dns_zone_rows.specs.declared.mnemonics.Mnemonic.{Mnemonic}
 
 abbrev pub named_values : List Mnemonic → List Named
 named_values names = map (λ (m : Mnemonic). named m.name.now m.value) names

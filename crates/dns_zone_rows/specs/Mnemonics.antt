@@ -2,8 +2,7 @@
 use Rattle.std.specs.Prelude.{◌≡◌, ℕ, if◌then◌else◌, false, List, [], ◌∷◌, Option, Some, None, codes}
 use Rattle.std.specs.Str.{str_eq_ignore_ascii_case}
 use Rattle.dns_fields.specs.Fields.{Number}
-use Rattle.dns_zone_words.specs.Forms.{ZoneForm, number}
-use Rattle.dns_zone_words.specs.Words.{Word}
+use Rattle.dns_zone_words.specs.{Forms.ZoneForm, Forms.number, Words.Word}
 
 -- a name, and the number that it stands for
 pub record Named : Type 0 where

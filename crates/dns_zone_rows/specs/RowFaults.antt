@@ -1,24 +1,19 @@
 -- Why the words of a record's data give no octets by a row: the first field with a fault.
 use Rattle.std.specs.Prelude.{◌≡◌, ◌≢◌, ◌⊎◌, ℕ, List, [], ◌∷◌, map, Option, Ok}
 use Rattle.dns_fields.specs.Labels.{DomainName}
-use Rattle.dns_types.specs.declared.record_type.RecordType.{RecordType}
-use Rattle.dns_types.specs.declared.error.ParseError.{ParseError}
+use Rattle.dns_types.specs.{declared.record_type.RecordType.RecordType, declared.error.ParseError.ParseError}
 use Rattle.dns_types.specs.declared.error.ParseError.TheVariants as parse
-use Rattle.dns_words.specs.Reads.{NoValue}
-use Rattle.dns_words.specs.declared.field.Field.{Field}
-use Rattle.dns_zone_words.specs.Forms.{StringFault, TextFault, IsType}
-use Rattle.dns_zone_words.specs.NameWords.{NameFault}
-use Rattle.dns_zone_words.specs.Remaining.{AmongFault, HexFault, Base64Fault}
-use Rattle.dns_zone_words.specs.Words.{Word, Cursor, words_at, with_word}
+use Rattle.dns_words.specs.{Reads.NoValue, declared.field.Field.Field}
+use Rattle.dns_zone_words.specs.{Forms.StringFault, Forms.TextFault, Forms.IsType, NameWords.NameFault, Remaining.AmongFault, Remaining.HexFault}
+use Rattle.dns_zone_words.specs.{Remaining.Base64Fault, Words.Word, Words.Cursor, Words.words_at, Words.with_word}
 use Rattle.dns_zone_words.specs.ZoneReads.{IsCutRefused, LacksFirst, WhyNoField, WhyFirst}
 use Rattle.dns_zone_parameters.specs.Faults.{ParametersFault}
+use Rattle.dns_zone_rows.specs.{declared.row.ZoneField.ZoneField, declared.row.ZoneRest.ZoneRest, declared.row.ZoneRow.ZoneRow}
 use Rattle.dns_zone_rows.specs.Mnemonics.{cert_types, algorithms}
-use Rattle.dns_zone_rows.specs.Rows.{FieldKind, Number, NamedNumber, Ttl, Ipv4, Ipv6, Name, String, Tag, Octets, RestKind, NoWord, SomeStrings, SomeHex, SomeBase64, AnyTypes, AnyParameters, Row, FieldGives}
-use Rattle.dns_zone_rows.specs.declared.row.ZoneField.{ZoneField}
+use Rattle.dns_zone_rows.specs.Rows.{FieldKind, Number, NamedNumber, Ttl, Ipv4, Ipv6, Name, String, Tag, Octets, RestKind, NoWord, SomeStrings}
+use Rattle.dns_zone_rows.specs.Rows.{SomeHex, SomeBase64, AnyTypes, AnyParameters, Row, FieldGives}
 use Rattle.dns_zone_rows.specs.declared.row.ZoneField.TheVariants as field
-use Rattle.dns_zone_rows.specs.declared.row.ZoneRest.{ZoneRest}
 use Rattle.dns_zone_rows.specs.declared.row.ZoneRest.TheVariants as rest
-use Rattle.dns_zone_rows.specs.declared.row.ZoneRow.{ZoneRow}
 
 -- ---- the code's row as the definitions have it
 

@@ -1,19 +1,13 @@
 -- Rows of fields: which octets the words of a record's data give (RFC 1035, 5.1), as they are sent, names whole and with
 -- their letters.
 use Rattle.std.specs.Prelude.{◌≡◌, ◌≢◌, ℕ, ◌≤◌, false, List, [], ◌∷◌, ◌++◌, length, Option}
-use Rattle.std.specs.List.{AllZip, flat_map}
-use Rattle.std.specs.Int.{bytes_high_first}
-use Rattle.dns_fields.specs.Bitmaps.{block, minimal}
+use Rattle.std.specs.{List.AllZip, List.flat_map, Int.bytes_high_first}
+use Rattle.dns_fields.specs.{Bitmaps.block, Bitmaps.minimal, Labels.DomainName, Pieces.string as string_octets}
 use Rattle.dns_fields.specs.Fields.{Kind, Value, Text}
-use Rattle.dns_fields.specs.Labels.{DomainName}
-use Rattle.dns_fields.specs.Pieces.{string as string_octets}
-use Rattle.dns_types.specs.RecordTypes.{number_of}
-use Rattle.dns_types.specs.declared.record_type.RecordType.{RecordType}
+use Rattle.dns_types.specs.{RecordTypes.number_of, declared.record_type.RecordType.RecordType}
 use Rattle.dns_words.specs.Forms.{ttl, ipv4, ipv6}
+use Rattle.dns_zone_words.specs.{NameWords.name, NameWords.name_octets, Remaining.AreHex, Remaining.AreBase64, Remaining.AreStrings, Words.Word}
 use Rattle.dns_zone_words.specs.Forms.{ZoneForm, bare, number, string, text, IsType}
-use Rattle.dns_zone_words.specs.NameWords.{name, name_octets}
-use Rattle.dns_zone_words.specs.Remaining.{AreHex, AreBase64, AreStrings}
-use Rattle.dns_zone_words.specs.Words.{Word}
 use Rattle.dns_zone_parameters.specs.Parameters.{AreParameters}
 use Rattle.dns_zone_rows.specs.Mnemonics.{Named, named_number}
 

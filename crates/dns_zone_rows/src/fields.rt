@@ -1,19 +1,14 @@
 //! Fields of one word, put behind the octets of those before them.
 
 ghost use Rattle.std.specs.Prelude.{◌≡◌, ◌≤◌, ◌⊎◌, ◌++◌, length, IfErr, OnOk};
-ghost use Rattle.std.specs.Int.{bytes_high_first};
-ghost use Rattle.std.specs.Option.{option_copied};
+ghost use Rattle.std.specs.{Int.bytes_high_first, Option.option_copied};
 ghost use Rattle.dns_fields.specs.Pieces.{string as string_octets};
 ghost use Rattle.dns_words.specs.Forms.{ttl, ipv4, ipv6};
+ghost use Rattle.dns_zone_words.specs.{NameWords.name, NameWords.name_octets, NameWords.NameFault, Views.word_value, Words.words_at};
+ghost use Rattle.dns_zone_words.specs.{Words.behind_first, ZoneReads.ReadsAs, ZoneReads.ReadsFirst, ZoneReads.WhyNoField, ZoneReads.WhyFirst};
 ghost use Rattle.dns_zone_words.specs.Forms.{bare, number, string, text, StringFault, TextFault};
-ghost use Rattle.dns_zone_words.specs.NameWords.{name, name_octets, NameFault};
-ghost use Rattle.dns_zone_words.specs.Views.{word_value};
-ghost use Rattle.dns_zone_words.specs.Words.{words_at, behind_first};
-ghost use Rattle.dns_zone_words.specs.ZoneReads.{ReadsAs, ReadsFirst, WhyNoField, WhyFirst};
+ghost use Rattle.dns_zone_rows.specs.{RowFaults.kind_of, RowFaults.FieldFault, RowSteps.AddsFirst, Rows.Gives, Rows.FieldGives, Rows.tag};
 ghost use Rattle.dns_zone_rows.specs.Mnemonics.{named_number, cert_types, algorithms};
-ghost use Rattle.dns_zone_rows.specs.RowFaults.{kind_of, FieldFault};
-ghost use Rattle.dns_zone_rows.specs.RowSteps.{AddsFirst};
-ghost use Rattle.dns_zone_rows.specs.Rows.{Gives, FieldGives, tag};
 
 use crate::mnemonics::{next_algorithm, next_cert_type};
 use crate::row::ZoneField;

@@ -4,8 +4,7 @@ ghost use Rattle.std.specs.Prelude.{◌≡◌, IfErr, IfSome, IfNone};
 ghost use Rattle.std.specs.Str.{str_eq_ignore_ascii_case};
 ghost use Rattle.dns_zone_rows.specs.MnemonicViews.{named_values, IsByName, IsNotByName};
 ghost use Rattle.dns_zone_rows.specs.Mnemonics.{number_named, named_number, cert_types, algorithms};
-ghost use Rattle.dns_zone_words.specs.Views.{word_value};
-ghost use Rattle.dns_zone_words.specs.Words.{words_at, behind_first};
+ghost use Rattle.dns_zone_words.specs.{Views.word_value, Words.words_at, Words.behind_first};
 ghost use Rattle.dns_zone_words.specs.ZoneReads.{ReadsAs, ReadsFirst, WhyNoField};
 
 use dns_types::ParseError;

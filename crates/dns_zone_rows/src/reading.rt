@@ -3,8 +3,7 @@
 ghost use Rattle.std.specs.Prelude.{◌≡◌, ◌⊎◌, IfErr};
 ghost use Rattle.std.specs.Option.{option_copied};
 ghost use Rattle.dns_zone_words.specs.Remaining.{ReadsAll};
-ghost use Rattle.dns_zone_rows.specs.RowFaults.{row_value, RowFault};
-ghost use Rattle.dns_zone_rows.specs.Rows.{RowGives};
+ghost use Rattle.dns_zone_rows.specs.{RowFaults.row_value, RowFaults.RowFault, Rows.RowGives};
 
 use crate::fields::add_field;
 use crate::remaining::add_rest;

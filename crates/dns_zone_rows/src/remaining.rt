@@ -3,10 +3,8 @@
 ghost use Rattle.std.specs.Prelude.{◌≡◌, ◌≢◌, ◌≤◌, ◌⊎◌, ◌++◌, [], All, length, Ok, IfErr, OnOk, OnErr};
 ghost use Rattle.std.specs.List.{flat_map};
 ghost use Rattle.dns_fields.specs.Pieces.{string as string_octets};
-ghost use Rattle.dns_zone_words.specs.Forms.{StringFault};
+ghost use Rattle.dns_zone_words.specs.{Forms.StringFault, Words.words_at, ZoneReads.LacksFirst};
 ghost use Rattle.dns_zone_words.specs.Remaining.{AmongFault, HexFault, Base64Fault, PutsAll};
-ghost use Rattle.dns_zone_words.specs.Words.{words_at};
-ghost use Rattle.dns_zone_words.specs.ZoneReads.{LacksFirst};
 ghost use Rattle.dns_zone_parameters.specs.Faults.{ParametersFault};
 ghost use Rattle.dns_zone_rows.specs.RowFaults.{rest_kind_of, SurplusFault, RestFault};
 ghost use Rattle.dns_zone_rows.specs.Rows.{NoWord, SomeStrings, SomeHex, SomeBase64, AnyParameters, RestGives};

@@ -2,9 +2,7 @@
 
 ghost use Rattle.std.specs.Prelude.{◌≡◌, map};
 ghost use Rattle.std.specs.Option.{option_map};
-ghost use Rattle.dns_zone_rows.specs.RowFaults.{kind_of, rest_kind_of, row_value};
-ghost use Rattle.dns_zone_rows.specs.RowTable.{row, row_of};
-ghost use Rattle.dns_zone_rows.specs.Rows.{NoWord};
+ghost use Rattle.dns_zone_rows.specs.{RowFaults.kind_of, RowFaults.rest_kind_of, RowFaults.row_value, RowTable.row, RowTable.row_of, Rows.NoWord};
 
 use crate::row::{ZoneField, ZoneRest, ZoneRow};
 use dns_types::RecordType;

@@ -1,10 +1,7 @@
 -- Decimal digits, one by one.
 use Rattle.std.proofs.Common.{◌≡◌, ℕ, suc, ◌+◌, ◌-◌, ◌*◌, ◌<◌, ◌≤◌, List, [], ◌∷◌, length, take, get_or, arith}
-use Rattle.std.specs.Int.{IsInRange}
-use Rattle.std.specs.Str.Parse.{AllDigits, digits_value}
-use Rattle.std.proofs.lemmas.Int.Digits.{digits_value_more}
-use Rattle.std.proofs.lemmas.Str.{digit_value_digit}
-use Rattle.std.proofs.lemmas.Str.Parse.{digits_value-take-le}
+use Rattle.std.specs.{Int.IsInRange, Str.Parse.AllDigits, Str.Parse.digits_value}
+use Rattle.std.proofs.{lemmas.Int.Digits.digits_value_more, lemmas.Str.digit_value_digit, lemmas.Str.Parse.digits_value-take-le}
 
 pub all_digits : (ds : List ℕ) → ((i : ℕ) → i < length ds → IsInRange 48 57 (get_or ds i 0)) → AllDigits 10 ds
 all_digits [] h = tt

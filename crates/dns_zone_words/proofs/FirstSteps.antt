@@ -5,10 +5,8 @@ use Rattle.std.specs.Result.{IsErrAnd}
 use Rattle.dns_types.specs.declared.error.ParseError.{ParseError}
 use Rattle.dns_fields.specs.Fields.{Kind, Value}
 use Rattle.dns_words.proofs.Steps.{unless_map}
-use Rattle.dns_zone_words.specs.Forms.{ZoneForm}
-use Rattle.dns_zone_words.specs.Words.{Word, Cursor, words_at, with_word}
-use Rattle.dns_zone_words.specs.ZoneReads.{NoValueOf, ReadsAs, FirstHas, NoFirst, ReadsFirst}
-use Rattle.dns_zone_words.specs.declared.words_error.WordsError.{WordsError}
+use Rattle.dns_zone_words.specs.{Forms.ZoneForm, Words.Word, Words.Cursor, Words.words_at, Words.with_word, ZoneReads.NoValueOf, ZoneReads.ReadsAs}
+use Rattle.dns_zone_words.specs.{ZoneReads.FirstHas, ZoneReads.NoFirst, ZoneReads.ReadsFirst, declared.words_error.WordsError.WordsError}
 
 -- the first of the words is the one that stands in front
 pub first_is : {k : Kind} (form : ZoneForm k) (v : Value k) (word : Word) (behind : Result (List Word) WordsError) (words : List Word)

@@ -1,12 +1,9 @@
 -- Letters, one by one.
-use Rattle.std.proofs.Common.{◌≡◌, ℕ, ◌<◌, ◌≤◌, Bool, true, false, cond, eqb, List, [], ◌∷◌, ◌++◌, length, map, get_or, take, drop, length-drop, subst, ◌-◌, zero, suc, ◌≢◌, ap, refl, sym, ◌∙◌, arith, append_assoc}
-use Rattle.std.proofs.lemmas.List.{append-nil, take_all}
-use Rattle.std.proofs.lemmas.Bool.Decides.{nat_tests}
-use Rattle.dns_zone_words.specs.Forms.{text as text_form}
+use Rattle.std.proofs.Common.{◌≡◌, ℕ, ◌<◌, ◌≤◌, Bool, true, false, cond, eqb, List, [], ◌∷◌, ◌++◌, length, map, get_or, take, drop, length-drop}
+use Rattle.std.proofs.Common.{subst, ◌-◌, zero, suc, ◌≢◌, ap, refl, sym, ◌∙◌, arith, append_assoc}
+use Rattle.std.proofs.{lemmas.List.append-nil, lemmas.List.take_all, lemmas.Bool.Decides.nat_tests}
+use Rattle.dns_zone_words.specs.{Forms.text as text_form, Views.BeginsWith, Words.Word, ZoneReads.PutAs, ZoneReads.NoValueOf}
 use Rattle.dns_zone_words.specs.Letters.{Letter, is_digit, letters, octet_of, escapes_stand}
-use Rattle.dns_zone_words.specs.Views.{BeginsWith}
-use Rattle.dns_zone_words.specs.Words.{Word}
-use Rattle.dns_zone_words.specs.ZoneReads.{PutAs, NoValueOf}
 
 either_way : (b : Bool) → cond b false false ≡ false
 either_way true = refl

@@ -1,20 +1,18 @@
 -- Labels of names, one by one.
-use Rattle.std.proofs.Common.{◌≡◌, ◌≢◌, ℕ, zero, suc, get_or, take, drop, length-drop, ◌-◌, ◌+◌, ◌<◌, ◌≤◌, Bool, true, false, cond, List, [], ◌∷◌, ◌++◌, length, refl, sym, ◌∙◌, ap, subst, arith, append_assoc, ◌⊎◌, inl, inr, Option, Some, None}
+use Rattle.std.proofs.Common.{◌≡◌, ◌≢◌, ℕ, zero, suc, get_or, take, drop, length-drop, ◌-◌, ◌+◌, ◌<◌, ◌≤◌, Bool, true, false, cond, List, [], ◌∷◌}
+use Rattle.std.proofs.Common.{◌++◌, length, refl, sym, ◌∙◌, ap, subst, arith, append_assoc, ◌⊎◌, inl, inr, Option, Some, None}
 use Rattle.std.specs.Prelude.{◌==◌}
 use Rattle.std.proofs.lemmas.Bool.Decides.{nat_tests}
 use Rattle.std.proofs.lemmas.List.{append-nil, length-append, get_or-drop, take_all}
 use Rattle.dns_fields.specs.Labels.{DomainName, IsLabel, AreLabels, IsName, wire}
 use Rattle.dns_fields.proofs.Runs.{wire-append, AreLabels-append}
 use Rattle.dns_types.specs.declared.error.ParseError.{ParseError}
+use Rattle.dns_zone_words.specs.{Words.Word, ZoneReads.NoValueOf, Views.BeginsWith, declared.field.NameField.NameField}
 use Rattle.dns_zone_words.specs.Letters.{Letter, plain, letters, octet_of, stands_for, escapes_stand}
 use Rattle.dns_zone_words.specs.NameWords.{parts_from, name_of_parts, with_label, labelled, is_alone, name, HasLabel, IsLongName, LabelsFault}
-use Rattle.dns_zone_words.specs.Words.{Word}
-use Rattle.dns_zone_words.specs.ZoneReads.{NoValueOf}
-use Rattle.dns_names_wire.specs.NameValues.{root_name, joined_name, completed}
-use Rattle.dns_zone_words.specs.Views.{BeginsWith}
-use Rattle.dns_zone_words.proofs.LetterSteps.{from_place, none_left}
 use Rattle.dns_zone_words.specs.NameSteps.{ReadSo, LabelsRead, NoLabels, NotClosed}
-use Rattle.dns_zone_words.specs.declared.field.NameField.{NameField}
+use Rattle.dns_names_wire.specs.NameValues.{root_name, joined_name, completed}
+use Rattle.dns_zone_words.proofs.LetterSteps.{from_place, none_left}
 
 -- ---- parts and labels
 

@@ -1,20 +1,17 @@
 -- Names put behind octets.
-use Rattle.std.proofs.Common.{◌≡◌, ℕ, ◌+◌, ◌<◌, ◌≤◌, Bool, true, false, List, [], ◌∷◌, ◌++◌, length, map, refl, sym, ◌∙◌, ap, subst, arith, append_assoc, ◌⊎◌, inl, inr, Option, Some, None, Result, Ok, Err}
+use Rattle.std.proofs.Common.{◌≡◌, ℕ, ◌+◌, ◌<◌, ◌≤◌, Bool, true, false, List, [], ◌∷◌, ◌++◌, length, map, refl, sym, ◌∙◌, ap, subst, arith}
+use Rattle.std.proofs.Common.{append_assoc, ◌⊎◌, inl, inr, Option, Some, None, Result, Ok, Err}
 use Rattle.std.specs.Prelude.{IfOk, IfErr, OnOk}
 use Rattle.std.specs.Char.{to_ascii_lowercase}
-use Rattle.std.proofs.lemmas.Bool.Decides.{nat_tests}
-use Rattle.std.proofs.lemmas.List.{length-append, length-map}
+use Rattle.std.proofs.{lemmas.Bool.Decides.nat_tests, lemmas.List.length-append, lemmas.List.length-map}
 use Rattle.dns_fields.specs.Labels.{DomainName, AreLabels, IsName, lowered, lowname, wire}
 use Rattle.dns_fields.proofs.Runs.{wire-append, AreLabels-append}
 use Rattle.dns_types.specs.declared.error.ParseError.{ParseError}
 use Rattle.dns_types.specs.declared.error.ParseError.TheVariants as parse
 use Rattle.dns_names_wire.specs.NameValues.{root_name, joined_name, completed}
 use Rattle.dns_words.specs.Reads.{UnlessMemory}
-use Rattle.dns_zone_words.specs.Letters.{escapes_stand}
-use Rattle.dns_zone_words.specs.NameSteps.{LabelsRead}
+use Rattle.dns_zone_words.specs.{Letters.escapes_stand, NameSteps.LabelsRead, Words.Word, ZoneReads.PutAs, ZoneReads.PutsAs}
 use Rattle.dns_zone_words.specs.NameWords.{labelled, is_alone, named, name, name_octets, NameFault}
-use Rattle.dns_zone_words.specs.Words.{Word}
-use Rattle.dns_zone_words.specs.ZoneReads.{PutAs, PutsAs}
 use Rattle.dns_zone_words.specs.declared.field.NameField.{NameField}
 use Rattle.dns_words.proofs.Steps.{unless_all}
 use Rattle.dns_zone_words.proofs.NameLabels.{labels_read}

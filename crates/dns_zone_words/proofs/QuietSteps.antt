@@ -1,12 +1,11 @@
 -- Octets at which no reader stops: their marks in a vector of sixteen, and what stands in front of a place.
-use Rattle.std.proofs.Common.{◌≡◌, ◌≢◌, ℕ, ◌+◌, ◌-◌, ◌<◌, ◌≤◌, ◌%◌, ◌^◌, Bool, true, false, cond, eqb, leb, List, length, get_or, map, replicate, take, drop, refl, sym, ap, subst, ◌∙◌, arith, bit_or, inl, inr}
+use Rattle.std.proofs.Common.{◌≡◌, ◌≢◌, ℕ, ◌+◌, ◌-◌, ◌<◌, ◌≤◌, ◌%◌, ◌^◌, Bool, true, false, cond, eqb, leb, List, length, get_or, map, replicate}
+use Rattle.std.proofs.Common.{take, drop, refl, sym, ap, subst, ◌∙◌, arith, bit_or, inl, inr}
 use Rattle.std.specs.Prelude.{not}
-use Rattle.std.specs.List.{prefix_len}
-use Rattle.std.specs.Simd.Lanes.{zip2, mask_l, top}
-use Rattle.std.specs.Int.{trailing_zeros, w64}
-use Rattle.std.proofs.lemmas.Simd.{zip2_splat, zip2_of_maps, map-map, mask_l-mod, trailing_mask_l, run_in_chunk_le, run_in_chunk_fails, none_from_empty_mask, get_or-chunk}
-use Rattle.std.proofs.lemmas.Bool.{leb-false, eq-eqb, cases_lt}
-use Rattle.std.proofs.lemmas.List.{length-map, length-take-le}
+use Rattle.std.specs.{List.prefix_len, Simd.Lanes.zip2, Simd.Lanes.mask_l, Simd.Lanes.top, Int.trailing_zeros, Int.w64}
+use Rattle.std.proofs.{lemmas.Bool.leb-false, lemmas.Bool.eq-eqb, lemmas.Bool.cases_lt, lemmas.List.length-map, lemmas.List.length-take-le}
+use Rattle.std.proofs.lemmas.Simd.{zip2_splat, zip2_of_maps, map-map, mask_l-mod, trailing_mask_l, run_in_chunk_le, run_in_chunk_fails}
+use Rattle.std.proofs.lemmas.Simd.{none_from_empty_mask, get_or-chunk}
 use Rattle.dns_zone_words.specs.Quiet.{IsQuiet}
 
 -- what three comparisons leave of an octet

@@ -1,16 +1,13 @@
 -- Words that are left, one by one.
 use Rattle.std.proofs.Common.{◌≡◌, ℕ, length, true, false, List, [], ◌∷◌, ◌++◌, Result, Ok, Err, refl, sym, ◌∙◌, ap, subst}
-use Rattle.std.proofs.lemmas.List.{append-nil}
+use Rattle.std.proofs.{lemmas.List.append-nil, lemmas.Grind.flat_map-append}
 use Rattle.std.specs.List.{AllZip}
-use Rattle.std.proofs.lemmas.Grind.{flat_map-append}
 use Rattle.dns_types.specs.declared.error.ParseError.{ParseError}
 use Rattle.dns_words.specs.Reads.{UnlessMemory}
+use Rattle.dns_zone_words.specs.{Forms.number, ZoneReads.FirstHas, ZoneReads.NoFirst, declared.words_error.WordsError.WordsError}
 use Rattle.dns_zone_words.specs.Remaining.{AllBare, joined, AreJoined, AreUnknown, TookAll, NoneOfAll, with_words}
-use Rattle.dns_zone_words.specs.Forms.{number}
-use Rattle.dns_zone_words.specs.ZoneReads.{FirstHas, NoFirst}
 use Rattle.dns_zone_words.specs.Words.{Word, Cursor, words_at, with_word}
 use Rattle.dns_words.proofs.Steps.{unless_map}
-use Rattle.dns_zone_words.specs.declared.words_error.WordsError.{WordsError}
 
 -- so many words were taken, none in quotes, and their octets are these
 pub record TakenSo (old new : Cursor) (octets : List ℕ) : Type 0 where

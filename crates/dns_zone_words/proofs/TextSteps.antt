@@ -1,24 +1,15 @@
 -- What is no word of a field. Texts of times to live and of record types are ASCII.
 use Rattle.std.proofs.Common.{◌≡◌, ℕ, zero, suc, ◌<◌, true, List, [], ◌∷◌, refl, arith, inl, inr}
 use Rattle.std.specs.Prelude.{codes, IsTrue, ◌&&◌, Bool, false}
-use Rattle.std.specs.Char.{is_ascii}
-use Rattle.std.specs.List.{list_all}
-use Rattle.std.specs.Str.{IsUtf8, IsAscii}
-use Rattle.std.specs.Net.Grammar.{IsIpv4Text, IsIpv6Text}
-use Rattle.std.specs.declared.net.ipv4_addr.Ipv4Addr.{Ipv4Addr}
-use Rattle.std.specs.declared.net.ipv6_addr.Ipv6Addr.{Ipv6Addr}
-use Rattle.std.proofs.lemmas.Bool.Decides.{nat_tests}
-use Rattle.std.proofs.lemmas.Fmt.{IsAscii-from_digits}
+use Rattle.std.specs.{Char.is_ascii, List.list_all, Str.IsUtf8, Str.IsAscii, Net.Grammar.IsIpv4Text, Net.Grammar.IsIpv6Text}
+use Rattle.std.specs.{declared.net.ipv4_addr.Ipv4Addr.Ipv4Addr, declared.net.ipv6_addr.Ipv6Addr.Ipv6Addr}
+use Rattle.std.proofs.{lemmas.Bool.Decides.nat_tests, lemmas.Fmt.IsAscii-from_digits}
 use Rattle.std.proofs.lemmas.Str.{IsUtf8-from_ascii, IsUtf8-append, IsUtf8-nil}
 use Rattle.dns_text.specs.Ttl.{IsUnit, weeks, days, hours, minutes, seconds, Periods, plain, last, next}
-use Rattle.dns_types.specs.RecordTypes.{is_named, type_text, IsTypeText}
-use Rattle.dns_types.specs.declared.record_type.RecordType.{RecordType}
+use Rattle.dns_types.specs.{RecordTypes.is_named, RecordTypes.type_text, RecordTypes.IsTypeText, declared.record_type.RecordType.RecordType}
 use Rattle.dns_types.specs.declared.record_type.RecordType.TheVariants as types
-use Rattle.dns_words.specs.Forms.{ttl, ipv4, ipv6}
-use Rattle.dns_words.specs.Reads.{NoValue}
-use Rattle.dns_zone_words.specs.Forms.{bare, IsType}
-use Rattle.dns_zone_words.specs.Words.{Word}
-use Rattle.dns_zone_words.specs.ZoneReads.{NoValueOf}
+use Rattle.dns_words.specs.{Forms.ttl, Forms.ipv4, Forms.ipv6, Reads.NoValue}
+use Rattle.dns_zone_words.specs.{Forms.bare, Forms.IsType, Words.Word, ZoneReads.NoValueOf}
 
 -- a word of no address is none of the form
 pub no_ipv4 : (word : Word) → ((a : Ipv4Addr) → ¬ (IsIpv4Text word.octets a)) → NoValueOf (bare ipv4) word

@@ -1,15 +1,11 @@
 -- Words of a text, octet by octet.
-use Rattle.std.proofs.Common.{◌≡◌, ℕ, zero, suc, ◌+◌, ◌-◌, ◌<◌, ◌≤◌, Bool, true, false, eqb, List, [], ◌∷◌, ◌++◌, length, take, drop, get_or, refl, sym, subst, ◌∙◌, ap, add-one, arith, Result, Err}
-use Rattle.std.proofs.Math.Seq.{take-suc, drop-cons}
-use Rattle.dns_zone_words.specs.declared.words_error.WordsError.{WordsError}
+use Rattle.std.proofs.Common.{◌≡◌, ℕ, zero, suc, ◌+◌, ◌-◌, ◌<◌, ◌≤◌, Bool, true, false, eqb, List, [], ◌∷◌, ◌++◌, length, take, drop, get_or, refl}
+use Rattle.std.proofs.Common.{sym, subst, ◌∙◌, ap, add-one, arith, Result, Err}
+use Rattle.std.proofs.{Math.Seq.take-suc, Math.Seq.drop-cons, lemmas.Bool.Decides.nat_tests, lemmas.List.get_or-drop}
+use Rattle.dns_zone_words.specs.{declared.words_error.WordsError.WordsError, Quiet.IsQuiet, WordSteps.QuotesRefused}
 use Rattle.dns_zone_words.specs.declared.words_error.WordsError.TheVariants.{NoParenthesis, LineInQuotes, FurtherLine}
-use Rattle.std.proofs.lemmas.Bool.Decides.{nat_tests}
-use Rattle.std.proofs.lemmas.List.{get_or-drop}
-use Rattle.dns_zone_words.specs.Quiet.{IsQuiet}
 use Rattle.dns_zone_words.specs.Words.{Word, is_blank, is_line_end, ends_run, between, run, quotes, over, refused, words_from}
-use Rattle.dns_zone_words.specs.WordSteps.{QuotesRefused}
-use Rattle.dns_zone_words.proofs.LetterSteps.{from_place}
-use Rattle.dns_zone_words.proofs.QuietSteps.{AreQuiet}
+use Rattle.dns_zone_words.proofs.{LetterSteps.from_place, QuietSteps.AreQuiet}
 
 -- a refused text stays so
 pub stays_refused : (e : WordsError) (text : List ℕ) → words_from (refused e) text ≡ Err e

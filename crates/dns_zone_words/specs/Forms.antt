@@ -2,14 +2,10 @@
 use Rattle.std.specs.Prelude.{◌≡◌, ◌⊎◌, ℕ, ◌*◌, ◌^◌, ◌<◌, ◌≤◌, true, false, List, length, map}
 use Rattle.std.specs.Str.Parse.{IsNumeral, digits_value}
 use Rattle.dns_fields.specs.Fields.{Kind, Number, Text, Rest, Value}
-use Rattle.dns_types.specs.RecordTypes.{IsTypeText}
-use Rattle.dns_types.specs.declared.record_type.RecordType.{RecordType}
-use Rattle.dns_types.specs.declared.error.ParseError.{ParseError}
+use Rattle.dns_types.specs.{RecordTypes.IsTypeText, declared.record_type.RecordType.RecordType, declared.error.ParseError.ParseError}
 use Rattle.dns_types.specs.declared.error.ParseError.TheVariants as parse
 use Rattle.dns_words.specs.Forms.{Form}
-use Rattle.dns_zone_words.specs.declared.field.StringField.{StringField}
-use Rattle.dns_zone_words.specs.Letters.{letters, octet_of, escapes_stand}
-use Rattle.dns_zone_words.specs.Words.{Word}
+use Rattle.dns_zone_words.specs.{declared.field.StringField.StringField, Letters.letters, Letters.octet_of, Letters.escapes_stand, Words.Word}
 
 -- which values of a field a word has
 pub record ZoneForm (k : Kind) : Type 1 where

@@ -1,9 +1,7 @@
 -- What the code of names keeps.
 use Rattle.std.specs.Prelude.{◌≡◌, ◌⊎◌, ℕ, ◌+◌, ◌<◌, ◌≤◌, Bool, true, List, [], ◌++◌, length}
 use Rattle.dns_fields.specs.Labels.{AreLabels, FitsName, wire}
-use Rattle.dns_zone_words.specs.Letters.{letters, escapes_stand}
-use Rattle.dns_zone_words.specs.NameWords.{parts_from, labelled}
-use Rattle.dns_zone_words.specs.declared.field.NameField.{NameField}
+use Rattle.dns_zone_words.specs.{Letters.letters, Letters.escapes_stand, NameWords.parts_from, NameWords.labelled, declared.field.NameField.NameField}
 use Rattle.dns_types.specs.declared.error.ParseError.{ParseError}
 use Rattle.dns_types.specs.declared.error.ParseError.TheVariants as parse
 

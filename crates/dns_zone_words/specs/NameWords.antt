@@ -1,12 +1,9 @@
 -- Names in words (RFC 1035, 5.1).
 use Rattle.std.specs.Prelude.{◌≡◌, ◌⊎◌, ℕ, ◌+◌, ◌<◌, Bool, true, false, ◌==◌, if◌then◌else◌, List, [], ◌∷◌, ◌++◌, length, Option, Some, None}
-use Rattle.dns_fields.specs.Fields.{Name}
-use Rattle.dns_fields.specs.Labels.{DomainName, IsName, wire}
+use Rattle.dns_fields.specs.{Fields.Name, Labels.DomainName, Labels.IsName, Labels.wire}
 use Rattle.dns_names_wire.specs.NameValues.{root_name, completed}
-use Rattle.dns_zone_words.specs.Forms.{ZoneForm}
+use Rattle.dns_zone_words.specs.{Forms.ZoneForm, Words.Word, declared.field.NameField.NameField}
 use Rattle.dns_zone_words.specs.Letters.{Letter, letters, octet_of, stands_for, escapes_stand}
-use Rattle.dns_zone_words.specs.Words.{Word}
-use Rattle.dns_zone_words.specs.declared.field.NameField.{NameField}
 use Rattle.dns_types.specs.declared.error.ParseError.{ParseError}
 use Rattle.dns_types.specs.declared.error.ParseError.TheVariants as parse
 

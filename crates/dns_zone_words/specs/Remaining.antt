@@ -1,19 +1,14 @@
 -- All words that are left of a text: strings, base64, hexadecimal digits, and the form of unknown data (RFC 3597, 5).
 use Rattle.std.specs.Prelude.{◌≡◌, ◌⊎◌, ℕ, ◌^◌, ◌%◌, ◌≢◌, ◌<◌, true, false, List, [], ◌∷◌, ◌++◌, Result, Ok, Err, length, codes}
 use Rattle.std.specs.List.{AllZip, flat_map}
-use Rattle.base64.specs.Engines.{standard}
-use Rattle.base64.specs.GeneralPurpose.{decode_of as base64_of}
+use Rattle.base64.specs.{Engines.standard, GeneralPurpose.decode_of as base64_of}
 use Rattle.hex.specs.Hex.{decode_of as hex_of}
 use Rattle.dns_types.specs.declared.error.ParseError.{ParseError}
 use Rattle.dns_types.specs.declared.error.ParseError.TheVariants as parse
-use Rattle.dns_words.specs.Reads.{UnlessMemory}
-use Rattle.dns_zone_words.specs.declared.field.HexField.{HexField}
-use Rattle.dns_words.specs.declared.field.Field.{Field}
-use Rattle.dns_zone_words.specs.Forms.{IsNumber, number, string}
-use Rattle.dns_zone_words.specs.Refusals.{Says}
-use Rattle.dns_zone_words.specs.Words.{Word, Cursor, words_at, with_word}
+use Rattle.dns_words.specs.{Reads.UnlessMemory, declared.field.Field.Field}
+use Rattle.dns_zone_words.specs.{declared.field.HexField.HexField, Forms.IsNumber, Forms.number, Forms.string, Refusals.Says, Words.Word}
+use Rattle.dns_zone_words.specs.{Words.Cursor, Words.words_at, Words.with_word, declared.words_error.WordsError.WordsError}
 use Rattle.dns_zone_words.specs.ZoneReads.{IsCutRefused, TookFirst, WhyNoField}
-use Rattle.dns_zone_words.specs.declared.words_error.WordsError.{WordsError}
 
 -- words, and those behind them
 abbrev pub with_words : List Word → Result (List Word) WordsError → Result (List Word) WordsError

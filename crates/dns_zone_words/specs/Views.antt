@@ -1,10 +1,8 @@
 -- The code's letters and words, as the definitions have them.
 use Rattle.std.specs.Prelude.{◌≡◌, ℕ, List, ◌∷◌}
+use Rattle.dns_zone_words.specs.{Words.Word, declared.letter.Letter.Letter as CodeLetter, declared.words.ZoneWord.ZoneWord}
 use Rattle.dns_zone_words.specs.Letters.{Letter, plain, kept, letters, escapes_stand}
-use Rattle.dns_zone_words.specs.Words.{Word}
-use Rattle.dns_zone_words.specs.declared.letter.Letter.{Letter as CodeLetter}
 use Rattle.dns_zone_words.specs.declared.letter.Letter.TheVariants as code
-use Rattle.dns_zone_words.specs.declared.words.ZoneWord.{ZoneWord}
 
 abbrev pub letter_value : CodeLetter → Letter
 letter_value (code.Plain c) = plain c

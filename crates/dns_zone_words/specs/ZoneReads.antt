@@ -3,12 +3,9 @@ use Rattle.std.specs.Prelude.{◌≡◌, ◌⊎◌, ℕ, List, [], ◌∷◌, �
 use Rattle.dns_types.specs.declared.error.ParseError.{ParseError}
 use Rattle.dns_types.specs.declared.error.ParseError.TheVariants as parse
 use Rattle.dns_fields.specs.Fields.{Kind, Value}
-use Rattle.dns_words.specs.Reads.{UnlessMemory}
-use Rattle.dns_words.specs.declared.field.Field.{Field}
-use Rattle.dns_zone_words.specs.Forms.{ZoneForm}
-use Rattle.dns_zone_words.specs.Refusals.{Says, cut_text}
+use Rattle.dns_words.specs.{Reads.UnlessMemory, declared.field.Field.Field}
+use Rattle.dns_zone_words.specs.{Forms.ZoneForm, Refusals.Says, Refusals.cut_text, declared.words_error.WordsError.WordsError}
 use Rattle.dns_zone_words.specs.Words.{Word, Cursor, words_at, with_word}
-use Rattle.dns_zone_words.specs.declared.words_error.WordsError.{WordsError}
 
 -- no value has this word
 pub record NoValueOf {k : Kind} (form : ZoneForm k) (word : Word) : Type 0 where

@@ -3,9 +3,8 @@
 ghost use Rattle.std.specs.Prelude.{◌≡◌, ◌⊎◌, IfOk, IfErr, OnErr};
 ghost use Rattle.std.specs.Net.Addr.{ipv4_octets, ipv6_octets};
 ghost use Rattle.dns_words.specs.Forms.{ttl, ipv4, ipv6};
+ghost use Rattle.dns_zone_words.specs.{Views.word_value, Words.words_at, Words.with_word, Words.behind_first};
 ghost use Rattle.dns_zone_words.specs.Forms.{bare, number, string, text, StringFault, TextFault};
-ghost use Rattle.dns_zone_words.specs.Views.{word_value};
-ghost use Rattle.dns_zone_words.specs.Words.{words_at, with_word, behind_first};
 ghost use Rattle.dns_zone_words.specs.ZoneReads.{ReadsFirst, LacksFirst, WhyNoField, WhyFirst};
 
 use crate::numbers::{u8_of, u16_of, u32_of};

@@ -1,8 +1,7 @@
 //! Letters of a text (RFC 1035, 5.1).
 
 ghost use Rattle.std.specs.Prelude.{◌≡◌, ◌<◌, ◌≤◌, false, [], length, drop, IfSome, IfNone, IfOk, IfErr, OnErr};
-ghost use Rattle.dns_zone_words.specs.Letters.{escapes_stand, octet_of, stands_for};
-ghost use Rattle.dns_zone_words.specs.Views.{letter_value, BeginsWith};
+ghost use Rattle.dns_zone_words.specs.{Letters.escapes_stand, Letters.octet_of, Letters.stands_for, Views.letter_value, Views.BeginsWith};
 
 use dns_types::ParseError;
 use std::marker::Model;

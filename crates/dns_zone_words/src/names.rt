@@ -3,10 +3,8 @@
 ghost use Rattle.std.specs.Prelude.{◌≡◌, ◌≢◌, ◌≤◌, ◌<◌, ◌+◌, ◌⊎◌, ◌∷◌, ◌++◌, ℕ, List, [], length, slice_index, IfOk, IfErr, OnOk};
 ghost use Rattle.std.specs.Option.{option_copied};
 ghost use Rattle.dns_fields.specs.Labels.{IsLabel, IsName, lowname};
+ghost use Rattle.dns_zone_words.specs.{NameSteps.ReadSo, NameSteps.LabelsRead, NameSteps.NotClosed, Views.word_value, ZoneReads.PutsAs};
 ghost use Rattle.dns_zone_words.specs.NameWords.{name, name_octets, is_alone, NameFault, LabelsFault};
-ghost use Rattle.dns_zone_words.specs.NameSteps.{ReadSo, LabelsRead, NotClosed};
-ghost use Rattle.dns_zone_words.specs.Views.{word_value};
-ghost use Rattle.dns_zone_words.specs.ZoneReads.{PutsAs};
 
 use crate::field::NameField;
 use crate::letter::Letters;

@@ -2,9 +2,7 @@
 
 ghost use Rattle.std.specs.Prelude.{◌≡◌, ◌≤◌, ◌<◌, ◌^◌, ℕ, IfSome, IfNone, IfOk, IfErr};
 ghost use Rattle.std.specs.Str.Parse.{IsNumeral, digits_value};
-ghost use Rattle.dns_zone_words.specs.Forms.{number, IsNumber};
-ghost use Rattle.dns_zone_words.specs.Views.{word_value};
-ghost use Rattle.dns_zone_words.specs.ZoneReads.{ReadsAs};
+ghost use Rattle.dns_zone_words.specs.{Forms.number, Forms.IsNumber, Views.word_value, ZoneReads.ReadsAs};
 
 use crate::words::ZoneWord;
 use dns_types::ParseError;

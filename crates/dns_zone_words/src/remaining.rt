@@ -1,11 +1,9 @@
 //! All words that are left of a text: strings, base64, hexadecimal digits, and the form of unknown data (RFC 3597, 5).
 
 ghost use Rattle.std.specs.Prelude.{◌≡◌, ◌≢◌, ◌↔◌, ◌⊎◌, [], Ok, IsTrue, IfErr, OnOk, OnErr};
-ghost use Rattle.dns_zone_words.specs.Forms.{StringFault};
-ghost use Rattle.dns_zone_words.specs.Remaining.{AreJoined, AreHex, AreBase64, AreUnknown, AreStrings, IsUnknownMark, ReadsAll, AmongFault, QuotesFault, HexFault, Base64Fault, UnknownFault};
-ghost use Rattle.dns_zone_words.specs.Views.{word_value};
-ghost use Rattle.dns_zone_words.specs.Words.{words_at};
-ghost use Rattle.dns_zone_words.specs.ZoneReads.{IsCutRefused};
+ghost use Rattle.dns_zone_words.specs.{Forms.StringFault, Views.word_value, Words.words_at, ZoneReads.IsCutRefused};
+ghost use Rattle.dns_zone_words.specs.Remaining.{AreJoined, AreHex, AreBase64, AreUnknown, AreStrings, IsUnknownMark, ReadsAll, AmongFault};
+ghost use Rattle.dns_zone_words.specs.Remaining.{QuotesFault, HexFault, Base64Fault, UnknownFault};
 
 use crate::field::HexField;
 use crate::fields::next_u16;

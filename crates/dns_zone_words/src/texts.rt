@@ -3,12 +3,9 @@
 ghost use Rattle.std.specs.Prelude.{◌≡◌, ◌≢◌, ◌≤◌, ◌<◌, ◌⊎◌, ℕ, false, length, slice_index, IfErr};
 ghost use Rattle.dns_fields.specs.Pieces.{string as string_octets};
 ghost use Rattle.std.specs.Net.Addr.{ipv4_octets, ipv6_octets};
-ghost use Rattle.dns_words.specs.Forms.{ttl, ipv4, ipv6};
-ghost use Rattle.dns_words.specs.Reads.{Decides};
+ghost use Rattle.dns_words.specs.{Forms.ttl, Forms.ipv4, Forms.ipv6, Reads.Decides};
+ghost use Rattle.dns_zone_words.specs.{Letters.escapes_stand, Views.word_value, ZoneReads.ReadsAs, ZoneReads.PutsAs};
 ghost use Rattle.dns_zone_words.specs.Forms.{bare, string, text, IsType, StringFault, TextFault};
-ghost use Rattle.dns_zone_words.specs.Letters.{escapes_stand};
-ghost use Rattle.dns_zone_words.specs.Views.{word_value};
-ghost use Rattle.dns_zone_words.specs.ZoneReads.{ReadsAs, PutsAs};
 
 use crate::field::StringField;
 use crate::letter::first_letter;

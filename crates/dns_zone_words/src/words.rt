@@ -1,10 +1,10 @@
 //! Words of a text of a zone file (RFC 1035, 5.1).
 
 ghost use Rattle.std.specs.Prelude.{◌≡◌, ℕ, ◌<◌, ◌≤◌, false, true, [], length, slice_index, Ok, Err, IfSome, IfNone, IfOk, IfErr, OnOk, OnErr};
-ghost use Rattle.dns_zone_words.specs.Quiet.{IsQuiet};
-ghost use Rattle.dns_zone_words.specs.Words.{is_blank, is_line_end, begins_gap, ends_run, between, comment, over, over_comment, words_from, words_at, with_word, zone_words};
+ghost use Rattle.dns_zone_words.specs.{Quiet.IsQuiet, Views.word_value};
+ghost use Rattle.dns_zone_words.specs.Words.{is_blank, is_line_end, begins_gap, ends_run, between, comment, over, over_comment, words_from, words_at};
+ghost use Rattle.dns_zone_words.specs.Words.{with_word, zone_words};
 ghost use Rattle.dns_zone_words.specs.WordSteps.{NoGap, RunTaken, QuotesTaken, QuotesRefused};
-ghost use Rattle.dns_zone_words.specs.Views.{word_value};
 
 use crate::letter::Letters;
 use crate::quiet::quiet_len;

@@ -1,9 +1,7 @@
 -- What is read, emitted and read again.
 use Rattle.std.proofs.Common.{◌≡◌, ℕ, true, List, ap, sym, ◌∙◌}
 use Rattle.std.specs.Bool.{IsTrue}
-use Rattle.dns_rdata.specs.declared.record_data.RData.{RData}
-use Rattle.dns_rdata.specs.Data.{Fills}
-use Rattle.dns_rdata.specs.Equal.{equal}
+use Rattle.dns_rdata.specs.{declared.record_data.RData.RData, Data.Fills, Equal.equal}
 
 -- the same octets at the same place
 pub elsewhere : {m m' : List ℕ} {p p' n n' : ℕ} {t : _} {v : RData} → m' ≡ m → p' ≡ p → n' ≡ n → Fills m p n t v → Fills m' p' n' t v

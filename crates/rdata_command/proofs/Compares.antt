@@ -1,8 +1,7 @@
 -- Words that ask for an order.
 use Rattle.std.proofs.Common.{◌≡◌, ℕ, ◌<◌, ◌≤◌, List, [], ◌∷◌, length, get_or, codes, subst, arith}
 use Rattle.dns_types.specs.declared.record_type.RecordType.{RecordType}
-use Rattle.rdata_command.specs.Request.{IsTypeWord, IsOctetsWord}
-use Rattle.rdata_command.specs.Comparing.{AsksOrder, NoOrderRequest}
+use Rattle.rdata_command.specs.{Request.IsTypeWord, Request.IsOctetsWord, Comparing.AsksOrder, Comparing.NoOrderRequest}
 
 -- four elements, each by its place
 pub four_items : {X : Type 0} (xs : List X) (a b c d : X) → 4 ≤ length xs → length xs < 5 → a ≡ get_or xs 0 a → b ≡ get_or xs 1 b → c ≡ get_or xs 2 c

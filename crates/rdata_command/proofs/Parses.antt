@@ -1,8 +1,7 @@
 -- Words that ask for a text.
 use Rattle.std.proofs.Common.{◌≡◌, ℕ, ◌<◌, ◌≤◌, List, [], ◌∷◌, length, get_or, codes, subst, arith}
 use Rattle.dns_types.specs.declared.record_type.RecordType.{RecordType}
-use Rattle.rdata_command.specs.Request.{IsTypeWord}
-use Rattle.rdata_command.specs.Parsing.{AsksText, NoTextRequest}
+use Rattle.rdata_command.specs.{Request.IsTypeWord, Parsing.AsksText, Parsing.NoTextRequest}
 
 -- three elements, each by its place
 pub three_items : {X : Type 0} (xs : List X) (a b c : X) → 3 ≤ length xs → length xs < 4 → a ≡ get_or xs 0 a → b ≡ get_or xs 1 b → c ≡ get_or xs 2 c → xs ≡ a ∷ b ∷ c ∷ []

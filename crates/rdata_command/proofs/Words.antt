@@ -1,12 +1,9 @@
 -- Words that are numbers and types.
-use Rattle.std.proofs.Common.{◌≡◌, ℕ, ◌<◌, ◌≤◌, ◌^◌, ◌==◌, false, List, [], ◌∷◌, length, get_or, Result, Ok, Err, MatchOption, refl, sym}
-use Rattle.std.proofs.Common.{ap, ◌∙◌, subst, arith, slice_index, codes, inr, ⊎_elim}
-use Rattle.std.specs.Result.{result_ok}
-use Rattle.std.specs.Str.Parse.{IsNumeral, digits_value, ParsesUnsigned, without_leading_plus}
-use Rattle.std.proofs.lemmas.Int.Digits.{digits_value-lt}
-use Rattle.std.proofs.Math.Nat.{pow-le-pow_right}
-use Rattle.dns_types.specs.declared.error.DecodeError.{DecodeError}
-use Rattle.dns_types.specs.declared.record_type.RecordType.{RecordType}
+use Rattle.std.proofs.Common.{◌≡◌, ℕ, ◌<◌, ◌≤◌, ◌^◌, ◌==◌, false, List, [], ◌∷◌, length, get_or, Result, Ok, Err, MatchOption, refl, sym, ap, ◌∙◌}
+use Rattle.std.proofs.Common.{subst, arith, slice_index, codes, inr, ⊎_elim}
+use Rattle.std.specs.{Result.result_ok, Str.Parse.IsNumeral, Str.Parse.digits_value, Str.Parse.ParsesUnsigned, Str.Parse.without_leading_plus}
+use Rattle.std.proofs.{lemmas.Int.Digits.digits_value-lt, Math.Nat.pow-le-pow_right}
+use Rattle.dns_types.specs.{declared.error.DecodeError.DecodeError, declared.record_type.RecordType.RecordType}
 use Rattle.dns_types.specs.RecordTypes.{record_type_of, ReadsType}
 use Rattle.rdata_command.specs.Request.{IsNumberWord, IsTypeWord, IsOctetsWord, Asks, NoRequest}
 

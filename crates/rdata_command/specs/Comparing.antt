@@ -1,12 +1,9 @@
 -- What the words of the command `cmp` ask for, and what is printed.
 use Rattle.std.specs.Prelude.{◌≡◌, ◌≢◌, ◌⊎◌, ◌<◌, ℕ, Option, List, [], ◌∷◌, codes, length}
-use Rattle.std.specs.Io.KnownBytes.{Appends}
-use Rattle.std.specs.declared.cmp.Ordering.{Ordering}
+use Rattle.std.specs.{Io.KnownBytes.Appends, declared.cmp.Ordering.Ordering}
 use Rattle.std.specs.declared.cmp.Ordering.TheVariants.{Less, Equal, Greater}
 use Rattle.dns_types.specs.declared.record_type.RecordType.{RecordType}
-use Rattle.dns_rdata.specs.declared.record_data.RData.{RData}
-use Rattle.dns_rdata.specs.Data.{Fills, NoValue}
-use Rattle.dns_rdata.specs.Order.{rdata_cmp}
+use Rattle.dns_rdata.specs.{declared.record_data.RData.RData, Data.Fills, Data.NoValue, Order.rdata_cmp}
 use Rattle.rdata_command.specs.Request.{IsTypeWord, IsOctetsWord}
 
 -- `cmp TYPE OCTETS OCTETS`: the data of two records of this type, each a whole message of at most 65535 octets

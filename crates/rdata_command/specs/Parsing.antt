@@ -3,10 +3,8 @@ use Rattle.std.specs.Prelude.{◌≡◌, ◌≢◌, ◌⊎◌, ℕ, Option, List
 use Rattle.std.specs.Io.KnownBytes.{Appends}
 use Rattle.dns_text.specs.TextWords.{NoTextWords}
 use Rattle.dns_types.specs.declared.record_type.RecordType.{RecordType}
-use Rattle.dns_rdata.specs.declared.record_data.RData.{RData}
-use Rattle.dns_rdata.specs.DataWords.{IsDataText, GivesNone}
-use Rattle.rdata_command.specs.Request.{IsTypeWord}
-use Rattle.rdata_command.specs.Report.{IsReport}
+use Rattle.dns_rdata.specs.{declared.record_data.RData.RData, DataWords.IsDataText, DataWords.GivesNone}
+use Rattle.rdata_command.specs.{Request.IsTypeWord, Report.IsReport}
 
 -- `parse TYPE TEXT`: the data of a record of this type, in this text
 pub record AsksText (words : List (List ℕ)) (t : RecordType) (text : List ℕ) : Type 0 where

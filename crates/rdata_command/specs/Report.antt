@@ -3,16 +3,12 @@ use Rattle.std.specs.Prelude.{◌≡◌, ◌≢◌, ℕ, ◌⊎◌, Option, Some
 use Rattle.std.specs.Io.KnownBytes.{Appends}
 use Rattle.hex.specs.Hex.{encode_lower}
 use Rattle.dns_fields.specs.declared.RDataEncoding.TheVariants.{StandardRecord}
-use Rattle.dns_types.specs.declared.error.ProtoError.{ProtoError}
+use Rattle.dns_types.specs.{declared.error.ProtoError.ProtoError, declared.record_type.RecordType.RecordType, RecordTypes.number_of}
 use Rattle.dns_types.specs.declared.error.ProtoError.TheVariants.{Memory}
-use Rattle.dns_types.specs.declared.record_type.RecordType.{RecordType}
-use Rattle.dns_types.specs.RecordTypes.{number_of}
-use Rattle.dns_names_wire.specs.State.{Writing}
-use Rattle.dns_names_wire.specs.Words.{Appended, Stopped}
-use Rattle.dns_rdata.specs.declared.record_data.RData.{RData}
+use Rattle.dns_names_wire.specs.{State.Writing, Words.Appended, Words.Stopped}
+use Rattle.dns_rdata.specs.{declared.record_data.RData.RData, Texts.data_text}
 use Rattle.dns_rdata.specs.Data.{Fills, NoValue, fields_of, mode_for, data_octets}
 use Rattle.rdata_command.specs.Request.{Asks}
-use Rattle.dns_rdata.specs.Texts.{data_text}
 
 -- the value's text, or `none` where it has none
 abbrev pub text_or_none : Option (List ℕ) → List ℕ

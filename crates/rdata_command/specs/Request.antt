@@ -1,11 +1,8 @@
 -- What the words of a command ask for.
 use Rattle.std.specs.Prelude.{◌≡◌, ◌≢◌, ℕ, ◌<◌, ◌≤◌, ◌⊎◌, List, [], ◌∷◌, codes, length, map, string_bytes, Ok}
-use Rattle.std.specs.Global.{Global}
-use Rattle.std.specs.declared.string.String.{String}
-use Rattle.std.specs.Str.Parse.{IsNumeral, digits_value}
+use Rattle.std.specs.{Global.Global, declared.string.String.String, Str.Parse.IsNumeral, Str.Parse.digits_value}
 use Rattle.hex.specs.Hex.{decode_of}
-use Rattle.dns_types.specs.declared.record_type.RecordType.{RecordType}
-use Rattle.dns_types.specs.RecordTypes.{record_type_of, IsTypeText}
+use Rattle.dns_types.specs.{declared.record_type.RecordType.RecordType, RecordTypes.record_type_of, RecordTypes.IsTypeText}
 
 abbrev pub texts : List (String Global) → List (List ℕ)
 texts words = map string_bytes words

@@ -3,10 +3,8 @@
 
 ghost use Rattle.std.specs.Prelude.{◌≡◌, ◌≤◌, ◌⊎◌, codes};
 ghost use Rattle.std.specs.Io.KnownBytes.{Appends};
-ghost use Rattle.rdata_command.specs.Request.{texts, NoRequest};
-ghost use Rattle.rdata_command.specs.Report.{PrintsValue, RefusesValue};
-ghost use Rattle.rdata_command.specs.Comparing.{NoOrderRequest, PrintsOrder, RefusesOrder};
-ghost use Rattle.rdata_command.specs.Parsing.{NoTextRequest, PrintsText, RefusesText};
+ghost use Rattle.rdata_command.specs.{Request.texts, Request.NoRequest, Report.PrintsValue, Report.RefusesValue, Comparing.NoOrderRequest};
+ghost use Rattle.rdata_command.specs.{Comparing.PrintsOrder, Comparing.RefusesOrder, Parsing.NoTextRequest, Parsing.PrintsText, Parsing.RefusesText};
 
 mod comparing;
 mod parsing;

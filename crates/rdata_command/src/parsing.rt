@@ -3,8 +3,8 @@
 ghost use Rattle.std.specs.Prelude.{◌≡◌, ◌≢◌, ◌⊎◌, [], ◌∷◌, codes, IfOk, IfErr, MatchOption};
 ghost use Rattle.std.specs.Io.KnownBytes.{Appends};
 ghost use Rattle.rdata_command.specs.Request.{texts};
-ghost use Rattle.dns_rdata.specs.DataWords.{IsDataText};
 ghost use Rattle.rdata_command.specs.Parsing.{NotParse, AsksText, NoTextRequest, PrintedText, NoDataText};
+ghost use Rattle.dns_rdata.specs.DataWords.{IsDataText};
 
 use crate::report::{lines, say};
 use crate::request::record_type;

@@ -4,9 +4,8 @@ ghost use Rattle.std.specs.Prelude.{◌≡◌, ◌≢◌, ◌≤◌, ◌<◌, �
 ghost use Rattle.std.specs.Io.KnownBytes.{Appends};
 ghost use Rattle.dns_types.specs.declared.error.DecodeError.{DecodeError as DecodeErrorValue};
 ghost use Rattle.dns_names_wire.specs.Words.{UnlessMemory};
-ghost use Rattle.dns_rdata.specs.Data.{Fills, NoValue};
+ghost use Rattle.dns_rdata.specs.Data.{Fills, NoValue, data_octets};
 ghost use Rattle.rdata_command.specs.Report.{Emits, EmitsNothing, IsEmittedText, IsReport, Printed, printed_text, octets_text};
-ghost use Rattle.dns_rdata.specs.Data.{data_octets};
 
 use crate::request::Request;
 use dns_rdata::{

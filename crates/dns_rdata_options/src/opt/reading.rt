@@ -1,13 +1,10 @@
 //! Options that are read one after the other.
 
 ghost use Rattle.std.specs.Prelude.{◌≡◌, ◌⊎◌, ◌+◌, ◌≤◌, ◌<◌, ℕ, List, Some, length as list_length, IfOk, IfErr, OnOk};
-ghost use Rattle.dns_fields.specs.Octets.{At};
-ghost use Rattle.dns_fields.specs.Pieces.{Numbered, pieces, ArePieces};
+ghost use Rattle.dns_fields.specs.{Octets.At, Pieces.Numbered, Pieces.pieces, Pieces.ArePieces};
 ghost use Rattle.dns_names_wire.specs.Words.{ReadsTo};
-ghost use Rattle.dns_rdata_options.specs.EdnsCode.{edns_code_of};
-ghost use Rattle.dns_rdata_options.specs.EdnsOption.{IsOptionRefusal};
+ghost use Rattle.dns_rdata_options.specs.{EdnsCode.edns_code_of, EdnsOption.IsOptionRefusal, OptionReads.ReadsPiece, OptionReads.KeptOption};
 ghost use Rattle.dns_rdata_options.specs.OPT.{opt_shape, opt_fields, IsReadOpt, IsOptRefusal};
-ghost use Rattle.dns_rdata_options.specs.OptionReads.{ReadsPiece, KeptOption};
 
 use crate::opt::OPT;
 use crate::opt::code::EdnsCode;

@@ -3,10 +3,9 @@
 ghost use Rattle.std.specs.Prelude.{◌≡◌, ◌+◌, ◌<◌, ◌≤◌, ◌/◌, ◌⊎◌, IfSome, IfNone, Bool, false, length, drop, take, Result, IfOk, IfErr, OnErr};
 ghost use Rattle.dns_fields.specs.Pieces.{option_octets, IsEmittableOption, IsAddress, Subnet as SubnetValue};
 ghost use Rattle.dns_names_wire.specs.Words.{ReadsBy, IsMessage};
-ghost use Rattle.dns_rdata_options.specs.Words.{EmitsOctets};
-ghost use Rattle.dns_rdata_options.specs.ClientSubnet.{subnet_value, SubnetAt, NoSubnet, IsSubnetRefusal, ReadsSubnet, prefix_octets};
-ghost use Rattle.dns_rdata_options.specs.ClientSubnet.{family_octets, address_of, address_octets, family_of, padded, IsFamily};
-ghost use Rattle.dns_rdata_options.specs.IpNet.{masked_address};
+ghost use Rattle.dns_rdata_options.specs.{Words.EmitsOctets, IpNet.masked_address};
+ghost use Rattle.dns_rdata_options.specs.ClientSubnet.{subnet_value, SubnetAt, NoSubnet, IsSubnetRefusal, ReadsSubnet, prefix_octets, family_octets};
+ghost use Rattle.dns_rdata_options.specs.ClientSubnet.{address_of, address_octets, family_of, padded, IsFamily};
 
 use crate::opt::net::{IpNet, masked_address};
 use dns_names_wire::{BinDecodable, BinDecoder, BinEncodable, BinEncoder, DecodeError, ProtoError};

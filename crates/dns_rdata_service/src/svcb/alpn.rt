@@ -1,9 +1,8 @@
 //! The protocols of a service.
 
 ghost use Rattle.std.specs.Prelude.{◌≡◌, ◌↔◌, ℕ, List, drop, length, map, IfErr, IfOk, IsTrue, IsUtf8};
-ghost use Rattle.dns_fields.specs.Fields.{Texts, Field};
+ghost use Rattle.dns_fields.specs.{Fields.Texts, Fields.Field, Pieces.Names};
 ghost use Rattle.std.specs.String.{string_bytes};
-ghost use Rattle.dns_fields.specs.Pieces.{Names};
 ghost use Rattle.dns_names_wire.specs.Words.{ReadsBy};
 ghost use Rattle.dns_rdata_service.specs.SvcParamValue.{alpn_value, AlpnAt, IsValueRefusal, EmitsValue};
 

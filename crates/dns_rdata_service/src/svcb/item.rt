@@ -94,8 +94,7 @@ impl FromItem for u16 {
 // Base64 (RFC 4648, 4).
 impl FromItem for EchConfigList {
     ghost use Rattle.std.specs.Prelude.{◌≡◌, Ok};
-    ghost use Rattle.base64.specs.Engines.{standard};
-    ghost use Rattle.base64.specs.GeneralPurpose.{decode_of};
+    ghost use Rattle.base64.specs.{Engines.standard, GeneralPurpose.decode_of};
 
     ghost is_text = { λ item config. decode_of standard item ≡ Ok config.0 };
 

@@ -2,9 +2,7 @@
 
 ghost use Rattle.std.specs.Prelude.{◌≡◌, ◌≢◌, ◌∷◌, ℕ, [], List, IfErr, IfNone, IfOk, IfSome, IsUtf8};
 ghost use Rattle.dns_types.specs.declared.error.ParseError.TheVariants as parse;
-ghost use Rattle.dns_rdata_service.specs.declared.svcb.value.SvcParamValue.{SvcParamValue as Value};
-ghost use Rattle.dns_rdata_service.specs.Parameters.{Parameter};
-ghost use Rattle.dns_rdata_service.specs.KeyTexts.{IsKeyText};
+ghost use Rattle.dns_rdata_service.specs.{declared.svcb.value.SvcParamValue.SvcParamValue as Value, Parameters.Parameter, KeyTexts.IsKeyText};
 ghost use Rattle.dns_rdata_service.specs.ParameterWords.{IsValueAlone, IsValueText, IsUnquoted, HasValue, IsParameterWord};
 
 use crate::items::Items;

@@ -1,21 +1,17 @@
 //! The values of issuer properties (RFC 8659, 4.2).
 
 ghost use Rattle.std.specs.Prelude.{◌≡◌, ◌↔◌, ◌++◌, ◌∷◌, ◌==◌, ◌⊎◌, ℕ, List, not, IsTrue, IfOk, IfErr, OnOk, MatchResult, Option};
-ghost use Rattle.std.specs.List.{list_all, AllByRecursion};
-ghost use Rattle.std.specs.Option.{option_copied};
-ghost use Rattle.std.specs.Str.{IsUtf8};
-ghost use Rattle.std.specs.Char.{is_ascii_alphanumeric};
-ghost use Rattle.std.specs.Cmp.Lexicographic.{pointwise};
-ghost use Rattle.std.specs.Cmp.Rules.{comparing, hashing};
+ghost use Rattle.std.specs.{List.list_all, List.AllByRecursion, Option.option_copied, Str.IsUtf8, Char.is_ascii_alphanumeric};
+ghost use Rattle.std.specs.{Cmp.Lexicographic.pointwise, Cmp.Rules.comparing, Cmp.Rules.hashing};
 ghost use Rattle.std.specs.Hash as fed;
 ghost use Rattle.std.proofs.Common.{rules};
 ghost use Rattle.dns_types.specs.declared.error.DecodeError.TheVariants as decode;
 ghost use Rattle.dns_types.specs.declared.error.ProtoError.TheVariants as proto;
 ghost use Rattle.dns_fields.specs.Labels.{DomainName};
 ghost use Rattle.dns_names_wire.specs.NameValues.{IsTextRefusal};
-ghost use Rattle.dns_rdata_sets.specs.Issuer.{Parameter, is_blank, is_key_octet, is_value_octet, is_no_semicolon, AllOf, Splits, IsKey};
-ghost use Rattle.dns_rdata_sets.specs.Issuer.{IsParameter, parameter_octets, AreParameters, IsIssuerName, IsNameRefusal, IsIssuer};
-ghost use Rattle.dns_rdata_sets.specs.Issuer.{IsIssuerRefusal, IsNamed, IsWritable, issuer_name_text, parameters_text, issuer_value};
+ghost use Rattle.dns_rdata_sets.specs.Issuer.{Parameter, is_blank, is_key_octet, is_value_octet, is_no_semicolon, AllOf, Splits, IsKey, IsParameter};
+ghost use Rattle.dns_rdata_sets.specs.Issuer.{parameter_octets, AreParameters, IsIssuerName, IsNameRefusal, IsIssuer, IsIssuerRefusal, IsNamed};
+ghost use Rattle.dns_rdata_sets.specs.Issuer.{IsWritable, issuer_name_text, parameters_text, issuer_value};
 
 use dns_names_wire::{DecodeError, Name, ProtoError, ProtoResult};
 use std::alloc::{AllocError, Global};

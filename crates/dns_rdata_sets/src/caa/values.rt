@@ -1,10 +1,7 @@
 //! Values of CAA by their tags (RFC 8659, 4.2 to 4.4).
 
 ghost use Rattle.std.specs.Prelude.{◌≡◌, ◌↔◌, codes, IsTrue, IfOk, IfErr, OnOk, OnErr};
-ghost use Rattle.std.specs.List.{AllByRecursion};
-ghost use Rattle.std.specs.Option.{option_copied};
-ghost use Rattle.std.specs.Str.{IsUtf8};
-ghost use Rattle.std.specs.String.{string_bytes};
+ghost use Rattle.std.specs.{List.AllByRecursion, Option.option_copied, Str.IsUtf8, String.string_bytes};
 ghost use Rattle.dns_names_wire.specs.NameValues.{IsTextRefusal};
 ghost use Rattle.dns_rdata_sets.specs.CAA.{IsIssuerTag, IsIodefTag, IsIssuerValueRefusal, IsIodefValueRefusal};
 ghost use Rattle.dns_rdata_sets.specs.Issuer.{IsParameter, IsIssuer, IsWritable, issuer_value};

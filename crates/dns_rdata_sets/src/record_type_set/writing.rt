@@ -2,9 +2,7 @@
 
 ghost use Rattle.std.specs.Prelude.{◌≡◌, ◌≢◌, ◌+◌, ◌-◌, ◌*◌, ◌/◌, ◌%◌, ◌<◌, ◌≤◌, ◌==◌, ◌++◌, ℕ, if◌then◌else◌, length, take, drop, slice_index};
 ghost use Rattle.std.specs.Int.{bit_at, bytes_high_first};
-ghost use Rattle.dns_fields.specs.Octets.{AreOctets};
-ghost use Rattle.dns_fields.specs.Bitmaps.{IsTypeSet, mark};
-ghost use Rattle.dns_fields.specs.Fields.{Bitmap};
+ghost use Rattle.dns_fields.specs.{Octets.AreOctets, Bitmaps.IsTypeSet, Bitmaps.mark, Fields.Bitmap};
 ghost use Rattle.dns_names_wire.specs.Words.{EmitsField};
 ghost use Rattle.dns_rdata_sets.specs.RecordTypeSet.{AreOfWindow, first_window};
 

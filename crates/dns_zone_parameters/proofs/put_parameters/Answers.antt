@@ -2,9 +2,8 @@ use Rattle.std.proofs.Common.{◌≡◌, true, false, sym, ◌∙◌, ap, map, r
 use Rattle.std.specs.List.Sorted.{IsStrictlyIncreasing}
 use Rattle.std.proofs.lemmas.List.Sorted.{IsNonDecreasingBy-from_sort_by_key}
 use Rattle.dns_fields.specs.Pieces.{pieces}
-use Rattle.dns_zone_parameters.specs.Views.{parameter_value}
+use Rattle.dns_zone_parameters.specs.{Views.parameter_value, Parameters.AreParameters}
 use Rattle.dns_zone_words.specs.Remaining.{PutsAll}
-use Rattle.dns_zone_parameters.specs.Parameters.{AreParameters}
 use Rattle.dns_zone_words.proofs.FirstSteps.{exit_with}
 use Rattle.dns_zone_parameters.proofs.ParameterSteps.{no_rise, key_twice, are_parameters, put_taken, not_written}
 use Rattle.dns_zone_parameters.proofs.put_parameters.Goals as goal

@@ -1,5 +1,6 @@
 use Rattle.std.proofs.Common.{arith}
-use Rattle.dns_rdata_c.proofs.NamePlaces.{naptr_room, aname_answered, cname_answered, https_answered, mx_answered, naptr_answered, ns_answered, ptr_answered, soa_answered, soa_first, srv_answered, svcb_answered}
+use Rattle.dns_rdata_c.proofs.NamePlaces.{naptr_room, aname_answered, cname_answered, https_answered, mx_answered, naptr_answered, ns_answered}
+use Rattle.dns_rdata_c.proofs.NamePlaces.{ptr_answered, soa_answered, soa_first, srv_answered, svcb_answered}
 use Rattle.dns_rdata_c.proofs.names.find_name.Goals as goal
 
 pub overflow_add-strings : goal.overflow_add-strings

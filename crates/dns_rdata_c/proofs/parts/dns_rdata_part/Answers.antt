@@ -3,8 +3,7 @@ use Rattle.std.proofs.lemmas.List.{length-take-le, length-drop}
 use Rattle.dns_types.specs.RecordTypes.{record_type_of}
 use Rattle.dns_rdata.specs.Data.{NoValue}
 use Rattle.dns_rdata_c.specs.Parts.{is_partless, HasNoFront, AreNoParts, AreFewParts, AreCutOptions, IsPartOf}
-use Rattle.dns_rdata_c.proofs.PartWalks.{part_room}
-use Rattle.dns_rdata_c.proofs.PartTies.{same_part, same_few, no_value, no_parts}
+use Rattle.dns_rdata_c.proofs.{PartWalks.part_room, PartTies.same_part, PartTies.same_few, PartTies.no_value, PartTies.no_parts}
 use Rattle.dns_rdata_c.proofs.parts.dns_rdata_part.Goals as goal
 
 pub overflow_add-begin : goal.overflow_add-begin

@@ -1,7 +1,8 @@
 use Rattle.std.proofs.Common.{arith}
 use Rattle.dns_rdata_c.proofs.Lengths.{measure_begins, measure_further, measure_on, measure_ends}
+use Rattle.dns_rdata_c.proofs.pieces.are_as_long.Goals.{else-number_at-number-via-then-number_at-number+else-length-count}
+use Rattle.dns_rdata_c.proofs.pieces.are_as_long.Goals.{else-number_at-number-via-else-number_at-number}
 use Rattle.dns_rdata_c.proofs.pieces.are_as_long.Goals as goal
-use Rattle.dns_rdata_c.proofs.pieces.are_as_long.Goals.{else-number_at-number-via-then-number_at-number+else-length-count, else-number_at-number-via-else-number_at-number}
 
 pub pieces-init : goal.pieces-init
 pieces-init c = measure_begins _ _ _

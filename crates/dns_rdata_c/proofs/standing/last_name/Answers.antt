@@ -1,7 +1,6 @@
 use Rattle.std.proofs.Common.{arith}
-use Rattle.dns_rdata_c.proofs.NameSpans.{short_texts}
+use Rattle.dns_rdata_c.proofs.{NameSpans.short_texts, ValueWindows.ends_value}
 use Rattle.dns_rdata_c.proofs.FieldPlaces.{name_last, number_first, text_first, ends_moved}
-use Rattle.dns_rdata_c.proofs.ValueWindows.{ends_value}
 use Rattle.dns_rdata_c.proofs.standing.last_name.Goals as goal
 
 pub returns-in-ANAME : goal.returns-in-ANAME

@@ -1,7 +1,6 @@
 use Rattle.std.proofs.Common.{ap, sym}
-use Rattle.dns_rdata.specs.declared.record_data.RData.{RData}
+use Rattle.dns_rdata.specs.{declared.record_data.RData.RData, WholeOctets.whole_data}
 use Rattle.dns_rdata.specs.declared.record_data.RData.TheVariants as rdata
-use Rattle.dns_rdata.specs.WholeOctets.{whole_data}
 use Rattle.dns_rdata_c.proofs.ValueWindows.{known_as, puts_same}
 use Rattle.dns_rdata_c.proofs.standing.put_standing.Goals as goal
 

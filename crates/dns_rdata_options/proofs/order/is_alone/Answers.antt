@@ -1,10 +1,9 @@
 use Rattle.std.proofs.Common.{◌≡◌, arith, length, refl, sym, ap, ◌∙◌}
 use Rattle.std.proofs.lemmas.Option.{slice_get_read}
-use Rattle.dns_rdata_options.specs.Facing.{code_number}
-use Rattle.dns_rdata_options.specs.OPT.{Pair}
-use Rattle.dns_rdata_options.proofs.Differences.{still_alone}
+use Rattle.dns_rdata_options.specs.{Facing.code_number, OPT.Pair}
+use Rattle.dns_rdata_options.proofs.{Differences.still_alone, order.is_alone.Goals.else-other_code-code-via-then-other_code-code+else-i-place}
+use Rattle.dns_rdata_options.proofs.{order.is_alone.Goals.else-other_code-code-via-else-other_code-code}
 use Rattle.dns_rdata_options.proofs.order.is_alone.Goals as goal
-use Rattle.dns_rdata_options.proofs.order.is_alone.Goals.{else-other_code-code-via-then-other_code-code+else-i-place, else-other_code-code-via-else-other_code-code}
 
 pub loop-i-preserved : goal.loop-i-preserved
 loop-i-preserved c =

@@ -1,12 +1,9 @@
 use Rattle.std.proofs.Common.{◌≡◌, ◌+◌, arith, Bool, true, false, not, length, refl, sym, ap, ◌∙◌, subst}
 use Rattle.std.proofs.lemmas.Option.{slice_get_read}
-use Rattle.dns_rdata_options.specs.EdnsCode.{edns_code_number}
-use Rattle.dns_rdata_options.specs.Facing.{Facing, lesser, code_number}
-use Rattle.dns_rdata_options.specs.OPT.{Pair}
-use Rattle.dns_rdata_options.proofs.Differences.{none_facing, next_alike, next_differs}
-use Rattle.dns_rdata_options.proofs.Values.{code_decides, option_decides}
+use Rattle.dns_rdata_options.specs.{EdnsCode.edns_code_number, Facing.Facing, Facing.lesser, Facing.code_number, OPT.Pair}
+use Rattle.dns_rdata_options.proofs.{Differences.none_facing, Differences.next_alike, Differences.next_differs, Values.code_decides}
+use Rattle.dns_rdata_options.proofs.{Values.option_decides, order.least_difference.Goals.then-ne-2, order.least_difference.Goals.else-ne-2}
 use Rattle.dns_rdata_options.proofs.order.least_difference.Goals as goal
-use Rattle.dns_rdata_options.proofs.order.least_difference.Goals.{then-ne-2, else-ne-2}
 
 pub loop-i-init : goal.loop-i-init
 loop-i-init c = none_facing c.args.options.now c.args.others.now

@@ -1,7 +1,6 @@
 use Rattle.std.proofs.Common.{◌<◌, length, refl, sym, ◌∙◌, arith}
 use Rattle.std.proofs.lemmas.Option.{slice_get_read}
-use Rattle.dns_rdata_options.proofs.ChoiceSteps.{pair_at}
-use Rattle.dns_rdata_options.proofs.Differences.{least_decides}
+use Rattle.dns_rdata_options.proofs.{ChoiceSteps.pair_at, Differences.least_decides}
 use Rattle.dns_rdata_options.proofs.order.order_by.Goals as goal
 
 pub returns-clause-order : goal.returns-clause-order

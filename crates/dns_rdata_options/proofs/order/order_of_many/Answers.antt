@@ -1,13 +1,11 @@
 use Rattle.std.proofs.Common.{◌∙◌, sym, ap}
 use Rattle.std.specs.Ordering.{is_ne}
 use Rattle.dns_pieces.specs.Fronts.{canonical_cmp}
-use Rattle.dns_rdata_options.specs.OPT.{opt_shape, opt_fields}
-use Rattle.dns_rdata_options.specs.Order.{opt_eq}
-use Rattle.dns_rdata_options.specs.Steps.{pairs_emittable}
-use Rattle.dns_rdata_options.proofs.Differences.{some_same}
-use Rattle.dns_rdata_options.proofs.PieceOrder.{by_pieces, same_equal}
+use Rattle.dns_rdata_options.specs.{OPT.opt_shape, OPT.opt_fields, Order.opt_eq, Steps.pairs_emittable}
+use Rattle.dns_rdata_options.proofs.{Differences.some_same, PieceOrder.by_pieces, PieceOrder.same_equal}
+use Rattle.dns_rdata_options.proofs.order.order_of_many.Goals.{then-is_ne-via-then-is_ne, then-is_ne-via-else-is_ne+then-same}
+use Rattle.dns_rdata_options.proofs.order.order_of_many.Goals.{then-is_ne-via-else-is_ne+else-same+then-eq}
 use Rattle.dns_rdata_options.proofs.order.order_of_many.Goals as goal
-use Rattle.dns_rdata_options.proofs.order.order_of_many.Goals.{then-is_ne-via-then-is_ne, then-is_ne-via-else-is_ne+then-same, then-is_ne-via-else-is_ne+else-same+then-eq}
 
 pub returns-then-is_ne : goal.returns-then-is_ne
 returns-then-is_ne c =

@@ -1,13 +1,11 @@
 use Rattle.std.proofs.Common.{◌≡◌, ◌/◌, ℕ, get_or, sym, subst, ap, ◌∙◌, arith}
-use Rattle.std.specs.Ordering.{ordering_then}
-use Rattle.std.specs.declared.cmp.Ordering.{Ordering}
-use Rattle.std.specs.declared.cmp.Ordering.TheVariants.{Greater}
+use Rattle.std.specs.{Ordering.ordering_then, declared.cmp.Ordering.Ordering, declared.cmp.Ordering.TheVariants.Greater}
 use Rattle.dns_fields.specs.Fields.{field_octets}
 use Rattle.dns_rdata_sets.specs.RecordTypeSet.{IsLastOf}
-use Rattle.dns_rdata_sets.proofs.FirstNumbers.{own_first, goes_on_behind}
-use Rattle.dns_rdata_sets.proofs.WindowOrders.{lasts_decide}
+use Rattle.dns_rdata_sets.proofs.{FirstNumbers.own_first, FirstNumbers.goes_on_behind, WindowOrders.lasts_decide}
+use Rattle.dns_rdata_sets.proofs.order.lower_order.Goals.{then-at-eq0-via-then-at-eq0, then-at-eq0-via-else-at-eq0+then-b-at-2}
+use Rattle.dns_rdata_sets.proofs.order.lower_order.Goals.{then-b-at+else-at-eq0+else-b-at-2, else-b-at}
 use Rattle.dns_rdata_sets.proofs.order.lower_order.Goals as goal
-use Rattle.dns_rdata_sets.proofs.order.lower_order.Goals.{then-at-eq0-via-then-at-eq0, then-at-eq0-via-else-at-eq0+then-b-at-2, then-b-at+else-at-eq0+else-b-at-2, else-b-at}
 
 pub returns-then-at-eq0 : goal.returns-then-at-eq0
 unfolding field_octets

@@ -3,8 +3,8 @@ use Rattle.std.specs.Ordering.{ordering_reverse}
 use Rattle.std.proofs.lemmas.Cmp.{nat_list_cmp_total}
 use Rattle.dns_fields.specs.Fields.{Bitmap, field_octets}
 use Rattle.dns_rdata_sets.proofs.FirstNumbers.{beginning}
-use Rattle.dns_rdata_sets.proofs.order.numbers_order.Goals as goal
 use Rattle.dns_rdata_sets.proofs.order.numbers_order.Goals.{then-at-a-via-then-at-a, then-at-a-via-else-at-a+then-at-b}
+use Rattle.dns_rdata_sets.proofs.order.numbers_order.Goals as goal
 
 pub returns-then-at-a : goal.returns-then-at-a
 unfolding field_octets

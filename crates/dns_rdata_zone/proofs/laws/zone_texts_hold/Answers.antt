@@ -1,6 +1,4 @@
-use Rattle.dns_rdata_zone.proofs.Filled.{fills_give, fills_tell}
-use Rattle.dns_rdata_zone.proofs.TextsGive.{texts_give, texts_tell}
-use Rattle.dns_rdata_zone.proofs.ZoneOnce.{one_given}
+use Rattle.dns_rdata_zone.proofs.{Filled.fills_give, Filled.fills_tell, TextsGive.texts_give, TextsGive.texts_tell, ZoneOnce.one_given}
 use Rattle.dns_rdata_zone.proofs.laws.zone_texts_hold.Goals as goal
 
 pub returns : goal.returns

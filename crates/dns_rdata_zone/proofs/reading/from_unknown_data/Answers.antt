@@ -1,9 +1,8 @@
 use Rattle.std.proofs.Common.{◌≡◌, ◌⊎◌, ◌∙◌, refl, sym}
 use Rattle.std.specs.Prelude.{IfErr}
 use Rattle.dns_words.specs.Reads.{UnlessMemory}
-use Rattle.dns_rdata_zone.specs.ZoneSteps.{UnknownIsNone}
+use Rattle.dns_rdata_zone.specs.{ZoneSteps.UnknownIsNone, ZoneFaults.BehindMarkFault}
 use Rattle.dns_types.specs.declared.error.ParseError.TheVariants as parse
-use Rattle.dns_rdata_zone.specs.ZoneFaults.{BehindMarkFault}
 use Rattle.dns_rdata_zone.proofs.ZoneSteps.{exit_with, unknown_refused, not_whole, unknown_why, pointer_why}
 use Rattle.dns_rdata_zone.proofs.reading.from_unknown_data.Goals as goal
 

@@ -2,9 +2,8 @@ use Rattle.std.proofs.Common.{◌≡◌, ◌⊎◌, inr, ap}
 use Rattle.std.specs.Prelude.{IfErr}
 use Rattle.dns_names_wire.specs.State.{Reading}
 use Rattle.dns_words.specs.Reads.{UnlessMemory}
-use Rattle.dns_rdata_zone.specs.ZoneSteps.{AreNoData}
+use Rattle.dns_rdata_zone.specs.{ZoneSteps.AreNoData, ZoneFaults.OctetsFault}
 use Rattle.dns_types.specs.declared.error.ParseError.TheVariants as parse
-use Rattle.dns_rdata_zone.specs.ZoneFaults.{OctetsFault}
 use Rattle.dns_rdata_zone.proofs.ZoneSteps.{exit_with, octets_refused, read_why}
 use Rattle.dns_rdata_zone.proofs.reading.read_octets.Goals as goal
 

@@ -1,6 +1,4 @@
-use Rattle.dns_zone_parameters.proofs.OneReading.{one_reading}
-use Rattle.dns_zone_parameters.proofs.WrittenLists.{names_read, plain_items_read}
-use Rattle.dns_zone_parameters.proofs.WrittenWords.{words_read}
+use Rattle.dns_zone_parameters.proofs.{OneReading.one_reading, WrittenLists.names_read, WrittenLists.plain_items_read, WrittenWords.words_read}
 use Rattle.dns_zone_parameters.proofs.laws.parameters_hold.Goals as goal
 
 pub returns : goal.returns

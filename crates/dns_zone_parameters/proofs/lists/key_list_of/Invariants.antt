@@ -1,6 +1,5 @@
 use Rattle.std.proofs.Common.{◌≡◌, take}
-use Rattle.std.specs.Int.{bytes_high_first}
-use Rattle.std.specs.List.{flat_map}
+use Rattle.std.specs.{Int.bytes_high_first, List.flat_map}
 use Rattle.dns_zone_parameters.proofs.lists.key_list_of.Given as goal
 
 abbrev pub invariant-loop-key : goal.invariant-loop-key

@@ -1,5 +1,4 @@
-use Rattle.std.specs.List.{AllZip}
-use Rattle.std.specs.Option.{option_copied}
+use Rattle.std.specs.{List.AllZip, Option.option_copied}
 use Rattle.dns_words.specs.Reads.{Decides}
 use Rattle.dns_zone_parameters.specs.Lists.{items_in, IsListedKey}
 use Rattle.dns_zone_words.proofs.FirstSteps.{exit_with}

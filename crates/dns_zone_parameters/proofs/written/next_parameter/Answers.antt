@@ -1,5 +1,4 @@
-use Rattle.dns_zone_parameters.specs.Steps.{ReadsNext}
-use Rattle.dns_zone_parameters.specs.Views.{parameter_value}
+use Rattle.dns_zone_parameters.specs.{Steps.ReadsNext, Views.parameter_value}
 use Rattle.dns_zone_words.proofs.FirstSteps.{exit_with}
 use Rattle.dns_zone_parameters.proofs.ParameterSteps.{took_parameter, no_parameter}
 use Rattle.dns_zone_parameters.proofs.written.next_parameter.Goals as goal

@@ -1,12 +1,10 @@
 use Rattle.std.proofs.Common.{◌≡◌, ◌+◌, ◌<◌, ◌≤◌, true, false, sym, ◌∙◌, ap, subst, arith, length}
 use Rattle.std.proofs.lemmas.List.{drop_all, length-drop}
-use Rattle.dns_zone_words.specs.Views.{word_value}
-use Rattle.dns_zone_words.specs.Words.{Cursor, words_at, with_word}
-use Rattle.dns_zone_parameters.specs.Parameters.{name_in, value_in}
-use Rattle.dns_zone_parameters.specs.Steps.{NoQuoted}
+use Rattle.dns_zone_words.specs.{Views.word_value, Words.Cursor, Words.words_at, Words.with_word}
+use Rattle.dns_zone_parameters.specs.{Parameters.name_in, Parameters.value_in, Steps.NoQuoted}
 use Rattle.dns_zone_parameters.proofs.WordSteps.{took_alone, took_quoted, took_same, no_equals, with_equals, goes_on, ends_here, to_end, not_alone}
-use Rattle.dns_zone_parameters.proofs.written.next_written.Goals as goal
 use Rattle.dns_zone_parameters.proofs.written.next_written.Goals.{then-word-via-then-word, then-word-via-else-word+then-word-2}
+use Rattle.dns_zone_parameters.proofs.written.next_written.Goals as goal
 
 pub returns-then-word-clause-refused : goal.returns-then-word-clause-refused
 returns-then-word-clause-refused c = not_alone (word_value c.in-Some.word) c.args.words.now c.next_word.new.self (rw c.in-Some.is at c.in_ok-word.ensures.word)

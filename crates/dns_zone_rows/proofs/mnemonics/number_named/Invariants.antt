@@ -1,6 +1,5 @@
 use Rattle.std.proofs.Common.{◌≡◌, drop}
-use Rattle.dns_zone_rows.specs.MnemonicViews.{named_values}
-use Rattle.dns_zone_rows.specs.Mnemonics.{number_named}
+use Rattle.dns_zone_rows.specs.{MnemonicViews.named_values, Mnemonics.number_named}
 use Rattle.dns_zone_rows.proofs.mnemonics.number_named.Given as goal
 
 -- none of the names so far is the text

@@ -1,15 +1,11 @@
 use Rattle.std.proofs.Common.{◌≡◌, ◌⊎◌, inl, inr}
 use Rattle.dns_types.specs.declared.error.ParseError.{ParseError}
 use Rattle.dns_types.specs.declared.error.ParseError.TheVariants as parse
-use Rattle.dns_zone_words.specs.Forms.{StringFault}
-use Rattle.dns_zone_words.specs.Refusals.{Says, cut_text}
-use Rattle.dns_zone_words.specs.Remaining.{AmongFault}
-use Rattle.dns_zone_words.specs.Views.{word_value}
-use Rattle.dns_zone_words.specs.Words.{Cursor}
-use Rattle.dns_zone_words.specs.ZoneReads.{LacksFirst}
-use Rattle.dns_zone_words.specs.declared.field.StringField.{StringField}
+use Rattle.dns_zone_words.specs.{Forms.StringFault, Refusals.Says, Refusals.cut_text, Remaining.AmongFault, Views.word_value, Words.Cursor}
+use Rattle.dns_zone_words.specs.{ZoneReads.LacksFirst, declared.field.StringField.StringField}
 use Rattle.dns_zone_words.proofs.FirstSteps.{exit_fault, exit_why}
-use Rattle.dns_zone_rows.proofs.StringWords.{first_string, one_string, all_strings, exit_first, exit_string, exit_cut, strings_cut, first_why, string_why}
+use Rattle.dns_zone_rows.proofs.StringWords.{first_string, one_string, all_strings, exit_first, exit_string, exit_cut, strings_cut, first_why}
+use Rattle.dns_zone_rows.proofs.StringWords.{string_why}
 use Rattle.dns_zone_rows.proofs.remaining.add_strings.Goals as goal
 
 -- why strings are refused

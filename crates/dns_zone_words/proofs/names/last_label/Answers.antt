@@ -1,8 +1,6 @@
 use Rattle.std.proofs.Common.{List, ℕ, [], arith}
-use Rattle.dns_zone_words.specs.NameSteps.{ReadSo}
-use Rattle.dns_zone_words.specs.NameWords.{LabelsFault}
-use Rattle.dns_zone_words.proofs.FirstSteps.{exit_fault}
-use Rattle.dns_zone_words.proofs.NameLabels.{no_last, end_dot, end_label}
+use Rattle.dns_zone_words.specs.{NameSteps.ReadSo, NameWords.LabelsFault}
+use Rattle.dns_zone_words.proofs.{FirstSteps.exit_fault, NameLabels.no_last, NameLabels.end_dot, NameLabels.end_label}
 use Rattle.dns_zone_words.proofs.names.last_label.Goals as goal
 
 pub returns-then-label-eq0-clause-ok : goal.returns-then-label-eq0-clause-ok

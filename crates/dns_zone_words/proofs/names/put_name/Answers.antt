@@ -1,11 +1,8 @@
 use Rattle.std.proofs.Common.{◌∙◌, sym, refl}
 use Rattle.std.specs.Option.{option_copied}
-use Rattle.dns_zone_words.specs.NameWords.{name, name_octets, labelled}
-use Rattle.dns_zone_words.specs.Views.{word_value}
+use Rattle.dns_zone_words.specs.{NameWords.name, NameWords.name_octets, NameWords.labelled, Views.word_value, ZoneReads.PutsAs}
 use Rattle.dns_words.proofs.Steps.{unless_all}
-use Rattle.dns_zone_words.specs.ZoneReads.{PutsAs}
-use Rattle.dns_zone_words.proofs.FirstSteps.{exit_as}
-use Rattle.dns_zone_words.proofs.NameLabels.{no_name, fault_none}
+use Rattle.dns_zone_words.proofs.{FirstSteps.exit_as, NameLabels.no_name, NameLabels.fault_none}
 use Rattle.dns_zone_words.proofs.NamePuts.{dot_put, whole_put, is_completed, completed_put, completed_why, completed_full, completed_none, full_by}
 use Rattle.dns_zone_words.proofs.names.put_name.Goals as goal
 

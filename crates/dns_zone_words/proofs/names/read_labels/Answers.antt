@@ -1,7 +1,6 @@
 use Rattle.dns_zone_words.specs.NameWords.{LabelsFault}
-use Rattle.dns_zone_words.proofs.FirstSteps.{exit_fault}
+use Rattle.dns_zone_words.proofs.{FirstSteps.exit_fault, NamePuts.if_ok, NamePuts.if_err}
 use Rattle.dns_zone_words.proofs.NameLabels.{front_read, stops_at, at_end, label_read, no_label}
-use Rattle.dns_zone_words.proofs.NamePuts.{if_ok, if_err}
 use Rattle.dns_zone_words.proofs.names.read_labels.Goals as goal
 
 pub returns-then-behind-eq0-clause-ok : goal.returns-then-behind-eq0-clause-ok

@@ -1,10 +1,7 @@
 use Rattle.std.proofs.Common.{List, ℕ, [], length, ap, refl, ◌∙◌, sym, inl, inr, arith}
-use Rattle.dns_zone_words.specs.NameSteps.{ReadSo}
-use Rattle.dns_zone_words.specs.NameWords.{LabelsFault}
-use Rattle.dns_zone_words.specs.Views.{letter_value}
-use Rattle.dns_zone_words.proofs.FirstSteps.{exit_fault}
+use Rattle.dns_zone_words.specs.{NameSteps.ReadSo, NameWords.LabelsFault, Views.letter_value}
+use Rattle.dns_zone_words.proofs.{FirstSteps.exit_fault, NamePuts.if_ok, NamePuts.if_err}
 use Rattle.dns_zone_words.proofs.NameLabels.{bad_escape, read_dot, no_close, no_room, at_end}
-use Rattle.dns_zone_words.proofs.NamePuts.{if_ok, if_err}
 use Rattle.dns_zone_words.proofs.names.read_letters.Goals as goal
 
 pub returns-in_err-letter-clause-refused : goal.returns-in_err-letter-clause-refused

@@ -1,9 +1,6 @@
 use Rattle.std.proofs.Common.{◌≡◌, arith, get_or, below_more, subst}
-use Rattle.std.specs.Int.{IsInRange}
-use Rattle.std.specs.Str.Parse.{digits_value}
-use Rattle.std.proofs.lemmas.Bool.Decides.{nat_tests}
-use Rattle.std.proofs.lemmas.List.{take_all}
-use Rattle.std.proofs.lemmas.Str.Parse.{digit_at}
+use Rattle.std.specs.{Int.IsInRange, Str.Parse.digits_value}
+use Rattle.std.proofs.{lemmas.Bool.Decides.nat_tests, lemmas.List.take_all, lemmas.Str.Parse.digit_at}
 use Rattle.dns_zone_words.proofs.DecimalSteps.{all_digits, one_more, at_least}
 use Rattle.dns_zone_words.proofs.numbers.decimal.Goals as goal
 

@@ -1,6 +1,5 @@
 use Rattle.std.proofs.Common.{◌≡◌, ◌<◌, ℕ, take, get_or}
-use Rattle.std.specs.Int.{IsInRange}
-use Rattle.std.specs.Str.Parse.{digits_value}
+use Rattle.std.specs.{Int.IsInRange, Str.Parse.digits_value}
 use Rattle.dns_zone_words.proofs.numbers.decimal.Given as goal
 
 abbrev pub invariant-loop-octet : goal.invariant-loop-octet

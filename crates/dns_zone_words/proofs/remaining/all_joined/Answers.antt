@@ -1,8 +1,6 @@
 use Rattle.std.proofs.Common.{inl, inr}
-use Rattle.dns_zone_words.specs.Refusals.{Says, cut_text}
-use Rattle.dns_zone_words.specs.Views.{word_value}
+use Rattle.dns_zone_words.specs.{Refusals.Says, Refusals.cut_text, Views.word_value, Remaining.AreJoined, Remaining.ReadsAll}
 use Rattle.dns_words.proofs.Steps.{unless_all}
-use Rattle.dns_zone_words.specs.Remaining.{AreJoined, ReadsAll}
 use Rattle.dns_zone_words.proofs.FirstSteps.{exit_as, exit_why}
 use Rattle.dns_zone_words.proofs.RemainingSteps.{one_taken, all_taken, not_cut, in_quotes, none_taken, joined_cut}
 use Rattle.dns_zone_words.proofs.remaining.all_joined.Goals as goal

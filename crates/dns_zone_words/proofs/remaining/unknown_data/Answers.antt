@@ -1,6 +1,5 @@
 use Rattle.dns_zone_words.specs.Remaining.{AreUnknown, ReadsAll}
-use Rattle.dns_zone_words.proofs.FirstSteps.{exit_with}
-use Rattle.dns_zone_words.proofs.RemainingSteps.{unknown_no_length}
+use Rattle.dns_zone_words.proofs.{FirstSteps.exit_with, RemainingSteps.unknown_no_length}
 use Rattle.dns_zone_words.proofs.remaining.unknown_data.Goals as goal
 
 pub returns-in_err-length-clause-reads : goal.returns-in_err-length-clause-reads

@@ -1,6 +1,5 @@
 use Rattle.std.proofs.Common.{◌≡◌, ◌+◌, length}
-use Rattle.std.specs.Ordering.{nat_cmp}
-use Rattle.std.specs.Cmp.Lexicographic.{slice_cmp}
+use Rattle.std.specs.{Ordering.nat_cmp, Cmp.Lexicographic.slice_cmp}
 use Rattle.dns_pieces.specs.Runs.{common}
 use Rattle.dns_rdata.specs.Cursor.{Chooses, Advances}
 use Rattle.dns_rdata.proofs.canonical.CanonicalOctets.compare.Given as goal

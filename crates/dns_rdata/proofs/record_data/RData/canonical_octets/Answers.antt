@@ -1,7 +1,7 @@
 use Rattle.std.proofs.Common.{arith}
 use Rattle.dns_rdata.proofs.CursorSteps.{cannot, begins_at, begins_kept, begins_whole, begins_none, counts_whole, counts_none}
-use Rattle.dns_rdata.proofs.record_data.RData.canonical_octets.Goals as goal
 use Rattle.dns_rdata.proofs.record_data.RData.canonical_octets.Goals.{then-is_emittable, else-is_emittable}
+use Rattle.dns_rdata.proofs.record_data.RData.canonical_octets.Goals as goal
 
 pub invariant_of-result : goal.invariant_of-result
 invariant_of-result c = (

@@ -1,6 +1,5 @@
 use Rattle.dns_names_wire.proofs.FieldWrites.{emits_extend}
-use Rattle.dns_rdata.proofs.DataLaws.{emits_again, emits_emittable}
-use Rattle.dns_rdata.proofs.WholeOctets.{emits_whole, emitted_whole}
+use Rattle.dns_rdata.proofs.{DataLaws.emits_again, DataLaws.emits_emittable, WholeOctets.emits_whole, WholeOctets.emitted_whole}
 use Rattle.dns_rdata.proofs.record_data.RData.emit_whole.Goals as goal
 
 pub returns-clause-whole : goal.returns-clause-whole

@@ -2,17 +2,12 @@ use Rattle.std.proofs.Common.{refl, arith, ℕ}
 use Rattle.std.proofs.lemmas.Result.{err_from_is_err_and}
 use Rattle.std.specs.Prelude.{◌≡◌, ◌+◌, Result, Err, IfOk, IfErr, OnOk}
 use Rattle.std.specs.Result.{IsErrAnd}
-use Rattle.dns_types.specs.RecordTypes.{number_of}
+use Rattle.dns_types.specs.{RecordTypes.number_of, declared.error.DecodeError.DecodeError, declared.record_type.RecordType.RecordType}
 use Rattle.dns_types.specs.declared.error.DecodeError.TheVariants as decode
-use Rattle.dns_names_wire.specs.Words.{StaysBehind, UnlessMemory}
+use Rattle.dns_names_wire.specs.{Words.StaysBehind, Words.UnlessMemory, State.Reading}
+use Rattle.dns_rdata.specs.{Laws.ReadsCanonical, Refusals.IsRefusal, declared.record_data.RData.RData}
 use Rattle.dns_rdata.specs.Data.{Fills, IsEmittable, IsNeverRead, NoValue, type_of}
-use Rattle.dns_rdata.specs.Laws.{ReadsCanonical}
-use Rattle.dns_types.specs.declared.error.DecodeError.{DecodeError}
-use Rattle.dns_types.specs.declared.record_type.RecordType.{RecordType}
 use Rattle.dns_types.specs.declared.record_type.RecordType.TheVariants as types
-use Rattle.dns_names_wire.specs.State.{Reading}
-use Rattle.dns_rdata.specs.Refusals.{IsRefusal}
-use Rattle.dns_rdata.specs.declared.record_data.RData.{RData}
 use Rattle.dns_rdata_base.specs as base
 use Rattle.dns_rdata_certs.specs as certs
 use Rattle.dns_rdata_options.specs as options
@@ -20,7 +15,9 @@ use Rattle.dns_rdata_service.specs as service
 use Rattle.dns_rdata_sets.specs as sets
 use Rattle.dns_rdata.specs.declared.record_data.RData.TheVariants as rdata
 use Rattle.dns_rdata.proofs.DataLaws.{canonical_of, emittable_of}
-use Rattle.dns_rdata.proofs.DataReads.{ReadsCounted, reads_after, reads_behind, reads_found, reads_kind, reads_never, reads_refused, reads_why, IsNone, row_types, has_no_row, null_counted, of_read, reads_counted, unknown_counted, unread_counted, zero_counted}
+use Rattle.dns_rdata.proofs.DataReads.{ReadsCounted, reads_after, reads_behind, reads_found, reads_kind, reads_never, reads_refused, reads_why}
+use Rattle.dns_rdata.proofs.DataReads.{IsNone, row_types, has_no_row, null_counted, of_read, reads_counted, unknown_counted, unread_counted}
+use Rattle.dns_rdata.proofs.DataReads.{zero_counted}
 use Rattle.dns_rdata.proofs.record_data.RData.read.Goals as goal
 
 -- what the clauses say of a type

@@ -2,7 +2,8 @@ use Rattle.std.proofs.Common.{refl}
 use Rattle.std.proofs.lemmas.Result.{err_from_is_err_and}
 use Rattle.dns_types.specs.declared.record_type.RecordType.TheVariants as types
 use Rattle.dns_rdata.proofs.DataReads.{IsNone}
-use Rattle.dns_rdata.proofs.DataWords.{word_types, has_no_words, answers, answers_no_words, data_took, data_refused, zero_took, svcb_took, svcb_refused, https_took, https_refused}
+use Rattle.dns_rdata.proofs.DataWords.{word_types, has_no_words, answers, answers_no_words, data_took, data_refused, zero_took, svcb_took}
+use Rattle.dns_rdata.proofs.DataWords.{svcb_refused, https_took, https_refused}
 use Rattle.dns_rdata.proofs.record_data.RData.read_words.Goals as goal
 
 pub returns-in_ok-from_tokens-in-A : goal.returns-in_ok-from_tokens-in-A

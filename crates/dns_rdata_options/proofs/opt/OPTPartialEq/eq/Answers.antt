@@ -1,10 +1,7 @@
 use Rattle.std.proofs.Common.{◌≡◌, ◌↔◌, ◌∙◌, sym, ap, Bool, IsTrue, List, count_by}
-use Rattle.std.specs.Ordering.{is_eq}
-use Rattle.std.specs.Cmp.Lexicographic.{pointwise_decides}
-use Rattle.std.specs.List.Sorted.{IsPermutation}
+use Rattle.std.specs.{Ordering.is_eq, Cmp.Lexicographic.pointwise_decides, List.Sorted.IsPermutation}
 use Rattle.dns_fields.proofs.Multisets.{counts_decide}
-use Rattle.dns_rdata_options.specs.OPT.{Pair}
-use Rattle.dns_rdata_options.specs.Order.{pair_eq, pair_cmp, opt_eq}
+use Rattle.dns_rdata_options.specs.{OPT.Pair, Order.pair_eq, Order.pair_cmp, Order.opt_eq}
 use Rattle.dns_rdata_options.specs.OrderLaws.{pair_total, pair_ties, opt_equiv, opt_ties}
 use Rattle.dns_rdata_options.proofs.Values.{opt_permutes, pair_decides}
 use Rattle.dns_rdata_options.proofs.opt.OPTPartialEq.eq.Goals as goal

@@ -1,7 +1,7 @@
 use Rattle.std.proofs.Common.{◌≡◌, ◌+◌, ◌-◌, ◌<◌, ◌≤◌, arith, ap}
 use Rattle.std.proofs.lemmas.Result.{err_from_is_err_and}
-use Rattle.dns_rdata_options.proofs.OptionLists.{refused_code, refused_code_past, refused_size, refused_size_past, refused_long}
-use Rattle.dns_rdata_options.proofs.OptionLists.{cut_short, piece_read}
+use Rattle.dns_rdata_options.proofs.OptionLists.{refused_code, refused_code_past, refused_size, refused_size_past, refused_long, cut_short}
+use Rattle.dns_rdata_options.proofs.OptionLists.{piece_read}
 use Rattle.dns_rdata_options.proofs.opt.reading.next_piece.Goals as goal
 
 pub returns-in_err-read_u16 : goal.returns-in_err-read_u16

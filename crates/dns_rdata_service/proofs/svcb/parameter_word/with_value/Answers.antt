@@ -1,8 +1,7 @@
 use Rattle.std.proofs.Common.{subst}
 use Rattle.std.proofs.lemmas.Result.{err_from_is_err_and}
 use Rattle.dns_rdata_service.specs.ParameterWords.{IsValueText}
-use Rattle.dns_rdata_service.proofs.KeyTexts.{key_one}
-use Rattle.dns_rdata_service.proofs.ParameterWords.{unquoted_one}
+use Rattle.dns_rdata_service.proofs.{KeyTexts.key_one, ParameterWords.unquoted_one}
 use Rattle.dns_rdata_service.proofs.svcb.parameter_word.with_value.Goals as goal
 
 pub returns-in_default-clause-refused : goal.returns-in_default-clause-refused

@@ -1,8 +1,7 @@
 use Rattle.std.proofs.Common.{[], ◌∷◌}
 use Rattle.std.proofs.lemmas.Result.{err_from_is_err_and}
 use Rattle.dns_fields.specs.Fields.{Bitmap}
-use Rattle.dns_names_wire.proofs.FieldWrites.{emits_extend, emits_one}
-use Rattle.dns_names_wire.proofs.PlainWrites.{emits_more, stopped_early}
+use Rattle.dns_names_wire.proofs.{FieldWrites.emits_extend, FieldWrites.emits_one, PlainWrites.emits_more, PlainWrites.stopped_early}
 use Rattle.dns_rdata_sets.specs.CSYNC.{csync_shape, csync_fields, csync_numbers_shape, csync_numbers}
 use Rattle.dns_rdata_sets.proofs.csync.CSYNCBinEncodable.emit.Goals as goal
 

@@ -2,8 +2,8 @@ use Rattle.std.proofs.Common.{arith}
 use Rattle.std.proofs.lemmas.List.Filters.{dedup_is}
 use Rattle.dns_rdata_sets.specs.RecordTypeSet.{IsSetOf}
 use Rattle.dns_rdata_sets.proofs.Numbers.{rising_set, sorted_set}
-use Rattle.dns_rdata_sets.proofs.record_type_set.RecordTypeSet.of_numbers.Goals as goal
 use Rattle.dns_rdata_sets.proofs.record_type_set.RecordTypeSet.of_numbers.Goals.{then-not-rises, else-not-rises}
+use Rattle.dns_rdata_sets.proofs.record_type_set.RecordTypeSet.of_numbers.Goals as goal
 
 set : (c : goal.Joined-not-rises) → IsSetOf c.args.numbers.items c.if-not-rises.numbers.items
 set c = elim c.if-not-rises.branch [

@@ -1,7 +1,6 @@
 use Rattle.std.proofs.Common.{◌≡◌, length, take, length-take, arith}
 use Rattle.std.proofs.lemmas.Result.{err_from_is_err_and}
-use Rattle.dns_rdata_sets.proofs.Rising.{set_drop}
-use Rattle.dns_rdata_sets.proofs.SetWrites.{left_next, left_stopped, left_none}
+use Rattle.dns_rdata_sets.proofs.{Rising.set_drop, SetWrites.left_next, SetWrites.left_stopped, SetWrites.left_none}
 use Rattle.dns_rdata_sets.proofs.record_type_set.writing.emit_blocks.Goals as goal
 
 pub returns-in_err-emit_both : goal.returns-in_err-emit_both

@@ -1,10 +1,8 @@
 use Rattle.std.proofs.Common.{◌≡◌, ℕ, List, [], ◌++◌, ◌∙◌, ap}
 use Rattle.std.proofs.Output.{has_written_of_eq}
 use Rattle.hex.specs.Hex.{encode_lower}
-use Rattle.dns_fields.specs.Fields.{Number, field_octets}
-use Rattle.dns_fields.specs.Pieces.{option_octets}
-use Rattle.dns_rdata_options.specs.EdnsCode.{edns_code_number}
-use Rattle.dns_rdata_options.specs.EdnsOption.{option_value}
+use Rattle.dns_fields.specs.{Fields.Number, Fields.field_octets, Pieces.option_octets}
+use Rattle.dns_rdata_options.specs.{EdnsCode.edns_code_number, EdnsOption.option_value}
 use Rattle.dns_rdata_zone.proofs.OptionDigits.{pair_digits}
 use Rattle.dns_rdata_zone.proofs.options.OptionDigitsDisplay.fmt.Goals as goal
 

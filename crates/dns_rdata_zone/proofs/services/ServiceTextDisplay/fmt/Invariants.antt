@@ -1,7 +1,6 @@
 use Rattle.std.proofs.Common.{take, flat_map, ◌++◌, codes, decimal}
 use Rattle.std.specs.Fmt.{HasWritten, IsPlainFormatter}
-use Rattle.dns_rdata_zone.specs.Names.{zone_name}
-use Rattle.dns_rdata_zone.specs.Parameters.{zone_parameter}
+use Rattle.dns_rdata_zone.specs.{Names.zone_name, Parameters.zone_parameter}
 use Rattle.dns_rdata_zone.proofs.services.ServiceTextDisplay.fmt.Given as goal
 
 abbrev pub invariant-loop-parameter : goal.invariant-loop-parameter

@@ -1,6 +1,5 @@
 use Rattle.std.proofs.Common.{List, ℕ, Ok, Err, arith, subst}
-use Rattle.std.proofs.lemmas.List.{take_all}
-use Rattle.std.proofs.lemmas.Result.{err_from_is_err_and}
+use Rattle.std.proofs.{lemmas.List.take_all, lemmas.Result.err_from_is_err_and}
 use Rattle.dns_fields.specs.Pieces.{Alpn}
 use Rattle.dns_rdata_service.specs.Hints.{EmitsEach}
 use Rattle.dns_rdata_service.proofs.EachEmits.{emits_next, emits_refused}
