@@ -168,5 +168,5 @@ pub plain_name : {message : List ℕ} {start at : ℕ} {octets : List ℕ} → S
     → IsNameAt message start (take (at - start) (drop start message)) (start + length (take (at - start) (drop start message)) + 1)
 plain_name {message} {start} {at} {octets} s within zero room =
     let found = no_more message start (at + 1) message start octets
-    (first_run message start (at + 1) None [] octets refl within s.room (at_zero message start at [] octets s zero room)) in
+    (first_run message start (at + 1) None [] octets refl within s.room (at_zero s zero room)) in
     rw (plain_part s) (subst (λ (e : ℕ). IsNameAt message start octets e) (omega (arith, plain_length s)) found)

@@ -19,8 +19,8 @@ pub record SoFar (message : List ℕ) (place at : ℕ) (old new : List ℕ) : Ty
   pub within : at ≤ length message
   pub room : length new ≤ 254
 
-pub so_far_none : (message : List ℕ) (place : ℕ) (old : List ℕ) → place ≤ length message → length old ≤ 254 → SoFar message place place old old
-so_far_none message place old within room =
+pub so_far_none : {message : List ℕ} {place : ℕ} {old : List ℕ} → place ≤ length message → length old ≤ 254 → SoFar message place place old old
+so_far_none {old} within room =
     record { front = []; are = tt; octets = sym (append-nil old); stands = refl; at_is = omega arith; within = within; room = room }
 
 -- a run that stands there begins with the labels that were read
@@ -29,42 +29,35 @@ left : (front labels : List (List ℕ)) (s behind : List ℕ) (stop : Option ℕ
 left front labels s behind None hf hl e = rest_of front labels s behind 0 hf hl zero_stop e
 left front labels s behind (Some t) hf hl e = rest_of front labels s (t % 256 ∷ behind) (192 + t / 256) hf hl (pointer_stop t) e
 
--- what the next octet is: an octet 0, a pointer's first, or the length of a label
-abbrev pub Next : List ℕ → List (List ℕ) → Type 0
-Next s rest = ((get_or s 0 0 ≡ 0) × (1 ≤ length s))
-    ⊎ (((192 ≤ get_or s 0 0) × (2 ≤ length s))
-    ⊎ ((1 ≤ get_or s 0 0) × (get_or s 0 0 ≤ 63) × (get_or s 0 0 + 1 ≤ length s) × (get_or s 0 0 + 1 ≤ length (wire rest))))
+-- what is left of a run: an octet 0, a pointer's first, or the length of a label comes next
+pub record Onward (next left : ℕ) (rest : List (List ℕ)) : Type 0 where
+  pub some : 1 ≤ left
+  pub pointer : 64 ≤ next → (192 ≤ next) × (2 ≤ left)
+  pub label : 1 ≤ next → next ≤ 63 → (next + 1 ≤ left) × (next + 1 ≤ length (wire rest))
 
-next_of : (rest : List (List ℕ)) (stop : Option ℕ) (behind s : List ℕ) → AreLabels rest → s ≡ wire rest ++ (stop_octets stop ++ behind) → Next s rest
-next_of [] None behind s h e = rw e (inl (refl, omega arith))
-next_of [] (Some t) behind s h e = rw e (inr (inl (omega arith, omega arith)))
+next_of : (rest : List (List ℕ)) (stop : Option ℕ) (behind s : List ℕ) → AreLabels rest → s ≡ wire rest ++ (stop_octets stop ++ behind)
+    → Onward (get_or s 0 0) (length s) rest
+next_of [] None behind s h e =
+    rw e (record { some = omega arith; pointer = λ n. absurd (omega arith); label = λ n k. absurd (omega arith) })
+next_of [] (Some t) behind s h e =
+    rw e (record { some = omega arith; pointer = λ n. (omega arith, omega arith); label = λ n k. absurd (omega arith) })
 next_of (l ∷ rest) stop behind s h e =
     let a = length-append l (wire rest) in
     let b = length-append (l ++ wire rest) (stop_octets stop ++ behind) in
-    let lo : 1 ≤ length l = h.0.0 in
     let hi : length l ≤ 63 = h.0.1 in
-    rw e (inr (inr (lo, hi, omega arith, omega arith)))
-
-pub record Onward (message : List ℕ) (at : ℕ) (total : ℕ) (new : List ℕ) : Type 0 where
-  pub rest : List (List ℕ)
-  pub total_is : total ≡ length new + length (wire rest)
-  pub next : ((get_or message at 0 ≡ 0) × (1 ≤ length message - at))
-      ⊎ (((192 ≤ get_or message at 0) × (2 ≤ length message - at))
-      ⊎ ((1 ≤ get_or message at 0) × (get_or message at 0 ≤ 63) × (get_or message at 0 + 1 ≤ length message - at)
-      × (get_or message at 0 + 1 ≤ length (wire rest))))
+    rw e (record { some = omega arith; pointer = λ n. absurd (omega arith); label = λ n k. (omega arith, omega arith) })
 
 -- what stands at the reader's place, if a run stands where it began
-pub onward : (message : List ℕ) (place at : ℕ) (old new : List ℕ) (front : List (List ℕ)) (stop : Option ℕ) (end : ℕ) → SoFar message place at old new
-    → IsRun message place front stop end → Onward message at (length old + length (wire front)) new
-onward message place at old new front stop end s r =
+pub onward : {message : List ℕ} {place at : ℕ} {old new : List ℕ} {front : List (List ℕ)} {stop : Option ℕ} {end : ℕ} → SoFar message place at old new
+    → IsRun message place front stop end → (rest : List (List ℕ)) × Onward (get_or message at 0) (length message - at) rest
+    × (length old + length (wire front) ≡ length new + length (wire rest))
+onward {message} {at} {old} {new} {front} {stop} s r =
     let k = left s.front front (drop at message) r.behind stop s.are r.are (sym s.stands ∙ r.stands) in
-    let n : Next (drop at message) k.rest = next_of k.rest stop r.behind (drop at message) k.are k.stands in
+    let n = next_of k.rest stop r.behind (drop at message) k.are k.stands in
     let g : get_or (drop at message) 0 0 ≡ get_or message at 0 = get_or-drop at message 0 0 ∙ ap (λ (i : ℕ). get_or message i 0) (omega arith) in
-    let d : length (drop at message) ≡ length message - at = length-drop at message in
     let w : length (wire front) ≡ length (wire s.front) + length (wire k.rest) = ap (λ (t : List (List ℕ)). length (wire t)) k.joined
     ∙ ap length (wire-append s.front k.rest) ∙ length-append (wire s.front) (wire k.rest) in
-    let o : length new ≡ length old + length (wire s.front) = ap length s.octets ∙ length-append old (wire s.front) in
-    record { rest = k.rest; total_is = omega arith; next = rw (g, d) at n }
+    (k.rest, rw (g, length-drop at message) at n, omega (arith, ap length s.octets, length-append old (wire s.front)))
 
 -- a pointer's two octets
 pointer_of : (h l : ℕ) → 192 ≤ h → h < 256 → l < 256 → pointer ((h - 192) * 256 + l) ≡ h ∷ l ∷ []
@@ -73,10 +66,10 @@ pointer_of h l lo hi low =
     let b : ((h - 192) * 256 + l) % 256 ≡ l = omega arith in
     cc
 
-pub at_pointer : (message : List ℕ) (place at : ℕ) (old new : List ℕ) → SoFar message place at old new → ((i : ℕ) → get_or message i 0 < 256)
+pub at_pointer : {message : List ℕ} {place at : ℕ} {old new : List ℕ} → SoFar message place at old new → ((i : ℕ) → get_or message i 0 < 256)
     → 192 ≤ get_or message at 0 → at + 2 ≤ length message
     → AddsRun message place (Some ((get_or message at 0 - 192) * 256 + get_or message (at + 1) 0)) (at + 2) old new
-at_pointer message place at old new s octets high room =
+at_pointer {message} {at} s octets high room =
     let h = get_or message at 0 in
     let l = get_or message (at + 1) 0 in
     let hi : h < 256 = octets at in
@@ -100,10 +93,10 @@ at_pointer message place at old new s octets high room =
     }
 
 -- one label more
-pub one_more : (message : List ℕ) (place at : ℕ) (old new : List ℕ) (part : List ℕ) → SoFar message place at old new → 1 ≤ get_or message at 0
+pub one_more : {message : List ℕ} {place at : ℕ} {old new part : List ℕ} → SoFar message place at old new → 1 ≤ get_or message at 0
     → get_or message at 0 ≤ 63 → at + get_or message at 0 + 1 ≤ length message → length new + get_or message at 0 < 254
     → part ≡ take (get_or message at 0 + 1) (drop at message) → SoFar message place (at + (get_or message at 0 + 1)) old (new ++ part)
-one_more message place at old new part s low high room short part_is =
+one_more {message} {at} {old} {new} {part} s low high room short part_is =
     let n = get_or message at 0 in
     let label = take n (drop (at + 1) message) in
     let e : drop at message ≡ n ∷ drop (at + 1) message = drop_more message at 0 (omega arith) in
@@ -128,9 +121,9 @@ one_more message place at old new part s low high room short part_is =
       room = omega (arith, length-append new part);
     }
 
-pub at_zero : (message : List ℕ) (place at : ℕ) (old new : List ℕ) → SoFar message place at old new → get_or message at 0 ≡ 0 → at < length message
+pub at_zero : {message : List ℕ} {place at : ℕ} {old new : List ℕ} → SoFar message place at old new → get_or message at 0 ≡ 0 → at < length message
     → AddsRun message place None (at + 1) old new
-at_zero message place at old new s zero room =
+at_zero {message} {at} s zero room =
     let e : drop at message ≡ 0 ∷ drop (at + 1) message = drop_more message at 0 room ∙ ap (λ (k : ℕ). k ∷ drop (at + 1) message) zero in
     record {
       front = s.front;

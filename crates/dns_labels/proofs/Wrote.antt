@@ -11,7 +11,7 @@ use Rattle.dns_labels.specs.Labels.{labels_of, name_of, AreNameOctets}
 use Rattle.dns_labels.specs.Reading.{stop_octets}
 use Rattle.dns_labels.specs.Emission.{StandsFor, AddsName, IsNameCut}
 use Rattle.dns_labels.proofs.Found.{name_is_of}
-use Rattle.dns_labels.proofs.CutSteps.{adds_name, cut_none, cut_found, cut_whole, cut_short}
+use Rattle.dns_labels.proofs.CutSteps.{adds_name, whole_found, cut_whole, cut_short}
 
 pub wrote_whole : (old new octets : List ℕ) (cut : ℕ) (target : Option ℕ) → AreNameOctets octets → cut ≡ length octets → target ≡ None
     → new ≡ old ++ (take cut octets ++ stop_octets target) → new ≡ old ++ (wire (labels_of octets) ++ 0 ∷ [])
@@ -47,7 +47,7 @@ pub pointer_wrote : (mode : RDataEncoding) (old new octets : List ℕ) (place : 
     → 0 < length octets → place < 16384 → StandsFor old place octets → new ≡ old ++ pointer place → (mark : Bool)
     → NameWrote mode old (name_of octets mark) new
 pointer_wrote mode old new octets place is n some low s e =
-    cut_wrote mode old old old new octets 0 (Some place) (Some place) refl n (cut_found old octets 0 place (cut_none octets n) some low s)
+    cut_wrote mode old old old new octets 0 (Some place) (Some place) refl n (whole_found old octets place n some low s)
     (λ other. absurd (other is)) (sym (append-nil old)) refl e
 
 -- its octets and a 0 wrote it

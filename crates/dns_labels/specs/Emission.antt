@@ -33,12 +33,6 @@ pub record CutAt (octets : List ℕ) (cut : ℕ) : Type 0 where
   pub within : cut ≤ length octets
 
 -- a name's octets in two parts, of which the second need not be written
-pub record IsNameCut (message octets : List ℕ) (cut : ℕ) (target : Option ℕ) : Type 0 where
-  pub front : List (List ℕ)
-  pub rest : List (List ℕ)
-  pub are_front : AreLabels front
-  pub are_rest : AreLabels rest
-  pub front_is : take cut octets ≡ wire front
-  pub rest_is : drop cut octets ≡ wire rest
-  pub within : cut ≤ length octets
-  pub leads : LeadsTo message target rest
+pub record IsNameCut (message octets : List ℕ) (at : ℕ) (target : Option ℕ) : Type 0 where
+  pub cut : CutAt octets at
+  pub leads : LeadsTo message target cut.rest

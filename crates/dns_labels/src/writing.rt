@@ -33,6 +33,7 @@ struct Cut {
 
 /// Where a name is cut: only `StandardRecord` leaves a tail out. Fails only for want of memory to note the first name.
 #[inline]
+#[tactic(auto, using(crate::proofs::CutSteps::cut_whole))]
 fn cut_for(
     places: &mut Places,
     mode: RDataEncoding,
@@ -55,6 +56,7 @@ fn cut_for(
 
 /// Where a name is cut that may leave a tail out.
 #[inline]
+#[tactic(auto, using(crate::proofs::CutSteps::cut_whole))]
 fn cut_at_tail(places: &mut Places, message: &[u8], name: &[u8]) -> Result<Cut, AllocError>
     requires { AreNameOctets name.now }
     ensures { IfOk result (λ c. IsNameCut message.now name.now c.written c.target) }
