@@ -9,7 +9,7 @@ use Rattle.dns_fields.specs.Names.{LabelsStand, pointer}
 use Rattle.dns_fields.specs.Names.LabelsStand.{whole, pointed}
 use Rattle.dns_labels.specs.Reading.{stop_octets}
 use Rattle.dns_fields.proofs.Stays.{stands_before}
-use Rattle.dns_labels.specs.Emission.{StandsFor, CutAt, IsNameCut, LeadsTo, AddsName}
+use Rattle.dns_labels.specs.Emission.{StandsFor, CutAt, IsNameCut, LeadsTo}
 use Rattle.dns_fields.proofs.Runs.{wire-append, AreLabels-append}
 use Rattle.dns_labels.proofs.Octets.{labels_of-wire}
 
@@ -119,18 +119,13 @@ leads_stands old new front rest (Some t) hf e leads =
     pointed front rest t leads.2.0 [] hf d leads.0 (stands_before leads.2.1) s refl
     (omega (arith, ap length e, length-append old x, length-append (wire front) (pointer t)))
 
-pub adds_name : (old new octets : List ℕ) (cut : ℕ) (target : Option ℕ) → AreNameOctets octets → IsNameCut old octets cut target
-    → new ≡ old ++ (take cut octets ++ stop_octets target) → AddsName old new (labels_of octets)
-adds_name old new octets cut target n is e =
+-- the octets up to the cut, and what ends them, stand for all of the labels
+pub cut_stands : {old new octets : List ℕ} {cut : ℕ} {target : Option ℕ} → AreNameOctets octets → IsNameCut old octets cut target
+    → new ≡ old ++ (take cut octets ++ stop_octets target) → LabelsStand new (length old) (labels_of octets) (length new)
+cut_stands {old} {new} {octets} {cut} {target} n is e =
     let k = is.cut in
     let f : new ≡ old ++ (wire k.front ++ stop_octets target) = e ∙ ap (λ (x : List ℕ). old ++ (x ++ stop_octets target)) k.front_is in
     let w : wire (k.front ++ k.rest) ≡ octets = wire-append k.front k.rest ∙ ap (λ (x : List ℕ). x ++ wire k.rest) (sym k.front_is)
     ∙ ap (λ (x : List ℕ). take cut octets ++ x) (sym k.rest_is) ∙ take-append-drop cut octets in
     let l : k.front ++ k.rest ≡ labels_of octets = same_wire (k.front ++ k.rest) (labels_of octets) (w ∙ n.same) in
-    let size : length octets ≡ length (wire (labels_of octets)) = ap length n.same in
-    record {
-      added = take cut octets ++ stop_octets target;
-      behind = e;
-      bounded = omega (arith, cut_short old octets cut target is, length-append (take cut octets) (stop_octets target), length-take cut octets, k.within);
-      stands = subst (λ (x : List (List ℕ)). LabelsStand new (length old) x (length new)) l (leads_stands old new k.front k.rest target k.are_front f is.leads);
-    }
+    subst (λ (x : List (List ℕ)). LabelsStand new (length old) x (length new)) l (leads_stands old new k.front k.rest target k.are_front f is.leads)

@@ -11,7 +11,7 @@ use Rattle.dns_labels.specs.Labels.{AreNameOctets, labels_of, name_of}
 use Rattle.dns_labels.specs.Text.{LabelText, LabelsText, MarkedText, IsNameText, IsLabelEnd, AddsOctets, AddsLabel}
 use Rattle.dns_labels.specs.Text.LabelsText.{last, dotted, joined}
 use Rattle.dns_labels.specs.Text.MarkedText.{root, nothing, labelled}
-use Rattle.dns_labels.proofs.Octets.{labels_from, are_name_octets}
+use Rattle.dns_labels.proofs.Octets.{wire_length, labels_from, are_name_octets}
 use Rattle.dns_labels.proofs.NameTexts.{one_label, first_text, BackText, back_ends}
 use Rattle.dns_labels.proofs.NameTexts.BackText.{at_end, at_dot, further}
 
@@ -169,11 +169,8 @@ name_refused s some no_dot none name n =
     let k = s.complete name.labels name.fully_qualified n.is_name.labels (marked_labels some no_dot n.reads) in
     let f = first_text k.reads in
     let j : name.labels ≡ s.front ++ (f.label ∷ f.others) = k.joined ∙ ap (λ (x : List (List ℕ)). s.front ++ x) f.split in
-    let w : length (wire name.labels) ≡ length (wire s.front) + (1 + (length f.label + length (wire f.others))) = ap (λ (x : List (List ℕ)). length (wire x)) j
-    ∙ ap length (wire-append s.front (f.label ∷ f.others)) ∙ length-append (wire s.front) (wire (f.label ∷ f.others))
-    ∙ omega (arith, length-append f.label (wire f.others)) in
     none f.label f.front f.back f.reads f.stands (back_ends f.behind) (second_is s.front f.label f.others (subst AreLabels j n.is_name.labels))
-    (omega (arith, n.is_name.fits, ap length s.same))
+    (omega (arith, n.is_name.fits, ap length s.same, wire_length s.front (f.label ∷ f.others) j, length-append f.label (wire f.others)))
 
 -- what holds of every refusal holds of the one that `?` hands on
 pub said_of_err : {T E : Type 0} {P : Type 0} (r : Result T E) → IsErr r → P → IfErr r (λ _. P)

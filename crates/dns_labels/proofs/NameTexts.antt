@@ -1,6 +1,6 @@
 -- A text is that of one name, and what is printed of a name is a text of it.
 use Rattle.std.proofs.Common.{◌≡◌, ℕ, zero, suc, ◌<◌, ◌≤◌, Bool, true, false, List, [], ◌∷◌, ◌++◌, All, length, refl, sym, ◌∙◌, ap, subst, append_assoc, arith}
-use Rattle.std.specs.Prelude.{flat_map}
+use Rattle.std.specs.Prelude.{flat_map, if◌then◌else◌}
 use Rattle.std.proofs.lemmas.List.{append-nil, append_cancel_left}
 use Rattle.std.proofs.lemmas.List.Elements.{All-head, All-tail}
 use Rattle.dns_fields.specs.Octets.{AreOctets}
@@ -149,25 +149,20 @@ label_reads [] h = no_octet
 label_reads (c ∷ label) h = octet (printed c) (label_text label) (printed_text c (head_octet c label h))
     (label_reads label (All-tail (λ (x : ℕ). x < 256) c label h)) refl
 
-relative_reads : (label : List ℕ) (labels : List (List ℕ)) → All AreOctets (label ∷ labels) → LabelsText (label ∷ labels) false (joined_text (label ∷ labels))
-relative_reads label [] h = rw (append-nil (label_text label)) (last (label_reads label (head_label label [] h)))
-relative_reads label (next ∷ labels) h = joined (label_text label) (joined_text (next ∷ labels)) (label_reads label (head_label label (next ∷ labels) h))
-    (relative_reads next labels (tail_labels label (next ∷ labels) h)) refl
-
-qualified_reads : (label : List ℕ) (labels : List (List ℕ)) → All AreOctets (label ∷ labels)
-    → LabelsText (label ∷ labels) true (joined_text (label ∷ labels) ++ 46 ∷ [])
-qualified_reads label [] h = dotted (label_text label) (label_reads label (head_label label [] h))
+labels_read : (label : List ℕ) (labels : List (List ℕ)) (mark : Bool) → All AreOctets (label ∷ labels)
+    → LabelsText (label ∷ labels) mark (name_text (record { labels = label ∷ labels; fully_qualified = mark }))
+labels_read label [] true h = dotted (label_text label) (label_reads label (head_label label [] h))
     (ap (λ (t : List ℕ). t ++ 46 ∷ []) (append-nil (label_text label)))
-qualified_reads label (next ∷ labels) h = joined (label_text label) (joined_text (next ∷ labels) ++ 46 ∷ [])
-    (label_reads label (head_label label (next ∷ labels) h)) (qualified_reads next labels (tail_labels label (next ∷ labels) h))
-    (append_assoc (label_text label) (46 ∷ joined_text (next ∷ labels)) (46 ∷ []))
+labels_read label [] false h = rw (append-nil (joined_text (label ∷ []))) (rw (append-nil (label_text label)) (last (label_reads label (head_label label [] h))))
+labels_read label (next ∷ labels) mark h = joined (label_text label) (name_text (record { labels = next ∷ labels; fully_qualified = mark }))
+    (label_reads label (head_label label (next ∷ labels) h)) (labels_read next labels mark (tail_labels label (next ∷ labels) h))
+    (append_assoc (label_text label) (46 ∷ joined_text (next ∷ labels)) (if mark then 46 ∷ [] else []))
 
 marked_reads : (labels : List (List ℕ)) (mark : Bool) → All AreOctets labels
     → MarkedText labels mark (name_text (record { labels = labels; fully_qualified = mark }))
 marked_reads [] true h = root
 marked_reads [] false h = nothing
-marked_reads (label ∷ labels) true h = labelled (qualified_reads label labels h)
-marked_reads (label ∷ labels) false h = labelled (rw (append-nil (joined_text (label ∷ labels))) (relative_reads label labels h))
+marked_reads (label ∷ labels) mark h = labelled (labels_read label labels mark h)
 
 -- what is printed of a name is a text of it
 pub name_reads : (x : DomainName) → IsName x → HasOctets x → IsNameText x (name_text x)

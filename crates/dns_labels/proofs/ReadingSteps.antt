@@ -6,6 +6,7 @@ use Rattle.std.proofs.lemmas.List.{drop_more, get_or-drop, append-nil, drop-drop
 use Rattle.dns_fields.specs.Labels.{AreLabels, wire}
 use Rattle.dns_fields.specs.Names.{pointer}
 use Rattle.dns_labels.specs.Reading.{IsRun, AddsRun, stop_octets}
+use Rattle.dns_labels.proofs.Octets.{wire_length}
 use Rattle.dns_fields.proofs.Runs.{RestOf, rest_of, wire-append, AreLabels-append}
 use Rattle.dns_fields.proofs.Unique.{zero_stop, pointer_stop}
 
@@ -55,9 +56,7 @@ onward {message} {at} {old} {new} {front} {stop} s r =
     let k = left s.front front (drop at message) r.behind stop s.are r.are (sym s.stands ∙ r.stands) in
     let n = next_of k.rest stop r.behind (drop at message) k.are k.stands in
     let g : get_or (drop at message) 0 0 ≡ get_or message at 0 = get_or-drop at message 0 0 ∙ ap (λ (i : ℕ). get_or message i 0) (omega arith) in
-    let w : length (wire front) ≡ length (wire s.front) + length (wire k.rest) = ap (λ (t : List (List ℕ)). length (wire t)) k.joined
-    ∙ ap length (wire-append s.front k.rest) ∙ length-append (wire s.front) (wire k.rest) in
-    (k.rest, rw (g, length-drop at message) at n, omega (arith, ap length s.octets, length-append old (wire s.front)))
+    (k.rest, rw (g, length-drop at message) at n, omega (arith, wire_length s.front k.rest k.joined, ap length s.octets, length-append old (wire s.front)))
 
 -- a pointer's two octets
 pointer_of : (h l : ℕ) → 192 ≤ h → h < 256 → l < 256 → pointer ((h - 192) * 256 + l) ≡ h ∷ l ∷ []

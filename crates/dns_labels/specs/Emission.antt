@@ -10,13 +10,6 @@ pub record StandsFor (message : List ℕ) (place : ℕ) (octets : List ℕ) : Ty
   pub stands : LabelsStand message place labels end
   pub same : octets ≡ wire labels
 
--- Octets were added, no more than the labels' and one, and the labels stand there.
-pub record AddsName (old new : List ℕ) (labels : List (List ℕ)) : Type 0 where
-  pub added : List ℕ
-  pub behind : new ≡ old ++ added
-  pub bounded : length added ≤ length (wire labels) + 1
-  pub stands : LabelsStand new (length old) labels (length new)
-
 -- no labels are left, or they stand from that place already
 abbrev pub LeadsTo : List ℕ → Option ℕ → List (List ℕ) → Type 0
 LeadsTo message None rest = rest ≡ []

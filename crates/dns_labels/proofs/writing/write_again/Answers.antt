@@ -4,16 +4,9 @@ use Rattle.dns_labels.proofs.writing.write_again.Goals as goal
 
 pub returns-in-StandardRecord-clause-ok : goal.returns-in-StandardRecord-clause-ok
 returns-in-StandardRecord-clause-ok c = on_ok_weaker c.write_pointer.result
-    (pointer_wrote c.args.mode c.args.out.now.items c.write_pointer.new.out.items c.args.name.now c.args.place c.in-StandardRecord.is c.requires.name
-    c.requires.some c.requires.place c.requires.stands)
-    c.write_pointer.ensures.ok
+    (pointer_wrote c.in-StandardRecord.is c.requires.name c.requires.some c.requires.place c.requires.stands) c.write_pointer.ensures.ok
 
 pub returns-in-Canonical : goal.returns-in-Canonical
 returns-in-Canonical c =
     let w = c.write_whole.ensures in
-    record {
-      ok = on_ok_weaker c.write_whole.result (whole_wrote c.args.mode c.args.out.now.items c.write_whole.new.out.items c.args.name.now c.requires.name) w.ok;
-      within = w.within;
-      err = w.err;
-      full = w.full;
-    }
+    record { ok = on_ok_weaker c.write_whole.result (whole_wrote c.requires.name) w.ok; within = w.within; err = w.err; full = w.full }
