@@ -11,7 +11,7 @@ use Rattle.dns_labels.specs.Labels.{AreNameOctets, labels_of, name_of}
 use Rattle.dns_labels.specs.Text.{LabelText, LabelsText, MarkedText, IsNameText, IsLabelEnd, AddsOctets, AddsLabel}
 use Rattle.dns_labels.specs.Text.LabelsText.{last, dotted, joined}
 use Rattle.dns_labels.specs.Text.MarkedText.{root, nothing, labelled}
-use Rattle.dns_labels.proofs.Octets.{wire_length, labels_from, are_name_octets}
+use Rattle.dns_labels.proofs.Octets.{wire_length, second_is, labels_from, are_name_octets}
 use Rattle.dns_labels.proofs.NameTexts.{one_label, first_text, BackText, back_ends}
 use Rattle.dns_labels.proofs.NameTexts.BackText.{at_end, at_dot, further}
 
@@ -156,10 +156,6 @@ marked_labels : {labels : List (List ℕ)} {mark : Bool} {text : List ℕ} → 1
 marked_labels some no_dot root = absurd (no_dot refl refl)
 marked_labels some no_dot nothing = absurd (omega arith)
 marked_labels some no_dot (labelled ls) = ls
-
-second_is : (front : List (List ℕ)) (label : List ℕ) (others : List (List ℕ)) → AreLabels (front ++ (label ∷ others)) → IsLabel label
-second_is [] label others h = h.0
-second_is (l ∷ front) label others h = second_is front label others h.1
 
 -- no label stands there, so the text is that of no name
 pub name_refused : {text : List ℕ} {at : ℕ} {octets : List ℕ} → NameSoFar text at octets → 1 ≤ length text → (length text ≡ 1 → get_or text 0 0 ≢ 46)

@@ -1,7 +1,7 @@
 -- A name's octets and its labels.
 use Rattle.std.proofs.Common.{◌≡◌, ℕ, zero, suc, ◌+◌, ◌≤◌, List, [], ◌∷◌, ◌++◌, length, take, drop, get_or, refl, sym, ◌∙◌, ap, arith, length-append}
 use Rattle.std.proofs.lemmas.List.{take_at, drop_at}
-use Rattle.dns_fields.specs.Labels.{AreLabels, wire, FitsName}
+use Rattle.dns_fields.specs.Labels.{IsLabel, AreLabels, wire, FitsName}
 use Rattle.dns_fields.proofs.Runs.{wire-append}
 use Rattle.dns_labels.specs.Labels.{labels_in, labels_of, AreNameOctets}
 
@@ -17,6 +17,10 @@ labels_in-wire (suc more) (l ∷ labels) h =
 -- octets of labels in two parts
 pub wire_length : {labels : List (List ℕ)} (front rest : List (List ℕ)) → labels ≡ front ++ rest → length (wire labels) ≡ length (wire front) + length (wire rest)
 wire_length front rest e = ap (λ (x : List (List ℕ)). length (wire x)) e ∙ ap length (wire-append front rest) ∙ length-append (wire front) (wire rest)
+
+pub second_is : (front : List (List ℕ)) (label : List ℕ) (others : List (List ℕ)) → AreLabels (front ++ (label ∷ others)) → IsLabel label
+second_is [] label others h = h.0
+second_is (l ∷ front) label others h = second_is front label others h.1
 
 pub labels_of-wire : (labels : List (List ℕ)) → labels_of (wire labels) ≡ labels
 labels_of-wire labels = labels_in-wire (length (wire labels)) labels (omega arith)
