@@ -7,6 +7,11 @@ use Rattle.dns_text.specs.Quoted.{First}
 pub opened : {s behind : List ℕ} → 0 < length s → behind ≡ drop 1 s → s ≡ get_or s 0 0 ∷ behind
 opened {s} l d = drop_more s 0 0 l ∙ ap (λ (t : List ℕ). get_or s 0 0 ∷ t) (sym d)
 
+-- two readings of one front, and then of one rest
+pub same_behind : {V E : Type 0} (front : List V) {value later whole : List V} {rest end : E} → whole ≡ front ++ later → (value ≡ later) × (rest ≡ end)
+    → (front ++ value ≡ whole) × (rest ≡ end)
+same_behind {V} front e y = (ap (λ (l : List V). front ++ l) y.0 ∙ sym e, y.1)
+
 module _ {V E : Type 0} {Reads : List V → List ℕ → E → Type 0} where
   -- nothing read yet
   pub first_none : (text : List ℕ) → First Reads [] text text
