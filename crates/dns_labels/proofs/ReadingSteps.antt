@@ -83,8 +83,7 @@ at_pointer {message} {at} s octets high room =
       run = record {
         are = s.are;
         behind = drop (at + 1 + 1) message;
-        stands = s.stands
-            ∙ ap (λ (t : List ℕ). wire s.front ++ t) q;
+        stands = s.stands ∙ ap (λ (t : List ℕ). wire s.front ++ t) q;
         target = omega arith;
         ends = omega (arith, s.at_is);
       };
@@ -129,8 +128,7 @@ at_zero {message} {at} s zero room =
       run = record {
         are = s.are;
         behind = drop (at + 1) message;
-        stands = s.stands
-            ∙ ap (λ (t : List ℕ). wire s.front ++ t) e;
+        stands = s.stands ∙ ap (λ (t : List ℕ). wire s.front ++ t) e;
         target = tt;
         ends = omega (arith, s.at_is);
       };

@@ -33,8 +33,7 @@ pub stands_two : (message octets : List ℕ) (place front : ℕ) (a b : List ℕ
     → a ≡ b → 192 ≤ get_or message (place + front) 0 → target_at message (place + front) < place
     → StandsFor (take place message) (target_at message (place + front)) (drop front octets) → StandsFor message place octets
 stands_two message octets place front a b k short are room a_is b_is same high before s =
-    let r = at_pointer (front_stands message octets place front a k short room a_is (same ∙ b_is))
-    are high (omega arith) in
+    let r = at_pointer (front_stands message octets place front a k short room a_is (same ∙ b_is)) are high (omega arith) in
     let t : octets ≡ wire r.front ++ wire s.labels = sym (take-append-drop front octets) ∙ ap (λ (x : List ℕ). x ++ drop front octets) r.octets
     ∙ ap (λ (x : List ℕ). wire r.front ++ x) s.same in
     record {

@@ -9,6 +9,5 @@ returns-then-count-eq0-clause-none c = λ label t rest lt e end is room.
     e end is
 
 pub returns-clause-some : goal.returns-clause-some
-returns-clause-some c = rw c.set.ensures
-    (label_set c.push.ensures
+returns-clause-some c = rw c.set.ensures (label_set c.push.ensures
     c.in_ok-taken.ensures.some c.len-start.ensures.value (omega (arith, c.len.ensures.value)) (omega arith) c.in_ok-taken.ensures.short)

@@ -27,8 +27,7 @@ octets-preserved c =
     )
 
 pub returns-clause-some : goal.returns-clause-some
-returns-clause-some c = label_done c.octets.invariant.0
-    (elim c.octets-test.branch [
-      | then-octets-test+else-text-at-ne46 w ↦ at_dot c.args.text.now c.octets.at (omega arith) (omega arith)
-      | else-octets-test w ↦ rw (drop_all c.octets.at c.args.text.now (omega arith)) tt
-    ])
+returns-clause-some c = label_done c.octets.invariant.0 (elim c.octets-test.branch [
+  | then-octets-test+else-text-at-ne46 w ↦ at_dot c.args.text.now c.octets.at (omega arith) (omega arith)
+  | else-octets-test w ↦ rw (drop_all c.octets.at c.args.text.now (omega arith)) tt
+])
