@@ -96,12 +96,11 @@ next_left {label} {part} {more} {labels} front lt e some j ls =
     let back : f.back ≡ 46 ∷ more = sym (append_cancel_left part (46 ∷ more) f.back (z ∙ ap (λ (i : List ℕ). i ++ f.back) (sym u.1))) in
     let split : labels ≡ (front ++ label ∷ []) ++ f.others = j ∙ ap (λ (l : List (List ℕ)). front ++ l) (f.split ∙ ap (λ (l : List ℕ). l ∷ f.others) (sym u.0))
     ∙ sym (append_assoc front (label ∷ []) f.others) in
-    record { rest = f.others; joined = split; reads = behind_dot f.behind back }
+    record { rest = f.others; joined = split; reads = behind_dot (rw back at f.behind) some }
   where
-    behind_dot : {others : List (List ℕ)} {m : Bool} {b : List ℕ} → BackText others m b → b ≡ 46 ∷ more → LabelsText others m more
-    behind_dot (at_end o k n) e = let bad : [] ≡ 46 ∷ more = sym n ∙ e in absurd cc
-    behind_dot (at_dot o k n) e = absurd (omega (arith, ap length (sym n ∙ e)))
-    behind_dot (further r n ls) e = let same : more ≡ r = let w : 46 ∷ r ≡ 46 ∷ more = sym n ∙ e in cc in rw same ls
+    behind_dot : {others : List (List ℕ)} {m : Bool} {b : List ℕ} → BackText others m (46 ∷ b) → 1 ≤ length b → LabelsText others m b
+    behind_dot at_dot h = absurd (omega arith)
+    behind_dot (further ls) h = ls
 
 module _ {text : List ℕ} {at taken : ℕ} {old new : List ℕ} (s : NameSoFar text at old) (a : AddsLabel (drop at text) taken old new) where
   labels_are : AreLabels (s.front ++ a.label ∷ [])
