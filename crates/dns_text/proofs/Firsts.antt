@@ -1,11 +1,17 @@
 -- How what is read from a text goes on behind what was read already.
-use Rattle.std.proofs.Common.{◌≡◌, ℕ, ◌<◌, List, [], ◌∷◌, ◌++◌, length, drop, get_or, refl, sym, ◌∙◌, ap, subst, append_assoc}
+use Rattle.std.proofs.Common.{◌≡◌, ℕ, ◌<◌, Bool, false, arith, List, [], ◌∷◌, ◌++◌, length, drop, get_or, refl, sym, ◌∙◌, ap, subst, append_assoc}
 use Rattle.std.proofs.lemmas.List.{append-nil, drop_more}
+use Rattle.dns_text.specs.Octets.{BeginsOtherwise}
 use Rattle.dns_text.specs.Quoted.{First}
 
 -- the first octet and what is behind it
 pub opened : {s behind : List ℕ} → 0 < length s → behind ≡ drop 1 s → s ≡ get_or s 0 0 ∷ behind
 opened {s} l d = drop_more s 0 0 l ∙ ap (λ (t : List ℕ). get_or s 0 0 ∷ t) (sym d)
+
+-- what the octet behind a span fails
+pub ends_octet : (p : ℕ → Bool) (s : List ℕ) → BeginsOtherwise p s → 0 < length s → p (get_or s 0 0) ≡ false
+ends_octet p [] b l = absurd (omega arith)
+ends_octet p (c ∷ s) b l = b
 
 -- two readings of one front, and then of one rest
 pub same_behind : {V E : Type 0} (front : List V) {value later whole : List V} {rest end : E} → whole ≡ front ++ later → (value ≡ later) × (rest ≡ end)
