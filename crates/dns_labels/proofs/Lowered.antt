@@ -3,6 +3,7 @@ use Rattle.std.proofs.Common.{◌≡◌, ◌↔◌, IsTrue, ℕ, ◌+◌, ◌<�
 use Rattle.std.proofs.Common.{sym, ◌∙◌, ap, append_assoc, arith}
 use Rattle.std.proofs.lemmas.List.{length-map, map-append, append_cancel_right, take_more, take_more_set}
 use Rattle.std.specs.Prelude.{slice_set}
+use Rattle.std.proofs.Math.Bool.{and-true}
 use Rattle.std.proofs.lemmas.Bool.Decides.{nat_tests, same_from_decides}
 use Rattle.std.proofs.lemmas.Slice.Eq.{bytes_eq-Decides}
 use Rattle.std.specs.Prelude.{◌&&◌}
@@ -51,23 +52,15 @@ compared a b h k = rw (lowered-of a h, lowered-of b k) (sym (slice_cmp-zero (map
 pub same_lowered : (a b : List ℕ) (r : Bool) → AreNameOctets a → AreNameOctets b → (IsTrue r ↔ (map to_ascii_lowercase a ≡ map to_ascii_lowercase b))
     → r ≡ bytes_eq (lowered (labels_of a)) (lowered (labels_of b))
 same_lowered a b r h k t =
-    let d = bytes_eq-Decides (lowered (labels_of a)) (lowered (labels_of b)) in
-    let e = lowered-of a h in
-    let f = lowered-of b k in
-    let forth : lowered (labels_of a) ≡ lowered (labels_of b)
-    → map to_ascii_lowercase a ≡ map to_ascii_lowercase b = λ s. append_cancel_right (map to_ascii_lowercase a) (map to_ascii_lowercase b) (0 ∷ [])
-    (sym e ∙ s ∙ f) in
-    let back : map to_ascii_lowercase a ≡ map to_ascii_lowercase b
-    → lowered (labels_of a) ≡ lowered (labels_of b) = λ s. e ∙ ap (λ (x : List ℕ). x ++ 0 ∷ []) s ∙ sym f in
-    same_from_decides r (bytes_eq (lowered (labels_of a)) (lowered (labels_of b))) t (λ s. forth (d.0 s), λ s. d.1 (back s))
-
-and-true : (b : Bool) → b ≡ (b && true)
-and-true true = refl
-and-true false = refl
+    let x : List ℕ = map to_ascii_lowercase a in
+    let y : List ℕ = map to_ascii_lowercase b in
+    let d = bytes_eq-Decides (x ++ 0 ∷ []) (y ++ 0 ∷ []) in
+    rw (lowered-of a h, lowered-of b k) (same_from_decides r (bytes_eq (x ++ 0 ∷ []) (y ++ 0 ∷ [])) t
+    (λ s. append_cancel_right x y (0 ∷ []) (d.0 s), λ s. d.1 (ap (λ (l : List ℕ). l ++ 0 ∷ []) s)))
 
 pub with_mark : (a b : List ℕ) (r m : Bool) → AreNameOctets a → AreNameOctets b → m ≡ true
     → (IsTrue r ↔ (map to_ascii_lowercase a ≡ map to_ascii_lowercase b)) → r ≡ (bytes_eq (lowered (labels_of a)) (lowered (labels_of b)) && m)
-with_mark a b r m h k same t = rw same (same_lowered a b r h k t ∙ and-true (bytes_eq (lowered (labels_of a)) (lowered (labels_of b))))
+with_mark a b r m h k same t = rw same (same_lowered a b r h k t ∙ sym (and-true (bytes_eq (lowered (labels_of a)) (lowered (labels_of b)))))
 
 -- one octet more is lowered
 pub lowered_more : (octets low : List ℕ) (i x : ℕ) → i < length octets → i < length low → take i low ≡ map to_ascii_lowercase (take i octets)

@@ -1,6 +1,6 @@
 -- How what is read from a text goes on behind what was read already.
-use Rattle.std.proofs.Common.{◌≡◌, ℕ, ◌<◌, Bool, false, arith, List, [], ◌∷◌, ◌++◌, length, drop, get_or, refl, sym, ◌∙◌, ap, subst, append_assoc}
-use Rattle.std.proofs.lemmas.List.{append-nil, drop_more}
+use Rattle.std.proofs.Common.{◌≡◌, ℕ, ◌<◌, map, Bool, false, arith, List, [], ◌∷◌, ◌++◌, length, drop, get_or, refl, sym, ◌∙◌, ap, subst, append_assoc}
+use Rattle.std.proofs.lemmas.List.{append-nil, drop_more, map-append}
 use Rattle.dns_text.specs.Octets.{BeginsOtherwise}
 use Rattle.dns_text.specs.Quoted.{First}
 
@@ -12,6 +12,10 @@ opened {s} l d = drop_more s 0 0 l ∙ ap (λ (t : List ℕ). get_or s 0 0 ∷ t
 pub ends_octet : (p : ℕ → Bool) (s : List ℕ) → BeginsOtherwise p s → 0 < length s → p (get_or s 0 0) ≡ false
 ends_octet p [] b l = absurd (omega arith)
 ends_octet p (c ∷ s) b l = b
+
+-- one element more
+pub pushed : {X Y : Type 0} (f : X → Y) (old new : List X) (x : X) → new ≡ old ++ x ∷ [] → map f new ≡ map f old ++ f x ∷ []
+pushed {X} f old new x e = ap (λ (l : List X). map f l) e ∙ map-append f old (x ∷ [])
 
 -- two readings of one front, and then of one rest
 pub same_behind : {V E : Type 0} (front : List V) {value later whole : List V} {rest end : E} → whole ≡ front ++ later → (value ≡ later) × (rest ≡ end)
