@@ -6,6 +6,7 @@ use Rattle.std.proofs.lemmas.List.{append-nil, drop-drop, take-append-drop, appe
 use Rattle.std.proofs.lemmas.Grind.{common_steps}
 use Rattle.dns_labels.specs.Text.{OctetText, LabelText, IsLabelEnd, AddsOctets}
 use Rattle.dns_labels.specs.Text.LabelText.{no_octet, octet}
+use Rattle.dns_labels.proofs.Octets.{cut_off}
 
 -- octets of a label that are still to be read
 pub record LabelLeft (label front text rest : List ℕ) : Type 0 where
@@ -84,7 +85,7 @@ module _ {text : List ℕ} {at : ℕ} {old new : List ℕ} (s : LabelSoFar text 
   label_more taken n fits ot =
       let part = take taken (drop at text) in
       let more = drop (at + taken) text in
-      let split : drop at text ≡ part ++ more = sym (take-append-drop taken (drop at text)) ∙ ap (λ (x : List ℕ). part ++ x) (drop-drop taken at text) in
+      let split : drop at text ≡ part ++ more = cut_off text at taken refl in
       record {
         front = s.front ++ n ∷ [];
         octets = ap (λ (x : List ℕ). x ++ n ∷ []) s.octets ∙ append_assoc old s.front (n ∷ []);

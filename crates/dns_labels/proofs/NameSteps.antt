@@ -11,7 +11,7 @@ use Rattle.dns_labels.specs.Labels.{AreNameOctets, labels_of, name_of}
 use Rattle.dns_labels.specs.Text.{LabelText, LabelsText, MarkedText, IsNameText, IsLabelEnd, AddsOctets, AddsLabel}
 use Rattle.dns_labels.specs.Text.LabelsText.{last, dotted, joined}
 use Rattle.dns_labels.specs.Text.MarkedText.{root, nothing, labelled}
-use Rattle.dns_labels.proofs.Octets.{wire_length, second_is, labels_from, are_name_octets}
+use Rattle.dns_labels.proofs.Octets.{cut_off, wire_length, second_is, labels_from, are_name_octets}
 use Rattle.dns_labels.proofs.NameTexts.{one_label, first_text, BackText, back_ends}
 use Rattle.dns_labels.proofs.NameTexts.BackText.{at_end, at_dot, further}
 
@@ -111,7 +111,7 @@ module _ {text : List ℕ} {at taken : ℕ} {old new : List ℕ} (s : NameSoFar 
       ∙ ap (λ (x : List ℕ). old ++ length a.label ∷ x) (append-nil a.label))
 
   parts : drop at text ≡ take taken (drop at text) ++ drop (at + taken) text
-  parts = sym (take-append-drop taken (drop at text)) ∙ ap (λ (x : List ℕ). take taken (drop at text) ++ x) (drop-drop taken at text)
+  parts = cut_off text at taken refl
 
   last_read : {mark : Bool} → length new ≤ 254 → LabelsText (a.label ∷ []) mark (drop at text) → AreNameOctets new × IsNameText (name_of new mark) text
   last_read {mark} room ls = read_as (s.front ++ a.label ∷ []) labels_are octets_are room (labelled (s.sound (a.label ∷ []) mark ls))

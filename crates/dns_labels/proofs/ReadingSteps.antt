@@ -6,7 +6,7 @@ use Rattle.std.proofs.lemmas.List.{drop_more, get_or-drop, append-nil, drop-drop
 use Rattle.dns_fields.specs.Labels.{AreLabels, wire}
 use Rattle.dns_fields.specs.Names.{pointer}
 use Rattle.dns_labels.specs.Reading.{IsRun, AddsRun, stop_octets}
-use Rattle.dns_labels.proofs.Octets.{wire_length}
+use Rattle.dns_labels.proofs.Octets.{cut_off, wire_length}
 use Rattle.dns_fields.proofs.Runs.{RestOf, rest_of, wire-append, AreLabels-append}
 use Rattle.dns_fields.proofs.Unique.{zero_stop, pointer_stop}
 
@@ -102,17 +102,12 @@ one_more {message} {at} {old} {new} {part} s low high room short part_is =
     let p : part ≡ length label ∷ label = part_is ∙ rw (e, add-one) (ap (λ (k : ℕ). k ∷ label) (sym size)) in
     let one : wire (label ∷ []) ≡ part = ap (λ (t : List ℕ). length label ∷ t) (append-nil label) ∙ sym p in
     let w : wire (s.front ++ label ∷ []) ≡ wire s.front ++ part = wire-append s.front (label ∷ []) ∙ ap (λ (t : List ℕ). wire s.front ++ t) one in
-    let d : drop n (drop (at + 1) message) ≡ drop (at + (n + 1)) message = drop-drop n (at + 1) message ∙ ap (λ (k : ℕ). drop k message) (omega arith) in
-    let r : label ++ drop (at + (n + 1)) message ≡ drop (at + 1) message = ap (λ (t : List ℕ). label ++ t) (sym d)
-    ∙ take-append-drop n (drop (at + 1) message) in
-    let q : part ++ drop (at + (n + 1)) message ≡ drop at message = ap (λ (t : List ℕ). t ++ drop (at + (n + 1)) message) p
-    ∙ ap (λ (t : List ℕ). length label ∷ t) r ∙ ap (λ (k : ℕ). k ∷ drop (at + 1) message) size ∙ sym e in
     let len : length part ≡ n + 1 = ap length p ∙ omega arith in
     record {
       front = s.front ++ label ∷ [];
       are = AreLabels-append s.front (label ∷ []) s.are ((omega arith, omega arith), tt);
       octets = ap (λ (t : List ℕ). t ++ part) s.octets ∙ append_assoc old (wire s.front) part ∙ ap (λ (t : List ℕ). old ++ t) (sym w);
-      stands = s.stands ∙ ap (λ (t : List ℕ). wire s.front ++ t) (sym q) ∙ sym (append_assoc (wire s.front) part (drop (at + (n + 1)) message))
+      stands = s.stands ∙ ap (λ (t : List ℕ). wire s.front ++ t) (cut_off message at (n + 1) (sym part_is)) ∙ sym (append_assoc (wire s.front) part (drop (at + (n + 1)) message))
           ∙ ap (λ (t : List ℕ). t ++ drop (at + (n + 1)) message) (sym w);
       at_is = omega (arith, s.at_is, ap length w, length-append (wire s.front) part);
       within = omega arith;
