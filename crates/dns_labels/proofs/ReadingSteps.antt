@@ -3,6 +3,7 @@ use Rattle.std.proofs.Common.{◌≡◌, ℕ, ◌+◌, ◌-◌, ◌*◌, ◌/◌
 use Rattle.std.proofs.Common.{Option, Some, None, refl, sym, ◌∙◌, ap, append_assoc, arith, length-append, length-drop, length-take}
 use Rattle.std.proofs.Common.{add-one}
 use Rattle.std.proofs.lemmas.List.{drop_more, get_or-drop, append-nil, drop-drop, take-append-drop}
+use Rattle.std.specs.Prelude.{IfSome}
 use Rattle.dns_fields.specs.Labels.{AreLabels, wire}
 use Rattle.dns_fields.specs.Names.{pointer}
 use Rattle.dns_labels.specs.Reading.{IsRun, AddsRun, stop_octets}
@@ -58,6 +59,26 @@ onward {message} {at} {old} {new} {front} {stop} s r =
     let g : get_or (drop at message) 0 0 ≡ get_or message at 0 = get_or-drop at message 0 0 ∙ ap (λ (i : ℕ). get_or message i 0) (omega arith) in
     (k.rest, rw (g, length-drop at message) at n, omega (arith, wire_length s.front k.rest k.joined, ap length s.octets, length-append old (wire s.front)))
 
+-- what ends a run stands behind the labels that were read
+stopped : {message : List ℕ} {place at : ℕ} {old new : List ℕ} (stop : Option ℕ) (behind : List ℕ) → SoFar message place at old new
+    → drop at message ≡ stop_octets stop ++ behind → IfSome stop (λ q. q < 16384) → AddsRun message place stop (at + length (stop_octets stop)) old new
+stopped stop behind s e target = record {
+  front = s.front;
+  run = record {
+    are = s.are;
+    behind = behind;
+    stands = s.stands ∙ ap (λ (t : List ℕ). wire s.front ++ t) e;
+    target = target;
+    ends = omega (arith, s.at_is);
+  };
+  octets = s.octets;
+}
+
+pub at_zero : {message : List ℕ} {place at : ℕ} {old new : List ℕ} → SoFar message place at old new → get_or message at 0 ≡ 0 → at < length message
+    → AddsRun message place None (at + 1) old new
+at_zero {message} {at} s zero room =
+    stopped None (drop (at + 1) message) s (drop_more message at 0 room ∙ ap (λ (k : ℕ). k ∷ drop (at + 1) message) zero) tt
+
 -- a pointer's two octets
 pointer_of : (h l : ℕ) → 192 ≤ h → h < 256 → l < 256 → pointer ((h - 192) * 256 + l) ≡ h ∷ l ∷ []
 pointer_of h l lo hi low =
@@ -73,22 +94,10 @@ at_pointer {message} {at} s octets high room =
     let l = get_or message (at + 1) 0 in
     let hi : h < 256 = octets at in
     let lo : l < 256 = octets (at + 1) in
-    let e : drop at message ≡ h ∷ drop (at + 1) message = drop_more message at 0 (omega arith) in
-    let f : drop (at + 1) message ≡ l ∷ drop (at + 1 + 1) message = drop_more message (at + 1) 0 (omega arith) in
-    let p : pointer ((h - 192) * 256 + l) ≡ h ∷ l ∷ [] = pointer_of h l high hi lo in
-    let q : drop at message ≡ pointer ((h - 192) * 256 + l) ++ drop (at + 1 + 1) message = e ∙ ap (λ (t : List ℕ). h ∷ t) f
-    ∙ ap (λ (t : List ℕ). t ++ drop (at + 1 + 1) message) (sym p) in
-    record {
-      front = s.front;
-      run = record {
-        are = s.are;
-        behind = drop (at + 1 + 1) message;
-        stands = s.stands ∙ ap (λ (t : List ℕ). wire s.front ++ t) q;
-        target = omega arith;
-        ends = omega (arith, s.at_is);
-      };
-      octets = s.octets;
-    }
+    let e : drop at message ≡ h ∷ l ∷ drop (at + 1 + 1) message = drop_more message at 0 (omega arith)
+    ∙ ap (λ (t : List ℕ). h ∷ t) (drop_more message (at + 1) 0 (omega arith)) in
+    stopped (Some ((h - 192) * 256 + l)) (drop (at + 1 + 1) message) s
+    (e ∙ ap (λ (t : List ℕ). t ++ drop (at + 1 + 1) message) (sym (pointer_of h l high hi lo))) (omega arith)
 
 -- one label more
 pub one_more : {message : List ℕ} {place at : ℕ} {old new part : List ℕ} → SoFar message place at old new → 1 ≤ get_or message at 0
@@ -112,20 +121,4 @@ one_more {message} {at} {old} {new} {part} s low high room short part_is =
       at_is = omega (arith, s.at_is, ap length w, length-append (wire s.front) part);
       within = omega arith;
       room = omega (arith, length-append new part);
-    }
-
-pub at_zero : {message : List ℕ} {place at : ℕ} {old new : List ℕ} → SoFar message place at old new → get_or message at 0 ≡ 0 → at < length message
-    → AddsRun message place None (at + 1) old new
-at_zero {message} {at} s zero room =
-    let e : drop at message ≡ 0 ∷ drop (at + 1) message = drop_more message at 0 room ∙ ap (λ (k : ℕ). k ∷ drop (at + 1) message) zero in
-    record {
-      front = s.front;
-      run = record {
-        are = s.are;
-        behind = drop (at + 1) message;
-        stands = s.stands ∙ ap (λ (t : List ℕ). wire s.front ++ t) e;
-        target = tt;
-        ends = omega (arith, s.at_is);
-      };
-      octets = s.octets;
     }
