@@ -44,23 +44,6 @@ fn cut_for(
     ensures cut { IfOk result (λ c. IsNameCut message.now name.now c.written c.target) }
     ensures whole { mode ≢ RDataEncoding.StandardRecord → IfOk result (λ c. (c.written ≡ length name.now) × (c.target ≡ None)) }
 {
-    match mode {
-        RDataEncoding::StandardRecord => cut_at_tail(places, message, name),
-        RDataEncoding::Canonical | RDataEncoding::Other => Ok(Cut {
-            written: name.len(),
-            target: None,
-            note: note_whole(places, message, name)?,
-        }),
-    }
-}
-
-/// Where a name is cut that may leave a tail out.
-#[inline]
-#[tactic(auto, using(crate::proofs::CutSteps::cut_whole))]
-fn cut_at_tail(places: &mut Places, message: &[u8], name: &[u8]) -> Result<Cut, AllocError>
-    requires { AreNameOctets name.now }
-    ensures { IfOk result (λ c. IsNameCut message.now name.now c.written c.target) }
-{
     if places.is_empty() {
         return Ok(Cut {
             written: name.len(),
@@ -70,27 +53,28 @@ fn cut_at_tail(places: &mut Places, message: &[u8], name: &[u8]) -> Result<Cut, 
     }
     places.note_deferred(message)?;
     let hash = name_hash(name);
-    let (written, target) = places.longest_tail(message, name, hash);
-    Ok(Cut {
-        written,
-        target,
-        note: Note::Hash(hash),
-    })
-}
-
-/// How a name is noted that is written whole.
-fn note_whole(places: &mut Places, message: &[u8], name: &[u8]) -> Result<Note, AllocError>
-    requires { AreNameOctets name.now }
-{
-    if places.is_empty() {
-        return Ok(Note::First);
+    match mode {
+        RDataEncoding::StandardRecord => {
+            let (written, target) = places.longest_tail(message, name, hash);
+            Ok(Cut {
+                written,
+                target,
+                note: Note::Hash(hash),
+            })
+        }
+        RDataEncoding::Canonical | RDataEncoding::Other => {
+            let note = if places.stands(message, name, hash) {
+                Note::Nothing
+            } else {
+                Note::Hash(hash)
+            };
+            Ok(Cut {
+                written: name.len(),
+                target: None,
+                note,
+            })
+        }
     }
-    places.note_deferred(message)?;
-    let hash = name_hash(name);
-    if places.stands(message, name, hash) {
-        return Ok(Note::Nothing);
-    }
-    Ok(Note::Hash(hash))
 }
 
 /// How many octets end labels: one, or a pointer's two.
