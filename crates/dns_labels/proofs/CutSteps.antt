@@ -1,6 +1,6 @@
 -- The steps by which a name is cut into labels to be written and a tail.
 use Rattle.std.proofs.Common.{◌≡◌, ℕ, ◌+◌, ◌<◌, ◌≤◌, List, [], ◌∷◌, ◌++◌, length, take, drop, get_or, Option, Some, None, refl, sym, ◌∙◌}
-use Rattle.std.proofs.Common.{ap, subst, arith, length-append, length-drop, length-take}
+use Rattle.std.proofs.Common.{ap, subst, arith, length-append, length-drop}
 use Rattle.std.proofs.lemmas.List.{append-nil, drop-drop, take_all, drop_all, take_at, drop_at, get_or-drop, take-append-drop}
 use Rattle.std.proofs.Math.Seq.{take-add}
 use Rattle.dns_fields.specs.Labels.{AreLabels, wire}

@@ -1,8 +1,8 @@
 -- The steps of the reader of a label's text.
-use Rattle.std.proofs.Common.{◌≡◌, ◌≢◌, ℕ, ◌+◌, ◌<◌, ◌≤◌, List, [], ◌∷◌, ◌++◌, length, take, drop, get_or, refl, sym, ◌∙◌, ap, subst}
+use Rattle.std.proofs.Common.{◌≡◌, ◌≢◌, ℕ, ◌+◌, ◌<◌, ◌≤◌, List, [], ◌∷◌, ◌++◌, length, take, drop, get_or, refl, sym, ◌∙◌, ap}
 use Rattle.std.proofs.Common.{append_assoc, arith, length-append, length-drop}
 use Rattle.std.proofs.Math.Seq.{take-add}
-use Rattle.std.proofs.lemmas.List.{append-nil, drop-drop, take-append-drop, append_cancel_left, get_or-drop, drop_more}
+use Rattle.std.proofs.lemmas.List.{append-nil, append_cancel_left, get_or-drop, drop_more}
 use Rattle.std.proofs.lemmas.Grind.{common_steps}
 use Rattle.dns_labels.specs.Text.{OctetText, LabelText, IsLabelEnd, AddsOctets}
 use Rattle.dns_labels.specs.Text.LabelText.{no_octet, octet}

@@ -1,5 +1,5 @@
 -- A name's lowered octets.
-use Rattle.std.proofs.Common.{◌≡◌, ◌↔◌, IsTrue, ℕ, ◌+◌, ◌<◌, ◌≤◌, take, get_or, Bool, true, false, List, [], ◌∷◌, ◌++◌, length, map, refl}
+use Rattle.std.proofs.Common.{◌≡◌, ◌↔◌, IsTrue, ℕ, ◌+◌, ◌<◌, ◌≤◌, take, get_or, Bool, true, List, [], ◌∷◌, ◌++◌, length, map, refl}
 use Rattle.std.proofs.Common.{sym, ◌∙◌, ap, append_assoc, arith}
 use Rattle.std.proofs.lemmas.List.{length-map, map-append, append_cancel_right, take_more, take_more_set}
 use Rattle.std.specs.Prelude.{slice_set}
@@ -12,7 +12,6 @@ use Rattle.std.specs.Char.{to_ascii_lowercase}
 use Rattle.std.specs.Cmp.Lexicographic.{slice_cmp}
 use Rattle.std.specs.Ordering.{nat_cmp, ordering_then}
 use Rattle.std.specs.declared.cmp.Ordering.{Ordering}
-use Rattle.std.specs.declared.cmp.Ordering.TheVariants.{Less, Greater}
 use Rattle.dns_fields.specs.Labels.{AreLabels, wire, lowered}
 use Rattle.dns_labels.specs.Labels.{labels_of, AreNameOctets}
 use Rattle.dns_labels.specs.Comparing.{lowered_octets}

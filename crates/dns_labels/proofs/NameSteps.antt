@@ -13,7 +13,7 @@ use Rattle.dns_labels.specs.Text.LabelsText.{last, dotted, joined}
 use Rattle.dns_labels.specs.Text.MarkedText.{root, nothing, labelled}
 use Rattle.dns_labels.proofs.Octets.{cut_off, wire_length, second_is, labels_from, are_name_octets}
 use Rattle.dns_labels.proofs.NameTexts.{one_label, first_text, BackText, back_ends}
-use Rattle.dns_labels.proofs.NameTexts.BackText.{at_end, at_dot, further}
+use Rattle.dns_labels.proofs.NameTexts.BackText.{at_dot, further}
 
 -- the length octet is written in front of the label
 pub label_set : {text : List ℕ} {taken : ℕ} {old begun new : List ℕ} {start count : ℕ} → begun ≡ old ++ 0 ∷ [] → AddsOctets text taken begun new

@@ -1,8 +1,8 @@
 -- The steps of the reader of one run.
-use Rattle.std.proofs.Common.{◌≡◌, ℕ, ◌+◌, ◌-◌, ◌*◌, ◌/◌, ◌%◌, ◌<◌, ◌≤◌, ◌⊎◌, inl, inr, List, [], ◌∷◌, ◌++◌, length, take, drop, get_or}
+use Rattle.std.proofs.Common.{◌≡◌, ℕ, ◌+◌, ◌-◌, ◌*◌, ◌/◌, ◌%◌, ◌<◌, ◌≤◌, List, [], ◌∷◌, ◌++◌, length, take, drop, get_or}
 use Rattle.std.proofs.Common.{Option, Some, None, refl, sym, ◌∙◌, ap, append_assoc, arith, length-append, length-drop, length-take}
 use Rattle.std.proofs.Common.{add-one}
-use Rattle.std.proofs.lemmas.List.{drop_more, get_or-drop, append-nil, drop-drop, take-append-drop}
+use Rattle.std.proofs.lemmas.List.{drop_more, get_or-drop, append-nil}
 use Rattle.std.specs.Prelude.{IfSome}
 use Rattle.dns_fields.specs.Labels.{AreLabels, wire}
 use Rattle.dns_fields.specs.Names.{pointer}

@@ -1,13 +1,12 @@
 -- A name that was written.
-use Rattle.std.proofs.Common.{◌≡◌, ◌≢◌, ℕ, Bool, ◌+◌, ◌<◌, sym, subst, append_assoc, List, [], ◌∷◌, ◌++◌, length, take, Option, None, Some}
+use Rattle.std.proofs.Common.{◌≡◌, ◌≢◌, ℕ, Bool, ◌+◌, ◌<◌, sym, subst, append_assoc, List, [], ◌∷◌, ◌++◌, length, take, Option, None}
 use Rattle.std.proofs.Common.{refl, ap, ◌∙◌, arith, length-append, length-take}
 use Rattle.std.proofs.lemmas.List.{append-nil, take_all}
 use Rattle.dns_fields.specs.declared.RDataEncoding.{RDataEncoding}
 use Rattle.dns_fields.specs.declared.RDataEncoding.TheVariants as modes
-use Rattle.dns_fields.specs.Labels.{DomainName, IsName, wire}
 use Rattle.dns_fields.specs.Names.{NameWrote, pointer}
 use Rattle.dns_fields.proofs.NameLaws.{lowname_length}
-use Rattle.dns_labels.specs.Labels.{labels_of, name_of, AreNameOctets}
+use Rattle.dns_labels.specs.Labels.{name_of, AreNameOctets}
 use Rattle.dns_labels.specs.Reading.{stop_octets}
 use Rattle.dns_labels.specs.Emission.{StandsFor, IsNameCut}
 use Rattle.dns_labels.proofs.Found.{name_is_of}

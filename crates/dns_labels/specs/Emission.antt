@@ -1,5 +1,5 @@
 -- What the emission of a name writes.
-use Rattle.std.specs.Prelude.{◌≡◌, ℕ, ◌+◌, ◌<◌, ◌≤◌, List, [], ◌++◌, length, take, drop, Option, Some, None}
+use Rattle.std.specs.Prelude.{◌≡◌, ℕ, ◌<◌, ◌≤◌, List, [], length, take, drop, Option, Some, None}
 use Rattle.dns_fields.specs.Labels.{AreLabels, wire}
 use Rattle.dns_fields.specs.Names.{LabelsStand}
 

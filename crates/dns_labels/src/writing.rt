@@ -150,44 +150,24 @@ fn write_again(
     ensures full { result ≡ Err WriteError.Buffer → limit < length out.old.items + (length name.now + 1) }
 {
     match mode {
-        RDataEncoding::StandardRecord => write_pointer(out, limit, place),
-        RDataEncoding::Canonical | RDataEncoding::Other => write_whole(out, limit, name),
+        RDataEncoding::StandardRecord => {
+            if out.len() + 2 > limit {
+                return Err(WriteError::Buffer);
+            }
+            out.extend_from_slice(&[(192 + place / 256) as u8, (place % 256) as u8])?;
+            Ok(())
+        }
+        RDataEncoding::Canonical | RDataEncoding::Other => {
+            let len = name.len() + 1;
+            if out.len() + len > limit {
+                return Err(WriteError::Buffer);
+            }
+            out.reserve(len)?;
+            out.extend_from_slice(name)?;
+            out.extend_from_slice(&[0])?;
+            Ok(())
+        }
     }
-}
-
-/// Appends the two octets that point to a place.
-#[inline]
-fn write_pointer(out: &mut Vec<u8>, limit: usize, place: usize) -> Result<(), WriteError>
-    requires { place < 16384 }
-    ensures ok { OnOk result (out.new.items ≡ out.old.items ++ pointer place) }
-    ensures within { OnOk result (length out.new.items ≤ limit) }
-    ensures err { OnErr result (out.new.items ≡ out.old.items) }
-    ensures full { result ≡ Err WriteError.Buffer → limit < length out.old.items + 2 }
-{
-    if out.len() + 2 > limit {
-        return Err(WriteError::Buffer);
-    }
-    out.extend_from_slice(&[(192 + place / 256) as u8, (place % 256) as u8])?;
-    Ok(())
-}
-
-/// Appends a name's labels and the 0 behind them.
-#[inline]
-fn write_whole(out: &mut Vec<u8>, limit: usize, name: &[u8]) -> Result<(), WriteError>
-    requires { length name.now ≤ 254 }
-    ensures ok { OnOk result (out.new.items ≡ out.old.items ++ (name.now ++ 0 ∷ [])) }
-    ensures within { OnOk result (length out.new.items ≤ limit) }
-    ensures err { OnErr result (out.new.items ≡ out.old.items) }
-    ensures full { result ≡ Err WriteError.Buffer → limit < length out.old.items + (length name.now + 1) }
-{
-    let len = name.len() + 1;
-    if out.len() + len > limit {
-        return Err(WriteError::Buffer);
-    }
-    out.reserve(len)?;
-    out.extend_from_slice(name)?;
-    out.extend_from_slice(&[0])?;
-    Ok(())
 }
 
 /// The same as `write_name`, of a name that stands at neither of the two places that are looked at first.

@@ -1,4 +1,4 @@
-use Rattle.std.proofs.Common.{◌∙◌, ◌∷◌, ◌++◌, [], ap, arith, List, ℕ, length, refl}
+use Rattle.std.proofs.Common.{◌∙◌, ◌∷◌, ◌++◌, [], ap, arith, List, ℕ, length}
 use Rattle.dns_labels.specs.Labels.{labels_of}
 use Rattle.dns_labels.proofs.Built.{AreJoined, label_joined, label_fits}
 use Rattle.dns_labels.proofs.building.append_label.Goals as goal

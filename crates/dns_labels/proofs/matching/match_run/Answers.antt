@@ -1,4 +1,4 @@
-use Rattle.std.proofs.Common.{◌+◌, arith, ℕ, ap, take, drop, []}
+use Rattle.std.proofs.Common.{◌+◌, arith, ℕ, ap, take, drop}
 use Rattle.dns_labels.proofs.ReadingSteps.{at_zero, at_pointer}
 use Rattle.dns_labels.proofs.WritingSteps.{one_matched}
 use Rattle.dns_labels.proofs.matching.match_run.Goals as goal

@@ -1,6 +1,3 @@
-use Rattle.std.proofs.Common.{◌∙◌, sym, subst, List, ℕ, true, length, ◌+◌}
-use Rattle.dns_fields.specs.Names.{IsNameIn}
-use Rattle.dns_labels.specs.Labels.{AreNameOctets, name_of}
 use Rattle.dns_labels.proofs.Found.{octets_found, name_found}
 use Rattle.dns_labels.proofs.reading.read_octets.Goals as goal
 

@@ -1,4 +1,4 @@
-use Rattle.std.proofs.Common.{length-append, length-take, length-drop, arith, inl, inr, ℕ, ap, take, drop}
+use Rattle.std.proofs.Common.{length-append, length-take, length-drop, arith, ℕ, ap, take, drop}
 use Rattle.dns_labels.proofs.ReadingSteps.{onward, at_pointer, one_more, so_far_none}
 use Rattle.dns_labels.proofs.reading.read_run.Goals as goal
 use Rattle.dns_labels.proofs.reading.read_run.Goals.{then-count-ge64-via-then-count-ge64}

@@ -1,6 +1,4 @@
-use Rattle.std.proofs.Common.{sym, subst, List, ℕ}
-use Rattle.dns_labels.specs.Labels.{AreNameOctets, name_of}
-use Rattle.dns_labels.specs.Text.{IsNameText}
+use Rattle.dns_labels.specs.Labels.{name_of}
 use Rattle.dns_labels.proofs.NameTexts.{one_name, name_reads}
 use Rattle.dns_labels.proofs.text.parse_octets.Goals as goal
 
