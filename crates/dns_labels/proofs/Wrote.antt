@@ -5,11 +5,13 @@ use Rattle.std.proofs.lemmas.List.{append-nil, take_all}
 use Rattle.dns_fields.specs.declared.RDataEncoding.{RDataEncoding}
 use Rattle.dns_fields.specs.declared.RDataEncoding.TheVariants as modes
 use Rattle.dns_fields.specs.Names.{NameWrote, pointer}
-use Rattle.dns_fields.proofs.NameLaws.{lowname_length}
+use Rattle.dns_fields.proofs.NameLaws.{lowname_length, name_same, name_append}
+use Rattle.dns_fields.proofs.Stays.{end_within}
 use Rattle.dns_labels.specs.Labels.{name_of, AreNameOctets}
 use Rattle.dns_labels.specs.Reading.{stop_octets}
 use Rattle.dns_labels.specs.Emission.{StandsFor, IsNameCut}
 use Rattle.dns_labels.proofs.Found.{name_is_of}
+use Rattle.dns_labels.proofs.Lowered.{low_labels_same}
 use Rattle.dns_labels.proofs.CutSteps.{cut_stands, whole_found, cut_whole, cut_short}
 
 -- the octets up to the cut and what ends them are the name
@@ -58,3 +60,5 @@ whole_wrote {old} {octets} n e =
 pub lacks_room : {message old octets : List ℕ} {cut limit : ℕ} {target : Option ℕ} → message ≡ old → IsNameCut message octets cut target
     → limit < length old + (cut + length (stop_octets target)) → limit < length old + (length octets + 1)
 lacks_room {message} {octets} {cut} {target} same k h = omega (arith, h, cut_short message octets cut target k)
+
+pub ruleset name_laws = (name_same, name_append, end_within, low_labels_same)
