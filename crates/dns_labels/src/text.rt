@@ -28,6 +28,7 @@ const LONG_NAME: &str = "domain name past 255 octets";
 const CHARACTER: &str = "character or escape that no label of a domain name has";
 
 /// The octet whose text begins the text, and that one's length.
+#[tactic(auto, using(crate::proofs::TextSteps::read_plain, crate::proofs::TextSteps::read_quoted, crate::proofs::TextSteps::read_decimal))]
 fn read_octet(text: &[u8]) -> Option<(u8, usize)>
     ensures length { IfSome result (λ r. (1 ≤ r.1) × (r.1 ≤ length text.now)) }
     ensures found { IfSome result (λ r. IsOctetText r.0 (take r.1 text.now)) }
