@@ -155,6 +155,7 @@ fn read_name(text: &[u8], octets: &mut NameBuffer) -> Result<bool, &'static str>
 /// and the labels, each with its length octet, and one octet more are at most 255. The error is
 /// [`Invalid`](NameTextError::Invalid) for any other text, with a text that says why, without a request for memory, and
 /// there is one request for a name.
+#[tactic(auto, using(crate::proofs::NameTexts::one_name, crate::proofs::NameTexts::name_reads))]
 pub fn parse_octets(alloc: Global, text: &[u8]) -> Result<(Vec<u8>, bool), NameTextError>
     ensures ok { IfOk result (λ r. IsNameText (name_of r.0.items r.1) text.now) }
     ensures octets { IfOk result (λ r. AreNameOctets r.0.items) }
