@@ -1,6 +1,6 @@
 -- The steps by which a name is cut into labels to be written and a tail.
 use Rattle.std.proofs.Common.{◌≡◌, ℕ, ◌+◌, ◌<◌, ◌≤◌, List, [], ◌∷◌, ◌++◌, length, take, drop, get_or, Option, Some, None, refl, sym, ◌∙◌}
-use Rattle.std.proofs.Common.{ap, subst, arith, length-append, length-drop, length-take}
+use Rattle.std.proofs.Common.{ap, subst, arith, length-append, length-drop}
 use Rattle.std.proofs.lemmas.List.{append-nil, drop-drop, take_all, drop_all, take_at, drop_at, get_or-drop, take-append-drop}
 use Rattle.std.proofs.Math.Seq.{take-add}
 use Rattle.dns_fields.specs.Labels.{AreLabels, wire}
@@ -9,7 +9,7 @@ use Rattle.dns_fields.specs.Names.{LabelsStand, pointer}
 use Rattle.dns_fields.specs.Names.LabelsStand.{whole, pointed}
 use Rattle.dns_labels.specs.Reading.{stop_octets}
 use Rattle.dns_fields.proofs.Stays.{stands_before}
-use Rattle.dns_labels.specs.Emission.{StandsFor, CutAt, IsNameCut, LeadsTo, AddsName}
+use Rattle.dns_labels.specs.Emission.{StandsFor, CutAt, IsNameCut, LeadsTo}
 use Rattle.dns_fields.proofs.Runs.{wire-append, AreLabels-append}
 use Rattle.dns_labels.proofs.Octets.{labels_of-wire}
 
@@ -27,17 +27,7 @@ same_wire a b e = sym (labels_of-wire a) ∙ ap (λ (x : List ℕ). labels_of x)
 pub cut_all : (message octets : List ℕ) (cut : ℕ) → CutAt octets cut → length octets ≤ cut → IsNameCut message octets cut None
 cut_all message octets cut k past =
     let none : wire [] ≡ wire k.rest = sym (drop_all cut octets past) ∙ k.rest_is in
-    record {
-      front = k.front;
-      rest = k.rest;
-      are_front = k.are_front;
-      are_rest = k.are_rest;
-      front_is = k.front_is;
-      rest_is = k.rest_is;
-      within =
-          k.within;
-      leads = sym (same_wire [] k.rest none);
-    }
+    record { cut = k; leads = sym (same_wire [] k.rest none) }
 
 not_empty : (labels : List (List ℕ)) → 1 ≤ length (wire labels) → 1 ≤ length labels
 not_empty [] h = absurd (omega arith)
@@ -49,19 +39,18 @@ pub cut_found : (message octets : List ℕ) (cut target : ℕ) → CutAt octets 
 cut_found message octets cut target k some low s =
     let same : s.labels ≡ k.rest = same_wire s.labels k.rest (sym s.same ∙ k.rest_is) in
     record {
-      front = k.front;
-      rest = k.rest;
-      are_front = k.are_front;
-      are_rest = k.are_rest;
-      front_is = k.front_is;
-      rest_is = k.rest_is;
-      within = k.within;
+      cut = k;
       leads = (
         low,
         not_empty k.rest (omega (arith, length-drop cut octets, ap length k.rest_is)),
         (s.end, subst (λ (x : List (List ℕ)). LabelsStand message target x s.end) same s.stands),
       );
     }
+
+-- the whole name was found
+pub whole_found : (message octets : List ℕ) (target : ℕ) → AreNameOctets octets → 0 < length octets → target < 16384 → StandsFor message target octets
+    → IsNameCut message octets 0 (Some target)
+whole_found message octets target n some low s = cut_found message octets 0 target (cut_none octets n) some low s
 
 cut_next : (octets : List ℕ) (cut : ℕ) (front rest : List (List ℕ)) → AreLabels front → AreLabels rest → take cut octets ≡ wire front
     → drop cut octets ≡ wire rest → cut < length octets → CutAt octets (cut + (get_or octets cut 0 + 1))
@@ -92,14 +81,15 @@ cut_more octets cut k some = cut_next octets cut k.front k.rest k.are_front k.ar
 -- the whole name, with no tail elsewhere
 pub cut_whole : (message octets : List ℕ) → AreNameOctets octets → IsNameCut message octets (length octets) None
 cut_whole message octets n = record {
-  front = labels_of octets;
-  rest = [];
-  are_front = n.are;
-  are_rest = tt;
-  front_is =
-      take_all (length octets) octets (omega arith) ∙ n.same;
-  rest_is = drop_all (length octets) octets (omega arith);
-  within = omega arith;
+  cut = record {
+    front = labels_of octets;
+    rest = [];
+    are_front = n.are;
+    are_rest = tt;
+    front_is = take_all (length octets) octets (omega arith) ∙ n.same;
+    rest_is = drop_all (length octets) octets (omega arith);
+    within = omega arith;
+  };
   leads = refl;
 }
 
@@ -109,8 +99,9 @@ long_enough (l ∷ labels) h n = let lo : 1 ≤ length l = h.0.0 in omega (arith
 
 pub cut_short : (message octets : List ℕ) (cut : ℕ) (target : Option ℕ) → IsNameCut message octets cut target
     → cut + length (stop_octets target) ≤ length octets + 1
-cut_short message octets cut None k = omega (arith, k.within)
-cut_short message octets cut (Some t) k = omega (arith, k.within, length-drop cut octets, ap length k.rest_is, long_enough k.rest k.are_rest k.leads.1)
+cut_short message octets cut None k = omega (arith, k.cut.within)
+cut_short message octets cut (Some t) k =
+    omega (arith, k.cut.within, length-drop cut octets, ap length k.cut.rest_is, long_enough k.cut.rest k.cut.are_rest k.leads.1)
 
 leads_stands : (old new : List ℕ) (front rest : List (List ℕ)) (target : Option ℕ) → AreLabels front → new ≡ old ++ (wire front ++ stop_octets target)
     → LeadsTo old target rest → LabelsStand new (length old) (front ++ rest) (length new)
@@ -128,17 +119,13 @@ leads_stands old new front rest (Some t) hf e leads =
     pointed front rest t leads.2.0 [] hf d leads.0 (stands_before leads.2.1) s refl
     (omega (arith, ap length e, length-append old x, length-append (wire front) (pointer t)))
 
-pub adds_name : (old new octets : List ℕ) (cut : ℕ) (target : Option ℕ) → AreNameOctets octets → IsNameCut old octets cut target
-    → new ≡ old ++ (take cut octets ++ stop_octets target) → AddsName old new (labels_of octets)
-adds_name old new octets cut target n k e =
+-- the octets up to the cut, and what ends them, stand for all of the labels
+pub cut_stands : {old new octets : List ℕ} {cut : ℕ} {target : Option ℕ} → AreNameOctets octets → IsNameCut old octets cut target
+    → new ≡ old ++ (take cut octets ++ stop_octets target) → LabelsStand new (length old) (labels_of octets) (length new)
+cut_stands {old} {new} {octets} {cut} {target} n is e =
+    let k = is.cut in
     let f : new ≡ old ++ (wire k.front ++ stop_octets target) = e ∙ ap (λ (x : List ℕ). old ++ (x ++ stop_octets target)) k.front_is in
     let w : wire (k.front ++ k.rest) ≡ octets = wire-append k.front k.rest ∙ ap (λ (x : List ℕ). x ++ wire k.rest) (sym k.front_is)
     ∙ ap (λ (x : List ℕ). take cut octets ++ x) (sym k.rest_is) ∙ take-append-drop cut octets in
     let l : k.front ++ k.rest ≡ labels_of octets = same_wire (k.front ++ k.rest) (labels_of octets) (w ∙ n.same) in
-    let size : length octets ≡ length (wire (labels_of octets)) = ap length n.same in
-    record {
-      added = take cut octets ++ stop_octets target;
-      behind = e;
-      bounded = omega (arith, cut_short old octets cut target k, length-append (take cut octets) (stop_octets target), length-take cut octets, k.within);
-      stands = subst (λ (x : List (List ℕ)). LabelsStand new (length old) x (length new)) l (leads_stands old new k.front k.rest target k.are_front f k.leads);
-    }
+    subst (λ (x : List (List ℕ)). LabelsStand new (length old) x (length new)) l (leads_stands old new k.front k.rest target k.are_front f is.leads)

@@ -1,11 +1,12 @@
 -- The steps of the reader of a label's text.
-use Rattle.std.proofs.Common.{◌≡◌, ◌≢◌, ℕ, ◌+◌, ◌<◌, ◌≤◌, List, [], ◌∷◌, ◌++◌, length, take, drop, get_or, refl, sym, ◌∙◌, ap, subst}
+use Rattle.std.proofs.Common.{◌≡◌, ◌≢◌, ℕ, ◌+◌, ◌<◌, ◌≤◌, List, [], ◌∷◌, ◌++◌, length, take, drop, get_or, refl, sym, ◌∙◌, ap}
 use Rattle.std.proofs.Common.{append_assoc, arith, length-append, length-drop}
 use Rattle.std.proofs.Math.Seq.{take-add}
-use Rattle.std.proofs.lemmas.List.{append-nil, drop-drop, take-append-drop, append_cancel_left, get_or-drop, drop_more}
+use Rattle.std.proofs.lemmas.List.{append-nil, append_cancel_left, get_or-drop, drop_more}
 use Rattle.std.proofs.lemmas.Grind.{common_steps}
 use Rattle.dns_labels.specs.Text.{OctetText, LabelText, IsLabelEnd, AddsOctets}
 use Rattle.dns_labels.specs.Text.LabelText.{no_octet, octet}
+use Rattle.dns_labels.proofs.Octets.{cut_off}
 
 -- octets of a label that are still to be read
 pub record LabelLeft (label front text rest : List ℕ) : Type 0 where
@@ -26,95 +27,89 @@ pub record LabelSoFar (text : List ℕ) (at : ℕ) (old new : List ℕ) : Type 0
 pub one_octet : (m n : ℕ) (s t a b : List ℕ) → OctetText m s → OctetText n t → s ++ a ≡ t ++ b → (m ≡ n) × (s ≡ t)
 one_octet m n s t a b h k e = grind (arith, common_steps)
 
-not_ended : (text rest : List ℕ) (at : ℕ) → at < length text → get_or text at 0 ≢ 46 → drop at text ≡ rest → IsLabelEnd rest → ⊥
-not_ended text [] at h ne e end = absurd (omega (arith, ap length e, length-drop at text))
-not_ended text (c ∷ rest) at h ne e end =
-    let first : get_or text at 0 ≡ c = ap (λ (i : ℕ). get_or text i 0) (omega arith) ∙ sym (get_or-drop at text 0 0) ∙ ap (λ (s : List ℕ). get_or s 0 0) e in
-    ne (first ∙ end)
-
-pub label_done : (text : List ℕ) (at : ℕ) (old new : List ℕ) → LabelSoFar text at old new → IsLabelEnd (drop at text) → AddsOctets text at old new
-label_done text at old new s end =
+pub label_done : {text : List ℕ} {at : ℕ} {old new : List ℕ} → LabelSoFar text at old new → IsLabelEnd (drop at text) → AddsOctets text at old new
+label_done {text} {at} s end =
     let r = s.sound [] [] no_octet in
     record { label = s.front; reads = rw (append-nil s.front, append-nil (take at text)) at r; within = s.within; ends = end; octets = s.octets }
-
-left_refused : (text : List ℕ) (at : ℕ) (others others_text rest : List ℕ) → at < length text → get_or text at 0 ≢ 46
-    → ((n : ℕ) (t r : List ℕ) → OctetText n t → drop at text ≡ t ++ r → ⊥) → LabelText others others_text → drop at text ≡ others_text ++ rest
-    → IsLabelEnd rest → ⊥
-left_refused text at others others_text rest h ne none no_octet e end = not_ended text rest at h ne e end
-left_refused text at others others_text rest h ne none (octet {n = n} f r ot lt w) e end =
-    none n f (r ++ rest) ot (e ∙ ap (λ (x : List ℕ). x ++ rest) w ∙ append_assoc f r rest)
-
-pub label_refused : (text : List ℕ) (at : ℕ) (old new : List ℕ) → LabelSoFar text at old new → at < length text → get_or text at 0 ≢ 46
-    → ((n : ℕ) (t r : List ℕ) → OctetText n t → drop at text ≡ t ++ r → ⊥) → (label t rest : List ℕ) → LabelText label t → text ≡ t ++ rest
-    → IsLabelEnd rest → ⊥
-label_refused text at old new s h ne none label t rest lt e end =
-    let k = s.complete label t rest lt e end in
-    left_refused text at k.others k.others_text rest h ne none k.reads k.stands end
-
--- the others, behind one octet more
-record Behind (others : List ℕ) (n : ℕ) (text rest : List ℕ) : Type 0 where
-  label : List ℕ
-  label_text : List ℕ
-  joined : others ≡ n ∷ label
-  reads : LabelText label label_text
-  stands : text ≡ label_text ++ rest
-
-behind : (text : List ℕ) (at n : ℕ) (part more others others_text rest : List ℕ) → at < length text → get_or text at 0 ≢ 46 → OctetText n part
-    → drop at text ≡ part ++ more → LabelText others others_text → drop at text ≡ others_text ++ rest → IsLabelEnd rest → Behind others n more rest
-behind text at n part more others others_text rest h ne ot split no_octet e end = absurd (not_ended text rest at h ne e end)
-behind text at n part more others others_text rest h ne ot split (octet {n = m} {label = label} f r other lt w) e end =
-    let d : part ++ more ≡ f ++ (r ++ rest) = sym split ∙ e ∙ ap (λ (x : List ℕ). x ++ rest) w ∙ append_assoc f r rest in
-    let u = one_octet n m part f more (r ++ rest) ot other d in
-    let c : more ≡ r ++ rest = append_cancel_left part more (r ++ rest) (d ∙ ap (λ (x : List ℕ). x ++ (r ++ rest)) (sym u.1)) in
-    record { label = label; label_text = r; joined = ap (λ (x : ℕ). x ∷ label) (sym u.0); reads = lt; stands = c }
-
-pub label_more : (text : List ℕ) (at taken n : ℕ) (old new : List ℕ) → LabelSoFar text at old new → at < length text → get_or text at 0 ≢ 46
-    → taken ≤ length (drop at text) → OctetText n (take taken (drop at text)) → LabelSoFar text (at + taken) old (new ++ n ∷ [])
-label_more text at taken n old new s h ne fits ot =
-    let part = take taken (drop at text) in
-    let t : take (at + taken) text ≡ take at text ++ part = take-add at taken text in
-    let d : drop taken (drop at text) ≡ drop (at + taken) text = drop-drop taken at text in
-    let split : drop at text ≡ part ++ drop (at + taken) text = sym (take-append-drop taken (drop at text)) ∙ ap (λ (x : List ℕ). part ++ x) d in
-    record {
-      front = s.front ++ n ∷ [];
-      octets = ap (λ (x : List ℕ). x ++ n ∷ []) s.octets ∙ append_assoc old s.front (n ∷ []);
-      within = omega (arith, s.within, length-drop at text);
-      sound = λ label u lt.
-          let r = s.sound (n ∷ label) (part ++ u) (octet part u ot lt refl) in
-          let a : s.front ++ (n ∷ label) ≡ (s.front ++ n ∷ []) ++ label = sym (append_assoc s.front (n ∷ []) label) in
-          let b : take at text ++ (part ++ u) ≡ take (at + taken) text ++ u = sym (append_assoc (take at text) part u) ∙ ap (λ (x : List ℕ). x ++ u) (sym t) in
-          subst (λ (x : List ℕ). LabelText x (take (at + taken) text ++ u)) a (subst (λ (x : List ℕ). LabelText (s.front ++ (n ∷ label)) x) b r);
-      complete = λ label u rest lt e end.
-          let k = s.complete label u rest lt e end in
-          let b = behind text at n part (drop (at + taken) text) k.others k.others_text rest h ne ot split k.reads k.stands end in
-          record {
-            others = b.label;
-            others_text = b.label_text;
-            joined = k.joined ∙ ap (λ (x : List ℕ). s.front ++ x) b.joined
-                ∙ sym (append_assoc s.front (n ∷ []) b.label);
-            reads = b.reads;
-            stands = b.stands;
-          };
-    }
 
 pub at_dot : (text : List ℕ) (at : ℕ) → at < length text → get_or text at 0 ≡ 46 → IsLabelEnd (drop at text)
 at_dot text at h e = rw (drop_more text at 0 h) e
 
-left_full : (text : List ℕ) (at : ℕ) (label front others others_text rest : List ℕ) → at < length text → get_or text at 0 ≢ 46
-    → LabelText others others_text → drop at text ≡ others_text ++ rest → IsLabelEnd rest → label ≡ front ++ others → length front < length label
-left_full text at label front others others_text rest h ne no_octet e end j = absurd (not_ended text rest at h ne e end)
-left_full text at label front others others_text rest h ne (octet {n = n} {label = l} f r ot lt w) e end j =
-    omega (arith, ap length j, length-append front (n ∷ l))
+-- a label's octets, of which one is next in the text
+record NextOctet (others text rest : List ℕ) : Type 0 where
+  n : ℕ
+  label : List ℕ
+  front : List ℕ
+  back : List ℕ
+  joined : others ≡ n ∷ label
+  octet_reads : OctetText n front
+  reads : LabelText label back
+  stands : text ≡ front ++ (back ++ rest)
 
--- the label has more octets than were read
-pub label_full : (text : List ℕ) (at : ℕ) (old new : List ℕ) → LabelSoFar text at old new → at < length text → get_or text at 0 ≢ 46
-    → (label t rest : List ℕ) → LabelText label t → text ≡ t ++ rest → IsLabelEnd rest → length new < length old + length label
-label_full text at old new s h ne label t rest lt e end =
-    let k = s.complete label t rest lt e end in
-    omega (arith, left_full text at label s.front k.others k.others_text rest h ne k.reads k.stands end k.joined, ap length s.octets, length-append old s.front)
+module _ {text : List ℕ} {at : ℕ} {old new : List ℕ} (s : LabelSoFar text at old new) (h : at < length text) (ne : get_or text at 0 ≢ 46) where
+  not_ended : (rest : List ℕ) → drop at text ≡ rest → IsLabelEnd rest → ⊥
+  not_ended [] e end = omega (arith, ap length e, length-drop at text)
+  not_ended (c ∷ rest) e end =
+      let first : get_or text at 0 ≡ c = ap (λ (i : ℕ). get_or text i 0) (omega arith) ∙ sym (get_or-drop at text 0 0) ∙ ap (λ (x : List ℕ). get_or x 0 0) e in
+      ne (first ∙ end)
 
-pub label_none : (text old : List ℕ) → LabelSoFar text 0 old old
-label_none text old = record {
+  next_octet : {others others_text rest : List ℕ} → LabelText others others_text → drop at text ≡ others_text ++ rest → IsLabelEnd rest
+      → NextOctet others (drop at text) rest
+  next_octet {rest} no_octet e end = absurd (not_ended rest e end)
+  next_octet {rest} (octet {n = n} {label = label} f r ot lt w) e end = record {
+    n = n;
+    label = label;
+    front = f;
+    back = r;
+    joined = refl;
+    octet_reads = ot;
+    reads = lt;
+    stands = e ∙ ap (λ (x : List ℕ). x ++ rest) w ∙ append_assoc f r rest;
+  }
+
+  pub label_refused : ((n : ℕ) (t r : List ℕ) → OctetText n t → drop at text ≡ t ++ r → ⊥) → (label t rest : List ℕ) → LabelText label t → text ≡ t ++ rest
+      → IsLabelEnd rest → ⊥
+  label_refused none label t rest lt e end =
+      let k = s.complete label t rest lt e end in
+      let x = next_octet k.reads k.stands end in
+      none x.n x.front (x.back ++ rest) x.octet_reads x.stands
+
+  -- the label has more octets than were read
+  pub label_full : (label t rest : List ℕ) → LabelText label t → text ≡ t ++ rest → IsLabelEnd rest → length new < length old + length label
+  label_full label t rest lt e end =
+      let k = s.complete label t rest lt e end in
+      let x = next_octet k.reads k.stands end in
+      omega (arith, ap length k.joined, length-append s.front k.others, ap length x.joined, ap length s.octets, length-append old s.front)
+
+  pub label_more : (taken n : ℕ) → taken ≤ length (drop at text) → OctetText n (take taken (drop at text)) → LabelSoFar text (at + taken) old (new ++ n ∷ [])
+  label_more taken n fits ot =
+      let part = take taken (drop at text) in
+      let more = drop (at + taken) text in
+      let split : drop at text ≡ part ++ more = cut_off text at taken refl in
+      record {
+        front = s.front ++ n ∷ [];
+        octets = ap (λ (x : List ℕ). x ++ n ∷ []) s.octets ∙ append_assoc old s.front (n ∷ []);
+        within = omega (arith, s.within, length-drop at text);
+        sound = λ label u lt.
+            let r = s.sound (n ∷ label) (part ++ u) (octet part u ot lt refl) in
+            rw (append_assoc s.front (n ∷ []) label, take-add at taken text, append_assoc (take at text) part u) r;
+        complete = λ label u rest lt e end.
+            let k = s.complete label u rest lt e end in
+            let x = next_octet k.reads k.stands end in
+            let d : part ++ more ≡ x.front ++ (x.back ++ rest) = sym split ∙ x.stands in
+            let one = one_octet n x.n part x.front more (x.back ++ rest) ot x.octet_reads d in
+            record {
+              others = x.label;
+              others_text = x.back;
+              joined = k.joined ∙ ap (λ (l : List ℕ). s.front ++ l) (x.joined ∙ ap (λ (m : ℕ). m ∷ x.label) (sym one.0))
+                  ∙ sym (append_assoc s.front (n ∷ []) x.label);
+              reads = x.reads;
+              stands = append_cancel_left part more (x.back ++ rest) (d ∙ ap (λ (l : List ℕ). l ++ (x.back ++ rest)) (sym one.1));
+            };
+      }
+
+pub label_none : {text old : List ℕ} → LabelSoFar text 0 old old
+label_none {old} = record {
   front = [];
   octets = sym (append-nil old);
   within = omega arith;

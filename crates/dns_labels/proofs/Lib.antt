@@ -4,8 +4,7 @@ pub mod ComparingSteps
 pub mod ReadingSteps
 pub mod ReadingRuns
 pub mod WritingSteps
-pub mod WholeTails
-pub mod TwoParts
+pub mod Tails
 pub mod CutSteps
 pub mod Found
 pub mod Wrote

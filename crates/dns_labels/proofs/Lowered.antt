@@ -1,8 +1,9 @@
 -- A name's lowered octets.
-use Rattle.std.proofs.Common.{◌≡◌, ◌↔◌, IsTrue, ℕ, ◌+◌, ◌<◌, ◌≤◌, take, get_or, Bool, true, false, List, [], ◌∷◌, ◌++◌, length, map, refl}
+use Rattle.std.proofs.Common.{◌≡◌, ◌↔◌, IsTrue, ℕ, ◌+◌, ◌<◌, ◌≤◌, take, get_or, Bool, true, List, [], ◌∷◌, ◌++◌, length, map, refl}
 use Rattle.std.proofs.Common.{sym, ◌∙◌, ap, append_assoc, arith}
 use Rattle.std.proofs.lemmas.List.{length-map, map-append, append_cancel_right, take_more, take_more_set}
 use Rattle.std.specs.Prelude.{slice_set}
+use Rattle.std.proofs.Math.Bool.{and-true}
 use Rattle.std.proofs.lemmas.Bool.Decides.{nat_tests, same_from_decides}
 use Rattle.std.proofs.lemmas.Slice.Eq.{bytes_eq-Decides}
 use Rattle.std.specs.Prelude.{◌&&◌}
@@ -11,7 +12,6 @@ use Rattle.std.specs.Char.{to_ascii_lowercase}
 use Rattle.std.specs.Cmp.Lexicographic.{slice_cmp}
 use Rattle.std.specs.Ordering.{nat_cmp, ordering_then}
 use Rattle.std.specs.declared.cmp.Ordering.{Ordering}
-use Rattle.std.specs.declared.cmp.Ordering.TheVariants.{Less, Greater}
 use Rattle.dns_fields.specs.Labels.{AreLabels, wire, lowered}
 use Rattle.dns_labels.specs.Labels.{labels_of, AreNameOctets}
 use Rattle.dns_labels.specs.Comparing.{lowered_octets}
@@ -35,25 +35,13 @@ lowered-wire (l ∷ labels) h =
 pub lowered-of : (octets : List ℕ) → AreNameOctets octets → lowered (labels_of octets) ≡ lowered_octets octets
 lowered-of octets n = lowered-wire (labels_of octets) n.are ∙ ap (λ (t : List ℕ). map to_ascii_lowercase t ++ 0 ∷ []) (sym n.same)
 
-less_than_some : (b : List ℕ) → slice_cmp nat_cmp [] (b ++ 0 ∷ []) ≡ Less
-less_than_some [] = refl
-less_than_some (y ∷ b) = refl
-
-more_than_none : (a : List ℕ) → slice_cmp nat_cmp (a ++ 0 ∷ []) [] ≡ Greater
-more_than_none [] = refl
-more_than_none (x ∷ a) = refl
-
-zero_first : (y : ℕ) → ordering_then (nat_cmp 0 y) Less ≡ Less
-zero_first y = grind (arith, nat_tests)
-
-zero_second : (x : ℕ) → ordering_then (nat_cmp x 0) Greater ≡ Greater
-zero_second x = grind (arith, nat_tests)
-
 -- a least octet at both ends changes no order
 slice_cmp-zero : (a b : List ℕ) → slice_cmp nat_cmp (a ++ 0 ∷ []) (b ++ 0 ∷ []) ≡ slice_cmp nat_cmp a b
 slice_cmp-zero [] [] = refl
-slice_cmp-zero [] (y ∷ b) = rw (less_than_some b) (zero_first y)
-slice_cmp-zero (x ∷ a) [] = rw (more_than_none a) (zero_second x)
+slice_cmp-zero [] (y ∷ []) = grind (arith, nat_tests)
+slice_cmp-zero [] (y ∷ z ∷ b) = grind (arith, nat_tests)
+slice_cmp-zero (x ∷ []) [] = grind (arith, nat_tests)
+slice_cmp-zero (x ∷ z ∷ a) [] = grind (arith, nat_tests)
 slice_cmp-zero (x ∷ a) (y ∷ b) = ap (λ (o : Ordering). ordering_then (nat_cmp x y) o) (slice_cmp-zero a b)
 
 pub compared : (a b : List ℕ) → AreNameOctets a → AreNameOctets b
@@ -63,23 +51,15 @@ compared a b h k = rw (lowered-of a h, lowered-of b k) (sym (slice_cmp-zero (map
 pub same_lowered : (a b : List ℕ) (r : Bool) → AreNameOctets a → AreNameOctets b → (IsTrue r ↔ (map to_ascii_lowercase a ≡ map to_ascii_lowercase b))
     → r ≡ bytes_eq (lowered (labels_of a)) (lowered (labels_of b))
 same_lowered a b r h k t =
-    let d = bytes_eq-Decides (lowered (labels_of a)) (lowered (labels_of b)) in
-    let e = lowered-of a h in
-    let f = lowered-of b k in
-    let forth : lowered (labels_of a) ≡ lowered (labels_of b)
-    → map to_ascii_lowercase a ≡ map to_ascii_lowercase b = λ s. append_cancel_right (map to_ascii_lowercase a) (map to_ascii_lowercase b) (0 ∷ [])
-    (sym e ∙ s ∙ f) in
-    let back : map to_ascii_lowercase a ≡ map to_ascii_lowercase b
-    → lowered (labels_of a) ≡ lowered (labels_of b) = λ s. e ∙ ap (λ (x : List ℕ). x ++ 0 ∷ []) s ∙ sym f in
-    same_from_decides r (bytes_eq (lowered (labels_of a)) (lowered (labels_of b))) t (λ s. forth (d.0 s), λ s. d.1 (back s))
-
-and-true : (b : Bool) → b ≡ (b && true)
-and-true true = refl
-and-true false = refl
+    let x : List ℕ = map to_ascii_lowercase a in
+    let y : List ℕ = map to_ascii_lowercase b in
+    let d = bytes_eq-Decides (x ++ 0 ∷ []) (y ++ 0 ∷ []) in
+    rw (lowered-of a h, lowered-of b k) (same_from_decides r (bytes_eq (x ++ 0 ∷ []) (y ++ 0 ∷ [])) t
+    (λ s. append_cancel_right x y (0 ∷ []) (d.0 s), λ s. d.1 (ap (λ (l : List ℕ). l ++ 0 ∷ []) s)))
 
 pub with_mark : (a b : List ℕ) (r m : Bool) → AreNameOctets a → AreNameOctets b → m ≡ true
     → (IsTrue r ↔ (map to_ascii_lowercase a ≡ map to_ascii_lowercase b)) → r ≡ (bytes_eq (lowered (labels_of a)) (lowered (labels_of b)) && m)
-with_mark a b r m h k same t = rw same (same_lowered a b r h k t ∙ and-true (bytes_eq (lowered (labels_of a)) (lowered (labels_of b))))
+with_mark a b r m h k same t = rw same (same_lowered a b r h k t ∙ sym (and-true (bytes_eq (lowered (labels_of a)) (lowered (labels_of b)))))
 
 -- one octet more is lowered
 pub lowered_more : (octets low : List ℕ) (i x : ℕ) → i < length octets → i < length low → take i low ≡ map to_ascii_lowercase (take i octets)

@@ -11,14 +11,14 @@ use Rattle.dns_labels.specs.Labels.{AreNameOctets, labels_of, name_of}
 use Rattle.dns_labels.specs.Text.{LabelText, LabelsText, MarkedText, IsNameText, IsLabelEnd, AddsOctets, AddsLabel}
 use Rattle.dns_labels.specs.Text.LabelsText.{last, dotted, joined}
 use Rattle.dns_labels.specs.Text.MarkedText.{root, nothing, labelled}
-use Rattle.dns_labels.proofs.Octets.{labels_from, are_name_octets}
+use Rattle.dns_labels.proofs.Octets.{cut_off, wire_length, second_is, labels_from, are_name_octets}
 use Rattle.dns_labels.proofs.NameTexts.{one_label, first_text, BackText, back_ends}
-use Rattle.dns_labels.proofs.NameTexts.BackText.{at_end, at_dot, further}
+use Rattle.dns_labels.proofs.NameTexts.BackText.{at_dot, further}
 
 -- the length octet is written in front of the label
-pub label_set : (text : List ℕ) (taken : ℕ) (old begun new : List ℕ) (start count : ℕ) → begun ≡ old ++ 0 ∷ [] → AddsOctets text taken begun new
+pub label_set : {text : List ℕ} {taken : ℕ} {old begun new : List ℕ} {start count : ℕ} → begun ≡ old ++ 0 ∷ [] → AddsOctets text taken begun new
     → start ≡ length old → count ≡ length new - start - 1 → 1 ≤ count → length new ≤ length begun + 63 → AddsLabel text taken old (slice_set new start count)
-label_set text taken old begun new start count b a s n some few =
+label_set {old} {begun} {new} {start} {count} b a s n some few =
     let e : new ≡ old ++ 0 ∷ a.label = a.octets ∙ ap (λ (x : List ℕ). x ++ a.label) b ∙ append_assoc old (0 ∷ []) a.label in
     let size : length new ≡ length old + (length a.label + 1) = ap length e ∙ length-append old (0 ∷ a.label) ∙ omega arith in
     let k : count ≡ length a.label = omega arith in
@@ -36,9 +36,9 @@ label_set text taken old begun new start count b a s n some few =
     }
 
 -- a label without octets was read, so no label stands there
-pub label_empty : (text : List ℕ) (taken : ℕ) (begun new : List ℕ) → AddsOctets text taken begun new → length new ≤ length begun → (label t rest : List ℕ)
+pub label_empty : {text : List ℕ} {taken : ℕ} {begun new : List ℕ} → AddsOctets text taken begun new → length new ≤ length begun → (label t rest : List ℕ)
     → LabelText label t → text ≡ t ++ rest → IsLabelEnd rest → IsLabel label → ⊥
-label_empty text taken begun new a none label t rest lt e end is =
+label_empty {text} {taken} {begun} a none label t rest lt e end is =
     let u = one_label (drop taken text) rest a.reads lt (take-append-drop taken text ∙ e) a.ends end in
     let u0 : a.label ≡ label = u.0 in
     omega (arith, ap length a.octets, length-append begun a.label, ap length u0, is.0)
@@ -58,8 +58,8 @@ pub record NameSoFar (text : List ℕ) (at : ℕ) (octets : List ℕ) : Type 0 w
   pub sound : (rest : List (List ℕ)) (mark : Bool) → LabelsText rest mark (drop at text) → LabelsText (front ++ rest) mark text
   pub complete : (labels : List (List ℕ)) (mark : Bool) → AreLabels labels → LabelsText labels mark text → NameLeft labels mark front (drop at text)
 
-pub name_none : (text octets : List ℕ) → octets ≡ [] → NameSoFar text 0 octets
-name_none text octets e = record {
+pub name_none : {text octets : List ℕ} → octets ≡ [] → NameSoFar text 0 octets
+name_none e = record {
   front = [];
   are = tt;
   same = e;
@@ -69,149 +69,103 @@ name_none text octets e = record {
   complete = λ labels mark are ls. record { rest = labels; joined = refl; reads = ls };
 }
 
--- the octets with one label more
-record OneMore (text : List ℕ) (at taken : ℕ) (old new : List ℕ) (front : List (List ℕ)) (label : List ℕ) : Type 0 where
-  are : AreLabels (front ++ label ∷ [])
-  same : new ≡ wire (front ++ label ∷ [])
-  part : LabelText label (take taken (drop at text))
-  back : drop taken (drop at text) ≡ drop (at + taken) text
-  split : drop at text ≡ take taken (drop at text) ++ drop (at + taken) text
-
-one_more : (text : List ℕ) (at taken : ℕ) (old new : List ℕ) (s : NameSoFar text at old) (a : AddsLabel (drop at text) taken old new)
-    → OneMore text at taken old new s.front a.label
-one_more text at taken old new s a =
-    let w : wire (s.front ++ a.label ∷ []) ≡ old ++ length a.label ∷ a.label = wire-append s.front (a.label ∷ [])
-    ∙ ap (λ (x : List ℕ). x ++ length a.label ∷ (a.label ++ [])) (sym s.same) ∙ ap (λ (x : List ℕ). old ++ length a.label ∷ x) (append-nil a.label) in
-    let b : drop taken (drop at text) ≡ drop (at + taken) text = drop-drop taken at text in
-    record {
-      are = AreLabels-append s.front (a.label ∷ []) s.are (a.is_label, tt);
-      same = a.octets ∙ sym w;
-      part = a.reads;
-      back = b;
-      split = sym (take-append-drop taken (drop at text)) ∙ ap (λ (x : List ℕ). take taken (drop at text) ++ x) b;
-    }
-
-read_as : (text octets : List ℕ) (labels : List (List ℕ)) (mark : Bool) → AreLabels labels → octets ≡ wire labels → length octets ≤ 254
-    → LabelsText labels mark text → AreNameOctets octets × IsNameText (name_of octets mark) text
-read_as text octets labels mark are same room ls =
+read_as : {text octets : List ℕ} {mark : Bool} (labels : List (List ℕ)) → AreLabels labels → octets ≡ wire labels → length octets ≤ 254
+    → MarkedText labels mark text → AreNameOctets octets × IsNameText (name_of octets mark) text
+read_as {octets} labels are same room m =
     let fits : FitsName labels = omega (arith, ap length same) in
     let l : labels_of octets ≡ labels = labels_from octets labels same in
-    (are_name_octets octets labels are fits same, record { is_name = record { labels = rw l are; fits = rw l fits }; reads = labelled (rw l ls) })
+    (are_name_octets octets labels are fits same, record { is_name = record { labels = rw l are; fits = rw l fits }; reads = rw l m })
 
--- the last label ends the text
-pub name_ends : (text : List ℕ) (at taken : ℕ) (old new : List ℕ) → NameSoFar text at old → AddsLabel (drop at text) taken old new → length new ≤ 254
-    → at + taken ≡ length text → AreNameOctets new × IsNameText (name_of new false) text
-name_ends text at taken old new s a room done =
-    let o = one_more text at taken old new s a in
-    let none : drop (at + taken) text ≡ [] = drop_all (at + taken) text (omega arith) in
-    let whole : take taken (drop at text) ≡ drop at text =
-    sym (o.split ∙ ap (λ (x : List ℕ). take taken (drop at text) ++ x) none ∙ append-nil (take taken (drop at text))) in
-    read_as text new (s.front ++ a.label ∷ []) false o.are o.same room (s.sound (a.label ∷ []) false (last (rw whole at a.reads)))
+-- no text or a dot alone
+pub reads_nothing : {text octets : List ℕ} → octets ≡ [] → length text ≡ 0 → AreNameOctets octets × IsNameText (name_of octets false) text
+reads_nothing {text} e n =
+    let none : text ≡ [] = drop_all 0 text (omega arith) in
+    read_as [] tt e (omega (arith, ap length e)) (rw none nothing)
 
-dot_next : (text : List ℕ) (at taken : ℕ) (old new : List ℕ) (s : NameSoFar text at old) (a : AddsLabel (drop at text) taken old new)
-    → at + taken < length text → drop at text ≡ take taken (drop at text) ++ 46 ∷ drop (at + taken + 1) text
-dot_next text at taken old new s a more =
-    let o = one_more text at taken old new s a in
-    let d : drop (at + taken) text ≡ get_or text (at + taken) 0 ∷ drop (at + taken + 1) text = drop_more text (at + taken) 0 more in
-    let dot : get_or text (at + taken) 0 ≡ 46 = subst IsLabelEnd (o.back ∙ d) a.ends in
-    o.split ∙ ap (λ (x : List ℕ). take taken (drop at text) ++ x) (d ∙ ap (λ (c : ℕ). c ∷ drop (at + taken + 1) text) dot)
+pub reads_root : {text octets : List ℕ} → octets ≡ [] → length text ≡ 1 → get_or text 0 0 ≡ 46 → AreNameOctets octets × IsNameText (name_of octets true) text
+reads_root {text} e n d =
+    let dot : text ≡ 46 ∷ [] = drop_more text 0 0 (omega arith) ∙ ap (λ (c : ℕ). c ∷ drop 1 text) d ∙ ap (λ (x : List ℕ). 46 ∷ x) (drop_all 1 text (omega arith)) in
+    read_as [] tt e (omega (arith, ap length e)) (rw dot root)
 
--- a dot behind the last label ends the text
-pub name_dotted : (text : List ℕ) (at taken : ℕ) (old new : List ℕ) → NameSoFar text at old → AddsLabel (drop at text) taken old new → length new ≤ 254
-    → at + taken < length text → at + taken + 1 ≡ length text → AreNameOctets new × IsNameText (name_of new true) text
-name_dotted text at taken old new s a room more done =
-    let o = one_more text at taken old new s a in
-    let none : drop (at + taken + 1) text ≡ [] = drop_all (at + taken + 1) text (omega arith) in
-    let e = dot_next text at taken old new s a more ∙ ap (λ (x : List ℕ). take taken (drop at text) ++ 46 ∷ x) none in
-    read_as text new (s.front ++ a.label ∷ []) true o.are o.same room (s.sound (a.label ∷ []) true (dotted (take taken (drop at text)) a.reads e))
-
-next_left : (label : List ℕ) (front : List (List ℕ)) (part more : List ℕ) (labels rest : List (List ℕ)) (mark : Bool) (text : List ℕ) → LabelText label part
+next_left : {label part more text : List ℕ} {labels rest : List (List ℕ)} {mark : Bool} (front : List (List ℕ)) → LabelText label part
     → text ≡ part ++ 46 ∷ more → 1 ≤ length more → labels ≡ front ++ rest → LabelsText rest mark text → NameLeft labels mark (front ++ label ∷ []) more
-next_left label front part more labels rest mark text lt e some j ls =
+next_left {label} {part} {more} {labels} front lt e some j ls =
     let f = first_text ls in
     let z : part ++ 46 ∷ more ≡ f.front ++ f.back = sym e ∙ f.stands in
     let u = one_label (46 ∷ more) f.back lt f.reads z refl (back_ends f.behind) in
-    let u0 : label ≡ f.label = u.0 in
-    let u1 : part ≡ f.front = u.1 in
-    let back : f.back ≡ 46 ∷ more = sym (append_cancel_left part (46 ∷ more) f.back (z ∙ ap (λ (i : List ℕ). i ++ f.back) (sym u1))) in
-    let split : rest ≡ label ∷ f.others = f.split ∙ ap (λ (l : List ℕ). l ∷ f.others) (sym u0) in
-    let whole : labels ≡ (front ++ label ∷ []) ++ f.others = j ∙ ap (λ (l : List (List ℕ)). front ++ l) split
+    let back : f.back ≡ 46 ∷ more = sym (append_cancel_left part (46 ∷ more) f.back (z ∙ ap (λ (i : List ℕ). i ++ f.back) (sym u.1))) in
+    let split : labels ≡ (front ++ label ∷ []) ++ f.others = j ∙ ap (λ (l : List (List ℕ)). front ++ l) (f.split ∙ ap (λ (l : List ℕ). l ∷ f.others) (sym u.0))
     ∙ sym (append_assoc front (label ∷ []) f.others) in
-    record { rest = f.others; joined = whole; reads = behind_dot f.behind back some }
+    record { rest = f.others; joined = split; reads = behind_dot (rw back at f.behind) some }
   where
-    behind_dot : {others : List (List ℕ)} {m : Bool} {b : List ℕ} → BackText others m b → b ≡ 46 ∷ more → 1 ≤ length more → LabelsText others m more
-    behind_dot {others} {m} {b} (at_end o k n) e some = let bad : [] ≡ 46 ∷ more = sym n ∙ e in absurd cc
-    behind_dot {others} {m} {b} (at_dot o k n) e some = let bad : [] ≡ more = let w : 46 ∷ [] ≡ 46 ∷ more = sym n
-        ∙ e in cc in absurd (omega (arith, ap length bad))
-    behind_dot {others} {m} {b} (further r n ls) e some = let same : r ≡ more = let w : 46 ∷ r ≡ 46 ∷ more = sym n
-        ∙ e in cc in subst (λ (x : List ℕ). LabelsText others m x) same ls
+    behind_dot : {others : List (List ℕ)} {m : Bool} {b : List ℕ} → BackText others m (46 ∷ b) → 1 ≤ length b → LabelsText others m b
+    behind_dot at_dot h = absurd (omega arith)
+    behind_dot (further ls) h = ls
 
--- a further label stands behind a dot
-pub name_more : (text : List ℕ) (at taken : ℕ) (old new : List ℕ) → NameSoFar text at old → AddsLabel (drop at text) taken old new → length new ≤ 254
-    → at + taken + 1 < length text → NameSoFar text (at + taken + 1) new
-name_more text at taken old new s a room more =
-    let o = one_more text at taken old new s a in
-    let part = take taken (drop at text) in
-    let e = dot_next text at taken old new s a (omega arith) in
-    record {
-      front = s.front ++ a.label ∷ [];
-      are = o.are;
-      same = o.same;
-      within = omega arith;
-      room = room;
-      sound = λ rest mark ls. subst (λ (x : List (List ℕ)). LabelsText x mark text) (sym (append_assoc s.front (a.label ∷ []) rest))
-          (s.sound (a.label ∷ rest) mark (joined part (drop (at + taken + 1) text) a.reads ls e));
-      complete = λ labels mark are ls.
-          let k = s.complete labels mark are ls in
-          next_left a.label s.front part (drop (at + taken + 1) text) labels k.rest mark (drop at text) a.reads e
-          (omega (arith, length-drop (at + taken + 1) text)) k.joined k.reads;
-    }
+module _ {text : List ℕ} {at taken : ℕ} {old new : List ℕ} (s : NameSoFar text at old) (a : AddsLabel (drop at text) taken old new) where
+  labels_are : AreLabels (s.front ++ a.label ∷ [])
+  labels_are = AreLabels-append s.front (a.label ∷ []) s.are (a.is_label, tt)
 
--- no text or a dot alone
-pub reads_nothing : (text octets : List ℕ) → octets ≡ [] → length text ≡ 0 → AreNameOctets octets × IsNameText (name_of octets false) text
-reads_nothing [] octets e n = rw e (
-  record { are = tt; same = refl; room = omega arith },
-  record
-      { is_name = record { labels = tt; fits = omega arith }; reads = nothing },
-)
-reads_nothing (c ∷ text) octets e n = absurd (omega arith)
+  octets_are : new ≡ wire (s.front ++ a.label ∷ [])
+  octets_are = a.octets ∙ sym (wire-append s.front (a.label ∷ []) ∙ ap (λ (x : List ℕ). x ++ length a.label ∷ (a.label ++ [])) (sym s.same)
+      ∙ ap (λ (x : List ℕ). old ++ length a.label ∷ x) (append-nil a.label))
 
-pub reads_root : (text octets : List ℕ) → octets ≡ [] → length text ≡ 1 → get_or text 0 0 ≡ 46 → AreNameOctets octets × IsNameText (name_of octets true) text
-reads_root [] octets e n d = absurd (omega arith)
-reads_root (c ∷ []) octets e n d = rw (e, d)
-    (record { are = tt; same = refl; room = omega arith }, record { is_name = record { labels = tt; fits = omega arith }; reads = root })
-reads_root (c ∷ b ∷ text) octets e n d = absurd (omega arith)
+  parts : drop at text ≡ take taken (drop at text) ++ drop (at + taken) text
+  parts = cut_off text at taken refl
 
-labels_refused : (text : List ℕ) (at : ℕ) (octets : List ℕ) (labels : List (List ℕ)) (mark : Bool) → NameSoFar text at octets
-    → ((label t rest : List ℕ) → LabelText label t → drop at text ≡ t ++ rest → IsLabelEnd rest → IsLabel label → length octets + (1 + length label) ≤ 254
-    → ⊥) → AreLabels labels → FitsName labels → LabelsText labels mark text → ⊥
-labels_refused text at octets labels mark s none are fits ls =
-    let k = s.complete labels mark are ls in
-    let f = first_text k.reads in
-    let j : labels ≡ s.front ++ (f.label ∷ f.others) = k.joined ∙ ap (λ (x : List (List ℕ)). s.front ++ x) f.split in
-    let is = second_are s.front f.label f.others (subst AreLabels j are) in
-    let w : length (wire labels) ≡ length (wire s.front) + (1 + (length f.label + length (wire f.others))) = ap (λ (x : List (List ℕ)). length (wire x)) j
-    ∙ ap length (wire-append s.front (f.label ∷ f.others)) ∙ length-append (wire s.front) (wire (f.label ∷ f.others))
-    ∙ omega (arith, length-append f.label (wire f.others)) in
-    none f.label f.front f.back f.reads f.stands (back_ends f.behind) is (omega (arith, fits, ap length s.same))
-  where
-    second_are : (front : List (List ℕ)) (label : List ℕ) (others : List (List ℕ)) → AreLabels (front ++ (label ∷ others)) → IsLabel label
-    second_are [] label others h = h.0
-    second_are (l ∷ front) label others h = second_are front label others h.1
+  last_read : {mark : Bool} → length new ≤ 254 → LabelsText (a.label ∷ []) mark (drop at text) → AreNameOctets new × IsNameText (name_of new mark) text
+  last_read {mark} room ls = read_as (s.front ++ a.label ∷ []) labels_are octets_are room (labelled (s.sound (a.label ∷ []) mark ls))
+
+  -- the last label ends the text
+  pub name_ends : length new ≤ 254 → at + taken ≡ length text → AreNameOctets new × IsNameText (name_of new false) text
+  name_ends room done =
+      let whole : take taken (drop at text) ≡ drop at text = sym (parts ∙ ap (λ (x : List ℕ). take taken (drop at text) ++ x)
+      (drop_all (at + taken) text (omega arith)) ∙ append-nil (take taken (drop at text))) in
+      last_read room (last (rw whole at a.reads))
+
+  dot_next : at + taken < length text → drop at text ≡ take taken (drop at text) ++ 46 ∷ drop (at + taken + 1) text
+  dot_next more =
+      let d : drop (at + taken) text ≡ get_or text (at + taken) 0 ∷ drop (at + taken + 1) text = drop_more text (at + taken) 0 more in
+      let dot : get_or text (at + taken) 0 ≡ 46 = subst IsLabelEnd (drop-drop taken at text ∙ d) a.ends in
+      parts ∙ ap (λ (x : List ℕ). take taken (drop at text) ++ x) (d ∙ ap (λ (c : ℕ). c ∷ drop (at + taken + 1) text) dot)
+
+  -- a dot behind the last label ends the text
+  pub name_dotted : length new ≤ 254 → at + taken < length text → at + taken + 1 ≡ length text → AreNameOctets new × IsNameText (name_of new true) text
+  name_dotted room more done = last_read room (dotted (take taken (drop at text)) a.reads
+      (dot_next more ∙ ap (λ (x : List ℕ). take taken (drop at text) ++ 46 ∷ x) (drop_all (at + taken + 1) text (omega arith))))
+
+  -- a further label stands behind a dot
+  pub name_more : length new ≤ 254 → at + taken + 1 < length text → NameSoFar text (at + taken + 1) new
+  name_more room more = record {
+    front = s.front ++ a.label ∷ [];
+    are = labels_are;
+    same = octets_are;
+    within = omega arith;
+    room = room;
+    sound = λ rest mark ls. subst (λ (x : List (List ℕ)). LabelsText x mark text) (sym (append_assoc s.front (a.label ∷ []) rest))
+        (s.sound (a.label ∷ rest) mark (joined (take taken (drop at text)) (drop (at + taken + 1) text) a.reads ls (dot_next (omega arith))));
+    complete = λ labels mark are ls.
+        let k = s.complete labels mark are ls in
+        next_left s.front a.reads (dot_next (omega arith)) (omega (arith, length-drop (at + taken + 1) text)) k.joined k.reads;
+  }
+
+-- a text of labels, if it is neither empty nor a dot
+marked_labels : {labels : List (List ℕ)} {mark : Bool} {text : List ℕ} → 1 ≤ length text → (length text ≡ 1 → get_or text 0 0 ≢ 46)
+    → MarkedText labels mark text → LabelsText labels mark text
+marked_labels some no_dot root = absurd (no_dot refl refl)
+marked_labels some no_dot nothing = absurd (omega arith)
+marked_labels some no_dot (labelled ls) = ls
 
 -- no label stands there, so the text is that of no name
-pub name_refused : (text : List ℕ) (at : ℕ) (octets : List ℕ) → NameSoFar text at octets → 1 ≤ length text → (length text ≡ 1 → get_or text 0 0 ≢ 46)
+pub name_refused : {text : List ℕ} {at : ℕ} {octets : List ℕ} → NameSoFar text at octets → 1 ≤ length text → (length text ≡ 1 → get_or text 0 0 ≢ 46)
     → ((label t rest : List ℕ) → LabelText label t → drop at text ≡ t ++ rest → IsLabelEnd rest → IsLabel label → length octets + (1 + length label) ≤ 254
     → ⊥) → (name : DomainName) → IsNameText name text → ⊥
-name_refused text at octets s some no_dot none name n = marked_refused text at octets name.labels name.fully_qualified s some no_dot none n.is_name.labels
-    n.is_name.fits n.reads
-  where
-    marked_refused : (t : List ℕ) (a : ℕ) (o : List ℕ) (labels : List (List ℕ)) (mark : Bool) → NameSoFar t a o → 1 ≤ length t
-        → (length t ≡ 1 → get_or t 0 0 ≢ 46) → ((label u rest : List ℕ) → LabelText label u → drop a t ≡ u ++ rest → IsLabelEnd rest → IsLabel label
-        → length o + (1 + length label) ≤ 254 → ⊥) → AreLabels labels → FitsName labels → MarkedText labels mark t → ⊥
-    marked_refused t a o labels mark s some no_dot none are fits root = no_dot refl refl
-    marked_refused t a o labels mark s some no_dot none are fits nothing = omega arith
-    marked_refused t a o labels mark s some no_dot none are fits (labelled ls) = labels_refused t a o labels mark s none are fits ls
+name_refused s some no_dot none name n =
+    let k = s.complete name.labels name.fully_qualified n.is_name.labels (marked_labels some no_dot n.reads) in
+    let f = first_text k.reads in
+    let j : name.labels ≡ s.front ++ (f.label ∷ f.others) = k.joined ∙ ap (λ (x : List (List ℕ)). s.front ++ x) f.split in
+    none f.label f.front f.back f.reads f.stands (back_ends f.behind) (second_is s.front f.label f.others (subst AreLabels j n.is_name.labels))
+    (omega (arith, n.is_name.fits, ap length s.same, wire_length s.front (f.label ∷ f.others) j, length-append f.label (wire f.others)))
 
 -- what holds of every refusal holds of the one that `?` hands on
 pub said_of_err : {T E : Type 0} {P : Type 0} (r : Result T E) → IsErr r → P → IfErr r (λ _. P)

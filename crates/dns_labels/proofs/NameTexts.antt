@@ -1,6 +1,6 @@
 -- A text is that of one name, and what is printed of a name is a text of it.
 use Rattle.std.proofs.Common.{◌≡◌, ℕ, zero, suc, ◌<◌, ◌≤◌, Bool, true, false, List, [], ◌∷◌, ◌++◌, All, length, refl, sym, ◌∙◌, ap, subst, append_assoc, arith}
-use Rattle.std.specs.Prelude.{flat_map}
+use Rattle.std.specs.Prelude.{flat_map, if◌then◌else◌}
 use Rattle.std.proofs.lemmas.List.{append-nil, append_cancel_left}
 use Rattle.std.proofs.lemmas.List.Elements.{All-head, All-tail}
 use Rattle.dns_fields.specs.Octets.{AreOctets}
@@ -19,15 +19,16 @@ octet_no_end n f z (plain g a b) e = a e
 octet_no_end n f z (decimal h t o dh dt do' v low) e = absurd (omega arith)
 octet_no_end n f z (quoted g k) e = absurd (omega arith)
 
+label_no_end : {label front : List ℕ} (back : List ℕ) → LabelText label front → 1 ≤ length label → IsLabelEnd (front ++ back) → ⊥
+label_no_end back no_octet h e = absurd (omega arith)
+label_no_end back (octet {n = n} f r ot lt w) h e =
+    octet_no_end n f (r ++ back) ot (subst IsLabelEnd (ap (λ (u : List ℕ). u ++ back) w ∙ append_assoc f r back) e)
+
 -- up to its end a text is that of one label
 pub one_label : {a b s t : List ℕ} (x y : List ℕ) → LabelText a s → LabelText b t → s ++ x ≡ t ++ y → IsLabelEnd x → IsLabelEnd y → (a ≡ b) × (s ≡ t)
 one_label x y no_octet no_octet e ex ey = (refl, refl)
-one_label x y no_octet (octet {n = n} {label = label} f r ot lt w) e ex ey =
-    let z : x ≡ f ++ (r ++ y) = e ∙ ap (λ (u : List ℕ). u ++ y) w ∙ append_assoc f r y in
-    absurd (octet_no_end n f (r ++ y) ot (subst IsLabelEnd z ex))
-one_label x y (octet {n = n} {label = label} f r ot lt w) no_octet e ex ey =
-    let z : y ≡ f ++ (r ++ x) = sym e ∙ ap (λ (u : List ℕ). u ++ x) w ∙ append_assoc f r x in
-    absurd (octet_no_end n f (r ++ x) ot (subst IsLabelEnd z ey))
+one_label x y no_octet (octet f r ot lt w) e ex ey = absurd (label_no_end y (octet f r ot lt w) (omega arith) (subst IsLabelEnd e ex))
+one_label x y (octet f r ot lt w) no_octet e ex ey = absurd (label_no_end x (octet f r ot lt w) (omega arith) (subst IsLabelEnd (sym e) ey))
 one_label x y (octet {n = n} {label = a} f r ot lt w) (octet {n = m} {label = b} g q pt kt v) e ex ey =
     let z : f ++ (r ++ x) ≡ g ++ (q ++ y) = sym (ap (λ (u : List ℕ). u ++ x) w ∙ append_assoc f r x) ∙ e ∙ ap (λ (u : List ℕ). u ++ y) v ∙ append_assoc g q y in
     let u = one_octet n m f g (r ++ x) (q ++ y) ot pt z in
@@ -41,9 +42,9 @@ one_label x y (octet {n = n} {label = a} f r ot lt w) (octet {n = m} {label = b}
 
 -- what may stand behind a label
 pub data BackText : List (List ℕ) → Bool → List ℕ → Type 0 where
-  at_end : {others : List (List ℕ)} {mark : Bool} {back : List ℕ} → others ≡ [] → mark ≡ false → back ≡ [] → BackText others mark back
-  at_dot : {others : List (List ℕ)} {mark : Bool} {back : List ℕ} → others ≡ [] → mark ≡ true → back ≡ 46 ∷ [] → BackText others mark back
-  further : {others : List (List ℕ)} {mark : Bool} {back : List ℕ} (rest : List ℕ) → back ≡ 46 ∷ rest → LabelsText others mark rest → BackText others mark back
+  at_end : BackText [] false []
+  at_dot : BackText [] true (46 ∷ [])
+  further : {others : List (List ℕ)} {mark : Bool} {rest : List ℕ} → LabelsText others mark rest → BackText others mark (46 ∷ rest)
 
 -- the first label, and what is behind it
 pub record FirstText (labels : List (List ℕ)) (mark : Bool) (text : List ℕ) : Type 0 where
@@ -58,21 +59,16 @@ pub record FirstText (labels : List (List ℕ)) (mark : Bool) (text : List ℕ) 
 
 pub first_text : {labels : List (List ℕ)} {mark : Bool} {text : List ℕ} → LabelsText labels mark text → FirstText labels mark text
 first_text (last {label = label} {text = text} lt) =
-    record { label = label; others = []; front = text; back = []; split = refl; reads = lt; stands = sym (append-nil text); behind = at_end refl refl refl }
+    record { label = label; others = []; front = text; back = []; split = refl; reads = lt; stands = sym (append-nil text); behind = at_end }
 first_text (dotted {label = label} front lt e) =
-    record { label = label; others = []; front = front; back = 46 ∷ []; split = refl; reads = lt; stands = e; behind = at_dot refl refl refl }
+    record { label = label; others = []; front = front; back = 46 ∷ []; split = refl; reads = lt; stands = e; behind = at_dot }
 first_text (joined {label = label} {labels = labels} front rest lt ls e) =
-    record { label = label; others = labels; front = front; back = 46 ∷ rest; split = refl; reads = lt; stands = e; behind = further rest refl ls }
+    record { label = label; others = labels; front = front; back = 46 ∷ rest; split = refl; reads = lt; stands = e; behind = further ls }
 
 pub back_ends : {others : List (List ℕ)} {mark : Bool} {back : List ℕ} → BackText others mark back → IsLabelEnd back
-back_ends {others} {mark} {back} (at_end o m b) = rw b tt
-back_ends {others} {mark} {back} (at_dot o m b) = rw b refl
-back_ends {others} {mark} {back} (further rest b ls) = rw b refl
-
-label_no_end : {label front : List ℕ} (back : List ℕ) → LabelText label front → 1 ≤ length label → IsLabelEnd (front ++ back) → ⊥
-label_no_end back no_octet h e = absurd (omega arith)
-label_no_end back (octet {n = n} f r ot lt w) h e =
-    octet_no_end n f (r ++ back) ot (subst IsLabelEnd (ap (λ (u : List ℕ). u ++ back) w ∙ append_assoc f r back) e)
+back_ends at_end = tt
+back_ends at_dot = refl
+back_ends (further ls) = refl
 
 -- no text of labels begins with a label's end
 pub labels_no_end : {labels : List (List ℕ)} {mark : Bool} {text : List ℕ} → LabelsText labels mark text → AreLabels labels → IsLabelEnd text → ⊥
@@ -81,22 +77,13 @@ labels_no_end {labels} {mark} {text} ls are e =
     let a : AreLabels (k.label ∷ k.others) = subst AreLabels k.split are in
     label_no_end k.back k.reads a.0.0 (subst IsLabelEnd k.stands e)
 
-no_rest : {labels : List (List ℕ)} {mark : Bool} (rest : List ℕ) → LabelsText labels mark rest → AreLabels labels → 46 ∷ [] ≡ 46 ∷ rest → ⊥
-no_rest rest ls are e = let n : rest ≡ [] = cc in labels_no_end ls are (rw n tt)
-
 one_back : {a b : List (List ℕ)} {m n : Bool} {x : List ℕ} → BackText a m x → BackText b n x → AreLabels a → AreLabels b
     → ((rest : List ℕ) → LabelsText a m rest → LabelsText b n rest → (a ≡ b) × (m ≡ n)) → (a ≡ b) × (m ≡ n)
-one_back (at_end o m b) (at_end p n c) h k same = (cc, cc)
-one_back (at_end o m b) (at_dot p n c) h k same = absurd cc
-one_back (at_end o m b) (further rest c ls) h k same = absurd cc
-one_back (at_dot o m b) (at_end p n c) h k same = absurd cc
-one_back (at_dot o m b) (at_dot p n c) h k same = (cc, cc)
-one_back (at_dot o m b) (further rest c ls) h k same = absurd (no_rest rest ls k (sym b ∙ c))
-one_back (further rest b ls) (at_end p n c) h k same = absurd cc
-one_back (further rest b ls) (at_dot p n c) h k same = absurd (no_rest rest ls h (sym c ∙ b))
-one_back {b = others} {n = n} (further rest b ls) (further rest' c ks) h k same =
-    let e : rest' ≡ rest = cc in
-    same rest ls (subst (λ (u : List ℕ). LabelsText others n u) e ks)
+one_back at_end at_end h k same = (refl, refl)
+one_back at_dot at_dot h k same = (refl, refl)
+one_back at_dot (further ls) h k same = absurd (labels_no_end ls k tt)
+one_back (further ls) at_dot h k same = absurd (labels_no_end ls h tt)
+one_back (further {rest} ls) (further ks) h k same = same rest ls ks
 
 -- a text is that of one list of labels, with one mark
 one_labels : (more : ℕ) {a b : List (List ℕ)} {m n : Bool} {s : List ℕ} → length a ≤ more → LabelsText a m s → LabelsText b n s → AreLabels a → AreLabels b
@@ -149,25 +136,20 @@ label_reads [] h = no_octet
 label_reads (c ∷ label) h = octet (printed c) (label_text label) (printed_text c (head_octet c label h))
     (label_reads label (All-tail (λ (x : ℕ). x < 256) c label h)) refl
 
-relative_reads : (label : List ℕ) (labels : List (List ℕ)) → All AreOctets (label ∷ labels) → LabelsText (label ∷ labels) false (joined_text (label ∷ labels))
-relative_reads label [] h = rw (append-nil (label_text label)) (last (label_reads label (head_label label [] h)))
-relative_reads label (next ∷ labels) h = joined (label_text label) (joined_text (next ∷ labels)) (label_reads label (head_label label (next ∷ labels) h))
-    (relative_reads next labels (tail_labels label (next ∷ labels) h)) refl
-
-qualified_reads : (label : List ℕ) (labels : List (List ℕ)) → All AreOctets (label ∷ labels)
-    → LabelsText (label ∷ labels) true (joined_text (label ∷ labels) ++ 46 ∷ [])
-qualified_reads label [] h = dotted (label_text label) (label_reads label (head_label label [] h))
+labels_read : (label : List ℕ) (labels : List (List ℕ)) (mark : Bool) → All AreOctets (label ∷ labels)
+    → LabelsText (label ∷ labels) mark (name_text (record { labels = label ∷ labels; fully_qualified = mark }))
+labels_read label [] true h = dotted (label_text label) (label_reads label (head_label label [] h))
     (ap (λ (t : List ℕ). t ++ 46 ∷ []) (append-nil (label_text label)))
-qualified_reads label (next ∷ labels) h = joined (label_text label) (joined_text (next ∷ labels) ++ 46 ∷ [])
-    (label_reads label (head_label label (next ∷ labels) h)) (qualified_reads next labels (tail_labels label (next ∷ labels) h))
-    (append_assoc (label_text label) (46 ∷ joined_text (next ∷ labels)) (46 ∷ []))
+labels_read label [] false h = rw (append-nil (joined_text (label ∷ []))) (rw (append-nil (label_text label)) (last (label_reads label (head_label label [] h))))
+labels_read label (next ∷ labels) mark h = joined (label_text label) (name_text (record { labels = next ∷ labels; fully_qualified = mark }))
+    (label_reads label (head_label label (next ∷ labels) h)) (labels_read next labels mark (tail_labels label (next ∷ labels) h))
+    (append_assoc (label_text label) (46 ∷ joined_text (next ∷ labels)) (if mark then 46 ∷ [] else []))
 
 marked_reads : (labels : List (List ℕ)) (mark : Bool) → All AreOctets labels
     → MarkedText labels mark (name_text (record { labels = labels; fully_qualified = mark }))
 marked_reads [] true h = root
 marked_reads [] false h = nothing
-marked_reads (label ∷ labels) true h = labelled (qualified_reads label labels h)
-marked_reads (label ∷ labels) false h = labelled (rw (append-nil (joined_text (label ∷ labels))) (relative_reads label labels h))
+marked_reads (label ∷ labels) mark h = labelled (labels_read label labels mark h)
 
 -- what is printed of a name is a text of it
 pub name_reads : (x : DomainName) → IsName x → HasOctets x → IsNameText x (name_text x)

@@ -1,7 +1,8 @@
 -- A name's octets and its labels.
 use Rattle.std.proofs.Common.{◌≡◌, ℕ, zero, suc, ◌+◌, ◌≤◌, List, [], ◌∷◌, ◌++◌, length, take, drop, get_or, refl, sym, ◌∙◌, ap, arith, length-append}
-use Rattle.std.proofs.lemmas.List.{take_at, drop_at}
-use Rattle.dns_fields.specs.Labels.{AreLabels, wire, FitsName}
+use Rattle.std.proofs.lemmas.List.{take_at, drop_at, take-append-drop, drop-drop}
+use Rattle.dns_fields.specs.Labels.{IsLabel, AreLabels, wire, FitsName}
+use Rattle.dns_fields.proofs.Runs.{wire-append}
 use Rattle.dns_labels.specs.Labels.{labels_in, labels_of, AreNameOctets}
 
 labels_in-wire : (more : ℕ) (labels : List (List ℕ)) → length (wire labels) ≤ more → labels_in more (wire labels) ≡ labels
@@ -12,6 +13,19 @@ labels_in-wire (suc more) (l ∷ labels) h =
     let t : take (length l) (l ++ wire labels) ≡ l = take_at l (wire labels) (length l) refl in
     let d : drop (length l) (l ++ wire labels) ≡ wire labels = drop_at l (wire labels) (length l) refl in
     rw (t, d) (ap (λ (r : List (List ℕ)). l ∷ r) (labels_in-wire more labels (omega (arith, length-append l (wire labels)))))
+
+-- what stands at a place, and what is behind it
+pub cut_off : (message : List ℕ) (place n : ℕ) {part : List ℕ} → take n (drop place message) ≡ part → drop place message ≡ part ++ drop (place + n) message
+cut_off message place n {part} e = sym (take-append-drop n (drop place message)) ∙ ap (λ (x : List ℕ). x ++ drop n (drop place message)) e
+    ∙ ap (λ (x : List ℕ). part ++ x) (drop-drop n place message)
+
+-- octets of labels in two parts
+pub wire_length : {labels : List (List ℕ)} (front rest : List (List ℕ)) → labels ≡ front ++ rest → length (wire labels) ≡ length (wire front) + length (wire rest)
+wire_length front rest e = ap (λ (x : List (List ℕ)). length (wire x)) e ∙ ap length (wire-append front rest) ∙ length-append (wire front) (wire rest)
+
+pub second_is : (front : List (List ℕ)) (label : List ℕ) (others : List (List ℕ)) → AreLabels (front ++ (label ∷ others)) → IsLabel label
+second_is [] label others h = h.0
+second_is (l ∷ front) label others h = second_is front label others h.1
 
 pub labels_of-wire : (labels : List (List ℕ)) → labels_of (wire labels) ≡ labels
 labels_of-wire labels = labels_in-wire (length (wire labels)) labels (omega arith)

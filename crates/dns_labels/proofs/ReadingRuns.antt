@@ -1,6 +1,6 @@
 -- One run after another makes a name.
 use Rattle.std.proofs.Common.{◌≡◌, ℕ, ◌+◌, ◌-◌, ◌/◌, ◌%◌, ◌<◌, ◌≤◌, List, [], ◌∷◌, ◌++◌, length, take, drop, get_or, Option, Some, None}
-use Rattle.std.proofs.Common.{refl, sym, ◌∙◌, ap, subst, append_assoc, arith, length-append}
+use Rattle.std.proofs.Common.{refl, sym, ◌∙◌, ap, subst, append_assoc, arith, length-take}
 use Rattle.std.proofs.lemmas.List.{append-nil}
 use Rattle.std.proofs.Math.Seq.{take-append_seam}
 use Rattle.dns_fields.specs.Labels.{wire, FitsName}
@@ -9,6 +9,7 @@ use Rattle.dns_fields.specs.Names.LabelsStand.{whole, pointed}
 use Rattle.dns_labels.specs.Reading.{IsRun, AddsRun, IsNameAt}
 use Rattle.dns_fields.proofs.Runs.{same_run, wire-append}
 use Rattle.dns_fields.proofs.Unique.{zero_stop, pointer_stop, same_target}
+use Rattle.dns_labels.proofs.Octets.{wire_length}
 use Rattle.dns_labels.proofs.ReadingSteps.{SoFar, at_zero}
 
 -- these labels stand from where the run that began at this place leads
@@ -80,79 +81,64 @@ pub record Pending (message : List ℕ) (start end : ℕ) (window : List ℕ) (p
   pub sound : (rest : List (List ℕ)) → RestStands window place next rest → LabelsStand message start (front ++ rest) end
   pub complete : (labels : List (List ℕ)) (e : ℕ) → LabelsStand message start labels e → Parts labels front window place next
 
-pub first_run : (message : List ℕ) (start end : ℕ) (stop : Option ℕ) (old octets : List ℕ) → old ≡ [] → start ≤ length message → length octets ≤ 254
+pub first_run : {message : List ℕ} {start end : ℕ} {stop : Option ℕ} {old octets : List ℕ} → old ≡ [] → start ≤ length message → length octets ≤ 254
     → AddsRun message start stop end old octets → Pending message start end message start stop octets
-first_run message start end stop old octets none within room a =
-    record {
-      front = a.front;
-      same = a.octets ∙ ap (λ (t : List ℕ). t ++ wire a.front) none;
-      room = room;
-      within = within;
-      sound = λ rest s. run_stands stop rest a.run s;
-      complete = λ labels e s. stands_run stop a.run s;
-    }
+first_run {stop} none within room a = record {
+  front = a.front;
+  same = a.octets ∙ ap (λ (t : List ℕ). t ++ wire a.front) none;
+  room = room;
+  within = within;
+  sound = λ rest s. run_stands stop rest a.run s;
+  complete = λ labels e s. stands_run stop a.run s;
+}
 
-pub next_run : (message : List ℕ) (start end : ℕ) (window : List ℕ) (place target : ℕ) (old new : List ℕ) (stop : Option ℕ) (end' : ℕ)
-    → Pending message start end window place (Some target) old → target < place → length new ≤ 254 → AddsRun (take place window) target stop end' old new
-    → target ≤ length (take place window) → Pending message start end (take place window) target stop new
-next_run message start end window place target old new stop end' p before room a within =
-    let joined = append_assoc p.front a.front in
-    record {
-      front = p.front ++ a.front;
-      same = a.octets ∙ ap (λ (t : List ℕ). t ++ wire a.front) p.same ∙ sym (wire-append p.front a.front);
-      room = room;
-      within = within;
-      sound = λ rest s. subst (λ (x : List (List ℕ)). LabelsStand message start x end) (sym (append_assoc p.front a.front rest))
-          (p.sound (a.front ++ rest) (end', before, run_stands stop rest a.run s));
-      complete = λ labels e s.
-          let outer = p.complete labels e s in
-          let inner = stands_run stop a.run outer.stands.2 in
-          record {
-            rest = inner.rest;
-            joined = outer.joined ∙ ap (λ (x : List (List ℕ)). p.front ++ x) inner.joined
-                ∙ sym (append_assoc p.front a.front inner.rest);
-            stands = inner.stands;
-          };
-    }
+module _ {message : List ℕ} {start end : ℕ} {window : List ℕ} {place target : ℕ} {octets : List ℕ} (p : Pending message start end window place (Some target) octets) where
+  pub next_run : {new : List ℕ} {stop : Option ℕ} {end' : ℕ} → target < place → length new ≤ 254
+      → AddsRun (take place window) target stop end' octets new → Pending message start end (take place window) target stop new
+  next_run {new} {stop} {end'} before room a = record {
+    front = p.front ++ a.front;
+    same = a.octets ∙ ap (λ (t : List ℕ). t ++ wire a.front) p.same ∙ sym (wire-append p.front a.front);
+    room = room;
+    within = omega (arith, length-take place window, p.within);
+    sound = λ rest s. subst (λ (x : List (List ℕ)). LabelsStand message start x end) (sym (append_assoc p.front a.front rest))
+        (p.sound (a.front ++ rest) (end', before, run_stands stop rest a.run s));
+    complete = λ labels e s.
+        let outer = p.complete labels e s in
+        let inner = stands_run stop a.run outer.stands.2 in
+        record {
+          rest = inner.rest;
+          joined = outer.joined ∙ ap (λ (x : List (List ℕ)). p.front ++ x) inner.joined ∙ sym (append_assoc p.front a.front inner.rest);
+          stands = inner.stands;
+        };
+  }
 
-pub no_more : (message : List ℕ) (start end : ℕ) (window : List ℕ) (place : ℕ) (octets : List ℕ) → Pending message start end window place None octets
-    → IsNameAt message start octets end
-no_more message start end window place octets p =
-    record {
-      labels = p.front;
-      stands = subst (λ (x : List (List ℕ)). LabelsStand message start x end) (append-nil p.front) (p.sound [] refl);
-      fits = omega (arith, p.room, ap length p.same);
-      same = p.same;
-    }
+  -- no pointer leads forward
+  pub not_before : place ≤ target → (labels : List (List ℕ)) (e : ℕ) → LabelsStand message start labels e → FitsName labels → ⊥
+  not_before h labels e s fits = let k = (p.complete labels e s).stands in omega (arith, k.1)
 
--- no pointer leads forward
-pub not_before : (message : List ℕ) (start end : ℕ) (window : List ℕ) (place target : ℕ) (octets : List ℕ)
-    → Pending message start end window place (Some target) octets → place ≤ target → (labels : List (List ℕ)) (e : ℕ) → LabelsStand message start labels e → ⊥
-not_before message start end window place target octets p h labels e s = let k = (p.complete labels e s).stands in omega (arith, k.1)
+  -- where no run can be read, no name stands
+  pub next_refused : ((front : List (List ℕ)) (stop : Option ℕ) (e : ℕ) → IsRun (take place window) target front stop e
+      → length octets + length (wire front) ≤ 254 → ⊥) → (labels : List (List ℕ)) (e : ℕ) → LabelsStand message start labels e → FitsName labels → ⊥
+  next_refused none labels e s fits =
+      let k = p.complete labels e s in
+      let r = has_run k.stands.2 in
+      none r.front r.stop r.end r.run (omega (arith, fits, ap length p.same, wire_length p.front k.rest k.joined, wire_length r.front r.rest r.joined))
 
--- where no run can be read, no name stands
-pub first_refused : (message : List ℕ) (start : ℕ) (old : List ℕ) → old ≡ []
+pub first_refused : {message : List ℕ} {start : ℕ} {old : List ℕ} → old ≡ []
     → ((front : List (List ℕ)) (stop : Option ℕ) (end : ℕ) → IsRun message start front stop end → length old + length (wire front) ≤ 254 → ⊥)
     → (labels : List (List ℕ)) (e : ℕ) → LabelsStand message start labels e → FitsName labels → ⊥
-first_refused message start old empty none labels e s fits =
+first_refused empty none labels e s fits =
     let r = has_run s in
-    let n : length (wire labels) ≡ length (wire r.front) + length (wire r.rest) = ap (λ (x : List (List ℕ)). length (wire x)) r.joined
-    ∙ ap length (wire-append r.front r.rest) ∙ length-append (wire r.front) (wire r.rest) in
-    none r.front r.stop r.end r.run (omega (arith, ap length empty))
+    none r.front r.stop r.end r.run (omega (arith, fits, ap length empty, wire_length r.front r.rest r.joined))
 
-pub next_refused : (message : List ℕ) (start end : ℕ) (window : List ℕ) (place target : ℕ) (octets : List ℕ)
-    → Pending message start end window place (Some target) octets
-    → ((front : List (List ℕ)) (stop : Option ℕ) (end : ℕ) → IsRun (take place window) target front stop end → length octets + length (wire front) ≤ 254
-    → ⊥) → (labels : List (List ℕ)) (e : ℕ) → LabelsStand message start labels e → FitsName labels → ⊥
-next_refused message start end window place target octets p none labels e s fits =
-    let k = p.complete labels e s in
-    let r = has_run k.stands.2 in
-    let n : length (wire labels) ≡ length (wire p.front) + length (wire k.rest) = ap (λ (x : List (List ℕ)). length (wire x)) k.joined
-    ∙ ap length (wire-append p.front k.rest) ∙ length-append (wire p.front) (wire k.rest) in
-    let m : length (wire k.rest) ≡ length (wire r.front) + length (wire r.rest) = ap (λ (x : List (List ℕ)). length (wire x)) r.joined
-    ∙ ap length (wire-append r.front r.rest) ∙ length-append (wire r.front) (wire r.rest) in
-    let o : length octets ≡ length (wire p.front) = ap length p.same in
-    none r.front r.stop r.end r.run (omega arith)
+pub no_more : {message : List ℕ} {start end : ℕ} {window : List ℕ} {place : ℕ} {octets : List ℕ} → Pending message start end window place None octets
+    → IsNameAt message start octets end
+no_more {message} {start} {end} p = record {
+  labels = p.front;
+  stands = subst (λ (x : List (List ℕ)). LabelsStand message start x end) (append-nil p.front) (p.sound [] refl);
+  fits = omega (arith, p.room, ap length p.same);
+  same = p.same;
+}
 
 -- the octets of labels that were read up to an octet 0 stand there whole, and are a name
 pub plain_length : {message : List ℕ} {start at : ℕ} {octets : List ℕ} → SoFar message start at [] octets → at ≡ start + length octets
@@ -167,6 +153,5 @@ pub plain_name : {message : List ℕ} {start at : ℕ} {octets : List ℕ} → S
     → at < length message
     → IsNameAt message start (take (at - start) (drop start message)) (start + length (take (at - start) (drop start message)) + 1)
 plain_name {message} {start} {at} {octets} s within zero room =
-    let found = no_more message start (at + 1) message start octets
-    (first_run message start (at + 1) None [] octets refl within s.room (at_zero message start at [] octets s zero room)) in
+    let found = no_more (first_run refl within s.room (at_zero s zero room)) in
     rw (plain_part s) (subst (λ (e : ℕ). IsNameAt message start octets e) (omega (arith, plain_length s)) found)

@@ -11,9 +11,8 @@ read_plain (c ∷ s) h g a b = plain g a b
 
 pub read_quoted : (s : List ℕ) → 2 ≤ length s → get_or s 0 0 ≡ 92 → IsGraphic (get_or s 1 0) → (48 ≤ get_or s 1 0 → 57 < get_or s 1 0)
     → OctetText (get_or s 1 0) (take 2 s)
-read_quoted [] h e g a = absurd (omega arith)
-read_quoted (c ∷ []) h e g a = absurd (omega arith)
 read_quoted (c ∷ d ∷ s) h e g a = rw e (quoted g a)
+read_quoted s h e g a = absurd (omega arith)
 
 digit : (d : ℕ) → 48 ≤ d → 48 + (d - 48) ≡ d
 digit d h = omega arith
@@ -29,27 +28,16 @@ decimal_of n h t o dh dt do' e low =
 
 pub read_decimal : (s : List ℕ) (n : ℕ) → 4 ≤ length s → get_or s 0 0 ≡ 92 → IsDigit (get_or s 1 0) → IsDigit (get_or s 2 0) → IsDigit (get_or s 3 0)
     → n ≡ (get_or s 1 0 - 48) * 100 + (get_or s 2 0 - 48) * 10 + (get_or s 3 0 - 48) → n < 256 → OctetText n (take 4 s)
-read_decimal [] n l e a b d v low = absurd (omega arith)
-read_decimal (w ∷ []) n l e a b d v low = absurd (omega arith)
-read_decimal (w ∷ x ∷ []) n l e a b d v low = absurd (omega arith)
-read_decimal (w ∷ x ∷ y ∷ []) n l e a b d v low = absurd (omega arith)
 read_decimal (w ∷ x ∷ y ∷ z ∷ s) n l e a b d v low = rw e (decimal_of n x y z a b d v low)
+read_decimal s n l e a b d v low = absurd (omega arith)
 
 -- by which of the two tests passed
-by_tests : (c : ℕ) (p q : Bool) → c < 256 → (p ≡ true → (33 ≤ c) × (c ≤ 126) × (48 ≤ c → 57 < c)) → (p ≡ false → (c ≢ 46) × (c ≢ 92))
-    → (q ≡ true → (33 ≤ c) × (c ≤ 126)) → OctetText c (cond p (92 ∷ c ∷ []) (cond q (c ∷ []) (92 ∷ (48 + c / 100) ∷ (48 + c / 10 % 10) ∷ (48 + c % 10) ∷ [])))
-by_tests c true q low is isnt graphic = quoted ((is refl).0, (is refl).1) (is refl).2
-by_tests c false true low is isnt graphic = plain (graphic refl) (isnt refl).0 (isnt refl).1
-by_tests c false false low is isnt graphic = decimal (c / 100) (c / 10 % 10) (c % 10) (omega arith) (omega arith) (omega arith) (omega arith) low
-
-quoted_ones : (c : ℕ) → (c == 46 || c == 92) ≡ true → (33 ≤ c) × (c ≤ 126) × (48 ≤ c → 57 < c)
-quoted_ones c h = (grind (arith, nat_tests), grind (arith, nat_tests), λ k. grind (arith, nat_tests))
-
-other_ones : (c : ℕ) → (c == 46 || c == 92) ≡ false → (c ≢ 46) × (c ≢ 92)
-other_ones c h = (λ e. grind (arith, nat_tests), λ e. grind (arith, nat_tests))
-
-graphic_ones : (c : ℕ) → (nat_le 33 c && nat_le c 126) ≡ true → (33 ≤ c) × (c ≤ 126)
-graphic_ones c h = (grind (arith, nat_tests), grind (arith, nat_tests))
+by_tests : (c : ℕ) (p q : Bool) → (c == 46 || c == 92) ≡ p → (nat_le 33 c && nat_le c 126) ≡ q → c < 256
+    → OctetText c (cond p (92 ∷ c ∷ []) (cond q (c ∷ []) (92 ∷ (48 + c / 100) ∷ (48 + c / 10 % 10) ∷ (48 + c % 10) ∷ [])))
+by_tests c true q e f low = quoted (grind (arith, nat_tests), grind (arith, nat_tests)) (λ k. grind (arith, nat_tests))
+by_tests c false true e f low =
+    plain (grind (arith, nat_tests), grind (arith, nat_tests)) (λ k. grind (arith, nat_tests)) (λ k. grind (arith, nat_tests))
+by_tests c false false e f low = decimal (c / 100) (c / 10 % 10) (c % 10) (omega arith) (omega arith) (omega arith) (omega arith) low
 
 pub printed_text : (c : ℕ) → c < 256 → OctetText c (printed c)
-printed_text c low = by_tests c (c == 46 || c == 92) (nat_le 33 c && nat_le c 126) low (quoted_ones c) (other_ones c) (graphic_ones c)
+printed_text c low = by_tests c (c == 46 || c == 92) (nat_le 33 c && nat_le c 126) refl refl low

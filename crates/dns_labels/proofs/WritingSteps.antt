@@ -24,34 +24,37 @@ pub record Matched (message : List ℕ) (place : ℕ) (window : List ℕ) (begin
   pub leads : (rest : List (List ℕ)) (end : ℕ) → LabelsStand window begin rest end → (e : ℕ) × LabelsStand message place (front ++ rest) e
 
 -- octets that stand in the message and in the name are one label more
-pub one_matched : (message : List ℕ) (place at taken : ℕ) (octets a b : List ℕ) → SoFar message place at [] (take taken octets) × (taken ≤ length octets)
+pub one_matched : {message : List ℕ} {place at : ℕ} {a b : List ℕ} (taken : ℕ) (octets : List ℕ) → SoFar message place at [] (take taken octets) × (taken ≤ length octets)
     → 1 ≤ get_or message at 0 → get_or message at 0 ≤ 63 → at + get_or message at 0 + 1 ≤ length message → taken + get_or message at 0 + 1 ≤ length octets
     → length octets ≤ 254 → a ≡ take (get_or message at 0 + 1) (drop at message) → b ≡ take (get_or message at 0 + 1) (drop taken octets)
     → a ≡ b → SoFar message place (at + (get_or message at 0 + 1)) [] (take (taken + (get_or message at 0 + 1)) octets)
     × (taken + (get_or message at 0 + 1) ≤ length octets)
-one_matched message place at taken octets a b s low high room fits short a_is b_is same =
+one_matched {message} {at} taken octets s low high room fits short a_is b_is same =
     let n = get_or message at 0 in
-    let t : take (taken + (n + 1)) octets ≡ take taken octets ++ a = take-add taken (n + 1) octets
+    let t : take (taken + (n + 1)) octets ≡ take taken octets ++ _ = take-add taken (n + 1) octets
     ∙ ap (λ (x : List ℕ). take taken octets ++ x) (sym b_is ∙ sym same) in
     let len : length (take taken octets) ≡ taken = length-take taken octets ∙ omega arith in
-    (rw t (one_more message place at [] (take taken octets) a s.0 low high room (omega arith) a_is), omega arith)
+    (rw t (one_more s.0 low high room (omega arith) a_is), omega arith)
 
 -- a run of the name's next labels
 abbrev pub IsNextRun : List ℕ → ℕ → List ℕ → ℕ → Option ℕ → ℕ → Type 0
 IsNextRun window begin octets matched stop taken = (end : ℕ) × AddsRun window begin stop end [] (take taken (drop matched octets))
     × (taken ≤ length (drop matched octets))
 
-pub next_matched : (message : List ℕ) (place : ℕ) (window : List ℕ) (begin : ℕ) (octets : List ℕ) (matched taken : ℕ) (stop : Option ℕ) (target : ℕ)
-    → stop ≡ Some target → Matched message place window begin octets matched → IsNextRun window begin octets matched stop taken → target < begin
+both_parts : {message : List ℕ} {place : ℕ} {window : List ℕ} {begin : ℕ} {octets : List ℕ} {matched taken : ℕ} {stop : Option ℕ}
+    (m : Matched message place window begin octets matched) (r : IsNextRun window begin octets matched stop taken)
+    → take (matched + taken) octets ≡ wire (m.front ++ r.1.front)
+both_parts {octets} {matched} {taken} m r = take-add matched taken octets ∙ ap (λ (x : List ℕ). take matched octets ++ x) r.1.octets
+    ∙ ap (λ (x : List ℕ). x ++ wire r.1.front) m.same ∙ sym (wire-append m.front r.1.front)
+
+pub next_matched : {message : List ℕ} {place : ℕ} {window : List ℕ} {begin : ℕ} {octets : List ℕ} {matched taken target : ℕ}
+    → Matched message place window begin octets matched → IsNextRun window begin octets matched (Some target) taken → target < begin
     → Matched message place (take begin window) target octets (matched + taken)
-next_matched message place window begin octets matched taken stop target is m run before =
-    let r = subst (λ (s : Option ℕ). IsNextRun window begin octets matched s taken) is run in
+next_matched {message} {place} {window} {begin} {octets} {matched} {taken} {target} m r before =
     let f = r.1.front in
-    let t : take (matched + taken) octets ≡ wire m.front ++ wire f = take-add matched taken octets
-    ∙ ap (λ (x : List ℕ). take matched octets ++ x) r.1.octets ∙ ap (λ (x : List ℕ). x ++ wire f) m.same in
     record {
       front = m.front ++ f;
-      same = t ∙ sym (wire-append m.front f);
+      same = both_parts m r;
       within = omega (arith, r.2, m.within, length-drop matched octets);
       begins = omega (arith, length-take begin window, m.begins);
       leads = λ rest end s.
@@ -59,23 +62,15 @@ next_matched message place window begin octets matched taken stop target is m ru
           (k.0, subst (λ (x : List (List ℕ)). LabelsStand message place x k.0) (sym (append_assoc m.front f rest)) k.1);
     }
 
-all_matched : (message : List ℕ) (place : ℕ) (window : List ℕ) (begin : ℕ) (octets : List ℕ) (matched taken : ℕ) (stop : Option ℕ) → stop ≡ None
-    → Matched message place window begin octets matched → IsNextRun window begin octets matched stop taken → matched + taken ≡ length octets
-    → StandsFor message place octets
-all_matched message place window begin octets matched taken stop is m run whole =
-    let r = subst (λ (s : Option ℕ). IsNextRun window begin octets matched s taken) is run in
+pub is_matched : {message : List ℕ} {place : ℕ} {window : List ℕ} {begin : ℕ} {octets : List ℕ} {matched taken : ℕ}
+    → Matched message place window begin octets matched → IsNextRun window begin octets matched None taken
+    → OnTrue (nat_eq (matched + taken) (length octets)) (StandsFor message place octets)
+is_matched {message} {place} {window} {begin} {octets} {matched} {taken} m r =
+    OnTrue_from (nat_eq (matched + taken) (length octets)) (StandsFor message place octets) (λ h.
     let f = r.1.front in
-    let t : take (matched + taken) octets ≡ wire m.front ++ wire f = take-add matched taken octets
-    ∙ ap (λ (x : List ℕ). take matched octets ++ x) r.1.octets ∙ ap (λ (x : List ℕ). x ++ wire f) m.same in
+    let whole : matched + taken ≡ length octets = eqb-true (matched + taken) (length octets) h in
     let all : take (matched + taken) octets ≡ octets = take_all (matched + taken) octets (omega arith) in
     let last : LabelsStand window begin f r.0 = subst (λ (x : List (List ℕ)). LabelsStand window begin x r.0) (append-nil f)
     (run_stands None [] r.1.run refl) in
     let k = m.leads f r.0 last in
-    record { labels = m.front ++ f; end = k.0; stands = k.1; same = sym all ∙ t ∙ sym (wire-append m.front f) }
-
-pub is_matched : (message : List ℕ) (place : ℕ) (window : List ℕ) (begin : ℕ) (octets : List ℕ) (matched taken : ℕ) (stop : Option ℕ) → stop ≡ None
-    → Matched message place window begin octets matched → IsNextRun window begin octets matched stop taken
-    → OnTrue (nat_eq (matched + taken) (length octets)) (StandsFor message place octets)
-is_matched message place window begin octets matched taken stop is m run =
-    OnTrue_from (nat_eq (matched + taken) (length octets)) (StandsFor message place octets)
-    (λ h. all_matched message place window begin octets matched taken stop is m run (eqb-true (matched + taken) (length octets) h))
+    record { labels = m.front ++ f; end = k.0; stands = k.1; same = sym all ∙ both_parts m r })

@@ -1,5 +1,5 @@
 -- What the emission of a name writes.
-use Rattle.std.specs.Prelude.{◌≡◌, ℕ, ◌+◌, ◌<◌, ◌≤◌, List, [], ◌++◌, length, take, drop, Option, Some, None}
+use Rattle.std.specs.Prelude.{◌≡◌, ℕ, ◌<◌, ◌≤◌, List, [], length, take, drop, Option, Some, None}
 use Rattle.dns_fields.specs.Labels.{AreLabels, wire}
 use Rattle.dns_fields.specs.Names.{LabelsStand}
 
@@ -9,13 +9,6 @@ pub record StandsFor (message : List ℕ) (place : ℕ) (octets : List ℕ) : Ty
   pub end : ℕ
   pub stands : LabelsStand message place labels end
   pub same : octets ≡ wire labels
-
--- Octets were added, no more than the labels' and one, and the labels stand there.
-pub record AddsName (old new : List ℕ) (labels : List (List ℕ)) : Type 0 where
-  pub added : List ℕ
-  pub behind : new ≡ old ++ added
-  pub bounded : length added ≤ length (wire labels) + 1
-  pub stands : LabelsStand new (length old) labels (length new)
 
 -- no labels are left, or they stand from that place already
 abbrev pub LeadsTo : List ℕ → Option ℕ → List (List ℕ) → Type 0
@@ -33,12 +26,6 @@ pub record CutAt (octets : List ℕ) (cut : ℕ) : Type 0 where
   pub within : cut ≤ length octets
 
 -- a name's octets in two parts, of which the second need not be written
-pub record IsNameCut (message octets : List ℕ) (cut : ℕ) (target : Option ℕ) : Type 0 where
-  pub front : List (List ℕ)
-  pub rest : List (List ℕ)
-  pub are_front : AreLabels front
-  pub are_rest : AreLabels rest
-  pub front_is : take cut octets ≡ wire front
-  pub rest_is : drop cut octets ≡ wire rest
-  pub within : cut ≤ length octets
-  pub leads : LeadsTo message target rest
+pub record IsNameCut (message octets : List ℕ) (at : ℕ) (target : Option ℕ) : Type 0 where
+  pub cut : CutAt octets at
+  pub leads : LeadsTo message target cut.rest

@@ -25,6 +25,7 @@ impl<'a> Model for LabelIter<'a> {
 
 impl<'a> LabelIter<'a> {
     /// The labels of a name's octets.
+    #[tactic(auto, using(crate::proofs::Octets::count_labels))]
     pub fn new(octets: &'a [u8]) -> Self
         requires { AreNameOctets octets.now }
         ensures labels { result ≡ labels_of octets.now }

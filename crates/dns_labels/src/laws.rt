@@ -8,6 +8,7 @@ ghost use Rattle.dns_fields.specs.Names.{IsNameIn, NameWrote};
 ghost use Rattle.dns_labels.specs.Text.{IsNameText, HasOctets, name_text};
 
 /// Names that stand in messages, that were written, and that are compared.
+#[tactic(auto, using(crate::proofs::Wrote::name_laws))]
 pub fn names_hold()
     // from one place stands at most one name, and it has one end
     ensures one { (m : List ℕ) (p : ℕ) (x y : DomainName) (e f : ℕ) →
@@ -27,6 +28,7 @@ pub fn names_hold()
 {}
 
 /// A text is that of one name, and what is printed of a name is a text of it.
+#[tactic(auto, using(crate::proofs::NameTexts::one_name, crate::proofs::NameTexts::name_reads))]
 pub fn texts_hold()
     ensures one { (text : List ℕ) (x y : DomainName) → IsNameText x text → IsNameText y text → x ≡ y }
     ensures printed { (x : DomainName) → IsName x → HasOctets x → IsNameText x (name_text x) }

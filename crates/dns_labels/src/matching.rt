@@ -111,6 +111,7 @@ pub(crate) fn stands_in_two(message: &[u8], place: usize, octets: &[u8], front: 
 
 /// Whether a label ends where so many of the octets, which are labels, are in front.
 #[inline]
+#[tactic(auto, using(crate::proofs::CutSteps::cut_start, crate::proofs::CutSteps::cut_more))]
 fn is_cut(octets: &[u8], front: usize) -> bool
     requires within { front ≤ length octets.now }
     requires short { length octets.now ≤ 254 }

@@ -12,7 +12,7 @@ use smallvec::SmallVec;
 use std::alloc::{AllocError, Global};
 
 // The weights of a hash: odd numbers without a pattern, one for each eight octets from the end of a name.
-const WEIGHTS: [u64; 64] = [
+const WEIGHTS: [u64; 32] = [
     0x2cb0_f69f_4abe_a221,
     0x9417_0347_2314_8989,
     0xdd55_5950_609d_fe03,
@@ -45,38 +45,6 @@ const WEIGHTS: [u64; 64] = [
     0x4c75_bc27_4e37_087d,
     0xd35e_12b4_9f51_f27b,
     0x22dd_f2ff_cee4_81eb,
-    0x0600_7fb1_3c59_a1f1,
-    0x8966_a38c_651e_a4db,
-    0x2524_2f01_8fc0_1ac7,
-    0xa73e_c74f_a31b_717d,
-    0x7ee0_abdd_9797_d3a3,
-    0x5c06_ff7d_c4ac_1881,
-    0x8434_e410_42c2_8a7d,
-    0x770a_372d_6432_7351,
-    0xeed9_40da_d9e9_c06d,
-    0x8977_e936_4652_4825,
-    0xa989_7f0a_62a5_1617,
-    0xa35d_4250_c53f_2b3b,
-    0x4072_542a_94b9_c33f,
-    0x3154_a7a6_2447_e8ab,
-    0x6868_6571_2a1a_245f,
-    0x0fba_6772_7d7b_3b99,
-    0x0634_e202_4536_912f,
-    0xd9ff_52a2_6cf9_881b,
-    0x9435_dc03_99f9_32db,
-    0x18d3_9fc1_af93_e7f1,
-    0x12f7_147c_1e7f_46ab,
-    0xdedf_6678_3edd_b4a1,
-    0x6f75_4806_1455_4799,
-    0xe40e_95e8_ef84_bde3,
-    0xbb41_fe60_1fef_b567,
-    0x5c37_02e4_c7bf_19f1,
-    0x8c7d_1d0d_3d4a_8ec5,
-    0xee77_9996_ba62_dccb,
-    0x80cc_b15b_f530_844b,
-    0xdf56_e7dc_4d57_959d,
-    0x9eb8_6a81_fe90_b68f,
-    0x6a25_741f_a696_fbd3,
 ];
 
 /// A pointer has 14 bits for a place (RFC 1035, 4.1.4).
@@ -123,7 +91,7 @@ fn eights_hash(name: &[u8], first: usize, last: usize) -> u64
     let mut hash = 0u64;
     for count in first..last {
         let at = name.len() - 8 * count - 8;
-        let weight = WEIGHTS[count % 64];
+        let weight = WEIGHTS[count % 32];
         hash = hash.wrapping_add(weight.wrapping_mul(LittleEndian::read_u64(&name[at..at + 8])));
     }
     hash
@@ -138,7 +106,7 @@ fn front_hash(name: &[u8], at: usize) -> u64
     if len % 8 == 0 {
         return 0;
     }
-    WEIGHTS[len / 8 % 64].wrapping_mul(word_at(name, at, len % 8))
+    WEIGHTS[len / 8 % 32].wrapping_mul(word_at(name, at, len % 8))
 }
 
 /// Up to eight octets from a place on as a number, the first one lowest.
@@ -368,6 +336,7 @@ impl Places {
 
     /// Where the longest tail of a name begins that stands in the message already, and its place.
     #[inline]
+    #[tactic(auto, using(crate::proofs::CutSteps::cut_whole, crate::proofs::CutSteps::whole_found))]
     pub(crate) fn longest_tail(
         &mut self,
         message: &[u8],

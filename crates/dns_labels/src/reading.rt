@@ -62,6 +62,7 @@ fn read_run(message: &[u8], place: usize, octets: &mut NameBuffer) -> Option<Run
 }
 
 /// Reads the octets of a name, and answers where it ends.
+#[tactic(auto, using(crate::proofs::ReadingRuns::first_run, crate::proofs::ReadingRuns::next_run, crate::proofs::ReadingRuns::not_before))]
 fn read_runs(message: &[u8], start: usize, octets: &mut NameBuffer) -> Option<usize>
     requires start { start ≤ length message.now }
     requires empty { octets.old ≡ [] }
@@ -117,6 +118,7 @@ fn plain_octets(message: &[u8], start: usize) -> Option<&[u8]>
 /// what is before this part (RFC 1035, 4.1.4). With the 0 it has at most 255 octets. The error is
 /// [`Invalid`](NameError::Invalid) where no name stands, without a request for memory, and there is one request for a
 /// name.
+#[tactic(auto, using(crate::proofs::Found::octets_found, crate::proofs::Found::name_found))]
 pub fn read_octets(
     alloc: Global,
     message: &[u8],

@@ -28,6 +28,7 @@ const LONG_NAME: &str = "domain name past 255 octets";
 const CHARACTER: &str = "character or escape that no label of a domain name has";
 
 /// The octet whose text begins the text, and that one's length.
+#[tactic(auto, using(crate::proofs::TextSteps::read_plain, crate::proofs::TextSteps::read_quoted, crate::proofs::TextSteps::read_decimal))]
 fn read_octet(text: &[u8]) -> Option<(u8, usize)>
     ensures length { IfSome result (λ r. (1 ≤ r.1) × (r.1 ≤ length text.now)) }
     ensures found { IfSome result (λ r. IsOctetText r.0 (take r.1 text.now)) }
@@ -154,6 +155,7 @@ fn read_name(text: &[u8], octets: &mut NameBuffer) -> Result<bool, &'static str>
 /// and the labels, each with its length octet, and one octet more are at most 255. The error is
 /// [`Invalid`](NameTextError::Invalid) for any other text, with a text that says why, without a request for memory, and
 /// there is one request for a name.
+#[tactic(auto, using(crate::proofs::NameTexts::one_name, crate::proofs::NameTexts::name_reads))]
 pub fn parse_octets(alloc: Global, text: &[u8]) -> Result<(Vec<u8>, bool), NameTextError>
     ensures ok { IfOk result (λ r. IsNameText (name_of r.0.items r.1) text.now) }
     ensures octets { IfOk result (λ r. AreNameOctets r.0.items) }

@@ -33,6 +33,7 @@ struct Cut {
 
 /// Where a name is cut: only `StandardRecord` leaves a tail out. Fails only for want of memory to note the first name.
 #[inline]
+#[tactic(auto, using(crate::proofs::CutSteps::cut_whole))]
 fn cut_for(
     places: &mut Places,
     mode: RDataEncoding,
@@ -43,22 +44,6 @@ fn cut_for(
     ensures cut { IfOk result (λ c. IsNameCut message.now name.now c.written c.target) }
     ensures whole { mode ≢ RDataEncoding.StandardRecord → IfOk result (λ c. (c.written ≡ length name.now) × (c.target ≡ None)) }
 {
-    match mode {
-        RDataEncoding::StandardRecord => cut_at_tail(places, message, name),
-        RDataEncoding::Canonical | RDataEncoding::Other => Ok(Cut {
-            written: name.len(),
-            target: None,
-            note: note_whole(places, message, name)?,
-        }),
-    }
-}
-
-/// Where a name is cut that may leave a tail out.
-#[inline]
-fn cut_at_tail(places: &mut Places, message: &[u8], name: &[u8]) -> Result<Cut, AllocError>
-    requires { AreNameOctets name.now }
-    ensures { IfOk result (λ c. IsNameCut message.now name.now c.written c.target) }
-{
     if places.is_empty() {
         return Ok(Cut {
             written: name.len(),
@@ -68,27 +53,28 @@ fn cut_at_tail(places: &mut Places, message: &[u8], name: &[u8]) -> Result<Cut, 
     }
     places.note_deferred(message)?;
     let hash = name_hash(name);
-    let (written, target) = places.longest_tail(message, name, hash);
-    Ok(Cut {
-        written,
-        target,
-        note: Note::Hash(hash),
-    })
-}
-
-/// How a name is noted that is written whole.
-fn note_whole(places: &mut Places, message: &[u8], name: &[u8]) -> Result<Note, AllocError>
-    requires { AreNameOctets name.now }
-{
-    if places.is_empty() {
-        return Ok(Note::First);
+    match mode {
+        RDataEncoding::StandardRecord => {
+            let (written, target) = places.longest_tail(message, name, hash);
+            Ok(Cut {
+                written,
+                target,
+                note: Note::Hash(hash),
+            })
+        }
+        RDataEncoding::Canonical | RDataEncoding::Other => {
+            let note = if places.stands(message, name, hash) {
+                Note::Nothing
+            } else {
+                Note::Hash(hash)
+            };
+            Ok(Cut {
+                written: name.len(),
+                target: None,
+                note,
+            })
+        }
     }
-    places.note_deferred(message)?;
-    let hash = name_hash(name);
-    if places.stands(message, name, hash) {
-        return Ok(Note::Nothing);
-    }
-    Ok(Note::Hash(hash))
 }
 
 /// How many octets end labels: one, or a pointer's two.
@@ -164,44 +150,24 @@ fn write_again(
     ensures full { result ≡ Err WriteError.Buffer → limit < length out.old.items + (length name.now + 1) }
 {
     match mode {
-        RDataEncoding::StandardRecord => write_pointer(out, limit, place),
-        RDataEncoding::Canonical | RDataEncoding::Other => write_whole(out, limit, name),
+        RDataEncoding::StandardRecord => {
+            if out.len() + 2 > limit {
+                return Err(WriteError::Buffer);
+            }
+            out.extend_from_slice(&[(192 + place / 256) as u8, (place % 256) as u8])?;
+            Ok(())
+        }
+        RDataEncoding::Canonical | RDataEncoding::Other => {
+            let len = name.len() + 1;
+            if out.len() + len > limit {
+                return Err(WriteError::Buffer);
+            }
+            out.reserve(len)?;
+            out.extend_from_slice(name)?;
+            out.extend_from_slice(&[0])?;
+            Ok(())
+        }
     }
-}
-
-/// Appends the two octets that point to a place.
-#[inline]
-fn write_pointer(out: &mut Vec<u8>, limit: usize, place: usize) -> Result<(), WriteError>
-    requires { place < 16384 }
-    ensures ok { OnOk result (out.new.items ≡ out.old.items ++ pointer place) }
-    ensures within { OnOk result (length out.new.items ≤ limit) }
-    ensures err { OnErr result (out.new.items ≡ out.old.items) }
-    ensures full { result ≡ Err WriteError.Buffer → limit < length out.old.items + 2 }
-{
-    if out.len() + 2 > limit {
-        return Err(WriteError::Buffer);
-    }
-    out.extend_from_slice(&[(192 + place / 256) as u8, (place % 256) as u8])?;
-    Ok(())
-}
-
-/// Appends a name's labels and the 0 behind them.
-#[inline]
-fn write_whole(out: &mut Vec<u8>, limit: usize, name: &[u8]) -> Result<(), WriteError>
-    requires { length name.now ≤ 254 }
-    ensures ok { OnOk result (out.new.items ≡ out.old.items ++ (name.now ++ 0 ∷ [])) }
-    ensures within { OnOk result (length out.new.items ≤ limit) }
-    ensures err { OnErr result (out.new.items ≡ out.old.items) }
-    ensures full { result ≡ Err WriteError.Buffer → limit < length out.old.items + (length name.now + 1) }
-{
-    let len = name.len() + 1;
-    if out.len() + len > limit {
-        return Err(WriteError::Buffer);
-    }
-    out.reserve(len)?;
-    out.extend_from_slice(name)?;
-    out.extend_from_slice(&[0])?;
-    Ok(())
 }
 
 /// The same as `write_name`, of a name that stands at neither of the two places that are looked at first.

@@ -30,18 +30,10 @@ pub by_ends : {X : Type 0} (first last : Bool) (i j : ℕ) (a b : List X) → j 
     → (IsTrue first ↔ (take i a ≡ take i b))
     → (IsTrue last ↔ (take (length a - j) (drop j a) ≡ take (length b - j) (drop j b)))
     → IsTrue (first && last) ↔ (a ≡ b)
-by_ends true true i j a b before front rest = (
-  (λ t. overlap i j a b before (front.0 t) (rest.0 t)),
-  (λ same. rest.1 (ap (λ x. take (length x - j) (drop j x)) same)),
-)
-by_ends true false i j a b before front rest = (
-  (λ t. absurd cc),
-  (λ same. rest.1 (ap (λ x. take (length x - j) (drop j x)) same)),
-)
-by_ends false last i j a b before front rest = (
-  (λ t. absurd cc),
-  (λ same. let t = front.1 (ap (take i) same) in absurd cc),
-)
+by_ends true true i j a b before front rest =
+    (λ t. overlap i j a b before (front.0 t) (rest.0 t), λ same. rest.1 (ap (λ x. take (length x - j) (drop j x)) same))
+by_ends true false i j a b before front rest = (λ t. absurd cc, λ same. rest.1 (ap (λ x. take (length x - j) (drop j x)) same))
+by_ends false last i j a b before front rest = (λ t. absurd cc, λ same. let t = front.1 (ap (take i) same) in absurd cc)
 
 -- lists that are the same up to a place, and in a piece from there, are the same up to its end
 pub further : {X : Type 0} (n m : ℕ) (a b : List X) → n ≤ m → take n a ≡ take n b → take (m - n) (drop n a) ≡ take (m - n) (drop n b) → take m a ≡ take m b

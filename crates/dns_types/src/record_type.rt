@@ -101,54 +101,65 @@ pub enum RecordType {
     Unknown(u16),
 }
 
+// The types that have a name, and their numbers, of which the macros below make a match or a list.
+macro_rules! named_types {
+    ($macro:ident $(, $value:ident)?) => {
+        $macro!(
+            $($value)?
+            (ZERO 0) (A 1) (NS 2) (CNAME 5) (SOA 6) (NULL 10) (PTR 12) (HINFO 13) (MX 15)
+            (TXT 16) (SIG 24) (KEY 25) (AAAA 28) (SRV 33) (NAPTR 35) (CERT 37) (DNAME 39)
+            (OPT 41) (DS 43) (SSHFP 44) (RRSIG 46) (NSEC 47) (DNSKEY 48) (NSEC3 50)
+            (NSEC3PARAM 51) (TLSA 52) (SMIMEA 53) (CDS 59) (CDNSKEY 60) (OPENPGPKEY 61)
+            (CSYNC 62) (SVCB 64) (HTTPS 65) (TSIG 250) (IXFR 251) (AXFR 252) (ANY 255) (CAA 257)
+            (ANAME 65305)
+        )
+    };
+}
+
+// The type of a number.
+macro_rules! of_number {
+    ($value:ident $(($name:ident $number:literal))+) => {
+        match $value {
+            $($number => RecordType::$name,)+
+            _ => RecordType::Unknown($value),
+        }
+    };
+}
+
+// The number of a type.
+macro_rules! number_of {
+    ($value:ident $(($name:ident $number:literal))+) => {
+        match $value {
+            $(RecordType::$name => $number,)+
+            RecordType::Unknown(number) => number,
+        }
+    };
+}
+
+// The name of a type that has one.
+macro_rules! name_of {
+    ($value:ident $(($name:ident $number:literal))+) => {
+        match $value {
+            $(RecordType::$name => Some(stringify!($name)),)+
+            RecordType::Unknown(_) => None,
+        }
+    };
+}
+
+// The types themselves.
+macro_rules! array_of {
+    ($(($name:ident $number:literal))+) => {
+        [$(RecordType::$name,)+]
+    };
+}
+
 /// The named type of the number, or `Unknown` where none has it.
 impl From<u16> for RecordType {
     ghost from_gives = { λ number kind. (kind ≡ record_type_of number) × (number_of kind ≡ number) };
 
     #[inline]
     fn from(value: u16) -> RecordType {
-        match value {
-            0 => RecordType::ZERO,
-            1 => RecordType::A,
-            2 => RecordType::NS,
-            5 => RecordType::CNAME,
-            6 => RecordType::SOA,
-            10 => RecordType::NULL,
-            12 => RecordType::PTR,
-            13 => RecordType::HINFO,
-            15 => RecordType::MX,
-            16 => RecordType::TXT,
-            24 => RecordType::SIG,
-            25 => RecordType::KEY,
-            28 => RecordType::AAAA,
-            33 => RecordType::SRV,
-            35 => RecordType::NAPTR,
-            37 => RecordType::CERT,
-            39 => RecordType::DNAME,
-            41 => RecordType::OPT,
-            43 => RecordType::DS,
-            44 => RecordType::SSHFP,
-            46 => RecordType::RRSIG,
-            47 => RecordType::NSEC,
-            48 => RecordType::DNSKEY,
-            50 => RecordType::NSEC3,
-            51 => RecordType::NSEC3PARAM,
-            52 => RecordType::TLSA,
-            53 => RecordType::SMIMEA,
-            59 => RecordType::CDS,
-            60 => RecordType::CDNSKEY,
-            61 => RecordType::OPENPGPKEY,
-            62 => RecordType::CSYNC,
-            64 => RecordType::SVCB,
-            65 => RecordType::HTTPS,
-            250 => RecordType::TSIG,
-            251 => RecordType::IXFR,
-            252 => RecordType::AXFR,
-            255 => RecordType::ANY,
-            257 => RecordType::CAA,
-            65305 => RecordType::ANAME,
-            _ => RecordType::Unknown(value),
-        }
+        named_types!(of_number, value)
     }
 }
 
@@ -158,93 +169,12 @@ impl From<RecordType> for u16 {
 
     #[inline]
     fn from(value: RecordType) -> u16 {
-        match value {
-            RecordType::ZERO => 0,
-            RecordType::A => 1,
-            RecordType::NS => 2,
-            RecordType::CNAME => 5,
-            RecordType::SOA => 6,
-            RecordType::NULL => 10,
-            RecordType::PTR => 12,
-            RecordType::HINFO => 13,
-            RecordType::MX => 15,
-            RecordType::TXT => 16,
-            RecordType::SIG => 24,
-            RecordType::KEY => 25,
-            RecordType::AAAA => 28,
-            RecordType::SRV => 33,
-            RecordType::NAPTR => 35,
-            RecordType::CERT => 37,
-            RecordType::DNAME => 39,
-            RecordType::OPT => 41,
-            RecordType::DS => 43,
-            RecordType::SSHFP => 44,
-            RecordType::RRSIG => 46,
-            RecordType::NSEC => 47,
-            RecordType::DNSKEY => 48,
-            RecordType::NSEC3 => 50,
-            RecordType::NSEC3PARAM => 51,
-            RecordType::TLSA => 52,
-            RecordType::SMIMEA => 53,
-            RecordType::CDS => 59,
-            RecordType::CDNSKEY => 60,
-            RecordType::OPENPGPKEY => 61,
-            RecordType::CSYNC => 62,
-            RecordType::SVCB => 64,
-            RecordType::HTTPS => 65,
-            RecordType::TSIG => 250,
-            RecordType::IXFR => 251,
-            RecordType::AXFR => 252,
-            RecordType::ANY => 255,
-            RecordType::CAA => 257,
-            RecordType::ANAME => 65305,
-            RecordType::Unknown(number) => number,
-        }
+        named_types!(number_of, value)
     }
 }
 
 // The types that have a name.
-const NAMED: [RecordType; 39] = [
-    RecordType::ZERO,
-    RecordType::A,
-    RecordType::NS,
-    RecordType::CNAME,
-    RecordType::SOA,
-    RecordType::NULL,
-    RecordType::PTR,
-    RecordType::HINFO,
-    RecordType::MX,
-    RecordType::TXT,
-    RecordType::SIG,
-    RecordType::KEY,
-    RecordType::AAAA,
-    RecordType::SRV,
-    RecordType::NAPTR,
-    RecordType::CERT,
-    RecordType::DNAME,
-    RecordType::OPT,
-    RecordType::DS,
-    RecordType::SSHFP,
-    RecordType::RRSIG,
-    RecordType::NSEC,
-    RecordType::DNSKEY,
-    RecordType::NSEC3,
-    RecordType::NSEC3PARAM,
-    RecordType::TLSA,
-    RecordType::SMIMEA,
-    RecordType::CDS,
-    RecordType::CDNSKEY,
-    RecordType::OPENPGPKEY,
-    RecordType::CSYNC,
-    RecordType::SVCB,
-    RecordType::HTTPS,
-    RecordType::TSIG,
-    RecordType::IXFR,
-    RecordType::AXFR,
-    RecordType::ANY,
-    RecordType::CAA,
-    RecordType::ANAME,
-];
+const NAMED: [RecordType; 39] = named_types!(array_of);
 
 impl RecordType {
     /// The number on the wire.
@@ -271,49 +201,7 @@ impl RecordType {
         ensures { MatchOption result (self ≡ RecordType.Unknown (number_of self))
             (λ name. IsTrue (is_named self) × (name.now ≡ type_text self)) }
     {
-        let name = match self {
-            RecordType::ZERO => "ZERO",
-            RecordType::A => "A",
-            RecordType::NS => "NS",
-            RecordType::CNAME => "CNAME",
-            RecordType::SOA => "SOA",
-            RecordType::NULL => "NULL",
-            RecordType::PTR => "PTR",
-            RecordType::HINFO => "HINFO",
-            RecordType::MX => "MX",
-            RecordType::TXT => "TXT",
-            RecordType::SIG => "SIG",
-            RecordType::KEY => "KEY",
-            RecordType::AAAA => "AAAA",
-            RecordType::SRV => "SRV",
-            RecordType::NAPTR => "NAPTR",
-            RecordType::CERT => "CERT",
-            RecordType::DNAME => "DNAME",
-            RecordType::OPT => "OPT",
-            RecordType::DS => "DS",
-            RecordType::SSHFP => "SSHFP",
-            RecordType::RRSIG => "RRSIG",
-            RecordType::NSEC => "NSEC",
-            RecordType::DNSKEY => "DNSKEY",
-            RecordType::NSEC3 => "NSEC3",
-            RecordType::NSEC3PARAM => "NSEC3PARAM",
-            RecordType::TLSA => "TLSA",
-            RecordType::SMIMEA => "SMIMEA",
-            RecordType::CDS => "CDS",
-            RecordType::CDNSKEY => "CDNSKEY",
-            RecordType::OPENPGPKEY => "OPENPGPKEY",
-            RecordType::CSYNC => "CSYNC",
-            RecordType::SVCB => "SVCB",
-            RecordType::HTTPS => "HTTPS",
-            RecordType::TSIG => "TSIG",
-            RecordType::IXFR => "IXFR",
-            RecordType::AXFR => "AXFR",
-            RecordType::ANY => "ANY",
-            RecordType::CAA => "CAA",
-            RecordType::ANAME => "ANAME",
-            RecordType::Unknown(_) => return None,
-        };
-        Some(name)
+        named_types!(name_of, self)
     }
 
     // Whether the text is the type's name.

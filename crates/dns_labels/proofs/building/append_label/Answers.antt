@@ -1,4 +1,4 @@
-use Rattle.std.proofs.Common.{◌∙◌, ◌∷◌, ◌++◌, [], ap, arith, List, ℕ, length, refl}
+use Rattle.std.proofs.Common.{◌∙◌, ◌∷◌, ◌++◌, [], ap, arith, List, ℕ, length}
 use Rattle.dns_labels.specs.Labels.{labels_of}
 use Rattle.dns_labels.proofs.Built.{AreJoined, label_joined, label_fits}
 use Rattle.dns_labels.proofs.building.append_label.Goals as goal
@@ -8,7 +8,7 @@ use Rattle.dns_labels.proofs.building.append_label.Goals.{then-count-eq0-via-els
 
 pub returns-then-count-eq0-clause-refused : goal.returns-then-count-eq0-clause-refused
 returns-then-count-eq0-clause-refused c = λ e is.
-    let f = label_fits c.args.octets.now.items c.args.label.now c.requires is in
+    let f = label_fits c.args.label.now c.requires is in
     elim c.then-count-eq0.branch [
       | then-count-eq0-via-then-count-eq0 w ↦ omega (arith, f.0.0)
       | then-count-eq0-via-else-count-eq0+then-count-gt63 w ↦ omega (arith, f.0.1)
@@ -16,8 +16,7 @@ returns-then-count-eq0-clause-refused c = λ e is.
     ]
 
 joined : (c : In_ok-extend_from_slice-2) → AreJoined c.extend_from_slice-2.new.self.items (labels_of c.args.octets.now.items ++ c.args.label.now ∷ [])
-joined c = label_joined c.args.octets.now.items c.extend_from_slice.new.self.items c.extend_from_slice-2.new.self.items c.args.label.now
-    (length c.args.label.now) c.requires refl (omega arith) (omega arith) (omega (arith, c.len.ensures))
+joined c = label_joined c.args.label.now c.requires (omega arith) (omega arith) (omega (arith, c.len.ensures))
     (c.in_ok-extend_from_slice.ensures.items ∙ ap (λ (x : List ℕ). x ++ length c.args.label.now ∷ []) c.reserve.ensures.items)
     c.in_ok-extend_from_slice-2.ensures.items
 

@@ -7,10 +7,7 @@ pub returns-then-count-eq0-clause-some : goal.returns-then-count-eq0-clause-some
 returns-then-count-eq0-clause-some c = plain_name c.labels.invariant.1 c.requires c.if-count-eq0.true c.if-at-message.false
 
 pub labels-preserved : goal.labels-preserved
-labels-preserved c =
-    let m = c.args.message.now in
-    let part = take (get_or m c.labels.at 0 + 1) (drop c.labels.at m) in (
-      c.labels.invariant.0 ++ part,
-      one_more m c.args.start c.labels.at _ c.labels.invariant.0 part c.labels.invariant.1 (omega arith) (omega arith)
-          (omega arith) (omega (arith, plain_length c.labels.invariant.1)) refl,
-    )
+labels-preserved c = (
+  c.labels.invariant.0 ++ take (get_or c.args.message.now c.labels.at 0 + 1) (drop c.labels.at c.args.message.now),
+  one_more c.labels.invariant.1 (omega arith) (omega arith) (omega arith) (omega (arith, plain_length c.labels.invariant.1)) refl,
+)

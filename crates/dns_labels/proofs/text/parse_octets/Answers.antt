@@ -1,19 +1,7 @@
-use Rattle.std.proofs.Common.{sym, subst, List, ℕ}
-use Rattle.dns_labels.specs.Labels.{AreNameOctets, name_of}
-use Rattle.dns_labels.specs.Text.{IsNameText}
+use Rattle.dns_labels.specs.Labels.{name_of}
 use Rattle.dns_labels.proofs.NameTexts.{one_name, name_reads}
 use Rattle.dns_labels.proofs.text.parse_octets.Goals as goal
 
-pub returns-clause-ok : goal.returns-clause-ok
-returns-clause-ok c = subst (λ (o : List ℕ). IsNameText (name_of o c.in-Ok.is_fqdn) c.args.text.now) (sym c.in_ok-octets.ensures) c.in-Ok.ensures.some.1
-
-pub returns-clause-octets : goal.returns-clause-octets
-returns-clause-octets c = subst (λ (o : List ℕ). AreNameOctets o) (sym c.in_ok-octets.ensures) c.in-Ok.ensures.some.0
-
 pub returns-clause-reads_back : goal.returns-clause-reads_back
-returns-clause-reads_back c = λ name is has e. one_name c.args.text.now (name_of c.in_ok-octets.octets.items c.in-Ok.is_fqdn) name (returns-clause-ok c)
-    (subst (λ (t : List ℕ). IsNameText name t) (sym e) (name_reads name is has))
-
-pub returns-in-Err-clause-reads_back : goal.returns-in-Err-clause-reads_back
-returns-in-Err-clause-reads_back c =
-    λ name is has e. absurd (c.in-Err.ensures.none name (subst (λ (t : List ℕ). IsNameText name t) (sym e) (name_reads name is has)))
+returns-clause-reads_back c = λ name is has e. one_name c.args.text.now (name_of c.in_ok-octets.octets.items c.in-Ok.is_fqdn) name
+    (rw c.in_ok-octets.ensures c.in-Ok.ensures.some.1) (rw e (name_reads name is has))

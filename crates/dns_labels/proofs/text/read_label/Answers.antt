@@ -4,11 +4,10 @@ use Rattle.dns_labels.proofs.text.read_label.Goals as goal
 
 pub returns-then-count-eq0-clause-none : goal.returns-then-count-eq0-clause-none
 returns-then-count-eq0-clause-none c = λ label t rest lt e end is room.
-    label_empty c.args.text.now c.in_ok-taken.taken c.push.new.self c.read_octets.new.octets c.in_ok-taken.ensures.some
+    label_empty c.in_ok-taken.ensures.some
     (omega (arith, c.len.ensures.value, c.len-start.ensures.value, ap length c.push.ensures ∙ length-append c.args.octets.now (0 ∷ []))) label t rest lt
     e end is
 
 pub returns-clause-some : goal.returns-clause-some
-returns-clause-some c = rw c.set.ensures
-    (label_set c.args.text.now c.in_ok-taken.taken c.args.octets.now c.push.new.self c.read_octets.new.octets c.len-start.result _ c.push.ensures
+returns-clause-some c = rw c.set.ensures (label_set c.push.ensures
     c.in_ok-taken.ensures.some c.len-start.ensures.value (omega (arith, c.len.ensures.value)) (omega arith) c.in_ok-taken.ensures.short)

@@ -5,41 +5,35 @@ use Rattle.dns_labels.proofs.text.read_name.Goals as goal
 use Rattle.dns_labels.proofs.text.read_name.Goals.{else-text-eq1-via-then-text-eq1+else-text-eq46, else-text-eq1-via-else-text-eq1}
 
 pub returns-then-text-eq0-clause-some : goal.returns-then-text-eq0-clause-some
-returns-then-text-eq0-clause-some c = reads_nothing c.args.text.now c.args.octets.now c.requires (omega arith)
+returns-then-text-eq0-clause-some c = reads_nothing c.requires (omega arith)
 
 pub returns-then-text-eq46-clause-some : goal.returns-then-text-eq46-clause-some
-returns-then-text-eq46-clause-some c = reads_root c.args.text.now c.args.octets.now c.requires (omega arith) (omega arith)
+returns-then-text-eq46-clause-some c = reads_root c.requires (omega arith) (omega arith)
 
 pub labels-init : goal.labels-init
-labels-init c = (name_none c.args.text.now c.args.octets.now c.requires, omega arith)
+labels-init c = (name_none c.requires, omega arith)
 
 pub returns-in_err-taken-clause-none : goal.returns-in_err-taken-clause-none
 returns-in_err-taken-clause-none c = said_of_err c.from_residual.result c.from_residual.ensures.0 (λ name n.
-    name_refused c.args.text.now c.labels.at c.labels.octets c.labels.invariant.0 (omega arith)
-    (λ one dot. elim c.else-text-eq1.branch [
+    name_refused c.labels.invariant.0 (omega arith) (λ one dot. elim c.else-text-eq1.branch [
       | else-text-eq1-via-then-text-eq1+else-text-eq46 w ↦ omega arith
-      | else-text-eq1-via-else-text-eq1 w ↦ omega
-          arith
-    ])
-    (rw (take_rest c.args.text.now c.labels.at) at c.in_err-taken.ensures.none) name n)
+      | else-text-eq1-via-else-text-eq1 w ↦ omega arith
+    ]) (rw (take_rest c.args.text.now c.labels.at) at c.in_err-taken.ensures.none) name n)
 
 pub returns-then-at-text-clause-some : goal.returns-then-at-text-clause-some
 returns-then-at-text-clause-some c =
     let a = rw (take_rest c.args.text.now c.labels.at) at c.in_ok-taken.ensures.some in
-    name_ends c.args.text.now c.labels.at c.in_ok-taken.taken c.labels.octets c.read_label.new.octets c.labels.invariant.0 a c.in_ok-taken.ensures.room
-    (omega arith)
+    name_ends c.labels.invariant.0 a c.in_ok-taken.ensures.room (omega arith)
 
 pub returns-then-at-text-2-clause-some : goal.returns-then-at-text-2-clause-some
 returns-then-at-text-2-clause-some c =
     let a = rw (take_rest c.args.text.now c.labels.at) at c.in_ok-taken.ensures.some in
-    name_dotted c.args.text.now c.labels.at c.in_ok-taken.taken c.labels.octets c.read_label.new.octets c.labels.invariant.0 a c.in_ok-taken.ensures.room
-    (omega (arith, a.within, length-drop c.labels.at c.args.text.now)) (omega arith)
+    name_dotted c.labels.invariant.0 a c.in_ok-taken.ensures.room (omega (arith, a.within, length-drop c.labels.at c.args.text.now)) (omega arith)
 
 pub labels-preserved : goal.labels-preserved
 labels-preserved c =
     let a = rw (take_rest c.args.text.now c.labels.at) at c.in_ok-taken.ensures.some in
     let more : c.labels.at + c.in_ok-taken.taken + 1 < length c.args.text.now = omega (arith, a.within, length-drop c.labels.at c.args.text.now) in (
-      name_more c.args.text.now c.labels.at c.in_ok-taken.taken c.labels.octets c.read_label.new.octets c.labels.invariant.0 a c.in_ok-taken.ensures.room
-          more,
+      name_more c.labels.invariant.0 a c.in_ok-taken.ensures.room more,
       more,
     )

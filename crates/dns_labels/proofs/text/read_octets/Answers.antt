@@ -5,16 +5,16 @@ use Rattle.dns_labels.proofs.text.read_octets.Goals as goal
 use Rattle.dns_labels.proofs.text.read_octets.Goals.{then-octets-test+else-text-at-ne46, else-octets-test}
 
 pub octets-init : goal.octets-init
-octets-init c = (label_none c.args.text.now c.args.octets.now, omega (arith, c.min-left.ensures, c.len.ensures))
+octets-init c = (label_none, omega (arith, c.min-left.ensures, c.len.ensures))
 
 pub returns-then-left-eq0-clause-none : goal.returns-then-left-eq0-clause-none
 returns-then-left-eq0-clause-none c = λ label t rest lt e end short room.
-    let f = label_full c.args.text.now c.octets.at c.args.octets.now c.octets.octets c.octets.invariant.0 (omega arith) (omega arith) label t rest lt e end in
+    let f = label_full c.octets.invariant.0 (omega arith) (omega arith) label t rest lt e end in
     omega (arith, c.octets.invariant.1)
 
 pub returns-in_default-clause-none : goal.returns-in_default-clause-none
 returns-in_default-clause-none c = λ label t rest lt e end short room.
-    label_refused c.args.text.now c.octets.at c.args.octets.now c.octets.octets c.octets.invariant.0 (omega arith) (omega arith)
+    label_refused c.octets.invariant.0 (omega arith) (omega arith)
     (rw (take_rest c.args.text.now c.octets.at) at c.in_default.ensures.none) label t rest lt e end
 
 pub octets-preserved : goal.octets-preserved
@@ -22,13 +22,12 @@ octets-preserved c =
     let e = rw (take_rest c.args.text.now c.octets.at) at c.in-Some.ensures.found in
     let f = rw (take_rest c.args.text.now c.octets.at) at c.in-Some.ensures.length in
     rw c.push.ensures (
-      label_more c.args.text.now c.octets.at _ _ c.args.octets.now c.octets.octets c.octets.invariant.0 (omega arith) (omega arith) f.1 e,
+      label_more c.octets.invariant.0 (omega arith) (omega arith) _ _ f.1 e,
       simp length-append (omega (arith, c.octets.invariant.1)),
     )
 
 pub returns-clause-some : goal.returns-clause-some
-returns-clause-some c = label_done c.args.text.now c.octets.at c.args.octets.now c.octets.octets c.octets.invariant.0
-    (elim c.octets-test.branch [
-      | then-octets-test+else-text-at-ne46 w ↦ at_dot c.args.text.now c.octets.at (omega arith) (omega arith)
-      | else-octets-test w ↦ rw (drop_all c.octets.at c.args.text.now (omega arith)) tt
-    ])
+returns-clause-some c = label_done c.octets.invariant.0 (elim c.octets-test.branch [
+  | then-octets-test+else-text-at-ne46 w ↦ at_dot c.args.text.now c.octets.at (omega arith) (omega arith)
+  | else-octets-test w ↦ rw (drop_all c.octets.at c.args.text.now (omega arith)) tt
+])

@@ -6,27 +6,21 @@ use Rattle.dns_labels.proofs.writing.write_new.Goals.{then-start-limit-via-then-
 
 pub returns-then-start-limit-clause-full : goal.returns-then-start-limit-clause-full
 returns-then-start-limit-clause-full c = λ e.
-    let old = c.args.out.now.items in
     let cut = c.in_ok-cut.cut.written in
-    let target = c.in_ok-cut.cut.target in
-    let full : c.args.limit < length old + (cut + length (stop_octets target)) = elim c.then-start-limit.branch [
+    let full : c.args.limit < length c.args.out.now.items + (cut + length (stop_octets c.in_ok-cut.cut.target)) = elim c.then-start-limit.branch [
       | then-start-limit-via-then-start-limit w ↦ omega (arith, c.len-start.ensures)
       | then-start-limit-via-else-start-limit+then-limit-start w ↦ omega (arith, c.len-start.ensures, c.stop_len.ensures, length-take cut c.args.name.now)
     ] in
-    lacks_room c.as_slice.result.now old c.args.name.now cut c.args.limit target c.as_slice.ensures.value c.in_ok-cut.ensures.cut full
+    lacks_room c.as_slice.ensures.value c.in_ok-cut.ensures.cut full
 
 pub returns-in_ok-extend_from_slice-in-None-clause-ok : goal.returns-in_ok-extend_from_slice-in-None-clause-ok
 returns-in_ok-extend_from_slice-in-None-clause-ok c =
-    let cut = c.in_ok-cut.cut.written in
-    cut_wrote c.args.mode c.as_slice.result.now c.args.out.now.items c.append_front.new.out.items c.extend_from_slice.new.self.items
-    c.args.name.now cut c.in_ok-cut.cut.target _ c.as_slice.ensures.value c.requires c.in_ok-cut.ensures.cut c.in_ok-cut.ensures.whole
-    (c.in_ok-append_front.ensures.items ∙ ap (λ (x : List ℕ). x ++ take cut c.args.name.now) c.reserve.ensures.items) c.in-None.is
+    cut_wrote c.as_slice.ensures.value c.requires c.in_ok-cut.ensures.cut c.in_ok-cut.ensures.whole (c.in_ok-append_front.ensures.items
+    ∙ ap (λ (x : List ℕ). x ++ take c.in_ok-cut.cut.written c.args.name.now) c.reserve.ensures.items) c.in-None.is
     c.in_ok-extend_from_slice-in-None.ensures.items
 
 pub returns-in_ok-extend_from_slice-in-Some-clause-ok : goal.returns-in_ok-extend_from_slice-in-Some-clause-ok
 returns-in_ok-extend_from_slice-in-Some-clause-ok c =
-    let cut = c.in_ok-cut.cut.written in
-    cut_wrote c.args.mode c.as_slice.result.now c.args.out.now.items c.append_front.new.out.items c.extend_from_slice-in-Some.new.self.items
-    c.args.name.now cut c.in_ok-cut.cut.target _ c.as_slice.ensures.value c.requires c.in_ok-cut.ensures.cut c.in_ok-cut.ensures.whole
-    (c.in_ok-append_front.ensures.items ∙ ap (λ (x : List ℕ). x ++ take cut c.args.name.now) c.reserve.ensures.items) c.in-Some.is
+    cut_wrote c.as_slice.ensures.value c.requires c.in_ok-cut.ensures.cut c.in_ok-cut.ensures.whole (c.in_ok-append_front.ensures.items
+    ∙ ap (λ (x : List ℕ). x ++ take c.in_ok-cut.cut.written c.args.name.now) c.reserve.ensures.items) c.in-Some.is
     c.in_ok-extend_from_slice-in-Some.ensures.items

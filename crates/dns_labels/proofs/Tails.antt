@@ -1,11 +1,29 @@
--- Octets of which some stand at a place, and a pointer behind them to where the others stand.
-use Rattle.std.proofs.Common.{◌≡◌, ℕ, ◌+◌, ◌-◌, ◌*◌, ◌<◌, ◌≤◌, List, [], ◌++◌, length, take, drop, get_or, Some, sym, ◌∙◌, ap, arith, length-take}
-use Rattle.std.proofs.lemmas.List.{take-append-drop, drop-drop}
-use Rattle.dns_fields.specs.Labels.{wire}
+-- Octets that stand at a place, with an octet 0 behind them, or with a pointer behind some to where the others stand.
+use Rattle.std.proofs.Common.{◌≡◌, ℕ, suc, ◌+◌, ◌-◌, ◌*◌, ◌<◌, ◌≤◌, List, [], ◌∷◌, ◌++◌, length, take, drop, get_or, Some, refl, sym, ◌∙◌, ap, arith}
+use Rattle.std.proofs.Common.{length-take}
+use Rattle.std.proofs.lemmas.List.{take-append-drop}
+use Rattle.std.proofs.Math.Seq.{drop-cons}
+use Rattle.dns_fields.specs.Labels.{AreLabels, wire}
+use Rattle.dns_fields.specs.Names.LabelsStand.{whole}
 use Rattle.dns_fields.proofs.Runs.{wire-append}
 use Rattle.dns_labels.specs.Emission.{StandsFor, CutAt}
+use Rattle.dns_labels.proofs.Octets.{cut_off}
 use Rattle.dns_labels.proofs.ReadingSteps.{SoFar, at_pointer}
 use Rattle.dns_labels.proofs.ReadingRuns.{run_stands}
+
+pub tail_whole : {message : List ℕ} {place : ℕ} {octets a : List ℕ} (labels : List (List ℕ)) → AreLabels labels → octets ≡ wire labels
+    → place + length octets < length message → a ≡ take (length octets) (drop place message) → a ≡ octets
+    → get_or message (place + length octets) 0 ≡ 0 → StandsFor message place octets
+tail_whole {message} {place} {octets} labels are is room a_is same zero =
+    let end = place + length octets in
+    let rest : drop end message ≡ 0 ∷ drop (suc end) message = drop-cons message end 0 room ∙ ap (λ (x : ℕ). x ∷ drop (suc end) message) zero in
+    record {
+      labels = labels;
+      end = place + length (wire labels) + 1;
+      stands = whole (drop (suc end) message) are (cut_off message place (length octets) (sym a_is ∙ same) ∙ ap (λ (x : List ℕ). octets ++ x) rest
+          ∙ ap (λ (x : List ℕ). x ++ 0 ∷ drop (suc end) message) is) refl;
+      same = is;
+    }
 
 -- where the octets at this place point to
 abbrev pub target_at : List ℕ → ℕ → ℕ
@@ -15,14 +33,11 @@ front_stands : (message octets : List ℕ) (place front : ℕ) (a : List ℕ) �
     → a ≡ take front (drop place message) → a ≡ take front octets → SoFar message place (place + front) [] (take front octets)
 front_stands message octets place front a k short room a_is same =
     let size : length (wire k.front) ≡ front = sym (ap length k.front_is) ∙ length-take front octets ∙ omega (arith, k.within) in
-    let stands : drop place message ≡ wire k.front ++ drop (place + front) message = sym (take-append-drop front (drop place message))
-    ∙ ap (λ (x : List ℕ). x ++ drop front (drop place message)) (sym a_is ∙ same ∙ k.front_is)
-    ∙ ap (λ (x : List ℕ). wire k.front ++ x) (drop-drop front place message) in
     record {
       front = k.front;
       are = k.are_front;
       octets = k.front_is;
-      stands = stands;
+      stands = cut_off message place front (sym a_is ∙ same ∙ k.front_is);
       at_is = omega arith;
       within = omega arith;
       room = omega (arith, length-take front octets);
@@ -33,8 +48,7 @@ pub stands_two : (message octets : List ℕ) (place front : ℕ) (a b : List ℕ
     → a ≡ b → 192 ≤ get_or message (place + front) 0 → target_at message (place + front) < place
     → StandsFor (take place message) (target_at message (place + front)) (drop front octets) → StandsFor message place octets
 stands_two message octets place front a b k short are room a_is b_is same high before s =
-    let r = at_pointer message place (place + front) [] (take front octets) (front_stands message octets place front a k short room a_is (same ∙ b_is))
-    are high (omega arith) in
+    let r = at_pointer (front_stands message octets place front a k short room a_is (same ∙ b_is)) are high (omega arith) in
     let t : octets ≡ wire r.front ++ wire s.labels = sym (take-append-drop front octets) ∙ ap (λ (x : List ℕ). x ++ drop front octets) r.octets
     ∙ ap (λ (x : List ℕ). wire r.front ++ x) s.same in
     record {
