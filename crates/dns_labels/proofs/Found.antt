@@ -1,10 +1,8 @@
 -- A name that was found in a message, and its octets.
 use Rattle.std.proofs.Common.{ℕ, Bool, true, List, length, refl, sym, ap, subst, arith}
-use Rattle.dns_fields.specs.Labels.{IsName}
-use Rattle.dns_fields.specs.Names.{LabelsStand, IsNameIn}
+use Rattle.dns_fields.specs.{Labels.IsName, Names.LabelsStand, Names.IsNameIn}
 use Rattle.dns_fields.proofs.Stays.{labels_stand}
-use Rattle.dns_labels.specs.Labels.{AreNameOctets, name_of}
-use Rattle.dns_labels.specs.Reading.{IsNameAt}
+use Rattle.dns_labels.specs.{Labels.AreNameOctets, Labels.name_of, Reading.IsNameAt}
 use Rattle.dns_labels.proofs.Octets.{labels_from, are_name_octets}
 
 pub octets_found : {m : List ℕ} {p : ℕ} {octets : List ℕ} {e : ℕ} → IsNameAt m p octets e → AreNameOctets octets

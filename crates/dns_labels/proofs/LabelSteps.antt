@@ -1,11 +1,9 @@
 -- The steps of the reader of a label's text.
-use Rattle.std.proofs.Common.{◌≡◌, ◌≢◌, ℕ, ◌+◌, ◌<◌, ◌≤◌, List, [], ◌∷◌, ◌++◌, length, take, drop, get_or, refl, sym, ◌∙◌, ap}
-use Rattle.std.proofs.Common.{append_assoc, arith, length-append, length-drop}
-use Rattle.std.proofs.Math.Seq.{take-add}
+use Rattle.std.proofs.Common.{◌≡◌, ◌≢◌, ℕ, ◌+◌, ◌<◌, ◌≤◌, List, [], ◌∷◌, ◌++◌, length, take, drop, get_or, refl, sym, ◌∙◌, ap, append_assoc, arith}
+use Rattle.std.proofs.Common.{length-append, length-drop}
+use Rattle.std.proofs.{Math.Seq.take-add, lemmas.Grind.common_steps}
 use Rattle.std.proofs.lemmas.List.{append-nil, append_cancel_left, get_or-drop, drop_more}
-use Rattle.std.proofs.lemmas.Grind.{common_steps}
-use Rattle.dns_labels.specs.Text.{OctetText, LabelText, IsLabelEnd, AddsOctets}
-use Rattle.dns_labels.specs.Text.LabelText.{no_octet, octet}
+use Rattle.dns_labels.specs.{Text.OctetText, Text.LabelText, Text.IsLabelEnd, Text.AddsOctets, Text.LabelText.no_octet, Text.LabelText.octet}
 use Rattle.dns_labels.proofs.Octets.{cut_off}
 
 -- octets of a label that are still to be read

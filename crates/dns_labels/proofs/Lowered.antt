@@ -1,20 +1,13 @@
 -- A name's lowered octets.
-use Rattle.std.proofs.Common.{◌≡◌, ◌↔◌, IsTrue, ℕ, ◌+◌, ◌<◌, ◌≤◌, take, get_or, Bool, true, List, [], ◌∷◌, ◌++◌, length, map, refl}
-use Rattle.std.proofs.Common.{sym, ◌∙◌, ap, append_assoc, arith}
+use Rattle.std.proofs.Common.{◌≡◌, ◌↔◌, IsTrue, ℕ, ◌+◌, ◌<◌, ◌≤◌, take, get_or, Bool, true, List, [], ◌∷◌, ◌++◌, length, map, refl, sym, ◌∙◌, ap}
+use Rattle.std.proofs.Common.{append_assoc, arith}
+use Rattle.std.proofs.{Math.Bool.and-true, lemmas.Bool.Decides.nat_tests, lemmas.Bool.Decides.same_from_decides, lemmas.Slice.Eq.bytes_eq-Decides}
 use Rattle.std.proofs.lemmas.List.{length-map, map-append, append_cancel_right, take_more, take_more_set}
-use Rattle.std.specs.Prelude.{slice_set}
-use Rattle.std.proofs.Math.Bool.{and-true}
-use Rattle.std.proofs.lemmas.Bool.Decides.{nat_tests, same_from_decides}
-use Rattle.std.proofs.lemmas.Slice.Eq.{bytes_eq-Decides}
-use Rattle.std.specs.Prelude.{◌&&◌}
-use Rattle.std.specs.Str.{bytes_eq}
-use Rattle.std.specs.Char.{to_ascii_lowercase}
-use Rattle.std.specs.Cmp.Lexicographic.{slice_cmp}
+use Rattle.std.specs.Prelude.{slice_set, ◌&&◌}
+use Rattle.std.specs.{Str.bytes_eq, Char.to_ascii_lowercase, Cmp.Lexicographic.slice_cmp, declared.cmp.Ordering.Ordering}
 use Rattle.std.specs.Ordering.{nat_cmp, ordering_then}
-use Rattle.std.specs.declared.cmp.Ordering.{Ordering}
 use Rattle.dns_fields.specs.Labels.{AreLabels, wire, lowered}
-use Rattle.dns_labels.specs.Labels.{labels_of, AreNameOctets}
-use Rattle.dns_labels.specs.Comparing.{lowered_octets}
+use Rattle.dns_labels.specs.{Labels.labels_of, Labels.AreNameOctets, Comparing.lowered_octets}
 use Rattle.dns_labels.proofs.Octets.{labels_of-wire}
 
 kept : (n : ℕ) → n ≤ 63 → to_ascii_lowercase n ≡ n

@@ -1,16 +1,11 @@
 -- One run after another makes a name.
-use Rattle.std.proofs.Common.{◌≡◌, ℕ, ◌+◌, ◌-◌, ◌/◌, ◌%◌, ◌<◌, ◌≤◌, List, [], ◌∷◌, ◌++◌, length, take, drop, get_or, Option, Some, None}
-use Rattle.std.proofs.Common.{refl, sym, ◌∙◌, ap, subst, append_assoc, arith, length-take}
-use Rattle.std.proofs.lemmas.List.{append-nil}
-use Rattle.std.proofs.Math.Seq.{take-append_seam}
-use Rattle.dns_fields.specs.Labels.{wire, FitsName}
-use Rattle.dns_fields.specs.Names.{LabelsStand}
-use Rattle.dns_fields.specs.Names.LabelsStand.{whole, pointed}
+use Rattle.std.proofs.Common.{◌≡◌, ℕ, ◌+◌, ◌-◌, ◌/◌, ◌%◌, ◌<◌, ◌≤◌, List, [], ◌∷◌, ◌++◌, length, take, drop, get_or, Option, Some, None, refl, sym}
+use Rattle.std.proofs.Common.{◌∙◌, ap, subst, append_assoc, arith, length-take}
+use Rattle.std.proofs.{lemmas.List.append-nil, Math.Seq.take-append_seam}
+use Rattle.dns_fields.specs.{Labels.wire, Labels.FitsName, Names.LabelsStand, Names.LabelsStand.whole, Names.LabelsStand.pointed}
 use Rattle.dns_labels.specs.Reading.{IsRun, AddsRun, IsNameAt}
-use Rattle.dns_fields.proofs.Runs.{same_run, wire-append}
-use Rattle.dns_fields.proofs.Unique.{zero_stop, pointer_stop, same_target}
-use Rattle.dns_labels.proofs.Octets.{wire_length}
-use Rattle.dns_labels.proofs.ReadingSteps.{SoFar, at_zero}
+use Rattle.dns_fields.proofs.{Runs.same_run, Runs.wire-append, Unique.zero_stop, Unique.pointer_stop, Unique.same_target}
+use Rattle.dns_labels.proofs.{Octets.wire_length, ReadingSteps.SoFar, ReadingSteps.at_zero}
 
 -- these labels stand from where the run that began at this place leads
 abbrev pub RestStands : List ℕ → ℕ → Option ℕ → List (List ℕ) → Type 0

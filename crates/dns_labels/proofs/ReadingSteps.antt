@@ -1,15 +1,12 @@
 -- The steps of the reader of one run.
-use Rattle.std.proofs.Common.{◌≡◌, ℕ, ◌+◌, ◌-◌, ◌*◌, ◌/◌, ◌%◌, ◌<◌, ◌≤◌, List, [], ◌∷◌, ◌++◌, length, take, drop, get_or}
-use Rattle.std.proofs.Common.{Option, Some, None, refl, sym, ◌∙◌, ap, append_assoc, arith, length-append, length-drop, length-take}
-use Rattle.std.proofs.Common.{add-one}
+use Rattle.std.proofs.Common.{◌≡◌, ℕ, ◌+◌, ◌-◌, ◌*◌, ◌/◌, ◌%◌, ◌<◌, ◌≤◌, List, [], ◌∷◌, ◌++◌, length, take, drop, get_or, Option, Some, None, refl}
+use Rattle.std.proofs.Common.{sym, ◌∙◌, ap, append_assoc, arith, length-append, length-drop, length-take, add-one}
 use Rattle.std.proofs.lemmas.List.{drop_more, get_or-drop, append-nil}
 use Rattle.std.specs.Prelude.{IfSome}
-use Rattle.dns_fields.specs.Labels.{AreLabels, wire}
-use Rattle.dns_fields.specs.Names.{pointer}
+use Rattle.dns_fields.specs.{Labels.AreLabels, Labels.wire, Names.pointer}
 use Rattle.dns_labels.specs.Reading.{IsRun, AddsRun, stop_octets}
 use Rattle.dns_labels.proofs.Octets.{cut_off, wire_length}
-use Rattle.dns_fields.proofs.Runs.{RestOf, rest_of, wire-append, AreLabels-append}
-use Rattle.dns_fields.proofs.Unique.{zero_stop, pointer_stop}
+use Rattle.dns_fields.proofs.{Runs.RestOf, Runs.rest_of, Runs.wire-append, Runs.AreLabels-append, Unique.zero_stop, Unique.pointer_stop}
 
 -- the labels that were read so far
 pub record SoFar (message : List ℕ) (place at : ℕ) (old new : List ℕ) : Type 0 where

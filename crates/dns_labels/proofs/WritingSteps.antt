@@ -1,19 +1,13 @@
 -- The steps by which a tail is found.
-use Rattle.std.proofs.Common.{◌≡◌, ℕ, ◌+◌, ◌<◌, ◌≤◌, List, [], ◌++◌, length, take, drop, Option, Some, None, refl}
-use Rattle.std.proofs.Common.{sym, ◌∙◌, ap, subst, append_assoc, arith, length-drop, length-take}
-use Rattle.std.proofs.lemmas.List.{append-nil, take_all}
-use Rattle.std.proofs.Math.Seq.{take-add}
-use Rattle.std.proofs.lemmas.Bool.{OnTrue_from, eqb-true}
+use Rattle.std.proofs.Common.{◌≡◌, ℕ, ◌+◌, ◌<◌, ◌≤◌, List, [], ◌++◌, length, take, drop, Option, Some, None, refl, sym, ◌∙◌, ap, subst, append_assoc}
+use Rattle.std.proofs.Common.{arith, length-drop, length-take, get_or}
+use Rattle.std.proofs.{lemmas.List.append-nil, lemmas.List.take_all, Math.Seq.take-add, lemmas.Bool.OnTrue_from, lemmas.Bool.eqb-true}
 use Rattle.std.specs.Bool.{OnTrue}
 use Rattle.std.specs.Prelude.{nat_eq}
-use Rattle.std.proofs.Common.{get_or}
-use Rattle.dns_fields.specs.Labels.{wire}
-use Rattle.dns_fields.specs.Names.{LabelsStand}
-use Rattle.dns_labels.specs.Reading.{AddsRun}
-use Rattle.dns_labels.specs.Emission.{StandsFor}
+use Rattle.dns_fields.specs.{Labels.wire, Names.LabelsStand}
+use Rattle.dns_labels.specs.{Reading.AddsRun, Emission.StandsFor}
 use Rattle.dns_fields.proofs.Runs.{wire-append}
-use Rattle.dns_labels.proofs.ReadingSteps.{SoFar, one_more}
-use Rattle.dns_labels.proofs.ReadingRuns.{run_stands}
+use Rattle.dns_labels.proofs.{ReadingSteps.SoFar, ReadingSteps.one_more, ReadingRuns.run_stands}
 
 -- labels that stand here make the octets' labels stand there
 pub record Matched (message : List ℕ) (place : ℕ) (window : List ℕ) (begin : ℕ) (octets : List ℕ) (matched : ℕ) : Type 0 where

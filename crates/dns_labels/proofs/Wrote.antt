@@ -1,17 +1,12 @@
 -- A name that was written.
-use Rattle.std.proofs.Common.{◌≡◌, ◌≢◌, ℕ, Bool, ◌+◌, ◌<◌, sym, subst, append_assoc, List, [], ◌∷◌, ◌++◌, length, take, Option, None}
-use Rattle.std.proofs.Common.{refl, ap, ◌∙◌, arith, length-append, length-take}
+use Rattle.std.proofs.Common.{◌≡◌, ◌≢◌, ℕ, Bool, ◌+◌, ◌<◌, sym, subst, append_assoc, List, [], ◌∷◌, ◌++◌, length, take, Option, None, refl, ap, ◌∙◌}
+use Rattle.std.proofs.Common.{arith, length-append, length-take}
 use Rattle.std.proofs.lemmas.List.{append-nil, take_all}
-use Rattle.dns_fields.specs.declared.RDataEncoding.{RDataEncoding}
+use Rattle.dns_fields.specs.{declared.RDataEncoding.RDataEncoding, Names.NameWrote, Names.pointer}
 use Rattle.dns_fields.specs.declared.RDataEncoding.TheVariants as modes
-use Rattle.dns_fields.specs.Names.{NameWrote, pointer}
-use Rattle.dns_fields.proofs.NameLaws.{lowname_length, name_same, name_append}
-use Rattle.dns_fields.proofs.Stays.{end_within}
-use Rattle.dns_labels.specs.Labels.{name_of, AreNameOctets}
-use Rattle.dns_labels.specs.Reading.{stop_octets}
-use Rattle.dns_labels.specs.Emission.{StandsFor, IsNameCut}
-use Rattle.dns_labels.proofs.Found.{name_is_of}
-use Rattle.dns_labels.proofs.Lowered.{low_labels_same}
+use Rattle.dns_fields.proofs.{NameLaws.lowname_length, NameLaws.name_same, NameLaws.name_append, Stays.end_within}
+use Rattle.dns_labels.specs.{Labels.name_of, Labels.AreNameOctets, Reading.stop_octets, Emission.StandsFor, Emission.IsNameCut}
+use Rattle.dns_labels.proofs.{Found.name_is_of, Lowered.low_labels_same}
 use Rattle.dns_labels.proofs.CutSteps.{cut_stands, whole_found, cut_whole, cut_short}
 
 -- the octets up to the cut and what ends them are the name

@@ -1,7 +1,6 @@
 -- What the emission of a name writes.
 use Rattle.std.specs.Prelude.{◌≡◌, ℕ, ◌<◌, ◌≤◌, List, [], length, take, drop, Option, Some, None}
-use Rattle.dns_fields.specs.Labels.{AreLabels, wire}
-use Rattle.dns_fields.specs.Names.{LabelsStand}
+use Rattle.dns_fields.specs.{Labels.AreLabels, Labels.wire, Names.LabelsStand}
 
 -- these octets stand for labels from that place
 pub record StandsFor (message : List ℕ) (place : ℕ) (octets : List ℕ) : Type 0 where

@@ -1,7 +1,6 @@
 -- Runs of labels, of which a name in a message is made (RFC 1035, 4.1.4).
 use Rattle.std.specs.Prelude.{◌≡◌, ℕ, ◌+◌, ◌<◌, List, [], ◌∷◌, ◌++◌, length, drop, Option, Some, None, IfSome}
-use Rattle.dns_fields.specs.Labels.{AreLabels, wire, FitsName}
-use Rattle.dns_fields.specs.Names.{LabelsStand, pointer}
+use Rattle.dns_fields.specs.{Labels.AreLabels, Labels.wire, Labels.FitsName, Names.LabelsStand, Names.pointer}
 
 -- what ends a run of labels: an octet 0, or a pointer
 abbrev pub stop_octets : Option ℕ → List ℕ

@@ -1,8 +1,7 @@
 -- Texts of domain names (RFC 1035, 5.1): labels joined by dots.
-use Rattle.std.specs.Prelude.{◌≡◌, ◌≢◌, ℕ, ◌+◌, ◌*◌, ◌/◌, ◌%◌, ◌<◌, ◌≤◌, Bool, true, false, List, [], ◌∷◌, ◌++◌, All, flat_map, length}
-use Rattle.std.specs.Prelude.{take, drop, if◌then◌else◌, nat_le, ◌==◌, ◌||◌, ◌&&◌}
-use Rattle.dns_fields.specs.Octets.{AreOctets}
-use Rattle.dns_fields.specs.Labels.{DomainName, IsLabel, IsName}
+use Rattle.std.specs.Prelude.{◌≡◌, ◌≢◌, ℕ, ◌+◌, ◌*◌, ◌/◌, ◌%◌, ◌<◌, ◌≤◌, Bool, true, false, List, [], ◌∷◌, ◌++◌, All, flat_map, length, take, drop}
+use Rattle.std.specs.Prelude.{if◌then◌else◌, nat_le, ◌==◌, ◌||◌, ◌&&◌}
+use Rattle.dns_fields.specs.{Octets.AreOctets, Labels.DomainName, Labels.IsLabel, Labels.IsName}
 
 abbrev pub IsGraphic : ℕ → Type 0
 IsGraphic c = (33 ≤ c) × (c ≤ 126)

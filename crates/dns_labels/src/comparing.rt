@@ -1,9 +1,7 @@
 //! Names compared and hashed without their case (RFC 4343).
 
 ghost use Rattle.std.specs.Prelude.{◌≡◌, ◌≤◌, ◌↔◌, IsTrue, map, length};
-ghost use Rattle.std.specs.Char.{to_ascii_lowercase};
-ghost use Rattle.std.specs.Cmp.Lexicographic.{slice_cmp};
-ghost use Rattle.std.specs.Ordering.{nat_cmp};
+ghost use Rattle.std.specs.{Char.to_ascii_lowercase, Cmp.Lexicographic.slice_cmp, Ordering.nat_cmp};
 ghost use Rattle.dns_labels.specs.Comparing.{lowered_octets};
 
 use std::cmp::Ordering;

@@ -2,9 +2,8 @@
 
 ghost use Rattle.std.specs.Prelude.{◌≡◌, ◌↔◌, ℕ, ◌<◌, ◌≤◌, ◌++◌, List, length, map};
 ghost use Rattle.std.specs.Char.{to_ascii_lowercase};
-ghost use Rattle.dns_fields.specs.declared.RDataEncoding.{RDataEncoding};
+ghost use Rattle.dns_fields.specs.{declared.RDataEncoding.RDataEncoding, Names.IsNameIn, Names.NameWrote};
 ghost use Rattle.dns_fields.specs.Labels.{DomainName, full_name, IsName, lowname};
-ghost use Rattle.dns_fields.specs.Names.{IsNameIn, NameWrote};
 ghost use Rattle.dns_labels.specs.Text.{IsNameText, HasOctets, name_text};
 
 /// Names that stand in messages, that were written, and that are compared.

@@ -2,9 +2,8 @@
 
 ghost use Rattle.std.specs.Prelude.{◌≡◌, ℕ, List, ◌≤◌, ◌↔◌, [], IsTrue, length, take, IfSome};
 ghost use Rattle.std.specs.Bool.{OnTrue};
-ghost use Rattle.dns_labels.specs.Reading.{AddsRun};
+ghost use Rattle.dns_labels.specs.{Reading.AddsRun, Emission.StandsFor, Emission.CutAt};
 ghost use Rattle.dns_fields.specs.Labels.{AreLabels, wire};
-ghost use Rattle.dns_labels.specs.Emission.{StandsFor, CutAt};
 
 use dns_types::comparing::{same_middle, same_octets};
 

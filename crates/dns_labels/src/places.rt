@@ -3,8 +3,7 @@
 ghost use Rattle.std.specs.Prelude.{◌≡◌, ℕ, List, ◌+◌, ◌/◌, ◌<◌, ◌≤◌, length, IfSome};
 ghost use Rattle.std.specs.Bool.{OnTrue};
 ghost use Rattle.dns_fields.specs.Labels.{AreLabels, wire};
-ghost use Rattle.dns_labels.specs.Labels.{AreNameOctets};
-ghost use Rattle.dns_labels.specs.Emission.{StandsFor, IsNameCut};
+ghost use Rattle.dns_labels.specs.{Labels.AreNameOctets, Emission.StandsFor, Emission.IsNameCut};
 
 use crate::matching::{stands_at, stands_in_two, stands_whole};
 use byteorder::{ByteOrder, LittleEndian};

@@ -1,10 +1,8 @@
 //! Names read from a message.
 
 ghost use Rattle.std.specs.Prelude.{◌≡◌, ℕ, ◌+◌, ◌≤◌, List, [], length, IfOk, IfSome, IfNone, Option, Err, true};
-ghost use Rattle.dns_fields.specs.Labels.{DomainName, FitsName, wire};
-ghost use Rattle.dns_fields.specs.Names.{LabelsStand, IsNameIn};
-ghost use Rattle.dns_labels.specs.Labels.{AreNameOctets, name_of};
-ghost use Rattle.dns_labels.specs.Reading.{IsRun, AddsRun, IsNameAt};
+ghost use Rattle.dns_fields.specs.{Labels.DomainName, Labels.FitsName, Labels.wire, Names.LabelsStand, Names.IsNameIn};
+ghost use Rattle.dns_labels.specs.{Labels.AreNameOctets, Labels.name_of, Reading.IsRun, Reading.AddsRun, Reading.IsNameAt};
 
 use crate::NameOctets;
 use crate::buffer::{MAX_OCTETS, NameBuffer};

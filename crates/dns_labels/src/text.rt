@@ -1,13 +1,13 @@
 //! Texts of names (RFC 1035, 5.1).
 
-ghost use Rattle.std.specs.Prelude.{◌≡◌, ℕ, ◌+◌, ◌<◌, ◌≤◌, List, [], ◌∷◌, ◌++◌, length, take, drop, ◌⊎◌, IfSome, IfNone, IfOk, IfErr, MatchResult, Some};
-ghost use Rattle.std.specs.Bool.{OnTrue};
+ghost use Rattle.std.specs.Prelude.{◌≡◌, ℕ, ◌+◌, ◌<◌, ◌≤◌, List, [], ◌∷◌, ◌++◌, length, take, drop, ◌⊎◌, IfSome, IfNone, IfOk, IfErr, MatchResult};
+ghost use Rattle.std.specs.Prelude.{Some};
+ghost use Rattle.std.specs.{Bool.OnTrue, Fmt.DisplaysOnOk};
 ghost use Rattle.dns_labels.specs.declared.error.NameTextError.TheVariants as text_error;
-ghost use Rattle.std.specs.Fmt.{DisplaysOnOk};
 ghost use Rattle.dns_fields.specs.Labels.{DomainName, IsLabel, IsName};
 ghost use Rattle.dns_labels.specs.Labels.{AreNameOctets, name_of};
-ghost use Rattle.dns_labels.specs.Text.{OctetText as IsOctetText, LabelText as IsLabelText, IsNameText, IsLabelEnd, AddsOctets, AddsLabel};
-ghost use Rattle.dns_labels.specs.Text.{HasOctets, printed, label_text, name_text};
+ghost use Rattle.dns_labels.specs.Text.{OctetText as IsOctetText, LabelText as IsLabelText, IsNameText, IsLabelEnd, AddsOctets, AddsLabel, HasOctets};
+ghost use Rattle.dns_labels.specs.Text.{printed, label_text, name_text};
 
 use crate::buffer::{MAX_OCTETS, NameBuffer};
 use crate::error::NameTextError;

@@ -3,9 +3,7 @@
 ghost use Rattle.std.specs.Prelude.{◌≡◌, ◌≢◌, ℕ, ◌+◌, ◌++◌, ◌<◌, ◌≤◌, Bool, [], ◌∷◌, None, Err, length, IfOk, OnOk, OnErr};
 ghost use Rattle.std.specs.Vec.{vec_capacity, vec_len};
 ghost use Rattle.dns_fields.specs.Names.{NameWrote, pointer};
-ghost use Rattle.dns_labels.specs.Labels.{AreNameOctets, name_of};
-ghost use Rattle.dns_labels.specs.Reading.{stop_octets};
-ghost use Rattle.dns_labels.specs.Emission.{IsNameCut, StandsFor};
+ghost use Rattle.dns_labels.specs.{Labels.AreNameOctets, Labels.name_of, Reading.stop_octets, Emission.IsNameCut, Emission.StandsFor};
 
 use crate::error::WriteError;
 use crate::places::{Places, name_hash};

@@ -1,9 +1,8 @@
 -- Lists that are the same up to one place, and from that place or an earlier one on.
-use Rattle.std.proofs.Common.{◌≡◌, ◌≤◌, ◌-◌, ◌∙◌, ℕ, Bool, true, false, IsTrue, ◌↔◌, List, [], ◌∷◌, take, drop, length, refl, sym, ap, suc, zero, arith, take_all, nat_eq}
-use Rattle.std.proofs.Math.Bool.{◌&&◌}
-use Rattle.std.proofs.lemmas.Bool.{and_parts, eqb-true, eq-eqb}
+use Rattle.std.proofs.Common.{◌≡◌, ◌≤◌, ◌-◌, ◌∙◌, ℕ, Bool, true, false, IsTrue, ◌↔◌, List, [], ◌∷◌, take, drop, length, refl, sym, ap, suc, zero}
+use Rattle.std.proofs.Common.{arith, take_all, nat_eq}
+use Rattle.std.proofs.{Math.Bool.◌&&◌, lemmas.Bool.and_parts, lemmas.Bool.eqb-true, lemmas.Bool.eq-eqb, Math.Seq.take-add}
 use Rattle.std.proofs.lemmas.List.{length-drop, length-take-le, take-append-drop}
-use Rattle.std.proofs.Math.Seq.{take-add}
 use Rattle.std.specs.Prelude.{◌+◌, ◌++◌, replicate}
 
 both : {X : Type 0} (i j : ℕ) (a b : List X) → j ≤ i → take i a ≡ take i b → drop j a ≡ drop j b → a ≡ b

@@ -1,18 +1,13 @@
 -- A text is read as one type at most: a name is no TYPE with a number, and each type has a name of its own.
-use Rattle.std.proofs.Common.{◌≡◌, ℕ, ◌<◌, ◌^◌, ◌==◌, Bool, true, false, ◌&&◌, cond, List, [], ◌∷◌, ◌++◌, drop, find, Option, Some, None}
-use Rattle.std.proofs.Common.{Result, Ok, Err, MatchOption, codes, decimal, refl, sym, ◌∙◌, ap, subst, inl, inr, lit<, arith}
-use Rattle.std.specs.Cmp.Lexicographic.{pointwise, pointwise_decides}
-use Rattle.std.specs.Cmp.{unsigned_Decides}
-use Rattle.std.specs.Option.{ok_or}
-use Rattle.std.specs.Str.Parse.{digits_value}
-use Rattle.dns_types.specs.declared.error.DecodeError.{DecodeError}
-use Rattle.dns_types.specs.declared.error.DecodeError.TheVariants.{UnknownRecordTypeStr}
-use Rattle.dns_types.specs.declared.record_type.RecordType.{RecordType}
-use Rattle.dns_types.specs.declared.record_type.RecordType.TheVariants.{Unknown}
+use Rattle.std.proofs.Common.{◌≡◌, ℕ, ◌<◌, ◌^◌, ◌==◌, Bool, true, false, ◌&&◌, cond, List, [], ◌∷◌, ◌++◌, drop, find, Option, Some, None, Result, Ok}
+use Rattle.std.proofs.Common.{Err, MatchOption, codes, decimal, refl, sym, ◌∙◌, ap, subst, inl, inr, lit<, arith}
+use Rattle.std.specs.{Cmp.Lexicographic.pointwise, Cmp.Lexicographic.pointwise_decides, Cmp.unsigned_Decides, Option.ok_or, Str.Parse.digits_value}
+use Rattle.dns_types.specs.{declared.error.DecodeError.DecodeError, declared.error.DecodeError.TheVariants.UnknownRecordTypeStr}
+use Rattle.dns_types.specs.{declared.record_type.RecordType.RecordType, declared.record_type.RecordType.TheVariants.Unknown}
+use Rattle.dns_types.specs.RecordTypes.{number_of, is_named, named_types, record_type_of, type_text, has_name, IsTypeName, IsNumberText, IsTypeText}
+use Rattle.dns_types.specs.RecordTypes.{ReadsType, ReadsPrinted}
 use Rattle.std.proofs.lemmas.Fmt.{decimal_is_IsNumeral, length-decimal-le}
 use Rattle.dns_types.proofs.RecordTypeLaws.{number_of-record_type_of}
-use Rattle.dns_types.specs.RecordTypes.{number_of, is_named, named_types, record_type_of, type_text, has_name, IsTypeName, IsNumberText}
-use Rattle.dns_types.specs.RecordTypes.{IsTypeText, ReadsType, ReadsPrinted}
 
 -- what a first match is
 found_at : {X : Type 0} (p : X → Bool) (y x : X) (rest : Option X) (b : Bool) → p y ≡ b → (rest ≡ Some x → p x ≡ true) → cond b (Some y) rest ≡ Some x

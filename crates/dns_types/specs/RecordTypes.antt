@@ -1,15 +1,13 @@
 -- The types of records: their numbers, their order and their texts.
-use Rattle.std.specs.Prelude.{◌≡◌, ℕ, ◌+◌, ◌*◌, ◌^◌, ◌<◌, ◌≤◌, ◌==◌, ◌⊎◌, ◌&&◌, Bool, true, false, IsTrue, List, [], ◌∷◌, ◌++◌, length}
-use Rattle.std.specs.Prelude.{find, unwrap_or, codes, decimal, Result, Ok, MatchResult}
-use Rattle.std.specs.Cmp.Lexicographic.{pointwise}
-use Rattle.std.specs.Str.Parse.{IsNumeral, digits_value}
-use Rattle.dns_types.specs.declared.error.DecodeError.{DecodeError}
+use Rattle.std.specs.Prelude.{◌≡◌, ℕ, ◌+◌, ◌*◌, ◌^◌, ◌<◌, ◌≤◌, ◌==◌, ◌⊎◌, ◌&&◌, Bool, true, false, IsTrue, List, [], ◌∷◌, ◌++◌, length, find}
+use Rattle.std.specs.Prelude.{unwrap_or, codes, decimal, Result, Ok, MatchResult}
+use Rattle.std.specs.{Cmp.Lexicographic.pointwise, Str.Parse.IsNumeral, Str.Parse.digits_value}
+use Rattle.dns_types.specs.{declared.error.DecodeError.DecodeError, declared.record_type.RecordType.RecordType}
 use Rattle.dns_types.specs.declared.error.DecodeError.TheVariants.{UnknownRecordTypeStr}
-use Rattle.dns_types.specs.declared.record_type.RecordType.{RecordType}
-use Rattle.dns_types.specs.declared.record_type.RecordType.TheVariants.{ZERO, A, NS, CNAME, SOA, NULL, PTR, HINFO, MX, TXT, SIG, KEY, AAAA}
-use Rattle.dns_types.specs.declared.record_type.RecordType.TheVariants.{SRV, NAPTR, CERT, DNAME, OPT, DS, SSHFP, RRSIG, NSEC, DNSKEY}
-use Rattle.dns_types.specs.declared.record_type.RecordType.TheVariants.{NSEC3, NSEC3PARAM, TLSA, SMIMEA, CDS, CDNSKEY, OPENPGPKEY, CSYNC}
-use Rattle.dns_types.specs.declared.record_type.RecordType.TheVariants.{SVCB, HTTPS, TSIG, IXFR, AXFR, ANY, CAA, ANAME, Unknown}
+use Rattle.dns_types.specs.declared.record_type.RecordType.TheVariants.{ZERO, A, NS, CNAME, SOA, NULL, PTR, HINFO, MX, TXT, SIG, KEY, AAAA, SRV}
+use Rattle.dns_types.specs.declared.record_type.RecordType.TheVariants.{NAPTR, CERT, DNAME, OPT, DS, SSHFP, RRSIG, NSEC, DNSKEY, NSEC3, NSEC3PARAM}
+use Rattle.dns_types.specs.declared.record_type.RecordType.TheVariants.{TLSA, SMIMEA, CDS, CDNSKEY, OPENPGPKEY, CSYNC, SVCB, HTTPS, TSIG, IXFR, AXFR}
+use Rattle.dns_types.specs.declared.record_type.RecordType.TheVariants.{ANY, CAA, ANAME, Unknown}
 
 -- the number of a type on the wire (IANA's "Resource Record (RR) TYPEs"; ANAME's is of private use)
 abbrev pub number_of : RecordType → ℕ

@@ -1,8 +1,7 @@
 //! The types of records, their numbers and their texts.
 ghost use Rattle.std.specs.Prelude.{refl, ◌≡◌, ◌==◌, ◌↔◌, Some, IsTrue, find, MatchOption};
-ghost use Rattle.std.specs.Ordering.{on, nat_cmp, as_partial_cmp};
+ghost use Rattle.std.specs.{Ordering.on, Ordering.nat_cmp, Ordering.as_partial_cmp, Cmp.Rules.comparing, Cmp.Rules.hashing};
 ghost use Rattle.std.specs.Cmp.{partial_order_from_agreeing_total, unsigned_ties, on_total, nat_cmp_total};
-ghost use Rattle.std.specs.Cmp.Rules.{comparing, hashing};
 ghost use Rattle.std.specs.Hash as fed;
 ghost use Rattle.std.proofs.Common.{rules};
 ghost use Rattle.dns_types.specs.RecordTypes.{number_of, record_type_of, code_of, is_named, type_text, has_name, named_types, IsNumberText};

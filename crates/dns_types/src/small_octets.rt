@@ -1,13 +1,9 @@
 //! Octets that a value owns, a few of them without memory.
 ghost use Rattle.std.specs.Prelude.{◌≡◌, ◌==◌, ◌<◌, ◌≤◌, ◌^◌, ◌↔◌, ℕ, List, [], length, All, IfOk, IsTrue};
-ghost use Rattle.std.specs.Box.{boxed_slice_items};
+ghost use Rattle.std.specs.{Box.boxed_slice_items, Cmp.partial_order_from_agreeing_total, Cmp.Rules.comparing, Cmp.Rules.hashing, Ordering.nat_cmp};
+ghost use Rattle.std.specs.{Ordering.as_partial_cmp, Slice.Iter.iter_rest, Iterator.Adapters.IterYieldsInOrder};
 ghost use Rattle.std.specs.Cmp.Lexicographic.{pointwise, slice_cmp, texts_ties, nat_list_cmp_total};
-ghost use Rattle.std.specs.Cmp.{partial_order_from_agreeing_total};
-ghost use Rattle.std.specs.Cmp.Rules.{comparing, hashing};
-ghost use Rattle.std.specs.Ordering.{nat_cmp, as_partial_cmp};
 ghost use Rattle.std.specs.Hash as fed;
-ghost use Rattle.std.specs.Slice.Iter.{iter_rest};
-ghost use Rattle.std.specs.Iterator.Adapters.{IterYieldsInOrder};
 ghost use Rattle.std.proofs.Common.{rules, refl};
 
 use crate::comparing::{same_arrays, same_octets};

@@ -1,16 +1,10 @@
 //! Lists of octet strings that a value owns.
 ghost use Rattle.std.specs.Prelude.{◌≡◌, ◌==◌, ◌<◌, ◌^◌, ◌++◌, ◌∷◌, ◌↔◌, ℕ, List, [], length, slice_get, OnOk, OnErr, IfOk, IsTrue};
-ghost use Rattle.std.specs.Option.{option_copied};
+ghost use Rattle.std.specs.{Option.option_copied, Cmp.partial_order_from_agreeing_total, Cmp.unsigned_Decides, Cmp.Rules.comparing, Ordering.nat_cmp};
+ghost use Rattle.std.specs.{Ordering.as_partial_cmp, Slice.Iter.iter_rest, Global.Global, Vec.Iter.into_iter_items, Vec.Iter.into_iter_len};
+ghost use Rattle.std.specs.{Vec.Iter.into_iter_steps, Iterator.Adapters.IterYieldsInOrder, Iterator.Runs.EveryRun, Iterator.Runs.ItemsAre};
 ghost use Rattle.std.specs.Cmp.Lexicographic.{pointwise, slice_cmp, texts_ties, lists_ties, lists_total, nat_list_cmp_total, pointwise_decides};
-ghost use Rattle.std.specs.Cmp.{partial_order_from_agreeing_total, unsigned_Decides};
-ghost use Rattle.std.specs.Cmp.Rules.{comparing};
-ghost use Rattle.std.specs.Ordering.{nat_cmp, as_partial_cmp};
 ghost use Rattle.std.specs.Hash as fed;
-ghost use Rattle.std.specs.Slice.Iter.{iter_rest};
-ghost use Rattle.std.specs.Global.{Global};
-ghost use Rattle.std.specs.Vec.Iter.{into_iter_items, into_iter_len, into_iter_steps};
-ghost use Rattle.std.specs.Iterator.Adapters.{IterYieldsInOrder};
-ghost use Rattle.std.specs.Iterator.Runs.{EveryRun, ItemsAre};
 ghost use Rattle.std.proofs.Common.{rules, refl, ap};
 
 use crate::comparing::same_octets;

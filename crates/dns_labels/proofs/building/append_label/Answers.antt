@@ -1,10 +1,10 @@
 use Rattle.std.proofs.Common.{◌∙◌, ◌∷◌, ◌++◌, [], ap, arith, List, ℕ, length}
 use Rattle.dns_labels.specs.Labels.{labels_of}
 use Rattle.dns_labels.proofs.Built.{AreJoined, label_joined, label_fits}
-use Rattle.dns_labels.proofs.building.append_label.Goals as goal
 use Rattle.dns_labels.proofs.building.append_label.Goals.{In_ok-extend_from_slice-2, then-count-eq0-via-then-count-eq0}
 use Rattle.dns_labels.proofs.building.append_label.Goals.{then-count-eq0-via-else-count-eq0+then-count-gt63}
 use Rattle.dns_labels.proofs.building.append_label.Goals.{then-count-eq0-via-else-count-eq0+else-count-gt63+then-len-count-ge-MAX_OCTETS}
+use Rattle.dns_labels.proofs.building.append_label.Goals as goal
 
 pub returns-then-count-eq0-clause-refused : goal.returns-then-count-eq0-clause-refused
 returns-then-count-eq0-clause-refused c = λ e is.

@@ -1,6 +1,5 @@
 use Rattle.std.proofs.Common.{◌+◌, arith, ℕ, ap, take, drop}
-use Rattle.dns_labels.proofs.ReadingSteps.{at_zero, at_pointer}
-use Rattle.dns_labels.proofs.WritingSteps.{one_matched}
+use Rattle.dns_labels.proofs.{ReadingSteps.at_zero, ReadingSteps.at_pointer, WritingSteps.one_matched}
 use Rattle.dns_labels.proofs.matching.match_run.Goals as goal
 
 pub returns-then-count-eq0 : goal.returns-then-count-eq0

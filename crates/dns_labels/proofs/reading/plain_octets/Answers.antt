@@ -1,6 +1,5 @@
 use Rattle.std.proofs.Common.{arith, refl, ◌++◌, ◌+◌, take, drop, get_or}
-use Rattle.dns_labels.proofs.ReadingSteps.{one_more}
-use Rattle.dns_labels.proofs.ReadingRuns.{plain_length, plain_name}
+use Rattle.dns_labels.proofs.{ReadingSteps.one_more, ReadingRuns.plain_length, ReadingRuns.plain_name}
 use Rattle.dns_labels.proofs.reading.plain_octets.Goals as goal
 
 pub returns-then-count-eq0-clause-some : goal.returns-then-count-eq0-clause-some

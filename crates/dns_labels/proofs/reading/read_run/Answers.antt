@@ -1,9 +1,8 @@
 use Rattle.std.proofs.Common.{length-append, length-take, length-drop, arith, ℕ, ap, take, drop}
 use Rattle.dns_labels.proofs.ReadingSteps.{onward, at_pointer, one_more, so_far_none}
-use Rattle.dns_labels.proofs.reading.read_run.Goals as goal
-use Rattle.dns_labels.proofs.reading.read_run.Goals.{then-count-ge64-via-then-count-ge64}
-use Rattle.dns_labels.proofs.reading.read_run.Goals.{then-count-ge64-via-else-count-ge64+then-message-at}
+use Rattle.dns_labels.proofs.reading.read_run.Goals.{then-count-ge64-via-then-count-ge64, then-count-ge64-via-else-count-ge64+then-message-at}
 use Rattle.dns_labels.proofs.reading.read_run.Goals.{then-count-ge64-via-else-count-ge64+else-message-at+then-len-count-ge-MAX_OCTETS}
+use Rattle.dns_labels.proofs.reading.read_run.Goals as goal
 
 pub returns-then-at-message-clause-none : goal.returns-then-at-message-clause-none
 returns-then-at-message-clause-none c = λ front stop end run room. let o = onward c.labels.invariant.0 run in omega (arith, o.1.some)

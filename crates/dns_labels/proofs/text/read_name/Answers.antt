@@ -1,8 +1,8 @@
 use Rattle.std.proofs.Common.{arith, length, length-drop, ◌+◌, ◌<◌}
 use Rattle.std.proofs.lemmas.List.{take_rest}
 use Rattle.dns_labels.proofs.NameSteps.{name_none, name_ends, name_dotted, name_more, name_refused, reads_nothing, reads_root, said_of_err}
-use Rattle.dns_labels.proofs.text.read_name.Goals as goal
 use Rattle.dns_labels.proofs.text.read_name.Goals.{else-text-eq1-via-then-text-eq1+else-text-eq46, else-text-eq1-via-else-text-eq1}
+use Rattle.dns_labels.proofs.text.read_name.Goals as goal
 
 pub returns-then-text-eq0-clause-some : goal.returns-then-text-eq0-clause-some
 returns-then-text-eq0-clause-some c = reads_nothing c.requires (omega arith)

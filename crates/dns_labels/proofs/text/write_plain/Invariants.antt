@@ -1,7 +1,6 @@
 use Rattle.std.proofs.Common.{◌≡◌, ◌≤◌, ◌∷◌, ◌++◌, length}
 use Rattle.std.specs.Prelude.{flat_map}
-use Rattle.dns_labels.specs.Labels.{labels_of}
-use Rattle.dns_labels.specs.Text.{label_text, joined_text}
+use Rattle.dns_labels.specs.{Labels.labels_of, Text.label_text, Text.joined_text}
 use Rattle.dns_labels.proofs.text.write_plain.Given as goal
 
 -- the labels so far were written, and those that the iterator has left are the others

@@ -1,8 +1,8 @@
 use Rattle.std.proofs.Common.{◌+◌, ◌<◌, ◌∙◌, ap, ◌++◌, ℕ, List, length, take, arith, length-take}
 use Rattle.dns_labels.specs.Reading.{stop_octets}
 use Rattle.dns_labels.proofs.Wrote.{cut_wrote, lacks_room}
-use Rattle.dns_labels.proofs.writing.write_new.Goals as goal
 use Rattle.dns_labels.proofs.writing.write_new.Goals.{then-start-limit-via-then-start-limit, then-start-limit-via-else-start-limit+then-limit-start}
+use Rattle.dns_labels.proofs.writing.write_new.Goals as goal
 
 pub returns-then-start-limit-clause-full : goal.returns-then-start-limit-clause-full
 returns-then-start-limit-clause-full c = λ e.

@@ -1,8 +1,8 @@
 use Rattle.std.proofs.Common.{arith, ◌≤◌, ◌<◌, ◌++◌, ◌∙◌, sym, get_or, length}
 use Rattle.std.specs.String.{string_bytes}
 use Rattle.dns_text.proofs.ListSteps.{shorter, run_step, comma_step, kept_step, skipped_step, is_slash}
-use Rattle.dns_text.proofs.pieces.escaped_piece.Goals as goal
 use Rattle.dns_text.proofs.pieces.escaped_piece.Goals.{else-more-gt1-via-then-more-gt1+else-octet-lt128, else-more-gt1-via-else-more-gt1}
+use Rattle.dns_text.proofs.pieces.escaped_piece.Goals as goal
 
 pub runs-preserved-then-more-eq0 : goal.runs-preserved-then-more-eq0
 runs-preserved-then-more-eq0 c = (

@@ -1,6 +1,5 @@
 use Rattle.std.proofs.Common.{◌≡◌, ◌≤◌, false, length}
-use Rattle.std.specs.Str.{IsUtf8}
-use Rattle.std.specs.String.{string_bytes}
+use Rattle.std.specs.{Str.IsUtf8, String.string_bytes}
 use Rattle.dns_text.specs.Lists.{pieces_from, pieces_of}
 use Rattle.dns_text.proofs.pieces.escaped_piece.Given as goal
 

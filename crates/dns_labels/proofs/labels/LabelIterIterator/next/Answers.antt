@@ -1,6 +1,5 @@
 use Rattle.std.proofs.Common.{arith, length, get_or, ◌+◌, ◌∷◌, take, ap, ◌∙◌, ℕ, drop, sym}
-use Rattle.std.proofs.lemmas.List.{take_rest}
-use Rattle.std.proofs.lemmas.Bool.Decides.{nat_tests}
+use Rattle.std.proofs.{lemmas.List.take_rest, lemmas.Bool.Decides.nat_tests}
 use Rattle.dns_labels.specs.Labels.{labels_of}
 use Rattle.dns_labels.proofs.Octets.{first_label}
 use Rattle.dns_labels.proofs.labels.LabelIterIterator.next.Goals as goal
