@@ -1,7 +1,7 @@
 -- Writing fields one after the other.
 use Rattle.std.proofs.Common.{◌≡◌, Bool, true, false, ◌&&◌, ℕ, ◌≤◌, List, [], ◌∷◌, ◌++◌, length, refl, sym, ap, ◌∙◌, arith, append_assoc, subst}
 use Rattle.std.proofs.Common.{Result, Ok, Err}
-use Rattle.std.proofs.lemmas.List.{length-append, append-nil}
+use Rattle.std.proofs.{lemmas.List.length-append, lemmas.List.append-nil, Math.Bool.and-false}
 use Rattle.std.specs.Result.{IsErrAnd}
 use Rattle.dns_names_wire.specs.State.{Writing}
 use Rattle.dns_names_wire.specs.Words.{AppendedField, Appended, Keeps, WithinLimit, Extends, NoRoomField, NoRoom, UnfitField, Unfit, Because}
@@ -73,15 +73,11 @@ no_room_then {w} {b} {k} {v} {kinds} {vs} f n =
       );
     }
 
-pub and_false : (b : Bool) → (b && false) ≡ false
-and_false true = refl
-and_false false = refl
-
 pub unfit_first : {k : Kind} {v : Value k} {kinds : List Kind} {vs : Values kinds} → UnfitField k v → Unfit (k ∷ kinds) (v, vs)
 unfit_first {k} {v} {kinds} {vs} u = record { unfit = rw u.unfit refl }
 
 pub unfit_then : {k : Kind} {v : Value k} {kinds : List Kind} {vs : Values kinds} → Unfit kinds vs → Unfit (k ∷ kinds) (v, vs)
-unfit_then {k} {v} {kinds} {vs} u = record { unfit = rw u.unfit (and_false (is_emittable k v)) }
+unfit_then {k} {v} {kinds} {vs} u = record { unfit = rw u.unfit (and-false (is_emittable k v)) }
 
 pub because_map : (e : ProtoError) (P Q R S : Type 0) → (P → R) → (Q → S) → Because e P Q → Because e R S
 because_map proto.Memory P Q R S f g h = tt
