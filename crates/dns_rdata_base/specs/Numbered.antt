@@ -19,3 +19,7 @@ numbered_cmp number variant = then_cmp (on number nat_cmp) (on variant nat_cmp)
 pub record NumberedAt {T : Type 0} (width : ℕ) (number : T → ℕ) (of : ℕ → T) (m : List ℕ) (p : ℕ) (x : T) (q : ℕ) : Type 0 where
   pub field : Field m p (Number width) (number x) q
   pub given : x ≡ of (number x)
+
+-- what a value is compared by, in front of other keys
+abbrev pub keyed : {T R : Type 0} → (T → ℕ) → (T → ℕ) → T → R → ℕ × (ℕ × R)
+keyed number variant e rest = (number e, (variant e, rest))

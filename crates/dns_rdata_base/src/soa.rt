@@ -85,30 +85,14 @@ impl SOA {
     fn emit_numbers(&self, encoder: &mut BinEncoder<'_>) -> Result<(), ProtoError>
         ensures emits { Emits soa_numbers_shape (soa_numbers_of self.now) result encoder.old encoder.new }
     {
-        emit_five(
-            encoder,
+        encoder.emit_vec(&five_numbers(
             self.serial,
             self.refresh.cast_unsigned(),
             self.retry.cast_unsigned(),
             self.expire.cast_unsigned(),
             self.minimum,
-        )
+        ))
     }
-}
-
-// Appends five numbers at once.
-#[inline]
-fn emit_five(
-    encoder: &mut BinEncoder<'_>,
-    a: u32,
-    b: u32,
-    c: u32,
-    d: u32,
-    e: u32,
-) -> Result<(), ProtoError>
-    ensures { Emits soa_numbers_shape (a, (b, (c, (d, (e, tt))))) result encoder.old encoder.new }
-{
-    encoder.emit_vec(&five_numbers(a, b, c, d, e))
 }
 
 // The octets of five numbers, put there number by number: each is then stored at once, and not octet by octet.

@@ -16,7 +16,6 @@ use std::convert::AsStr;
 impl A {
     /// From one word, the text of an IPv4 address as `from_str` reads it. Further words are not read. Refused by
     /// [`MissingToken`](ParseError::MissingToken) or [`AddrParse`](ParseError::AddrParse). Takes no memory.
-    #[tactic(auto, using(dns_words::proofs::Steps::reading))]
     pub fn from_tokens<S: AsStr + Drop, I: Iterator<Item = S>>(
         mut tokens: I,
     ) -> Result<A, ParseError>
@@ -32,7 +31,6 @@ impl A {
 impl AAAA {
     /// From one word, the text of an IPv6 address as `from_str` reads it. Further words are not read. Refused by
     /// [`MissingToken`](ParseError::MissingToken) or [`AddrParse`](ParseError::AddrParse). Takes no memory.
-    #[tactic(auto, using(dns_words::proofs::Steps::reading))]
     pub fn from_tokens<S: AsStr + Drop, I: Iterator<Item = S>>(
         mut tokens: I,
     ) -> Result<AAAA, ParseError>

@@ -27,7 +27,6 @@ impl ANAME {
     /// From one word, the text of a name, which the origin completes where one is given. Further words are not read.
     /// Refused by [`MissingToken`](ParseError::MissingToken), by [`Proto`](ParseError::Proto) where the word is no
     /// name, or by [`Memory`](ParseError::Memory).
-    #[tactic(auto, using(dns_words::proofs::Steps::reading))]
     pub fn from_tokens<S: AsStr + Drop, I: Iterator<Item = S>>(
         alloc: Global,
         mut tokens: I,
@@ -43,7 +42,6 @@ impl ANAME {
 
 impl CNAME {
     /// From one word, the name, as `ANAME::from_tokens`.
-    #[tactic(auto, using(dns_words::proofs::Steps::reading))]
     pub fn from_tokens<S: AsStr + Drop, I: Iterator<Item = S>>(
         alloc: Global,
         mut tokens: I,
@@ -59,7 +57,6 @@ impl CNAME {
 
 impl NS {
     /// From one word, the name, as `ANAME::from_tokens`.
-    #[tactic(auto, using(dns_words::proofs::Steps::reading))]
     pub fn from_tokens<S: AsStr + Drop, I: Iterator<Item = S>>(
         alloc: Global,
         mut tokens: I,
@@ -75,7 +72,6 @@ impl NS {
 
 impl PTR {
     /// From one word, the name, as `ANAME::from_tokens`.
-    #[tactic(auto, using(dns_words::proofs::Steps::reading))]
     pub fn from_tokens<S: AsStr + Drop, I: Iterator<Item = S>>(
         alloc: Global,
         mut tokens: I,
@@ -94,7 +90,6 @@ impl MX {
     /// one is given. Further words are not read. Refused by [`MissingToken`](ParseError::MissingToken), by
     /// [`Message`](ParseError::Message) where a word is no such number, by [`Proto`](ParseError::Proto) where one is no
     /// name, or by [`Memory`](ParseError::Memory).
-    #[tactic(auto, using(dns_words::proofs::Steps::reading))]
     pub fn from_tokens<S: AsStr + Drop, I: Iterator<Item = S>>(
         alloc: Global,
         mut tokens: I,
@@ -112,7 +107,6 @@ impl MX {
 impl SRV {
     /// From four words: priority, weight and port, decimal numbers of 16 bits, and target, a name. Further words are
     /// not read. Refused as `MX::from_tokens`.
-    #[tactic(auto, using(dns_words::proofs::Steps::reading))]
     pub fn from_tokens<S: AsStr + Drop, I: Iterator<Item = S>>(
         alloc: Global,
         mut tokens: I,
