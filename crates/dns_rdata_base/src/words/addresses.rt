@@ -23,8 +23,7 @@ impl A {
         ensures reads { ReadsRow I.next_gives S.text a_words a_fields result tokens }
         ensures memory { IfErr result (λ e. e ≢ parse.Memory) }
     {
-        let address = next_ipv4(&mut tokens, "A address")?;
-        Ok(A(address))
+        Ok(A(next_ipv4(&mut tokens, "A address")?))
     }
 }
 
@@ -38,7 +37,6 @@ impl AAAA {
         ensures reads { ReadsRow I.next_gives S.text aaaa_words aaaa_fields result tokens }
         ensures memory { IfErr result (λ e. e ≢ parse.Memory) }
     {
-        let address = next_ipv6(&mut tokens, "AAAA address")?;
-        Ok(AAAA(address))
+        Ok(AAAA(next_ipv6(&mut tokens, "AAAA address")?))
     }
 }

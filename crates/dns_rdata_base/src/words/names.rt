@@ -35,8 +35,7 @@ impl ANAME {
         requires can { I.can_next tokens }
         ensures { ReadsRow I.next_gives S.text (name_words (option_copied origin.entry)) aname_fields result tokens }
     {
-        let name = next_name(alloc, &mut tokens, origin, "ANAME name")?;
-        Ok(ANAME(name))
+        Ok(ANAME(next_name(alloc, &mut tokens, origin, "ANAME name")?))
     }
 }
 
@@ -50,8 +49,7 @@ impl CNAME {
         requires can { I.can_next tokens }
         ensures { ReadsRow I.next_gives S.text (name_words (option_copied origin.entry)) cname_fields result tokens }
     {
-        let name = next_name(alloc, &mut tokens, origin, "CNAME name")?;
-        Ok(CNAME(name))
+        Ok(CNAME(next_name(alloc, &mut tokens, origin, "CNAME name")?))
     }
 }
 
@@ -65,8 +63,7 @@ impl NS {
         requires can { I.can_next tokens }
         ensures { ReadsRow I.next_gives S.text (name_words (option_copied origin.entry)) ns_fields result tokens }
     {
-        let name = next_name(alloc, &mut tokens, origin, "NS name")?;
-        Ok(NS(name))
+        Ok(NS(next_name(alloc, &mut tokens, origin, "NS name")?))
     }
 }
 
@@ -80,8 +77,7 @@ impl PTR {
         requires can { I.can_next tokens }
         ensures { ReadsRow I.next_gives S.text (name_words (option_copied origin.entry)) ptr_fields result tokens }
     {
-        let name = next_name(alloc, &mut tokens, origin, "PTR name")?;
-        Ok(PTR(name))
+        Ok(PTR(next_name(alloc, &mut tokens, origin, "PTR name")?))
     }
 }
 
