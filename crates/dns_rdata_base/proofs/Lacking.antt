@@ -29,3 +29,5 @@ is_lack_name kinds old new e (inr h) u = inr (inl (h.0, h.1, u))
 pub exit_lack : {T : Type 0} (P : DecodeError → Type 0) (r : Result T DecodeError) (e : DecodeError) → IsErrAnd r (λ y. y ≡ e) → P e → IfErr r P
 exit_lack P (Ok x) e h p = elim h [ ]
 exit_lack P (Err y) e h p = subst P (sym h) p
+
+pub ruleset lacking = (exit_lack, is_lack_then, is_lack_here)

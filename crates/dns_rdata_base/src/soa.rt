@@ -68,7 +68,7 @@ impl SOA {
 
 impl SOA {
     // Reads serial, refresh, retry, expire and minimum.
-    #[tactic(auto, using(dns_names_wire::proofs::FieldReads::reading))]
+    #[tactic(auto, using(dns_names_wire::proofs::FieldReads::reading, crate::proofs::Lacking::lacking))]
     fn read_numbers(decoder: &mut BinDecoder<'_>) -> Result<(u32, i32, i32, i32, u32), DecodeError>
         ensures fields { ReadsIf soa_numbers_shape (always soa_numbers_shape) soa_numbers result decoder.old decoder.new }
         ensures refused { IfErr result (λ e. IsLack soa_numbers_shape decoder.old e decoder.new) }

@@ -1,12 +1,9 @@
 //! The type of a certificate in CERT (RFC 4398, 2.1).
 
-ghost use Rattle.std.specs.Prelude.{◌≡◌, ◌++◌, refl, IfErr, OnErr};
-ghost use Rattle.std.specs.Cmp.Rules.{hashing};
+ghost use Rattle.std.specs.Prelude.{◌≡◌, refl, IfErr, OnErr};
 ghost use Rattle.std.specs.Hash as fed;
-ghost use Rattle.std.specs.Ordering.{as_partial_cmp};
-ghost use Rattle.std.proofs.Common.{rules};
-ghost use Rattle.dns_rdata_base.specs.Numbered.{numbered_eq, numbered_cmp};
-ghost use Rattle.dns_rdata_base.proofs.NumberedLaws.{numbered_equiv, numbered_partial, numbered_total, numbered_order, numbered_ties};
+ghost use Rattle.dns_rdata_base.specs.Numbered.{numbered_eq, numbered_cmp, numbered_partial_cmp, numbered_hash};
+ghost use Rattle.dns_rdata_base.proofs.NumberedLaws.{numbered_equiv, numbered_partial, numbered_total, numbered_order, numbered_ties, numbered_alike};
 ghost use Rattle.dns_names_wire.specs.Words.{ReadsBy, LacksOctets, IsCut};
 ghost use Rattle.dns_rdata_certs.specs.CertType.{cert_type_number, cert_type_variant, cert_type_of};
 
@@ -118,9 +115,9 @@ impl Eq for CertType {
 }
 
 impl Hash for CertType {
-    ghost hash_input = { λ e. fed.u16 (cert_type_number e) ++ fed.u8 (cert_type_variant e) };
+    ghost hash_input = { numbered_hash fed.u16 cert_type_number cert_type_variant };
 
-    ghost respects_eq = { Prim.search (hashing, rules) };
+    ghost respects_eq = { numbered_alike fed.u16 cert_type_number cert_type_variant };
 
     #[inline]
     fn hash<H: Hasher>(&self, state: &mut H) {
@@ -130,7 +127,7 @@ impl Hash for CertType {
 }
 
 impl PartialOrd for CertType {
-    ghost partial_cmp = { as_partial_cmp (numbered_cmp cert_type_number cert_type_variant) };
+    ghost partial_cmp = { numbered_partial_cmp cert_type_number cert_type_variant };
 
     ghost laws = { numbered_order cert_type_number cert_type_variant };
 

@@ -1,12 +1,9 @@
 //! The algorithm of a key in SSHFP (RFC 4255, 3.1.1).
 
-ghost use Rattle.std.specs.Prelude.{◌≡◌, ◌++◌, refl};
-ghost use Rattle.std.specs.Cmp.Rules.{hashing};
+ghost use Rattle.std.specs.Prelude.{◌≡◌, refl};
 ghost use Rattle.std.specs.Hash as fed;
-ghost use Rattle.std.specs.Ordering.{as_partial_cmp};
-ghost use Rattle.std.proofs.Common.{rules};
-ghost use Rattle.dns_rdata_base.specs.Numbered.{numbered_eq, numbered_cmp};
-ghost use Rattle.dns_rdata_base.proofs.NumberedLaws.{numbered_equiv, numbered_partial, numbered_total, numbered_order, numbered_ties};
+ghost use Rattle.dns_rdata_base.specs.Numbered.{numbered_eq, numbered_cmp, numbered_partial_cmp, numbered_hash};
+ghost use Rattle.dns_rdata_base.proofs.NumberedLaws.{numbered_equiv, numbered_partial, numbered_total, numbered_order, numbered_ties, numbered_alike};
 ghost use Rattle.dns_rdata_certs.specs.SshfpAlgorithm.{sshfp_algorithm_number, sshfp_algorithm_variant, sshfp_algorithm_of};
 
 use std::cmp::Ordering;
@@ -94,9 +91,9 @@ impl Eq for Algorithm {
 }
 
 impl Hash for Algorithm {
-    ghost hash_input = { λ e. fed.u8 (sshfp_algorithm_number e) ++ fed.u8 (sshfp_algorithm_variant e) };
+    ghost hash_input = { numbered_hash fed.u8 sshfp_algorithm_number sshfp_algorithm_variant };
 
-    ghost respects_eq = { Prim.search (hashing, rules) };
+    ghost respects_eq = { numbered_alike fed.u8 sshfp_algorithm_number sshfp_algorithm_variant };
 
     #[inline]
     fn hash<H: Hasher>(&self, state: &mut H) {
@@ -106,7 +103,7 @@ impl Hash for Algorithm {
 }
 
 impl PartialOrd for Algorithm {
-    ghost partial_cmp = { as_partial_cmp (numbered_cmp sshfp_algorithm_number sshfp_algorithm_variant) };
+    ghost partial_cmp = { numbered_partial_cmp sshfp_algorithm_number sshfp_algorithm_variant };
 
     ghost laws = { numbered_order sshfp_algorithm_number sshfp_algorithm_variant };
 

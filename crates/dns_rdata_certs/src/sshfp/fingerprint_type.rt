@@ -1,12 +1,9 @@
 //! The type of a fingerprint in SSHFP (RFC 4255, 3.1.2).
 
-ghost use Rattle.std.specs.Prelude.{◌≡◌, ◌++◌, refl};
-ghost use Rattle.std.specs.Cmp.Rules.{hashing};
+ghost use Rattle.std.specs.Prelude.{◌≡◌, refl};
 ghost use Rattle.std.specs.Hash as fed;
-ghost use Rattle.std.specs.Ordering.{as_partial_cmp};
-ghost use Rattle.std.proofs.Common.{rules};
-ghost use Rattle.dns_rdata_base.specs.Numbered.{numbered_eq, numbered_cmp};
-ghost use Rattle.dns_rdata_base.proofs.NumberedLaws.{numbered_equiv, numbered_partial, numbered_total, numbered_order, numbered_ties};
+ghost use Rattle.dns_rdata_base.specs.Numbered.{numbered_eq, numbered_cmp, numbered_partial_cmp, numbered_hash};
+ghost use Rattle.dns_rdata_base.proofs.NumberedLaws.{numbered_equiv, numbered_partial, numbered_total, numbered_order, numbered_ties, numbered_alike};
 ghost use Rattle.dns_rdata_certs.specs.FingerprintType.{fingerprint_type_number, fingerprint_type_variant, fingerprint_type_of};
 
 use std::cmp::Ordering;
@@ -85,9 +82,9 @@ impl Eq for FingerprintType {
 }
 
 impl Hash for FingerprintType {
-    ghost hash_input = { λ e. fed.u8 (fingerprint_type_number e) ++ fed.u8 (fingerprint_type_variant e) };
+    ghost hash_input = { numbered_hash fed.u8 fingerprint_type_number fingerprint_type_variant };
 
-    ghost respects_eq = { Prim.search (hashing, rules) };
+    ghost respects_eq = { numbered_alike fed.u8 fingerprint_type_number fingerprint_type_variant };
 
     #[inline]
     fn hash<H: Hasher>(&self, state: &mut H) {
@@ -97,7 +94,7 @@ impl Hash for FingerprintType {
 }
 
 impl PartialOrd for FingerprintType {
-    ghost partial_cmp = { as_partial_cmp (numbered_cmp fingerprint_type_number fingerprint_type_variant) };
+    ghost partial_cmp = { numbered_partial_cmp fingerprint_type_number fingerprint_type_variant };
 
     ghost laws = { numbered_order fingerprint_type_number fingerprint_type_variant };
 

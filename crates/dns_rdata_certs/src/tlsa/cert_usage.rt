@@ -1,12 +1,9 @@
 //! The usage of a certificate in TLSA (RFC 6698, 2.1.1).
 
-ghost use Rattle.std.specs.Prelude.{◌≡◌, ◌++◌, refl};
-ghost use Rattle.std.specs.Cmp.Rules.{hashing};
+ghost use Rattle.std.specs.Prelude.{◌≡◌, refl};
 ghost use Rattle.std.specs.Hash as fed;
-ghost use Rattle.std.specs.Ordering.{as_partial_cmp};
-ghost use Rattle.std.proofs.Common.{rules};
-ghost use Rattle.dns_rdata_base.specs.Numbered.{numbered_eq, numbered_cmp};
-ghost use Rattle.dns_rdata_base.proofs.NumberedLaws.{numbered_equiv, numbered_partial, numbered_total, numbered_order, numbered_ties};
+ghost use Rattle.dns_rdata_base.specs.Numbered.{numbered_eq, numbered_cmp, numbered_partial_cmp, numbered_hash};
+ghost use Rattle.dns_rdata_base.proofs.NumberedLaws.{numbered_equiv, numbered_partial, numbered_total, numbered_order, numbered_ties, numbered_alike};
 ghost use Rattle.dns_rdata_certs.specs.CertUsage.{cert_usage_number, cert_usage_variant, cert_usage_of};
 
 use std::cmp::Ordering;
@@ -92,9 +89,9 @@ impl Eq for CertUsage {
 }
 
 impl Hash for CertUsage {
-    ghost hash_input = { λ e. fed.u8 (cert_usage_number e) ++ fed.u8 (cert_usage_variant e) };
+    ghost hash_input = { numbered_hash fed.u8 cert_usage_number cert_usage_variant };
 
-    ghost respects_eq = { Prim.search (hashing, rules) };
+    ghost respects_eq = { numbered_alike fed.u8 cert_usage_number cert_usage_variant };
 
     #[inline]
     fn hash<H: Hasher>(&self, state: &mut H) {
@@ -104,7 +101,7 @@ impl Hash for CertUsage {
 }
 
 impl PartialOrd for CertUsage {
-    ghost partial_cmp = { as_partial_cmp (numbered_cmp cert_usage_number cert_usage_variant) };
+    ghost partial_cmp = { numbered_partial_cmp cert_usage_number cert_usage_variant };
 
     ghost laws = { numbered_order cert_usage_number cert_usage_variant };
 

@@ -1,12 +1,9 @@
 //! How the data of TLSA is compared (RFC 6698, 2.1.3).
 
-ghost use Rattle.std.specs.Prelude.{◌≡◌, ◌++◌, refl};
-ghost use Rattle.std.specs.Cmp.Rules.{hashing};
+ghost use Rattle.std.specs.Prelude.{◌≡◌, refl};
 ghost use Rattle.std.specs.Hash as fed;
-ghost use Rattle.std.specs.Ordering.{as_partial_cmp};
-ghost use Rattle.std.proofs.Common.{rules};
-ghost use Rattle.dns_rdata_base.specs.Numbered.{numbered_eq, numbered_cmp};
-ghost use Rattle.dns_rdata_base.proofs.NumberedLaws.{numbered_equiv, numbered_partial, numbered_total, numbered_order, numbered_ties};
+ghost use Rattle.dns_rdata_base.specs.Numbered.{numbered_eq, numbered_cmp, numbered_partial_cmp, numbered_hash};
+ghost use Rattle.dns_rdata_base.proofs.NumberedLaws.{numbered_equiv, numbered_partial, numbered_total, numbered_order, numbered_ties, numbered_alike};
 ghost use Rattle.dns_rdata_certs.specs.Matching.{matching_number, matching_variant, matching_of};
 
 use std::cmp::Ordering;
@@ -90,9 +87,9 @@ impl Eq for Matching {
 }
 
 impl Hash for Matching {
-    ghost hash_input = { λ e. fed.u8 (matching_number e) ++ fed.u8 (matching_variant e) };
+    ghost hash_input = { numbered_hash fed.u8 matching_number matching_variant };
 
-    ghost respects_eq = { Prim.search (hashing, rules) };
+    ghost respects_eq = { numbered_alike fed.u8 matching_number matching_variant };
 
     #[inline]
     fn hash<H: Hasher>(&self, state: &mut H) {
@@ -102,7 +99,7 @@ impl Hash for Matching {
 }
 
 impl PartialOrd for Matching {
-    ghost partial_cmp = { as_partial_cmp (numbered_cmp matching_number matching_variant) };
+    ghost partial_cmp = { numbered_partial_cmp matching_number matching_variant };
 
     ghost laws = { numbered_order matching_number matching_variant };
 

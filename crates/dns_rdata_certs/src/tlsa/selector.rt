@@ -1,12 +1,9 @@
 //! The part of a certificate that TLSA names (RFC 6698, 2.1.2).
 
-ghost use Rattle.std.specs.Prelude.{◌≡◌, ◌++◌, refl};
-ghost use Rattle.std.specs.Cmp.Rules.{hashing};
+ghost use Rattle.std.specs.Prelude.{◌≡◌, refl};
 ghost use Rattle.std.specs.Hash as fed;
-ghost use Rattle.std.specs.Ordering.{as_partial_cmp};
-ghost use Rattle.std.proofs.Common.{rules};
-ghost use Rattle.dns_rdata_base.specs.Numbered.{numbered_eq, numbered_cmp};
-ghost use Rattle.dns_rdata_base.proofs.NumberedLaws.{numbered_equiv, numbered_partial, numbered_total, numbered_order, numbered_ties};
+ghost use Rattle.dns_rdata_base.specs.Numbered.{numbered_eq, numbered_cmp, numbered_partial_cmp, numbered_hash};
+ghost use Rattle.dns_rdata_base.proofs.NumberedLaws.{numbered_equiv, numbered_partial, numbered_total, numbered_order, numbered_ties, numbered_alike};
 ghost use Rattle.dns_rdata_certs.specs.Selector.{selector_number, selector_variant, selector_of};
 
 use std::cmp::Ordering;
@@ -86,9 +83,9 @@ impl Eq for Selector {
 }
 
 impl Hash for Selector {
-    ghost hash_input = { λ e. fed.u8 (selector_number e) ++ fed.u8 (selector_variant e) };
+    ghost hash_input = { numbered_hash fed.u8 selector_number selector_variant };
 
-    ghost respects_eq = { Prim.search (hashing, rules) };
+    ghost respects_eq = { numbered_alike fed.u8 selector_number selector_variant };
 
     #[inline]
     fn hash<H: Hasher>(&self, state: &mut H) {
@@ -98,7 +95,7 @@ impl Hash for Selector {
 }
 
 impl PartialOrd for Selector {
-    ghost partial_cmp = { as_partial_cmp (numbered_cmp selector_number selector_variant) };
+    ghost partial_cmp = { numbered_partial_cmp selector_number selector_variant };
 
     ghost laws = { numbered_order selector_number selector_variant };
 
