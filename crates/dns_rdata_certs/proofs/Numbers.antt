@@ -1,5 +1,5 @@
 -- The number of what a number gives is that number; values of one number that a number gives are one value.
-use Rattle.std.proofs.Common.{◌≡◌, ℕ, sym, ap, ◌∙◌, arith}
+use Rattle.std.proofs.Common.{◌≡◌, ◌↔◌, ℕ, sym, ap, ◌∙◌, arith}
 use Rattle.std.proofs.lemmas.Bool.Decides.{nat_tests}
 use Rattle.dns_fields.specs.Fields.{Number, SameField}
 use Rattle.dns_rdata_certs.specs.CertType.{cert_type_number, cert_type_of}
@@ -38,7 +38,10 @@ pub matching_number-of : (n : ℕ) → matching_number (matching_of n) ≡ n
 unfolding matching_of
 matching_number-of n = grind (arith, nat_tests)
 
--- so the variant is told by the number, too
-pub same_variant : {T : Type 0} (number variant : T → ℕ) (of : ℕ → T) {a b : T} {w : ℕ} → a ≡ of (number a) → b ≡ of (number b)
-    → SameField (Number w) (number a) (number b) → SameField (Number 1) (variant a) (variant b)
-same_variant number variant of x y s = record { is = ap variant (x ∙ ap of s.is ∙ sym y) }
+-- so the variant is told by the number, too: keys are the same where the fields are
+pub keyed_same : {T R S : Type 0} (number variant : T → ℕ) (of : ℕ → T) {a b : T} {w : ℕ} → a ≡ of (number a) → b ≡ of (number b) → R ↔ S
+    → SameField (Number w) (number a) (number b) × (SameField (Number 1) (variant a) (variant b) × R) ↔ SameField (Number w) (number a) (number b) × S
+keyed_same number variant of x y rest = (
+  λ s. (s.0, rest.0 s.1.1),
+  λ s. (s.0, (record { is = ap variant (x ∙ ap of s.0.is ∙ sym y) }, rest.1 s.1)),
+)
