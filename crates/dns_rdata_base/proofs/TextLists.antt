@@ -6,7 +6,7 @@ use Rattle.std.proofs.lemmas.List.{append-nil, length-append}
 use Rattle.std.proofs.lemmas.List.Concat.{flat_map-cons}
 use Rattle.dns_types.specs.declared.error.DecodeError.{DecodeError}
 use Rattle.dns_fields.specs.Octets.{At}
-use Rattle.dns_fields.specs.Fields.{Text, Texts, Field, Values}
+use Rattle.dns_fields.specs.Fields.{Text, Texts, Field}
 use Rattle.dns_fields.specs.Pieces.{string}
 use Rattle.dns_fields.proofs.FieldLaws.{field_inside, field_end}
 use Rattle.dns_names_wire.specs.State.{Reading}
@@ -15,9 +15,6 @@ use Rattle.dns_names_wire.proofs.FieldReads.{unless_map}
 use Rattle.dns_names_wire.proofs.Strings.{at_front, at_rest, at_then}
 use Rattle.dns_rdata_base.specs.TXT.{txt_shape}
 use Rattle.dns_rdata_base.proofs.TextWrites.{joined}
-
-abbrev pub AnyStrings : Values txt_shape → Type 0
-AnyStrings vs = Unit {0}
 
 -- what a loop has read of the strings up to the end, and what is left of any way to fill it
 pub record ReadsOn (old : Reading) (end : ℕ) (strings : List (List ℕ)) (d : Reading) : Type 0 where
@@ -71,7 +68,7 @@ reads_more {old} {d} {b} {end} {xs} {s} lt r f =
 
 -- a string is refused on the way
 pub reads_none : {e : DecodeError} {old d b : Reading} {end : ℕ} {xs : List (List ℕ)} (n : ℕ) → end ≡ old.index + n → d.index < end → ReadsOn old end xs d
-    → RefusedField e d Text b → RefusedWindow e old n txt_shape AnyStrings b
+    → RefusedField e d Text b → RefusedWindow e old n txt_shape (λ _. Unit {0}) b
 reads_none {e} {old} {d} {b} {end} {xs} n is lt r f = record {
   behind = record { message = f.behind.message ∙ r.message; index = omega (arith, r.behind, f.behind.index) };
   none = unless_map e _ _ (λ (l : LacksField d Text). record {
