@@ -1,7 +1,7 @@
 -- Addresses by their octets.
-use Rattle.std.proofs.Common.{◌≡◌, ℕ, zero, suc, ◌+◌, ◌*◌, ◌/◌, ◌%◌, ◌<◌, Bool, true, false, nat_eq, slice_index_or, List, [], ◌∷◌, length, get_or, All, refl, sym, ap, ◌∙◌, arith}
-use Rattle.std.proofs.Math.Bool.{◌&&◌}
-use Rattle.std.specs.Bool.{Decides}
+use Rattle.std.proofs.Common.{◌≡◌, ℕ, zero, suc, ◌+◌, ◌*◌, ◌/◌, ◌%◌, ◌<◌, true, nat_eq, slice_index_or, List, [], ◌∷◌, length, get_or, All, refl, sym, ap, ◌∙◌, arith}
+use Rattle.std.proofs.Math.Bool.{◌&&◌, and-true}
+use Rattle.std.proofs.lemmas.Bool.Decides.{same_from_decides}
 use Rattle.std.specs.Cmp.{unsigned_Decides}
 use Rattle.std.specs.Cmp.Lexicographic.{pointwise, pointwise_decides}
 use Rattle.std.specs.List.{AllByRecursion}
@@ -38,19 +38,14 @@ segments_of-octets_of (s ∷ ss) =
     let whole : (s / 256) * 256 + s % 256 ≡ s = omega arith in
     ap (λ h. h ∷ segments_of (octets_of ss)) whole ∙ ap (λ t. s ∷ t) (segments_of-octets_of ss)
 
--- two answers to one question are the same
-one_answer : (r s : Bool) (P Q : Type 0) → Decides r P → Decides s Q → (P → Q) → (Q → P) → r ≡ s
-one_answer true true P Q d e f g = refl
-one_answer true false P Q d e f g = sym (e.1 (f (d.0 refl)))
-one_answer false true P Q d e f g = d.1 (g (e.0 refl))
-one_answer false false P Q d e f g = refl
-
 -- addresses are the same where their segments are
 same_segments : (xs ys : List ℕ) → pointwise nat_eq xs ys ≡ pointwise nat_eq (octets_of xs) (octets_of ys)
-same_segments xs ys = one_answer _ _ (xs ≡ ys) (octets_of xs ≡ octets_of ys)
-    (pointwise_decides unsigned_Decides xs ys) (pointwise_decides unsigned_Decides (octets_of xs) (octets_of ys))
-    (λ e. ap octets_of e)
-    (λ e. sym (segments_of-octets_of xs) ∙ ap segments_of e ∙ segments_of-octets_of ys)
+same_segments xs ys =
+    let d = pointwise_decides unsigned_Decides (octets_of xs) (octets_of ys) in
+    same_from_decides _ _ (pointwise_decides unsigned_Decides xs ys) (
+      λ e. sym (segments_of-octets_of xs) ∙ ap segments_of (d.0 e) ∙ segments_of-octets_of ys,
+      λ e. d.1 (ap octets_of e),
+    )
 
 -- a list of eight is its eight elements
 abbrev elements : List ℕ → List ℕ
@@ -69,10 +64,6 @@ eight (a ∷ b ∷ c ∷ d ∷ e ∷ f ∷ g ∷ []) l = absurd (omega (arith, l
 eight (a ∷ b ∷ c ∷ d ∷ e ∷ f ∷ g ∷ h ∷ []) l = refl
 eight (a ∷ b ∷ c ∷ d ∷ e ∷ f ∷ g ∷ h ∷ i ∷ rest) l = absurd (omega (arith, l))
 
-and_true : (b : Bool) → (b && true) ≡ b
-and_true true = refl
-and_true false = refl
-
 pub each_same : (xs ys : List ℕ) → length xs ≡ 8 → length ys ≡ 8
     → nat_eq (slice_index_or xs 0 0) (slice_index_or ys 0 0) && (nat_eq (slice_index_or xs 1 0) (slice_index_or ys 1 0)
     && (nat_eq (slice_index_or xs 2 0) (slice_index_or ys 2 0) && (nat_eq (slice_index_or xs 3 0) (slice_index_or ys 3 0)
@@ -81,5 +72,5 @@ pub each_same : (xs ys : List ℕ) → length xs ≡ 8 → length ys ≡ 8
     ≡ (pointwise nat_eq (octets_of xs) (octets_of ys) && true)
 each_same xs ys l m =
     let parts = ap (λ x. pointwise nat_eq x ys) (eight xs l) ∙ ap (λ y. pointwise nat_eq (elements xs) y) (eight ys m) in
-    let whole = sym (rw (and_true (nat_eq (slice_index_or xs 7 0) (slice_index_or ys 7 0))) at parts) ∙ same_segments xs ys in
-    whole ∙ sym (and_true (pointwise nat_eq (octets_of xs) (octets_of ys)))
+    let whole = sym (rw (and-true (nat_eq (slice_index_or xs 7 0) (slice_index_or ys 7 0))) at parts) ∙ same_segments xs ys in
+    whole ∙ sym (and-true (pointwise nat_eq (octets_of xs) (octets_of ys)))

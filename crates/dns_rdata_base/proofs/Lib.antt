@@ -2,6 +2,7 @@ pub mod Addresses
 pub mod Lacking
 pub mod NumberLaws
 pub mod NumberedLaws
+pub mod Orders
 pub mod SoaValues
 pub mod TextLists
 pub mod TextOrders

@@ -4,10 +4,9 @@ use Rattle.std.proofs.Common.{sym, ap, ◌∙◌, arith, subst}
 use Rattle.std.specs.List.{flat_map, AllByRecursion}
 use Rattle.std.proofs.lemmas.List.{append-nil, length-append}
 use Rattle.std.proofs.lemmas.List.Concat.{flat_map-cons}
-use Rattle.std.proofs.lemmas.Grind.{flat_map-append}
 use Rattle.dns_types.specs.declared.error.DecodeError.{DecodeError}
 use Rattle.dns_fields.specs.Octets.{At}
-use Rattle.dns_fields.specs.Fields.{Text, Texts, Field, Values}
+use Rattle.dns_fields.specs.Fields.{Text, Texts, Field}
 use Rattle.dns_fields.specs.Pieces.{string}
 use Rattle.dns_fields.proofs.FieldLaws.{field_inside, field_end}
 use Rattle.dns_names_wire.specs.State.{Reading}
@@ -15,9 +14,7 @@ use Rattle.dns_names_wire.specs.Words.{TookField, LacksField, RefusedField, Refu
 use Rattle.dns_names_wire.proofs.FieldReads.{unless_map}
 use Rattle.dns_names_wire.proofs.Strings.{at_front, at_rest, at_then}
 use Rattle.dns_rdata_base.specs.TXT.{txt_shape}
-
-abbrev pub AnyStrings : Values txt_shape → Type 0
-AnyStrings vs = Unit {0}
+use Rattle.dns_rdata_base.proofs.TextWrites.{joined}
 
 -- what a loop has read of the strings up to the end, and what is left of any way to fill it
 pub record ReadsOn (old : Reading) (end : ℕ) (strings : List (List ℕ)) (d : Reading) : Type 0 where
@@ -30,40 +27,18 @@ fits_push : (xs : List (List ℕ)) (s : List ℕ) → AllByRecursion (λ s. leng
 fits_push [] s a h = (h, tt)
 fits_push (x ∷ xs) s a h = (a.0, fits_push xs s a.1 h)
 
-joined : (xs : List (List ℕ)) (s : List ℕ) → flat_map string xs ++ string s ≡ flat_map string (xs ++ s ∷ [])
-joined xs s = let e : flat_map string (s ∷ []) ≡ string s
-    ++ flat_map string [] = flat_map-cons string s [] in
-    sym (flat_map-append string xs (s ∷ []) ∙ ap (λ (t : List ℕ). flat_map string xs ++ t) (e ∙ append-nil (string s)))
-
 texts_push : {m : List ℕ} {p q r : ℕ} {xs : List (List ℕ)} {s : List ℕ} → Field m p Texts xs q → Field m q Text s r → Field m p Texts (xs ++ s ∷ []) r
-texts_push {m} {p} {q} {r} {xs} {s} f g = record { is = (fits_push xs s f.is.0 g.is.0, rw (← joined xs s) (at_then f.is.1 g.is.1)) }
+texts_push {m} {p} {q} {r} {xs} {s} f g = record { is = (fits_push xs s f.is.0 g.is.0, rw (joined xs s [], append-nil (string s)) (at_then f.is.1 g.is.1)) }
 
-first_text : (m : List ℕ) (q e : ℕ) (vs : List (List ℕ)) → q < e → Field m q Texts vs e
-    → (s : List ℕ) × (ws : List (List ℕ)) × Field m q Text s (q + length (string s)) × Field m (q + length (string s)) Texts ws e
-first_text m q e [] lt f = absurd (omega (arith, f.is.1.ends))
-first_text m q e (s ∷ ws) lt f =
-    let whole : At m q (string s ++ flat_map string ws) e = rw (← flat_map-cons string s ws) f.is.1 in (
-      s,
-      ws,
-      record { is = (f.is.0.0, at_front (string s) (flat_map string ws) whole) },
-      record
-          { is = (f.is.0.1, at_rest (string s) (flat_map string ws) whole) },
-    )
-
--- the same, with the number of strings
+-- the first string, and how many stand behind it
 next_text : (m : List ℕ) (q e : ℕ) (vs : List (List ℕ)) → q < e → Field m q Texts vs e
     → (s : List ℕ) × (ws : List (List ℕ)) × Field m q Text s (q + length (string s)) × Field m (q + length (string s)) Texts ws e
     × (length vs ≡ suc (length ws))
 next_text m q e [] lt f = absurd (omega (arith, f.is.1.ends))
 next_text m q e (s ∷ ws) lt f =
-    let whole : At m q (string s ++ flat_map string ws) e = rw (← flat_map-cons string s ws) f.is.1 in (
-      s,
-      ws,
-      record { is = (f.is.0.0, at_front (string s) (flat_map string ws) whole) },
-      record
-          { is = (f.is.0.1, at_rest (string s) (flat_map string ws) whole) },
-      refl,
-    )
+    let whole : At m q (string s ++ flat_map string ws) e = rw (← flat_map-cons string s ws) f.is.1 in
+    let first : Field m q Text s (q + length (string s)) = record { is = (f.is.0.0, at_front (string s) (flat_map string ws) whole) } in
+    (s, ws, first, record { is = (f.is.0.1, at_rest (string s) (flat_map string ws) whole) }, refl)
 
 -- none stands at the end, or past the message
 no_text : (m : List ℕ) (q e : ℕ) (vs : List (List ℕ)) → (e ≤ q) ⊎ (length m ≤ q) → Field m q Texts vs e → length vs ≡ 0
@@ -84,7 +59,7 @@ reads_more {old} {d} {b} {end} {xs} {s} lt r f =
       took = texts_push r.took g;
       rest = λ ws h.
           let vs = r.rest ws h in
-          let x = first_text old.message d.index end vs.0 lt vs.1 in
+          let x = next_text old.message d.index end vs.0 lt vs.1 in
           let there : d.index + length (string x.0) ≡ b.index = field_end {k = Text} tt x.2 g in
           (x.1, subst (λ (q : ℕ). Field old.message q Texts x.1 end) there x.3);
     }
@@ -93,14 +68,14 @@ reads_more {old} {d} {b} {end} {xs} {s} lt r f =
 
 -- a string is refused on the way
 pub reads_none : {e : DecodeError} {old d b : Reading} {end : ℕ} {xs : List (List ℕ)} (n : ℕ) → end ≡ old.index + n → d.index < end → ReadsOn old end xs d
-    → RefusedField e d Text b → RefusedWindow e old n txt_shape AnyStrings b
+    → RefusedField e d Text b → RefusedWindow e old n txt_shape (λ _. Unit {0}) b
 reads_none {e} {old} {d} {b} {end} {xs} n is lt r f = record {
   behind = record { message = f.behind.message ∙ r.message; index = omega (arith, r.behind, f.behind.index) };
   none = unless_map e _ _ (λ (l : LacksField d Text). record {
     none = λ vs w.
         let h : Field old.message old.index Texts vs.0 end = rw (is, ← w.stands.2) w.stands.1 in
         let ws = r.rest vs.0 h in
-        let x = first_text old.message d.index end ws.0 lt ws.1 in
+        let x = next_text old.message d.index end ws.0 lt ws.1 in
         l.none x.0 (d.index + length (string x.0)) (subst (λ (m : List ℕ). Field m d.index Text x.0 (d.index + length (string x.0))) (sym r.message) x.2);
   }) f.none;
 }

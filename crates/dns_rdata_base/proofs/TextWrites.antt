@@ -16,7 +16,7 @@ long_inner : (xs : List (List ℕ)) (s : List ℕ) (ys : List (List ℕ)) → na
 long_inner [] s ys e = rw e refl
 long_inner (x ∷ xs) s ys e = rw (long_inner xs s ys e) (and_false (nat_le (length x) 255))
 
-joined : (xs : List (List ℕ)) (s : List ℕ) (ys : List (List ℕ)) → flat_map string (xs ++ s ∷ ys) ≡ flat_map string xs ++ (string s ++ flat_map string ys)
+pub joined : (xs : List (List ℕ)) (s : List ℕ) (ys : List (List ℕ)) → flat_map string (xs ++ s ∷ ys) ≡ flat_map string xs ++ (string s ++ flat_map string ys)
 joined xs s ys = flat_map-append string xs (s ∷ ys) ∙ ap (λ (t : List ℕ). flat_map string xs ++ t) (flat_map-cons string s ys)
 
 -- a string is refused behind others

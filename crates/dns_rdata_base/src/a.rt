@@ -52,9 +52,9 @@ impl BinDecodable for A {
 }
 
 impl TakesOctet for A {
-    ghost use Rattle.dns_rdata_base.specs.Taking.{a_takes};
+    ghost use Rattle.dns_rdata_base.specs.Taking.{octets_take};
 
-    ghost takes = { a_takes };
+    ghost takes = { octets_take 3 a_fields };
 }
 
 impl Record for A {

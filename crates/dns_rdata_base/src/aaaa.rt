@@ -53,9 +53,9 @@ impl BinDecodable for AAAA {
 }
 
 impl TakesOctet for AAAA {
-    ghost use Rattle.dns_rdata_base.specs.Taking.{aaaa_takes};
+    ghost use Rattle.dns_rdata_base.specs.Taking.{octets_take};
 
-    ghost takes = { aaaa_takes };
+    ghost takes = { octets_take 15 aaaa_fields };
 }
 
 impl Record for AAAA {

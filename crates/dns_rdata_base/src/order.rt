@@ -25,6 +25,7 @@ use std::cmp::Ordering;
 
 /// By the address.
 #[inline]
+#[tactic(auto, unfolding(dns_fields::specs::Fields::field_octets))]
 pub fn a_order(a: &A, b: &A) -> Ordering
     ensures { result ≡ canonical_cmp a_shape (a_fields a.now) (a_fields b.now) }
 {
@@ -33,6 +34,7 @@ pub fn a_order(a: &A, b: &A) -> Ordering
 
 /// By the address.
 #[inline]
+#[tactic(auto, unfolding(dns_fields::specs::Fields::field_octets))]
 pub fn aaaa_order(a: &AAAA, b: &AAAA) -> Ordering
     ensures { result ≡ canonical_cmp aaaa_shape (aaaa_fields a.now) (aaaa_fields b.now) }
 {
@@ -49,6 +51,7 @@ pub fn name_order(a: &Name, b: &Name) -> Ordering
 
 /// By the octets, of NULL, OPENPGPKEY and types without a row.
 #[inline]
+#[tactic(auto, unfolding(dns_fields::specs::Fields::field_octets))]
 pub fn rest_order(a: &[u8], b: &[u8]) -> Ordering
     ensures { result ≡ canonical_cmp (Rest ∷ []) (a.now, tt) (b.now, tt) }
 {
@@ -134,6 +137,7 @@ pub fn texts_cmp(a: &[Octets], b: &[Octets]) -> Ordering
 }
 
 /// String by string.
+#[tactic(auto, unfolding(dns_fields::specs::Fields::field_octets))]
 pub fn txt_order(a: &TXT, b: &TXT) -> Ordering
     ensures { result ≡ canonical_cmp txt_shape (txt_fields a.now) (txt_fields b.now) }
 {

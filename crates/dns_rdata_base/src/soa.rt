@@ -68,7 +68,7 @@ impl SOA {
 
 impl SOA {
     // Reads serial, refresh, retry, expire and minimum.
-    #[tactic(auto, using(dns_names_wire::proofs::FieldReads::reading))]
+    #[tactic(auto, using(dns_names_wire::proofs::FieldReads::reading, crate::proofs::Lacking::lacking))]
     fn read_numbers(decoder: &mut BinDecoder<'_>) -> Result<(u32, i32, i32, i32, u32), DecodeError>
         ensures fields { ReadsIf soa_numbers_shape (always soa_numbers_shape) soa_numbers result decoder.old decoder.new }
         ensures refused { IfErr result (λ e. IsLack soa_numbers_shape decoder.old e decoder.new) }
@@ -85,30 +85,14 @@ impl SOA {
     fn emit_numbers(&self, encoder: &mut BinEncoder<'_>) -> Result<(), ProtoError>
         ensures emits { Emits soa_numbers_shape (soa_numbers_of self.now) result encoder.old encoder.new }
     {
-        emit_five(
-            encoder,
+        encoder.emit_vec(&five_numbers(
             self.serial,
             self.refresh.cast_unsigned(),
             self.retry.cast_unsigned(),
             self.expire.cast_unsigned(),
             self.minimum,
-        )
+        ))
     }
-}
-
-// Appends five numbers at once.
-#[inline]
-fn emit_five(
-    encoder: &mut BinEncoder<'_>,
-    a: u32,
-    b: u32,
-    c: u32,
-    d: u32,
-    e: u32,
-) -> Result<(), ProtoError>
-    ensures { Emits soa_numbers_shape (a, (b, (c, (d, (e, tt))))) result encoder.old encoder.new }
-{
-    encoder.emit_vec(&five_numbers(a, b, c, d, e))
 }
 
 // The octets of five numbers, put there number by number: each is then stored at once, and not octet by octet.

@@ -16,7 +16,7 @@ ghost use Rattle.dns_rdata_base.specs.TXT.{txt_shape, txt_fields};
 ghost use Rattle.dns_rdata_base.specs.Steps.{at_once, hinfo_begins, naptr_begins, soa_begins, texts_left};
 
 use crate::{A, AAAA, HINFO, MX, NAPTR, SOA, SRV, TXT};
-use dns_names_wire::{Name, Octets};
+use dns_names_wire::Name;
 use dns_pieces::{Head, Step, Tail};
 
 /// The address.
@@ -180,29 +180,19 @@ pub fn txt_step<'a>(x: &'a TXT, step: usize, part: usize, head: &mut Head) -> Op
     requires short { AllShort txt_shape (txt_fields x.now) }
     ensures { (j : ℕ) → GivesStep (texts_left x.now.txt_data) step part j head.new result }
 {
-    match step {
-        0 => text_step(x.txt_data.as_slice(), part, head),
-        _ => None,
+    let texts = x.txt_data.as_slice();
+    if step > 0 {
+        return None;
     }
-}
-
-// The string that has this number.
-#[inline]
-fn text_step<'a>(texts: &'a [Octets], part: usize, head: &mut Head) -> Option<Step<'a>>
-    requires empty { head.old ≡ [] }
-    requires short { AllByRecursion (λ s. length s < 256) texts.now }
-    ensures { (j : ℕ) → GivesStep (texts_left texts.now) 0 part j head.new result }
-{
-    if part < texts.len() {
-        Some(Step {
-            tail: head.text(texts[part].as_slice()),
-            step: 0,
-            part: part + 1,
-            item: 0,
-        })
-    } else {
-        None
+    if part >= texts.len() {
+        return None;
     }
+    Some(Step {
+        tail: head.text(texts[part].as_slice()),
+        step: 0,
+        part: part + 1,
+        item: 0,
+    })
 }
 
 /// Whether no string has more than 255 octets.

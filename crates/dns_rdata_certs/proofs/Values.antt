@@ -19,7 +19,7 @@ use Rattle.dns_rdata_certs.specs.declared.sshfp.SSHFP.{SSHFP}
 use Rattle.dns_rdata_certs.specs.declared.cert.CERT.{CERT}
 use Rattle.dns_rdata_certs.proofs.Numbers.{cert_type_number-of, cert_algorithm_number-of, sshfp_algorithm_number-of}
 use Rattle.dns_rdata_certs.proofs.Numbers.{fingerprint_type_number-of, cert_usage_number-of, selector_number-of, matching_number-of}
-use Rattle.dns_rdata_certs.proofs.Numbers.{same_variant}
+use Rattle.dns_rdata_certs.proofs.Numbers.{keyed_same}
 
 -- ---- TLSA
 
@@ -41,14 +41,9 @@ tlsa_from-read vs = record {
 
 pub tlsa_keys-same : (a b : TLSA) → IsReadTlsa a → IsReadTlsa b
     → Same tlsa_key_shape (tlsa_keys a) (tlsa_keys b) ↔ Same tlsa_shape (tlsa_fields a) (tlsa_fields b)
-tlsa_keys-same a b x y = (
-  λ s. (s.0, (s.1.1.0, (s.1.1.1.1.0, (s.1.1.1.1.1.1.0, tt)))),
-  λ s.
-      let usage = same_variant cert_usage_number cert_usage_variant cert_usage_of x.usage y.usage s.0 in
-      let selector = same_variant selector_number selector_variant selector_of x.selector y.selector s.1.0 in
-      let matching = same_variant matching_number matching_variant matching_of x.matching y.matching s.1.1.0 in
-      (s.0, (usage, (s.1.0, (selector, (s.1.1.0, (matching, (s.1.1.1.0, tt))))))),
-)
+tlsa_keys-same a b x y = keyed_same cert_usage_number cert_usage_variant cert_usage_of x.usage y.usage
+    (keyed_same selector_number selector_variant selector_of x.selector y.selector
+    (keyed_same matching_number matching_variant matching_of x.matching y.matching (λ s. s, λ s. s)))
 
 -- ---- SMIMEA
 
@@ -87,13 +82,8 @@ sshfp_from-read vs = record {
 
 pub sshfp_keys-same : (a b : SSHFP) → IsReadSshfp a → IsReadSshfp b
     → Same sshfp_key_shape (sshfp_keys a) (sshfp_keys b) ↔ Same sshfp_shape (sshfp_fields a) (sshfp_fields b)
-sshfp_keys-same a b x y = (
-  λ s. (s.0, (s.1.1.0, (s.1.1.1.1.0, tt))),
-  λ s.
-      let algorithm = same_variant sshfp_algorithm_number sshfp_algorithm_variant sshfp_algorithm_of x.algorithm y.algorithm s.0 in
-      let kind = same_variant fingerprint_type_number fingerprint_type_variant fingerprint_type_of x.type y.type s.1.0 in
-      (s.0, (algorithm, (s.1.0, (kind, (s.1.1.0, tt))))),
-)
+sshfp_keys-same a b x y = keyed_same sshfp_algorithm_number sshfp_algorithm_variant sshfp_algorithm_of x.algorithm y.algorithm
+    (keyed_same fingerprint_type_number fingerprint_type_variant fingerprint_type_of x.type y.type (λ s. s, λ s. s))
 
 -- ---- CERT
 
@@ -114,10 +104,6 @@ cert_from-read vs = record {
 
 pub cert_keys-same : (a b : CERT) → IsReadCert a → IsReadCert b
     → Same cert_key_shape (cert_keys a) (cert_keys b) ↔ Same cert_shape (cert_fields a) (cert_fields b)
-cert_keys-same a b x y = (
-  λ s. (s.0, (s.1.1.0, (s.1.1.1.0, (s.1.1.1.1.1.0, tt)))),
-  λ s.
-      let kind = same_variant cert_type_number cert_type_variant cert_type_of x.type y.type s.0 in
-      let algorithm = same_variant cert_algorithm_number cert_algorithm_variant cert_algorithm_of x.algorithm y.algorithm s.1.1.0 in
-      (s.0, (kind, (s.1.0, (s.1.1.0, (algorithm, (s.1.1.1.0, tt)))))),
-)
+cert_keys-same a b x y =
+    let rest = keyed_same cert_algorithm_number cert_algorithm_variant cert_algorithm_of x.algorithm y.algorithm (λ s. s, λ s. s) in
+    keyed_same cert_type_number cert_type_variant cert_type_of x.type y.type (λ s. (s.0, rest.0 s.1), λ s. (s.0, rest.1 s.1))

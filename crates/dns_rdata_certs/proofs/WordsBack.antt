@@ -1,5 +1,5 @@
 -- Hexadecimal words: read, and read back where they were printed.
-use Rattle.std.proofs.Common.{◌≡◌, ◌≢◌, ℕ, zero, suc, ◌/◌, ◌%◌, ◌<◌, ◌≤◌, false, eqb, nat_le, List, [], ◌∷◌, Option, Some, None, Result, Ok, Err, inl, inr, slice_index, refl, ap, subst, ◌∙◌, arith}
+use Rattle.std.proofs.Common.{◌≡◌, ◌≢◌, ℕ, zero, suc, ◌/◌, ◌%◌, ◌<◌, ◌≤◌, false, List, [], ◌∷◌, Option, None, Result, Ok, Err, inl, inr, slice_index, refl, ap, subst, ◌∙◌, arith}
 use Rattle.std.proofs.lemmas.Bool.Decides.{nat_tests}
 use Rattle.std.proofs.lemmas.Bool.{cases_lt}
 use Rattle.std.proofs.lemmas.List.{append-nil}
@@ -13,7 +13,7 @@ use Rattle.dns_words.specs.Reads.{AreJoined, Decides, ReadsRow}
 use Rattle.dns_words.specs.Printed.{ReadsBack}
 use Rattle.dns_words.proofs.Steps.{joined_taken, unless_map}
 use Rattle.dns_words.proofs.Printed.{IsSolid, GivesBack, GiveBack, row_back, back_word, back_nothing, number_back}
-use Rattle.dns_rdata_certs.specs.HEX.{without_blanks, octets_of_hex}
+use Rattle.dns_rdata_certs.specs.HEX.{is_white_space, without_blanks, octets_of_hex}
 use Rattle.dns_rdata_certs.specs.SSHFP.{sshfp_fields, sshfp_text}
 use Rattle.dns_rdata_certs.specs.TLSA.{tlsa_fields, tlsa_text}
 use Rattle.dns_rdata_certs.specs.WordRows.{hex_digits, IsSomeHex, joined_hex, sshfp_words, tlsa_words, IsPrintedSshfp, IsPrintedTlsa}
@@ -29,19 +29,12 @@ module _ {S I : Type 0} (gives : I → Option S → I → Type 0) (text : S → 
 -- ---- printed digits
 
 low_none : (c : ℕ) → c < 48 → hex_digit_value c ≡ None
-low_none c h =
-    let a : nat_le 65 c ≡ false = grind (arith, nat_tests) in
-    let b : nat_le 97 c ≡ false = grind (arith, nat_tests) in
-    let d : nat_le 48 c ≡ false = grind (arith, nat_tests) in
-    rw (a, b, d) refl
-
-no_some : (o : Option ℕ) (d : ℕ) → o ≡ None → o ≡ Some d → ⊥
-no_some o d e f = absurd cc
+low_none c h = grind (arith, nat_tests)
 
 high_digit : (d : ℕ) → d < 16 → 33 ≤ slice_index lower_digits d
 high_digit d lt =
     elim (cases_lt (slice_index lower_digits d) 48) [
-      | inl low ↦ absurd (no_some _ d (low_none (slice_index lower_digits d) low) (IsDigits-lower_digits d lt))
+      | inl low ↦ absurd (cc (low_none (slice_index lower_digits d) low, IsDigits-lower_digits d lt))
       | inr high ↦ omega arith
     ]
 
@@ -56,11 +49,8 @@ solid_kept : (s : List ℕ) → IsSolid s → without_blanks s ≡ s
 solid_kept [] h = refl
 solid_kept (c ∷ s) h =
     let high : 33 ≤ c = h.0 in
-    let a : eqb c 9 ≡ false = grind (arith, nat_tests) in
-    let b : eqb c 10 ≡ false = grind (arith, nat_tests) in
-    let d : eqb c 13 ≡ false = grind (arith, nat_tests) in
-    let e : eqb c 32 ≡ false = grind (arith, nat_tests) in
-    rw (a, b, d, e) (ap (λ (l : List ℕ). c ∷ l) (solid_kept s h.1))
+    let kept : is_white_space c ≡ false = grind (arith, nat_tests) in
+    rw kept (ap (λ (l : List ℕ). c ∷ l) (solid_kept s h.1))
 
 are_bytes : (s : List ℕ) (h : AreOctets s) (i : ℕ) → slice_index s i < 256
 are_bytes [] h i = omega arith

@@ -8,6 +8,7 @@ use Rattle.dns_fields.specs.Fields.{Kind, Number, Rest, Values}
 use Rattle.dns_names_wire.specs.State.{Reading}
 use Rattle.dns_names_wire.specs.Words.{LacksOctets, UnlessMemory, Window, NoWindow}
 use Rattle.dns_names_wire.specs.Facts.{Facts, filling}
+use Rattle.dns_rdata_base.specs.Numbered.{keyed}
 use Rattle.dns_rdata_certs.specs.CertType.{cert_type_number, cert_type_variant, cert_type_of, cert_type_text}
 use Rattle.dns_rdata_certs.specs.CertAlgorithm.{cert_algorithm_number, cert_algorithm_variant, cert_algorithm_of, cert_algorithm_text}
 use Rattle.dns_rdata_certs.specs.declared.cert.CERT.{CERT}
@@ -28,22 +29,8 @@ abbrev pub cert_key_shape : List Kind
 cert_key_shape = Number 2 ∷ Number 1 ∷ Number 2 ∷ Number 1 ∷ Number 1 ∷ Rest ∷ []
 
 abbrev pub cert_keys : CERT → Values cert_key_shape
-cert_keys x = (
-  cert_type_number x.cert_type,
-  (
-    cert_type_variant x.cert_type,
-    (
-      x.key_tag,
-      (
-        cert_algorithm_number x.algorithm,
-        (
-          cert_algorithm_variant x.algorithm,
-          (x.cert_data, tt),
-        ),
-      ),
-    ),
-  ),
-)
+cert_keys x = keyed cert_type_number cert_type_variant x.cert_type
+    (x.key_tag, keyed cert_algorithm_number cert_algorithm_variant x.algorithm (x.cert_data, tt))
 
 -- the enums are those of their numbers
 pub record IsReadCert (x : CERT) : Type 0 where

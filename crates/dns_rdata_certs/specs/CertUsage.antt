@@ -1,5 +1,5 @@
 -- The usage of a certificate in TLSA: the numbers of its variants (RFC 6698, 2.1.1). One with a number of its own inside has that number.
-use Rattle.std.specs.Prelude.{ℕ, List, [], ◌∷◌}
+use Rattle.std.specs.Prelude.{ℕ, [], ◌∷◌}
 use Rattle.dns_rdata_base.specs.Numbered.{numbered_of}
 use Rattle.dns_rdata_certs.specs.declared.tlsa.cert_usage.CertUsage.{CertUsage}
 use Rattle.dns_rdata_certs.specs.declared.tlsa.cert_usage.CertUsage.TheVariants.{PkixTa, PkixEe, DaneTa, DaneEe, Unassigned, Private}
@@ -21,13 +21,6 @@ cert_usage_variant DaneEe = 3
 cert_usage_variant (Unassigned n) = 4
 cert_usage_variant Private = 5
 
-abbrev pub named_cert_usages : List CertUsage
-named_cert_usages = PkixTa ∷ PkixEe ∷ DaneTa ∷ DaneEe ∷ Private ∷ []
-
--- what has no number above
-abbrev pub other_cert_usage : ℕ → CertUsage
-other_cert_usage n = Unassigned n
-
 -- the variant that a number gives
 unfoldable pub cert_usage_of : ℕ → CertUsage
-cert_usage_of = numbered_of cert_usage_number named_cert_usages other_cert_usage
+cert_usage_of = numbered_of cert_usage_number (PkixTa ∷ PkixEe ∷ DaneTa ∷ DaneEe ∷ Private ∷ []) Unassigned

@@ -1,5 +1,5 @@
 -- The type of a fingerprint in SSHFP: the numbers of its variants (RFC 4255, 3.1.2). One with a number of its own inside has that number.
-use Rattle.std.specs.Prelude.{ℕ, List, [], ◌∷◌}
+use Rattle.std.specs.Prelude.{ℕ, [], ◌∷◌}
 use Rattle.dns_rdata_base.specs.Numbered.{numbered_of}
 use Rattle.dns_rdata_certs.specs.declared.sshfp.fingerprint_type.FingerprintType.{FingerprintType}
 use Rattle.dns_rdata_certs.specs.declared.sshfp.fingerprint_type.FingerprintType.TheVariants.{Reserved, SHA1, SHA256, Unassigned}
@@ -17,13 +17,6 @@ fingerprint_type_variant SHA1 = 1
 fingerprint_type_variant SHA256 = 2
 fingerprint_type_variant (Unassigned n) = 3
 
-abbrev pub named_fingerprint_types : List FingerprintType
-named_fingerprint_types = Reserved ∷ SHA1 ∷ SHA256 ∷ []
-
--- what has no number above
-abbrev pub other_fingerprint_type : ℕ → FingerprintType
-other_fingerprint_type n = Unassigned n
-
 -- the variant that a number gives
 unfoldable pub fingerprint_type_of : ℕ → FingerprintType
-fingerprint_type_of = numbered_of fingerprint_type_number named_fingerprint_types other_fingerprint_type
+fingerprint_type_of = numbered_of fingerprint_type_number (Reserved ∷ SHA1 ∷ SHA256 ∷ []) Unassigned

@@ -1,5 +1,5 @@
 -- How the data of TLSA is compared: the numbers of its variants (RFC 6698, 2.1.3). One with a number of its own inside has that number.
-use Rattle.std.specs.Prelude.{ℕ, List, [], ◌∷◌}
+use Rattle.std.specs.Prelude.{ℕ, [], ◌∷◌}
 use Rattle.dns_rdata_base.specs.Numbered.{numbered_of}
 use Rattle.dns_rdata_certs.specs.declared.tlsa.matching.Matching.{Matching}
 use Rattle.dns_rdata_certs.specs.declared.tlsa.matching.Matching.TheVariants.{Raw, Sha256, Sha512, Unassigned, Private}
@@ -19,13 +19,6 @@ matching_variant Sha512 = 2
 matching_variant (Unassigned n) = 3
 matching_variant Private = 4
 
-abbrev pub named_matchings : List Matching
-named_matchings = Raw ∷ Sha256 ∷ Sha512 ∷ Private ∷ []
-
--- what has no number above
-abbrev pub other_matching : ℕ → Matching
-other_matching n = Unassigned n
-
 -- the variant that a number gives
 unfoldable pub matching_of : ℕ → Matching
-matching_of = numbered_of matching_number named_matchings other_matching
+matching_of = numbered_of matching_number (Raw ∷ Sha256 ∷ Sha512 ∷ Private ∷ []) Unassigned

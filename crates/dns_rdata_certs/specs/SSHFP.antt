@@ -5,6 +5,7 @@ use Rattle.dns_types.specs.declared.error.DecodeError.{DecodeError}
 use Rattle.dns_fields.specs.Fields.{Kind, Number, Rest, Values}
 use Rattle.dns_names_wire.specs.State.{Reading}
 use Rattle.dns_names_wire.specs.Facts.{Facts, filling}
+use Rattle.dns_rdata_base.specs.Numbered.{keyed}
 use Rattle.dns_rdata_certs.specs.SshfpAlgorithm.{sshfp_algorithm_number, sshfp_algorithm_variant, sshfp_algorithm_of}
 use Rattle.dns_rdata_certs.specs.FingerprintType.{fingerprint_type_number, fingerprint_type_variant, fingerprint_type_of}
 use Rattle.dns_rdata_certs.specs.Rests.{IsRestRefusal}
@@ -22,19 +23,8 @@ abbrev pub sshfp_key_shape : List Kind
 sshfp_key_shape = Number 1 ∷ Number 1 ∷ Number 1 ∷ Number 1 ∷ Rest ∷ []
 
 abbrev pub sshfp_keys : SSHFP → Values sshfp_key_shape
-sshfp_keys x = (
-  sshfp_algorithm_number x.algorithm,
-  (
-    sshfp_algorithm_variant x.algorithm,
-    (
-      fingerprint_type_number x.fingerprint_type,
-      (
-        fingerprint_type_variant x.fingerprint_type,
-        (x.fingerprint, tt),
-      ),
-    ),
-  ),
-)
+sshfp_keys x = keyed sshfp_algorithm_number sshfp_algorithm_variant x.algorithm
+    (keyed fingerprint_type_number fingerprint_type_variant x.fingerprint_type (x.fingerprint, tt))
 
 -- the enums are those of their numbers
 pub record IsReadSshfp (x : SSHFP) : Type 0 where

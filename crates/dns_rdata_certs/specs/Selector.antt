@@ -1,5 +1,5 @@
 -- The part of a certificate that TLSA names: the numbers of its variants (RFC 6698, 2.1.2). One with a number of its own inside has that number.
-use Rattle.std.specs.Prelude.{ℕ, List, [], ◌∷◌}
+use Rattle.std.specs.Prelude.{ℕ, [], ◌∷◌}
 use Rattle.dns_rdata_base.specs.Numbered.{numbered_of}
 use Rattle.dns_rdata_certs.specs.declared.tlsa.selector.Selector.{Selector}
 use Rattle.dns_rdata_certs.specs.declared.tlsa.selector.Selector.TheVariants.{Full, Spki, Unassigned, Private}
@@ -17,13 +17,6 @@ selector_variant Spki = 1
 selector_variant (Unassigned n) = 2
 selector_variant Private = 3
 
-abbrev pub named_selectors : List Selector
-named_selectors = Full ∷ Spki ∷ Private ∷ []
-
--- what has no number above
-abbrev pub other_selector : ℕ → Selector
-other_selector n = Unassigned n
-
 -- the variant that a number gives
 unfoldable pub selector_of : ℕ → Selector
-selector_of = numbered_of selector_number named_selectors other_selector
+selector_of = numbered_of selector_number (Full ∷ Spki ∷ Private ∷ []) Unassigned

@@ -1,5 +1,5 @@
 -- The algorithm of a key in SSHFP: the numbers of its variants (RFC 4255, 3.1.1). One with a number of its own inside has that number.
-use Rattle.std.specs.Prelude.{ℕ, List, [], ◌∷◌}
+use Rattle.std.specs.Prelude.{ℕ, [], ◌∷◌}
 use Rattle.dns_rdata_base.specs.Numbered.{numbered_of}
 use Rattle.dns_rdata_certs.specs.declared.sshfp.algorithm.Algorithm.{Algorithm}
 use Rattle.dns_rdata_certs.specs.declared.sshfp.algorithm.Algorithm.TheVariants.{Reserved, RSA, DSA, ECDSA, Ed25519, Ed448, Unassigned}
@@ -23,13 +23,6 @@ sshfp_algorithm_variant Ed25519 = 4
 sshfp_algorithm_variant Ed448 = 5
 sshfp_algorithm_variant (Unassigned n) = 6
 
-abbrev pub named_sshfp_algorithms : List Algorithm
-named_sshfp_algorithms = Reserved ∷ RSA ∷ DSA ∷ ECDSA ∷ Ed25519 ∷ Ed448 ∷ []
-
--- what has no number above
-abbrev pub other_sshfp_algorithm : ℕ → Algorithm
-other_sshfp_algorithm n = Unassigned n
-
 -- the variant that a number gives
 unfoldable pub sshfp_algorithm_of : ℕ → Algorithm
-sshfp_algorithm_of = numbered_of sshfp_algorithm_number named_sshfp_algorithms other_sshfp_algorithm
+sshfp_algorithm_of = numbered_of sshfp_algorithm_number (Reserved ∷ RSA ∷ DSA ∷ ECDSA ∷ Ed25519 ∷ Ed448 ∷ []) Unassigned

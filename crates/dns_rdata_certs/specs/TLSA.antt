@@ -5,6 +5,7 @@ use Rattle.dns_types.specs.declared.error.DecodeError.{DecodeError}
 use Rattle.dns_fields.specs.Fields.{Kind, Number, Rest, Values}
 use Rattle.dns_names_wire.specs.State.{Reading}
 use Rattle.dns_names_wire.specs.Facts.{Facts, filling}
+use Rattle.dns_rdata_base.specs.Numbered.{keyed}
 use Rattle.dns_rdata_certs.specs.CertUsage.{cert_usage_number, cert_usage_variant, cert_usage_of}
 use Rattle.dns_rdata_certs.specs.Selector.{selector_number, selector_variant, selector_of}
 use Rattle.dns_rdata_certs.specs.Matching.{matching_number, matching_variant, matching_of}
@@ -23,25 +24,8 @@ abbrev pub tlsa_key_shape : List Kind
 tlsa_key_shape = Number 1 ∷ Number 1 ∷ Number 1 ∷ Number 1 ∷ Number 1 ∷ Number 1 ∷ Rest ∷ []
 
 abbrev pub tlsa_keys : TLSA → Values tlsa_key_shape
-tlsa_keys x = (
-  cert_usage_number x.cert_usage,
-  (
-    cert_usage_variant x.cert_usage,
-    (
-      selector_number x.selector,
-      (
-        selector_variant x.selector,
-        (
-          matching_number x.matching,
-          (
-            matching_variant x.matching,
-            (x.cert_data, tt),
-          ),
-        ),
-      ),
-    ),
-  ),
-)
+tlsa_keys x = keyed cert_usage_number cert_usage_variant x.cert_usage (keyed selector_number selector_variant x.selector
+    (keyed matching_number matching_variant x.matching (x.cert_data, tt)))
 
 -- the enums are those of their numbers
 pub record IsReadTlsa (x : TLSA) : Type 0 where

@@ -2,10 +2,10 @@
 
 ghost use Rattle.std.specs.Prelude.{◌≡◌, length as list_length, IfErr, IfOk, Some};
 ghost use Rattle.std.specs.String.{string_bytes};
-ghost use Rattle.dns_names_wire.specs.Words.{ReadsTo, Emits};
+ghost use Rattle.dns_names_wire.specs.Words.{Emits};
 ghost use Rattle.dns_names_wire.specs.Facts.{same, same_equiv, same_partial};
-ghost use Rattle.dns_rdata_certs.specs.CERT.{cert_shape, cert_fields, cert_facts, MeetsCertCondition, cert_key_shape, cert_keys, IsReadCert, cert_text};
-ghost use Rattle.dns_rdata_certs.specs.CERT.{cert_data_text, IsCertRefusal, ReadsWholeCert, IsWholeCertRefusal};
+ghost use Rattle.dns_rdata_certs.specs.CERT.{cert_shape, cert_fields, cert_facts, cert_key_shape, cert_keys, IsReadCert, cert_text};
+ghost use Rattle.dns_rdata_certs.specs.CERT.{cert_data_text, ReadsWholeCert, IsWholeCertRefusal};
 
 mod algorithm;
 mod cert_type;
@@ -72,19 +72,22 @@ impl CERT {
             return Err(DecodeError::IncorrectRDataLengthRead { read, len: 65535 });
         }
         let mut decoder = BinDecoder::new(alloc, octets);
-        // Called for its clauses: the message is octets, and the place is in it.
-        let _start = decoder.index();
-        CERT::read_filled(&mut decoder, Restrict::new(read as u16))
+        CERT::read_data(&mut decoder, Restrict::new(read as u16))
     }
+}
 
-    // Reads the fields that fill the length.
+impl Record for CERT {
+    ghost facts = { cert_facts };
+}
+
+impl RecordDataDecodable for CERT {
+    /// Reads five octets of numbers, and the rest of the length, by one request for memory where that is more than 64
+    /// octets. A length below 6 is refused by [`IncorrectRDataLengthRead`](DecodeError::IncorrectRDataLengthRead) of
+    /// the length and 6, and nothing is taken. Where octets are missing it is refused by
+    /// [`InsufficientBytes`](DecodeError::InsufficientBytes), and the numbers that are there are taken.
     #[inline]
-    #[tactic(auto, using(dns_names_wire::proofs::FieldReads::reading))]
-    fn read_filled(decoder: &mut BinDecoder<'_>, length: Restrict<u16>) -> Result<CERT, DecodeError>
-        ensures fields { ReadsTo cert_shape MeetsCertCondition length cert_fields result decoder.old decoder.new }
-        ensures enums { IfOk result IsReadCert }
-        ensures refused { IfErr result (λ e. IsCertRefusal length decoder.old e decoder.new) }
-    {
+    #[tactic(auto, using(dns_names_wire::proofs::FieldReads::reading, dns_names_wire::proofs::WindowReads::filled_window))]
+    fn read_data(decoder: &mut BinDecoder<'_>, length: Restrict<u16>) -> Result<CERT, DecodeError> {
         // Called for its clauses: the message is octets, and the place is in it.
         let _start = decoder.index();
         let len = length.unverified() as usize;
@@ -101,23 +104,6 @@ impl CERT {
             algorithm,
             cert_data,
         })
-    }
-}
-
-impl Record for CERT {
-    ghost facts = { cert_facts };
-}
-
-impl RecordDataDecodable for CERT {
-    /// Reads five octets of numbers, and the rest of the length, by one request for memory where that is more than 64
-    /// octets. A length below 6 is refused by [`IncorrectRDataLengthRead`](DecodeError::IncorrectRDataLengthRead) of
-    /// the length and 6, and nothing is taken. Where octets are missing it is refused by
-    /// [`InsufficientBytes`](DecodeError::InsufficientBytes), and the numbers that are there are taken.
-    #[inline]
-    fn read_data(decoder: &mut BinDecoder<'_>, length: Restrict<u16>) -> Result<CERT, DecodeError> {
-        // Called for its clauses: the message is octets, and the place is in it.
-        let _start = decoder.index();
-        CERT::read_filled(decoder, length)
     }
 }
 

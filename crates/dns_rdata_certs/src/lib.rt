@@ -1,58 +1,57 @@
 //! The data of DNS records with certificates, keys and fingerprints.
 #![tactic(auto)]
 
-// Matches over an enum with numbers, whose list of variants with one number is given by a macro: an arm for each of
-// these, and then those that are written.
+// Matches over an enum with numbers. The enum's list calls the macro with what was given for it, the enum's name, a row for
+// each variant of one number, and one for each variant with its number inside: name, number, place in the declaration.
 
-// The variant of a number.
+// The variant of a number; the arms behind the value are for numbers that no variant has alone.
 macro_rules! of_number {
-    (($value:expr, $($other:tt)+) $kind:ident $(($name:ident $number:literal $place:literal))+) => {
+    (($value:expr, $($other:tt)+) $kind:ident $(($name:ident $number:literal $place:literal))+ $([$inside:ident $at:literal])+) => {
         match $value {
             $($number => $kind::$name,)+
             $($other)+
         }
     };
-    ($list:ident, $($arguments:tt)+) => {
-        $list!(of_number, ($($arguments)+))
-    };
 }
 
 // The number of a variant.
 macro_rules! number_of {
-    (($value:expr, $($other:tt)+) $kind:ident $(($name:ident $number:literal $place:literal))+) => {
+    (($value:expr) $kind:ident $(($name:ident $number:literal $place:literal))+ $([$inside:ident $at:literal])+) => {
         match $value {
             $($kind::$name => $number,)+
-            $($other)+
+            $($kind::$inside(number) => number,)+
         }
-    };
-    ($list:ident, $($arguments:tt)+) => {
-        $list!(number_of, ($($arguments)+))
     };
 }
 
 // The place of a variant in the declaration.
 macro_rules! place_of {
-    (($value:expr, $($other:tt)+) $kind:ident $(($name:ident $number:literal $place:literal))+) => {
+    (($value:expr) $kind:ident $(($name:ident $number:literal $place:literal))+ $([$inside:ident $at:literal])+) => {
         match $value {
             $($kind::$name => $place,)+
-            $($other)+
+            $($kind::$inside(_) => $at,)+
         }
-    };
-    ($list:ident, $($arguments:tt)+) => {
-        $list!(place_of, ($($arguments)+))
     };
 }
 
-// Writes the name of a variant.
+// Whether two values are one variant, and have one number inside if any.
+macro_rules! are_same {
+    (($a:expr, $b:expr) $kind:ident $(($name:ident $number:literal $place:literal))+ $([$inside:ident $at:literal])+) => {
+        $a.variant() == $b.variant()
+            && match ($a, $b) {
+                $(($kind::$inside(a), $kind::$inside(b)) => a == b,)+
+                _ => true,
+            }
+    };
+}
+
+// Writes the name of a variant; the arms behind are for variants with their number inside.
 macro_rules! write_name {
-    (($value:expr, $f:ident, $($other:tt)+) $kind:ident $(($name:ident $number:literal $place:literal))+) => {
+    (($value:expr, $f:ident, $($other:tt)+) $kind:ident $(($name:ident $number:literal $place:literal))+ $([$inside:ident $at:literal])+) => {
         match $value {
             $($kind::$name => $f.write_str(stringify!($name)),)+
             $($other)+
         }
-    };
-    ($list:ident, $($arguments:tt)+) => {
-        $list!(write_name, ($($arguments)+))
     };
 }
 

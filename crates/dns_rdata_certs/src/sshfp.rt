@@ -1,9 +1,9 @@
 //! SSHFP: the fingerprint of a host's key (RFC 4255, 3.1).
 
-ghost use Rattle.std.specs.Prelude.{◌≡◌, IfErr, IfOk, Some};
-ghost use Rattle.dns_names_wire.specs.Words.{ReadsTo, Emits};
+ghost use Rattle.std.specs.Prelude.{◌≡◌, Some};
+ghost use Rattle.dns_names_wire.specs.Words.{Emits};
 ghost use Rattle.dns_names_wire.specs.Facts.{same, same_equiv, same_partial};
-ghost use Rattle.dns_rdata_certs.specs.SSHFP.{sshfp_shape, sshfp_fields, sshfp_facts, sshfp_key_shape, sshfp_keys, IsReadSshfp, IsSshfpRefusal, sshfp_text};
+ghost use Rattle.dns_rdata_certs.specs.SSHFP.{sshfp_shape, sshfp_fields, sshfp_facts, sshfp_key_shape, sshfp_keys, sshfp_text};
 
 mod algorithm;
 mod fingerprint_type;
@@ -46,18 +46,24 @@ impl SSHFP {
             fingerprint: SmallOctets::from_vec(fingerprint),
         }
     }
+}
 
-    // Reads the fields that fill the length.
+impl Record for SSHFP {
+    ghost facts = { sshfp_facts };
+}
+
+impl RecordDataDecodable for SSHFP {
+    /// Reads two octets of numbers, and the rest of the length, by one request for memory where that is more than 64
+    /// octets. Where the two pass the length it is refused by
+    /// [`IncorrectRDataLengthRead`](DecodeError::IncorrectRDataLengthRead) of 2 and the length. Where octets are
+    /// missing it is refused by [`InsufficientBytes`](DecodeError::InsufficientBytes), and the numbers that are there
+    /// are taken.
     #[inline]
-    #[tactic(auto, using(dns_names_wire::proofs::FieldReads::reading))]
-    fn read_filled(
+    #[tactic(auto, using(dns_names_wire::proofs::FieldReads::reading, dns_names_wire::proofs::WindowReads::filled_window))]
+    fn read_data(
         decoder: &mut BinDecoder<'_>,
         length: Restrict<u16>,
-    ) -> Result<SSHFP, DecodeError>
-        ensures fields { ReadsTo sshfp_shape (λ _. Unit {0}) length sshfp_fields result decoder.old decoder.new }
-        ensures enums { IfOk result IsReadSshfp }
-        ensures refused { IfErr result (λ e. IsSshfpRefusal length decoder.old e decoder.new) }
-    {
+    ) -> Result<SSHFP, DecodeError> {
         let start = decoder.index();
         let algorithm = Algorithm::from(decoder.read_u8()?.unverified());
         let fingerprint_type = FingerprintType::from(decoder.read_u8()?.unverified());
@@ -72,27 +78,6 @@ impl SSHFP {
             fingerprint_type,
             fingerprint,
         })
-    }
-}
-
-impl Record for SSHFP {
-    ghost facts = { sshfp_facts };
-}
-
-impl RecordDataDecodable for SSHFP {
-    /// Reads two octets of numbers, and the rest of the length, by one request for memory where that is more than 64
-    /// octets. Where the two pass the length it is refused by
-    /// [`IncorrectRDataLengthRead`](DecodeError::IncorrectRDataLengthRead) of 2 and the length. Where octets are
-    /// missing it is refused by [`InsufficientBytes`](DecodeError::InsufficientBytes), and the numbers that are there
-    /// are taken.
-    #[inline]
-    fn read_data(
-        decoder: &mut BinDecoder<'_>,
-        length: Restrict<u16>,
-    ) -> Result<SSHFP, DecodeError> {
-        // Called for its clauses: the message is octets, and the place is in it.
-        let _start = decoder.index();
-        SSHFP::read_filled(decoder, length)
     }
 }
 

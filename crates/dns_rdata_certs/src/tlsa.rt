@@ -1,9 +1,9 @@
 //! TLSA: a certificate of a service (RFC 6698, 2.1).
 
-ghost use Rattle.std.specs.Prelude.{◌≡◌, IfErr, IfOk, Some};
-ghost use Rattle.dns_names_wire.specs.Words.{ReadsTo, Emits};
+ghost use Rattle.std.specs.Prelude.{◌≡◌, Some};
+ghost use Rattle.dns_names_wire.specs.Words.{Emits};
 ghost use Rattle.dns_names_wire.specs.Facts.{same, same_equiv, same_partial};
-ghost use Rattle.dns_rdata_certs.specs.TLSA.{tlsa_shape, tlsa_fields, tlsa_facts, tlsa_key_shape, tlsa_keys, IsReadTlsa, IsTlsaRefusal, tlsa_text};
+ghost use Rattle.dns_rdata_certs.specs.TLSA.{tlsa_shape, tlsa_fields, tlsa_facts, tlsa_key_shape, tlsa_keys, tlsa_text};
 
 mod cert_usage;
 mod matching;
@@ -53,15 +53,21 @@ impl TLSA {
             cert_data: SmallOctets::from_vec(cert_data),
         }
     }
+}
 
-    // Reads the fields that fill the length.
+impl Record for TLSA {
+    ghost facts = { tlsa_facts };
+}
+
+impl RecordDataDecodable for TLSA {
+    /// Reads three octets of numbers, and the rest of the length, by one request for memory where that is more than 64
+    /// octets. Where the three pass the length it is refused by
+    /// [`IncorrectRDataLengthRead`](DecodeError::IncorrectRDataLengthRead) of 3 and the length. Where octets are
+    /// missing it is refused by [`InsufficientBytes`](DecodeError::InsufficientBytes), and the numbers that are there
+    /// are taken.
     #[inline(always)]
-    #[tactic(auto, using(dns_names_wire::proofs::FieldReads::reading))]
-    fn read_filled(decoder: &mut BinDecoder<'_>, length: Restrict<u16>) -> Result<TLSA, DecodeError>
-        ensures fields { ReadsTo tlsa_shape (λ _. Unit {0}) length tlsa_fields result decoder.old decoder.new }
-        ensures enums { IfOk result IsReadTlsa }
-        ensures refused { IfErr result (λ e. IsTlsaRefusal length decoder.old e decoder.new) }
-    {
+    #[tactic(auto, using(dns_names_wire::proofs::FieldReads::reading, dns_names_wire::proofs::WindowReads::filled_window))]
+    fn read_data(decoder: &mut BinDecoder<'_>, length: Restrict<u16>) -> Result<TLSA, DecodeError> {
         let start = decoder.index();
         let cert_usage = CertUsage::from(decoder.read_u8()?.unverified());
         let selector = Selector::from(decoder.read_u8()?.unverified());
@@ -78,24 +84,6 @@ impl TLSA {
             matching,
             cert_data,
         })
-    }
-}
-
-impl Record for TLSA {
-    ghost facts = { tlsa_facts };
-}
-
-impl RecordDataDecodable for TLSA {
-    /// Reads three octets of numbers, and the rest of the length, by one request for memory where that is more than 64
-    /// octets. Where the three pass the length it is refused by
-    /// [`IncorrectRDataLengthRead`](DecodeError::IncorrectRDataLengthRead) of 3 and the length. Where octets are
-    /// missing it is refused by [`InsufficientBytes`](DecodeError::InsufficientBytes), and the numbers that are there
-    /// are taken.
-    #[inline(always)]
-    fn read_data(decoder: &mut BinDecoder<'_>, length: Restrict<u16>) -> Result<TLSA, DecodeError> {
-        // Called for its clauses: the message is octets, and the place is in it.
-        let _start = decoder.index();
-        TLSA::read_filled(decoder, length)
     }
 }
 

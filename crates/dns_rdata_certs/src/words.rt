@@ -1,4 +1,5 @@
 //! Records read from words (RFC 1035, 5.1).
+#![tactic(auto, using(dns_words::proofs::Steps::reading))]
 
 ghost use Rattle.std.specs.Prelude.{IfOk};
 ghost use Rattle.std.specs.Iterator.{IsFinite};
@@ -116,7 +117,6 @@ impl CERT {
     /// From four words: type and key tag, decimal numbers of 16 bits; algorithm, one of 8 bits; and the certificate in
     /// base64, also an empty word. Further words are not read. Refused by [`MissingToken`](ParseError::MissingToken),
     /// [`Message`](ParseError::Message) or [`Memory`](ParseError::Memory).
-    #[tactic(auto, using(dns_words::proofs::Steps::reading))]
     pub fn from_tokens<S: AsStr + Drop, I: Iterator<Item = S>>(
         alloc: Global,
         mut tokens: I,
@@ -142,7 +142,6 @@ impl SSHFP {
     /// From three words: algorithm and fingerprint type, decimal numbers of 8 bits, and the fingerprint, hexadecimal
     /// digits of either case ([`HEX`]) in a word that isn't empty; a further word is refused. Refused by
     /// [`MissingToken`](ParseError::MissingToken), [`Message`](ParseError::Message) or [`Memory`](ParseError::Memory).
-    #[tactic(auto, using(dns_words::proofs::Steps::reading))]
     pub fn from_tokens<S: AsStr + Drop, I: Iterator<Item = S>>(
         alloc: Global,
         mut tokens: I,
@@ -168,7 +167,6 @@ impl TLSA {
     /// words, joined, hexadecimal digits of one octet or more ([`HEX`]). Refused by
     /// [`MissingToken`](ParseError::MissingToken), [`Message`](ParseError::Message) or [`Memory`](ParseError::Memory).
     /// The caller owes an iterator that ends.
-    #[tactic(auto, using(dns_words::proofs::Steps::reading))]
     pub fn from_tokens<S: AsStr + Drop, I: Iterator<Item = S>>(
         alloc: Global,
         mut tokens: I,

@@ -16,7 +16,6 @@ use std::convert::AsStr;
 impl A {
     /// From one word, the text of an IPv4 address as `from_str` reads it. Further words are not read. Refused by
     /// [`MissingToken`](ParseError::MissingToken) or [`AddrParse`](ParseError::AddrParse). Takes no memory.
-    #[tactic(auto, using(dns_words::proofs::Steps::reading))]
     pub fn from_tokens<S: AsStr + Drop, I: Iterator<Item = S>>(
         mut tokens: I,
     ) -> Result<A, ParseError>
@@ -24,15 +23,13 @@ impl A {
         ensures reads { ReadsRow I.next_gives S.text a_words a_fields result tokens }
         ensures memory { IfErr result (λ e. e ≢ parse.Memory) }
     {
-        let address = next_ipv4(&mut tokens, "A address")?;
-        Ok(A(address))
+        Ok(A(next_ipv4(&mut tokens, "A address")?))
     }
 }
 
 impl AAAA {
     /// From one word, the text of an IPv6 address as `from_str` reads it. Further words are not read. Refused by
     /// [`MissingToken`](ParseError::MissingToken) or [`AddrParse`](ParseError::AddrParse). Takes no memory.
-    #[tactic(auto, using(dns_words::proofs::Steps::reading))]
     pub fn from_tokens<S: AsStr + Drop, I: Iterator<Item = S>>(
         mut tokens: I,
     ) -> Result<AAAA, ParseError>
@@ -40,7 +37,6 @@ impl AAAA {
         ensures reads { ReadsRow I.next_gives S.text aaaa_words aaaa_fields result tokens }
         ensures memory { IfErr result (λ e. e ≢ parse.Memory) }
     {
-        let address = next_ipv6(&mut tokens, "AAAA address")?;
-        Ok(AAAA(address))
+        Ok(AAAA(next_ipv6(&mut tokens, "AAAA address")?))
     }
 }

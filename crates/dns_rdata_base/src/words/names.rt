@@ -27,7 +27,6 @@ impl ANAME {
     /// From one word, the text of a name, which the origin completes where one is given. Further words are not read.
     /// Refused by [`MissingToken`](ParseError::MissingToken), by [`Proto`](ParseError::Proto) where the word is no
     /// name, or by [`Memory`](ParseError::Memory).
-    #[tactic(auto, using(dns_words::proofs::Steps::reading))]
     pub fn from_tokens<S: AsStr + Drop, I: Iterator<Item = S>>(
         alloc: Global,
         mut tokens: I,
@@ -36,14 +35,12 @@ impl ANAME {
         requires can { I.can_next tokens }
         ensures { ReadsRow I.next_gives S.text (name_words (option_copied origin.entry)) aname_fields result tokens }
     {
-        let name = next_name(alloc, &mut tokens, origin, "ANAME name")?;
-        Ok(ANAME(name))
+        Ok(ANAME(next_name(alloc, &mut tokens, origin, "ANAME name")?))
     }
 }
 
 impl CNAME {
     /// From one word, the name, as `ANAME::from_tokens`.
-    #[tactic(auto, using(dns_words::proofs::Steps::reading))]
     pub fn from_tokens<S: AsStr + Drop, I: Iterator<Item = S>>(
         alloc: Global,
         mut tokens: I,
@@ -52,14 +49,12 @@ impl CNAME {
         requires can { I.can_next tokens }
         ensures { ReadsRow I.next_gives S.text (name_words (option_copied origin.entry)) cname_fields result tokens }
     {
-        let name = next_name(alloc, &mut tokens, origin, "CNAME name")?;
-        Ok(CNAME(name))
+        Ok(CNAME(next_name(alloc, &mut tokens, origin, "CNAME name")?))
     }
 }
 
 impl NS {
     /// From one word, the name, as `ANAME::from_tokens`.
-    #[tactic(auto, using(dns_words::proofs::Steps::reading))]
     pub fn from_tokens<S: AsStr + Drop, I: Iterator<Item = S>>(
         alloc: Global,
         mut tokens: I,
@@ -68,14 +63,12 @@ impl NS {
         requires can { I.can_next tokens }
         ensures { ReadsRow I.next_gives S.text (name_words (option_copied origin.entry)) ns_fields result tokens }
     {
-        let name = next_name(alloc, &mut tokens, origin, "NS name")?;
-        Ok(NS(name))
+        Ok(NS(next_name(alloc, &mut tokens, origin, "NS name")?))
     }
 }
 
 impl PTR {
     /// From one word, the name, as `ANAME::from_tokens`.
-    #[tactic(auto, using(dns_words::proofs::Steps::reading))]
     pub fn from_tokens<S: AsStr + Drop, I: Iterator<Item = S>>(
         alloc: Global,
         mut tokens: I,
@@ -84,8 +77,7 @@ impl PTR {
         requires can { I.can_next tokens }
         ensures { ReadsRow I.next_gives S.text (name_words (option_copied origin.entry)) ptr_fields result tokens }
     {
-        let name = next_name(alloc, &mut tokens, origin, "PTR name")?;
-        Ok(PTR(name))
+        Ok(PTR(next_name(alloc, &mut tokens, origin, "PTR name")?))
     }
 }
 
@@ -94,7 +86,6 @@ impl MX {
     /// one is given. Further words are not read. Refused by [`MissingToken`](ParseError::MissingToken), by
     /// [`Message`](ParseError::Message) where a word is no such number, by [`Proto`](ParseError::Proto) where one is no
     /// name, or by [`Memory`](ParseError::Memory).
-    #[tactic(auto, using(dns_words::proofs::Steps::reading))]
     pub fn from_tokens<S: AsStr + Drop, I: Iterator<Item = S>>(
         alloc: Global,
         mut tokens: I,
@@ -112,7 +103,6 @@ impl MX {
 impl SRV {
     /// From four words: priority, weight and port, decimal numbers of 16 bits, and target, a name. Further words are
     /// not read. Refused as `MX::from_tokens`.
-    #[tactic(auto, using(dns_words::proofs::Steps::reading))]
     pub fn from_tokens<S: AsStr + Drop, I: Iterator<Item = S>>(
         alloc: Global,
         mut tokens: I,

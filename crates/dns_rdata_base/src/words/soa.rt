@@ -28,7 +28,6 @@ impl SOA {
     /// 2147483647. Further words are not read. Refused by [`MissingToken`](ParseError::MissingToken), by
     /// [`Message`](ParseError::Message) where a word is no such time, by [`Proto`](ParseError::Proto) where one is no
     /// name, or by [`Memory`](ParseError::Memory).
-    #[tactic(auto, using(dns_words::proofs::Steps::reading))]
     pub fn from_tokens<S: AsStr + Drop, I: Iterator<Item = S>>(
         alloc: Global,
         mut tokens: I,

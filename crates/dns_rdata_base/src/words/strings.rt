@@ -20,7 +20,6 @@ const PUBLIC_KEY: Field = base64_field!("OPENPGPKEY public key");
 impl HINFO {
     /// From two words, cpu and os, whose octets are kept. Further words are not read. Refused by
     /// [`MissingToken`](ParseError::MissingToken) or [`Memory`](ParseError::Memory).
-    #[tactic(auto, using(dns_words::proofs::Steps::reading))]
     pub fn from_tokens<S: AsStr + Drop, I: Iterator<Item = S>>(
         alloc: Global,
         mut tokens: I,
@@ -40,7 +39,6 @@ impl HINFO {
 impl TXT {
     /// From all words, also none: each is a string, its octets as they are. Fails only for want of memory. The caller
     /// owes an iterator that ends.
-    #[tactic(auto, using(dns_words::proofs::Steps::reading))]
     pub fn from_tokens<S: AsStr + Drop, I: Iterator<Item = S>>(
         alloc: Global,
         tokens: I,
@@ -57,7 +55,6 @@ impl TXT {
 impl OPENPGPKEY {
     /// From one word, the key in base64; a further word is refused. Refused by
     /// [`MissingToken`](ParseError::MissingToken), [`Message`](ParseError::Message) or [`Memory`](ParseError::Memory).
-    #[tactic(auto, using(dns_words::proofs::Steps::reading))]
     pub fn from_tokens<S: AsStr + Drop, I: Iterator<Item = S>>(
         alloc: Global,
         mut tokens: I,

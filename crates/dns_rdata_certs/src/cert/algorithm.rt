@@ -1,13 +1,9 @@
 //! The algorithm of a certificate in CERT (RFC 4398, 2).
 
-ghost use Rattle.std.specs.Prelude.{◌≡◌, ◌++◌, refl, IfErr, OnErr};
-ghost use Rattle.std.specs.Cmp.{partial_equiv_from_equiv, partial_order_from_agreeing_total};
-ghost use Rattle.std.specs.Cmp.Rules.{hashing};
+ghost use Rattle.std.specs.Prelude.{◌≡◌, refl, IfErr, OnErr};
 ghost use Rattle.std.specs.Hash as fed;
-ghost use Rattle.std.specs.Ordering.{as_partial_cmp};
-ghost use Rattle.std.proofs.Common.{rules};
-ghost use Rattle.dns_rdata_base.specs.Numbered.{numbered_eq, numbered_cmp};
-ghost use Rattle.dns_rdata_base.proofs.NumberedLaws.{numbered_equiv, numbered_total, numbered_ties};
+ghost use Rattle.dns_rdata_base.specs.Numbered.{numbered_eq, numbered_cmp, numbered_partial_cmp, numbered_hash};
+ghost use Rattle.dns_rdata_base.proofs.NumberedLaws.{numbered_equiv, numbered_partial, numbered_total, numbered_order, numbered_ties, numbered_alike};
 ghost use Rattle.dns_names_wire.specs.Words.{ReadsBy, LacksOctets, IsCut};
 ghost use Rattle.dns_rdata_certs.specs.CertAlgorithm.{cert_algorithm_number, cert_algorithm_variant, cert_algorithm_of};
 
@@ -64,7 +60,7 @@ pub enum Algorithm {
     Unassigned(u8),
 }
 
-// The variants that have one number: its name, the number, its place in the declaration.
+// The variants, as the macros of the crate take them.
 macro_rules! algorithms {
     ($macro:ident, $arguments:tt) => {
         $macro!(
@@ -73,6 +69,7 @@ macro_rules! algorithms {
             (PRIVATEDNS 253 7) (PRIVATEOID 254 8) (DSANSEC3SHA1 6 9) (RSASHA1NSEC3SHA1 7 10)
             (RSASHA256 8 11) (RSASHA512 10 12) (ECCGOST 12 13) (ECDSAP256SHA256 13 14)
             (ECDSAP384SHA384 14 15) (ED25519 15 16) (ED448 16 17) (SM2SM3 17 18) (ECCGOST12 23 19)
+            [Reserved 0] [Unassigned 20]
         )
     };
 }
@@ -83,10 +80,10 @@ impl From<u8> for Algorithm {
 
     #[inline]
     fn from(value: u8) -> Algorithm {
-        of_number!(algorithms, value,
+        algorithms!(of_number, (value,
             0 | 9 | 11 => Algorithm::Reserved(value),
             _ => Algorithm::Unassigned(value),
-        )
+        ))
     }
 }
 
@@ -95,10 +92,7 @@ impl From<Algorithm> for u8 {
 
     #[inline]
     fn from(value: Algorithm) -> u8 {
-        number_of!(algorithms, value,
-            Algorithm::Reserved(number) => number,
-            Algorithm::Unassigned(number) => number,
-        )
+        algorithms!(number_of, (value))
     }
 }
 
@@ -116,28 +110,18 @@ impl Algorithm {
     fn variant(self) -> u8
         ensures { result ≡ cert_algorithm_variant self }
     {
-        place_of!(algorithms, self,
-            Algorithm::Reserved(_) => 0,
-            Algorithm::Unassigned(_) => 20,
-        )
+        algorithms!(place_of, (self))
     }
 }
 
 impl PartialEq for Algorithm {
     ghost eq = { numbered_eq cert_algorithm_number cert_algorithm_variant };
 
-    ghost laws = { partial_equiv_from_equiv (numbered_equiv cert_algorithm_number cert_algorithm_variant) };
+    ghost laws = { numbered_partial cert_algorithm_number cert_algorithm_variant };
 
     #[inline]
     fn eq(&self, other: &Algorithm) -> bool {
-        if self.variant() != other.variant() {
-            return false;
-        }
-        match (*self, *other) {
-            (Algorithm::Reserved(a), Algorithm::Reserved(b)) => a == b,
-            (Algorithm::Unassigned(a), Algorithm::Unassigned(b)) => a == b,
-            _ => true,
-        }
+        algorithms!(are_same, (*self, *other))
     }
 }
 
@@ -146,9 +130,9 @@ impl Eq for Algorithm {
 }
 
 impl Hash for Algorithm {
-    ghost hash_input = { λ e. fed.u8 (cert_algorithm_number e) ++ fed.u8 (cert_algorithm_variant e) };
+    ghost hash_input = { numbered_hash fed.u8 cert_algorithm_number cert_algorithm_variant };
 
-    ghost respects_eq = { Prim.search (hashing, rules) };
+    ghost respects_eq = { numbered_alike fed.u8 cert_algorithm_number cert_algorithm_variant };
 
     #[inline]
     fn hash<H: Hasher>(&self, state: &mut H) {
@@ -158,10 +142,9 @@ impl Hash for Algorithm {
 }
 
 impl PartialOrd for Algorithm {
-    ghost partial_cmp = { as_partial_cmp (numbered_cmp cert_algorithm_number cert_algorithm_variant) };
+    ghost partial_cmp = { numbered_partial_cmp cert_algorithm_number cert_algorithm_variant };
 
-    ghost laws = { partial_order_from_agreeing_total (numbered_cmp cert_algorithm_number cert_algorithm_variant)
-        (numbered_total cert_algorithm_number cert_algorithm_variant) (λ _ _. refl) (numbered_ties cert_algorithm_number cert_algorithm_variant) };
+    ghost laws = { numbered_order cert_algorithm_number cert_algorithm_variant };
 
     #[inline]
     fn partial_cmp(&self, other: &Algorithm) -> Option<Ordering> {
@@ -213,9 +196,9 @@ impl fmt::Display for Algorithm {
     /// The variant's name, and its number in parentheses where it has one inside: `RSASHA256`, `Unassigned(18)`.
     #[tactic(auto, unfolding(crate::specs::CertAlgorithm::cert_algorithm_text))]
     fn fmt<W: fmt::Write>(&self, f: &mut fmt::Formatter<W>) -> fmt::Result {
-        write_name!(algorithms, *self, f,
+        algorithms!(write_name, (*self, f,
             Algorithm::Reserved(number) => write!(f, "Reserved({number})"),
             Algorithm::Unassigned(number) => write!(f, "Unassigned({number})"),
-        )
+        ))
     }
 }

@@ -1,13 +1,9 @@
 //! The type of a certificate in CERT (RFC 4398, 2.1).
 
-ghost use Rattle.std.specs.Prelude.{◌≡◌, ◌++◌, refl, IfErr, OnErr};
-ghost use Rattle.std.specs.Cmp.{partial_equiv_from_equiv, partial_order_from_agreeing_total};
-ghost use Rattle.std.specs.Cmp.Rules.{hashing};
+ghost use Rattle.std.specs.Prelude.{◌≡◌, refl, IfErr, OnErr};
 ghost use Rattle.std.specs.Hash as fed;
-ghost use Rattle.std.specs.Ordering.{as_partial_cmp};
-ghost use Rattle.std.proofs.Common.{rules};
-ghost use Rattle.dns_rdata_base.specs.Numbered.{numbered_eq, numbered_cmp};
-ghost use Rattle.dns_rdata_base.proofs.NumberedLaws.{numbered_equiv, numbered_total, numbered_ties};
+ghost use Rattle.dns_rdata_base.specs.Numbered.{numbered_eq, numbered_cmp, numbered_partial_cmp, numbered_hash};
+ghost use Rattle.dns_rdata_base.proofs.NumberedLaws.{numbered_equiv, numbered_partial, numbered_total, numbered_order, numbered_ties, numbered_alike};
 ghost use Rattle.dns_names_wire.specs.Words.{ReadsBy, LacksOctets, IsCut};
 ghost use Rattle.dns_rdata_certs.specs.CertType.{cert_type_number, cert_type_variant, cert_type_of};
 
@@ -51,14 +47,14 @@ pub enum CertType {
     Reserved65535,
 }
 
-// The variants that have one number: its name, the number, its place in the declaration.
+// The variants, as the macros of the crate take them.
 macro_rules! cert_types {
     ($macro:ident, $arguments:tt) => {
         $macro!(
             $arguments CertType
             (Reserved0 0 0) (PKIX 1 1) (SPKI 2 2) (PGP 3 3) (IPKIX 4 4) (ISPKI 5 5) (IPGP 6 6)
             (ACPKIX 7 7) (IACPKIX 8 8) (URI 253 9) (OID 254 10) (Reserved255 255 11)
-            (Reserved65535 65535 14)
+            (Reserved65535 65535 14) [Unassigned 12] [Experimental 13]
         )
     };
 }
@@ -69,10 +65,10 @@ impl From<u16> for CertType {
 
     #[inline]
     fn from(value: u16) -> CertType {
-        of_number!(cert_types, value,
+        cert_types!(of_number, (value,
             65280..=65534 => CertType::Experimental(value),
             _ => CertType::Unassigned(value),
-        )
+        ))
     }
 }
 
@@ -81,10 +77,7 @@ impl From<CertType> for u16 {
 
     #[inline]
     fn from(value: CertType) -> u16 {
-        number_of!(cert_types, value,
-            CertType::Unassigned(number) => number,
-            CertType::Experimental(number) => number,
-        )
+        cert_types!(number_of, (value))
     }
 }
 
@@ -102,28 +95,18 @@ impl CertType {
     fn variant(self) -> u8
         ensures { result ≡ cert_type_variant self }
     {
-        place_of!(cert_types, self,
-            CertType::Unassigned(_) => 12,
-            CertType::Experimental(_) => 13,
-        )
+        cert_types!(place_of, (self))
     }
 }
 
 impl PartialEq for CertType {
     ghost eq = { numbered_eq cert_type_number cert_type_variant };
 
-    ghost laws = { partial_equiv_from_equiv (numbered_equiv cert_type_number cert_type_variant) };
+    ghost laws = { numbered_partial cert_type_number cert_type_variant };
 
     #[inline]
     fn eq(&self, other: &CertType) -> bool {
-        if self.variant() != other.variant() {
-            return false;
-        }
-        match (*self, *other) {
-            (CertType::Unassigned(a), CertType::Unassigned(b)) => a == b,
-            (CertType::Experimental(a), CertType::Experimental(b)) => a == b,
-            _ => true,
-        }
+        cert_types!(are_same, (*self, *other))
     }
 }
 
@@ -132,9 +115,9 @@ impl Eq for CertType {
 }
 
 impl Hash for CertType {
-    ghost hash_input = { λ e. fed.u16 (cert_type_number e) ++ fed.u8 (cert_type_variant e) };
+    ghost hash_input = { numbered_hash fed.u16 cert_type_number cert_type_variant };
 
-    ghost respects_eq = { Prim.search (hashing, rules) };
+    ghost respects_eq = { numbered_alike fed.u16 cert_type_number cert_type_variant };
 
     #[inline]
     fn hash<H: Hasher>(&self, state: &mut H) {
@@ -144,10 +127,9 @@ impl Hash for CertType {
 }
 
 impl PartialOrd for CertType {
-    ghost partial_cmp = { as_partial_cmp (numbered_cmp cert_type_number cert_type_variant) };
+    ghost partial_cmp = { numbered_partial_cmp cert_type_number cert_type_variant };
 
-    ghost laws = { partial_order_from_agreeing_total (numbered_cmp cert_type_number cert_type_variant) (numbered_total cert_type_number cert_type_variant)
-        (λ _ _. refl) (numbered_ties cert_type_number cert_type_variant) };
+    ghost laws = { numbered_order cert_type_number cert_type_variant };
 
     #[inline]
     fn partial_cmp(&self, other: &CertType) -> Option<Ordering> {
@@ -199,9 +181,9 @@ impl fmt::Display for CertType {
     /// The variant's name, and its number in parentheses where it has one inside: `PKIX`, `Unassigned(9)`.
     #[tactic(auto, unfolding(crate::specs::CertType::cert_type_text))]
     fn fmt<W: fmt::Write>(&self, f: &mut fmt::Formatter<W>) -> fmt::Result {
-        write_name!(cert_types, *self, f,
+        cert_types!(write_name, (*self, f,
             CertType::Unassigned(number) => write!(f, "Unassigned({number})"),
             CertType::Experimental(number) => write!(f, "Experimental({number})"),
-        )
+        ))
     }
 }

@@ -1,13 +1,9 @@
 //! The algorithm of a key in SSHFP (RFC 4255, 3.1.1).
 
-ghost use Rattle.std.specs.Prelude.{◌≡◌, ◌++◌, refl};
-ghost use Rattle.std.specs.Cmp.{partial_equiv_from_equiv, partial_order_from_agreeing_total};
-ghost use Rattle.std.specs.Cmp.Rules.{hashing};
+ghost use Rattle.std.specs.Prelude.{◌≡◌, refl};
 ghost use Rattle.std.specs.Hash as fed;
-ghost use Rattle.std.specs.Ordering.{as_partial_cmp};
-ghost use Rattle.std.proofs.Common.{rules};
-ghost use Rattle.dns_rdata_base.specs.Numbered.{numbered_eq, numbered_cmp};
-ghost use Rattle.dns_rdata_base.proofs.NumberedLaws.{numbered_equiv, numbered_total, numbered_ties};
+ghost use Rattle.dns_rdata_base.specs.Numbered.{numbered_eq, numbered_cmp, numbered_partial_cmp, numbered_hash};
+ghost use Rattle.dns_rdata_base.proofs.NumberedLaws.{numbered_equiv, numbered_partial, numbered_total, numbered_order, numbered_ties, numbered_alike};
 ghost use Rattle.dns_rdata_certs.specs.SshfpAlgorithm.{sshfp_algorithm_number, sshfp_algorithm_variant, sshfp_algorithm_of};
 
 use std::cmp::Ordering;
@@ -32,12 +28,12 @@ pub enum Algorithm {
     Unassigned(u8),
 }
 
-// The variants that have one number: its name, the number, its place in the declaration.
+// The variants, as the macros of the crate take them.
 macro_rules! algorithms {
     ($macro:ident, $arguments:tt) => {
         $macro!(
             $arguments Algorithm
-            (Reserved 0 0) (RSA 1 1) (DSA 2 2) (ECDSA 3 3) (Ed25519 4 4) (Ed448 6 5)
+            (Reserved 0 0) (RSA 1 1) (DSA 2 2) (ECDSA 3 3) (Ed25519 4 4) (Ed448 6 5) [Unassigned 6]
         )
     };
 }
@@ -48,9 +44,7 @@ impl From<u8> for Algorithm {
 
     #[inline]
     fn from(value: u8) -> Algorithm {
-        of_number!(algorithms, value,
-            _ => Algorithm::Unassigned(value),
-        )
+        algorithms!(of_number, (value, _ => Algorithm::Unassigned(value)))
     }
 }
 
@@ -59,9 +53,7 @@ impl From<Algorithm> for u8 {
 
     #[inline]
     fn from(value: Algorithm) -> u8 {
-        number_of!(algorithms, value,
-            Algorithm::Unassigned(number) => number,
-        )
+        algorithms!(number_of, (value))
     }
 }
 
@@ -79,26 +71,18 @@ impl Algorithm {
     fn variant(self) -> u8
         ensures { result ≡ sshfp_algorithm_variant self }
     {
-        place_of!(algorithms, self,
-            Algorithm::Unassigned(_) => 6,
-        )
+        algorithms!(place_of, (self))
     }
 }
 
 impl PartialEq for Algorithm {
     ghost eq = { numbered_eq sshfp_algorithm_number sshfp_algorithm_variant };
 
-    ghost laws = { partial_equiv_from_equiv (numbered_equiv sshfp_algorithm_number sshfp_algorithm_variant) };
+    ghost laws = { numbered_partial sshfp_algorithm_number sshfp_algorithm_variant };
 
     #[inline]
     fn eq(&self, other: &Algorithm) -> bool {
-        if self.variant() != other.variant() {
-            return false;
-        }
-        match (*self, *other) {
-            (Algorithm::Unassigned(a), Algorithm::Unassigned(b)) => a == b,
-            _ => true,
-        }
+        algorithms!(are_same, (*self, *other))
     }
 }
 
@@ -107,9 +91,9 @@ impl Eq for Algorithm {
 }
 
 impl Hash for Algorithm {
-    ghost hash_input = { λ e. fed.u8 (sshfp_algorithm_number e) ++ fed.u8 (sshfp_algorithm_variant e) };
+    ghost hash_input = { numbered_hash fed.u8 sshfp_algorithm_number sshfp_algorithm_variant };
 
-    ghost respects_eq = { Prim.search (hashing, rules) };
+    ghost respects_eq = { numbered_alike fed.u8 sshfp_algorithm_number sshfp_algorithm_variant };
 
     #[inline]
     fn hash<H: Hasher>(&self, state: &mut H) {
@@ -119,10 +103,9 @@ impl Hash for Algorithm {
 }
 
 impl PartialOrd for Algorithm {
-    ghost partial_cmp = { as_partial_cmp (numbered_cmp sshfp_algorithm_number sshfp_algorithm_variant) };
+    ghost partial_cmp = { numbered_partial_cmp sshfp_algorithm_number sshfp_algorithm_variant };
 
-    ghost laws = { partial_order_from_agreeing_total (numbered_cmp sshfp_algorithm_number sshfp_algorithm_variant)
-        (numbered_total sshfp_algorithm_number sshfp_algorithm_variant) (λ _ _. refl) (numbered_ties sshfp_algorithm_number sshfp_algorithm_variant) };
+    ghost laws = { numbered_order sshfp_algorithm_number sshfp_algorithm_variant };
 
     #[inline]
     fn partial_cmp(&self, other: &Algorithm) -> Option<Ordering> {

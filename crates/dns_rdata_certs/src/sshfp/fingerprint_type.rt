@@ -1,13 +1,9 @@
 //! The type of a fingerprint in SSHFP (RFC 4255, 3.1.2).
 
-ghost use Rattle.std.specs.Prelude.{◌≡◌, ◌++◌, refl};
-ghost use Rattle.std.specs.Cmp.{partial_equiv_from_equiv, partial_order_from_agreeing_total};
-ghost use Rattle.std.specs.Cmp.Rules.{hashing};
+ghost use Rattle.std.specs.Prelude.{◌≡◌, refl};
 ghost use Rattle.std.specs.Hash as fed;
-ghost use Rattle.std.specs.Ordering.{as_partial_cmp};
-ghost use Rattle.std.proofs.Common.{rules};
-ghost use Rattle.dns_rdata_base.specs.Numbered.{numbered_eq, numbered_cmp};
-ghost use Rattle.dns_rdata_base.proofs.NumberedLaws.{numbered_equiv, numbered_total, numbered_ties};
+ghost use Rattle.dns_rdata_base.specs.Numbered.{numbered_eq, numbered_cmp, numbered_partial_cmp, numbered_hash};
+ghost use Rattle.dns_rdata_base.proofs.NumberedLaws.{numbered_equiv, numbered_partial, numbered_total, numbered_order, numbered_ties, numbered_alike};
 ghost use Rattle.dns_rdata_certs.specs.FingerprintType.{fingerprint_type_number, fingerprint_type_variant, fingerprint_type_of};
 
 use std::cmp::Ordering;
@@ -26,13 +22,10 @@ pub enum FingerprintType {
     Unassigned(u8),
 }
 
-// The variants that have one number: its name, the number, its place in the declaration.
+// The variants, as the macros of the crate take them.
 macro_rules! types {
     ($macro:ident, $arguments:tt) => {
-        $macro!(
-            $arguments FingerprintType
-            (Reserved 0 0) (SHA1 1 1) (SHA256 2 2)
-        )
+        $macro!($arguments FingerprintType (Reserved 0 0) (SHA1 1 1) (SHA256 2 2) [Unassigned 3])
     };
 }
 
@@ -42,9 +35,7 @@ impl From<u8> for FingerprintType {
 
     #[inline]
     fn from(value: u8) -> FingerprintType {
-        of_number!(types, value,
-            _ => FingerprintType::Unassigned(value),
-        )
+        types!(of_number, (value, _ => FingerprintType::Unassigned(value)))
     }
 }
 
@@ -53,9 +44,7 @@ impl From<FingerprintType> for u8 {
 
     #[inline]
     fn from(value: FingerprintType) -> u8 {
-        number_of!(types, value,
-            FingerprintType::Unassigned(number) => number,
-        )
+        types!(number_of, (value))
     }
 }
 
@@ -73,26 +62,18 @@ impl FingerprintType {
     fn variant(self) -> u8
         ensures { result ≡ fingerprint_type_variant self }
     {
-        place_of!(types, self,
-            FingerprintType::Unassigned(_) => 3,
-        )
+        types!(place_of, (self))
     }
 }
 
 impl PartialEq for FingerprintType {
     ghost eq = { numbered_eq fingerprint_type_number fingerprint_type_variant };
 
-    ghost laws = { partial_equiv_from_equiv (numbered_equiv fingerprint_type_number fingerprint_type_variant) };
+    ghost laws = { numbered_partial fingerprint_type_number fingerprint_type_variant };
 
     #[inline]
     fn eq(&self, other: &FingerprintType) -> bool {
-        if self.variant() != other.variant() {
-            return false;
-        }
-        match (*self, *other) {
-            (FingerprintType::Unassigned(a), FingerprintType::Unassigned(b)) => a == b,
-            _ => true,
-        }
+        types!(are_same, (*self, *other))
     }
 }
 
@@ -101,9 +82,9 @@ impl Eq for FingerprintType {
 }
 
 impl Hash for FingerprintType {
-    ghost hash_input = { λ e. fed.u8 (fingerprint_type_number e) ++ fed.u8 (fingerprint_type_variant e) };
+    ghost hash_input = { numbered_hash fed.u8 fingerprint_type_number fingerprint_type_variant };
 
-    ghost respects_eq = { Prim.search (hashing, rules) };
+    ghost respects_eq = { numbered_alike fed.u8 fingerprint_type_number fingerprint_type_variant };
 
     #[inline]
     fn hash<H: Hasher>(&self, state: &mut H) {
@@ -113,10 +94,9 @@ impl Hash for FingerprintType {
 }
 
 impl PartialOrd for FingerprintType {
-    ghost partial_cmp = { as_partial_cmp (numbered_cmp fingerprint_type_number fingerprint_type_variant) };
+    ghost partial_cmp = { numbered_partial_cmp fingerprint_type_number fingerprint_type_variant };
 
-    ghost laws = { partial_order_from_agreeing_total (numbered_cmp fingerprint_type_number fingerprint_type_variant)
-        (numbered_total fingerprint_type_number fingerprint_type_variant) (λ _ _. refl) (numbered_ties fingerprint_type_number fingerprint_type_variant) };
+    ghost laws = { numbered_order fingerprint_type_number fingerprint_type_variant };
 
     #[inline]
     fn partial_cmp(&self, other: &FingerprintType) -> Option<Ordering> {

@@ -1,13 +1,9 @@
 //! The usage of a certificate in TLSA (RFC 6698, 2.1.1).
 
-ghost use Rattle.std.specs.Prelude.{◌≡◌, ◌++◌, refl};
-ghost use Rattle.std.specs.Cmp.{partial_equiv_from_equiv, partial_order_from_agreeing_total};
-ghost use Rattle.std.specs.Cmp.Rules.{hashing};
+ghost use Rattle.std.specs.Prelude.{◌≡◌, refl};
 ghost use Rattle.std.specs.Hash as fed;
-ghost use Rattle.std.specs.Ordering.{as_partial_cmp};
-ghost use Rattle.std.proofs.Common.{rules};
-ghost use Rattle.dns_rdata_base.specs.Numbered.{numbered_eq, numbered_cmp};
-ghost use Rattle.dns_rdata_base.proofs.NumberedLaws.{numbered_equiv, numbered_total, numbered_ties};
+ghost use Rattle.dns_rdata_base.specs.Numbered.{numbered_eq, numbered_cmp, numbered_partial_cmp, numbered_hash};
+ghost use Rattle.dns_rdata_base.proofs.NumberedLaws.{numbered_equiv, numbered_partial, numbered_total, numbered_order, numbered_ties, numbered_alike};
 ghost use Rattle.dns_rdata_certs.specs.CertUsage.{cert_usage_number, cert_usage_variant, cert_usage_of};
 
 use std::cmp::Ordering;
@@ -30,12 +26,12 @@ pub enum CertUsage {
     Private,
 }
 
-// The variants that have one number: its name, the number, its place in the declaration.
+// The variants, as the macros of the crate take them.
 macro_rules! usages {
     ($macro:ident, $arguments:tt) => {
         $macro!(
             $arguments CertUsage
-            (PkixTa 0 0) (PkixEe 1 1) (DaneTa 2 2) (DaneEe 3 3) (Private 255 5)
+            (PkixTa 0 0) (PkixEe 1 1) (DaneTa 2 2) (DaneEe 3 3) (Private 255 5) [Unassigned 4]
         )
     };
 }
@@ -46,9 +42,7 @@ impl From<u8> for CertUsage {
 
     #[inline]
     fn from(value: u8) -> CertUsage {
-        of_number!(usages, value,
-            _ => CertUsage::Unassigned(value),
-        )
+        usages!(of_number, (value, _ => CertUsage::Unassigned(value)))
     }
 }
 
@@ -57,9 +51,7 @@ impl From<CertUsage> for u8 {
 
     #[inline]
     fn from(value: CertUsage) -> u8 {
-        number_of!(usages, value,
-            CertUsage::Unassigned(number) => number,
-        )
+        usages!(number_of, (value))
     }
 }
 
@@ -77,26 +69,18 @@ impl CertUsage {
     fn variant(self) -> u8
         ensures { result ≡ cert_usage_variant self }
     {
-        place_of!(usages, self,
-            CertUsage::Unassigned(_) => 4,
-        )
+        usages!(place_of, (self))
     }
 }
 
 impl PartialEq for CertUsage {
     ghost eq = { numbered_eq cert_usage_number cert_usage_variant };
 
-    ghost laws = { partial_equiv_from_equiv (numbered_equiv cert_usage_number cert_usage_variant) };
+    ghost laws = { numbered_partial cert_usage_number cert_usage_variant };
 
     #[inline]
     fn eq(&self, other: &CertUsage) -> bool {
-        if self.variant() != other.variant() {
-            return false;
-        }
-        match (*self, *other) {
-            (CertUsage::Unassigned(a), CertUsage::Unassigned(b)) => a == b,
-            _ => true,
-        }
+        usages!(are_same, (*self, *other))
     }
 }
 
@@ -105,9 +89,9 @@ impl Eq for CertUsage {
 }
 
 impl Hash for CertUsage {
-    ghost hash_input = { λ e. fed.u8 (cert_usage_number e) ++ fed.u8 (cert_usage_variant e) };
+    ghost hash_input = { numbered_hash fed.u8 cert_usage_number cert_usage_variant };
 
-    ghost respects_eq = { Prim.search (hashing, rules) };
+    ghost respects_eq = { numbered_alike fed.u8 cert_usage_number cert_usage_variant };
 
     #[inline]
     fn hash<H: Hasher>(&self, state: &mut H) {
@@ -117,10 +101,9 @@ impl Hash for CertUsage {
 }
 
 impl PartialOrd for CertUsage {
-    ghost partial_cmp = { as_partial_cmp (numbered_cmp cert_usage_number cert_usage_variant) };
+    ghost partial_cmp = { numbered_partial_cmp cert_usage_number cert_usage_variant };
 
-    ghost laws = { partial_order_from_agreeing_total (numbered_cmp cert_usage_number cert_usage_variant)
-        (numbered_total cert_usage_number cert_usage_variant) (λ _ _. refl) (numbered_ties cert_usage_number cert_usage_variant) };
+    ghost laws = { numbered_order cert_usage_number cert_usage_variant };
 
     #[inline]
     fn partial_cmp(&self, other: &CertUsage) -> Option<Ordering> {

@@ -1,13 +1,9 @@
 //! How the data of TLSA is compared (RFC 6698, 2.1.3).
 
-ghost use Rattle.std.specs.Prelude.{◌≡◌, ◌++◌, refl};
-ghost use Rattle.std.specs.Cmp.{partial_equiv_from_equiv, partial_order_from_agreeing_total};
-ghost use Rattle.std.specs.Cmp.Rules.{hashing};
+ghost use Rattle.std.specs.Prelude.{◌≡◌, refl};
 ghost use Rattle.std.specs.Hash as fed;
-ghost use Rattle.std.specs.Ordering.{as_partial_cmp};
-ghost use Rattle.std.proofs.Common.{rules};
-ghost use Rattle.dns_rdata_base.specs.Numbered.{numbered_eq, numbered_cmp};
-ghost use Rattle.dns_rdata_base.proofs.NumberedLaws.{numbered_equiv, numbered_total, numbered_ties};
+ghost use Rattle.dns_rdata_base.specs.Numbered.{numbered_eq, numbered_cmp, numbered_partial_cmp, numbered_hash};
+ghost use Rattle.dns_rdata_base.proofs.NumberedLaws.{numbered_equiv, numbered_partial, numbered_total, numbered_order, numbered_ties, numbered_alike};
 ghost use Rattle.dns_rdata_certs.specs.Matching.{matching_number, matching_variant, matching_of};
 
 use std::cmp::Ordering;
@@ -28,12 +24,12 @@ pub enum Matching {
     Private,
 }
 
-// The variants that have one number: its name, the number, its place in the declaration.
+// The variants, as the macros of the crate take them.
 macro_rules! ways {
     ($macro:ident, $arguments:tt) => {
         $macro!(
             $arguments Matching
-            (Raw 0 0) (Sha256 1 1) (Sha512 2 2) (Private 255 4)
+            (Raw 0 0) (Sha256 1 1) (Sha512 2 2) (Private 255 4) [Unassigned 3]
         )
     };
 }
@@ -44,9 +40,7 @@ impl From<u8> for Matching {
 
     #[inline]
     fn from(value: u8) -> Matching {
-        of_number!(ways, value,
-            _ => Matching::Unassigned(value),
-        )
+        ways!(of_number, (value, _ => Matching::Unassigned(value)))
     }
 }
 
@@ -55,9 +49,7 @@ impl From<Matching> for u8 {
 
     #[inline]
     fn from(value: Matching) -> u8 {
-        number_of!(ways, value,
-            Matching::Unassigned(number) => number,
-        )
+        ways!(number_of, (value))
     }
 }
 
@@ -75,26 +67,18 @@ impl Matching {
     fn variant(self) -> u8
         ensures { result ≡ matching_variant self }
     {
-        place_of!(ways, self,
-            Matching::Unassigned(_) => 3,
-        )
+        ways!(place_of, (self))
     }
 }
 
 impl PartialEq for Matching {
     ghost eq = { numbered_eq matching_number matching_variant };
 
-    ghost laws = { partial_equiv_from_equiv (numbered_equiv matching_number matching_variant) };
+    ghost laws = { numbered_partial matching_number matching_variant };
 
     #[inline]
     fn eq(&self, other: &Matching) -> bool {
-        if self.variant() != other.variant() {
-            return false;
-        }
-        match (*self, *other) {
-            (Matching::Unassigned(a), Matching::Unassigned(b)) => a == b,
-            _ => true,
-        }
+        ways!(are_same, (*self, *other))
     }
 }
 
@@ -103,9 +87,9 @@ impl Eq for Matching {
 }
 
 impl Hash for Matching {
-    ghost hash_input = { λ e. fed.u8 (matching_number e) ++ fed.u8 (matching_variant e) };
+    ghost hash_input = { numbered_hash fed.u8 matching_number matching_variant };
 
-    ghost respects_eq = { Prim.search (hashing, rules) };
+    ghost respects_eq = { numbered_alike fed.u8 matching_number matching_variant };
 
     #[inline]
     fn hash<H: Hasher>(&self, state: &mut H) {
@@ -115,10 +99,9 @@ impl Hash for Matching {
 }
 
 impl PartialOrd for Matching {
-    ghost partial_cmp = { as_partial_cmp (numbered_cmp matching_number matching_variant) };
+    ghost partial_cmp = { numbered_partial_cmp matching_number matching_variant };
 
-    ghost laws = { partial_order_from_agreeing_total (numbered_cmp matching_number matching_variant) (numbered_total matching_number matching_variant)
-        (λ _ _. refl) (numbered_ties matching_number matching_variant) };
+    ghost laws = { numbered_order matching_number matching_variant };
 
     #[inline]
     fn partial_cmp(&self, other: &Matching) -> Option<Ordering> {

@@ -1,13 +1,9 @@
 //! The part of a certificate that TLSA names (RFC 6698, 2.1.2).
 
-ghost use Rattle.std.specs.Prelude.{◌≡◌, ◌++◌, refl};
-ghost use Rattle.std.specs.Cmp.{partial_equiv_from_equiv, partial_order_from_agreeing_total};
-ghost use Rattle.std.specs.Cmp.Rules.{hashing};
+ghost use Rattle.std.specs.Prelude.{◌≡◌, refl};
 ghost use Rattle.std.specs.Hash as fed;
-ghost use Rattle.std.specs.Ordering.{as_partial_cmp};
-ghost use Rattle.std.proofs.Common.{rules};
-ghost use Rattle.dns_rdata_base.specs.Numbered.{numbered_eq, numbered_cmp};
-ghost use Rattle.dns_rdata_base.proofs.NumberedLaws.{numbered_equiv, numbered_total, numbered_ties};
+ghost use Rattle.dns_rdata_base.specs.Numbered.{numbered_eq, numbered_cmp, numbered_partial_cmp, numbered_hash};
+ghost use Rattle.dns_rdata_base.proofs.NumberedLaws.{numbered_equiv, numbered_partial, numbered_total, numbered_order, numbered_ties, numbered_alike};
 ghost use Rattle.dns_rdata_certs.specs.Selector.{selector_number, selector_variant, selector_of};
 
 use std::cmp::Ordering;
@@ -27,13 +23,10 @@ pub enum Selector {
     Private,
 }
 
-// The variants that have one number: its name, the number, its place in the declaration.
+// The variants, as the macros of the crate take them.
 macro_rules! parts {
     ($macro:ident, $arguments:tt) => {
-        $macro!(
-            $arguments Selector
-            (Full 0 0) (Spki 1 1) (Private 255 3)
-        )
+        $macro!($arguments Selector (Full 0 0) (Spki 1 1) (Private 255 3) [Unassigned 2])
     };
 }
 
@@ -43,9 +36,7 @@ impl From<u8> for Selector {
 
     #[inline]
     fn from(value: u8) -> Selector {
-        of_number!(parts, value,
-            _ => Selector::Unassigned(value),
-        )
+        parts!(of_number, (value, _ => Selector::Unassigned(value)))
     }
 }
 
@@ -54,9 +45,7 @@ impl From<Selector> for u8 {
 
     #[inline]
     fn from(value: Selector) -> u8 {
-        number_of!(parts, value,
-            Selector::Unassigned(number) => number,
-        )
+        parts!(number_of, (value))
     }
 }
 
@@ -74,26 +63,18 @@ impl Selector {
     fn variant(self) -> u8
         ensures { result ≡ selector_variant self }
     {
-        place_of!(parts, self,
-            Selector::Unassigned(_) => 2,
-        )
+        parts!(place_of, (self))
     }
 }
 
 impl PartialEq for Selector {
     ghost eq = { numbered_eq selector_number selector_variant };
 
-    ghost laws = { partial_equiv_from_equiv (numbered_equiv selector_number selector_variant) };
+    ghost laws = { numbered_partial selector_number selector_variant };
 
     #[inline]
     fn eq(&self, other: &Selector) -> bool {
-        if self.variant() != other.variant() {
-            return false;
-        }
-        match (*self, *other) {
-            (Selector::Unassigned(a), Selector::Unassigned(b)) => a == b,
-            _ => true,
-        }
+        parts!(are_same, (*self, *other))
     }
 }
 
@@ -102,9 +83,9 @@ impl Eq for Selector {
 }
 
 impl Hash for Selector {
-    ghost hash_input = { λ e. fed.u8 (selector_number e) ++ fed.u8 (selector_variant e) };
+    ghost hash_input = { numbered_hash fed.u8 selector_number selector_variant };
 
-    ghost respects_eq = { Prim.search (hashing, rules) };
+    ghost respects_eq = { numbered_alike fed.u8 selector_number selector_variant };
 
     #[inline]
     fn hash<H: Hasher>(&self, state: &mut H) {
@@ -114,10 +95,9 @@ impl Hash for Selector {
 }
 
 impl PartialOrd for Selector {
-    ghost partial_cmp = { as_partial_cmp (numbered_cmp selector_number selector_variant) };
+    ghost partial_cmp = { numbered_partial_cmp selector_number selector_variant };
 
-    ghost laws = { partial_order_from_agreeing_total (numbered_cmp selector_number selector_variant) (numbered_total selector_number selector_variant)
-        (λ _ _. refl) (numbered_ties selector_number selector_variant) };
+    ghost laws = { numbered_order selector_number selector_variant };
 
     #[inline]
     fn partial_cmp(&self, other: &Selector) -> Option<Ordering> {

@@ -1,8 +1,8 @@
 use Rattle.std.proofs.Common.{◌≡◌, ℕ, List, [], ◌++◌, rules, sym, ap, ◌∙◌, append_assoc, append-nil}
 use Rattle.std.proofs.Output.{has_written_append, has_written_of_eq}
 use Rattle.std.proofs.lemmas.List.{nil_from_length}
-use Rattle.hex.specs.Hex.{encode_lower, lower_digits}
-use Rattle.dns_rdata_certs.proofs.HexText.{encode_with-append, encode_with-none}
+use Rattle.hex.specs.Hex.{encode_lower, encode_with, lower_digits}
+use Rattle.dns_rdata_certs.proofs.HexText.{encode_with-append}
 use Rattle.dns_rdata_certs.proofs.hexadecimal.HexadecimalDisplay.fmt.Goals as goal
 
 pub loop-chunk-init : goal.loop-chunk-init
@@ -27,7 +27,8 @@ loop-chunk-preserved g c =
     )
 
 pub returns-clause-writes : goal.returns-clause-writes
+unfolding encode_with
 returns-clause-writes g c = λ plain _.
     let so_far = c.loop-chunk.invariant.3 plain in
     let none = nil_from_length _ c.in-None.ensures.steps.1.0 in
-    has_written_of_eq _ _ _ _ _ (rw (none, encode_with-none lower_digits, append-nil) at so_far.2) so_far.1
+    has_written_of_eq _ _ _ _ _ (rw (none, append-nil) at so_far.2) so_far.1
