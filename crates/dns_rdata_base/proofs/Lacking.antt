@@ -4,8 +4,7 @@ use Rattle.std.specs.Result.{IfErr, IsErrAnd}
 use Rattle.dns_types.specs.declared.error.DecodeError.{DecodeError}
 use Rattle.dns_types.specs.declared.error.DecodeError.TheVariants as decode
 use Rattle.dns_fields.specs.Fields.{Kind, Name, Value}
-use Rattle.dns_names_wire.specs.State.{Reading}
-use Rattle.dns_names_wire.specs.Words.{TookField, LacksField}
+use Rattle.dns_names_wire.specs.{State.Reading, Words.TookField, Words.LacksField}
 use Rattle.dns_rdata_base.specs.Refusing.{LacksHere, IsLack}
 
 pub is_lack_here : (k : Kind) (kinds : List Kind) (old new : Reading) (e : DecodeError) → LacksHere k old e new → IsLack (k ∷ kinds) old e new

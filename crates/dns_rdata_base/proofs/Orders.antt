@@ -1,7 +1,6 @@
 -- Records ordered field by field.
 use Rattle.std.proofs.Common.{◌≡◌, List, ◌∙◌}
-use Rattle.std.specs.declared.cmp.Ordering.{Ordering}
-use Rattle.std.specs.declared.cmp.Ordering.TheVariants.{Equal}
+use Rattle.std.specs.{declared.cmp.Ordering.Ordering, declared.cmp.Ordering.TheVariants.Equal}
 use Rattle.dns_fields.specs.Fields.{Kind, Values}
 use Rattle.dns_pieces.specs.Fronts.{canonical_cmp}
 use Rattle.dns_pieces.proofs.Fronts.{AllEnd, fields_cmp, by_fields}

@@ -1,18 +1,13 @@
 -- Character strings that are read one after the other.
-use Rattle.std.proofs.Common.{◌≡◌, ℕ, suc, ◌+◌, ◌≤◌, ◌<◌, ◌⊎◌, inl, inr, List, [], ◌∷◌, ◌++◌, length, take, drop, get_or, drop-cons, refl}
-use Rattle.std.proofs.Common.{sym, ap, ◌∙◌, arith, subst}
+use Rattle.std.proofs.Common.{◌≡◌, ℕ, suc, ◌+◌, ◌≤◌, ◌<◌, ◌⊎◌, inl, inr, List, [], ◌∷◌, ◌++◌, length, take, drop, get_or, drop-cons, refl, sym, ap}
+use Rattle.std.proofs.Common.{◌∙◌, arith, subst}
 use Rattle.std.specs.List.{flat_map, AllByRecursion}
-use Rattle.std.proofs.lemmas.List.{append-nil, length-append}
-use Rattle.std.proofs.lemmas.List.Concat.{flat_map-cons}
+use Rattle.std.proofs.{lemmas.List.append-nil, lemmas.List.length-append, lemmas.List.Concat.flat_map-cons}
 use Rattle.dns_types.specs.declared.error.DecodeError.{DecodeError}
-use Rattle.dns_fields.specs.Octets.{At}
-use Rattle.dns_fields.specs.Fields.{Text, Texts, Field}
-use Rattle.dns_fields.specs.Pieces.{string}
+use Rattle.dns_fields.specs.{Octets.At, Fields.Text, Fields.Texts, Fields.Field, Pieces.string}
 use Rattle.dns_fields.proofs.FieldLaws.{field_inside, field_end}
-use Rattle.dns_names_wire.specs.State.{Reading}
-use Rattle.dns_names_wire.specs.Words.{TookField, LacksField, RefusedField, RefusedWindow}
-use Rattle.dns_names_wire.proofs.FieldReads.{unless_map}
-use Rattle.dns_names_wire.proofs.Strings.{at_front, at_rest, at_then}
+use Rattle.dns_names_wire.specs.{State.Reading, Words.TookField, Words.LacksField, Words.RefusedField, Words.RefusedWindow}
+use Rattle.dns_names_wire.proofs.{FieldReads.unless_map, Strings.at_front, Strings.at_rest, Strings.at_then}
 use Rattle.dns_rdata_base.specs.TXT.{txt_shape}
 use Rattle.dns_rdata_base.proofs.TextWrites.{joined}
 

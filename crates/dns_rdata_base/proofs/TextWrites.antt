@@ -1,20 +1,18 @@
 -- Character strings that are written one after the other.
-use Rattle.std.proofs.Common.{◌≡◌, ℕ, ◌+◌, ◌<◌, List, [], ◌∷◌, ◌++◌, length, take, drop, get_or, sym, ap, ◌∙◌, arith, append_assoc, nat_le, false, refl}
+use Rattle.std.proofs.Common.{◌≡◌, ℕ, ◌+◌, ◌<◌, List, [], ◌∷◌, ◌++◌, length, take, drop, get_or, sym, ap, ◌∙◌, arith, append_assoc, nat_le, false}
+use Rattle.std.proofs.Common.{refl}
 use Rattle.std.specs.List.{flat_map, list_all}
+use Rattle.std.proofs.{Math.Bool.and-false, lemmas.List.Concat.flat_map-cons, lemmas.Grind.flat_map-append}
 use Rattle.std.proofs.lemmas.List.{length-append, drop_more, take-append-drop}
-use Rattle.std.proofs.lemmas.List.Concat.{flat_map-cons}
-use Rattle.std.proofs.lemmas.Grind.{flat_map-append}
 use Rattle.dns_types.specs.declared.error.ProtoError.{ProtoError}
-use Rattle.dns_fields.specs.Fields.{Text, Texts, field_octets}
-use Rattle.dns_fields.specs.Pieces.{string}
-use Rattle.dns_names_wire.specs.State.{Writing}
-use Rattle.dns_names_wire.specs.Words.{AppendedField, StoppedField, NoRoomField, UnfitField}
-use Rattle.dns_names_wire.proofs.FieldWrites.{keeps_then, because_map, and_false}
+use Rattle.dns_fields.specs.{Fields.Text, Fields.Texts, Fields.field_octets, Pieces.string}
+use Rattle.dns_names_wire.specs.{State.Writing, Words.AppendedField, Words.StoppedField, Words.NoRoomField, Words.UnfitField}
+use Rattle.dns_names_wire.proofs.FieldWrites.{keeps_then, because_map}
 
 long_inner : (xs : List (List ℕ)) (s : List ℕ) (ys : List (List ℕ)) → nat_le (length s) 255 ≡ false
     → list_all (λ s. nat_le (length s) 255) (xs ++ s ∷ ys) ≡ false
 long_inner [] s ys e = rw e refl
-long_inner (x ∷ xs) s ys e = rw (long_inner xs s ys e) (and_false (nat_le (length x) 255))
+long_inner (x ∷ xs) s ys e = rw (long_inner xs s ys e) (and-false (nat_le (length x) 255))
 
 pub joined : (xs : List (List ℕ)) (s : List ℕ) (ys : List (List ℕ)) → flat_map string (xs ++ s ∷ ys) ≡ flat_map string xs ++ (string s ++ flat_map string ys)
 joined xs s ys = flat_map-append string xs (s ∷ ys) ∙ ap (λ (t : List ℕ). flat_map string xs ++ t) (flat_map-cons string s ys)

@@ -2,8 +2,7 @@
 use Rattle.std.proofs.Common.{◌≡◌, ℕ, ◌+◌, ◌<◌, List, ◌∷◌, ◌++◌, length, drop, get_or, sym, ap, ◌∙◌, arith}
 use Rattle.std.proofs.lemmas.List.{drop_more}
 use Rattle.std.specs.List.{flat_map}
-use Rattle.dns_fields.specs.Pieces.{string}
-use Rattle.dns_fields.specs.Fields.{Text, field_octets}
+use Rattle.dns_fields.specs.{Pieces.string, Fields.Text, Fields.field_octets}
 use Rattle.dns_pieces.specs.Steps.{StepAt}
 use Rattle.dns_rdata_base.specs.Steps.{texts_left}
 

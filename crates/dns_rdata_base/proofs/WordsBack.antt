@@ -1,20 +1,14 @@
 -- Printed records are read back from their words.
 use Rattle.std.proofs.Common.{ℤ, pos, negsuc, Option, [], ◌∷◌, refl, arith}
-use Rattle.std.specs.Fmt.{signed_decimal}
-use Rattle.std.specs.Int.{cast_unsigned, w32}
-use Rattle.std.specs.Net.Addr.{IsIpv4Addr, IsIpv6Addr}
+use Rattle.std.specs.{Fmt.signed_decimal, Int.cast_unsigned, Int.w32, Net.Addr.IsIpv4Addr, Net.Addr.IsIpv6Addr}
 use Rattle.dns_fields.specs.Labels.{DomainName}
 use Rattle.dns_labels.specs.Text.{name_text}
-use Rattle.dns_words.specs.Forms.{ttl}
-use Rattle.dns_words.specs.Printed.{IsPrintedName, ReadsBack}
+use Rattle.dns_words.specs.{Forms.ttl, Printed.IsPrintedName, Printed.ReadsBack}
 use Rattle.dns_words.proofs.Printed.{GivesBack, row_back, back_word, back_ignored, number_back, ttl_back, name_back, ipv4_back, ipv6_back}
-use Rattle.dns_rdata_base.specs.A.{a_fields, a_text}
-use Rattle.dns_rdata_base.specs.AAAA.{aaaa_fields, aaaa_text}
-use Rattle.dns_rdata_base.specs.MX.{mx_fields, mx_text}
-use Rattle.dns_rdata_base.specs.NameRecords.{name_fields}
-use Rattle.dns_rdata_base.specs.SOA.{soa_fields, soa_text}
-use Rattle.dns_rdata_base.specs.SRV.{srv_fields, srv_text}
-use Rattle.dns_rdata_base.specs.WordRows.{a_words, aaaa_words, name_words, mx_words, srv_words, soa_words, IsPrintedMx, IsPrintedSrv, IsPrintedSoa, AreSeconds}
+use Rattle.dns_rdata_base.specs.{A.a_fields, A.a_text, AAAA.aaaa_fields, AAAA.aaaa_text, MX.mx_fields, MX.mx_text, NameRecords.name_fields}
+use Rattle.dns_rdata_base.specs.{SOA.soa_fields, SOA.soa_text, SRV.srv_fields, SRV.srv_text}
+use Rattle.dns_rdata_base.specs.WordRows.{a_words, aaaa_words, name_words, mx_words, srv_words, soa_words, IsPrintedMx, IsPrintedSrv, IsPrintedSoa}
+use Rattle.dns_rdata_base.specs.WordRows.{AreSeconds}
 
 pub a_back : ReadsBack a_words a_fields a_text (λ x. IsIpv4Addr x.0)
 a_back = record { back = λ x h. row_back a_words (a_fields x) _ [] _ refl (back_word (ipv4_back x.0 h) back_ignored) }

@@ -1,13 +1,10 @@
 -- A: an IPv4 address (RFC 1035, 3.4.1).
 use Rattle.std.specs.Prelude.{◌≡◌, ℕ, List, [], ◌∷◌, length}
-use Rattle.std.specs.Net.Addr.{ipv4_octets}
-use Rattle.std.specs.Net.Text.{ipv4_text}
+use Rattle.std.specs.{Net.Addr.ipv4_octets, Net.Text.ipv4_text}
 use Rattle.dns_types.specs.declared.error.DecodeError.{DecodeError}
 use Rattle.dns_types.specs.declared.error.DecodeError.TheVariants as decode
 use Rattle.dns_fields.specs.Fields.{Kind, Octets, Values}
-use Rattle.dns_names_wire.specs.State.{Reading}
-use Rattle.dns_names_wire.specs.Words.{LacksOctets}
-use Rattle.dns_names_wire.specs.Facts.{Facts, ending}
+use Rattle.dns_names_wire.specs.{State.Reading, Words.LacksOctets, Facts.Facts, Facts.ending}
 use Rattle.dns_rdata_base.specs.declared.a.A.{A}
 
 -- the four octets of the address

@@ -1,13 +1,10 @@
 -- AAAA: an IPv6 address (RFC 3596, 2.2).
 use Rattle.std.specs.Prelude.{◌≡◌, ◌+◌, ◌-◌, ◌*◌, ◌/◌, ℕ, List, [], ◌∷◌, length}
-use Rattle.std.specs.Net.Addr.{ipv6_octets, ipv6_segments}
-use Rattle.std.specs.Net.Text.{ipv6_text}
+use Rattle.std.specs.{Net.Addr.ipv6_octets, Net.Addr.ipv6_segments, Net.Text.ipv6_text}
 use Rattle.dns_types.specs.declared.error.DecodeError.{DecodeError}
 use Rattle.dns_types.specs.declared.error.DecodeError.TheVariants as decode
 use Rattle.dns_fields.specs.Fields.{Kind, Octets, Values}
-use Rattle.dns_names_wire.specs.State.{Reading}
-use Rattle.dns_names_wire.specs.Words.{LacksOctets}
-use Rattle.dns_names_wire.specs.Facts.{Facts, ending}
+use Rattle.dns_names_wire.specs.{State.Reading, Words.LacksOctets, Facts.Facts, Facts.ending}
 use Rattle.dns_rdata_base.specs.declared.aaaa.AAAA.{AAAA}
 
 -- the sixteen octets of the address, the highest first

@@ -3,11 +3,8 @@ use Rattle.std.specs.Prelude.{◌≡◌, ◌⊎◌, ℕ, List, [], ◌∷◌, �
 use Rattle.dns_fields.specs.Fields.{Kind, Text, Values}
 use Rattle.dns_types.specs.declared.error.DecodeError.{DecodeError}
 use Rattle.dns_types.specs.declared.error.DecodeError.TheVariants as decode
-use Rattle.dns_names_wire.specs.State.{Reading}
-use Rattle.dns_names_wire.specs.Words.{TookField, LacksText}
-use Rattle.dns_rdata_base.specs.Lossy.{lossy}
-use Rattle.dns_names_wire.specs.Facts.{Facts, ending}
-use Rattle.dns_rdata_base.specs.declared.hinfo.HINFO.{HINFO}
+use Rattle.dns_names_wire.specs.{State.Reading, Words.TookField, Words.LacksText, Facts.Facts, Facts.ending}
+use Rattle.dns_rdata_base.specs.{Lossy.lossy, declared.hinfo.HINFO.HINFO}
 
 -- cpu, os
 abbrev pub hinfo_shape : List Kind

@@ -3,8 +3,7 @@ use Rattle.std.specs.Prelude.{ℕ, List, [], ◌∷◌, ◌++◌, codes, decimal
 use Rattle.dns_fields.specs.Fields.{Kind, Number, Name, Values}
 use Rattle.dns_labels.specs.Text.{name_text}
 use Rattle.dns_names_wire.specs.Facts.{Facts}
-use Rattle.dns_rdata_base.specs.Refusing.{straight}
-use Rattle.dns_rdata_base.specs.declared.mx.MX.{MX}
+use Rattle.dns_rdata_base.specs.{Refusing.straight, declared.mx.MX.MX}
 
 -- preference, exchange
 abbrev pub mx_shape : List Kind

@@ -1,17 +1,12 @@
 -- NAPTR: a rule that rewrites a name (RFC 3403, 4.1).
 use Rattle.std.specs.Prelude.{◌≡◌, ◌⊎◌, ℕ, IsTrue, List, [], ◌∷◌, ◌++◌, codes, decimal}
-use Rattle.std.specs.Char.{is_ascii_alphanumeric}
-use Rattle.std.specs.List.{list_all}
+use Rattle.std.specs.{Char.is_ascii_alphanumeric, List.list_all}
 use Rattle.dns_types.specs.declared.error.DecodeError.{DecodeError}
 use Rattle.dns_types.specs.declared.error.DecodeError.TheVariants as decode
 use Rattle.dns_fields.specs.Fields.{Kind, Number, Text, Name, Values}
 use Rattle.dns_labels.specs.Text.{name_text}
-use Rattle.dns_names_wire.specs.State.{Reading}
-use Rattle.dns_names_wire.specs.Words.{Took}
-use Rattle.dns_rdata_base.specs.Lossy.{lossy}
-use Rattle.dns_rdata_base.specs.Refusing.{IsLack}
-use Rattle.dns_names_wire.specs.Facts.{Facts, ending}
-use Rattle.dns_rdata_base.specs.declared.naptr.NAPTR.{NAPTR}
+use Rattle.dns_names_wire.specs.{State.Reading, Words.Took, Facts.Facts, Facts.ending}
+use Rattle.dns_rdata_base.specs.{Lossy.lossy, Refusing.IsLack, declared.naptr.NAPTR.NAPTR}
 
 -- order, preference
 abbrev pub naptr_numbers_shape : List Kind

@@ -1,13 +1,10 @@
 -- NULL: octets without a form (RFC 1035, 3.3.10).
 use Rattle.std.specs.Prelude.{◌≡◌, ◌⊎◌, ℕ, List, [], ◌∷◌}
-use Rattle.base64.specs.Engines.{standard}
-use Rattle.base64.specs.GeneralPurpose.{encode_of}
+use Rattle.base64.specs.{Engines.standard, GeneralPurpose.encode_of}
 use Rattle.dns_fields.specs.Fields.{Kind, Rest, Values}
 use Rattle.dns_types.specs.declared.error.DecodeError.{DecodeError}
 use Rattle.dns_types.specs.declared.error.DecodeError.TheVariants as decode
-use Rattle.dns_names_wire.specs.State.{Reading}
-use Rattle.dns_names_wire.specs.Words.{LacksOctets}
-use Rattle.dns_names_wire.specs.Facts.{Facts, filling}
+use Rattle.dns_names_wire.specs.{State.Reading, Words.LacksOctets, Facts.Facts, Facts.filling}
 use Rattle.dns_rdata_base.specs.declared.null.NULL.{NULL}
 
 -- all octets

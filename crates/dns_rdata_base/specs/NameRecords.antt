@@ -1,14 +1,9 @@
 -- Records of one name: CNAME, NS, PTR (RFC 1035, 3.3.1, 3.3.11 and 3.3.12) and ANAME.
 use Rattle.std.specs.Prelude.{ℕ, List, [], ◌∷◌}
-use Rattle.dns_fields.specs.Fields.{Kind, Name, Values}
-use Rattle.dns_fields.specs.Labels.{DomainName}
+use Rattle.dns_fields.specs.{Fields.Kind, Fields.Name, Fields.Values, Labels.DomainName}
 use Rattle.dns_labels.specs.Text.{name_text}
 use Rattle.dns_names_wire.specs.Facts.{Facts}
-use Rattle.dns_rdata_base.specs.Refusing.{straight}
-use Rattle.dns_rdata_base.specs.declared.name.CNAME.{CNAME}
-use Rattle.dns_rdata_base.specs.declared.name.NS.{NS}
-use Rattle.dns_rdata_base.specs.declared.name.PTR.{PTR}
-use Rattle.dns_rdata_base.specs.declared.name.ANAME.{ANAME}
+use Rattle.dns_rdata_base.specs.{Refusing.straight, declared.name.CNAME.CNAME, declared.name.NS.NS, declared.name.PTR.PTR, declared.name.ANAME.ANAME}
 
 abbrev pub name_shape : List Kind
 name_shape = Name ∷ []

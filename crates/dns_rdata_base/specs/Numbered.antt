@@ -2,8 +2,7 @@
 -- variant, which is the place in the declaration.
 use Rattle.std.specs.Prelude.{◌≡◌, ℕ, ◌==◌, ◌++◌, Bool, List, Option, find, unwrap_or, nat_eq}
 use Rattle.std.specs.Hash as fed
-use Rattle.std.specs.Ordering.{as_partial_cmp, on, nat_cmp, then_cmp, eq_of_both}
-use Rattle.std.specs.declared.cmp.Ordering.{Ordering}
+use Rattle.std.specs.{Ordering.as_partial_cmp, Ordering.on, Ordering.nat_cmp, Ordering.then_cmp, Ordering.eq_of_both, declared.cmp.Ordering.Ordering}
 use Rattle.dns_fields.specs.Fields.{Number, Field}
 
 -- the named variant with this number, or what other numbers give

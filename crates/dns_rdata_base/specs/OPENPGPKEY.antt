@@ -1,13 +1,10 @@
 -- OPENPGPKEY: a public key (RFC 7929, 2.1).
 use Rattle.std.specs.Prelude.{ℕ, List, [], ◌∷◌}
-use Rattle.base64.specs.Engines.{standard}
-use Rattle.base64.specs.GeneralPurpose.{encode_of}
+use Rattle.base64.specs.{Engines.standard, GeneralPurpose.encode_of}
 use Rattle.dns_fields.specs.Fields.{Kind, Rest, Values}
 use Rattle.dns_types.specs.declared.error.DecodeError.{DecodeError}
-use Rattle.dns_names_wire.specs.State.{Reading}
-use Rattle.dns_names_wire.specs.Facts.{Facts, filling}
-use Rattle.dns_rdata_base.specs.NULL.{null_refusal}
-use Rattle.dns_rdata_base.specs.declared.openpgpkey.OPENPGPKEY.{OPENPGPKEY}
+use Rattle.dns_names_wire.specs.{State.Reading, Facts.Facts, Facts.filling}
+use Rattle.dns_rdata_base.specs.{NULL.null_refusal, declared.openpgpkey.OPENPGPKEY.OPENPGPKEY}
 
 -- all octets are the key
 abbrev pub openpgpkey_shape : List Kind

@@ -3,9 +3,7 @@ use Rattle.std.specs.Prelude.{◌≡◌, ◌⊎◌, List, [], ◌∷◌}
 use Rattle.dns_types.specs.declared.error.DecodeError.{DecodeError}
 use Rattle.dns_types.specs.declared.error.DecodeError.TheVariants as decode
 use Rattle.dns_fields.specs.Fields.{Kind, Number, Name, Text, Value, Values}
-use Rattle.dns_names_wire.specs.State.{Reading}
-use Rattle.dns_names_wire.specs.Words.{TookField, LacksOctets, LacksText, LacksField}
-use Rattle.dns_names_wire.specs.Facts.{Facts, ending}
+use Rattle.dns_names_wire.specs.{State.Reading, Words.TookField, Words.LacksOctets, Words.LacksText, Words.LacksField, Facts.Facts, Facts.ending}
 
 -- no number, name or character string stands there: of the last alone its length octet is taken
 abbrev pub LacksHere : Kind → Reading → DecodeError → Reading → Type 0

@@ -2,11 +2,9 @@
 use Rattle.std.specs.Prelude.{ℕ, ℤ, FitsSigned, List, [], ◌∷◌, ◌++◌, codes, decimal}
 use Rattle.dns_fields.specs.Fields.{Kind, Number, Name, Values}
 use Rattle.dns_labels.specs.Text.{name_text}
-use Rattle.std.specs.Fmt.{signed_decimal}
-use Rattle.std.specs.Int.{cast_unsigned, w32}
+use Rattle.std.specs.{Fmt.signed_decimal, Int.cast_unsigned, Int.w32}
 use Rattle.dns_names_wire.specs.Facts.{Facts}
-use Rattle.dns_rdata_base.specs.Refusing.{straight}
-use Rattle.dns_rdata_base.specs.declared.soa.SOA.{SOA}
+use Rattle.dns_rdata_base.specs.{Refusing.straight, declared.soa.SOA.SOA}
 
 -- serial, refresh, retry, expire, minimum
 abbrev pub soa_numbers_shape : List Kind

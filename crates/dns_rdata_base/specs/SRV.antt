@@ -3,8 +3,7 @@ use Rattle.std.specs.Prelude.{ℕ, List, [], ◌∷◌, ◌++◌, codes, decimal
 use Rattle.dns_fields.specs.Fields.{Kind, Number, Name, Values}
 use Rattle.dns_labels.specs.Text.{name_text}
 use Rattle.dns_names_wire.specs.Facts.{Facts}
-use Rattle.dns_rdata_base.specs.Refusing.{straight}
-use Rattle.dns_rdata_base.specs.declared.srv.SRV.{SRV}
+use Rattle.dns_rdata_base.specs.{Refusing.straight, declared.srv.SRV.SRV}
 
 -- priority, weight, port
 abbrev pub srv_numbers_shape : List Kind

@@ -4,11 +4,8 @@ use Rattle.std.specs.List.{flat_map}
 use Rattle.dns_fields.specs.Fields.{Kind, Texts, Values}
 use Rattle.dns_types.specs.declared.error.DecodeError.{DecodeError}
 use Rattle.dns_types.specs.declared.error.DecodeError.TheVariants as decode
-use Rattle.dns_names_wire.specs.State.{Reading}
-use Rattle.dns_names_wire.specs.Words.{TookField, LacksText}
-use Rattle.dns_names_wire.specs.Facts.{Facts}
-use Rattle.dns_rdata_base.specs.Lossy.{lossy}
-use Rattle.dns_rdata_base.specs.declared.txt.TXT.{TXT}
+use Rattle.dns_names_wire.specs.{State.Reading, Words.TookField, Words.LacksText, Facts.Facts}
+use Rattle.dns_rdata_base.specs.{Lossy.lossy, declared.txt.TXT.TXT}
 
 -- none or more, to the end
 abbrev pub txt_shape : List Kind

@@ -1,22 +1,11 @@
 -- The words of each record, and which values print in words that give them back.
 use Rattle.std.specs.Prelude.{◌≡◌, ℤ, pos, negsuc, ◌^◌, ◌<◌, ◌≤◌, Option}
-use Rattle.dns_fields.specs.Labels.{DomainName}
-use Rattle.dns_fields.specs.Fields.{Text}
+use Rattle.dns_fields.specs.{Labels.DomainName, Fields.Text}
 use Rattle.dns_words.specs.Forms.{Form, Row, word, ignored, nothing, every_text, number, ttl, name, base64, kept, ipv4, ipv6}
 use Rattle.dns_words.specs.Printed.{IsPrintedName}
-use Rattle.dns_rdata_base.specs.A.{a_shape}
-use Rattle.dns_rdata_base.specs.AAAA.{aaaa_shape}
-use Rattle.dns_rdata_base.specs.NameRecords.{name_shape}
-use Rattle.dns_rdata_base.specs.HINFO.{hinfo_shape}
-use Rattle.dns_rdata_base.specs.MX.{mx_shape}
-use Rattle.dns_rdata_base.specs.NAPTR.{naptr_shape, AreFlags}
-use Rattle.dns_rdata_base.specs.OPENPGPKEY.{openpgpkey_shape}
-use Rattle.dns_rdata_base.specs.SOA.{soa_shape, HasSeconds}
-use Rattle.dns_rdata_base.specs.SRV.{srv_shape}
-use Rattle.dns_rdata_base.specs.TXT.{txt_shape}
-use Rattle.dns_rdata_base.specs.declared.mx.MX.{MX}
-use Rattle.dns_rdata_base.specs.declared.srv.SRV.{SRV}
-use Rattle.dns_rdata_base.specs.declared.soa.SOA.{SOA}
+use Rattle.dns_rdata_base.specs.{A.a_shape, AAAA.aaaa_shape, NameRecords.name_shape, HINFO.hinfo_shape, MX.mx_shape, NAPTR.naptr_shape}
+use Rattle.dns_rdata_base.specs.{NAPTR.AreFlags, OPENPGPKEY.openpgpkey_shape, SOA.soa_shape, SOA.HasSeconds, SRV.srv_shape, TXT.txt_shape}
+use Rattle.dns_rdata_base.specs.{declared.mx.MX.MX, declared.srv.SRV.SRV, declared.soa.SOA.SOA}
 
 -- an address
 abbrev pub a_words : Row a_shape

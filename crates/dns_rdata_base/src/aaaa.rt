@@ -102,9 +102,8 @@ impl Eq for AAAA {
 
 impl Hash for AAAA {
     ghost use Rattle.std.specs.Hash as fed;
-    ghost use Rattle.std.specs.Net.Addr.{ipv6_octets};
+    ghost use Rattle.std.specs.{Net.Addr.ipv6_octets, Cmp.Rules.hashing};
     ghost use Rattle.std.proofs.Common.{rules};
-    ghost use Rattle.std.specs.Cmp.Rules.{hashing};
 
     ghost hash_input = { λ a. fed.slice fed.u8 (ipv6_octets a.0) };
 

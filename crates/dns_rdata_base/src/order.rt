@@ -1,22 +1,12 @@
 //! Records ordered by their canonical octets, field by field.
 
 ghost use Rattle.std.specs.Prelude.{◌≡◌, ◌∷◌, []};
-ghost use Rattle.std.specs.Cmp.Lexicographic.{slice_cmp};
-ghost use Rattle.std.specs.Int.{cast_unsigned, w32};
-ghost use Rattle.std.specs.List.{flat_map};
-ghost use Rattle.std.specs.Ordering.{nat_cmp, ordering_then};
-ghost use Rattle.dns_fields.specs.Fields.{Number, Rest, field_octets};
-ghost use Rattle.dns_fields.specs.Pieces.{string};
+ghost use Rattle.std.specs.{Cmp.Lexicographic.slice_cmp, Int.cast_unsigned, Int.w32, List.flat_map, Ordering.nat_cmp, Ordering.ordering_then};
+ghost use Rattle.dns_fields.specs.{Fields.Number, Fields.Rest, Fields.field_octets, Pieces.string};
 ghost use Rattle.dns_pieces.specs.Fronts.{canonical_cmp};
-ghost use Rattle.dns_rdata_base.specs.A.{a_shape, a_fields};
-ghost use Rattle.dns_rdata_base.specs.AAAA.{aaaa_shape, aaaa_fields};
-ghost use Rattle.dns_rdata_base.specs.HINFO.{hinfo_shape, hinfo_fields};
-ghost use Rattle.dns_rdata_base.specs.MX.{mx_shape, mx_fields};
-ghost use Rattle.dns_rdata_base.specs.NAPTR.{naptr_shape, naptr_fields};
-ghost use Rattle.dns_rdata_base.specs.NameRecords.{name_shape, name_fields};
-ghost use Rattle.dns_rdata_base.specs.SOA.{soa_shape, soa_fields};
-ghost use Rattle.dns_rdata_base.specs.SRV.{srv_shape, srv_fields};
-ghost use Rattle.dns_rdata_base.specs.TXT.{txt_shape, txt_fields};
+ghost use Rattle.dns_rdata_base.specs.{A.a_shape, A.a_fields, AAAA.aaaa_shape, AAAA.aaaa_fields, HINFO.hinfo_shape, HINFO.hinfo_fields, MX.mx_shape};
+ghost use Rattle.dns_rdata_base.specs.{MX.mx_fields, NAPTR.naptr_shape, NAPTR.naptr_fields, NameRecords.name_shape, NameRecords.name_fields};
+ghost use Rattle.dns_rdata_base.specs.{SOA.soa_shape, SOA.soa_fields, SRV.srv_shape, SRV.srv_fields, TXT.txt_shape, TXT.txt_fields};
 
 use crate::{A, AAAA, HINFO, MX, NAPTR, SOA, SRV, TXT};
 use dns_names_wire::{Name, Octets};

@@ -2,8 +2,7 @@
 
 ghost use Rattle.std.specs.Prelude.{◌≡◌, Some};
 ghost use Rattle.dns_fields.specs.declared.RDataEncoding.TheVariants as modes;
-ghost use Rattle.dns_names_wire.specs.Words.{Emits};
-ghost use Rattle.dns_names_wire.specs.Facts.{same, same_equiv, same_partial};
+ghost use Rattle.dns_names_wire.specs.{Words.Emits, Facts.same, Facts.same_equiv, Facts.same_partial};
 ghost use Rattle.dns_rdata_base.specs.SRV.{srv_numbers_shape, srv_numbers, srv_shape, srv_fields, srv_facts, srv_text};
 
 use dns_names_wire::{

@@ -4,15 +4,10 @@ ghost use Rattle.std.specs.Prelude.{◌≡◌, ◌<◌, ℕ, [], ◌∷◌, leng
 ghost use Rattle.std.specs.List.{AllByRecursion};
 ghost use Rattle.dns_fields.specs.Fields.{Rest, all_emittable, canonical};
 ghost use Rattle.dns_pieces.specs.Steps.{AllShort, GivesStep, by_fields};
-ghost use Rattle.dns_rdata_base.specs.A.{a_shape, a_fields};
-ghost use Rattle.dns_rdata_base.specs.AAAA.{aaaa_shape, aaaa_fields};
-ghost use Rattle.dns_rdata_base.specs.NameRecords.{name_shape, name_fields};
-ghost use Rattle.dns_rdata_base.specs.HINFO.{hinfo_shape, hinfo_fields};
-ghost use Rattle.dns_rdata_base.specs.MX.{mx_shape, mx_fields};
-ghost use Rattle.dns_rdata_base.specs.NAPTR.{naptr_shape, naptr_fields};
+ghost use Rattle.dns_rdata_base.specs.{A.a_shape, A.a_fields, AAAA.aaaa_shape, AAAA.aaaa_fields, NameRecords.name_shape, NameRecords.name_fields};
+ghost use Rattle.dns_rdata_base.specs.{HINFO.hinfo_shape, HINFO.hinfo_fields, MX.mx_shape, MX.mx_fields, NAPTR.naptr_shape, NAPTR.naptr_fields};
+ghost use Rattle.dns_rdata_base.specs.{SRV.srv_shape, SRV.srv_fields, TXT.txt_shape, TXT.txt_fields};
 ghost use Rattle.dns_rdata_base.specs.SOA.{soa_shape, soa_fields, soa_numbers_shape, soa_numbers_of};
-ghost use Rattle.dns_rdata_base.specs.SRV.{srv_shape, srv_fields};
-ghost use Rattle.dns_rdata_base.specs.TXT.{txt_shape, txt_fields};
 ghost use Rattle.dns_rdata_base.specs.Steps.{at_once, hinfo_begins, naptr_begins, soa_begins, texts_left};
 
 use crate::{A, AAAA, HINFO, MX, NAPTR, SOA, SRV, TXT};

@@ -3,8 +3,7 @@
 ghost use Rattle.std.specs.Prelude.{◌≡◌, ◌≤◌, ℕ, List, map, length as list_length, IfOk, Some};
 ghost use Rattle.std.specs.String.{string_bytes};
 ghost use Rattle.dns_fields.specs.Fields.{Texts, Field};
-ghost use Rattle.dns_names_wire.specs.Words.{Emits};
-ghost use Rattle.dns_names_wire.specs.Facts.{same, same_equiv, same_partial};
+ghost use Rattle.dns_names_wire.specs.{Words.Emits, Facts.same, Facts.same_equiv, Facts.same_partial};
 ghost use Rattle.dns_rdata_base.specs.TXT.{txt_shape, txt_fields, txt_facts, txt_text};
 
 use bstr::BStr;
@@ -120,8 +119,7 @@ impl Eq for TXT {
 
 impl Hash for TXT {
     ghost use Rattle.std.specs.Prelude.{true, ◌&&◌};
-    ghost use Rattle.std.specs.Cmp.{unsigned_Decides, first_so};
-    ghost use Rattle.std.specs.Cmp.Lexicographic.{pointwise_decides};
+    ghost use Rattle.std.specs.{Cmp.unsigned_Decides, Cmp.first_so, Cmp.Lexicographic.pointwise_decides};
     ghost use Rattle.std.specs.Hash as fed;
     ghost use Rattle.std.proofs.Common.{ap};
 

@@ -2,8 +2,7 @@
 use Rattle.std.proofs.Common.{ℕ, List, length, Result, Ok, Err}
 use Rattle.std.specs.Result.{IfOk}
 use Rattle.dns_types.specs.declared.error.DecodeError.{DecodeError}
-use Rattle.dns_names_wire.specs.State.{Reading}
-use Rattle.dns_names_wire.specs.Words.{ReadsWindow}
+use Rattle.dns_names_wire.specs.{State.Reading, Words.ReadsWindow}
 use Rattle.dns_rdata_certs.specs.CERT.{cert_shape, MeetsCertCondition, cert_fields, cert_facts, ReadsWholeCert}
 use Rattle.dns_rdata_certs.specs.declared.cert.CERT.{CERT}
 

@@ -1,21 +1,17 @@
 -- Hexadecimal words: read, and read back where they were printed.
-use Rattle.std.proofs.Common.{◌≡◌, ◌≢◌, ℕ, zero, suc, ◌/◌, ◌%◌, ◌<◌, ◌≤◌, false, List, [], ◌∷◌, Option, None, Result, Ok, Err, inl, inr, slice_index, refl, ap, subst, ◌∙◌, arith}
-use Rattle.std.proofs.lemmas.Bool.Decides.{nat_tests}
-use Rattle.std.proofs.lemmas.Bool.{cases_lt}
-use Rattle.std.proofs.lemmas.List.{append-nil}
+use Rattle.std.proofs.Common.{◌≡◌, ◌≢◌, ℕ, zero, suc, ◌/◌, ◌%◌, ◌<◌, ◌≤◌, false, List, [], ◌∷◌, Option, None, Result, Ok, Err, inl, inr, slice_index}
+use Rattle.std.proofs.Common.{refl, ap, subst, ◌∙◌, arith}
+use Rattle.std.proofs.{lemmas.Bool.Decides.nat_tests, lemmas.Bool.cases_lt, lemmas.List.append-nil}
 use Rattle.std.proofs.lemmas.List.Elements.{All-head, All-tail}
 use Rattle.hex.specs.Hex.{encode_lower, encode_with, lower_digits, decode_of, hex_digit_value}
 use Rattle.hex.proofs.HexLemmas.{decode_of-encode_lower, IsDigits-lower_digits}
 use Rattle.dns_types.specs.declared.error.ParseError.{ParseError}
-use Rattle.dns_fields.specs.Octets.{AreOctets}
-use Rattle.dns_fields.specs.Fields.{Rest, Values}
-use Rattle.dns_words.specs.Reads.{AreJoined, Decides, ReadsRow}
-use Rattle.dns_words.specs.Printed.{ReadsBack}
+use Rattle.dns_fields.specs.{Octets.AreOctets, Fields.Rest, Fields.Values}
+use Rattle.dns_words.specs.{Reads.AreJoined, Reads.Decides, Reads.ReadsRow, Printed.ReadsBack}
 use Rattle.dns_words.proofs.Steps.{joined_taken, unless_map}
 use Rattle.dns_words.proofs.Printed.{IsSolid, GivesBack, GiveBack, row_back, back_word, back_nothing, number_back}
+use Rattle.dns_rdata_certs.specs.{SSHFP.sshfp_fields, SSHFP.sshfp_text, TLSA.tlsa_fields, TLSA.tlsa_text}
 use Rattle.dns_rdata_certs.specs.HEX.{is_white_space, without_blanks, octets_of_hex}
-use Rattle.dns_rdata_certs.specs.SSHFP.{sshfp_fields, sshfp_text}
-use Rattle.dns_rdata_certs.specs.TLSA.{tlsa_fields, tlsa_text}
 use Rattle.dns_rdata_certs.specs.WordRows.{hex_digits, IsSomeHex, joined_hex, sshfp_words, tlsa_words, IsPrintedSshfp, IsPrintedTlsa}
 
 module _ {S I : Type 0} (gives : I → Option S → I → Type 0) (text : S → List ℕ) where

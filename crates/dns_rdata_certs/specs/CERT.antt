@@ -1,13 +1,10 @@
 -- CERT: a certificate (RFC 4398, 2).
 use Rattle.std.specs.Prelude.{◌≡◌, ◌≢◌, ◌⊎◌, ℕ, ◌+◌, ◌-◌, ◌*◌, ◌/◌, ◌<◌, ◌≤◌, List, [], ◌∷◌, ◌++◌, codes, decimal, length, Result, Ok, Err}
-use Rattle.base64.specs.Engines.{standard}
-use Rattle.base64.specs.GeneralPurpose.{encode_of}
+use Rattle.base64.specs.{Engines.standard, GeneralPurpose.encode_of}
 use Rattle.dns_types.specs.declared.error.DecodeError.{DecodeError}
 use Rattle.dns_types.specs.declared.error.DecodeError.TheVariants as decode
 use Rattle.dns_fields.specs.Fields.{Kind, Number, Rest, Values}
-use Rattle.dns_names_wire.specs.State.{Reading}
-use Rattle.dns_names_wire.specs.Words.{LacksOctets, UnlessMemory, Window, NoWindow}
-use Rattle.dns_names_wire.specs.Facts.{Facts, filling}
+use Rattle.dns_names_wire.specs.{State.Reading, Words.LacksOctets, Words.UnlessMemory, Words.Window, Words.NoWindow, Facts.Facts, Facts.filling}
 use Rattle.dns_rdata_base.specs.Numbered.{keyed}
 use Rattle.dns_rdata_certs.specs.CertType.{cert_type_number, cert_type_variant, cert_type_of, cert_type_text}
 use Rattle.dns_rdata_certs.specs.CertAlgorithm.{cert_algorithm_number, cert_algorithm_variant, cert_algorithm_of, cert_algorithm_text}

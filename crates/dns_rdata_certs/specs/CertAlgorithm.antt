@@ -2,11 +2,10 @@
 use Rattle.std.specs.Prelude.{ℕ, List, [], ◌∷◌, ◌++◌, codes, decimal}
 use Rattle.dns_rdata_base.specs.Numbered.{numbered_of}
 use Rattle.dns_rdata_certs.specs.declared.cert.algorithm.Algorithm.{Algorithm}
-use Rattle.dns_rdata_certs.specs.declared.cert.algorithm.Algorithm.TheVariants.{Reserved, RSAMD5, DH, DSA, ECC, RSASHA1, INDIRECT}
-use Rattle.dns_rdata_certs.specs.declared.cert.algorithm.Algorithm.TheVariants.{PRIVATEDNS, PRIVATEOID, DSANSEC3SHA1, RSASHA1NSEC3SHA1}
-use Rattle.dns_rdata_certs.specs.declared.cert.algorithm.Algorithm.TheVariants.{RSASHA256, RSASHA512, ECCGOST, ECDSAP256SHA256}
-use Rattle.dns_rdata_certs.specs.declared.cert.algorithm.Algorithm.TheVariants.{ECDSAP384SHA384, ED25519, ED448, SM2SM3, ECCGOST12}
-use Rattle.dns_rdata_certs.specs.declared.cert.algorithm.Algorithm.TheVariants.{Unassigned}
+use Rattle.dns_rdata_certs.specs.declared.cert.algorithm.Algorithm.TheVariants.{Reserved, RSAMD5, DH, DSA, ECC, RSASHA1, INDIRECT, PRIVATEDNS}
+use Rattle.dns_rdata_certs.specs.declared.cert.algorithm.Algorithm.TheVariants.{PRIVATEOID, DSANSEC3SHA1, RSASHA1NSEC3SHA1, RSASHA256, RSASHA512}
+use Rattle.dns_rdata_certs.specs.declared.cert.algorithm.Algorithm.TheVariants.{ECCGOST, ECDSAP256SHA256, ECDSAP384SHA384, ED25519, ED448, SM2SM3}
+use Rattle.dns_rdata_certs.specs.declared.cert.algorithm.Algorithm.TheVariants.{ECCGOST12, Unassigned}
 
 -- number, place in the declaration, and name, with the number in parentheses where it is inside
 abbrev pub cert_algorithm_row : Algorithm → ℕ × ℕ × List ℕ

@@ -2,9 +2,8 @@
 use Rattle.std.specs.Prelude.{ℕ, List, [], ◌∷◌, nat_le, if◌then◌else◌, ◌++◌, codes, decimal}
 use Rattle.dns_rdata_base.specs.Numbered.{numbered_of}
 use Rattle.dns_rdata_certs.specs.declared.cert.cert_type.CertType.{CertType}
-use Rattle.dns_rdata_certs.specs.declared.cert.cert_type.CertType.TheVariants.{Reserved0, PKIX, SPKI, PGP, IPKIX, ISPKI, IPGP, ACPKIX}
-use Rattle.dns_rdata_certs.specs.declared.cert.cert_type.CertType.TheVariants.{IACPKIX, URI, OID, Reserved255, Unassigned, Experimental}
-use Rattle.dns_rdata_certs.specs.declared.cert.cert_type.CertType.TheVariants.{Reserved65535}
+use Rattle.dns_rdata_certs.specs.declared.cert.cert_type.CertType.TheVariants.{Reserved0, PKIX, SPKI, PGP, IPKIX, ISPKI, IPGP, ACPKIX, IACPKIX, URI}
+use Rattle.dns_rdata_certs.specs.declared.cert.cert_type.CertType.TheVariants.{OID, Reserved255, Unassigned, Experimental, Reserved65535}
 
 -- number, place in the declaration, and name, with the number in parentheses where it is inside
 abbrev pub cert_type_row : CertType → ℕ × ℕ × List ℕ

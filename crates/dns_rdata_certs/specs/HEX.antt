@@ -1,9 +1,7 @@
 -- Octets as hexadecimal text.
 use Rattle.std.specs.Prelude.{◌≡◌, ℕ, ◌==◌, ◌||◌, Bool, List, filter, not, Result, Ok, Err}
-use Rattle.std.specs.declared.vec.Vec.{Vec}
-use Rattle.std.specs.declared.alloc.Global.{Global}
-use Rattle.hex.specs.declared.error.FromHexError.{FromHexError}
-use Rattle.hex.specs.Hex.{decode_of}
+use Rattle.std.specs.{declared.vec.Vec.Vec, declared.alloc.Global.Global}
+use Rattle.hex.specs.{declared.error.FromHexError.FromHexError, Hex.decode_of}
 use Rattle.dns_types.specs.declared.error.ParseError.{ParseError}
 use Rattle.dns_types.specs.declared.error.ParseError.TheVariants as parse
 

@@ -2,8 +2,7 @@
 use Rattle.std.specs.Prelude.{◌≡◌, ◌⊎◌, ℕ, ◌+◌, ◌<◌, ◌≤◌, length}
 use Rattle.dns_types.specs.declared.error.DecodeError.{DecodeError}
 use Rattle.dns_types.specs.declared.error.DecodeError.TheVariants as decode
-use Rattle.dns_names_wire.specs.State.{Reading}
-use Rattle.dns_names_wire.specs.Words.{LacksOctets}
+use Rattle.dns_names_wire.specs.{State.Reading, Words.LacksOctets}
 
 -- the fixed fields, each of one octet, lack octets, and those that are there are taken
 pub record CutFields (f : ℕ) (old : Reading) (e : DecodeError) (new : Reading) : Type 0 where

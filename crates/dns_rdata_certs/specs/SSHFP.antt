@@ -3,13 +3,11 @@ use Rattle.std.specs.Prelude.{◌≡◌, ℕ, List, [], ◌∷◌, ◌++◌, cod
 use Rattle.hex.specs.Hex.{encode_lower}
 use Rattle.dns_types.specs.declared.error.DecodeError.{DecodeError}
 use Rattle.dns_fields.specs.Fields.{Kind, Number, Rest, Values}
-use Rattle.dns_names_wire.specs.State.{Reading}
-use Rattle.dns_names_wire.specs.Facts.{Facts, filling}
+use Rattle.dns_names_wire.specs.{State.Reading, Facts.Facts, Facts.filling}
 use Rattle.dns_rdata_base.specs.Numbered.{keyed}
+use Rattle.dns_rdata_certs.specs.{Rests.IsRestRefusal, declared.sshfp.SSHFP.SSHFP}
 use Rattle.dns_rdata_certs.specs.SshfpAlgorithm.{sshfp_algorithm_number, sshfp_algorithm_variant, sshfp_algorithm_of}
 use Rattle.dns_rdata_certs.specs.FingerprintType.{fingerprint_type_number, fingerprint_type_variant, fingerprint_type_of}
-use Rattle.dns_rdata_certs.specs.Rests.{IsRestRefusal}
-use Rattle.dns_rdata_certs.specs.declared.sshfp.SSHFP.{SSHFP}
 
 -- algorithm, fingerprint type, fingerprint
 abbrev pub sshfp_shape : List Kind

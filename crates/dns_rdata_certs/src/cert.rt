@@ -2,10 +2,9 @@
 
 ghost use Rattle.std.specs.Prelude.{◌≡◌, length as list_length, IfErr, IfOk, Some};
 ghost use Rattle.std.specs.String.{string_bytes};
-ghost use Rattle.dns_names_wire.specs.Words.{Emits};
-ghost use Rattle.dns_names_wire.specs.Facts.{same, same_equiv, same_partial};
-ghost use Rattle.dns_rdata_certs.specs.CERT.{cert_shape, cert_fields, cert_facts, cert_key_shape, cert_keys, IsReadCert, cert_text};
-ghost use Rattle.dns_rdata_certs.specs.CERT.{cert_data_text, ReadsWholeCert, IsWholeCertRefusal};
+ghost use Rattle.dns_names_wire.specs.{Words.Emits, Facts.same, Facts.same_equiv, Facts.same_partial};
+ghost use Rattle.dns_rdata_certs.specs.CERT.{cert_shape, cert_fields, cert_facts, cert_key_shape, cert_keys, IsReadCert, cert_text, cert_data_text};
+ghost use Rattle.dns_rdata_certs.specs.CERT.{ReadsWholeCert, IsWholeCertRefusal};
 
 mod algorithm;
 mod cert_type;

@@ -2,9 +2,7 @@
 
 ghost use Rattle.std.specs.Prelude.{◌≡◌};
 ghost use Rattle.dns_pieces.specs.Fronts.{canonical_cmp};
-ghost use Rattle.dns_rdata_certs.specs.CERT.{cert_shape, cert_fields};
-ghost use Rattle.dns_rdata_certs.specs.SSHFP.{sshfp_shape, sshfp_fields};
-ghost use Rattle.dns_rdata_certs.specs.TLSA.{tlsa_shape, tlsa_fields};
+ghost use Rattle.dns_rdata_certs.specs.{CERT.cert_shape, CERT.cert_fields, SSHFP.sshfp_shape, SSHFP.sshfp_fields, TLSA.tlsa_shape, TLSA.tlsa_fields};
 
 use crate::{CERT, SSHFP, TLSA};
 use dns_pieces::order::{one_behind, rest_behind, two_behind};

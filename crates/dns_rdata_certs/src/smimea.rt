@@ -1,8 +1,7 @@
 //! SMIMEA: a certificate of a mail user (RFC 8162, 2).
 
 ghost use Rattle.std.specs.Prelude.{◌≡◌, Some};
-ghost use Rattle.dns_names_wire.specs.Words.{Emits};
-ghost use Rattle.dns_names_wire.specs.Facts.{same, same_equiv, same_partial};
+ghost use Rattle.dns_names_wire.specs.{Words.Emits, Facts.same, Facts.same_equiv, Facts.same_partial};
 ghost use Rattle.dns_rdata_certs.specs.SMIMEA.{smimea_shape, smimea_fields, smimea_facts, smimea_key_shape, smimea_keys, smimea_text};
 
 use crate::tlsa::{CertUsage, Matching, Selector, TLSA};

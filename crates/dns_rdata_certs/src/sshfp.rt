@@ -1,8 +1,7 @@
 //! SSHFP: the fingerprint of a host's key (RFC 4255, 3.1).
 
 ghost use Rattle.std.specs.Prelude.{◌≡◌, Some};
-ghost use Rattle.dns_names_wire.specs.Words.{Emits};
-ghost use Rattle.dns_names_wire.specs.Facts.{same, same_equiv, same_partial};
+ghost use Rattle.dns_names_wire.specs.{Words.Emits, Facts.same, Facts.same_equiv, Facts.same_partial};
 ghost use Rattle.dns_rdata_certs.specs.SSHFP.{sshfp_shape, sshfp_fields, sshfp_facts, sshfp_key_shape, sshfp_keys, sshfp_text};
 
 mod algorithm;

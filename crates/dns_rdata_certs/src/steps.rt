@@ -3,10 +3,8 @@
 ghost use Rattle.std.specs.Prelude.{◌≡◌, ℕ, []};
 ghost use Rattle.dns_pieces.specs.Steps.{GivesStep, by_fields};
 ghost use Rattle.dns_rdata_base.specs.Steps.{at_once};
-ghost use Rattle.dns_rdata_certs.specs.CERT.{cert_shape, cert_fields};
+ghost use Rattle.dns_rdata_certs.specs.{CERT.cert_shape, CERT.cert_fields, SSHFP.sshfp_shape, SSHFP.sshfp_fields, TLSA.tlsa_shape, TLSA.tlsa_fields};
 ghost use Rattle.dns_rdata_certs.specs.SMIMEA.{smimea_shape, smimea_fields};
-ghost use Rattle.dns_rdata_certs.specs.SSHFP.{sshfp_shape, sshfp_fields};
-ghost use Rattle.dns_rdata_certs.specs.TLSA.{tlsa_shape, tlsa_fields};
 
 use crate::{CERT, SMIMEA, SSHFP, TLSA};
 use dns_pieces::{Head, Step, Tail};

@@ -1,8 +1,7 @@
 //! TLSA: a certificate of a service (RFC 6698, 2.1).
 
 ghost use Rattle.std.specs.Prelude.{◌≡◌, Some};
-ghost use Rattle.dns_names_wire.specs.Words.{Emits};
-ghost use Rattle.dns_names_wire.specs.Facts.{same, same_equiv, same_partial};
+ghost use Rattle.dns_names_wire.specs.{Words.Emits, Facts.same, Facts.same_equiv, Facts.same_partial};
 ghost use Rattle.dns_rdata_certs.specs.TLSA.{tlsa_shape, tlsa_fields, tlsa_facts, tlsa_key_shape, tlsa_keys, tlsa_text};
 
 mod cert_usage;

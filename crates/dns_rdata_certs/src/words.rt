@@ -3,13 +3,10 @@
 
 ghost use Rattle.std.specs.Prelude.{IfOk};
 ghost use Rattle.std.specs.Iterator.{IsFinite};
-ghost use Rattle.dns_rdata_certs.specs.CERT.{cert_fields, IsReadCert};
+ghost use Rattle.dns_rdata_certs.specs.{CERT.cert_fields, CERT.IsReadCert, SSHFP.sshfp_fields, SSHFP.IsReadSshfp, TLSA.tlsa_fields, TLSA.IsReadTlsa};
 ghost use Rattle.dns_rdata_certs.specs.SMIMEA.{smimea_fields, IsReadSmimea};
-ghost use Rattle.dns_rdata_certs.specs.SSHFP.{sshfp_fields, IsReadSshfp};
-ghost use Rattle.dns_rdata_certs.specs.TLSA.{tlsa_fields, IsReadTlsa};
 ghost use Rattle.dns_rdata_certs.specs.WordRows.{hex_digits, IsSomeHex, joined_hex, cert_words, sshfp_words, tlsa_words, smimea_words};
-ghost use Rattle.dns_words.specs.Forms.{base64};
-ghost use Rattle.dns_words.specs.Reads.{ReadsText, ReadsWord, ReadsRow, Decides, GoesOn};
+ghost use Rattle.dns_words.specs.{Forms.base64, Reads.ReadsText, Reads.ReadsWord, Reads.ReadsRow, Reads.Decides, Reads.GoesOn};
 
 use crate::cert::{Algorithm as CertAlgorithm, CERT, CertType};
 use crate::hexadecimal::HEX;

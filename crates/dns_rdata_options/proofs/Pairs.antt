@@ -1,7 +1,7 @@
 -- Options that are emitted one after the other.
 use Rattle.std.proofs.Common.{◌≡◌, ℕ, ◌+◌, ◌<◌, ◌≤◌, ◌/◌, ◌==◌, ◌&&◌, ◌||◌, ◌⊎◌, nat_le, eqb-true, Bool, true, false, List, [], ◌∷◌, ◌++◌, length}
 use Rattle.std.proofs.Common.{map, take, drop, get_or, refl, sym, ap, ◌∙◌, arith, append_assoc, subst}
-use Rattle.std.proofs.{lemmas.Bool.Decides.nat_tests, lemmas.Grind.flat_map-append}
+use Rattle.std.proofs.{Math.Bool.and-false, lemmas.Bool.Decides.nat_tests, lemmas.Grind.flat_map-append}
 use Rattle.std.proofs.lemmas.List.{map-append, append-nil, length-append, drop_more, take_more, take-append-drop}
 use Rattle.std.specs.Cmp.{first_so, second_so}
 use Rattle.dns_types.specs.declared.error.ProtoError.{ProtoError}
@@ -10,7 +10,7 @@ use Rattle.dns_fields.specs.Pieces.{option_emittable, options_emittable}
 use Rattle.dns_fields.specs.Fields.{Options, field_octets, option_pieces}
 use Rattle.dns_fields.proofs.Sorted.{octets_cmp, flat_map_all, length_sorted}
 use Rattle.dns_names_wire.specs.{State.Writing, Words.AppendedField, Words.StoppedField}
-use Rattle.dns_names_wire.proofs.FieldWrites.{keeps_then, because_map, and_false}
+use Rattle.dns_names_wire.proofs.FieldWrites.{keeps_then, because_map}
 use Rattle.dns_rdata_options.specs.{EdnsCode.edns_code_number, Words.AppendedOctets, Words.StoppedOctets, OPT.Pair, OPT.pair_value}
 use Rattle.dns_rdata_options.proofs.Selection.{all_push}
 
@@ -48,7 +48,7 @@ unfit_inner : (xs : List (Numbered OptionValue)) (x : Numbered OptionValue) (ys 
     → options_emittable (xs ++ x ∷ ys) ≡ false
 unfolding is_fit
 unfit_inner [] x ys e = rw e refl
-unfit_inner (y ∷ xs) x ys e = rw (unfit_inner xs x ys e) (and_false (nat_le (length (option_octets y.1)) 65535 && option_emittable y.1))
+unfit_inner (y ∷ xs) x ys e = rw (unfit_inner xs x ys e) (and-false (nat_le (length (option_octets y.1)) 65535 && option_emittable y.1))
 
 pub more_options : {w b e : Writing} (xs : List (Numbered OptionValue)) (x : Numbered OptionValue) → AppendedField w Options xs b
     → AppendedOctets (OptionFits x) (piece (as_piece option_octets x)) b e → AppendedField w Options (xs ++ x ∷ []) e

@@ -1,12 +1,12 @@
 -- Values that are emitted.
 use Rattle.std.proofs.Common.{◌≡◌, ◌≢◌, true, true≢false, nat_le, ℕ, ◌<◌, ◌^◌, Result, map, List, length, refl, sym, ap, ◌∙◌, ◌+◌, arith}
 use Rattle.std.specs.{List.list_all, Int.bytes_high_first}
-use Rattle.std.proofs.lemmas.List.{length-map, length-append, map-id}
+use Rattle.std.proofs.{Math.Bool.and-false, lemmas.List.length-map, lemmas.List.length-append, lemmas.List.map-id}
 use Rattle.dns_types.specs.declared.error.ProtoError.{ProtoError}
 use Rattle.dns_fields.specs.Fields.{Number, Text, field_octets}
 use Rattle.dns_fields.specs.Pieces.{ParameterValue, Mandatory, Alpn, string, is_some, IsEmittable, parameter_octets, parameter_emittable}
 use Rattle.dns_names_wire.specs.{State.Writing, Words.AppendedField, Words.EmitsField, Words.StoppedField, Words.Extends}
-use Rattle.dns_names_wire.proofs.FieldWrites.{and_false, because_map, extends_then}
+use Rattle.dns_names_wire.proofs.FieldWrites.{because_map, extends_then}
 use Rattle.dns_rdata_service.specs.{Emitting.StoppedOctets, Hints.EmitsEach, SvcParamKey.key_number, declared.svcb.key.SvcParamKey.SvcParamKey}
 use Rattle.dns_rdata_service.specs.SvcParamValue.{fits_value, sized, EmitsValue}
 use Rattle.dns_rdata_service.proofs.EachEmits.{emits_as, emits_all, and_second, octets_extend, all_pass, number_emits, text_emits}
@@ -23,7 +23,7 @@ sized_refused v {e} {old} {b} f h =
     let two : length b.octets ≡ length old.octets + 2 = ap length f.field.is.1 ∙ length-append old.octets (bytes_high_first 2 0) in
     record {
       extends = extends_then f h.extends;
-      why = because_map e _ _ _ _ (λ r. omega (arith, r, f.keeps.limit, two)) (λ u. rw u (and_false (nat_le (length (parameter_octets v)) 65535))) h.why;
+      why = because_map e _ _ _ _ (λ r. omega (arith, r, f.keeps.limit, two)) (λ u. rw u (and-false (nat_le (length (parameter_octets v)) 65535))) h.why;
     }
 
 -- ---- lists

@@ -2,9 +2,7 @@
 
 ghost use Rattle.std.specs.Prelude.{◌≢◌, IfErr};
 ghost use Rattle.dns_types.specs.declared.error.ParseError.TheVariants as parse;
-ghost use Rattle.dns_rdata_base.specs.A.{a_fields};
-ghost use Rattle.dns_rdata_base.specs.AAAA.{aaaa_fields};
-ghost use Rattle.dns_rdata_base.specs.WordRows.{a_words, aaaa_words};
+ghost use Rattle.dns_rdata_base.specs.{A.a_fields, AAAA.aaaa_fields, WordRows.a_words, WordRows.aaaa_words};
 ghost use Rattle.dns_words.specs.Reads.{ReadsRow};
 
 use crate::a::A;

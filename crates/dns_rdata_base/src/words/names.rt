@@ -1,10 +1,8 @@
 //! Words of records that a name ends.
 
 ghost use Rattle.std.specs.Option.{option_copied};
-ghost use Rattle.dns_rdata_base.specs.MX.{mx_fields};
+ghost use Rattle.dns_rdata_base.specs.{MX.mx_fields, SRV.srv_fields, WordRows.name_words, WordRows.mx_words, WordRows.srv_words};
 ghost use Rattle.dns_rdata_base.specs.NameRecords.{aname_fields, cname_fields, ns_fields, ptr_fields};
-ghost use Rattle.dns_rdata_base.specs.SRV.{srv_fields};
-ghost use Rattle.dns_rdata_base.specs.WordRows.{name_words, mx_words, srv_words};
 ghost use Rattle.dns_words.specs.Reads.{ReadsRow};
 
 use crate::mx::MX;

@@ -1,8 +1,7 @@
 //! Words of NAPTR.
 
 ghost use Rattle.std.specs.Option.{option_copied};
-ghost use Rattle.dns_rdata_base.specs.NAPTR.{naptr_fields};
-ghost use Rattle.dns_rdata_base.specs.WordRows.{flags, naptr_words};
+ghost use Rattle.dns_rdata_base.specs.{NAPTR.naptr_fields, WordRows.flags, WordRows.naptr_words};
 ghost use Rattle.dns_words.specs.Reads.{ReadsRow, ReadsText, ReadsWord, GoesOn};
 
 use crate::naptr::{NAPTR, verify_flags};

@@ -1,9 +1,7 @@
 //! Words of HINFO, TXT and OPENPGPKEY.
 
 ghost use Rattle.std.specs.Iterator.{IsFinite};
-ghost use Rattle.dns_rdata_base.specs.HINFO.{hinfo_fields};
-ghost use Rattle.dns_rdata_base.specs.OPENPGPKEY.{openpgpkey_fields};
-ghost use Rattle.dns_rdata_base.specs.TXT.{txt_fields};
+ghost use Rattle.dns_rdata_base.specs.{HINFO.hinfo_fields, OPENPGPKEY.openpgpkey_fields, TXT.txt_fields};
 ghost use Rattle.dns_rdata_base.specs.WordRows.{hinfo_words, txt_words, openpgpkey_words};
 ghost use Rattle.dns_words.specs.Reads.{ReadsRow};
 

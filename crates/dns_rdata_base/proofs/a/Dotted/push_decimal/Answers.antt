@@ -1,6 +1,5 @@
 use Rattle.std.proofs.Common.{◌≡◌, ◌+◌, ◌/◌, ◌%◌, ◌<◌, ◌≤◌, ◌^◌, ◌++◌, ◌∷◌, ℕ, List, [], decimal, sym, ap, ◌∙◌, arith, append_assoc}
-use Rattle.std.proofs.Math.Facts.{Fits-lt-pow}
-use Rattle.std.proofs.lemmas.Fmt.{decimal_digit, decimal_step}
+use Rattle.std.proofs.{Math.Facts.Fits-lt-pow, lemmas.Fmt.decimal_digit, lemmas.Fmt.decimal_step}
 use Rattle.dns_rdata_base.proofs.a.Dotted.push_decimal.Goals as goal
 use Rattle.dns_rdata_base.proofs.a.Dotted.push_decimal.Goals.{then-number-ge100, else-number-ge100}
 

@@ -1,6 +1,5 @@
 use Rattle.std.proofs.Common.{◌≡◌, ℕ, List, [], ◌++◌, rules, sym, ap, ◌∙◌, append_assoc, append-nil}
-use Rattle.std.proofs.Output.{has_written_append, has_written_of_eq}
-use Rattle.std.proofs.lemmas.List.{nil_from_length}
+use Rattle.std.proofs.{Output.has_written_append, Output.has_written_of_eq, lemmas.List.nil_from_length}
 use Rattle.hex.specs.Hex.{encode_lower, encode_with, lower_digits}
 use Rattle.dns_rdata_certs.proofs.HexText.{encode_with-append}
 use Rattle.dns_rdata_certs.proofs.hexadecimal.HexadecimalDisplay.fmt.Goals as goal

@@ -1,6 +1,5 @@
 use Rattle.std.proofs.Common.{◌≡◌, ℕ, List, ◌++◌}
-use Rattle.std.specs.Fmt.{HasWritten, IsPlainFormatter}
-use Rattle.std.specs.Slice.Iter.{chunks_rest, chunks_size}
+use Rattle.std.specs.{Fmt.HasWritten, Fmt.IsPlainFormatter, Slice.Iter.chunks_rest, Slice.Iter.chunks_size}
 use Rattle.hex.specs.Hex.{encode_lower}
 use Rattle.dns_rdata_certs.proofs.hexadecimal.HexadecimalDisplay.fmt.Given as goal
 
