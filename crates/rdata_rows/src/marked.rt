@@ -3,6 +3,16 @@
 //! call answered and what stands then. What refuses requests for memory (tests/requests.c) reads the two marks. Words that
 //! give no call are answered by a dash and a line that says why.
 
+// Makes a call between the two marks.
+macro_rules! marked {
+    ($marks:expr, $call:expr) => {{
+        $marks.begin()?;
+        let made = $call;
+        $marks.end()?;
+        made
+    }};
+}
+
 mod asking;
 mod changing;
 mod emitting;

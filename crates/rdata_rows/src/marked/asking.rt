@@ -124,9 +124,7 @@ fn answer_of(call: &str, left: &RData, right: &RData) -> Answer {
 }
 
 fn ask_both(marks: &Marks<'_>, call: &str, left: &RData, right: &RData) -> Result<String> {
-    marks.begin()?;
-    let answer = answer_of(call, left, right);
-    marks.end()?;
+    let answer = marked!(marks, answer_of(call, left, right));
     Ok(format!(in marks.alloc(); "{answer:?}")?)
 }
 
@@ -164,12 +162,13 @@ fn append_first(value: &RData, octets: &mut Vec<u8>) -> Result<(), AllocError> {
 pub fn octets(marks: &Marks<'_>, call: &str, text: &str) -> Result<String> {
     let value = value(marks.alloc(), text)?;
     let mut octets = Vec::with_capacity(marks.alloc(), 131072)?;
-    marks.begin()?;
-    let result = match call {
-        "octet_at" => append_first(&value.0, &mut octets),
-        _ => append_all(&value.0, &mut octets),
-    };
-    marks.end()?;
+    let result = marked!(
+        marks,
+        match call {
+            "octet_at" => append_first(&value.0, &mut octets),
+            _ => append_all(&value.0, &mut octets),
+        }
+    );
     let digits = hex::encode(marks.alloc(), octets.as_slice())?;
     Ok(format!(in marks.alloc(); "{result:?} {digits}")?)
 }
@@ -178,9 +177,7 @@ pub fn octets(marks: &Marks<'_>, call: &str, text: &str) -> Result<String> {
 pub fn print(marks: &Marks<'_>, room: &str, text: &str) -> Result<String> {
     let value = value(marks.alloc(), text)?;
     let mut text = String::with_capacity(marks.alloc(), room.parse::<usize>()?)?;
-    marks.begin()?;
-    let result = write!(text, "{}", value.0);
-    marks.end()?;
+    let result = marked!(marks, write!(text, "{}", value.0));
     let printed = result.is_ok();
     Ok(format!(in marks.alloc(); "{printed} {text:?}")?)
 }

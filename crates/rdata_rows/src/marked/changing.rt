@@ -14,40 +14,30 @@ use std::net::{IpAddr, Ipv4Addr};
 pub fn set_issuer(marks: &Marks<'_>, digits: &str, text: &str) -> Result<String> {
     let mut caa = record::<CAA>(marks.alloc(), digits)?;
     let (name, pairs) = issuer(marks.alloc(), text)?;
-    marks.begin()?;
-    let result = caa.set_issuer_value(name.as_ref(), pairs.as_slice());
-    marks.end()?;
+    let result = marked!(marks, caa.set_issuer_value(name.as_ref(), pairs.as_slice()));
     Ok(format!(in marks.alloc(); "{result:?} {caa:?}")?)
 }
 
 /// The record of a URL that is set to another one.
 pub fn set_url(marks: &Marks<'_>, digits: &str, url: &str) -> Result<String> {
     let mut caa = record::<CAA>(marks.alloc(), digits)?;
-    marks.begin()?;
-    let result = caa.set_iodef_value(url);
-    marks.end()?;
+    let result = marked!(marks, caa.set_iodef_value(url));
     Ok(format!(in marks.alloc(); "{result:?} {caa:?}")?)
 }
 
 // A list of options behind a call that changes it.
 fn insert(marks: &Marks<'_>, opt: &mut OPT, option: EdnsOption) -> Result<String> {
-    marks.begin()?;
-    let result = opt.insert(option);
-    marks.end()?;
+    let result = marked!(marks, opt.insert(option));
     Ok(format!(in marks.alloc(); "{result:?} {opt:?}")?)
 }
 
 fn remove(marks: &Marks<'_>, opt: &mut OPT, code: EdnsCode) -> Result<String> {
-    marks.begin()?;
-    opt.remove(code);
-    marks.end()?;
+    marked!(marks, opt.remove(code));
     Ok(format!(in marks.alloc(); "{opt:?}")?)
 }
 
 fn get_all(marks: &Marks<'_>, opt: &OPT, code: EdnsCode) -> Result<String> {
-    marks.begin()?;
-    let result = opt.get_all(code);
-    marks.end()?;
+    let result = marked!(marks, opt.get_all(code));
     Ok(format!(in marks.alloc(); "{result:?} {opt:?}")?)
 }
 
@@ -68,9 +58,7 @@ pub fn options(marks: &Marks<'_>, call: &str, digits: &str, code: &str) -> Resul
 /// The serial of the record behind one more.
 pub fn serial(marks: &Marks<'_>, digits: &str) -> Result<String> {
     let mut soa = record::<SOA>(marks.alloc(), digits)?;
-    marks.begin()?;
-    soa.increment_serial();
-    marks.end()?;
+    marked!(marks, soa.increment_serial());
     Ok(format!(in marks.alloc(); "{}", soa.serial)?)
 }
 
@@ -87,9 +75,7 @@ fn lengths(pairs: &[KeyValue]) -> (usize, usize) {
 /// How many octets the keys and the values of an issuer have.
 pub fn keys(marks: &Marks<'_>, text: &str) -> Result<String> {
     let (_, pairs) = issuer(marks.alloc(), text)?;
-    marks.begin()?;
-    let lengths = lengths(pairs.as_slice());
-    marks.end()?;
+    let lengths = marked!(marks, lengths(pairs.as_slice()));
     Ok(format!(in marks.alloc(); "{lengths:?}")?)
 }
 
@@ -105,9 +91,7 @@ fn codes(opt: &mut OPT) -> (u16, usize) {
 /// The number of the last option's code, and how many options there are.
 pub fn last_code(marks: &Marks<'_>, digits: &str) -> Result<String> {
     let mut opt = record::<OPT>(marks.alloc(), digits)?;
-    marks.begin()?;
-    let found = codes(&mut opt);
-    marks.end()?;
+    let found = marked!(marks, codes(&mut opt));
     Ok(format!(in marks.alloc(); "{found:?}")?)
 }
 
@@ -122,9 +106,7 @@ fn made(alloc: Global, bits: u8, url: &str) -> (bool, bool, bool) {
 /// Whether there is a net of these bits, the URL is read, and what is made is empty.
 pub fn make(marks: &Marks<'_>, bits: &str, url: &str) -> Result<String> {
     let bits = bits.parse::<u8>()?;
-    marks.begin()?;
-    let found = made(marks.alloc(), bits, url);
-    marks.end()?;
+    let found = marked!(marks, made(marks.alloc(), bits, url));
     Ok(format!(in marks.alloc(); "{found:?}")?)
 }
 
@@ -140,8 +122,6 @@ fn set_all(alloc: Global, subnet: &mut ClientSubnet) -> (usize, usize) {
 /// A subnet of which all was set, and how much there is in defaults.
 pub fn set_subnet(marks: &Marks<'_>, text: &str) -> Result<String> {
     let mut subnet = text.parse::<ClientSubnet>()?;
-    marks.begin()?;
-    let found = set_all(marks.alloc(), &mut subnet);
-    marks.end()?;
+    let found = marked!(marks, set_all(marks.alloc(), &mut subnet));
     Ok(format!(in marks.alloc(); "{subnet:?} {found:?}")?)
 }

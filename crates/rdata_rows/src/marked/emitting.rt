@@ -31,9 +31,7 @@ fn emit_within(
 ) -> Result<String> {
     let start = encoder.len();
     encoder.set_max_size((start.min(65535) as u16).saturating_add(free));
-    marks.begin()?;
-    let result = value.emit(encoder);
-    marks.end()?;
+    let result = marked!(marks, value.emit(encoder));
     let len = encoder.len();
     let mode = encoder.with_rdata_behavior(RDataEncoding::Canonical);
     Ok(format!(in marks.alloc(); "{result:?} {start} {len} {mode:?}")?)

@@ -32,9 +32,10 @@ pub fn read(marks: &Marks<'_>, text: &str) -> Result<String> {
     let given = read_given(alloc, text)?;
     let mut decoder = BinDecoder::new(alloc, given.message.as_slice());
     let _before = decoder.read_slice(given.place)?;
-    marks.begin()?;
-    let made = read_value(&mut decoder, given.record_type, given.length);
-    marks.end()?;
+    let made = marked!(
+        marks,
+        read_value(&mut decoder, given.record_type, given.length)
+    );
     let shown = show(alloc, &made)?;
     let rest = hex::encode(alloc, decoder.unread().unverified())?;
     Ok(format!(in alloc; "{} {rest} {shown}", decoder.index())?)
@@ -47,9 +48,7 @@ fn copy_of(value: &Held) -> Result<Held, ParseError> {
 /// A copy, and the value that it is of.
 pub fn copy(marks: &Marks<'_>, text: &str) -> Result<String> {
     let value = value_of(marks.alloc(), text)?;
-    marks.begin()?;
-    let copied = copy_of(&value);
-    marks.end()?;
+    let copied = marked!(marks, copy_of(&value));
     let shown = show(marks.alloc(), &copied)?;
     Ok(format!(in marks.alloc(); "{shown} of {:?}", value.0)?)
 }
@@ -64,9 +63,7 @@ fn made_value(alloc: Global, call: &str, kind: RecordType, text: &str) -> Result
 /// The value of words or of a text.
 pub fn value(marks: &Marks<'_>, call: &str, kind: &str, text: &str) -> Result<String> {
     let kind = record_type(kind)?;
-    marks.begin()?;
-    let made = made_value(marks.alloc(), call, kind, text);
-    marks.end()?;
+    let made = marked!(marks, made_value(marks.alloc(), call, kind, text));
     show(marks.alloc(), &made)
 }
 
@@ -80,9 +77,7 @@ fn made_text(alloc: Global, value: &RData, call: &str) -> Result<String, ParseEr
 /// The text that is made of a value, and the value.
 pub fn text(marks: &Marks<'_>, call: &str, text: &str) -> Result<String> {
     let value = value_of(marks.alloc(), text)?;
-    marks.begin()?;
-    let made = made_text(marks.alloc(), &value.0, call);
-    marks.end()?;
+    let made = marked!(marks, made_text(marks.alloc(), &value.0, call));
     Ok(format!(in marks.alloc(); "{made:?} of {:?}", value.0)?)
 }
 
@@ -107,38 +102,36 @@ fn made_octets(alloc: Global, call: &str, octets: &[u8]) -> Result<Vec<u8>, Pars
 /// The octets that are made of octets.
 pub fn octets(marks: &Marks<'_>, call: &str, digits: &str) -> Result<String> {
     let octets = hex::decode(marks.alloc(), digits)?;
-    marks.begin()?;
-    let made = made_octets(marks.alloc(), call, octets.as_slice());
-    marks.end()?;
+    let made = marked!(marks, made_octets(marks.alloc(), call, octets.as_slice()));
     Ok(format!(in marks.alloc(); "{made:?}")?)
 }
 
 /// An issuer of a name and pairs.
 pub fn issuer(marks: &Marks<'_>, call: &str, text: &str) -> Result<String> {
     let (name, pairs) = shared::issuer(marks.alloc(), text)?;
-    marks.begin()?;
-    let made = match call {
-        "new_issue" => CAA::new_issue(true, name, pairs),
-        _ => CAA::new_issuewild(true, name, pairs),
-    };
-    marks.end()?;
+    let made = marked!(
+        marks,
+        match call {
+            "new_issue" => CAA::new_issue(true, name, pairs),
+            _ => CAA::new_issuewild(true, name, pairs),
+        }
+    );
     Ok(format!(in marks.alloc(); "{made:?}")?)
 }
 
 /// Where incidents are reported.
 pub fn location(marks: &Marks<'_>, text: &str) -> Result<String> {
     let url = String::from_str(marks.alloc(), text)?;
-    marks.begin()?;
-    let made = CAA::new_iodef(true, url);
-    marks.end()?;
+    let made = marked!(marks, CAA::new_iodef(true, url));
     Ok(format!(in marks.alloc(); "{made:?}")?)
 }
 
 /// Types that are synchronized, with a comma between each two.
 pub fn types(marks: &Marks<'_>, text: &str) -> Result<String> {
     let types = shared::types(marks.alloc(), text)?;
-    marks.begin()?;
-    let made = CSYNC::new(marks.alloc(), 123, true, true, types.into_iter());
-    marks.end()?;
+    let made = marked!(
+        marks,
+        CSYNC::new(marks.alloc(), 123, true, true, types.into_iter())
+    );
     Ok(format!(in marks.alloc(); "{made:?}")?)
 }

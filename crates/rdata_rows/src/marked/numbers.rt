@@ -31,9 +31,10 @@ fn octets_of(number: u8) -> [u8; 6] {
 /// The numbers that a number gives, as each enum that has it, and those of its lower octet.
 pub fn numbers(marks: &Marks<'_>, text: &str) -> Result<String> {
     let number = text.parse::<u16>()?;
-    marks.begin()?;
-    let (all, octets) = (numbers_of(number), octets_of(number.to_be_bytes()[1]));
-    marks.end()?;
+    let (all, octets) = marked!(
+        marks,
+        (numbers_of(number), octets_of(number.to_be_bytes()[1]))
+    );
     Ok(format!(in marks.alloc(); "{all:?} {octets:?}")?)
 }
 
@@ -57,9 +58,7 @@ fn address_of(call: &str, text: &str) -> Address {
 
 /// The address or the net of a text.
 pub fn of_address(marks: &Marks<'_>, call: &str, text: &str) -> Result<String> {
-    marks.begin()?;
-    let found = address_of(call, text);
-    marks.end()?;
+    let found = marked!(marks, address_of(call, text));
     Ok(format!(in marks.alloc(); "{found:?}")?)
 }
 
@@ -83,8 +82,6 @@ fn word_of(call: &str, text: &str) -> Word {
 
 /// What another word gives.
 pub fn of_word(marks: &Marks<'_>, call: &str, text: &str) -> Result<String> {
-    marks.begin()?;
-    let found = word_of(call, text);
-    marks.end()?;
+    let found = marked!(marks, word_of(call, text));
     Ok(format!(in marks.alloc(); "{found:?}")?)
 }
