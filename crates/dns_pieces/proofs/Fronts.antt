@@ -76,10 +76,12 @@ fields_cmp o (k ∷ kinds) a b = fields_cmp (ordering_then o (field_cmp k a.0 b.
 
 -- octets of which none are the beginning of others
 abbrev pub Ends : (k : Kind) → Value k → Value k → List Kind → Type 0
+Ends (Number w) a b kinds = Unit {0}
 Ends (Octets n) a b kinds = length a ≡ length b
+Ends Text a b kinds = Unit {0}
 Ends Name a b kinds = AreLabels a.labels × AreLabels b.labels
+Ends k a b [] = Unit {0}
 Ends k a b (j ∷ kinds) = ⊥
-Ends x a b y = Unit {0}
 
 abbrev pub AllEnd : (kinds : List Kind) → Values kinds → Values kinds → Type 0
 AllEnd [] a b = Unit {0}
@@ -101,7 +103,7 @@ field_then Rest a b [] x y h = ends_alone a b
 field_then Options a b [] x y h = ends_alone (field_octets Options a) (field_octets Options b)
 field_then Parameters a b [] x y h = ends_alone (field_octets Parameters a) (field_octets Parameters b)
 field_then Bitmap a b [] x y h = ends_alone (field_octets Bitmap a) (field_octets Bitmap b)
-field_then z a b (j ∷ kinds) x y h = absurd h
+field_then k a b (j ∷ kinds) x y h = absurd h
 
 fields_behind : (o : Ordering) (kinds : List Kind) (a b : Values kinds) → AllEnd kinds a b → fields_cmp o kinds a b ≡ ordering_then o (canonical_cmp kinds a b)
 fields_behind o [] a b h = sym (then_equal o)
