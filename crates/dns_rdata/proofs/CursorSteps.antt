@@ -1,7 +1,7 @@
 -- Cursors over record data.
-use Rattle.std.proofs.Common.{◌-◌, ◌++◌, drop, is_some, MatchOption, ◌≡◌, ◌↔◌, IsTrue, true≢false, ℕ, ◌+◌, ◌*◌, ◌≤◌, ◌<◌, nat_le, ◌&&◌, Bool, true}
-use Rattle.std.proofs.Common.{false, if◌then◌else◌, Option, Some, None, List, [], ◌∷◌, map, length, refl, sym, ap, ◌∙◌, arith, subst, IfSome}
-use Rattle.std.proofs.{lemmas.Bool.Decides.nat_tests, Math.ListN.drop_of_length-le, Math.Seq.drop-append_seam}
+use Rattle.std.proofs.Common.{◌-◌, ◌++◌, drop, is_some, MatchOption, ◌≡◌, ◌↔◌, IsTrue, true≢false, ℕ, ◌+◌, ◌*◌, ◌≤◌, ◌<◌, nat_le, Bool, true, false}
+use Rattle.std.proofs.Common.{if◌then◌else◌, Option, Some, None, List, [], ◌∷◌, map, length, refl, sym, ap, ◌∙◌, arith, subst, IfSome}
+use Rattle.std.proofs.{lemmas.Bool.Decides.nat_tests, Math.Bool.and-true, Math.ListN.drop_of_length-le, Math.Seq.drop-append_seam}
 use Rattle.std.proofs.lemmas.List.{append-nil, drop-drop}
 use Rattle.std.specs.{List.flat_map, List.AllByRecursion, List.list_all, Cmp.first_so, Cmp.second_so}
 use Rattle.dns_fields.specs.Pieces.{string, parameters_emittable}
@@ -15,10 +15,6 @@ use Rattle.dns_rdata.specs.{declared.record_data.RData.RData, Data.fields_of, Da
 use Rattle.dns_rdata.specs.Cursor.{can_emit, data_left, data_windows, data_options, data_options_left, DataAt, DataKept, left_of, windows_of}
 use Rattle.dns_rdata.specs.Cursor.{options_of, options_left_of, StepsOn, Remaining, Chooses, Advances}
 use Rattle.dns_rdata.specs.declared.record_data.RData.TheVariants as rdata
-
-pub with_true : (b : Bool) → b && true ≡ b
-with_true true = refl
-with_true false = refl
 
 -- ---- a test of whether a value can be emitted
 
@@ -50,10 +46,10 @@ emittable_short (k ∷ kinds) vs h = (kind_short k vs.0 (first_so (is_emittable 
 pub begins_at : (v : RData) → all_emittable (fields_of v).kinds (fields_of v).values ≡ true → DataAt v 0 0 0
 begins_at (rdata.CAA x) h = emittable_short sets.CAA.caa_shape (sets.CAA.caa_fields x) h
 begins_at (rdata.HINFO x) h = emittable_short base.HINFO.hinfo_shape (base.HINFO.hinfo_fields x) h
-begins_at (rdata.HTTPS x) h = sym (with_true (parameters_emittable (map service.Parameters.parameter_of x.0.svc_params))) ∙ h
+begins_at (rdata.HTTPS x) h = sym (and-true (parameters_emittable (map service.Parameters.parameter_of x.0.svc_params))) ∙ h
 begins_at (rdata.NAPTR x) h = emittable_short base.NAPTR.naptr_shape (base.NAPTR.naptr_fields x) h
-begins_at (rdata.OPT x) h = (sym (with_true (options.Steps.pairs_emittable x)) ∙ h, tt)
-begins_at (rdata.SVCB x) h = sym (with_true (parameters_emittable (map service.Parameters.parameter_of x.svc_params))) ∙ h
+begins_at (rdata.OPT x) h = (sym (and-true (options.Steps.pairs_emittable x)) ∙ h, tt)
+begins_at (rdata.SVCB x) h = sym (and-true (parameters_emittable (map service.Parameters.parameter_of x.svc_params))) ∙ h
 begins_at (rdata.TXT x) h = emittable_short base.TXT.txt_shape (base.TXT.txt_fields x) h
 begins_at v h = tt
 

@@ -1,5 +1,5 @@
 -- The laws of record data of every type.
-use Rattle.std.proofs.Common.{◌≡◌, ℕ, ◌+◌, ◌-◌, ◌<◌, ◌≤◌, Bool, true, List, length, refl, sym, ap, ◌∙◌, arith, subst, Result, Ok, Err}
+use Rattle.std.proofs.Common.{rules, ◌≡◌, ℕ, ◌+◌, ◌-◌, ◌<◌, ◌≤◌, Bool, true, List, length, refl, sym, ap, ◌∙◌, arith, subst, Result, Ok, Err}
 use Rattle.std.specs.{Bool.Decides, Result.IfOk, Result.OnOk}
 use Rattle.std.proofs.lemmas.List.{length-append}
 use Rattle.dns_fields.specs.{declared.RDataEncoding.RDataEncoding, Octets.AreOctets, Equal.values_eq, Laws.IsShape}
@@ -20,20 +20,8 @@ use Rattle.dns_rdata.proofs.Values.{values_as, values_as-same, value_for, value_
 
 -- each field but the last says where it ends
 shape_is : (t : RecordType) → IsShape (shape t)
-shape_is types.CERT = (tt, (tt, (tt, tt)))
-shape_is types.HINFO = (tt, tt)
-shape_is types.SMIMEA = (tt, (tt, (tt, tt)))
-shape_is types.SSHFP = (tt, (tt, tt))
-shape_is types.TLSA = (tt, (tt, (tt, tt)))
-shape_is types.MX = (tt, tt)
-shape_is types.SRV = (tt, (tt, (tt, tt)))
-shape_is types.SOA = (tt, (tt, (tt, (tt, (tt, (tt, tt))))))
-shape_is types.NAPTR = (tt, (tt, (tt, (tt, (tt, tt)))))
-shape_is types.CAA = (tt, (tt, tt))
-shape_is types.CSYNC = (tt, (tt, tt))
-shape_is types.HTTPS = (tt, (tt, tt))
-shape_is types.SVCB = (tt, (tt, tt))
-shape_is t = tt
+shape_is types.CERT = search rules
+shape_is t = search rules
 
 -- what is asked of a value is asked of its equals
 condition_same : (t : RecordType) (a b : Values (shape t)) → Same (shape t) a b → condition t a → condition t b

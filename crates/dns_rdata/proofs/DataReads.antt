@@ -2,14 +2,14 @@
 use Rattle.std.proofs.Common.{[], ◌∷◌, ◌≡◌, ◌≢◌, ℕ, ◌+◌, ◌-◌, ◌<◌, ◌≤◌, ◌==◌, ◌⊎◌, inl, inr, Bool, true, false, cond, List, length, refl, arith}
 use Rattle.std.proofs.Common.{subst, ap, ◌∙◌, Result, Ok, Err}
 use Rattle.std.specs.Result.{IfOk, IfErr, OnOk}
-use Rattle.std.proofs.lemmas.Bool.Decides.{nat_tests}
+use Rattle.std.proofs.lemmas.Bool.Decides.{eqb_tells}
 use Rattle.dns_fields.specs.{Octets.AreOctets, Fields.Values, Fields.Kind, Fields.Number, Fields.Name, Fields.Text}
 use Rattle.dns_types.specs.{declared.error.DecodeError.DecodeError, declared.record_type.RecordType.RecordType, RecordTypes.number_of}
 use Rattle.dns_types.specs.declared.error.DecodeError.TheVariants as decode
 use Rattle.dns_types.specs.declared.record_type.RecordType.TheVariants as types
 use Rattle.dns_names_wire.specs.State.{Reading}
 use Rattle.dns_names_wire.specs.Words.{StaysBehind, UnlessMemory, NoWindow, TookWindow, RefusedWindow, ReadsWindow, LacksOctets}
-use Rattle.dns_names_wire.proofs.FieldReads.{stays, unless_all}
+use Rattle.dns_names_wire.proofs.FieldReads.{stays, unless_all, unless_map}
 use Rattle.dns_rdata_base.specs.declared.null.NULL.{NULL}
 use Rattle.dns_rdata_options.proofs.Refusals.{opt_never}
 use Rattle.dns_rdata_service.proofs.SvcbValues.{svcb_never}
@@ -83,51 +83,56 @@ unknown_took t n x h w =
 
 -- ---- what reading answers, once the octets that were taken are counted
 
-by_case : (b : Bool) (P : Bool → Type 0) → (b ≡ true → P true) → (b ≡ false → P false) → P b
-by_case true P f g = f refl
-by_case false P f g = g refl
+-- What the record gave is answered where it has to be said first, and where just the length was taken; else that another number was.
+data Answered (n : ℕ) (old new : Reading) : Result RData DecodeError → Result RData DecodeError → Type 0 where
+  memory : Answered n old new (Err decode.Memory) (Err decode.Memory)
+  number : (k : ℕ) → Answered n old new (Err (decode.UnknownRecordTypeValue k)) (Err (decode.UnknownRecordTypeValue k))
+  whole : {o : Result RData DecodeError} → new.index ≡ old.index + n → Answered n old new o o
+  other : {o : Result RData DecodeError} → o ≢ Err decode.Memory → new.index ≢ old.index + n
+      → Answered n old new o (Err (decode.IncorrectRDataLengthRead (new.index - old.index) n))
 
-equal_counts : (a b : ℕ) → (a == b) ≡ true → a ≡ b
-equal_counts a b e = grind (arith, nat_tests)
+by_count : {o : Result RData DecodeError} {old new : Reading} (n : ℕ) → StaysBehind old new → o ≢ Err decode.Memory
+    → Answered n old new o (cond ((new.index - old.index) == n) o (Err (decode.IncorrectRDataLengthRead (new.index - old.index) n)))
+by_count {old = old} {new = new} n b some = elim (eqb_tells (new.index - old.index) n) [
+  | inl e ↦ rw e.0 (whole (omega (arith, e.1, b.index)))
+  | inr e ↦ rw e.0 (other some (λ k. e.1 (omega (arith, k, b.index))))
+]
 
-other_counts : (a b : ℕ) → (a == b) ≡ false → a ≢ b
-other_counts a b e = grind (arith, nat_tests)
-
--- what is known of the count
-pub record Counted (old new : Reading) (n read len : ℕ) : Type 0 where
-  pub taken : read ≡ new.index - old.index
-  pub wanted : len ≡ n
-
-counted : {old new : Reading} {n read len : ℕ} → StaysBehind old new → Counted old new n read len → (read == len) ≡ true → new.index ≡ old.index + n
-counted {read = read} {len = len} b c e = let h = equal_counts read len e in omega (arith, h, b.index, c.taken, c.wanted)
-
-miscounted : {old new : Reading} {n read len : ℕ} → StaysBehind old new → Counted old new n read len → (read == len) ≡ false → new.index ≢ old.index + n
-miscounted {read = read} {len = len} b c e = let h = other_counts read len e in λ k. h (omega (arith, b.index, c.taken, c.wanted, k))
+answered : {old new : Reading} (n : ℕ) (o : Result RData DecodeError) → StaysBehind old new → Answered n old new o (by_length o (new.index - old.index) n)
+answered n (Err decode.Memory) b = memory
+answered n (Err (decode.UnknownRecordTypeValue k)) b = number k
+answered n o b = by_count n b (λ e. cc e)
 
 no_value : {m : List ℕ} {p n : ℕ} (t : RecordType) → NoWindow m p n (shape t) (condition t) → NoValue m p n t
 no_value t w = record { none = λ v f. w.none f.values f.window }
 
-pub data_found : (t : RecordType) (n : ℕ) (o : Result RData DecodeError) (old new : Reading) (read len : ℕ) → ReadsData t n o old new
-    → Counted old new n read len → IfOk (by_length o read len) (λ v. Fills old.message old.index n t v)
-data_found t n (Ok v) old new read len h c =
-    by_case (read == len) (λ b. IfOk (cond b (Ok v) (Err (decode.IncorrectRDataLengthRead read len))) (λ v. Fills old.message old.index n t v))
-    (λ e. h.here (counted h.behind c e)) (λ e. tt)
-data_found t n (Err decode.Memory) old new read len h c = tt
-data_found t n (Err (decode.UnknownRecordTypeValue k)) old new read len h c = tt
-data_found t n (Err e) old new read len h c =
-    by_case (read == len) (λ b. IfOk (cond b (Err e) (Err (decode.IncorrectRDataLengthRead read len))) (λ v. Fills old.message old.index n t v)) (λ _. tt)
-    (λ _. tt)
+unless_none : {P : Type 0} (e : DecodeError) → UnlessMemory e P → e ≢ decode.Memory → P
+unless_none decode.Memory h some = absurd (some refl)
+unless_none e h some = h
 
-pub data_refused : (t : RecordType) (n : ℕ) (o : Result RData DecodeError) (old new : Reading) (read len : ℕ) → ReadsData t n o old new
-    → Counted old new n read len → IfErr (by_length o read len) (λ e. UnlessMemory e (NoValue old.message old.index n t))
-data_refused t n (Ok v) old new read len h c =
-    by_case (read == len) (λ b. IfErr {T = RData} (cond b (Ok v) (Err (decode.IncorrectRDataLengthRead read len)))
-    (λ e. UnlessMemory e (NoValue old.message old.index n t))) (λ e. tt) (λ e. no_value t (h.elsewhere (miscounted h.behind c e)))
-data_refused t n (Err decode.Memory) old new read len h c = tt
-data_refused t n (Err (decode.UnknownRecordTypeValue k)) old new read len h c = no_value t h.none
-data_refused t n (Err e) old new read len h c =
-    by_case (read == len) (λ b. IfErr {T = RData} (cond b (Err e) (Err (decode.IncorrectRDataLengthRead read len)))
-    (λ e. UnlessMemory e (NoValue old.message old.index n t))) (λ _. no_value t h.none) (λ _. no_value t h.none)
+data_found : (t : RecordType) {n : ℕ} {old new : Reading} {o r : Result RData DecodeError} → ReadsData t n o old new → Answered n old new o r
+    → IfOk r (λ v. Fills old.message old.index n t v)
+data_found t h memory = tt
+data_found t h (number k) = tt
+data_found t {o = Ok v} h (whole e) = h.here e
+data_found t {o = Err x} h (whole e) = tt
+data_found t h (other some e) = tt
+
+data_after : {n : ℕ} {old new : Reading} {o r : Result RData DecodeError} → Answered n old new o r → OnOk r (new.index ≡ old.index + n)
+data_after memory = tt
+data_after (number k) = tt
+data_after {o = Ok v} (whole e) = e
+data_after {o = Err x} (whole e) = tt
+data_after (other some e) = tt
+
+data_refused : (t : RecordType) {n : ℕ} {old new : Reading} {o r : Result RData DecodeError} → ReadsData t n o old new → Answered n old new o r
+    → IfErr r (λ e. UnlessMemory e (NoValue old.message old.index n t))
+data_refused t h memory = tt
+data_refused t h (number k) = no_value t h.none
+data_refused t {o = Ok v} h (whole e) = tt
+data_refused t {o = Err x} h (whole e) = unless_map x _ _ (no_value t) h.none
+data_refused t {o = Ok v} h (other some e) = no_value t (h.elsewhere e)
+data_refused t {o = Err x} h (other some e) = no_value t (unless_none x h.none (λ q. some (cc q)))
 
 first_never : (kinds : List Kind) (old new : Reading) (k : ℕ) → base.Refusing.FirstLack kinds old (decode.UnknownRecordTypeValue k) new → ⊥
 first_never [] old new k h = h
@@ -177,20 +182,17 @@ own_never types.HTTPS n old new k h = absurd (svcb_never n old new k h)
 own_never types.SVCB n old new k h = absurd (svcb_never n old new k h)
 own_never t n old new k h = absurd (grind arith)
 
-pub data_why : (t : RecordType) (n : ℕ) (o : Result RData DecodeError) (old new : Reading) (read len : ℕ) → ReadsData t n o old new
-    → Counted old new n read len → IfErr o (λ e. UnlessMemory e (OwnRefusal t n old new e))
-    → (IsNeverRead t → (new ≡ old) × (o ≡ Err (decode.UnknownRecordTypeValue (number_of t)))) → IfErr (by_length o read len) (IsRefusal t n old new)
-data_why t n (Ok v) old new read len h c own never =
-    by_case (read == len) (λ b. IfErr {T = RData} (cond b (Ok v) (Err (decode.IncorrectRDataLengthRead read len))) (IsRefusal t n old new)) (λ e. tt)
-    (λ e. inl (miscounted h.behind c e, c.taken, c.wanted))
-data_why t n (Err decode.Memory) old new read len h c own never = tt
-data_why t n (Err (decode.UnknownRecordTypeValue k)) old new read len h c own never = let x = own_never t n old new k own in (x.0, x.1, (never x.0).0)
-data_why t n (Err (decode.IncorrectRDataLengthRead r l)) old new read len h c own never =
-    by_case (read == len) (λ b. IfErr {T = RData} (cond b (Err (decode.IncorrectRDataLengthRead r l)) (Err (decode.IncorrectRDataLengthRead read len)))
-    (IsRefusal t n old new)) (λ e. inr (counted h.behind c e, own)) (λ e. inl (miscounted h.behind c e, c.taken, c.wanted))
-data_why t n (Err x) old new read len h c own never =
-    by_case (read == len) (λ b. IfErr {T = RData} (cond b (Err x) (Err (decode.IncorrectRDataLengthRead read len))) (IsRefusal t n old new))
-    (λ e. (counted h.behind c e, own)) (λ e. inl (miscounted h.behind c e, c.taken, c.wanted))
+data_why : (t : RecordType) {n : ℕ} {old new : Reading} {o r : Result RData DecodeError} → IfErr o (λ e. UnlessMemory e (OwnRefusal t n old new e))
+    → (IsNeverRead t → (new ≡ old) × (o ≡ Err (decode.UnknownRecordTypeValue (number_of t)))) → Answered n old new o r → IfErr r (IsRefusal t n old new)
+data_why t own never memory = tt
+data_why t {n} {old = old} {new = new} own never (number k) = let x = own_never t n old new k own in (x.0, x.1, (never x.0).0)
+data_why t {o = Ok v} own never (whole e) = tt
+data_why t {o = Err decode.Memory} own never (whole e) = tt
+data_why t {n} {old = old} {new = new} {o = Err (decode.UnknownRecordTypeValue k)} own never (whole e) =
+    let x = own_never t n old new k own in (x.0, x.1, (never x.0).0)
+data_why t {o = Err (decode.IncorrectRDataLengthRead a b)} own never (whole e) = inr (e, own)
+data_why t {o = Err x} own never (whole e) = (e, own)
+data_why t own never (other some e) = inl (e, refl, refl)
 
 -- ---- a record's answer, as that of the value that holds it
 
@@ -339,39 +341,21 @@ counted_behind t n (Err e) old new h = h.behind
 pub reads_behind : {t : RecordType} {n : ℕ} {r : Result RData DecodeError} {old new : Reading} → ReadsCounted t n r old new → StaysBehind old new
 reads_behind {t} {n} {r} {old} {new} h = counted_behind t n h.outcome old new h.reads
 
-found_after : (b : Bool) (v : RData) (e : DecodeError) (P : Type 0) → (b ≡ true → P) → OnOk (cond b (Ok v) (Err e)) P
-found_after true v e P f = f refl
-found_after false v e P f = tt
-
-refused_after : (b : Bool) (e x : DecodeError) (P : Type 0) → OnOk {T = RData} (cond b (Err e) (Err x)) P
-refused_after true e x P = tt
-refused_after false e x P = tt
-
-data_after : (t : RecordType) (n : ℕ) (o : Result RData DecodeError) (old new : Reading) (read len : ℕ) → ReadsData t n o old new
-    → Counted old new n read len → OnOk (by_length o read len) (new.index ≡ old.index + n)
-data_after t n (Ok v) old new read len h c = found_after (read == len) v (decode.IncorrectRDataLengthRead read len) _ (counted h.behind c)
-data_after t n (Err decode.Memory) old new read len h c = tt
-data_after t n (Err (decode.UnknownRecordTypeValue k)) old new read len h c = tt
-data_after t n (Err e) old new read len h c = refused_after (read == len) e (decode.IncorrectRDataLengthRead read len) _
-
-own_count : {old new : Reading} {n : ℕ} → Counted old new n (new.index - old.index) n
-own_count = record { taken = refl; wanted = refl }
-
 pub reads_after : {t : RecordType} {n : ℕ} {r : Result RData DecodeError} {old new : Reading} → ReadsCounted t n r old new
     → OnOk r (new.index ≡ old.index + n)
-reads_after {t} {n} {r} {old} {new} h = rw h.counted (data_after t n h.outcome old new (new.index - old.index) n h.reads own_count)
+reads_after {t} {n} {r} {old} {new} h = rw h.counted (data_after (answered n h.outcome (reads_behind h)))
 
 pub reads_found : {t : RecordType} {n : ℕ} {r : Result RData DecodeError} {old new : Reading} → ReadsCounted t n r old new
     → IfOk r (λ v. Fills old.message old.index n t v)
-reads_found {t} {n} {r} {old} {new} h = rw h.counted (data_found t n h.outcome old new (new.index - old.index) n h.reads own_count)
+reads_found {t} {n} {r} {old} {new} h = rw h.counted (data_found t h.reads (answered n h.outcome (reads_behind h)))
 
 pub reads_refused : {t : RecordType} {n : ℕ} {r : Result RData DecodeError} {old new : Reading} → ReadsCounted t n r old new
     → IfErr r (λ e. UnlessMemory e (NoValue old.message old.index n t))
-reads_refused {t} {n} {r} {old} {new} h = rw h.counted (data_refused t n h.outcome old new (new.index - old.index) n h.reads own_count)
+reads_refused {t} {n} {r} {old} {new} h = rw h.counted (data_refused t h.reads (answered n h.outcome (reads_behind h)))
 
 pub reads_why : {t : RecordType} {n : ℕ} {r : Result RData DecodeError} {old new : Reading} → ReadsCounted t n r old new
     → IfErr r (IsRefusal t n old new)
-reads_why {t} {n} {r} {old} {new} h = rw h.counted (data_why t n h.outcome old new (new.index - old.index) n h.reads own_count h.own h.never)
+reads_why {t} {n} {r} {old} {new} h = rw h.counted (data_why t h.own h.never (answered n h.outcome (reads_behind h)))
 
 pub reads_never : {t : RecordType} {n : ℕ} {r : Result RData DecodeError} {old new : Reading} → ReadsCounted t n r old new → IsNeverRead t
     → (new ≡ old) × (r ≡ Err (decode.UnknownRecordTypeValue (number_of t)))

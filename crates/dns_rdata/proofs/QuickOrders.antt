@@ -1,13 +1,13 @@
 -- An order that the fields tell is that of record data.
-use Rattle.std.proofs.Common.{◌≡◌, ◌≢◌, ◌&&◌, ℕ, ◌+◌, ◌<◌, ◌==◌, Bool, true, false, true≢false, if◌then◌else◌, Option, Some, None, IfSome, List, []}
-use Rattle.std.proofs.Common.{◌∷◌, ◌++◌, length, map, take, refl, sym, ap, ◌∙◌, subst, arith}
+use Rattle.std.proofs.Common.{◌≡◌, ◌≢◌, ◌&&◌, ℕ, ◌<◌, ◌==◌, Bool, true, false, true≢false, Option, Some, None, IfSome, List, [], ◌∷◌, ◌++◌, length}
+use Rattle.std.proofs.Common.{map, take, refl, sym, ap, ◌∙◌, subst, arith}
 use Rattle.std.proofs.{lemmas.List.append_cancel_left, lemmas.List.length-append, lemmas.List.take_at, lemmas.Bool.Decides.nat_tests}
 use Rattle.std.specs.{List.flat_map, Cmp.Lexicographic.slice_cmp, FinMap.nat_cmp-IsAntisymmetric, FinMap.slice_cmp-IsAntisymmetric, Ordering.is_eq}
-use Rattle.std.specs.{Ordering.is_gt, Ordering.nat_cmp, Ordering.ordering_then, declared.cmp.Ordering.Ordering}
+use Rattle.std.specs.{Ordering.nat_cmp, Ordering.ordering_then, declared.cmp.Ordering.Ordering}
 use Rattle.std.specs.declared.cmp.Ordering.TheVariants.{Less, Equal, Greater}
-use Rattle.dns_fields.specs.{Equal.values_eq, Pieces.as_piece, Pieces.option_octets, Pieces.piece, Pieces.string, Sorting.put, Sorting.sorted}
+use Rattle.dns_fields.specs.{Equal.values_eq, Pieces.as_piece, Pieces.option_octets, Pieces.piece, Pieces.string, Sorting.sorted}
 use Rattle.dns_fields.specs.Fields.{Kind, Number, Text, Texts, Rest, Value, Values, all_emittable, canonical, field_octets, option_pieces}
-use Rattle.dns_fields.proofs.Equivalences.{values_equiv}
+use Rattle.dns_fields.proofs.{Equivalences.values_equiv, Sorted.octets_cmp, Sorted.length_sorted, Pieces.length-piece}
 use Rattle.dns_pieces.specs.Fronts.{canonical_cmp}
 use Rattle.dns_pieces.proofs.{Comparing.cmp_shared, Comparing.then_kept, Fronts.AllEnd, Fronts.by_fields, Fronts.field_cmp, Fronts.fields_cmp}
 use Rattle.dns_rdata_base.specs.{declared.hinfo.HINFO.HINFO, declared.txt.TXT.TXT}
@@ -21,9 +21,6 @@ use Rattle.dns_rdata.specs.{declared.record_data.RData.RData, Data.data_octets, 
 use Rattle.dns_rdata.specs.{QuickOrders.IfSomeOrder, QuickOrders.IfSomeFieldOrder, Order.rdata_cmp, Ties.equal_is, Ties.rdata_ties}
 
 -- ---- of what ties
-
-same_lists : (a b : List ℕ) → slice_cmp nat_cmp a b ≡ Equal → a ≡ b
-same_lists a b e = slice_cmp-IsAntisymmetric nat_cmp-IsAntisymmetric a b e
 
 first_ties : (o q : Ordering) → ordering_then o q ≡ Equal → o ≡ Equal
 first_ties Less q e = e
@@ -44,7 +41,7 @@ all_tied : (o : Ordering) (kinds : List Kind) (a b : Values kinds) → fields_cm
 all_tied o [] a b e = (e, tt)
 all_tied o (k ∷ kinds) a b e =
     let t = all_tied (ordering_then o (field_cmp k a.0 b.0)) kinds a.1 b.1 e in
-    (first_ties o (field_cmp k a.0 b.0) t.0, (same_lists (field_octets k a.0) (field_octets k b.0) (second_ties o (field_cmp k a.0 b.0) t.0), t.1))
+    (first_ties o (field_cmp k a.0 b.0) t.0, (slice_cmp-IsAntisymmetric nat_cmp-IsAntisymmetric (field_octets k a.0) (field_octets k b.0) (second_ties o (field_cmp k a.0 b.0) t.0), t.1))
 
 pub tied_fields : (kinds : List Kind) (a b : Values kinds) → AllEnd kinds a b → canonical_cmp kinds a b ≡ Equal → AllTied kinds a b
 tied_fields kinds a b h e = (all_tied Equal kinds a b (by_fields kinds a b h ∙ e)).1
@@ -82,12 +79,6 @@ itself s a b e = subst (λ (x : Values s). values_eq s a x ≡ true) e ((values_
 
 -- ---- of record data
 
-less_apart : Less ≢ Equal
-less_apart e = cc e
-
-greater_apart : Greater ≢ Equal
-greater_apart e = cc e
-
 differs : (v w : RData) (s : List Kind) (a b : Values s) (o : Ordering) → fields_of v ≡ record { kinds = s; values = a }
     → fields_of w ≡ record { kinds = s; values = b } → o ≢ Equal → all_emittable s a ≡ true → all_emittable s b ≡ true → o ≡ canonical_cmp s a b → o ≡ rdata_cmp v w
 differs v w s a b o f g n first second e =
@@ -99,8 +90,8 @@ differs v w s a b o f g n first second e =
 is_rdata_cmp : (v w : RData) (s : List Kind) (a b : Values s) (same : Bool) (o : Ordering) → fields_of v ≡ record { kinds = s; values = a }
     → fields_of w ≡ record { kinds = s; values = b } → (same ≡ true → equal v w ≡ true) → IsOrder s a b same o → o ≡ rdata_cmp v w
 is_rdata_cmp v w s a b same Equal f g h k = sym (equal_is (rdata_cmp v w) (sym (rdata_ties v w) ∙ h (k.equal refl)))
-is_rdata_cmp v w s a b same Less f g h k = let n = less_apart in differs v w s a b Less f g n (k.first n) (k.second n) (k.octets n)
-is_rdata_cmp v w s a b same Greater f g h k = let n = greater_apart in differs v w s a b Greater f g n (k.first n) (k.second n) (k.octets n)
+is_rdata_cmp v w s a b same Less f g h k = let n : Less ≢ Equal = λ e. cc e in differs v w s a b Less f g n (k.first n) (k.second n) (k.octets n)
+is_rdata_cmp v w s a b same Greater f g h k = let n : Greater ≢ Equal = λ e. cc e in differs v w s a b Greater f g n (k.first n) (k.second n) (k.octets n)
 
 -- the order of two records is that of two values of their variant
 pub in_variant : {v w v' w' : RData} {s : List Kind} {a b : Values s} (same : Bool) (r : Option Ordering) → v ≡ v' → w ≡ w'
@@ -219,22 +210,19 @@ differing s a b same order (Some o) f g e h = record { equal = λ t. absurd (h.1
 
 -- ---- of options
 
-put_length : (x : List ℕ) (ys : List (List ℕ)) → length (flat_map (λ s. s) (put (slice_cmp nat_cmp) x ys)) ≡ length x + length (flat_map (λ s. s) ys)
-put_length x [] = length-append x []
-put_length x (y ∷ ys) = by (is_gt (slice_cmp nat_cmp x y)) (put_length x ys)
-  where
-    by : (t : Bool) → length (flat_map (λ s. s) (put (slice_cmp nat_cmp) x ys)) ≡ length x + length (flat_map (λ s. s) ys)
-        → length (flat_map (λ s. s) (if t then y ∷ put (slice_cmp nat_cmp) x ys else x ∷ y ∷ ys)) ≡ length x + length (flat_map (λ s. s) (y ∷ ys))
-    by true h = omega (arith, length-append y (flat_map (λ s. s) (put (slice_cmp nat_cmp) x ys)), h, length-append y (flat_map (λ s. s) ys))
-    by false h = length-append x (flat_map (λ s. s) (y ∷ ys))
-
 -- some options have octets
 some_octets : (p : options.OPT.Pair) (ps : List options.OPT.Pair) → 0 < length (canonical options.OPT.opt_shape (options.OPT.opt_fields (p ∷ ps)))
 unfolding field_octets
 some_octets p ps =
     let x = piece (as_piece option_octets (options.OPT.pair_value p)) in
-    let rest = sorted (slice_cmp nat_cmp) (map piece (option_pieces (map options.OPT.pair_value ps))) in
-    omega (arith, length-append (flat_map (λ s. s) (put (slice_cmp nat_cmp) x rest)) [], put_length x rest)
+    let all = map piece (option_pieces (map options.OPT.pair_value (p ∷ ps))) in
+    omega (
+      arith,
+      length-append (flat_map (λ s. s) (sorted octets_cmp all)) [],
+      length_sorted octets_cmp all,
+      length-append x (flat_map (λ s. s) (map piece (option_pieces (map options.OPT.pair_value ps)))),
+      length-piece (as_piece option_octets (options.OPT.pair_value p)),
+    )
 
 before_some : (l : List ℕ) → 0 < length l → Less ≡ slice_cmp nat_cmp [] l
 before_some [] h = absurd (omega (arith, h))

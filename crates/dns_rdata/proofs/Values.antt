@@ -1,6 +1,6 @@
 -- A value of record data is told by its type and its fields.
-use Rattle.std.proofs.Common.{◌≡◌, ◌↔◌, ℕ, ◌+◌, Bool, true, false, ◌&&◌, List, [], ◌∷◌, refl, sym, ap, ◌∙◌, arith}
-use Rattle.std.proofs.lemmas.Bool.Decides.{nat_tests}
+use Rattle.std.proofs.Common.{◌≡◌, ◌↔◌, ℕ, ◌+◌, Bool, true, false, List, [], ◌∷◌, refl, sym, ap, ◌∙◌, arith}
+use Rattle.std.proofs.{lemmas.Bool.Decides.nat_tests, Math.Bool.and-true}
 use Rattle.std.specs.{Bool.Decides, Net.Addr.segments_of, Net.Addr.octets_of}
 use Rattle.dns_fields.specs.Fields.{Kind, Number, Octets, Name, Text, Texts, Rest, Options, Parameters, Bitmap, Value, Values, AllFull, Same}
 use Rattle.dns_fields.specs.Equal.{values_eq}
@@ -33,14 +33,8 @@ use Rattle.dns_rdata.specs.declared.record_data.RData.TheVariants as rdata
 
 some_value : (k : Kind) → Value k
 some_value (Number w) = 0
-some_value (Octets n) = []
 some_value Name = record { labels = []; fully_qualified = true }
-some_value Text = []
-some_value Texts = []
-some_value Rest = []
-some_value Options = []
-some_value Parameters = []
-some_value Bitmap = []
+some_value k = []
 
 value_as : (k l : Kind) → Value l → Value k
 value_as (Number w) (Number x) v = v
@@ -62,14 +56,7 @@ values_as (k ∷ s) (l ∷ t) vs = (value_as k l vs.0, values_as s t vs.1)
 value_as-same : (k : Kind) (v : Value k) → value_as k k v ≡ v
 unfolding value_as
 value_as-same (Number w) v = refl
-value_as-same (Octets n) v = refl
-value_as-same Name v = refl
-value_as-same Text v = refl
-value_as-same Texts v = refl
-value_as-same Rest v = refl
-value_as-same Options v = refl
-value_as-same Parameters v = refl
-value_as-same Bitmap v = refl
+value_as-same k v = refl
 
 pub values_as-same : (s : List Kind) (vs : Values s) → values_as s s vs ≡ vs
 unfolding values_as
@@ -179,10 +166,6 @@ window_value m p n t vs w = record { type = refl; fields = refl; plain = tt }
 
 -- ---- values of one type are equal where their fields are
 
-and_true : (b : Bool) → (b && true) ≡ b
-and_true true = refl
-and_true false = refl
-
 type_itself : (t : RecordType) → record_type_eq t t ≡ true
 type_itself (types.Unknown n) = grind (arith, nat_tests)
 type_itself t = refl
@@ -204,30 +187,30 @@ fields_for t vs = values_as (shape t) (fields_of (value_for t vs)).kinds (fields
 pub equal_values : (t : RecordType) (vs ws : Values (shape t)) → condition t vs → IsPlain (value_for t vs) → IsPlain (value_for t ws)
     → equal (value_for t vs) (value_for t ws) ≡ values_eq (shape t) (fields_for t vs) (fields_for t ws)
 unfolding value_for values_as value_as
-equal_values types.CAA vs ws h a b = and_true _
+equal_values types.CAA vs ws h a b = and-true _
     ∙ equal_keys sets.CAA.caa_key_shape sets.CAA.caa_shape (sets.CAA.caa_keys (caa_from vs)) (sets.CAA.caa_keys (caa_from ws)) (sets.CAA.caa_fields (caa_from vs)) (sets.CAA.caa_fields (caa_from ws))
     (tt, (tt, (tt, (tt, tt)))) (tt, (tt, (tt, (tt, tt)))) (tt, (tt, (tt, tt))) (tt, (tt, (tt, tt)))
     (caa_keys-same (caa_from vs) (caa_from ws) (caa_from-read vs) (caa_from-read ws))
-equal_values types.CERT vs ws h a b = and_true _
+equal_values types.CERT vs ws h a b = and-true _
     ∙ equal_keys certs.CERT.cert_key_shape certs.CERT.cert_shape (certs.CERT.cert_keys (cert_from vs)) (certs.CERT.cert_keys (cert_from ws)) (certs.CERT.cert_fields (cert_from vs)) (certs.CERT.cert_fields (cert_from ws))
     (tt, (tt, (tt, (tt, (tt, (tt, tt)))))) (tt, (tt, (tt, (tt, (tt, (tt, tt)))))) (tt, (tt, (tt, (tt, tt)))) (tt, (tt, (tt, (tt, tt))))
     (cert_keys-same (cert_from vs) (cert_from ws) (cert_from-read vs) (cert_from-read ws))
-equal_values types.CSYNC vs ws h a b = and_true _
+equal_values types.CSYNC vs ws h a b = and-true _
     ∙ equal_keys sets.CSYNC.csync_key_shape sets.CSYNC.csync_shape (sets.CSYNC.csync_keys (csync_from vs)) (sets.CSYNC.csync_keys (csync_from ws)) (sets.CSYNC.csync_fields (csync_from vs))
     (sets.CSYNC.csync_fields (csync_from ws)) (tt, (tt, (tt, (tt, (tt, tt))))) (tt, (tt, (tt, (tt, (tt, tt))))) (tt, (tt, (tt, tt))) (tt, (tt, (tt, tt)))
     (csync_keys-same (csync_from vs) (csync_from ws) (csync_from-read vs) (csync_from-read ws))
-equal_values types.OPT vs ws h a b = and_true _ ∙ opt_equal (options.OPT.opt_from vs) (options.OPT.opt_from ws) a b
-equal_values types.SVCB vs ws h a b = and_true _ ∙ svcb_equal (svcb_from vs) (svcb_from ws) (svcb_from-read vs) (svcb_from-read ws)
-equal_values types.HTTPS vs ws h a b = and_true _ ∙ https_equal (https_from vs) (https_from ws) (https_from-read vs) (https_from-read ws)
-equal_values types.SMIMEA vs ws h a b = and_true _
+equal_values types.OPT vs ws h a b = and-true _ ∙ opt_equal (options.OPT.opt_from vs) (options.OPT.opt_from ws) a b
+equal_values types.SVCB vs ws h a b = and-true _ ∙ svcb_equal (svcb_from vs) (svcb_from ws) (svcb_from-read vs) (svcb_from-read ws)
+equal_values types.HTTPS vs ws h a b = and-true _ ∙ https_equal (https_from vs) (https_from ws) (https_from-read vs) (https_from-read ws)
+equal_values types.SMIMEA vs ws h a b = and-true _
     ∙ equal_keys certs.SMIMEA.smimea_key_shape certs.SMIMEA.smimea_shape (certs.SMIMEA.smimea_keys (smimea_from vs)) (certs.SMIMEA.smimea_keys (smimea_from ws)) (certs.SMIMEA.smimea_fields (smimea_from vs))
     (certs.SMIMEA.smimea_fields (smimea_from ws)) (tt, (tt, (tt, (tt, (tt, (tt, (tt, tt))))))) (tt, (tt, (tt, (tt, (tt, (tt, (tt, tt))))))) (tt, (tt, (tt, (tt, tt))))
     (tt, (tt, (tt, (tt, tt)))) (smimea_keys-same (smimea_from vs) (smimea_from ws) (smimea_from-read vs) (smimea_from-read ws))
-equal_values types.SSHFP vs ws h a b = and_true _
+equal_values types.SSHFP vs ws h a b = and-true _
     ∙ equal_keys certs.SSHFP.sshfp_key_shape certs.SSHFP.sshfp_shape (certs.SSHFP.sshfp_keys (sshfp_from vs)) (certs.SSHFP.sshfp_keys (sshfp_from ws)) (certs.SSHFP.sshfp_fields (sshfp_from vs))
     (certs.SSHFP.sshfp_fields (sshfp_from ws)) (tt, (tt, (tt, (tt, (tt, tt))))) (tt, (tt, (tt, (tt, (tt, tt))))) (tt, (tt, (tt, tt))) (tt, (tt, (tt, tt)))
     (sshfp_keys-same (sshfp_from vs) (sshfp_from ws) (sshfp_from-read vs) (sshfp_from-read ws))
-equal_values types.TLSA vs ws h a b = and_true _
+equal_values types.TLSA vs ws h a b = and-true _
     ∙ equal_keys certs.TLSA.tlsa_key_shape certs.TLSA.tlsa_shape (certs.TLSA.tlsa_keys (tlsa_from vs)) (certs.TLSA.tlsa_keys (tlsa_from ws)) (certs.TLSA.tlsa_fields (tlsa_from vs)) (certs.TLSA.tlsa_fields (tlsa_from ws))
     (tt, (tt, (tt, (tt, (tt, (tt, (tt, tt))))))) (tt, (tt, (tt, (tt, (tt, (tt, (tt, tt))))))) (tt, (tt, (tt, (tt, tt)))) (tt, (tt, (tt, (tt, tt))))
     (tlsa_keys-same (tlsa_from vs) (tlsa_from ws) (tlsa_from-read vs) (tlsa_from-read ws))
@@ -235,4 +218,4 @@ equal_values types.ZERO vs ws h a b = refl
 equal_values types.ANY vs ws h a b = absurd h
 equal_values types.AXFR vs ws h a b = absurd h
 equal_values types.IXFR vs ws h a b = absurd h
-equal_values t vs ws h a b = simp (type_itself, and_true)
+equal_values t vs ws h a b = simp (type_itself, and-true)
