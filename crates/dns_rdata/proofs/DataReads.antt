@@ -248,7 +248,7 @@ unless_other (Err e) P (inl m) = rw m tt
 unless_other (Err e) P (inr h) = unless_all e h
 
 -- what is so of each value that is read
-pub of_read : {X : Type 0} {r : Result X DecodeError} {x : X} (P : X → Type 0) → IfOk r P → r ≡ Ok x → P x
+pub of_read : {X E : Type 0} {r : Result X E} {x : X} (P : X → Type 0) → IfOk r P → r ≡ Ok x → P x
 of_read P h e = subst (λ z. IfOk z P) e h
 
 pub reads_counted : {X : Type 0} {n start : ℕ} {old new : Reading} {r s : Result X DecodeError} (t : RecordType) (f : X → RData) (fields : X → Values (shape t))

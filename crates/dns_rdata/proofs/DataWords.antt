@@ -1,15 +1,17 @@
 -- Words of each type.
-use Rattle.std.proofs.Common.{◌≡◌, ◌≢◌, ℕ, List, [], ◌∷◌, Option, Result, Ok, Err, IfErr, ◌⊎◌, inl, inr, refl, sym, subst, map, length, arith, ◌∙◌}
+use Rattle.std.proofs.Common.{◌↔◌, ◌≡◌, ◌≢◌, ℕ, List, [], ◌∷◌, Option, Result, Ok, Err, IfErr, ◌⊎◌, inl, inr, refl, sym, subst, map, length, arith}
+use Rattle.std.proofs.Common.{◌∙◌}
 use Rattle.std.specs.{Cow.cow_str_bytes, declared.vec.IntoIter.IntoIter, declared.borrow.CowStr.CowStr, declared.alloc.Global.Global, Result.IsErrAnd}
+use Rattle.std.specs.{Result.IfOk, Result.result_map_both}
 use Rattle.std.specs.Vec.Iter.{into_iter_steps, into_iter_items, into_iter_len, into_iter_deque}
 use Rattle.dns_types.specs.{declared.record_type.RecordType.RecordType, declared.error.ParseError.ParseError}
 use Rattle.dns_types.specs.declared.record_type.RecordType.TheVariants as types
 use Rattle.dns_types.specs.declared.error.ParseError.TheVariants as parse
 use Rattle.dns_text.specs.TextWords.{TextWords, NoTextWords}
 use Rattle.dns_words.specs.{Taking.HoldsBehind, Taking.HoldsOfWords, Forms.Row, Forms.word, Printed.cut}
-use Rattle.dns_words.specs.Reads.{UnlessMemory, Decides, TookWords, RefusedWords}
+use Rattle.dns_words.specs.Reads.{UnlessMemory, Decides, TookWords, RefusedWords, ReadsRow}
 use Rattle.dns_fields.specs.{Labels.DomainName, Fields.Values}
-use Rattle.dns_rdata_service.specs.{SVCB.svcb_shape, SVCB.svcb_fields, declared.svcb.SVCB.SVCB, declared.https.HTTPS.HTTPS}
+use Rattle.dns_rdata_service.specs.{SVCB.svcb_shape, SVCB.svcb_fields, HTTPS.https_fields, declared.svcb.SVCB.SVCB, declared.https.HTTPS.HTTPS}
 use Rattle.dns_rdata_service.specs.WordRows.{AreWordsOf, svcb_words as service_words}
 use Rattle.dns_words.proofs.Steps.{holds_map, holds_all, unless_map}
 use Rattle.dns_rdata_base.specs.{NameRecords.name_fields, A.a_fields, AAAA.aaaa_fields, MX.mx_fields, SOA.soa_fields, SRV.srv_fields}
@@ -79,6 +81,24 @@ module _ {S I : Type 0} {gives : I → Option S → I → Type 0} {text : S → 
   -- what is answered of a type that has words
   pub answers : {r : Result RData ParseError} {s : I} {origin : Option DomainName} (t : RecordType) → (HasNoWords t → ⊥) → ReadsDataWords gives text origin t r s → AnswersDataWords gives text origin t r s
   answers t has reads = record { reads = reads; unsupported = λ h. absurd (has h) }
+
+  -- what a service's own relation answers
+  pub by_svcb : {s : I} {q : Result RData ParseError} (origin : Option DomainName) (r : Result SVCB ParseError) → IfOk r (λ x. AreWordsOf gives text x s) → ReadsRow gives text service_words svcb_fields r s
+      → q ≡ result_map_both (λ x. rdata.SVCB x) (λ e. e) r → AnswersDataWords gives text origin types.SVCB q s
+  by_svcb origin (Ok x) own reads e = rw e (answers types.SVCB (λ h. h) (svcb_took origin x own))
+  by_svcb origin (Err y) own reads e = rw e (answers types.SVCB (λ h. h) (svcb_refused origin reads))
+
+  pub by_https : {s : I} {q : Result RData ParseError} (origin : Option DomainName) (r : Result HTTPS ParseError) → IfOk r (λ x. AreWordsOf gives text x.0 s) → ReadsRow gives text service_words https_fields r s
+      → q ≡ result_map_both (λ x. rdata.HTTPS x) (λ e. e) r → AnswersDataWords gives text origin types.HTTPS q s
+  by_https origin (Ok x) own reads e = rw e (answers types.HTTPS (λ h. h) (https_took origin x own))
+  by_https origin (Err y) own reads e = rw e (answers types.HTTPS (λ h. h) (https_refused origin reads))
+
+  -- what a row answers, as the value that holds what was read
+  pub by_row : {X : Type 0} {s : I} {r : Result X ParseError} {q : Result RData ParseError} (origin : Option DomainName) (t : RecordType) (row : Row (shape t)) (f : X → RData) (fields : X → Values (shape t)) → (HasNoWords t → ⊥)
+      → ((v : RData) (words : List (List ℕ)) → StandIn t row v words ↔ AreDataWords origin t v words) → ReadsRow gives text row fields r s
+      → ((x : X) → r ≡ Ok x → IsValue t (fields x) (f x)) → q ≡ result_map_both f (λ e. e) r → AnswersDataWords gives text origin t q s
+  by_row {r = Ok x} origin t row f fields has same reads value e = rw e (answers t has (data_took origin t row (fields x) (f x) (λ words. (same (f x) words).0) (value x refl) reads))
+  by_row {r = Err y} origin t row f fields has same reads value e = rw e (answers t has (data_refused origin t row (λ v words. (same v words).1) reads))
 
   -- and of a type that has none
   pub answers_no_words : {s : I} (origin : Option DomainName) (t : RecordType) → HasNoWords t → AnswersDataWords gives text origin t (Err (parse.UnsupportedRecordType t)) s

@@ -1,13 +1,14 @@
 //! Record data read from words (RFC 1035, 5.1).
 
 ghost use Rattle.std.specs.Prelude.{◌≡◌, ◌⊎◌, None, Err, IfOk, IfErr, map};
-ghost use Rattle.std.specs.{Cow.cow_str_bytes, Iterator.IsFinite, Option.option_copied};
+ghost use Rattle.std.specs.{Cow.cow_str_bytes, Iterator.IsFinite, Option.option_copied, Result.result_map_both};
 ghost use Rattle.dns_rdata.specs.Data.{type_of};
 ghost use Rattle.dns_rdata.specs.DataWords.{AnswersDataWords, ReadsDataWords, ReadsDataText, ReadsDataTextAt, AreDataWords, PrintsBack, HasNoWords};
 ghost use Rattle.dns_text.specs.TextWords.{NoTextWords};
 ghost use Rattle.dns_words.specs.Reads.{Decides, UnlessMemory};
 
 use crate::record_data::RData;
+use crate::traits::RecordData;
 use dns_names_wire::{Name, ParseError, RecordType};
 use dns_rdata_base::{A, AAAA, ANAME, CNAME, HINFO, MX, NAPTR, NS, OPENPGPKEY, PTR, SOA, SRV, TXT};
 use dns_rdata_certs::{CERT, SMIMEA, SSHFP, TLSA};
@@ -31,29 +32,27 @@ impl RData {
         ensures { AnswersDataWords I.next_gives S.text (option_copied origin.entry) record_type result tokens }
     {
         match record_type {
-            RecordType::A => Ok(RData::A(A::from_tokens(tokens)?)),
-            RecordType::AAAA => Ok(RData::AAAA(AAAA::from_tokens(tokens)?)),
-            RecordType::ANAME => Ok(RData::ANAME(ANAME::from_tokens(alloc, tokens, origin)?)),
-            RecordType::CAA => Ok(RData::CAA(CAA::from_tokens(alloc, tokens)?)),
-            RecordType::CERT => Ok(RData::CERT(CERT::from_tokens(alloc, tokens)?)),
-            RecordType::CNAME => Ok(RData::CNAME(CNAME::from_tokens(alloc, tokens, origin)?)),
-            RecordType::CSYNC => Ok(RData::CSYNC(CSYNC::from_tokens(alloc, tokens)?)),
-            RecordType::HINFO => Ok(RData::HINFO(HINFO::from_tokens(alloc, tokens)?)),
-            RecordType::HTTPS => Ok(RData::HTTPS(HTTPS::from_tokens(alloc, tokens)?)),
-            RecordType::MX => Ok(RData::MX(MX::from_tokens(alloc, tokens, origin)?)),
-            RecordType::NAPTR => Ok(RData::NAPTR(NAPTR::from_tokens(alloc, tokens, origin)?)),
-            RecordType::NS => Ok(RData::NS(NS::from_tokens(alloc, tokens, origin)?)),
-            RecordType::OPENPGPKEY => Ok(RData::OPENPGPKEY(OPENPGPKEY::from_tokens(
-                alloc, tokens,
-            )?)),
-            RecordType::PTR => Ok(RData::PTR(PTR::from_tokens(alloc, tokens, origin)?)),
-            RecordType::SMIMEA => Ok(RData::SMIMEA(SMIMEA::from_tokens(alloc, tokens)?)),
-            RecordType::SOA => Ok(RData::SOA(SOA::from_tokens(alloc, tokens, origin)?)),
-            RecordType::SRV => Ok(RData::SRV(SRV::from_tokens(alloc, tokens, origin)?)),
-            RecordType::SSHFP => Ok(RData::SSHFP(SSHFP::from_tokens(alloc, tokens)?)),
-            RecordType::SVCB => Ok(RData::SVCB(SVCB::from_tokens(alloc, tokens)?)),
-            RecordType::TLSA => Ok(RData::TLSA(TLSA::from_tokens(alloc, tokens)?)),
-            RecordType::TXT => Ok(RData::TXT(TXT::from_tokens(alloc, tokens)?)),
+            RecordType::A => wrap(A::from_tokens(tokens)),
+            RecordType::AAAA => wrap(AAAA::from_tokens(tokens)),
+            RecordType::ANAME => wrap(ANAME::from_tokens(alloc, tokens, origin)),
+            RecordType::CAA => wrap(CAA::from_tokens(alloc, tokens)),
+            RecordType::CERT => wrap(CERT::from_tokens(alloc, tokens)),
+            RecordType::CNAME => wrap(CNAME::from_tokens(alloc, tokens, origin)),
+            RecordType::CSYNC => wrap(CSYNC::from_tokens(alloc, tokens)),
+            RecordType::HINFO => wrap(HINFO::from_tokens(alloc, tokens)),
+            RecordType::HTTPS => wrap(HTTPS::from_tokens(alloc, tokens)),
+            RecordType::MX => wrap(MX::from_tokens(alloc, tokens, origin)),
+            RecordType::NAPTR => wrap(NAPTR::from_tokens(alloc, tokens, origin)),
+            RecordType::NS => wrap(NS::from_tokens(alloc, tokens, origin)),
+            RecordType::OPENPGPKEY => wrap(OPENPGPKEY::from_tokens(alloc, tokens)),
+            RecordType::PTR => wrap(PTR::from_tokens(alloc, tokens, origin)),
+            RecordType::SMIMEA => wrap(SMIMEA::from_tokens(alloc, tokens)),
+            RecordType::SOA => wrap(SOA::from_tokens(alloc, tokens, origin)),
+            RecordType::SRV => wrap(SRV::from_tokens(alloc, tokens, origin)),
+            RecordType::SSHFP => wrap(SSHFP::from_tokens(alloc, tokens)),
+            RecordType::SVCB => wrap(SVCB::from_tokens(alloc, tokens)),
+            RecordType::TLSA => wrap(TLSA::from_tokens(alloc, tokens)),
+            RecordType::TXT => wrap(TXT::from_tokens(alloc, tokens)),
             RecordType::ZERO => Ok(RData::ZERO),
             _ => Err(ParseError::UnsupportedRecordType(record_type)),
         }
@@ -142,6 +141,14 @@ impl RData {
         let words = text_words(alloc, text)?;
         read_each(alloc, record_type, words, origin)
     }
+}
+
+// The value that holds what was read.
+#[inline(always)]
+fn wrap<T: RecordData + Drop>(outcome: Result<T, ParseError>) -> Result<RData, ParseError>
+    ensures { result ≡ result_map_both T.wrapped (λ e. e) outcome }
+{
+    Ok(outcome?.into_rdata())
 }
 
 // Reads the words of a list.
