@@ -41,19 +41,19 @@ impl Interpreter for Commands {
 
 /// Calls of the library, or of the crates below the records: a line has a command, the answer that is wanted, and the
 /// command's words.
-enum Calls {
+enum CallsOf {
     Library,
     Wire,
 }
 
-impl Interpreter for Calls {
+impl Interpreter for CallsOf {
     fn difference(&self, alloc: Global, fields: &[String]) -> Result<Option<String>> {
         let [command, wanted, words @ ..] = fields else {
             bail!("a command or an answer is missing");
         };
         let came = match self {
-            Calls::Library => calls::answer(alloc, command.as_str(), words)?,
-            Calls::Wire => wire_calls::answer(alloc, command.as_str(), words)?,
+            CallsOf::Library => calls::answer(alloc, command.as_str(), words)?,
+            CallsOf::Wire => wire_calls::answer(alloc, command.as_str(), words)?,
         };
         if came.as_str() == wanted.as_str() {
             return Ok(None);
@@ -102,6 +102,6 @@ fn main(rt: HostRuntime) -> Result<()> {
     }
     replay(&rt, "rows.tsv", &Commands)?;
     replay(&rt, "real.tsv", &Commands)?;
-    replay(&rt, "calls.tsv", &Calls::Library)?;
-    replay(&rt, "wire.tsv", &Calls::Wire)
+    replay(&rt, "calls.tsv", &CallsOf::Library)?;
+    replay(&rt, "wire.tsv", &CallsOf::Wire)
 }
