@@ -11,7 +11,7 @@ use Rattle.dns_text.specs.TextWords.{TextWords, NoTextWords}
 use Rattle.dns_words.specs.{Taking.HoldsBehind, Taking.HoldsOfWords, Forms.Row, Forms.word, Printed.cut}
 use Rattle.dns_words.specs.Reads.{UnlessMemory, Decides, TookWords, RefusedWords, ReadsRow}
 use Rattle.dns_fields.specs.{Labels.DomainName, Fields.Values}
-use Rattle.dns_rdata_service.specs.{SVCB.svcb_shape, SVCB.svcb_fields, HTTPS.https_fields, declared.svcb.SVCB.SVCB, declared.https.HTTPS.HTTPS}
+use Rattle.dns_rdata_service.specs.{SVCB.svcb_shape, SVCB.svcb_fields, declared.svcb.SVCB.SVCB}
 use Rattle.dns_rdata_service.specs.WordRows.{AreWordsOf, svcb_words as service_words}
 use Rattle.dns_words.proofs.Steps.{holds_map, holds_all, unless_map}
 use Rattle.dns_rdata_base.specs.{NameRecords.name_fields, A.a_fields, AAAA.aaaa_fields, MX.mx_fields, SOA.soa_fields, SRV.srv_fields}
@@ -24,6 +24,10 @@ use Rattle.dns_rdata.specs.DataWords.{ReadsDataWords, AnswersDataWords, ReadsDat
 use Rattle.dns_rdata.specs.declared.record_data.RData.TheVariants as rdata
 use Rattle.dns_rdata.proofs.DataReads.{IsNone}
 
+-- what is so of each value that is read
+pub of_read : {X E : Type 0} {r : Result X E} {x : X} (P : X → Type 0) → IfOk r P → r ≡ Ok x → P x
+of_read P h e = subst (λ z. IfOk z P) e h
+
 -- words of a service give its fields
 own_stands : (x : SVCB) (words : List (List ℕ)) → AreSvcbWords x words → service_words.stand (svcb_fields x) words
 unfolding word
@@ -31,11 +35,11 @@ own_stands x [] d = d
 own_stands x (a ∷ []) d = (d.0, d.1)
 own_stands x (a ∷ b ∷ words) d = (d.0, (d.1.0, (x.svc_params, d.1.1, refl)))
 
-no_svcb : (words : List (List ℕ)) → ((vs : Values svcb_shape) → service_words.stand vs words → ⊥) → (v : RData) → HasSvcbWords v words → ⊥
+pub no_svcb : (words : List (List ℕ)) → ((vs : Values svcb_shape) → service_words.stand vs words → ⊥) → (v : RData) → HasSvcbWords v words → ⊥
 no_svcb words other (rdata.SVCB x) d = other (svcb_fields x) (own_stands x words d)
 no_svcb words other v d = d
 
-no_https : (words : List (List ℕ)) → ((vs : Values svcb_shape) → service_words.stand vs words → ⊥) → (v : RData) → HasHttpsWords v words → ⊥
+pub no_https : (words : List (List ℕ)) → ((vs : Values svcb_shape) → service_words.stand vs words → ⊥) → (v : RData) → HasHttpsWords v words → ⊥
 no_https words other (rdata.HTTPS x) d = other (svcb_fields x.0) (own_stands x.0 words d)
 no_https words other v d = d
 
@@ -62,19 +66,6 @@ module _ {S I : Type 0} {gives : I → Option S → I → Type 0} {text : S → 
   pub data_refused : {e : ParseError} {s : I} (origin : Option DomainName) (t : RecordType) (row : Row (shape t)) → ((v : RData) (words : List (List ℕ)) → AreDataWords origin t v words → StandIn t row v words) → RefusedWords gives text e row s → RefusedDataWords gives text e origin t s
   data_refused {e} origin t row by_row r = record { none = unless_map e _ _ (λ none. holds_map (λ words. (v : RData) → AreDataWords origin t v words → ⊥) (λ words other v d. let st = by_row v words d in other st.values st.stand) none) r.none }
 
-  -- words of a service's own relation
-  pub svcb_took : {s : I} (origin : Option DomainName) (x : SVCB) → AreWordsOf gives text x s → TookDataWords gives text origin types.SVCB (rdata.SVCB x) s
-  svcb_took origin x f = record { type = refl; words = holds_map (λ words. AreDataWords origin types.SVCB (rdata.SVCB x) words) (λ words h. h) f.words }
-
-  pub https_took : {s : I} (origin : Option DomainName) (x : HTTPS) → AreWordsOf gives text x.0 s → TookDataWords gives text origin types.HTTPS (rdata.HTTPS x) s
-  https_took origin x f = record { type = refl; words = holds_map (λ words. AreDataWords origin types.HTTPS (rdata.HTTPS x) words) (λ words h. h) f.words }
-
-  pub svcb_refused : {e : ParseError} {s : I} (origin : Option DomainName) → RefusedWords gives text e service_words s → RefusedDataWords gives text e origin types.SVCB s
-  svcb_refused {e} origin r = record { none = unless_map e _ _ (λ none. holds_map (λ words. (v : RData) → AreDataWords origin types.SVCB v words → ⊥) (λ words other v d. no_svcb words other v d) none) r.none }
-
-  pub https_refused : {e : ParseError} {s : I} (origin : Option DomainName) → RefusedWords gives text e service_words s → RefusedDataWords gives text e origin types.HTTPS s
-  https_refused {e} origin r = record { none = unless_map e _ _ (λ none. holds_map (λ words. (v : RData) → AreDataWords origin types.HTTPS v words → ⊥) (λ words other v d. no_https words other v d) none) r.none }
-
   pub zero_took : {s : I} (origin : Option DomainName) → TookDataWords gives text origin types.ZERO rdata.ZERO s
   zero_took origin = record { type = refl; words = holds_all (λ words. AreDataWords origin types.ZERO rdata.ZERO words) (λ words. record { values = tt; stand = tt; value = record { type = refl; fields = refl; plain = tt } }) }
 
@@ -83,15 +74,12 @@ module _ {S I : Type 0} {gives : I → Option S → I → Type 0} {text : S → 
   answers t has reads = record { reads = reads; unsupported = λ h. absurd (has h) }
 
   -- what a service's own relation answers
-  pub by_svcb : {s : I} {q : Result RData ParseError} (origin : Option DomainName) (r : Result SVCB ParseError) → IfOk r (λ x. AreWordsOf gives text x s) → ReadsRow gives text service_words svcb_fields r s
-      → q ≡ result_map_both (λ x. rdata.SVCB x) (λ e. e) r → AnswersDataWords gives text origin types.SVCB q s
-  by_svcb origin (Ok x) own reads e = rw e (answers types.SVCB (λ h. h) (svcb_took origin x own))
-  by_svcb origin (Err y) own reads e = rw e (answers types.SVCB (λ h. h) (svcb_refused origin reads))
-
-  pub by_https : {s : I} {q : Result RData ParseError} (origin : Option DomainName) (r : Result HTTPS ParseError) → IfOk r (λ x. AreWordsOf gives text x.0 s) → ReadsRow gives text service_words https_fields r s
-      → q ≡ result_map_both (λ x. rdata.HTTPS x) (λ e. e) r → AnswersDataWords gives text origin types.HTTPS q s
-  by_https origin (Ok x) own reads e = rw e (answers types.HTTPS (λ h. h) (https_took origin x own))
-  by_https origin (Err y) own reads e = rw e (answers types.HTTPS (λ h. h) (https_refused origin reads))
+  pub by_own : {X : Type 0} {s : I} {q : Result RData ParseError} (r : Result X ParseError) (fields : X → Values svcb_shape) (origin : Option DomainName) (t : RecordType) (f : X → RData) (service : X → SVCB)
+      → (HasNoWords t → ⊥) → ((x : X) → type_of (f x) ≡ t) → ((x : X) (words : List (List ℕ)) → AreSvcbWords (service x) words → AreDataWords origin t (f x) words)
+      → ((words : List (List ℕ)) → ((vs : Values svcb_shape) → service_words.stand vs words → ⊥) → (v : RData) → AreDataWords origin t v words → ⊥)
+      → IfOk r (λ x. AreWordsOf gives text (service x) s) → ReadsRow gives text service_words fields r s → q ≡ result_map_both f (λ e. e) r → AnswersDataWords gives text origin t q s
+  by_own (Ok x) fields origin t f service has type are none own reads e = rw e (answers t has (record { type = type x; words = holds_map (λ words. AreDataWords origin t (f x) words) (are x) own.words }))
+  by_own (Err y) fields origin t f service has type are none own reads e = rw e (answers t has (record { none = unless_map y _ _ (holds_map (λ words. (v : RData) → AreDataWords origin t v words → ⊥) none) reads.none }))
 
   -- what a row answers, as the value that holds what was read
   pub by_row : {X : Type 0} {s : I} {r : Result X ParseError} {q : Result RData ParseError} (origin : Option DomainName) (t : RecordType) (row : Row (shape t)) (f : X → RData) (fields : X → Values (shape t)) → (HasNoWords t → ⊥)

@@ -206,6 +206,7 @@ impl RData {
     }
 
     // The whole order: by the canonical octets, then by type, then by variant, then by the fields.
+    #[tactic(auto, unfolding(crate::specs::QuickOrders::TellsOrder))]
     fn cmp_all(&self, other: &RData) -> Ordering
         ensures { result ≡ rdata_cmp self.now other.now }
     {

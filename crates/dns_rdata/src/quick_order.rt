@@ -1,22 +1,21 @@
 //! The order of two values of one variant by their fields, where these tell it without a cursor.
 
-ghost use Rattle.std.specs.Prelude.{◌≡◌, ◌≢◌, ◌∷◌, [], IfSome, IsTrue, length, true};
+ghost use Rattle.std.specs.Prelude.{◌≡◌, ◌&&◌, ◌∷◌, [], IfSome, IsTrue, length, true};
 ghost use Rattle.std.specs.declared.cmp.Ordering.TheVariants.{Equal};
-ghost use Rattle.dns_fields.specs.{Fields.Rest, Equal.values_eq};
+ghost use Rattle.dns_fields.specs.{Fields.Rest, Fields.all_emittable, Equal.values_eq};
+ghost use Rattle.dns_pieces.specs.Fronts.{canonical_cmp};
 ghost use Rattle.dns_rdata_base.specs.{HINFO.hinfo_shape, HINFO.hinfo_fields, NAPTR.naptr_shape, NAPTR.naptr_fields, TXT.txt_shape, TXT.txt_fields};
-ghost use Rattle.dns_rdata_certs.specs.{CERT.cert_key_shape, CERT.cert_keys, CERT.cert_shape, CERT.cert_fields, CertAlgorithm.cert_algorithm_number};
-ghost use Rattle.dns_rdata_certs.specs.{CertType.cert_type_number, CertUsage.cert_usage_number, FingerprintType.fingerprint_type_number};
-ghost use Rattle.dns_rdata_certs.specs.{Matching.matching_number, Selector.selector_number, SshfpAlgorithm.sshfp_algorithm_number};
+ghost use Rattle.dns_rdata_certs.specs.CERT.{cert_key_shape, cert_keys, cert_shape, cert_fields};
 ghost use Rattle.dns_rdata_certs.specs.SSHFP.{sshfp_key_shape, sshfp_keys, sshfp_shape, sshfp_fields};
 ghost use Rattle.dns_rdata_certs.specs.TLSA.{tlsa_key_shape, tlsa_keys, tlsa_shape, tlsa_fields};
 ghost use Rattle.dns_rdata_options.specs.{OPT.opt_shape, OPT.opt_fields, Order.opt_eq};
 ghost use Rattle.dns_rdata_service.specs.SVCB.{svcb_shape, svcb_fields, svcb_key_shape, svcb_keys};
 ghost use Rattle.dns_rdata_sets.specs.CAA.{caa_shape, caa_fields, caa_key_shape, caa_keys};
-ghost use Rattle.dns_rdata_sets.specs.CSYNC.{csync_shape, csync_fields, csync_key_shape, csync_keys};
-ghost use Rattle.dns_rdata.specs.{QuickOrders.IfSomeFieldOrder, QuickOrders.IfSomeOrder, Order.rdata_cmp};
+ghost use Rattle.dns_rdata.specs.{Data.fields_by, Data.fields_of, Equal.equal, QuickOrders.IfSomeFieldOrder, QuickOrders.IfSomeOrder, QuickOrders.TellsOrder};
 
 use crate::record_data::RData;
-use dns_names_wire::SmallOctets;
+use crate::traits::RecordData;
+use dns_names_wire::{Record, SmallOctets};
 use dns_rdata_base::order::{
     a_order, aaaa_order, hinfo_order, mx_order, name_order, naptr_order, rest_order, soa_order,
     srv_order, txt_order,
@@ -31,17 +30,50 @@ use dns_rdata_options::steps::opt_is_emittable;
 use dns_rdata_service::SVCB;
 use dns_rdata_service::order::svcb_front;
 use dns_rdata_service::steps::svcb_is_emittable;
+use dns_rdata_sets::CAA;
 use dns_rdata_sets::order::{caa_order, csync_order};
 use dns_rdata_sets::steps::caa_is_emittable;
-use dns_rdata_sets::{CAA, CSYNC};
 use std::cmp::Ordering;
 
-// The order that was found. `None` where it ties two values that are not equal.
+// The order of two records, as that of the values that hold them.
+#[inline(always)]
+fn of_values<T: Record + RecordData + PartialEq>(
+    found: Option<Ordering>,
+    a: &T,
+    b: &T,
+) -> Option<Ordering>
+    requires order { IfSomeOrder T.facts.kinds (T.facts.fields a.now) (T.facts.fields b.now) (T.eq a.now b.now) found }
+    requires first { fields_of (T.wrapped a.now) ≡ fields_by T.facts a.now }
+    requires second { fields_of (T.wrapped b.now) ≡ fields_by T.facts b.now }
+    requires equal { equal (T.wrapped a.now) (T.wrapped b.now) ≡ (T.eq a.now b.now && true) }
+    ensures { TellsOrder result (T.wrapped a.now) (T.wrapped b.now) }
+{
+    let _ = a;
+    let _ = b;
+    found
+}
+
+// The order of two records that can be emitted, as it was found. `None` where it ties two that are not equal.
 #[inline]
-fn unless_tied<T: PartialEq>(order: Ordering, a: &T, b: &T) -> Option<Ordering>
-    ensures { IfSome result (λ o. (o ≡ order) × (o ≡ Equal → T.eq a.now b.now ≡ true)) }
+fn unless_tied<T: Record + PartialEq>(order: Ordering, a: &T, b: &T) -> Option<Ordering>
+    requires order { order ≡ canonical_cmp T.facts.kinds (T.facts.fields a.now) (T.facts.fields b.now) }
+    requires first { all_emittable T.facts.kinds (T.facts.fields a.now) ≡ true }
+    requires second { all_emittable T.facts.kinds (T.facts.fields b.now) ≡ true }
+    ensures { IfSomeOrder T.facts.kinds (T.facts.fields a.now) (T.facts.fields b.now) (T.eq a.now b.now) result }
 {
     if order.is_ne() || a == b {
+        Some(order)
+    } else {
+        None
+    }
+}
+
+// The order that was found. `None` where it ties and the fields in front are not the same.
+#[inline]
+fn unless_other(order: Ordering, same: bool) -> Option<Ordering>
+    ensures { IfSome result (λ o. (o ≡ order) × (o ≡ Equal → same ≡ true)) }
+{
+    if order.is_ne() || same {
         Some(order)
     } else {
         None
@@ -126,80 +158,52 @@ fn caa_quick_cmp(a: &CAA, b: &CAA) -> Option<Ordering>
     Some(order)
 }
 
-// The order of two CSYNC. It is not found where two records tie that are not equal.
-#[inline]
-fn csync_quick_cmp(a: &CSYNC, b: &CSYNC) -> Option<Ordering>
-    ensures { IfSomeOrder csync_shape (csync_fields a.now) (csync_fields b.now) (values_eq csync_key_shape (csync_keys a.now) (csync_keys b.now)) result }
-{
-    unless_tied(csync_order(a, b), a, b)
-}
-
-// The order that was found. `None` where it ties.
-#[inline]
-fn if_differing(order: Ordering) -> Option<Ordering>
-    ensures { IfSome result (λ o. (o ≡ order) × (o ≢ Equal)) }
-{
-    if order.is_ne() { Some(order) } else { None }
-}
-
 // Whether two CERT have equal fields in front of the certificate.
 #[inline]
 fn is_cert_front_same(a: &CERT, b: &CERT) -> bool
-    ensures numbers { IsTrue result → (cert_type_number a.now.cert_type ≡ cert_type_number b.now.cert_type) × (a.now.key_tag ≡ b.now.key_tag) × (cert_algorithm_number a.now.algorithm ≡ cert_algorithm_number b.now.algorithm) }
-    ensures equal { IsTrue result → a.now.cert_data ≡ b.now.cert_data → values_eq cert_key_shape (cert_keys a.now) (cert_keys b.now) ≡ true }
+    ensures { IsTrue result → a.now.cert_data ≡ b.now.cert_data → values_eq cert_key_shape (cert_keys a.now) (cert_keys b.now) ≡ true }
 {
     a.cert_type == b.cert_type && a.key_tag == b.key_tag && a.algorithm == b.algorithm
 }
 
-// The order of two CERT: by the octets of the certificate where the fields in front are equal.
+// The order of two CERT, whose octets tell the certificate and not the other fields.
 #[inline]
 fn cert_quick_cmp(a: &CERT, b: &CERT) -> Option<Ordering>
     ensures { IfSomeOrder cert_shape (cert_fields a.now) (cert_fields b.now) (values_eq cert_key_shape (cert_keys a.now) (cert_keys b.now)) result }
 {
-    if is_cert_front_same(a, b) {
-        return Some(rest_order(a.cert_data.as_slice(), b.cert_data.as_slice()));
-    }
-    if_differing(cert_order(a, b))
+    unless_other(cert_order(a, b), is_cert_front_same(a, b))
 }
 
 // Whether two SSHFP have equal fields in front of the fingerprint.
 #[inline]
 fn is_sshfp_front_same(a: &SSHFP, b: &SSHFP) -> bool
-    ensures numbers { IsTrue result → (sshfp_algorithm_number a.now.algorithm ≡ sshfp_algorithm_number b.now.algorithm) × (fingerprint_type_number a.now.fingerprint_type ≡ fingerprint_type_number b.now.fingerprint_type) }
-    ensures equal { IsTrue result → a.now.fingerprint ≡ b.now.fingerprint → values_eq sshfp_key_shape (sshfp_keys a.now) (sshfp_keys b.now) ≡ true }
+    ensures { IsTrue result → a.now.fingerprint ≡ b.now.fingerprint → values_eq sshfp_key_shape (sshfp_keys a.now) (sshfp_keys b.now) ≡ true }
 {
     a.algorithm == b.algorithm && a.fingerprint_type == b.fingerprint_type
 }
 
-// The order of two SSHFP: by the octets of the fingerprint where the fields in front are equal.
+// The order of two SSHFP, whose octets tell the fingerprint and not the other fields.
 #[inline]
 fn sshfp_quick_cmp(a: &SSHFP, b: &SSHFP) -> Option<Ordering>
     ensures { IfSomeOrder sshfp_shape (sshfp_fields a.now) (sshfp_fields b.now) (values_eq sshfp_key_shape (sshfp_keys a.now) (sshfp_keys b.now)) result }
 {
-    if is_sshfp_front_same(a, b) {
-        return Some(rest_order(a.fingerprint.as_slice(), b.fingerprint.as_slice()));
-    }
-    if_differing(sshfp_order(a, b))
+    unless_other(sshfp_order(a, b), is_sshfp_front_same(a, b))
 }
 
 // Whether two TLSA have equal fields in front of the certificate.
 #[inline]
 fn is_tlsa_front_same(a: &TLSA, b: &TLSA) -> bool
-    ensures numbers { IsTrue result → (cert_usage_number a.now.cert_usage ≡ cert_usage_number b.now.cert_usage) × (selector_number a.now.selector ≡ selector_number b.now.selector) × (matching_number a.now.matching ≡ matching_number b.now.matching) }
-    ensures equal { IsTrue result → a.now.cert_data ≡ b.now.cert_data → values_eq tlsa_key_shape (tlsa_keys a.now) (tlsa_keys b.now) ≡ true }
+    ensures { IsTrue result → a.now.cert_data ≡ b.now.cert_data → values_eq tlsa_key_shape (tlsa_keys a.now) (tlsa_keys b.now) ≡ true }
 {
     a.cert_usage == b.cert_usage && a.selector == b.selector && a.matching == b.matching
 }
 
-// The order of two TLSA: by the octets of the certificate where the fields in front are equal.
+// The order of two TLSA, whose octets tell the certificate and not the other fields.
 #[inline]
 fn tlsa_quick_cmp(a: &TLSA, b: &TLSA) -> Option<Ordering>
     ensures { IfSomeOrder tlsa_shape (tlsa_fields a.now) (tlsa_fields b.now) (values_eq tlsa_key_shape (tlsa_keys a.now) (tlsa_keys b.now)) result }
 {
-    if is_tlsa_front_same(a, b) {
-        return Some(rest_order(a.cert_data.as_slice(), b.cert_data.as_slice()));
-    }
-    if_differing(tlsa_order(a, b))
+    unless_other(tlsa_order(a, b), is_tlsa_front_same(a, b))
 }
 
 // The order of two SVCB. It is found where the first parameters that differ decide it, or where none differ.
@@ -247,40 +251,67 @@ fn opt_quick_cmp(a: &OPT, b: &OPT) -> Option<Ordering>
     }
 }
 
+// No order that is found.
+#[inline(always)]
+#[tactic(auto, unfolding(crate::specs::QuickOrders::TellsOrder))]
+fn untold(a: &RData, b: &RData) -> Option<Ordering>
+    ensures { TellsOrder result a.now b.now }
+{
+    let _ = a;
+    let _ = b;
+    None
+}
+
+// Matches two values of one variant. Of the records that are named first the order tells all but ties; of the others it
+// is found as it is given.
+macro_rules! quick_each {
+    (
+        ($first:expr, $second:expr), ($a:ident, $b:ident), [$($tied:ident => $order:expr,)+], [$($record:ident => $found:expr,)+]
+    ) => {
+        match ($first, $second) {
+            $((RData::$tied($a), RData::$tied($b)) => of_values(unless_tied($order, $a, $b), $a, $b),)+
+            $((RData::$record($a), RData::$record($b)) => of_values($found, $a, $b),)+
+            _ => untold($first, $second),
+        }
+    };
+}
+
 impl RData {
     // The order of two values of one variant, where their fields tell it.
     #[inline]
     pub(crate) fn quick_cmp(&self, other: &RData) -> Option<Ordering>
-        ensures { IfSome result (λ o. o ≡ rdata_cmp self.now other.now) }
+        ensures { TellsOrder result self.now other.now }
     {
-        match (self, other) {
-            (RData::A(a), RData::A(b)) => unless_tied(a_order(a, b), a, b),
-            (RData::AAAA(a), RData::AAAA(b)) => unless_tied(aaaa_order(a, b), a, b),
-            (RData::ANAME(a), RData::ANAME(b)) => unless_tied(name_order(&a.0, &b.0), a, b),
-            (RData::CAA(a), RData::CAA(b)) => caa_quick_cmp(a, b),
-            (RData::CERT(a), RData::CERT(b)) => cert_quick_cmp(a, b),
-            (RData::CNAME(a), RData::CNAME(b)) => unless_tied(name_order(&a.0, &b.0), a, b),
-            (RData::CSYNC(a), RData::CSYNC(b)) => csync_quick_cmp(a, b),
-            (RData::HINFO(a), RData::HINFO(b)) => hinfo_quick_cmp(a, b),
-            (RData::HTTPS(a), RData::HTTPS(b)) => svcb_quick_cmp(&a.0, &b.0),
-            (RData::MX(a), RData::MX(b)) => unless_tied(mx_order(a, b), a, b),
-            (RData::NAPTR(a), RData::NAPTR(b)) => naptr_quick_cmp(a, b),
-            (RData::NULL(a), RData::NULL(b)) => rest_quick_cmp(&a.anything, &b.anything),
-            (RData::NS(a), RData::NS(b)) => unless_tied(name_order(&a.0, &b.0), a, b),
-            (RData::OPENPGPKEY(a), RData::OPENPGPKEY(b)) => rest_quick_cmp(
-                &a.public_key,
-                &b.public_key,
-            ),
-            (RData::OPT(a), RData::OPT(b)) => opt_quick_cmp(a, b),
-            (RData::PTR(a), RData::PTR(b)) => unless_tied(name_order(&a.0, &b.0), a, b),
-            (RData::SMIMEA(a), RData::SMIMEA(b)) => tlsa_quick_cmp(&a.0, &b.0),
-            (RData::SOA(a), RData::SOA(b)) => unless_tied(soa_order(a, b), a, b),
-            (RData::SRV(a), RData::SRV(b)) => unless_tied(srv_order(a, b), a, b),
-            (RData::SSHFP(a), RData::SSHFP(b)) => sshfp_quick_cmp(a, b),
-            (RData::SVCB(a), RData::SVCB(b)) => svcb_quick_cmp(a, b),
-            (RData::TLSA(a), RData::TLSA(b)) => tlsa_quick_cmp(a, b),
-            (RData::TXT(a), RData::TXT(b)) => txt_quick_cmp(a, b),
-            _ => None,
-        }
+        quick_each!(
+            (self, other),
+            (a, b),
+            [
+                A => a_order(a, b),
+                AAAA => aaaa_order(a, b),
+                ANAME => name_order(&a.0, &b.0),
+                CNAME => name_order(&a.0, &b.0),
+                CSYNC => csync_order(a, b),
+                MX => mx_order(a, b),
+                NS => name_order(&a.0, &b.0),
+                PTR => name_order(&a.0, &b.0),
+                SOA => soa_order(a, b),
+                SRV => srv_order(a, b),
+            ],
+            [
+                CAA => caa_quick_cmp(a, b),
+                CERT => cert_quick_cmp(a, b),
+                HINFO => hinfo_quick_cmp(a, b),
+                HTTPS => svcb_quick_cmp(&a.0, &b.0),
+                NAPTR => naptr_quick_cmp(a, b),
+                NULL => rest_quick_cmp(&a.anything, &b.anything),
+                OPENPGPKEY => rest_quick_cmp(&a.public_key, &b.public_key),
+                OPT => opt_quick_cmp(a, b),
+                SMIMEA => tlsa_quick_cmp(&a.0, &b.0),
+                SSHFP => sshfp_quick_cmp(a, b),
+                SVCB => svcb_quick_cmp(a, b),
+                TLSA => tlsa_quick_cmp(a, b),
+                TXT => txt_quick_cmp(a, b),
+            ]
+        )
     }
 }

@@ -1,13 +1,16 @@
 //! The data of a record of any type.
 
-ghost use Rattle.std.specs.Prelude.{◌≡◌, ◌≢◌, ◌+◌, ◌-◌, ◌<◌, ◌++◌, ℕ, List, length as size, IsTrue, ◌↔◌, Some, Err, IfOk, IfErr, OnOk};
+ghost use Rattle.std.specs.Prelude.{◌≡◌, ◌≢◌, ◌+◌, ◌-◌, ◌<◌, ◌++◌, ℕ, List, length as size, IsTrue, ◌↔◌, Some, Result, Err, IfOk, IfErr, OnOk};
 ghost use Rattle.dns_types.specs.RecordTypes.{number_of};
 ghost use Rattle.dns_names_wire.specs.Words.{StaysBehind, UnlessMemory, EmitsAs, Extends, Keeps, IsMessage};
-ghost use Rattle.dns_rdata.specs.{Data.IsNeverRead, Refusals.IsRefusal, Refusals.by_length as answer_by_length};
+ghost use Rattle.dns_types.specs.declared.error.ProtoError.{ProtoError as ProtoErrorValue};
+ghost use Rattle.dns_names_wire.specs.State.{Writing};
+ghost use Rattle.dns_rdata.specs.Data.{EmitsData, IsNeverRead, fields_of, mode_for};
+ghost use Rattle.dns_rdata.specs.Refusals.{IsRecordOf, IsRefusal, ReadsCounted, by_length as answer_by_length};
 
 use crate::traits::RecordData;
 use dns_names_wire::{
-    BinDecoder, BinEncodable, BinEncoder, DecodeError, ProtoError, RDataEncoding,
+    BinDecoder, BinEncodable, BinEncoder, DecodeError, EncodesFields, ProtoError, RDataEncoding,
     RecordDataDecodable, RecordType, Restrict, emit_in,
 };
 use dns_rdata_base::{
@@ -131,18 +134,16 @@ macro_rules! equal_each {
     };
 }
 
-// Matches the type of the data: the arms that are given first, and then one for each record, which reads it, counts the
-// octets that were taken, and returns.
+// Matches the type of the data: the arms that are given first, and then one for each record, which reads it and returns.
 macro_rules! read_each {
     (
-        ($record_type:expr, $decoder:ident, $start:ident, $length:ident, $($pattern:pat => $other:expr),+; $code:ident => $last:expr)
+        ($record_type:expr, $decoder:ident, $length:ident, $($pattern:pat => $other:expr),+; $code:ident => $last:expr)
         $($record:ident)+
     ) => {
         match $record_type {
             $($pattern => $other,)+
             $(RecordType::$record => {
-                let data = $record::read_data($decoder, $length);
-                return Ok(RData::$record(by_length(data, $decoder, $start, $length)?));
+                return read_record::<$record>(RecordType::$record, $decoder, $length);
             })+
             $code => $last,
         }
@@ -219,8 +220,6 @@ impl RData {
     ///     RData::read(&mut decoder, RecordType::A, Restrict::new(4))
     /// }
     /// ```
-    // Each type counts the octets of its own record and returns by itself: a value that goes through one place for all of
-    // them is copied there, and so it is where it is handed on by another function.
     #[inline(never)]
     pub fn read(
         decoder: &mut BinDecoder<'_>,
@@ -242,19 +241,51 @@ impl RData {
         // What is read can be emitted: it is refused for memory or for buffer space alone.
         ensures emittable { IfOk result IsEmittable }
     {
-        let start = decoder.index();
-        read_each!(record_type, decoder, start, length,
-            RecordType::ZERO => return by_length(Ok(RData::ZERO), decoder, start, length),
+        RData::read_by_type(decoder, record_type, length)
+    }
+
+    // Reads the data of a type. Each type counts the octets of its own record and returns by itself: a value that goes
+    // through one place for all of them is copied there, and so it is where it is handed on by another function.
+    #[inline(always)]
+    fn read_by_type(
+        decoder: &mut BinDecoder<'_>,
+        record_type: RecordType,
+        length: Restrict<u16>,
+    ) -> Result<RData, DecodeError>
+        ensures { ReadsCounted record_type length result decoder.old decoder.new }
+    {
+        read_each!(record_type, decoder, length,
+            RecordType::ZERO => {
+                let start = decoder.index();
+                return by_length(Ok(RData::ZERO), decoder, start, length);
+            },
             RecordType::ANY | RecordType::AXFR | RecordType::IXFR => {
                 return Err(DecodeError::UnknownRecordTypeValue(record_type.into()));
             };
             code => {
+                let start = decoder.index();
                 let data = NULL::read_data(decoder, length);
                 let rdata = by_length(data, decoder, start, length)?;
                 return Ok(RData::Unknown { code, rdata });
             }
         )
     }
+}
+
+// Reads the record of a type, and counts the octets that were taken.
+#[inline(always)]
+fn read_record<T: RecordDataDecodable + RecordData + Drop>(
+    record_type: RecordType,
+    decoder: &mut BinDecoder<'_>,
+    length: Restrict<u16>,
+) -> Result<RData, DecodeError>
+    requires { IsRecordOf T.facts T.wrapped record_type }
+    ensures { ReadsCounted record_type length result decoder.old decoder.new }
+{
+    let _ = record_type;
+    let start = decoder.index();
+    let data = T::read_data(decoder, length);
+    Ok(by_length(data, decoder, start, length)?.into_rdata())
 }
 
 // What reading answers that began at this place, by how many octets were taken of a length.
@@ -305,6 +336,7 @@ impl BinEncodable for RData {
     ///     Ok(())
     /// }
     /// ```
+    #[tactic(auto, unfolding(crate::specs::Data::EmitsData))]
     fn emit(&self, encoder: &mut BinEncoder<'_>) -> Result<(), ProtoError>
         ensures emits { EmitsAs (mode_for encoder.old.mode self.now) (fields_of self.now).kinds (fields_of self.now).values result encoder.old encoder.new }
         ensures keeps { Keeps encoder.old encoder.new }
@@ -324,7 +356,7 @@ impl BinEncodable for RData {
 }
 
 impl RData {
-    ghost use Rattle.dns_rdata.specs.{Data.IsEmittable, Data.fields_of, Data.mode_for, Laws.ReadsBack, WholeOctets.whole_data};
+    ghost use Rattle.dns_rdata.specs.{Data.EmitsData, Data.IsEmittable, Data.fields_of, Data.mode_for, Laws.ReadsBack, WholeOctets.whole_data};
 
     /// Appends the octets of the value, its names whole and with their letters, whatever the mode of the encoder: no name
     /// ends by a pointer, so the octets mean the same at any place of any message. Refused as by
@@ -341,6 +373,7 @@ impl RData {
     ///     Ok(())
     /// }
     /// ```
+    #[tactic(auto, unfolding(crate::specs::Data::EmitsData))]
     pub fn emit_whole(&self, encoder: &mut BinEncoder<'_>) -> Result<(), ProtoError>
         ensures emits { EmitsAs RDataEncoding.Other (fields_of self.now).kinds (fields_of self.now).values result encoder.old encoder.new }
         // What is appended depends on the value alone.
@@ -352,40 +385,77 @@ impl RData {
         ensures fits { OnOk result (IsEmittable self.now) }
         ensures unfit { IfErr result (λ e. IsMessage e → ¬ (IsEmittable self.now)) }
     {
-        let earlier = encoder.with_rdata_behavior(RDataEncoding::Other);
         let outcome = self.emit_uncompressed(encoder);
-        encoder.with_rdata_behavior(earlier);
         // Called for its clauses: what was written is octets.
         let _written = encoder.len();
         outcome
     }
 
-    // Appends the octets of the value, its names whole.
+    // Appends the octets of the value, its names whole, whatever the mode.
     fn emit_uncompressed(&self, encoder: &mut BinEncoder<'_>) -> Result<(), ProtoError>
+        ensures { EmitsData RDataEncoding.Other self.now result encoder.old encoder.new }
+    {
+        let earlier = encoder.with_rdata_behavior(RDataEncoding::Other);
+        let outcome = self.emit_other(encoder);
+        encoder.with_rdata_behavior(earlier);
+        outcome
+    }
+
+    // The same in the mode for it.
+    fn emit_other(&self, encoder: &mut BinEncoder<'_>) -> Result<(), ProtoError>
         requires { encoder.old.mode ≡ RDataEncoding.Other }
-        ensures { EmitsAs RDataEncoding.Other (fields_of self.now).kinds (fields_of self.now).values result encoder.old encoder.new }
+        ensures { EmitsData RDataEncoding.Other self.now result encoder.old encoder.new }
     {
         match self {
-            RData::CNAME(x) => return emit_in(RDataEncoding::Other, x, encoder),
-            RData::MX(x) => return emit_in(RDataEncoding::Other, x, encoder),
-            RData::NAPTR(x) => return emit_in(RDataEncoding::Other, x, encoder),
-            RData::NS(x) => return emit_in(RDataEncoding::Other, x, encoder),
-            RData::PTR(x) => return emit_in(RDataEncoding::Other, x, encoder),
-            RData::SOA(x) => return emit_in(RDataEncoding::Other, x, encoder),
-            RData::SRV(x) => return emit_in(RDataEncoding::Other, x, encoder),
+            RData::CNAME(x) => return emit_whole_record(x, encoder),
+            RData::MX(x) => return emit_whole_record(x, encoder),
+            RData::NAPTR(x) => return emit_whole_record(x, encoder),
+            RData::NS(x) => return emit_whole_record(x, encoder),
+            RData::PTR(x) => return emit_whole_record(x, encoder),
+            RData::SOA(x) => return emit_whole_record(x, encoder),
+            RData::SRV(x) => return emit_whole_record(x, encoder),
             _ => return self.emit_by_type(encoder),
         }
     }
 
     // Appends the octets of the value.
     fn emit_by_type(&self, encoder: &mut BinEncoder<'_>) -> Result<(), ProtoError>
-        ensures { EmitsAs (mode_for encoder.old.mode self.now) (fields_of self.now).kinds (fields_of self.now).values result encoder.old encoder.new }
+        ensures { EmitsData (mode_for encoder.old.mode self.now) self.now result encoder.old encoder.new }
     {
-        each!(self, x => return x.emit(encoder),
+        each!(self, x => return emit_record(x, encoder),
             RData::Unknown { rdata, .. } => return rdata.emit(encoder),
-            RData::Update0(_) | RData::ZERO => return Ok(()),
+            RData::Update0(_) => return Ok(()),
+            RData::ZERO => return Ok(()),
         )
     }
+}
+
+// Appends the octets of a record, which are those of the value that holds it.
+#[inline(always)]
+#[tactic(auto, unfolding(crate::specs::Data::EmitsData))]
+fn emit_record<T: BinEncodable + RecordData>(
+    value: &T,
+    encoder: &mut BinEncoder<'_>,
+) -> Result<(), ProtoError>
+    requires { (r : Result (Unit {0}) ProtoErrorValue) (old new : Writing) → T.emits value.now r old new
+        → EmitsAs (mode_for old.mode (T.wrapped value.now)) (fields_of (T.wrapped value.now)).kinds (fields_of (T.wrapped value.now)).values r old new }
+    ensures { EmitsData (mode_for encoder.old.mode (T.wrapped value.now)) (T.wrapped value.now) result encoder.old encoder.new }
+{
+    value.emit(encoder)
+}
+
+// Appends the octets of a record, its names whole.
+#[inline(always)]
+#[tactic(auto, unfolding(crate::specs::Data::EmitsData))]
+fn emit_whole_record<T: EncodesFields + RecordData>(
+    value: &T,
+    encoder: &mut BinEncoder<'_>,
+) -> Result<(), ProtoError>
+    requires { (r : Result (Unit {0}) ProtoErrorValue) (old new : Writing) → EmitsAs RDataEncoding.Other T.facts.kinds (T.facts.fields value.now) r old new
+        → EmitsAs RDataEncoding.Other (fields_of (T.wrapped value.now)).kinds (fields_of (T.wrapped value.now)).values r old new }
+    ensures { EmitsData RDataEncoding.Other (T.wrapped value.now) result encoder.old encoder.new }
+{
+    emit_in(RDataEncoding::Other, value, encoder)
 }
 
 impl RData {

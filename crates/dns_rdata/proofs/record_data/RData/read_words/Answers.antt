@@ -1,8 +1,8 @@
 use Rattle.std.proofs.Common.{refl}
 use Rattle.dns_types.specs.declared.record_type.RecordType.TheVariants as types
 use Rattle.dns_rdata.specs.declared.record_data.RData.TheVariants as rdata
-use Rattle.dns_rdata.proofs.DataReads.{IsNone, of_read}
-use Rattle.dns_rdata.proofs.DataWords.{word_types, has_no_words, answers, answers_no_words, by_row, by_svcb, by_https, zero_took}
+use Rattle.dns_rdata.proofs.DataReads.{IsNone}
+use Rattle.dns_rdata.proofs.DataWords.{word_types, has_no_words, no_https, no_svcb, of_read, answers, answers_no_words, by_row, by_own, zero_took}
 use Rattle.dns_rdata.proofs.record_data.RData.read_words.Goals as goal
 
 pub returns-in-A : goal.returns-in-A
@@ -30,7 +30,7 @@ pub returns-in-HINFO : goal.returns-in-HINFO
 returns-in-HINFO g c = rw c.in-HINFO.is (by_row _ types.HINFO _ (λ x. rdata.HINFO x) _ (λ h. h) (λ v words. (λ is. is, λ is. is)) c.from_tokens-in-HINFO.ensures (λ x _. record { type = refl; fields = refl; plain = tt }) c.wrap-in-HINFO.ensures)
 
 pub returns-in-HTTPS : goal.returns-in-HTTPS
-returns-in-HTTPS g c = rw c.in-HTTPS.is (by_https _ _ c.from_tokens-in-HTTPS.ensures.own c.from_tokens-in-HTTPS.ensures.reads c.wrap-in-HTTPS.ensures)
+returns-in-HTTPS g c = rw c.in-HTTPS.is (by_own _ _ _ types.HTTPS (λ x. rdata.HTTPS x) (λ x. x.0) (λ h. h) (λ x. refl) (λ x words h. h) no_https c.from_tokens-in-HTTPS.ensures.own c.from_tokens-in-HTTPS.ensures.reads c.wrap-in-HTTPS.ensures)
 
 pub returns-in-MX : goal.returns-in-MX
 returns-in-MX g c = rw c.in-MX.is (by_row _ types.MX _ (λ x. rdata.MX x) _ (λ h. h) (λ v words. (λ is. is, λ is. is)) c.from_tokens-in-MX.ensures (λ x _. record { type = refl; fields = refl; plain = tt }) c.wrap-in-MX.ensures)
@@ -60,7 +60,7 @@ pub returns-in-SSHFP : goal.returns-in-SSHFP
 returns-in-SSHFP g c = rw c.in-SSHFP.is (by_row _ types.SSHFP _ (λ x. rdata.SSHFP x) _ (λ h. h) (λ v words. (λ is. is, λ is. is)) c.from_tokens-in-SSHFP.ensures.reads (λ x e. record { type = refl; fields = refl; plain = of_read _ c.from_tokens-in-SSHFP.ensures.enums e }) c.wrap-in-SSHFP.ensures)
 
 pub returns-in-SVCB : goal.returns-in-SVCB
-returns-in-SVCB g c = rw c.in-SVCB.is (by_svcb _ _ c.from_tokens-in-SVCB.ensures.own c.from_tokens-in-SVCB.ensures.reads c.wrap-in-SVCB.ensures)
+returns-in-SVCB g c = rw c.in-SVCB.is (by_own _ _ _ types.SVCB (λ x. rdata.SVCB x) (λ x. x) (λ h. h) (λ x. refl) (λ x words h. h) no_svcb c.from_tokens-in-SVCB.ensures.own c.from_tokens-in-SVCB.ensures.reads c.wrap-in-SVCB.ensures)
 
 pub returns-in-TLSA : goal.returns-in-TLSA
 returns-in-TLSA g c = rw c.in-TLSA.is (by_row _ types.TLSA _ (λ x. rdata.TLSA x) _ (λ h. h) (λ v words. (λ is. is, λ is. is)) c.from_tokens-in-TLSA.ensures.reads (λ x e. record { type = refl; fields = refl; plain = of_read _ c.from_tokens-in-TLSA.ensures.enums e }) c.wrap-in-TLSA.ensures)
