@@ -14,7 +14,7 @@ use Rattle.dns_rdata_base.specs.NAPTR.{AreFlags}
 use Rattle.dns_rdata_service.specs.Parameters.{HaveTexts}
 use Rattle.dns_rdata_sets.specs.{CAA.IsTag, CSYNC.AreKnownFlags}
 use Rattle.dns_rdata.specs.{declared.record_data.RData.RData, Equal.equal}
-use Rattle.dns_rdata.specs.Data.{shape, condition, FieldsOf, fields_of, Fills, IsEmittable, octets_of, data_octets, mode_for}
+use Rattle.dns_rdata.specs.Data.{shape, condition, FieldsOf, fields_of, Fills, IsEmittable, octets_of, data_octets}
 use Rattle.dns_rdata.specs.Laws.{OneValue, EachWindow, HasEqual, TellsApart, ReadsCanonical, ReadsBack}
 use Rattle.dns_rdata.proofs.Values.{values_as, values_as-same, value_for, value_is, window_value, fields_for, equal_values}
 
@@ -126,12 +126,6 @@ pub emits_again : (v : RData) (mode : RDataEncoding) (r : Result (Unit {0}) Prot
     → EmitsAs mode (fields_of v).kinds (fields_of v).values r old new → OnOk r (ReadsBack v old new)
 emits_again v mode (Ok x) old new octets h = reads_back v mode old new octets h
 emits_again v mode (Err e) old new octets h = tt
-
--- of a value that is known to be w
-pub emits_at : (v w : RData) (r : Result (Unit {0}) ProtoError) (old new : Writing) → v ≡ w
-    → EmitsAs (mode_for old.mode w) (fields_of w).kinds (fields_of w).values r old new
-    → EmitsAs (mode_for old.mode v) (fields_of v).kinds (fields_of v).values r old new
-emits_at v w r old new e h = subst (λ (x : RData). EmitsAs (mode_for old.mode x) (fields_of x).kinds (fields_of x).values r old new) (sym e) h
 
 -- what was read can be emitted
 pub emittable_of : (t : RecordType) (m : List ℕ) (p n : ℕ) (r : Result RData DecodeError) → IfOk r (λ v. Fills m p n t v) → IfOk r IsEmittable

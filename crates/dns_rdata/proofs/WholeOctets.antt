@@ -32,11 +32,6 @@ wrote_whole m (k ∷ kinds) vs m' h =
     wrote_whole h.0 kinds vs.1 m' h.2 ∙ ap (λ (l : List ℕ). l ++ all_whole kinds vs.1) (wrote_field m k vs.0 h.0 h.1.is)
     ∙ append_assoc m (whole_octets k vs.0) (all_whole kinds vs.1)
 
--- of a value that is known to be w
-pub whole_at : (v w : RData) (r : Result (Unit {0}) ProtoError) (old new : Writing) → v ≡ w
-    → EmitsAs Other (fields_of w).kinds (fields_of w).values r old new → EmitsAs Other (fields_of v).kinds (fields_of v).values r old new
-whole_at v w r old new e h = subst (λ (x : RData). EmitsAs Other (fields_of x).kinds (fields_of x).values r old new) (sym e) h
-
 pub emits_whole : (v : RData) (r : Result (Unit {0}) ProtoError) (old new : Writing)
     → EmitsAs Other (fields_of v).kinds (fields_of v).values r old new → OnOk r (new.octets ≡ old.octets ++ whole_data v)
 emits_whole v (Ok x) old new h = wrote_whole old.octets (fields_of v).kinds (fields_of v).values new.octets h.fields

@@ -8,6 +8,7 @@ ghost use Rattle.dns_rdata.specs.Cursor.{can_emit, data_left, data_windows, data
 ghost use Rattle.dns_rdata.specs.Cursor.{KeepsAt, Chooses, Advances, StepsOn, RefillsBy, Skips};
 
 use crate::record_data::RData;
+use crate::traits::RecordData;
 use dns_pieces::order::next_order;
 use dns_pieces::{Count, Head, Run, Step, Tail};
 use dns_rdata_base::steps::{
@@ -21,6 +22,38 @@ use dns_rdata_service::steps::{https_step, svcb_is_emittable, svcb_step};
 use dns_rdata_sets::steps::{caa_is_emittable, caa_step, csync_step};
 use std::cmp::Ordering;
 use std::marker::Model;
+
+// The step of a record, as that of the value that holds it.
+#[inline(always)]
+fn of_value<'a, T: RecordData>(
+    value: &T,
+    found: Option<Step<'a>>,
+    step: usize,
+    part: usize,
+    item: usize,
+    head: &Head,
+) -> Option<Step<'a>>
+    requires { (i j : ℕ) → GivesStep (data_left (T.wrapped value.now)) step i j head.now found }
+    ensures { GivesStep (data_left (T.wrapped value.now)) step part item head.now result }
+{
+    let _ = value;
+    let _ = (step, part, item);
+    let _ = head;
+    found
+}
+
+// Matches a value: an arm for each record that is named, with its step, and then the arms that are given.
+macro_rules! plain_each {
+    (
+        ($value:expr, $x:ident, $step:ident, $part:ident, $item:ident, $head:ident),
+        [$($record:ident => $found:expr,)+], $($pattern:pat => $other:expr),+
+    ) => {
+        match $value {
+            $(RData::$record($x) => of_value($x, $found, $step, $part, $item, $head),)+
+            $($pattern => $other,)+
+        }
+    };
+}
 
 impl RData {
     // The step behind a place of a record whose steps are not counted.
@@ -36,31 +69,34 @@ impl RData {
         requires at { DataAt self.now step part item }
         ensures { GivesStep (data_left self.now) step part item head.new result }
     {
-        match self {
-            RData::A(x) => a_step(x, step, head),
-            RData::AAAA(x) => aaaa_step(x, step, head),
-            RData::ANAME(x) => name_step(&x.0, step, head),
-            RData::CAA(x) => caa_step(x, step, head),
-            RData::CERT(x) => cert_step(x, step, head),
-            RData::CNAME(x) => name_step(&x.0, step, head),
-            RData::HINFO(x) => hinfo_step(x, step, head),
+        plain_each!(
+            (self, x, step, part, item, head),
+            [
+                A => a_step(x, step, head),
+                AAAA => aaaa_step(x, step, head),
+                ANAME => name_step(&x.0, step, head),
+                CAA => caa_step(x, step, head),
+                CERT => cert_step(x, step, head),
+                CNAME => name_step(&x.0, step, head),
+                HINFO => hinfo_step(x, step, head),
+                MX => mx_step(x, step, head),
+                NAPTR => naptr_step(x, step, head),
+                NS => name_step(&x.0, step, head),
+                PTR => name_step(&x.0, step, head),
+                SMIMEA => smimea_step(x, step, head),
+                SOA => soa_step(x, step, head),
+                SRV => srv_step(x, step, head),
+                SSHFP => sshfp_step(x, step, head),
+                TLSA => tlsa_step(x, step, head),
+            ],
             RData::HTTPS(x) => https_step(x, step, part, item, head),
-            RData::MX(x) => mx_step(x, step, head),
-            RData::NAPTR(x) => naptr_step(x, step, head),
             RData::NULL(x) => rest_step(x.anything.as_slice(), step, head),
-            RData::NS(x) => name_step(&x.0, step, head),
             RData::OPENPGPKEY(x) => rest_step(x.public_key.as_slice(), step, head),
-            RData::PTR(x) => name_step(&x.0, step, head),
-            RData::SMIMEA(x) => smimea_step(x, step, head),
-            RData::SOA(x) => soa_step(x, step, head),
-            RData::SRV(x) => srv_step(x, step, head),
-            RData::SSHFP(x) => sshfp_step(x, step, head),
             RData::SVCB(x) => svcb_step(x, step, part, item, head),
-            RData::TLSA(x) => tlsa_step(x, step, head),
             RData::TXT(x) => txt_step(x, step, part, head),
             RData::Unknown { rdata, .. } => rest_step(rdata.anything.as_slice(), step, head),
-            RData::CSYNC(_) | RData::OPT(_) | RData::Update0(_) | RData::ZERO => None,
-        }
+            RData::CSYNC(_) | RData::OPT(_) | RData::Update0(_) | RData::ZERO => None
+        )
     }
 
     // The step behind a place of the data.

@@ -62,6 +62,13 @@ macro_rules! in_order {
     };
 }
 
+// The order by the first of these fields that differs.
+macro_rules! by_fields {
+    ($a:ident, $b:ident, $($field:ident),+) => {
+        in_order!($($a.$field.cmp(&$b.$field)),+)
+    };
+}
+
 // The order of two CSYNC by their fields in turn.
 #[inline]
 #[tactic(auto, using(dns_pieces::proofs::Comparing::then_equal))]
@@ -102,12 +109,7 @@ fn soa_cmp(a: &SOA, b: &SOA) -> Ordering
 fn tlsa_cmp(a: &TLSA, b: &TLSA) -> Ordering
     ensures { result ≡ values_cmp tlsa_key_shape (tlsa_keys a.now) (tlsa_keys b.now) }
 {
-    in_order!(
-        a.cert_usage.cmp(&b.cert_usage),
-        a.selector.cmp(&b.selector),
-        a.matching.cmp(&b.matching),
-        a.cert_data.cmp(&b.cert_data)
-    )
+    by_fields!(a, b, cert_usage, selector, matching, cert_data)
 }
 
 impl RData {
@@ -130,27 +132,23 @@ impl RData {
                 a.tag.cmp(&b.tag),
                 a.value.cmp(&b.value)
             ),
-            (RData::CERT(a), RData::CERT(b)) => in_order!(
-                a.cert_type.cmp(&b.cert_type),
-                a.key_tag.cmp(&b.key_tag),
-                a.algorithm.cmp(&b.algorithm),
-                a.cert_data.cmp(&b.cert_data)
+            (RData::CERT(a), RData::CERT(b)) => by_fields!(
+                a, b, cert_type, key_tag, algorithm, cert_data
             ),
             (RData::CNAME(a), RData::CNAME(b)) => a.0.cmp(&b.0),
             (RData::CSYNC(a), RData::CSYNC(b)) => csync_cmp(a, b),
-            (RData::HINFO(a), RData::HINFO(b)) => in_order!(a.cpu.cmp(&b.cpu), a.os.cmp(&b.os)),
+            (RData::HINFO(a), RData::HINFO(b)) => by_fields!(a, b, cpu, os),
             (RData::HTTPS(a), RData::HTTPS(b)) => svcb_cmp(&a.0, &b.0),
-            (RData::MX(a), RData::MX(b)) => in_order!(
-                a.preference.cmp(&b.preference),
-                a.exchange.cmp(&b.exchange)
-            ),
-            (RData::NAPTR(a), RData::NAPTR(b)) => in_order!(
-                a.order.cmp(&b.order),
-                a.preference.cmp(&b.preference),
-                a.flags.cmp(&b.flags),
-                a.services.cmp(&b.services),
-                a.regexp.cmp(&b.regexp),
-                a.replacement.cmp(&b.replacement)
+            (RData::MX(a), RData::MX(b)) => by_fields!(a, b, preference, exchange),
+            (RData::NAPTR(a), RData::NAPTR(b)) => by_fields!(
+                a,
+                b,
+                order,
+                preference,
+                flags,
+                services,
+                regexp,
+                replacement
             ),
             (RData::NULL(a), RData::NULL(b)) => a.anything.cmp(&b.anything),
             (RData::NS(a), RData::NS(b)) => a.0.cmp(&b.0),
@@ -159,16 +157,13 @@ impl RData {
             (RData::PTR(a), RData::PTR(b)) => a.0.cmp(&b.0),
             (RData::SMIMEA(a), RData::SMIMEA(b)) => tlsa_cmp(&a.0, &b.0),
             (RData::SOA(a), RData::SOA(b)) => soa_cmp(a, b),
-            (RData::SRV(a), RData::SRV(b)) => in_order!(
-                a.priority.cmp(&b.priority),
-                a.weight.cmp(&b.weight),
-                a.port.cmp(&b.port),
-                a.target.cmp(&b.target)
-            ),
-            (RData::SSHFP(a), RData::SSHFP(b)) => in_order!(
-                a.algorithm.cmp(&b.algorithm),
-                a.fingerprint_type.cmp(&b.fingerprint_type),
-                a.fingerprint.cmp(&b.fingerprint)
+            (RData::SRV(a), RData::SRV(b)) => by_fields!(a, b, priority, weight, port, target),
+            (RData::SSHFP(a), RData::SSHFP(b)) => by_fields!(
+                a,
+                b,
+                algorithm,
+                fingerprint_type,
+                fingerprint
             ),
             (RData::SVCB(a), RData::SVCB(b)) => svcb_cmp(a, b),
             (RData::TLSA(a), RData::TLSA(b)) => tlsa_cmp(a, b),
