@@ -1,5 +1,4 @@
 mod CaaReads
-mod FirstNumbers
 mod IssuerSteps
 pub mod Issuers
 mod Rising

@@ -1,5 +1,5 @@
 use Rattle.std.proofs.Common.{◌-◌, length, arith}
-use Rattle.dns_rdata_sets.proofs.FirstNumbers.{last_at, last_of_run}
+use Rattle.dns_rdata_sets.proofs.WindowOrders.{last_at, last_of_run}
 use Rattle.dns_rdata_sets.proofs.order.last_of_window.Goals as goal
 
 pub returns-then-end-numbers : goal.returns-then-end-numbers

@@ -2,7 +2,7 @@ use Rattle.std.proofs.Common.{◌≡◌, ◌/◌, ℕ, get_or, sym, subst, ap, �
 use Rattle.std.specs.{Ordering.ordering_then, declared.cmp.Ordering.Ordering, declared.cmp.Ordering.TheVariants.Greater}
 use Rattle.dns_fields.specs.Fields.{field_octets}
 use Rattle.dns_rdata_sets.specs.RecordTypeSet.{IsLastOf}
-use Rattle.dns_rdata_sets.proofs.{FirstNumbers.own_first, FirstNumbers.goes_on_behind, WindowOrders.lasts_decide}
+use Rattle.dns_rdata_sets.proofs.WindowOrders.{own_first, goes_on_behind, lasts_decide}
 use Rattle.dns_rdata_sets.proofs.order.lower_order.Goals.{then-at-eq0-via-then-at-eq0, then-at-eq0-via-else-at-eq0+then-b-at-2}
 use Rattle.dns_rdata_sets.proofs.order.lower_order.Goals.{then-b-at+else-at-eq0+else-b-at-2, else-b-at}
 use Rattle.dns_rdata_sets.proofs.order.lower_order.Goals as goal
