@@ -8,9 +8,11 @@ use Rattle.std.specs.{List.AllByRecursion, Str.IsAscii, Str.IsUtf8}
 use Rattle.dns_types.specs.declared.error.ProtoError.{ProtoError}
 use Rattle.dns_types.specs.declared.error.ProtoError.TheVariants as proto
 use Rattle.dns_fields.specs.{Labels.DomainName, Octets.AreOctets}
-use Rattle.dns_labels.specs.Text.{IsNameText, HasOctets, OctetText, printed, label_text, joined_text, name_text}
+use Rattle.dns_labels.specs.Text.{IsNameText, OctetText, LabelText, LabelsText, MarkedText, name_text}
 use Rattle.dns_labels.specs.Text.OctetText.{plain, decimal, quoted}
-use Rattle.dns_labels.proofs.{TextSteps.printed_text, NameTexts.one_name, NameTexts.name_reads}
+use Rattle.dns_labels.specs.Text.{LabelText.no_octet, LabelText.octet, LabelsText.last, LabelsText.dotted, LabelsText.joined}
+use Rattle.dns_labels.specs.Text.MarkedText.{root, nothing, labelled}
+use Rattle.dns_labels.proofs.NameTexts.{one_name, name_reads}
 use Rattle.dns_names_wire.specs.NameValues.{IsTextRefusal}
 use Rattle.dns_rdata_sets.specs.Issuer.{Parameter, is_no_semicolon, IsParameter, IsNamed, IsWritable, StartsWithout, parameter_octets, Splits}
 use Rattle.dns_rdata_sets.specs.Issuer.{AreParameters, IsIssuerName, IsNameRefusal, IsIssuer, IsIssuerRefusal, parameters_text, issuer_value}
@@ -75,33 +77,22 @@ one_issuer octets a b xs ys h k =
 
 octet_ascii : {n : ℕ} {text : List ℕ} → OctetText n text → IsAscii text
 octet_ascii {n} (plain g a b) = IsAscii-cons n [] (omega (arith, g.1)) IsAscii-nil
-octet_ascii (decimal h t o a b c d e) =
-    IsAscii-cons 92 ((48 + h) ∷ (48 + t) ∷ (48 + o) ∷ []) (omega arith) (IsAscii-cons (48 + h) ((48 + t) ∷ (48 + o) ∷ []) (omega (arith, a))
-    (IsAscii-cons (48 + t) ((48 + o) ∷ []) (omega (arith, b)) (IsAscii-cons (48 + o) [] (omega (arith, c)) IsAscii-nil)))
 octet_ascii {n} (quoted g a) = IsAscii-cons 92 (n ∷ []) (omega arith) (IsAscii-cons n [] (omega (arith, g.1)) IsAscii-nil)
+octet_ascii (decimal h t o a b c d e) = search (arith, IsAscii-cons, IsAscii-nil)
 
-pieces_ascii : {X : Type 0} (f : X → List ℕ) (xs : List X) → All (λ x. IsAscii (f x)) xs → IsAscii (flat_map f xs)
-pieces_ascii f [] h = IsAscii-nil
-pieces_ascii f (x ∷ xs) h = IsAscii-append (f x) (flat_map f xs) (All-head (λ x. IsAscii (f x)) x xs h) (pieces_ascii f xs (All-tail (λ x. IsAscii (f x)) x xs h))
+label_ascii : {label text : List ℕ} → LabelText label text → IsAscii text
+label_ascii no_octet = IsAscii-nil
+label_ascii (octet front rest o l e) = rw e (IsAscii-append front rest (octet_ascii o) (label_ascii l))
 
-label_ascii : (label : List ℕ) → AreOctets label → IsAscii (label_text label)
-label_ascii label h = pieces_ascii printed label (All-weaker (λ b. b < 256) (λ b. IsAscii (printed b)) (λ b l. octet_ascii (printed_text b l)) label h)
+labels_ascii : {labels : List (List ℕ)} {mark : Bool} {text : List ℕ} → LabelsText labels mark text → IsAscii text
+labels_ascii (last l) = label_ascii l
+labels_ascii (dotted front l e) = rw e (IsAscii-append front (46 ∷ []) (label_ascii l) (IsAscii-cons 46 [] (omega arith) IsAscii-nil))
+labels_ascii (joined front rest l more e) = rw e (IsAscii-append front (46 ∷ rest) (label_ascii l) (IsAscii-cons 46 rest (omega arith) (labels_ascii more)))
 
-joined_ascii : (labels : List (List ℕ)) → All AreOctets labels → IsAscii (joined_text labels)
-joined_ascii [] h = IsAscii-nil
-joined_ascii (label ∷ labels) h =
-    let behind : List ℕ → List ℕ = λ other. 46 ∷ label_text other in
-    IsAscii-append (label_text label) (flat_map behind labels) (label_ascii label (All-head AreOctets label labels h))
-    (pieces_ascii behind labels (All-weaker AreOctets (λ other. IsAscii (behind other)) (λ other l. IsAscii-cons 46 (label_text other) (omega arith) (label_ascii other l))
-    labels (All-tail AreOctets label labels h)))
-
-mark_ascii : (mark : Bool) → IsAscii (cond mark (46 ∷ []) [])
-mark_ascii true = IsAscii-cons 46 [] (omega arith) IsAscii-nil
-mark_ascii false = IsAscii-nil
-
-name_text_utf8 : (name : DomainName) → HasOctets name → IsUtf8 (name_text name)
-name_text_utf8 name h = IsUtf8-from_ascii (name_text name)
-    (IsAscii-append (joined_text name.labels) (cond name.fully_qualified (46 ∷ []) []) (joined_ascii name.labels h) (mark_ascii name.fully_qualified))
+text_utf8 : {labels : List (List ℕ)} {mark : Bool} {text : List ℕ} → MarkedText labels mark text → IsUtf8 text
+text_utf8 root = IsUtf8-from_ascii (46 ∷ []) (IsAscii-cons 46 [] (omega arith) IsAscii-nil)
+text_utf8 nothing = IsUtf8-nil
+text_utf8 {text = text} (labelled l) = IsUtf8-from_ascii text (labels_ascii l)
 
 written_parameters : (xs : List Parameter) → AllByRecursion IsParameter xs → Follow (parameters_text xs) xs
 written_parameters [] h = inl (refl, refl)
@@ -136,7 +127,7 @@ issuer_written (Some name) xs n w h = record {
   front = name_text name;
   rest = parameters_text xs;
   splits = record { whole = refl; passes = w.1; stops = written_stops xs };
-  is_name = (w.0, name_text_utf8 name n.1, name_reads name n.0 n.1);
+  is_name = let text = name_reads name n.0 n.1 in (w.0, text_utf8 text.reads, text);
   parameters = written_parameters xs h;
 }
 
