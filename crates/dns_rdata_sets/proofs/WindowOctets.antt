@@ -9,7 +9,6 @@ use Rattle.dns_fields.specs.Bitmaps.{Block, contains, IsTypeSet, packed, mark, k
 use Rattle.dns_fields.proofs.Bitmaps.{mark_small}
 use Rattle.dns_pieces.proofs.Comparing.{cmp_one}
 use Rattle.dns_rdata_sets.specs.RecordTypeSet.{AreOfWindow, first_window, IsLastOf}
-use Rattle.dns_rdata_sets.proofs.Rising.{lacks, in_front, in_rest, ascends, rest_from, small_at}
 
 -- v has x and w has not, and of the numbers below x both have the same
 pub record OwnFirst (v w : List ℕ) (x : ℕ) : Type 0 where

@@ -14,7 +14,7 @@ use Rattle.dns_pieces.proofs.{Comparing.cmp_one, Comparing.cmp_shared, Fronts.fr
 use Rattle.dns_rdata_sets.specs.RecordTypeSet.{IsLastOf, AreOfWindow, first_window}
 use Rattle.dns_rdata_sets.proofs.NextWindow.{some_block, windows_same, windows_none, behind_window, minimal_at}
 use Rattle.dns_rdata_sets.proofs.WindowOctets.{OwnFirst, octets_of, octets_long, window_none, window_reaches, window_last, window_greater}
-use Rattle.dns_rdata_sets.proofs.Rising.{lacks, has_at, front_only, ascends, front_below, small_at}
+use Rattle.dns_rdata_sets.proofs.Rising.{has_at, front_only, ascends, skips, last_at, small_at}
 
 abbrev pub sets_cmp : List ℕ → List ℕ → Ordering
 sets_cmp v w = slice_cmp nat_cmp (flat_map block (minimal v)) (flat_map block (minimal w))
@@ -89,16 +89,10 @@ later_windows w a (suc n) y k p l h m f = later_first a k p (window w a) (window
 
 -- ---- rising lists that begin alike: the first number that only one of them has
 
--- no number from n up to m is in a set whose numbers at a place skip these
-skips : (n m i : ℕ) (v : List ℕ) → IsTypeSet v → i ≤ length v → (0 < i → get_or v (i - 1) 0 < n) → (i < length v → m ≤ get_or v i 0)
-    → (u : ℕ) → n ≤ u → u < m → contains u v ≡ false
-skips n m i v s within last first u a b =
-    front_only m i v s.rises first u b ∙ lacks (λ t. t < n) (take i v) u (front_below n i v s.rises within last) (λ q. omega (arith, q, a))
-
 -- no number is of window k where the number at a place is of a later one, and that in front of it is of an earlier one
 none_of : (k i : ℕ) (v : List ℕ) → IsTypeSet v → i ≤ length v → (0 < i → get_or v (i - 1) 0 / 256 < k) → (i < length v → k < get_or v i 0 / 256)
     → (u : ℕ) → u / 256 ≡ k → contains u v ≡ false
-none_of k i v s within last first u e = skips (256 * k) (256 * (k + 1)) i v s within (λ some. omega (arith, last some)) (λ some. omega (arith, first some)) u (omega (arith, e)) (omega (arith, e))
+none_of k i v s within last first u e = skips (256 * k) (256 * (k + 1)) i v s.rises within (λ some. omega (arith, last some)) (λ some. omega (arith, first some)) u (omega (arith, e)) (omega (arith, e))
 
 -- the number of the second in front of a place is below that of the first which stands there
 last_below : (v w : List ℕ) (i : ℕ) → IsTypeSet v → i < length v → take i v ≡ take i w → 0 < i → get_or w (i - 1) 0 < get_or v i 0
@@ -117,8 +111,8 @@ own_first v w i s t l within same h =
     record {
       small = small_at v i s l;
       has = has_at v i l;
-      lacks = skips x (x + 1) i w t within (last_below v w i s l same) (λ some. omega (arith, h some)) x (omega arith) (omega arith);
-      below = λ u m. front_only x i v s.rises (λ some. omega arith) u m ∙ ap (contains u) same ∙ sym (front_only x i w t.rises (λ some. omega (arith, h some)) u m);
+      lacks = skips x (x + 1) i w t.rises within (last_below v w i s l same) (λ some. omega (arith, h some)) x (omega arith) (omega arith);
+      below = λ u m. front_only x i v s (λ some. omega arith) u m ∙ ap (contains u) same ∙ sym (front_only x i w t (λ some. omega (arith, h some)) u m);
     }
 
 -- the second goes on with a later window, which comes first
@@ -132,15 +126,6 @@ goes_on_behind v w i s t l m same less apart before =
 
 -- ---- the last number of a window
 
-pub last_at : (v : List ℕ) (j k : ℕ) → IsTypeSet v → j < length v → get_or v j 0 / 256 ≡ k → (suc j < length v → get_or v (suc j) 0 / 256 ≢ k)
-    → IsLastOf v k (get_or v j 0)
-last_at v j k s l e next = record {
-  has = has_at v j l;
-  of = e;
-  last = let one : suc j - 1 ≡ j = omega arith in λ u m f. skips (get_or v j 0 + 1) (256 * (k + 1)) (suc j) v s (omega (arith, l)) (λ some. omega (arith, ap (λ (i : ℕ). get_or v i 0) one))
-      (λ some. omega (arith, e, ascends v s.rises j (suc j) (omega arith) some, next some)) u (omega (arith, m)) (omega (arith, f));
-}
-
 -- the last of a run in front of what is left of a list
 pub last_of_run : (v rest : List ℕ) (i e : ℕ) → IsTypeSet v → rest ≡ drop i v → 0 < e → e ≤ length rest → AreOfWindow (first_window rest) (take e rest)
     → (e < length rest → get_or rest e 0 / 256 ≢ first_window rest) → IsLastOf v (get_or v i 0 / 256) (get_or rest (e - 1) 0)
@@ -151,7 +136,7 @@ last_of_run v rest i e s is some within run next =
     let none : i + 0 ≡ i = omega arith in
     let first : get_or rest 0 0 ≡ get_or v i 0 = rw none at (at 0) in
     let of : get_or rest (e - 1) 0 / 256 ≡ first_window rest = rw (get_or-take e rest (e - 1) 0 (omega (arith, some))) at (run (e - 1) 0 (omega (arith, some, length-take e rest, within))) in
-    rw (at (e - 1)) (last_at v (i + (e - 1)) (get_or v i 0 / 256) s (omega (arith, long, some, within)) (omega (arith, of, first, at (e - 1)))
+    rw (at (e - 1)) (last_at v (i + (e - 1)) (get_or v i 0 / 256) s.rises (omega (arith, long, some, within)) (omega (arith, of, first, at (e - 1)))
     (λ m. omega (arith, next (omega (arith, m, long, some)), rw after at (at e), first)))
 
 -- ---- where one has ended
@@ -170,7 +155,7 @@ longer v w i s t same l ends = by i refl
     alone apart =
         from_window [] o (window_none w k (none_of k i w t (omega (arith, ends)) apart (λ some. absurd (omega (arith, some, ends)))))
         ∙ ap (λ (bs : List Block). slice_cmp nat_cmp (block (k, window v k) ++ flat_map block (behind_window v k)) (flat_map block bs))
-        (windows_none w (k + 1) (255 - k) (λ u a b. skips (get_or v i 0) (u + 1) i w t (omega (arith, ends)) (last_below v w i s l same) (λ some. absurd (omega (arith, some, ends))) u (omega arith) (omega arith)))
+        (windows_none w (k + 1) (255 - k) (λ u a b. skips (get_or v i 0) (u + 1) i w t.rises (omega (arith, ends)) (last_below v w i s l same) (λ some. absurd (omega (arith, some, ends))) u (omega arith) (omega arith)))
 
     by : (j : ℕ) → i ≡ j → sets_cmp v w ≡ Greater
     by zero e = alone (λ some. absurd (omega (arith, e, some)))
@@ -179,7 +164,7 @@ longer v w i s t same l ends = by i refl
         let below : get_or w j 0 < get_or v i 0 = rw front at (last_below v w i s l same (omega (arith, e))) in
         elim (cases_eq (get_or w j 0 / 256) k) [
           | inl h ↦ (
-              let last = last_length (last_at w j k t (omega (arith, ends, e)) h (λ some. absurd (omega (arith, some, ends, e)))) in
+              let last = last_length (last_at w j k t.rises (omega (arith, ends, e)) h (λ some. absurd (omega (arith, some, ends, e)))) in
               greater o (omega (arith, last)) (omega (arith, last, h, below, window_reaches v k (get_or v i 0) refl o.has)))
           | inr h ↦ alone (λ some. rw front (omega (arith, h, below)))
         ]

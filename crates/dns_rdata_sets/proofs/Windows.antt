@@ -10,7 +10,7 @@ use Rattle.dns_fields.specs.Octets.{AreOctets}
 use Rattle.dns_fields.specs.Bitmaps.{contains, Rises, packed, mark, types_octet, window}
 use Rattle.dns_fields.proofs.Bitmaps.{packed_less, packed_bit, mark_small}
 use Rattle.dns_rdata_sets.specs.RecordTypeSet.{AreOfWindow}
-use Rattle.dns_rdata_sets.proofs.Rising.{lacks, has_at, no_fall}
+use Rattle.dns_rdata_sets.proofs.Rising.{last_at}
 use Rattle.dns_rdata_sets.proofs.WindowOctets.{octets_are, window_last}
 use mir.Syntax.{Width, w8, w64}
 use mir.Val.{bits}
@@ -132,8 +132,5 @@ pub window_is : (octets run : List ℕ) (k n : ℕ) → HasMarks octets run k �
     → take (get_or run n 0 % 256 / 8 + 1) octets ≡ window run k
 window_is octets run k n a len are rises of l =
     let last : ℕ = get_or run n 0 in
-    ap (take (last % 256 / 8 + 1)) (octets_are run k octets len (λ j m. octet_is octets run k j a are len m)) ∙ sym (window_last run k last (record {
-      has = has_at run n (omega (arith, l));
-      of = of n 0 (omega (arith, l));
-      last = λ u m e. lacks (λ t. t ≤ last) run u (All-from_get_or (λ t. t ≤ last) run 0 (λ i m. no_fall run rises i n (omega (arith, m, l)) (omega (arith, l)))) (λ q. omega (arith, q, m));
-    }))
+    ap (take (last % 256 / 8 + 1)) (octets_are run k octets len (λ j m. octet_is octets run k j a are len m))
+    ∙ sym (window_last run k last (last_at run n k rises (omega (arith, l)) (of n 0 (omega (arith, l))) (λ more. absurd (omega (arith, more, l)))))
