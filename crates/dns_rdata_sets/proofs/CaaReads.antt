@@ -1,8 +1,9 @@
 -- Reading a CAA record: flags, tag, value.
-use Rattle.std.proofs.Common.{◌≡◌, ◌⊎◌, inl, inr, ℕ, ◌+◌, ◌%◌, ◌≤◌, ◌<◌, false, cond, nat_le, List, [], ◌∷◌, ◌++◌, length, take, drop, refl, sym, ap}
+use Rattle.std.proofs.Common.{◌≡◌, ◌⊎◌, inl, inr, ⊎_elim, ℕ, ◌+◌, ◌%◌, ◌≤◌, ◌<◌, false, cond, nat_le, List, [], ◌∷◌, ◌++◌, length, get_or, drop, refl, sym, ap}
 use Rattle.std.proofs.Common.{◌∙◌, arith, subst, ◌-◌}
 use Rattle.std.proofs.{Math.Nat.mod-eq_of_lt, lemmas.Grind.common_steps, lemmas.Bool.Decides.nat_tests}
-use Rattle.std.proofs.lemmas.List.{length-append, take-take, take-append-drop}
+use Rattle.std.proofs.lemmas.List.{length-append, get_or-take, get_or-append_right}
+use Rattle.std.proofs.{lemmas.Bool.both_ways, lemmas.List.Folds.list_all_at}
 use Rattle.std.specs.{List.list_all, Char.is_ascii_alphanumeric}
 use Rattle.dns_types.specs.declared.error.DecodeError.{DecodeError}
 use Rattle.dns_types.specs.declared.error.DecodeError.TheVariants as decode
@@ -11,30 +12,23 @@ use Rattle.dns_names_wire.specs.{State.Reading, Words.TookField, Words.Took, Wor
 use Rattle.dns_names_wire.proofs.FieldReads.{unless_all, took_stays, took_then, took_last, took_number}
 use Rattle.dns_names_wire.proofs.Strings.{text_taken, at_rest}
 use Rattle.dns_fields.proofs.{Places.At-same_head, FieldLaws.field_inside}
-use Rattle.dns_rdata_sets.proofs.Splitting.{all_halves, all_parts}
 use Rattle.dns_rdata_sets.specs.CAA.{AreTagOctets, IsTag, IsTagRefusal, IsCaaRefusal}
 
 -- the flags' two parts make them again
 pub flags_back : (f : ℕ) → f < 256 → f ≡ f % 128 % 128 + cond (nat_le 128 f) 128 0
 flags_back f lt = grind (arith, common_steps, nat_tests)
 
--- octets that begin with others, read at one place
-begins : {m : List ℕ} {p q r : ℕ} (s x : List ℕ) → At m p s q → At m p x r → length x ≤ length s → take (length x) s ≡ x
-begins {m} {p} s x a b h = ap (take (length x)) (sym a.same) ∙ take-take (length x) (length s) (drop p m) h ∙ b.same
-
 -- no tag stands behind its length where an octet is bad
 bad_octet : {m : List ℕ} {p q r : ℕ} (s front : List ℕ) (octet : ℕ) → At m p s q → At m p (front ++ octet ∷ []) r → length front < length s
     → is_ascii_alphanumeric octet ≡ false → AreTagOctets s → ⊥
-bad_octet s front octet a b within bad letters =
-    let n : length (front ++ octet ∷ []) ≡ length front + 1 = length-append front (octet ∷ []) in
-    let t : take (length (front ++ octet ∷ [])) s ≡ front ++ octet ∷ [] = begins s (front ++ octet ∷ []) a b (omega arith) in
-    let whole : take (length (front ++ octet ∷ [])) s ++ drop (length (front ++ octet ∷ [])) s ≡ s = take-append-drop (length (front ++ octet ∷ [])) s in
-    let all : AreTagOctets (take (length (front ++ octet ∷ [])) s ++ drop (length (front ++ octet ∷ [])) s) = ap (list_all is_ascii_alphanumeric) whole
-    ∙ letters in
-    let there = (all_halves is_ascii_alphanumeric (take (length (front ++ octet ∷ [])) s) (drop (length (front ++ octet ∷ [])) s) all).0 in
-    let last = (all_halves is_ascii_alphanumeric front (octet ∷ []) (ap (list_all is_ascii_alphanumeric) (sym t) ∙ there)).1 in
-    let good = (all_parts is_ascii_alphanumeric octet [] last).0 in
-    cc
+bad_octet {m} {p} s front octet a b within bad letters =
+    let k : ℕ = length front in
+    let first : get_or s k 0 ≡ get_or (drop p m) k 0 = ap (λ (l : List ℕ). get_or l k 0) (sym a.same) ∙ get_or-take (length s) (drop p m) k 0 within in
+    let none : k - k ≡ 0 = omega arith in
+    let second : octet ≡ get_or (drop p m) k 0 =
+    sym (get_or-append_right front (octet ∷ []) k k 0 refl (omega arith) ∙ rw none refl)
+    ∙ ap (λ (l : List ℕ). get_or l k 0) (sym b.same) ∙ get_or-take (length (front ++ octet ∷ [])) (drop p m) k 0 (omega (arith, length-append front (octet ∷ []))) in
+    both_ways (list_all is_ascii_alphanumeric s) (list_all_at is_ascii_alphanumeric s k 0 within (rw (first, ← second) bad)) letters
 
 octet_at : {m : List ℕ} {p n q : ℕ} → Field m p (Number 1) n q → At m p (n ∷ []) q
 octet_at {m} {p} {n} {q} f = let e : n % 256 ≡ n = mod-eq_of_lt f.is.0 in subst (λ (k : ℕ). At m p (k ∷ []) q) e f.is.1
@@ -58,10 +52,7 @@ tag_none start n t d b new e place f (inl r) vs q p g on c =
     omega (arith, x.0, x.1.ends, c.0, r.passed, (octet_at f.field).ends)
 tag_none start n t d b new e place f (inr (inl r)) vs q p g on c =
     let x = string_behind f g in
-    bad_length r.length x.0 c.1 where
-      bad_length : (t ≡ 0) ⊎ (15 < t) → length vs.0 ≡ t → IsTag vs.0 → ⊥
-      bad_length (inl z) l k = omega (arith, z, l, k.some)
-      bad_length (inr z) l k = omega (arith, z, l, k.short)
+    grind (arith, r.length, x.0, c.1.some, c.1.short)
 tag_none start n t d b new e place f (inr (inr (inl r))) vs q p g on c =
     let x = string_behind f g in
     let within : length r.front < length vs.0 = omega (arith, r.within, x.0) in
@@ -92,12 +83,7 @@ refused_value {old} {a} {b} {new} {e} n f t tag x y z g why = inr (inr (record {
   took = took_then x (took_then (text_taken refl y z) (took_last _));
   is_tag = g.0;
   fits = omega (arith, g.1, z.field.is.0);
-  error = lacking why;
-})) where
-  lacking : (e ≡ decode.Memory) ⊎ ((e ≡ decode.InsufficientBytes) × LacksOctets new (n - t - 2))
-      → (e ≡ decode.Memory) ⊎ ((e ≡ decode.InsufficientBytes) × LacksOctets old n)
-  lacking (inl m) = inl m
-  lacking (inr l) = inr (
+  error = ⊎_elim inl (λ l. inr (
     l.0,
     omega (
       arith,
@@ -111,7 +97,8 @@ refused_value {old} {a} {b} {new} {e} n f t tag x y z g why = inr (inr (record {
       z.field.is.0,
       z.field.is.1.ends,
     ),
-  )
+  )) why;
+}))
 
 -- the fields of a record that was read
 pub caa_taken : {old a b c new : Reading} (n f t : ℕ) (tag value : List ℕ) → f < 256 → TookField old (Number 1) f a → TookField a (Number 1) t b
