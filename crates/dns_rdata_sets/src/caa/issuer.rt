@@ -113,18 +113,18 @@ fn is_blank_octet(octet: u8) -> bool
     matches!(octet, b';' | b' ' | b'\t')
 }
 
-// What stands behind the blanks in front.
-fn skip_blanks(octets: &[u8]) -> &[u8]
-    ensures { (front : List ℕ) × Splits is_blank octets.now front result.now }
+// The blanks in front, and what stands behind them.
+fn cut_blanks(octets: &[u8]) -> (&[u8], &[u8])
+    ensures { Splits is_blank octets.now result.0.now result.1.now }
 {
-    let mut rest = octets;
-    'blanks: while let Some((first, others)) = rest.split_first() {
-        if !is_blank_octet(*first) {
+    let mut len = 0;
+    for octet in octets {
+        if !is_blank_octet(*octet) {
             break;
         }
-        rest = others;
+        len += 1;
     }
-    rest
+    octets.split_at(len)
 }
 
 // What stands in front of the first such octet, and from it on.
@@ -160,19 +160,15 @@ fn are_value_octets(octets: &[u8]) -> bool
 fn is_key(octets: &[u8]) -> bool
     ensures { IsTrue result ↔ IsKey octets.now }
 {
-    let Some((first, rest)) = octets.split_first() else {
-        return false;
-    };
-    if !first.is_ascii_alphanumeric() {
-        return false;
+    match octets {
+        [] => false,
+        [first] => first.is_ascii_alphanumeric(),
+        [first, second, others @ ..] => {
+            first.is_ascii_alphanumeric()
+                && second.is_ascii_alphanumeric()
+                && are_key_octets(others)
+        }
     }
-    let Some((second, others)) = rest.split_first() else {
-        return true;
-    };
-    if !second.is_ascii_alphanumeric() {
-        return false;
-    }
-    are_key_octets(others)
 }
 
 // The pair that all these octets are.
@@ -202,11 +198,11 @@ fn read_pairs(alloc: Global, octets: &[u8]) -> ProtoResult<Vec<KeyValue>>
     ensures refused { IfErr result (λ e. IsTextRefusal e ((xs : List Parameter) → AreParameters octets.now xs → ⊥)) }
 {
     let mut pairs = Vec::new(alloc);
-    let mut rest = skip_blanks(octets);
+    let mut rest = cut_blanks(octets).1;
     'pairs: while rest.len() > 0 {
         let (pair, behind) = cut_at(rest, b';');
         pairs.push(read_pair(alloc, pair)?)?;
-        rest = skip_blanks(behind);
+        rest = cut_blanks(behind).1;
     }
     Ok(pairs)
 }
