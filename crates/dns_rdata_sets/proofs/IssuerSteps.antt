@@ -31,12 +31,9 @@ key_all p f key h = all_weaker is_key_octet p f key (key_octets key h)
 -- it begins with no blank
 starts : (x : Parameter) (rest : List ℕ) → IsKey x.key → StartsWithout is_blank (parameter_octets x ++ rest)
 starts x rest h = by_key x.key x.value h where
-  no_blank : (c : ℕ) → is_key_octet c ≡ true → is_blank c ≡ false
-  no_blank c h = grind (arith, nat_tests)
-
   by_key : (key value : List ℕ) → IsKey key → StartsWithout is_blank ((key ++ 61 ∷ value) ++ rest)
   by_key [] value h = absurd h
-  by_key (c ∷ key) value h = no_blank c (all_parts is_key_octet c key (key_octets (c ∷ key) h)).0
+  by_key (c ∷ key) value h = grind (arith, nat_tests, (all_parts is_key_octet c key (key_octets (c ∷ key) h)).0)
 
 -- it has octets
 long : (x : Parameter) (rest : List ℕ) → 0 < length (parameter_octets x ++ rest)
@@ -112,7 +109,7 @@ alone_follow (c ∷ more) xs s h =
     let b : is_blank c ≡ true = ap is_blank e in
     inr (more, ap (λ (d : ℕ). d ∷ more) e, blank_off c more xs b h)
 
-follow_stops : (behind : List ℕ) (xs : List Parameter) → Follow behind xs → StartsWithout is_no_semicolon behind
+pub follow_stops : (behind : List ℕ) (xs : List Parameter) → Follow behind xs → StartsWithout is_no_semicolon behind
 follow_stops behind xs (inl h) = rw h.0 tt
 follow_stops behind xs (inr h) = rw h.1 refl
 

@@ -221,18 +221,6 @@ fn read_name(alloc: Global, octets: &[u8]) -> ProtoResult<Option<Name>>
     }
 }
 
-// The name and the parameters of an issuer.
-#[tactic(auto, using(crate::proofs::Issuers::issuer_read))]
-fn read_parts(alloc: Global, octets: &[u8]) -> ProtoResult<(Option<Name>, Vec<KeyValue>)>
-    ensures read { IfOk result (λ x. IsIssuer octets.now x.0 x.1.items) }
-    ensures refused { IfErr result (λ e. IsIssuerRefusal octets.now e) }
-{
-    let (name, rest) = cut_at(octets, b';');
-    let name = read_name(alloc, name)?;
-    let pairs = read_pairs(alloc, rest)?;
-    Ok((name, pairs))
-}
-
 /// The name and the parameters that the value of an issuer property has (RFC 8659, 4.2).
 ///
 /// The octets in front of the first `;`, or all where there is none, are a name by `Name::from_ascii`; no octets are
@@ -243,6 +231,7 @@ fn read_parts(alloc: Global, octets: &[u8]) -> ProtoResult<(Option<Name>, Vec<Ke
 ///
 /// A name's octets that are not UTF-8 are refused by [`Decode`](ProtoError::Decode) of `Utf8`, anything else by
 /// [`Message`](ProtoError::Message).
+#[tactic(auto, using(crate::proofs::Issuers::issuer_read))]
 pub fn read_issuer(alloc: Global, octets: &[u8]) -> ProtoResult<(Option<Name>, Vec<KeyValue>)>
     ensures read { IfOk result (λ x. IsIssuer octets.now x.0 x.1.items) }
     ensures refused { IfErr result (λ e. IsIssuerRefusal octets.now e) }
@@ -250,7 +239,10 @@ pub fn read_issuer(alloc: Global, octets: &[u8]) -> ProtoResult<(Option<Name>, V
     ensures reads_back { (name : Option DomainName) (xs : List Parameter) → IsIssuer octets.now name xs →
         MatchResult result (λ x. (x.0 ≡ name) × (x.1.items ≡ xs)) (λ e. e ≡ ProtoError.Memory) }
 {
-    read_parts(alloc, octets)
+    let (name, rest) = cut_at(octets, b';');
+    let name = read_name(alloc, name)?;
+    let pairs = read_pairs(alloc, rest)?;
+    Ok((name, pairs))
 }
 
 /// The text of a URL for incident reports (RFC 8659, 4.4), as it is. Refused by [`Decode`](ProtoError::Decode) of
