@@ -89,10 +89,6 @@ pub blanks_behind : (front rest : List ℕ) (xs : List Parameter) → AllOf is_b
 blanks_behind [] rest xs b h = h
 blanks_behind (c ∷ front) rest xs b h = let p = all_parts is_blank c front b in blanks_behind front rest xs p.1 (blank_off c (front ++ rest) xs p.0 h)
 
-no_parameters : (xs : List Parameter) → AreParameters [] xs → xs ≡ []
-no_parameters [] h = refl
-no_parameters (x ∷ xs) h = absurd (omega (arith, long x h.1, ap length h.2, length-append h.0 (parameter_octets x ++ h.1)))
-
 -- what follows a parameter in the grammar
 abbrev pub Follow : List ℕ → List Parameter → Type 0
 Follow behind xs = ((behind ≡ []) × (xs ≡ [])) ⊎ ((more : List ℕ) × (behind ≡ 59 ∷ more) × AreParameters more xs)
@@ -103,7 +99,8 @@ follow_alone behind xs (inl h) = rw (h.0, h.1) refl
 follow_alone behind xs (inr h) = subst (λ (l : List ℕ). AreParameters l xs) (sym h.1) (blanks_before (59 ∷ []) h.0 xs refl h.2)
 
 pub alone_follow : (behind : List ℕ) (xs : List Parameter) → StartsWithout is_no_semicolon behind → AreParameters behind xs → Follow behind xs
-alone_follow [] xs s h = inl (refl, no_parameters xs h)
+alone_follow [] [] s h = inl (refl, refl)
+alone_follow [] (x ∷ xs) s h = absurd (omega (arith, long x h.1, ap length h.2, length-append h.0 (parameter_octets x ++ h.1)))
 alone_follow (c ∷ more) xs s h =
     let e : c ≡ 59 = grind (arith, nat_tests) in
     let b : is_blank c ≡ true = ap is_blank e in
@@ -131,10 +128,6 @@ first_parameter octets front behind (y ∷ xs) some s t (d ∷ b, after, e, blan
     let l : is_blank d ≡ false = subst (λ (l : List ℕ). StartsWithout is_blank l) e s in
     cc
 
-first_then : (octets front behind : List ℕ) (x : Parameter) (xs : List Parameter) → Splits is_no_semicolon octets front behind
-    → front ≡ parameter_octets x → IsParameter x → AreParameters behind xs → AreParameters octets (x ∷ xs)
-first_then octets front behind x xs t e is h = ([], behind, t.whole ∙ ap (λ (l : List ℕ). l ++ behind) e, refl, is, alone_follow behind xs t.stops h)
-
 -- ---- reading them one by one
 
 -- what was read, and what is still to be read
@@ -158,7 +151,7 @@ pending_step octets read more now front behind blanks rest x p some t is s e = r
   sound = λ xs h.
       let b : AreParameters behind xs = subst (λ (l : List ℕ). AreParameters l xs) (sym s.whole) (blanks_before blanks rest xs s.passes h) in
       subst (λ (l : List Parameter). AreParameters octets l) (sym (append_assoc read (x ∷ []) xs))
-      (p.sound (x ∷ xs) (first_then now front behind x xs t is.0 is.1 b));
+      (p.sound (x ∷ xs) ([], behind, t.whole ∙ ap (λ (l : List ℕ). l ++ behind) is.0, refl, is.1, alone_follow behind xs t.stops b));
   complete = λ ys h.
       let k = p.complete ys h in
       let f = first_parameter now front behind k.0 some p.starts t k.2 in

@@ -62,14 +62,12 @@ both {v} {w} {x} o some =
 last_length : {v : List ℕ} {k t : ℕ} → IsLastOf v k t → length (window v k) ≡ t % 256 / 8 + 1
 last_length {v} {k} {t} h = ap length (window_last v k t h) ∙ length-take-le (t % 256 / 8 + 1) (octets_of v k) (omega (arith, octets_long v k))
 
-eighths : (k t s : ℕ) → t / 256 ≡ k → s / 256 ≡ k → nat_cmp (t % 256 / 8 + 1) (s % 256 / 8 + 1) ≡ nat_cmp (t / 8) (s / 8)
-eighths k t s e f = grind (arith, nat_tests)
-
 -- both have numbers of that window
 pub lasts_decide : {v w : List ℕ} {x : ℕ} (t s : ℕ) → OwnFirst v w x → IsLastOf v (x / 256) t → IsLastOf w (x / 256) s
     → sets_cmp v w ≡ ordering_then (nat_cmp (t / 8) (s / 8)) Greater
 lasts_decide {v} {w} {x} t s o h g =
-    rw (last_length h, last_length g, eighths (x / 256) t s h.of g.of) at (both o (omega (arith, last_length g)))
+    let eighths : nat_cmp (t % 256 / 8 + 1) (s % 256 / 8 + 1) ≡ nat_cmp (t / 8) (s / 8) = grind (arith, nat_tests, h.of, g.of) in
+    rw (last_length h, last_length g, eighths) at (both o (omega (arith, last_length g)))
 
 -- the second's window is not longer
 greater : {v w : List ℕ} {x : ℕ} → OwnFirst v w x → 0 < length (window w (x / 256)) → length (window w (x / 256)) ≤ length (window v (x / 256)) → sets_cmp v w ≡ Greater
