@@ -1,18 +1,17 @@
 -- Reading a CAA record: flags, tag, value.
-use Rattle.std.proofs.Common.{◌≡◌, ◌⊎◌, inl, inr, ⊎_elim, ℕ, ◌+◌, ◌%◌, ◌≤◌, ◌<◌, false, cond, nat_le, List, [], ◌∷◌, ◌++◌, length, get_or, drop, refl, sym, ap}
-use Rattle.std.proofs.Common.{◌∙◌, arith, subst, ◌-◌}
-use Rattle.std.proofs.{Math.Nat.mod-eq_of_lt, lemmas.Grind.common_steps, lemmas.Bool.Decides.nat_tests}
-use Rattle.std.proofs.lemmas.List.{length-append, get_or-take, get_or-append_right}
-use Rattle.std.proofs.{lemmas.Bool.both_ways, lemmas.List.Folds.list_all_at}
+use Rattle.std.proofs.Common.{◌≡◌, ◌⊎◌, inl, inr, ⊎_elim, ℕ, ◌+◌, ◌%◌, ◌≤◌, ◌<◌, false, cond, nat_le, List, [], ◌∷◌, ◌++◌, length, get_or, drop, refl}
+use Rattle.std.proofs.Common.{sym, ap, ◌∙◌, arith, subst, ◌-◌}
+use Rattle.std.proofs.{Math.Nat.mod-eq_of_lt, lemmas.Grind.common_steps, lemmas.Bool.Decides.nat_tests, lemmas.Bool.both_ways}
+use Rattle.std.proofs.lemmas.List.{length-append, get_or-take, get_or-append_right, Folds.list_all_at}
 use Rattle.std.specs.{List.list_all, Char.is_ascii_alphanumeric}
 use Rattle.dns_types.specs.declared.error.DecodeError.{DecodeError}
-use Rattle.dns_types.specs.declared.error.DecodeError.TheVariants as decode
 use Rattle.dns_fields.specs.{Octets.At, Fields.Number, Fields.Octets, Fields.Text, Fields.Rest, Fields.Values, Fields.Field}
 use Rattle.dns_names_wire.specs.{State.Reading, Words.TookField, Words.Took, Words.Refused, Words.StaysBehind, Words.LacksOctets}
 use Rattle.dns_names_wire.proofs.FieldReads.{unless_all, took_stays, took_then, took_last, took_number}
 use Rattle.dns_names_wire.proofs.Strings.{text_taken, at_rest}
 use Rattle.dns_fields.proofs.{Places.At-same_head, FieldLaws.field_inside}
 use Rattle.dns_rdata_sets.specs.CAA.{AreTagOctets, IsTag, IsTagRefusal, IsCaaRefusal}
+use Rattle.dns_types.specs.declared.error.DecodeError.TheVariants as decode
 
 -- the flags' two parts make them again
 pub flags_back : (f : ℕ) → f < 256 → f ≡ f % 128 % 128 + cond (nat_le 128 f) 128 0

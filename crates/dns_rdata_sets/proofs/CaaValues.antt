@@ -1,6 +1,5 @@
 -- CAA by its fields: a record that was read is told by them, and fields that fit make one.
-use Rattle.std.proofs.Common.{◌≡◌, ◌↔◌, ◌<◌, ℕ, ◌+◌, ◌%◌, Bool, true, false, cond, nat_le, nat_lt, length, Result, Ok, Err, refl, sym, ap, ◌∙◌, arith}
-use Rattle.std.proofs.Common.{ltb-true}
+use Rattle.std.proofs.Common.{◌≡◌, ◌↔◌, ◌<◌, ℕ, ◌+◌, ◌%◌, Bool, true, false, cond, nat_le, length, Result, Ok, Err, refl, sym, ap, ◌∙◌, arith}
 use Rattle.std.specs.Prelude.{IfErr}
 use Rattle.std.proofs.{lemmas.Grind.common_steps, lemmas.Bool.Decides.nat_tests}
 use Rattle.dns_types.specs.declared.error.ProtoError.{ProtoError}

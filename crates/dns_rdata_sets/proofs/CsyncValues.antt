@@ -1,8 +1,6 @@
 -- CSYNC by its fields: a record that was read is told by them, and any fields make one.
-use Rattle.std.proofs.Common.{◌≡◌, ◌↔◌, ◌<◌, ℕ, zero, suc, ◌+◌, ◌*◌, ◌/◌, ◌%◌, ◌==◌, Bool, true, false, bit_and, refl, ap, ◌∙◌, arith}
-use Rattle.std.specs.Int.{bit_at}
-use Rattle.std.proofs.lemmas.Nat.Bits.{and_pow, and_high_mask}
-use Rattle.std.proofs.lemmas.Bool.Decides.{nat_tests}
+use Rattle.std.proofs.Common.{◌≡◌, ◌↔◌, ◌<◌, ℕ, ◌+◌, ◌*◌, ◌/◌, ◌%◌, ◌==◌, Bool, true, false, bit_and, refl, ap, arith}
+use Rattle.std.proofs.lemmas.{Nat.Bits.and_pow, Nat.Bits.and_high_mask, Bool.Decides.nat_tests}
 use Rattle.dns_fields.specs.Fields.{Values, Same}
 use Rattle.dns_rdata_sets.specs.CSYNC.{csync_shape, csync_flags, csync_fields, csync_key_shape, csync_keys, bit, IsReadCsync}
 use Rattle.dns_rdata_sets.specs.declared.csync.CSYNC.{CSYNC}

@@ -1,21 +1,19 @@
 -- Values of issuer properties: read, and written.
-use Rattle.std.proofs.Common.{◌≡◌, ◌≢◌, ℕ, ◌+◌, ◌<◌, Bool, true, false, cond, All, inl, inr, List, [], ◌∷◌, ◌++◌, flat_map, Option, Some, None}
-use Rattle.std.proofs.Common.{refl, ap, sym, subst, arith}
-use Rattle.std.proofs.{lemmas.List.Elements.All-head, lemmas.List.Elements.All-tail, lemmas.List.Elements.All-weaker, lemmas.Str.IsUtf8-nil}
-use Rattle.std.proofs.{lemmas.Str.IsUtf8-from_ascii, lemmas.Str.IsAscii-append, lemmas.Str.Ascii.IsAscii-nil, lemmas.Str.Ascii.IsAscii-cons}
+use Rattle.std.proofs.Common.{◌≡◌, ◌≢◌, ℕ, Bool, inl, inr, List, [], ◌∷◌, ◌++◌, Option, Some, None, refl, ap, sym, subst, arith}
+use Rattle.std.proofs.lemmas.Str.{IsUtf8-nil, IsUtf8-from_ascii, IsAscii-append, Ascii.IsAscii-nil, Ascii.IsAscii-cons}
 use Rattle.std.specs.{List.AllByRecursion, Str.IsAscii, Str.IsUtf8}
 use Rattle.dns_types.specs.declared.error.ProtoError.{ProtoError}
-use Rattle.dns_types.specs.declared.error.ProtoError.TheVariants as proto
-use Rattle.dns_fields.specs.{Labels.DomainName, Octets.AreOctets}
-use Rattle.dns_labels.specs.Text.{IsNameText, OctetText, LabelText, LabelsText, MarkedText, name_text}
-use Rattle.dns_labels.specs.Text.OctetText.{plain, decimal, quoted}
-use Rattle.dns_labels.specs.Text.{LabelText.no_octet, LabelText.octet, LabelsText.last, LabelsText.dotted, LabelsText.joined}
+use Rattle.dns_fields.specs.Labels.{DomainName}
+use Rattle.dns_labels.specs.Text.{IsNameText, OctetText, LabelText, LabelsText, MarkedText, name_text, LabelText.no_octet, LabelText.octet}
+use Rattle.dns_labels.specs.Text.{OctetText.plain, OctetText.decimal, OctetText.quoted, LabelsText.last, LabelsText.dotted, LabelsText.joined}
 use Rattle.dns_labels.specs.Text.MarkedText.{root, nothing, labelled}
 use Rattle.dns_labels.proofs.NameTexts.{one_name, name_reads}
 use Rattle.dns_names_wire.specs.NameValues.{IsTextRefusal}
-use Rattle.dns_rdata_sets.specs.Issuer.{Parameter, is_no_semicolon, IsParameter, IsNamed, IsWritable, AllOf, parameter_octets, Splits}
-use Rattle.dns_rdata_sets.specs.Issuer.{AreParameters, IsIssuerName, IsNameRefusal, IsIssuer, IsIssuerRefusal, parameters_text, issuer_value}
-use Rattle.dns_rdata_sets.proofs.{Splitting.same_split, IssuerSteps.Follow, IssuerSteps.follow_alone, IssuerSteps.alone_follow, IssuerSteps.follow_stops, IssuerSteps.one_list}
+use Rattle.dns_rdata_sets.specs.Issuer.{Parameter, is_no_semicolon, IsParameter, IsNamed, IsWritable, AllOf, parameter_octets, Splits, AreParameters}
+use Rattle.dns_rdata_sets.specs.Issuer.{IsIssuerName, IsNameRefusal, IsIssuer, IsIssuerRefusal, parameters_text, issuer_value}
+use Rattle.dns_rdata_sets.proofs.Splitting.{same_split}
+use Rattle.dns_rdata_sets.proofs.IssuerSteps.{Follow, follow_alone, alone_follow, follow_stops, one_list}
+use Rattle.dns_types.specs.declared.error.ProtoError.TheVariants as proto
 
 pub issuer_read : (octets front rest : List ℕ) (name : Option DomainName) (xs : List Parameter) → Splits is_no_semicolon octets front rest
     → IsIssuerName front name → AreParameters rest xs → IsIssuer octets name xs

@@ -1,14 +1,14 @@
 -- The windows of a set, by the numbers in it and in another.
-use Rattle.std.proofs.Common.{◌≡◌, ◌≢◌, ℕ, zero, suc, ◌+◌, ◌-◌, ◌*◌, ◌/◌, ◌%◌, ◌<◌, ◌≤◌, Bool, true, false, cond, inl, inr, All, List, [], ◌∷◌, ◌++◌}
-use Rattle.std.proofs.Common.{length, get_or, take, drop, map, refl, sym, ap, ◌∙◌, subst, arith}
+use Rattle.std.proofs.Common.{◌≡◌, ℕ, zero, suc, ◌+◌, ◌*◌, ◌/◌, ◌%◌, ◌<◌, ◌≤◌, Bool, true, false, cond, inl, inr, List, [], ◌∷◌}
+use Rattle.std.proofs.Common.{length, get_or, take, map, refl, sym, ap, ◌∙◌, subst, arith}
 use Rattle.std.specs.{List.range_with_len, Cmp.nat_cmp_is, Cmp.Lexicographic.slice_cmp, Ordering.nat_cmp, Ordering.ordering_then}
 use Rattle.std.specs.{declared.cmp.Ordering.Ordering, declared.cmp.Ordering.TheVariants.Greater}
 use Rattle.std.proofs.{lemmas.Bool.cases_eq, lemmas.Bool.cases_lt, lemmas.Grind.same_number_lists, lemmas.List.get_or_past}
 use Rattle.std.proofs.lemmas.List.FromFn.{get_or-map-range_with_len, length-map-range_with_len}
-use Rattle.dns_fields.specs.Bitmaps.{Block, contains, IsTypeSet, packed, mark, keep, trimmed, types_octet, window, with_block, windows, minimal}
+use Rattle.dns_fields.specs.Bitmaps.{contains, packed, mark, keep, trimmed, types_octet, window}
 use Rattle.dns_fields.proofs.Bitmaps.{mark_small}
 use Rattle.dns_pieces.proofs.Comparing.{cmp_one}
-use Rattle.dns_rdata_sets.specs.RecordTypeSet.{AreOfWindow, first_window, IsLastOf}
+use Rattle.dns_rdata_sets.specs.RecordTypeSet.{IsLastOf}
 
 -- v has x and w has not, and of the numbers below x both have the same
 pub record OwnFirst (v w : List ℕ) (x : ℕ) : Type 0 where

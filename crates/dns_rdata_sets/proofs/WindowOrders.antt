@@ -1,13 +1,10 @@
 -- Sets of types, ordered by the first number that only one of them has.
-use Rattle.std.proofs.Common.{◌≡◌, ◌≢◌, ℕ, zero, suc, ◌+◌, ◌-◌, ◌*◌, ◌/◌, ◌%◌, ◌≤◌, ◌<◌, true, false, inl, inr, List, [], ◌∷◌, ◌++◌, length, get_or, take}
-use Rattle.std.proofs.Common.{drop, length-take, length-drop, refl, sym, ap, ◌∙◌, subst, arith, length-take-le}
+use Rattle.std.proofs.Common.{◌≡◌, ◌≢◌, ℕ, zero, suc, ◌+◌, ◌-◌, ◌*◌, ◌/◌, ◌%◌, ◌≤◌, ◌<◌, true, false, inl, inr, List, [], ◌∷◌, ◌++◌, length, get_or}
+use Rattle.std.proofs.Common.{take, drop, length-take, length-drop, refl, sym, ap, ◌∙◌, subst, arith, length-take-le}
 use Rattle.std.specs.{List.flat_map, List.range_with_len, Cmp.ranks, Cmp.nat_cmp_is, Cmp.tied_itself, Cmp.Lexicographic.slice_cmp}
-use Rattle.std.specs.{Ordering.MatchOrdering, Ordering.nat_cmp, Ordering.ordering_then, Ordering.ordering_reverse, declared.cmp.Ordering.Ordering}
-use Rattle.std.specs.declared.cmp.Ordering.TheVariants.{Less, Equal, Greater}
-use Rattle.std.proofs.lemmas.Grind.{flat_map-append}
-use Rattle.std.proofs.lemmas.Bool.{cases_eq}
-use Rattle.std.proofs.lemmas.Bool.Decides.{nat_tests}
-use Rattle.std.proofs.lemmas.Cmp.{nat_list_cmp_total}
+use Rattle.std.specs.Ordering.{MatchOrdering, nat_cmp, ordering_then, ordering_reverse}
+use Rattle.std.specs.declared.cmp.Ordering.{Ordering, TheVariants.Less, TheVariants.Equal, TheVariants.Greater}
+use Rattle.std.proofs.lemmas.{Grind.flat_map-append, Bool.cases_eq, Bool.Decides.nat_tests, Cmp.nat_list_cmp_total}
 use Rattle.std.proofs.lemmas.List.{get_or-drop, get_or-take, take_all}
 use Rattle.dns_fields.specs.Bitmaps.{Block, block, contains, IsTypeSet, window, with_block, windows, minimal}
 use Rattle.dns_pieces.proofs.{Comparing.cmp_one, Comparing.cmp_shared, Fronts.front_then}

@@ -1,17 +1,15 @@
 -- The octets of a window, from the numbers of its types.
 use Rattle.std.proofs.Common.{◌≡◌, ℕ, zero, suc, ◌+◌, ◌-◌, ◌*◌, ◌/◌, ◌%◌, ◌<◌, ◌≤◌, ◌^◌, ◌==◌, ◌||◌, Bool, true, false, cond, inl, inr, List, ◌++◌}
 use Rattle.std.proofs.Common.{length, get_or, take, replicate, bit_or, refl, sym, ap, ◌∙◌, arith}
-use Rattle.std.specs.{Int.bit_at, Int.bytes_high_first}
-use Rattle.std.proofs.{Math.ListN.set, lemmas.Bool.cases_lt, lemmas.Bool.Decides.eqb_tells, lemmas.Bool.Decides.nat_tests}
-use Rattle.std.proofs.{lemmas.List.Elements.All-from_get_or, lemmas.List.Folds.list_any_more, lemmas.Nat.shr-shr, lemmas.Grind.get_or-set_at}
-use Rattle.std.proofs.lemmas.List.{get_or-set_other, get_or-replicate, get_or_append_left, get_or-append_right}
+use Rattle.std.specs.Int.{bit_at, bytes_high_first}
+use Rattle.std.proofs.Math.ListN.{set}
+use Rattle.std.proofs.lemmas.{Bool.cases_lt, Bool.Decides.eqb_tells, Bool.Decides.nat_tests, Nat.shr-shr, Grind.get_or-set_at}
+use Rattle.std.proofs.lemmas.List.{Folds.list_any_more, get_or-set_other, get_or-replicate, get_or_append_left, get_or-append_right}
 use Rattle.std.proofs.lemmas.Nat.Bits.{bit_at_set_same, bit_at_set_other, bit_at-zero, bit_at_cat_low, same_from_bits_below}
-use Rattle.dns_fields.specs.Octets.{AreOctets}
-use Rattle.dns_fields.specs.Bitmaps.{contains, Rises, packed, mark, types_octet, window}
+use Rattle.dns_fields.specs.{Octets.AreOctets, Bitmaps.contains, Bitmaps.Rises, Bitmaps.packed, Bitmaps.mark, Bitmaps.types_octet, Bitmaps.window}
 use Rattle.dns_fields.proofs.Bitmaps.{packed_less, packed_bit, mark_small}
 use Rattle.dns_rdata_sets.specs.RecordTypeSet.{AreOfWindow}
-use Rattle.dns_rdata_sets.proofs.Rising.{last_at}
-use Rattle.dns_rdata_sets.proofs.WindowOctets.{octets_are, window_last}
+use Rattle.dns_rdata_sets.proofs.{Rising.last_at, WindowOctets.octets_are, WindowOctets.window_last}
 use mir.Syntax.{Width, w8, w64}
 use mir.Val.{bits}
 

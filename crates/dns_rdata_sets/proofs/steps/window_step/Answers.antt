@@ -1,5 +1,3 @@
-use Rattle.std.proofs.Common.{ℕ, List, ◌++◌, take, ap, ◌∙◌}
-use Rattle.dns_fields.specs.Fields.{Number, field_octets}
 use Rattle.dns_rdata_sets.proofs.Rising.{set_drop}
 use Rattle.dns_rdata_sets.proofs.WindowSteps.{WindowMade, window_given, window_passed, window_none}
 use Rattle.dns_rdata_sets.proofs.steps.window_step.Goals as goal

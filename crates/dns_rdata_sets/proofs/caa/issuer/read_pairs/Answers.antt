@@ -1,5 +1,4 @@
-use Rattle.std.proofs.Common.{arith}
-use Rattle.std.proofs.lemmas.Result.{err_from_is_err_and}
+use Rattle.std.proofs.{Common.arith, lemmas.Result.err_from_is_err_and}
 use Rattle.dns_rdata_sets.proofs.IssuerSteps.{pending_first, pending_step, pending_stop, pending_last, refusal_map}
 use Rattle.dns_rdata_sets.proofs.caa.issuer.read_pairs.Goals as goal
 

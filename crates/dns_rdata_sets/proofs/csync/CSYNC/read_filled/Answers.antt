@@ -1,5 +1,4 @@
-use Rattle.std.proofs.Common.{◌≡◌, ◌+◌, arith}
-use Rattle.std.proofs.lemmas.Result.{err_from_is_err_and}
+use Rattle.std.proofs.{Common.◌≡◌, Common.◌+◌, Common.arith, lemmas.Result.err_from_is_err_and}
 use Rattle.dns_names_wire.proofs.FieldReads.{took_number}
 use Rattle.dns_rdata_sets.proofs.CsyncReads.{types_stop}
 use Rattle.dns_rdata_sets.proofs.csync.CSYNC.read_filled.Goals as goal
