@@ -1,15 +1,51 @@
 -- The grammar of issuer parameters: at most one list of parameters, read from the front.
 use Rattle.std.proofs.Common.{◌≡◌, ℕ, Bool, true, false, not, ◌⊎◌, inl, inr, List, [], ◌∷◌, ◌++◌, refl, ap, sym, subst, ◌∙◌, arith, append_assoc}
 use Rattle.std.proofs.Common.{length-append, ◌==◌, ◌<◌, ◌≤◌, length}
-use Rattle.std.proofs.{lemmas.Bool.or_left, lemmas.Bool.Decides.nat_tests, lemmas.List.append-nil, lemmas.List.Elements.All-weaker}
-use Rattle.std.proofs.{lemmas.List.Sums.AllPass-from_list_all, lemmas.Str.IsUtf8-from_ascii, lemmas.Str.Ascii.IsAscii-from_all}
-use Rattle.std.specs.{Str.IsUtf8, Char.is_ascii_alphanumeric}
+use Rattle.std.proofs.lemmas.{Bool.or_left, Bool.and_from, Bool.and_parts, Bool.Decides.nat_tests, Str.IsUtf8-from_ascii, Str.Ascii.IsAscii-from_all}
+use Rattle.std.proofs.lemmas.List.{append-nil, Elements.All-weaker, Sums.AllPass-from_list_all, Sums.list_all-from_AllPass, Folds.list_all-append}
+use Rattle.std.specs.{Str.IsUtf8, Char.is_ascii_alphanumeric, List.list_all}
 use Rattle.dns_types.specs.declared.error.ProtoError.{ProtoError}
-use Rattle.dns_types.specs.declared.error.ProtoError.TheVariants as proto
 use Rattle.dns_names_wire.specs.NameValues.{IsTextRefusal}
 use Rattle.dns_rdata_sets.specs.Issuer.{Parameter, is_blank, is_no_semicolon, is_key_octet, is_value_octet, AllOf, StartsWithout, Splits, IsKey}
 use Rattle.dns_rdata_sets.specs.Issuer.{IsParameter, parameter_octets, AreParameters}
-use Rattle.dns_rdata_sets.proofs.Splitting.{all_parts, all_cons, all_append, all_halves, all_weaker, split_once}
+use Rattle.dns_types.specs.declared.error.ProtoError.TheVariants as proto
+
+-- ---- octets that are cut at the first one that fails a test
+
+pub all_parts : (p : ℕ → Bool) (x : ℕ) (xs : List ℕ) → AllOf p (x ∷ xs) → (p x ≡ true) × AllOf p xs
+all_parts p x xs h = and_parts (p x) (list_all p xs) h
+
+pub all_cons : (p : ℕ → Bool) (x : ℕ) (xs : List ℕ) → p x ≡ true → AllOf p xs → AllOf p (x ∷ xs)
+all_cons p x xs a b = and_from (p x) (list_all p xs) a b
+
+pub all_append : (p : ℕ → Bool) (xs ys : List ℕ) → AllOf p xs → AllOf p ys → AllOf p (xs ++ ys)
+all_append p xs ys a b = list_all-append p xs ys ∙ and_from (list_all p xs) (list_all p ys) a b
+
+pub all_halves : (p : ℕ → Bool) (xs ys : List ℕ) → AllOf p (xs ++ ys) → AllOf p xs × AllOf p ys
+all_halves p xs ys a = and_parts (list_all p xs) (list_all p ys) (sym (list_all-append p xs ys) ∙ a)
+
+pub all_weaker : (p q : ℕ → Bool) → ((c : ℕ) → p c ≡ true → q c ≡ true) → (xs : List ℕ) → AllOf p xs → AllOf q xs
+all_weaker p q f xs h = list_all-from_AllPass q xs (All-weaker (λ c. p c ≡ true) (λ c. q c ≡ true) f xs (AllPass-from_list_all p xs h))
+
+-- octets are cut in one way
+pub split_once : (p : ℕ → Bool) (a x b y : List ℕ) → a ++ x ≡ b ++ y → AllOf p a → StartsWithout p x → AllOf p b → StartsWithout p y → (a ≡ b) × (x ≡ y)
+split_once p [] x [] y e ha hx hb hy = (refl, e)
+split_once p [] x (d ∷ b) y e ha hx hb hy =
+    let h : p d ≡ false = subst (λ (l : List ℕ). StartsWithout p l) e hx in
+    let k : p d ≡ true = (all_parts p d b hb).0 in
+    cc
+split_once p (c ∷ a) x [] y e ha hx hb hy =
+    let h : p c ≡ false = subst (λ (l : List ℕ). StartsWithout p l) (sym e) hy in
+    let k : p c ≡ true = (all_parts p c a ha).0 in
+    cc
+split_once p (c ∷ a) x (d ∷ b) y e ha hx hb hy =
+    let first : c ≡ d = cc in
+    let rest : a ++ x ≡ b ++ y = cc in
+    let r = split_once p a x b y rest (all_parts p c a ha).1 hx (all_parts p d b hb).1 hy in
+    (ap (λ (z : ℕ). z ∷ a) first ∙ ap (λ (z : List ℕ). d ∷ z) r.0, r.1)
+
+pub same_split : (p : ℕ → Bool) (octets a x b y : List ℕ) → Splits p octets a x → Splits p octets b y → (a ≡ b) × (x ≡ y)
+same_split p octets a x b y s t = split_once p a x b y (sym s.whole ∙ t.whole) s.passes s.stops t.passes t.stops
 
 -- ---- octets of keys and values
 

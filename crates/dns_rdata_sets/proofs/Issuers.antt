@@ -11,8 +11,7 @@ use Rattle.dns_labels.proofs.NameTexts.{one_name, name_reads}
 use Rattle.dns_names_wire.specs.NameValues.{IsTextRefusal}
 use Rattle.dns_rdata_sets.specs.Issuer.{Parameter, is_no_semicolon, IsParameter, IsNamed, IsWritable, AllOf, parameter_octets, Splits, AreParameters}
 use Rattle.dns_rdata_sets.specs.Issuer.{IsIssuerName, IsNameRefusal, IsIssuer, IsIssuerRefusal, parameters_text, issuer_value}
-use Rattle.dns_rdata_sets.proofs.Splitting.{same_split}
-use Rattle.dns_rdata_sets.proofs.IssuerSteps.{Follow, follow_alone, alone_follow, follow_stops, one_list}
+use Rattle.dns_rdata_sets.proofs.IssuerSteps.{same_split, Follow, follow_alone, alone_follow, follow_stops, one_list}
 use Rattle.dns_types.specs.declared.error.ProtoError.TheVariants as proto
 
 pub issuer_read : (octets front rest : List ℕ) (name : Option DomainName) (xs : List Parameter) → Splits is_no_semicolon octets front rest

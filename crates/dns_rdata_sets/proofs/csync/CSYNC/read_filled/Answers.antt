@@ -1,6 +1,6 @@
 use Rattle.std.proofs.{Common.◌≡◌, Common.◌+◌, Common.arith, lemmas.Result.err_from_is_err_and}
 use Rattle.dns_names_wire.proofs.FieldReads.{took_number}
-use Rattle.dns_rdata_sets.proofs.CsyncReads.{types_stop}
+use Rattle.dns_rdata_sets.proofs.CsyncValues.{types_stop}
 use Rattle.dns_rdata_sets.proofs.csync.CSYNC.read_filled.Goals as goal
 
 pub returns-in_err-type_bit_maps : goal.returns-in_err-type_bit_maps
