@@ -14,7 +14,8 @@ use Rattle.std.proofs.{Math.Bool.and-false, lemmas.Grind.flat_map-append}
 use Rattle.dns_names_wire.proofs.FieldWrites.{keeps_then, because_map}
 use Rattle.dns_pieces.specs.Steps.{StepAt}
 
-pub joined : (xs : List (List ℕ)) (s : List ℕ) (ys : List (List ℕ)) → flat_map string (xs ++ s ∷ ys) ≡ flat_map string xs ++ (string s ++ flat_map string ys)
+pub joined : (xs : List (List ℕ)) (s : List ℕ) (ys : List (List ℕ))
+    → flat_map string (xs ++ s ∷ ys) ≡ flat_map string xs ++ (string s ++ flat_map string ys)
 joined xs s ys = flat_map-append string xs (s ∷ ys) ∙ ap (λ (t : List ℕ). flat_map string xs ++ t) (flat_map-cons string s ys)
 
 -- what a loop has read of the strings up to the end, and what is left of any way to fill it
@@ -143,7 +144,8 @@ stopped_strings {e} {w} {b} {n} xs s ys f g = record {
 
 -- a list about one of its places
 pub list_at : (i : ℕ) (xs : List (List ℕ)) (x : List ℕ) → x ≡ get_or xs i x → i < length xs → take i xs ++ x ∷ drop (i + 1) xs ≡ xs
-list_at i xs x is lt = ap (λ (y : List ℕ). take i xs ++ y ∷ drop (i + 1) xs) is ∙ ap (λ (t : List (List ℕ)). take i xs ++ t) (sym (drop_more xs i x lt))
+list_at i xs x is lt = ap (λ (y : List ℕ). take i xs ++ y ∷ drop (i + 1) xs) is
+    ∙ ap (λ (t : List (List ℕ)). take i xs ++ t) (sym (drop_more xs i x lt))
     ∙ take-append-drop i xs
 
 -- ---- strings that are given one after the other
@@ -152,7 +154,8 @@ pub text_given : (ss : List (List ℕ)) (i j : ℕ) (s head tail : List ℕ) →
     → StepAt (texts_left ss) 0 i j head (record { tail = tail; step = 0; part = i + 1; item = 0 })
 unfolding field_octets
 text_given ss i j s head tail h e r =
-    let m : flat_map string (drop i ss) ≡ string s ++ flat_map string (drop (i + 1) ss) = ap (flat_map string) (drop_more ss i s h ∙ ap (λ (x : List ℕ). x ∷ drop (i + 1) ss) (sym e)) in
+    let m : flat_map string (drop i ss) ≡ string s ++ flat_map string (drop (i + 1) ss) =
+    ap (flat_map string) (drop_more ss i s h ∙ ap (λ (x : List ℕ). x ∷ drop (i + 1) ss) (sym e)) in
     record {
       octets = m ∙ ap (λ (x : List ℕ). x ++ flat_map string (drop (i + 1) ss)) (sym r);
       after = omega arith;

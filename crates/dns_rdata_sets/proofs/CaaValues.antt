@@ -28,11 +28,13 @@ bad_octet : {m : List ℕ} {p q r : ℕ} (s front : List ℕ) (octet : ℕ) → 
     → is_ascii_alphanumeric octet ≡ false → AreTagOctets s → ⊥
 bad_octet {m} {p} s front octet a b within bad letters =
     let k : ℕ = length front in
-    let first : get_or s k 0 ≡ get_or (drop p m) k 0 = ap (λ (l : List ℕ). get_or l k 0) (sym a.same) ∙ get_or-take (length s) (drop p m) k 0 within in
+    let first : get_or s k 0 ≡ get_or (drop p m) k 0 = ap (λ (l : List ℕ). get_or l k 0) (sym a.same)
+    ∙ get_or-take (length s) (drop p m) k 0 within in
     let none : k - k ≡ 0 = omega arith in
     let second : octet ≡ get_or (drop p m) k 0 =
     sym (get_or-append_right front (octet ∷ []) k k 0 refl (omega arith) ∙ rw none refl)
-    ∙ ap (λ (l : List ℕ). get_or l k 0) (sym b.same) ∙ get_or-take (length (front ++ octet ∷ [])) (drop p m) k 0 (omega (arith, length-append front (octet ∷ []))) in
+    ∙ ap (λ (l : List ℕ). get_or l k 0) (sym b.same)
+    ∙ get_or-take (length (front ++ octet ∷ [])) (drop p m) k 0 (omega (arith, length-append front (octet ∷ []))) in
     both_ways (list_all is_ascii_alphanumeric s) (list_all_at is_ascii_alphanumeric s k 0 within (rw (first, ← second) bad)) letters
 
 octet_at : {m : List ℕ} {p n q : ℕ} → Field m p (Number 1) n q → At m p (n ∷ []) q
@@ -108,9 +110,11 @@ refused_value {old} {a} {b} {new} {e} n f t tag x y z g why = inr (inr (record {
 -- the fields of a record that was read
 pub caa_taken : {old a b c new : Reading} (n f t : ℕ) (tag value : List ℕ) → f < 256 → TookField old (Number 1) f a → TookField a (Number 1) t b
     → TookField b (Octets t) tag c → TookField c (Octets (n - t - 2)) value new → IsTag tag × (t + 2 ≤ n)
-    → Took old (Number 1 ∷ Text ∷ Rest ∷ []) (f % 128 % 128 + cond (nat_le 128 f) 128 0, (tag, (value, tt))) new × ((new.index ≡ old.index + n) × IsTag tag)
+    → Took old (Number 1 ∷ Text ∷ Rest ∷ []) (f % 128 % 128 + cond (nat_le 128 f) 128 0, (tag, (value, tt))) new
+    × ((new.index ≡ old.index + n) × IsTag tag)
 caa_taken {old} {a} {b} {c} {new} n f t tag value lt x y z w g =
-    let first : TookField old (Number 1) (f % 128 % 128 + cond (nat_le 128 f) 128 0) a = subst (λ (k : ℕ). TookField old (Number 1) k a) (flags_back f lt) x in
+    let first : TookField old (Number 1) (f % 128 % 128 + cond (nat_le 128 f) 128 0) a =
+    subst (λ (k : ℕ). TookField old (Number 1) k a) (flags_back f lt) x in
     let last : TookField c Rest value new = record { message = w.message; field = record { is = w.field.is.1 } } in (
       took_then first (took_then (text_taken refl y z) (took_then last (took_last _))),
       (omega (arith, g.1, took_number x, took_number y, z.field.is.0, z.field.is.1.ends, w.field.is.0, w.field.is.1.ends), g.0),
@@ -128,7 +132,8 @@ parts_back b r h = (grind (arith, common_steps, nat_tests), grind (arith, nat_te
 pub caa_from-fields : (x : CAA) → IsReadCaa x → x ≡ caa_from (caa_fields x)
 caa_from-fields x r =
     let parts = parts_back x.issuer_critical x.reserved_flags r in
-    ap (λ (b : Bool). record x { issuer_critical = b }) parts.0 ∙ ap (λ (n : ℕ). record x { issuer_critical = nat_le 128 (caa_flags x); reserved_flags = n }) parts.1
+    ap (λ (b : Bool). record x { issuer_critical = b }) parts.0
+    ∙ ap (λ (n : ℕ). record x { issuer_critical = nat_le 128 (caa_flags x); reserved_flags = n }) parts.1
 
 pub caa_fields-from : (vs : Values caa_shape) → AllFit caa_shape vs → caa_fields (caa_from vs) ≡ vs
 caa_fields-from vs f = ap (λ (n : ℕ). (n, vs.1)) (sym (flags_back vs.0 (omega (arith, f.0))))

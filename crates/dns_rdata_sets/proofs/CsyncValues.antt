@@ -52,7 +52,8 @@ csync_from-fields x h =
     rw (first, then, others, ← low.1, ← high.1) refl
 
 pub csync_fields-from : (vs : Values csync_shape) → csync_fields (csync_from vs) ≡ vs
-csync_fields-from vs = ap (λ (n : ℕ). (vs.0, (n, vs.1.1))) (rw (of_bit (vs.1.0 % 2) (omega arith), of_bit (vs.1.0 / 2 % 2) (omega arith)) (omega arith))
+csync_fields-from vs = ap (λ (n : ℕ). (vs.0, (n, vs.1.1))) (rw (of_bit (vs.1.0 % 2) (omega arith), of_bit (vs.1.0 / 2 % 2) (omega arith))
+    (omega arith))
 
 pub csync_from-read : (vs : Values csync_shape) → IsReadCsync (csync_from vs)
 csync_from-read vs = record { reserved = omega arith }
@@ -70,7 +71,8 @@ csync_keys-same a b x y = (
 -- ---- reading: a refused bitmap behind serial and flags
 
 pub types_stop : {e : DecodeError} {old b between new : Reading} {serial flags : ℕ} (m n : ℕ) → TookField old (Number 4) serial b
-    → TookField b (Number 2) flags between → m + 6 ≡ n → AreKnownFlags flags → Refused e between set_shape (λ vs q. (q ≡ between.index + m) × Unit {0}) new
+    → TookField b (Number 2) flags between → m + 6 ≡ n → AreKnownFlags flags
+    → Refused e between set_shape (λ vs q. (q ≡ between.index + m) × Unit {0}) new
     → IsBitmapRefusal m between e new
     → Refused e old csync_shape (λ vs q. (q ≡ old.index + n) × MeetsCsyncCondition vs) new × IsCsyncRefusal n old e new
 types_stop {e} {between = between} {new = new} {serial = serial} {flags = flags} m n f g all known r refused =

@@ -28,7 +28,8 @@ pub all_weaker : (p q : ℕ → Bool) → ((c : ℕ) → p c ≡ true → q c �
 all_weaker p q f xs h = list_all-from_AllPass q xs (All-weaker (λ c. p c ≡ true) (λ c. q c ≡ true) f xs (AllPass-from_list_all p xs h))
 
 -- octets are cut in one way
-pub split_once : (p : ℕ → Bool) (a x b y : List ℕ) → a ++ x ≡ b ++ y → AllOf p a → StartsWithout p x → AllOf p b → StartsWithout p y → (a ≡ b) × (x ≡ y)
+pub split_once : (p : ℕ → Bool) (a x b y : List ℕ) → a ++ x ≡ b ++ y → AllOf p a → StartsWithout p x → AllOf p b → StartsWithout p y
+    → (a ≡ b) × (x ≡ y)
 split_once p [] x [] y e ha hx hb hy = (refl, e)
 split_once p [] x (d ∷ b) y e ha hx hb hy =
     let h : p d ≡ false = subst (λ (l : List ℕ). StartsWithout p l) e hx in
@@ -227,7 +228,8 @@ one_list octets (x ∷ xs) ys h k =
     let f = first_parameter (parameter_octets x ++ h.1) (parameter_octets x) h.1 ys (long x h.1) (starts x h.1 h.4.key)
     (record { whole = refl; passes = no_semicolon x h.4; stops = follow_stops h.1 xs h.5 })
     (blanks_behind h.0 (parameter_octets x ++ h.1) ys h.3 (subst (λ (l : List ℕ). AreParameters l ys) h.2 k)) in
-    ap (λ (z : Parameter). z ∷ xs) (parameter_same x f.0 h.4 f.4 f.3) ∙ ap (λ (l : List Parameter). f.0 ∷ l) (one_list h.1 xs f.1 (follow_alone h.1 xs h.5) f.5) ∙ sym f.2
+    ap (λ (z : Parameter). z ∷ xs) (parameter_same x f.0 h.4 f.4 f.3)
+    ∙ ap (λ (l : List Parameter). f.0 ∷ l) (one_list h.1 xs f.1 (follow_alone h.1 xs h.5) f.5) ∙ sym f.2
 
 -- ---- texts
 

@@ -27,11 +27,15 @@ no_text front None some none h = some h
 no_text front (Some name) some none h = none name h.2
 
 -- what an issuer has where the octets are cut
-of_issuer : (octets front rest : List ℕ) (name : Option DomainName) (xs : List Parameter) → Splits is_no_semicolon octets front rest → IsIssuer octets name xs
+of_issuer : (octets front rest : List ℕ) (name : Option DomainName) (xs : List Parameter) → Splits is_no_semicolon octets front rest
+    → IsIssuer octets name xs
     → IsIssuerName front name × AreParameters rest xs
 of_issuer octets front rest name xs s i =
-    let same = same_split is_no_semicolon octets i.front i.rest front rest i.splits s in
-    (subst (λ (l : List ℕ). IsIssuerName l name) same.0 i.is_name, subst (λ (l : List ℕ). AreParameters l xs) same.1 (follow_alone i.rest xs i.parameters))
+    let same = same_split is_no_semicolon octets i.front i.rest front rest i.splits s in (
+      subst (λ (l : List ℕ). IsIssuerName l name) same.0 i.is_name,
+      subst (λ (l : List ℕ). AreParameters l xs) same.1
+          (follow_alone i.rest xs i.parameters),
+    )
 
 -- the name is refused
 pub name_stop : (octets front rest : List ℕ) (e : ProtoError) → Splits is_no_semicolon octets front rest → IsNameRefusal front e → IsIssuerRefusal octets e
@@ -84,7 +88,8 @@ label_ascii (octet front rest o l e) = rw e (IsAscii-append front rest (octet_as
 labels_ascii : {labels : List (List ℕ)} {mark : Bool} {text : List ℕ} → LabelsText labels mark text → IsAscii text
 labels_ascii (last l) = label_ascii l
 labels_ascii (dotted front l e) = rw e (IsAscii-append front (46 ∷ []) (label_ascii l) (IsAscii-cons 46 [] (omega arith) IsAscii-nil))
-labels_ascii (joined front rest l more e) = rw e (IsAscii-append front (46 ∷ rest) (label_ascii l) (IsAscii-cons 46 rest (omega arith) (labels_ascii more)))
+labels_ascii (joined front rest l more e) =
+    rw e (IsAscii-append front (46 ∷ rest) (label_ascii l) (IsAscii-cons 46 rest (omega arith) (labels_ascii more)))
 
 text_utf8 : {labels : List (List ℕ)} {mark : Bool} {text : List ℕ} → MarkedText labels mark text → IsUtf8 text
 text_utf8 root = IsUtf8-from_ascii (46 ∷ []) (IsAscii-cons 46 [] (omega arith) IsAscii-nil)
@@ -99,7 +104,8 @@ written_parameters (x ∷ xs) h = inr (
   (32 ∷ [], parameters_text xs, refl, refl, h.0, written_parameters xs h.1),
 )
 
-written : (front rest : List ℕ) (name : Option DomainName) (xs : List Parameter) → AllOf is_no_semicolon front → IsIssuerName front name → Follow rest xs
+written : (front rest : List ℕ) (name : Option DomainName) (xs : List Parameter) → AllOf is_no_semicolon front → IsIssuerName front name
+    → Follow rest xs
     → IsIssuer (front ++ rest) name xs
 written front rest name xs p n f =
     record { front = front; rest = rest; splits = record { whole = refl; passes = p; stops = follow_stops rest xs f }; is_name = n; parameters = f }
@@ -113,7 +119,8 @@ issuer_written (Some name) xs n w h =
     written (name_text name) (parameters_text xs) (Some name) xs w.1 (w.0, text_utf8 text.reads, text) (written_parameters xs h)
 
 -- the value of a name and parameters is refused for want of memory alone
-pub memory_alone : (octets : List ℕ) (e : ProtoError) → IsIssuerRefusal octets e → (name : Option DomainName) (xs : List Parameter) → IsIssuer octets name xs
+pub memory_alone : (octets : List ℕ) (e : ProtoError) → IsIssuerRefusal octets e → (name : Option DomainName) (xs : List Parameter)
+    → IsIssuer octets name xs
     → e ≡ proto.Memory
 memory_alone octets proto.Memory k name xs i = refl
 memory_alone octets (proto.Decode d) k name xs i = absurd (k.1 name xs i)

@@ -1,14 +1,15 @@
 -- The windows of a set, by the numbers in it and in another.
-use Rattle.std.proofs.Common.{◌≡◌, ℕ, zero, suc, ◌+◌, ◌*◌, ◌/◌, ◌%◌, ◌<◌, ◌≤◌, Bool, true, false, cond, inl, inr, List, [], ◌∷◌}
-use Rattle.std.proofs.Common.{length, get_or, take, map, refl, sym, ap, ◌∙◌, subst, arith}
+use Rattle.std.proofs.Common.{◌≡◌, ℕ, zero, suc, ◌+◌, ◌*◌, ◌/◌, ◌%◌, ◌<◌, ◌≤◌, Bool, true, false, cond, inl, inr, List, [], ◌∷◌, length, get_or, take}
+use Rattle.std.proofs.Common.{map, refl, sym, ap, ◌∙◌, subst, arith, ◌≢◌, ◌-◌, ◌++◌, drop}
 use Rattle.std.specs.{List.range_with_len, Cmp.nat_cmp_is, Cmp.Lexicographic.slice_cmp, Ordering.nat_cmp, Ordering.ordering_then}
-use Rattle.std.specs.{declared.cmp.Ordering.Ordering, declared.cmp.Ordering.TheVariants.Greater}
-use Rattle.std.proofs.{lemmas.Bool.cases_eq, lemmas.Bool.cases_lt, lemmas.Grind.same_number_lists, lemmas.List.get_or_past}
-use Rattle.std.proofs.lemmas.List.FromFn.{get_or-map-range_with_len, length-map-range_with_len}
-use Rattle.dns_fields.specs.Bitmaps.{contains, packed, mark, keep, trimmed, types_octet, window}
+use Rattle.std.specs.declared.cmp.Ordering.{Ordering, TheVariants.Greater}
+use Rattle.std.proofs.lemmas.{Bool.cases_eq, Bool.cases_lt, Grind.same_number_lists}
+use Rattle.std.proofs.lemmas.List.{get_or_past, FromFn.get_or-map-range_with_len, FromFn.length-map-range_with_len}
+use Rattle.dns_fields.specs.Bitmaps.{contains, packed, mark, keep, trimmed, types_octet, window, Block, IsTypeSet, with_block, windows, minimal}
 use Rattle.dns_fields.proofs.Bitmaps.{mark_small}
 use Rattle.dns_pieces.proofs.Comparing.{cmp_one}
-use Rattle.dns_rdata_sets.specs.RecordTypeSet.{IsLastOf}
+use Rattle.dns_rdata_sets.specs.RecordTypeSet.{IsLastOf, AreOfWindow, first_window}
+use Rattle.dns_rdata_sets.proofs.Rising.{lacks, in_rest, ascends, front_only, from_on, small_at}
 
 -- v has x and w has not, and of the numbers below x both have the same
 pub record OwnFirst (v w : List ℕ) (x : ℕ) : Type 0 where
@@ -88,7 +89,7 @@ trimmed_last (x ∷ []) (suc n) s z = absurd (omega arith)
 trimmed_last (x ∷ y ∷ xs) (suc n) s z = ap (keep x) (trimmed_last (y ∷ xs) n s (λ i l. z (suc i) (omega arith)))
 
 trimmed_reaches : (xs : List ℕ) (j : ℕ) → 0 < get_or xs j 0 → j < length (trimmed xs)
-trimmed_reaches xs j s = elim (cases_lt j (length (trimmed xs))) [ inl l ↦ l | inr l ↦ absurd (omega (arith, trimmed_get xs j, get_or_past (trimmed xs) j 0 l)) ]
+trimmed_reaches xs j s = grind (arith, trimmed_get xs j, get_or_past (trimmed xs) j 0)
 
 -- the first octet that differs decides
 first_greater : (xs ys : List ℕ) (j : ℕ) → j < length xs → j < length ys → ((i : ℕ) → i < j → get_or xs i 0 ≡ get_or ys i 0) → get_or ys j 0 < get_or xs j 0
@@ -112,7 +113,8 @@ octet_at v k j l = get_or-map-range_with_len (types_octet v k) 0 32 j j 0 l (ome
 pub octets_long : (v : List ℕ) (k : ℕ) → length (octets_of v k) ≡ 32
 octets_long v k = length-map-range_with_len (types_octet v k) 0 32
 
-pub octets_are : (v : List ℕ) (k : ℕ) (octets : List ℕ) → length octets ≡ 32 → ((j : ℕ) → j < 32 → get_or octets j 0 ≡ types_octet v k j) → octets ≡ octets_of v k
+pub octets_are : (v : List ℕ) (k : ℕ) (octets : List ℕ) → length octets ≡ 32 → ((j : ℕ) → j < 32 → get_or octets j 0 ≡ types_octet v k j)
+    → octets ≡ octets_of v k
 octets_are v k octets n same = same_number_lists octets (octets_of v k) (n ∙ sym (octets_long v k))
     (λ j l. let inside : j < 32 = omega (arith, n, l) in same j inside ∙ sym (octet_at v k j inside))
 
@@ -148,8 +150,72 @@ pub window_greater : {v w : List ℕ} {x : ℕ} (k : ℕ) → OwnFirst v w x →
 unfolding window
 window_greater {v} {w} {x} k o e l =
     let j : ℕ = x % 256 / 8 in
-    let get : (z : List ℕ) (i : ℕ) → i ≤ j → get_or (trimmed (octets_of z k)) i 0 ≡ types_octet z k i = λ z i m. trimmed_get (octets_of z k) i ∙ octet_at z k i (omega (arith, m)) in
+    let get : (z : List ℕ) (i : ℕ) → i ≤ j → get_or (trimmed (octets_of z k)) i 0 ≡ types_octet z k i = λ z i m. trimmed_get (octets_of z k) i
+    ∙ octet_at z k i (omega (arith, m)) in
     let here = window_reaches v k x e o.has in
     first_greater (trimmed (octets_of v k)) (trimmed (octets_of w k)) j here (omega (arith, l, here))
     (λ i m. get v i (omega (arith, m)) ∙ octet_same v w k i (λ u a b. o.below u (omega (arith, e, m, b))) ∙ sym (get w i (omega (arith, m))))
     (omega (arith, get v j (omega arith), get w j (omega arith), octet_less k o e))
+
+-- ---- the windows of a set, and of the set behind its first window
+
+pub some_block : (k : ℕ) (w : List ℕ) (bs : List Block) → 0 < length w → with_block k w bs ≡ (k, w) ∷ bs
+some_block k [] bs l = absurd (omega arith)
+some_block k (x ∷ w) bs l = refl
+
+with_more : (k : ℕ) (w : List ℕ) (bs cs : List Block) → with_block k w (bs ++ cs) ≡ with_block k w bs ++ cs
+with_more k [] bs cs = refl
+with_more k (x ∷ w) bs cs = refl
+
+pub windows_same : (v w : List ℕ) (a n : ℕ) → ((u : ℕ) → a ≤ u / 256 → u / 256 < a + n → contains u v ≡ contains u w)
+    → windows v (range_with_len a n) ≡ windows w (range_with_len a n)
+windows_same v w a zero h = refl
+windows_same v w a (suc n) h =
+    ap (λ (x : List ℕ). with_block a x (windows v (range_with_len (a + 1) n))) (window_same v w a (λ u e. h u (omega (arith, e)) (omega (arith, e))))
+    ∙ ap (with_block a (window w a)) (windows_same v w (a + 1) n (λ u l m. h u (omega (arith, l)) (omega (arith, m))))
+
+windows_empty : (a n : ℕ) → windows [] (range_with_len a n) ≡ []
+windows_empty a zero = refl
+windows_empty a (suc n) = rw window_empty (windows_empty (a + 1) n)
+
+pub windows_none : (v : List ℕ) (a n : ℕ) → ((u : ℕ) → a ≤ u / 256 → u / 256 < a + n → contains u v ≡ false) → windows v (range_with_len a n) ≡ []
+windows_none v a n none = windows_same v [] a n none ∙ windows_empty a n
+
+pub minimal_none : minimal [] ≡ []
+unfolding minimal
+minimal_none = windows_empty 0 256
+
+windows_split : (v : List ℕ) (a k n m b : ℕ) → k + n ≡ m → a + k ≡ b
+    → windows v (range_with_len a m) ≡ windows v (range_with_len a k) ++ windows v (range_with_len b n)
+windows_split v a zero n m b e f = let s : m ≡ n = omega arith in let t : b ≡ a = omega arith in rw (s, t) refl
+windows_split v a (suc k) n zero b e f = absurd (omega arith)
+windows_split v a (suc k) n (suc m) b e f =
+    rw (windows_split v (a + 1) k n m b (omega arith) (omega arith), with_more) refl
+
+-- the windows behind window k
+abbrev pub behind_window : List ℕ → ℕ → List Block
+behind_window v k = windows v (range_with_len (k + 1) (255 - k))
+
+-- those in front of window k, it, and those behind it
+pub minimal_at : (v : List ℕ) (k : ℕ) → k < 256 → minimal v ≡ windows v (range_with_len 0 k) ++ with_block k (window v k) (behind_window v k)
+unfolding minimal
+minimal_at v k l = windows_split v 0 k (suc (255 - k)) 256 k (omega arith) (omega arith)
+
+-- e numbers are of the first window, and what is behind them is of later ones
+pub minimal_next : (v : List ℕ) (e : ℕ) → IsTypeSet v → 0 < length v → 0 < e → AreOfWindow (first_window v) (take e v)
+    → (e < length v → get_or v e 0 / 256 ≢ first_window v) → 0 < length (window (take e v) (first_window v))
+    → minimal v ≡ (first_window v, window (take e v) (first_window v)) ∷ minimal (drop e v)
+minimal_next v e s more some run next full =
+    let k : ℕ = first_window v in
+    let small : k < 256 = omega (arith, small_at v 0 s more) in
+    let run_only : (u : ℕ) → u / 256 ≢ k → contains u (take e v) ≡ false = (λ u other. lacks (λ t. t / 256 ≡ k) (take e v) u run other) in
+    let later : e < length v → 256 * (k + 1) ≤ get_or v e 0 = (λ l. omega (arith, next l, ascends v s.rises 0 e some l)) in
+    let front : (u : ℕ) → u / 256 ≤ k → contains u v ≡ contains u (take e v) = (λ u m. front_only (256 * (k + 1)) e v s later u (omega (arith, m))) in
+    let behind : (u : ℕ) → u / 256 ≤ k → contains u (drop e v) ≡ false = (λ u m. from_on (256 * (k + 1)) e v s later u (omega (arith, m))) in
+    let first = windows_none v 0 k (λ u l m. front u (omega (arith, m)) ∙ run_only u (omega (arith, m))) in
+    let here = window_same v (take e v) k (λ u q. front u (omega (arith, q))) in
+    let rest : behind_window v k ≡ minimal (drop e v) =
+    windows_same v (drop e v) (k + 1) (255 - k) (λ u l m. in_rest e v u (run_only u (omega (arith, l))))
+    ∙ sym (rw (windows_none (drop e v) 0 k (λ u l m. behind u (omega (arith, m))), window_none (drop e v) k (λ u m. behind u (omega (arith, m)))) at
+    (minimal_at (drop e v) k small)) in
+    rw (first, here, rest) at (minimal_at v k small) ∙ some_block k (window (take e v) k) (minimal (drop e v)) full

@@ -43,7 +43,8 @@ marked out b n l h k =
     elim (eqb_tells (n / 8) (b / 8)) [
       | inl e ↦ (
           let same : (7 - b % 8 == 7 - n % 8) ≡ (b == n) = grind (arith, nat_tests, e.1) in
-          ap (λ (x : ℕ). bit_at x (7 - n % 8)) (get_or-set_at out (b / 8) (n / 8) v 0 e.1 (omega arith)) ∙ set_bit w8 (get_or out (b / 8) 0) (7 - b % 8) (7 - n % 8) (omega arith)
+          ap (λ (x : ℕ). bit_at x (7 - n % 8)) (get_or-set_at out (b / 8) (n / 8) v 0 e.1 (omega arith))
+          ∙ set_bit w8 (get_or out (b / 8) 0) (7 - b % 8) (7 - n % 8) (omega arith)
           ∙ rw (same, e.1) refl)
       | inr e ↦ (
           let other : (b == n) ≡ false = grind (arith, nat_tests, e.1) in

@@ -15,4 +15,5 @@ returns-in_err-pairs c =
     rw (p.1, p.2) (record { read = tt; refused = refused; reads_back = memory_alone _ _ refused })
 
 pub returns-clause-reads_back : goal.returns-clause-reads_back
-returns-clause-reads_back c = λ name xs. one_issuer _ _ name _ xs (issuer_read _ _ _ _ _ c.cut_at.ensures c.in_ok-name.ensures.read c.in_ok-pairs.ensures.read)
+returns-clause-reads_back c = λ name xs. one_issuer _ _ name _ xs
+    (issuer_read _ _ _ _ _ c.cut_at.ensures c.in_ok-name.ensures.read c.in_ok-pairs.ensures.read)

@@ -1,6 +1,5 @@
-use Rattle.std.proofs.Common.{◌≡◌, ◌∷◌, sym, ◌∙◌, arith, true}
+use Rattle.std.proofs.{Common.◌≡◌, Common.◌∷◌, Common.sym, Common.◌∙◌, Common.arith, Common.true, lemmas.Bool.both_ways, lemmas.Grind.common_steps}
 use Rattle.std.specs.List.{list_all}
-use Rattle.std.proofs.lemmas.{Bool.both_ways, Grind.common_steps}
 use Rattle.dns_rdata_sets.specs.Issuer.{IsKey, is_value_octet}
 use Rattle.dns_rdata_sets.proofs.IssuerSteps.{parameter_cut, parameter_read, key_utf8, value_utf8}
 use Rattle.dns_rdata_sets.proofs.caa.issuer.read_pair.Goals as goal
