@@ -81,6 +81,11 @@ tag_refused start n t d b new e place f behind r = record {
 
 -- ---- refusals
 
+-- flags, a tag's length and its octets are taken
+moved : {old a b new : Reading} {f t : ℕ} {tag : List ℕ} → TookField old (Number 1) f a → TookField a (Number 1) t b → TookField b (Octets t) tag new
+    → new.index ≡ old.index + t + 2
+moved x y z = omega (arith, took_number x, took_number y, z.field.is.0, z.field.is.1.ends)
+
 pub refused_value : {old a b new : Reading} {e : DecodeError} (n f t : ℕ) (tag : List ℕ) → TookField old (Number 1) f a → TookField a (Number 1) t b
     → TookField b (Octets t) tag new → IsTag tag × (t + 2 ≤ n)
     → (e ≡ decode.Memory) ⊎ ((e ≡ decode.InsufficientBytes) × LacksOctets new (n - t - 2)) → IsCaaRefusal n old e new
@@ -90,21 +95,7 @@ refused_value {old} {a} {b} {new} {e} n f t tag x y z g why = inr (inr (record {
   took = took_then x (took_then (text_taken refl y z) (took_last _));
   is_tag = g.0;
   fits = omega (arith, g.1, z.field.is.0);
-  error = ⊎_elim inl (λ l. inr (
-    l.0,
-    omega (
-      arith,
-      l.1,
-      g.1,
-      ap length z.message,
-      ap length y.message,
-      ap length x.message,
-      took_number x,
-      took_number y,
-      z.field.is.0,
-      z.field.is.1.ends,
-    ),
-  )) why;
+  error = ⊎_elim inl (λ l. inr (l.0, omega (arith, l.1, g.1, ap length (z.message ∙ y.message ∙ x.message), moved x y z))) why;
 }))
 
 -- the fields of a record that was read
@@ -117,7 +108,7 @@ caa_taken {old} {a} {b} {c} {new} n f t tag value lt x y z w g =
     subst (λ (k : ℕ). TookField old (Number 1) k a) (flags_back f lt) x in
     let last : TookField c Rest value new = record { message = w.message; field = record { is = w.field.is.1 } } in (
       took_then first (took_then (text_taken refl y z) (took_then last (took_last _))),
-      (omega (arith, g.1, took_number x, took_number y, z.field.is.0, z.field.is.1.ends, w.field.is.0, w.field.is.1.ends), g.0),
+      (omega (arith, g.1, moved x y z, w.field.is.0, w.field.is.1.ends), g.0),
     )
 
 -- ---- by the fields: a record that was read is told by them, and fields that fit make one

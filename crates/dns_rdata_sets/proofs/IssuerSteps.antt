@@ -102,15 +102,9 @@ parameter_same x y a b e =
 -- blanks in front change nothing
 pub blanks_before : (front rest : List ℕ) (xs : List Parameter) → AllOf is_blank front → AreParameters rest xs → AreParameters (front ++ rest) xs
 blanks_before front rest [] b h = all_append is_blank front rest b h
-blanks_before front rest (x ∷ xs) b h = (
-  front ++ h.0,
-  h.1,
-  ap (λ (l : List ℕ). front ++ l) h.2
-      ∙ sym (append_assoc front h.0 (parameter_octets x ++ h.1)),
-  all_append is_blank front h.0 b h.3,
-  h.4,
-  h.5,
-)
+blanks_before front rest (x ∷ xs) b h =
+    let whole = ap (λ (l : List ℕ). front ++ l) h.2 ∙ sym (append_assoc front h.0 (parameter_octets x ++ h.1)) in
+    (front ++ h.0, h.1, whole, all_append is_blank front h.0 b h.3, h.4, h.5)
 
 -- a blank in front
 blank_off : (c : ℕ) (rest : List ℕ) (xs : List Parameter) → is_blank c ≡ true → AreParameters (c ∷ rest) xs → AreParameters rest xs
@@ -192,11 +186,9 @@ pending_step octets read more now front behind blanks rest x p some t is s e = r
   complete = λ ys h.
       let k = p.complete ys h in
       let f = first_parameter now front behind k.0 some p.starts t k.2 in
-      let same : f.0 ≡ x = parameter_same f.0 x f.4 is.1 (sym f.3 ∙ is.0) in (
-        f.1,
-        k.1 ∙ ap (λ (l : List Parameter). read ++ l) (f.2 ∙ ap (λ (z : Parameter). z ∷ f.1) same) ∙ sym (append_assoc read (x ∷ []) f.1),
-        blanks_behind blanks rest f.1 s.passes (subst (λ (l : List ℕ). AreParameters l f.1) s.whole f.5),
-      );
+      let same : f.0 ≡ x = parameter_same f.0 x f.4 is.1 (sym f.3 ∙ is.0) in
+      let whole = k.1 ∙ ap (λ (l : List Parameter). read ++ l) (f.2 ∙ ap (λ (z : Parameter). z ∷ f.1) same) ∙ sym (append_assoc read (x ∷ []) f.1) in
+      (f.1, whole, blanks_behind blanks rest f.1 s.passes (subst (λ (l : List ℕ). AreParameters l f.1) s.whole f.5));
 })
 
 pub pending_last : (octets : List ℕ) (read : List Parameter) (rest : List ℕ) → Pending octets read rest → length rest ≤ 0 → AreParameters octets read

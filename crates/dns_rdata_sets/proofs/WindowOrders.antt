@@ -109,13 +109,7 @@ differ_at s t h e l = record { first = s; second = t; here = h.0; within = omega
 
 -- the number of the second in front of that place is below that of the first which stands there
 last_below : {v w : List ℕ} {i : ℕ} → Differ v w i → 0 < i → get_or w (i - 1) 0 < get_or v i 0
-last_below {v} {w} {i} d some = omega (
-  arith,
-  get_or-take i v (i - 1) 0 (omega (arith, some)),
-  get_or-take i w (i - 1) 0 (omega (arith, some)),
-  ap (λ (z : List ℕ). get_or z (i - 1) 0) d.same,
-  ascends v d.first.rises (i - 1) i (omega (arith, some)) d.here,
-)
+last_below {v} {w} {i} d some = grind (arith, get_or-take i v (i - 1) 0, get_or-take i w (i - 1) 0, d.same, ascends v d.first.rises (i - 1) i)
 
 pub own_first : {v w : List ℕ} {i : ℕ} → Differ v w i → OwnFirst v w (get_or v i 0)
 own_first {v} {w} {i} d =

@@ -67,13 +67,9 @@ pub record LeftWindows (v rest : List ℕ) (old now : Writing) : Type 0 where
   pub left : flat_map block (minimal v) ≡ written ++ flat_map block (minimal rest)
 
 pub left_first : {v : List ℕ} (w : Writing) → IsTypeSet v → LeftWindows v v w w
-left_first w s = record {
-  written = [];
-  appended = record { keeps = keeps_same w; field = record { is = sym (append-nil w.octets) } };
-  set =
-      s;
-  left = refl;
-}
+left_first w s =
+    let none = sym (append-nil w.octets) in
+    record { written = []; appended = record { keeps = keeps_same w; field = record { is = none } }; set = s; left = refl }
 
 -- with a block in front of what is left
 left_block : {v rest : List ℕ} {old now : Writing} (b : Block) (more : List ℕ) (f : LeftWindows v rest old now) → minimal rest ≡ b ∷ minimal more
@@ -108,9 +104,7 @@ left_stopped {old = old} error b more f next s = record {
           f.appended.keeps.limit,
           ap length f.appended.field.is,
           ap length (left_block b more f next),
-          length-append old.octets f.written,
-          length-append (f.written ++ block b) (flat_map block (minimal more)),
-          length-append f.written (block b),
+          length-append {A = ℕ},
         );
       })
       (λ u. let e = u.unfit in absurd (cc e)) s.why;

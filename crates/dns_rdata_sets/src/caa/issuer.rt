@@ -272,22 +272,15 @@ fn name_octets(alloc: Global, name: Option<&Name>) -> Result<Vec<u8>, AllocError
     }
 }
 
-// Appends a parameter behind a semicolon and a space.
-fn append_pair(out: &mut Vec<u8>, pair: &KeyValue) -> Result<(), AllocError>
-    ensures { OnOk result (out.new.items ≡ out.old.items ++ 59 ∷ 32 ∷ parameter_octets pair.now) }
-{
-    out.extend_from_slice(b"; ")?;
-    out.extend_from_slice(pair.key().as_bytes())?;
-    out.push(b'=')?;
-    out.extend_from_slice(pair.value().as_bytes())?;
-    Ok(())
-}
-
+// Appends each parameter behind a semicolon and a space.
 fn append_pairs(out: &mut Vec<u8>, pairs: &[KeyValue]) -> Result<(), AllocError>
     ensures { OnOk result (out.new.items ≡ out.old.items ++ parameters_text pairs.now) }
 {
     for pair in pairs {
-        append_pair(out, pair)?;
+        out.extend_from_slice(b"; ")?;
+        out.extend_from_slice(pair.key().as_bytes())?;
+        out.push(b'=')?;
+        out.extend_from_slice(pair.value().as_bytes())?;
     }
     Ok(())
 }
