@@ -94,21 +94,14 @@ left_next {old = old} b more f next set a = record {
 pub left_stopped : {v rest : List ℕ} {old now new : Writing} (error : ProtoError) (b : Block) (more : List ℕ) → LeftWindows v rest old now
     → minimal rest ≡ b ∷ minimal more → StoppedField error now Rest (block b) new → StoppedField error old Bitmap v new
 unfolding field_octets
-left_stopped {old = old} error b more f next s = record {
-  extends = extends_then f.appended s.extends;
-  why = because_map error _ _ _ _
-      (λ n. record {
-        full = omega (
-          arith,
-          n.full,
-          f.appended.keeps.limit,
-          ap length f.appended.field.is,
-          ap length (left_block b more f next),
-          length-append {A = ℕ},
-        );
-      })
-      (λ u. let e = u.unfit in absurd (cc e)) s.why;
-}
+left_stopped error b more f next s =
+    let is = ap length f.appended.field.is in
+    let whole = ap length (left_block b more f next) in
+    record {
+      extends = extends_then f.appended s.extends;
+      why = because_map error _ _ _ _ (λ n. record { full = omega (arith, n.full, f.appended.keeps.limit, is, whole, length-append {A = ℕ}) })
+          (λ u. let e = u.unfit in absurd (cc e)) s.why;
+    }
 
 -- no number is left
 pub left_none : {v rest : List ℕ} {old now : Writing} → IsTypeSet v → length rest ≡ 0 → LeftWindows v rest old now → AppendedField old Bitmap v now
