@@ -11,7 +11,7 @@ use Rattle.dns_names_wire.specs.Words.{TookField, LacksField, RefusedField, Refu
 use Rattle.dns_names_wire.proofs.{FieldReads.unless_map, Strings.at_front, Strings.at_rest, Strings.at_then}
 use Rattle.dns_rdata_base.specs.{TXT.txt_shape, Steps.texts_left}
 use Rattle.std.proofs.{Math.Bool.and-false, lemmas.Grind.flat_map-append}
-use Rattle.dns_names_wire.proofs.FieldWrites.{keeps_then, because_map}
+use Rattle.dns_names_wire.proofs.FieldWrites.{extends_then, because_map}
 use Rattle.dns_pieces.specs.Steps.{StepAt}
 
 pub joined : (xs : List (List ℕ)) (s : List ℕ) (ys : List (List ℕ))
@@ -119,28 +119,16 @@ pub stopped_strings : {e : ProtoError} {w b n : Writing} (xs : List (List ℕ)) 
     → StoppedField e b Text s n → StoppedField e w Texts (xs ++ s ∷ ys) n
 unfolding field_octets
 stopped_strings {e} {w} {b} {n} xs s ys f g = record {
-  extends = record {
-    keeps = keeps_then f.keeps g.extends.keeps;
-    tail = flat_map string xs ++ g.extends.tail;
-    octets = g.extends.octets ∙ ap (λ (t : List ℕ). t ++ g.extends.tail) f.field.is.1 ∙ append_assoc w.octets (flat_map string xs) g.extends.tail;
-  };
-  why = because_map e _ _ _ _
-      (λ (r : NoRoomField b Text s). record {
-        full =
-            omega (
-              arith,
-              r.full,
-              f.keeps.limit,
-              ap length f.field.is.1,
-              length-append w.octets (flat_map string xs),
-              ap length (joined xs s ys),
-              length-append (flat_map string xs) (string s ++ flat_map string ys),
-              length-append (string s) (flat_map string ys),
-            );
-      })
-      (λ (u : UnfitField Text s). record { unfit = long_inner xs s ys u.unfit })
-      g.why;
+  extends = extends_then f g.extends;
+  why = because_map e _ _ _ _ (λ (r : NoRoomField b Text s). record { full = full r.full })
+      (λ (u : UnfitField Text s). record { unfit = long_inner xs s ys u.unfit }) g.why;
 }
+  where
+    full : b.limit < length b.octets + length (string s) → w.limit < length w.octets + length (flat_map string (xs ++ s ∷ ys))
+    full r =
+        let before = ap length f.field.is.1 ∙ length-append w.octets (flat_map string xs) in
+        let whole = ap length (joined xs s ys) ∙ length-append (flat_map string xs) (string s ++ flat_map string ys) in
+        omega (arith, r, f.keeps.limit, before, whole, length-append (string s) (flat_map string ys))
 
 -- a list about one of its places
 pub list_at : (i : ℕ) (xs : List (List ℕ)) (x : List ℕ) → x ≡ get_or xs i x → i < length xs → take i xs ++ x ∷ drop (i + 1) xs ≡ xs
