@@ -2,27 +2,22 @@
 use Rattle.std.proofs.Common.{◌≡◌, ℕ, zero, suc, ◌+◌, ◌*◌, ◌/◌, ◌%◌, ◌<◌, true, nat_eq, slice_index_or, List, [], ◌∷◌, length, get_or, All, refl, sym}
 use Rattle.std.proofs.Common.{ap, ◌∙◌, arith}
 use Rattle.std.proofs.{Math.Bool.◌&&◌, Math.Bool.and-true, lemmas.Bool.Decides.same_from_decides, lemmas.List.Elements.recursion_from_All}
+use Rattle.std.proofs.{lemmas.List.Elements.All-from_get_or}
 use Rattle.std.specs.{Cmp.unsigned_Decides, List.AllByRecursion, Net.Addr.segments_of, Net.Addr.octets_of}
 use Rattle.std.specs.Cmp.Lexicographic.{pointwise, pointwise_decides}
 
 -- pairs of octets are the octets of their segments
 octets_of_each : (n : ℕ) (xs : List ℕ) → length xs ≡ 2 * n → AllByRecursion (λ x. x < 256) xs → octets_of (segments_of xs) ≡ xs
 octets_of_each n [] e h = refl
-octets_of_each n (a ∷ []) e h = absurd (omega arith)
-octets_of_each zero (a ∷ b ∷ xs) e h = absurd (omega arith)
 octets_of_each (suc n) (a ∷ b ∷ xs) e h =
     let high : (a * 256 + b) / 256 ≡ a = omega (arith, h.1.0) in
     let low : (a * 256 + b) % 256 ≡ b = omega (arith, h.1.0) in
-    let rest : octets_of (segments_of xs) ≡ xs = octets_of_each n xs (omega arith) h.1.1 in
-    rw (high, low, rest) refl
+    rw (high, low, octets_of_each n xs (omega arith) h.1.1) refl
+octets_of_each n (a ∷ xs) e h = absurd (omega arith)
 
 -- octets that are read as numbers of eight bits
-small : (xs : List ℕ) → ((i : ℕ) → get_or xs i 0 < 256) → AllByRecursion (λ x. x < 256) xs
-small [] h = tt
-small (x ∷ xs) h = (h 0, small xs (λ i. h (suc i)))
-
 pub octets_of-segments_of : (n : ℕ) (xs : List ℕ) → length xs ≡ 2 * n → ((i : ℕ) → get_or xs i 0 < 256) → octets_of (segments_of xs) ≡ xs
-octets_of-segments_of n xs e h = octets_of_each n xs e (small xs h)
+octets_of-segments_of n xs e h = octets_of_each n xs e (recursion_from_All (λ x. x < 256) xs (All-from_get_or (λ x. x < 256) xs 0 (λ i l. h i)))
 
 -- the same of octets
 pub octets_of-segments : (n : ℕ) (xs : List ℕ) → length xs ≡ 2 * n → All (λ x. x < 256) xs → octets_of (segments_of xs) ≡ xs
@@ -50,16 +45,8 @@ elements xs = slice_index_or xs 0 0 ∷ slice_index_or xs 1 0 ∷ slice_index_or
     ∷ slice_index_or xs 4 0 ∷ slice_index_or xs 5 0 ∷ slice_index_or xs 6 0 ∷ slice_index_or xs 7 0 ∷ []
 
 eight : (xs : List ℕ) → length xs ≡ 8 → xs ≡ elements xs
-eight [] l = absurd (omega (arith, l))
-eight (a ∷ []) l = absurd (omega (arith, l))
-eight (a ∷ b ∷ []) l = absurd (omega (arith, l))
-eight (a ∷ b ∷ c ∷ []) l = absurd (omega (arith, l))
-eight (a ∷ b ∷ c ∷ d ∷ []) l = absurd (omega (arith, l))
-eight (a ∷ b ∷ c ∷ d ∷ e ∷ []) l = absurd (omega (arith, l))
-eight (a ∷ b ∷ c ∷ d ∷ e ∷ f ∷ []) l = absurd (omega (arith, l))
-eight (a ∷ b ∷ c ∷ d ∷ e ∷ f ∷ g ∷ []) l = absurd (omega (arith, l))
 eight (a ∷ b ∷ c ∷ d ∷ e ∷ f ∷ g ∷ h ∷ []) l = refl
-eight (a ∷ b ∷ c ∷ d ∷ e ∷ f ∷ g ∷ h ∷ i ∷ rest) l = absurd (omega (arith, l))
+eight xs l = absurd (omega (arith, l))
 
 pub each_same : (xs ys : List ℕ) → length xs ≡ 8 → length ys ≡ 8
     → nat_eq (slice_index_or xs 0 0) (slice_index_or ys 0 0) && (nat_eq (slice_index_or xs 1 0) (slice_index_or ys 1 0)

@@ -6,6 +6,4 @@ pub mod Orders
 pub mod SoaValues
 pub mod TextLists
 pub mod TextOrders
-pub mod TextWrites
-pub mod Texts
 pub mod WordsBack

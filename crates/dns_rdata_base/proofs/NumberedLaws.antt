@@ -1,6 +1,5 @@
 -- Enums that are compared by number and then by variant have a lawful equality and order.
-use Rattle.std.specs.Prelude.{◌≡◌, ℕ, true, refl}
-use Rattle.std.specs.{Hash.HashWrites, Ordering.nat_cmp, Ordering.is_eq}
+use Rattle.std.specs.{Prelude.◌≡◌, Prelude.ℕ, Prelude.true, Prelude.refl, Hash.HashWrites, Ordering.nat_cmp, Ordering.is_eq}
 use Rattle.std.specs.Cmp.{IsEquivalence, IsPartialEquivalence, IsPartialOrder, IsTotalOrder, and_equiv, on_equiv, on_total, then_total, both_tied}
 use Rattle.std.specs.Cmp.{nat_eq_equiv, nat_cmp_total, unsigned_ties, unsigned_Decides, first_so, second_so, partial_equiv_from_equiv}
 use Rattle.std.specs.Cmp.{partial_order_from_agreeing_total}

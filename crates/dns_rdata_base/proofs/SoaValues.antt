@@ -1,7 +1,6 @@
 -- SOA by its fields: a record whose signed numbers have 32 bits is told by them, and any fields make one.
-use Rattle.std.proofs.Common.{◌≡◌, refl}
+use Rattle.std.proofs.{Common.◌≡◌, Common.refl, lemmas.Int.to_z-of_z, lemmas.Int.of_z-to_z, Math.Facts.sfits_to_z, Math.Facts.Fits-of_lt}
 use Rattle.std.specs.Int.{cast_signed, w32}
-use Rattle.std.proofs.{lemmas.Int.to_z-of_z, lemmas.Int.of_z-to_z, Math.Facts.sfits_to_z, Math.Facts.Fits-of_lt}
 use Rattle.dns_fields.specs.Fields.{Values, AllFit}
 use Rattle.dns_rdata_base.specs.{SOA.soa_shape, SOA.soa_fields, SOA.HasSeconds, declared.soa.SOA.SOA}
 

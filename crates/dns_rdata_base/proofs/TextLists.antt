@@ -1,15 +1,22 @@
--- Character strings that are read one after the other.
+-- Character strings, read, written and given one after the other.
 use Rattle.std.proofs.Common.{◌≡◌, ℕ, suc, ◌+◌, ◌≤◌, ◌<◌, ◌⊎◌, inl, inr, List, [], ◌∷◌, ◌++◌, length, take, drop, get_or, drop-cons, refl, sym, ap}
-use Rattle.std.proofs.Common.{◌∙◌, arith, subst}
-use Rattle.std.specs.List.{flat_map, AllByRecursion}
-use Rattle.std.proofs.{lemmas.List.append-nil, lemmas.List.length-append, lemmas.List.Concat.flat_map-cons}
-use Rattle.dns_types.specs.declared.error.DecodeError.{DecodeError}
-use Rattle.dns_fields.specs.{Octets.At, Fields.Text, Fields.Texts, Fields.Field, Pieces.string}
+use Rattle.std.proofs.Common.{◌∙◌, arith, subst, append_assoc, nat_le, false}
+use Rattle.std.specs.List.{flat_map, AllByRecursion, list_all}
+use Rattle.std.proofs.lemmas.List.{append-nil, length-append, drop_more, take-append-drop, Concat.flat_map-cons}
+use Rattle.dns_types.specs.declared.error.{DecodeError.DecodeError, ProtoError.ProtoError}
+use Rattle.dns_fields.specs.{Octets.At, Fields.Text, Fields.Texts, Fields.Field, Fields.field_octets, Pieces.string}
 use Rattle.dns_fields.proofs.FieldLaws.{field_inside, field_end}
-use Rattle.dns_names_wire.specs.{State.Reading, Words.TookField, Words.LacksField, Words.RefusedField, Words.RefusedWindow}
+use Rattle.dns_names_wire.specs.State.{Reading, Writing}
+use Rattle.dns_names_wire.specs.Words.{TookField, LacksField, RefusedField, RefusedWindow, AppendedField, StoppedField, NoRoomField, UnfitField}
 use Rattle.dns_names_wire.proofs.{FieldReads.unless_map, Strings.at_front, Strings.at_rest, Strings.at_then}
-use Rattle.dns_rdata_base.specs.TXT.{txt_shape}
-use Rattle.dns_rdata_base.proofs.TextWrites.{joined}
+use Rattle.dns_rdata_base.specs.{TXT.txt_shape, Steps.texts_left}
+use Rattle.std.proofs.{Math.Bool.and-false, lemmas.Grind.flat_map-append}
+use Rattle.dns_names_wire.proofs.FieldWrites.{extends_then, because_map}
+use Rattle.dns_pieces.specs.Steps.{StepAt}
+
+pub joined : (xs : List (List ℕ)) (s : List ℕ) (ys : List (List ℕ))
+    → flat_map string (xs ++ s ∷ ys) ≡ flat_map string xs ++ (string s ++ flat_map string ys)
+joined xs s ys = flat_map-append string xs (s ∷ ys) ∙ ap (λ (t : List ℕ). flat_map string xs ++ t) (flat_map-cons string s ys)
 
 -- what a loop has read of the strings up to the end, and what is left of any way to fill it
 pub record ReadsOn (old : Reading) (end : ℕ) (strings : List (List ℕ)) (d : Reading) : Type 0 where
@@ -99,3 +106,47 @@ counts_more {m} {end} {count} {q} lt inside c = record {
 pub counts_all : {m : List ℕ} {end count q : ℕ} → CountsOn m end count q → (end ≤ q) ⊎ (length m ≤ q) → (ws : List (List ℕ)) → Field m 0 Texts ws end
     → count ≡ length ws
 counts_all {m} {end} {count} {q} c past ws f = let vs = c.rest ws f in omega (arith, vs.2, no_text m q end vs.0 past vs.1)
+
+-- ---- strings that are written one after the other
+
+long_inner : (xs : List (List ℕ)) (s : List ℕ) (ys : List (List ℕ)) → nat_le (length s) 255 ≡ false
+    → list_all (λ s. nat_le (length s) 255) (xs ++ s ∷ ys) ≡ false
+long_inner [] s ys e = rw e refl
+long_inner (x ∷ xs) s ys e = rw (long_inner xs s ys e) (and-false (nat_le (length x) 255))
+
+-- a string is refused behind others
+pub stopped_strings : {e : ProtoError} {w b n : Writing} (xs : List (List ℕ)) (s : List ℕ) (ys : List (List ℕ)) → AppendedField w Texts xs b
+    → StoppedField e b Text s n → StoppedField e w Texts (xs ++ s ∷ ys) n
+unfolding field_octets
+stopped_strings {e} {w} {b} {n} xs s ys f g = record {
+  extends = extends_then f g.extends;
+  why = because_map e _ _ _ _ (λ (r : NoRoomField b Text s). record { full = full r.full })
+      (λ (u : UnfitField Text s). record { unfit = long_inner xs s ys u.unfit }) g.why;
+}
+  where
+    full : b.limit < length b.octets + length (string s) → w.limit < length w.octets + length (flat_map string (xs ++ s ∷ ys))
+    full r =
+        let before = ap length f.field.is.1 ∙ length-append w.octets (flat_map string xs) in
+        let whole = ap length (joined xs s ys) ∙ length-append (flat_map string xs) (string s ++ flat_map string ys) in
+        omega (arith, r, f.keeps.limit, before, whole, length-append (string s) (flat_map string ys))
+
+-- a list about one of its places
+pub list_at : (i : ℕ) (xs : List (List ℕ)) (x : List ℕ) → x ≡ get_or xs i x → i < length xs → take i xs ++ x ∷ drop (i + 1) xs ≡ xs
+list_at i xs x is lt = ap (λ (y : List ℕ). take i xs ++ y ∷ drop (i + 1) xs) is
+    ∙ ap (λ (t : List (List ℕ)). take i xs ++ t) (sym (drop_more xs i x lt))
+    ∙ take-append-drop i xs
+
+-- ---- strings that are given one after the other
+
+pub text_given : (ss : List (List ℕ)) (i j : ℕ) (s head tail : List ℕ) → i < length ss → s ≡ get_or ss i s → head ++ tail ≡ field_octets Text s
+    → StepAt (texts_left ss) 0 i j head (record { tail = tail; step = 0; part = i + 1; item = 0 })
+unfolding field_octets
+text_given ss i j s head tail h e r =
+    let m : flat_map string (drop i ss) ≡ string s ++ flat_map string (drop (i + 1) ss) =
+    ap (flat_map string) (drop_more ss i s h ∙ ap (λ (x : List ℕ). x ∷ drop (i + 1) ss) (sym e)) in
+    record {
+      octets = m ∙ ap (λ (x : List ℕ). x ++ flat_map string (drop (i + 1) ss)) (sym r);
+      after = omega arith;
+      more = omega (arith, ap length r);
+      few = omega arith;
+    }

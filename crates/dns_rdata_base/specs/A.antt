@@ -1,11 +1,10 @@
 -- A: an IPv4 address (RFC 1035, 3.4.1).
-use Rattle.std.specs.Prelude.{◌≡◌, ℕ, List, [], ◌∷◌, length}
-use Rattle.std.specs.{Net.Addr.ipv4_octets, Net.Text.ipv4_text}
+use Rattle.std.specs.{Prelude.◌≡◌, Prelude.ℕ, Prelude.List, Prelude.[], Prelude.◌∷◌, Prelude.length, Net.Addr.ipv4_octets, Net.Text.ipv4_text}
 use Rattle.dns_types.specs.declared.error.DecodeError.{DecodeError}
-use Rattle.dns_types.specs.declared.error.DecodeError.TheVariants as decode
 use Rattle.dns_fields.specs.Fields.{Kind, Octets, Values}
 use Rattle.dns_names_wire.specs.{State.Reading, Words.LacksOctets, Facts.Facts, Facts.ending}
 use Rattle.dns_rdata_base.specs.declared.a.A.{A}
+use Rattle.dns_types.specs.declared.error.DecodeError.TheVariants as decode
 
 -- the four octets of the address
 abbrev pub a_shape : List Kind

@@ -1,6 +1,5 @@
 -- The fields at which the steps of records begin.
-use Rattle.std.specs.Prelude.{ℕ, zero, suc, List, [], ◌∷◌, drop}
-use Rattle.std.specs.List.{flat_map}
+use Rattle.std.specs.{Prelude.ℕ, Prelude.zero, Prelude.suc, Prelude.List, Prelude.[], Prelude.◌∷◌, Prelude.drop, List.flat_map}
 use Rattle.dns_fields.specs.Pieces.{string}
 use Rattle.dns_pieces.specs.Steps.{Left}
 

@@ -1,7 +1,6 @@
 //! HINFO: a machine and its system (RFC 1035, 3.3.2).
 
-ghost use Rattle.std.specs.Prelude.{◌≡◌, Some};
-ghost use Rattle.std.specs.{Box.boxed_slice_items, String.string_bytes};
+ghost use Rattle.std.specs.{Prelude.◌≡◌, Prelude.Some, Box.boxed_slice_items, String.string_bytes};
 ghost use Rattle.dns_names_wire.specs.{Words.Emits, Facts.RecordRefuses, Facts.RecordStands, Facts.same, Facts.same_equiv, Facts.same_partial};
 ghost use Rattle.dns_rdata_base.specs.HINFO.{hinfo_shape, hinfo_fields, hinfo_facts, hinfo_text};
 

@@ -1,11 +1,10 @@
 //! NAPTR: a rule that rewrites a name (RFC 3403, 4).
 
-ghost use Rattle.std.specs.Prelude.{◌≡◌, Some};
-ghost use Rattle.std.specs.{Box.boxed_slice_items, Char.is_ascii_alphanumeric, List.list_all};
-ghost use Rattle.dns_fields.specs.declared.RDataEncoding.TheVariants as modes;
+ghost use Rattle.std.specs.{Prelude.◌≡◌, Prelude.Some, Box.boxed_slice_items, Char.is_ascii_alphanumeric, List.list_all};
 ghost use Rattle.dns_names_wire.specs.{Words.Emits, Facts.same, Facts.same_equiv, Facts.same_partial};
 ghost use Rattle.dns_rdata_base.specs.NAPTR.{naptr_numbers_shape, naptr_numbers, naptr_rest_shape, naptr_rest, naptr_shape, naptr_fields};
 ghost use Rattle.dns_rdata_base.specs.NAPTR.{naptr_facts, naptr_text};
+ghost use Rattle.dns_fields.specs.declared.RDataEncoding.TheVariants as modes;
 
 use bstr::BStr;
 use dns_names_wire::{

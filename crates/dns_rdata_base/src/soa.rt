@@ -1,11 +1,10 @@
 //! SOA: the start of a zone of authority (RFC 1035, 3.3.13).
 
-ghost use Rattle.std.specs.Prelude.{◌≡◌, ◌+◌, ◌++◌, ◌%◌, IfErr, Some};
-ghost use Rattle.std.specs.Int.{bytes_high_first};
-ghost use Rattle.dns_fields.specs.declared.RDataEncoding.TheVariants as modes;
+ghost use Rattle.std.specs.{Prelude.◌≡◌, Prelude.◌+◌, Prelude.◌++◌, Prelude.◌%◌, Prelude.IfErr, Prelude.Some, Int.bytes_high_first};
 ghost use Rattle.dns_names_wire.specs.{Words.ReadsIf, Words.Emits, Words.always, Facts.same, Facts.same_equiv, Facts.same_partial};
 ghost use Rattle.dns_rdata_base.specs.Refusing.{IsLack};
 ghost use Rattle.dns_rdata_base.specs.SOA.{soa_shape, soa_fields, soa_facts, soa_numbers_shape, soa_numbers, soa_numbers_of, soa_text};
+ghost use Rattle.dns_fields.specs.declared.RDataEncoding.TheVariants as modes;
 
 use dns_names_wire::{
     BinDecodable, BinDecoder, BinEncodable, BinEncoder, DecodeError, DecodesFields, EncodesFields,

@@ -1,7 +1,6 @@
 //! The canonical octets of records, step by step.
 
-ghost use Rattle.std.specs.Prelude.{◌≡◌, ◌<◌, ℕ, [], ◌∷◌, length};
-ghost use Rattle.std.specs.List.{AllByRecursion};
+ghost use Rattle.std.specs.{Prelude.◌≡◌, Prelude.◌<◌, Prelude.ℕ, Prelude.[], Prelude.◌∷◌, Prelude.length, List.AllByRecursion};
 ghost use Rattle.dns_fields.specs.Fields.{Rest, all_emittable, canonical};
 ghost use Rattle.dns_pieces.specs.Steps.{AllShort, GivesStep, by_fields};
 ghost use Rattle.dns_rdata_base.specs.{A.a_shape, A.a_fields, AAAA.aaaa_shape, AAAA.aaaa_fields, NameRecords.name_shape, NameRecords.name_fields};

@@ -1,6 +1,5 @@
 -- The number of what a number gives is that number; values of one number that a number gives are one value.
-use Rattle.std.proofs.Common.{◌≡◌, ◌↔◌, ℕ, sym, ap, ◌∙◌, arith}
-use Rattle.std.proofs.lemmas.Bool.Decides.{nat_tests}
+use Rattle.std.proofs.{Common.◌≡◌, Common.◌↔◌, Common.ℕ, Common.sym, Common.ap, Common.◌∙◌, Common.arith, lemmas.Bool.Decides.nat_tests}
 use Rattle.dns_fields.specs.Fields.{Number, SameField}
 use Rattle.dns_rdata_certs.specs.{CertType.cert_type_number, CertType.cert_type_of, CertUsage.cert_usage_number, CertUsage.cert_usage_of}
 use Rattle.dns_rdata_certs.specs.{Selector.selector_number, Selector.selector_of, Matching.matching_number, Matching.matching_of}

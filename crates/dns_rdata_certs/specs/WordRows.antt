@@ -1,11 +1,10 @@
 -- The words of each record, and which values print in words that give them back.
-use Rattle.std.specs.Prelude.{◌≡◌, ◌≢◌, ℕ, ◌^◌, ◌<◌, List, [], ◌∷◌, Ok}
-use Rattle.std.specs.List.{flat_map}
+use Rattle.std.specs.{Prelude.◌≡◌, Prelude.◌≢◌, Prelude.ℕ, Prelude.◌^◌, Prelude.◌<◌, Prelude.List, Prelude.[], Prelude.◌∷◌, Prelude.Ok, List.flat_map}
 use Rattle.dns_fields.specs.{Octets.AreOctets, Fields.Rest}
 use Rattle.dns_words.specs.Forms.{Form, Row, word, ignored, nothing, number, base64}
 use Rattle.dns_rdata_certs.specs.{CERT.cert_shape, CertUsage.cert_usage_number, HEX.octets_of_hex, Matching.matching_number, Selector.selector_number}
-use Rattle.dns_rdata_certs.specs.{SshfpAlgorithm.sshfp_algorithm_number, SMIMEA.smimea_shape, SSHFP.sshfp_shape, SSHFP.IsReadSshfp, TLSA.tlsa_shape}
-use Rattle.dns_rdata_certs.specs.{TLSA.IsReadTlsa, declared.sshfp.SSHFP.SSHFP, declared.tlsa.TLSA.TLSA}
+use Rattle.dns_rdata_certs.specs.{SshfpAlgorithm.sshfp_algorithm_number, SMIMEA.smimea_shape, SSHFP.sshfp_shape, SSHFP.IsReadSshfp}
+use Rattle.dns_rdata_certs.specs.{TLSA.tlsa_shape, TLSA.IsReadTlsa, declared.sshfp.SSHFP.SSHFP, declared.tlsa.TLSA.TLSA}
 use Rattle.dns_rdata_certs.specs.FingerprintType.{fingerprint_type_number}
 
 -- hexadecimal digits; the word has a character

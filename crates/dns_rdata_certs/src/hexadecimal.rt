@@ -1,7 +1,6 @@
 //! Octets as hexadecimal text.
 
-ghost use Rattle.std.specs.Prelude.{◌≡◌, IfOk};
-ghost use Rattle.std.specs.String.{string_bytes};
+ghost use Rattle.std.specs.{Prelude.◌≡◌, Prelude.IfOk, String.string_bytes};
 ghost use Rattle.hex.specs.Hex.{encode_lower};
 ghost use Rattle.dns_rdata_certs.specs.HEX.{is_white_space, without_blanks, DecodesHex};
 

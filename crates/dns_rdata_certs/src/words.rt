@@ -1,8 +1,7 @@
 //! Records read from words (RFC 1035, 5.1).
 #![tactic(auto, using(dns_words::proofs::Steps::reading))]
 
-ghost use Rattle.std.specs.Prelude.{IfOk};
-ghost use Rattle.std.specs.Iterator.{IsFinite};
+ghost use Rattle.std.specs.{Prelude.IfOk, Iterator.IsFinite};
 ghost use Rattle.dns_rdata_certs.specs.{CERT.cert_fields, CERT.IsReadCert, SSHFP.sshfp_fields, SSHFP.IsReadSshfp, TLSA.tlsa_fields, TLSA.IsReadTlsa};
 ghost use Rattle.dns_rdata_certs.specs.SMIMEA.{smimea_fields, IsReadSmimea};
 ghost use Rattle.dns_rdata_certs.specs.WordRows.{hex_digits, IsSomeHex, joined_hex, cert_words, sshfp_words, tlsa_words, smimea_words};

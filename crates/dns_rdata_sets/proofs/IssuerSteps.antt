@@ -1,38 +1,57 @@
 -- The grammar of issuer parameters: at most one list of parameters, read from the front.
 use Rattle.std.proofs.Common.{◌≡◌, ℕ, Bool, true, false, not, ◌⊎◌, inl, inr, List, [], ◌∷◌, ◌++◌, refl, ap, sym, subst, ◌∙◌, arith, append_assoc}
 use Rattle.std.proofs.Common.{length-append, ◌==◌, ◌<◌, ◌≤◌, length}
-use Rattle.std.proofs.{lemmas.Bool.or_left, lemmas.Bool.Decides.nat_tests, lemmas.List.append-nil, lemmas.List.Elements.All-weaker}
-use Rattle.std.proofs.{lemmas.List.Sums.AllPass-from_list_all, lemmas.Str.IsUtf8-from_ascii, lemmas.Str.Ascii.IsAscii-from_all}
-use Rattle.std.specs.{Str.IsUtf8, Char.is_ascii_alphanumeric}
+use Rattle.std.proofs.lemmas.{Bool.or_left, Bool.and_from, Bool.and_parts, Bool.Decides.nat_tests, Str.IsUtf8-from_ascii, Str.Ascii.IsAscii-from_all}
+use Rattle.std.proofs.lemmas.List.{append-nil, Elements.All-weaker, Sums.AllPass-from_list_all, Sums.list_all-from_AllPass, Folds.list_all-append}
+use Rattle.std.specs.{Str.IsUtf8, Char.is_ascii_alphanumeric, List.list_all}
 use Rattle.dns_types.specs.declared.error.ProtoError.{ProtoError}
-use Rattle.dns_types.specs.declared.error.ProtoError.TheVariants as proto
 use Rattle.dns_names_wire.specs.NameValues.{IsTextRefusal}
 use Rattle.dns_rdata_sets.specs.Issuer.{Parameter, is_blank, is_no_semicolon, is_key_octet, is_value_octet, AllOf, StartsWithout, Splits, IsKey}
 use Rattle.dns_rdata_sets.specs.Issuer.{IsParameter, parameter_octets, AreParameters}
-use Rattle.dns_rdata_sets.proofs.Splitting.{all_parts, all_cons, all_append, all_halves, all_weaker, split_once}
+use Rattle.dns_types.specs.declared.error.ProtoError.TheVariants as proto
+
+-- ---- octets that are cut at the first one that fails a test
+
+pub all_parts : (p : ℕ → Bool) (x : ℕ) (xs : List ℕ) → AllOf p (x ∷ xs) → (p x ≡ true) × AllOf p xs
+all_parts p x xs h = and_parts (p x) (list_all p xs) h
+
+pub all_cons : (p : ℕ → Bool) (x : ℕ) (xs : List ℕ) → p x ≡ true → AllOf p xs → AllOf p (x ∷ xs)
+all_cons p x xs a b = and_from (p x) (list_all p xs) a b
+
+pub all_append : (p : ℕ → Bool) (xs ys : List ℕ) → AllOf p xs → AllOf p ys → AllOf p (xs ++ ys)
+all_append p xs ys a b = list_all-append p xs ys ∙ and_from (list_all p xs) (list_all p ys) a b
+
+pub all_halves : (p : ℕ → Bool) (xs ys : List ℕ) → AllOf p (xs ++ ys) → AllOf p xs × AllOf p ys
+all_halves p xs ys a = and_parts (list_all p xs) (list_all p ys) (sym (list_all-append p xs ys) ∙ a)
+
+pub all_weaker : (p q : ℕ → Bool) → ((c : ℕ) → p c ≡ true → q c ≡ true) → (xs : List ℕ) → AllOf p xs → AllOf q xs
+all_weaker p q f xs h = list_all-from_AllPass q xs (All-weaker (λ c. p c ≡ true) (λ c. q c ≡ true) f xs (AllPass-from_list_all p xs h))
+
+-- octets are cut in one way
+pub split_once : (p : ℕ → Bool) (a x b y : List ℕ) → a ++ x ≡ b ++ y → AllOf p a → StartsWithout p x → AllOf p b → StartsWithout p y
+    → (a ≡ b) × (x ≡ y)
+split_once p [] x [] y e ha hx hb hy = (refl, e)
+split_once p [] x (d ∷ b) y e ha hx hb hy =
+    let h : p d ≡ false = subst (λ (l : List ℕ). StartsWithout p l) e hx in
+    let k : p d ≡ true = (all_parts p d b hb).0 in
+    cc
+split_once p (c ∷ a) x [] y e ha hx hb hy =
+    let h : p c ≡ false = subst (λ (l : List ℕ). StartsWithout p l) (sym e) hy in
+    let k : p c ≡ true = (all_parts p c a ha).0 in
+    cc
+split_once p (c ∷ a) x (d ∷ b) y e ha hx hb hy =
+    let first : c ≡ d = cc in
+    let rest : a ++ x ≡ b ++ y = cc in
+    let r = split_once p a x b y rest (all_parts p c a ha).1 hx (all_parts p d b hb).1 hy in
+    (ap (λ (z : ℕ). z ∷ a) first ∙ ap (λ (z : List ℕ). d ∷ z) r.0, r.1)
+
+pub same_split : (p : ℕ → Bool) (octets a x b y : List ℕ) → Splits p octets a x → Splits p octets b y → (a ≡ b) × (x ≡ y)
+same_split p octets a x b y s t = split_once p a x b y (sym s.whole ∙ t.whole) s.passes s.stops t.passes t.stops
 
 -- ---- octets of keys and values
 
 abbrev pub is_no_equals : ℕ → Bool
 is_no_equals c = not (c == 61)
-
-key_no_blank : (c : ℕ) → is_key_octet c ≡ true → is_blank c ≡ false
-key_no_blank c h = grind (arith, nat_tests)
-
-key_no_equals : (c : ℕ) → is_key_octet c ≡ true → is_no_equals c ≡ true
-key_no_equals c h = grind (arith, nat_tests)
-
-key_no_semicolon : (c : ℕ) → is_key_octet c ≡ true → is_no_semicolon c ≡ true
-key_no_semicolon c h = grind (arith, nat_tests)
-
-value_no_semicolon : (c : ℕ) → is_value_octet c ≡ true → is_no_semicolon c ≡ true
-value_no_semicolon c h = grind (arith, nat_tests)
-
-no_semicolon_is : (c : ℕ) → is_no_semicolon c ≡ false → c ≡ 59
-no_semicolon_is c h = grind (arith, nat_tests)
-
-no_equals_is : (c : ℕ) → is_no_equals c ≡ false → c ≡ 61
-no_equals_is c h = grind (arith, nat_tests)
 
 -- letters and digits are octets of keys, too
 key_octets : (key : List ℕ) → IsKey key → AllOf is_key_octet key
@@ -51,7 +70,7 @@ starts : (x : Parameter) (rest : List ℕ) → IsKey x.key → StartsWithout is_
 starts x rest h = by_key x.key x.value h where
   by_key : (key value : List ℕ) → IsKey key → StartsWithout is_blank ((key ++ 61 ∷ value) ++ rest)
   by_key [] value h = absurd h
-  by_key (c ∷ key) value h = key_no_blank c (all_parts is_key_octet c key (key_octets (c ∷ key) h)).0
+  by_key (c ∷ key) value h = grind (arith, nat_tests, (all_parts is_key_octet c key (key_octets (c ∷ key) h)).0)
 
 -- it has octets
 long : (x : Parameter) (rest : List ℕ) → 0 < length (parameter_octets x ++ rest)
@@ -60,18 +79,21 @@ long x rest = omega (arith, length-append (parameter_octets x) rest, length-appe
 -- it has no semicolon
 no_semicolon : (x : Parameter) → IsParameter x → AllOf is_no_semicolon (parameter_octets x)
 no_semicolon x h =
-    all_append is_no_semicolon x.key (61 ∷ x.value) (key_all is_no_semicolon key_no_semicolon x.key h.key)
-    (all_cons is_no_semicolon 61 x.value refl (all_weaker is_value_octet is_no_semicolon value_no_semicolon x.value h.value))
+    all_append is_no_semicolon x.key (61 ∷ x.value) (key_all is_no_semicolon (λ c k. grind (arith, nat_tests)) x.key h.key)
+    (all_cons is_no_semicolon 61 x.value refl (all_weaker is_value_octet is_no_semicolon (λ c k. grind (arith, nat_tests)) x.value h.value))
+
+no_equals : (x : Parameter) → IsKey x.key → AllOf is_no_equals x.key
+no_equals x h = key_all is_no_equals (λ c k. grind (arith, nat_tests)) x.key h
 
 -- it is cut at its first equals sign
 pub parameter_cut : (octets key rest : List ℕ) (x : Parameter) → Splits is_no_equals octets key rest → octets ≡ parameter_octets x → IsParameter x
     → (key ≡ x.key) × (rest ≡ 61 ∷ x.value)
 parameter_cut octets key rest x s e h = split_once is_no_equals key rest x.key (61 ∷ x.value) (sym s.whole ∙ e) s.passes s.stops
-    (key_all is_no_equals key_no_equals x.key h.key) refl
+    (no_equals x h.key) refl
 
 parameter_same : (x y : Parameter) → IsParameter x → IsParameter y → parameter_octets x ≡ parameter_octets y → x ≡ y
 parameter_same x y a b e =
-    let p = parameter_cut (parameter_octets x) x.key (61 ∷ x.value) y (record { whole = refl; passes = key_all is_no_equals key_no_equals x.key a.key; stops = refl }) e b in
+    let p = parameter_cut (parameter_octets x) x.key (61 ∷ x.value) y (record { whole = refl; passes = no_equals x a.key; stops = refl }) e b in
     let v : x.value ≡ y.value = let t = p.1 in cc in
     ap (λ (k : List ℕ). record x { key = k }) p.0 ∙ ap (λ (w : List ℕ). record { key = y.key; value = w }) v
 
@@ -80,22 +102,9 @@ parameter_same x y a b e =
 -- blanks in front change nothing
 pub blanks_before : (front rest : List ℕ) (xs : List Parameter) → AllOf is_blank front → AreParameters rest xs → AreParameters (front ++ rest) xs
 blanks_before front rest [] b h = all_append is_blank front rest b h
-blanks_before front rest (x ∷ xs) b h = (
-  front ++ h.0,
-  h.1,
-  ap (λ (l : List ℕ). front ++ l) h.2
-      ∙ sym (append_assoc front h.0 (parameter_octets x ++ h.1)),
-  all_append is_blank front h.0 b h.3,
-  h.4,
-  h.5,
-)
-
-pub blanks_behind : (front rest : List ℕ) (xs : List Parameter) → AllOf is_blank front → StartsWithout is_blank rest → AreParameters (front ++ rest) xs
-    → AreParameters rest xs
-blanks_behind front rest [] b s h = (all_halves is_blank front rest h).1
-blanks_behind front rest (x ∷ xs) b s h =
-    let cut = split_once is_blank front rest h.0 (parameter_octets x ++ h.1) h.2 b s h.3 (starts x h.1 h.4.key) in
-    ([], h.1, cut.1, refl, h.4, h.5)
+blanks_before front rest (x ∷ xs) b h =
+    let whole = ap (λ (l : List ℕ). front ++ l) h.2 ∙ sym (append_assoc front h.0 (parameter_octets x ++ h.1)) in
+    (front ++ h.0, h.1, whole, all_append is_blank front h.0 b h.3, h.4, h.5)
 
 -- a blank in front
 blank_off : (c : ℕ) (rest : List ℕ) (xs : List Parameter) → is_blank c ≡ true → AreParameters (c ∷ rest) xs → AreParameters rest xs
@@ -107,10 +116,9 @@ blank_off c rest (x ∷ xs) b (d ∷ blanks, behind, e, all, is, more) =
     let t : rest ≡ blanks ++ (parameter_octets x ++ behind) = cc in
     (blanks, behind, t, (all_parts is_blank d blanks all).1, is, more)
 
-no_parameters : (xs : List Parameter) → AreParameters [] xs → xs ≡ []
-no_parameters [] h = refl
-no_parameters (x ∷ xs) ([], behind, e, all, is, more) = absurd (omega (arith, long x behind, ap length e))
-no_parameters (x ∷ xs) (d ∷ b, behind, e, all, is, more) = cc
+pub blanks_behind : (front rest : List ℕ) (xs : List Parameter) → AllOf is_blank front → AreParameters (front ++ rest) xs → AreParameters rest xs
+blanks_behind [] rest xs b h = h
+blanks_behind (c ∷ front) rest xs b h = let p = all_parts is_blank c front b in blanks_behind front rest xs p.1 (blank_off c (front ++ rest) xs p.0 h)
 
 -- what follows a parameter in the grammar
 abbrev pub Follow : List ℕ → List Parameter → Type 0
@@ -122,13 +130,14 @@ follow_alone behind xs (inl h) = rw (h.0, h.1) refl
 follow_alone behind xs (inr h) = subst (λ (l : List ℕ). AreParameters l xs) (sym h.1) (blanks_before (59 ∷ []) h.0 xs refl h.2)
 
 pub alone_follow : (behind : List ℕ) (xs : List Parameter) → StartsWithout is_no_semicolon behind → AreParameters behind xs → Follow behind xs
-alone_follow [] xs s h = inl (refl, no_parameters xs h)
+alone_follow [] [] s h = inl (refl, refl)
+alone_follow [] (x ∷ xs) s h = absurd (omega (arith, long x h.1, ap length h.2, length-append h.0 (parameter_octets x ++ h.1)))
 alone_follow (c ∷ more) xs s h =
-    let e : c ≡ 59 = no_semicolon_is c s in
+    let e : c ≡ 59 = grind (arith, nat_tests) in
     let b : is_blank c ≡ true = ap is_blank e in
     inr (more, ap (λ (d : ℕ). d ∷ more) e, blank_off c more xs b h)
 
-follow_stops : (behind : List ℕ) (xs : List Parameter) → Follow behind xs → StartsWithout is_no_semicolon behind
+pub follow_stops : (behind : List ℕ) (xs : List Parameter) → Follow behind xs → StartsWithout is_no_semicolon behind
 follow_stops behind xs (inl h) = rw h.0 tt
 follow_stops behind xs (inr h) = rw h.1 refl
 
@@ -150,10 +159,6 @@ first_parameter octets front behind (y ∷ xs) some s t (d ∷ b, after, e, blan
     let l : is_blank d ≡ false = subst (λ (l : List ℕ). StartsWithout is_blank l) e s in
     cc
 
-first_then : (octets front behind : List ℕ) (x : Parameter) (xs : List Parameter) → Splits is_no_semicolon octets front behind
-    → front ≡ parameter_octets x → IsParameter x → AreParameters behind xs → AreParameters octets (x ∷ xs)
-first_then octets front behind x xs t e is h = ([], behind, t.whole ∙ ap (λ (l : List ℕ). l ++ behind) e, refl, is, alone_follow behind xs t.stops h)
-
 -- ---- reading them one by one
 
 -- what was read, and what is still to be read
@@ -166,7 +171,7 @@ pub pending_first : (octets front rest : List ℕ) → Splits is_blank octets fr
 pending_first octets front rest s = record {
   starts = s.stops;
   sound = λ xs h. subst (λ (l : List ℕ). AreParameters l xs) (sym s.whole) (blanks_before front rest xs s.passes h);
-  complete = λ ys h. (ys, refl, blanks_behind front rest ys s.passes s.stops (subst (λ (l : List ℕ). AreParameters l ys) s.whole h));
+  complete = λ ys h. (ys, refl, blanks_behind front rest ys s.passes (subst (λ (l : List ℕ). AreParameters l ys) s.whole h));
 }
 
 pub pending_step : (octets : List ℕ) (read more : List Parameter) (now front behind blanks rest : List ℕ) (x : Parameter) → Pending octets read now
@@ -177,15 +182,13 @@ pending_step octets read more now front behind blanks rest x p some t is s e = r
   sound = λ xs h.
       let b : AreParameters behind xs = subst (λ (l : List ℕ). AreParameters l xs) (sym s.whole) (blanks_before blanks rest xs s.passes h) in
       subst (λ (l : List Parameter). AreParameters octets l) (sym (append_assoc read (x ∷ []) xs))
-      (p.sound (x ∷ xs) (first_then now front behind x xs t is.0 is.1 b));
+      (p.sound (x ∷ xs) ([], behind, t.whole ∙ ap (λ (l : List ℕ). l ++ behind) is.0, refl, is.1, alone_follow behind xs t.stops b));
   complete = λ ys h.
       let k = p.complete ys h in
       let f = first_parameter now front behind k.0 some p.starts t k.2 in
-      let same : f.0 ≡ x = parameter_same f.0 x f.4 is.1 (sym f.3 ∙ is.0) in (
-        f.1,
-        k.1 ∙ ap (λ (l : List Parameter). read ++ l) (f.2 ∙ ap (λ (z : Parameter). z ∷ f.1) same) ∙ sym (append_assoc read (x ∷ []) f.1),
-        blanks_behind blanks rest f.1 s.passes s.stops (subst (λ (l : List ℕ). AreParameters l f.1) s.whole f.5),
-      );
+      let same : f.0 ≡ x = parameter_same f.0 x f.4 is.1 (sym f.3 ∙ is.0) in
+      let whole = k.1 ∙ ap (λ (l : List Parameter). read ++ l) (f.2 ∙ ap (λ (z : Parameter). z ∷ f.1) same) ∙ sym (append_assoc read (x ∷ []) f.1) in
+      (f.1, whole, blanks_behind blanks rest f.1 s.passes (subst (λ (l : List ℕ). AreParameters l f.1) s.whole f.5));
 })
 
 pub pending_last : (octets : List ℕ) (read : List Parameter) (rest : List ℕ) → Pending octets read rest → length rest ≤ 0 → AreParameters octets read
@@ -204,51 +207,39 @@ pending_stop octets read now front behind p some t none ys h =
 pub refusal_map : (e : ProtoError) (P Q : Type 0) → (P → Q) → IsTextRefusal e P → IsTextRefusal e Q
 refusal_map proto.Memory P Q f h = tt
 refusal_map (proto.Message t) P Q f h = f h
-refusal_map proto.MaxBufferSizeExceeded P Q f h = h
-refusal_map (proto.Decode d) P Q f h = h
+refusal_map e P Q f h = absurd h
 
 -- ---- at most one list
 
-no_first : (octets : List ℕ) (y : Parameter) (ys : List Parameter) → AllOf is_blank octets → AreParameters octets (y ∷ ys) → ⊥
-no_first octets y ys b h = no_blanks (parameter_octets y ++ h.1) (long y h.1) (starts y h.1 h.4.key)
-    (all_halves is_blank h.0 (parameter_octets y ++ h.1) (subst (λ (l : List ℕ). AllOf is_blank l) h.2 b)).1
-
 pub one_list : (octets : List ℕ) (xs ys : List Parameter) → AreParameters octets xs → AreParameters octets ys → xs ≡ ys
 one_list octets [] [] h k = refl
-one_list octets [] (y ∷ ys) h k = absurd (no_first octets y ys h k)
-one_list octets (x ∷ xs) [] h k = absurd (no_first octets x xs k h)
-one_list octets (x ∷ xs) (y ∷ ys) h k =
-    let cut = split_once is_blank h.0 (parameter_octets x ++ h.1) k.0 (parameter_octets y ++ k.1) (sym h.2 ∙ k.2) h.3 (starts x h.1 h.4.key) k.3
-    (starts y k.1 k.4.key) in
-    let p = split_once is_no_semicolon (parameter_octets x) h.1 (parameter_octets y) k.1 cut.1 (no_semicolon x h.4) (follow_stops h.1 xs h.5)
-    (no_semicolon y k.4) (follow_stops k.1 ys k.5) in
-    ap (λ (z : Parameter). z ∷ xs) (parameter_same x y h.4 k.4 p.0)
-    ∙ ap (λ (l : List Parameter). y ∷ l) (one_list k.1 xs ys (subst (λ (l : List ℕ). AreParameters l xs) p.1 (follow_alone h.1 xs h.5))
-    (follow_alone k.1 ys k.5))
+one_list octets [] (y ∷ ys) h k =
+    absurd (no_blanks (parameter_octets y ++ k.1) (long y k.1) (starts y k.1 k.4.key)
+    (all_halves is_blank k.0 (parameter_octets y ++ k.1) (subst (λ (l : List ℕ). AllOf is_blank l) k.2 h)).1)
+one_list octets (x ∷ xs) ys h k =
+    let f = first_parameter (parameter_octets x ++ h.1) (parameter_octets x) h.1 ys (long x h.1) (starts x h.1 h.4.key)
+    (record { whole = refl; passes = no_semicolon x h.4; stops = follow_stops h.1 xs h.5 })
+    (blanks_behind h.0 (parameter_octets x ++ h.1) ys h.3 (subst (λ (l : List ℕ). AreParameters l ys) h.2 k)) in
+    ap (λ (z : Parameter). z ∷ xs) (parameter_same x f.0 h.4 f.4 f.3)
+    ∙ ap (λ (l : List Parameter). f.0 ∷ l) (one_list h.1 xs f.1 (follow_alone h.1 xs h.5) f.5) ∙ sym f.2
 
 -- ---- texts
-
-key_ascii : (c : ℕ) → is_key_octet c ≡ true → c < 128
-key_ascii c h = grind (arith, nat_tests)
-
-value_ascii : (c : ℕ) → is_value_octet c ≡ true → c < 128
-value_ascii c h = grind (arith, nat_tests)
 
 utf8 : (p : ℕ → Bool) → ((c : ℕ) → p c ≡ true → c < 128) → (octets : List ℕ) → AllOf p octets → IsUtf8 octets
 utf8 p f octets h = IsUtf8-from_ascii octets (IsAscii-from_all octets (All-weaker (λ c. p c ≡ true) (λ c. c < 128) f octets (AllPass-from_list_all p octets h)))
 
 pub key_utf8 : (key : List ℕ) → IsKey key → IsUtf8 key
-key_utf8 key h = utf8 is_key_octet key_ascii key (key_octets key h)
+key_utf8 key h = utf8 is_key_octet (λ c k. grind (arith, nat_tests)) key (key_octets key h)
 
 pub value_utf8 : (value : List ℕ) → AllOf is_value_octet value → IsUtf8 value
-value_utf8 value h = utf8 is_value_octet value_ascii value h
+value_utf8 value h = utf8 is_value_octet (λ c k. grind (arith, nat_tests)) value h
 
 -- a key, an equals sign and a value that were cut
 pub parameter_read : (octets key rest : List ℕ) (first : ℕ) (value : List ℕ) {x : Parameter} → Splits is_no_equals octets key rest → rest ≡ first ∷ value
     → IsKey key → AllOf is_value_octet value → x.key ≡ key → x.value ≡ value → (octets ≡ parameter_octets x) × IsParameter x
 parameter_read octets key rest first value {x} s e is-key is-value a b =
     let stop : is_no_equals first ≡ false = subst (λ (l : List ℕ). StartsWithout is_no_equals l) e s.stops in
-    let sign : first ≡ 61 = no_equals_is first stop in
+    let sign : first ≡ 61 = grind (arith, nat_tests, stop) in
     let text : octets ≡ key ++ 61 ∷ value = s.whole ∙ ap (λ (l : List ℕ). key ++ l) (e ∙ ap (λ (d : ℕ). d ∷ value) sign) in (
       text ∙ ap (λ (k : List ℕ). k ++ 61 ∷ value) (sym a) ∙ ap (λ (v : List ℕ). x.key ++ 61 ∷ v) (sym b),
       record { key = subst (λ (k : List ℕ). IsKey k) (sym a) is-key; value = subst (λ (v : List ℕ). AllOf is_value_octet v) (sym b) is-value },

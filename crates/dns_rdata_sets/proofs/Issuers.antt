@@ -1,20 +1,18 @@
 -- Values of issuer properties: read, and written.
-use Rattle.std.proofs.Common.{◌≡◌, ◌≢◌, ℕ, ◌+◌, ◌<◌, Bool, true, false, cond, All, inl, inr, List, [], ◌∷◌, ◌++◌, flat_map, Option, Some, None}
-use Rattle.std.proofs.Common.{Result, Ok, Err, refl, ap, sym, subst, arith}
-use Rattle.std.proofs.{lemmas.List.Elements.All-head, lemmas.List.Elements.All-tail, lemmas.List.Elements.All-weaker, lemmas.Str.IsUtf8-nil}
-use Rattle.std.proofs.{lemmas.Str.IsUtf8-from_ascii, lemmas.Str.IsAscii-append, lemmas.Str.Ascii.IsAscii-nil, lemmas.Str.Ascii.IsAscii-cons}
-use Rattle.std.specs.Prelude.{IfOk, IfErr, MatchResult}
+use Rattle.std.proofs.Common.{◌≡◌, ◌≢◌, ℕ, Bool, inl, inr, List, [], ◌∷◌, ◌++◌, Option, Some, None, refl, ap, sym, subst, arith}
+use Rattle.std.proofs.lemmas.Str.{IsUtf8-nil, IsUtf8-from_ascii, IsAscii-append, Ascii.IsAscii-nil, Ascii.IsAscii-cons}
 use Rattle.std.specs.{List.AllByRecursion, Str.IsAscii, Str.IsUtf8}
 use Rattle.dns_types.specs.declared.error.ProtoError.{ProtoError}
-use Rattle.dns_types.specs.declared.error.ProtoError.TheVariants as proto
-use Rattle.dns_fields.specs.{Labels.DomainName, Octets.AreOctets}
-use Rattle.dns_labels.specs.Text.{IsNameText, HasOctets, OctetText, printed, label_text, joined_text, name_text}
-use Rattle.dns_labels.specs.Text.OctetText.{plain, decimal, quoted}
-use Rattle.dns_labels.proofs.{TextSteps.printed_text, NameTexts.one_name, NameTexts.name_reads}
+use Rattle.dns_fields.specs.Labels.{DomainName}
+use Rattle.dns_labels.specs.Text.{IsNameText, OctetText, LabelText, LabelsText, MarkedText, name_text, LabelText.no_octet, LabelText.octet}
+use Rattle.dns_labels.specs.Text.{OctetText.plain, OctetText.decimal, OctetText.quoted, LabelsText.last, LabelsText.dotted, LabelsText.joined}
+use Rattle.dns_labels.specs.Text.MarkedText.{root, nothing, labelled}
+use Rattle.dns_labels.proofs.NameTexts.{one_name, name_reads}
 use Rattle.dns_names_wire.specs.NameValues.{IsTextRefusal}
-use Rattle.dns_rdata_sets.specs.Issuer.{Parameter, is_no_semicolon, IsParameter, IsNamed, IsWritable, StartsWithout, parameter_octets, Splits}
-use Rattle.dns_rdata_sets.specs.Issuer.{AreParameters, IsIssuerName, IsNameRefusal, IsIssuer, IsIssuerRefusal, parameters_text, issuer_value}
-use Rattle.dns_rdata_sets.proofs.{Splitting.same_split, IssuerSteps.Follow, IssuerSteps.follow_alone, IssuerSteps.alone_follow, IssuerSteps.one_list}
+use Rattle.dns_rdata_sets.specs.Issuer.{Parameter, is_no_semicolon, IsParameter, IsNamed, IsWritable, AllOf, parameter_octets, Splits, AreParameters}
+use Rattle.dns_rdata_sets.specs.Issuer.{IsIssuerName, IsNameRefusal, IsIssuer, IsIssuerRefusal, parameters_text, issuer_value}
+use Rattle.dns_rdata_sets.proofs.IssuerSteps.{same_split, Follow, follow_alone, alone_follow, follow_stops, one_list}
+use Rattle.dns_types.specs.declared.error.ProtoError.TheVariants as proto
 
 pub issuer_read : (octets front rest : List ℕ) (name : Option DomainName) (xs : List Parameter) → Splits is_no_semicolon octets front rest
     → IsIssuerName front name → AreParameters rest xs → IsIssuer octets name xs
@@ -28,33 +26,40 @@ no_text : (front : List ℕ) (name : Option DomainName) → front ≢ [] → ((x
 no_text front None some none h = some h
 no_text front (Some name) some none h = none name h.2
 
+-- what an issuer has where the octets are cut
+of_issuer : (octets front rest : List ℕ) (name : Option DomainName) (xs : List Parameter) → Splits is_no_semicolon octets front rest
+    → IsIssuer octets name xs
+    → IsIssuerName front name × AreParameters rest xs
+of_issuer octets front rest name xs s i =
+    let same = same_split is_no_semicolon octets i.front i.rest front rest i.splits s in (
+      subst (λ (l : List ℕ). IsIssuerName l name) same.0 i.is_name,
+      subst (λ (l : List ℕ). AreParameters l xs) same.1
+          (follow_alone i.rest xs i.parameters),
+    )
+
 -- the name is refused
 pub name_stop : (octets front rest : List ℕ) (e : ProtoError) → Splits is_no_semicolon octets front rest → IsNameRefusal front e → IsIssuerRefusal octets e
 name_stop octets front rest proto.Memory s h = tt
-name_stop octets front rest proto.MaxBufferSizeExceeded s h = h
 name_stop octets front rest (proto.Decode d) s h = (
   h.0,
-  λ name xs i. h.1 (subst (λ (l : List ℕ). IsUtf8 l) (same_split is_no_semicolon octets i.front i.rest front rest i.splits s).0
-      (name_utf8 i.front name i.is_name)),
+  λ name xs i. h.1 (name_utf8 front name (of_issuer octets front rest name xs s i).0),
   λ f r t u. h.1 (subst (λ (l : List ℕ). IsUtf8 l) (same_split is_no_semicolon octets f r front rest t s).0 u),
 )
 name_stop octets front rest (proto.Message t) s h = (
-  λ name xs i. no_text front name h.1 h.2 (subst (λ (l : List ℕ). IsIssuerName l name)
-      (same_split is_no_semicolon octets i.front i.rest front rest i.splits s).0 i.is_name),
+  λ name xs i. no_text front name h.1 h.2 (of_issuer octets front rest name xs s i).0,
   λ f r t. subst (λ (l : List ℕ). IsUtf8 l) (same_split is_no_semicolon octets front rest f r s t).0 h.0,
 )
+name_stop octets front rest e s h = absurd h
 
 -- the parameters are refused
 pub parameters_stop : (octets front rest : List ℕ) (name : Option DomainName) (e : ProtoError) → Splits is_no_semicolon octets front rest
     → IsIssuerName front name → IsTextRefusal e ((xs : List Parameter) → AreParameters rest xs → ⊥) → IsIssuerRefusal octets e
 parameters_stop octets front rest name proto.Memory s n h = tt
-parameters_stop octets front rest name proto.MaxBufferSizeExceeded s n h = h
-parameters_stop octets front rest name (proto.Decode d) s n h = absurd h
 parameters_stop octets front rest name (proto.Message t) s n h = (
-  λ other xs i. h xs (subst (λ (l : List ℕ). AreParameters l xs) (same_split is_no_semicolon octets i.front i.rest front rest i.splits s).1
-      (follow_alone i.rest xs i.parameters)),
+  λ other xs i. h xs (of_issuer octets front rest other xs s i).1,
   λ f r t. subst (λ (l : List ℕ). IsUtf8 l) (same_split is_no_semicolon octets front rest f r s t).0 (name_utf8 front name n),
 )
+parameters_stop octets front rest name e s n h = absurd h
 
 -- ---- at most one name and list
 
@@ -66,42 +71,30 @@ one_issuer_name front (Some x) (Some y) h k = ap (λ (z : DomainName). Some z) (
 
 pub one_issuer : (octets : List ℕ) (a b : Option DomainName) (xs ys : List Parameter) → IsIssuer octets a xs → IsIssuer octets b ys → (a ≡ b) × (xs ≡ ys)
 one_issuer octets a b xs ys h k =
-    let s = same_split is_no_semicolon octets h.front h.rest k.front k.rest h.splits k.splits in (
-      one_issuer_name k.front a b (subst (λ (l : List ℕ). IsIssuerName l a) s.0 h.is_name) k.is_name,
-      one_list k.rest xs ys (subst (λ (l : List ℕ). AreParameters l xs) s.1 (follow_alone h.rest xs h.parameters)) (follow_alone k.rest ys k.parameters),
-    )
+    let p = of_issuer octets k.front k.rest a xs k.splits h in
+    (one_issuer_name k.front a b p.0 k.is_name, one_list k.rest xs ys p.1 (follow_alone k.rest ys k.parameters))
 
 -- ---- what is written
 
 octet_ascii : {n : ℕ} {text : List ℕ} → OctetText n text → IsAscii text
 octet_ascii {n} (plain g a b) = IsAscii-cons n [] (omega (arith, g.1)) IsAscii-nil
-octet_ascii (decimal h t o a b c d e) =
-    IsAscii-cons 92 ((48 + h) ∷ (48 + t) ∷ (48 + o) ∷ []) (omega arith) (IsAscii-cons (48 + h) ((48 + t) ∷ (48 + o) ∷ []) (omega (arith, a))
-    (IsAscii-cons (48 + t) ((48 + o) ∷ []) (omega (arith, b)) (IsAscii-cons (48 + o) [] (omega (arith, c)) IsAscii-nil)))
 octet_ascii {n} (quoted g a) = IsAscii-cons 92 (n ∷ []) (omega arith) (IsAscii-cons n [] (omega (arith, g.1)) IsAscii-nil)
+octet_ascii (decimal h t o a b c d e) = search (arith, IsAscii-cons, IsAscii-nil)
 
-pieces_ascii : {X : Type 0} (f : X → List ℕ) (xs : List X) → All (λ x. IsAscii (f x)) xs → IsAscii (flat_map f xs)
-pieces_ascii f [] h = IsAscii-nil
-pieces_ascii f (x ∷ xs) h = IsAscii-append (f x) (flat_map f xs) (All-head (λ x. IsAscii (f x)) x xs h) (pieces_ascii f xs (All-tail (λ x. IsAscii (f x)) x xs h))
+label_ascii : {label text : List ℕ} → LabelText label text → IsAscii text
+label_ascii no_octet = IsAscii-nil
+label_ascii (octet front rest o l e) = rw e (IsAscii-append front rest (octet_ascii o) (label_ascii l))
 
-label_ascii : (label : List ℕ) → AreOctets label → IsAscii (label_text label)
-label_ascii label h = pieces_ascii printed label (All-weaker (λ b. b < 256) (λ b. IsAscii (printed b)) (λ b l. octet_ascii (printed_text b l)) label h)
+labels_ascii : {labels : List (List ℕ)} {mark : Bool} {text : List ℕ} → LabelsText labels mark text → IsAscii text
+labels_ascii (last l) = label_ascii l
+labels_ascii (dotted front l e) = rw e (IsAscii-append front (46 ∷ []) (label_ascii l) (IsAscii-cons 46 [] (omega arith) IsAscii-nil))
+labels_ascii (joined front rest l more e) =
+    rw e (IsAscii-append front (46 ∷ rest) (label_ascii l) (IsAscii-cons 46 rest (omega arith) (labels_ascii more)))
 
-joined_ascii : (labels : List (List ℕ)) → All AreOctets labels → IsAscii (joined_text labels)
-joined_ascii [] h = IsAscii-nil
-joined_ascii (label ∷ labels) h =
-    let behind : List ℕ → List ℕ = λ other. 46 ∷ label_text other in
-    IsAscii-append (label_text label) (flat_map behind labels) (label_ascii label (All-head AreOctets label labels h))
-    (pieces_ascii behind labels (All-weaker AreOctets (λ other. IsAscii (behind other)) (λ other l. IsAscii-cons 46 (label_text other) (omega arith) (label_ascii other l))
-    labels (All-tail AreOctets label labels h)))
-
-mark_ascii : (mark : Bool) → IsAscii (cond mark (46 ∷ []) [])
-mark_ascii true = IsAscii-cons 46 [] (omega arith) IsAscii-nil
-mark_ascii false = IsAscii-nil
-
-name_text_utf8 : (name : DomainName) → HasOctets name → IsUtf8 (name_text name)
-name_text_utf8 name h = IsUtf8-from_ascii (name_text name)
-    (IsAscii-append (joined_text name.labels) (cond name.fully_qualified (46 ∷ []) []) (joined_ascii name.labels h) (mark_ascii name.fully_qualified))
+text_utf8 : {labels : List (List ℕ)} {mark : Bool} {text : List ℕ} → MarkedText labels mark text → IsUtf8 text
+text_utf8 root = IsUtf8-from_ascii (46 ∷ []) (IsAscii-cons 46 [] (omega arith) IsAscii-nil)
+text_utf8 nothing = IsUtf8-nil
+text_utf8 {text = text} (labelled l) = IsUtf8-from_ascii text (labels_ascii l)
 
 written_parameters : (xs : List Parameter) → AllByRecursion IsParameter xs → Follow (parameters_text xs) xs
 written_parameters [] h = inl (refl, refl)
@@ -111,42 +104,25 @@ written_parameters (x ∷ xs) h = inr (
   (32 ∷ [], parameters_text xs, refl, refl, h.0, written_parameters xs h.1),
 )
 
-written_stops : (xs : List Parameter) → StartsWithout is_no_semicolon (parameters_text xs)
-written_stops [] = tt
-written_stops (x ∷ xs) = refl
+written : (front rest : List ℕ) (name : Option DomainName) (xs : List Parameter) → AllOf is_no_semicolon front → IsIssuerName front name
+    → Follow rest xs
+    → IsIssuer (front ++ rest) name xs
+written front rest name xs p n f =
+    record { front = front; rest = rest; splits = record { whole = refl; passes = p; stops = follow_stops rest xs f }; is_name = n; parameters = f }
 
 pub issuer_written : (name : Option DomainName) (xs : List Parameter) → IsNamed name → IsWritable name → AllByRecursion IsParameter xs
     → IsIssuer (issuer_value name xs) name xs
-issuer_written None [] n w h = record {
-  front = [];
-  rest = 59 ∷ [];
-  splits = record { whole = refl; passes = refl; stops = refl };
-  is_name =
-      refl;
-  parameters = inr ([], refl, refl);
-}
-issuer_written None (x ∷ xs) n w h = record {
-  front = [];
-  rest = parameters_text (x ∷ xs);
-  splits = record { whole = refl; passes = refl; stops = refl };
-  is_name = refl;
-  parameters = written_parameters (x ∷ xs) h;
-}
-issuer_written (Some name) xs n w h = record {
-  front = name_text name;
-  rest = parameters_text xs;
-  splits = record { whole = refl; passes = w.1; stops = written_stops xs };
-  is_name = (w.0, name_text_utf8 name n.1, name_reads name n.0 n.1);
-  parameters = written_parameters xs h;
-}
+issuer_written None [] n w h = written [] (59 ∷ []) None [] refl refl (inr ([], refl, refl))
+issuer_written None (x ∷ xs) n w h = written [] (parameters_text (x ∷ xs)) None (x ∷ xs) refl refl (written_parameters (x ∷ xs) h)
+issuer_written (Some name) xs n w h =
+    let text = name_reads name n.0 n.1 in
+    written (name_text name) (parameters_text xs) (Some name) xs w.1 (w.0, text_utf8 text.reads, text) (written_parameters xs h)
 
--- a value that is read, or refused, is read as the name and the parameters that it has
-pub issuer_again : {T : Type 0} (octets : List ℕ) (view : T → Option DomainName × List Parameter) (r : Result T ProtoError)
-    → IfOk r (λ x. IsIssuer octets (view x).0 (view x).1) → IfErr r (λ e. IsIssuerRefusal octets e)
-    → (name : Option DomainName) (xs : List Parameter) → IsIssuer octets name xs
-    → MatchResult r (λ x. ((view x).0 ≡ name) × ((view x).1 ≡ xs)) (λ e. e ≡ proto.Memory)
-issuer_again octets view (Ok x) h k name xs i = one_issuer octets (view x).0 name (view x).1 xs h i
-issuer_again octets view (Err proto.Memory) h k name xs i = refl
-issuer_again octets view (Err proto.MaxBufferSizeExceeded) h k name xs i = absurd k
-issuer_again octets view (Err (proto.Decode d)) h k name xs i = absurd (k.1 name xs i)
-issuer_again octets view (Err (proto.Message t)) h k name xs i = absurd (k.0 name xs i)
+-- the value of a name and parameters is refused for want of memory alone
+pub memory_alone : (octets : List ℕ) (e : ProtoError) → IsIssuerRefusal octets e → (name : Option DomainName) (xs : List Parameter)
+    → IsIssuer octets name xs
+    → e ≡ proto.Memory
+memory_alone octets proto.Memory k name xs i = refl
+memory_alone octets (proto.Decode d) k name xs i = absurd (k.1 name xs i)
+memory_alone octets (proto.Message t) k name xs i = absurd (k.0 name xs i)
+memory_alone octets e k name xs i = absurd k

@@ -1,13 +1,15 @@
--- The octets of a window, by the numbers in it and in another.
+-- The windows of a set, by the numbers in it and in another.
 use Rattle.std.proofs.Common.{◌≡◌, ℕ, zero, suc, ◌+◌, ◌*◌, ◌/◌, ◌%◌, ◌<◌, ◌≤◌, Bool, true, false, cond, inl, inr, List, [], ◌∷◌, length, get_or, take}
-use Rattle.std.proofs.Common.{map, refl, sym, ap, ◌∙◌, subst, arith}
+use Rattle.std.proofs.Common.{map, refl, sym, ap, ◌∙◌, subst, arith, ◌≢◌, ◌-◌, ◌++◌, drop}
 use Rattle.std.specs.{List.range_with_len, Cmp.nat_cmp_is, Cmp.Lexicographic.slice_cmp, Ordering.nat_cmp, Ordering.ordering_then}
-use Rattle.std.specs.{declared.cmp.Ordering.Ordering, declared.cmp.Ordering.TheVariants.Greater}
-use Rattle.std.proofs.{lemmas.Bool.cases_eq, lemmas.Bool.cases_lt, lemmas.Grind.same_number_lists, lemmas.List.get_or-take, lemmas.List.get_or_past}
-use Rattle.std.proofs.lemmas.List.FromFn.{get_or-map-range_with_len, length-map-range_with_len}
-use Rattle.dns_fields.specs.Bitmaps.{contains, packed, mark, keep, trimmed, types_octet, window}
+use Rattle.std.specs.declared.cmp.Ordering.{Ordering, TheVariants.Greater}
+use Rattle.std.proofs.lemmas.{Bool.cases_eq, Bool.cases_lt, Grind.same_number_lists}
+use Rattle.std.proofs.lemmas.List.{get_or_past, FromFn.get_or-map-range_with_len, FromFn.length-map-range_with_len}
+use Rattle.dns_fields.specs.Bitmaps.{contains, packed, mark, keep, trimmed, types_octet, window, Block, IsTypeSet, with_block, windows, minimal}
 use Rattle.dns_fields.proofs.Bitmaps.{mark_small}
 use Rattle.dns_pieces.proofs.Comparing.{cmp_one}
+use Rattle.dns_rdata_sets.specs.RecordTypeSet.{IsLastOf, AreOfWindow, first_window}
+use Rattle.dns_rdata_sets.proofs.Rising.{lacks, in_rest, ascends, front_only, from_on, small_at}
 
 -- v has x and w has not, and of the numbers below x both have the same
 pub record OwnFirst (v w : List ℕ) (x : ℕ) : Type 0 where
@@ -17,18 +19,6 @@ pub record OwnFirst (v w : List ℕ) (x : ℕ) : Type 0 where
   pub below : (u : ℕ) → u < x → contains u v ≡ contains u w
 
 -- ---- one octet
-
-mark_same : (v w : List ℕ) (u : ℕ) → contains u v ≡ contains u w → mark v u ≡ mark w u
-unfolding mark
-mark_same v w u e = ap (λ (b : Bool). cond b 1 0) e
-
-mark_yes : (v : List ℕ) (t : ℕ) → contains t v ≡ true → mark v t ≡ 1
-unfolding mark
-mark_yes v t e = ap (λ (b : Bool). cond b 1 0) e
-
-mark_no : (v : List ℕ) (t : ℕ) → contains t v ≡ false → mark v t ≡ 0
-unfolding mark
-mark_no v t e = ap (λ (b : Bool). cond b 1 0) e
 
 packed_same : (f g : ℕ → ℕ) (n : ℕ) → ((b : ℕ) → b < n → f b ≡ g b) → packed f n ≡ packed g n
 packed_same f g zero h = refl
@@ -52,68 +42,54 @@ packed_below f g (suc n) i l same less small = elim (cases_eq i n) [
 place : (k x : ℕ) → x / 256 ≡ k → 256 * k + (8 * (x % 256 / 8) + x % 8) ≡ x
 place k x e = omega (arith, e)
 
+marked : (v : List ℕ) (k x : ℕ) (b : Bool) → x / 256 ≡ k → contains x v ≡ b → mark v (256 * k + (8 * (x % 256 / 8) + x % 8)) ≡ cond b 1 0
+unfolding mark
+marked v k x b e h = ap (λ (t : ℕ). cond (contains t v) 1 0) (place k x e) ∙ ap (λ (c : Bool). cond c 1 0) h
+
 octet_some : (v : List ℕ) (k x : ℕ) → x / 256 ≡ k → contains x v ≡ true → 0 < types_octet v k (x % 256 / 8)
 unfolding types_octet
-octet_some v k x e h = packed_some (λ b. mark v (256 * k + (8 * (x % 256 / 8) + b))) 8 (x % 8) (omega arith) (omega (arith, ap (mark v) (place k x e), mark_yes v x h))
-
-octet_none : (v : List ℕ) (k j : ℕ) → ((u : ℕ) → 256 * k + 8 * j ≤ u → u < 256 * k + 8 * j + 8 → contains u v ≡ false) → types_octet v k j ≡ 0
-unfolding types_octet
-octet_none v k j h = packed_same (λ b. mark v (256 * k + (8 * j + b))) (λ b. 0) 8 (λ b l. mark_no v (256 * k + (8 * j + b)) (h (256 * k + (8 * j + b)) (omega arith) (omega arith)))
+octet_some v k x e h = packed_some (λ b. mark v (256 * k + (8 * (x % 256 / 8) + b))) 8 (x % 8) (omega arith) (omega (arith, marked v k x true e h))
 
 octet_same : (v w : List ℕ) (k j : ℕ) → ((u : ℕ) → 256 * k + 8 * j ≤ u → u < 256 * k + 8 * j + 8 → contains u v ≡ contains u w) → types_octet v k j ≡ types_octet w k j
-unfolding types_octet
+unfolding types_octet mark
 octet_same v w k j h = packed_same (λ b. mark v (256 * k + (8 * j + b))) (λ b. mark w (256 * k + (8 * j + b))) 8
-    (λ b l. mark_same v w (256 * k + (8 * j + b)) (h (256 * k + (8 * j + b)) (omega arith) (omega arith)))
+    (λ b l. ap (λ (c : Bool). cond c 1 0) (h (256 * k + (8 * j + b)) (omega arith) (omega arith)))
 
 octet_less : {v w : List ℕ} {x : ℕ} (k : ℕ) → OwnFirst v w x → x / 256 ≡ k → types_octet w k (x % 256 / 8) < types_octet v k (x % 256 / 8)
-unfolding types_octet
+unfolding types_octet mark
 octet_less {v} {w} {x} k o e =
     let at : ℕ → ℕ = λ b. 256 * k + (8 * (x % 256 / 8) + b) in
-    packed_below (λ b. mark v (at b)) (λ b. mark w (at b)) 8 (x % 8) (omega arith) (λ b m. mark_same w v (at b) (sym (o.below (at b) (omega (arith, e, m)))))
-    (omega (arith, ap (mark v) (place k x e), mark_yes v x o.has, ap (mark w) (place k x e), mark_no w x o.lacks)) (λ b. mark_small w (at b))
+    packed_below (λ b. mark v (at b)) (λ b. mark w (at b)) 8 (x % 8) (omega arith)
+    (λ b m. ap (λ (c : Bool). cond c 1 0) (sym (o.below (at b) (omega (arith, e, m)))))
+    (omega (arith, marked v k x true e o.has, marked w k x false e o.lacks)) (λ b. mark_small w (at b))
 
 -- ---- lists without the zeros at the end
+
+keep_get : (x : ℕ) (p : List ℕ) (i : ℕ) → get_or (keep x p) i 0 ≡ get_or (x ∷ p) i 0
+keep_get zero [] zero = refl
+keep_get zero [] (suc i) = refl
+keep_get (suc x) [] i = refl
+keep_get x (y ∷ p) i = refl
+
+trimmed_get : (xs : List ℕ) (i : ℕ) → get_or (trimmed xs) i 0 ≡ get_or xs i 0
+trimmed_get [] i = refl
+trimmed_get (x ∷ xs) zero = keep_get x (trimmed xs) zero
+trimmed_get (x ∷ xs) (suc i) = keep_get x (trimmed xs) (suc i) ∙ trimmed_get xs i
 
 trimmed_zeros : (xs : List ℕ) → ((i : ℕ) → get_or xs i 0 ≡ 0) → trimmed xs ≡ []
 trimmed_zeros [] z = refl
 trimmed_zeros (x ∷ xs) z = ap (λ (y : ℕ). keep y (trimmed xs)) (z 0) ∙ ap (keep 0) (trimmed_zeros xs (λ i. z (suc i)))
 
-kept_front : (x : ℕ) (p xs : List ℕ) → p ≡ take (length p) xs → keep x p ≡ take (length (keep x p)) (x ∷ xs)
-kept_front zero [] xs e = refl
-kept_front (suc x) [] xs e = refl
-kept_front x (y ∷ p) xs e = ap (λ (s : List ℕ). x ∷ s) e
-
--- it is a front of the list
-pub trimmed_front : (xs : List ℕ) → trimmed xs ≡ take (length (trimmed xs)) xs
-trimmed_front [] = refl
-trimmed_front (x ∷ xs) = kept_front x (trimmed xs) xs (trimmed_front xs)
-
-kept_some : (x : ℕ) (p : List ℕ) → 0 < x → 0 < length (keep x p)
-kept_some zero p l = absurd (omega arith)
-kept_some (suc x) [] l = omega arith
-kept_some (suc x) (y ∷ p) l = omega arith
-
-kept_reaches : (x : ℕ) (p : List ℕ) (j : ℕ) → j < length p → suc j < length (keep x p)
-kept_reaches x [] j l = absurd (omega arith)
-kept_reaches x (y ∷ p) j l = omega (arith, l)
+-- the last octet that is no zero ends it
+trimmed_last : (xs : List ℕ) (n : ℕ) → 0 < get_or xs n 0 → ((i : ℕ) → n < i → get_or xs i 0 ≡ 0) → trimmed xs ≡ take (suc n) xs
+trimmed_last [] n s z = absurd (omega arith)
+trimmed_last (zero ∷ xs) zero s z = absurd (omega arith)
+trimmed_last (suc x ∷ xs) zero s z = ap (keep (suc x)) (trimmed_zeros xs (λ i. z (suc i) (omega arith)))
+trimmed_last (x ∷ []) (suc n) s z = absurd (omega arith)
+trimmed_last (x ∷ y ∷ xs) (suc n) s z = ap (keep x) (trimmed_last (y ∷ xs) n s (λ i l. z (suc i) (omega arith)))
 
 trimmed_reaches : (xs : List ℕ) (j : ℕ) → 0 < get_or xs j 0 → j < length (trimmed xs)
-trimmed_reaches [] j s = absurd (omega arith)
-trimmed_reaches (x ∷ xs) zero s = kept_some x (trimmed xs) s
-trimmed_reaches (x ∷ xs) (suc j) s = kept_reaches x (trimmed xs) j (trimmed_reaches xs j s)
-
-kept_stops : (x : ℕ) (p : List ℕ) (n : ℕ) → length p ≤ n → length (keep x p) ≤ suc n
-kept_stops zero [] n l = omega arith
-kept_stops (suc x) [] n l = omega arith
-kept_stops x (y ∷ p) n l = omega (arith, l)
-
-trimmed_stops : (xs : List ℕ) (n : ℕ) → ((i : ℕ) → n ≤ i → get_or xs i 0 ≡ 0) → length (trimmed xs) ≤ n
-trimmed_stops [] n z = omega arith
-trimmed_stops (x ∷ xs) zero z = let e : length (trimmed (x ∷ xs)) ≡ 0 = ap length (trimmed_zeros (x ∷ xs) (λ i. z i (omega arith))) in omega (arith, e)
-trimmed_stops (x ∷ xs) (suc n) z = kept_stops x (trimmed xs) n (trimmed_stops xs n (λ i l. z (suc i) (omega (arith, l))))
-
-trimmed_at : (xs : List ℕ) (i : ℕ) → i < length (trimmed xs) → get_or (trimmed xs) i 0 ≡ get_or xs i 0
-trimmed_at xs i l = ap (λ (s : List ℕ). get_or s i 0) (trimmed_front xs) ∙ get_or-take (length (trimmed xs)) xs i 0 l
+trimmed_reaches xs j s = grind (arith, trimmed_get xs j, get_or_past (trimmed xs) j 0)
 
 -- the first octet that differs decides
 first_greater : (xs ys : List ℕ) (j : ℕ) → j < length xs → j < length ys → ((i : ℕ) → i < j → get_or xs i 0 ≡ get_or ys i 0) → get_or ys j 0 < get_or xs j 0
@@ -125,32 +101,29 @@ first_greater (x ∷ xs) (y ∷ ys) (suc j) l m same g =
     ap (λ (z : ℕ). slice_cmp nat_cmp (x ∷ xs) (z ∷ ys)) (sym (same 0 (omega arith))) ∙ cmp_one x xs ys
     ∙ first_greater xs ys j (omega (arith, l)) (omega (arith, m)) (λ i n. same (suc i) (omega (arith, n))) g
 
--- also of lists as long as each other without these zeros
-trimmed_greater : (xs ys : List ℕ) (j : ℕ) → ((i : ℕ) → i < j → get_or xs i 0 ≡ get_or ys i 0) → get_or ys j 0 < get_or xs j 0
-    → length (trimmed xs) ≡ length (trimmed ys) → slice_cmp nat_cmp (trimmed xs) (trimmed ys) ≡ Greater
-trimmed_greater xs ys j same less e =
-    let here : j < length (trimmed xs) = trimmed_reaches xs j (omega (arith, less)) in
-    first_greater (trimmed xs) (trimmed ys) j here (omega (arith, here, e))
-    (λ i m. trimmed_at xs i (omega (arith, m, here)) ∙ same i m ∙ sym (trimmed_at ys i (omega (arith, m, here, e))))
-    (omega (arith, less, trimmed_at xs j here, trimmed_at ys j (omega (arith, here, e))))
-
 -- ---- the octets of a window
 
-octet_at : (v : List ℕ) (k j : ℕ) → j < 32 → get_or (map (types_octet v k) (range_with_len 0 32)) j 0 ≡ types_octet v k j
+-- with the zeros at the end
+abbrev pub octets_of : List ℕ → ℕ → List ℕ
+octets_of v k = map (types_octet v k) (range_with_len 0 32)
+
+octet_at : (v : List ℕ) (k j : ℕ) → j < 32 → get_or (octets_of v k) j 0 ≡ types_octet v k j
 octet_at v k j l = get_or-map-range_with_len (types_octet v k) 0 32 j j 0 l (omega arith)
 
--- with the zeros at the end
-pub octets_are : (v : List ℕ) (k : ℕ) (octets : List ℕ) → length octets ≡ 32 → ((j : ℕ) → j < 32 → get_or octets j 0 ≡ types_octet v k j) → octets ≡ map (types_octet v k) (range_with_len 0 32)
-octets_are v k octets n same = same_number_lists octets (map (types_octet v k) (range_with_len 0 32)) (n ∙ sym (length-map-range_with_len (types_octet v k) 0 32)) (λ j l.
-    let inside : j < 32 = omega (arith, n, l) in
-    same j inside ∙ sym (octet_at v k j inside))
+pub octets_long : (v : List ℕ) (k : ℕ) → length (octets_of v k) ≡ 32
+octets_long v k = length-map-range_with_len (types_octet v k) 0 32
+
+pub octets_are : (v : List ℕ) (k : ℕ) (octets : List ℕ) → length octets ≡ 32 → ((j : ℕ) → j < 32 → get_or octets j 0 ≡ types_octet v k j)
+    → octets ≡ octets_of v k
+octets_are v k octets n same = same_number_lists octets (octets_of v k) (n ∙ sym (octets_long v k))
+    (λ j l. let inside : j < 32 = omega (arith, n, l) in same j inside ∙ sym (octet_at v k j inside))
 
 pub window_same : (v w : List ℕ) (k : ℕ) → ((u : ℕ) → u / 256 ≡ k → contains u v ≡ contains u w) → window v k ≡ window w k
 unfolding window
-window_same v w k h = ap trimmed (octets_are w k (map (types_octet v k) (range_with_len 0 32)) (length-map-range_with_len (types_octet v k) 0 32)
+window_same v w k h = ap trimmed (octets_are w k (octets_of v k) (octets_long v k)
     (λ j l. octet_at v k j l ∙ octet_same v w k j (λ u a b. h u (omega (arith, a, b, l)))))
 
-window_empty : (k : ℕ) → window [] k ≡ []
+pub window_empty : (k : ℕ) → window [] k ≡ []
 unfolding window types_octet mark
 window_empty k = refl
 
@@ -159,21 +132,90 @@ window_none v k h = window_same v [] k h ∙ window_empty k
 
 pub window_reaches : (v : List ℕ) (k x : ℕ) → x / 256 ≡ k → contains x v ≡ true → x % 256 / 8 < length (window v k)
 unfolding window
-window_reaches v k x e h = trimmed_reaches (map (types_octet v k) (range_with_len 0 32)) (x % 256 / 8)
-    (rw (octet_at v k (x % 256 / 8) (omega arith)) (octet_some v k x e h))
+window_reaches v k x e h = trimmed_reaches (octets_of v k) (x % 256 / 8) (rw (octet_at v k (x % 256 / 8) (omega arith)) (octet_some v k x e h))
 
-pub window_stops : (v : List ℕ) (k x : ℕ) → x / 256 ≡ k → ((u : ℕ) → x < u → u / 256 ≡ k → contains u v ≡ false) → length (window v k) ≤ x % 256 / 8 + 1
-unfolding window
-window_stops v k x e h = trimmed_stops (map (types_octet v k) (range_with_len 0 32)) (x % 256 / 8 + 1) (λ i l. elim (cases_lt i 32) [
-  | inl m ↦ octet_at v k i m ∙ octet_none v k i (λ u a b. h u (omega (arith, e, l, a)) (omega (arith, m, a, b)))
-  | inr m ↦ get_or_past (map (types_octet v k) (range_with_len 0 32)) i 0 (omega (arith, m, length-map-range_with_len (types_octet v k) 0 32))
-])
+-- the octets up to that of its last type
+pub window_last : (v : List ℕ) (k t : ℕ) → IsLastOf v k t → window v k ≡ take (t % 256 / 8 + 1) (octets_of v k)
+unfolding window types_octet mark
+window_last v k t h =
+    let n : ℕ = t % 256 / 8 in
+    let place : n + 1 ≡ suc n = omega arith in
+    rw place (trimmed_last (octets_of v k) n (rw (octet_at v k n (omega arith)) (octet_some v k t h.of h.has)) (λ i l. elim (cases_lt i 32) [
+      | inl m ↦ octet_at v k i m ∙ octet_same v [] k i (λ u a b. h.last u (omega (arith, h.of, l, a)) (omega (arith, m, a, b)))
+      | inr m ↦ get_or_past (octets_of v k) i 0 (omega (arith, m, octets_long v k))
+    ]))
 
 pub window_greater : {v w : List ℕ} {x : ℕ} (k : ℕ) → OwnFirst v w x → x / 256 ≡ k → length (window v k) ≡ length (window w k)
     → slice_cmp nat_cmp (window v k) (window w k) ≡ Greater
 unfolding window
 window_greater {v} {w} {x} k o e l =
     let j : ℕ = x % 256 / 8 in
-    trimmed_greater (map (types_octet v k) (range_with_len 0 32)) (map (types_octet w k) (range_with_len 0 32)) j
-    (λ i m. octet_at v k i (omega (arith, m)) ∙ octet_same v w k i (λ u a b. o.below u (omega (arith, e, m, b))) ∙ sym (octet_at w k i (omega (arith, m))))
-    (rw (octet_at v k j (omega arith), octet_at w k j (omega arith)) (octet_less k o e)) l
+    let get : (z : List ℕ) (i : ℕ) → i ≤ j → get_or (trimmed (octets_of z k)) i 0 ≡ types_octet z k i = λ z i m. trimmed_get (octets_of z k) i
+    ∙ octet_at z k i (omega (arith, m)) in
+    let here = window_reaches v k x e o.has in
+    first_greater (trimmed (octets_of v k)) (trimmed (octets_of w k)) j here (omega (arith, l, here))
+    (λ i m. get v i (omega (arith, m)) ∙ octet_same v w k i (λ u a b. o.below u (omega (arith, e, m, b))) ∙ sym (get w i (omega (arith, m))))
+    (omega (arith, get v j (omega arith), get w j (omega arith), octet_less k o e))
+
+-- ---- the windows of a set, and of the set behind its first window
+
+pub some_block : (k : ℕ) (w : List ℕ) (bs : List Block) → 0 < length w → with_block k w bs ≡ (k, w) ∷ bs
+some_block k [] bs l = absurd (omega arith)
+some_block k (x ∷ w) bs l = refl
+
+with_more : (k : ℕ) (w : List ℕ) (bs cs : List Block) → with_block k w (bs ++ cs) ≡ with_block k w bs ++ cs
+with_more k [] bs cs = refl
+with_more k (x ∷ w) bs cs = refl
+
+pub windows_same : (v w : List ℕ) (a n : ℕ) → ((u : ℕ) → a ≤ u / 256 → u / 256 < a + n → contains u v ≡ contains u w)
+    → windows v (range_with_len a n) ≡ windows w (range_with_len a n)
+windows_same v w a zero h = refl
+windows_same v w a (suc n) h =
+    ap (λ (x : List ℕ). with_block a x (windows v (range_with_len (a + 1) n))) (window_same v w a (λ u e. h u (omega (arith, e)) (omega (arith, e))))
+    ∙ ap (with_block a (window w a)) (windows_same v w (a + 1) n (λ u l m. h u (omega (arith, l)) (omega (arith, m))))
+
+windows_empty : (a n : ℕ) → windows [] (range_with_len a n) ≡ []
+windows_empty a zero = refl
+windows_empty a (suc n) = rw window_empty (windows_empty (a + 1) n)
+
+pub windows_none : (v : List ℕ) (a n : ℕ) → ((u : ℕ) → a ≤ u / 256 → u / 256 < a + n → contains u v ≡ false) → windows v (range_with_len a n) ≡ []
+windows_none v a n none = windows_same v [] a n none ∙ windows_empty a n
+
+pub minimal_none : minimal [] ≡ []
+unfolding minimal
+minimal_none = windows_empty 0 256
+
+windows_split : (v : List ℕ) (a k n m b : ℕ) → k + n ≡ m → a + k ≡ b
+    → windows v (range_with_len a m) ≡ windows v (range_with_len a k) ++ windows v (range_with_len b n)
+windows_split v a zero n m b e f = let s : m ≡ n = omega arith in let t : b ≡ a = omega arith in rw (s, t) refl
+windows_split v a (suc k) n zero b e f = absurd (omega arith)
+windows_split v a (suc k) n (suc m) b e f =
+    rw (windows_split v (a + 1) k n m b (omega arith) (omega arith), with_more) refl
+
+-- the windows behind window k
+abbrev pub behind_window : List ℕ → ℕ → List Block
+behind_window v k = windows v (range_with_len (k + 1) (255 - k))
+
+-- those in front of window k, it, and those behind it
+pub minimal_at : (v : List ℕ) (k : ℕ) → k < 256 → minimal v ≡ windows v (range_with_len 0 k) ++ with_block k (window v k) (behind_window v k)
+unfolding minimal
+minimal_at v k l = windows_split v 0 k (suc (255 - k)) 256 k (omega arith) (omega arith)
+
+-- e numbers are of the first window, and what is behind them is of later ones
+pub minimal_next : (v : List ℕ) (e : ℕ) → IsTypeSet v → 0 < length v → 0 < e → AreOfWindow (first_window v) (take e v)
+    → (e < length v → get_or v e 0 / 256 ≢ first_window v) → 0 < length (window (take e v) (first_window v))
+    → minimal v ≡ (first_window v, window (take e v) (first_window v)) ∷ minimal (drop e v)
+minimal_next v e s more some run next full =
+    let k : ℕ = first_window v in
+    let small : k < 256 = omega (arith, small_at v 0 s more) in
+    let run_only : (u : ℕ) → u / 256 ≢ k → contains u (take e v) ≡ false = (λ u other. lacks (λ t. t / 256 ≡ k) (take e v) u run other) in
+    let later : e < length v → 256 * (k + 1) ≤ get_or v e 0 = (λ l. omega (arith, next l, ascends v s.rises 0 e some l)) in
+    let front : (u : ℕ) → u / 256 ≤ k → contains u v ≡ contains u (take e v) = (λ u m. front_only (256 * (k + 1)) e v s later u (omega (arith, m))) in
+    let behind : (u : ℕ) → u / 256 ≤ k → contains u (drop e v) ≡ false = (λ u m. from_on (256 * (k + 1)) e v s later u (omega (arith, m))) in
+    let first = windows_none v 0 k (λ u l m. front u (omega (arith, m)) ∙ run_only u (omega (arith, m))) in
+    let here = window_same v (take e v) k (λ u q. front u (omega (arith, q))) in
+    let rest : behind_window v k ≡ minimal (drop e v) =
+    windows_same v (drop e v) (k + 1) (255 - k) (λ u l m. in_rest e v u (run_only u (omega (arith, l))))
+    ∙ sym (rw (windows_none (drop e v) 0 k (λ u l m. behind u (omega (arith, m))), window_none (drop e v) k (λ u m. behind u (omega (arith, m)))) at
+    (minimal_at (drop e v) k small)) in
+    rw (first, here, rest) at (minimal_at v k small) ∙ some_block k (window (take e v) k) (minimal (drop e v)) full

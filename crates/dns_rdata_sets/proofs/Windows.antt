@@ -1,18 +1,17 @@
 -- The octets of a window, from the numbers of its types.
 use Rattle.std.proofs.Common.{◌≡◌, ℕ, zero, suc, ◌+◌, ◌-◌, ◌*◌, ◌/◌, ◌%◌, ◌<◌, ◌≤◌, ◌^◌, ◌==◌, ◌||◌, Bool, true, false, cond, inl, inr, List, ◌++◌}
-use Rattle.std.proofs.Common.{length, get_or, take, map, replicate, bit_or, refl, sym, ap, ◌∙◌, subst, arith}
-use Rattle.std.specs.{List.range_with_len, Int.bit_at, Int.bytes_high_first}
-use Rattle.std.proofs.{Math.ListN.set, lemmas.Bool.cases_lt, lemmas.Bool.Decides.eqb_tells, lemmas.Bool.Decides.nat_tests}
-use Rattle.std.proofs.{lemmas.List.Elements.All-from_get_or, lemmas.List.Folds.list_any_more, lemmas.Nat.shr-shr}
-use Rattle.std.proofs.lemmas.List.{get_or-set_same, get_or-set_other, get_or-replicate, get_or_append_left, get_or-append_right}
+use Rattle.std.proofs.Common.{length, get_or, take, replicate, bit_or, refl, sym, ap, ◌∙◌, arith}
+use Rattle.std.specs.Int.{bit_at, bytes_high_first}
+use Rattle.std.proofs.Math.ListN.{set}
+use Rattle.std.proofs.lemmas.{Bool.cases_lt, Bool.Decides.eqb_tells, Bool.Decides.nat_tests, Nat.shr-shr, Grind.get_or-set_at}
+use Rattle.std.proofs.lemmas.List.{Folds.list_any_more, get_or-set_other, get_or-replicate, get_or_append_left, get_or-append_right}
 use Rattle.std.proofs.lemmas.Nat.Bits.{bit_at_set_same, bit_at_set_other, bit_at-zero, bit_at_cat_low, same_from_bits_below}
-use Rattle.dns_fields.specs.Octets.{AreOctets}
-use Rattle.dns_fields.specs.Bitmaps.{contains, Rises, packed, mark, trimmed, types_octet, window}
+use Rattle.dns_fields.specs.{Octets.AreOctets, Bitmaps.contains, Bitmaps.Rises, Bitmaps.packed, Bitmaps.mark, Bitmaps.types_octet, Bitmaps.window}
 use Rattle.dns_fields.proofs.Bitmaps.{packed_less, packed_bit, mark_small}
 use Rattle.dns_rdata_sets.specs.RecordTypeSet.{AreOfWindow}
-use Rattle.dns_rdata_sets.proofs.Rising.{lacks, has_at, no_fall}
-use Rattle.dns_rdata_sets.proofs.WindowOctets.{octets_are, trimmed_front, window_reaches, window_stops}
-use mir.Syntax.{w8, w64}
+use Rattle.dns_rdata_sets.proofs.{Rising.last_at, WindowOctets.octets_are, WindowOctets.window_last}
+use mir.Syntax.{Width, w8, w64}
+use mir.Val.{bits}
 
 -- ---- the octets of a number, and their bits
 
@@ -30,33 +29,29 @@ octet_bit w a j h =
 
 -- ---- one bit more
 
-marked_same : (out : List ℕ) (b n : ℕ) → length out ≡ 32 → b < 256 → n / 8 ≡ b / 8 → (v : ℕ) → get_or (set out (b / 8) v) (n / 8) 0 ≡ v
-marked_same out b n l h e v = ap (λ (k : ℕ). get_or (set out (b / 8) v) k 0) e ∙ get_or-set_same out (b / 8) v 0 (omega arith)
+set_bit : (w : Width) (a k i : ℕ) → k < bits w → bit_at (bit_or a (1 * 2 ^ k % 2 ^ bits w)) i ≡ cond (k == i) 1 (bit_at a i)
+set_bit w a k i l = elim (eqb_tells k i) [
+  | inl e ↦ rw (e.0, ← e.1) (bit_at_set_same w a k l)
+  | inr e ↦ rw e.0 (bit_at_set_other w a k l i (λ s. e.1 (sym s)))
+]
 
 pub marked : (out : List ℕ) (b n : ℕ) → length out ≡ 32 → b < 256 → n < 256
     → bit_at (get_or (set out (b / 8) (bit_or (get_or out (b / 8) 0) (1 * 2 ^ (7 - b % 8) % 2 ^ 8))) (n / 8) 0) (7 - n % 8) ≡ cond (b == n) 1
     (bit_at (get_or out (n / 8) 0) (7 - n % 8))
 marked out b n l h k =
     let v : ℕ = bit_or (get_or out (b / 8) 0) (1 * 2 ^ (7 - b % 8) % 2 ^ 8) in
-    elim (eqb_tells b n) [
-      | inl t ↦ subst (λ (m : ℕ). bit_at (get_or (set out (b / 8) v) (m / 8) 0) (7 - m % 8) ≡ cond (b == m) 1 (bit_at (get_or out (m / 8) 0) (7 - m % 8))) t.1
-          (ap (λ (x : ℕ). bit_at x (7 - b % 8)) (marked_same out b b l h (λ i. b / 8) v)
-          ∙ bit_at_set_same w8 (get_or out (b / 8) 0) (7 - b % 8) (omega arith)
-          ∙ sym (ap (λ (c : Bool). cond c 1 (bit_at (get_or out (b / 8) 0) (7 - b % 8))) (ap (λ (m : ℕ). b == m) t.1 ∙ t.0)))
-      | inr t ↦ elim (eqb_tells (n / 8) (b / 8)) [
-        | inl e ↦ ap (λ (x : ℕ). bit_at x (7 - n % 8)) (marked_same out b n l h e.1 v)
-            ∙ bit_at_set_other w8 (get_or out (b / 8) 0) (7 - b % 8) (omega arith) (7 - n % 8) (let ne = t.1 in let q = e.1 in omega arith)
-            ∙ ap (λ (m : ℕ). bit_at (get_or out m 0) (7 - n % 8)) (sym e.1)
-            ∙ sym (ap (λ (c : Bool). cond c 1 (bit_at (get_or out (n / 8) 0) (7 - n % 8))) t.0)
-        | inr e ↦ ap (λ (x : ℕ). bit_at x (7 - n % 8)) (get_or-set_other out (b / 8) (n / 8) v 0 e.1)
-            ∙ sym (ap (λ (c : Bool). cond c 1 (bit_at (get_or out (n / 8) 0) (7 - n % 8))) t.0)
-      ]
+    elim (eqb_tells (n / 8) (b / 8)) [
+      | inl e ↦ (
+          let same : (7 - b % 8 == 7 - n % 8) ≡ (b == n) = grind (arith, nat_tests, e.1) in
+          ap (λ (x : ℕ). bit_at x (7 - n % 8)) (get_or-set_at out (b / 8) (n / 8) v 0 e.1 (omega arith))
+          ∙ set_bit w8 (get_or out (b / 8) 0) (7 - b % 8) (7 - n % 8) (omega arith)
+          ∙ rw (same, e.1) refl)
+      | inr e ↦ (
+          let other : (b == n) ≡ false = grind (arith, nat_tests, e.1) in
+          rw other (ap (λ (x : ℕ). bit_at x (7 - n % 8)) (get_or-set_other out (b / 8) (n / 8) v 0 e.1)))
     ]
 
 -- ---- the bits of all types of a run
-
-in_window : (t k n : ℕ) → n < 256 → t / 256 ≡ k → (t % 256 == n) ≡ (t == 256 * k + n)
-in_window t k n h e = grind (arith, nat_tests)
 
 -- the octets have the bits of these types of window k, and no others
 pub record HasMarks (octets run : List ℕ) (k : ℕ) : Type 0 where
@@ -71,41 +66,31 @@ pub front_none : (run : List ℕ) (k : ℕ) → HasFront 0 (take 0 run) k
 unfolding mark
 front_none run k = record { low = λ n h. bit_at-zero (63 - n); high = λ n g h. refl }
 
-mark_more : (run : List ℕ) (i u : ℕ) → i < length run → cond (get_or run i 0 == u) 1 (mark (take i run) u) ≡ mark (take (i + 1) run) u
+-- what one type more marks
+marks_one : (run : List ℕ) (i k n x : ℕ) → i < length run → get_or run i 0 / 256 ≡ k → n < 256 → x ≡ mark (take i run) (256 * k + n)
+    → cond (get_or run i 0 % 256 == n) 1 x ≡ mark (take (i + 1) run) (256 * k + n)
 unfolding mark
-mark_more run i u l = both (contains u (take i run)) (get_or run i 0 == u) ∙ ap (λ (b : Bool). cond b 1 0) (sym (list_any_more (λ t. t == u) run i 0 l))
+marks_one run i k n x l e h is =
+    let u : ℕ = 256 * k + n in
+    let same : (get_or run i 0 % 256 == n) ≡ (get_or run i 0 == u) = grind (arith, nat_tests) in
+    rw (same, is) (both (contains u (take i run)) (get_or run i 0 == u) ∙ ap (λ (b : Bool). cond b 1 0) (sym (list_any_more (λ t. t == u) run i 0 l)))
   where
     both : (a b : Bool) → cond {A = ℕ} b 1 (cond a 1 0) ≡ cond {A = ℕ} (a || b) 1 0
     both true true = refl
     both true false = refl
-    both false true = refl
-    both false false = refl
-
-word_marked : (word b n : ℕ) → b < 64 → n < 64 → bit_at (bit_or word (1 * 2 ^ (63 - b) % 2 ^ 64)) (63 - n) ≡ cond (b == n) 1 (bit_at word (63 - n))
-word_marked word b n l h =
-    elim (eqb_tells b n) [
-      | inl t ↦ ap (λ (m : ℕ). bit_at (bit_or word (1 * 2 ^ (63 - b) % 2 ^ 64)) (63 - m)) (sym t.1) ∙ bit_at_set_same w64 word (63 - b) (omega arith)
-          ∙ sym (ap (λ (c : Bool). cond c 1 (bit_at word (63 - n))) t.0)
-      | inr t ↦ bit_at_set_other w64 word (63 - b) (omega arith) (63 - n) (let ne = t.1 in omega arith)
-          ∙ sym (ap (λ (c : Bool). cond c 1 (bit_at word (63 - n))) t.0)
-    ]
-
--- what one type more marks
-marks_one : (run : List ℕ) (i k n x : ℕ) → i < length run → get_or run i 0 / 256 ≡ k → n < 256 → x ≡ mark (take i run) (256 * k + n)
-    → cond (get_or run i 0 % 256 == n) 1 x ≡ mark (take (i + 1) run) (256 * k + n)
-marks_one run i k n x l e h is = ap (λ (y : ℕ). cond (get_or run i 0 % 256 == n) 1 y) is
-    ∙ ap (λ (b : Bool). cond b 1 (mark (take i run) (256 * k + n))) (in_window (get_or run i 0) k n h e) ∙ mark_more run i (256 * k + n) l
+    both false b = refl
 
 pub front_more : (word : ℕ) (run : List ℕ) (i k : ℕ) → i < length run → get_or run i 0 / 256 ≡ k → get_or run i 0 % 256 < 64 → HasFront word (take i run) k
     → HasFront (bit_or word (1 * 2 ^ (63 - get_or run i 0 % 256) % 2 ^ 64)) (take (i + 1) run) k
 front_more word run i k l e low a =
     let b : ℕ = get_or run i 0 % 256 in
     record {
-      low = λ n h. word_marked word b n low h ∙ marks_one run i k n (bit_at word (63 - n)) l e (omega arith) (a.low n h);
-      high = λ n g h. sym (marks_one run i k n 0 l e h (sym (a.high n g h))) ∙ elim (eqb_tells b n) [
-        | inl t ↦ absurd (omega (arith, t.1, low, g))
-        | inr t ↦ ap (λ (c : Bool). cond {A = ℕ} c 1 0) t.0
-      ];
+      low = λ n h.
+          let same : (63 - b == 63 - n) ≡ (b == n) = grind (arith, nat_tests, low, h) in
+          set_bit w64 word (63 - b) (63 - n) (omega arith) ∙ rw same (marks_one run i k n (bit_at word (63 - n)) l e (omega arith) (a.low n h));
+      high = λ n g h.
+          let other : (b == n) ≡ false = grind (arith, nat_tests, low, g) in
+          sym (rw other at (marks_one run i k n 0 l e h (sym (a.high n g h))));
     }
 
 -- the octets of the number, and zeros behind them
@@ -114,7 +99,7 @@ front_marks octets run word k f is = record {
   bits = λ n h. elim (cases_lt n 64) [
     | inl l ↦ ap (λ (x : ℕ). bit_at x (7 - n % 8)) (ap (λ (s : List ℕ). get_or s (n / 8) 0) is
         ∙ get_or_append_left (bytes_high_first 8 word) (replicate 24 0) 0 (n / 8) (omega arith) ∙ bytes_at word (n / 8) (omega arith))
-        ∙ octet_bit word (8 * (7 - n / 8)) (7 - n % 8) (omega arith) ∙ ap (λ (x : ℕ). bit_at word x) (omega arith) ∙ f.low n l
+        ∙ octet_bit word (8 * (7 - n / 8)) (7 - n % 8) (omega arith) ∙ ap (bit_at word) (omega arith) ∙ f.low n l
     | inr g ↦ ap (λ (x : ℕ). bit_at x (7 - n % 8)) (ap (λ (s : List ℕ). get_or s (n / 8) 0) is
         ∙ get_or-append_right (bytes_high_first 8 word) (replicate 24 0) 8 (n / 8) 0 refl (omega arith)
         ∙ get_or-replicate 24 (n / 8 - 8) 0 0 (omega arith)) ∙ bit_at-zero (7 - n % 8) ∙ sym (f.high n g h)
@@ -144,12 +129,7 @@ octet_is octets run k j a are n l =
 pub window_is : (octets run : List ℕ) (k n : ℕ) → HasMarks octets run k → length octets ≡ 32 → AreOctets octets → Rises run → AreOfWindow k run
     → length run ≡ suc n
     → take (get_or run n 0 % 256 / 8 + 1) octets ≡ window run k
-unfolding window
 window_is octets run k n a len are rises of l =
     let last : ℕ = get_or run n 0 in
-    let here : last / 256 ≡ k = of n 0 (omega (arith, l)) in
-    let reaches = window_reaches run k last here (has_at run n (omega (arith, l))) in
-    let stops = window_stops run k last here (λ u m e. lacks (λ t. t ≤ last) run u (All-from_get_or (λ t. t ≤ last) run 0 (λ i m. no_fall run rises i n (omega (arith, m, l)) (omega (arith, l)))) (λ q. omega (arith, q, m))) in
-    let is : octets ≡ map (types_octet run k) (range_with_len 0 32) = octets_are run k octets len (λ j m. octet_is octets run k j a are len m) in
-    let count : last % 256 / 8 + 1 ≡ length (trimmed octets) = omega (arith, reaches, stops, ap (λ (s : List ℕ). length (trimmed s)) is) in
-    ap (λ (c : ℕ). take c octets) count ∙ sym (trimmed_front octets) ∙ ap trimmed is
+    ap (take (last % 256 / 8 + 1)) (octets_are run k octets len (λ j m. octet_is octets run k j a are len m))
+    ∙ sym (window_last run k last (last_at run n k rises (omega (arith, l)) (of n 0 (omega (arith, l))) (λ more. absurd (omega (arith, more, l)))))

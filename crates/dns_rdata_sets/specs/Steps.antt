@@ -1,6 +1,5 @@
 -- The steps of records with sets of types, and of CAA.
-use Rattle.std.specs.Prelude.{ℕ, zero, suc, List, [], ◌∷◌, length, drop}
-use Rattle.std.specs.List.{flat_map}
+use Rattle.std.specs.{Prelude.ℕ, Prelude.zero, Prelude.suc, Prelude.List, Prelude.[], Prelude.◌∷◌, Prelude.length, Prelude.drop, List.flat_map}
 use Rattle.dns_fields.specs.{Bitmaps.block, Bitmaps.minimal, Fields.canonical}
 use Rattle.dns_pieces.specs.Steps.{Left}
 use Rattle.dns_rdata_sets.specs.{CSYNC.csync_shape, CSYNC.csync_fields, declared.csync.CSYNC.CSYNC}

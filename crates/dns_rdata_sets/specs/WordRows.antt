@@ -1,6 +1,5 @@
 -- The words of each record.
-use Rattle.std.specs.Prelude.{◌≡◌, ℕ, ◌%◌, List, [], ◌∷◌, map}
-use Rattle.std.specs.List.{AllZip}
+use Rattle.std.specs.{Prelude.◌≡◌, Prelude.ℕ, Prelude.◌%◌, Prelude.List, Prelude.[], Prelude.◌∷◌, Prelude.map, List.AllZip}
 use Rattle.dns_types.specs.{RecordTypes.number_of, RecordTypes.IsTypeText, declared.record_type.RecordType.RecordType}
 use Rattle.dns_fields.specs.Fields.{Number, Bitmap}
 use Rattle.dns_words.specs.Forms.{Form, Row, word, ignored, number, kept, kept_rest, IsNumberWord}

@@ -118,6 +118,15 @@ impl CSYNC {
         let type_bit_maps = RecordTypeSet::read_data(decoder, Restrict::new((len - read) as u16))?;
         Ok(CSYNC::with_flags(soa_serial, flags, type_bit_maps))
     }
+
+    // Appends serial and flags at once.
+    #[inline]
+    fn emit_numbers(&self, encoder: &mut BinEncoder<'_>) -> Result<(), ProtoError>
+        ensures { Emits csync_numbers_shape (csync_numbers self.now) result encoder.old encoder.new }
+    {
+        let flags = self.flags();
+        encoder.emit_vec(&six_octets(self.soa_serial, flags))
+    }
 }
 
 impl Record for CSYNC {
@@ -138,17 +147,6 @@ impl RecordDataDecodable for CSYNC {
         // Called for its clauses: the message is octets, and the place is in it.
         let _start = decoder.index();
         CSYNC::read_filled(decoder, length)
-    }
-}
-
-impl CSYNC {
-    // Appends serial and flags at once.
-    #[inline]
-    fn emit_numbers(&self, encoder: &mut BinEncoder<'_>) -> Result<(), ProtoError>
-        ensures { Emits csync_numbers_shape (csync_numbers self.now) result encoder.old encoder.new }
-    {
-        let flags = self.flags();
-        encoder.emit_vec(&six_octets(self.soa_serial, flags))
     }
 }
 

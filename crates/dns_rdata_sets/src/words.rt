@@ -1,12 +1,11 @@
 //! Records read from words (RFC 1035, 5.1).
 
-ghost use Rattle.std.specs.Prelude.{◌≢◌, IfOk, IfErr};
-ghost use Rattle.std.specs.Iterator.{IsFinite};
+ghost use Rattle.std.specs.{Prelude.◌≢◌, Prelude.IfOk, Prelude.IfErr, Iterator.IsFinite};
 ghost use Rattle.dns_types.specs.RecordTypes.{IsTypeText};
-ghost use Rattle.dns_types.specs.declared.error.ParseError.TheVariants as parse;
 ghost use Rattle.dns_words.specs.Reads.{ReadsText, ReadsWord, ReadsRow, GoesOn};
 ghost use Rattle.dns_rdata_sets.specs.{CAA.caa_fields, CAA.IsReadCaa, CSYNC.csync_fields, CSYNC.IsReadCsync};
 ghost use Rattle.dns_rdata_sets.specs.WordRows.{caa_words, known_flags, type_words, csync_words};
+ghost use Rattle.dns_types.specs.declared.error.ParseError.TheVariants as parse;
 
 use crate::caa::CAA;
 use crate::csync::CSYNC;

@@ -1,7 +1,6 @@
 //! Words of SOA.
 
-ghost use Rattle.std.specs.Prelude.{IfOk};
-ghost use Rattle.std.specs.Option.{option_copied};
+ghost use Rattle.std.specs.{Prelude.IfOk, Option.option_copied};
 ghost use Rattle.dns_rdata_base.specs.{SOA.soa_fields, SOA.HasSeconds, WordRows.soa_words};
 ghost use Rattle.dns_words.specs.Reads.{ReadsRow};
 

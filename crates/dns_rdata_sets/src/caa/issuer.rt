@@ -113,18 +113,18 @@ fn is_blank_octet(octet: u8) -> bool
     matches!(octet, b';' | b' ' | b'\t')
 }
 
-// What stands behind the blanks in front.
-fn skip_blanks(octets: &[u8]) -> &[u8]
-    ensures { (front : List ℕ) × Splits is_blank octets.now front result.now }
+// The blanks in front, and what stands behind them.
+fn cut_blanks(octets: &[u8]) -> (&[u8], &[u8])
+    ensures { Splits is_blank octets.now result.0.now result.1.now }
 {
-    let mut rest = octets;
-    'blanks: while let Some((first, others)) = rest.split_first() {
-        if !is_blank_octet(*first) {
+    let mut len = 0;
+    for octet in octets {
+        if !is_blank_octet(*octet) {
             break;
         }
-        rest = others;
+        len += 1;
     }
-    rest
+    octets.split_at(len)
 }
 
 // What stands in front of the first such octet, and from it on.
@@ -160,19 +160,15 @@ fn are_value_octets(octets: &[u8]) -> bool
 fn is_key(octets: &[u8]) -> bool
     ensures { IsTrue result ↔ IsKey octets.now }
 {
-    let Some((first, rest)) = octets.split_first() else {
-        return false;
-    };
-    if !first.is_ascii_alphanumeric() {
-        return false;
+    match octets {
+        [] => false,
+        [first] => first.is_ascii_alphanumeric(),
+        [first, second, others @ ..] => {
+            first.is_ascii_alphanumeric()
+                && second.is_ascii_alphanumeric()
+                && are_key_octets(others)
+        }
     }
-    let Some((second, others)) = rest.split_first() else {
-        return true;
-    };
-    if !second.is_ascii_alphanumeric() {
-        return false;
-    }
-    are_key_octets(others)
 }
 
 // The pair that all these octets are.
@@ -202,11 +198,11 @@ fn read_pairs(alloc: Global, octets: &[u8]) -> ProtoResult<Vec<KeyValue>>
     ensures refused { IfErr result (λ e. IsTextRefusal e ((xs : List Parameter) → AreParameters octets.now xs → ⊥)) }
 {
     let mut pairs = Vec::new(alloc);
-    let mut rest = skip_blanks(octets);
+    let mut rest = cut_blanks(octets).1;
     'pairs: while rest.len() > 0 {
         let (pair, behind) = cut_at(rest, b';');
         pairs.push(read_pair(alloc, pair)?)?;
-        rest = skip_blanks(behind);
+        rest = cut_blanks(behind).1;
     }
     Ok(pairs)
 }
@@ -225,18 +221,6 @@ fn read_name(alloc: Global, octets: &[u8]) -> ProtoResult<Option<Name>>
     }
 }
 
-// The name and the parameters of an issuer.
-#[tactic(auto, using(crate::proofs::Issuers::issuer_read))]
-fn read_parts(alloc: Global, octets: &[u8]) -> ProtoResult<(Option<Name>, Vec<KeyValue>)>
-    ensures read { IfOk result (λ x. IsIssuer octets.now x.0 x.1.items) }
-    ensures refused { IfErr result (λ e. IsIssuerRefusal octets.now e) }
-{
-    let (name, rest) = cut_at(octets, b';');
-    let name = read_name(alloc, name)?;
-    let pairs = read_pairs(alloc, rest)?;
-    Ok((name, pairs))
-}
-
 /// The name and the parameters that the value of an issuer property has (RFC 8659, 4.2).
 ///
 /// The octets in front of the first `;`, or all where there is none, are a name by `Name::from_ascii`; no octets are
@@ -247,6 +231,7 @@ fn read_parts(alloc: Global, octets: &[u8]) -> ProtoResult<(Option<Name>, Vec<Ke
 ///
 /// A name's octets that are not UTF-8 are refused by [`Decode`](ProtoError::Decode) of `Utf8`, anything else by
 /// [`Message`](ProtoError::Message).
+#[tactic(auto, using(crate::proofs::Issuers::issuer_read))]
 pub fn read_issuer(alloc: Global, octets: &[u8]) -> ProtoResult<(Option<Name>, Vec<KeyValue>)>
     ensures read { IfOk result (λ x. IsIssuer octets.now x.0 x.1.items) }
     ensures refused { IfErr result (λ e. IsIssuerRefusal octets.now e) }
@@ -254,7 +239,10 @@ pub fn read_issuer(alloc: Global, octets: &[u8]) -> ProtoResult<(Option<Name>, V
     ensures reads_back { (name : Option DomainName) (xs : List Parameter) → IsIssuer octets.now name xs →
         MatchResult result (λ x. (x.0 ≡ name) × (x.1.items ≡ xs)) (λ e. e ≡ ProtoError.Memory) }
 {
-    read_parts(alloc, octets)
+    let (name, rest) = cut_at(octets, b';');
+    let name = read_name(alloc, name)?;
+    let pairs = read_pairs(alloc, rest)?;
+    Ok((name, pairs))
 }
 
 /// The text of a URL for incident reports (RFC 8659, 4.4), as it is. Refused by [`Decode`](ProtoError::Decode) of
@@ -284,22 +272,15 @@ fn name_octets(alloc: Global, name: Option<&Name>) -> Result<Vec<u8>, AllocError
     }
 }
 
-// Appends a parameter behind a semicolon and a space.
-fn append_pair(out: &mut Vec<u8>, pair: &KeyValue) -> Result<(), AllocError>
-    ensures { OnOk result (out.new.items ≡ out.old.items ++ 59 ∷ 32 ∷ parameter_octets pair.now) }
-{
-    out.extend_from_slice(b"; ")?;
-    out.extend_from_slice(pair.key().as_bytes())?;
-    out.push(b'=')?;
-    out.extend_from_slice(pair.value().as_bytes())?;
-    Ok(())
-}
-
+// Appends each parameter behind a semicolon and a space.
 fn append_pairs(out: &mut Vec<u8>, pairs: &[KeyValue]) -> Result<(), AllocError>
     ensures { OnOk result (out.new.items ≡ out.old.items ++ parameters_text pairs.now) }
 {
     for pair in pairs {
-        append_pair(out, pair)?;
+        out.extend_from_slice(b"; ")?;
+        out.extend_from_slice(pair.key().as_bytes())?;
+        out.push(b'=')?;
+        out.extend_from_slice(pair.value().as_bytes())?;
     }
     Ok(())
 }

@@ -14,7 +14,7 @@ pub(super) const MOST: usize = 32;
 
 // The numbers of the types of blocks: in the order of the bits where the windows rise, as in every bitmap that is written
 // as the RFC asks; else by marking them, so that a window which stands again takes no memory again.
-#[tactic(auto, using(crate::proofs::Blocks::left_all, crate::proofs::Blocks::left_shorter, crate::proofs::Blocks::are_blocks))]
+#[tactic(auto, using(crate::proofs::Marks::left_all, crate::proofs::Marks::left_shorter, crate::proofs::Marks::are_blocks))]
 pub(super) fn read_blocks(alloc: Global, octets: &[u8]) -> Result<Vec<u16>, DecodeError>
     ensures read { IfOk result (λ numbers. AreBlocks octets.now (held numbers.items)) }
     ensures refused { IfErr result (λ e. IsBlockRefusal e (NoBlocks octets.now)) }
@@ -95,7 +95,7 @@ pub(super) fn add_octets(
 
 // Adds the types of octet g of all.
 #[inline]
-#[tactic(auto, using(crate::proofs::Blocks::bit_within, crate::proofs::Blocks::bit_taken))]
+#[tactic(auto, using(crate::proofs::Marks::bit_within, crate::proofs::Marks::bit_taken))]
 fn add_octet(numbers: &mut Vec<u16>, g: usize, octet: u8) -> Result<(), AllocError>
     requires { g < 8192 }
     ensures { OnOk result (Adds (octet_has g octet) (held numbers.old.items) (held numbers.new.items)) }

@@ -1,5 +1,4 @@
-use Rattle.std.proofs.Common.{◌<◌, ◌^◌, get_or}
-use Rattle.std.proofs.Math.Facts.{Fits-lt-pow}
+use Rattle.std.proofs.{Common.◌<◌, Common.◌^◌, Common.get_or, Math.Facts.Fits-lt-pow}
 use Rattle.dns_rdata_base.proofs.Addresses.{octets_of-segments_of}
 use Rattle.dns_rdata_base.proofs.aaaa.address_of.Goals as goal
 

@@ -1,6 +1,6 @@
 use Rattle.std.proofs.Common.{◌≡◌, ◌∙◌, ap, ◌++◌, arith}
 use Rattle.dns_fields.specs.Fields.{Text, field_octets}
-use Rattle.dns_rdata_base.proofs.Texts.{text_given}
+use Rattle.dns_rdata_base.proofs.TextLists.{text_given}
 use Rattle.dns_rdata_base.proofs.steps.txt_step.Goals as goal
 
 pub returns : goal.returns

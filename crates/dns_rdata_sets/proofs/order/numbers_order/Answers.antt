@@ -1,8 +1,7 @@
-use Rattle.std.proofs.Common.{sym, ap, ◌∙◌, arith}
+use Rattle.std.proofs.{Common.sym, Common.ap, Common.◌∙◌, Common.arith, lemmas.Cmp.nat_list_cmp_total}
 use Rattle.std.specs.Ordering.{ordering_reverse}
-use Rattle.std.proofs.lemmas.Cmp.{nat_list_cmp_total}
 use Rattle.dns_fields.specs.Fields.{Bitmap, field_octets}
-use Rattle.dns_rdata_sets.proofs.FirstNumbers.{beginning}
+use Rattle.dns_rdata_sets.proofs.WindowOrders.{beginning}
 use Rattle.dns_rdata_sets.proofs.order.numbers_order.Goals.{then-at-a-via-then-at-a, then-at-a-via-else-at-a+then-at-b}
 use Rattle.dns_rdata_sets.proofs.order.numbers_order.Goals as goal
 

@@ -1,5 +1,3 @@
-use Rattle.std.proofs.Common.{ℕ, List, ◌++◌, take, ap, ◌∙◌}
-use Rattle.dns_fields.specs.Fields.{Number, field_octets}
 use Rattle.dns_rdata_sets.proofs.Rising.{set_drop}
 use Rattle.dns_rdata_sets.proofs.WindowSteps.{WindowMade, window_given, window_passed, window_none}
 use Rattle.dns_rdata_sets.proofs.steps.window_step.Goals as goal
@@ -22,9 +20,7 @@ returns c =
       long = e.room;
       small = e.number;
       next = rw (c.split_at.ensures.back, c.numbers-numbers.ensures.value) at e.next;
-      made = c.octets.ensures.value
-          ∙ ap (λ (l : List ℕ). l ++ take w.len o) (c.one-2.ensures.value ∙ ap (λ (l : List ℕ). l ++ field_octets (Number 1) w.len) (c.one.ensures.value
-          ∙ ap (λ (l : List ℕ). l ++ field_octets (Number 1) w.number) c.requires.empty));
+      made = cc;
     } in
     rw c.none.ensures (record {
       octets = λ j. window_given x i w.number w.len w.count j o _ made;

@@ -1,5 +1,4 @@
-use Rattle.std.proofs.Common.{◌∷◌, [], ◌++◌, refl}
-use Rattle.std.proofs.lemmas.List.{map-append}
+use Rattle.std.proofs.{Common.◌∷◌, Common.[], Common.◌++◌, Common.refl, lemmas.List.map-append}
 use Rattle.dns_types.specs.RecordTypes.{number_of}
 use Rattle.dns_words.proofs.Steps.{exit_row}
 use Rattle.dns_rdata_sets.proofs.WordTypes.{types_more, types_refused, types_took}

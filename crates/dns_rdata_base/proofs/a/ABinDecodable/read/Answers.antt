@@ -1,5 +1,4 @@
-use Rattle.std.proofs.Common.{arith}
-use Rattle.std.proofs.lemmas.Result.{err_from_is_err_and}
+use Rattle.std.proofs.{Common.arith, lemmas.Result.err_from_is_err_and}
 use Rattle.dns_rdata_base.proofs.a.ABinDecodable.read.Goals as goal
 
 pub returns-in_err-read_in_steps-clause-stopped : goal.returns-in_err-read_in_steps-clause-stopped

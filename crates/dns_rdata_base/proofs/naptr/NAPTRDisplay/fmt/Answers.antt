@@ -1,5 +1,4 @@
-use Rattle.std.proofs.Common.{append_assoc}
-use Rattle.std.proofs.Output.{has_written_of_eq}
+use Rattle.std.proofs.{Common.append_assoc, Output.has_written_of_eq}
 use Rattle.dns_rdata_base.specs.Lossy.{lossy}
 use Rattle.dns_rdata_base.proofs.naptr.NAPTRDisplay.fmt.Goals as goal
 

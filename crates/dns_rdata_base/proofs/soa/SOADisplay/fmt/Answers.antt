@@ -1,7 +1,5 @@
-use Rattle.std.proofs.Common.{◌≡◌, ℕ, List, [], ◌∷◌, ◌++◌, append_assoc}
-use Rattle.std.specs.Prelude.{codes}
-use Rattle.std.specs.Fmt.{decimal, signed_decimal}
-use Rattle.std.proofs.Output.{has_written_of_eq}
+use Rattle.std.proofs.{Common.◌≡◌, Common.ℕ, Common.List, Common.[], Common.◌∷◌, Common.◌++◌, Common.append_assoc, Output.has_written_of_eq}
+use Rattle.std.specs.{Prelude.codes, Fmt.decimal, Fmt.signed_decimal}
 use Rattle.dns_labels.specs.Text.{name_text}
 use Rattle.dns_rdata_base.proofs.soa.SOADisplay.fmt.Goals as goal
 

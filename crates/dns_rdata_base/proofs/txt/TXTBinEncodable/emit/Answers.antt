@@ -3,7 +3,7 @@ use Rattle.std.proofs.lemmas.Result.{err_from_is_err_and}
 use Rattle.dns_fields.specs.Fields.{Texts}
 use Rattle.dns_names_wire.specs.Words.{StoppedField}
 use Rattle.dns_names_wire.proofs.FieldWrites.{stopped_first}
-use Rattle.dns_rdata_base.proofs.TextWrites.{stopped_strings, list_at}
+use Rattle.dns_rdata_base.proofs.TextLists.{stopped_strings, list_at}
 use Rattle.dns_rdata_base.proofs.txt.TXTBinEncodable.emit.Goals as goal
 
 pub returns-in_err-emit_character_data : goal.returns-in_err-emit_character_data

@@ -1,5 +1,4 @@
-use Rattle.std.proofs.Common.{◌≡◌, ◌+◌, ◌<◌, arith}
-use Rattle.std.proofs.lemmas.Result.{err_from_is_err_and}
+use Rattle.std.proofs.{Common.◌≡◌, Common.◌+◌, Common.◌<◌, Common.arith, lemmas.Result.err_from_is_err_and}
 use Rattle.dns_rdata_base.proofs.TextLists.{reads_none, reads_more}
 use Rattle.dns_rdata_base.proofs.txt.TXTRecordDataDecodable.read_data.Goals as goal
 

@@ -1,5 +1,4 @@
-use Rattle.std.proofs.Common.{append_assoc}
-use Rattle.std.proofs.Output.{has_written_of_eq}
+use Rattle.std.proofs.{Common.append_assoc, Output.has_written_of_eq}
 use Rattle.dns_rdata_certs.proofs.cert.CERTDisplay.fmt.Goals as goal
 
 pub returns-clause-writes : goal.returns-clause-writes

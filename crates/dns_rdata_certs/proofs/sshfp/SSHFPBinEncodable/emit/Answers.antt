@@ -1,5 +1,4 @@
-use Rattle.std.proofs.Common.{sym}
-use Rattle.std.proofs.lemmas.List.{append-nil}
+use Rattle.std.proofs.{Common.sym, lemmas.List.append-nil}
 use Rattle.dns_fields.specs.Fields.{field_octets}
 use Rattle.dns_names_wire.proofs.{FieldWrites.emits_extend, PlainWrites.emits_plain, PlainWrites.octet_then}
 use Rattle.dns_rdata_certs.specs.SSHFP.{sshfp_shape, sshfp_fields}

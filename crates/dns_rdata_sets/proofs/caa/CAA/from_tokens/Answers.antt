@@ -1,6 +1,6 @@
 use Rattle.std.proofs.Common.{sym}
 use Rattle.dns_words.proofs.Steps.{took_then, took_as, took_ignored}
-use Rattle.dns_rdata_sets.proofs.CaaReads.{flags_back}
+use Rattle.dns_rdata_sets.proofs.CaaValues.{flags_back}
 use Rattle.dns_rdata_sets.proofs.caa.CAA.from_tokens.Goals as goal
 
 pub returns-clause-reads : goal.returns-clause-reads

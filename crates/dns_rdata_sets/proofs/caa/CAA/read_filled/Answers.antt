@@ -1,7 +1,6 @@
-use Rattle.std.proofs.Common.{arith, inl, refl}
-use Rattle.std.proofs.lemmas.Result.{err_from_is_err_and}
+use Rattle.std.proofs.{Common.arith, Common.inl, Common.refl, lemmas.Result.err_from_is_err_and}
 use Rattle.dns_names_wire.proofs.FieldReads.{refused_then, took_number}
-use Rattle.dns_rdata_sets.proofs.CaaReads.{tag_refused, refused_value, caa_taken}
+use Rattle.dns_rdata_sets.proofs.CaaValues.{tag_refused, refused_value, caa_taken}
 use Rattle.dns_rdata_sets.proofs.caa.CAA.read_filled.Goals as goal
 
 pub returns-in_err-tag-clause-fields : goal.returns-in_err-tag-clause-fields

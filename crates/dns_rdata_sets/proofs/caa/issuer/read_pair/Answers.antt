@@ -1,6 +1,5 @@
-use Rattle.std.proofs.Common.{List, ℕ, ◌≡◌, ◌∷◌, sym, subst, ap, ◌∙◌, arith, true}
+use Rattle.std.proofs.{Common.◌≡◌, Common.◌∷◌, Common.sym, Common.◌∙◌, Common.arith, Common.true, lemmas.Bool.both_ways, lemmas.Grind.common_steps}
 use Rattle.std.specs.List.{list_all}
-use Rattle.std.proofs.lemmas.Grind.{common_steps}
 use Rattle.dns_rdata_sets.specs.Issuer.{IsKey, is_value_octet}
 use Rattle.dns_rdata_sets.proofs.IssuerSteps.{parameter_cut, parameter_read, key_utf8, value_utf8}
 use Rattle.dns_rdata_sets.proofs.caa.issuer.read_pair.Goals as goal
@@ -8,20 +7,14 @@ use Rattle.dns_rdata_sets.proofs.caa.issuer.read_pair.Goals as goal
 pub returns-then-not-is_key-clause-refused : goal.returns-then-not-is_key-clause-refused
 returns-then-not-is_key-clause-refused c = λ x e h.
     let p = parameter_cut _ _ _ x c.cut_at.ensures e h in
-    let t = c.is_key.ensures.1 (subst (λ (k : List ℕ). IsKey k) (sym p.0) h.key) in
-    let f = c.if-not-is_key.true in
-    cc (t, f)
+    both_ways _ c.if-not-is_key.true (c.is_key.ensures.1 (rw p.0 h.key))
 
 pub returns-then-not-are_value_octets-clause-refused : goal.returns-then-not-are_value_octets-clause-refused
 returns-then-not-are_value_octets-clause-refused c = λ x e h.
     let p = parameter_cut _ _ _ x c.cut_at.ensures e h in
     let rest : c.cut_at.result.1.now ≡ c.in-Some.field-0-0.now ∷ c.in-Some.value.now = grind (arith, common_steps) in
     let tail : c.in-Some.value.now ≡ x.value = cc (rest, p.1) in
-    let t : list_all is_value_octet c.in-Some.value.now ≡ list_all is_value_octet x.value = ap (list_all is_value_octet) tail in
-    let k : list_all is_value_octet x.value ≡ true = h.value in
-    let f = c.are_value_octets.ensures in
-    let g = c.if-not-are_value_octets.true in
-    cc (t, k, f, g)
+    both_ways _ c.if-not-are_value_octets.true (c.are_value_octets.ensures ∙ rw tail h.value)
 
 pub returns-clause-read : goal.returns-clause-read
 returns-clause-read c =

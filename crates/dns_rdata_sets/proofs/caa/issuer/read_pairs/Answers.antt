@@ -1,10 +1,9 @@
-use Rattle.std.proofs.Common.{arith}
-use Rattle.std.proofs.lemmas.Result.{err_from_is_err_and}
+use Rattle.std.proofs.{Common.arith, lemmas.Result.err_from_is_err_and}
 use Rattle.dns_rdata_sets.proofs.IssuerSteps.{pending_first, pending_step, pending_stop, pending_last, refusal_map}
 use Rattle.dns_rdata_sets.proofs.caa.issuer.read_pairs.Goals as goal
 
 pub pairs-init : goal.pairs-init
-pairs-init c = rw c.new-pairs.ensures.items (pending_first _ _ _ c.skip_blanks-rest.ensures.1)
+pairs-init c = rw c.new-pairs.ensures.items (pending_first _ _ _ c.cut_blanks.ensures)
 
 pub returns-in_err-read_pair-clause-refused : goal.returns-in_err-read_pair-clause-refused
 returns-in_err-read_pair-clause-refused c =
@@ -13,7 +12,7 @@ returns-in_err-read_pair-clause-refused c =
 
 pub pairs-preserved : goal.pairs-preserved
 pairs-preserved c = pending_step _ _ _ _ _ _ _ _ _ c.pairs.invariant (omega arith) c.cut_at.ensures c.in_ok-read_pair.ensures.read
-    c.skip_blanks-rest-in-pairs.ensures.1 c.in_ok-push.ensures.items
+    c.cut_blanks-in-pairs.ensures c.in_ok-push.ensures.items
 
 pub returns-clause-read : goal.returns-clause-read
 returns-clause-read c = pending_last _ _ _ c.pairs.invariant (omega arith)

@@ -1,5 +1,5 @@
 use Rattle.std.proofs.Common.{◌∙◌}
-use Rattle.dns_rdata_sets.proofs.Numbers.{found}
+use Rattle.dns_rdata_sets.proofs.Rising.{found}
 use Rattle.dns_rdata_sets.proofs.record_type_set.RecordTypeSet.contains.Goals as goal
 
 pub returns : goal.returns

@@ -1,4 +1,4 @@
-use Rattle.dns_rdata_sets.proofs.Blocks.{LeftBits}
+use Rattle.dns_rdata_sets.proofs.Marks.{LeftBits}
 use Rattle.dns_rdata_sets.proofs.record_type_set.reading.add_octet.Given as goal
 
 abbrev pub invariant-loop-left : goal.invariant-loop-left

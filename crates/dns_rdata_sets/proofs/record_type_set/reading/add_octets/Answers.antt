@@ -1,5 +1,5 @@
 use Rattle.std.proofs.Common.{arith}
-use Rattle.dns_rdata_sets.proofs.Blocks.{none_of_window, octet_added}
+use Rattle.dns_rdata_sets.proofs.Marks.{none_of_window, octet_added}
 use Rattle.dns_rdata_sets.proofs.record_type_set.reading.add_octets.Goals as goal
 
 pub loop-i-init : goal.loop-i-init

@@ -1,5 +1,5 @@
 use Rattle.std.proofs.Common.{arith}
-use Rattle.dns_rdata_sets.proofs.Blocks.{took_block}
+use Rattle.dns_rdata_sets.proofs.Marks.{took_block}
 use Rattle.dns_rdata_sets.proofs.record_type_set.reading.read_block.Goals as goal
 
 pub returns-clause-read : goal.returns-clause-read

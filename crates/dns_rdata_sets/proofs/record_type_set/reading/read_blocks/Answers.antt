@@ -1,6 +1,5 @@
-use Rattle.std.proofs.Common.{inl, inr, ⊎_elim}
-use Rattle.std.proofs.lemmas.Result.{err_from_is_err_and}
-use Rattle.dns_rdata_sets.proofs.Blocks.{left_less, no_blocks}
+use Rattle.std.proofs.{Common.inl, Common.inr, Common.⊎_elim, lemmas.Result.err_from_is_err_and}
+use Rattle.dns_rdata_sets.proofs.Marks.{left_less, no_blocks}
 use Rattle.dns_rdata_sets.proofs.record_type_set.reading.read_blocks.Goals as goal
 
 pub loop-rest-preserved : goal.loop-rest-preserved

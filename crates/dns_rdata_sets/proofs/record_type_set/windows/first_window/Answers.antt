@@ -1,7 +1,7 @@
 use Rattle.std.proofs.Common.{◌≡◌, ℕ, ◌+◌, ◌/◌, ◌%◌, ◌-◌, rules, length, length-take, take, get_or, ap, arith}
 use Rattle.std.proofs.lemmas.List.{get_or-take}
 use Rattle.dns_fields.specs.Bitmaps.{window}
-use Rattle.dns_rdata_sets.proofs.{Windows.HasMarks, Windows.window_is, Rising.rises_take, NextWindow.minimal_next}
+use Rattle.dns_rdata_sets.proofs.{Windows.HasMarks, Windows.window_is, Rising.rises_take, WindowOctets.minimal_next}
 use Rattle.dns_rdata_sets.proofs.record_type_set.windows.first_window.Goals as goal
 
 pub returns-clause-next : goal.returns-clause-next

@@ -1,6 +1,5 @@
-use Rattle.std.proofs.Common.{◌≡◌, length, take, length-take, arith}
-use Rattle.std.proofs.lemmas.Result.{err_from_is_err_and}
-use Rattle.dns_rdata_sets.proofs.{Rising.set_drop, SetWrites.left_next, SetWrites.left_stopped, SetWrites.left_none}
+use Rattle.std.proofs.{Common.◌≡◌, Common.length, Common.take, Common.length-take, Common.arith, lemmas.Result.err_from_is_err_and}
+use Rattle.dns_rdata_sets.proofs.{Rising.set_drop, WindowSteps.left_next, WindowSteps.left_stopped, WindowSteps.left_none}
 use Rattle.dns_rdata_sets.proofs.record_type_set.writing.emit_blocks.Goals as goal
 
 pub returns-in_err-emit_both : goal.returns-in_err-emit_both

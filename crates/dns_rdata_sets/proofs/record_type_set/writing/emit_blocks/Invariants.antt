@@ -1,5 +1,5 @@
 use Rattle.std.proofs.Common.{length}
-use Rattle.dns_rdata_sets.proofs.SetWrites.{LeftWindows}
+use Rattle.dns_rdata_sets.proofs.WindowSteps.{LeftWindows}
 use Rattle.dns_rdata_sets.proofs.record_type_set.writing.emit_blocks.Given as goal
 
 abbrev pub invariant-loop-rest : goal.invariant-loop-rest
