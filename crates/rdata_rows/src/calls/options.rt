@@ -1,6 +1,6 @@
 //! Options of OPT.
 
-use crate::shared::{emitted_digits, record};
+use crate::shared::{emitted_digits, record, shown};
 use anyhow::{Context, Result};
 use dns_rdata::ProtoError;
 use dns_rdata::opt::{ClientSubnet, EdnsCode, EdnsOption, IpNet, NSIDPayload, OPT};
@@ -27,8 +27,7 @@ pub fn order(alloc: Global, left: &str, right: &str) -> Result<String> {
         opt_is_emittable(&left) && opt_is_emittable(&right),
         "not emitted"
     );
-    let order = opt_order(&left, &right);
-    Ok(format!(in alloc; "{order:?}")?)
+    shown(alloc, opt_order(&left, &right))
 }
 
 // A cookie, and the name of a server.
@@ -75,8 +74,8 @@ pub fn net(alloc: Global, text: &str) -> Result<String> {
     let (address, length) = text.split_once(' ').context("a length")?;
     let (address, length) = (address.parse::<IpAddr>()?, length.parse::<u8>()?);
     let net = IpNet::new(address, length);
-    let same = net.map(ClientSubnet::from) == Some(ClientSubnet::new(address, length, 0));
-    Ok(format!(in alloc; "{same}")?)
+    let made = ClientSubnet::new(address, length, 0);
+    shown(alloc, net.map(ClientSubnet::from) == Some(made))
 }
 
 /// Whether octets are read as a name of a server, and whether they make one.

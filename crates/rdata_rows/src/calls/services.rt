@@ -43,70 +43,33 @@ pub fn keys(alloc: Global, count: &str) -> Result<String> {
     Ok(format!(in alloc; "{count}")?)
 }
 
-// The text of the value that octets are read as to their end, and whether it is emitted as them.
-fn shown<T: BinDecodable + BinEncodable + fmt::Display + Drop>(
+// The text of a value, whether it is emitted as these octets, and whether a copy is equal.
+fn shown<T: BinEncodable + PartialEq + Clone + fmt::Display + Drop>(
     alloc: Global,
+    value: T,
     octets: &[u8],
 ) -> Result<String> {
-    let mut decoder = BinDecoder::new(alloc, octets);
-    let value = T::read(&mut decoder)?;
-    let is_kept = decoder.is_empty() && emitted(alloc, &value)?.as_slice() == octets;
-    Ok(format!(in alloc; "{value} {is_kept}")?)
-}
-
-// Whether a copy of what octets are read as is equal.
-fn is_copied<T: BinDecodable + PartialEq + Clone + Drop>(
-    alloc: Global,
-    octets: &[u8],
-) -> Result<bool> {
-    let value = T::read(&mut BinDecoder::new(alloc, octets))?;
-    Ok(value.clone()? == value)
-}
-
-fn copied(alloc: Global, kind: &str, octets: &[u8]) -> Result<bool> {
-    match kind {
-        "mandatory" => is_copied::<Mandatory>(alloc, octets),
-        "alpn" => is_copied::<Alpn>(alloc, octets),
-        "ech" => is_copied::<EchConfigList>(alloc, octets),
-        "dohpath" => is_copied::<DohPath>(alloc, octets),
-        _ => is_copied::<Unknown>(alloc, octets),
-    }
+    let is_kept = emitted(alloc, &value)?.as_slice() == octets;
+    let is_copied = value.clone()? == value;
+    Ok(format!(in alloc; "{value} {is_kept} {is_copied}")?)
 }
 
 /// The text of the value of a parameter, whether its octets are emitted again, and whether a copy is equal.
 pub fn parameter(alloc: Global, kind: &str, digits: &str) -> Result<String> {
     let octets = octets(alloc, digits)?;
     let octets = octets.as_slice();
-    let text = match kind {
-        "mandatory" => shown::<Mandatory>(alloc, octets)?,
-        "alpn" => shown::<Alpn>(alloc, octets)?,
-        "ech" => shown::<EchConfigList>(alloc, octets)?,
-        "dohpath" => shown::<DohPath>(alloc, octets)?,
-        "unknown" => shown::<Unknown>(alloc, octets)?,
-        _ => bail!("no such parameter"),
-    };
-    let copied = copied(alloc, kind, octets)?;
-    Ok(format!(in alloc; "{text} {copied}")?)
-}
-
-// The text of the hints that octets are, and whether they are emitted again.
-fn shown_hints<T: BinDecodable + TakesOctet + BinEncodable + fmt::Display + Drop>(
-    alloc: Global,
-    octets: &[u8],
-) -> Result<String> {
     let mut decoder = BinDecoder::new(alloc, octets);
-    let value = IpHint::<T>::read(&mut decoder)?;
-    let is_kept = emitted(alloc, &value)?.as_slice() == octets;
-    Ok(format!(in alloc; "{value} {is_kept}")?)
-}
-
-/// The text of hints, and whether their octets are emitted again.
-pub fn hints(alloc: Global, kind: &str, digits: &str) -> Result<String> {
-    let octets = octets(alloc, digits)?;
-    match kind {
-        "four" => shown_hints::<A>(alloc, octets.as_slice()),
-        _ => shown_hints::<AAAA>(alloc, octets.as_slice()),
-    }
+    let shown = match kind {
+        "mandatory" => shown(alloc, Mandatory::read(&mut decoder)?, octets)?,
+        "alpn" => shown(alloc, Alpn::read(&mut decoder)?, octets)?,
+        "ech" => shown(alloc, EchConfigList::read(&mut decoder)?, octets)?,
+        "dohpath" => shown(alloc, DohPath::read(&mut decoder)?, octets)?,
+        "ipv4hint" => shown(alloc, IpHint::<A>::read(&mut decoder)?, octets)?,
+        "ipv6hint" => shown(alloc, IpHint::<AAAA>::read(&mut decoder)?, octets)?,
+        _ => shown(alloc, Unknown::read(&mut decoder)?, octets)?,
+    };
+    anyhow::ensure!(decoder.is_empty(), "octets are left");
+    Ok(shown)
 }
 
 // The protocols of names with a comma between each two. A dash is none.

@@ -75,8 +75,8 @@ fn lengths(pairs: &[KeyValue]) -> (usize, usize) {
 /// How many octets the keys and the values of an issuer have.
 pub fn keys(marks: &Marks<'_>, text: &str) -> Result<String> {
     let (_, pairs) = issuer(marks.alloc(), text)?;
-    let lengths = marked!(marks, lengths(pairs.as_slice()));
-    Ok(format!(in marks.alloc(); "{lengths:?}")?)
+    marks.begin()?;
+    marks.shown(lengths(pairs.as_slice()))
 }
 
 // The number of the last option's code, and how many options are lent.
@@ -91,8 +91,8 @@ fn codes(opt: &mut OPT) -> (u16, usize) {
 /// The number of the last option's code, and how many options there are.
 pub fn last_code(marks: &Marks<'_>, digits: &str) -> Result<String> {
     let mut opt = record::<OPT>(marks.alloc(), digits)?;
-    let found = marked!(marks, codes(&mut opt));
-    Ok(format!(in marks.alloc(); "{found:?}")?)
+    marks.begin()?;
+    marks.shown(codes(&mut opt))
 }
 
 // Whether there is a net of these bits, the URL is read, and what is made is empty.
@@ -106,8 +106,8 @@ fn made(alloc: Global, bits: u8, url: &str) -> (bool, bool, bool) {
 /// Whether there is a net of these bits, the URL is read, and what is made is empty.
 pub fn make(marks: &Marks<'_>, bits: &str, url: &str) -> Result<String> {
     let bits = bits.parse::<u8>()?;
-    let found = marked!(marks, made(marks.alloc(), bits, url));
-    Ok(format!(in marks.alloc(); "{found:?}")?)
+    marks.begin()?;
+    marks.shown(made(marks.alloc(), bits, url))
 }
 
 // Sets all of a subnet, and answers how much there is in defaults.
