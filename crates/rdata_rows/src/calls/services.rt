@@ -1,7 +1,6 @@
 //! Service bindings, and the values of their parameters.
 
-ghost use Rattle.std.specs.Prelude.{◌<◌};
-
+use crate::shared;
 use crate::shared::{emitted, emitted_digits, record};
 use anyhow::{Result, bail};
 use dns_rdata::svcb::{
@@ -23,24 +22,18 @@ pub fn front(alloc: Global, left: &str, right: &str) -> Result<String> {
     Ok(format!(in alloc; "{order:?} {alike}")?)
 }
 
-// The octets of a record of so many parameters without octets, from key 7 on.
-fn many(alloc: Global, count: u16) -> Result<Vec<u8>, AllocError>
-    requires { count < 16000 }
-{
+/// How many parameters a record has of so many without octets, from key 7 on.
+pub fn keys(alloc: Global, count: &str) -> Result<String> {
     let mut octets = Vec::new(alloc);
     octets.extend_from_slice(b"\x00\x01\x00")?;
-    for number in 7..count + 7 {
-        octets.extend_from_slice(&number.to_be_bytes())?;
+    for number in 0..count.parse::<u16>()?.min(15999) {
+        octets.extend_from_slice(&number.wrapping_add(7).to_be_bytes())?;
         octets.extend_from_slice(b"\x00\x00")?;
     }
-    Ok(octets)
-}
-
-/// How many parameters a record of so many has.
-pub fn keys(alloc: Global, count: &str) -> Result<String> {
-    let octets = many(alloc, count.parse::<u16>()?.min(15999))?;
-    let count = record::<SVCB>(alloc, octets.as_slice())?.svc_params.len();
-    Ok(format!(in alloc; "{count}")?)
+    shared::shown(
+        alloc,
+        record::<SVCB>(alloc, octets.as_slice())?.svc_params.len(),
+    )
 }
 
 // The text of a value, whether it is emitted as these octets, and whether a copy is equal.
@@ -86,10 +79,7 @@ fn protocols_of(alloc: Global, text: &str) -> Result<Alpn, AllocError> {
 /// The octets of protocols, or that they are refused.
 pub fn protocols(alloc: Global, text: &str) -> Result<String> {
     let alpn = protocols_of(alloc, text)?;
-    match emitted_digits(alloc, &alpn) {
-        Ok(digits) => Ok(digits),
-        Err(_) => Ok(String::from_str(alloc, "refused")?),
-    }
+    Ok(emitted_digits(alloc, &alpn).or(String::from_str(alloc, "refused"))?)
 }
 
 /// The names of the protocols in a word, each behind a stroke.

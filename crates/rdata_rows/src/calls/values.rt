@@ -56,21 +56,15 @@ pub fn emitted(alloc: Global, word: &str) -> Result<String> {
 
 /// The text that is printed for a value, or `none`.
 pub fn printed(alloc: Global, word: &str) -> Result<String> {
-    match value(alloc, word)?.0.to_string(alloc) {
-        Ok(text) => Ok(text),
-        Err(_) => Ok(String::from_str(alloc, "none")?),
-    }
+    let text = value(alloc, word)?.0.to_string(alloc);
+    Ok(text.or(String::from_str(alloc, "none"))?)
 }
 
 /// A value's type, its address, and whether it is none of an update.
 pub fn told(alloc: Global, word: &str) -> Result<String> {
     let value = value(alloc, word)?;
-    let (kind, address, is_update) = (
-        value.0.record_type(),
-        value.0.ip_addr(),
-        value.0.is_update(),
-    );
-    Ok(format!(in alloc; "{kind} {address:?} {is_update}")?)
+    let (kind, address) = (value.0.record_type(), value.0.ip_addr());
+    Ok(format!(in alloc; "{kind} {address:?} {}", value.0.is_update())?)
 }
 
 /// The order of two values, whether they are equal, and whether they feed a hasher the same.

@@ -99,15 +99,11 @@ fn ask_both(marks: &Marks<'_>, call: &str, left: &RData, right: &RData) -> Resul
     }
 }
 
-fn ask_beside(marks: &Marks<'_>, call: &str, left: &RData, right: &str) -> Result<String> {
-    let right = value(marks.alloc(), right)?;
-    ask_both(marks, call, left, &right.0)
-}
-
 /// What two values are asked for together, or the first one alone.
 pub fn ask(marks: &Marks<'_>, call: &str, left: &str, right: &str) -> Result<String> {
     let left = value(marks.alloc(), left)?;
-    ask_beside(marks, call, &left.0, right)
+    let right = value(marks.alloc(), right)?;
+    ask_both(marks, call, &left.0, &right.0)
 }
 
 // Appends the canonical octets.

@@ -2,7 +2,7 @@
 
 use crate::marked::Marks;
 use crate::marked::given::record;
-use crate::shared::issuer;
+use crate::shared::{issuer, shown};
 use anyhow::Result;
 use dns_rdata::caa::{CAA, KeyValue, read_iodef};
 use dns_rdata::opt::{ClientSubnet, EdnsCode, EdnsOption, IpNet, OPT};
@@ -25,34 +25,25 @@ pub fn set_url(marks: &Marks<'_>, digits: &str, url: &str) -> Result<String> {
     Ok(format!(in marks.alloc(); "{result:?} {caa:?}")?)
 }
 
-// A list of options behind a call that changes it.
-fn insert(marks: &Marks<'_>, opt: &mut OPT, option: EdnsOption) -> Result<String> {
-    let result = marked!(marks, opt.insert(option));
-    Ok(format!(in marks.alloc(); "{result:?} {opt:?}")?)
-}
-
-fn remove(marks: &Marks<'_>, opt: &mut OPT, code: EdnsCode) -> Result<String> {
-    marked!(marks, opt.remove(code));
-    Ok(format!(in marks.alloc(); "{opt:?}")?)
-}
-
-fn get_all(marks: &Marks<'_>, opt: &OPT, code: EdnsCode) -> Result<String> {
-    let result = marked!(marks, opt.get_all(code));
-    Ok(format!(in marks.alloc(); "{result:?} {opt:?}")?)
-}
-
 /// What a call of options answers, and the options behind it. The second word is the code.
 pub fn options(marks: &Marks<'_>, call: &str, digits: &str, code: &str) -> Result<String> {
     let mut opt = record::<OPT>(marks.alloc(), digits)?;
     let code = EdnsCode::from(code.parse::<u16>()?);
-    match call {
+    let result = match call {
         "insert" => {
             let option = EdnsOption::try_from(marks.alloc(), (code, b"octets"))?;
-            insert(marks, &mut opt, option)
+            marked!(marks, opt.insert(option))
         }
-        "remove" => remove(marks, &mut opt, code),
-        _ => get_all(marks, &opt, code),
-    }
+        "remove" => {
+            marked!(marks, opt.remove(code));
+            return shown(marks.alloc(), opt);
+        }
+        _ => {
+            let result = marked!(marks, opt.get_all(code));
+            return Ok(format!(in marks.alloc(); "{result:?} {opt:?}")?);
+        }
+    };
+    Ok(format!(in marks.alloc(); "{result:?} {opt:?}")?)
 }
 
 /// The serial of the record behind one more.

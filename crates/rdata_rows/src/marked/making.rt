@@ -42,17 +42,16 @@ pub fn copy(marks: &Marks<'_>, text: &str) -> Result<String> {
     Ok(format!(in marks.alloc(); "{shown} of {:?}", value.0)?)
 }
 
-fn made_value(alloc: Global, call: &str, kind: RecordType, text: &str) -> Result<Held, ParseError> {
-    match call {
-        "from_tokens" => Held::of_words(alloc, kind, text),
-        _ => Held::parse(alloc, kind, text),
-    }
-}
-
 /// The value of words or of a text.
 pub fn value(marks: &Marks<'_>, call: &str, kind: &str, text: &str) -> Result<String> {
     let kind = record_type(kind)?;
-    let made = marked!(marks, made_value(marks.alloc(), call, kind, text));
+    let made = marked!(
+        marks,
+        match call {
+            "from_tokens" => Held::of_words(marks.alloc(), kind, text),
+            _ => Held::parse(marks.alloc(), kind, text),
+        }
+    );
     show(marks.alloc(), &made)
 }
 
@@ -70,21 +69,15 @@ pub fn text(marks: &Marks<'_>, call: &str, text: &str) -> Result<String> {
     Ok(format!(in marks.alloc(); "{made:?} of {:?}", value.0)?)
 }
 
-fn made_option(alloc: Global, call: &str, octets: &[u8]) -> Result<Vec<u8>, ParseError> {
-    match call {
-        "option" => Ok(EdnsOption::try_from(alloc, (EdnsCode::Cookie, octets))?.to_vec(alloc)?),
-        "nsid" => Ok(EdnsOption::NSID(NSIDPayload::try_from(alloc, octets)?).to_vec(alloc)?),
-        _ => Ok(ClientSubnet::try_from(octets)?.to_vec(alloc)?),
-    }
-}
-
 // The octets that are made of octets.
 fn made_octets(alloc: Global, call: &str, octets: &[u8]) -> Result<Vec<u8>, ParseError> {
     match call {
         "decode" => HEX.decode(alloc, octets),
         "encode" => Ok(HEX.encode(alloc, octets)?.into_bytes()),
         "cert" => Ok(CERT::try_from(alloc, octets)?.cert_base64()?.into_bytes()),
-        _ => made_option(alloc, call, octets),
+        "option" => Ok(EdnsOption::try_from(alloc, (EdnsCode::Cookie, octets))?.to_vec(alloc)?),
+        "nsid" => Ok(EdnsOption::NSID(NSIDPayload::try_from(alloc, octets)?).to_vec(alloc)?),
+        _ => Ok(ClientSubnet::try_from(octets)?.to_vec(alloc)?),
     }
 }
 
