@@ -67,15 +67,6 @@ fn measure(rt: &(impl Clock + AllocGlobal + Print), row: &mut Row, rounds: u64) 
     Ok(())
 }
 
-fn print_names(rt: &(impl AllocGlobal + Print)) -> Result<()> {
-    print!(rt; "type")?;
-    for name in COLUMNS {
-        print!(rt; "\t{name}")?;
-    }
-    println!(rt; "")?;
-    Ok(())
-}
-
 fn main(rt: HostRuntime) -> Result<()> {
     let mut args = std::env::args(&rt)?.skip(1);
     let Some(word) = args.next() else {
@@ -98,7 +89,11 @@ fn main(rt: HostRuntime) -> Result<()> {
 }
 
 fn measure_rows(rt: &HostRuntime, rounds: u64) -> Result<()> {
-    print_names(rt)?;
+    print!(rt; "type")?;
+    for name in COLUMNS {
+        print!(rt; "\t{name}")?;
+    }
+    println!(rt; "")?;
     for line in io::BufReader::new(rt.alloc(), rt.reader())?.lines(rt.alloc()) {
         let mut row = read_row(rt.alloc(), line?.as_str(), false)?;
         measure(rt, &mut row, rounds)?;

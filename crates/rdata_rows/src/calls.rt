@@ -18,14 +18,12 @@ use std::alloc::Global;
 
 /// What a command with its words answers.
 pub fn answer(alloc: Global, command: &str, words: &[String]) -> Result<String> {
-    match words {
-        [] => answer_to_none(alloc, command),
-        [word] => answer_to_one(alloc, command, word.as_str()),
-        [first, second] => answer_to_two(alloc, command, first.as_str(), second.as_str()),
-        _ => match command {
-            "little-room" => reading::little_room(alloc, words),
-            _ => bail!("too many words"),
-        },
+    match (command, words) {
+        ("little-room", _) => reading::little_room(alloc, words),
+        (_, []) => answer_to_none(alloc, command),
+        (_, [word]) => answer_to_one(alloc, command, word.as_str()),
+        (_, [first, second]) => answer_to_two(alloc, command, first.as_str(), second.as_str()),
+        _ => bail!("too many words"),
     }
 }
 

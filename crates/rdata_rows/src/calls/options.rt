@@ -2,7 +2,6 @@
 
 use crate::shared::{emitted_digits, record, shown};
 use anyhow::{Context, Result};
-use dns_rdata::ProtoError;
 use dns_rdata::opt::{ClientSubnet, EdnsCode, EdnsOption, IpNet, NSIDPayload, OPT};
 use dns_rdata_options::order::opt_order;
 use dns_rdata_options::steps::opt_is_emittable;
@@ -30,17 +29,11 @@ pub fn order(alloc: Global, left: &str, right: &str) -> Result<String> {
     shown(alloc, opt_order(&left, &right))
 }
 
-// A cookie, and the name of a server.
-fn inserted(alloc: Global) -> Result<OPT, ProtoError> {
+/// The octets of a cookie of octet 5 and of the name c0ffee of a server, and those without the cookie.
+pub fn insert(alloc: Global) -> Result<String> {
     let mut opt = OPT::default(alloc);
     opt.insert(EdnsOption::try_from(alloc, (EdnsCode::Cookie, b"\x05"))?)?;
     opt.insert(EdnsOption::NSID(NSIDPayload::try_from(alloc, b"\xc0\xff\xee")?))?;
-    Ok(opt)
-}
-
-/// The octets of a cookie of octet 5 and of the name c0ffee of a server, and those without the cookie.
-pub fn insert(alloc: Global) -> Result<String> {
-    let mut opt = inserted(alloc)?;
     let mut shown = emitted_digits(alloc, &opt)?;
     opt.remove(EdnsCode::Cookie);
     shown.push(' ')?;
