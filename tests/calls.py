@@ -103,10 +103,10 @@ def wanted_of_pair(call, left, right):
     (kind, octets), (other, behind) = ((value[0], bytes.fromhex(told(value[1], "canonical"))) for value in (left, right))
     order = "Less" if octets < behind else "Greater" if octets > behind else "Equal"
     return {
-        "eq": f"Truth({'true' if (kind, octets) == (other, behind) else 'false'})",
-        "cmp": f"Order({order})" if kind == other or order != "Equal" else None,
-        "partial_cmp": f"Order({order})" if kind == other or order != "Equal" else None,
-        "compare": f"Order({order})",
+        "eq": 'true' if (kind, octets) == (other, behind) else 'false',
+        "cmp": order if kind == other or order != "Equal" else None,
+        "partial_cmp": f"Some({order})" if kind == other or order != "Equal" else None,
+        "compare": order,
     }.get(call)
 
 
@@ -252,7 +252,7 @@ def is_want_of_memory(call, text, full, debug):
         index, rest, why = text.split(" ", 2)
         return why == "Memory" and int(place) <= int(index) and 2 * int(index) <= len(message) and rest == message[2 * int(index) :]
     if call.name == "clone":
-        return text == "Memory of" + full.split(" of", 1)[1]
+        return text == "AllocError of" + full.split(" of", 1)[1]
     if call.name in ("to_string", "cert_base64"):
         return text == "Err(Memory) of" + full.split(" of", 1)[1]
     if call.name == "print":

@@ -69,8 +69,7 @@ none_parsed {text} {origin} {read} is none x p =
 refusal_map : (e : ProtoError) (P Q : Type 0) → (P → Q) → IsTextRefusal e P → IsTextRefusal e Q
 refusal_map proto.Memory P Q f h = tt
 refusal_map (proto.Message t) P Q f h = f h
-refusal_map proto.MaxBufferSizeExceeded P Q f h = h
-refusal_map (proto.Decode d) P Q f h = h
+refusal_map e P Q f h = h
 
 pub refused_parsed : {T : Type 0} {text : List ℕ} (origin : Option DomainName) {read : DomainName} (r : Result T ProtoError) → IsNameText read text
     → IfErr r (λ e. IsTextRefusal e (IsName (completed read origin) → ⊥)) → IfErr r (λ e. IsTextRefusal e ((x : DomainName) → IsParsed text origin x → ⊥))

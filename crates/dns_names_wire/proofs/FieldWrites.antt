@@ -1,5 +1,5 @@
 -- Writing fields one after the other.
-use Rattle.std.proofs.Common.{◌≡◌, Bool, true, false, ◌&&◌, ℕ, ◌≤◌, List, [], ◌∷◌, ◌++◌, length, refl, sym, ap, ◌∙◌, arith, append_assoc, subst}
+use Rattle.std.proofs.Common.{◌≡◌, ℕ, ◌≤◌, List, [], ◌∷◌, ◌++◌, length, refl, sym, ap, ◌∙◌, arith, append_assoc, subst}
 use Rattle.std.proofs.Common.{Result, Ok, Err}
 use Rattle.std.proofs.{lemmas.List.length-append, lemmas.List.append-nil, Math.Bool.and-false}
 use Rattle.std.specs.Result.{IsErrAnd}
@@ -37,21 +37,14 @@ appended_last w = record { keeps = keeps_same w; fields = refl }
 pub appended_then : {w b e : Writing} {k : Kind} {v : Value k} {kinds : List Kind} {vs : Values kinds} → AppendedField w k v b
     → Appended b.mode b kinds vs e → Appended w.mode w (k ∷ kinds) (v, vs) e
 appended_then {w} {b} {e} {kinds = kinds} {vs = vs} f g =
-    record {
-      keeps = keeps_then f.keeps g.keeps;
-      fields =
-          (b.octets, f.field, subst (λ (mode : RDataEncoding). Wrote mode b.octets kinds vs e.octets) f.keeps.mode g.fields);
-    }
+    let behind = subst (λ (mode : RDataEncoding). Wrote mode b.octets kinds vs e.octets) f.keeps.mode g.fields in
+    record { keeps = keeps_then f.keeps g.keeps; fields = (b.octets, f.field, behind) }
 
 pub extends_then : {w b e : Writing} {k : Kind} {v : Value k} → AppendedField w k v b → Extends b e → Extends w e
 extends_then {w} {b} {e} f g =
     let t = wrote_tail f.field in
-    record {
-      keeps = keeps_then f.keeps g.keeps;
-      tail = t.0 ++ g.tail;
-      octets = g.octets ∙ ap (λ (x : List ℕ). x ++ g.tail) t.1
-          ∙ append_assoc w.octets t.0 g.tail;
-    }
+    let octets = g.octets ∙ ap (λ (x : List ℕ). x ++ g.tail) t.1 ∙ append_assoc w.octets t.0 g.tail in
+    record { keeps = keeps_then f.keeps g.keeps; tail = t.0 ++ g.tail; octets = octets }
 
 pub no_room_first : {w : Writing} {k : Kind} {v : Value k} {kinds : List Kind} {vs : Values kinds} → NoRoomField w k v → NoRoom w (k ∷ kinds) (v, vs)
 no_room_first {w} {k} {v} {kinds} {vs} n = record { full = omega (arith, n.full, length-append (field_octets k v) (canonical kinds vs)) }
@@ -60,18 +53,8 @@ pub no_room_then : {w b : Writing} {k : Kind} {v : Value k} {kinds : List Kind} 
     → NoRoom w (k ∷ kinds) (v, vs)
 no_room_then {w} {b} {k} {v} {kinds} {vs} f n =
     let t = wrote_tail f.field in
-    record {
-      full = omega (
-        arith,
-        n.full,
-        f.keeps.limit,
-        t.2,
-        ap length t.1,
-        length-append w.octets t.0,
-        length-append (field_octets k v)
-            (canonical kinds vs),
-      );
-    }
+    let size = length-append (field_octets k v) (canonical kinds vs) in
+    record { full = omega (arith, n.full, f.keeps.limit, t.2, ap length t.1, length-append w.octets t.0, size) }
 
 pub unfit_first : {k : Kind} {v : Value k} {kinds : List Kind} {vs : Values kinds} → UnfitField k v → Unfit (k ∷ kinds) (v, vs)
 unfit_first {k} {v} {kinds} {vs} u = record { unfit = rw u.unfit refl }
@@ -117,23 +100,20 @@ pub octets_emit : (n : ℕ) (s : List ℕ) (r : Result (Unit {0}) ProtoError) (o
     → EmitsField (Octets n) s r old new
 unfolding field_octets
 octets_emit n s (Ok x) old new e h = record { keeps = h.keeps; field = record { is = (e, h.field.is) } }
-octets_emit n s (Err e) old new l h = record
-    { extends = h.extends; why = because_map e _ _ _ _ (λ r. record { full = r.full }) (λ u. record { unfit = u.unfit }) h.why }
+octets_emit n s (Err e) old new l h =
+    record { extends = h.extends; why = because_map e _ _ _ _ (λ r. record { full = r.full }) (λ u. record { unfit = u.unfit }) h.why }
 
 -- in another mode, and the earlier one put back
+mode_back : {mode : RDataEncoding} {old new : Writing} → Keeps (record old { mode = mode }) new → Keeps old (record new { mode = old.mode })
+mode_back h = record { limit = h.limit; mode = refl; target = h.target; room = h.room }
+
 in_mode : (kinds : List Kind) (vs : Values kinds) (mode : RDataEncoding) (r : Result (Unit {0}) ProtoError) (old new : Writing)
     → Emits kinds vs r (record old { mode = mode }) new → EmitsAs mode kinds vs r old (record new { mode = old.mode })
-in_mode kinds vs mode (Ok x) old new h = record { keeps = record { limit = h.keeps.limit; mode = refl; target = h.keeps.target; room = h.keeps.room }; fields = h.fields }
-in_mode kinds vs mode (Err e) old new h =
-    record {
-      extends = record {
-        keeps = record { limit = h.extends.keeps.limit; mode = refl; target = h.extends.keeps.target; room = h.extends.keeps.room };
-        tail =
-            h.extends.tail;
-        octets = h.extends.octets;
-      };
-      why = because_map e _ _ _ _ (λ n. record { full = n.full }) (λ u. u) h.why;
-    }
+in_mode kinds vs mode (Ok x) old new h = record { keeps = mode_back h.keeps; fields = h.fields }
+in_mode kinds vs mode (Err e) old new h = record {
+  extends = record { keeps = mode_back h.extends.keeps; tail = h.extends.tail; octets = h.extends.octets };
+  why = because_map e _ _ _ _ (λ n. record { full = n.full }) (λ u. u) h.why;
+}
 
 pub emitted_as : (kinds : List Kind) (vs : Values kinds) (mode earlier : RDataEncoding) (r : Result (Unit {0}) ProtoError) (old set emitted new : Writing)
     → earlier ≡ old.mode → set ≡ record old { mode = mode } → Emits kinds vs r set emitted → new ≡ record emitted { mode = earlier }
@@ -157,6 +137,6 @@ all_tail mode (k ∷ kinds) vs m m' h =
 
 pub emits_extend : (mode : RDataEncoding) (kinds : List Kind) (vs : Values kinds) (r : Result (Unit {0}) ProtoError) (old new : Writing)
     → EmitsAs mode kinds vs r old new → Extends old new
-emits_extend mode kinds vs (Ok x) old new h = let t = all_tail mode kinds vs old.octets new.octets h.fields in
-    record { keeps = h.keeps; tail = t.0; octets = t.1 }
+emits_extend mode kinds vs (Ok x) old new h =
+    let t = all_tail mode kinds vs old.octets new.octets h.fields in record { keeps = h.keeps; tail = t.0; octets = t.1 }
 emits_extend mode kinds vs (Err e) old new h = h.extends

@@ -1,9 +1,10 @@
 -- What a name is by its octets.
-use Rattle.std.proofs.Common.{◌≡◌, ◌↔◌, IsTrue, ℕ, zero, suc, ◌+◌, ◌<◌, Bool, Option, Some, None, List, [], ◌∷◌, ◌++◌, All, length, map, get_or}
+use Rattle.std.proofs.Common.{◌≡◌, ◌↔◌, IsTrue, ℕ, ◌+◌, ◌<◌, Bool, Option, Some, None, List, [], ◌∷◌, ◌++◌, All, length, map, get_or}
 use Rattle.std.proofs.Common.{slice_get, refl, sym, ap, ◌∙◌, arith}
 use Rattle.std.proofs.{lemmas.List.length-map, lemmas.List.length-append, lemmas.Bool.Decides.Decides-and, lemmas.Slice.Eq.bytes_eq-Decides}
 use Rattle.std.proofs.lemmas.List.Elements.{All-nil, All-cons}
-use Rattle.std.proofs.lemmas.Option.{slice_get_past, slice_get_read, slice_get-map}
+use Rattle.std.proofs.{Math.ListN.get_or-append, lemmas.List.get_or_push}
+use Rattle.std.proofs.lemmas.Option.{slice_get_past, slice_get_read, slice_get-get_or, slice_get-map}
 use Rattle.std.specs.{List.AllByRecursion, Option.option_map, Char.to_ascii_lowercase, Bool.Decides, Bool.beq, Cmp.booleans_Decides, Str.bytes_eq}
 use Rattle.dns_fields.specs.{Comparing.name_eq, Octets.AreOctets, Labels.DomainName, Labels.wire, Labels.lowname}
 use Rattle.dns_fields.proofs.OctetLaws.{wire_octets, AreOctets-same}
@@ -18,24 +19,15 @@ pub name_octets : (octets : List ℕ) → AreNameOctets octets → AreOctets oct
 name_octets octets n a = each_octets (labels_of octets) (wire_octets (labels_of octets) (AreOctets-same octets (wire (labels_of octets)) n.same a))
 
 pub name_length : (octets : List ℕ) (mark : Bool) → AreNameOctets octets → length octets + 1 ≡ length (lowname (name_of octets mark))
-name_length octets mark n = omega (
-  arith,
-  ap length (lowered-of octets n),
-  length-append (map to_ascii_lowercase octets) (0 ∷ []),
-  length-map octets
-      to_ascii_lowercase,
-)
+name_length octets mark n =
+    omega (arith, ap length (lowered-of octets n), length-append (map to_ascii_lowercase octets) (0 ∷ []), length-map octets to_ascii_lowercase)
 
 get_first : (xs ys : List ℕ) (i : ℕ) → i < length xs → slice_get (xs ++ ys) i ≡ slice_get xs i
-get_first [] ys i h = absurd (omega arith)
-get_first (x ∷ xs) ys zero h = refl
-get_first (x ∷ xs) ys (suc i) h = get_first xs ys i (omega arith)
+get_first xs ys i h =
+    slice_get-get_or (xs ++ ys) i 0 (omega (arith, h, length-append xs ys)) ∙ ap (λ (x : ℕ). Some x) (get_or-append xs ys 0 i h) ∙ sym (slice_get-get_or xs i 0 h)
 
 get_end : (xs : List ℕ) (y i : ℕ) → i ≡ length xs → slice_get (xs ++ y ∷ []) i ≡ Some y
-get_end [] y zero e = refl
-get_end [] y (suc i) e = absurd (omega arith)
-get_end (x ∷ xs) y zero e = absurd (omega arith)
-get_end (x ∷ xs) y (suc i) e = get_end xs y i (omega arith)
+get_end xs y i e = slice_get-get_or (xs ++ y ∷ []) i y (omega (arith, e, length-append xs (y ∷ []))) ∙ ap (λ (x : ℕ). Some x) (get_or_push xs y y i (sym e))
 
 -- the canonical octet at a place of the octets, at their end, and past it
 pub octet_within : (octets : List ℕ) (mark : Bool) (i x : ℕ) → AreNameOctets octets → i < length octets → x ≡ get_or octets i x

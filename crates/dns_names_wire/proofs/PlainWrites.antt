@@ -4,11 +4,11 @@ use Rattle.std.proofs.Common.{subst, Result, Ok, Err}
 use Rattle.std.proofs.lemmas.List.{length-append, append-nil}
 use Rattle.std.specs.Int.{bytes_high_first}
 use Rattle.dns_names_wire.specs.{State.Writing, Words.AppendedField, Words.Appended, Words.WithinLimit, Words.Stopped, Words.Emits, Words.EmitsField}
-use Rattle.dns_fields.specs.{declared.RDataEncoding.RDataEncoding, Pieces.string}
-use Rattle.dns_fields.specs.Fields.{Kind, Number, Octets, Name, Text, Texts, Rest, Options, Parameters, Bitmap, Values, Wrote, AllFit, is_emittable}
+use Rattle.dns_fields.specs.{declared.RDataEncoding.RDataEncoding}
+use Rattle.dns_fields.specs.Fields.{Kind, Number, Octets, Text, Rest, Values, Wrote, WroteField, AllFit, is_emittable}
 use Rattle.dns_fields.specs.Fields.{all_emittable, canonical, field_octets}
 use Rattle.dns_types.specs.declared.error.ProtoError.{ProtoError}
-use Rattle.dns_names_wire.proofs.FieldWrites.{keeps_then, appended_then, stopped_then, because_map, all_tail}
+use Rattle.dns_names_wire.proofs.FieldWrites.{keeps_then, emits_then, because_map, all_tail}
 use Rattle.dns_fields.proofs.FieldLaws.{wrote_tail}
 
 -- ---- numbers that are appended as one run of octets
@@ -22,38 +22,20 @@ ArePlain (Rest ∷ kinds) = ArePlain kinds
 ArePlain (Text ∷ kinds) = ArePlain kinds
 ArePlain x = ⊥
 
+plain_then : (mode : RDataEncoding) (m : List ℕ) (k : Kind) (kinds : List Kind) (vs : Values (k ∷ kinds)) → WroteField mode m k vs.0 (m ++ field_octets k vs.0)
+    → ((next : List ℕ) → Wrote mode next kinds vs.1 (next ++ canonical kinds vs.1)) → Wrote mode m (k ∷ kinds) vs (m ++ canonical (k ∷ kinds) vs)
+plain_then mode m k kinds vs f g =
+    let next = m ++ field_octets k vs.0 in
+    (next, f, subst (λ (x : List ℕ). Wrote mode next kinds vs.1 x) (append_assoc m (field_octets k vs.0) (canonical kinds vs.1)) (g next))
+
 wrote_plain : (mode : RDataEncoding) (m : List ℕ) (kinds : List Kind) (vs : Values kinds) → ArePlain kinds → AllFit kinds vs
     → Wrote mode m kinds vs (m ++ canonical kinds vs)
 unfolding field_octets
 wrote_plain mode m [] vs p f = append-nil m
-wrote_plain mode m (Number w ∷ kinds) vs p f =
-    let next = m ++ bytes_high_first w vs.0 in (
-      next,
-      record { is = (f.0, refl) },
-      subst (λ (x : List ℕ). Wrote mode next kinds vs.1 x)
-          (append_assoc m (bytes_high_first w vs.0) (canonical kinds vs.1)) (wrote_plain mode next kinds vs.1 p f.1),
-    )
-wrote_plain mode m (Octets n ∷ kinds) vs p f =
-    let next = m ++ vs.0 in (
-      next,
-      record { is = (f.0, refl) },
-      subst (λ (x : List ℕ). Wrote mode next kinds vs.1 x) (append_assoc m vs.0 (canonical kinds vs.1))
-          (wrote_plain mode next kinds vs.1 p f.1),
-    )
-wrote_plain mode m (Rest ∷ kinds) vs p f =
-    let next = m ++ vs.0 in (
-      next,
-      record { is = refl },
-      subst (λ (x : List ℕ). Wrote mode next kinds vs.1 x) (append_assoc m vs.0 (canonical kinds vs.1))
-          (wrote_plain mode next kinds vs.1 p f.1),
-    )
-wrote_plain mode m (Text ∷ kinds) vs p f =
-    let next = m ++ string vs.0 in (
-      next,
-      record { is = (f.0, refl) },
-      subst (λ (x : List ℕ). Wrote mode next kinds vs.1 x) (append_assoc m (string vs.0) (canonical kinds vs.1))
-          (wrote_plain mode next kinds vs.1 p f.1),
-    )
+wrote_plain mode m (Number w ∷ kinds) vs p f = plain_then mode m (Number w) kinds vs (record { is = (f.0, refl) }) (λ next. wrote_plain mode next kinds vs.1 p f.1)
+wrote_plain mode m (Octets n ∷ kinds) vs p f = plain_then mode m (Octets n) kinds vs (record { is = (f.0, refl) }) (λ next. wrote_plain mode next kinds vs.1 p f.1)
+wrote_plain mode m (Rest ∷ kinds) vs p f = plain_then mode m Rest kinds vs (record { is = refl }) (λ next. wrote_plain mode next kinds vs.1 p f.1)
+wrote_plain mode m (Text ∷ kinds) vs p f = plain_then mode m Text kinds vs (record { is = (f.0, refl) }) (λ next. wrote_plain mode next kinds vs.1 p f.1)
 wrote_plain mode m x vs p f = absurd p
 
 -- the canonical octets of such fields, appended at once, are the fields
@@ -85,68 +67,48 @@ joined [] others vs ws = ws
 joined (k ∷ kinds) others vs ws = (vs.0, joined kinds others vs.1 ws)
 
 -- The first of some fields was appended where all of them were, and the others behind it.
-first_room : (k : Kind) (kinds : List Kind) (vs : Values (k ∷ kinds)) (w b : Writing) (f : Appended w.mode w (k ∷ kinds) vs b)
-    → WithinLimit w (record w { octets = f.fields.0 })
-first_room k kinds vs w b f = λ n old limit.
-    let t = all_tail w.mode kinds vs.1 f.fields.0 b.octets f.fields.2 in
-    omega (arith, f.keeps.room n old limit, ap length t.1, length-append f.fields.0 t.0)
-
 first_appended : (k : Kind) (kinds : List Kind) (vs : Values (k ∷ kinds)) (w b : Writing) (f : Appended w.mode w (k ∷ kinds) vs b)
     → AppendedField w k vs.0 (record w { octets = f.fields.0 })
 first_appended k kinds vs w b f =
-    record { keeps = record { limit = refl; mode = refl; target = refl; room = first_room k kinds vs w b f }; field = f.fields.1 }
+    let t = all_tail w.mode kinds vs.1 f.fields.0 b.octets f.fields.2 in
+    let room : WithinLimit w (record w { octets = f.fields.0 }) = λ n old limit. omega (arith, f.keeps.room n old limit, ap length t.1, length-append f.fields.0 t.0) in
+    record { keeps = record { limit = refl; mode = refl; target = refl; room = room }; field = f.fields.1 }
 
 others_appended : (k : Kind) (kinds : List Kind) (vs : Values (k ∷ kinds)) (w b : Writing) (f : Appended w.mode w (k ∷ kinds) vs b)
     → Appended w.mode (record w { octets = f.fields.0 }) kinds vs.1 b
 others_appended k kinds vs w b f =
     let t = wrote_tail f.fields.1 in
     let longer : length w.octets ≤ length f.fields.0 = omega (arith, ap length t.1, length-append w.octets t.0) in
-    record {
-      keeps = record {
-        limit = f.keeps.limit;
-        mode = f.keeps.mode;
-        target = f.keeps.target;
-        room = λ n old limit. f.keeps.room n (omega (arith, old, longer)) limit;
-      };
-      fields = f.fields.2;
-    }
+    let room : WithinLimit (record w { octets = f.fields.0 }) b = λ n old limit. f.keeps.room n (omega (arith, old, longer)) limit in
+    record { keeps = record { limit = f.keeps.limit; mode = f.keeps.mode; target = f.keeps.target; room = room }; fields = f.fields.2 }
 
 -- fields are emitted, and then others
-pub appended_more : (kinds others : List Kind) (vs : Values kinds) (ws : Values others) (w b e : Writing) → Appended w.mode w kinds vs b
-    → Appended b.mode b others ws e → Appended w.mode w (kinds ++ others) (joined kinds others vs ws) e
-appended_more [] others vs ws w b e f g =
-    let same : Wrote b.mode w.octets others ws e.octets = subst (λ (o : List ℕ). Wrote b.mode o others ws e.octets) f.fields g.fields in
-    record { keeps = keeps_then f.keeps g.keeps; fields = subst (λ (mode : RDataEncoding). Wrote mode w.octets others ws e.octets) f.keeps.mode same }
-appended_more (k ∷ kinds) others vs ws w b e f g =
-    appended_then (first_appended k kinds vs w b f)
-    (appended_more kinds others vs.1 ws (record w { octets = f.fields.0 }) b e (others_appended k kinds vs w b f) g)
+pub emits_more : (kinds others : List Kind) (vs : Values kinds) (ws : Values others) (r : Result (Unit {0}) ProtoError) (w b n : Writing)
+    → Appended w.mode w kinds vs b → Emits others ws r b n → Emits (kinds ++ others) (joined kinds others vs ws) r w n
+emits_more [] others vs ws (Ok x) w b n f g =
+    let same : Wrote b.mode w.octets others ws n.octets = subst (λ (o : List ℕ). Wrote b.mode o others ws n.octets) f.fields g.fields in
+    record { keeps = keeps_then f.keeps g.keeps; fields = subst (λ (mode : RDataEncoding). Wrote mode w.octets others ws n.octets) f.keeps.mode same }
+emits_more [] others vs ws (Err e) w b n f g =
+    let octets = g.extends.octets ∙ ap (λ (x : List ℕ). x ++ g.extends.tail) f.fields in
+    record {
+      extends = record { keeps = keeps_then f.keeps g.extends.keeps; tail = g.extends.tail; octets = octets };
+      why = because_map e _ _ _ _ (λ r. record { full = omega (arith, r.full, f.keeps.limit, ap length f.fields) }) (λ u. u) g.why;
+    }
+emits_more (k ∷ kinds) others vs ws r w b n f g =
+    emits_then (kinds ++ others) (joined kinds others vs.1 ws) r n (first_appended k kinds vs w b f)
+    (emits_more kinds others vs.1 ws r (record w { octets = f.fields.0 }) b n (others_appended k kinds vs w b f) g)
 
 pub stopped_more : (e : ProtoError) (kinds others : List Kind) (vs : Values kinds) (ws : Values others) (w b n : Writing) → Appended w.mode w kinds vs b
     → Stopped e b others ws n → Stopped e w (kinds ++ others) (joined kinds others vs ws) n
-stopped_more e [] others vs ws w b n f g = record {
-  extends = record {
-    keeps = keeps_then f.keeps g.extends.keeps;
-    tail = g.extends.tail;
-    octets = g.extends.octets
-        ∙ ap (λ (x : List ℕ). x ++ g.extends.tail) f.fields;
-  };
-  why = because_map e _ _ _ _ (λ r. record { full = omega (arith, r.full, f.keeps.limit, ap length f.fields) }) (λ u. u) g.why;
-}
-stopped_more e (k ∷ kinds) others vs ws w b n f g =
-    stopped_then (first_appended k kinds vs w b f)
-    (stopped_more e kinds others vs.1 ws (record w { octets = f.fields.0 }) b n (others_appended k kinds vs w b f) g)
+stopped_more e kinds others vs ws w b n f g = emits_more kinds others vs ws (Err e) w b n f g
 
 canonical_more : (kinds others : List Kind) (vs : Values kinds) (ws : Values others)
     → length (canonical kinds vs) ≤ length (canonical (kinds ++ others) (joined kinds others vs ws))
 canonical_more [] others vs ws = omega arith
 canonical_more (k ∷ kinds) others vs ws =
-    omega (
-      arith,
-      canonical_more kinds others vs.1 ws,
-      length-append (field_octets k vs.0) (canonical kinds vs.1),
-      length-append (field_octets k vs.0)
-          (canonical (kinds ++ others) (joined kinds others vs.1 ws)),
-    )
+    let more = canonical_more kinds others vs.1 ws in
+    let rest = canonical (kinds ++ others) (joined kinds others vs.1 ws) in
+    omega (arith, more, length-append (field_octets k vs.0) (canonical kinds vs.1), length-append (field_octets k vs.0) rest)
 
 later_false : (b y z : Bool) → (y ≡ false → z ≡ false) → (b && y) ≡ false → (b && z) ≡ false
 later_false true y z f e = f e
@@ -165,8 +127,3 @@ stopped_early e kinds others vs ws w n s = record {
   why = because_map e _ _ _ _ (λ r. record { full = omega (arith, r.full, canonical_more kinds others vs ws) })
       (λ u. record { unfit = unfit_more kinds others vs ws u.unfit }) s.why;
 }
-
-pub emits_more : (kinds others : List Kind) (vs : Values kinds) (ws : Values others) (r : Result (Unit {0}) ProtoError) (w b n : Writing)
-    → Appended w.mode w kinds vs b → Emits others ws r b n → Emits (kinds ++ others) (joined kinds others vs ws) r w n
-emits_more kinds others vs ws (Ok x) w b n f g = appended_more kinds others vs ws w b n f g
-emits_more kinds others vs ws (Err e) w b n f g = stopped_more e kinds others vs ws w b n f g

@@ -151,8 +151,7 @@ impl<'a> BinEncoder<'a> {
         if self.octets.len() + octets.len() > self.limit {
             return Err(ProtoError::MaxBufferSizeExceeded);
         }
-        self.octets.extend_from_slice(octets)?;
-        Ok(())
+        Ok(self.octets.extend_from_slice(octets)?)
     }
 
     /// Appends octets and others behind them, under one test of the room: both, or nothing.
@@ -188,8 +187,7 @@ impl<'a> BinEncoder<'a> {
         ensures room { OnOk result (length self.old.octets + 1 ≤ self.old.limit) }
         ensures whole { OnErr result (self.new ≡ self.old) }
     {
-        self.emit_vec(&n.to_be_bytes())?;
-        Ok(())
+        self.emit_vec(&n.to_be_bytes())
     }
 
     /// Appends the two octets of a number, the higher one first.
@@ -200,8 +198,7 @@ impl<'a> BinEncoder<'a> {
         ensures room { OnOk result (length self.old.octets + 2 ≤ self.old.limit) }
         ensures whole { OnErr result (self.new ≡ self.old) }
     {
-        self.emit_vec(&n.to_be_bytes())?;
-        Ok(())
+        self.emit_vec(&n.to_be_bytes())
     }
 
     /// Appends the four octets of a number, the highest one first.
@@ -212,8 +209,7 @@ impl<'a> BinEncoder<'a> {
         ensures room { OnOk result (length self.old.octets + 4 ≤ self.old.limit) }
         ensures whole { OnErr result (self.new ≡ self.old) }
     {
-        self.emit_vec(&n.to_be_bytes())?;
-        Ok(())
+        self.emit_vec(&n.to_be_bytes())
     }
 
     /// Appends the four octets of a signed number in two's complement, the highest one first.

@@ -2,13 +2,12 @@
 
 ghost use Rattle.std.specs.Prelude.{◌≡◌, ◌≤◌, ◌<◌, ◌↔◌, ◌⊎◌, ℕ, Bool, true, false, [], length, slice_get, IsTrue, IfOk, IfErr, IfSome, OnOk, OnErr};
 ghost use Rattle.dns_fields.specs.{Labels.IsName, Labels.lowname, Names.IsNameIn, Octets.AreOctets, Fields.Name as NameKind};
-ghost use Rattle.dns_labels.specs.{Labels.AreNameOctets, Labels.name_of, Text.HasOctets};
+ghost use Rattle.dns_labels.specs.{Comparing.lowered_octets, Labels.AreNameOctets, Labels.name_of, Text.HasOctets};
 ghost use Rattle.dns_names_wire.specs.Words.{ReadsField, ReadsBy, LacksField, EmitsField, Extends, IsNoName};
 ghost use Rattle.dns_names_wire.specs.NameValues.{root_name, label_count, has_asterisk};
 
 mod building;
 mod comparing;
-mod lent;
 mod mark;
 mod texts;
 
@@ -71,10 +70,7 @@ impl Name {
     pub fn new(alloc: Global) -> Name
         ensures { result ≡ record { labels = []; fully_qualified = false } }
     {
-        Name {
-            octets: NameOctets::new(alloc),
-            is_fqdn: Mark::new(false),
-        }
+        Name::from_octets(NameOctets::new(alloc), false)
     }
 
     /// The root: the fully qualified name without labels. Takes no memory.
@@ -82,10 +78,7 @@ impl Name {
     pub fn root(alloc: Global) -> Name
         ensures { result ≡ root_name }
     {
-        Name {
-            octets: NameOctets::new(alloc),
-            is_fqdn: Mark::new(true),
-        }
+        Name::from_octets(NameOctets::new(alloc), true)
     }
 
     /// Whether it is the root: without labels, and fully qualified.
@@ -179,6 +172,15 @@ impl Name {
         }
     }
 
+    /// The labels' octets, each label behind its length, with its letters. Lowered and with a 0 behind them they are the
+    /// canonical octets. Takes no memory.
+    #[inline]
+    pub fn label_octets(&self) -> &[u8]
+        ensures { lowname self.now ≡ lowered_octets result.now }
+    {
+        self.octets.as_slice()
+    }
+
     /// The allocator of its octets.
     #[inline]
     pub fn allocator(&self) -> Global {
@@ -224,8 +226,7 @@ impl BinEncodable for Name {
         ensures room { OnOk result (length encoder.new.octets ≤ encoder.old.limit) }
         ensures whole { OnErr result (encoder.new ≡ encoder.old) }
     {
-        encoder.emit_name(self.octets.as_slice(), self.is_fqdn.get())?;
-        Ok(())
+        encoder.emit_name(self.octets.as_slice(), self.is_fqdn.get())
     }
 }
 

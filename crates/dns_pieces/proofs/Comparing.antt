@@ -7,14 +7,11 @@ use Rattle.std.specs.Ordering.{nat_cmp, ordering_then}
 use Rattle.std.specs.declared.cmp.Ordering.TheVariants.{Less, Equal, Greater}
 use Rattle.dns_pieces.specs.Runs.{Shares, common, next_order}
 
-same_octet : (x : ℕ) → (x == x) ≡ true
-same_octet x = grind (arith, nat_tests)
-
 pub cmp_one : (x : ℕ) (a b : List ℕ) → slice_cmp nat_cmp (x ∷ a) (x ∷ b) ≡ slice_cmp nat_cmp a b
 cmp_one x a b = ap (λ (o : Ordering). ordering_then o (slice_cmp nat_cmp a b)) (tied_itself nat_cmp_total x)
 
 pub common_one : (x : ℕ) (a b : List ℕ) → common (x ∷ a) (x ∷ b) ≡ common a b + 1
-common_one x a b = ap (λ (t : Bool). if t then common a b + 1 else 0) (same_octet x)
+common_one x a b = let same : (x == x) ≡ true = grind (arith, nat_tests) in rw same refl
 
 cmp_front : (t a b : List ℕ) → slice_cmp nat_cmp (t ++ a) (t ++ b) ≡ slice_cmp nat_cmp a b
 cmp_front [] a b = refl
@@ -30,15 +27,6 @@ cmp_shared {n} {a} {c} {b} {d} s = rw (s.left, s.right) (cmp_front s.shared c d)
 pub common_shared : {n : ℕ} {a c b d : List ℕ} → Shares n a c b d → common a b ≡ common c d + n
 common_shared {n} {a} {c} {b} {d} s = let e = common_front s.shared c d in rw (s.left, s.right) (omega (arith, e, s.count))
 
-pub both_end : (a b : List ℕ) → a ≡ [] → b ≡ [] → Equal ≡ slice_cmp nat_cmp a b
-both_end a b e f = rw (e, f) refl
-
-pub first_ends : (a b c : List ℕ) (y : ℕ) → a ≡ [] → b ≡ y ∷ c → Less ≡ slice_cmp nat_cmp a b
-first_ends a b c y e f = rw (e, f) refl
-
-pub second_ends : (a b c : List ℕ) (x : ℕ) → a ≡ x ∷ c → b ≡ [] → Greater ≡ slice_cmp nat_cmp a b
-second_ends a b c x e f = rw (e, f) refl
-
 pub then_kept : (o q : Ordering) → o ≢ Equal → o ≡ ordering_then o q
 then_kept Less q h = refl
 then_kept Equal q h = absurd (h refl)
@@ -46,15 +34,6 @@ then_kept Greater q h = refl
 
 pub apart : (x y : ℕ) → x ≢ y → nat_cmp x y ≢ Equal
 apart x y h = λ e. grind (arith, nat_tests, h, e)
-
-pub they_differ : (a b c d : List ℕ) (x y : ℕ) (o : Ordering) → a ≡ x ∷ c → b ≡ y ∷ d → x ≢ y → o ≡ nat_cmp x y → o ≡ slice_cmp nat_cmp a b
-they_differ a b c d x y o e f h k = rw (e, f) (k ∙ then_kept (nat_cmp x y) (slice_cmp nat_cmp c d) (apart x y h))
-
-pub they_agree : (a b c d : List ℕ) (x y : ℕ) → a ≡ x ∷ c → b ≡ y ∷ d → x ≡ y → slice_cmp nat_cmp c d ≡ slice_cmp nat_cmp a b
-they_agree a b c d x y e f h = rw (e, f, h) (sym (cmp_one y c d))
-
-pub they_share : (a b c d : List ℕ) (x y : ℕ) → a ≡ x ∷ c → b ≡ y ∷ d → x ≡ y → common a b ≡ common c d + 1
-they_share a b c d x y e f h = rw (e, f, h) (common_one y c d)
 
 -- ---- by what two cursors answered
 
@@ -68,13 +47,14 @@ as_told p o a b h e = let k : o ≡ p = cc h in k ∙ e
 told_by : (t : Bool) (a b c d : List ℕ) (x y : ℕ) (o : Ordering) → (x == y) ≡ t → a ≡ x ∷ c → b ≡ y ∷ d
     → Some o ≡ (if t then None else Some (nat_cmp x y)) → o ≡ slice_cmp nat_cmp a b
 told_by true a b c d x y o is e f h = cc h
-told_by false a b c d x y o is e f h = as_told (nat_cmp x y) o a b h (they_differ a b c d x y (nat_cmp x y) e f (λ same. grind (arith, nat_tests, is, same)) refl)
+told_by false a b c d x y o is e f h =
+    as_told (nat_cmp x y) o a b h (rw (e, f) (then_kept (nat_cmp x y) (slice_cmp nat_cmp c d) (apart x y (λ same. grind (arith, nat_tests, is, same)))))
 
 -- they tell the order
 pub order_told : (r s : Option ℕ) (a b c d : List ℕ) (o : Ordering) → NextGives r a c → NextGives s b d → Some o ≡ next_order r s → o ≡ slice_cmp nat_cmp a b
-order_told None None a b c d o e f h = as_told Equal o a b h (both_end a b e.0 f.0)
-order_told None (Some y) a b c d o e f h = as_told Less o a b h (first_ends a b d y e.0 f)
-order_told (Some x) None a b c d o e f h = as_told Greater o a b h (second_ends a b c x e f.0)
+order_told None None a b c d o e f h = as_told Equal o a b h (rw (e.0, f.0) refl)
+order_told None (Some y) a b c d o e f h = as_told Less o a b h (rw (e.0, f) refl)
+order_told (Some x) None a b c d o e f h = as_told Greater o a b h (rw (e, f.0) refl)
 order_told (Some x) (Some y) a b c d o e f h = told_by (x == y) a b c d x y o refl e f h
 
 -- both lists go on with one octet
@@ -88,7 +68,7 @@ same_by : (t : Bool) (a b c d : List ℕ) (x y : ℕ) → (x == y) ≡ t → a �
     → None ≡ (if t then None else Some (nat_cmp x y)) → GoesOn (Some x) (Some y) a b c d
 same_by true a b c d x y is e f h =
     let same : x ≡ y = grind (arith, nat_tests, is) in
-    record { order = they_agree a b c d x y e f same; common = they_share a b c d x y e f same; first = refl; second = refl }
+    record { order = rw (e, f, same) (sym (cmp_one y c d)); common = rw (e, f, same) (common_one y c d); first = refl; second = refl }
 same_by false a b c d x y is e f h = cc h
 
 -- they do not tell it
@@ -97,6 +77,14 @@ goes_on None None a b c d e f h = cc h
 goes_on None (Some y) a b c d e f h = cc h
 goes_on (Some x) None a b c d e f h = cc h
 goes_on (Some x) (Some y) a b c d e f h = same_by (x == y) a b c d x y refl e f h
+
+-- where the order of the lists is known to be that of others, the next octets tell this one, or those behind what both share have it
+pub told_at : (r s : Option ℕ) (a b c d : List ℕ) {o z : Ordering} → NextGives r a c → NextGives s b d → Some o ≡ next_order r s → slice_cmp nat_cmp a b ≡ z → o ≡ z
+told_at r s a b c d {o} e f h i = order_told r s a b c d o e f h ∙ i
+
+pub kept_at : (r s : Option ℕ) (n : ℕ) (a b c d : List ℕ) {x y : List ℕ} {z : Ordering} → Shares n c x d y → NextGives r a c → NextGives s b d → None ≡ next_order r s
+    → slice_cmp nat_cmp a b ≡ z → slice_cmp nat_cmp x y ≡ z
+kept_at r s n a b c d g e f h i = sym (cmp_shared g) ∙ (goes_on r s a b c d e f h).order ∙ i
 
 pub one_taken : (r : Option ℕ) (n m : ℕ) → is_some r ≡ true → n ≡ m + (if is_some r then 1 else 0) → n ≡ m + 1
 one_taken r n m e h = subst (λ (t : Bool). n ≡ m + (if t then 1 else 0)) e h

@@ -1,8 +1,9 @@
 -- Octets that are copied into a buffer.
-use Rattle.std.proofs.Common.{◌≡◌, ◌≢◌, ℕ, ◌+◌, ◌-◌, ◌<◌, ◌≤◌, ◌⊎◌, inl, inr, min, suc, zero, List, [], ◌∷◌, ◌++◌, length, take, drop, map, refl, sym}
+use Rattle.std.proofs.Common.{◌≡◌, ◌≢◌, ℕ, ◌+◌, ◌-◌, ◌<◌, ◌≤◌, inl, inr, min, suc, List, [], ◌∷◌, ◌++◌, length, take, drop, map, refl, sym}
 use Rattle.std.proofs.Common.{ap, ◌∙◌, subst, arith, append_assoc, length-append, length-take-le}
 use Rattle.std.proofs.{Math.ListN.set, Math.Seq.take-add}
 use Rattle.std.proofs.lemmas.List.{append-nil, drop-drop, drop_all, drop_at, drop-append-le, length-drop, length-map, take_all, take_at, take_rest}
+use Rattle.std.proofs.lemmas.Bool.{cases_lt}
 use Rattle.std.proofs.lemmas.List.{take-append-le, take-map, drop-map}
 use Rattle.std.specs.Char.{to_ascii_lowercase}
 use Rattle.dns_labels.specs.Comparing.{lowered_octets}
@@ -111,15 +112,6 @@ copied_front m r q l b g c = record {
 pub copied_none : (z b : List ℕ) → HasCopied 0 z z b b
 copied_none z b = record { within = omega arith; room = omega arith; front = refl; rest = refl }
 
-either : (n a b : ℕ) → n ≡ min a b → (n ≡ a) ⊎ (n ≡ b)
-either n zero b e = inl (omega (arith, e))
-either n (suc a) zero e = inr (omega (arith, e))
-either zero (suc a) (suc b) e = absurd (omega (arith, e))
-either (suc n) (suc a) (suc b) e = elim (either n a b (omega (arith, e))) [
-  | inl h ↦ inl (omega (arith, h))
-  | inr h ↦ inr (omega (arith, h))
-]
-
 -- a piece and a further one, which is begun where the first is copied whole
 pub copies_both : (n m : ℕ) (a b t u f g : List ℕ) → n ≡ min (length a) (length b) → f ≡ take n a ++ drop n b → Copies m t u (take (length f - n) (drop n f)) g
     → Copies (n + m) (a ++ t) (drop n a ++ u) b (take n f ++ (g ++ drop (length f - n) (drop n f)))
@@ -129,10 +121,10 @@ copies_both n m a b t u f g count front c =
     let is = taken_so_far n (a ++ t) (drop n a ++ t) b f first in
     let part = take (length f - n) (drop n f) in
     let size : length part ≡ length b - n = ap length (take_rest f n) ∙ length-drop n f ∙ ap (λ (k : ℕ). k - n) is.2 in
-    let second : HasCopied m (drop n a ++ t) (drop n a ++ u) part g = elim (either n (length a) (length b) count) [
-      | inl e ↦ let all : drop n a ≡ [] = drop_all n a (omega (arith, e)) in rw all c.copied
-      | inr e ↦
-          let none : m ≡ 0 = omega (arith, c.count, size, e) in
+    let second : HasCopied m (drop n a ++ t) (drop n a ++ u) part g = elim (cases_lt (length b) (length a)) [
+      | inr e ↦ let all : drop n a ≡ [] = drop_all n a (omega (arith, count, e)) in rw all c.copied
+      | inl e ↦
+          let none : m ≡ 0 = omega (arith, c.count, size, count, e) in
           let same : u ≡ t = c.copied.rest ∙ ap (λ (k : ℕ). drop k t) none in
           let still : g ≡ part = c.copied.front ∙ ap (λ (k : ℕ). take k t ++ drop k part) none in
           rw (none, same, still) (copied_none (drop n a ++ t) part)

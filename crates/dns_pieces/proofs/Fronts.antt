@@ -181,16 +181,15 @@ last_words w n m x y a b h few same p q e f la lb end =
     ∙ sym (words_then w n m x y a b h few same p q e f)
 
 -- a string's length comes first
-pub text_then : (o l r c : Ordering) (n m : ℕ) (a b : List ℕ) → c ≡ nat_cmp n m → n ≡ length a → m ≡ length b → l ≡ ordering_then o c → r ≡ ordering_then l (slice_cmp nat_cmp a b)
-    → r ≡ ordering_then o (slice_cmp nat_cmp (field_octets Text a) (field_octets Text b))
+pub text_then : (o : Ordering) (a b : List ℕ)
+    → ordering_then o (slice_cmp nat_cmp (field_octets Text a) (field_octets Text b)) ≡ ordering_then (ordering_then o (nat_cmp (length a) (length b))) (slice_cmp nat_cmp a b)
 unfolding field_octets
-text_then o l r c n m a b e p q f g = g ∙ rw (f, e, p, q) (then_assoc o (nat_cmp (length a) (length b)) (slice_cmp nat_cmp a b))
+text_then o a b = sym (then_assoc o (nat_cmp (length a) (length b)) (slice_cmp nat_cmp a b))
 
 -- a number's octets are ordered as the number
-pub number_then : (w a b : ℕ) (o r c : Ordering) → a < 256 ^ w → b < 256 ^ w → r ≡ ordering_then o c → c ≡ nat_cmp a b
-    → r ≡ ordering_then o (slice_cmp nat_cmp (field_octets (Number w) a) (field_octets (Number w) b))
+pub number_then : (w a b : ℕ) → a < 256 ^ w → b < 256 ^ w → slice_cmp nat_cmp (field_octets (Number w) a) (field_octets (Number w) b) ≡ nat_cmp a b
 unfolding field_octets
-number_then w a b o r c p q e f = e ∙ rw (f, number_cmp w a b p q) refl
+number_then w a b p q = number_cmp w a b p q
 
 -- what was compared before may be given otherwise
 pub also : {r : Ordering} (p o t : Ordering) → r ≡ ordering_then p t → p ≡ o → r ≡ ordering_then o t

@@ -1,7 +1,7 @@
 -- Octets that two runs gave.
 use Rattle.std.proofs.Common.{◌≡◌, ℕ, ◌+◌, ◌-◌, ◌≤◌, Bool, true, false, true≢false, not, nat_eq, List, [], ◌∷◌, ◌++◌, length, take, drop, map, refl}
 use Rattle.std.proofs.Common.{sym, ap, ◌∙◌, arith, append_assoc, length-append, length-take-le}
-use Rattle.std.proofs.lemmas.List.{drop-drop, take-append-drop, map-append, take_all, length-drop}
+use Rattle.std.proofs.lemmas.List.{drop-drop, take-append-drop, map-append, take_all, length-drop, length-map}
 use Rattle.std.proofs.Math.Seq.{take-add}
 use Rattle.std.specs.{Cmp.unsigned_Decides, Cmp.Lexicographic.pointwise, Cmp.Lexicographic.pointwise_decides, Bool.beq, Char.to_ascii_lowercase}
 use Rattle.dns_labels.specs.Comparing.{lowered_octets}
@@ -46,16 +46,12 @@ names_left n rest =
 octets_left : (n : ℕ) (rest : List ℕ) → rest ≡ take n rest ++ take (length rest - n) (drop n rest)
 octets_left n rest = sym (take-append-drop n rest) ∙ ap (λ (l : List ℕ). take n rest ++ l) (sym (whole n rest))
 
-length_map : (f : ℕ → ℕ) (xs : List ℕ) → length (map f xs) ≡ length xs
-length_map f [] = refl
-length_map f (x ∷ xs) = let e = length_map f xs in omega (arith, e)
-
 pub names_share : (n : ℕ) (rest rest' : List ℕ) → n ≤ length rest
     → map to_ascii_lowercase (take n rest) ≡ map to_ascii_lowercase (take n rest')
     → Shares n (tail_octets rest true) (tail_octets (take (length rest - n) (drop n rest)) true) (tail_octets rest' true) (tail_octets (take (length rest' - n) (drop n rest')) true)
 names_share n rest rest' short same = record {
   shared = map to_ascii_lowercase (take n rest);
-  count = length_map to_ascii_lowercase (take n rest) ∙ length-take-le n rest short;
+  count = length-map (take n rest) to_ascii_lowercase ∙ length-take-le n rest short;
   left = names_left n rest;
   right = names_left n rest' ∙ ap (λ (x : List ℕ). x ++ lowered_octets (take (length rest' - n) (drop n rest'))) (sym same);
 }
@@ -69,17 +65,12 @@ rests_share n rest rest' short same = record {
   right = octets_left n rest' ∙ ap (λ (x : List ℕ). x ++ take (length rest' - n) (drop n rest')) (sym same);
 }
 
--- where the marks are not told apart, both are names
-
-pub names_both : (x y : Bool) → not (beq x y) ≡ false → x ≡ true → y ≡ true
-names_both true true h e = refl
-names_both true false h e = absurd (true≢false h)
-names_both false y h e = absurd (true≢false (sym e))
-
-pub names_neither : (x y : Bool) → not (beq x y) ≡ false → x ≡ false → y ≡ false
-names_neither true y h e = absurd (true≢false e)
-names_neither false false h e = refl
-names_neither false true h e = absurd (true≢false h)
+-- where the marks are not told apart, both are names or neither is
+pub same_mark : (x y : Bool) → not (beq x y) ≡ false → y ≡ x
+same_mark true true h = refl
+same_mark true false h = absurd (true≢false h)
+same_mark false false h = refl
+same_mark false true h = absurd (true≢false h)
 
 -- ---- octets that are the same behind the same octets
 

@@ -101,6 +101,7 @@ pub fn slices_behind(first: Ordering, a: &[u8], b: &[u8]) -> Ordering
 
 /// A number of one octet, behind fields that were compared so.
 #[inline]
+#[tactic(auto, using(crate::proofs::Fronts::number_then))]
 pub fn one_behind(first: Ordering, a: u8, b: u8) -> Ordering
     ensures { result ≡ ordering_then first (slice_cmp nat_cmp (field_octets (Number 1) a) (field_octets (Number 1) b)) }
 {
@@ -109,6 +110,7 @@ pub fn one_behind(first: Ordering, a: u8, b: u8) -> Ordering
 
 /// A number of two octets, behind fields that were compared so.
 #[inline]
+#[tactic(auto, using(crate::proofs::Fronts::number_then))]
 pub fn two_behind(first: Ordering, a: u16, b: u16) -> Ordering
     ensures { result ≡ ordering_then first (slice_cmp nat_cmp (field_octets (Number 2) a) (field_octets (Number 2) b)) }
 {
@@ -117,6 +119,7 @@ pub fn two_behind(first: Ordering, a: u16, b: u16) -> Ordering
 
 /// A number of four octets, behind fields that were compared so.
 #[inline]
+#[tactic(auto, using(crate::proofs::Fronts::number_then))]
 pub fn four_behind(first: Ordering, a: u32, b: u32) -> Ordering
     ensures { result ≡ ordering_then first (slice_cmp nat_cmp (field_octets (Number 4) a) (field_octets (Number 4) b)) }
 {
@@ -125,6 +128,7 @@ pub fn four_behind(first: Ordering, a: u32, b: u32) -> Ordering
 
 /// A character string, behind fields that were compared so: its length is its first octet.
 #[inline]
+#[tactic(auto, using(crate::proofs::Fronts::text_then))]
 pub fn text_behind(first: Ordering, a: &[u8], b: &[u8]) -> Ordering
     ensures { result ≡ ordering_then first (slice_cmp nat_cmp (field_octets Text a.now) (field_octets Text b.now)) }
 {

@@ -58,6 +58,7 @@ impl<'a> Run<'a> {
 
     /// Takes octets that both begin with, as many as are at hand in one piece, and answers how many these are.
     #[inline]
+    #[tactic(auto, using(crate::proofs::Sharing::shares_both))]
     pub fn skip_common(&mut self, other: &mut Run<'_>) -> usize
         ensures { Shares result self.old self.new other.old other.new }
     {
@@ -104,6 +105,7 @@ impl<'a> Run<'a> {
     }
 
     /// The order of the two by their first difference, a proper beginning before what goes on.
+    #[tactic(auto, using(crate::proofs::Comparing::told_at))]
     pub fn compare(&mut self, other: &mut Run<'_>) -> Ordering
         ensures { result ≡ slice_cmp nat_cmp self.old other.old }
     {

@@ -136,6 +136,7 @@ impl<'a> Tail<'a> {
     }
 
     // The order of the two where their next octets mostly differ, so that these are compared first.
+    #[tactic(auto, using(crate::proofs::Comparing::told_at))]
     fn compare_next(&mut self, other: &mut Tail<'_>) -> Ordering
         ensures { result ≡ slice_cmp nat_cmp self.old other.old }
     {

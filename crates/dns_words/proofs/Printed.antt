@@ -1,7 +1,7 @@
 -- Printed words, cut at their blanks, are read back.
 use Rattle.std.proofs.Common.{◌≡◌, ◌≢◌, ℕ, zero, suc, ◌*◌, ◌^◌, ◌<◌, ◌≤◌, true, false, eqb, nat_le, List, [], ◌∷◌, ◌++◌, length, get_or, decimal}
 use Rattle.std.proofs.Common.{codes, Option, Some, None, Bool, cond, ◌||◌, ◌&&◌, All, take, drop, refl, ap, sym, subst, ◌∙◌, arith, append_assoc}
-use Rattle.std.specs.{List.flat_map, Str.Parse.IsNumeral, Str.Parse.digits_value, Net.Text.ipv4_text, Net.Text.ipv6_text, Net.Text.hex_groups_text}
+use Rattle.std.specs.{List.flat_map, Net.Text.ipv4_text, Net.Text.ipv6_text, Net.Text.hex_groups_text}
 use Rattle.std.specs.{declared.net.ipv4_addr.Ipv4Addr.Ipv4Addr, declared.net.ipv6_addr.Ipv6Addr.Ipv6Addr}
 use Rattle.std.specs.Net.Addr.{IsIpv4Addr, IsIpv6Addr, ipv4_octets, ipv6_octets, ipv6_segments, octets_of}
 use Rattle.std.specs.Prelude.{bytes_eq}
@@ -14,7 +14,7 @@ use Rattle.dns_labels.specs.Text.{printed, label_text, joined_text, name_text}
 use Rattle.dns_labels.proofs.NameTexts.{name_reads}
 use Rattle.dns_text.specs.Ttl.Periods.{plain}
 use Rattle.dns_names_wire.specs.NameValues.{completed}
-use Rattle.dns_words.specs.Forms.{Form, Row, word, ignored, nothing, IsNumberWord, number, ttl, name, ipv4, ipv6}
+use Rattle.dns_words.specs.Forms.{Form, Row, word, ignored, nothing, number, ttl, name, ipv4, ipv6}
 use Rattle.dns_words.specs.Printed.{cut_from, cut, IsPrintedName}
 
 -- ---- words without blanks
@@ -100,29 +100,22 @@ row_back row vs first words text e g = subst (λ (l : List (List ℕ)). row.stan
 
 -- ---- numbers
 
-small_numeral : (n : ℕ) → n < 2 ^ 64 → IsNumeral 10 (decimal n) × (n ≡ digits_value 10 (decimal n))
-small_numeral n small = let num = decimal_is_IsNumeral n small in (num.0, sym num.1)
-
-number_word : (bits n : ℕ) → n < 2 ^ bits → n < 2 ^ 64 → IsNumberWord bits n (decimal n)
-number_word bits n fits small =
-    let num = decimal_is_IsNumeral n small in
-    let digit = digit_at (decimal n) 0 num.0.1 num.0.0 in
-    let first : get_or (decimal n) 0 0 ≢ 43 = omega (arith, digit) in
-    let plain = without_leading_plus_none (decimal n) first in
-    record { digits = rw plain num.0; value = rw plain (sym num.1); fits = fits }
-
 pub solid_decimal : (n : ℕ) → n < 2 ^ 64 → IsSolid (decimal n)
 solid_decimal n small =
     let num = decimal_is_IsNumeral n small in
     solid_by_index (decimal n) (λ k lt. let digit = digit_at (decimal n) k num.0.1 lt in omega (arith, digit))
 
 pub number_back : (w n : ℕ) → n < 2 ^ (8 * w) → n < 2 ^ 64 → GivesBack (number w) n (decimal n)
-number_back w n fits small = record { is = number_word (8 * w) n fits small; solid = solid_decimal n small }
+number_back w n fits small =
+    let num = decimal_is_IsNumeral n small in
+    let first : get_or (decimal n) 0 0 ≢ 43 = omega (arith, digit_at (decimal n) 0 num.0.1 num.0.0) in
+    let same = without_leading_plus_none (decimal n) first in
+    record { is = record { digits = rw same num.0; value = rw same (sym num.1); fits = fits }; solid = solid_decimal n small }
 
 pub ttl_back : (most n : ℕ) → most ≤ 4294967295 → n ≤ most → GivesBack (ttl most) n (decimal n)
 ttl_back most n low fits =
-    let num = small_numeral n (omega arith) in
-    record { is = (record { sum = plain num.0 num.1; fits = omega arith }, fits); solid = solid_decimal n (omega arith) }
+    let num = decimal_is_IsNumeral n (omega arith) in
+    record { is = (record { sum = plain num.0 (sym num.1); fits = omega arith }, fits); solid = solid_decimal n (omega arith) }
 
 -- ---- names
 
@@ -168,9 +161,6 @@ solid_dotted octets fits = solid_all IsDigitOrDot (λ c h. omega (arith, h)) (ip
 pub ipv4_back : (a : Ipv4Addr) → IsIpv4Addr a → GivesBack ipv4 (ipv4_octets a) (ipv4_text (ipv4_octets a))
 ipv4_back a h = record { is = (a, IsDotted-ipv4_text _ h.0 h.1, refl); solid = solid_dotted (ipv4_octets a) h.1 }
 
-solid_groups : (segments : List ℕ) → AllSegments segments → IsSolid (hex_groups_text segments)
-solid_groups segments fits = solid_all IsHexOrColon (λ c h. omega (arith, h)) (hex_groups_text segments) (All-hex_groups_text segments fits)
-
 bounded : (segments : List ℕ) → ((k : ℕ) → get_or segments k 0 < 2 ^ 16) → (k : ℕ) → get_or (octets_of segments) k 0 < 2 ^ 8
 bounded [] h k = omega arith
 bounded (s ∷ segments) h zero = let fits = h 0 in omega (arith, fits)
@@ -183,7 +173,7 @@ solid_ipv6 segments fits = solid_if (bytes_eq (take 6 segments) (0 ∷ 0 ∷ 0 �
     (λ _. solid_append (codes "::ffff:") (ipv4_text (octets_of (drop 6 segments)))
     (omega arith, (omega arith, (omega arith, (omega arith, (omega arith, (omega arith, (omega arith, tt)))))))
     (solid_dotted (octets_of (drop 6 segments)) (bounded (drop 6 segments) (AllSegments-drop 6 segments fits))))
-    (λ _. solid_groups segments fits)
+    (λ _. solid_all IsHexOrColon (λ c h. omega (arith, h)) (hex_groups_text segments) (All-hex_groups_text segments fits))
 
 pub ipv6_back : (a : Ipv6Addr) → IsIpv6Addr a → GivesBack ipv6 (ipv6_octets a) (ipv6_text (ipv6_segments a))
 ipv6_back a h = record { is = (a, IsColonHex-ipv6_text _ h.0 h.1, refl); solid = solid_ipv6 (ipv6_segments a) h.1 }

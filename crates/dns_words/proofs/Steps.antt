@@ -129,4 +129,6 @@ module _ {S I : Type 0} (gives : I → Option S → I → Type 0) (text : S → 
   pub texts_read : {s : I} (texts : List (List ℕ)) → AreTexts gives text s texts → TookWords gives text every_text (texts, tt) s
   texts_read texts d = record { words = texts_taken (λ words. every_text.stand (texts, tt) words) texts d refl }
 
+pub ruleset taking = (missing, exit_word, word_read, took_nothing)
+
 pub ruleset reading = (took_ignored, took_nothing, took_then, refused_first, refused_then, exit_row, texts_read)

@@ -1,4 +1,5 @@
 //! Words read from an iterator.
+#![tactic(auto, using(crate::proofs::Steps::taking))]
 
 ghost use Rattle.std.specs.Prelude.{FitsSigned, ◌≡◌, ◌≢◌, ◌⊎◌, [], Some, None, IfOk, IfErr};
 ghost use Rattle.std.specs.{Option.option_copied, Int.cast_unsigned, Int.w32, Iterator.IsFinite, Net.Addr.ipv4_octets, Net.Addr.ipv6_octets};

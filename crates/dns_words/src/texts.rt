@@ -21,10 +21,7 @@ pub fn u8_of(word: &str, wrong: &'static str) -> Result<u8, ParseError>
     ensures reads { ReadsText (number 1) (λ n. n) result word.now }
     ensures why { IfErr result (λ e. e ≡ ParseError.Message wrong.entry) }
 {
-    match word.parse::<u8>() {
-        Ok(n) => Ok(n),
-        Err(_) => Err(ParseError::Message(wrong)),
-    }
+    word.parse::<u8>().or(Err(ParseError::Message(wrong)))
 }
 
 /// A decimal number of 16 bits, as `u8_of`.
@@ -33,10 +30,7 @@ pub fn u16_of(word: &str, wrong: &'static str) -> Result<u16, ParseError>
     ensures reads { ReadsText (number 2) (λ n. n) result word.now }
     ensures why { IfErr result (λ e. e ≡ ParseError.Message wrong.entry) }
 {
-    match word.parse::<u16>() {
-        Ok(n) => Ok(n),
-        Err(_) => Err(ParseError::Message(wrong)),
-    }
+    word.parse::<u16>().or(Err(ParseError::Message(wrong)))
 }
 
 /// A decimal number of 32 bits, as `u8_of`.
@@ -45,10 +39,7 @@ pub fn u32_of(word: &str, wrong: &'static str) -> Result<u32, ParseError>
     ensures reads { ReadsText (number 4) (λ n. n) result word.now }
     ensures why { IfErr result (λ e. e ≡ ParseError.Message wrong.entry) }
 {
-    match word.parse::<u32>() {
-        Ok(n) => Ok(n),
-        Err(_) => Err(ParseError::Message(wrong)),
-    }
+    word.parse::<u32>().or(Err(ParseError::Message(wrong)))
 }
 
 /// A time to live of 32 bits (`parse_ttl`). Any other word is refused by [`Message`](ParseError::Message) of the text
@@ -58,10 +49,7 @@ pub fn ttl_of(word: &str, wrong: &'static str) -> Result<u32, ParseError>
     ensures reads { ReadsText (ttl 4294967295) (λ n. n) result word.now }
     ensures why { IfErr result (λ e. e ≡ ParseError.Message wrong.entry) }
 {
-    match parse_ttl(word) {
-        Ok(seconds) => Ok(seconds),
-        Err(_) => Err(ParseError::Message(wrong)),
-    }
+    parse_ttl(word).or(Err(ParseError::Message(wrong)))
 }
 
 /// A time to live of at most 2147483647 seconds, as `ttl_of`.
@@ -143,24 +131,20 @@ pub fn kept_of(alloc: Global, word: &str) -> Result<Octets, ParseError>
 
 /// The IPv4 address of a text. Any other word is refused by [`AddrParse`](ParseError::AddrParse). Takes no memory.
 #[inline]
+#[tactic(auto, using(crate::proofs::Ttls::no_ipv4))]
 pub fn ipv4_of(word: &str) -> Result<Ipv4Addr, ParseError>
     ensures reads { ReadsText ipv4 ipv4_octets result word.now }
     ensures why { IfErr result (λ e. e ≡ ParseError.AddrParse) }
 {
-    match word.parse::<Ipv4Addr>() {
-        Ok(address) => Ok(address),
-        Err(_) => Err(ParseError::AddrParse),
-    }
+    word.parse::<Ipv4Addr>().or(Err(ParseError::AddrParse))
 }
 
 /// The IPv6 address of a text. Any other word is refused by [`AddrParse`](ParseError::AddrParse). Takes no memory.
 #[inline]
+#[tactic(auto, using(crate::proofs::Ttls::no_ipv6))]
 pub fn ipv6_of(word: &str) -> Result<Ipv6Addr, ParseError>
     ensures reads { ReadsText ipv6 ipv6_octets result word.now }
     ensures why { IfErr result (λ e. e ≡ ParseError.AddrParse) }
 {
-    match word.parse::<Ipv6Addr>() {
-        Ok(address) => Ok(address),
-        Err(_) => Err(ParseError::AddrParse),
-    }
+    word.parse::<Ipv6Addr>().or(Err(ParseError::AddrParse))
 }

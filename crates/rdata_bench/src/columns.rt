@@ -62,11 +62,9 @@ impl Row {
             compares,
         };
         for _ in 0..COPIES {
-            let value = row.read(alloc)?;
+            let (value, other, next) = (row.read(alloc)?, row.read(alloc)?, row.next_value(alloc)?);
             row.values.push(value)?;
-            let other = row.read(alloc)?;
             row.others.push(other)?;
-            let next = row.next_value(alloc)?;
             row.nexts.push(next)?;
         }
         Ok(row)
@@ -111,17 +109,16 @@ impl Row {
 
 fn reads(alloc: Global, row: &Row, passes: u64) -> Result<()> {
     let times = passes.saturating_mul(COPIES);
-    anyhow::ensure!(
-        measured::reads(
-            alloc,
-            row.message.as_slice(),
-            row.place,
-            row.record_type,
-            row.length,
-            times
-        ),
-        "not read"
+    let message = row.message.as_slice();
+    let all = measured::reads(
+        alloc,
+        message,
+        row.place,
+        row.record_type,
+        row.length,
+        times,
     );
+    anyhow::ensure!(all, "not read");
     Ok(())
 }
 
@@ -279,11 +276,8 @@ pub fn least(
     let part = rounds / PARTS / COPIES * COPIES;
     let mut least = u128::MAX;
     for _ in 0..PARTS {
-        let begin = Instant::now(rt)?;
-        column(rt.alloc(), row, name, part)?;
-        least = least.min(
-            begin.elapsed(rt)?.as_nanos().saturating_mul(10) / u128::from(part.max(1)),
-        );
+        let (_, time) = timed!(rt, column(rt.alloc(), row, name, part)?);
+        least = least.min(time.as_nanos().saturating_mul(10) / u128::from(part.max(1)));
     }
     Ok(least)
 }

@@ -4,8 +4,9 @@
 //! and where they double with the size it is a square.
 
 use crate::columns::{Row, least};
+use crate::names::{write, zone};
 use anyhow::Result;
-use dns_rdata::{BinEncodable, BinEncoder, Name, ProtoError, RecordType};
+use dns_rdata::{Name, RDataEncoding, RecordType};
 use std::alloc::Global;
 use std::rt::Clock;
 use std::time::Instant;
@@ -46,20 +47,6 @@ fn print_row(
     print_line(rt, curve, size, tenths, octets)
 }
 
-// Writes the names into one message.
-fn write(
-    alloc: Global,
-    octets: &mut Vec<u8>,
-    names: &[Name],
-) -> std::result::Result<(), ProtoError> {
-    octets.clear();
-    let mut encoder = BinEncoder::new(alloc, octets);
-    for name in names {
-        name.emit(&mut encoder)?;
-    }
-    Ok(())
-}
-
 fn print_names(rt: &(impl AllocGlobal + Clock + Print), curve: &str, names: &[Name]) -> Result<()> {
     let mut octets = Vec::with_capacity(rt.alloc(), 65536)?;
     let mut tenths = u128::MAX;
@@ -68,21 +55,12 @@ fn print_names(rt: &(impl AllocGlobal + Clock + Print), curve: &str, names: &[Na
         total = total.saturating_add(name.len());
     }
     for _ in 0..20 {
-        let begin = Instant::now(rt)?;
-        write(rt.alloc(), &mut octets, names)?;
-        tenths = tenths.min(begin.elapsed(rt)?.as_nanos().saturating_mul(10));
+        octets.clear();
+        let mode = RDataEncoding::StandardRecord;
+        let (_, time) = timed!(rt, write(rt.alloc(), &mut octets, names, mode)?);
+        tenths = tenths.min(time.as_nanos().saturating_mul(10));
     }
     print_line(rt, curve, names.len(), tenths, total)
-}
-
-// `host0.example.com.` to `host999.example.com.` again and again.
-fn zone(alloc: Global, count: usize) -> Result<Vec<Name>> {
-    let mut names = Vec::new(alloc);
-    for number in 0..count {
-        let text = format!(in alloc; "host{}.example.com.", number % 1000)?;
-        names.push(Name::from_ascii(alloc, text.as_str())?)?;
-    }
-    Ok(names)
 }
 
 // The number that gives 1 with an odd one as a product of 64 bits.
@@ -150,23 +128,15 @@ pub fn print_growth(rt: &(impl AllocGlobal + Clock + Print)) -> Result<()> {
     let alloc = rt.alloc();
     println!(rt; "curve\tsize\tns an octet")?;
     for count in [100usize, 1000, 5000, 20000] {
-        print_names(rt, "names written", zone(alloc, count)?.as_slice())?;
+        print_names(rt, "names written", zone(alloc, count, 1000)?.as_slice())?;
     }
     for count in [100usize, 300, 900, 3000] {
-        print_names(
-            rt,
-            "names of one hash written",
-            of_one_hash(alloc, count)?.as_slice(),
-        )?;
+        let names = of_one_hash(alloc, count)?;
+        print_names(rt, "names of one hash written", names.as_slice())?;
     }
     for count in [10usize, 100, 1000, 8000] {
-        print_row(
-            rt,
-            "pointers read",
-            "read",
-            count,
-            &mut pointers(alloc, count)?,
-        )?;
+        let mut row = pointers(alloc, count)?;
+        print_row(rt, "pointers read", "read", count, &mut row)?;
     }
     for count in [1usize, 16, 64, 255] {
         let mut row = strings(alloc, count)?;

@@ -15,6 +15,15 @@
 //! one message and read back.
 #![tactic(auto)]
 
+// What a call gives, and the time that it takes.
+macro_rules! timed {
+    ($rt:expr, $call:expr) => {{
+        let begin = Instant::now($rt)?;
+        let given = $call;
+        (given, begin.elapsed($rt)?)
+    }};
+}
+
 mod columns;
 mod growth;
 mod names;
@@ -25,9 +34,7 @@ mod sorting;
 use anyhow::{Context, Result};
 use columns::{Row, column, least};
 use held_data::record_type;
-use options::measure_options;
 use parsing::{measure_text, parses, text_row};
-use sorting::measure_sorting;
 use std::alloc::Global;
 use std::io;
 use std::io::BufRead;
@@ -60,63 +67,51 @@ fn measure(rt: &(impl Clock + AllocGlobal + Print), row: &mut Row, rounds: u64) 
     Ok(())
 }
 
-fn print_names(rt: &(impl AllocGlobal + Print)) -> Result<()> {
-    print!(rt; "type")?;
-    for name in COLUMNS {
-        print!(rt; "\t{name}")?;
-    }
-    println!(rt; "")?;
-    Ok(())
-}
-
 fn main(rt: HostRuntime) -> Result<()> {
     let mut args = std::env::args(&rt)?.skip(1);
     let Some(word) = args.next() else {
         return Ok(());
     };
-    if word.as_str() == "growth" {
-        return growth::print_growth(&rt);
+    let next = args.next();
+    match (word.as_str(), &next) {
+        ("growth", _) => growth::print_growth(&rt),
+        ("sort", _) => sorting::measure_sorting(&rt),
+        ("options", None) => options::measure_options(&rt, 16383),
+        ("options", Some(count)) => options::measure_options(&rt, count.parse::<u16>()?),
+        ("parse", Some(rounds)) => measure_texts(&rt, rounds.parse::<u64>()?),
+        ("names", Some(rounds)) => names::measure_names(&rt, rounds.parse::<u32>()?),
+        (rounds, None) => measure_rows(&rt, rounds.parse::<u64>()?),
+        (rounds, Some(name)) => {
+            let compares = args.next().is_some();
+            take_column(&rt, rounds.parse::<u64>()?, name.as_str(), compares)
+        }
     }
-    if word.as_str() == "options" {
-        let count = match args.next() {
-            Some(number) => number.parse::<u16>()?,
-            None => 16383,
-        };
-        return measure_options(&rt, count);
+}
+
+fn measure_rows(rt: &HostRuntime, rounds: u64) -> Result<()> {
+    print!(rt; "type")?;
+    for name in COLUMNS {
+        print!(rt; "\t{name}")?;
     }
-    if word.as_str() == "sort" {
-        return measure_sorting(&rt);
+    println!(rt; "")?;
+    for line in io::BufReader::new(rt.alloc(), rt.reader())?.lines(rt.alloc()) {
+        let mut row = read_row(rt.alloc(), line?.as_str(), false)?;
+        measure(rt, &mut row, rounds)?;
     }
-    if word.as_str() == "parse" {
-        let rounds = args.next().context("a number of rounds")?.parse::<u64>()?;
-        return measure_texts(&rt, rounds);
-    }
-    if word.as_str() == "names" {
-        let rounds = args.next().context("a number of rounds")?.parse::<u32>()?;
-        return names::measure_names(&rt, rounds);
-    }
-    let rounds = word.parse::<u64>()?;
-    let only = args.next();
-    let compares = args.next().is_some();
-    if only.is_none() {
-        print_names(&rt)?;
-    }
+    Ok(())
+}
+
+// The calls of one column, of which nothing is printed.
+fn take_column(rt: &HostRuntime, rounds: u64, name: &str, compares: bool) -> Result<()> {
+    let is_zone = name == "zone_parse";
     for line in io::BufReader::new(rt.alloc(), rt.reader())?.lines(rt.alloc()) {
         let line = line?;
-        match &only {
-            Some(name) if name.as_str() == "parse" || name.as_str() == "zone_parse" => {
-                let (record_type, text) = text_row(line.as_str())?;
-                let is_zone = name.as_str() == "zone_parse";
-                parses(rt.alloc(), record_type, text, is_zone, rounds)?;
-            }
-            Some(name) => {
-                let mut row = read_row(rt.alloc(), line.as_str(), compares)?;
-                column(rt.alloc(), &mut row, name.as_str(), rounds)?;
-            }
-            None => {
-                let mut row = read_row(rt.alloc(), line.as_str(), compares)?;
-                measure(&rt, &mut row, rounds)?;
-            }
+        if is_zone || name == "parse" {
+            let (record_type, text) = text_row(line.as_str())?;
+            parses(rt.alloc(), record_type, text, is_zone, rounds)?;
+        } else {
+            let mut row = read_row(rt.alloc(), line.as_str(), compares)?;
+            column(rt.alloc(), &mut row, name, rounds)?;
         }
     }
     Ok(())

@@ -12,17 +12,18 @@ use std::time::{Duration, Instant};
 
 const NAMES: usize = 2000;
 
-// The names `host0.example.com.` and so on.
-fn zone(alloc: Global) -> Result<Vec<Name>> {
+/// So many names, of which so many differ: `host0.example.com.` and so on, again and again.
+pub fn zone(alloc: Global, count: usize, different: usize) -> Result<Vec<Name>> {
     let mut names = Vec::new(alloc);
-    for number in 0..NAMES {
-        let text = format!(in alloc; "host{number}.example.com.")?;
+    for number in 0..count {
+        let text = format!(in alloc; "host{}.example.com.", number % different.max(1))?;
         names.push(Name::from_ascii(alloc, text.as_str())?)?;
     }
     Ok(names)
 }
 
-fn write(
+/// Writes the names into one message.
+pub fn write(
     alloc: Global,
     octets: &mut Vec<u8>,
     names: &[Name],
@@ -62,18 +63,16 @@ fn measure(
     rounds: u32,
 ) -> Result<()> {
     let alloc = rt.alloc();
-    let names = zone(alloc)?;
+    let names = zone(alloc, NAMES, NAMES)?;
     let mut octets = Vec::new(alloc);
     let mut writing = Duration::from_nanos(0);
     let mut reading = Duration::from_nanos(0);
     for _ in 0..rounds {
         octets.clear();
-        let start = Instant::now(rt)?;
-        write(alloc, &mut octets, names.as_slice(), mode)?;
-        writing = writing.saturating_add(start.elapsed(rt)?);
-        let start = Instant::now(rt)?;
-        let same = read(alloc, octets.as_slice(), names.as_slice())?;
-        reading = reading.saturating_add(start.elapsed(rt)?);
+        let (_, time) = timed!(rt, write(alloc, &mut octets, names.as_slice(), mode)?);
+        writing = writing.saturating_add(time);
+        let (same, time) = timed!(rt, read(alloc, octets.as_slice(), names.as_slice())?);
+        reading = reading.saturating_add(time);
         if same != NAMES {
             bail!("names were read otherwise than they were written");
         }

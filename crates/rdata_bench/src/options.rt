@@ -4,7 +4,6 @@ use anyhow::Result;
 use dns_rdata::{RData, RecordType};
 use held_data::Held;
 use std::alloc::Global;
-use std::cmp::Ordering;
 use std::hash::{DefaultHasher, Hash, Hasher};
 use std::rt::Clock;
 use std::time::Instant;
@@ -28,13 +27,7 @@ impl Options<'_> {
             "falling" => self.count.wrapping_sub(i).wrapping_add(100),
             "mixed" => i.wrapping_mul(5003) % 16384 + 100,
             "two" => 20 - i % 2,
-            "last" => {
-                if i.wrapping_add(1) == self.count {
-                    19
-                } else {
-                    20
-                }
-            }
+            "last" if i.wrapping_add(1) == self.count => 19,
             _ => 20,
         }
     }
@@ -77,10 +70,6 @@ fn hash_of(value: &RData) -> u64 {
     state.finish()
 }
 
-fn order_of(first: &Held, second: &Held) -> Ordering {
-    first.0.cmp(&second.0)
-}
-
 fn sum_of(value: &RData) -> u64 {
     let mut sum = 0u64;
     for octet in value.canonical_octets() {
@@ -98,40 +87,25 @@ fn measure(rt: &(impl Clock + AllocGlobal + Print), order: &str, count: u16) -> 
     };
     let first = options.read(rt.alloc())?;
     options.turned = false;
-    let begin = Instant::now(rt)?;
-    let second = options.read(rt.alloc())?;
-    let read = begin.elapsed(rt)?.as_micros();
+    let (second, read) = timed!(rt, options.read(rt.alloc())?);
     options.differs = true;
     let other = options.read(rt.alloc())?;
-    let begin = Instant::now(rt)?;
-    anyhow::ensure!(first.0 == second.0, "records that are not equal");
-    let equal = begin.elapsed(rt)?.as_micros();
-    let begin = Instant::now(rt)?;
-    let hash = hash_of(&second.0);
-    let hashed = begin.elapsed(rt)?.as_micros();
+    let (is_equal, equal) = timed!(rt, first.0 == second.0);
+    anyhow::ensure!(is_equal, "records that are not equal");
+    let (hash, hashed) = timed!(rt, hash_of(&second.0));
     anyhow::ensure!(hash == hash_of(&first.0), "equal records with two hashes");
-    let begin = Instant::now(rt)?;
-    anyhow::ensure!(
-        order_of(&first, &second) == Ordering::Equal,
-        "records that differ"
-    );
-    let compared = begin.elapsed(rt)?.as_micros();
-    let begin = Instant::now(rt)?;
-    anyhow::ensure!(
-        order_of(&first, &other) == Ordering::Less,
-        "a greater option, and not less"
-    );
-    let apart = begin.elapsed(rt)?.as_micros();
-    let begin = Instant::now(rt)?;
-    let sum = sum_of(&second.0);
-    let canonical = begin.elapsed(rt)?.as_micros();
-    let begin = Instant::now(rt)?;
-    let last = second.0.octet_at((u128::from(count) * 4).wrapping_sub(1));
-    let at = begin.elapsed(rt)?.as_micros();
-    println!(rt;
-        "{order}\t{read}\t{equal}\t{hashed}\t{compared}\t{apart}\t{canonical}\t{at}\t{sum} {}",
-        last.is_some()
-    )?;
+    let (tied, compared) = timed!(rt, first.0.cmp(&second.0));
+    anyhow::ensure!(tied.is_eq(), "records that differ");
+    let (least, apart) = timed!(rt, first.0.cmp(&other.0));
+    anyhow::ensure!(least.is_lt(), "a greater option, and not less");
+    let (sum, canonical) = timed!(rt, sum_of(&second.0));
+    let place = (u128::from(count) * 4).wrapping_sub(1);
+    let (last, at) = timed!(rt, second.0.octet_at(place));
+    print!(rt; "{order}")?;
+    for time in [read, equal, hashed, compared, apart, canonical, at] {
+        print!(rt; "\t{}", time.as_micros())?;
+    }
+    println!(rt; "\t{sum} {}", last.is_some())?;
     Ok(())
 }
 

@@ -15,18 +15,6 @@ pub fn text_row(line: &str) -> Result<(RecordType, &str)> {
     Ok((kind.parse::<RecordType>()?, text))
 }
 
-/// The value of a text as a zone file has it.
-fn zone_value(
-    alloc: Global,
-    record_type: RecordType,
-    text: &str,
-) -> std::result::Result<Held, ParseError> {
-    match from_zone_text(alloc, record_type, text.as_bytes(), None) {
-        Ok(value) => Ok(Held(value)),
-        Err(e) => Err(e),
-    }
-}
-
 // The value of a text, as a zone file has it or as hickory-proto reads it.
 fn value(
     alloc: Global,
@@ -35,7 +23,7 @@ fn value(
     is_zone: bool,
 ) -> std::result::Result<Held, ParseError> {
     if is_zone {
-        zone_value(alloc, record_type, text)
+        Ok(Held(from_zone_text(alloc, record_type, text.as_bytes(), None)?))
     } else {
         Held::parse(alloc, record_type, text)
     }
@@ -70,11 +58,8 @@ fn measure_form(
     let part = rounds / PARTS;
     let mut least = u128::MAX;
     for _ in 0..PARTS {
-        let begin = Instant::now(rt)?;
-        parses(rt.alloc(), record_type, text, is_zone, part)?;
-        least = least.min(
-            begin.elapsed(rt)?.as_nanos().saturating_mul(10) / u128::from(part.max(1)),
-        );
+        let (_, time) = timed!(rt, parses(rt.alloc(), record_type, text, is_zone, part)?);
+        least = least.min(time.as_nanos().saturating_mul(10) / u128::from(part.max(1)));
     }
     print!(rt; "{}.{}", least / 10, least % 10)?;
     Ok(())

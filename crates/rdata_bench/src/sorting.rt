@@ -47,13 +47,12 @@ pub fn measure_sorting(rt: &(impl Clock + AllocGlobal + Print)) -> Result<()> {
     for number in 0..COUNT {
         records.0.push(record(rt.alloc(), number)?)?;
     }
-    let begin = Instant::now(rt)?;
-    records.0.sort_unstable();
-    let time = begin.elapsed(rt)?.as_millis();
-    anyhow::ensure!(
-        records.0.windows(2).all(|two| two[0] <= two[1]),
-        "not in order"
-    );
-    println!(rt; "{COUNT} records of four types sorted in {time} ms")?;
+    let (_, time) = timed!(rt, records.0.sort_unstable());
+    let is_sorted = records.0.windows(2).all(|two| two[0] <= two[1]);
+    anyhow::ensure!(is_sorted, "not in order");
+    println!(rt;
+        "{COUNT} records of four types sorted in {} ms",
+        time.as_millis()
+    )?;
     Ok(())
 }

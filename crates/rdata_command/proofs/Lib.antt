@@ -1,3 +1,1 @@
 pub mod Words
-pub mod Parses
-pub mod Compares

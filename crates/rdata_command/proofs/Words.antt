@@ -1,4 +1,4 @@
--- Words that are numbers and types.
+-- Words that are numbers and types, and what words do not ask for.
 use Rattle.std.proofs.Common.{◌≡◌, ℕ, ◌<◌, ◌≤◌, ◌^◌, ◌==◌, false, List, [], ◌∷◌, length, get_or, Result, Ok, Err, MatchOption, refl, sym, ap, ◌∙◌}
 use Rattle.std.proofs.Common.{subst, arith, slice_index, codes, inr, ⊎_elim}
 use Rattle.std.specs.{Result.result_ok, Str.Parse.IsNumeral, Str.Parse.digits_value, Str.Parse.ParsesUnsigned, Str.Parse.without_leading_plus}
@@ -6,6 +6,7 @@ use Rattle.std.proofs.{lemmas.Int.Digits.digits_value-lt, Math.Nat.pow-le-pow_ri
 use Rattle.dns_types.specs.{declared.error.DecodeError.DecodeError, declared.record_type.RecordType.RecordType}
 use Rattle.dns_types.specs.RecordTypes.{record_type_of, ReadsType}
 use Rattle.rdata_command.specs.Request.{IsNumberWord, IsTypeWord, IsOctetsWord, Asks, NoRequest}
+use Rattle.rdata_command.specs.{Parsing.AsksText, Parsing.NoTextRequest, Comparing.AsksOrder, Comparing.NoOrderRequest}
 
 -- a number of five digits is below 100000
 few_digits : (w : List ℕ) → IsNumeral 10 w → length w ≤ 5 → digits_value 10 w < 2 ^ 32
@@ -29,16 +30,23 @@ pub type_read : (w : List ℕ) (r : Result RecordType DecodeError) → ReadsType
 type_read w (Ok t) h none = inr h.0
 type_read w (Err e) h none = λ t is. ⊎_elim (λ (k : (n : ℕ) × IsNumberWord w n × (n < 65536) × (t ≡ record_type_of n)). none k.0 k.1 k.2) (λ k. h.1 t k) is
 
--- five elements, each by its place
+-- three elements, four and five, each by its place
+pub three_items : {X : Type 0} (xs : List X) (a b c : X) → 3 ≤ length xs → length xs < 4 → a ≡ get_or xs 0 a → b ≡ get_or xs 1 b → c ≡ get_or xs 2 c → xs ≡ a ∷ b ∷ c ∷ []
+three_items [] a b c h k _ _ _ = absurd (omega arith)
+three_items (v ∷ []) a b c h k _ _ _ = absurd (omega arith)
+three_items (v ∷ w ∷ []) a b c h k _ _ _ = absurd (omega arith)
+three_items (v ∷ w ∷ x ∷ []) a b c h k p q r = cc
+three_items (v ∷ w ∷ x ∷ y ∷ xs) a b c h k _ _ _ = absurd (omega arith)
+
+pub four_items : {X : Type 0} (xs : List X) (a b c d : X) → 4 ≤ length xs → length xs < 5 → a ≡ get_or xs 0 a → b ≡ get_or xs 1 b → c ≡ get_or xs 2 c
+    → d ≡ get_or xs 3 d → xs ≡ a ∷ b ∷ c ∷ d ∷ []
+four_items [] a b c d h k _ _ _ _ = absurd (omega arith)
+four_items (v ∷ xs) a b c d h k p q r s = let rest = three_items xs b c d (omega arith) (omega arith) q r s in cc
+
 pub five_items : {X : Type 0} (xs : List X) (a b c d e : X) → 5 ≤ length xs → length xs < 6 → a ≡ get_or xs 0 a → b ≡ get_or xs 1 b → c ≡ get_or xs 2 c
     → d ≡ get_or xs 3 d → e ≡ get_or xs 4 e → xs ≡ a ∷ b ∷ c ∷ d ∷ e ∷ []
 five_items [] a b c d e h k _ _ _ _ _ = absurd (omega arith)
-five_items (v ∷ []) a b c d e h k _ _ _ _ _ = absurd (omega arith)
-five_items (v ∷ w ∷ []) a b c d e h k _ _ _ _ _ = absurd (omega arith)
-five_items (v ∷ w ∷ x ∷ []) a b c d e h k _ _ _ _ _ = absurd (omega arith)
-five_items (v ∷ w ∷ x ∷ y ∷ []) a b c d e h k _ _ _ _ _ = absurd (omega arith)
-five_items (v ∷ w ∷ x ∷ y ∷ z ∷ []) a b c d e h k p q r s t = cc
-five_items (v ∷ w ∷ x ∷ y ∷ z ∷ u ∷ xs) a b c d e h k _ _ _ _ _ = absurd (omega arith)
+five_items (v ∷ xs) a b c d e h k p q r s t = let rest = four_items xs b c d e (omega arith) (omega arith) q r s t in cc
 
 -- ---- words that ask for nothing
 
@@ -61,3 +69,27 @@ module _ {words : List (List ℕ)} {a b c d : List ℕ} (is : ReadWords words a 
 
   pub no_octets : ((m : List ℕ) → ¬ (IsOctetsWord d m)) → NoRequest words
   no_octets none = record { none = λ t p n m k. none m (subst (λ (w : List ℕ). IsOctetsWord w m) (same_words k).3 k.octets_are) }
+
+-- ---- or for no text
+
+pub no_text_type : {words : List (List ℕ)} {a b : List ℕ} → words ≡ codes "parse" ∷ a ∷ b ∷ [] → ((t : RecordType) → ¬ (IsTypeWord a t)) → NoTextRequest words
+no_text_type {words} {a} {b} is none = record { none = λ t text k. let e : words ≡ codes "parse" ∷ k.type_word ∷ text ∷ [] = k.spelled in let same : k.type_word ≡ a = cc in none t (subst (λ (w : List ℕ). IsTypeWord w t) same k.type_is) }
+
+-- ---- or for no order
+
+abbrev pub CompareWords : List (List ℕ) → List ℕ → List ℕ → List ℕ → Type 0
+CompareWords words a b c = words ≡ codes "cmp" ∷ a ∷ b ∷ c ∷ []
+
+module _ {words : List (List ℕ)} {a b c : List ℕ} (is : CompareWords words a b c) where
+  same_order_words : {t : RecordType} {left right : List ℕ} (k : AsksOrder words t left right)
+      → (k.type_word ≡ a) × (k.left_word ≡ b) × (k.right_word ≡ c)
+  same_order_words k = let e : CompareWords words k.type_word k.left_word k.right_word = k.spelled in (cc, cc, cc)
+
+  pub no_order_type : ((t : RecordType) → ¬ (IsTypeWord a t)) → NoOrderRequest words
+  no_order_type none = record { none = λ t left right k. none t (subst (λ (w : List ℕ). IsTypeWord w t) (same_order_words k).0 k.type_is) }
+
+  pub no_left : ((m : List ℕ) → ¬ (IsOctetsWord b m)) → NoOrderRequest words
+  no_left none = record { none = λ t left right k. none left (subst (λ (w : List ℕ). IsOctetsWord w left) (same_order_words k).1 k.left_is) }
+
+  pub no_right : ((m : List ℕ) → ¬ (IsOctetsWord c m)) → NoOrderRequest words
+  no_right none = record { none = λ t left right k. none right (subst (λ (w : List ℕ). IsOctetsWord w right) (same_order_words k).2 k.right_is) }

@@ -2,7 +2,6 @@
 
 ghost use Rattle.std.specs.Prelude.{◌≡◌, ◌⊎◌, ◌<◌, [], ◌∷◌, codes, length as size, IfOk, IfErr, MatchOption};
 ghost use Rattle.dns_names_wire.specs.Words.{UnlessMemory};
-ghost use Rattle.dns_rdata.specs.Data.{Fills, NoValue};
 ghost use Rattle.std.specs.Io.KnownBytes.{Appends};
 ghost use Rattle.rdata_command.specs.Request.{texts};
 ghost use Rattle.rdata_command.specs.Comparing.{NotCompare, AsksOrder, NoOrderRequest, HasOrder, PrintedOrder, NoOrder, order_line};
@@ -10,7 +9,6 @@ ghost use Rattle.rdata_command.specs.Comparing.{NotCompare, AsksOrder, NoOrderRe
 use crate::report::{read_at, say};
 use crate::request::{octets, record_type};
 use dns_rdata::{DecodeError, RecordType};
-use held_data::Held;
 use std::alloc::{AllocError, Global};
 use std::cmp::Ordering;
 use std::io;
@@ -78,15 +76,6 @@ fn order_text(order: Ordering) -> &'static str
     }
 }
 
-// The value that a whole message is of.
-fn whole(alloc: Global, message: &[u8], record_type: RecordType) -> Result<Held, DecodeError>
-    requires { size message.now < 65536 }
-    ensures found { IfOk result (λ v. Fills message.now 0 (size message.now) record_type v.0) }
-    ensures refused { IfErr result (λ e. UnlessMemory e (NoValue message.now 0 (size message.now) record_type)) }
-{
-    read_at(alloc, message, 0, record_type, message.len() as u16)
-}
-
 // The order of the values, of which the left one is read first.
 fn order_of(alloc: Global, pair: &Pair) -> Result<Ordering, DecodeError>
     requires left { size pair.now.left.items < 65536 }
@@ -94,8 +83,9 @@ fn order_of(alloc: Global, pair: &Pair) -> Result<Ordering, DecodeError>
     ensures found { IfOk result (λ o. HasOrder pair.now.record_type pair.now.left.items pair.now.right.items o) }
     ensures refused { IfErr result (λ e. UnlessMemory e (NoOrder pair.now.record_type pair.now.left.items pair.now.right.items)) }
 {
-    let value = whole(alloc, pair.left.as_slice(), pair.record_type)?;
-    let other = whole(alloc, pair.right.as_slice(), pair.record_type)?;
+    let (left, right) = (pair.left.as_slice(), pair.right.as_slice());
+    let value = read_at(alloc, left, 0, pair.record_type, left.len() as u16)?;
+    let other = read_at(alloc, right, 0, pair.record_type, right.len() as u16)?;
     Ok(value.0.cmp(&other.0))
 }
 

@@ -9,7 +9,6 @@ mod made_certs;
 mod made_services;
 mod made_sets;
 mod options;
-mod placed;
 mod reading;
 mod services;
 mod values;
@@ -19,14 +18,12 @@ use std::alloc::Global;
 
 /// What a command with its words answers.
 pub fn answer(alloc: Global, command: &str, words: &[String]) -> Result<String> {
-    match words {
-        [] => answer_to_none(alloc, command),
-        [word] => answer_to_one(alloc, command, word.as_str()),
-        [first, second] => answer_to_two(alloc, command, first.as_str(), second.as_str()),
-        _ => match command {
-            "little-room" => reading::little_room(alloc, words),
-            _ => bail!("too many words"),
-        },
+    match (command, words) {
+        ("little-room", _) => reading::little_room(alloc, words),
+        (_, []) => answer_to_none(alloc, command),
+        (_, [word]) => answer_to_one(alloc, command, word.as_str()),
+        (_, [first, second]) => answer_to_two(alloc, command, first.as_str(), second.as_str()),
+        _ => bail!("too many words"),
     }
 }
 
@@ -46,27 +43,15 @@ fn answer_to_one(alloc: Global, command: &str, word: &str) -> Result<String> {
         "emitted" => values::emitted(alloc, word),
         "printed" => values::printed(alloc, word),
         "told" => values::told(alloc, word),
-        "canonical" => placed::canonical(alloc, word),
+        "canonical" => values::canonical(alloc, word),
         "naptr" => reading::naptr(alloc, word),
         "flags" => reading::flags(alloc, word),
-        _ => answer_of_records(alloc, command, word),
-    }
-}
-
-fn answer_of_records(alloc: Global, command: &str, word: &str) -> Result<String> {
-    match command {
         "base64" => made_certs::base64(alloc, word),
         "hex" => made_certs::decoded(alloc, word),
         "issuer" => made_sets::issuer_of(alloc, word),
         "url" => made_sets::url_of(alloc, word),
         "set" => made_sets::set(alloc, word),
         "shortest" => made_sets::shortest(alloc, word),
-        _ => answer_of_lists(alloc, command, word),
-    }
-}
-
-fn answer_of_lists(alloc: Global, command: &str, word: &str) -> Result<String> {
-    match command {
         "list" => lists::list(alloc, word),
         "strings" => lists::strings(alloc, word),
         "sorted" => lists::sorted(alloc, word),
@@ -86,19 +71,13 @@ fn answer_to_two(alloc: Global, command: &str, first: &str, second: &str) -> Res
     match command {
         "compare" => values::compare(alloc, first, second),
         "cursors" => values::cursors(alloc, first, second),
-        "octet" => placed::octet(alloc, first, second),
+        "octet" => values::octet(alloc, first, second),
         "refusal" => reading::refusal(alloc, first, second),
         "lengths" => reading::lengths(alloc, first, second),
         "are-words" => reading::are_words(alloc, first, second),
         "is-long-text" => reading::is_long_text(alloc, first, second),
         "is-text" => reading::is_text(alloc, first, second),
         "unread" => reading::unread(alloc, first, second),
-        _ => answer_of_two(alloc, command, first, second),
-    }
-}
-
-fn answer_of_two(alloc: Global, command: &str, first: &str, second: &str) -> Result<String> {
-    match command {
         "set-issuer" => made_sets::set_issuer(alloc, first, second),
         "set-url" => made_sets::set_url(alloc, first, second),
         "same-sets" => made_sets::same_sets(alloc, first, second),
@@ -107,7 +86,6 @@ fn answer_of_two(alloc: Global, command: &str, first: &str, second: &str) -> Res
         "found" => lists::found(alloc, first, second),
         "front" => services::front(alloc, first, second),
         "parameter" => services::parameter(alloc, first, second),
-        "hints" => services::hints(alloc, first, second),
         _ => bail!("no such command"),
     }
 }

@@ -20,9 +20,11 @@ mod given;
 mod making;
 mod numbers;
 
+use crate::shared;
 use anyhow::{Result, bail};
 use replay::fields_of;
 use std::alloc::Global;
+use std::fmt::Debug;
 use std::io;
 use std::io::{BufRead, BufReader, Write};
 
@@ -48,6 +50,12 @@ impl Marks<'_> {
     pub fn end(&self) -> Result<()> {
         Ok(io::writer(self.rt).write_all(b"requests end\n")?)
     }
+
+    /// Writes the mark behind a call, and shows what it answered.
+    pub fn shown<T: Debug + Drop>(&self, answer: T) -> Result<String> {
+        self.end()?;
+        shared::shown(self.alloc(), answer)
+    }
 }
 
 // What a call with its words answers.
@@ -66,12 +74,6 @@ fn answer_to_one(marks: &Marks<'_>, call: &str, text: &str) -> Result<String> {
         "to_string" | "cert_base64" => making::text(marks, call, text),
         "canonical_octets" | "octet_at" => asking::octets(marks, call, text),
         "numbers" => numbers::numbers(marks, text),
-        _ => answer_to_text(marks, call, text),
-    }
-}
-
-fn answer_to_text(marks: &Marks<'_>, call: &str, text: &str) -> Result<String> {
-    match call {
         "new_issue" | "new_issuewild" => making::issuer(marks, call, text),
         "new_iodef" => making::location(marks, text),
         "types" => making::types(marks, text),
@@ -79,8 +81,8 @@ fn answer_to_text(marks: &Marks<'_>, call: &str, text: &str) -> Result<String> {
         "key_values" => changing::keys(marks, text),
         "codes" => changing::last_code(marks, text),
         "set_subnet" => changing::set_subnet(marks, text),
-        "A" | "AAAA" | "IpNet" | "ClientSubnet" => numbers::of_address(marks, call, text),
-        "RecordType" | "SvcParamKey" | "ttl" | "flags" => numbers::of_word(marks, call, text),
+        "A" | "AAAA" | "IpNet" | "ClientSubnet" => numbers::parsed(marks, call, text),
+        "RecordType" | "SvcParamKey" | "ttl" | "flags" => numbers::parsed(marks, call, text),
         _ => making::octets(marks, call, text),
     }
 }

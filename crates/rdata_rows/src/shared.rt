@@ -7,7 +7,13 @@ use dns_rdata::{
     RecordType, Restrict,
 };
 use std::alloc::Global;
+use std::fmt::Debug;
 use std::hash::{DefaultHasher, Hash, Hasher};
+
+/// An answer as `Debug` prints it.
+pub fn shown<T: Debug + Drop>(alloc: Global, answer: T) -> Result<String> {
+    Ok(format!(in alloc; "{answer:?}")?)
+}
 
 /// The record whose data is all of the octets, of which at most 65535 count.
 pub fn record<T: RecordDataDecodable>(alloc: Global, octets: &[u8]) -> Result<T, DecodeError> {

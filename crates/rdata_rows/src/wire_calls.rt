@@ -6,30 +6,25 @@ mod exchange;
 mod labels;
 mod names;
 mod octets;
+mod texts;
 mod types;
 mod wire;
-mod words;
-mod zone_texts;
 
+use crate::shared::shown;
 use anyhow::{Result, bail};
+use dns_text::{parse_ttl, read_item, read_list, text_words};
 use std::alloc::Global;
 
 /// What a command with its words answers.
 pub fn answer(alloc: Global, command: &str, words: &[String]) -> Result<String> {
-    match command {
-        "write" => labels::write(alloc, words),
-        "name" => names::steps(alloc, words),
-        "decode" => wire::decode(alloc, words),
-        "encode" => wire::encode(alloc, words),
-        _ => answer_to_few(alloc, command, words),
-    }
-}
-
-fn answer_to_few(alloc: Global, command: &str, words: &[String]) -> Result<String> {
-    match words {
-        [] => answer_to_none(alloc, command),
-        [word] => answer_to_one(alloc, command, word.as_str()),
-        [first, second] => answer_to_two(alloc, command, first.as_str(), second.as_str()),
+    match (command, words) {
+        ("write", _) => labels::write(alloc, words),
+        ("name", _) => names::steps(alloc, words),
+        ("decode", _) => wire::decode(alloc, words),
+        ("encode", _) => wire::encode(alloc, words),
+        (_, []) => answer_to_none(alloc, command),
+        (_, [word]) => answer_to_one(alloc, command, word.as_str()),
+        (_, [first, second]) => answer_to_two(alloc, command, first.as_str(), second.as_str()),
         _ => bail!("too many words"),
     }
 }
@@ -40,7 +35,7 @@ fn answer_to_none(alloc: Global, command: &str) -> Result<String> {
         "errors" => types::errors(alloc),
         "restrict" => types::restrict(alloc),
         "strings" => octets::strings(alloc),
-        "numbers" => words::numbers(alloc),
+        "numbers" => texts::numbers(alloc),
         _ => bail!("no such command"),
     }
 }
@@ -50,12 +45,12 @@ fn answer_to_one(alloc: Global, command: &str, word: &str) -> Result<String> {
         "text" => labels::text(alloc, word),
         "octets" => octets::keep(alloc, word),
         "type" => types::text(alloc, word),
-        "tokens" => zone_texts::tokens(alloc, word),
-        "words" => zone_texts::words(alloc, word),
-        "list" => zone_texts::list(alloc, word),
-        "item" => zone_texts::item(alloc, word),
-        "ttl" => zone_texts::ttl(alloc, word),
-        "base64" => words::base64(alloc, word),
+        "tokens" => texts::tokens(alloc, word),
+        "words" => shown(alloc, text_words(alloc, word).ok()),
+        "list" => shown(alloc, read_list(alloc, word).ok()),
+        "item" => shown(alloc, read_item(alloc, word).ok()),
+        "ttl" => shown(alloc, parse_ttl(word).ok()),
+        "base64" => texts::base64(alloc, word),
         _ => bail!("no such command"),
     }
 }
@@ -67,7 +62,7 @@ fn answer_to_two(alloc: Global, command: &str, first: &str, second: &str) -> Res
         "zone" => names::zone(alloc, first, second),
         "octet" => names::octet(alloc, first, second),
         "same" => octets::same(alloc, first, second),
-        "first" => words::first(alloc, first, second),
+        "first" => texts::first(alloc, first, second),
         _ => bail!("no such command"),
     }
 }

@@ -7,17 +7,6 @@ use dns_rdata::{Octets, SVCB, SmallOctets, Strings};
 use replay::octets;
 use std::alloc::{AllocError, Global};
 
-// How many of the octets are zero.
-fn zeros(octets: &SmallOctets<4>) -> usize {
-    let mut count = 0usize;
-    for octet in octets {
-        if *octet == 0 {
-            count = count.saturating_add(1);
-        }
-    }
-    count
-}
-
 /// How many octets there are, the second and the last, how many are zero, and whether both kinds of lists are the slice.
 pub fn list(alloc: Global, digits: &str) -> Result<String> {
     let plain = octets(alloc, digits)?;
@@ -27,7 +16,12 @@ pub fn list(alloc: Global, digits: &str) -> Result<String> {
     let small = SmallOctets::<4>::from(Vec::from(octets));
     let same = same && small.eq_slice(plain.as_slice());
     let second = small.get(1).copied();
-    let zeros = zeros(&small);
+    let mut zeros = 0usize;
+    for octet in &small {
+        if *octet == 0 {
+            zeros = zeros.saturating_add(1);
+        }
+    }
     Ok(format!(in alloc; "{} {second:?} {last:?} {zeros} {same}", small.len())?)
 }
 

@@ -34,11 +34,13 @@ fn machine_of_octets(alloc: Global, text: &str) -> Result<Held> {
     Ok(Held(RData::HINFO(HINFO::from_bytes(cpu, os))))
 }
 
-// A text of one string.
-fn string(alloc: Global, text: &str) -> Result<Held, AllocError> {
+// A string, or a key.
+fn of_one_text(alloc: Global, kind: &str, text: &str) -> Result<Held, AllocError> {
     let text = String::from_str(alloc, text)?;
-    let data = TXT::new(vec![in alloc; text]?)?;
-    Ok(Held(RData::TXT(data)))
+    Ok(Held(match kind {
+        "txt" => RData::TXT(TXT::new(vec![in alloc; text]?)?),
+        _ => RData::OPENPGPKEY(OPENPGPKEY::new(text.into_bytes())),
+    }))
 }
 
 // Strings, with a comma between each two. A dash is none.
@@ -50,11 +52,6 @@ fn strings(alloc: Global, text: &str) -> Result<Held, AllocError> {
         }
     }
     Ok(Held(RData::TXT(TXT::from_bytes(all)?)))
-}
-
-fn key(alloc: Global, text: &str) -> Result<Held, AllocError> {
-    let data = OPENPGPKEY::new(Vec::from_slice(alloc, text.as_bytes())?);
-    Ok(Held(RData::OPENPGPKEY(data)))
 }
 
 // Octets that have no form.
@@ -70,10 +67,6 @@ fn mail(alloc: Global, text: &str) -> Result<Held> {
     let preference = preference.parse::<u16>()?;
     let host = Name::from_ascii(alloc, host)?;
     Ok(Held(RData::MX(MX::new(preference, host))))
-}
-
-fn alias(alloc: Global, text: &str) -> Result<Held> {
-    Ok(Held(RData::CNAME(CNAME(Name::from_ascii(alloc, text)?))))
 }
 
 // The start of a zone of the greatest numbers, `NAME NAME`.
@@ -94,31 +87,6 @@ fn zone_of_octets(alloc: Global, text: &str) -> Result<Held> {
     Ok(Held(RData::SOA(soa)))
 }
 
-fn of_names(alloc: Global, kind: &str, text: &str) -> Result<Held> {
-    match kind {
-        "mx" => mail(alloc, text),
-        "cname" => alias(alloc, text),
-        "soa" => zone(alloc, text),
-        "soa-octets" => zone_of_octets(alloc, text),
-        "update" => Ok(Held(RData::Update0(record_type(text)?))),
-        "a" | "four" | "six" | "address" => of_address(kind, text),
-        _ => anyhow::bail!("no such value"),
-    }
-}
-
-// A value of strings or of octets.
-fn of_strings(alloc: Global, kind: &str, text: &str) -> Result<Held> {
-    match kind {
-        "hinfo" => machine(alloc, text),
-        "hinfo-octets" => machine_of_octets(alloc, text),
-        "txt" => Ok(string(alloc, text)?),
-        "txt-octets" => Ok(strings(alloc, text)?),
-        "openpgpkey" => Ok(key(alloc, text)?),
-        "null" => null(alloc, text),
-        _ => of_names(alloc, kind, text),
-    }
-}
-
 /// The value of a kind and a text.
 pub fn value(alloc: Global, kind: &str, text: &str) -> Result<Held> {
     match kind {
@@ -128,6 +96,17 @@ pub fn value(alloc: Global, kind: &str, text: &str) -> Result<Held> {
         "issue" | "issuewild" => made_sets::issue(alloc, kind, text),
         "csync" => made_sets::synchronized(alloc, text),
         "service" => made_services::service(alloc, text),
-        _ => of_strings(alloc, kind, text),
+        "hinfo" => machine(alloc, text),
+        "hinfo-octets" => machine_of_octets(alloc, text),
+        "txt" | "openpgpkey" => Ok(of_one_text(alloc, kind, text)?),
+        "txt-octets" => Ok(strings(alloc, text)?),
+        "null" => null(alloc, text),
+        "mx" => mail(alloc, text),
+        "cname" => Ok(Held(RData::CNAME(CNAME(Name::from_ascii(alloc, text)?)))),
+        "soa" => zone(alloc, text),
+        "soa-octets" => zone_of_octets(alloc, text),
+        "update" => Ok(Held(RData::Update0(record_type(text)?))),
+        "a" | "four" | "six" | "address" => of_address(kind, text),
+        _ => anyhow::bail!("no such value"),
     }
 }

@@ -19,18 +19,11 @@ fn key(text: &str) -> Result<SvcParamKey> {
 fn held(alloc: Global, kind: &str, text: &str) -> Result<SvcParamValue> {
     match kind {
         "port" => Ok(SvcParamValue::Port(text.parse::<u16>()?)),
-        "path" => {
-            let path = String::from_str(alloc, text)?;
-            Ok(SvcParamValue::DohPath(DohPath::new(path)))
-        }
+        "path" => Ok(SvcParamValue::DohPath(DohPath::new(String::from_str(alloc, text)?))),
         "path-octets" => {
-            let octets = SmallOctets::from_vec(octets(alloc, text)?);
-            Ok(SvcParamValue::DohPath(DohPath(octets)))
+            Ok(SvcParamValue::DohPath(DohPath(SmallOctets::from_vec(octets(alloc, text)?))))
         }
-        _ => {
-            let octets = Octets::from_vec(octets(alloc, text)?);
-            Ok(SvcParamValue::Unknown(Unknown(octets)))
-        }
+        _ => Ok(SvcParamValue::Unknown(Unknown(Octets::from_vec(octets(alloc, text)?)))),
     }
 }
 

@@ -1,8 +1,7 @@
 //! Options of OPT.
 
-use crate::shared::{emitted_digits, record};
+use crate::shared::{emitted_digits, record, shown};
 use anyhow::{Context, Result};
-use dns_rdata::ProtoError;
 use dns_rdata::opt::{ClientSubnet, EdnsCode, EdnsOption, IpNet, NSIDPayload, OPT};
 use dns_rdata_options::order::opt_order;
 use dns_rdata_options::steps::opt_is_emittable;
@@ -27,21 +26,14 @@ pub fn order(alloc: Global, left: &str, right: &str) -> Result<String> {
         opt_is_emittable(&left) && opt_is_emittable(&right),
         "not emitted"
     );
-    let order = opt_order(&left, &right);
-    Ok(format!(in alloc; "{order:?}")?)
-}
-
-// A cookie, and the name of a server.
-fn inserted(alloc: Global) -> Result<OPT, ProtoError> {
-    let mut opt = OPT::default(alloc);
-    opt.insert(EdnsOption::try_from(alloc, (EdnsCode::Cookie, b"\x05"))?)?;
-    opt.insert(EdnsOption::NSID(NSIDPayload::try_from(alloc, b"\xc0\xff\xee")?))?;
-    Ok(opt)
+    shown(alloc, opt_order(&left, &right))
 }
 
 /// The octets of a cookie of octet 5 and of the name c0ffee of a server, and those without the cookie.
 pub fn insert(alloc: Global) -> Result<String> {
-    let mut opt = inserted(alloc)?;
+    let mut opt = OPT::default(alloc);
+    opt.insert(EdnsOption::try_from(alloc, (EdnsCode::Cookie, b"\x05"))?)?;
+    opt.insert(EdnsOption::NSID(NSIDPayload::try_from(alloc, b"\xc0\xff\xee")?))?;
     let mut shown = emitted_digits(alloc, &opt)?;
     opt.remove(EdnsCode::Cookie);
     shown.push(' ')?;
@@ -75,8 +67,8 @@ pub fn net(alloc: Global, text: &str) -> Result<String> {
     let (address, length) = text.split_once(' ').context("a length")?;
     let (address, length) = (address.parse::<IpAddr>()?, length.parse::<u8>()?);
     let net = IpNet::new(address, length);
-    let same = net.map(ClientSubnet::from) == Some(ClientSubnet::new(address, length, 0));
-    Ok(format!(in alloc; "{same}")?)
+    let made = ClientSubnet::new(address, length, 0);
+    shown(alloc, net.map(ClientSubnet::from) == Some(made))
 }
 
 /// Whether octets are read as a name of a server, and whether they make one.

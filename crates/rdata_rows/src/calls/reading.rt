@@ -1,5 +1,6 @@
 //! Octets and texts that are read or refused.
 
+use crate::shared::shown;
 use anyhow::{Context, Result};
 use dns_rdata::{BinDecodable, BinDecoder, DecodeError, NAPTR, RecordType, verify_flags};
 use held_data::{Held, record_type};
@@ -73,8 +74,7 @@ pub fn lengths(alloc: Global, kind: &str, digits: &str) -> Result<String> {
 pub fn is_text(alloc: Global, kind: &str, digits: &str) -> Result<String> {
     let octets = octets(alloc, digits)?;
     let text = std::str::from_utf8(octets.as_slice())?;
-    let read = Held::parse(alloc, record_type(kind)?, text).is_ok();
-    Ok(format!(in alloc; "{read}")?)
+    shown(alloc, Held::parse(alloc, record_type(kind)?, text).is_ok())
 }
 
 /// Whether 200,000 times an octet is the text of a value.
@@ -83,14 +83,15 @@ pub fn is_long_text(alloc: Global, kind: &str, digits: &str) -> Result<String> {
     let mut octets = Vec::with_capacity(alloc, 200000)?;
     octets.resize(200000, octet)?;
     let text = std::str::from_utf8(octets.as_slice())?;
-    let read = Held::parse(alloc, record_type(kind)?, text).is_ok();
-    Ok(format!(in alloc; "{read}")?)
+    shown(alloc, Held::parse(alloc, record_type(kind)?, text).is_ok())
 }
 
 /// Whether words are those of a value.
 pub fn are_words(alloc: Global, kind: &str, words: &str) -> Result<String> {
-    let read = Held::of_words(alloc, record_type(kind)?, words).is_ok();
-    Ok(format!(in alloc; "{read}")?)
+    shown(
+        alloc,
+        Held::of_words(alloc, record_type(kind)?, words).is_ok(),
+    )
 }
 
 /// Why words are refused, as the error and as its text, or `read`.
@@ -112,14 +113,12 @@ pub fn naptr(alloc: Global, digits: &str) -> Result<String> {
 
 /// Whether a text is flags of NAPTR.
 pub fn flags(alloc: Global, text: &str) -> Result<String> {
-    let valid = verify_flags(text.as_bytes());
-    Ok(format!(in alloc; "{valid}")?)
+    shown(alloc, verify_flags(text.as_bytes()))
 }
 
 /// The status of the program with a writer that has room for 5 octets.
 pub fn little_room(alloc: Global, words: &[String]) -> Result<String> {
     let mut room = [0u8; 5];
     let mut out = &mut room[..];
-    let status = run(alloc, words, &mut out);
-    Ok(format!(in alloc; "{status}")?)
+    shown(alloc, run(alloc, words, &mut out))
 }

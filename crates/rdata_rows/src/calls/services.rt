@@ -1,7 +1,6 @@
 //! Service bindings, and the values of their parameters.
 
-ghost use Rattle.std.specs.Prelude.{◌<◌};
-
+use crate::shared;
 use crate::shared::{emitted, emitted_digits, record};
 use anyhow::{Result, bail};
 use dns_rdata::svcb::{
@@ -23,90 +22,47 @@ pub fn front(alloc: Global, left: &str, right: &str) -> Result<String> {
     Ok(format!(in alloc; "{order:?} {alike}")?)
 }
 
-// The octets of a record of so many parameters without octets, from key 7 on.
-fn many(alloc: Global, count: u16) -> Result<Vec<u8>, AllocError>
-    requires { count < 16000 }
-{
+/// How many parameters a record has of so many without octets, from key 7 on.
+pub fn keys(alloc: Global, count: &str) -> Result<String> {
     let mut octets = Vec::new(alloc);
     octets.extend_from_slice(b"\x00\x01\x00")?;
-    for number in 7..count + 7 {
-        octets.extend_from_slice(&number.to_be_bytes())?;
+    for number in 0..count.parse::<u16>()?.min(15999) {
+        octets.extend_from_slice(&number.wrapping_add(7).to_be_bytes())?;
         octets.extend_from_slice(b"\x00\x00")?;
     }
-    Ok(octets)
+    shared::shown(
+        alloc,
+        record::<SVCB>(alloc, octets.as_slice())?.svc_params.len(),
+    )
 }
 
-/// How many parameters a record of so many has.
-pub fn keys(alloc: Global, count: &str) -> Result<String> {
-    let octets = many(alloc, count.parse::<u16>()?.min(15999))?;
-    let count = record::<SVCB>(alloc, octets.as_slice())?.svc_params.len();
-    Ok(format!(in alloc; "{count}")?)
-}
-
-// The text of the value that octets are read as to their end, and whether it is emitted as them.
-fn shown<T: BinDecodable + BinEncodable + fmt::Display + Drop>(
+// The text of a value, whether it is emitted as these octets, and whether a copy is equal.
+fn shown<T: BinEncodable + PartialEq + Clone + fmt::Display + Drop>(
     alloc: Global,
+    value: T,
     octets: &[u8],
 ) -> Result<String> {
-    let mut decoder = BinDecoder::new(alloc, octets);
-    let value = T::read(&mut decoder)?;
-    let is_kept = decoder.is_empty() && emitted(alloc, &value)?.as_slice() == octets;
-    Ok(format!(in alloc; "{value} {is_kept}")?)
-}
-
-// Whether a copy of what octets are read as is equal.
-fn is_copied<T: BinDecodable + PartialEq + Clone + Drop>(
-    alloc: Global,
-    octets: &[u8],
-) -> Result<bool> {
-    let value = T::read(&mut BinDecoder::new(alloc, octets))?;
-    Ok(value.clone()? == value)
-}
-
-fn copied(alloc: Global, kind: &str, octets: &[u8]) -> Result<bool> {
-    match kind {
-        "mandatory" => is_copied::<Mandatory>(alloc, octets),
-        "alpn" => is_copied::<Alpn>(alloc, octets),
-        "ech" => is_copied::<EchConfigList>(alloc, octets),
-        "dohpath" => is_copied::<DohPath>(alloc, octets),
-        _ => is_copied::<Unknown>(alloc, octets),
-    }
+    let is_kept = emitted(alloc, &value)?.as_slice() == octets;
+    let is_copied = value.clone()? == value;
+    Ok(format!(in alloc; "{value} {is_kept} {is_copied}")?)
 }
 
 /// The text of the value of a parameter, whether its octets are emitted again, and whether a copy is equal.
 pub fn parameter(alloc: Global, kind: &str, digits: &str) -> Result<String> {
     let octets = octets(alloc, digits)?;
     let octets = octets.as_slice();
-    let text = match kind {
-        "mandatory" => shown::<Mandatory>(alloc, octets)?,
-        "alpn" => shown::<Alpn>(alloc, octets)?,
-        "ech" => shown::<EchConfigList>(alloc, octets)?,
-        "dohpath" => shown::<DohPath>(alloc, octets)?,
-        "unknown" => shown::<Unknown>(alloc, octets)?,
-        _ => bail!("no such parameter"),
-    };
-    let copied = copied(alloc, kind, octets)?;
-    Ok(format!(in alloc; "{text} {copied}")?)
-}
-
-// The text of the hints that octets are, and whether they are emitted again.
-fn shown_hints<T: BinDecodable + TakesOctet + BinEncodable + fmt::Display + Drop>(
-    alloc: Global,
-    octets: &[u8],
-) -> Result<String> {
     let mut decoder = BinDecoder::new(alloc, octets);
-    let value = IpHint::<T>::read(&mut decoder)?;
-    let is_kept = emitted(alloc, &value)?.as_slice() == octets;
-    Ok(format!(in alloc; "{value} {is_kept}")?)
-}
-
-/// The text of hints, and whether their octets are emitted again.
-pub fn hints(alloc: Global, kind: &str, digits: &str) -> Result<String> {
-    let octets = octets(alloc, digits)?;
-    match kind {
-        "four" => shown_hints::<A>(alloc, octets.as_slice()),
-        _ => shown_hints::<AAAA>(alloc, octets.as_slice()),
-    }
+    let shown = match kind {
+        "mandatory" => shown(alloc, Mandatory::read(&mut decoder)?, octets)?,
+        "alpn" => shown(alloc, Alpn::read(&mut decoder)?, octets)?,
+        "ech" => shown(alloc, EchConfigList::read(&mut decoder)?, octets)?,
+        "dohpath" => shown(alloc, DohPath::read(&mut decoder)?, octets)?,
+        "ipv4hint" => shown(alloc, IpHint::<A>::read(&mut decoder)?, octets)?,
+        "ipv6hint" => shown(alloc, IpHint::<AAAA>::read(&mut decoder)?, octets)?,
+        _ => shown(alloc, Unknown::read(&mut decoder)?, octets)?,
+    };
+    anyhow::ensure!(decoder.is_empty(), "octets are left");
+    Ok(shown)
 }
 
 // The protocols of names with a comma between each two. A dash is none.
@@ -123,10 +79,7 @@ fn protocols_of(alloc: Global, text: &str) -> Result<Alpn, AllocError> {
 /// The octets of protocols, or that they are refused.
 pub fn protocols(alloc: Global, text: &str) -> Result<String> {
     let alpn = protocols_of(alloc, text)?;
-    match emitted_digits(alloc, &alpn) {
-        Ok(digits) => Ok(digits),
-        Err(_) => Ok(String::from_str(alloc, "refused")?),
-    }
+    Ok(emitted_digits(alloc, &alpn).or(String::from_str(alloc, "refused"))?)
 }
 
 /// The names of the protocols in a word, each behind a stroke.

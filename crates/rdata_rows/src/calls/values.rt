@@ -10,29 +10,19 @@ use replay::{octets, parts};
 use std::alloc::{AllocError, Global};
 use std::cmp::Ordering;
 
-// The value whose data is a whole message, `TYPE:OCTETS`.
-fn read(alloc: Global, text: &str) -> Result<Held> {
-    let (kind, digits) = parts(text)?;
-    let message = octets(alloc, digits)?;
-    Ok(Held::whole(alloc, message.as_slice(), record_type(kind)?)?)
-}
-
-// The value of a zone's text that octets are, `TYPE:OCTETS`.
-fn of_text(alloc: Global, text: &str) -> Result<Held> {
-    let (kind, digits) = parts(text)?;
-    let octets = octets(alloc, digits)?;
-    let text = std::str::from_utf8(octets.as_slice())?;
-    Ok(Held::parse(alloc, record_type(kind)?, text)?)
-}
-
-// The value of a zone's text or of words, `TYPE:TEXT`.
-fn parsed(alloc: Global, kind: &str, text: &str) -> Result<Held> {
+// The value of a whole message, of a zone's text that is given or whose octets are, or of words.
+fn said(alloc: Global, kind: &str, text: &str) -> Result<Held> {
     let (record, text) = parts(text)?;
     let record = record_type(record)?;
-    if kind == "parse" {
-        Ok(Held::parse(alloc, record, text)?)
-    } else {
-        Ok(Held::of_words(alloc, record, text)?)
+    match kind {
+        "parse" => return Ok(Held::parse(alloc, record, text)?),
+        "words" => return Ok(Held::of_words(alloc, record, text)?),
+        _ => (),
+    }
+    let octets = octets(alloc, text)?;
+    match kind {
+        "read" => Ok(Held::whole(alloc, octets.as_slice(), record)?),
+        _ => Ok(Held::parse(alloc, record, std::str::from_utf8(octets.as_slice())?)?),
     }
 }
 
@@ -41,9 +31,7 @@ fn parsed(alloc: Global, kind: &str, text: &str) -> Result<Held> {
 pub fn value(alloc: Global, word: &str) -> Result<Held> {
     let (kind, text) = parts(word)?;
     match kind {
-        "read" => read(alloc, text),
-        "text" => of_text(alloc, text),
-        "parse" | "words" => parsed(alloc, kind, text),
+        "read" | "text" | "parse" | "words" => said(alloc, kind, text),
         _ => made::value(alloc, kind, text),
     }
 }
@@ -68,21 +56,15 @@ pub fn emitted(alloc: Global, word: &str) -> Result<String> {
 
 /// The text that is printed for a value, or `none`.
 pub fn printed(alloc: Global, word: &str) -> Result<String> {
-    match value(alloc, word)?.0.to_string(alloc) {
-        Ok(text) => Ok(text),
-        Err(_) => Ok(String::from_str(alloc, "none")?),
-    }
+    let text = value(alloc, word)?.0.to_string(alloc);
+    Ok(text.or(String::from_str(alloc, "none"))?)
 }
 
 /// A value's type, its address, and whether it is none of an update.
 pub fn told(alloc: Global, word: &str) -> Result<String> {
     let value = value(alloc, word)?;
-    let (kind, address, is_update) = (
-        value.0.record_type(),
-        value.0.ip_addr(),
-        value.0.is_update(),
-    );
-    Ok(format!(in alloc; "{kind} {address:?} {is_update}")?)
+    let (kind, address) = (value.0.record_type(), value.0.ip_addr());
+    Ok(format!(in alloc; "{kind} {address:?} {}", value.0.is_update())?)
 }
 
 /// The order of two values, whether they are equal, and whether they feed a hasher the same.
@@ -112,4 +94,43 @@ pub fn cursors(alloc: Global, left: &str, right: &str) -> Result<String> {
     let right = value(alloc, right)?;
     let (order, ahead, behind) = compared(&left.0, &right.0);
     Ok(format!(in alloc; "{order:?} {ahead:?} {behind:?}")?)
+}
+
+// What a cursor gives, which comes place by place too, and then nothing, again and again.
+fn given(alloc: Global, value: &RData) -> Result<Option<Vec<u8>>, AllocError> {
+    let mut octets = Vec::new(alloc);
+    let mut cursor = value.canonical_octets();
+    let mut place = 0u128;
+    for _ in 0..1000000 {
+        let octet = cursor.next();
+        if octet != value.octet_at(place) {
+            return Ok(None);
+        }
+        let Some(octet) = octet else {
+            break;
+        };
+        octets.push(octet)?;
+        place = place.saturating_add(1);
+    }
+    if cursor.next().is_some() {
+        return Ok(None);
+    }
+    Ok(Some(octets))
+}
+
+/// The canonical octets of a value.
+pub fn canonical(alloc: Global, word: &str) -> Result<String> {
+    let value = value(alloc, word)?;
+    match given(alloc, &value.0)? {
+        Some(octets) => Ok(hex::encode(alloc, octets.as_slice())?),
+        None => Ok(String::from_str(alloc, "otherwise")?),
+    }
+}
+
+/// The canonical octet at a place.
+pub fn octet(alloc: Global, word: &str, place: &str) -> Result<String> {
+    shared::shown(
+        alloc,
+        value(alloc, word)?.0.octet_at(place.parse::<u128>()?),
+    )
 }

@@ -6,21 +6,9 @@ use crate::shared::fed;
 use anyhow::Result;
 use dns_rdata::opt::EdnsCode;
 use dns_rdata::svcb::SvcParamKey;
-use dns_rdata::{A, HTTPS, MX, RData, RecordData, RecordType, SVCB};
+use dns_rdata::{A, HTTPS, MX, RData, RecordData, SVCB};
 use std::alloc::AllocError;
 use std::cmp::Ordering;
-use std::net::IpAddr;
-
-// What is answered without memory.
-#[derive(Clone, Copy, Debug)]
-enum Answer {
-    Order(Ordering),
-    Truth(bool),
-    Number(u64),
-    Kind(RecordType),
-    Address(Option<IpAddr>),
-    Nothing,
-}
 
 // The order of two values by their cursors.
 fn by_cursors(left: &RData, right: &RData) -> Ordering {
@@ -67,25 +55,15 @@ fn has_part(value: &RData) -> bool {
     }
 }
 
-// Which of five types lend the value, a bit for each.
-fn lent(value: &RData) -> u64 {
-    let mut lent = 0u64;
-    if A::try_borrow(value).is_some() {
-        lent |= 1;
-    }
-    if MX::try_borrow(value).is_some() {
-        lent |= 2;
-    }
-    if HTTPS::try_borrow(value).is_some() {
-        lent |= 4;
-    }
-    if SVCB::try_borrow(value).is_some() {
-        lent |= 8;
-    }
-    if RData::try_borrow(value).is_some() {
-        lent |= 16;
-    }
-    lent
+// Which of five types lend the value.
+fn lent(value: &RData) -> [bool; 5] {
+    [
+        A::try_borrow(value).is_some(),
+        MX::try_borrow(value).is_some(),
+        HTTPS::try_borrow(value).is_some(),
+        SVCB::try_borrow(value).is_some(),
+        RData::try_borrow(value).is_some(),
+    ]
 }
 
 // A number that a value's getters and what it lends give.
@@ -103,40 +81,29 @@ fn got(value: &RData) -> u64 {
     }
 }
 
-fn answer_of(call: &str, left: &RData, right: &RData) -> Answer {
-    match call {
-        "eq" => Answer::Truth(left == right),
-        "cmp" => Answer::Order(left.cmp(right)),
-        "partial_cmp" => match left.partial_cmp(right) {
-            Some(order) => Answer::Order(order),
-            None => Answer::Nothing,
-        },
-        "try_borrow" => Answer::Number(lent(left)),
-        "getters" => Answer::Number(got(left)),
-        "hash" => Answer::Number(fed(left)),
-        "compare" => Answer::Order(by_cursors(left, right)),
-        "record_type" => Answer::Kind(left.record_type()),
-        "ip_addr" => Answer::Address(left.ip_addr()),
-        "iter" => Answer::Number(parts(left)),
-        "get" => Answer::Truth(has_part(left)),
-        _ => Answer::Nothing,
-    }
-}
-
 fn ask_both(marks: &Marks<'_>, call: &str, left: &RData, right: &RData) -> Result<String> {
-    let answer = marked!(marks, answer_of(call, left, right));
-    Ok(format!(in marks.alloc(); "{answer:?}")?)
-}
-
-fn ask_beside(marks: &Marks<'_>, call: &str, left: &RData, right: &str) -> Result<String> {
-    let right = value(marks.alloc(), right)?;
-    ask_both(marks, call, left, &right.0)
+    marks.begin()?;
+    match call {
+        "eq" => marks.shown(left == right),
+        "cmp" => marks.shown(left.cmp(right)),
+        "partial_cmp" => marks.shown(left.partial_cmp(right)),
+        "try_borrow" => marks.shown(lent(left)),
+        "getters" => marks.shown(got(left)),
+        "hash" => marks.shown(fed(left)),
+        "compare" => marks.shown(by_cursors(left, right)),
+        "record_type" => marks.shown(left.record_type()),
+        "ip_addr" => marks.shown(left.ip_addr()),
+        "iter" => marks.shown(parts(left)),
+        "get" => marks.shown(has_part(left)),
+        _ => marks.shown("no such call"),
+    }
 }
 
 /// What two values are asked for together, or the first one alone.
 pub fn ask(marks: &Marks<'_>, call: &str, left: &str, right: &str) -> Result<String> {
     let left = value(marks.alloc(), left)?;
-    ask_beside(marks, call, &left.0, right)
+    let right = value(marks.alloc(), right)?;
+    ask_both(marks, call, &left.0, &right.0)
 }
 
 // Appends the canonical octets.

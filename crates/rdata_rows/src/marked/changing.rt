@@ -2,7 +2,7 @@
 
 use crate::marked::Marks;
 use crate::marked::given::record;
-use crate::shared::issuer;
+use crate::shared::{issuer, shown};
 use anyhow::Result;
 use dns_rdata::caa::{CAA, KeyValue, read_iodef};
 use dns_rdata::opt::{ClientSubnet, EdnsCode, EdnsOption, IpNet, OPT};
@@ -25,34 +25,25 @@ pub fn set_url(marks: &Marks<'_>, digits: &str, url: &str) -> Result<String> {
     Ok(format!(in marks.alloc(); "{result:?} {caa:?}")?)
 }
 
-// A list of options behind a call that changes it.
-fn insert(marks: &Marks<'_>, opt: &mut OPT, option: EdnsOption) -> Result<String> {
-    let result = marked!(marks, opt.insert(option));
-    Ok(format!(in marks.alloc(); "{result:?} {opt:?}")?)
-}
-
-fn remove(marks: &Marks<'_>, opt: &mut OPT, code: EdnsCode) -> Result<String> {
-    marked!(marks, opt.remove(code));
-    Ok(format!(in marks.alloc(); "{opt:?}")?)
-}
-
-fn get_all(marks: &Marks<'_>, opt: &OPT, code: EdnsCode) -> Result<String> {
-    let result = marked!(marks, opt.get_all(code));
-    Ok(format!(in marks.alloc(); "{result:?} {opt:?}")?)
-}
-
 /// What a call of options answers, and the options behind it. The second word is the code.
 pub fn options(marks: &Marks<'_>, call: &str, digits: &str, code: &str) -> Result<String> {
     let mut opt = record::<OPT>(marks.alloc(), digits)?;
     let code = EdnsCode::from(code.parse::<u16>()?);
-    match call {
+    let result = match call {
         "insert" => {
             let option = EdnsOption::try_from(marks.alloc(), (code, b"octets"))?;
-            insert(marks, &mut opt, option)
+            marked!(marks, opt.insert(option))
         }
-        "remove" => remove(marks, &mut opt, code),
-        _ => get_all(marks, &opt, code),
-    }
+        "remove" => {
+            marked!(marks, opt.remove(code));
+            return shown(marks.alloc(), opt);
+        }
+        _ => {
+            let result = marked!(marks, opt.get_all(code));
+            return Ok(format!(in marks.alloc(); "{result:?} {opt:?}")?);
+        }
+    };
+    Ok(format!(in marks.alloc(); "{result:?} {opt:?}")?)
 }
 
 /// The serial of the record behind one more.
@@ -75,8 +66,8 @@ fn lengths(pairs: &[KeyValue]) -> (usize, usize) {
 /// How many octets the keys and the values of an issuer have.
 pub fn keys(marks: &Marks<'_>, text: &str) -> Result<String> {
     let (_, pairs) = issuer(marks.alloc(), text)?;
-    let lengths = marked!(marks, lengths(pairs.as_slice()));
-    Ok(format!(in marks.alloc(); "{lengths:?}")?)
+    marks.begin()?;
+    marks.shown(lengths(pairs.as_slice()))
 }
 
 // The number of the last option's code, and how many options are lent.
@@ -91,8 +82,8 @@ fn codes(opt: &mut OPT) -> (u16, usize) {
 /// The number of the last option's code, and how many options there are.
 pub fn last_code(marks: &Marks<'_>, digits: &str) -> Result<String> {
     let mut opt = record::<OPT>(marks.alloc(), digits)?;
-    let found = marked!(marks, codes(&mut opt));
-    Ok(format!(in marks.alloc(); "{found:?}")?)
+    marks.begin()?;
+    marks.shown(codes(&mut opt))
 }
 
 // Whether there is a net of these bits, the URL is read, and what is made is empty.
@@ -106,8 +97,8 @@ fn made(alloc: Global, bits: u8, url: &str) -> (bool, bool, bool) {
 /// Whether there is a net of these bits, the URL is read, and what is made is empty.
 pub fn make(marks: &Marks<'_>, bits: &str, url: &str) -> Result<String> {
     let bits = bits.parse::<u8>()?;
-    let found = marked!(marks, made(marks.alloc(), bits, url));
-    Ok(format!(in marks.alloc(); "{found:?}")?)
+    marks.begin()?;
+    marks.shown(made(marks.alloc(), bits, url))
 }
 
 // Sets all of a subnet, and answers how much there is in defaults.

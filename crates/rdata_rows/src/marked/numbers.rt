@@ -38,50 +38,17 @@ pub fn numbers(marks: &Marks<'_>, text: &str) -> Result<String> {
     Ok(format!(in marks.alloc(); "{all:?} {octets:?}")?)
 }
 
-// What the texts of addresses and nets give.
-#[derive(Clone, Copy, Debug)]
-enum Address {
-    Four(Option<A>),
-    Six(Option<AAAA>),
-    Net(Option<IpNet>),
-    Subnet(Option<ClientSubnet>),
-}
-
-fn address_of(call: &str, text: &str) -> Address {
+/// What a text gives as an address, a net, a type, a key, a time to live or flags.
+pub fn parsed(marks: &Marks<'_>, call: &str, text: &str) -> Result<String> {
+    marks.begin()?;
     match call {
-        "A" => Address::Four(text.parse::<A>().ok()),
-        "AAAA" => Address::Six(text.parse::<AAAA>().ok()),
-        "IpNet" => Address::Net(text.parse::<IpNet>().ok()),
-        _ => Address::Subnet(text.parse::<ClientSubnet>().ok()),
+        "A" => marks.shown(text.parse::<A>().ok()),
+        "AAAA" => marks.shown(text.parse::<AAAA>().ok()),
+        "IpNet" => marks.shown(text.parse::<IpNet>().ok()),
+        "ClientSubnet" => marks.shown(text.parse::<ClientSubnet>().ok()),
+        "RecordType" => marks.shown(text.parse::<RecordType>().ok()),
+        "SvcParamKey" => marks.shown(text.parse::<SvcParamKey>().ok()),
+        "ttl" => marks.shown(parse_ttl(text).ok()),
+        _ => marks.shown(verify_flags(text.as_bytes())),
     }
-}
-
-/// The address or the net of a text.
-pub fn of_address(marks: &Marks<'_>, call: &str, text: &str) -> Result<String> {
-    let found = marked!(marks, address_of(call, text));
-    Ok(format!(in marks.alloc(); "{found:?}")?)
-}
-
-// What other words give.
-#[derive(Clone, Copy, Debug)]
-enum Word {
-    Kind(Option<RecordType>),
-    Key(Option<SvcParamKey>),
-    Seconds(Option<u32>),
-    Flags(bool),
-}
-
-fn word_of(call: &str, text: &str) -> Word {
-    match call {
-        "RecordType" => Word::Kind(text.parse::<RecordType>().ok()),
-        "SvcParamKey" => Word::Key(text.parse::<SvcParamKey>().ok()),
-        "ttl" => Word::Seconds(parse_ttl(text).ok()),
-        _ => Word::Flags(verify_flags(text.as_bytes())),
-    }
-}
-
-/// What another word gives.
-pub fn of_word(marks: &Marks<'_>, call: &str, text: &str) -> Result<String> {
-    let found = marked!(marks, word_of(call, text));
-    Ok(format!(in marks.alloc(); "{found:?}")?)
 }

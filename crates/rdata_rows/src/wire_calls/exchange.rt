@@ -40,8 +40,7 @@ impl Exchange {
 
     /// The number and the name, with a blank between.
     pub fn to_text(&self, alloc: Global) -> Result<String, AllocError> {
-        let (preference, host) = (self.preference, &self.host);
-        format!(in alloc; "{preference} {host}")
+        format!(in alloc; "{} {}", self.preference, self.host)
     }
 
     /// The record of such a text.

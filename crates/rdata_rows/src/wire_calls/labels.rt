@@ -47,16 +47,15 @@ type Outcome = std::result::Result<(), WriteError>;
 
 impl Written {
     fn name(&mut self, mode: RDataEncoding, text: &str) -> Result<Outcome> {
-        let Ok((name, _)) = parse_octets(*self.octets.allocator(), text.as_bytes()) else {
+        let Written {
+            places,
+            octets,
+            limit,
+        } = self;
+        let Ok((name, _)) = parse_octets(*octets.allocator(), text.as_bytes()) else {
             bail!("not a name");
         };
-        Ok(write_name(
-            &mut self.places,
-            &mut self.octets,
-            mode,
-            self.limit,
-            name.as_slice(),
-        ))
+        Ok(write_name(places, octets, mode, *limit, name.as_slice()))
     }
 
     // Does what one word says.

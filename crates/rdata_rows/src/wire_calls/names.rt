@@ -1,6 +1,6 @@
 //! Names as values.
 
-use crate::shared::fed;
+use crate::shared::{fed, shown};
 use anyhow::{Result, bail};
 use dns_names_wire::{Name, ProtoError, ProtoResult};
 use replay::{octets, parts};
@@ -32,17 +32,6 @@ fn changed(name: &Name, kind: &str) -> Result<Name> {
     })
 }
 
-// A name that a step makes of another one and a further name's text.
-fn extended(name: &Name, kind: &str, text: &str) -> Result<ProtoResult<Name>> {
-    let copy = name.clone()?;
-    match kind {
-        "label" => Ok(copy.append_label(octets(name.allocator(), text)?.as_slice())),
-        "name" => Ok(copy.append_name(&Name::from_ascii(name.allocator(), text)?)),
-        "domain" => Ok(copy.append_domain(&Name::from_ascii(name.allocator(), text)?)),
-        _ => Ok(Ok(changed(name, kind)?)),
-    }
-}
-
 // The name that a step makes of another one.
 fn made(name: &Name, kind: &str, text: &str) -> Result<ProtoResult<Name>> {
     let alloc = name.allocator();
@@ -51,7 +40,10 @@ fn made(name: &Name, kind: &str, text: &str) -> Result<ProtoResult<Name>> {
         "labels" => joined(alloc, text),
         "alone" => Ok(Name::parse(alloc, text, None)),
         "within" => Ok(Name::parse(alloc, text, Some(name))),
-        _ => extended(name, kind, text),
+        "label" => Ok(name.clone()?.append_label(octets(alloc, text)?.as_slice())),
+        "name" => Ok(name.clone()?.append_name(&Name::from_ascii(alloc, text)?)),
+        "domain" => Ok(name.clone()?.append_domain(&Name::from_ascii(alloc, text)?)),
+        _ => Ok(Ok(changed(name, kind)?)),
     }
 }
 
@@ -90,8 +82,10 @@ pub fn steps(alloc: Global, words: &[String]) -> Result<String> {
 
 /// The octet at a place of a name's canonical octets.
 pub fn octet(alloc: Global, text: &str, place: &str) -> Result<String> {
-    let octet = Name::from_ascii(alloc, text)?.octet(place.parse::<usize>()?);
-    Ok(format!(in alloc; "{octet:?}")?)
+    shown(
+        alloc,
+        Name::from_ascii(alloc, text)?.octet(place.parse::<usize>()?),
+    )
 }
 
 /// The order of a name and of another in lower case, whether they are equal, and whether they feed a hasher the same.
@@ -105,6 +99,6 @@ pub fn compare(alloc: Global, left: &str, right: &str) -> Result<String> {
 
 /// Whether a name is another one or below it.
 pub fn zone(alloc: Global, zone: &str, text: &str) -> Result<String> {
-    let inside = Name::from_ascii(alloc, zone)?.zone_of(&Name::from_ascii(alloc, text)?);
-    Ok(format!(in alloc; "{inside}")?)
+    let name = Name::from_ascii(alloc, text)?;
+    shown(alloc, Name::from_ascii(alloc, zone)?.zone_of(&name))
 }

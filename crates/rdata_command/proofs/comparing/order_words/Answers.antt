@@ -1,5 +1,5 @@
 use Rattle.std.proofs.Common.{◌≡◌, codes, refl, arith, rules}
-use Rattle.rdata_command.proofs.Compares.{four_items}
+use Rattle.rdata_command.proofs.Words.{four_items}
 use Rattle.rdata_command.proofs.comparing.order_words.Goals as goal
 
 pub returns : goal.returns

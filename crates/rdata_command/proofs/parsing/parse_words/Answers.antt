@@ -1,5 +1,5 @@
 use Rattle.std.proofs.Common.{◌≡◌, codes, refl, arith, rules}
-use Rattle.rdata_command.proofs.Parses.{three_items}
+use Rattle.rdata_command.proofs.Words.{three_items}
 use Rattle.rdata_command.proofs.parsing.parse_words.Goals as goal
 
 pub returns : goal.returns

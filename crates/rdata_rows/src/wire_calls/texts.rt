@@ -1,7 +1,10 @@
-//! Texts of zones.
+//! Texts of zones, and values read from words.
 
 use anyhow::Result;
-use dns_text::{Lexer, Token, parse_ttl, read_item, read_list, text_words};
+use dns_names_wire::Name;
+use dns_text::{Lexer, Token};
+use dns_words::{Base64Text, Field, FromTokens, WordList, next_u16, number_field};
+use replay::octets;
 use std::alloc::{AllocError, Global};
 use std::borrow::CowStr;
 
@@ -49,26 +52,25 @@ pub fn tokens(alloc: Global, text: &str) -> Result<String> {
     Ok(shown)
 }
 
-/// The words of a text.
-pub fn words(alloc: Global, text: &str) -> Result<String> {
-    let words = text_words(alloc, text).ok();
-    Ok(format!(in alloc; "{words:?}")?)
+const NUMBER: Field = number_field!("number");
+
+/// The numbers that `+007` and `65536` are, and what is behind them.
+pub fn numbers(alloc: Global) -> Result<String> {
+    let mut words = WordList::new(&["+007", "65536"]);
+    let first = next_u16(&mut words, NUMBER).ok();
+    let second = next_u16(&mut words, NUMBER).ok();
+    let third = next_u16(&mut words, NUMBER).err();
+    Ok(format!(in alloc; "{first:?} {second:?} {third:?}")?)
 }
 
-/// The items of a list.
-pub fn list(alloc: Global, text: &str) -> Result<String> {
-    let items = read_list(alloc, text).ok();
-    Ok(format!(in alloc; "{items:?}")?)
+/// The name that the first word of a text is, below an origin.
+pub fn first(alloc: Global, text: &str, origin: &str) -> Result<String> {
+    let origin = Name::from_ascii(alloc, origin)?;
+    let name = Name::from_tokens(alloc, text.split(' '), Some(&origin))?;
+    Ok(format!(in alloc; "{name}")?)
 }
 
-/// The item of a text.
-pub fn item(alloc: Global, text: &str) -> Result<String> {
-    let item = read_item(alloc, text).ok();
-    Ok(format!(in alloc; "{item:?}")?)
-}
-
-/// The seconds of a time to live.
-pub fn ttl(alloc: Global, text: &str) -> Result<String> {
-    let seconds = parse_ttl(text).ok();
-    Ok(format!(in alloc; "{seconds:?}")?)
+/// Octets as base64.
+pub fn base64(alloc: Global, word: &str) -> Result<String> {
+    Ok(Base64Text(octets(alloc, word)?.as_slice()).to_string(alloc)?)
 }

@@ -1,6 +1,0 @@
-use Rattle.std.proofs.Common.{arith}
-use Rattle.dns_pieces.proofs.Fronts.{number_then}
-use Rattle.dns_pieces.proofs.order.four_behind.Goals as goal
-
-pub returns : goal.returns
-returns c = number_then 4 c.args.a c.args.b c.args.first c.then.result c.cmp.result (omega arith) (omega arith) c.then.ensures c.cmp.ensures
