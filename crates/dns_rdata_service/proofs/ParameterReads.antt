@@ -5,7 +5,7 @@ use Rattle.std.proofs.lemmas.List.{length-append, length-drop, map_push}
 use Rattle.dns_types.specs.declared.error.DecodeError.{DecodeError}
 use Rattle.dns_types.specs.declared.error.DecodeError.TheVariants as decode
 use Rattle.dns_fields.specs.{Octets.At, Fields.Number, Fields.Octets, Fields.Parameters, Fields.Field, Fields.Values}
-use Rattle.dns_fields.specs.Pieces.{Numbered, ParameterValue, ParameterHeld, piece, Rising}
+use Rattle.dns_fields.specs.Pieces.{Numbered, ParameterValue, ParameterHeld, piece, rising}
 use Rattle.dns_fields.proofs.{Numbers.length-bytes, Pieces.piece_before, Pieces.heads_same, Pieces.first_piece, FieldLaws.field_inside}
 use Rattle.dns_names_wire.specs.State.{Reading}
 use Rattle.dns_names_wire.specs.Words.{Took, TookField, StaysBehind, UnlessMemory, TookWindow, RefusedWindow, NoWindow}
@@ -16,7 +16,7 @@ use Rattle.dns_rdata_service.specs.Parameters.{Parameter, parameter_of, paramete
 use Rattle.dns_rdata_service.specs.Parameters.{IsParameterRefusal, IsParametersRefusal}
 use Rattle.dns_rdata_service.proofs.{Refusals.NoKeyValue, Refusals.key_none, EachReads.EachOn, EachReads.each_more}
 use Rattle.dns_rdata_service.proofs.Splits.{at_split, stays_then, all_behind, all_append}
-use Rattle.dns_rdata_service.proofs.ParameterLists.{Risen, risen_push, risen_not, OneOf, one_long, one_once, one_of, parameters_each, each_parameters}
+use Rattle.dns_rdata_service.proofs.ParameterLists.{Risen, risen_push, risen_not, risen_rises, fails_test, OneOf, one_long, one_once, one_of, parameters_each, each_parameters}
 use Rattle.dns_rdata_service.proofs.ParameterLists.{each_inside, each_rest}
 
 -- ---- one parameter
@@ -140,7 +140,7 @@ pub on_longer : {d b : Reading} {x : Numbered ParameterValue} → TookField d Pa
 on_longer f = one_long (one_of f.field)
 
 pub on_taken : {old d : Reading} {ps : List Parameter} {last : Option ℕ} → ParametersOn old ps last d → TookField old Parameters (map parameter_of ps) d
-on_taken on = record { message = on.each.behind.message; field = each_parameters on.within on.each.stand on.risen.rising }
+on_taken {ps = ps} {last = last} on = record { message = on.each.behind.message; field = each_parameters on.within on.each.stand (risen_rises last (map parameter_of ps) on.risen) }
 
 -- ---- how the loop ends, where n octets are left of the record
 
@@ -193,7 +193,7 @@ on_order {old} {d} {b} {ps} {last} {x} e n room on f fails = record {
       let y = next_of on (omega (arith, room)) g in
       let same : y.next ≡ x = (one_once y.one (one_here on f)).0 in
       let whole : v ≡ map parameter_of ps ++ x ∷ y.rest = y.same ∙ ap (λ (z : Numbered ParameterValue). map parameter_of ps ++ z ∷ y.rest) same in
-      risen_not last (map parameter_of ps) x y.rest on.risen fails (subst Rising whole g.is.rising)));
+      fails_test v (ap rising whole ∙ risen_not last (map parameter_of ps) x y.rest on.risen fails) g.is.rising));
 }
 
 -- a parameter ends behind the record
@@ -239,7 +239,7 @@ order_refusal {old} {d} {b} {ps} {last} {x} p n on f fails =
       then = f;
       error = refl;
       order =
-          λ r. risen_not last (map parameter_of ps) x [] on.risen fails r;
+          fails_test (map parameter_of ps ++ x ∷ []) (risen_not last (map parameter_of ps) x [] on.risen fails);
     })))
 
 pub passed_refusal : {old d : Reading} {ps : List Parameter} {last : Option ℕ} (p n size : ℕ) → ParametersOn old ps last d → n < size → d.index ≡ p + size

@@ -1,12 +1,14 @@
 -- Parameters, piece by piece.
-use Rattle.std.proofs.Common.{◌≡◌, ◌≢◌, ℕ, zero, suc, ◌+◌, ◌*◌, ◌<◌, ◌≤◌, ◌&&◌, nat_le, true, Option, Some, None, List, [], ◌∷◌, ◌++◌, length, get_or}
+use Rattle.std.proofs.Common.{◌≡◌, ◌≢◌, ℕ, zero, suc, ◌+◌, ◌*◌, ◌<◌, ◌≤◌, ◌&&◌, nat_le, true, Option, Some, None, Result, Ok, Err, List, [], ◌∷◌, ◌++◌, length, get_or}
 use Rattle.std.proofs.Common.{drop, map, slice_get, refl, sym, ap, ◌∙◌, subst, arith, append_assoc, length-append}
 use Rattle.std.proofs.{lemmas.Bool.Decides.nat_tests, lemmas.Simd.map-map, lemmas.List.Sums.AllPass-from_list_all}
 use Rattle.std.proofs.lemmas.List.{append-nil, drop_more, drop_all, get_or-map, length-map}
 use Rattle.std.proofs.lemmas.Option.{slice_get-get_or, slice_get_past}
 use Rattle.dns_fields.proofs.Sorted.{flat_map_all}
-use Rattle.dns_rdata_service.proofs.Splits.{length_numbers}
-use Rattle.std.specs.{List.flat_map, List.list_all, Int.bytes_high_first, Cmp.first_so, Cmp.second_so}
+use Rattle.std.proofs.Math.Nat.{mul_comm}
+use Rattle.std.specs.Result.{OkIff, result_ok}
+use Rattle.dns_rdata_service.proofs.{Splits.length_numbers, Refusals.length_groups}
+use Rattle.std.specs.{List.flat_map, List.list_all, List.AllByRecursion, Int.bytes_high_first, Cmp.first_so, Cmp.second_so}
 use Rattle.dns_fields.specs.{Fields.Name, Fields.field_octets, Fields.parameter_pieces, Labels.lowname}
 use Rattle.dns_fields.specs.Pieces.{string, piece, pieces, as_piece, ParameterValue, Mandatory, Alpn, NoDefaultAlpn, Port, Ipv4Hint, Ipv6Hint, Opaque}
 use Rattle.dns_fields.specs.Pieces.{parameter_octets, parameter_emittable, rising}
@@ -14,7 +16,7 @@ use Rattle.dns_pieces.specs.{declared.step.Step.Step, Steps.GivesStep, Steps.Ste
 use Rattle.dns_rdata_service.specs.{SvcParamValue.value_of, SvcParamValue.fits_value, Parameters.Parameter, Parameters.parameter_of}
 use Rattle.dns_rdata_service.specs.{SvcParamKey.key_number, declared.svcb.key.SvcParamKey.SvcParamKey, declared.svcb.SVCB.SVCB}
 use Rattle.dns_rdata_service.specs.Steps.{parameter_head, value_front, value_items, parameters_from, items_of, parameters_left, svcb_left}
-use Rattle.dns_rdata_service.specs.Steps.{are_emittable, NextPiece, GivesPiece}
+use Rattle.dns_rdata_service.specs.{Steps.are_emittable, Steps.IsSizeOf, Steps.NextPiece, Steps.GivesPiece, Fronts.joined}
 
 -- ---- items
 
@@ -164,3 +166,18 @@ keys_then (k ∷ ks) some = both (length (k ∷ ks)) (omega arith) ∙ ap (λ n.
   where
     both : (n : ℕ) → 0 < n → nat_le n 32767 ≡ (nat_le (2 * n) 65535 && true)
     both n h = grind (arith, nat_tests, h)
+
+-- addresses of as many octets each
+groups_size : {X : Type 0} (k : ℕ) (octets : X → List ℕ) (xs : List X) → AllByRecursion (λ s. length s ≡ k) (map octets xs)
+    → length (joined (map octets xs)) ≡ length xs * k
+groups_size k octets xs h = length_groups k (map octets xs) h ∙ ap (λ n. k * n) (length-map xs octets) ∙ mul_comm k (length xs)
+
+pub joined_long : {X : Type 0} (k : ℕ) (octets : X → List ℕ) (xs : List X) → AllByRecursion (λ s. length s ≡ k) (map octets xs) → 65535 < length xs * k
+    → IsSizeOf (Opaque (joined (map octets xs))) None
+joined_long k octets xs h more = rw (groups_size k octets xs h) (grind (arith, nat_tests, more))
+
+pub joined_size : {X E : Type 0} (k n : ℕ) (octets : X → List ℕ) (xs : List X) (r : Result ℕ E) → AllByRecursion (λ s. length s ≡ k) (map octets xs)
+    → n ≡ length xs * k → OkIff r (n < 65536) n → IsSizeOf (Opaque (joined (map octets xs))) (result_ok r)
+joined_size k n octets xs (Err e) h is m = joined_long k octets xs h (omega (arith, m, is))
+joined_size k n octets xs (Ok x) h is m =
+    let long : n ≡ length (joined (map octets xs)) = is ∙ sym (groups_size k octets xs h) in (rw (← long) (grind (arith, nat_tests, m.0)), m.1 ∙ long)

@@ -1,19 +1,19 @@
 -- Service bindings, compared field by field and parameter by parameter.
-use Rattle.std.proofs.Common.{◌≡◌, ◌≢◌, ℕ, suc, ◌*◌, ◌<◌, ◌≤◌, ◌^◌, ◌&&◌, true, false, true≢false, List, [], ◌∷◌, ◌++◌, length, drop, map, refl, sym}
+use Rattle.std.proofs.Common.{◌≡◌, ◌≢◌, ℕ, ◌<◌, ◌≤◌, ◌^◌, ◌&&◌, true, false, true≢false, List, [], ◌∷◌, ◌++◌, length, drop, map, refl, sym}
 use Rattle.std.proofs.Common.{ap, ◌∙◌, arith}
 use Rattle.std.specs.Prelude.{nat_eq}
 use Rattle.std.specs.{Int.bytes_high_first, List.AllByRecursion, List.flat_map, FinMap.nat_cmp-IsAntisymmetric, FinMap.slice_cmp-IsAntisymmetric}
-use Rattle.std.specs.{Cmp.Equal-is, Cmp.ranks, Cmp.nat_cmp_is, Cmp.unsigned_Decides, Cmp.booleans_Decides, declared.cmp.Ordering.Ordering}
+use Rattle.std.specs.{Cmp.Equal-is, Cmp.ranks, Cmp.unsigned_Decides, Cmp.booleans_Decides, declared.cmp.Ordering.Ordering}
 use Rattle.std.specs.Cmp.Lexicographic.{pointwise, slice_cmp, pointwise_decides}
 use Rattle.std.specs.Ordering.{MatchOrdering, nat_cmp, ordering_then, is_eq, is_ne}
 use Rattle.std.specs.declared.cmp.Ordering.TheVariants.{Less, Equal, Greater}
-use Rattle.std.proofs.{lemmas.List.drop_all, lemmas.List.length-map, lemmas.Bool.Decides.Decides-and, Math.Nat.mul-le-mul_left, Math.Nat.mul_comm}
+use Rattle.std.proofs.{lemmas.List.drop_all, lemmas.Bool.Decides.Decides-and}
 use Rattle.dns_fields.specs.{Comparing.name_eq, Equal.key_eq, Equal.parameter_keys, Equal.values_eq, Pieces.string, Pieces.Alpn, Pieces.Opaque}
 use Rattle.dns_fields.specs.{Pieces.Port, Fields.Number, Fields.Name, Fields.field_octets, Labels.AreLabels, Labels.lowname}
 use Rattle.dns_fields.proofs.Numbers.{number_cmp, length-bytes, same_number}
 use Rattle.dns_pieces.specs.Fronts.{canonical_cmp}
 use Rattle.dns_pieces.proofs.{Comparing.cmp_shared, Comparing.then_kept, Fronts.by_fields, Fronts.field_cmp, Fronts.front_then}
-use Rattle.dns_rdata_service.proofs.{Refusals.length_groups, OwnValues.value_given}
+use Rattle.dns_rdata_service.proofs.{OwnValues.value_given}
 use Rattle.dns_rdata_service.specs.{Fronts.OrderFirst, Fronts.joined, Fronts.behind_length, OwnKeys.value_eq, OwnKeys.value_same}
 use Rattle.dns_rdata_service.specs.{Parameters.Parameter, Parameters.own_parameter, Steps.parameters_from, SVCB.svcb_shape, SVCB.svcb_fields}
 use Rattle.dns_rdata_service.specs.{SVCB.svcb_key_shape, SVCB.svcb_keys, declared.svcb.SVCB.SVCB, declared.svcb.value.SvcParamValue.SvcParamValue}
@@ -101,28 +101,13 @@ module _ (k : ℕ) where
       front_then s t (joined ss) (joined ts) (h.0 ∙ sym g.0)
       ∙ ap (λ (o : Ordering). ordering_then (slice_cmp nat_cmp s t) o) (joined_cmp ss ts some h.1 g.1)
 
-scaled : (k n m : ℕ) → 0 < k → nat_cmp n m ≡ nat_cmp (n * k) (m * k)
-scaled k n m some = nat_cmp_is (n * k) (m * k) (nat_cmp n m) (by (nat_cmp n m) (ranks n m))
-  where
-    below : (i j : ℕ) → i < j → i * k < j * k
-    below i j h = let most : k * suc i ≤ k * j = mul-le-mul_left k h in omega (arith, most, some)
-
-    by : (o : Ordering) → MatchOrdering o (n < m) (n ≡ m) (m < n) → MatchOrdering o (n * k < m * k) (n * k ≡ m * k) (m * k < n * k)
-    by Less h = below n m h
-    by Equal h = ap (λ (i : ℕ). i * k) h
-    by Greater h = below m n h
-
--- by their number, and then item by item
-pub items_first : {X : Type 0} (octets_of : X → List ℕ) (k : ℕ) (xs ys : List X) (r c o : Ordering) → 0 < k
+-- by their octets' number, and then item by item
+pub items_first : {X : Type 0} (octets_of : X → List ℕ) (k : ℕ) (xs ys : List X) (r c o : Ordering) (n m : ℕ) → 0 < k
     → AllByRecursion (λ s. length s ≡ k) (map octets_of xs) → AllByRecursion (λ s. length s ≡ k) (map octets_of ys)
-    → r ≡ ordering_then c o → c ≡ nat_cmp (length xs) (length ys) → o ≡ slice_cmp (slice_cmp nat_cmp) (map octets_of xs) (map octets_of ys)
-    → length xs * k ≤ 65535 → length ys * k ≤ 65535 → OrderFirst r (behind_length (joined (map octets_of xs))) (behind_length (joined (map octets_of ys)))
-items_first octets_of k xs ys r c o some h g e f i few less =
-    lengths_first r c o (length xs * k) (length ys * k) _ _ e (f ∙ scaled k (length xs) (length ys) some) (size xs h) (size ys g)
-    (i ∙ sym (joined_cmp k _ _ some h g)) few less
-  where
-    size : (zs : List _) → AllByRecursion (λ s. length s ≡ k) (map octets_of zs) → length zs * k ≡ length (joined (map octets_of zs))
-    size zs h = mul_comm (length zs) k ∙ ap (λ n. k * n) (sym (length-map zs octets_of)) ∙ sym (length_groups k (map octets_of zs) h)
+    → r ≡ ordering_then c o → c ≡ nat_cmp n m → n ≡ length (joined (map octets_of xs)) → m ≡ length (joined (map octets_of ys))
+    → o ≡ slice_cmp (slice_cmp nat_cmp) (map octets_of xs) (map octets_of ys) → n ≤ 65535 → m ≤ 65535
+    → OrderFirst r (behind_length (joined (map octets_of xs))) (behind_length (joined (map octets_of ys)))
+items_first octets_of k xs ys r c o n m some h g e f p q i few less = lengths_first r c o n m _ _ e f p q (i ∙ sym (joined_cmp k _ _ some h g)) few less
 
 -- or they are the same
 pub items_alike : {X : Type 0} (octets_of : X → List ℕ) (xs ys : List X) (o : Ordering) → o ≡ slice_cmp (slice_cmp nat_cmp) (map octets_of xs) (map octets_of ys)

@@ -7,7 +7,7 @@ use Rattle.dns_fields.specs.Pieces.{Numbered, ParameterValue, Mandatory, Alpn, N
 use Rattle.dns_fields.specs.Pieces.{AllHeld, piece, pieces, Form, Keys, Names, AnyOctets, form_for}
 use Rattle.dns_fields.proofs.EqualLaws.{field_decide}
 use Rattle.dns_fields.proofs.OctetLaws.{AreOctets-at, AreOctets-front, AreOctets-back, AreOctets-same, piece_body}
-use Rattle.std.proofs.lemmas.Bool.Decides.{same_from_decides, Decides-like}
+use Rattle.std.proofs.lemmas.{Simd.map-map, Bool.Decides.same_from_decides, Bool.Decides.Decides-like}
 use Rattle.dns_names_wire.specs.{State.Reading, Words.Window}
 use Rattle.dns_rdata_base.proofs.Addresses.{octets_of-segments}
 use Rattle.dns_rdata_service.specs.{SvcParamKey.key_number, SvcParamKey.key_of, declared.svcb.SVCB.SVCB, declared.https.HTTPS.HTTPS}
@@ -26,7 +26,7 @@ svcb_from vs = record { svc_priority = vs.0; target_name = vs.1.0; svc_params = 
 pub svcb_from-fields : (x : SVCB) → IsReadSvcb x → x ≡ svcb_from (svcb_fields x)
 svcb_from-fields x r = ap (λ (ps : List Parameter). record x { svc_params = ps }) r
 
--- ---- what fields give is read
+-- ---- what fields give has the fields, where addresses are octets
 
 numbers_back : (ks : List ℕ) → ks ≡ map key_number (map key_of ks)
 numbers_back = map_back key_of key_number (λ n. sym (key_number-of n))
@@ -39,31 +39,6 @@ opaque_value : (b c : Bool) (s : List ℕ)
 opaque_value true c s = refl
 opaque_value false true s = refl
 opaque_value false false s = refl
-
-value_again : (n : ℕ) (v : ParameterValue) → value_from n v ≡ value_from n (value_of (value_from n v))
-value_again n (Mandatory ks) = ap (λ (l : List ℕ). variants.Mandatory (record { 0 = map key_of l })) (numbers_back ks)
-value_again n (Alpn names) = refl
-value_again n NoDefaultAlpn = refl
-value_again n (Port p) = refl
-value_again n (Ipv4Hint ss) = ap (λ (l : List (List ℕ)). variants.Ipv4Hint (record { 0 = map a_of l })) (groups_back ss)
-value_again n (Ipv6Hint ss) = ap (λ as'. variants.Ipv6Hint (record { 0 = as' })) (aaaa_list_back (map aaaa_of ss))
-value_again n (Opaque s) = ap (value_from n) (sym (opaque_value (n == 5) (n == 7) s))
-
-parameter_again : (x : Numbered ParameterValue) → parameter_from x ≡ parameter_from (parameter_of (parameter_from x))
-parameter_again x =
-    ap (λ (v : SvcParamValue). (key_of x.0, v)) (value_again x.0 x.1)
-    ∙ ap (λ (k : ℕ). (key_of k, value_from k (value_of (value_from x.0 x.1)))) (sym (key_number-of x.0))
-
-parameters_again : (v : List (Numbered ParameterValue)) → AreRead (map parameter_from v)
-parameters_again [] = refl
-parameters_again (x ∷ xs) =
-    ap (λ (p : Parameter). p ∷ map parameter_from xs) (parameter_again x)
-    ∙ ap (λ (ps : List Parameter). parameter_from (parameter_of (parameter_from x)) ∷ ps) (parameters_again xs)
-
-pub svcb_from-read : (vs : Values svcb_shape) → IsReadSvcb (svcb_from vs)
-svcb_from-read vs = parameters_again vs.1.1.0
-
--- ---- and has the fields, where addresses are octets
 
 abbrev IsWide : ParameterValue → Type 0
 IsWide (Ipv6Hint addresses) = AllByRecursion (λ s. (length s ≡ 16) × AreOctets s) addresses
@@ -96,12 +71,7 @@ groups_wide (s ∷ ss) h a = ((h.0, AreOctets-front s (flat_map (λ x. x) ss) a)
 
 held_wide : (k : ℕ) (body : List ℕ) (v : ParameterValue) → ParameterHeld k body v → AreOctets body → IsWide v
 held_wide k body (Ipv6Hint ss) h a = groups_wide ss h.1 (AreOctets-same body (flat_map (λ s. s) ss) h.2 a)
-held_wide k body (Mandatory ks) h a = tt
-held_wide k body (Alpn names) h a = tt
-held_wide k body NoDefaultAlpn h a = tt
-held_wide k body (Port p) h a = tt
-held_wide k body (Ipv4Hint ss) h a = tt
-held_wide k body (Opaque s) h a = tt
+held_wide k body v h a = tt
 
 all_wide : (read : List (Numbered (List ℕ))) (v : List (Numbered ParameterValue)) → AllHeld ParameterHeld read v → AreOctets (pieces read)
     → AllByRecursion (λ x. IsWide x.1) v
@@ -120,6 +90,25 @@ svcb_fields-from m p n condition vs w =
     let s = w.stands.2.2.1.is in
     let wide = all_wide s.read vs.1.1.0 s.held (AreOctets-at m w.stands.2.0 (pieces s.read) w.stands.2.2.0 w.octets s.at) in
     ap (λ (v : List (Numbered ParameterValue)). (vs.0, (vs.1.0, (v, tt)))) (parameters_back vs.1.1.0 wide)
+
+-- ---- and is read
+
+value_again : (n : ℕ) (v : ParameterValue) → value_from n v ≡ value_from n (value_of (value_from n v))
+value_again n (Ipv6Hint ss) = ap (λ as'. variants.Ipv6Hint (record { 0 = as' })) (aaaa_list_back (map aaaa_of ss))
+value_again n v = ap (value_from n) (sym (value_back n v tt))
+
+parameter_again : (x : Numbered ParameterValue) → parameter_from x ≡ parameter_from (parameter_of (parameter_from x))
+parameter_again x =
+    ap (λ (v : SvcParamValue). (key_of x.0, v)) (value_again x.0 x.1)
+    ∙ ap (λ (k : ℕ). (key_of k, value_from k (value_of (value_from x.0 x.1)))) (sym (key_number-of x.0))
+
+parameters_again : (v : List (Numbered ParameterValue)) → AreRead (map parameter_from v)
+parameters_again v =
+    (λ i. map (λ x. parameter_again x i) v)
+    ∙ sym (map-map parameter_from parameter_of (map parameter_from v) ∙ map-map (λ p. parameter_from (parameter_of p)) parameter_from v)
+
+pub svcb_from-read : (vs : Values svcb_shape) → IsReadSvcb (svcb_from vs)
+svcb_from-read vs = parameters_again vs.1.1.0
 
 -- ---- keys are the same exactly where fields are
 

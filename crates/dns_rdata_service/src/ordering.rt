@@ -7,7 +7,7 @@ ghost use Rattle.dns_rdata_service.specs.{Parameters.own_parameter, SvcParamValu
 ghost use Rattle.dns_rdata_service.specs.{SVCB.svcb_keys, Ordering.parameter_order, Ordering.value_place, Ordering.Differ};
 
 use crate::hints::hints_cmp;
-use crate::svcb::{SVCB, SvcParamKey, SvcParamValue};
+use crate::svcb::{Parameter, SVCB, SvcParamKey, SvcParamValue};
 use std::cmp::Ordering;
 
 // The order of two lists of keys: key by key, each by number and then by variant.
@@ -70,17 +70,14 @@ fn value_cmp(a: &SvcParamValue, b: &SvcParamValue) -> Ordering
 }
 
 // The order of two parameters: by key, and then by value.
-fn parameter_cmp(a: &(SvcParamKey, SvcParamValue), b: &(SvcParamKey, SvcParamValue)) -> Ordering
+fn parameter_cmp(a: &Parameter, b: &Parameter) -> Ordering
     ensures { result ≡ parameter_order a.now b.now }
 {
     a.0.cmp(&b.0).then(value_cmp(&a.1, &b.1))
 }
 
 // The order of two lists of parameters: parameter by parameter, and a list that ends first comes first.
-fn parameters_cmp(
-    a: &[(SvcParamKey, SvcParamValue)],
-    b: &[(SvcParamKey, SvcParamValue)],
-) -> Ordering
+fn parameters_cmp(a: &[Parameter], b: &[Parameter]) -> Ordering
     ensures { result ≡ slice_cmp key_cmp (parameter_keys (map own_parameter a.now)) (parameter_keys (map own_parameter b.now)) }
 {
     let shorter = a.len().min(b.len());

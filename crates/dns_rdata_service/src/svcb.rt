@@ -32,11 +32,15 @@ pub use ip_hint::IpHint;
 pub use key::SvcParamKey;
 pub use mandatory::Mandatory;
 pub(crate) use parameter_word::parameter_of;
+pub(crate) use parameters::is_above;
 use std::alloc::AllocError;
 use std::hash::{Hash, Hasher};
 use std::{fmt, mem};
 pub use unknown::Unknown;
 pub use value::SvcParamValue;
+
+// A key and its value.
+pub(crate) type Parameter = (SvcParamKey, SvcParamValue);
 
 /// How a service is reached (RFC 9460, 2.2): a priority in two octets, the name of a target, and then parameters to the
 /// end of the record's length, each a key and a length of two octets and so many octets, with keys that strictly rise.
@@ -177,7 +181,7 @@ fn same_value(a: &SvcParamValue, b: &SvcParamValue) -> bool
 
 // Whether the parameters are equal, one by one.
 #[inline]
-fn same_parameters(a: &[(SvcParamKey, SvcParamValue)], b: &[(SvcParamKey, SvcParamValue)]) -> bool
+fn same_parameters(a: &[Parameter], b: &[Parameter]) -> bool
     ensures { result ≡ pointwise parameter_eq a.now b.now }
 {
     if a.len() != b.len() {

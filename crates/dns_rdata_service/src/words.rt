@@ -8,7 +8,7 @@ ghost use Rattle.dns_rdata_service.specs.WordRows.{these_parameters, parameter_w
 
 use crate::https::HTTPS;
 use crate::items::Items;
-use crate::svcb::{SVCB, SvcParamKey, SvcParamValue, parameter_of};
+use crate::svcb::{Parameter, SVCB, parameter_of};
 use dns_names_wire::ParseError;
 use dns_words::{Field, next_name, next_u16, number_field};
 use std::alloc::Global;
@@ -21,7 +21,7 @@ const SVC_PRIORITY: Field = number_field!("SvcPriority");
 fn all_parameters<S: AsStr + Drop, I: Iterator<Item = S>>(
     alloc: Global,
     words: I,
-) -> Result<Items<(SvcParamKey, SvcParamValue)>, ParseError>
+) -> Result<Items<Parameter>, ParseError>
     requires can { I.can_next words }
     requires ends { IsFinite (I.remaining words) }
     ensures reads { ReadsRow I.next_gives S.text parameter_words (λ ps. (map parameter_of ps, tt)) result words }
@@ -83,9 +83,6 @@ impl HTTPS {
         ensures reads { ReadsRow I.next_gives S.text svcb_words https_fields result tokens }
         ensures own { IfOk result (λ x. AreWordsOf I.next_gives S.text x.0 tokens) }
     {
-        match SVCB::from_tokens(alloc, tokens) {
-            Ok(svcb) => Ok(HTTPS(svcb)),
-            Err(e) => Err(e),
-        }
+        Ok(HTTPS(SVCB::from_tokens(alloc, tokens)?))
     }
 }

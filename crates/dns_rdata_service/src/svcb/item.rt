@@ -4,6 +4,7 @@ ghost use Rattle.std.specs.Prelude.{◌≢◌, ℕ, List, IfErr, IfOk};
 ghost use Rattle.dns_types.specs.declared.error.ParseError.TheVariants as parse;
 ghost use Rattle.dns_rdata_service.specs.ParameterWords.{ItemOf, ListOf};
 
+use crate::items::Items;
 use crate::svcb::ech_config_list::EchConfigList;
 use crate::svcb::key::SvcParamKey;
 use base64::DecodeAllocError;
@@ -58,10 +59,7 @@ impl FromItem for SvcParamKey {
 
     #[inline]
     fn from_item(_alloc: Global, item: &str) -> Result<SvcParamKey, ParseError> {
-        match item.parse::<SvcParamKey>() {
-            Ok(key) => Ok(key),
-            Err(e) => Err(ParseError::from(e)),
-        }
+        Ok(item.parse::<SvcParamKey>()?)
     }
 }
 
@@ -120,11 +118,14 @@ pub(super) fn item_of<T: FromItem>(alloc: Global, text: &str) -> Result<T, Parse
 }
 
 // The values of the items of a list. Memory is asked for the list beside what the values and pieces with a `\` need.
-pub(super) fn items_of<T: FromItem + Drop>(alloc: Global, text: &str) -> Result<Vec<T>, ParseError>
-    ensures ok { IfOk result (λ xs. ListOf T.is_text text.now xs.items) }
+pub(super) fn items_of<T: FromItem + Drop>(
+    alloc: Global,
+    text: &str,
+) -> Result<Items<T>, ParseError>
+    ensures ok { IfOk result (ListOf T.is_text text.now) }
     ensures refused { IfErr result (λ e. e ≢ parse.Memory → (xs : List T) → ListOf T.is_text text.now xs → ⊥) }
 {
-    let mut values = Vec::new(alloc);
+    let mut values = Items::new(alloc);
     let mut rest = text;
     'pieces: while let Some((piece, more)) = next_piece(alloc, rest)? {
         values.push(item_of(alloc, piece.as_str())?)?;

@@ -1,11 +1,9 @@
 //! The keys of service parameters (RFC 9460, 14.3.2; RFC 9461, 5).
 
-ghost use Rattle.std.specs.Prelude.{◌≡◌, ◌++◌, refl, IfErr, OnErr};
-ghost use Rattle.std.specs.{Cmp.partial_equiv_from_equiv, Cmp.partial_order_from_agreeing_total, Cmp.Rules.hashing, Ordering.as_partial_cmp};
+ghost use Rattle.std.specs.Prelude.{◌≡◌, refl, IfErr, OnErr};
 ghost use Rattle.std.specs.Hash as fed;
-ghost use Rattle.std.proofs.Common.{rules};
-ghost use Rattle.dns_rdata_base.specs.Numbered.{NumberedAt, numbered_eq, numbered_cmp};
-ghost use Rattle.dns_rdata_base.proofs.NumberedLaws.{numbered_equiv, numbered_total, numbered_ties};
+ghost use Rattle.dns_rdata_base.specs.Numbered.{NumberedAt, numbered_eq, numbered_cmp, numbered_partial_cmp, numbered_hash};
+ghost use Rattle.dns_rdata_base.proofs.NumberedLaws.{numbered_equiv, numbered_partial, numbered_total, numbered_order, numbered_ties, numbered_alike};
 ghost use Rattle.dns_fields.specs.Fields.{Number};
 ghost use Rattle.dns_names_wire.specs.Words.{ReadsBy, EmitsField, LacksOctets, IsCut};
 ghost use Rattle.dns_rdata_service.specs.SvcParamKey.{key_number, key_variant, key_of};
@@ -118,7 +116,7 @@ impl SvcParamKey {
 impl PartialEq for SvcParamKey {
     ghost eq = { numbered_eq key_number key_variant };
 
-    ghost laws = { partial_equiv_from_equiv (numbered_equiv key_number key_variant) };
+    ghost laws = { numbered_partial key_number key_variant };
 
     #[inline]
     fn eq(&self, other: &SvcParamKey) -> bool {
@@ -138,9 +136,9 @@ impl Eq for SvcParamKey {
 }
 
 impl Hash for SvcParamKey {
-    ghost hash_input = { λ e. fed.u16 (key_number e) ++ fed.u8 (key_variant e) };
+    ghost hash_input = { numbered_hash fed.u16 key_number key_variant };
 
-    ghost respects_eq = { Prim.search (hashing, rules) };
+    ghost respects_eq = { numbered_alike fed.u16 key_number key_variant };
 
     #[inline]
     fn hash<H: Hasher>(&self, state: &mut H) {
@@ -150,10 +148,9 @@ impl Hash for SvcParamKey {
 }
 
 impl PartialOrd for SvcParamKey {
-    ghost partial_cmp = { as_partial_cmp (numbered_cmp key_number key_variant) };
+    ghost partial_cmp = { numbered_partial_cmp key_number key_variant };
 
-    ghost laws = { partial_order_from_agreeing_total (numbered_cmp key_number key_variant) (numbered_total key_number key_variant) (λ _ _. refl)
-        (numbered_ties key_number key_variant) };
+    ghost laws = { numbered_order key_number key_variant };
 
     #[inline]
     fn partial_cmp(&self, other: &SvcParamKey) -> Option<Ordering> {

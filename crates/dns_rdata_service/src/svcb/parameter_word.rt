@@ -5,18 +5,16 @@ ghost use Rattle.dns_types.specs.declared.error.ParseError.TheVariants as parse;
 ghost use Rattle.dns_rdata_service.specs.{declared.svcb.value.SvcParamValue.SvcParamValue as Value, Parameters.Parameter, KeyTexts.IsKeyText};
 ghost use Rattle.dns_rdata_service.specs.ParameterWords.{IsValueAlone, IsValueText, IsUnquoted, HasValue, IsParameterWord};
 
-use crate::items::Items;
+use crate::svcb::Parameter;
 use crate::svcb::alpn::Alpn;
 use crate::svcb::doh_path::DohPath;
-use crate::svcb::ech_config_list::EchConfigList;
 use crate::svcb::ip_hint::IpHint;
 use crate::svcb::item::{item_of, items_of};
 use crate::svcb::key::SvcParamKey;
 use crate::svcb::mandatory::Mandatory;
 use crate::svcb::unknown::Unknown;
 use crate::svcb::value::SvcParamValue;
-use dns_names_wire::{Octets, ParseError, SmallOctets};
-use dns_rdata_base::{A, AAAA};
+use dns_names_wire::{Octets, ParseError};
 use std::alloc::Global;
 
 /// The parameter of a word: a key, and perhaps a `=` and a value. The first `=` divides them.
@@ -29,10 +27,7 @@ use std::alloc::Global;
 /// value's octets; without a `=` there are none. Every other word is refused, `key65535` too: by `Proto` where there is
 /// no such key, by `AddrParse` where an item is no address, and else by `Message`. Takes memory for what the value
 /// holds, and where a piece of a list or an item has a `\`.
-pub(crate) fn parameter_of(
-    alloc: Global,
-    word: &str,
-) -> Result<(SvcParamKey, SvcParamValue), ParseError>
+pub(crate) fn parameter_of(alloc: Global, word: &str) -> Result<Parameter, ParseError>
     ensures ok { IfOk result (IsParameterWord word.now) }
     ensures refused { IfErr result (λ e. e ≢ parse.Memory → (p : Parameter) → IsParameterWord word.now p → ⊥) }
 {
@@ -43,21 +38,16 @@ pub(crate) fn parameter_of(
 }
 
 // The parameter of a key alone.
-fn alone(alloc: Global, word: &str) -> Result<(SvcParamKey, SvcParamValue), ParseError>
+fn alone(alloc: Global, word: &str) -> Result<Parameter, ParseError>
     ensures ok { IfOk result (λ p. IsKeyText word.now p.0 × IsValueAlone p.0 p.1) }
     ensures refused { IfErr result (λ e. e ≢ parse.Memory → (p : Parameter) → IsKeyText word.now p.0 × IsValueAlone p.0 p.1 → ⊥) }
 {
     let key = word.parse::<SvcParamKey>()?;
-    let value = value_alone(alloc, key)?;
-    Ok((key, value))
+    Ok((key, value_alone(alloc, key)?))
 }
 
 // The parameter of a key and what stands behind `=`.
-fn with_value(
-    alloc: Global,
-    key: &str,
-    value: &str,
-) -> Result<(SvcParamKey, SvcParamValue), ParseError>
+fn with_value(alloc: Global, key: &str, value: &str) -> Result<Parameter, ParseError>
     ensures ok { IfOk result (λ p. IsKeyText key.now p.0 × HasValue value.now p) }
     ensures refused { IfErr result (λ e. e ≢ parse.Memory → (p : Parameter) → IsKeyText key.now p.0 × HasValue value.now p → ⊥) }
 {
@@ -65,8 +55,7 @@ fn with_value(
         return Err(ParseError::Message("one quote alone as the value of a parameter"));
     };
     let key = key.parse::<SvcParamKey>()?;
-    let value = value_of(alloc, key, text)?;
-    Ok((key, value))
+    Ok((key, value_of(alloc, key, text)?))
 }
 
 // What stands between quotes, or the whole text where it has none round it. A text with one quote alone is refused.
@@ -116,31 +105,13 @@ fn value_of(alloc: Global, key: SvcParamKey, text: &str) -> Result<SvcParamValue
     ensures refused { IfErr result (λ e. e ≢ parse.Memory → (v : Value) → IsValueText key text.now v → ⊥) }
 {
     match key {
-        SvcParamKey::Mandatory => {
-            let keys = items_of::<SvcParamKey>(alloc, text)?;
-            Ok(SvcParamValue::Mandatory(Mandatory(Items::from_vec(keys))))
-        }
-        SvcParamKey::Alpn => {
-            let names = items_of::<SmallOctets<16>>(alloc, text)?;
-            Ok(SvcParamValue::Alpn(Alpn(Items::from_vec(names))))
-        }
-        SvcParamKey::Port => Ok(SvcParamValue::Port(item_of::<u16>(alloc, text)?)),
-        SvcParamKey::Ipv4Hint => {
-            let addresses = items_of::<A>(alloc, text)?;
-            Ok(SvcParamValue::Ipv4Hint(IpHint(Items::from_vec(addresses))))
-        }
-        SvcParamKey::EchConfigList => {
-            let config = item_of::<EchConfigList>(alloc, text)?;
-            Ok(SvcParamValue::EchConfigList(config))
-        }
-        SvcParamKey::Ipv6Hint => {
-            let addresses = items_of::<AAAA>(alloc, text)?;
-            Ok(SvcParamValue::Ipv6Hint(IpHint(Items::from_vec(addresses))))
-        }
-        SvcParamKey::DohPath => {
-            let path = item_of::<SmallOctets<16>>(alloc, text)?;
-            Ok(SvcParamValue::DohPath(DohPath(path)))
-        }
+        SvcParamKey::Mandatory => Ok(SvcParamValue::Mandatory(Mandatory(items_of(alloc, text)?))),
+        SvcParamKey::Alpn => Ok(SvcParamValue::Alpn(Alpn(items_of(alloc, text)?))),
+        SvcParamKey::Port => Ok(SvcParamValue::Port(item_of(alloc, text)?)),
+        SvcParamKey::Ipv4Hint => Ok(SvcParamValue::Ipv4Hint(IpHint(items_of(alloc, text)?))),
+        SvcParamKey::EchConfigList => Ok(SvcParamValue::EchConfigList(item_of(alloc, text)?)),
+        SvcParamKey::Ipv6Hint => Ok(SvcParamValue::Ipv6Hint(IpHint(items_of(alloc, text)?))),
+        SvcParamKey::DohPath => Ok(SvcParamValue::DohPath(DohPath(item_of(alloc, text)?))),
         SvcParamKey::Key(_) => {
             let octets = Octets::from_slice(alloc, text.as_bytes())?;
             Ok(SvcParamValue::Unknown(Unknown(octets)))
