@@ -15,7 +15,7 @@ use Rattle.dns_rdata_base.specs.{declared.a.A.A, declared.aaaa.AAAA.AAAA}
 use Rattle.dns_rdata_service.specs.{Emitting.EmitsOctets, declared.svcb.ip_hint.IpHint.IpHint}
 use Rattle.dns_rdata_service.specs.Hints.{StandEach, StopsBefore, StandToEnd, ReadsEach, EmitsEach}
 use Rattle.dns_rdata_service.specs.SvcParamValue.{a_octets, aaaa_octets, a_of, aaaa_of, IsValueRefusal}
-use Rattle.dns_rdata_service.proofs.{EachReads.AreSplit, EachReads.each_split, EachReads.to_end, Refusals.length_groups}
+use Rattle.dns_rdata_service.proofs.{ValueReads.AreSplit, ValueReads.each_split, ValueReads.to_end, ValueReads.length_groups}
 use Rattle.dns_rdata_service.proofs.EachEmits.{emits_all, emits_as, all_pass}
 
 -- ---- reading, of any type of a known number of octets

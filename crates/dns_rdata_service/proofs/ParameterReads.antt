@@ -3,21 +3,29 @@ use Rattle.std.proofs.Common.{◌≡◌, inl, inr, ℕ, ◌+◌, ◌<◌, ◌≤
 use Rattle.std.specs.Int.{bytes_high_first}
 use Rattle.std.proofs.lemmas.List.{length-append, length-drop, map_push}
 use Rattle.dns_types.specs.declared.error.DecodeError.{DecodeError}
-use Rattle.dns_types.specs.declared.error.DecodeError.TheVariants as decode
-use Rattle.dns_fields.specs.{Octets.At, Fields.Number, Fields.Octets, Fields.Parameters, Fields.Field, Fields.Values}
+use Rattle.dns_fields.specs.{Octets.At, Fields.Number, Fields.Octets, Fields.Rest, Fields.Parameters, Fields.Field, Fields.Values, Octets.AreOctets}
 use Rattle.dns_fields.specs.Pieces.{Numbered, ParameterValue, ParameterHeld, piece, rising}
 use Rattle.dns_fields.proofs.{Numbers.length-bytes, Pieces.piece_before, Pieces.heads_same, Pieces.first_piece, FieldLaws.field_inside}
 use Rattle.dns_names_wire.specs.State.{Reading}
 use Rattle.dns_names_wire.specs.Words.{Took, TookField, StaysBehind, UnlessMemory, TookWindow, RefusedWindow, NoWindow}
 use Rattle.dns_names_wire.proofs.{FieldReads.unless_map, FieldReads.unless_all, WindowReads.Given, Strings.at_then}
+use Rattle.dns_names_wire.proofs.FieldReads.{stays, took_stays, stands_inside, refused_then, refused_past}
 use Rattle.dns_rdata_base.specs.Refusing.{FirstLack}
-use Rattle.dns_rdata_service.specs.{SvcParamKey.key_number, SvcParamValue.value_of, SvcParamValue.HasText, Hints.StandEach}
+use Rattle.dns_rdata_service.specs.{SvcParamKey.key_number, SvcParamValue.value_of, SvcParamValue.HasText, Hints.StandEach, SVCB.svcb_shape}
 use Rattle.dns_rdata_service.specs.Parameters.{Parameter, parameter_of, parameter_from, AreRead, HaveTexts, IsAbove, CutValue, RefusedValue}
 use Rattle.dns_rdata_service.specs.Parameters.{IsParameterRefusal, IsParametersRefusal}
-use Rattle.dns_rdata_service.proofs.{Refusals.NoKeyValue, Refusals.key_none, EachReads.EachOn, EachReads.each_more}
+use Rattle.dns_rdata_service.proofs.{ValueReads.NoKeyValue, ValueReads.key_none, ValueReads.EachOn, ValueReads.each_more}
 use Rattle.dns_rdata_service.proofs.Splits.{at_split, stays_then, all_behind, all_append}
 use Rattle.dns_rdata_service.proofs.ParameterLists.{Risen, risen_push, risen_not, risen_rises, fails_test, OneOf, one_long, one_once, one_of, parameters_each, each_parameters}
 use Rattle.dns_rdata_service.proofs.ParameterLists.{each_inside, each_rest}
+use Rattle.std.proofs.Common.{◌-◌, Err}
+use Rattle.dns_fields.specs.{Labels.DomainName}
+use Rattle.dns_fields.specs.Fields.{Kind, Name, Value, Stands, EndsItself}
+use Rattle.dns_fields.proofs.FieldLaws.{field_end}
+use Rattle.dns_names_wire.specs.{Words.Window}
+use Rattle.dns_names_wire.proofs.WindowReads.{filled_window}
+use Rattle.dns_rdata_service.specs.{SVCB.svcb_fields, SVCB.MeetsSvcbCondition, declared.svcb.SVCB.SVCB}
+use Rattle.dns_types.specs.declared.error.DecodeError.TheVariants as decode
 
 -- ---- one parameter
 
@@ -84,22 +92,16 @@ parameter_none e (inl h) = unless_all e (lacking_none h)
 parameter_none e (inr (inl h)) = unless_all e (cut_none h)
 parameter_none e (inr (inr h)) = value_refused h
 
-took_two : {old new : Reading} {a b : ℕ} → Took old (Number 2 ∷ Number 2 ∷ []) (a, (b, tt)) new → StaysBehind old new
-took_two t = let s = t.stands in record { message = t.message; index = omega (arith, (field_inside s.1).0, (field_inside s.2.1).0, s.2.2) }
-
 parameter_behind : {old new : Reading} (e : DecodeError) → IsParameterRefusal old e new → StaysBehind old new
-parameter_behind {old} {new} e (inl (inl h)) =
-    record { message = ap (λ (r : Reading). r.message) h.2; index = omega (arith, ap (λ (r : Reading). r.index) h.2) }
-parameter_behind {old} {new} e (inl (inr (n, between, took, inl h))) =
-    record {
-      message = ap (λ (r : Reading). r.message) h.2
-          ∙ took.message;
-      index = omega (arith, ap (λ (r : Reading). r.index) h.2, (field_inside took.field).0);
-    }
-parameter_behind {old} {new} e (inl (inr (n, between, took, inr h))) = absurd h.3
-parameter_behind e (inr (inl h)) = took_two h.took
-parameter_behind e (inr (inr h)) = let s = h.took.stands in
-    record { message = h.took.message; index = omega (arith, (field_inside s.1).0, (field_inside s.2.1).0, (field_inside s.2.2.1).0, s.2.2.2) }
+parameter_behind {old} e (inl (inl h)) = subst (StaysBehind old) (sym h.2) (stays old)
+parameter_behind {old} e (inl (inr (n, between, took, inl h))) = subst (StaysBehind old) (sym h.2) (took_stays took (stays between))
+parameter_behind e (inl (inr (n, between, took, inr h))) = absurd h.3
+parameter_behind {old} {new} e (inr (inl h)) = record
+    { message = h.took.message; index = stands_inside old.message old.index (Number 2 ∷ Number 2 ∷ []) (h.key, (h.size, tt)) new.index h.took.stands }
+parameter_behind {old} {new} e (inr (inr h)) = record {
+  message = h.took.message;
+  index = stands_inside old.message old.index (Number 2 ∷ Number 2 ∷ Rest ∷ []) (h.key, (length h.octets, (h.octets, tt))) new.index h.took.stands;
+}
 
 -- ---- several parameters
 
@@ -246,3 +248,78 @@ pub passed_refusal : {old d : Reading} {ps : List Parameter} {last : Option ℕ}
     → IsParametersRefusal p n old (decode.IncorrectRDataLengthRead size n) d
 passed_refusal {ps = ps} p n size on passed index =
     inr (inr (inr (record { taken = map parameter_of ps; size = size; took = on_taken on; error = refl; passed = passed; index = index })))
+
+-- asked of the fields behind the first
+abbrev pub BehindOne : (k : Kind) (kinds : List Kind) → (Values kinds → Type 0) → Values (k ∷ kinds) → Type 0
+BehindOne k kinds C vs = C vs.1
+
+none_then : {d b : Reading} {k : Kind} {v : Value k} {kinds : List Kind} {n r : ℕ} (C : Values kinds → Type 0) → EndsItself k → TookField d k v b
+    → b.index + r ≡ d.index + n → NoWindow b.message b.index r kinds C → NoWindow d.message d.index n (k ∷ kinds) (BehindOne k kinds C)
+none_then {d} {b} {k} {v} {kinds} {n} {r} C ends f all h = record {
+  none = λ vs w.
+      let s = w.stands in
+      let there : s.0 ≡ b.index = field_end ends s.1 f.field in
+      let rest : Stands b.message b.index kinds vs.1 (b.index + r) = subst (λ (e : ℕ). Stands b.message b.index kinds vs.1 e) (sym all)
+      (subst (λ (m : List ℕ). Stands m b.index kinds vs.1 (d.index + n)) (sym f.message)
+      (subst (λ (q : ℕ). Stands d.message q kinds vs.1 (d.index + n)) there s.2)) in
+      h.none vs.1 (record {
+        octets = subst AreOctets (sym f.message) w.octets;
+        short = omega (arith, w.short, all, (field_inside f.field).0);
+        within =
+            omega (arith, w.within, all, ap length f.message);
+        stands = rest;
+        holds = w.holds;
+      });
+}
+
+took_then : {d b e : Reading} {k : Kind} {v : Value k} {kinds : List Kind} {vs : Values kinds} {n r : ℕ} (C : Values kinds → Type 0) → EndsItself k
+    → TookField d k v b → n < 65536 → b.index + r ≡ d.index + n → TookWindow b r kinds C vs e
+    → TookWindow d n (k ∷ kinds) (BehindOne k kinds C) (v, vs) e
+took_then {d} {b} {e} {k} {v} {kinds} {vs} {n} {r} C ends f short all h = record {
+  behind = took_stays f h.behind;
+  here = λ same.
+      let w : Window b.message b.index r kinds C vs = h.here (omega (arith, same, all)) in
+      let rest : Stands d.message b.index kinds vs (d.index + n) = subst (λ (m : List ℕ). Stands m b.index kinds vs (d.index + n)) f.message
+      (subst (λ (q : ℕ). Stands b.message b.index kinds vs q) all w.stands) in
+      record {
+        octets = subst AreOctets f.message w.octets;
+        short = short;
+        within = omega (arith, w.within, all, ap length f.message);
+        stands =
+            (b.index, f.field, rest);
+        holds = w.holds;
+      };
+  elsewhere = λ ne. none_then C ends f all (h.elsewhere (λ same. ne (omega (arith, same, all))));
+}
+
+refused_behind : {e : DecodeError} {d b c : Reading} {k : Kind} {v : Value k} {kinds : List Kind} {n r : ℕ} (C : Values kinds → Type 0)
+    → EndsItself k → TookField d k v b → b.index + r ≡ d.index + n → RefusedWindow e b r kinds C c
+    → RefusedWindow e d n (k ∷ kinds) (BehindOne k kinds C) c
+refused_behind {e} C ends f all h = record { behind = took_stays f h.behind; none = unless_map e _ _ (none_then C ends f all) h.none }
+
+-- ---- SVCB
+
+abbrev Tail : List Kind
+Tail = Parameters ∷ []
+
+abbrev BehindName : Values (Name ∷ Tail) → Type 0
+BehindName = BehindOne Name Tail texts
+
+pub svcb_took : {d a b e : Reading} {priority : ℕ} {target : DomainName} {vs : Values Tail} (n r : ℕ) → TookField d (Number 2) priority a
+    → TookField a Name target b → n < 65536 → b.index + r ≡ d.index + n → TookWindow b r Tail texts vs e
+    → TookWindow d n svcb_shape MeetsSvcbCondition (priority, (target, vs)) e
+svcb_took {d} {a} {b} {e} {priority} {target} {vs} n r f g short all h =
+    let left : a.index + (d.index + n - a.index) ≡ d.index + n = omega (arith, (field_inside g.field).0, all) in
+    took_then BehindName tt f short left (took_then texts tt g (omega (arith, left, (field_inside f.field).0, short)) (omega (arith, left, all)) h)
+
+pub svcb_refused : {e : DecodeError} {d a b c : Reading} {priority : ℕ} {target : DomainName} (n r : ℕ) → TookField d (Number 2) priority a
+    → TookField a Name target b → b.index + r ≡ d.index + n → RefusedWindow e b r Tail texts c
+    → RefusedWindow e d n svcb_shape MeetsSvcbCondition c
+svcb_refused {e} {d} {a} {b} {c} n r f g all h =
+    let left : a.index + (d.index + n - a.index) ≡ d.index + n = omega (arith, (field_inside g.field).0, all) in
+    refused_behind BehindName tt f left (refused_behind texts tt g (omega (arith, left, all)) h)
+
+pub svcb_passed : {d a b : Reading} {priority : ℕ} {target : DomainName} (e : DecodeError) (n : ℕ) → Given d n → TookField d (Number 2) priority a
+    → TookField a Name target b → d.index + n < b.index → RefusedWindow e d n svcb_shape MeetsSvcbCondition b
+svcb_passed {d} {a} {b} e n given f g past = filled_window {T = SVCB} svcb_shape MeetsSvcbCondition svcb_fields (Err e) d b n tt given
+    (refused_then f tt (refused_then g tt (refused_past b (λ vs q c. omega (arith, c.0, past)))))

@@ -1,9 +1,9 @@
 -- Service bindings, compared field by field and parameter by parameter.
-use Rattle.std.proofs.Common.{◌≡◌, ◌≢◌, ℕ, ◌<◌, ◌≤◌, ◌^◌, ◌&&◌, true, false, true≢false, List, [], ◌∷◌, ◌++◌, length, drop, map, refl, sym}
+use Rattle.std.proofs.Common.{◌≡◌, ◌≢◌, ℕ, ◌<◌, ◌≤◌, ◌^◌, ◌&&◌, true, false, true≢false, List, [], ◌∷◌, ◌++◌, length, drop, map, refl, sym, ◌-◌, min}
 use Rattle.std.proofs.Common.{ap, ◌∙◌, arith}
 use Rattle.std.specs.Prelude.{nat_eq}
 use Rattle.std.specs.{Int.bytes_high_first, List.AllByRecursion, List.flat_map, FinMap.nat_cmp-IsAntisymmetric, FinMap.slice_cmp-IsAntisymmetric}
-use Rattle.std.specs.{Cmp.Equal-is, Cmp.ranks, Cmp.unsigned_Decides, Cmp.booleans_Decides, declared.cmp.Ordering.Ordering}
+use Rattle.std.specs.{Cmp.Equal-is, Cmp.ranks, Cmp.unsigned_Decides, Cmp.booleans_Decides, declared.cmp.Ordering.Ordering, Cmp.nat_cmp_is}
 use Rattle.std.specs.Cmp.Lexicographic.{pointwise, slice_cmp, pointwise_decides}
 use Rattle.std.specs.Ordering.{MatchOrdering, nat_cmp, ordering_then, is_eq, is_ne}
 use Rattle.std.specs.declared.cmp.Ordering.TheVariants.{Less, Equal, Greater}
@@ -14,10 +14,18 @@ use Rattle.dns_fields.proofs.Numbers.{number_cmp, length-bytes, same_number}
 use Rattle.dns_pieces.specs.Fronts.{canonical_cmp}
 use Rattle.dns_pieces.proofs.{Comparing.cmp_shared, Comparing.then_kept, Fronts.by_fields, Fronts.field_cmp, Fronts.front_then}
 use Rattle.dns_rdata_service.proofs.{OwnValues.value_given}
-use Rattle.dns_rdata_service.specs.{Fronts.OrderFirst, Fronts.joined, Fronts.behind_length, OwnKeys.value_eq, OwnKeys.value_same}
+use Rattle.dns_rdata_service.specs.{Ordering.OrderFirst, Ordering.joined, Ordering.behind_length, OwnKeys.value_eq, OwnKeys.value_same}
 use Rattle.dns_rdata_service.specs.{Parameters.Parameter, Parameters.own_parameter, Steps.parameters_from, SVCB.svcb_shape, SVCB.svcb_fields}
 use Rattle.dns_rdata_service.specs.{SVCB.svcb_key_shape, SVCB.svcb_keys, declared.svcb.SVCB.SVCB, declared.svcb.value.SvcParamValue.SvcParamValue}
 use Rattle.dns_rdata_service.specs.SvcParamValue.{value_key, value_of, sized}
+use Rattle.std.proofs.lemmas.List.{length-drop}
+use Rattle.std.specs.{Cmp.Derive.Mapped.lex_map}
+use Rattle.dns_pieces.proofs.Comparing.{then_equal}
+use Rattle.dns_rdata_base.specs.Numbered.{numbered_cmp}
+use Rattle.dns_rdata_service.specs.{SvcParamKey.key_number, SvcParamKey.key_variant, SvcParamValue.key_numbers}
+use Rattle.dns_rdata_service.specs.{declared.svcb.key.SvcParamKey.SvcParamKey}
+use Rattle.dns_rdata_service.specs.Ordering.{value_place, Differ}
+use Rattle.dns_rdata_service.specs.declared.svcb.value.SvcParamValue.TheVariants as variants
 
 -- ---- octets in front of others
 
@@ -180,3 +188,25 @@ all_alike a b o e tie p q marks same =
 -- where all are alike, none are behind them
 pub none_behind : (i : ℕ) (ps qs : List Parameter) → i ≡ length ps → i ≡ length qs → map own_parameter (drop i ps) ≡ map own_parameter (drop i qs)
 none_behind i ps qs e f = rw (drop_all i ps (omega arith), drop_all i qs (omega arith)) refl
+
+numbers_order : (j k : SvcParamKey) → numbered_cmp key_number key_variant j k ≡ slice_cmp nat_cmp (key_numbers j) (key_numbers k)
+numbers_order j k = ap (ordering_then (nat_cmp (key_number j) (key_number k))) (sym (then_equal (nat_cmp (key_variant j) (key_variant k))))
+
+pub keys_order : (xs ys : List SvcParamKey) → slice_cmp (numbered_cmp key_number key_variant) xs ys ≡ slice_cmp (slice_cmp nat_cmp) (map key_numbers xs) (map key_numbers ys)
+keys_order xs ys = ap (λ R. slice_cmp R xs ys) (λ i j k. numbers_order j k i) ∙ sym (lex_map key_numbers (slice_cmp nat_cmp) xs ys)
+
+pub differ_order : (v w : SvcParamValue) → Differ v w → nat_cmp (value_place v) (value_place w) ≡ slice_cmp (slice_cmp nat_cmp) (value_key v) (value_key w)
+differ_order (variants.Mandatory x) (variants.Mandatory y) d = absurd d
+differ_order v w d = grind arith
+
+-- where one list has ended, the number of items decides
+pub by_lengths : {X Y : Type 0} (R : Y → Y → Ordering) (view : List X → List Y) → ((xs : List X) → length (view xs) ≡ length xs) → (xs ys : List X) (i n : ℕ)
+    → n ≡ min (length xs) (length ys) → n ≤ i → i ≤ n → nat_cmp (length xs) (length ys) ≡ slice_cmp R (view (drop i xs)) (view (drop i ys))
+by_lengths R view same xs ys i n m past within =
+    by (view (drop i xs)) (view (drop i ys)) (same (drop i xs) ∙ length-drop i xs) (same (drop i ys) ∙ length-drop i ys)
+  where
+    by : (p q : List _) → length p ≡ length xs - i → length q ≡ length ys - i → nat_cmp (length xs) (length ys) ≡ slice_cmp R p q
+    by [] [] e f = sym (nat_cmp_is (length xs) (length ys) Equal (omega (arith, e, f, m, past, within)))
+    by [] (y ∷ q) e f = sym (nat_cmp_is (length xs) (length ys) Less (omega (arith, e, f, m, past, within)))
+    by (x ∷ p) [] e f = sym (nat_cmp_is (length xs) (length ys) Greater (omega (arith, e, f, m, past, within)))
+    by (x ∷ p) (y ∷ q) e f = absurd (omega (arith, e, f, m, past, within))

@@ -5,7 +5,7 @@ ghost use Rattle.std.specs.{Cmp.Lexicographic.slice_cmp, Ordering.nat_cmp, Order
 ghost use Rattle.std.specs.declared.cmp.Ordering.TheVariants.{Equal};
 ghost use Rattle.dns_fields.specs.{Equal.values_eq, Pieces.Alpn as Names, Pieces.Opaque, Pieces.Port};
 ghost use Rattle.dns_pieces.specs.Fronts.{canonical_cmp};
-ghost use Rattle.dns_rdata_service.specs.{Fronts.OrderFirst, Fronts.parameter_octets_of, Parameters.own_parameter, Steps.parameters_from};
+ghost use Rattle.dns_rdata_service.specs.{Ordering.OrderFirst, Ordering.parameter_octets_of, Parameters.own_parameter, Steps.parameters_from};
 ghost use Rattle.dns_rdata_service.specs.SvcParamValue.{sized, value_key, value_of};
 ghost use Rattle.dns_rdata_service.specs.SVCB.{svcb_shape, svcb_fields, svcb_key_shape, svcb_keys};
 
@@ -19,7 +19,7 @@ use std::cmp::Ordering;
 
 /// How two service bindings are ordered by priority, target and the first parameters that are not alike, and how many
 /// before these are alike. Equal where that is not easily told: what stands behind those that are alike then decides.
-#[tactic(auto, using(crate::proofs::SvcbFronts::ne_yes))]
+#[tactic(auto, using(crate::proofs::SvcbFronts::parameters_behind, crate::proofs::SvcbFronts::ne_no, crate::proofs::SvcbFronts::all_alike, crate::proofs::SvcbFronts::none_behind, crate::proofs::SvcbFronts::ne_yes))]
 pub fn svcb_front(a: &SVCB, b: &SVCB) -> (Ordering, usize)
     ensures order { canonical_cmp svcb_shape (svcb_fields a.now) (svcb_fields b.now) ≡ ordering_then result.0 (slice_cmp nat_cmp (parameters_from a.now.svc_params result.1) (parameters_from b.now.svc_params result.1)) }
     ensures first { result.1 ≤ length a.now.svc_params }
@@ -78,21 +78,13 @@ fn value_order(a: &SvcParamValue, b: &SvcParamValue) -> Option<Ordering>
     match (a, b) {
         (SvcParamValue::Alpn(x), SvcParamValue::Alpn(y)) => names_order(&x.0, &y.0),
         (SvcParamValue::Port(x), SvcParamValue::Port(y)) => Some(port_order(*x, *y)),
-        (SvcParamValue::Ipv4Hint(x), SvcParamValue::Ipv4Hint(y)) => {
-            hints_order(x.0.as_slice(), y.0.as_slice())
-        }
+        (SvcParamValue::Ipv4Hint(x), SvcParamValue::Ipv4Hint(y)) => hints_order(&x.0, &y.0),
         (SvcParamValue::EchConfigList(x), SvcParamValue::EchConfigList(y)) => {
             octets_order(x.0.as_slice(), y.0.as_slice())
         }
-        (SvcParamValue::Ipv6Hint(x), SvcParamValue::Ipv6Hint(y)) => {
-            hints_order(x.0.as_slice(), y.0.as_slice())
-        }
-        (SvcParamValue::DohPath(x), SvcParamValue::DohPath(y)) => {
-            octets_order(x.0.as_slice(), y.0.as_slice())
-        }
-        (SvcParamValue::Unknown(x), SvcParamValue::Unknown(y)) => {
-            octets_order(x.0.as_slice(), y.0.as_slice())
-        }
+        (SvcParamValue::Ipv6Hint(x), SvcParamValue::Ipv6Hint(y)) => hints_order(&x.0, &y.0),
+        (SvcParamValue::DohPath(x), SvcParamValue::DohPath(y)) => octets_order(&x.0, &y.0),
+        (SvcParamValue::Unknown(x), SvcParamValue::Unknown(y)) => octets_order(&x.0, &y.0),
         _ => if a == b { Some(Ordering::Equal) } else { None },
     }
 }

@@ -11,7 +11,7 @@ use crate::svcb::{Parameter, SVCB, SvcParamKey, SvcParamValue};
 use std::cmp::Ordering;
 
 // The order of two lists of keys: key by key, each by number and then by variant.
-#[tactic(auto, using(crate::proofs::FieldOrder::keys_order))]
+#[tactic(auto, using(crate::proofs::SvcbFronts::keys_order))]
 fn keys_cmp(a: &[SvcParamKey], b: &[SvcParamKey]) -> Ordering
     ensures { result ≡ slice_cmp (slice_cmp nat_cmp) (map key_numbers a.now) (map key_numbers b.now) }
 {
@@ -38,7 +38,7 @@ fn place(value: &SvcParamValue) -> u8
 
 // The order of two values of different variants: by the place in the declaration.
 #[inline]
-#[tactic(auto, using(crate::proofs::FieldOrder::differ_order))]
+#[tactic(auto, using(crate::proofs::SvcbFronts::differ_order))]
 fn places_cmp(a: &SvcParamValue, b: &SvcParamValue) -> Ordering
     requires { Differ a.now b.now }
     ensures { result ≡ slice_cmp (slice_cmp nat_cmp) (value_key a.now) (value_key b.now) }
@@ -51,18 +51,12 @@ fn value_cmp(a: &SvcParamValue, b: &SvcParamValue) -> Ordering
     ensures { result ≡ slice_cmp (slice_cmp nat_cmp) (value_key a.now) (value_key b.now) }
 {
     match (a, b) {
-        (SvcParamValue::Mandatory(x), SvcParamValue::Mandatory(y)) => {
-            keys_cmp(x.0.as_slice(), y.0.as_slice())
-        }
+        (SvcParamValue::Mandatory(x), SvcParamValue::Mandatory(y)) => keys_cmp(&x.0, &y.0),
         (SvcParamValue::Alpn(x), SvcParamValue::Alpn(y)) => x.0.as_slice().cmp(y.0.as_slice()),
         (SvcParamValue::Port(m), SvcParamValue::Port(n)) => m.cmp(n),
-        (SvcParamValue::Ipv4Hint(x), SvcParamValue::Ipv4Hint(y)) => {
-            hints_cmp(x.0.as_slice(), y.0.as_slice())
-        }
+        (SvcParamValue::Ipv4Hint(x), SvcParamValue::Ipv4Hint(y)) => hints_cmp(&x.0, &y.0),
         (SvcParamValue::EchConfigList(x), SvcParamValue::EchConfigList(y)) => x.0.cmp(&y.0),
-        (SvcParamValue::Ipv6Hint(x), SvcParamValue::Ipv6Hint(y)) => {
-            hints_cmp(x.0.as_slice(), y.0.as_slice())
-        }
+        (SvcParamValue::Ipv6Hint(x), SvcParamValue::Ipv6Hint(y)) => hints_cmp(&x.0, &y.0),
         (SvcParamValue::DohPath(x), SvcParamValue::DohPath(y)) => x.0.cmp(&y.0),
         (SvcParamValue::Unknown(x), SvcParamValue::Unknown(y)) => x.0.cmp(&y.0),
         _ => places_cmp(a, b),

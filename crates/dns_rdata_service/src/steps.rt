@@ -171,33 +171,9 @@ fn head_step<'a>(parameters: &'a [Parameter], part: usize, head: &mut Head) -> O
     })
 }
 
-// An item of the parameter of this number, or the head of the next one.
-#[tactic(auto, using(crate::proofs::PieceSteps::past_items))]
-fn item_step<'a>(
-    parameters: &'a [Parameter],
-    part: usize,
-    item: usize,
-    head: &mut Head,
-) -> Option<Step<'a>>
-    requires empty { head.old ≡ [] }
-    requires emittable { are_emittable parameters.now }
-    ensures { GivesPiece parameters.now part (item + 1) head.new result }
-{
-    if part >= parameters.len() {
-        return None;
-    }
-    match put_item(&parameters[part].1, item, head) {
-        Some(tail) => Some(Step {
-            tail,
-            step: 1,
-            part,
-            item: item + 2,
-        }),
-        None => head_step(parameters, part + 1, head),
-    }
-}
-
-// What comes next of the parameters.
+// What comes next of the parameters: the head of the one of this number, an item of it, or behind its last item the head of
+// the next one.
+#[tactic(auto, using(crate::proofs::PieceSteps::emittable_at, crate::proofs::PieceSteps::past_items))]
 fn parameter_step<'a>(
     parameters: &'a [Parameter],
     part: usize,
@@ -209,9 +185,19 @@ fn parameter_step<'a>(
     ensures { GivesPiece parameters.now part item head.new result }
 {
     if item == 0 {
-        head_step(parameters, part, head)
-    } else {
-        item_step(parameters, part, item - 1, head)
+        return head_step(parameters, part, head);
+    }
+    if part >= parameters.len() {
+        return None;
+    }
+    match put_item(&parameters[part].1, item - 1, head) {
+        Some(tail) => Some(Step {
+            tail,
+            step: 1,
+            part,
+            item: item + 1,
+        }),
+        None => head_step(parameters, part + 1, head),
     }
 }
 

@@ -86,7 +86,13 @@ impl SVCB {
     pub fn get(&self, key: SvcParamKey) -> Option<&SvcParamValue>
         ensures { option_copied result ≡ value_at (key_number key) self.now.svc_params }
     {
-        parameters::value_of_number(self.svc_params.as_slice(), key.number())
+        let number = key.number();
+        for (other, value) in self.svc_params.as_slice() {
+            if other.number() == number {
+                return Some(value);
+            }
+        }
+        None
     }
 
     /// Sorts the parameters by the numbers of their keys, as they are to stand in a message (RFC 9460, 2.2). Takes no

@@ -17,7 +17,7 @@ use std::convert::AsStr;
 const SVC_PRIORITY: Field = number_field!("SvcPriority");
 
 // The parameters of all further words.
-#[tactic(auto, using(crate::proofs::WordParameters::parameters_took))]
+#[tactic(auto, using(crate::proofs::ItemLists::parameters_took))]
 fn all_parameters<S: AsStr + Drop, I: Iterator<Item = S>>(
     alloc: Global,
     words: I,

@@ -53,7 +53,7 @@ impl FromItem for AAAA {
 }
 
 impl FromItem for SvcParamKey {
-    ghost use Rattle.dns_rdata_service.specs.KeyTexts.{IsKeyText};
+    ghost use Rattle.dns_rdata_service.specs.ParameterWords.{IsKeyText};
 
     ghost is_text = { IsKeyText };
 
@@ -118,6 +118,7 @@ pub(super) fn item_of<T: FromItem>(alloc: Global, text: &str) -> Result<T, Parse
 }
 
 // The values of the items of a list. Memory is asked for the list beside what the values and pieces with a `\` need.
+#[tactic(auto, using(crate::proofs::ItemLists::so_far_more))]
 pub(super) fn items_of<T: FromItem + Drop>(
     alloc: Global,
     text: &str,

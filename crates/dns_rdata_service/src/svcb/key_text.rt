@@ -2,7 +2,7 @@
 
 ghost use Rattle.std.specs.Prelude.{◌≢◌, ℕ, IfErr, MatchOption};
 ghost use Rattle.dns_types.specs.declared.error.ProtoError.TheVariants as proto;
-ghost use Rattle.dns_rdata_service.specs.KeyTexts.{IsNumberedKey};
+ghost use Rattle.dns_rdata_service.specs.ParameterWords.{IsNumberedKey};
 
 use crate::svcb::key::SvcParamKey;
 use dns_names_wire::ProtoError;
@@ -23,11 +23,11 @@ impl FromStr for SvcParamKey {
     type Err = ProtoError;
 
     ghost use Rattle.std.specs.Net.Grammar.{Parses};
-    ghost use Rattle.dns_rdata_service.specs.KeyTexts.{IsKeyText};
+    ghost use Rattle.dns_rdata_service.specs.ParameterWords.{IsKeyText};
 
     ghost from_str_gives = { λ text r. Parses IsKeyText text r × IfErr r (λ e. e ≢ proto.Memory) };
 
-    #[tactic(auto, using(crate::proofs::KeyTexts::no_key, crate::proofs::KeyTexts::not_memory), unfolding(crate::specs::SvcParamKey::key_text))]
+    #[tactic(auto, using(crate::proofs::ParameterWords::no_key, crate::proofs::ParameterWords::not_memory), unfolding(crate::specs::SvcParamKey::key_text))]
     fn from_str(text: &str) -> Result<SvcParamKey, ProtoError> {
         match text {
             "mandatory" => Ok(SvcParamKey::Mandatory),

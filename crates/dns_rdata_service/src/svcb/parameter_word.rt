@@ -2,7 +2,7 @@
 
 ghost use Rattle.std.specs.Prelude.{◌≡◌, ◌≢◌, ◌∷◌, ℕ, [], List, IfErr, IfNone, IfOk, IfSome, IsUtf8};
 ghost use Rattle.dns_types.specs.declared.error.ParseError.TheVariants as parse;
-ghost use Rattle.dns_rdata_service.specs.{declared.svcb.value.SvcParamValue.SvcParamValue as Value, Parameters.Parameter, KeyTexts.IsKeyText};
+ghost use Rattle.dns_rdata_service.specs.{declared.svcb.value.SvcParamValue.SvcParamValue as Value, Parameters.Parameter, ParameterWords.IsKeyText};
 ghost use Rattle.dns_rdata_service.specs.ParameterWords.{IsValueAlone, IsValueText, IsUnquoted, HasValue, IsParameterWord};
 
 use crate::svcb::Parameter;
@@ -17,16 +17,10 @@ use crate::svcb::value::SvcParamValue;
 use dns_names_wire::{Octets, ParseError};
 use std::alloc::Global;
 
-/// The parameter of a word: a key, and perhaps a `=` and a value. The first `=` divides them.
-///
-/// The key is a text of [`SvcParamKey`]. Quotes round the value are dropped; one quote alone is refused. What is left
-/// is, for `mandatory`, `alpn`, `ipv4hint` and `ipv6hint`, a list of keys, names and addresses: a `\` is dropped and
-/// the next character kept, any other comma ends an item, and what is left at the end is one more; and of each the
-/// first token, which must be a word. For `port`, `ech` and `dohpath` it is one such item, a decimal number of 16 bits,
-/// base64 (RFC 4648, 4) or the path. `no-default-alpn` has no value, and no `=`. For a `key` with a number it is the
-/// value's octets; without a `=` there are none. Every other word is refused, `key65535` too: by `Proto` where there is
-/// no such key, by `AddrParse` where an item is no address, and else by `Message`. Takes memory for what the value
-/// holds, and where a piece of a list or an item has a `\`.
+// The parameter of a word, as `SVCB::from_tokens` says. In a list a `\` is dropped and the next character kept, any other
+// comma ends an item, and what is left at the end is one more; and of each item the first token, which must be a word. For
+// `port`, `ech` and `dohpath` it is one such item. Takes memory for what the value holds, and where a piece of a list or an
+// item has a `\`.
 pub(crate) fn parameter_of(alloc: Global, word: &str) -> Result<Parameter, ParseError>
     ensures ok { IfOk result (IsParameterWord word.now) }
     ensures refused { IfErr result (λ e. e ≢ parse.Memory → (p : Parameter) → IsParameterWord word.now p → ⊥) }

@@ -1,5 +1,5 @@
 use Rattle.std.proofs.Common.{arith}
-use Rattle.dns_rdata_service.proofs.{Splits.is_err, HeadReads.svcb_took, HeadReads.svcb_refused, HeadReads.svcb_passed}
+use Rattle.dns_rdata_service.proofs.{Splits.is_err, ParameterReads.svcb_took, ParameterReads.svcb_refused, ParameterReads.svcb_passed}
 use Rattle.dns_rdata_service.proofs.svcb.SVCBRecordDataDecodable.read_data.Goals as goal
 
 pub returns-then-len-read-clause-window : goal.returns-then-len-read-clause-window

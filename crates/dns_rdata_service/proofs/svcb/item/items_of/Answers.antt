@@ -8,20 +8,3 @@ returns-in_err-item_of-clause-refused g c =
     so_far_refused g.T.FromItem.is_text c.args.text.now c.pieces.rest.now c.as_str.result.now c.in-Some.more.now c.pieces.values c.pieces.invariant.0
     (rw c.as_str.ensures.value piece) (c.in_err-item_of.ensures.refused h) all l)
 
-pub pieces-preserved-in_ok-push : goal.pieces-preserved-in_ok-push
-pieces-preserved-in_ok-push g c =
-    let piece = rw c.in-Some.is at c.in_ok-piece.ensures.piece in
-    let utf8 = rw c.in-Some.is at c.in_ok-piece.ensures.utf8 in (
-      so_far_more g.T.FromItem.is_text c.args.text.now c.pieces.rest.now c.as_str.result.now c.in-Some.more.now c.pieces.values c.push.new.self
-          c.in_ok-item_of.field-0 c.pieces.invariant.0 (rw c.as_str.ensures.value piece) c.in_ok-item_of.ensures.ok c.in_ok-push.ensures.ok,
-      utf8,
-    )
-
-pub pieces-preserved : goal.pieces-preserved
-pieces-preserved g c =
-    let piece = rw c.in-Some.is at c.in_ok-piece.ensures.piece in
-    let utf8 = rw c.in-Some.is at c.in_ok-piece.ensures.utf8 in (
-      so_far_more g.T.FromItem.is_text c.args.text.now c.pieces.rest.now c.as_str.result.now c.in-Some.more.now c.pieces.values c.push.new.self
-          c.in_ok-item_of.field-0 c.pieces.invariant.0 (rw c.as_str.ensures.value piece) c.in_ok-item_of.ensures.ok c.in_ok-push.ensures.ok,
-      utf8,
-    )

@@ -1,6 +1,6 @@
 use Rattle.std.proofs.Common.{subst}
 use Rattle.dns_rdata_service.specs.ParameterWords.{IsValueAlone}
-use Rattle.dns_rdata_service.proofs.{Splits.is_err, KeyTexts.key_one}
+use Rattle.dns_rdata_service.proofs.{Splits.is_err, ParameterWords.key_one}
 use Rattle.dns_rdata_service.proofs.svcb.parameter_word.alone.Goals as goal
 
 pub returns-in_err-value_alone-clause-refused : goal.returns-in_err-value_alone-clause-refused

@@ -1,6 +1,6 @@
 use Rattle.std.proofs.Common.{subst}
 use Rattle.dns_rdata_service.specs.ParameterWords.{IsValueText}
-use Rattle.dns_rdata_service.proofs.{Splits.is_err, KeyTexts.key_one, ParameterWords.unquoted_one}
+use Rattle.dns_rdata_service.proofs.{Splits.is_err, ParameterWords.key_one, ParameterWords.unquoted_one}
 use Rattle.dns_rdata_service.proofs.svcb.parameter_word.with_value.Goals as goal
 
 pub returns-in_default-clause-refused : goal.returns-in_default-clause-refused
