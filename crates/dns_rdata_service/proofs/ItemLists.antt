@@ -1,17 +1,14 @@
 -- Items of a list, read piece by piece.
 use Rattle.std.proofs.Common.{◌≡◌, ℕ, List, [], ◌∷◌, ◌++◌, sym, ◌∙◌, ap, subst, append_assoc, ◌≢◌, Result, Ok, Err, Option, Some, None, refl, map}
-use Rattle.std.specs.Prelude.{IfErr}
-use Rattle.std.specs.List.{AllZip}
+use Rattle.std.specs.{Iterator.Yields, Prelude.IfErr, List.AllZip}
 use Rattle.dns_text.specs.Lists.{pieces_of, IsItem}
-use Rattle.dns_rdata_service.specs.ParameterWords.{ItemOf, ListOf}
+use Rattle.dns_rdata_service.specs.ParameterWords.{ItemOf, ListOf, IsParameterWord}
+use Rattle.dns_rdata_service.specs.{WordRows.these_parameters, WordRows.parameter_words, Parameters.Parameter, Parameters.parameter_of}
 use Rattle.dns_types.specs.declared.error.ParseError.{ParseError}
 use Rattle.dns_text.proofs.ListSteps.{item_one}
-use Rattle.std.specs.{Iterator.Yields}
 use Rattle.dns_fields.specs.Fields.{Parameters, Values}
 use Rattle.dns_words.specs.Reads.{UnlessMemory, TookWords, RefusedWords}
 use Rattle.dns_words.proofs.{Steps.holds_word, Steps.holds_all, Steps.holds_drained, Yielded.holds_yielded}
-use Rattle.dns_rdata_service.specs.{Parameters.Parameter, Parameters.parameter_of, ParameterWords.IsParameterWord}
-use Rattle.dns_rdata_service.specs.WordRows.{these_parameters, parameter_words}
 use Rattle.dns_types.specs.declared.error.ParseError.TheVariants as parse
 
 module _ {A B : Type 0} (R : A → B → Type 0) where

@@ -1,11 +1,8 @@
 pub mod Splits
 pub mod ParameterWords
 pub mod ValueReads
-pub mod EachTexts
-pub mod HintReads
-pub mod EachEmits
 pub mod ParameterLists
-pub mod ParameterEmits
+pub mod EachEmits
 pub mod ParameterReads
 pub mod SvcbValues
 pub mod PieceSteps

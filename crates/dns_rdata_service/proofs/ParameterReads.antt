@@ -1,30 +1,26 @@
 -- Reading parameters one after the other.
 use Rattle.std.proofs.Common.{◌≡◌, inl, inr, ℕ, ◌+◌, ◌<◌, ◌≤◌, List, [], ◌∷◌, ◌++◌, length, drop, map, Option, Some, refl, sym, ap, ◌∙◌, arith, subst}
+use Rattle.std.proofs.{lemmas.List.length-append, lemmas.List.length-drop, lemmas.List.map_push, Common.◌-◌, Common.Err}
 use Rattle.std.specs.Int.{bytes_high_first}
-use Rattle.std.proofs.lemmas.List.{length-append, length-drop, map_push}
 use Rattle.dns_types.specs.declared.error.DecodeError.{DecodeError}
-use Rattle.dns_fields.specs.{Octets.At, Fields.Number, Fields.Octets, Fields.Rest, Fields.Parameters, Fields.Field, Fields.Values, Octets.AreOctets}
-use Rattle.dns_fields.specs.Pieces.{Numbered, ParameterValue, ParameterHeld, piece, rising}
-use Rattle.dns_fields.proofs.{Numbers.length-bytes, Pieces.piece_before, Pieces.heads_same, Pieces.first_piece, FieldLaws.field_inside}
+use Rattle.dns_fields.specs.Fields.{Number, Octets, Rest, Parameters, Field, Values, Kind, Name, Value, Stands, EndsItself}
+use Rattle.dns_fields.specs.{Pieces.Numbered, Pieces.ParameterValue, Pieces.ParameterHeld, Pieces.piece, Pieces.rising, Octets.At, Octets.AreOctets}
+use Rattle.dns_fields.specs.Labels.{DomainName}
+use Rattle.dns_fields.proofs.{Pieces.piece_before, Pieces.heads_same, Pieces.first_piece, FieldLaws.field_inside, FieldLaws.field_end}
+use Rattle.dns_fields.proofs.Numbers.{length-bytes}
+use Rattle.dns_names_wire.specs.Words.{Took, TookField, StaysBehind, UnlessMemory, TookWindow, RefusedWindow, NoWindow, Window}
 use Rattle.dns_names_wire.specs.State.{Reading}
-use Rattle.dns_names_wire.specs.Words.{Took, TookField, StaysBehind, UnlessMemory, TookWindow, RefusedWindow, NoWindow}
-use Rattle.dns_names_wire.proofs.{FieldReads.unless_map, FieldReads.unless_all, WindowReads.Given, Strings.at_then}
-use Rattle.dns_names_wire.proofs.FieldReads.{stays, took_stays, stands_inside, refused_then, refused_past}
+use Rattle.dns_names_wire.proofs.FieldReads.{unless_map, unless_all, stays, took_stays, stands_inside, refused_then, refused_past}
+use Rattle.dns_names_wire.proofs.{WindowReads.Given, WindowReads.filled_window, Strings.at_then}
 use Rattle.dns_rdata_base.specs.Refusing.{FirstLack}
-use Rattle.dns_rdata_service.specs.{SvcParamKey.key_number, SvcParamValue.value_of, SvcParamValue.HasText, Hints.StandEach, SVCB.svcb_shape}
 use Rattle.dns_rdata_service.specs.Parameters.{Parameter, parameter_of, parameter_from, AreRead, HaveTexts, IsAbove, CutValue, RefusedValue}
-use Rattle.dns_rdata_service.specs.Parameters.{IsParameterRefusal, IsParametersRefusal}
-use Rattle.dns_rdata_service.proofs.{ValueReads.NoKeyValue, ValueReads.key_none, ValueReads.EachOn, ValueReads.each_more}
+use Rattle.dns_rdata_service.specs.{Parameters.IsParameterRefusal, Parameters.IsParametersRefusal, SvcParamValue.value_of, SvcParamValue.HasText}
+use Rattle.dns_rdata_service.specs.{SVCB.svcb_shape, SVCB.svcb_fields, SVCB.MeetsSvcbCondition, declared.svcb.SVCB.SVCB, SvcParamKey.key_number}
+use Rattle.dns_rdata_service.specs.Hints.{StandEach}
+use Rattle.dns_rdata_service.proofs.ParameterLists.{Risen, risen_push, risen_not, risen_rises, fails_test, OneOf, one_long, one_once, one_of}
+use Rattle.dns_rdata_service.proofs.ParameterLists.{parameters_each, each_parameters, each_inside, each_rest}
+use Rattle.dns_rdata_service.proofs.ValueReads.{NoKeyValue, key_none, EachOn, each_more}
 use Rattle.dns_rdata_service.proofs.Splits.{at_split, stays_then, all_behind, all_append}
-use Rattle.dns_rdata_service.proofs.ParameterLists.{Risen, risen_push, risen_not, risen_rises, fails_test, OneOf, one_long, one_once, one_of, parameters_each, each_parameters}
-use Rattle.dns_rdata_service.proofs.ParameterLists.{each_inside, each_rest}
-use Rattle.std.proofs.Common.{◌-◌, Err}
-use Rattle.dns_fields.specs.{Labels.DomainName}
-use Rattle.dns_fields.specs.Fields.{Kind, Name, Value, Stands, EndsItself}
-use Rattle.dns_fields.proofs.FieldLaws.{field_end}
-use Rattle.dns_names_wire.specs.{Words.Window}
-use Rattle.dns_names_wire.proofs.WindowReads.{filled_window}
-use Rattle.dns_rdata_service.specs.{SVCB.svcb_fields, SVCB.MeetsSvcbCondition, declared.svcb.SVCB.SVCB}
 use Rattle.dns_types.specs.declared.error.DecodeError.TheVariants as decode
 
 -- ---- one parameter
@@ -121,9 +117,6 @@ one_here : {old d b : Reading} {ps : List Parameter} {last : Option ℕ} {x : Nu
     → TookField d Parameters (x ∷ []) b → OneOf old.message d.index x b.index
 one_here {old} {d} {b} {x = x} on f = subst (λ (m : List ℕ). OneOf m d.index x b.index) on.each.behind.message (one_of f.field)
 
-one_behind : {d b : Reading} {x : Numbered ParameterValue} → TookField d Parameters (x ∷ []) b → StaysBehind d b
-one_behind f = record { message = f.message; index = (field_inside f.field).0 }
-
 pub on_more : {old d b : Reading} {ps : List Parameter} {last : Option ℕ} {p : Parameter} {n : ℕ} → ParametersOn old ps last d
     → TookField d Parameters (parameter_of p ∷ []) b → p ≡ parameter_from (parameter_of p) → HasText (key_number p.0) (value_of p.1) → n ≡ key_number p.0
     → IsAbove last n → ParametersOn old (ps ++ p ∷ []) (Some n) b
@@ -131,7 +124,7 @@ on_more {old} {d} {b} {ps} {last} {p} {n} on f is text number above =
     let risen : Risen (Some (key_number p.0)) (map parameter_of ps ++ parameter_of p ∷ []) = risen_push last (map parameter_of ps) (parameter_of p) on.risen
     (subst (IsAbove last) number above) in
     record {
-      each = rw map_push (each_more OneOf on.each (one_behind f) (one_of f.field));
+      each = rw map_push (each_more OneOf on.each (took_stays f (stays b)) (one_of f.field));
       within = (one_here on f).at.within;
       risen = rw (map_push, number) risen;
       read = read_push ps p on.read is;
@@ -190,7 +183,7 @@ pub on_order : {old d b : Reading} {ps : List Parameter} {last : Option ℕ} {x 
     → d.index + 4 ≤ old.index + n → ParametersOn old ps last d → TookField d Parameters (x ∷ []) b → (IsAbove last x.0 → ⊥)
     → RefusedWindow e old n (Parameters ∷ []) texts b
 on_order {old} {d} {b} {ps} {last} {x} e n room on f fails = record {
-  behind = stays_then on.each.behind (one_behind f);
+  behind = stays_then on.each.behind (took_stays f (stays b));
   none = unless_all e (no_window (λ v g u.
       let y = next_of on (omega (arith, room)) g in
       let same : y.next ≡ x = (one_once y.one (one_here on f)).0 in
@@ -203,7 +196,7 @@ pub on_passed : {old d b : Reading} {ps : List Parameter} {last : Option ℕ} {x
     → d.index + 4 ≤ old.index + n → ParametersOn old ps last d → TookField d Parameters (x ∷ []) b → old.index + n < b.index
     → RefusedWindow e old n (Parameters ∷ []) texts b
 on_passed {old} {d} {b} {ps} {last} {x} e n room on f past = record {
-  behind = stays_then on.each.behind (one_behind f);
+  behind = stays_then on.each.behind (took_stays f (stays b));
   none = unless_all e (no_window (λ v g u.
       let y = next_of on (omega (arith, room)) g in
       omega (arith, (one_once y.one (one_here on f)).1, y.before, past)));

@@ -1,18 +1,17 @@
 -- Words of parameters: what is taken of each, and why it is of none.
 use Rattle.std.proofs.Common.{◌≡◌, ◌≢◌, ℕ, List, [], ◌∷◌, ◌++◌, refl, sym, ◌∙◌, subst, inl, inr, ⊎_elim, ◌<◌, length, length-append, get_or, arith}
 use Rattle.std.proofs.Common.{Option, Some, None, Result, Ok, Err, drop, ap, find, unwrap_or, ◌==◌, if◌then◌else◌, Bool, true, false}
-use Rattle.std.proofs.{lemmas.List.append_cancel_right, lemmas.List.get_or_default, Math.Seq.get_or-append_seam}
 use Rattle.std.proofs.lemmas.Str.Pattern.{IsSplitOnceResult, split_parts, split_after}
-use Rattle.std.specs.Prelude.{IfOk, IfErr, codes}
+use Rattle.std.proofs.{lemmas.List.append_cancel_right, lemmas.List.get_or_default, Math.Seq.get_or-append_seam}
+use Rattle.std.specs.{Cmp.Lexicographic.pointwise, Cmp.Lexicographic.pointwise_decides, Str.Parse.digits_value, Str.Parse.without_leading_plus}
+use Rattle.std.specs.{Prelude.IfOk, Prelude.IfErr, Prelude.codes, Cmp.unsigned_Decides}
 use denote.Ref.{Bor}
 use Rattle.dns_types.specs.declared.error.ParseError.{ParseError}
-use Rattle.dns_rdata_service.specs.{ParameterWords.IsKeyText, Parameters.Parameter, declared.svcb.value.SvcParamValue.SvcParamValue}
-use Rattle.dns_rdata_service.specs.ParameterWords.{ItemOf, ListOf, IsValueAlone, IsValueText, IsUnquoted, HasNoEquals, HasValue, IsKeyAlone}
-use Rattle.dns_rdata_service.specs.ParameterWords.{IsKeyWithValue, IsParameterWord}
-use Rattle.std.specs.{Cmp.unsigned_Decides, Str.Parse.digits_value, Str.Parse.without_leading_plus}
-use Rattle.std.specs.Cmp.Lexicographic.{pointwise, pointwise_decides}
-use Rattle.dns_rdata_service.specs.{SvcParamKey.key_text, SvcParamKey.named_keys, ParameterWords.IsNumberedKey, declared.svcb.key.SvcParamKey.SvcParamKey}
+use Rattle.dns_rdata_service.specs.ParameterWords.{IsKeyText, ItemOf, ListOf, IsValueAlone, IsValueText, IsUnquoted, HasNoEquals, HasValue}
 use Rattle.dns_rdata_service.specs.declared.svcb.key.SvcParamKey.TheVariants.{Key, Key65535, Unknown}
+use Rattle.dns_rdata_service.specs.ParameterWords.{IsKeyAlone, IsKeyWithValue, IsParameterWord, IsNumberedKey}
+use Rattle.dns_rdata_service.specs.{declared.svcb.value.SvcParamValue.SvcParamValue, SvcParamKey.key_text, SvcParamKey.named_keys}
+use Rattle.dns_rdata_service.specs.{declared.svcb.key.SvcParamKey.SvcParamKey, Parameters.Parameter}
 use Rattle.dns_types.specs.declared.error.ParseError.TheVariants as parse
 use Rattle.dns_rdata_service.specs.declared.svcb.key.SvcParamKey.TheVariants as keys
 use Rattle.dns_rdata_service.specs.declared.svcb.value.SvcParamValue.TheVariants as values

@@ -1,22 +1,21 @@
 -- Parameters, piece by piece.
-use Rattle.std.proofs.Common.{◌≡◌, ◌≢◌, ℕ, zero, suc, ◌+◌, ◌-◌, ◌*◌, ◌<◌, ◌≤◌, ◌&&◌, nat_le, true, Option, Some, None, Result, Ok, Err, List, [], ◌∷◌, ◌++◌, length, get_or}
-use Rattle.std.proofs.Common.{drop, map, slice_get, refl, sym, ap, ◌∙◌, subst, arith, append_assoc, length-append}
-use Rattle.std.proofs.{lemmas.Bool.Decides.nat_tests, lemmas.Simd.map-map, lemmas.List.Sums.AllPass-from_list_all}
+use Rattle.std.proofs.Common.{◌≡◌, ◌≢◌, ℕ, zero, suc, ◌+◌, ◌-◌, ◌*◌, ◌<◌, ◌≤◌, ◌&&◌, nat_le, true, Option, Some, None, Result, Ok, Err, List, [], ◌∷◌}
+use Rattle.std.proofs.Common.{◌++◌, length, get_or, drop, map, slice_get, refl, sym, ap, ◌∙◌, subst, arith, append_assoc, length-append}
 use Rattle.std.proofs.lemmas.List.{append-nil, drop_more, drop_all, get_or-map, length-map}
-use Rattle.std.proofs.lemmas.Option.{slice_get-get_or, slice_get_past}
+use Rattle.std.proofs.{lemmas.Option.slice_get-get_or, lemmas.Option.slice_get_past, lemmas.List.Sums.AllPass-from_list_all, lemmas.Simd.map-map}
+use Rattle.std.proofs.{lemmas.Bool.Decides.nat_tests, Math.Nat.mul_comm}
 use Rattle.dns_fields.proofs.Sorted.{flat_map_all}
-use Rattle.std.proofs.Math.Nat.{mul_comm}
-use Rattle.std.specs.Result.{OkIff, result_ok}
-use Rattle.dns_rdata_service.proofs.{Splits.length_numbers, ValueReads.length_groups}
-use Rattle.std.specs.{List.flat_map, List.list_all, List.AllByRecursion, Int.bytes_high_first, Cmp.first_so, Cmp.second_so}
-use Rattle.dns_fields.specs.{Fields.Name, Fields.field_octets, Fields.parameter_pieces, Labels.lowname}
+use Rattle.std.specs.{List.flat_map, List.list_all, List.AllByRecursion, Result.OkIff, Result.result_ok, Cmp.first_so, Cmp.second_so}
+use Rattle.std.specs.Int.{bytes_high_first}
+use Rattle.dns_rdata_service.proofs.{ValueReads.length_groups, Splits.length_numbers}
 use Rattle.dns_fields.specs.Pieces.{string, piece, pieces, as_piece, ParameterValue, Mandatory, Alpn, NoDefaultAlpn, Port, Ipv4Hint, Ipv6Hint, Opaque}
-use Rattle.dns_fields.specs.Pieces.{parameter_octets, parameter_emittable, rising}
-use Rattle.dns_pieces.specs.{declared.step.Step.Step, Steps.GivesStep, Steps.StepAt}
-use Rattle.dns_rdata_service.specs.{SvcParamValue.value_of, SvcParamValue.fits_value, Parameters.Parameter, Parameters.parameter_of}
-use Rattle.dns_rdata_service.specs.{SvcParamKey.key_number, declared.svcb.key.SvcParamKey.SvcParamKey, declared.svcb.SVCB.SVCB}
+use Rattle.dns_fields.specs.{Pieces.parameter_octets, Pieces.parameter_emittable, Pieces.rising, Labels.lowname}
+use Rattle.dns_fields.specs.Fields.{Name, field_octets, parameter_pieces}
+use Rattle.dns_pieces.specs.{Steps.GivesStep, Steps.StepAt, declared.step.Step.Step}
 use Rattle.dns_rdata_service.specs.Steps.{parameter_head, value_front, value_items, parameters_from, items_of, parameters_left, svcb_left}
-use Rattle.dns_rdata_service.specs.{Steps.are_emittable, Steps.IsSizeOf, Steps.NextPiece, Steps.GivesPiece, Ordering.joined}
+use Rattle.dns_rdata_service.specs.{Steps.are_emittable, Steps.IsSizeOf, Steps.NextPiece, Steps.GivesPiece, declared.svcb.key.SvcParamKey.SvcParamKey}
+use Rattle.dns_rdata_service.specs.{SvcParamValue.value_of, SvcParamValue.fits_value, Parameters.Parameter, Parameters.parameter_of, Ordering.joined}
+use Rattle.dns_rdata_service.specs.{declared.svcb.SVCB.SVCB, SvcParamKey.key_number}
 
 -- ---- items
 
@@ -120,15 +119,11 @@ after_items ps i n p head r some h e none g = by r g
     by None g = (same ∙ g.0, g.1)
     by (Some s) g = record { octets = same ∙ g.octets; step = g.step; some = g.some }
 
-drop_none : (j : ℕ) → drop j (items_of None) ≡ []
-drop_none zero = refl
-drop_none (suc j) = refl
-
 pub past_items : (ps : List Parameter) (i n : ℕ) (head : List ℕ) → length ps ≤ i → head ≡ [] → (parameters_left ps i n ≡ []) × (head ≡ [])
 past_items ps i zero head h e = (parameters_end ps i h, e)
 past_items ps i (suc j) head h e = (
   ap (λ (o : Option Parameter). flat_map (λ s. s) (drop j (items_of o)) ++ parameters_from ps (i + 1)) (slice_get_past ps i h)
-      ∙ ap (λ (l : List (List ℕ)). flat_map (λ s. s) l ++ parameters_from ps (i + 1)) (drop_none j)
+      ∙ ap (λ (l : List (List ℕ)). flat_map (λ s. s) l ++ parameters_from ps (i + 1)) (drop_all j [] (omega arith))
       ∙ parameters_end ps (i + 1) (omega (arith, h)),
   e,
 )

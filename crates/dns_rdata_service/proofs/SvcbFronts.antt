@@ -1,30 +1,24 @@
 -- Service bindings, compared field by field and parameter by parameter.
 use Rattle.std.proofs.Common.{◌≡◌, ◌≢◌, ℕ, ◌<◌, ◌≤◌, ◌^◌, ◌&&◌, true, false, true≢false, List, [], ◌∷◌, ◌++◌, length, drop, map, refl, sym, ◌-◌, min}
-use Rattle.std.proofs.Common.{ap, ◌∙◌, arith}
-use Rattle.std.specs.Prelude.{nat_eq}
-use Rattle.std.specs.{Int.bytes_high_first, List.AllByRecursion, List.flat_map, FinMap.nat_cmp-IsAntisymmetric, FinMap.slice_cmp-IsAntisymmetric}
-use Rattle.std.specs.{Cmp.Equal-is, Cmp.ranks, Cmp.unsigned_Decides, Cmp.booleans_Decides, declared.cmp.Ordering.Ordering, Cmp.nat_cmp_is}
-use Rattle.std.specs.Cmp.Lexicographic.{pointwise, slice_cmp, pointwise_decides}
-use Rattle.std.specs.Ordering.{MatchOrdering, nat_cmp, ordering_then, is_eq, is_ne}
+use Rattle.std.proofs.{lemmas.List.drop_all, lemmas.List.length-drop, Common.ap, Common.◌∙◌, Common.arith, lemmas.Bool.Decides.Decides-and}
 use Rattle.std.specs.declared.cmp.Ordering.TheVariants.{Less, Equal, Greater}
-use Rattle.std.proofs.{lemmas.List.drop_all, lemmas.Bool.Decides.Decides-and}
-use Rattle.dns_fields.specs.{Comparing.name_eq, Equal.key_eq, Equal.parameter_keys, Equal.values_eq, Pieces.string, Pieces.Alpn, Pieces.Opaque}
-use Rattle.dns_fields.specs.{Pieces.Port, Fields.Number, Fields.Name, Fields.field_octets, Labels.AreLabels, Labels.lowname}
+use Rattle.std.specs.{Ordering.MatchOrdering, Ordering.nat_cmp, Ordering.ordering_then, Ordering.is_eq, Ordering.is_ne, Cmp.Derive.Mapped.lex_map}
+use Rattle.std.specs.{Cmp.Lexicographic.pointwise, Cmp.Lexicographic.slice_cmp, Cmp.Lexicographic.pointwise_decides, declared.cmp.Ordering.Ordering}
+use Rattle.std.specs.{Cmp.Equal-is, Cmp.ranks, Cmp.unsigned_Decides, Cmp.booleans_Decides, Cmp.nat_cmp_is, List.AllByRecursion, List.flat_map}
+use Rattle.std.specs.{FinMap.nat_cmp-IsAntisymmetric, FinMap.slice_cmp-IsAntisymmetric, Int.bytes_high_first, Prelude.nat_eq}
+use Rattle.dns_fields.specs.{Pieces.string, Pieces.Alpn, Pieces.Opaque, Pieces.Port, Equal.key_eq, Equal.parameter_keys, Equal.values_eq}
+use Rattle.dns_fields.specs.{Fields.Number, Fields.Name, Fields.field_octets, Labels.AreLabels, Labels.lowname, Comparing.name_eq}
 use Rattle.dns_fields.proofs.Numbers.{number_cmp, length-bytes, same_number}
 use Rattle.dns_pieces.specs.Fronts.{canonical_cmp}
-use Rattle.dns_pieces.proofs.{Comparing.cmp_shared, Comparing.then_kept, Fronts.by_fields, Fronts.field_cmp, Fronts.front_then}
-use Rattle.dns_rdata_service.proofs.{OwnValues.value_given}
-use Rattle.dns_rdata_service.specs.{Ordering.OrderFirst, Ordering.joined, Ordering.behind_length, OwnKeys.value_eq, OwnKeys.value_same}
-use Rattle.dns_rdata_service.specs.{Parameters.Parameter, Parameters.own_parameter, Steps.parameters_from, SVCB.svcb_shape, SVCB.svcb_fields}
-use Rattle.dns_rdata_service.specs.{SVCB.svcb_key_shape, SVCB.svcb_keys, declared.svcb.SVCB.SVCB, declared.svcb.value.SvcParamValue.SvcParamValue}
-use Rattle.dns_rdata_service.specs.SvcParamValue.{value_key, value_of, sized}
-use Rattle.std.proofs.lemmas.List.{length-drop}
-use Rattle.std.specs.{Cmp.Derive.Mapped.lex_map}
-use Rattle.dns_pieces.proofs.Comparing.{then_equal}
+use Rattle.dns_pieces.proofs.{Comparing.cmp_shared, Comparing.then_kept, Comparing.then_equal, Fronts.by_fields, Fronts.field_cmp, Fronts.front_then}
+use Rattle.dns_rdata_service.proofs.OwnValues.{value_given}
+use Rattle.dns_rdata_service.specs.Ordering.{OrderFirst, joined, behind_length, value_place, Differ}
+use Rattle.dns_rdata_service.specs.SvcParamValue.{value_key, value_of, sized, key_numbers}
+use Rattle.dns_rdata_service.specs.{SVCB.svcb_shape, SVCB.svcb_fields, SVCB.svcb_key_shape, SVCB.svcb_keys, declared.svcb.key.SvcParamKey.SvcParamKey}
+use Rattle.dns_rdata_service.specs.{declared.svcb.value.SvcParamValue.SvcParamValue, SvcParamKey.key_number, SvcParamKey.key_variant}
+use Rattle.dns_rdata_service.specs.{Parameters.Parameter, Parameters.own_parameter, OwnKeys.value_eq, OwnKeys.value_same, declared.svcb.SVCB.SVCB}
+use Rattle.dns_rdata_service.specs.Steps.{parameters_from}
 use Rattle.dns_rdata_base.specs.Numbered.{numbered_cmp}
-use Rattle.dns_rdata_service.specs.{SvcParamKey.key_number, SvcParamKey.key_variant, SvcParamValue.key_numbers}
-use Rattle.dns_rdata_service.specs.{declared.svcb.key.SvcParamKey.SvcParamKey}
-use Rattle.dns_rdata_service.specs.Ordering.{value_place, Differ}
 use Rattle.dns_rdata_service.specs.declared.svcb.value.SvcParamValue.TheVariants as variants
 
 -- ---- octets in front of others

@@ -1,31 +1,27 @@
 -- SVCB and HTTPS by their fields: a record that was read is told by them, and fields of a window make one.
 use Rattle.std.proofs.Common.{◌≡◌, inl, inr, ℕ, ◌==◌, ◌&&◌, Bool, true, false, if◌then◌else◌, List, [], ◌∷◌, length, map, refl, sym, ap, ◌∙◌, arith}
+use Rattle.std.proofs.{lemmas.Bool.Decides.same_from_decides, lemmas.Bool.Decides.Decides-like, lemmas.Bool.Decides.nat_tests, lemmas.Simd.map-map}
+use Rattle.std.proofs.{Common.◌≢◌, Common.◌⊎◌, Common.nat_le, Common.◌≤◌, lemmas.Grind.common_steps}
 use Rattle.std.specs.List.{flat_map, AllByRecursion}
-use Rattle.dns_fields.specs.{Octets.AreOctets, Fields.Number, Fields.Name, Fields.Values, Fields.Parameters, Equal.kind_eq, Equal.values_eq}
 use Rattle.dns_fields.specs.Pieces.{Numbered, ParameterValue, Mandatory, Alpn, NoDefaultAlpn, Port, Ipv4Hint, Ipv6Hint, Opaque, ParameterHeld}
 use Rattle.dns_fields.specs.Pieces.{AllHeld, piece, pieces, Form, Keys, Names, AnyOctets, form_for}
-use Rattle.dns_fields.proofs.EqualLaws.{field_decide}
+use Rattle.dns_fields.specs.{Fields.Number, Fields.Name, Fields.Values, Fields.Parameters, Equal.kind_eq, Equal.values_eq, Octets.AreOctets}
 use Rattle.dns_fields.proofs.OctetLaws.{AreOctets-at, AreOctets-front, AreOctets-back, AreOctets-same, piece_body}
-use Rattle.std.proofs.lemmas.{Simd.map-map, Bool.Decides.same_from_decides, Bool.Decides.Decides-like}
+use Rattle.dns_fields.proofs.EqualLaws.{field_decide}
 use Rattle.dns_names_wire.specs.{State.Reading, Words.Window}
-use Rattle.dns_rdata_base.proofs.Addresses.{octets_of-segments}
-use Rattle.dns_rdata_service.specs.{SvcParamKey.key_number, SvcParamKey.key_of, declared.svcb.SVCB.SVCB, declared.https.HTTPS.HTTPS}
-use Rattle.dns_rdata_service.specs.SvcParamValue.{value_of, value_from, a_octets, a_of, aaaa_octets, aaaa_of, IsFormRefusal, IsKeyRefusal, IsValueOf}
+use Rattle.dns_rdata_base.proofs.{Addresses.octets_of-segments, Addresses.segments_of-octets_of, NumberLaws.number-numbered_of}
 use Rattle.dns_rdata_service.specs.Parameters.{Parameter, parameter_of, parameter_from, own_parameter, AreRead, IsParameterRefusal}
-use Rattle.dns_rdata_service.specs.Parameters.{IsParametersRefusal}
+use Rattle.dns_rdata_service.specs.SvcParamValue.{value_of, value_from, a_octets, a_of, aaaa_octets, aaaa_of, IsFormRefusal, IsKeyRefusal, IsValueOf}
+use Rattle.dns_rdata_service.specs.declared.svcb.key.SvcParamKey.TheVariants.{Key, Key65535, Unknown}
+use Rattle.dns_rdata_service.specs.SvcParamKey.{key_number, key_of, key_variant, named_keys, other_key}
 use Rattle.dns_rdata_service.specs.SVCB.{svcb_shape, svcb_fields, svcb_key_shape, svcb_keys, IsReadSvcb, IsSvcbRefusal}
 use Rattle.dns_rdata_service.specs.HTTPS.{https_shape, https_fields, https_key_shape, https_keys, IsReadHttps}
-use Rattle.dns_rdata_service.specs.declared.svcb.value.SvcParamValue.{SvcParamValue}
-use Rattle.dns_rdata_service.proofs.{OwnValues.own_fields}
-use Rattle.std.proofs.Common.{◌≢◌, ◌⊎◌, nat_le, ◌≤◌}
-use Rattle.std.proofs.{lemmas.Grind.common_steps, lemmas.Bool.Decides.nat_tests}
-use Rattle.dns_rdata_base.proofs.{NumberLaws.number-numbered_of, Addresses.segments_of-octets_of}
-use Rattle.dns_rdata_base.specs.{declared.a.A.A, declared.aaaa.AAAA.AAAA}
-use Rattle.dns_rdata_service.specs.{declared.svcb.key.SvcParamKey.SvcParamKey, declared.svcb.ip_hint.IpHint.IpHint}
-use Rattle.dns_rdata_service.specs.SvcParamKey.{key_variant, named_keys, other_key}
-use Rattle.dns_rdata_service.specs.declared.svcb.key.SvcParamKey.TheVariants.{Key, Key65535, Unknown}
-use Rattle.dns_rdata_service.specs.declared.svcb.unknown.Unknown.{Unknown as Other}
-use Rattle.dns_rdata_service.specs.declared.svcb.value.SvcParamValue.TheVariants.{Unknown as OtherValue}
+use Rattle.dns_rdata_service.specs.{declared.svcb.value.SvcParamValue.TheVariants.Unknown as OtherValue, declared.svcb.key.SvcParamKey.SvcParamKey}
+use Rattle.dns_rdata_service.specs.{declared.svcb.value.SvcParamValue.SvcParamValue, declared.svcb.unknown.Unknown.Unknown as Other}
+use Rattle.dns_rdata_service.specs.{declared.svcb.ip_hint.IpHint.IpHint, Parameters.IsParametersRefusal, declared.https.HTTPS.HTTPS}
+use Rattle.dns_rdata_service.specs.declared.svcb.SVCB.{SVCB}
+use Rattle.dns_rdata_service.proofs.OwnValues.{own_fields}
+use Rattle.dns_rdata_base.specs.{declared.aaaa.AAAA.AAAA, declared.a.A.A}
 use Rattle.dns_types.specs.declared.error.DecodeError.TheVariants as decode
 use Rattle.dns_rdata_service.specs.declared.svcb.value.SvcParamValue.TheVariants as variants
 
@@ -36,21 +32,6 @@ other_number false n = refl
 pub key_number-of : (n : ℕ) → key_number (key_of n) ≡ n
 unfolding key_of
 key_number-of n = number-numbered_of key_number named_keys other_key n (other_number (nat_le 65280 n) n)
-
--- a key without a form of its own
-pub record IsPlainKey (n : ℕ) : Type 0 where
-  pub form : form_for n ≡ AnyOctets
-  pub other : (n == 5) ≡ false
-  pub no_path : (n == 7) ≡ false
-  pub no_text : n ≢ 7
-
-plain_above : (n : ℕ) → 8 ≤ n → IsPlainKey n
-plain_above n h = record {
-  form = grind (arith, common_steps, nat_tests);
-  other = grind (arith, common_steps, nat_tests);
-  no_path = grind (arith, common_steps, nat_tests);
-  no_text = λ e. omega (arith, e, h);
-}
 
 pub map_back : {X Y : Type 0} (f : X → Y) (g : Y → X) → ((x : X) → x ≡ g (f x)) → (xs : List X) → xs ≡ map g (map f xs)
 map_back f g h [] = refl
@@ -64,17 +45,22 @@ above_named : (n : ℕ) → 8 ≤ key_variant (key_of n) → 8 ≤ n
 unfolding key_of
 above_named n h = grind (arith, nat_tests, h)
 
-pub plain_of : (k : SvcParamKey) → k ≡ key_of (key_number k) → ((x : ℕ) × (k ≡ Key x)) ⊎ ((k ≡ Key65535) ⊎ ((x : ℕ) × (k ≡ Unknown x)))
-    → IsPlainKey (key_number k)
-plain_of k g is = plain_above (key_number k) (above_named (key_number k) (rw (← g) (last k is))) where
-  last : (k : SvcParamKey) → ((x : ℕ) × (k ≡ Key x)) ⊎ ((k ≡ Key65535) ⊎ ((x : ℕ) × (k ≡ Unknown x))) → 8 ≤ key_variant k
-  last k (inl h) = rw h.1 (omega arith)
-  last k (inr (inl h)) = rw h (omega arith)
-  last k (inr (inr h)) = rw h.1 (omega arith)
+pub plain_of : (k : SvcParamKey) → k ≡ key_of (key_number k) → ((x : ℕ) × (k ≡ Key x)) ⊎ ((k ≡ Key65535) ⊎ ((x : ℕ) × (k ≡ Unknown x))) → 8 ≤ key_number k
+plain_of k g (inl h) = above_named (key_number k) (rw (← g) (rw h.1 (omega arith)))
+plain_of k g (inr (inl h)) = above_named (key_number k) (rw (← g) (rw h (omega arith)))
+plain_of k g (inr (inr h)) = above_named (key_number k) (rw (← g) (rw h.1 (omega arith)))
 
 -- the value of a key without a form of its own
-pub plain_value : (n : ℕ) (body : List ℕ) (x : Other) → IsPlainKey n → body ≡ x.0 → IsValueOf n body (OtherValue x)
-plain_value n body x p e = record { held = (sym p.form, tt, e); given = rw (p.other, p.no_path) refl; text = λ is. absurd (p.no_text is) }
+pub plain_value : (n : ℕ) (body : List ℕ) (x : Other) → 8 ≤ n → body ≡ x.0 → IsValueOf n body (OtherValue x)
+plain_value n body x h e = record { held = (sym form, tt, e); given = rw (other, no_path) refl; text = λ is. absurd (omega (arith, is, h)) } where
+  form : form_for n ≡ AnyOctets
+  form = grind (arith, common_steps, nat_tests, h)
+
+  other : (n == 5) ≡ false
+  other = grind (arith, common_steps, nat_tests, h)
+
+  no_path : (n == 7) ≡ false
+  no_path = grind (arith, common_steps, nat_tests, h)
 
 pub hint4_back : (x : IpHint A) → x ≡ record { 0 = map a_of (map a_octets x.0) }
 hint4_back x = ap (λ (as' : List A). record { 0 = as' }) (map_back a_octets a_of (λ a. refl) x.0)

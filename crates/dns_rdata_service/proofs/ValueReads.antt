@@ -1,25 +1,26 @@
 -- Reading values to the end of a message.
-use Rattle.std.proofs.Common.{◌≡◌, ℕ, ◌%◌, ◌<◌, ◌≤◌, ◌^◌, inl, inr, List, [], ◌∷◌, ◌++◌, length, drop, map, refl, ap, ◌∙◌, arith, subst, ◌≢◌, ◌*◌}
-use Rattle.std.specs.{List.flat_map, List.AllByRecursion, Int.bytes_high_first}
-use Rattle.std.specs.Prelude.{IsUtf8}
-use Rattle.std.proofs.lemmas.List.{drop_all, length-append, length-drop, map-id, append-nil}
-use Rattle.dns_types.specs.declared.error.DecodeError.{DecodeError}
-use Rattle.dns_fields.specs.{Fields.Text, Fields.Field, Pieces.string, Pieces.ParameterValue, Pieces.Form, Pieces.Keys, Pieces.Names, Pieces.form_of}
-use Rattle.dns_names_wire.specs.{State.Reading, Words.TookField, Words.StaysBehind, Words.UnlessMemory, Words.LacksOctets, Words.LacksText}
-use Rattle.dns_names_wire.proofs.FieldReads.{stays, unless_map, unless_all}
-use Rattle.dns_rdata_base.specs.Numbered.{NumberedAt}
-use Rattle.dns_rdata_service.specs.{SvcParamKey.key_number, SvcParamKey.key_of, declared.svcb.key.SvcParamKey.SvcParamKey, Hints.StandEach}
+use Rattle.std.proofs.Common.{◌≡◌, ℕ, ◌%◌, ◌<◌, ◌≤◌, ◌^◌, inl, inr, List, [], ◌∷◌, ◌++◌, length, drop, map, refl, ap, ◌∙◌, arith, subst, ◌≢◌, ◌*◌, Ok}
+use Rattle.std.proofs.lemmas.List.{drop_all, length-append, length-drop, map-id, append-nil, length-take}
+use Rattle.std.proofs.Common.{sym, append_assoc, true, ◌+◌, take, Result, Err}
+use Rattle.std.specs.{Prelude.IsUtf8, Prelude.IfOk, Prelude.IfErr, List.flat_map, List.AllByRecursion, Int.bytes_high_first}
+use Rattle.dns_types.specs.{declared.error.DecodeError.DecodeError, declared.error.ProtoError.ProtoError}
+use Rattle.dns_fields.specs.Pieces.{string, ParameterValue, Form, Keys, Names, form_of, Mandatory, Alpn, NoDefaultAlpn, Port, Ipv4Hint, Ipv6Hint}
+use Rattle.dns_fields.specs.Pieces.{Opaque, Nothing, PortNumber, Addresses4, Addresses16, AnyOctets, IsEmittable, IsBody, form_for, ParameterHeld}
+use Rattle.dns_fields.specs.{Fields.Text, Fields.Field, Fields.Octets, Fields.Stands, Fields.field_octets, Octets.At, Octets.AreOctets}
+use Rattle.dns_names_wire.specs.Words.{TookField, StaysBehind, UnlessMemory, LacksOctets, LacksText, Emits}
+use Rattle.dns_names_wire.specs.State.{Reading, Writing}
+use Rattle.dns_names_wire.proofs.{FieldReads.stays, FieldReads.unless_map, FieldReads.unless_all, FieldWrites.because_map}
+use Rattle.dns_rdata_base.specs.{declared.aaaa.AAAA.AAAA, Numbered.NumberedAt, declared.a.A.A}
 use Rattle.dns_rdata_service.specs.SvcParamValue.{mandatory_value, alpn_value, AreGiven, ToEnd, MandatoryAt, AlpnAt, CutName, WrongName, HasText}
-use Rattle.dns_rdata_service.specs.SvcParamValue.{IsValueRefusal, IsFormRefusal, IsKeyRefusal}
-use Rattle.dns_rdata_service.specs.declared.svcb.mandatory.Mandatory.{Mandatory as MandatoryKeys}
-use Rattle.dns_rdata_service.specs.declared.svcb.alpn.Alpn.{Alpn as Protocols}
-use Rattle.dns_rdata_service.proofs.{Splits.at_split, Splits.octet_split, Splits.length_numbers}
-use Rattle.std.proofs.Common.{sym, append_assoc}
-use Rattle.dns_fields.specs.Pieces.{Mandatory, Alpn, NoDefaultAlpn, Port, Ipv4Hint, Ipv6Hint, Opaque, Nothing, PortNumber, Addresses4, Addresses16}
-use Rattle.dns_fields.specs.Pieces.{AnyOctets, IsEmittable, IsBody, form_for, ParameterHeld}
-use Rattle.dns_fields.proofs.Numbers.{length-bytes}
-use Rattle.dns_rdata_service.proofs.Splits.{string_first, strings_prefix, all_behind, stays_then}
-use Rattle.dns_fields.specs.Octets.{At}
+use Rattle.dns_rdata_service.specs.SvcParamValue.{IsValueRefusal, IsFormRefusal, IsKeyRefusal, a_octets, aaaa_octets, a_of, aaaa_of}
+use Rattle.dns_rdata_service.specs.{Hints.StandEach, Hints.StopsBefore, Hints.StandToEnd, Hints.ReadsEach, Hints.EmitsEach, Emitting.EmitsOctets}
+use Rattle.dns_rdata_service.specs.{declared.svcb.mandatory.Mandatory.Mandatory as MandatoryKeys, SvcParamKey.key_number, SvcParamKey.key_of}
+use Rattle.dns_rdata_service.specs.{declared.svcb.key.SvcParamKey.SvcParamKey, declared.svcb.alpn.Alpn.Alpn as Protocols}
+use Rattle.dns_rdata_service.specs.declared.svcb.ip_hint.IpHint.{IpHint}
+use Rattle.dns_rdata_service.proofs.Splits.{at_split, octet_split, length_numbers, string_first, strings_prefix, all_behind, stays_then}
+use Rattle.dns_rdata_service.proofs.EachEmits.{emits_all, emits_as, all_pass}
+use Rattle.dns_fields.proofs.{OctetLaws.AreOctets-at, Numbers.length-bytes}
+use Rattle.dns_rdata_base.proofs.Addresses.{octets_of-segments}
 use Rattle.dns_types.specs.declared.error.DecodeError.TheVariants as decode
 
 pub record EachOn {T : Type 0} (S : List ℕ → ℕ → T → ℕ → Type 0) (old : Reading) (items : List T) (d : Reading) : Type 0 where
@@ -258,3 +259,93 @@ names_refused {old} {new} e = refused_by Names alpn_value AlpnAt old new e (λ x
 pub names_missing : (d : Reading) → length d.message ≤ d.index
     → StaysBehind d d × UnlessMemory decode.SvcParamMissingValue ((x : Protocols) (q : ℕ) → AlpnAt d.message d.index x q → ⊥)
 names_missing d none = names_refused decode.SvcParamMissingValue (stays d) (inr (inl (refl, drop_all d.index d.message none)))
+
+-- ---- reading, of any type of a known number of octets
+
+abbrev pub GroupAt : {T : Type 0} (w : ℕ) → (T → List ℕ) → List ℕ → ℕ → T → ℕ → Type 0
+GroupAt w octets m p x q = Stands m p (Octets w ∷ []) (octets x, tt) q
+
+are_groups : {T : Type 0} (w : ℕ) (octets : T → List ℕ) (m : List ℕ) (p : ℕ) (items : List T) (q : ℕ) → StandEach (GroupAt w octets) m p items q
+    → AreSplit octets (λ s. s) (λ s. length s ≡ w) m p items q
+are_groups w octets m = each_split octets (λ s. s) (λ s. length s ≡ w) (GroupAt w octets) m
+    (λ p x q s. (s.1.is.0, subst (λ (e : ℕ). At m p (octets x) e) s.2 s.1.is.1))
+
+-- w octets stand wherever so many are left
+group_here : (w : ℕ) (m : List ℕ) (p : ℕ) → p + w ≤ length m → (length (take w (drop p m)) ≡ w) × At m p (take w (drop p m)) (p + w)
+group_here w m p inside =
+    let n : length (take w (drop p m)) ≡ w = omega (arith, length-take w (drop p m), length-drop p m) in
+    (n, record { ends = omega (arith, n); within = inside; same = ap (λ (k : ℕ). take k (drop p m)) n })
+
+-- whole groups leave no octet
+no_stop : {T : Type 0} (w : ℕ) (octets : T → List ℕ) (m : List ℕ) → ((k : ℕ) → w * k < length m → w * k + w ≤ length m)
+    → ((s : List ℕ) → length s ≡ w → AreOctets s → (x : T) × (octets x ≡ s)) → AreOctets m → StopsBefore (GroupAt w octets) m 0 → ⊥
+no_stop w octets m room of all h =
+    let g = are_groups w octets m 0 h.items h.place h.stand in
+    let count = length (map octets h.items) in
+    let place : h.place ≡ w * count = omega (
+      arith,
+      h.before,
+      ap length g.split,
+      length-append (flat_map (λ s. s) (map octets h.items)) (drop h.place m),
+      length_groups w (map octets h.items) g.all,
+      length-drop h.place m,
+    ) in
+    let inside : h.place + w ≤ length m = omega (arith, place, room count (omega (arith, place, h.before))) in
+    let here = group_here w m h.place inside in
+    let x = of (take w (drop h.place m)) here.0 (AreOctets-at m h.place (take w (drop h.place m)) (h.place + w) all here.1) in
+    h.none x.0 (h.place + w) (subst (λ (s : List ℕ). Stands m h.place (Octets w ∷ []) (s, tt) (h.place + w)) (sym x.1)
+    (h.place + w, record { is = here }, refl))
+
+unless_none : (e : DecodeError) (P : Type 0) → UnlessMemory e P → (P → ⊥) → e ≡ decode.Memory
+unless_none decode.Memory P h n = refl
+unless_none e P h n = absurd (n h)
+
+-- what is read to the end of octets
+pub groups_read : {T : Type 0} (w : ℕ) (octets : T → List ℕ) (body : List ℕ) (items : List T) (new : Reading)
+    → StandToEnd (GroupAt w octets) (record { message = body; index = 0 }) items new
+    → AllByRecursion (λ s. length s ≡ w) (map octets items) × (body ≡ flat_map (λ s. s) (map octets items))
+groups_read w octets body items new h =
+    let g = are_groups w octets body 0 items (length body) h.stand in
+    (g.all, to_end body 0 (length body) (flat_map (λ s. s) (map octets items)) (omega arith) g.split)
+
+a_octets_of : (s : List ℕ) → length s ≡ 4 → AreOctets s → (x : A) × (a_octets x ≡ s)
+a_octets_of s n all = (a_of s, refl)
+
+aaaa_octets_of : (s : List ℕ) → length s ≡ 16 → AreOctets s → (x : AAAA) × (aaaa_octets x ≡ s)
+aaaa_octets_of s n all = (aaaa_of s, octets_of-segments 8 s (omega arith) all)
+
+pub hint4_refused : (body : List ℕ) (new : Reading) (r : Result (IpHint A) DecodeError) → AreOctets body → length body % 4 ≡ 0
+    → ReadsEach (GroupAt 4 a_octets) (λ x. x.0) r (record { message = body; index = 0 }) new → IfErr r (IsValueRefusal Addresses4 body)
+hint4_refused body new (Ok x) all whole h = tt
+hint4_refused body new (Err e) all whole h = inl (unless_none e _ h.1 (no_stop 4 a_octets body (λ k lt. omega (arith, whole, lt)) a_octets_of all))
+
+pub hint6_refused : (body : List ℕ) (new : Reading) (r : Result (IpHint AAAA) DecodeError) → AreOctets body → length body % 16 ≡ 0
+    → ReadsEach (GroupAt 16 aaaa_octets) (λ x. x.0) r (record { message = body; index = 0 }) new → IfErr r (IsValueRefusal Addresses16 body)
+hint6_refused body new (Ok x) all whole h = tt
+hint6_refused body new (Err e) all whole h = inl (unless_none e _ h.1 (no_stop 16 aaaa_octets body (λ k lt. omega (arith, whole, lt)) aaaa_octets_of all))
+
+pub groups_fit : {T : Type 0} (w : ℕ) (octets : T → List ℕ) (body : List ℕ) (new : Reading) (r : Result (IpHint T) DecodeError)
+    → ReadsEach (GroupAt w octets) (λ x. x.0) r (record { message = body; index = 0 }) new → IfOk r (λ x. AllByRecursion (λ s. length s ≡ w) (map octets x.0))
+groups_fit w octets body new (Ok x) h = (groups_read w octets body x.0 new h).0
+groups_fit w octets body new (Err e) h = tt
+
+pub groups_body : {T : Type 0} (w : ℕ) (octets : T → List ℕ) (body : List ℕ) (new : Reading) (r : Result (IpHint T) DecodeError)
+    → ReadsEach (GroupAt w octets) (λ x. x.0) r (record { message = body; index = 0 }) new → IfOk r (λ x. body ≡ flat_map (λ s. s) (map octets x.0))
+groups_body w octets body new (Ok x) h = (groups_read w octets body x.0 new h).1
+groups_body w octets body new (Err e) h = tt
+
+-- ---- emitting
+
+group_emits : (w : ℕ) (s : List ℕ) (r : Result (Unit {0}) ProtoError) (old new : Writing) → Emits (Octets w ∷ []) (s, tt) r old new
+    → EmitsOctets (length s ≡ w) true s r old new
+unfolding field_octets
+group_emits w s (Ok u) old new h = (h.fields.1.is.0, record { keeps = h.keeps; octets = h.fields.2 ∙ h.fields.1.is.1 })
+group_emits w s (Err e) old new h = record
+    { extends = h.extends; why = because_map e _ _ _ _ (λ r. omega (arith, r.full, ap length (append-nil s))) (λ u. u.unfit) h.why }
+
+pub groups_emit : {T : Type 0} (w : ℕ) (octets : T → List ℕ) (xs : List T) (r : Result (Unit {0}) ProtoError) (old new : Writing)
+    → EmitsEach (λ x r w' n. Emits (Octets w ∷ []) (octets x, tt) r w' n) xs r old new
+    → EmitsOctets (AllByRecursion (λ s. length s ≡ w) (map octets xs)) true (flat_map (λ s. s) (map octets xs)) r old new
+groups_emit w octets xs r old new h =
+    emits_as r old new (λ p. p) (λ q. sym (all_pass (map octets xs)) ∙ q) refl
+    (emits_all octets (λ s. length s ≡ w) (λ s. true) (λ s. s) (λ x r w' n. Emits (Octets w ∷ []) (octets x, tt) r w' n) (λ x. group_emits w (octets x)) xs r old new h)

@@ -1,12 +1,9 @@
 -- The order of service bindings by their fields.
-use Rattle.std.specs.Prelude.{ℕ, ◌≡◌, List, ◌++◌, length}
-use Rattle.std.specs.declared.cmp.Ordering.{Ordering}
-use Rattle.dns_fields.specs.Equal.{key_cmp, parameter_key}
-use Rattle.dns_rdata_service.specs.{Parameters.Parameter, Parameters.own_parameter, declared.svcb.value.SvcParamValue.SvcParamValue}
-use Rattle.std.specs.{Int.bytes_high_first, List.flat_map, Cmp.Lexicographic.slice_cmp}
-use Rattle.std.specs.Ordering.{nat_cmp, ordering_then}
-use Rattle.dns_fields.specs.Pieces.{piece, as_piece, parameter_octets}
-use Rattle.dns_rdata_service.specs.Parameters.{parameter_of}
+use Rattle.std.specs.{Prelude.ℕ, Prelude.◌≡◌, Prelude.List, Prelude.◌++◌, Prelude.length, Ordering.nat_cmp, Ordering.ordering_then, List.flat_map}
+use Rattle.std.specs.{declared.cmp.Ordering.Ordering, Cmp.Lexicographic.slice_cmp, Int.bytes_high_first}
+use Rattle.dns_fields.specs.{Pieces.piece, Pieces.as_piece, Pieces.parameter_octets, Equal.key_cmp, Equal.parameter_key}
+use Rattle.dns_rdata_service.specs.Parameters.{Parameter, own_parameter, parameter_of}
+use Rattle.dns_rdata_service.specs.declared.svcb.value.SvcParamValue.{SvcParamValue}
 use Rattle.dns_rdata_service.specs.declared.svcb.value.SvcParamValue.TheVariants as variants
 
 -- by the keys that parameters are compared by

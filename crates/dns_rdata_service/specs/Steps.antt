@@ -1,14 +1,12 @@
 -- The canonical octets of service bindings, step by step: priority and target, and then each parameter, its key, its length
 -- and what stands in one piece, and then item by item what its value lists.
 use Rattle.std.specs.Prelude.{◌≡◌, ℕ, zero, suc, ◌+◌, ◌<◌, ◌&&◌, nat_le, Bool, Option, Some, None, List, [], ◌∷◌, ◌++◌, length, drop, map, slice_get}
-use Rattle.std.specs.Prelude.{true, false}
-use Rattle.std.specs.{List.flat_map, List.list_all, Int.bytes_high_first}
+use Rattle.std.specs.{List.flat_map, List.list_all, Prelude.true, Prelude.false, Int.bytes_high_first}
 use Rattle.dns_fields.specs.Pieces.{string, pieces, ParameterValue, Mandatory, Alpn, Port, Ipv4Hint, Ipv6Hint, Opaque, parameter_octets}
-use Rattle.dns_fields.specs.Pieces.{parameter_emittable, parameters_emittable}
-use Rattle.dns_fields.specs.Fields.{canonical, parameter_pieces}
-use Rattle.dns_pieces.specs.{Steps.Left, declared.step.Step.Step}
-use Rattle.dns_rdata_service.specs.{SvcParamKey.key_number, SvcParamValue.value_of, SvcParamValue.fits_value, SVCB.svcb_shape, SVCB.svcb_fields}
-use Rattle.dns_rdata_service.specs.{Parameters.Parameter, Parameters.parameter_of, declared.svcb.SVCB.SVCB}
+use Rattle.dns_fields.specs.{Pieces.parameter_emittable, Pieces.parameters_emittable, Fields.canonical, Fields.parameter_pieces}
+use Rattle.dns_pieces.specs.{declared.step.Step.Step, Steps.Left}
+use Rattle.dns_rdata_service.specs.{SvcParamValue.value_of, SvcParamValue.fits_value, Parameters.Parameter, Parameters.parameter_of}
+use Rattle.dns_rdata_service.specs.{SVCB.svcb_shape, SVCB.svcb_fields, declared.svcb.SVCB.SVCB, SvcParamKey.key_number}
 
 -- what stands in one piece
 abbrev pub value_front : ParameterValue → List ℕ

@@ -1,13 +1,12 @@
 //! Service bindings ordered by their canonical octets, up to the first parameters whose order is not easily told.
 
 ghost use Rattle.std.specs.Prelude.{◌≡◌, ◌≤◌, drop, length, map, true, IfSome, IsTrue};
-ghost use Rattle.std.specs.{Cmp.Lexicographic.slice_cmp, Ordering.nat_cmp, Ordering.ordering_then};
-ghost use Rattle.std.specs.declared.cmp.Ordering.TheVariants.{Equal};
-ghost use Rattle.dns_fields.specs.{Equal.values_eq, Pieces.Alpn as Names, Pieces.Opaque, Pieces.Port};
+ghost use Rattle.std.specs.{Ordering.nat_cmp, Ordering.ordering_then, declared.cmp.Ordering.TheVariants.Equal, Cmp.Lexicographic.slice_cmp};
+ghost use Rattle.dns_fields.specs.{Pieces.Alpn as Names, Pieces.Opaque, Pieces.Port, Equal.values_eq};
 ghost use Rattle.dns_pieces.specs.Fronts.{canonical_cmp};
-ghost use Rattle.dns_rdata_service.specs.{Ordering.OrderFirst, Ordering.parameter_octets_of, Parameters.own_parameter, Steps.parameters_from};
-ghost use Rattle.dns_rdata_service.specs.SvcParamValue.{sized, value_key, value_of};
-ghost use Rattle.dns_rdata_service.specs.SVCB.{svcb_shape, svcb_fields, svcb_key_shape, svcb_keys};
+ghost use Rattle.dns_rdata_service.specs.{SVCB.svcb_shape, SVCB.svcb_fields, SVCB.svcb_key_shape, SVCB.svcb_keys, Parameters.own_parameter};
+ghost use Rattle.dns_rdata_service.specs.{SvcParamValue.sized, SvcParamValue.value_key, SvcParamValue.value_of, Steps.parameters_from};
+ghost use Rattle.dns_rdata_service.specs.Ordering.{OrderFirst, parameter_octets_of};
 
 use crate::hints::hints_order;
 use crate::items::Items;

@@ -1,10 +1,9 @@
 //! The order of service bindings by their fields.
 
-ghost use Rattle.std.specs.Prelude.{◌≡◌, map};
-ghost use Rattle.std.specs.{Cmp.Lexicographic.slice_cmp, Ordering.nat_cmp};
+ghost use Rattle.std.specs.{Cmp.Lexicographic.slice_cmp, Prelude.◌≡◌, Prelude.map, Ordering.nat_cmp};
 ghost use Rattle.dns_fields.specs.{Equal.key_cmp, Equal.parameter_keys, Order.values_cmp};
-ghost use Rattle.dns_rdata_service.specs.{Parameters.own_parameter, SvcParamValue.key_numbers, SvcParamValue.value_key, SVCB.svcb_key_shape};
-ghost use Rattle.dns_rdata_service.specs.{SVCB.svcb_keys, Ordering.parameter_order, Ordering.value_place, Ordering.Differ};
+ghost use Rattle.dns_rdata_service.specs.{Ordering.parameter_order, Ordering.value_place, Ordering.Differ, SVCB.svcb_key_shape, SVCB.svcb_keys};
+ghost use Rattle.dns_rdata_service.specs.{SvcParamValue.key_numbers, SvcParamValue.value_key, Parameters.own_parameter};
 
 use crate::hints::hints_cmp;
 use crate::svcb::{Parameter, SVCB, SvcParamKey, SvcParamValue};

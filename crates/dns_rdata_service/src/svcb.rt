@@ -1,19 +1,16 @@
 //! SVCB: how a service is reached (RFC 9460).
 
-ghost use Rattle.std.specs.Prelude.{◌≡◌, ◌≤◌, length, IfOk};
-ghost use Rattle.std.specs.{Option.option_copied, Ordering.nat_cmp, Cmp.Lexicographic.pointwise};
-ghost use Rattle.std.specs.List.Sorted.{IsPermutation, IsNonDecreasingBy, IsStableByKey};
+ghost use Rattle.std.specs.{List.Sorted.IsPermutation, List.Sorted.IsNonDecreasingBy, List.Sorted.IsStableByKey, Cmp.Lexicographic.pointwise};
+ghost use Rattle.std.specs.{Prelude.◌≡◌, Prelude.◌≤◌, Prelude.length, Prelude.IfOk, Option.option_copied, Ordering.nat_cmp};
 ghost use Rattle.dns_names_wire.specs.Facts.{same, same_equiv, same_partial};
-ghost use Rattle.dns_rdata_service.specs.{OwnKeys.value_eq, OwnKeys.parameter_eq, SvcParamKey.key_number};
 ghost use Rattle.dns_rdata_service.specs.SVCB.{svcb_facts, svcb_key_shape, svcb_keys, number_of_parameter, value_at};
+ghost use Rattle.dns_rdata_service.specs.{OwnKeys.value_eq, OwnKeys.parameter_eq, SvcParamKey.key_number};
 
 mod alpn;
 mod doh_path;
 mod ech_config_list;
 mod ip_hint;
-mod item;
 mod key;
-mod key_text;
 mod mandatory;
 mod parameter_word;
 mod parameters;

@@ -1,10 +1,9 @@
 //! Records read from words (RFC 9460, 2.1).
 
-ghost use Rattle.std.specs.Prelude.{map, IfOk};
-ghost use Rattle.std.specs.Iterator.{IsFinite};
+ghost use Rattle.std.specs.{Prelude.map, Prelude.IfOk, Iterator.IsFinite};
 ghost use Rattle.dns_words.specs.Reads.{ReadsRow, TookWords};
-ghost use Rattle.dns_rdata_service.specs.{HTTPS.https_fields, Parameters.parameter_of, SVCB.svcb_fields};
 ghost use Rattle.dns_rdata_service.specs.WordRows.{these_parameters, parameter_words, svcb_words, AreWordsOf};
+ghost use Rattle.dns_rdata_service.specs.{Parameters.parameter_of, HTTPS.https_fields, SVCB.svcb_fields};
 
 use crate::https::HTTPS;
 use crate::items::Items;

@@ -67,10 +67,7 @@ impl BinDecodable for Alpn {
 pub(super) fn is_text(octets: &[u8]) -> bool
     ensures { IsTrue result ↔ IsUtf8 octets.now }
 {
-    match str::from_utf8(octets) {
-        Ok(_) => true,
-        Err(_) => false,
-    }
+    str::from_utf8(octets).is_ok()
 }
 
 // How many strings begin in the octets. Where strings fill the octets, this is their number.

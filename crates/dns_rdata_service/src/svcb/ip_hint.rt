@@ -1,7 +1,6 @@
 //! Addresses of a service.
 
-ghost use Rattle.std.specs.Prelude.{◌≡◌, ◌⊎◌, ◌∷◌, IfOk, IfErr};
-ghost use Rattle.std.specs.List.{AllZip};
+ghost use Rattle.std.specs.{Prelude.◌≡◌, Prelude.◌⊎◌, Prelude.◌∷◌, Prelude.IfOk, Prelude.IfErr, List.AllZip};
 ghost use Rattle.dns_names_wire.specs.Words.{Extends};
 ghost use Rattle.dns_rdata_service.specs.Hints.{ReadsEach, RefusedBehind, EmitsEach};
 

@@ -2,9 +2,8 @@
 
 ghost use Rattle.std.specs.Prelude.{◌≡◌, IfErr, IfOk, length};
 ghost use Rattle.dns_fields.specs.Pieces.{form_for, IsEmittable, IsBody, Addresses4, Addresses16};
-ghost use Rattle.dns_rdata_service.specs.SvcParamKey.{key_number, key_of};
 ghost use Rattle.dns_rdata_service.specs.SvcParamValue.{value_of, hint4_value, hint6_value, IsValueOf, IsKeyRefusal, IsValueRefusal, EmitsValue};
-ghost use Rattle.dns_rdata_service.specs.SvcParamValue.{EmitsSized};
+ghost use Rattle.dns_rdata_service.specs.{SvcParamKey.key_number, SvcParamKey.key_of, SvcParamValue.EmitsSized};
 
 use crate::svcb::alpn::Alpn;
 use crate::svcb::doh_path::DohPath;

@@ -1,5 +1,4 @@
-use Rattle.std.proofs.Common.{◌∙◌, map, arith}
-use Rattle.std.proofs.lemmas.List.{length-map}
+use Rattle.std.proofs.{Common.◌∙◌, Common.map, Common.arith, lemmas.List.length-map}
 use Rattle.std.specs.{Cmp.Lexicographic.slice_cmp, Ordering.nat_cmp}
 use Rattle.dns_rdata_service.proofs.SvcbFronts.{by_lengths}
 use Rattle.dns_rdata_service.proofs.hints.hints_cmp.Goals as goal

@@ -1,5 +1,4 @@
-use Rattle.std.proofs.Common.{arith}
-use Rattle.std.proofs.lemmas.List.{drop_all}
+use Rattle.std.proofs.{lemmas.List.drop_all, Common.arith}
 use Rattle.dns_rdata_service.proofs.PieceSteps.{joined_long, joined_size}
 use Rattle.dns_rdata_service.proofs.hints.hints_size.Goals as goal
 

@@ -1,5 +1,4 @@
-use Rattle.std.proofs.Common.{◌∙◌, map, arith}
-use Rattle.std.proofs.lemmas.List.{length-map}
+use Rattle.std.proofs.{Common.◌∙◌, Common.map, Common.arith, lemmas.List.length-map}
 use Rattle.dns_fields.specs.Equal.{key_cmp, parameter_key, parameter_keys}
 use Rattle.dns_rdata_service.specs.Parameters.{own_parameter}
 use Rattle.dns_rdata_service.proofs.SvcbFronts.{by_lengths}

@@ -1,5 +1,4 @@
-use Rattle.std.proofs.Common.{rules, ◌≡◌, ◌++◌, arith}
-use Rattle.std.proofs.lemmas.List.{append-nil}
+use Rattle.std.proofs.{Common.rules, Common.◌≡◌, Common.◌++◌, Common.arith, lemmas.List.append-nil}
 use Rattle.dns_rdata_service.proofs.PieceSteps.{item_gives}
 use Rattle.dns_rdata_service.proofs.steps.hint_item.Goals as goal
 

@@ -1,6 +1,6 @@
 use Rattle.std.proofs.Common.{arith}
 use Rattle.dns_rdata_service.specs.SvcParamValue.{a_octets}
-use Rattle.dns_rdata_service.proofs.HintReads.{hint4_refused, groups_fit, groups_body}
+use Rattle.dns_rdata_service.proofs.ValueReads.{hint4_refused, groups_fit, groups_body}
 use Rattle.dns_rdata_service.proofs.svcb.value.hint4.Goals as goal
 
 pub returns : goal.returns

@@ -1,6 +1,6 @@
 use Rattle.std.proofs.Common.{arith}
 use Rattle.dns_rdata_service.specs.SvcParamValue.{aaaa_octets}
-use Rattle.dns_rdata_service.proofs.HintReads.{hint6_refused, groups_fit, groups_body}
+use Rattle.dns_rdata_service.proofs.ValueReads.{hint6_refused, groups_fit, groups_body}
 use Rattle.dns_rdata_service.proofs.svcb.value.hint6.Goals as goal
 
 pub returns : goal.returns

@@ -1,9 +1,8 @@
-use Rattle.std.proofs.Common.{List, ℕ, Ok, Err, arith, subst}
-use Rattle.std.proofs.lemmas.List.{take_all}
+use Rattle.std.proofs.{Common.List, Common.ℕ, Common.Ok, Common.Err, Common.arith, Common.subst, lemmas.List.take_all}
 use Rattle.dns_fields.specs.Pieces.{Alpn}
 use Rattle.dns_rdata_service.specs.Hints.{EmitsEach}
-use Rattle.dns_rdata_service.proofs.{Splits.is_err, EachEmits.emits_next, EachEmits.emits_refused}
-use Rattle.dns_rdata_service.proofs.EachEmits.{EmitsName, names_emit, value_extends}
+use Rattle.dns_rdata_service.proofs.EachEmits.{emits_next, emits_refused, EmitsName, names_emit, value_extends}
+use Rattle.dns_rdata_service.proofs.Splits.{is_err}
 use Rattle.dns_rdata_service.proofs.svcb.alpn.AlpnBinEncodable.emit.Goals as goal
 
 pub returns-in_err-emit_character_data : goal.returns-in_err-emit_character_data

@@ -1,5 +1,5 @@
 use Rattle.dns_rdata_service.proofs.{Splits.is_err, ItemLists.item_refused}
-use Rattle.dns_rdata_service.proofs.svcb.item.item_of.Goals as goal
+use Rattle.dns_rdata_service.proofs.svcb.parameter_word.item_of.Goals as goal
 
 pub returns-in_err-item-clause-refused : goal.returns-in_err-item-clause-refused
 returns-in_err-item-clause-refused g c =

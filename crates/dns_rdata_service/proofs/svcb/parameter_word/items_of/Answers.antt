@@ -1,5 +1,5 @@
 use Rattle.dns_rdata_service.proofs.{Splits.is_err, ItemLists.so_far_more, ItemLists.so_far_refused}
-use Rattle.dns_rdata_service.proofs.svcb.item.items_of.Goals as goal
+use Rattle.dns_rdata_service.proofs.svcb.parameter_word.items_of.Goals as goal
 
 pub returns-in_err-item_of-clause-refused : goal.returns-in_err-item_of-clause-refused
 returns-in_err-item_of-clause-refused g c =

@@ -1,7 +1,7 @@
 use Rattle.std.proofs.Common.{length}
 use Rattle.std.specs.Str.{IsUtf8}
 use Rattle.dns_rdata_service.proofs.ItemLists.{SoFar}
-use Rattle.dns_rdata_service.proofs.svcb.item.items_of.Given as goal
+use Rattle.dns_rdata_service.proofs.svcb.parameter_word.items_of.Given as goal
 
 -- the values so far, and the rest of the list
 abbrev pub invariant-pieces : goal.invariant-pieces
