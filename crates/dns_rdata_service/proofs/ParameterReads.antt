@@ -8,7 +8,7 @@ use Rattle.dns_fields.specs.{Pieces.Numbered, Pieces.ParameterValue, Pieces.Para
 use Rattle.dns_fields.specs.Labels.{DomainName}
 use Rattle.dns_fields.proofs.{Pieces.piece_before, Pieces.heads_same, Pieces.first_piece, FieldLaws.field_inside, FieldLaws.field_end}
 use Rattle.dns_fields.proofs.Numbers.{length-bytes}
-use Rattle.dns_names_wire.specs.Words.{Took, TookField, StaysBehind, UnlessMemory, TookWindow, RefusedWindow, NoWindow, Window}
+use Rattle.dns_names_wire.specs.Words.{TookField, StaysBehind, UnlessMemory, TookWindow, RefusedWindow, NoWindow, Window}
 use Rattle.dns_names_wire.specs.State.{Reading}
 use Rattle.dns_names_wire.proofs.FieldReads.{unless_map, unless_all, stays, took_stays, stands_inside, refused_then, refused_past}
 use Rattle.dns_names_wire.proofs.{WindowReads.Given, WindowReads.filled_window, Strings.at_then}

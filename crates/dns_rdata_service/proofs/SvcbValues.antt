@@ -1,7 +1,7 @@
 -- SVCB and HTTPS by their fields: a record that was read is told by them, and fields of a window make one.
 use Rattle.std.proofs.Common.{◌≡◌, inl, inr, ℕ, ◌==◌, ◌&&◌, Bool, true, false, if◌then◌else◌, List, [], ◌∷◌, length, map, refl, sym, ap, ◌∙◌, arith}
 use Rattle.std.proofs.{lemmas.Bool.Decides.same_from_decides, lemmas.Bool.Decides.Decides-like, lemmas.Bool.Decides.nat_tests, lemmas.Simd.map-map}
-use Rattle.std.proofs.{Common.◌≢◌, Common.◌⊎◌, Common.nat_le, Common.◌≤◌, lemmas.Grind.common_steps}
+use Rattle.std.proofs.{Common.◌⊎◌, Common.nat_le, Common.◌≤◌, lemmas.Grind.common_steps}
 use Rattle.std.specs.List.{flat_map, AllByRecursion}
 use Rattle.dns_fields.specs.Pieces.{Numbered, ParameterValue, Mandatory, Alpn, NoDefaultAlpn, Port, Ipv4Hint, Ipv6Hint, Opaque, ParameterHeld}
 use Rattle.dns_fields.specs.Pieces.{AllHeld, piece, pieces, Form, Keys, Names, AnyOctets, form_for}

@@ -308,21 +308,17 @@ groups_read w octets body items new h =
     let g = are_groups w octets body 0 items (length body) h.stand in
     (g.all, to_end body 0 (length body) (flat_map (λ s. s) (map octets items)) (omega arith) g.split)
 
-a_octets_of : (s : List ℕ) → length s ≡ 4 → AreOctets s → (x : A) × (a_octets x ≡ s)
+pub a_octets_of : (s : List ℕ) → length s ≡ 4 → AreOctets s → (x : A) × (a_octets x ≡ s)
 a_octets_of s n all = (a_of s, refl)
 
-aaaa_octets_of : (s : List ℕ) → length s ≡ 16 → AreOctets s → (x : AAAA) × (aaaa_octets x ≡ s)
+pub aaaa_octets_of : (s : List ℕ) → length s ≡ 16 → AreOctets s → (x : AAAA) × (aaaa_octets x ≡ s)
 aaaa_octets_of s n all = (aaaa_of s, octets_of-segments 8 s (omega arith) all)
 
-pub hint4_refused : (body : List ℕ) (new : Reading) (r : Result (IpHint A) DecodeError) → AreOctets body → length body % 4 ≡ 0
-    → ReadsEach (GroupAt 4 a_octets) (λ x. x.0) r (record { message = body; index = 0 }) new → IfErr r (IsValueRefusal Addresses4 body)
-hint4_refused body new (Ok x) all whole h = tt
-hint4_refused body new (Err e) all whole h = inl (unless_none e _ h.1 (no_stop 4 a_octets body (λ k lt. omega (arith, whole, lt)) a_octets_of all))
-
-pub hint6_refused : (body : List ℕ) (new : Reading) (r : Result (IpHint AAAA) DecodeError) → AreOctets body → length body % 16 ≡ 0
-    → ReadsEach (GroupAt 16 aaaa_octets) (λ x. x.0) r (record { message = body; index = 0 }) new → IfErr r (IsValueRefusal Addresses16 body)
-hint6_refused body new (Ok x) all whole h = tt
-hint6_refused body new (Err e) all whole h = inl (unless_none e _ h.1 (no_stop 16 aaaa_octets body (λ k lt. omega (arith, whole, lt)) aaaa_octets_of all))
+pub hint_refused : {T : Type 0} (form : Form) (w : ℕ) (octets : T → List ℕ) (body : List ℕ) (new : Reading) (r : Result (IpHint T) DecodeError)
+    → ((k : ℕ) → w * k < length body → w * k + w ≤ length body) → ((s : List ℕ) → length s ≡ w → AreOctets s → (x : T) × (octets x ≡ s)) → AreOctets body
+    → ReadsEach (GroupAt w octets) (λ x. x.0) r (record { message = body; index = 0 }) new → IfErr r (IsValueRefusal form body)
+hint_refused form w octets body new (Ok x) room of all h = tt
+hint_refused form w octets body new (Err e) room of all h = inl (unless_none e _ h.1 (no_stop w octets body room of all))
 
 pub groups_fit : {T : Type 0} (w : ℕ) (octets : T → List ℕ) (body : List ℕ) (new : Reading) (r : Result (IpHint T) DecodeError)
     → ReadsEach (GroupAt w octets) (λ x. x.0) r (record { message = body; index = 0 }) new → IfOk r (λ x. AllByRecursion (λ s. length s ≡ w) (map octets x.0))

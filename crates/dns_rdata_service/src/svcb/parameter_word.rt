@@ -229,10 +229,7 @@ fn item_of<T: FromItem>(alloc: Global, text: &str) -> Result<T, ParseError>
 
 // The values of the items of a list. Memory is asked for the list beside what the values and pieces with a `\` need.
 #[tactic(auto, using(crate::proofs::ItemLists::so_far_more))]
-fn items_of<T: FromItem + Drop>(
-    alloc: Global,
-    text: &str,
-) -> Result<Items<T>, ParseError>
+fn items_of<T: FromItem + Drop>(alloc: Global, text: &str) -> Result<Items<T>, ParseError>
     ensures ok { IfOk result (ListOf T.is_text text.now) }
     ensures refused { IfErr result (λ e. e ≢ parse.Memory → (xs : List T) → ListOf T.is_text text.now xs → ⊥) }
 {

@@ -68,7 +68,9 @@ impl SvcParamValue {
             }
             SvcParamKey::Port => Ok(Self::Port(decoder.read_u16()?.unverified())),
             SvcParamKey::Ipv4Hint => Ok(Self::Ipv4Hint(hint4(alloc, octets)?)),
-            SvcParamKey::EchConfigList => Ok(Self::EchConfigList(EchConfigList::read(&mut decoder)?)),
+            SvcParamKey::EchConfigList => Ok(Self::EchConfigList(EchConfigList::read(
+                &mut decoder,
+            )?)),
             SvcParamKey::Ipv6Hint => Ok(Self::Ipv6Hint(hint6(alloc, octets)?)),
             SvcParamKey::DohPath => Ok(Self::DohPath(DohPath::read(&mut decoder)?)),
             SvcParamKey::Key(_) | SvcParamKey::Key65535 | SvcParamKey::Unknown(_) => {

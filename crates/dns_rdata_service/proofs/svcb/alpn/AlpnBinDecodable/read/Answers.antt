@@ -14,12 +14,6 @@ returns-in_err-read_character_data-clause-refused c =
     let l = c.in_err-read_character_data.ensures.lacking in
     rw (is_err _ _ c.from_residual-in_err-read_character_data.ensures.1) (inr (inr (inl (l.0, names_cut c.names.invariant (omega (arith, c.len-in-names.ensures.left)) l.1))))
 
-pub returns-then-not-is_text-clause-reads : goal.returns-then-not-is_text-clause-reads
-returns-then-not-is_text-clause-reads c =
-    let f = c.in_ok-read_character_data.ensures.taken in
-    let wrong = names_wrong c.names.invariant f (λ u. let t = c.if-not-is_text.ensures.1 (rw c.unverified-name.ensures u) in absurd (cc t)) in
-    names_refused _ (stays_then c.names.invariant.behind (text_behind f)) (inr (inr (inr (refl, wrong))))
-
 pub returns-then-not-is_text-clause-refused : goal.returns-then-not-is_text-clause-refused
 returns-then-not-is_text-clause-refused c =
     inr (inr (inr (
@@ -27,3 +21,7 @@ returns-then-not-is_text-clause-refused c =
       names_wrong c.names.invariant c.in_ok-read_character_data.ensures.taken
           (λ u. let t = c.if-not-is_text.ensures.1 (rw c.unverified-name.ensures u) in absurd (cc t)),
     )))
+
+pub returns-then-not-is_text-clause-reads : goal.returns-then-not-is_text-clause-reads
+returns-then-not-is_text-clause-reads c =
+    names_refused _ (stays_then c.names.invariant.behind (text_behind c.in_ok-read_character_data.ensures.taken)) (returns-then-not-is_text-clause-refused c)
