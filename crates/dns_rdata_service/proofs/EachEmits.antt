@@ -1,13 +1,21 @@
 -- Values that are emitted one after the other.
 use Rattle.std.proofs.Common.{◌≡◌, Bool, true, false, ◌&&◌, nat_le, ℕ, ◌+◌, ◌<◌, inl, inr, ◌^◌, List, [], ◌∷◌, ◌++◌, length, map, take, drop, get_or}
-use Rattle.std.proofs.Common.{refl, sym, ap, ◌∙◌, arith, subst, append_assoc, Result, Ok, Err}
-use Rattle.std.specs.{List.flat_map, List.list_all, List.AllByRecursion, Int.bytes_high_first}
-use Rattle.dns_fields.specs.{Pieces.string, Fields.Number, Fields.Text, Fields.Rest, Fields.field_octets}
-use Rattle.std.proofs.lemmas.List.{length-append, append-nil, drop_more, take-append-drop, take_more}
+use Rattle.std.proofs.Common.{refl, sym, ap, ◌∙◌, arith, subst, append_assoc, Result, Ok, Err, ◌≢◌, true≢false, codes, Option, Some, None}
+use Rattle.std.proofs.lemmas.List.{length-append, append-nil, drop_more, take-append-drop, take_more, map-append, map_push, length-map, map-id}
+use Rattle.std.proofs.{lemmas.List.Folds.flat_map-map, lemmas.Grind.put_two, Math.Bool.and-false}
+use Rattle.std.specs.{Fmt.◌++?◌, Fmt.HasWritten, Fmt.IsPlainFormatter, Fmt.DisplaysOnOk, List.flat_map, List.list_all, List.AllByRecursion}
+use Rattle.std.specs.{declared.fmt.Formatter.Formatter, declared.fmt.Error.Error, Int.bytes_high_first}
+use Rattle.dns_fields.specs.Pieces.{string, ParameterValue, Mandatory, Alpn, is_some, IsEmittable, parameter_octets, parameter_emittable, Numbered}
+use Rattle.dns_fields.specs.Fields.{Number, Text, Rest, field_octets, Parameters, parameter_pieces}
+use Rattle.dns_fields.specs.Pieces.{piece, ParameterFits, pieces, as_piece, Rising, rising}
 use Rattle.dns_types.specs.declared.error.ProtoError.{ProtoError}
-use Rattle.dns_names_wire.specs.{State.Writing, Words.Extends, Words.EmitsField}
-use Rattle.dns_names_wire.proofs.FieldWrites.{keeps_same, keeps_then, because_map}
-use Rattle.dns_rdata_service.specs.{Emitting.AppendedOctets, Emitting.StoppedOctets, Emitting.EmitsOctets, Hints.EmitsEach}
+use Rattle.dns_names_wire.specs.{Words.Extends, Words.EmitsField, Words.AppendedField, Words.StoppedField, Words.Because, State.Writing}
+use Rattle.dns_names_wire.proofs.FieldWrites.{keeps_same, keeps_then, because_map, extends_then}
+use Rattle.dns_rdata_service.specs.Parameters.{Parameter, parameter_of, IsAbove, EmitsParameter}
+use Rattle.dns_rdata_service.specs.{SvcParamValue.fits_value, SvcParamValue.sized, SvcParamValue.EmitsValue, Hints.EmitsEach, Hints.each_text}
+use Rattle.dns_rdata_service.specs.{Emitting.AppendedOctets, Emitting.StoppedOctets, Emitting.EmitsOctets, declared.svcb.key.SvcParamKey.SvcParamKey}
+use Rattle.dns_rdata_service.specs.SvcParamKey.{key_number}
+use Rattle.dns_rdata_service.proofs.ParameterLists.{Risen, risen_push, risen_not}
 
 -- ---- any emitter
 
@@ -140,3 +148,157 @@ octets_extend P test s (Err e) old new h = h.extends
 
 pub rest_extends : (s : List ℕ) (r : Result (Unit {0}) ProtoError) (old new : Writing) → EmitsField Rest s r old new → Extends old new
 rest_extends s r old new h = octets_extend (Unit {0}) true s r old new (rest_emits s r old new h)
+
+pub place_refused : (v : ParameterValue) {e : ProtoError} {old new : Writing} → StoppedField e old (Number 2) 0 new
+    → StoppedOctets e old (fits_value v) (sized v) new
+unfolding field_octets
+place_refused v {e} h = record { extends = h.extends; why = because_map e _ _ _ _ (λ r. omega (arith, r.full)) (λ u. absurd (cc (u.unfit))) h.why }
+
+-- a value is refused behind its length
+pub sized_refused : (v : ParameterValue) {e : ProtoError} {old b new : Writing} → AppendedField old (Number 2) 0 b
+    → StoppedOctets e b (parameter_emittable v) (parameter_octets v) new → StoppedOctets e old (fits_value v) (sized v) new
+sized_refused v {e} {old} {b} f h =
+    let two : length b.octets ≡ length old.octets + 2 = ap length f.field.is.1 ∙ length-append old.octets (bytes_high_first 2 0) in
+    record {
+      extends = extends_then f h.extends;
+      why = because_map e _ _ _ _ (λ r. omega (arith, r, f.keeps.limit, two)) (λ u. rw u (and-false (nat_le (length (parameter_octets v)) 65535))) h.why;
+    }
+
+-- ---- lists
+
+abbrev pub EmitsKey : SvcParamKey → Result (Unit {0}) ProtoError → Writing → Writing → Type 0
+EmitsKey k r w n = EmitsField (Number 2) (key_number k) r w n
+
+abbrev pub EmitsName : List ℕ → Result (Unit {0}) ProtoError → Writing → Writing → Type 0
+EmitsName s r w n = EmitsField Text s r w n
+
+pub keys_emit : (keys : List SvcParamKey) (r : Result (Unit {0}) ProtoError) (w n : Writing) → length keys ≢ 0 → EmitsEach EmitsKey keys r w n
+    → EmitsValue (Mandatory (map key_number keys)) r w n
+keys_emit keys r w n some h =
+    emits_as r w n (λ p. (λ e. some (sym (length-map keys key_number) ∙ ap length e), p)) (λ q. absurd (true≢false (sym (all_pass (map key_number keys)) ∙ q))) refl
+    (emits_all key_number (λ n. n < 256 ^ 2) (λ n. true) (bytes_high_first 2) EmitsKey (λ k. number_emits 2 (key_number k)) keys r w n h)
+
+pub names_emit : (names : List (List ℕ)) (r : Result (Unit {0}) ProtoError) (w n : Writing) → length names ≢ 0 → EmitsEach EmitsName names r w n
+    → EmitsValue (Alpn names) r w n
+names_emit names r w n some h =
+    emits_as r w n (λ p. (λ e. some (ap length e), p)) (and_second (is_some names) (list_all (λ s. nat_le (length s) 255) names)) refl
+    (rw (map-id names) at (emits_all (λ s. s) (λ s. length s < 256) (λ s. nat_le (length s) 255) string EmitsName text_emits names r w n h))
+
+pub value_extends : (v : ParameterValue) (r : Result (Unit {0}) ProtoError) (old new : Writing) → EmitsValue v r old new → Extends old new
+value_extends v r old new h = octets_extend (IsEmittable v) (parameter_emittable v) (parameter_octets v) r old new h
+
+split_texts : (a b : Option (List ℕ)) (t : List ℕ) → a ++? b ≡ Some t → (s : List ℕ) × (u : List ℕ) × (a ≡ Some s) × (b ≡ Some u) × (s ++ u ≡ t)
+split_texts (Some s) (Some u) t e = (s, u, refl, refl, cc e)
+split_texts (Some s) None t e = absurd (cc e)
+split_texts None b t e = absurd (cc e)
+
+texts_assoc : (a b c : Option (List ℕ)) → a ++? (b ++? c) ≡ (a ++? b) ++? c
+texts_assoc (Some a) (Some b) (Some c) = ap Some (sym (append_assoc a b c))
+texts_assoc (Some a) (Some b) None = refl
+texts_assoc (Some a) None c = refl
+texts_assoc None b c = refl
+
+one_text : (a : Option (List ℕ)) → a ++? (Some (codes ",") ++? Some []) ≡ Some [] ++? (a ++? Some (codes ","))
+one_text (Some a) = refl
+one_text None = refl
+
+each_push : {T : Type 0} (text : T → Option (List ℕ)) (xs : List T) (x : T)
+    → each_text text (xs ++ x ∷ []) ≡ each_text text xs ++? (text x ++? Some (codes ","))
+each_push text [] x = one_text (text x)
+each_push text (y ∷ ys) x =
+    ap (λ (t : Option (List ℕ)). text y ++? (Some (codes ",") ++? t)) (each_push text ys x)
+    ∙ ap (λ (t : Option (List ℕ)). text y ++? t) (texts_assoc (Some (codes ",")) (each_text text ys) (text x ++? Some (codes ",")))
+    ∙ texts_assoc (text y) (Some (codes ",") ++? each_text text ys) (text x ++? Some (codes ","))
+
+abbrev okay : Unit {0} → Result (Unit {0}) Error
+okay u = Ok u
+
+-- some were written, and then one more and a comma
+pub texts_more : {T W : Type 0} (took : W → List ℕ → W → Type 0) (text : T → Option (List ℕ)) (i : ℕ) (xs : List T) (x : T) (f g h : Formatter W)
+    (u : Unit {0}) → x ≡ get_or xs i x → i < length xs
+    → (IsPlainFormatter f → (t : List ℕ) → each_text text (take i xs) ≡ Some t → HasWritten took f t g)
+    → DisplaysOnOk took g (okay u) (text x ++? Some (codes ",")) h
+    → IsPlainFormatter f → (t : List ℕ) → each_text text (take (i + 1) xs) ≡ Some t → HasWritten took f t h
+texts_more took text i xs x f g h u is lt before one plain t e =
+    let whole : each_text text (take i xs) ++? (text x ++? Some (codes ",")) ≡ Some t = sym (each_push text (take i xs) x) ∙ ap (each_text text) (sym (one_more i xs x x is lt))
+    ∙ e in
+    let p = split_texts (each_text text (take i xs)) (text x ++? Some (codes ",")) t whole in
+    let first : HasWritten took f p.0 g = before plain p.0 p.2 in
+    let next : DisplaysOnOk took g (okay u) (Some p.1) h = subst (λ (o : Option (List ℕ)). DisplaysOnOk took g (okay u) o h) p.3 one in
+    put_two took f g h p.0 p.1 t first (next first.plain refl) p.4
+
+-- where each text is known
+pub each_known : {T : Type 0} (text : T → List ℕ) (xs : List T) → each_text (λ x. Some (text x)) xs ≡ Some (flat_map (λ x. text x ++ codes ",") xs)
+each_known text [] = refl
+each_known text (x ∷ xs) = ap (λ (t : Option (List ℕ)). Some (text x) ++? (Some (codes ",") ++? t)) (each_known text xs)
+    ∙ ap Some (sym (append_assoc (text x) (codes ",") (flat_map (λ x. text x ++ codes ",") xs)))
+
+-- a parameter's octets
+abbrev pub spelled : Numbered ParameterValue → List ℕ
+spelled x = piece (as_piece parameter_octets x)
+
+abbrev pub EmitsOne : Parameter → Result (Unit {0}) ProtoError → Writing → Writing → Type 0
+EmitsOne p r w n = EmitsParameter (parameter_of p) r w n
+
+abbrev fits : Numbered ParameterValue → Bool
+fits x = fits_value x.1
+
+octets_of : (v : List (Numbered ParameterValue)) → flat_map spelled v ≡ pieces (parameter_pieces v)
+octets_of v = sym (flat_map-map piece (as_piece parameter_octets) v)
+
+-- one more key that rises
+pub risen_next : (last : Option ℕ) (i : ℕ) (ps : List Parameter) (p : Parameter) (n : ℕ) → p ≡ get_or ps i p → i < length ps
+    → Risen last (map parameter_of (take i ps)) → n ≡ (parameter_of p).0 → IsAbove last n → Risen (Some n) (map parameter_of (take (i + 1) ps))
+risen_next last i ps p n is lt r number above =
+    rw (one_more i ps p p is lt, map_push, number) (risen_push last (map parameter_of (take i ps)) (parameter_of p) r (subst (IsAbove last) number above))
+
+-- they are emitted as their octets
+each_emitted : (ps : List Parameter) (r : Result (Unit {0}) ProtoError) (w n : Writing) → EmitsEach EmitsOne ps r w n
+    → EmitsOctets (AllByRecursion ParameterFits (map parameter_of ps)) (list_all fits (map parameter_of ps)) (flat_map spelled (map parameter_of ps)) r w n
+each_emitted = emits_all parameter_of ParameterFits fits spelled EmitsOne (λ p r w n h. h)
+
+-- all were emitted
+pub all_emitted : (ps : List Parameter) (w n : Writing) → EmitsEach EmitsOne ps (Ok tt) w n → Rising (map parameter_of ps)
+    → AppendedField w Parameters (map parameter_of ps) n
+unfolding field_octets
+all_emitted ps w n h r =
+    let all = each_emitted ps (Ok tt) w n h in
+    record { keeps = all.1.keeps; field = record { is = (all.0, r, all.1.octets ∙ ap (λ (l : List ℕ). w.octets ++ l) (octets_of (map parameter_of ps))) } }
+
+-- one is refused
+pub one_stopped : (ps : List Parameter) (e : ProtoError) (w n : Writing) → EmitsEach EmitsOne ps (Err e) w n
+    → StoppedField e w Parameters (map parameter_of ps) n
+unfolding field_octets
+one_stopped ps e w n h =
+    let all = each_emitted ps (Err e) w n h in
+    record {
+      extends = all.extends;
+      why = because_map e _ _ _ _ (λ r. record { full = omega (arith, r, ap length (octets_of (map parameter_of ps))) })
+          (λ u. record { unfit = and_first (list_all fits (map parameter_of ps)) (rising (map parameter_of ps)) u }) all.why;
+    }
+
+-- a key does not rise
+pub order_stopped : (last : Option ℕ) (i : ℕ) (ps : List Parameter) (p : Parameter) (w b : Writing) → p ≡ get_or ps i p → i < length ps
+    → EmitsEach EmitsOne (take i ps) (Ok tt) w b → Risen last (map parameter_of (take i ps)) → (IsAbove last (parameter_of p).0 → ⊥) → (e : ProtoError)
+    → Because e ⊥ (Unit {0}) → StoppedField e w Parameters (map parameter_of ps) b
+order_stopped last i ps p w b is lt h r fails e why =
+    let front = map parameter_of (take i ps) in
+    let rest = map parameter_of (drop (i + 1) ps) in
+    let split : front ++ parameter_of p ∷ rest ≡ map parameter_of ps = sym (map-append parameter_of (take i ps) (p ∷ drop (i + 1) ps))
+    ∙ ap (map parameter_of) (list_at i ps p p is lt) in
+    let all = each_emitted (take i ps) (Ok tt) w b h in
+    record {
+      extends = record { keeps = all.1.keeps; tail = flat_map spelled front; octets = all.1.octets };
+      why = because_map e _ _ _ _ (λ (x : ⊥). absurd x)
+          (λ u. record {
+            unfit = and_second (list_all fits (map parameter_of ps)) (rising (map parameter_of ps))
+                (ap rising (sym split) ∙ risen_not last front (parameter_of p) rest r fails);
+          }) why;
+    }
+
+-- ---- one parameter
+
+pub number_refused : (k : ℕ) (v : ParameterValue) {e : ProtoError} {old new : Writing} → StoppedField e old (Number 2) k new
+    → StoppedOctets e old (fits_value v) (spelled (k, v)) new
+unfolding field_octets
+number_refused k v {e} h = record { extends = h.extends; why = because_map e _ _ _ _ (λ r. omega (arith, r.full)) (λ u. absurd (cc (u.unfit))) h.why }

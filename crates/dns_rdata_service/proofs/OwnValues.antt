@@ -1,5 +1,5 @@
 -- The keys that parameters are compared by tell their fields.
-use Rattle.std.proofs.Common.{◌≡◌, List, [], ◌∷◌, map, drop, get_or, refl, sym, ap, ◌∙◌}
+use Rattle.std.proofs.Common.{◌≡◌, List, [], ◌∷◌, map, drop, get_or, refl, sym, ap, ◌∙◌, arith}
 use Rattle.dns_fields.specs.Pieces.{Mandatory}
 use Rattle.dns_rdata_service.specs.{SvcParamKey.key_number, Parameters.Parameter, Parameters.parameter_of, Parameters.own_parameter}
 use Rattle.dns_rdata_service.specs.{declared.svcb.key.SvcParamKey.SvcParamKey, declared.svcb.value.SvcParamValue.SvcParamValue}
@@ -12,15 +12,7 @@ firsts (k ∷ ks) = ap (λ l. key_number k ∷ l) (firsts ks)
 
 pub value_given : (v w : SvcParamValue) → value_key v ≡ value_key w → value_of v ≡ value_of w
 value_given (variants.Mandatory x) (variants.Mandatory y) h = ap Mandatory (sym (firsts x.0) ∙ ap (λ l. map (λ s. get_or s 0 0) (drop 1 l)) h ∙ firsts y.0)
-value_given (variants.Alpn x) (variants.Alpn y) h = cc h
-value_given variants.NoDefaultAlpn variants.NoDefaultAlpn h = refl
-value_given (variants.Port m) (variants.Port n) h = cc h
-value_given (variants.Ipv4Hint x) (variants.Ipv4Hint y) h = cc h
-value_given (variants.EchConfigList x) (variants.EchConfigList y) h = cc h
-value_given (variants.Ipv6Hint x) (variants.Ipv6Hint y) h = cc h
-value_given (variants.DohPath x) (variants.DohPath y) h = cc h
-value_given (variants.Unknown x) (variants.Unknown y) h = cc h
-value_given v w h = absurd (cc h)
+value_given v w h = grind (arith, h)
 
 pub own_fields : (ps qs : List Parameter) → map own_parameter ps ≡ map own_parameter qs → map parameter_of ps ≡ map parameter_of qs
 own_fields [] [] h = refl
@@ -28,9 +20,6 @@ own_fields [] (q ∷ qs) h = cc h
 own_fields (p ∷ ps) [] h = cc h
 own_fields (p ∷ ps) (q ∷ qs) h =
     let one : own_parameter p ≡ own_parameter q = cc h in
-    let held = ap (λ x. x.1) one in
-    let keys : value_key p.1 ≡ value_key q.1 = cc held in
-    let values = value_given p.1 q.1 keys in
+    let keys : value_key p.1 ≡ value_key q.1 = cc (ap (λ x. x.1) one) in
     let rest : map own_parameter ps ≡ map own_parameter qs = cc h in
-    let more = own_fields ps qs rest in
-    (λ i. ((one i).0, values i) ∷ more i)
+    (λ i. ((one i).0, value_given p.1 q.1 keys i) ∷ own_fields ps qs rest i)

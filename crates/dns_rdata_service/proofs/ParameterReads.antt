@@ -1,23 +1,27 @@
 -- Reading parameters one after the other.
 use Rattle.std.proofs.Common.{◌≡◌, inl, inr, ℕ, ◌+◌, ◌<◌, ◌≤◌, List, [], ◌∷◌, ◌++◌, length, drop, map, Option, Some, refl, sym, ap, ◌∙◌, arith, subst}
+use Rattle.std.proofs.{lemmas.List.length-append, lemmas.List.length-drop, lemmas.List.map_push, Common.◌-◌, Common.Err}
 use Rattle.std.specs.Int.{bytes_high_first}
-use Rattle.std.proofs.lemmas.List.{length-append, length-drop, map_push}
 use Rattle.dns_types.specs.declared.error.DecodeError.{DecodeError}
-use Rattle.dns_types.specs.declared.error.DecodeError.TheVariants as decode
-use Rattle.dns_fields.specs.{Octets.At, Fields.Number, Fields.Octets, Fields.Parameters, Fields.Field, Fields.Values}
-use Rattle.dns_fields.specs.Pieces.{Numbered, ParameterValue, ParameterHeld, piece, Rising}
-use Rattle.dns_fields.proofs.{Numbers.length-bytes, Pieces.piece_before, Pieces.heads_same, Pieces.first_piece, FieldLaws.field_inside}
+use Rattle.dns_fields.specs.Fields.{Number, Octets, Rest, Parameters, Field, Values, Kind, Name, Value, Stands, EndsItself}
+use Rattle.dns_fields.specs.{Pieces.Numbered, Pieces.ParameterValue, Pieces.ParameterHeld, Pieces.piece, Pieces.rising, Octets.At, Octets.AreOctets}
+use Rattle.dns_fields.specs.Labels.{DomainName}
+use Rattle.dns_fields.proofs.{Pieces.piece_before, Pieces.heads_same, Pieces.first_piece, FieldLaws.field_inside, FieldLaws.field_end}
+use Rattle.dns_fields.proofs.Numbers.{length-bytes}
+use Rattle.dns_names_wire.specs.Words.{TookField, StaysBehind, UnlessMemory, TookWindow, RefusedWindow, NoWindow, Window}
 use Rattle.dns_names_wire.specs.State.{Reading}
-use Rattle.dns_names_wire.specs.Words.{Took, TookField, StaysBehind, UnlessMemory, TookWindow, RefusedWindow, NoWindow}
-use Rattle.dns_names_wire.proofs.{FieldReads.unless_map, FieldReads.unless_all, WindowReads.Given, Strings.at_then}
+use Rattle.dns_names_wire.proofs.FieldReads.{unless_map, unless_all, stays, took_stays, stands_inside, refused_then, refused_past}
+use Rattle.dns_names_wire.proofs.{WindowReads.Given, WindowReads.filled_window, Strings.at_then}
 use Rattle.dns_rdata_base.specs.Refusing.{FirstLack}
-use Rattle.dns_rdata_service.specs.{SvcParamKey.key_number, SvcParamValue.value_of, SvcParamValue.HasText, Hints.StandEach}
 use Rattle.dns_rdata_service.specs.Parameters.{Parameter, parameter_of, parameter_from, AreRead, HaveTexts, IsAbove, CutValue, RefusedValue}
-use Rattle.dns_rdata_service.specs.Parameters.{IsParameterRefusal, IsParametersRefusal}
-use Rattle.dns_rdata_service.proofs.{Refusals.NoKeyValue, Refusals.key_none, EachReads.EachOn, EachReads.each_more}
+use Rattle.dns_rdata_service.specs.{Parameters.IsParameterRefusal, Parameters.IsParametersRefusal, SvcParamValue.value_of, SvcParamValue.HasText}
+use Rattle.dns_rdata_service.specs.{SVCB.svcb_shape, SVCB.svcb_fields, SVCB.MeetsSvcbCondition, declared.svcb.SVCB.SVCB, SvcParamKey.key_number}
+use Rattle.dns_rdata_service.specs.Hints.{StandEach}
+use Rattle.dns_rdata_service.proofs.ParameterLists.{Risen, risen_push, risen_not, risen_rises, fails_test, OneOf, one_long, one_once, one_of}
+use Rattle.dns_rdata_service.proofs.ParameterLists.{parameters_each, each_parameters, each_inside, each_rest}
+use Rattle.dns_rdata_service.proofs.ValueReads.{NoKeyValue, key_none, EachOn, each_more}
 use Rattle.dns_rdata_service.proofs.Splits.{at_split, stays_then, all_behind, all_append}
-use Rattle.dns_rdata_service.proofs.ParameterLists.{Risen, risen_push, risen_not, OneOf, one_long, one_once, one_of, parameters_each, each_parameters}
-use Rattle.dns_rdata_service.proofs.ParameterLists.{each_inside, each_rest}
+use Rattle.dns_types.specs.declared.error.DecodeError.TheVariants as decode
 
 -- ---- one parameter
 
@@ -84,22 +88,16 @@ parameter_none e (inl h) = unless_all e (lacking_none h)
 parameter_none e (inr (inl h)) = unless_all e (cut_none h)
 parameter_none e (inr (inr h)) = value_refused h
 
-took_two : {old new : Reading} {a b : ℕ} → Took old (Number 2 ∷ Number 2 ∷ []) (a, (b, tt)) new → StaysBehind old new
-took_two t = let s = t.stands in record { message = t.message; index = omega (arith, (field_inside s.1).0, (field_inside s.2.1).0, s.2.2) }
-
 parameter_behind : {old new : Reading} (e : DecodeError) → IsParameterRefusal old e new → StaysBehind old new
-parameter_behind {old} {new} e (inl (inl h)) =
-    record { message = ap (λ (r : Reading). r.message) h.2; index = omega (arith, ap (λ (r : Reading). r.index) h.2) }
-parameter_behind {old} {new} e (inl (inr (n, between, took, inl h))) =
-    record {
-      message = ap (λ (r : Reading). r.message) h.2
-          ∙ took.message;
-      index = omega (arith, ap (λ (r : Reading). r.index) h.2, (field_inside took.field).0);
-    }
-parameter_behind {old} {new} e (inl (inr (n, between, took, inr h))) = absurd h.3
-parameter_behind e (inr (inl h)) = took_two h.took
-parameter_behind e (inr (inr h)) = let s = h.took.stands in
-    record { message = h.took.message; index = omega (arith, (field_inside s.1).0, (field_inside s.2.1).0, (field_inside s.2.2.1).0, s.2.2.2) }
+parameter_behind {old} e (inl (inl h)) = subst (StaysBehind old) (sym h.2) (stays old)
+parameter_behind {old} e (inl (inr (n, between, took, inl h))) = subst (StaysBehind old) (sym h.2) (took_stays took (stays between))
+parameter_behind e (inl (inr (n, between, took, inr h))) = absurd h.3
+parameter_behind {old} {new} e (inr (inl h)) = record
+    { message = h.took.message; index = stands_inside old.message old.index (Number 2 ∷ Number 2 ∷ []) (h.key, (h.size, tt)) new.index h.took.stands }
+parameter_behind {old} {new} e (inr (inr h)) = record {
+  message = h.took.message;
+  index = stands_inside old.message old.index (Number 2 ∷ Number 2 ∷ Rest ∷ []) (h.key, (length h.octets, (h.octets, tt))) new.index h.took.stands;
+}
 
 -- ---- several parameters
 
@@ -119,9 +117,6 @@ one_here : {old d b : Reading} {ps : List Parameter} {last : Option ℕ} {x : Nu
     → TookField d Parameters (x ∷ []) b → OneOf old.message d.index x b.index
 one_here {old} {d} {b} {x = x} on f = subst (λ (m : List ℕ). OneOf m d.index x b.index) on.each.behind.message (one_of f.field)
 
-one_behind : {d b : Reading} {x : Numbered ParameterValue} → TookField d Parameters (x ∷ []) b → StaysBehind d b
-one_behind f = record { message = f.message; index = (field_inside f.field).0 }
-
 pub on_more : {old d b : Reading} {ps : List Parameter} {last : Option ℕ} {p : Parameter} {n : ℕ} → ParametersOn old ps last d
     → TookField d Parameters (parameter_of p ∷ []) b → p ≡ parameter_from (parameter_of p) → HasText (key_number p.0) (value_of p.1) → n ≡ key_number p.0
     → IsAbove last n → ParametersOn old (ps ++ p ∷ []) (Some n) b
@@ -129,7 +124,7 @@ on_more {old} {d} {b} {ps} {last} {p} {n} on f is text number above =
     let risen : Risen (Some (key_number p.0)) (map parameter_of ps ++ parameter_of p ∷ []) = risen_push last (map parameter_of ps) (parameter_of p) on.risen
     (subst (IsAbove last) number above) in
     record {
-      each = rw map_push (each_more OneOf on.each (one_behind f) (one_of f.field));
+      each = rw map_push (each_more OneOf on.each (took_stays f (stays b)) (one_of f.field));
       within = (one_here on f).at.within;
       risen = rw (map_push, number) risen;
       read = read_push ps p on.read is;
@@ -140,7 +135,7 @@ pub on_longer : {d b : Reading} {x : Numbered ParameterValue} → TookField d Pa
 on_longer f = one_long (one_of f.field)
 
 pub on_taken : {old d : Reading} {ps : List Parameter} {last : Option ℕ} → ParametersOn old ps last d → TookField old Parameters (map parameter_of ps) d
-on_taken on = record { message = on.each.behind.message; field = each_parameters on.within on.each.stand on.risen.rising }
+on_taken {ps = ps} {last = last} on = record { message = on.each.behind.message; field = each_parameters on.within on.each.stand (risen_rises last (map parameter_of ps) on.risen) }
 
 -- ---- how the loop ends, where n octets are left of the record
 
@@ -188,12 +183,12 @@ pub on_order : {old d b : Reading} {ps : List Parameter} {last : Option ℕ} {x 
     → d.index + 4 ≤ old.index + n → ParametersOn old ps last d → TookField d Parameters (x ∷ []) b → (IsAbove last x.0 → ⊥)
     → RefusedWindow e old n (Parameters ∷ []) texts b
 on_order {old} {d} {b} {ps} {last} {x} e n room on f fails = record {
-  behind = stays_then on.each.behind (one_behind f);
+  behind = stays_then on.each.behind (took_stays f (stays b));
   none = unless_all e (no_window (λ v g u.
       let y = next_of on (omega (arith, room)) g in
       let same : y.next ≡ x = (one_once y.one (one_here on f)).0 in
       let whole : v ≡ map parameter_of ps ++ x ∷ y.rest = y.same ∙ ap (λ (z : Numbered ParameterValue). map parameter_of ps ++ z ∷ y.rest) same in
-      risen_not last (map parameter_of ps) x y.rest on.risen fails (subst Rising whole g.is.rising)));
+      fails_test v (ap rising whole ∙ risen_not last (map parameter_of ps) x y.rest on.risen fails) g.is.rising));
 }
 
 -- a parameter ends behind the record
@@ -201,7 +196,7 @@ pub on_passed : {old d b : Reading} {ps : List Parameter} {last : Option ℕ} {x
     → d.index + 4 ≤ old.index + n → ParametersOn old ps last d → TookField d Parameters (x ∷ []) b → old.index + n < b.index
     → RefusedWindow e old n (Parameters ∷ []) texts b
 on_passed {old} {d} {b} {ps} {last} {x} e n room on f past = record {
-  behind = stays_then on.each.behind (one_behind f);
+  behind = stays_then on.each.behind (took_stays f (stays b));
   none = unless_all e (no_window (λ v g u.
       let y = next_of on (omega (arith, room)) g in
       omega (arith, (one_once y.one (one_here on f)).1, y.before, past)));
@@ -239,10 +234,85 @@ order_refusal {old} {d} {b} {ps} {last} {x} p n on f fails =
       then = f;
       error = refl;
       order =
-          λ r. risen_not last (map parameter_of ps) x [] on.risen fails r;
+          fails_test (map parameter_of ps ++ x ∷ []) (risen_not last (map parameter_of ps) x [] on.risen fails);
     })))
 
 pub passed_refusal : {old d : Reading} {ps : List Parameter} {last : Option ℕ} (p n size : ℕ) → ParametersOn old ps last d → n < size → d.index ≡ p + size
     → IsParametersRefusal p n old (decode.IncorrectRDataLengthRead size n) d
 passed_refusal {ps = ps} p n size on passed index =
     inr (inr (inr (record { taken = map parameter_of ps; size = size; took = on_taken on; error = refl; passed = passed; index = index })))
+
+-- asked of the fields behind the first
+abbrev pub BehindOne : (k : Kind) (kinds : List Kind) → (Values kinds → Type 0) → Values (k ∷ kinds) → Type 0
+BehindOne k kinds C vs = C vs.1
+
+none_then : {d b : Reading} {k : Kind} {v : Value k} {kinds : List Kind} {n r : ℕ} (C : Values kinds → Type 0) → EndsItself k → TookField d k v b
+    → b.index + r ≡ d.index + n → NoWindow b.message b.index r kinds C → NoWindow d.message d.index n (k ∷ kinds) (BehindOne k kinds C)
+none_then {d} {b} {k} {v} {kinds} {n} {r} C ends f all h = record {
+  none = λ vs w.
+      let s = w.stands in
+      let there : s.0 ≡ b.index = field_end ends s.1 f.field in
+      let rest : Stands b.message b.index kinds vs.1 (b.index + r) = subst (λ (e : ℕ). Stands b.message b.index kinds vs.1 e) (sym all)
+      (subst (λ (m : List ℕ). Stands m b.index kinds vs.1 (d.index + n)) (sym f.message)
+      (subst (λ (q : ℕ). Stands d.message q kinds vs.1 (d.index + n)) there s.2)) in
+      h.none vs.1 (record {
+        octets = subst AreOctets (sym f.message) w.octets;
+        short = omega (arith, w.short, all, (field_inside f.field).0);
+        within =
+            omega (arith, w.within, all, ap length f.message);
+        stands = rest;
+        holds = w.holds;
+      });
+}
+
+took_then : {d b e : Reading} {k : Kind} {v : Value k} {kinds : List Kind} {vs : Values kinds} {n r : ℕ} (C : Values kinds → Type 0) → EndsItself k
+    → TookField d k v b → n < 65536 → b.index + r ≡ d.index + n → TookWindow b r kinds C vs e
+    → TookWindow d n (k ∷ kinds) (BehindOne k kinds C) (v, vs) e
+took_then {d} {b} {e} {k} {v} {kinds} {vs} {n} {r} C ends f short all h = record {
+  behind = took_stays f h.behind;
+  here = λ same.
+      let w : Window b.message b.index r kinds C vs = h.here (omega (arith, same, all)) in
+      let rest : Stands d.message b.index kinds vs (d.index + n) = subst (λ (m : List ℕ). Stands m b.index kinds vs (d.index + n)) f.message
+      (subst (λ (q : ℕ). Stands b.message b.index kinds vs q) all w.stands) in
+      record {
+        octets = subst AreOctets f.message w.octets;
+        short = short;
+        within = omega (arith, w.within, all, ap length f.message);
+        stands =
+            (b.index, f.field, rest);
+        holds = w.holds;
+      };
+  elsewhere = λ ne. none_then C ends f all (h.elsewhere (λ same. ne (omega (arith, same, all))));
+}
+
+refused_behind : {e : DecodeError} {d b c : Reading} {k : Kind} {v : Value k} {kinds : List Kind} {n r : ℕ} (C : Values kinds → Type 0)
+    → EndsItself k → TookField d k v b → b.index + r ≡ d.index + n → RefusedWindow e b r kinds C c
+    → RefusedWindow e d n (k ∷ kinds) (BehindOne k kinds C) c
+refused_behind {e} C ends f all h = record { behind = took_stays f h.behind; none = unless_map e _ _ (none_then C ends f all) h.none }
+
+-- ---- SVCB
+
+abbrev Tail : List Kind
+Tail = Parameters ∷ []
+
+abbrev BehindName : Values (Name ∷ Tail) → Type 0
+BehindName = BehindOne Name Tail texts
+
+pub svcb_took : {d a b e : Reading} {priority : ℕ} {target : DomainName} {vs : Values Tail} (n r : ℕ) → TookField d (Number 2) priority a
+    → TookField a Name target b → n < 65536 → b.index + r ≡ d.index + n → TookWindow b r Tail texts vs e
+    → TookWindow d n svcb_shape MeetsSvcbCondition (priority, (target, vs)) e
+svcb_took {d} {a} {b} {e} {priority} {target} {vs} n r f g short all h =
+    let left : a.index + (d.index + n - a.index) ≡ d.index + n = omega (arith, (field_inside g.field).0, all) in
+    took_then BehindName tt f short left (took_then texts tt g (omega (arith, left, (field_inside f.field).0, short)) (omega (arith, left, all)) h)
+
+pub svcb_refused : {e : DecodeError} {d a b c : Reading} {priority : ℕ} {target : DomainName} (n r : ℕ) → TookField d (Number 2) priority a
+    → TookField a Name target b → b.index + r ≡ d.index + n → RefusedWindow e b r Tail texts c
+    → RefusedWindow e d n svcb_shape MeetsSvcbCondition c
+svcb_refused {e} {d} {a} {b} {c} n r f g all h =
+    let left : a.index + (d.index + n - a.index) ≡ d.index + n = omega (arith, (field_inside g.field).0, all) in
+    refused_behind BehindName tt f left (refused_behind texts tt g (omega (arith, left, all)) h)
+
+pub svcb_passed : {d a b : Reading} {priority : ℕ} {target : DomainName} (e : DecodeError) (n : ℕ) → Given d n → TookField d (Number 2) priority a
+    → TookField a Name target b → d.index + n < b.index → RefusedWindow e d n svcb_shape MeetsSvcbCondition b
+svcb_passed {d} {a} {b} e n given f g past = filled_window {T = SVCB} svcb_shape MeetsSvcbCondition svcb_fields (Err e) d b n tt given
+    (refused_then f tt (refused_then g tt (refused_past b (λ vs q c. omega (arith, c.0, past)))))

@@ -1,17 +1,21 @@
 -- Words of parameters: what is taken of each, and why it is of none.
 use Rattle.std.proofs.Common.{◌≡◌, ◌≢◌, ℕ, List, [], ◌∷◌, ◌++◌, refl, sym, ◌∙◌, subst, inl, inr, ⊎_elim, ◌<◌, length, length-append, get_or, arith}
-use Rattle.std.proofs.Common.{Option, Some, None, Result, Ok, Err}
-use Rattle.std.proofs.{lemmas.List.append_cancel_right, lemmas.List.get_or_default, Math.Seq.get_or-append_seam}
+use Rattle.std.proofs.Common.{Option, Some, None, Result, Ok, Err, drop, ap, find, unwrap_or, ◌==◌, if◌then◌else◌, Bool, true, false}
 use Rattle.std.proofs.lemmas.Str.Pattern.{IsSplitOnceResult, split_parts, split_after}
-use Rattle.std.specs.Prelude.{IfOk, IfErr}
+use Rattle.std.proofs.{lemmas.List.append_cancel_right, lemmas.List.get_or_default, Math.Seq.get_or-append_seam}
+use Rattle.std.specs.{Cmp.Lexicographic.pointwise, Cmp.Lexicographic.pointwise_decides, Str.Parse.digits_value, Str.Parse.without_leading_plus}
+use Rattle.std.specs.{Prelude.IfOk, Prelude.IfErr, Prelude.codes, Cmp.unsigned_Decides}
 use denote.Ref.{Bor}
 use Rattle.dns_types.specs.declared.error.ParseError.{ParseError}
+use Rattle.dns_rdata_service.specs.ParameterWords.{IsKeyText, ItemOf, ListOf, IsValueAlone, IsValueText, IsUnquoted, HasNoEquals, HasValue}
+use Rattle.dns_rdata_service.specs.declared.svcb.key.SvcParamKey.TheVariants.{Key, Key65535, Unknown}
+use Rattle.dns_rdata_service.specs.ParameterWords.{IsKeyAlone, IsKeyWithValue, IsParameterWord, IsNumberedKey}
+use Rattle.dns_rdata_service.specs.{declared.svcb.value.SvcParamValue.SvcParamValue, SvcParamKey.key_text, SvcParamKey.named_keys}
+use Rattle.dns_rdata_service.specs.{declared.svcb.key.SvcParamKey.SvcParamKey, Parameters.Parameter}
 use Rattle.dns_types.specs.declared.error.ParseError.TheVariants as parse
-use Rattle.dns_rdata_service.specs.{KeyTexts.IsKeyText, Parameters.Parameter, declared.svcb.value.SvcParamValue.SvcParamValue}
-use Rattle.dns_rdata_service.specs.ParameterWords.{ItemOf, ListOf, IsValueAlone, IsValueText, IsUnquoted, HasNoEquals, HasValue, IsKeyAlone}
-use Rattle.dns_rdata_service.specs.ParameterWords.{IsKeyWithValue, IsParameterWord}
 use Rattle.dns_rdata_service.specs.declared.svcb.key.SvcParamKey.TheVariants as keys
 use Rattle.dns_rdata_service.specs.declared.svcb.value.SvcParamValue.TheVariants as values
+use Rattle.dns_types.specs.declared.error.ProtoError.TheVariants as proto
 
 -- a value that begins with no quote
 pub bare : (value : List ℕ) → ((rest : List ℕ) → value ≢ 34 ∷ rest) → IsUnquoted value value
@@ -80,3 +84,38 @@ pub word_refused : {word : List ℕ} {Is : Parameter → Type 0} → IsWordOf wo
     → IfErr r (λ e. e ≢ parse.Memory → (p : Parameter) → Is p → ⊥) → IfErr r (λ e. e ≢ parse.Memory → (p : Parameter) → IsParameterWord word p → ⊥)
 word_refused d (Ok p) h = tt
 word_refused d (Err e) h = λ m p is. h m p (d.only p is)
+
+-- a text that is no name and has no number is of no key
+pub no_key : (text : List ℕ) → text ≢ codes "mandatory" → text ≢ codes "alpn" → text ≢ codes "no-default-alpn" → text ≢ codes "port"
+    → text ≢ codes "ipv4hint" → text ≢ codes "ech" → text ≢ codes "ipv6hint" → text ≢ codes "dohpath" → text ≢ codes "key65535"
+    → ((n : ℕ) → ¬ (IsNumberedKey text n)) → (key : SvcParamKey) → IsKeyText text key → ⊥
+unfolding key_text
+no_key text a b c d e f g h i none (Key n) is = none n is.0
+no_key text a b c d e f g h i none (Unknown n) is = is
+no_key text a b c d e f g h i none key is = grind (arith, is)
+
+pub not_memory : (why : Bor (List ℕ)) → proto.Message why ≢ proto.Memory
+not_memory why e = absurd cc
+
+-- ---- one key at most
+
+-- the first key whose name the text is, else that of the number behind `key`
+abbrev key_from : List ℕ → SvcParamKey
+key_from text = unwrap_or (find (λ k. pointwise ◌==◌ (key_text k) text) named_keys) (Key (digits_value 10 (without_leading_plus (drop 3 text))))
+
+told : (text : List ℕ) (key : SvcParamKey) → IsKeyText text key → key_from text ≡ key
+unfolding key_text
+told text (Key n) is =
+    ap key_from is.0.spelled
+    ∙ other (pointwise ◌==◌ (codes "key65535") (codes "key" ++ is.0.digits))
+    (λ e. is.1 (is.0.spelled ∙ sym ((pointwise_decides unsigned_Decides (codes "key65535") (codes "key" ++ is.0.digits)).0 e)))
+    ∙ ap Key (sym is.0.number.value)
+  where
+    other : (b : Bool) → (b ≡ true → ⊥) → unwrap_or (if b then Some Key65535 else None) (Key (digits_value 10 (without_leading_plus is.0.digits))) ≡ Key (digits_value 10 (without_leading_plus is.0.digits))
+    other true f = absurd (f refl)
+    other false f = refl
+told text (Unknown n) is = absurd is
+told text key is = ap key_from is
+
+pub key_one : (text : List ℕ) (a b : SvcParamKey) → IsKeyText text a → IsKeyText text b → a ≡ b
+key_one text a b x y = sym (told text a x) ∙ told text b y

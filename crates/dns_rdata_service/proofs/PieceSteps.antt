@@ -1,20 +1,21 @@
 -- Parameters, piece by piece.
-use Rattle.std.proofs.Common.{◌≡◌, ◌≢◌, ℕ, zero, suc, ◌+◌, ◌*◌, ◌<◌, ◌≤◌, ◌&&◌, nat_le, true, Option, Some, None, List, [], ◌∷◌, ◌++◌, length, get_or}
-use Rattle.std.proofs.Common.{drop, map, slice_get, refl, sym, ap, ◌∙◌, subst, arith, append_assoc, length-append}
-use Rattle.std.proofs.{lemmas.Bool.Decides.nat_tests, lemmas.Simd.map-map, lemmas.List.Sums.AllPass-from_list_all}
+use Rattle.std.proofs.Common.{◌≡◌, ◌≢◌, ℕ, zero, suc, ◌+◌, ◌-◌, ◌*◌, ◌<◌, ◌≤◌, ◌&&◌, nat_le, true, Option, Some, None, Result, Ok, Err, List, [], ◌∷◌}
+use Rattle.std.proofs.Common.{◌++◌, length, get_or, drop, map, slice_get, refl, sym, ap, ◌∙◌, subst, arith, append_assoc, length-append}
 use Rattle.std.proofs.lemmas.List.{append-nil, drop_more, drop_all, get_or-map, length-map}
-use Rattle.std.proofs.lemmas.Option.{slice_get-get_or, slice_get_past}
+use Rattle.std.proofs.{lemmas.Option.slice_get-get_or, lemmas.Option.slice_get_past, lemmas.List.Sums.AllPass-from_list_all, lemmas.Simd.map-map}
+use Rattle.std.proofs.{lemmas.Bool.Decides.nat_tests, Math.Nat.mul_comm}
 use Rattle.dns_fields.proofs.Sorted.{flat_map_all}
-use Rattle.dns_rdata_service.proofs.Splits.{length_numbers}
-use Rattle.std.specs.{List.flat_map, List.list_all, Int.bytes_high_first, Cmp.first_so, Cmp.second_so}
-use Rattle.dns_fields.specs.{Fields.Name, Fields.field_octets, Fields.parameter_pieces, Labels.lowname}
+use Rattle.std.specs.{List.flat_map, List.list_all, List.AllByRecursion, Result.OkIff, Result.result_ok, Cmp.first_so, Cmp.second_so}
+use Rattle.std.specs.Int.{bytes_high_first}
+use Rattle.dns_rdata_service.proofs.{ValueReads.length_groups, Splits.length_numbers}
 use Rattle.dns_fields.specs.Pieces.{string, piece, pieces, as_piece, ParameterValue, Mandatory, Alpn, NoDefaultAlpn, Port, Ipv4Hint, Ipv6Hint, Opaque}
-use Rattle.dns_fields.specs.Pieces.{parameter_octets, parameter_emittable, rising}
-use Rattle.dns_pieces.specs.{declared.step.Step.Step, Steps.GivesStep, Steps.StepAt}
-use Rattle.dns_rdata_service.specs.{SvcParamValue.value_of, SvcParamValue.fits_value, Parameters.Parameter, Parameters.parameter_of}
-use Rattle.dns_rdata_service.specs.{SvcParamKey.key_number, declared.svcb.key.SvcParamKey.SvcParamKey, declared.svcb.SVCB.SVCB}
+use Rattle.dns_fields.specs.{Pieces.parameter_octets, Pieces.parameter_emittable, Pieces.rising, Labels.lowname}
+use Rattle.dns_fields.specs.Fields.{Name, field_octets, parameter_pieces}
+use Rattle.dns_pieces.specs.{Steps.GivesStep, Steps.StepAt, declared.step.Step.Step}
 use Rattle.dns_rdata_service.specs.Steps.{parameter_head, value_front, value_items, parameters_from, items_of, parameters_left, svcb_left}
-use Rattle.dns_rdata_service.specs.Steps.{are_emittable, NextPiece, GivesPiece}
+use Rattle.dns_rdata_service.specs.{Steps.are_emittable, Steps.IsSizeOf, Steps.NextPiece, Steps.GivesPiece, declared.svcb.key.SvcParamKey.SvcParamKey}
+use Rattle.dns_rdata_service.specs.{SvcParamValue.value_of, SvcParamValue.fits_value, Parameters.Parameter, Parameters.parameter_of, Ordering.joined}
+use Rattle.dns_rdata_service.specs.{declared.svcb.SVCB.SVCB, SvcParamKey.key_number}
 
 -- ---- items
 
@@ -83,51 +84,49 @@ head_given ps i p head tail h e r = record {
         ∙ ap (λ (l : List ℕ). l ++ (items ++ rest)) (sym r)
         ∙ ap (λ (l : List (List ℕ)). (head ++ tail) ++ (flat_map (λ s. s) l ++ rest)) (sym (items_at ps i p h e))
 
-pub item_piece : (ps : List Parameter) (i j : ℕ) (p : Parameter) (head tail : List ℕ) → i < length ps → p ≡ get_or ps i p
-    → (drop j (value_items (value_of p.1)) ≡ (head ++ tail) ∷ drop (j + 1) (value_items (value_of p.1))) × (0 < length (head ++ tail))
-    → NextPiece ps i (j + 1) head (record { tail = tail; step = 1; part = i; item = j + 2 })
-item_piece ps i j p head tail h e g =
-    let up : j + 1 ≡ suc j = omega arith in
-    let up2 : j + 2 ≡ suc (j + 1) = omega arith in
+pub item_piece : (ps : List Parameter) (i n : ℕ) (p : Parameter) (head tail : List ℕ) → 0 < n → i < length ps → p ≡ get_or ps i p
+    → (drop (n - 1) (value_items (value_of p.1)) ≡ (head ++ tail) ∷ drop (n - 1 + 1) (value_items (value_of p.1))) × (0 < length (head ++ tail))
+    → NextPiece ps i n head (record { tail = tail; step = 1; part = i; item = n + 1 })
+item_piece ps i n p head tail some h e g =
+    let up : n ≡ suc (n - 1) = omega (arith, some) in
+    let up2 : n + 1 ≡ suc (n - 1 + 1) = omega (arith, some) in
     let rest = parameters_from ps (i + 1) in
     let own = items_at ps i p h e in
     record {
       octets = ap (parameters_left ps i) up
-          ∙ ap (λ (l : List (List ℕ)). flat_map (λ s. s) (drop j l) ++ rest) own
+          ∙ ap (λ (l : List (List ℕ)). flat_map (λ s. s) (drop (n - 1) l) ++ rest) own
           ∙ ap (λ (l : List (List ℕ)). flat_map (λ s. s) l ++ rest) g.0
-          ∙ append_assoc (head ++ tail) (flat_map (λ s. s) (drop (j + 1) (value_items (value_of p.1)))) rest
-          ∙ ap (λ (l : List (List ℕ)). (head ++ tail) ++ (flat_map (λ s. s) (drop (j + 1) l) ++ rest)) (sym own)
-          ∙ ap (λ (n : ℕ). (head ++ tail) ++ parameters_left ps i n) (sym up2);
+          ∙ append_assoc (head ++ tail) (flat_map (λ s. s) (drop (n - 1 + 1) (value_items (value_of p.1)))) rest
+          ∙ ap (λ (l : List (List ℕ)). (head ++ tail) ++ (flat_map (λ s. s) (drop (n - 1 + 1) l) ++ rest)) (sym own)
+          ∙ ap (λ (k : ℕ). (head ++ tail) ++ parameters_left ps i k) (sym up2);
       step = refl;
       some = g.1;
     }
 
 -- behind the last item comes the next parameter
-pub after_items : (ps : List Parameter) (i j : ℕ) (p : Parameter) (head : List ℕ) (r : Option Step) → i < length ps → p ≡ get_or ps i p
-    → drop j (value_items (value_of p.1)) ≡ [] → GivesPiece ps (i + 1) 0 head r → GivesPiece ps i (j + 1) head r
-after_items ps i j p head r h e n g = by r g
+pub after_items : (ps : List Parameter) (i n : ℕ) (p : Parameter) (head : List ℕ) (r : Option Step) → 0 < n → i < length ps → p ≡ get_or ps i p
+    → drop (n - 1) (value_items (value_of p.1)) ≡ [] → GivesPiece ps (i + 1) 0 head r → GivesPiece ps i n head r
+after_items ps i n p head r some h e none g = by r g
   where
-    same : parameters_left ps i (j + 1) ≡ parameters_left ps (i + 1) 0
+    same : parameters_left ps i n ≡ parameters_left ps (i + 1) 0
     same =
-        let up : j + 1 ≡ suc j = omega arith in
+        let up : n ≡ suc (n - 1) = omega (arith, some) in
         let rest = parameters_from ps (i + 1) in
-        ap (parameters_left ps i) up ∙ ap (λ (l : List (List ℕ)). flat_map (λ s. s) (drop j l) ++ rest) (items_at ps i p h e) ∙ ap (λ (l : List (List ℕ)). flat_map (λ s. s) l ++ rest) n
+        ap (parameters_left ps i) up ∙ ap (λ (l : List (List ℕ)). flat_map (λ s. s) (drop (n - 1) l) ++ rest) (items_at ps i p h e)
+        ∙ ap (λ (l : List (List ℕ)). flat_map (λ s. s) l ++ rest) none
 
-    by : (r : Option Step) → GivesPiece ps (i + 1) 0 head r → GivesPiece ps i (j + 1) head r
+    by : (r : Option Step) → GivesPiece ps (i + 1) 0 head r → GivesPiece ps i n head r
     by None g = (same ∙ g.0, g.1)
     by (Some s) g = record { octets = same ∙ g.octets; step = g.step; some = g.some }
 
-drop_none : (j : ℕ) → drop j (items_of None) ≡ []
-drop_none zero = refl
-drop_none (suc j) = refl
-
-pub past_items : (ps : List Parameter) (i j : ℕ) (head : List ℕ) → length ps ≤ i → head ≡ [] → (parameters_left ps i (j + 1) ≡ []) × (head ≡ [])
-past_items ps i j head h e =
-    let up : j + 1 ≡ suc j = omega arith in (
-      ap (parameters_left ps i) up ∙ ap (λ (o : Option Parameter). flat_map (λ s. s) (drop j (items_of o)) ++ parameters_from ps (i + 1)) (slice_get_past ps i h)
-          ∙ ap (λ (l : List (List ℕ)). flat_map (λ s. s) l ++ parameters_from ps (i + 1)) (drop_none j) ∙ parameters_end ps (i + 1) (omega (arith, h)),
-      e,
-    )
+pub past_items : (ps : List Parameter) (i n : ℕ) (head : List ℕ) → length ps ≤ i → head ≡ [] → (parameters_left ps i n ≡ []) × (head ≡ [])
+past_items ps i zero head h e = (parameters_end ps i h, e)
+past_items ps i (suc j) head h e = (
+  ap (λ (o : Option Parameter). flat_map (λ s. s) (drop j (items_of o)) ++ parameters_from ps (i + 1)) (slice_get_past ps i h)
+      ∙ ap (λ (l : List (List ℕ)). flat_map (λ s. s) l ++ parameters_from ps (i + 1)) (drop_all j [] (omega arith))
+      ∙ parameters_end ps (i + 1) (omega (arith, h)),
+  e,
+)
 
 -- ---- the record
 
@@ -164,3 +163,18 @@ keys_then (k ∷ ks) some = both (length (k ∷ ks)) (omega arith) ∙ ap (λ n.
   where
     both : (n : ℕ) → 0 < n → nat_le n 32767 ≡ (nat_le (2 * n) 65535 && true)
     both n h = grind (arith, nat_tests, h)
+
+-- addresses of as many octets each
+groups_size : {X : Type 0} (k : ℕ) (octets : X → List ℕ) (xs : List X) → AllByRecursion (λ s. length s ≡ k) (map octets xs)
+    → length (joined (map octets xs)) ≡ length xs * k
+groups_size k octets xs h = length_groups k (map octets xs) h ∙ ap (λ n. k * n) (length-map xs octets) ∙ mul_comm k (length xs)
+
+pub joined_long : {X : Type 0} (k : ℕ) (octets : X → List ℕ) (xs : List X) → AllByRecursion (λ s. length s ≡ k) (map octets xs) → 65535 < length xs * k
+    → IsSizeOf (Opaque (joined (map octets xs))) None
+joined_long k octets xs h more = rw (groups_size k octets xs h) (grind (arith, nat_tests, more))
+
+pub joined_size : {X E : Type 0} (k n : ℕ) (octets : X → List ℕ) (xs : List X) (r : Result ℕ E) → AllByRecursion (λ s. length s ≡ k) (map octets xs)
+    → n ≡ length xs * k → OkIff r (n < 65536) n → IsSizeOf (Opaque (joined (map octets xs))) (result_ok r)
+joined_size k n octets xs (Err e) h is m = joined_long k octets xs h (omega (arith, m, is))
+joined_size k n octets xs (Ok x) h is m =
+    let long : n ≡ length (joined (map octets xs)) = is ∙ sym (groups_size k octets xs h) in (rw (← long) (grind (arith, nat_tests, m.0)), m.1 ∙ long)

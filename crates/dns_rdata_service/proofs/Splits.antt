@@ -1,6 +1,7 @@
 -- Octets that were taken are the front of those that were left.
-use Rattle.std.proofs.Common.{◌≡◌, ℕ, ◌*◌, ◌%◌, List, [], ◌∷◌, ◌++◌, length, drop, refl, sym, ap, ◌∙◌, arith, append_assoc}
-use Rattle.std.specs.{List.flat_map, List.AllByRecursion, Int.bytes_high_first}
+use Rattle.std.proofs.Common.{◌≡◌, ℕ, ◌*◌, ◌%◌, List, [], ◌∷◌, ◌++◌, length, drop, refl, sym, ap, ◌∙◌, arith, append_assoc, Result, Err}
+use Rattle.std.proofs.lemmas.Result.{err_from_is_err_and}
+use Rattle.std.specs.{Result.IsErrAnd, List.flat_map, List.AllByRecursion, Int.bytes_high_first}
 use Rattle.std.proofs.{lemmas.List.length-append, lemmas.List.drop-drop, lemmas.List.take-append-drop, Math.Nat.mod-eq_of_lt}
 use Rattle.dns_fields.specs.{Octets.At, Fields.Number, Fields.Field, Pieces.string}
 use Rattle.dns_fields.proofs.{Numbers.length-bytes, Pieces.parts}
@@ -24,6 +25,10 @@ pub octet_split : {m : List ℕ} {p n q : ℕ} → Field m p (Number 1) n q → 
 octet_split {m} {p} {n} {q} f =
     let e : n % 256 ≡ n = mod-eq_of_lt f.is.0 in
     at_split f.is.1 ∙ ap (λ (k : ℕ). k ∷ drop q m) e
+
+-- what a `?` hands on
+pub is_err : {T E : Type 0} (r : Result T E) (e : E) → IsErrAnd r (λ y. y ≡ e) → r ≡ Err e
+is_err r e h = let p = err_from_is_err_and r h in p.1 ∙ ap Err p.2
 
 -- ---- strings
 

@@ -1,23 +1,25 @@
 -- Service bindings, compared field by field and parameter by parameter.
-use Rattle.std.proofs.Common.{◌≡◌, ◌≢◌, ℕ, suc, ◌*◌, ◌<◌, ◌≤◌, ◌^◌, ◌&&◌, true, false, true≢false, List, [], ◌∷◌, ◌++◌, length, drop, map, refl, sym}
-use Rattle.std.proofs.Common.{ap, ◌∙◌, arith}
-use Rattle.std.specs.Prelude.{nat_eq}
-use Rattle.std.specs.{Int.bytes_high_first, List.AllByRecursion, List.flat_map, FinMap.nat_cmp-IsAntisymmetric, FinMap.slice_cmp-IsAntisymmetric}
-use Rattle.std.specs.{Cmp.Equal-is, Cmp.ranks, Cmp.nat_cmp_is, Cmp.unsigned_Decides, Cmp.booleans_Decides, declared.cmp.Ordering.Ordering}
-use Rattle.std.specs.Cmp.Lexicographic.{pointwise, slice_cmp, pointwise_decides}
-use Rattle.std.specs.Ordering.{MatchOrdering, nat_cmp, ordering_then, is_eq, is_ne}
+use Rattle.std.proofs.Common.{◌≡◌, ◌≢◌, ℕ, ◌<◌, ◌≤◌, ◌^◌, ◌&&◌, true, false, true≢false, List, [], ◌∷◌, ◌++◌, length, drop, map, refl, sym, ◌-◌, min}
+use Rattle.std.proofs.{lemmas.List.drop_all, lemmas.List.length-drop, Common.ap, Common.◌∙◌, Common.arith, lemmas.Bool.Decides.Decides-and}
 use Rattle.std.specs.declared.cmp.Ordering.TheVariants.{Less, Equal, Greater}
-use Rattle.std.proofs.{lemmas.List.drop_all, lemmas.List.length-map, lemmas.Bool.Decides.Decides-and, Math.Nat.mul-le-mul_left, Math.Nat.mul_comm}
-use Rattle.dns_fields.specs.{Comparing.name_eq, Equal.key_eq, Equal.parameter_keys, Equal.values_eq, Pieces.string, Pieces.Alpn, Pieces.Opaque}
-use Rattle.dns_fields.specs.{Pieces.Port, Fields.Number, Fields.Name, Fields.field_octets, Labels.AreLabels, Labels.lowname}
+use Rattle.std.specs.{Ordering.MatchOrdering, Ordering.nat_cmp, Ordering.ordering_then, Ordering.is_eq, Ordering.is_ne, Cmp.Derive.Mapped.lex_map}
+use Rattle.std.specs.{Cmp.Lexicographic.pointwise, Cmp.Lexicographic.slice_cmp, Cmp.Lexicographic.pointwise_decides, declared.cmp.Ordering.Ordering}
+use Rattle.std.specs.{Cmp.Equal-is, Cmp.ranks, Cmp.unsigned_Decides, Cmp.booleans_Decides, Cmp.nat_cmp_is, List.AllByRecursion, List.flat_map}
+use Rattle.std.specs.{FinMap.nat_cmp-IsAntisymmetric, FinMap.slice_cmp-IsAntisymmetric, Int.bytes_high_first, Prelude.nat_eq}
+use Rattle.dns_fields.specs.{Pieces.string, Pieces.Alpn, Pieces.Opaque, Pieces.Port, Equal.key_eq, Equal.parameter_keys, Equal.values_eq}
+use Rattle.dns_fields.specs.{Fields.Number, Fields.Name, Fields.field_octets, Labels.AreLabels, Labels.lowname, Comparing.name_eq}
 use Rattle.dns_fields.proofs.Numbers.{number_cmp, length-bytes, same_number}
 use Rattle.dns_pieces.specs.Fronts.{canonical_cmp}
-use Rattle.dns_pieces.proofs.{Comparing.cmp_shared, Comparing.then_kept, Fronts.by_fields, Fronts.field_cmp, Fronts.front_then}
-use Rattle.dns_rdata_service.proofs.{Refusals.length_groups, OwnValues.value_given}
-use Rattle.dns_rdata_service.specs.{Fronts.OrderFirst, Fronts.joined, Fronts.behind_length, OwnKeys.value_eq, OwnKeys.value_same}
-use Rattle.dns_rdata_service.specs.{Parameters.Parameter, Parameters.own_parameter, Steps.parameters_from, SVCB.svcb_shape, SVCB.svcb_fields}
-use Rattle.dns_rdata_service.specs.{SVCB.svcb_key_shape, SVCB.svcb_keys, declared.svcb.SVCB.SVCB, declared.svcb.value.SvcParamValue.SvcParamValue}
-use Rattle.dns_rdata_service.specs.SvcParamValue.{value_key, value_of, sized}
+use Rattle.dns_pieces.proofs.{Comparing.cmp_shared, Comparing.then_kept, Comparing.then_equal, Fronts.by_fields, Fronts.field_cmp, Fronts.front_then}
+use Rattle.dns_rdata_service.proofs.OwnValues.{value_given}
+use Rattle.dns_rdata_service.specs.Ordering.{OrderFirst, joined, behind_length, value_place, Differ}
+use Rattle.dns_rdata_service.specs.SvcParamValue.{value_key, value_of, sized, key_numbers}
+use Rattle.dns_rdata_service.specs.{SVCB.svcb_shape, SVCB.svcb_fields, SVCB.svcb_key_shape, SVCB.svcb_keys, declared.svcb.key.SvcParamKey.SvcParamKey}
+use Rattle.dns_rdata_service.specs.{declared.svcb.value.SvcParamValue.SvcParamValue, SvcParamKey.key_number, SvcParamKey.key_variant}
+use Rattle.dns_rdata_service.specs.{Parameters.Parameter, Parameters.own_parameter, OwnKeys.value_eq, OwnKeys.value_same, declared.svcb.SVCB.SVCB}
+use Rattle.dns_rdata_service.specs.Steps.{parameters_from}
+use Rattle.dns_rdata_base.specs.Numbered.{numbered_cmp}
+use Rattle.dns_rdata_service.specs.declared.svcb.value.SvcParamValue.TheVariants as variants
 
 -- ---- octets in front of others
 
@@ -101,28 +103,13 @@ module _ (k : ℕ) where
       front_then s t (joined ss) (joined ts) (h.0 ∙ sym g.0)
       ∙ ap (λ (o : Ordering). ordering_then (slice_cmp nat_cmp s t) o) (joined_cmp ss ts some h.1 g.1)
 
-scaled : (k n m : ℕ) → 0 < k → nat_cmp n m ≡ nat_cmp (n * k) (m * k)
-scaled k n m some = nat_cmp_is (n * k) (m * k) (nat_cmp n m) (by (nat_cmp n m) (ranks n m))
-  where
-    below : (i j : ℕ) → i < j → i * k < j * k
-    below i j h = let most : k * suc i ≤ k * j = mul-le-mul_left k h in omega (arith, most, some)
-
-    by : (o : Ordering) → MatchOrdering o (n < m) (n ≡ m) (m < n) → MatchOrdering o (n * k < m * k) (n * k ≡ m * k) (m * k < n * k)
-    by Less h = below n m h
-    by Equal h = ap (λ (i : ℕ). i * k) h
-    by Greater h = below m n h
-
--- by their number, and then item by item
-pub items_first : {X : Type 0} (octets_of : X → List ℕ) (k : ℕ) (xs ys : List X) (r c o : Ordering) → 0 < k
+-- by their octets' number, and then item by item
+pub items_first : {X : Type 0} (octets_of : X → List ℕ) (k : ℕ) (xs ys : List X) (r c o : Ordering) (n m : ℕ) → 0 < k
     → AllByRecursion (λ s. length s ≡ k) (map octets_of xs) → AllByRecursion (λ s. length s ≡ k) (map octets_of ys)
-    → r ≡ ordering_then c o → c ≡ nat_cmp (length xs) (length ys) → o ≡ slice_cmp (slice_cmp nat_cmp) (map octets_of xs) (map octets_of ys)
-    → length xs * k ≤ 65535 → length ys * k ≤ 65535 → OrderFirst r (behind_length (joined (map octets_of xs))) (behind_length (joined (map octets_of ys)))
-items_first octets_of k xs ys r c o some h g e f i few less =
-    lengths_first r c o (length xs * k) (length ys * k) _ _ e (f ∙ scaled k (length xs) (length ys) some) (size xs h) (size ys g)
-    (i ∙ sym (joined_cmp k _ _ some h g)) few less
-  where
-    size : (zs : List _) → AllByRecursion (λ s. length s ≡ k) (map octets_of zs) → length zs * k ≡ length (joined (map octets_of zs))
-    size zs h = mul_comm (length zs) k ∙ ap (λ n. k * n) (sym (length-map zs octets_of)) ∙ sym (length_groups k (map octets_of zs) h)
+    → r ≡ ordering_then c o → c ≡ nat_cmp n m → n ≡ length (joined (map octets_of xs)) → m ≡ length (joined (map octets_of ys))
+    → o ≡ slice_cmp (slice_cmp nat_cmp) (map octets_of xs) (map octets_of ys) → n ≤ 65535 → m ≤ 65535
+    → OrderFirst r (behind_length (joined (map octets_of xs))) (behind_length (joined (map octets_of ys)))
+items_first octets_of k xs ys r c o n m some h g e f p q i few less = lengths_first r c o n m _ _ e f p q (i ∙ sym (joined_cmp k _ _ some h g)) few less
 
 -- or they are the same
 pub items_alike : {X : Type 0} (octets_of : X → List ℕ) (xs ys : List X) (o : Ordering) → o ≡ slice_cmp (slice_cmp nat_cmp) (map octets_of xs) (map octets_of ys)
@@ -195,3 +182,25 @@ all_alike a b o e tie p q marks same =
 -- where all are alike, none are behind them
 pub none_behind : (i : ℕ) (ps qs : List Parameter) → i ≡ length ps → i ≡ length qs → map own_parameter (drop i ps) ≡ map own_parameter (drop i qs)
 none_behind i ps qs e f = rw (drop_all i ps (omega arith), drop_all i qs (omega arith)) refl
+
+numbers_order : (j k : SvcParamKey) → numbered_cmp key_number key_variant j k ≡ slice_cmp nat_cmp (key_numbers j) (key_numbers k)
+numbers_order j k = ap (ordering_then (nat_cmp (key_number j) (key_number k))) (sym (then_equal (nat_cmp (key_variant j) (key_variant k))))
+
+pub keys_order : (xs ys : List SvcParamKey) → slice_cmp (numbered_cmp key_number key_variant) xs ys ≡ slice_cmp (slice_cmp nat_cmp) (map key_numbers xs) (map key_numbers ys)
+keys_order xs ys = ap (λ R. slice_cmp R xs ys) (λ i j k. numbers_order j k i) ∙ sym (lex_map key_numbers (slice_cmp nat_cmp) xs ys)
+
+pub differ_order : (v w : SvcParamValue) → Differ v w → nat_cmp (value_place v) (value_place w) ≡ slice_cmp (slice_cmp nat_cmp) (value_key v) (value_key w)
+differ_order (variants.Mandatory x) (variants.Mandatory y) d = absurd d
+differ_order v w d = grind arith
+
+-- where one list has ended, the number of items decides
+pub by_lengths : {X Y : Type 0} (R : Y → Y → Ordering) (view : List X → List Y) → ((xs : List X) → length (view xs) ≡ length xs) → (xs ys : List X) (i n : ℕ)
+    → n ≡ min (length xs) (length ys) → n ≤ i → i ≤ n → nat_cmp (length xs) (length ys) ≡ slice_cmp R (view (drop i xs)) (view (drop i ys))
+by_lengths R view same xs ys i n m past within =
+    by (view (drop i xs)) (view (drop i ys)) (same (drop i xs) ∙ length-drop i xs) (same (drop i ys) ∙ length-drop i ys)
+  where
+    by : (p q : List _) → length p ≡ length xs - i → length q ≡ length ys - i → nat_cmp (length xs) (length ys) ≡ slice_cmp R p q
+    by [] [] e f = sym (nat_cmp_is (length xs) (length ys) Equal (omega (arith, e, f, m, past, within)))
+    by [] (y ∷ q) e f = sym (nat_cmp_is (length xs) (length ys) Less (omega (arith, e, f, m, past, within)))
+    by (x ∷ p) [] e f = sym (nat_cmp_is (length xs) (length ys) Greater (omega (arith, e, f, m, past, within)))
+    by (x ∷ p) (y ∷ q) e f = absurd (omega (arith, e, f, m, past, within))

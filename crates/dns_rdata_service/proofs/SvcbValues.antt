@@ -1,24 +1,72 @@
 -- SVCB and HTTPS by their fields: a record that was read is told by them, and fields of a window make one.
 use Rattle.std.proofs.Common.{◌≡◌, inl, inr, ℕ, ◌==◌, ◌&&◌, Bool, true, false, if◌then◌else◌, List, [], ◌∷◌, length, map, refl, sym, ap, ◌∙◌, arith}
+use Rattle.std.proofs.{lemmas.Bool.Decides.same_from_decides, lemmas.Bool.Decides.Decides-like, lemmas.Bool.Decides.nat_tests, lemmas.Simd.map-map}
+use Rattle.std.proofs.{Common.◌⊎◌, Common.nat_le, Common.◌≤◌, lemmas.Grind.common_steps}
 use Rattle.std.specs.List.{flat_map, AllByRecursion}
-use Rattle.dns_types.specs.declared.error.DecodeError.TheVariants as decode
-use Rattle.dns_fields.specs.{Octets.AreOctets, Fields.Number, Fields.Name, Fields.Values, Fields.Parameters, Equal.kind_eq, Equal.values_eq}
 use Rattle.dns_fields.specs.Pieces.{Numbered, ParameterValue, Mandatory, Alpn, NoDefaultAlpn, Port, Ipv4Hint, Ipv6Hint, Opaque, ParameterHeld}
 use Rattle.dns_fields.specs.Pieces.{AllHeld, piece, pieces, Form, Keys, Names, AnyOctets, form_for}
-use Rattle.dns_fields.proofs.EqualLaws.{field_decide}
+use Rattle.dns_fields.specs.{Fields.Number, Fields.Name, Fields.Values, Fields.Parameters, Equal.kind_eq, Equal.values_eq, Octets.AreOctets}
 use Rattle.dns_fields.proofs.OctetLaws.{AreOctets-at, AreOctets-front, AreOctets-back, AreOctets-same, piece_body}
-use Rattle.std.proofs.lemmas.Bool.Decides.{same_from_decides, Decides-like}
+use Rattle.dns_fields.proofs.EqualLaws.{field_decide}
 use Rattle.dns_names_wire.specs.{State.Reading, Words.Window}
-use Rattle.dns_rdata_base.proofs.Addresses.{octets_of-segments}
-use Rattle.dns_rdata_service.specs.{SvcParamKey.key_number, SvcParamKey.key_of, declared.svcb.SVCB.SVCB, declared.https.HTTPS.HTTPS}
-use Rattle.dns_rdata_service.specs.SvcParamValue.{value_of, value_from, a_octets, a_of, aaaa_octets, aaaa_of, IsFormRefusal, IsKeyRefusal}
+use Rattle.dns_rdata_base.proofs.{Addresses.octets_of-segments, Addresses.segments_of-octets_of, NumberLaws.number-numbered_of}
 use Rattle.dns_rdata_service.specs.Parameters.{Parameter, parameter_of, parameter_from, own_parameter, AreRead, IsParameterRefusal}
-use Rattle.dns_rdata_service.specs.Parameters.{IsParametersRefusal}
+use Rattle.dns_rdata_service.specs.SvcParamValue.{value_of, value_from, a_octets, a_of, aaaa_octets, aaaa_of, IsFormRefusal, IsKeyRefusal, IsValueOf}
+use Rattle.dns_rdata_service.specs.declared.svcb.key.SvcParamKey.TheVariants.{Key, Key65535, Unknown}
+use Rattle.dns_rdata_service.specs.SvcParamKey.{key_number, key_of, key_variant, named_keys, other_key}
 use Rattle.dns_rdata_service.specs.SVCB.{svcb_shape, svcb_fields, svcb_key_shape, svcb_keys, IsReadSvcb, IsSvcbRefusal}
 use Rattle.dns_rdata_service.specs.HTTPS.{https_shape, https_fields, https_key_shape, https_keys, IsReadHttps}
-use Rattle.dns_rdata_service.specs.declared.svcb.value.SvcParamValue.{SvcParamValue}
+use Rattle.dns_rdata_service.specs.{declared.svcb.value.SvcParamValue.TheVariants.Unknown as OtherValue, declared.svcb.key.SvcParamKey.SvcParamKey}
+use Rattle.dns_rdata_service.specs.{declared.svcb.value.SvcParamValue.SvcParamValue, declared.svcb.unknown.Unknown.Unknown as Other}
+use Rattle.dns_rdata_service.specs.{declared.svcb.ip_hint.IpHint.IpHint, Parameters.IsParametersRefusal, declared.https.HTTPS.HTTPS}
+use Rattle.dns_rdata_service.specs.declared.svcb.SVCB.{SVCB}
+use Rattle.dns_rdata_service.proofs.OwnValues.{own_fields}
+use Rattle.dns_rdata_base.specs.{declared.aaaa.AAAA.AAAA, declared.a.A.A}
+use Rattle.dns_types.specs.declared.error.DecodeError.TheVariants as decode
 use Rattle.dns_rdata_service.specs.declared.svcb.value.SvcParamValue.TheVariants as variants
-use Rattle.dns_rdata_service.proofs.{Given.key_number-of, Given.map_back, Given.aaaa_list_back, OwnValues.own_fields}
+
+other_number : (b : Bool) (n : ℕ) → key_number (if b then Key n else Unknown n) ≡ n
+other_number true n = refl
+other_number false n = refl
+
+pub key_number-of : (n : ℕ) → key_number (key_of n) ≡ n
+unfolding key_of
+key_number-of n = number-numbered_of key_number named_keys other_key n (other_number (nat_le 65280 n) n)
+
+pub map_back : {X Y : Type 0} (f : X → Y) (g : Y → X) → ((x : X) → x ≡ g (f x)) → (xs : List X) → xs ≡ map g (map f xs)
+map_back f g h [] = refl
+map_back f g h (x ∷ xs) = ap (λ y. y ∷ xs) (h x) ∙ ap (λ ys. g (f x) ∷ ys) (map_back f g h xs)
+
+pub aaaa_list_back : (xs : List AAAA) → xs ≡ map aaaa_of (map aaaa_octets xs)
+aaaa_list_back = map_back aaaa_octets aaaa_of (λ x. ap (λ (s : List ℕ). record { 0 = record { segments = s } }) (sym (segments_of-octets_of x.0.segments)))
+
+-- the numbers below 8 are those of keys with forms
+above_named : (n : ℕ) → 8 ≤ key_variant (key_of n) → 8 ≤ n
+unfolding key_of
+above_named n h = grind (arith, nat_tests, h)
+
+pub plain_of : (k : SvcParamKey) → k ≡ key_of (key_number k) → ((x : ℕ) × (k ≡ Key x)) ⊎ ((k ≡ Key65535) ⊎ ((x : ℕ) × (k ≡ Unknown x))) → 8 ≤ key_number k
+plain_of k g (inl h) = above_named (key_number k) (rw (← g) (rw h.1 (omega arith)))
+plain_of k g (inr (inl h)) = above_named (key_number k) (rw (← g) (rw h (omega arith)))
+plain_of k g (inr (inr h)) = above_named (key_number k) (rw (← g) (rw h.1 (omega arith)))
+
+-- the value of a key without a form of its own
+pub plain_value : (n : ℕ) (body : List ℕ) (x : Other) → 8 ≤ n → body ≡ x.0 → IsValueOf n body (OtherValue x)
+plain_value n body x h e = record { held = (sym form, tt, e); given = rw (other, no_path) refl; text = λ is. absurd (omega (arith, is, h)) } where
+  form : form_for n ≡ AnyOctets
+  form = grind (arith, common_steps, nat_tests, h)
+
+  other : (n == 5) ≡ false
+  other = grind (arith, common_steps, nat_tests, h)
+
+  no_path : (n == 7) ≡ false
+  no_path = grind (arith, common_steps, nat_tests, h)
+
+pub hint4_back : (x : IpHint A) → x ≡ record { 0 = map a_of (map a_octets x.0) }
+hint4_back x = ap (λ (as' : List A). record { 0 = as' }) (map_back a_octets a_of (λ a. refl) x.0)
+
+pub hint6_back : (x : IpHint AAAA) → x ≡ record { 0 = map aaaa_of (map aaaa_octets x.0) }
+hint6_back x = ap (λ (as' : List AAAA). record { 0 = as' }) (aaaa_list_back x.0)
 
 abbrev pub svcb_from : Values svcb_shape → SVCB
 svcb_from vs = record { svc_priority = vs.0; target_name = vs.1.0; svc_params = map parameter_from vs.1.1.0 }
@@ -26,7 +74,7 @@ svcb_from vs = record { svc_priority = vs.0; target_name = vs.1.0; svc_params = 
 pub svcb_from-fields : (x : SVCB) → IsReadSvcb x → x ≡ svcb_from (svcb_fields x)
 svcb_from-fields x r = ap (λ (ps : List Parameter). record x { svc_params = ps }) r
 
--- ---- what fields give is read
+-- ---- what fields give has the fields, where addresses are octets
 
 numbers_back : (ks : List ℕ) → ks ≡ map key_number (map key_of ks)
 numbers_back = map_back key_of key_number (λ n. sym (key_number-of n))
@@ -39,31 +87,6 @@ opaque_value : (b c : Bool) (s : List ℕ)
 opaque_value true c s = refl
 opaque_value false true s = refl
 opaque_value false false s = refl
-
-value_again : (n : ℕ) (v : ParameterValue) → value_from n v ≡ value_from n (value_of (value_from n v))
-value_again n (Mandatory ks) = ap (λ (l : List ℕ). variants.Mandatory (record { 0 = map key_of l })) (numbers_back ks)
-value_again n (Alpn names) = refl
-value_again n NoDefaultAlpn = refl
-value_again n (Port p) = refl
-value_again n (Ipv4Hint ss) = ap (λ (l : List (List ℕ)). variants.Ipv4Hint (record { 0 = map a_of l })) (groups_back ss)
-value_again n (Ipv6Hint ss) = ap (λ as'. variants.Ipv6Hint (record { 0 = as' })) (aaaa_list_back (map aaaa_of ss))
-value_again n (Opaque s) = ap (value_from n) (sym (opaque_value (n == 5) (n == 7) s))
-
-parameter_again : (x : Numbered ParameterValue) → parameter_from x ≡ parameter_from (parameter_of (parameter_from x))
-parameter_again x =
-    ap (λ (v : SvcParamValue). (key_of x.0, v)) (value_again x.0 x.1)
-    ∙ ap (λ (k : ℕ). (key_of k, value_from k (value_of (value_from x.0 x.1)))) (sym (key_number-of x.0))
-
-parameters_again : (v : List (Numbered ParameterValue)) → AreRead (map parameter_from v)
-parameters_again [] = refl
-parameters_again (x ∷ xs) =
-    ap (λ (p : Parameter). p ∷ map parameter_from xs) (parameter_again x)
-    ∙ ap (λ (ps : List Parameter). parameter_from (parameter_of (parameter_from x)) ∷ ps) (parameters_again xs)
-
-pub svcb_from-read : (vs : Values svcb_shape) → IsReadSvcb (svcb_from vs)
-svcb_from-read vs = parameters_again vs.1.1.0
-
--- ---- and has the fields, where addresses are octets
 
 abbrev IsWide : ParameterValue → Type 0
 IsWide (Ipv6Hint addresses) = AllByRecursion (λ s. (length s ≡ 16) × AreOctets s) addresses
@@ -96,12 +119,7 @@ groups_wide (s ∷ ss) h a = ((h.0, AreOctets-front s (flat_map (λ x. x) ss) a)
 
 held_wide : (k : ℕ) (body : List ℕ) (v : ParameterValue) → ParameterHeld k body v → AreOctets body → IsWide v
 held_wide k body (Ipv6Hint ss) h a = groups_wide ss h.1 (AreOctets-same body (flat_map (λ s. s) ss) h.2 a)
-held_wide k body (Mandatory ks) h a = tt
-held_wide k body (Alpn names) h a = tt
-held_wide k body NoDefaultAlpn h a = tt
-held_wide k body (Port p) h a = tt
-held_wide k body (Ipv4Hint ss) h a = tt
-held_wide k body (Opaque s) h a = tt
+held_wide k body v h a = tt
 
 all_wide : (read : List (Numbered (List ℕ))) (v : List (Numbered ParameterValue)) → AllHeld ParameterHeld read v → AreOctets (pieces read)
     → AllByRecursion (λ x. IsWide x.1) v
@@ -120,6 +138,25 @@ svcb_fields-from m p n condition vs w =
     let s = w.stands.2.2.1.is in
     let wide = all_wide s.read vs.1.1.0 s.held (AreOctets-at m w.stands.2.0 (pieces s.read) w.stands.2.2.0 w.octets s.at) in
     ap (λ (v : List (Numbered ParameterValue)). (vs.0, (vs.1.0, (v, tt)))) (parameters_back vs.1.1.0 wide)
+
+-- ---- and is read
+
+value_again : (n : ℕ) (v : ParameterValue) → value_from n v ≡ value_from n (value_of (value_from n v))
+value_again n (Ipv6Hint ss) = ap (λ as'. variants.Ipv6Hint (record { 0 = as' })) (aaaa_list_back (map aaaa_of ss))
+value_again n v = ap (value_from n) (sym (value_back n v tt))
+
+parameter_again : (x : Numbered ParameterValue) → parameter_from x ≡ parameter_from (parameter_of (parameter_from x))
+parameter_again x =
+    ap (λ (v : SvcParamValue). (key_of x.0, v)) (value_again x.0 x.1)
+    ∙ ap (λ (k : ℕ). (key_of k, value_from k (value_of (value_from x.0 x.1)))) (sym (key_number-of x.0))
+
+parameters_again : (v : List (Numbered ParameterValue)) → AreRead (map parameter_from v)
+parameters_again v =
+    (λ i. map (λ x. parameter_again x i) v)
+    ∙ sym (map-map parameter_from parameter_of (map parameter_from v) ∙ map-map (λ p. parameter_from (parameter_of p)) parameter_from v)
+
+pub svcb_from-read : (vs : Values svcb_shape) → IsReadSvcb (svcb_from vs)
+svcb_from-read vs = parameters_again vs.1.1.0
 
 -- ---- keys are the same exactly where fields are
 

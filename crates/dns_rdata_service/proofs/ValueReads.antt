@@ -1,21 +1,137 @@
 -- Reading values to the end of a message.
-use Rattle.std.proofs.Common.{◌≡◌, ℕ, ◌%◌, ◌<◌, ◌≤◌, ◌^◌, inl, inr, List, [], ◌∷◌, ◌++◌, length, drop, map, refl, ap, ◌∙◌, arith, subst}
-use Rattle.std.specs.{List.flat_map, List.AllByRecursion, Int.bytes_high_first}
-use Rattle.std.specs.Prelude.{IsUtf8}
-use Rattle.std.proofs.lemmas.List.{drop_all, length-append, length-drop, map-id}
-use Rattle.dns_types.specs.declared.error.DecodeError.{DecodeError}
+use Rattle.std.proofs.Common.{◌≡◌, ℕ, ◌%◌, ◌<◌, ◌≤◌, ◌^◌, inl, inr, List, [], ◌∷◌, ◌++◌, length, drop, map, refl, ap, ◌∙◌, arith, subst, ◌≢◌, ◌*◌, Ok}
+use Rattle.std.proofs.lemmas.List.{drop_all, length-append, length-drop, map-id, append-nil, length-take}
+use Rattle.std.proofs.Common.{sym, append_assoc, true, ◌+◌, take, Result, Err}
+use Rattle.std.specs.{Prelude.IsUtf8, Prelude.IfOk, Prelude.IfErr, List.flat_map, List.AllByRecursion, Int.bytes_high_first}
+use Rattle.dns_types.specs.{declared.error.DecodeError.DecodeError, declared.error.ProtoError.ProtoError}
+use Rattle.dns_fields.specs.Pieces.{string, ParameterValue, Form, Keys, Names, form_of, Mandatory, Alpn, NoDefaultAlpn, Port, Ipv4Hint, Ipv6Hint}
+use Rattle.dns_fields.specs.Pieces.{Opaque, Nothing, PortNumber, Addresses4, Addresses16, AnyOctets, IsEmittable, IsBody, form_for, ParameterHeld}
+use Rattle.dns_fields.specs.{Fields.Text, Fields.Field, Fields.Octets, Fields.Stands, Fields.field_octets, Octets.At, Octets.AreOctets}
+use Rattle.dns_names_wire.specs.Words.{TookField, StaysBehind, UnlessMemory, LacksOctets, LacksText, Emits}
+use Rattle.dns_names_wire.specs.State.{Reading, Writing}
+use Rattle.dns_names_wire.proofs.{FieldReads.stays, FieldReads.unless_map, FieldReads.unless_all, FieldWrites.because_map}
+use Rattle.dns_rdata_base.specs.{declared.aaaa.AAAA.AAAA, Numbered.NumberedAt, declared.a.A.A}
+use Rattle.dns_rdata_service.specs.SvcParamValue.{mandatory_value, alpn_value, AreGiven, ToEnd, MandatoryAt, AlpnAt, CutName, WrongName, HasText}
+use Rattle.dns_rdata_service.specs.SvcParamValue.{IsValueRefusal, IsFormRefusal, IsKeyRefusal, a_octets, aaaa_octets, a_of, aaaa_of}
+use Rattle.dns_rdata_service.specs.{Hints.StandEach, Hints.StopsBefore, Hints.StandToEnd, Hints.ReadsEach, Hints.EmitsEach, Emitting.EmitsOctets}
+use Rattle.dns_rdata_service.specs.{declared.svcb.mandatory.Mandatory.Mandatory as MandatoryKeys, SvcParamKey.key_number, SvcParamKey.key_of}
+use Rattle.dns_rdata_service.specs.{declared.svcb.key.SvcParamKey.SvcParamKey, declared.svcb.alpn.Alpn.Alpn as Protocols}
+use Rattle.dns_rdata_service.specs.declared.svcb.ip_hint.IpHint.{IpHint}
+use Rattle.dns_rdata_service.proofs.Splits.{at_split, octet_split, length_numbers, string_first, strings_prefix, all_behind, stays_then}
+use Rattle.dns_rdata_service.proofs.EachEmits.{emits_all, emits_as, all_pass}
+use Rattle.dns_fields.proofs.{OctetLaws.AreOctets-at, Numbers.length-bytes}
+use Rattle.dns_rdata_base.proofs.Addresses.{octets_of-segments}
 use Rattle.dns_types.specs.declared.error.DecodeError.TheVariants as decode
-use Rattle.dns_fields.specs.{Fields.Text, Fields.Field, Pieces.string, Pieces.ParameterValue, Pieces.Form, Pieces.Keys, Pieces.Names, Pieces.form_of}
-use Rattle.dns_names_wire.specs.{State.Reading, Words.TookField, Words.StaysBehind, Words.UnlessMemory, Words.LacksOctets, Words.LacksText}
-use Rattle.dns_names_wire.proofs.FieldReads.{stays, unless_map}
-use Rattle.dns_rdata_base.specs.Numbered.{NumberedAt}
-use Rattle.dns_rdata_service.specs.{SvcParamKey.key_number, SvcParamKey.key_of, declared.svcb.key.SvcParamKey.SvcParamKey, Hints.StandEach}
-use Rattle.dns_rdata_service.specs.SvcParamValue.{mandatory_value, alpn_value, AreGiven, ToEnd, MandatoryAt, AlpnAt, CutName, WrongName}
-use Rattle.dns_rdata_service.specs.SvcParamValue.{IsValueRefusal}
-use Rattle.dns_rdata_service.specs.declared.svcb.mandatory.Mandatory.{Mandatory as MandatoryKeys}
-use Rattle.dns_rdata_service.specs.declared.svcb.alpn.Alpn.{Alpn as Protocols}
-use Rattle.dns_rdata_service.proofs.{Splits.at_split, Splits.octet_split, Splits.length_numbers, Refusals.HoldsNone, Refusals.value_none}
-use Rattle.dns_rdata_service.proofs.EachReads.{EachOn, AreSplit, each_split, to_end}
+
+pub record EachOn {T : Type 0} (S : List ℕ → ℕ → T → ℕ → Type 0) (old : Reading) (items : List T) (d : Reading) : Type 0 where
+  pub behind : StaysBehind old d
+  pub stand : StandEach S old.message old.index items d.index
+
+stand_push : {T : Type 0} (S : List ℕ → ℕ → T → ℕ → Type 0) (m : List ℕ) (p : ℕ) (xs : List T) (q : ℕ) (x : T) (r : ℕ) → StandEach S m p xs q → S m q x r
+    → StandEach S m p (xs ++ x ∷ []) r
+stand_push S m p [] q x r e h = (r, subst (λ (k : ℕ). S m k x r) (sym e) h, refl)
+stand_push S m p (y ∷ ys) q x r e h = (e.0, e.1, stand_push S m e.0 ys q x r e.2 h)
+
+pub each_more : {T : Type 0} (S : List ℕ → ℕ → T → ℕ → Type 0) {old d b : Reading} {items : List T} {x : T} → EachOn S old items d → StaysBehind d b
+    → S d.message d.index x b.index → EachOn S old (items ++ x ∷ []) b
+each_more S {old} {d} {b} {items} {x} on f s =
+    record {
+      behind = stays_then on.behind f;
+      stand = stand_push S old.message old.index items d.index x b.index on.stand
+          (subst (λ (m : List ℕ). S m d.index x b.index) on.behind.message s);
+    }
+
+-- the octets of what stands, under a view, and a fact of each
+pub record AreSplit {X Y : Type 0} (view : X → Y) (octets : Y → List ℕ) (P : Y → Type 0) (m : List ℕ) (p : ℕ) (items : List X) (q : ℕ) : Type 0 where
+  pub split : drop p m ≡ flat_map octets (map view items) ++ drop q m
+  pub all : AllByRecursion P (map view items)
+
+pub each_split : {X Y : Type 0} (view : X → Y) (octets : Y → List ℕ) (P : Y → Type 0) (S : List ℕ → ℕ → X → ℕ → Type 0) (m : List ℕ)
+    → ((p : ℕ) (x : X) (q : ℕ) → S m p x q → P (view x) × At m p (octets (view x)) q) → (p : ℕ) (items : List X) (q : ℕ) → StandEach S m p items q
+    → AreSplit view octets P m p items q
+each_split view octets P S m one p [] q e = record { split = ap (λ (k : ℕ). drop k m) e; all = tt }
+each_split view octets P S m one p (x ∷ xs) q s =
+    let here = one p x s.0 s.1 in
+    let rest = each_split view octets P S m one s.0 xs q s.2 in
+    record {
+      split = at_split here.1 ∙ ap (λ (l : List ℕ). octets (view x) ++ l) rest.split
+          ∙ sym (append_assoc (octets (view x)) (flat_map octets (map view xs)) (drop q m));
+      all = (here.0, rest.all);
+    }
+
+-- what stands to the end is all octets
+pub to_end : (m : List ℕ) (p q : ℕ) (s : List ℕ) → length m ≤ q → drop p m ≡ s ++ drop q m → drop p m ≡ s
+to_end m p q s le e = e ∙ ap (λ (l : List ℕ). s ++ l) (drop_all q m le) ∙ append-nil s
+
+-- no value of the form is in the octets
+pub record HoldsNone (form : Form) (body : List ℕ) : Type 0 where
+  pub none : (v : ParameterValue) → form_of v ≡ form → IsEmittable v → IsBody body v → ⊥
+
+pub length_groups : (n : ℕ) (as' : List (List ℕ)) → AllByRecursion (λ a. length a ≡ n) as' → length (flat_map (λ a. a) as') ≡ n * length as'
+length_groups n [] h = omega arith
+length_groups n (a ∷ as') h = omega (arith, length-append a (flat_map (λ x. x) as'), h.0, length_groups n as' h.1)
+
+no_name : (names : List (List ℕ)) → names ≢ [] → [] ≡ flat_map string names → ⊥
+no_name [] some e = some refl
+no_name (s ∷ ss) some e = let f : [] ≡ length s ∷ (s ++ flat_map string ss) = e in absurd cc
+
+cut_name : (size : ℕ) (octets : List ℕ) (rest : List (List ℕ)) → length octets < size → flat_map string rest ≡ size ∷ octets → ⊥
+cut_name size octets [] cut e = absurd cc
+cut_name size octets (s ∷ ss) cut e =
+    let f : length s ∷ (s ++ flat_map string ss) ≡ size ∷ octets = e in
+    let n : length s ≡ size = cc in
+    let t : s ++ flat_map string ss ≡ octets = cc in
+    omega (arith, ap length t, length-append s (flat_map string ss), n)
+
+wrong_name : (name rest : List ℕ) (names : List (List ℕ)) → (IsUtf8 name → ⊥) → AllByRecursion IsUtf8 names → flat_map string names ≡ string name ++ rest → ⊥
+wrong_name name rest [] wrong h e = let f : [] ≡ length name ∷ (name ++ rest) = e in absurd cc
+wrong_name name rest (s ∷ ss) wrong h e = wrong (subst IsUtf8 (string_first s name (flat_map string ss) rest e).0 h.0)
+
+names_none : (body : List ℕ) (e : DecodeError) (names : List (List ℕ)) → IsFormRefusal Names body e → names ≢ [] → AllByRecursion IsUtf8 names
+    → body ≡ flat_map string names → ⊥
+names_none body e names (inl h) some texts b = no_name names some (sym h.1 ∙ b)
+names_none body e names (inr (inl h)) some texts b =
+    let c = h.1 in
+    let p = strings_prefix c.names names (c.size ∷ c.octets) (sym b ∙ c.split) in
+    cut_name c.size c.octets p.0 c.cut p.2
+names_none body e names (inr (inr h)) some texts b =
+    let c = h.1 in
+    let p = strings_prefix c.names names (string c.name ++ c.rest) (sym b ∙ c.split) in
+    wrong_name c.name c.rest p.0 c.wrong (all_behind IsUtf8 c.names p.0 (subst (AllByRecursion IsUtf8) p.1 texts)) p.2
+
+keys_none : (body : List ℕ) (e : DecodeError) (keys : List ℕ) → IsFormRefusal Keys body e → keys ≢ [] → body ≡ flat_map (bytes_high_first 2) keys → ⊥
+keys_none body e [] (inl h) some b = some refl
+keys_none body e (k ∷ ks) (inl h) some b = omega (arith, length_numbers (k ∷ ks), ap length b, ap length h.1)
+keys_none body e keys (inr h) some b = omega (arith, h.1, length_numbers keys, ap length b)
+
+refused_none : (form : Form) (body : List ℕ) (e : DecodeError) → IsFormRefusal form body e → (v : ParameterValue) → form_of v ≡ form → IsEmittable v
+    → IsBody body v → ⊥
+refused_none Keys body e h (Mandatory keys) f s b = keys_none body e keys h s.0 b
+refused_none Names body e h (Alpn names) f s b = names_none body e names h s.0 b.0 b.1
+refused_none Nothing body e h NoDefaultAlpn f s b = h.1 b
+refused_none PortNumber body e h (Port n) f s b = omega (arith, h.1, ap length b.1, length-append (bytes_high_first 2 n) b.0, length-bytes 2 n)
+refused_none Addresses4 body e h (Ipv4Hint as') f s b = h.1 (omega (arith, ap length b, length_groups 4 as' s))
+refused_none Addresses16 body e h (Ipv6Hint as') f s b = h.1 (omega (arith, ap length b, length_groups 16 as' s))
+refused_none AnyOctets body e h v f s b = elim h [ ]
+refused_none form body e h v f s b = absurd (cc f)
+
+pub value_none : (form : Form) (body : List ℕ) (e : DecodeError) → IsValueRefusal form body e → UnlessMemory e (HoldsNone form body)
+value_none form body e (inl m) = subst (λ (x : DecodeError). UnlessMemory x (HoldsNone form body)) (sym m) tt
+value_none form body e (inr h) = unless_all e (record { none = refused_none form body e h })
+
+-- the octets hold no value of the key that is text where it has to be
+pub record NoKeyValue (key : ℕ) (body : List ℕ) : Type 0 where
+  pub none : (v : ParameterValue) → ParameterHeld key body v → HasText key v → ⊥
+
+no_path : (key : ℕ) (body : List ℕ) → key ≡ 7 → (IsUtf8 body → ⊥) → (v : ParameterValue) → ParameterHeld key body v → HasText key v → ⊥
+no_path key body is wrong (Opaque s) h text = wrong (subst IsUtf8 (sym h.2) (text is))
+no_path key body is wrong v h text = let e : form_of v ≡ form_for 7 = h.0 ∙ ap form_for is in absurd (cc e)
+
+pub key_none : (key : ℕ) (body : List ℕ) (e : DecodeError) → IsKeyRefusal key body e → UnlessMemory e (NoKeyValue key body)
+key_none key body e (inl h) = unless_map e _ _ (λ (n : HoldsNone (form_for key) body). record { none = λ v held text. n.none v held.0 held.1 held.2 })
+    (value_none (form_for key) body e h)
+key_none key body e (inr (is, inl m)) = subst (λ (x : DecodeError). UnlessMemory x (NoKeyValue key body)) (sym m) tt
+key_none key body e (inr (is, inr h)) = unless_all e (record { none = no_path key body is h.1 })
 
 -- what is refused is none of the values that a type holds
 pub refused_by : {T : Type 0} (form : Form) (view : T → ParameterValue) (S : List ℕ → ℕ → T → ℕ → Type 0) (old new : Reading) (e : DecodeError)
@@ -143,3 +259,89 @@ names_refused {old} {new} e = refused_by Names alpn_value AlpnAt old new e (λ x
 pub names_missing : (d : Reading) → length d.message ≤ d.index
     → StaysBehind d d × UnlessMemory decode.SvcParamMissingValue ((x : Protocols) (q : ℕ) → AlpnAt d.message d.index x q → ⊥)
 names_missing d none = names_refused decode.SvcParamMissingValue (stays d) (inr (inl (refl, drop_all d.index d.message none)))
+
+-- ---- reading, of any type of a known number of octets
+
+abbrev pub GroupAt : {T : Type 0} (w : ℕ) → (T → List ℕ) → List ℕ → ℕ → T → ℕ → Type 0
+GroupAt w octets m p x q = Stands m p (Octets w ∷ []) (octets x, tt) q
+
+are_groups : {T : Type 0} (w : ℕ) (octets : T → List ℕ) (m : List ℕ) (p : ℕ) (items : List T) (q : ℕ) → StandEach (GroupAt w octets) m p items q
+    → AreSplit octets (λ s. s) (λ s. length s ≡ w) m p items q
+are_groups w octets m = each_split octets (λ s. s) (λ s. length s ≡ w) (GroupAt w octets) m
+    (λ p x q s. (s.1.is.0, subst (λ (e : ℕ). At m p (octets x) e) s.2 s.1.is.1))
+
+-- w octets stand wherever so many are left
+group_here : (w : ℕ) (m : List ℕ) (p : ℕ) → p + w ≤ length m → (length (take w (drop p m)) ≡ w) × At m p (take w (drop p m)) (p + w)
+group_here w m p inside =
+    let n : length (take w (drop p m)) ≡ w = omega (arith, length-take w (drop p m), length-drop p m) in
+    (n, record { ends = omega (arith, n); within = inside; same = ap (λ (k : ℕ). take k (drop p m)) n })
+
+-- whole groups leave no octet
+no_stop : {T : Type 0} (w : ℕ) (octets : T → List ℕ) (m : List ℕ) → ((k : ℕ) → w * k < length m → w * k + w ≤ length m)
+    → ((s : List ℕ) → length s ≡ w → AreOctets s → (x : T) × (octets x ≡ s)) → AreOctets m → StopsBefore (GroupAt w octets) m 0 → ⊥
+no_stop w octets m room of all h =
+    let g = are_groups w octets m 0 h.items h.place h.stand in
+    let count = length (map octets h.items) in
+    let place : h.place ≡ w * count = omega (
+      arith,
+      h.before,
+      ap length g.split,
+      length-append (flat_map (λ s. s) (map octets h.items)) (drop h.place m),
+      length_groups w (map octets h.items) g.all,
+      length-drop h.place m,
+    ) in
+    let inside : h.place + w ≤ length m = omega (arith, place, room count (omega (arith, place, h.before))) in
+    let here = group_here w m h.place inside in
+    let x = of (take w (drop h.place m)) here.0 (AreOctets-at m h.place (take w (drop h.place m)) (h.place + w) all here.1) in
+    h.none x.0 (h.place + w) (subst (λ (s : List ℕ). Stands m h.place (Octets w ∷ []) (s, tt) (h.place + w)) (sym x.1)
+    (h.place + w, record { is = here }, refl))
+
+unless_none : (e : DecodeError) (P : Type 0) → UnlessMemory e P → (P → ⊥) → e ≡ decode.Memory
+unless_none decode.Memory P h n = refl
+unless_none e P h n = absurd (n h)
+
+-- what is read to the end of octets
+pub groups_read : {T : Type 0} (w : ℕ) (octets : T → List ℕ) (body : List ℕ) (items : List T) (new : Reading)
+    → StandToEnd (GroupAt w octets) (record { message = body; index = 0 }) items new
+    → AllByRecursion (λ s. length s ≡ w) (map octets items) × (body ≡ flat_map (λ s. s) (map octets items))
+groups_read w octets body items new h =
+    let g = are_groups w octets body 0 items (length body) h.stand in
+    (g.all, to_end body 0 (length body) (flat_map (λ s. s) (map octets items)) (omega arith) g.split)
+
+pub a_octets_of : (s : List ℕ) → length s ≡ 4 → AreOctets s → (x : A) × (a_octets x ≡ s)
+a_octets_of s n all = (a_of s, refl)
+
+pub aaaa_octets_of : (s : List ℕ) → length s ≡ 16 → AreOctets s → (x : AAAA) × (aaaa_octets x ≡ s)
+aaaa_octets_of s n all = (aaaa_of s, octets_of-segments 8 s (omega arith) all)
+
+pub hint_refused : {T : Type 0} (form : Form) (w : ℕ) (octets : T → List ℕ) (body : List ℕ) (new : Reading) (r : Result (IpHint T) DecodeError)
+    → ((k : ℕ) → w * k < length body → w * k + w ≤ length body) → ((s : List ℕ) → length s ≡ w → AreOctets s → (x : T) × (octets x ≡ s)) → AreOctets body
+    → ReadsEach (GroupAt w octets) (λ x. x.0) r (record { message = body; index = 0 }) new → IfErr r (IsValueRefusal form body)
+hint_refused form w octets body new (Ok x) room of all h = tt
+hint_refused form w octets body new (Err e) room of all h = inl (unless_none e _ h.1 (no_stop w octets body room of all))
+
+pub groups_fit : {T : Type 0} (w : ℕ) (octets : T → List ℕ) (body : List ℕ) (new : Reading) (r : Result (IpHint T) DecodeError)
+    → ReadsEach (GroupAt w octets) (λ x. x.0) r (record { message = body; index = 0 }) new → IfOk r (λ x. AllByRecursion (λ s. length s ≡ w) (map octets x.0))
+groups_fit w octets body new (Ok x) h = (groups_read w octets body x.0 new h).0
+groups_fit w octets body new (Err e) h = tt
+
+pub groups_body : {T : Type 0} (w : ℕ) (octets : T → List ℕ) (body : List ℕ) (new : Reading) (r : Result (IpHint T) DecodeError)
+    → ReadsEach (GroupAt w octets) (λ x. x.0) r (record { message = body; index = 0 }) new → IfOk r (λ x. body ≡ flat_map (λ s. s) (map octets x.0))
+groups_body w octets body new (Ok x) h = (groups_read w octets body x.0 new h).1
+groups_body w octets body new (Err e) h = tt
+
+-- ---- emitting
+
+group_emits : (w : ℕ) (s : List ℕ) (r : Result (Unit {0}) ProtoError) (old new : Writing) → Emits (Octets w ∷ []) (s, tt) r old new
+    → EmitsOctets (length s ≡ w) true s r old new
+unfolding field_octets
+group_emits w s (Ok u) old new h = (h.fields.1.is.0, record { keeps = h.keeps; octets = h.fields.2 ∙ h.fields.1.is.1 })
+group_emits w s (Err e) old new h = record
+    { extends = h.extends; why = because_map e _ _ _ _ (λ r. omega (arith, r.full, ap length (append-nil s))) (λ u. u.unfit) h.why }
+
+pub groups_emit : {T : Type 0} (w : ℕ) (octets : T → List ℕ) (xs : List T) (r : Result (Unit {0}) ProtoError) (old new : Writing)
+    → EmitsEach (λ x r w' n. Emits (Octets w ∷ []) (octets x, tt) r w' n) xs r old new
+    → EmitsOctets (AllByRecursion (λ s. length s ≡ w) (map octets xs)) true (flat_map (λ s. s) (map octets xs)) r old new
+groups_emit w octets xs r old new h =
+    emits_as r old new (λ p. p) (λ q. sym (all_pass (map octets xs)) ∙ q) refl
+    (emits_all octets (λ s. length s ≡ w) (λ s. true) (λ s. s) (λ x r w' n. Emits (Octets w ∷ []) (octets x, tt) r w' n) (λ x. group_emits w (octets x)) xs r old new h)

@@ -1,5 +1,4 @@
 pub mod SvcParamKey
-pub mod KeyTexts
 pub mod Emitting
 pub mod Hints
 pub mod SvcParamValue
@@ -12,4 +11,3 @@ pub mod HTTPS
 pub mod Steps
 pub mod WordRows
 pub mod Ordering
-pub mod Fronts

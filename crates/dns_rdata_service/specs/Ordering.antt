@@ -1,13 +1,10 @@
 -- The order of service bindings by their fields.
-use Rattle.std.specs.Prelude.{ℕ, List}
-use Rattle.std.specs.{Cmp.Lexicographic.slice_cmp, Ordering.nat_cmp, declared.cmp.Ordering.Ordering}
-use Rattle.dns_fields.specs.Equal.{key_cmp, parameter_key}
-use Rattle.dns_rdata_service.specs.{Parameters.Parameter, Parameters.own_parameter, declared.svcb.value.SvcParamValue.SvcParamValue}
+use Rattle.std.specs.{Prelude.ℕ, Prelude.◌≡◌, Prelude.List, Prelude.◌++◌, Prelude.length, Ordering.nat_cmp, Ordering.ordering_then, List.flat_map}
+use Rattle.std.specs.{declared.cmp.Ordering.Ordering, Cmp.Lexicographic.slice_cmp, Int.bytes_high_first}
+use Rattle.dns_fields.specs.{Pieces.piece, Pieces.as_piece, Pieces.parameter_octets, Equal.key_cmp, Equal.parameter_key}
+use Rattle.dns_rdata_service.specs.Parameters.{Parameter, own_parameter, parameter_of}
+use Rattle.dns_rdata_service.specs.declared.svcb.value.SvcParamValue.{SvcParamValue}
 use Rattle.dns_rdata_service.specs.declared.svcb.value.SvcParamValue.TheVariants as variants
-
--- by their octets
-abbrev pub octets_order : {T : Type 0} → (T → List ℕ) → T → T → Ordering
-octets_order octets a b = slice_cmp nat_cmp (octets a) (octets b)
 
 -- by the keys that parameters are compared by
 abbrev pub parameter_order : Parameter → Parameter → Ordering
@@ -36,3 +33,19 @@ Differ (variants.Ipv6Hint x) (variants.Ipv6Hint y) = ⊥
 Differ (variants.DohPath x) (variants.DohPath y) = ⊥
 Differ (variants.Unknown x) (variants.Unknown y) = ⊥
 Differ v w = Unit {0}
+
+-- whatever comes behind, they are ordered so, and where they tie as what comes behind
+abbrev pub OrderFirst : Ordering → List ℕ → List ℕ → Type 0
+OrderFirst o s t = (x y : List ℕ) → slice_cmp nat_cmp (s ++ x) (t ++ y) ≡ ordering_then o (slice_cmp nat_cmp x y)
+
+-- a parameter's key, its length and its value
+abbrev pub parameter_octets_of : Parameter → List ℕ
+parameter_octets_of p = piece (as_piece parameter_octets (parameter_of p))
+
+-- items one behind the other
+abbrev pub joined : List (List ℕ) → List ℕ
+joined ss = flat_map (λ s. s) ss
+
+-- octets behind their length in two octets
+abbrev pub behind_length : List ℕ → List ℕ
+behind_length s = bytes_high_first 2 (length s) ++ s

@@ -1,6 +1,6 @@
 -- Parameters are equal exactly where the keys are that they are compared by.
 use Rattle.std.specs.Prelude.{◌≡◌, Bool, true, false, ◌&&◌, List, [], ◌∷◌, map, nat_eq}
-use Rattle.std.specs.Cmp.Lexicographic.{pointwise}
+use Rattle.std.specs.Cmp.{Lexicographic.pointwise, Derive.Mapped.pointwise-map}
 use Rattle.std.proofs.Common.{refl, sym, ap, ◌∙◌}
 use Rattle.dns_fields.specs.Equal.{key_eq, parameter_key, parameter_keys, values_eq}
 use Rattle.dns_rdata_base.specs.{A.a_shape, A.a_fields, Numbered.numbered_eq, declared.a.A.A, declared.aaaa.AAAA.AAAA}
@@ -24,10 +24,7 @@ and_true false = refl
 -- lists under a view
 pointwise_view : {X Y : Type 0} (E : X → X → Bool) (F : Y → Y → Bool) (f : X → Y) → ((x y : X) → E x y ≡ F (f x) (f y)) → (xs ys : List X)
     → pointwise E xs ys ≡ pointwise F (map f xs) (map f ys)
-pointwise_view E F f same [] [] = refl
-pointwise_view E F f same [] (y ∷ ys) = refl
-pointwise_view E F f same (x ∷ xs) [] = refl
-pointwise_view E F f same (x ∷ xs) (y ∷ ys) = ap (λ b. b && pointwise E xs ys) (same x y) ∙ ap (λ b. F (f x) (f y) && b) (pointwise_view E F f same xs ys)
+pointwise_view E F f same xs ys = ap (λ R. pointwise R xs ys) (λ i x y. same x y i) ∙ sym (pointwise-map f F xs ys)
 
 numbers_same : (j k : SvcParamKey) → numbered_eq key_number key_variant j k ≡ pointwise nat_eq (key_numbers j) (key_numbers k)
 numbers_same j k = ap (λ b. nat_eq (key_number j) (key_number k) && b) (sym (and_true (nat_eq (key_variant j) (key_variant k))))
@@ -69,4 +66,4 @@ pub parameters_same : (ps qs : List Parameter)
     → pointwise parameter_eq ps qs ≡ pointwise key_eq (parameter_keys (map own_parameter ps)) (parameter_keys (map own_parameter qs))
 parameters_same ps qs =
     pointwise_view parameter_eq (λ x y. key_eq (parameter_key x) (parameter_key y)) own_parameter parameter_same ps qs
-    ∙ pointwise_view (λ x y. key_eq (parameter_key x) (parameter_key y)) key_eq parameter_key (λ x y. refl) (map own_parameter ps) (map own_parameter qs)
+    ∙ sym (pointwise-map parameter_key key_eq (map own_parameter ps) (map own_parameter qs))

@@ -1,13 +1,27 @@
 -- Words of service parameters (RFC 9460, 2.1 and appendix A; RFC 9461, 5).
-use Rattle.std.specs.Prelude.{◌≡◌, ◌≢◌, ◌⊎◌, ℕ, List, [], ◌∷◌, ◌++◌, All, Ok}
+use Rattle.std.specs.Prelude.{◌≡◌, ◌≢◌, ◌⊎◌, ℕ, List, [], ◌∷◌, ◌++◌, All, Ok, codes}
 use Rattle.std.specs.{List.AllZip, Net.Grammar.IsIpv4Text, Net.Grammar.IsIpv6Text}
 use Rattle.base64.specs.{Engines.standard, GeneralPurpose.decode_of}
 use Rattle.dns_text.specs.Lists.{IsItem, pieces_of}
 use Rattle.dns_words.specs.Forms.{IsNumberWord}
-use Rattle.dns_rdata_service.specs.{KeyTexts.IsKeyText, Parameters.Parameter, declared.svcb.key.SvcParamKey.SvcParamKey}
+use Rattle.dns_rdata_service.specs.{Parameters.Parameter, declared.svcb.key.SvcParamKey.SvcParamKey, SvcParamKey.key_text}
 use Rattle.dns_rdata_service.specs.declared.svcb.value.SvcParamValue.{SvcParamValue}
+use Rattle.dns_rdata_service.specs.declared.svcb.key.SvcParamKey.TheVariants.{Key, Key65535, Unknown}
 use Rattle.dns_rdata_service.specs.declared.svcb.key.SvcParamKey.TheVariants as keys
 use Rattle.dns_rdata_service.specs.declared.svcb.value.SvcParamValue.TheVariants as values
+
+-- `key` and a number of 16 bits
+pub record IsNumberedKey (text : List ℕ) (n : ℕ) : Type 0 where
+  pub digits : List ℕ
+  pub spelled : text ≡ codes "key" ++ digits
+  pub number : IsNumberWord 16 n digits
+
+-- A key with a name of its own has that text; `key` and a number is the key of this number but for `key65535`. No text is
+-- of a key of another number.
+abbrev pub IsKeyText : List ℕ → SvcParamKey → Type 0
+IsKeyText text (Key n) = IsNumberedKey text n × (text ≢ key_text Key65535)
+IsKeyText text (Unknown n) = ⊥
+IsKeyText text key = text ≡ key_text key
 
 -- the text's item (its first token, a word) is the text of x
 pub record ItemOf {T : Type 0} (Is : List ℕ → T → Type 0) (text : List ℕ) (x : T) : Type 0 where

@@ -1,14 +1,12 @@
 -- The canonical octets of service bindings, step by step: priority and target, and then each parameter, its key, its length
 -- and what stands in one piece, and then item by item what its value lists.
 use Rattle.std.specs.Prelude.{◌≡◌, ℕ, zero, suc, ◌+◌, ◌<◌, ◌&&◌, nat_le, Bool, Option, Some, None, List, [], ◌∷◌, ◌++◌, length, drop, map, slice_get}
-use Rattle.std.specs.Prelude.{true}
-use Rattle.std.specs.{List.flat_map, List.list_all, Int.bytes_high_first}
+use Rattle.std.specs.{List.flat_map, List.list_all, Prelude.true, Prelude.false, Int.bytes_high_first}
 use Rattle.dns_fields.specs.Pieces.{string, pieces, ParameterValue, Mandatory, Alpn, Port, Ipv4Hint, Ipv6Hint, Opaque, parameter_octets}
-use Rattle.dns_fields.specs.Pieces.{parameter_emittable, parameters_emittable}
-use Rattle.dns_fields.specs.Fields.{canonical, parameter_pieces}
-use Rattle.dns_pieces.specs.{Steps.Left, declared.step.Step.Step}
-use Rattle.dns_rdata_service.specs.{SvcParamKey.key_number, SvcParamValue.value_of, SVCB.svcb_shape, SVCB.svcb_fields, declared.svcb.SVCB.SVCB}
-use Rattle.dns_rdata_service.specs.Parameters.{Parameter, parameter_of}
+use Rattle.dns_fields.specs.{Pieces.parameter_emittable, Pieces.parameters_emittable, Fields.canonical, Fields.parameter_pieces}
+use Rattle.dns_pieces.specs.{declared.step.Step.Step, Steps.Left}
+use Rattle.dns_rdata_service.specs.{SvcParamValue.value_of, SvcParamValue.fits_value, Parameters.Parameter, Parameters.parameter_of}
+use Rattle.dns_rdata_service.specs.{SVCB.svcb_shape, SVCB.svcb_fields, declared.svcb.SVCB.SVCB, SvcParamKey.key_number}
 
 -- what stands in one piece
 abbrev pub value_front : ParameterValue → List ℕ
@@ -54,6 +52,11 @@ are_emittable ps = parameters_emittable (map parameter_of ps) ≡ true
 -- each value can be emitted
 abbrev pub each_fits : List Parameter → Bool
 each_fits ps = list_all (λ x. nat_le (length (parameter_octets x.1)) 65535 && parameter_emittable x.1) (map parameter_of ps)
+
+-- how many octets a value has, if it can be emitted
+abbrev pub IsSizeOf : ParameterValue → Option ℕ → Type 0
+IsSizeOf v None = fits_value v ≡ false
+IsSizeOf v (Some n) = (fits_value v ≡ true) × (n ≡ length (parameter_octets v))
 
 -- item j, in a head and a tail, if there is one
 abbrev pub GivesItem : List (List ℕ) → ℕ → List ℕ → Option (List ℕ) → Type 0

@@ -1,22 +1,21 @@
 -- The values of service parameters: what each holds, in the octets of which it is read, and its text (RFC 9460, 7 and 8;
 -- RFC 9461, 5).
 use Rattle.std.specs.Prelude.{◌≡◌, ◌≢◌, ◌⊎◌, ℕ, ◌%◌, ◌^◌, ◌<◌, ◌==◌, ◌&&◌, nat_le, Bool, if◌then◌else◌, List, [], ◌∷◌, ◌++◌, length, drop, map, codes}
-use Rattle.std.specs.Prelude.{decimal, IsUtf8, Result}
-use Rattle.std.specs.{List.flat_map, Int.bytes_high_first, Net.Addr.ipv4_octets, Net.Addr.ipv6_octets, Net.Addr.segments_of}
-use Rattle.base64.specs.{Engines.standard, GeneralPurpose.encode_of}
+use Rattle.std.specs.{Net.Addr.ipv4_octets, Net.Addr.ipv6_octets, Net.Addr.segments_of, Prelude.decimal, Prelude.IsUtf8, Prelude.Result}
+use Rattle.std.specs.{Int.bytes_high_first, List.flat_map}
+use Rattle.base64.specs.{GeneralPurpose.encode_of, Engines.standard}
 use Rattle.dns_types.specs.{declared.error.DecodeError.DecodeError, declared.error.ProtoError.ProtoError}
-use Rattle.dns_types.specs.declared.error.DecodeError.TheVariants as decode
 use Rattle.dns_fields.specs.Pieces.{string, ParameterValue, Mandatory, Alpn, NoDefaultAlpn, Port, Ipv4Hint, Ipv6Hint, Opaque, Form, Keys, Names}
 use Rattle.dns_fields.specs.Pieces.{Nothing, PortNumber, Addresses4, Addresses16, AnyOctets, IsEmittable, IsBody, ParameterHeld, form_for}
 use Rattle.dns_fields.specs.Pieces.{parameter_octets, parameter_emittable}
 use Rattle.dns_names_wire.specs.State.{Writing}
-use Rattle.dns_rdata_base.specs.{A.a_text, AAAA.aaaa_text, Lossy.lossy, declared.a.A.A, declared.aaaa.AAAA.AAAA}
-use Rattle.dns_rdata_service.specs.{Emitting.EmitsOctets, declared.svcb.key.SvcParamKey.SvcParamKey, declared.svcb.alpn.Alpn.Alpn as Protocols}
-use Rattle.dns_rdata_service.specs.{declared.svcb.ip_hint.IpHint.IpHint, declared.svcb.doh_path.DohPath.DohPath as Path}
-use Rattle.dns_rdata_service.specs.{declared.svcb.unknown.Unknown.Unknown as Other, declared.svcb.value.SvcParamValue.SvcParamValue}
-use Rattle.dns_rdata_service.specs.SvcParamKey.{key_number, key_variant, key_of, key_text}
-use Rattle.dns_rdata_service.specs.declared.svcb.mandatory.Mandatory.{Mandatory as MandatoryKeys}
-use Rattle.dns_rdata_service.specs.declared.svcb.ech_config_list.EchConfigList.{EchConfigList as Config}
+use Rattle.dns_rdata_base.specs.{declared.aaaa.AAAA.AAAA, AAAA.aaaa_text, declared.a.A.A, Lossy.lossy, A.a_text}
+use Rattle.dns_rdata_service.specs.{SvcParamKey.key_number, SvcParamKey.key_variant, SvcParamKey.key_of, SvcParamKey.key_text, Emitting.EmitsOctets}
+use Rattle.dns_rdata_service.specs.{declared.svcb.ech_config_list.EchConfigList.EchConfigList as Config, declared.svcb.key.SvcParamKey.SvcParamKey}
+use Rattle.dns_rdata_service.specs.{declared.svcb.mandatory.Mandatory.Mandatory as MandatoryKeys, declared.svcb.value.SvcParamValue.SvcParamValue}
+use Rattle.dns_rdata_service.specs.{declared.svcb.doh_path.DohPath.DohPath as Path, declared.svcb.unknown.Unknown.Unknown as Other}
+use Rattle.dns_rdata_service.specs.{declared.svcb.alpn.Alpn.Alpn as Protocols, declared.svcb.ip_hint.IpHint.IpHint}
+use Rattle.dns_types.specs.declared.error.DecodeError.TheVariants as decode
 use Rattle.dns_rdata_service.specs.declared.svcb.value.SvcParamValue.TheVariants as variants
 
 -- ---- as values of the grammar

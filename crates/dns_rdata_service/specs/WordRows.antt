@@ -1,10 +1,9 @@
 -- The words of records that bind a service (RFC 9460, 2.1).
-use Rattle.std.specs.Prelude.{◌≡◌, ℕ, List, [], ◌∷◌, map, Option, None}
-use Rattle.std.specs.List.{AllZip}
+use Rattle.std.specs.{Prelude.◌≡◌, Prelude.ℕ, Prelude.List, Prelude.[], Prelude.◌∷◌, Prelude.map, Prelude.Option, Prelude.None, List.AllZip}
 use Rattle.dns_fields.specs.Fields.{Parameters}
 use Rattle.dns_words.specs.{Forms.Row, Forms.word, Forms.number, Forms.name, Reads.TookWords}
-use Rattle.dns_rdata_service.specs.{ParameterWords.IsParameterWord, SVCB.svcb_shape, declared.svcb.SVCB.SVCB}
-use Rattle.dns_rdata_service.specs.Parameters.{Parameter, parameter_of}
+use Rattle.dns_rdata_service.specs.{Parameters.Parameter, Parameters.parameter_of, ParameterWords.IsParameterWord, declared.svcb.SVCB.SVCB}
+use Rattle.dns_rdata_service.specs.SVCB.{svcb_shape}
 
 -- every further word is that of the parameter at its place
 abbrev pub these_parameters : List Parameter → Row []

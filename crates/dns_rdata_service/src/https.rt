@@ -45,10 +45,7 @@ impl RecordDataDecodable for HTTPS {
         decoder: &mut BinDecoder<'_>,
         length: Restrict<u16>,
     ) -> Result<HTTPS, DecodeError> {
-        match SVCB::read_data(decoder, length) {
-            Ok(svcb) => Ok(HTTPS(svcb)),
-            Err(e) => Err(e),
-        }
+        Ok(HTTPS(SVCB::read_data(decoder, length)?))
     }
 }
 

@@ -1,24 +1,24 @@
 //! Service bindings ordered by their canonical octets, up to the first parameters whose order is not easily told.
 
 ghost use Rattle.std.specs.Prelude.{◌≡◌, ◌≤◌, drop, length, map, true, IfSome, IsTrue};
-ghost use Rattle.std.specs.{Cmp.Lexicographic.slice_cmp, List.flat_map, Ordering.nat_cmp, Ordering.ordering_then};
-ghost use Rattle.std.specs.declared.cmp.Ordering.TheVariants.{Equal};
-ghost use Rattle.dns_fields.specs.{Equal.values_eq, Pieces.string, Pieces.Alpn as Names, Pieces.Opaque, Pieces.Port};
+ghost use Rattle.std.specs.{Ordering.nat_cmp, Ordering.ordering_then, declared.cmp.Ordering.TheVariants.Equal, Cmp.Lexicographic.slice_cmp};
+ghost use Rattle.dns_fields.specs.{Pieces.Alpn as Names, Pieces.Opaque, Pieces.Port, Equal.values_eq};
 ghost use Rattle.dns_pieces.specs.Fronts.{canonical_cmp};
-ghost use Rattle.dns_rdata_service.specs.{Fronts.OrderFirst, Fronts.parameter_octets_of, Parameters.own_parameter, Steps.parameters_from};
-ghost use Rattle.dns_rdata_service.specs.SvcParamValue.{sized, value_key, value_of};
-ghost use Rattle.dns_rdata_service.specs.SVCB.{svcb_shape, svcb_fields, svcb_key_shape, svcb_keys};
+ghost use Rattle.dns_rdata_service.specs.{SVCB.svcb_shape, SVCB.svcb_fields, SVCB.svcb_key_shape, SVCB.svcb_keys, Parameters.own_parameter};
+ghost use Rattle.dns_rdata_service.specs.{SvcParamValue.sized, SvcParamValue.value_key, SvcParamValue.value_of, Steps.parameters_from};
+ghost use Rattle.dns_rdata_service.specs.Ordering.{OrderFirst, parameter_octets_of};
 
 use crate::hints::hints_order;
 use crate::items::Items;
-use crate::svcb::{SVCB, SvcParamKey, SvcParamValue};
+use crate::steps::{names_size, octets_size};
+use crate::svcb::{Parameter, SVCB, SvcParamValue};
 use dns_names_wire::SmallOctets;
 use dns_pieces::order::{name_behind, slices_behind, two_behind};
 use std::cmp::Ordering;
 
 /// How two service bindings are ordered by priority, target and the first parameters that are not alike, and how many
 /// before these are alike. Equal where that is not easily told: what stands behind those that are alike then decides.
-#[tactic(auto, using(crate::proofs::SvcbFronts::ne_yes))]
+#[tactic(auto, using(crate::proofs::SvcbFronts::parameters_behind, crate::proofs::SvcbFronts::ne_no, crate::proofs::SvcbFronts::all_alike, crate::proofs::SvcbFronts::none_behind, crate::proofs::SvcbFronts::ne_yes))]
 pub fn svcb_front(a: &SVCB, b: &SVCB) -> (Ordering, usize)
     ensures order { canonical_cmp svcb_shape (svcb_fields a.now) (svcb_fields b.now) ≡ ordering_then result.0 (slice_cmp nat_cmp (parameters_from a.now.svc_params result.1) (parameters_from b.now.svc_params result.1)) }
     ensures first { result.1 ≤ length a.now.svc_params }
@@ -36,10 +36,7 @@ pub fn svcb_front(a: &SVCB, b: &SVCB) -> (Ordering, usize)
 
 // The order of the first parameters that are not known to be the same, `Equal` where this is not known of any, and how many
 // parameters stand in front of them.
-fn parameters_front(
-    a: &[(SvcParamKey, SvcParamValue)],
-    b: &[(SvcParamKey, SvcParamValue)],
-) -> (Ordering, usize)
+fn parameters_front(a: &[Parameter], b: &[Parameter]) -> (Ordering, usize)
     ensures order { slice_cmp nat_cmp (parameters_from a.now 0) (parameters_from b.now 0) ≡ ordering_then result.0 (slice_cmp nat_cmp (parameters_from a.now result.1) (parameters_from b.now result.1)) }
     ensures first { result.1 ≤ length a.now }
     ensures second { result.1 ≤ length b.now }
@@ -59,10 +56,7 @@ fn parameters_front(
 
 // The order of two parameters by key, length and value, in front of others. `Equal` only where both are the same.
 #[inline]
-fn pair_order(
-    a: &(SvcParamKey, SvcParamValue),
-    b: &(SvcParamKey, SvcParamValue),
-) -> Option<Ordering>
+fn pair_order(a: &Parameter, b: &Parameter) -> Option<Ordering>
     ensures order { IfSome result (λ o. OrderFirst o (parameter_octets_of a.now) (parameter_octets_of b.now)) }
     ensures alike { IfSome result (λ o. o ≡ Equal → own_parameter a.now ≡ own_parameter b.now) }
 {
@@ -81,23 +75,15 @@ fn value_order(a: &SvcParamValue, b: &SvcParamValue) -> Option<Ordering>
     ensures alike { IfSome result (λ o. o ≡ Equal → value_key a.now ≡ value_key b.now) }
 {
     match (a, b) {
-        (SvcParamValue::Alpn(x), SvcParamValue::Alpn(y)) => { names_order(&x.0, &y.0) }
+        (SvcParamValue::Alpn(x), SvcParamValue::Alpn(y)) => names_order(&x.0, &y.0),
         (SvcParamValue::Port(x), SvcParamValue::Port(y)) => Some(port_order(*x, *y)),
-        (SvcParamValue::Ipv4Hint(x), SvcParamValue::Ipv4Hint(y)) => {
-            hints_order(x.0.as_slice(), y.0.as_slice())
-        }
+        (SvcParamValue::Ipv4Hint(x), SvcParamValue::Ipv4Hint(y)) => hints_order(&x.0, &y.0),
         (SvcParamValue::EchConfigList(x), SvcParamValue::EchConfigList(y)) => {
             octets_order(x.0.as_slice(), y.0.as_slice())
         }
-        (SvcParamValue::Ipv6Hint(x), SvcParamValue::Ipv6Hint(y)) => {
-            hints_order(x.0.as_slice(), y.0.as_slice())
-        }
-        (SvcParamValue::DohPath(x), SvcParamValue::DohPath(y)) => {
-            octets_order(x.0.as_slice(), y.0.as_slice())
-        }
-        (SvcParamValue::Unknown(x), SvcParamValue::Unknown(y)) => {
-            octets_order(x.0.as_slice(), y.0.as_slice())
-        }
+        (SvcParamValue::Ipv6Hint(x), SvcParamValue::Ipv6Hint(y)) => hints_order(&x.0, &y.0),
+        (SvcParamValue::DohPath(x), SvcParamValue::DohPath(y)) => octets_order(&x.0, &y.0),
+        (SvcParamValue::Unknown(x), SvcParamValue::Unknown(y)) => octets_order(&x.0, &y.0),
         _ => if a == b { Some(Ordering::Equal) } else { None },
     }
 }
@@ -119,15 +105,12 @@ fn octets_order(a: &[u8], b: &[u8]) -> Option<Ordering>
     ensures order { IfSome result (λ o. OrderFirst o (sized (Opaque a.now)) (sized (Opaque b.now))) }
     ensures alike { IfSome result (λ o. o ≡ Equal → a.now ≡ b.now) }
 {
-    if a.len() > 65535 || b.len() > 65535 {
-        return None;
-    }
-    let lengths = a.len().cmp(&b.len());
-    Some(slices_behind(lengths, a, b))
+    let sizes = octets_size(a)?.cmp(&octets_size(b)?);
+    Some(slices_behind(sizes, a, b))
 }
 
 // The order of names of protocols behind their length, where both lists are the same or their lengths differ. Else `None`.
-#[tactic(auto, using(crate::proofs::SvcbFronts::names_same, crate::proofs::SvcbFronts::names_alike, crate::proofs::SvcbFronts::names_differ, crate::proofs::SvcbFronts::ne_yes))]
+#[tactic(auto, using(crate::proofs::SvcbFronts::names_same, crate::proofs::SvcbFronts::names_alike, crate::proofs::SvcbFronts::names_differ))]
 fn names_order(a: &Items<SmallOctets<16>>, b: &Items<SmallOctets<16>>) -> Option<Ordering>
     ensures order { IfSome result (λ o. OrderFirst o (sized (Names a.now)) (sized (Names b.now))) }
     ensures alike { IfSome result (λ o. o ≡ Equal → a.now ≡ b.now) }
@@ -135,27 +118,6 @@ fn names_order(a: &Items<SmallOctets<16>>, b: &Items<SmallOctets<16>>) -> Option
     if *a == *b {
         return Some(Ordering::Equal);
     }
-    let size = names_size(a.as_slice())?;
-    let other_size = names_size(b.as_slice())?;
-    let order = size.cmp(&other_size);
-    if order.is_ne() { Some(order) } else { None }
-}
-
-// How many octets names have, each behind its length, if at most 65535.
-fn names_size(names: &[SmallOctets<16>]) -> Option<usize>
-    ensures size { IfSome result (λ n. n ≡ length (flat_map string names.now)) }
-    ensures few { IfSome result (λ n. n ≤ 65535) }
-{
-    let mut size = 0;
-    for name in names {
-        let len = name.len();
-        if len > 65535 {
-            return None;
-        }
-        size += 1 + len;
-        if size > 65535 {
-            return None;
-        }
-    }
-    Some(size)
+    let sizes = names_size(a.as_slice())?.cmp(&names_size(b.as_slice())?);
+    if sizes.is_ne() { Some(sizes) } else { None }
 }

@@ -1,17 +1,16 @@
 //! The order of service bindings by their fields.
 
-ghost use Rattle.std.specs.Prelude.{◌≡◌, map};
-ghost use Rattle.std.specs.{Cmp.Lexicographic.slice_cmp, Ordering.nat_cmp};
+ghost use Rattle.std.specs.{Cmp.Lexicographic.slice_cmp, Prelude.◌≡◌, Prelude.map, Ordering.nat_cmp};
 ghost use Rattle.dns_fields.specs.{Equal.key_cmp, Equal.parameter_keys, Order.values_cmp};
-ghost use Rattle.dns_rdata_service.specs.{Parameters.own_parameter, SvcParamValue.key_numbers, SvcParamValue.value_key, SVCB.svcb_key_shape};
-ghost use Rattle.dns_rdata_service.specs.{SVCB.svcb_keys, Ordering.parameter_order, Ordering.value_place, Ordering.Differ};
+ghost use Rattle.dns_rdata_service.specs.{Ordering.parameter_order, Ordering.value_place, Ordering.Differ, SVCB.svcb_key_shape, SVCB.svcb_keys};
+ghost use Rattle.dns_rdata_service.specs.{SvcParamValue.key_numbers, SvcParamValue.value_key, Parameters.own_parameter};
 
 use crate::hints::hints_cmp;
-use crate::svcb::{SVCB, SvcParamKey, SvcParamValue};
+use crate::svcb::{Parameter, SVCB, SvcParamKey, SvcParamValue};
 use std::cmp::Ordering;
 
 // The order of two lists of keys: key by key, each by number and then by variant.
-#[tactic(auto, using(crate::proofs::FieldOrder::keys_order))]
+#[tactic(auto, using(crate::proofs::SvcbFronts::keys_order))]
 fn keys_cmp(a: &[SvcParamKey], b: &[SvcParamKey]) -> Ordering
     ensures { result ≡ slice_cmp (slice_cmp nat_cmp) (map key_numbers a.now) (map key_numbers b.now) }
 {
@@ -38,7 +37,7 @@ fn place(value: &SvcParamValue) -> u8
 
 // The order of two values of different variants: by the place in the declaration.
 #[inline]
-#[tactic(auto, using(crate::proofs::FieldOrder::differ_order))]
+#[tactic(auto, using(crate::proofs::SvcbFronts::differ_order))]
 fn places_cmp(a: &SvcParamValue, b: &SvcParamValue) -> Ordering
     requires { Differ a.now b.now }
     ensures { result ≡ slice_cmp (slice_cmp nat_cmp) (value_key a.now) (value_key b.now) }
@@ -51,18 +50,12 @@ fn value_cmp(a: &SvcParamValue, b: &SvcParamValue) -> Ordering
     ensures { result ≡ slice_cmp (slice_cmp nat_cmp) (value_key a.now) (value_key b.now) }
 {
     match (a, b) {
-        (SvcParamValue::Mandatory(x), SvcParamValue::Mandatory(y)) => {
-            keys_cmp(x.0.as_slice(), y.0.as_slice())
-        }
+        (SvcParamValue::Mandatory(x), SvcParamValue::Mandatory(y)) => keys_cmp(&x.0, &y.0),
         (SvcParamValue::Alpn(x), SvcParamValue::Alpn(y)) => x.0.as_slice().cmp(y.0.as_slice()),
         (SvcParamValue::Port(m), SvcParamValue::Port(n)) => m.cmp(n),
-        (SvcParamValue::Ipv4Hint(x), SvcParamValue::Ipv4Hint(y)) => {
-            hints_cmp(x.0.as_slice(), y.0.as_slice())
-        }
+        (SvcParamValue::Ipv4Hint(x), SvcParamValue::Ipv4Hint(y)) => hints_cmp(&x.0, &y.0),
         (SvcParamValue::EchConfigList(x), SvcParamValue::EchConfigList(y)) => x.0.cmp(&y.0),
-        (SvcParamValue::Ipv6Hint(x), SvcParamValue::Ipv6Hint(y)) => {
-            hints_cmp(x.0.as_slice(), y.0.as_slice())
-        }
+        (SvcParamValue::Ipv6Hint(x), SvcParamValue::Ipv6Hint(y)) => hints_cmp(&x.0, &y.0),
         (SvcParamValue::DohPath(x), SvcParamValue::DohPath(y)) => x.0.cmp(&y.0),
         (SvcParamValue::Unknown(x), SvcParamValue::Unknown(y)) => x.0.cmp(&y.0),
         _ => places_cmp(a, b),
@@ -70,17 +63,14 @@ fn value_cmp(a: &SvcParamValue, b: &SvcParamValue) -> Ordering
 }
 
 // The order of two parameters: by key, and then by value.
-fn parameter_cmp(a: &(SvcParamKey, SvcParamValue), b: &(SvcParamKey, SvcParamValue)) -> Ordering
+fn parameter_cmp(a: &Parameter, b: &Parameter) -> Ordering
     ensures { result ≡ parameter_order a.now b.now }
 {
     a.0.cmp(&b.0).then(value_cmp(&a.1, &b.1))
 }
 
 // The order of two lists of parameters: parameter by parameter, and a list that ends first comes first.
-fn parameters_cmp(
-    a: &[(SvcParamKey, SvcParamValue)],
-    b: &[(SvcParamKey, SvcParamValue)],
-) -> Ordering
+fn parameters_cmp(a: &[Parameter], b: &[Parameter]) -> Ordering
     ensures { result ≡ slice_cmp key_cmp (parameter_keys (map own_parameter a.now)) (parameter_keys (map own_parameter b.now)) }
 {
     let shorter = a.len().min(b.len());

@@ -1,67 +1,70 @@
 //! The canonical octets of service bindings, step by step.
 
-ghost use Rattle.std.specs.Prelude.{◌≡◌, ◌+◌, ◌<◌, ◌≤◌, ◌^◌, ◌++◌, ℕ, [], true, IfSome, List, length, map, nat_le};
-ghost use Rattle.std.specs.{List.flat_map, List.list_all, Int.bytes_high_first};
-ghost use Rattle.dns_fields.specs.Pieces.{string, parameter_octets, parameter_emittable, parameters_emittable, rising, rising_behind};
-ghost use Rattle.dns_fields.specs.Pieces.{Mandatory as MandatoryKeys, Alpn as Names};
-ghost use Rattle.dns_rdata_service.specs.{Parameters.parameter_of, SvcParamKey.key_number, SvcParamValue.value_of, SvcParamValue.fits_value};
-ghost use Rattle.dns_rdata_service.specs.Steps.{parameter_head, value_front, value_items, svcb_left, are_emittable, each_fits, GivesItem, GivesPiece};
+ghost use Rattle.std.specs.Prelude.{◌≡◌, ◌+◌, ◌<◌, ◌≤◌, ◌^◌, ◌++◌, [], true, IfSome, length, map, nat_le};
+ghost use Rattle.std.specs.{List.list_all, Int.bytes_high_first};
+ghost use Rattle.dns_fields.specs.Pieces.{string, parameter_emittable, parameters_emittable, rising, Mandatory as MandatoryKeys, Alpn as Names, Opaque};
+ghost use Rattle.dns_rdata_service.specs.{Parameters.parameter_of, SvcParamKey.key_number, SvcParamValue.value_of, Steps.IsSizeOf};
+ghost use Rattle.dns_rdata_service.specs.Steps.{value_front, value_items, svcb_left, are_emittable, each_fits, GivesItem, GivesPiece};
 ghost use Rattle.dns_pieces.specs.Steps.{GivesStep};
 
-use crate::hints::{Address, hints_fit, hints_len};
+use crate::hints::{Address, hints_size};
 use crate::https::HTTPS;
-use crate::svcb::{SVCB, SvcParamKey, SvcParamValue};
+use crate::svcb::{Parameter, SVCB, SvcParamKey, SvcParamValue, is_above};
 use dns_names_wire::SmallOctets;
 use dns_pieces::{Head, Step, Tail};
 
-// How many octets keys have.
-#[tactic(auto, using(crate::proofs::PieceSteps::keys_size))]
-fn keys_len(keys: &[SvcParamKey]) -> u16
-    requires { length (flat_map (bytes_high_first 2) (map key_number keys.now)) ≤ 65535 }
-    ensures { result ≡ length (flat_map (bytes_high_first 2) (map key_number keys.now)) }
+// How many octets the keys have, if there are any, and at most 65535 octets.
+#[tactic(auto, using(crate::proofs::PieceSteps::keys_then, crate::proofs::PieceSteps::keys_size))]
+fn keys_size(keys: &[SvcParamKey]) -> Option<u16>
+    ensures { IsSizeOf (MandatoryKeys (map key_number keys.now)) result }
 {
-    let count = keys.len();
-    (2 * count) as u16
+    if keys.len() == 0 || keys.len() > 32767 {
+        return None;
+    }
+    Some((2 * keys.len()) as u16)
 }
 
-// How many octets names have, each behind its length.
-fn names_len(names: &[SmallOctets<16>]) -> u16
-    requires { length (flat_map string names.now) ≤ 65535 }
-    ensures { result ≡ length (flat_map string names.now) }
+/// How many octets the names have with their lengths, if there are any, each of at most 255 octets, and at most 65535.
+pub(crate) fn names_size(names: &[SmallOctets<16>]) -> Option<u16>
+    ensures { IsSizeOf (Names names.now) result }
 {
     let mut size = 0;
     for name in names {
-        size += 1 + name.len();
+        let len = name.len();
+        if len > 255 {
+            return None;
+        }
+        size += 1 + len;
+        if size > 65535 {
+            return None;
+        }
     }
-    size as u16
+    if size == 0 { None } else { Some(size as u16) }
 }
 
-// How many octets a value has.
-fn value_len(value: &SvcParamValue) -> u16
-    requires { fits_value (value_of value.now) ≡ true }
-    ensures { result ≡ length (parameter_octets (value_of value.now)) }
+/// How many octets there are, if at most 65535.
+#[inline]
+pub(crate) fn octets_size(octets: &[u8]) -> Option<u16>
+    ensures { IsSizeOf (Opaque octets.now) result }
+{
+    u16::try_from(octets.len()).ok()
+}
+
+// How many octets a value has, if it can be emitted.
+fn value_size(value: &SvcParamValue) -> Option<u16>
+    ensures { IsSizeOf (value_of value.now) result }
 {
     match value {
-        SvcParamValue::Mandatory(keys) => keys_len(keys.0.as_slice()),
-        SvcParamValue::Alpn(names) => names_len(names.0.as_slice()),
-        SvcParamValue::NoDefaultAlpn => 0,
-        SvcParamValue::Port(_) => 2,
-        SvcParamValue::Ipv4Hint(addresses) => hints_len(addresses.0.as_slice()),
-        SvcParamValue::EchConfigList(octets) => octets.0.len() as u16,
-        SvcParamValue::Ipv6Hint(addresses) => hints_len(addresses.0.as_slice()),
-        SvcParamValue::DohPath(path) => path.0.len() as u16,
-        SvcParamValue::Unknown(octets) => octets.0.len() as u16,
+        SvcParamValue::Mandatory(keys) => keys_size(keys.0.as_slice()),
+        SvcParamValue::Alpn(names) => names_size(names.0.as_slice()),
+        SvcParamValue::NoDefaultAlpn => Some(0),
+        SvcParamValue::Port(_) => Some(2),
+        SvcParamValue::Ipv4Hint(addresses) => hints_size(addresses.0.as_slice()),
+        SvcParamValue::EchConfigList(octets) => octets_size(octets.0.as_slice()),
+        SvcParamValue::Ipv6Hint(addresses) => hints_size(addresses.0.as_slice()),
+        SvcParamValue::DohPath(path) => octets_size(path.0.as_slice()),
+        SvcParamValue::Unknown(octets) => octets_size(octets.0.as_slice()),
     }
-}
-
-// The octets of a key.
-#[tactic(auto, unfolding(dns_fields::specs::Fields::field_octets))]
-fn put_key<'a>(key: &'a SvcParamKey, head: &mut Head) -> Tail<'a>
-    requires { head.old ≡ [] }
-    ensures { head.new ++ result ≡ bytes_high_first 2 (key_number key.now) }
-{
-    head.two(u16::from(*key));
-    Tail::none()
 }
 
 // The key of this number.
@@ -71,11 +74,11 @@ fn key_item<'a>(keys: &'a [SvcParamKey], item: usize, head: &mut Head) -> Option
     ensures item { GivesItem (map (bytes_high_first 2) (map key_number keys.now)) item head.new result }
     ensures room { IfSome result (λ _. item + 2 < 2 ^ 64) }
 {
-    if item < keys.len() {
-        Some(put_key(&keys[item], head))
-    } else {
-        None
+    if item >= keys.len() {
+        return None;
     }
+    head.two(u16::from(keys[item]));
+    Some(Tail::none())
 }
 
 // The name of this number.
@@ -95,16 +98,21 @@ fn name_item<'a>(names: &'a [SmallOctets<16>], item: usize, head: &mut Head) -> 
 
 // The address of this number.
 #[tactic(auto, using(crate::proofs::PieceSteps::item_gives))]
-fn hint_item<'a, T: Address>(addresses: &'a [T], item: usize, head: &mut Head) -> Option<Tail<'a>>
+fn hint_item<'a, const N: usize, T: Address<N>>(
+    addresses: &'a [T],
+    item: usize,
+    head: &mut Head,
+) -> Option<Tail<'a>>
     requires empty { head.old ≡ [] }
+    requires some { (0 < N) × (N ≤ 16) }
     ensures item { GivesItem (map T.octets addresses.now) item head.new result }
     ensures room { IfSome result (λ _. item < length addresses.now) }
 {
-    if item < addresses.len() {
-        Some(addresses[item].put(head))
-    } else {
-        None
+    if item >= addresses.len() {
+        return None;
     }
+    head.octets(&addresses[item].to_octets());
+    Some(Tail::none())
 }
 
 // The item of this number in a value.
@@ -141,25 +149,9 @@ fn put_front<'a>(value: &'a SvcParamValue, head: &mut Head) -> Tail<'a>
     }
 }
 
-// The key of a parameter, the length of its value and what stands of that in one piece.
-#[tactic(auto, unfolding(dns_fields::specs::Fields::field_octets))]
-fn pair_head<'a>(pair: &'a (SvcParamKey, SvcParamValue), head: &mut Head) -> Tail<'a>
-    requires empty { head.old ≡ [] }
-    requires fits { fits_value (value_of pair.now.1) ≡ true }
-    ensures { head.new ++ result ≡ parameter_head pair.now ++ value_front (value_of pair.now.1) }
-{
-    head.two(u16::from(pair.0));
-    head.two(value_len(&pair.1));
-    put_front(&pair.1, head)
-}
-
-// The head of the parameter of this number.
-#[tactic(auto, using(crate::proofs::PieceSteps::fits_at))]
-fn head_step<'a>(
-    parameters: &'a [(SvcParamKey, SvcParamValue)],
-    part: usize,
-    head: &mut Head,
-) -> Option<Step<'a>>
+// The head of the parameter of this number: its key, the length of its value and what stands of that in one piece.
+#[tactic(auto, using(crate::proofs::PieceSteps::fits_at, crate::proofs::PieceSteps::head_given), unfolding(dns_fields::specs::Fields::field_octets))]
+fn head_step<'a>(parameters: &'a [Parameter], part: usize, head: &mut Head) -> Option<Step<'a>>
     requires empty { head.old ≡ [] }
     requires emittable { are_emittable parameters.now }
     ensures { GivesPiece parameters.now part 0 head.new result }
@@ -167,43 +159,23 @@ fn head_step<'a>(
     if part >= parameters.len() {
         return None;
     }
+    let (key, value) = &parameters[part];
+    let size = value_size(value)?;
+    head.two(u16::from(*key));
+    head.two(size);
     Some(Step {
-        tail: pair_head(&parameters[part], head),
+        tail: put_front(value, head),
         step: 1,
         part,
         item: 1,
     })
 }
 
-// An item of the parameter of this number, or the head of the next one.
-#[tactic(auto, using(crate::proofs::PieceSteps::past_items))]
-fn item_step<'a>(
-    parameters: &'a [(SvcParamKey, SvcParamValue)],
-    part: usize,
-    item: usize,
-    head: &mut Head,
-) -> Option<Step<'a>>
-    requires empty { head.old ≡ [] }
-    requires emittable { are_emittable parameters.now }
-    ensures { GivesPiece parameters.now part (item + 1) head.new result }
-{
-    if part >= parameters.len() {
-        return None;
-    }
-    match put_item(&parameters[part].1, item, head) {
-        Some(tail) => Some(Step {
-            tail,
-            step: 1,
-            part,
-            item: item + 2,
-        }),
-        None => head_step(parameters, part + 1, head),
-    }
-}
-
-// What comes next of the parameters.
+// What comes next of the parameters: the head of the one of this number, an item of it, or behind its last item the head of
+// the next one.
+#[tactic(auto, using(crate::proofs::PieceSteps::emittable_at, crate::proofs::PieceSteps::past_items))]
 fn parameter_step<'a>(
-    parameters: &'a [(SvcParamKey, SvcParamValue)],
+    parameters: &'a [Parameter],
     part: usize,
     item: usize,
     head: &mut Head,
@@ -213,9 +185,19 @@ fn parameter_step<'a>(
     ensures { GivesPiece parameters.now part item head.new result }
 {
     if item == 0 {
-        head_step(parameters, part, head)
-    } else {
-        item_step(parameters, part, item - 1, head)
+        return head_step(parameters, part, head);
+    }
+    if part >= parameters.len() {
+        return None;
+    }
+    match put_item(&parameters[part].1, item - 1, head) {
+        Some(tail) => Some(Step {
+            tail,
+            step: 1,
+            part,
+            item: item + 1,
+        }),
+        None => head_step(parameters, part + 1, head),
     }
 }
 
@@ -258,84 +240,32 @@ pub fn https_step<'a>(
     svcb_step(&x.0, step, part, item, head)
 }
 
-// Whether there are keys, of at most 65535 octets.
-#[tactic(auto, using(crate::proofs::PieceSteps::keys_then))]
-fn keys_fit(keys: &[SvcParamKey]) -> bool
-    ensures { result ≡ fits_value (MandatoryKeys (map key_number keys.now)) }
-{
-    keys.len() != 0 && keys.len() <= 32767
-}
-
-// Whether there are names, each of at most 255 octets and all of at most 65535 with their lengths.
-fn names_fit(names: &[SmallOctets<16>]) -> bool
-    ensures { result ≡ fits_value (Names names.now) }
-{
-    let mut size = 0;
-    for name in names {
-        let len = name.len();
-        if len > 255 {
-            return false;
-        }
-        size += 1 + len;
-        if size > 65535 {
-            return false;
-        }
-    }
-    size != 0
-}
-
-// Whether a value can be emitted.
-fn value_fits(value: &SvcParamValue) -> bool
-    ensures { result ≡ fits_value (value_of value.now) }
-{
-    match value {
-        SvcParamValue::Mandatory(keys) => keys_fit(keys.0.as_slice()),
-        SvcParamValue::Alpn(names) => names_fit(names.0.as_slice()),
-        SvcParamValue::NoDefaultAlpn => true,
-        SvcParamValue::Port(_) => true,
-        SvcParamValue::Ipv4Hint(addresses) => hints_fit(addresses.0.as_slice()),
-        SvcParamValue::EchConfigList(octets) => octets.0.len() <= 65535,
-        SvcParamValue::Ipv6Hint(addresses) => hints_fit(addresses.0.as_slice()),
-        SvcParamValue::DohPath(path) => path.0.len() <= 65535,
-        SvcParamValue::Unknown(octets) => octets.0.len() <= 65535,
-    }
-}
-
 // Whether each value can be emitted.
-fn values_fit(parameters: &[(SvcParamKey, SvcParamValue)]) -> bool
+fn values_fit(parameters: &[Parameter]) -> bool
     ensures { result ≡ each_fits parameters.now }
 {
     for (_, value) in parameters {
-        if !value_fits(value) {
+        if value_size(value).is_none() {
             return false;
         }
-    }
-    true
-}
-
-// Whether the numbers of the keys rise behind this one.
-fn keys_rise_behind(last: u16, parameters: &[(SvcParamKey, SvcParamValue)]) -> bool
-    ensures { result ≡ rising_behind last (map parameter_of parameters.now) }
-{
-    let mut before = last;
-    for (key, _) in parameters {
-        let number = u16::from(*key);
-        if number <= before {
-            return false;
-        }
-        before = number;
     }
     true
 }
 
 // Whether the numbers of the keys rise.
-fn keys_rise(parameters: &[(SvcParamKey, SvcParamValue)]) -> bool
+#[tactic(auto, using(crate::proofs::ParameterLists::goes_on, crate::proofs::ParameterLists::ends_there))]
+fn keys_rise(parameters: &[Parameter]) -> bool
     ensures { result ≡ rising (map parameter_of parameters.now) }
 {
-    if parameters.len() == 0 {
-        return true;
+    let mut last = None;
+    for (key, _) in parameters {
+        let number = u16::from(*key);
+        if !is_above(last, number) {
+            return false;
+        }
+        last = Some(number);
     }
-    keys_rise_behind(u16::from(parameters[0].0), &parameters[1..])
+    true
 }
 
 /// Whether the keys rise, and each value can be emitted: there are keys and protocols where these are the value, no

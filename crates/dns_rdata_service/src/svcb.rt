@@ -1,19 +1,16 @@
 //! SVCB: how a service is reached (RFC 9460).
 
-ghost use Rattle.std.specs.Prelude.{◌≡◌, ◌≤◌, length, IfOk};
-ghost use Rattle.std.specs.{Option.option_copied, Ordering.nat_cmp, Cmp.Lexicographic.pointwise};
-ghost use Rattle.std.specs.List.Sorted.{IsPermutation, IsNonDecreasingBy, IsStableByKey};
+ghost use Rattle.std.specs.{List.Sorted.IsPermutation, List.Sorted.IsNonDecreasingBy, List.Sorted.IsStableByKey, Cmp.Lexicographic.pointwise};
+ghost use Rattle.std.specs.{Prelude.◌≡◌, Prelude.◌≤◌, Prelude.length, Prelude.IfOk, Option.option_copied, Ordering.nat_cmp};
 ghost use Rattle.dns_names_wire.specs.Facts.{same, same_equiv, same_partial};
-ghost use Rattle.dns_rdata_service.specs.{OwnKeys.value_eq, OwnKeys.parameter_eq, SvcParamKey.key_number};
 ghost use Rattle.dns_rdata_service.specs.SVCB.{svcb_facts, svcb_key_shape, svcb_keys, number_of_parameter, value_at};
+ghost use Rattle.dns_rdata_service.specs.{OwnKeys.value_eq, OwnKeys.parameter_eq, SvcParamKey.key_number};
 
 mod alpn;
 mod doh_path;
 mod ech_config_list;
 mod ip_hint;
-mod item;
 mod key;
-mod key_text;
 mod mandatory;
 mod parameter_word;
 mod parameters;
@@ -32,11 +29,15 @@ pub use ip_hint::IpHint;
 pub use key::SvcParamKey;
 pub use mandatory::Mandatory;
 pub(crate) use parameter_word::parameter_of;
+pub(crate) use parameters::is_above;
 use std::alloc::AllocError;
 use std::hash::{Hash, Hasher};
 use std::{fmt, mem};
 pub use unknown::Unknown;
 pub use value::SvcParamValue;
+
+// A key and its value.
+pub(crate) type Parameter = (SvcParamKey, SvcParamValue);
 
 /// How a service is reached (RFC 9460, 2.2): a priority in two octets, the name of a target, and then parameters to the
 /// end of the record's length, each a key and a length of two octets and so many octets, with keys that strictly rise.
@@ -82,7 +83,13 @@ impl SVCB {
     pub fn get(&self, key: SvcParamKey) -> Option<&SvcParamValue>
         ensures { option_copied result ≡ value_at (key_number key) self.now.svc_params }
     {
-        parameters::value_of_number(self.svc_params.as_slice(), key.number())
+        let number = key.number();
+        for (other, value) in self.svc_params.as_slice() {
+            if other.number() == number {
+                return Some(value);
+            }
+        }
+        None
     }
 
     /// Sorts the parameters by the numbers of their keys, as they are to stand in a message (RFC 9460, 2.2). Takes no
@@ -177,7 +184,7 @@ fn same_value(a: &SvcParamValue, b: &SvcParamValue) -> bool
 
 // Whether the parameters are equal, one by one.
 #[inline]
-fn same_parameters(a: &[(SvcParamKey, SvcParamValue)], b: &[(SvcParamKey, SvcParamValue)]) -> bool
+fn same_parameters(a: &[Parameter], b: &[Parameter]) -> bool
     ensures { result ≡ pointwise parameter_eq a.now b.now }
 {
     if a.len() != b.len() {

@@ -1,14 +1,13 @@
 //! Records read from words (RFC 9460, 2.1).
 
-ghost use Rattle.std.specs.Prelude.{map, IfOk};
-ghost use Rattle.std.specs.Iterator.{IsFinite};
+ghost use Rattle.std.specs.{Prelude.map, Prelude.IfOk, Iterator.IsFinite};
 ghost use Rattle.dns_words.specs.Reads.{ReadsRow, TookWords};
-ghost use Rattle.dns_rdata_service.specs.{HTTPS.https_fields, Parameters.parameter_of, SVCB.svcb_fields};
 ghost use Rattle.dns_rdata_service.specs.WordRows.{these_parameters, parameter_words, svcb_words, AreWordsOf};
+ghost use Rattle.dns_rdata_service.specs.{Parameters.parameter_of, HTTPS.https_fields, SVCB.svcb_fields};
 
 use crate::https::HTTPS;
 use crate::items::Items;
-use crate::svcb::{SVCB, SvcParamKey, SvcParamValue, parameter_of};
+use crate::svcb::{Parameter, SVCB, parameter_of};
 use dns_names_wire::ParseError;
 use dns_words::{Field, next_name, next_u16, number_field};
 use std::alloc::Global;
@@ -17,11 +16,11 @@ use std::convert::AsStr;
 const SVC_PRIORITY: Field = number_field!("SvcPriority");
 
 // The parameters of all further words.
-#[tactic(auto, using(crate::proofs::WordParameters::parameters_took))]
+#[tactic(auto, using(crate::proofs::ItemLists::parameters_took))]
 fn all_parameters<S: AsStr + Drop, I: Iterator<Item = S>>(
     alloc: Global,
     words: I,
-) -> Result<Items<(SvcParamKey, SvcParamValue)>, ParseError>
+) -> Result<Items<Parameter>, ParseError>
     requires can { I.can_next words }
     requires ends { IsFinite (I.remaining words) }
     ensures reads { ReadsRow I.next_gives S.text parameter_words (λ ps. (map parameter_of ps, tt)) result words }
@@ -83,9 +82,6 @@ impl HTTPS {
         ensures reads { ReadsRow I.next_gives S.text svcb_words https_fields result tokens }
         ensures own { IfOk result (λ x. AreWordsOf I.next_gives S.text x.0 tokens) }
     {
-        match SVCB::from_tokens(alloc, tokens) {
-            Ok(svcb) => Ok(HTTPS(svcb)),
-            Err(e) => Err(e),
-        }
+        Ok(HTTPS(SVCB::from_tokens(alloc, tokens)?))
     }
 }

@@ -41,7 +41,7 @@ impl BinDecodable for Alpn {
     /// octets. None are refused by [`SvcParamMissingValue`](DecodeError::SvcParamMissingValue), a name that lacks
     /// octets by [`InsufficientBytes`](DecodeError::InsufficientBytes), and one that is not UTF-8 by
     /// [`Utf8`](DecodeError::Utf8).
-    #[tactic(auto, using(crate::proofs::EachReads::each_more, crate::proofs::ValueReads::names_read, crate::proofs::ValueReads::names_missing, crate::proofs::ValueReads::text_behind))]
+    #[tactic(auto, using(crate::proofs::ValueReads::each_more, crate::proofs::ValueReads::names_read, crate::proofs::ValueReads::names_missing, crate::proofs::ValueReads::text_behind))]
     fn read(decoder: &mut BinDecoder<'_>) -> Result<Alpn, DecodeError>
         ensures reads { ReadsBy AlpnAt result decoder.old decoder.new }
         ensures refused { IfErr result (λ e. IsValueRefusal Names (drop decoder.old.index decoder.old.message) e) }
@@ -67,10 +67,7 @@ impl BinDecodable for Alpn {
 pub(super) fn is_text(octets: &[u8]) -> bool
     ensures { IsTrue result ↔ IsUtf8 octets.now }
 {
-    match str::from_utf8(octets) {
-        Ok(_) => true,
-        Err(_) => false,
-    }
+    str::from_utf8(octets).is_ok()
 }
 
 // How many strings begin in the octets. Where strings fill the octets, this is their number.

@@ -1,7 +1,6 @@
 //! The path of DNS queries over HTTPS.
 
-ghost use Rattle.std.specs.Prelude.{◌≡◌, drop, IfErr, IfOk};
-ghost use Rattle.std.specs.String.{string_bytes};
+ghost use Rattle.std.specs.{Prelude.◌≡◌, Prelude.drop, Prelude.IfErr, Prelude.IfOk, String.string_bytes};
 ghost use Rattle.dns_names_wire.specs.Words.{ReadsBy};
 ghost use Rattle.dns_rdata_service.specs.SvcParamValue.{doh_path_value, DohPathAt, IsPathRefusal, EmitsValue};
 

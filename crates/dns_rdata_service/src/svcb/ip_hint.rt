@@ -1,7 +1,6 @@
 //! Addresses of a service.
 
-ghost use Rattle.std.specs.Prelude.{◌≡◌, ◌⊎◌, ◌∷◌, IfOk, IfErr};
-ghost use Rattle.std.specs.List.{AllZip};
+ghost use Rattle.std.specs.{Prelude.◌≡◌, Prelude.◌⊎◌, Prelude.◌∷◌, Prelude.IfOk, Prelude.IfErr, List.AllZip};
 ghost use Rattle.dns_names_wire.specs.Words.{Extends};
 ghost use Rattle.dns_rdata_service.specs.Hints.{ReadsEach, RefusedBehind, EmitsEach};
 
@@ -29,7 +28,7 @@ impl<T: TakesOctet + Drop> IpHint<T> {
     /// Reads addresses to the message's end. Where each has as many octets as the first, it asks for memory once beside
     /// what an address asks for itself. Where one is refused, so are all, by the same error; where memory runs out, by
     /// [`Memory`](DecodeError::Memory).
-    #[tactic(auto, using(crate::proofs::EachReads::each_more))]
+    #[tactic(auto, using(crate::proofs::ValueReads::each_more))]
     pub fn read(decoder: &mut BinDecoder<'_>) -> Result<IpHint<T>, DecodeError>
         ensures reads { ReadsEach T.stands (λ x. x.0) result decoder.old decoder.new }
         ensures refused { IfErr result (λ e. (e ≡ DecodeError.Memory) ⊎ RefusedBehind T.stands T.refuses decoder.old e decoder.new) }

@@ -1,19 +1,19 @@
 //! The keys of service parameters (RFC 9460, 14.3.2; RFC 9461, 5).
 
-ghost use Rattle.std.specs.Prelude.{◌≡◌, ◌++◌, refl, IfErr, OnErr};
-ghost use Rattle.std.specs.{Cmp.partial_equiv_from_equiv, Cmp.partial_order_from_agreeing_total, Cmp.Rules.hashing, Ordering.as_partial_cmp};
+ghost use Rattle.std.specs.Prelude.{◌≡◌, ◌≢◌, ℕ, refl, IfErr, MatchOption, OnErr};
 ghost use Rattle.std.specs.Hash as fed;
-ghost use Rattle.std.proofs.Common.{rules};
-ghost use Rattle.dns_rdata_base.specs.Numbered.{NumberedAt, numbered_eq, numbered_cmp};
-ghost use Rattle.dns_rdata_base.proofs.NumberedLaws.{numbered_equiv, numbered_total, numbered_ties};
+ghost use Rattle.dns_rdata_base.specs.Numbered.{NumberedAt, numbered_eq, numbered_cmp, numbered_partial_cmp, numbered_hash};
+ghost use Rattle.dns_rdata_base.proofs.NumberedLaws.{numbered_equiv, numbered_partial, numbered_total, numbered_order, numbered_ties, numbered_alike};
 ghost use Rattle.dns_fields.specs.Fields.{Number};
 ghost use Rattle.dns_names_wire.specs.Words.{ReadsBy, EmitsField, LacksOctets, IsCut};
-ghost use Rattle.dns_rdata_service.specs.SvcParamKey.{key_number, key_variant, key_of};
+ghost use Rattle.dns_types.specs.declared.error.ProtoError.TheVariants as proto;
+ghost use Rattle.dns_rdata_service.specs.{SvcParamKey.key_number, SvcParamKey.key_variant, SvcParamKey.key_of, ParameterWords.IsNumberedKey};
 
 use dns_names_wire::{BinDecodable, BinDecoder, BinEncodable, BinEncoder, DecodeError, ProtoError};
 use std::cmp::Ordering;
 use std::fmt;
 use std::hash::{Hash, Hasher};
+use std::str::FromStr;
 
 /// The key of a service parameter (RFC 9460, 14.3.2). Keys are ordered by number, and then as declared here.
 #[derive(Clone, Copy, Debug)]
@@ -118,7 +118,7 @@ impl SvcParamKey {
 impl PartialEq for SvcParamKey {
     ghost eq = { numbered_eq key_number key_variant };
 
-    ghost laws = { partial_equiv_from_equiv (numbered_equiv key_number key_variant) };
+    ghost laws = { numbered_partial key_number key_variant };
 
     #[inline]
     fn eq(&self, other: &SvcParamKey) -> bool {
@@ -138,9 +138,9 @@ impl Eq for SvcParamKey {
 }
 
 impl Hash for SvcParamKey {
-    ghost hash_input = { λ e. fed.u16 (key_number e) ++ fed.u8 (key_variant e) };
+    ghost hash_input = { numbered_hash fed.u16 key_number key_variant };
 
-    ghost respects_eq = { Prim.search (hashing, rules) };
+    ghost respects_eq = { numbered_alike fed.u16 key_number key_variant };
 
     #[inline]
     fn hash<H: Hasher>(&self, state: &mut H) {
@@ -150,10 +150,9 @@ impl Hash for SvcParamKey {
 }
 
 impl PartialOrd for SvcParamKey {
-    ghost partial_cmp = { as_partial_cmp (numbered_cmp key_number key_variant) };
+    ghost partial_cmp = { numbered_partial_cmp key_number key_variant };
 
-    ghost laws = { partial_order_from_agreeing_total (numbered_cmp key_number key_variant) (numbered_total key_number key_variant) (λ _ _. refl)
-        (numbered_ties key_number key_variant) };
+    ghost laws = { numbered_order key_number key_variant };
 
     #[inline]
     fn partial_cmp(&self, other: &SvcParamKey) -> Option<Ordering> {
@@ -225,6 +224,45 @@ impl fmt::Display for SvcParamKey {
             SvcParamKey::Key(number) => write!(f, "key{number}"),
             SvcParamKey::Key65535 => f.write_str("key65535"),
             SvcParamKey::Unknown(number) => write!(f, "unknown{number}"),
+        }
+    }
+}
+
+// The number behind `key`.
+fn numbered(text: &str) -> Option<u16>
+    ensures { MatchOption result ((n : ℕ) → ¬ (IsNumberedKey text.now n)) (IsNumberedKey text.now) }
+{
+    let digits = text.strip_prefix("key")?;
+    digits.parse::<u16>().ok()
+}
+
+/// `mandatory`, `alpn`, `no-default-alpn`, `port`, `ipv4hint`, `ech`, `ipv6hint`, `dohpath`, `key65535`, or `key`,
+/// perhaps a `+`, and one decimal digit or more of a number of 16 bits, which gives `Key` of that number, also where it
+/// has a key of its own. Any other text is refused by `Message`. Takes no memory, so nothing is refused for want of it.
+impl FromStr for SvcParamKey {
+    type Err = ProtoError;
+
+    ghost use Rattle.std.specs.Net.Grammar.{Parses};
+    ghost use Rattle.dns_rdata_service.specs.ParameterWords.{IsKeyText};
+
+    ghost from_str_gives = { λ text r. Parses IsKeyText text r × IfErr r (λ e. e ≢ proto.Memory) };
+
+    #[tactic(auto, using(crate::proofs::ParameterWords::no_key, crate::proofs::ParameterWords::not_memory), unfolding(crate::specs::SvcParamKey::key_text))]
+    fn from_str(text: &str) -> Result<SvcParamKey, ProtoError> {
+        match text {
+            "mandatory" => Ok(SvcParamKey::Mandatory),
+            "alpn" => Ok(SvcParamKey::Alpn),
+            "no-default-alpn" => Ok(SvcParamKey::NoDefaultAlpn),
+            "port" => Ok(SvcParamKey::Port),
+            "ipv4hint" => Ok(SvcParamKey::Ipv4Hint),
+            "ech" => Ok(SvcParamKey::EchConfigList),
+            "ipv6hint" => Ok(SvcParamKey::Ipv6Hint),
+            "dohpath" => Ok(SvcParamKey::DohPath),
+            "key65535" => Ok(SvcParamKey::Key65535),
+            _ => match numbered(text) {
+                Some(number) => Ok(SvcParamKey::Key(number)),
+                None => Err(ProtoError::Message("no key of a service parameter")),
+            },
         }
     }
 }

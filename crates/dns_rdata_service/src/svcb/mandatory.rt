@@ -34,7 +34,7 @@ impl BinDecodable for Mandatory {
     /// Reads keys to the message's end, by one request for memory. None are refused by
     /// [`SvcParamMissingValue`](DecodeError::SvcParamMissingValue), and an odd octet by
     /// [`InsufficientBytes`](DecodeError::InsufficientBytes).
-    #[tactic(auto, using(crate::proofs::EachReads::each_more, crate::proofs::ValueReads::keys_read, crate::proofs::ValueReads::keys_odd, crate::proofs::ValueReads::keys_refused, crate::proofs::ValueReads::keys_missing, crate::proofs::Splits::stays_then))]
+    #[tactic(auto, using(crate::proofs::ValueReads::each_more, crate::proofs::ValueReads::keys_read, crate::proofs::ValueReads::keys_odd, crate::proofs::ValueReads::keys_refused, crate::proofs::ValueReads::keys_missing, crate::proofs::Splits::stays_then))]
     fn read(decoder: &mut BinDecoder<'_>) -> Result<Mandatory, DecodeError>
         ensures reads { ReadsBy MandatoryAt result decoder.old decoder.new }
         ensures refused { IfErr result (λ e. IsValueRefusal Keys (drop decoder.old.index decoder.old.message) e) }
@@ -54,7 +54,7 @@ impl BinEncodable for Mandatory {
     ghost emits = { λ x r old new. EmitsValue (mandatory_value x) r old new };
 
     /// Appends the keys' numbers. None are refused by [`Message`](ProtoError::Message).
-    #[tactic(auto, using(crate::proofs::ValueEmits::keys_emit))]
+    #[tactic(auto, using(crate::proofs::EachEmits::keys_emit))]
     fn emit(&self, encoder: &mut BinEncoder<'_>) -> Result<(), ProtoError> {
         if self.0.len() == 0 {
             return Err(ProtoError::Message("no mandatory keys"));

@@ -2,37 +2,31 @@
 
 ghost use Rattle.std.specs.Prelude.{◌≡◌, ◌≢◌, ◌∷◌, ℕ, [], List, IfErr, IfNone, IfOk, IfSome, IsUtf8};
 ghost use Rattle.dns_types.specs.declared.error.ParseError.TheVariants as parse;
-ghost use Rattle.dns_rdata_service.specs.{declared.svcb.value.SvcParamValue.SvcParamValue as Value, Parameters.Parameter, KeyTexts.IsKeyText};
-ghost use Rattle.dns_rdata_service.specs.ParameterWords.{IsValueAlone, IsValueText, IsUnquoted, HasValue, IsParameterWord};
+ghost use Rattle.dns_rdata_service.specs.{declared.svcb.value.SvcParamValue.SvcParamValue as Value, Parameters.Parameter, ParameterWords.IsKeyText};
+ghost use Rattle.dns_rdata_service.specs.ParameterWords.{ItemOf, ListOf, IsValueAlone, IsValueText, IsUnquoted, HasValue, IsParameterWord};
 
 use crate::items::Items;
+use crate::svcb::Parameter;
 use crate::svcb::alpn::Alpn;
 use crate::svcb::doh_path::DohPath;
 use crate::svcb::ech_config_list::EchConfigList;
 use crate::svcb::ip_hint::IpHint;
-use crate::svcb::item::{item_of, items_of};
 use crate::svcb::key::SvcParamKey;
 use crate::svcb::mandatory::Mandatory;
 use crate::svcb::unknown::Unknown;
 use crate::svcb::value::SvcParamValue;
+use base64::DecodeAllocError;
+use base64::engine::general_purpose::STANDARD;
 use dns_names_wire::{Octets, ParseError, SmallOctets};
 use dns_rdata_base::{A, AAAA};
+use dns_text::{next_piece, read_item};
 use std::alloc::Global;
 
-/// The parameter of a word: a key, and perhaps a `=` and a value. The first `=` divides them.
-///
-/// The key is a text of [`SvcParamKey`]. Quotes round the value are dropped; one quote alone is refused. What is left
-/// is, for `mandatory`, `alpn`, `ipv4hint` and `ipv6hint`, a list of keys, names and addresses: a `\` is dropped and
-/// the next character kept, any other comma ends an item, and what is left at the end is one more; and of each the
-/// first token, which must be a word. For `port`, `ech` and `dohpath` it is one such item, a decimal number of 16 bits,
-/// base64 (RFC 4648, 4) or the path. `no-default-alpn` has no value, and no `=`. For a `key` with a number it is the
-/// value's octets; without a `=` there are none. Every other word is refused, `key65535` too: by `Proto` where there is
-/// no such key, by `AddrParse` where an item is no address, and else by `Message`. Takes memory for what the value
-/// holds, and where a piece of a list or an item has a `\`.
-pub(crate) fn parameter_of(
-    alloc: Global,
-    word: &str,
-) -> Result<(SvcParamKey, SvcParamValue), ParseError>
+// The parameter of a word, as `SVCB::from_tokens` says. In a list a `\` is dropped and the next character kept, any other
+// comma ends an item, and what is left at the end is one more; and of each item the first token, which must be a word. For
+// `port`, `ech` and `dohpath` it is one such item. Takes memory for what the value holds, and where a piece of a list or an
+// item has a `\`.
+pub(crate) fn parameter_of(alloc: Global, word: &str) -> Result<Parameter, ParseError>
     ensures ok { IfOk result (IsParameterWord word.now) }
     ensures refused { IfErr result (λ e. e ≢ parse.Memory → (p : Parameter) → IsParameterWord word.now p → ⊥) }
 {
@@ -43,21 +37,16 @@ pub(crate) fn parameter_of(
 }
 
 // The parameter of a key alone.
-fn alone(alloc: Global, word: &str) -> Result<(SvcParamKey, SvcParamValue), ParseError>
+fn alone(alloc: Global, word: &str) -> Result<Parameter, ParseError>
     ensures ok { IfOk result (λ p. IsKeyText word.now p.0 × IsValueAlone p.0 p.1) }
     ensures refused { IfErr result (λ e. e ≢ parse.Memory → (p : Parameter) → IsKeyText word.now p.0 × IsValueAlone p.0 p.1 → ⊥) }
 {
     let key = word.parse::<SvcParamKey>()?;
-    let value = value_alone(alloc, key)?;
-    Ok((key, value))
+    Ok((key, value_alone(alloc, key)?))
 }
 
 // The parameter of a key and what stands behind `=`.
-fn with_value(
-    alloc: Global,
-    key: &str,
-    value: &str,
-) -> Result<(SvcParamKey, SvcParamValue), ParseError>
+fn with_value(alloc: Global, key: &str, value: &str) -> Result<Parameter, ParseError>
     ensures ok { IfOk result (λ p. IsKeyText key.now p.0 × HasValue value.now p) }
     ensures refused { IfErr result (λ e. e ≢ parse.Memory → (p : Parameter) → IsKeyText key.now p.0 × HasValue value.now p → ⊥) }
 {
@@ -65,8 +54,7 @@ fn with_value(
         return Err(ParseError::Message("one quote alone as the value of a parameter"));
     };
     let key = key.parse::<SvcParamKey>()?;
-    let value = value_of(alloc, key, text)?;
-    Ok((key, value))
+    Ok((key, value_of(alloc, key, text)?))
 }
 
 // What stands between quotes, or the whole text where it has none round it. A text with one quote alone is refused.
@@ -116,31 +104,13 @@ fn value_of(alloc: Global, key: SvcParamKey, text: &str) -> Result<SvcParamValue
     ensures refused { IfErr result (λ e. e ≢ parse.Memory → (v : Value) → IsValueText key text.now v → ⊥) }
 {
     match key {
-        SvcParamKey::Mandatory => {
-            let keys = items_of::<SvcParamKey>(alloc, text)?;
-            Ok(SvcParamValue::Mandatory(Mandatory(Items::from_vec(keys))))
-        }
-        SvcParamKey::Alpn => {
-            let names = items_of::<SmallOctets<16>>(alloc, text)?;
-            Ok(SvcParamValue::Alpn(Alpn(Items::from_vec(names))))
-        }
-        SvcParamKey::Port => Ok(SvcParamValue::Port(item_of::<u16>(alloc, text)?)),
-        SvcParamKey::Ipv4Hint => {
-            let addresses = items_of::<A>(alloc, text)?;
-            Ok(SvcParamValue::Ipv4Hint(IpHint(Items::from_vec(addresses))))
-        }
-        SvcParamKey::EchConfigList => {
-            let config = item_of::<EchConfigList>(alloc, text)?;
-            Ok(SvcParamValue::EchConfigList(config))
-        }
-        SvcParamKey::Ipv6Hint => {
-            let addresses = items_of::<AAAA>(alloc, text)?;
-            Ok(SvcParamValue::Ipv6Hint(IpHint(Items::from_vec(addresses))))
-        }
-        SvcParamKey::DohPath => {
-            let path = item_of::<SmallOctets<16>>(alloc, text)?;
-            Ok(SvcParamValue::DohPath(DohPath(path)))
-        }
+        SvcParamKey::Mandatory => Ok(SvcParamValue::Mandatory(Mandatory(items_of(alloc, text)?))),
+        SvcParamKey::Alpn => Ok(SvcParamValue::Alpn(Alpn(items_of(alloc, text)?))),
+        SvcParamKey::Port => Ok(SvcParamValue::Port(item_of(alloc, text)?)),
+        SvcParamKey::Ipv4Hint => Ok(SvcParamValue::Ipv4Hint(IpHint(items_of(alloc, text)?))),
+        SvcParamKey::EchConfigList => Ok(SvcParamValue::EchConfigList(item_of(alloc, text)?)),
+        SvcParamKey::Ipv6Hint => Ok(SvcParamValue::Ipv6Hint(IpHint(items_of(alloc, text)?))),
+        SvcParamKey::DohPath => Ok(SvcParamValue::DohPath(DohPath(item_of(alloc, text)?))),
         SvcParamKey::Key(_) => {
             let octets = Octets::from_slice(alloc, text.as_bytes())?;
             Ok(SvcParamValue::Unknown(Unknown(octets)))
@@ -152,4 +122,122 @@ fn value_of(alloc: Global, key: SvcParamKey, text: &str) -> Result<SvcParamValue
             Err(ParseError::Message("no parameter has the key key65535"))
         }
     }
+}
+
+// A value that an item is the text of.
+trait FromItem: Sized {
+    ghost is_text: { List ℕ → Self → Type 0 };
+
+    // The value of an item; refused exactly where there is none, and where memory runs out.
+    fn from_item(alloc: Global, item: &str) -> Result<Self, ParseError>
+        ensures ok { IfOk result (is_text item.now) }
+        ensures refused { IfErr result (λ e. e ≢ parse.Memory → (x : Self) → is_text item.now x → ⊥) };
+}
+
+impl FromItem for A {
+    ghost use Rattle.std.specs.Net.Grammar.{IsIpv4Text};
+
+    ghost is_text = { λ item a. IsIpv4Text item a.0 };
+
+    #[inline]
+    fn from_item(_alloc: Global, item: &str) -> Result<A, ParseError> {
+        match item.parse::<A>() {
+            Ok(address) => Ok(address),
+            Err(e) => Err(ParseError::from(e)),
+        }
+    }
+}
+
+impl FromItem for AAAA {
+    ghost use Rattle.std.specs.Net.Grammar.{IsIpv6Text};
+
+    ghost is_text = { λ item a. IsIpv6Text item a.0 };
+
+    #[inline]
+    fn from_item(_alloc: Global, item: &str) -> Result<AAAA, ParseError> {
+        match item.parse::<AAAA>() {
+            Ok(address) => Ok(address),
+            Err(e) => Err(ParseError::from(e)),
+        }
+    }
+}
+
+impl FromItem for SvcParamKey {
+    ghost use Rattle.dns_rdata_service.specs.ParameterWords.{IsKeyText};
+
+    ghost is_text = { IsKeyText };
+
+    #[inline]
+    fn from_item(_alloc: Global, item: &str) -> Result<SvcParamKey, ParseError> {
+        Ok(item.parse::<SvcParamKey>()?)
+    }
+}
+
+impl FromItem for SmallOctets<16> {
+    ghost use Rattle.std.specs.Prelude.{◌≡◌};
+
+    ghost is_text = { λ item octets. octets ≡ item };
+
+    #[inline]
+    fn from_item(alloc: Global, item: &str) -> Result<SmallOctets<16>, ParseError> {
+        Ok(SmallOctets::from_slice(alloc, item.as_bytes())?)
+    }
+}
+
+// A number of 16 bits.
+impl FromItem for u16 {
+    ghost use Rattle.dns_words.specs.Forms.{IsNumberWord};
+
+    ghost is_text = { λ item n. IsNumberWord 16 n item };
+
+    #[inline]
+    fn from_item(_alloc: Global, item: &str) -> Result<u16, ParseError> {
+        match item.parse::<u16>() {
+            Ok(number) => Ok(number),
+            Err(_) => Err(ParseError::Message("Invalid digit found in the parameter port")),
+        }
+    }
+}
+
+// Base64 (RFC 4648, 4).
+impl FromItem for EchConfigList {
+    ghost use Rattle.std.specs.Prelude.{◌≡◌, Ok};
+    ghost use Rattle.base64.specs.{Engines.standard, GeneralPurpose.decode_of};
+
+    ghost is_text = { λ item config. decode_of standard item ≡ Ok config.0 };
+
+    #[inline]
+    fn from_item(alloc: Global, item: &str) -> Result<EchConfigList, ParseError> {
+        match STANDARD.decode(alloc, item.as_bytes()) {
+            Ok(octets) => Ok(EchConfigList(Octets::from_vec(octets))),
+            Err(DecodeAllocError::OutOfMemory) => Err(ParseError::Memory),
+            Err(DecodeAllocError::DecodeError(_)) => Err(ParseError::Message(
+                "Invalid base64 in the parameter ech",
+            )),
+        }
+    }
+}
+
+// The value of the item of a text.
+fn item_of<T: FromItem>(alloc: Global, text: &str) -> Result<T, ParseError>
+    ensures ok { IfOk result (ItemOf T.is_text text.now) }
+    ensures refused { IfErr result (λ e. e ≢ parse.Memory → (x : T) → ItemOf T.is_text text.now x → ⊥) }
+{
+    let item = read_item(alloc, text)?;
+    T::from_item(alloc, item.as_str())
+}
+
+// The values of the items of a list. Memory is asked for the list beside what the values and pieces with a `\` need.
+#[tactic(auto, using(crate::proofs::ItemLists::so_far_more))]
+fn items_of<T: FromItem + Drop>(alloc: Global, text: &str) -> Result<Items<T>, ParseError>
+    ensures ok { IfOk result (ListOf T.is_text text.now) }
+    ensures refused { IfErr result (λ e. e ≢ parse.Memory → (xs : List T) → ListOf T.is_text text.now xs → ⊥) }
+{
+    let mut values = Items::new(alloc);
+    let mut rest = text;
+    'pieces: while let Some((piece, more)) = next_piece(alloc, rest)? {
+        values.push(item_of(alloc, piece.as_str())?)?;
+        rest = more;
+    }
+    Ok(values)
 }

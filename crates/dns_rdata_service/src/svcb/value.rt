@@ -2,9 +2,8 @@
 
 ghost use Rattle.std.specs.Prelude.{◌≡◌, IfErr, IfOk, length};
 ghost use Rattle.dns_fields.specs.Pieces.{form_for, IsEmittable, IsBody, Addresses4, Addresses16};
-ghost use Rattle.dns_rdata_service.specs.SvcParamKey.{key_number, key_of};
 ghost use Rattle.dns_rdata_service.specs.SvcParamValue.{value_of, hint4_value, hint6_value, IsValueOf, IsKeyRefusal, IsValueRefusal, EmitsValue};
-ghost use Rattle.dns_rdata_service.specs.SvcParamValue.{EmitsSized};
+ghost use Rattle.dns_rdata_service.specs.{SvcParamKey.key_number, SvcParamKey.key_of, SvcParamValue.EmitsSized};
 
 use crate::svcb::alpn::Alpn;
 use crate::svcb::doh_path::DohPath;
@@ -44,7 +43,7 @@ pub enum SvcParamValue {
 
 impl SvcParamValue {
     // The value of this key in these octets.
-    #[tactic(auto, using(crate::proofs::Given::hint4_back, crate::proofs::Given::hint6_back))]
+    #[tactic(auto, using(crate::proofs::SvcbValues::hint4_back, crate::proofs::SvcbValues::hint6_back))]
     pub(super) fn of_octets(
         alloc: Global,
         key: SvcParamKey,
@@ -56,18 +55,24 @@ impl SvcParamValue {
     {
         let mut decoder = BinDecoder::new(alloc, octets);
         match key {
-            SvcParamKey::Mandatory => {
-                Ok(SvcParamValue::Mandatory(Mandatory::read(&mut decoder)?))
+            SvcParamKey::Mandatory => Ok(Self::Mandatory(Mandatory::read(&mut decoder)?)),
+            SvcParamKey::Alpn => Ok(Self::Alpn(Alpn::read(&mut decoder)?)),
+            SvcParamKey::NoDefaultAlpn => {
+                if octets.len() != 0 {
+                    return Err(DecodeError::IncorrectRDataLengthRead {
+                        read: octets.len(),
+                        len: 0,
+                    });
+                }
+                Ok(Self::NoDefaultAlpn)
             }
-            SvcParamKey::Alpn => Ok(SvcParamValue::Alpn(Alpn::read(&mut decoder)?)),
-            SvcParamKey::NoDefaultAlpn => no_octets(octets),
-            SvcParamKey::Port => Ok(SvcParamValue::Port(decoder.read_u16()?.unverified())),
-            SvcParamKey::Ipv4Hint => Ok(SvcParamValue::Ipv4Hint(hint4(alloc, octets)?)),
-            SvcParamKey::EchConfigList => Ok(SvcParamValue::EchConfigList(EchConfigList::read(
+            SvcParamKey::Port => Ok(Self::Port(decoder.read_u16()?.unverified())),
+            SvcParamKey::Ipv4Hint => Ok(Self::Ipv4Hint(hint4(alloc, octets)?)),
+            SvcParamKey::EchConfigList => Ok(Self::EchConfigList(EchConfigList::read(
                 &mut decoder,
             )?)),
-            SvcParamKey::Ipv6Hint => Ok(SvcParamValue::Ipv6Hint(hint6(alloc, octets)?)),
-            SvcParamKey::DohPath => Ok(SvcParamValue::DohPath(DohPath::read(&mut decoder)?)),
+            SvcParamKey::Ipv6Hint => Ok(Self::Ipv6Hint(hint6(alloc, octets)?)),
+            SvcParamKey::DohPath => Ok(Self::DohPath(DohPath::read(&mut decoder)?)),
             SvcParamKey::Key(_) | SvcParamKey::Key65535 | SvcParamKey::Unknown(_) => {
                 Ok(SvcParamValue::Unknown(Unknown::read(&mut decoder)?))
             }
@@ -91,20 +96,6 @@ impl SvcParamValue {
             SvcParamValue::Unknown(value) => value.emit(encoder),
         }
     }
-}
-
-// The value without octets.
-fn no_octets(octets: &[u8]) -> Result<SvcParamValue, DecodeError>
-    ensures read { IfOk result (λ v. IsValueOf 2 octets.now v) }
-    ensures refused { IfErr result (λ e. IsValueRefusal (form_for 2) octets.now e) }
-{
-    if octets.len() != 0 {
-        return Err(DecodeError::IncorrectRDataLengthRead {
-            read: octets.len(),
-            len: 0,
-        });
-    }
-    Ok(SvcParamValue::NoDefaultAlpn)
 }
 
 // Addresses of four octets.
@@ -141,7 +132,7 @@ impl BinEncodable for SvcParamValue {
     /// Appends the value's length in two octets, and its octets. No keys or protocols, and a protocol of more than 255
     /// octets are refused by [`Message`](ProtoError::Message); a value of more than 65535 octets has no room in any
     /// message.
-    #[tactic(auto, using(crate::proofs::ValueEmits::place_refused, crate::proofs::ValueEmits::sized_refused))]
+    #[tactic(auto, using(crate::proofs::EachEmits::place_refused, crate::proofs::EachEmits::sized_refused))]
     fn emit(&self, encoder: &mut BinEncoder<'_>) -> Result<(), ProtoError> {
         let place = encoder.place()?;
         self.emit_octets(encoder)?;

@@ -1,11 +1,11 @@
-use Rattle.std.proofs.Common.{◌∙◌, arith}
-use Rattle.dns_rdata_service.specs.Ordering.{octets_order}
-use Rattle.dns_rdata_service.proofs.FieldOrder.{by_lengths, hints_order}
+use Rattle.std.proofs.{Common.◌∙◌, Common.map, Common.arith, lemmas.List.length-map}
+use Rattle.std.specs.{Cmp.Lexicographic.slice_cmp, Ordering.nat_cmp}
+use Rattle.dns_rdata_service.proofs.SvcbFronts.{by_lengths}
 use Rattle.dns_rdata_service.proofs.hints.hints_cmp.Goals as goal
 
 pub returns : goal.returns
 returns g c =
     c.cmp.ensures
-    ∙ by_lengths (octets_order g.T.Address.octets) c.args.a.now c.args.b.now c.loop-i.i (omega (arith, c.min-shorter.ensures)) (omega (arith, c.min-shorter.ensures))
-    (λ h k. omega (arith, c.min-shorter.ensures, c.loop-i-test.false, h, k))
-    ∙ hints_order g.T.Address.octets _ _ ∙ c.loop-i.invariant
+    ∙ by_lengths (slice_cmp nat_cmp) (map g.T.Address.octets) (λ xs. length-map xs g.T.Address.octets) c.args.a.now c.args.b.now c.loop-i.i
+    c.min-shorter.result c.min-shorter.ensures c.loop-i-test.false (omega arith)
+    ∙ c.loop-i.invariant

@@ -1,8 +1,7 @@
-use Rattle.std.proofs.Common.{◌∷◌, []}
-use Rattle.std.proofs.lemmas.List.{map-append}
+use Rattle.std.proofs.{lemmas.List.map-append, Common.◌∷◌, Common.[]}
 use Rattle.dns_words.proofs.Steps.{exit_row}
 use Rattle.dns_rdata_service.specs.ParameterWords.{IsParameterWord}
-use Rattle.dns_rdata_service.proofs.{ItemLists.zip_more, WordParameters.parameters_refused, WordParameters.these_took}
+use Rattle.dns_rdata_service.proofs.ItemLists.{zip_more, parameters_refused, these_took}
 use Rattle.dns_rdata_service.proofs.words.all_parameters.Goals as goal
 
 pub returns-in_err-parameter-clause-reads : goal.returns-in_err-parameter-clause-reads

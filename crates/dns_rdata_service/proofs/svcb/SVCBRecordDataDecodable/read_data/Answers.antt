@@ -1,6 +1,5 @@
 use Rattle.std.proofs.Common.{arith}
-use Rattle.std.proofs.lemmas.Result.{err_from_is_err_and}
-use Rattle.dns_rdata_service.proofs.HeadReads.{svcb_took, svcb_refused, svcb_passed}
+use Rattle.dns_rdata_service.proofs.{Splits.is_err, ParameterReads.svcb_took, ParameterReads.svcb_refused, ParameterReads.svcb_passed}
 use Rattle.dns_rdata_service.proofs.svcb.SVCBRecordDataDecodable.read_data.Goals as goal
 
 pub returns-then-len-read-clause-window : goal.returns-then-len-read-clause-window
@@ -10,8 +9,7 @@ returns-then-len-read-clause-window c =
 
 pub returns-in_err-svc_params-clause-window : goal.returns-in_err-svc_params-clause-window
 returns-in_err-svc_params-clause-window c =
-    let p = err_from_is_err_and c.from_residual-in_err-svc_params.result c.from_residual-in_err-svc_params.ensures.1 in
-    rw (p.1, p.2) (svcb_refused c.args.length _ c.in_ok-read_u16.ensures.taken c.in_ok-target_name.ensures.field
+    rw (is_err _ _ c.from_residual-in_err-svc_params.ensures.1) (svcb_refused c.args.length _ c.in_ok-read_u16.ensures.taken c.in_ok-target_name.ensures.field
     (omega (arith, c.index-start.ensures.place, c.index.ensures.place, c.if-len-read.false, c.unverified-len.ensures)) c.in_err-svc_params.ensures.window)
 
 pub returns-clause-window : goal.returns-clause-window

@@ -1,5 +1,4 @@
-use Rattle.std.proofs.Common.{arith}
-use Rattle.std.proofs.lemmas.Str.Pattern.{strip_prefix_char}
+use Rattle.std.proofs.{lemmas.Str.Pattern.strip_prefix_char, Common.arith}
 use Rattle.dns_rdata_service.proofs.ParameterWords.{bare}
 use Rattle.dns_rdata_service.proofs.svcb.parameter_word.unquoted.Goals as goal
 

@@ -1,5 +1,5 @@
 use Rattle.std.proofs.Common.{◌-◌, length}
-use Rattle.dns_rdata_service.proofs.{EachReads.EachOn, ValueReads.NameAt}
+use Rattle.dns_rdata_service.proofs.{ValueReads.EachOn, ValueReads.NameAt}
 use Rattle.dns_rdata_service.proofs.svcb.alpn.AlpnBinDecodable.read.Given as goal
 
 abbrev pub invariant-names : goal.invariant-names

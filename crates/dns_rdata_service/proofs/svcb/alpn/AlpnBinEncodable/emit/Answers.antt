@@ -1,21 +1,19 @@
-use Rattle.std.proofs.Common.{List, ℕ, Ok, Err, arith, subst}
-use Rattle.std.proofs.{lemmas.List.take_all, lemmas.Result.err_from_is_err_and}
+use Rattle.std.proofs.{Common.List, Common.ℕ, Common.Ok, Common.Err, Common.arith, Common.subst, lemmas.List.take_all}
 use Rattle.dns_fields.specs.Pieces.{Alpn}
 use Rattle.dns_rdata_service.specs.Hints.{EmitsEach}
-use Rattle.dns_rdata_service.proofs.EachEmits.{emits_next, emits_refused}
-use Rattle.dns_rdata_service.proofs.ValueEmits.{EmitsName, names_emit, value_extends}
+use Rattle.dns_rdata_service.proofs.EachEmits.{emits_next, emits_refused, EmitsName, names_emit, value_extends}
+use Rattle.dns_rdata_service.proofs.Splits.{is_err}
 use Rattle.dns_rdata_service.proofs.svcb.alpn.AlpnBinEncodable.emit.Goals as goal
 
 pub returns-in_err-emit_character_data : goal.returns-in_err-emit_character_data
 returns-in_err-emit_character_data c =
-    let p = err_from_is_err_and c.from_residual.result c.from_residual.ensures.1 in
     let names = c.as_slice-name-items.result.now in
     let e = c.in_err-emit_character_data.field-0.0 in
     let all = emits_refused EmitsName c.loop-name.name-index names c.name-item.result c.name-item.result e c.args.encoder.now c.loop-name.encoder
     c.emit_character_data.new.self c.name-item.is (omega arith) c.loop-name.invariant
     (rw c.as_slice.ensures.value at c.in_err-emit_character_data.ensures.emits) in
     let whole = names_emit names (Err e) _ _ (rw c.as_slice-name-items.ensures (omega arith)) all in
-    rw (p.1, p.2, ← c.as_slice-name-items.ensures) (record { emits = whole; extends = value_extends (Alpn names) (Err e) _ _ whole })
+    rw (is_err _ _ c.from_residual.ensures.1, ← c.as_slice-name-items.ensures) (record { emits = whole; extends = value_extends (Alpn names) (Err e) _ _ whole })
 
 pub loop-name-preserved : goal.loop-name-preserved
 loop-name-preserved c = emits_next EmitsName c.loop-name.name-index c.as_slice-name-items.result.now c.name-item.result c.name-item.result

@@ -1,5 +1,5 @@
 use Rattle.std.proofs.Common.{◌-◌, length}
-use Rattle.dns_rdata_service.proofs.EachReads.{EachOn}
+use Rattle.dns_rdata_service.proofs.ValueReads.{EachOn}
 use Rattle.dns_rdata_service.proofs.svcb.ip_hint.IpHint.read.Given as goal
 
 abbrev pub invariant-items : goal.invariant-items

@@ -1,5 +1,5 @@
 use Rattle.std.proofs.Common.{arith}
-use Rattle.dns_rdata_service.proofs.EachTexts.{texts_more}
+use Rattle.dns_rdata_service.proofs.EachEmits.{texts_more}
 use Rattle.dns_rdata_service.proofs.svcb.ip_hint.IpHintDisplay.fmt.Goals as goal
 
 pub loop-item-preserved : goal.loop-item-preserved

@@ -1,5 +1,5 @@
 use Rattle.std.proofs.Common.{◌-◌, length}
-use Rattle.dns_rdata_service.proofs.{EachReads.EachOn, ValueReads.KeyAt}
+use Rattle.dns_rdata_service.proofs.{ValueReads.EachOn, ValueReads.KeyAt}
 use Rattle.dns_rdata_service.proofs.svcb.mandatory.MandatoryBinDecodable.read.Given as goal
 
 abbrev pub invariant-keys : goal.invariant-keys

@@ -1,5 +1,5 @@
 use Rattle.dns_rdata_service.specs.SvcParamValue.{a_octets, aaaa_octets}
-use Rattle.dns_rdata_service.proofs.HintReads.{groups_emit}
+use Rattle.dns_rdata_service.proofs.ValueReads.{groups_emit}
 use Rattle.dns_rdata_service.proofs.svcb.value.SvcParamValue.emit_octets.Goals as goal
 
 pub returns-in-Ipv4Hint : goal.returns-in-Ipv4Hint

@@ -1,4 +1,4 @@
-use Rattle.dns_rdata_service.proofs.Given.{plain_of, plain_value}
+use Rattle.dns_rdata_service.proofs.SvcbValues.{plain_of, plain_value}
 use Rattle.dns_rdata_service.proofs.svcb.value.SvcParamValue.of_octets.Goals as goal
 
 pub returns-in_ok-read-in-Key-clause-read : goal.returns-in_ok-read-in-Key-clause-read

@@ -1,5 +1,5 @@
 use Rattle.dns_rdata_base.specs.{A.a_text, AAAA.aaaa_text}
-use Rattle.dns_rdata_service.proofs.EachTexts.{each_known}
+use Rattle.dns_rdata_service.proofs.EachEmits.{each_known}
 use Rattle.dns_rdata_service.proofs.svcb.value.SvcParamValueDisplay.fmt.Goals as goal
 
 pub returns-in-Ipv4Hint-clause-writes : goal.returns-in-Ipv4Hint-clause-writes

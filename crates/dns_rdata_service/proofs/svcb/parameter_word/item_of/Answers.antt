@@ -1,11 +1,9 @@
-use Rattle.std.proofs.lemmas.Result.{err_from_is_err_and}
-use Rattle.dns_rdata_service.proofs.ItemLists.{item_refused}
-use Rattle.dns_rdata_service.proofs.svcb.item.item_of.Goals as goal
+use Rattle.dns_rdata_service.proofs.{Splits.is_err, ItemLists.item_refused}
+use Rattle.dns_rdata_service.proofs.svcb.parameter_word.item_of.Goals as goal
 
 pub returns-in_err-item-clause-refused : goal.returns-in_err-item-clause-refused
 returns-in_err-item-clause-refused g c =
-    let p = err_from_is_err_and c.from_residual.result c.from_residual.ensures.1 in
-    rw (p.1, p.2) (λ h x o. c.in_err-item.ensures.refused h o.item o.is_item)
+    rw (is_err _ _ c.from_residual.ensures.1) (λ h x o. c.in_err-item.ensures.refused h o.item o.is_item)
 
 pub returns-clause-refused : goal.returns-clause-refused
 returns-clause-refused g c =

@@ -1,7 +1,0 @@
-use Rattle.std.proofs.Common.{◌≡◌, drop, map}
-use Rattle.dns_fields.specs.Pieces.{rising_behind}
-use Rattle.dns_rdata_service.specs.Parameters.{parameter_of}
-use Rattle.dns_rdata_service.proofs.steps.keys_rise_behind.Given as goal
-
-abbrev pub invariant-loop-key : goal.invariant-loop-key
-invariant-loop-key l = rising_behind l.before (map parameter_of (drop l.key-index l.parameters)) ≡ rising_behind l.last (map parameter_of l.parameters)

@@ -1,7 +1,0 @@
-use Rattle.std.proofs.Common.{◌≡◌, ◌+◌, length, drop}
-use Rattle.std.specs.List.{flat_map}
-use Rattle.dns_fields.specs.Pieces.{string}
-use Rattle.dns_rdata_service.proofs.steps.names_len.Given as goal
-
-abbrev pub invariant-loop-name : goal.invariant-loop-name
-invariant-loop-name l = l.size + length (flat_map string (drop l.name-index l.names)) ≡ length (flat_map string l.names)
