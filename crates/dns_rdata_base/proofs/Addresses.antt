@@ -1,5 +1,5 @@
 -- Addresses by their octets.
-use Rattle.std.proofs.Common.{◌≡◌, ℕ, zero, suc, ◌+◌, ◌*◌, ◌/◌, ◌%◌, ◌<◌, true, nat_eq, slice_index_or, List, [], ◌∷◌, length, get_or, All, refl, sym}
+use Rattle.std.proofs.Common.{◌≡◌, ℕ, suc, ◌+◌, ◌*◌, ◌/◌, ◌%◌, ◌<◌, true, nat_eq, slice_index_or, List, [], ◌∷◌, length, get_or, All, refl, sym}
 use Rattle.std.proofs.Common.{ap, ◌∙◌, arith}
 use Rattle.std.proofs.{Math.Bool.◌&&◌, Math.Bool.and-true, lemmas.Bool.Decides.same_from_decides, lemmas.List.Elements.recursion_from_All}
 use Rattle.std.proofs.{lemmas.List.Elements.All-from_get_or}

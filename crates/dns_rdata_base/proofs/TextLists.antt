@@ -1,6 +1,6 @@
 -- Character strings, read, written and given one after the other.
 use Rattle.std.proofs.Common.{◌≡◌, ℕ, suc, ◌+◌, ◌≤◌, ◌<◌, ◌⊎◌, inl, inr, List, [], ◌∷◌, ◌++◌, length, take, drop, get_or, drop-cons, refl, sym, ap}
-use Rattle.std.proofs.Common.{◌∙◌, arith, subst, append_assoc, nat_le, false}
+use Rattle.std.proofs.Common.{◌∙◌, arith, subst, nat_le, false}
 use Rattle.std.specs.List.{flat_map, AllByRecursion, list_all}
 use Rattle.std.proofs.lemmas.List.{append-nil, length-append, drop_more, take-append-drop, Concat.flat_map-cons}
 use Rattle.dns_types.specs.declared.error.{DecodeError.DecodeError, ProtoError.ProtoError}

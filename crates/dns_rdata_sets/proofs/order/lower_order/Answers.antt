@@ -10,8 +10,8 @@ use Rattle.dns_rdata_sets.proofs.order.lower_order.Goals as goal
 pub returns-then-at-eq0 : goal.returns-then-at-eq0
 unfolding field_octets
 returns-then-at-eq0 c =
-    sym (goes_on_behind (differ_at c.requires.first c.requires.second c.requires.within c.requires.same c.requires.lower) c.requires.within.1 c.if-b-at.true
-    (elim c.then-at-eq0.branch [
+    let d = differ_at c.requires.first c.requires.second c.requires.within c.requires.same c.requires.lower in
+    sym (goes_on_behind d c.requires.within.1 c.if-b-at.true (elim c.then-at-eq0.branch [
       | then-at-eq0-via-then-at-eq0 w ↦ λ some. absurd (omega (arith, some, w.if-at-eq0.true))
       | then-at-eq0-via-else-at-eq0+then-b-at-2 w ↦ λ some. w.if-b-at-2.true
     ]))
