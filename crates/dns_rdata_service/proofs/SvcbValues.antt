@@ -76,12 +76,6 @@ svcb_from-fields x r = ap (λ (ps : List Parameter). record x { svc_params = ps 
 
 -- ---- what fields give has the fields, where addresses are octets
 
-numbers_back : (ks : List ℕ) → ks ≡ map key_number (map key_of ks)
-numbers_back = map_back key_of key_number (λ n. sym (key_number-of n))
-
-groups_back : (ss : List (List ℕ)) → ss ≡ map a_octets (map a_of ss)
-groups_back = map_back a_of a_octets (λ s. refl)
-
 opaque_value : (b c : Bool) (s : List ℕ)
     → value_of (if b then variants.EchConfigList (record { 0 = s }) else if c then variants.DohPath (record { 0 = s }) else variants.Unknown (record { 0 = s })) ≡ Opaque s
 opaque_value true c s = refl
@@ -97,11 +91,11 @@ wide_back [] h = refl
 wide_back (s ∷ ss) h = ap (λ t. t ∷ map aaaa_octets (map aaaa_of ss)) (octets_of-segments 8 s (omega (arith, h.0.0)) h.0.1) ∙ ap (λ t. s ∷ t) (wide_back ss h.1)
 
 value_back : (n : ℕ) (v : ParameterValue) → IsWide v → value_of (value_from n v) ≡ v
-value_back n (Mandatory ks) h = ap Mandatory (sym (numbers_back ks))
+value_back n (Mandatory ks) h = ap Mandatory (sym (map_back key_of key_number (λ n. sym (key_number-of n)) ks))
 value_back n (Alpn names) h = refl
 value_back n NoDefaultAlpn h = refl
 value_back n (Port p) h = refl
-value_back n (Ipv4Hint ss) h = ap Ipv4Hint (sym (groups_back ss))
+value_back n (Ipv4Hint ss) h = ap Ipv4Hint (sym (map_back a_of a_octets (λ s. refl) ss))
 value_back n (Ipv6Hint ss) h = ap Ipv6Hint (wide_back ss h)
 value_back n (Opaque s) h = opaque_value (n == 5) (n == 7) s
 
@@ -150,24 +144,19 @@ parameter_again x =
     ap (λ (v : SvcParamValue). (key_of x.0, v)) (value_again x.0 x.1)
     ∙ ap (λ (k : ℕ). (key_of k, value_from k (value_of (value_from x.0 x.1)))) (sym (key_number-of x.0))
 
-parameters_again : (v : List (Numbered ParameterValue)) → AreRead (map parameter_from v)
-parameters_again v =
+pub svcb_from-read : (vs : Values svcb_shape) → IsReadSvcb (svcb_from vs)
+svcb_from-read vs =
+    let v = vs.1.1.0 in
     (λ i. map (λ x. parameter_again x i) v)
     ∙ sym (map-map parameter_from parameter_of (map parameter_from v) ∙ map-map (λ p. parameter_from (parameter_of p)) parameter_from v)
 
-pub svcb_from-read : (vs : Values svcb_shape) → IsReadSvcb (svcb_from vs)
-svcb_from-read vs = parameters_again vs.1.1.0
-
 -- ---- keys are the same exactly where fields are
-
-fields_keys : (ps qs : List Parameter) → AreRead ps → AreRead qs → map parameter_of ps ≡ map parameter_of qs → map own_parameter ps ≡ map own_parameter qs
-fields_keys ps qs x y e = ap (map own_parameter) (x ∙ ap (map parameter_from) e ∙ sym y)
 
 parameters_equal : (ps qs : List Parameter) → AreRead ps → AreRead qs
     → kind_eq Parameters (map own_parameter ps) (map own_parameter qs) ≡ kind_eq Parameters (map parameter_of ps) (map parameter_of qs)
 parameters_equal ps qs x y =
     same_from_decides _ _
-    (Decides-like _ (λ e. record { is = own_fields ps qs e.is }) (λ e. record { is = fields_keys ps qs x y e.is })
+    (Decides-like _ (λ e. record { is = own_fields ps qs e.is }) (λ e. record { is = ap (map own_parameter) (x ∙ ap (map parameter_from) e.is ∙ sym y) })
     (field_decide Parameters (map own_parameter ps) (map own_parameter qs) tt tt))
     (field_decide Parameters (map parameter_of ps) (map parameter_of qs) tt tt)
 

@@ -4,7 +4,8 @@ use Rattle.dns_rdata_service.proofs.hints.hints_size.Goals as goal
 
 pub returns-in_err-checked_mul-clause-size : goal.returns-in_err-checked_mul-clause-size
 returns-in_err-checked_mul-clause-size g c =
-    rw c.from_residual.ensures (joined_long g.row.N g.T.Address.octets c.args.addresses.now (c.loop-address.invariant (rw (drop_all c.loop-address.address-index c.args.addresses.now (omega arith)) tt)) (omega (arith, c.in_err-checked_mul.ensures)))
+    rw c.from_residual.ensures (joined_long g.row.N g.T.Address.octets c.args.addresses.now
+    (c.loop-address.invariant (rw (drop_all c.loop-address.address-index c.args.addresses.now (omega arith)) tt)) (omega (arith, c.in_err-checked_mul.ensures)))
 
 pub returns-clause-size : goal.returns-clause-size
 returns-clause-size g c =

@@ -11,5 +11,6 @@ returns c =
     record {
       fit = groups_fit 16 aaaa_octets c.args.octets.now c.read.new.decoder c.read.result read;
       body = groups_body 16 aaaa_octets c.args.octets.now c.read.new.decoder c.read.result read;
-      refused = hint_refused Addresses16 16 aaaa_octets c.args.octets.now c.read.new.decoder c.read.result (λ k lt. omega (arith, whole, lt)) aaaa_octets_of (rw c.new-decoder.ensures at c.index-start.ensures.octets) read;
+      refused = hint_refused Addresses16 16 aaaa_octets c.args.octets.now c.read.new.decoder c.read.result
+          (λ k lt. omega (arith, whole, lt)) aaaa_octets_of (rw c.new-decoder.ensures at c.index-start.ensures.octets) read;
     }
