@@ -4,41 +4,27 @@ use Rattle.dns_pieces.specs.{Runs.Shares, Steps.Left, Steps.AllShort, Steps.by_f
 use Rattle.dns_rdata_options.specs.declared.heads.Heads.{Heads}
 use Rattle.dns_fields.specs.Fields.{all_emittable}
 use Rattle.dns_rdata_base.specs as base
-use Rattle.dns_rdata_certs.specs as certs
 use Rattle.dns_rdata_options.specs as options
 use Rattle.dns_rdata_service.specs as service
 use Rattle.dns_rdata_sets.specs as sets
 use Rattle.dns_rdata.specs.{Data.fields_of, declared.record_data.RData.RData}
 use Rattle.dns_rdata.specs.declared.record_data.RData.TheVariants as rdata
 
--- what is left of a value's canonical octets at each place
+-- What is left of a value's canonical octets at each place. A record whose strings do not come in a step of their own is
+-- at hand field by field.
 abbrev pub data_left : RData → Left
-data_left (rdata.A x) = by_fields base.Steps.at_once base.A.a_shape (base.A.a_fields x)
-data_left (rdata.AAAA x) = by_fields base.Steps.at_once base.AAAA.aaaa_shape (base.AAAA.aaaa_fields x)
-data_left (rdata.ANAME x) = by_fields base.Steps.at_once base.NameRecords.name_shape (base.NameRecords.aname_fields x)
 data_left (rdata.CAA x) = by_fields sets.Steps.caa_begins sets.CAA.caa_shape (sets.CAA.caa_fields x)
-data_left (rdata.CERT x) = by_fields base.Steps.at_once certs.CERT.cert_shape (certs.CERT.cert_fields x)
-data_left (rdata.CNAME x) = by_fields base.Steps.at_once base.NameRecords.name_shape (base.NameRecords.cname_fields x)
 data_left (rdata.CSYNC x) = sets.Steps.csync_left x
 data_left (rdata.HINFO x) = by_fields base.Steps.hinfo_begins base.HINFO.hinfo_shape (base.HINFO.hinfo_fields x)
 data_left (rdata.HTTPS x) = service.Steps.svcb_left x.0
-data_left (rdata.MX x) = by_fields base.Steps.at_once base.MX.mx_shape (base.MX.mx_fields x)
 data_left (rdata.NAPTR x) = by_fields base.Steps.naptr_begins base.NAPTR.naptr_shape (base.NAPTR.naptr_fields x)
-data_left (rdata.NULL x) = by_fields base.Steps.at_once base.NULL.null_shape (base.NULL.null_fields x)
-data_left (rdata.NS x) = by_fields base.Steps.at_once base.NameRecords.name_shape (base.NameRecords.ns_fields x)
-data_left (rdata.OPENPGPKEY x) = by_fields base.Steps.at_once base.OPENPGPKEY.openpgpkey_shape (base.OPENPGPKEY.openpgpkey_fields x)
 data_left (rdata.OPT x) = options.Steps.opt_left x
-data_left (rdata.PTR x) = by_fields base.Steps.at_once base.NameRecords.name_shape (base.NameRecords.ptr_fields x)
-data_left (rdata.SMIMEA x) = by_fields base.Steps.at_once certs.SMIMEA.smimea_shape (certs.SMIMEA.smimea_fields x)
 data_left (rdata.SOA x) = by_fields base.Steps.soa_begins base.SOA.soa_shape (base.SOA.soa_fields x)
-data_left (rdata.SRV x) = by_fields base.Steps.at_once base.SRV.srv_shape (base.SRV.srv_fields x)
-data_left (rdata.SSHFP x) = by_fields base.Steps.at_once certs.SSHFP.sshfp_shape (certs.SSHFP.sshfp_fields x)
 data_left (rdata.SVCB x) = service.Steps.svcb_left x
-data_left (rdata.TLSA x) = by_fields base.Steps.at_once certs.TLSA.tlsa_shape (certs.TLSA.tlsa_fields x)
 data_left (rdata.TXT x) = base.Steps.texts_left x.txt_data
-data_left (rdata.Unknown code x) = by_fields base.Steps.at_once base.NULL.null_shape (base.NULL.null_fields x)
 data_left (rdata.Update0 t) = λ n i j. []
 data_left rdata.ZERO = λ n i j. []
+data_left v = by_fields base.Steps.at_once (fields_of v).kinds (fields_of v).values
 
 -- whether it can be emitted
 abbrev pub can_emit : RData → Bool

@@ -109,61 +109,54 @@ pub record FieldsOf : Type 0 where
 abbrev pub fields_by : {T : Type 0} → Facts T → T → FieldsOf
 fields_by f x = record { kinds = f.kinds; values = f.fields x }
 
-abbrev pub fields_of : RData → FieldsOf
-fields_of (rdata.A x) = fields_by base.A.a_facts x
-fields_of (rdata.AAAA x) = fields_by base.AAAA.aaaa_facts x
-fields_of (rdata.ANAME x) = fields_by base.NameRecords.aname_facts x
-fields_of (rdata.CAA x) = fields_by sets.CAA.caa_facts x
-fields_of (rdata.CERT x) = fields_by certs.CERT.cert_facts x
-fields_of (rdata.CNAME x) = fields_by base.NameRecords.cname_facts x
-fields_of (rdata.CSYNC x) = fields_by sets.CSYNC.csync_facts x
-fields_of (rdata.HINFO x) = fields_by base.HINFO.hinfo_facts x
-fields_of (rdata.HTTPS x) = fields_by service.HTTPS.https_facts x
-fields_of (rdata.MX x) = fields_by base.MX.mx_facts x
-fields_of (rdata.NAPTR x) = fields_by base.NAPTR.naptr_facts x
-fields_of (rdata.NULL x) = fields_by base.NULL.null_facts x
-fields_of (rdata.NS x) = fields_by base.NameRecords.ns_facts x
-fields_of (rdata.OPENPGPKEY x) = fields_by base.OPENPGPKEY.openpgpkey_facts x
-fields_of (rdata.OPT x) = fields_by options.OPT.opt_facts x
-fields_of (rdata.PTR x) = fields_by base.NameRecords.ptr_facts x
-fields_of (rdata.SMIMEA x) = fields_by certs.SMIMEA.smimea_facts x
-fields_of (rdata.SOA x) = fields_by base.SOA.soa_facts x
-fields_of (rdata.SRV x) = fields_by base.SRV.srv_facts x
-fields_of (rdata.SSHFP x) = fields_by certs.SSHFP.sshfp_facts x
-fields_of (rdata.SVCB x) = fields_by service.SVCB.svcb_facts x
-fields_of (rdata.TLSA x) = fields_by certs.TLSA.tlsa_facts x
-fields_of (rdata.TXT x) = fields_by base.TXT.txt_facts x
-fields_of (rdata.Unknown code x) = fields_by base.NULL.null_facts x
-fields_of (rdata.Update0 t) = record { kinds = []; values = tt }
-fields_of rdata.ZERO = record { kinds = []; values = tt }
+-- a record of a type, with the facts of its kind, or data without a field
+pub data Held : Type 1 where
+  holds : {T : Type 0} → RecordType → Facts T → T → Held
+  empty : RecordType → Held
 
+-- what each value holds
+abbrev pub held : RData → Held
+held (rdata.A x) = holds types.A base.A.a_facts x
+held (rdata.AAAA x) = holds types.AAAA base.AAAA.aaaa_facts x
+held (rdata.ANAME x) = holds types.ANAME base.NameRecords.aname_facts x
+held (rdata.CAA x) = holds types.CAA sets.CAA.caa_facts x
+held (rdata.CERT x) = holds types.CERT certs.CERT.cert_facts x
+held (rdata.CNAME x) = holds types.CNAME base.NameRecords.cname_facts x
+held (rdata.CSYNC x) = holds types.CSYNC sets.CSYNC.csync_facts x
+held (rdata.HINFO x) = holds types.HINFO base.HINFO.hinfo_facts x
+held (rdata.HTTPS x) = holds types.HTTPS service.HTTPS.https_facts x
+held (rdata.MX x) = holds types.MX base.MX.mx_facts x
+held (rdata.NAPTR x) = holds types.NAPTR base.NAPTR.naptr_facts x
+held (rdata.NULL x) = holds types.NULL base.NULL.null_facts x
+held (rdata.NS x) = holds types.NS base.NameRecords.ns_facts x
+held (rdata.OPENPGPKEY x) = holds types.OPENPGPKEY base.OPENPGPKEY.openpgpkey_facts x
+held (rdata.OPT x) = holds types.OPT options.OPT.opt_facts x
+held (rdata.PTR x) = holds types.PTR base.NameRecords.ptr_facts x
+held (rdata.SMIMEA x) = holds types.SMIMEA certs.SMIMEA.smimea_facts x
+held (rdata.SOA x) = holds types.SOA base.SOA.soa_facts x
+held (rdata.SRV x) = holds types.SRV base.SRV.srv_facts x
+held (rdata.SSHFP x) = holds types.SSHFP certs.SSHFP.sshfp_facts x
+held (rdata.SVCB x) = holds types.SVCB service.SVCB.svcb_facts x
+held (rdata.TLSA x) = holds types.TLSA certs.TLSA.tlsa_facts x
+held (rdata.TXT x) = holds types.TXT base.TXT.txt_facts x
+held (rdata.Unknown code x) = holds code base.NULL.null_facts x
+held (rdata.Update0 t) = empty t
+held rdata.ZERO = empty types.ZERO
+
+abbrev pub type_in : Held → RecordType
+type_in (holds t f x) = t
+type_in (empty t) = t
+
+abbrev pub fields_in : Held → FieldsOf
+fields_in (holds t f x) = fields_by f x
+fields_in (empty t) = record { kinds = []; values = tt }
+
+-- the type of a value, and its fields
 abbrev pub type_of : RData → RecordType
-type_of (rdata.A x) = types.A
-type_of (rdata.AAAA x) = types.AAAA
-type_of (rdata.ANAME x) = types.ANAME
-type_of (rdata.CAA x) = types.CAA
-type_of (rdata.CERT x) = types.CERT
-type_of (rdata.CNAME x) = types.CNAME
-type_of (rdata.CSYNC x) = types.CSYNC
-type_of (rdata.HINFO x) = types.HINFO
-type_of (rdata.HTTPS x) = types.HTTPS
-type_of (rdata.MX x) = types.MX
-type_of (rdata.NAPTR x) = types.NAPTR
-type_of (rdata.NULL x) = types.NULL
-type_of (rdata.NS x) = types.NS
-type_of (rdata.OPENPGPKEY x) = types.OPENPGPKEY
-type_of (rdata.OPT x) = types.OPT
-type_of (rdata.PTR x) = types.PTR
-type_of (rdata.SMIMEA x) = types.SMIMEA
-type_of (rdata.SOA x) = types.SOA
-type_of (rdata.SRV x) = types.SRV
-type_of (rdata.SSHFP x) = types.SSHFP
-type_of (rdata.SVCB x) = types.SVCB
-type_of (rdata.TLSA x) = types.TLSA
-type_of (rdata.TXT x) = types.TXT
-type_of (rdata.Unknown code x) = code
-type_of (rdata.Update0 t) = t
-type_of rdata.ZERO = types.ZERO
+type_of v = type_in (held v)
+
+abbrev pub fields_of : RData → FieldsOf
+fields_of v = fields_in (held v)
 
 -- A value that data can give: octets of any form are of a type without a row, an update of no data is never read, and
 -- of two variants of an enum with one number it is the named one, and signed numbers have their bits.
