@@ -102,10 +102,8 @@ impl<'a> BinDecoder<'a> {
     pub fn peek(&self) -> Option<Restrict<u8>>
         ensures { result ≡ slice_get self.now.message self.now.index }
     {
-        match self.message.get(self.index) {
-            Some(octet) => Some(Restrict::new(*octet)),
-            None => None,
-        }
+        let octet = self.message.get(self.index)?;
+        Some(Restrict::new(*octet))
     }
 
     /// The next `len` octets. Where fewer are left it is refused by
@@ -124,6 +122,7 @@ impl<'a> BinDecoder<'a> {
         self.index = start + len;
         Ok(Restrict::new(&message[start..start + len]))
     }
+
     /// The next `len` octets in memory of their own, by one request. Where fewer are left it is refused by
     /// [`InsufficientBytes`](DecodeError::InsufficientBytes), where memory runs out by [`Memory`](DecodeError::Memory);
     /// it takes none then.

@@ -109,9 +109,6 @@ copied_front m r q l b g c = record {
   rest = ap (λ (x : List ℕ). x ++ l) c.rest ∙ sym (drop-append-le m r l c.within);
 }
 
-pub copied_none : (z b : List ℕ) → HasCopied 0 z z b b
-copied_none z b = record { within = omega arith; room = omega arith; front = refl; rest = refl }
-
 -- a piece and a further one, which is begun where the first is copied whole
 pub copies_both : (n m : ℕ) (a b t u f g : List ℕ) → n ≡ min (length a) (length b) → f ≡ take n a ++ drop n b → Copies m t u (take (length f - n) (drop n f)) g
     → Copies (n + m) (a ++ t) (drop n a ++ u) b (take n f ++ (g ++ drop (length f - n) (drop n f)))
@@ -127,7 +124,7 @@ copies_both n m a b t u f g count front c =
           let none : m ≡ 0 = omega (arith, c.count, size, count, e) in
           let same : u ≡ t = c.copied.rest ∙ ap (λ (k : ℕ). drop k t) none in
           let still : g ≡ part = c.copied.front ∙ ap (λ (k : ℕ). take k t ++ drop k part) none in
-          rw (none, same, still) (copied_none (drop n a ++ t) part)
+          rw (none, same, still) (record { within = omega arith; room = omega arith; front = refl; rest = refl })
     ] in
     record {
       count = omega (arith, count, c.count, size, length-append a t);

@@ -48,7 +48,6 @@ impl FromTokens for Name {
         requires can { I.can_next tokens }
         ensures reads { ReadsRow I.next_gives S.text (word (name (option_copied origin.entry)) ignored) (λ x. (x, tt)) result tokens }
     {
-        let name = next_name(alloc, &mut tokens, origin, "domain name")?;
-        Ok(name)
+        Ok(next_name(alloc, &mut tokens, origin, "domain name")?)
     }
 }

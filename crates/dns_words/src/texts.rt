@@ -72,8 +72,7 @@ pub fn signed_ttl_of(word: &str, wrong: &'static str) -> Result<i32, ParseError>
 pub fn name_of(alloc: Global, word: &str, origin: Option<&Name>) -> Result<Name, ParseError>
     ensures { ReadsText (name (option_copied origin.entry)) (λ x. x) result word.now }
 {
-    let name = Name::parse(alloc, word, origin)?;
-    Ok(name)
+    Ok(Name::parse(alloc, word, origin)?)
 }
 
 /// Octets that print as base64: the standard alphabet, padded at its end (RFC 4648, 4). Takes no memory.
@@ -125,8 +124,7 @@ pub fn kept_of(alloc: Global, word: &str) -> Result<Octets, ParseError>
     ensures rest { ReadsText kept_rest (λ x. x) result word.now }
     ensures why { IfErr result (λ e. e ≡ ParseError.Memory) }
 {
-    let octets = Octets::from_slice(alloc, word.as_bytes())?;
-    Ok(octets)
+    Ok(Octets::from_slice(alloc, word.as_bytes())?)
 }
 
 /// The IPv4 address of a text. Any other word is refused by [`AddrParse`](ParseError::AddrParse). Takes no memory.

@@ -31,7 +31,9 @@ fn parse_words(words: &[String]) -> Option<(&str, &str)>
 pub fn text_request(words: &[String]) -> Option<(RecordType, &str)>
     ensures { MatchOption result (NoTextRequest (texts words.now)) (λ r. AsksText (texts words.now) r.0 r.1.now) }
 {
-    let (type_word, text) = parse_words(words)?;
+    let Some((type_word, text)) = parse_words(words) else {
+        return None;
+    };
     let Some(record_type) = record_type(type_word) else {
         return None;
     };
