@@ -362,6 +362,7 @@ impl<'a> CanonicalOctets<'a> {
 
     /// The order of what the two still give, by the first difference, a proper beginning before what goes on. From each at
     /// most one octet is taken past their common beginning; what is behind the octets that were taken is still given.
+    #[tactic(auto, using(crate::proofs::CursorSteps::chooses_both))]
     pub fn compare(&mut self, other: &mut CanonicalOctets<'_>) -> Ordering
         ensures order { result ≡ slice_cmp nat_cmp self.old.octets other.old.octets }
         ensures self_taken { self.new.taken ≤ self.old.taken + common self.old.octets other.old.octets + 1 }

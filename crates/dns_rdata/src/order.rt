@@ -128,9 +128,7 @@ impl RData {
             (RData::ANAME(a), RData::ANAME(b)) => a.0.cmp(&b.0),
             (RData::CAA(a), RData::CAA(b)) => in_order!(
                 u8::from(a.issuer_critical).cmp(&u8::from(b.issuer_critical)),
-                a.reserved_flags.cmp(&b.reserved_flags),
-                a.tag.cmp(&b.tag),
-                a.value.cmp(&b.value)
+                by_fields!(a, b, reserved_flags, tag, value)
             ),
             (RData::CERT(a), RData::CERT(b)) => by_fields!(
                 a, b, cert_type, key_tag, algorithm, cert_data

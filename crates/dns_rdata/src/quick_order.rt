@@ -88,20 +88,27 @@ fn rest_quick_cmp(a: &SmallOctets<64>, b: &SmallOctets<64>) -> Option<Ordering>
     Some(rest_order(a.as_slice(), b.as_slice()))
 }
 
+// The order that was found: a tie where the rest is the same, another one where both can be emitted.
+macro_rules! unless_long {
+    ($order:expr, $same:expr, $is_emittable:ident($a:ident, $b:ident)) => {{
+        let order = $order;
+        if order.is_eq() {
+            return if $same { Some(order) } else { None };
+        }
+        if !$is_emittable($a) || !$is_emittable($b) {
+            return None;
+        }
+        Some(order)
+    }};
+}
+
 // The order of two TXT. Strings are equal where their octets tie; of other strings the order is found only if all can be
 // emitted.
 #[inline]
 fn txt_quick_cmp(a: &TXT, b: &TXT) -> Option<Ordering>
     ensures { IfSomeFieldOrder txt_shape (txt_fields a.now) (txt_fields b.now) result }
 {
-    let order = txt_order(a, b);
-    if order.is_eq() {
-        return Some(order);
-    }
-    if !txt_is_emittable(a) || !txt_is_emittable(b) {
-        return None;
-    }
-    Some(order)
+    unless_long!(txt_order(a, b), true, txt_is_emittable(a, b))
 }
 
 // The order of two HINFO. Both strings are equal where their octets tie; else the order is found only if all can be
@@ -110,14 +117,7 @@ fn txt_quick_cmp(a: &TXT, b: &TXT) -> Option<Ordering>
 fn hinfo_quick_cmp(a: &HINFO, b: &HINFO) -> Option<Ordering>
     ensures { IfSomeFieldOrder hinfo_shape (hinfo_fields a.now) (hinfo_fields b.now) result }
 {
-    let order = hinfo_order(a, b);
-    if order.is_eq() {
-        return Some(order);
-    }
-    if !hinfo_is_emittable(a) || !hinfo_is_emittable(b) {
-        return None;
-    }
-    Some(order)
+    unless_long!(hinfo_order(a, b), true, hinfo_is_emittable(a, b))
 }
 
 // The order of two NAPTR. It is found only if all strings can be emitted, and not where two records tie that are not equal.
@@ -144,18 +144,11 @@ fn has_same_flags(a: &CAA, b: &CAA) -> bool
 fn caa_quick_cmp(a: &CAA, b: &CAA) -> Option<Ordering>
     ensures { IfSomeOrder caa_shape (caa_fields a.now) (caa_fields b.now) (values_eq caa_key_shape (caa_keys a.now) (caa_keys b.now)) result }
 {
-    let order = caa_order(a, b);
-    if order.is_eq() {
-        return if has_same_flags(a, b) {
-            Some(order)
-        } else {
-            None
-        };
-    }
-    if !caa_is_emittable(a) || !caa_is_emittable(b) {
-        return None;
-    }
-    Some(order)
+    unless_long!(
+        caa_order(a, b),
+        has_same_flags(a, b),
+        caa_is_emittable(a, b)
+    )
 }
 
 // Whether two CERT have equal fields in front of the certificate.
@@ -212,17 +205,7 @@ fn svcb_quick_cmp(a: &SVCB, b: &SVCB) -> Option<Ordering>
     ensures { IfSomeOrder svcb_shape (svcb_fields a.now) (svcb_fields b.now) (values_eq svcb_key_shape (svcb_keys a.now) (svcb_keys b.now)) result }
 {
     let (order, alike) = svcb_front(a, b);
-    if order.is_eq() {
-        return if is_all(a, b, alike) {
-            Some(order)
-        } else {
-            None
-        };
-    }
-    if !svcb_is_emittable(a) || !svcb_is_emittable(b) {
-        return None;
-    }
-    Some(order)
+    unless_long!(order, is_all(a, b, alike), svcb_is_emittable(a, b))
 }
 
 // Whether both have just this many parameters, and both targets are relative or neither is.

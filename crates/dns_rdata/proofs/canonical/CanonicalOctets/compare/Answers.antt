@@ -1,13 +1,7 @@
-use Rattle.std.proofs.Common.{◌≡◌, ℕ, ◌+◌, [], ◌∷◌, Option, MatchOption, is_some, if◌then◌else◌, sym, ◌∙◌, arith}
-use Rattle.dns_rdata.specs.Cursor.{Remaining, Chooses, Advances}
+use Rattle.std.proofs.Common.{sym, ◌∙◌, arith}
 use Rattle.dns_pieces.proofs.Comparing.{cmp_shared, common_shared, order_told, goes_on, one_taken}
 use Rattle.dns_rdata.proofs.CursorSteps.{chooses_both, chooses_kept, advances_one, advances_by, advances_both}
 use Rattle.dns_rdata.proofs.canonical.CanonicalOctets.compare.Goals as goal
-
--- one call of `next`
-advances_next : {a b : Remaining} (r : Option ℕ) → Chooses a b → MatchOption r ((a.octets ≡ []) × (b.octets ≡ [])) (λ x. a.octets ≡ x ∷ b.octets)
-    → b.taken ≡ a.taken + (if is_some r then 1 else 0) → Advances a b
-advances_next {a} {b} r k h t = advances_one a b r h t
 
 pub returns-in-Some-clause-order : goal.returns-in-Some-clause-order
 returns-in-Some-clause-order c = order_told c.next.result c.next-in-octets.result _ _ _ _ c.in-Some.order c.next.ensures.octets c.next-in-octets.ensures.octets c.in-Some.ensures ∙ c.octets.invariant.order
@@ -24,12 +18,6 @@ returns-in-Some-clause-self_rest c = advances_both c.octets.invariant.self_rest 
 pub returns-in-Some-clause-other_rest : goal.returns-in-Some-clause-other_rest
 returns-in-Some-clause-other_rest c = advances_both c.octets.invariant.other_rest (advances_one _ _ c.next-in-octets.result c.next-in-octets.ensures.octets c.next-in-octets.ensures.taken)
 
-pub returns-in-Some-clause-self_choices : goal.returns-in-Some-clause-self_choices
-returns-in-Some-clause-self_choices c = chooses_both c.octets.invariant.self_choices c.next.ensures.choices
-
-pub returns-in-Some-clause-other_choices : goal.returns-in-Some-clause-other_choices
-returns-in-Some-clause-other_choices c = chooses_both c.octets.invariant.other_choices c.next-in-octets.ensures.choices
-
 pub octets-preserved : goal.octets-preserved
 octets-preserved c =
     let shares = c.skip_common.ensures.shares in
@@ -41,9 +29,9 @@ octets-preserved c =
       order = sym (cmp_shared shares) ∙ g.order ∙ c.octets.invariant.order;
       self_taken = omega (arith, k, g.common, t, c.octets.invariant.self_taken, c.skip_common.ensures.taken);
       other_taken = omega (arith, k, g.common, u, c.octets.invariant.other_taken, c.skip_common.ensures.other_taken);
-      self_rest = advances_both (advances_both c.octets.invariant.self_rest (advances_next c.next.result c.next.ensures.choices c.next.ensures.octets c.next.ensures.taken))
+      self_rest = advances_both (advances_both c.octets.invariant.self_rest (advances_one _ c.next.new.self c.next.result c.next.ensures.octets c.next.ensures.taken))
           (advances_by _ _ shares.shared c.skip_common.ensures.n shares.count shares.left c.skip_common.ensures.taken);
-      other_rest = advances_both (advances_both c.octets.invariant.other_rest (advances_next c.next-in-octets.result c.next-in-octets.ensures.choices c.next-in-octets.ensures.octets c.next-in-octets.ensures.taken))
+      other_rest = advances_both (advances_both c.octets.invariant.other_rest (advances_one _ c.next-in-octets.new.self c.next-in-octets.result c.next-in-octets.ensures.octets c.next-in-octets.ensures.taken))
           (advances_by _ _ shares.shared c.skip_common.ensures.n shares.count shares.right c.skip_common.ensures.other_taken);
       self_choices = chooses_kept (chooses_both c.octets.invariant.self_choices c.next.ensures.choices) c.skip_common.ensures.choices c.skip_common.ensures.options c.skip_common.ensures.all;
       other_choices = chooses_kept (chooses_both c.octets.invariant.other_choices c.next-in-octets.ensures.choices) c.skip_common.ensures.other_choices c.skip_common.ensures.other_options c.skip_common.ensures.other_all;
