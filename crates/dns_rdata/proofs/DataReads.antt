@@ -1,25 +1,38 @@
 -- Reading data of each type.
 use Rattle.std.proofs.Common.{[], ◌∷◌, ◌≡◌, ◌≢◌, ℕ, ◌+◌, ◌-◌, ◌<◌, ◌≤◌, ◌==◌, ◌⊎◌, inl, inr, Bool, true, false, cond, List, length, refl, arith}
-use Rattle.std.proofs.Common.{ap, ◌∙◌, ◌↔◌, Result, Ok, Err}
+use Rattle.std.proofs.Common.{subst, ap, ◌∙◌, Result, Ok, Err}
 use Rattle.std.specs.Result.{IfOk, IfErr, OnOk}
 use Rattle.std.proofs.lemmas.Bool.Decides.{eqb_tells}
-use Rattle.dns_fields.specs.{Octets.AreOctets, Fields.Kind, Fields.Number, Fields.Name, Fields.Text}
+use Rattle.dns_fields.specs.{Octets.AreOctets, Fields.Values, Fields.Kind, Fields.Number, Fields.Name, Fields.Text}
 use Rattle.dns_types.specs.{declared.error.DecodeError.DecodeError, declared.record_type.RecordType.RecordType, RecordTypes.number_of}
 use Rattle.dns_types.specs.declared.error.DecodeError.TheVariants as decode
 use Rattle.dns_types.specs.declared.record_type.RecordType.TheVariants as types
 use Rattle.dns_names_wire.specs.State.{Reading}
-use Rattle.dns_names_wire.specs.Words.{StaysBehind, UnlessMemory, NoWindow, ReadsWindow}
+use Rattle.dns_names_wire.specs.Words.{StaysBehind, UnlessMemory, NoWindow, TookWindow, RefusedWindow, ReadsWindow, LacksOctets}
 use Rattle.dns_names_wire.proofs.FieldReads.{stays, unless_all, unless_map}
+use Rattle.dns_rdata_base.specs.declared.null.NULL.{NULL}
 use Rattle.dns_rdata_options.proofs.Refusals.{opt_never}
 use Rattle.dns_rdata_service.proofs.SvcbValues.{svcb_never}
 use Rattle.dns_rdata_base.specs as base
 use Rattle.dns_rdata_sets.specs as sets
-use Rattle.dns_names_wire.specs.{Facts.Facts, Words.Window}
-use Rattle.dns_rdata.specs.{declared.record_data.RData.RData, Data.fields_by, Data.IsPlain}
-use Rattle.dns_rdata.specs.Refusals.{IsOwnRefusal, OwnRefusal, IsRefusal, by_length, TookData, ReadsData, ReadsCounted, WindowOf, IsRecordOf}
+use Rattle.dns_rdata.specs.{declared.record_data.RData.RData, Refusals.IsOwnRefusal, Refusals.OwnRefusal, Refusals.IsRefusal, Refusals.by_length}
 use Rattle.dns_rdata.specs.Data.{Row, row, unread, rowless, row_of, kinds_of, MeetsConditionOf, IsRowlessRow, IsNever, FieldsOf, shape, condition}
-use Rattle.dns_rdata.specs.Data.{IsRowless, Fills, NoValue, type_of, IsNeverRead}
+use Rattle.dns_rdata.specs.Data.{IsRowless, IsValue, Fills, NoValue, TookData, RefusedData, ReadsData, type_of, IsNeverRead}
 use Rattle.dns_rdata.specs.declared.record_data.RData.TheVariants as rdata
+
+-- what fills a window as fields fills it as a value
+pub data_took : {old new : Reading} (t : RecordType) (n : ℕ) (v : RData) (vs : Values (shape t)) → IsValue t vs v
+    → TookWindow old n (shape t) (condition t) vs new → TookData old t n v new
+data_took t n v vs value w = record {
+  behind = w.behind;
+  here = λ e. record { values = vs; window = w.here e; value = value };
+  elsewhere = w.elsewhere;
+}
+
+-- what is refused under a type
+pub data_refuses : {old new : Reading} (t : RecordType) (n : ℕ) (e : DecodeError) → RefusedWindow e old n (shape t) (condition t) new
+    → RefusedData e old t n new
+data_refuses t n e w = record { behind = w.behind; none = w.none }
 
 -- no octets are the data of type 0
 pub data_zero : (d : Reading) (n : ℕ) → n < 65536 → d.index ≤ length d.message → AreOctets d.message → TookData d types.ZERO n rdata.ZERO d
@@ -35,6 +48,9 @@ data_zero d n short inside octets = record {
 }
 
 -- ---- types without a row
+
+abbrev fields_as : (s : List Kind) → Values s → FieldsOf
+fields_as s vs = record { kinds = s; values = vs }
 
 pub record HasNoRow (t : RecordType) : Type 0 where
   pub rowless : IsRowless t
@@ -52,6 +68,18 @@ row_types = types.A ∷ types.AAAA ∷ types.ANAME ∷ types.CAA ∷ types.CERT 
 pub has_no_row : (t : RecordType) → IsNone t row_types → HasNoRow t
 has_no_row types.A none = absurd (none.0 refl)
 has_no_row t none = grind arith
+
+took_rowless : (r : Row) {old new : Reading} {n : ℕ} (vs : Values base.NULL.null_shape) → IsRowlessRow r → TookWindow old n base.NULL.null_shape (λ _. Unit {0}) vs new
+    → (ws : Values (kinds_of r)) × TookWindow old n (kinds_of r) (MeetsConditionOf r) ws new × (fields_as base.NULL.null_shape vs ≡ fields_as (kinds_of r) ws)
+took_rowless (row kinds asked refusal) vs h w = absurd h
+took_rowless unread vs h w = absurd h
+took_rowless rowless vs h w = (vs, w, refl)
+
+pub unknown_took : {old new : Reading} (t : RecordType) (n : ℕ) (x : NULL) → HasNoRow t → TookWindow old n base.NULL.null_shape (λ _. Unit {0}) (base.NULL.null_fields x) new
+    → TookData old t n (rdata.Unknown t x) new
+unknown_took t n x h w =
+    let r = took_rowless (row_of t) (base.NULL.null_fields x) h.rowless w in
+    data_took t n (rdata.Unknown t x) r.0 (record { type = refl; fields = r.2; plain = h.rowless }) r.1
 
 -- ---- what reading answers, once the octets that were taken are counted
 
@@ -182,70 +210,92 @@ mapped_length f (Err decode.Memory) read len = refl
 mapped_length f (Err (decode.UnknownRecordTypeValue k)) read len = refl
 mapped_length f (Err e) read len = mapped_choice f (read == len) (Err e) (Err (decode.IncorrectRDataLengthRead read len))
 
-fills_record : {X : Type 0} {f : Facts X} {w : X → RData} {t : RecordType} {m : List ℕ} {p n : ℕ} → IsRecordOf f w t → (x : X) → IsPlain (w x) → Window m p n f.kinds f.condition (f.fields x)
-    → Fills m p n t (w x)
-fills_record {f = f} {m = m} {p = p} {n = n} is x plain window =
-    let h = (is.windows m p n (fields_by f x)).0 (record { values = f.fields x; is = refl; window = window }) in
-    record { values = h.values; window = h.window; value = record { type = is.type x; fields = is.fields x ∙ h.is; plain = plain } }
+own_mapped : {X : Type 0} (f : X → RData) (r : Result X DecodeError) (P : DecodeError → Type 0) → IfErr r P → IfErr (mapped f r) P
+own_mapped f (Ok x) P h = tt
+own_mapped f (Err e) P h = h
 
-none_record : {X : Type 0} {f : Facts X} {w : X → RData} {t : RecordType} {m : List ℕ} {p n : ℕ} → IsRecordOf f w t → NoWindow m p n f.kinds f.condition → NoWindow m p n (shape t) (condition t)
-none_record {t = t} {m = m} {p = p} {n = n} is h = record {
-  none = λ vs window.
-      let g = (is.windows m p n (record { kinds = shape t; values = vs })).1 (record { values = vs; is = refl; window = window }) in
-      h.none g.values g.window;
+-- what reading a type answers: what its fields gave, by how many octets they took
+pub record ReadsCounted (t : RecordType) (n : ℕ) (result : Result RData DecodeError) (old new : Reading) : Type 0 where
+  pub outcome : Result RData DecodeError
+  pub reads : ReadsData t n outcome old new
+  pub own : IfErr outcome (λ e. UnlessMemory e (OwnRefusal t n old new e))
+  pub never : IsNeverRead t → (new ≡ old) × (outcome ≡ Err (decode.UnknownRecordTypeValue (number_of t)))
+  pub counted : result ≡ by_length outcome (new.index - old.index) n
+
+mapped_counted : {X : Type 0} {n start : ℕ} {old new : Reading} {s : Result X DecodeError} (t : RecordType) (f : X → RData) (r : Result X DecodeError)
+    → (IsNeverRead t → ⊥) → start ≡ old.index → s ≡ by_length r (new.index - start) n → ReadsData t n (mapped f r) old new
+    → IfErr r (λ e. UnlessMemory e (OwnRefusal t n old new e)) → ReadsCounted t n (mapped f s) old new
+mapped_counted {n = n} {old = old} {new = new} t f r never place c reads own = record {
+  outcome = mapped f r;
+  reads = reads;
+  own = own_mapped f r _ own;
+  never = λ h. absurd (never h);
+  counted = ap (mapped f) (c ∙ ap (λ k. by_length r (new.index - k) n) place) ∙ mapped_length f r (new.index - old.index) n;
 }
 
-reads_record : {X : Type 0} {f : Facts X} {w : X → RData} {t : RecordType} (n : ℕ) (old new : Reading) → IsRecordOf f w t → (r : Result X DecodeError)
-    → ReadsWindow f.kinds f.condition f.fields n r old new → IfOk r (λ x. f.made n x old new) → ReadsData t n (mapped w r) old new
-reads_record n old new is (Ok x) h made = record {
-  behind = h.behind;
-  here = λ e. fills_record is x (is.plain n x old new made) (h.here e);
-  elsewhere = λ e. none_record is (h.elsewhere e);
-}
-reads_record n old new is (Err e) h made = record { behind = h.behind; none = unless_map e _ _ (none_record is) h.none }
+reads_mapped : {X : Type 0} (old new : Reading) (t : RecordType) (n : ℕ) (f : X → RData) (fields : X → Values (shape t)) (r : Result X DecodeError)
+    → ReadsWindow (shape t) (condition t) fields n r old new → ((x : X) → r ≡ Ok x → IsValue t (fields x) (f x)) → ReadsData t n (mapped f r) old new
+reads_mapped old new t n f fields (Ok x) w value = data_took t n (f x) (fields x) (value x refl) w
+reads_mapped old new t n f fields (Err e) w value = data_refuses t n e w
 
-unless_other : (e : DecodeError) {P : Type 0} → (e ≡ decode.Memory) ⊎ P → UnlessMemory e P
-unless_other e (inl m) = rw m tt
-unless_other e (inr h) = unless_all e h
+unless_each : {X : Type 0} (r : Result X DecodeError) (P : DecodeError → Type 0) → IfErr r P → IfErr r (λ e. UnlessMemory e (P e))
+unless_each (Ok x) P h = tt
+unless_each (Err e) P h = unless_all e h
 
-own_record : {X : Type 0} {f : Facts X} {w : X → RData} {t : RecordType} (n : ℕ) (old new : Reading) → IsRecordOf f w t → (r : Result X DecodeError)
-    → IfErr r (λ e. f.refusal n old e new) → IfErr (mapped w r) (λ e. UnlessMemory e (OwnRefusal t n old new e))
-own_record n old new is (Ok x) h = tt
-own_record n old new is (Err e) h = unless_other e (is.refusal n old new e h)
+unless_other : {X : Type 0} (r : Result X DecodeError) (P : DecodeError → Type 0) → IfErr r (λ e. (e ≡ decode.Memory) ⊎ P e) → IfErr r (λ e. UnlessMemory e (P e))
+unless_other (Ok x) P h = tt
+unless_other (Err e) P (inl m) = rw m tt
+unless_other (Err e) P (inr h) = unless_all e h
 
-pub record_counted : {X : Type 0} {f : Facts X} {w : X → RData} {t : RecordType} {n start : ℕ} {old new : Reading} {s : Result X DecodeError} → IsRecordOf f w t → (r : Result X DecodeError)
-    → start ≡ old.index → s ≡ by_length r (new.index - start) n → ReadsWindow f.kinds f.condition f.fields n r old new → IfErr r (λ e. f.refusal n old e new)
-    → IfOk r (λ x. f.made n x old new) → ReadsCounted t n (mapped w s) old new
-record_counted {w = w} {n = n} {old = old} {new = new} is r place c window refusal made = record {
-  outcome = mapped w r;
-  reads = reads_record n old new is r window made;
-  own = own_record n old new is r refusal;
-  never = λ h. absurd (is.never h);
-  counted = ap (mapped w) (c ∙ ap (λ k. by_length r (new.index - k) n) place) ∙ mapped_length w r (new.index - old.index) n;
-}
+-- what is so of each value that is read
+pub of_read : {X E : Type 0} {r : Result X E} {x : X} (P : X → Type 0) → IfOk r P → r ≡ Ok x → P x
+of_read P h e = subst (λ z. IfOk z P) e h
 
--- ---- a type without a row
+pub reads_counted : {X : Type 0} {n start : ℕ} {old new : Reading} {r s : Result X DecodeError} (t : RecordType) (f : X → RData) (fields : X → Values (shape t))
+    → (IsNeverRead t → ⊥) → start ≡ old.index → s ≡ by_length r (new.index - start) n → ReadsWindow (shape t) (condition t) fields n r old new
+    → IfErr r (OwnRefusal t n old new) → ((x : X) → r ≡ Ok x → IsValue t (fields x) (f x)) → ReadsCounted t n (mapped f s) old new
+reads_counted {n = n} {old = old} {new = new} {r = r} t f fields never place c window own value =
+    mapped_counted t f r never place c (reads_mapped old new t n f fields r window value) (unless_each r _ own)
 
-rowless_windows : (r : Row) (m : List ℕ) (p n : ℕ) (fields : FieldsOf) → IsRowlessRow r
-    → WindowOf base.NULL.null_shape (λ _. Unit {0}) m p n fields ↔ WindowOf (kinds_of r) (MeetsConditionOf r) m p n fields
-rowless_windows rowless m p n fields h = (λ f. f, λ f. f)
-rowless_windows r m p n fields h = absurd h
+null_lacks : (n : ℕ) (old new : Reading) (r : Result NULL DecodeError) → IfErr r (λ e. base.NULL.null_refusal n old e new)
+    → IfErr r (λ e. (e ≡ decode.Memory) ⊎ ((e ≡ decode.InsufficientBytes) × LacksOctets old n))
+null_lacks n old new (Ok x) h = tt
+null_lacks n old new (Err e) h = h.1
 
-rowless_refusal : (t : RecordType) (r : Row) (n : ℕ) (old new : Reading) (e : DecodeError) → IsRowlessRow r → base.NULL.null_refusal n old e new → (e ≡ decode.Memory) ⊎ IsOwnRefusal t r n old new e
-rowless_refusal t rowless n old new e h r = r.1
-rowless_refusal t q n old new e h r = absurd h
+pub null_counted : {n start : ℕ} {old new : Reading} {s : Result NULL DecodeError} (r : Result NULL DecodeError) → start ≡ old.index → s ≡ by_length r (new.index - start) n
+    → ReadsWindow base.NULL.null_shape (λ _. Unit {0}) base.NULL.null_fields n r old new
+    → IfErr r (λ e. base.NULL.null_refusal n old e new)
+    → ReadsCounted types.NULL n (mapped (λ x. rdata.NULL x) s) old new
+null_counted {n = n} {old = old} {new = new} r place c window own =
+    mapped_counted types.NULL (λ x. rdata.NULL x) r (λ h. h) place c
+    (reads_mapped old new types.NULL n (λ x. rdata.NULL x) base.NULL.null_fields r window (λ x _. record { type = refl; fields = refl; plain = tt }))
+    (unless_other r (λ e. (e ≡ decode.InsufficientBytes) × LacksOctets old n) (null_lacks n old new r own))
 
-pub unknown_is : (t : RecordType) → HasNoRow t → IsRecordOf base.NULL.null_facts (λ x. rdata.Unknown t x) t
-unknown_is t h = record {
-  windows = λ m p n fields. rowless_windows (row_of t) m p n fields h.rowless;
-  type = λ x. refl;
-  fields = λ x. refl;
-  plain = λ n x old new made. h.rowless;
-  refusal = λ n old new e r. rowless_refusal t (row_of t) n old new e h.rowless r;
-  never = h.read;
-}
+refused_rowless : (q : Row) (old new : Reading) (n : ℕ) (e : DecodeError) → IsRowlessRow q → RefusedWindow e old n base.NULL.null_shape (λ _. Unit {0}) new
+    → RefusedWindow e old n (kinds_of q) (MeetsConditionOf q) new
+refused_rowless (row kinds asked refusal) old new n e h w = absurd h
+refused_rowless unread old new n e h w = absurd h
+refused_rowless rowless old new n e h w = w
 
--- ---- types of which no record is read
+reads_rowless : (old new : Reading) (t : RecordType) (n : ℕ) (r : Result NULL DecodeError) → HasNoRow t
+    → ReadsWindow base.NULL.null_shape (λ _. Unit {0}) base.NULL.null_fields n r old new → ReadsData t n (mapped (λ x. rdata.Unknown t x) r) old new
+reads_rowless old new t n (Ok x) h w = unknown_took t n x h w
+reads_rowless old new t n (Err e) h w = data_refuses t n e (refused_rowless (row_of t) old new n e h.rowless w)
+
+own_rowless : (t : RecordType) (q : Row) (old new : Reading) (n : ℕ) (r : Result NULL DecodeError) → IsRowlessRow q
+    → IfErr r (λ e. UnlessMemory e ((e ≡ decode.InsufficientBytes) × LacksOctets old n))
+    → IfErr r (λ e. UnlessMemory e (IsOwnRefusal t q n old new e))
+own_rowless t (row kinds asked refusal) old new n r h w = absurd h
+own_rowless t unread old new n r h w = absurd h
+own_rowless t rowless old new n r h w = w
+
+pub unknown_counted : {n start : ℕ} {old new : Reading} {s : Result NULL DecodeError} (t : RecordType) (r : Result NULL DecodeError) → HasNoRow t → start ≡ old.index
+    → s ≡ by_length r (new.index - start) n → ReadsWindow base.NULL.null_shape (λ _. Unit {0}) base.NULL.null_fields n r old new
+    → IfErr r (λ e. base.NULL.null_refusal n old e new)
+    → ReadsCounted t n (mapped (λ x. rdata.Unknown t x) s) old new
+unknown_counted {n = n} {old = old} {new = new} t r h place c window own =
+    mapped_counted t (λ x. rdata.Unknown t x) r h.read place c (reads_rowless old new t n r h window)
+    (own_rowless t (row_of t) old new n r h.rowless (unless_other r (λ e. (e ≡ decode.InsufficientBytes) × LacksOctets old n) (null_lacks n old new r own)))
 
 pub zero_counted : {n start : ℕ} {d : Reading} {s : Result RData DecodeError} → n < 65536 → d.index ≤ length d.message → AreOctets d.message
     → start ≡ d.index → s ≡ by_length (Ok rdata.ZERO) (d.index - start) n → ReadsCounted types.ZERO n s d d

@@ -24,10 +24,6 @@ use Rattle.dns_rdata.specs.DataWords.{ReadsDataWords, AnswersDataWords, ReadsDat
 use Rattle.dns_rdata.specs.declared.record_data.RData.TheVariants as rdata
 use Rattle.dns_rdata.proofs.DataReads.{IsNone}
 
--- what is so of each value that is read
-pub of_read : {X E : Type 0} {r : Result X E} {x : X} (P : X → Type 0) → IfOk r P → r ≡ Ok x → P x
-of_read P h e = subst (λ z. IfOk z P) e h
-
 -- words of a service give its fields
 own_stands : (x : SVCB) (words : List (List ℕ)) → AreSvcbWords x words → service_words.stand (svcb_fields x) words
 unfolding word

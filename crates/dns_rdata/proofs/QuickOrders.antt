@@ -6,13 +6,15 @@ use Rattle.std.specs.{List.flat_map, Cmp.Lexicographic.nat_list_cmp_total, Cmp.L
 use Rattle.std.specs.{Ordering.nat_cmp, Ordering.ordering_reverse, Ordering.ordering_then, declared.cmp.Ordering.Ordering}
 use Rattle.std.specs.declared.cmp.Ordering.TheVariants.{Less, Equal, Greater}
 use Rattle.dns_fields.specs.{Equal.values_eq, Pieces.as_piece, Pieces.option_octets, Pieces.piece, Pieces.string, Sorting.sorted}
-use Rattle.dns_fields.specs.Fields.{Kind, Text, Texts, Rest, Values, all_emittable, canonical, field_octets, option_pieces}
+use Rattle.dns_fields.specs.Fields.{Kind, Number, Text, Texts, Rest, Value, Values, all_emittable, canonical, field_octets, option_pieces}
 use Rattle.dns_fields.proofs.{Equivalences.values_equiv, Sorted.octets_cmp, Sorted.length_sorted, Pieces.length-piece}
 use Rattle.dns_pieces.specs.Fronts.{canonical_cmp}
-use Rattle.dns_pieces.proofs.{Comparing.then_kept, Fronts.AllEnd, Fronts.by_fields, Fronts.field_cmp, Fronts.fields_cmp}
+use Rattle.dns_pieces.proofs.{Comparing.cmp_shared, Comparing.then_kept, Fronts.AllEnd, Fronts.by_fields, Fronts.field_cmp, Fronts.fields_cmp}
 use Rattle.dns_rdata_base.specs.{declared.hinfo.HINFO.HINFO, declared.txt.TXT.TXT}
+use Rattle.dns_rdata_certs.specs.{declared.cert.CERT.CERT, declared.sshfp.SSHFP.SSHFP, declared.tlsa.TLSA.TLSA}
 use Rattle.dns_rdata_sets.specs.declared.caa.CAA.{CAA}
 use Rattle.dns_rdata_base.specs as base
+use Rattle.dns_rdata_certs.specs as certs
 use Rattle.dns_rdata_options.specs as options
 use Rattle.dns_rdata_sets.specs as sets
 use Rattle.dns_rdata.specs.{declared.record_data.RData.RData, Data.data_octets, Data.fields_of, Data.octets_of, Equal.equal, QuickOrders.IsOrder}
@@ -145,16 +147,59 @@ caa_orders x y o f g e h =
     orders sets.CAA.caa_shape (sets.CAA.caa_fields x) (sets.CAA.caa_fields y) sets.CAA.caa_key_shape (sets.CAA.caa_keys x) (sets.CAA.caa_keys y) o f g
     (tt, (tt, (tt, tt))) e (λ z tied. let flags = h z in rw (flags.0, flags.1, same_text x.tag y.tag tied.1.0, same_rest x.value y.value tied.1.1.0) refl)
 
--- where the fields in front were compared, too
-pub front_orders : (s : List Kind) (a b : Values s) {same front : Bool} {order : Ordering} (r : Option Ordering) → all_emittable s a ≡ true → all_emittable s b ≡ true → AllEnd s a b
-    → order ≡ canonical_cmp s a b → IfSome r (λ o. (o ≡ order) × (o ≡ Equal → front ≡ true)) → (front ≡ true → AllTied s a b → same ≡ true) → IfSomeOrder s a b same r
-front_orders s a b None f g end e h tied = tt
-front_orders s a b (Some o) f g end e h tied = record {
-  equal = λ z. tied (h.1 z) (tied_fields s a b end (sym e ∙ sym h.0 ∙ z));
+-- ---- of octets to the end behind other fields
+
+same_first : (k : Kind) (x y : Value k) (kinds : List Kind) (a b : Values kinds) → x ≡ y → canonical_cmp (k ∷ kinds) (x, a) (y, b) ≡ canonical_cmp kinds a b
+same_first k x y kinds a b e = cmp_shared {n = length (field_octets k y)} record {
+  shared = field_octets k y;
+  count = refl;
+  left = ap (λ (t : Value k). field_octets k t ++ canonical kinds a) e;
+  right = refl;
+}
+
+-- of octets alone
+abbrev pub rest_cmp : List ℕ → List ℕ → Ordering
+rest_cmp a b = canonical_cmp (Rest ∷ []) (a, tt) (b, tt)
+
+pub cert_front : (x y : CERT) → certs.CertType.cert_type_number x.cert_type ≡ certs.CertType.cert_type_number y.cert_type → x.key_tag ≡ y.key_tag
+    → certs.CertAlgorithm.cert_algorithm_number x.algorithm ≡ certs.CertAlgorithm.cert_algorithm_number y.algorithm
+    → canonical_cmp certs.CERT.cert_shape (certs.CERT.cert_fields x) (certs.CERT.cert_fields y) ≡ rest_cmp x.cert_data y.cert_data
+cert_front x y e f g =
+    same_first (Number 2) (certs.CertType.cert_type_number x.cert_type) (certs.CertType.cert_type_number y.cert_type) (Number 2 ∷ Number 1 ∷ Rest ∷ []) (certs.CERT.cert_fields x).1 (certs.CERT.cert_fields y).1 e
+    ∙ same_first (Number 2) x.key_tag y.key_tag (Number 1 ∷ Rest ∷ []) (certs.CERT.cert_fields x).1.1 (certs.CERT.cert_fields y).1.1 f
+    ∙ same_first (Number 1) (certs.CertAlgorithm.cert_algorithm_number x.algorithm) (certs.CertAlgorithm.cert_algorithm_number y.algorithm) (Rest ∷ []) (x.cert_data, tt) (y.cert_data, tt) g
+
+pub sshfp_front : (x y : SSHFP) → certs.SshfpAlgorithm.sshfp_algorithm_number x.algorithm ≡ certs.SshfpAlgorithm.sshfp_algorithm_number y.algorithm
+    → certs.FingerprintType.fingerprint_type_number x.fingerprint_type ≡ certs.FingerprintType.fingerprint_type_number y.fingerprint_type
+    → canonical_cmp certs.SSHFP.sshfp_shape (certs.SSHFP.sshfp_fields x) (certs.SSHFP.sshfp_fields y) ≡ rest_cmp x.fingerprint y.fingerprint
+sshfp_front x y e f =
+    same_first (Number 1) (certs.SshfpAlgorithm.sshfp_algorithm_number x.algorithm) (certs.SshfpAlgorithm.sshfp_algorithm_number y.algorithm) (Number 1 ∷ Rest ∷ []) (certs.SSHFP.sshfp_fields x).1 (certs.SSHFP.sshfp_fields y).1 e
+    ∙ same_first (Number 1) (certs.FingerprintType.fingerprint_type_number x.fingerprint_type) (certs.FingerprintType.fingerprint_type_number y.fingerprint_type) (Rest ∷ [])
+    (x.fingerprint, tt) (y.fingerprint, tt) f
+
+pub tlsa_front : (x y : TLSA) → certs.CertUsage.cert_usage_number x.cert_usage ≡ certs.CertUsage.cert_usage_number y.cert_usage → certs.Selector.selector_number x.selector ≡ certs.Selector.selector_number y.selector
+    → certs.Matching.matching_number x.matching ≡ certs.Matching.matching_number y.matching
+    → canonical_cmp certs.TLSA.tlsa_shape (certs.TLSA.tlsa_fields x) (certs.TLSA.tlsa_fields y) ≡ rest_cmp x.cert_data y.cert_data
+tlsa_front x y e f g =
+    same_first (Number 1) (certs.CertUsage.cert_usage_number x.cert_usage) (certs.CertUsage.cert_usage_number y.cert_usage) (Number 1 ∷ Number 1 ∷ Rest ∷ []) (certs.TLSA.tlsa_fields x).1 (certs.TLSA.tlsa_fields y).1 e
+    ∙ same_first (Number 1) (certs.Selector.selector_number x.selector) (certs.Selector.selector_number y.selector) (Number 1 ∷ Rest ∷ []) (certs.TLSA.tlsa_fields x).1.1 (certs.TLSA.tlsa_fields y).1.1 f
+    ∙ same_first (Number 1) (certs.Matching.matching_number x.matching) (certs.Matching.matching_number y.matching) (Rest ∷ []) (x.cert_data, tt) (y.cert_data, tt) g
+
+-- the octets decide, and tell the values
+pub by_rest : (s : List Kind) (a b : Values s) (same : Bool) (x y : List ℕ) (o : Ordering) → all_emittable s a ≡ true → all_emittable s b ≡ true
+    → canonical_cmp s a b ≡ rest_cmp x y → (x ≡ y → same ≡ true) → o ≡ rest_cmp x y → IsOrder s a b same o
+by_rest s a b same x y o f g order equal e = record {
+  equal = λ t. equal (same_rest x y (tied_fields (Rest ∷ []) (x, tt) (y, tt) (tt, tt) (sym e ∙ t)).0);
   first = λ n. f;
   second = λ n. g;
-  octets = λ n. h.0 ∙ e;
+  octets = λ n. e ∙ sym order;
 }
+
+-- where only a difference was told
+pub differing : (s : List Kind) (a b : Values s) (same : Bool) (order : Ordering) (r : Option Ordering) → all_emittable s a ≡ true → all_emittable s b ≡ true
+    → order ≡ canonical_cmp s a b → IfSome r (λ o. (o ≡ order) × (o ≢ Equal)) → IfSomeOrder s a b same r
+differing s a b same order None f g e h = tt
+differing s a b same order (Some o) f g e h = record { equal = λ t. absurd (h.1 t); first = λ n. f; second = λ n. g; octets = λ n. h.0 ∙ e }
 
 -- ---- of options
 

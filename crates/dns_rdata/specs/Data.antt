@@ -1,11 +1,12 @@
 -- Record data of every type: its fields, and when a value fills a window of a message (RFC 1035, 3.2.1).
-use Rattle.std.specs.Prelude.{◌≡◌, ℕ, true, if◌then◌else◌, List, [], ◌∷◌, Result}
+use Rattle.std.specs.Prelude.{◌≡◌, ◌≢◌, ℕ, ◌+◌, true, if◌then◌else◌, List, [], ◌∷◌, Result, Ok, Err}
 use Rattle.dns_fields.specs.{declared.RDataEncoding.RDataEncoding, Fields.Kind, Fields.Rest, Fields.Values, Fields.all_emittable, Fields.canonical}
 use Rattle.dns_fields.specs.declared.RDataEncoding.TheVariants as modes
 use Rattle.dns_types.specs.{declared.record_type.RecordType.RecordType, declared.error.DecodeError.DecodeError, declared.error.ProtoError.ProtoError}
 use Rattle.dns_types.specs.declared.record_type.RecordType.TheVariants as types
 use Rattle.dns_types.specs.declared.error.DecodeError.TheVariants as decode
-use Rattle.dns_names_wire.specs.{Facts.Facts, State.Reading, State.Writing, Words.EmitsAs, Words.LacksOctets, Words.Window}
+use Rattle.dns_names_wire.specs.{Facts.Facts, State.Reading, State.Writing, Words.EmitsAs, Words.LacksOctets}
+use Rattle.dns_names_wire.specs.Words.{NoWindow, StaysBehind, UnlessMemory, Window}
 use Rattle.dns_rdata_base.specs as base
 use Rattle.dns_rdata_certs.specs as certs
 use Rattle.dns_rdata_options.specs as options
@@ -220,3 +221,18 @@ mode_for own v = own
 -- the fields of the value are emitted, its names in this mode
 unfoldable pub EmitsData : RDataEncoding → RData → Result (Unit {0}) ProtoError → Writing → Writing → Type 0
 EmitsData mode v r old new = EmitsAs mode (fields_of v).kinds (fields_of v).values r old new
+
+-- ---- what a reader answers that may stop at another end than the length
+
+pub record TookData (old : Reading) (t : RecordType) (n : ℕ) (v : RData) (new : Reading) : Type 0 where
+  pub behind : StaysBehind old new
+  pub here : new.index ≡ old.index + n → Fills old.message old.index n t v
+  pub elsewhere : new.index ≢ old.index + n → NoWindow old.message old.index n (shape t) (condition t)
+
+pub record RefusedData (e : DecodeError) (old : Reading) (t : RecordType) (n : ℕ) (new : Reading) : Type 0 where
+  pub behind : StaysBehind old new
+  pub none : UnlessMemory e (NoWindow old.message old.index n (shape t) (condition t))
+
+abbrev pub ReadsData : RecordType → ℕ → Result RData DecodeError → Reading → Reading → Type 0
+ReadsData t n (Ok v) old new = TookData old t n v new
+ReadsData t n (Err e) old new = RefusedData e old t n new

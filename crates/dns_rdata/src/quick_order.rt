@@ -1,11 +1,13 @@
 //! The order of two values of one variant by their fields, where these tell it without a cursor.
 
-ghost use Rattle.std.specs.Prelude.{◌≡◌, ◌&&◌, ◌∷◌, [], IfSome, IsTrue, length, true};
+ghost use Rattle.std.specs.Prelude.{◌≡◌, ◌≢◌, ◌&&◌, ◌∷◌, [], IfSome, IsTrue, length, true};
 ghost use Rattle.std.specs.declared.cmp.Ordering.TheVariants.{Equal};
 ghost use Rattle.dns_fields.specs.{Fields.Rest, Fields.all_emittable, Equal.values_eq};
 ghost use Rattle.dns_pieces.specs.Fronts.{canonical_cmp};
 ghost use Rattle.dns_rdata_base.specs.{HINFO.hinfo_shape, HINFO.hinfo_fields, NAPTR.naptr_shape, NAPTR.naptr_fields, TXT.txt_shape, TXT.txt_fields};
-ghost use Rattle.dns_rdata_certs.specs.CERT.{cert_key_shape, cert_keys, cert_shape, cert_fields};
+ghost use Rattle.dns_rdata_certs.specs.{CERT.cert_key_shape, CERT.cert_keys, CERT.cert_shape, CERT.cert_fields, CertAlgorithm.cert_algorithm_number};
+ghost use Rattle.dns_rdata_certs.specs.{CertType.cert_type_number, CertUsage.cert_usage_number, FingerprintType.fingerprint_type_number};
+ghost use Rattle.dns_rdata_certs.specs.{Matching.matching_number, Selector.selector_number, SshfpAlgorithm.sshfp_algorithm_number};
 ghost use Rattle.dns_rdata_certs.specs.SSHFP.{sshfp_key_shape, sshfp_keys, sshfp_shape, sshfp_fields};
 ghost use Rattle.dns_rdata_certs.specs.TLSA.{tlsa_key_shape, tlsa_keys, tlsa_shape, tlsa_fields};
 ghost use Rattle.dns_rdata_options.specs.{OPT.opt_shape, OPT.opt_fields, Order.opt_eq};
@@ -62,18 +64,6 @@ fn unless_tied<T: Record + PartialEq>(order: Ordering, a: &T, b: &T) -> Option<O
     ensures { IfSomeOrder T.facts.kinds (T.facts.fields a.now) (T.facts.fields b.now) (T.eq a.now b.now) result }
 {
     if order.is_ne() || a == b {
-        Some(order)
-    } else {
-        None
-    }
-}
-
-// The order that was found. `None` where it ties and the fields in front are not the same.
-#[inline]
-fn unless_other(order: Ordering, same: bool) -> Option<Ordering>
-    ensures { IfSome result (λ o. (o ≡ order) × (o ≡ Equal → same ≡ true)) }
-{
-    if order.is_ne() || same {
         Some(order)
     } else {
         None
@@ -151,52 +141,72 @@ fn caa_quick_cmp(a: &CAA, b: &CAA) -> Option<Ordering>
     )
 }
 
+// The order that was found. `None` where it ties.
+#[inline]
+fn if_differing(order: Ordering) -> Option<Ordering>
+    ensures { IfSome result (λ o. (o ≡ order) × (o ≢ Equal)) }
+{
+    if order.is_ne() { Some(order) } else { None }
+}
+
 // Whether two CERT have equal fields in front of the certificate.
 #[inline]
 fn is_cert_front_same(a: &CERT, b: &CERT) -> bool
-    ensures { IsTrue result → a.now.cert_data ≡ b.now.cert_data → values_eq cert_key_shape (cert_keys a.now) (cert_keys b.now) ≡ true }
+    ensures numbers { IsTrue result → (cert_type_number a.now.cert_type ≡ cert_type_number b.now.cert_type) × (a.now.key_tag ≡ b.now.key_tag) × (cert_algorithm_number a.now.algorithm ≡ cert_algorithm_number b.now.algorithm) }
+    ensures equal { IsTrue result → a.now.cert_data ≡ b.now.cert_data → values_eq cert_key_shape (cert_keys a.now) (cert_keys b.now) ≡ true }
 {
     a.cert_type == b.cert_type && a.key_tag == b.key_tag && a.algorithm == b.algorithm
 }
 
-// The order of two CERT, whose octets tell the certificate and not the other fields.
+// The order of two CERT: by the octets of the certificate where the fields in front are equal.
 #[inline]
 fn cert_quick_cmp(a: &CERT, b: &CERT) -> Option<Ordering>
     ensures { IfSomeOrder cert_shape (cert_fields a.now) (cert_fields b.now) (values_eq cert_key_shape (cert_keys a.now) (cert_keys b.now)) result }
 {
-    unless_other(cert_order(a, b), is_cert_front_same(a, b))
+    if is_cert_front_same(a, b) {
+        return Some(rest_order(a.cert_data.as_slice(), b.cert_data.as_slice()));
+    }
+    if_differing(cert_order(a, b))
 }
 
 // Whether two SSHFP have equal fields in front of the fingerprint.
 #[inline]
 fn is_sshfp_front_same(a: &SSHFP, b: &SSHFP) -> bool
-    ensures { IsTrue result → a.now.fingerprint ≡ b.now.fingerprint → values_eq sshfp_key_shape (sshfp_keys a.now) (sshfp_keys b.now) ≡ true }
+    ensures numbers { IsTrue result → (sshfp_algorithm_number a.now.algorithm ≡ sshfp_algorithm_number b.now.algorithm) × (fingerprint_type_number a.now.fingerprint_type ≡ fingerprint_type_number b.now.fingerprint_type) }
+    ensures equal { IsTrue result → a.now.fingerprint ≡ b.now.fingerprint → values_eq sshfp_key_shape (sshfp_keys a.now) (sshfp_keys b.now) ≡ true }
 {
     a.algorithm == b.algorithm && a.fingerprint_type == b.fingerprint_type
 }
 
-// The order of two SSHFP, whose octets tell the fingerprint and not the other fields.
+// The order of two SSHFP: by the octets of the fingerprint where the fields in front are equal.
 #[inline]
 fn sshfp_quick_cmp(a: &SSHFP, b: &SSHFP) -> Option<Ordering>
     ensures { IfSomeOrder sshfp_shape (sshfp_fields a.now) (sshfp_fields b.now) (values_eq sshfp_key_shape (sshfp_keys a.now) (sshfp_keys b.now)) result }
 {
-    unless_other(sshfp_order(a, b), is_sshfp_front_same(a, b))
+    if is_sshfp_front_same(a, b) {
+        return Some(rest_order(a.fingerprint.as_slice(), b.fingerprint.as_slice()));
+    }
+    if_differing(sshfp_order(a, b))
 }
 
 // Whether two TLSA have equal fields in front of the certificate.
 #[inline]
 fn is_tlsa_front_same(a: &TLSA, b: &TLSA) -> bool
-    ensures { IsTrue result → a.now.cert_data ≡ b.now.cert_data → values_eq tlsa_key_shape (tlsa_keys a.now) (tlsa_keys b.now) ≡ true }
+    ensures numbers { IsTrue result → (cert_usage_number a.now.cert_usage ≡ cert_usage_number b.now.cert_usage) × (selector_number a.now.selector ≡ selector_number b.now.selector) × (matching_number a.now.matching ≡ matching_number b.now.matching) }
+    ensures equal { IsTrue result → a.now.cert_data ≡ b.now.cert_data → values_eq tlsa_key_shape (tlsa_keys a.now) (tlsa_keys b.now) ≡ true }
 {
     a.cert_usage == b.cert_usage && a.selector == b.selector && a.matching == b.matching
 }
 
-// The order of two TLSA, whose octets tell the certificate and not the other fields.
+// The order of two TLSA: by the octets of the certificate where the fields in front are equal.
 #[inline]
 fn tlsa_quick_cmp(a: &TLSA, b: &TLSA) -> Option<Ordering>
     ensures { IfSomeOrder tlsa_shape (tlsa_fields a.now) (tlsa_fields b.now) (values_eq tlsa_key_shape (tlsa_keys a.now) (tlsa_keys b.now)) result }
 {
-    unless_other(tlsa_order(a, b), is_tlsa_front_same(a, b))
+    if is_tlsa_front_same(a, b) {
+        return Some(rest_order(a.cert_data.as_slice(), b.cert_data.as_slice()));
+    }
+    if_differing(tlsa_order(a, b))
 }
 
 // The order of two SVCB. It is found where the first parameters that differ decide it, or where none differ.

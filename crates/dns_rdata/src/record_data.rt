@@ -6,7 +6,7 @@ ghost use Rattle.dns_names_wire.specs.Words.{StaysBehind, UnlessMemory, EmitsAs,
 ghost use Rattle.dns_types.specs.declared.error.ProtoError.{ProtoError as ProtoErrorValue};
 ghost use Rattle.dns_names_wire.specs.State.{Writing};
 ghost use Rattle.dns_rdata.specs.Data.{EmitsData, IsNeverRead, fields_of, mode_for};
-ghost use Rattle.dns_rdata.specs.Refusals.{IsRecordOf, IsRefusal, ReadsCounted, by_length as answer_by_length};
+ghost use Rattle.dns_rdata.specs.Refusals.{IsRefusal, by_length as answer_by_length};
 
 use crate::traits::RecordData;
 use dns_names_wire::{
@@ -134,16 +134,18 @@ macro_rules! equal_each {
     };
 }
 
-// Matches the type of the data: the arms that are given first, and then one for each record, which reads it and returns.
+// Matches the type of the data: the arms that are given first, and then one for each record, which reads it, counts the
+// octets that were taken, and returns.
 macro_rules! read_each {
     (
-        ($record_type:expr, $decoder:ident, $length:ident, $($pattern:pat => $other:expr),+; $code:ident => $last:expr)
+        ($record_type:expr, $decoder:ident, $start:ident, $length:ident, $($pattern:pat => $other:expr),+; $code:ident => $last:expr)
         $($record:ident)+
     ) => {
         match $record_type {
             $($pattern => $other,)+
             $(RecordType::$record => {
-                return read_record::<$record>(RecordType::$record, $decoder, $length);
+                let data = $record::read_data($decoder, $length);
+                return Ok(RData::$record(by_length(data, $decoder, $start, $length)?));
             })+
             $code => $last,
         }
@@ -220,6 +222,8 @@ impl RData {
     ///     RData::read(&mut decoder, RecordType::A, Restrict::new(4))
     /// }
     /// ```
+    // Each type counts the octets of its own record and returns by itself: a value that goes through one place for all of
+    // them is copied there, and so it is where it is handed on by another function.
     #[inline(never)]
     pub fn read(
         decoder: &mut BinDecoder<'_>,
@@ -241,51 +245,19 @@ impl RData {
         // What is read can be emitted: it is refused for memory or for buffer space alone.
         ensures emittable { IfOk result IsEmittable }
     {
-        RData::read_by_type(decoder, record_type, length)
-    }
-
-    // Reads the data of a type. Each type counts the octets of its own record and returns by itself: a value that goes
-    // through one place for all of them is copied there, and so it is where it is handed on by another function.
-    #[inline(always)]
-    fn read_by_type(
-        decoder: &mut BinDecoder<'_>,
-        record_type: RecordType,
-        length: Restrict<u16>,
-    ) -> Result<RData, DecodeError>
-        ensures { ReadsCounted record_type length result decoder.old decoder.new }
-    {
-        read_each!(record_type, decoder, length,
-            RecordType::ZERO => {
-                let start = decoder.index();
-                return by_length(Ok(RData::ZERO), decoder, start, length);
-            },
+        let start = decoder.index();
+        read_each!(record_type, decoder, start, length,
+            RecordType::ZERO => return by_length(Ok(RData::ZERO), decoder, start, length),
             RecordType::ANY | RecordType::AXFR | RecordType::IXFR => {
                 return Err(DecodeError::UnknownRecordTypeValue(record_type.into()));
             };
             code => {
-                let start = decoder.index();
                 let data = NULL::read_data(decoder, length);
                 let rdata = by_length(data, decoder, start, length)?;
                 return Ok(RData::Unknown { code, rdata });
             }
         )
     }
-}
-
-// Reads the record of a type, and counts the octets that were taken.
-#[inline(always)]
-fn read_record<T: RecordDataDecodable + RecordData + Drop>(
-    record_type: RecordType,
-    decoder: &mut BinDecoder<'_>,
-    length: Restrict<u16>,
-) -> Result<RData, DecodeError>
-    requires { IsRecordOf T.facts T.wrapped record_type }
-    ensures { ReadsCounted record_type length result decoder.old decoder.new }
-{
-    let _ = record_type;
-    let start = decoder.index();
-    let data = T::read_data(decoder, length);
-    Ok(by_length(data, decoder, start, length)?.into_rdata())
 }
 
 // What reading answers that began at this place, by how many octets were taken of a length.

@@ -1,8 +1,8 @@
 use Rattle.std.proofs.Common.{refl}
 use Rattle.dns_types.specs.declared.record_type.RecordType.TheVariants as types
 use Rattle.dns_rdata.specs.declared.record_data.RData.TheVariants as rdata
-use Rattle.dns_rdata.proofs.DataReads.{IsNone}
-use Rattle.dns_rdata.proofs.DataWords.{word_types, has_no_words, no_https, no_svcb, of_read, answers, answers_no_words, by_row, by_own, zero_took}
+use Rattle.dns_rdata.proofs.DataReads.{IsNone, of_read}
+use Rattle.dns_rdata.proofs.DataWords.{word_types, has_no_words, no_https, no_svcb, answers, answers_no_words, by_row, by_own, zero_took}
 use Rattle.dns_rdata.proofs.record_data.RData.read_words.Goals as goal
 
 pub returns-in-A : goal.returns-in-A
