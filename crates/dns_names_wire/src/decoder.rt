@@ -102,8 +102,10 @@ impl<'a> BinDecoder<'a> {
     pub fn peek(&self) -> Option<Restrict<u8>>
         ensures { result ≡ slice_get self.now.message self.now.index }
     {
-        let octet = self.message.get(self.index)?;
-        Some(Restrict::new(*octet))
+        match self.message.get(self.index) {
+            Some(octet) => Some(Restrict::new(*octet)),
+            None => None,
+        }
     }
 
     /// The next `len` octets. Where fewer are left it is refused by

@@ -151,7 +151,8 @@ impl<'a> BinEncoder<'a> {
         if self.octets.len() + octets.len() > self.limit {
             return Err(ProtoError::MaxBufferSizeExceeded);
         }
-        Ok(self.octets.extend_from_slice(octets)?)
+        self.octets.extend_from_slice(octets)?;
+        Ok(())
     }
 
     /// Appends octets and others behind them, under one test of the room: both, or nothing.
@@ -187,7 +188,8 @@ impl<'a> BinEncoder<'a> {
         ensures room { OnOk result (length self.old.octets + 1 ≤ self.old.limit) }
         ensures whole { OnErr result (self.new ≡ self.old) }
     {
-        self.emit_vec(&n.to_be_bytes())
+        self.emit_vec(&n.to_be_bytes())?;
+        Ok(())
     }
 
     /// Appends the two octets of a number, the higher one first.
@@ -198,7 +200,8 @@ impl<'a> BinEncoder<'a> {
         ensures room { OnOk result (length self.old.octets + 2 ≤ self.old.limit) }
         ensures whole { OnErr result (self.new ≡ self.old) }
     {
-        self.emit_vec(&n.to_be_bytes())
+        self.emit_vec(&n.to_be_bytes())?;
+        Ok(())
     }
 
     /// Appends the four octets of a number, the highest one first.
@@ -209,7 +212,8 @@ impl<'a> BinEncoder<'a> {
         ensures room { OnOk result (length self.old.octets + 4 ≤ self.old.limit) }
         ensures whole { OnErr result (self.new ≡ self.old) }
     {
-        self.emit_vec(&n.to_be_bytes())
+        self.emit_vec(&n.to_be_bytes())?;
+        Ok(())
     }
 
     /// Appends the four octets of a signed number in two's complement, the highest one first.

@@ -226,7 +226,8 @@ impl BinEncodable for Name {
         ensures room { OnOk result (length encoder.new.octets ≤ encoder.old.limit) }
         ensures whole { OnErr result (encoder.new ≡ encoder.old) }
     {
-        encoder.emit_name(self.octets.as_slice(), self.is_fqdn.get())
+        encoder.emit_name(self.octets.as_slice(), self.is_fqdn.get())?;
+        Ok(())
     }
 }
 
