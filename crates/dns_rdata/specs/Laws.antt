@@ -4,7 +4,7 @@ use Rattle.std.specs.{declared.net.ip_addr.IpAddr.IpAddr, declared.net.ip_addr.I
 use Rattle.dns_types.specs.declared.record_type.RecordType.{RecordType}
 use Rattle.dns_names_wire.specs.{State.Writing, Words.Window}
 use Rattle.dns_fields.specs.Fields.{Values}
-use Rattle.dns_rdata.specs.{declared.record_data.RData.RData, Data.shape, Data.condition, Data.Fills, Data.data_octets, Equal.equal}
+use Rattle.dns_rdata.specs.{declared.record_data.RData.RData, Data.shape, Data.condition, Data.Fills, Data.data_octets, Data.type_of, Equal.equal}
 use Rattle.dns_rdata.specs.declared.record_data.RData.TheVariants as rdata
 
 -- octets are the data of at most one value of a type
@@ -46,3 +46,15 @@ address_of v = None
 abbrev pub IsUpdate : RData → Type 0
 IsUpdate (rdata.Update0 t) = Unit {0}
 IsUpdate v = ⊥
+
+-- Data is lent exactly where the value is the one that holds it, which is of this type, and no update.
+pub record HoldsOnly {A : Type 0} (wrapped : A → RData) (borrowed : RData → Option A) (t : RecordType) : Type 0 where
+  pub exactly : (v : RData) (x : A) → (borrowed v ≡ Some x) ↔ (wrapped x ≡ v)
+  pub type : (x : A) → type_of (wrapped x) ≡ t
+  pub no_update : (x : A) → IsUpdate (wrapped x) → ⊥
+
+-- the values of one variant, each of which holds one A
+pub record VariantOf (A : Type 0) (t : RecordType) : Type 0 where
+  pub wrapped : A → RData
+  pub borrowed : RData → Option A
+  pub holds : HoldsOnly wrapped borrowed t

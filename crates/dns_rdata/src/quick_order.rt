@@ -15,7 +15,7 @@ ghost use Rattle.dns_rdata_service.specs.SVCB.{svcb_shape, svcb_fields, svcb_key
 ghost use Rattle.dns_rdata_sets.specs.CAA.{caa_shape, caa_fields, caa_key_shape, caa_keys};
 ghost use Rattle.dns_rdata.specs.{Data.fields_by, Data.fields_of, Equal.equal, QuickOrders.IfSomeFieldOrder, QuickOrders.IfSomeOrder, QuickOrders.TellsOrder};
 
-use crate::record_data::RData;
+use crate::record_data::{RData, is_equal};
 use crate::traits::RecordData;
 use dns_names_wire::{Record, SmallOctets};
 use dns_rdata_base::order::{
@@ -63,7 +63,7 @@ fn unless_tied<T: Record + PartialEq>(order: Ordering, a: &T, b: &T) -> Option<O
     requires second { all_emittable T.facts.kinds (T.facts.fields b.now) ≡ true }
     ensures { IfSomeOrder T.facts.kinds (T.facts.fields a.now) (T.facts.fields b.now) (T.eq a.now b.now) result }
 {
-    if order.is_ne() || a == b {
+    if order.is_ne() || is_equal(a, b) {
         Some(order)
     } else {
         None

@@ -123,11 +123,13 @@ macro_rules! each {
     };
 }
 
-// Matches two values: the arms that are given first, and then one for two records of each type that is named.
+// Matches two values: the arms that are given first, and then one for two records of each type that is named. The first
+// types are compared by a call, the others in place.
 macro_rules! equal_each {
-    ($values:expr, [$($record:ident)+], $($pattern:pat => $other:expr),+; $last:expr) => {
+    ($values:expr, [$($called:ident)+], [$($record:ident)+], $($pattern:pat => $other:expr),+; $last:expr) => {
         match $values {
             $($pattern => $other,)+
+            $((RData::$called(a), RData::$called(b)) => is_equal(a, b),)+
             $((RData::$record(a), RData::$record(b)) => *a == *b,)+
             _ => $last,
         }
@@ -430,6 +432,14 @@ fn emit_whole_record<T: EncodesFields + RecordData>(
     emit_in(RDataEncoding::Other, value, encoder)
 }
 
+// Whether two records are equal: a call.
+#[inline(never)]
+pub(crate) fn is_equal<T: PartialEq>(a: &T, b: &T) -> bool
+    ensures { result ≡ T.eq a.now b.now }
+{
+    *a == *b
+}
+
 impl RData {
     ghost use Rattle.std.specs.Prelude.{◌&&◌};
     ghost use Rattle.dns_fields.specs.Equal.{values_eq};
@@ -453,11 +463,11 @@ impl RData {
     fn is_same(&self, other: &RData) -> bool
         ensures { result ≡ equal self.now other.now }
     {
-        // The `==` of a record is a call, but for addresses and octets alone, so that this function needs hardly a frame.
+        // Few are compared in place, so that this function needs hardly a frame.
         equal_each!(
             (self, other),
-            [A AAAA ANAME CAA CERT CNAME CSYNC HINFO HTTPS MX NAPTR NS OPT PTR SMIMEA SOA SRV SSHFP
-            SVCB TLSA TXT],
+            [ANAME CERT CNAME CSYNC HINFO MX NAPTR NS PTR SMIMEA SOA SRV SSHFP TLSA TXT],
+            [A AAAA CAA HTTPS OPT SVCB],
             (RData::NULL(a), RData::NULL(b)) => a.anything == b.anything,
             (RData::OPENPGPKEY(a), RData::OPENPGPKEY(b)) => a.public_key == b.public_key,
             (

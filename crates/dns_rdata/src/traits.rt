@@ -2,7 +2,9 @@
 
 ghost use Rattle.std.specs.Prelude.{◌≡◌, ◌↔◌, IsTrue, Option, Some, None, option_copied};
 ghost use Rattle.std.proofs.Common.{rules};
-ghost use Rattle.dns_rdata.specs.{declared.record_data.RData.RData as Data, Data.type_of, Laws.IsUpdate};
+ghost use Rattle.dns_types.specs.declared.record_type.RecordType.{RecordType as RecordTypeValue};
+ghost use Rattle.dns_types.specs.declared.record_type.RecordType.TheVariants as types;
+ghost use Rattle.dns_rdata.specs.{declared.record_data.RData.RData as Data, Data.type_of, Laws.IsUpdate, Laws.VariantOf};
 ghost use Rattle.dns_rdata.specs.declared.record_data.RData.TheVariants as rdata;
 
 use crate::record_data::RData;
@@ -43,6 +45,49 @@ pub trait RecordData: Sized {
     ghost exactly: { (v : Data) (x : Self) → (borrowed v ≡ Some x) ↔ (wrapped x ≡ v) };
 }
 
+// A record that a variant of its own holds.
+pub(crate) trait Variant: Sized {
+    /// The type of a record that has this data.
+    const TYPE: RecordType;
+
+    ghost TYPE: { RecordTypeValue };
+
+    /// The values that hold such a record.
+    ghost variant: { VariantOf Self TYPE };
+
+    /// The record that the value holds; none where it holds other data.
+    fn held_in(rdata: &RData) -> Option<&Self>
+        ensures { option_copied result ≡ variant.borrowed rdata.now };
+
+    /// The value that holds the record.
+    fn in_value(self) -> RData
+        ensures { result ≡ variant.wrapped self };
+}
+
+impl<T: Variant> RecordData for T {
+    ghost wrapped = { T.variant.wrapped };
+
+    ghost borrowed = { T.variant.borrowed };
+
+    ghost exactly = { T.variant.holds.exactly };
+
+    fn try_borrow(rdata: &RData) -> Option<&T> {
+        T::held_in(rdata)
+    }
+
+    fn record_type(&self) -> RecordType {
+        T::TYPE
+    }
+
+    fn into_rdata(self) -> RData {
+        self.in_value()
+    }
+
+    fn is_update(&self) -> bool {
+        false
+    }
+}
+
 // The record of the type that the value holds, if it does.
 macro_rules! held {
     ($rdata:expr, $record:ident) => {
@@ -53,555 +98,371 @@ macro_rules! held {
     };
 }
 
-impl RecordData for A {
-    ghost wrapped = { λ x. rdata.A x };
+impl Variant for A {
+    const TYPE: RecordType = RecordType::A;
 
-    ghost borrowed = { elim [ rdata.A x ↦ Some x | v ↦ None ] };
+    ghost TYPE = { types.A };
 
-    ghost exactly = { Prim.search rules };
+    ghost variant = { record { wrapped = λ x. rdata.A x; borrowed = elim [ rdata.A x ↦ Some x | v ↦ None ]; holds = Prim.search rules } };
 
-    fn try_borrow(rdata: &RData) -> Option<&A> {
+    fn held_in(rdata: &RData) -> Option<&A> {
         held!(rdata, A)
     }
 
-    fn record_type(&self) -> RecordType {
-        RecordType::A
-    }
-
-    fn into_rdata(self) -> RData {
+    fn in_value(self) -> RData {
         RData::A(self)
-    }
-
-    fn is_update(&self) -> bool {
-        false
     }
 }
 
-impl RecordData for AAAA {
-    ghost wrapped = { λ x. rdata.AAAA x };
+impl Variant for AAAA {
+    const TYPE: RecordType = RecordType::AAAA;
 
-    ghost borrowed = { elim [ rdata.AAAA x ↦ Some x | v ↦ None ] };
+    ghost TYPE = { types.AAAA };
 
-    ghost exactly = { Prim.search rules };
+    ghost variant = { record { wrapped = λ x. rdata.AAAA x; borrowed = elim [ rdata.AAAA x ↦ Some x | v ↦ None ]; holds = Prim.search rules } };
 
-    fn try_borrow(rdata: &RData) -> Option<&AAAA> {
+    fn held_in(rdata: &RData) -> Option<&AAAA> {
         held!(rdata, AAAA)
     }
 
-    fn record_type(&self) -> RecordType {
-        RecordType::AAAA
-    }
-
-    fn into_rdata(self) -> RData {
+    fn in_value(self) -> RData {
         RData::AAAA(self)
-    }
-
-    fn is_update(&self) -> bool {
-        false
     }
 }
 
-impl RecordData for ANAME {
-    ghost wrapped = { λ x. rdata.ANAME x };
+impl Variant for ANAME {
+    const TYPE: RecordType = RecordType::ANAME;
 
-    ghost borrowed = { elim [ rdata.ANAME x ↦ Some x | v ↦ None ] };
+    ghost TYPE = { types.ANAME };
 
-    ghost exactly = { Prim.search rules };
+    ghost variant = { record { wrapped = λ x. rdata.ANAME x; borrowed = elim [ rdata.ANAME x ↦ Some x | v ↦ None ]; holds = Prim.search rules } };
 
-    fn try_borrow(rdata: &RData) -> Option<&ANAME> {
+    fn held_in(rdata: &RData) -> Option<&ANAME> {
         held!(rdata, ANAME)
     }
 
-    fn record_type(&self) -> RecordType {
-        RecordType::ANAME
-    }
-
-    fn into_rdata(self) -> RData {
+    fn in_value(self) -> RData {
         RData::ANAME(self)
-    }
-
-    fn is_update(&self) -> bool {
-        false
     }
 }
 
-impl RecordData for CAA {
-    ghost wrapped = { λ x. rdata.CAA x };
+impl Variant for CAA {
+    const TYPE: RecordType = RecordType::CAA;
 
-    ghost borrowed = { elim [ rdata.CAA x ↦ Some x | v ↦ None ] };
+    ghost TYPE = { types.CAA };
 
-    ghost exactly = { Prim.search rules };
+    ghost variant = { record { wrapped = λ x. rdata.CAA x; borrowed = elim [ rdata.CAA x ↦ Some x | v ↦ None ]; holds = Prim.search rules } };
 
-    fn try_borrow(rdata: &RData) -> Option<&CAA> {
+    fn held_in(rdata: &RData) -> Option<&CAA> {
         held!(rdata, CAA)
     }
 
-    fn record_type(&self) -> RecordType {
-        RecordType::CAA
-    }
-
-    fn into_rdata(self) -> RData {
+    fn in_value(self) -> RData {
         RData::CAA(self)
-    }
-
-    fn is_update(&self) -> bool {
-        false
     }
 }
 
-impl RecordData for CERT {
-    ghost wrapped = { λ x. rdata.CERT x };
+impl Variant for CERT {
+    const TYPE: RecordType = RecordType::CERT;
 
-    ghost borrowed = { elim [ rdata.CERT x ↦ Some x | v ↦ None ] };
+    ghost TYPE = { types.CERT };
 
-    ghost exactly = { Prim.search rules };
+    ghost variant = { record { wrapped = λ x. rdata.CERT x; borrowed = elim [ rdata.CERT x ↦ Some x | v ↦ None ]; holds = Prim.search rules } };
 
-    fn try_borrow(rdata: &RData) -> Option<&CERT> {
+    fn held_in(rdata: &RData) -> Option<&CERT> {
         held!(rdata, CERT)
     }
 
-    fn record_type(&self) -> RecordType {
-        RecordType::CERT
-    }
-
-    fn into_rdata(self) -> RData {
+    fn in_value(self) -> RData {
         RData::CERT(self)
-    }
-
-    fn is_update(&self) -> bool {
-        false
     }
 }
 
-impl RecordData for CNAME {
-    ghost wrapped = { λ x. rdata.CNAME x };
+impl Variant for CNAME {
+    const TYPE: RecordType = RecordType::CNAME;
 
-    ghost borrowed = { elim [ rdata.CNAME x ↦ Some x | v ↦ None ] };
+    ghost TYPE = { types.CNAME };
 
-    ghost exactly = { Prim.search rules };
+    ghost variant = { record { wrapped = λ x. rdata.CNAME x; borrowed = elim [ rdata.CNAME x ↦ Some x | v ↦ None ]; holds = Prim.search rules } };
 
-    fn try_borrow(rdata: &RData) -> Option<&CNAME> {
+    fn held_in(rdata: &RData) -> Option<&CNAME> {
         held!(rdata, CNAME)
     }
 
-    fn record_type(&self) -> RecordType {
-        RecordType::CNAME
-    }
-
-    fn into_rdata(self) -> RData {
+    fn in_value(self) -> RData {
         RData::CNAME(self)
-    }
-
-    fn is_update(&self) -> bool {
-        false
     }
 }
 
-impl RecordData for CSYNC {
-    ghost wrapped = { λ x. rdata.CSYNC x };
+impl Variant for CSYNC {
+    const TYPE: RecordType = RecordType::CSYNC;
 
-    ghost borrowed = { elim [ rdata.CSYNC x ↦ Some x | v ↦ None ] };
+    ghost TYPE = { types.CSYNC };
 
-    ghost exactly = { Prim.search rules };
+    ghost variant = { record { wrapped = λ x. rdata.CSYNC x; borrowed = elim [ rdata.CSYNC x ↦ Some x | v ↦ None ]; holds = Prim.search rules } };
 
-    fn try_borrow(rdata: &RData) -> Option<&CSYNC> {
+    fn held_in(rdata: &RData) -> Option<&CSYNC> {
         held!(rdata, CSYNC)
     }
 
-    fn record_type(&self) -> RecordType {
-        RecordType::CSYNC
-    }
-
-    fn into_rdata(self) -> RData {
+    fn in_value(self) -> RData {
         RData::CSYNC(self)
-    }
-
-    fn is_update(&self) -> bool {
-        false
     }
 }
 
-impl RecordData for HINFO {
-    ghost wrapped = { λ x. rdata.HINFO x };
+impl Variant for HINFO {
+    const TYPE: RecordType = RecordType::HINFO;
 
-    ghost borrowed = { elim [ rdata.HINFO x ↦ Some x | v ↦ None ] };
+    ghost TYPE = { types.HINFO };
 
-    ghost exactly = { Prim.search rules };
+    ghost variant = { record { wrapped = λ x. rdata.HINFO x; borrowed = elim [ rdata.HINFO x ↦ Some x | v ↦ None ]; holds = Prim.search rules } };
 
-    fn try_borrow(rdata: &RData) -> Option<&HINFO> {
+    fn held_in(rdata: &RData) -> Option<&HINFO> {
         held!(rdata, HINFO)
     }
 
-    fn record_type(&self) -> RecordType {
-        RecordType::HINFO
-    }
-
-    fn into_rdata(self) -> RData {
+    fn in_value(self) -> RData {
         RData::HINFO(self)
-    }
-
-    fn is_update(&self) -> bool {
-        false
     }
 }
 
-impl RecordData for HTTPS {
-    ghost wrapped = { λ x. rdata.HTTPS x };
+impl Variant for HTTPS {
+    const TYPE: RecordType = RecordType::HTTPS;
 
-    ghost borrowed = { elim [ rdata.HTTPS x ↦ Some x | v ↦ None ] };
+    ghost TYPE = { types.HTTPS };
 
-    ghost exactly = { Prim.search rules };
+    ghost variant = { record { wrapped = λ x. rdata.HTTPS x; borrowed = elim [ rdata.HTTPS x ↦ Some x | v ↦ None ]; holds = Prim.search rules } };
 
-    fn try_borrow(rdata: &RData) -> Option<&HTTPS> {
+    fn held_in(rdata: &RData) -> Option<&HTTPS> {
         held!(rdata, HTTPS)
     }
 
-    fn record_type(&self) -> RecordType {
-        RecordType::HTTPS
-    }
-
-    fn into_rdata(self) -> RData {
+    fn in_value(self) -> RData {
         RData::HTTPS(self)
-    }
-
-    fn is_update(&self) -> bool {
-        false
     }
 }
 
-impl RecordData for MX {
-    ghost wrapped = { λ x. rdata.MX x };
+impl Variant for MX {
+    const TYPE: RecordType = RecordType::MX;
 
-    ghost borrowed = { elim [ rdata.MX x ↦ Some x | v ↦ None ] };
+    ghost TYPE = { types.MX };
 
-    ghost exactly = { Prim.search rules };
+    ghost variant = { record { wrapped = λ x. rdata.MX x; borrowed = elim [ rdata.MX x ↦ Some x | v ↦ None ]; holds = Prim.search rules } };
 
-    fn try_borrow(rdata: &RData) -> Option<&MX> {
+    fn held_in(rdata: &RData) -> Option<&MX> {
         held!(rdata, MX)
     }
 
-    fn record_type(&self) -> RecordType {
-        RecordType::MX
-    }
-
-    fn into_rdata(self) -> RData {
+    fn in_value(self) -> RData {
         RData::MX(self)
-    }
-
-    fn is_update(&self) -> bool {
-        false
     }
 }
 
-impl RecordData for NAPTR {
-    ghost wrapped = { λ x. rdata.NAPTR x };
+impl Variant for NAPTR {
+    const TYPE: RecordType = RecordType::NAPTR;
 
-    ghost borrowed = { elim [ rdata.NAPTR x ↦ Some x | v ↦ None ] };
+    ghost TYPE = { types.NAPTR };
 
-    ghost exactly = { Prim.search rules };
+    ghost variant = { record { wrapped = λ x. rdata.NAPTR x; borrowed = elim [ rdata.NAPTR x ↦ Some x | v ↦ None ]; holds = Prim.search rules } };
 
-    fn try_borrow(rdata: &RData) -> Option<&NAPTR> {
+    fn held_in(rdata: &RData) -> Option<&NAPTR> {
         held!(rdata, NAPTR)
     }
 
-    fn record_type(&self) -> RecordType {
-        RecordType::NAPTR
-    }
-
-    fn into_rdata(self) -> RData {
+    fn in_value(self) -> RData {
         RData::NAPTR(self)
-    }
-
-    fn is_update(&self) -> bool {
-        false
     }
 }
 
-impl RecordData for NULL {
-    ghost wrapped = { λ x. rdata.NULL x };
+impl Variant for NULL {
+    const TYPE: RecordType = RecordType::NULL;
 
-    ghost borrowed = { elim [ rdata.NULL x ↦ Some x | v ↦ None ] };
+    ghost TYPE = { types.NULL };
 
-    ghost exactly = { Prim.search rules };
+    ghost variant = { record { wrapped = λ x. rdata.NULL x; borrowed = elim [ rdata.NULL x ↦ Some x | v ↦ None ]; holds = Prim.search rules } };
 
-    fn try_borrow(rdata: &RData) -> Option<&NULL> {
+    fn held_in(rdata: &RData) -> Option<&NULL> {
         held!(rdata, NULL)
     }
 
-    fn record_type(&self) -> RecordType {
-        RecordType::NULL
-    }
-
-    fn into_rdata(self) -> RData {
+    fn in_value(self) -> RData {
         RData::NULL(self)
-    }
-
-    fn is_update(&self) -> bool {
-        false
     }
 }
 
-impl RecordData for NS {
-    ghost wrapped = { λ x. rdata.NS x };
+impl Variant for NS {
+    const TYPE: RecordType = RecordType::NS;
 
-    ghost borrowed = { elim [ rdata.NS x ↦ Some x | v ↦ None ] };
+    ghost TYPE = { types.NS };
 
-    ghost exactly = { Prim.search rules };
+    ghost variant = { record { wrapped = λ x. rdata.NS x; borrowed = elim [ rdata.NS x ↦ Some x | v ↦ None ]; holds = Prim.search rules } };
 
-    fn try_borrow(rdata: &RData) -> Option<&NS> {
+    fn held_in(rdata: &RData) -> Option<&NS> {
         held!(rdata, NS)
     }
 
-    fn record_type(&self) -> RecordType {
-        RecordType::NS
-    }
-
-    fn into_rdata(self) -> RData {
+    fn in_value(self) -> RData {
         RData::NS(self)
-    }
-
-    fn is_update(&self) -> bool {
-        false
     }
 }
 
-impl RecordData for OPENPGPKEY {
-    ghost wrapped = { λ x. rdata.OPENPGPKEY x };
+impl Variant for OPENPGPKEY {
+    const TYPE: RecordType = RecordType::OPENPGPKEY;
 
-    ghost borrowed = { elim [ rdata.OPENPGPKEY x ↦ Some x | v ↦ None ] };
+    ghost TYPE = { types.OPENPGPKEY };
 
-    ghost exactly = { Prim.search rules };
+    ghost variant = { record { wrapped = λ x. rdata.OPENPGPKEY x; borrowed = elim [ rdata.OPENPGPKEY x ↦ Some x | v ↦ None ]; holds = Prim.search rules } };
 
-    fn try_borrow(rdata: &RData) -> Option<&OPENPGPKEY> {
+    fn held_in(rdata: &RData) -> Option<&OPENPGPKEY> {
         held!(rdata, OPENPGPKEY)
     }
 
-    fn record_type(&self) -> RecordType {
-        RecordType::OPENPGPKEY
-    }
-
-    fn into_rdata(self) -> RData {
+    fn in_value(self) -> RData {
         RData::OPENPGPKEY(self)
-    }
-
-    fn is_update(&self) -> bool {
-        false
     }
 }
 
-impl RecordData for OPT {
-    ghost wrapped = { λ x. rdata.OPT x };
+impl Variant for OPT {
+    const TYPE: RecordType = RecordType::OPT;
 
-    ghost borrowed = { elim [ rdata.OPT x ↦ Some x | v ↦ None ] };
+    ghost TYPE = { types.OPT };
 
-    ghost exactly = { Prim.search rules };
+    ghost variant = { record { wrapped = λ x. rdata.OPT x; borrowed = elim [ rdata.OPT x ↦ Some x | v ↦ None ]; holds = Prim.search rules } };
 
-    fn try_borrow(rdata: &RData) -> Option<&OPT> {
+    fn held_in(rdata: &RData) -> Option<&OPT> {
         held!(rdata, OPT)
     }
 
-    fn record_type(&self) -> RecordType {
-        RecordType::OPT
-    }
-
-    fn into_rdata(self) -> RData {
+    fn in_value(self) -> RData {
         RData::OPT(self)
-    }
-
-    fn is_update(&self) -> bool {
-        false
     }
 }
 
-impl RecordData for PTR {
-    ghost wrapped = { λ x. rdata.PTR x };
+impl Variant for PTR {
+    const TYPE: RecordType = RecordType::PTR;
 
-    ghost borrowed = { elim [ rdata.PTR x ↦ Some x | v ↦ None ] };
+    ghost TYPE = { types.PTR };
 
-    ghost exactly = { Prim.search rules };
+    ghost variant = { record { wrapped = λ x. rdata.PTR x; borrowed = elim [ rdata.PTR x ↦ Some x | v ↦ None ]; holds = Prim.search rules } };
 
-    fn try_borrow(rdata: &RData) -> Option<&PTR> {
+    fn held_in(rdata: &RData) -> Option<&PTR> {
         held!(rdata, PTR)
     }
 
-    fn record_type(&self) -> RecordType {
-        RecordType::PTR
-    }
-
-    fn into_rdata(self) -> RData {
+    fn in_value(self) -> RData {
         RData::PTR(self)
-    }
-
-    fn is_update(&self) -> bool {
-        false
     }
 }
 
-impl RecordData for SMIMEA {
-    ghost wrapped = { λ x. rdata.SMIMEA x };
+impl Variant for SMIMEA {
+    const TYPE: RecordType = RecordType::SMIMEA;
 
-    ghost borrowed = { elim [ rdata.SMIMEA x ↦ Some x | v ↦ None ] };
+    ghost TYPE = { types.SMIMEA };
 
-    ghost exactly = { Prim.search rules };
+    ghost variant = { record { wrapped = λ x. rdata.SMIMEA x; borrowed = elim [ rdata.SMIMEA x ↦ Some x | v ↦ None ]; holds = Prim.search rules } };
 
-    fn try_borrow(rdata: &RData) -> Option<&SMIMEA> {
+    fn held_in(rdata: &RData) -> Option<&SMIMEA> {
         held!(rdata, SMIMEA)
     }
 
-    fn record_type(&self) -> RecordType {
-        RecordType::SMIMEA
-    }
-
-    fn into_rdata(self) -> RData {
+    fn in_value(self) -> RData {
         RData::SMIMEA(self)
-    }
-
-    fn is_update(&self) -> bool {
-        false
     }
 }
 
-impl RecordData for SOA {
-    ghost wrapped = { λ x. rdata.SOA x };
+impl Variant for SOA {
+    const TYPE: RecordType = RecordType::SOA;
 
-    ghost borrowed = { elim [ rdata.SOA x ↦ Some x | v ↦ None ] };
+    ghost TYPE = { types.SOA };
 
-    ghost exactly = { Prim.search rules };
+    ghost variant = { record { wrapped = λ x. rdata.SOA x; borrowed = elim [ rdata.SOA x ↦ Some x | v ↦ None ]; holds = Prim.search rules } };
 
-    fn try_borrow(rdata: &RData) -> Option<&SOA> {
+    fn held_in(rdata: &RData) -> Option<&SOA> {
         held!(rdata, SOA)
     }
 
-    fn record_type(&self) -> RecordType {
-        RecordType::SOA
-    }
-
-    fn into_rdata(self) -> RData {
+    fn in_value(self) -> RData {
         RData::SOA(self)
-    }
-
-    fn is_update(&self) -> bool {
-        false
     }
 }
 
-impl RecordData for SRV {
-    ghost wrapped = { λ x. rdata.SRV x };
+impl Variant for SRV {
+    const TYPE: RecordType = RecordType::SRV;
 
-    ghost borrowed = { elim [ rdata.SRV x ↦ Some x | v ↦ None ] };
+    ghost TYPE = { types.SRV };
 
-    ghost exactly = { Prim.search rules };
+    ghost variant = { record { wrapped = λ x. rdata.SRV x; borrowed = elim [ rdata.SRV x ↦ Some x | v ↦ None ]; holds = Prim.search rules } };
 
-    fn try_borrow(rdata: &RData) -> Option<&SRV> {
+    fn held_in(rdata: &RData) -> Option<&SRV> {
         held!(rdata, SRV)
     }
 
-    fn record_type(&self) -> RecordType {
-        RecordType::SRV
-    }
-
-    fn into_rdata(self) -> RData {
+    fn in_value(self) -> RData {
         RData::SRV(self)
-    }
-
-    fn is_update(&self) -> bool {
-        false
     }
 }
 
-impl RecordData for SSHFP {
-    ghost wrapped = { λ x. rdata.SSHFP x };
+impl Variant for SSHFP {
+    const TYPE: RecordType = RecordType::SSHFP;
 
-    ghost borrowed = { elim [ rdata.SSHFP x ↦ Some x | v ↦ None ] };
+    ghost TYPE = { types.SSHFP };
 
-    ghost exactly = { Prim.search rules };
+    ghost variant = { record { wrapped = λ x. rdata.SSHFP x; borrowed = elim [ rdata.SSHFP x ↦ Some x | v ↦ None ]; holds = Prim.search rules } };
 
-    fn try_borrow(rdata: &RData) -> Option<&SSHFP> {
+    fn held_in(rdata: &RData) -> Option<&SSHFP> {
         held!(rdata, SSHFP)
     }
 
-    fn record_type(&self) -> RecordType {
-        RecordType::SSHFP
-    }
-
-    fn into_rdata(self) -> RData {
+    fn in_value(self) -> RData {
         RData::SSHFP(self)
-    }
-
-    fn is_update(&self) -> bool {
-        false
     }
 }
 
-impl RecordData for SVCB {
-    ghost wrapped = { λ x. rdata.SVCB x };
+impl Variant for SVCB {
+    const TYPE: RecordType = RecordType::SVCB;
 
-    ghost borrowed = { elim [ rdata.SVCB x ↦ Some x | v ↦ None ] };
+    ghost TYPE = { types.SVCB };
 
-    ghost exactly = { Prim.search rules };
+    ghost variant = { record { wrapped = λ x. rdata.SVCB x; borrowed = elim [ rdata.SVCB x ↦ Some x | v ↦ None ]; holds = Prim.search rules } };
 
-    fn try_borrow(rdata: &RData) -> Option<&SVCB> {
+    fn held_in(rdata: &RData) -> Option<&SVCB> {
         held!(rdata, SVCB)
     }
 
-    fn record_type(&self) -> RecordType {
-        RecordType::SVCB
-    }
-
-    fn into_rdata(self) -> RData {
+    fn in_value(self) -> RData {
         RData::SVCB(self)
-    }
-
-    fn is_update(&self) -> bool {
-        false
     }
 }
 
-impl RecordData for TLSA {
-    ghost wrapped = { λ x. rdata.TLSA x };
+impl Variant for TLSA {
+    const TYPE: RecordType = RecordType::TLSA;
 
-    ghost borrowed = { elim [ rdata.TLSA x ↦ Some x | v ↦ None ] };
+    ghost TYPE = { types.TLSA };
 
-    ghost exactly = { Prim.search rules };
+    ghost variant = { record { wrapped = λ x. rdata.TLSA x; borrowed = elim [ rdata.TLSA x ↦ Some x | v ↦ None ]; holds = Prim.search rules } };
 
-    fn try_borrow(rdata: &RData) -> Option<&TLSA> {
+    fn held_in(rdata: &RData) -> Option<&TLSA> {
         held!(rdata, TLSA)
     }
 
-    fn record_type(&self) -> RecordType {
-        RecordType::TLSA
-    }
-
-    fn into_rdata(self) -> RData {
+    fn in_value(self) -> RData {
         RData::TLSA(self)
-    }
-
-    fn is_update(&self) -> bool {
-        false
     }
 }
 
-impl RecordData for TXT {
-    ghost wrapped = { λ x. rdata.TXT x };
+impl Variant for TXT {
+    const TYPE: RecordType = RecordType::TXT;
 
-    ghost borrowed = { elim [ rdata.TXT x ↦ Some x | v ↦ None ] };
+    ghost TYPE = { types.TXT };
 
-    ghost exactly = { Prim.search rules };
+    ghost variant = { record { wrapped = λ x. rdata.TXT x; borrowed = elim [ rdata.TXT x ↦ Some x | v ↦ None ]; holds = Prim.search rules } };
 
-    fn try_borrow(rdata: &RData) -> Option<&TXT> {
+    fn held_in(rdata: &RData) -> Option<&TXT> {
         held!(rdata, TXT)
     }
 
-    fn record_type(&self) -> RecordType {
-        RecordType::TXT
-    }
-
-    fn into_rdata(self) -> RData {
+    fn in_value(self) -> RData {
         RData::TXT(self)
-    }
-
-    fn is_update(&self) -> bool {
-        false
     }
 }
 

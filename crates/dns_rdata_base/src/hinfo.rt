@@ -1,7 +1,7 @@
 //! HINFO: a machine and its system (RFC 1035, 3.3.2).
 
 ghost use Rattle.std.specs.{Prelude.◌≡◌, Prelude.Some, Box.boxed_slice_items, String.string_bytes};
-ghost use Rattle.dns_names_wire.specs.{Words.Emits, Facts.RecordRefuses, Facts.RecordStands, Facts.same, Facts.same_equiv, Facts.same_partial};
+ghost use Rattle.dns_names_wire.specs.{Words.Emits, Facts.RecordRefuses, Facts.RecordStands};
 ghost use Rattle.dns_rdata_base.specs.HINFO.{hinfo_shape, hinfo_fields, hinfo_facts, hinfo_text};
 
 use bstr::BStr;
@@ -13,7 +13,7 @@ use std::boxed::BoxedSlice;
 use std::fmt;
 
 /// A machine and its system, each a character string (RFC 1035, 3.3.2).
-#[derive(Clone, Debug, Drop, Hash)]
+#[derive(Clone, Debug, Drop, Eq, Hash, PartialEq)]
 pub struct HINFO {
     /// The machine; at most 255 octets are emitted.
     pub cpu: SmallOctets<32>,
@@ -88,21 +88,6 @@ impl BinEncodable for HINFO {
         encoder.emit_character_data(self.os.as_slice())?;
         Ok(())
     }
-}
-
-impl PartialEq for HINFO {
-    ghost eq = { same hinfo_shape hinfo_fields };
-
-    ghost laws = { same_partial hinfo_shape hinfo_fields };
-
-    #[inline(never)]
-    fn eq(&self, other: &HINFO) -> bool {
-        self.cpu == other.cpu && self.os == other.os
-    }
-}
-
-impl Eq for HINFO {
-    ghost laws = { same_equiv hinfo_shape hinfo_fields };
 }
 
 impl fmt::Display for HINFO {

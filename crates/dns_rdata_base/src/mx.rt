@@ -2,7 +2,6 @@
 
 ghost use Rattle.std.specs.Prelude.{◌≡◌, Some};
 ghost use Rattle.dns_fields.specs.declared.RDataEncoding.TheVariants as modes;
-ghost use Rattle.dns_names_wire.specs.Facts.{same, same_equiv, same_partial};
 ghost use Rattle.dns_rdata_base.specs.MX.{mx_shape, mx_fields, mx_facts, mx_text};
 
 use dns_names_wire::{
@@ -12,7 +11,7 @@ use dns_names_wire::{
 use std::fmt;
 
 /// A host that takes mail for the owner: a preference of two octets and a name (RFC 1035, 3.3.9).
-#[derive(Clone, Debug, Drop, Hash)]
+#[derive(Clone, Debug, Drop, Eq, Hash, PartialEq)]
 pub struct MX {
     /// Lower values are tried first; 16 bits.
     pub preference: u16,
@@ -58,21 +57,6 @@ impl EncodesFields for MX {
         self.exchange.emit(encoder)?;
         Ok(())
     }
-}
-
-impl PartialEq for MX {
-    ghost eq = { same mx_shape mx_fields };
-
-    ghost laws = { same_partial mx_shape mx_fields };
-
-    #[inline(never)]
-    fn eq(&self, other: &MX) -> bool {
-        self.preference == other.preference && self.exchange == other.exchange
-    }
-}
-
-impl Eq for MX {
-    ghost laws = { same_equiv mx_shape mx_fields };
 }
 
 impl fmt::Display for MX {

@@ -2,7 +2,6 @@
 
 ghost use Rattle.std.specs.Prelude.{◌≡◌, Some};
 ghost use Rattle.dns_fields.specs.declared.RDataEncoding.TheVariants as modes;
-ghost use Rattle.dns_names_wire.specs.Facts.{same, same_equiv, same_partial};
 ghost use Rattle.dns_rdata_base.specs.NameRecords.{name_shape, cname_fields, cname_facts, ns_fields, ns_facts, ptr_fields, ptr_facts, aname_fields};
 ghost use Rattle.dns_rdata_base.specs.NameRecords.{aname_facts, cname_text, ns_text, ptr_text, aname_text};
 
@@ -14,7 +13,7 @@ use std::fmt;
 use std::ops::Deref;
 
 /// The canonical name of an alias: a name to the end (RFC 1035, 3.3.1).
-#[derive(Clone, Debug, Drop, Hash)]
+#[derive(Clone, Debug, Drop, Eq, Hash, PartialEq)]
 pub struct CNAME(pub Name);
 
 impl Record for CNAME {
@@ -52,21 +51,6 @@ impl Deref for CNAME {
     }
 }
 
-impl PartialEq for CNAME {
-    ghost eq = { same name_shape cname_fields };
-
-    ghost laws = { same_partial name_shape cname_fields };
-
-    #[inline(never)]
-    fn eq(&self, other: &CNAME) -> bool {
-        self.0 == other.0
-    }
-}
-
-impl Eq for CNAME {
-    ghost laws = { same_equiv name_shape cname_fields };
-}
-
 impl fmt::Display for CNAME {
     ghost output = { λ x. Some (cname_text x) };
 
@@ -77,7 +61,7 @@ impl fmt::Display for CNAME {
 }
 
 /// A name server of the zone: a name to the end (RFC 1035, 3.3.11).
-#[derive(Clone, Debug, Drop, Hash)]
+#[derive(Clone, Debug, Drop, Eq, Hash, PartialEq)]
 pub struct NS(pub Name);
 
 impl Record for NS {
@@ -115,21 +99,6 @@ impl Deref for NS {
     }
 }
 
-impl PartialEq for NS {
-    ghost eq = { same name_shape ns_fields };
-
-    ghost laws = { same_partial name_shape ns_fields };
-
-    #[inline(never)]
-    fn eq(&self, other: &NS) -> bool {
-        self.0 == other.0
-    }
-}
-
-impl Eq for NS {
-    ghost laws = { same_equiv name_shape ns_fields };
-}
-
 impl fmt::Display for NS {
     ghost output = { λ x. Some (ns_text x) };
 
@@ -140,7 +109,7 @@ impl fmt::Display for NS {
 }
 
 /// The name that is pointed to: a name to the end (RFC 1035, 3.3.12).
-#[derive(Clone, Debug, Drop, Hash)]
+#[derive(Clone, Debug, Drop, Eq, Hash, PartialEq)]
 pub struct PTR(pub Name);
 
 impl Record for PTR {
@@ -178,21 +147,6 @@ impl Deref for PTR {
     }
 }
 
-impl PartialEq for PTR {
-    ghost eq = { same name_shape ptr_fields };
-
-    ghost laws = { same_partial name_shape ptr_fields };
-
-    #[inline(never)]
-    fn eq(&self, other: &PTR) -> bool {
-        self.0 == other.0
-    }
-}
-
-impl Eq for PTR {
-    ghost laws = { same_equiv name_shape ptr_fields };
-}
-
 impl fmt::Display for PTR {
     ghost output = { λ x. Some (ptr_text x) };
 
@@ -203,7 +157,7 @@ impl fmt::Display for PTR {
 }
 
 /// The name whose addresses the owner has: a name to the end (draft-ietf-dnsop-aname).
-#[derive(Clone, Debug, Drop, Hash)]
+#[derive(Clone, Debug, Drop, Eq, Hash, PartialEq)]
 pub struct ANAME(pub Name);
 
 impl Record for ANAME {
@@ -239,21 +193,6 @@ impl Deref for ANAME {
     fn deref(&self) -> &Name {
         &self.0
     }
-}
-
-impl PartialEq for ANAME {
-    ghost eq = { same name_shape aname_fields };
-
-    ghost laws = { same_partial name_shape aname_fields };
-
-    #[inline(never)]
-    fn eq(&self, other: &ANAME) -> bool {
-        self.0 == other.0
-    }
-}
-
-impl Eq for ANAME {
-    ghost laws = { same_equiv name_shape aname_fields };
 }
 
 impl fmt::Display for ANAME {

@@ -1,7 +1,7 @@
 //! NAPTR: a rule that rewrites a name (RFC 3403, 4).
 
 ghost use Rattle.std.specs.{Prelude.◌≡◌, Prelude.Some, Box.boxed_slice_items, Char.is_ascii_alphanumeric, List.list_all};
-ghost use Rattle.dns_names_wire.specs.{Words.Emits, Facts.same, Facts.same_equiv, Facts.same_partial};
+ghost use Rattle.dns_names_wire.specs.{Words.Emits};
 ghost use Rattle.dns_rdata_base.specs.NAPTR.{naptr_numbers_shape, naptr_numbers, naptr_rest_shape, naptr_rest, naptr_shape, naptr_fields};
 ghost use Rattle.dns_rdata_base.specs.NAPTR.{naptr_facts, naptr_text};
 ghost use Rattle.dns_fields.specs.declared.RDataEncoding.TheVariants as modes;
@@ -16,7 +16,7 @@ use std::fmt;
 
 /// A rule that rewrites a name: order and preference of two octets each, three character strings and a name (RFC 3403,
 /// 4.1).
-#[derive(Clone, Debug, Drop, Hash)]
+#[derive(Clone, Debug, Drop, Eq, Hash, PartialEq)]
 pub struct NAPTR {
     /// Lower values are tried first; 16 bits.
     pub order: u16,
@@ -141,26 +141,6 @@ impl EncodesFields for NAPTR {
         self.emit_numbers(encoder)?;
         self.emit_rest(encoder)
     }
-}
-
-impl PartialEq for NAPTR {
-    ghost eq = { same naptr_shape naptr_fields };
-
-    ghost laws = { same_partial naptr_shape naptr_fields };
-
-    #[inline(never)]
-    fn eq(&self, other: &NAPTR) -> bool {
-        self.order == other.order
-            && self.preference == other.preference
-            && self.flags == other.flags
-            && self.services == other.services
-            && self.regexp == other.regexp
-            && self.replacement == other.replacement
-    }
-}
-
-impl Eq for NAPTR {
-    ghost laws = { same_equiv naptr_shape naptr_fields };
 }
 
 impl fmt::Display for NAPTR {

@@ -1,7 +1,7 @@
 //! NULL: octets without a form (RFC 1035, 3.3.10).
 
 ghost use Rattle.std.specs.Prelude.{◌≡◌, ◌≢◌, [], Some};
-ghost use Rattle.dns_names_wire.specs.{Words.Emits, Facts.same, Facts.same_equiv, Facts.same_partial};
+ghost use Rattle.dns_names_wire.specs.{Words.Emits};
 ghost use Rattle.dns_rdata_base.specs.NULL.{null_shape, null_fields, null_facts, null_text};
 
 use dns_names_wire::{
@@ -13,7 +13,7 @@ use std::alloc::Global;
 use std::fmt;
 
 /// Octets of any number without a form, all of a record's length (RFC 1035, 3.3.10).
-#[derive(Clone, Debug, Drop, Hash)]
+#[derive(Clone, Debug, Drop, Eq, Hash, PartialEq)]
 pub struct NULL {
     /// The octets.
     pub anything: SmallOctets<64>,
@@ -45,21 +45,6 @@ impl NULL {
             anything: SmallOctets::from_vec(anything),
         }
     }
-}
-
-impl PartialEq for NULL {
-    ghost eq = { same null_shape null_fields };
-
-    ghost laws = { same_partial null_shape null_fields };
-
-    #[inline(never)]
-    fn eq(&self, other: &NULL) -> bool {
-        self.anything == other.anything
-    }
-}
-
-impl Eq for NULL {
-    ghost laws = { same_equiv null_shape null_fields };
 }
 
 impl Record for NULL {

@@ -1,7 +1,7 @@
 //! OPENPGPKEY: a public key (RFC 7929, 2.1).
 
 ghost use Rattle.std.specs.Prelude.{◌≡◌, Some};
-ghost use Rattle.dns_names_wire.specs.{Words.Emits, Facts.same, Facts.same_equiv, Facts.same_partial};
+ghost use Rattle.dns_names_wire.specs.{Words.Emits};
 ghost use Rattle.dns_rdata_base.specs.OPENPGPKEY.{openpgpkey_shape, openpgpkey_fields, openpgpkey_facts, openpgpkey_text};
 
 use dns_names_wire::{
@@ -12,7 +12,7 @@ use dns_words::Base64Text;
 use std::fmt;
 
 /// A public key in the format of OpenPGP, all octets of a record's length (RFC 7929, 2.1).
-#[derive(Clone, Debug, Drop, Hash)]
+#[derive(Clone, Debug, Drop, Eq, Hash, PartialEq)]
 pub struct OPENPGPKEY {
     /// The key's octets.
     pub public_key: SmallOctets<64>,
@@ -27,21 +27,6 @@ impl OPENPGPKEY {
             public_key: SmallOctets::from_vec(public_key),
         }
     }
-}
-
-impl PartialEq for OPENPGPKEY {
-    ghost eq = { same openpgpkey_shape openpgpkey_fields };
-
-    ghost laws = { same_partial openpgpkey_shape openpgpkey_fields };
-
-    #[inline(never)]
-    fn eq(&self, other: &OPENPGPKEY) -> bool {
-        self.public_key == other.public_key
-    }
-}
-
-impl Eq for OPENPGPKEY {
-    ghost laws = { same_equiv openpgpkey_shape openpgpkey_fields };
 }
 
 impl Record for OPENPGPKEY {

@@ -2,7 +2,7 @@
 
 ghost use Rattle.std.specs.Prelude.{◌≡◌, Some};
 ghost use Rattle.dns_fields.specs.declared.RDataEncoding.TheVariants as modes;
-ghost use Rattle.dns_names_wire.specs.{Words.Emits, Facts.same, Facts.same_equiv, Facts.same_partial};
+ghost use Rattle.dns_names_wire.specs.{Words.Emits};
 ghost use Rattle.dns_rdata_base.specs.SRV.{srv_numbers_shape, srv_numbers, srv_shape, srv_fields, srv_facts, srv_text};
 
 use dns_names_wire::{
@@ -12,7 +12,7 @@ use dns_names_wire::{
 use std::fmt;
 
 /// A host and port of a service: priority, weight and port of two octets each, and a name (RFC 2782).
-#[derive(Clone, Debug, Drop, Hash)]
+#[derive(Clone, Debug, Drop, Eq, Hash, PartialEq)]
 pub struct SRV {
     /// Lower values are tried first; 16 bits.
     pub priority: u16,
@@ -91,24 +91,6 @@ impl EncodesFields for SRV {
         self.target.emit(encoder)?;
         Ok(())
     }
-}
-
-impl PartialEq for SRV {
-    ghost eq = { same srv_shape srv_fields };
-
-    ghost laws = { same_partial srv_shape srv_fields };
-
-    #[inline(never)]
-    fn eq(&self, other: &SRV) -> bool {
-        self.priority == other.priority
-            && self.weight == other.weight
-            && self.port == other.port
-            && self.target == other.target
-    }
-}
-
-impl Eq for SRV {
-    ghost laws = { same_equiv srv_shape srv_fields };
 }
 
 impl fmt::Display for SRV {

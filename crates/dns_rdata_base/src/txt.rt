@@ -3,7 +3,7 @@
 ghost use Rattle.std.specs.Prelude.{◌≡◌, ◌≤◌, ℕ, List, map, length as list_length, IfOk, Some};
 ghost use Rattle.std.specs.String.{string_bytes};
 ghost use Rattle.dns_fields.specs.Fields.{Texts, Field};
-ghost use Rattle.dns_names_wire.specs.{Words.Emits, Facts.same, Facts.same_equiv, Facts.same_partial};
+ghost use Rattle.dns_names_wire.specs.{Words.Emits};
 ghost use Rattle.dns_rdata_base.specs.TXT.{txt_shape, txt_fields, txt_facts, txt_text};
 
 use bstr::BStr;
@@ -14,10 +14,9 @@ use dns_names_wire::{
 use dns_types::Strings;
 use std::alloc::AllocError;
 use std::fmt;
-use std::hash::{Hash, Hasher};
 
 /// Character strings, none or more, which fill a record's length (RFC 1035, 3.3.14).
-#[derive(Clone, Debug, Drop)]
+#[derive(Clone, Debug, Drop, Eq, Hash, PartialEq)]
 pub struct TXT {
     /// The strings, in order; of each at most 255 octets are emitted.
     pub txt_data: Strings,
@@ -99,38 +98,6 @@ impl BinEncodable for TXT {
             encoder.emit_character_data(string.as_slice())?;
         }
         Ok(())
-    }
-}
-
-impl PartialEq for TXT {
-    ghost eq = { same txt_shape txt_fields };
-
-    ghost laws = { same_partial txt_shape txt_fields };
-
-    #[inline(never)]
-    fn eq(&self, other: &TXT) -> bool {
-        self.txt_data == other.txt_data
-    }
-}
-
-impl Eq for TXT {
-    ghost laws = { same_equiv txt_shape txt_fields };
-}
-
-impl Hash for TXT {
-    ghost use Rattle.std.specs.Prelude.{true, ◌&&◌};
-    ghost use Rattle.std.specs.{Cmp.unsigned_Decides, Cmp.first_so, Cmp.Lexicographic.pointwise_decides};
-    ghost use Rattle.std.specs.Hash as fed;
-    ghost use Rattle.std.proofs.Common.{ap};
-
-    ghost hash_input = { λ x. fed.slice (fed.slice fed.u8) x.txt_data };
-
-    ghost respects_eq = { λ a b same. ap (fed.slice (fed.slice fed.u8))
-        ((pointwise_decides (pointwise_decides unsigned_Decides) a.txt_data b.txt_data).0 (first_so _ true same)) };
-
-    #[inline]
-    fn hash<H: Hasher>(&self, state: &mut H) {
-        self.txt_data.hash(state);
     }
 }
 
