@@ -2,7 +2,7 @@
 
 ghost use Rattle.std.specs.Prelude.{◌≡◌, length as list_length, IfErr, IfOk, Some};
 ghost use Rattle.std.specs.String.{string_bytes};
-ghost use Rattle.dns_names_wire.specs.{Words.Emits, Facts.same, Facts.same_equiv, Facts.same_partial};
+ghost use Rattle.dns_names_wire.specs.{Words.Emits};
 ghost use Rattle.dns_rdata_certs.specs.CERT.{cert_shape, cert_fields, cert_facts, cert_key_shape, cert_keys, IsReadCert, cert_text, cert_data_text};
 ghost use Rattle.dns_rdata_certs.specs.CERT.{ReadsWholeCert, IsWholeCertRefusal};
 
@@ -22,7 +22,7 @@ use std::fmt;
 
 /// A certificate (RFC 4398, 2): two octets of its type, two of a key tag, one of an algorithm, and then the certificate
 /// to the end of the record's length. One without octets is emitted, and never read.
-#[derive(Clone, Debug, Drop, Hash)]
+#[derive(Clone, Debug, Drop, Eq, Hash, PartialEq)]
 pub struct CERT {
     /// The type of the certificate.
     pub cert_type: CertType,
@@ -117,24 +117,6 @@ impl BinEncodable for CERT {
         let numbers = [kind[0], kind[1], tag[0], tag[1], algorithm];
         encoder.emit_both(&numbers, self.cert_data.as_slice())
     }
-}
-
-impl PartialEq for CERT {
-    ghost eq = { same cert_key_shape cert_keys };
-
-    ghost laws = { same_partial cert_key_shape cert_keys };
-
-    #[inline(never)]
-    fn eq(&self, other: &CERT) -> bool {
-        self.cert_type == other.cert_type
-            && self.key_tag == other.key_tag
-            && self.algorithm == other.algorithm
-            && self.cert_data == other.cert_data
-    }
-}
-
-impl Eq for CERT {
-    ghost laws = { same_equiv cert_key_shape cert_keys };
 }
 
 impl fmt::Display for CERT {

@@ -1,7 +1,7 @@
 //! SMIMEA: a certificate of a mail user (RFC 8162, 2).
 
 ghost use Rattle.std.specs.Prelude.{◌≡◌, Some};
-ghost use Rattle.dns_names_wire.specs.{Words.Emits, Facts.same, Facts.same_equiv, Facts.same_partial};
+ghost use Rattle.dns_names_wire.specs.{Words.Emits};
 ghost use Rattle.dns_rdata_certs.specs.SMIMEA.{smimea_shape, smimea_fields, smimea_facts, smimea_key_shape, smimea_keys, smimea_text};
 
 use crate::tlsa::{CertUsage, Matching, Selector, TLSA};
@@ -13,7 +13,7 @@ use std::fmt;
 use std::ops::Deref;
 
 /// A certificate of a mail user, with the fields of TLSA (RFC 8162, 2).
-#[derive(Clone, Debug, Drop, Hash)]
+#[derive(Clone, Debug, Drop, Eq, Hash, PartialEq)]
 pub struct SMIMEA(pub TLSA);
 
 impl SMIMEA {
@@ -70,21 +70,6 @@ impl Deref for SMIMEA {
     fn deref(&self) -> &TLSA {
         &self.0
     }
-}
-
-impl PartialEq for SMIMEA {
-    ghost eq = { same smimea_key_shape smimea_keys };
-
-    ghost laws = { same_partial smimea_key_shape smimea_keys };
-
-    #[inline(always)]
-    fn eq(&self, other: &SMIMEA) -> bool {
-        self.0 == other.0
-    }
-}
-
-impl Eq for SMIMEA {
-    ghost laws = { same_equiv smimea_key_shape smimea_keys };
 }
 
 impl fmt::Display for SMIMEA {

@@ -1,7 +1,7 @@
 //! SSHFP: the fingerprint of a host's key (RFC 4255, 3.1).
 
 ghost use Rattle.std.specs.Prelude.{◌≡◌, Some};
-ghost use Rattle.dns_names_wire.specs.{Words.Emits, Facts.same, Facts.same_equiv, Facts.same_partial};
+ghost use Rattle.dns_names_wire.specs.{Words.Emits};
 ghost use Rattle.dns_rdata_certs.specs.SSHFP.{sshfp_shape, sshfp_fields, sshfp_facts, sshfp_key_shape, sshfp_keys, sshfp_text};
 
 mod algorithm;
@@ -18,7 +18,7 @@ use std::fmt;
 
 /// The fingerprint of a host's key (RFC 4255, 3.1): an octet each for the key's algorithm and the fingerprint's type,
 /// and then the fingerprint to the end of the record's length.
-#[derive(Clone, Debug, Drop, Hash)]
+#[derive(Clone, Debug, Drop, Eq, Hash, PartialEq)]
 pub struct SSHFP {
     /// The algorithm of the key.
     pub algorithm: Algorithm,
@@ -89,23 +89,6 @@ impl BinEncodable for SSHFP {
         let kind = u8::from(self.fingerprint_type);
         encoder.emit_both(&[algorithm, kind], self.fingerprint.as_slice())
     }
-}
-
-impl PartialEq for SSHFP {
-    ghost eq = { same sshfp_key_shape sshfp_keys };
-
-    ghost laws = { same_partial sshfp_key_shape sshfp_keys };
-
-    #[inline(never)]
-    fn eq(&self, other: &SSHFP) -> bool {
-        self.algorithm == other.algorithm
-            && self.fingerprint_type == other.fingerprint_type
-            && self.fingerprint == other.fingerprint
-    }
-}
-
-impl Eq for SSHFP {
-    ghost laws = { same_equiv sshfp_key_shape sshfp_keys };
 }
 
 impl fmt::Display for SSHFP {

@@ -1,7 +1,7 @@
 //! TLSA: a certificate of a service (RFC 6698, 2.1).
 
 ghost use Rattle.std.specs.Prelude.{◌≡◌, Some};
-ghost use Rattle.dns_names_wire.specs.{Words.Emits, Facts.same, Facts.same_equiv, Facts.same_partial};
+ghost use Rattle.dns_names_wire.specs.{Words.Emits};
 ghost use Rattle.dns_rdata_certs.specs.TLSA.{tlsa_shape, tlsa_fields, tlsa_facts, tlsa_key_shape, tlsa_keys, tlsa_text};
 
 mod cert_usage;
@@ -20,7 +20,7 @@ use std::fmt;
 
 /// A certificate, or what is compared with one, for a service (RFC 6698, 2.1): an octet each for usage, selector and
 /// matching type, and then the data to the end of the record's length.
-#[derive(Clone, Debug, Drop, Hash)]
+#[derive(Clone, Debug, Drop, Eq, Hash, PartialEq)]
 pub struct TLSA {
     /// How the certificate is used.
     pub cert_usage: CertUsage,
@@ -97,24 +97,6 @@ impl BinEncodable for TLSA {
         let matching = u8::from(self.matching);
         encoder.emit_both(&[usage, selector, matching], self.cert_data.as_slice())
     }
-}
-
-impl PartialEq for TLSA {
-    ghost eq = { same tlsa_key_shape tlsa_keys };
-
-    ghost laws = { same_partial tlsa_key_shape tlsa_keys };
-
-    #[inline(never)]
-    fn eq(&self, other: &TLSA) -> bool {
-        self.cert_usage == other.cert_usage
-            && self.selector == other.selector
-            && self.matching == other.matching
-            && self.cert_data == other.cert_data
-    }
-}
-
-impl Eq for TLSA {
-    ghost laws = { same_equiv tlsa_key_shape tlsa_keys };
 }
 
 impl fmt::Display for TLSA {

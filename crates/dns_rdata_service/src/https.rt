@@ -2,7 +2,6 @@
 
 ghost use Rattle.std.specs.Prelude.{◌≡◌, ◌≤◌, length, IfOk};
 ghost use Rattle.std.specs.{List.Sorted.IsPermutation, List.Sorted.IsNonDecreasingBy, List.Sorted.IsStableByKey, Ordering.nat_cmp};
-ghost use Rattle.dns_names_wire.specs.Facts.{same, same_equiv, same_partial};
 ghost use Rattle.dns_rdata_service.specs.{SVCB.number_of_parameter, HTTPS.https_facts, HTTPS.https_key_shape, HTTPS.https_keys};
 
 use crate::svcb::SVCB;
@@ -12,11 +11,10 @@ use dns_names_wire::{
 };
 use std::alloc::AllocError;
 use std::fmt;
-use std::hash::{Hash, Hasher};
 use std::ops::Deref;
 
 /// How a web service is reached (RFC 9460, 9): the fields of SVCB.
-#[derive(Debug, Drop)]
+#[derive(Debug, Drop, Eq, Hash, PartialEq)]
 pub struct HTTPS(pub SVCB);
 
 impl HTTPS {
@@ -73,34 +71,6 @@ impl Deref for HTTPS {
     #[inline]
     fn deref(&self) -> &SVCB {
         &self.0
-    }
-}
-
-impl PartialEq for HTTPS {
-    ghost eq = { same https_key_shape https_keys };
-
-    ghost laws = { same_partial https_key_shape https_keys };
-
-    #[inline(always)]
-    fn eq(&self, other: &HTTPS) -> bool {
-        self.0 == other.0
-    }
-}
-
-impl Eq for HTTPS {
-    ghost laws = { same_equiv https_key_shape https_keys };
-}
-
-impl Hash for HTTPS {
-    ghost use Rattle.dns_rdata_service.specs.Hashing.{svcb_fed, svcb_fed_same};
-
-    ghost hash_input = { λ x. svcb_fed x.0 };
-
-    ghost respects_eq = { λ a b same. svcb_fed_same a.0 b.0 same };
-
-    #[inline]
-    fn hash<H: Hasher>(&self, state: &mut H) {
-        self.0.hash(state);
     }
 }
 

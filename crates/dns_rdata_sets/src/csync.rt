@@ -3,7 +3,7 @@
 ghost use Rattle.std.specs.Prelude.{◌≡◌, IfErr, IfOk, ◌+◌, ◌++◌, List, map, Some};
 ghost use Rattle.std.specs.{Int.bytes_high_first, Iterator.Drains, Iterator.IsFinite};
 ghost use Rattle.dns_types.specs.{RecordTypes.number_of, declared.record_type.RecordType.RecordType as RecordTypeValue};
-ghost use Rattle.dns_names_wire.specs.{Words.ReadsTo, Words.Emits, Facts.same, Facts.same_equiv, Facts.same_partial};
+ghost use Rattle.dns_names_wire.specs.{Words.ReadsTo, Words.Emits};
 ghost use Rattle.dns_rdata_sets.specs.RecordTypeSet.{IsSetOf};
 ghost use Rattle.dns_rdata_sets.specs.CSYNC.{csync_numbers_shape, csync_numbers, csync_shape, csync_flags, csync_fields, csync_facts};
 ghost use Rattle.dns_rdata_sets.specs.CSYNC.{MeetsCsyncCondition, csync_text, csync_key_shape, csync_keys, IsReadCsync, IsCsyncRefusal};
@@ -26,7 +26,7 @@ const UNKNOWN: u16 = 0x00FC;
 
 /// What a parent copies from a child zone (RFC 7477, 2.1): a serial in four octets, flags in two, and then a bitmap of
 /// record types to the end of the record's length.
-#[derive(Clone, Debug, Drop, Hash)]
+#[derive(Clone, Debug, Drop, Eq, Hash, PartialEq)]
 pub struct CSYNC {
     /// A serial of the child zone: where `soa_minimum` is set, nothing is copied while the zone has a lower one.
     pub soa_serial: u32,
@@ -169,25 +169,6 @@ impl BinEncodable for CSYNC {
         self.emit_numbers(encoder)?;
         self.type_bit_maps.emit(encoder)
     }
-}
-
-impl PartialEq for CSYNC {
-    ghost eq = { same csync_key_shape csync_keys };
-
-    ghost laws = { same_partial csync_key_shape csync_keys };
-
-    #[inline(never)]
-    fn eq(&self, other: &CSYNC) -> bool {
-        self.soa_serial == other.soa_serial
-            && self.immediate == other.immediate
-            && self.soa_minimum == other.soa_minimum
-            && self.reserved_flags == other.reserved_flags
-            && self.type_bit_maps == other.type_bit_maps
-    }
-}
-
-impl Eq for CSYNC {
-    ghost laws = { same_equiv csync_key_shape csync_keys };
 }
 
 impl fmt::Display for CSYNC {
