@@ -3,7 +3,6 @@
 ghost use Rattle.std.specs.Prelude.{◌≡◌, ◌+◌, ◌<◌, ◌≤◌, ◌++◌, ℕ, List, [], ◌∷◌, length, length as list_length, decimal, OnErr, IfErr, Some};
 ghost use Rattle.std.specs.Net.Addr.{ipv4_octets};
 ghost use Rattle.dns_names_wire.specs.Words.{ReadsIf, ReadsBy, Emits, LacksOctets, always, IsCut};
-ghost use Rattle.dns_names_wire.specs.Facts.{same, same_equiv, same_partial};
 ghost use Rattle.dns_rdata_base.specs.A.{a_shape, a_fields, a_facts, a_text};
 
 use crate::traits::TakesOctet;
@@ -18,7 +17,7 @@ use std::str::FromStr;
 use std::{fmt, str};
 
 /// An IPv4 address, its four octets in network order (RFC 1035, 3.4.1).
-#[derive(Clone, Copy, Debug, Hash)]
+#[derive(Clone, Copy, Debug, Eq, Hash, PartialEq)]
 pub struct A(pub Ipv4Addr);
 
 impl A {
@@ -78,21 +77,6 @@ impl BinEncodable for A {
     fn emit(&self, encoder: &mut BinEncoder<'_>) -> Result<(), ProtoError> {
         encoder.emit_vec(&self.0.octets())
     }
-}
-
-impl PartialEq for A {
-    ghost eq = { same a_shape a_fields };
-
-    ghost laws = { same_partial a_shape a_fields };
-
-    #[inline]
-    fn eq(&self, other: &A) -> bool {
-        self.0 == other.0
-    }
-}
-
-impl Eq for A {
-    ghost laws = { same_equiv a_shape a_fields };
 }
 
 impl From<Ipv4Addr> for A {

@@ -29,9 +29,6 @@ pointwise_view E F f same xs ys = ap (λ R. pointwise R xs ys) (λ i x y. same x
 numbers_same : (j k : SvcParamKey) → numbered_eq key_number key_variant j k ≡ pointwise nat_eq (key_numbers j) (key_numbers k)
 numbers_same j k = ap (λ b. nat_eq (key_number j) (key_number k) && b) (sym (and_true (nat_eq (key_variant j) (key_variant k))))
 
-a_same : (x y : A) → values_eq a_shape (a_fields x) (a_fields y) ≡ pointwise nat_eq (a_octets x) (a_octets y)
-a_same x y = and_true (pointwise nat_eq (a_octets x) (a_octets y))
-
 aaaa_same : (x y : AAAA) → values_eq aaaa_shape (aaaa_fields x) (aaaa_fields y) ≡ pointwise nat_eq (aaaa_octets x) (aaaa_octets y)
 aaaa_same x y = and_true (pointwise nat_eq (aaaa_octets x) (aaaa_octets y))
 
@@ -41,8 +38,8 @@ value_same (variants.Mandatory x) (variants.Mandatory y) = pointwise_view (numbe
 value_same (variants.Alpn x) (variants.Alpn y) = refl
 value_same variants.NoDefaultAlpn variants.NoDefaultAlpn = refl
 value_same (variants.Port m) (variants.Port n) = sym (and_true (nat_eq m n && true) ∙ and_true (nat_eq m n))
-value_same (variants.Ipv4Hint x) (variants.Ipv4Hint y) = pointwise_view (λ (a b : A). values_eq a_shape (a_fields a) (a_fields b)) (pointwise nat_eq)
-    a_octets a_same x.0 y.0
+value_same (variants.Ipv4Hint x) (variants.Ipv4Hint y) = pointwise_view (λ (a b : A). pointwise nat_eq (a_octets a) (a_octets b)) (pointwise nat_eq)
+    a_octets (λ a b. refl) x.0 y.0
 value_same (variants.EchConfigList x) (variants.EchConfigList y) = sym (and_true (pointwise nat_eq x.0 y.0))
 value_same (variants.Ipv6Hint x) (variants.Ipv6Hint y) = pointwise_view (λ (a b : AAAA). values_eq aaaa_shape (aaaa_fields a) (aaaa_fields b))
     (pointwise nat_eq) aaaa_octets aaaa_same x.0 y.0
