@@ -1,7 +1,7 @@
 //! SOA: the start of a zone of authority (RFC 1035, 3.3.13).
 
 ghost use Rattle.std.specs.{Prelude.◌≡◌, Prelude.◌+◌, Prelude.◌++◌, Prelude.◌%◌, Prelude.IfErr, Prelude.Some, Int.bytes_high_first};
-ghost use Rattle.dns_names_wire.specs.{Words.ReadsIf, Words.Emits, Words.always};
+ghost use Rattle.dns_names_wire.specs.{Words.ReadsIf, Words.Emits, Words.always, Facts.same, Facts.same_equiv, Facts.same_partial};
 ghost use Rattle.dns_rdata_base.specs.Refusing.{IsLack};
 ghost use Rattle.dns_rdata_base.specs.SOA.{soa_shape, soa_fields, soa_facts, soa_numbers_shape, soa_numbers, soa_numbers_of, soa_text};
 ghost use Rattle.dns_fields.specs.declared.RDataEncoding.TheVariants as modes;
@@ -14,7 +14,7 @@ use std::fmt;
 
 /// The start of a zone of authority: two names, and five numbers of four octets each (RFC 1035, 3.3.13). Refresh, retry
 /// and expire are read as signed numbers, in two's complement.
-#[derive(Clone, Debug, Drop, Eq, Hash, PartialEq)]
+#[derive(Clone, Debug, Drop, Hash)]
 pub struct SOA {
     /// The name server that the data came from.
     pub mname: Name,
@@ -143,6 +143,27 @@ impl EncodesFields for SOA {
         self.rname.emit(encoder)?;
         self.emit_numbers(encoder)
     }
+}
+
+impl PartialEq for SOA {
+    ghost eq = { same soa_shape soa_fields };
+
+    ghost laws = { same_partial soa_shape soa_fields };
+
+    #[inline(never)]
+    fn eq(&self, other: &SOA) -> bool {
+        self.mname == other.mname
+            && self.rname == other.rname
+            && self.serial == other.serial
+            && self.refresh == other.refresh
+            && self.retry == other.retry
+            && self.expire == other.expire
+            && self.minimum == other.minimum
+    }
+}
+
+impl Eq for SOA {
+    ghost laws = { same_equiv soa_shape soa_fields };
 }
 
 impl fmt::Display for SOA {
