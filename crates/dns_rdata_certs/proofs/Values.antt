@@ -2,17 +2,16 @@
 -- records that were read is the same exactly where their fields are.
 use Rattle.std.proofs.Common.{◌≡◌, ◌↔◌, refl, sym, ap}
 use Rattle.dns_fields.specs.Fields.{Values, Same}
-use Rattle.dns_rdata_certs.specs.{CertType.cert_type_number, CertType.cert_type_variant, CertType.cert_type_of, CertUsage.cert_usage_number}
-use Rattle.dns_rdata_certs.specs.{CertUsage.cert_usage_variant, CertUsage.cert_usage_of, Selector.selector_number, Selector.selector_variant}
-use Rattle.dns_rdata_certs.specs.{Selector.selector_of, Matching.matching_number, Matching.matching_variant, Matching.matching_of}
+use Rattle.dns_rdata_certs.specs.Enums.{cert_type_number, cert_type_variant, cert_type_of, cert_usage_number, cert_usage_variant, cert_usage_of}
+use Rattle.dns_rdata_certs.specs.Enums.{selector_number, selector_variant, selector_of, matching_number, matching_variant, matching_of}
+use Rattle.dns_rdata_certs.specs.Enums.{cert_algorithm_number, cert_algorithm_variant, cert_algorithm_of, sshfp_algorithm_number}
+use Rattle.dns_rdata_certs.specs.Enums.{sshfp_algorithm_variant, sshfp_algorithm_of, fingerprint_type_number, fingerprint_type_variant}
+use Rattle.dns_rdata_certs.specs.Enums.{fingerprint_type_of}
 use Rattle.dns_rdata_certs.specs.{declared.tlsa.TLSA.TLSA, declared.smimea.SMIMEA.SMIMEA, declared.sshfp.SSHFP.SSHFP, declared.cert.CERT.CERT}
 use Rattle.dns_rdata_certs.specs.TLSA.{tlsa_shape, tlsa_fields, tlsa_key_shape, tlsa_keys, IsReadTlsa}
 use Rattle.dns_rdata_certs.specs.SSHFP.{sshfp_shape, sshfp_fields, sshfp_key_shape, sshfp_keys, IsReadSshfp}
 use Rattle.dns_rdata_certs.specs.SMIMEA.{smimea_shape, smimea_fields, smimea_key_shape, smimea_keys, IsReadSmimea}
 use Rattle.dns_rdata_certs.specs.CERT.{cert_shape, cert_fields, cert_key_shape, cert_keys, IsReadCert}
-use Rattle.dns_rdata_certs.specs.CertAlgorithm.{cert_algorithm_number, cert_algorithm_variant, cert_algorithm_of}
-use Rattle.dns_rdata_certs.specs.SshfpAlgorithm.{sshfp_algorithm_number, sshfp_algorithm_variant, sshfp_algorithm_of}
-use Rattle.dns_rdata_certs.specs.FingerprintType.{fingerprint_type_number, fingerprint_type_variant, fingerprint_type_of}
 use Rattle.dns_rdata_certs.proofs.Numbers.{cert_type_number-of, cert_algorithm_number-of, sshfp_algorithm_number-of, fingerprint_type_number-of}
 use Rattle.dns_rdata_certs.proofs.Numbers.{cert_usage_number-of, selector_number-of, matching_number-of, keyed_same}
 

@@ -6,17 +6,15 @@ ghost use Rattle.dns_names_wire.specs.{Words.Emits, Facts.same, Facts.same_equiv
 ghost use Rattle.dns_rdata_certs.specs.CERT.{cert_shape, cert_fields, cert_facts, cert_key_shape, cert_keys, IsReadCert, cert_text, cert_data_text};
 ghost use Rattle.dns_rdata_certs.specs.CERT.{ReadsWholeCert, IsWholeCertRefusal};
 
-mod algorithm;
-mod cert_type;
+mod enums;
 
-pub use algorithm::Algorithm;
 use base64::engine::general_purpose::STANDARD;
-pub use cert_type::CertType;
 use dns_names_wire::{
     BinDecoder, BinEncodable, BinEncoder, DecodeError, ProtoError, Record, RecordDataDecodable,
     Restrict, SmallOctets,
 };
 use dns_words::Base64Text;
+pub use enums::{Algorithm, CertType};
 use std::alloc::{AllocError, Global};
 use std::fmt;
 
