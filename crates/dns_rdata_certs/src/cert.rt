@@ -58,7 +58,7 @@ impl CERT {
     /// The record that all these octets are. Refused by
     /// [`IncorrectRDataLengthRead`](DecodeError::IncorrectRDataLengthRead) of their number and 6 where they are fewer
     /// than 6, and of their number and 65535 where they are more than that; and for want of memory.
-    #[tactic(auto, using(crate::proofs::Wholes::whole_cert))]
+    #[tactic(auto, using(crate::proofs::Values::whole_cert))]
     pub fn try_from(alloc: Global, octets: &[u8]) -> Result<CERT, DecodeError>
         ensures reads { ReadsWholeCert octets.now result }
         ensures enums { IfOk result IsReadCert }
