@@ -1,5 +1,3 @@
-mod HexText
 pub mod Numbers
 pub mod Values
-pub mod Wholes
 pub mod WordsBack

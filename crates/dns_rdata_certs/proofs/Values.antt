@@ -1,18 +1,20 @@
 -- Records by their fields: each record that was read is told by them, and any fields make one. What is compared of two
 -- records that were read is the same exactly where their fields are.
-use Rattle.std.proofs.Common.{◌≡◌, ◌↔◌, refl, sym, ap}
+use Rattle.std.proofs.Common.{◌≡◌, ◌↔◌, ℕ, List, length, Result, Ok, Err, refl, sym, ap}
+use Rattle.std.specs.Result.{IfOk}
+use Rattle.dns_types.specs.declared.error.DecodeError.{DecodeError}
+use Rattle.dns_names_wire.specs.{State.Reading, Words.ReadsWindow}
 use Rattle.dns_fields.specs.Fields.{Values, Same}
-use Rattle.dns_rdata_certs.specs.{CertType.cert_type_number, CertType.cert_type_variant, CertType.cert_type_of, CertUsage.cert_usage_number}
-use Rattle.dns_rdata_certs.specs.{CertUsage.cert_usage_variant, CertUsage.cert_usage_of, Selector.selector_number, Selector.selector_variant}
-use Rattle.dns_rdata_certs.specs.{Selector.selector_of, Matching.matching_number, Matching.matching_variant, Matching.matching_of}
+use Rattle.dns_rdata_certs.specs.Enums.{cert_type_number, cert_type_variant, cert_type_of, cert_usage_number, cert_usage_variant, cert_usage_of}
+use Rattle.dns_rdata_certs.specs.Enums.{selector_number, selector_variant, selector_of, matching_number, matching_variant, matching_of}
+use Rattle.dns_rdata_certs.specs.Enums.{cert_algorithm_number, cert_algorithm_variant, cert_algorithm_of, sshfp_algorithm_number}
+use Rattle.dns_rdata_certs.specs.Enums.{sshfp_algorithm_variant, sshfp_algorithm_of, fingerprint_type_number, fingerprint_type_variant}
+use Rattle.dns_rdata_certs.specs.Enums.{fingerprint_type_of}
 use Rattle.dns_rdata_certs.specs.{declared.tlsa.TLSA.TLSA, declared.smimea.SMIMEA.SMIMEA, declared.sshfp.SSHFP.SSHFP, declared.cert.CERT.CERT}
 use Rattle.dns_rdata_certs.specs.TLSA.{tlsa_shape, tlsa_fields, tlsa_key_shape, tlsa_keys, IsReadTlsa}
 use Rattle.dns_rdata_certs.specs.SSHFP.{sshfp_shape, sshfp_fields, sshfp_key_shape, sshfp_keys, IsReadSshfp}
 use Rattle.dns_rdata_certs.specs.SMIMEA.{smimea_shape, smimea_fields, smimea_key_shape, smimea_keys, IsReadSmimea}
-use Rattle.dns_rdata_certs.specs.CERT.{cert_shape, cert_fields, cert_key_shape, cert_keys, IsReadCert}
-use Rattle.dns_rdata_certs.specs.CertAlgorithm.{cert_algorithm_number, cert_algorithm_variant, cert_algorithm_of}
-use Rattle.dns_rdata_certs.specs.SshfpAlgorithm.{sshfp_algorithm_number, sshfp_algorithm_variant, sshfp_algorithm_of}
-use Rattle.dns_rdata_certs.specs.FingerprintType.{fingerprint_type_number, fingerprint_type_variant, fingerprint_type_of}
+use Rattle.dns_rdata_certs.specs.CERT.{cert_shape, cert_fields, cert_key_shape, cert_keys, IsReadCert, MeetsCertCondition, cert_facts, ReadsWholeCert}
 use Rattle.dns_rdata_certs.proofs.Numbers.{cert_type_number-of, cert_algorithm_number-of, sshfp_algorithm_number-of, fingerprint_type_number-of}
 use Rattle.dns_rdata_certs.proofs.Numbers.{cert_usage_number-of, selector_number-of, matching_number-of, keyed_same}
 
@@ -102,3 +104,10 @@ pub cert_keys-same : (a b : CERT) → IsReadCert a → IsReadCert b
 cert_keys-same a b x y =
     let rest = keyed_same cert_algorithm_number cert_algorithm_variant cert_algorithm_of x.algorithm y.algorithm (λ s. s, λ s. s) in
     keyed_same cert_type_number cert_type_variant cert_type_of x.type y.type (λ s. (s.0, rest.0 s.1), λ s. (s.0, rest.1 s.1))
+
+-- a certificate that is read from octets of its own
+pub whole_cert : (octets : List ℕ) (new : Reading) (r : Result CERT DecodeError)
+    → ReadsWindow cert_shape MeetsCertCondition cert_fields (length octets) r (record { message = octets; index = 0 }) new
+    → IfOk r (λ x. cert_facts.made (length octets) x (record { message = octets; index = 0 }) new) → ReadsWholeCert octets r
+whole_cert octets new (Ok x) h m = h.here m.1
+whole_cert octets new (Err e) h m = h.none

@@ -6,8 +6,8 @@ use Rattle.dns_types.specs.declared.error.DecodeError.TheVariants as decode
 use Rattle.dns_fields.specs.Fields.{Kind, Number, Rest, Values}
 use Rattle.dns_names_wire.specs.{State.Reading, Words.LacksOctets, Words.UnlessMemory, Words.Window, Words.NoWindow, Facts.Facts, Facts.filling}
 use Rattle.dns_rdata_base.specs.Numbered.{keyed}
-use Rattle.dns_rdata_certs.specs.CertType.{cert_type_number, cert_type_variant, cert_type_of, cert_type_text}
-use Rattle.dns_rdata_certs.specs.CertAlgorithm.{cert_algorithm_number, cert_algorithm_variant, cert_algorithm_of, cert_algorithm_text}
+use Rattle.dns_rdata_certs.specs.Enums.{cert_type_number, cert_type_variant, cert_type_of, cert_type_text, cert_algorithm_number}
+use Rattle.dns_rdata_certs.specs.Enums.{cert_algorithm_variant, cert_algorithm_of, cert_algorithm_text}
 use Rattle.dns_rdata_certs.specs.declared.cert.CERT.{CERT}
 
 -- type, key tag, algorithm, certificate

@@ -1,14 +1,8 @@
 pub mod CERT
-pub mod CertAlgorithm
-pub mod CertType
-pub mod CertUsage
-pub mod FingerprintType
+pub mod Enums
 pub mod HEX
-pub mod Matching
 pub mod Rests
 pub mod SMIMEA
 pub mod SSHFP
-pub mod Selector
-pub mod SshfpAlgorithm
 pub mod TLSA
 pub mod WordRows

@@ -6,8 +6,8 @@ use Rattle.dns_fields.specs.Fields.{Kind, Number, Rest, Values}
 use Rattle.dns_names_wire.specs.{State.Reading, Facts.Facts, Facts.filling}
 use Rattle.dns_rdata_base.specs.Numbered.{keyed}
 use Rattle.dns_rdata_certs.specs.{Rests.IsRestRefusal, declared.sshfp.SSHFP.SSHFP}
-use Rattle.dns_rdata_certs.specs.SshfpAlgorithm.{sshfp_algorithm_number, sshfp_algorithm_variant, sshfp_algorithm_of}
-use Rattle.dns_rdata_certs.specs.FingerprintType.{fingerprint_type_number, fingerprint_type_variant, fingerprint_type_of}
+use Rattle.dns_rdata_certs.specs.Enums.{sshfp_algorithm_number, sshfp_algorithm_variant, sshfp_algorithm_of, fingerprint_type_number}
+use Rattle.dns_rdata_certs.specs.Enums.{fingerprint_type_variant, fingerprint_type_of}
 
 -- algorithm, fingerprint type, fingerprint
 abbrev pub sshfp_shape : List Kind

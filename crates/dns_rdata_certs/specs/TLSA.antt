@@ -5,9 +5,9 @@ use Rattle.dns_types.specs.declared.error.DecodeError.{DecodeError}
 use Rattle.dns_fields.specs.Fields.{Kind, Number, Rest, Values}
 use Rattle.dns_names_wire.specs.{State.Reading, Facts.Facts, Facts.filling}
 use Rattle.dns_rdata_base.specs.Numbered.{keyed}
-use Rattle.dns_rdata_certs.specs.{Selector.selector_number, Selector.selector_variant, Selector.selector_of, Matching.matching_number}
-use Rattle.dns_rdata_certs.specs.{Matching.matching_variant, Matching.matching_of, Rests.IsRestRefusal, declared.tlsa.TLSA.TLSA}
-use Rattle.dns_rdata_certs.specs.CertUsage.{cert_usage_number, cert_usage_variant, cert_usage_of}
+use Rattle.dns_rdata_certs.specs.Enums.{selector_number, selector_variant, selector_of, matching_number, matching_variant, matching_of}
+use Rattle.dns_rdata_certs.specs.Enums.{cert_usage_number, cert_usage_variant, cert_usage_of}
+use Rattle.dns_rdata_certs.specs.{Rests.IsRestRefusal, declared.tlsa.TLSA.TLSA}
 
 -- usage, selector, matching type, data
 abbrev pub tlsa_shape : List Kind

@@ -2,10 +2,9 @@
 use Rattle.std.specs.{Prelude.◌≡◌, Prelude.◌≢◌, Prelude.ℕ, Prelude.◌^◌, Prelude.◌<◌, Prelude.List, Prelude.[], Prelude.◌∷◌, Prelude.Ok, List.flat_map}
 use Rattle.dns_fields.specs.{Octets.AreOctets, Fields.Rest}
 use Rattle.dns_words.specs.Forms.{Form, Row, word, ignored, nothing, number, base64}
-use Rattle.dns_rdata_certs.specs.{CERT.cert_shape, CertUsage.cert_usage_number, HEX.octets_of_hex, Matching.matching_number, Selector.selector_number}
-use Rattle.dns_rdata_certs.specs.{SshfpAlgorithm.sshfp_algorithm_number, SMIMEA.smimea_shape, SSHFP.sshfp_shape, SSHFP.IsReadSshfp}
+use Rattle.dns_rdata_certs.specs.Enums.{cert_usage_number, matching_number, selector_number, sshfp_algorithm_number, fingerprint_type_number}
+use Rattle.dns_rdata_certs.specs.{CERT.cert_shape, HEX.octets_of_hex, SMIMEA.smimea_shape, SSHFP.sshfp_shape, SSHFP.IsReadSshfp}
 use Rattle.dns_rdata_certs.specs.{TLSA.tlsa_shape, TLSA.IsReadTlsa, declared.sshfp.SSHFP.SSHFP, declared.tlsa.TLSA.TLSA}
-use Rattle.dns_rdata_certs.specs.FingerprintType.{fingerprint_type_number}
 
 -- hexadecimal digits; the word has a character
 abbrev pub hex_digits : Form Rest

@@ -6,17 +6,15 @@ ghost use Rattle.dns_names_wire.specs.{Words.Emits};
 ghost use Rattle.dns_rdata_certs.specs.CERT.{cert_shape, cert_fields, cert_facts, cert_key_shape, cert_keys, IsReadCert, cert_text, cert_data_text};
 ghost use Rattle.dns_rdata_certs.specs.CERT.{ReadsWholeCert, IsWholeCertRefusal};
 
-mod algorithm;
-mod cert_type;
+mod enums;
 
-pub use algorithm::Algorithm;
 use base64::engine::general_purpose::STANDARD;
-pub use cert_type::CertType;
 use dns_names_wire::{
     BinDecoder, BinEncodable, BinEncoder, DecodeError, ProtoError, Record, RecordDataDecodable,
     Restrict, SmallOctets,
 };
 use dns_words::Base64Text;
+pub use enums::{Algorithm, CertType};
 use std::alloc::{AllocError, Global};
 use std::fmt;
 
@@ -60,7 +58,7 @@ impl CERT {
     /// The record that all these octets are. Refused by
     /// [`IncorrectRDataLengthRead`](DecodeError::IncorrectRDataLengthRead) of their number and 6 where they are fewer
     /// than 6, and of their number and 65535 where they are more than that; and for want of memory.
-    #[tactic(auto, using(crate::proofs::Wholes::whole_cert))]
+    #[tactic(auto, using(crate::proofs::Values::whole_cert))]
     pub fn try_from(alloc: Global, octets: &[u8]) -> Result<CERT, DecodeError>
         ensures reads { ReadsWholeCert octets.now result }
         ensures enums { IfOk result IsReadCert }

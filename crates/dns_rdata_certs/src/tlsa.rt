@@ -4,18 +4,14 @@ ghost use Rattle.std.specs.Prelude.{◌≡◌, Some};
 ghost use Rattle.dns_names_wire.specs.{Words.Emits};
 ghost use Rattle.dns_rdata_certs.specs.TLSA.{tlsa_shape, tlsa_fields, tlsa_facts, tlsa_key_shape, tlsa_keys, tlsa_text};
 
-mod cert_usage;
-mod matching;
-mod selector;
+mod enums;
 
 use crate::hexadecimal::Hexadecimal;
-pub use cert_usage::CertUsage;
 use dns_names_wire::{
     BinDecoder, BinEncodable, BinEncoder, DecodeError, ProtoError, Record, RecordDataDecodable,
     Restrict, SmallOctets,
 };
-pub use matching::Matching;
-pub use selector::Selector;
+pub use enums::{CertUsage, Matching, Selector};
 use std::fmt;
 
 /// A certificate, or what is compared with one, for a service (RFC 6698, 2.1): an octet each for usage, selector and

@@ -14,10 +14,10 @@ use Rattle.dns_types.specs.declared.record_type.RecordType.TheVariants as types
 use Rattle.dns_rdata.specs.{Data.type_of, declared.record_data.RData.RData, WholeOctets.name_octets}
 use Rattle.dns_rdata.specs.declared.record_data.RData.TheVariants as rdata
 use Rattle.dns_rdata_base.specs.{declared.naptr.NAPTR.NAPTR, declared.soa.SOA.SOA}
-use Rattle.dns_rdata_certs.specs.{CERT.cert_data_text, CertAlgorithm.cert_algorithm_number, CertType.cert_type_number, CertUsage.cert_usage_number}
-use Rattle.dns_rdata_certs.specs.{Matching.matching_number, Selector.selector_number, SshfpAlgorithm.sshfp_algorithm_number, TLSA.tlsa_shape}
-use Rattle.dns_rdata_certs.specs.{TLSA.tlsa_fields, declared.cert.CERT.CERT, declared.sshfp.SSHFP.SSHFP, declared.tlsa.TLSA.TLSA}
-use Rattle.dns_rdata_certs.specs.FingerprintType.{fingerprint_type_number}
+use Rattle.dns_rdata_certs.specs.Enums.{cert_algorithm_number, cert_type_number, cert_usage_number, matching_number, selector_number}
+use Rattle.dns_rdata_certs.specs.Enums.{sshfp_algorithm_number, fingerprint_type_number}
+use Rattle.dns_rdata_certs.specs.{CERT.cert_data_text, TLSA.tlsa_shape, TLSA.tlsa_fields}
+use Rattle.dns_rdata_certs.specs.declared.{cert.CERT.CERT, sshfp.SSHFP.SSHFP, tlsa.TLSA.TLSA}
 use Rattle.dns_rdata_options.specs.OPT.{pair_value}
 use Rattle.dns_rdata_service.specs.{Parameters.Parameter, Parameters.parameter_of, declared.svcb.SVCB.SVCB}
 use Rattle.dns_rdata_sets.specs.{CAA.caa_flags, CSYNC.csync_flags, declared.caa.CAA.CAA, declared.csync.CSYNC.CSYNC}

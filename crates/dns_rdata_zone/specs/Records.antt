@@ -7,8 +7,8 @@ use Rattle.dns_types.specs.declared.record_type.RecordType.TheVariants.{ZERO, AN
 use Rattle.dns_rdata_base.specs.{declared.hinfo.HINFO.HINFO, declared.naptr.NAPTR.NAPTR, declared.openpgpkey.OPENPGPKEY.OPENPGPKEY}
 use Rattle.dns_rdata_base.specs.{declared.soa.SOA.SOA, declared.txt.TXT.TXT, OPENPGPKEY.openpgpkey_text}
 use Rattle.dns_rdata_certs.specs.{declared.cert.CERT.CERT, declared.sshfp.SSHFP.SSHFP, declared.tlsa.TLSA.TLSA, CERT.cert_shape, CERT.cert_fields}
-use Rattle.dns_rdata_certs.specs.{CERT.cert_data_text, CertType.cert_type_number, CertAlgorithm.cert_algorithm_number, SSHFP.sshfp_shape}
-use Rattle.dns_rdata_certs.specs.{SSHFP.sshfp_fields, SSHFP.sshfp_text, TLSA.tlsa_shape, TLSA.tlsa_fields, TLSA.tlsa_text}
+use Rattle.dns_rdata_certs.specs.Enums.{cert_type_number, cert_algorithm_number}
+use Rattle.dns_rdata_certs.specs.{CERT.cert_data_text, SSHFP.sshfp_shape, SSHFP.sshfp_fields, SSHFP.sshfp_text, TLSA.tlsa_shape, TLSA.tlsa_fields, TLSA.tlsa_text}
 use Rattle.dns_rdata_sets.specs.{declared.caa.CAA.CAA, declared.csync.CSYNC.CSYNC, CAA.caa_shape, CAA.caa_fields, CAA.caa_flags, CSYNC.csync_flags}
 use Rattle.dns_rdata_zone.specs.{Generic.generic, Strings.quoted, Strings.spaced, Names.zone_name}
 

@@ -4,7 +4,7 @@ ghost use Rattle.std.specs.Prelude.{◌≡◌, refl};
 ghost use Rattle.std.specs.Hash as fed;
 ghost use Rattle.dns_rdata_base.specs.Numbered.{numbered_eq, numbered_cmp, numbered_partial_cmp, numbered_hash};
 ghost use Rattle.dns_rdata_base.proofs.NumberedLaws.{numbered_equiv, numbered_partial, numbered_total, numbered_order, numbered_ties, numbered_alike};
-ghost use Rattle.dns_rdata_certs.specs.SshfpAlgorithm.{sshfp_algorithm_number, sshfp_algorithm_variant, sshfp_algorithm_of};
+ghost use Rattle.dns_rdata_certs.specs.Enums.{sshfp_algorithm_number, sshfp_algorithm_variant, sshfp_algorithm_of};
 
 use std::cmp::Ordering;
 use std::hash::{Hash, Hasher};
@@ -38,7 +38,7 @@ macro_rules! algorithms {
     };
 }
 
-#[tactic(auto, unfolding(crate::specs::SshfpAlgorithm::sshfp_algorithm_of))]
+#[tactic(auto, unfolding(crate::specs::Enums::sshfp_algorithm_of))]
 impl From<u8> for Algorithm {
     ghost from_gives = { λ n e. (e ≡ sshfp_algorithm_of n) × (sshfp_algorithm_number e ≡ n) };
 

@@ -4,7 +4,7 @@ ghost use Rattle.std.specs.Prelude.{◌≡◌, refl};
 ghost use Rattle.std.specs.Hash as fed;
 ghost use Rattle.dns_rdata_base.specs.Numbered.{numbered_eq, numbered_cmp, numbered_partial_cmp, numbered_hash};
 ghost use Rattle.dns_rdata_base.proofs.NumberedLaws.{numbered_equiv, numbered_partial, numbered_total, numbered_order, numbered_ties, numbered_alike};
-ghost use Rattle.dns_rdata_certs.specs.FingerprintType.{fingerprint_type_number, fingerprint_type_variant, fingerprint_type_of};
+ghost use Rattle.dns_rdata_certs.specs.Enums.{fingerprint_type_number, fingerprint_type_variant, fingerprint_type_of};
 
 use std::cmp::Ordering;
 use std::hash::{Hash, Hasher};
@@ -29,7 +29,7 @@ macro_rules! types {
     };
 }
 
-#[tactic(auto, unfolding(crate::specs::FingerprintType::fingerprint_type_of))]
+#[tactic(auto, unfolding(crate::specs::Enums::fingerprint_type_of))]
 impl From<u8> for FingerprintType {
     ghost from_gives = { λ n e. (e ≡ fingerprint_type_of n) × (fingerprint_type_number e ≡ n) };
 

@@ -1,8 +1,14 @@
-use Rattle.std.proofs.Common.{◌≡◌, ℕ, List, [], ◌++◌, rules, sym, ap, ◌∙◌, append_assoc, append-nil}
+use Rattle.std.proofs.Common.{◌≡◌, ℕ, ◌/◌, ◌%◌, List, [], ◌∷◌, ◌++◌, rules, refl, sym, ap, ◌∙◌, append_assoc, append-nil}
+use Rattle.std.specs.Prelude.{slice_index}
 use Rattle.std.proofs.{Output.has_written_append, Output.has_written_of_eq, lemmas.List.nil_from_length}
 use Rattle.hex.specs.Hex.{encode_lower, encode_with, lower_digits}
-use Rattle.dns_rdata_certs.proofs.HexText.{encode_with-append}
 use Rattle.dns_rdata_certs.proofs.hexadecimal.HexadecimalDisplay.fmt.Goals as goal
+
+-- the digits of a list that grows
+encode_with-append : (t xs ys : List ℕ) → encode_with t (xs ++ ys) ≡ encode_with t xs ++ encode_with t ys
+unfolding encode_with
+encode_with-append t [] ys = refl
+encode_with-append t (x ∷ xs) ys = ap (λ (r : List ℕ). slice_index t (x / 16) ∷ slice_index t (x % 16) ∷ r) (encode_with-append t xs ys)
 
 pub loop-chunk-init : goal.loop-chunk-init
 loop-chunk-init g c = (search rules, tt, search rules, λ plain. ([], search rules, search rules))
