@@ -1,5 +1,5 @@
 -- The grammar at work: octets that hold values, and octets that hold none.
-use Rattle.std.specs.Prelude.{◌≡◌, ℕ, true, false, List, [], ◌∷◌}
+use Rattle.std.specs.Prelude.{◌≡◌, ℕ, true, false, List, [], ◌∷◌, length}
 use Rattle.std.specs.declared.cmp.Ordering.TheVariants.{Less, Equal}
 use Rattle.dns_fields.specs.{Labels.DomainName, Equal.values_eq, Order.values_cmp}
 use Rattle.dns_fields.specs.Pieces.{Subnet, Plain, Mandatory, Alpn, Port, Ipv4Hint, Ipv6Hint, Opaque}
@@ -9,6 +9,10 @@ use Rattle.dns_fields.specs.Fields.{Kind, Number, Octets, Name, Text, Texts, Res
 pub record Reads (message : List ℕ) (start end : ℕ) (kinds : List Kind) (values : Values kinds) (octets : List ℕ) : Type 0 where
   pub stands : Stands message start kinds values end
   pub canonical_octets : canonical kinds values ≡ octets
+
+-- the octets, whole, hold the values, and are their canonical octets
+abbrev pub AreCanonical : (kinds : List Kind) → List ℕ → Values kinds → Type 0
+AreCanonical kinds octets values = Reads octets 0 (length octets) kinds values octets
 
 -- no values stand there
 abbrev pub HoldsNone : List ℕ → ℕ → ℕ → List Kind → Type 0
@@ -46,14 +50,13 @@ twenty = 0xff ∷ 0xff ∷ 0xff ∷ 0xff ∷ 0xff ∷ 0xff ∷ 0xff ∷ 0xff ∷
 
 pub record StringExamples : Type 0 where
   -- 1.2.3.4
-  pub address_reads : Reads (0x01 ∷ 0x02 ∷ 0x03 ∷ 0x04 ∷ []) 0 4 (Octets 4 ∷ []) (0x01 ∷ 0x02 ∷ 0x03 ∷ 0x04 ∷ [], tt) (0x01 ∷ 0x02 ∷ 0x03 ∷ 0x04 ∷ [])
+  pub address_reads : AreCanonical (Octets 4 ∷ []) (0x01 ∷ 0x02 ∷ 0x03 ∷ 0x04 ∷ []) (0x01 ∷ 0x02 ∷ 0x03 ∷ 0x04 ∷ [], tt)
   -- three of four octets, and a window past the message's end
   pub address_is_four : HoldsNone (0x01 ∷ 0x02 ∷ 0x03 ∷ 0x04 ∷ []) 0 3 (Octets 4 ∷ []) × HoldsNone (0x01 ∷ 0x02 ∷ 0x03 ∷ []) 0 4 (Octets 4 ∷ [])
   -- "cpu" "os"
-  pub two_texts_read : Reads (0x03 ∷ 0x63 ∷ 0x70 ∷ 0x75 ∷ 0x02 ∷ 0x6f ∷ 0x73 ∷ []) 0 7 (Text ∷ Text ∷ []) (0x63 ∷ 0x70 ∷ 0x75 ∷ [], (0x6f ∷ 0x73 ∷ [], tt))
-      (0x03 ∷ 0x63 ∷ 0x70 ∷ 0x75 ∷ 0x02 ∷ 0x6f ∷ 0x73 ∷ [])
+  pub two_texts_read : AreCanonical (Text ∷ Text ∷ []) (0x03 ∷ 0x63 ∷ 0x70 ∷ 0x75 ∷ 0x02 ∷ 0x6f ∷ 0x73 ∷ []) (0x63 ∷ 0x70 ∷ 0x75 ∷ [], (0x6f ∷ 0x73 ∷ [], tt))
   -- no octets are no strings, and one octet 0 is one empty string, which is another value
-  pub empty_strings_read : Reads [] 0 0 (Texts ∷ []) ([], tt) [] × Reads (0x00 ∷ []) 0 1 (Texts ∷ []) ([] ∷ [], tt) (0x00 ∷ [])
+  pub empty_strings_read : AreCanonical (Texts ∷ []) [] ([], tt) × AreCanonical (Texts ∷ []) (0x00 ∷ []) ([] ∷ [], tt)
       × (values_eq (Texts ∷ []) ([], tt) ([] ∷ [], tt) ≡ false)
   -- a string of two octets of which one is there
   pub cut_string : HoldsNone (0x02 ∷ 0x61 ∷ []) 0 2 (Texts ∷ [])
@@ -124,11 +127,10 @@ pub record OptionExamples : Type 0 where
       ((8, Subnet 1 25 0 (0xac ∷ 0x01 ∷ 0x01 ∷ 0xff ∷ [])) ∷ [], tt)
       (0x00 ∷ 0x08 ∷ 0x00 ∷ 0x08 ∷ 0x00 ∷ 0x01 ∷ 0x19 ∷ 0x00 ∷ 0xac ∷ 0x01 ∷ 0x01 ∷ 0xff ∷ [])
   -- the subnet 2001:d00::/24 of IPv6
-  pub subnet_of_six_reads : Reads (0x00 ∷ 0x08 ∷ 0x00 ∷ 0x07 ∷ 0x00 ∷ 0x02 ∷ 0x18 ∷ 0x00 ∷ 0x20 ∷ 0x01 ∷ 0x0d ∷ []) 0 11 (Options ∷ [])
-      ((8, Subnet 2 24 0 (0x20 ∷ 0x01 ∷ 0x0d ∷ [])) ∷ [], tt) (0x00 ∷ 0x08 ∷ 0x00 ∷ 0x07 ∷ 0x00 ∷ 0x02 ∷ 0x18 ∷ 0x00 ∷ 0x20 ∷ 0x01 ∷ 0x0d ∷ [])
+  pub subnet_of_six_reads : AreCanonical (Options ∷ []) (0x00 ∷ 0x08 ∷ 0x00 ∷ 0x07 ∷ 0x00 ∷ 0x02 ∷ 0x18 ∷ 0x00 ∷ 0x20 ∷ 0x01 ∷ 0x0d ∷ [])
+      ((8, Subnet 2 24 0 (0x20 ∷ 0x01 ∷ 0x0d ∷ [])) ∷ [], tt)
   -- the identifier of a name server (RFC 5001, 2.3) is any octets
-  pub server_identifier_reads : Reads (0x00 ∷ 0x03 ∷ 0x00 ∷ 0x03 ∷ 0xc0 ∷ 0xff ∷ 0xee ∷ []) 0 7 (Options ∷ []) ((3, Plain (0xc0 ∷ 0xff ∷ 0xee ∷ [])) ∷ [], tt)
-      (0x00 ∷ 0x03 ∷ 0x00 ∷ 0x03 ∷ 0xc0 ∷ 0xff ∷ 0xee ∷ [])
+  pub server_identifier_reads : AreCanonical (Options ∷ []) (0x00 ∷ 0x03 ∷ 0x00 ∷ 0x03 ∷ 0xc0 ∷ 0xff ∷ 0xee ∷ []) ((3, Plain (0xc0 ∷ 0xff ∷ 0xee ∷ [])) ∷ [], tt)
   -- a subnet of a family that is neither 1 nor 2, and one whose prefix asks for five octets of an address of four
   pub broken_subnet : HoldsNone (0x00 ∷ 0x08 ∷ 0x00 ∷ 0x04 ∷ 0x00 ∷ 0x03 ∷ 0x00 ∷ 0x00 ∷ []) 0 8 (Options ∷ [])
       × HoldsNone (0x00 ∷ 0x08 ∷ 0x00 ∷ 0x09 ∷ 0x00 ∷ 0x01 ∷ 0x21 ∷ 0x00 ∷ 0x01 ∷ 0x02 ∷ 0x03 ∷ 0x04 ∷ 0x05 ∷ []) 0 13 (Options ∷ [])
@@ -141,16 +143,13 @@ pub record ParameterExamples : Type 0 where
       (1, (full [], ((1, Alpn ((0x68 ∷ 0x32 ∷ []) ∷ [])) ∷ (3, Port 443) ∷ [], tt)))
       (0x00 ∷ 0x01 ∷ 0x00 ∷ 0x00 ∷ 0x01 ∷ 0x00 ∷ 0x03 ∷ 0x02 ∷ 0x68 ∷ 0x32 ∷ 0x00 ∷ 0x03 ∷ 0x00 ∷ 0x02 ∷ 0x01 ∷ 0xbb ∷ [])
   -- addresses may be none
-  pub no_hints_read : Reads (0x00 ∷ 0x04 ∷ 0x00 ∷ 0x00 ∷ []) 0 4 (Parameters ∷ []) ((4, Ipv4Hint []) ∷ [], tt) (0x00 ∷ 0x04 ∷ 0x00 ∷ 0x00 ∷ [])
+  pub no_hints_read : AreCanonical (Parameters ∷ []) (0x00 ∷ 0x04 ∷ 0x00 ∷ 0x00 ∷ []) ((4, Ipv4Hint []) ∷ [], tt)
   -- the key 1 is mandatory
-  pub mandatory_reads : Reads (0x00 ∷ 0x00 ∷ 0x00 ∷ 0x02 ∷ 0x00 ∷ 0x01 ∷ []) 0 6 (Parameters ∷ []) ((0, Mandatory (1 ∷ [])) ∷ [], tt)
-      (0x00 ∷ 0x00 ∷ 0x00 ∷ 0x02 ∷ 0x00 ∷ 0x01 ∷ [])
+  pub mandatory_reads : AreCanonical (Parameters ∷ []) (0x00 ∷ 0x00 ∷ 0x00 ∷ 0x02 ∷ 0x00 ∷ 0x01 ∷ []) ((0, Mandatory (1 ∷ [])) ∷ [], tt)
   -- octets of any form for key 5
-  pub octets_of_key_five : Reads (0x00 ∷ 0x05 ∷ 0x00 ∷ 0x03 ∷ 0x00 ∷ 0x01 ∷ 0x02 ∷ []) 0 7 (Parameters ∷ []) ((5, Opaque (0x00 ∷ 0x01 ∷ 0x02 ∷ [])) ∷ [], tt)
-      (0x00 ∷ 0x05 ∷ 0x00 ∷ 0x03 ∷ 0x00 ∷ 0x01 ∷ 0x02 ∷ [])
+  pub octets_of_key_five : AreCanonical (Parameters ∷ []) (0x00 ∷ 0x05 ∷ 0x00 ∷ 0x03 ∷ 0x00 ∷ 0x01 ∷ 0x02 ∷ []) ((5, Opaque (0x00 ∷ 0x01 ∷ 0x02 ∷ [])) ∷ [], tt)
   -- one address of sixteen octets, 2001:db8::1
-  pub hint_of_six_reads : Reads (0x00 ∷ 0x06 ∷ 0x00 ∷ 0x10 ∷ address_of_six) 0 20 (Parameters ∷ []) ((6, Ipv6Hint (address_of_six ∷ [])) ∷ [], tt)
-      (0x00 ∷ 0x06 ∷ 0x00 ∷ 0x10 ∷ address_of_six)
+  pub hint_of_six_reads : AreCanonical (Parameters ∷ []) (0x00 ∷ 0x06 ∷ 0x00 ∷ 0x10 ∷ address_of_six) ((6, Ipv6Hint (address_of_six ∷ [])) ∷ [], tt)
   -- one key twice
   pub keys_rise : HoldsNone (0x00 ∷ 0x03 ∷ 0x00 ∷ 0x02 ∷ 0x00 ∷ 0x35 ∷ 0x00 ∷ 0x03 ∷ 0x00 ∷ 0x02 ∷ 0x00 ∷ 0x35 ∷ []) 0 12 (Parameters ∷ [])
   -- key 3 and then key 1
@@ -164,11 +163,10 @@ pub record ParameterExamples : Type 0 where
 
 pub record BitmapExamples : Type 0 where
   -- types 1, 2 and 28, behind a serial and flags
-  pub types_read : Reads (0x00 ∷ 0x00 ∷ 0x00 ∷ 0x7b ∷ 0x00 ∷ 0x03 ∷ 0x00 ∷ 0x04 ∷ 0x60 ∷ 0x00 ∷ 0x00 ∷ 0x08 ∷ []) 0 12 (Number 4 ∷ Number 2 ∷ Bitmap ∷ [])
-      (123, (3, (1 ∷ 2 ∷ 28 ∷ [], tt)))
-      (0x00 ∷ 0x00 ∷ 0x00 ∷ 0x7b ∷ 0x00 ∷ 0x03 ∷ 0x00 ∷ 0x04 ∷ 0x60 ∷ 0x00 ∷ 0x00 ∷ 0x08 ∷ [])
+  pub types_read : AreCanonical (Number 4 ∷ Number 2 ∷ Bitmap ∷ [])
+      (0x00 ∷ 0x00 ∷ 0x00 ∷ 0x7b ∷ 0x00 ∷ 0x03 ∷ 0x00 ∷ 0x04 ∷ 0x60 ∷ 0x00 ∷ 0x00 ∷ 0x08 ∷ []) (123, (3, (1 ∷ 2 ∷ 28 ∷ [], tt)))
   -- types 1, 256 and 257 in two windows
-  pub windows_read : Reads (0x00 ∷ 0x01 ∷ 0x40 ∷ 0x01 ∷ 0x01 ∷ 0xc0 ∷ []) 0 6 (Bitmap ∷ []) (1 ∷ 256 ∷ 257 ∷ [], tt) (0x00 ∷ 0x01 ∷ 0x40 ∷ 0x01 ∷ 0x01 ∷ 0xc0 ∷ [])
+  pub windows_read : AreCanonical (Bitmap ∷ []) (0x00 ∷ 0x01 ∷ 0x40 ∷ 0x01 ∷ 0x01 ∷ 0xc0 ∷ []) (1 ∷ 256 ∷ 257 ∷ [], tt)
   -- a bitmap with an octet 0 at its end is read, and its canonical octets are without it
   pub zeros_dropped : Reads (0x00 ∷ 0x02 ∷ 0x60 ∷ 0x00 ∷ []) 0 4 (Bitmap ∷ []) (1 ∷ 2 ∷ [], tt) (0x00 ∷ 0x01 ∷ 0x60 ∷ [])
   -- a window without octets, and one that is longer than what is there
