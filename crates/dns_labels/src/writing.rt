@@ -170,6 +170,7 @@ fn write_again(
 
 /// The same as `write_name`, of a name that stands at neither of the two places that are looked at first.
 #[inline(never)]
+#[tactic(auto, using(crate::proofs::Wrote::cut_wrote))]
 fn write_new(
     places: &mut Places,
     out: &mut Vec<u8>,

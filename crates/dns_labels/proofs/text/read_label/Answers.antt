@@ -1,5 +1,5 @@
 use Rattle.std.proofs.Common.{length, arith, length-append, ◌∷◌, [], ap, ◌∙◌}
-use Rattle.dns_labels.proofs.NameSteps.{label_set, label_empty}
+use Rattle.dns_labels.proofs.NameSteps.{label_empty}
 use Rattle.dns_labels.proofs.text.read_label.Goals as goal
 
 pub returns-then-count-eq0-clause-none : goal.returns-then-count-eq0-clause-none
@@ -7,7 +7,3 @@ returns-then-count-eq0-clause-none c = λ label t rest lt e end is room.
     label_empty c.in_ok-taken.ensures.some
     (omega (arith, c.len.ensures.value, c.len-start.ensures.value, ap length c.push.ensures ∙ length-append c.args.octets.now (0 ∷ []))) label t rest lt
     e end is
-
-pub returns-clause-some : goal.returns-clause-some
-returns-clause-some c = rw c.set.ensures (label_set c.push.ensures
-    c.in_ok-taken.ensures.some c.len-start.ensures.value (omega (arith, c.len.ensures.value)) (omega arith) c.in_ok-taken.ensures.short)
