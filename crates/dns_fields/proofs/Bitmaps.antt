@@ -7,26 +7,18 @@ use Rattle.std.proofs.lemmas.List.FromFn.{get_or-map-range_with_len, length-map-
 use Rattle.std.proofs.lemmas.Nat.Bits.{bit_at_lowest, bit_at-zero, bit_at_cat_low, bit_at_cat_high}
 use Rattle.dns_fields.specs.Bitmaps.{Block, block, IsBlock, has_type, contains, AllAbove, Rises, IsTypeSet, BitmapAt, packed, mark, keep, trimmed}
 use Rattle.dns_fields.specs.Bitmaps.{types_octet, window, with_block, windows, minimal}
-use Rattle.dns_fields.proofs.{Places.At-same_end, Places.At-appended, Places.At-append, Pieces.parts}
+use Rattle.dns_fields.proofs.{Places.At-same_end, Places.At-appended, Places.At-append, Pieces.parts, Pieces.joined_same}
 
 -- ---- blocks are told by their octets
 
-first_block : (a b : Block) (x y : List ℕ) → block a ++ x ≡ block b ++ y → (a ≡ b) × (x ≡ y)
-first_block a b x y e =
+first_block : (a b : Block) (x y : List ℕ) → IsBlock a → IsBlock b → block a ++ x ≡ block b ++ y → (a ≡ b) × (x ≡ y)
+first_block a b x y i j e =
     let f : a.0 ∷ length a.1 ∷ (a.1 ++ x) ≡ b.0 ∷ length b.1 ∷ (b.1 ++ y) = e in
     let k : a.0 ≡ b.0 = cc in
     let n : length a.1 ≡ length b.1 = cc in
     let t : a.1 ++ x ≡ b.1 ++ y = cc in
     let h = parts a.1 x b.1 y n t in
     (ap (λ (z : ℕ). (z, a.1)) k ∙ ap (λ (o : List ℕ). (b.0, o)) h.0, h.1)
-
-blocks_same : (a b : List Block) → flat_map block a ≡ flat_map block b → a ≡ b
-blocks_same [] [] e = refl
-blocks_same [] (b ∷ bs) e = let f : [] ≡ block b ++ flat_map block bs = e in absurd cc
-blocks_same (a ∷ as') [] e = let f : block a ++ flat_map block as' ≡ [] = e in absurd cc
-blocks_same (a ∷ as') (b ∷ bs) e =
-    let h = first_block a b (flat_map block as') (flat_map block bs) e in
-    ap (λ (z : Block). z ∷ as') h.0 ∙ ap (λ (zs : List Block). b ∷ zs) (blocks_same as' bs h.1)
 
 -- ---- a rising list is told by what it contains
 
@@ -81,7 +73,7 @@ rising_same (x ∷ xs) (y ∷ ys) f g h =
 
 pub bitmap_same : {m : List ℕ} {p : ℕ} {v w : List ℕ} {q : ℕ} → BitmapAt m p v q → BitmapAt m p w q → v ≡ w
 bitmap_same {v = v} {w = w} f g =
-    let e : f.blocks ≡ g.blocks = blocks_same f.blocks g.blocks (At-same_end f.at g.at) in
+    let e : f.blocks ≡ g.blocks = joined_same block IsBlock (λ b i. omega arith) first_block f.blocks g.blocks f.fit g.fit (At-same_end f.at g.at) in
     rising_same v w f.set.rises g.set.rises (λ t. f.types t ∙ ap (list_any (has_type t)) e ∙ sym (g.types t))
 
 pub bitmap_append : {m : List ℕ} {p : ℕ} {v : List ℕ} {q : ℕ} (t : List ℕ) → BitmapAt m p v q → BitmapAt (m ++ t) p v q

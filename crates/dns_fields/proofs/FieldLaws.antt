@@ -1,10 +1,10 @@
 -- The laws of one field, by cases on its kind.
 use Rattle.std.proofs.Common.{◌≡◌, ℕ, ◌≤◌, List, [], ◌∷◌, ◌++◌, length, refl, sym, ap, ◌∙◌, arith, subst, ◌-◌, ◌⊎◌, inl, inr, map}
-use Rattle.std.specs.{List.flat_map, List.AllByRecursion, Int.bytes_high_first, Ordering.on}
+use Rattle.std.specs.{List.flat_map, List.AllByRecursion, Ordering.on}
 use Rattle.std.proofs.lemmas.List.Sorted.{IsPermutation-refl, IsPermutation-sym, IsPermutation-trans, IsPermutation-map}
-use Rattle.dns_fields.specs.{Sorting.sorted, Bitmaps.block, Bitmaps.minimal, declared.RDataEncoding.RDataEncoding, Labels.full_name}
+use Rattle.dns_fields.specs.{Sorting.sorted, declared.RDataEncoding.RDataEncoding, Labels.full_name}
 use Rattle.dns_fields.specs.Pieces.{string, Numbered, piece, pieces, AllHeld, as_piece, HoldThemselves, OptionValue, option_octets, OptionHeld}
-use Rattle.dns_fields.specs.Pieces.{OptionFits, ParameterValue, parameter_octets, ParameterHeld, ParameterFits}
+use Rattle.dns_fields.specs.Pieces.{OptionFits, parameter_octets, ParameterHeld, ParameterFits}
 use Rattle.dns_fields.specs.Fields.{Options, Parameters, Lawful, option_pieces, parameter_pieces, WholeOptions, CutOptions, Bitmap, Kind, Number}
 use Rattle.dns_fields.specs.Fields.{Octets, Name, Text, Texts, Rest, Value, field_octets, Fits, Field, WroteField, SameField, EndsItself, IsFull}
 use Rattle.dns_fields.proofs.{Bitmaps.bitmap_same, Bitmaps.bitmap_append, Bitmaps.minimal_stands, Numbers.length-bytes, Numbers.same_number}
@@ -76,7 +76,7 @@ field_same {k = Number n} {v} {w} f g = same_number n v w f.is.0 g.is.0 (At-same
 field_same {k = Octets n} f g = At-same_end f.is.1 g.is.1
 field_same {k = Name} f g = (name_same f.is g.is).0
 field_same {k = Text} {v} {w} f g = let e : string v ≡ string w = At-same_end f.is.1 g.is.1 in cc
-field_same {k = Texts} {v} {w} f g = strings_same v w (At-same_end f.is.1 g.is.1)
+field_same {k = Texts} {v} {w} f g = strings_same v w f.is.0 g.is.0 (At-same_end f.is.1 g.is.1)
 field_same {k = Rest} f g = At-same_end f.is g.is
 field_same {k = Options} f g = options_same f.is g.is
 field_same {k = Parameters} {v} {w} f g =
@@ -111,11 +111,7 @@ field_lawful f = tt
 -- what was written reads there as the same value
 pub wrote_field : {mode : RDataEncoding} {m : List ℕ} {k : Kind} {v : Value k} {m' : List ℕ} → Lawful k v → WroteField mode m k v m'
     → (w : Value k) × SameField k v w × Field m' (length m) k w (length m')
-wrote_field {m} {k = Number n} {v} h f = (v, record { is = refl }, record { is = (f.is.0, rw f.is.1 (At-appended m (bytes_high_first n v))) })
-wrote_field {m} {k = Octets n} {v} h f = (v, record { is = refl }, record { is = (f.is.0, rw f.is.1 (At-appended m v)) })
 wrote_field {k = Name} {v} h f = (full_name v, record { is = record { low = refl } }, record { is = f.is.stands })
-wrote_field {m} {k = Text} {v} h f = (v, record { is = refl }, record { is = (f.is.0, rw f.is.1 (At-appended m (string v))) })
-wrote_field {m} {k = Texts} {v} h f = (v, record { is = refl }, record { is = (f.is.0, rw f.is.1 (At-appended m (flat_map string v))) })
 wrote_field {m} {k = Rest} {v} h f = (v, record { is = refl }, record { is = rw f.is (At-appended m v) })
 wrote_field {m} {k = Options} {v} {m'} h f = (
   v,
@@ -143,23 +139,20 @@ wrote_field {m} {k = Parameters} {v} {m'} h f = (
   },
 )
 wrote_field {m} {k = Bitmap} {v} h f = (v, record { is = refl }, record { is = rw f.is.1 (minimal_stands m v f.is.0) })
+wrote_field {m} {v = v} h f = (v, record { is = refl }, record { is = (f.is.0, rw f.is.1 (At-appended m _)) })
 
 -- behind what was there, and at most the canonical octets
 pub wrote_tail : {mode : RDataEncoding} {m : List ℕ} {k : Kind} {v : Value k} {m' : List ℕ} → WroteField mode m k v m'
     → (t : List ℕ) × (m' ≡ m ++ t) × (length t ≤ length (field_octets k v))
 unfolding field_octets
-wrote_tail {m} {k = Number n} {v} f = (bytes_high_first n v, f.is.1, omega arith)
-wrote_tail {m} {k = Octets n} {v} f = (v, f.is.1, omega arith)
 wrote_tail {k = Name} f = (f.is.tail, f.is.behind, f.is.shorter)
-wrote_tail {m} {k = Text} {v} f = (string v, f.is.1, omega arith)
-wrote_tail {m} {k = Texts} {v} f = (flat_map string v, f.is.1, omega arith)
 wrote_tail {m} {k = Rest} {v} f = (v, f.is, omega arith)
 wrote_tail {m} {k = Options} {v} f =
     let n : length (flat_map (λ (x : List ℕ). x) (sorted octets_cmp (map piece (option_pieces v)))) ≡ length (pieces (option_pieces v)) =
     length_sorted octets_cmp (map piece (option_pieces v)) ∙ ap length (flat_map_all piece (option_pieces v)) in
     (pieces (option_pieces v), f.is.1, omega (arith, n))
 wrote_tail {m} {k = Parameters} {v} f = (pieces (parameter_pieces v), f.is.2, omega arith)
-wrote_tail {m} {k = Bitmap} {v} f = (flat_map block (minimal v), f.is.1, omega arith)
+wrote_tail f = (_, f.is.1, omega arith)
 
 pub wrote_fits : {mode : RDataEncoding} {m : List ℕ} {k : Kind} {v : Value k} {m' : List ℕ} → WroteField mode m k v m' → Fits k v
 wrote_fits {k = Name} f = f.is.is_name
@@ -213,17 +206,11 @@ octets_wrote mode m k v h l = record { value = v; same = record { is = refl }; l
 -- the same value has the same canonical octets
 pub octets_same : {k : Kind} {a b : Value k} → SameField k a b → field_octets k a ≡ field_octets k b
 unfolding field_octets
-octets_same {k = Number w} s = ap (bytes_high_first w) s.is
-octets_same {k = Octets n} s = s.is
 octets_same {k = Name} s = s.is.low
-octets_same {k = Text} s = ap string s.is
-octets_same {k = Texts} s = ap (flat_map string) s.is
-octets_same {k = Rest} s = s.is
 octets_same {k = Options} {a} {b} s =
     ap (flat_map (λ (x : List ℕ). x)) (sorted_same (map piece (option_pieces a)) (map piece (option_pieces b))
     (IsPermutation-map piece (option_pieces a) (option_pieces b) (IsPermutation-map (as_piece option_octets) a b s.is)))
-octets_same {k = Parameters} s = ap (λ (v : List (Numbered ParameterValue)). pieces (parameter_pieces v)) s.is
-octets_same {k = Bitmap} s = ap (λ (v : List ℕ). flat_map block (minimal v)) s.is
+octets_same {k} s = ap (field_octets k) s.is
 
 pub same_sym : {k : Kind} {a b : Value k} → SameField k a b → SameField k b a
 same_sym {k = Name} s = record { is = record { low = sym s.is.low } }

@@ -6,11 +6,11 @@ use Rattle.std.proofs.{lemmas.List.take_at, lemmas.List.drop_at, lemmas.Bool.Dec
 use Rattle.std.proofs.lemmas.List.Elements.{All-nil, All-cons, All-head, All-tail, All-same, All-append, All-take, All-drop}
 use Rattle.dns_fields.specs.{Octets.AreOctets, Octets.At, Labels.AreLabels, Labels.wire, Labels.lowered, Names.LabelsStand, Names.pointer}
 use Rattle.dns_fields.specs.{Names.LabelsStand.whole, Names.LabelsStand.pointed, Sorting.sorted, Laws.OctetsLaw}
-use Rattle.dns_fields.specs.Pieces.{string, Numbered, piece, pieces, AllHeld, as_piece, OptionValue, Subnet, Plain, option_octets, OptionHeld}
-use Rattle.dns_fields.specs.Pieces.{ParameterValue, Mandatory, Alpn, NoDefaultAlpn, Port, Ipv4Hint, Ipv6Hint, Opaque, parameter_octets, IsBody}
+use Rattle.dns_fields.specs.Pieces.{Numbered, piece, pieces, AllHeld, as_piece, OptionValue, Subnet, Plain, option_octets, OptionHeld}
+use Rattle.dns_fields.specs.Pieces.{ParameterValue, Alpn, Port, parameter_octets, IsBody}
 use Rattle.dns_fields.specs.Pieces.{ParameterHeld}
 use Rattle.dns_fields.specs.Bitmaps.{Block, block, IsBlock, mark, keep, trimmed, types_octet, window, with_block, windows, minimal}
-use Rattle.dns_fields.specs.Fields.{Kind, Number, Octets, Name, Text, Texts, Rest, Options, Parameters, Bitmap, Value, Field, field_octets, canonical}
+use Rattle.dns_fields.specs.Fields.{Kind, Number, Name, Rest, Options, Parameters, Bitmap, Value, Field, field_octets, canonical}
 use Rattle.dns_fields.specs.Fields.{option_pieces, parameter_pieces, WholeOptions, CutOptions}
 use Rattle.dns_fields.proofs.{Stays.labels_stand, Sorted.octets_cmp, Sorted.sorted_all, Bitmaps.mark_small, Bitmaps.minimal_fit, Bitmaps.packed_less}
 
@@ -126,16 +126,9 @@ option_own_octets k d (Subnet f s c a) h o =
 option_own_octets k d (Plain s) h o = AreOctets-same d s h.1 o
 
 body_octets : (d : List ℕ) (v : ParameterValue) → IsBody d v → AreOctets d → AreOctets (parameter_octets v)
-body_octets d (Mandatory keys) h o = AreOctets-same d (parameter_octets (Mandatory keys)) h o
 body_octets d (Alpn names) h o = AreOctets-same d (parameter_octets (Alpn names)) h.1 o
-body_octets d NoDefaultAlpn h o = AreOctets-nil
 body_octets d (Port n) h o = AreOctets-number 2 n
-body_octets d (Ipv4Hint a) h o = AreOctets-same d (parameter_octets (Ipv4Hint a)) h o
-body_octets d (Ipv6Hint a) h o = AreOctets-same d (parameter_octets (Ipv6Hint a)) h o
-body_octets d (Opaque s) h o = AreOctets-same d s h o
-
-joined_octets : (xs : List (List ℕ)) → AllByRecursion AreOctets xs → AreOctets (flat_map (λ (x : List ℕ). x) xs)
-joined_octets xs a = AreOctets-flat_map (λ (x : List ℕ). x) xs a
+body_octets d v h o = AreOctets-same d (parameter_octets v) h o
 
 pub pieces_octets : (xs : List (Numbered (List ℕ))) → AllByRecursion AreOctets (map piece xs) → AreOctets (pieces xs)
 pieces_octets [] a = AreOctets-nil
@@ -192,18 +185,16 @@ minimal_octets v = blocks_octets (minimal v) (minimal_fit v) (windows_octets v (
 pub field_octets_are : (m : List ℕ) (p : ℕ) (k : Kind) (v : Value k) (q : ℕ) → AreOctets m → Field m p k v q → AreOctets (field_octets k v)
 unfolding field_octets
 field_octets_are m p (Number w) v q a f = AreOctets-number w v
-field_octets_are m p (Octets n) v q a f = AreOctets-at m p v q a f.is.1
 field_octets_are m p Name v q a f = lowered_octets v.labels (labels_stand f.is.stands) (labels_octets a f.is.stands)
-field_octets_are m p Text v q a f = AreOctets-at m p (string v) q a f.is.1
-field_octets_are m p Texts v q a f = AreOctets-at m p (flat_map string v) q a f.is.1
 field_octets_are m p Rest v q a f = AreOctets-at m p v q a f.is
 field_octets_are m p Options v q a f =
     let all = options_octets m p v q _ a f.is in
-    joined_octets (sorted octets_cmp (map piece (option_pieces v))) (sorted_all octets_cmp AreOctets (map piece (option_pieces v)) all)
+    AreOctets-flat_map (λ x. x) (sorted octets_cmp (map piece (option_pieces v))) (sorted_all octets_cmp AreOctets (map piece (option_pieces v)) all)
 field_octets_are m p Parameters v q a f =
     pieces_octets (parameter_pieces v) (held_octets ParameterHeld parameter_octets (λ k d w h o. body_octets d w h.2 o) f.is.read v f.is.held
     (AreOctets-at m p (pieces f.is.read) q a f.is.at))
 field_octets_are m p Bitmap v q a f = minimal_octets v
+field_octets_are m p k v q a f = AreOctets-at m p _ q a f.is.1
 
 pub canonical_octets_are : OctetsLaw
 canonical_octets_are m p [] v e a f = AreOctets-nil

@@ -2,21 +2,11 @@
 use Rattle.std.proofs.Common.{◌≡◌, ℕ, ◌≤◌, List, [], ◌∷◌, ◌++◌, length, refl, sym, ◌∙◌, ap, append_assoc, arith}
 use Rattle.std.proofs.lemmas.List.{append-nil}
 use Rattle.dns_fields.specs.Labels.{AreLabels, wire}
+use Rattle.dns_fields.proofs.Pieces.{parts}
 
 -- no length of a label
 abbrev pub IsStop : ℕ → Type 0
 IsStop z = 1 ≤ z → 64 ≤ z
-
-pub split_same : (a b c d : List ℕ) → length a ≡ length b → a ++ c ≡ b ++ d → (a ≡ b) × (c ≡ d)
-split_same [] [] c d n e = (refl, e)
-split_same [] (y ∷ b) c d n e = absurd (omega arith)
-split_same (x ∷ a) [] c d n e = absurd (omega arith)
-split_same (x ∷ a) (y ∷ b) c d n e =
-    let h : x ≡ y = cc in
-    let t : a ++ c ≡ b ++ d = cc in
-    let k = split_same a b c d (omega arith) t in
-    let k0 : a ≡ b = k.0 in
-    (cc, k.1)
 
 pub wire-append : (a b : List (List ℕ)) → wire (a ++ b) ≡ wire a ++ wire b
 wire-append [] b = refl
@@ -44,7 +34,7 @@ rest_of (f ∷ front) [] s b z hf hl stop e =
 rest_of (f ∷ front) (l ∷ labels) s b z hf hl stop e =
     let same : length f ≡ length l = cc in
     let tails : (f ++ wire front) ++ s ≡ (l ++ wire labels) ++ z ∷ b = cc in
-    let halves = split_same f l (wire front ++ s) (wire labels ++ z ∷ b) same
+    let halves = parts f (wire front ++ s) l (wire labels ++ z ∷ b) same
     (sym (append_assoc f (wire front) s) ∙ tails ∙ append_assoc l (wire labels) (z ∷ b)) in
     let r = rest_of front labels s b z hf.1 hl.1 stop halves.1 in
     let first : f ≡ l = halves.0 in
