@@ -59,15 +59,12 @@ trichotomy x y = elim (eqb_tells x y) [ inl e ↦ inr (inl e.1) | inr e ↦ apar
 
 rising_same : (a b : List ℕ) → Rises a → Rises b → ((t : ℕ) → contains t a ≡ contains t b) → a ≡ b
 rising_same [] [] f g h = refl
-rising_same [] (y ∷ ys) f g h = absurd (let e : false ≡ (y == y) || contains y ys = h y in let k : false ≡ true = rw (itself y) at e in cc k)
-rising_same (x ∷ xs) [] f g h = absurd (let e : (x == x) || contains x xs ≡ false = h x in let k : true ≡ false = rw (itself x) at e in cc k)
-rising_same (x ∷ xs) (y ∷ ys) f g h =
-    ⊎_elim (λ (l : x < y). absurd (heads_equal x y xs ys f.0 g.0 h l))
+rising_same [] (y ∷ ys) f g h = absurd (let k : false ≡ true = rw (itself y) at (h y) in cc k)
+rising_same (x ∷ xs) [] f g h = absurd (let k : true ≡ false = rw (itself x) at (h x) in cc k)
+rising_same (x ∷ xs) (y ∷ ys) f g h = ⊎_elim
+    (λ (l : x < y). absurd (heads_equal x y xs ys f.0 g.0 h l))
     (λ s. ⊎_elim
-    (λ (e : x ≡ y).
-    let above : AllAbove x ys = subst (λ (z : ℕ). AllAbove z ys) (sym e) g.0 in
-    let k : (t : ℕ) → contains t (x ∷ xs) ≡ contains t (x ∷ ys) = subst (λ (z : ℕ). (t : ℕ) → contains t (x ∷ xs) ≡ contains t (z ∷ ys)) (sym e) h in
-    ap (λ (z : ℕ). z ∷ xs) e ∙ ap (λ (zs : List ℕ). y ∷ zs) (rising_same xs ys f.1 g.1 (rising_tail x xs ys f.0 above k)))
+    (λ (e : x ≡ y). let rest = rising_same xs ys f.1 g.1 (rising_tail x xs ys f.0 (rw e g.0) (rw (← e) at h)) in cc)
     (λ (l : y < x). absurd (heads_equal y x ys xs g.0 f.0 (λ t. sym (h t)) l)) s)
     (trichotomy x y)
 

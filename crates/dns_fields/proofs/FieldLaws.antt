@@ -9,19 +9,20 @@ use Rattle.dns_fields.specs.Fields.{Options, Parameters, Lawful, option_pieces, 
 use Rattle.dns_fields.specs.Fields.{Octets, Name, Text, Texts, Rest, Value, field_octets, Fits, Field, WroteField, SameField, EndsItself, IsFull}
 use Rattle.dns_fields.proofs.{Bitmaps.bitmap_same, Bitmaps.bitmap_append, Bitmaps.minimal_stands, Numbers.length-bytes, Numbers.same_number}
 use Rattle.dns_fields.proofs.Sorted.{octets_cmp, sorted_same, sorted_permutes, sorted_all, map_sorted, flat_map_all, length_sorted}
-use Rattle.dns_fields.proofs.Pieces.{pieces_same, whole_or_cut, held_same, held_lawful, held_fit, lawful_held, fit_pieces}
+use Rattle.dns_fields.proofs.Pieces.{pieces_same, whole_or_cut, held_same, held_fit, lawful_held, fit_pieces}
 use Rattle.dns_fields.proofs.OptionLaws.{option_once, option_own, option_fit}
 use Rattle.dns_fields.proofs.ParameterLaws.{strings_same, parameter_once, parameter_own, parameter_fit}
 use Rattle.dns_fields.proofs.Places.{At-same_end, At-same_head, At-append, At-appended}
 use Rattle.dns_fields.proofs.NameLaws.{name_same, name_append, name_inside, name_is, low_name, low_name_same, low_name_wrote}
 
-options_inside : {m : List ℕ} {p : ℕ} {v : List (Numbered OptionValue)} {q : ℕ} → WholeOptions m p v q ⊎ ((v ≡ []) × CutOptions m (q - p) p q)
-    → (p ≤ q) × (q ≤ length m)
+abbrev OptionsAt : List ℕ → ℕ → List (Numbered OptionValue) → ℕ → Type 0
+OptionsAt m p v q = WholeOptions m p v q ⊎ ((v ≡ []) × CutOptions m (q - p) p q)
+
+options_inside : {m : List ℕ} {p : ℕ} {v : List (Numbered OptionValue)} {q : ℕ} → OptionsAt m p v q → (p ≤ q) × (q ≤ length m)
 options_inside (inl w) = (omega (arith, w.at.ends), w.at.within)
 options_inside (inr c) = (omega (arith, c.1.at.ends), c.1.at.within)
 
-options_append : {m : List ℕ} {p : ℕ} {v : List (Numbered OptionValue)} {q : ℕ} (t : List ℕ) → WholeOptions m p v q ⊎ ((v ≡ []) × CutOptions m (q - p) p q)
-    → WholeOptions (m ++ t) p v q ⊎ ((v ≡ []) × CutOptions (m ++ t) (q - p) p q)
+options_append : {m : List ℕ} {p : ℕ} {v : List (Numbered OptionValue)} {q : ℕ} (t : List ℕ) → OptionsAt m p v q → OptionsAt (m ++ t) p v q
 options_append t (inl w) = inl (record { read = w.read; at = At-append t w.at; fit = w.fit; held = w.held })
 options_append t (inr c) = inr (
   c.0,
@@ -29,8 +30,8 @@ options_append t (inr c) = inr (
       { read = c.1.read; dropped = c.1.dropped; stub = c.1.stub; at = At-append t c.1.at; fit = c.1.fit; held = c.1.held; cut = c.1.cut },
 )
 
-options_same : {m : List ℕ} {p : ℕ} {v w : List (Numbered OptionValue)} {q : ℕ} → WholeOptions m p v q ⊎ ((v ≡ []) × CutOptions m (q - p) p q)
-    → WholeOptions m p w q ⊎ ((w ≡ []) × CutOptions m (q - p) p q) → v ≡ w
+options_same : {m : List ℕ} {p : ℕ} {v w : List (Numbered OptionValue)} {q : ℕ} → OptionsAt m p v q → OptionsAt m p w q
+    → v ≡ w
 options_same {v = v} {w = w} (inl a) (inl b) =
     let e : a.read ≡ b.read = pieces_same a.read b.read a.fit b.fit (At-same_end a.at b.at) in
     held_same OptionHeld option_octets option_once b.read v w (subst (λ (xs : List (Numbered (List ℕ))). AllHeld OptionHeld xs v) e a.held) b.held
@@ -38,14 +39,13 @@ options_same {p = p} {q = q} (inl a) (inr b) = absurd (whole_or_cut _ a.read b.1
 options_same {p = p} {q = q} (inr a) (inl b) = absurd (whole_or_cut _ b.read a.1.read a.1.stub b.fit a.1.fit a.1.cut (At-same_end b.at a.1.at))
 options_same (inr a) (inr b) = a.0 ∙ sym b.0
 
-options_fit : {m : List ℕ} {p : ℕ} {v : List (Numbered OptionValue)} {q : ℕ} → WholeOptions m p v q ⊎ ((v ≡ []) × CutOptions m (q - p) p q)
-    → AllByRecursion OptionFits v
+options_fit : {m : List ℕ} {p : ℕ} {v : List (Numbered OptionValue)} {q : ℕ} → OptionsAt m p v q → AllByRecursion OptionFits v
 options_fit {v = v} (inl a) = held_fit OptionHeld option_octets OptionFits option_fit a.read v a.fit a.held
 options_fit (inr a) = subst (AllByRecursion OptionFits) (sym a.0) tt
 
-options_lawful : {m : List ℕ} {p : ℕ} {v : List (Numbered OptionValue)} {q : ℕ} → WholeOptions m p v q ⊎ ((v ≡ []) × CutOptions m (q - p) p q)
-    → HoldThemselves OptionHeld option_octets v
-options_lawful {v = v} (inl a) = held_lawful OptionHeld option_octets option_own a.read v a.held
+options_lawful : {m : List ℕ} {p : ℕ} {v : List (Numbered OptionValue)} {q : ℕ} → OptionsAt m p v q → HoldThemselves OptionHeld option_octets v
+options_lawful {v = v} (inl a) =
+    held_fit OptionHeld option_octets (λ x. OptionHeld x.0 (option_octets x.1) x.1) (λ k d w p q h. option_own k d w h) a.read v a.fit a.held
 options_lawful (inr a) = subst (HoldThemselves OptionHeld option_octets) (sym a.0) tt
 
 -- options sorted by their octets
@@ -105,7 +105,8 @@ field_fits f = f.is.0
 -- what stands is of a read
 pub field_lawful : {m : List ℕ} {p : ℕ} {k : Kind} {v : Value k} {q : ℕ} → Field m p k v q → Lawful k v
 field_lawful {k = Options} f = options_lawful f.is
-field_lawful {k = Parameters} {v} f = held_lawful ParameterHeld parameter_octets parameter_own f.is.read v f.is.held
+field_lawful {k = Parameters} {v} f = held_fit ParameterHeld parameter_octets (λ x. ParameterHeld x.0 (parameter_octets x.1) x.1)
+    (λ k d w p q h. parameter_own k d w h) f.is.read v f.is.fit f.is.held
 field_lawful f = tt
 
 -- what was written reads there as the same value

@@ -109,13 +109,6 @@ module _ {V : Type 0} (Held : ℕ → List ℕ → V → Type 0) (octets : V →
       let first : a ≡ b = ap (λ (k : ℕ). (k, a.1)) keys ∙ ap (λ (v : V). (b.0, v)) values in
       ap (λ (c : Numbered V). c ∷ as') first ∙ ap (λ (cs : List (Numbered V)). b ∷ cs) (held_same one xs as' bs f.2 g.2)
 
-  pub held_lawful : ((k : ℕ) (d : List ℕ) (v : V) → Held k d v → Held k (octets v) v) → (xs : List (Numbered (List ℕ))) (a : List (Numbered V))
-      → AllHeld Held xs a → HoldThemselves Held octets a
-  held_lawful own [] [] f = tt
-  held_lawful own [] (a ∷ as') f = absurd f
-  held_lawful own (x ∷ xs) [] f = absurd f
-  held_lawful own (x ∷ xs) (a ∷ as') f = (own a.0 x.1 a.1 f.1, held_lawful own xs as' f.2)
-
   -- what is asked of each value follows from its piece
   pub held_fit : (Fit : Numbered V → Type 0) → ((k : ℕ) (d : List ℕ) (v : V) → k < 256 ^ 2 → length d < 256 ^ 2 → Held k d v → Fit (k, v))
       → (xs : List (Numbered (List ℕ))) (a : List (Numbered V)) → ArePieces xs → AllHeld Held xs a → AllByRecursion Fit a
