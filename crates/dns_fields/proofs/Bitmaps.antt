@@ -205,23 +205,25 @@ minimal_types v a t = ⊎_elim
     either : (t : ℕ) → (t < 65536) ⊎ (65536 ≤ t)
     either t = grind arith
 
-with_fit : (k : ℕ) (w : List ℕ) (bs : List Block) → k < 256 → length w ≤ 32 → AllByRecursion IsBlock bs → AllByRecursion IsBlock (with_block k w bs)
-with_fit k [] bs l n h = h
-with_fit k (x ∷ xs) bs l n h = (record { number = l; some = omega arith; most = n }, h)
-
 window_short : (v : List ℕ) (k : ℕ) → length (window v k) ≤ 32
 unfolding window
 window_short v k = let n = length-map-range_with_len (types_octet v k) 0 32 in let h = trimmed_length (map (types_octet v k) (range_with_len 0 32)) in
     omega (arith, n, h)
 
-windows_fit : (v : List ℕ) (a n : ℕ) → a + n ≤ 256 → AllByRecursion IsBlock (windows v (range_with_len a n))
-windows_fit v a zero l = tt
-windows_fit v a (suc n) l = with_fit a (window v a) (windows v (range_with_len (a + 1) n)) (omega arith) (window_short v a)
-    (windows_fit v (a + 1) n (omega arith))
+-- what holds of the octets of each window holds of each block of the minimal bitmap
+pub minimal_all : (P : Block → Type 0) (v : List ℕ) → ((k : ℕ) → k < 256 → 1 ≤ length (window v k) → P (k, window v k)) → AllByRecursion P (minimal v)
+unfolding minimal
+minimal_all P v one = each 0 256 one where
+  with_one : (k : ℕ) (w : List ℕ) (bs : List Block) → (1 ≤ length w → P (k, w)) → AllByRecursion P bs → AllByRecursion P (with_block k w bs)
+  with_one k [] bs f h = h
+  with_one k (x ∷ xs) bs f h = (f (omega arith), h)
+
+  each : (a n : ℕ) → ((k : ℕ) → k < a + n → 1 ≤ length (window v k) → P (k, window v k)) → AllByRecursion P (windows v (range_with_len a n))
+  each a zero f = tt
+  each a (suc n) f = with_one a (window v a) (windows v (range_with_len (a + 1) n)) (f a (omega arith)) (each (a + 1) n (λ k l. f k (omega arith)))
 
 pub minimal_fit : (v : List ℕ) → AllByRecursion IsBlock (minimal v)
-unfolding minimal
-minimal_fit v = windows_fit v 0 256 (omega arith)
+minimal_fit v = minimal_all IsBlock v (λ k l some. record { number = l; some = some; most = window_short v k })
 
 pub minimal_stands : (m v : List ℕ) → IsTypeSet v → BitmapAt (m ++ flat_map block (minimal v)) (length m) v (length (m ++ flat_map block (minimal v)))
 minimal_stands m v s = record {
