@@ -2,7 +2,7 @@
 use Rattle.std.proofs.Common.{◌≡◌, ◌≢◌, ℕ, zero, suc, ◌+◌, ◌-◌, ◌*◌, ◌/◌, ◌%◌, ◌≤◌, ◌<◌, ◌^◌, ◌==◌, ◌&&◌, ◌||◌, Bool, true, false, cond, ◌⊎◌, inl}
 use Rattle.std.proofs.Common.{inr, ⊎_elim, List, [], ◌∷◌, ◌++◌, length, get_or, map, refl, sym, ap, ◌∙◌, arith, subst, pow-suc}
 use Rattle.std.specs.{List.flat_map, List.AllByRecursion, List.list_any, List.range_with_len, Int.bit_at}
-use Rattle.std.proofs.{Math.Bool.and-false, lemmas.Bool.Decides.eqb_tells, lemmas.Bool.Decides.nat_tests}
+use Rattle.std.proofs.{Math.Bool.and-false, lemmas.Bool.Decides.eqb_tells, lemmas.Bool.Decides.nat_tests, lemmas.Bool.cases_lt}
 use Rattle.std.proofs.lemmas.List.FromFn.{get_or-map-range_with_len, length-map-range_with_len}
 use Rattle.std.proofs.lemmas.Nat.Bits.{bit_at_lowest, bit_at-zero, bit_at_cat_low, bit_at_cat_high}
 use Rattle.dns_fields.specs.Bitmaps.{Block, block, IsBlock, has_type, contains, AllAbove, Rises, IsTypeSet, BitmapAt, packed, mark, keep, trimmed}
@@ -30,7 +30,7 @@ other x t n = grind (arith, nat_tests)
 
 above_not : (n : ℕ) (xs : List ℕ) → AllAbove n xs → contains n xs ≡ false
 above_not n [] a = refl
-above_not n (x ∷ xs) a = let e : (x == n) ≡ false = other x n (let h = a.0 in λ q. omega (arith, q, h)) in rw e (above_not n xs a.1)
+above_not n (x ∷ xs) a = rw (other x n (λ q. omega (arith, q, a.0))) (above_not n xs a.1)
 
 less_above : (n k : ℕ) (xs : List ℕ) → n < k → AllAbove k xs → AllAbove n xs
 less_above n k [] l a = tt
@@ -85,27 +85,17 @@ packed_less f s (suc n) = omega (arith, packed_less f s n, s n, pow-suc 2 n)
 pub packed_bit : (f : ℕ → ℕ) → ((b : ℕ) → f b < 2) → (n i : ℕ) → i < n → bit_at (packed f n) (n - 1 - i) ≡ f i
 packed_bit f small zero i l = absurd (omega arith)
 packed_bit f small (suc n) i l = elim (eqb_tells i n) [
-  | inl e ↦ subst (λ (k : ℕ). bit_at (packed f (suc n)) (suc n - 1 - k) ≡ f k) (sym e.1) (
-      let z : suc n - 1 - n ≡ 0 = omega arith in
-      ap (bit_at (packed f (suc n))) z ∙ bit_at_cat_low (packed f n) 1 (f n) 0 (omega arith) ∙ bit_at_lowest (f n) ∙ last (f n) (small n))
+  | inl e ↦ (let z : suc n - 1 - i ≡ 0 = omega (arith, e.1) in
+      rw (z, e.1) (bit_at_cat_low (packed f n) 1 (f n) 0 (omega arith) ∙ bit_at_lowest (f n) ∙ last (f n) (small n)))
   | inr e ↦ (
-      let h = packed_bit f small n i (below i n l e.1) in
-      let z : suc n - 1 - i ≡ suc (n - 1 - i) = place n i (below i n l e.1) in
+      let below : i < n = omega (arith, l, e.1) in
+      let z : suc n - 1 - i ≡ suc (n - 1 - i) = omega (arith, below) in
       let y : suc (n - 1 - i) - 1 ≡ n - 1 - i = omega arith in
-      let lt : f n < 2 ^ 1 = small n in
-      let some : 1 ≤ suc (n - 1 - i) = omega arith in
-      let goal : bit_at (packed f (suc n)) (suc n - 1 - i) ≡ f i = ap (bit_at (packed f (suc n))) z
-      ∙ bit_at_cat_high (packed f n) 1 (f n) (suc (n - 1 - i)) lt some ∙ ap (bit_at (packed f n)) y ∙ h in goal)
+      rw z (bit_at_cat_high (packed f n) 1 (f n) (suc (n - 1 - i)) (small n) (omega arith) ∙ rw y (packed_bit f small n i below)))
 ]
   where
     last : (n : ℕ) → n < 2 → n % 2 ≡ n
     last n h = omega arith
-
-    below : (i n : ℕ) → i < suc n → i ≢ n → i < n
-    below i n l ne = grind arith
-
-    place : (n i : ℕ) → i < n → suc n - 1 - i ≡ suc (n - 1 - i)
-    place n i l = omega arith
 
 keep_get : (x : ℕ) (xs : List ℕ) (i : ℕ) → get_or (keep x xs) i 0 ≡ get_or (x ∷ xs) i 0
 keep_get zero [] zero = refl
@@ -180,30 +170,21 @@ windows_have v t (k ∷ ks) =
 in_range : (a n x : ℕ) → a ≤ x → x < a + n → list_any (λ k. x == k) (range_with_len a n) ≡ true
 in_range a zero x l h = absurd (omega arith)
 in_range a (suc n) x l h = elim (eqb_tells x a) [
-  | inl e ↦ (let y : (x == a) ≡ true = e.0 in rw y refl)
-  | inr e ↦ (let y : (x == a) ≡ false = e.0 in let s : a + 1 ≤ x = after a x l e.1 in let k = in_range (a + 1) n x s (omega arith) in rw y k)
+  | inl e ↦ rw e.0 refl
+  | inr e ↦ (let s : a + 1 ≤ x = omega (arith, l, e.1) in rw e.0 (in_range (a + 1) n x s (omega arith)))
 ]
-  where
-    after : (a x : ℕ) → a ≤ x → x ≢ a → a + 1 ≤ x
-    after a x l n = grind arith
 
 -- a set has no number past its numbers
 pub none_great : (n : ℕ) (v : List ℕ) (t : ℕ) → AllByRecursion (λ u. u < n) v → n ≤ t → contains t v ≡ false
 none_great n [] t a l = refl
-none_great n (x ∷ xs) t a l = let e : (x == t) ≡ false = other x t (let h = a.0 in λ q. omega (arith, q, h)) in rw e (none_great n xs t a.1 l)
+none_great n (x ∷ xs) t a l = rw (other x t (λ q. omega (arith, q, a.0))) (none_great n xs t a.1 l)
 
 pub minimal_types : (v : List ℕ) → AllByRecursion (λ t. t < 65536) v → (t : ℕ) → contains t v ≡ list_any (has_type t) (minimal v)
 unfolding minimal
 minimal_types v a t = ⊎_elim
-    (λ (l : t < 65536). let inside : t / 256 < 256 = omega arith in
-    sym (windows_have v t (range_with_len 0 256) ∙ ap (λ (b : Bool). b && contains t v) (in_range 0 256 (t / 256) (omega arith) inside)))
-    (λ (g : 65536 ≤ t). let n = none_great 65536 v t a g in n
-    ∙ sym (windows_have v t (range_with_len 0 256) ∙ ap (λ (b : Bool). list_any (λ k. t / 256 == k) (range_with_len 0 256) && b) n
-    ∙ and-false (list_any (λ k. t / 256 == k) (range_with_len 0 256))))
-    (either t)
-  where
-    either : (t : ℕ) → (t < 65536) ⊎ (65536 ≤ t)
-    either t = grind arith
+    (λ (l : t < 65536). rw (windows_have v t (range_with_len 0 256), in_range 0 256 (t / 256) (omega arith) (omega arith)) refl)
+    (λ (g : 65536 ≤ t). rw (windows_have v t (range_with_len 0 256), none_great 65536 v t a g) (sym (and-false (list_any (λ k. t / 256 == k) (range_with_len 0 256)))))
+    (cases_lt t 65536)
 
 window_short : (v : List ℕ) (k : ℕ) → length (window v k) ≤ 32
 unfolding window
