@@ -313,7 +313,7 @@ h2_ascii (suc (suc i)) = omega arith
 -- no character's UTF-8 begins with 255
 not_utf8 : IsUtf8 (0xff ∷ []) → ⊥
 unfolding is_utf8 chars
-not_utf8 u = let e : is_utf8 (0xff ∷ []) ≡ true = is_utf8-from_IsUtf8 (0xff ∷ []) u in let f : false ≡ true = e in cc f
+not_utf8 u = let e : false ≡ true = is_utf8-from_IsUtf8 (0xff ∷ []) u in cc e
 
 one_name : (names : List (List ℕ)) → AllByRecursion IsUtf8 names → flat_map string names ≡ 0x01 ∷ 0xff ∷ [] → ⊥
 one_name [] u e = cc e

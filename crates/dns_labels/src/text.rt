@@ -102,7 +102,7 @@ fn read_octets(text: &[u8], octets: &mut NameBuffer) -> Result<usize, &'static s
 
 /// Reads a label up to a dot or the text's end, with its length octet, and answers how much of the text it
 /// takes, or why it is no label.
-#[tactic(auto, using(crate::proofs::NameSteps::label_set))]
+#[tactic(auto, using(crate::proofs::NameSteps::label_set, crate::proofs::NameSteps::label_empty))]
 fn read_label(text: &[u8], octets: &mut NameBuffer) -> Result<usize, &'static str>
     ensures some { IfOk result (λ taken. AddsLabel text.now taken octets.old octets.new) }
     ensures room { length octets.new ≤ 254 }
