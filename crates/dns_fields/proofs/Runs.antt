@@ -1,7 +1,7 @@
 -- Labels that stand in front of other octets.
 use Rattle.std.proofs.Common.{◌≡◌, ℕ, ◌≤◌, List, [], ◌∷◌, ◌++◌, length, refl, sym, ◌∙◌, ap, append_assoc, arith}
 use Rattle.std.proofs.lemmas.List.{append-nil}
-use Rattle.dns_fields.specs.Labels.{AreLabels, wire}
+use Rattle.dns_fields.specs.Labels.{IsLabel, AreLabels, wire}
 use Rattle.dns_fields.proofs.Pieces.{parts}
 
 -- no length of a label
@@ -16,6 +16,9 @@ pub AreLabels-append : (a b : List (List ℕ)) → AreLabels a → AreLabels b �
 AreLabels-append [] b h k = k
 AreLabels-append (l ∷ a) b h k = (h.0, AreLabels-append a b h.1 k)
 
+no_stop : (label : List ℕ) (z : ℕ) → IsLabel label → IsStop z → length label ≡ z → ⊥
+no_stop label z h stop e = omega (arith, stop (omega (arith, h.0, e)), h.0, h.1, e)
+
 pub record RestOf (front labels : List (List ℕ)) (s : List ℕ) (t : List ℕ) : Type 0 where
   pub rest : List (List ℕ)
   pub joined : labels ≡ front ++ rest
@@ -26,11 +29,7 @@ pub record RestOf (front labels : List (List ℕ)) (s : List ℕ) (t : List ℕ)
 pub rest_of : (front labels : List (List ℕ)) (s b : List ℕ) (z : ℕ) → AreLabels front → AreLabels labels → IsStop z → wire front ++ s ≡ wire labels ++ z ∷ b
     → RestOf front labels s (z ∷ b)
 rest_of [] labels s b z hf hl stop e = record { rest = labels; joined = refl; are = hl; stands = e }
-rest_of (f ∷ front) [] s b z hf hl stop e =
-    let same : length f ≡ z = cc in
-    let lo : 1 ≤ length f = hf.0.0 in
-    let hi : length f ≤ 63 = hf.0.1 in
-    absurd (omega (arith, stop (omega arith)))
+rest_of (f ∷ front) [] s b z hf hl stop e = absurd (no_stop f z hf.0 stop cc)
 rest_of (f ∷ front) (l ∷ labels) s b z hf hl stop e =
     let same : length f ≡ length l = cc in
     let tails : (f ++ wire front) ++ s ≡ (l ++ wire labels) ++ z ∷ b = cc in
@@ -43,11 +42,7 @@ rest_of (f ∷ front) (l ∷ labels) s b z hf hl stop e =
 
 pub no_labels : (rest : List (List ℕ)) (s t : List ℕ) (z : ℕ) → AreLabels rest → IsStop z → z ∷ s ≡ wire rest ++ t → (rest ≡ []) × (z ∷ s ≡ t)
 no_labels [] s t z h stop e = (refl, e)
-no_labels (l ∷ rest) s t z h stop e =
-    let same : z ≡ length l = cc in
-    let lo : 1 ≤ length l = h.0.0 in
-    let hi : length l ≤ 63 = h.0.1 in
-    absurd (omega (arith, stop (omega arith)))
+no_labels (l ∷ rest) s t z h stop e = absurd (no_stop l z h.0 stop cc)
 
 -- octets have one front of labels up to a stop
 pub same_run : (front labels : List (List ℕ)) (a b : List ℕ) (y z : ℕ) → AreLabels front → AreLabels labels → IsStop y → IsStop z
