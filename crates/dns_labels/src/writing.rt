@@ -131,6 +131,7 @@ pub fn write_name(
 /// The same of a name that stands at this place, which was noted, and so were its tails: the least place serves, so nothing
 /// is noted.
 #[inline]
+#[tactic(auto, using(crate::proofs::Wrote::pointer_wrote, crate::proofs::Wrote::whole_wrote))]
 fn write_again(
     out: &mut Vec<u8>,
     mode: RDataEncoding,
