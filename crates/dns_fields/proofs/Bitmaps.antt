@@ -2,31 +2,23 @@
 use Rattle.std.proofs.Common.{◌≡◌, ◌≢◌, ℕ, zero, suc, ◌+◌, ◌-◌, ◌*◌, ◌/◌, ◌%◌, ◌≤◌, ◌<◌, ◌^◌, ◌==◌, ◌&&◌, ◌||◌, Bool, true, false, cond, ◌⊎◌, inl}
 use Rattle.std.proofs.Common.{inr, ⊎_elim, List, [], ◌∷◌, ◌++◌, length, get_or, map, refl, sym, ap, ◌∙◌, arith, subst, pow-suc}
 use Rattle.std.specs.{List.flat_map, List.AllByRecursion, List.list_any, List.range_with_len, Int.bit_at}
-use Rattle.std.proofs.{Math.Bool.and-false, lemmas.Bool.Decides.eqb_tells, lemmas.Bool.Decides.nat_tests}
+use Rattle.std.proofs.{Math.Bool.and-false, lemmas.Bool.Decides.eqb_tells, lemmas.Bool.Decides.nat_tests, lemmas.Bool.cases_lt}
 use Rattle.std.proofs.lemmas.List.FromFn.{get_or-map-range_with_len, length-map-range_with_len}
 use Rattle.std.proofs.lemmas.Nat.Bits.{bit_at_lowest, bit_at-zero, bit_at_cat_low, bit_at_cat_high}
 use Rattle.dns_fields.specs.Bitmaps.{Block, block, IsBlock, has_type, contains, AllAbove, Rises, IsTypeSet, BitmapAt, packed, mark, keep, trimmed}
 use Rattle.dns_fields.specs.Bitmaps.{types_octet, window, with_block, windows, minimal}
-use Rattle.dns_fields.proofs.{Places.At-same_end, Places.At-appended, Places.At-append, Pieces.parts}
+use Rattle.dns_fields.proofs.{Places.At-same_end, Places.At-appended, Places.At-append, Pieces.parts, Pieces.joined_same}
 
 -- ---- blocks are told by their octets
 
-first_block : (a b : Block) (x y : List ℕ) → block a ++ x ≡ block b ++ y → (a ≡ b) × (x ≡ y)
-first_block a b x y e =
+first_block : (a b : Block) (x y : List ℕ) → IsBlock a → IsBlock b → block a ++ x ≡ block b ++ y → (a ≡ b) × (x ≡ y)
+first_block a b x y i j e =
     let f : a.0 ∷ length a.1 ∷ (a.1 ++ x) ≡ b.0 ∷ length b.1 ∷ (b.1 ++ y) = e in
     let k : a.0 ≡ b.0 = cc in
     let n : length a.1 ≡ length b.1 = cc in
     let t : a.1 ++ x ≡ b.1 ++ y = cc in
     let h = parts a.1 x b.1 y n t in
     (ap (λ (z : ℕ). (z, a.1)) k ∙ ap (λ (o : List ℕ). (b.0, o)) h.0, h.1)
-
-blocks_same : (a b : List Block) → flat_map block a ≡ flat_map block b → a ≡ b
-blocks_same [] [] e = refl
-blocks_same [] (b ∷ bs) e = let f : [] ≡ block b ++ flat_map block bs = e in absurd cc
-blocks_same (a ∷ as') [] e = let f : block a ++ flat_map block as' ≡ [] = e in absurd cc
-blocks_same (a ∷ as') (b ∷ bs) e =
-    let h = first_block a b (flat_map block as') (flat_map block bs) e in
-    ap (λ (z : Block). z ∷ as') h.0 ∙ ap (λ (zs : List Block). b ∷ zs) (blocks_same as' bs h.1)
 
 -- ---- a rising list is told by what it contains
 
@@ -38,7 +30,7 @@ other x t n = grind (arith, nat_tests)
 
 above_not : (n : ℕ) (xs : List ℕ) → AllAbove n xs → contains n xs ≡ false
 above_not n [] a = refl
-above_not n (x ∷ xs) a = let e : (x == n) ≡ false = other x n (let h = a.0 in λ q. omega (arith, q, h)) in rw e (above_not n xs a.1)
+above_not n (x ∷ xs) a = rw (other x n (λ q. omega (arith, q, a.0))) (above_not n xs a.1)
 
 less_above : (n k : ℕ) (xs : List ℕ) → n < k → AllAbove k xs → AllAbove n xs
 less_above n k [] l a = tt
@@ -67,21 +59,18 @@ trichotomy x y = elim (eqb_tells x y) [ inl e ↦ inr (inl e.1) | inr e ↦ apar
 
 rising_same : (a b : List ℕ) → Rises a → Rises b → ((t : ℕ) → contains t a ≡ contains t b) → a ≡ b
 rising_same [] [] f g h = refl
-rising_same [] (y ∷ ys) f g h = absurd (let e : false ≡ (y == y) || contains y ys = h y in let k : false ≡ true = rw (itself y) at e in cc k)
-rising_same (x ∷ xs) [] f g h = absurd (let e : (x == x) || contains x xs ≡ false = h x in let k : true ≡ false = rw (itself x) at e in cc k)
-rising_same (x ∷ xs) (y ∷ ys) f g h =
-    ⊎_elim (λ (l : x < y). absurd (heads_equal x y xs ys f.0 g.0 h l))
+rising_same [] (y ∷ ys) f g h = absurd (let k : false ≡ true = rw (itself y) at (h y) in cc k)
+rising_same (x ∷ xs) [] f g h = absurd (let k : true ≡ false = rw (itself x) at (h x) in cc k)
+rising_same (x ∷ xs) (y ∷ ys) f g h = ⊎_elim
+    (λ (l : x < y). absurd (heads_equal x y xs ys f.0 g.0 h l))
     (λ s. ⊎_elim
-    (λ (e : x ≡ y).
-    let above : AllAbove x ys = subst (λ (z : ℕ). AllAbove z ys) (sym e) g.0 in
-    let k : (t : ℕ) → contains t (x ∷ xs) ≡ contains t (x ∷ ys) = subst (λ (z : ℕ). (t : ℕ) → contains t (x ∷ xs) ≡ contains t (z ∷ ys)) (sym e) h in
-    ap (λ (z : ℕ). z ∷ xs) e ∙ ap (λ (zs : List ℕ). y ∷ zs) (rising_same xs ys f.1 g.1 (rising_tail x xs ys f.0 above k)))
+    (λ (e : x ≡ y). let rest = rising_same xs ys f.1 g.1 (rising_tail x xs ys f.0 (rw e g.0) (rw (← e) at h)) in cc)
     (λ (l : y < x). absurd (heads_equal y x ys xs g.0 f.0 (λ t. sym (h t)) l)) s)
     (trichotomy x y)
 
 pub bitmap_same : {m : List ℕ} {p : ℕ} {v w : List ℕ} {q : ℕ} → BitmapAt m p v q → BitmapAt m p w q → v ≡ w
 bitmap_same {v = v} {w = w} f g =
-    let e : f.blocks ≡ g.blocks = blocks_same f.blocks g.blocks (At-same_end f.at g.at) in
+    let e : f.blocks ≡ g.blocks = joined_same block IsBlock (λ b i. omega arith) first_block f.blocks g.blocks f.fit g.fit (At-same_end f.at g.at) in
     rising_same v w f.set.rises g.set.rises (λ t. f.types t ∙ ap (list_any (has_type t)) e ∙ sym (g.types t))
 
 pub bitmap_append : {m : List ℕ} {p : ℕ} {v : List ℕ} {q : ℕ} (t : List ℕ) → BitmapAt m p v q → BitmapAt (m ++ t) p v q
@@ -96,27 +85,17 @@ packed_less f s (suc n) = omega (arith, packed_less f s n, s n, pow-suc 2 n)
 pub packed_bit : (f : ℕ → ℕ) → ((b : ℕ) → f b < 2) → (n i : ℕ) → i < n → bit_at (packed f n) (n - 1 - i) ≡ f i
 packed_bit f small zero i l = absurd (omega arith)
 packed_bit f small (suc n) i l = elim (eqb_tells i n) [
-  | inl e ↦ subst (λ (k : ℕ). bit_at (packed f (suc n)) (suc n - 1 - k) ≡ f k) (sym e.1) (
-      let z : suc n - 1 - n ≡ 0 = omega arith in
-      ap (bit_at (packed f (suc n))) z ∙ bit_at_cat_low (packed f n) 1 (f n) 0 (omega arith) ∙ bit_at_lowest (f n) ∙ last (f n) (small n))
+  | inl e ↦ (let z : suc n - 1 - i ≡ 0 = omega (arith, e.1) in
+      rw (z, e.1) (bit_at_cat_low (packed f n) 1 (f n) 0 (omega arith) ∙ bit_at_lowest (f n) ∙ last (f n) (small n)))
   | inr e ↦ (
-      let h = packed_bit f small n i (below i n l e.1) in
-      let z : suc n - 1 - i ≡ suc (n - 1 - i) = place n i (below i n l e.1) in
+      let below : i < n = omega (arith, l, e.1) in
+      let z : suc n - 1 - i ≡ suc (n - 1 - i) = omega (arith, below) in
       let y : suc (n - 1 - i) - 1 ≡ n - 1 - i = omega arith in
-      let lt : f n < 2 ^ 1 = small n in
-      let some : 1 ≤ suc (n - 1 - i) = omega arith in
-      let goal : bit_at (packed f (suc n)) (suc n - 1 - i) ≡ f i = ap (bit_at (packed f (suc n))) z
-      ∙ bit_at_cat_high (packed f n) 1 (f n) (suc (n - 1 - i)) lt some ∙ ap (bit_at (packed f n)) y ∙ h in goal)
+      rw z (bit_at_cat_high (packed f n) 1 (f n) (suc (n - 1 - i)) (small n) (omega arith) ∙ rw y (packed_bit f small n i below)))
 ]
   where
     last : (n : ℕ) → n < 2 → n % 2 ≡ n
     last n h = omega arith
-
-    below : (i n : ℕ) → i < suc n → i ≢ n → i < n
-    below i n l ne = grind arith
-
-    place : (n i : ℕ) → i < n → suc n - 1 - i ≡ suc (n - 1 - i)
-    place n i l = omega arith
 
 keep_get : (x : ℕ) (xs : List ℕ) (i : ℕ) → get_or (keep x xs) i 0 ≡ get_or (x ∷ xs) i 0
 keep_get zero [] zero = refl
@@ -191,48 +170,41 @@ windows_have v t (k ∷ ks) =
 in_range : (a n x : ℕ) → a ≤ x → x < a + n → list_any (λ k. x == k) (range_with_len a n) ≡ true
 in_range a zero x l h = absurd (omega arith)
 in_range a (suc n) x l h = elim (eqb_tells x a) [
-  | inl e ↦ (let y : (x == a) ≡ true = e.0 in rw y refl)
-  | inr e ↦ (let y : (x == a) ≡ false = e.0 in let s : a + 1 ≤ x = after a x l e.1 in let k = in_range (a + 1) n x s (omega arith) in rw y k)
+  | inl e ↦ rw e.0 refl
+  | inr e ↦ (let s : a + 1 ≤ x = omega (arith, l, e.1) in rw e.0 (in_range (a + 1) n x s (omega arith)))
 ]
-  where
-    after : (a x : ℕ) → a ≤ x → x ≢ a → a + 1 ≤ x
-    after a x l n = grind arith
 
 -- a set has no number past its numbers
 pub none_great : (n : ℕ) (v : List ℕ) (t : ℕ) → AllByRecursion (λ u. u < n) v → n ≤ t → contains t v ≡ false
 none_great n [] t a l = refl
-none_great n (x ∷ xs) t a l = let e : (x == t) ≡ false = other x t (let h = a.0 in λ q. omega (arith, q, h)) in rw e (none_great n xs t a.1 l)
+none_great n (x ∷ xs) t a l = rw (other x t (λ q. omega (arith, q, a.0))) (none_great n xs t a.1 l)
 
 pub minimal_types : (v : List ℕ) → AllByRecursion (λ t. t < 65536) v → (t : ℕ) → contains t v ≡ list_any (has_type t) (minimal v)
 unfolding minimal
 minimal_types v a t = ⊎_elim
-    (λ (l : t < 65536). let inside : t / 256 < 256 = omega arith in
-    sym (windows_have v t (range_with_len 0 256) ∙ ap (λ (b : Bool). b && contains t v) (in_range 0 256 (t / 256) (omega arith) inside)))
-    (λ (g : 65536 ≤ t). let n = none_great 65536 v t a g in n
-    ∙ sym (windows_have v t (range_with_len 0 256) ∙ ap (λ (b : Bool). list_any (λ k. t / 256 == k) (range_with_len 0 256) && b) n
-    ∙ and-false (list_any (λ k. t / 256 == k) (range_with_len 0 256))))
-    (either t)
-  where
-    either : (t : ℕ) → (t < 65536) ⊎ (65536 ≤ t)
-    either t = grind arith
-
-with_fit : (k : ℕ) (w : List ℕ) (bs : List Block) → k < 256 → length w ≤ 32 → AllByRecursion IsBlock bs → AllByRecursion IsBlock (with_block k w bs)
-with_fit k [] bs l n h = h
-with_fit k (x ∷ xs) bs l n h = (record { number = l; some = omega arith; most = n }, h)
+    (λ (l : t < 65536). rw (windows_have v t (range_with_len 0 256), in_range 0 256 (t / 256) (omega arith) (omega arith)) refl)
+    (λ (g : 65536 ≤ t). rw (windows_have v t (range_with_len 0 256), none_great 65536 v t a g) (sym (and-false (list_any (λ k. t / 256 == k) (range_with_len 0 256)))))
+    (cases_lt t 65536)
 
 window_short : (v : List ℕ) (k : ℕ) → length (window v k) ≤ 32
 unfolding window
 window_short v k = let n = length-map-range_with_len (types_octet v k) 0 32 in let h = trimmed_length (map (types_octet v k) (range_with_len 0 32)) in
     omega (arith, n, h)
 
-windows_fit : (v : List ℕ) (a n : ℕ) → a + n ≤ 256 → AllByRecursion IsBlock (windows v (range_with_len a n))
-windows_fit v a zero l = tt
-windows_fit v a (suc n) l = with_fit a (window v a) (windows v (range_with_len (a + 1) n)) (omega arith) (window_short v a)
-    (windows_fit v (a + 1) n (omega arith))
+-- what holds of the octets of each window holds of each block of the minimal bitmap
+pub minimal_all : (P : Block → Type 0) (v : List ℕ) → ((k : ℕ) → k < 256 → 1 ≤ length (window v k) → P (k, window v k)) → AllByRecursion P (minimal v)
+unfolding minimal
+minimal_all P v one = each 0 256 one where
+  with_one : (k : ℕ) (w : List ℕ) (bs : List Block) → (1 ≤ length w → P (k, w)) → AllByRecursion P bs → AllByRecursion P (with_block k w bs)
+  with_one k [] bs f h = h
+  with_one k (x ∷ xs) bs f h = (f (omega arith), h)
+
+  each : (a n : ℕ) → ((k : ℕ) → k < a + n → 1 ≤ length (window v k) → P (k, window v k)) → AllByRecursion P (windows v (range_with_len a n))
+  each a zero f = tt
+  each a (suc n) f = with_one a (window v a) (windows v (range_with_len (a + 1) n)) (f a (omega arith)) (each (a + 1) n (λ k l. f k (omega arith)))
 
 pub minimal_fit : (v : List ℕ) → AllByRecursion IsBlock (minimal v)
-unfolding minimal
-minimal_fit v = windows_fit v 0 256 (omega arith)
+minimal_fit v = minimal_all IsBlock v (λ k l some. record { number = l; some = some; most = window_short v k })
 
 pub minimal_stands : (m v : List ℕ) → IsTypeSet v → BitmapAt (m ++ flat_map block (minimal v)) (length m) v (length (m ++ flat_map block (minimal v)))
 minimal_stands m v s = record {

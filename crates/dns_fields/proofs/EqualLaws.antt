@@ -1,5 +1,5 @@
 -- `==` of fields tells whether they are the same.
-use Rattle.std.proofs.Common.{◌≡◌, ℕ, zero, suc, ◌↔◌, List, [], ◌∷◌, map, nat_eq, refl, sym, ap, ◌∙◌, subst}
+use Rattle.std.proofs.Common.{◌≡◌, ℕ, zero, suc, ◌↔◌, List, [], ◌∷◌, map, nat_eq, refl, sym, ap, ◌∙◌}
 use Rattle.std.specs.{Bool.Decides, Cmp.unsigned_Decides, Cmp.booleans_Decides, Cmp.Lexicographic.pointwise, Cmp.Lexicographic.pointwise_decides}
 use Rattle.std.specs.{FinMap.IsAntisymmetric, FinMap.nat_cmp-IsAntisymmetric, FinMap.slice_cmp-IsAntisymmetric, List.Sorted.IsPermutation}
 use Rattle.std.proofs.{lemmas.Bool.Decides.Decides-and, lemmas.List.Sorted.IsPermutation-map}
@@ -47,7 +47,7 @@ parameter_back key v = refl
 
 map_back : {X Y : Type 0} (f : X → Y) (g : Y → X) → ((x : X) → g (f x) ≡ x) → (xs : List X) → map g (map f xs) ≡ xs
 map_back f g back [] = refl
-map_back {X} f g back (x ∷ xs) = ap (λ (z : X). z ∷ map g (map f xs)) (back x) ∙ ap (λ (zs : List X). x ∷ zs) (map_back f g back xs)
+map_back f g back (x ∷ xs) = rw (back x, map_back f g back xs) refl
 
 options_back : (v : List (Numbered OptionValue)) → map option_of (map option_key v) ≡ v
 options_back v = map_back option_key option_of (λ x. option_back x.0 x.1) v
@@ -62,12 +62,8 @@ keys_decide a b = pointwise_decides (pointwise_decides (pointwise_decides unsign
 -- options have the same sorted keys exactly where they are permutations
 pub options_decide : (a b : List (Numbered OptionValue)) → (option_keys a ≡ option_keys b) ↔ IsPermutation a b
 options_decide a b = (
-  λ e.
-      let keys : IsPermutation (map option_key a) (map option_key b) = sorted_apart key_cmp (map option_key a) (map option_key b) e in
-      let back : IsPermutation (map option_of (map option_key a)) (map option_of (map option_key b)) =
-      IsPermutation-map option_of (map option_key a) (map option_key b) keys in
-      subst (λ (v : List (Numbered OptionValue)). IsPermutation v b) (options_back a)
-      (subst (λ (v : List (Numbered OptionValue)). IsPermutation (map option_of (map option_key a)) v) (options_back b) back),
+  λ e. rw (options_back a, options_back b) at
+      (IsPermutation-map option_of (map option_key a) (map option_key b) (sorted_apart key_cmp (map option_key a) (map option_key b) e)),
   λ h. sorted_one key_cmp key_total key_same (map option_key a) (map option_key b) (IsPermutation-map option_key a b h),
 )
 

@@ -7,16 +7,11 @@ use Rattle.std.proofs.lemmas.Str.{IsUtf8-from_ascii, is_utf8-from_IsUtf8}
 use Rattle.dns_fields.specs.{Octets.At, Labels.DomainName, Labels.FitsName, Names.LabelsStand, Names.LabelsStand.whole, Names.LabelsStand.pointed}
 use Rattle.dns_fields.specs.Pieces.{IsAddress, string, Numbered, piece, pieces, IsPiece, ArePieces, OptionValue, Subnet, Plain, OptionHeld, AllHeld}
 use Rattle.dns_fields.specs.Pieces.{IsCut, ParameterValue, ParameterHeld, Rising, Port, Mandatory, Alpn, NoDefaultAlpn, Ipv4Hint, Ipv6Hint, Opaque}
-use Rattle.dns_fields.specs.Pieces.{form_of, Keys, Names, Nothing, PortNumber}
 use Rattle.dns_fields.specs.Bitmaps.{Block, block, IsBlock, IsTypeSet, has_type, minimal, window, types_octet, mark, BitmapAt}
 use Rattle.dns_fields.specs.Fields.{Kind, Number, Name, Options, Parameters, Bitmap, Values, Field, Stands, canonical, field_octets, WholeOptions}
 use Rattle.dns_fields.specs.Fields.{ParametersAt}
-use Rattle.dns_fields.specs.Examples.{Reads, HoldsNone, AddressReads, AddressIsFour, TwoTextsRead, EmptyStringsRead, CutString, RestReads, full}
-use Rattle.dns_fields.specs.Examples.{www_label, www_twice, PointedNameReads, CutPointer, PointerToItself, ReservedLabel, LettersRead, MarksApart}
-use Rattle.dns_fields.specs.Examples.{example_label, com_label, xxx_label, twenty, StartOfAuthorityReads, CutOptionReads, CutDropsAll, BrokenOption}
-use Rattle.dns_fields.specs.Examples.{OptionsInOrder, OptionsCounted, SubnetReads, SubnetOfSixReads, SubnetEnds, ServerIdentifierReads, BrokenSubnet}
-use Rattle.dns_fields.specs.Examples.{ServiceReads, MandatoryReads, OctetsOfKeyFive, NoHintsRead, HintOfSixReads, KeysRise, KeysDoNotFall}
-use Rattle.dns_fields.specs.Examples.{BrokenProtocols, BrokenParameter, TypesRead, WindowsRead, ZerosDropped, BrokenWindow}
+use Rattle.dns_fields.specs.Examples.{Reads, HoldsNone, full, www_label, www_twice, example_label, com_label, xxx_label, twenty, address_of_six}
+use Rattle.dns_fields.specs.Examples.{StringExamples, NameExamples, OptionExamples, ParameterExamples, BitmapExamples}
 use Rattle.dns_fields.proofs.{Numbers.length-bytes, Runs.no_labels, NameLaws.name_same, Bitmaps.minimal_first, Bitmaps.minimal_types}
 use Rattle.dns_fields.proofs.Pieces.{number_first, heads_same, piece_before, length-piece, pieces_same, whole_or_cut}
 
@@ -35,11 +30,11 @@ at : {m x : List ℕ} {p q : ℕ} → q ≡ p + length x → q ≤ length m → 
 at ends within same = record { ends = ends; within = within; same = same }
 
 -- octets that are the whole message, from either side
-At-all : (m x : List ℕ) → x ≡ m → At m 0 x (length m)
-At-all m x e = at (omega (arith, ap length e)) (omega arith) (take_all (length x) m (omega (arith, ap length e)) ∙ sym e)
+At-all : {m x : List ℕ} → x ≡ m → At m 0 x (length m)
+At-all {m} {x} e = at (omega (arith, ap length e)) (omega arith) (take_all (length x) m (omega (arith, ap length e)) ∙ sym e)
 
-At-whole : (m x : List ℕ) (q : ℕ) → At m 0 x q → q ≡ length m → x ≡ m
-At-whole m x q a e = let n = a.ends in sym a.same ∙ take_all (length x) m (omega arith)
+At-whole : {m x : List ℕ} {q : ℕ} → At m 0 x q → q ≡ length m → x ≡ m
+At-whole {m} {x} a e = let n = a.ends in sym a.same ∙ take_all (length x) m (omega arith)
 
 number : {m : List ℕ} {p w n q : ℕ} → n < 256 ^ w → q ≡ p + length (bytes_high_first w n) → q ≤ length m
     → take (length (bytes_high_first w n)) (drop p m) ≡ bytes_high_first w n → Field m p (Number w) n q
@@ -50,43 +45,34 @@ name stands fits qualified = record { is = record { stands = stands; fits = fits
 
 -- ---- numbers, octets and strings
 
-pub address_reads : AddressReads
+-- a string of two octets of which one is there
+half_string : (ss : List (List ℕ)) → flat_map string ss ≡ 2 ∷ 0x61 ∷ [] → ⊥
+half_string [] e = cc e
+half_string (s ∷ ss) e =
+    let f : length s ∷ (s ++ flat_map string ss) ≡ 2 ∷ 0x61 ∷ [] = e in
+    let n : length s ≡ 2 = cc in
+    let t : s ++ flat_map string ss ≡ 0x61 ∷ [] = cc in
+    omega (arith, ap length t, length-append s (flat_map string ss))
+
+pub string_examples : StringExamples
 unfolding field_octets
-address_reads = reads (4, record { is = (refl, at refl (omega arith) refl) }, refl) refl
-
-pub address_is_four : AddressIsFour
-address_is_four =
-    (λ v f. let at = f.1.is.1 in omega (arith, f.1.is.0, at.ends, f.2), λ v f. let at = f.1.is.1 in omega (arith, at.within, f.2))
-
-pub two_texts_read : TwoTextsRead
-unfolding field_octets
-two_texts_read = reads
-    (4, record { is = (omega arith, at refl (omega arith) refl) }, (7, record { is = (omega arith, at refl (omega arith) refl) }, refl)) refl
-
-pub empty_strings_read : EmptyStringsRead
-unfolding field_octets
-empty_strings_read = (
-  reads (0, record { is = (tt, at refl (omega arith) refl) }, refl) refl,
-  reads (1, record { is = ((omega arith, tt), at refl (omega arith) refl) }, refl) refl,
-  refl,
-)
-
-pub cut_string : CutString
-cut_string v f = none v.0 (At-whole (2 ∷ 0x61 ∷ []) (flat_map string v.0) f.0 f.1.is.1 f.2) where
-  none : (ss : List (List ℕ)) → flat_map string ss ≡ 2 ∷ 0x61 ∷ [] → ⊥
-  none [] e = cc e
-  none (s ∷ ss) e =
-      let f : length s ∷ (s ++ flat_map string ss) ≡ 2 ∷ 0x61 ∷ [] = e in
-      let n : length s ≡ 2 = cc in
-      let t : s ++ flat_map string ss ≡ 0x61 ∷ [] = cc in
-      omega (arith, ap length t, length-append s (flat_map string ss))
-
-pub rest_reads : RestReads
-unfolding field_octets
-rest_reads = (
-  reads (2, record { is = at refl (omega arith) refl }, refl) refl,
-  reads (1, record { is = at refl (omega arith) refl }, refl) refl,
-)
+string_examples = record {
+  address_reads = reads (4, record { is = (refl, at refl (omega arith) refl) }, refl) refl;
+  address_is_four =
+      (λ v f. let at = f.1.is.1 in omega (arith, f.1.is.0, at.ends, f.2), λ v f. let at = f.1.is.1 in omega (arith, at.within, f.2));
+  two_texts_read = reads
+      (4, record { is = (omega arith, at refl (omega arith) refl) }, (7, record { is = (omega arith, at refl (omega arith) refl) }, refl)) refl;
+  empty_strings_read = (
+    reads (0, record { is = (tt, at refl (omega arith) refl) }, refl) refl,
+    reads (1, record { is = ((omega arith, tt), at refl (omega arith) refl) }, refl) refl,
+    refl,
+  );
+  cut_string = λ v f. half_string v.0 (At-whole f.1.is.1 f.2);
+  rest_reads = (
+    reads (2, record { is = at refl (omega arith) refl }, refl) refl,
+    reads (1, record { is = at refl (omega arith) refl }, refl) refl,
+  );
+}
 
 -- ---- names
 
@@ -94,13 +80,6 @@ pointed_stands : Field www_twice 5 Name (full (www_label ∷ [])) 7
 pointed_stands = name
     (pointed [] (www_label ∷ []) 0 5 [] tt refl (omega arith) (omega arith) (whole [] ((omega arith, omega arith), tt) refl refl) refl refl)
     (omega arith) refl
-
-pub pointed_name_reads : PointedNameReads
-unfolding field_octets
-pointed_name_reads = reads (7, pointed_stands, refl) refl
-
-pub cut_pointer : CutPointer
-cut_pointer v f = let ends = (name_same f.1.is pointed_stands.is).1 in omega (arith, f.2)
 
 -- an octet that is no label's length, at the message's beginning
 no_name : (first : ℕ) {labels : List (List ℕ)} {e : ℕ} → 64 ≤ first → LabelsStand (first ∷ 0x00 ∷ []) 0 labels e → ⊥
@@ -111,41 +90,40 @@ no_name first {labels} high (whole behind are s ends) =
     omega arith
 no_name first high (pointed front rest target rest_end behind are s small earlier stands joined ends) = omega arith
 
-pub pointer_to_itself : PointerToItself
-pointer_to_itself v f = no_name 0xc0 (omega arith) f.1.is.stands
-
-pub reserved_label : ReservedLabel
-reserved_label v f = no_name 0x40 (omega arith) f.1.is.stands
-
 letters_stand : (c : ℕ) → Stands (0x01 ∷ 0x00 ∷ 0x01 ∷ c ∷ 0x00 ∷ []) 0 (Number 2 ∷ Name ∷ []) (256, (full ((c ∷ []) ∷ []), tt)) 5
 letters_stand c =
     (2, number (omega arith) refl (omega arith) refl, (5, name (whole [] ((omega arith, omega arith), tt) refl refl) (omega arith) refl, refl))
 
-pub letters_read : LettersRead
+pub name_examples : NameExamples
 unfolding field_octets
-letters_read = (reads (letters_stand 0x4e) refl, reads (letters_stand 0x6e) refl, refl, refl)
-
-pub marks_apart : MarksApart
-marks_apart = (refl, refl)
-
--- "xxx" and a pointer to "example.com."
-pub start_of_authority_reads : StartOfAuthorityReads
-unfolding field_octets
-start_of_authority_reads = reads
-    (next 17 (name (whole (0x03 ∷ 0x78 ∷ 0x78 ∷ 0x78 ∷ 0xc0 ∷ 0x04 ∷ twenty)
-    ((omega arith, omega arith), ((omega arith, omega arith), ((omega arith, omega arith), tt))) refl refl) (omega arith) refl)
-    (next 23 (name (pointed (xxx_label ∷ []) (example_label ∷ com_label ∷ []) 4 17 twenty ((omega arith, omega arith), tt) refl (omega arith) (omega arith)
-    (whole [] ((omega arith, omega arith), ((omega arith, omega arith), tt)) refl refl) refl refl) (omega arith) refl)
-    (next 27 (number (omega arith) refl (omega arith) refl) (next 31 (number (omega arith) refl (omega arith) refl)
-    (next 35 (number (omega arith) refl (omega arith) refl) (next 39 (number (omega arith) refl (omega arith) refl)
-    (next 43 (number (omega arith) refl (omega arith) refl) refl))))))) refl
+name_examples = record {
+  pointed_name_reads = reads (7, pointed_stands, refl) refl;
+  cut_pointer = λ v f. let ends = (name_same f.1.is pointed_stands.is).1 in omega (arith, f.2);
+  pointer_to_itself = λ v f. no_name 0xc0 (omega arith) f.1.is.stands;
+  reserved_label = λ v f. no_name 0x40 (omega arith) f.1.is.stands;
+  letters_read = (reads (letters_stand 0x4e) refl, reads (letters_stand 0x6e) refl, refl, refl);
+  marks_apart = (refl, refl);
+  start_of_authority_reads = reads
+      (next 17 (name (whole (0x03 ∷ 0x78 ∷ 0x78 ∷ 0x78 ∷ 0xc0 ∷ 0x04 ∷ twenty)
+      ((omega arith, omega arith), ((omega arith, omega arith), ((omega arith, omega arith), tt))) refl refl) (omega arith) refl)
+      (next 23 (name (pointed (xxx_label ∷ []) (example_label ∷ com_label ∷ []) 4 17 twenty ((omega arith, omega arith), tt) refl (omega arith) (omega arith)
+      (whole [] ((omega arith, omega arith), ((omega arith, omega arith), tt)) refl refl) refl refl) (omega arith) refl)
+      (next 27 (number (omega arith) refl (omega arith) refl) (next 31 (number (omega arith) refl (omega arith) refl)
+      (next 35 (number (omega arith) refl (omega arith) refl) (next 39 (number (omega arith) refl (omega arith) refl)
+      (next 43 (number (omega arith) refl (omega arith) refl) refl))))))) refl;
+}
 
 -- ---- options
 
 -- options that stand whole
 whole_options : (m : List ℕ) (v : List (Numbered OptionValue)) (read : List (Numbered (List ℕ))) → pieces read ≡ m → ArePieces read
     → AllHeld OptionHeld read v → Stands m 0 (Options ∷ []) (v, tt) (length m)
-whole_options m v read e fit held = (length m, record { is = inl (record { read = read; at = At-all m (pieces read) e; fit = fit; held = held }) }, refl)
+whole_options m v read e fit held = (length m, record { is = inl (record { read = read; at = At-all e; fit = fit; held = held }) }, refl)
+
+-- one option that stands whole
+whole_option : (k : ℕ) (body : List ℕ) (v : OptionValue) → IsPiece (k, body) → OptionHeld k body v
+    → Stands (piece (k, body)) 0 (Options ∷ []) ((k, v) ∷ [], tt) (length (piece (k, body)))
+whole_option k body v fit held = whole_options (piece (k, body)) ((k, v) ∷ []) ((k, body) ∷ []) (append-nil (piece (k, body))) (fit, tt) (refl, held, tt)
 
 -- options of which the last one is cut
 cut_options : (m rest : List ℕ) (read : List (Numbered (List ℕ))) (dropped : List (Numbered OptionValue)) (stub : List ℕ) → pieces read ++ stub ≡ m
@@ -158,135 +136,55 @@ cut_options m rest read dropped stub e fit held cut =
 abbrev stub : List ℕ
 stub = 0x00 ∷ 0x0a ∷ 0x00 ∷ 0x05 ∷ 0x01 ∷ 0x02 ∷ []
 
-pub cut_option_reads : CutOptionReads
-unfolding field_octets
-cut_option_reads = (
-  reads (cut_options (0x00 ∷ 0x0a ∷ []) [] [] [] (0x00 ∷ 0x0a ∷ []) refl tt tt (10, omega arith, inl refl)) refl,
-  reads (cut_options stub [] [] [] stub refl tt tt cut) refl,
-  reads (cut_options stub (0x03 ∷ 0x04 ∷ 0x05 ∷ []) [] [] stub refl tt tt cut) refl,
-)
+stub_cut : IsCut 6 stub
+stub_cut = (10, omega arith, inr (5, 0x01 ∷ 0x02 ∷ [], omega arith, omega arith, omega arith, refl))
+
+-- octets of options are pieces, and nothing or a cut option behind them
+option_parts : {m : List ℕ} {v : Values (Options ∷ [])} → Stands m 0 (Options ∷ []) v (length m)
+    → (xs : List (Numbered (List ℕ))) × (s : List ℕ) × ArePieces xs × ((s ≡ []) ⊎ IsCut (length m) s) × (pieces xs ++ s ≡ m)
+option_parts {m} {v} f = ⊎_elim
+    (λ (w : WholeOptions m 0 v.0 f.0). (w.read, [], w.fit, inl refl, append-nil (pieces w.read) ∙ At-whole w.at f.2))
+    (λ c. (c.1.read, c.1.stub, c.1.fit, inr (subst (λ n. IsCut n c.1.stub) (omega (arith, f.2)) c.1.cut), At-whole c.1.at f.2))
+    f.1.is
+
+-- a length of more than all octets
+length_past : HoldsNone (0x00 ∷ 0x0a ∷ 0x00 ∷ 0x05 ∷ []) 0 4 (Options ∷ [])
+length_past v f = let p = option_parts {v = v} f in none p.0 p.1 p.2 p.3 p.4 where
+  none : (xs : List (Numbered (List ℕ))) (s : List ℕ) → ArePieces xs → (s ≡ []) ⊎ IsCut 4 s → pieces xs ++ s ≡ 0x00 ∷ 0x0a ∷ 0x00 ∷ 0x05 ∷ [] → ⊥
+  none (x ∷ xs) s fit c e =
+      let h = heads_same x.0 10 (length x.1) 5 (x.1 ++ (pieces xs ++ s)) [] fit.0.0 (omega arith) fit.0.1 (omega arith)
+      (sym (append_assoc (piece x) (pieces xs) s ∙ piece_before x (pieces xs ++ s)) ∙ e) in
+      omega (arith, h.1, ap length h.2, length-append x.1 (pieces xs ++ s))
+  none [] s fit (inl empty) e = omega (arith, ap length empty, ap length e)
+  none [] s fit (inr (code, small, inl head)) e = omega (arith, ap length head, ap length e, length-bytes 2 code)
+  none [] s fit (inr (code, small, inr h)) e =
+      let k = heads_same code 10 h.0 5 h.1 [] small (omega arith) h.2 (omega arith) (sym h.5 ∙ e) in
+      omega (arith, k.1, h.3)
+
+-- whole options are none or at least four octets, and what is cut has two or at least four
+odd : (m : List ℕ) → length m < 4 → length m % 2 ≡ 1 → HoldsNone m 0 (length m) (Options ∷ [])
+odd m few uneven v f =
+    let p = option_parts {v = v} f in
+    omega (arith, long p.0, cut_long p.1 p.3, ap length p.4, length-append (pieces p.0) p.1, few, uneven)
   where
-    cut : IsCut 6 stub
-    cut = (10, omega arith, inr (5, 0x01 ∷ 0x02 ∷ [], omega arith, omega arith, omega arith, refl))
-
-pub cut_drops_all : CutDropsAll
-unfolding field_octets
-cut_drops_all = (
-  reads (cut_options (0x00 ∷ 0x0f ∷ 0x00 ∷ 0x01 ∷ 0x05 ∷ 0x00 ∷ 0x0a ∷ []) [] ((15, 0x05 ∷ []) ∷ []) ((15, Plain (0x05 ∷ [])) ∷ []) (0x00 ∷ 0x0a ∷ []) refl
-      ((omega arith, omega arith), tt) (refl, (λ e. omega arith, refl), tt) (10, omega arith, inl refl)) refl,
-  reads (cut_options (0x00 ∷ 0x0a ∷ 0x00 ∷ 0x09 ∷ 0x00 ∷ 0x0f ∷ 0x00 ∷ 0x01 ∷ 0x05 ∷ []) [] [] []
-      (0x00 ∷ 0x0a ∷ 0x00 ∷ 0x09 ∷ 0x00 ∷ 0x0f ∷ 0x00 ∷ 0x01 ∷ 0x05 ∷ []) refl tt tt
-      (10, omega arith, inr (9, 0x00 ∷ 0x0f ∷ 0x00 ∷ 0x01 ∷ 0x05 ∷ [], omega arith, omega arith, omega arith, refl))) refl,
-)
-
--- no piece begins where a length asks for more octets than there are
-past_end : (c l : ℕ) (y : List ℕ) (x : Numbered (List ℕ)) (r : List ℕ) → c < 256 ^ 2 → l < 256 ^ 2 → length y < l → (x.0 < 256 ^ 2) × (length x.1 < 256 ^ 2)
-    → piece x ++ r ≡ bytes_high_first 2 c ++ (bytes_high_first 2 l ++ y) → ⊥
-past_end c l y x r p q short fit e =
-    let h = heads_same x.0 c (length x.1) l (x.1 ++ r) y fit.0 p fit.1 q (sym (piece_before x r) ∙ e) in
-    omega (arith, h.1, ap length h.2, length-append x.1 r)
-
-pub broken_option : BrokenOption
-broken_option = (length_past, λ v f. odd (0x00 ∷ []) v (omega arith, omega arith) f, λ v f. odd (0x00 ∷ 0x0a ∷ 0x00 ∷ []) v (omega arith, omega arith) f)
-  where
-    no_pieces : (xs : List (Numbered (List ℕ))) → ArePieces xs → pieces xs ≡ 0x00 ∷ 0x0a ∷ 0x00 ∷ 0x05 ∷ [] → ⊥
-    no_pieces [] fit e = cc e
-    no_pieces (x ∷ xs) fit e = past_end 10 5 [] x (pieces xs) (omega arith) (omega arith) (omega arith) fit.0 e
-
-    no_cut : (xs : List (Numbered (List ℕ))) (s : List ℕ) (n : ℕ) → n ≡ 4 → ArePieces xs → IsCut n s → pieces xs ++ s ≡ 0x00 ∷ 0x0a ∷ 0x00 ∷ 0x05 ∷ [] → ⊥
-    no_cut (x ∷ xs) s n four fit c e = past_end 10 5 [] x (pieces xs ++ s) (omega arith) (omega arith) (omega arith) fit.0
-        (sym (append_assoc (piece x) (pieces xs) s) ∙ e)
-    no_cut [] s n four fit c e = ⊎_elim
-        (λ (code : s ≡ bytes_high_first 2 c.0). omega (arith, ap length code, ap length e, length-bytes 2 c.0))
-        (λ h.
-        let k = heads_same c.0 10 h.0 5 h.1 [] c.1 (omega arith) h.2 (omega arith) (sym h.5 ∙ e) in
-        omega (arith, k.1, h.3))
-        c.2
-
-    length_past : HoldsNone (0x00 ∷ 0x0a ∷ 0x00 ∷ 0x05 ∷ []) 0 4 (Options ∷ [])
-    length_past v f = ⊎_elim
-        (λ (w : WholeOptions (0x00 ∷ 0x0a ∷ 0x00 ∷ 0x05 ∷ []) 0 v.0 f.0). no_pieces w.read w.fit
-        (At-whole (0x00 ∷ 0x0a ∷ 0x00 ∷ 0x05 ∷ []) (pieces w.read) f.0 w.at f.2))
-        (λ c. no_cut c.1.read c.1.stub (f.0 - 0) (omega (arith, f.2)) c.1.fit c.1.cut
-        (At-whole (0x00 ∷ 0x0a ∷ 0x00 ∷ 0x05 ∷ []) (pieces c.1.read ++ c.1.stub) f.0 c.1.at f.2))
-        f.1.is
-
-    -- whole options are none or at least four octets, and what is cut has two or at least four
     long : (xs : List (Numbered (List ℕ))) → (length (pieces xs) ≡ 0) ⊎ (4 ≤ length (pieces xs))
     long [] = inl refl
     long (x ∷ xs) = inr (omega (arith, length-piece x, length-append (piece x) (pieces xs)))
 
-    cut_long : (n : ℕ) (s : List ℕ) → IsCut n s → (length s ≡ 2) ⊎ (4 ≤ length s)
-    cut_long n s c = ⊎_elim
-        (λ (e : s ≡ bytes_high_first 2 c.0). inl (ap length e ∙ length-bytes 2 c.0))
-        (λ h. inr (omega (
-          arith,
-          ap length h.5,
-          length-append (bytes_high_first 2 c.0) (bytes_high_first 2 h.0 ++ h.1),
-          length-append (bytes_high_first 2 h.0) h.1,
-          length-bytes 2 c.0,
-          length-bytes 2 h.0,
-        )))
-        c.2
-
-    odd : (m : List ℕ) (v : Values (Options ∷ [])) → (length m < 4) × (length m % 2 ≡ 1) → Stands m 0 (Options ∷ []) v (length m) → ⊥
-    odd m v n f = ⊎_elim
-        (λ (w : WholeOptions m 0 v.0 f.0). let e = ap length (At-whole m (pieces w.read) f.0 w.at f.2) in omega (arith, long w.read, e, n.0, n.1))
-        (λ c. let e = ap length (At-whole m (pieces c.1.read ++ c.1.stub) f.0 c.1.at f.2) in
-        omega (arith, long c.1.read, cut_long (f.0 - 0) c.1.stub c.1.cut, length-append (pieces c.1.read) c.1.stub, e, n.0, n.1))
-        f.1.is
-
-pub options_in_order : OptionsInOrder
-unfolding field_octets
-options_in_order = (
-  reads (whole_options (0x00 ∷ 0x0f ∷ 0x00 ∷ 0x01 ∷ 0x05 ∷ 0x00 ∷ 0x0a ∷ 0x00 ∷ 0x01 ∷ 0x05 ∷ [])
-      ((15, Plain (0x05 ∷ [])) ∷ (10, Plain (0x05 ∷ [])) ∷ []) ((15, 0x05 ∷ []) ∷ (10, 0x05 ∷ []) ∷ []) refl
-      ((omega arith, omega arith), ((omega arith, omega arith), tt)) (refl, (λ e. omega arith, refl), (refl, (λ e. omega arith, refl), tt))) refl,
-  refl,
-)
-
-pub options_counted : OptionsCounted
-options_counted = (refl, refl)
-
--- one option that stands whole
-whole_option : (k : ℕ) (body : List ℕ) (v : OptionValue) → IsPiece (k, body) → OptionHeld k body v
-    → Stands (piece (k, body)) 0 (Options ∷ []) ((k, v) ∷ [], tt) (length (piece (k, body)))
-whole_option k body v fit held = whole_options (piece (k, body)) ((k, v) ∷ []) ((k, body) ∷ []) (append-nil (piece (k, body))) (fit, tt) (refl, held, tt)
+    cut_long : (s : List ℕ) → (s ≡ []) ⊎ IsCut (length m) s → (length s ≡ 0) ⊎ ((length s ≡ 2) ⊎ (4 ≤ length s))
+    cut_long s (inl e) = inl (ap length e)
+    cut_long s (inr (code, small, inl e)) = inr (inl (ap length e ∙ length-bytes 2 code))
+    cut_long s (inr (code, small, inr h)) = inr (inr (omega (
+      arith,
+      ap length h.5,
+      length-append (bytes_high_first 2 code) (bytes_high_first 2 h.0 ++ h.1),
+      length-append (bytes_high_first 2 h.0) h.1,
+      length-bytes 2 code,
+      length-bytes 2 h.0,
+    )))
 
 abbrev cookie : List ℕ
 cookie = 0x0b ∷ 0x64 ∷ 0xb4 ∷ 0xdc ∷ 0xd7 ∷ 0xb0 ∷ 0xcc ∷ 0x8f ∷ []
-
-pub subnet_reads : SubnetReads
-unfolding field_octets
-subnet_reads = reads (whole_options
-    (0x00 ∷ 0x0a ∷ 0x00 ∷ 0x08 ∷ 0x0b ∷ 0x64 ∷ 0xb4 ∷ 0xdc ∷ 0xd7 ∷ 0xb0 ∷ 0xcc ∷ 0x8f ∷ 0x00 ∷ 0x08 ∷ 0x00 ∷ 0x04 ∷ 0x00 ∷ 0x01 ∷ 0x00 ∷ 0x00 ∷ 0x00 ∷
-    0x0b ∷ 0x00 ∷ 0x00 ∷ [])
-    ((10, Plain cookie) ∷ (8, Subnet 1 0 0 []) ∷ (11, Plain []) ∷ [])
-    ((10, cookie) ∷ (8, 0x00 ∷ 0x01 ∷ 0x00 ∷ 0x00 ∷ []) ∷ (11, []) ∷ []) refl
-    ((omega arith, omega arith), ((omega arith, omega arith), ((omega arith, omega arith), tt))) (
-      refl,
-      (λ e. omega arith, refl),
-      (
-        refl,
-        (refl, record { long = refl; most = inl (refl, omega arith) }, [], refl),
-        (refl, (λ e. omega arith, refl), tt),
-      ),
-    )) refl
-
-pub subnet_of_six_reads : SubnetOfSixReads
-unfolding field_octets
-subnet_of_six_reads = reads (whole_option 8 (0x00 ∷ 0x02 ∷ 0x18 ∷ 0x00 ∷ 0x20 ∷ 0x01 ∷ 0x0d ∷ []) (Subnet 2 24 0 (0x20 ∷ 0x01 ∷ 0x0d ∷ []))
-    (omega arith, omega arith) (refl, record { long = refl; most = inr (refl, omega arith) }, [], refl)) refl
-
-pub server_identifier_reads : ServerIdentifierReads
-unfolding field_octets
-server_identifier_reads = reads
-    (whole_option 3 (0xc0 ∷ 0xff ∷ 0xee ∷ []) (Plain (0xc0 ∷ 0xff ∷ 0xee ∷ [])) (omega arith, omega arith) (λ e. omega arith, refl)) refl
-
-pub subnet_ends : SubnetEnds
-unfolding field_octets
-subnet_ends = reads (whole_option 8 (0x00 ∷ 0x01 ∷ 0x19 ∷ 0x00 ∷ 0xac ∷ 0x01 ∷ 0x01 ∷ 0xff ∷ 0xff ∷ []) (Subnet 1 25 0 (0xac ∷ 0x01 ∷ 0x01 ∷ 0xff ∷ []))
-    (omega arith, omega arith) (refl, record { long = refl; most = inl (refl, omega arith) }, 0xff ∷ [], refl)) refl
 
 -- a piece that holds no value is that of no list of one
 first_held : {V : Type 0} (Held : ℕ → List ℕ → V → Type 0) (k : ℕ) (body : List ℕ) (v : List (Numbered V)) → ((w : V) → Held k body w → ⊥)
@@ -303,9 +201,9 @@ no_option k body fit none v f =
     let e : pieces known ≡ m = append-nil m in
     ⊎_elim
     (λ (w : WholeOptions m 0 v.0 f.0).
-    let same : w.read ≡ known = pieces_same w.read known w.fit (fit, tt) (At-whole m (pieces w.read) f.0 w.at f.2 ∙ sym e) in
+    let same : w.read ≡ known = pieces_same w.read known w.fit (fit, tt) (At-whole w.at f.2 ∙ sym e) in
     first_held OptionHeld k body v.0 none (rw same at w.held))
-    (λ c. whole_or_cut (f.0 - 0) known c.1.read c.1.stub (fit, tt) c.1.fit c.1.cut (e ∙ sym (At-whole m (pieces c.1.read ++ c.1.stub) f.0 c.1.at f.2)))
+    (λ c. whole_or_cut (f.0 - 0) known c.1.read c.1.stub (fit, tt) c.1.fit c.1.cut (e ∙ sym (At-whole c.1.at f.2)))
     f.1.is
 
 -- the family, the source prefix and the address of a subnet whose octets begin with these
@@ -319,31 +217,74 @@ subnet_begins family source scope rest (Subnet f s c a) l h =
     (a, rw (n.0, prefix) at h.1)
 subnet_begins family source scope rest (Plain s) l h = absurd (h.0 refl)
 
-pub broken_subnet : BrokenSubnet
-broken_subnet = (
-  no_option 8 (0x00 ∷ 0x03 ∷ 0x00 ∷ 0x00 ∷ []) (omega arith, omega arith)
-      (λ w h. let b = subnet_begins 3 0 0 [] w (omega arith) h in ⊎_elim (λ a. omega (arith, a.0)) (λ a. omega (arith, a.0)) b.1.most),
-  no_option 8 (0x00 ∷ 0x01 ∷ 0x21 ∷ 0x00 ∷ 0x01 ∷ 0x02 ∷ 0x03 ∷ 0x04 ∷ 0x05 ∷ []) (omega arith, omega arith)
-      (λ w h.
-      let b = subnet_begins 1 33 0 (0x01 ∷ 0x02 ∷ 0x03 ∷ 0x04 ∷ 0x05 ∷ []) w (omega arith) h in
-      ⊎_elim (λ a. omega (arith, a.1, b.1.long)) (λ a. omega (arith, a.0)) b.1.most),
-)
+pub option_examples : OptionExamples
+unfolding field_octets
+option_examples = record {
+  cut_option_reads = (
+    reads (cut_options (0x00 ∷ 0x0a ∷ []) [] [] [] (0x00 ∷ 0x0a ∷ []) refl tt tt (10, omega arith, inl refl)) refl,
+    reads (cut_options stub [] [] [] stub refl tt tt stub_cut) refl,
+    reads (cut_options stub (0x03 ∷ 0x04 ∷ 0x05 ∷ []) [] [] stub refl tt tt stub_cut) refl,
+  );
+  cut_drops_all = (
+    reads (cut_options (0x00 ∷ 0x0f ∷ 0x00 ∷ 0x01 ∷ 0x05 ∷ 0x00 ∷ 0x0a ∷ []) [] ((15, 0x05 ∷ []) ∷ []) ((15, Plain (0x05 ∷ [])) ∷ []) (0x00 ∷ 0x0a ∷ []) refl
+        ((omega arith, omega arith), tt) (refl, (λ e. omega arith, refl), tt) (10, omega arith, inl refl)) refl,
+    reads (cut_options (0x00 ∷ 0x0a ∷ 0x00 ∷ 0x09 ∷ 0x00 ∷ 0x0f ∷ 0x00 ∷ 0x01 ∷ 0x05 ∷ []) [] [] []
+        (0x00 ∷ 0x0a ∷ 0x00 ∷ 0x09 ∷ 0x00 ∷ 0x0f ∷ 0x00 ∷ 0x01 ∷ 0x05 ∷ []) refl tt tt
+        (10, omega arith, inr (9, 0x00 ∷ 0x0f ∷ 0x00 ∷ 0x01 ∷ 0x05 ∷ [], omega arith, omega arith, omega arith, refl))) refl,
+  );
+  broken_option = (length_past, odd (0x00 ∷ []) (omega arith) refl, odd (0x00 ∷ 0x0a ∷ 0x00 ∷ []) (omega arith) refl);
+  options_in_order = (
+    reads (whole_options (0x00 ∷ 0x0f ∷ 0x00 ∷ 0x01 ∷ 0x05 ∷ 0x00 ∷ 0x0a ∷ 0x00 ∷ 0x01 ∷ 0x05 ∷ [])
+        ((15, Plain (0x05 ∷ [])) ∷ (10, Plain (0x05 ∷ [])) ∷ []) ((15, 0x05 ∷ []) ∷ (10, 0x05 ∷ []) ∷ []) refl
+        ((omega arith, omega arith), ((omega arith, omega arith), tt)) (refl, (λ e. omega arith, refl), (refl, (λ e. omega arith, refl), tt))) refl,
+    refl,
+  );
+  options_counted = (refl, refl);
+  subnet_reads = reads (whole_options
+      (0x00 ∷ 0x0a ∷ 0x00 ∷ 0x08 ∷ 0x0b ∷ 0x64 ∷ 0xb4 ∷ 0xdc ∷ 0xd7 ∷ 0xb0 ∷ 0xcc ∷ 0x8f ∷ 0x00 ∷ 0x08 ∷ 0x00 ∷ 0x04 ∷ 0x00 ∷ 0x01 ∷ 0x00 ∷ 0x00 ∷ 0x00 ∷
+      0x0b ∷ 0x00 ∷ 0x00 ∷ [])
+      ((10, Plain cookie) ∷ (8, Subnet 1 0 0 []) ∷ (11, Plain []) ∷ [])
+      ((10, cookie) ∷ (8, 0x00 ∷ 0x01 ∷ 0x00 ∷ 0x00 ∷ []) ∷ (11, []) ∷ []) refl
+      ((omega arith, omega arith), ((omega arith, omega arith), ((omega arith, omega arith), tt))) (
+        refl,
+        (λ e. omega arith, refl),
+        (
+          refl,
+          (refl, record { long = refl; most = inl (refl, omega arith) }, [], refl),
+          (refl, (λ e. omega arith, refl), tt),
+        ),
+      )) refl;
+  subnet_of_six_reads = reads (whole_option 8 (0x00 ∷ 0x02 ∷ 0x18 ∷ 0x00 ∷ 0x20 ∷ 0x01 ∷ 0x0d ∷ []) (Subnet 2 24 0 (0x20 ∷ 0x01 ∷ 0x0d ∷ []))
+      (omega arith, omega arith) (refl, record { long = refl; most = inr (refl, omega arith) }, [], refl)) refl;
+  subnet_ends = reads (whole_option 8 (0x00 ∷ 0x01 ∷ 0x19 ∷ 0x00 ∷ 0xac ∷ 0x01 ∷ 0x01 ∷ 0xff ∷ 0xff ∷ []) (Subnet 1 25 0 (0xac ∷ 0x01 ∷ 0x01 ∷ 0xff ∷ []))
+      (omega arith, omega arith) (refl, record { long = refl; most = inl (refl, omega arith) }, 0xff ∷ [], refl)) refl;
+  server_identifier_reads = reads
+      (whole_option 3 (0xc0 ∷ 0xff ∷ 0xee ∷ []) (Plain (0xc0 ∷ 0xff ∷ 0xee ∷ [])) (omega arith, omega arith) (λ e. omega arith, refl)) refl;
+  broken_subnet = (
+    no_option 8 (0x00 ∷ 0x03 ∷ 0x00 ∷ 0x00 ∷ []) (omega arith, omega arith)
+        (λ w h. let b = subnet_begins 3 0 0 [] w (omega arith) h in ⊎_elim (λ a. omega (arith, a.0)) (λ a. omega (arith, a.0)) b.1.most),
+    no_option 8 (0x00 ∷ 0x01 ∷ 0x21 ∷ 0x00 ∷ 0x01 ∷ 0x02 ∷ 0x03 ∷ 0x04 ∷ 0x05 ∷ []) (omega arith, omega arith)
+        (λ w h.
+        let b = subnet_begins 1 33 0 (0x01 ∷ 0x02 ∷ 0x03 ∷ 0x04 ∷ 0x05 ∷ []) w (omega arith) h in
+        ⊎_elim (λ a. omega (arith, a.1, b.1.long)) (λ a. omega (arith, a.0)) b.1.most),
+  );
+}
 
 -- ---- parameters
 
 -- values in pieces that are known to fill the message
-known_held : (m : List ℕ) (known : List (Numbered (List ℕ))) → ArePieces known → pieces known ≡ m → (v : Values (Parameters ∷ []))
+known_held : {m : List ℕ} (known : List (Numbered (List ℕ))) → ArePieces known → pieces known ≡ m → (v : Values (Parameters ∷ []))
     → Stands m 0 (Parameters ∷ []) v (length m) → AllHeld ParameterHeld known v.0
-known_held m known fit e v f =
+known_held {m} known fit e v f =
     let g : ParametersAt m 0 v.0 f.0 = f.1.is in
-    let same : g.read ≡ known = pieces_same g.read known g.fit fit (At-whole m (pieces g.read) f.0 g.at f.2 ∙ sym e) in
+    let same : g.read ≡ known = pieces_same g.read known g.fit fit (At-whole g.at f.2 ∙ sym e) in
     rw same at g.held
 
 -- a parameter that fills the message and holds no value
 no_parameter : (k : ℕ) (body : List ℕ) → IsPiece (k, body) → ((w : ParameterValue) → ParameterHeld k body w → ⊥)
     → HoldsNone (piece (k, body)) 0 (length (piece (k, body))) (Parameters ∷ [])
 no_parameter k body fit none v f =
-    first_held ParameterHeld k body v.0 none (known_held (piece (k, body)) ((k, body) ∷ []) (fit, tt) (append-nil (piece (k, body))) v f)
+    first_held ParameterHeld k body v.0 none (known_held ((k, body) ∷ []) (fit, tt) (append-nil (piece (k, body))) v f)
 
 -- one parameter that fills the message
 one_parameter : (k : ℕ) (body : List ℕ) (v : ParameterValue) → IsPiece (k, body) → ParameterHeld k body v
@@ -351,123 +292,91 @@ one_parameter : (k : ℕ) (body : List ℕ) (v : ParameterValue) → IsPiece (k,
 one_parameter k body v fit held =
     let m = piece (k, body) in
     next (length m) (record {
-      is = record {
-        read = (k, body) ∷ [];
-        at = At-all m (pieces ((k, body) ∷ [])) (append-nil m);
-        fit = (fit, tt);
-        held = (refl, held, tt);
-        rising = (tt, tt);
-      };
+      is = record { read = (k, body) ∷ []; at = At-all (append-nil m); fit = (fit, tt); held = (refl, held, tt); rising = (tt, tt) };
     }) refl
-
-h2_ascii : IsAscii (0x68 ∷ 0x32 ∷ [])
-h2_ascii zero = omega arith
-h2_ascii (suc zero) = omega arith
-h2_ascii (suc (suc i)) = omega arith
-
-pub service_reads : ServiceReads
-unfolding field_octets
-service_reads = reads
-    (next 2 (number (omega arith) refl (omega arith) refl)
-    (next 3 (name (whole (0x00 ∷ 0x01 ∷ 0x00 ∷ 0x03 ∷ 0x02 ∷ 0x68 ∷ 0x32 ∷ 0x00 ∷ 0x03 ∷ 0x00 ∷ 0x04 ∷ 0x01 ∷ 0xbb ∷ 0xff ∷ 0xff ∷ []) tt refl refl)
-    (omega arith) refl)
-    (next 18 (record { is = parameters }) refl))) refl
-  where
-    parameters : ParametersAt
-        (0x00 ∷ 0x01 ∷ 0x00 ∷ 0x00 ∷ 0x01 ∷ 0x00 ∷ 0x03 ∷ 0x02 ∷ 0x68 ∷ 0x32 ∷ 0x00 ∷ 0x03 ∷ 0x00 ∷ 0x04 ∷ 0x01 ∷ 0xbb ∷ 0xff ∷ 0xff ∷ []) 3
-        ((1, Alpn ((0x68 ∷ 0x32 ∷ []) ∷ [])) ∷ (3, Port 443) ∷ []) 18
-    parameters = record {
-      read = (1, 0x02 ∷ 0x68 ∷ 0x32 ∷ []) ∷ (3, 0x01 ∷ 0xbb ∷ 0xff ∷ 0xff ∷ []) ∷ [];
-      at = at refl (omega arith) refl;
-      fit = ((omega arith, omega arith), ((omega arith, omega arith), tt));
-      held = (
-        refl,
-        (refl, (λ e. cc e, (omega arith, tt)), ((IsUtf8-from_ascii (0x68 ∷ 0x32 ∷ []) h2_ascii, tt), refl)),
-        (refl, (refl, omega arith, (0xff ∷ 0xff ∷ [], refl)), tt),
-      );
-      rising = ((omega arith, tt), (tt, tt));
-    }
-
-pub mandatory_reads : MandatoryReads
-unfolding field_octets
-mandatory_reads = reads (one_parameter 0 (0x00 ∷ 0x01 ∷ []) (Mandatory (1 ∷ [])) (omega arith, omega arith) (refl, (λ e. cc e, (omega arith, tt)), refl)) refl
-
-pub octets_of_key_five : OctetsOfKeyFive
-unfolding field_octets
-octets_of_key_five = reads (one_parameter 5 (0x00 ∷ 0x01 ∷ 0x02 ∷ []) (Opaque (0x00 ∷ 0x01 ∷ 0x02 ∷ [])) (omega arith, omega arith) (refl, tt, refl)) refl
-
-abbrev address_of_six : List ℕ
-address_of_six = 0x20 ∷ 0x01 ∷ 0x0d ∷ 0xb8 ∷ 0x00 ∷ 0x00 ∷ 0x00 ∷ 0x00 ∷ 0x00 ∷ 0x00 ∷ 0x00 ∷ 0x00 ∷ 0x00 ∷ 0x00 ∷ 0x00 ∷ 0x01 ∷ []
-
-pub hint_of_six_reads : HintOfSixReads
-unfolding field_octets
-hint_of_six_reads = reads (one_parameter 6 address_of_six (Ipv6Hint (address_of_six ∷ [])) (omega arith, omega arith) (refl, (refl, tt), refl)) refl
-
-pub no_hints_read : NoHintsRead
-unfolding field_octets
-no_hints_read = reads (one_parameter 4 [] (Ipv4Hint []) (omega arith, omega arith) (refl, tt, refl)) refl
 
 -- two parameters that fill the message, the second of a key that is not above the first
 not_rising : (a b : Numbered (List ℕ)) → IsPiece a → IsPiece b → b.0 ≤ a.0 → HoldsNone (piece a ++ piece b) 0 (length (piece a ++ piece b)) (Parameters ∷ [])
 not_rising a b p q low v f =
-    none v.0 (known_held (piece a ++ piece b) (a ∷ b ∷ []) (p, (q, tt)) (ap (λ t. piece a ++ t) (append-nil (piece b))) v f) f.1.is.rising
+    none v.0 (known_held (a ∷ b ∷ []) (p, (q, tt)) (ap (λ t. piece a ++ t) (append-nil (piece b))) v f) f.1.is.rising
   where
     none : (v : List (Numbered ParameterValue)) → AllHeld ParameterHeld (a ∷ b ∷ []) v → Rising v → ⊥
     none [] h r = h
     none (x ∷ []) h r = h.2
     none (x ∷ y ∷ rest) h r = omega (arith, h.0, h.2.0, r.0.0)
 
-pub keys_rise : KeysRise
-keys_rise = not_rising (3, 0x00 ∷ 0x35 ∷ []) (3, 0x00 ∷ 0x35 ∷ []) (omega arith, omega arith) (omega arith, omega arith) (omega arith)
-
-pub keys_do_not_fall : KeysDoNotFall
-keys_do_not_fall = not_rising (3, 0x00 ∷ 0x35 ∷ []) (1, 0x02 ∷ 0x68 ∷ 0x32 ∷ []) (omega arith, omega arith) (omega arith, omega arith) (omega arith)
+h2_ascii : IsAscii (0x68 ∷ 0x32 ∷ [])
+h2_ascii zero = omega arith
+h2_ascii (suc zero) = omega arith
+h2_ascii (suc (suc i)) = omega arith
 
 -- no character's UTF-8 begins with 255
 not_utf8 : IsUtf8 (0xff ∷ []) → ⊥
 unfolding is_utf8 chars
-not_utf8 u = let e : is_utf8 (0xff ∷ []) ≡ true = is_utf8-from_IsUtf8 (0xff ∷ []) u in let f : false ≡ true = e in cc f
+not_utf8 u = let e : false ≡ true = is_utf8-from_IsUtf8 (0xff ∷ []) u in cc e
 
-pub broken_protocols : BrokenProtocols
-broken_protocols = (
-  no_parameter 2 (0x00 ∷ []) (omega arith, omega arith) none_form,
-  no_parameter 1 (0x01 ∷ 0xff ∷ []) (omega arith, omega arith) names_form,
+one_name : (names : List (List ℕ)) → AllByRecursion IsUtf8 names → flat_map string names ≡ 0x01 ∷ 0xff ∷ [] → ⊥
+one_name [] u e = cc e
+one_name (s ∷ names) u e =
+    let f : length s ∷ (s ++ flat_map string names) ≡ 0x01 ∷ 0xff ∷ [] = e in
+    let n : length s ≡ 1 = cc in
+    let t : s ++ flat_map string names ≡ 0xff ∷ [] = cc in
+    let first : s ≡ 0xff ∷ [] = sym (take_at s (flat_map string names) 1 n) ∙ ap (take 1) t in
+    not_utf8 (rw first at u.0)
+
+some_keys : (keys : List ℕ) → keys ≢ [] → [] ≡ flat_map (bytes_high_first 2) keys → ⊥
+some_keys [] some e = some refl
+some_keys (k ∷ keys) some e = cc e
+
+-- octets that hold no value of their key
+none_held : (w : ParameterValue) → (ParameterHeld 2 (0x00 ∷ []) w → ⊥) × (ParameterHeld 1 (0x01 ∷ 0xff ∷ []) w → ⊥) × (ParameterHeld 0 [] w → ⊥)
+    × (ParameterHeld 3 (0x35 ∷ []) w → ⊥)
+none_held (Mandatory keys) = (λ h. cc h.0, λ h. cc h.0, λ h. some_keys keys h.1.0 h.2, λ h. cc h.0)
+none_held (Alpn names) = (λ h. cc h.0, λ h. one_name names h.2.0 (sym h.2.1), λ h. cc h.0, λ h. cc h.0)
+none_held NoDefaultAlpn = (λ h. cc h.2, λ h. cc h.0, λ h. cc h.0, λ h. cc h.0)
+none_held (Port n) = (
+  λ h. cc h.0,
+  λ h. cc h.0,
+  λ h. cc h.0,
+  λ h. omega (arith, ap length h.2.1, length-append (bytes_high_first 2 n) h.2.0, length-bytes 2 n),
 )
-  where
-    none_form : (w : ParameterValue) → ParameterHeld 2 (0x00 ∷ []) w → ⊥
-    none_form NoDefaultAlpn h = cc h.2
-    none_form w h = let e : form_of w ≡ Nothing = h.0 in cc e
+none_held w = (λ h. cc h.0, λ h. cc h.0, λ h. cc h.0, λ h. cc h.0)
 
-    one_name : (names : List (List ℕ)) → AllByRecursion IsUtf8 names → flat_map string names ≡ 0x01 ∷ 0xff ∷ [] → ⊥
-    one_name [] u e = cc e
-    one_name (s ∷ names) u e =
-        let f : length s ∷ (s ++ flat_map string names) ≡ 0x01 ∷ 0xff ∷ [] = e in
-        let n : length s ≡ 1 = cc in
-        let t : s ++ flat_map string names ≡ 0xff ∷ [] = cc in
-        let first : s ≡ 0xff ∷ [] = sym (take_at s (flat_map string names) 1 n) ∙ ap (take 1) t in
-        not_utf8 (rw first at u.0)
-
-    names_form : (w : ParameterValue) → ParameterHeld 1 (0x01 ∷ 0xff ∷ []) w → ⊥
-    names_form (Alpn names) h = one_name names h.2.0 (sym h.2.1)
-    names_form w h = let e : form_of w ≡ Names = h.0 in cc e
-
-pub broken_parameter : BrokenParameter
-broken_parameter = (
-  no_parameter 0 [] (omega arith, omega arith) keys_form,
-  no_parameter 3 (0x35 ∷ []) (omega arith, omega arith) port_form,
-)
-  where
-    some_keys : (keys : List ℕ) → keys ≢ [] → [] ≡ flat_map (bytes_high_first 2) keys → ⊥
-    some_keys [] some e = some refl
-    some_keys (k ∷ keys) some e = cc e
-
-    keys_form : (w : ParameterValue) → ParameterHeld 0 [] w → ⊥
-    keys_form (Mandatory keys) h = some_keys keys h.1.0 h.2
-    keys_form w h = let e : form_of w ≡ Keys = h.0 in cc e
-
-    port_form : (w : ParameterValue) → ParameterHeld 3 (0x35 ∷ []) w → ⊥
-    port_form (Port n) h = omega (arith, ap length h.2.1, length-append (bytes_high_first 2 n) h.2.0, length-bytes 2 n)
-    port_form w h = let e : form_of w ≡ PortNumber = h.0 in cc e
+pub parameter_examples : ParameterExamples
+unfolding field_octets
+parameter_examples = record {
+  service_reads = reads
+      (next 2 (number (omega arith) refl (omega arith) refl)
+      (next 3 (name (whole (0x00 ∷ 0x01 ∷ 0x00 ∷ 0x03 ∷ 0x02 ∷ 0x68 ∷ 0x32 ∷ 0x00 ∷ 0x03 ∷ 0x00 ∷ 0x04 ∷ 0x01 ∷ 0xbb ∷ 0xff ∷ 0xff ∷ []) tt refl refl)
+      (omega arith) refl)
+      (next 18 (record {
+        is = record {
+          read = (1, 0x02 ∷ 0x68 ∷ 0x32 ∷ []) ∷ (3, 0x01 ∷ 0xbb ∷ 0xff ∷ 0xff ∷ []) ∷ [];
+          at = at refl (omega arith) refl;
+          fit = ((omega arith, omega arith), ((omega arith, omega arith), tt));
+          held = (
+            refl,
+            (refl, (λ e. cc e, (omega arith, tt)), ((IsUtf8-from_ascii (0x68 ∷ 0x32 ∷ []) h2_ascii, tt), refl)),
+            (refl, (refl, omega arith, (0xff ∷ 0xff ∷ [], refl)), tt),
+          );
+          rising = ((omega arith, tt), (tt, tt));
+        };
+      }) refl))) refl;
+  mandatory_reads = reads (one_parameter 0 (0x00 ∷ 0x01 ∷ []) (Mandatory (1 ∷ [])) (omega arith, omega arith) (refl, (λ e. cc e, (omega arith, tt)), refl)) refl;
+  octets_of_key_five = reads (one_parameter 5 (0x00 ∷ 0x01 ∷ 0x02 ∷ []) (Opaque (0x00 ∷ 0x01 ∷ 0x02 ∷ [])) (omega arith, omega arith) (refl, tt, refl)) refl;
+  hint_of_six_reads = reads (one_parameter 6 address_of_six (Ipv6Hint (address_of_six ∷ [])) (omega arith, omega arith) (refl, (refl, tt), refl)) refl;
+  no_hints_read = reads (one_parameter 4 [] (Ipv4Hint []) (omega arith, omega arith) (refl, tt, refl)) refl;
+  keys_rise = not_rising (3, 0x00 ∷ 0x35 ∷ []) (3, 0x00 ∷ 0x35 ∷ []) (omega arith, omega arith) (omega arith, omega arith) (omega arith);
+  keys_do_not_fall = not_rising (3, 0x00 ∷ 0x35 ∷ []) (1, 0x02 ∷ 0x68 ∷ 0x32 ∷ []) (omega arith, omega arith) (omega arith, omega arith) (omega arith);
+  broken_protocols = (
+    no_parameter 2 (0x00 ∷ []) (omega arith, omega arith) (λ w. (none_held w).0),
+    no_parameter 1 (0x01 ∷ 0xff ∷ []) (omega arith, omega arith) (λ w. (none_held w).1),
+  );
+  broken_parameter = (
+    no_parameter 0 [] (omega arith, omega arith) (λ w. (none_held w).2),
+    no_parameter 3 (0x35 ∷ []) (omega arith, omega arith) (λ w. (none_held w).3),
+  );
+}
 
 -- ---- bitmaps
 
@@ -477,6 +386,9 @@ bitmap : {m : List ℕ} {p q : ℕ} (v : List ℕ) (blocks : List Block) → At 
 bitmap v blocks there fit set e =
     record { is = record { blocks = blocks; at = there; fit = fit; set = set; types = λ t. minimal_types v set.numbers t ∙ ap (list_any (has_type t)) e } }
 
+fits : {number : ℕ} {octets : List ℕ} → number < 256 → 1 ≤ length octets → length octets ≤ 32 → IsBlock (number, octets)
+fits n some most = record { number = n; some = some; most = most }
+
 -- three numbers that rise
 three_rise : {a b c : ℕ} → a < b → b < c → c < 65536 → IsTypeSet (a ∷ b ∷ c ∷ [])
 three_rise p q r = record { rises = ((p, (omega arith, tt)), ((q, tt), (tt, tt))); numbers = (omega arith, (omega arith, (r, tt))) }
@@ -485,31 +397,9 @@ three_types : minimal (1 ∷ 2 ∷ 28 ∷ []) ≡ (0, 0x60 ∷ 0x00 ∷ 0x00 ∷
 unfolding window types_octet mark
 three_types = minimal_first (1 ∷ 2 ∷ 28 ∷ []) 1 (omega arith) (omega arith, (omega arith, (omega arith, tt)))
 
-pub types_read : TypesRead
-unfolding field_octets
-types_read = reads
-    (next 4 (number (omega arith) refl (omega arith) refl)
-    (next 6 (number (omega arith) refl (omega arith) refl)
-    (next 12 (bitmap (1 ∷ 2 ∷ 28 ∷ []) ((0, 0x60 ∷ 0x00 ∷ 0x00 ∷ 0x08 ∷ []) ∷ []) (at refl (omega arith) refl)
-    (record { number = omega arith; some = omega arith; most = omega arith }, tt)
-    (three_rise (omega arith) (omega arith) (omega arith)) three_types)
-    refl)))
-    (ap (λ (bs : List Block). 0x00 ∷ 0x00 ∷ 0x00 ∷ 0x7b ∷ 0x00 ∷ 0x03 ∷ (flat_map block bs ++ [])) three_types)
-
 two_windows : minimal (1 ∷ 256 ∷ 257 ∷ []) ≡ (0, 0x40 ∷ []) ∷ (1, 0xc0 ∷ []) ∷ []
 unfolding window types_octet mark
 two_windows = minimal_first (1 ∷ 256 ∷ 257 ∷ []) 2 (omega arith) (omega arith, (omega arith, (omega arith, tt)))
-
-pub windows_read : WindowsRead
-unfolding field_octets
-windows_read = reads
-    (next 6 (bitmap (1 ∷ 256 ∷ 257 ∷ []) ((0, 0x40 ∷ []) ∷ (1, 0xc0 ∷ []) ∷ []) (at refl (omega arith) refl) (
-      record { number = omega arith; some = omega arith; most = omega arith },
-      (record { number = omega arith; some = omega arith; most = omega arith }, tt),
-    )
-    (three_rise (omega arith) (omega arith) (omega arith)) two_windows)
-    refl)
-    (ap (λ (bs : List Block). flat_map block bs ++ []) two_windows)
 
 one_octet : minimal (1 ∷ 2 ∷ []) ≡ (0, 0x60 ∷ []) ∷ []
 unfolding window types_octet mark
@@ -525,39 +415,49 @@ zero_has t = ap (λ (o : ℕ). ((t / 256 == 0) && (bit_at o (7 - t % 8) == 1)) |
     same (suc zero) = refl
     same (suc (suc i)) = refl
 
-pub zeros_dropped : ZerosDropped
-unfolding field_octets
-zeros_dropped = reads
-    (next 4 (record {
-      is = record {
-        blocks = (0, 0x60 ∷ 0x00 ∷ []) ∷ [];
-        at = at refl (omega arith) refl;
-        fit = (record { number = omega arith; some = omega arith; most = omega arith }, tt);
-        set = record { rises = ((omega arith, tt), (tt, tt)); numbers = (omega arith, (omega arith, tt)) };
-        types = λ t. minimal_types (1 ∷ 2 ∷ []) (omega arith, (omega arith, tt)) t ∙ ap (list_any (has_type t)) one_octet ∙ zero_has t;
-      };
-    }) refl)
-    (ap (λ (bs : List Block). flat_map block bs ++ []) one_octet)
-
-pub broken_window : BrokenWindow
-broken_window = (
-  λ v f. let g : BitmapAt (0x00 ∷ 0x00 ∷ []) 0 v.0 f.0 = f.1.is in empty g.blocks g.fit (At-whole (0x00 ∷ 0x00 ∷ []) (flat_map block g.blocks) f.0 g.at f.2),
-  λ v f. let g : BitmapAt (0x00 ∷ 0x02 ∷ 0x60 ∷ []) 0 v.0 f.0 = f.1.is in
-      short g.blocks (At-whole (0x00 ∷ 0x02 ∷ 0x60 ∷ []) (flat_map block g.blocks) f.0 g.at f.2),
+no_block : (bs : List Block) → AllByRecursion IsBlock bs → (flat_map block bs ≡ 0x00 ∷ 0x00 ∷ [] → ⊥) × (flat_map block bs ≡ 0x00 ∷ 0x02 ∷ 0x60 ∷ [] → ⊥)
+no_block [] h = (λ e. cc e, λ e. cc e)
+no_block (b ∷ bs) h = (
+  λ e.
+      let f : b.0 ∷ length b.1 ∷ (b.1 ++ flat_map block bs) ≡ 0x00 ∷ 0x00 ∷ [] = e in
+      let n : length b.1 ≡ 0 = cc in
+      omega (arith, h.0.some),
+  λ e.
+      let f : b.0 ∷ length b.1 ∷ (b.1 ++ flat_map block bs) ≡ 0x00 ∷ 0x02 ∷ 0x60 ∷ [] = e in
+      let n : length b.1 ≡ 2 = cc in
+      let t : b.1 ++ flat_map block bs ≡ 0x60 ∷ [] = cc in
+      omega (arith, ap length t, length-append b.1 (flat_map block bs)),
 )
-  where
-    empty : (bs : List Block) → AllByRecursion IsBlock bs → flat_map block bs ≡ 0x00 ∷ 0x00 ∷ [] → ⊥
-    empty [] h e = cc e
-    empty (b ∷ bs) h e =
-        let f : b.0 ∷ length b.1 ∷ (b.1 ++ flat_map block bs) ≡ 0x00 ∷ 0x00 ∷ [] = e in
-        let n : length b.1 ≡ 0 = cc in
-        let some = h.0.some in
-        omega arith
 
-    short : (bs : List Block) → flat_map block bs ≡ 0x00 ∷ 0x02 ∷ 0x60 ∷ [] → ⊥
-    short [] e = cc e
-    short (b ∷ bs) e =
-        let f : b.0 ∷ length b.1 ∷ (b.1 ++ flat_map block bs) ≡ 0x00 ∷ 0x02 ∷ 0x60 ∷ [] = e in
-        let n : length b.1 ≡ 2 = cc in
-        let t : b.1 ++ flat_map block bs ≡ 0x60 ∷ [] = cc in
-        omega (arith, ap length t, length-append b.1 (flat_map block bs))
+pub bitmap_examples : BitmapExamples
+unfolding field_octets
+bitmap_examples = record {
+  types_read = reads
+      (next 4 (number (omega arith) refl (omega arith) refl)
+      (next 6 (number (omega arith) refl (omega arith) refl)
+      (next 12 (bitmap (1 ∷ 2 ∷ 28 ∷ []) ((0, 0x60 ∷ 0x00 ∷ 0x00 ∷ 0x08 ∷ []) ∷ []) (at refl (omega arith) refl)
+      (fits (omega arith) (omega arith) (omega arith), tt) (three_rise (omega arith) (omega arith) (omega arith)) three_types)
+      refl)))
+      (ap (λ (bs : List Block). 0x00 ∷ 0x00 ∷ 0x00 ∷ 0x7b ∷ 0x00 ∷ 0x03 ∷ (flat_map block bs ++ [])) three_types);
+  windows_read = reads
+      (next 6 (bitmap (1 ∷ 256 ∷ 257 ∷ []) ((0, 0x40 ∷ []) ∷ (1, 0xc0 ∷ []) ∷ []) (at refl (omega arith) refl)
+      (fits (omega arith) (omega arith) (omega arith), (fits (omega arith) (omega arith) (omega arith), tt))
+      (three_rise (omega arith) (omega arith) (omega arith)) two_windows)
+      refl)
+      (ap (λ (bs : List Block). flat_map block bs ++ []) two_windows);
+  zeros_dropped = reads
+      (next 4 (record {
+        is = record {
+          blocks = (0, 0x60 ∷ 0x00 ∷ []) ∷ [];
+          at = at refl (omega arith) refl;
+          fit = (fits (omega arith) (omega arith) (omega arith), tt);
+          set = record { rises = ((omega arith, tt), (tt, tt)); numbers = (omega arith, (omega arith, tt)) };
+          types = λ t. minimal_types (1 ∷ 2 ∷ []) (omega arith, (omega arith, tt)) t ∙ ap (list_any (has_type t)) one_octet ∙ zero_has t;
+        };
+      }) refl)
+      (ap (λ (bs : List Block). flat_map block bs ++ []) one_octet);
+  broken_window = (
+    λ v f. let g : BitmapAt (0x00 ∷ 0x00 ∷ []) 0 v.0 f.0 = f.1.is in (no_block g.blocks g.fit).0 (At-whole g.at f.2),
+    λ v f. let g : BitmapAt (0x00 ∷ 0x02 ∷ 0x60 ∷ []) 0 v.0 f.0 = f.1.is in (no_block g.blocks g.fit).1 (At-whole g.at f.2),
+  );
+}

@@ -1,27 +1,28 @@
 -- The laws of one field, by cases on its kind.
 use Rattle.std.proofs.Common.{◌≡◌, ℕ, ◌≤◌, List, [], ◌∷◌, ◌++◌, length, refl, sym, ap, ◌∙◌, arith, subst, ◌-◌, ◌⊎◌, inl, inr, map}
-use Rattle.std.specs.{List.flat_map, List.AllByRecursion, Int.bytes_high_first, Ordering.on}
+use Rattle.std.specs.{List.flat_map, List.AllByRecursion, Ordering.on}
 use Rattle.std.proofs.lemmas.List.Sorted.{IsPermutation-refl, IsPermutation-sym, IsPermutation-trans, IsPermutation-map}
-use Rattle.dns_fields.specs.{Sorting.sorted, Bitmaps.block, Bitmaps.minimal, declared.RDataEncoding.RDataEncoding, Labels.full_name}
+use Rattle.dns_fields.specs.{Sorting.sorted, declared.RDataEncoding.RDataEncoding, Labels.full_name}
 use Rattle.dns_fields.specs.Pieces.{string, Numbered, piece, pieces, AllHeld, as_piece, HoldThemselves, OptionValue, option_octets, OptionHeld}
-use Rattle.dns_fields.specs.Pieces.{OptionFits, ParameterValue, parameter_octets, ParameterHeld, ParameterFits}
+use Rattle.dns_fields.specs.Pieces.{OptionFits, parameter_octets, ParameterHeld, ParameterFits}
 use Rattle.dns_fields.specs.Fields.{Options, Parameters, Lawful, option_pieces, parameter_pieces, WholeOptions, CutOptions, Bitmap, Kind, Number}
 use Rattle.dns_fields.specs.Fields.{Octets, Name, Text, Texts, Rest, Value, field_octets, Fits, Field, WroteField, SameField, EndsItself, IsFull}
 use Rattle.dns_fields.proofs.{Bitmaps.bitmap_same, Bitmaps.bitmap_append, Bitmaps.minimal_stands, Numbers.length-bytes, Numbers.same_number}
 use Rattle.dns_fields.proofs.Sorted.{octets_cmp, sorted_same, sorted_permutes, sorted_all, map_sorted, flat_map_all, length_sorted}
-use Rattle.dns_fields.proofs.Pieces.{pieces_same, whole_or_cut, held_same, held_lawful, held_fit, lawful_held, fit_pieces}
+use Rattle.dns_fields.proofs.Pieces.{pieces_same, whole_or_cut, held_same, held_fit, lawful_held, fit_pieces}
 use Rattle.dns_fields.proofs.OptionLaws.{option_once, option_own, option_fit}
 use Rattle.dns_fields.proofs.ParameterLaws.{strings_same, parameter_once, parameter_own, parameter_fit}
 use Rattle.dns_fields.proofs.Places.{At-same_end, At-same_head, At-append, At-appended}
 use Rattle.dns_fields.proofs.NameLaws.{name_same, name_append, name_inside, name_is, low_name, low_name_same, low_name_wrote}
 
-options_inside : {m : List ℕ} {p : ℕ} {v : List (Numbered OptionValue)} {q : ℕ} → WholeOptions m p v q ⊎ ((v ≡ []) × CutOptions m (q - p) p q)
-    → (p ≤ q) × (q ≤ length m)
+abbrev OptionsAt : List ℕ → ℕ → List (Numbered OptionValue) → ℕ → Type 0
+OptionsAt m p v q = WholeOptions m p v q ⊎ ((v ≡ []) × CutOptions m (q - p) p q)
+
+options_inside : {m : List ℕ} {p : ℕ} {v : List (Numbered OptionValue)} {q : ℕ} → OptionsAt m p v q → (p ≤ q) × (q ≤ length m)
 options_inside (inl w) = (omega (arith, w.at.ends), w.at.within)
 options_inside (inr c) = (omega (arith, c.1.at.ends), c.1.at.within)
 
-options_append : {m : List ℕ} {p : ℕ} {v : List (Numbered OptionValue)} {q : ℕ} (t : List ℕ) → WholeOptions m p v q ⊎ ((v ≡ []) × CutOptions m (q - p) p q)
-    → WholeOptions (m ++ t) p v q ⊎ ((v ≡ []) × CutOptions (m ++ t) (q - p) p q)
+options_append : {m : List ℕ} {p : ℕ} {v : List (Numbered OptionValue)} {q : ℕ} (t : List ℕ) → OptionsAt m p v q → OptionsAt (m ++ t) p v q
 options_append t (inl w) = inl (record { read = w.read; at = At-append t w.at; fit = w.fit; held = w.held })
 options_append t (inr c) = inr (
   c.0,
@@ -29,8 +30,8 @@ options_append t (inr c) = inr (
       { read = c.1.read; dropped = c.1.dropped; stub = c.1.stub; at = At-append t c.1.at; fit = c.1.fit; held = c.1.held; cut = c.1.cut },
 )
 
-options_same : {m : List ℕ} {p : ℕ} {v w : List (Numbered OptionValue)} {q : ℕ} → WholeOptions m p v q ⊎ ((v ≡ []) × CutOptions m (q - p) p q)
-    → WholeOptions m p w q ⊎ ((w ≡ []) × CutOptions m (q - p) p q) → v ≡ w
+options_same : {m : List ℕ} {p : ℕ} {v w : List (Numbered OptionValue)} {q : ℕ} → OptionsAt m p v q → OptionsAt m p w q
+    → v ≡ w
 options_same {v = v} {w = w} (inl a) (inl b) =
     let e : a.read ≡ b.read = pieces_same a.read b.read a.fit b.fit (At-same_end a.at b.at) in
     held_same OptionHeld option_octets option_once b.read v w (subst (λ (xs : List (Numbered (List ℕ))). AllHeld OptionHeld xs v) e a.held) b.held
@@ -38,14 +39,13 @@ options_same {p = p} {q = q} (inl a) (inr b) = absurd (whole_or_cut _ a.read b.1
 options_same {p = p} {q = q} (inr a) (inl b) = absurd (whole_or_cut _ b.read a.1.read a.1.stub b.fit a.1.fit a.1.cut (At-same_end b.at a.1.at))
 options_same (inr a) (inr b) = a.0 ∙ sym b.0
 
-options_fit : {m : List ℕ} {p : ℕ} {v : List (Numbered OptionValue)} {q : ℕ} → WholeOptions m p v q ⊎ ((v ≡ []) × CutOptions m (q - p) p q)
-    → AllByRecursion OptionFits v
+options_fit : {m : List ℕ} {p : ℕ} {v : List (Numbered OptionValue)} {q : ℕ} → OptionsAt m p v q → AllByRecursion OptionFits v
 options_fit {v = v} (inl a) = held_fit OptionHeld option_octets OptionFits option_fit a.read v a.fit a.held
 options_fit (inr a) = subst (AllByRecursion OptionFits) (sym a.0) tt
 
-options_lawful : {m : List ℕ} {p : ℕ} {v : List (Numbered OptionValue)} {q : ℕ} → WholeOptions m p v q ⊎ ((v ≡ []) × CutOptions m (q - p) p q)
-    → HoldThemselves OptionHeld option_octets v
-options_lawful {v = v} (inl a) = held_lawful OptionHeld option_octets option_own a.read v a.held
+options_lawful : {m : List ℕ} {p : ℕ} {v : List (Numbered OptionValue)} {q : ℕ} → OptionsAt m p v q → HoldThemselves OptionHeld option_octets v
+options_lawful {v = v} (inl a) =
+    held_fit OptionHeld option_octets (λ x. OptionHeld x.0 (option_octets x.1) x.1) (λ k d w p q h. option_own k d w h) a.read v a.fit a.held
 options_lawful (inr a) = subst (HoldThemselves OptionHeld option_octets) (sym a.0) tt
 
 -- options sorted by their octets
@@ -76,7 +76,7 @@ field_same {k = Number n} {v} {w} f g = same_number n v w f.is.0 g.is.0 (At-same
 field_same {k = Octets n} f g = At-same_end f.is.1 g.is.1
 field_same {k = Name} f g = (name_same f.is g.is).0
 field_same {k = Text} {v} {w} f g = let e : string v ≡ string w = At-same_end f.is.1 g.is.1 in cc
-field_same {k = Texts} {v} {w} f g = strings_same v w (At-same_end f.is.1 g.is.1)
+field_same {k = Texts} {v} {w} f g = strings_same v w f.is.0 g.is.0 (At-same_end f.is.1 g.is.1)
 field_same {k = Rest} f g = At-same_end f.is g.is
 field_same {k = Options} f g = options_same f.is g.is
 field_same {k = Parameters} {v} {w} f g =
@@ -105,17 +105,14 @@ field_fits f = f.is.0
 -- what stands is of a read
 pub field_lawful : {m : List ℕ} {p : ℕ} {k : Kind} {v : Value k} {q : ℕ} → Field m p k v q → Lawful k v
 field_lawful {k = Options} f = options_lawful f.is
-field_lawful {k = Parameters} {v} f = held_lawful ParameterHeld parameter_octets parameter_own f.is.read v f.is.held
+field_lawful {k = Parameters} {v} f = held_fit ParameterHeld parameter_octets (λ x. ParameterHeld x.0 (parameter_octets x.1) x.1)
+    (λ k d w p q h. parameter_own k d w h) f.is.read v f.is.fit f.is.held
 field_lawful f = tt
 
 -- what was written reads there as the same value
 pub wrote_field : {mode : RDataEncoding} {m : List ℕ} {k : Kind} {v : Value k} {m' : List ℕ} → Lawful k v → WroteField mode m k v m'
     → (w : Value k) × SameField k v w × Field m' (length m) k w (length m')
-wrote_field {m} {k = Number n} {v} h f = (v, record { is = refl }, record { is = (f.is.0, rw f.is.1 (At-appended m (bytes_high_first n v))) })
-wrote_field {m} {k = Octets n} {v} h f = (v, record { is = refl }, record { is = (f.is.0, rw f.is.1 (At-appended m v)) })
 wrote_field {k = Name} {v} h f = (full_name v, record { is = record { low = refl } }, record { is = f.is.stands })
-wrote_field {m} {k = Text} {v} h f = (v, record { is = refl }, record { is = (f.is.0, rw f.is.1 (At-appended m (string v))) })
-wrote_field {m} {k = Texts} {v} h f = (v, record { is = refl }, record { is = (f.is.0, rw f.is.1 (At-appended m (flat_map string v))) })
 wrote_field {m} {k = Rest} {v} h f = (v, record { is = refl }, record { is = rw f.is (At-appended m v) })
 wrote_field {m} {k = Options} {v} {m'} h f = (
   v,
@@ -143,23 +140,20 @@ wrote_field {m} {k = Parameters} {v} {m'} h f = (
   },
 )
 wrote_field {m} {k = Bitmap} {v} h f = (v, record { is = refl }, record { is = rw f.is.1 (minimal_stands m v f.is.0) })
+wrote_field {m} {v = v} h f = (v, record { is = refl }, record { is = (f.is.0, rw f.is.1 (At-appended m _)) })
 
 -- behind what was there, and at most the canonical octets
 pub wrote_tail : {mode : RDataEncoding} {m : List ℕ} {k : Kind} {v : Value k} {m' : List ℕ} → WroteField mode m k v m'
     → (t : List ℕ) × (m' ≡ m ++ t) × (length t ≤ length (field_octets k v))
 unfolding field_octets
-wrote_tail {m} {k = Number n} {v} f = (bytes_high_first n v, f.is.1, omega arith)
-wrote_tail {m} {k = Octets n} {v} f = (v, f.is.1, omega arith)
 wrote_tail {k = Name} f = (f.is.tail, f.is.behind, f.is.shorter)
-wrote_tail {m} {k = Text} {v} f = (string v, f.is.1, omega arith)
-wrote_tail {m} {k = Texts} {v} f = (flat_map string v, f.is.1, omega arith)
 wrote_tail {m} {k = Rest} {v} f = (v, f.is, omega arith)
 wrote_tail {m} {k = Options} {v} f =
     let n : length (flat_map (λ (x : List ℕ). x) (sorted octets_cmp (map piece (option_pieces v)))) ≡ length (pieces (option_pieces v)) =
     length_sorted octets_cmp (map piece (option_pieces v)) ∙ ap length (flat_map_all piece (option_pieces v)) in
     (pieces (option_pieces v), f.is.1, omega (arith, n))
 wrote_tail {m} {k = Parameters} {v} f = (pieces (parameter_pieces v), f.is.2, omega arith)
-wrote_tail {m} {k = Bitmap} {v} f = (flat_map block (minimal v), f.is.1, omega arith)
+wrote_tail f = (_, f.is.1, omega arith)
 
 pub wrote_fits : {mode : RDataEncoding} {m : List ℕ} {k : Kind} {v : Value k} {m' : List ℕ} → WroteField mode m k v m' → Fits k v
 wrote_fits {k = Name} f = f.is.is_name
@@ -213,17 +207,11 @@ octets_wrote mode m k v h l = record { value = v; same = record { is = refl }; l
 -- the same value has the same canonical octets
 pub octets_same : {k : Kind} {a b : Value k} → SameField k a b → field_octets k a ≡ field_octets k b
 unfolding field_octets
-octets_same {k = Number w} s = ap (bytes_high_first w) s.is
-octets_same {k = Octets n} s = s.is
 octets_same {k = Name} s = s.is.low
-octets_same {k = Text} s = ap string s.is
-octets_same {k = Texts} s = ap (flat_map string) s.is
-octets_same {k = Rest} s = s.is
 octets_same {k = Options} {a} {b} s =
     ap (flat_map (λ (x : List ℕ). x)) (sorted_same (map piece (option_pieces a)) (map piece (option_pieces b))
     (IsPermutation-map piece (option_pieces a) (option_pieces b) (IsPermutation-map (as_piece option_octets) a b s.is)))
-octets_same {k = Parameters} s = ap (λ (v : List (Numbered ParameterValue)). pieces (parameter_pieces v)) s.is
-octets_same {k = Bitmap} s = ap (λ (v : List ℕ). flat_map block (minimal v)) s.is
+octets_same {k} s = ap (field_octets k) s.is
 
 pub same_sym : {k : Kind} {a b : Value k} → SameField k a b → SameField k b a
 same_sym {k = Name} s = record { is = record { low = sym s.is.low } }

@@ -6,7 +6,7 @@ use Rattle.dns_fields.specs.{declared.RDataEncoding.RDataEncoding, Names.LabelsS
 use Rattle.dns_fields.specs.Labels.{AreLabels, wire, FitsName, DomainName, IsName, low_labels, lowered, lowname}
 use Rattle.dns_fields.proofs.{Stays.labels_stand, Stays.stays_name, Stays.end_within, Unique.unique}
 
-made : (x y : DomainName) → x.labels ≡ y.labels → x.fully_qualified ≡ y.fully_qualified → x ≡ y
+pub made : (x y : DomainName) → x.labels ≡ y.labels → x.fully_qualified ≡ y.fully_qualified → x ≡ y
 made x y e f = let both : (x.labels, x.fully_qualified) ≡ (y.labels, y.fully_qualified) = cc in
     ap (λ (p : List (List ℕ) × Bool). record { labels = p.0; fully_qualified = p.1 }) both
 
@@ -27,10 +27,7 @@ name_is a = record { labels = labels_stand a.stands; fits = a.fits }
 pub low_wire : (labels : List (List ℕ)) → wire (low_labels labels) ++ 0 ∷ [] ≡ lowered labels
 low_wire [] = refl
 low_wire (l ∷ labels) =
-    let n : length (map to_ascii_lowercase l) ≡ length l = length-map l to_ascii_lowercase in
-    ap (λ (t : List ℕ). length (map to_ascii_lowercase l) ∷ t) (append_assoc (map to_ascii_lowercase l) (wire (low_labels labels)) (0 ∷ []))
-    ∙ ap (λ (k : ℕ). k ∷ (map to_ascii_lowercase l ++ (wire (low_labels labels) ++ 0 ∷ []))) n
-    ∙ ap (λ (t : List ℕ). length l ∷ (map to_ascii_lowercase l ++ t)) (low_wire labels)
+    rw (length-map l to_ascii_lowercase, append_assoc (map to_ascii_lowercase l) (wire (low_labels labels)) (0 ∷ []), low_wire labels) refl
 
 lower_twice : (c : ℕ) → to_ascii_lowercase (to_ascii_lowercase c) ≡ to_ascii_lowercase c
 lower_twice c = grind (arith, nat_tests)

@@ -1,18 +1,18 @@
 -- Canonical octets of what stands in octets are octets.
-use Rattle.std.proofs.Common.{◌≡◌, ℕ, zero, suc, ◌+◌, ◌*◌, ◌/◌, ◌%◌, ◌<◌, ◌^◌, ◌⊎◌, inl, inr, List, [], ◌∷◌, ◌++◌, length, take, drop, map, refl, sym}
+use Rattle.std.proofs.Common.{◌≡◌, ℕ, zero, suc, ◌+◌, ◌*◌, ◌/◌, ◌%◌, ◌<◌, ◌^◌, ◌⊎◌, inl, inr, List, [], ◌∷◌, ◌++◌, length, take, drop, get_or, map, refl, sym}
 use Rattle.std.proofs.Common.{arith, subst}
 use Rattle.std.specs.{List.flat_map, List.AllByRecursion, List.range_with_len, Int.byte_at, Int.bytes_high_first, Char.to_ascii_lowercase}
 use Rattle.std.proofs.{lemmas.List.take_at, lemmas.List.drop_at, lemmas.Bool.Decides.nat_tests}
-use Rattle.std.proofs.lemmas.List.Elements.{All-nil, All-cons, All-head, All-tail, All-same, All-append, All-take, All-drop}
+use Rattle.std.proofs.lemmas.List.Elements.{All-nil, All-cons, All-head, All-tail, All-same, All-append, All-take, All-drop, All-map, All-weaker, All-from_get_or}
 use Rattle.dns_fields.specs.{Octets.AreOctets, Octets.At, Labels.AreLabels, Labels.wire, Labels.lowered, Names.LabelsStand, Names.pointer}
 use Rattle.dns_fields.specs.{Names.LabelsStand.whole, Names.LabelsStand.pointed, Sorting.sorted, Laws.OctetsLaw}
-use Rattle.dns_fields.specs.Pieces.{string, Numbered, piece, pieces, AllHeld, as_piece, OptionValue, Subnet, Plain, option_octets, OptionHeld}
-use Rattle.dns_fields.specs.Pieces.{ParameterValue, Mandatory, Alpn, NoDefaultAlpn, Port, Ipv4Hint, Ipv6Hint, Opaque, parameter_octets, IsBody}
+use Rattle.dns_fields.specs.Pieces.{Numbered, piece, pieces, AllHeld, as_piece, OptionValue, Subnet, Plain, option_octets, OptionHeld}
+use Rattle.dns_fields.specs.Pieces.{ParameterValue, Alpn, Port, parameter_octets, IsBody}
 use Rattle.dns_fields.specs.Pieces.{ParameterHeld}
-use Rattle.dns_fields.specs.Bitmaps.{Block, block, IsBlock, mark, keep, trimmed, types_octet, window, with_block, windows, minimal}
-use Rattle.dns_fields.specs.Fields.{Kind, Number, Octets, Name, Text, Texts, Rest, Options, Parameters, Bitmap, Value, Field, field_octets, canonical}
+use Rattle.dns_fields.specs.Bitmaps.{Block, block, IsBlock, mark, keep, trimmed, types_octet, window, minimal}
+use Rattle.dns_fields.specs.Fields.{Kind, Number, Name, Rest, Options, Parameters, Bitmap, Value, Field, field_octets, canonical}
 use Rattle.dns_fields.specs.Fields.{option_pieces, parameter_pieces, WholeOptions, CutOptions}
-use Rattle.dns_fields.proofs.{Stays.labels_stand, Sorted.octets_cmp, Sorted.sorted_all, Bitmaps.mark_small, Bitmaps.minimal_fit, Bitmaps.packed_less}
+use Rattle.dns_fields.proofs.{Stays.labels_stand, Sorted.octets_cmp, Sorted.sorted_all, Bitmaps.mark_small, Bitmaps.minimal_fit, Bitmaps.minimal_all, Bitmaps.packed_less}
 
 abbrev IsOctet : ℕ → Type 0
 IsOctet octet = octet < 256
@@ -88,9 +88,7 @@ lower_octet : (c : ℕ) → c < 256 → to_ascii_lowercase c < 256
 lower_octet c h = grind (arith, nat_tests)
 
 pub lower_octets : (s : List ℕ) → AreOctets s → AreOctets (map to_ascii_lowercase s)
-lower_octets [] a = AreOctets-nil
-lower_octets (c ∷ s) a = AreOctets-cons (to_ascii_lowercase c) (map to_ascii_lowercase s) (lower_octet c (AreOctets-head c s a))
-    (lower_octets s (AreOctets-tail c s a))
+lower_octets s a = All-map IsOctet to_ascii_lowercase s (All-weaker IsOctet (λ c. to_ascii_lowercase c < 256) lower_octet s a)
 
 pub lowered_octets : (labels : List (List ℕ)) → AreLabels labels → AllByRecursion AreOctets labels → AreOctets (lowered labels)
 lowered_octets [] h a = AreOctets-cons 0 [] (omega arith) AreOctets-nil
@@ -126,16 +124,9 @@ option_own_octets k d (Subnet f s c a) h o =
 option_own_octets k d (Plain s) h o = AreOctets-same d s h.1 o
 
 body_octets : (d : List ℕ) (v : ParameterValue) → IsBody d v → AreOctets d → AreOctets (parameter_octets v)
-body_octets d (Mandatory keys) h o = AreOctets-same d (parameter_octets (Mandatory keys)) h o
 body_octets d (Alpn names) h o = AreOctets-same d (parameter_octets (Alpn names)) h.1 o
-body_octets d NoDefaultAlpn h o = AreOctets-nil
 body_octets d (Port n) h o = AreOctets-number 2 n
-body_octets d (Ipv4Hint a) h o = AreOctets-same d (parameter_octets (Ipv4Hint a)) h o
-body_octets d (Ipv6Hint a) h o = AreOctets-same d (parameter_octets (Ipv6Hint a)) h o
-body_octets d (Opaque s) h o = AreOctets-same d s h o
-
-joined_octets : (xs : List (List ℕ)) → AllByRecursion AreOctets xs → AreOctets (flat_map (λ (x : List ℕ). x) xs)
-joined_octets xs a = AreOctets-flat_map (λ (x : List ℕ). x) xs a
+body_octets d v h o = AreOctets-same d (parameter_octets v) h o
 
 pub pieces_octets : (xs : List (Numbered (List ℕ))) → AllByRecursion AreOctets (map piece xs) → AreOctets (pieces xs)
 pieces_octets [] a = AreOctets-nil
@@ -150,8 +141,12 @@ options_octets m p v q n a (inr c) = subst (λ (l : List (Numbered OptionValue))
 
 window_octets : (v : List ℕ) (k : ℕ) → AreOctets (window v k)
 unfolding window types_octet
-window_octets v k = trimmed_octets (map (types_octet v k) (range_with_len 0 32)) (mapped (range_with_len 0 32))
+window_octets v k = trimmed_octets (map (types_octet v k) (range_with_len 0 32)) (All-map IsOctet (types_octet v k) (range_with_len 0 32)
+    (All-from_get_or (λ j. types_octet v k j < 256) (range_with_len 0 32) 0 (λ i l. octet (get_or (range_with_len 0 32) i 0))))
   where
+    octet : (j : ℕ) → types_octet v k j < 256
+    octet j = packed_less (λ b. mark v (256 * k + (8 * j + b))) (λ b. mark_small v (256 * k + (8 * j + b))) 8
+
     keep_octets : (x : ℕ) (xs : List ℕ) → x < 256 → AreOctets xs → AreOctets (keep x xs)
     keep_octets zero [] h a = AreOctets-nil
     keep_octets (suc n) [] h a = AreOctets-cons (suc n) [] h AreOctets-nil
@@ -160,20 +155,6 @@ window_octets v k = trimmed_octets (map (types_octet v k) (range_with_len 0 32))
     trimmed_octets : (xs : List ℕ) → AreOctets xs → AreOctets (trimmed xs)
     trimmed_octets [] a = AreOctets-nil
     trimmed_octets (x ∷ xs) a = keep_octets x (trimmed xs) (AreOctets-head x xs a) (trimmed_octets xs (AreOctets-tail x xs a))
-
-    mapped : (js : List ℕ) → AreOctets (map (types_octet v k) js)
-    mapped [] = AreOctets-nil
-    mapped (j ∷ js) = AreOctets-cons (types_octet v k j) (map (types_octet v k) js)
-        (packed_less (λ b. mark v (256 * k + (8 * j + b))) (λ b. mark_small v (256 * k + (8 * j + b))) 8) (mapped js)
-
-windows_octets : (v ks : List ℕ) → AllByRecursion (λ (b : Block). AreOctets b.1) (windows v ks)
-windows_octets v [] = tt
-windows_octets v (k ∷ ks) = with_octets k (window v k) (windows v ks) (window_octets v k) (windows_octets v ks)
-  where
-    with_octets : (k : ℕ) (w : List ℕ) (bs : List Block) → AreOctets w → AllByRecursion (λ (b : Block). AreOctets b.1) bs
-        → AllByRecursion (λ (b : Block). AreOctets b.1) (with_block k w bs)
-    with_octets k [] bs a h = h
-    with_octets k (x ∷ xs) bs a h = (a, h)
 
 blocks_octets : (bs : List Block) → AllByRecursion IsBlock bs → AllByRecursion (λ (b : Block). AreOctets b.1) bs → AreOctets (flat_map block bs)
 blocks_octets [] f a = AreOctets-nil
@@ -184,26 +165,23 @@ blocks_octets (b ∷ bs) f a =
     (blocks_octets bs f.1 a.1)
 
 pub minimal_octets : (v : List ℕ) → AreOctets (flat_map block (minimal v))
-unfolding minimal
-minimal_octets v = blocks_octets (minimal v) (minimal_fit v) (windows_octets v (range_with_len 0 256))
+minimal_octets v = blocks_octets (minimal v) (minimal_fit v) (minimal_all (λ (b : Block). AreOctets b.1) v (λ k l some. window_octets v k))
 
 -- ---- one field, and all
 
 pub field_octets_are : (m : List ℕ) (p : ℕ) (k : Kind) (v : Value k) (q : ℕ) → AreOctets m → Field m p k v q → AreOctets (field_octets k v)
 unfolding field_octets
 field_octets_are m p (Number w) v q a f = AreOctets-number w v
-field_octets_are m p (Octets n) v q a f = AreOctets-at m p v q a f.is.1
 field_octets_are m p Name v q a f = lowered_octets v.labels (labels_stand f.is.stands) (labels_octets a f.is.stands)
-field_octets_are m p Text v q a f = AreOctets-at m p (string v) q a f.is.1
-field_octets_are m p Texts v q a f = AreOctets-at m p (flat_map string v) q a f.is.1
 field_octets_are m p Rest v q a f = AreOctets-at m p v q a f.is
 field_octets_are m p Options v q a f =
     let all = options_octets m p v q _ a f.is in
-    joined_octets (sorted octets_cmp (map piece (option_pieces v))) (sorted_all octets_cmp AreOctets (map piece (option_pieces v)) all)
+    AreOctets-flat_map (λ x. x) (sorted octets_cmp (map piece (option_pieces v))) (sorted_all octets_cmp AreOctets (map piece (option_pieces v)) all)
 field_octets_are m p Parameters v q a f =
     pieces_octets (parameter_pieces v) (held_octets ParameterHeld parameter_octets (λ k d w h o. body_octets d w h.2 o) f.is.read v f.is.held
     (AreOctets-at m p (pieces f.is.read) q a f.is.at))
 field_octets_are m p Bitmap v q a f = minimal_octets v
+field_octets_are m p k v q a f = AreOctets-at m p _ q a f.is.1
 
 pub canonical_octets_are : OctetsLaw
 canonical_octets_are m p [] v e a f = AreOctets-nil

@@ -4,58 +4,34 @@ use Rattle.std.specs.{List.flat_map, List.AllByRecursion, Int.bytes_high_first}
 use Rattle.std.proofs.lemmas.List.{length-append, append-nil}
 use Rattle.dns_fields.specs.Pieces.{string, ParameterValue, Mandatory, Alpn, NoDefaultAlpn, Port, Ipv4Hint, Ipv6Hint, Opaque, parameter_octets}
 use Rattle.dns_fields.specs.Pieces.{IsBody, ParameterHeld, ParameterFits}
-use Rattle.dns_fields.proofs.{Numbers.length-bytes, Pieces.parts, Pieces.number_first}
+use Rattle.dns_fields.proofs.{Numbers.length-bytes, Pieces.parts, Pieces.joined_same, Pieces.number_first}
 
 -- ---- lists of parts of a known length
 
-string_first : (a b : List ℕ) (x y : List ℕ) → string a ++ x ≡ string b ++ y → (a ≡ b) × (x ≡ y)
-string_first a b x y e =
+string_first : (a b x y : List ℕ) → length a < 256 → length b < 256 → string a ++ x ≡ string b ++ y → (a ≡ b) × (x ≡ y)
+string_first a b x y p q e =
     let f : length a ∷ (a ++ x) ≡ length b ∷ (b ++ y) = e in
     let n : length a ≡ length b = cc in
     let t : a ++ x ≡ b ++ y = cc in
     parts a x b y n t
 
-pub strings_same : (a b : List (List ℕ)) → flat_map string a ≡ flat_map string b → a ≡ b
-strings_same [] [] e = refl
-strings_same [] (b ∷ bs) e = let f : [] ≡ string b ++ flat_map string bs = e in absurd cc
-strings_same (a ∷ as') [] e = let f : string a ++ flat_map string as' ≡ [] = e in absurd cc
-strings_same (a ∷ as') (b ∷ bs) e =
-    let h = string_first a b (flat_map string as') (flat_map string bs) e in
-    let rest = strings_same as' bs h.1 in
-    let first = h.0 in
-    cc
+pub strings_same : (a b : List (List ℕ)) → AllByRecursion (λ s. length s < 256) a → AllByRecursion (λ s. length s < 256) b
+    → flat_map string a ≡ flat_map string b → a ≡ b
+strings_same = joined_same string (λ s. length s < 256) (λ s h. omega arith) string_first
 
 keys_same : (a b : List ℕ) → AllByRecursion (λ k. k < 256 ^ 2) a → AllByRecursion (λ k. k < 256 ^ 2) b
     → flat_map (bytes_high_first 2) a ≡ flat_map (bytes_high_first 2) b → a ≡ b
-keys_same [] [] f g e = refl
-keys_same [] (b ∷ bs) f g e = let n : 0 ≡ length (bytes_high_first 2 b ++ flat_map (bytes_high_first 2) bs) = ap length e in
-    absurd (omega (arith, n, length-append (bytes_high_first 2 b) (flat_map (bytes_high_first 2) bs), length-bytes 2 b))
-keys_same (a ∷ as') [] f g e = let n : length (bytes_high_first 2 a ++ flat_map (bytes_high_first 2) as') ≡ 0 = ap length e in
-    absurd (omega (arith, n, length-append (bytes_high_first 2 a) (flat_map (bytes_high_first 2) as'), length-bytes 2 a))
-keys_same (a ∷ as') (b ∷ bs) f g e =
-    let h = number_first a b (flat_map (bytes_high_first 2) as') (flat_map (bytes_high_first 2) bs) f.0 g.0 e in
-    let rest = keys_same as' bs f.1 g.1 h.1 in
-    let first = h.0 in
-    cc
+keys_same = joined_same (bytes_high_first 2) (λ k. k < 256 ^ 2) (λ k h. omega (arith, length-bytes 2 k)) number_first
 
 groups_same : (n : ℕ) → 1 ≤ n → (a b : List (List ℕ)) → AllByRecursion (λ x. length x ≡ n) a → AllByRecursion (λ x. length x ≡ n) b
     → flat_map (λ x. x) a ≡ flat_map (λ x. x) b → a ≡ b
-groups_same n some [] [] f g e = refl
-groups_same n some [] (b ∷ bs) f g e = let k : 0 ≡ length (b ++ flat_map (λ x. x) bs) = ap length e in
-    absurd (omega (arith, k, g.0, length-append b (flat_map (λ x. x) bs)))
-groups_same n some (a ∷ as') [] f g e = let k : length (a ++ flat_map (λ x. x) as') ≡ 0 = ap length e in
-    absurd (omega (arith, k, f.0, length-append a (flat_map (λ x. x) as')))
-groups_same n some (a ∷ as') (b ∷ bs) f g e =
-    let h = parts a (flat_map (λ x. x) as') b (flat_map (λ x. x) bs) (f.0 ∙ sym g.0) e in
-    let rest = groups_same n some as' bs f.1 g.1 h.1 in
-    let first = h.0 in
-    cc
+groups_same n some = joined_same (λ x. x) (λ x. length x ≡ n) (λ x h. omega (arith, h)) (λ x y r s h k. parts x r y s (h ∙ sym k))
 
 -- ---- octets hold one value of a key, and a value's own octets hold it
 
 pub parameter_once : (k : ℕ) (d : List ℕ) (v w : ParameterValue) → ParameterHeld k d v → ParameterHeld k d w → v ≡ w
 parameter_once k d (Mandatory a) (Mandatory b) x y = ap Mandatory (keys_same a b x.1.1 y.1.1 (sym x.2 ∙ y.2))
-parameter_once k d (Alpn a) (Alpn b) x y = ap Alpn (strings_same a b (sym x.2.1 ∙ y.2.1))
+parameter_once k d (Alpn a) (Alpn b) x y = ap Alpn (strings_same a b x.1.1 y.1.1 (sym x.2.1 ∙ y.2.1))
 parameter_once k d NoDefaultAlpn NoDefaultAlpn x y = refl
 parameter_once k d (Port a) (Port b) x y = ap Port (number_first a b x.2.0 y.2.0 x.1 y.1 (sym x.2.1 ∙ y.2.1)).0
 parameter_once k d (Ipv4Hint a) (Ipv4Hint b) x y = ap Ipv4Hint (groups_same 4 (omega arith) a b x.1 y.1 (sym x.2 ∙ y.2))

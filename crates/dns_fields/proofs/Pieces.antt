@@ -1,7 +1,7 @@
 -- Pieces are of one list of numbers and octets, and what they hold is one list of values.
-use Rattle.std.proofs.Common.{◌≡◌, ℕ, ◌+◌, ◌<◌, ◌^◌, ⊎_elim, List, [], ◌∷◌, ◌++◌, length, take, drop, map, refl, sym, ap, ◌∙◌, arith, subst}
+use Rattle.std.proofs.Common.{◌≡◌, ℕ, ◌+◌, ◌<◌, ◌≤◌, ◌^◌, ⊎_elim, List, [], ◌∷◌, ◌++◌, length, take, drop, map, refl, sym, ap, ◌∙◌, arith, subst}
 use Rattle.std.proofs.Common.{append_assoc}
-use Rattle.std.specs.{List.AllByRecursion, Int.bytes_high_first}
+use Rattle.std.specs.{List.flat_map, List.AllByRecursion, Int.bytes_high_first}
 use Rattle.std.proofs.lemmas.List.{length-append, take_at, drop_at}
 use Rattle.dns_fields.specs.Pieces.{Numbered, piece, pieces, IsPiece, ArePieces, AllHeld, as_piece, HoldThemselves, IsCut}
 use Rattle.dns_fields.proofs.Numbers.{length-bytes, same_number}
@@ -13,6 +13,19 @@ parts a x b y n e = (
   sym (drop_at a x (length a) refl) ∙ ap (drop (length a)) e
       ∙ drop_at b y (length a) (sym n),
 )
+
+-- lists are told by their items' octets, where each item has some and they tell it, whatever is behind
+pub joined_same : {X : Type 0} (f : X → List ℕ) (P : X → Type 0) → ((x : X) → P x → 1 ≤ length (f x))
+    → ((x y : X) (r s : List ℕ) → P x → P y → f x ++ r ≡ f y ++ s → (x ≡ y) × (r ≡ s)) → (xs ys : List X) → AllByRecursion P xs → AllByRecursion P ys
+    → flat_map f xs ≡ flat_map f ys → xs ≡ ys
+joined_same f P some first [] [] p q e = refl
+joined_same f P some first [] (y ∷ ys) p q e = absurd (omega (arith, some y q.0, ap length e, length-append (f y) (flat_map f ys)))
+joined_same f P some first (x ∷ xs) [] p q e = absurd (omega (arith, some x p.0, ap length e, length-append (f x) (flat_map f xs)))
+joined_same f P some first (x ∷ xs) (y ∷ ys) p q e =
+    let h = first x y (flat_map f xs) (flat_map f ys) p.0 q.0 e in
+    let rest = joined_same f P some first xs ys p.1 q.1 h.1 in
+    let head = h.0 in
+    cc
 
 -- two octets of a number before anything else
 pub number_first : (a b : ℕ) (x y : List ℕ) → a < 256 ^ 2 → b < 256 ^ 2 → bytes_high_first 2 a ++ x ≡ bytes_high_first 2 b ++ y → (a ≡ b) × (x ≡ y)
@@ -52,12 +65,7 @@ pub no_piece : (x : Numbered (List ℕ)) (r : List ℕ) → [] ≡ piece x ++ r 
 no_piece x r e = let n : 0 ≡ length (piece x ++ r) = ap length e in omega (arith, n, length-append (piece x) r, length-piece x)
 
 pub pieces_same : (xs ys : List (Numbered (List ℕ))) → ArePieces xs → ArePieces ys → pieces xs ≡ pieces ys → xs ≡ ys
-pieces_same [] [] f g e = refl
-pieces_same [] (y ∷ ys) f g e = absurd (no_piece y (pieces ys) e)
-pieces_same (x ∷ xs) [] f g e = absurd (no_piece x (pieces xs) (sym e))
-pieces_same (x ∷ xs) (y ∷ ys) f g e =
-    let h = first_piece x y (pieces xs) (pieces ys) f.0 g.0 e in
-    ap (λ (z : Numbered (List ℕ)). z ∷ xs) h.0 ∙ ap (λ (zs : List (Numbered (List ℕ))). y ∷ zs) (pieces_same xs ys f.1 g.1 h.1)
+pieces_same = joined_same piece IsPiece (λ x f. omega (arith, length-piece x)) first_piece
 
 cut_some : (n : ℕ) → IsCut n [] → ⊥
 cut_some n c = ⊎_elim
@@ -100,13 +108,6 @@ module _ {V : Type 0} (Held : ℕ → List ℕ → V → Type 0) (octets : V →
       let values : a.1 ≡ b.1 = one b.0 x.1 a.1 b.1 (subst (λ (k : ℕ). Held k x.1 a.1) keys f.1) g.1 in
       let first : a ≡ b = ap (λ (k : ℕ). (k, a.1)) keys ∙ ap (λ (v : V). (b.0, v)) values in
       ap (λ (c : Numbered V). c ∷ as') first ∙ ap (λ (cs : List (Numbered V)). b ∷ cs) (held_same one xs as' bs f.2 g.2)
-
-  pub held_lawful : ((k : ℕ) (d : List ℕ) (v : V) → Held k d v → Held k (octets v) v) → (xs : List (Numbered (List ℕ))) (a : List (Numbered V))
-      → AllHeld Held xs a → HoldThemselves Held octets a
-  held_lawful own [] [] f = tt
-  held_lawful own [] (a ∷ as') f = absurd f
-  held_lawful own (x ∷ xs) [] f = absurd f
-  held_lawful own (x ∷ xs) (a ∷ as') f = (own a.0 x.1 a.1 f.1, held_lawful own xs as' f.2)
 
   -- what is asked of each value follows from its piece
   pub held_fit : (Fit : Numbered V → Type 0) → ((k : ℕ) (d : List ℕ) (v : V) → k < 256 ^ 2 → length d < 256 ^ 2 → Held k d v → Fit (k, v))

@@ -1,22 +1,12 @@
 -- Labels that stand in front of other octets.
 use Rattle.std.proofs.Common.{◌≡◌, ℕ, ◌≤◌, List, [], ◌∷◌, ◌++◌, length, refl, sym, ◌∙◌, ap, append_assoc, arith}
 use Rattle.std.proofs.lemmas.List.{append-nil}
-use Rattle.dns_fields.specs.Labels.{AreLabels, wire}
+use Rattle.dns_fields.specs.Labels.{IsLabel, AreLabels, wire}
+use Rattle.dns_fields.proofs.Pieces.{parts}
 
 -- no length of a label
 abbrev pub IsStop : ℕ → Type 0
 IsStop z = 1 ≤ z → 64 ≤ z
-
-pub split_same : (a b c d : List ℕ) → length a ≡ length b → a ++ c ≡ b ++ d → (a ≡ b) × (c ≡ d)
-split_same [] [] c d n e = (refl, e)
-split_same [] (y ∷ b) c d n e = absurd (omega arith)
-split_same (x ∷ a) [] c d n e = absurd (omega arith)
-split_same (x ∷ a) (y ∷ b) c d n e =
-    let h : x ≡ y = cc in
-    let t : a ++ c ≡ b ++ d = cc in
-    let k = split_same a b c d (omega arith) t in
-    let k0 : a ≡ b = k.0 in
-    (cc, k.1)
 
 pub wire-append : (a b : List (List ℕ)) → wire (a ++ b) ≡ wire a ++ wire b
 wire-append [] b = refl
@@ -25,6 +15,9 @@ wire-append (l ∷ a) b = ap (λ (t : List ℕ). length l ∷ (l ++ t)) (wire-ap
 pub AreLabels-append : (a b : List (List ℕ)) → AreLabels a → AreLabels b → AreLabels (a ++ b)
 AreLabels-append [] b h k = k
 AreLabels-append (l ∷ a) b h k = (h.0, AreLabels-append a b h.1 k)
+
+no_stop : (label : List ℕ) (z : ℕ) → IsLabel label → IsStop z → length label ≡ z → ⊥
+no_stop label z h stop e = omega (arith, stop (omega (arith, h.0, e)), h.0, h.1, e)
 
 pub record RestOf (front labels : List (List ℕ)) (s : List ℕ) (t : List ℕ) : Type 0 where
   pub rest : List (List ℕ)
@@ -36,15 +29,11 @@ pub record RestOf (front labels : List (List ℕ)) (s : List ℕ) (t : List ℕ)
 pub rest_of : (front labels : List (List ℕ)) (s b : List ℕ) (z : ℕ) → AreLabels front → AreLabels labels → IsStop z → wire front ++ s ≡ wire labels ++ z ∷ b
     → RestOf front labels s (z ∷ b)
 rest_of [] labels s b z hf hl stop e = record { rest = labels; joined = refl; are = hl; stands = e }
-rest_of (f ∷ front) [] s b z hf hl stop e =
-    let same : length f ≡ z = cc in
-    let lo : 1 ≤ length f = hf.0.0 in
-    let hi : length f ≤ 63 = hf.0.1 in
-    absurd (omega (arith, stop (omega arith)))
+rest_of (f ∷ front) [] s b z hf hl stop e = absurd (no_stop f z hf.0 stop cc)
 rest_of (f ∷ front) (l ∷ labels) s b z hf hl stop e =
     let same : length f ≡ length l = cc in
     let tails : (f ++ wire front) ++ s ≡ (l ++ wire labels) ++ z ∷ b = cc in
-    let halves = split_same f l (wire front ++ s) (wire labels ++ z ∷ b) same
+    let halves = parts f (wire front ++ s) l (wire labels ++ z ∷ b) same
     (sym (append_assoc f (wire front) s) ∙ tails ∙ append_assoc l (wire labels) (z ∷ b)) in
     let r = rest_of front labels s b z hf.1 hl.1 stop halves.1 in
     let first : f ≡ l = halves.0 in
@@ -53,11 +42,7 @@ rest_of (f ∷ front) (l ∷ labels) s b z hf hl stop e =
 
 pub no_labels : (rest : List (List ℕ)) (s t : List ℕ) (z : ℕ) → AreLabels rest → IsStop z → z ∷ s ≡ wire rest ++ t → (rest ≡ []) × (z ∷ s ≡ t)
 no_labels [] s t z h stop e = (refl, e)
-no_labels (l ∷ rest) s t z h stop e =
-    let same : z ≡ length l = cc in
-    let lo : 1 ≤ length l = h.0.0 in
-    let hi : length l ≤ 63 = h.0.1 in
-    absurd (omega (arith, stop (omega arith)))
+no_labels (l ∷ rest) s t z h stop e = absurd (no_stop l z h.0 stop cc)
 
 -- octets have one front of labels up to a stop
 pub same_run : (front labels : List (List ℕ)) (a b : List ℕ) (y z : ℕ) → AreLabels front → AreLabels labels → IsStop y → IsStop z

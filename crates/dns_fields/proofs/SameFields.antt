@@ -5,21 +5,14 @@ use Rattle.std.specs.{Cmp.Lexicographic.pointwise_decides, List.list_all, List.l
 use Rattle.std.specs.Cmp.{first_so, second_so, unsigned_Decides}
 use Rattle.std.proofs.lemmas.List.Sorted.{list_any-IsPermutation}
 use Rattle.dns_fields.specs.{Labels.lowname, Equal.kind_eq, Equal.values_eq}
-use Rattle.dns_fields.specs.Fields.{Kind, Number, Octets, Name, Text, Texts, Rest, Options, Parameters, Bitmap, Value, Values, SameField, Same}
+use Rattle.dns_fields.specs.Fields.{Kind, Name, Text, Texts, Options, Parameters, Value, Values, SameField, Same}
 use Rattle.dns_fields.specs.Fields.{is_emittable, all_emittable}
 use Rattle.dns_fields.specs.Pieces.{option_octets, option_emittable, parameters_emittable}
 use Rattle.dns_fields.proofs.EqualLaws.{field_decide}
 
 field_same : (k : Kind) (a b : Value k) → kind_eq k a b ≡ true → SameField k a b
-field_same (Number w) a b h = (field_decide (Number w) a b tt tt).0 h
-field_same (Octets n) a b h = (field_decide (Octets n) a b tt tt).0 h
 field_same Name a b h = record { is = record { low = (pointwise_decides unsigned_Decides (lowname a) (lowname b)).0 (first_so _ _ h) } }
-field_same Text a b h = (field_decide Text a b tt tt).0 h
-field_same Texts a b h = (field_decide Texts a b tt tt).0 h
-field_same Rest a b h = (field_decide Rest a b tt tt).0 h
-field_same Options a b h = (field_decide Options a b tt tt).0 h
-field_same Parameters a b h = (field_decide Parameters a b tt tt).0 h
-field_same Bitmap a b h = (field_decide Bitmap a b tt tt).0 h
+field_same k a b h = (field_decide k a b tt tt).0 h
 
 pub equal_same : (s : List Kind) (a b : Values s) → values_eq s a b ≡ true → Same s a b
 equal_same [] a b h = tt

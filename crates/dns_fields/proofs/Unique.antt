@@ -9,6 +9,10 @@ pointer_stop t = λ _. omega arith
 pub zero_stop : IsStop 0
 zero_stop = λ h. absurd (omega arith)
 
+-- what begins with an octet 0 begins with no pointer
+pub apart : (t : ℕ) {a b : List ℕ} → 0 ∷ a ≡ (192 + t / 256) ∷ b → ⊥
+apart t e = let h : 0 ≡ 192 + t / 256 = cc in omega arith
+
 pub same_target : (t u : ℕ) (a b : List ℕ) → pointer t ++ a ≡ pointer u ++ b → t ≡ u
 same_target t u a b e =
     let high : 192 + t / 256 ≡ 192 + u / 256 = cc in
@@ -22,13 +26,9 @@ unique {m} {p} {e} {f} {x} {y} (whole b hx sx ex) (whole b' hy sy ey) =
     let n : length (wire x) ≡ length (wire y) = ap (λ (t : List (List ℕ)). length (wire t)) same in
     (same, omega arith)
 unique {m} {p} {e} {f} {x} {y} (whole b hx sx ex) (pointed front rest t re b' hf sy lt lp r jy ey) =
-    let s = same_run x front b (t % 256 ∷ b') 0 (192 + t / 256) hx hf zero_stop (pointer_stop t) (sym sx ∙ sy) in
-    let h : 0 ≡ 192 + t / 256 = let w = s.1 in cc in
-    absurd (omega arith)
+    absurd (apart t (same_run x front b (t % 256 ∷ b') 0 (192 + t / 256) hx hf zero_stop (pointer_stop t) (sym sx ∙ sy)).1)
 unique {m} {p} {e} {f} {x} {y} (pointed front rest t re b' hf sy lt lp r jy ey) (whole b hx sx ex) =
-    let s = same_run y front b (t % 256 ∷ b') 0 (192 + t / 256) hx hf zero_stop (pointer_stop t) (sym sx ∙ sy) in
-    let h : 0 ≡ 192 + t / 256 = let w = s.1 in cc in
-    absurd (omega arith)
+    absurd (apart t (same_run y front b (t % 256 ∷ b') 0 (192 + t / 256) hx hf zero_stop (pointer_stop t) (sym sx ∙ sy)).1)
 unique {m} {p} {e} {f} {x} {y} (pointed front rest t re b hf sx lt lp r jx ex) (pointed front' rest' t' re' b' hf' sy lt' lp' r' jy ey) =
     let s = same_run front front' (t % 256 ∷ b) (t' % 256 ∷ b') (192 + t / 256) (192 + t' / 256) hf hf' (pointer_stop t) (pointer_stop t') (sym sx ∙ sy) in
     let same : front ≡ front' = s.0 in

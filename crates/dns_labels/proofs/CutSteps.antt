@@ -7,7 +7,7 @@ use Rattle.dns_fields.specs.{Labels.AreLabels, Labels.wire, Names.LabelsStand, N
 use Rattle.dns_labels.specs.{Labels.AreNameOctets, Labels.labels_of, Reading.stop_octets}
 use Rattle.dns_labels.specs.Emission.{StandsFor, CutAt, IsNameCut, LeadsTo}
 use Rattle.dns_fields.proofs.{Stays.stands_before, Runs.wire-append, Runs.AreLabels-append}
-use Rattle.dns_labels.proofs.Octets.{labels_of-wire}
+use Rattle.dns_labels.proofs.Octets.{same_wire}
 
 pub cut_start : (octets : List ℕ) (labels : List (List ℕ)) → AreLabels labels → octets ≡ wire labels → CutAt octets 0
 cut_start octets labels are is =
@@ -15,9 +15,6 @@ cut_start octets labels are is =
 
 pub cut_none : (octets : List ℕ) → AreNameOctets octets → CutAt octets 0
 cut_none octets n = cut_start octets (labels_of octets) n.are n.same
-
-same_wire : (a b : List (List ℕ)) → wire a ≡ wire b → a ≡ b
-same_wire a b e = sym (labels_of-wire a) ∙ ap (λ (x : List ℕ). labels_of x) e ∙ labels_of-wire b
 
 -- no tail was found
 pub cut_all : (message octets : List ℕ) (cut : ℕ) → CutAt octets cut → length octets ≤ cut → IsNameCut message octets cut None
@@ -57,9 +54,8 @@ cut_next octets cut front (l ∷ rest) hf hr tf dr some =
     let part : take (length l + 1) (wire (l ∷ rest)) ≡ length l ∷ l = take_at (length l ∷ l) (wire rest) (length l + 1) (omega arith) in
     let left : drop (length l + 1) (wire (l ∷ rest)) ≡ wire rest = drop_at (length l ∷ l) (wire rest) (length l + 1) (omega arith) in
     let one : wire (l ∷ []) ≡ length l ∷ l = ap (λ (t : List ℕ). length l ∷ t) (append-nil l) in
-    let t : take (cut + (length l + 1)) octets ≡ wire front ++ wire (l ∷ []) = take-add cut (length l + 1) octets
-    ∙ ap (λ (x : List ℕ). x ++ take (length l + 1) (drop cut octets)) tf ∙ ap (λ (x : List ℕ). wire front ++ take (length l + 1) x) dr
-    ∙ ap (λ (x : List ℕ). wire front ++ x) (part ∙ sym one) in
+    let t : take (cut + (length l + 1)) octets ≡ wire front ++ wire (l ∷ []) =
+    take-add cut (length l + 1) octets ∙ rw (tf, dr, one) (ap (λ (x : List ℕ). wire front ++ x) part) in
     let d : drop (cut + (length l + 1)) octets ≡ wire rest = sym (drop-drop (length l + 1) cut octets) ∙ ap (λ (x : List ℕ). drop (length l + 1) x) dr ∙ left in
     rw n (record {
       front = front ++ l ∷ [];
@@ -121,7 +117,7 @@ pub cut_stands : {old new octets : List ℕ} {cut : ℕ} {target : Option ℕ} �
 cut_stands {old} {new} {octets} {cut} {target} n is e =
     let k = is.cut in
     let f : new ≡ old ++ (wire k.front ++ stop_octets target) = e ∙ ap (λ (x : List ℕ). old ++ (x ++ stop_octets target)) k.front_is in
-    let w : wire (k.front ++ k.rest) ≡ octets = wire-append k.front k.rest ∙ ap (λ (x : List ℕ). x ++ wire k.rest) (sym k.front_is)
-    ∙ ap (λ (x : List ℕ). take cut octets ++ x) (sym k.rest_is) ∙ take-append-drop cut octets in
+    let w : wire (k.front ++ k.rest) ≡ octets =
+    wire-append k.front k.rest ∙ rw (← k.front_is, ← k.rest_is) (take-append-drop cut octets) in
     let l : k.front ++ k.rest ≡ labels_of octets = same_wire (k.front ++ k.rest) (labels_of octets) (w ∙ n.same) in
     subst (λ (x : List (List ℕ)). LabelsStand new (length old) x (length new)) l (leads_stands old new k.front k.rest target k.are_front f is.leads)

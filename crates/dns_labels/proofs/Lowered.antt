@@ -2,13 +2,13 @@
 use Rattle.std.proofs.Common.{◌≡◌, ◌↔◌, IsTrue, ℕ, ◌+◌, ◌<◌, ◌≤◌, take, get_or, Bool, true, List, [], ◌∷◌, ◌++◌, length, map, refl, sym, ◌∙◌, ap}
 use Rattle.std.proofs.Common.{append_assoc, arith}
 use Rattle.std.proofs.{Math.Bool.and-true, lemmas.Bool.Decides.nat_tests, lemmas.Bool.Decides.same_from_decides, lemmas.Slice.Eq.bytes_eq-Decides}
-use Rattle.std.proofs.lemmas.List.{length-map, map-append, append_cancel_right, take_more, take_more_set}
+use Rattle.std.proofs.lemmas.List.{map-append, append_cancel_right, take_more, take_more_set}
 use Rattle.std.specs.Prelude.{slice_set, ◌&&◌}
 use Rattle.std.specs.{Str.bytes_eq, Char.to_ascii_lowercase, Cmp.Lexicographic.slice_cmp, declared.cmp.Ordering.Ordering}
 use Rattle.std.specs.Ordering.{nat_cmp, ordering_then}
-use Rattle.dns_fields.specs.Labels.{AreLabels, wire, lowered}
+use Rattle.dns_fields.{specs.Labels.AreLabels, specs.Labels.wire, specs.Labels.low_labels, specs.Labels.lowered, proofs.NameLaws.low_wire}
 use Rattle.dns_labels.specs.{Labels.labels_of, Labels.AreNameOctets, Comparing.lowered_octets}
-use Rattle.dns_labels.proofs.Octets.{labels_of-wire}
+use Rattle.dns_labels.proofs.Octets.{same_wire}
 
 kept : (n : ℕ) → n ≤ 63 → to_ascii_lowercase n ≡ n
 kept n h = grind (arith, nat_tests)
@@ -17,12 +17,7 @@ lowered-wire : (labels : List (List ℕ)) → AreLabels labels → lowered label
 lowered-wire [] h = refl
 lowered-wire (l ∷ labels) h =
     let f : List ℕ → List ℕ = map to_ascii_lowercase in
-    let k : to_ascii_lowercase (length l) ≡ length l = kept (length l) h.0.1 in
-    let m : f (l ++ wire labels) ++ 0 ∷ [] ≡ f l
-    ++ (f (wire labels) ++ 0 ∷ []) = ap (λ (t : List ℕ). t ++ 0 ∷ []) (map-append to_ascii_lowercase l (wire labels))
-    ∙ append_assoc (f l) (f (wire labels)) (0 ∷ []) in
-    ap (λ (t : List ℕ). length l ∷ (f l ++ t)) (lowered-wire labels h.1) ∙ ap (λ (t : List ℕ). length l ∷ t) (sym m)
-    ∙ ap (λ (n : ℕ). n ∷ (f (l ++ wire labels) ++ 0 ∷ [])) (sym k)
+    rw (kept (length l) h.0.1, map-append to_ascii_lowercase l (wire labels), append_assoc (f l) (f (wire labels)) (0 ∷ []), lowered-wire labels h.1) refl
 
 -- a name's canonical octets, from its octets
 pub lowered-of : (octets : List ℕ) → AreNameOctets octets → lowered (labels_of octets) ≡ lowered_octets octets
@@ -57,27 +52,12 @@ with_mark a b r m h k same t = rw same (same_lowered a b r h k t ∙ sym (and-tr
 -- one octet more is lowered
 pub lowered_more : (octets low : List ℕ) (i x : ℕ) → i < length octets → i < length low → take i low ≡ map to_ascii_lowercase (take i octets)
     → x ≡ to_ascii_lowercase (get_or octets i 0) → take (i + 1) (slice_set low i x) ≡ map to_ascii_lowercase (take (i + 1) octets)
-lowered_more octets low i x h k e v =
-    let t : take (i + 1) octets ≡ take i octets ++ get_or octets i 0 ∷ [] = take_more octets i 0 h in
-    take_more_set low i x k ∙ ap (λ (y : List ℕ). y ++ x ∷ []) e ∙ ap (λ (y : ℕ). map to_ascii_lowercase (take i octets) ++ y ∷ []) v
-    ∙ sym (map-append to_ascii_lowercase (take i octets) (get_or octets i 0 ∷ [])) ∙ ap (λ (y : List ℕ). map to_ascii_lowercase y) (sym t)
-
-low_wire : (labels : List (List ℕ)) → wire (map (map to_ascii_lowercase) labels) ++ 0 ∷ [] ≡ lowered labels
-low_wire [] = refl
-low_wire (l ∷ labels) =
-    let low : List ℕ = map to_ascii_lowercase l in
-    let n : length low ≡ length l = length-map l to_ascii_lowercase in
-    ap (λ (t : List ℕ). length low ∷ t) (append_assoc low (wire (map (map to_ascii_lowercase) labels)) (0 ∷ []))
-    ∙ ap (λ (k : ℕ). k ∷ (low ++ (wire (map (map to_ascii_lowercase) labels) ++ 0 ∷ []))) n
-    ∙ ap (λ (t : List ℕ). length l ∷ (low ++ t)) (low_wire labels)
-
-of_lowered : (a b : List (List ℕ)) → lowered a ≡ lowered b → map (map to_ascii_lowercase) a ≡ map (map to_ascii_lowercase) b
-of_lowered a b e =
-    let x : List (List ℕ) = map (map to_ascii_lowercase) a in
-    let y : List (List ℕ) = map (map to_ascii_lowercase) b in
-    let w : wire x ≡ wire y = append_cancel_right (wire x) (wire y) (0 ∷ []) (low_wire a ∙ e ∙ sym (low_wire b)) in
-    sym (labels_of-wire x) ∙ ap (λ (o : List ℕ). labels_of o) w ∙ labels_of-wire y
+lowered_more octets low i x h k e v = take_more_set low i x k
+    ∙ rw (e, v, take_more octets i 0 h) (sym (map-append to_ascii_lowercase (take i octets) (get_or octets i 0 ∷ [])))
 
 -- canonical octets are the same where the lowered labels are
 pub low_labels_same : (a b : List (List ℕ)) → (lowered a ≡ lowered b) ↔ (map (map to_ascii_lowercase) a ≡ map (map to_ascii_lowercase) b)
-low_labels_same a b = (of_lowered a b, λ e. sym (low_wire a) ∙ ap (λ (l : List (List ℕ)). wire l ++ 0 ∷ []) e ∙ low_wire b)
+low_labels_same a b = (
+  λ e. same_wire (low_labels a) (low_labels b) (append_cancel_right (wire (low_labels a)) (wire (low_labels b)) (0 ∷ []) (low_wire a ∙ e ∙ sym (low_wire b))),
+  λ e. sym (low_wire a) ∙ ap (λ (l : List (List ℕ)). wire l ++ 0 ∷ []) e ∙ low_wire b,
+)

@@ -34,12 +34,13 @@ label_set {old} {begun} {new} {start} {count} b a s n some few =
     }
 
 -- a label without octets was read, so no label stands there
-pub label_empty : {text : List ℕ} {taken : ℕ} {begun new : List ℕ} → AddsOctets text taken begun new → length new ≤ length begun → (label t rest : List ℕ)
-    → LabelText label t → text ≡ t ++ rest → IsLabelEnd rest → IsLabel label → ⊥
-label_empty {text} {taken} {begun} a none label t rest lt e end is =
+pub label_empty : (old rest : List ℕ) {text : List ℕ} {taken : ℕ} {begun new : List ℕ} {start count : ℕ} → begun ≡ old ++ 0 ∷ [] → AddsOctets text taken begun new
+    → start ≡ length old → count ≡ length new - start - 1 → count ≡ 0 → {label t : List ℕ} → LabelText label t → text ≡ t ++ rest → IsLabelEnd rest
+    → IsLabel label → ⊥
+label_empty old rest {text} {taken} {begun} b a s n none {label} {t} lt e end is =
     let u = one_label (drop taken text) rest a.reads lt (take-append-drop taken text ∙ e) a.ends end in
     let u0 : a.label ≡ label = u.0 in
-    omega (arith, ap length a.octets, length-append begun a.label, ap length u0, is.0)
+    omega (arith, ap length a.octets, length-append begun a.label, ap length b, length-append old (0 ∷ []), ap length u0, is.0)
 
 -- labels of which the first were read
 pub record NameLeft (labels : List (List ℕ)) (mark : Bool) (front : List (List ℕ)) (text : List ℕ) : Type 0 where
@@ -105,8 +106,7 @@ module _ {text : List ℕ} {at taken : ℕ} {old new : List ℕ} (s : NameSoFar 
   labels_are = AreLabels-append s.front (a.label ∷ []) s.are (a.is_label, tt)
 
   octets_are : new ≡ wire (s.front ++ a.label ∷ [])
-  octets_are = a.octets ∙ sym (wire-append s.front (a.label ∷ []) ∙ ap (λ (x : List ℕ). x ++ length a.label ∷ (a.label ++ [])) (sym s.same)
-      ∙ ap (λ (x : List ℕ). old ++ length a.label ∷ x) (append-nil a.label))
+  octets_are = a.octets ∙ sym (wire-append s.front (a.label ∷ []) ∙ rw (← s.same, append-nil a.label) refl)
 
   parts : drop at text ≡ take taken (drop at text) ++ drop (at + taken) text
   parts = cut_off text at taken refl

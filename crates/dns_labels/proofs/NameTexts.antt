@@ -9,6 +9,7 @@ use Rattle.dns_labels.specs.{Text.printed, Text.label_text, Text.joined_text, Te
 use Rattle.dns_labels.specs.{Text.OctetText.quoted, Text.LabelText.no_octet, Text.LabelText.octet, Text.LabelsText.last, Text.LabelsText.dotted}
 use Rattle.dns_labels.specs.{Text.LabelsText.joined, Text.MarkedText.root, Text.MarkedText.nothing, Text.MarkedText.labelled}
 use Rattle.dns_labels.proofs.{TextSteps.printed_text, LabelSteps.one_octet}
+use Rattle.dns_fields.proofs.NameLaws.{made}
 
 -- no label ends where an octet's text begins
 octet_no_end : (n : ℕ) (f z : List ℕ) → OctetText n f → IsLabelEnd (f ++ z) → ⊥
@@ -112,25 +113,15 @@ one_marked (labelled ls) root h k = absurd (labels_no_end ls h refl)
 one_marked (labelled ls) nothing h k = absurd (labels_no_end ls h tt)
 one_marked {a} {b} (labelled ls) (labelled ks) h k = one_labels (length a) (omega arith) ls ks h k
 
-made : (x y : DomainName) → x.labels ≡ y.labels → x.fully_qualified ≡ y.fully_qualified → x ≡ y
-made x y e f = let both : (x.labels, x.fully_qualified) ≡ (y.labels, y.fully_qualified) = cc in
-    ap (λ (p : List (List ℕ) × Bool). record { labels = p.0; fully_qualified = p.1 }) both
-
 pub one_name : (text : List ℕ) (x y : DomainName) → IsNameText x text → IsNameText y text → x ≡ y
 one_name text x y a b = let u = one_marked a.reads b.reads a.is_name.labels b.is_name.labels in made x y u.0 u.1
-
-head_octet : (c : ℕ) (label : List ℕ) → AreOctets (c ∷ label) → c < 256
-head_octet c label h = All-head (λ (x : ℕ). x < 256) c label h
 
 head_label : (label : List ℕ) (labels : List (List ℕ)) → All AreOctets (label ∷ labels) → AreOctets label
 head_label label labels h = All-head AreOctets label labels h
 
-tail_labels : (label : List ℕ) (labels : List (List ℕ)) → All AreOctets (label ∷ labels) → All AreOctets labels
-tail_labels label labels h = All-tail AreOctets label labels h
-
 pub label_reads : (label : List ℕ) → AreOctets label → LabelText label (label_text label)
 label_reads [] h = no_octet
-label_reads (c ∷ label) h = octet (printed c) (label_text label) (printed_text c (head_octet c label h))
+label_reads (c ∷ label) h = octet (printed c) (label_text label) (printed_text c (All-head (λ (x : ℕ). x < 256) c label h))
     (label_reads label (All-tail (λ (x : ℕ). x < 256) c label h)) refl
 
 labels_read : (label : List ℕ) (labels : List (List ℕ)) (mark : Bool) → All AreOctets (label ∷ labels)
@@ -139,7 +130,7 @@ labels_read label [] true h = dotted (label_text label) (label_reads label (head
     (ap (λ (t : List ℕ). t ++ 46 ∷ []) (append-nil (label_text label)))
 labels_read label [] false h = rw (append-nil (joined_text (label ∷ []))) (rw (append-nil (label_text label)) (last (label_reads label (head_label label [] h))))
 labels_read label (next ∷ labels) mark h = joined (label_text label) (name_text (record { labels = next ∷ labels; fully_qualified = mark }))
-    (label_reads label (head_label label (next ∷ labels) h)) (labels_read next labels mark (tail_labels label (next ∷ labels) h))
+    (label_reads label (head_label label (next ∷ labels) h)) (labels_read next labels mark (All-tail AreOctets label (next ∷ labels) h))
     (append_assoc (label_text label) (46 ∷ joined_text (next ∷ labels)) (if mark then 46 ∷ [] else []))
 
 marked_reads : (labels : List (List ℕ)) (mark : Bool) → All AreOctets labels

@@ -30,6 +30,9 @@ second_is (l ∷ front) label others h = second_is front label others h.1
 pub labels_of-wire : (labels : List (List ℕ)) → labels_of (wire labels) ≡ labels
 labels_of-wire labels = labels_in-wire (length (wire labels)) labels (omega arith)
 
+pub same_wire : (a b : List (List ℕ)) → wire a ≡ wire b → a ≡ b
+same_wire a b e = sym (labels_of-wire a) ∙ ap (λ (x : List ℕ). labels_of x) e ∙ labels_of-wire b
+
 pub labels_from : (octets : List ℕ) (labels : List (List ℕ)) → octets ≡ wire labels → labels_of octets ≡ labels
 labels_from octets labels e = rw e (labels_of-wire labels)
 

@@ -4,7 +4,7 @@ use Rattle.std.proofs.Common.{◌∙◌, ap, subst, append_assoc, arith, length-
 use Rattle.std.proofs.{lemmas.List.append-nil, Math.Seq.take-append_seam}
 use Rattle.dns_fields.specs.{Labels.wire, Labels.FitsName, Names.LabelsStand, Names.LabelsStand.whole, Names.LabelsStand.pointed}
 use Rattle.dns_labels.specs.Reading.{IsRun, AddsRun, IsNameAt}
-use Rattle.dns_fields.proofs.{Runs.same_run, Runs.wire-append, Unique.zero_stop, Unique.pointer_stop, Unique.same_target}
+use Rattle.dns_fields.proofs.{Runs.same_run, Runs.wire-append, Unique.zero_stop, Unique.pointer_stop, Unique.apart, Unique.same_target}
 use Rattle.dns_labels.proofs.{Octets.wire_length, ReadingSteps.SoFar, ReadingSteps.at_zero}
 
 -- these labels stand from where the run that began at this place leads
@@ -31,13 +31,9 @@ stands_run {w} {p} {end} {e} {front} {labels} None r (whole b h s ends) =
     let k = same_run front labels r.behind b 0 0 r.are h zero_stop zero_stop (sym r.stands ∙ s) in
     record { rest = []; joined = sym k.0 ∙ sym (append-nil front); stands = refl }
 stands_run {w} {p} {end} {e} {front} {labels} (Some t) r (whole b h s ends) =
-    let k = same_run front labels (t % 256 ∷ r.behind) b (192 + t / 256) 0 r.are h (pointer_stop t) zero_stop (sym r.stands ∙ s) in
-    let bad : 192 + t / 256 ≡ 0 = let w = k.1 in cc in
-    absurd (omega arith)
+    absurd (apart t (same_run labels front b (t % 256 ∷ r.behind) 0 (192 + t / 256) h r.are zero_stop (pointer_stop t) (sym s ∙ r.stands)).1)
 stands_run {w} {p} {end} {e} {front} {labels} None r (pointed f rest t re b h s lt lp st j ends) =
-    let k = same_run front f r.behind (t % 256 ∷ b) 0 (192 + t / 256) r.are h zero_stop (pointer_stop t) (sym r.stands ∙ s) in
-    let bad : 0 ≡ 192 + t / 256 = let w = k.1 in cc in
-    absurd (omega arith)
+    absurd (apart t (same_run front f r.behind (t % 256 ∷ b) 0 (192 + t / 256) r.are h zero_stop (pointer_stop t) (sym r.stands ∙ s)).1)
 stands_run {w} {p} {end} {e} {front} {labels} (Some u) r (pointed f rest t re b h s lt lp st j ends) =
     let k = same_run front f (u % 256 ∷ r.behind) (t % 256 ∷ b) (192 + u / 256) (192 + t / 256) r.are h (pointer_stop u) (pointer_stop t) (sym r.stands ∙ s) in
     let target : t ≡ u = same_target t u b r.behind (sym k.1) in

@@ -38,18 +38,16 @@ cut_wrote {message} {old} {part} {new} {octets} {cut} {target} {stop} same n k w
     }
 
 -- a pointer to where the name stands already wrote it
-pub pointer_wrote : {mode : RDataEncoding} {old new octets : List ℕ} {place : ℕ} → mode ≡ modes.StandardRecord → AreNameOctets octets
-    → 0 < length octets → place < 16384 → StandsFor old place octets → new ≡ old ++ pointer place → (mark : Bool)
-    → NameWrote mode old (name_of octets mark) new
-pointer_wrote {old} {octets} {place} is n some low s e = cut_wrote refl n (whole_found old octets place n some low s)
+pub pointer_wrote : {mode : RDataEncoding} {old new octets : List ℕ} (place : ℕ) → new ≡ old ++ pointer place → StandsFor old place octets
+    → mode ≡ modes.StandardRecord → AreNameOctets octets → 0 < length octets → place < 16384 → (mark : Bool) → NameWrote mode old (name_of octets mark) new
+pointer_wrote {old = old} {octets = octets} place e s is n some low = cut_wrote refl n (whole_found old octets place n some low s)
     (λ other. absurd (other is)) (sym (append-nil old)) refl e
 
 -- its octets and a 0 wrote it
-pub whole_wrote : {mode : RDataEncoding} {old new octets : List ℕ} → AreNameOctets octets → new ≡ old ++ (octets ++ 0 ∷ []) → (mark : Bool)
-    → NameWrote mode old (name_of octets mark) new
-whole_wrote {old} {octets} n e =
-    cut_wrote {part = old ++ octets} refl n (cut_whole old octets n) (λ _. (refl, refl))
-    (ap (λ (x : List ℕ). old ++ x) (sym (take_all (length octets) octets (omega arith)))) refl (e ∙ sym (append_assoc old octets (0 ∷ [])))
+pub whole_wrote : {mode : RDataEncoding} {old kept part new octets : List ℕ} → AreNameOctets octets → new ≡ part ++ 0 ∷ [] → part ≡ kept ++ octets → kept ≡ old
+    → (mark : Bool) → NameWrote mode old (name_of octets mark) new
+whole_wrote {old = old} {octets = octets} n e p k =
+    cut_wrote refl n (cut_whole old octets n) (λ _. (refl, refl)) (p ∙ rw (k, take_all (length octets) octets (omega arith)) refl) refl e
 
 -- an emission that lacks room lacks it for the whole name
 pub lacks_room : {message old octets : List ℕ} {cut limit : ℕ} {target : Option ℕ} → message ≡ old → IsNameCut message octets cut target

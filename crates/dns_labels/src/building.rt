@@ -11,6 +11,7 @@ use crate::error::NameError;
 ///
 /// The error is [`Invalid`](NameError::Invalid) where the label has no octet or more than 63, or where there would be
 /// more than 255 octets with the 0 at the end. After an error the octets are as before.
+#[tactic(auto, using(crate::proofs::Built::label_joined, crate::proofs::Built::label_fits))]
 pub fn append_label(octets: &mut Vec<u8>, label: &[u8]) -> Result<(), NameError>
     requires { AreNameOctets octets.old.items }
     ensures ok { OnOk result (labels_of octets.new.items ≡ labels_of octets.old.items ++ label.now ∷ []) }
@@ -33,6 +34,7 @@ pub fn append_label(octets: &mut Vec<u8>, label: &[u8]) -> Result<(), NameError>
 ///
 /// The error is [`Invalid`](NameError::Invalid) where there would be more than 255 octets with the 0 at the end. After
 /// an error the octets are as before.
+#[tactic(auto, using(crate::proofs::Built::octets_joined, crate::proofs::Built::octets_fit))]
 pub fn append_octets(octets: &mut Vec<u8>, other: &[u8]) -> Result<(), NameError>
     requires octets { AreNameOctets octets.old.items }
     requires other { AreNameOctets other.now }

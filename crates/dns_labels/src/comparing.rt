@@ -10,6 +10,7 @@ use std::hash::Hasher;
 /// The first difference decides, with A to Z lowered, and a beginning is less.
 ///
 /// A length octet is less than `A`, so this orders names' octets as their canonical octets.
+#[tactic(auto, using(crate::proofs::ComparingSteps::ended, crate::proofs::ComparingSteps::past_shorter))]
 pub fn compare_lowered(a: &[u8], b: &[u8]) -> Ordering
     ensures { result ≡ slice_cmp nat_cmp (map to_ascii_lowercase a.now) (map to_ascii_lowercase b.now) }
 {

@@ -9,6 +9,7 @@ use dns_types::comparing::{same_middle, same_octets};
 
 /// How many of the octets stand as labels in the message, up to an octet 0 or a pointer, and the pointer's
 /// place.
+#[tactic(auto, using(crate::proofs::WritingSteps::one_matched))]
 fn match_run(message: &[u8], place: usize, octets: &[u8]) -> Option<(usize, Option<usize>)>
     requires place { place ≤ length message.now }
     requires short { length octets.now ≤ 254 }
@@ -50,6 +51,7 @@ fn match_run(message: &[u8], place: usize, octets: &[u8]) -> Option<(usize, Opti
 /// Whether the octets, which are labels, stand in the message from that place as they are, with an octet 0 behind them: so
 /// most tails stand that are found.
 #[inline]
+#[tactic(auto, using(crate::proofs::Tails::tail_whole))]
 pub(crate) fn stands_whole(message: &[u8], place: usize, octets: &[u8]) -> bool
     requires { (labels : List (List ℕ)) × AreLabels labels × (octets.now ≡ wire labels) }
     ensures { OnTrue result (StandsFor message.now place octets.now) }

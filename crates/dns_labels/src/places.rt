@@ -358,6 +358,7 @@ impl Places {
 
     // Where the longest tail behind the first label begins that stands in the message already, and its place.
     #[inline(never)]
+    #[tactic(auto, using(crate::proofs::CutSteps::cut_none, crate::proofs::CutSteps::cut_more))]
     fn shorter_tail(&self, message: &[u8], octets: &[u8], hash: u64) -> (usize, Option<usize>)
         requires { AreNameOctets octets.now }
         ensures { IsNameCut message.now octets.now result.0 result.1 }

@@ -18,6 +18,7 @@ struct Run {
 }
 
 /// Reads labels up to an octet 0 or a pointer.
+#[tactic(auto, using(crate::proofs::ReadingSteps::at_pointer, crate::proofs::ReadingSteps::so_far_none))]
 fn read_run(message: &[u8], place: usize, octets: &mut NameBuffer) -> Option<Run>
     requires { place ≤ length message.now }
     ensures some { IfSome result (λ r. AddsRun message.now place r.next r.end octets.old octets.new) }

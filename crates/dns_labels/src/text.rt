@@ -71,6 +71,7 @@ fn read_octet(text: &[u8]) -> Option<(u8, usize)>
 
 /// Reads the octets of a label up to a dot or the text's end, and answers how much of the text they take, or why it is
 /// no label.
+#[tactic(auto, using(crate::proofs::LabelSteps::label_none))]
 fn read_octets(text: &[u8], octets: &mut NameBuffer) -> Result<usize, &'static str>
     ensures some { IfOk result (λ taken. AddsOctets text.now taken octets.old octets.new) }
     ensures short { length octets.new ≤ length octets.old + 63 }
@@ -101,6 +102,7 @@ fn read_octets(text: &[u8], octets: &mut NameBuffer) -> Result<usize, &'static s
 
 /// Reads a label up to a dot or the text's end, with its length octet, and answers how much of the text it
 /// takes, or why it is no label.
+#[tactic(auto, using(crate::proofs::NameSteps::label_set, crate::proofs::NameSteps::label_empty))]
 fn read_label(text: &[u8], octets: &mut NameBuffer) -> Result<usize, &'static str>
     ensures some { IfOk result (λ taken. AddsLabel text.now taken octets.old octets.new) }
     ensures room { length octets.new ≤ 254 }
@@ -122,6 +124,7 @@ fn read_label(text: &[u8], octets: &mut NameBuffer) -> Result<usize, &'static st
 }
 
 /// Reads the octets of a name, and answers whether it is fully qualified, or why the text is none of a name.
+#[tactic(auto, using(crate::proofs::NameSteps::name_none, crate::proofs::NameSteps::reads_nothing, crate::proofs::NameSteps::reads_root))]
 fn read_name(text: &[u8], octets: &mut NameBuffer) -> Result<bool, &'static str>
     requires { octets.old ≡ [] }
     ensures some { IfOk result (λ mark. AreNameOctets octets.new × IsNameText (name_of octets.new mark) text.now) }

@@ -131,6 +131,7 @@ pub fn write_name(
 /// The same of a name that stands at this place, which was noted, and so were its tails: the least place serves, so nothing
 /// is noted.
 #[inline]
+#[tactic(auto, using(crate::proofs::Wrote::pointer_wrote, crate::proofs::Wrote::whole_wrote))]
 fn write_again(
     out: &mut Vec<u8>,
     mode: RDataEncoding,
@@ -170,6 +171,7 @@ fn write_again(
 
 /// The same as `write_name`, of a name that stands at neither of the two places that are looked at first.
 #[inline(never)]
+#[tactic(auto, using(crate::proofs::Wrote::cut_wrote))]
 fn write_new(
     places: &mut Places,
     out: &mut Vec<u8>,

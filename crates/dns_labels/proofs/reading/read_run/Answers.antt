@@ -1,5 +1,5 @@
 use Rattle.std.proofs.Common.{length-append, length-take, length-drop, arith, ℕ, ap, take, drop}
-use Rattle.dns_labels.proofs.ReadingSteps.{onward, at_pointer, one_more, so_far_none}
+use Rattle.dns_labels.proofs.ReadingSteps.{onward, one_more}
 use Rattle.dns_labels.proofs.reading.read_run.Goals.{then-count-ge64-via-then-count-ge64, then-count-ge64-via-else-count-ge64+then-message-at}
 use Rattle.dns_labels.proofs.reading.read_run.Goals.{then-count-ge64-via-else-count-ge64+else-message-at+then-len-count-ge-MAX_OCTETS}
 use Rattle.dns_labels.proofs.reading.read_run.Goals as goal
@@ -12,9 +12,6 @@ returns-then-message-at-lt2-clause-none c = λ front stop end run room.
     let o = onward c.labels.invariant.0 run in
     omega (arith, (o.1.pointer (omega arith)).1)
 
-pub returns-then-count-ge192-clause-some : goal.returns-then-count-ge192-clause-some
-returns-then-count-ge192-clause-some c = at_pointer c.labels.invariant.0 (λ i. omega (arith, c.type_inv.message i)) (omega arith) (omega arith)
-
 pub returns-then-count-ge64-clause-none : goal.returns-then-count-ge64-clause-none
 returns-then-count-ge64-clause-none c = λ front stop end run room.
     let o = onward c.labels.invariant.0 run in
@@ -23,9 +20,6 @@ returns-then-count-ge64-clause-none c = λ front stop end run room.
       | then-count-ge64-via-else-count-ge64+then-message-at w ↦ omega (arith, (o.1.label (omega arith) (omega arith)).0)
       | then-count-ge64-via-else-count-ge64+else-message-at+then-len-count-ge-MAX_OCTETS w ↦ omega (arith, (o.1.label (omega arith) (omega arith)).1, o.2)
     ]
-
-pub labels-init : goal.labels-init
-labels-init c = (so_far_none (omega arith) (omega arith), c.len-len.ensures.value)
 
 pub labels-preserved : goal.labels-preserved
 labels-preserved c =

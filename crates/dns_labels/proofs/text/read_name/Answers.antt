@@ -1,17 +1,8 @@
 use Rattle.std.proofs.Common.{arith, length, length-drop, ◌+◌, ◌<◌}
 use Rattle.std.proofs.lemmas.List.{take_rest}
-use Rattle.dns_labels.proofs.NameSteps.{name_none, name_ends, name_dotted, name_more, name_refused, reads_nothing, reads_root, said_of_err}
+use Rattle.dns_labels.proofs.NameSteps.{name_ends, name_dotted, name_more, name_refused, said_of_err}
 use Rattle.dns_labels.proofs.text.read_name.Goals.{else-text-eq1-via-then-text-eq1+else-text-eq46, else-text-eq1-via-else-text-eq1}
 use Rattle.dns_labels.proofs.text.read_name.Goals as goal
-
-pub returns-then-text-eq0-clause-some : goal.returns-then-text-eq0-clause-some
-returns-then-text-eq0-clause-some c = reads_nothing c.requires (omega arith)
-
-pub returns-then-text-eq46-clause-some : goal.returns-then-text-eq46-clause-some
-returns-then-text-eq46-clause-some c = reads_root c.requires (omega arith) (omega arith)
-
-pub labels-init : goal.labels-init
-labels-init c = (name_none c.requires, omega arith)
 
 pub returns-in_err-taken-clause-none : goal.returns-in_err-taken-clause-none
 returns-in_err-taken-clause-none c = said_of_err c.from_residual.result c.from_residual.ensures.0 (λ name n.

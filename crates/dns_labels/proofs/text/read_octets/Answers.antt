@@ -1,11 +1,8 @@
 use Rattle.std.proofs.Common.{arith, length-append}
 use Rattle.std.proofs.lemmas.List.{take_rest, drop_all}
-use Rattle.dns_labels.proofs.LabelSteps.{label_none, label_done, label_refused, label_more, label_full, at_dot}
+use Rattle.dns_labels.proofs.LabelSteps.{label_done, label_refused, label_more, label_full, at_dot}
 use Rattle.dns_labels.proofs.text.read_octets.Goals.{then-octets-test+else-text-at-ne46, else-octets-test}
 use Rattle.dns_labels.proofs.text.read_octets.Goals as goal
-
-pub octets-init : goal.octets-init
-octets-init c = (label_none, omega (arith, c.min-left.ensures, c.len.ensures))
 
 pub returns-then-left-eq0-clause-none : goal.returns-then-left-eq0-clause-none
 returns-then-left-eq0-clause-none c = λ label t rest lt e end short room.

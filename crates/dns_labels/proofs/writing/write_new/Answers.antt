@@ -1,6 +1,6 @@
-use Rattle.std.proofs.Common.{◌+◌, ◌<◌, ◌∙◌, ap, ◌++◌, ℕ, List, length, take, arith, length-take}
+use Rattle.std.proofs.Common.{◌+◌, ◌<◌, length, arith, length-take}
 use Rattle.dns_labels.specs.Reading.{stop_octets}
-use Rattle.dns_labels.proofs.Wrote.{cut_wrote, lacks_room}
+use Rattle.dns_labels.proofs.Wrote.{lacks_room}
 use Rattle.dns_labels.proofs.writing.write_new.Goals.{then-start-limit-via-then-start-limit, then-start-limit-via-else-start-limit+then-limit-start}
 use Rattle.dns_labels.proofs.writing.write_new.Goals as goal
 
@@ -12,15 +12,3 @@ returns-then-start-limit-clause-full c = λ e.
       | then-start-limit-via-else-start-limit+then-limit-start w ↦ omega (arith, c.len-start.ensures, c.stop_len.ensures, length-take cut c.args.name.now)
     ] in
     lacks_room c.as_slice.ensures.value c.in_ok-cut.ensures.cut full
-
-pub returns-in_ok-extend_from_slice-in-None-clause-ok : goal.returns-in_ok-extend_from_slice-in-None-clause-ok
-returns-in_ok-extend_from_slice-in-None-clause-ok c =
-    cut_wrote c.as_slice.ensures.value c.requires c.in_ok-cut.ensures.cut c.in_ok-cut.ensures.whole (c.in_ok-append_front.ensures.items
-    ∙ ap (λ (x : List ℕ). x ++ take c.in_ok-cut.cut.written c.args.name.now) c.reserve.ensures.items) c.in-None.is
-    c.in_ok-extend_from_slice-in-None.ensures.items
-
-pub returns-in_ok-extend_from_slice-in-Some-clause-ok : goal.returns-in_ok-extend_from_slice-in-Some-clause-ok
-returns-in_ok-extend_from_slice-in-Some-clause-ok c =
-    cut_wrote c.as_slice.ensures.value c.requires c.in_ok-cut.ensures.cut c.in_ok-cut.ensures.whole (c.in_ok-append_front.ensures.items
-    ∙ ap (λ (x : List ℕ). x ++ take c.in_ok-cut.cut.written c.args.name.now) c.reserve.ensures.items) c.in-Some.is
-    c.in_ok-extend_from_slice-in-Some.ensures.items

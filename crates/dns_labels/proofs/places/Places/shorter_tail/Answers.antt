@@ -1,18 +1,12 @@
 use Rattle.std.proofs.Common.{arith}
 use Rattle.std.proofs.lemmas.List.{take_rest}
-use Rattle.dns_labels.proofs.CutSteps.{cut_none, cut_found, cut_more, cut_all}
+use Rattle.dns_labels.proofs.CutSteps.{cut_found, cut_more, cut_all}
 use Rattle.dns_labels.proofs.places.Places.shorter_tail.Goals as goal
-
-pub labels-init : goal.labels-init
-labels-init c = cut_none c.args.octets.now c.requires
 
 pub returns-in-Some : goal.returns-in-Some
 returns-in-Some c =
     let e = rw (take_rest c.args.octets.now c.labels.cut) at c.in-Some.ensures in
     cut_found c.args.message.now c.args.octets.now c.labels.cut c.in-Some.target.place c.labels.invariant (omega arith) e.0 e.1
-
-pub labels-preserved : goal.labels-preserved
-labels-preserved c = cut_more c.args.octets.now c.labels.cut c.labels.invariant (omega arith)
 
 pub returns : goal.returns
 returns c = cut_all c.args.message.now c.args.octets.now c.labels.cut c.labels.invariant (omega arith)
