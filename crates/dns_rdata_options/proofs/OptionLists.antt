@@ -1,5 +1,5 @@
 -- Options one after the other.
-use Rattle.std.proofs.Common.{◌≡◌, ℕ, ◌+◌, ◌-◌, ◌≤◌, ◌<◌, ◌^◌, ◌⊎◌, inl, inr, ⊎_elim, List, [], ◌∷◌, ◌++◌, length, take, drop, refl, sym, ap, ◌∙◌}
+use Rattle.std.proofs.Common.{◌≡◌, ℕ, ◌+◌, ◌≤◌, ◌<◌, ◌^◌, ◌⊎◌, inl, inr, ⊎_elim, List, [], ◌∷◌, ◌++◌, length, take, drop, refl, sym, ap, ◌∙◌}
 use Rattle.std.proofs.Common.{arith, subst, append_assoc}
 use Rattle.std.specs.Int.{bytes_high_first}
 use Rattle.std.proofs.lemmas.List.{length-append, take-append-drop, take_at, take-append-le}
@@ -9,11 +9,11 @@ use Rattle.dns_fields.specs.{Octets.At, Fields.Number, Fields.Octets, Fields.Fie
 use Rattle.dns_fields.specs.Pieces.{Numbered, piece, pieces, IsPiece, ArePieces, AllHeld, OptionValue, OptionHeld, IsCut}
 use Rattle.dns_fields.proofs.{Numbers.length-bytes, FieldLaws.field_same}
 use Rattle.dns_fields.proofs.Pieces.{first_piece, cut_piece, length-piece, piece_before}
-use Rattle.dns_names_wire.specs.{State.Reading, Words.TookField, Words.LacksOctets, Words.StaysBehind, Words.UnlessMemory}
-use Rattle.dns_names_wire.proofs.FieldReads.{stays, unless_all, took_stays, took_then, took_last, took_number}
+use Rattle.dns_names_wire.specs.{State.Reading, Words.TookField, Words.StaysBehind, Words.UnlessMemory}
+use Rattle.dns_names_wire.proofs.FieldReads.{unless_all, took_number}
 use Rattle.dns_names_wire.proofs.Strings.{at_front, at_rest, at_then}
 use Rattle.dns_rdata_options.specs.OPT.{IsPieceRefusal, IsNextRefusal}
-use Rattle.dns_rdata_options.specs.OptionReads.{Left, NoneLeft, TookPiece, TookCut, RefusedLeft, NoValue}
+use Rattle.dns_rdata_options.specs.OptionReads.{Left, NoneLeft, TookPiece, TookCut, RefusedPiece, NoValue}
 
 -- ---- what begins the rest
 
@@ -41,106 +41,35 @@ begins {m} {n} {i} {end} lt fits h = first h.read h.stub h.at h.fit h.ends where
       (omega (arith, fits, a.ends, length-append (piece y ++ pieces ys) s, length-append (piece y) (pieces ys), length-piece y))
       (subst (λ (o : List ℕ). At m i o end) (append_assoc (piece y) (pieces ys) s ∙ piece_before y (pieces ys ++ s)) a)
 
--- the length behind the code that was read
-sized : {d b : Reading} {v n end : ℕ} → d.index < end → end ≤ d.index + n → TookField d (Number 2) v b → b.index < end → Left d.message n d.index end
-    → (l : ℕ) × (l ≤ n) × Field b.message b.index (Number 2) l (b.index + 2) × (b.index + 2 ≤ end) × (end ≤ length b.message)
-sized {d} {b} {v} {n} {end} lt fits f more h =
-    let g = begins lt fits h in
-    let there : d.index + 2 ≡ b.index = sym (took_number f) in
-    let (l, most, field, inside) = g.size (omega (arith, there, more)) in (
-      l,
-      most,
-      subst (λ (m : List ℕ). Field m b.index (Number 2) l (b.index + 2)) (sym f.message) (subst (λ (j : ℕ). Field d.message j (Number 2) l (j + 2)) there field),
-      omega (arith, there, inside),
-      omega (arith, ap length f.message, g.within),
-    )
+-- ---- the next option is refused
 
--- ---- refusals, each with its cause
+-- so nothing is left in any way
+piece_none : {d new : Reading} {e : DecodeError} (start n : ℕ) → start ≤ d.index → d.index < start + n → RefusedPiece start n d e new
+    → NoneLeft d.message n d.index (start + n)
+piece_none {d} {new} {e} start n le lt r = record { none = λ h. by (begins lt (omega (arith, le)) h) r.why } where
+  by : Begins d.message n d.index (start + n) → IsPieceRefusal start n d e new → ⊥
+  by b (inl h) = omega (arith, b.code, b.within, h.lacks)
+  by b (inr (inl h)) =
+      let s = b.size (omega (arith, took_number h.took, h.before)) in
+      omega (arith, took_number h.took, s.3, b.within, h.lacks, ap length h.took.message)
+  by b (inr (inr (inl h))) = omega (arith, (b.size (omega (arith, b.code, r.past h.past))).3, h.past, h.short)
+  by b (inr (inr (inr (inl h)))) =
+      let (i, code, (j, size, end)) = h.took.stands in
+      let there : i ≡ d.index + 2 = omega (arith, code.is.1.ends, length-bytes 2 h.code) in
+      let behind : j ≡ i + 2 = omega (arith, size.is.1.ends, length-bytes 2 h.size) in
+      let s = b.size (omega (arith, there, behind, end, h.inside)) in
+      let field : Field d.message i (Number 2) h.size (i + 2) = subst (λ (q : ℕ). Field d.message i (Number 2) h.size q) behind size in
+      let same : s.0 ≡ h.size = field_same s.2 (subst (λ (k : ℕ). Field d.message k (Number 2) h.size (k + 2)) there field) in
+      omega (arith, s.1, same, h.long)
+  by b (inr (inr (inr (inr h)))) = omega (arith, b.within, h.record_left)
 
-behind_one : {d b : Reading} {v : ℕ} → TookField d (Number 2) v b → StaysBehind d b
-behind_one {b = b} f = took_stays f (stays b)
-
-behind_two : {d b c : Reading} {v w : ℕ} → TookField d (Number 2) v b → TookField b (Number 2) w c → StaysBehind d c
-behind_two {c = c} f g = took_stays f (took_stays g (stays c))
-
-pub refused_code : {d new : Reading} {start n : ℕ} (e : DecodeError) → start ≤ d.index → d.index < start + n → e ≡ decode.InsufficientBytes
-    → LacksOctets d 2 → new ≡ d → RefusedLeft d n (start + n) new × IsPieceRefusal start n d e new
-refused_code {d} e le lt is lacks same = (
-  record {
-    behind = rw same (stays d);
-    none = record { none = λ h. let b = begins lt (omega (arith, le)) h in omega (arith, b.code, b.within, lacks) };
-  },
-  inl (record { error = is; lacks = lacks; unchanged = same }),
-)
-
-pub refused_code_past : {d b : Reading} {v start n : ℕ} (read : ℕ) → start ≤ d.index → d.index < start + n → TookField d (Number 2) v b
-    → start + n < b.index → read ≡ b.index - start → RefusedLeft d n (start + n) b × IsPieceRefusal start n d (decode.IncorrectRDataLengthRead read n) b
-refused_code_past {n = n} read le lt f past is = (
-  record { behind = behind_one f; none = record { none = λ h. let b = begins lt (omega (arith, le)) h in omega (arith, took_number f, b.code, past) } },
-  inr (inr (inl (record {
-    error = ap (λ (k : ℕ). decode.IncorrectRDataLengthRead k n) is;
-    past = past;
-    short = omega (arith, took_number f);
-    message = f.message;
-  }))),
-)
-
-pub refused_size : {d b new : Reading} {v start n : ℕ} (e : DecodeError) → start ≤ d.index → d.index < start + n → TookField d (Number 2) v b
-    → b.index < start + n → e ≡ decode.InsufficientBytes → LacksOctets b 2 → new ≡ b → RefusedLeft d n (start + n) new × IsPieceRefusal start n d e new
-refused_size {v = v} e le lt f more is lacks same = rw same (
-  record {
-    behind = behind_one f;
-    none = record { none = λ h. let s = sized lt (omega (arith, le)) f more h in omega (arith, s.3, s.4, lacks) };
-  },
-  inr (inl (record { error = is; code = v; took = f; before = more; lacks = lacks })),
-)
-
-pub refused_size_past : {d b c : Reading} {v w start n : ℕ} (read : ℕ) → start ≤ d.index → d.index < start + n → TookField d (Number 2) v b
-    → b.index < start + n → TookField b (Number 2) w c → start + n < c.index → read ≡ c.index - start
-    → RefusedLeft d n (start + n) c × IsPieceRefusal start n d (decode.IncorrectRDataLengthRead read n) c
-refused_size_past {n = n} read le lt f more g past is = (
-  record {
-    behind = behind_two f g;
-    none = record { none = λ h. let s = sized lt (omega (arith, le)) f more h in omega (arith, s.3, took_number g, past) };
-  },
-  inr (inr (inl (record {
-    error = ap (λ (k : ℕ). decode.IncorrectRDataLengthRead k n) is;
-    past = past;
-    short = omega (arith, took_number f, took_number g);
-    message = g.message ∙ f.message;
-  }))),
-)
-
-pub refused_long : {d b c : Reading} {v w start n : ℕ} → start ≤ d.index → d.index < start + n → TookField d (Number 2) v b → b.index < start + n
-    → TookField b (Number 2) w c → c.index ≤ start + n → n < w
-    → RefusedLeft d n (start + n) c × IsPieceRefusal start n d (decode.IncorrectRDataLengthRead n w) c
-refused_long {d} {b} {c} {v} {w} {start} {n} le lt f more g inside great = (
-  record {
-    behind = behind_two f g;
-    none = record {
-      none = λ h.
-          let s = sized lt (omega (arith, le)) f more h in
-          let e : b.index + 2 ≡ c.index = sym (took_number g) in
-          let same : s.0 ≡ w = field_same (subst (λ (q : ℕ). Field b.message b.index (Number 2) s.0 q) e s.2) g.field in
-          omega (arith, s.1, same, great);
-    };
-  },
-  inr (inr (inr (inl (record {
-    code = v;
-    size = w;
-    took = took_then f (took_then g (took_last c));
-    inside = inside;
-    long = great;
-    error = refl;
-  })))),
-)
-
--- the next option is refused; want of memory says nothing of what is left
+-- want of memory says nothing of what is left
 abbrev pub RefusedHere : DecodeError → Reading → ℕ → ℕ → Reading → Type 0
 RefusedHere e d start n new = StaysBehind d new × UnlessMemory e (NoneLeft d.message n d.index (start + n)) × ((e ≡ decode.Memory) ⊎ IsNextRefusal start n d e new)
 
-pub piece_refused : {e : DecodeError} {d new : Reading} (start n : ℕ) → RefusedLeft d n (start + n) new × IsPieceRefusal start n d e new → RefusedHere e d start n new
-piece_refused {e} start n h = (h.0.behind, unless_all e h.0.none, inr (inl h.1))
+pub piece_refused : {e : DecodeError} {d new : Reading} (start n : ℕ) → start ≤ d.index → d.index < start + n → RefusedPiece start n d e new
+    → RefusedHere e d start n new
+piece_refused {e} start n le lt h = (h.behind, unless_all e (piece_none start n le lt h), inr (inl h.why))
 
 -- ---- what was read
 

@@ -9,9 +9,9 @@ use Rattle.std.proofs.{lemmas.Option.get_or_from_slice_get, lemmas.List.Sorted.I
 use Rattle.std.proofs.lemmas.Bool.Decides.{same_from_decides, Decides-and, Decides-like}
 use Rattle.std.specs.contracts.net.ip_addr.IpAddrPartialEq.TheImpl as equal_addresses
 use Rattle.dns_fields.specs.{Octets.AreOctets, Fields.Values, Fields.WholeOptions, Fields.CutOptions, Fields.Stands, Fields.Same, Equal.values_eq}
-use Rattle.dns_fields.specs.Pieces.{Numbered, piece, pieces, AllHeld, OptionValue, Subnet, Plain, option_octets, OptionHeld}
+use Rattle.dns_fields.specs.Pieces.{Numbered, piece, pieces, AllHeld, OptionValue, Subnet, Plain, OptionHeld}
 use Rattle.dns_fields.proofs.{EqualLaws.values_decide, Multisets.count_ext, Multisets.counts_decide, Sorted.permutation_counts}
-use Rattle.dns_fields.proofs.OctetLaws.{AreOctets-at, AreOctets-front, AreOctets-back, AreOctets-same, AreOctets-tail}
+use Rattle.dns_fields.proofs.OctetLaws.{AreOctets-at, AreOctets-front, AreOctets-back}
 use Rattle.dns_rdata_options.specs.{EdnsOption.option_value, Order.pair_eq, Order.pair_cmp, Order.opt_eq, declared.opt.code.EdnsCode.EdnsCode}
 use Rattle.dns_rdata_options.specs.{declared.opt.option.EdnsOption.EdnsOption, declared.opt.subnet.ClientSubnet.ClientSubnet}
 use Rattle.dns_rdata_options.specs.EdnsCode.{edns_code_number, edns_code_variant, edns_code_of}
@@ -21,16 +21,12 @@ use Rattle.dns_rdata_options.specs.declared.opt.code.EdnsCode.TheVariants as cod
 use Rattle.dns_rdata_options.specs.declared.opt.option.EdnsOption.TheVariants as edns
 use Rattle.dns_rdata_options.specs.contracts.opt.option.EdnsOptionPartialEq.TheImpl as equal_options
 use Rattle.dns_rdata_options.specs.contracts.opt.subnet.ClientSubnetPartialEq.TheImpl as equal_subnets
-use Rattle.dns_rdata_options.proofs.{OptionValues.edns_code_number-of, Subnets.value_back}
+use Rattle.dns_rdata_options.proofs.{OptionValues.edns_code_number-of, OptionValues.held_octets, Subnets.value_back}
 
 -- ---- values that were read
 
 held_value : (n : ℕ) (s : List ℕ) (v : OptionValue) → AreOctets s → OptionHeld n s v → option_value (option_of n v) ≡ v
-held_value n s (Subnet f source scope a) are h =
-    let octets : AreOctets a = AreOctets-tail scope a
-    (AreOctets-tail source (scope ∷ a) (AreOctets-back (bytes_high_first 2 f) (source ∷ scope ∷ a)
-    (AreOctets-front (option_octets (Subnet f source scope a)) h.2 (AreOctets-same s _ h.3 are)))) in
-    value_back f source scope a h.1 octets
+held_value n s (Subnet f source scope a) are h = value_back f source scope a h.1 (held_octets n s f source scope a are h)
 held_value n s (Plain t) are h = either (n == 3) where
   either : (b : Bool) → option_value (cond b (edns.NSID t) (edns.Unknown n t)) ≡ Plain t
   either true = refl

@@ -33,6 +33,7 @@ pub(crate) fn count_options(octets: &[u8], length: usize) -> Option<usize>
 }
 
 // Code and octets of the next option. `None` where the record ends inside it.
+#[tactic(auto, using(dns_names_wire::proofs::FieldReads::took_number))]
 fn next_piece<'a>(
     decoder: &mut BinDecoder<'a>,
     start: usize,

@@ -8,7 +8,8 @@ pub returns-in_err-number : goal.returns-in_err-number
 returns-in_err-number c =
     let p = err_from_is_err_and c.from_residual-in_err-number.result c.from_residual-in_err-number.ensures.1 in
     rw (p.1, p.2) (options_refused c.index-start.result c.args.length c.index-start.ensures.place (omega (arith, c.index.ensures.place, c.pieces-test.true))
-    c.pieces.invariant.1 (piece_refused _ _ c.in_err-number.ensures))
+    c.pieces.invariant.1 (piece_refused _ _ (omega (arith, c.index-start.ensures.place, c.pieces.invariant.1.behind)) (omega (arith, c.index.ensures.place, c.pieces-test.true))
+    c.in_err-number.ensures))
 
 pub pieces-preserved : goal.pieces-preserved
 pieces-preserved c =
