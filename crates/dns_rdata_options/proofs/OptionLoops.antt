@@ -62,37 +62,32 @@ field_left {m} {p} {q} {v} f = of f.is where
   }
   of (inr c) = record { read = c.1.read; values = c.1.dropped; stub = c.1.stub; at = c.1.at; fit = c.1.fit; held = c.1.held; ends = inr c.1.cut }
 
-options_none : {e : DecodeError} {old d b : Reading} {done : List (Numbered OptionValue)} (start n : ℕ) → start ≡ old.index
-    → ReadsOptions old n (start + n) done d → RefusedHere e d start n b → Refused e old opt_shape (λ vs q. (q ≡ old.index + n) × Unit {0}) b
-options_none {e} {old} {d} {b} {done} start n is r f = record {
-  behind = record { message = f.0.message ∙ r.message; index = omega (arith, r.behind, f.0.index) };
-  none = unless_map e _ _ (λ (l : NoneLeft d.message n d.index (start + n)). record {
-    none = λ vs q s c.
-        let h : Left old.message (s.0 - old.index) old.index s.0 = field_left s.1 in
-        let there : s.0 ≡ start + n = omega (arith, s.2, c.0, is) in
-        let size : s.0 - old.index ≡ n = omega (arith, there, is) in
-        let whole : Left old.message n old.index (start + n) = subst (λ (k : ℕ). Left old.message k old.index (start + n)) size
-        (subst (λ (k : ℕ). Left old.message (s.0 - old.index) old.index k) there h) in
-        l.none (subst (λ (m : List ℕ). Left m n d.index (start + n)) (sym r.message) (r.rest whole));
-  }) f.1;
-}
-
-options_refusal : {e : DecodeError} {old d b : Reading} {done : List (Numbered OptionValue)} (start n : ℕ) → start ≡ old.index → d.index < start + n
-    → ReadsOptions old n (start + n) done d → RefusedHere e d start n b → IsOptRefusal n old e b
-options_refusal {e} {old} {d} {b} {done} start n is before r f = of f.2 where
+pub options_refused : {e : DecodeError} {old d b : Reading} {done : List (Numbered OptionValue)} (start n : ℕ) → start ≡ old.index → d.index < start + n
+    → ReadsOptions old n (start + n) done d → RefusedHere e d start n b
+    → record { fields : Refused e old opt_shape (λ vs q. (q ≡ old.index + n) × Unit {0}) b; read : Unit {0}; refused : IsOptRefusal n old e b }
+options_refused {e} {old} {d} {b} {done} start n is before r f = record {
+  fields = record {
+    behind = record { message = f.0.message ∙ r.message; index = omega (arith, r.behind, f.0.index) };
+    none = unless_map e _ _ (λ (l : NoneLeft d.message n d.index (start + n)). record {
+      none = λ vs q s c.
+          let h : Left old.message (s.0 - old.index) old.index s.0 = field_left s.1 in
+          let there : s.0 ≡ start + n = omega (arith, s.2, c.0, is) in
+          let size : s.0 - old.index ≡ n = omega (arith, there, is) in
+          let whole : Left old.message n old.index (start + n) = subst (λ (k : ℕ). Left old.message k old.index (start + n)) size
+          (subst (λ (k : ℕ). Left old.message (s.0 - old.index) old.index k) there h) in
+          l.none (subst (λ (m : List ℕ). Left m n d.index (start + n)) (sym r.message) (r.rest whole));
+    }) f.1;
+  };
+  read = tt;
+  refused = of f.2;
+} where
   of : (e ≡ decode.Memory) ⊎ IsNextRefusal start n d e b → IsOptRefusal n old e b
   of (inl m) = inl m
   of (inr h) = inr (record {
     between = d;
     before = record { message = r.message; values = done; took = r.took; before = omega (arith, before, is) };
-    next =
-        subst (λ (k : ℕ). IsNextRefusal k n d e b) is h;
+    next = subst (λ (k : ℕ). IsNextRefusal k n d e b) is h;
   })
-
-pub options_refused : {e : DecodeError} {old d b : Reading} {done : List (Numbered OptionValue)} (start n : ℕ) → start ≡ old.index → d.index < start + n
-    → ReadsOptions old n (start + n) done d → RefusedHere e d start n b
-    → record { fields : Refused e old opt_shape (λ vs q. (q ≡ old.index + n) × Unit {0}) b; read : Unit {0}; refused : IsOptRefusal n old e b }
-options_refused start n is before r f = record { fields = options_none start n is r f; read = tt; refused = options_refusal start n is before r f }
 
 pub options_cut : {old d b : Reading} {done : List (Numbered OptionValue)} (start n : ℕ) → start ≡ old.index → ReadsOptions old n (start + n) done d
     → TookCut d n (start + n) b → Took old opt_shape ([], tt) b × ((b.index ≡ old.index + n) × Unit {0})

@@ -79,6 +79,7 @@ fn passed(read: usize, len: u16) -> DecodeError
 }
 
 // Appends the option of this number and these octets, or only tests that the octets have a value.
+#[tactic(auto, using(crate::proofs::OptionValues::option_kept, crate::proofs::OptionValues::plain_tested, crate::proofs::OptionValues::subnet_refused))]
 fn keep_option(
     options: &mut Vec<(EdnsCode, EdnsOption)>,
     keeps: bool,
