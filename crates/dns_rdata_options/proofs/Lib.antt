@@ -4,8 +4,6 @@ pub mod HeadSteps
 pub mod InOrder
 pub mod Masks
 pub mod NetTexts
-pub mod OctetWrites
-pub mod OptionCounts
 pub mod OptionLists
 pub mod OptionLoops
 pub mod OptionOrders

@@ -7,12 +7,36 @@ use Rattle.std.specs.Cmp.{first_so, second_so}
 use Rattle.dns_types.specs.declared.error.ProtoError.{ProtoError}
 use Rattle.dns_fields.specs.Pieces.{Numbered, piece, pieces, as_piece, OptionValue, Subnet, Plain, option_octets, OptionFits, IsEmittableOption}
 use Rattle.dns_fields.specs.Pieces.{option_emittable, options_emittable}
-use Rattle.dns_fields.specs.Fields.{Options, field_octets, option_pieces}
+use Rattle.dns_fields.specs.Fields.{Options, field_octets, option_pieces, Rest}
 use Rattle.dns_fields.proofs.Sorted.{octets_cmp, flat_map_all, length_sorted}
-use Rattle.dns_names_wire.specs.{State.Writing, Words.AppendedField, Words.StoppedField}
-use Rattle.dns_names_wire.proofs.FieldWrites.{keeps_then, because_map}
+use Rattle.dns_names_wire.specs.{State.Writing, Words.AppendedField, Words.StoppedField, Words.NoRoomField, Words.UnfitField}
+use Rattle.dns_names_wire.proofs.FieldWrites.{keeps_then, because_map, extends_then}
 use Rattle.dns_rdata_options.specs.{EdnsCode.edns_code_number, Words.AppendedOctets, Words.StoppedOctets, OPT.Pair, OPT.pair_value}
 use Rattle.dns_rdata_options.proofs.Selection.{all_push}
+
+-- ---- plain octets that are appended in parts
+
+pub stopped_two : {e : ProtoError} {old mid new : Writing} {asked : Type 0} (s t whole : List ℕ) → AppendedField old Rest s mid
+    → StoppedField e mid Rest t new → s ++ t ≡ whole → StoppedOctets e asked whole old new
+unfolding field_octets
+stopped_two {e} {old} {mid} s t whole f g is = record {
+  extends = extends_then f g.extends;
+  why = because_map e _ _ _ _
+      (λ (r : NoRoomField mid Rest t). omega (arith, r.full, f.keeps.limit, ap length f.field.is, length-append old.octets s, ap length is, length-append s t))
+      (λ (u : UnfitField Rest t) _. let e = u.unfit in cc e)
+      g.why;
+}
+
+-- more than four octets begin by four
+pub stopped_front : {e : ProtoError} {old new : Writing} {asked : Type 0} (s whole : List ℕ) → StoppedField e old Rest s new → length s ≤ length whole
+    → StoppedOctets e asked whole old new
+unfolding field_octets
+stopped_front {e} {old} s whole f le = record {
+  extends = f.extends;
+  why = because_map e _ _ _ _ (λ (r : NoRoomField old Rest s). omega (arith, r.full, le)) (λ (u : UnfitField Rest s) _. let e = u.unfit in cc e) f.why;
+}
+
+-- ---- options
 
 joined : (xs : List (Numbered OptionValue)) (x : Numbered OptionValue) (ys : List (Numbered OptionValue))
     → pieces (option_pieces (xs ++ x ∷ ys)) ≡ pieces (option_pieces xs) ++ (piece (as_piece option_octets x) ++ pieces (option_pieces ys))
