@@ -1,16 +1,13 @@
 pub mod ChoiceSteps
 pub mod Differences
 pub mod HeadSteps
-pub mod InOrder
 pub mod Masks
 pub mod NetTexts
 pub mod OptionLists
-pub mod OptionLoops
 pub mod OptionOrders
 pub mod OptionValues
 pub mod OptionsOf
 pub mod Pairs
-pub mod Parting
 pub mod PieceOrder
 pub mod Refusals
 pub mod Selection
