@@ -58,43 +58,33 @@ digits_lack digits n p = lacks_each 47 digits (λ i l e. let digit = digit_at di
 pub no_slash : (text : List ℕ) (net : IpAddr × ℕ) → Lacks 47 text → IsNetText text net → ⊥
 no_slash text net lacks is = not_behind 47 text is.address is.digits lacks is.spelled
 
--- a net's prefix stands behind the last `/`
-pub net_parts : (text front back : List ℕ) (net : IpAddr × ℕ) → SplitsLast 47 text front back → (is : IsNetText text net) → (is.address ≡ front) × (is.digits ≡ back)
-net_parts text front back net s is = last_one 47 is.address is.digits front back (sym is.spelled ∙ s.cut) (digits_lack is.digits net.1 is.prefix) s.last
+-- a net's prefix stands behind the last `/`, and its address in front of it
+pub net_parts : {text front back : List ℕ} (net : IpAddr × ℕ) → SplitsLast 47 text front back → IsNetText text net → IsIpText front net.0 × IsPrefixText back net.1
+net_parts {text} {front} {back} net s is =
+    let same = last_one 47 is.address is.digits front back (sym is.spelled ∙ s.cut) (digits_lack is.digits net.1 is.prefix) s.last in
+    (subst (λ (t : List ℕ). IsIpText t net.0) same.0 is.address_text, subst (λ (t : List ℕ). IsPrefixText t net.1) same.1 is.prefix)
 
 most_bits : (ip : IpAddr) → address_bits ip < 2 ^ 8
 most_bits (V4 ip) = omega arith
 most_bits (V6 ip) = omega arith
 
 -- no prefix stands there
-pub no_prefix : (text front back : List ℕ) (net : IpAddr × ℕ) → SplitsLast 47 text front back → ((n : ℕ) → n < 2 ^ 8 → ¬ (IsPrefixText back n))
+pub no_prefix : {text front back : List ℕ} (net : IpAddr × ℕ) → SplitsLast 47 text front back → ((n : ℕ) → n < 2 ^ 8 → ¬ (IsPrefixText back n))
     → IsNetText text net → ⊥
-no_prefix text front back net s none is =
-    let parts = net_parts text front back net s is in
+no_prefix net s none is =
     let bits = most_bits net.0 in
     let most : net.1 ≤ address_bits net.0 = is.most in
-    none net.1 (omega arith) (subst (λ (t : List ℕ). IsPrefixText t net.1) parts.1 is.prefix)
-
--- no address stands in front of it
-pub no_address : (text front back : List ℕ) (net : IpAddr × ℕ) → SplitsLast 47 text front back → ((ip : IpAddr) → ¬ (IsIpText front ip))
-    → IsNetText text net → ⊥
-no_address text front back net s none is =
-    let parts = net_parts text front back net s is in
-    none net.0 (subst (λ (t : List ℕ). IsIpText t net.0) parts.0 is.address_text)
-
-prefix_value : {text : List ℕ} {n m : ℕ} → IsPrefixText text n → IsPrefixText text m → n ≡ m
-prefix_value a b = a.value ∙ sym b.value
+    none net.1 (omega arith) (net_parts net s is).1
 
 -- an address with a prefix is a net where the prefix has no more bits than the address
-pub net_read : (text front back : List ℕ) (ip : IpAddr) (n : ℕ) (o : Option (IpAddr × ℕ)) (e : AddrParseError) → SplitsLast 47 text front back → IsIpText front ip
+pub net_read : {text front back : List ℕ} (ip : IpAddr) (n : ℕ) (o : Option (IpAddr × ℕ)) (e : AddrParseError) → SplitsLast 47 text front back → IsIpText front ip
     → IsPrefixText back n → IfSome o (λ net. (net ≡ (ip, n)) × (n ≤ address_bits ip)) → IfNone o (address_bits ip < n) → Parses IsNetText text (ok_or o e)
-net_read text front back ip n (Some net) e s is prefix some none =
+net_read {text} {front} {back} ip n (Some net) e s is prefix some none =
     subst (λ (x : IpAddr × ℕ). IsNetText text x) (sym some.0)
     (record { address = front; digits = back; spelled = s.cut; address_text = is; prefix = prefix; most = some.1 })
-net_read text front back ip n None e s is prefix some none = λ net other.
-    let parts = net_parts text front back net s other in
-    let same_n : net.1 ≡ n = prefix_value (subst (λ (t : List ℕ). IsPrefixText t net.1) parts.1 other.prefix) prefix in
-    let bits : address_bits net.0 ≡ address_bits ip =
-    ap address_bits (IsIpText_unique front net.0 ip (subst (λ (t : List ℕ). IsIpText t net.0) parts.0 other.address_text) is) in
+net_read {text} {front} {back} ip n None e s is prefix some none = λ net other.
+    let parts = net_parts net s other in
+    let same_n : net.1 ≡ n = parts.1.value ∙ sym prefix.value in
+    let bits : address_bits net.0 ≡ address_bits ip = ap address_bits (IsIpText_unique front net.0 ip parts.0 is) in
     let most : net.1 ≤ address_bits net.0 = other.most in
     absurd (omega arith)

@@ -1,19 +1,23 @@
 -- Options one after the other.
-use Rattle.std.proofs.Common.{◌≡◌, ℕ, ◌+◌, ◌-◌, ◌≤◌, ◌<◌, ◌^◌, ◌⊎◌, inl, inr, ⊎_elim, List, [], ◌∷◌, ◌++◌, length, take, drop, refl, sym, ap, ◌∙◌}
-use Rattle.std.proofs.Common.{arith, subst, append_assoc}
-use Rattle.std.specs.Int.{bytes_high_first}
+use Rattle.std.proofs.Common.{◌≡◌, ℕ, ◌+◌, ◌≤◌, ◌<◌, ◌^◌, ◌⊎◌, inl, inr, ⊎_elim, List, [], ◌∷◌, ◌++◌, length, take, drop, refl, sym, ap, ◌∙◌, arith}
+use Rattle.std.proofs.Common.{subst, append_assoc, suc, get_or, ◌-◌, Bool, true, map}
+use Rattle.std.specs.Int.{bytes_high_first, from_be_bytes, w16}
 use Rattle.std.proofs.lemmas.List.{length-append, take-append-drop, take_at, take-append-le}
 use Rattle.dns_types.specs.declared.error.DecodeError.{DecodeError}
-use Rattle.dns_types.specs.declared.error.DecodeError.TheVariants as decode
-use Rattle.dns_fields.specs.{Octets.At, Fields.Number, Fields.Octets, Fields.Field}
+use Rattle.dns_fields.specs.{Octets.At, Fields.Number, Fields.Octets, Fields.Field, Fields.Options, Fields.WholeOptions, Fields.CutOptions}
 use Rattle.dns_fields.specs.Pieces.{Numbered, piece, pieces, IsPiece, ArePieces, AllHeld, OptionValue, OptionHeld, IsCut}
 use Rattle.dns_fields.proofs.{Numbers.length-bytes, FieldLaws.field_same}
 use Rattle.dns_fields.proofs.Pieces.{first_piece, cut_piece, length-piece, piece_before}
-use Rattle.dns_names_wire.specs.{State.Reading, Words.TookField, Words.LacksOctets, Words.StaysBehind, Words.UnlessMemory}
-use Rattle.dns_names_wire.proofs.FieldReads.{stays, unless_all, took_stays, took_then, took_last, took_number}
+use Rattle.dns_names_wire.specs.{State.Reading, Words.TookField, Words.StaysBehind, Words.UnlessMemory, Words.Took, Words.Refused}
+use Rattle.dns_names_wire.proofs.FieldReads.{unless_all, took_number}
 use Rattle.dns_names_wire.proofs.Strings.{at_front, at_rest, at_then}
-use Rattle.dns_rdata_options.specs.OPT.{IsPieceRefusal, IsNextRefusal}
-use Rattle.dns_rdata_options.specs.OptionReads.{Left, NoneLeft, TookPiece, TookCut, RefusedLeft, NoValue}
+use Rattle.dns_rdata_options.specs.OPT.{IsPieceRefusal, IsNextRefusal, Pair, pair_value, pair_of, opt_shape, IsOptRefusal}
+use Rattle.dns_rdata_options.specs.OptionReads.{Left, NoneLeft, TookPiece, TookCut, RefusedPiece, NoValue, KeptOption}
+use Rattle.std.proofs.{lemmas.List.get_or-drop, lemmas.Nat.from_be_bytes-to_be_bytes_2, lemmas.List.map_push, lemmas.List.append-nil}
+use Rattle.std.proofs.{lemmas.Grind.flat_map-append}
+use Rattle.dns_names_wire.proofs.{FieldReads.unless_map}
+use Rattle.dns_rdata_options.proofs.{Selection.all_push}
+use Rattle.dns_types.specs.declared.error.DecodeError.TheVariants as decode
 
 -- ---- what begins the rest
 
@@ -41,106 +45,35 @@ begins {m} {n} {i} {end} lt fits h = first h.read h.stub h.at h.fit h.ends where
       (omega (arith, fits, a.ends, length-append (piece y ++ pieces ys) s, length-append (piece y) (pieces ys), length-piece y))
       (subst (λ (o : List ℕ). At m i o end) (append_assoc (piece y) (pieces ys) s ∙ piece_before y (pieces ys ++ s)) a)
 
--- the length behind the code that was read
-sized : {d b : Reading} {v n end : ℕ} → d.index < end → end ≤ d.index + n → TookField d (Number 2) v b → b.index < end → Left d.message n d.index end
-    → (l : ℕ) × (l ≤ n) × Field b.message b.index (Number 2) l (b.index + 2) × (b.index + 2 ≤ end) × (end ≤ length b.message)
-sized {d} {b} {v} {n} {end} lt fits f more h =
-    let g = begins lt fits h in
-    let there : d.index + 2 ≡ b.index = sym (took_number f) in
-    let (l, most, field, inside) = g.size (omega (arith, there, more)) in (
-      l,
-      most,
-      subst (λ (m : List ℕ). Field m b.index (Number 2) l (b.index + 2)) (sym f.message) (subst (λ (j : ℕ). Field d.message j (Number 2) l (j + 2)) there field),
-      omega (arith, there, inside),
-      omega (arith, ap length f.message, g.within),
-    )
+-- ---- the next option is refused
 
--- ---- refusals, each with its cause
+-- so nothing is left in any way
+piece_none : {d new : Reading} {e : DecodeError} (start n : ℕ) → start ≤ d.index → d.index < start + n → RefusedPiece start n d e new
+    → NoneLeft d.message n d.index (start + n)
+piece_none {d} {new} {e} start n le lt r = record { none = λ h. by (begins lt (omega (arith, le)) h) r.why } where
+  by : Begins d.message n d.index (start + n) → IsPieceRefusal start n d e new → ⊥
+  by b (inl h) = omega (arith, b.code, b.within, h.lacks)
+  by b (inr (inl h)) =
+      let s = b.size (omega (arith, took_number h.took, h.before)) in
+      omega (arith, took_number h.took, s.3, b.within, h.lacks, ap length h.took.message)
+  by b (inr (inr (inl h))) = omega (arith, (b.size (omega (arith, b.code, r.past h.past))).3, h.past, h.short)
+  by b (inr (inr (inr (inl h)))) =
+      let (i, code, (j, size, end)) = h.took.stands in
+      let there : i ≡ d.index + 2 = omega (arith, code.is.1.ends, length-bytes 2 h.code) in
+      let behind : j ≡ i + 2 = omega (arith, size.is.1.ends, length-bytes 2 h.size) in
+      let s = b.size (omega (arith, there, behind, end, h.inside)) in
+      let field : Field d.message i (Number 2) h.size (i + 2) = subst (λ (q : ℕ). Field d.message i (Number 2) h.size q) behind size in
+      let same : s.0 ≡ h.size = field_same s.2 (subst (λ (k : ℕ). Field d.message k (Number 2) h.size (k + 2)) there field) in
+      omega (arith, s.1, same, h.long)
+  by b (inr (inr (inr (inr h)))) = omega (arith, b.within, h.record_left)
 
-behind_one : {d b : Reading} {v : ℕ} → TookField d (Number 2) v b → StaysBehind d b
-behind_one {b = b} f = took_stays f (stays b)
-
-behind_two : {d b c : Reading} {v w : ℕ} → TookField d (Number 2) v b → TookField b (Number 2) w c → StaysBehind d c
-behind_two {c = c} f g = took_stays f (took_stays g (stays c))
-
-pub refused_code : {d new : Reading} {start n : ℕ} (e : DecodeError) → start ≤ d.index → d.index < start + n → e ≡ decode.InsufficientBytes
-    → LacksOctets d 2 → new ≡ d → RefusedLeft d n (start + n) new × IsPieceRefusal start n d e new
-refused_code {d} e le lt is lacks same = (
-  record {
-    behind = rw same (stays d);
-    none = record { none = λ h. let b = begins lt (omega (arith, le)) h in omega (arith, b.code, b.within, lacks) };
-  },
-  inl (record { error = is; lacks = lacks; unchanged = same }),
-)
-
-pub refused_code_past : {d b : Reading} {v start n : ℕ} (read : ℕ) → start ≤ d.index → d.index < start + n → TookField d (Number 2) v b
-    → start + n < b.index → read ≡ b.index - start → RefusedLeft d n (start + n) b × IsPieceRefusal start n d (decode.IncorrectRDataLengthRead read n) b
-refused_code_past {n = n} read le lt f past is = (
-  record { behind = behind_one f; none = record { none = λ h. let b = begins lt (omega (arith, le)) h in omega (arith, took_number f, b.code, past) } },
-  inr (inr (inl (record {
-    error = ap (λ (k : ℕ). decode.IncorrectRDataLengthRead k n) is;
-    past = past;
-    short = omega (arith, took_number f);
-    message = f.message;
-  }))),
-)
-
-pub refused_size : {d b new : Reading} {v start n : ℕ} (e : DecodeError) → start ≤ d.index → d.index < start + n → TookField d (Number 2) v b
-    → b.index < start + n → e ≡ decode.InsufficientBytes → LacksOctets b 2 → new ≡ b → RefusedLeft d n (start + n) new × IsPieceRefusal start n d e new
-refused_size {v = v} e le lt f more is lacks same = rw same (
-  record {
-    behind = behind_one f;
-    none = record { none = λ h. let s = sized lt (omega (arith, le)) f more h in omega (arith, s.3, s.4, lacks) };
-  },
-  inr (inl (record { error = is; code = v; took = f; before = more; lacks = lacks })),
-)
-
-pub refused_size_past : {d b c : Reading} {v w start n : ℕ} (read : ℕ) → start ≤ d.index → d.index < start + n → TookField d (Number 2) v b
-    → b.index < start + n → TookField b (Number 2) w c → start + n < c.index → read ≡ c.index - start
-    → RefusedLeft d n (start + n) c × IsPieceRefusal start n d (decode.IncorrectRDataLengthRead read n) c
-refused_size_past {n = n} read le lt f more g past is = (
-  record {
-    behind = behind_two f g;
-    none = record { none = λ h. let s = sized lt (omega (arith, le)) f more h in omega (arith, s.3, took_number g, past) };
-  },
-  inr (inr (inl (record {
-    error = ap (λ (k : ℕ). decode.IncorrectRDataLengthRead k n) is;
-    past = past;
-    short = omega (arith, took_number f, took_number g);
-    message = g.message ∙ f.message;
-  }))),
-)
-
-pub refused_long : {d b c : Reading} {v w start n : ℕ} → start ≤ d.index → d.index < start + n → TookField d (Number 2) v b → b.index < start + n
-    → TookField b (Number 2) w c → c.index ≤ start + n → n < w
-    → RefusedLeft d n (start + n) c × IsPieceRefusal start n d (decode.IncorrectRDataLengthRead n w) c
-refused_long {d} {b} {c} {v} {w} {start} {n} le lt f more g inside great = (
-  record {
-    behind = behind_two f g;
-    none = record {
-      none = λ h.
-          let s = sized lt (omega (arith, le)) f more h in
-          let e : b.index + 2 ≡ c.index = sym (took_number g) in
-          let same : s.0 ≡ w = field_same (subst (λ (q : ℕ). Field b.message b.index (Number 2) s.0 q) e s.2) g.field in
-          omega (arith, s.1, same, great);
-    };
-  },
-  inr (inr (inr (inl (record {
-    code = v;
-    size = w;
-    took = took_then f (took_then g (took_last c));
-    inside = inside;
-    long = great;
-    error = refl;
-  })))),
-)
-
--- the next option is refused; want of memory says nothing of what is left
+-- want of memory says nothing of what is left
 abbrev pub RefusedHere : DecodeError → Reading → ℕ → ℕ → Reading → Type 0
 RefusedHere e d start n new = StaysBehind d new × UnlessMemory e (NoneLeft d.message n d.index (start + n)) × ((e ≡ decode.Memory) ⊎ IsNextRefusal start n d e new)
 
-pub piece_refused : {e : DecodeError} {d new : Reading} (start n : ℕ) → RefusedLeft d n (start + n) new × IsPieceRefusal start n d e new → RefusedHere e d start n new
-piece_refused {e} start n h = (h.0.behind, unless_all e h.0.none, inr (inl h.1))
+pub piece_refused : {e : DecodeError} {d new : Reading} (start n : ℕ) → start ≤ d.index → d.index < start + n → RefusedPiece start n d e new
+    → RefusedHere e d start n new
+piece_refused {e} start n le lt h = (h.behind, unless_all e (piece_none start n le lt h), inr (inl h.why))
 
 -- ---- what was read
 
@@ -224,3 +157,168 @@ first_left {m} {n} {i} {j} {end} {x} a f inside h = first h.read h.values h.at h
 
 pub no_value : {d e : Reading} {n end : ℕ} {x : Numbered (List ℕ)} → TookPiece d end x e → NoValue x.0 x.1 → NoneLeft d.message n d.index end
 no_value t l = record { none = λ left. let g = first_left t.at t.fits t.inside left in l.none g.0 g.1 }
+
+-- ---- how many options there are, by their lengths
+
+-- behind so many options that fill the octets up to a place stand the others
+pub record CountsOn (m : List ℕ) (end count place : ℕ) : Type 0 where
+  pub on : (read : List (Numbered (List ℕ))) → At m 0 (pieces read) end → ArePieces read
+      → (rest : List (Numbered (List ℕ))) × At m place (pieces rest) end × ArePieces rest × (length read ≡ count + length rest)
+
+-- the first of options that are not none
+next_piece : (m : List ℕ) (place end : ℕ) (rest : List (Numbered (List ℕ))) → place < end → At m place (pieces rest) end → ArePieces rest
+    → (y : Numbered (List ℕ)) × (ys : List (Numbered (List ℕ))) × At m place (piece y) (place + length (piece y))
+    × At m (place + length (piece y)) (pieces ys) end × IsPiece y × ArePieces ys × (length rest ≡ suc (length ys))
+next_piece m place end [] lt a f = absurd (omega (arith, a.ends))
+next_piece m place end (y ∷ ys) lt a f = (y, ys, at_front (piece y) (pieces ys) a, at_rest (piece y) (pieces ys) a, f.0, f.1, refl)
+
+-- one option more
+pub counts_more : {m : List ℕ} {end count place : ℕ} (f : ℕ) → place < end → f ≡ from_be_bytes w16 (get_or m (place + 2) 0 ∷ get_or m (place + 3) 0 ∷ [])
+    → CountsOn m end count place → CountsOn m end (count + 1) (place + (4 + f))
+counts_more {m} {end} {count} {place} f lt is h = record {
+  on = λ read a g.
+      let r = h.on read a g in
+      let y = next_piece m place end r.0 lt r.1 r.2 in
+      let size = bytes_high_first 2 (length y.0.1) in
+      let high : get_or size 0 0 ≡ get_or m (place + 2) 0 = ap (λ (o : List ℕ). get_or o 2 0) (prefix y.2) ∙ get_or-drop place m 2 0 in
+      let low : get_or size 1 0 ≡ get_or m (place + 3) 0 = ap (λ (o : List ℕ). get_or o 3 0) (prefix y.2) ∙ get_or-drop place m 3 0 in
+      let same : f ≡ length y.0.1 = is ∙ (λ i. from_be_bytes w16 (sym high i ∷ sym low i ∷ [])) ∙ from_be_bytes-to_be_bytes_2 (length y.0.1) y.4.1 in
+      let there : place + length (piece y.0) ≡ place + (4 + f) = omega (arith, length-piece y.0, same) in
+      (y.1, subst (λ (q : ℕ). At m q (pieces y.1) end) there y.3, y.5, omega (arith, r.3, y.6));
+}
+
+-- too few octets are there for another
+pub counts_short : {m : List ℕ} {end count place : ℕ} → place < end → length m < place + 4 → CountsOn m end count place → (read : List (Numbered (List ℕ)))
+    → At m 0 (pieces read) end → ArePieces read → ⊥
+counts_short {m} {end} {count} {place} lt short h read a g =
+    let r = h.on read a g in
+    let y = next_piece m place end r.0 lt r.1 r.2 in
+    omega (arith, y.2.within, length-piece y.0)
+
+-- the end is reached
+pub counts_all : {m : List ℕ} {end count place : ℕ} → place ≡ end → CountsOn m end count place → (read : List (Numbered (List ℕ)))
+    → At m 0 (pieces read) end → ArePieces read → length read ≡ count
+counts_all {m} {end} {count} {place} there h read a g =
+    let r = h.on read a g in
+    omega (arith, r.3, none r.0 r.1)
+  where
+    none : (rest : List (Numbered (List ℕ))) → At m place (pieces rest) end → length rest ≡ 0
+    none [] b = refl
+    none (y ∷ ys) b = absurd (omega (arith, b.ends, there, length-append (piece y) (pieces ys), length-piece y))
+
+-- ---- options that are read up to the end of a record
+
+-- what was read of the options up to the end, and what is left of any way to fill the record
+pub record ReadsOptions (old : Reading) (n end : ℕ) (done : List (Numbered OptionValue)) (d : Reading) : Type 0 where
+  pub message : d.message ≡ old.message
+  pub behind : old.index ≤ d.index
+  pub inside : d.index ≤ end
+  pub took : WholeOptions old.message old.index done d.index
+  pub rest : Left old.message n old.index end → Left old.message n d.index end
+
+held_more : (xs : List (Numbered (List ℕ))) (a : List (Numbered OptionValue)) (x : Numbered (List ℕ)) (v : OptionValue) → AllHeld OptionHeld xs a
+    → OptionHeld x.0 x.1 v → AllHeld OptionHeld (xs ++ x ∷ []) (a ++ (x.0, v) ∷ [])
+held_more [] [] x v f h = (refl, h, tt)
+held_more (y ∷ ys) (a ∷ as') x v f h = (f.0, f.1, held_more ys as' x v f.2 h)
+held_more xs a x v f h = absurd f
+
+pieces_more : (xs : List (Numbered (List ℕ))) (x : Numbered (List ℕ)) → pieces xs ++ piece x ≡ pieces (xs ++ x ∷ [])
+pieces_more xs x = sym (flat_map-append piece xs (x ∷ []) ∙ ap (λ (t : List ℕ). pieces xs ++ t) (append-nil (piece x)))
+
+pub options_more : {old d b : Reading} {n end : ℕ} {done : List (Numbered OptionValue)} {x : Numbered (List ℕ)} (v : OptionValue) → ReadsOptions old n end done d
+    → TookPiece d end x b → OptionHeld x.0 x.1 v → ReadsOptions old n end (done ++ (x.0, v) ∷ []) b
+options_more {old} {d} {b} {n} {end} {done} {x} v r t held =
+    let at : At old.message d.index (piece x) b.index = subst (λ (m : List ℕ). At m d.index (piece x) b.index) r.message t.at in
+    record {
+      message = t.message ∙ r.message;
+      behind = omega (arith, r.behind, at.ends);
+      inside = t.inside;
+      took = record {
+        read = r.took.read ++ x ∷ [];
+        at = subst (λ (o : List ℕ). At old.message old.index o b.index) (pieces_more r.took.read x)
+            (at_then r.took.at at);
+        fit = all_push IsPiece r.took.read x r.took.fit t.fits;
+        held = held_more r.took.read done x v r.took.held held;
+      };
+      rest = λ h. (first_left at t.fits t.inside (r.rest h)).2;
+    }
+
+-- a field of options leaves all of it at its start
+field_left : {m : List ℕ} {p q : ℕ} {v : List (Numbered OptionValue)} → Field m p Options v q → Left m (q - p) p q
+field_left {m} {p} {q} {v} f = of f.is where
+  of : WholeOptions m p v q ⊎ ((v ≡ []) × CutOptions m (q - p) p q) → Left m (q - p) p q
+  of (inl w) = record {
+    read = w.read;
+    values = v;
+    stub = [];
+    at = subst (λ (o : List ℕ). At m p o q) (sym (append-nil (pieces w.read))) w.at;
+    fit =
+        w.fit;
+    held = w.held;
+    ends = inl refl;
+  }
+  of (inr c) = record { read = c.1.read; values = c.1.dropped; stub = c.1.stub; at = c.1.at; fit = c.1.fit; held = c.1.held; ends = inr c.1.cut }
+
+pub options_refused : {e : DecodeError} {old d b : Reading} {done : List (Numbered OptionValue)} (start n : ℕ) → start ≡ old.index → d.index < start + n
+    → ReadsOptions old n (start + n) done d → RefusedHere e d start n b
+    → record { fields : Refused e old opt_shape (λ vs q. (q ≡ old.index + n) × Unit {0}) b; read : Unit {0}; refused : IsOptRefusal n old e b }
+options_refused {e} {old} {d} {b} {done} start n is before r f = record {
+  fields = record {
+    behind = record { message = f.0.message ∙ r.message; index = omega (arith, r.behind, f.0.index) };
+    none = unless_map e _ _ (λ (l : NoneLeft d.message n d.index (start + n)). record {
+      none = λ vs q s c.
+          let h : Left old.message (s.0 - old.index) old.index s.0 = field_left s.1 in
+          let there : s.0 ≡ start + n = omega (arith, s.2, c.0, is) in
+          let size : s.0 - old.index ≡ n = omega (arith, there, is) in
+          let whole : Left old.message n old.index (start + n) = subst (λ (k : ℕ). Left old.message k old.index (start + n)) size
+          (subst (λ (k : ℕ). Left old.message (s.0 - old.index) old.index k) there h) in
+          l.none (subst (λ (m : List ℕ). Left m n d.index (start + n)) (sym r.message) (r.rest whole));
+    }) f.1;
+  };
+  read = tt;
+  refused = of f.2;
+} where
+  of : (e ≡ decode.Memory) ⊎ IsNextRefusal start n d e b → IsOptRefusal n old e b
+  of (inl m) = inl m
+  of (inr h) = inr (record {
+    between = d;
+    before = record { message = r.message; values = done; took = r.took; before = omega (arith, before, is) };
+    next = subst (λ (k : ℕ). IsNextRefusal k n d e b) is h;
+  })
+
+pub options_cut : {old d b : Reading} {done : List (Numbered OptionValue)} (start n : ℕ) → start ≡ old.index → ReadsOptions old n (start + n) done d
+    → TookCut d n (start + n) b → Took old opt_shape ([], tt) b × ((b.index ≡ old.index + n) × Unit {0})
+options_cut {old} {d} {b} {done} start n is r t =
+    let end = start + n in
+    let at : At old.message old.index (pieces r.took.read ++ t.stub) end = at_then r.took.at (subst (λ (m : List ℕ). At m d.index t.stub end) r.message t.at) in
+    let size : n ≡ end - old.index = omega (arith, is) in
+    let cut : CutOptions old.message (end - old.index) old.index end =
+    record {
+      read = r.took.read;
+      dropped = done;
+      stub = t.stub;
+      at = at;
+      fit = r.took.fit;
+      held = r.took.held;
+      cut =
+          subst (λ (k : ℕ). IsCut k t.stub) size t.cut;
+    } in
+    (record { message = t.message ∙ r.message; stands = (end, record { is = inr (refl, cut) }, sym t.there) }, (omega (arith, t.there, is), tt))
+
+-- ---- the pairs that are kept
+
+-- the pairs of these values, as they are read
+pub record AreRead (xs : List Pair) (done : List (Numbered OptionValue)) : Type 0 where
+  pub values : map pair_value xs ≡ done
+  pub pairs : xs ≡ map pair_of done
+
+pub read_more : {keeps : Bool} {code : ℕ} {body : List ℕ} {old new : List Pair} {done : List (Numbered OptionValue)} (k : KeptOption keeps code body old new)
+    → (keeps ≡ true → AreRead old done) → keeps ≡ true → AreRead new (done ++ (code, k.value) ∷ [])
+read_more {code = code} {old = old} {done = done} k h t =
+    let r = h t in
+    let p = k.pair t in
+    let x = pair_of (code, k.value) in
+    record {
+      values = ap (map pair_value) p.0 ∙ map_push pair_value old x ∙ (λ i. r.values i ++ p.1 i ∷ []);
+      pairs = p.0 ∙ ap (λ (l : List Pair). l ++ x ∷ []) r.pairs ∙ sym (map_push pair_of done (code, k.value));
+    }

@@ -57,13 +57,16 @@ held_code code s x e h =
     let other = three_else n (edns.NSID s) (edns.Unknown n s) (λ k. cc (sym e ∙ ap edns_code_of k ∙ of_3)) in
     subst (HeldAs n s) (sym h) (record { held = ((λ k. cc (sym e ∙ ap edns_code_of k ∙ of_8)), refl); given = sym other })
 
+-- the octets of an address that is held
+pub held_octets : (n : ℕ) (s : List ℕ) (f source scope : ℕ) (a : List ℕ) → AreOctets s → OptionHeld n s (Subnet f source scope a) → AreOctets a
+held_octets n s f source scope a are h = AreOctets-tail scope a (AreOctets-tail source (scope ∷ a) (AreOctets-back (bytes_high_first 2 f) (source ∷ scope ∷ a)
+    (AreOctets-front (option_octets (Subnet f source scope a)) h.2 (AreOctets-same s _ h.3 are))))
+
 -- ---- where there is none
 
 no_subnet_value : (s : List ℕ) → AreOctets s → NoSubnet s → (v : OptionValue) → OptionHeld 8 s v → ⊥
 no_subnet_value s are none (Subnet f source scope a) h =
-    let octets : AreOctets a = AreOctets-tail scope a
-    (AreOctets-tail source (scope ∷ a) (AreOctets-back (bytes_high_first 2 f) (source ∷ scope ∷ a)
-    (AreOctets-front (option_octets (Subnet f source scope a)) h.2 (AreOctets-same s _ h.3 are)))) in
+    let octets : AreOctets a = held_octets 8 s f source scope a are h in
     let value : subnet_value (subnet_of f source scope a) ≡ Subnet f source scope a = value_back f source scope a h.1 octets in
     none.none (subnet_of f source scope a) _ (record {
       fits = subst IsEmittableOption (sym value) h.1;

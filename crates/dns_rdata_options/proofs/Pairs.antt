@@ -1,25 +1,49 @@
 -- Options that are emitted one after the other.
 use Rattle.std.proofs.Common.{◌≡◌, ℕ, ◌+◌, ◌<◌, ◌≤◌, ◌/◌, ◌==◌, ◌&&◌, ◌||◌, ◌⊎◌, nat_le, eqb-true, Bool, true, false, List, [], ◌∷◌, ◌++◌, length}
-use Rattle.std.proofs.Common.{map, take, drop, get_or, refl, sym, ap, ◌∙◌, arith, append_assoc, subst}
-use Rattle.std.proofs.{Math.Bool.and-false, lemmas.Bool.Decides.nat_tests, lemmas.Grind.flat_map-append}
+use Rattle.std.proofs.Common.{⊎_elim, map, take, drop, get_or, refl, sym, ap, ◌∙◌, arith, append_assoc, subst}
+use Rattle.std.proofs.{Math.Bool.and-false, lemmas.Bool.cases_Bool, lemmas.Bool.Decides.nat_tests, lemmas.Grind.flat_map-append}
 use Rattle.std.proofs.lemmas.List.{map-append, append-nil, length-append, drop_more, take_more, take-append-drop}
 use Rattle.std.specs.Cmp.{first_so, second_so}
 use Rattle.dns_types.specs.declared.error.ProtoError.{ProtoError}
 use Rattle.dns_fields.specs.Pieces.{Numbered, piece, pieces, as_piece, OptionValue, Subnet, Plain, option_octets, OptionFits, IsEmittableOption}
 use Rattle.dns_fields.specs.Pieces.{option_emittable, options_emittable}
-use Rattle.dns_fields.specs.Fields.{Options, field_octets, option_pieces}
+use Rattle.dns_fields.specs.Fields.{Options, field_octets, option_pieces, Rest}
 use Rattle.dns_fields.proofs.Sorted.{octets_cmp, flat_map_all, length_sorted}
-use Rattle.dns_names_wire.specs.{State.Writing, Words.AppendedField, Words.StoppedField}
-use Rattle.dns_names_wire.proofs.FieldWrites.{keeps_then, because_map}
+use Rattle.dns_names_wire.specs.{State.Writing, Words.AppendedField, Words.StoppedField, Words.NoRoomField, Words.UnfitField}
+use Rattle.dns_names_wire.proofs.FieldWrites.{keeps_then, because_map, extends_then}
 use Rattle.dns_rdata_options.specs.{EdnsCode.edns_code_number, Words.AppendedOctets, Words.StoppedOctets, OPT.Pair, OPT.pair_value}
 use Rattle.dns_rdata_options.proofs.Selection.{all_push}
+
+-- ---- plain octets that are appended in parts
+
+pub stopped_two : {e : ProtoError} {old mid new : Writing} {asked : Type 0} (s t whole : List ℕ) → AppendedField old Rest s mid
+    → StoppedField e mid Rest t new → s ++ t ≡ whole → StoppedOctets e asked whole old new
+unfolding field_octets
+stopped_two {e} {old} {mid} s t whole f g is = record {
+  extends = extends_then f g.extends;
+  why = because_map e _ _ _ _
+      (λ (r : NoRoomField mid Rest t). omega (arith, r.full, f.keeps.limit, ap length f.field.is, length-append old.octets s, ap length is, length-append s t))
+      (λ (u : UnfitField Rest t) _. let e = u.unfit in cc e)
+      g.why;
+}
+
+-- more than four octets begin by four
+pub stopped_front : {e : ProtoError} {old new : Writing} {asked : Type 0} (s whole : List ℕ) → StoppedField e old Rest s new → length s ≤ length whole
+    → StoppedOctets e asked whole old new
+unfolding field_octets
+stopped_front {e} {old} s whole f le = record {
+  extends = f.extends;
+  why = because_map e _ _ _ _ (λ (r : NoRoomField old Rest s). omega (arith, r.full, le)) (λ (u : UnfitField Rest s) _. let e = u.unfit in cc e) f.why;
+}
+
+-- ---- options
 
 joined : (xs : List (Numbered OptionValue)) (x : Numbered OptionValue) (ys : List (Numbered OptionValue))
     → pieces (option_pieces (xs ++ x ∷ ys)) ≡ pieces (option_pieces xs) ++ (piece (as_piece option_octets x) ++ pieces (option_pieces ys))
 joined xs x ys = ap pieces (map-append (as_piece option_octets) xs (x ∷ ys)) ∙ flat_map-append piece (option_pieces xs) (option_pieces (x ∷ ys))
 
 -- what an option's emission tests
-is_fit : Numbered OptionValue → Bool
+abbrev is_fit : Numbered OptionValue → Bool
 is_fit x = nat_le (length (option_octets x.1)) 65535 && option_emittable x.1
 
 emittable_option : (v : OptionValue) → option_emittable v ≡ true → IsEmittableOption v
@@ -37,16 +61,13 @@ pub is_short : (n : ℕ) → nat_le n 65535 ≡ true → n < 65536
 is_short n h = grind (arith, nat_tests)
 
 unfit : (x : Numbered OptionValue) → x.0 < 65536 → (OptionFits x → ⊥) → is_fit x ≡ false
-unfolding is_fit
-unfit x small none = by (nat_le (length (option_octets x.1)) 65535 && option_emittable x.1) refl where
-  by : (b : Bool) → (nat_le (length (option_octets x.1)) 65535 && option_emittable x.1) ≡ b → b ≡ false
-  by false e = refl
-  by true e = let few = is_short (length (option_octets x.1)) (first_so (nat_le (length (option_octets x.1)) 65535) _ e) in
-      absurd (none ((omega (arith, small), omega (arith, few)), emittable_option x.1 (second_so (nat_le (length (option_octets x.1)) 65535) _ e)))
+unfit x small none = ⊎_elim
+    (λ t. let few = is_short (length (option_octets x.1)) (first_so _ _ t) in
+    absurd (none ((omega (arith, small), omega (arith, few)), emittable_option x.1 (second_so (nat_le (length (option_octets x.1)) 65535) _ t))))
+    (λ n. n) (cases_Bool (is_fit x))
 
 unfit_inner : (xs : List (Numbered OptionValue)) (x : Numbered OptionValue) (ys : List (Numbered OptionValue)) → is_fit x ≡ false
     → options_emittable (xs ++ x ∷ ys) ≡ false
-unfolding is_fit
 unfit_inner [] x ys e = rw e refl
 unfit_inner (y ∷ xs) x ys e = rw (unfit_inner xs x ys e) (and-false (nat_le (length (option_octets y.1)) 65535 && option_emittable y.1))
 

@@ -1,6 +1,6 @@
 -- The order of the octets of options, and of lists that they begin.
 use Rattle.std.proofs.Common.{◌≡◌, ◌≢◌, ℕ, ◌<◌, ◌^◌, nat_le, true, List, [], ◌∷◌, ◌++◌, length, map, count_by, refl, sym, ap, ◌∙◌}
-use Rattle.std.proofs.{lemmas.List.append-nil, lemmas.Grind.flat_map-append}
+use Rattle.std.proofs.lemmas.List.{append-nil}
 use Rattle.std.specs.{Int.bytes_high_first, List.flat_map, List.AllByRecursion, Cmp.first_so, Cmp.second_so, FinMap.nat_cmp-IsAntisymmetric}
 use Rattle.std.specs.{Cmp.Lexicographic.slice_cmp, declared.cmp.Ordering.Ordering}
 use Rattle.std.specs.Ordering.{is_eq, eq_by_cmp, nat_cmp, ordering_then}
@@ -55,15 +55,10 @@ pairs_decide p q u v e f apart = then_kept (octets_cmp (own_piece p) (own_piece 
 
 -- ---- lists
 
--- the octets of lists that begin with the same pairs
-pub behind_same : (front xs ys : List Pair)
-    → octets_cmp (flat_map own_piece (front ++ xs)) (flat_map own_piece (front ++ ys)) ≡ octets_cmp (flat_map own_piece xs) (flat_map own_piece ys)
-behind_same front xs ys = cmp_shared {n = length (flat_map own_piece front)} record {
-  shared = flat_map own_piece front;
-  count = refl;
-  left = flat_map-append own_piece front xs;
-  right = flat_map-append own_piece front ys;
-}
+-- the octets of lists that begin with the same pair
+pub behind_same : (p : Pair) (xs ys : List Pair)
+    → octets_cmp (flat_map own_piece (p ∷ xs)) (flat_map own_piece (p ∷ ys)) ≡ octets_cmp (flat_map own_piece xs) (flat_map own_piece ys)
+behind_same p xs ys = cmp_shared {n = length (own_piece p)} record { shared = own_piece p; count = refl; left = refl; right = refl }
 
 -- each pair can be emitted
 abbrev AllEmittable : List Pair → Type 0

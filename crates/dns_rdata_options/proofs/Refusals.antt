@@ -1,5 +1,5 @@
 -- No record of options is refused by the number of its type.
-use Rattle.std.proofs.Common.{inl, inr, ℕ, List}
+use Rattle.std.proofs.Common.{arith, inl, inr, ℕ, List}
 use Rattle.dns_types.specs.declared.error.DecodeError.TheVariants as decode
 use Rattle.dns_names_wire.specs.State.{Reading}
 use Rattle.dns_rdata_options.specs.{ClientSubnet.IsSubnetRefusal, EdnsOption.IsOptionRefusal, declared.opt.code.EdnsCode.EdnsCode}
@@ -7,11 +7,7 @@ use Rattle.dns_rdata_options.specs.OPT.{IsPieceRefusal, IsNextRefusal, IsOptRefu
 use Rattle.dns_rdata_options.specs.declared.opt.code.EdnsCode.TheVariants as codes
 
 subnet_never : (s : List ℕ) (k : ℕ) → IsSubnetRefusal s (decode.UnknownRecordTypeValue k) → ⊥
-subnet_never s k (inl h) = let e = h.error in cc e
-subnet_never s k (inr (inl h)) = let e = h.error in cc e
-subnet_never s k (inr (inr (inl h))) = let e = h.error in cc e
-subnet_never s k (inr (inr (inr (inl h)))) = let e = h.error in cc e
-subnet_never s k (inr (inr (inr (inr h)))) = let e = h.error in cc e
+subnet_never s k h = grind arith
 
 option_never : (code : EdnsCode) (s : List ℕ) (k : ℕ) → IsOptionRefusal code s (decode.UnknownRecordTypeValue k) → ⊥
 option_never codes.Subnet s k h = subnet_never s k h.1
@@ -19,11 +15,7 @@ option_never codes.NSID s k h = let e = h.1 in cc e
 option_never code s k h = h
 
 piece_never : (start n : ℕ) (old new : Reading) (k : ℕ) → IsPieceRefusal start n old (decode.UnknownRecordTypeValue k) new → ⊥
-piece_never start n old new k (inl h) = let e = h.error in cc e
-piece_never start n old new k (inr (inl h)) = let e = h.error in cc e
-piece_never start n old new k (inr (inr (inl h))) = let e = h.error in cc e
-piece_never start n old new k (inr (inr (inr (inl h)))) = let e = h.error in cc e
-piece_never start n old new k (inr (inr (inr (inr h)))) = let e = h.error in cc e
+piece_never start n old new k h = grind arith
 
 next_never : (start n : ℕ) (old new : Reading) (k : ℕ) → IsNextRefusal start n old (decode.UnknownRecordTypeValue k) new → ⊥
 next_never start n old new k (inl h) = piece_never start n old new k h

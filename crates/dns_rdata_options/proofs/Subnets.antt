@@ -5,14 +5,13 @@ use Rattle.std.specs.{Int.w16, Int.from_be_bytes, Int.bytes_high_first, Net.Addr
 use Rattle.std.specs.{declared.net.ip_addr.IpAddr.TheVariants.V6, declared.net.ipv6_addr.Ipv6Addr.Ipv6Addr}
 use Rattle.std.proofs.{lemmas.Bool.Decides.nat_tests, lemmas.Nat.be_bytes_2}
 use Rattle.std.proofs.lemmas.List.{length-append, length-take-le, length-drop, length-replicate, take-append-drop, take_at}
-use Rattle.dns_types.specs.declared.error.DecodeError.TheVariants as decode
 use Rattle.dns_fields.specs.Octets.{At, AreOctets}
 use Rattle.dns_fields.specs.Pieces.{OptionValue, Subnet, option_octets, IsAddress, IsEmittableOption}
 use Rattle.dns_fields.proofs.Numbers.{length-bytes}
 use Rattle.dns_fields.proofs.OctetLaws.{AreOctets-nil, AreOctets-cons, AreOctets-append, AreOctets-take, AreOctets-drop}
 use Rattle.dns_rdata_base.proofs.Addresses.{octets_of-segments}
 use Rattle.dns_rdata_options.specs.ClientSubnet.{family_of, address_octets, prefix_octets, family_octets, padded, address_of, subnet_of, subnet_value}
-use Rattle.dns_rdata_options.specs.ClientSubnet.{IsReadSubnet, SubnetAt, IsFamily, SubnetHead, IsSubnetRefusal}
+use Rattle.dns_rdata_options.specs.ClientSubnet.{IsReadSubnet, SubnetAt, IsFamily, SubnetHead}
 use Rattle.dns_rdata_options.specs.declared.opt.subnet.ClientSubnet.{ClientSubnet}
 
 -- octets as numbers of eight bits, as code knows them
@@ -25,61 +24,18 @@ pair_small p q a b (suc zero) = b
 pair_small p q a b (suc (suc i)) = omega arith
 
 -- the family, and what follows
-pub family_first : (s : List ℕ) (f : ℕ) → 2 ≤ length s → Eights s → f ≡ from_be_bytes w16 (get_or s 0 0 ∷ get_or s 1 0 ∷ [])
+pub family_first : (s : List ℕ) (f : ℕ) → f ≡ from_be_bytes w16 (get_or s 0 0 ∷ get_or s 1 0 ∷ []) → 2 ≤ length s → Eights s
     → s ≡ bytes_high_first 2 f ++ drop 2 s
-family_first (p ∷ q ∷ s) f n b e = ap (λ (o : List ℕ). o ++ s) (sym (be_bytes_2 (p ∷ q ∷ []) f refl (pair_small p q (b 0) (b 1)) e))
-family_first s f n b e = absurd (omega arith)
+family_first (p ∷ q ∷ s) f e n b = ap (λ (o : List ℕ). o ++ s) (sym (be_bytes_2 (p ∷ q ∷ []) f refl (pair_small p q (b 0) (b 1)) e))
+family_first s f e n b = absurd (omega arith)
 
 heads : (s : List ℕ) → 4 ≤ length s → drop 2 s ≡ get_or s 2 0 ∷ get_or s 3 0 ∷ drop 4 s
 heads (p ∷ q ∷ r ∷ t ∷ s) n = refl
 heads s n = absurd (omega arith)
 
-pub head_first : (s : List ℕ) (f : ℕ) → 4 ≤ length s → Eights s → f ≡ from_be_bytes w16 (get_or s 0 0 ∷ get_or s 1 0 ∷ []) → IsFamily f
+pub head_first : (s : List ℕ) (f : ℕ) → f ≡ from_be_bytes w16 (get_or s 0 0 ∷ get_or s 1 0 ∷ []) → 4 ≤ length s → Eights s → IsFamily f
     → SubnetHead s f (get_or s 2 0) (get_or s 3 0) (drop 4 s)
-head_first s f n b e known = record { octets = family_first s f (omega arith) b e ∙ ap (λ (o : List ℕ). bytes_high_first 2 f ++ o) (heads s n); known = known }
-
--- ---- refusals
-
-pub unknown_family : (s : List ℕ) (f : ℕ) → f < 65536 → 2 ≤ length s → Eights s → f ≡ from_be_bytes w16 (get_or s 0 0 ∷ get_or s 1 0 ∷ [])
-    → (IsFamily f → ⊥) → IsSubnetRefusal s (decode.UnknownAddressFamily f)
-unknown_family s f small n b e unknown =
-    inr (inl (record { family = f; rest = drop 2 s; octets = family_first s f n b e; small = small; unknown = unknown; error = refl }))
-
-pub no_prefixes : (s : List ℕ) (f : ℕ) → 2 ≤ length s → length s < 4 → Eights s → f ≡ from_be_bytes w16 (get_or s 0 0 ∷ get_or s 1 0 ∷ []) → IsFamily f
-    → IsSubnetRefusal s decode.InsufficientBytes
-no_prefixes s f n short b e known = inr (inr
-    (inl (record { family = f; rest = drop 2 s; octets = family_first s f n b e; known = known; short = omega (arith, length-drop 2 s); error = refl })))
-
-pub long_prefix : (s : List ℕ) (f : ℕ) → 4 ≤ length s → Eights s → f ≡ from_be_bytes w16 (get_or s 0 0 ∷ get_or s 1 0 ∷ []) → IsFamily f
-    → family_octets f < prefix_octets (get_or s 2 0)
-    → IsSubnetRefusal s (decode.IncorrectRDataLengthRead (family_octets f) (prefix_octets (get_or s 2 0)))
-long_prefix s f n b e known long = inr (inr
-    (inr (inl (record {
-      family = f;
-      source = get_or s 2 0;
-      scope = get_or s 3 0;
-      rest = drop 4 s;
-      head = head_first s f n b e known;
-      long = long;
-      error =
-          refl;
-    }))))
-
-pub no_address : (s : List ℕ) (f : ℕ) → 4 ≤ length s → Eights s → f ≡ from_be_bytes w16 (get_or s 0 0 ∷ get_or s 1 0 ∷ []) → IsFamily f
-    → prefix_octets (get_or s 2 0) ≤ family_octets f → length s - 4 < prefix_octets (get_or s 2 0)
-    → IsSubnetRefusal s decode.InsufficientBytes
-no_address s f n b e known most short = inr
-    (inr (inr (inr (record {
-      family = f;
-      source = get_or s 2 0;
-      scope = get_or s 3 0;
-      rest = drop 4 s;
-      head = head_first s f n b e known;
-      most =
-          most;
-      short = omega (arith, length-drop 4 s);
-      error = refl;
-    }))))
+head_first s f e n b known = record { octets = family_first s f e (omega arith) b ∙ ap (λ (o : List ℕ). bytes_high_first 2 f ++ o) (heads s n); known = known }
 
 -- ---- a subnet that stands
 
@@ -152,7 +108,7 @@ subnet_stands s f x n b e known most enough is =
     let address = is_address f source a known long (omega (arith, long, most)) in
     let value : subnet_value (subnet_of f source scope a) ≡ Subnet f source scope a = value_back f source scope a address are in
     let octets : s ≡ option_octets (Subnet f source scope a) ++ drop k (drop 4 s) =
-    (head_first s f n b e known).octets ∙ ap (λ (o : List ℕ). bytes_high_first 2 f ++ (source ∷ scope ∷ o)) (sym (take-append-drop k (drop 4 s)))
+    (head_first s f e n b known).octets ∙ ap (λ (o : List ℕ). bytes_high_first 2 f ++ (source ∷ scope ∷ o)) (sym (take-append-drop k (drop 4 s)))
     ∙ sym (append_assoc (bytes_high_first 2 f) (source ∷ scope ∷ a) (drop k (drop 4 s))) in
     let there : length (option_octets (Subnet f source scope a)) ≡ 4 + k =
     omega (arith, length-append (bytes_high_first 2 f) (source ∷ scope ∷ a), length-bytes 2 f, long) in

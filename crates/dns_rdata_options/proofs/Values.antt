@@ -2,16 +2,16 @@
 -- tells whether one is the other in another order; of two that were read, whether their fields are.
 use Rattle.std.proofs.Common.{◌≡◌, ◌↔◌, ◌⊎◌, inl, inr, ℕ, ◌-◌, ◌==◌, Bool, true, false, cond, List, [], ◌∷◌, ◌++◌, map, count_by, get_or, slice_get}
 use Rattle.std.proofs.Common.{Some, refl, sym, ap, ◌∙◌, subst}
-use Rattle.std.specs.{Bool.Decides, Cmp.unsigned_Decides, Cmp.Lexicographic.pointwise, Cmp.Lexicographic.pointwise_decides, Ordering.is_eq}
+use Rattle.std.specs.{Bool.Decides, Cmp.unsigned_Decides, Cmp.first_so, Cmp.second_so, Cmp.Lexicographic.pointwise, Cmp.Lexicographic.pointwise_decides, Ordering.is_eq}
 use Rattle.std.specs.{Ordering.eq_by_cmp, FinMap.IsAntisymmetric, List.Sorted.IsPermutation, Int.bytes_high_first, declared.net.ip_addr.IpAddr.IpAddr}
 use Rattle.std.specs.declared.net.ip_addr.IpAddr.TheVariants.{V4, V6}
 use Rattle.std.proofs.{lemmas.Option.get_or_from_slice_get, lemmas.List.Sorted.IsPermutation-map}
-use Rattle.std.proofs.lemmas.Bool.Decides.{same_from_decides, Decides-and, Decides-like}
+use Rattle.std.proofs.lemmas.Bool.Decides.{same_from_decides, Decides-like}
 use Rattle.std.specs.contracts.net.ip_addr.IpAddrPartialEq.TheImpl as equal_addresses
 use Rattle.dns_fields.specs.{Octets.AreOctets, Fields.Values, Fields.WholeOptions, Fields.CutOptions, Fields.Stands, Fields.Same, Equal.values_eq}
-use Rattle.dns_fields.specs.Pieces.{Numbered, piece, pieces, AllHeld, OptionValue, Subnet, Plain, option_octets, OptionHeld}
+use Rattle.dns_fields.specs.Pieces.{Numbered, piece, pieces, AllHeld, OptionValue, Subnet, Plain, OptionHeld}
 use Rattle.dns_fields.proofs.{EqualLaws.values_decide, Multisets.count_ext, Multisets.counts_decide, Sorted.permutation_counts}
-use Rattle.dns_fields.proofs.OctetLaws.{AreOctets-at, AreOctets-front, AreOctets-back, AreOctets-same, AreOctets-tail}
+use Rattle.dns_fields.proofs.OctetLaws.{AreOctets-at, AreOctets-front, AreOctets-back}
 use Rattle.dns_rdata_options.specs.{EdnsOption.option_value, Order.pair_eq, Order.pair_cmp, Order.opt_eq, declared.opt.code.EdnsCode.EdnsCode}
 use Rattle.dns_rdata_options.specs.{declared.opt.option.EdnsOption.EdnsOption, declared.opt.subnet.ClientSubnet.ClientSubnet}
 use Rattle.dns_rdata_options.specs.EdnsCode.{edns_code_number, edns_code_variant, edns_code_of}
@@ -21,16 +21,12 @@ use Rattle.dns_rdata_options.specs.declared.opt.code.EdnsCode.TheVariants as cod
 use Rattle.dns_rdata_options.specs.declared.opt.option.EdnsOption.TheVariants as edns
 use Rattle.dns_rdata_options.specs.contracts.opt.option.EdnsOptionPartialEq.TheImpl as equal_options
 use Rattle.dns_rdata_options.specs.contracts.opt.subnet.ClientSubnetPartialEq.TheImpl as equal_subnets
-use Rattle.dns_rdata_options.proofs.{OptionValues.edns_code_number-of, Subnets.value_back}
+use Rattle.dns_rdata_options.proofs.{OptionValues.edns_code_number-of, OptionValues.held_octets, Subnets.value_back}
 
 -- ---- values that were read
 
 held_value : (n : ℕ) (s : List ℕ) (v : OptionValue) → AreOctets s → OptionHeld n s v → option_value (option_of n v) ≡ v
-held_value n s (Subnet f source scope a) are h =
-    let octets : AreOctets a = AreOctets-tail scope a
-    (AreOctets-tail source (scope ∷ a) (AreOctets-back (bytes_high_first 2 f) (source ∷ scope ∷ a)
-    (AreOctets-front (option_octets (Subnet f source scope a)) h.2 (AreOctets-same s _ h.3 are)))) in
-    value_back f source scope a h.1 octets
+held_value n s (Subnet f source scope a) are h = value_back f source scope a h.1 (held_octets n s f source scope a are h)
 held_value n s (Plain t) are h = either (n == 3) where
   either : (b : Bool) → option_value (cond b (edns.NSID t) (edns.Unknown n t)) ≡ Plain t
   either true = refl
@@ -63,11 +59,11 @@ opt_from-fields x h = h.given
 
 -- ---- `==` of pairs tells them apart
 
-told : (x : Bool) {P Q : Type 0} → Decides x P → P ↔ Q → Decides x Q
-told x d s = Decides-like x s.0 s.1 d
+number_same : (a b : ℕ) → (a == b) ≡ true → a ≡ b
+number_same a b = (unsigned_Decides a b).0
 
-octets_decide : (a b : List ℕ) → Decides (pointwise ◌==◌ a b) (a ≡ b)
-octets_decide a b = pointwise_decides unsigned_Decides a b
+octets_same : (a b : List ℕ) → pointwise ◌==◌ a b ≡ true → a ≡ b
+octets_same a b = (pointwise_decides unsigned_Decides a b).0
 
 code_back : ℕ → ℕ → EdnsCode
 code_back n v = cond (v == 13) (codes.Unknown n) (edns_code_of n)
@@ -77,54 +73,47 @@ unfolding code_back edns_code_of
 code_again (codes.Unknown n) = refl
 code_again c = refl
 
-pub code_decides : (a b : EdnsCode) → Decides (code_eq a b) (a ≡ b)
-code_decides a b = told (code_eq a b) (Decides-and _ _ (unsigned_Decides (edns_code_number a) (edns_code_number b))
-    (unsigned_Decides (edns_code_variant a) (edns_code_variant b)))
-    (λ h. sym (code_again a) ∙ (λ i. code_back (h.0 i) (h.1 i)) ∙ code_again b, λ e. (ap edns_code_number e, ap edns_code_variant e))
+pub code_same : (a b : EdnsCode) → code_eq a b ≡ true → a ≡ b
+code_same a b h =
+    let numbers = number_same (edns_code_number a) (edns_code_number b) (first_so _ _ h) in
+    let variants = number_same (edns_code_variant a) (edns_code_variant b) (second_so (edns_code_number a == edns_code_number b) _ h) in
+    sym (code_again a) ∙ (λ i. code_back (numbers i) (variants i)) ∙ code_again b
 
-address_decides : (a b : IpAddr) → Decides (equal_addresses.ghosts.eq a b) (a ≡ b)
-address_decides (V4 a) (V4 b) = told _ (octets_decide a.octets b.octets) (λ e. ap (λ (s : List ℕ). V4 (record { octets = s })) e, λ e. cc e)
-address_decides (V6 a) (V6 b) = told _ (octets_decide a.segments b.segments) (λ e. ap (λ (s : List ℕ). V6 (record { segments = s })) e, λ e. cc e)
-address_decides a b = (λ h. cc h, λ e. cc e)
+address_same : (a b : IpAddr) → equal_addresses.ghosts.eq a b ≡ true → a ≡ b
+address_same (V4 a) (V4 b) h = ap (λ (s : List ℕ). V4 (record { octets = s })) (octets_same a.octets b.octets h)
+address_same (V6 a) (V6 b) h = ap (λ (s : List ℕ). V6 (record { segments = s })) (octets_same a.segments b.segments h)
+address_same a b h = cc h
 
-subnet_decides : (a b : ClientSubnet) → Decides (equal_subnets.ghosts.eq a b) (a ≡ b)
-subnet_decides a b =
-    told _ (Decides-and _ _ (address_decides a.address b.address)
-    (Decides-and _ _ (unsigned_Decides a.source_prefix b.source_prefix) (unsigned_Decides a.scope_prefix b.scope_prefix))) (
-      λ h. (λ i. record { address = h.0 i; source_prefix = h.1.0 i; scope_prefix = h.1.1 i }),
-      λ e.
-          (ap (λ (x : ClientSubnet). x.address) e, (ap (λ (x : ClientSubnet). x.source_prefix) e, ap (λ (x : ClientSubnet). x.scope_prefix) e)),
-    )
+subnet_same : (a b : ClientSubnet) → equal_subnets.ghosts.eq a b ≡ true → a ≡ b
+subnet_same a b h =
+    let address = address_same a.address b.address (first_so _ _ h) in
+    let prefixes = second_so (equal_addresses.ghosts.eq a.address b.address) _ h in
+    let source = number_same a.source_prefix b.source_prefix (first_so _ _ prefixes) in
+    let scope = number_same a.scope_prefix b.scope_prefix (second_so (a.source_prefix == b.source_prefix) _ prefixes) in
+    λ i. record { address = address i; source_prefix = source i; scope_prefix = scope i }
 
-subnet_within : EdnsOption → ClientSubnet → ClientSubnet
-subnet_within (edns.Subnet x) y = x
-subnet_within o y = y
+pub option_same : (a b : EdnsOption) → equal_options.ghosts.eq a b ≡ true → a ≡ b
+option_same (edns.Subnet a) (edns.Subnet b) h = ap edns.Subnet (subnet_same a b h)
+option_same (edns.NSID a) (edns.NSID b) h = ap edns.NSID (octets_same a b h)
+option_same (edns.Unknown n a) (edns.Unknown m b) h = λ i. edns.Unknown (number_same n m (first_so _ _ h) i) (octets_same a b (second_so (n == m) _ h) i)
+option_same a b h = cc h
 
-pub option_decides : (a b : EdnsOption) → Decides (equal_options.ghosts.eq a b) (a ≡ b)
-unfolding subnet_within
-option_decides (edns.Subnet a) (edns.Subnet b) = told _ (subnet_decides a b) (λ e. ap edns.Subnet e, λ e. ap (λ (o : EdnsOption). subnet_within o a) e)
-option_decides (edns.NSID a) (edns.NSID b) = told _ (octets_decide a b) (λ e. ap edns.NSID e, λ e. cc e)
-option_decides (edns.Unknown n a) (edns.Unknown m b) = told _ (Decides-and _ _ (unsigned_Decides n m) (octets_decide a b))
-    (λ e i. edns.Unknown (e.0 i) (e.1 i), λ e. (cc e, cc e))
-option_decides a b = (λ h. cc h, λ e. cc e)
-
-pub pair_decides : (a b : Pair) → Decides (pair_eq a b) (a ≡ b)
-pair_decides a b = told _ (Decides-and _ _ (code_decides a.0 b.0) (option_decides a.1 b.1))
-    (λ h i. (h.0 i, h.1 i), λ e. (ap (λ (p : Pair). p.0) e, ap (λ (p : Pair). p.1) e))
+pub pair_same : (a b : Pair) → pair_eq a b ≡ true → a ≡ b
+pair_same a b h = λ i. (code_same a.0 b.0 (first_so _ _ h) i, option_same a.1 b.1 (second_so (code_eq a.0 b.0) _ h) i)
 
 pub pair_same_at : (xs ys : List Pair) (i j : ℕ) (p q x y : Pair) → p ≡ get_or xs i p → q ≡ get_or ys j q → slice_get xs i ≡ Some x → slice_get ys j ≡ Some y
     → pair_eq p q ≡ true → x ≡ y
 pair_same_at xs ys i j p q x y e f g h t =
-    sym (get_or_from_slice_get xs i x p g) ∙ sym e ∙ (pair_decides p q).0 t ∙ f ∙ get_or_from_slice_get ys j y q h
+    sym (get_or_from_slice_get xs i x p g) ∙ sym e ∙ pair_same p q t ∙ f ∙ get_or_from_slice_get ys j y q h
 
-pair_same : IsAntisymmetric pair_cmp
-pair_same a b e = (pair_decides a b).0 (pair_ties a b ∙ ap is_eq e)
+pair_tied : IsAntisymmetric pair_cmp
+pair_tied a b e = pair_same a b (pair_ties a b ∙ ap is_eq e)
 
 -- one record is the other in another order
 pub opt_permutes : (a b : List Pair) → Decides (opt_eq a b) (IsPermutation a b)
 opt_permutes a b =
     let counts = counts_decide pair_cmp pair_total pair_eq pair_ties a b (opt_eq a b) (opt_ties a b) in
-    let permutes = permutation_counts pair_cmp pair_total pair_same a b in
+    let permutes = permutation_counts pair_cmp pair_total pair_tied a b in
     let same : (w : Pair) (l : List Pair) → count_by (pair_eq w) l ≡ count_by (eq_by_cmp pair_cmp w) l =
     λ w l. count_ext (pair_eq w) (eq_by_cmp pair_cmp w) (pair_ties w) l in
     (λ t. permutes.1 (λ w. sym (same w a) ∙ counts.0 t w ∙ same w b), λ p. counts.1 (λ w. same w a ∙ permutes.0 p w ∙ sym (same w b)))
@@ -145,4 +134,4 @@ pub opt_equal : (a b : List Pair) → IsReadOpt a → IsReadOpt b → opt_eq a b
 opt_equal a b x y =
     let same = same_fields a b x y in
     same_from_decides (opt_eq a b) (values_eq opt_shape (opt_fields a) (opt_fields b)) (opt_permutes a b)
-    (told _ (values_decide opt_shape (opt_fields a) (opt_fields b) (tt, tt) (tt, tt)) (same.1, same.0))
+    (Decides-like _ same.1 same.0 (values_decide opt_shape (opt_fields a) (opt_fields b) (tt, tt) (tt, tt)))

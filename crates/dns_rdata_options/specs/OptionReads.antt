@@ -1,5 +1,5 @@
 -- Options, as the reader meets them one by one.
-use Rattle.std.specs.Prelude.{◌≡◌, ℕ, ◌+◌, ◌≤◌, ◌⊎◌, Bool, true, List, [], ◌∷◌, ◌++◌, Option, Some, None, Result, Ok, Err}
+use Rattle.std.specs.Prelude.{◌≡◌, ◌≢◌, ℕ, ◌+◌, ◌<◌, ◌≤◌, ◌⊎◌, Bool, true, List, [], ◌∷◌, ◌++◌, Option, Some, None, Result, Ok, Err}
 use Rattle.dns_types.specs.declared.error.DecodeError.{DecodeError}
 use Rattle.dns_fields.specs.Octets.{At}
 use Rattle.dns_fields.specs.Pieces.{Numbered, piece, pieces, IsPiece, ArePieces, AllHeld, OptionValue, OptionHeld, IsCut}
@@ -34,15 +34,16 @@ pub record TookCut (old : Reading) (n end : ℕ) (new : Reading) : Type 0 where
   pub cut : IsCut n stub
   pub there : new.index ≡ end
 
--- nothing is left in any way
-pub record RefusedLeft (old : Reading) (n end : ℕ) (new : Reading) : Type 0 where
+-- the next option is refused; what was taken past the end is more than a code that ends there
+pub record RefusedPiece (start n : ℕ) (old : Reading) (e : DecodeError) (new : Reading) : Type 0 where
   pub behind : StaysBehind old new
-  pub none : NoneLeft old.message n old.index end
+  pub past : start + n < new.index → old.index + 2 ≢ start + n
+  pub why : IsPieceRefusal start n old e new
 
 abbrev pub ReadsPiece : {T : Type 0} → (T → Numbered (List ℕ)) → ℕ → ℕ → Result (Option T) DecodeError → Reading → Reading → Type 0
 ReadsPiece view start n (Ok (Some x)) old new = TookPiece old (start + n) (view x) new
 ReadsPiece view start n (Ok None) old new = TookCut old n (start + n) new
-ReadsPiece view start n (Err e) old new = RefusedLeft old n (start + n) new × IsPieceRefusal start n old e new
+ReadsPiece view start n (Err e) old new = RefusedPiece start n old e new
 
 -- no value is in the octets
 pub record NoValue (code : ℕ) (body : List ℕ) : Type 0 where

@@ -1,6 +1,6 @@
 //! Records of options ordered by their canonical octets, without a cursor.
 
-ghost use Rattle.std.specs.Prelude.{◌≡◌, ◌≢◌, ◌≤◌, true, length, IfSome, IsTrue, Some};
+ghost use Rattle.std.specs.Prelude.{◌≡◌, ◌<◌, ◌≤◌, true, length, IfSome, IsTrue, Some};
 ghost use Rattle.dns_pieces.specs.Fronts.{canonical_cmp};
 ghost use Rattle.dns_rdata_options.specs.{OPT.opt_shape, OPT.opt_fields, Order.opt_eq, Steps.pairs_emittable};
 ghost use Rattle.dns_rdata_options.specs.Facing.{lesser, Facing, IsAlone};
@@ -52,6 +52,7 @@ fn order_of_many(a: &OPT, b: &OPT) -> Option<Ordering>
 
 // Orders two lists in linear time where both have the same codes at the same places, and the least code of the options that
 // differ comes only once, with other octets. Else `None`.
+#[tactic(auto, using(crate::proofs::ChoiceSteps::pair_at))]
 fn order_by_places(
     options: &[(EdnsCode, EdnsOption)],
     others: &[(EdnsCode, EdnsOption)],
@@ -64,28 +65,9 @@ fn order_by_places(
     if options.len() != others.len() {
         return None;
     }
-    match least_difference(options, others)? {
-        None => Some(Ordering::Equal),
-        Some((place, code)) => order_by(options, others, place, code),
-    }
-}
-
-// Orders two lists by the options at a place where they differ, if no other option has the code of these, which is the
-// least of those that differ. Else `None`.
-#[tactic(auto, using(crate::proofs::ChoiceSteps::pair_at))]
-fn order_by(
-    options: &[(EdnsCode, EdnsOption)],
-    others: &[(EdnsCode, EdnsOption)],
-    place: usize,
-    code: u16,
-) -> Option<Ordering>
-    requires many { length options.now ≡ length others.now }
-    requires least { Facing options.now others.now (length options.now) (Some (place, code)) }
-    requires first { pairs_emittable options.now ≡ true }
-    requires second { pairs_emittable others.now ≡ true }
-    ensures order { IfSome result (λ o. o ≡ canonical_cmp opt_shape (opt_fields options.now) (opt_fields others.now)) }
-    ensures differ { result ≢ Some Ordering.Equal }
-{
+    let Some((place, code)) = least_difference(options, others)? else {
+        return Some(Ordering::Equal);
+    };
     if !is_alone(options, place, code) {
         return None;
     }
@@ -131,7 +113,8 @@ fn lesser(kept: Option<(usize, u16)>, i: usize, code: u16) -> Option<(usize, u16
 
 // Whether no other option has the code.
 fn is_alone(options: &[(EdnsCode, EdnsOption)], place: usize, code: u16) -> bool
-    ensures { IsTrue result → IsAlone options.now (length options.now) place code }
+    ensures alone { IsTrue result → IsAlone options.now (length options.now) place code }
+    ensures small { code < 65536 }
 {
     for i in 0..options.len() {
         let other_code = u16::from(options[i].0);

@@ -106,15 +106,6 @@ fn mask_octets(octets: &mut [u8], bits: u8)
 fn masked_octet(octet: u8, bits: u8) -> u8
     ensures { result ≡ masked_octet bits octet }
 {
-    match bits {
-        0 => 0,
-        1 => octet / 128 * 128,
-        2 => octet / 64 * 64,
-        3 => octet / 32 * 32,
-        4 => octet / 16 * 16,
-        5 => octet / 8 * 8,
-        6 => octet / 4 * 4,
-        7 => octet / 2 * 2,
-        _ => octet,
-    }
+    let unit = 1u16 << 8u8.saturating_sub(bits);
+    (u16::from(octet) / unit * unit) as u8
 }

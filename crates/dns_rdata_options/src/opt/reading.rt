@@ -33,6 +33,7 @@ pub(crate) fn count_options(octets: &[u8], length: usize) -> Option<usize>
 }
 
 // Code and octets of the next option. `None` where the record ends inside it.
+#[tactic(auto, using(dns_names_wire::proofs::FieldReads::took_number))]
 fn next_piece<'a>(
     decoder: &mut BinDecoder<'a>,
     start: usize,
@@ -78,6 +79,7 @@ fn passed(read: usize, len: u16) -> DecodeError
 }
 
 // Appends the option of this number and these octets, or only tests that the octets have a value.
+#[tactic(auto, using(crate::proofs::OptionValues::option_kept, crate::proofs::OptionValues::plain_tested, crate::proofs::OptionValues::subnet_refused))]
 fn keep_option(
     options: &mut Vec<(EdnsCode, EdnsOption)>,
     keeps: bool,

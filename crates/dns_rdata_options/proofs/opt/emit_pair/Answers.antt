@@ -1,6 +1,6 @@
 use Rattle.std.proofs.Common.{arith}
 use Rattle.std.proofs.lemmas.Result.{err_from_is_err_and}
-use Rattle.dns_rdata_options.proofs.OctetWrites.{stopped_front}
+use Rattle.dns_rdata_options.proofs.Pairs.{stopped_front}
 use Rattle.dns_rdata_options.proofs.opt.emit_pair.Goals as goal
 
 pub returns-in_err-emit_vec-clause-emits : goal.returns-in_err-emit_vec-clause-emits

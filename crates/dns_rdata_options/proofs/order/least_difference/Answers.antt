@@ -1,8 +1,8 @@
 use Rattle.std.proofs.Common.{◌≡◌, ◌+◌, arith, Bool, true, false, not, length, refl, sym, ap, ◌∙◌, subst}
 use Rattle.std.proofs.lemmas.Option.{slice_get_read}
 use Rattle.dns_rdata_options.specs.{EdnsCode.edns_code_number, Facing.Facing, Facing.lesser, Facing.code_number, OPT.Pair}
-use Rattle.dns_rdata_options.proofs.{Differences.none_facing, Differences.next_alike, Differences.next_differs, Values.code_decides}
-use Rattle.dns_rdata_options.proofs.{Values.option_decides, order.least_difference.Goals.then-ne-2, order.least_difference.Goals.else-ne-2}
+use Rattle.dns_rdata_options.proofs.{Differences.none_facing, Differences.next_alike, Differences.next_differs, Values.code_same}
+use Rattle.dns_rdata_options.proofs.{Values.option_same, order.least_difference.Goals.then-ne-2, order.least_difference.Goals.else-ne-2}
 use Rattle.dns_rdata_options.proofs.order.least_difference.Goals as goal
 
 pub loop-i-init : goal.loop-i-init
@@ -21,10 +21,10 @@ loop-i-preserved c =
     let y : Pair = c.index-others-i.result in
     let first = slice_get_read xs (length xs) i x refl (omega arith) c.index-options-i.is in
     let second = slice_get_read ys (length ys) i y refl (omega arith) c.index-others-i.is in
-    let codes = (code_decides x.0 y.0).0 (equal _ c.ne.ensures c.if-ne.false) in
+    let codes = code_same x.0 y.0 (equal _ c.ne.ensures c.if-ne.false) in
     elim c.if-ne-2.branch [
       | then-ne-2 w ↦ subst (Facing xs ys (i + 1)) (sym (w.least-is ∙ w.lesser-least.ensures ∙ ap (lesser c.loop-i.least i) w.from.ensures))
           (next_differs xs ys i x y first second c.loop-i.least (code_number x) (ap edns_code_number codes) refl c.loop-i.invariant)
       | else-ne-2 w ↦ subst (Facing xs ys (i + 1)) (sym w.least-is)
-          (next_alike xs ys i x y first second c.loop-i.least (λ k. (codes k, (option_decides x.1 y.1).0 (equal _ c.ne-in-loop-i.ensures w.if-ne-2.false) k)) c.loop-i.invariant)
+          (next_alike xs ys i x y first second c.loop-i.least (λ k. (codes k, option_same x.1 y.1 (equal _ c.ne-in-loop-i.ensures w.if-ne-2.false) k)) c.loop-i.invariant)
     ]

@@ -1,9 +1,9 @@
-use Rattle.std.proofs.Common.{◌≡◌, ◌↔◌, ◌∙◌, sym, ap, Bool, IsTrue, List, count_by}
+use Rattle.std.proofs.Common.{◌≡◌, ◌↔◌, ◌∙◌, sym, ap, Bool, true, IsTrue, List, count_by, subst}
 use Rattle.std.specs.{Ordering.is_eq, Cmp.Lexicographic.pointwise_decides, List.Sorted.IsPermutation}
 use Rattle.dns_fields.proofs.Multisets.{counts_decide}
 use Rattle.dns_rdata_options.specs.{OPT.Pair, Order.pair_eq, Order.pair_cmp, Order.opt_eq}
-use Rattle.dns_rdata_options.specs.OrderLaws.{pair_total, pair_ties, opt_equiv, opt_ties}
-use Rattle.dns_rdata_options.proofs.Values.{opt_permutes, pair_decides}
+use Rattle.dns_rdata_options.specs.OrderLaws.{pair_equiv, pair_total, pair_ties, opt_equiv, opt_ties}
+use Rattle.dns_rdata_options.proofs.Values.{opt_permutes, pair_same}
 use Rattle.dns_rdata_options.proofs.opt.OPTPartialEq.eq.Goals as goal
 
 clauses : (a b : List Pair) (r : Bool) → r ≡ opt_eq a b
@@ -20,7 +20,8 @@ pub returns-then-eq : goal.returns-then-eq
 returns-then-eq c =
     let x : c.as_slice.result.now ≡ c.args.self.now = c.as_slice.ensures.value ∙ c.self.view_is in
     let y : c.as_slice-2.result.now ≡ c.args.other.now = c.as_slice-2.ensures.value ∙ c.other.view_is in
-    let same = (pointwise_decides pair_decides c.as_slice.result.now c.as_slice-2.result.now).0 (sym c.eq.ensures ∙ c.if-eq.true) in
+    let same = (pointwise_decides (λ p q. (pair_same p q, λ e. subst (λ z. pair_eq p z ≡ true) e (pair_equiv.refl p))) c.as_slice.result.now c.as_slice-2.result.now).0
+    (sym c.eq.ensures ∙ c.if-eq.true) in
     clauses c.args.self.now c.args.other.now _ (sym (opt_equiv.refl c.args.self.now) ∙ ap (opt_eq c.args.self.now) (sym x ∙ same ∙ y))
 
 pub returns : goal.returns

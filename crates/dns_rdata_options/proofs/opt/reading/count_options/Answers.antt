@@ -1,5 +1,5 @@
 use Rattle.std.proofs.Common.{arith, ap, sym, Some}
-use Rattle.dns_rdata_options.proofs.OptionCounts.{counts_more, counts_short, counts_all}
+use Rattle.dns_rdata_options.proofs.OptionLists.{counts_more, counts_short, counts_all}
 use Rattle.dns_rdata_options.proofs.opt.reading.count_options.Goals as goal
 
 pub loop-place-init : goal.loop-place-init

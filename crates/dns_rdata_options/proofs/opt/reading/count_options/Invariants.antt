@@ -1,5 +1,5 @@
 use Rattle.std.proofs.Common.{◌-◌, ◌+◌, ◌≤◌, length}
-use Rattle.dns_rdata_options.proofs.OptionCounts.{CountsOn}
+use Rattle.dns_rdata_options.proofs.OptionLists.{CountsOn}
 use Rattle.dns_rdata_options.proofs.opt.reading.count_options.Given as goal
 
 abbrev pub invariant-loop-place : goal.invariant-loop-place

@@ -1,14 +1,15 @@
 use Rattle.std.proofs.Common.{◌++◌, ◌∷◌, [], arith}
 use Rattle.std.proofs.lemmas.Result.{err_from_is_err_and}
 use Rattle.dns_rdata_options.proofs.{OptionLists.piece_refused, OptionValues.refused_option}
-use Rattle.dns_rdata_options.proofs.OptionLoops.{options_more, options_refused, options_cut, read_more}
+use Rattle.dns_rdata_options.proofs.OptionLists.{options_more, options_refused, options_cut, read_more}
 use Rattle.dns_rdata_options.proofs.opt.reading.read_options.Goals as goal
 
 pub returns-in_err-number : goal.returns-in_err-number
 returns-in_err-number c =
     let p = err_from_is_err_and c.from_residual-in_err-number.result c.from_residual-in_err-number.ensures.1 in
     rw (p.1, p.2) (options_refused c.index-start.result c.args.length c.index-start.ensures.place (omega (arith, c.index.ensures.place, c.pieces-test.true))
-    c.pieces.invariant.1 (piece_refused _ _ c.in_err-number.ensures))
+    c.pieces.invariant.1 (piece_refused _ _ (omega (arith, c.index-start.ensures.place, c.pieces.invariant.1.behind)) (omega (arith, c.index.ensures.place, c.pieces-test.true))
+    c.in_err-number.ensures))
 
 pub pieces-preserved : goal.pieces-preserved
 pieces-preserved c =

@@ -1,6 +1,6 @@
 use Rattle.std.proofs.Common.{◌≡◌, ◌-◌, true, List}
 use Rattle.dns_fields.specs.Pieces.{Numbered, OptionValue}
-use Rattle.dns_rdata_options.proofs.OptionLoops.{ReadsOptions, AreRead}
+use Rattle.dns_rdata_options.proofs.OptionLists.{ReadsOptions, AreRead}
 use Rattle.dns_rdata_options.proofs.opt.reading.read_options.Given as goal
 
 abbrev pub invariant-pieces : goal.invariant-pieces

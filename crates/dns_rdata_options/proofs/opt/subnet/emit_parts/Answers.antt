@@ -1,6 +1,6 @@
 use Rattle.std.proofs.Common.{arith, refl}
 use Rattle.std.proofs.lemmas.Result.{err_from_is_err_and}
-use Rattle.dns_rdata_options.proofs.OctetWrites.{stopped_front, stopped_two}
+use Rattle.dns_rdata_options.proofs.Pairs.{stopped_front, stopped_two}
 use Rattle.dns_rdata_options.proofs.opt.subnet.emit_parts.Goals as goal
 
 pub returns-in_err-emit_vec : goal.returns-in_err-emit_vec
