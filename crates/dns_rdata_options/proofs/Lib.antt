@@ -1,6 +1,5 @@
 pub mod ChoiceSteps
 pub mod Differences
-pub mod HeadSteps
 pub mod Masks
 pub mod NetTexts
 pub mod OptionLists

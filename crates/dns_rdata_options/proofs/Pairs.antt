@@ -71,15 +71,6 @@ unfit_inner : (xs : List (Numbered OptionValue)) (x : Numbered OptionValue) (ys 
 unfit_inner [] x ys e = rw e refl
 unfit_inner (y ∷ xs) x ys e = rw (unfit_inner xs x ys e) (and-false (nat_le (length (option_octets y.1)) 65535 && option_emittable y.1))
 
-pub more_options : {w b e : Writing} (xs : List (Numbered OptionValue)) (x : Numbered OptionValue) → AppendedField w Options xs b
-    → AppendedOctets (OptionFits x) (piece (as_piece option_octets x)) b e → AppendedField w Options (xs ++ x ∷ []) e
-more_options {w} {b} {e} xs x f g =
-    let s = piece (as_piece option_octets x) in
-    let octets : e.octets ≡ w.octets ++ pieces (option_pieces (xs ++ x ∷ [])) =
-    g.octets ∙ ap (λ (t : List ℕ). t ++ s) f.field.is.1 ∙ append_assoc w.octets (pieces (option_pieces xs)) s
-    ∙ ap (λ (t : List ℕ). w.octets ++ t) (sym (joined xs x [] ∙ ap (λ (t : List ℕ). pieces (option_pieces xs) ++ t) (append-nil s))) in
-    record { keeps = keeps_then f.keeps g.keeps; field = record { is = (all_push OptionFits xs x f.field.is.0 g.holds, octets) } }
-
 canonical_length : (v : List (Numbered OptionValue)) → length (field_octets Options v) ≡ length (pieces (option_pieces v))
 unfolding field_octets
 canonical_length v = length_sorted octets_cmp (map piece (option_pieces v)) ∙ ap length (flat_map_all piece (option_pieces v))
@@ -128,9 +119,14 @@ pub more_pairs : {w b e : Writing} (xs : List Pair) (i : ℕ) (x : Pair) → x �
     → AppendedField w Options (map pair_value (take (i + 1) xs)) e
 more_pairs {w} {b} {e} xs i x is lt f g =
     let longer : take (i + 1) xs ≡ take i xs ++ x ∷ [] = take_more xs i x lt ∙ ap (λ (y : Pair). take i xs ++ y ∷ []) (sym is) in
+    let done = map pair_value (take i xs) in
+    let s = piece (as_piece option_octets (pair_value x)) in
+    let octets : e.octets ≡ w.octets ++ pieces (option_pieces (done ++ pair_value x ∷ [])) =
+    g.octets ∙ ap (λ (t : List ℕ). t ++ s) f.field.is.1 ∙ append_assoc w.octets (pieces (option_pieces done)) s
+    ∙ ap (λ (t : List ℕ). w.octets ++ t) (sym (joined done (pair_value x) [] ∙ ap (λ (t : List ℕ). pieces (option_pieces done) ++ t) (append-nil s))) in
     subst (λ (v : List (Numbered OptionValue)). AppendedField w Options v e)
     (sym (ap (map pair_value) longer ∙ map-append pair_value (take i xs) (x ∷ [])))
-    (more_options (map pair_value (take i xs)) (pair_value x) f g)
+    (record { keeps = keeps_then f.keeps g.keeps; field = record { is = (all_push OptionFits done (pair_value x) f.field.is.0 g.holds, octets) } })
 
 pub stopped_pair : {e : ProtoError} {w b n : Writing} (xs : List Pair) (i : ℕ) (x : Pair) → x ≡ get_or xs i x → i < length xs → edns_code_number x.0 < 65536
     → AppendedField w Options (map pair_value (take i xs)) b

@@ -1,6 +1,5 @@
 pub mod EdnsCode
 pub mod IpNet
-pub mod MaskExamples
 pub mod ClientSubnet
 pub mod NetText
 pub mod EdnsOption
@@ -9,7 +8,6 @@ pub mod Lent
 pub mod Order
 pub mod OrderLaws
 pub mod Places
-pub mod Walking
 pub mod OptionReads
 pub mod Words
 pub mod Steps

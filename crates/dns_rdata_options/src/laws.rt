@@ -1,8 +1,8 @@
 //! Laws of options.
 
 ghost use Rattle.std.specs.Prelude.{◌≡◌, ◌++◌, false, ℕ, List, []};
-ghost use Rattle.dns_rdata_options.specs.{OPT.Pair, OPT.code_eq, OPT.options_of, OPT.without, MaskExamples.MaskedFour, MaskExamples.MaskedSixteen};
-ghost use Rattle.dns_rdata_options.specs.{MaskExamples.MaskedWhole, Order.code_cmp, Order.subnet_cmp, Order.payload_cmp, Order.option_cmp};
+ghost use Rattle.dns_rdata_options.specs.{OPT.Pair, OPT.code_eq, OPT.options_of, OPT.without, IpNet.MaskedFour, IpNet.MaskedSixteen};
+ghost use Rattle.dns_rdata_options.specs.{IpNet.MaskedWhole, Order.code_cmp, Order.subnet_cmp, Order.payload_cmp, Order.option_cmp};
 ghost use Rattle.dns_rdata_options.specs.{declared.opt.code.EdnsCode.EdnsCode as Code, declared.opt.option.EdnsOption.EdnsOption as Content};
 ghost use Rattle.dns_rdata_options.specs.{declared.opt.subnet.ClientSubnet.ClientSubnet as SubnetFields};
 
