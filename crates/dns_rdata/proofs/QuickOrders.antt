@@ -161,29 +161,29 @@ same_first k x y kinds a b e = cmp_shared {n = length (field_octets k y)} record
 abbrev pub rest_cmp : List ℕ → List ℕ → Ordering
 rest_cmp a b = canonical_cmp (Rest ∷ []) (a, tt) (b, tt)
 
-pub cert_front : (x y : CERT) → certs.CertType.cert_type_number x.cert_type ≡ certs.CertType.cert_type_number y.cert_type → x.key_tag ≡ y.key_tag
-    → certs.CertAlgorithm.cert_algorithm_number x.algorithm ≡ certs.CertAlgorithm.cert_algorithm_number y.algorithm
+pub cert_front : (x y : CERT) → certs.Enums.cert_type_number x.cert_type ≡ certs.Enums.cert_type_number y.cert_type → x.key_tag ≡ y.key_tag
+    → certs.Enums.cert_algorithm_number x.algorithm ≡ certs.Enums.cert_algorithm_number y.algorithm
     → canonical_cmp certs.CERT.cert_shape (certs.CERT.cert_fields x) (certs.CERT.cert_fields y) ≡ rest_cmp x.cert_data y.cert_data
 cert_front x y e f g =
-    same_first (Number 2) (certs.CertType.cert_type_number x.cert_type) (certs.CertType.cert_type_number y.cert_type) (Number 2 ∷ Number 1 ∷ Rest ∷ []) (certs.CERT.cert_fields x).1 (certs.CERT.cert_fields y).1 e
+    same_first (Number 2) (certs.Enums.cert_type_number x.cert_type) (certs.Enums.cert_type_number y.cert_type) (Number 2 ∷ Number 1 ∷ Rest ∷ []) (certs.CERT.cert_fields x).1 (certs.CERT.cert_fields y).1 e
     ∙ same_first (Number 2) x.key_tag y.key_tag (Number 1 ∷ Rest ∷ []) (certs.CERT.cert_fields x).1.1 (certs.CERT.cert_fields y).1.1 f
-    ∙ same_first (Number 1) (certs.CertAlgorithm.cert_algorithm_number x.algorithm) (certs.CertAlgorithm.cert_algorithm_number y.algorithm) (Rest ∷ []) (x.cert_data, tt) (y.cert_data, tt) g
+    ∙ same_first (Number 1) (certs.Enums.cert_algorithm_number x.algorithm) (certs.Enums.cert_algorithm_number y.algorithm) (Rest ∷ []) (x.cert_data, tt) (y.cert_data, tt) g
 
-pub sshfp_front : (x y : SSHFP) → certs.SshfpAlgorithm.sshfp_algorithm_number x.algorithm ≡ certs.SshfpAlgorithm.sshfp_algorithm_number y.algorithm
-    → certs.FingerprintType.fingerprint_type_number x.fingerprint_type ≡ certs.FingerprintType.fingerprint_type_number y.fingerprint_type
+pub sshfp_front : (x y : SSHFP) → certs.Enums.sshfp_algorithm_number x.algorithm ≡ certs.Enums.sshfp_algorithm_number y.algorithm
+    → certs.Enums.fingerprint_type_number x.fingerprint_type ≡ certs.Enums.fingerprint_type_number y.fingerprint_type
     → canonical_cmp certs.SSHFP.sshfp_shape (certs.SSHFP.sshfp_fields x) (certs.SSHFP.sshfp_fields y) ≡ rest_cmp x.fingerprint y.fingerprint
 sshfp_front x y e f =
-    same_first (Number 1) (certs.SshfpAlgorithm.sshfp_algorithm_number x.algorithm) (certs.SshfpAlgorithm.sshfp_algorithm_number y.algorithm) (Number 1 ∷ Rest ∷ []) (certs.SSHFP.sshfp_fields x).1 (certs.SSHFP.sshfp_fields y).1 e
-    ∙ same_first (Number 1) (certs.FingerprintType.fingerprint_type_number x.fingerprint_type) (certs.FingerprintType.fingerprint_type_number y.fingerprint_type) (Rest ∷ [])
+    same_first (Number 1) (certs.Enums.sshfp_algorithm_number x.algorithm) (certs.Enums.sshfp_algorithm_number y.algorithm) (Number 1 ∷ Rest ∷ []) (certs.SSHFP.sshfp_fields x).1 (certs.SSHFP.sshfp_fields y).1 e
+    ∙ same_first (Number 1) (certs.Enums.fingerprint_type_number x.fingerprint_type) (certs.Enums.fingerprint_type_number y.fingerprint_type) (Rest ∷ [])
     (x.fingerprint, tt) (y.fingerprint, tt) f
 
-pub tlsa_front : (x y : TLSA) → certs.CertUsage.cert_usage_number x.cert_usage ≡ certs.CertUsage.cert_usage_number y.cert_usage → certs.Selector.selector_number x.selector ≡ certs.Selector.selector_number y.selector
-    → certs.Matching.matching_number x.matching ≡ certs.Matching.matching_number y.matching
+pub tlsa_front : (x y : TLSA) → certs.Enums.cert_usage_number x.cert_usage ≡ certs.Enums.cert_usage_number y.cert_usage → certs.Enums.selector_number x.selector ≡ certs.Enums.selector_number y.selector
+    → certs.Enums.matching_number x.matching ≡ certs.Enums.matching_number y.matching
     → canonical_cmp certs.TLSA.tlsa_shape (certs.TLSA.tlsa_fields x) (certs.TLSA.tlsa_fields y) ≡ rest_cmp x.cert_data y.cert_data
 tlsa_front x y e f g =
-    same_first (Number 1) (certs.CertUsage.cert_usage_number x.cert_usage) (certs.CertUsage.cert_usage_number y.cert_usage) (Number 1 ∷ Number 1 ∷ Rest ∷ []) (certs.TLSA.tlsa_fields x).1 (certs.TLSA.tlsa_fields y).1 e
-    ∙ same_first (Number 1) (certs.Selector.selector_number x.selector) (certs.Selector.selector_number y.selector) (Number 1 ∷ Rest ∷ []) (certs.TLSA.tlsa_fields x).1.1 (certs.TLSA.tlsa_fields y).1.1 f
-    ∙ same_first (Number 1) (certs.Matching.matching_number x.matching) (certs.Matching.matching_number y.matching) (Rest ∷ []) (x.cert_data, tt) (y.cert_data, tt) g
+    same_first (Number 1) (certs.Enums.cert_usage_number x.cert_usage) (certs.Enums.cert_usage_number y.cert_usage) (Number 1 ∷ Number 1 ∷ Rest ∷ []) (certs.TLSA.tlsa_fields x).1 (certs.TLSA.tlsa_fields y).1 e
+    ∙ same_first (Number 1) (certs.Enums.selector_number x.selector) (certs.Enums.selector_number y.selector) (Number 1 ∷ Rest ∷ []) (certs.TLSA.tlsa_fields x).1.1 (certs.TLSA.tlsa_fields y).1.1 f
+    ∙ same_first (Number 1) (certs.Enums.matching_number x.matching) (certs.Enums.matching_number y.matching) (Rest ∷ []) (x.cert_data, tt) (y.cert_data, tt) g
 
 -- the octets decide, and tell the values
 pub by_rest : (s : List Kind) (a b : Values s) (same : Bool) (x y : List ℕ) (o : Ordering) → all_emittable s a ≡ true → all_emittable s b ≡ true

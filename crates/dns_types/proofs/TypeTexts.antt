@@ -10,14 +10,11 @@ use Rattle.std.proofs.lemmas.Fmt.{decimal_is_IsNumeral, length-decimal-le}
 use Rattle.dns_types.proofs.RecordTypeLaws.{number_of-record_type_of}
 
 -- what a first match is
-found_at : {X : Type 0} (p : X → Bool) (y x : X) (rest : Option X) (b : Bool) → p y ≡ b → (rest ≡ Some x → p x ≡ true) → cond b (Some y) rest ≡ Some x
-    → p x ≡ true
-found_at p y x rest true q later e = let same : y ≡ x = cc in subst (λ z. p z ≡ true) same q
-found_at p y x rest false q later e = later e
-
 found : {X : Type 0} (p : X → Bool) (xs : List X) (x : X) → find p xs ≡ Some x → p x ≡ true
 found p [] x e = let bad : ⊥ = cc in absurd bad
-found p (y ∷ xs) x e = found_at p y x (find p xs) (p y) refl (found p xs x) e
+found p (y ∷ xs) x e =
+    let later = found p xs x in
+    grind (arith, later)
 
 name_text : (text : List ℕ) (t : RecordType) → has_name text t ≡ true → IsTypeName text t
 name_text text t e = by_named (is_named t) refl e
@@ -31,10 +28,6 @@ name_found : (t : RecordType) → is_named t ≡ true → find (has_name (type_t
 name_found (Unknown n) e = let bad : ⊥ = cc in absurd bad
 name_found t e = refl
 
--- no name begins with TYPE
-number_not_found : (digits : List ℕ) → find (has_name (codes "TYPE" ++ digits)) named_types ≡ None
-number_not_found digits = refl
-
 number_of_text : {text : List ℕ} {t u : RecordType} → IsNumberText text t → IsNumberText text u → u ≡ t
 number_of_text {text} {t} {u} a b =
     let e : codes "TYPE" ++ a.digits ≡ codes "TYPE" ++ b.digits = sym a.spelled ∙ b.spelled in
@@ -43,17 +36,18 @@ number_of_text {text} {t} {u} a b =
 
 -- a text that is a name is the first match's
 name_match : (text : List ℕ) (u : RecordType) → IsTypeName text u → find (has_name text) named_types ≡ Some u
-name_match text u n = subst (λ s. find (has_name s) named_types ≡ Some u) (sym n.printed) (name_found u n.named)
+name_match text u n = rw n.printed (name_found u n.named)
 
+-- no name begins with TYPE
 number_match : (text : List ℕ) (u : RecordType) → IsNumberText text u → find (has_name text) named_types ≡ None
-number_match text u n = subst (λ s. find (has_name s) named_types ≡ None) (sym n.spelled) (number_not_found n.digits)
+number_match text u n = rw n.spelled refl
 
 pub reads_name : (text : List ℕ) (t : RecordType) → find (has_name text) named_types ≡ Some t → ReadsType text (Ok t)
 reads_name text t e = (inl (name_text text t (found (has_name text) named_types t e)), one)
   where
     one : (u : RecordType) → IsTypeText text u → u ≡ t
     one u (inl n) = let m = name_match text u n in cc
-    one u (inr n) = let m = number_match text u n in let bad : ⊥ = cc in absurd bad
+    one u (inr n) = let m = number_match text u n in cc
 
 -- what TYPE and a number decide, where no name did
 pub reads_number : (text : List ℕ) (o : Option RecordType) → find (has_name text) named_types ≡ None
@@ -61,12 +55,12 @@ pub reads_number : (text : List ℕ) (o : Option RecordType) → find (has_name 
 reads_number text (Some t) e n = (inr n, one)
   where
     one : (u : RecordType) → IsTypeText text u → u ≡ t
-    one u (inl m) = let f = name_match text u m in let bad : ⊥ = cc in absurd bad
+    one u (inl m) = let f = name_match text u m in cc
     one u (inr m) = number_of_text n m
 reads_number text None e n = (refl, none)
   where
     none : (u : RecordType) → ¬ (IsTypeText text u)
-    none u (inl m) = let f = name_match text u m in let bad : ⊥ = cc in bad
+    none u (inl m) = let f = name_match text u m in cc
     none u (inr m) = n u m
 
 -- what the type of a number prints is a text of that type

@@ -9,48 +9,55 @@ use Rattle.dns_types.specs.declared.record_type.RecordType.TheVariants.{NAPTR, C
 use Rattle.dns_types.specs.declared.record_type.RecordType.TheVariants.{TLSA, SMIMEA, CDS, CDNSKEY, OPENPGPKEY, CSYNC, SVCB, HTTPS, TSIG, IXFR, AXFR}
 use Rattle.dns_types.specs.declared.record_type.RecordType.TheVariants.{ANY, CAA, ANAME, Unknown}
 
--- the number of a type on the wire (IANA's "Resource Record (RR) TYPEs"; ANAME's is of private use)
+-- the number of a type on the wire (IANA's "Resource Record (RR) TYPEs"; ANAME's is of private use), and what is printed: the name in
+-- capitals, or TYPE and the number (RFC 3597, section 5)
+abbrev pub type_row : RecordType → ℕ × List ℕ
+type_row ZERO = (0, codes "ZERO")
+type_row A = (1, codes "A")
+type_row NS = (2, codes "NS")
+type_row CNAME = (5, codes "CNAME")
+type_row SOA = (6, codes "SOA")
+type_row NULL = (10, codes "NULL")
+type_row PTR = (12, codes "PTR")
+type_row HINFO = (13, codes "HINFO")
+type_row MX = (15, codes "MX")
+type_row TXT = (16, codes "TXT")
+type_row SIG = (24, codes "SIG")
+type_row KEY = (25, codes "KEY")
+type_row AAAA = (28, codes "AAAA")
+type_row SRV = (33, codes "SRV")
+type_row NAPTR = (35, codes "NAPTR")
+type_row CERT = (37, codes "CERT")
+type_row DNAME = (39, codes "DNAME")
+type_row OPT = (41, codes "OPT")
+type_row DS = (43, codes "DS")
+type_row SSHFP = (44, codes "SSHFP")
+type_row RRSIG = (46, codes "RRSIG")
+type_row NSEC = (47, codes "NSEC")
+type_row DNSKEY = (48, codes "DNSKEY")
+type_row NSEC3 = (50, codes "NSEC3")
+type_row NSEC3PARAM = (51, codes "NSEC3PARAM")
+type_row TLSA = (52, codes "TLSA")
+type_row SMIMEA = (53, codes "SMIMEA")
+type_row CDS = (59, codes "CDS")
+type_row CDNSKEY = (60, codes "CDNSKEY")
+type_row OPENPGPKEY = (61, codes "OPENPGPKEY")
+type_row CSYNC = (62, codes "CSYNC")
+type_row SVCB = (64, codes "SVCB")
+type_row HTTPS = (65, codes "HTTPS")
+type_row TSIG = (250, codes "TSIG")
+type_row IXFR = (251, codes "IXFR")
+type_row AXFR = (252, codes "AXFR")
+type_row ANY = (255, codes "ANY")
+type_row CAA = (257, codes "CAA")
+type_row ANAME = (65305, codes "ANAME")
+type_row (Unknown n) = (n, codes "TYPE" ++ decimal n)
+
 abbrev pub number_of : RecordType → ℕ
-number_of ZERO = 0
-number_of A = 1
-number_of NS = 2
-number_of CNAME = 5
-number_of SOA = 6
-number_of NULL = 10
-number_of PTR = 12
-number_of HINFO = 13
-number_of MX = 15
-number_of TXT = 16
-number_of SIG = 24
-number_of KEY = 25
-number_of AAAA = 28
-number_of SRV = 33
-number_of NAPTR = 35
-number_of CERT = 37
-number_of DNAME = 39
-number_of OPT = 41
-number_of DS = 43
-number_of SSHFP = 44
-number_of RRSIG = 46
-number_of NSEC = 47
-number_of DNSKEY = 48
-number_of NSEC3 = 50
-number_of NSEC3PARAM = 51
-number_of TLSA = 52
-number_of SMIMEA = 53
-number_of CDS = 59
-number_of CDNSKEY = 60
-number_of OPENPGPKEY = 61
-number_of CSYNC = 62
-number_of SVCB = 64
-number_of HTTPS = 65
-number_of TSIG = 250
-number_of IXFR = 251
-number_of AXFR = 252
-number_of ANY = 255
-number_of CAA = 257
-number_of ANAME = 65305
-number_of (Unknown n) = n
+number_of t = (type_row t).0
+
+abbrev pub type_text : RecordType → List ℕ
+type_text t = (type_row t).1
 
 -- a type with a name of its own
 abbrev pub is_named : RecordType → Bool
@@ -70,49 +77,6 @@ record_type_of n = unwrap_or (find (λ t. number_of t == n) named_types) (Unknow
 abbrev pub code_of : RecordType → ℕ
 code_of (Unknown n) = 2 * n + 1
 code_of t = 2 * number_of t
-
--- what is printed: the name in capitals, or TYPE and the number (RFC 3597, section 5)
-abbrev pub type_text : RecordType → List ℕ
-type_text ZERO = codes "ZERO"
-type_text A = codes "A"
-type_text NS = codes "NS"
-type_text CNAME = codes "CNAME"
-type_text SOA = codes "SOA"
-type_text NULL = codes "NULL"
-type_text PTR = codes "PTR"
-type_text HINFO = codes "HINFO"
-type_text MX = codes "MX"
-type_text TXT = codes "TXT"
-type_text SIG = codes "SIG"
-type_text KEY = codes "KEY"
-type_text AAAA = codes "AAAA"
-type_text SRV = codes "SRV"
-type_text NAPTR = codes "NAPTR"
-type_text CERT = codes "CERT"
-type_text DNAME = codes "DNAME"
-type_text OPT = codes "OPT"
-type_text DS = codes "DS"
-type_text SSHFP = codes "SSHFP"
-type_text RRSIG = codes "RRSIG"
-type_text NSEC = codes "NSEC"
-type_text DNSKEY = codes "DNSKEY"
-type_text NSEC3 = codes "NSEC3"
-type_text NSEC3PARAM = codes "NSEC3PARAM"
-type_text TLSA = codes "TLSA"
-type_text SMIMEA = codes "SMIMEA"
-type_text CDS = codes "CDS"
-type_text CDNSKEY = codes "CDNSKEY"
-type_text OPENPGPKEY = codes "OPENPGPKEY"
-type_text CSYNC = codes "CSYNC"
-type_text SVCB = codes "SVCB"
-type_text HTTPS = codes "HTTPS"
-type_text TSIG = codes "TSIG"
-type_text IXFR = codes "IXFR"
-type_text AXFR = codes "AXFR"
-type_text ANY = codes "ANY"
-type_text CAA = codes "CAA"
-type_text ANAME = codes "ANAME"
-type_text (Unknown n) = codes "TYPE" ++ decimal n
 
 -- the text is the printed name of a named type
 pub record IsTypeName (text : List ℕ) (t : RecordType) : Type 0 where
