@@ -55,19 +55,22 @@ fn of_values<T: Record + RecordData + PartialEq>(
     found
 }
 
-// The order of two records that can be emitted, as it was found. `None` where it ties two that are not equal.
+// The order of two records that can be emitted, as it was found. `None` where it ties two that are not equal. They are
+// compared in place, or by a call.
 #[inline]
-fn unless_tied<T: Record + PartialEq>(order: Ordering, a: &T, b: &T) -> Option<Ordering>
+fn unless_tied<T: Record + PartialEq>(
+    order: Ordering,
+    a: &T,
+    b: &T,
+    in_place: bool,
+) -> Option<Ordering>
     requires order { order ≡ canonical_cmp T.facts.kinds (T.facts.fields a.now) (T.facts.fields b.now) }
     requires first { all_emittable T.facts.kinds (T.facts.fields a.now) ≡ true }
     requires second { all_emittable T.facts.kinds (T.facts.fields b.now) ≡ true }
     ensures { IfSomeOrder T.facts.kinds (T.facts.fields a.now) (T.facts.fields b.now) (T.eq a.now b.now) result }
 {
-    if order.is_ne() || is_equal(a, b) {
-        Some(order)
-    } else {
-        None
-    }
+    let is_found = order.is_ne() || if in_place { a == b } else { is_equal(a, b) };
+    if is_found { Some(order) } else { None }
 }
 
 // The order of two records of octets to the end, which are equal where they tie.
@@ -118,7 +121,7 @@ fn naptr_quick_cmp(a: &NAPTR, b: &NAPTR) -> Option<Ordering>
     if !naptr_is_emittable(a) || !naptr_is_emittable(b) {
         return None;
     }
-    unless_tied(naptr_order(a, b), a, b)
+    unless_tied(naptr_order(a, b), a, b, false)
 }
 
 // Whether flag and reserved bits are the same.
@@ -255,14 +258,14 @@ fn untold(a: &RData, b: &RData) -> Option<Ordering>
     None
 }
 
-// Matches two values of one variant. Of the records that are named first the order tells all but ties; of the others it
-// is found as it is given.
+// Matches two values of one variant. Of the records that are named first the order tells all but ties, which a call
+// does; of the others it is found as it is given.
 macro_rules! quick_each {
     (
         ($first:expr, $second:expr), ($a:ident, $b:ident), [$($tied:ident => $order:expr,)+], [$($record:ident => $found:expr,)+]
     ) => {
         match ($first, $second) {
-            $((RData::$tied($a), RData::$tied($b)) => of_values(unless_tied($order, $a, $b), $a, $b),)+
+            $((RData::$tied($a), RData::$tied($b)) => of_values(unless_tied($order, $a, $b, false), $a, $b),)+
             $((RData::$record($a), RData::$record($b)) => of_values($found, $a, $b),)+
             _ => untold($first, $second),
         }
@@ -279,18 +282,17 @@ impl RData {
             (self, other),
             (a, b),
             [
-                A => a_order(a, b),
-                AAAA => aaaa_order(a, b),
                 ANAME => name_order(&a.0, &b.0),
                 CNAME => name_order(&a.0, &b.0),
                 CSYNC => csync_order(a, b),
                 MX => mx_order(a, b),
                 NS => name_order(&a.0, &b.0),
                 PTR => name_order(&a.0, &b.0),
-                SOA => soa_order(a, b),
                 SRV => srv_order(a, b),
             ],
             [
+                A => unless_tied(a_order(a, b), a, b, true),
+                AAAA => unless_tied(aaaa_order(a, b), a, b, true),
                 CAA => caa_quick_cmp(a, b),
                 CERT => cert_quick_cmp(a, b),
                 HINFO => hinfo_quick_cmp(a, b),
@@ -300,6 +302,7 @@ impl RData {
                 OPENPGPKEY => rest_quick_cmp(&a.public_key, &b.public_key),
                 OPT => opt_quick_cmp(a, b),
                 SMIMEA => tlsa_quick_cmp(&a.0, &b.0),
+                SOA => unless_tied(soa_order(a, b), a, b, true),
                 SSHFP => sshfp_quick_cmp(a, b),
                 SVCB => svcb_quick_cmp(a, b),
                 TLSA => tlsa_quick_cmp(a, b),

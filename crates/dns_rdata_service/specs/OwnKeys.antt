@@ -3,7 +3,7 @@ use Rattle.std.specs.Prelude.{◌≡◌, Bool, true, false, ◌&&◌, List, [], 
 use Rattle.std.specs.Cmp.{Lexicographic.pointwise, Derive.Mapped.pointwise-map}
 use Rattle.std.proofs.Common.{refl, sym, ap, ◌∙◌}
 use Rattle.dns_fields.specs.Equal.{key_eq, parameter_key, parameter_keys, values_eq}
-use Rattle.dns_rdata_base.specs.{A.a_shape, A.a_fields, Numbered.numbered_eq, declared.a.A.A, declared.aaaa.AAAA.AAAA}
+use Rattle.dns_rdata_base.specs.{Numbered.numbered_eq, declared.a.A.A, declared.aaaa.AAAA.AAAA}
 use Rattle.dns_rdata_base.specs.AAAA.{aaaa_shape, aaaa_fields}
 use Rattle.dns_rdata_service.specs.{SvcParamKey.key_number, SvcParamKey.key_variant, Parameters.Parameter, Parameters.own_parameter}
 use Rattle.dns_rdata_service.specs.{declared.svcb.key.SvcParamKey.SvcParamKey, declared.svcb.value.SvcParamValue.SvcParamValue}
