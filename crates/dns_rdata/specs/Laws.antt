@@ -47,14 +47,13 @@ abbrev pub IsUpdate : RData → Type 0
 IsUpdate (rdata.Update0 t) = Unit {0}
 IsUpdate v = ⊥
 
--- Data is lent exactly where the value is the one that holds it, which is of this type, and no update.
-pub record HoldsOnly {A : Type 0} (wrapped : A → RData) (borrowed : RData → Option A) (t : RecordType) : Type 0 where
-  pub exactly : (v : RData) (x : A) → (borrowed v ≡ Some x) ↔ (wrapped x ≡ v)
-  pub type : (x : A) → type_of (wrapped x) ≡ t
-  pub no_update : (x : A) → IsUpdate (wrapped x) → ⊥
-
 -- the values of one variant, each of which holds one A
-pub record VariantOf (A : Type 0) (t : RecordType) : Type 0 where
+pub record VariantOf (A : Type 0) : Type 0 where
   pub wrapped : A → RData
   pub borrowed : RData → Option A
-  pub holds : HoldsOnly wrapped borrowed t
+
+-- Data is lent exactly where the value is the one that holds it, which is of this type, and no update.
+pub record HoldsOnly {A : Type 0} (values : VariantOf A) (t : RecordType) : Type 0 where
+  pub exactly : (v : RData) (x : A) → (values.borrowed v ≡ Some x) ↔ (values.wrapped x ≡ v)
+  pub type : (x : A) → type_of (values.wrapped x) ≡ t
+  pub no_update : (x : A) → IsUpdate (values.wrapped x) → ⊥

@@ -4,7 +4,7 @@ ghost use Rattle.std.specs.Prelude.{◌≡◌, ◌↔◌, IsTrue, Option, Some, 
 ghost use Rattle.std.proofs.Common.{rules};
 ghost use Rattle.dns_types.specs.declared.record_type.RecordType.{RecordType as RecordTypeValue};
 ghost use Rattle.dns_types.specs.declared.record_type.RecordType.TheVariants as types;
-ghost use Rattle.dns_rdata.specs.{declared.record_data.RData.RData as Data, Data.type_of, Laws.IsUpdate, Laws.VariantOf};
+ghost use Rattle.dns_rdata.specs.{declared.record_data.RData.RData as Data, Data.type_of, Laws.HoldsOnly, Laws.IsUpdate, Laws.VariantOf};
 ghost use Rattle.dns_rdata.specs.declared.record_data.RData.TheVariants as rdata;
 
 use crate::record_data::RData;
@@ -53,7 +53,7 @@ pub(crate) trait Variant: Sized {
     ghost TYPE: { RecordTypeValue };
 
     /// The values that hold such a record.
-    ghost variant: { VariantOf Self TYPE };
+    ghost variant: { VariantOf Self };
 
     /// The record that the value holds; none where it holds other data.
     fn held_in(rdata: &RData) -> Option<&Self>
@@ -62,6 +62,9 @@ pub(crate) trait Variant: Sized {
     /// The value that holds the record.
     fn in_value(self) -> RData
         ensures { result ≡ variant.wrapped self };
+
+    /// What holds of these values.
+    ghost holds: { HoldsOnly variant TYPE };
 }
 
 impl<T: Variant> RecordData for T {
@@ -69,7 +72,7 @@ impl<T: Variant> RecordData for T {
 
     ghost borrowed = { T.variant.borrowed };
 
-    ghost exactly = { T.variant.holds.exactly };
+    ghost exactly = { T.holds.exactly };
 
     fn try_borrow(rdata: &RData) -> Option<&T> {
         T::held_in(rdata)
@@ -103,7 +106,9 @@ impl Variant for A {
 
     ghost TYPE = { types.A };
 
-    ghost variant = { record { wrapped = λ x. rdata.A x; borrowed = elim [ rdata.A x ↦ Some x | v ↦ None ]; holds = Prim.search rules } };
+    ghost variant = { record { wrapped = λ x. rdata.A x; borrowed = elim [ rdata.A x ↦ Some x | v ↦ None ] } };
+
+    ghost holds = { Prim.search rules };
 
     fn held_in(rdata: &RData) -> Option<&A> {
         held!(rdata, A)
@@ -119,7 +124,9 @@ impl Variant for AAAA {
 
     ghost TYPE = { types.AAAA };
 
-    ghost variant = { record { wrapped = λ x. rdata.AAAA x; borrowed = elim [ rdata.AAAA x ↦ Some x | v ↦ None ]; holds = Prim.search rules } };
+    ghost variant = { record { wrapped = λ x. rdata.AAAA x; borrowed = elim [ rdata.AAAA x ↦ Some x | v ↦ None ] } };
+
+    ghost holds = { Prim.search rules };
 
     fn held_in(rdata: &RData) -> Option<&AAAA> {
         held!(rdata, AAAA)
@@ -135,7 +142,9 @@ impl Variant for ANAME {
 
     ghost TYPE = { types.ANAME };
 
-    ghost variant = { record { wrapped = λ x. rdata.ANAME x; borrowed = elim [ rdata.ANAME x ↦ Some x | v ↦ None ]; holds = Prim.search rules } };
+    ghost variant = { record { wrapped = λ x. rdata.ANAME x; borrowed = elim [ rdata.ANAME x ↦ Some x | v ↦ None ] } };
+
+    ghost holds = { Prim.search rules };
 
     fn held_in(rdata: &RData) -> Option<&ANAME> {
         held!(rdata, ANAME)
@@ -151,7 +160,9 @@ impl Variant for CAA {
 
     ghost TYPE = { types.CAA };
 
-    ghost variant = { record { wrapped = λ x. rdata.CAA x; borrowed = elim [ rdata.CAA x ↦ Some x | v ↦ None ]; holds = Prim.search rules } };
+    ghost variant = { record { wrapped = λ x. rdata.CAA x; borrowed = elim [ rdata.CAA x ↦ Some x | v ↦ None ] } };
+
+    ghost holds = { Prim.search rules };
 
     fn held_in(rdata: &RData) -> Option<&CAA> {
         held!(rdata, CAA)
@@ -167,7 +178,9 @@ impl Variant for CERT {
 
     ghost TYPE = { types.CERT };
 
-    ghost variant = { record { wrapped = λ x. rdata.CERT x; borrowed = elim [ rdata.CERT x ↦ Some x | v ↦ None ]; holds = Prim.search rules } };
+    ghost variant = { record { wrapped = λ x. rdata.CERT x; borrowed = elim [ rdata.CERT x ↦ Some x | v ↦ None ] } };
+
+    ghost holds = { Prim.search rules };
 
     fn held_in(rdata: &RData) -> Option<&CERT> {
         held!(rdata, CERT)
@@ -183,7 +196,9 @@ impl Variant for CNAME {
 
     ghost TYPE = { types.CNAME };
 
-    ghost variant = { record { wrapped = λ x. rdata.CNAME x; borrowed = elim [ rdata.CNAME x ↦ Some x | v ↦ None ]; holds = Prim.search rules } };
+    ghost variant = { record { wrapped = λ x. rdata.CNAME x; borrowed = elim [ rdata.CNAME x ↦ Some x | v ↦ None ] } };
+
+    ghost holds = { Prim.search rules };
 
     fn held_in(rdata: &RData) -> Option<&CNAME> {
         held!(rdata, CNAME)
@@ -199,7 +214,9 @@ impl Variant for CSYNC {
 
     ghost TYPE = { types.CSYNC };
 
-    ghost variant = { record { wrapped = λ x. rdata.CSYNC x; borrowed = elim [ rdata.CSYNC x ↦ Some x | v ↦ None ]; holds = Prim.search rules } };
+    ghost variant = { record { wrapped = λ x. rdata.CSYNC x; borrowed = elim [ rdata.CSYNC x ↦ Some x | v ↦ None ] } };
+
+    ghost holds = { Prim.search rules };
 
     fn held_in(rdata: &RData) -> Option<&CSYNC> {
         held!(rdata, CSYNC)
@@ -215,7 +232,9 @@ impl Variant for HINFO {
 
     ghost TYPE = { types.HINFO };
 
-    ghost variant = { record { wrapped = λ x. rdata.HINFO x; borrowed = elim [ rdata.HINFO x ↦ Some x | v ↦ None ]; holds = Prim.search rules } };
+    ghost variant = { record { wrapped = λ x. rdata.HINFO x; borrowed = elim [ rdata.HINFO x ↦ Some x | v ↦ None ] } };
+
+    ghost holds = { Prim.search rules };
 
     fn held_in(rdata: &RData) -> Option<&HINFO> {
         held!(rdata, HINFO)
@@ -231,7 +250,9 @@ impl Variant for HTTPS {
 
     ghost TYPE = { types.HTTPS };
 
-    ghost variant = { record { wrapped = λ x. rdata.HTTPS x; borrowed = elim [ rdata.HTTPS x ↦ Some x | v ↦ None ]; holds = Prim.search rules } };
+    ghost variant = { record { wrapped = λ x. rdata.HTTPS x; borrowed = elim [ rdata.HTTPS x ↦ Some x | v ↦ None ] } };
+
+    ghost holds = { Prim.search rules };
 
     fn held_in(rdata: &RData) -> Option<&HTTPS> {
         held!(rdata, HTTPS)
@@ -247,7 +268,9 @@ impl Variant for MX {
 
     ghost TYPE = { types.MX };
 
-    ghost variant = { record { wrapped = λ x. rdata.MX x; borrowed = elim [ rdata.MX x ↦ Some x | v ↦ None ]; holds = Prim.search rules } };
+    ghost variant = { record { wrapped = λ x. rdata.MX x; borrowed = elim [ rdata.MX x ↦ Some x | v ↦ None ] } };
+
+    ghost holds = { Prim.search rules };
 
     fn held_in(rdata: &RData) -> Option<&MX> {
         held!(rdata, MX)
@@ -263,7 +286,9 @@ impl Variant for NAPTR {
 
     ghost TYPE = { types.NAPTR };
 
-    ghost variant = { record { wrapped = λ x. rdata.NAPTR x; borrowed = elim [ rdata.NAPTR x ↦ Some x | v ↦ None ]; holds = Prim.search rules } };
+    ghost variant = { record { wrapped = λ x. rdata.NAPTR x; borrowed = elim [ rdata.NAPTR x ↦ Some x | v ↦ None ] } };
+
+    ghost holds = { Prim.search rules };
 
     fn held_in(rdata: &RData) -> Option<&NAPTR> {
         held!(rdata, NAPTR)
@@ -279,7 +304,9 @@ impl Variant for NULL {
 
     ghost TYPE = { types.NULL };
 
-    ghost variant = { record { wrapped = λ x. rdata.NULL x; borrowed = elim [ rdata.NULL x ↦ Some x | v ↦ None ]; holds = Prim.search rules } };
+    ghost variant = { record { wrapped = λ x. rdata.NULL x; borrowed = elim [ rdata.NULL x ↦ Some x | v ↦ None ] } };
+
+    ghost holds = { Prim.search rules };
 
     fn held_in(rdata: &RData) -> Option<&NULL> {
         held!(rdata, NULL)
@@ -295,7 +322,9 @@ impl Variant for NS {
 
     ghost TYPE = { types.NS };
 
-    ghost variant = { record { wrapped = λ x. rdata.NS x; borrowed = elim [ rdata.NS x ↦ Some x | v ↦ None ]; holds = Prim.search rules } };
+    ghost variant = { record { wrapped = λ x. rdata.NS x; borrowed = elim [ rdata.NS x ↦ Some x | v ↦ None ] } };
+
+    ghost holds = { Prim.search rules };
 
     fn held_in(rdata: &RData) -> Option<&NS> {
         held!(rdata, NS)
@@ -311,7 +340,9 @@ impl Variant for OPENPGPKEY {
 
     ghost TYPE = { types.OPENPGPKEY };
 
-    ghost variant = { record { wrapped = λ x. rdata.OPENPGPKEY x; borrowed = elim [ rdata.OPENPGPKEY x ↦ Some x | v ↦ None ]; holds = Prim.search rules } };
+    ghost variant = { record { wrapped = λ x. rdata.OPENPGPKEY x; borrowed = elim [ rdata.OPENPGPKEY x ↦ Some x | v ↦ None ] } };
+
+    ghost holds = { Prim.search rules };
 
     fn held_in(rdata: &RData) -> Option<&OPENPGPKEY> {
         held!(rdata, OPENPGPKEY)
@@ -327,7 +358,9 @@ impl Variant for OPT {
 
     ghost TYPE = { types.OPT };
 
-    ghost variant = { record { wrapped = λ x. rdata.OPT x; borrowed = elim [ rdata.OPT x ↦ Some x | v ↦ None ]; holds = Prim.search rules } };
+    ghost variant = { record { wrapped = λ x. rdata.OPT x; borrowed = elim [ rdata.OPT x ↦ Some x | v ↦ None ] } };
+
+    ghost holds = { Prim.search rules };
 
     fn held_in(rdata: &RData) -> Option<&OPT> {
         held!(rdata, OPT)
@@ -343,7 +376,9 @@ impl Variant for PTR {
 
     ghost TYPE = { types.PTR };
 
-    ghost variant = { record { wrapped = λ x. rdata.PTR x; borrowed = elim [ rdata.PTR x ↦ Some x | v ↦ None ]; holds = Prim.search rules } };
+    ghost variant = { record { wrapped = λ x. rdata.PTR x; borrowed = elim [ rdata.PTR x ↦ Some x | v ↦ None ] } };
+
+    ghost holds = { Prim.search rules };
 
     fn held_in(rdata: &RData) -> Option<&PTR> {
         held!(rdata, PTR)
@@ -359,7 +394,9 @@ impl Variant for SMIMEA {
 
     ghost TYPE = { types.SMIMEA };
 
-    ghost variant = { record { wrapped = λ x. rdata.SMIMEA x; borrowed = elim [ rdata.SMIMEA x ↦ Some x | v ↦ None ]; holds = Prim.search rules } };
+    ghost variant = { record { wrapped = λ x. rdata.SMIMEA x; borrowed = elim [ rdata.SMIMEA x ↦ Some x | v ↦ None ] } };
+
+    ghost holds = { Prim.search rules };
 
     fn held_in(rdata: &RData) -> Option<&SMIMEA> {
         held!(rdata, SMIMEA)
@@ -375,7 +412,9 @@ impl Variant for SOA {
 
     ghost TYPE = { types.SOA };
 
-    ghost variant = { record { wrapped = λ x. rdata.SOA x; borrowed = elim [ rdata.SOA x ↦ Some x | v ↦ None ]; holds = Prim.search rules } };
+    ghost variant = { record { wrapped = λ x. rdata.SOA x; borrowed = elim [ rdata.SOA x ↦ Some x | v ↦ None ] } };
+
+    ghost holds = { Prim.search rules };
 
     fn held_in(rdata: &RData) -> Option<&SOA> {
         held!(rdata, SOA)
@@ -391,7 +430,9 @@ impl Variant for SRV {
 
     ghost TYPE = { types.SRV };
 
-    ghost variant = { record { wrapped = λ x. rdata.SRV x; borrowed = elim [ rdata.SRV x ↦ Some x | v ↦ None ]; holds = Prim.search rules } };
+    ghost variant = { record { wrapped = λ x. rdata.SRV x; borrowed = elim [ rdata.SRV x ↦ Some x | v ↦ None ] } };
+
+    ghost holds = { Prim.search rules };
 
     fn held_in(rdata: &RData) -> Option<&SRV> {
         held!(rdata, SRV)
@@ -407,7 +448,9 @@ impl Variant for SSHFP {
 
     ghost TYPE = { types.SSHFP };
 
-    ghost variant = { record { wrapped = λ x. rdata.SSHFP x; borrowed = elim [ rdata.SSHFP x ↦ Some x | v ↦ None ]; holds = Prim.search rules } };
+    ghost variant = { record { wrapped = λ x. rdata.SSHFP x; borrowed = elim [ rdata.SSHFP x ↦ Some x | v ↦ None ] } };
+
+    ghost holds = { Prim.search rules };
 
     fn held_in(rdata: &RData) -> Option<&SSHFP> {
         held!(rdata, SSHFP)
@@ -423,7 +466,9 @@ impl Variant for SVCB {
 
     ghost TYPE = { types.SVCB };
 
-    ghost variant = { record { wrapped = λ x. rdata.SVCB x; borrowed = elim [ rdata.SVCB x ↦ Some x | v ↦ None ]; holds = Prim.search rules } };
+    ghost variant = { record { wrapped = λ x. rdata.SVCB x; borrowed = elim [ rdata.SVCB x ↦ Some x | v ↦ None ] } };
+
+    ghost holds = { Prim.search rules };
 
     fn held_in(rdata: &RData) -> Option<&SVCB> {
         held!(rdata, SVCB)
@@ -439,7 +484,9 @@ impl Variant for TLSA {
 
     ghost TYPE = { types.TLSA };
 
-    ghost variant = { record { wrapped = λ x. rdata.TLSA x; borrowed = elim [ rdata.TLSA x ↦ Some x | v ↦ None ]; holds = Prim.search rules } };
+    ghost variant = { record { wrapped = λ x. rdata.TLSA x; borrowed = elim [ rdata.TLSA x ↦ Some x | v ↦ None ] } };
+
+    ghost holds = { Prim.search rules };
 
     fn held_in(rdata: &RData) -> Option<&TLSA> {
         held!(rdata, TLSA)
@@ -455,7 +502,9 @@ impl Variant for TXT {
 
     ghost TYPE = { types.TXT };
 
-    ghost variant = { record { wrapped = λ x. rdata.TXT x; borrowed = elim [ rdata.TXT x ↦ Some x | v ↦ None ]; holds = Prim.search rules } };
+    ghost variant = { record { wrapped = λ x. rdata.TXT x; borrowed = elim [ rdata.TXT x ↦ Some x | v ↦ None ] } };
+
+    ghost holds = { Prim.search rules };
 
     fn held_in(rdata: &RData) -> Option<&TXT> {
         held!(rdata, TXT)
