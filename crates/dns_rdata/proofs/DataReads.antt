@@ -15,7 +15,8 @@ use Rattle.dns_rdata_options.proofs.Refusals.{opt_never}
 use Rattle.dns_rdata_service.proofs.SvcbValues.{svcb_never}
 use Rattle.dns_rdata_base.specs as base
 use Rattle.dns_rdata_sets.specs as sets
-use Rattle.dns_rdata.specs.{declared.record_data.RData.RData, Refusals.IsOwnRefusal, Refusals.OwnRefusal, Refusals.IsRefusal, Refusals.by_length}
+use Rattle.dns_rdata_base.specs.Counted.{by_length}
+use Rattle.dns_rdata.specs.{declared.record_data.RData.RData, Refusals.IsOwnRefusal, Refusals.OwnRefusal, Refusals.IsRefusal}
 use Rattle.dns_rdata.specs.Data.{Row, row, unread, rowless, row_of, kinds_of, MeetsConditionOf, IsRowlessRow, IsNever, FieldsOf, shape, condition}
 use Rattle.dns_rdata.specs.Data.{IsRowless, IsValue, Fills, NoValue, TookData, RefusedData, ReadsData, type_of, IsNeverRead}
 use Rattle.dns_rdata.specs.declared.record_data.RData.TheVariants as rdata

@@ -1,5 +1,5 @@
 -- Why record data is refused.
-use Rattle.std.specs.Prelude.{◌≡◌, ◌≢◌, ℕ, ◌+◌, ◌-◌, ◌==◌, ◌⊎◌, if◌then◌else◌, Result, Err}
+use Rattle.std.specs.Prelude.{◌≡◌, ◌≢◌, ℕ, ◌+◌, ◌-◌, ◌⊎◌}
 use Rattle.dns_types.specs.{declared.error.DecodeError.DecodeError, declared.record_type.RecordType.RecordType, RecordTypes.number_of}
 use Rattle.dns_types.specs.declared.error.DecodeError.TheVariants as decode
 use Rattle.dns_names_wire.specs.State.{Reading}
@@ -23,9 +23,3 @@ IsRefusal t n old new (decode.IncorrectRDataLengthRead read len) =
     ((new.index ≢ old.index + n) × (read ≡ new.index - old.index) × (len ≡ n))
     ⊎ ((new.index ≡ old.index + n) × OwnRefusal t n old new (decode.IncorrectRDataLengthRead read len))
 IsRefusal t n old new e = (new.index ≡ old.index + n) × OwnRefusal t n old new e
-
--- what reading answers, once so many octets were taken of a length
-abbrev pub by_length : {T : Type 0} → Result T DecodeError → ℕ → ℕ → Result T DecodeError
-by_length (Err decode.Memory) read len = Err decode.Memory
-by_length (Err (decode.UnknownRecordTypeValue number)) read len = Err (decode.UnknownRecordTypeValue number)
-by_length outcome read len = if read == len then outcome else Err (decode.IncorrectRDataLengthRead read len)

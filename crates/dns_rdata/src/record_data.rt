@@ -6,20 +6,18 @@ ghost use Rattle.dns_names_wire.specs.Words.{StaysBehind, UnlessMemory, EmitsAs,
 ghost use Rattle.dns_types.specs.declared.error.ProtoError.{ProtoError as ProtoErrorValue};
 ghost use Rattle.dns_names_wire.specs.State.{Writing};
 ghost use Rattle.dns_rdata.specs.Data.{EmitsData, IsNeverRead, fields_of, mode_for};
-ghost use Rattle.dns_rdata.specs.Refusals.{IsRefusal, by_length as answer_by_length};
+ghost use Rattle.dns_rdata.specs.Refusals.{IsRefusal};
 
 use crate::traits::RecordData;
+use crate::{
+    A, AAAA, ANAME, CAA, CERT, CNAME, CSYNC, HINFO, HTTPS, MX, NAPTR, NS, NULL, OPENPGPKEY, OPT,
+    PTR, SMIMEA, SOA, SRV, SSHFP, SVCB, TLSA, TXT,
+};
 use dns_names_wire::{
     BinDecoder, BinEncodable, BinEncoder, DecodeError, EncodesFields, ProtoError, RDataEncoding,
     RecordDataDecodable, RecordType, Restrict, emit_in,
 };
-use dns_rdata_base::{
-    A, AAAA, ANAME, CNAME, HINFO, MX, NAPTR, NS, NULL, OPENPGPKEY, PTR, SOA, SRV, TXT,
-};
-use dns_rdata_certs::{CERT, SMIMEA, SSHFP, TLSA};
-use dns_rdata_options::OPT;
-use dns_rdata_service::{HTTPS, SVCB};
-use dns_rdata_sets::{CAA, CSYNC};
+use dns_rdata_base::counted::by_length;
 use std::alloc::AllocError;
 use std::fmt;
 use std::hash::{Hash, Hasher};
@@ -262,33 +260,6 @@ impl RData {
     }
 }
 
-// What reading answers that began at this place, by how many octets were taken of a length.
-#[inline]
-fn by_length<T: Drop>(
-    outcome: Result<T, DecodeError>,
-    decoder: &BinDecoder<'_>,
-    start: usize,
-    length: Restrict<u16>,
-) -> Result<T, DecodeError>
-    ensures { result ≡ answer_by_length outcome (decoder.now.index - start) length }
-{
-    match outcome {
-        Err(DecodeError::Memory) => Err(DecodeError::Memory),
-        Err(DecodeError::UnknownRecordTypeValue(number)) => {
-            Err(DecodeError::UnknownRecordTypeValue(number))
-        }
-        outcome => {
-            let read = decoder.index().saturating_sub(start);
-            let len = length.unverified() as usize;
-            if read == len {
-                outcome
-            } else {
-                Err(DecodeError::IncorrectRDataLengthRead { read, len })
-            }
-        }
-    }
-}
-
 impl BinEncodable for RData {
     ghost use Rattle.dns_rdata.specs.{Data.IsEmittable, Data.fields_of, Data.mode_for, Laws.ReadsBack};
 
@@ -359,23 +330,15 @@ impl RData {
         ensures fits { OnOk result (IsEmittable self.now) }
         ensures unfit { IfErr result (λ e. IsMessage e → ¬ (IsEmittable self.now)) }
     {
-        let outcome = self.emit_uncompressed(encoder);
+        let earlier = encoder.with_rdata_behavior(RDataEncoding::Other);
+        let outcome = self.emit_other(encoder);
+        encoder.with_rdata_behavior(earlier);
         // Called for its clauses: what was written is octets.
         let _written = encoder.len();
         outcome
     }
 
-    // Appends the octets of the value, its names whole, whatever the mode.
-    fn emit_uncompressed(&self, encoder: &mut BinEncoder<'_>) -> Result<(), ProtoError>
-        ensures { EmitsData RDataEncoding.Other self.now result encoder.old encoder.new }
-    {
-        let earlier = encoder.with_rdata_behavior(RDataEncoding::Other);
-        let outcome = self.emit_other(encoder);
-        encoder.with_rdata_behavior(earlier);
-        outcome
-    }
-
-    // The same in the mode for it.
+    // Appends the octets of the value, its names whole, in the mode for it.
     fn emit_other(&self, encoder: &mut BinEncoder<'_>) -> Result<(), ProtoError>
         requires { encoder.old.mode ≡ RDataEncoding.Other }
         ensures { EmitsData RDataEncoding.Other self.now result encoder.old encoder.new }

@@ -9,14 +9,13 @@ ghost use Rattle.dns_words.specs.Reads.{Decides, UnlessMemory};
 
 use crate::record_data::RData;
 use crate::traits::RecordData;
+use crate::{
+    A, AAAA, ANAME, CAA, CERT, CNAME, CSYNC, HINFO, HTTPS, MX, NAPTR, NS, OPENPGPKEY, PTR, SMIMEA,
+    SOA, SRV, SSHFP, SVCB, TLSA, TXT,
+};
 use dns_names_wire::{Name, ParseError, RecordType};
-use dns_rdata_base::{A, AAAA, ANAME, CNAME, HINFO, MX, NAPTR, NS, OPENPGPKEY, PTR, SOA, SRV, TXT};
-use dns_rdata_certs::{CERT, SMIMEA, SSHFP, TLSA};
-use dns_rdata_service::{HTTPS, SVCB};
-use dns_rdata_sets::{CAA, CSYNC};
 use dns_text::text_words;
 use std::alloc::Global;
-use std::borrow::CowStr;
 use std::convert::AsStr;
 
 impl RData {
@@ -139,7 +138,7 @@ impl RData {
             → IfErr result (λ e. UnlessMemory e ((e ≡ ParseError.UnsupportedRecordType record_type) ⊎ NoTextWords text.now)) }
     {
         let words = text_words(alloc, text)?;
-        read_each(alloc, record_type, words, origin)
+        RData::from_tokens(alloc, record_type, words.into_iter(), origin)
     }
 }
 
@@ -149,18 +148,4 @@ fn wrap<T: RecordData + Drop>(outcome: Result<T, ParseError>) -> Result<RData, P
     ensures { result ≡ result_map_both T.wrapped (λ e. e) outcome }
 {
     Ok(outcome?.into_rdata())
-}
-
-// Reads the words of a list.
-fn read_each(
-    alloc: Global,
-    record_type: RecordType,
-    words: Vec<CowStr<'_, Global>>,
-    origin: Option<&Name>,
-) -> Result<RData, ParseError>
-    ensures reads { Decides (λ v. AreDataWords (option_copied origin.entry) record_type v (map cow_str_bytes words.entry.items)) (λ v. v) result }
-    ensures kind { IfOk result (λ v. type_of v ≡ record_type) }
-    ensures unsupported { HasNoWords record_type → result ≡ Err (ParseError.UnsupportedRecordType record_type) }
-{
-    RData::from_tokens(alloc, record_type, words.into_iter(), origin)
 }

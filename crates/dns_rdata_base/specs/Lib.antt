@@ -1,5 +1,6 @@
 pub mod A
 pub mod AAAA
+pub mod Counted
 pub mod HINFO
 pub mod Lossy
 pub mod MX

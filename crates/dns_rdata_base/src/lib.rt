@@ -3,6 +3,7 @@
 
 pub mod a;
 pub mod aaaa;
+pub mod counted;
 pub mod hinfo;
 pub mod mx;
 pub mod name;
