@@ -1,5 +1,6 @@
 -- What a cursor over canonical octets meets in a value.
 use Rattle.std.specs.Prelude.{◌≡◌, ℕ, true, length, Bool, Option, []}
+pub use Rattle.dns_pieces.specs.Cursor.{Remaining, Chooses, Advances}
 use Rattle.dns_pieces.specs.{Cursor.Course, Steps.Left, Steps.AllShort, Steps.by_fields}
 use Rattle.dns_rdata_options.specs.declared.heads.Heads.{Heads}
 use Rattle.dns_fields.specs.Fields.{all_emittable}
