@@ -1,5 +1,5 @@
 -- Cursors over record data.
-use Rattle.std.proofs.Common.{◌≡◌, ◌↔◌, IsTrue, true≢false, Bool, true, false, if◌then◌else◌, Option, Some, None, map, refl, sym, ◌∙◌}
+use Rattle.std.proofs.Common.{◌≡◌, ◌↔◌, IsTrue, true≢false, Bool, true, false, if◌then◌else◌, Some, None, map, refl, sym, ◌∙◌}
 use Rattle.std.proofs.{Math.Bool.and-true, lemmas.List.append-nil}
 use Rattle.std.specs.List.{flat_map}
 use Rattle.dns_fields.specs.Pieces.{string, parameters_emittable}
