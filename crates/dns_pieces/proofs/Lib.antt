@@ -1,4 +1,5 @@
 pub mod Comparing
 pub mod Fronts
+pub mod Cursors
 pub mod Sharing
 pub mod Copying

@@ -1,3 +1,4 @@
+pub mod Cursor
 pub mod Fronts
 pub mod Runs
 pub mod Steps

@@ -4,6 +4,7 @@
 
 pub mod common;
 pub mod count;
+pub mod cursor;
 pub mod head;
 pub mod order;
 pub mod run;
@@ -11,6 +12,7 @@ pub mod step;
 pub mod tail;
 
 pub use count::Count;
+pub use cursor::{Cursor, Stepped};
 pub use head::Head;
 pub use run::Run;
 pub use step::Step;

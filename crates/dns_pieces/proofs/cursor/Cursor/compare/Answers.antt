@@ -1,25 +1,25 @@
 use Rattle.std.proofs.Common.{sym, ◌∙◌, arith}
 use Rattle.dns_pieces.proofs.Comparing.{cmp_shared, common_shared, order_told, goes_on, one_taken}
-use Rattle.dns_rdata.proofs.CursorSteps.{chooses_both, chooses_kept, advances_one, advances_by, advances_both}
-use Rattle.dns_rdata.proofs.canonical.CanonicalOctets.compare.Goals as goal
+use Rattle.dns_pieces.proofs.Cursors.{chooses_both, chooses_kept, advances_one, advances_by, advances_both}
+use Rattle.dns_pieces.proofs.cursor.Cursor.compare.Goals as goal
 
 pub returns-in-Some-clause-order : goal.returns-in-Some-clause-order
-returns-in-Some-clause-order c = order_told c.next.result c.next-in-octets.result _ _ _ _ c.in-Some.order c.next.ensures.octets c.next-in-octets.ensures.octets c.in-Some.ensures ∙ c.octets.invariant.order
+returns-in-Some-clause-order g c = order_told c.next.result c.next-in-octets.result _ _ _ _ c.in-Some.order c.next.ensures.octets c.next-in-octets.ensures.octets c.in-Some.ensures ∙ c.octets.invariant.order
 
 pub returns-in-Some-clause-self_taken : goal.returns-in-Some-clause-self_taken
-returns-in-Some-clause-self_taken c = omega (arith, c.octets.invariant.self_taken, c.next.ensures.few)
+returns-in-Some-clause-self_taken g c = omega (arith, c.octets.invariant.self_taken, c.next.ensures.few)
 
 pub returns-in-Some-clause-other_taken : goal.returns-in-Some-clause-other_taken
-returns-in-Some-clause-other_taken c = omega (arith, c.octets.invariant.other_taken, c.next-in-octets.ensures.few)
+returns-in-Some-clause-other_taken g c = omega (arith, c.octets.invariant.other_taken, c.next-in-octets.ensures.few)
 
 pub returns-in-Some-clause-self_rest : goal.returns-in-Some-clause-self_rest
-returns-in-Some-clause-self_rest c = advances_both c.octets.invariant.self_rest (advances_one _ _ c.next.result c.next.ensures.octets c.next.ensures.taken)
+returns-in-Some-clause-self_rest g c = advances_both c.octets.invariant.self_rest (advances_one _ _ c.next.result c.next.ensures.octets c.next.ensures.taken)
 
 pub returns-in-Some-clause-other_rest : goal.returns-in-Some-clause-other_rest
-returns-in-Some-clause-other_rest c = advances_both c.octets.invariant.other_rest (advances_one _ _ c.next-in-octets.result c.next-in-octets.ensures.octets c.next-in-octets.ensures.taken)
+returns-in-Some-clause-other_rest g c = advances_both c.octets.invariant.other_rest (advances_one _ _ c.next-in-octets.result c.next-in-octets.ensures.octets c.next-in-octets.ensures.taken)
 
 pub octets-preserved : goal.octets-preserved
-octets-preserved c =
+octets-preserved g c =
     let shares = c.skip_common.ensures.shares in
     let k = common_shared shares in
     let g = goes_on c.next.result c.next-in-octets.result _ _ _ _ c.next.ensures.octets c.next-in-octets.ensures.octets c.in-None.ensures in
