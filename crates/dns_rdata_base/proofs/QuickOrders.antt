@@ -103,9 +103,9 @@ txt_orders x y o f g e =
     (λ z tied. itself x y txt_laws.laws-law (ap (λ d. record { txt_data = d }) (same_texts x.txt_data y.txt_data tied.0)))
 
 pub hinfo_orders : (x y : HINFO) (o : Ordering) → (o ≢ Equal → all_emittable hinfo_shape (hinfo_fields x) ≡ true) → (o ≢ Equal → all_emittable hinfo_shape (hinfo_fields y) ≡ true)
-    → o ≡ canonical_cmp hinfo_shape (hinfo_fields x) (hinfo_fields y) → IsOrder hinfo_shape (hinfo_fields x) (hinfo_fields y) (hinfo_eq.ghosts.eq x y) o
+    → o ≡ fields_cmp Equal hinfo_shape (hinfo_fields x) (hinfo_fields y) → IsOrder hinfo_shape (hinfo_fields x) (hinfo_fields y) (hinfo_eq.ghosts.eq x y) o
 hinfo_orders x y o f g e =
-    orders hinfo_shape (hinfo_fields x) (hinfo_fields y) _ o f g (tt, (tt, tt)) e
+    orders hinfo_shape (hinfo_fields x) (hinfo_fields y) _ o f g (tt, (tt, tt)) (e ∙ by_fields hinfo_shape (hinfo_fields x) (hinfo_fields y) (tt, (tt, tt)))
     (λ z tied. itself x y hinfo_laws.laws-law (rw (same_text x.cpu y.cpu tied.0, same_text x.os y.os tied.1.0) refl))
 
 -- ---- of octets to the end behind other fields

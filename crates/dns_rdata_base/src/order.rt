@@ -9,7 +9,7 @@ ghost use Rattle.dns_rdata_base.specs.{A.a_shape, A.a_fields, AAAA.aaaa_shape, A
 ghost use Rattle.dns_rdata_base.specs.{MX.mx_fields, NAPTR.naptr_shape, NAPTR.naptr_fields, NULL.null_shape, NULL.null_fields};
 ghost use Rattle.dns_rdata_base.specs.{OPENPGPKEY.openpgpkey_shape, OPENPGPKEY.openpgpkey_fields, SOA.soa_shape, SOA.soa_fields};
 ghost use Rattle.dns_rdata_base.specs.{SRV.srv_shape, SRV.srv_fields, TXT.txt_shape, TXT.txt_fields, Ordered.IfSomeOrder};
-ghost use Rattle.dns_rdata_base.specs.NameRecords.{name_shape, name_fields, aname_fields, cname_fields, ns_fields, ptr_fields};
+ghost use Rattle.dns_rdata_base.specs.NameRecords.{name_shape, aname_fields, cname_fields, ns_fields, ptr_fields};
 
 use crate::ordered::{OrderedRecord, unless_tied};
 use crate::steps::{hinfo_is_emittable, naptr_is_emittable, txt_is_emittable};
@@ -17,17 +17,9 @@ use crate::{
     A, AAAA, ANAME, CNAME, HINFO, MX, NAPTR, NS, NULL, OPENPGPKEY, PTR, SOA, SRV, TXT, by_fields,
     in_order,
 };
-use dns_names_wire::{Name, Octets, SmallOctets};
+use dns_names_wire::{Octets, SmallOctets};
 use dns_pieces::order::{four_behind, name_behind, octets_cmp, text_behind, two_behind};
 use std::cmp::Ordering;
-
-/// By the name, of ANAME, CNAME, NS and PTR.
-#[inline]
-pub fn name_order(a: &Name, b: &Name) -> Ordering
-    ensures { result ≡ canonical_cmp name_shape (name_fields a.now) (name_fields b.now) }
-{
-    name_behind(Ordering::Equal, a, b)
-}
 
 /// By the octets, of NULL, OPENPGPKEY and types without a row.
 #[inline]
@@ -125,7 +117,8 @@ impl OrderedRecord for ANAME {
 
     #[inline]
     fn quick_cmp(&self, other: &ANAME) -> Option<Ordering> {
-        unless_tied(name_order(&self.0, &other.0), self, other, false)
+        let order = name_behind(Ordering::Equal, &self.0, &other.0);
+        unless_tied(order, self, other, false)
     }
 
     fn cmp_fields(&self, other: &ANAME) -> Ordering {
@@ -138,7 +131,8 @@ impl OrderedRecord for CNAME {
 
     #[inline]
     fn quick_cmp(&self, other: &CNAME) -> Option<Ordering> {
-        unless_tied(name_order(&self.0, &other.0), self, other, false)
+        let order = name_behind(Ordering::Equal, &self.0, &other.0);
+        unless_tied(order, self, other, false)
     }
 
     fn cmp_fields(&self, other: &CNAME) -> Ordering {
@@ -150,6 +144,7 @@ impl OrderedRecord for HINFO {
     ghost keys_cmp = { on hinfo_fields (values_cmp hinfo_shape) };
 
     #[inline]
+    #[tactic(auto, using(crate::proofs::QuickOrders::hinfo_orders, crate::proofs::QuickOrders::tie))]
     fn quick_cmp(&self, other: &HINFO) -> Option<Ordering> {
         let cpu = text_behind(Ordering::Equal, self.cpu.as_slice(), other.cpu.as_slice());
         let order = text_behind(cpu, self.os.as_slice(), other.os.as_slice());
@@ -163,7 +158,7 @@ impl OrderedRecord for HINFO {
     }
 
     fn cmp_fields(&self, other: &HINFO) -> Ordering {
-        by_fields!(self, other, cpu, os)
+        by_fields!((self, other) cpu os)
     }
 }
 
@@ -178,7 +173,7 @@ impl OrderedRecord for MX {
     }
 
     fn cmp_fields(&self, other: &MX) -> Ordering {
-        by_fields!(self, other, preference, exchange)
+        by_fields!((self, other) preference exchange)
     }
 }
 
@@ -200,16 +195,7 @@ impl OrderedRecord for NAPTR {
     }
 
     fn cmp_fields(&self, other: &NAPTR) -> Ordering {
-        by_fields!(
-            self,
-            other,
-            order,
-            preference,
-            flags,
-            services,
-            regexp,
-            replacement
-        )
+        by_fields!((self, other) order preference flags services regexp replacement)
     }
 }
 
@@ -231,7 +217,8 @@ impl OrderedRecord for NS {
 
     #[inline]
     fn quick_cmp(&self, other: &NS) -> Option<Ordering> {
-        unless_tied(name_order(&self.0, &other.0), self, other, false)
+        let order = name_behind(Ordering::Equal, &self.0, &other.0);
+        unless_tied(order, self, other, false)
     }
 
     fn cmp_fields(&self, other: &NS) -> Ordering {
@@ -257,7 +244,8 @@ impl OrderedRecord for PTR {
 
     #[inline]
     fn quick_cmp(&self, other: &PTR) -> Option<Ordering> {
-        unless_tied(name_order(&self.0, &other.0), self, other, false)
+        let order = name_behind(Ordering::Equal, &self.0, &other.0);
+        unless_tied(order, self, other, false)
     }
 
     fn cmp_fields(&self, other: &PTR) -> Ordering {
@@ -303,7 +291,7 @@ impl OrderedRecord for SRV {
     }
 
     fn cmp_fields(&self, other: &SRV) -> Ordering {
-        by_fields!(self, other, priority, weight, port, target)
+        by_fields!((self, other) priority weight port target)
     }
 }
 
@@ -311,6 +299,7 @@ impl OrderedRecord for TXT {
     ghost keys_cmp = { on txt_fields (values_cmp txt_shape) };
 
     #[inline]
+    #[tactic(auto, using(crate::proofs::QuickOrders::txt_orders, crate::proofs::QuickOrders::tie))]
     fn quick_cmp(&self, other: &TXT) -> Option<Ordering> {
         let order = txt_order(self, other);
         if order.is_eq() {

@@ -38,7 +38,7 @@ macro_rules! in_order {
 /// The order of two records by the first of these fields that differs.
 #[macro_export]
 macro_rules! by_fields {
-    ($a:expr, $b:expr, $($field:ident),+) => {
+    (($a:expr, $b:expr) $($field:ident)+) => {
         $crate::in_order!($($a.$field.cmp(&$b.$field)),+)
     };
 }

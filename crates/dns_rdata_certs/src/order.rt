@@ -42,7 +42,7 @@ impl OrderedRecord for CERT {
     }
 
     fn cmp_fields(&self, other: &CERT) -> Ordering {
-        by_fields!(self, other, cert_type, key_tag, algorithm, cert_data)
+        by_fields!((self, other) cert_type key_tag algorithm cert_data)
     }
 }
 
@@ -86,7 +86,7 @@ impl OrderedRecord for SSHFP {
     }
 
     fn cmp_fields(&self, other: &SSHFP) -> Ordering {
-        by_fields!(self, other, algorithm, fingerprint_type, fingerprint)
+        by_fields!((self, other) algorithm fingerprint_type fingerprint)
     }
 }
 
@@ -118,6 +118,6 @@ impl OrderedRecord for TLSA {
 
     #[inline]
     fn cmp_fields(&self, other: &TLSA) -> Ordering {
-        by_fields!(self, other, cert_usage, selector, matching, cert_data)
+        by_fields!((self, other) cert_usage selector matching cert_data)
     }
 }

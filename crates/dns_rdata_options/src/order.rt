@@ -18,6 +18,7 @@ impl OrderedRecord for OPT {
     /// A record without options comes first. Else the order is found where the least of the options that differ decides it,
     /// or where none differ.
     #[inline]
+    #[tactic(auto, using(crate::proofs::NoOptions::opt_orders, crate::proofs::NoOptions::none_first, crate::proofs::NoOptions::some_last))]
     fn quick_cmp(&self, other: &OPT) -> Option<Ordering> {
         if !opt_is_emittable(self) || !opt_is_emittable(other) {
             return None;

@@ -26,6 +26,7 @@ impl OrderedRecord for CAA {
 
     /// Where the octets tie, tag and value are equal, and the flags are compared.
     #[inline]
+    #[tactic(auto, using(crate::proofs::CaaOrders::caa_orders, dns_rdata_base::proofs::QuickOrders::tie, dns_rdata_base::proofs::QuickOrders::no_difference))]
     fn quick_cmp(&self, other: &CAA) -> Option<Ordering> {
         let flags = one_behind(Ordering::Equal, self.flags(), other.flags());
         let tags = text_behind(flags, self.tag.as_slice(), other.tag.as_slice());
@@ -47,7 +48,7 @@ impl OrderedRecord for CAA {
     fn cmp_fields(&self, other: &CAA) -> Ordering {
         in_order!(
             u8::from(self.issuer_critical).cmp(&u8::from(other.issuer_critical)),
-            by_fields!(self, other, reserved_flags, tag, value)
+            by_fields!((self, other) reserved_flags tag value)
         )
     }
 }
