@@ -1,5 +1,5 @@
 -- The order that fields tell is that of the records.
-use Rattle.std.proofs.Common.{◌≡◌, ◌≢◌, ℕ, Bool, true, false, true≢false, Option, Some, None, IfSome, List, [], ◌∷◌, ◌++◌, ◌==◌, length, take, refl, sym, ap, ◌∙◌, subst}
+use Rattle.std.proofs.Common.{◌≡◌, ◌≢◌, ℕ, Bool, true, false, true≢false, List, [], ◌∷◌, ◌++◌, ◌==◌, length, take, refl, sym, ap, ◌∙◌, subst}
 use Rattle.std.proofs.lemmas.{Cmp.nat_list_eq_equiv, List.append_cancel_left, List.take_at}
 use Rattle.std.specs.{Cmp.IsEquivalence, Cmp.Lexicographic.pointwise, List.flat_map, FinMap.nat_cmp-IsAntisymmetric, FinMap.slice_cmp-IsAntisymmetric, Ordering.is_eq, Ordering.ordering_then, declared.cmp.Ordering.Ordering}
 use Rattle.std.specs.declared.cmp.Ordering.TheVariants.{Less, Equal, Greater}
@@ -12,7 +12,7 @@ use Rattle.dns_rdata_base.specs.contracts.hinfo.HINFOEq.TheImpl.Laws as hinfo_la
 use Rattle.dns_rdata_base.specs.contracts.txt.TXTPartialEq.TheImpl as txt_eq
 use Rattle.dns_rdata_base.specs.contracts.txt.TXTEq.TheImpl.Laws as txt_laws
 use Rattle.dns_rdata_base.specs.{declared.hinfo.HINFO.HINFO, declared.txt.TXT.TXT, HINFO.hinfo_shape, HINFO.hinfo_fields}
-use Rattle.dns_rdata_base.specs.{Ordered.IsOrder, Ordered.IfSomeOrder, TXT.txt_shape, TXT.txt_fields}
+use Rattle.dns_rdata_base.specs.{Ordered.IsOrder, TXT.txt_shape, TXT.txt_fields}
 
 -- ---- of what ties
 
@@ -131,9 +131,3 @@ by_rest s a b same x y o f g order equal e = record {
   second = λ n. g;
   octets = λ n. e ∙ sym order;
 }
-
--- where only a difference was told
-pub differing : (s : List Kind) (a b : Values s) (same : Bool) (order : Ordering) (r : Option Ordering) → all_emittable s a ≡ true → all_emittable s b ≡ true
-    → order ≡ canonical_cmp s a b → IfSome r (λ o. (o ≡ order) × (o ≢ Equal)) → IfSomeOrder s a b same r
-differing s a b same order None f g e h = tt
-differing s a b same order (Some o) f g e h = record { equal = λ t. absurd (h.1 t); first = λ n. f; second = λ n. g; octets = λ n. h.0 ∙ e }

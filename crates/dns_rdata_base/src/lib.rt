@@ -27,7 +27,6 @@ pub use name::{ANAME, CNAME, NS, PTR};
 pub use naptr::{NAPTR, verify_flags};
 pub use null::NULL;
 pub use openpgpkey::OPENPGPKEY;
-pub use ordered::OrderedRecord;
 pub use soa::SOA;
 pub use srv::SRV;
 pub use traits::TakesOctet;

@@ -1,8 +1,7 @@
 //! Records that are ordered by their fields.
 
-ghost use Rattle.std.specs.Prelude.{◌≡◌, ◌≢◌, IfSome, true};
+ghost use Rattle.std.specs.Prelude.{◌≡◌, true};
 ghost use Rattle.std.specs.declared.cmp.Ordering.{Ordering as OrderingValue};
-ghost use Rattle.std.specs.declared.cmp.Ordering.TheVariants.{Equal};
 ghost use Rattle.dns_fields.specs.Fields.{all_emittable};
 ghost use Rattle.dns_pieces.specs.Fronts.{canonical_cmp};
 ghost use Rattle.dns_rdata_base.specs.Ordered.{IfSomeOrder};
@@ -67,12 +66,4 @@ pub fn unless_tied<T: Record + PartialEq>(
 {
     let is_found = order.is_ne() || if in_place { a == b } else { is_equal(a, b) };
     if is_found { Some(order) } else { None }
-}
-
-/// The order that was found. `None` where it ties.
-#[inline]
-pub fn if_differing(order: Ordering) -> Option<Ordering>
-    ensures { IfSome result (λ o. (o ≡ order) × (o ≢ Equal)) }
-{
-    if order.is_ne() { Some(order) } else { None }
 }

@@ -12,7 +12,7 @@ use crate::{CERT, SMIMEA, SSHFP, TLSA};
 use dns_pieces::order::{one_behind, rest_behind, two_behind};
 use dns_rdata_base::by_fields;
 use dns_rdata_base::order::rest_order;
-use dns_rdata_base::ordered::{OrderedRecord, if_differing};
+use dns_rdata_base::ordered::OrderedRecord;
 use std::cmp::Ordering;
 
 // Whether two CERT have equal fields in front of the certificate.
@@ -29,6 +29,7 @@ impl OrderedRecord for CERT {
 
     /// By the octets of the certificate where the fields in front are equal.
     #[inline]
+    #[tactic(auto, using(crate::proofs::Fronts::cert_tied, crate::proofs::Fronts::cert_differ, dns_rdata_base::proofs::QuickOrders::no_difference))]
     fn quick_cmp(&self, other: &CERT) -> Option<Ordering> {
         if is_cert_front_same(self, other) {
             return Some(rest_order(self.cert_data.as_slice(), other.cert_data.as_slice()));
@@ -38,7 +39,8 @@ impl OrderedRecord for CERT {
         let tags = two_behind(kinds, self.key_tag, other.key_tag);
         let algorithms = one_behind(tags, u8::from(self.algorithm), u8::from(other.algorithm));
         let (data, other_data) = (self.cert_data.as_slice(), other.cert_data.as_slice());
-        if_differing(rest_behind(algorithms, data, other_data))
+        let order = rest_behind(algorithms, data, other_data);
+        if order.is_ne() { Some(order) } else { None }
     }
 
     fn cmp_fields(&self, other: &CERT) -> Ordering {
@@ -73,6 +75,7 @@ impl OrderedRecord for SSHFP {
 
     /// By the octets of the fingerprint where the fields in front are equal.
     #[inline]
+    #[tactic(auto, using(crate::proofs::Fronts::sshfp_tied, crate::proofs::Fronts::sshfp_differ, dns_rdata_base::proofs::QuickOrders::no_difference))]
     fn quick_cmp(&self, other: &SSHFP) -> Option<Ordering> {
         if is_sshfp_front_same(self, other) {
             return Some(rest_order(self.fingerprint.as_slice(), other.fingerprint.as_slice()));
@@ -82,7 +85,8 @@ impl OrderedRecord for SSHFP {
         let kind = u8::from(self.fingerprint_type);
         let kinds = one_behind(algorithms, kind, u8::from(other.fingerprint_type));
         let (data, other_data) = (self.fingerprint.as_slice(), other.fingerprint.as_slice());
-        if_differing(rest_behind(kinds, data, other_data))
+        let order = rest_behind(kinds, data, other_data);
+        if order.is_ne() { Some(order) } else { None }
     }
 
     fn cmp_fields(&self, other: &SSHFP) -> Ordering {
@@ -104,6 +108,7 @@ impl OrderedRecord for TLSA {
 
     /// By the octets of the certificate where the fields in front are equal.
     #[inline]
+    #[tactic(auto, using(crate::proofs::Fronts::tlsa_tied, crate::proofs::Fronts::tlsa_differ, dns_rdata_base::proofs::QuickOrders::no_difference))]
     fn quick_cmp(&self, other: &TLSA) -> Option<Ordering> {
         if is_tlsa_front_same(self, other) {
             return Some(rest_order(self.cert_data.as_slice(), other.cert_data.as_slice()));
@@ -113,7 +118,8 @@ impl OrderedRecord for TLSA {
         let selectors = one_behind(usages, u8::from(self.selector), u8::from(other.selector));
         let matching = one_behind(selectors, u8::from(self.matching), u8::from(other.matching));
         let (data, other_data) = (self.cert_data.as_slice(), other.cert_data.as_slice());
-        if_differing(rest_behind(matching, data, other_data))
+        let order = rest_behind(matching, data, other_data);
+        if order.is_ne() { Some(order) } else { None }
     }
 
     #[inline]
