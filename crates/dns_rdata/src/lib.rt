@@ -4,7 +4,6 @@
 pub mod canonical;
 pub mod laws;
 pub mod order;
-mod quick_order;
 pub mod record_data;
 pub mod traits;
 mod words;

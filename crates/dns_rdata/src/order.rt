@@ -1,18 +1,13 @@
 //! The order of record data.
 
-ghost use Rattle.std.specs.Prelude.{◌≡◌};
-ghost use Rattle.dns_fields.specs.Order.{values_cmp};
-ghost use Rattle.dns_rdata_base.specs.SOA.{soa_shape, soa_fields};
-ghost use Rattle.dns_rdata_certs.specs.TLSA.{tlsa_key_shape, tlsa_keys};
-ghost use Rattle.dns_rdata_sets.specs.CSYNC.{csync_key_shape, csync_keys};
+ghost use Rattle.std.specs.Prelude.{◌≡◌, ◌&&◌, true};
 ghost use Rattle.std.specs.{Cmp.Lexicographic.slice_cmp, Ordering.nat_cmp};
-ghost use Rattle.dns_rdata.specs.{Data.data_octets, Order.rank, Order.rdata_cmp, Order.variants_cmp, Order.Differ};
+ghost use Rattle.dns_rdata.specs.{Data.data_octets, Data.fields_by, Data.fields_of, Equal.equal, Order.rank, Order.rdata_cmp, Order.variants_cmp};
+ghost use Rattle.dns_rdata.specs.{Order.Differ, QuickOrders.TellsOrder};
 
-use crate::record_data::RData;
-use dns_rdata_base::SOA;
-use dns_rdata_certs::TLSA;
-use dns_rdata_service::ordering::svcb_cmp;
-use dns_rdata_sets::CSYNC;
+use crate::record_data::{RData, with_records};
+use crate::traits::RecordData;
+use dns_rdata_base::ordered::OrderedRecord;
 use std::cmp::Ordering;
 
 impl RData {
@@ -52,134 +47,64 @@ impl RData {
     }
 }
 
-// The order by the first fields that differ, of fields that are given in turn.
-macro_rules! in_order {
-    ($order:expr) => {
-        $order
-    };
-    ($order:expr, $($rest:expr),+) => {
-        $order.then(in_order!($($rest),+))
-    };
-}
-
-// The order by the first of these fields that differs.
-macro_rules! by_fields {
-    ($a:ident, $b:ident, $($field:ident),+) => {
-        in_order!($($a.$field.cmp(&$b.$field)),+)
-    };
-}
-
-// The order of two CSYNC by their fields in turn.
-#[inline]
-#[tactic(auto, using(dns_pieces::proofs::Comparing::then_equal))]
-fn csync_cmp(a: &CSYNC, b: &CSYNC) -> Ordering
-    ensures { result ≡ values_cmp csync_key_shape (csync_keys a.now) (csync_keys b.now) }
+// The order of two records, as that of the values that hold them.
+#[inline(always)]
+fn of_values<T: OrderedRecord + RecordData>(a: &T, b: &T) -> Option<Ordering>
+    requires first { fields_of (T.wrapped a.now) ≡ fields_by T.facts a.now }
+    requires second { fields_of (T.wrapped b.now) ≡ fields_by T.facts b.now }
+    requires equal { equal (T.wrapped a.now) (T.wrapped b.now) ≡ (T.eq a.now b.now && true) }
+    ensures { TellsOrder result (T.wrapped a.now) (T.wrapped b.now) }
 {
-    let types = a.type_bit_maps.numbers().cmp(b.type_bit_maps.numbers());
-    let reserved = a.reserved_flags.cmp(&b.reserved_flags).then(types);
-    let minimum = u8::from(a.soa_minimum)
-        .cmp(&u8::from(b.soa_minimum))
-        .then(reserved);
-    let immediate = u8::from(a.immediate)
-        .cmp(&u8::from(b.immediate))
-        .then(minimum);
-    a.soa_serial.cmp(&b.soa_serial).then(immediate)
+    a.quick_cmp(b)
 }
 
-// The order of two SOA by their fields in turn.
-#[inline]
-#[tactic(auto, using(dns_pieces::proofs::Comparing::then_equal))]
-fn soa_cmp(a: &SOA, b: &SOA) -> Ordering
-    ensures { result ≡ values_cmp soa_shape (soa_fields a.now) (soa_fields b.now) }
+// No order that is found.
+#[inline(always)]
+#[tactic(auto, unfolding(crate::specs::QuickOrders::TellsOrder))]
+fn untold(a: &RData, b: &RData) -> Option<Ordering>
+    ensures { TellsOrder result a.now b.now }
 {
-    in_order!(
-        a.mname.cmp(&b.mname),
-        a.rname.cmp(&b.rname),
-        a.serial.cmp(&b.serial),
-        a.refresh.cast_unsigned().cmp(&b.refresh.cast_unsigned()),
-        a.retry.cast_unsigned().cmp(&b.retry.cast_unsigned()),
-        a.expire.cast_unsigned().cmp(&b.expire.cast_unsigned()),
-        a.minimum.cmp(&b.minimum)
-    )
+    let _ = a;
+    let _ = b;
+    None
 }
 
-// The order of two TLSA by their fields in turn.
-#[inline]
-#[tactic(auto, using(dns_pieces::proofs::Comparing::then_equal, dns_pieces::proofs::Comparing::then_assoc))]
-fn tlsa_cmp(a: &TLSA, b: &TLSA) -> Ordering
-    ensures { result ≡ values_cmp tlsa_key_shape (tlsa_keys a.now) (tlsa_keys b.now) }
-{
-    by_fields!(a, b, cert_usage, selector, matching, cert_data)
+// Matches two values: one arm for two records of each type, all with the same body, and then the arms that are given.
+macro_rules! each_two {
+    (($values:expr, $a:ident, $b:ident => $body:expr, $($pattern:pat => $other:expr,)+) $($record:ident)+) => {
+        match $values {
+            $((RData::$record($a), RData::$record($b)) => $body,)+
+            $($pattern => $other,)+
+        }
+    };
+    ($($arguments:tt)+) => {
+        with_records!(each_two, ($($arguments)+))
+    };
 }
 
 impl RData {
+    // The order of two values of one variant, where their fields tell it without a cursor.
+    #[inline]
+    fn quick_cmp(&self, other: &RData) -> Option<Ordering>
+        ensures { TellsOrder result self.now other.now }
+    {
+        each_two!((self, other), a, b => of_values(a, b), _ => untold(self, other),)
+    }
+
     // The order of two values by variant, and then by their fields; of unknown data by octets and then by type.
-    #[tactic(auto, using(dns_pieces::proofs::Comparing::then_equal, dns_pieces::proofs::Comparing::then_assoc))]
+    #[tactic(auto, using(dns_pieces::proofs::Comparing::then_equal))]
     fn cmp_fields(&self, other: &RData) -> Ordering
         ensures { result ≡ variants_cmp self.now other.now }
     {
-        match (self, other) {
-            (RData::A(a), RData::A(b)) => a.0.octets().as_slice().cmp(b.0.octets().as_slice()),
-            (RData::AAAA(a), RData::AAAA(b)) => a
-                .0
-                .octets()
-                .as_slice()
-                .cmp(b.0.octets().as_slice()),
-            (RData::ANAME(a), RData::ANAME(b)) => a.0.cmp(&b.0),
-            (RData::CAA(a), RData::CAA(b)) => in_order!(
-                u8::from(a.issuer_critical).cmp(&u8::from(b.issuer_critical)),
-                by_fields!(a, b, reserved_flags, tag, value)
-            ),
-            (RData::CERT(a), RData::CERT(b)) => by_fields!(
-                a, b, cert_type, key_tag, algorithm, cert_data
-            ),
-            (RData::CNAME(a), RData::CNAME(b)) => a.0.cmp(&b.0),
-            (RData::CSYNC(a), RData::CSYNC(b)) => csync_cmp(a, b),
-            (RData::HINFO(a), RData::HINFO(b)) => by_fields!(a, b, cpu, os),
-            (RData::HTTPS(a), RData::HTTPS(b)) => svcb_cmp(&a.0, &b.0),
-            (RData::MX(a), RData::MX(b)) => by_fields!(a, b, preference, exchange),
-            (RData::NAPTR(a), RData::NAPTR(b)) => by_fields!(
-                a,
-                b,
-                order,
-                preference,
-                flags,
-                services,
-                regexp,
-                replacement
-            ),
-            (RData::NULL(a), RData::NULL(b)) => a.anything.cmp(&b.anything),
-            (RData::NS(a), RData::NS(b)) => a.0.cmp(&b.0),
-            (RData::OPENPGPKEY(a), RData::OPENPGPKEY(b)) => a.public_key.cmp(&b.public_key),
-            (RData::OPT(a), RData::OPT(b)) => a.cmp(b),
-            (RData::PTR(a), RData::PTR(b)) => a.0.cmp(&b.0),
-            (RData::SMIMEA(a), RData::SMIMEA(b)) => tlsa_cmp(&a.0, &b.0),
-            (RData::SOA(a), RData::SOA(b)) => soa_cmp(a, b),
-            (RData::SRV(a), RData::SRV(b)) => by_fields!(a, b, priority, weight, port, target),
-            (RData::SSHFP(a), RData::SSHFP(b)) => by_fields!(
-                a,
-                b,
-                algorithm,
-                fingerprint_type,
-                fingerprint
-            ),
-            (RData::SVCB(a), RData::SVCB(b)) => svcb_cmp(a, b),
-            (RData::TLSA(a), RData::TLSA(b)) => tlsa_cmp(a, b),
-            (RData::TXT(a), RData::TXT(b)) => a.txt_data.cmp(&b.txt_data),
+        each_two!((self, other), a, b => OrderedRecord::cmp_fields(a, b),
             (
                 RData::Unknown { code, rdata },
-                RData::Unknown {
-                    code: other_code,
-                    rdata: other_rdata,
-                },
-            ) => rdata
-                .anything
-                .cmp(&other_rdata.anything)
-                .then(code.cmp(other_code)),
+                RData::Unknown { code: other_code, rdata: other_rdata },
+            ) => rdata.anything.cmp(&other_rdata.anything).then(code.cmp(other_code)),
             (RData::Update0(a), RData::Update0(b)) => a.cmp(b),
             (RData::ZERO, RData::ZERO) => Ordering::Equal,
             _ => self.cmp_ranks(other),
-        }
+        )
     }
 
     // The order of two values of different variants, by the place of the variant.

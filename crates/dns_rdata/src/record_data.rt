@@ -18,6 +18,7 @@ use dns_names_wire::{
     RecordDataDecodable, RecordType, Restrict, emit_in,
 };
 use dns_rdata_base::counted::by_length;
+use dns_rdata_base::ordered::is_equal;
 use std::alloc::AllocError;
 use std::fmt;
 use std::hash::{Hash, Hasher};
@@ -107,6 +108,8 @@ macro_rules! with_records {
         )
     };
 }
+
+pub(crate) use with_records;
 
 // Matches a value: the arms that are given first, and then one for each record, all with the same body.
 macro_rules! each {
@@ -393,14 +396,6 @@ fn emit_whole_record<T: EncodesFields + RecordData>(
     ensures { EmitsData RDataEncoding.Other (T.wrapped value.now) result encoder.old encoder.new }
 {
     emit_in(RDataEncoding::Other, value, encoder)
-}
-
-// Whether two records are equal: a call.
-#[inline(never)]
-pub(crate) fn is_equal<T: PartialEq>(a: &T, b: &T) -> bool
-    ensures { result ≡ T.eq a.now b.now }
-{
-    *a == *b
 }
 
 impl RData {

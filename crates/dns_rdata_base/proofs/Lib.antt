@@ -3,6 +3,7 @@ pub mod Lacking
 pub mod NumberLaws
 pub mod NumberedLaws
 pub mod Orders
+pub mod QuickOrders
 pub mod SoaValues
 pub mod TextLists
 pub mod TextOrders

@@ -9,6 +9,7 @@ pub mod NULL
 pub mod NameRecords
 pub mod Numbered
 pub mod OPENPGPKEY
+pub mod Ordered
 pub mod Refusing
 pub mod SOA
 pub mod SRV

@@ -11,6 +11,7 @@ pub mod naptr;
 pub mod null;
 pub mod openpgpkey;
 pub mod order;
+pub mod ordered;
 pub mod soa;
 pub mod srv;
 pub mod steps;

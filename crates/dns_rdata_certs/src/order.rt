@@ -1,57 +1,129 @@
-//! Records ordered by their canonical octets, field by field.
+//! Records ordered by their fields: by their canonical octets, and by what they are compared by.
+#![tactic(auto, using(dns_pieces::proofs::Comparing::then_equal, dns_pieces::proofs::Comparing::then_assoc))]
 
-ghost use Rattle.std.specs.Prelude.{◌≡◌};
-ghost use Rattle.dns_pieces.specs.Fronts.{canonical_cmp};
-ghost use Rattle.dns_rdata_certs.specs.{CERT.cert_shape, CERT.cert_fields, SSHFP.sshfp_shape, SSHFP.sshfp_fields, TLSA.tlsa_shape, TLSA.tlsa_fields};
+ghost use Rattle.std.specs.{Ordering.on, Prelude.◌≡◌, Prelude.IsTrue, Prelude.true};
+ghost use Rattle.dns_fields.specs.Order.{values_cmp};
+ghost use Rattle.dns_rdata_certs.specs.Enums.{cert_algorithm_number, cert_type_number, cert_usage_number, fingerprint_type_number, matching_number};
+ghost use Rattle.dns_rdata_certs.specs.Enums.{selector_number, sshfp_algorithm_number};
+ghost use Rattle.dns_rdata_certs.specs.{CERT.cert_key_shape, CERT.cert_keys, SMIMEA.smimea_key_shape, SMIMEA.smimea_keys, SSHFP.sshfp_key_shape};
+ghost use Rattle.dns_rdata_certs.specs.{SSHFP.sshfp_keys, TLSA.tlsa_key_shape, TLSA.tlsa_keys};
 
-use crate::{CERT, SSHFP, TLSA};
+use crate::{CERT, SMIMEA, SSHFP, TLSA};
 use dns_pieces::order::{one_behind, rest_behind, two_behind};
+use dns_rdata_base::by_fields;
+use dns_rdata_base::order::rest_order;
+use dns_rdata_base::ordered::OrderedRecord;
 use std::cmp::Ordering;
 
-/// Type, key tag, algorithm, certificate.
+// Whether two CERT have equal fields in front of the certificate.
 #[inline]
-pub fn cert_order(a: &CERT, b: &CERT) -> Ordering
-    ensures { result ≡ canonical_cmp cert_shape (cert_fields a.now) (cert_fields b.now) }
+fn is_cert_front_same(a: &CERT, b: &CERT) -> bool
+    ensures numbers { IsTrue result → (cert_type_number a.now.cert_type ≡ cert_type_number b.now.cert_type) × (a.now.key_tag ≡ b.now.key_tag) × (cert_algorithm_number a.now.algorithm ≡ cert_algorithm_number b.now.algorithm) }
+    ensures equal { IsTrue result → a.now.cert_data ≡ b.now.cert_data → ⟦<CERT as PartialEq>⟧.eq a.now b.now ≡ true }
 {
-    let cert_type = two_behind(
-        Ordering::Equal,
-        u16::from(a.cert_type),
-        u16::from(b.cert_type),
-    );
-    let key_tag = two_behind(cert_type, a.key_tag, b.key_tag);
-    let algorithm = one_behind(key_tag, u8::from(a.algorithm), u8::from(b.algorithm));
-    rest_behind(algorithm, a.cert_data.as_slice(), b.cert_data.as_slice())
+    a.cert_type == b.cert_type && a.key_tag == b.key_tag && a.algorithm == b.algorithm
 }
 
-/// Algorithm, type, fingerprint.
-#[inline]
-pub fn sshfp_order(a: &SSHFP, b: &SSHFP) -> Ordering
-    ensures { result ≡ canonical_cmp sshfp_shape (sshfp_fields a.now) (sshfp_fields b.now) }
-{
-    let algorithm = one_behind(
-        Ordering::Equal,
-        u8::from(a.algorithm),
-        u8::from(b.algorithm),
-    );
-    let kind = one_behind(
-        algorithm,
-        u8::from(a.fingerprint_type),
-        u8::from(b.fingerprint_type),
-    );
-    rest_behind(kind, a.fingerprint.as_slice(), b.fingerprint.as_slice())
+impl OrderedRecord for CERT {
+    ghost keys_cmp = { on cert_keys (values_cmp cert_key_shape) };
+
+    /// By the octets of the certificate where the fields in front are equal.
+    #[inline]
+    #[tactic(auto, using(crate::proofs::Fronts::cert_tied, crate::proofs::Fronts::cert_differ, dns_rdata_base::proofs::QuickOrders::no_difference))]
+    fn quick_cmp(&self, other: &CERT) -> Option<Ordering> {
+        if is_cert_front_same(self, other) {
+            return Some(rest_order(self.cert_data.as_slice(), other.cert_data.as_slice()));
+        }
+        let kind = u16::from(self.cert_type);
+        let kinds = two_behind(Ordering::Equal, kind, u16::from(other.cert_type));
+        let tags = two_behind(kinds, self.key_tag, other.key_tag);
+        let algorithms = one_behind(tags, u8::from(self.algorithm), u8::from(other.algorithm));
+        let (data, other_data) = (self.cert_data.as_slice(), other.cert_data.as_slice());
+        let order = rest_behind(algorithms, data, other_data);
+        if order.is_ne() { Some(order) } else { None }
+    }
+
+    fn cmp_fields(&self, other: &CERT) -> Ordering {
+        by_fields!((self, other) cert_type key_tag algorithm cert_data)
+    }
 }
 
-/// Usage, selector, matching type, data; of SMIMEA too.
+impl OrderedRecord for SMIMEA {
+    ghost keys_cmp = { on smimea_keys (values_cmp smimea_key_shape) };
+
+    #[inline]
+    fn quick_cmp(&self, other: &SMIMEA) -> Option<Ordering> {
+        self.0.quick_cmp(&other.0)
+    }
+
+    fn cmp_fields(&self, other: &SMIMEA) -> Ordering {
+        self.0.cmp_fields(&other.0)
+    }
+}
+
+// Whether two SSHFP have equal fields in front of the fingerprint.
 #[inline]
-pub fn tlsa_order(a: &TLSA, b: &TLSA) -> Ordering
-    ensures { result ≡ canonical_cmp tlsa_shape (tlsa_fields a.now) (tlsa_fields b.now) }
+fn is_sshfp_front_same(a: &SSHFP, b: &SSHFP) -> bool
+    ensures numbers { IsTrue result → (sshfp_algorithm_number a.now.algorithm ≡ sshfp_algorithm_number b.now.algorithm) × (fingerprint_type_number a.now.fingerprint_type ≡ fingerprint_type_number b.now.fingerprint_type) }
+    ensures equal { IsTrue result → a.now.fingerprint ≡ b.now.fingerprint → ⟦<SSHFP as PartialEq>⟧.eq a.now b.now ≡ true }
 {
-    let usage = one_behind(
-        Ordering::Equal,
-        u8::from(a.cert_usage),
-        u8::from(b.cert_usage),
-    );
-    let selector = one_behind(usage, u8::from(a.selector), u8::from(b.selector));
-    let matching = one_behind(selector, u8::from(a.matching), u8::from(b.matching));
-    rest_behind(matching, a.cert_data.as_slice(), b.cert_data.as_slice())
+    a.algorithm == b.algorithm && a.fingerprint_type == b.fingerprint_type
+}
+
+impl OrderedRecord for SSHFP {
+    ghost keys_cmp = { on sshfp_keys (values_cmp sshfp_key_shape) };
+
+    /// By the octets of the fingerprint where the fields in front are equal.
+    #[inline]
+    #[tactic(auto, using(crate::proofs::Fronts::sshfp_tied, crate::proofs::Fronts::sshfp_differ, dns_rdata_base::proofs::QuickOrders::no_difference))]
+    fn quick_cmp(&self, other: &SSHFP) -> Option<Ordering> {
+        if is_sshfp_front_same(self, other) {
+            return Some(rest_order(self.fingerprint.as_slice(), other.fingerprint.as_slice()));
+        }
+        let algorithm = u8::from(self.algorithm);
+        let algorithms = one_behind(Ordering::Equal, algorithm, u8::from(other.algorithm));
+        let kind = u8::from(self.fingerprint_type);
+        let kinds = one_behind(algorithms, kind, u8::from(other.fingerprint_type));
+        let (data, other_data) = (self.fingerprint.as_slice(), other.fingerprint.as_slice());
+        let order = rest_behind(kinds, data, other_data);
+        if order.is_ne() { Some(order) } else { None }
+    }
+
+    fn cmp_fields(&self, other: &SSHFP) -> Ordering {
+        by_fields!((self, other) algorithm fingerprint_type fingerprint)
+    }
+}
+
+// Whether two TLSA have equal fields in front of the certificate.
+#[inline]
+fn is_tlsa_front_same(a: &TLSA, b: &TLSA) -> bool
+    ensures numbers { IsTrue result → (cert_usage_number a.now.cert_usage ≡ cert_usage_number b.now.cert_usage) × (selector_number a.now.selector ≡ selector_number b.now.selector) × (matching_number a.now.matching ≡ matching_number b.now.matching) }
+    ensures equal { IsTrue result → a.now.cert_data ≡ b.now.cert_data → ⟦<TLSA as PartialEq>⟧.eq a.now b.now ≡ true }
+{
+    a.cert_usage == b.cert_usage && a.selector == b.selector && a.matching == b.matching
+}
+
+impl OrderedRecord for TLSA {
+    ghost keys_cmp = { on tlsa_keys (values_cmp tlsa_key_shape) };
+
+    /// By the octets of the certificate where the fields in front are equal.
+    #[inline]
+    #[tactic(auto, using(crate::proofs::Fronts::tlsa_tied, crate::proofs::Fronts::tlsa_differ, dns_rdata_base::proofs::QuickOrders::no_difference))]
+    fn quick_cmp(&self, other: &TLSA) -> Option<Ordering> {
+        if is_tlsa_front_same(self, other) {
+            return Some(rest_order(self.cert_data.as_slice(), other.cert_data.as_slice()));
+        }
+        let usage = u8::from(self.cert_usage);
+        let usages = one_behind(Ordering::Equal, usage, u8::from(other.cert_usage));
+        let selectors = one_behind(usages, u8::from(self.selector), u8::from(other.selector));
+        let matching = one_behind(selectors, u8::from(self.matching), u8::from(other.matching));
+        let (data, other_data) = (self.cert_data.as_slice(), other.cert_data.as_slice());
+        let order = rest_behind(matching, data, other_data);
+        if order.is_ne() { Some(order) } else { None }
+    }
+
+    #[inline]
+    fn cmp_fields(&self, other: &TLSA) -> Ordering {
+        by_fields!((self, other) cert_usage selector matching cert_data)
+    }
 }

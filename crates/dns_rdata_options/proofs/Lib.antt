@@ -2,6 +2,7 @@ pub mod ChoiceSteps
 pub mod Differences
 pub mod Masks
 pub mod NetTexts
+pub mod NoOptions
 pub mod OptionLists
 pub mod OptionOrders
 pub mod OptionValues

@@ -2,14 +2,38 @@
 
 ghost use Rattle.std.specs.Prelude.{◌≡◌, ◌<◌, ◌≤◌, true, length, IfSome, IsTrue, Some};
 ghost use Rattle.dns_pieces.specs.Fronts.{canonical_cmp};
-ghost use Rattle.dns_rdata_options.specs.{OPT.opt_shape, OPT.opt_fields, Order.opt_eq, Steps.pairs_emittable};
+ghost use Rattle.dns_rdata_options.specs.{OPT.opt_shape, OPT.opt_fields, Order.opt_cmp, Order.opt_eq, Steps.pairs_emittable};
 ghost use Rattle.dns_rdata_options.specs.Facing.{lesser, Facing, IsAlone};
 
 use crate::opt::headed::headed_cmp;
 use crate::opt::order::are_many;
 use crate::opt::{EdnsCode, EdnsOption, OPT};
-use crate::steps::{Pieces, compare_pairs};
+use crate::steps::{Pieces, compare_pairs, opt_is_emittable};
+use dns_rdata_base::ordered::OrderedRecord;
 use std::cmp::Ordering;
+
+impl OrderedRecord for OPT {
+    ghost keys_cmp = { opt_cmp };
+
+    /// A record without options comes first. Else the order is found where the least of the options that differ decides it,
+    /// or where none differ.
+    #[inline]
+    #[tactic(auto, using(crate::proofs::NoOptions::opt_orders, crate::proofs::NoOptions::none_first, crate::proofs::NoOptions::some_last))]
+    fn quick_cmp(&self, other: &OPT) -> Option<Ordering> {
+        if !opt_is_emittable(self) || !opt_is_emittable(other) {
+            return None;
+        }
+        match (self.as_ref().is_empty(), other.as_ref().is_empty()) {
+            (true, false) => Some(Ordering::Less),
+            (false, true) => Some(Ordering::Greater),
+            _ => opt_order(self, other),
+        }
+    }
+
+    fn cmp_fields(&self, other: &OPT) -> Ordering {
+        self.cmp(other)
+    }
+}
 
 /// How two lists of options are ordered by their canonical octets, without a cursor: by what stands at the same places,
 /// where that tells it, and of many options by going over both in rising order. Else `None`.

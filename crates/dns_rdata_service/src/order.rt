@@ -1,20 +1,72 @@
 //! Service bindings ordered by their canonical octets, up to the first parameters whose order is not easily told.
 
 ghost use Rattle.std.specs.Prelude.{◌≡◌, ◌≤◌, drop, length, map, true, IfSome, IsTrue};
-ghost use Rattle.std.specs.{Ordering.nat_cmp, Ordering.ordering_then, declared.cmp.Ordering.TheVariants.Equal, Cmp.Lexicographic.slice_cmp};
-ghost use Rattle.dns_fields.specs.{Pieces.Alpn as Names, Pieces.Opaque, Pieces.Port, Equal.values_eq};
+ghost use Rattle.std.specs.{Ordering.nat_cmp, Ordering.on, Ordering.ordering_then, declared.cmp.Ordering.TheVariants.Equal, Cmp.Lexicographic.slice_cmp};
+ghost use Rattle.dns_fields.specs.{Pieces.Alpn as Names, Pieces.Opaque, Pieces.Port, Equal.values_eq, Order.values_cmp};
 ghost use Rattle.dns_pieces.specs.Fronts.{canonical_cmp};
 ghost use Rattle.dns_rdata_service.specs.{SVCB.svcb_shape, SVCB.svcb_fields, SVCB.svcb_key_shape, SVCB.svcb_keys, Parameters.own_parameter};
 ghost use Rattle.dns_rdata_service.specs.{SvcParamValue.sized, SvcParamValue.value_key, SvcParamValue.value_of, Steps.parameters_from};
+ghost use Rattle.dns_rdata_service.specs.HTTPS.{https_key_shape, https_keys};
 ghost use Rattle.dns_rdata_service.specs.Ordering.{OrderFirst, parameter_octets_of};
 
 use crate::hints::hints_order;
+use crate::https::HTTPS;
 use crate::items::Items;
-use crate::steps::{names_size, octets_size};
+use crate::ordering::svcb_cmp;
+use crate::steps::{names_size, octets_size, svcb_is_emittable};
 use crate::svcb::{Parameter, SVCB, SvcParamValue};
 use dns_names_wire::SmallOctets;
 use dns_pieces::order::{name_behind, slices_behind, two_behind};
+use dns_rdata_base::ordered::OrderedRecord;
 use std::cmp::Ordering;
+
+impl OrderedRecord for HTTPS {
+    ghost keys_cmp = { on https_keys (values_cmp https_key_shape) };
+
+    #[inline]
+    fn quick_cmp(&self, other: &HTTPS) -> Option<Ordering> {
+        self.0.quick_cmp(&other.0)
+    }
+
+    fn cmp_fields(&self, other: &HTTPS) -> Ordering {
+        self.0.cmp_fields(&other.0)
+    }
+}
+
+impl OrderedRecord for SVCB {
+    ghost keys_cmp = { on svcb_keys (values_cmp svcb_key_shape) };
+
+    /// It is found where the first parameters that differ decide it, or where none differ.
+    #[inline]
+    fn quick_cmp(&self, other: &SVCB) -> Option<Ordering> {
+        let (order, alike) = svcb_front(self, other);
+        if order.is_eq() {
+            return if is_all(self, other, alike) {
+                Some(order)
+            } else {
+                None
+            };
+        }
+        if !svcb_is_emittable(self) || !svcb_is_emittable(other) {
+            return None;
+        }
+        Some(order)
+    }
+
+    fn cmp_fields(&self, other: &SVCB) -> Ordering {
+        svcb_cmp(self, other)
+    }
+}
+
+// Whether both have just this many parameters, and both targets are relative or neither is.
+#[inline]
+fn is_all(a: &SVCB, b: &SVCB, count: usize) -> bool
+    ensures { IsTrue result → (count ≡ length a.now.svc_params) × (count ≡ length b.now.svc_params) × (a.now.target_name.fully_qualified ≡ b.now.target_name.fully_qualified) }
+{
+    count == a.svc_params.len()
+        && count == b.svc_params.len()
+        && a.target_name.is_fqdn() == b.target_name.is_fqdn()
+}
 
 /// How two service bindings are ordered by priority, target and the first parameters that are not alike, and how many
 /// before these are alike. Equal where that is not easily told: what stands behind those that are alike then decides.

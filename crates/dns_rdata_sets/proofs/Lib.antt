@@ -1,6 +1,7 @@
 mod IssuerSteps
 pub mod Issuers
 mod Rising
+pub mod CaaOrders
 pub mod CaaValues
 pub mod CsyncValues
 pub mod Marks

@@ -1,34 +1,84 @@
-//! Records ordered by their canonical octets, field by field.
+//! Records ordered by their fields: by their canonical octets, and by what they are compared by.
 
-ghost use Rattle.std.specs.Prelude.{◌≡◌, ◌≢◌, ◌<◌, ◌≤◌, ◌/◌, length, slice_index, take};
-ghost use Rattle.std.specs.{Cmp.Lexicographic.slice_cmp, Ordering.nat_cmp, Ordering.ordering_then};
-ghost use Rattle.dns_fields.specs.{Bitmaps.IsTypeSet, Fields.Bitmap, Fields.field_octets};
-ghost use Rattle.dns_pieces.specs.Fronts.{canonical_cmp};
-ghost use Rattle.dns_rdata_sets.specs.{CAA.caa_shape, CAA.caa_fields, CSYNC.csync_shape, CSYNC.csync_fields, RecordTypeSet.IsLastOf};
+ghost use Rattle.std.specs.Prelude.{◌≡◌, ◌≢◌, ◌<◌, ◌≤◌, ◌/◌, IsTrue, length, slice_index, take};
+ghost use Rattle.std.specs.{Cmp.Lexicographic.slice_cmp, Ordering.nat_cmp, Ordering.on, Ordering.ordering_then};
+ghost use Rattle.dns_fields.specs.{Bitmaps.IsTypeSet, Fields.Bitmap, Fields.field_octets, Order.values_cmp};
+ghost use Rattle.dns_rdata_sets.specs.{CAA.caa_key_shape, CAA.caa_keys, CSYNC.csync_key_shape, CSYNC.csync_keys, RecordTypeSet.IsLastOf};
 
 use crate::record_type_set::{RecordTypeSet, run_len};
+use crate::steps::caa_is_emittable;
 use crate::{CAA, CSYNC};
 use dns_pieces::order::{four_behind, one_behind, rest_behind, text_behind, two_behind};
+use dns_rdata_base::ordered::{OrderedRecord, unless_tied};
+use dns_rdata_base::{by_fields, in_order};
 use std::cmp::Ordering;
 
-/// Flags, tag, value.
+// Whether flag and reserved bits are the same.
 #[inline]
-pub fn caa_order(a: &CAA, b: &CAA) -> Ordering
-    ensures { result ≡ canonical_cmp caa_shape (caa_fields a.now) (caa_fields b.now) }
+fn has_same_flags(a: &CAA, b: &CAA) -> bool
+    ensures { IsTrue result → (a.now.issuer_critical ≡ b.now.issuer_critical) × (a.now.reserved_flags ≡ b.now.reserved_flags) }
 {
-    let flags = one_behind(Ordering::Equal, a.flags(), b.flags());
-    let tag = text_behind(flags, a.tag.as_slice(), b.tag.as_slice());
-    rest_behind(tag, a.value.as_slice(), b.value.as_slice())
+    a.issuer_critical == b.issuer_critical && a.reserved_flags == b.reserved_flags
 }
 
-/// Serial, flags, types.
-#[inline]
-pub fn csync_order(a: &CSYNC, b: &CSYNC) -> Ordering
-    ensures { result ≡ canonical_cmp csync_shape (csync_fields a.now) (csync_fields b.now) }
-{
-    let serial = four_behind(Ordering::Equal, a.soa_serial, b.soa_serial);
-    let flags = two_behind(serial, a.flags(), b.flags());
-    types_behind(flags, &a.type_bit_maps, &b.type_bit_maps)
+impl OrderedRecord for CAA {
+    ghost keys_cmp = { on caa_keys (values_cmp caa_key_shape) };
+
+    /// Where the octets tie, tag and value are equal, and the flags are compared.
+    #[inline]
+    #[tactic(auto, using(crate::proofs::CaaOrders::caa_orders, dns_rdata_base::proofs::QuickOrders::tie, dns_rdata_base::proofs::QuickOrders::no_difference))]
+    fn quick_cmp(&self, other: &CAA) -> Option<Ordering> {
+        let flags = one_behind(Ordering::Equal, self.flags(), other.flags());
+        let tags = text_behind(flags, self.tag.as_slice(), other.tag.as_slice());
+        let order = rest_behind(tags, self.value.as_slice(), other.value.as_slice());
+        if order.is_eq() {
+            return if has_same_flags(self, other) {
+                Some(order)
+            } else {
+                None
+            };
+        }
+        if !caa_is_emittable(self) || !caa_is_emittable(other) {
+            return None;
+        }
+        Some(order)
+    }
+
+    #[tactic(auto, using(dns_pieces::proofs::Comparing::then_equal, dns_pieces::proofs::Comparing::then_assoc))]
+    fn cmp_fields(&self, other: &CAA) -> Ordering {
+        in_order!(
+            u8::from(self.issuer_critical).cmp(&u8::from(other.issuer_critical)),
+            by_fields!((self, other) reserved_flags tag value)
+        )
+    }
+}
+
+impl OrderedRecord for CSYNC {
+    ghost keys_cmp = { on csync_keys (values_cmp csync_key_shape) };
+
+    #[inline]
+    fn quick_cmp(&self, other: &CSYNC) -> Option<Ordering> {
+        let serial = four_behind(Ordering::Equal, self.soa_serial, other.soa_serial);
+        let flags = two_behind(serial, self.flags(), other.flags());
+        let order = types_behind(flags, &self.type_bit_maps, &other.type_bit_maps);
+        unless_tied(order, self, other, false)
+    }
+
+    #[tactic(auto, using(dns_pieces::proofs::Comparing::then_equal))]
+    fn cmp_fields(&self, other: &CSYNC) -> Ordering {
+        let types = self
+            .type_bit_maps
+            .numbers()
+            .cmp(other.type_bit_maps.numbers());
+        let reserved = self.reserved_flags.cmp(&other.reserved_flags).then(types);
+        let minimum = u8::from(self.soa_minimum)
+            .cmp(&u8::from(other.soa_minimum))
+            .then(reserved);
+        let immediate = u8::from(self.immediate)
+            .cmp(&u8::from(other.immediate))
+            .then(minimum);
+        self.soa_serial.cmp(&other.soa_serial).then(immediate)
+    }
 }
 
 // The order of two sets of types behind fields that were compared already.

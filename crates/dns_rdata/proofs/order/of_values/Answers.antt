@@ -1,0 +1,7 @@
+use Rattle.dns_rdata.specs.QuickOrders.{TellsOrder}
+use Rattle.dns_rdata.proofs.QuickOrders.{in_values}
+use Rattle.dns_rdata.proofs.order.of_values.Goals as goal
+
+pub returns : goal.returns
+unfolding TellsOrder
+returns g c = in_values _ _ _ c.quick_cmp.result c.requires.first c.requires.second c.requires.equal c.quick_cmp.ensures

@@ -1,0 +1,17 @@
+-- The order of two records, found by their fields.
+use Rattle.std.specs.Prelude.{◌≡◌, ◌≢◌, true, Bool, Option, Some, None, List}
+use Rattle.std.specs.{declared.cmp.Ordering.Ordering, declared.cmp.Ordering.TheVariants.Equal}
+use Rattle.dns_fields.specs.{Fields.Kind, Fields.Values, Fields.all_emittable}
+use Rattle.dns_pieces.specs.Fronts.{canonical_cmp}
+
+-- Where o is Equal the two are equal; else both can be emitted, and o is the order of their canonical octets.
+pub record IsOrder (s : List Kind) (a b : Values s) (same : Bool) (o : Ordering) : Type 0 where
+  pub equal : o ≡ Equal → same ≡ true
+  pub first : o ≢ Equal → all_emittable s a ≡ true
+  pub second : o ≢ Equal → all_emittable s b ≡ true
+  pub octets : o ≢ Equal → o ≡ canonical_cmp s a b
+
+-- an order that is found is that of the two, whose equality is `same`
+abbrev pub IfSomeOrder : (s : List Kind) → Values s → Values s → Bool → Option Ordering → Type 0
+IfSomeOrder s a b same None = Unit {0}
+IfSomeOrder s a b same (Some o) = IsOrder s a b same o
