@@ -1,6 +1,6 @@
 -- What values of record data feed a hasher: equal values the same.
-use Rattle.std.specs.Prelude.{◌≡◌, Bool, true, ◌&&◌, ◌++◌, List, [], ◌∷◌}
-use Rattle.std.specs.{Cmp.first_so, Cmp.second_so, Hash.HashWrites}
+use Rattle.std.specs.Prelude.{◌≡◌, Bool, true, ◌&&◌, ◌++◌}
+use Rattle.std.specs.{Cmp.first_so, Hash.HashWrites}
 use Rattle.std.proofs.Common.{ap, arith, ◌∙◌, refl, true≢false, sym}
 use Rattle.std.proofs.Math.Bool.{and_assoc, and-true}
 use Rattle.dns_types.specs.contracts.record_type.RecordTypeHash.TheImpl as type_hash
@@ -10,8 +10,8 @@ use Rattle.dns_rdata_certs.specs.contracts as certs
 use Rattle.dns_rdata_options.specs.contracts as options
 use Rattle.dns_rdata_service.specs.contracts as service
 use Rattle.dns_rdata_sets.specs.contracts as sets
-use Rattle.dns_rdata.specs.{declared.record_data.RData.RData, Data.held, Data.fed_in, Data.type_of, Keys.Row, Keys.rows}
-use Rattle.dns_rdata.specs.Equal.{equal, record_type_eq, row_eq, rows_eq}
+use Rattle.dns_rdata.specs.{declared.record_data.RData.RData, Data.held, Data.fed_in, Data.type_of, Keys.rows}
+use Rattle.dns_rdata.specs.Equal.{equal, record_type_eq, types_equal}
 use Rattle.dns_rdata.specs.declared.record_data.RData.TheVariants as rdata
 
 -- what the data of the type feeds
@@ -54,11 +54,7 @@ record_fed_same (rdata.Update0 t) (rdata.Update0 u) h = refl
 record_fed_same rdata.ZERO rdata.ZERO h = refl
 record_fed_same v w h = absurd (true≢false (sym h))
 
-same_type_fed : (given : List Row) (v w : RData) → rows_eq given v w ≡ true → type_hash.ghosts.hash_input (type_of v) ≡ type_hash.ghosts.hash_input (type_of w)
-same_type_fed [] v w h = type_hash_laws.respects_eq-law (type_of v) (type_of w) h
-same_type_fed (row ∷ rest) v w h = same_type_fed rest v w (second_so (row_eq row v w) (rows_eq rest v w) h)
-
 pub fed_same : (v w : RData) → equal v w ≡ true → data_fed v ≡ data_fed w
 fed_same v w h =
-    ap (λ (f : HashWrites). f ++ record_fed v) (same_type_fed rows v w h)
+    ap (λ (f : HashWrites). f ++ record_fed v) (type_hash_laws.respects_eq-law (type_of v) (type_of w) (types_equal rows v w h))
     ∙ ap (λ (f : HashWrites). type_hash.ghosts.hash_input (type_of w) ++ f) (record_fed_same v w h)
