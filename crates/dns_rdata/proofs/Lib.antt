@@ -5,4 +5,5 @@ pub mod CursorSteps
 pub mod DataWords
 pub mod QuickOrders
 pub mod OrderReads
+pub mod Ranks
 pub mod WholeOctets

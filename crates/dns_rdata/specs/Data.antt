@@ -1,5 +1,6 @@
 -- Record data of every type: its fields, and when a value fills a window of a message (RFC 1035, 3.2.1).
-use Rattle.std.specs.Prelude.{◌≡◌, ◌≢◌, ℕ, ◌+◌, true, if◌then◌else◌, List, [], ◌∷◌, Result, Ok, Err}
+use Rattle.std.specs.Prelude.{◌≡◌, ◌≢◌, ℕ, ◌+◌, true, if◌then◌else◌, List, [], ◌∷◌, Result, Ok, Err, codes}
+use Rattle.std.specs.Hash.{HashWrites}
 use Rattle.dns_fields.specs.{declared.RDataEncoding.RDataEncoding, Fields.Kind, Fields.Rest, Fields.Values, Fields.all_emittable, Fields.canonical}
 use Rattle.dns_fields.specs.declared.RDataEncoding.TheVariants as modes
 use Rattle.dns_types.specs.{declared.record_type.RecordType.RecordType, declared.error.DecodeError.DecodeError, declared.error.ProtoError.ProtoError}
@@ -24,10 +25,6 @@ pub data Row : Type 1 where
   -- octets of any form
   rowless : Row
 
--- nothing is asked
-abbrev pub anything : (kinds : List Kind) → Values kinds → Type 0
-anything kinds vs = Unit {0}
-
 -- fewer octets are left than the length
 abbrev pub IsShortRefusal : ℕ → Reading → DecodeError → Reading → Type 0
 IsShortRefusal n old e new = (e ≡ decode.InsufficientBytes) × LacksOctets old n
@@ -48,7 +45,7 @@ row_of types.HINFO = row_by base.HINFO.hinfo_facts
 row_of types.HTTPS = row_by service.HTTPS.https_facts
 row_of types.MX = row_by base.MX.mx_facts
 row_of types.NAPTR = row_by base.NAPTR.naptr_facts
-row_of types.NULL = row base.NULL.null_shape (anything base.NULL.null_shape) IsShortRefusal
+row_of types.NULL = row base.NULL.null_shape (λ vs. Unit {0}) IsShortRefusal
 row_of types.NS = row_by base.NameRecords.ns_facts
 row_of types.OPENPGPKEY = row_by base.OPENPGPKEY.openpgpkey_facts
 row_of types.OPT = row_by options.OPT.opt_facts
@@ -60,7 +57,7 @@ row_of types.SSHFP = row_by certs.SSHFP.sshfp_facts
 row_of types.SVCB = row_by service.SVCB.svcb_facts
 row_of types.TLSA = row_by certs.TLSA.tlsa_facts
 row_of types.TXT = row_by base.TXT.txt_facts
-row_of types.ZERO = row [] (anything []) (λ n old e new. ⊥)
+row_of types.ZERO = row [] (λ vs. Unit {0}) (λ n old e new. ⊥)
 row_of types.ANY = unread
 row_of types.AXFR = unread
 row_of types.IXFR = unread
@@ -85,14 +82,12 @@ abbrev pub condition : (t : RecordType) → Values (shape t) → Type 0
 condition t vs = MeetsConditionOf (row_of t) vs
 
 abbrev pub IsNever : Row → Type 0
-IsNever (row kinds asked refusal) = ⊥
 IsNever unread = Unit {0}
-IsNever rowless = ⊥
+IsNever r = ⊥
 
 abbrev pub IsRowlessRow : Row → Type 0
-IsRowlessRow (row kinds asked refusal) = ⊥
-IsRowlessRow unread = ⊥
 IsRowlessRow rowless = Unit {0}
+IsRowlessRow r = ⊥
 
 -- no data of the type is read
 abbrev pub IsNeverRead : RecordType → Type 0
@@ -110,47 +105,60 @@ pub record FieldsOf : Type 0 where
 abbrev pub fields_by : {T : Type 0} → Facts T → T → FieldsOf
 fields_by f x = record { kinds = f.kinds; values = f.fields x }
 
--- a record of a type, with the facts of its kind, or data without a field
+-- the place of the variant among all; then a record of a type, with the facts of its kind, its text and what it feeds a
+-- hasher, or data without a field, with its text
 pub data Held : Type 1 where
-  holds : {T : Type 0} → RecordType → Facts T → T → Held
-  empty : RecordType → Held
+  holds : {T : Type 0} → ℕ → RecordType → Facts T → (T → List ℕ) → (T → HashWrites) → T → Held
+  empty : ℕ → RecordType → List ℕ → Held
 
 -- what each value holds
 abbrev pub held : RData → Held
-held (rdata.A x) = holds types.A base.A.a_facts x
-held (rdata.AAAA x) = holds types.AAAA base.AAAA.aaaa_facts x
-held (rdata.ANAME x) = holds types.ANAME base.NameRecords.aname_facts x
-held (rdata.CAA x) = holds types.CAA sets.CAA.caa_facts x
-held (rdata.CERT x) = holds types.CERT certs.CERT.cert_facts x
-held (rdata.CNAME x) = holds types.CNAME base.NameRecords.cname_facts x
-held (rdata.CSYNC x) = holds types.CSYNC sets.CSYNC.csync_facts x
-held (rdata.HINFO x) = holds types.HINFO base.HINFO.hinfo_facts x
-held (rdata.HTTPS x) = holds types.HTTPS service.HTTPS.https_facts x
-held (rdata.MX x) = holds types.MX base.MX.mx_facts x
-held (rdata.NAPTR x) = holds types.NAPTR base.NAPTR.naptr_facts x
-held (rdata.NULL x) = holds types.NULL base.NULL.null_facts x
-held (rdata.NS x) = holds types.NS base.NameRecords.ns_facts x
-held (rdata.OPENPGPKEY x) = holds types.OPENPGPKEY base.OPENPGPKEY.openpgpkey_facts x
-held (rdata.OPT x) = holds types.OPT options.OPT.opt_facts x
-held (rdata.PTR x) = holds types.PTR base.NameRecords.ptr_facts x
-held (rdata.SMIMEA x) = holds types.SMIMEA certs.SMIMEA.smimea_facts x
-held (rdata.SOA x) = holds types.SOA base.SOA.soa_facts x
-held (rdata.SRV x) = holds types.SRV base.SRV.srv_facts x
-held (rdata.SSHFP x) = holds types.SSHFP certs.SSHFP.sshfp_facts x
-held (rdata.SVCB x) = holds types.SVCB service.SVCB.svcb_facts x
-held (rdata.TLSA x) = holds types.TLSA certs.TLSA.tlsa_facts x
-held (rdata.TXT x) = holds types.TXT base.TXT.txt_facts x
-held (rdata.Unknown code x) = holds code base.NULL.null_facts x
-held (rdata.Update0 t) = empty t
-held rdata.ZERO = empty types.ZERO
+held (rdata.A x) = holds 0 types.A base.A.a_facts base.A.a_text base.contracts.a.AHash.TheImpl.ghosts.hash_input x
+held (rdata.AAAA x) = holds 1 types.AAAA base.AAAA.aaaa_facts base.AAAA.aaaa_text base.contracts.aaaa.AAAAHash.TheImpl.ghosts.hash_input x
+held (rdata.ANAME x) = holds 2 types.ANAME base.NameRecords.aname_facts base.NameRecords.aname_text base.contracts.name.ANAMEHash.TheImpl.ghosts.hash_input x
+held (rdata.CAA x) = holds 3 types.CAA sets.CAA.caa_facts sets.CAA.caa_text sets.contracts.caa.CAAHash.TheImpl.ghosts.hash_input x
+held (rdata.CERT x) = holds 4 types.CERT certs.CERT.cert_facts certs.CERT.cert_text certs.contracts.cert.CERTHash.TheImpl.ghosts.hash_input x
+held (rdata.CNAME x) = holds 5 types.CNAME base.NameRecords.cname_facts base.NameRecords.cname_text base.contracts.name.CNAMEHash.TheImpl.ghosts.hash_input x
+held (rdata.CSYNC x) = holds 6 types.CSYNC sets.CSYNC.csync_facts sets.CSYNC.csync_text sets.contracts.csync.CSYNCHash.TheImpl.ghosts.hash_input x
+held (rdata.HINFO x) = holds 7 types.HINFO base.HINFO.hinfo_facts base.HINFO.hinfo_text base.contracts.hinfo.HINFOHash.TheImpl.ghosts.hash_input x
+held (rdata.HTTPS x) = holds 8 types.HTTPS service.HTTPS.https_facts service.HTTPS.https_text service.contracts.https.HTTPSHash.TheImpl.ghosts.hash_input x
+held (rdata.MX x) = holds 9 types.MX base.MX.mx_facts base.MX.mx_text base.contracts.mx.MXHash.TheImpl.ghosts.hash_input x
+held (rdata.NAPTR x) = holds 10 types.NAPTR base.NAPTR.naptr_facts base.NAPTR.naptr_text base.contracts.naptr.NAPTRHash.TheImpl.ghosts.hash_input x
+held (rdata.NULL x) = holds 11 types.NULL base.NULL.null_facts base.NULL.null_text base.contracts.null.NULLHash.TheImpl.ghosts.hash_input x
+held (rdata.NS x) = holds 12 types.NS base.NameRecords.ns_facts base.NameRecords.ns_text base.contracts.name.NSHash.TheImpl.ghosts.hash_input x
+held (rdata.OPENPGPKEY x) = holds 13 types.OPENPGPKEY base.OPENPGPKEY.openpgpkey_facts base.OPENPGPKEY.openpgpkey_text base.contracts.openpgpkey.OPENPGPKEYHash.TheImpl.ghosts.hash_input x
+held (rdata.OPT x) = holds 14 types.OPT options.OPT.opt_facts (λ x. []) options.contracts.opt.OPTHash.TheImpl.ghosts.hash_input x
+held (rdata.PTR x) = holds 15 types.PTR base.NameRecords.ptr_facts base.NameRecords.ptr_text base.contracts.name.PTRHash.TheImpl.ghosts.hash_input x
+held (rdata.SMIMEA x) = holds 16 types.SMIMEA certs.SMIMEA.smimea_facts certs.SMIMEA.smimea_text certs.contracts.smimea.SMIMEAHash.TheImpl.ghosts.hash_input x
+held (rdata.SOA x) = holds 17 types.SOA base.SOA.soa_facts base.SOA.soa_text base.contracts.soa.SOAHash.TheImpl.ghosts.hash_input x
+held (rdata.SRV x) = holds 18 types.SRV base.SRV.srv_facts base.SRV.srv_text base.contracts.srv.SRVHash.TheImpl.ghosts.hash_input x
+held (rdata.SSHFP x) = holds 19 types.SSHFP certs.SSHFP.sshfp_facts certs.SSHFP.sshfp_text certs.contracts.sshfp.SSHFPHash.TheImpl.ghosts.hash_input x
+held (rdata.SVCB x) = holds 20 types.SVCB service.SVCB.svcb_facts service.SVCB.svcb_text service.contracts.svcb.SVCBHash.TheImpl.ghosts.hash_input x
+held (rdata.TLSA x) = holds 21 types.TLSA certs.TLSA.tlsa_facts certs.TLSA.tlsa_text certs.contracts.tlsa.TLSAHash.TheImpl.ghosts.hash_input x
+held (rdata.TXT x) = holds 22 types.TXT base.TXT.txt_facts base.TXT.txt_text base.contracts.txt.TXTHash.TheImpl.ghosts.hash_input x
+held (rdata.Unknown code x) = holds 23 code base.NULL.null_facts base.NULL.null_text base.contracts.null.NULLHash.TheImpl.ghosts.hash_input x
+held (rdata.Update0 t) = empty 24 t (codes "UPDATE")
+held rdata.ZERO = empty 25 types.ZERO []
+
+abbrev pub place_in : Held → ℕ
+place_in (holds place t f text fed x) = place
+place_in (empty place t text) = place
 
 abbrev pub type_in : Held → RecordType
-type_in (holds t f x) = t
-type_in (empty t) = t
+type_in (holds place t f text fed x) = t
+type_in (empty place t text) = t
 
 abbrev pub fields_in : Held → FieldsOf
-fields_in (holds t f x) = fields_by f x
-fields_in (empty t) = record { kinds = []; values = tt }
+fields_in (holds place t f text fed x) = fields_by f x
+fields_in (empty place t text) = record { kinds = []; values = tt }
+
+abbrev pub text_in : Held → List ℕ
+text_in (holds place t f text fed x) = text x
+text_in (empty place t text) = text
+
+abbrev pub fed_in : Held → HashWrites
+fed_in (holds place t f text fed x) = fed x
+fed_in (empty place t text) = []
 
 -- the type of a value, and its fields
 abbrev pub type_of : RData → RecordType

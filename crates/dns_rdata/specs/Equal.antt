@@ -1,7 +1,7 @@
 -- When two values of record data are equal, and that it is an equivalence.
-use Rattle.std.specs.Prelude.{Bool, List, [], ◌∷◌}
+use Rattle.std.specs.Prelude.{◌≡◌, Bool, true, List, [], ◌∷◌}
 use Rattle.std.specs.{Cmp.Lexicographic.options_equiv, Option.option_eq, Ordering.on, Ordering.eq_of_both}
-use Rattle.std.specs.Cmp.{IsEquivalence, and_equiv, on_equiv}
+use Rattle.std.specs.Cmp.{IsEquivalence, and_equiv, on_equiv, second_so}
 use Rattle.dns_fields.specs.Equal.{values_eq}
 use Rattle.dns_fields.proofs.Equivalences.{values_equiv}
 use Rattle.dns_types.specs.declared.record_type.RecordType.{RecordType}
@@ -26,6 +26,10 @@ rows_eq (row ∷ rest) = eq_of_both (row_eq row) (rows_eq rest)
 -- of one variant and one type, with equal fields
 abbrev pub equal : RData → RData → Bool
 equal = rows_eq rows
+
+pub types_equal : (given : List Row) (v w : RData) → rows_eq given v w ≡ true → record_type_eq (type_of v) (type_of w) ≡ true
+types_equal [] v w h = h
+types_equal (row ∷ rest) v w h = types_equal rest v w (second_so (row_eq row v w) (rows_eq rest v w) h)
 
 row_equiv : (row : Row) → IsEquivalence (row_eq row)
 row_equiv (fields kinds held) = on_equiv held (options_equiv (values_equiv kinds))

@@ -1,6 +1,6 @@
 -- What values of record data feed a hasher: equal values the same.
-use Rattle.std.specs.Prelude.{◌≡◌, Bool, true, ◌&&◌, ◌++◌, List, [], ◌∷◌}
-use Rattle.std.specs.{Cmp.first_so, Cmp.second_so, Hash.HashWrites}
+use Rattle.std.specs.Prelude.{◌≡◌, Bool, true, ◌&&◌, ◌++◌}
+use Rattle.std.specs.{Cmp.first_so, Hash.HashWrites}
 use Rattle.std.proofs.Common.{ap, arith, ◌∙◌, refl, true≢false, sym}
 use Rattle.std.proofs.Math.Bool.{and_assoc, and-true}
 use Rattle.dns_types.specs.contracts.record_type.RecordTypeHash.TheImpl as type_hash
@@ -10,38 +10,13 @@ use Rattle.dns_rdata_certs.specs.contracts as certs
 use Rattle.dns_rdata_options.specs.contracts as options
 use Rattle.dns_rdata_service.specs.contracts as service
 use Rattle.dns_rdata_sets.specs.contracts as sets
-use Rattle.dns_rdata.specs.{declared.record_data.RData.RData, Data.type_of, Keys.Row, Keys.rows}
-use Rattle.dns_rdata.specs.Equal.{equal, record_type_eq, row_eq, rows_eq}
+use Rattle.dns_rdata.specs.{declared.record_data.RData.RData, Data.held, Data.fed_in, Data.type_of, Keys.rows}
+use Rattle.dns_rdata.specs.Equal.{equal, record_type_eq, types_equal}
 use Rattle.dns_rdata.specs.declared.record_data.RData.TheVariants as rdata
 
 -- what the data of the type feeds
 abbrev pub record_fed : RData → HashWrites
-record_fed (rdata.A x) = base.a.AHash.TheImpl.ghosts.hash_input x
-record_fed (rdata.AAAA x) = base.aaaa.AAAAHash.TheImpl.ghosts.hash_input x
-record_fed (rdata.ANAME x) = base.name.ANAMEHash.TheImpl.ghosts.hash_input x
-record_fed (rdata.CAA x) = sets.caa.CAAHash.TheImpl.ghosts.hash_input x
-record_fed (rdata.CERT x) = certs.cert.CERTHash.TheImpl.ghosts.hash_input x
-record_fed (rdata.CNAME x) = base.name.CNAMEHash.TheImpl.ghosts.hash_input x
-record_fed (rdata.CSYNC x) = sets.csync.CSYNCHash.TheImpl.ghosts.hash_input x
-record_fed (rdata.HINFO x) = base.hinfo.HINFOHash.TheImpl.ghosts.hash_input x
-record_fed (rdata.HTTPS x) = service.https.HTTPSHash.TheImpl.ghosts.hash_input x
-record_fed (rdata.MX x) = base.mx.MXHash.TheImpl.ghosts.hash_input x
-record_fed (rdata.NAPTR x) = base.naptr.NAPTRHash.TheImpl.ghosts.hash_input x
-record_fed (rdata.NULL x) = base.null.NULLHash.TheImpl.ghosts.hash_input x
-record_fed (rdata.NS x) = base.name.NSHash.TheImpl.ghosts.hash_input x
-record_fed (rdata.OPENPGPKEY x) = base.openpgpkey.OPENPGPKEYHash.TheImpl.ghosts.hash_input x
-record_fed (rdata.OPT x) = options.opt.OPTHash.TheImpl.ghosts.hash_input x
-record_fed (rdata.PTR x) = base.name.PTRHash.TheImpl.ghosts.hash_input x
-record_fed (rdata.SMIMEA x) = certs.smimea.SMIMEAHash.TheImpl.ghosts.hash_input x
-record_fed (rdata.SOA x) = base.soa.SOAHash.TheImpl.ghosts.hash_input x
-record_fed (rdata.SRV x) = base.srv.SRVHash.TheImpl.ghosts.hash_input x
-record_fed (rdata.SSHFP x) = certs.sshfp.SSHFPHash.TheImpl.ghosts.hash_input x
-record_fed (rdata.SVCB x) = service.svcb.SVCBHash.TheImpl.ghosts.hash_input x
-record_fed (rdata.TLSA x) = certs.tlsa.TLSAHash.TheImpl.ghosts.hash_input x
-record_fed (rdata.TXT x) = base.txt.TXTHash.TheImpl.ghosts.hash_input x
-record_fed (rdata.Unknown code x) = base.null.NULLHash.TheImpl.ghosts.hash_input x
-record_fed (rdata.Update0 t) = []
-record_fed rdata.ZERO = []
+record_fed v = fed_in (held v)
 
 -- the type, and then what the data of the type feeds
 abbrev pub data_fed : RData → HashWrites
@@ -79,11 +54,7 @@ record_fed_same (rdata.Update0 t) (rdata.Update0 u) h = refl
 record_fed_same rdata.ZERO rdata.ZERO h = refl
 record_fed_same v w h = absurd (true≢false (sym h))
 
-same_type_fed : (given : List Row) (v w : RData) → rows_eq given v w ≡ true → type_hash.ghosts.hash_input (type_of v) ≡ type_hash.ghosts.hash_input (type_of w)
-same_type_fed [] v w h = type_hash_laws.respects_eq-law (type_of v) (type_of w) h
-same_type_fed (row ∷ rest) v w h = same_type_fed rest v w (second_so (row_eq row v w) (rows_eq rest v w) h)
-
 pub fed_same : (v w : RData) → equal v w ≡ true → data_fed v ≡ data_fed w
 fed_same v w h =
-    ap (λ (f : HashWrites). f ++ record_fed v) (same_type_fed rows v w h)
+    ap (λ (f : HashWrites). f ++ record_fed v) (type_hash_laws.respects_eq-law (type_of v) (type_of w) (types_equal rows v w h))
     ∙ ap (λ (f : HashWrites). type_hash.ghosts.hash_input (type_of w) ++ f) (record_fed_same v w h)

@@ -15,33 +15,33 @@ pub data Row : Type 0 where
   fields : (kinds : List Kind) → (RData → Option (Values kinds)) → Row
   options : (RData → Option (List Pair)) → Row
 
--- One row for each variant, as they are declared. Where several values of a field have one number, the fields here tell
--- them apart.
+-- One row for each variant, the last declared first: of two variants the first row that one of them has is that of the
+-- greater. Where several values of a field have one number, the fields here tell them apart.
 abbrev pub rows : List Row
 rows =
-    fields base.A.a_shape (elim [ rdata.A x ↦ Some (base.A.a_fields x) | v ↦ None ]) ∷
-    fields base.AAAA.aaaa_shape (elim [ rdata.AAAA x ↦ Some (base.AAAA.aaaa_fields x) | v ↦ None ]) ∷
-    fields base.NameRecords.name_shape (elim [ rdata.ANAME x ↦ Some (base.NameRecords.aname_fields x) | v ↦ None ]) ∷
-    fields sets.CAA.caa_key_shape (elim [ rdata.CAA x ↦ Some (sets.CAA.caa_keys x) | v ↦ None ]) ∷
-    fields certs.CERT.cert_key_shape (elim [ rdata.CERT x ↦ Some (certs.CERT.cert_keys x) | v ↦ None ]) ∷
-    fields base.NameRecords.name_shape (elim [ rdata.CNAME x ↦ Some (base.NameRecords.cname_fields x) | v ↦ None ]) ∷
-    fields sets.CSYNC.csync_key_shape (elim [ rdata.CSYNC x ↦ Some (sets.CSYNC.csync_keys x) | v ↦ None ]) ∷
-    fields base.HINFO.hinfo_shape (elim [ rdata.HINFO x ↦ Some (base.HINFO.hinfo_fields x) | v ↦ None ]) ∷
-    fields service.HTTPS.https_key_shape (elim [ rdata.HTTPS x ↦ Some (service.HTTPS.https_keys x) | v ↦ None ]) ∷
-    fields base.MX.mx_shape (elim [ rdata.MX x ↦ Some (base.MX.mx_fields x) | v ↦ None ]) ∷
-    fields base.NAPTR.naptr_shape (elim [ rdata.NAPTR x ↦ Some (base.NAPTR.naptr_fields x) | v ↦ None ]) ∷
-    fields base.NULL.null_shape (elim [ rdata.NULL x ↦ Some (base.NULL.null_fields x) | v ↦ None ]) ∷
-    fields base.NameRecords.name_shape (elim [ rdata.NS x ↦ Some (base.NameRecords.ns_fields x) | v ↦ None ]) ∷
-    fields base.OPENPGPKEY.openpgpkey_shape (elim [ rdata.OPENPGPKEY x ↦ Some (base.OPENPGPKEY.openpgpkey_fields x) | v ↦ None ]) ∷
-    options (elim [ rdata.OPT x ↦ Some x | v ↦ None ]) ∷
-    fields base.NameRecords.name_shape (elim [ rdata.PTR x ↦ Some (base.NameRecords.ptr_fields x) | v ↦ None ]) ∷
-    fields certs.SMIMEA.smimea_key_shape (elim [ rdata.SMIMEA x ↦ Some (certs.SMIMEA.smimea_keys x) | v ↦ None ]) ∷
-    fields base.SOA.soa_shape (elim [ rdata.SOA x ↦ Some (base.SOA.soa_fields x) | v ↦ None ]) ∷
-    fields base.SRV.srv_shape (elim [ rdata.SRV x ↦ Some (base.SRV.srv_fields x) | v ↦ None ]) ∷
-    fields certs.SSHFP.sshfp_key_shape (elim [ rdata.SSHFP x ↦ Some (certs.SSHFP.sshfp_keys x) | v ↦ None ]) ∷
-    fields service.SVCB.svcb_key_shape (elim [ rdata.SVCB x ↦ Some (service.SVCB.svcb_keys x) | v ↦ None ]) ∷
-    fields certs.TLSA.tlsa_key_shape (elim [ rdata.TLSA x ↦ Some (certs.TLSA.tlsa_keys x) | v ↦ None ]) ∷
-    fields base.TXT.txt_shape (elim [ rdata.TXT x ↦ Some (base.TXT.txt_fields x) | v ↦ None ]) ∷
-    fields base.NULL.null_shape (elim [ rdata.Unknown code x ↦ Some (base.NULL.null_fields x) | v ↦ None ]) ∷
+    fields [] (elim [ rdata.ZERO ↦ Some tt | v ↦ None ]) ∷
     fields [] (elim [ rdata.Update0 t ↦ Some tt | v ↦ None ]) ∷
-    fields [] (elim [ rdata.ZERO ↦ Some tt | v ↦ None ]) ∷ []
+    fields base.NULL.null_shape (elim [ rdata.Unknown code x ↦ Some (base.NULL.null_fields x) | v ↦ None ]) ∷
+    fields base.TXT.txt_shape (elim [ rdata.TXT x ↦ Some (base.TXT.txt_fields x) | v ↦ None ]) ∷
+    fields certs.TLSA.tlsa_key_shape (elim [ rdata.TLSA x ↦ Some (certs.TLSA.tlsa_keys x) | v ↦ None ]) ∷
+    fields service.SVCB.svcb_key_shape (elim [ rdata.SVCB x ↦ Some (service.SVCB.svcb_keys x) | v ↦ None ]) ∷
+    fields certs.SSHFP.sshfp_key_shape (elim [ rdata.SSHFP x ↦ Some (certs.SSHFP.sshfp_keys x) | v ↦ None ]) ∷
+    fields base.SRV.srv_shape (elim [ rdata.SRV x ↦ Some (base.SRV.srv_fields x) | v ↦ None ]) ∷
+    fields base.SOA.soa_shape (elim [ rdata.SOA x ↦ Some (base.SOA.soa_fields x) | v ↦ None ]) ∷
+    fields certs.SMIMEA.smimea_key_shape (elim [ rdata.SMIMEA x ↦ Some (certs.SMIMEA.smimea_keys x) | v ↦ None ]) ∷
+    fields base.NameRecords.name_shape (elim [ rdata.PTR x ↦ Some (base.NameRecords.ptr_fields x) | v ↦ None ]) ∷
+    options (elim [ rdata.OPT x ↦ Some x | v ↦ None ]) ∷
+    fields base.OPENPGPKEY.openpgpkey_shape (elim [ rdata.OPENPGPKEY x ↦ Some (base.OPENPGPKEY.openpgpkey_fields x) | v ↦ None ]) ∷
+    fields base.NameRecords.name_shape (elim [ rdata.NS x ↦ Some (base.NameRecords.ns_fields x) | v ↦ None ]) ∷
+    fields base.NULL.null_shape (elim [ rdata.NULL x ↦ Some (base.NULL.null_fields x) | v ↦ None ]) ∷
+    fields base.NAPTR.naptr_shape (elim [ rdata.NAPTR x ↦ Some (base.NAPTR.naptr_fields x) | v ↦ None ]) ∷
+    fields base.MX.mx_shape (elim [ rdata.MX x ↦ Some (base.MX.mx_fields x) | v ↦ None ]) ∷
+    fields service.HTTPS.https_key_shape (elim [ rdata.HTTPS x ↦ Some (service.HTTPS.https_keys x) | v ↦ None ]) ∷
+    fields base.HINFO.hinfo_shape (elim [ rdata.HINFO x ↦ Some (base.HINFO.hinfo_fields x) | v ↦ None ]) ∷
+    fields sets.CSYNC.csync_key_shape (elim [ rdata.CSYNC x ↦ Some (sets.CSYNC.csync_keys x) | v ↦ None ]) ∷
+    fields base.NameRecords.name_shape (elim [ rdata.CNAME x ↦ Some (base.NameRecords.cname_fields x) | v ↦ None ]) ∷
+    fields certs.CERT.cert_key_shape (elim [ rdata.CERT x ↦ Some (certs.CERT.cert_keys x) | v ↦ None ]) ∷
+    fields sets.CAA.caa_key_shape (elim [ rdata.CAA x ↦ Some (sets.CAA.caa_keys x) | v ↦ None ]) ∷
+    fields base.NameRecords.name_shape (elim [ rdata.ANAME x ↦ Some (base.NameRecords.aname_fields x) | v ↦ None ]) ∷
+    fields base.AAAA.aaaa_shape (elim [ rdata.AAAA x ↦ Some (base.AAAA.aaaa_fields x) | v ↦ None ]) ∷
+    fields base.A.a_shape (elim [ rdata.A x ↦ Some (base.A.a_fields x) | v ↦ None ]) ∷ []

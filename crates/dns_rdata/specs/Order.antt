@@ -1,7 +1,7 @@
 -- The order of record data: by canonical octets, by type, by variant, and by the fields.
 use Rattle.std.specs.Prelude.{◌≡◌, ◌==◌, ℕ, IsTrue, not, List, [], ◌∷◌}
 use Rattle.std.specs.{Option.option_cmp, Ordering.on, Ordering.then_cmp, Ordering.nat_cmp, declared.cmp.Ordering.Ordering}
-use Rattle.std.specs.Cmp.{IsTotalOrder, then_total, on_total, nat_cmp_total}
+use Rattle.std.specs.Cmp.{IsTotalOrder, then_total, on_total}
 use Rattle.std.specs.Cmp.Lexicographic.{slice_cmp, nat_list_cmp_total, options_total}
 use Rattle.dns_fields.specs.Order.{values_cmp}
 use Rattle.dns_fields.proofs.Orders.{values_total}
@@ -9,38 +9,8 @@ use Rattle.dns_types.specs.declared.record_type.RecordType.{RecordType}
 use Rattle.dns_types.specs.contracts.record_type.RecordTypeOrd.TheImpl as type_ord
 use Rattle.dns_types.specs.contracts.record_type.RecordTypeOrd.TheImpl.Laws as type_laws
 use Rattle.dns_rdata_options.specs.{Order.opt_cmp, OrderLaws.opt_total}
-use Rattle.dns_rdata.specs.{declared.record_data.RData.RData, Data.type_of, Data.data_octets, Data.Fills}
+use Rattle.dns_rdata.specs.{declared.record_data.RData.RData, Data.held, Data.place_in, Data.type_of, Data.data_octets, Data.Fills}
 use Rattle.dns_rdata.specs.Keys.{Row, fields, options, rows}
-use Rattle.dns_rdata.specs.declared.record_data.RData.TheVariants as rdata
-
--- the place of the variant among all
-abbrev pub rank : RData → ℕ
-rank (rdata.A x) = 0
-rank (rdata.AAAA x) = 1
-rank (rdata.ANAME x) = 2
-rank (rdata.CAA x) = 3
-rank (rdata.CERT x) = 4
-rank (rdata.CNAME x) = 5
-rank (rdata.CSYNC x) = 6
-rank (rdata.HINFO x) = 7
-rank (rdata.HTTPS x) = 8
-rank (rdata.MX x) = 9
-rank (rdata.NAPTR x) = 10
-rank (rdata.NULL x) = 11
-rank (rdata.NS x) = 12
-rank (rdata.OPENPGPKEY x) = 13
-rank (rdata.OPT x) = 14
-rank (rdata.PTR x) = 15
-rank (rdata.SMIMEA x) = 16
-rank (rdata.SOA x) = 17
-rank (rdata.SRV x) = 18
-rank (rdata.SSHFP x) = 19
-rank (rdata.SVCB x) = 20
-rank (rdata.TLSA x) = 21
-rank (rdata.TXT x) = 22
-rank (rdata.Unknown code x) = 23
-rank (rdata.Update0 t) = 24
-rank rdata.ZERO = 25
 
 abbrev pub record_type_cmp : RecordType → RecordType → Ordering
 record_type_cmp = type_ord.ghosts.cmp
@@ -54,9 +24,13 @@ abbrev pub rows_cmp : List Row → RData → RData → Ordering
 rows_cmp [] = on type_of record_type_cmp
 rows_cmp (row ∷ rest) = then_cmp (row_cmp row) (rows_cmp rest)
 
--- by variant, and of one variant by the fields
+-- the place of the variant among all
+abbrev pub rank : RData → ℕ
+rank v = place_in (held v)
+
+-- by variant as they are declared, and of one variant by the fields
 abbrev pub variants_cmp : RData → RData → Ordering
-variants_cmp = then_cmp (on rank nat_cmp) (rows_cmp rows)
+variants_cmp = rows_cmp rows
 
 -- by canonical octets, then by type, then by variant, then by the fields
 abbrev pub rdata_cmp : RData → RData → Ordering
@@ -71,9 +45,7 @@ rows_total [] = on_total type_of type_laws.total-law
 rows_total (row ∷ rest) = then_total (row_total row) (rows_total rest)
 
 pub rdata_total : IsTotalOrder rdata_cmp
-rdata_total =
-    then_total (on_total data_octets nat_list_cmp_total)
-    (then_total (on_total type_of type_laws.total-law) (then_total (on_total rank nat_cmp_total) (rows_total rows)))
+rdata_total = then_total (on_total data_octets nat_list_cmp_total) (then_total (on_total type_of type_laws.total-law) (rows_total rows))
 
 -- Two values that were read under one type are ordered by their canonical octets.
 abbrev pub OrdersRead : RData → RData → Ordering → Type 0

@@ -1,10 +1,10 @@
 -- `==` of record data holds exactly where its order answers Equal.
-use Rattle.std.specs.Prelude.{◌≡◌, ℕ, Bool, true, false, ◌&&◌, if◌then◌else◌, is_some, Option, Some, None, List, [], ◌∷◌, refl}
+use Rattle.std.specs.Prelude.{◌≡◌, Bool, true, false, ◌&&◌, if◌then◌else◌, Option, Some, None, List, [], ◌∷◌, refl}
 use Rattle.std.proofs.Common.{ap, ◌∙◌, sym, true≢false, arith, ◌+◌, ◌*◌, ◌/◌, ◌%◌}
 use Rattle.std.specs.{Option.option_cmp, Option.option_eq, Ordering.nat_cmp, Ordering.is_eq, Ordering.ordering_then, declared.cmp.Ordering.Ordering}
-use Rattle.std.specs.Cmp.{first_so, second_so, both_tied, nat_cmp_total, tied_itself}
+use Rattle.std.specs.Cmp.{first_so, both_tied, tied_itself, Equal-is}
 use Rattle.std.specs.Cmp.Lexicographic.{slice_cmp, nat_list_cmp_total}
-use Rattle.std.specs.declared.cmp.Ordering.TheVariants.{Less, Equal, Greater}
+use Rattle.std.specs.declared.cmp.Ordering.TheVariants.{Equal}
 use Rattle.std.proofs.lemmas.List.Sorted.{IsPermutation-map}
 use Rattle.dns_fields.specs.{Fields.Kind, Fields.Values, Fields.Same, Equal.values_eq, Order.values_cmp}
 use Rattle.dns_fields.proofs.{Orders.values_ties, SameFields.emittable_same, SameFields.equal_same, Laws.canonical_same}
@@ -20,8 +20,8 @@ use Rattle.dns_rdata_options.specs as options
 use Rattle.dns_rdata_service.specs as service
 use Rattle.dns_rdata_sets.specs as sets
 use Rattle.dns_rdata.specs.{declared.record_data.RData.RData, Data.type_of, Data.octets_of, Data.data_octets, Keys.Row, Keys.rows}
-use Rattle.dns_rdata.specs.Equal.{equal, record_type_eq, row_eq, rows_eq}
-use Rattle.dns_rdata.specs.Order.{rank, record_type_cmp, row_cmp, rows_cmp, rdata_cmp}
+use Rattle.dns_rdata.specs.Equal.{equal, record_type_eq, row_eq, rows_eq, types_equal}
+use Rattle.dns_rdata.specs.Order.{record_type_cmp, row_cmp, rows_cmp, rdata_cmp}
 use Rattle.dns_rdata.specs.declared.record_data.RData.TheVariants as rdata
 
 -- ---- equal fields have the same octets
@@ -50,7 +50,7 @@ svcb_octets : (x y : SVCB) → (values_eq service.SVCB.svcb_key_shape (service.S
 svcb_octets x y h = let s = same_keys service.SVCB.svcb_key_shape (service.SVCB.svcb_keys x) (service.SVCB.svcb_keys y) h in
     octets_same service.SVCB.svcb_shape (service.SVCB.svcb_fields x) (service.SVCB.svcb_fields y) (s.0, (s.1.0, (record { is = own_fields x.svc_params y.svc_params s.1.1.0.is }, tt)))
 
--- ---- equal values have the same octets, type and place
+-- ---- equal values have the same octets
 
 pub same_octets : (v w : RData) → equal v w ≡ true → data_octets v ≡ data_octets w
 same_octets (rdata.A x) (rdata.A y) h = octets_equal base.A.a_shape (base.A.a_fields x) (base.A.a_fields y) h
@@ -82,56 +82,14 @@ same_octets rdata.ZERO rdata.ZERO h = refl
 same_octets v w h = absurd (true≢false (sym h))
 
 pub equal_is : (r : Ordering) → is_eq r ≡ true → r ≡ Equal
-equal_is Less h = absurd (true≢false (sym h))
-equal_is Equal h = refl
-equal_is Greater h = absurd (true≢false (sym h))
-
-same_type : (given : List Row) (v w : RData) → rows_eq given v w ≡ true → record_type_cmp (type_of v) (type_of w) ≡ Equal
-same_type [] v w h = equal_is (record_type_cmp (type_of v) (type_of w)) (sym (type_laws.matches_eq-law (type_of v) (type_of w)) ∙ h)
-same_type (row ∷ rest) v w h = same_type rest v w (second_so (row_eq row v w) (rows_eq rest v w) h)
-
--- whether a value is of the row's variant
-abbrev holds : Row → RData → Bool
-holds (Row.fields kinds held) v = is_some (held v)
-holds (Row.options held) v = is_some (held v)
-
-both_some : {X : Type 0} (e : X → X → Bool) (a b : Option X) → option_eq e a b ≡ true → is_some a ≡ is_some b
-both_some e None None h = refl
-both_some e (Some x) (Some y) h = refl
-both_some e a b h = absurd (true≢false (sym h))
-
-both_hold : (row : Row) (v w : RData) → row_eq row v w ≡ true → holds row v ≡ holds row w
-both_hold (Row.fields kinds held) v w h = both_some (values_eq kinds) (held v) (held w) h
-both_hold (Row.options held) v w h = both_some opt_eq (held v) (held w) h
-
--- how many rows stand before that of the value
-abbrev place_in : List Row → RData → ℕ
-place_in [] v = 0
-place_in (row ∷ rest) v = if holds row v then 0 else place_in rest v + 1
-
-rank_place : (v : RData) → rank v ≡ place_in rows v
-rank_place (rdata.A x) = refl
-rank_place v = refl
-
-same_place : (given : List Row) (v w : RData) → rows_eq given v w ≡ true → place_in given v ≡ place_in given w
-same_place [] v w h = refl
-same_place (row ∷ rest) v w h =
-    let here = both_hold row v w (first_so (row_eq row v w) (rows_eq rest v w) h) in
-    let there = same_place rest v w (second_so (row_eq row v w) (rows_eq rest v w) h) in
-    λ i. if here i then 0 else there i + 1
-
-same_rank : (v w : RData) → equal v w ≡ true → nat_cmp (rank v) (rank w) ≡ Equal
-same_rank v w h =
-    let same : rank v ≡ rank w = rank_place v ∙ same_place rows v w h ∙ sym (rank_place w) in
-    ap (nat_cmp (rank v)) (sym same) ∙ tied_itself nat_cmp_total (rank v)
+equal_is r = (Equal-is r).0
 
 -- ---- the fields tie exactly where they are equal
 
 options_tie : {X : Type 0} (e : X → X → Bool) (c : X → X → Ordering) → ((x y : X) → e x y ≡ is_eq (c x y)) → (a b : Option X) → option_eq e a b ≡ is_eq (option_cmp c a b)
 options_tie e c h None None = refl
-options_tie e c h None (Some y) = refl
-options_tie e c h (Some x) None = refl
 options_tie e c h (Some x) (Some y) = h x y
+options_tie e c h a b = refl
 
 row_ties : (row : Row) (v w : RData) → row_eq row v w ≡ is_eq (row_cmp row v w)
 row_ties (Row.fields kinds held) v w = options_tie (values_eq kinds) (values_cmp kinds) (values_ties kinds) (held v) (held w)
@@ -141,22 +99,15 @@ rows_tie : (given : List Row) (v w : RData) → rows_eq given v w ≡ is_eq (row
 rows_tie [] v w = type_laws.matches_eq-law (type_of v) (type_of w)
 rows_tie (row ∷ rest) v w = both_tied (row_eq row v w) (rows_eq rest v w) (row_cmp row v w) (rows_cmp rest v w) (row_ties row v w) (rows_tie rest v w)
 
-then_differs : (c t : Ordering) → is_eq t ≡ false → is_eq (ordering_then c t) ≡ false
-then_differs Less t h = refl
-then_differs Equal t h = h
-then_differs Greater t h = refl
-
 -- what is equal ties in front, too
 tie_case : (e : Bool) (c t : Ordering) → e ≡ is_eq t → (e ≡ true → c ≡ Equal) → e ≡ is_eq (ordering_then c t)
-tie_case true c t h k = h ∙ ap (λ (o : Ordering). is_eq (ordering_then o t)) (sym (k refl))
-tie_case false c t h k = sym (then_differs c t (sym h))
-
-lists_itself : (a b : List ℕ) → a ≡ b → slice_cmp nat_cmp a b ≡ Equal
-lists_itself a b e = ap (slice_cmp nat_cmp a) (sym e) ∙ tied_itself nat_list_cmp_total a
+tie_case e Equal t h k = h
+tie_case false c t h k = refl
+tie_case true c t h k = ap is_eq (sym (k refl))
 
 pub rdata_ties : (v w : RData) → equal v w ≡ is_eq (rdata_cmp v w)
 rdata_ties v w =
     tie_case (equal v w) (slice_cmp nat_cmp (data_octets v) (data_octets w)) _
-    (tie_case (equal v w) (record_type_cmp (type_of v) (type_of w)) _
-    (tie_case (equal v w) (nat_cmp (rank v) (rank w)) _ (rows_tie rows v w) (same_rank v w)) (same_type rows v w))
-    (λ h. lists_itself (data_octets v) (data_octets w) (same_octets v w h))
+    (tie_case (equal v w) (record_type_cmp (type_of v) (type_of w)) _ (rows_tie rows v w)
+    (λ h. equal_is (record_type_cmp (type_of v) (type_of w)) (sym (type_laws.matches_eq-law (type_of v) (type_of w)) ∙ types_equal rows v w h)))
+    (λ h. ap (slice_cmp nat_cmp (data_octets v)) (sym (same_octets v w h)) ∙ tied_itself nat_list_cmp_total (data_octets v))
