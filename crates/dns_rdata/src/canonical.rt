@@ -37,19 +37,6 @@ fn of_value<'a, T: RecordData>(
     found
 }
 
-// Matches a value: an arm for each record that is named, with its step, and then the arms that are given.
-macro_rules! plain_each {
-    (
-        ($value:expr, $x:ident, $step:ident, $part:ident, $item:ident, $head:ident),
-        [$($record:ident => $found:expr,)+], $($pattern:pat => $other:expr),+
-    ) => {
-        match $value {
-            $(RData::$record($x) => of_value($x, $found, $step, $part, $item, $head),)+
-            $($pattern => $other,)+
-        }
-    };
-}
-
 impl RData {
     // The step behind a place of a record whose steps are not counted.
     fn plain_step<'a>(
@@ -64,34 +51,31 @@ impl RData {
         requires at { DataAt self.now step part item }
         ensures { GivesStep (data_left self.now) step part item head.new result }
     {
-        plain_each!(
-            (self, x, step, part, item, head),
-            [
-                A => a_step(x, step, head),
-                AAAA => aaaa_step(x, step, head),
-                ANAME => name_step(&x.0, step, head),
-                CAA => caa_step(x, step, head),
-                CERT => cert_step(x, step, head),
-                CNAME => name_step(&x.0, step, head),
-                HINFO => hinfo_step(x, step, head),
-                MX => mx_step(x, step, head),
-                NAPTR => naptr_step(x, step, head),
-                NS => name_step(&x.0, step, head),
-                PTR => name_step(&x.0, step, head),
-                SMIMEA => smimea_step(x, step, head),
-                SOA => soa_step(x, step, head),
-                SRV => srv_step(x, step, head),
-                SSHFP => sshfp_step(x, step, head),
-                TLSA => tlsa_step(x, step, head),
-            ],
+        match self {
+            RData::A(x) => of_value(x, a_step(x, step, head), step, part, item, head),
+            RData::AAAA(x) => of_value(x, aaaa_step(x, step, head), step, part, item, head),
+            RData::ANAME(x) => of_value(x, name_step(&x.0, step, head), step, part, item, head),
+            RData::CAA(x) => of_value(x, caa_step(x, step, head), step, part, item, head),
+            RData::CERT(x) => of_value(x, cert_step(x, step, head), step, part, item, head),
+            RData::CNAME(x) => of_value(x, name_step(&x.0, step, head), step, part, item, head),
+            RData::HINFO(x) => of_value(x, hinfo_step(x, step, head), step, part, item, head),
+            RData::MX(x) => of_value(x, mx_step(x, step, head), step, part, item, head),
+            RData::NAPTR(x) => of_value(x, naptr_step(x, step, head), step, part, item, head),
+            RData::NS(x) => of_value(x, name_step(&x.0, step, head), step, part, item, head),
+            RData::PTR(x) => of_value(x, name_step(&x.0, step, head), step, part, item, head),
+            RData::SMIMEA(x) => of_value(x, smimea_step(x, step, head), step, part, item, head),
+            RData::SOA(x) => of_value(x, soa_step(x, step, head), step, part, item, head),
+            RData::SRV(x) => of_value(x, srv_step(x, step, head), step, part, item, head),
+            RData::SSHFP(x) => of_value(x, sshfp_step(x, step, head), step, part, item, head),
+            RData::TLSA(x) => of_value(x, tlsa_step(x, step, head), step, part, item, head),
             RData::HTTPS(x) => https_step(x, step, part, item, head),
             RData::NULL(x) => rest_step(x.anything.as_slice(), step, head),
             RData::OPENPGPKEY(x) => rest_step(x.public_key.as_slice(), step, head),
             RData::SVCB(x) => svcb_step(x, step, part, item, head),
             RData::TXT(x) => txt_step(x, step, part, head),
             RData::Unknown { rdata, .. } => rest_step(rdata.anything.as_slice(), step, head),
-            RData::CSYNC(_) | RData::OPT(_) | RData::Update0(_) | RData::ZERO => None
-        )
+            RData::CSYNC(_) | RData::OPT(_) | RData::Update0(_) | RData::ZERO => None,
+        }
     }
 
     /// Whether the value can be emitted. Each value that was read can; of what a caller built, a string, a tag or a protocol may
@@ -111,36 +95,7 @@ impl RData {
             _ => true,
         }
     }
-}
 
-impl Stepped for RData {
-    type Kept = Heads;
-
-    ghost course = { data_course };
-
-    #[inline]
-    fn step<'a>(
-        &'a self,
-        step: usize,
-        part: usize,
-        item: usize,
-        heads: &mut Option<Heads>,
-        head: &mut Head,
-        choices: &mut Count,
-        passes: &mut Count,
-    ) -> Option<Step<'a>> {
-        match self {
-            RData::CSYNC(x) => return csync_step(x, step, part, head, passes),
-            RData::OPT(x) => return opt_step_kept(x, step, part, item, heads, head, choices),
-            _ => return self.plain_step(step, part, item, head),
-        }
-    }
-}
-
-/// What is left of the canonical octets of a value. It keeps its place, and takes no memory.
-pub type CanonicalOctets<'a> = Cursor<'a, RData>;
-
-impl RData {
     /// A cursor at the first of the canonical octets. Of a value that cannot be emitted, of `Update0` and of `ZERO` there
     /// are none. Takes no memory.
     ///
@@ -180,3 +135,30 @@ impl RData {
         None
     }
 }
+
+impl Stepped for RData {
+    type Kept = Heads;
+
+    ghost course = { data_course };
+
+    #[inline]
+    fn step<'a>(
+        &'a self,
+        step: usize,
+        part: usize,
+        item: usize,
+        heads: &mut Option<Heads>,
+        head: &mut Head,
+        choices: &mut Count,
+        passes: &mut Count,
+    ) -> Option<Step<'a>> {
+        match self {
+            RData::CSYNC(x) => return csync_step(x, step, part, head, passes),
+            RData::OPT(x) => return opt_step_kept(x, step, part, item, heads, head, choices),
+            _ => return self.plain_step(step, part, item, head),
+        }
+    }
+}
+
+/// What is left of the canonical octets of a value. It keeps its place, and takes no memory.
+pub type CanonicalOctets<'a> = Cursor<'a, RData>;

@@ -10,43 +10,6 @@ use crate::traits::RecordData;
 use dns_rdata_base::ordered::OrderedRecord;
 use std::cmp::Ordering;
 
-impl RData {
-    // The place of the variant among all.
-    #[inline]
-    fn rank(&self) -> u8
-        ensures { result ≡ rank self.now }
-    {
-        match self {
-            RData::A(_) => 0,
-            RData::AAAA(_) => 1,
-            RData::ANAME(_) => 2,
-            RData::CAA(_) => 3,
-            RData::CERT(_) => 4,
-            RData::CNAME(_) => 5,
-            RData::CSYNC(_) => 6,
-            RData::HINFO(_) => 7,
-            RData::HTTPS(_) => 8,
-            RData::MX(_) => 9,
-            RData::NAPTR(_) => 10,
-            RData::NULL(_) => 11,
-            RData::NS(_) => 12,
-            RData::OPENPGPKEY(_) => 13,
-            RData::OPT(_) => 14,
-            RData::PTR(_) => 15,
-            RData::SMIMEA(_) => 16,
-            RData::SOA(_) => 17,
-            RData::SRV(_) => 18,
-            RData::SSHFP(_) => 19,
-            RData::SVCB(_) => 20,
-            RData::TLSA(_) => 21,
-            RData::TXT(_) => 22,
-            RData::Unknown { .. } => 23,
-            RData::Update0(_) => 24,
-            RData::ZERO => 25,
-        }
-    }
-}
-
 // The order of two records, as that of the values that hold them.
 #[inline(always)]
 fn of_values<T: OrderedRecord + RecordData>(a: &T, b: &T) -> Option<Ordering>
@@ -58,20 +21,9 @@ fn of_values<T: OrderedRecord + RecordData>(a: &T, b: &T) -> Option<Ordering>
     a.quick_cmp(b)
 }
 
-// No order that is found.
-#[inline(always)]
-#[tactic(auto, unfolding(crate::specs::QuickOrders::TellsOrder))]
-fn untold(a: &RData, b: &RData) -> Option<Ordering>
-    ensures { TellsOrder result a.now b.now }
-{
-    let _ = a;
-    let _ = b;
-    None
-}
-
 // Matches two values: one arm for two records of each type, all with the same body, and then the arms that are given.
 macro_rules! each_two {
-    (($values:expr, $a:ident, $b:ident => $body:expr, $($pattern:pat => $other:expr,)+) $($record:ident)+) => {
+    (($values:expr, $a:ident, $b:ident => $body:expr, $($pattern:pat => $other:expr,)+) $(($record:ident $place:literal))+) => {
         match $values {
             $((RData::$record($a), RData::$record($b)) => $body,)+
             $($pattern => $other,)+
@@ -82,13 +34,34 @@ macro_rules! each_two {
     };
 }
 
+// The place of a variant among all.
+macro_rules! place_of {
+    (($value:expr) $(($record:ident $place:literal))+) => {
+        match $value {
+            $(RData::$record(_) => $place,)+
+            RData::Unknown { .. } => 23,
+            RData::Update0(_) => 24,
+            RData::ZERO => 25,
+        }
+    };
+}
+
 impl RData {
+    // The place of the variant among all.
+    #[inline]
+    fn rank(&self) -> u8
+        ensures { result ≡ rank self.now }
+    {
+        with_records!(place_of, (self))
+    }
+
     // The order of two values of one variant, where their fields tell it without a cursor.
     #[inline]
+    #[tactic(auto, unfolding(crate::specs::QuickOrders::TellsOrder))]
     fn quick_cmp(&self, other: &RData) -> Option<Ordering>
         ensures { TellsOrder result self.now other.now }
     {
-        each_two!((self, other), a, b => of_values(a, b), _ => untold(self, other),)
+        each_two!((self, other), a, b => of_values(a, b), _ => None,)
     }
 
     // The order of two values by variant, and then by their fields; of unknown data by octets and then by type.
@@ -115,14 +88,6 @@ impl RData {
         self.rank().cmp(&other.rank())
     }
 
-    // The order of two values by their canonical octets, which two cursors give.
-    fn cmp_octets(&self, other: &RData) -> Ordering
-        ensures { result ≡ slice_cmp nat_cmp (data_octets self.now) (data_octets other.now) }
-    {
-        self.canonical_octets()
-            .compare(&mut other.canonical_octets())
-    }
-
     // The whole order: by the canonical octets, then by type, then by variant, then by the fields.
     #[tactic(auto, unfolding(crate::specs::QuickOrders::TellsOrder))]
     fn cmp_all(&self, other: &RData) -> Ordering
@@ -135,7 +100,9 @@ impl RData {
         if self == other {
             return Ordering::Equal;
         }
-        let octets = self.cmp_octets(other);
+        let octets = self
+            .canonical_octets()
+            .compare(&mut other.canonical_octets());
         if octets.is_ne() {
             return octets;
         }

@@ -1,12 +1,15 @@
 //! The data of a record of any type.
 
-ghost use Rattle.std.specs.Prelude.{◌≡◌, ◌≢◌, ◌+◌, ◌-◌, ◌<◌, ◌++◌, ℕ, List, length as size, IsTrue, ◌↔◌, Some, Result, Err, IfOk, IfErr, OnOk};
-ghost use Rattle.dns_types.specs.RecordTypes.{number_of};
-ghost use Rattle.dns_names_wire.specs.Words.{StaysBehind, UnlessMemory, EmitsAs, Extends, Keeps, IsMessage};
-ghost use Rattle.dns_types.specs.declared.error.ProtoError.{ProtoError as ProtoErrorValue};
-ghost use Rattle.dns_names_wire.specs.State.{Writing};
-ghost use Rattle.dns_rdata.specs.Data.{EmitsData, IsNeverRead, fields_of, mode_for};
-ghost use Rattle.dns_rdata.specs.Refusals.{IsRefusal};
+ghost use Rattle.std.specs.Prelude.{◌≡◌, ◌≢◌, ◌&&◌, ◌+◌, ◌-◌, ◌<◌, ◌++◌, ◌↔◌, ℕ, List, length as size, IsTrue, Some, None, Result, Err, IfOk, IfErr, OnOk};
+ghost use Rattle.std.specs.{Cmp.partial_equiv_from_equiv, Fmt.DisplaysOnOk, Fmt.DisplaysStyledOnOk};
+ghost use Rattle.dns_fields.specs.Equal.{values_eq};
+ghost use Rattle.dns_types.specs.{RecordTypes.number_of, declared.error.ProtoError.ProtoError as ProtoErrorValue};
+ghost use Rattle.dns_names_wire.specs.{State.Writing, Words.StaysBehind, Words.UnlessMemory, Words.EmitsAs, Words.Extends, Words.Keeps, Words.IsMessage};
+ghost use Rattle.dns_rdata_base.specs.NULL.{null_shape, null_fields};
+ghost use Rattle.dns_rdata.specs.Data.{Fills, NoValue, EmitsData, IsEmittable, IsNeverRead, data_octets, fields_of, mode_for, type_of};
+ghost use Rattle.dns_rdata.specs.{Equal.equal, Equal.equal_equiv, Equal.record_type_eq, Hashing.data_fed, Hashing.fed_same, Laws.ReadsBack, Laws.ReadsCanonical};
+ghost use Rattle.dns_rdata.specs.{Laws.TellsApart, Laws.address_of, Refusals.IsRefusal, Texts.HasText, Texts.data_text, WholeOctets.whole_data};
+ghost use Rattle.dns_rdata.specs.declared.record_data.RData.TheVariants as rdata;
 
 use crate::traits::RecordData;
 use crate::{
@@ -99,12 +102,14 @@ pub enum RData {
     ZERO,
 }
 
-// Calls a macro with the arguments in front of the types that have a record of their own.
+// Calls a macro with the arguments in front of the types that have a record of their own, each with its place among the
+// variants.
 macro_rules! with_records {
     ($macro:ident, $arguments:tt) => {
         $macro!(
-            $arguments A AAAA ANAME CAA CERT CNAME CSYNC HINFO HTTPS MX NAPTR NULL NS OPENPGPKEY
-            OPT PTR SMIMEA SOA SRV SSHFP SVCB TLSA TXT
+            $arguments (A 0) (AAAA 1) (ANAME 2) (CAA 3) (CERT 4) (CNAME 5) (CSYNC 6) (HINFO 7)
+            (HTTPS 8) (MX 9) (NAPTR 10) (NULL 11) (NS 12) (OPENPGPKEY 13) (OPT 14) (PTR 15)
+            (SMIMEA 16) (SOA 17) (SRV 18) (SSHFP 19) (SVCB 20) (TLSA 21) (TXT 22)
         )
     };
 }
@@ -113,7 +118,7 @@ pub(crate) use with_records;
 
 // Matches a value: the arms that are given first, and then one for each record, all with the same body.
 macro_rules! each {
-    (($value:expr, $x:ident => $body:expr, $($pattern:pat => $other:expr,)+) $($record:ident)+) => {
+    (($value:expr, $x:ident => $body:expr, $($pattern:pat => $other:expr,)+) $(($record:ident $place:literal))+) => {
         match $value {
             $($pattern => $other,)+
             $(RData::$record($x) => $body,)+
@@ -142,7 +147,7 @@ macro_rules! equal_each {
 macro_rules! read_each {
     (
         ($record_type:expr, $decoder:ident, $start:ident, $length:ident, $($pattern:pat => $other:expr),+; $code:ident => $last:expr)
-        $($record:ident)+
+        $(($record:ident $place:literal))+
     ) => {
         match $record_type {
             $($pattern => $other,)+
@@ -160,7 +165,7 @@ macro_rules! read_each {
 
 // Copies a value: the arms that are given first, and then one for each record. Addresses are copied as they are.
 macro_rules! clone_each {
-    (($value:expr, $($pattern:pat => $other:expr,)+) A AAAA $($record:ident)+) => {
+    (($value:expr, $($pattern:pat => $other:expr,)+) (A 0) (AAAA 1) $(($record:ident $place:literal))+) => {
         match $value {
             $($pattern => $other,)+
             RData::A(a) => return Ok(RData::A(*a)),
@@ -174,9 +179,6 @@ macro_rules! clone_each {
 }
 
 impl RData {
-    ghost use Rattle.dns_rdata.specs.Data.{Fills, NoValue, IsEmittable, fields_of, mode_for, type_of, data_octets};
-    ghost use Rattle.dns_rdata.specs.Laws.{ReadsCanonical, address_of};
-
     /// The type of the record that has this data.
     pub fn record_type(&self) -> RecordType
         ensures { result ≡ type_of self.now }
@@ -264,8 +266,6 @@ impl RData {
 }
 
 impl BinEncodable for RData {
-    ghost use Rattle.dns_rdata.specs.{Data.IsEmittable, Data.fields_of, Data.mode_for, Laws.ReadsBack};
-
     ghost emits = { λ v r old new. EmitsAs (mode_for old.mode v) (fields_of v).kinds (fields_of v).values r old new };
 
     /// Appends the octets of the value, its names in the mode of its type. Refused by [`Memory`](ProtoError::Memory);
@@ -304,8 +304,6 @@ impl BinEncodable for RData {
 }
 
 impl RData {
-    ghost use Rattle.dns_rdata.specs.{Data.EmitsData, Data.IsEmittable, Data.fields_of, Data.mode_for, Laws.ReadsBack, WholeOctets.whole_data};
-
     /// Appends the octets of the value, its names whole and with their letters, whatever the mode of the encoder: no name
     /// ends by a pointer, so the octets mean the same at any place of any message. Refused as by
     /// [`emit`](BinEncodable::emit). After a refusal the octets that were there stand, and the encoder is in the mode that it
@@ -399,11 +397,6 @@ fn emit_whole_record<T: EncodesFields + RecordData>(
 }
 
 impl RData {
-    ghost use Rattle.std.specs.Prelude.{◌&&◌};
-    ghost use Rattle.dns_fields.specs.Equal.{values_eq};
-    ghost use Rattle.dns_rdata_base.specs.NULL.{null_shape, null_fields};
-    ghost use Rattle.dns_rdata.specs.Equal.{equal, record_type_eq};
-
     // Whether both are octets of one type, and the same. A call, so that `is_same` keeps nothing across another one.
     #[inline(never)]
     fn is_same_unknown(
@@ -440,9 +433,6 @@ impl RData {
 }
 
 impl PartialEq for RData {
-    ghost use Rattle.std.specs.Cmp.{partial_equiv_from_equiv};
-    ghost use Rattle.dns_rdata.specs.{Equal.equal, Equal.equal_equiv, Laws.TellsApart};
-
     ghost eq = { equal };
 
     ghost laws = { partial_equiv_from_equiv equal_equiv };
@@ -458,14 +448,10 @@ impl PartialEq for RData {
 }
 
 impl Eq for RData {
-    ghost use Rattle.dns_rdata.specs.Equal.{equal_equiv};
-
     ghost laws = { equal_equiv };
 }
 
 impl Hash for RData {
-    ghost use Rattle.dns_rdata.specs.Hashing.{data_fed, fed_same};
-
     ghost hash_input = { data_fed };
 
     ghost respects_eq = { fed_same };
@@ -501,10 +487,6 @@ impl Clone for RData {
 }
 
 impl fmt::Display for RData {
-    ghost use Rattle.std.specs.Prelude.{OnOk, None};
-    ghost use Rattle.std.specs.Fmt.{DisplaysOnOk, DisplaysStyledOnOk};
-    ghost use Rattle.dns_rdata.specs.Texts.{data_text, HasText};
-
     ghost output = { data_text };
 
     /// The text of the record; `UPDATE` for no data of an update, and nothing for no data of type 0. OPT has no text:
@@ -532,8 +514,6 @@ impl fmt::Display for RData {
 }
 
 impl From<IpAddr> for RData {
-    ghost use Rattle.dns_rdata.specs.Laws.{address_of};
-
     ghost from_gives = { λ address v. address_of v ≡ Some address };
 
     fn from(address: IpAddr) -> RData {
@@ -545,8 +525,6 @@ impl From<IpAddr> for RData {
 }
 
 impl From<Ipv4Addr> for RData {
-    ghost use Rattle.dns_rdata.specs.declared.record_data.RData.TheVariants as rdata;
-
     ghost from_gives = { λ address v. v ≡ rdata.A (record { 0 = address }) };
 
     fn from(address: Ipv4Addr) -> RData {
@@ -555,8 +533,6 @@ impl From<Ipv4Addr> for RData {
 }
 
 impl From<Ipv6Addr> for RData {
-    ghost use Rattle.dns_rdata.specs.declared.record_data.RData.TheVariants as rdata;
-
     ghost from_gives = { λ address v. v ≡ rdata.AAAA (record { 0 = address }) };
 
     fn from(address: Ipv6Addr) -> RData {

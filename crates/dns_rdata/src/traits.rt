@@ -8,14 +8,11 @@ ghost use Rattle.dns_rdata.specs.{declared.record_data.RData.RData as Data, Data
 ghost use Rattle.dns_rdata.specs.declared.record_data.RData.TheVariants as rdata;
 
 use crate::record_data::RData;
-use dns_names_wire::RecordType;
-use dns_rdata_base::{
-    A, AAAA, ANAME, CNAME, HINFO, MX, NAPTR, NS, NULL, OPENPGPKEY, PTR, SOA, SRV, TXT,
+use crate::{
+    A, AAAA, ANAME, CAA, CERT, CNAME, CSYNC, HINFO, HTTPS, MX, NAPTR, NS, NULL, OPENPGPKEY, OPT,
+    PTR, SMIMEA, SOA, SRV, SSHFP, SVCB, TLSA, TXT,
 };
-use dns_rdata_certs::{CERT, SMIMEA, SSHFP, TLSA};
-use dns_rdata_options::OPT;
-use dns_rdata_service::{HTTPS, SVCB};
-use dns_rdata_sets::{CAA, CSYNC};
+use dns_names_wire::RecordType;
 
 /// The data of records of one kind, as a part of [`RData`].
 pub trait RecordData: Sized {
