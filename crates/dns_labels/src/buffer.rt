@@ -4,7 +4,7 @@ ghost use Rattle.std.specs.Prelude.{◌≡◌, ◌+◌, ◌<◌, ◌≤◌, [], 
 ghost use Rattle.std.specs.Bool.{OnTrue};
 ghost use Rattle.dns_labels.specs.Text.{label_text};
 
-use crate::text::is_plain_label;
+use crate::text::is_plain;
 use arrayvec::ArrayVec;
 use std::alloc::{AllocError, Global};
 use std::marker::Model;
@@ -59,10 +59,12 @@ impl NameBuffer {
         ensures added { OnTrue result (self.new ≡ self.old ++ part.now) }
         ensures plain { OnTrue result (label_text part.now ≡ part.now) }
     {
-        if !is_plain_label(part) {
-            return false;
+        for octet in part {
+            if !is_plain(*octet) {
+                return false;
+            }
+            self.octets.push(*octet);
         }
-        self.extend(part);
         true
     }
 

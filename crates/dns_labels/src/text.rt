@@ -178,7 +178,7 @@ pub fn parse_octets(alloc: Global, text: &[u8]) -> Result<(Vec<u8>, bool), NameT
 
 /// Whether an octet stands for itself in a label's text: a graphic character of ASCII but `.` and `\`.
 #[inline]
-fn is_plain(octet: u8) -> bool
+pub(crate) fn is_plain(octet: u8) -> bool
     ensures { OnTrue result (printed octet ≡ octet ∷ []) }
 {
     33 <= octet && octet <= 126 && octet != 46 && octet != 92

@@ -76,6 +76,11 @@ pub stopped_then : {e : ProtoError} {w b n : Writing} {k : Kind} {v : Value k} {
     → Stopped e b kinds vs n → Stopped e w (k ∷ kinds) (v, vs) n
 stopped_then {e} f s = record { extends = extends_then f s.extends; why = because_map e _ _ _ _ (no_room_then f) unfit_then s.why }
 
+-- the second field is refused
+pub stopped_second : {e : ProtoError} {w b n : Writing} {k j : Kind} {v : Value k} {u : Value j} {kinds : List Kind} {vs : Values kinds} → StoppedField e b j u n
+    → AppendedField w k v b → Stopped e w (k ∷ j ∷ kinds) (v, (u, vs)) n
+stopped_second s f = stopped_then f (stopped_first s)
+
 -- a refusal on the way, handed on by `?`
 pub exit_emit : {kinds : List Kind} {vs : Values kinds} {old new : Writing} (r : Result (Unit {0}) ProtoError) (e : ProtoError) → IsErrAnd r (λ y. y ≡ e)
     → Stopped e old kinds vs new → Emits kinds vs r old new
@@ -124,7 +129,7 @@ emitted_as kinds vs mode earlier r old set emitted new e s h n =
     subst (λ (m : RDataEncoding). EmitsAs mode kinds vs r old (record emitted { mode = m })) (sym e) (in_mode kinds vs mode r old emitted x) in
     subst (λ (w : Writing). EmitsAs mode kinds vs r old w) (sym n) y
 
-pub ruleset writing = (appended_last, appended_then, exit_emit, stopped_first, stopped_then)
+pub ruleset writing = (appended_last, appended_then, exit_emit, stopped_first, stopped_second, stopped_then)
 
 -- ---- what was there stands
 

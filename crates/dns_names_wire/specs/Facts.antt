@@ -1,19 +1,22 @@
 -- What the data of a record is: the fields, which reading, emitting and comparing it speak of.
 use Rattle.std.specs.Prelude.{ℕ, ◌≡◌, ◌+◌, Bool, List, Result}
+use Rattle.std.specs.{Ordering.on, declared.cmp.Ordering.Ordering}
 use Rattle.std.specs.Cmp.{IsEquivalence, IsPartialEquivalence, on_equiv, partial_equiv_from_equiv}
 use Rattle.dns_types.specs.{declared.error.DecodeError.DecodeError, declared.error.ProtoError.ProtoError}
-use Rattle.dns_fields.specs.{declared.RDataEncoding.RDataEncoding, Equal.values_eq, Fields.Kind, Fields.Values, Fields.Stands}
+use Rattle.dns_fields.specs.{declared.RDataEncoding.RDataEncoding, Equal.values_eq, Fields.Kind, Fields.Values, Fields.Stands, Order.values_cmp}
 use Rattle.dns_fields.proofs.Equivalences.{values_equiv}
 use Rattle.dns_names_wire.specs.{State.Reading, State.Writing, Words.EmitsAs, Words.Refused}
 
 -- the kinds of the fields, what is asked of them beside that they stand, the fields themselves; why data of so many
--- octets is refused, and what holds of a value that was read from so many, and of where the decoder is then
+-- octets is refused, and what holds of a value that was read from so many, and of where the decoder is then; the order
+-- of two values, by the fields unless it is said otherwise
 pub record Facts (T : Type 0) : Type 1 where
   pub kinds : List Kind
   pub condition : Values kinds → Type 0
   pub fields : T → Values kinds
   pub refusal : ℕ → Reading → DecodeError → Reading → Type 0
   pub made : ℕ → T → Reading → Reading → Type 0
+  pub order : T → T → Ordering
 
 -- fields that say themselves where they end
 abbrev pub ending : {T : Type 0} (kinds : List Kind) → (Values kinds → Type 0) → (T → Values kinds) → (Reading → DecodeError → Reading → Type 0) → Facts T
@@ -23,6 +26,7 @@ ending kinds condition fields refusal = record {
   fields = fields;
   refusal = λ n. refusal;
   made = λ n x old new. Unit {0};
+  order = on fields (values_cmp kinds);
 }
 
 -- fields that fill the length
@@ -34,6 +38,7 @@ filling kinds condition fields refusal IsRead = record {
   fields = fields;
   refusal = refusal;
   made = λ n x old new. IsRead x × (new.index ≡ old.index + n);
+  order = on fields (values_cmp kinds);
 }
 
 -- the fields of the value stand, and hold what is asked

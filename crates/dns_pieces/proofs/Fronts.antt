@@ -9,7 +9,7 @@ use Rattle.dns_fields.specs.Fields.{Kind, Number, Octets, Name, Text, Texts, Res
 use Rattle.dns_fields.specs.Fields.{canonical}
 use Rattle.dns_fields.specs.Labels.{AreLabels, lowered}
 use Rattle.dns_fields.proofs.Numbers.{number_cmp, length-bytes}
-use Rattle.dns_pieces.specs.Fronts.{canonical_cmp}
+use Rattle.dns_pieces.specs.Fronts.{canonical_cmp, field_cmp, fields_cmp, EndsAlike, AllEndAlike}
 use Rattle.dns_pieces.proofs.Comparing.{cmp_shared, then_assoc, then_equal, then_kept, apart}
 use Rattle.dns_pieces.proofs.Sharing.{same_further}
 
@@ -65,32 +65,10 @@ labels_then (l ∷ a) (m ∷ b) x y h k =
 
 -- ---- of fields
 
--- by one field
-abbrev pub field_cmp : (k : Kind) → Value k → Value k → Ordering
-field_cmp k a b = slice_cmp nat_cmp (field_octets k a) (field_octets k b)
-
--- behind fields that were compared so
-abbrev pub fields_cmp : Ordering → (kinds : List Kind) → Values kinds → Values kinds → Ordering
-fields_cmp o [] a b = o
-fields_cmp o (k ∷ kinds) a b = fields_cmp (ordering_then o (field_cmp k a.0 b.0)) kinds a.1 b.1
-
--- octets of which none are the beginning of others
-abbrev pub Ends : (k : Kind) → Value k → Value k → List Kind → Type 0
-Ends (Number w) a b kinds = Unit {0}
-Ends (Octets n) a b kinds = length a ≡ length b
-Ends Text a b kinds = Unit {0}
-Ends Name a b kinds = AreLabels a.labels × AreLabels b.labels
-Ends k a b [] = Unit {0}
-Ends k a b (j ∷ kinds) = ⊥
-
-abbrev pub AllEnd : (kinds : List Kind) → Values kinds → Values kinds → Type 0
-AllEnd [] a b = Unit {0}
-AllEnd (k ∷ kinds) a b = Ends k a.0 b.0 kinds × AllEnd kinds a.1 b.1
-
 ends_alone : (p q : List ℕ) → slice_cmp nat_cmp (p ++ []) (q ++ []) ≡ ordering_then (slice_cmp nat_cmp p q) Equal
 ends_alone p q = rw (append-nil p, append-nil q) (sym (then_equal (slice_cmp nat_cmp p q)))
 
-field_then : (k : Kind) (a b : Value k) (kinds : List Kind) (x y : Values kinds) → Ends k a b kinds
+field_then : (k : Kind) (a b : Value k) (kinds : List Kind) (x y : Values kinds) → EndsAlike k a b kinds
     → canonical_cmp (k ∷ kinds) (a, x) (b, y) ≡ ordering_then (field_cmp k a b) (canonical_cmp kinds x y)
 unfolding field_octets
 field_then (Number w) a b kinds x y h =
@@ -105,7 +83,7 @@ field_then Parameters a b [] x y h = ends_alone (field_octets Parameters a) (fie
 field_then Bitmap a b [] x y h = ends_alone (field_octets Bitmap a) (field_octets Bitmap b)
 field_then k a b (j ∷ kinds) x y h = absurd h
 
-fields_behind : (o : Ordering) (kinds : List Kind) (a b : Values kinds) → AllEnd kinds a b → fields_cmp o kinds a b ≡ ordering_then o (canonical_cmp kinds a b)
+fields_behind : (o : Ordering) (kinds : List Kind) (a b : Values kinds) → AllEndAlike kinds a b → fields_cmp o kinds a b ≡ ordering_then o (canonical_cmp kinds a b)
 fields_behind o [] a b h = sym (then_equal o)
 fields_behind o (k ∷ kinds) a b h =
     fields_behind (ordering_then o (field_cmp k a.0 b.0)) kinds a.1 b.1 h.1
@@ -113,8 +91,11 @@ fields_behind o (k ∷ kinds) a b h =
     ∙ ap (λ (t : Ordering). ordering_then o t) (sym (field_then k a.0 b.0 kinds a.1 b.1 h.0))
 
 -- compared field by field, they are compared by their canonical octets
-pub by_fields : (kinds : List Kind) (a b : Values kinds) → AllEnd kinds a b → fields_cmp Equal kinds a b ≡ canonical_cmp kinds a b
+pub by_fields : (kinds : List Kind) (a b : Values kinds) → AllEndAlike kinds a b → fields_cmp Equal kinds a b ≡ canonical_cmp kinds a b
 by_fields kinds a b h = fields_behind Equal kinds a b h
+
+pub ordered : (kinds : List Kind) (a b : Values kinds) {o : Ordering} → o ≡ fields_cmp Equal kinds a b → AllEndAlike kinds a b → o ≡ canonical_cmp kinds a b
+ordered kinds a b e h = e ∙ by_fields kinds a b h
 
 -- one field alone
 pub alone : (k : Kind) (a b : Value k) → field_cmp k a b ≡ canonical_cmp (k ∷ []) (a, tt) (b, tt)

@@ -31,6 +31,10 @@ at_field [] n kinds vs = []
 at_field (f ∷ fs) zero kinds vs = from_field f kinds vs
 at_field (f ∷ fs) (suc n) kinds vs = at_field fs n kinds vs
 
+-- one step, the first
+abbrev pub at_once : List ℕ
+at_once = 0 ∷ []
+
 -- of a record whose steps begin at these fields, and take no list apart
 abbrev pub by_fields : List ℕ → (kinds : List Kind) → Values kinds → Left
 by_fields begins kinds vs n i j = at_field begins n kinds vs

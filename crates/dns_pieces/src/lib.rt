@@ -14,6 +14,9 @@ pub mod tail;
 pub use count::Count;
 pub use cursor::{Cursor, Stepped};
 pub use head::Head;
+pub use order::{
+    four_behind, name_behind, octets_cmp, one_behind, rest_behind, text_behind, two_behind,
+};
 pub use run::Run;
-pub use step::Step;
+pub use step::{AtOnce, Step, whole_step};
 pub use tail::Tail;

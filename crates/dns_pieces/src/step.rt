@@ -1,8 +1,12 @@
 //! A step of a cursor.
 
-ghost use Rattle.std.specs.Prelude.{◌≡◌};
+ghost use Rattle.std.specs.Prelude.{◌≡◌, ◌++◌, ℕ, []};
+ghost use Rattle.dns_fields.specs.Fields.{canonical};
+ghost use Rattle.dns_pieces.specs.Steps.{GivesStep, at_once, by_fields};
 
+use crate::head::Head;
 use crate::tail::Tail;
+use dns_names_wire::Record;
 
 /// What comes next behind the octets of a head, and the place behind them.
 #[derive(Drop)]
@@ -25,5 +29,25 @@ impl<'a> Step<'a> {
             part: 0,
             item: 0,
         }
+    }
+}
+
+/// A record whose canonical octets are a few that are kept, and a tail behind them.
+pub trait AtOnce: Record {
+    /// Adds those in front of the tail to an empty head, and lends the tail.
+    fn at_once<'a>(&'a self, head: &mut Head) -> Tail<'a>
+        requires empty { head.old ≡ [] }
+        ensures { canonical Self.facts.kinds (Self.facts.fields self.now) ≡ head.new ++ result };
+}
+
+/// The whole record in one step, the first.
+#[inline]
+pub fn whole_step<'a, T: AtOnce>(x: &'a T, step: usize, head: &mut Head) -> Option<Step<'a>>
+    requires empty { head.old ≡ [] }
+    ensures { (i j : ℕ) → GivesStep (by_fields at_once T.facts.kinds (T.facts.fields x.now)) step i j head.new result }
+{
+    match step {
+        0 => Some(Step::to(x.at_once(head), 1)),
+        _ => None,
     }
 }

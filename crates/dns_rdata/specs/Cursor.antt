@@ -1,7 +1,7 @@
 -- What a cursor over canonical octets meets in a value.
 use Rattle.std.specs.Prelude.{◌≡◌, ℕ, true, length, Bool, Option, []}
 pub use Rattle.dns_pieces.specs.Cursor.{Remaining, Chooses, Advances}
-use Rattle.dns_pieces.specs.{Cursor.Course, Steps.Left, Steps.AllShort, Steps.by_fields}
+use Rattle.dns_pieces.specs.{Cursor.Course, Steps.Left, Steps.AllShort, Steps.at_once, Steps.by_fields}
 use Rattle.dns_rdata_options.specs.declared.heads.Heads.{Heads}
 use Rattle.dns_fields.specs.Fields.{all_emittable}
 use Rattle.dns_rdata_base.specs as base
@@ -25,7 +25,7 @@ data_left (rdata.SVCB x) = service.Steps.svcb_left x
 data_left (rdata.TXT x) = base.Steps.texts_left x.txt_data
 data_left (rdata.Update0 t) = λ n i j. []
 data_left rdata.ZERO = λ n i j. []
-data_left v = by_fields base.Steps.at_once (fields_of v).kinds (fields_of v).values
+data_left v = by_fields at_once (fields_of v).kinds (fields_of v).values
 
 -- whether it can be emitted
 abbrev pub can_emit : RData → Bool

@@ -7,12 +7,13 @@ ghost use Rattle.dns_rdata.specs.Cursor.{can_emit, data_left, data_windows, data
 
 use crate::record_data::RData;
 use crate::traits::RecordData;
-use dns_pieces::{Count, Cursor, Head, Step, Stepped};
-use dns_rdata_base::steps::{
-    a_step, aaaa_step, hinfo_is_emittable, hinfo_step, mx_step, name_step, naptr_is_emittable,
-    naptr_step, rest_step, soa_step, srv_step, txt_is_emittable, txt_step,
-};
-use dns_rdata_certs::steps::{cert_step, smimea_step, sshfp_step, tlsa_step};
+use dns_pieces::{Count, Cursor, Head, Step, Stepped, whole_step};
+use dns_rdata_base::hinfo::{hinfo_is_emittable, hinfo_step};
+use dns_rdata_base::name::name_step;
+use dns_rdata_base::naptr::{naptr_is_emittable, naptr_step};
+use dns_rdata_base::rest::rest_step;
+use dns_rdata_base::soa::soa_step;
+use dns_rdata_base::txt::{txt_is_emittable, txt_step};
 use dns_rdata_options::heads::Heads;
 use dns_rdata_options::steps::{opt_is_emittable, opt_step_kept};
 use dns_rdata_service::steps::{https_step, svcb_is_emittable, svcb_step};
@@ -52,22 +53,22 @@ impl RData {
         ensures { GivesStep (data_left self.now) step part item head.new result }
     {
         match self {
-            RData::A(x) => of_value(x, a_step(x, step, head), step, part, item, head),
-            RData::AAAA(x) => of_value(x, aaaa_step(x, step, head), step, part, item, head),
+            RData::A(x) => of_value(x, whole_step(x, step, head), step, part, item, head),
+            RData::AAAA(x) => of_value(x, whole_step(x, step, head), step, part, item, head),
             RData::ANAME(x) => of_value(x, name_step(&x.0, step, head), step, part, item, head),
             RData::CAA(x) => of_value(x, caa_step(x, step, head), step, part, item, head),
-            RData::CERT(x) => of_value(x, cert_step(x, step, head), step, part, item, head),
+            RData::CERT(x) => of_value(x, whole_step(x, step, head), step, part, item, head),
             RData::CNAME(x) => of_value(x, name_step(&x.0, step, head), step, part, item, head),
             RData::HINFO(x) => of_value(x, hinfo_step(x, step, head), step, part, item, head),
-            RData::MX(x) => of_value(x, mx_step(x, step, head), step, part, item, head),
+            RData::MX(x) => of_value(x, whole_step(x, step, head), step, part, item, head),
             RData::NAPTR(x) => of_value(x, naptr_step(x, step, head), step, part, item, head),
             RData::NS(x) => of_value(x, name_step(&x.0, step, head), step, part, item, head),
             RData::PTR(x) => of_value(x, name_step(&x.0, step, head), step, part, item, head),
-            RData::SMIMEA(x) => of_value(x, smimea_step(x, step, head), step, part, item, head),
+            RData::SMIMEA(x) => of_value(x, whole_step(x, step, head), step, part, item, head),
             RData::SOA(x) => of_value(x, soa_step(x, step, head), step, part, item, head),
-            RData::SRV(x) => of_value(x, srv_step(x, step, head), step, part, item, head),
-            RData::SSHFP(x) => of_value(x, sshfp_step(x, step, head), step, part, item, head),
-            RData::TLSA(x) => of_value(x, tlsa_step(x, step, head), step, part, item, head),
+            RData::SRV(x) => of_value(x, whole_step(x, step, head), step, part, item, head),
+            RData::SSHFP(x) => of_value(x, whole_step(x, step, head), step, part, item, head),
+            RData::TLSA(x) => of_value(x, whole_step(x, step, head), step, part, item, head),
             RData::HTTPS(x) => https_step(x, step, part, item, head),
             RData::NULL(x) => rest_step(x.anything.as_slice(), step, head),
             RData::OPENPGPKEY(x) => rest_step(x.public_key.as_slice(), step, head),

@@ -2,7 +2,6 @@ pub mod Addresses
 pub mod Lacking
 pub mod NumberLaws
 pub mod NumberedLaws
-pub mod Orders
 pub mod QuickOrders
 pub mod SoaValues
 pub mod TextLists

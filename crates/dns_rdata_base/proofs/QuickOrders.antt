@@ -5,8 +5,8 @@ use Rattle.std.specs.{Cmp.IsEquivalence, Cmp.Lexicographic.pointwise, List.flat_
 use Rattle.std.specs.declared.cmp.Ordering.TheVariants.{Less, Equal, Greater}
 use Rattle.dns_fields.specs.{Pieces.string}
 use Rattle.dns_fields.specs.Fields.{Kind, Text, Texts, Rest, Value, Values, all_emittable, canonical, field_octets}
-use Rattle.dns_pieces.specs.Fronts.{canonical_cmp}
-use Rattle.dns_pieces.proofs.{Comparing.cmp_shared, Fronts.AllEnd, Fronts.by_fields, Fronts.field_cmp, Fronts.fields_cmp}
+use Rattle.dns_pieces.specs.Fronts.{canonical_cmp, field_cmp, fields_cmp, AllEndAlike}
+use Rattle.dns_pieces.proofs.{Comparing.cmp_shared, Fronts.by_fields}
 use Rattle.dns_rdata_base.specs.contracts.hinfo.HINFOPartialEq.TheImpl as hinfo_eq
 use Rattle.dns_rdata_base.specs.contracts.hinfo.HINFOEq.TheImpl.Laws as hinfo_laws
 use Rattle.dns_rdata_base.specs.contracts.txt.TXTPartialEq.TheImpl as txt_eq
@@ -37,7 +37,7 @@ all_tied o (k ∷ kinds) a b e =
     let t = all_tied (ordering_then o (field_cmp k a.0 b.0)) kinds a.1 b.1 e in
     (first_ties o (field_cmp k a.0 b.0) t.0, (slice_cmp-IsAntisymmetric nat_cmp-IsAntisymmetric (field_octets k a.0) (field_octets k b.0) (second_ties o (field_cmp k a.0 b.0) t.0), t.1))
 
-pub tied_fields : (kinds : List Kind) (a b : Values kinds) → AllEnd kinds a b → canonical_cmp kinds a b ≡ Equal → AllTied kinds a b
+pub tied_fields : (kinds : List Kind) (a b : Values kinds) → AllEndAlike kinds a b → canonical_cmp kinds a b ≡ Equal → AllTied kinds a b
 tied_fields kinds a b h e = (all_tied Equal kinds a b (by_fields kinds a b h ∙ e)).1
 
 -- two strings, one of which begins each of two lists
@@ -82,7 +82,7 @@ tie Greater h n = absurd (true≢false (sym h))
 
 -- an order of canonical octets, of records that are equal where the octets of each field are the same
 pub orders : (s : List Kind) (a b : Values s) (same : Bool) (o : Ordering) → (o ≢ Equal → all_emittable s a ≡ true) → (o ≢ Equal → all_emittable s b ≡ true)
-    → AllEnd s a b → o ≡ canonical_cmp s a b → (o ≡ Equal → AllTied s a b → same ≡ true) → IsOrder s a b same o
+    → AllEndAlike s a b → o ≡ canonical_cmp s a b → (o ≡ Equal → AllTied s a b → same ≡ true) → IsOrder s a b same o
 orders s a b same o f g end e equal = record {
   first = f;
   second = g;

@@ -13,7 +13,7 @@ abbrev pub mx_fields : MX → Values mx_shape
 mx_fields x = (x.preference, (x.exchange, tt))
 
 abbrev pub mx_facts : Facts MX
-mx_facts = straight mx_shape mx_fields
+mx_facts = straight (Number 2 ∷ Name ∷ []) mx_fields
 
 -- the fields, a blank between
 abbrev pub mx_text : MX → List ℕ

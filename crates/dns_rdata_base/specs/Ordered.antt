@@ -1,7 +1,8 @@
 -- The order of two records, found by their fields.
 use Rattle.std.specs.Prelude.{◌≡◌, ◌≢◌, true, Bool, Option, Some, None, List}
-use Rattle.std.specs.{declared.cmp.Ordering.Ordering, declared.cmp.Ordering.TheVariants.Equal}
-use Rattle.dns_fields.specs.{Fields.Kind, Fields.Values, Fields.all_emittable}
+use Rattle.std.specs.{Ordering.on, declared.cmp.Ordering.Ordering, declared.cmp.Ordering.TheVariants.Equal}
+use Rattle.dns_fields.specs.{Fields.Kind, Fields.Values, Fields.all_emittable, Order.values_cmp}
+use Rattle.dns_names_wire.specs.Facts.{Facts}
 use Rattle.dns_pieces.specs.Fronts.{canonical_cmp}
 
 -- Where o is Equal the two are equal; else both can be emitted, and o is the order of their canonical octets.
@@ -15,3 +16,7 @@ pub record IsOrder (s : List Kind) (a b : Values s) (same : Bool) (o : Ordering)
 abbrev pub IfSomeOrder : (s : List Kind) → Values s → Values s → Bool → Option Ordering → Type 0
 IfSomeOrder s a b same None = Unit {0}
 IfSomeOrder s a b same (Some o) = IsOrder s a b same o
+
+-- values ordered by what they are compared by
+abbrev pub by_keys : {T : Type 0} (kinds : List Kind) → (T → Values kinds) → Facts T → Facts T
+by_keys kinds keys f = record f { order = on keys (values_cmp kinds) }

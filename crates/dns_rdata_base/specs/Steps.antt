@@ -3,10 +3,6 @@ use Rattle.std.specs.{Prelude.ℕ, Prelude.zero, Prelude.suc, Prelude.List, Prel
 use Rattle.dns_fields.specs.Pieces.{string}
 use Rattle.dns_pieces.specs.Steps.{Left}
 
--- one step, the first
-abbrev pub at_once : List ℕ
-at_once = 0 ∷ []
-
 -- machine, operating system
 abbrev pub hinfo_begins : List ℕ
 hinfo_begins = 0 ∷ 1 ∷ []

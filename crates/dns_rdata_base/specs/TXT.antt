@@ -1,7 +1,7 @@
 -- TXT: character strings (RFC 1035, 3.3.14).
 use Rattle.std.specs.Prelude.{◌≡◌, ◌⊎◌, ◌+◌, ◌<◌, ◌≤◌, ℕ, List, [], ◌∷◌}
-use Rattle.std.specs.List.{flat_map}
-use Rattle.dns_fields.specs.Fields.{Kind, Texts, Values}
+use Rattle.std.specs.{List.flat_map, Ordering.on}
+use Rattle.dns_fields.specs.{Fields.Kind, Fields.Texts, Fields.Values, Order.values_cmp}
 use Rattle.dns_types.specs.declared.error.DecodeError.{DecodeError}
 use Rattle.dns_types.specs.declared.error.DecodeError.TheVariants as decode
 use Rattle.dns_names_wire.specs.{State.Reading, Words.TookField, Words.LacksText, Facts.Facts}
@@ -37,4 +37,5 @@ txt_facts = record {
   fields = txt_fields;
   refusal = IsTxtRefusal;
   made = λ n x old new. TookField old Texts x.txt_data new × (old.index + n ≤ new.index);
+  order = on txt_fields (values_cmp txt_shape);
 }

@@ -6,10 +6,13 @@ ghost use Rattle.dns_names_wire.specs.Words.{ReadsIf, ReadsBy, Emits, LacksOctet
 ghost use Rattle.dns_rdata_base.specs.A.{a_shape, a_fields, a_facts, a_text};
 
 use crate::traits::TakesOctet;
+use crate::{OrderedRecord, unless_tied};
 use dns_names_wire::{
     AddrParseError, BinDecodable, BinDecoder, BinEncodable, BinEncoder, DecodeError, DecodesFields,
     ProtoError, Record,
 };
+use dns_pieces::{AtOnce, Head, Tail, octets_cmp};
+use std::cmp::Ordering;
 use std::marker::Model;
 use std::net::Ipv4Addr;
 use std::ops::Deref;
@@ -120,6 +123,28 @@ impl FromStr for A {
             Ok(address) => Ok(A(address)),
             Err(_) => Err(AddrParseError),
         }
+    }
+}
+
+impl AtOnce for A {
+    #[inline]
+    #[tactic(auto, unfolding(dns_fields::specs::Fields::field_octets))]
+    fn at_once<'a>(&'a self, head: &mut Head) -> Tail<'a> {
+        head.octets(&self.0.octets());
+        Tail::none()
+    }
+}
+
+impl OrderedRecord for A {
+    #[inline]
+    #[tactic(auto, unfolding(dns_fields::specs::Fields::field_octets))]
+    fn quick_cmp(&self, other: &A) -> Option<Ordering> {
+        let order = octets_cmp(&self.0.octets(), &other.0.octets());
+        unless_tied(order, self, other, true)
+    }
+
+    fn cmp_fields(&self, other: &A) -> Ordering {
+        self.0.octets().as_slice().cmp(other.0.octets().as_slice())
     }
 }
 

@@ -7,10 +7,13 @@ ghost use Rattle.dns_names_wire.specs.Facts.{same, same_equiv, same_partial};
 ghost use Rattle.dns_rdata_base.specs.AAAA.{aaaa_shape, aaaa_fields, aaaa_facts, aaaa_text};
 
 use crate::traits::TakesOctet;
+use crate::{OrderedRecord, unless_tied};
 use dns_names_wire::{
     AddrParseError, BinDecodable, BinDecoder, BinEncodable, BinEncoder, DecodeError, DecodesFields,
     ProtoError, Record,
 };
+use dns_pieces::{AtOnce, Head, Tail, octets_cmp};
+use std::cmp::Ordering;
 use std::fmt;
 use std::hash::{Hash, Hasher};
 use std::net::Ipv6Addr;
@@ -155,6 +158,28 @@ impl FromStr for AAAA {
             Ok(address) => Ok(AAAA(address)),
             Err(_) => Err(AddrParseError),
         }
+    }
+}
+
+impl AtOnce for AAAA {
+    #[inline]
+    #[tactic(auto, unfolding(dns_fields::specs::Fields::field_octets))]
+    fn at_once<'a>(&'a self, head: &mut Head) -> Tail<'a> {
+        head.octets(&self.0.octets());
+        Tail::none()
+    }
+}
+
+impl OrderedRecord for AAAA {
+    #[inline]
+    #[tactic(auto, unfolding(dns_fields::specs::Fields::field_octets))]
+    fn quick_cmp(&self, other: &AAAA) -> Option<Ordering> {
+        let order = octets_cmp(&self.0.octets(), &other.0.octets());
+        unless_tied(order, self, other, true)
+    }
+
+    fn cmp_fields(&self, other: &AAAA) -> Ordering {
+        self.0.octets().as_slice().cmp(other.0.octets().as_slice())
     }
 }
 

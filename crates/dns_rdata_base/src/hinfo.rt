@@ -3,13 +3,20 @@
 ghost use Rattle.std.specs.{Prelude.◌≡◌, Prelude.Some, Box.boxed_slice_items, String.string_bytes};
 ghost use Rattle.dns_names_wire.specs.{Words.Emits, Facts.RecordRefuses, Facts.RecordStands};
 ghost use Rattle.dns_rdata_base.specs.HINFO.{hinfo_shape, hinfo_fields, hinfo_facts, hinfo_text};
+ghost use Rattle.std.specs.Prelude.{ℕ, []};
+ghost use Rattle.dns_fields.specs.Fields.{all_emittable};
+ghost use Rattle.dns_pieces.specs.Steps.{AllShort, GivesStep, by_fields};
+ghost use Rattle.dns_rdata_base.specs.Steps.{hinfo_begins};
 
+use crate::{OrderedRecord, by_fields};
 use bstr::BStr;
 use dns_names_wire::{
     BinDecodable, BinDecoder, BinEncodable, BinEncoder, DecodeError, DecodesFields, ProtoError,
     Record, SmallOctets,
 };
+use dns_pieces::{Head, Step, text_behind};
 use std::boxed::BoxedSlice;
+use std::cmp::Ordering;
 use std::fmt;
 
 /// A machine and its system, each a character string (RFC 1035, 3.3.2).
@@ -87,6 +94,48 @@ impl BinEncodable for HINFO {
         encoder.emit_character_data(self.cpu.as_slice())?;
         encoder.emit_character_data(self.os.as_slice())?;
         Ok(())
+    }
+}
+
+/// The machine, the operating system.
+#[inline]
+pub fn hinfo_step<'a>(x: &'a HINFO, step: usize, head: &mut Head) -> Option<Step<'a>>
+    requires empty { head.old ≡ [] }
+    requires short { AllShort hinfo_shape (hinfo_fields x.now) }
+    ensures { (i j : ℕ) → GivesStep (by_fields hinfo_begins hinfo_shape (hinfo_fields x.now)) step i j head.new result }
+{
+    match step {
+        0 => Some(Step::to(head.text(x.cpu.as_slice()), 1)),
+        1 => Some(Step::to(head.text(x.os.as_slice()), 2)),
+        _ => None,
+    }
+}
+
+/// Whether no string has more than 255 octets.
+#[inline]
+pub fn hinfo_is_emittable(x: &HINFO) -> bool
+    ensures { result ≡ all_emittable hinfo_shape (hinfo_fields x.now) }
+{
+    x.cpu.len() <= 255 && x.os.len() <= 255
+}
+
+impl OrderedRecord for HINFO {
+    #[inline]
+    #[tactic(auto, using(crate::proofs::QuickOrders::hinfo_orders, crate::proofs::QuickOrders::tie))]
+    fn quick_cmp(&self, other: &HINFO) -> Option<Ordering> {
+        let cpu = text_behind(Ordering::Equal, self.cpu.as_slice(), other.cpu.as_slice());
+        let order = text_behind(cpu, self.os.as_slice(), other.os.as_slice());
+        if order.is_eq() {
+            return Some(order);
+        }
+        if !hinfo_is_emittable(self) || !hinfo_is_emittable(other) {
+            return None;
+        }
+        Some(order)
+    }
+
+    fn cmp_fields(&self, other: &HINFO) -> Ordering {
+        by_fields!((self, other) cpu os)
     }
 }
 

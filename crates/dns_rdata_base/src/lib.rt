@@ -1,5 +1,5 @@
 //! The data of DNS records without certificates: addresses, names, strings and plain octets.
-#![tactic(auto)]
+#![tactic(auto, using(dns_pieces::proofs::Comparing::then_equal, dns_pieces::proofs::Comparing::then_assoc))]
 
 pub mod a;
 pub mod aaaa;
@@ -10,11 +10,10 @@ pub mod name;
 pub mod naptr;
 pub mod null;
 pub mod openpgpkey;
-pub mod order;
 pub mod ordered;
+pub mod rest;
 pub mod soa;
 pub mod srv;
-pub mod steps;
 pub mod traits;
 pub mod txt;
 mod words;
@@ -28,6 +27,7 @@ pub use name::{ANAME, CNAME, NS, PTR};
 pub use naptr::{NAPTR, verify_flags};
 pub use null::NULL;
 pub use openpgpkey::OPENPGPKEY;
+pub use ordered::{OrderedRecord, unless_tied};
 pub use soa::SOA;
 pub use srv::SRV;
 pub use traits::TakesOctet;

@@ -4,10 +4,13 @@ ghost use Rattle.std.specs.Prelude.{◌≡◌, Some};
 ghost use Rattle.dns_fields.specs.declared.RDataEncoding.TheVariants as modes;
 ghost use Rattle.dns_rdata_base.specs.MX.{mx_shape, mx_fields, mx_facts, mx_text};
 
+use crate::{OrderedRecord, by_fields, unless_tied};
 use dns_names_wire::{
     BinDecodable, BinDecoder, BinEncodable, BinEncoder, DecodeError, DecodesFields, EncodesFields,
     Name, ProtoError, RDataEncoding, Record,
 };
+use dns_pieces::{AtOnce, Head, Tail, name_behind, two_behind};
+use std::cmp::Ordering;
 use std::fmt;
 
 /// A host that takes mail for the owner: a preference of two octets and a name (RFC 1035, 3.3.9).
@@ -56,6 +59,27 @@ impl EncodesFields for MX {
         encoder.emit_u16(self.preference)?;
         self.exchange.emit(encoder)?;
         Ok(())
+    }
+}
+
+impl AtOnce for MX {
+    #[inline]
+    fn at_once<'a>(&'a self, head: &mut Head) -> Tail<'a> {
+        head.two(self.preference);
+        Tail::name(&self.exchange)
+    }
+}
+
+impl OrderedRecord for MX {
+    #[inline]
+    fn quick_cmp(&self, other: &MX) -> Option<Ordering> {
+        let preference = two_behind(Ordering::Equal, self.preference, other.preference);
+        let order = name_behind(preference, &self.exchange, &other.exchange);
+        unless_tied(order, self, other, false)
+    }
+
+    fn cmp_fields(&self, other: &MX) -> Ordering {
+        by_fields!((self, other) preference exchange)
     }
 }
 

@@ -4,11 +4,17 @@ ghost use Rattle.std.specs.Prelude.{◌≡◌, Some};
 ghost use Rattle.dns_fields.specs.declared.RDataEncoding.TheVariants as modes;
 ghost use Rattle.dns_rdata_base.specs.NameRecords.{name_shape, cname_fields, cname_facts, ns_fields, ns_facts, ptr_fields, ptr_facts, aname_fields};
 ghost use Rattle.dns_rdata_base.specs.NameRecords.{aname_facts, cname_text, ns_text, ptr_text, aname_text};
+ghost use Rattle.std.specs.Prelude.{ℕ, []};
+ghost use Rattle.dns_pieces.specs.Steps.{GivesStep, at_once, by_fields};
+ghost use Rattle.dns_rdata_base.specs.NameRecords.{name_fields};
 
+use crate::{OrderedRecord, unless_tied};
 use dns_names_wire::{
     BinDecodable, BinDecoder, BinEncodable, BinEncoder, DecodeError, DecodesFields, EncodesFields,
     Name, ProtoError, RDataEncoding, Record,
 };
+use dns_pieces::{Head, Step, Tail, name_behind};
+use std::cmp::Ordering;
 use std::fmt;
 use std::ops::Deref;
 
@@ -48,6 +54,31 @@ impl Deref for CNAME {
 
     fn deref(&self) -> &Name {
         &self.0
+    }
+}
+
+/// The name, of ANAME, CNAME, NS and PTR.
+#[inline]
+pub fn name_step<'a>(name: &'a Name, step: usize, head: &mut Head) -> Option<Step<'a>>
+    requires empty { head.old ≡ [] }
+    ensures { (i j : ℕ) → GivesStep (by_fields at_once name_shape (name_fields name.now)) step i j head.new result }
+{
+    let _ = &head;
+    match step {
+        0 => Some(Step::to(Tail::name(name), 1)),
+        _ => None,
+    }
+}
+
+impl OrderedRecord for CNAME {
+    #[inline]
+    fn quick_cmp(&self, other: &CNAME) -> Option<Ordering> {
+        let order = name_behind(Ordering::Equal, &self.0, &other.0);
+        unless_tied(order, self, other, false)
+    }
+
+    fn cmp_fields(&self, other: &CNAME) -> Ordering {
+        self.0.cmp(&other.0)
     }
 }
 
@@ -99,6 +130,18 @@ impl Deref for NS {
     }
 }
 
+impl OrderedRecord for NS {
+    #[inline]
+    fn quick_cmp(&self, other: &NS) -> Option<Ordering> {
+        let order = name_behind(Ordering::Equal, &self.0, &other.0);
+        unless_tied(order, self, other, false)
+    }
+
+    fn cmp_fields(&self, other: &NS) -> Ordering {
+        self.0.cmp(&other.0)
+    }
+}
+
 impl fmt::Display for NS {
     ghost output = { λ x. Some (ns_text x) };
 
@@ -147,6 +190,18 @@ impl Deref for PTR {
     }
 }
 
+impl OrderedRecord for PTR {
+    #[inline]
+    fn quick_cmp(&self, other: &PTR) -> Option<Ordering> {
+        let order = name_behind(Ordering::Equal, &self.0, &other.0);
+        unless_tied(order, self, other, false)
+    }
+
+    fn cmp_fields(&self, other: &PTR) -> Ordering {
+        self.0.cmp(&other.0)
+    }
+}
+
 impl fmt::Display for PTR {
     ghost output = { λ x. Some (ptr_text x) };
 
@@ -192,6 +247,18 @@ impl Deref for ANAME {
 
     fn deref(&self) -> &Name {
         &self.0
+    }
+}
+
+impl OrderedRecord for ANAME {
+    #[inline]
+    fn quick_cmp(&self, other: &ANAME) -> Option<Ordering> {
+        let order = name_behind(Ordering::Equal, &self.0, &other.0);
+        unless_tied(order, self, other, false)
+    }
+
+    fn cmp_fields(&self, other: &ANAME) -> Ordering {
+        self.0.cmp(&other.0)
     }
 }
 

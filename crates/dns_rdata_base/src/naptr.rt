@@ -5,13 +5,20 @@ ghost use Rattle.dns_names_wire.specs.{Words.Emits};
 ghost use Rattle.dns_rdata_base.specs.NAPTR.{naptr_numbers_shape, naptr_numbers, naptr_rest_shape, naptr_rest, naptr_shape, naptr_fields};
 ghost use Rattle.dns_rdata_base.specs.NAPTR.{naptr_facts, naptr_text};
 ghost use Rattle.dns_fields.specs.declared.RDataEncoding.TheVariants as modes;
+ghost use Rattle.std.specs.Prelude.{ℕ, []};
+ghost use Rattle.dns_fields.specs.Fields.{all_emittable};
+ghost use Rattle.dns_pieces.specs.Steps.{AllShort, GivesStep, by_fields};
+ghost use Rattle.dns_rdata_base.specs.Steps.{naptr_begins};
 
+use crate::{OrderedRecord, by_fields, unless_tied};
 use bstr::BStr;
 use dns_names_wire::{
     BinDecodable, BinDecoder, BinEncodable, BinEncoder, DecodeError, DecodesFields, EncodesFields,
     Name, Octets, ProtoError, RDataEncoding, Record,
 };
+use dns_pieces::{Head, Step, Tail, name_behind, text_behind, two_behind};
 use std::boxed::BoxedSlice;
+use std::cmp::Ordering;
 use std::fmt;
 
 /// A rule that rewrites a name: order and preference of two octets each, three character strings and a name (RFC 3403,
@@ -140,6 +147,54 @@ impl EncodesFields for NAPTR {
     fn emit_fields(&self, encoder: &mut BinEncoder<'_>) -> Result<(), ProtoError> {
         self.emit_numbers(encoder)?;
         self.emit_rest(encoder)
+    }
+}
+
+/// Numbers and flags, the services, the substitution, the name.
+#[inline]
+pub fn naptr_step<'a>(x: &'a NAPTR, step: usize, head: &mut Head) -> Option<Step<'a>>
+    requires empty { head.old ≡ [] }
+    requires short { AllShort naptr_shape (naptr_fields x.now) }
+    ensures { (i j : ℕ) → GivesStep (by_fields naptr_begins naptr_shape (naptr_fields x.now)) step i j head.new result }
+{
+    match step {
+        0 => {
+            head.two(x.order);
+            head.two(x.preference);
+            Some(Step::to(head.text(x.flags.as_slice()), 1))
+        }
+        1 => Some(Step::to(head.text(x.services.as_slice()), 2)),
+        2 => Some(Step::to(head.text(x.regexp.as_slice()), 3)),
+        3 => Some(Step::to(Tail::name(&x.replacement), 4)),
+        _ => None,
+    }
+}
+
+/// Whether no string has more than 255 octets.
+#[inline]
+pub fn naptr_is_emittable(x: &NAPTR) -> bool
+    ensures { result ≡ all_emittable naptr_shape (naptr_fields x.now) }
+{
+    x.flags.len() <= 255 && x.services.len() <= 255 && x.regexp.len() <= 255
+}
+
+impl OrderedRecord for NAPTR {
+    #[inline]
+    fn quick_cmp(&self, other: &NAPTR) -> Option<Ordering> {
+        if !naptr_is_emittable(self) || !naptr_is_emittable(other) {
+            return None;
+        }
+        let order = two_behind(Ordering::Equal, self.order, other.order);
+        let preference = two_behind(order, self.preference, other.preference);
+        let flags = text_behind(preference, self.flags.as_slice(), other.flags.as_slice());
+        let services = text_behind(flags, self.services.as_slice(), other.services.as_slice());
+        let regexp = text_behind(services, self.regexp.as_slice(), other.regexp.as_slice());
+        let whole = name_behind(regexp, &self.replacement, &other.replacement);
+        unless_tied(whole, self, other, false)
+    }
+
+    fn cmp_fields(&self, other: &NAPTR) -> Ordering {
+        by_fields!((self, other) order preference flags services regexp replacement)
     }
 }
 

@@ -4,12 +4,15 @@ ghost use Rattle.std.specs.Prelude.{◌≡◌, ◌≢◌, [], Some};
 ghost use Rattle.dns_names_wire.specs.{Words.Emits};
 ghost use Rattle.dns_rdata_base.specs.NULL.{null_shape, null_fields, null_facts, null_text};
 
+use crate::OrderedRecord;
+use crate::rest::rest_quick_cmp;
 use dns_names_wire::{
     BinDecoder, BinEncodable, BinEncoder, DecodeError, ProtoError, Record, RecordDataDecodable,
     Restrict, SmallOctets,
 };
 use dns_words::Base64Text;
 use std::alloc::Global;
+use std::cmp::Ordering;
 use std::fmt;
 
 /// Octets of any number without a form, all of a record's length (RFC 1035, 3.3.10).
@@ -73,6 +76,17 @@ impl BinEncodable for NULL {
     #[inline]
     fn emit(&self, encoder: &mut BinEncoder<'_>) -> Result<(), ProtoError> {
         encoder.emit_vec(self.anything.as_slice())
+    }
+}
+
+impl OrderedRecord for NULL {
+    #[inline]
+    fn quick_cmp(&self, other: &NULL) -> Option<Ordering> {
+        rest_quick_cmp(&self.anything, &other.anything)
+    }
+
+    fn cmp_fields(&self, other: &NULL) -> Ordering {
+        self.anything.cmp(&other.anything)
     }
 }
 

@@ -4,11 +4,14 @@ ghost use Rattle.std.specs.Prelude.{◌≡◌, Some};
 ghost use Rattle.dns_names_wire.specs.{Words.Emits};
 ghost use Rattle.dns_rdata_base.specs.OPENPGPKEY.{openpgpkey_shape, openpgpkey_fields, openpgpkey_facts, openpgpkey_text};
 
+use crate::OrderedRecord;
+use crate::rest::rest_quick_cmp;
 use dns_names_wire::{
     BinDecoder, BinEncodable, BinEncoder, DecodeError, ProtoError, Record, RecordDataDecodable,
     Restrict, SmallOctets,
 };
 use dns_words::Base64Text;
+use std::cmp::Ordering;
 use std::fmt;
 
 /// A public key in the format of OpenPGP, all octets of a record's length (RFC 7929, 2.1).
@@ -58,6 +61,17 @@ impl BinEncodable for OPENPGPKEY {
     #[inline]
     fn emit(&self, encoder: &mut BinEncoder<'_>) -> Result<(), ProtoError> {
         encoder.emit_vec(self.public_key.as_slice())
+    }
+}
+
+impl OrderedRecord for OPENPGPKEY {
+    #[inline]
+    fn quick_cmp(&self, other: &OPENPGPKEY) -> Option<Ordering> {
+        rest_quick_cmp(&self.public_key, &other.public_key)
+    }
+
+    fn cmp_fields(&self, other: &OPENPGPKEY) -> Ordering {
+        self.public_key.cmp(&other.public_key)
     }
 }
 

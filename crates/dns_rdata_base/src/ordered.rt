@@ -1,9 +1,9 @@
 //! Records that are ordered by their fields.
 
 ghost use Rattle.std.specs.Prelude.{◌≡◌, true};
-ghost use Rattle.std.specs.declared.cmp.Ordering.{Ordering as OrderingValue};
+ghost use Rattle.std.specs.declared.cmp.Ordering.TheVariants.{Equal};
 ghost use Rattle.dns_fields.specs.Fields.{all_emittable};
-ghost use Rattle.dns_pieces.specs.Fronts.{canonical_cmp};
+ghost use Rattle.dns_pieces.specs.Fronts.{AllEndAlike, fields_cmp};
 ghost use Rattle.dns_rdata_base.specs.Ordered.{IfSomeOrder};
 
 use dns_names_wire::Record;
@@ -11,16 +11,13 @@ use std::cmp::Ordering;
 
 /// A record that is ordered by its fields, and by what it is compared by.
 pub trait OrderedRecord: Record + PartialEq {
-    /// The order by what it is compared by.
-    ghost keys_cmp: { Self → Self → OrderingValue };
-
     /// The order of the canonical octets, where the fields tell it without a cursor. `Equal` only of equal records.
     fn quick_cmp(&self, other: &Self) -> Option<Ordering>
         ensures { IfSomeOrder Self.facts.kinds (Self.facts.fields self.now) (Self.facts.fields other.now) (Self.eq self.now other.now) result };
 
     /// The order by the fields in turn, each by its value.
     fn cmp_fields(&self, other: &Self) -> Ordering
-        ensures { result ≡ keys_cmp self.now other.now };
+        ensures { result ≡ Self.facts.order self.now other.now };
 }
 
 /// The first of these orders that is not `Equal`; if all are, that.
@@ -50,16 +47,18 @@ pub fn is_equal<T: PartialEq>(a: &T, b: &T) -> bool
     *a == *b
 }
 
-/// The order of two records that can be emitted, as it was found. `None` where it ties two that are not equal. They are
+/// The order of two records that can be emitted, as it was found field by field. `None` where it ties two that are not equal. They are
 /// compared in place, or by a call.
 #[inline]
+#[tactic(auto, using(dns_pieces::proofs::Fronts::ordered))]
 pub fn unless_tied<T: Record + PartialEq>(
     order: Ordering,
     a: &T,
     b: &T,
     in_place: bool,
 ) -> Option<Ordering>
-    requires order { order ≡ canonical_cmp T.facts.kinds (T.facts.fields a.now) (T.facts.fields b.now) }
+    requires order { order ≡ fields_cmp Equal T.facts.kinds (T.facts.fields a.now) (T.facts.fields b.now) }
+    requires ends { AllEndAlike T.facts.kinds (T.facts.fields a.now) (T.facts.fields b.now) }
     requires first { all_emittable T.facts.kinds (T.facts.fields a.now) ≡ true }
     requires second { all_emittable T.facts.kinds (T.facts.fields b.now) ≡ true }
     ensures { IfSomeOrder T.facts.kinds (T.facts.fields a.now) (T.facts.fields b.now) (T.eq a.now b.now) result }

@@ -5,11 +5,18 @@ ghost use Rattle.dns_names_wire.specs.{Words.ReadsIf, Words.Emits, Words.always,
 ghost use Rattle.dns_rdata_base.specs.Refusing.{IsLack};
 ghost use Rattle.dns_rdata_base.specs.SOA.{soa_shape, soa_fields, soa_facts, soa_numbers_shape, soa_numbers, soa_numbers_of, soa_text};
 ghost use Rattle.dns_fields.specs.declared.RDataEncoding.TheVariants as modes;
+ghost use Rattle.std.specs.{Prelude.ℕ, Prelude.[], Cmp.Lexicographic.slice_cmp, Int.cast_unsigned, Int.w32, Ordering.nat_cmp, Ordering.ordering_then, declared.cmp.Ordering.TheVariants.Equal};
+ghost use Rattle.dns_fields.specs.Fields.{Number, canonical, field_octets};
+ghost use Rattle.dns_pieces.specs.{Fronts.AllEndAlike, Fronts.fields_cmp, Steps.GivesStep, Steps.by_fields};
+ghost use Rattle.dns_rdata_base.specs.Steps.{soa_begins};
 
+use crate::{OrderedRecord, in_order, unless_tied};
 use dns_names_wire::{
     BinDecodable, BinDecoder, BinEncodable, BinEncoder, DecodeError, DecodesFields, EncodesFields,
     Name, ProtoError, RDataEncoding, Record,
 };
+use dns_pieces::{Head, Step, Tail, four_behind, name_behind};
+use std::cmp::Ordering;
 use std::fmt;
 
 /// The start of a zone of authority: two names, and five numbers of four octets each (RFC 1035, 3.3.13). Refresh, retry
@@ -164,6 +171,81 @@ impl PartialEq for SOA {
 
 impl Eq for SOA {
     ghost laws = { same_equiv soa_shape soa_fields };
+}
+
+// Serial, refresh, retry, expire and minimum.
+#[inline]
+fn soa_numbers_head(x: &SOA, head: &mut Head)
+    requires { head.old ≡ [] }
+    ensures { head.new ≡ canonical soa_numbers_shape (soa_numbers_of x.now) }
+{
+    head.four(x.serial);
+    head.four(x.refresh.cast_unsigned());
+    head.four(x.retry.cast_unsigned());
+    head.four(x.expire.cast_unsigned());
+    head.four(x.minimum);
+}
+
+/// The two names, and then the numbers.
+#[inline]
+pub fn soa_step<'a>(x: &'a SOA, step: usize, head: &mut Head) -> Option<Step<'a>>
+    requires empty { head.old ≡ [] }
+    ensures { (i j : ℕ) → GivesStep (by_fields soa_begins soa_shape (soa_fields x.now)) step i j head.new result }
+{
+    match step {
+        0 => Some(Step::to(Tail::name(&x.mname), 1)),
+        1 => Some(Step::to(Tail::name(&x.rname), 2)),
+        2 => {
+            soa_numbers_head(x, head);
+            Some(Step::to(Tail::none(), 3))
+        }
+        _ => None,
+    }
+}
+
+// A number in two's complement, behind fields that were compared so.
+#[inline]
+fn seconds_behind(first: Ordering, a: &i32, b: &i32) -> Ordering
+    ensures { result ≡ ordering_then first (slice_cmp nat_cmp (field_octets (Number 4) (cast_unsigned w32 a.now)) (field_octets (Number 4) (cast_unsigned w32 b.now))) }
+{
+    four_behind(first, a.cast_unsigned(), b.cast_unsigned())
+}
+
+/// The two names, and then the numbers, field by field.
+pub fn soa_order(a: &SOA, b: &SOA) -> Ordering
+    ensures order { result ≡ fields_cmp Equal soa_shape (soa_fields a.now) (soa_fields b.now) }
+    ensures ends { AllEndAlike soa_shape (soa_fields a.now) (soa_fields b.now) }
+{
+    let mname = name_behind(Ordering::Equal, &a.mname, &b.mname);
+    let rname = name_behind(mname, &a.rname, &b.rname);
+    let serial = four_behind(rname, a.serial, b.serial);
+    let refresh = seconds_behind(serial, &a.refresh, &b.refresh);
+    let retry = seconds_behind(refresh, &a.retry, &b.retry);
+    let expire = seconds_behind(retry, &a.expire, &b.expire);
+    four_behind(expire, a.minimum, b.minimum)
+}
+
+impl OrderedRecord for SOA {
+    #[inline]
+    fn quick_cmp(&self, other: &SOA) -> Option<Ordering> {
+        unless_tied(soa_order(self, other), self, other, true)
+    }
+
+    fn cmp_fields(&self, other: &SOA) -> Ordering {
+        in_order!(
+            self.mname.cmp(&other.mname),
+            self.rname.cmp(&other.rname),
+            self.serial.cmp(&other.serial),
+            self.refresh
+                .cast_unsigned()
+                .cmp(&other.refresh.cast_unsigned()),
+            self.retry.cast_unsigned().cmp(&other.retry.cast_unsigned()),
+            self.expire
+                .cast_unsigned()
+                .cmp(&other.expire.cast_unsigned()),
+            self.minimum.cmp(&other.minimum)
+        )
+    }
 }
 
 impl fmt::Display for SOA {

@@ -5,10 +5,13 @@ ghost use Rattle.dns_fields.specs.declared.RDataEncoding.TheVariants as modes;
 ghost use Rattle.dns_names_wire.specs.{Words.Emits};
 ghost use Rattle.dns_rdata_base.specs.SRV.{srv_numbers_shape, srv_numbers, srv_shape, srv_fields, srv_facts, srv_text};
 
+use crate::{OrderedRecord, by_fields, unless_tied};
 use dns_names_wire::{
     BinDecodable, BinDecoder, BinEncodable, BinEncoder, DecodeError, DecodesFields, EncodesFields,
     Name, ProtoError, RDataEncoding, Record,
 };
+use dns_pieces::{AtOnce, Head, Tail, name_behind, two_behind};
+use std::cmp::Ordering;
 use std::fmt;
 
 /// A host and port of a service: priority, weight and port of two octets each, and a name (RFC 2782).
@@ -90,6 +93,31 @@ impl EncodesFields for SRV {
         self.emit_numbers(encoder)?;
         self.target.emit(encoder)?;
         Ok(())
+    }
+}
+
+impl AtOnce for SRV {
+    #[inline]
+    fn at_once<'a>(&'a self, head: &mut Head) -> Tail<'a> {
+        head.two(self.priority);
+        head.two(self.weight);
+        head.two(self.port);
+        Tail::name(&self.target)
+    }
+}
+
+impl OrderedRecord for SRV {
+    #[inline]
+    fn quick_cmp(&self, other: &SRV) -> Option<Ordering> {
+        let priority = two_behind(Ordering::Equal, self.priority, other.priority);
+        let weight = two_behind(priority, self.weight, other.weight);
+        let port = two_behind(weight, self.port, other.port);
+        let order = name_behind(port, &self.target, &other.target);
+        unless_tied(order, self, other, false)
+    }
+
+    fn cmp_fields(&self, other: &SRV) -> Ordering {
+        by_fields!((self, other) priority weight port target)
     }
 }
 

@@ -5,14 +5,21 @@ ghost use Rattle.std.specs.String.{string_bytes};
 ghost use Rattle.dns_fields.specs.Fields.{Texts, Field};
 ghost use Rattle.dns_names_wire.specs.{Words.Emits};
 ghost use Rattle.dns_rdata_base.specs.TXT.{txt_shape, txt_fields, txt_facts, txt_text};
+ghost use Rattle.std.specs.{Prelude.◌<◌, Prelude.[], Prelude.length, Cmp.Lexicographic.slice_cmp, List.AllByRecursion, List.flat_map, Ordering.nat_cmp};
+ghost use Rattle.dns_fields.specs.{Fields.all_emittable, Pieces.string};
+ghost use Rattle.dns_pieces.specs.{Fronts.canonical_cmp, Steps.AllShort, Steps.GivesStep};
+ghost use Rattle.dns_rdata_base.specs.Steps.{texts_left};
 
+use crate::OrderedRecord;
 use bstr::BStr;
 use dns_names_wire::{
     BinDecoder, BinEncodable, BinEncoder, DecodeError, Octets, ProtoError, Record,
     RecordDataDecodable, Restrict,
 };
+use dns_pieces::{Head, Step, text_behind};
 use dns_types::Strings;
 use std::alloc::AllocError;
+use std::cmp::Ordering;
 use std::fmt;
 
 /// Character strings, none or more, which fill a record's length (RFC 1035, 3.3.14).
@@ -98,6 +105,83 @@ impl BinEncodable for TXT {
             encoder.emit_character_data(string.as_slice())?;
         }
         Ok(())
+    }
+}
+
+/// The string that has this number among the parts.
+#[inline]
+pub fn txt_step<'a>(x: &'a TXT, step: usize, part: usize, head: &mut Head) -> Option<Step<'a>>
+    requires empty { head.old ≡ [] }
+    requires short { AllShort txt_shape (txt_fields x.now) }
+    ensures { (j : ℕ) → GivesStep (texts_left x.now.txt_data) step part j head.new result }
+{
+    let texts = x.txt_data.as_slice();
+    if step > 0 {
+        return None;
+    }
+    if part >= texts.len() {
+        return None;
+    }
+    Some(Step {
+        tail: head.text(texts[part].as_slice()),
+        step: 0,
+        part: part + 1,
+        item: 0,
+    })
+}
+
+/// Whether no string has more than 255 octets.
+#[inline]
+pub fn txt_is_emittable(x: &TXT) -> bool
+    ensures { result ≡ all_emittable txt_shape (txt_fields x.now) }
+{
+    for text in x.txt_data.as_slice() {
+        if text.len() > 255 {
+            return false;
+        }
+    }
+    true
+}
+
+/// String by string, each behind its length octet.
+#[inline]
+pub fn texts_cmp(a: &[Octets], b: &[Octets]) -> Ordering
+    ensures { result ≡ slice_cmp nat_cmp (flat_map string a.now) (flat_map string b.now) }
+{
+    let shorter = a.len().min(b.len());
+    for at in 0..shorter {
+        let order = text_behind(Ordering::Equal, a[at].as_slice(), b[at].as_slice());
+        if order.is_ne() {
+            return order;
+        }
+    }
+    a.len().cmp(&b.len())
+}
+
+/// String by string.
+#[tactic(auto, unfolding(dns_fields::specs::Fields::field_octets))]
+pub fn txt_order(a: &TXT, b: &TXT) -> Ordering
+    ensures { result ≡ canonical_cmp txt_shape (txt_fields a.now) (txt_fields b.now) }
+{
+    texts_cmp(a.txt_data.as_slice(), b.txt_data.as_slice())
+}
+
+impl OrderedRecord for TXT {
+    #[inline]
+    #[tactic(auto, using(crate::proofs::QuickOrders::txt_orders, crate::proofs::QuickOrders::tie))]
+    fn quick_cmp(&self, other: &TXT) -> Option<Ordering> {
+        let order = txt_order(self, other);
+        if order.is_eq() {
+            return Some(order);
+        }
+        if !txt_is_emittable(self) || !txt_is_emittable(other) {
+            return None;
+        }
+        Some(order)
+    }
+
+    fn cmp_fields(&self, other: &TXT) -> Ordering {
+        self.txt_data.cmp(&other.txt_data)
     }
 }
 

@@ -2,9 +2,10 @@
 use Rattle.std.proofs.Common.{◌≡◌, [], ◌∷◌, ◌∙◌, true, refl}
 use Rattle.std.specs.{declared.cmp.Ordering.Ordering, declared.cmp.Ordering.TheVariants.Equal}
 use Rattle.dns_fields.specs.Fields.{Number, Rest}
-use Rattle.dns_pieces.proofs.Fronts.{fields_cmp}
+use Rattle.dns_pieces.specs.Fronts.{fields_cmp}
+use Rattle.dns_pieces.proofs.Fronts.{ordered}
 use Rattle.dns_rdata_base.specs.Ordered.{IsOrder}
-use Rattle.dns_rdata_base.proofs.{Orders.ordered, QuickOrders.by_rest, QuickOrders.orders, QuickOrders.rest_cmp, QuickOrders.same_first}
+use Rattle.dns_rdata_base.proofs.{QuickOrders.by_rest, QuickOrders.orders, QuickOrders.rest_cmp, QuickOrders.same_first}
 use Rattle.dns_rdata_certs.specs.contracts.cert.CERTPartialEq.TheImpl as cert_eq
 use Rattle.dns_rdata_certs.specs.contracts.sshfp.SSHFPPartialEq.TheImpl as sshfp_eq
 use Rattle.dns_rdata_certs.specs.contracts.tlsa.TLSAPartialEq.TheImpl as tlsa_eq

@@ -5,7 +5,7 @@ use Rattle.dns_types.specs.declared.error.DecodeError.{DecodeError}
 use Rattle.dns_types.specs.declared.error.DecodeError.TheVariants as decode
 use Rattle.dns_fields.specs.Fields.{Kind, Number, Rest, Values}
 use Rattle.dns_names_wire.specs.{State.Reading, Words.LacksOctets, Words.UnlessMemory, Words.Window, Words.NoWindow, Facts.Facts, Facts.filling}
-use Rattle.dns_rdata_base.specs.Numbered.{keyed}
+use Rattle.dns_rdata_base.specs.{Numbered.keyed, Ordered.by_keys}
 use Rattle.dns_rdata_certs.specs.Enums.{cert_type_number, cert_type_variant, cert_type_of, cert_type_text, cert_algorithm_number}
 use Rattle.dns_rdata_certs.specs.Enums.{cert_algorithm_variant, cert_algorithm_of, cert_algorithm_text}
 use Rattle.dns_rdata_certs.specs.declared.cert.CERT.{CERT}
@@ -87,4 +87,4 @@ IsWholeCertRefusal n e =
     ⊎ ((5 < n) × (n ≤ 65535) × (e ≡ decode.Memory)))
 
 abbrev pub cert_facts : Facts CERT
-cert_facts = filling cert_shape MeetsCertCondition cert_fields IsCertRefusal IsReadCert
+cert_facts = by_keys cert_key_shape cert_keys (filling cert_shape MeetsCertCondition cert_fields IsCertRefusal IsReadCert)

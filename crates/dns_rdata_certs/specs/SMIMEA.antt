@@ -3,6 +3,7 @@ use Rattle.std.specs.Prelude.{ℕ, List}
 use Rattle.dns_types.specs.declared.error.DecodeError.{DecodeError}
 use Rattle.dns_fields.specs.Fields.{Kind, Values}
 use Rattle.dns_names_wire.specs.{State.Reading, Facts.Facts, Facts.filling}
+use Rattle.dns_rdata_base.specs.{Ordered.by_keys}
 use Rattle.dns_rdata_certs.specs.TLSA.{tlsa_shape, tlsa_fields, tlsa_key_shape, tlsa_keys, IsReadTlsa, tlsa_text, IsTlsaRefusal}
 use Rattle.dns_rdata_certs.specs.declared.smimea.SMIMEA.{SMIMEA}
 
@@ -28,4 +29,4 @@ abbrev pub IsSmimeaRefusal : ℕ → Reading → DecodeError → Reading → Typ
 IsSmimeaRefusal n old e new = IsTlsaRefusal n old e new
 
 abbrev pub smimea_facts : Facts SMIMEA
-smimea_facts = filling smimea_shape (λ _. Unit {0}) smimea_fields IsSmimeaRefusal IsReadSmimea
+smimea_facts = by_keys smimea_key_shape smimea_keys (filling smimea_shape (λ _. Unit {0}) smimea_fields IsSmimeaRefusal IsReadSmimea)

@@ -4,7 +4,7 @@ use Rattle.hex.specs.Hex.{encode_lower}
 use Rattle.dns_types.specs.declared.error.DecodeError.{DecodeError}
 use Rattle.dns_fields.specs.Fields.{Kind, Number, Rest, Values}
 use Rattle.dns_names_wire.specs.{State.Reading, Facts.Facts, Facts.filling}
-use Rattle.dns_rdata_base.specs.Numbered.{keyed}
+use Rattle.dns_rdata_base.specs.{Numbered.keyed, Ordered.by_keys}
 use Rattle.dns_rdata_certs.specs.{Rests.IsRestRefusal, declared.sshfp.SSHFP.SSHFP}
 use Rattle.dns_rdata_certs.specs.Enums.{sshfp_algorithm_number, sshfp_algorithm_variant, sshfp_algorithm_of, fingerprint_type_number}
 use Rattle.dns_rdata_certs.specs.Enums.{fingerprint_type_variant, fingerprint_type_of}
@@ -39,4 +39,4 @@ abbrev pub IsSshfpRefusal : ℕ → Reading → DecodeError → Reading → Type
 IsSshfpRefusal n old e new = IsRestRefusal 2 n old e new
 
 abbrev pub sshfp_facts : Facts SSHFP
-sshfp_facts = filling sshfp_shape (λ _. Unit {0}) sshfp_fields IsSshfpRefusal IsReadSshfp
+sshfp_facts = by_keys sshfp_key_shape sshfp_keys (filling sshfp_shape (λ _. Unit {0}) sshfp_fields IsSshfpRefusal IsReadSshfp)

@@ -4,7 +4,7 @@ use Rattle.hex.specs.Hex.{encode_lower}
 use Rattle.dns_types.specs.declared.error.DecodeError.{DecodeError}
 use Rattle.dns_fields.specs.Fields.{Kind, Number, Rest, Values}
 use Rattle.dns_names_wire.specs.{State.Reading, Facts.Facts, Facts.filling}
-use Rattle.dns_rdata_base.specs.Numbered.{keyed}
+use Rattle.dns_rdata_base.specs.{Numbered.keyed, Ordered.by_keys}
 use Rattle.dns_rdata_certs.specs.Enums.{selector_number, selector_variant, selector_of, matching_number, matching_variant, matching_of}
 use Rattle.dns_rdata_certs.specs.Enums.{cert_usage_number, cert_usage_variant, cert_usage_of}
 use Rattle.dns_rdata_certs.specs.{Rests.IsRestRefusal, declared.tlsa.TLSA.TLSA}
@@ -40,4 +40,4 @@ abbrev pub IsTlsaRefusal : ℕ → Reading → DecodeError → Reading → Type 
 IsTlsaRefusal n old e new = IsRestRefusal 3 n old e new
 
 abbrev pub tlsa_facts : Facts TLSA
-tlsa_facts = filling tlsa_shape (λ _. Unit {0}) tlsa_fields IsTlsaRefusal IsReadTlsa
+tlsa_facts = by_keys tlsa_key_shape tlsa_keys (filling tlsa_shape (λ _. Unit {0}) tlsa_fields IsTlsaRefusal IsReadTlsa)

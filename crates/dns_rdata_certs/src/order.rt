@@ -1,18 +1,14 @@
 //! Records ordered by their fields: by their canonical octets, and by what they are compared by.
 #![tactic(auto, using(dns_pieces::proofs::Comparing::then_equal, dns_pieces::proofs::Comparing::then_assoc))]
 
-ghost use Rattle.std.specs.{Ordering.on, Prelude.◌≡◌, Prelude.IsTrue, Prelude.true};
-ghost use Rattle.dns_fields.specs.Order.{values_cmp};
+ghost use Rattle.std.specs.Prelude.{◌≡◌, IsTrue, true};
 ghost use Rattle.dns_rdata_certs.specs.Enums.{cert_algorithm_number, cert_type_number, cert_usage_number, fingerprint_type_number, matching_number};
 ghost use Rattle.dns_rdata_certs.specs.Enums.{selector_number, sshfp_algorithm_number};
-ghost use Rattle.dns_rdata_certs.specs.{CERT.cert_key_shape, CERT.cert_keys, SMIMEA.smimea_key_shape, SMIMEA.smimea_keys, SSHFP.sshfp_key_shape};
-ghost use Rattle.dns_rdata_certs.specs.{SSHFP.sshfp_keys, TLSA.tlsa_key_shape, TLSA.tlsa_keys};
 
 use crate::{CERT, SMIMEA, SSHFP, TLSA};
-use dns_pieces::order::{one_behind, rest_behind, two_behind};
-use dns_rdata_base::by_fields;
-use dns_rdata_base::order::rest_order;
-use dns_rdata_base::ordered::OrderedRecord;
+use dns_pieces::{one_behind, rest_behind, two_behind};
+use dns_rdata_base::rest::rest_order;
+use dns_rdata_base::{OrderedRecord, by_fields};
 use std::cmp::Ordering;
 
 // Whether two CERT have equal fields in front of the certificate.
@@ -25,8 +21,6 @@ fn is_cert_front_same(a: &CERT, b: &CERT) -> bool
 }
 
 impl OrderedRecord for CERT {
-    ghost keys_cmp = { on cert_keys (values_cmp cert_key_shape) };
-
     /// By the octets of the certificate where the fields in front are equal.
     #[inline]
     #[tactic(auto, using(crate::proofs::Fronts::cert_tied, crate::proofs::Fronts::cert_differ, dns_rdata_base::proofs::QuickOrders::no_difference))]
@@ -49,8 +43,6 @@ impl OrderedRecord for CERT {
 }
 
 impl OrderedRecord for SMIMEA {
-    ghost keys_cmp = { on smimea_keys (values_cmp smimea_key_shape) };
-
     #[inline]
     fn quick_cmp(&self, other: &SMIMEA) -> Option<Ordering> {
         self.0.quick_cmp(&other.0)
@@ -71,8 +63,6 @@ fn is_sshfp_front_same(a: &SSHFP, b: &SSHFP) -> bool
 }
 
 impl OrderedRecord for SSHFP {
-    ghost keys_cmp = { on sshfp_keys (values_cmp sshfp_key_shape) };
-
     /// By the octets of the fingerprint where the fields in front are equal.
     #[inline]
     #[tactic(auto, using(crate::proofs::Fronts::sshfp_tied, crate::proofs::Fronts::sshfp_differ, dns_rdata_base::proofs::QuickOrders::no_difference))]
@@ -104,8 +94,6 @@ fn is_tlsa_front_same(a: &TLSA, b: &TLSA) -> bool
 }
 
 impl OrderedRecord for TLSA {
-    ghost keys_cmp = { on tlsa_keys (values_cmp tlsa_key_shape) };
-
     /// By the octets of the certificate where the fields in front are equal.
     #[inline]
     #[tactic(auto, using(crate::proofs::Fronts::tlsa_tied, crate::proofs::Fronts::tlsa_differ, dns_rdata_base::proofs::QuickOrders::no_difference))]

@@ -5,7 +5,7 @@ ghost use Rattle.std.specs.Option.{option_copied};
 ghost use Rattle.dns_fields.specs.Pieces.{piece, as_piece, option_octets, OptionFits};
 ghost use Rattle.dns_names_wire.specs.Words.{Emits};
 ghost use Rattle.dns_rdata_options.specs.{Words.EmitsOctets, EdnsCode.edns_code_number, EdnsOption.code_of};
-ghost use Rattle.dns_rdata_options.specs.OPT.{opt_shape, opt_fields, opt_facts, pair_value, options_of, without};
+ghost use Rattle.dns_rdata_options.specs.{OPT.opt_shape, OPT.opt_fields, OPT.opt_facts, OPT.pair_value, OPT.options_of, OPT.without, Order.opt_cmp};
 
 mod code;
 pub(crate) mod headed;
@@ -144,7 +144,7 @@ impl OPT {
 }
 
 impl Record for OPT {
-    ghost facts = { opt_facts };
+    ghost facts = { record opt_facts { order = opt_cmp } };
 }
 
 impl RecordDataDecodable for OPT {

@@ -2,19 +2,17 @@
 
 ghost use Rattle.std.specs.Prelude.{◌≡◌, ◌<◌, ◌≤◌, true, length, IfSome, IsTrue, Some};
 ghost use Rattle.dns_pieces.specs.Fronts.{canonical_cmp};
-ghost use Rattle.dns_rdata_options.specs.{OPT.opt_shape, OPT.opt_fields, Order.opt_cmp, Order.opt_eq, Steps.pairs_emittable};
+ghost use Rattle.dns_rdata_options.specs.{OPT.opt_shape, OPT.opt_fields, Order.opt_eq, Steps.pairs_emittable};
 ghost use Rattle.dns_rdata_options.specs.Facing.{lesser, Facing, IsAlone};
 
 use crate::opt::headed::headed_cmp;
 use crate::opt::order::are_many;
 use crate::opt::{EdnsCode, EdnsOption, OPT};
 use crate::steps::{Pieces, compare_pairs, opt_is_emittable};
-use dns_rdata_base::ordered::OrderedRecord;
+use dns_rdata_base::OrderedRecord;
 use std::cmp::Ordering;
 
 impl OrderedRecord for OPT {
-    ghost keys_cmp = { opt_cmp };
-
     /// A record without options comes first. Else the order is found where the least of the options that differ decides it,
     /// or where none differ.
     #[inline]

@@ -1,7 +1,7 @@
 -- HTTPS: how a web service is reached (RFC 9460, 9), with the fields of SVCB.
-use Rattle.std.specs.Prelude.{ℕ, List}
+use Rattle.std.specs.{Ordering.on, Prelude.ℕ, Prelude.List}
 use Rattle.dns_types.specs.declared.error.DecodeError.{DecodeError}
-use Rattle.dns_fields.specs.Fields.{Kind, Values}
+use Rattle.dns_fields.specs.{Fields.Kind, Fields.Values, Order.values_cmp}
 use Rattle.dns_names_wire.specs.{State.Reading, Facts.Facts}
 use Rattle.dns_rdata_service.specs.SVCB.{svcb_shape, svcb_fields, MeetsSvcbCondition, svcb_key_shape, svcb_keys, IsReadSvcb, svcb_text, IsSvcbRefusal}
 use Rattle.dns_rdata_service.specs.declared.https.HTTPS.{HTTPS}
@@ -37,4 +37,5 @@ https_facts = record {
   fields = https_fields;
   refusal = IsHttpsRefusal;
   made = λ n x old new. IsReadHttps x;
+  order = on https_keys (values_cmp https_key_shape);
 }

@@ -1,9 +1,9 @@
 -- SVCB: how a service is reached (RFC 9460, 2.2).
 use Rattle.std.specs.Prelude.{◌≡◌, ◌⊎◌, ℕ, ◌+◌, ◌≤◌, ◌<◌, ◌==◌, if◌then◌else◌, List, [], ◌∷◌, ◌++◌, Option, Some, None, map, codes, decimal}
-use Rattle.std.specs.List.{flat_map}
+use Rattle.std.specs.{List.flat_map, Ordering.on}
 use Rattle.dns_types.specs.declared.error.DecodeError.{DecodeError}
 use Rattle.dns_types.specs.declared.error.DecodeError.TheVariants as decode
-use Rattle.dns_fields.specs.{Labels.DomainName, Fields.Kind, Fields.Number, Fields.Name, Fields.Parameters, Fields.Values}
+use Rattle.dns_fields.specs.{Labels.DomainName, Fields.Kind, Fields.Number, Fields.Name, Fields.Parameters, Fields.Values, Order.values_cmp}
 use Rattle.dns_labels.specs.Text.{name_text}
 use Rattle.dns_names_wire.specs.{State.Reading, Words.Took, Facts.Facts}
 use Rattle.dns_rdata_base.specs.Refusing.{IsLack}
@@ -85,4 +85,5 @@ svcb_facts = record {
   fields = svcb_fields;
   refusal = IsSvcbRefusal;
   made = λ n x old new. IsReadSvcb x;
+  order = on svcb_keys (values_cmp svcb_key_shape);
 }

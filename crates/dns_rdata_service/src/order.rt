@@ -1,12 +1,11 @@
 //! Service bindings ordered by their canonical octets, up to the first parameters whose order is not easily told.
 
 ghost use Rattle.std.specs.Prelude.{◌≡◌, ◌≤◌, drop, length, map, true, IfSome, IsTrue};
-ghost use Rattle.std.specs.{Ordering.nat_cmp, Ordering.on, Ordering.ordering_then, declared.cmp.Ordering.TheVariants.Equal, Cmp.Lexicographic.slice_cmp};
-ghost use Rattle.dns_fields.specs.{Pieces.Alpn as Names, Pieces.Opaque, Pieces.Port, Equal.values_eq, Order.values_cmp};
+ghost use Rattle.std.specs.{Ordering.nat_cmp, Ordering.ordering_then, declared.cmp.Ordering.TheVariants.Equal, Cmp.Lexicographic.slice_cmp};
+ghost use Rattle.dns_fields.specs.{Pieces.Alpn as Names, Pieces.Opaque, Pieces.Port, Equal.values_eq};
 ghost use Rattle.dns_pieces.specs.Fronts.{canonical_cmp};
 ghost use Rattle.dns_rdata_service.specs.{SVCB.svcb_shape, SVCB.svcb_fields, SVCB.svcb_key_shape, SVCB.svcb_keys, Parameters.own_parameter};
 ghost use Rattle.dns_rdata_service.specs.{SvcParamValue.sized, SvcParamValue.value_key, SvcParamValue.value_of, Steps.parameters_from};
-ghost use Rattle.dns_rdata_service.specs.HTTPS.{https_key_shape, https_keys};
 ghost use Rattle.dns_rdata_service.specs.Ordering.{OrderFirst, parameter_octets_of};
 
 use crate::hints::hints_order;
@@ -16,13 +15,11 @@ use crate::ordering::svcb_cmp;
 use crate::steps::{names_size, octets_size, svcb_is_emittable};
 use crate::svcb::{Parameter, SVCB, SvcParamValue};
 use dns_names_wire::SmallOctets;
-use dns_pieces::order::{name_behind, slices_behind, two_behind};
-use dns_rdata_base::ordered::OrderedRecord;
+use dns_pieces::{name_behind, slices_behind, two_behind};
+use dns_rdata_base::OrderedRecord;
 use std::cmp::Ordering;
 
 impl OrderedRecord for HTTPS {
-    ghost keys_cmp = { on https_keys (values_cmp https_key_shape) };
-
     #[inline]
     fn quick_cmp(&self, other: &HTTPS) -> Option<Ordering> {
         self.0.quick_cmp(&other.0)
@@ -34,8 +31,6 @@ impl OrderedRecord for HTTPS {
 }
 
 impl OrderedRecord for SVCB {
-    ghost keys_cmp = { on svcb_keys (values_cmp svcb_key_shape) };
-
     /// It is found where the first parameters that differ decide it, or where none differ.
     #[inline]
     fn quick_cmp(&self, other: &SVCB) -> Option<Ordering> {

@@ -3,7 +3,8 @@ use Rattle.std.proofs.Common.{◌≡◌, ◌≢◌, true, refl, ◌∙◌}
 use Rattle.std.specs.{declared.cmp.Ordering.Ordering, declared.cmp.Ordering.TheVariants.Equal}
 use Rattle.dns_fields.specs.{Equal.values_eq, Fields.all_emittable}
 use Rattle.dns_fields.proofs.Equivalences.{values_equiv}
-use Rattle.dns_pieces.proofs.Fronts.{by_fields, fields_cmp}
+use Rattle.dns_pieces.specs.Fronts.{fields_cmp}
+use Rattle.dns_pieces.proofs.Fronts.{by_fields}
 use Rattle.dns_rdata_base.specs.Ordered.{IsOrder}
 use Rattle.dns_rdata_base.proofs.QuickOrders.{itself, orders, same_rest, same_text}
 use Rattle.dns_rdata_sets.specs.{CAA.caa_shape, CAA.caa_fields, CAA.caa_key_shape, CAA.caa_keys, declared.caa.CAA.CAA}

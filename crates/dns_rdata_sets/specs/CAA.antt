@@ -7,6 +7,7 @@ use Rattle.dns_types.specs.declared.error.DecodeError.TheVariants as decode
 use Rattle.dns_types.specs.declared.error.ProtoError.TheVariants as proto
 use Rattle.dns_fields.specs.Fields.{Kind, Number, Octets, Text, Rest, Values}
 use Rattle.dns_names_wire.specs.{State.Reading, Words.Took, Words.TookField, Words.LacksOctets, Words.IsMessage, Facts.Facts, Facts.filling}
+use Rattle.dns_rdata_base.specs.{Ordered.by_keys}
 use Rattle.dns_rdata_base.specs.Lossy.{lossy}
 use Rattle.dns_rdata_sets.specs.{Issuer.IsIssuerRefusal, declared.caa.CAA.CAA}
 
@@ -143,4 +144,4 @@ abbrev pub IsCaaRefusal : ℕ → Reading → DecodeError → Reading → Type 0
 IsCaaRefusal n old e new = CutCaaHead old e new ⊎ (RefusedTag n old e new ⊎ RefusedCaaValue n old e new)
 
 abbrev pub caa_facts : Facts CAA
-caa_facts = filling caa_shape MeetsCaaCondition caa_fields IsCaaRefusal IsReadCaa
+caa_facts = by_keys caa_key_shape caa_keys (filling caa_shape MeetsCaaCondition caa_fields IsCaaRefusal IsReadCaa)

@@ -5,6 +5,7 @@ use Rattle.dns_types.specs.{RecordTypes.record_type_of, RecordTypes.type_text, d
 use Rattle.dns_types.specs.declared.error.DecodeError.TheVariants as decode
 use Rattle.dns_fields.specs.Fields.{Kind, Number, Bitmap, Values}
 use Rattle.dns_names_wire.specs.{State.Reading, Words.Took, Facts.Facts, Facts.filling}
+use Rattle.dns_rdata_base.specs.{Ordered.by_keys}
 use Rattle.dns_rdata_base.specs.Refusing.{FirstLack}
 use Rattle.dns_rdata_sets.specs.{RecordTypeSet.IsBitmapRefusal, declared.csync.CSYNC.CSYNC}
 
@@ -92,4 +93,4 @@ abbrev pub IsCsyncRefusal : ℕ → Reading → DecodeError → Reading → Type
 IsCsyncRefusal n old e new = FirstLack (Number 4 ∷ Number 2 ∷ []) old e new ⊎ (UnknownFlags old e new ⊎ (ShortCsync n old e new ⊎ RefusedTypes n old e new))
 
 abbrev pub csync_facts : Facts CSYNC
-csync_facts = filling csync_shape MeetsCsyncCondition csync_fields IsCsyncRefusal IsReadCsync
+csync_facts = by_keys csync_key_shape csync_keys (filling csync_shape MeetsCsyncCondition csync_fields IsCsyncRefusal IsReadCsync)

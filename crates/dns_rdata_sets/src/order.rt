@@ -1,16 +1,15 @@
 //! Records ordered by their fields: by their canonical octets, and by what they are compared by.
 
 ghost use Rattle.std.specs.Prelude.{◌≡◌, ◌≢◌, ◌<◌, ◌≤◌, ◌/◌, IsTrue, length, slice_index, take};
-ghost use Rattle.std.specs.{Cmp.Lexicographic.slice_cmp, Ordering.nat_cmp, Ordering.on, Ordering.ordering_then};
-ghost use Rattle.dns_fields.specs.{Bitmaps.IsTypeSet, Fields.Bitmap, Fields.field_octets, Order.values_cmp};
-ghost use Rattle.dns_rdata_sets.specs.{CAA.caa_key_shape, CAA.caa_keys, CSYNC.csync_key_shape, CSYNC.csync_keys, RecordTypeSet.IsLastOf};
+ghost use Rattle.std.specs.{Cmp.Lexicographic.slice_cmp, Ordering.nat_cmp, Ordering.ordering_then};
+ghost use Rattle.dns_fields.specs.{Bitmaps.IsTypeSet, Fields.Bitmap, Fields.field_octets};
+ghost use Rattle.dns_rdata_sets.specs.RecordTypeSet.{IsLastOf};
 
 use crate::record_type_set::{RecordTypeSet, run_len};
 use crate::steps::caa_is_emittable;
 use crate::{CAA, CSYNC};
-use dns_pieces::order::{four_behind, one_behind, rest_behind, text_behind, two_behind};
-use dns_rdata_base::ordered::{OrderedRecord, unless_tied};
-use dns_rdata_base::{by_fields, in_order};
+use dns_pieces::{four_behind, one_behind, rest_behind, text_behind, two_behind};
+use dns_rdata_base::{OrderedRecord, by_fields, in_order, unless_tied};
 use std::cmp::Ordering;
 
 // Whether flag and reserved bits are the same.
@@ -22,8 +21,6 @@ fn has_same_flags(a: &CAA, b: &CAA) -> bool
 }
 
 impl OrderedRecord for CAA {
-    ghost keys_cmp = { on caa_keys (values_cmp caa_key_shape) };
-
     /// Where the octets tie, tag and value are equal, and the flags are compared.
     #[inline]
     #[tactic(auto, using(crate::proofs::CaaOrders::caa_orders, dns_rdata_base::proofs::QuickOrders::tie, dns_rdata_base::proofs::QuickOrders::no_difference))]
@@ -54,8 +51,6 @@ impl OrderedRecord for CAA {
 }
 
 impl OrderedRecord for CSYNC {
-    ghost keys_cmp = { on csync_keys (values_cmp csync_key_shape) };
-
     #[inline]
     fn quick_cmp(&self, other: &CSYNC) -> Option<Ordering> {
         let serial = four_behind(Ordering::Equal, self.soa_serial, other.soa_serial);

@@ -1,7 +1,7 @@
 use Rattle.std.proofs.Common.{◌∙◌, sym, arith}
 use Rattle.dns_fields.specs.Fields.{field_octets}
 use Rattle.dns_rdata_base.proofs.TextOrders.{texts_differ, texts_same, texts_end}
-use Rattle.dns_rdata_base.proofs.order.texts_cmp.Goals as goal
+use Rattle.dns_rdata_base.proofs.txt.texts_cmp.Goals as goal
 
 pub returns-then-is_ne : goal.returns-then-is_ne
 unfolding field_octets
