@@ -6,7 +6,7 @@ use Rattle.dns_types.specs.declared.record_type.RecordType.TheVariants as types
 use Rattle.dns_types.specs.declared.error.ParseError.TheVariants as parse
 use Rattle.dns_fields.specs.{Labels.DomainName, Fields.Kind, Fields.Values}
 use Rattle.dns_text.specs.TextWords.{TextWords, NoTextWords}
-use Rattle.dns_words.specs.{Taking.HoldsOfWords, Reads.UnlessMemory, Printed.cut, Printed.IsPrintedName}
+use Rattle.dns_words.specs.{Taking.HoldsOfWords, Reads.UnlessMemory, Printed.cut, Printed.IsPrintedName, Straight.straight_words, Straight.ArePrinted}
 use Rattle.dns_words.specs.Forms.{Row, word, number, name, ignored}
 use Rattle.dns_rdata_service.specs.declared.svcb.SVCB.{SVCB}
 use Rattle.dns_rdata_base.specs as base
@@ -39,21 +39,21 @@ pub data Reading : List Kind → Type 1 where
 abbrev pub reading_of : Option DomainName → (t : RecordType) → Reading (shape t)
 reading_of origin types.A = by base.WordRows.a_words
 reading_of origin types.AAAA = by base.WordRows.aaaa_words
-reading_of origin types.ANAME = by (base.WordRows.name_words origin)
+reading_of origin types.ANAME = by (straight_words origin base.NameRecords.name_shape)
 reading_of origin types.CAA = by sets.WordRows.caa_words
 reading_of origin types.CERT = by certs.WordRows.cert_words
-reading_of origin types.CNAME = by (base.WordRows.name_words origin)
+reading_of origin types.CNAME = by (straight_words origin base.NameRecords.name_shape)
 reading_of origin types.CSYNC = by sets.WordRows.csync_words
 reading_of origin types.HINFO = by base.WordRows.hinfo_words
 reading_of origin types.HTTPS = own HasHttpsWords
-reading_of origin types.MX = by (base.WordRows.mx_words origin)
+reading_of origin types.MX = by (straight_words origin base.MX.mx_shape)
 reading_of origin types.NAPTR = by (base.WordRows.naptr_words origin)
-reading_of origin types.NS = by (base.WordRows.name_words origin)
+reading_of origin types.NS = by (straight_words origin base.NameRecords.name_shape)
 reading_of origin types.OPENPGPKEY = by base.WordRows.openpgpkey_words
-reading_of origin types.PTR = by (base.WordRows.name_words origin)
+reading_of origin types.PTR = by (straight_words origin base.NameRecords.name_shape)
 reading_of origin types.SMIMEA = by certs.WordRows.smimea_words
 reading_of origin types.SOA = by (base.WordRows.soa_words origin)
-reading_of origin types.SRV = by (base.WordRows.srv_words origin)
+reading_of origin types.SRV = by (straight_words origin base.SRV.srv_shape)
 reading_of origin types.SSHFP = by certs.WordRows.sshfp_words
 reading_of origin types.SVCB = own HasSvcbWords
 reading_of origin types.TLSA = by certs.WordRows.tlsa_words
@@ -111,12 +111,12 @@ IsPrinted (rdata.A x) = IsIpv4Addr x.0
 IsPrinted (rdata.AAAA x) = IsIpv6Addr x.0
 IsPrinted (rdata.ANAME x) = IsPrintedName x.0
 IsPrinted (rdata.CNAME x) = IsPrintedName x.0
-IsPrinted (rdata.MX x) = base.WordRows.IsPrintedMx x
+IsPrinted (rdata.MX x) = ArePrinted base.MX.mx_shape (base.MX.mx_fields x)
 IsPrinted (rdata.NS x) = IsPrintedName x.0
 IsPrinted (rdata.PTR x) = IsPrintedName x.0
 IsPrinted (rdata.SMIMEA x) = certs.WordRows.IsPrintedTlsa x.0
 IsPrinted (rdata.SOA x) = base.WordRows.IsPrintedSoa x
-IsPrinted (rdata.SRV x) = base.WordRows.IsPrintedSrv x
+IsPrinted (rdata.SRV x) = ArePrinted base.SRV.srv_shape (base.SRV.srv_fields x)
 IsPrinted (rdata.SSHFP x) = certs.WordRows.IsPrintedSshfp x
 IsPrinted (rdata.TLSA x) = certs.WordRows.IsPrintedTlsa x
 IsPrinted v = ⊥

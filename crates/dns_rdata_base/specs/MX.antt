@@ -1,7 +1,6 @@
 -- MX: a mail exchange (RFC 1035, 3.3.9).
-use Rattle.std.specs.Prelude.{ℕ, List, [], ◌∷◌, ◌++◌, codes, decimal}
+use Rattle.std.specs.Prelude.{List, [], ◌∷◌}
 use Rattle.dns_fields.specs.Fields.{Kind, Number, Name, Values}
-use Rattle.dns_labels.specs.Text.{name_text}
 use Rattle.dns_names_wire.specs.Facts.{Facts}
 use Rattle.dns_rdata_base.specs.{Refusing.straight, declared.mx.MX.MX}
 
@@ -14,7 +13,3 @@ mx_fields x = (x.preference, (x.exchange, tt))
 
 abbrev pub mx_facts : Facts MX
 mx_facts = straight mx_shape mx_fields
-
--- the fields, a blank between
-abbrev pub mx_text : MX → List ℕ
-mx_text x = decimal x.preference ++ codes " " ++ name_text x.exchange

@@ -1,7 +1,6 @@
 -- SRV: a host of a service (RFC 2782).
-use Rattle.std.specs.Prelude.{ℕ, List, [], ◌∷◌, ◌++◌, codes, decimal}
+use Rattle.std.specs.Prelude.{List, [], ◌∷◌}
 use Rattle.dns_fields.specs.Fields.{Kind, Number, Name, Values}
-use Rattle.dns_labels.specs.Text.{name_text}
 use Rattle.dns_names_wire.specs.Facts.{Facts}
 use Rattle.dns_rdata_base.specs.{Refusing.straight, declared.srv.SRV.SRV}
 
@@ -21,7 +20,3 @@ srv_fields x = (x.priority, (x.weight, (x.port, (x.target, tt))))
 
 abbrev pub srv_facts : Facts SRV
 srv_facts = straight srv_shape srv_fields
-
--- the fields, a blank between
-abbrev pub srv_text : SRV → List ℕ
-srv_text x = decimal x.priority ++ codes " " ++ decimal x.weight ++ codes " " ++ decimal x.port ++ codes " " ++ name_text x.target

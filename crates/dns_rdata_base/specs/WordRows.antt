@@ -1,11 +1,11 @@
 -- The words of each record, and which values print in words that give them back.
-use Rattle.std.specs.Prelude.{◌≡◌, ℤ, pos, negsuc, ◌^◌, ◌<◌, ◌≤◌, Option}
+use Rattle.std.specs.Prelude.{◌≡◌, ℤ, pos, negsuc, ◌≤◌, Option}
 use Rattle.dns_fields.specs.{Labels.DomainName, Fields.Text}
 use Rattle.dns_words.specs.Forms.{Form, Row, word, ignored, nothing, every_text, number, ttl, name, base64, kept, ipv4, ipv6}
 use Rattle.dns_words.specs.Printed.{IsPrintedName}
-use Rattle.dns_rdata_base.specs.{A.a_shape, AAAA.aaaa_shape, NameRecords.name_shape, HINFO.hinfo_shape, MX.mx_shape, NAPTR.naptr_shape}
-use Rattle.dns_rdata_base.specs.{NAPTR.AreFlags, OPENPGPKEY.openpgpkey_shape, SOA.soa_shape, SOA.HasSeconds, SRV.srv_shape, TXT.txt_shape}
-use Rattle.dns_rdata_base.specs.{declared.mx.MX.MX, declared.srv.SRV.SRV, declared.soa.SOA.SOA}
+use Rattle.dns_rdata_base.specs.{A.a_shape, AAAA.aaaa_shape, HINFO.hinfo_shape, NAPTR.naptr_shape}
+use Rattle.dns_rdata_base.specs.{NAPTR.AreFlags, OPENPGPKEY.openpgpkey_shape, SOA.soa_shape, SOA.HasSeconds, TXT.txt_shape}
+use Rattle.dns_rdata_base.specs.{declared.soa.SOA.SOA}
 
 -- an address
 abbrev pub a_words : Row a_shape
@@ -13,18 +13,6 @@ a_words = word ipv4 ignored
 
 abbrev pub aaaa_words : Row aaaa_shape
 aaaa_words = word ipv6 ignored
-
--- a name, of ANAME, CNAME, NS and PTR
-abbrev pub name_words : Option DomainName → Row name_shape
-name_words origin = word (name origin) ignored
-
--- preference, exchange
-abbrev pub mx_words : Option DomainName → Row mx_shape
-mx_words origin = word (number 2) (word (name origin) ignored)
-
--- priority, weight, port, target
-abbrev pub srv_words : Option DomainName → Row srv_shape
-srv_words origin = word (number 2) (word (number 2) (word (number 2) (word (name origin) ignored)))
 
 -- mname, rname, serial, refresh, retry, expire, minimum
 abbrev pub soa_words : Option DomainName → Row soa_shape
@@ -51,16 +39,6 @@ abbrev pub openpgpkey_words : Row openpgpkey_shape
 openpgpkey_words = word base64 nothing
 
 -- ---- values whose printed words give them back
-
-pub record IsPrintedMx (x : MX) : Type 0 where
-  pub preference : x.preference < 2 ^ 16
-  pub exchange : IsPrintedName x.exchange
-
-pub record IsPrintedSrv (x : SRV) : Type 0 where
-  pub priority : x.priority < 2 ^ 16
-  pub weight : x.weight < 2 ^ 16
-  pub port : x.port < 2 ^ 16
-  pub target : IsPrintedName x.target
 
 -- a number of 32 bits that is not negative
 abbrev pub AreSeconds : ℤ → Type 0

@@ -2,7 +2,8 @@
 
 ghost use Rattle.std.specs.Prelude.{◌≡◌, Some};
 ghost use Rattle.dns_fields.specs.declared.RDataEncoding.TheVariants as modes;
-ghost use Rattle.dns_rdata_base.specs.MX.{mx_shape, mx_fields, mx_facts, mx_text};
+ghost use Rattle.dns_rdata_base.specs.MX.{mx_shape, mx_fields, mx_facts};
+ghost use Rattle.dns_words.specs.Straight.{straight_text};
 
 use dns_names_wire::{
     BinDecodable, BinDecoder, BinEncodable, BinEncoder, DecodeError, DecodesFields, EncodesFields,
@@ -60,7 +61,7 @@ impl EncodesFields for MX {
 }
 
 impl fmt::Display for MX {
-    ghost output = { λ x. Some (mx_text x) };
+    ghost output = { λ x. Some (straight_text mx_facts x) };
 
     /// The fields in order, a blank between.
     fn fmt<W: fmt::Write>(&self, f: &mut fmt::Formatter<W>) -> fmt::Result {

@@ -2,8 +2,8 @@
 
 ghost use Rattle.std.specs.Prelude.{◌≡◌, Some};
 ghost use Rattle.dns_fields.specs.declared.RDataEncoding.TheVariants as modes;
-ghost use Rattle.dns_rdata_base.specs.NameRecords.{name_shape, cname_fields, cname_facts, ns_fields, ns_facts, ptr_fields, ptr_facts, aname_fields};
-ghost use Rattle.dns_rdata_base.specs.NameRecords.{aname_facts, cname_text, ns_text, ptr_text, aname_text};
+ghost use Rattle.dns_rdata_base.specs.NameRecords.{name_shape, cname_fields, cname_facts, ns_fields, ns_facts, ptr_fields, ptr_facts, aname_fields, aname_facts};
+ghost use Rattle.dns_words.specs.Straight.{straight_text};
 
 use dns_names_wire::{
     BinDecodable, BinDecoder, BinEncodable, BinEncoder, DecodeError, DecodesFields, EncodesFields,
@@ -52,7 +52,7 @@ impl Deref for CNAME {
 }
 
 impl fmt::Display for CNAME {
-    ghost output = { λ x. Some (cname_text x) };
+    ghost output = { λ x. Some (straight_text cname_facts x) };
 
     /// The name.
     fn fmt<W: fmt::Write>(&self, f: &mut fmt::Formatter<W>) -> fmt::Result {
@@ -100,7 +100,7 @@ impl Deref for NS {
 }
 
 impl fmt::Display for NS {
-    ghost output = { λ x. Some (ns_text x) };
+    ghost output = { λ x. Some (straight_text ns_facts x) };
 
     /// The name.
     fn fmt<W: fmt::Write>(&self, f: &mut fmt::Formatter<W>) -> fmt::Result {
@@ -148,7 +148,7 @@ impl Deref for PTR {
 }
 
 impl fmt::Display for PTR {
-    ghost output = { λ x. Some (ptr_text x) };
+    ghost output = { λ x. Some (straight_text ptr_facts x) };
 
     /// The name.
     fn fmt<W: fmt::Write>(&self, f: &mut fmt::Formatter<W>) -> fmt::Result {
@@ -196,7 +196,7 @@ impl Deref for ANAME {
 }
 
 impl fmt::Display for ANAME {
-    ghost output = { λ x. Some (aname_text x) };
+    ghost output = { λ x. Some (straight_text aname_facts x) };
 
     /// The name.
     fn fmt<W: fmt::Write>(&self, f: &mut fmt::Formatter<W>) -> fmt::Result {

@@ -3,7 +3,8 @@
 ghost use Rattle.std.specs.Prelude.{◌≡◌, Some};
 ghost use Rattle.dns_fields.specs.declared.RDataEncoding.TheVariants as modes;
 ghost use Rattle.dns_names_wire.specs.{Words.Emits};
-ghost use Rattle.dns_rdata_base.specs.SRV.{srv_numbers_shape, srv_numbers, srv_shape, srv_fields, srv_facts, srv_text};
+ghost use Rattle.dns_rdata_base.specs.SRV.{srv_numbers_shape, srv_numbers, srv_shape, srv_fields, srv_facts};
+ghost use Rattle.dns_words.specs.Straight.{straight_text};
 
 use dns_names_wire::{
     BinDecodable, BinDecoder, BinEncodable, BinEncoder, DecodeError, DecodesFields, EncodesFields,
@@ -94,7 +95,7 @@ impl EncodesFields for SRV {
 }
 
 impl fmt::Display for SRV {
-    ghost output = { λ x. Some (srv_text x) };
+    ghost output = { λ x. Some (straight_text srv_facts x) };
 
     /// The fields in order, a blank between.
     fn fmt<W: fmt::Write>(&self, f: &mut fmt::Formatter<W>) -> fmt::Result {

@@ -16,7 +16,7 @@ use Rattle.dns_text.specs.Ttl.Periods.{plain}
 use Rattle.dns_names_wire.specs.NameValues.{completed}
 use Rattle.dns_words.specs.Forms.{Form, Row, word, ignored, nothing, number, ttl, name, ipv4, ipv6}
 use Rattle.dns_words.specs.Printed.{cut_from, cut, IsPrintedName}
-use Rattle.dns_words.specs.Straight.{field_form, field_text, IsPrintedField, straight_words, ArePrinted, field_texts, spaced_from, spaced}
+use Rattle.dns_words.specs.Straight.{straight_words, ArePrinted, field_texts, spaced_from, spaced}
 
 -- ---- words without blanks
 
@@ -179,15 +179,14 @@ ipv6_back a h = record { is = (a, IsColonHex-ipv6_text _ h.0 h.1, refl); solid =
 below : (w n k : ℕ) → n < 2 ^ w → w ≤ k → n < 2 ^ k
 below w n k h le = let up : 2 ^ w ≤ 2 ^ k = pow_mono le in omega arith
 
-field_back : (origin : Option DomainName) (k : Kind) (v : Value k) → IsPrintedField k v → GivesBack (field_form origin k) v (field_text k v)
-field_back origin (Number w) n h = number_back w n (below _ n (8 * w) h (omega arith)) (below _ n 64 h (omega arith))
-field_back origin Name x h = name_back x origin h
-field_back origin k v h = absurd h
-
 fields_back : (origin : Option DomainName) (kinds : List Kind) (vs : Values kinds) → ArePrinted kinds vs → GiveBack (straight_words origin kinds) vs (field_texts kinds vs)
 fields_back origin [] vs h = back_ignored
-fields_back origin (k ∷ kinds) vs h = back_word (field_back origin k vs.0 h.0) (fields_back origin kinds vs.1 h.1)
+fields_back origin (Number w ∷ kinds) vs h = back_word (number_back w vs.0 (below _ vs.0 (8 * w) h.0 (omega arith)) (below _ vs.0 64 h.0 (omega arith))) (fields_back origin kinds vs.1 h.1)
+fields_back origin (Name ∷ kinds) vs h = back_word (name_back vs.0 origin h.0) (fields_back origin kinds vs.1 h.1)
+fields_back origin kinds vs h = absurd h
 
 pub straight_back : (origin : Option DomainName) (kinds : List Kind) (vs : Values kinds) → ArePrinted kinds vs → (straight_words origin kinds).stand vs (cut (spaced (field_texts kinds vs)))
 straight_back origin [] vs h = tt
-straight_back origin (k ∷ kinds) vs h = row_back (straight_words origin (k ∷ kinds)) vs _ _ _ refl (fields_back origin (k ∷ kinds) vs h)
+straight_back origin (Number w ∷ kinds) vs h = row_back _ vs _ _ _ refl (fields_back origin (Number w ∷ kinds) vs h)
+straight_back origin (Name ∷ kinds) vs h = row_back _ vs _ _ _ refl (fields_back origin (Name ∷ kinds) vs h)
+straight_back origin kinds vs h = absurd h

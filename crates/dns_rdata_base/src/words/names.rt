@@ -1,9 +1,9 @@
 //! Words of records that a name ends.
 
 ghost use Rattle.std.specs.Option.{option_copied};
-ghost use Rattle.dns_rdata_base.specs.{MX.mx_fields, SRV.srv_fields, WordRows.name_words, WordRows.mx_words, WordRows.srv_words};
-ghost use Rattle.dns_rdata_base.specs.NameRecords.{aname_fields, cname_fields, ns_fields, ptr_fields};
-ghost use Rattle.dns_words.specs.Reads.{ReadsRow};
+ghost use Rattle.dns_rdata_base.specs.{MX.mx_shape, MX.mx_fields, SRV.srv_shape, SRV.srv_fields};
+ghost use Rattle.dns_rdata_base.specs.NameRecords.{name_shape, aname_fields, cname_fields, ns_fields, ptr_fields};
+ghost use Rattle.dns_words.specs.{Reads.ReadsRow, Straight.straight_words};
 
 use crate::mx::MX;
 use crate::name::{ANAME, CNAME, NS, PTR};
@@ -31,7 +31,7 @@ impl ANAME {
         origin: Option<&Name>,
     ) -> Result<ANAME, ParseError>
         requires can { I.can_next tokens }
-        ensures { ReadsRow I.next_gives S.text (name_words (option_copied origin.entry)) aname_fields result tokens }
+        ensures { ReadsRow I.next_gives S.text (straight_words (option_copied origin.entry) name_shape) aname_fields result tokens }
     {
         Ok(ANAME(next_name(alloc, &mut tokens, origin, "ANAME name")?))
     }
@@ -45,7 +45,7 @@ impl CNAME {
         origin: Option<&Name>,
     ) -> Result<CNAME, ParseError>
         requires can { I.can_next tokens }
-        ensures { ReadsRow I.next_gives S.text (name_words (option_copied origin.entry)) cname_fields result tokens }
+        ensures { ReadsRow I.next_gives S.text (straight_words (option_copied origin.entry) name_shape) cname_fields result tokens }
     {
         Ok(CNAME(next_name(alloc, &mut tokens, origin, "CNAME name")?))
     }
@@ -59,7 +59,7 @@ impl NS {
         origin: Option<&Name>,
     ) -> Result<NS, ParseError>
         requires can { I.can_next tokens }
-        ensures { ReadsRow I.next_gives S.text (name_words (option_copied origin.entry)) ns_fields result tokens }
+        ensures { ReadsRow I.next_gives S.text (straight_words (option_copied origin.entry) name_shape) ns_fields result tokens }
     {
         Ok(NS(next_name(alloc, &mut tokens, origin, "NS name")?))
     }
@@ -73,7 +73,7 @@ impl PTR {
         origin: Option<&Name>,
     ) -> Result<PTR, ParseError>
         requires can { I.can_next tokens }
-        ensures { ReadsRow I.next_gives S.text (name_words (option_copied origin.entry)) ptr_fields result tokens }
+        ensures { ReadsRow I.next_gives S.text (straight_words (option_copied origin.entry) name_shape) ptr_fields result tokens }
     {
         Ok(PTR(next_name(alloc, &mut tokens, origin, "PTR name")?))
     }
@@ -90,7 +90,7 @@ impl MX {
         origin: Option<&Name>,
     ) -> Result<MX, ParseError>
         requires can { I.can_next tokens }
-        ensures { ReadsRow I.next_gives S.text (mx_words (option_copied origin.entry)) mx_fields result tokens }
+        ensures { ReadsRow I.next_gives S.text (straight_words (option_copied origin.entry) mx_shape) mx_fields result tokens }
     {
         let preference = next_u16(&mut tokens, MX_PREFERENCE)?;
         let exchange = next_name(alloc, &mut tokens, origin, "MX exchange")?;
@@ -107,7 +107,7 @@ impl SRV {
         origin: Option<&Name>,
     ) -> Result<SRV, ParseError>
         requires can { I.can_next tokens }
-        ensures { ReadsRow I.next_gives S.text (srv_words (option_copied origin.entry)) srv_fields result tokens }
+        ensures { ReadsRow I.next_gives S.text (straight_words (option_copied origin.entry) srv_shape) srv_fields result tokens }
     {
         let priority = next_u16(&mut tokens, SRV_PRIORITY)?;
         let weight = next_u16(&mut tokens, SRV_WEIGHT)?;
