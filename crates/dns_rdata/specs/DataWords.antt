@@ -37,27 +37,27 @@ pub data Reading : List Kind → Type 1 where
 
 -- the words of each type; of ZERO no word is read, and of a type that isn't named here no words are
 abbrev pub reading_of : Option DomainName → (t : RecordType) → Reading (shape t)
-reading_of origin types.A = by base.WordRows.a_words
-reading_of origin types.AAAA = by base.WordRows.aaaa_words
+reading_of origin types.A = by base.A.a_words
+reading_of origin types.AAAA = by base.AAAA.aaaa_words
 reading_of origin types.ANAME = by (straight_words origin base.NameRecords.name_shape)
 reading_of origin types.CAA = by sets.WordRows.caa_words
 reading_of origin types.CERT = by certs.WordRows.cert_words
 reading_of origin types.CNAME = by (straight_words origin base.NameRecords.name_shape)
 reading_of origin types.CSYNC = by sets.WordRows.csync_words
-reading_of origin types.HINFO = by base.WordRows.hinfo_words
+reading_of origin types.HINFO = by base.HINFO.hinfo_words
 reading_of origin types.HTTPS = own HasHttpsWords
 reading_of origin types.MX = by (straight_words origin base.MX.mx_shape)
-reading_of origin types.NAPTR = by (base.WordRows.naptr_words origin)
+reading_of origin types.NAPTR = by (base.NAPTR.naptr_words origin)
 reading_of origin types.NS = by (straight_words origin base.NameRecords.name_shape)
-reading_of origin types.OPENPGPKEY = by base.WordRows.openpgpkey_words
+reading_of origin types.OPENPGPKEY = by base.OPENPGPKEY.openpgpkey_words
 reading_of origin types.PTR = by (straight_words origin base.NameRecords.name_shape)
 reading_of origin types.SMIMEA = by certs.WordRows.smimea_words
-reading_of origin types.SOA = by (base.WordRows.soa_words origin)
+reading_of origin types.SOA = by (base.SOA.soa_words origin)
 reading_of origin types.SRV = by (straight_words origin base.SRV.srv_shape)
 reading_of origin types.SSHFP = by certs.WordRows.sshfp_words
 reading_of origin types.SVCB = own HasSvcbWords
 reading_of origin types.TLSA = by certs.WordRows.tlsa_words
-reading_of origin types.TXT = by base.WordRows.txt_words
+reading_of origin types.TXT = by base.TXT.txt_words
 reading_of origin types.ZERO = by ignored
 reading_of origin t = refused
 
@@ -115,7 +115,7 @@ IsPrinted (rdata.MX x) = ArePrinted base.MX.mx_shape (base.MX.mx_fields x)
 IsPrinted (rdata.NS x) = IsPrintedName x.0
 IsPrinted (rdata.PTR x) = IsPrintedName x.0
 IsPrinted (rdata.SMIMEA x) = certs.WordRows.IsPrintedTlsa x.0
-IsPrinted (rdata.SOA x) = base.WordRows.IsPrintedSoa x
+IsPrinted (rdata.SOA x) = base.SOA.IsPrintedSoa x
 IsPrinted (rdata.SRV x) = ArePrinted base.SRV.srv_shape (base.SRV.srv_fields x)
 IsPrinted (rdata.SSHFP x) = certs.WordRows.IsPrintedSshfp x
 IsPrinted (rdata.TLSA x) = certs.WordRows.IsPrintedTlsa x

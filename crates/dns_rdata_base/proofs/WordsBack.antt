@@ -4,9 +4,8 @@ use Rattle.std.specs.{Fmt.signed_decimal, Int.cast_unsigned, Int.w32, Net.Addr.I
 use Rattle.dns_fields.specs.Labels.{DomainName}
 use Rattle.dns_words.specs.{Forms.ttl, Printed.ReadsBack}
 use Rattle.dns_words.proofs.Printed.{GivesBack, row_back, back_word, back_ignored, ttl_back, name_back, ipv4_back, ipv6_back}
-use Rattle.dns_rdata_base.specs.{A.a_fields, A.a_text, AAAA.aaaa_fields, AAAA.aaaa_text}
-use Rattle.dns_rdata_base.specs.{SOA.soa_fields, SOA.soa_text}
-use Rattle.dns_rdata_base.specs.WordRows.{a_words, aaaa_words, soa_words, IsPrintedSoa, AreSeconds}
+use Rattle.dns_rdata_base.specs.{A.a_fields, A.a_text, A.a_words, AAAA.aaaa_fields, AAAA.aaaa_text, AAAA.aaaa_words}
+use Rattle.dns_rdata_base.specs.SOA.{soa_fields, soa_text, soa_words, AreSeconds, IsPrintedSoa}
 
 pub a_back : ReadsBack a_words a_fields a_text (λ x. IsIpv4Addr x.0)
 a_back = record { back = λ x h. row_back a_words (a_fields x) _ [] _ refl (back_word (ipv4_back x.0 h) back_ignored) }

@@ -16,4 +16,3 @@ pub mod SRV
 pub mod TXT
 pub mod Taking
 pub mod Steps
-pub mod WordRows

@@ -1,5 +1,5 @@
 //! The data of DNS records without certificates: addresses, names, strings and plain octets.
-#![tactic(auto)]
+#![tactic(auto, using(dns_words::proofs::Steps::reading))]
 
 pub mod a;
 pub mod aaaa;
@@ -17,7 +17,6 @@ pub mod srv;
 pub mod steps;
 pub mod traits;
 pub mod txt;
-mod words;
 
 pub use a::A;
 pub use aaaa::AAAA;

@@ -1,20 +1,37 @@
 //! Records of one name: CNAME, NS, PTR (RFC 1035, 3.3) and ANAME.
 
-ghost use Rattle.std.specs.Prelude.{◌≡◌, Some};
+ghost use Rattle.std.specs.{Prelude.◌≡◌, Prelude.Some, Option.option_copied};
 ghost use Rattle.dns_fields.specs.declared.RDataEncoding.TheVariants as modes;
 ghost use Rattle.dns_rdata_base.specs.NameRecords.{name_shape, cname_fields, cname_facts, ns_fields, ns_facts, ptr_fields, ptr_facts, aname_fields, aname_facts};
-ghost use Rattle.dns_words.specs.Straight.{straight_text};
+ghost use Rattle.dns_words.specs.{Reads.ReadsRow, Straight.straight_words, Straight.straight_text};
 
 use dns_names_wire::{
     BinDecodable, BinDecoder, BinEncodable, BinEncoder, DecodeError, DecodesFields, EncodesFields,
-    Name, ProtoError, RDataEncoding, Record,
+    Name, ParseError, ProtoError, RDataEncoding, Record,
 };
+use dns_words::next_name;
+use std::alloc::Global;
+use std::convert::AsStr;
 use std::fmt;
 use std::ops::Deref;
 
 /// The canonical name of an alias: a name to the end (RFC 1035, 3.3.1).
 #[derive(Clone, Debug, Drop, Eq, Hash, PartialEq)]
 pub struct CNAME(pub Name);
+
+impl CNAME {
+    /// From one word, the name, as `ANAME::from_tokens`.
+    pub fn from_tokens<S: AsStr + Drop, I: Iterator<Item = S>>(
+        alloc: Global,
+        mut tokens: I,
+        origin: Option<&Name>,
+    ) -> Result<CNAME, ParseError>
+        requires can { I.can_next tokens }
+        ensures { ReadsRow I.next_gives S.text (straight_words (option_copied origin.entry) name_shape) cname_fields result tokens }
+    {
+        Ok(CNAME(next_name(alloc, &mut tokens, origin, "CNAME name")?))
+    }
+}
 
 impl Record for CNAME {
     ghost facts = { cname_facts };
@@ -64,6 +81,20 @@ impl fmt::Display for CNAME {
 #[derive(Clone, Debug, Drop, Eq, Hash, PartialEq)]
 pub struct NS(pub Name);
 
+impl NS {
+    /// From one word, the name, as `ANAME::from_tokens`.
+    pub fn from_tokens<S: AsStr + Drop, I: Iterator<Item = S>>(
+        alloc: Global,
+        mut tokens: I,
+        origin: Option<&Name>,
+    ) -> Result<NS, ParseError>
+        requires can { I.can_next tokens }
+        ensures { ReadsRow I.next_gives S.text (straight_words (option_copied origin.entry) name_shape) ns_fields result tokens }
+    {
+        Ok(NS(next_name(alloc, &mut tokens, origin, "NS name")?))
+    }
+}
+
 impl Record for NS {
     ghost facts = { ns_facts };
 }
@@ -112,6 +143,20 @@ impl fmt::Display for NS {
 #[derive(Clone, Debug, Drop, Eq, Hash, PartialEq)]
 pub struct PTR(pub Name);
 
+impl PTR {
+    /// From one word, the name, as `ANAME::from_tokens`.
+    pub fn from_tokens<S: AsStr + Drop, I: Iterator<Item = S>>(
+        alloc: Global,
+        mut tokens: I,
+        origin: Option<&Name>,
+    ) -> Result<PTR, ParseError>
+        requires can { I.can_next tokens }
+        ensures { ReadsRow I.next_gives S.text (straight_words (option_copied origin.entry) name_shape) ptr_fields result tokens }
+    {
+        Ok(PTR(next_name(alloc, &mut tokens, origin, "PTR name")?))
+    }
+}
+
 impl Record for PTR {
     ghost facts = { ptr_facts };
 }
@@ -159,6 +204,22 @@ impl fmt::Display for PTR {
 /// The name whose addresses the owner has: a name to the end (draft-ietf-dnsop-aname).
 #[derive(Clone, Debug, Drop, Eq, Hash, PartialEq)]
 pub struct ANAME(pub Name);
+
+impl ANAME {
+    /// From one word, the text of a name, which the origin completes. Further words are not read. Refused by
+    /// [`MissingToken`](ParseError::MissingToken), [`Proto`](ParseError::Proto) (no name) or
+    /// [`Memory`](ParseError::Memory).
+    pub fn from_tokens<S: AsStr + Drop, I: Iterator<Item = S>>(
+        alloc: Global,
+        mut tokens: I,
+        origin: Option<&Name>,
+    ) -> Result<ANAME, ParseError>
+        requires can { I.can_next tokens }
+        ensures { ReadsRow I.next_gives S.text (straight_words (option_copied origin.entry) name_shape) aname_fields result tokens }
+    {
+        Ok(ANAME(next_name(alloc, &mut tokens, origin, "ANAME name")?))
+    }
+}
 
 impl Record for ANAME {
     ghost facts = { aname_facts };

@@ -1,15 +1,18 @@
 //! SRV: a host of a service (RFC 2782).
 
-ghost use Rattle.std.specs.Prelude.{◌≡◌, Some};
+ghost use Rattle.std.specs.{Prelude.◌≡◌, Prelude.Some, Option.option_copied};
 ghost use Rattle.dns_fields.specs.declared.RDataEncoding.TheVariants as modes;
 ghost use Rattle.dns_names_wire.specs.{Words.Emits};
 ghost use Rattle.dns_rdata_base.specs.SRV.{srv_numbers_shape, srv_numbers, srv_shape, srv_fields, srv_facts};
-ghost use Rattle.dns_words.specs.Straight.{straight_text};
+ghost use Rattle.dns_words.specs.{Reads.ReadsRow, Straight.straight_words, Straight.straight_text};
 
 use dns_names_wire::{
     BinDecodable, BinDecoder, BinEncodable, BinEncoder, DecodeError, DecodesFields, EncodesFields,
-    Name, ProtoError, RDataEncoding, Record,
+    Name, ParseError, ProtoError, RDataEncoding, Record,
 };
+use dns_words::{next_name, next_u16, number_field};
+use std::alloc::Global;
+use std::convert::AsStr;
 use std::fmt;
 
 /// A host and port of a service: priority, weight and port of two octets each, and a name (RFC 2782).
@@ -36,6 +39,28 @@ impl SRV {
             port,
             target,
         }
+    }
+
+    /// From four words: priority, weight and port, decimal numbers of 16 bits, and target, a name. Further words are
+    /// not read. Refused as `MX::from_tokens`.
+    pub fn from_tokens<S: AsStr + Drop, I: Iterator<Item = S>>(
+        alloc: Global,
+        mut tokens: I,
+        origin: Option<&Name>,
+    ) -> Result<SRV, ParseError>
+        requires can { I.can_next tokens }
+        ensures { ReadsRow I.next_gives S.text (straight_words (option_copied origin.entry) srv_shape) srv_fields result tokens }
+    {
+        let priority = next_u16(&mut tokens, number_field!("SRV priority"))?;
+        let weight = next_u16(&mut tokens, number_field!("SRV weight"))?;
+        let port = next_u16(&mut tokens, number_field!("SRV port"))?;
+        let target = next_name(alloc, &mut tokens, origin, "SRV target")?;
+        Ok(SRV {
+            priority,
+            weight,
+            port,
+            target,
+        })
     }
 }
 
