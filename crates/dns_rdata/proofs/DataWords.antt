@@ -13,10 +13,11 @@ use Rattle.dns_words.specs.Reads.{UnlessMemory, Decides, TookWords, RefusedWords
 use Rattle.dns_fields.specs.{Labels.DomainName, Fields.Values}
 use Rattle.dns_rdata_service.specs.{SVCB.svcb_shape, SVCB.svcb_fields, declared.svcb.SVCB.SVCB}
 use Rattle.dns_rdata_service.specs.WordRows.{AreWordsOf, svcb_words as service_words}
-use Rattle.dns_words.proofs.Steps.{holds_map, holds_all, unless_map}
-use Rattle.dns_rdata_base.specs.{NameRecords.name_fields, A.a_fields, AAAA.aaaa_fields, MX.mx_fields, SOA.soa_fields, SRV.srv_fields}
+use Rattle.dns_words.proofs.{Printed.straight_back, Steps.holds_map, Steps.holds_all, Steps.unless_map}
+use Rattle.dns_rdata_base.specs.{NameRecords.name_shape, NameRecords.name_fields, NameRecords.mx_facts, NameRecords.srv_facts, A.a_fields, AAAA.aaaa_fields}
+use Rattle.dns_rdata_base.specs.SOA.{soa_fields}
 use Rattle.dns_rdata_certs.specs.{SSHFP.sshfp_fields, TLSA.tlsa_fields}
-use Rattle.dns_rdata_base.proofs.WordsBack.{a_back, aaaa_back, one_name_back, mx_back, srv_back, soa_back}
+use Rattle.dns_rdata_base.proofs.WordsBack.{a_back, aaaa_back, soa_back}
 use Rattle.dns_rdata_certs.proofs.WordsBack.{sshfp_back, tlsa_back}
 use Rattle.dns_rdata.specs.{declared.record_data.RData.RData, Data.shape, Data.IsValue, Data.type_of, Texts.text_of}
 use Rattle.dns_rdata.specs.DataWords.{StandIn, AreSvcbWords, HasSvcbWords, HasHttpsWords, HasNoWords, AreDataWords, TookDataWords, RefusedDataWords}
@@ -96,14 +97,14 @@ module _ {S I : Type 0} {gives : I → Option S → I → Type 0} {text : S → 
 back_of : (origin : Option DomainName) (v : RData) → IsPrinted v → AreDataWords origin (type_of v) v (cut (text_of v))
 back_of origin (rdata.A x) h = record { values = a_fields x; stand = a_back.back x h; value = record { type = refl; fields = refl; plain = tt } }
 back_of origin (rdata.AAAA x) h = record { values = aaaa_fields x; stand = aaaa_back.back x h; value = record { type = refl; fields = refl; plain = tt } }
-back_of origin (rdata.ANAME x) h = record { values = name_fields x.0; stand = (one_name_back origin).back x.0 h; value = record { type = refl; fields = refl; plain = tt } }
-back_of origin (rdata.CNAME x) h = record { values = name_fields x.0; stand = (one_name_back origin).back x.0 h; value = record { type = refl; fields = refl; plain = tt } }
-back_of origin (rdata.NS x) h = record { values = name_fields x.0; stand = (one_name_back origin).back x.0 h; value = record { type = refl; fields = refl; plain = tt } }
-back_of origin (rdata.PTR x) h = record { values = name_fields x.0; stand = (one_name_back origin).back x.0 h; value = record { type = refl; fields = refl; plain = tt } }
-back_of origin (rdata.MX x) h = record { values = mx_fields x; stand = (mx_back origin).back x h; value = record { type = refl; fields = refl; plain = tt } }
+back_of origin (rdata.ANAME x) h = record { values = name_fields x.0; stand = straight_back origin name_shape (name_fields x.0) (h, tt); value = record { type = refl; fields = refl; plain = tt } }
+back_of origin (rdata.CNAME x) h = record { values = name_fields x.0; stand = straight_back origin name_shape (name_fields x.0) (h, tt); value = record { type = refl; fields = refl; plain = tt } }
+back_of origin (rdata.NS x) h = record { values = name_fields x.0; stand = straight_back origin name_shape (name_fields x.0) (h, tt); value = record { type = refl; fields = refl; plain = tt } }
+back_of origin (rdata.PTR x) h = record { values = name_fields x.0; stand = straight_back origin name_shape (name_fields x.0) (h, tt); value = record { type = refl; fields = refl; plain = tt } }
+back_of origin (rdata.MX x) h = record { values = mx_facts.fields x; stand = straight_back origin mx_facts.kinds (mx_facts.fields x) h; value = record { type = refl; fields = refl; plain = tt } }
 back_of origin (rdata.SMIMEA x) h = record { values = tlsa_fields x.0; stand = tlsa_back.back x.0 h; value = record { type = refl; fields = refl; plain = h.enums } }
 back_of origin (rdata.SOA x) h = record { values = soa_fields x; stand = (soa_back origin).back x h; value = record { type = refl; fields = refl; plain = h.seconds } }
-back_of origin (rdata.SRV x) h = record { values = srv_fields x; stand = (srv_back origin).back x h; value = record { type = refl; fields = refl; plain = tt } }
+back_of origin (rdata.SRV x) h = record { values = srv_facts.fields x; stand = straight_back origin srv_facts.kinds (srv_facts.fields x) h; value = record { type = refl; fields = refl; plain = tt } }
 back_of origin (rdata.SSHFP x) h = record { values = sshfp_fields x; stand = sshfp_back.back x h; value = record { type = refl; fields = refl; plain = h.enums } }
 back_of origin (rdata.TLSA x) h = record { values = tlsa_fields x; stand = tlsa_back.back x h; value = record { type = refl; fields = refl; plain = h.enums } }
 back_of origin v h = absurd h

@@ -8,6 +8,7 @@ use Rattle.dns_types.specs.declared.record_type.RecordType.TheVariants as types
 use Rattle.dns_types.specs.declared.error.DecodeError.TheVariants as decode
 use Rattle.dns_names_wire.specs.{Facts.Facts, State.Reading, State.Writing, Words.EmitsAs, Words.LacksOctets}
 use Rattle.dns_names_wire.specs.Words.{NoWindow, StaysBehind, UnlessMemory, Window}
+use Rattle.dns_words.specs.Straight.{straight_text}
 use Rattle.dns_rdata_base.specs as base
 use Rattle.dns_rdata_certs.specs as certs
 use Rattle.dns_rdata_options.specs as options
@@ -43,7 +44,7 @@ row_of types.CNAME = row_by base.NameRecords.cname_facts
 row_of types.CSYNC = row_by sets.CSYNC.csync_facts
 row_of types.HINFO = row_by base.HINFO.hinfo_facts
 row_of types.HTTPS = row_by service.HTTPS.https_facts
-row_of types.MX = row_by base.MX.mx_facts
+row_of types.MX = row_by base.NameRecords.mx_facts
 row_of types.NAPTR = row_by base.NAPTR.naptr_facts
 row_of types.NULL = row base.NULL.null_shape (λ vs. Unit {0}) IsShortRefusal
 row_of types.NS = row_by base.NameRecords.ns_facts
@@ -52,7 +53,7 @@ row_of types.OPT = row_by options.OPT.opt_facts
 row_of types.PTR = row_by base.NameRecords.ptr_facts
 row_of types.SMIMEA = row_by certs.SMIMEA.smimea_facts
 row_of types.SOA = row_by base.SOA.soa_facts
-row_of types.SRV = row_by base.SRV.srv_facts
+row_of types.SRV = row_by base.NameRecords.srv_facts
 row_of types.SSHFP = row_by certs.SSHFP.sshfp_facts
 row_of types.SVCB = row_by service.SVCB.svcb_facts
 row_of types.TLSA = row_by certs.TLSA.tlsa_facts
@@ -115,23 +116,23 @@ pub data Held : Type 1 where
 abbrev pub held : RData → Held
 held (rdata.A x) = holds 0 types.A base.A.a_facts base.A.a_text base.contracts.a.AHash.TheImpl.ghosts.hash_input x
 held (rdata.AAAA x) = holds 1 types.AAAA base.AAAA.aaaa_facts base.AAAA.aaaa_text base.contracts.aaaa.AAAAHash.TheImpl.ghosts.hash_input x
-held (rdata.ANAME x) = holds 2 types.ANAME base.NameRecords.aname_facts base.NameRecords.aname_text base.contracts.name.ANAMEHash.TheImpl.ghosts.hash_input x
+held (rdata.ANAME x) = holds 2 types.ANAME base.NameRecords.aname_facts (straight_text base.NameRecords.aname_facts) base.contracts.name.ANAMEHash.TheImpl.ghosts.hash_input x
 held (rdata.CAA x) = holds 3 types.CAA sets.CAA.caa_facts sets.CAA.caa_text sets.contracts.caa.CAAHash.TheImpl.ghosts.hash_input x
 held (rdata.CERT x) = holds 4 types.CERT certs.CERT.cert_facts certs.CERT.cert_text certs.contracts.cert.CERTHash.TheImpl.ghosts.hash_input x
-held (rdata.CNAME x) = holds 5 types.CNAME base.NameRecords.cname_facts base.NameRecords.cname_text base.contracts.name.CNAMEHash.TheImpl.ghosts.hash_input x
+held (rdata.CNAME x) = holds 5 types.CNAME base.NameRecords.cname_facts (straight_text base.NameRecords.cname_facts) base.contracts.name.CNAMEHash.TheImpl.ghosts.hash_input x
 held (rdata.CSYNC x) = holds 6 types.CSYNC sets.CSYNC.csync_facts sets.CSYNC.csync_text sets.contracts.csync.CSYNCHash.TheImpl.ghosts.hash_input x
 held (rdata.HINFO x) = holds 7 types.HINFO base.HINFO.hinfo_facts base.HINFO.hinfo_text base.contracts.hinfo.HINFOHash.TheImpl.ghosts.hash_input x
 held (rdata.HTTPS x) = holds 8 types.HTTPS service.HTTPS.https_facts service.HTTPS.https_text service.contracts.https.HTTPSHash.TheImpl.ghosts.hash_input x
-held (rdata.MX x) = holds 9 types.MX base.MX.mx_facts base.MX.mx_text base.contracts.mx.MXHash.TheImpl.ghosts.hash_input x
+held (rdata.MX x) = holds 9 types.MX base.NameRecords.mx_facts (straight_text base.NameRecords.mx_facts) base.contracts.mx.MXHash.TheImpl.ghosts.hash_input x
 held (rdata.NAPTR x) = holds 10 types.NAPTR base.NAPTR.naptr_facts base.NAPTR.naptr_text base.contracts.naptr.NAPTRHash.TheImpl.ghosts.hash_input x
 held (rdata.NULL x) = holds 11 types.NULL base.NULL.null_facts base.NULL.null_text base.contracts.null.NULLHash.TheImpl.ghosts.hash_input x
-held (rdata.NS x) = holds 12 types.NS base.NameRecords.ns_facts base.NameRecords.ns_text base.contracts.name.NSHash.TheImpl.ghosts.hash_input x
+held (rdata.NS x) = holds 12 types.NS base.NameRecords.ns_facts (straight_text base.NameRecords.ns_facts) base.contracts.name.NSHash.TheImpl.ghosts.hash_input x
 held (rdata.OPENPGPKEY x) = holds 13 types.OPENPGPKEY base.OPENPGPKEY.openpgpkey_facts base.OPENPGPKEY.openpgpkey_text base.contracts.openpgpkey.OPENPGPKEYHash.TheImpl.ghosts.hash_input x
 held (rdata.OPT x) = holds 14 types.OPT options.OPT.opt_facts (λ x. []) options.contracts.opt.OPTHash.TheImpl.ghosts.hash_input x
-held (rdata.PTR x) = holds 15 types.PTR base.NameRecords.ptr_facts base.NameRecords.ptr_text base.contracts.name.PTRHash.TheImpl.ghosts.hash_input x
+held (rdata.PTR x) = holds 15 types.PTR base.NameRecords.ptr_facts (straight_text base.NameRecords.ptr_facts) base.contracts.name.PTRHash.TheImpl.ghosts.hash_input x
 held (rdata.SMIMEA x) = holds 16 types.SMIMEA certs.SMIMEA.smimea_facts certs.SMIMEA.smimea_text certs.contracts.smimea.SMIMEAHash.TheImpl.ghosts.hash_input x
 held (rdata.SOA x) = holds 17 types.SOA base.SOA.soa_facts base.SOA.soa_text base.contracts.soa.SOAHash.TheImpl.ghosts.hash_input x
-held (rdata.SRV x) = holds 18 types.SRV base.SRV.srv_facts base.SRV.srv_text base.contracts.srv.SRVHash.TheImpl.ghosts.hash_input x
+held (rdata.SRV x) = holds 18 types.SRV base.NameRecords.srv_facts (straight_text base.NameRecords.srv_facts) base.contracts.srv.SRVHash.TheImpl.ghosts.hash_input x
 held (rdata.SSHFP x) = holds 19 types.SSHFP certs.SSHFP.sshfp_facts certs.SSHFP.sshfp_text certs.contracts.sshfp.SSHFPHash.TheImpl.ghosts.hash_input x
 held (rdata.SVCB x) = holds 20 types.SVCB service.SVCB.svcb_facts service.SVCB.svcb_text service.contracts.svcb.SVCBHash.TheImpl.ghosts.hash_input x
 held (rdata.TLSA x) = holds 21 types.TLSA certs.TLSA.tlsa_facts certs.TLSA.tlsa_text certs.contracts.tlsa.TLSAHash.TheImpl.ghosts.hash_input x

@@ -6,7 +6,7 @@ use Rattle.dns_types.specs.declared.record_type.RecordType.TheVariants as types
 use Rattle.dns_types.specs.declared.error.ParseError.TheVariants as parse
 use Rattle.dns_fields.specs.{Labels.DomainName, Fields.Kind, Fields.Values}
 use Rattle.dns_text.specs.TextWords.{TextWords, NoTextWords}
-use Rattle.dns_words.specs.{Taking.HoldsOfWords, Reads.UnlessMemory, Printed.cut, Printed.IsPrintedName}
+use Rattle.dns_words.specs.{Taking.HoldsOfWords, Reads.UnlessMemory, Printed.cut, Printed.IsPrintedName, Straight.straight_words, Straight.ArePrinted}
 use Rattle.dns_words.specs.Forms.{Row, word, number, name, ignored}
 use Rattle.dns_rdata_service.specs.declared.svcb.SVCB.{SVCB}
 use Rattle.dns_rdata_base.specs as base
@@ -37,27 +37,27 @@ pub data Reading : List Kind → Type 1 where
 
 -- the words of each type; of ZERO no word is read, and of a type that isn't named here no words are
 abbrev pub reading_of : Option DomainName → (t : RecordType) → Reading (shape t)
-reading_of origin types.A = by base.WordRows.a_words
-reading_of origin types.AAAA = by base.WordRows.aaaa_words
-reading_of origin types.ANAME = by (base.WordRows.name_words origin)
+reading_of origin types.A = by base.A.a_words
+reading_of origin types.AAAA = by base.AAAA.aaaa_words
+reading_of origin types.ANAME = by (straight_words origin base.NameRecords.name_shape)
 reading_of origin types.CAA = by sets.WordRows.caa_words
 reading_of origin types.CERT = by certs.WordRows.cert_words
-reading_of origin types.CNAME = by (base.WordRows.name_words origin)
+reading_of origin types.CNAME = by (straight_words origin base.NameRecords.name_shape)
 reading_of origin types.CSYNC = by sets.WordRows.csync_words
-reading_of origin types.HINFO = by base.WordRows.hinfo_words
+reading_of origin types.HINFO = by base.HINFO.hinfo_words
 reading_of origin types.HTTPS = own HasHttpsWords
-reading_of origin types.MX = by (base.WordRows.mx_words origin)
-reading_of origin types.NAPTR = by (base.WordRows.naptr_words origin)
-reading_of origin types.NS = by (base.WordRows.name_words origin)
-reading_of origin types.OPENPGPKEY = by base.WordRows.openpgpkey_words
-reading_of origin types.PTR = by (base.WordRows.name_words origin)
+reading_of origin types.MX = by (straight_words origin base.NameRecords.mx_facts.kinds)
+reading_of origin types.NAPTR = by (base.NAPTR.naptr_words origin)
+reading_of origin types.NS = by (straight_words origin base.NameRecords.name_shape)
+reading_of origin types.OPENPGPKEY = by base.OPENPGPKEY.openpgpkey_words
+reading_of origin types.PTR = by (straight_words origin base.NameRecords.name_shape)
 reading_of origin types.SMIMEA = by certs.WordRows.smimea_words
-reading_of origin types.SOA = by (base.WordRows.soa_words origin)
-reading_of origin types.SRV = by (base.WordRows.srv_words origin)
+reading_of origin types.SOA = by (base.SOA.soa_words origin)
+reading_of origin types.SRV = by (straight_words origin base.NameRecords.srv_facts.kinds)
 reading_of origin types.SSHFP = by certs.WordRows.sshfp_words
 reading_of origin types.SVCB = own HasSvcbWords
 reading_of origin types.TLSA = by certs.WordRows.tlsa_words
-reading_of origin types.TXT = by base.WordRows.txt_words
+reading_of origin types.TXT = by base.TXT.txt_words
 reading_of origin types.ZERO = by ignored
 reading_of origin t = refused
 
@@ -111,12 +111,12 @@ IsPrinted (rdata.A x) = IsIpv4Addr x.0
 IsPrinted (rdata.AAAA x) = IsIpv6Addr x.0
 IsPrinted (rdata.ANAME x) = IsPrintedName x.0
 IsPrinted (rdata.CNAME x) = IsPrintedName x.0
-IsPrinted (rdata.MX x) = base.WordRows.IsPrintedMx x
+IsPrinted (rdata.MX x) = ArePrinted base.NameRecords.mx_facts.kinds (base.NameRecords.mx_facts.fields x)
 IsPrinted (rdata.NS x) = IsPrintedName x.0
 IsPrinted (rdata.PTR x) = IsPrintedName x.0
 IsPrinted (rdata.SMIMEA x) = certs.WordRows.IsPrintedTlsa x.0
-IsPrinted (rdata.SOA x) = base.WordRows.IsPrintedSoa x
-IsPrinted (rdata.SRV x) = base.WordRows.IsPrintedSrv x
+IsPrinted (rdata.SOA x) = base.SOA.IsPrintedSoa x
+IsPrinted (rdata.SRV x) = ArePrinted base.NameRecords.srv_facts.kinds (base.NameRecords.srv_facts.fields x)
 IsPrinted (rdata.SSHFP x) = certs.WordRows.IsPrintedSshfp x
 IsPrinted (rdata.TLSA x) = certs.WordRows.IsPrintedTlsa x
 IsPrinted v = ⊥

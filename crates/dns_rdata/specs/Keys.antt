@@ -26,7 +26,7 @@ rows =
     fields certs.TLSA.tlsa_key_shape (elim [ rdata.TLSA x ↦ Some (certs.TLSA.tlsa_keys x) | v ↦ None ]) ∷
     fields service.SVCB.svcb_key_shape (elim [ rdata.SVCB x ↦ Some (service.SVCB.svcb_keys x) | v ↦ None ]) ∷
     fields certs.SSHFP.sshfp_key_shape (elim [ rdata.SSHFP x ↦ Some (certs.SSHFP.sshfp_keys x) | v ↦ None ]) ∷
-    fields base.SRV.srv_shape (elim [ rdata.SRV x ↦ Some (base.SRV.srv_fields x) | v ↦ None ]) ∷
+    fields base.NameRecords.srv_facts.kinds (elim [ rdata.SRV x ↦ Some (base.NameRecords.srv_facts.fields x) | v ↦ None ]) ∷
     fields base.SOA.soa_shape (elim [ rdata.SOA x ↦ Some (base.SOA.soa_fields x) | v ↦ None ]) ∷
     fields certs.SMIMEA.smimea_key_shape (elim [ rdata.SMIMEA x ↦ Some (certs.SMIMEA.smimea_keys x) | v ↦ None ]) ∷
     fields base.NameRecords.name_shape (elim [ rdata.PTR x ↦ Some (base.NameRecords.ptr_fields x) | v ↦ None ]) ∷
@@ -35,7 +35,7 @@ rows =
     fields base.NameRecords.name_shape (elim [ rdata.NS x ↦ Some (base.NameRecords.ns_fields x) | v ↦ None ]) ∷
     fields base.NULL.null_shape (elim [ rdata.NULL x ↦ Some (base.NULL.null_fields x) | v ↦ None ]) ∷
     fields base.NAPTR.naptr_shape (elim [ rdata.NAPTR x ↦ Some (base.NAPTR.naptr_fields x) | v ↦ None ]) ∷
-    fields base.MX.mx_shape (elim [ rdata.MX x ↦ Some (base.MX.mx_fields x) | v ↦ None ]) ∷
+    fields base.NameRecords.mx_facts.kinds (elim [ rdata.MX x ↦ Some (base.NameRecords.mx_facts.fields x) | v ↦ None ]) ∷
     fields service.HTTPS.https_key_shape (elim [ rdata.HTTPS x ↦ Some (service.HTTPS.https_keys x) | v ↦ None ]) ∷
     fields base.HINFO.hinfo_shape (elim [ rdata.HINFO x ↦ Some (base.HINFO.hinfo_fields x) | v ↦ None ]) ∷
     fields sets.CSYNC.csync_key_shape (elim [ rdata.CSYNC x ↦ Some (sets.CSYNC.csync_keys x) | v ↦ None ]) ∷

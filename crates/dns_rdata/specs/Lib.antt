@@ -26,13 +26,11 @@ pub use Rattle.dns_rdata_base.specs.AAAA
 pub use Rattle.dns_rdata_base.specs.NameRecords
 pub use Rattle.dns_rdata_certs.specs.CERT
 pub use Rattle.dns_rdata_base.specs.HINFO
-pub use Rattle.dns_rdata_base.specs.MX
 pub use Rattle.dns_rdata_base.specs.NAPTR
 pub use Rattle.dns_rdata_base.specs.NULL
 pub use Rattle.dns_rdata_base.specs.OPENPGPKEY
 pub use Rattle.dns_rdata_certs.specs.SMIMEA
 pub use Rattle.dns_rdata_base.specs.SOA
-pub use Rattle.dns_rdata_base.specs.SRV
 pub use Rattle.dns_rdata_certs.specs.SSHFP
 pub use Rattle.dns_rdata_certs.specs.TLSA
 pub use Rattle.dns_rdata_base.specs.TXT

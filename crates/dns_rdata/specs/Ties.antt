@@ -62,7 +62,7 @@ same_octets (rdata.CNAME x) (rdata.CNAME y) h = octets_equal base.NameRecords.na
 same_octets (rdata.CSYNC x) (rdata.CSYNC y) h = let s = same_keys sets.CSYNC.csync_key_shape (sets.CSYNC.csync_keys x) (sets.CSYNC.csync_keys y) h in octets_same sets.CSYNC.csync_shape (sets.CSYNC.csync_fields x) (sets.CSYNC.csync_fields y) (s.0, (record { is = λ i. s.1.1.1.0.is i / 4 * 4 + 2 * s.1.1.0.is i + s.1.0.is i }, (s.1.1.1.1.0, tt)))
 same_octets (rdata.HINFO x) (rdata.HINFO y) h = octets_equal base.HINFO.hinfo_shape (base.HINFO.hinfo_fields x) (base.HINFO.hinfo_fields y) h
 same_octets (rdata.HTTPS x) (rdata.HTTPS y) h = svcb_octets x.0 y.0 h
-same_octets (rdata.MX x) (rdata.MX y) h = octets_equal base.MX.mx_shape (base.MX.mx_fields x) (base.MX.mx_fields y) h
+same_octets (rdata.MX x) (rdata.MX y) h = octets_equal base.NameRecords.mx_facts.kinds (base.NameRecords.mx_facts.fields x) (base.NameRecords.mx_facts.fields y) h
 same_octets (rdata.NAPTR x) (rdata.NAPTR y) h = octets_equal base.NAPTR.naptr_shape (base.NAPTR.naptr_fields x) (base.NAPTR.naptr_fields y) h
 same_octets (rdata.NULL x) (rdata.NULL y) h = octets_equal base.NULL.null_shape (base.NULL.null_fields x) (base.NULL.null_fields y) h
 same_octets (rdata.NS x) (rdata.NS y) h = octets_equal base.NameRecords.name_shape (base.NameRecords.ns_fields x) (base.NameRecords.ns_fields y) h
@@ -71,7 +71,7 @@ same_octets (rdata.OPT x) (rdata.OPT y) h = octets_same options.OPT.opt_shape (o
 same_octets (rdata.PTR x) (rdata.PTR y) h = octets_equal base.NameRecords.name_shape (base.NameRecords.ptr_fields x) (base.NameRecords.ptr_fields y) h
 same_octets (rdata.SMIMEA x) (rdata.SMIMEA y) h = let s = same_keys certs.SMIMEA.smimea_key_shape (certs.SMIMEA.smimea_keys x) (certs.SMIMEA.smimea_keys y) h in octets_same certs.SMIMEA.smimea_shape (certs.SMIMEA.smimea_fields x) (certs.SMIMEA.smimea_fields y) (s.0, (s.1.1.0, (s.1.1.1.1.0, (s.1.1.1.1.1.1.0, tt))))
 same_octets (rdata.SOA x) (rdata.SOA y) h = octets_equal base.SOA.soa_shape (base.SOA.soa_fields x) (base.SOA.soa_fields y) h
-same_octets (rdata.SRV x) (rdata.SRV y) h = octets_equal base.SRV.srv_shape (base.SRV.srv_fields x) (base.SRV.srv_fields y) h
+same_octets (rdata.SRV x) (rdata.SRV y) h = octets_equal base.NameRecords.srv_facts.kinds (base.NameRecords.srv_facts.fields x) (base.NameRecords.srv_facts.fields y) h
 same_octets (rdata.SSHFP x) (rdata.SSHFP y) h = let s = same_keys certs.SSHFP.sshfp_key_shape (certs.SSHFP.sshfp_keys x) (certs.SSHFP.sshfp_keys y) h in octets_same certs.SSHFP.sshfp_shape (certs.SSHFP.sshfp_fields x) (certs.SSHFP.sshfp_fields y) (s.0, (s.1.1.0, (s.1.1.1.1.0, tt)))
 same_octets (rdata.SVCB x) (rdata.SVCB y) h = svcb_octets x y h
 same_octets (rdata.TLSA x) (rdata.TLSA y) h = let s = same_keys certs.TLSA.tlsa_key_shape (certs.TLSA.tlsa_keys x) (certs.TLSA.tlsa_keys y) h in octets_same certs.TLSA.tlsa_shape (certs.TLSA.tlsa_fields x) (certs.TLSA.tlsa_fields y) (s.0, (s.1.1.0, (s.1.1.1.1.0, (s.1.1.1.1.1.1.0, tt))))

@@ -2,35 +2,16 @@
 use Rattle.std.proofs.Common.{ℤ, pos, negsuc, Option, [], ◌∷◌, refl, arith}
 use Rattle.std.specs.{Fmt.signed_decimal, Int.cast_unsigned, Int.w32, Net.Addr.IsIpv4Addr, Net.Addr.IsIpv6Addr}
 use Rattle.dns_fields.specs.Labels.{DomainName}
-use Rattle.dns_labels.specs.Text.{name_text}
-use Rattle.dns_words.specs.{Forms.ttl, Printed.IsPrintedName, Printed.ReadsBack}
-use Rattle.dns_words.proofs.Printed.{GivesBack, row_back, back_word, back_ignored, number_back, ttl_back, name_back, ipv4_back, ipv6_back}
-use Rattle.dns_rdata_base.specs.{A.a_fields, A.a_text, AAAA.aaaa_fields, AAAA.aaaa_text, MX.mx_fields, MX.mx_text, NameRecords.name_fields}
-use Rattle.dns_rdata_base.specs.{SOA.soa_fields, SOA.soa_text, SRV.srv_fields, SRV.srv_text}
-use Rattle.dns_rdata_base.specs.WordRows.{a_words, aaaa_words, name_words, mx_words, srv_words, soa_words, IsPrintedMx, IsPrintedSrv, IsPrintedSoa}
-use Rattle.dns_rdata_base.specs.WordRows.{AreSeconds}
+use Rattle.dns_words.specs.{Forms.ttl, Printed.ReadsBack}
+use Rattle.dns_words.proofs.Printed.{GivesBack, row_back, back_word, back_ignored, ttl_back, name_back, ipv4_back, ipv6_back}
+use Rattle.dns_rdata_base.specs.{A.a_fields, A.a_text, A.a_words, AAAA.aaaa_fields, AAAA.aaaa_text, AAAA.aaaa_words}
+use Rattle.dns_rdata_base.specs.SOA.{soa_fields, soa_text, soa_words, AreSeconds, IsPrintedSoa}
 
 pub a_back : ReadsBack a_words a_fields a_text (λ x. IsIpv4Addr x.0)
 a_back = record { back = λ x h. row_back a_words (a_fields x) _ [] _ refl (back_word (ipv4_back x.0 h) back_ignored) }
 
 pub aaaa_back : ReadsBack aaaa_words aaaa_fields aaaa_text (λ x. IsIpv6Addr x.0)
 aaaa_back = record { back = λ x h. row_back aaaa_words (aaaa_fields x) _ [] _ refl (back_word (ipv6_back x.0 h) back_ignored) }
-
--- of ANAME, CNAME, NS and PTR
-pub one_name_back : (origin : Option DomainName) → ReadsBack (name_words origin) name_fields name_text IsPrintedName
-one_name_back origin = record { back = λ x h. row_back (name_words origin) (name_fields x) _ [] _ refl (back_word (name_back x origin h) back_ignored) }
-
-pub mx_back : (origin : Option DomainName) → ReadsBack (mx_words origin) mx_fields mx_text IsPrintedMx
-mx_back origin = record {
-  back = λ x h. row_back (mx_words origin) (mx_fields x) _ (_ ∷ []) _ refl (back_word (number_back 2 x.preference h.preference (omega (arith, h.preference))) (back_word (name_back x.exchange origin h.exchange) back_ignored));
-}
-
-pub srv_back : (origin : Option DomainName) → ReadsBack (srv_words origin) srv_fields srv_text IsPrintedSrv
-srv_back origin = record {
-  back = λ x h. row_back (srv_words origin) (srv_fields x) _ (_ ∷ _ ∷ _ ∷ []) _ refl
-      (back_word (number_back 2 x.priority h.priority (omega (arith, h.priority))) (back_word (number_back 2 x.weight h.weight (omega (arith, h.weight)))
-      (back_word (number_back 2 x.port h.port (omega (arith, h.port))) (back_word (name_back x.target origin h.target) back_ignored))));
-}
 
 seconds_back : (z : ℤ) → AreSeconds z → GivesBack (ttl 2147483647) (cast_unsigned w32 z) (signed_decimal z)
 seconds_back (pos n) h = ttl_back 2147483647 n (omega arith) h

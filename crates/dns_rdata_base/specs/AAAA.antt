@@ -5,6 +5,7 @@ use Rattle.dns_types.specs.declared.error.DecodeError.{DecodeError}
 use Rattle.dns_types.specs.declared.error.DecodeError.TheVariants as decode
 use Rattle.dns_fields.specs.Fields.{Kind, Octets, Values}
 use Rattle.dns_names_wire.specs.{State.Reading, Words.LacksOctets, Facts.Facts, Facts.ending}
+use Rattle.dns_words.specs.Forms.{Row, word, ignored, ipv6}
 use Rattle.dns_rdata_base.specs.declared.aaaa.AAAA.{AAAA}
 
 -- the sixteen octets of the address, the highest first
@@ -17,6 +18,10 @@ aaaa_fields x = (ipv6_octets x.0, tt)
 -- groups joined by colons (RFC 5952, 4)
 abbrev pub aaaa_text : AAAA → List ℕ
 aaaa_text x = ipv6_text (ipv6_segments x.0)
+
+-- an address
+abbrev pub aaaa_words : Row aaaa_shape
+aaaa_words = word ipv6 ignored
 
 -- Why an address is refused: fewer than its octets are left. Whole pairs of them are taken.
 abbrev pub IsAaaaRefusal : Reading → DecodeError → Reading → Type 0

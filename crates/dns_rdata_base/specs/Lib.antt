@@ -3,7 +3,6 @@ pub mod AAAA
 pub mod Counted
 pub mod HINFO
 pub mod Lossy
-pub mod MX
 pub mod NAPTR
 pub mod NULL
 pub mod NameRecords
@@ -12,8 +11,6 @@ pub mod OPENPGPKEY
 pub mod Ordered
 pub mod Refusing
 pub mod SOA
-pub mod SRV
 pub mod TXT
 pub mod Taking
 pub mod Steps
-pub mod WordRows

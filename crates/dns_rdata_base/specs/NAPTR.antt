@@ -1,11 +1,12 @@
 -- NAPTR: a rule that rewrites a name (RFC 3403, 4.1).
-use Rattle.std.specs.Prelude.{◌≡◌, ◌⊎◌, ℕ, IsTrue, List, [], ◌∷◌, ◌++◌, codes, decimal}
+use Rattle.std.specs.Prelude.{◌≡◌, ◌⊎◌, ℕ, IsTrue, List, [], ◌∷◌, ◌++◌, codes, decimal, Option}
 use Rattle.std.specs.{Char.is_ascii_alphanumeric, List.list_all}
 use Rattle.dns_types.specs.declared.error.DecodeError.{DecodeError}
 use Rattle.dns_types.specs.declared.error.DecodeError.TheVariants as decode
-use Rattle.dns_fields.specs.Fields.{Kind, Number, Text, Name, Values}
+use Rattle.dns_fields.specs.{Labels.DomainName, Fields.Kind, Fields.Number, Fields.Text, Fields.Name, Fields.Values}
 use Rattle.dns_labels.specs.Text.{name_text}
 use Rattle.dns_names_wire.specs.{State.Reading, Words.Took, Facts.Facts, Facts.ending}
+use Rattle.dns_words.specs.Forms.{Form, Row, word, ignored, number, kept, name}
 use Rattle.dns_rdata_base.specs.{Lossy.lossy, Refusing.IsLack, declared.naptr.NAPTR.NAPTR}
 
 -- order, preference
@@ -56,3 +57,11 @@ naptr_facts = ending naptr_shape MeetsNaptrCondition naptr_fields IsNaptrRefusal
 abbrev pub naptr_text : NAPTR → List ℕ
 naptr_text x = decimal x.order ++ codes " " ++ decimal x.preference ++ codes " \"" ++ lossy x.flags ++ codes "\" \"" ++ lossy x.services
     ++ codes "\" \"" ++ lossy x.regexp ++ codes "\" " ++ name_text x.replacement
+
+-- the word's octets, which are digits and letters
+abbrev pub flags_word : Form Text
+flags_word = record { is = λ octets word. (octets ≡ word) × AreFlags octets }
+
+-- order, preference, flags, services, regexp, replacement
+abbrev pub naptr_words : Option DomainName → Row naptr_shape
+naptr_words origin = word (number 2) (word (number 2) (word flags_word (word kept (word kept (word (name origin) ignored)))))

@@ -1,9 +1,9 @@
--- Records of one name: CNAME, NS, PTR (RFC 1035, 3.3.1, 3.3.11 and 3.3.12) and ANAME.
-use Rattle.std.specs.Prelude.{ℕ, List, [], ◌∷◌}
-use Rattle.dns_fields.specs.{Fields.Kind, Fields.Name, Fields.Values, Labels.DomainName}
-use Rattle.dns_labels.specs.Text.{name_text}
+-- Records that a name ends: CNAME, NS, PTR, MX (RFC 1035, 3.3.1, 3.3.11, 3.3.12 and 3.3.9), ANAME and SRV (RFC 2782).
+use Rattle.std.specs.Prelude.{List, [], ◌∷◌}
+use Rattle.dns_fields.specs.{Fields.Kind, Fields.Number, Fields.Name, Fields.Values, Labels.DomainName}
 use Rattle.dns_names_wire.specs.Facts.{Facts}
 use Rattle.dns_rdata_base.specs.{Refusing.straight, declared.name.CNAME.CNAME, declared.name.NS.NS, declared.name.PTR.PTR, declared.name.ANAME.ANAME}
+use Rattle.dns_rdata_base.specs.{declared.mx.MX.MX, declared.srv.SRV.SRV}
 
 abbrev pub name_shape : List Kind
 name_shape = Name ∷ []
@@ -17,17 +17,11 @@ cname_fields x = name_fields x.0
 abbrev pub cname_facts : Facts CNAME
 cname_facts = straight name_shape cname_fields
 
-abbrev pub cname_text : CNAME → List ℕ
-cname_text x = name_text x.0
-
 abbrev pub ns_fields : NS → Values name_shape
 ns_fields x = name_fields x.0
 
 abbrev pub ns_facts : Facts NS
 ns_facts = straight name_shape ns_fields
-
-abbrev pub ns_text : NS → List ℕ
-ns_text x = name_text x.0
 
 abbrev pub ptr_fields : PTR → Values name_shape
 ptr_fields x = name_fields x.0
@@ -35,14 +29,23 @@ ptr_fields x = name_fields x.0
 abbrev pub ptr_facts : Facts PTR
 ptr_facts = straight name_shape ptr_fields
 
-abbrev pub ptr_text : PTR → List ℕ
-ptr_text x = name_text x.0
-
 abbrev pub aname_fields : ANAME → Values name_shape
 aname_fields x = name_fields x.0
 
 abbrev pub aname_facts : Facts ANAME
 aname_facts = straight name_shape aname_fields
 
-abbrev pub aname_text : ANAME → List ℕ
-aname_text x = name_text x.0
+-- preference, exchange
+abbrev pub mx_facts : Facts MX
+mx_facts = straight (Number 2 ∷ Name ∷ []) (λ x. (x.preference, (x.exchange, tt)))
+
+-- priority, weight, port, target
+abbrev pub srv_facts : Facts SRV
+srv_facts = straight (Number 2 ∷ Number 2 ∷ Number 2 ∷ Name ∷ []) (λ x. (x.priority, (x.weight, (x.port, (x.target, tt)))))
+
+-- priority, weight, port
+abbrev pub srv_numbers_shape : List Kind
+srv_numbers_shape = Number 2 ∷ Number 2 ∷ Number 2 ∷ []
+
+abbrev pub srv_numbers : SRV → Values srv_numbers_shape
+srv_numbers x = (x.priority, (x.weight, (x.port, tt)))

@@ -1,9 +1,10 @@
 -- SOA: the start of a zone of authority (RFC 1035, 3.3.13).
-use Rattle.std.specs.Prelude.{ℕ, ℤ, FitsSigned, List, [], ◌∷◌, ◌++◌, codes, decimal}
-use Rattle.dns_fields.specs.Fields.{Kind, Number, Name, Values}
+use Rattle.std.specs.Prelude.{ℕ, ◌≤◌, ℤ, pos, negsuc, FitsSigned, List, [], ◌∷◌, ◌++◌, codes, decimal, Option}
+use Rattle.dns_fields.specs.{Labels.DomainName, Fields.Kind, Fields.Number, Fields.Name, Fields.Values}
 use Rattle.dns_labels.specs.Text.{name_text}
 use Rattle.std.specs.{Fmt.signed_decimal, Int.cast_unsigned, Int.w32}
 use Rattle.dns_names_wire.specs.Facts.{Facts}
+use Rattle.dns_words.specs.{Forms.Row, Forms.word, Forms.ignored, Forms.ttl, Forms.name, Printed.IsPrintedName}
 use Rattle.dns_rdata_base.specs.{Refusing.straight, declared.soa.SOA.SOA}
 
 -- serial, refresh, retry, expire, minimum
@@ -37,3 +38,23 @@ soa_facts = record (straight soa_shape soa_fields) { made = λ n x old new. HasS
 abbrev pub soa_text : SOA → List ℕ
 soa_text x = name_text x.mname ++ codes " " ++ name_text x.rname ++ codes " " ++ decimal x.serial ++ codes " " ++ signed_decimal x.refresh ++ codes " "
     ++ signed_decimal x.retry ++ codes " " ++ signed_decimal x.expire ++ codes " " ++ decimal x.minimum
+
+-- mname, rname, serial, refresh, retry, expire, minimum
+abbrev pub soa_words : Option DomainName → Row soa_shape
+soa_words origin = word (name origin) (word (name origin) (word (ttl 4294967295) (word (ttl 2147483647) (word (ttl 2147483647) (word (ttl 2147483647) (word (ttl 4294967295) ignored))))))
+
+-- a number of 32 bits that is not negative
+abbrev pub AreSeconds : ℤ → Type 0
+AreSeconds (pos n) = n ≤ 2147483647
+AreSeconds (negsuc n) = ⊥
+
+-- a value whose printed words give it back
+pub record IsPrintedSoa (x : SOA) : Type 0 where
+  pub seconds : HasSeconds x
+  pub mname : IsPrintedName x.mname
+  pub rname : IsPrintedName x.rname
+  pub serial : x.serial ≤ 4294967295
+  pub refresh : AreSeconds x.refresh
+  pub retry : AreSeconds x.retry
+  pub expire : AreSeconds x.expire
+  pub minimum : x.minimum ≤ 4294967295

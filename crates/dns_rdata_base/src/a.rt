@@ -1,18 +1,22 @@
 //! A: an IPv4 address (RFC 1035, 3.4.1).
 
-ghost use Rattle.std.specs.Prelude.{◌≡◌, ◌+◌, ◌<◌, ◌≤◌, ◌++◌, ℕ, List, [], ◌∷◌, length, length as list_length, decimal, OnErr, IfErr, Some};
+ghost use Rattle.std.specs.Prelude.{◌≡◌, ◌≢◌, ◌+◌, ◌<◌, ◌≤◌, ◌++◌, ℕ, List, [], ◌∷◌, length, length as list_length, decimal, OnErr, IfErr, Some};
 ghost use Rattle.std.specs.Net.Addr.{ipv4_octets};
 ghost use Rattle.dns_names_wire.specs.Words.{ReadsIf, ReadsBy, Emits, LacksOctets, always, IsCut};
-ghost use Rattle.dns_rdata_base.specs.A.{a_shape, a_fields, a_facts, a_text};
+ghost use Rattle.dns_types.specs.declared.error.ParseError.TheVariants as parse;
+ghost use Rattle.dns_rdata_base.specs.A.{a_shape, a_fields, a_facts, a_text, a_words};
+ghost use Rattle.dns_words.specs.Reads.{ReadsRow};
 
 use crate::traits::TakesOctet;
 use crate::{OrderedRecord, unless_tied};
 use dns_names_wire::{
     AddrParseError, BinDecodable, BinDecoder, BinEncodable, BinEncoder, DecodeError, DecodesFields,
-    ProtoError, Record,
+    ParseError, ProtoError, Record,
 };
 use dns_pieces::{AtOnce, Head, Tail, octets_cmp};
+use dns_words::next_ipv4;
 use std::cmp::Ordering;
+use std::convert::AsStr;
 use std::marker::Model;
 use std::net::Ipv4Addr;
 use std::ops::Deref;
@@ -29,6 +33,18 @@ impl A {
         ensures { ipv4_octets result.0 ≡ a ∷ b ∷ c ∷ d ∷ [] }
     {
         A(Ipv4Addr::new(a, b, c, d))
+    }
+
+    /// From one word, the text of an IPv4 address as `from_str` reads it. Further words are not read. Refused by
+    /// [`MissingToken`](ParseError::MissingToken) or [`AddrParse`](ParseError::AddrParse). Takes no memory.
+    pub fn from_tokens<S: AsStr + Drop, I: Iterator<Item = S>>(
+        mut tokens: I,
+    ) -> Result<A, ParseError>
+        requires can { I.can_next tokens }
+        ensures reads { ReadsRow I.next_gives S.text a_words a_fields result tokens }
+        ensures memory { IfErr result (λ e. e ≢ parse.Memory) }
+    {
+        Ok(A(next_ipv4(&mut tokens, "A address")?))
     }
 }
 

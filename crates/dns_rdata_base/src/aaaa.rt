@@ -1,19 +1,23 @@
 //! AAAA: an IPv6 address (RFC 3596, 2.2).
 
-ghost use Rattle.std.specs.Prelude.{◌≡◌, ◌+◌, ◌-◌, ◌*◌, ◌/◌, ◌<◌, ◌≤◌, ℕ, List, [], ◌∷◌, length, length as list_length, OnErr, IfErr, Some};
+ghost use Rattle.std.specs.Prelude.{◌≡◌, ◌≢◌, ◌+◌, ◌-◌, ◌*◌, ◌/◌, ◌<◌, ◌≤◌, ℕ, List, [], ◌∷◌, length, length as list_length, OnErr, IfErr, Some};
 ghost use Rattle.std.specs.Net.Addr.{ipv6_segments, ipv6_octets};
 ghost use Rattle.dns_names_wire.specs.Words.{ReadsIf, ReadsBy, Emits, LacksOctets, always, IsCut};
 ghost use Rattle.dns_names_wire.specs.Facts.{same, same_equiv, same_partial};
-ghost use Rattle.dns_rdata_base.specs.AAAA.{aaaa_shape, aaaa_fields, aaaa_facts, aaaa_text};
+ghost use Rattle.dns_types.specs.declared.error.ParseError.TheVariants as parse;
+ghost use Rattle.dns_rdata_base.specs.AAAA.{aaaa_shape, aaaa_fields, aaaa_facts, aaaa_text, aaaa_words};
+ghost use Rattle.dns_words.specs.Reads.{ReadsRow};
 
 use crate::traits::TakesOctet;
 use crate::{OrderedRecord, unless_tied};
 use dns_names_wire::{
     AddrParseError, BinDecodable, BinDecoder, BinEncodable, BinEncoder, DecodeError, DecodesFields,
-    ProtoError, Record,
+    ParseError, ProtoError, Record,
 };
 use dns_pieces::{AtOnce, Head, Tail, octets_cmp};
+use dns_words::next_ipv6;
 use std::cmp::Ordering;
+use std::convert::AsStr;
 use std::fmt;
 use std::hash::{Hash, Hasher};
 use std::net::Ipv6Addr;
@@ -31,6 +35,18 @@ impl AAAA {
         ensures { ipv6_segments result.0 ≡ a ∷ b ∷ c ∷ d ∷ e ∷ f ∷ g ∷ h ∷ [] }
     {
         AAAA(Ipv6Addr::new(a, b, c, d, e, f, g, h))
+    }
+
+    /// From one word, the text of an IPv6 address as `from_str` reads it. Further words are not read. Refused by
+    /// [`MissingToken`](ParseError::MissingToken) or [`AddrParse`](ParseError::AddrParse). Takes no memory.
+    pub fn from_tokens<S: AsStr + Drop, I: Iterator<Item = S>>(
+        mut tokens: I,
+    ) -> Result<AAAA, ParseError>
+        requires can { I.can_next tokens }
+        ensures reads { ReadsRow I.next_gives S.text aaaa_words aaaa_fields result tokens }
+        ensures memory { IfErr result (λ e. e ≢ parse.Memory) }
+    {
+        Ok(AAAA(next_ipv6(&mut tokens, "AAAA address")?))
     }
 }
 

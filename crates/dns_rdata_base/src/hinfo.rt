@@ -2,21 +2,25 @@
 
 ghost use Rattle.std.specs.{Prelude.◌≡◌, Prelude.Some, Box.boxed_slice_items, String.string_bytes};
 ghost use Rattle.dns_names_wire.specs.{Words.Emits, Facts.RecordRefuses, Facts.RecordStands};
-ghost use Rattle.dns_rdata_base.specs.HINFO.{hinfo_shape, hinfo_fields, hinfo_facts, hinfo_text};
 ghost use Rattle.std.specs.Prelude.{ℕ, []};
 ghost use Rattle.dns_fields.specs.Fields.{all_emittable};
 ghost use Rattle.dns_pieces.specs.Steps.{AllShort, GivesStep, by_fields};
 ghost use Rattle.dns_rdata_base.specs.Steps.{hinfo_begins};
+ghost use Rattle.dns_rdata_base.specs.HINFO.{hinfo_shape, hinfo_fields, hinfo_facts, hinfo_text, hinfo_words};
+ghost use Rattle.dns_words.specs.Reads.{ReadsRow};
 
 use crate::{OrderedRecord, by_fields};
 use bstr::BStr;
 use dns_names_wire::{
-    BinDecodable, BinDecoder, BinEncodable, BinEncoder, DecodeError, DecodesFields, ProtoError,
-    Record, SmallOctets,
+    BinDecodable, BinDecoder, BinEncodable, BinEncoder, DecodeError, DecodesFields, ParseError,
+    ProtoError, Record, SmallOctets,
 };
 use dns_pieces::{Head, Step, text_behind};
+use dns_words::next_kept;
+use std::alloc::Global;
 use std::boxed::BoxedSlice;
 use std::cmp::Ordering;
+use std::convert::AsStr;
 use std::fmt;
 
 /// A machine and its system, each a character string (RFC 1035, 3.3.2).
@@ -49,6 +53,23 @@ impl HINFO {
             cpu: SmallOctets::from_boxed(cpu),
             os: SmallOctets::from_boxed(os),
         }
+    }
+
+    /// From two words, cpu and os, whose octets are kept. Further words are not read. Refused by
+    /// [`MissingToken`](ParseError::MissingToken) or [`Memory`](ParseError::Memory).
+    pub fn from_tokens<S: AsStr + Drop, I: Iterator<Item = S>>(
+        alloc: Global,
+        mut tokens: I,
+    ) -> Result<HINFO, ParseError>
+        requires can { I.can_next tokens }
+        ensures { ReadsRow I.next_gives S.text hinfo_words hinfo_fields result tokens }
+    {
+        let cpu = next_kept(alloc, &mut tokens, "HINFO cpu")?;
+        let os = next_kept(alloc, &mut tokens, "HINFO os")?;
+        Ok(HINFO {
+            cpu: SmallOctets::from_vec(cpu.into_vec()),
+            os: SmallOctets::from_vec(os.into_vec()),
+        })
     }
 }
 

@@ -1,5 +1,5 @@
 //! The data of DNS records without certificates: addresses, names, strings and plain octets.
-#![tactic(auto, using(dns_pieces::proofs::Comparing::then_equal, dns_pieces::proofs::Comparing::then_assoc))]
+#![tactic(auto, using(dns_words::proofs::Steps::reading, dns_pieces::proofs::Comparing::then_equal, dns_pieces::proofs::Comparing::then_assoc))]
 
 pub mod a;
 pub mod aaaa;
@@ -16,7 +16,6 @@ pub mod soa;
 pub mod srv;
 pub mod traits;
 pub mod txt;
-mod words;
 
 pub use a::A;
 pub use aaaa::AAAA;

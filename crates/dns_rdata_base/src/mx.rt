@@ -1,16 +1,20 @@
 //! MX: a mail exchange (RFC 1035, 3.3.9).
 
-ghost use Rattle.std.specs.Prelude.{◌≡◌, Some};
+ghost use Rattle.std.specs.{Prelude.◌≡◌, Prelude.Some, Option.option_copied};
 ghost use Rattle.dns_fields.specs.declared.RDataEncoding.TheVariants as modes;
-ghost use Rattle.dns_rdata_base.specs.MX.{mx_shape, mx_fields, mx_facts, mx_text};
+ghost use Rattle.dns_rdata_base.specs.NameRecords.{mx_facts};
+ghost use Rattle.dns_words.specs.{Reads.ReadsRow, Straight.straight_words, Straight.straight_text};
 
 use crate::{OrderedRecord, by_fields, unless_tied};
 use dns_names_wire::{
     BinDecodable, BinDecoder, BinEncodable, BinEncoder, DecodeError, DecodesFields, EncodesFields,
-    Name, ProtoError, RDataEncoding, Record,
+    Name, ParseError, ProtoError, RDataEncoding, Record,
 };
 use dns_pieces::{AtOnce, Head, Tail, name_behind, two_behind};
+use dns_words::{next_name, next_u16, number_field};
+use std::alloc::Global;
 use std::cmp::Ordering;
+use std::convert::AsStr;
 use std::fmt;
 
 /// A host that takes mail for the owner: a preference of two octets and a name (RFC 1035, 3.3.9).
@@ -31,6 +35,22 @@ impl MX {
             preference,
             exchange,
         }
+    }
+
+    /// From two words: preference, a decimal number of 16 bits, and exchange, a name, which the origin completes. Further
+    /// words are not read. Refused by [`MissingToken`](ParseError::MissingToken), [`Message`](ParseError::Message) (no
+    /// such number), [`Proto`](ParseError::Proto) (no name) or [`Memory`](ParseError::Memory).
+    pub fn from_tokens<S: AsStr + Drop, I: Iterator<Item = S>>(
+        alloc: Global,
+        mut tokens: I,
+        origin: Option<&Name>,
+    ) -> Result<MX, ParseError>
+        requires can { I.can_next tokens }
+        ensures { ReadsRow I.next_gives S.text (straight_words (option_copied origin.entry) mx_facts.kinds) mx_facts.fields result tokens }
+    {
+        let preference = next_u16(&mut tokens, number_field!("MX preference"))?;
+        let exchange = next_name(alloc, &mut tokens, origin, "MX exchange")?;
+        Ok(MX::new(preference, exchange))
     }
 }
 
@@ -84,7 +104,7 @@ impl OrderedRecord for MX {
 }
 
 impl fmt::Display for MX {
-    ghost output = { λ x. Some (mx_text x) };
+    ghost output = { λ x. Some (straight_text mx_facts x) };
 
     /// The fields in order, a blank between.
     fn fmt<W: fmt::Write>(&self, f: &mut fmt::Formatter<W>) -> fmt::Result {

@@ -1,26 +1,42 @@
 //! Records of one name: CNAME, NS, PTR (RFC 1035, 3.3) and ANAME.
 
-ghost use Rattle.std.specs.Prelude.{◌≡◌, Some};
+ghost use Rattle.std.specs.{Prelude.◌≡◌, Prelude.Some, Option.option_copied};
 ghost use Rattle.dns_fields.specs.declared.RDataEncoding.TheVariants as modes;
-ghost use Rattle.dns_rdata_base.specs.NameRecords.{name_shape, cname_fields, cname_facts, ns_fields, ns_facts, ptr_fields, ptr_facts, aname_fields};
-ghost use Rattle.dns_rdata_base.specs.NameRecords.{aname_facts, cname_text, ns_text, ptr_text, aname_text};
 ghost use Rattle.std.specs.Prelude.{ℕ, []};
 ghost use Rattle.dns_pieces.specs.Steps.{GivesStep, at_once, by_fields};
-ghost use Rattle.dns_rdata_base.specs.NameRecords.{name_fields};
+ghost use Rattle.dns_rdata_base.specs.NameRecords.{name_shape, name_fields, cname_fields, cname_facts, ns_fields, ns_facts, ptr_fields, ptr_facts, aname_fields, aname_facts};
+ghost use Rattle.dns_words.specs.{Reads.ReadsRow, Straight.straight_words, Straight.straight_text};
 
 use crate::{OrderedRecord, unless_tied};
 use dns_names_wire::{
     BinDecodable, BinDecoder, BinEncodable, BinEncoder, DecodeError, DecodesFields, EncodesFields,
-    Name, ProtoError, RDataEncoding, Record,
+    Name, ParseError, ProtoError, RDataEncoding, Record,
 };
 use dns_pieces::{Head, Step, Tail, name_behind};
+use dns_words::next_name;
+use std::alloc::Global;
 use std::cmp::Ordering;
+use std::convert::AsStr;
 use std::fmt;
 use std::ops::Deref;
 
 /// The canonical name of an alias: a name to the end (RFC 1035, 3.3.1).
 #[derive(Clone, Debug, Drop, Eq, Hash, PartialEq)]
 pub struct CNAME(pub Name);
+
+impl CNAME {
+    /// From one word, the name, as `ANAME::from_tokens`.
+    pub fn from_tokens<S: AsStr + Drop, I: Iterator<Item = S>>(
+        alloc: Global,
+        mut tokens: I,
+        origin: Option<&Name>,
+    ) -> Result<CNAME, ParseError>
+        requires can { I.can_next tokens }
+        ensures { ReadsRow I.next_gives S.text (straight_words (option_copied origin.entry) name_shape) cname_fields result tokens }
+    {
+        Ok(CNAME(next_name(alloc, &mut tokens, origin, "CNAME name")?))
+    }
+}
 
 impl Record for CNAME {
     ghost facts = { cname_facts };
@@ -83,7 +99,7 @@ impl OrderedRecord for CNAME {
 }
 
 impl fmt::Display for CNAME {
-    ghost output = { λ x. Some (cname_text x) };
+    ghost output = { λ x. Some (straight_text cname_facts x) };
 
     /// The name.
     fn fmt<W: fmt::Write>(&self, f: &mut fmt::Formatter<W>) -> fmt::Result {
@@ -94,6 +110,20 @@ impl fmt::Display for CNAME {
 /// A name server of the zone: a name to the end (RFC 1035, 3.3.11).
 #[derive(Clone, Debug, Drop, Eq, Hash, PartialEq)]
 pub struct NS(pub Name);
+
+impl NS {
+    /// From one word, the name, as `ANAME::from_tokens`.
+    pub fn from_tokens<S: AsStr + Drop, I: Iterator<Item = S>>(
+        alloc: Global,
+        mut tokens: I,
+        origin: Option<&Name>,
+    ) -> Result<NS, ParseError>
+        requires can { I.can_next tokens }
+        ensures { ReadsRow I.next_gives S.text (straight_words (option_copied origin.entry) name_shape) ns_fields result tokens }
+    {
+        Ok(NS(next_name(alloc, &mut tokens, origin, "NS name")?))
+    }
+}
 
 impl Record for NS {
     ghost facts = { ns_facts };
@@ -143,7 +173,7 @@ impl OrderedRecord for NS {
 }
 
 impl fmt::Display for NS {
-    ghost output = { λ x. Some (ns_text x) };
+    ghost output = { λ x. Some (straight_text ns_facts x) };
 
     /// The name.
     fn fmt<W: fmt::Write>(&self, f: &mut fmt::Formatter<W>) -> fmt::Result {
@@ -154,6 +184,20 @@ impl fmt::Display for NS {
 /// The name that is pointed to: a name to the end (RFC 1035, 3.3.12).
 #[derive(Clone, Debug, Drop, Eq, Hash, PartialEq)]
 pub struct PTR(pub Name);
+
+impl PTR {
+    /// From one word, the name, as `ANAME::from_tokens`.
+    pub fn from_tokens<S: AsStr + Drop, I: Iterator<Item = S>>(
+        alloc: Global,
+        mut tokens: I,
+        origin: Option<&Name>,
+    ) -> Result<PTR, ParseError>
+        requires can { I.can_next tokens }
+        ensures { ReadsRow I.next_gives S.text (straight_words (option_copied origin.entry) name_shape) ptr_fields result tokens }
+    {
+        Ok(PTR(next_name(alloc, &mut tokens, origin, "PTR name")?))
+    }
+}
 
 impl Record for PTR {
     ghost facts = { ptr_facts };
@@ -203,7 +247,7 @@ impl OrderedRecord for PTR {
 }
 
 impl fmt::Display for PTR {
-    ghost output = { λ x. Some (ptr_text x) };
+    ghost output = { λ x. Some (straight_text ptr_facts x) };
 
     /// The name.
     fn fmt<W: fmt::Write>(&self, f: &mut fmt::Formatter<W>) -> fmt::Result {
@@ -214,6 +258,22 @@ impl fmt::Display for PTR {
 /// The name whose addresses the owner has: a name to the end (draft-ietf-dnsop-aname).
 #[derive(Clone, Debug, Drop, Eq, Hash, PartialEq)]
 pub struct ANAME(pub Name);
+
+impl ANAME {
+    /// From one word, the text of a name, which the origin completes. Further words are not read. Refused by
+    /// [`MissingToken`](ParseError::MissingToken), [`Proto`](ParseError::Proto) (no name) or
+    /// [`Memory`](ParseError::Memory).
+    pub fn from_tokens<S: AsStr + Drop, I: Iterator<Item = S>>(
+        alloc: Global,
+        mut tokens: I,
+        origin: Option<&Name>,
+    ) -> Result<ANAME, ParseError>
+        requires can { I.can_next tokens }
+        ensures { ReadsRow I.next_gives S.text (straight_words (option_copied origin.entry) name_shape) aname_fields result tokens }
+    {
+        Ok(ANAME(next_name(alloc, &mut tokens, origin, "ANAME name")?))
+    }
+}
 
 impl Record for ANAME {
     ghost facts = { aname_facts };
@@ -263,7 +323,7 @@ impl OrderedRecord for ANAME {
 }
 
 impl fmt::Display for ANAME {
-    ghost output = { λ x. Some (aname_text x) };
+    ghost output = { λ x. Some (straight_text aname_facts x) };
 
     /// The name.
     fn fmt<W: fmt::Write>(&self, f: &mut fmt::Formatter<W>) -> fmt::Result {

@@ -1,9 +1,10 @@
 //! NAPTR: a rule that rewrites a name (RFC 3403, 4).
 
-ghost use Rattle.std.specs.{Prelude.◌≡◌, Prelude.Some, Box.boxed_slice_items, Char.is_ascii_alphanumeric, List.list_all};
+ghost use Rattle.std.specs.{Prelude.◌≡◌, Prelude.Some, Option.option_copied, Box.boxed_slice_items, Char.is_ascii_alphanumeric, List.list_all};
 ghost use Rattle.dns_names_wire.specs.{Words.Emits};
 ghost use Rattle.dns_rdata_base.specs.NAPTR.{naptr_numbers_shape, naptr_numbers, naptr_rest_shape, naptr_rest, naptr_shape, naptr_fields};
-ghost use Rattle.dns_rdata_base.specs.NAPTR.{naptr_facts, naptr_text};
+ghost use Rattle.dns_rdata_base.specs.NAPTR.{naptr_facts, naptr_text, flags_word, naptr_words};
+ghost use Rattle.dns_words.specs.Reads.{ReadsRow, ReadsText, ReadsWord, GoesOn};
 ghost use Rattle.dns_fields.specs.declared.RDataEncoding.TheVariants as modes;
 ghost use Rattle.std.specs.Prelude.{ℕ, []};
 ghost use Rattle.dns_fields.specs.Fields.{all_emittable};
@@ -14,11 +15,14 @@ use crate::{OrderedRecord, by_fields, unless_tied};
 use bstr::BStr;
 use dns_names_wire::{
     BinDecodable, BinDecoder, BinEncodable, BinEncoder, DecodeError, DecodesFields, EncodesFields,
-    Name, Octets, ProtoError, RDataEncoding, Record,
+    Name, Octets, ParseError, ProtoError, RDataEncoding, Record,
 };
 use dns_pieces::{Head, Step, Tail, name_behind, text_behind, two_behind};
+use dns_words::{next_kept, next_name, next_u16, next_word, number_field};
+use std::alloc::Global;
 use std::boxed::BoxedSlice;
 use std::cmp::Ordering;
+use std::convert::AsStr;
 use std::fmt;
 
 /// A rule that rewrites a name: order and preference of two octets each, three character strings and a name (RFC 3403,
@@ -75,6 +79,59 @@ impl NAPTR {
             replacement,
         }
     }
+
+    /// From six words: order and preference, decimal numbers of 16 bits; flags, digits and letters; services and
+    /// regexp, whose octets are kept; and replacement, a name, which the origin completes where one is given. Further
+    /// words are not read. Refused by [`MissingToken`](ParseError::MissingToken), by [`Message`](ParseError::Message)
+    /// where a word is no such number or has another character than a flag, by [`Proto`](ParseError::Proto) where one
+    /// is no name, or by [`Memory`](ParseError::Memory).
+    pub fn from_tokens<S: AsStr + Drop, I: Iterator<Item = S>>(
+        alloc: Global,
+        mut tokens: I,
+        origin: Option<&Name>,
+    ) -> Result<NAPTR, ParseError>
+        requires can { I.can_next tokens }
+        ensures { ReadsRow I.next_gives S.text (naptr_words (option_copied origin.entry)) naptr_fields result tokens }
+    {
+        let order = next_u16(&mut tokens, number_field!("NAPTR order"))?;
+        let preference = next_u16(&mut tokens, number_field!("NAPTR preference"))?;
+        let flags = next_flags(alloc, &mut tokens)?;
+        let services = next_kept(alloc, &mut tokens, "NAPTR services")?;
+        let regexp = next_kept(alloc, &mut tokens, "NAPTR regexp")?;
+        let replacement = next_name(alloc, &mut tokens, origin, "NAPTR replacement")?;
+        Ok(NAPTR {
+            order,
+            preference,
+            flags,
+            services,
+            regexp,
+            replacement,
+        })
+    }
+}
+
+// The octets of a word of digits and letters.
+fn flags_of(alloc: Global, word: &str) -> Result<Octets, ParseError>
+    ensures { ReadsText flags_word (λ x. x) result word.now }
+{
+    if !verify_flags(word.as_bytes()) {
+        return Err(ParseError::Message("NAPTR flags are letters and digits"));
+    }
+    let octets = Octets::from_slice(alloc, word.as_bytes())?;
+    Ok(octets)
+}
+
+// The octets of the next word, which are digits and letters.
+fn next_flags<S: AsStr + Drop, I: Iterator<Item = S>>(
+    alloc: Global,
+    words: &mut I,
+) -> Result<Octets, ParseError>
+    requires can { I.can_next words.old }
+    ensures reads { ReadsWord I.next_gives S.text flags_word (λ x. x) result words.old words.new }
+    ensures goes { GoesOn I.can_next I.remaining result words.old words.new }
+{
+    let word = next_word(words, "NAPTR flags")?;
+    flags_of(alloc, word.as_str())
 }
 
 impl Record for NAPTR {

@@ -2,16 +2,19 @@
 
 ghost use Rattle.std.specs.Prelude.{◌≡◌, Some};
 ghost use Rattle.dns_names_wire.specs.{Words.Emits};
-ghost use Rattle.dns_rdata_base.specs.OPENPGPKEY.{openpgpkey_shape, openpgpkey_fields, openpgpkey_facts, openpgpkey_text};
+ghost use Rattle.dns_rdata_base.specs.OPENPGPKEY.{openpgpkey_shape, openpgpkey_fields, openpgpkey_facts, openpgpkey_text, openpgpkey_words};
+ghost use Rattle.dns_words.specs.Reads.{ReadsRow};
 
 use crate::OrderedRecord;
 use crate::rest::rest_quick_cmp;
 use dns_names_wire::{
-    BinDecoder, BinEncodable, BinEncoder, DecodeError, ProtoError, Record, RecordDataDecodable,
-    Restrict, SmallOctets,
+    BinDecoder, BinEncodable, BinEncoder, DecodeError, ParseError, ProtoError, Record,
+    RecordDataDecodable, Restrict, SmallOctets,
 };
-use dns_words::Base64Text;
+use dns_words::{Base64Text, base64_field, next_base64, no_more};
+use std::alloc::Global;
 use std::cmp::Ordering;
+use std::convert::AsStr;
 use std::fmt;
 
 /// A public key in the format of OpenPGP, all octets of a record's length (RFC 7929, 2.1).
@@ -29,6 +32,22 @@ impl OPENPGPKEY {
         OPENPGPKEY {
             public_key: SmallOctets::from_vec(public_key),
         }
+    }
+
+    /// From one word, the key in base64; a further word is refused. Refused by
+    /// [`MissingToken`](ParseError::MissingToken), [`Message`](ParseError::Message) or [`Memory`](ParseError::Memory).
+    pub fn from_tokens<S: AsStr + Drop, I: Iterator<Item = S>>(
+        alloc: Global,
+        mut tokens: I,
+    ) -> Result<OPENPGPKEY, ParseError>
+        requires can { I.can_next tokens }
+        ensures { ReadsRow I.next_gives S.text openpgpkey_words openpgpkey_fields result tokens }
+    {
+        let public_key = next_base64(alloc, &mut tokens, base64_field!("OPENPGPKEY public key"))?;
+        no_more(&mut tokens, "a word behind the OPENPGPKEY public key")?;
+        Ok(OPENPGPKEY {
+            public_key: SmallOctets::from_vec(public_key.into_vec()),
+        })
     }
 }
 

@@ -1,9 +1,11 @@
 //! SOA: the start of a zone of authority (RFC 1035, 3.3.13).
 
-ghost use Rattle.std.specs.{Prelude.◌≡◌, Prelude.◌+◌, Prelude.◌++◌, Prelude.◌%◌, Prelude.IfErr, Prelude.Some, Int.bytes_high_first};
+ghost use Rattle.std.specs.Prelude.{◌≡◌, ◌+◌, ◌++◌, ◌%◌, IfErr, IfOk, Some};
+ghost use Rattle.std.specs.{Int.bytes_high_first, Option.option_copied};
 ghost use Rattle.dns_names_wire.specs.{Words.ReadsIf, Words.Emits, Words.always, Facts.same, Facts.same_equiv, Facts.same_partial};
 ghost use Rattle.dns_rdata_base.specs.Refusing.{IsLack};
-ghost use Rattle.dns_rdata_base.specs.SOA.{soa_shape, soa_fields, soa_facts, soa_numbers_shape, soa_numbers, soa_numbers_of, soa_text};
+ghost use Rattle.dns_rdata_base.specs.SOA.{soa_shape, soa_fields, soa_facts, soa_numbers_shape, soa_numbers, soa_numbers_of, soa_text, soa_words, HasSeconds};
+ghost use Rattle.dns_words.specs.Reads.{ReadsRow};
 ghost use Rattle.dns_fields.specs.declared.RDataEncoding.TheVariants as modes;
 ghost use Rattle.std.specs.{Prelude.ℕ, Prelude.[], Cmp.Lexicographic.slice_cmp, Int.cast_unsigned, Int.w32, Ordering.nat_cmp, Ordering.ordering_then, declared.cmp.Ordering.TheVariants.Equal};
 ghost use Rattle.dns_fields.specs.Fields.{Number, canonical, field_octets};
@@ -13,10 +15,13 @@ ghost use Rattle.dns_rdata_base.specs.Steps.{soa_begins};
 use crate::{OrderedRecord, in_order, unless_tied};
 use dns_names_wire::{
     BinDecodable, BinDecoder, BinEncodable, BinEncoder, DecodeError, DecodesFields, EncodesFields,
-    Name, ProtoError, RDataEncoding, Record,
+    Name, ParseError, ProtoError, RDataEncoding, Record,
 };
 use dns_pieces::{Head, Step, Tail, four_behind, name_behind};
+use dns_words::{next_name, next_signed_ttl, next_ttl, time_field};
+use std::alloc::Global;
 use std::cmp::Ordering;
+use std::convert::AsStr;
 use std::fmt;
 
 /// The start of a zone of authority: two names, and five numbers of four octets each (RFC 1035, 3.3.13). Refresh, retry
@@ -68,6 +73,38 @@ impl SOA {
         ensures { self.new ≡ record self.old { serial = (self.old.serial + 1) % 4294967296 } }
     {
         self.serial = self.serial.wrapping_add(1);
+    }
+
+    /// From seven words: mname and rname, names, which the origin completes where one is given; and serial, refresh,
+    /// retry, expire and minimum, times to live (`parse_ttl`), of which refresh, retry and expire are at most
+    /// 2147483647. Further words are not read. Refused by [`MissingToken`](ParseError::MissingToken), by
+    /// [`Message`](ParseError::Message) where a word is no such time, by [`Proto`](ParseError::Proto) where one is no
+    /// name, or by [`Memory`](ParseError::Memory).
+    pub fn from_tokens<S: AsStr + Drop, I: Iterator<Item = S>>(
+        alloc: Global,
+        mut tokens: I,
+        origin: Option<&Name>,
+    ) -> Result<SOA, ParseError>
+        requires can { I.can_next tokens }
+        ensures reads { ReadsRow I.next_gives S.text (soa_words (option_copied origin.entry)) soa_fields result tokens }
+        ensures seconds { IfOk result HasSeconds }
+    {
+        let mname = next_name(alloc, &mut tokens, origin, "SOA mname")?;
+        let rname = next_name(alloc, &mut tokens, origin, "SOA rname")?;
+        let serial = next_ttl(&mut tokens, time_field!("SOA serial", "4294967295"))?;
+        let refresh = next_signed_ttl(&mut tokens, time_field!("SOA refresh", "2147483647"))?;
+        let retry = next_signed_ttl(&mut tokens, time_field!("SOA retry", "2147483647"))?;
+        let expire = next_signed_ttl(&mut tokens, time_field!("SOA expire", "2147483647"))?;
+        let minimum = next_ttl(&mut tokens, time_field!("SOA minimum", "4294967295"))?;
+        Ok(SOA {
+            mname,
+            rname,
+            serial,
+            refresh,
+            retry,
+            expire,
+            minimum,
+        })
     }
 }
 

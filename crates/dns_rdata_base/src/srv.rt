@@ -1,17 +1,21 @@
 //! SRV: a host of a service (RFC 2782).
 
-ghost use Rattle.std.specs.Prelude.{◌≡◌, Some};
+ghost use Rattle.std.specs.{Prelude.◌≡◌, Prelude.Some, Option.option_copied};
 ghost use Rattle.dns_fields.specs.declared.RDataEncoding.TheVariants as modes;
 ghost use Rattle.dns_names_wire.specs.{Words.Emits};
-ghost use Rattle.dns_rdata_base.specs.SRV.{srv_numbers_shape, srv_numbers, srv_shape, srv_fields, srv_facts, srv_text};
+ghost use Rattle.dns_rdata_base.specs.NameRecords.{srv_numbers_shape, srv_numbers, srv_facts};
+ghost use Rattle.dns_words.specs.{Reads.ReadsRow, Straight.straight_words, Straight.straight_text};
 
 use crate::{OrderedRecord, by_fields, unless_tied};
 use dns_names_wire::{
     BinDecodable, BinDecoder, BinEncodable, BinEncoder, DecodeError, DecodesFields, EncodesFields,
-    Name, ProtoError, RDataEncoding, Record,
+    Name, ParseError, ProtoError, RDataEncoding, Record,
 };
 use dns_pieces::{AtOnce, Head, Tail, name_behind, two_behind};
+use dns_words::{next_name, next_u16, number_field};
+use std::alloc::Global;
 use std::cmp::Ordering;
+use std::convert::AsStr;
 use std::fmt;
 
 /// A host and port of a service: priority, weight and port of two octets each, and a name (RFC 2782).
@@ -38,6 +42,28 @@ impl SRV {
             port,
             target,
         }
+    }
+
+    /// From four words: priority, weight and port, decimal numbers of 16 bits, and target, a name. Further words are
+    /// not read. Refused as `MX::from_tokens`.
+    pub fn from_tokens<S: AsStr + Drop, I: Iterator<Item = S>>(
+        alloc: Global,
+        mut tokens: I,
+        origin: Option<&Name>,
+    ) -> Result<SRV, ParseError>
+        requires can { I.can_next tokens }
+        ensures { ReadsRow I.next_gives S.text (straight_words (option_copied origin.entry) srv_facts.kinds) srv_facts.fields result tokens }
+    {
+        let priority = next_u16(&mut tokens, number_field!("SRV priority"))?;
+        let weight = next_u16(&mut tokens, number_field!("SRV weight"))?;
+        let port = next_u16(&mut tokens, number_field!("SRV port"))?;
+        let target = next_name(alloc, &mut tokens, origin, "SRV target")?;
+        Ok(SRV {
+            priority,
+            weight,
+            port,
+            target,
+        })
     }
 }
 
@@ -122,7 +148,7 @@ impl OrderedRecord for SRV {
 }
 
 impl fmt::Display for SRV {
-    ghost output = { λ x. Some (srv_text x) };
+    ghost output = { λ x. Some (straight_text srv_facts x) };
 
     /// The fields in order, a blank between.
     fn fmt<W: fmt::Write>(&self, f: &mut fmt::Formatter<W>) -> fmt::Result {

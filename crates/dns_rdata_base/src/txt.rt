@@ -1,25 +1,28 @@
 //! TXT: character strings (RFC 1035, 3.3.14).
 
 ghost use Rattle.std.specs.Prelude.{◌≡◌, ◌≤◌, ℕ, List, map, length as list_length, IfOk, Some};
-ghost use Rattle.std.specs.String.{string_bytes};
+ghost use Rattle.std.specs.{String.string_bytes, Iterator.IsFinite};
 ghost use Rattle.dns_fields.specs.Fields.{Texts, Field};
 ghost use Rattle.dns_names_wire.specs.{Words.Emits};
-ghost use Rattle.dns_rdata_base.specs.TXT.{txt_shape, txt_fields, txt_facts, txt_text};
 ghost use Rattle.std.specs.{Prelude.◌<◌, Prelude.[], Prelude.length, Cmp.Lexicographic.slice_cmp, List.AllByRecursion, List.flat_map, Ordering.nat_cmp};
 ghost use Rattle.dns_fields.specs.{Fields.all_emittable, Pieces.string};
 ghost use Rattle.dns_pieces.specs.{Fronts.canonical_cmp, Steps.AllShort, Steps.GivesStep};
 ghost use Rattle.dns_rdata_base.specs.Steps.{texts_left};
+ghost use Rattle.dns_rdata_base.specs.TXT.{txt_shape, txt_fields, txt_facts, txt_text, txt_words};
+ghost use Rattle.dns_words.specs.Reads.{ReadsRow};
 
 use crate::OrderedRecord;
 use bstr::BStr;
 use dns_names_wire::{
-    BinDecoder, BinEncodable, BinEncoder, DecodeError, Octets, ProtoError, Record,
+    BinDecoder, BinEncodable, BinEncoder, DecodeError, Octets, ParseError, ProtoError, Record,
     RecordDataDecodable, Restrict,
 };
 use dns_pieces::{Head, Step, text_behind};
 use dns_types::Strings;
-use std::alloc::AllocError;
+use dns_words::all_texts;
+use std::alloc::{AllocError, Global};
 use std::cmp::Ordering;
+use std::convert::AsStr;
 use std::fmt;
 
 /// Character strings, none or more, which fill a record's length (RFC 1035, 3.3.14).
@@ -55,6 +58,20 @@ impl TXT {
         Ok(TXT {
             txt_data: Strings::from_vec(strings),
         })
+    }
+
+    /// From all words, also none: each is a string, its octets as they are. Fails only for want of memory. The caller
+    /// owes an iterator that ends.
+    pub fn from_tokens<S: AsStr + Drop, I: Iterator<Item = S>>(
+        alloc: Global,
+        tokens: I,
+    ) -> Result<TXT, ParseError>
+        requires can { I.can_next tokens }
+        requires ends { IsFinite (I.remaining tokens) }
+        ensures { ReadsRow I.next_gives S.text txt_words txt_fields result tokens }
+    {
+        let txt_data = all_texts(alloc, tokens)?;
+        Ok(TXT { txt_data })
     }
 }
 

@@ -5,17 +5,18 @@ use Rattle.std.specs.{List.flat_map, Net.Text.ipv4_text, Net.Text.ipv6_text, Net
 use Rattle.std.specs.{declared.net.ipv4_addr.Ipv4Addr.Ipv4Addr, declared.net.ipv6_addr.Ipv6Addr.Ipv6Addr}
 use Rattle.std.specs.Net.Addr.{IsIpv4Addr, IsIpv6Addr, ipv4_octets, ipv6_octets, ipv6_segments, octets_of}
 use Rattle.std.specs.Prelude.{bytes_eq}
-use Rattle.std.proofs.{lemmas.Bool.Decides.nat_tests, lemmas.List.append-nil, lemmas.List.Elements.All-head, lemmas.List.Elements.All-tail}
+use Rattle.std.proofs.{Math.Pow.pow_mono, lemmas.Bool.Decides.nat_tests, lemmas.List.append-nil, lemmas.List.Elements.All-head, lemmas.List.Elements.All-tail}
 use Rattle.std.proofs.{lemmas.Fmt.decimal_is_IsNumeral, lemmas.Str.Parse.without_leading_plus_none, lemmas.Str.Parse.digit_at}
 use Rattle.std.proofs.NetLemmas.Alphabet.{IsDigitOrDot, IsHexOrColon, All-ipv4_text, All-hex_groups_text}
 use Rattle.std.proofs.NetLemmas.Texts.{IsDotted-ipv4_text, IsColonHex-ipv6_text, AllSegments, AllSegments-drop}
-use Rattle.dns_fields.specs.{Labels.DomainName, Fields.Kind, Fields.Value, Fields.Values}
+use Rattle.dns_fields.specs.{Labels.DomainName, Fields.Kind, Fields.Number, Fields.Name, Fields.Value, Fields.Values}
 use Rattle.dns_labels.specs.Text.{printed, label_text, joined_text, name_text}
 use Rattle.dns_labels.proofs.NameTexts.{name_reads}
 use Rattle.dns_text.specs.Ttl.Periods.{plain}
 use Rattle.dns_names_wire.specs.NameValues.{completed}
 use Rattle.dns_words.specs.Forms.{Form, Row, word, ignored, nothing, number, ttl, name, ipv4, ipv6}
 use Rattle.dns_words.specs.Printed.{cut_from, cut, IsPrintedName}
+use Rattle.dns_words.specs.Straight.{straight_words, ArePrinted, field_texts, spaced_from, spaced}
 
 -- ---- words without blanks
 
@@ -53,11 +54,6 @@ cut_last front (c ∷ cs) h =
 abbrev pub AllSolid : List (List ℕ) → Type 0
 AllSolid [] = Unit {0}
 AllSolid (first ∷ words) = IsSolid first × AllSolid words
-
--- words with a blank between two
-abbrev pub spaced_from : List ℕ → List (List ℕ) → List ℕ
-spaced_from front [] = front
-spaced_from front (first ∷ words) = spaced_from (front ++ codes " " ++ first) words
 
 spaced_behind : (front first : List ℕ) (words : List (List ℕ)) → spaced_from (front ++ first) words ≡ front ++ spaced_from first words
 spaced_behind front first [] = refl
@@ -177,3 +173,20 @@ solid_ipv6 segments fits = solid_if (bytes_eq (take 6 segments) (0 ∷ 0 ∷ 0 �
 
 pub ipv6_back : (a : Ipv6Addr) → IsIpv6Addr a → GivesBack ipv6 (ipv6_octets a) (ipv6_text (ipv6_segments a))
 ipv6_back a h = record { is = (a, IsColonHex-ipv6_text _ h.0 h.1, refl); solid = solid_ipv6 (ipv6_segments a) h.1 }
+
+-- ---- records of numbers and names
+
+below : (w n k : ℕ) → n < 2 ^ w → w ≤ k → n < 2 ^ k
+below w n k h le = let up : 2 ^ w ≤ 2 ^ k = pow_mono le in omega arith
+
+fields_back : (origin : Option DomainName) (kinds : List Kind) (vs : Values kinds) → ArePrinted kinds vs → GiveBack (straight_words origin kinds) vs (field_texts kinds vs)
+fields_back origin [] vs h = back_ignored
+fields_back origin (Number w ∷ kinds) vs h = back_word (number_back w vs.0 (below _ vs.0 (8 * w) h.0 (omega arith)) (below _ vs.0 64 h.0 (omega arith))) (fields_back origin kinds vs.1 h.1)
+fields_back origin (Name ∷ kinds) vs h = back_word (name_back vs.0 origin h.0) (fields_back origin kinds vs.1 h.1)
+fields_back origin kinds vs h = absurd h
+
+pub straight_back : (origin : Option DomainName) (kinds : List Kind) (vs : Values kinds) → ArePrinted kinds vs → (straight_words origin kinds).stand vs (cut (spaced (field_texts kinds vs)))
+straight_back origin [] vs h = tt
+straight_back origin (Number w ∷ kinds) vs h = row_back _ vs _ _ _ refl (fields_back origin (Number w ∷ kinds) vs h)
+straight_back origin (Name ∷ kinds) vs h = row_back _ vs _ _ _ refl (fields_back origin (Name ∷ kinds) vs h)
+straight_back origin kinds vs h = absurd h

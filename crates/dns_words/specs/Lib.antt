@@ -3,3 +3,4 @@ pub mod Forms
 pub mod Reads
 pub mod Refusals
 pub mod Printed
+pub mod Straight

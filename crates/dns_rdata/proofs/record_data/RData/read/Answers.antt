@@ -111,10 +111,10 @@ pub returns-in_err-by_length-in-HTTPS : goal.returns-in_err-by_length-in-HTTPS
 returns-in_err-by_length-in-HTTPS c = fails c.from_residual-in_err-by_length-in-HTTPS.result c.in-HTTPS.is c.from_residual-in_err-by_length-in-HTTPS.ensures.1 (reads_counted types.HTTPS rdata.HTTPS service.HTTPS.https_fields (λ h. h) c.index-start.ensures.place c.in_err-by_length-in-HTTPS.ensures c.read_data-data-in-HTTPS.ensures.window c.read_data-data-in-HTTPS.ensures.refused (λ x e. record { type = refl; fields = refl; plain = of_read _ c.read_data-data-in-HTTPS.ensures.made e }))
 
 pub returns-in-MX : goal.returns-in-MX
-returns-in-MX c = gives c.in-MX.is (reads_counted types.MX rdata.MX base.MX.mx_fields (λ h. h) c.index-start.ensures.place c.in_ok-by_length-in-MX.ensures c.read_data-data-in-MX.ensures.window c.read_data-data-in-MX.ensures.refused (λ x _. record { type = refl; fields = refl; plain = tt }))
+returns-in-MX c = gives c.in-MX.is (reads_counted types.MX rdata.MX base.NameRecords.mx_facts.fields (λ h. h) c.index-start.ensures.place c.in_ok-by_length-in-MX.ensures c.read_data-data-in-MX.ensures.window c.read_data-data-in-MX.ensures.refused (λ x _. record { type = refl; fields = refl; plain = tt }))
 
 pub returns-in_err-by_length-in-MX : goal.returns-in_err-by_length-in-MX
-returns-in_err-by_length-in-MX c = fails c.from_residual-in_err-by_length-in-MX.result c.in-MX.is c.from_residual-in_err-by_length-in-MX.ensures.1 (reads_counted types.MX rdata.MX base.MX.mx_fields (λ h. h) c.index-start.ensures.place c.in_err-by_length-in-MX.ensures c.read_data-data-in-MX.ensures.window c.read_data-data-in-MX.ensures.refused (λ x _. record { type = refl; fields = refl; plain = tt }))
+returns-in_err-by_length-in-MX c = fails c.from_residual-in_err-by_length-in-MX.result c.in-MX.is c.from_residual-in_err-by_length-in-MX.ensures.1 (reads_counted types.MX rdata.MX base.NameRecords.mx_facts.fields (λ h. h) c.index-start.ensures.place c.in_err-by_length-in-MX.ensures c.read_data-data-in-MX.ensures.window c.read_data-data-in-MX.ensures.refused (λ x _. record { type = refl; fields = refl; plain = tt }))
 
 pub returns-in-NAPTR : goal.returns-in-NAPTR
 returns-in-NAPTR c = gives c.in-NAPTR.is (reads_counted types.NAPTR rdata.NAPTR base.NAPTR.naptr_fields (λ h. h) c.index-start.ensures.place c.in_ok-by_length-in-NAPTR.ensures c.read_data-data-in-NAPTR.ensures.window c.read_data-data-in-NAPTR.ensures.refused (λ x _. record { type = refl; fields = refl; plain = tt }))
@@ -165,10 +165,10 @@ pub returns-in_err-by_length-in-SOA : goal.returns-in_err-by_length-in-SOA
 returns-in_err-by_length-in-SOA c = fails c.from_residual-in_err-by_length-in-SOA.result c.in-SOA.is c.from_residual-in_err-by_length-in-SOA.ensures.1 (reads_counted types.SOA rdata.SOA base.SOA.soa_fields (λ h. h) c.index-start.ensures.place c.in_err-by_length-in-SOA.ensures c.read_data-data-in-SOA.ensures.window c.read_data-data-in-SOA.ensures.refused (λ x e. record { type = refl; fields = refl; plain = of_read _ c.read_data-data-in-SOA.ensures.made e }))
 
 pub returns-in-SRV : goal.returns-in-SRV
-returns-in-SRV c = gives c.in-SRV.is (reads_counted types.SRV rdata.SRV base.SRV.srv_fields (λ h. h) c.index-start.ensures.place c.in_ok-by_length-in-SRV.ensures c.read_data-data-in-SRV.ensures.window c.read_data-data-in-SRV.ensures.refused (λ x _. record { type = refl; fields = refl; plain = tt }))
+returns-in-SRV c = gives c.in-SRV.is (reads_counted types.SRV rdata.SRV base.NameRecords.srv_facts.fields (λ h. h) c.index-start.ensures.place c.in_ok-by_length-in-SRV.ensures c.read_data-data-in-SRV.ensures.window c.read_data-data-in-SRV.ensures.refused (λ x _. record { type = refl; fields = refl; plain = tt }))
 
 pub returns-in_err-by_length-in-SRV : goal.returns-in_err-by_length-in-SRV
-returns-in_err-by_length-in-SRV c = fails c.from_residual-in_err-by_length-in-SRV.result c.in-SRV.is c.from_residual-in_err-by_length-in-SRV.ensures.1 (reads_counted types.SRV rdata.SRV base.SRV.srv_fields (λ h. h) c.index-start.ensures.place c.in_err-by_length-in-SRV.ensures c.read_data-data-in-SRV.ensures.window c.read_data-data-in-SRV.ensures.refused (λ x _. record { type = refl; fields = refl; plain = tt }))
+returns-in_err-by_length-in-SRV c = fails c.from_residual-in_err-by_length-in-SRV.result c.in-SRV.is c.from_residual-in_err-by_length-in-SRV.ensures.1 (reads_counted types.SRV rdata.SRV base.NameRecords.srv_facts.fields (λ h. h) c.index-start.ensures.place c.in_err-by_length-in-SRV.ensures c.read_data-data-in-SRV.ensures.window c.read_data-data-in-SRV.ensures.refused (λ x _. record { type = refl; fields = refl; plain = tt }))
 
 pub returns-in-SSHFP : goal.returns-in-SSHFP
 returns-in-SSHFP c = gives c.in-SSHFP.is (reads_counted types.SSHFP rdata.SSHFP certs.SSHFP.sshfp_fields (λ h. h) c.index-start.ensures.place c.in_ok-by_length-in-SSHFP.ensures c.read_data-data-in-SSHFP.ensures.window c.read_data-data-in-SSHFP.ensures.refused (λ x e. record { type = refl; fields = refl; plain = (of_read _ c.read_data-data-in-SSHFP.ensures.made e).0 }))

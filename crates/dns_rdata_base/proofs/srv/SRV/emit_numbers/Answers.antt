@@ -1,7 +1,7 @@
 use Rattle.std.proofs.Common.{arith, refl}
 use Rattle.dns_fields.specs.Fields.{field_octets}
 use Rattle.dns_names_wire.proofs.PlainWrites.{emits_plain, number_then}
-use Rattle.dns_rdata_base.specs.SRV.{srv_numbers_shape, srv_numbers}
+use Rattle.dns_rdata_base.specs.NameRecords.{srv_numbers_shape, srv_numbers}
 use Rattle.dns_rdata_base.proofs.srv.SRV.emit_numbers.Goals as goal
 
 pub returns : goal.returns

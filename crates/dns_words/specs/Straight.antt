@@ -1,0 +1,38 @@
+-- Records of numbers and names, in order: their words, their text, and which of them print in words that give them back.
+use Rattle.std.specs.Prelude.{ℕ, ◌<◌, ◌^◌, ◌*◌, min, List, [], ◌∷◌, ◌++◌, codes, decimal, Option}
+use Rattle.dns_fields.specs.{Labels.DomainName, Fields.Kind, Fields.Number, Fields.Name, Fields.Values}
+use Rattle.dns_labels.specs.Text.{name_text}
+use Rattle.dns_names_wire.specs.Facts.{Facts}
+use Rattle.dns_words.specs.{Forms.Row, Forms.word, Forms.ignored, Forms.number, Forms.name, Printed.IsPrintedName}
+
+-- a word for each field; no words give fields of another kind
+abbrev pub straight_words : Option DomainName → (kinds : List Kind) → Row kinds
+straight_words origin [] = ignored
+straight_words origin (Number w ∷ kinds) = word (number w) (straight_words origin kinds)
+straight_words origin (Name ∷ kinds) = word (name origin) (straight_words origin kinds)
+straight_words origin kinds = record { stand = λ vs words. ⊥ }
+
+-- each number fits its octets, or eight of them, and each name is fully qualified
+abbrev pub ArePrinted : (kinds : List Kind) → Values kinds → Type 0
+ArePrinted [] vs = Unit {0}
+ArePrinted (Number w ∷ kinds) vs = (vs.0 < 2 ^ min (8 * w) 64) × ArePrinted kinds vs.1
+ArePrinted (Name ∷ kinds) vs = IsPrintedName vs.0 × ArePrinted kinds vs.1
+ArePrinted kinds vs = ⊥
+
+abbrev pub field_texts : (kinds : List Kind) → Values kinds → List (List ℕ)
+field_texts (Number w ∷ kinds) vs = decimal vs.0 ∷ field_texts kinds vs.1
+field_texts (Name ∷ kinds) vs = name_text vs.0 ∷ field_texts kinds vs.1
+field_texts kinds vs = []
+
+-- texts behind a first one, a blank between two
+abbrev pub spaced_from : List ℕ → List (List ℕ) → List ℕ
+spaced_from front [] = front
+spaced_from front (first ∷ words) = spaced_from (front ++ codes " " ++ first) words
+
+abbrev pub spaced : List (List ℕ) → List ℕ
+spaced [] = []
+spaced (first ∷ words) = spaced_from first words
+
+-- the fields of a record, a blank between two
+abbrev pub straight_text : {T : Type 0} → Facts T → T → List ℕ
+straight_text f x = spaced (field_texts f.kinds (f.fields x))
