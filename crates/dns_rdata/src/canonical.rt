@@ -8,12 +8,11 @@ ghost use Rattle.dns_rdata.specs.Cursor.{can_emit, data_left, data_windows, data
 use crate::record_data::RData;
 use crate::traits::RecordData;
 use dns_pieces::{Count, Cursor, Head, Step, Stepped, whole_step};
-use dns_rdata_base::hinfo::{hinfo_is_emittable, hinfo_step};
-use dns_rdata_base::name::name_step;
-use dns_rdata_base::naptr::{naptr_is_emittable, naptr_step};
 use dns_rdata_base::rest::rest_step;
-use dns_rdata_base::soa::soa_step;
-use dns_rdata_base::txt::{txt_is_emittable, txt_step};
+use dns_rdata_base::steps::{
+    hinfo_is_emittable, hinfo_step, name_step, naptr_is_emittable, naptr_step, soa_step,
+    txt_is_emittable, txt_step,
+};
 use dns_rdata_options::heads::Heads;
 use dns_rdata_options::steps::{opt_is_emittable, opt_step_kept};
 use dns_rdata_service::steps::{https_step, svcb_is_emittable, svcb_step};

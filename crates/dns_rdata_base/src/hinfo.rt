@@ -2,20 +2,17 @@
 
 ghost use Rattle.std.specs.{Prelude.◌≡◌, Prelude.Some, Box.boxed_slice_items, String.string_bytes};
 ghost use Rattle.dns_names_wire.specs.{Words.Emits, Facts.RecordRefuses, Facts.RecordStands};
-ghost use Rattle.std.specs.Prelude.{ℕ, []};
-ghost use Rattle.dns_fields.specs.Fields.{all_emittable};
-ghost use Rattle.dns_pieces.specs.Steps.{AllShort, GivesStep, by_fields};
-ghost use Rattle.dns_rdata_base.specs.Steps.{hinfo_begins};
 ghost use Rattle.dns_rdata_base.specs.HINFO.{hinfo_shape, hinfo_fields, hinfo_facts, hinfo_text, hinfo_words};
 ghost use Rattle.dns_words.specs.Reads.{ReadsRow};
 
+use crate::steps::hinfo_is_emittable;
 use crate::{OrderedRecord, by_fields};
 use bstr::BStr;
 use dns_names_wire::{
     BinDecodable, BinDecoder, BinEncodable, BinEncoder, DecodeError, DecodesFields, ParseError,
     ProtoError, Record, SmallOctets,
 };
-use dns_pieces::{Head, Step, text_behind};
+use dns_pieces::text_behind;
 use dns_words::next_kept;
 use std::alloc::Global;
 use std::boxed::BoxedSlice;
@@ -116,28 +113,6 @@ impl BinEncodable for HINFO {
         encoder.emit_character_data(self.os.as_slice())?;
         Ok(())
     }
-}
-
-/// The machine, the operating system.
-#[inline]
-pub fn hinfo_step<'a>(x: &'a HINFO, step: usize, head: &mut Head) -> Option<Step<'a>>
-    requires empty { head.old ≡ [] }
-    requires short { AllShort hinfo_shape (hinfo_fields x.now) }
-    ensures { (i j : ℕ) → GivesStep (by_fields hinfo_begins hinfo_shape (hinfo_fields x.now)) step i j head.new result }
-{
-    match step {
-        0 => Some(Step::to(head.text(x.cpu.as_slice()), 1)),
-        1 => Some(Step::to(head.text(x.os.as_slice()), 2)),
-        _ => None,
-    }
-}
-
-/// Whether no string has more than 255 octets.
-#[inline]
-pub fn hinfo_is_emittable(x: &HINFO) -> bool
-    ensures { result ≡ all_emittable hinfo_shape (hinfo_fields x.now) }
-{
-    x.cpu.len() <= 255 && x.os.len() <= 255
 }
 
 impl OrderedRecord for HINFO {

@@ -14,6 +14,7 @@ pub mod ordered;
 pub mod rest;
 pub mod soa;
 pub mod srv;
+pub mod steps;
 pub mod traits;
 pub mod txt;
 

@@ -2,9 +2,7 @@
 
 ghost use Rattle.std.specs.{Prelude.◌≡◌, Prelude.Some, Option.option_copied};
 ghost use Rattle.dns_fields.specs.declared.RDataEncoding.TheVariants as modes;
-ghost use Rattle.std.specs.Prelude.{ℕ, []};
-ghost use Rattle.dns_pieces.specs.Steps.{GivesStep, at_once, by_fields};
-ghost use Rattle.dns_rdata_base.specs.NameRecords.{name_shape, name_fields, cname_fields, cname_facts, ns_fields, ns_facts, ptr_fields, ptr_facts, aname_fields, aname_facts};
+ghost use Rattle.dns_rdata_base.specs.NameRecords.{name_shape, cname_fields, cname_facts, ns_fields, ns_facts, ptr_fields, ptr_facts, aname_fields, aname_facts};
 ghost use Rattle.dns_words.specs.{Reads.ReadsRow, Straight.straight_words, Straight.straight_text};
 
 use crate::{OrderedRecord, unless_tied};
@@ -12,7 +10,7 @@ use dns_names_wire::{
     BinDecodable, BinDecoder, BinEncodable, BinEncoder, DecodeError, DecodesFields, EncodesFields,
     Name, ParseError, ProtoError, RDataEncoding, Record,
 };
-use dns_pieces::{Head, Step, Tail, name_behind};
+use dns_pieces::name_behind;
 use dns_words::next_name;
 use std::alloc::Global;
 use std::cmp::Ordering;
@@ -70,19 +68,6 @@ impl Deref for CNAME {
 
     fn deref(&self) -> &Name {
         &self.0
-    }
-}
-
-/// The name, of ANAME, CNAME, NS and PTR.
-#[inline]
-pub fn name_step<'a>(name: &'a Name, step: usize, head: &mut Head) -> Option<Step<'a>>
-    requires empty { head.old ≡ [] }
-    ensures { (i j : ℕ) → GivesStep (by_fields at_once name_shape (name_fields name.now)) step i j head.new result }
-{
-    let _ = &head;
-    match step {
-        0 => Some(Step::to(Tail::name(name), 1)),
-        _ => None,
     }
 }
 

@@ -6,18 +6,15 @@ ghost use Rattle.dns_rdata_base.specs.NAPTR.{naptr_numbers_shape, naptr_numbers,
 ghost use Rattle.dns_rdata_base.specs.NAPTR.{naptr_facts, naptr_text, flags_word, naptr_words};
 ghost use Rattle.dns_words.specs.Reads.{ReadsRow, ReadsText, ReadsWord, GoesOn};
 ghost use Rattle.dns_fields.specs.declared.RDataEncoding.TheVariants as modes;
-ghost use Rattle.std.specs.Prelude.{ℕ, []};
-ghost use Rattle.dns_fields.specs.Fields.{all_emittable};
-ghost use Rattle.dns_pieces.specs.Steps.{AllShort, GivesStep, by_fields};
-ghost use Rattle.dns_rdata_base.specs.Steps.{naptr_begins};
 
+use crate::steps::naptr_is_emittable;
 use crate::{OrderedRecord, by_fields, unless_tied};
 use bstr::BStr;
 use dns_names_wire::{
     BinDecodable, BinDecoder, BinEncodable, BinEncoder, DecodeError, DecodesFields, EncodesFields,
     Name, Octets, ParseError, ProtoError, RDataEncoding, Record,
 };
-use dns_pieces::{Head, Step, Tail, name_behind, text_behind, two_behind};
+use dns_pieces::{name_behind, text_behind, two_behind};
 use dns_words::{next_kept, next_name, next_u16, next_word, number_field};
 use std::alloc::Global;
 use std::boxed::BoxedSlice;
@@ -205,34 +202,6 @@ impl EncodesFields for NAPTR {
         self.emit_numbers(encoder)?;
         self.emit_rest(encoder)
     }
-}
-
-/// Numbers and flags, the services, the substitution, the name.
-#[inline]
-pub fn naptr_step<'a>(x: &'a NAPTR, step: usize, head: &mut Head) -> Option<Step<'a>>
-    requires empty { head.old ≡ [] }
-    requires short { AllShort naptr_shape (naptr_fields x.now) }
-    ensures { (i j : ℕ) → GivesStep (by_fields naptr_begins naptr_shape (naptr_fields x.now)) step i j head.new result }
-{
-    match step {
-        0 => {
-            head.two(x.order);
-            head.two(x.preference);
-            Some(Step::to(head.text(x.flags.as_slice()), 1))
-        }
-        1 => Some(Step::to(head.text(x.services.as_slice()), 2)),
-        2 => Some(Step::to(head.text(x.regexp.as_slice()), 3)),
-        3 => Some(Step::to(Tail::name(&x.replacement), 4)),
-        _ => None,
-    }
-}
-
-/// Whether no string has more than 255 octets.
-#[inline]
-pub fn naptr_is_emittable(x: &NAPTR) -> bool
-    ensures { result ≡ all_emittable naptr_shape (naptr_fields x.now) }
-{
-    x.flags.len() <= 255 && x.services.len() <= 255 && x.regexp.len() <= 255
 }
 
 impl OrderedRecord for NAPTR {

@@ -7,17 +7,16 @@ ghost use Rattle.dns_rdata_base.specs.Refusing.{IsLack};
 ghost use Rattle.dns_rdata_base.specs.SOA.{soa_shape, soa_fields, soa_facts, soa_numbers_shape, soa_numbers, soa_numbers_of, soa_text, soa_words, HasSeconds};
 ghost use Rattle.dns_words.specs.Reads.{ReadsRow};
 ghost use Rattle.dns_fields.specs.declared.RDataEncoding.TheVariants as modes;
-ghost use Rattle.std.specs.{Prelude.ℕ, Prelude.[], Cmp.Lexicographic.slice_cmp, Int.cast_unsigned, Int.w32, Ordering.nat_cmp, Ordering.ordering_then, declared.cmp.Ordering.TheVariants.Equal};
-ghost use Rattle.dns_fields.specs.Fields.{Number, canonical, field_octets};
-ghost use Rattle.dns_pieces.specs.{Fronts.AllEndAlike, Fronts.fields_cmp, Steps.GivesStep, Steps.by_fields};
-ghost use Rattle.dns_rdata_base.specs.Steps.{soa_begins};
+ghost use Rattle.std.specs.{Cmp.Lexicographic.slice_cmp, Int.cast_unsigned, Int.w32, Ordering.nat_cmp, Ordering.ordering_then, declared.cmp.Ordering.TheVariants.Equal};
+ghost use Rattle.dns_fields.specs.Fields.{Number, field_octets};
+ghost use Rattle.dns_pieces.specs.Fronts.{AllEndAlike, fields_cmp};
 
 use crate::{OrderedRecord, in_order, unless_tied};
 use dns_names_wire::{
     BinDecodable, BinDecoder, BinEncodable, BinEncoder, DecodeError, DecodesFields, EncodesFields,
     Name, ParseError, ProtoError, RDataEncoding, Record,
 };
-use dns_pieces::{Head, Step, Tail, four_behind, name_behind};
+use dns_pieces::{four_behind, name_behind};
 use dns_words::{next_name, next_signed_ttl, next_ttl, time_field};
 use std::alloc::Global;
 use std::cmp::Ordering;
@@ -210,36 +209,6 @@ impl Eq for SOA {
     ghost laws = { same_equiv soa_shape soa_fields };
 }
 
-// Serial, refresh, retry, expire and minimum.
-#[inline]
-fn soa_numbers_head(x: &SOA, head: &mut Head)
-    requires { head.old ≡ [] }
-    ensures { head.new ≡ canonical soa_numbers_shape (soa_numbers_of x.now) }
-{
-    head.four(x.serial);
-    head.four(x.refresh.cast_unsigned());
-    head.four(x.retry.cast_unsigned());
-    head.four(x.expire.cast_unsigned());
-    head.four(x.minimum);
-}
-
-/// The two names, and then the numbers.
-#[inline]
-pub fn soa_step<'a>(x: &'a SOA, step: usize, head: &mut Head) -> Option<Step<'a>>
-    requires empty { head.old ≡ [] }
-    ensures { (i j : ℕ) → GivesStep (by_fields soa_begins soa_shape (soa_fields x.now)) step i j head.new result }
-{
-    match step {
-        0 => Some(Step::to(Tail::name(&x.mname), 1)),
-        1 => Some(Step::to(Tail::name(&x.rname), 2)),
-        2 => {
-            soa_numbers_head(x, head);
-            Some(Step::to(Tail::none(), 3))
-        }
-        _ => None,
-    }
-}
-
 // A number in two's complement, behind fields that were compared so.
 #[inline]
 fn seconds_behind(first: Ordering, a: &i32, b: &i32) -> Ordering
@@ -248,8 +217,8 @@ fn seconds_behind(first: Ordering, a: &i32, b: &i32) -> Ordering
     four_behind(first, a.cast_unsigned(), b.cast_unsigned())
 }
 
-/// The two names, and then the numbers, field by field.
-pub fn soa_order(a: &SOA, b: &SOA) -> Ordering
+// The two names, and then the numbers, field by field.
+fn soa_order(a: &SOA, b: &SOA) -> Ordering
     ensures order { result ≡ fields_cmp Equal soa_shape (soa_fields a.now) (soa_fields b.now) }
     ensures ends { AllEndAlike soa_shape (soa_fields a.now) (soa_fields b.now) }
 {

@@ -4,20 +4,20 @@ ghost use Rattle.std.specs.Prelude.{◌≡◌, ◌≤◌, ℕ, List, map, length
 ghost use Rattle.std.specs.{String.string_bytes, Iterator.IsFinite};
 ghost use Rattle.dns_fields.specs.Fields.{Texts, Field};
 ghost use Rattle.dns_names_wire.specs.{Words.Emits};
-ghost use Rattle.std.specs.{Prelude.◌<◌, Prelude.[], Prelude.length, Cmp.Lexicographic.slice_cmp, List.AllByRecursion, List.flat_map, Ordering.nat_cmp};
-ghost use Rattle.dns_fields.specs.{Fields.all_emittable, Pieces.string};
-ghost use Rattle.dns_pieces.specs.{Fronts.canonical_cmp, Steps.AllShort, Steps.GivesStep};
-ghost use Rattle.dns_rdata_base.specs.Steps.{texts_left};
+ghost use Rattle.std.specs.{Cmp.Lexicographic.slice_cmp, List.flat_map, Ordering.nat_cmp};
+ghost use Rattle.dns_fields.specs.Pieces.{string};
+ghost use Rattle.dns_pieces.specs.Fronts.{canonical_cmp};
 ghost use Rattle.dns_rdata_base.specs.TXT.{txt_shape, txt_fields, txt_facts, txt_text, txt_words};
 ghost use Rattle.dns_words.specs.Reads.{ReadsRow};
 
 use crate::OrderedRecord;
+use crate::steps::txt_is_emittable;
 use bstr::BStr;
 use dns_names_wire::{
     BinDecoder, BinEncodable, BinEncoder, DecodeError, Octets, ParseError, ProtoError, Record,
     RecordDataDecodable, Restrict,
 };
-use dns_pieces::{Head, Step, text_behind};
+use dns_pieces::text_behind;
 use dns_types::Strings;
 use dns_words::all_texts;
 use std::alloc::{AllocError, Global};
@@ -125,44 +125,9 @@ impl BinEncodable for TXT {
     }
 }
 
-/// The string that has this number among the parts.
+// String by string, each behind its length octet.
 #[inline]
-pub fn txt_step<'a>(x: &'a TXT, step: usize, part: usize, head: &mut Head) -> Option<Step<'a>>
-    requires empty { head.old ≡ [] }
-    requires short { AllShort txt_shape (txt_fields x.now) }
-    ensures { (j : ℕ) → GivesStep (texts_left x.now.txt_data) step part j head.new result }
-{
-    let texts = x.txt_data.as_slice();
-    if step > 0 {
-        return None;
-    }
-    if part >= texts.len() {
-        return None;
-    }
-    Some(Step {
-        tail: head.text(texts[part].as_slice()),
-        step: 0,
-        part: part + 1,
-        item: 0,
-    })
-}
-
-/// Whether no string has more than 255 octets.
-#[inline]
-pub fn txt_is_emittable(x: &TXT) -> bool
-    ensures { result ≡ all_emittable txt_shape (txt_fields x.now) }
-{
-    for text in x.txt_data.as_slice() {
-        if text.len() > 255 {
-            return false;
-        }
-    }
-    true
-}
-
-/// String by string, each behind its length octet.
-#[inline]
-pub fn texts_cmp(a: &[Octets], b: &[Octets]) -> Ordering
+fn texts_cmp(a: &[Octets], b: &[Octets]) -> Ordering
     ensures { result ≡ slice_cmp nat_cmp (flat_map string a.now) (flat_map string b.now) }
 {
     let shorter = a.len().min(b.len());
@@ -175,9 +140,9 @@ pub fn texts_cmp(a: &[Octets], b: &[Octets]) -> Ordering
     a.len().cmp(&b.len())
 }
 
-/// String by string.
+// String by string.
 #[tactic(auto, unfolding(dns_fields::specs::Fields::field_octets))]
-pub fn txt_order(a: &TXT, b: &TXT) -> Ordering
+fn txt_order(a: &TXT, b: &TXT) -> Ordering
     ensures { result ≡ canonical_cmp txt_shape (txt_fields a.now) (txt_fields b.now) }
 {
     texts_cmp(a.txt_data.as_slice(), b.txt_data.as_slice())

@@ -9,8 +9,8 @@ use Rattle.std.specs.{FinMap.nat_cmp-IsAntisymmetric, FinMap.slice_cmp-IsAntisym
 use Rattle.dns_fields.specs.{Pieces.string, Pieces.Alpn, Pieces.Opaque, Pieces.Port, Equal.key_eq, Equal.parameter_keys, Equal.values_eq}
 use Rattle.dns_fields.specs.{Fields.Number, Fields.Name, Fields.field_octets, Labels.AreLabels, Labels.lowname, Comparing.name_eq}
 use Rattle.dns_fields.proofs.Numbers.{number_cmp, length-bytes, same_number}
-use Rattle.dns_pieces.specs.Fronts.{canonical_cmp}
-use Rattle.dns_pieces.proofs.{Comparing.cmp_shared, Comparing.then_kept, Comparing.then_equal, Fronts.by_fields, Fronts.field_cmp, Fronts.front_then}
+use Rattle.dns_pieces.specs.Fronts.{canonical_cmp, field_cmp}
+use Rattle.dns_pieces.proofs.{Comparing.cmp_shared, Comparing.then_kept, Comparing.then_equal, Fronts.by_fields, Fronts.front_then}
 use Rattle.dns_rdata_service.proofs.OwnValues.{value_given}
 use Rattle.dns_rdata_service.specs.Ordering.{OrderFirst, joined, behind_length, value_place, Differ}
 use Rattle.dns_rdata_service.specs.SvcParamValue.{value_key, value_of, sized, key_numbers}

@@ -15,7 +15,8 @@ use crate::ordering::svcb_cmp;
 use crate::steps::{names_size, octets_size, svcb_is_emittable};
 use crate::svcb::{Parameter, SVCB, SvcParamValue};
 use dns_names_wire::SmallOctets;
-use dns_pieces::{name_behind, slices_behind, two_behind};
+use dns_pieces::order::slices_behind;
+use dns_pieces::{name_behind, two_behind};
 use dns_rdata_base::OrderedRecord;
 use std::cmp::Ordering;
 

@@ -1,7 +1,7 @@
 use Rattle.std.proofs.Common.{◌≡◌, ◌∙◌, ap, ◌++◌, arith}
 use Rattle.dns_fields.specs.Fields.{Text, field_octets}
 use Rattle.dns_rdata_base.proofs.TextLists.{text_given}
-use Rattle.dns_rdata_base.proofs.txt.txt_step.Goals as goal
+use Rattle.dns_rdata_base.proofs.steps.txt_step.Goals as goal
 
 pub returns : goal.returns
 returns c =
