@@ -88,14 +88,12 @@ impl RData {
         self.rank().cmp(&other.rank())
     }
 
-    // The whole order: by the canonical octets, then by type, then by variant, then by the fields.
-    #[tactic(auto, unfolding(crate::specs::QuickOrders::TellsOrder))]
-    fn cmp_all(&self, other: &RData) -> Ordering
+    // The order of two values that the fields do not tell without a cursor: by the canonical octets, then by type, then by
+    // variant, then by the fields. A call, so that only such values take the room of two cursors.
+    #[inline(never)]
+    fn cmp_octets(&self, other: &RData) -> Ordering
         ensures { result ≡ rdata_cmp self.now other.now }
     {
-        if let Some(order) = self.quick_cmp(other) {
-            return order;
-        }
         // Equal values are found out sooner by `==` than by two cursors.
         if self == other {
             return Ordering::Equal;
@@ -111,6 +109,17 @@ impl RData {
             return types;
         }
         self.cmp_fields(other)
+    }
+
+    // The whole order.
+    #[tactic(auto, unfolding(crate::specs::QuickOrders::TellsOrder))]
+    fn cmp_all(&self, other: &RData) -> Ordering
+        ensures { result ≡ rdata_cmp self.now other.now }
+    {
+        if let Some(order) = self.quick_cmp(other) {
+            return order;
+        }
+        self.cmp_octets(other)
     }
 }
 

@@ -2,7 +2,7 @@ use Rattle.std.proofs.Common.{◌≡◌, true, refl, sym, ◌∙◌}
 use Rattle.std.specs.{declared.cmp.Ordering.Ordering, Ordering.is_eq}
 use Rattle.std.specs.declared.cmp.Ordering.TheVariants.{Less, Equal, Greater}
 use Rattle.dns_rdata.specs.Ties.{rdata_ties}
-use Rattle.dns_rdata.proofs.record_data.RData.cmp_all.Goals as goal
+use Rattle.dns_rdata.proofs.record_data.RData.cmp_octets.Goals as goal
 
 is_equal : (r : Ordering) → is_eq r ≡ true → Equal ≡ r
 is_equal Less h = cc h
