@@ -417,8 +417,8 @@ impl RData {
         // Few are compared in place, so that this function needs hardly a frame.
         equal_each!(
             (self, other),
-            [ANAME CERT CNAME CSYNC HINFO MX NAPTR NS PTR SMIMEA SRV SSHFP TLSA TXT],
-            [A AAAA CAA HTTPS OPT SOA SVCB],
+            [ANAME CERT CNAME CSYNC HINFO MX NAPTR NS PTR SRV SSHFP TXT],
+            [A AAAA CAA HTTPS OPT SMIMEA SOA SVCB TLSA],
             (RData::NULL(a), RData::NULL(b)) => a.anything == b.anything,
             (RData::OPENPGPKEY(a), RData::OPENPGPKEY(b)) => a.public_key == b.public_key,
             (

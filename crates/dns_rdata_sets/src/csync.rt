@@ -167,7 +167,8 @@ impl BinEncodable for CSYNC {
     /// Appends serial, flags and the shortest bitmap of the types.
     fn emit(&self, encoder: &mut BinEncoder<'_>) -> Result<(), ProtoError> {
         self.emit_numbers(encoder)?;
-        self.type_bit_maps.emit(encoder)
+        self.type_bit_maps.emit(encoder)?;
+        Ok(())
     }
 }
 
