@@ -81,9 +81,13 @@ pub fn emit_in<T: EncodesFields>(
     ensures keeps { Keeps encoder.old encoder.new }
 {
     let earlier = encoder.with_rdata_behavior(mode);
-    let outcome = value.emit_fields(encoder);
+    // Each way out returns by itself, so that the usual one makes no result of the other.
+    if let Err(e) = value.emit_fields(encoder) {
+        encoder.with_rdata_behavior(earlier);
+        return Err(e);
+    }
     encoder.with_rdata_behavior(earlier);
-    outcome
+    Ok(())
 }
 
 impl<T: EncodesFields> BinEncodable for T {
