@@ -17,26 +17,26 @@ use Rattle.dns_fields.proofs.Pieces.{number_first, heads_same, piece_before, len
 
 -- ---- what the examples are made of
 
-reads : {message : List ℕ} {start end : ℕ} {kinds : List Kind} {values : Values kinds} {octets : List ℕ} → Stands message start kinds values end
+pub reads : {message : List ℕ} {start end : ℕ} {kinds : List Kind} {values : Values kinds} {octets : List ℕ} → Stands message start kinds values end
     → canonical kinds values ≡ octets → Reads message start end kinds values octets
 reads stands same = record { stands = stands; canonical_octets = same }
 
 -- something up to a place, and what follows from there
-next : {P Q : ℕ → Type 0} (q : ℕ) → P q → Q q → (q : ℕ) × P q × Q q
+pub next : {P Q : ℕ → Type 0} (q : ℕ) → P q → Q q → (q : ℕ) × P q × Q q
 next q p r = (q, p, r)
 
 -- octets stand there
-at : {m x : List ℕ} {p q : ℕ} → q ≡ p + length x → q ≤ length m → take (length x) (drop p m) ≡ x → At m p x q
+pub at : {m x : List ℕ} {p q : ℕ} → q ≡ p + length x → q ≤ length m → take (length x) (drop p m) ≡ x → At m p x q
 at ends within same = record { ends = ends; within = within; same = same }
 
 -- octets that are the whole message, from either side
 At-all : {m x : List ℕ} → x ≡ m → At m 0 x (length m)
 At-all {m} {x} e = at (omega (arith, ap length e)) (omega arith) (take_all (length x) m (omega (arith, ap length e)) ∙ sym e)
 
-At-whole : {m x : List ℕ} {q : ℕ} → At m 0 x q → q ≡ length m → x ≡ m
+pub At-whole : {m x : List ℕ} {q : ℕ} → At m 0 x q → q ≡ length m → x ≡ m
 At-whole {m} {x} a e = let n = a.ends in sym a.same ∙ take_all (length x) m (omega arith)
 
-number : {m : List ℕ} {p w n q : ℕ} → n < 256 ^ w → q ≡ p + length (bytes_high_first w n) → q ≤ length m
+pub number : {m : List ℕ} {p w n q : ℕ} → n < 256 ^ w → q ≡ p + length (bytes_high_first w n) → q ≤ length m
     → take (length (bytes_high_first w n)) (drop p m) ≡ bytes_high_first w n → Field m p (Number w) n q
 number small ends within same = record { is = (small, at ends within same) }
 
@@ -375,89 +375,5 @@ parameter_examples = record {
   broken_parameter = (
     no_parameter 0 [] (omega arith, omega arith) (λ w. (none_held w).2),
     no_parameter 3 (0x35 ∷ []) (omega arith, omega arith) (λ w. (none_held w).3),
-  );
-}
-
--- ---- bitmaps
-
--- blocks from a place on that are the minimal ones of a set
-bitmap : {m : List ℕ} {p q : ℕ} (v : List ℕ) (blocks : List Block) → At m p (flat_map block blocks) q → AllByRecursion IsBlock blocks → IsTypeSet v
-    → minimal v ≡ blocks → Field m p Bitmap v q
-bitmap v blocks there fit set e =
-    record { is = record { blocks = blocks; at = there; fit = fit; set = set; types = λ t. minimal_types v set.numbers t ∙ ap (list_any (has_type t)) e } }
-
-fits : {number : ℕ} {octets : List ℕ} → number < 256 → 1 ≤ length octets → length octets ≤ 32 → IsBlock (number, octets)
-fits n some most = record { number = n; some = some; most = most }
-
--- three numbers that rise
-three_rise : {a b c : ℕ} → a < b → b < c → c < 65536 → IsTypeSet (a ∷ b ∷ c ∷ [])
-three_rise p q r = record { rises = ((p, (omega arith, tt)), ((q, tt), (tt, tt))); numbers = (omega arith, (omega arith, (r, tt))) }
-
-three_types : minimal (1 ∷ 2 ∷ 28 ∷ []) ≡ (0, 0x60 ∷ 0x00 ∷ 0x00 ∷ 0x08 ∷ []) ∷ []
-unfolding window types_octet mark
-three_types = minimal_first (1 ∷ 2 ∷ 28 ∷ []) 1 (omega arith) (omega arith, (omega arith, (omega arith, tt)))
-
-two_windows : minimal (1 ∷ 256 ∷ 257 ∷ []) ≡ (0, 0x40 ∷ []) ∷ (1, 0xc0 ∷ []) ∷ []
-unfolding window types_octet mark
-two_windows = minimal_first (1 ∷ 256 ∷ 257 ∷ []) 2 (omega arith) (omega arith, (omega arith, (omega arith, tt)))
-
-one_octet : minimal (1 ∷ 2 ∷ []) ≡ (0, 0x60 ∷ []) ∷ []
-unfolding window types_octet mark
-one_octet = minimal_first (1 ∷ 2 ∷ []) 1 (omega arith) (omega arith, (omega arith, tt))
-
--- an octet 0 at the end adds no types
-zero_has : (t : ℕ) → list_any (has_type t) ((0, 0x60 ∷ []) ∷ []) ≡ list_any (has_type t) ((0, 0x60 ∷ 0x00 ∷ []) ∷ [])
-unfolding has_type
-zero_has t = ap (λ (o : ℕ). ((t / 256 == 0) && (bit_at o (7 - t % 8) == 1)) || false) (same (t % 256 / 8))
-  where
-    same : (i : ℕ) → ◌≡◌ {A = ℕ} (get_or (0x60 ∷ []) i 0) (get_or (0x60 ∷ 0x00 ∷ []) i 0)
-    same zero = refl
-    same (suc zero) = refl
-    same (suc (suc i)) = refl
-
-no_block : (bs : List Block) → AllByRecursion IsBlock bs → (flat_map block bs ≡ 0x00 ∷ 0x00 ∷ [] → ⊥) × (flat_map block bs ≡ 0x00 ∷ 0x02 ∷ 0x60 ∷ [] → ⊥)
-no_block [] h = (λ e. cc e, λ e. cc e)
-no_block (b ∷ bs) h = (
-  λ e.
-      let f : b.0 ∷ length b.1 ∷ (b.1 ++ flat_map block bs) ≡ 0x00 ∷ 0x00 ∷ [] = e in
-      let n : length b.1 ≡ 0 = cc in
-      omega (arith, h.0.some),
-  λ e.
-      let f : b.0 ∷ length b.1 ∷ (b.1 ++ flat_map block bs) ≡ 0x00 ∷ 0x02 ∷ 0x60 ∷ [] = e in
-      let n : length b.1 ≡ 2 = cc in
-      let t : b.1 ++ flat_map block bs ≡ 0x60 ∷ [] = cc in
-      omega (arith, ap length t, length-append b.1 (flat_map block bs)),
-)
-
-pub bitmap_examples : BitmapExamples
-unfolding field_octets
-bitmap_examples = record {
-  types_read = reads
-      (next 4 (number (omega arith) refl (omega arith) refl)
-      (next 6 (number (omega arith) refl (omega arith) refl)
-      (next 12 (bitmap (1 ∷ 2 ∷ 28 ∷ []) ((0, 0x60 ∷ 0x00 ∷ 0x00 ∷ 0x08 ∷ []) ∷ []) (at refl (omega arith) refl)
-      (fits (omega arith) (omega arith) (omega arith), tt) (three_rise (omega arith) (omega arith) (omega arith)) three_types)
-      refl)))
-      (ap (λ (bs : List Block). 0x00 ∷ 0x00 ∷ 0x00 ∷ 0x7b ∷ 0x00 ∷ 0x03 ∷ (flat_map block bs ++ [])) three_types);
-  windows_read = reads
-      (next 6 (bitmap (1 ∷ 256 ∷ 257 ∷ []) ((0, 0x40 ∷ []) ∷ (1, 0xc0 ∷ []) ∷ []) (at refl (omega arith) refl)
-      (fits (omega arith) (omega arith) (omega arith), (fits (omega arith) (omega arith) (omega arith), tt))
-      (three_rise (omega arith) (omega arith) (omega arith)) two_windows)
-      refl)
-      (ap (λ (bs : List Block). flat_map block bs ++ []) two_windows);
-  zeros_dropped = reads
-      (next 4 (record {
-        is = record {
-          blocks = (0, 0x60 ∷ 0x00 ∷ []) ∷ [];
-          at = at refl (omega arith) refl;
-          fit = (fits (omega arith) (omega arith) (omega arith), tt);
-          set = record { rises = ((omega arith, tt), (tt, tt)); numbers = (omega arith, (omega arith, tt)) };
-          types = λ t. minimal_types (1 ∷ 2 ∷ []) (omega arith, (omega arith, tt)) t ∙ ap (list_any (has_type t)) one_octet ∙ zero_has t;
-        };
-      }) refl)
-      (ap (λ (bs : List Block). flat_map block bs ++ []) one_octet);
-  broken_window = (
-    λ v f. let g : BitmapAt (0x00 ∷ 0x00 ∷ []) 0 v.0 f.0 = f.1.is in (no_block g.blocks g.fit).0 (At-whole g.at f.2),
-    λ v f. let g : BitmapAt (0x00 ∷ 0x02 ∷ 0x60 ∷ []) 0 v.0 f.0 = f.1.is in (no_block g.blocks g.fit).1 (At-whole g.at f.2),
   );
 }

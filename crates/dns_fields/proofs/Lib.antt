@@ -18,4 +18,5 @@ pub mod Orders
 pub mod EqualLaws
 pub mod OctetLaws
 pub mod Examples
+pub mod BitmapExamples
 pub mod SameFields

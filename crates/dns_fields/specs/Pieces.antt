@@ -113,16 +113,16 @@ parameter_octets (Ipv6Hint addresses) = flat_map (λ a. a) addresses
 parameter_octets (Opaque s) = s
 
 -- what a value looks like
-pub data Form : Type 0 where
-  Keys : Form
-  Names : Form
-  Nothing : Form
-  PortNumber : Form
-  Addresses4 : Form
-  Addresses16 : Form
-  AnyOctets : Form
+pub data ParameterForm : Type 0 where
+  Keys : ParameterForm
+  Names : ParameterForm
+  Nothing : ParameterForm
+  PortNumber : ParameterForm
+  Addresses4 : ParameterForm
+  Addresses16 : ParameterForm
+  AnyOctets : ParameterForm
 
-abbrev pub form_of : ParameterValue → Form
+abbrev pub form_of : ParameterValue → ParameterForm
 form_of (Mandatory keys) = Keys
 form_of (Alpn names) = Names
 form_of NoDefaultAlpn = Nothing
@@ -132,7 +132,7 @@ form_of (Ipv6Hint addresses) = Addresses16
 form_of (Opaque s) = AnyOctets
 
 -- the form of the values of each key (RFC 9460, 14.3.2)
-abbrev pub form_for : ℕ → Form
+abbrev pub form_for : ℕ → ParameterForm
 form_for key =
     if key == 0 then Keys else
     if key == 1 then Names else

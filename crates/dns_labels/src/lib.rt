@@ -5,6 +5,7 @@ mod buffer;
 pub mod building;
 pub mod comparing;
 pub mod error;
+mod hashes;
 pub mod labels;
 pub mod laws;
 mod matching;

@@ -6,7 +6,8 @@ ghost use Rattle.dns_fields.specs.Names.{NameWrote, pointer};
 ghost use Rattle.dns_labels.specs.{Labels.AreNameOctets, Labels.name_of, Reading.stop_octets, Emission.IsNameCut, Emission.StandsFor};
 
 use crate::error::WriteError;
-use crate::places::{Places, name_hash};
+use crate::hashes::name_hash;
+use crate::places::Places;
 use dns_fields::RDataEncoding;
 use std::alloc::AllocError;
 

@@ -60,8 +60,8 @@ abbrev pub ReadsIf : {T : Type 0} (kinds : List Kind) → (Values kinds → ℕ 
 ReadsIf kinds condition view (Ok x) old new = Took old kinds (view x) new × condition (view x) new.index
 ReadsIf kinds condition view (Err e) old new = Refused e old kinds condition new
 
-abbrev pub always : (kinds : List Kind) → Values kinds → ℕ → Type 0
-always kinds vs e = Unit {0}
+abbrev pub Always : (kinds : List Kind) → Values kinds → ℕ → Type 0
+Always kinds vs e = Unit {0}
 
 -- A character string lacks octets: its length octet, or octets behind it.
 abbrev pub LacksText : Reading → Reading → Type 0
@@ -189,6 +189,25 @@ EmitsAs mode kinds vs (Err e) old new = Stopped e old kinds vs new
 -- in the encoder's own mode
 abbrev pub Emits : (kinds : List Kind) → Values kinds → Result (Unit {0}) ProtoError → Writing → Writing → Type 0
 Emits kinds vs r old new = EmitsAs old.mode kinds vs r old new
+
+-- these octets stand behind the earlier ones
+pub record AppendedOctets (old : Writing) (s : List ℕ) (new : Writing) : Type 0 where
+  pub keeps : Keeps old new
+  pub octets : new.octets ≡ old.octets ++ s
+
+-- there is no room for the octets, or what makes a value unfit holds
+pub record StoppedOctets (e : ProtoError) (old : Writing) (unfit : Type 0) (s : List ℕ) (new : Writing) : Type 0 where
+  pub extends : Extends old new
+  pub why : Because e (old.limit < length old.octets + length s) unfit
+
+-- appends these octets of a value that fits, and refuses by a message only an unfit one
+abbrev pub EmitsOctets : (fits unfit : Type 0) → List ℕ → Result (Unit {0}) ProtoError → Writing → Writing → Type 0
+EmitsOctets fits unfit s (Ok x) old new = fits × AppendedOctets old s new
+EmitsOctets fits unfit s (Err e) old new = StoppedOctets e old unfit s new
+
+-- the same where unfit is all that does not fit
+abbrev pub EmitsFitting : Type 0 → List ℕ → Result (Unit {0}) ProtoError → Writing → Writing → Type 0
+EmitsFitting fits s r old new = EmitsOctets fits (fits → ⊥) s r old new
 
 -- reads the fields exactly where they fill so many octets under the condition
 abbrev pub ReadsTo : {T : Type 0} (kinds : List Kind) → (Values kinds → Type 0) → ℕ → (T → Values kinds) → Result T DecodeError → Reading → Reading → Type 0

@@ -1,11 +1,11 @@
 -- What a cursor over canonical octets still gives, and what it counts.
 use Rattle.std.specs.Prelude.{◌≡◌, ℕ, ◌+◌, ◌-◌, ◌*◌, ◌<◌, ◌≤◌, ◌++◌, length, drop, Option, Some, None, List, []}
-use Rattle.dns_pieces.specs.{Runs.Shares, Steps.Left}
+use Rattle.dns_pieces.specs.{Runs.Shares, Steps.LeftAt}
 
 -- What a cursor meets in some data: what is left at each place, how many windows and how many options are not begun there,
 -- and how many options there are; the places that it reaches, and what it keeps there.
 pub record Course (Kept : Type 0) : Type 1 where
-  pub left : Left
+  pub left : LeftAt
   pub windows : ℕ → ℕ → ℕ
   pub options : ℕ → ℕ → ℕ → ℕ
   pub all_options : ℕ

@@ -6,8 +6,8 @@ use Rattle.dns_fields.specs.Fields.{Kind, Text, Texts, Value, Values, canonical}
 use Rattle.dns_pieces.specs.declared.step.Step.{Step}
 
 -- what is left of a record at each place
-abbrev pub Left : Type 0
-Left = ℕ → ℕ → ℕ → List ℕ
+abbrev pub LeftAt : Type 0
+LeftAt = ℕ → ℕ → ℕ → List ℕ
 
 -- a character string has at most 255 octets
 abbrev pub IsShort : (k : Kind) → Value k → Type 0
@@ -36,22 +36,22 @@ abbrev pub at_once : List ℕ
 at_once = 0 ∷ []
 
 -- of a record whose steps begin at these fields, and take no list apart
-abbrev pub by_fields : List ℕ → (kinds : List Kind) → Values kinds → Left
+abbrev pub by_fields : List ℕ → (kinds : List Kind) → Values kinds → LeftAt
 by_fields begins kinds vs n i j = at_field begins n kinds vs
 
 -- the octets of a head and a tail come next, and then those from another place on; some octets, or a later step
-pub record StepAt (left : Left) (n i j : ℕ) (head : List ℕ) (s : Step) : Type 0 where
+pub record StepAt (left : LeftAt) (n i j : ℕ) (head : List ℕ) (s : Step) : Type 0 where
   pub octets : left n i j ≡ (head ++ s.tail) ++ left s.step s.part s.item
   pub after : n ≤ s.step
   pub more : n < s.step + length (head ++ s.tail)
   pub few : s.step ≤ 8
 
-pub record Ended (left : Left) (n i j : ℕ) (head : List ℕ) : Type 0 where
+pub record Ended (left : LeftAt) (n i j : ℕ) (head : List ℕ) : Type 0 where
   pub octets : left n i j ≡ []
   pub nothing : head ≡ []
 
 -- the next step behind a place, if there is any
-abbrev pub GivesStep : Left → ℕ → ℕ → ℕ → List ℕ → Option Step → Type 0
+abbrev pub GivesStep : LeftAt → ℕ → ℕ → ℕ → List ℕ → Option Step → Type 0
 GivesStep left n i j head None = Ended left n i j head
 GivesStep left n i j head (Some s) = StepAt left n i j head s
 

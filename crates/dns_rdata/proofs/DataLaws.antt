@@ -14,7 +14,7 @@ use Rattle.dns_rdata_base.specs.NAPTR.{AreFlags}
 use Rattle.dns_rdata_service.specs.Parameters.{HaveTexts}
 use Rattle.dns_rdata_sets.specs.{CAA.IsTag, CSYNC.AreKnownFlags}
 use Rattle.dns_rdata.specs.{declared.record_data.RData.RData, Equal.equal}
-use Rattle.dns_rdata.specs.Data.{shape, condition, FieldsOf, fields_of, Fills, IsEmittable, octets_of, data_octets}
+use Rattle.dns_rdata.specs.Data.{shape, MeetsCondition, FieldsOf, fields_of, Fills, IsEmittable, octets_of, data_octets}
 use Rattle.dns_rdata.specs.Laws.{OneValue, EachWindow, HasEqual, TellsApart, ReadsCanonical, ReadsBack}
 use Rattle.dns_rdata.proofs.Values.{values_as, values_as-same, value_for, value_is, window_value, fields_for, equal_values}
 
@@ -24,7 +24,7 @@ shape_is types.CERT = search rules
 shape_is t = search rules
 
 -- what is asked of a value is asked of its equals
-condition_same : (t : RecordType) (a b : Values (shape t)) → Same (shape t) a b → condition t a → condition t b
+condition_same : (t : RecordType) (a b : Values (shape t)) → Same (shape t) a b → MeetsCondition t a → MeetsCondition t b
 condition_same types.CERT a b s h = λ e. h (s.1.1.1.0.is ∙ e)
 condition_same types.NAPTR a b s h = subst AreFlags s.1.1.0.is h
 condition_same types.CAA a b s h = subst IsTag s.1.0.is h
@@ -44,7 +44,7 @@ each_window m p n t vs w = (value_for t vs, record { values = vs; window = w; va
 
 -- ---- values of one type are equal where their fields are
 
-fields_for-window : (m : List ℕ) (p n : ℕ) (t : RecordType) (vs : Values (shape t)) → Window m p n (shape t) (condition t) vs → fields_for t vs ≡ vs
+fields_for-window : (m : List ℕ) (p n : ℕ) (t : RecordType) (vs : Values (shape t)) → Window m p n (shape t) (MeetsCondition t) vs → fields_for t vs ≡ vs
 fields_for-window m p n t vs w = ap (λ (f : FieldsOf). values_as (shape t) f.kinds f.values) (window_value m p n t vs w).fields ∙ values_as-same (shape t) vs
 
 -- the test of two values that fill windows of one type
@@ -89,7 +89,7 @@ tells_apart v w t m p n m' p' n' f g =
 equal_window : (m : List ℕ) (p n : ℕ) (t : RecordType) (v : RData) (m' : List ℕ) (p' n' : ℕ) (f : Fills m p n t v) (ws : Values (shape t)) → AreOctets m'
     → n' < 65536 → p' + n' ≤ length m' → Stands m' p' (shape t) ws (p' + n') → Same (shape t) f.values ws → HasEqual m' p' n' t v
 equal_window m p n t v m' p' n' f ws octets short within stands same =
-    let w : Window m' p' n' (shape t) (condition t) ws =
+    let w : Window m' p' n' (shape t) (MeetsCondition t) ws =
     record { octets = octets; short = short; within = within; stands = stands; holds = condition_same t f.values ws same f.window.holds } in
     let g : Fills m' p' n' t (value_for t ws) = record { values = ws; window = w; value = window_value m' p' n' t ws w } in
     record { value = value_for t ws; fills = g; same = (equal_same t v (value_for t ws) m p n m' p' n' f g).1 same }

@@ -17,13 +17,13 @@ use Rattle.dns_rdata_base.specs as base
 use Rattle.dns_rdata_sets.specs as sets
 use Rattle.dns_rdata_base.specs.Counted.{by_length}
 use Rattle.dns_rdata.specs.{declared.record_data.RData.RData, Refusals.IsOwnRefusal, Refusals.OwnRefusal, Refusals.IsRefusal}
-use Rattle.dns_rdata.specs.Data.{Row, row, unread, rowless, row_of, kinds_of, MeetsConditionOf, IsRowlessRow, IsNever, FieldsOf, shape, condition}
+use Rattle.dns_rdata.specs.Data.{TypeRow, row, unread, rowless, row_of, kinds_of, MeetsConditionOf, IsRowlessRow, IsNever, FieldsOf, shape, MeetsCondition}
 use Rattle.dns_rdata.specs.Data.{IsRowless, IsValue, Fills, NoValue, TookData, RefusedData, ReadsData, type_of, IsNeverRead}
 use Rattle.dns_rdata.specs.declared.record_data.RData.TheVariants as rdata
 
 -- what fills a window as fields fills it as a value
 pub data_took : {old new : Reading} (t : RecordType) (n : ℕ) (v : RData) (vs : Values (shape t)) → IsValue t vs v
-    → TookWindow old n (shape t) (condition t) vs new → TookData old t n v new
+    → TookWindow old n (shape t) (MeetsCondition t) vs new → TookData old t n v new
 data_took t n v vs value w = record {
   behind = w.behind;
   here = λ e. record { values = vs; window = w.here e; value = value };
@@ -31,7 +31,7 @@ data_took t n v vs value w = record {
 }
 
 -- what is refused under a type
-pub data_refuses : {old new : Reading} (t : RecordType) (n : ℕ) (e : DecodeError) → RefusedWindow e old n (shape t) (condition t) new
+pub data_refuses : {old new : Reading} (t : RecordType) (n : ℕ) (e : DecodeError) → RefusedWindow e old n (shape t) (MeetsCondition t) new
     → RefusedData e old t n new
 data_refuses t n e w = record { behind = w.behind; none = w.none }
 
@@ -70,7 +70,7 @@ pub has_no_row : (t : RecordType) → IsNone t row_types → HasNoRow t
 has_no_row types.A none = absurd (none.0 refl)
 has_no_row t none = grind arith
 
-took_rowless : (r : Row) {old new : Reading} {n : ℕ} (vs : Values base.NULL.null_shape) → IsRowlessRow r → TookWindow old n base.NULL.null_shape (λ _. Unit {0}) vs new
+took_rowless : (r : TypeRow) {old new : Reading} {n : ℕ} (vs : Values base.NULL.null_shape) → IsRowlessRow r → TookWindow old n base.NULL.null_shape (λ _. Unit {0}) vs new
     → (ws : Values (kinds_of r)) × TookWindow old n (kinds_of r) (MeetsConditionOf r) ws new × (fields_as base.NULL.null_shape vs ≡ fields_as (kinds_of r) ws)
 took_rowless (row kinds asked refusal) vs h w = absurd h
 took_rowless unread vs h w = absurd h
@@ -104,7 +104,7 @@ answered n (Err decode.Memory) b = memory
 answered n (Err (decode.UnknownRecordTypeValue k)) b = number k
 answered n o b = by_count n b (λ e. cc e)
 
-no_value : {m : List ℕ} {p n : ℕ} (t : RecordType) → NoWindow m p n (shape t) (condition t) → NoValue m p n t
+no_value : {m : List ℕ} {p n : ℕ} (t : RecordType) → NoWindow m p n (shape t) (MeetsCondition t) → NoValue m p n t
 no_value t w = record { none = λ v f. w.none f.values f.window }
 
 unless_none : {P : Type 0} (e : DecodeError) → UnlessMemory e P → e ≢ decode.Memory → P
@@ -235,7 +235,7 @@ mapped_counted {n = n} {old = old} {new = new} t f r never place c reads own = r
 }
 
 reads_mapped : {X : Type 0} (old new : Reading) (t : RecordType) (n : ℕ) (f : X → RData) (fields : X → Values (shape t)) (r : Result X DecodeError)
-    → ReadsWindow (shape t) (condition t) fields n r old new → ((x : X) → r ≡ Ok x → IsValue t (fields x) (f x)) → ReadsData t n (mapped f r) old new
+    → ReadsWindow (shape t) (MeetsCondition t) fields n r old new → ((x : X) → r ≡ Ok x → IsValue t (fields x) (f x)) → ReadsData t n (mapped f r) old new
 reads_mapped old new t n f fields (Ok x) w value = data_took t n (f x) (fields x) (value x refl) w
 reads_mapped old new t n f fields (Err e) w value = data_refuses t n e w
 
@@ -253,26 +253,26 @@ pub of_read : {X E : Type 0} {r : Result X E} {x : X} (P : X → Type 0) → IfO
 of_read P h e = subst (λ z. IfOk z P) e h
 
 pub reads_counted : {X : Type 0} {n start : ℕ} {old new : Reading} {r s : Result X DecodeError} (t : RecordType) (f : X → RData) (fields : X → Values (shape t))
-    → (IsNeverRead t → ⊥) → start ≡ old.index → s ≡ by_length r (new.index - start) n → ReadsWindow (shape t) (condition t) fields n r old new
+    → (IsNeverRead t → ⊥) → start ≡ old.index → s ≡ by_length r (new.index - start) n → ReadsWindow (shape t) (MeetsCondition t) fields n r old new
     → IfErr r (OwnRefusal t n old new) → ((x : X) → r ≡ Ok x → IsValue t (fields x) (f x)) → ReadsCounted t n (mapped f s) old new
 reads_counted {n = n} {old = old} {new = new} {r = r} t f fields never place c window own value =
     mapped_counted t f r never place c (reads_mapped old new t n f fields r window value) (unless_each r _ own)
 
-null_lacks : (n : ℕ) (old new : Reading) (r : Result NULL DecodeError) → IfErr r (λ e. base.NULL.null_refusal n old e new)
+null_lacks : (n : ℕ) (old new : Reading) (r : Result NULL DecodeError) → IfErr r (λ e. base.NULL.IsNullRefusal n old e new)
     → IfErr r (λ e. (e ≡ decode.Memory) ⊎ ((e ≡ decode.InsufficientBytes) × LacksOctets old n))
 null_lacks n old new (Ok x) h = tt
 null_lacks n old new (Err e) h = h.1
 
 pub null_counted : {n start : ℕ} {old new : Reading} {s : Result NULL DecodeError} (r : Result NULL DecodeError) → start ≡ old.index → s ≡ by_length r (new.index - start) n
     → ReadsWindow base.NULL.null_shape (λ _. Unit {0}) base.NULL.null_fields n r old new
-    → IfErr r (λ e. base.NULL.null_refusal n old e new)
+    → IfErr r (λ e. base.NULL.IsNullRefusal n old e new)
     → ReadsCounted types.NULL n (mapped (λ x. rdata.NULL x) s) old new
 null_counted {n = n} {old = old} {new = new} r place c window own =
     mapped_counted types.NULL (λ x. rdata.NULL x) r (λ h. h) place c
     (reads_mapped old new types.NULL n (λ x. rdata.NULL x) base.NULL.null_fields r window (λ x _. record { type = refl; fields = refl; plain = tt }))
     (unless_other r (λ e. (e ≡ decode.InsufficientBytes) × LacksOctets old n) (null_lacks n old new r own))
 
-refused_rowless : (q : Row) (old new : Reading) (n : ℕ) (e : DecodeError) → IsRowlessRow q → RefusedWindow e old n base.NULL.null_shape (λ _. Unit {0}) new
+refused_rowless : (q : TypeRow) (old new : Reading) (n : ℕ) (e : DecodeError) → IsRowlessRow q → RefusedWindow e old n base.NULL.null_shape (λ _. Unit {0}) new
     → RefusedWindow e old n (kinds_of q) (MeetsConditionOf q) new
 refused_rowless (row kinds asked refusal) old new n e h w = absurd h
 refused_rowless unread old new n e h w = absurd h
@@ -283,7 +283,7 @@ reads_rowless : (old new : Reading) (t : RecordType) (n : ℕ) (r : Result NULL 
 reads_rowless old new t n (Ok x) h w = unknown_took t n x h w
 reads_rowless old new t n (Err e) h w = data_refuses t n e (refused_rowless (row_of t) old new n e h.rowless w)
 
-own_rowless : (t : RecordType) (q : Row) (old new : Reading) (n : ℕ) (r : Result NULL DecodeError) → IsRowlessRow q
+own_rowless : (t : RecordType) (q : TypeRow) (old new : Reading) (n : ℕ) (r : Result NULL DecodeError) → IsRowlessRow q
     → IfErr r (λ e. UnlessMemory e ((e ≡ decode.InsufficientBytes) × LacksOctets old n))
     → IfErr r (λ e. UnlessMemory e (IsOwnRefusal t q n old new e))
 own_rowless t (row kinds asked refusal) old new n r h w = absurd h
@@ -292,7 +292,7 @@ own_rowless t rowless old new n r h w = w
 
 pub unknown_counted : {n start : ℕ} {old new : Reading} {s : Result NULL DecodeError} (t : RecordType) (r : Result NULL DecodeError) → HasNoRow t → start ≡ old.index
     → s ≡ by_length r (new.index - start) n → ReadsWindow base.NULL.null_shape (λ _. Unit {0}) base.NULL.null_fields n r old new
-    → IfErr r (λ e. base.NULL.null_refusal n old e new)
+    → IfErr r (λ e. base.NULL.IsNullRefusal n old e new)
     → ReadsCounted t n (mapped (λ x. rdata.Unknown t x) s) old new
 unknown_counted {n = n} {old = old} {new = new} t r h place c window own =
     mapped_counted t (λ x. rdata.Unknown t x) r h.read place c (reads_rowless old new t n r h window)
@@ -308,12 +308,12 @@ zero_counted {n = n} {d = d} short inside octets place c = record {
   counted = c ∙ ap (λ k. by_length (Ok rdata.ZERO) (d.index - k) n) place;
 }
 
-unread_none : (q : Row) (m : List ℕ) (p n : ℕ) → IsNever q → NoWindow m p n (kinds_of q) (MeetsConditionOf q)
+unread_none : (q : TypeRow) (m : List ℕ) (p n : ℕ) → IsNever q → NoWindow m p n (kinds_of q) (MeetsConditionOf q)
 unread_none (row kinds asked refusal) m p n h = absurd h
 unread_none unread m p n h = record { none = λ vs w. w.holds }
 unread_none rowless m p n h = absurd h
 
-own_unread : (t : RecordType) (q : Row) (d : Reading) (n : ℕ) → IsNever q → IsOwnRefusal t q n d d (decode.UnknownRecordTypeValue (number_of t))
+own_unread : (t : RecordType) (q : TypeRow) (d : Reading) (n : ℕ) → IsNever q → IsOwnRefusal t q n d d (decode.UnknownRecordTypeValue (number_of t))
 own_unread t (row kinds asked refusal) d n h = absurd h
 own_unread t unread d n h = refl
 own_unread t rowless d n h = absurd h

@@ -8,8 +8,8 @@ use Rattle.dns_types.specs.{declared.record_type.RecordType.RecordType, declared
 use Rattle.dns_types.specs.declared.record_type.RecordType.TheVariants as types
 use Rattle.dns_types.specs.declared.error.ParseError.TheVariants as parse
 use Rattle.dns_text.specs.TextWords.{TextWords, NoTextWords}
-use Rattle.dns_words.specs.{Taking.HoldsBehind, Taking.HoldsOfWords, Forms.Row, Forms.word, Printed.cut}
-use Rattle.dns_words.specs.Reads.{UnlessMemory, Decides, TookWords, RefusedWords, ReadsRow}
+use Rattle.dns_words.specs.{Taking.HoldsBehind, Taking.HoldsOfWords, Forms.WordRow, Forms.word, Printed.cut}
+use Rattle.dns_words.specs.Reads.{UnlessParseMemory, Decides, TookWords, RefusedWords, ReadsRow}
 use Rattle.dns_fields.specs.{Labels.DomainName, Fields.Values}
 use Rattle.dns_rdata_service.specs.{SVCB.svcb_shape, SVCB.svcb_fields, declared.svcb.SVCB.SVCB}
 use Rattle.dns_rdata_service.specs.WordRows.{AreWordsOf, svcb_words as service_words}
@@ -56,11 +56,11 @@ no_words origin t h v words w = absurd (search)
 
 module _ {S I : Type 0} {gives : I → Option S → I → Type 0} {text : S → List ℕ} where
   -- words of a type's row give its value
-  pub data_took : {s : I} (origin : Option DomainName) (t : RecordType) (row : Row (shape t)) (vs : Values (shape t)) (v : RData) → ((words : List (List ℕ)) → StandIn t row v words → AreDataWords origin t v words) → IsValue t vs v → TookWords gives text row vs s → TookDataWords gives text origin t v s
+  pub data_took : {s : I} (origin : Option DomainName) (t : RecordType) (row : WordRow (shape t)) (vs : Values (shape t)) (v : RData) → ((words : List (List ℕ)) → StandIn t row v words → AreDataWords origin t v words) → IsValue t vs v → TookWords gives text row vs s → TookDataWords gives text origin t v s
   data_took origin t row vs v by_row value f = record { type = value.type; words = holds_map (λ words. AreDataWords origin t v words) (λ words stand. by_row words (record { values = vs; stand = stand; value = value })) f.words }
 
   -- and what refuses the row refuses the type
-  pub data_refused : {e : ParseError} {s : I} (origin : Option DomainName) (t : RecordType) (row : Row (shape t)) → ((v : RData) (words : List (List ℕ)) → AreDataWords origin t v words → StandIn t row v words) → RefusedWords gives text e row s → RefusedDataWords gives text e origin t s
+  pub data_refused : {e : ParseError} {s : I} (origin : Option DomainName) (t : RecordType) (row : WordRow (shape t)) → ((v : RData) (words : List (List ℕ)) → AreDataWords origin t v words → StandIn t row v words) → RefusedWords gives text e row s → RefusedDataWords gives text e origin t s
   data_refused {e} origin t row by_row r = record { none = unless_map e _ _ (λ none. holds_map (λ words. (v : RData) → AreDataWords origin t v words → ⊥) (λ words other v d. let st = by_row v words d in other st.values st.stand) none) r.none }
 
   pub zero_took : {s : I} (origin : Option DomainName) → TookDataWords gives text origin types.ZERO rdata.ZERO s
@@ -79,7 +79,7 @@ module _ {S I : Type 0} {gives : I → Option S → I → Type 0} {text : S → 
   by_own (Err y) fields origin t f service has type are none own reads e = rw e (answers t has (record { none = unless_map y _ _ (holds_map (λ words. (v : RData) → AreDataWords origin t v words → ⊥) none) reads.none }))
 
   -- what a row answers, as the value that holds what was read
-  pub by_row : {X : Type 0} {s : I} {r : Result X ParseError} {q : Result RData ParseError} (origin : Option DomainName) (t : RecordType) (row : Row (shape t)) (f : X → RData) (fields : X → Values (shape t)) → (HasNoWords t → ⊥)
+  pub by_row : {X : Type 0} {s : I} {r : Result X ParseError} {q : Result RData ParseError} (origin : Option DomainName) (t : RecordType) (row : WordRow (shape t)) (f : X → RData) (fields : X → Values (shape t)) → (HasNoWords t → ⊥)
       → ((v : RData) (words : List (List ℕ)) → StandIn t row v words ↔ AreDataWords origin t v words) → ReadsRow gives text row fields r s
       → ((x : X) → r ≡ Ok x → IsValue t (fields x) (f x)) → q ≡ result_map_both f (λ e. e) r → AnswersDataWords gives text origin t q s
   by_row {r = Ok x} origin t row f fields has same reads value e = rw e (answers t has (data_took origin t row (fields x) (f x) (λ words. (same (f x) words).0) (value x refl) reads))
@@ -139,7 +139,7 @@ pub text_read : (origin : Option DomainName) (t : RecordType) (text : List ℕ) 
 text_read origin t text words (Ok v) is h = record { words = words; of_text = is; give = h }
 text_read origin t text words (Err y) is h = unless_map y _ _ (λ none. inr (record { words = words; of_text = is; none = none.none })) h
 
-unless_not : (e : ParseError) {P : Type 0} → (e ≢ parse.Memory → P) → UnlessMemory e P
+unless_not : (e : ParseError) {P : Type 0} → (e ≢ parse.Memory → P) → UnlessParseMemory e P
 unless_not parse.Memory f = tt
 unless_not (parse.MissingToken name) f = f (λ h. absurd cc)
 unless_not (parse.Message m) f = f (λ h. absurd cc)
@@ -153,10 +153,10 @@ no_words_read origin t text e (Ok v) h none = elim h [ ]
 no_words_read origin t text e (Err y) h none = rw h (unless_not e (λ n. inl (none n)))
 
 pub refused_early : (t : RecordType) (text : List ℕ) (e : ParseError) (r : Result RData ParseError) → IsErrAnd r (λ y. y ≡ e) → (e ≢ parse.Memory → NoTextWords text)
-    → IfErr r (λ y. UnlessMemory y ((y ≡ parse.UnsupportedRecordType t) ⊎ NoTextWords text))
+    → IfErr r (λ y. UnlessParseMemory y ((y ≡ parse.UnsupportedRecordType t) ⊎ NoTextWords text))
 refused_early t text e (Ok v) h none = elim h [ ]
 refused_early t text e (Err y) h none = rw h (unless_not e (λ n. inr (none n)))
 
 pub refused_by_name : (t : RecordType) (text : List ℕ) (r : Result RData ParseError) → r ≡ Err (parse.UnsupportedRecordType t)
-    → IfErr r (λ y. UnlessMemory y ((y ≡ parse.UnsupportedRecordType t) ⊎ NoTextWords text))
+    → IfErr r (λ y. UnlessParseMemory y ((y ≡ parse.UnsupportedRecordType t) ⊎ NoTextWords text))
 refused_by_name t text r e = rw e (inl refl)

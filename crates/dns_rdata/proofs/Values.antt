@@ -26,7 +26,7 @@ use Rattle.dns_rdata_options.specs as options
 use Rattle.dns_rdata_service.specs as service
 use Rattle.dns_rdata_sets.specs as sets
 use Rattle.dns_rdata.specs.{declared.record_data.RData.RData, Equal.equal, Equal.record_type_eq}
-use Rattle.dns_rdata.specs.Data.{shape, condition, FieldsOf, fields_of, type_of, IsRowless, IsPlain, IsValue}
+use Rattle.dns_rdata.specs.Data.{shape, MeetsCondition, FieldsOf, fields_of, type_of, IsRowless, IsPlain, IsValue}
 use Rattle.dns_rdata.specs.declared.record_data.RData.TheVariants as rdata
 
 -- ---- values as those of other kinds
@@ -137,7 +137,7 @@ of_kinds : (s : List Kind) {a b : Values s} → a ≡ b → with_kinds s a ≡ w
 of_kinds s e = ap (with_kinds s) e
 
 -- and the fields of a window make one
-pub window_value : (m : List ℕ) (p n : ℕ) (t : RecordType) (vs : Values (shape t)) → Window m p n (shape t) (condition t) vs → IsValue t vs (value_for t vs)
+pub window_value : (m : List ℕ) (p n : ℕ) (t : RecordType) (vs : Values (shape t)) → Window m p n (shape t) (MeetsCondition t) vs → IsValue t vs (value_for t vs)
 unfolding value_for
 window_value m p n types.AAAA vs w =
     let e : octets_of (segments_of vs.0) ≡ vs.0 = octets_of-segments 8 vs.0 w.stands.1.is.0 (AreOctets-at m p vs.0 w.stands.0 w.octets w.stands.1.is.1) in
@@ -150,9 +150,9 @@ window_value m p n types.CSYNC vs w = record { type = refl; fields = of_kinds se
 window_value m p n types.OPT vs w = record
     { type = refl; fields = of_kinds options.OPT.opt_shape (opt_fields-from m p vs (p + n) w.octets w.stands); plain = opt_from-read m p vs (p + n) w.octets w.stands }
 window_value m p n types.SVCB vs w = record
-    { type = refl; fields = of_kinds service.SVCB.svcb_shape (svcb_fields-from m p n (condition types.SVCB) vs w); plain = svcb_from-read vs }
+    { type = refl; fields = of_kinds service.SVCB.svcb_shape (svcb_fields-from m p n (MeetsCondition types.SVCB) vs w); plain = svcb_from-read vs }
 window_value m p n types.HTTPS vs w = record
-    { type = refl; fields = of_kinds service.HTTPS.https_shape (https_fields-from m p n (condition types.HTTPS) vs w); plain = https_from-read vs }
+    { type = refl; fields = of_kinds service.HTTPS.https_shape (https_fields-from m p n (MeetsCondition types.HTTPS) vs w); plain = https_from-read vs }
 window_value m p n types.SMIMEA vs w = record { type = refl; fields = of_kinds certs.SMIMEA.smimea_shape (smimea_fields-from vs); plain = smimea_from-read vs }
 window_value m p n types.SOA vs w =
     let f = stands_fit m p base.SOA.soa_shape vs (p + n) w.stands in
@@ -184,7 +184,7 @@ equal_keys s t a b c d fa fb fc fd same = decided_same (values_eq s a b) (values
 abbrev pub fields_for : (t : RecordType) → Values (shape t) → Values (shape t)
 fields_for t vs = values_as (shape t) (fields_of (value_for t vs)).kinds (fields_of (value_for t vs)).values
 
-pub equal_values : (t : RecordType) (vs ws : Values (shape t)) → condition t vs → IsPlain (value_for t vs) → IsPlain (value_for t ws)
+pub equal_values : (t : RecordType) (vs ws : Values (shape t)) → MeetsCondition t vs → IsPlain (value_for t vs) → IsPlain (value_for t ws)
     → equal (value_for t vs) (value_for t ws) ≡ values_eq (shape t) (fields_for t vs) (fields_for t ws)
 unfolding value_for values_as value_as
 equal_values types.CAA vs ws h a b = and-true _

@@ -1,7 +1,7 @@
 -- What a cursor over canonical octets meets in a value.
 use Rattle.std.specs.Prelude.{◌≡◌, ℕ, true, length, Bool, Option, []}
 pub use Rattle.dns_pieces.specs.Cursor.{Remaining, Chooses, Advances}
-use Rattle.dns_pieces.specs.{Cursor.Course, Steps.Left, Steps.AllShort, Steps.at_once, Steps.by_fields}
+use Rattle.dns_pieces.specs.{Cursor.Course, Steps.LeftAt, Steps.AllShort, Steps.at_once, Steps.by_fields}
 use Rattle.dns_rdata_options.specs.declared.heads.Heads.{Heads}
 use Rattle.dns_fields.specs.Fields.{all_emittable}
 use Rattle.dns_rdata_base.specs as base
@@ -13,7 +13,7 @@ use Rattle.dns_rdata.specs.declared.record_data.RData.TheVariants as rdata
 
 -- What is left of a value's canonical octets at each place. A record whose strings do not come in a step of their own is
 -- at hand field by field.
-abbrev pub data_left : RData → Left
+abbrev pub data_left : RData → LeftAt
 data_left (rdata.CAA x) = by_fields sets.Steps.caa_begins sets.CAA.caa_shape (sets.CAA.caa_fields x)
 data_left (rdata.CSYNC x) = sets.Steps.csync_left x
 data_left (rdata.HINFO x) = by_fields base.Steps.hinfo_begins base.HINFO.hinfo_shape (base.HINFO.hinfo_fields x)
@@ -55,10 +55,10 @@ IsUncounted v = Unit {0}
 abbrev pub DataAt : RData → ℕ → ℕ → ℕ → Type 0
 DataAt (rdata.CAA x) n i j = AllShort sets.CAA.caa_shape (sets.CAA.caa_fields x)
 DataAt (rdata.HINFO x) n i j = AllShort base.HINFO.hinfo_shape (base.HINFO.hinfo_fields x)
-DataAt (rdata.HTTPS x) n i j = service.Steps.are_emittable x.0.svc_params
+DataAt (rdata.HTTPS x) n i j = service.Steps.AreEmittable x.0.svc_params
 DataAt (rdata.NAPTR x) n i j = AllShort base.NAPTR.naptr_shape (base.NAPTR.naptr_fields x)
 DataAt (rdata.OPT x) n i j = (options.Steps.pairs_emittable x ≡ true) × options.Steps.OptionsAt x n i j
-DataAt (rdata.SVCB x) n i j = service.Steps.are_emittable x.svc_params
+DataAt (rdata.SVCB x) n i j = service.Steps.AreEmittable x.svc_params
 DataAt (rdata.TXT x) n i j = AllShort base.TXT.txt_shape (base.TXT.txt_fields x)
 DataAt v n i j = Unit {0}
 

@@ -18,23 +18,23 @@ use Rattle.dns_rdata.specs.declared.record_data.RData.{RData}
 use Rattle.dns_rdata.specs.declared.record_data.RData.TheVariants as rdata
 
 -- What the data of a type is.
-pub data Row : Type 1 where
+pub data TypeRow : Type 1 where
   -- fields in order, what is asked of them beside that they stand, and why the record itself refuses n octets of data
-  row : (kinds : List Kind) → (Values kinds → Type 0) → (ℕ → Reading → DecodeError → Reading → Type 0) → Row
+  row : (kinds : List Kind) → (Values kinds → Type 0) → (ℕ → Reading → DecodeError → Reading → Type 0) → TypeRow
   -- no data is read: a type that only questions have (RFC 1035, 3.2.3; RFC 1995, 2)
-  unread : Row
+  unread : TypeRow
   -- octets of any form
-  rowless : Row
+  rowless : TypeRow
 
 -- fewer octets are left than the length
 abbrev pub IsShortRefusal : ℕ → Reading → DecodeError → Reading → Type 0
 IsShortRefusal n old e new = (e ≡ decode.InsufficientBytes) × LacksOctets old n
 
 -- as the facts of the record say
-abbrev pub row_by : {T : Type 0} → Facts T → Row
+abbrev pub row_by : {T : Type 0} → Facts T → TypeRow
 row_by f = row f.kinds f.condition f.refusal
 
-abbrev pub row_of : RecordType → Row
+abbrev pub row_of : RecordType → TypeRow
 row_of types.A = row_by base.A.a_facts
 row_of types.AAAA = row_by base.AAAA.aaaa_facts
 row_of types.ANAME = row_by base.NameRecords.aname_facts
@@ -64,12 +64,12 @@ row_of types.AXFR = unread
 row_of types.IXFR = unread
 row_of t = rowless
 
-abbrev pub kinds_of : Row → List Kind
+abbrev pub kinds_of : TypeRow → List Kind
 kinds_of (row kinds asked refusal) = kinds
 kinds_of unread = []
 kinds_of rowless = Rest ∷ []
 
-abbrev pub MeetsConditionOf : (r : Row) → Values (kinds_of r) → Type 0
+abbrev pub MeetsConditionOf : (r : TypeRow) → Values (kinds_of r) → Type 0
 MeetsConditionOf (row kinds asked refusal) vs = asked vs
 MeetsConditionOf unread vs = ⊥
 MeetsConditionOf rowless vs = Unit {0}
@@ -79,14 +79,14 @@ abbrev pub shape : RecordType → List Kind
 shape t = kinds_of (row_of t)
 
 -- what is asked of the fields beside that they stand
-abbrev pub condition : (t : RecordType) → Values (shape t) → Type 0
-condition t vs = MeetsConditionOf (row_of t) vs
+abbrev pub MeetsCondition : (t : RecordType) → Values (shape t) → Type 0
+MeetsCondition t vs = MeetsConditionOf (row_of t) vs
 
-abbrev pub IsNever : Row → Type 0
+abbrev pub IsNever : TypeRow → Type 0
 IsNever unread = Unit {0}
 IsNever r = ⊥
 
-abbrev pub IsRowlessRow : Row → Type 0
+abbrev pub IsRowlessRow : TypeRow → Type 0
 IsRowlessRow rowless = Unit {0}
 IsRowlessRow r = ⊥
 
@@ -194,7 +194,7 @@ pub record IsValue (t : RecordType) (vs : Values (shape t)) (v : RData) : Type 0
 -- In the message m, the n octets from p are the data of a record of type t, and v is its value.
 pub record Fills (m : List ℕ) (p n : ℕ) (t : RecordType) (v : RData) : Type 0 where
   pub values : Values (shape t)
-  pub window : Window m p n (shape t) (condition t) values
+  pub window : Window m p n (shape t) (MeetsCondition t) values
   pub value : IsValue t values v
 
 -- the octets are the data of no value of the type
@@ -236,11 +236,11 @@ EmitsData mode v r old new = EmitsAs mode (fields_of v).kinds (fields_of v).valu
 pub record TookData (old : Reading) (t : RecordType) (n : ℕ) (v : RData) (new : Reading) : Type 0 where
   pub behind : StaysBehind old new
   pub here : new.index ≡ old.index + n → Fills old.message old.index n t v
-  pub elsewhere : new.index ≢ old.index + n → NoWindow old.message old.index n (shape t) (condition t)
+  pub elsewhere : new.index ≢ old.index + n → NoWindow old.message old.index n (shape t) (MeetsCondition t)
 
 pub record RefusedData (e : DecodeError) (old : Reading) (t : RecordType) (n : ℕ) (new : Reading) : Type 0 where
   pub behind : StaysBehind old new
-  pub none : UnlessMemory e (NoWindow old.message old.index n (shape t) (condition t))
+  pub none : UnlessMemory e (NoWindow old.message old.index n (shape t) (MeetsCondition t))
 
 abbrev pub ReadsData : RecordType → ℕ → Result RData DecodeError → Reading → Reading → Type 0
 ReadsData t n (Ok v) old new = TookData old t n v new

@@ -6,8 +6,8 @@ use Rattle.dns_types.specs.declared.record_type.RecordType.TheVariants as types
 use Rattle.dns_types.specs.declared.error.ParseError.TheVariants as parse
 use Rattle.dns_fields.specs.{Labels.DomainName, Fields.Kind, Fields.Values}
 use Rattle.dns_text.specs.TextWords.{TextWords, NoTextWords}
-use Rattle.dns_words.specs.{Taking.HoldsOfWords, Reads.UnlessMemory, Printed.cut, Printed.IsPrintedName, Straight.straight_words, Straight.ArePrinted}
-use Rattle.dns_words.specs.Forms.{Row, word, number, name, ignored}
+use Rattle.dns_words.specs.{Taking.HoldsOfWords, Reads.UnlessParseMemory, Printed.cut, Printed.IsPrintedName, Straight.straight_words, Straight.ArePrinted}
+use Rattle.dns_words.specs.Forms.{WordRow, word, number, name, ignored}
 use Rattle.dns_rdata_service.specs.declared.svcb.SVCB.{SVCB}
 use Rattle.dns_rdata_base.specs as base
 use Rattle.dns_rdata_certs.specs as certs
@@ -30,13 +30,13 @@ HasHttpsWords v words = ⊥
 
 -- How the words of a type are read: by a row for the fields; by a relation of their own for the value, where values of
 -- one form differ for a caller; or not at all.
-pub data Reading : List Kind → Type 1 where
-  by : {kinds : List Kind} → Row kinds → Reading kinds
-  own : {kinds : List Kind} → (RData → List (List ℕ) → Type 0) → Reading kinds
-  refused : {kinds : List Kind} → Reading kinds
+pub data WordReading : List Kind → Type 1 where
+  by : {kinds : List Kind} → WordRow kinds → WordReading kinds
+  own : {kinds : List Kind} → (RData → List (List ℕ) → Type 0) → WordReading kinds
+  refused : {kinds : List Kind} → WordReading kinds
 
 -- the words of each type; of ZERO no word is read, and of a type that isn't named here no words are
-abbrev pub reading_of : Option DomainName → (t : RecordType) → Reading (shape t)
+abbrev pub reading_of : Option DomainName → (t : RecordType) → WordReading (shape t)
 reading_of origin types.A = by base.A.a_words
 reading_of origin types.AAAA = by base.AAAA.aaaa_words
 reading_of origin types.ANAME = by (straight_words origin base.NameRecords.name_shape)
@@ -62,17 +62,17 @@ reading_of origin types.ZERO = by ignored
 reading_of origin t = refused
 
 -- the words stand in the row, and the value has their fields
-pub record StandIn (t : RecordType) (row : Row (shape t)) (v : RData) (words : List (List ℕ)) : Type 0 where
+pub record StandIn (t : RecordType) (row : WordRow (shape t)) (v : RData) (words : List (List ℕ)) : Type 0 where
   pub values : Values (shape t)
   pub stand : row.stand values words
   pub value : IsValue t values v
 
-abbrev pub GiveBy : (t : RecordType) → Reading (shape t) → RData → List (List ℕ) → Type 0
+abbrev pub GiveBy : (t : RecordType) → WordReading (shape t) → RData → List (List ℕ) → Type 0
 GiveBy t (by row) v words = StandIn t row v words
 GiveBy t (own are) v words = are v words
 GiveBy t refused v words = ⊥
 
-abbrev pub IsRefusedReading : {kinds : List Kind} → Reading kinds → Type 0
+abbrev pub IsRefusedReading : {kinds : List Kind} → WordReading kinds → Type 0
 IsRefusedReading (by row) = ⊥
 IsRefusedReading (own are) = ⊥
 IsRefusedReading refused = Unit {0}
@@ -91,7 +91,7 @@ module _ {S I : Type 0} (gives : I → Option S → I → Type 0) (text : S → 
     pub words : HoldsOfWords gives text s (λ words. AreDataWords origin t v words)
 
   pub record RefusedDataWords (e : ParseError) (origin : Option DomainName) (t : RecordType) (s : I) : Type 0 where
-    pub none : UnlessMemory e (HoldsOfWords gives text s (λ words. (v : RData) → AreDataWords origin t v words → ⊥))
+    pub none : UnlessParseMemory e (HoldsOfWords gives text s (λ words. (v : RData) → AreDataWords origin t v words → ⊥))
 
   -- reads a value of the type exactly where the words give one
   abbrev pub ReadsDataWords : Option DomainName → RecordType → Result RData ParseError → I → Type 0
@@ -142,7 +142,7 @@ pub record GivesNoneAt (origin : Option DomainName) (t : RecordType) (text : Lis
 -- reads a value exactly where the text has words and they give one
 abbrev pub ReadsDataTextAt : Option DomainName → RecordType → Result RData ParseError → List ℕ → Type 0
 ReadsDataTextAt origin t (Ok v) text = IsDataTextAt origin t text v
-ReadsDataTextAt origin t (Err e) text = UnlessMemory e (NoTextWords text ⊎ GivesNoneAt origin t text)
+ReadsDataTextAt origin t (Err e) text = UnlessParseMemory e (NoTextWords text ⊎ GivesNoneAt origin t text)
 
 -- ---- and without an origin
 

@@ -11,13 +11,13 @@ use Rattle.dns_rdata.specs.declared.record_data.RData.TheVariants as rdata
 
 -- What the values of one variant are compared by, and where a value has that: fields of some kinds, or options, which have
 -- no order of their own.
-pub data Row : Type 0 where
-  fields : (kinds : List Kind) → (RData → Option (Values kinds)) → Row
-  options : (RData → Option (List Pair)) → Row
+pub data KeyRow : Type 0 where
+  fields : (kinds : List Kind) → (RData → Option (Values kinds)) → KeyRow
+  options : (RData → Option (List Pair)) → KeyRow
 
 -- One row for each variant, the last declared first: of two variants the first row that one of them has is that of the
 -- greater. Where several values of a field have one number, the fields here tell them apart.
-abbrev pub rows : List Row
+abbrev pub rows : List KeyRow
 rows =
     fields [] (elim [ rdata.ZERO ↦ Some tt | v ↦ None ]) ∷
     fields [] (elim [ rdata.Update0 t ↦ Some tt | v ↦ None ]) ∷

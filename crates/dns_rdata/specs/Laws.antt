@@ -4,16 +4,16 @@ use Rattle.std.specs.{declared.net.ip_addr.IpAddr.IpAddr, declared.net.ip_addr.I
 use Rattle.dns_types.specs.declared.record_type.RecordType.{RecordType}
 use Rattle.dns_names_wire.specs.{State.Writing, Words.Window}
 use Rattle.dns_fields.specs.Fields.{Values}
-use Rattle.dns_rdata.specs.{declared.record_data.RData.RData, Data.shape, Data.condition, Data.Fills, Data.data_octets, Data.type_of, Equal.equal}
+use Rattle.dns_rdata.specs.{declared.record_data.RData.RData, Data.shape, Data.MeetsCondition, Data.Fills, Data.data_octets, Data.type_of, Equal.equal}
 use Rattle.dns_rdata.specs.declared.record_data.RData.TheVariants as rdata
 
 -- octets are the data of at most one value of a type
 abbrev pub OneValue : Type 0
 OneValue = (m : List ℕ) (p n : ℕ) (t : RecordType) (v w : RData) → Fills m p n t v → Fills m p n t w → v ≡ w
 
--- and of one wherever the fields of the type fill them
+-- octets that the fields of a type fill are the data of a value of the type
 abbrev pub EachWindow : Type 0
-EachWindow = (m : List ℕ) (p n : ℕ) (t : RecordType) (vs : Values (shape t)) → Window m p n (shape t) (condition t) vs → (v : RData) × Fills m p n t v
+EachWindow = (m : List ℕ) (p n : ℕ) (t : RecordType) (vs : Values (shape t)) → Window m p n (shape t) (MeetsCondition t) vs → (v : RData) × Fills m p n t v
 
 -- the n octets from p are the data of a value of the type that is equal to v
 pub record HasEqual (m : List ℕ) (p n : ℕ) (t : RecordType) (v : RData) : Type 0 where

@@ -43,5 +43,4 @@ pub use Rattle.dns_rdata_service.specs.SvcParamValue
 pub use Rattle.dns_rdata_service.specs.Parameters
 pub use Rattle.dns_rdata_service.specs.SVCB
 pub use Rattle.dns_rdata_service.specs.HTTPS
-pub use Rattle.dns_rdata_service.specs.Emitting
 pub use Rattle.dns_rdata_service.specs.Hints

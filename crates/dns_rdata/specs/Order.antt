@@ -10,17 +10,17 @@ use Rattle.dns_types.specs.contracts.record_type.RecordTypeOrd.TheImpl as type_o
 use Rattle.dns_types.specs.contracts.record_type.RecordTypeOrd.TheImpl.Laws as type_laws
 use Rattle.dns_rdata_options.specs.{Order.opt_cmp, OrderLaws.opt_total}
 use Rattle.dns_rdata.specs.{declared.record_data.RData.RData, Data.held, Data.place_in, Data.type_of, Data.data_octets, Data.Fills}
-use Rattle.dns_rdata.specs.Keys.{Row, fields, options, rows}
+use Rattle.dns_rdata.specs.Keys.{KeyRow, fields, options, rows}
 
 abbrev pub record_type_cmp : RecordType → RecordType → Ordering
 record_type_cmp = type_ord.ghosts.cmp
 
-abbrev pub row_cmp : Row → RData → RData → Ordering
+abbrev pub row_cmp : KeyRow → RData → RData → Ordering
 row_cmp (fields kinds held) = on held (option_cmp (values_cmp kinds))
 row_cmp (options held) = on held (option_cmp opt_cmp)
 
 -- by the first row that differs, and then by type
-abbrev pub rows_cmp : List Row → RData → RData → Ordering
+abbrev pub rows_cmp : List KeyRow → RData → RData → Ordering
 rows_cmp [] = on type_of record_type_cmp
 rows_cmp (row ∷ rest) = then_cmp (row_cmp row) (rows_cmp rest)
 
@@ -36,11 +36,11 @@ variants_cmp = rows_cmp rows
 abbrev pub rdata_cmp : RData → RData → Ordering
 rdata_cmp = then_cmp (on data_octets (slice_cmp nat_cmp)) (then_cmp (on type_of record_type_cmp) variants_cmp)
 
-row_total : (row : Row) → IsTotalOrder (row_cmp row)
+row_total : (row : KeyRow) → IsTotalOrder (row_cmp row)
 row_total (fields kinds held) = on_total held (options_total (values_total kinds))
 row_total (options held) = on_total held (options_total opt_total)
 
-rows_total : (given : List Row) → IsTotalOrder (rows_cmp given)
+rows_total : (given : List KeyRow) → IsTotalOrder (rows_cmp given)
 rows_total [] = on_total type_of type_laws.total-law
 rows_total (row ∷ rest) = then_total (row_total row) (rows_total rest)
 

@@ -3,10 +3,10 @@ use Rattle.std.specs.Prelude.{◌≡◌, ◌≢◌, ℕ, ◌+◌, ◌-◌, ◌�
 use Rattle.dns_types.specs.{declared.error.DecodeError.DecodeError, declared.record_type.RecordType.RecordType, RecordTypes.number_of}
 use Rattle.dns_types.specs.declared.error.DecodeError.TheVariants as decode
 use Rattle.dns_names_wire.specs.State.{Reading}
-use Rattle.dns_rdata.specs.Data.{Row, row, unread, rowless, row_of, IsShortRefusal, IsNeverRead}
+use Rattle.dns_rdata.specs.Data.{TypeRow, row, unread, rowless, row_of, IsShortRefusal, IsNeverRead}
 
 -- the refusals of the record itself, under the length n, with their cause
-abbrev pub IsOwnRefusal : RecordType → Row → ℕ → Reading → Reading → DecodeError → Type 0
+abbrev pub IsOwnRefusal : RecordType → TypeRow → ℕ → Reading → Reading → DecodeError → Type 0
 IsOwnRefusal t (row kinds asked refusal) n old new e = refusal n old e new
 IsOwnRefusal t unread n old new e = e ≡ decode.UnknownRecordTypeValue (number_of t)
 IsOwnRefusal t rowless n old new e = IsShortRefusal n old e new

@@ -19,7 +19,7 @@ use Rattle.dns_rdata_certs.specs as certs
 use Rattle.dns_rdata_options.specs as options
 use Rattle.dns_rdata_service.specs as service
 use Rattle.dns_rdata_sets.specs as sets
-use Rattle.dns_rdata.specs.{declared.record_data.RData.RData, Data.type_of, Data.octets_of, Data.data_octets, Keys.Row, Keys.rows}
+use Rattle.dns_rdata.specs.{declared.record_data.RData.RData, Data.type_of, Data.octets_of, Data.data_octets, Keys.KeyRow, Keys.rows}
 use Rattle.dns_rdata.specs.Equal.{equal, record_type_eq, row_eq, rows_eq, types_equal}
 use Rattle.dns_rdata.specs.Order.{record_type_cmp, row_cmp, rows_cmp, rdata_cmp}
 use Rattle.dns_rdata.specs.declared.record_data.RData.TheVariants as rdata
@@ -91,11 +91,11 @@ options_tie e c h None None = refl
 options_tie e c h (Some x) (Some y) = h x y
 options_tie e c h a b = refl
 
-row_ties : (row : Row) (v w : RData) → row_eq row v w ≡ is_eq (row_cmp row v w)
-row_ties (Row.fields kinds held) v w = options_tie (values_eq kinds) (values_cmp kinds) (values_ties kinds) (held v) (held w)
-row_ties (Row.options held) v w = options_tie opt_eq opt_cmp opt_ties (held v) (held w)
+row_ties : (row : KeyRow) (v w : RData) → row_eq row v w ≡ is_eq (row_cmp row v w)
+row_ties (KeyRow.fields kinds held) v w = options_tie (values_eq kinds) (values_cmp kinds) (values_ties kinds) (held v) (held w)
+row_ties (KeyRow.options held) v w = options_tie opt_eq opt_cmp opt_ties (held v) (held w)
 
-rows_tie : (given : List Row) (v w : RData) → rows_eq given v w ≡ is_eq (rows_cmp given v w)
+rows_tie : (given : List KeyRow) (v w : RData) → rows_eq given v w ≡ is_eq (rows_cmp given v w)
 rows_tie [] v w = type_laws.matches_eq-law (type_of v) (type_of w)
 rows_tie (row ∷ rest) v w = both_tied (row_eq row v w) (rows_eq rest v w) (row_cmp row v w) (rows_cmp rest v w) (row_ties row v w) (rows_tie rest v w)
 

@@ -2,6 +2,7 @@
 #![tactic(auto)]
 
 pub mod canonical;
+mod each;
 pub mod laws;
 pub mod order;
 pub mod record_data;

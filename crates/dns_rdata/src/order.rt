@@ -1,11 +1,12 @@
 //! The order of record data.
 
-ghost use Rattle.std.specs.Prelude.{◌≡◌, ◌&&◌, true};
+ghost use Rattle.std.specs.Prelude.{◌≡◌, ◌&&◌, true, refl};
 ghost use Rattle.std.specs.{Cmp.Lexicographic.slice_cmp, Ordering.nat_cmp};
 ghost use Rattle.dns_rdata.specs.{Data.data_octets, Data.fields_by, Data.fields_of, Equal.equal, Order.rank, Order.rdata_cmp, Order.variants_cmp};
-ghost use Rattle.dns_rdata.specs.{Order.Differ, QuickOrders.TellsOrder};
+ghost use Rattle.dns_rdata.specs.{Order.Differ, Order.OrdersRead, Order.rdata_total, QuickOrders.TellsOrder, Ties.rdata_ties};
 
-use crate::record_data::{RData, with_records};
+use crate::each::with_records;
+use crate::record_data::RData;
 use crate::traits::RecordData;
 use dns_rdata_base::ordered::OrderedRecord;
 use std::cmp::Ordering;
@@ -124,9 +125,7 @@ impl RData {
 }
 
 impl PartialOrd for RData {
-    ghost use Rattle.std.specs.Prelude.{refl};
     ghost use Rattle.std.specs.{Cmp.partial_order_from_agreeing_total, Ordering.as_partial_cmp};
-    ghost use Rattle.dns_rdata.specs.{Order.rdata_total, Ties.rdata_ties};
 
     ghost partial_cmp = { as_partial_cmp rdata_cmp };
 
@@ -139,9 +138,6 @@ impl PartialOrd for RData {
 }
 
 impl Ord for RData {
-    ghost use Rattle.std.specs.Prelude.{refl};
-    ghost use Rattle.dns_rdata.specs.{Order.rdata_total, Order.OrdersRead, Ties.rdata_ties};
-
     ghost cmp = { rdata_cmp };
 
     ghost total = { rdata_total };

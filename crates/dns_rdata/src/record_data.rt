@@ -11,6 +11,7 @@ ghost use Rattle.dns_rdata.specs.{Equal.equal, Equal.equal_equiv, Equal.record_t
 ghost use Rattle.dns_rdata.specs.{Laws.TellsApart, Laws.address_of, Refusals.IsRefusal, Texts.HasText, Texts.data_text, WholeOctets.whole_data};
 ghost use Rattle.dns_rdata.specs.declared.record_data.RData.TheVariants as rdata;
 
+use crate::each::{clone_each, each, equal_each, read_each, with_records};
 use crate::traits::RecordData;
 use crate::{
     A, AAAA, ANAME, CAA, CERT, CNAME, CSYNC, HINFO, HTTPS, MX, NAPTR, NS, NULL, OPENPGPKEY, OPT,
@@ -102,82 +103,6 @@ pub enum RData {
     ZERO,
 }
 
-// Calls a macro with the arguments in front of the types that have a record of their own, each with its place among the
-// variants.
-macro_rules! with_records {
-    ($macro:ident, $arguments:tt) => {
-        $macro!(
-            $arguments (A 0) (AAAA 1) (ANAME 2) (CAA 3) (CERT 4) (CNAME 5) (CSYNC 6) (HINFO 7)
-            (HTTPS 8) (MX 9) (NAPTR 10) (NULL 11) (NS 12) (OPENPGPKEY 13) (OPT 14) (PTR 15)
-            (SMIMEA 16) (SOA 17) (SRV 18) (SSHFP 19) (SVCB 20) (TLSA 21) (TXT 22)
-        )
-    };
-}
-
-pub(crate) use with_records;
-
-// Matches a value: the arms that are given first, and then one for each record, all with the same body.
-macro_rules! each {
-    (($value:expr, $x:ident => $body:expr, $($pattern:pat => $other:expr,)+) $(($record:ident $place:literal))+) => {
-        match $value {
-            $($pattern => $other,)+
-            $(RData::$record($x) => $body,)+
-        }
-    };
-    ($($arguments:tt)+) => {
-        with_records!(each, ($($arguments)+))
-    };
-}
-
-// Matches two values: the arms that are given first, and then one for two records of each type that is named. The first
-// types are compared by a call, the others in place.
-macro_rules! equal_each {
-    ($values:expr, [$($called:ident)+], [$($record:ident)+], $($pattern:pat => $other:expr),+; $last:expr) => {
-        match $values {
-            $($pattern => $other,)+
-            $((RData::$called(a), RData::$called(b)) => is_equal(a, b),)+
-            $((RData::$record(a), RData::$record(b)) => *a == *b,)+
-            _ => $last,
-        }
-    };
-}
-
-// Matches the type of the data: the arms that are given first, and then one for each record, which reads it, counts the
-// octets that were taken, and returns.
-macro_rules! read_each {
-    (
-        ($record_type:expr, $decoder:ident, $start:ident, $length:ident, $($pattern:pat => $other:expr),+; $code:ident => $last:expr)
-        $(($record:ident $place:literal))+
-    ) => {
-        match $record_type {
-            $($pattern => $other,)+
-            $(RecordType::$record => {
-                let data = $record::read_data($decoder, $length);
-                return Ok(RData::$record(by_length(data, $decoder, $start, $length)?));
-            })+
-            $code => $last,
-        }
-    };
-    ($($arguments:tt)+) => {
-        with_records!(read_each, ($($arguments)+))
-    };
-}
-
-// Copies a value: the arms that are given first, and then one for each record. Addresses are copied as they are.
-macro_rules! clone_each {
-    (($value:expr, $($pattern:pat => $other:expr,)+) (A 0) (AAAA 1) $(($record:ident $place:literal))+) => {
-        match $value {
-            $($pattern => $other,)+
-            RData::A(a) => return Ok(RData::A(*a)),
-            RData::AAAA(a) => return Ok(RData::AAAA(*a)),
-            $(RData::$record(data) => return Ok(RData::$record(data.clone()?)),)+
-        }
-    };
-    ($($arguments:tt)+) => {
-        with_records!(clone_each, ($($arguments)+))
-    };
-}
-
 impl RData {
     /// The type of the record that has this data.
     pub fn record_type(&self) -> RecordType
@@ -263,47 +188,7 @@ impl RData {
             }
         )
     }
-}
 
-impl BinEncodable for RData {
-    ghost emits = { λ v r old new. EmitsAs (mode_for old.mode v) (fields_of v).kinds (fields_of v).values r old new };
-
-    /// Appends the octets of the value, its names in the mode of its type. Refused by [`Memory`](ProtoError::Memory);
-    /// by [`MaxBufferSizeExceeded`](ProtoError::MaxBufferSizeExceeded) where the octets would pass the encoder's limit;
-    /// and by [`Message`](ProtoError::Message) where the value has none, as a string of more than 255 octets or
-    /// parameters whose keys do not rise. After a refusal the octets that were there stand, and the encoder is in the
-    /// mode that it was in.
-    ///
-    /// ```rust
-    /// fn emit_mail(alloc: Global, exchange: Name, octets: &mut Vec<u8>) -> ProtoResult<()>
-    ///     requires { octets.old.items ≡ [] }
-    /// {
-    ///     let mut encoder = BinEncoder::new(alloc, octets);
-    ///     RData::MX(MX::new(10, exchange)).emit(&mut encoder)?;
-    ///     encoder.into_bytes();
-    ///     Ok(())
-    /// }
-    /// ```
-    #[tactic(auto, unfolding(crate::specs::Data::EmitsData))]
-    fn emit(&self, encoder: &mut BinEncoder<'_>) -> Result<(), ProtoError>
-        ensures emits { EmitsAs (mode_for encoder.old.mode self.now) (fields_of self.now).kinds (fields_of self.now).values result encoder.old encoder.new }
-        ensures keeps { Keeps encoder.old encoder.new }
-        // What was read and is appended reads back as an equal value, behind any octets.
-        ensures again { OnOk result (ReadsBack self.now encoder.old encoder.new) }
-        // The octets that were there stand, and none that was appended is past the limit.
-        ensures extends { Extends encoder.old encoder.new }
-        // What is emitted can be, and what is refused by a message cannot.
-        ensures fits { OnOk result (IsEmittable self.now) }
-        ensures unfit { IfErr result (λ e. IsMessage e → ¬ (IsEmittable self.now)) }
-    {
-        self.emit_by_type(encoder)?;
-        // Called for its clauses: what was written is octets.
-        let _written = encoder.len();
-        Ok(())
-    }
-}
-
-impl RData {
     /// Appends the octets of the value, its names whole and with their letters, whatever the mode of the encoder: no name
     /// ends by a pointer, so the octets mean the same at any place of any message. Refused as by
     /// [`emit`](BinEncodable::emit). After a refusal the octets that were there stand, and the encoder is in the mode that it
@@ -362,41 +247,10 @@ impl RData {
     {
         each!(self, x => return emit_record(x, encoder),
             RData::Unknown { rdata, .. } => return rdata.emit(encoder),
-            RData::Update0(_) => return Ok(()),
-            RData::ZERO => return Ok(()),
+            RData::Update0(_) | RData::ZERO => return Ok(()),
         )
     }
-}
 
-// Appends the octets of a record, which are those of the value that holds it.
-#[inline(always)]
-#[tactic(auto, unfolding(crate::specs::Data::EmitsData))]
-fn emit_record<T: BinEncodable + RecordData>(
-    value: &T,
-    encoder: &mut BinEncoder<'_>,
-) -> Result<(), ProtoError>
-    requires { (r : Result (Unit {0}) ProtoErrorValue) (old new : Writing) → T.emits value.now r old new
-        → EmitsAs (mode_for old.mode (T.wrapped value.now)) (fields_of (T.wrapped value.now)).kinds (fields_of (T.wrapped value.now)).values r old new }
-    ensures { EmitsData (mode_for encoder.old.mode (T.wrapped value.now)) (T.wrapped value.now) result encoder.old encoder.new }
-{
-    value.emit(encoder)
-}
-
-// Appends the octets of a record, its names whole.
-#[inline(always)]
-#[tactic(auto, unfolding(crate::specs::Data::EmitsData))]
-fn emit_whole_record<T: EncodesFields + RecordData>(
-    value: &T,
-    encoder: &mut BinEncoder<'_>,
-) -> Result<(), ProtoError>
-    requires { (r : Result (Unit {0}) ProtoErrorValue) (old new : Writing) → EmitsAs RDataEncoding.Other T.facts.kinds (T.facts.fields value.now) r old new
-        → EmitsAs RDataEncoding.Other (fields_of (T.wrapped value.now)).kinds (fields_of (T.wrapped value.now)).values r old new }
-    ensures { EmitsData RDataEncoding.Other (T.wrapped value.now) result encoder.old encoder.new }
-{
-    emit_in(RDataEncoding::Other, value, encoder)
-}
-
-impl RData {
     // Whether both are octets of one type, and the same. A call, so that `is_same` keeps nothing across another one.
     #[inline(never)]
     fn is_same_unknown(
@@ -430,6 +284,72 @@ impl RData {
             false
         )
     }
+}
+
+impl BinEncodable for RData {
+    ghost emits = { λ v r old new. EmitsAs (mode_for old.mode v) (fields_of v).kinds (fields_of v).values r old new };
+
+    /// Appends the octets of the value, its names in the mode of its type. Refused by [`Memory`](ProtoError::Memory);
+    /// by [`MaxBufferSizeExceeded`](ProtoError::MaxBufferSizeExceeded) where the octets would pass the encoder's limit;
+    /// and by [`Message`](ProtoError::Message) where the value has none, as a string of more than 255 octets or
+    /// parameters whose keys do not rise. After a refusal the octets that were there stand, and the encoder is in the
+    /// mode that it was in.
+    ///
+    /// ```rust
+    /// fn emit_mail(alloc: Global, exchange: Name, octets: &mut Vec<u8>) -> ProtoResult<()>
+    ///     requires { octets.old.items ≡ [] }
+    /// {
+    ///     let mut encoder = BinEncoder::new(alloc, octets);
+    ///     RData::MX(MX::new(10, exchange)).emit(&mut encoder)?;
+    ///     encoder.into_bytes();
+    ///     Ok(())
+    /// }
+    /// ```
+    #[tactic(auto, unfolding(crate::specs::Data::EmitsData))]
+    fn emit(&self, encoder: &mut BinEncoder<'_>) -> Result<(), ProtoError>
+        ensures emits { EmitsAs (mode_for encoder.old.mode self.now) (fields_of self.now).kinds (fields_of self.now).values result encoder.old encoder.new }
+        ensures keeps { Keeps encoder.old encoder.new }
+        // What was read and is appended reads back as an equal value, behind any octets.
+        ensures again { OnOk result (ReadsBack self.now encoder.old encoder.new) }
+        // The octets that were there stand, and none that was appended is past the limit.
+        ensures extends { Extends encoder.old encoder.new }
+        // What is emitted can be, and what is refused by a message cannot.
+        ensures fits { OnOk result (IsEmittable self.now) }
+        ensures unfit { IfErr result (λ e. IsMessage e → ¬ (IsEmittable self.now)) }
+    {
+        self.emit_by_type(encoder)?;
+        // Called for its clauses: what was written is octets.
+        let _written = encoder.len();
+        Ok(())
+    }
+}
+
+// Appends the octets of a record, which are those of the value that holds it.
+#[inline(always)]
+#[tactic(auto, unfolding(crate::specs::Data::EmitsData))]
+fn emit_record<T: BinEncodable + RecordData>(
+    value: &T,
+    encoder: &mut BinEncoder<'_>,
+) -> Result<(), ProtoError>
+    requires { (r : Result (Unit {0}) ProtoErrorValue) (old new : Writing) → T.emits value.now r old new
+        → EmitsAs (mode_for old.mode (T.wrapped value.now)) (fields_of (T.wrapped value.now)).kinds (fields_of (T.wrapped value.now)).values r old new }
+    ensures { EmitsData (mode_for encoder.old.mode (T.wrapped value.now)) (T.wrapped value.now) result encoder.old encoder.new }
+{
+    value.emit(encoder)
+}
+
+// Appends the octets of a record, its names whole.
+#[inline(always)]
+#[tactic(auto, unfolding(crate::specs::Data::EmitsData))]
+fn emit_whole_record<T: EncodesFields + RecordData>(
+    value: &T,
+    encoder: &mut BinEncoder<'_>,
+) -> Result<(), ProtoError>
+    requires { (r : Result (Unit {0}) ProtoErrorValue) (old new : Writing) → EmitsAs RDataEncoding.Other T.facts.kinds (T.facts.fields value.now) r old new
+        → EmitsAs RDataEncoding.Other (fields_of (T.wrapped value.now)).kinds (fields_of (T.wrapped value.now)).values r old new }
+    ensures { EmitsData RDataEncoding.Other (T.wrapped value.now) result encoder.old encoder.new }
+{
+    emit_in(RDataEncoding::Other, value, encoder)
 }
 
 impl PartialEq for RData {
@@ -492,11 +412,11 @@ impl fmt::Display for RData {
     /// The text of the record; `UPDATE` for no data of an update, and nothing for no data of type 0. OPT has no text:
     /// it is refused.
     ///
-    /// It is for people, as in `hickory-proto`; `dns_rdata_zone::ZoneText` prints the form that name servers read. Some texts, read again, are refused or silently give another value: of TXT
-    /// and HINFO whose strings have blanks, are empty or have `"`, `;`, `(` or `\`; of CAA and NAPTR with `"` and `\`; of
-    /// SVCB and HTTPS with keys of no name (`key667=`), `no-default-alpn=` or `dohpath=""`; of CERT whose type or algorithm
-    /// prints a name; of names with a `;` in a label. To keep a value, keep its octets (`emit`); `from_tokens` says which
-    /// texts read back.
+    /// It is for people, as in `hickory-proto`; `dns_rdata_zone::ZoneText` prints the form that name servers read. Some
+    /// texts, read again, are refused or silently give another value: of TXT and HINFO whose strings are empty or have
+    /// blanks, `"`, `;`, `(` or `\`; of CAA and NAPTR with `"` and `\`; of SVCB and HTTPS with keys of no name (`key667=`),
+    /// `no-default-alpn=` or `dohpath=""`; of CERT whose type or algorithm prints a name; of names with a `;` in a label.
+    /// To keep a value, keep its octets (`emit`); `from_tokens` says which texts read back.
     fn fmt<W: fmt::Write>(&self, f: &mut fmt::Formatter<W>) -> fmt::Result
         ensures writes { DisplaysOnOk W.write_str_gives f.old result (data_text self.now) f.new }
         ensures styled { DisplaysStyledOnOk W.write_str_gives f.old result None f.new }

@@ -5,7 +5,7 @@ ghost use Rattle.std.specs.{Cow.cow_str_bytes, Iterator.IsFinite, Option.option_
 ghost use Rattle.dns_rdata.specs.Data.{type_of};
 ghost use Rattle.dns_rdata.specs.DataWords.{AnswersDataWords, ReadsDataWords, ReadsDataText, ReadsDataTextAt, AreDataWords, PrintsBack, HasNoWords};
 ghost use Rattle.dns_text.specs.TextWords.{NoTextWords};
-ghost use Rattle.dns_words.specs.Reads.{Decides, UnlessMemory};
+ghost use Rattle.dns_words.specs.Reads.{Decides, UnlessParseMemory};
 
 use crate::record_data::RData;
 use crate::traits::RecordData;
@@ -114,7 +114,7 @@ impl RData {
         ensures kind { IfOk result (λ v. type_of v ≡ record_type) }
         // A type without words is refused by its name, but for want of memory and a text that has no words.
         ensures unsupported { HasNoWords record_type
-            → IfErr result (λ e. UnlessMemory e ((e ≡ ParseError.UnsupportedRecordType record_type) ⊎ NoTextWords text.now)) }
+            → IfErr result (λ e. UnlessParseMemory e ((e ≡ ParseError.UnsupportedRecordType record_type) ⊎ NoTextWords text.now)) }
     {
         RData::try_from_str_with_origin(alloc, record_type, text, None)
     }
@@ -135,7 +135,7 @@ impl RData {
         ensures reads { ReadsDataTextAt (option_copied origin.entry) record_type result text.now }
         ensures kind { IfOk result (λ v. type_of v ≡ record_type) }
         ensures unsupported { HasNoWords record_type
-            → IfErr result (λ e. UnlessMemory e ((e ≡ ParseError.UnsupportedRecordType record_type) ⊎ NoTextWords text.now)) }
+            → IfErr result (λ e. UnlessParseMemory e ((e ≡ ParseError.UnsupportedRecordType record_type) ⊎ NoTextWords text.now)) }
     {
         let words = text_words(alloc, text)?;
         RData::from_tokens(alloc, record_type, words.into_iter(), origin)

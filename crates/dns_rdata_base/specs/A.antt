@@ -3,7 +3,7 @@ use Rattle.std.specs.{Prelude.◌≡◌, Prelude.ℕ, Prelude.List, Prelude.[], 
 use Rattle.dns_types.specs.declared.error.DecodeError.{DecodeError}
 use Rattle.dns_fields.specs.Fields.{Kind, Octets, Values}
 use Rattle.dns_names_wire.specs.{State.Reading, Words.LacksOctets, Facts.Facts, Facts.ending}
-use Rattle.dns_words.specs.Forms.{Row, word, ignored, ipv4}
+use Rattle.dns_words.specs.Forms.{WordRow, word, ignored, ipv4}
 use Rattle.dns_rdata_base.specs.declared.a.A.{A}
 use Rattle.dns_types.specs.declared.error.DecodeError.TheVariants as decode
 
@@ -19,7 +19,7 @@ abbrev pub a_text : A → List ℕ
 a_text x = ipv4_text (ipv4_octets x.0)
 
 -- an address
-abbrev pub a_words : Row a_shape
+abbrev pub a_words : WordRow a_shape
 a_words = word ipv4 ignored
 
 -- Why an address is refused: fewer than its octets are left. They are taken.

@@ -5,7 +5,7 @@ use Rattle.dns_types.specs.declared.error.DecodeError.{DecodeError}
 use Rattle.dns_types.specs.declared.error.DecodeError.TheVariants as decode
 use Rattle.dns_fields.specs.Fields.{Kind, Octets, Values}
 use Rattle.dns_names_wire.specs.{State.Reading, Words.LacksOctets, Facts.Facts, Facts.ending}
-use Rattle.dns_words.specs.Forms.{Row, word, ignored, ipv6}
+use Rattle.dns_words.specs.Forms.{WordRow, word, ignored, ipv6}
 use Rattle.dns_rdata_base.specs.declared.aaaa.AAAA.{AAAA}
 
 -- the sixteen octets of the address, the highest first
@@ -20,7 +20,7 @@ abbrev pub aaaa_text : AAAA → List ℕ
 aaaa_text x = ipv6_text (ipv6_segments x.0)
 
 -- an address
-abbrev pub aaaa_words : Row aaaa_shape
+abbrev pub aaaa_words : WordRow aaaa_shape
 aaaa_words = word ipv6 ignored
 
 -- Why an address is refused: fewer than its octets are left. Whole pairs of them are taken.

@@ -4,7 +4,7 @@ use Rattle.dns_fields.specs.Fields.{Kind, Text, Values}
 use Rattle.dns_types.specs.declared.error.DecodeError.{DecodeError}
 use Rattle.dns_types.specs.declared.error.DecodeError.TheVariants as decode
 use Rattle.dns_names_wire.specs.{State.Reading, Words.TookField, Words.LacksText, Facts.Facts, Facts.ending}
-use Rattle.dns_words.specs.Forms.{Row, word, ignored, kept}
+use Rattle.dns_words.specs.Forms.{WordRow, word, ignored, kept}
 use Rattle.dns_rdata_base.specs.{Lossy.lossy, declared.hinfo.HINFO.HINFO}
 
 -- cpu, os
@@ -19,7 +19,7 @@ abbrev pub hinfo_text : HINFO → List ℕ
 hinfo_text x = lossy x.cpu ++ codes " " ++ lossy x.os
 
 -- cpu, os
-abbrev pub hinfo_words : Row hinfo_shape
+abbrev pub hinfo_words : WordRow hinfo_shape
 hinfo_words = word kept (word kept ignored)
 
 -- the first string lacks octets, or the second one behind it

@@ -6,7 +6,7 @@ use Rattle.dns_types.specs.declared.error.DecodeError.TheVariants as decode
 use Rattle.dns_fields.specs.{Labels.DomainName, Fields.Kind, Fields.Number, Fields.Text, Fields.Name, Fields.Values}
 use Rattle.dns_labels.specs.Text.{name_text}
 use Rattle.dns_names_wire.specs.{State.Reading, Words.Took, Facts.Facts, Facts.ending}
-use Rattle.dns_words.specs.Forms.{Form, Row, word, ignored, number, kept, name}
+use Rattle.dns_words.specs.Forms.{Form, WordRow, word, ignored, number, kept, name}
 use Rattle.dns_rdata_base.specs.{Lossy.lossy, Refusing.IsLack, declared.naptr.NAPTR.NAPTR}
 
 -- order, preference
@@ -63,5 +63,5 @@ abbrev pub flags_word : Form Text
 flags_word = record { is = λ octets word. (octets ≡ word) × AreFlags octets }
 
 -- order, preference, flags, services, regexp, replacement
-abbrev pub naptr_words : Option DomainName → Row naptr_shape
+abbrev pub naptr_words : Option DomainName → WordRow naptr_shape
 naptr_words origin = word (number 2) (word (number 2) (word flags_word (word kept (word kept (word (name origin) ignored)))))

@@ -19,8 +19,8 @@ abbrev pub null_text : NULL → List ℕ
 null_text x = encode_of standard x.anything
 
 -- fewer than n octets are left, and none is taken
-abbrev pub null_refusal : ℕ → Reading → DecodeError → Reading → Type 0
-null_refusal n old e new = (new ≡ old) × ((e ≡ decode.Memory) ⊎ ((e ≡ decode.InsufficientBytes) × LacksOctets old n))
+abbrev pub IsNullRefusal : ℕ → Reading → DecodeError → Reading → Type 0
+IsNullRefusal n old e new = (new ≡ old) × ((e ≡ decode.Memory) ⊎ ((e ≡ decode.InsufficientBytes) × LacksOctets old n))
 
 abbrev pub null_facts : Facts NULL
-null_facts = filling null_shape (λ _. Unit {0}) null_fields null_refusal (λ _. Unit {0})
+null_facts = filling null_shape (λ _. Unit {0}) null_fields IsNullRefusal (λ _. Unit {0})

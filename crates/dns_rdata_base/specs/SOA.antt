@@ -4,7 +4,7 @@ use Rattle.dns_fields.specs.{Labels.DomainName, Fields.Kind, Fields.Number, Fiel
 use Rattle.dns_labels.specs.Text.{name_text}
 use Rattle.std.specs.{Fmt.signed_decimal, Int.cast_unsigned, Int.w32}
 use Rattle.dns_names_wire.specs.Facts.{Facts}
-use Rattle.dns_words.specs.{Forms.Row, Forms.word, Forms.ignored, Forms.ttl, Forms.name, Printed.IsPrintedName}
+use Rattle.dns_words.specs.{Forms.WordRow, Forms.word, Forms.ignored, Forms.ttl, Forms.name, Printed.IsPrintedName}
 use Rattle.dns_rdata_base.specs.{Refusing.straight, declared.soa.SOA.SOA}
 
 -- serial, refresh, retry, expire, minimum
@@ -40,7 +40,7 @@ soa_text x = name_text x.mname ++ codes " " ++ name_text x.rname ++ codes " " ++
     ++ signed_decimal x.retry ++ codes " " ++ signed_decimal x.expire ++ codes " " ++ decimal x.minimum
 
 -- mname, rname, serial, refresh, retry, expire, minimum
-abbrev pub soa_words : Option DomainName → Row soa_shape
+abbrev pub soa_words : Option DomainName → WordRow soa_shape
 soa_words origin = word (name origin) (word (name origin) (word (ttl 4294967295) (word (ttl 2147483647) (word (ttl 2147483647) (word (ttl 2147483647) (word (ttl 4294967295) ignored))))))
 
 -- a number of 32 bits that is not negative

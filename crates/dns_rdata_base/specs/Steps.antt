@@ -1,7 +1,7 @@
 -- The fields at which the steps of records begin.
 use Rattle.std.specs.{Prelude.ℕ, Prelude.zero, Prelude.suc, Prelude.List, Prelude.[], Prelude.◌∷◌, Prelude.drop, List.flat_map}
 use Rattle.dns_fields.specs.Pieces.{string}
-use Rattle.dns_pieces.specs.Steps.{Left}
+use Rattle.dns_pieces.specs.Steps.{LeftAt}
 
 -- machine, operating system
 abbrev pub hinfo_begins : List ℕ
@@ -16,6 +16,6 @@ abbrev pub naptr_begins : List ℕ
 naptr_begins = 0 ∷ 3 ∷ 4 ∷ 5 ∷ []
 
 -- the strings from one on: each is a part
-abbrev pub texts_left : List (List ℕ) → Left
+abbrev pub texts_left : List (List ℕ) → LeftAt
 texts_left ss zero i j = flat_map string (drop i ss)
 texts_left ss (suc n) i j = []

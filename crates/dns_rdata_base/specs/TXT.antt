@@ -5,7 +5,7 @@ use Rattle.dns_fields.specs.{Fields.Kind, Fields.Texts, Fields.Values, Order.val
 use Rattle.dns_types.specs.declared.error.DecodeError.{DecodeError}
 use Rattle.dns_types.specs.declared.error.DecodeError.TheVariants as decode
 use Rattle.dns_names_wire.specs.{State.Reading, Words.TookField, Words.LacksText, Facts.Facts}
-use Rattle.dns_words.specs.Forms.{Row, every_text}
+use Rattle.dns_words.specs.Forms.{WordRow, every_text}
 use Rattle.dns_rdata_base.specs.{Lossy.lossy, declared.txt.TXT.TXT}
 
 -- none or more, to the end
@@ -20,7 +20,7 @@ abbrev pub txt_text : TXT → List ℕ
 txt_text x = flat_map lossy x.txt_data
 
 -- strings
-abbrev pub txt_words : Row txt_shape
+abbrev pub txt_words : WordRow txt_shape
 txt_words = every_text
 
 -- behind some strings, before n octets are taken, the next string lacks octets

@@ -2,7 +2,7 @@
 
 ghost use Rattle.std.specs.Prelude.{◌≡◌, ◌≢◌, ◌+◌, ◌<◌, ◌≤◌, ◌++◌, ℕ, List, [], ◌∷◌, length, length as list_length, decimal, OnErr, IfErr, Some};
 ghost use Rattle.std.specs.Net.Addr.{ipv4_octets};
-ghost use Rattle.dns_names_wire.specs.Words.{ReadsIf, ReadsBy, Emits, LacksOctets, always, IsCut};
+ghost use Rattle.dns_names_wire.specs.Words.{ReadsIf, ReadsBy, Emits, LacksOctets, Always, IsCut};
 ghost use Rattle.dns_types.specs.declared.error.ParseError.TheVariants as parse;
 ghost use Rattle.dns_rdata_base.specs.A.{a_shape, a_fields, a_facts, a_text, a_words};
 ghost use Rattle.dns_words.specs.Reads.{ReadsRow};
@@ -60,7 +60,7 @@ impl BinDecodable for A {
     #[inline]
     fn read(decoder: &mut BinDecoder<'_>) -> Result<A, DecodeError>
         ensures reads { ReadsBy (λ m p x q. Stands m p a_shape (a_fields x) q) result decoder.old decoder.new }
-        ensures fields { ReadsIf a_shape (always a_shape) a_fields result decoder.old decoder.new }
+        ensures fields { ReadsIf a_shape (Always a_shape) a_fields result decoder.old decoder.new }
         ensures lacking { IfErr result (λ e. (e ≡ DecodeError.InsufficientBytes) × LacksOctets decoder.old 4) }
         ensures stopped { OnErr result (decoder.new.index ≡ length decoder.old.message) }
     {

@@ -2,7 +2,7 @@
 
 ghost use Rattle.std.specs.Prelude.{◌≡◌, ◌≢◌, ◌+◌, ◌-◌, ◌*◌, ◌/◌, ◌<◌, ◌≤◌, ℕ, List, [], ◌∷◌, length, length as list_length, OnErr, IfErr, Some};
 ghost use Rattle.std.specs.Net.Addr.{ipv6_segments, ipv6_octets};
-ghost use Rattle.dns_names_wire.specs.Words.{ReadsIf, ReadsBy, Emits, LacksOctets, always, IsCut};
+ghost use Rattle.dns_names_wire.specs.Words.{ReadsIf, ReadsBy, Emits, LacksOctets, Always, IsCut};
 ghost use Rattle.dns_names_wire.specs.Facts.{same, same_equiv, same_partial};
 ghost use Rattle.dns_types.specs.declared.error.ParseError.TheVariants as parse;
 ghost use Rattle.dns_rdata_base.specs.AAAA.{aaaa_shape, aaaa_fields, aaaa_facts, aaaa_text, aaaa_words};
@@ -62,7 +62,7 @@ impl BinDecodable for AAAA {
     #[inline]
     fn read(decoder: &mut BinDecoder<'_>) -> Result<AAAA, DecodeError>
         ensures reads { ReadsBy (λ m p x q. Stands m p aaaa_shape (aaaa_fields x) q) result decoder.old decoder.new }
-        ensures fields { ReadsIf aaaa_shape (always aaaa_shape) aaaa_fields result decoder.old decoder.new }
+        ensures fields { ReadsIf aaaa_shape (Always aaaa_shape) aaaa_fields result decoder.old decoder.new }
         ensures lacking { IfErr result (λ e. (e ≡ DecodeError.InsufficientBytes) × LacksOctets decoder.old 16) }
         ensures stopped { OnErr result (decoder.new.index ≡ decoder.old.index + (length decoder.old.message - decoder.old.index) / 2 * 2) }
     {

@@ -77,7 +77,6 @@ impl Record for HINFO {
 impl DecodesFields for HINFO {
     ghost ends = { (tt, (tt, (tt, tt))) };
 
-    #[tactic(auto, using(dns_names_wire::proofs::FieldReads::reading))]
     fn read_fields(decoder: &mut BinDecoder<'_>) -> Result<HINFO, DecodeError> {
         let alloc = decoder.allocator();
         let cpu = decoder.read_character_data()?.unverified();
@@ -107,7 +106,6 @@ impl BinEncodable for HINFO {
 
     /// Appends the two character strings. One of more than 255 octets is refused by [`Message`](ProtoError::Message);
     /// the first one may then stand behind the start.
-    #[tactic(auto, using(dns_names_wire::proofs::FieldWrites::writing))]
     fn emit(&self, encoder: &mut BinEncoder<'_>) -> Result<(), ProtoError> {
         encoder.emit_character_data(self.cpu.as_slice())?;
         encoder.emit_character_data(self.os.as_slice())?;

@@ -1,5 +1,5 @@
 //! The data of DNS records without certificates: addresses, names, strings and plain octets.
-#![tactic(auto, using(dns_words::proofs::Steps::reading, dns_pieces::proofs::Comparing::then_equal, dns_pieces::proofs::Comparing::then_assoc))]
+#![tactic(auto, using(dns_names_wire::proofs::FieldReads::reading, dns_names_wire::proofs::FieldWrites::writing, dns_words::proofs::Steps::reading, dns_pieces::proofs::Comparing::then_equal, dns_pieces::proofs::Comparing::then_assoc))]
 
 pub mod a;
 pub mod aaaa;

@@ -61,7 +61,6 @@ impl Record for MX {
 impl DecodesFields for MX {
     ghost ends = { (tt, (tt, (tt, tt))) };
 
-    #[tactic(auto, using(dns_names_wire::proofs::FieldReads::reading))]
     fn read_fields(decoder: &mut BinDecoder<'_>) -> Result<MX, DecodeError> {
         let preference = decoder.read_u16()?.unverified();
         Ok(MX::new(preference, Name::read(decoder)?))
@@ -74,7 +73,6 @@ impl EncodesFields for MX {
 
     ghost MODE = { modes.StandardRecord };
 
-    #[tactic(auto, using(dns_names_wire::proofs::FieldWrites::writing))]
     fn emit_fields(&self, encoder: &mut BinEncoder<'_>) -> Result<(), ProtoError> {
         encoder.emit_u16(self.preference)?;
         self.exchange.emit(encoder)?;

@@ -43,7 +43,6 @@ impl Record for CNAME {
 impl DecodesFields for CNAME {
     ghost ends = { (tt, (tt, tt)) };
 
-    #[tactic(auto, using(dns_names_wire::proofs::FieldReads::reading))]
     fn read_fields(decoder: &mut BinDecoder<'_>) -> Result<CNAME, DecodeError> {
         Ok(CNAME(Name::read(decoder)?))
     }
@@ -55,7 +54,6 @@ impl EncodesFields for CNAME {
 
     ghost MODE = { modes.StandardRecord };
 
-    #[tactic(auto, using(dns_names_wire::proofs::FieldWrites::writing))]
     fn emit_fields(&self, encoder: &mut BinEncoder<'_>) -> Result<(), ProtoError> {
         self.0.emit(encoder)
     }
@@ -117,7 +115,6 @@ impl Record for NS {
 impl DecodesFields for NS {
     ghost ends = { (tt, (tt, tt)) };
 
-    #[tactic(auto, using(dns_names_wire::proofs::FieldReads::reading))]
     fn read_fields(decoder: &mut BinDecoder<'_>) -> Result<NS, DecodeError> {
         Ok(NS(Name::read(decoder)?))
     }
@@ -129,7 +126,6 @@ impl EncodesFields for NS {
 
     ghost MODE = { modes.StandardRecord };
 
-    #[tactic(auto, using(dns_names_wire::proofs::FieldWrites::writing))]
     fn emit_fields(&self, encoder: &mut BinEncoder<'_>) -> Result<(), ProtoError> {
         self.0.emit(encoder)
     }
@@ -191,7 +187,6 @@ impl Record for PTR {
 impl DecodesFields for PTR {
     ghost ends = { (tt, (tt, tt)) };
 
-    #[tactic(auto, using(dns_names_wire::proofs::FieldReads::reading))]
     fn read_fields(decoder: &mut BinDecoder<'_>) -> Result<PTR, DecodeError> {
         Ok(PTR(Name::read(decoder)?))
     }
@@ -203,7 +198,6 @@ impl EncodesFields for PTR {
 
     ghost MODE = { modes.StandardRecord };
 
-    #[tactic(auto, using(dns_names_wire::proofs::FieldWrites::writing))]
     fn emit_fields(&self, encoder: &mut BinEncoder<'_>) -> Result<(), ProtoError> {
         self.0.emit(encoder)
     }
@@ -267,7 +261,6 @@ impl Record for ANAME {
 impl DecodesFields for ANAME {
     ghost ends = { (tt, (tt, tt)) };
 
-    #[tactic(auto, using(dns_names_wire::proofs::FieldReads::reading))]
     fn read_fields(decoder: &mut BinDecoder<'_>) -> Result<ANAME, DecodeError> {
         Ok(ANAME(Name::read(decoder)?))
     }
@@ -279,7 +272,6 @@ impl EncodesFields for ANAME {
 
     ghost MODE = { modes.Other };
 
-    #[tactic(auto, using(dns_names_wire::proofs::FieldWrites::writing))]
     fn emit_fields(&self, encoder: &mut BinEncoder<'_>) -> Result<(), ProtoError> {
         self.0.emit(encoder)
     }

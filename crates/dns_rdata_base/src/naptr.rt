@@ -140,7 +140,6 @@ impl DecodesFields for NAPTR {
 
     /// The flags are tested as soon as they are taken: where an octet of theirs is no letter and no digit, the data is
     /// refused by [`NaptrFlagsInvalid`](DecodeError::NaptrFlagsInvalid).
-    #[tactic(auto, using(dns_names_wire::proofs::FieldReads::reading))]
     fn read_fields(decoder: &mut BinDecoder<'_>) -> Result<NAPTR, DecodeError> {
         let alloc = decoder.allocator();
         let order = decoder.read_u16()?.unverified();
@@ -178,7 +177,6 @@ impl NAPTR {
     }
 
     // Appends the strings and the name.
-    #[tactic(auto, using(dns_names_wire::proofs::FieldWrites::writing))]
     fn emit_rest(&self, encoder: &mut BinEncoder<'_>) -> Result<(), ProtoError>
         ensures emits { Emits naptr_rest_shape (naptr_rest self.now) result encoder.old encoder.new }
     {

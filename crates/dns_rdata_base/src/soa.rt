@@ -2,7 +2,7 @@
 
 ghost use Rattle.std.specs.Prelude.{◌≡◌, ◌+◌, ◌++◌, ◌%◌, IfErr, IfOk, Some};
 ghost use Rattle.std.specs.{Int.bytes_high_first, Option.option_copied};
-ghost use Rattle.dns_names_wire.specs.{Words.ReadsIf, Words.Emits, Words.always, Facts.same, Facts.same_equiv, Facts.same_partial};
+ghost use Rattle.dns_names_wire.specs.{Words.ReadsIf, Words.Emits, Words.Always, Facts.same, Facts.same_equiv, Facts.same_partial};
 ghost use Rattle.dns_rdata_base.specs.Refusing.{IsLack};
 ghost use Rattle.dns_rdata_base.specs.SOA.{soa_shape, soa_fields, soa_facts, soa_numbers_shape, soa_numbers, soa_numbers_of, soa_text, soa_words, HasSeconds};
 ghost use Rattle.dns_words.specs.Reads.{ReadsRow};
@@ -111,7 +111,7 @@ impl SOA {
     // Reads serial, refresh, retry, expire and minimum.
     #[tactic(auto, using(dns_names_wire::proofs::FieldReads::reading, crate::proofs::Lacking::lacking))]
     fn read_numbers(decoder: &mut BinDecoder<'_>) -> Result<(u32, i32, i32, i32, u32), DecodeError>
-        ensures fields { ReadsIf soa_numbers_shape (always soa_numbers_shape) soa_numbers result decoder.old decoder.new }
+        ensures fields { ReadsIf soa_numbers_shape (Always soa_numbers_shape) soa_numbers result decoder.old decoder.new }
         ensures refused { IfErr result (λ e. IsLack soa_numbers_shape decoder.old e decoder.new) }
     {
         let serial = decoder.read_u32()?.unverified();
@@ -157,7 +157,6 @@ impl Record for SOA {
 impl DecodesFields for SOA {
     ghost ends = { (tt, (tt, (tt, (tt, (tt, (tt, (tt, (tt, tt)))))))) };
 
-    #[tactic(auto, using(dns_names_wire::proofs::FieldReads::reading))]
     fn read_fields(decoder: &mut BinDecoder<'_>) -> Result<SOA, DecodeError> {
         let mname = Name::read(decoder)?;
         let rname = Name::read(decoder)?;
@@ -180,7 +179,6 @@ impl EncodesFields for SOA {
 
     ghost MODE = { modes.StandardRecord };
 
-    #[tactic(auto, using(dns_names_wire::proofs::FieldWrites::writing))]
     fn emit_fields(&self, encoder: &mut BinEncoder<'_>) -> Result<(), ProtoError> {
         self.mname.emit(encoder)?;
         self.rname.emit(encoder)?;

@@ -74,7 +74,6 @@ impl Record for SRV {
 impl DecodesFields for SRV {
     ghost ends = { (tt, (tt, (tt, (tt, (tt, tt))))) };
 
-    #[tactic(auto, using(dns_names_wire::proofs::FieldReads::reading))]
     fn read_fields(decoder: &mut BinDecoder<'_>) -> Result<SRV, DecodeError> {
         let priority = decoder.read_u16()?.unverified();
         let weight = decoder.read_u16()?.unverified();

@@ -2,7 +2,7 @@
 use Rattle.std.proofs.Common.{◌≡◌, ◌∙◌, ℕ, List, [], ◌∷◌, ◌++◌, length, take, drop, ◌-◌, refl, sym, ap, subst, arith, length-append}
 use Rattle.std.specs.Int.{bytes_high_first}
 use Rattle.std.proofs.{lemmas.Bool.Decides.nat_tests, lemmas.List.append-nil}
-use Rattle.dns_fields.specs.{Octets.At, Fields.Parameters, Fields.field_octets, Fields.parameter_pieces, Fields.ParametersAt, Pieces.Form.PortNumber}
+use Rattle.dns_fields.specs.{Octets.At, Fields.Parameters, Fields.field_octets, Fields.parameter_pieces, Fields.ParametersAt, Pieces.ParameterForm.PortNumber}
 use Rattle.dns_fields.specs.Pieces.{Numbered, piece, pieces, AllHeld, as_piece, ParameterValue, parameter_octets, ParameterHeld, form_for}
 use Rattle.dns_fields.specs.Pieces.ParameterValue.{Mandatory, Alpn, NoDefaultAlpn, Port, Ipv4Hint, Ipv6Hint, Opaque}
 use Rattle.dns_fields.proofs.Numbers.{length-bytes}

@@ -6,7 +6,7 @@ use Rattle.dns_types.specs.{declared.error.ParseError.ParseError, declared.recor
 use Rattle.dns_types.specs.declared.error.ParseError.TheVariants as parse
 use Rattle.dns_rdata.specs.{declared.record_data.RData.RData, WholeOctets.all_whole, WholeOctets.whole_data}
 use Rattle.dns_rdata.specs.Data.{FieldsOf, fields_of, shape, Fills, IsValue}
-use Rattle.dns_words.specs.Reads.{UnlessMemory}
+use Rattle.dns_words.specs.Reads.{UnlessParseMemory}
 use Rattle.dns_rdata_zone.specs.{ZoneGives.AreDataOf, ZoneGives.GivesValue, ZoneGives.GivesNone, ZoneFaults.ZoneFault, ZoneTexts.zone_text}
 use Rattle.dns_rdata_zone.proofs.{Again.own_fields, Filled.fills_give, ZoneOnce.one_given}
 use Rattle.dns_rdata_c.specs.{Buffers.IsPut, Calls.HasZoneData, Calls.IsNoZoneText, Calls.OfZoneText, Calls.PutsWire, Status.parse_status}
@@ -73,7 +73,7 @@ not_memory : (origin : Option DomainName) (t : RecordType) (text : List ℕ) (e 
 not_memory origin t text e s told high none (inl memory) = absurd (omega (arith, high, ap parse_status memory))
 not_memory origin t text e s told high none (inr fault) = inr (omega (arith, told, high), record { none = none; error = e; told = told; fault = fault })
 
-pub refused_text : (origin : Option DomainName) (t : RecordType) (text : List ℕ) (e : ParseError) (s : ℕ) → s ≡ parse_status e → UnlessMemory e (GivesNone origin t text)
+pub refused_text : (origin : Option DomainName) (t : RecordType) (text : List ℕ) (e : ParseError) (s : ℕ) → s ≡ parse_status e → UnlessParseMemory e (GivesNone origin t text)
     → (e ≡ parse.Memory) ⊎ ZoneFault origin t text e → (s ≡ 1) ⊎ ((48 ≤ s) × IsNoZoneText origin t text s)
 refused_text origin t text parse.Memory s told none why = inl told
 refused_text origin t text (parse.MissingToken word) s told none why = not_memory origin t text (parse.MissingToken word) s told (omega arith) none why

@@ -40,7 +40,7 @@ pub fn put_canonical(
     }
 }
 
-// The same by a cursor, without memory. Where the octets do not fit, the buffer holds those that do.
+// Puts the canonical octets of a value by a cursor, without memory. Where the octets do not fit, the buffer holds those that do.
 fn fill_canonical(value: &RData, out: &mut [u8], count: &mut usize) -> u32
     ensures ok { result ≡ OK → IsPut (data_octets value.now) out.old out.new count.new }
     ensures buffer { result ≡ BUFFER → (size out.old < size (data_octets value.now)) × (count.new ≡ size (data_octets value.now)) }

@@ -29,7 +29,8 @@ pub fn put_wire(alloc: Global, value: &RData, out: &mut [u8], count: &mut usize)
     }
 }
 
-// The same by the octets from which the value was read, where they are at hand (`put_standing`), and else by emission.
+// Puts the octets of a value that was read: those from which it was read, where they are at hand (`put_standing`), else those
+// that its emission appends.
 fn put_read(alloc: Global, octets: &[u8], value: &RData, out: &mut [u8], count: &mut usize) -> u32
     requires emittable { IsEmittable value.now }
     requires stand { AreOf octets.now value.now }

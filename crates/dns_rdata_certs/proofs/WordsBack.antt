@@ -6,7 +6,7 @@ use Rattle.hex.specs.Hex.{encode_lower, encode_with, lower_digits, decode_of, he
 use Rattle.hex.proofs.HexLemmas.{decode_of-encode_lower, IsDigits-lower_digits}
 use Rattle.dns_types.specs.declared.error.ParseError.{ParseError}
 use Rattle.dns_fields.specs.{Octets.AreOctets, Fields.Rest, Fields.Values}
-use Rattle.dns_words.specs.{Reads.AreJoined, Reads.Decides, Reads.ReadsRow, Printed.ReadsBack}
+use Rattle.dns_words.specs.{Reads.AreJoined, Reads.Decides, Reads.ReadsRow, Printed.TextReadsBack}
 use Rattle.dns_words.proofs.Steps.{joined_taken, unless_map}
 use Rattle.dns_words.proofs.Printed.{IsSolid, GivesBack, GiveBack, row_back, back_word, back_nothing, number_back}
 use Rattle.dns_rdata_certs.specs.{SSHFP.sshfp_fields, SSHFP.sshfp_text, TLSA.tlsa_fields, TLSA.tlsa_text}
@@ -66,13 +66,13 @@ digits_back s h some = record { is = (hex_some s some, hex_octets s h); solid = 
 joined_back : (s : List ℕ) → AreOctets s → s ≢ [] → GiveBack joined_hex (s, tt) (encode_lower s ∷ [])
 joined_back s h some = record { stand = rw (append-nil (encode_lower s)) (hex_octets s h, some); solid = (solid_hex s h, tt) }
 
-pub sshfp_back : ReadsBack sshfp_words sshfp_fields sshfp_text IsPrintedSshfp
+pub sshfp_back : TextReadsBack sshfp_words sshfp_fields sshfp_text IsPrintedSshfp
 sshfp_back = record {
   back = λ x h. row_back sshfp_words (sshfp_fields x) _ (_ ∷ _ ∷ []) _ refl
       (back_word (number_back 1 _ h.algorithm (omega (arith, h.algorithm))) (back_word (number_back 1 _ h.type (omega (arith, h.type))) (back_word (digits_back x.fingerprint h.octets h.some) back_nothing)));
 }
 
-pub tlsa_back : ReadsBack tlsa_words tlsa_fields tlsa_text IsPrintedTlsa
+pub tlsa_back : TextReadsBack tlsa_words tlsa_fields tlsa_text IsPrintedTlsa
 tlsa_back = record {
   back = λ x h. row_back tlsa_words (tlsa_fields x) _ (_ ∷ _ ∷ _ ∷ []) _ refl
       (back_word (number_back 1 _ h.usage (omega (arith, h.usage))) (back_word (number_back 1 _ h.selector (omega (arith, h.selector)))

@@ -50,7 +50,7 @@ cert_type_of = numbered_of cert_type_number named_cert_types (λ n. if nat_le 65
 unfoldable pub cert_type_text : CertType → List ℕ
 cert_type_text e = (cert_type_row e).2
 
--- the same of an algorithm
+-- an algorithm's number, its place in the declaration and its text
 abbrev pub cert_algorithm_row : CertAlgorithm → ℕ × ℕ × List ℕ
 cert_algorithm_row (key.Reserved n) = (n, 0, codes "Reserved(" ++ decimal n ++ codes ")")
 cert_algorithm_row key.RSAMD5 = (1, 1, codes "RSAMD5")

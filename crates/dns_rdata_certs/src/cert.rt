@@ -83,7 +83,6 @@ impl RecordDataDecodable for CERT {
     /// the length and 6, and nothing is taken. Where octets are missing it is refused by
     /// [`InsufficientBytes`](DecodeError::InsufficientBytes), and the numbers that are there are taken.
     #[inline]
-    #[tactic(auto, using(dns_names_wire::proofs::FieldReads::reading, dns_names_wire::proofs::WindowReads::filled_window))]
     fn read_data(decoder: &mut BinDecoder<'_>, length: Restrict<u16>) -> Result<CERT, DecodeError> {
         // Called for its clauses: the message is octets, and the place is in it.
         let _start = decoder.index();

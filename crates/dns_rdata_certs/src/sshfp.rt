@@ -58,7 +58,6 @@ impl RecordDataDecodable for SSHFP {
     /// missing it is refused by [`InsufficientBytes`](DecodeError::InsufficientBytes), and the numbers that are there
     /// are taken.
     #[inline]
-    #[tactic(auto, using(dns_names_wire::proofs::FieldReads::reading, dns_names_wire::proofs::WindowReads::filled_window))]
     fn read_data(
         decoder: &mut BinDecoder<'_>,
         length: Restrict<u16>,

@@ -61,7 +61,6 @@ impl RecordDataDecodable for TLSA {
     /// missing it is refused by [`InsufficientBytes`](DecodeError::InsufficientBytes), and the numbers that are there
     /// are taken.
     #[inline(always)]
-    #[tactic(auto, using(dns_names_wire::proofs::FieldReads::reading, dns_names_wire::proofs::WindowReads::filled_window))]
     fn read_data(decoder: &mut BinDecoder<'_>, length: Restrict<u16>) -> Result<TLSA, DecodeError> {
         let start = decoder.index();
         let cert_usage = CertUsage::from(decoder.read_u8()?.unverified());

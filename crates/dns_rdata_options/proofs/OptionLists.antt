@@ -12,7 +12,7 @@ use Rattle.dns_names_wire.specs.{State.Reading, Words.TookField, Words.StaysBehi
 use Rattle.dns_names_wire.proofs.FieldReads.{unless_all, took_number}
 use Rattle.dns_names_wire.proofs.Strings.{at_front, at_rest, at_then}
 use Rattle.dns_rdata_options.specs.OPT.{IsPieceRefusal, IsNextRefusal, Pair, pair_value, pair_of, opt_shape, IsOptRefusal}
-use Rattle.dns_rdata_options.specs.OptionReads.{Left, NoneLeft, TookPiece, TookCut, RefusedPiece, NoValue, KeptOption}
+use Rattle.dns_rdata_options.specs.OptionReads.{OptionsLeft, NoneLeft, TookPiece, TookCut, RefusedPiece, NoOptionValue, KeptOption}
 use Rattle.std.proofs.{lemmas.List.get_or-drop, lemmas.Nat.from_be_bytes-to_be_bytes_2, lemmas.List.map_push, lemmas.List.append-nil}
 use Rattle.std.proofs.{lemmas.Grind.flat_map-append}
 use Rattle.dns_names_wire.proofs.{FieldReads.unless_map}
@@ -27,7 +27,7 @@ pub record Begins (m : List ℕ) (n i end : ℕ) : Type 0 where
   pub within : end ≤ length m
   pub size : i + 2 < end → (l : ℕ) × (l ≤ n) × Field m (i + 2) (Number 2) l (i + 2 + 2) × (i + 2 + 2 ≤ end)
 
-pub begins : {m : List ℕ} {n i end : ℕ} → i < end → end ≤ i + n → Left m n i end → Begins m n i end
+pub begins : {m : List ℕ} {n i end : ℕ} → i < end → end ≤ i + n → OptionsLeft m n i end → Begins m n i end
 begins {m} {n} {i} {end} lt fits h = first h.read h.stub h.at h.fit h.ends where
   sized : (c l : ℕ) (x : List ℕ) → l < 256 ^ 2 → l ≤ n → At m i (bytes_high_first 2 c ++ (bytes_high_first 2 l ++ x)) end → Begins m n i end
   sized c l x small most a =
@@ -121,9 +121,9 @@ goes_on x s u v e short = ap (λ (o : List ℕ). o ++ drop (length x) s)
 
 -- an option that stands holds a value, and the rest is left
 abbrev pub GoesOn : List ℕ → ℕ → Numbered (List ℕ) → ℕ → ℕ → Type 0
-GoesOn m n x j end = (value : OptionValue) × OptionHeld x.0 x.1 value × Left m n j end
+GoesOn m n x j end = (value : OptionValue) × OptionHeld x.0 x.1 value × OptionsLeft m n j end
 
-pub first_left : {m : List ℕ} {n i j end : ℕ} {x : Numbered (List ℕ)} → At m i (piece x) j → IsPiece x → j ≤ end → Left m n i end → GoesOn m n x j end
+pub first_left : {m : List ℕ} {n i j end : ℕ} {x : Numbered (List ℕ)} → At m i (piece x) j → IsPiece x → j ≤ end → OptionsLeft m n i end → GoesOn m n x j end
 first_left {m} {n} {i} {j} {end} {x} a f inside h = first h.read h.values h.at h.fit h.held where
   first : (read : List (Numbered (List ℕ))) (values : List (Numbered OptionValue)) → At m i (pieces read ++ h.stub) end → ArePieces read
       → AllHeld OptionHeld read values → GoesOn m n x j end
@@ -155,7 +155,7 @@ first_left {m} {n} {i} {j} {end} {x} a f inside h = first h.read h.values h.at h
         },
       )
 
-pub no_value : {d e : Reading} {n end : ℕ} {x : Numbered (List ℕ)} → TookPiece d end x e → NoValue x.0 x.1 → NoneLeft d.message n d.index end
+pub no_value : {d e : Reading} {n end : ℕ} {x : Numbered (List ℕ)} → TookPiece d end x e → NoOptionValue x.0 x.1 → NoneLeft d.message n d.index end
 no_value t l = record { none = λ left. let g = first_left t.at t.fits t.inside left in l.none g.0 g.1 }
 
 -- ---- how many options there are, by their lengths
@@ -214,7 +214,7 @@ pub record ReadsOptions (old : Reading) (n end : ℕ) (done : List (Numbered Opt
   pub behind : old.index ≤ d.index
   pub inside : d.index ≤ end
   pub took : WholeOptions old.message old.index done d.index
-  pub rest : Left old.message n old.index end → Left old.message n d.index end
+  pub rest : OptionsLeft old.message n old.index end → OptionsLeft old.message n d.index end
 
 held_more : (xs : List (Numbered (List ℕ))) (a : List (Numbered OptionValue)) (x : Numbered (List ℕ)) (v : OptionValue) → AllHeld OptionHeld xs a
     → OptionHeld x.0 x.1 v → AllHeld OptionHeld (xs ++ x ∷ []) (a ++ (x.0, v) ∷ [])
@@ -244,9 +244,9 @@ options_more {old} {d} {b} {n} {end} {done} {x} v r t held =
     }
 
 -- a field of options leaves all of it at its start
-field_left : {m : List ℕ} {p q : ℕ} {v : List (Numbered OptionValue)} → Field m p Options v q → Left m (q - p) p q
+field_left : {m : List ℕ} {p q : ℕ} {v : List (Numbered OptionValue)} → Field m p Options v q → OptionsLeft m (q - p) p q
 field_left {m} {p} {q} {v} f = of f.is where
-  of : WholeOptions m p v q ⊎ ((v ≡ []) × CutOptions m (q - p) p q) → Left m (q - p) p q
+  of : WholeOptions m p v q ⊎ ((v ≡ []) × CutOptions m (q - p) p q) → OptionsLeft m (q - p) p q
   of (inl w) = record {
     read = w.read;
     values = v;
@@ -267,12 +267,12 @@ options_refused {e} {old} {d} {b} {done} start n is before r f = record {
     behind = record { message = f.0.message ∙ r.message; index = omega (arith, r.behind, f.0.index) };
     none = unless_map e _ _ (λ (l : NoneLeft d.message n d.index (start + n)). record {
       none = λ vs q s c.
-          let h : Left old.message (s.0 - old.index) old.index s.0 = field_left s.1 in
+          let h : OptionsLeft old.message (s.0 - old.index) old.index s.0 = field_left s.1 in
           let there : s.0 ≡ start + n = omega (arith, s.2, c.0, is) in
           let size : s.0 - old.index ≡ n = omega (arith, there, is) in
-          let whole : Left old.message n old.index (start + n) = subst (λ (k : ℕ). Left old.message k old.index (start + n)) size
-          (subst (λ (k : ℕ). Left old.message (s.0 - old.index) old.index k) there h) in
-          l.none (subst (λ (m : List ℕ). Left m n d.index (start + n)) (sym r.message) (r.rest whole));
+          let whole : OptionsLeft old.message n old.index (start + n) = subst (λ (k : ℕ). OptionsLeft old.message k old.index (start + n)) size
+          (subst (λ (k : ℕ). OptionsLeft old.message (s.0 - old.index) old.index k) there h) in
+          l.none (subst (λ (m : List ℕ). OptionsLeft m n d.index (start + n)) (sym r.message) (r.rest whole));
     }) f.1;
   };
   read = tt;

@@ -13,7 +13,7 @@ use Rattle.dns_rdata_options.specs.{OPT.Pair, OPT.option_of, declared.opt.code.E
 use Rattle.dns_rdata_options.specs.EdnsCode.{edns_code_number, named_edns_codes, other_edns_code, edns_code_of}
 use Rattle.dns_rdata_options.specs.ClientSubnet.{subnet_value, subnet_of, NoSubnet, ReadsSubnet, IsSubnetRefusal}
 use Rattle.dns_rdata_options.specs.EdnsOption.{option_value, IsOptionOf, IsOptionRefusal}
-use Rattle.dns_rdata_options.specs.OptionReads.{KeptOption, NoValue, NoneLeft, TookPiece}
+use Rattle.dns_rdata_options.specs.OptionReads.{KeptOption, NoOptionValue, NoneLeft, TookPiece}
 use Rattle.dns_rdata_options.specs.declared.opt.subnet.ClientSubnet.{ClientSubnet}
 use Rattle.dns_names_wire.specs.{State.Reading, Words.StaysBehind, Words.UnlessMemory}
 use Rattle.dns_names_wire.proofs.FieldReads.{unless_all}
@@ -76,7 +76,7 @@ no_subnet_value s are none (Subnet f source scope a) h =
     })
 no_subnet_value s are none (Plain t) h = h.0 refl
 
-no_value_code : (code : EdnsCode) (s : List ℕ) (e : DecodeError) → length s < 65536 → AreOctets s → IsOptionRefusal code s e → NoValue (edns_code_number code) s
+no_value_code : (code : EdnsCode) (s : List ℕ) (e : DecodeError) → length s < 65536 → AreOctets s → IsOptionRefusal code s e → NoOptionValue (edns_code_number code) s
 no_value_code codes.Subnet s e short are r = record { none = no_subnet_value s are r.0 }
 no_value_code codes.NSID s e short are r = absurd (omega (arith, r.0, short))
 no_value_code code s e short are r = absurd r
@@ -125,6 +125,6 @@ refused_option {d} start n x e are t (inl m) =
     (piece_behind t, subst (λ (z : DecodeError). UnlessMemory z (NoneLeft d.message n d.index (start + n))) (sym m) tt, inl m)
 refused_option start n x e are t (inr r) = (
   piece_behind t,
-  unless_all e (no_value t (subst (λ (k : ℕ). NoValue k x.1) (edns_code_number-of x.0) (no_value_code (edns_code_of x.0) x.1 e (omega (arith, t.fits.1)) (body_octets are t) r))),
+  unless_all e (no_value t (subst (λ (k : ℕ). NoOptionValue k x.1) (edns_code_number-of x.0) (no_value_code (edns_code_of x.0) x.1 e (omega (arith, t.fits.1)) (body_octets are t) r))),
   inr (inr (record { code = x.0; body = x.1; at = t.at; fits = t.fits; inside = t.inside; refused = r })),
 )

@@ -9,31 +9,31 @@ use Rattle.dns_fields.specs.Pieces.{Numbered, piece, pieces, as_piece, OptionVal
 use Rattle.dns_fields.specs.Pieces.{option_emittable, options_emittable}
 use Rattle.dns_fields.specs.Fields.{Options, field_octets, option_pieces, Rest}
 use Rattle.dns_fields.proofs.Sorted.{octets_cmp, flat_map_all, length_sorted}
-use Rattle.dns_names_wire.specs.{State.Writing, Words.AppendedField, Words.StoppedField, Words.NoRoomField, Words.UnfitField}
+use Rattle.dns_names_wire.specs.{State.Writing, Words.AppendedField, Words.StoppedField, Words.NoRoomField, Words.UnfitField, Words.AppendedOctets, Words.StoppedOctets}
 use Rattle.dns_names_wire.proofs.FieldWrites.{keeps_then, because_map, extends_then}
-use Rattle.dns_rdata_options.specs.{EdnsCode.edns_code_number, Words.AppendedOctets, Words.StoppedOctets, OPT.Pair, OPT.pair_value}
+use Rattle.dns_rdata_options.specs.{EdnsCode.edns_code_number, OPT.Pair, OPT.pair_value}
 use Rattle.dns_rdata_options.proofs.Selection.{all_push}
 
 -- ---- plain octets that are appended in parts
 
-pub stopped_two : {e : ProtoError} {old mid new : Writing} {asked : Type 0} (s t whole : List ℕ) → AppendedField old Rest s mid
-    → StoppedField e mid Rest t new → s ++ t ≡ whole → StoppedOctets e asked whole old new
+pub stopped_two : {e : ProtoError} {old mid new : Writing} {unfit : Type 0} (s t whole : List ℕ) → AppendedField old Rest s mid
+    → StoppedField e mid Rest t new → s ++ t ≡ whole → StoppedOctets e old unfit whole new
 unfolding field_octets
 stopped_two {e} {old} {mid} s t whole f g is = record {
   extends = extends_then f g.extends;
   why = because_map e _ _ _ _
       (λ (r : NoRoomField mid Rest t). omega (arith, r.full, f.keeps.limit, ap length f.field.is, length-append old.octets s, ap length is, length-append s t))
-      (λ (u : UnfitField Rest t) _. let e = u.unfit in cc e)
+      (λ (u : UnfitField Rest t). absurd (cc u.unfit))
       g.why;
 }
 
 -- more than four octets begin by four
-pub stopped_front : {e : ProtoError} {old new : Writing} {asked : Type 0} (s whole : List ℕ) → StoppedField e old Rest s new → length s ≤ length whole
-    → StoppedOctets e asked whole old new
+pub stopped_front : {e : ProtoError} {old new : Writing} {unfit : Type 0} (s whole : List ℕ) → StoppedField e old Rest s new → length s ≤ length whole
+    → StoppedOctets e old unfit whole new
 unfolding field_octets
 stopped_front {e} {old} s whole f le = record {
   extends = f.extends;
-  why = because_map e _ _ _ _ (λ (r : NoRoomField old Rest s). omega (arith, r.full, le)) (λ (u : UnfitField Rest s) _. let e = u.unfit in cc e) f.why;
+  why = because_map e _ _ _ _ (λ (r : NoRoomField old Rest s). omega (arith, r.full, le)) (λ (u : UnfitField Rest s). absurd (cc u.unfit)) f.why;
 }
 
 -- ---- options
@@ -77,7 +77,7 @@ canonical_length v = length_sorted octets_cmp (map piece (option_pieces v)) ∙ 
 
 -- an option is refused behind others
 pub stopped_options : {e : ProtoError} {w b n : Writing} (xs : List (Numbered OptionValue)) (x : Numbered OptionValue) (ys : List (Numbered OptionValue))
-    → x.0 < 65536 → AppendedField w Options xs b → StoppedOctets e (OptionFits x) (piece (as_piece option_octets x)) b n
+    → x.0 < 65536 → AppendedField w Options xs b → StoppedOctets e b (OptionFits x → ⊥) (piece (as_piece option_octets x)) n
     → StoppedField e w Options (xs ++ x ∷ ys) n
 stopped_options {e} {w} {b} {n} xs x ys small f g =
     let s = piece (as_piece option_octets x) in
@@ -115,21 +115,21 @@ split xs i x is lt = sym (map-append pair_value (take i xs) (x ∷ drop (i + 1) 
 
 -- the option at a place is emitted behind those before it
 pub more_pairs : {w b e : Writing} (xs : List Pair) (i : ℕ) (x : Pair) → x ≡ get_or xs i x → i < length xs
-    → AppendedField w Options (map pair_value (take i xs)) b → AppendedOctets (OptionFits (pair_value x)) (piece (as_piece option_octets (pair_value x))) b e
+    → AppendedField w Options (map pair_value (take i xs)) b → OptionFits (pair_value x) × AppendedOctets b (piece (as_piece option_octets (pair_value x))) e
     → AppendedField w Options (map pair_value (take (i + 1) xs)) e
 more_pairs {w} {b} {e} xs i x is lt f g =
     let longer : take (i + 1) xs ≡ take i xs ++ x ∷ [] = take_more xs i x lt ∙ ap (λ (y : Pair). take i xs ++ y ∷ []) (sym is) in
     let done = map pair_value (take i xs) in
     let s = piece (as_piece option_octets (pair_value x)) in
     let octets : e.octets ≡ w.octets ++ pieces (option_pieces (done ++ pair_value x ∷ [])) =
-    g.octets ∙ ap (λ (t : List ℕ). t ++ s) f.field.is.1 ∙ append_assoc w.octets (pieces (option_pieces done)) s
+    g.1.octets ∙ ap (λ (t : List ℕ). t ++ s) f.field.is.1 ∙ append_assoc w.octets (pieces (option_pieces done)) s
     ∙ ap (λ (t : List ℕ). w.octets ++ t) (sym (joined done (pair_value x) [] ∙ ap (λ (t : List ℕ). pieces (option_pieces done) ++ t) (append-nil s))) in
     subst (λ (v : List (Numbered OptionValue)). AppendedField w Options v e)
     (sym (ap (map pair_value) longer ∙ map-append pair_value (take i xs) (x ∷ [])))
-    (record { keeps = keeps_then f.keeps g.keeps; field = record { is = (all_push OptionFits done (pair_value x) f.field.is.0 g.holds, octets) } })
+    (record { keeps = keeps_then f.keeps g.1.keeps; field = record { is = (all_push OptionFits done (pair_value x) f.field.is.0 g.0, octets) } })
 
 pub stopped_pair : {e : ProtoError} {w b n : Writing} (xs : List Pair) (i : ℕ) (x : Pair) → x ≡ get_or xs i x → i < length xs → edns_code_number x.0 < 65536
     → AppendedField w Options (map pair_value (take i xs)) b
-    → StoppedOctets e (OptionFits (pair_value x)) (piece (as_piece option_octets (pair_value x))) b n → StoppedField e w Options (map pair_value xs) n
+    → StoppedOctets e b (OptionFits (pair_value x) → ⊥) (piece (as_piece option_octets (pair_value x))) n → StoppedField e w Options (map pair_value xs) n
 stopped_pair {e} {w} {b} {n} xs i x is lt small f g = subst (λ (v : List (Numbered OptionValue)). StoppedField e w Options v n) (split xs i x is lt)
     (stopped_options (map pair_value (take i xs)) (pair_value x) (map pair_value (drop (i + 1) xs)) small f g)

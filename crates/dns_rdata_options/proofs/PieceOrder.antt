@@ -10,7 +10,7 @@ use Rattle.dns_fields.proofs.{Sorted.sorted_all, Sorted.map_sorted, Sorted.flat_
 use Rattle.dns_fields.proofs.{Multisets.same_counts, Numbers.length-bytes, Pieces.parts, Pieces.number_first, Pieces.piece_before}
 use Rattle.dns_pieces.specs.Fronts.{canonical_cmp}
 use Rattle.dns_pieces.proofs.{Comparing.cmp_shared, Comparing.then_kept, Fronts.alone}
-use Rattle.dns_rdata_options.specs.{EdnsOption.option_value, Facing.code_number, OPT.Pair, OPT.pair_value, OPT.opt_shape, OPT.opt_fields}
+use Rattle.dns_rdata_options.specs.{EdnsOption.option_value, LeastDifferences.code_number, OPT.Pair, OPT.pair_value, OPT.opt_shape, OPT.opt_fields}
 use Rattle.dns_rdata_options.specs.{Order.pair_cmp, Order.risen, Order.opt_eq, OrderLaws.pair_total, OrderLaws.opt_ties}
 use Rattle.dns_rdata_options.specs.Steps.{octets_cmp, piece_cmp, own_piece, pair_emittable, pairs_emittable}
 use Rattle.dns_rdata_options.proofs.Pairs.{is_short}

@@ -16,7 +16,7 @@ abbrev pub masked_octets : ℕ → List ℕ → List ℕ
 masked_octets bits [] = []
 masked_octets bits (x ∷ s) = masked_octet bits x ∷ masked_octets (bits - 8) s
 
--- the same of an address
+-- an address with its first bits as they are, and 0 for the others
 abbrev pub masked_address : ℕ → IpAddr → IpAddr
 masked_address bits (V4 ip) = V4 (record { octets = masked_octets bits (ipv4_octets ip) })
 masked_address bits (V6 ip) = V6 (record { segments = segments_of (masked_octets bits (ipv6_octets ip)) })

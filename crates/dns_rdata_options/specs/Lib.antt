@@ -9,7 +9,6 @@ pub mod Order
 pub mod OrderLaws
 pub mod Places
 pub mod OptionReads
-pub mod Words
 pub mod Steps
-pub mod Facing
+pub mod LeastDifferences
 pub mod Heads

@@ -7,7 +7,7 @@ use Rattle.dns_names_wire.specs.{State.Reading, Words.StaysBehind}
 use Rattle.dns_rdata_options.specs.OPT.{Pair, pair_value, pair_of, IsPieceRefusal}
 
 -- what is left from a place to the end of a record of n octets: whole options, maybe a cut one
-pub record Left (m : List ℕ) (n i end : ℕ) : Type 0 where
+pub record OptionsLeft (m : List ℕ) (n i end : ℕ) : Type 0 where
   pub read : List (Numbered (List ℕ))
   pub values : List (Numbered OptionValue)
   pub stub : List ℕ
@@ -17,7 +17,7 @@ pub record Left (m : List ℕ) (n i end : ℕ) : Type 0 where
   pub ends : (stub ≡ []) ⊎ IsCut n stub
 
 pub record NoneLeft (m : List ℕ) (n i end : ℕ) : Type 0 where
-  pub none : Left m n i end → ⊥
+  pub none : OptionsLeft m n i end → ⊥
 
 -- code, length and octets of the next option stand from where the decoder was to where it is
 pub record TookPiece (old : Reading) (end : ℕ) (x : Numbered (List ℕ)) (new : Reading) : Type 0 where
@@ -46,7 +46,7 @@ ReadsPiece view start n (Ok None) old new = TookCut old n (start + n) new
 ReadsPiece view start n (Err e) old new = RefusedPiece start n old e new
 
 -- no value is in the octets
-pub record NoValue (code : ℕ) (body : List ℕ) : Type 0 where
+pub record NoOptionValue (code : ℕ) (body : List ℕ) : Type 0 where
   pub none : (v : OptionValue) → OptionHeld code body v → ⊥
 
 -- the octets hold a value, and where options are kept, the pair that code and value give is behind those before it

@@ -3,8 +3,8 @@
 ghost use Rattle.std.specs.Prelude.{◌≡◌, ◌+◌, ◌<◌, ◌++◌, ◌∷◌, [], map, slice_get, IfOk, IsTrue, OnOk, OnErr};
 ghost use Rattle.std.specs.Option.{option_copied};
 ghost use Rattle.dns_fields.specs.Pieces.{piece, as_piece, option_octets, OptionFits};
-ghost use Rattle.dns_names_wire.specs.Words.{Emits};
-ghost use Rattle.dns_rdata_options.specs.{Words.EmitsOctets, EdnsCode.edns_code_number, EdnsOption.code_of};
+ghost use Rattle.dns_names_wire.specs.Words.{Emits, EmitsFitting};
+ghost use Rattle.dns_rdata_options.specs.{EdnsCode.edns_code_number, EdnsOption.code_of};
 ghost use Rattle.dns_rdata_options.specs.{OPT.opt_shape, OPT.opt_fields, OPT.opt_facts, OPT.pair_value, OPT.options_of, OPT.without, Order.opt_cmp};
 
 mod code;
@@ -171,7 +171,7 @@ fn emit_pair(
     option: &EdnsOption,
 ) -> Result<(), ProtoError>
     ensures small { edns_code_number code < 65536 }
-    ensures emits { EmitsOctets (OptionFits (pair_value (code, option.now))) (piece (as_piece option_octets (pair_value (code, option.now)))) result
+    ensures emits { EmitsFitting (OptionFits (pair_value (code, option.now))) (piece (as_piece option_octets (pair_value (code, option.now)))) result
         encoder.old encoder.new }
 {
     let len = option.octets_len();

@@ -3,7 +3,7 @@
 ghost use Rattle.std.specs.Prelude.{◌≡◌, ◌<◌, ◌≤◌, true, length, IfSome, IsTrue, Some};
 ghost use Rattle.dns_pieces.specs.Fronts.{canonical_cmp};
 ghost use Rattle.dns_rdata_options.specs.{OPT.opt_shape, OPT.opt_fields, Order.opt_eq, Steps.pairs_emittable};
-ghost use Rattle.dns_rdata_options.specs.Facing.{lesser, Facing, IsAlone};
+ghost use Rattle.dns_rdata_options.specs.LeastDifferences.{lesser, IsLeastDifference, IsAlone};
 
 use crate::opt::headed::headed_cmp;
 use crate::opt::order::are_many;
@@ -106,7 +106,7 @@ fn least_difference(
     others: &[(EdnsCode, EdnsOption)],
 ) -> Option<Option<(usize, u16)>>
     requires many { length options.now ≡ length others.now }
-    ensures { IfSome result (λ least. Facing options.now others.now (length options.now) least) }
+    ensures { IfSome result (λ least. IsLeastDifference options.now others.now (length options.now) least) }
 {
     let mut least: Option<(usize, u16)> = None;
     for i in 0..options.len() {

@@ -9,12 +9,12 @@ use Rattle.dns_fields.specs.Pieces.{string, ParameterValue, Mandatory, Alpn, is_
 use Rattle.dns_fields.specs.Fields.{Number, Text, Rest, field_octets, Parameters, parameter_pieces}
 use Rattle.dns_fields.specs.Pieces.{piece, ParameterFits, pieces, as_piece, Rising, rising}
 use Rattle.dns_types.specs.declared.error.ProtoError.{ProtoError}
-use Rattle.dns_names_wire.specs.{Words.Extends, Words.EmitsField, Words.AppendedField, Words.StoppedField, Words.Because, State.Writing}
+use Rattle.dns_names_wire.specs.State.{Writing}
+use Rattle.dns_names_wire.specs.Words.{Extends, EmitsField, AppendedField, StoppedField, Because, AppendedOctets, StoppedOctets, EmitsOctets}
 use Rattle.dns_names_wire.proofs.FieldWrites.{keeps_same, keeps_then, because_map, extends_then}
 use Rattle.dns_rdata_service.specs.Parameters.{Parameter, parameter_of, IsAbove, EmitsParameter}
 use Rattle.dns_rdata_service.specs.{SvcParamValue.fits_value, SvcParamValue.sized, SvcParamValue.EmitsValue, Hints.EmitsEach, Hints.each_text}
-use Rattle.dns_rdata_service.specs.{Emitting.AppendedOctets, Emitting.StoppedOctets, Emitting.EmitsOctets, declared.svcb.key.SvcParamKey.SvcParamKey}
-use Rattle.dns_rdata_service.specs.SvcParamKey.{key_number}
+use Rattle.dns_rdata_service.specs.{SvcParamKey.key_number, declared.svcb.key.SvcParamKey.SvcParamKey}
 use Rattle.dns_rdata_service.proofs.ParameterLists.{Risen, risen_push, risen_not}
 
 -- ---- any emitter
@@ -52,12 +52,12 @@ extends_on {a} {b} {c} f g = record {
 }
 
 -- what is in front is refused, or what is behind
-pub stopped_first : {e : ProtoError} {w n : Writing} {a b : Bool} {s : List ℕ} (t : List ℕ) → (a ≡ false → b ≡ false) → StoppedOctets e w a s n
-    → StoppedOctets e w b (s ++ t) n
+pub stopped_first : {e : ProtoError} {w n : Writing} {P Q : Type 0} {s : List ℕ} (t : List ℕ) → (P → Q) → StoppedOctets e w P s n
+    → StoppedOctets e w Q (s ++ t) n
 stopped_first {e} {s = s} t f h = record { extends = h.extends; why = because_map e _ _ _ _ (λ r. omega (arith, r, length-append s t)) f h.why }
 
-pub stopped_then : {e : ProtoError} {w b n : Writing} {x y : Bool} {s t : List ℕ} → (x ≡ false → y ≡ false) → AppendedOctets w s b → StoppedOctets e b x t n
-    → StoppedOctets e w y (s ++ t) n
+pub stopped_then : {e : ProtoError} {w b n : Writing} {P Q : Type 0} {s t : List ℕ} → (P → Q) → AppendedOctets w s b → StoppedOctets e b P t n
+    → StoppedOctets e w Q (s ++ t) n
 stopped_then {e} {w} {b} {n} {s = s} {t = t} f a h =
     record {
       extends = extends_on (record { keeps = a.keeps; tail = s; octets = a.octets }) h.extends;
@@ -75,9 +75,9 @@ and_second false b e = refl
 -- each is emitted as octets, under a view
 pub emits_all : {X Y : Type 0} (view : X → Y) (F : Y → Type 0) (test : Y → Bool) (f : Y → List ℕ)
     (E : X → Result (Unit {0}) ProtoError → Writing → Writing → Type 0)
-    → ((x : X) (r : Result (Unit {0}) ProtoError) (w n : Writing) → E x r w n → EmitsOctets (F (view x)) (test (view x)) (f (view x)) r w n)
+    → ((x : X) (r : Result (Unit {0}) ProtoError) (w n : Writing) → E x r w n → EmitsOctets (F (view x)) (test (view x) ≡ false) (f (view x)) r w n)
     → (xs : List X) (r : Result (Unit {0}) ProtoError) (w n : Writing) → EmitsEach E xs r w n
-    → EmitsOctets (AllByRecursion F (map view xs)) (list_all test (map view xs)) (flat_map f (map view xs)) r w n
+    → EmitsOctets (AllByRecursion F (map view xs)) (list_all test (map view xs) ≡ false) (flat_map f (map view xs)) r w n
 emits_all view F test f E each [] (Ok u) w n h = (tt, subst (λ (v : Writing). AppendedOctets w [] v) (sym h) (appended_none w))
 emits_all view F test f E each [] (Err e) w n h = absurd h
 emits_all view F test f E each (x ∷ xs) (Ok u) w n (inl h) =
@@ -89,25 +89,25 @@ emits_all view F test f E each (x ∷ xs) (Err e) w n (inl h) =
 emits_all view F test f E each (x ∷ xs) (Ok u) w n (inr h) = absurd (cc h.1)
 emits_all view F test f E each (x ∷ xs) (Err e) w n (inr h) =
     let same : h.0 ≡ e = cc (h.1) in
-    let first : StoppedOctets e w (test (view x)) (f (view x)) n =
-    subst (λ (y : ProtoError). StoppedOctets y w (test (view x)) (f (view x)) n) same (each x (Err h.0) w n h.2) in
+    let first : StoppedOctets e w (test (view x) ≡ false) (f (view x)) n =
+    subst (λ (y : ProtoError). StoppedOctets y w (test (view x) ≡ false) (f (view x)) n) same (each x (Err h.0) w n h.2) in
     stopped_first (flat_map f (map view xs)) (and_first (test (view x)) (list_all test (map view xs))) first
 
 -- ---- fields as octets
 
 pub number_emits : (w n : ℕ) (r : Result (Unit {0}) ProtoError) (old new : Writing) → EmitsField (Number w) n r old new
-    → EmitsOctets (n < 256 ^ w) true (bytes_high_first w n) r old new
+    → EmitsOctets (n < 256 ^ w) (true ≡ false) (bytes_high_first w n) r old new
 unfolding field_octets
 number_emits w n (Ok u) old new h = (h.field.is.0, record { keeps = h.keeps; octets = h.field.is.1 })
 number_emits w n (Err e) old new h = record { extends = h.extends; why = because_map e _ _ _ _ (λ r. r.full) (λ u. u.unfit) h.why }
 
 pub text_emits : (s : List ℕ) (r : Result (Unit {0}) ProtoError) (old new : Writing) → EmitsField Text s r old new
-    → EmitsOctets (length s < 256) (nat_le (length s) 255) (string s) r old new
+    → EmitsOctets (length s < 256) (nat_le (length s) 255 ≡ false) (string s) r old new
 unfolding field_octets
 text_emits s (Ok u) old new h = (h.field.is.0, record { keeps = h.keeps; octets = h.field.is.1 })
 text_emits s (Err e) old new h = record { extends = h.extends; why = because_map e _ _ _ _ (λ r. r.full) (λ u. u.unfit) h.why }
 
-pub rest_emits : (s : List ℕ) (r : Result (Unit {0}) ProtoError) (old new : Writing) → EmitsField Rest s r old new → EmitsOctets (Unit {0}) true s r old new
+pub rest_emits : (s : List ℕ) (r : Result (Unit {0}) ProtoError) (old new : Writing) → EmitsField Rest s r old new → EmitsOctets (Unit {0}) (true ≡ false) s r old new
 unfolding field_octets
 rest_emits s (Ok u) old new h = (tt, record { keeps = h.keeps; octets = h.field.is })
 rest_emits s (Err e) old new h = record { extends = h.extends; why = because_map e _ _ _ _ (λ r. r.full) (λ u. u.unfit) h.why }
@@ -117,10 +117,10 @@ pub all_pass : {X : Type 0} (xs : List X) → list_all (λ x. true) xs ≡ true
 all_pass [] = refl
 all_pass (x ∷ xs) = all_pass xs
 
-pub emits_as : {P Q : Type 0} {a b : Bool} {s t : List ℕ} (r : Result (Unit {0}) ProtoError) (old new : Writing) → (P → Q) → (a ≡ false → b ≡ false) → s ≡ t
-    → EmitsOctets P a s r old new → EmitsOctets Q b t r old new
-emits_as {P} {Q} {a} {b} {s} {t} (Ok u) old new f g e h = (f h.0, subst (λ (x : List ℕ). AppendedOctets old x new) e h.1)
-emits_as {P} {Q} {a} {b} {s} {t} (Err x) old new f g e h =
+pub emits_as : {P Q U V : Type 0} {s t : List ℕ} (r : Result (Unit {0}) ProtoError) (old new : Writing) → (P → Q) → (U → V) → s ≡ t
+    → EmitsOctets P U s r old new → EmitsOctets Q V t r old new
+emits_as {P} {Q} {U} {V} {s} {t} (Ok u) old new f g e h = (f h.0, subst (λ (x : List ℕ). AppendedOctets old x new) e h.1)
+emits_as {P} {Q} {U} {V} {s} {t} (Err x) old new f g e h =
     record { extends = h.extends; why = because_map x _ _ _ _ (λ r. omega (arith, r, ap length e)) g h.why }
 
 -- one more of a list
@@ -141,22 +141,21 @@ emits_refused E i xs x d e w b n is lt h s =
 
 -- ---- what was there stands
 
-pub octets_extend : (P : Type 0) (test : Bool) (s : List ℕ) (r : Result (Unit {0}) ProtoError) (old new : Writing) → EmitsOctets P test s r old new
-    → Extends old new
-octets_extend P test s (Ok u) old new h = record { keeps = h.1.keeps; tail = s; octets = h.1.octets }
-octets_extend P test s (Err e) old new h = h.extends
+pub octets_extend : (P U : Type 0) (s : List ℕ) (r : Result (Unit {0}) ProtoError) (old new : Writing) → EmitsOctets P U s r old new → Extends old new
+octets_extend P U s (Ok u) old new h = record { keeps = h.1.keeps; tail = s; octets = h.1.octets }
+octets_extend P U s (Err e) old new h = h.extends
 
 pub rest_extends : (s : List ℕ) (r : Result (Unit {0}) ProtoError) (old new : Writing) → EmitsField Rest s r old new → Extends old new
-rest_extends s r old new h = octets_extend (Unit {0}) true s r old new (rest_emits s r old new h)
+rest_extends s r old new h = octets_extend (Unit {0}) (true ≡ false) s r old new (rest_emits s r old new h)
 
 pub place_refused : (v : ParameterValue) {e : ProtoError} {old new : Writing} → StoppedField e old (Number 2) 0 new
-    → StoppedOctets e old (fits_value v) (sized v) new
+    → StoppedOctets e old (fits_value v ≡ false) (sized v) new
 unfolding field_octets
 place_refused v {e} h = record { extends = h.extends; why = because_map e _ _ _ _ (λ r. omega (arith, r.full)) (λ u. absurd (cc (u.unfit))) h.why }
 
 -- a value is refused behind its length
 pub sized_refused : (v : ParameterValue) {e : ProtoError} {old b new : Writing} → AppendedField old (Number 2) 0 b
-    → StoppedOctets e b (parameter_emittable v) (parameter_octets v) new → StoppedOctets e old (fits_value v) (sized v) new
+    → StoppedOctets e b (parameter_emittable v ≡ false) (parameter_octets v) new → StoppedOctets e old (fits_value v ≡ false) (sized v) new
 sized_refused v {e} {old} {b} f h =
     let two : length b.octets ≡ length old.octets + 2 = ap length f.field.is.1 ∙ length-append old.octets (bytes_high_first 2 0) in
     record {
@@ -185,7 +184,7 @@ names_emit names r w n some h =
     (rw (map-id names) at (emits_all (λ s. s) (λ s. length s < 256) (λ s. nat_le (length s) 255) string EmitsName text_emits names r w n h))
 
 pub value_extends : (v : ParameterValue) (r : Result (Unit {0}) ProtoError) (old new : Writing) → EmitsValue v r old new → Extends old new
-value_extends v r old new h = octets_extend (IsEmittable v) (parameter_emittable v) (parameter_octets v) r old new h
+value_extends v r old new h = octets_extend (IsEmittable v) (parameter_emittable v ≡ false) (parameter_octets v) r old new h
 
 split_texts : (a b : Option (List ℕ)) (t : List ℕ) → a ++? b ≡ Some t → (s : List ℕ) × (u : List ℕ) × (a ≡ Some s) × (b ≡ Some u) × (s ++ u ≡ t)
 split_texts (Some s) (Some u) t e = (s, u, refl, refl, cc e)
@@ -254,7 +253,7 @@ risen_next last i ps p n is lt r number above =
 
 -- they are emitted as their octets
 each_emitted : (ps : List Parameter) (r : Result (Unit {0}) ProtoError) (w n : Writing) → EmitsEach EmitsOne ps r w n
-    → EmitsOctets (AllByRecursion ParameterFits (map parameter_of ps)) (list_all fits (map parameter_of ps)) (flat_map spelled (map parameter_of ps)) r w n
+    → EmitsOctets (AllByRecursion ParameterFits (map parameter_of ps)) (list_all fits (map parameter_of ps) ≡ false) (flat_map spelled (map parameter_of ps)) r w n
 each_emitted = emits_all parameter_of ParameterFits fits spelled EmitsOne (λ p r w n h. h)
 
 -- all were emitted
@@ -299,6 +298,6 @@ order_stopped last i ps p w b is lt h r fails e why =
 -- ---- one parameter
 
 pub number_refused : (k : ℕ) (v : ParameterValue) {e : ProtoError} {old new : Writing} → StoppedField e old (Number 2) k new
-    → StoppedOctets e old (fits_value v) (spelled (k, v)) new
+    → StoppedOctets e old (fits_value v ≡ false) (spelled (k, v)) new
 unfolding field_octets
 number_refused k v {e} h = record { extends = h.extends; why = because_map e _ _ _ _ (λ r. omega (arith, r.full)) (λ u. absurd (cc (u.unfit))) h.why }

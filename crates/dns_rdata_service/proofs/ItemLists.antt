@@ -7,7 +7,7 @@ use Rattle.dns_rdata_service.specs.{WordRows.these_parameters, WordRows.paramete
 use Rattle.dns_types.specs.declared.error.ParseError.{ParseError}
 use Rattle.dns_text.proofs.ListSteps.{item_one}
 use Rattle.dns_fields.specs.Fields.{Parameters, Values}
-use Rattle.dns_words.specs.Reads.{UnlessMemory, TookWords, RefusedWords}
+use Rattle.dns_words.specs.Reads.{UnlessParseMemory, TookWords, RefusedWords}
 use Rattle.dns_words.proofs.{Steps.holds_word, Steps.holds_all, Steps.holds_drained, Yielded.holds_yielded}
 use Rattle.dns_types.specs.declared.error.ParseError.TheVariants as parse
 
@@ -52,7 +52,7 @@ pub item_refused : {T : Type 0} (Is : List ℕ → T → Type 0) (text item : Li
 item_refused Is text item (Ok x) i h = tt
 item_refused Is text item (Err e) i h = λ n x o. h n x (subst (λ (t : List ℕ). Is t x) (item_one o.is_item i) o.is)
 
-pub unless_is : (e : ParseError) (P : Type 0) → (e ≢ parse.Memory → P) → UnlessMemory e P
+pub unless_is : (e : ParseError) (P : Type 0) → (e ≢ parse.Memory → P) → UnlessParseMemory e P
 unless_is parse.Memory P f = tt
 unless_is e P f = f (λ m. absurd cc)
 

@@ -139,8 +139,8 @@ on_taken {ps = ps} {last = last} on = record { message = on.each.behind.message;
 
 -- ---- how the loop ends, where n octets are left of the record
 
-abbrev pub texts : Values (Parameters ∷ []) → Type 0
-texts vs = HaveTexts vs.0
+abbrev pub HaveParameterTexts : Values (Parameters ∷ []) → Type 0
+HaveParameterTexts vs = HaveTexts vs.0
 
 -- all that stand there have one more, where octets are left
 pub record NextOf (m : List ℕ) (p end : ℕ) (xs v : List (Numbered ParameterValue)) : Type 0 where
@@ -163,13 +163,13 @@ next_of {old} {d} {ps} {last} {end} {v} on lt f =
 
 -- no window, where no parameters stand to its end
 no_window : {old : Reading} {n : ℕ} → ((v : List (Numbered ParameterValue)) → Field old.message old.index Parameters v (old.index + n) → HaveTexts v → ⊥)
-    → NoWindow old.message old.index n (Parameters ∷ []) texts
+    → NoWindow old.message old.index n (Parameters ∷ []) HaveParameterTexts
 no_window {old} {n} none = record
     { none = λ vs w. none vs.0 (subst (λ (q : ℕ). Field old.message old.index Parameters vs.0 q) w.stands.2 w.stands.1) w.holds }
 
 -- a parameter is refused
 pub on_refused : {e : DecodeError} {old d b : Reading} {ps : List Parameter} {last : Option ℕ} (n : ℕ) → d.index + 4 ≤ old.index + n
-    → ParametersOn old ps last d → IsParameterRefusal d e b → RefusedWindow e old n (Parameters ∷ []) texts b
+    → ParametersOn old ps last d → IsParameterRefusal d e b → RefusedWindow e old n (Parameters ∷ []) HaveParameterTexts b
 on_refused {e} {old} {d} {b} {ps} {last} n room on h = record {
   behind = stays_then on.each.behind (parameter_behind e h);
   none = unless_map e _ _ (λ (l : NoParameter d). no_window (λ v f u.
@@ -181,7 +181,7 @@ on_refused {e} {old} {d} {b} {ps} {last} n room on h = record {
 -- a key is not above the last one
 pub on_order : {old d b : Reading} {ps : List Parameter} {last : Option ℕ} {x : Numbered ParameterValue} (e : DecodeError) (n : ℕ)
     → d.index + 4 ≤ old.index + n → ParametersOn old ps last d → TookField d Parameters (x ∷ []) b → (IsAbove last x.0 → ⊥)
-    → RefusedWindow e old n (Parameters ∷ []) texts b
+    → RefusedWindow e old n (Parameters ∷ []) HaveParameterTexts b
 on_order {old} {d} {b} {ps} {last} {x} e n room on f fails = record {
   behind = stays_then on.each.behind (took_stays f (stays b));
   none = unless_all e (no_window (λ v g u.
@@ -194,7 +194,7 @@ on_order {old} {d} {b} {ps} {last} {x} e n room on f fails = record {
 -- a parameter ends behind the record
 pub on_passed : {old d b : Reading} {ps : List Parameter} {last : Option ℕ} {x : Numbered ParameterValue} (e : DecodeError) (n : ℕ)
     → d.index + 4 ≤ old.index + n → ParametersOn old ps last d → TookField d Parameters (x ∷ []) b → old.index + n < b.index
-    → RefusedWindow e old n (Parameters ∷ []) texts b
+    → RefusedWindow e old n (Parameters ∷ []) HaveParameterTexts b
 on_passed {old} {d} {b} {ps} {last} {x} e n room on f past = record {
   behind = stays_then on.each.behind (took_stays f (stays b));
   none = unless_all e (no_window (λ v g u.
@@ -204,7 +204,7 @@ on_passed {old} {d} {b} {ps} {last} {x} e n room on f past = record {
 
 -- or fewer than four octets are left
 pub on_done : {old d : Reading} {ps : List Parameter} {last : Option ℕ} (n : ℕ) → Given old n → d.index ≤ old.index + n
-    → old.index + n < d.index + 4 → ParametersOn old ps last d → TookWindow old n (Parameters ∷ []) texts (map parameter_of ps, tt) d
+    → old.index + n < d.index + 4 → ParametersOn old ps last d → TookWindow old n (Parameters ∷ []) HaveParameterTexts (map parameter_of ps, tt) d
 on_done {old} {d} {ps} {last} n g le short on = record {
   behind = on.each.behind;
   here = λ same.
@@ -296,21 +296,21 @@ abbrev Tail : List Kind
 Tail = Parameters ∷ []
 
 abbrev BehindName : Values (Name ∷ Tail) → Type 0
-BehindName = BehindOne Name Tail texts
+BehindName = BehindOne Name Tail HaveParameterTexts
 
 pub svcb_took : {d a b e : Reading} {priority : ℕ} {target : DomainName} {vs : Values Tail} (n r : ℕ) → TookField d (Number 2) priority a
-    → TookField a Name target b → n < 65536 → b.index + r ≡ d.index + n → TookWindow b r Tail texts vs e
+    → TookField a Name target b → n < 65536 → b.index + r ≡ d.index + n → TookWindow b r Tail HaveParameterTexts vs e
     → TookWindow d n svcb_shape MeetsSvcbCondition (priority, (target, vs)) e
 svcb_took {d} {a} {b} {e} {priority} {target} {vs} n r f g short all h =
     let left : a.index + (d.index + n - a.index) ≡ d.index + n = omega (arith, (field_inside g.field).0, all) in
-    took_then BehindName tt f short left (took_then texts tt g (omega (arith, left, (field_inside f.field).0, short)) (omega (arith, left, all)) h)
+    took_then BehindName tt f short left (took_then HaveParameterTexts tt g (omega (arith, left, (field_inside f.field).0, short)) (omega (arith, left, all)) h)
 
 pub svcb_refused : {e : DecodeError} {d a b c : Reading} {priority : ℕ} {target : DomainName} (n r : ℕ) → TookField d (Number 2) priority a
-    → TookField a Name target b → b.index + r ≡ d.index + n → RefusedWindow e b r Tail texts c
+    → TookField a Name target b → b.index + r ≡ d.index + n → RefusedWindow e b r Tail HaveParameterTexts c
     → RefusedWindow e d n svcb_shape MeetsSvcbCondition c
 svcb_refused {e} {d} {a} {b} {c} n r f g all h =
     let left : a.index + (d.index + n - a.index) ≡ d.index + n = omega (arith, (field_inside g.field).0, all) in
-    refused_behind BehindName tt f left (refused_behind texts tt g (omega (arith, left, all)) h)
+    refused_behind BehindName tt f left (refused_behind HaveParameterTexts tt g (omega (arith, left, all)) h)
 
 pub svcb_passed : {d a b : Reading} {priority : ℕ} {target : DomainName} (e : DecodeError) (n : ℕ) → Given d n → TookField d (Number 2) priority a
     → TookField a Name target b → d.index + n < b.index → RefusedWindow e d n svcb_shape MeetsSvcbCondition b

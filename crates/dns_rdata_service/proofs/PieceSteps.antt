@@ -13,8 +13,8 @@ use Rattle.dns_fields.specs.{Pieces.parameter_octets, Pieces.parameter_emittable
 use Rattle.dns_fields.specs.Fields.{Name, field_octets, parameter_pieces}
 use Rattle.dns_pieces.specs.{Steps.GivesStep, Steps.StepAt, declared.step.Step.Step}
 use Rattle.dns_rdata_service.specs.Steps.{parameter_head, value_front, value_items, parameters_from, items_of, parameters_left, svcb_left}
-use Rattle.dns_rdata_service.specs.{Steps.are_emittable, Steps.IsSizeOf, Steps.NextPiece, Steps.GivesPiece, declared.svcb.key.SvcParamKey.SvcParamKey}
-use Rattle.dns_rdata_service.specs.{SvcParamValue.value_of, SvcParamValue.fits_value, Parameters.Parameter, Parameters.parameter_of, Ordering.joined}
+use Rattle.dns_rdata_service.specs.{Steps.AreEmittable, Steps.IsSizeOf, Steps.NextPiece, Steps.GivesPiece, declared.svcb.key.SvcParamKey.SvcParamKey}
+use Rattle.dns_rdata_service.specs.{SvcParamValue.value_of, SvcParamValue.fits_value, Parameters.Parameter, Parameters.parameter_of, ParameterOrder.joined}
 use Rattle.dns_rdata_service.specs.{declared.svcb.SVCB.SVCB, SvcParamKey.key_number}
 
 -- ---- items
@@ -44,13 +44,13 @@ value_parts (Ipv4Hint addresses) = refl
 value_parts (Ipv6Hint addresses) = refl
 value_parts (Opaque s) = sym (append-nil s)
 
-pub fits_at : (ps : List Parameter) (i : ℕ) (p : Parameter) → are_emittable ps → i < length ps → p ≡ get_or ps i p → fits_value (value_of p.1) ≡ true
+pub fits_at : (ps : List Parameter) (i : ℕ) (p : Parameter) → AreEmittable ps → i < length ps → p ≡ get_or ps i p → fits_value (value_of p.1) ≡ true
 fits_at ps i p a h e =
     let xs = map parameter_of ps in
     subst (λ x. fits_value x.1 ≡ true) (get_or-map parameter_of ps i p (parameter_of p) h ∙ ap parameter_of (sym e))
     (AllPass-from_list_all (λ x. fits_value x.1) xs (first_so (list_all (λ x. fits_value x.1) xs) (rising xs) a) i (parameter_of p) (omega (arith, length-map ps parameter_of, h)))
 
-pub emittable_at : (ps : List Parameter) (i : ℕ) (p : Parameter) → are_emittable ps → i < length ps → p ≡ get_or ps i p → parameter_emittable (value_of p.1) ≡ true
+pub emittable_at : (ps : List Parameter) (i : ℕ) (p : Parameter) → AreEmittable ps → i < length ps → p ≡ get_or ps i p → parameter_emittable (value_of p.1) ≡ true
 emittable_at ps i p a h e = second_so (nat_le (length (parameter_octets (value_of p.1))) 65535) (parameter_emittable (value_of p.1)) (fits_at ps i p a h e)
 
 -- the parameter of a number, and those behind it

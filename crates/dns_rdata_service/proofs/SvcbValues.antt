@@ -4,7 +4,7 @@ use Rattle.std.proofs.{lemmas.Bool.Decides.same_from_decides, lemmas.Bool.Decide
 use Rattle.std.proofs.{Common.◌⊎◌, Common.nat_le, Common.◌≤◌, lemmas.Grind.common_steps}
 use Rattle.std.specs.List.{flat_map, AllByRecursion}
 use Rattle.dns_fields.specs.Pieces.{Numbered, ParameterValue, Mandatory, Alpn, NoDefaultAlpn, Port, Ipv4Hint, Ipv6Hint, Opaque, ParameterHeld}
-use Rattle.dns_fields.specs.Pieces.{AllHeld, piece, pieces, Form, Keys, Names, AnyOctets, form_for}
+use Rattle.dns_fields.specs.Pieces.{AllHeld, piece, pieces, ParameterForm, Keys, Names, AnyOctets, form_for}
 use Rattle.dns_fields.specs.{Fields.Number, Fields.Name, Fields.Values, Fields.Parameters, Equal.kind_eq, Equal.values_eq, Octets.AreOctets}
 use Rattle.dns_fields.proofs.OctetLaws.{AreOctets-at, AreOctets-front, AreOctets-back, AreOctets-same, piece_body}
 use Rattle.dns_fields.proofs.EqualLaws.{field_decide}
@@ -168,7 +168,7 @@ svcb_equal a b x y = ap (λ (t : Bool). kind_eq (Number 2) a.svc_priority b.svc_
 
 -- ---- the refusal by a type's number is none of SVCB's
 
-form_never : (f : Form) (body : List ℕ) (k : ℕ) → IsFormRefusal f body (decode.UnknownRecordTypeValue k) → ⊥
+form_never : (f : ParameterForm) (body : List ℕ) (k : ℕ) → IsFormRefusal f body (decode.UnknownRecordTypeValue k) → ⊥
 form_never Keys body k h = grind arith
 form_never Names body k h = grind arith
 form_never AnyOctets body k h = h

@@ -1,19 +1,19 @@
 -- Reading values to the end of a message.
 use Rattle.std.proofs.Common.{◌≡◌, ℕ, ◌%◌, ◌<◌, ◌≤◌, ◌^◌, inl, inr, List, [], ◌∷◌, ◌++◌, length, drop, map, refl, ap, ◌∙◌, arith, subst, ◌≢◌, ◌*◌, Ok}
 use Rattle.std.proofs.lemmas.List.{drop_all, length-append, length-drop, map-id, append-nil, length-take}
-use Rattle.std.proofs.Common.{sym, append_assoc, true, ◌+◌, take, Result, Err}
+use Rattle.std.proofs.Common.{sym, append_assoc, true, false, ◌+◌, take, Result, Err}
 use Rattle.std.specs.{Prelude.IsUtf8, Prelude.IfOk, Prelude.IfErr, List.flat_map, List.AllByRecursion, Int.bytes_high_first}
 use Rattle.dns_types.specs.{declared.error.DecodeError.DecodeError, declared.error.ProtoError.ProtoError}
-use Rattle.dns_fields.specs.Pieces.{string, ParameterValue, Form, Keys, Names, form_of, Mandatory, Alpn, NoDefaultAlpn, Port, Ipv4Hint, Ipv6Hint}
+use Rattle.dns_fields.specs.Pieces.{string, ParameterValue, ParameterForm, Keys, Names, form_of, Mandatory, Alpn, NoDefaultAlpn, Port, Ipv4Hint, Ipv6Hint}
 use Rattle.dns_fields.specs.Pieces.{Opaque, Nothing, PortNumber, Addresses4, Addresses16, AnyOctets, IsEmittable, IsBody, form_for, ParameterHeld}
 use Rattle.dns_fields.specs.{Fields.Text, Fields.Field, Fields.Octets, Fields.Stands, Fields.field_octets, Octets.At, Octets.AreOctets}
-use Rattle.dns_names_wire.specs.Words.{TookField, StaysBehind, UnlessMemory, LacksOctets, LacksText, Emits}
+use Rattle.dns_names_wire.specs.Words.{TookField, StaysBehind, UnlessMemory, LacksOctets, LacksText, Emits, EmitsOctets}
 use Rattle.dns_names_wire.specs.State.{Reading, Writing}
 use Rattle.dns_names_wire.proofs.{FieldReads.stays, FieldReads.unless_map, FieldReads.unless_all, FieldWrites.because_map}
 use Rattle.dns_rdata_base.specs.{declared.aaaa.AAAA.AAAA, Numbered.NumberedAt, declared.a.A.A}
 use Rattle.dns_rdata_service.specs.SvcParamValue.{mandatory_value, alpn_value, AreGiven, ToEnd, MandatoryAt, AlpnAt, CutName, WrongName, HasText}
 use Rattle.dns_rdata_service.specs.SvcParamValue.{IsValueRefusal, IsFormRefusal, IsKeyRefusal, a_octets, aaaa_octets, a_of, aaaa_of}
-use Rattle.dns_rdata_service.specs.{Hints.StandEach, Hints.StopsBefore, Hints.StandToEnd, Hints.ReadsEach, Hints.EmitsEach, Emitting.EmitsOctets}
+use Rattle.dns_rdata_service.specs.{Hints.StandEach, Hints.StopsBefore, Hints.StandToEnd, Hints.ReadsEach, Hints.EmitsEach}
 use Rattle.dns_rdata_service.specs.{declared.svcb.mandatory.Mandatory.Mandatory as MandatoryKeys, SvcParamKey.key_number, SvcParamKey.key_of}
 use Rattle.dns_rdata_service.specs.{declared.svcb.key.SvcParamKey.SvcParamKey, declared.svcb.alpn.Alpn.Alpn as Protocols}
 use Rattle.dns_rdata_service.specs.declared.svcb.ip_hint.IpHint.{IpHint}
@@ -64,7 +64,7 @@ pub to_end : (m : List ℕ) (p q : ℕ) (s : List ℕ) → length m ≤ q → dr
 to_end m p q s le e = e ∙ ap (λ (l : List ℕ). s ++ l) (drop_all q m le) ∙ append-nil s
 
 -- no value of the form is in the octets
-pub record HoldsNone (form : Form) (body : List ℕ) : Type 0 where
+pub record HoldsNone (form : ParameterForm) (body : List ℕ) : Type 0 where
   pub none : (v : ParameterValue) → form_of v ≡ form → IsEmittable v → IsBody body v → ⊥
 
 pub length_groups : (n : ℕ) (as' : List (List ℕ)) → AllByRecursion (λ a. length a ≡ n) as' → length (flat_map (λ a. a) as') ≡ n * length as'
@@ -104,7 +104,7 @@ keys_none body e [] (inl h) some b = some refl
 keys_none body e (k ∷ ks) (inl h) some b = omega (arith, length_numbers (k ∷ ks), ap length b, ap length h.1)
 keys_none body e keys (inr h) some b = omega (arith, h.1, length_numbers keys, ap length b)
 
-refused_none : (form : Form) (body : List ℕ) (e : DecodeError) → IsFormRefusal form body e → (v : ParameterValue) → form_of v ≡ form → IsEmittable v
+refused_none : (form : ParameterForm) (body : List ℕ) (e : DecodeError) → IsFormRefusal form body e → (v : ParameterValue) → form_of v ≡ form → IsEmittable v
     → IsBody body v → ⊥
 refused_none Keys body e h (Mandatory keys) f s b = keys_none body e keys h s.0 b
 refused_none Names body e h (Alpn names) f s b = names_none body e names h s.0 b.0 b.1
@@ -115,7 +115,7 @@ refused_none Addresses16 body e h (Ipv6Hint as') f s b = h.1 (omega (arith, ap l
 refused_none AnyOctets body e h v f s b = elim h [ ]
 refused_none form body e h v f s b = absurd (cc f)
 
-pub value_none : (form : Form) (body : List ℕ) (e : DecodeError) → IsValueRefusal form body e → UnlessMemory e (HoldsNone form body)
+pub value_none : (form : ParameterForm) (body : List ℕ) (e : DecodeError) → IsValueRefusal form body e → UnlessMemory e (HoldsNone form body)
 value_none form body e (inl m) = subst (λ (x : DecodeError). UnlessMemory x (HoldsNone form body)) (sym m) tt
 value_none form body e (inr h) = unless_all e (record { none = refused_none form body e h })
 
@@ -134,7 +134,7 @@ key_none key body e (inr (is, inl m)) = subst (λ (x : DecodeError). UnlessMemor
 key_none key body e (inr (is, inr h)) = unless_all e (record { none = no_path key body is h.1 })
 
 -- what is refused is none of the values that a type holds
-pub refused_by : {T : Type 0} (form : Form) (view : T → ParameterValue) (S : List ℕ → ℕ → T → ℕ → Type 0) (old new : Reading) (e : DecodeError)
+pub refused_by : {T : Type 0} (form : ParameterForm) (view : T → ParameterValue) (S : List ℕ → ℕ → T → ℕ → Type 0) (old new : Reading) (e : DecodeError)
     → ((x : T) → form_of (view x) ≡ form) → ((m : List ℕ) (p : ℕ) (x : T) (q : ℕ) → S m p x q → ToEnd m p (view x) q) → StaysBehind old new
     → IsValueRefusal form (drop old.index old.message) e → StaysBehind old new × UnlessMemory e ((x : T) (q : ℕ) → S old.message old.index x q → ⊥)
 refused_by form view S old new e is to behind h = (
@@ -314,7 +314,7 @@ a_octets_of s n all = (a_of s, refl)
 pub aaaa_octets_of : (s : List ℕ) → length s ≡ 16 → AreOctets s → (x : AAAA) × (aaaa_octets x ≡ s)
 aaaa_octets_of s n all = (aaaa_of s, octets_of-segments 8 s (omega arith) all)
 
-pub hint_refused : {T : Type 0} (form : Form) (w : ℕ) (octets : T → List ℕ) (body : List ℕ) (new : Reading) (r : Result (IpHint T) DecodeError)
+pub hint_refused : {T : Type 0} (form : ParameterForm) (w : ℕ) (octets : T → List ℕ) (body : List ℕ) (new : Reading) (r : Result (IpHint T) DecodeError)
     → ((k : ℕ) → w * k < length body → w * k + w ≤ length body) → ((s : List ℕ) → length s ≡ w → AreOctets s → (x : T) × (octets x ≡ s)) → AreOctets body
     → ReadsEach (GroupAt w octets) (λ x. x.0) r (record { message = body; index = 0 }) new → IfErr r (IsValueRefusal form body)
 hint_refused form w octets body new (Ok x) room of all h = tt
@@ -333,7 +333,7 @@ groups_body w octets body new (Err e) h = tt
 -- ---- emitting
 
 group_emits : (w : ℕ) (s : List ℕ) (r : Result (Unit {0}) ProtoError) (old new : Writing) → Emits (Octets w ∷ []) (s, tt) r old new
-    → EmitsOctets (length s ≡ w) true s r old new
+    → EmitsOctets (length s ≡ w) (true ≡ false) s r old new
 unfolding field_octets
 group_emits w s (Ok u) old new h = (h.fields.1.is.0, record { keeps = h.keeps; octets = h.fields.2 ∙ h.fields.1.is.1 })
 group_emits w s (Err e) old new h = record
@@ -341,7 +341,7 @@ group_emits w s (Err e) old new h = record
 
 pub groups_emit : {T : Type 0} (w : ℕ) (octets : T → List ℕ) (xs : List T) (r : Result (Unit {0}) ProtoError) (old new : Writing)
     → EmitsEach (λ x r w' n. Emits (Octets w ∷ []) (octets x, tt) r w' n) xs r old new
-    → EmitsOctets (AllByRecursion (λ s. length s ≡ w) (map octets xs)) true (flat_map (λ s. s) (map octets xs)) r old new
+    → EmitsOctets (AllByRecursion (λ s. length s ≡ w) (map octets xs)) (true ≡ false) (flat_map (λ s. s) (map octets xs)) r old new
 groups_emit w octets xs r old new h =
     emits_as r old new (λ p. p) (λ q. sym (all_pass (map octets xs)) ∙ q) refl
     (emits_all octets (λ s. length s ≡ w) (λ s. true) (λ s. s) (λ x r w' n. Emits (Octets w ∷ []) (octets x, tt) r w' n) (λ x. group_emits w (octets x)) xs r old new h)

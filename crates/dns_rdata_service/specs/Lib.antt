@@ -1,5 +1,4 @@
 pub mod SvcParamKey
-pub mod Emitting
 pub mod Hints
 pub mod SvcParamValue
 pub mod Parameters
@@ -10,4 +9,4 @@ pub mod Hashing
 pub mod HTTPS
 pub mod Steps
 pub mod WordRows
-pub mod Ordering
+pub mod ParameterOrder

@@ -1,13 +1,13 @@
 -- The parameters of a service as fields, and why they are refused (RFC 9460, 2.2).
-use Rattle.std.specs.Prelude.{◌≡◌, ◌⊎◌, ℕ, ◌+◌, ◌<◌, ◌≤◌, List, [], ◌∷◌, ◌++◌, length, map, Option, Some, None, Result}
+use Rattle.std.specs.Prelude.{◌≡◌, ◌⊎◌, ℕ, ◌+◌, ◌<◌, ◌≤◌, false, List, [], ◌∷◌, ◌++◌, length, map, Option, Some, None, Result}
 use Rattle.std.specs.List.{AllByRecursion}
 use Rattle.dns_types.specs.{declared.error.DecodeError.DecodeError, declared.error.ProtoError.ProtoError}
 use Rattle.dns_types.specs.declared.error.DecodeError.TheVariants as decode
 use Rattle.dns_fields.specs.Fields.{Number, Rest, Parameters}
 use Rattle.dns_fields.specs.Pieces.{Numbered, ParameterValue, Alpn, ParameterFits, piece, as_piece, parameter_octets, Rising}
-use Rattle.dns_names_wire.specs.{State.Reading, State.Writing, Words.Took, Words.TookField}
+use Rattle.dns_names_wire.specs.{State.Reading, State.Writing, Words.Took, Words.TookField, Words.EmitsOctets}
 use Rattle.dns_rdata_base.specs.Refusing.{FirstLack}
-use Rattle.dns_rdata_service.specs.{Emitting.EmitsOctets, declared.svcb.key.SvcParamKey.SvcParamKey, declared.svcb.value.SvcParamValue.SvcParamValue}
+use Rattle.dns_rdata_service.specs.{declared.svcb.key.SvcParamKey.SvcParamKey, declared.svcb.value.SvcParamValue.SvcParamValue}
 use Rattle.dns_rdata_service.specs.SvcParamKey.{key_number, key_variant, key_of}
 use Rattle.dns_rdata_service.specs.SvcParamValue.{value_of, value_from, value_key, HasText, IsKeyRefusal, fits_value}
 
@@ -42,7 +42,7 @@ IsAbove (Some last) key = last < key
 
 -- appends a key's number, and a value behind its length
 abbrev pub EmitsParameter : Numbered ParameterValue → Result (Unit {0}) ProtoError → Writing → Writing → Type 0
-EmitsParameter x r old new = EmitsOctets (ParameterFits x) (fits_value x.1) (piece (as_piece parameter_octets x)) r old new
+EmitsParameter x r old new = EmitsOctets (ParameterFits x) (fits_value x.1 ≡ false) (piece (as_piece parameter_octets x)) r old new
 
 -- ---- refusals
 

@@ -4,7 +4,7 @@ use Rattle.std.specs.Prelude.{◌≡◌, ℕ, zero, suc, ◌+◌, ◌<◌, ◌&&
 use Rattle.std.specs.{List.flat_map, List.list_all, Prelude.true, Prelude.false, Int.bytes_high_first}
 use Rattle.dns_fields.specs.Pieces.{string, pieces, ParameterValue, Mandatory, Alpn, Port, Ipv4Hint, Ipv6Hint, Opaque, parameter_octets}
 use Rattle.dns_fields.specs.{Pieces.parameter_emittable, Pieces.parameters_emittable, Fields.canonical, Fields.parameter_pieces}
-use Rattle.dns_pieces.specs.{declared.step.Step.Step, Steps.Left}
+use Rattle.dns_pieces.specs.{declared.step.Step.Step, Steps.LeftAt}
 use Rattle.dns_rdata_service.specs.{SvcParamValue.value_of, SvcParamValue.fits_value, Parameters.Parameter, Parameters.parameter_of}
 use Rattle.dns_rdata_service.specs.{SVCB.svcb_shape, SVCB.svcb_fields, declared.svcb.SVCB.SVCB, SvcParamKey.key_number}
 
@@ -40,14 +40,14 @@ abbrev pub parameters_left : List Parameter → ℕ → ℕ → List ℕ
 parameters_left ps i zero = parameters_from ps i
 parameters_left ps i (suc j) = flat_map (λ s. s) (drop j (items_of (slice_get ps i))) ++ parameters_from ps (i + 1)
 
-abbrev pub svcb_left : SVCB → Left
+abbrev pub svcb_left : SVCB → LeftAt
 svcb_left x zero i j = canonical svcb_shape (svcb_fields x)
 svcb_left x (suc zero) i j = parameters_left x.svc_params i j
 svcb_left x (suc (suc n)) i j = []
 
 -- the parameters can be emitted
-abbrev pub are_emittable : List Parameter → Type 0
-are_emittable ps = parameters_emittable (map parameter_of ps) ≡ true
+abbrev pub AreEmittable : List Parameter → Type 0
+AreEmittable ps = parameters_emittable (map parameter_of ps) ≡ true
 
 -- each value can be emitted
 abbrev pub each_fits : List Parameter → Bool

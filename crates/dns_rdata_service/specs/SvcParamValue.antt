@@ -1,16 +1,16 @@
 -- The values of service parameters: what each holds, in the octets of which it is read, and its text (RFC 9460, 7 and 8;
 -- RFC 9461, 5).
-use Rattle.std.specs.Prelude.{◌≡◌, ◌≢◌, ◌⊎◌, ℕ, ◌%◌, ◌^◌, ◌<◌, ◌==◌, ◌&&◌, nat_le, Bool, if◌then◌else◌, List, [], ◌∷◌, ◌++◌, length, drop, map, codes}
+use Rattle.std.specs.Prelude.{◌≡◌, ◌≢◌, ◌⊎◌, ℕ, ◌%◌, ◌^◌, ◌<◌, ◌==◌, ◌&&◌, nat_le, Bool, false, if◌then◌else◌, List, [], ◌∷◌, ◌++◌, length, drop, map, codes}
 use Rattle.std.specs.{Net.Addr.ipv4_octets, Net.Addr.ipv6_octets, Net.Addr.segments_of, Prelude.decimal, Prelude.IsUtf8, Prelude.Result}
 use Rattle.std.specs.{Int.bytes_high_first, List.flat_map}
 use Rattle.base64.specs.{GeneralPurpose.encode_of, Engines.standard}
 use Rattle.dns_types.specs.{declared.error.DecodeError.DecodeError, declared.error.ProtoError.ProtoError}
-use Rattle.dns_fields.specs.Pieces.{string, ParameterValue, Mandatory, Alpn, NoDefaultAlpn, Port, Ipv4Hint, Ipv6Hint, Opaque, Form, Keys, Names}
+use Rattle.dns_fields.specs.Pieces.{string, ParameterValue, Mandatory, Alpn, NoDefaultAlpn, Port, Ipv4Hint, Ipv6Hint, Opaque, ParameterForm, Keys, Names}
 use Rattle.dns_fields.specs.Pieces.{Nothing, PortNumber, Addresses4, Addresses16, AnyOctets, IsEmittable, IsBody, ParameterHeld, form_for}
 use Rattle.dns_fields.specs.Pieces.{parameter_octets, parameter_emittable}
-use Rattle.dns_names_wire.specs.State.{Writing}
+use Rattle.dns_names_wire.specs.{State.Writing, Words.EmitsOctets}
 use Rattle.dns_rdata_base.specs.{declared.aaaa.AAAA.AAAA, AAAA.aaaa_text, declared.a.A.A, Lossy.lossy, A.a_text}
-use Rattle.dns_rdata_service.specs.{SvcParamKey.key_number, SvcParamKey.key_variant, SvcParamKey.key_of, SvcParamKey.key_text, Emitting.EmitsOctets}
+use Rattle.dns_rdata_service.specs.{SvcParamKey.key_number, SvcParamKey.key_variant, SvcParamKey.key_of, SvcParamKey.key_text}
 use Rattle.dns_rdata_service.specs.{declared.svcb.ech_config_list.EchConfigList.EchConfigList as Config, declared.svcb.key.SvcParamKey.SvcParamKey}
 use Rattle.dns_rdata_service.specs.{declared.svcb.mandatory.Mandatory.Mandatory as MandatoryKeys, declared.svcb.value.SvcParamValue.SvcParamValue}
 use Rattle.dns_rdata_service.specs.{declared.svcb.doh_path.DohPath.DohPath as Path, declared.svcb.unknown.Unknown.Unknown as Other}
@@ -149,7 +149,7 @@ pub record WrongName (body : List ℕ) : Type 0 where
   pub wrong : IsUtf8 name → ⊥
 
 -- why octets are no value of a form
-abbrev pub IsFormRefusal : Form → List ℕ → DecodeError → Type 0
+abbrev pub IsFormRefusal : ParameterForm → List ℕ → DecodeError → Type 0
 IsFormRefusal Keys body e = ((e ≡ decode.SvcParamMissingValue) × (body ≡ [])) ⊎ ((e ≡ decode.InsufficientBytes) × (length body % 2 ≡ 1))
 IsFormRefusal Names body e = ((e ≡ decode.SvcParamMissingValue) × (body ≡ []))
     ⊎ (((e ≡ decode.InsufficientBytes) × CutName body) ⊎ ((e ≡ decode.Utf8) × WrongName body))
@@ -160,7 +160,7 @@ IsFormRefusal Addresses16 body e = (e ≡ decode.InsufficientBytes) × (length b
 IsFormRefusal AnyOctets body e = ⊥
 
 -- or memory runs out
-abbrev pub IsValueRefusal : Form → List ℕ → DecodeError → Type 0
+abbrev pub IsValueRefusal : ParameterForm → List ℕ → DecodeError → Type 0
 IsValueRefusal form body e = (e ≡ decode.Memory) ⊎ IsFormRefusal form body e
 
 -- why octets are no path of DNS queries, or memory runs out
@@ -181,17 +181,17 @@ sized v = bytes_high_first 2 (length (parameter_octets v)) ++ parameter_octets v
 abbrev pub FitsValue : ParameterValue → Type 0
 FitsValue v = (length (parameter_octets v) < 256 ^ 2) × IsEmittable v
 
--- the same as a test
+-- whether it has octets, at most 65535
 abbrev pub fits_value : ParameterValue → Bool
 fits_value v = nat_le (length (parameter_octets v)) 65535 && parameter_emittable v
 
 -- appends the value's octets
 abbrev pub EmitsValue : ParameterValue → Result (Unit {0}) ProtoError → Writing → Writing → Type 0
-EmitsValue v r old new = EmitsOctets (IsEmittable v) (parameter_emittable v) (parameter_octets v) r old new
+EmitsValue v r old new = EmitsOctets (IsEmittable v) (parameter_emittable v ≡ false) (parameter_octets v) r old new
 
 -- appends them behind their length
 abbrev pub EmitsSized : ParameterValue → Result (Unit {0}) ProtoError → Writing → Writing → Type 0
-EmitsSized v r old new = EmitsOctets (FitsValue v) (fits_value v) (sized v) r old new
+EmitsSized v r old new = EmitsOctets (FitsValue v) (fits_value v ≡ false) (sized v) r old new
 
 -- ---- texts
 

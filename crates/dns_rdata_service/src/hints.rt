@@ -4,7 +4,7 @@ ghost use Rattle.std.specs.Prelude.{◌≡◌, ◌<◌, ◌≤◌, ℕ, List, If
 ghost use Rattle.std.specs.{Cmp.Lexicographic.slice_cmp, Ordering.nat_cmp, List.AllByRecursion, declared.cmp.Ordering.TheVariants.Equal};
 ghost use Rattle.dns_fields.specs.Pieces.{Opaque};
 ghost use Rattle.dns_rdata_service.specs.{SvcParamValue.a_octets, SvcParamValue.aaaa_octets, Steps.IsSizeOf};
-ghost use Rattle.dns_rdata_service.specs.Ordering.{OrderFirst, behind_length, joined};
+ghost use Rattle.dns_rdata_service.specs.ParameterOrder.{OrderFirst, behind_length, joined};
 
 use dns_pieces::order::octets_cmp;
 use dns_rdata_base::{A, AAAA};

@@ -6,12 +6,12 @@ ghost use Rattle.dns_fields.specs.{Pieces.Alpn as Names, Pieces.Opaque, Pieces.P
 ghost use Rattle.dns_pieces.specs.Fronts.{canonical_cmp};
 ghost use Rattle.dns_rdata_service.specs.{SVCB.svcb_shape, SVCB.svcb_fields, SVCB.svcb_key_shape, SVCB.svcb_keys, Parameters.own_parameter};
 ghost use Rattle.dns_rdata_service.specs.{SvcParamValue.sized, SvcParamValue.value_key, SvcParamValue.value_of, Steps.parameters_from};
-ghost use Rattle.dns_rdata_service.specs.Ordering.{OrderFirst, parameter_octets_of};
+ghost use Rattle.dns_rdata_service.specs.ParameterOrder.{OrderFirst, parameter_octets_of};
 
+use crate::field_order::svcb_cmp;
 use crate::hints::hints_order;
 use crate::https::HTTPS;
 use crate::items::Items;
-use crate::ordering::svcb_cmp;
 use crate::steps::{names_size, octets_size, svcb_is_emittable};
 use crate::svcb::{Parameter, SVCB, SvcParamValue};
 use dns_names_wire::SmallOctets;
@@ -64,8 +64,8 @@ fn is_all(a: &SVCB, b: &SVCB, count: usize) -> bool
         && a.target_name.is_fqdn() == b.target_name.is_fqdn()
 }
 
-/// How two service bindings are ordered by priority, target and the first parameters that are not alike, and how many
-/// before these are alike. Equal where that is not easily told: what stands behind those that are alike then decides.
+/// The order of two service bindings by priority, target and the parameters in front of a place, and that place. It is
+/// `Equal` where all in front of the place is alike; then the parameters from the place on decide.
 #[tactic(auto, using(crate::proofs::SvcbFronts::parameters_behind, crate::proofs::SvcbFronts::ne_no, crate::proofs::SvcbFronts::all_alike, crate::proofs::SvcbFronts::none_behind, crate::proofs::SvcbFronts::ne_yes))]
 pub fn svcb_front(a: &SVCB, b: &SVCB) -> (Ordering, usize)
     ensures order { canonical_cmp svcb_shape (svcb_fields a.now) (svcb_fields b.now) ≡ ordering_then result.0 (slice_cmp nat_cmp (parameters_from a.now.svc_params result.1) (parameters_from b.now.svc_params result.1)) }
@@ -82,8 +82,8 @@ pub fn svcb_front(a: &SVCB, b: &SVCB) -> (Ordering, usize)
     parameters_front(a.svc_params.as_slice(), b.svc_params.as_slice())
 }
 
-// The order of the first parameters that are not known to be the same, `Equal` where this is not known of any, and how many
-// parameters stand in front of them.
+// The order of two lists of parameters by those in front of a place, and that place. It is `Equal` where those in front of the
+// place are the same; then the parameters from the place on decide.
 fn parameters_front(a: &[Parameter], b: &[Parameter]) -> (Ordering, usize)
     ensures order { slice_cmp nat_cmp (parameters_from a.now 0) (parameters_from b.now 0) ≡ ordering_then result.0 (slice_cmp nat_cmp (parameters_from a.now result.1) (parameters_from b.now result.1)) }
     ensures first { result.1 ≤ length a.now }

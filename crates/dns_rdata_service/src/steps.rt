@@ -4,7 +4,7 @@ ghost use Rattle.std.specs.Prelude.{◌≡◌, ◌+◌, ◌<◌, ◌≤◌, ◌^
 ghost use Rattle.std.specs.{List.list_all, Int.bytes_high_first};
 ghost use Rattle.dns_fields.specs.Pieces.{string, parameter_emittable, parameters_emittable, rising, Mandatory as MandatoryKeys, Alpn as Names, Opaque};
 ghost use Rattle.dns_rdata_service.specs.{Parameters.parameter_of, SvcParamKey.key_number, SvcParamValue.value_of, Steps.IsSizeOf};
-ghost use Rattle.dns_rdata_service.specs.Steps.{value_front, value_items, svcb_left, are_emittable, each_fits, GivesItem, GivesPiece};
+ghost use Rattle.dns_rdata_service.specs.Steps.{value_front, value_items, svcb_left, AreEmittable, each_fits, GivesItem, GivesPiece};
 ghost use Rattle.dns_pieces.specs.Steps.{GivesStep};
 
 use crate::hints::{Address, hints_size};
@@ -153,7 +153,7 @@ fn put_front<'a>(value: &'a SvcParamValue, head: &mut Head) -> Tail<'a>
 #[tactic(auto, using(crate::proofs::PieceSteps::fits_at, crate::proofs::PieceSteps::head_given), unfolding(dns_fields::specs::Fields::field_octets))]
 fn head_step<'a>(parameters: &'a [Parameter], part: usize, head: &mut Head) -> Option<Step<'a>>
     requires empty { head.old ≡ [] }
-    requires emittable { are_emittable parameters.now }
+    requires emittable { AreEmittable parameters.now }
     ensures { GivesPiece parameters.now part 0 head.new result }
 {
     if part >= parameters.len() {
@@ -181,7 +181,7 @@ fn parameter_step<'a>(
     head: &mut Head,
 ) -> Option<Step<'a>>
     requires empty { head.old ≡ [] }
-    requires emittable { are_emittable parameters.now }
+    requires emittable { AreEmittable parameters.now }
     ensures { GivesPiece parameters.now part item head.new result }
 {
     if item == 0 {
@@ -211,7 +211,7 @@ pub fn svcb_step<'a>(
     head: &mut Head,
 ) -> Option<Step<'a>>
     requires empty { head.old ≡ [] }
-    requires emittable { are_emittable x.now.svc_params }
+    requires emittable { AreEmittable x.now.svc_params }
     ensures { GivesStep (svcb_left x.now) step part item head.new result }
 {
     match step {
@@ -234,7 +234,7 @@ pub fn https_step<'a>(
     head: &mut Head,
 ) -> Option<Step<'a>>
     requires empty { head.old ≡ [] }
-    requires emittable { are_emittable x.now.0.svc_params }
+    requires emittable { AreEmittable x.now.0.svc_params }
     ensures { GivesStep (svcb_left x.now.0) step part item head.new result }
 {
     svcb_step(&x.0, step, part, item, head)

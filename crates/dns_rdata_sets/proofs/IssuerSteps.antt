@@ -5,8 +5,10 @@ use Rattle.std.proofs.lemmas.{Bool.or_left, Bool.and_from, Bool.and_parts, Bool.
 use Rattle.std.proofs.lemmas.List.{append-nil, Elements.All-weaker, Sums.AllPass-from_list_all, Sums.list_all-from_AllPass, Folds.list_all-append}
 use Rattle.std.specs.{Str.IsUtf8, Char.is_ascii_alphanumeric, List.list_all}
 use Rattle.dns_types.specs.declared.error.ProtoError.{ProtoError}
+use Rattle.dns_text.specs.Octets.{AllOf, BeginsOtherwise, Span}
+use Rattle.dns_text.proofs.SpanSteps.{split_once}
 use Rattle.dns_names_wire.specs.NameValues.{IsTextRefusal}
-use Rattle.dns_rdata_sets.specs.Issuer.{Parameter, is_blank, is_no_semicolon, is_key_octet, is_value_octet, AllOf, StartsWithout, Splits, IsKey}
+use Rattle.dns_rdata_sets.specs.Issuer.{Parameter, is_blank, is_no_semicolon, is_key_octet, is_value_octet, IsKey}
 use Rattle.dns_rdata_sets.specs.Issuer.{IsParameter, parameter_octets, AreParameters}
 use Rattle.dns_types.specs.declared.error.ProtoError.TheVariants as proto
 
@@ -27,27 +29,6 @@ all_halves p xs ys a = and_parts (list_all p xs) (list_all p ys) (sym (list_all-
 pub all_weaker : (p q : ℕ → Bool) → ((c : ℕ) → p c ≡ true → q c ≡ true) → (xs : List ℕ) → AllOf p xs → AllOf q xs
 all_weaker p q f xs h = list_all-from_AllPass q xs (All-weaker (λ c. p c ≡ true) (λ c. q c ≡ true) f xs (AllPass-from_list_all p xs h))
 
--- octets are cut in one way
-pub split_once : (p : ℕ → Bool) (a x b y : List ℕ) → a ++ x ≡ b ++ y → AllOf p a → StartsWithout p x → AllOf p b → StartsWithout p y
-    → (a ≡ b) × (x ≡ y)
-split_once p [] x [] y e ha hx hb hy = (refl, e)
-split_once p [] x (d ∷ b) y e ha hx hb hy =
-    let h : p d ≡ false = subst (λ (l : List ℕ). StartsWithout p l) e hx in
-    let k : p d ≡ true = (all_parts p d b hb).0 in
-    cc
-split_once p (c ∷ a) x [] y e ha hx hb hy =
-    let h : p c ≡ false = subst (λ (l : List ℕ). StartsWithout p l) (sym e) hy in
-    let k : p c ≡ true = (all_parts p c a ha).0 in
-    cc
-split_once p (c ∷ a) x (d ∷ b) y e ha hx hb hy =
-    let first : c ≡ d = cc in
-    let rest : a ++ x ≡ b ++ y = cc in
-    let r = split_once p a x b y rest (all_parts p c a ha).1 hx (all_parts p d b hb).1 hy in
-    (ap (λ (z : ℕ). z ∷ a) first ∙ ap (λ (z : List ℕ). d ∷ z) r.0, r.1)
-
-pub same_split : (p : ℕ → Bool) (octets a x b y : List ℕ) → Splits p octets a x → Splits p octets b y → (a ≡ b) × (x ≡ y)
-same_split p octets a x b y s t = split_once p a x b y (sym s.whole ∙ t.whole) s.passes s.stops t.passes t.stops
-
 -- ---- octets of keys and values
 
 abbrev pub is_no_equals : ℕ → Bool
@@ -66,9 +47,9 @@ key_all p f key h = all_weaker is_key_octet p f key (key_octets key h)
 -- ---- one parameter
 
 -- it begins with no blank
-starts : (x : Parameter) (rest : List ℕ) → IsKey x.key → StartsWithout is_blank (parameter_octets x ++ rest)
+starts : (x : Parameter) (rest : List ℕ) → IsKey x.key → BeginsOtherwise is_blank (parameter_octets x ++ rest)
 starts x rest h = by_key x.key x.value h where
-  by_key : (key value : List ℕ) → IsKey key → StartsWithout is_blank ((key ++ 61 ∷ value) ++ rest)
+  by_key : (key value : List ℕ) → IsKey key → BeginsOtherwise is_blank ((key ++ 61 ∷ value) ++ rest)
   by_key [] value h = absurd h
   by_key (c ∷ key) value h = grind (arith, nat_tests, (all_parts is_key_octet c key (key_octets (c ∷ key) h)).0)
 
@@ -86,14 +67,14 @@ no_equals : (x : Parameter) → IsKey x.key → AllOf is_no_equals x.key
 no_equals x h = key_all is_no_equals (λ c k. grind (arith, nat_tests)) x.key h
 
 -- it is cut at its first equals sign
-pub parameter_cut : (octets key rest : List ℕ) (x : Parameter) → Splits is_no_equals octets key rest → octets ≡ parameter_octets x → IsParameter x
+pub parameter_cut : (octets key rest : List ℕ) (x : Parameter) → Span is_no_equals key octets rest → octets ≡ parameter_octets x → IsParameter x
     → (key ≡ x.key) × (rest ≡ 61 ∷ x.value)
-parameter_cut octets key rest x s e h = split_once is_no_equals key rest x.key (61 ∷ x.value) (sym s.whole ∙ e) s.passes s.stops
+parameter_cut octets key rest x s e h = split_once is_no_equals key rest x.key (61 ∷ x.value) (sym s.cut ∙ e) s.each s.ends
     (no_equals x h.key) refl
 
 parameter_same : (x y : Parameter) → IsParameter x → IsParameter y → parameter_octets x ≡ parameter_octets y → x ≡ y
 parameter_same x y a b e =
-    let p = parameter_cut (parameter_octets x) x.key (61 ∷ x.value) y (record { whole = refl; passes = no_equals x a.key; stops = refl }) e b in
+    let p = parameter_cut (parameter_octets x) x.key (61 ∷ x.value) y (record { cut = refl; each = no_equals x a.key; ends = refl }) e b in
     let v : x.value ≡ y.value = let t = p.1 in cc in
     ap (λ (k : List ℕ). record x { key = k }) p.0 ∙ ap (λ (w : List ℕ). record { key = y.key; value = w }) v
 
@@ -110,7 +91,7 @@ blanks_before front rest (x ∷ xs) b h =
 blank_off : (c : ℕ) (rest : List ℕ) (xs : List Parameter) → is_blank c ≡ true → AreParameters (c ∷ rest) xs → AreParameters rest xs
 blank_off c rest [] b h = (all_parts is_blank c rest h).1
 blank_off c rest (x ∷ xs) b ([], behind, e, blanks, is, more) =
-    let s : StartsWithout is_blank (c ∷ rest) = subst (λ (l : List ℕ). StartsWithout is_blank l) (sym e) (starts x behind is.key) in
+    let s : BeginsOtherwise is_blank (c ∷ rest) = subst (λ (l : List ℕ). BeginsOtherwise is_blank l) (sym e) (starts x behind is.key) in
     cc
 blank_off c rest (x ∷ xs) b (d ∷ blanks, behind, e, all, is, more) =
     let t : rest ≡ blanks ++ (parameter_octets x ++ behind) = cc in
@@ -129,7 +110,7 @@ pub follow_alone : (behind : List ℕ) (xs : List Parameter) → Follow behind x
 follow_alone behind xs (inl h) = rw (h.0, h.1) refl
 follow_alone behind xs (inr h) = subst (λ (l : List ℕ). AreParameters l xs) (sym h.1) (blanks_before (59 ∷ []) h.0 xs refl h.2)
 
-pub alone_follow : (behind : List ℕ) (xs : List Parameter) → StartsWithout is_no_semicolon behind → AreParameters behind xs → Follow behind xs
+pub alone_follow : (behind : List ℕ) (xs : List Parameter) → BeginsOtherwise is_no_semicolon behind → AreParameters behind xs → Follow behind xs
 alone_follow [] [] s h = inl (refl, refl)
 alone_follow [] (x ∷ xs) s h = absurd (omega (arith, long x h.1, ap length h.2, length-append h.0 (parameter_octets x ++ h.1)))
 alone_follow (c ∷ more) xs s h =
@@ -137,58 +118,58 @@ alone_follow (c ∷ more) xs s h =
     let b : is_blank c ≡ true = ap is_blank e in
     inr (more, ap (λ (d : ℕ). d ∷ more) e, blank_off c more xs b h)
 
-pub follow_stops : (behind : List ℕ) (xs : List Parameter) → Follow behind xs → StartsWithout is_no_semicolon behind
+pub follow_stops : (behind : List ℕ) (xs : List Parameter) → Follow behind xs → BeginsOtherwise is_no_semicolon behind
 follow_stops behind xs (inl h) = rw h.0 tt
 follow_stops behind xs (inr h) = rw h.1 refl
 
-no_blanks : (octets : List ℕ) → 0 < length octets → StartsWithout is_blank octets → AllOf is_blank octets → ⊥
+no_blanks : (octets : List ℕ) → 0 < length octets → BeginsOtherwise is_blank octets → AllOf is_blank octets → ⊥
 no_blanks [] some s h = omega (arith, some)
 no_blanks (c ∷ rest) some s h = let k = (all_parts is_blank c rest h).0 in cc
 
 -- the first of parameters that begin with no blank
-first_parameter : (octets front behind : List ℕ) (ys : List Parameter) → 0 < length octets → StartsWithout is_blank octets
-    → Splits is_no_semicolon octets front behind → AreParameters octets ys
+first_parameter : (octets front behind : List ℕ) (ys : List Parameter) → 0 < length octets → BeginsOtherwise is_blank octets
+    → Span is_no_semicolon front octets behind → AreParameters octets ys
     → (y : Parameter) × (xs : List Parameter) × (ys ≡ y ∷ xs) × (front ≡ parameter_octets y) × IsParameter y × AreParameters behind xs
 first_parameter octets front behind [] some s t h = absurd (no_blanks octets some s h)
 first_parameter octets front behind (y ∷ xs) some s t ([], after, e, blanks, is, more) =
-    let p = split_once is_no_semicolon front behind (parameter_octets y) after (sym t.whole ∙ e) t.passes t.stops (no_semicolon y is)
+    let p = split_once is_no_semicolon front behind (parameter_octets y) after (sym t.cut ∙ e) t.each t.ends (no_semicolon y is)
     (follow_stops after xs more) in
     (y, xs, refl, p.0, is, subst (λ (l : List ℕ). AreParameters l xs) (sym p.1) (follow_alone after xs more))
 first_parameter octets front behind (y ∷ xs) some s t (d ∷ b, after, e, blanks, is, more) =
     let k : is_blank d ≡ true = (all_parts is_blank d b blanks).0 in
-    let l : is_blank d ≡ false = subst (λ (l : List ℕ). StartsWithout is_blank l) e s in
+    let l : is_blank d ≡ false = subst (λ (l : List ℕ). BeginsOtherwise is_blank l) e s in
     cc
 
 -- ---- reading them one by one
 
 -- what was read, and what is still to be read
 pub record Pending (octets : List ℕ) (read : List Parameter) (rest : List ℕ) : Type 0 where
-  pub starts : StartsWithout is_blank rest
+  pub starts : BeginsOtherwise is_blank rest
   pub sound : (xs : List Parameter) → AreParameters rest xs → AreParameters octets (read ++ xs)
   pub complete : (ys : List Parameter) → AreParameters octets ys → (xs : List Parameter) × (ys ≡ read ++ xs) × AreParameters rest xs
 
-pub pending_first : (octets front rest : List ℕ) → Splits is_blank octets front rest → Pending octets [] rest
+pub pending_first : (octets front rest : List ℕ) → Span is_blank front octets rest → Pending octets [] rest
 pending_first octets front rest s = record {
-  starts = s.stops;
-  sound = λ xs h. subst (λ (l : List ℕ). AreParameters l xs) (sym s.whole) (blanks_before front rest xs s.passes h);
-  complete = λ ys h. (ys, refl, blanks_behind front rest ys s.passes (subst (λ (l : List ℕ). AreParameters l ys) s.whole h));
+  starts = s.ends;
+  sound = λ xs h. subst (λ (l : List ℕ). AreParameters l xs) (sym s.cut) (blanks_before front rest xs s.each h);
+  complete = λ ys h. (ys, refl, blanks_behind front rest ys s.each (subst (λ (l : List ℕ). AreParameters l ys) s.cut h));
 }
 
 pub pending_step : (octets : List ℕ) (read more : List Parameter) (now front behind blanks rest : List ℕ) (x : Parameter) → Pending octets read now
-    → 0 < length now → Splits is_no_semicolon now front behind → (front ≡ parameter_octets x) × IsParameter x
-    → Splits is_blank behind blanks rest → more ≡ read ++ x ∷ [] → Pending octets more rest
+    → 0 < length now → Span is_no_semicolon front now behind → (front ≡ parameter_octets x) × IsParameter x
+    → Span is_blank blanks behind rest → more ≡ read ++ x ∷ [] → Pending octets more rest
 pending_step octets read more now front behind blanks rest x p some t is s e = rw e (record {
-  starts = s.stops;
+  starts = s.ends;
   sound = λ xs h.
-      let b : AreParameters behind xs = subst (λ (l : List ℕ). AreParameters l xs) (sym s.whole) (blanks_before blanks rest xs s.passes h) in
+      let b : AreParameters behind xs = subst (λ (l : List ℕ). AreParameters l xs) (sym s.cut) (blanks_before blanks rest xs s.each h) in
       subst (λ (l : List Parameter). AreParameters octets l) (sym (append_assoc read (x ∷ []) xs))
-      (p.sound (x ∷ xs) ([], behind, t.whole ∙ ap (λ (l : List ℕ). l ++ behind) is.0, refl, is.1, alone_follow behind xs t.stops b));
+      (p.sound (x ∷ xs) ([], behind, t.cut ∙ ap (λ (l : List ℕ). l ++ behind) is.0, refl, is.1, alone_follow behind xs t.ends b));
   complete = λ ys h.
       let k = p.complete ys h in
       let f = first_parameter now front behind k.0 some p.starts t k.2 in
       let same : f.0 ≡ x = parameter_same f.0 x f.4 is.1 (sym f.3 ∙ is.0) in
       let whole = k.1 ∙ ap (λ (l : List Parameter). read ++ l) (f.2 ∙ ap (λ (z : Parameter). z ∷ f.1) same) ∙ sym (append_assoc read (x ∷ []) f.1) in
-      (f.1, whole, blanks_behind blanks rest f.1 s.passes (subst (λ (l : List ℕ). AreParameters l f.1) s.whole f.5));
+      (f.1, whole, blanks_behind blanks rest f.1 s.each (subst (λ (l : List ℕ). AreParameters l f.1) s.cut f.5));
 })
 
 pub pending_last : (octets : List ℕ) (read : List Parameter) (rest : List ℕ) → Pending octets read rest → length rest ≤ 0 → AreParameters octets read
@@ -196,7 +177,7 @@ pending_last octets read [] p e = subst (λ (l : List Parameter). AreParameters 
 pending_last octets read (c ∷ rest) p e = absurd (omega (arith, e))
 
 pub pending_stop : (octets : List ℕ) (read : List Parameter) (now front behind : List ℕ) → Pending octets read now → 0 < length now
-    → Splits is_no_semicolon now front behind → ((x : Parameter) → front ≡ parameter_octets x → IsParameter x → ⊥)
+    → Span is_no_semicolon front now behind → ((x : Parameter) → front ≡ parameter_octets x → IsParameter x → ⊥)
     → (ys : List Parameter) → AreParameters octets ys → ⊥
 pending_stop octets read now front behind p some t none ys h =
     let k = p.complete ys h in
@@ -218,7 +199,7 @@ one_list octets [] (y ∷ ys) h k =
     (all_halves is_blank k.0 (parameter_octets y ++ k.1) (subst (λ (l : List ℕ). AllOf is_blank l) k.2 h)).1)
 one_list octets (x ∷ xs) ys h k =
     let f = first_parameter (parameter_octets x ++ h.1) (parameter_octets x) h.1 ys (long x h.1) (starts x h.1 h.4.key)
-    (record { whole = refl; passes = no_semicolon x h.4; stops = follow_stops h.1 xs h.5 })
+    (record { cut = refl; each = no_semicolon x h.4; ends = follow_stops h.1 xs h.5 })
     (blanks_behind h.0 (parameter_octets x ++ h.1) ys h.3 (subst (λ (l : List ℕ). AreParameters l ys) h.2 k)) in
     ap (λ (z : Parameter). z ∷ xs) (parameter_same x f.0 h.4 f.4 f.3)
     ∙ ap (λ (l : List Parameter). f.0 ∷ l) (one_list h.1 xs f.1 (follow_alone h.1 xs h.5) f.5) ∙ sym f.2
@@ -235,12 +216,12 @@ pub value_utf8 : (value : List ℕ) → AllOf is_value_octet value → IsUtf8 va
 value_utf8 value h = utf8 is_value_octet (λ c k. grind (arith, nat_tests)) value h
 
 -- a key, an equals sign and a value that were cut
-pub parameter_read : (octets key rest : List ℕ) (first : ℕ) (value : List ℕ) {x : Parameter} → Splits is_no_equals octets key rest → rest ≡ first ∷ value
+pub parameter_read : (octets key rest : List ℕ) (first : ℕ) (value : List ℕ) {x : Parameter} → Span is_no_equals key octets rest → rest ≡ first ∷ value
     → IsKey key → AllOf is_value_octet value → x.key ≡ key → x.value ≡ value → (octets ≡ parameter_octets x) × IsParameter x
 parameter_read octets key rest first value {x} s e is-key is-value a b =
-    let stop : is_no_equals first ≡ false = subst (λ (l : List ℕ). StartsWithout is_no_equals l) e s.stops in
+    let stop : is_no_equals first ≡ false = subst (λ (l : List ℕ). BeginsOtherwise is_no_equals l) e s.ends in
     let sign : first ≡ 61 = grind (arith, nat_tests, stop) in
-    let text : octets ≡ key ++ 61 ∷ value = s.whole ∙ ap (λ (l : List ℕ). key ++ l) (e ∙ ap (λ (d : ℕ). d ∷ value) sign) in (
+    let text : octets ≡ key ++ 61 ∷ value = s.cut ∙ ap (λ (l : List ℕ). key ++ l) (e ∙ ap (λ (d : ℕ). d ∷ value) sign) in (
       text ∙ ap (λ (k : List ℕ). k ++ 61 ∷ value) (sym a) ∙ ap (λ (v : List ℕ). x.key ++ 61 ∷ v) (sym b),
       record { key = subst (λ (k : List ℕ). IsKey k) (sym a) is-key; value = subst (λ (v : List ℕ). AllOf is_value_octet v) (sym b) is-value },
     )

@@ -8,15 +8,17 @@ use Rattle.dns_labels.specs.Text.{IsNameText, OctetText, LabelText, LabelsText, 
 use Rattle.dns_labels.specs.Text.{OctetText.plain, OctetText.decimal, OctetText.quoted, LabelsText.last, LabelsText.dotted, LabelsText.joined}
 use Rattle.dns_labels.specs.Text.MarkedText.{root, nothing, labelled}
 use Rattle.dns_labels.proofs.NameTexts.{one_name, name_reads}
+use Rattle.dns_text.specs.Octets.{AllOf, Span}
+use Rattle.dns_text.proofs.TokenSteps.{span_one}
 use Rattle.dns_names_wire.specs.NameValues.{IsTextRefusal}
-use Rattle.dns_rdata_sets.specs.Issuer.{Parameter, is_no_semicolon, IsParameter, IsNamed, IsWritable, AllOf, parameter_octets, Splits, AreParameters}
+use Rattle.dns_rdata_sets.specs.Issuer.{Parameter, is_no_semicolon, IsParameter, IsNamed, IsWritable, parameter_octets, AreParameters}
 use Rattle.dns_rdata_sets.specs.Issuer.{IsIssuerName, IsNameRefusal, IsIssuer, IsIssuerRefusal, parameters_text, issuer_value}
-use Rattle.dns_rdata_sets.proofs.IssuerSteps.{same_split, Follow, follow_alone, alone_follow, follow_stops, one_list}
+use Rattle.dns_rdata_sets.proofs.IssuerSteps.{Follow, follow_alone, alone_follow, follow_stops, one_list}
 use Rattle.dns_types.specs.declared.error.ProtoError.TheVariants as proto
 
-pub issuer_read : (octets front rest : List ℕ) (name : Option DomainName) (xs : List Parameter) → Splits is_no_semicolon octets front rest
+pub issuer_read : (octets front rest : List ℕ) (name : Option DomainName) (xs : List Parameter) → Span is_no_semicolon front octets rest
     → IsIssuerName front name → AreParameters rest xs → IsIssuer octets name xs
-issuer_read octets front rest name xs s n h = record { front = front; rest = rest; splits = s; is_name = n; parameters = alone_follow rest xs s.stops h }
+issuer_read octets front rest name xs s n h = record { front = front; rest = rest; splits = s; is_name = n; parameters = alone_follow rest xs s.ends h }
 
 name_utf8 : (front : List ℕ) (name : Option DomainName) → IsIssuerName front name → IsUtf8 front
 name_utf8 front None h = subst (λ (l : List ℕ). IsUtf8 l) (sym h) IsUtf8-nil
@@ -27,37 +29,37 @@ no_text front None some none h = some h
 no_text front (Some name) some none h = none name h.2
 
 -- what an issuer has where the octets are cut
-of_issuer : (octets front rest : List ℕ) (name : Option DomainName) (xs : List Parameter) → Splits is_no_semicolon octets front rest
+of_issuer : (octets front rest : List ℕ) (name : Option DomainName) (xs : List Parameter) → Span is_no_semicolon front octets rest
     → IsIssuer octets name xs
     → IsIssuerName front name × AreParameters rest xs
 of_issuer octets front rest name xs s i =
-    let same = same_split is_no_semicolon octets i.front i.rest front rest i.splits s in (
+    let same = span_one i.splits s in (
       subst (λ (l : List ℕ). IsIssuerName l name) same.0 i.is_name,
       subst (λ (l : List ℕ). AreParameters l xs) same.1
           (follow_alone i.rest xs i.parameters),
     )
 
 -- the name is refused
-pub name_stop : (octets front rest : List ℕ) (e : ProtoError) → Splits is_no_semicolon octets front rest → IsNameRefusal front e → IsIssuerRefusal octets e
+pub name_stop : (octets front rest : List ℕ) (e : ProtoError) → Span is_no_semicolon front octets rest → IsNameRefusal front e → IsIssuerRefusal octets e
 name_stop octets front rest proto.Memory s h = tt
 name_stop octets front rest (proto.Decode d) s h = (
   h.0,
   λ name xs i. h.1 (name_utf8 front name (of_issuer octets front rest name xs s i).0),
-  λ f r t u. h.1 (subst (λ (l : List ℕ). IsUtf8 l) (same_split is_no_semicolon octets f r front rest t s).0 u),
+  λ f r t u. h.1 (subst (λ (l : List ℕ). IsUtf8 l) (span_one t s).0 u),
 )
 name_stop octets front rest (proto.Message t) s h = (
   λ name xs i. no_text front name h.1 h.2 (of_issuer octets front rest name xs s i).0,
-  λ f r t. subst (λ (l : List ℕ). IsUtf8 l) (same_split is_no_semicolon octets front rest f r s t).0 h.0,
+  λ f r t. subst (λ (l : List ℕ). IsUtf8 l) (span_one s t).0 h.0,
 )
 name_stop octets front rest e s h = absurd h
 
 -- the parameters are refused
-pub parameters_stop : (octets front rest : List ℕ) (name : Option DomainName) (e : ProtoError) → Splits is_no_semicolon octets front rest
+pub parameters_stop : (octets front rest : List ℕ) (name : Option DomainName) (e : ProtoError) → Span is_no_semicolon front octets rest
     → IsIssuerName front name → IsTextRefusal e ((xs : List Parameter) → AreParameters rest xs → ⊥) → IsIssuerRefusal octets e
 parameters_stop octets front rest name proto.Memory s n h = tt
 parameters_stop octets front rest name (proto.Message t) s n h = (
   λ other xs i. h xs (of_issuer octets front rest other xs s i).1,
-  λ f r t. subst (λ (l : List ℕ). IsUtf8 l) (same_split is_no_semicolon octets front rest f r s t).0 (name_utf8 front name n),
+  λ f r t. subst (λ (l : List ℕ). IsUtf8 l) (span_one s t).0 (name_utf8 front name n),
 )
 parameters_stop octets front rest name e s n h = absurd h
 
@@ -108,7 +110,7 @@ written : (front rest : List ℕ) (name : Option DomainName) (xs : List Paramete
     → Follow rest xs
     → IsIssuer (front ++ rest) name xs
 written front rest name xs p n f =
-    record { front = front; rest = rest; splits = record { whole = refl; passes = p; stops = follow_stops rest xs f }; is_name = n; parameters = f }
+    record { front = front; rest = rest; splits = record { cut = refl; each = p; ends = follow_stops rest xs f }; is_name = n; parameters = f }
 
 pub issuer_written : (name : Option DomainName) (xs : List Parameter) → IsNamed name → IsWritable name → AllByRecursion IsParameter xs
     → IsIssuer (issuer_value name xs) name xs

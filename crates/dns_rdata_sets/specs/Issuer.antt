@@ -1,11 +1,12 @@
 -- The value of an issuer property (RFC 8659, 4.2): the domain name of an issuer, and parameters behind semicolons.
-use Rattle.std.specs.Prelude.{◌≡◌, ◌≢◌, ◌⊎◌, ℕ, ◌==◌, ◌||◌, ◌&&◌, not, nat_le, Bool, true, false, List, [], ◌∷◌, ◌++◌, flat_map, Option, Some, None}
-use Rattle.std.specs.{List.list_all, Char.is_ascii_alphanumeric, Str.IsUtf8}
+use Rattle.std.specs.Prelude.{◌≡◌, ◌≢◌, ◌⊎◌, ℕ, ◌==◌, ◌||◌, ◌&&◌, not, nat_le, Bool, true, List, [], ◌∷◌, ◌++◌, flat_map, Option, Some, None}
+use Rattle.std.specs.{Char.is_ascii_alphanumeric, Str.IsUtf8}
 use Rattle.dns_types.specs.declared.error.DecodeError.TheVariants as decode
 use Rattle.dns_types.specs.declared.error.ProtoError.{ProtoError}
 use Rattle.dns_types.specs.declared.error.ProtoError.TheVariants as proto
 use Rattle.dns_fields.specs.Labels.{DomainName, IsName}
 use Rattle.dns_labels.specs.Text.{IsNameText, HasOctets, name_text}
+use Rattle.dns_text.specs.Octets.{AllOf, Span}
 
 -- a key and its value
 pub record Parameter : Type 0 where
@@ -26,21 +27,6 @@ is_key_octet c = is_ascii_alphanumeric c || c == 45
 -- what stands in a value: 0x21 to 0x3A, and 0x3C to 0x7E
 abbrev pub is_value_octet : ℕ → Bool
 is_value_octet c = (nat_le 33 c && nat_le c 58) || (nat_le 60 c && nat_le c 126)
-
--- each octet passes the test
-abbrev pub AllOf : (ℕ → Bool) → List ℕ → Type 0
-AllOf p octets = list_all p octets ≡ true
-
--- the first octet, where there is one, doesn't pass the test
-abbrev pub StartsWithout : (ℕ → Bool) → List ℕ → Type 0
-StartsWithout p [] = Unit {0}
-StartsWithout p (c ∷ octets) = p c ≡ false
-
--- the longest front that passes the test, and the rest
-pub record Splits (p : ℕ → Bool) (octets front rest : List ℕ) : Type 0 where
-  pub whole : octets ≡ front ++ rest
-  pub passes : AllOf p front
-  pub stops : StartsWithout p rest
 
 -- One letter or digit; or two, and then letters, digits and hyphens.
 abbrev pub IsKey : List ℕ → Type 0
@@ -79,7 +65,7 @@ IsNameRefusal octets e = ⊥
 pub record IsIssuer (octets : List ℕ) (name : Option DomainName) (xs : List Parameter) : Type 0 where
   pub front : List ℕ
   pub rest : List ℕ
-  pub splits : Splits is_no_semicolon octets front rest
+  pub splits : Span is_no_semicolon front octets rest
   pub is_name : IsIssuerName front name
   pub parameters : ((rest ≡ []) × (xs ≡ [])) ⊎ ((more : List ℕ) × (rest ≡ 59 ∷ more) × AreParameters more xs)
 
@@ -91,8 +77,8 @@ NoIssuer octets = (name : Option DomainName) (xs : List Parameter) → IsIssuer 
 abbrev pub IsIssuerRefusal : List ℕ → ProtoError → Type 0
 IsIssuerRefusal octets proto.Memory = Unit {0}
 IsIssuerRefusal octets (proto.Decode e) = (e ≡ decode.Utf8) × NoIssuer octets
-    × ((front rest : List ℕ) → Splits is_no_semicolon octets front rest → IsUtf8 front → ⊥)
-IsIssuerRefusal octets (proto.Message text) = NoIssuer octets × ((front rest : List ℕ) → Splits is_no_semicolon octets front rest → IsUtf8 front)
+    × ((front rest : List ℕ) → Span is_no_semicolon front octets rest → IsUtf8 front → ⊥)
+IsIssuerRefusal octets (proto.Message text) = NoIssuer octets × ((front rest : List ℕ) → Span is_no_semicolon front octets rest → IsUtf8 front)
 IsIssuerRefusal octets e = ⊥
 
 -- ---- what is written

@@ -1,7 +1,7 @@
 -- The steps of records with sets of types, and of CAA.
 use Rattle.std.specs.{Prelude.ℕ, Prelude.zero, Prelude.suc, Prelude.List, Prelude.[], Prelude.◌∷◌, Prelude.length, Prelude.drop, List.flat_map}
 use Rattle.dns_fields.specs.{Bitmaps.block, Bitmaps.minimal, Fields.canonical}
-use Rattle.dns_pieces.specs.Steps.{Left}
+use Rattle.dns_pieces.specs.Steps.{LeftAt}
 use Rattle.dns_rdata_sets.specs.{CSYNC.csync_shape, CSYNC.csync_fields, declared.csync.CSYNC.CSYNC}
 
 -- flags and tag, the value
@@ -9,7 +9,7 @@ abbrev pub caa_begins : List ℕ
 caa_begins = 0 ∷ 2 ∷ []
 
 -- serial and flags, and then the windows of the types from one of them on
-abbrev pub csync_left : CSYNC → Left
+abbrev pub csync_left : CSYNC → LeftAt
 csync_left x zero i j = canonical csync_shape (csync_fields x)
 csync_left x (suc zero) i j = flat_map block (minimal (drop i x.type_bit_maps))
 csync_left x (suc (suc n)) i j = []

@@ -51,7 +51,6 @@ impl CAA {
     }
 
     // Appends the fields in order.
-    #[tactic(auto, using(dns_names_wire::proofs::FieldWrites::writing))]
     fn emit_in_order(&self, encoder: &mut BinEncoder<'_>) -> Result<(), ProtoError>
         ensures { Emits caa_shape (caa_fields self.now) result encoder.old encoder.new }
     {
@@ -63,7 +62,6 @@ impl CAA {
 
     // Reads the fields that fill the length.
     #[inline]
-    #[tactic(auto, using(dns_names_wire::proofs::FieldReads::reading))]
     fn read_filled(decoder: &mut BinDecoder<'_>, length: Restrict<u16>) -> Result<CAA, DecodeError>
         ensures fields { ReadsTo caa_shape MeetsCaaCondition length caa_fields result decoder.old decoder.new }
         ensures flags { IfOk result IsReadCaa }
@@ -151,7 +149,6 @@ impl RecordDataDecodable for CAA {
     /// the tag. Where octets of tag or value are missing it is refused by `InsufficientBytes`; the tag's octets that
     /// are there are taken, and the value's are not.
     #[inline]
-    #[tactic(auto, using(dns_names_wire::proofs::WindowReads::filled_window))]
     fn read_data(decoder: &mut BinDecoder<'_>, length: Restrict<u16>) -> Result<CAA, DecodeError> {
         // Called for its clauses: the message is octets, and the place is in it.
         let _start = decoder.index();

@@ -95,7 +95,6 @@ impl CSYNC {
 
     // Reads the fields that fill the length.
     #[inline]
-    #[tactic(auto, using(dns_names_wire::proofs::FieldReads::reading))]
     fn read_filled(
         decoder: &mut BinDecoder<'_>,
         length: Restrict<u16>,

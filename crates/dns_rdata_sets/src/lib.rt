@@ -1,5 +1,5 @@
 //! The data of DNS records with sets of record types and with properties of a zone's issuers: CSYNC, CAA.
-#![tactic(auto)]
+#![tactic(auto, using(dns_names_wire::proofs::FieldReads::reading, dns_names_wire::proofs::FieldWrites::writing, dns_names_wire::proofs::WindowReads::filled_window, dns_words::proofs::Steps::reading, dns_pieces::proofs::Comparing::then_equal, dns_pieces::proofs::Comparing::then_assoc))]
 
 pub mod caa;
 pub mod csync;

@@ -41,7 +41,6 @@ impl OrderedRecord for CAA {
         Some(order)
     }
 
-    #[tactic(auto, using(dns_pieces::proofs::Comparing::then_equal, dns_pieces::proofs::Comparing::then_assoc))]
     fn cmp_fields(&self, other: &CAA) -> Ordering {
         in_order!(
             u8::from(self.issuer_critical).cmp(&u8::from(other.issuer_critical)),
@@ -59,7 +58,6 @@ impl OrderedRecord for CSYNC {
         unless_tied(order, self, other, false)
     }
 
-    #[tactic(auto, using(dns_pieces::proofs::Comparing::then_equal))]
     fn cmp_fields(&self, other: &CSYNC) -> Ordering {
         let types = self
             .type_bit_maps

@@ -26,7 +26,6 @@ impl CAA {
     /// From three words: flags, a decimal number of 8 bits, of which 0x80 is `issuer_critical`; tag and value, whose
     /// octets are kept. Further words are not read. Refused by [`MissingToken`](ParseError::MissingToken),
     /// [`Message`](ParseError::Message) or [`Memory`](ParseError::Memory).
-    #[tactic(auto, using(dns_words::proofs::Steps::reading))]
     pub fn from_tokens<S: AsStr + Drop, I: Iterator<Item = S>>(
         alloc: Global,
         mut tokens: I,
@@ -99,7 +98,6 @@ impl CSYNC {
     /// and in every further word the text of a record type. Refused by [`MissingToken`](ParseError::MissingToken), by
     /// [`Message`](ParseError::Message) for a number, by [`Proto`](ParseError::Proto) of `UnknownRecordTypeStr` for a
     /// word that is the text of no type, or by [`Memory`](ParseError::Memory). The caller owes an iterator that ends.
-    #[tactic(auto, using(dns_words::proofs::Steps::reading))]
     pub fn from_tokens<S: AsStr + Drop, I: Iterator<Item = S>>(
         alloc: Global,
         mut tokens: I,

@@ -12,6 +12,8 @@ pub mod ParameterForms
 pub mod ParameterValues
 pub mod ParametersGive
 pub mod RowForms
+pub mod RestForms
+pub mod OwnTexts
 pub mod ServiceDigits
 pub mod TextsGive
 pub mod WordForms

@@ -7,7 +7,8 @@ use Rattle.std.proofs.{lemmas.Bool.Decides.nat_tests, lemmas.Fmt.decimal_is_IsNu
 use Rattle.std.proofs.lemmas.List.{take_at, take_all, drop_at, drop_all}
 use Rattle.dns_rdata_zone.proofs.Letters.{first_true, second_true}
 use Rattle.dns_rdata_zone.proofs.Cuts.{AreCut, bare_word, quoted_word, AreRunOctets, run_both, begins_plain, plain_cut, InQuotes, joined_cut}
-use Rattle.dns_rdata_zone.proofs.RowForms.{bare_unmarked, run_first, run_tested, decimal_run}
+use Rattle.dns_rdata_zone.proofs.RowForms.{bare_unmarked, run_first, decimal_run}
+use Rattle.dns_rdata_zone.proofs.RestForms.{run_tested}
 use Rattle.dns_zone_words.specs.Words.{Word}
 use Rattle.dns_zone_parameters.specs.{Keys.key_number, Keys.IsNumberedName, Keys.IsKeyName, Values.IsValue, declared.key.ParameterKey.ParameterKey}
 use Rattle.dns_zone_parameters.specs.Parameters.{Parameter, is_equals, name_in, value_in, IsParameter}

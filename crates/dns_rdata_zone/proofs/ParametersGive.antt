@@ -19,7 +19,7 @@ use Rattle.dns_zone_parameters.specs.declared.key.ParameterKey.TheVariants as ke
 use Rattle.dns_rdata_zone.specs.{Lists.commas, Spellings.escaped, Strings.quoted, ZoneGives.AreUnmarked}
 use Rattle.dns_rdata_zone.specs.Parameters.{key_name, named_key, zone_value, zone_parameter, rises_from, value_has_text, has_text}
 use Rattle.dns_rdata_zone.specs.Readable.{IsString, IsWritableValue, IsWritableParameter}
-use Rattle.dns_rdata_zone.proofs.{Letters.first_true, Letters.second_true, RowForms.decimal_run, RowForms.base64_run}
+use Rattle.dns_rdata_zone.proofs.{Letters.first_true, Letters.second_true, RowForms.decimal_run, RestForms.base64_run}
 use Rattle.dns_rdata_zone.proofs.Cuts.{AreCut, cut_then, AreRunOctets, InQuotes, plain_quotes, spelled_quotes}
 use Rattle.dns_rdata_zone.proofs.ParameterForms.{ParameterText, IsSpelled, alone_text, bare_text, enclosed_text, key_of, key_is}
 use Rattle.dns_rdata_zone.proofs.ParameterValues.{plain_value, escaped_value, item_text, AreNames, names_list, list_octets, list_spelled, rises_above}

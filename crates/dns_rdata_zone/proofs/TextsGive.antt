@@ -29,10 +29,11 @@ use Rattle.dns_rdata_zone.specs.{Strings.quoted, ZoneReads.TextsGive, ZoneReads.
 use Rattle.dns_rdata_zone.specs.Readable.{IsString, IsWritable, IsWritableParameter, IsWritableService, IsWritableTlsa, FieldsFit}
 use Rattle.dns_rdata_zone.proofs.{Cuts.NoneEmpty, Letters.first_true, Letters.second_true, OptionDigits.options_pieces}
 use Rattle.dns_rdata_zone.proofs.ParametersGive.{some_there, parameters_text, parameters_are}
-use Rattle.dns_rdata_zone.proofs.RowForms.{FieldText, RowText, RestText, ListText, OwnText, TextIs, row_then, row_last, row_rest, row_text, row_list}
+use Rattle.dns_rdata_zone.proofs.RowForms.{FieldText, RowText, row_then, row_last, row_text}
+use Rattle.dns_rdata_zone.proofs.RestForms.{RestText, ListText, row_rest, row_list, hex_text, base64_text, strings_text, types_text}
+use Rattle.dns_rdata_zone.proofs.OwnTexts.{OwnText, TextIs, text_gives, text_same, one_of}
 use Rattle.dns_rdata_zone.proofs.RowForms.{short_text, cert_text, algorithm_text, ttl_text, name_text, string_text, octets_text, tag_text}
-use Rattle.dns_rdata_zone.proofs.RowForms.{ipv4_text_of, ipv6_text_of, hex_text, base64_text, strings_text, types_text, alphanumeric_run, text_gives}
-use Rattle.dns_rdata_zone.proofs.RowForms.{text_same, one_of}
+use Rattle.dns_rdata_zone.proofs.RowForms.{ipv4_text_of, ipv6_text_of, alphanumeric_run}
 
 -- ---- parts with a blank between two, however they were grouped
 

@@ -6,7 +6,7 @@ use Rattle.dns_fields.specs.Labels.{DomainName}
 use Rattle.dns_rdata.specs.declared.record_data.RData.{RData}
 use Rattle.dns_rdata.proofs.DataLaws.{one_value}
 use Rattle.dns_types.specs.declared.record_type.RecordType.{RecordType}
-use Rattle.dns_zone_rows.specs.{RowTable.row_of, Rows.Row}
+use Rattle.dns_zone_rows.specs.{RowTable.row_of, Rows.RowShape}
 use Rattle.dns_zone_rows.proofs.Once.{row_once}
 use Rattle.dns_zone_words.specs.{Remaining.AreUnknown, Words.Word, declared.words_error.WordsError.WordsError}
 use Rattle.dns_rdata_zone.specs.ZoneGives.{AreUnknownData, AreUnmarked, GiveByRow, WordsGive, AreDataOf}
@@ -30,7 +30,7 @@ data_once : (a b : List ℕ) (words : List Word) → AreUnknownData a words → 
 data_once a b [] h k = absurd h
 data_once a b (first ∷ words) h k = unknown_once a b words h.1 k.1
 
-pub by_row_once : (origin : Option DomainName) (row : Option Row) (a b : List ℕ) (words : List Word) → GiveByRow origin row a words → GiveByRow origin row b words → a ≡ b
+pub by_row_once : (origin : Option DomainName) (row : Option RowShape) (a b : List ℕ) (words : List Word) → GiveByRow origin row a words → GiveByRow origin row b words → a ≡ b
 by_row_once origin (Some row) a b words h k = row_once origin row a b words h k
 by_row_once origin None a b words h k = absurd h
 

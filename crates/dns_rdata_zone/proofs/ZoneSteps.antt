@@ -2,15 +2,15 @@
 use Rattle.std.proofs.Common.{◌≡◌, ◌≢◌, ℕ, true, List, [], ◌∷◌, length, Option, Some, Result, Ok, Err, ◌⊎◌, inl, inr, refl, sym, ◌∙◌, ap, subst}
 use Rattle.std.specs.Prelude.{IfOk, IfErr, codes}
 use Rattle.std.specs.{Option.option_map, Result.IsErrAnd}
-use Rattle.dns_names_wire.specs.{Words.UnlessMemory as UnlessRead, State.Reading}
+use Rattle.dns_names_wire.specs.{Words.UnlessMemory, State.Reading}
 use Rattle.dns_fields.specs.Labels.{DomainName}
 use Rattle.dns_rdata.specs.{Data.shape, Data.Fills, Data.NoValue, Data.data_octets, Refusals.IsRefusal, declared.record_data.RData.RData}
 use Rattle.dns_types.specs.{Errors.decode_refusal, Errors.proto_refusal, declared.error.DecodeError.DecodeError, declared.error.ParseError.ParseError}
 use Rattle.dns_types.specs.declared.record_type.RecordType.{RecordType}
 use Rattle.dns_types.specs.declared.error.DecodeError.TheVariants as decode
 use Rattle.dns_types.specs.declared.error.ParseError.TheVariants as parse
-use Rattle.dns_words.specs.Reads.{UnlessMemory}
-use Rattle.dns_zone_rows.specs.{RowFaults.row_value, RowFaults.RowFault, RowTable.row_of, Rows.Row, declared.row.ZoneRow.ZoneRow}
+use Rattle.dns_words.specs.Reads.{UnlessParseMemory}
+use Rattle.dns_zone_rows.specs.{RowFaults.row_value, RowFaults.RowFault, RowTable.row_of, Rows.RowShape, declared.row.ZoneRow.ZoneRow}
 use Rattle.dns_zone_words.specs.{Refusals.Says, Remaining.AreUnknown, Remaining.TookAll, declared.words_error.WordsError.WordsError}
 use Rattle.dns_zone_words.specs.Words.{Word, Cursor, words_at, with_word, zone_words}
 use Rattle.dns_words.proofs.Steps.{unless_map}
@@ -28,12 +28,12 @@ exit_with F e (Err y) h f = subst (λ (z : ParseError). F (Err z)) (sym h) f
 
 -- ---- octets that are read
 
-read_none : (e : DecodeError) (P : Type 0) → UnlessRead e P → UnlessMemory (proto_refusal (decode_refusal e)) P
+read_none : (e : DecodeError) (P : Type 0) → UnlessMemory e P → UnlessParseMemory (proto_refusal (decode_refusal e)) P
 read_none decode.Memory P h = tt
 read_none e P h = h
 
-pub octets_refused : (e : DecodeError) (m octets : List ℕ) (p n : ℕ) (t : RecordType) → m ≡ octets → p ≡ 0 → n ≡ length octets → UnlessRead e (NoValue m p n t)
-    → UnlessMemory (proto_refusal (decode_refusal e)) (AreNoData octets t)
+pub octets_refused : (e : DecodeError) (m octets : List ℕ) (p n : ℕ) (t : RecordType) → m ≡ octets → p ≡ 0 → n ≡ length octets → UnlessMemory e (NoValue m p n t)
+    → UnlessParseMemory (proto_refusal (decode_refusal e)) (AreNoData octets t)
 octets_refused e m octets p n t same start all h = unless_map (proto_refusal (decode_refusal e)) (NoValue m p n t) (AreNoData octets t)
     (λ none. record {
       none = λ v is. none.none v (subst (λ (k : ℕ). Fills m p k t v) (sym all)
@@ -47,10 +47,10 @@ unknown_same t v octets cursor took u =
     let words : took.words ≡ u.words = same_words (words_at cursor) took.words u.words took.cut u.cut in
     unknown_once u.octets octets u.words u.are (subst (AreUnknown octets) words took.value)
 
-pub unknown_refused : (e : ParseError) (t : RecordType) (octets s : List ℕ) (cursor : Cursor) → s ≡ octets → TookAll AreUnknown octets cursor → UnlessMemory e (AreNoData s t)
-    → UnlessMemory e (UnknownIsNone t cursor)
-unknown_refused e t octets s cursor same took h = unless_refused e t octets cursor took (subst (λ (o : List ℕ). UnlessMemory e (AreNoData o t)) same h) where
-  unless_refused : (e : ParseError) (t : RecordType) (octets : List ℕ) (cursor : Cursor) → TookAll AreUnknown octets cursor → UnlessMemory e (AreNoData octets t) → UnlessMemory e (UnknownIsNone t cursor)
+pub unknown_refused : (e : ParseError) (t : RecordType) (octets s : List ℕ) (cursor : Cursor) → s ≡ octets → TookAll AreUnknown octets cursor → UnlessParseMemory e (AreNoData s t)
+    → UnlessParseMemory e (UnknownIsNone t cursor)
+unknown_refused e t octets s cursor same took h = unless_refused e t octets cursor took (subst (λ (o : List ℕ). UnlessParseMemory e (AreNoData o t)) same h) where
+  unless_refused : (e : ParseError) (t : RecordType) (octets : List ℕ) (cursor : Cursor) → TookAll AreUnknown octets cursor → UnlessParseMemory e (AreNoData octets t) → UnlessParseMemory e (UnknownIsNone t cursor)
   unless_refused e t octets cursor took h = unless_map e (AreNoData octets t) (UnknownIsNone t cursor)
       (λ none. record { none = λ v u. none.none v (subst (λ (o : List ℕ). AreDataOf o t v) (unknown_same t v octets cursor took u) u.is_data) }) h
 
@@ -66,7 +66,7 @@ not_whole t v octets s n cursor e counted took is named other = record {
 -- ---- rows
 
 row_none : (e : ParseError) (origin : Option DomainName) (t : RecordType) (octets text : List ℕ) (cursor : Cursor) → words_at cursor ≡ zone_words text
-    → TookAll (GiveByRow origin (row_of t)) octets cursor → UnlessMemory e (AreNoData octets t) → UnlessMemory e (RowIsNone origin t text)
+    → TookAll (GiveByRow origin (row_of t)) octets cursor → UnlessParseMemory e (AreNoData octets t) → UnlessParseMemory e (RowIsNone origin t text)
 row_none e origin t octets text cursor starts took h = unless_map e (AreNoData octets t) (RowIsNone origin t text)
     (λ none. record {
       none = λ v u.
@@ -77,12 +77,12 @@ row_none e origin t octets text cursor starts took h = unless_map e (AreNoData o
     }) h
 
 pub row_refused : {T : Type 0} (r : Result T ParseError) (origin : Option DomainName) (t : RecordType) (octets s text : List ℕ) (cursor : Cursor) → words_at cursor ≡ zone_words text
-    → s ≡ octets → TookAll (GiveByRow origin (row_of t)) octets cursor → IfErr r (λ e. UnlessMemory e (AreNoData s t)) → IfErr r (λ e. UnlessMemory e (RowIsNone origin t text))
+    → s ≡ octets → TookAll (GiveByRow origin (row_of t)) octets cursor → IfErr r (λ e. UnlessParseMemory e (AreNoData s t)) → IfErr r (λ e. UnlessParseMemory e (RowIsNone origin t text))
 row_refused (Ok x) origin t octets s text cursor starts same took h = tt
 row_refused (Err e) origin t octets s text cursor starts same took h =
-    row_none e origin t octets text cursor starts took (subst (λ (o : List ℕ). UnlessMemory e (AreNoData o t)) same h)
+    row_none e origin t octets text cursor starts took (subst (λ (o : List ℕ). UnlessParseMemory e (AreNoData o t)) same h)
 
-same_rows : (o : Option ZoneRow) (row : ZoneRow) (r : Option Row) → o ≡ Some row → option_map row_value o ≡ r → r ≡ Some (row_value row)
+same_rows : (o : Option ZoneRow) (row : ZoneRow) (r : Option RowShape) → o ≡ Some row → option_map row_value o ≡ r → r ≡ Some (row_value row)
 same_rows o row r e f = sym f ∙ ap (option_map row_value) e
 
 pub row_fault : {T : Type 0} (origin : Option DomainName) (t : RecordType) (text : List ℕ) (o : Option ZoneRow) (row : ZoneRow) (cursor : Cursor) (r : Result T ParseError)
@@ -174,7 +174,7 @@ none_behind origin t text cursor b none = record {
   by_form v g rest cut e (inr own) = (subst AreUnmarked e own.0) b.mark
 
 pub marked_refused : (e : ParseError) (origin : Option DomainName) (t : RecordType) (text : List ℕ) (cursor : Cursor) → IsBehindMark text cursor
-    → UnlessMemory e (UnknownIsNone t cursor) → UnlessMemory e (GivesNone origin t text)
+    → UnlessParseMemory e (UnknownIsNone t cursor) → UnlessParseMemory e (GivesNone origin t text)
 marked_refused e origin t text cursor b h = unless_map e (UnknownIsNone t cursor) (GivesNone origin t text) (none_behind origin t text cursor b) h
 
 not_marked : (octets : List ℕ) (words : List Word) → AreUnmarked words → AreUnknownData octets words → ⊥
@@ -196,18 +196,18 @@ none_own origin t text h none = record { none = λ v g. by_form v g g.gives.give
   by_form v g (inr own) = none.none v (record { words = g.gives.words; cut = g.gives.cut; octets = g.octets; give = own.1; is_data = g.is_data })
 
 pub own_refused : (e : ParseError) (origin : Option DomainName) (t : RecordType) (text : List ℕ) → HasNoMark text
-    → UnlessMemory e (RowIsNone origin t text) → UnlessMemory e (GivesNone origin t text)
+    → UnlessParseMemory e (RowIsNone origin t text) → UnlessParseMemory e (GivesNone origin t text)
 own_refused e origin t text h k = unless_map e (RowIsNone origin t text) (GivesNone origin t text) (none_own origin t text h) k
 
 -- ---- what calls answer
 
 pub marked_answer : {T : Type 0} (r : Result T ParseError) (origin : Option DomainName) (t : RecordType) (text : List ℕ) (cursor : Cursor) → IsBehindMark text cursor
-    → IfErr r (λ e. UnlessMemory e (UnknownIsNone t cursor)) → IfErr r (λ e. UnlessMemory e (GivesNone origin t text))
+    → IfErr r (λ e. UnlessParseMemory e (UnknownIsNone t cursor)) → IfErr r (λ e. UnlessParseMemory e (GivesNone origin t text))
 marked_answer (Ok x) origin t text cursor b h = tt
 marked_answer (Err e) origin t text cursor b h = marked_refused e origin t text cursor b h
 
 pub row_answer : {T : Type 0} (r : Result T ParseError) (origin : Option DomainName) (t : RecordType) (text : List ℕ) → HasNoMark text
-    → IfErr r (λ e. UnlessMemory e (RowIsNone origin t text)) → IfErr r (λ e. UnlessMemory e (GivesNone origin t text))
+    → IfErr r (λ e. UnlessParseMemory e (RowIsNone origin t text)) → IfErr r (λ e. UnlessParseMemory e (GivesNone origin t text))
 row_answer (Ok x) origin t text m h = tt
 row_answer (Err e) origin t text m h = own_refused e origin t text m h
 

@@ -3,7 +3,7 @@ use Rattle.std.specs.Prelude.{◌≡◌, ◌⊎◌, ℕ, ◌<◌, Bool, true, fa
 use Rattle.dns_fields.specs.{Fields.Kind, Fields.Name, Labels.DomainName}
 use Rattle.dns_rdata.specs.{Data.shape, Data.Fills, Data.data_octets, declared.record_data.RData.RData}
 use Rattle.dns_types.specs.declared.record_type.RecordType.{RecordType}
-use Rattle.dns_zone_rows.specs.{RowTable.row_of, Rows.Row, Rows.RowGives}
+use Rattle.dns_zone_rows.specs.{RowTable.row_of, Rows.RowShape, Rows.RowGives}
 use Rattle.dns_zone_words.specs.{Remaining.AreUnknown, Remaining.IsUnknownMark, Words.Word, Words.Cursor, Words.zone_words}
 
 -- `\#`, and behind it a length and as many octets in hexadecimal digits, of data of any type
@@ -17,7 +17,7 @@ AreUnmarked [] = Unit {0}
 AreUnmarked (first ∷ words) = IsUnknownMark first → ⊥
 
 -- the words give these octets by the row, where there is one
-abbrev pub GiveByRow : Option DomainName → Option Row → List ℕ → List Word → Type 0
+abbrev pub GiveByRow : Option DomainName → Option RowShape → List ℕ → List Word → Type 0
 GiveByRow origin (Some row) octets words = RowGives origin row octets words
 GiveByRow origin None octets words = ⊥
 

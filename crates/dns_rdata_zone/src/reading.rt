@@ -3,7 +3,7 @@
 ghost use Rattle.std.specs.Prelude.{◌≡◌, ◌↔◌, ◌⊎◌, IsTrue, IfSome, IfNone, IfOk, IfErr, length};
 ghost use Rattle.std.specs.{Bool.OnTrue, Option.option_copied};
 ghost use Rattle.dns_rdata.specs.Data.{shape, type_of, IsEmittable, data_octets};
-ghost use Rattle.dns_words.specs.Reads.{UnlessMemory};
+ghost use Rattle.dns_words.specs.Reads.{UnlessParseMemory};
 ghost use Rattle.dns_zone_rows.specs.RowTable.{row_of};
 ghost use Rattle.dns_zone_words.specs.{Remaining.ReadsAll, ZoneReads.IsCutRefused};
 ghost use Rattle.dns_rdata_zone.specs.ZoneFaults.{OctetsFault, IsBehindMark, BehindMarkFault, HasNoMark, LacksRow, WordsFault, ByRowFault, ZoneFault};
@@ -57,7 +57,7 @@ pub fn from_zone_text(
     // It can be emitted.
     ensures emittable { IfOk result IsEmittable }
     // What is refused, but for memory, gives no value.
-    ensures refused { IfErr result (λ e. UnlessMemory e (GivesNone (option_copied origin.entry) record_type text.now)) }
+    ensures refused { IfErr result (λ e. UnlessParseMemory e (GivesNone (option_copied origin.entry) record_type text.now)) }
     // The refusal tells the cause, and of which field it is.
     ensures why { IfErr result (λ e. (e ≡ ParseError.Memory) ⊎ ZoneFault (option_copied origin.entry) record_type text.now e) }
 {
@@ -112,7 +112,7 @@ fn from_row(
     ensures found { IfOk result (RowIs (option_copied origin.entry) record_type text.now) }
     ensures kind { IfOk result (λ v. type_of v ≡ record_type) }
     ensures emittable { IfOk result IsEmittable }
-    ensures refused { IfErr result (λ e. UnlessMemory e (RowIsNone (option_copied origin.entry) record_type text.now)) }
+    ensures refused { IfErr result (λ e. UnlessParseMemory e (RowIsNone (option_copied origin.entry) record_type text.now)) }
     ensures why { IfErr result (λ e. (e ≡ ParseError.Memory) ⊎ ByRowFault (option_copied origin.entry) record_type text.now e) }
 {
     let octets = row_data(alloc, record_type, text, origin)?;
@@ -144,7 +144,7 @@ fn from_unknown_data(
     ensures found { IfOk result (λ v. UnknownIs record_type v words.old) }
     ensures kind { IfOk result (λ v. type_of v ≡ record_type) }
     ensures emittable { IfOk result IsEmittable }
-    ensures refused { IfErr result (λ e. UnlessMemory e (UnknownIsNone record_type words.old)) }
+    ensures refused { IfErr result (λ e. UnlessParseMemory e (UnknownIsNone record_type words.old)) }
     ensures why { IfErr result (λ e. (e ≡ ParseError.Memory) ⊎ BehindMarkFault record_type words.old e) }
 {
     let octets = unknown_data(alloc, words)?;
@@ -160,7 +160,7 @@ fn read_octets(alloc: Global, record_type: RecordType, octets: &[u8]) -> Result<
     ensures found { IfOk result (AreDataOf octets.now record_type) }
     ensures kind { IfOk result (λ v. type_of v ≡ record_type) }
     ensures emittable { IfOk result IsEmittable }
-    ensures refused { IfErr result (λ e. UnlessMemory e (AreNoData octets.now record_type)) }
+    ensures refused { IfErr result (λ e. UnlessParseMemory e (AreNoData octets.now record_type)) }
     ensures why { IfErr result (λ e. (e ≡ ParseError.Memory) ⊎ OctetsFault octets.now record_type e) }
 {
     if octets.len() > 65535 {

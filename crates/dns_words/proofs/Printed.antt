@@ -14,7 +14,7 @@ use Rattle.dns_labels.specs.Text.{printed, label_text, joined_text, name_text}
 use Rattle.dns_labels.proofs.NameTexts.{name_reads}
 use Rattle.dns_text.specs.Ttl.Periods.{plain}
 use Rattle.dns_names_wire.specs.NameValues.{completed}
-use Rattle.dns_words.specs.Forms.{Form, Row, word, ignored, nothing, number, ttl, name, ipv4, ipv6}
+use Rattle.dns_words.specs.Forms.{Form, WordRow, word, ignored, nothing, number, ttl, name, ipv4, ipv6}
 use Rattle.dns_words.specs.Printed.{cut_from, cut, IsPrintedName}
 use Rattle.dns_words.specs.Straight.{straight_words, ArePrinted, field_texts, spaced_from, spaced}
 
@@ -71,7 +71,7 @@ cut_spaced first (next ∷ words) h all =
 -- ---- rows
 
 -- words without blanks that give the values
-pub record GiveBack {kinds : List Kind} (row : Row kinds) (vs : Values kinds) (words : List (List ℕ)) : Type 0 where
+pub record GiveBack {kinds : List Kind} (row : WordRow kinds) (vs : Values kinds) (words : List (List ℕ)) : Type 0 where
   pub stand : row.stand vs words
   pub solid : AllSolid words
 
@@ -86,12 +86,12 @@ pub record GivesBack {k : Kind} (form : Form k) (v : Value k) (spelled : List �
   pub is : form.is v spelled
   pub solid : IsSolid spelled
 
-pub back_word : {k : Kind} {kinds : List Kind} {form : Form k} {row : Row kinds} {v : Value k} {vs : Values kinds} {spelled : List ℕ} {words : List (List ℕ)} → GivesBack form v spelled → GiveBack row vs words → GiveBack (word form row) (v, vs) (spelled ∷ words)
+pub back_word : {k : Kind} {kinds : List Kind} {form : Form k} {row : WordRow kinds} {v : Value k} {vs : Values kinds} {spelled : List ℕ} {words : List (List ℕ)} → GivesBack form v spelled → GiveBack row vs words → GiveBack (word form row) (v, vs) (spelled ∷ words)
 unfolding word
 back_word h g = record { stand = (h.is, g.stand); solid = (h.solid, g.solid) }
 
 -- a text of words, one blank between two, gives the values when it is cut
-pub row_back : {kinds : List Kind} (row : Row kinds) (vs : Values kinds) (first : List ℕ) (words : List (List ℕ)) (text : List ℕ) → text ≡ spaced_from first words → GiveBack row vs (first ∷ words) → row.stand vs (cut text)
+pub row_back : {kinds : List Kind} (row : WordRow kinds) (vs : Values kinds) (first : List ℕ) (words : List (List ℕ)) (text : List ℕ) → text ≡ spaced_from first words → GiveBack row vs (first ∷ words) → row.stand vs (cut text)
 row_back row vs first words text e g = subst (λ (l : List (List ℕ)). row.stand vs l) (sym (ap cut e ∙ cut_spaced first words g.solid.0 g.solid.1)) g.stand
 
 -- ---- numbers

@@ -5,31 +5,31 @@ use Rattle.std.specs.{List.flat_map, Iterator.Yields, Iterator.Drains, Result.Is
 use Rattle.dns_types.specs.declared.error.ParseError.{ParseError}
 use Rattle.dns_types.specs.declared.error.ParseError.TheVariants as parse
 use Rattle.dns_fields.specs.Fields.{Kind, Value, Values}
-use Rattle.dns_words.specs.{Taking.HoldsBehind, Taking.HoldsOfWords, Forms.Form, Forms.Row, Forms.word, Forms.ignored, Forms.nothing}
-use Rattle.dns_words.specs.{Forms.every_text, Reads.UnlessMemory, Reads.NoWord, Reads.AreTexts, Reads.AreJoined, Reads.ReadsText, Reads.FirstIs}
+use Rattle.dns_words.specs.{Taking.HoldsBehind, Taking.HoldsOfWords, Forms.Form, Forms.WordRow, Forms.word, Forms.ignored, Forms.nothing}
+use Rattle.dns_words.specs.{Forms.every_text, Reads.UnlessParseMemory, Reads.NoWord, Reads.AreTexts, Reads.AreJoined, Reads.ReadsText, Reads.FirstIs}
 use Rattle.dns_words.specs.{Reads.TookWord, Reads.RefusedWord, Reads.ReadsWord, Reads.TookWords, Reads.RefusedWords, Reads.ReadsRow}
 
-pub unless_map : (e : ParseError) (P Q : Type 0) → (P → Q) → UnlessMemory e P → UnlessMemory e Q
+pub unless_map : (e : ParseError) (P Q : Type 0) → (P → Q) → UnlessParseMemory e P → UnlessParseMemory e Q
 unless_map parse.Memory P Q f h = tt
 unless_map e P Q f h = f h
 
-pub unless_all : (e : ParseError) {P : Type 0} → P → UnlessMemory e P
+pub unless_all : (e : ParseError) {P : Type 0} → P → UnlessParseMemory e P
 unless_all parse.Memory h = tt
 unless_all e h = h
 
 no_words : (words : List (List ℕ)) (first : List ℕ) → first ∷ words ≡ [] → ⊥
 no_words words first e = absurd cc
 
-first_of : {k : Kind} {kinds : List Kind} (form : Form k) (row : Row kinds) (vs : Values (k ∷ kinds)) (words : List (List ℕ)) → (word form row).stand vs words → FirstIs form vs.0 words
+first_of : {k : Kind} {kinds : List Kind} (form : Form k) (row : WordRow kinds) (vs : Values (k ∷ kinds)) (words : List (List ℕ)) → (word form row).stand vs words → FirstIs form vs.0 words
 unfolding word
 first_of form row vs [] stand = stand
 first_of form row vs (first ∷ words) stand = stand.0
 
-then_stands : {k : Kind} {kinds : List Kind} (form : Form k) (row : Row kinds) {v : Value k} {vs : Values kinds} {first : List ℕ} {words : List (List ℕ)} → form.is v first → row.stand vs words → (word form row).stand (v, vs) (first ∷ words)
+then_stands : {k : Kind} {kinds : List Kind} (form : Form k) (row : WordRow kinds) {v : Value k} {vs : Values kinds} {first : List ℕ} {words : List (List ℕ)} → form.is v first → row.stand vs words → (word form row).stand (v, vs) (first ∷ words)
 unfolding word
 then_stands form row h k = (h, k)
 
-rest_of : {k : Kind} {kinds : List Kind} (form : Form k) (row : Row kinds) (vs : Values (k ∷ kinds)) (first : List ℕ) (words : List (List ℕ)) → (word form row).stand vs (first ∷ words) → row.stand vs.1 words
+rest_of : {k : Kind} {kinds : List Kind} (form : Form k) (row : WordRow kinds) (vs : Values (k ∷ kinds)) (first : List ℕ) (words : List (List ℕ)) → (word form row).stand vs (first ∷ words) → row.stand vs.1 words
 unfolding word
 rest_of form row vs first words stand = stand.1
 
@@ -59,7 +59,7 @@ module _ {S I : Type 0} {gives : I → Option S → I → Type 0} {text : S → 
   pub missing : {e : ParseError} {k : Kind} {form : Form k} {s : I} (t : I) → gives s None t → RefusedWord gives text e form s
   missing {e} {k} {form} t g = record { none = unless_all e (holds_end (λ words. (v : Value k) → FirstIs form v words → ⊥) t g (λ v is. is)) }
 
-  pub word_refused : {e : ParseError} {k : Kind} {form : Form k} {s : I} (x : S) (t : I) → gives s (Some x) t → UnlessMemory e (NoWord form (text x)) → RefusedWord gives text e form s
+  pub word_refused : {e : ParseError} {k : Kind} {form : Form k} {s : I} (x : S) (t : I) → gives s (Some x) t → UnlessParseMemory e (NoWord form (text x)) → RefusedWord gives text e form s
   word_refused {e} {k} {form} x t g h = record {
     none = unless_map e _ _ (λ no. holds_word (λ words. (v : Value k) → FirstIs form v words → ⊥) x t g (holds_all (λ words. (v : Value k) → FirstIs form v (text x ∷ words) → ⊥) (λ words v is. no.none v is))) h;
   }
@@ -72,21 +72,21 @@ module _ {S I : Type 0} {gives : I → Option S → I → Type 0} {text : S → 
   pub took_nothing : {s : I} (t : I) → gives s None t → TookWords gives text nothing tt s
   took_nothing t g = record { words = holds_end (λ words. nothing.stand tt words) t g refl }
 
-  pub took_then : {s t : I} {k : Kind} {kinds : List Kind} {form : Form k} {row : Row kinds} {v : Value k} {vs : Values kinds} → TookWord gives text form v s t → TookWords gives text row vs t → TookWords gives text (word form row) (v, vs) s
+  pub took_then : {s t : I} {k : Kind} {kinds : List Kind} {form : Form k} {row : WordRow kinds} {v : Value k} {vs : Values kinds} → TookWord gives text form v s t → TookWords gives text row vs t → TookWords gives text (word form row) (v, vs) s
   took_then {t = t} {k = k} {kinds = kinds} {form = form} {row = row} {v = v} {vs = vs} f g = record {
     words = holds_word (λ words. (word form row).stand (v, vs) words) f.word t f.gave (holds_map (λ words. (word form row).stand (v, vs) (text f.word ∷ words)) (λ words stand. then_stands form row f.is stand) g.words);
   }
 
   -- a word whose number is what the field's parts give
-  pub took_as : {s t : I} {k : Kind} {kinds : List Kind} {form : Form k} {row : Row kinds} {v w : Value k} {vs : Values kinds} → w ≡ v → TookWord gives text form v s t → TookWords gives text row vs t → TookWords gives text (word form row) (w, vs) s
+  pub took_as : {s t : I} {k : Kind} {kinds : List Kind} {form : Form k} {row : WordRow kinds} {v w : Value k} {vs : Values kinds} → w ≡ v → TookWord gives text form v s t → TookWords gives text row vs t → TookWords gives text (word form row) (w, vs) s
   took_as e f g = rw e (took_then f g)
 
-  pub refused_first : {e : ParseError} {s : I} {k : Kind} {kinds : List Kind} {form : Form k} (row : Row kinds) → RefusedWord gives text e form s → RefusedWords gives text e (word form row) s
+  pub refused_first : {e : ParseError} {s : I} {k : Kind} {kinds : List Kind} {form : Form k} (row : WordRow kinds) → RefusedWord gives text e form s → RefusedWords gives text e (word form row) s
   refused_first {e} {s} {k} {kinds} {form} row r = record {
     none = unless_map e _ _ (λ none. holds_map (λ words. (vs : Values (k ∷ kinds)) → (word form row).stand vs words → ⊥) (λ words no vs stand. no vs.0 (first_of form row vs words stand)) none) r.none;
   }
 
-  pub refused_then : {e : ParseError} {s t : I} {k : Kind} {kinds : List Kind} {form : Form k} {row : Row kinds} {v : Value k} → TookWord gives text form v s t → RefusedWords gives text e row t → RefusedWords gives text e (word form row) s
+  pub refused_then : {e : ParseError} {s t : I} {k : Kind} {kinds : List Kind} {form : Form k} {row : WordRow kinds} {v : Value k} → TookWord gives text form v s t → RefusedWords gives text e row t → RefusedWords gives text e (word form row) s
   refused_then {e} {s} {t} {k} {kinds} {form} {row} {v} f r = record {
     none = unless_map e _ _ (λ none. holds_word (λ words. (vs : Values (k ∷ kinds)) → (word form row).stand vs words → ⊥) f.word t f.gave (holds_map (λ words. (vs : Values (k ∷ kinds)) → (word form row).stand vs (text f.word ∷ words) → ⊥) (λ words no vs stand. no vs.1 (rest_of form row vs (text f.word) words stand)) none)) r.none;
   }
@@ -114,13 +114,13 @@ module _ {S I : Type 0} (gives : I → Option S → I → Type 0) (text : S → 
   -- what a word gives is what the first word gives
   pub word_read : {T : Type 0} {k : Kind} (form : Form k) (view : T → Value k) {s t : I} (r : Result T ParseError) (x : S) (spelled : List ℕ) → gives s (Some x) t → spelled ≡ text x → ReadsText form view r spelled → ReadsWord gives text form view r s t
   word_read form view (Ok y) x spelled g e h = record { word = x; gave = g; is = subst (λ (w : List ℕ). form.is (view y) w) e h }
-  word_read form view {t = t} (Err y) x spelled g e h = word_refused {gives = gives} {text = text} x t g (subst (λ (w : List ℕ). UnlessMemory y (NoWord form w)) e h)
+  word_read form view {t = t} (Err y) x spelled g e h = word_refused {gives = gives} {text = text} x t g (subst (λ (w : List ℕ). UnlessParseMemory y (NoWord form w)) e h)
 
   pub exit_word : {T : Type 0} {k : Kind} (form : Form k) (view : T → Value k) (s t : I) (r : Result T ParseError) (e : ParseError) → IsErrAnd r (λ y. y ≡ e) → RefusedWord gives text e form s → ReadsWord gives text form view r s t
   exit_word form view s t (Ok x) e h f = elim h [ ]
   exit_word form view s t (Err y) e h f = subst (λ (z : ParseError). RefusedWord gives text z form s) (sym h) f
 
-  pub exit_row : {T : Type 0} {kinds : List Kind} (row : Row kinds) (view : T → Values kinds) (s : I) (r : Result T ParseError) (e : ParseError) → IsErrAnd r (λ y. y ≡ e) → RefusedWords gives text e row s → ReadsRow gives text row view r s
+  pub exit_row : {T : Type 0} {kinds : List Kind} (row : WordRow kinds) (view : T → Values kinds) (s : I) (r : Result T ParseError) (e : ParseError) → IsErrAnd r (λ y. y ≡ e) → RefusedWords gives text e row s → ReadsRow gives text row view r s
   exit_row row view s (Ok x) e h f = elim h [ ]
   exit_row row view s (Err y) e h f = subst (λ (z : ParseError). RefusedWords gives text z row s) (sym h) f
 

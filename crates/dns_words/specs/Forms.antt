@@ -14,30 +14,30 @@ pub record Form (k : Kind) : Type 1 where
   pub is : Value k → List ℕ → Type 0
 
 -- which values of the fields a list of words has
-pub record Row (kinds : List Kind) : Type 1 where
+pub record WordRow (kinds : List Kind) : Type 1 where
   pub stand : Values kinds → List (List ℕ) → Type 0
 
 -- ---- rows
 
 -- the first word has the form, and those behind it the row; no word has it
-abbrev pub StandInOrder : {k : Kind} {kinds : List Kind} → Form k → Row kinds → Values (k ∷ kinds) → List (List ℕ) → Type 0
+abbrev pub StandInOrder : {k : Kind} {kinds : List Kind} → Form k → WordRow kinds → Values (k ∷ kinds) → List (List ℕ) → Type 0
 StandInOrder form row vs [] = ⊥
 StandInOrder form row vs (first ∷ words) = form.is vs.0 first × row.stand vs.1 words
 
 -- a word of the form, and behind it words of the row
-unfoldable pub word : {k : Kind} {kinds : List Kind} → Form k → Row kinds → Row (k ∷ kinds)
+unfoldable pub word : {k : Kind} {kinds : List Kind} → Form k → WordRow kinds → WordRow (k ∷ kinds)
 word form row = record { stand = StandInOrder form row }
 
 -- whatever stands there is not read
-abbrev pub ignored : Row []
+abbrev pub ignored : WordRow []
 ignored = record { stand = λ vs words. Unit {0} }
 
 -- nothing may stand there
-abbrev pub nothing : Row []
+abbrev pub nothing : WordRow []
 nothing = record { stand = λ vs words. words ≡ [] }
 
 -- every further word is a string, its octets as they are
-abbrev pub every_text : Row (Texts ∷ [])
+abbrev pub every_text : WordRow (Texts ∷ [])
 every_text = record { stand = λ vs words. vs.0 ≡ words }
 
 -- ---- forms of words

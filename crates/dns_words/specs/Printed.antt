@@ -2,7 +2,7 @@
 use Rattle.std.specs.Prelude.{◌≡◌, ℕ, ◌==◌, if◌then◌else◌, true, List, [], ◌∷◌, ◌++◌}
 use Rattle.dns_fields.specs.{Labels.DomainName, Labels.IsName, Fields.Kind, Fields.Values}
 use Rattle.dns_labels.specs.Text.{HasOctets}
-use Rattle.dns_words.specs.Forms.{Row}
+use Rattle.dns_words.specs.Forms.{WordRow}
 
 -- the words of a text behind the front of a word
 abbrev pub cut_from : List ℕ → List ℕ → List (List ℕ)
@@ -20,5 +20,5 @@ pub record IsPrintedName (x : DomainName) : Type 0 where
   pub qualified : x.fully_qualified ≡ true
 
 -- the text of values that the premise holds of, cut at its blanks, gives them back
-pub record ReadsBack {T : Type 0} {kinds : List Kind} (row : Row kinds) (fields : T → Values kinds) (text : T → List ℕ) (Printable : T → Type 0) : Type 0 where
+pub record TextReadsBack {T : Type 0} {kinds : List Kind} (row : WordRow kinds) (fields : T → Values kinds) (text : T → List ℕ) (Printable : T → Type 0) : Type 0 where
   pub back : (x : T) → Printable x → row.stand (fields x) (cut (text x))

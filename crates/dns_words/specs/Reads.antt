@@ -4,21 +4,21 @@ use Rattle.std.specs.{Iterator.Count, Iterator.IsFinite, Iterator.Drains, List.f
 use Rattle.dns_types.specs.declared.error.ParseError.{ParseError}
 use Rattle.dns_types.specs.declared.error.ParseError.TheVariants as parse
 use Rattle.dns_fields.specs.Fields.{Kind, Value, Values}
-use Rattle.dns_words.specs.{Taking.HoldsOfWords, Forms.Form, Forms.Row}
+use Rattle.dns_words.specs.{Taking.HoldsOfWords, Forms.Form, Forms.WordRow}
 
 -- want of memory says nothing
-abbrev pub UnlessMemory : ParseError → Type 0 → Type 0
-UnlessMemory parse.Memory P = Unit {0}
-UnlessMemory e P = P
+abbrev pub UnlessParseMemory : ParseError → Type 0 → Type 0
+UnlessParseMemory parse.Memory P = Unit {0}
+UnlessParseMemory e P = P
 
 -- P holds of no value
-pub record NoValue {V : Type 0} (P : V → Type 0) : Type 0 where
+pub record HoldsOfNone {V : Type 0} (P : V → Type 0) : Type 0 where
   pub none : (v : V) → P v → ⊥
 
 -- finds a value that P holds of exactly where there is one
 abbrev pub Decides : {T V : Type 0} → (V → Type 0) → (T → V) → Result T ParseError → Type 0
 Decides P view (Ok x) = P (view x)
-Decides P view (Err e) = UnlessMemory e (NoValue P)
+Decides P view (Err e) = UnlessParseMemory e (HoldsOfNone P)
 
 -- no value has this word
 pub record NoWord {k : Kind} (form : Form k) (word : List ℕ) : Type 0 where
@@ -27,7 +27,7 @@ pub record NoWord {k : Kind} (form : Form k) (word : List ℕ) : Type 0 where
 -- reads a word exactly where it has the form
 abbrev pub ReadsText : {T : Type 0} {k : Kind} → Form k → (T → Value k) → Result T ParseError → List ℕ → Type 0
 ReadsText form view (Ok x) word = form.is (view x) word
-ReadsText form view (Err e) word = UnlessMemory e (NoWord form word)
+ReadsText form view (Err e) word = UnlessParseMemory e (NoWord form word)
 
 -- the first word has this form
 abbrev pub FirstIs : {k : Kind} → Form k → Value k → List (List ℕ) → Type 0
@@ -42,7 +42,7 @@ module _ {S I : Type 0} (gives : I → Option S → I → Type 0) (text : S → 
     pub is : form.is v (text word)
 
   pub record RefusedWord (e : ParseError) {k : Kind} (form : Form k) (s : I) : Type 0 where
-    pub none : UnlessMemory e (HoldsOfWords gives text s (λ words. (v : Value k) → FirstIs form v words → ⊥))
+    pub none : UnlessParseMemory e (HoldsOfWords gives text s (λ words. (v : Value k) → FirstIs form v words → ⊥))
 
   -- takes one word exactly where it has the form
   abbrev pub ReadsWord : {T : Type 0} {k : Kind} → Form k → (T → Value k) → Result T ParseError → I → I → Type 0
@@ -50,15 +50,15 @@ module _ {S I : Type 0} (gives : I → Option S → I → Type 0) (text : S → 
   ReadsWord form view (Err e) s t = RefusedWord e form s
 
   -- the words that come from s give the values
-  pub record TookWords {kinds : List Kind} (row : Row kinds) (vs : Values kinds) (s : I) : Type 0 where
+  pub record TookWords {kinds : List Kind} (row : WordRow kinds) (vs : Values kinds) (s : I) : Type 0 where
     pub words : HoldsOfWords gives text s (λ words. row.stand vs words)
 
   -- they give none
-  pub record RefusedWords (e : ParseError) {kinds : List Kind} (row : Row kinds) (s : I) : Type 0 where
-    pub none : UnlessMemory e (HoldsOfWords gives text s (λ words. (vs : Values kinds) → row.stand vs words → ⊥))
+  pub record RefusedWords (e : ParseError) {kinds : List Kind} (row : WordRow kinds) (s : I) : Type 0 where
+    pub none : UnlessParseMemory e (HoldsOfWords gives text s (λ words. (vs : Values kinds) → row.stand vs words → ⊥))
 
   -- reads a value exactly where the words of the row give its fields
-  abbrev pub ReadsRow : {T : Type 0} {kinds : List Kind} → Row kinds → (T → Values kinds) → Result T ParseError → I → Type 0
+  abbrev pub ReadsRow : {T : Type 0} {kinds : List Kind} → WordRow kinds → (T → Values kinds) → Result T ParseError → I → Type 0
   ReadsRow row view (Ok x) s = TookWords row (view x) s
   ReadsRow row view (Err e) s = RefusedWords e row s
 

@@ -3,10 +3,10 @@ use Rattle.std.specs.Prelude.{ℕ, ◌<◌, ◌^◌, ◌*◌, min, List, [], ◌
 use Rattle.dns_fields.specs.{Labels.DomainName, Fields.Kind, Fields.Number, Fields.Name, Fields.Values}
 use Rattle.dns_labels.specs.Text.{name_text}
 use Rattle.dns_names_wire.specs.Facts.{Facts}
-use Rattle.dns_words.specs.{Forms.Row, Forms.word, Forms.ignored, Forms.number, Forms.name, Printed.IsPrintedName}
+use Rattle.dns_words.specs.{Forms.WordRow, Forms.word, Forms.ignored, Forms.number, Forms.name, Printed.IsPrintedName}
 
 -- a word for each field; no words give fields of another kind
-abbrev pub straight_words : Option DomainName → (kinds : List Kind) → Row kinds
+abbrev pub straight_words : Option DomainName → (kinds : List Kind) → WordRow kinds
 straight_words origin [] = ignored
 straight_words origin (Number w ∷ kinds) = word (number w) (straight_words origin kinds)
 straight_words origin (Name ∷ kinds) = word (name origin) (straight_words origin kinds)

@@ -3,7 +3,7 @@
 ghost use Rattle.std.specs.Prelude.{List, [], ◌∷◌, Option};
 ghost use Rattle.std.specs.Option.{option_copied};
 ghost use Rattle.dns_fields.specs.{Fields.Kind, Fields.Name as NameKind, Fields.Values, Labels.DomainName};
-ghost use Rattle.dns_words.specs.{Forms.Row, Forms.name, Forms.word, Forms.ignored, Reads.ReadsRow};
+ghost use Rattle.dns_words.specs.{Forms.WordRow, Forms.name, Forms.word, Forms.ignored, Reads.ReadsRow};
 
 use crate::reading::next_name;
 use dns_names_wire::{Name, ParseError};
@@ -16,7 +16,7 @@ pub trait FromTokens: Sized {
     ghost kinds: { List Kind };
 
     /// Which fields a list of words gives, where the origin completes names.
-    ghost row: { Option DomainName → Row kinds };
+    ghost row: { Option DomainName → WordRow kinds };
 
     /// Its fields.
     ghost fields: { Self → Values kinds };

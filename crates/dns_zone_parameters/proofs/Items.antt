@@ -7,7 +7,7 @@ use Rattle.dns_types.specs.declared.error.ParseError.{ParseError}
 use Rattle.dns_words.proofs.Steps.{unless_map}
 use Rattle.dns_zone_words.proofs.{RemainingSteps.one_of_both, WordSteps.two_passed}
 use Rattle.dns_zone_parameters.specs.{declared.lists.ListItem.ListItem, Lists.items_from, Lists.items_in, Lists.IsItem, Lists.IsList, Steps.ItemCut}
-use Rattle.dns_words.specs.Reads.{UnlessMemory, NoValue}
+use Rattle.dns_words.specs.Reads.{UnlessParseMemory, HoldsOfNone}
 
 -- some items of the text were passed, and these belong to them
 pub record ItemsSo {Y : Type 0} (R : List ℕ → Y → Type 0) (text rest : List ℕ) (ys : List Y) : Type 0 where
@@ -38,7 +38,7 @@ first_of text item (Some rest) h = (items_in rest, h)
 
 -- nothing belongs to an item
 pub no_item : {Y : Type 0} (R : List ℕ → Y → Type 0) (text rest item : List ℕ) (behind : Option (List ℕ)) (ys : List Y) → ItemsSo R text rest ys → ItemCut rest item behind
-    → NoValue (R item) → (zs : List Y) → AllZip R (items_in text) zs → ⊥
+    → HoldsOfNone (R item) → (zs : List Y) → AllZip R (items_in text) zs → ⊥
 no_item R text rest item behind ys so first none zs each =
     let k = first_of rest item behind first in
     let cut : items_in text ≡ so.done ++ item ∷ k.0 = so.cut ∙ ap (λ (l : List (List ℕ)). so.done ++ l) k.1 in
@@ -72,12 +72,12 @@ two_more text n so lt h e = two_passed (items_from false) text n so lt (pair (ta
 
 -- nothing belongs to one of the items
 pub none_of : {Y : Type 0} (R : List ℕ → Y → Type 0) (e : ParseError) (text rest item : List ℕ) (behind : Option (List ℕ)) (ys : List Y) → ItemsSo R text rest ys → ItemCut rest item behind
-    → UnlessMemory e (NoValue (R item)) → UnlessMemory e (NoValue (AllZip R (items_in text)))
-none_of R e text rest item behind ys so first none = unless_map e (NoValue (R item)) (NoValue (AllZip R (items_in text)))
+    → UnlessParseMemory e (HoldsOfNone (R item)) → UnlessParseMemory e (HoldsOfNone (AllZip R (items_in text)))
+none_of R e text rest item behind ys so first none = unless_map e (HoldsOfNone (R item)) (HoldsOfNone (AllZip R (items_in text)))
     (λ h. record { none = λ zs each. no_item R text rest item behind ys so first h zs each }) none
 
-pub no_list : (item : ListItem) (e : ParseError) (text : List ℕ) → UnlessMemory e (NoValue (AllZip (IsItem item) (items_in text))) → UnlessMemory e (NoValue (IsList item text))
-no_list item e text none = unless_map e (NoValue (AllZip (IsItem item) (items_in text))) (NoValue (IsList item text))
+pub no_list : (item : ListItem) (e : ParseError) (text : List ℕ) → UnlessParseMemory e (HoldsOfNone (AllZip (IsItem item) (items_in text))) → UnlessParseMemory e (HoldsOfNone (IsList item text))
+no_list item e text none = unless_map e (HoldsOfNone (AllZip (IsItem item) (items_in text))) (HoldsOfNone (IsList item text))
     (λ h. record { none = λ v is. h.none is.parts is.each }) none
 
 pub joined_more : (parts : List (List ℕ)) (part old new : List ℕ) → old ≡ flat_map (λ (x : List ℕ). x) parts → new ≡ old ++ part → new ≡ flat_map (λ (x : List ℕ). x) (parts ++ part ∷ [])

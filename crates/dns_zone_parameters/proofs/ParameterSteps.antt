@@ -4,7 +4,7 @@ use Rattle.std.specs.List.Sorted.{IsPermutation, IsNonDecreasingBy, IsStrictlyIn
 use Rattle.std.proofs.{lemmas.List.append-nil, lemmas.List.map-append, lemmas.List.Sorted.IsPermutation-map, lemmas.Simd.map-map}
 use Rattle.dns_fields.specs.Pieces.{pieces, Rising}
 use Rattle.dns_types.specs.declared.error.ParseError.{ParseError}
-use Rattle.dns_words.specs.Reads.{UnlessMemory, NoValue}
+use Rattle.dns_words.specs.Reads.{UnlessParseMemory, HoldsOfNone}
 use Rattle.dns_zone_words.specs.{Words.Word, Words.Cursor, Words.words_at, Words.with_word, declared.words_error.WordsError.WordsError, Refusals.Says}
 use Rattle.dns_zone_words.specs.Remaining.{with_words, NoneOfAll, TookAll, PutAll}
 use Rattle.dns_words.proofs.Steps.{unless_map}
@@ -36,9 +36,9 @@ took_parameter name value p old new took has = record {
 }
 
 -- what is written so is no parameter
-pub no_parameter : (e : ParseError) (name value : List ℕ) (old new : Cursor) → TookWritten name value old new → UnlessMemory e (NoValue (HasParameter name value))
-    → UnlessMemory e (NoneOfAll AreWritten old)
-no_parameter e name value old new took none = unless_map e (NoValue (HasParameter name value)) (NoneOfAll AreWritten old)
+pub no_parameter : (e : ParseError) (name value : List ℕ) (old new : Cursor) → TookWritten name value old new → UnlessParseMemory e (HoldsOfNone (HasParameter name value))
+    → UnlessParseMemory e (NoneOfAll AreWritten old)
+no_parameter e name value old new took none = unless_map e (HoldsOfNone (HasParameter name value)) (NoneOfAll AreWritten old)
     (λ h. record { none = λ ps words cut written. let b = took.only.only ps words cut written in h.none b.first b.has }) none
 
 -- ---- all of them
@@ -126,7 +126,7 @@ climbs_by (x ∷ []) h k lt = absurd (omega arith)
 climbs_by (x ∷ y ∷ xs) h zero lt = h 0 1 x (omega arith) (omega arith)
 climbs_by (x ∷ y ∷ xs) h (suc k) lt = climbs_by (y ∷ xs) (λ i j d le lt. h (suc i) (suc j) d (omega arith) (omega arith)) k (omega arith)
 
-pub not_written : (e : ParseError) (cursor : Cursor) → UnlessMemory e (NoneOfAll AreWritten cursor) → UnlessMemory e (NoneOfAll AreParameters cursor)
+pub not_written : (e : ParseError) (cursor : Cursor) → UnlessParseMemory e (NoneOfAll AreWritten cursor) → UnlessParseMemory e (NoneOfAll AreParameters cursor)
 not_written e cursor none = unless_map e (NoneOfAll AreWritten cursor) (NoneOfAll AreParameters cursor)
     (λ h. record { none = λ octets words cut is. h.none is.parameters words cut is.written }) none
 

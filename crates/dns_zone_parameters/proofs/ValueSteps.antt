@@ -8,7 +8,7 @@ use Rattle.std.specs.{List.AllByRecursion, List.AllZip, Ordering.nat_cmp}
 use Rattle.std.specs.List.Sorted.{IsPermutation, IsSorted, IsStrictlyIncreasing}
 use Rattle.dns_types.specs.declared.error.ParseError.{ParseError}
 use Rattle.dns_types.specs.declared.error.ParseError.TheVariants as parse
-use Rattle.dns_words.specs.{Forms.ipv4, Forms.ipv6, Reads.UnlessMemory, Reads.NoValue, Reads.Decides}
+use Rattle.dns_words.specs.{Forms.ipv4, Forms.ipv6, Reads.UnlessParseMemory, Reads.HoldsOfNone, Reads.Decides}
 use Rattle.dns_zone_words.specs.{Forms.bare, Forms.text, Letters.letters, Letters.octet_of, Letters.escapes_stand, ZoneReads.NoValueOf, Refusals.Says}
 use Rattle.dns_zone_words.proofs.LetterSteps.{plain_letters}
 use Rattle.dns_words.proofs.Steps.{unless_map}
@@ -20,19 +20,19 @@ use Rattle.dns_zone_parameters.proofs.{Once.keys_once, Once.octets_once, Rises.c
 
 -- ---- items
 
-pub no_ipv4 : (e : ParseError) (item : ListItem) (s : List ℕ) → item ≡ Ipv4 → UnlessMemory e (NoValueOf (bare ipv4) (record { octets = s; quoted = false; joined = false }))
-    → UnlessMemory e (NoValue (IsItem item s))
-no_ipv4 e item s is none = rw is (unless_map e _ (NoValue (IsItem Ipv4 s)) (λ h. record { none = λ v has. h.none v (refl, has) }) none)
+pub no_ipv4 : (e : ParseError) (item : ListItem) (s : List ℕ) → item ≡ Ipv4 → UnlessParseMemory e (NoValueOf (bare ipv4) (record { octets = s; quoted = false; joined = false }))
+    → UnlessParseMemory e (HoldsOfNone (IsItem item s))
+no_ipv4 e item s is none = rw is (unless_map e _ (HoldsOfNone (IsItem Ipv4 s)) (λ h. record { none = λ v has. h.none v (refl, has) }) none)
 
-pub no_ipv6 : (e : ParseError) (item : ListItem) (s : List ℕ) → item ≡ Ipv6 → UnlessMemory e (NoValueOf (bare ipv6) (record { octets = s; quoted = false; joined = false }))
-    → UnlessMemory e (NoValue (IsItem item s))
-no_ipv6 e item s is none = rw is (unless_map e _ (NoValue (IsItem Ipv6 s)) (λ h. record { none = λ v has. h.none v (refl, has) }) none)
+pub no_ipv6 : (e : ParseError) (item : ListItem) (s : List ℕ) → item ≡ Ipv6 → UnlessParseMemory e (NoValueOf (bare ipv6) (record { octets = s; quoted = false; joined = false }))
+    → UnlessParseMemory e (HoldsOfNone (IsItem item s))
+no_ipv6 e item s is none = rw is (unless_map e _ (HoldsOfNone (IsItem Ipv6 s)) (λ h. record { none = λ v has. h.none v (refl, has) }) none)
 
 -- ---- lists of keys
 
 -- keys that do not rise in order are no list of keys
 pub no_rise : (s keys order : List ℕ) → AllZip IsListedKey (items_in s) keys → IsPermutation keys order → IsSorted nat_cmp order → (IsStrictlyIncreasing order → ⊥)
-    → NoValue (IsKeyList s)
+    → HoldsOfNone (IsKeyList s)
 no_rise s keys order each same climbs isnt = record {
   none = λ v is.
       let ks : is.keys ≡ keys = keys_once s is.keys keys is.each each in
@@ -62,7 +62,7 @@ plain_meant s h =
 
 decides_as : {T V : Type 0} (P Q : V → Type 0) (view : T → V) (r : Result T ParseError) → ((v : V) → P v → Q v) → ((v : V) → Q v → P v) → Decides P view r → Decides Q view r
 decides_as P Q view (Ok x) f g h = f (view x) h
-decides_as P Q view (Err e) f g h = unless_map e (NoValue P) (NoValue Q) (λ n. record { none = λ v q. n.none v (g v q) }) h
+decides_as P Q view (Err e) f g h = unless_map e (HoldsOfNone P) (HoldsOfNone Q) (λ n. record { none = λ v q. n.none v (g v q) }) h
 
 -- what its octets give by the key is what it gives
 pub meant_plain : {T : Type 0} (key : ParameterKey) (s : List ℕ) (view : T → List ℕ) (r : Result T ParseError) → ((k : ℕ) → k < length s → get_or s k 0 ≢ 92)
@@ -74,7 +74,7 @@ meant_plain key s view r h reads =
     (λ v has. subst (λ (x : List ℕ). HasOctets key x v) own.1 has.has) reads
 
 -- a refusal of the key's form tells that there is no value of it
-says_why : (key : ParameterKey) (P : Type 0) (e : ParseError) → (e ≡ parse.Memory) ⊎ Says (wrong_value key) e → UnlessMemory e P → (e ≡ parse.Memory) ⊎ (Says (wrong_value key) e × P)
+says_why : (key : ParameterKey) (P : Type 0) (e : ParseError) → (e ≡ parse.Memory) ⊎ Says (wrong_value key) e → UnlessParseMemory e P → (e ≡ parse.Memory) ⊎ (Says (wrong_value key) e × P)
 says_why key P e (inl memory) none = inl memory
 says_why key P (parse.Message said) (inr says) none = inr (says, none)
 says_why key P e (inr says) none = absurd says
@@ -83,11 +83,11 @@ pub meant_fault : {T : Type 0} (key : ParameterKey) (text s : List ℕ) (view : 
     → s ≡ map octet_of (letters text) → Decides (HasOctets key s) view r → IfErr r (λ e. (e ≡ parse.Memory) ⊎ Says (wrong_value key) e)
     → IfErr r (λ e. (e ≡ parse.Memory) ⊎ ValueFault key text e)
 meant_fault key text s view (Ok x) plain escapes same reads why = tt
-meant_fault key text s view (Err e) plain escapes same reads why = either (says_why key (NoValue (HasOctets key s)) e why reads)
+meant_fault key text s view (Err e) plain escapes same reads why = either (says_why key (HoldsOfNone (HasOctets key s)) e why reads)
   where
-    either : (e ≡ parse.Memory) ⊎ (Says (wrong_value key) e × NoValue (HasOctets key s)) → (e ≡ parse.Memory) ⊎ ValueFault key text e
+    either : (e ≡ parse.Memory) ⊎ (Says (wrong_value key) e × HoldsOfNone (HasOctets key s)) → (e ≡ parse.Memory) ⊎ ValueFault key text e
     either (inl memory) = inl memory
-    either (inr fault) = inr (inr (inr (inl (fault.0, plain, escapes, subst (λ (x : List ℕ). NoValue (HasOctets key x)) same fault.1))))
+    either (inr fault) = inr (inr (inr (inl (fault.0, plain, escapes, subst (λ (x : List ℕ). HoldsOfNone (HasOctets key x)) same fault.1))))
 
 pub plain_fault : {T : Type 0} (key : ParameterKey) (s : List ℕ) (view : T → List ℕ) (r : Result T ParseError) → ((k : ℕ) → k < length s → get_or s k 0 ≢ 92)
     → Decides (HasOctets key s) view r → IfErr r (λ e. (e ≡ parse.Memory) ⊎ Says (wrong_value key) e) → IfErr r (λ e. (e ≡ parse.Memory) ⊎ ValueFault key s e)
@@ -96,7 +96,7 @@ plain_fault key s view r h reads why =
 
 -- ---- their length
 
-pub too_long : (key : ParameterKey) (text v : List ℕ) → HasMeant key text v → 65535 < length v → NoValue (IsValue key text)
+pub too_long : (key : ParameterKey) (text v : List ℕ) → HasMeant key text v → 65535 < length v → HoldsOfNone (IsValue key text)
 too_long key text v has long = record {
   none = λ w other.
       let same : v ≡ w = octets_once key (map octet_of (letters text)) v w has.has other.has in

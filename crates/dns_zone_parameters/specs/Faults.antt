@@ -2,7 +2,7 @@
 use Rattle.std.specs.Prelude.{◌≡◌, ◌⊎◌, ℕ, ◌<◌, true, false, List, length, map, Result, Ok, Err, IsPermutation, codes}
 use Rattle.dns_fields.specs.Pieces.{Rising}
 use Rattle.dns_types.specs.declared.error.ParseError.{ParseError}
-use Rattle.dns_words.specs.Reads.{NoValue}
+use Rattle.dns_words.specs.Reads.{HoldsOfNone}
 use Rattle.dns_zone_words.specs.{Letters.letters, Letters.octet_of, Letters.escapes_stand, Refusals.Says, Refusals.cut_text, Remaining.with_words}
 use Rattle.dns_zone_words.specs.{Words.Word, Words.Cursor, Words.words_at, Words.with_word, declared.words_error.WordsError.WordsError}
 use Rattle.dns_zone_parameters.specs.{Keys.IsKeyName, Values.HasOctets, Values.IsPlain, declared.key.ParameterKey.ParameterKey}
@@ -38,13 +38,13 @@ abbrev pub ValueFault : ParameterKey → List ℕ → ParseError → Type 0
 ValueFault key text e =
     (Says (wrong_value key) e × (IsPlain key text → ⊥))
     ⊎ (Says (codes "`\\` without a meaning in a service parameter") e × IsPlain key text × (escapes_stand text ≡ false))
-    ⊎ (Says (wrong_value key) e × IsPlain key text × (escapes_stand text ≡ true) × NoValue (HasOctets key (meant text)))
+    ⊎ (Says (wrong_value key) e × IsPlain key text × (escapes_stand text ≡ true) × HoldsOfNone (HasOctets key (meant text)))
     ⊎ (Says (codes "service parameter of more than 65535 octets") e × IsPlain key text × (escapes_stand text ≡ true) × IsLong key text)
 
 -- A name and a value are no parameter: the name is of no key, or the value is none of it.
 abbrev pub ParameterFault : List ℕ → List ℕ → ParseError → Type 0
 ParameterFault name value e =
-    (Says (codes "no key of a service parameter") e × NoValue (λ key. IsKeyName key name))
+    (Says (codes "no key of a service parameter") e × HoldsOfNone (λ key. IsKeyName key name))
     ⊎ ((key : ParameterKey) × IsKeyName key name × ValueFault key value e)
 
 -- words, or why a text has none

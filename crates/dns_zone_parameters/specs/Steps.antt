@@ -3,7 +3,7 @@ use Rattle.std.specs.Prelude.{◌≡◌, ℕ, ◌+◌, ◌<◌, take, drop, map,
 use Rattle.std.specs.Prelude.{slice_index}
 use Rattle.std.specs.Str.Parse.{IsNumeral, digits_value}
 use Rattle.dns_types.specs.declared.error.ParseError.{ParseError}
-use Rattle.dns_words.specs.Reads.{UnlessMemory, NoValue}
+use Rattle.dns_words.specs.Reads.{UnlessParseMemory, HoldsOfNone}
 use Rattle.dns_zone_words.specs.{Remaining.with_words, Remaining.NoneOfAll, declared.words_error.WordsError.WordsError, Words.Word, Words.Cursor}
 use Rattle.dns_zone_words.specs.{Words.words_at, Words.with_word, Letters.letters, Letters.octet_of, Letters.escapes_stand}
 use Rattle.dns_zone_parameters.specs.{Views.parameter_value, declared.parameter.Parameter.Parameter as CodeParameter, Lists.items_in, Lists.IsItem}
@@ -38,7 +38,7 @@ pub record ItemPushed (item : ListItem) (text old new : List ℕ) : Type 0 where
 -- appends the octets of an item exactly where it has some
 abbrev pub PushesItem : {T : Type 0} → ListItem → List ℕ → Result T ParseError → List ℕ → List ℕ → Type 0
 PushesItem item text (Ok x) old new = ItemPushed item text old new
-PushesItem item text (Err e) old new = UnlessMemory e (NoValue (IsItem item text))
+PushesItem item text (Err e) old new = UnlessParseMemory e (HoldsOfNone (IsItem item text))
 
 -- the text is not cut into words
 pub record IsUncut (cursor : Cursor) : Type 0 where
@@ -88,7 +88,7 @@ pub record TookParameter (p : Parameter) (old new : Cursor) : Type 0 where
 abbrev pub ReadsNext : Result (Option CodeParameter) ParseError → Cursor → Cursor → Type 0
 ReadsNext (Ok (Some p)) old new = TookParameter (parameter_value p) old new
 ReadsNext (Ok None) old new = words_at old ≡ Ok []
-ReadsNext (Err e) old new = UnlessMemory e (NoneOfAll AreWritten old)
+ReadsNext (Err e) old new = UnlessParseMemory e (NoneOfAll AreWritten old)
 
 -- the words that are left are these parameters, and no others but of the same keys
 pub record TookParameters (ps : List Parameter) (cursor : Cursor) : Type 0 where
@@ -100,7 +100,7 @@ pub record TookParameters (ps : List Parameter) (cursor : Cursor) : Type 0 where
 -- reads parameters exactly where the words that are left are some
 abbrev pub ReadsParameters : {T : Type 0} → (T → List CodeParameter) → Result T ParseError → Cursor → Type 0
 ReadsParameters view (Ok x) cursor = TookParameters (map parameter_value (view x)) cursor
-ReadsParameters view (Err e) cursor = UnlessMemory e (NoneOfAll AreWritten cursor)
+ReadsParameters view (Err e) cursor = UnlessParseMemory e (NoneOfAll AreWritten cursor)
 
 -- what the letters of the text are has these octets on the wire, of any length
 pub record HasMeant (key : ParameterKey) (text octets : List ℕ) : Type 0 where

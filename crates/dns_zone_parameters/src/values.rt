@@ -31,7 +31,7 @@ pub fn value_of(alloc: Global, key: ParameterKey, text: &[u8]) -> Result<Octets,
     Ok(octets)
 }
 
-// The same of any length.
+// The octets that a value in words stands for, however many.
 fn meant_octets(alloc: Global, key: ParameterKey, text: &[u8]) -> Result<Octets, ParseError>
     ensures reads { Decides (HasMeant key text.now) (λ x. x) result }
     ensures why { IfErr result (λ e. (e ≡ ParseError.Memory) ⊎ ValueFault key text.now e) }

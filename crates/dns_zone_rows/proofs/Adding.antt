@@ -3,7 +3,7 @@ use Rattle.std.proofs.Common.{◌≡◌, ℕ, List, [], ◌∷◌, Result, Ok, E
 use Rattle.std.specs.Result.{IsErrAnd}
 use Rattle.dns_fields.specs.Fields.{Kind, Value}
 use Rattle.dns_types.specs.declared.error.ParseError.{ParseError}
-use Rattle.dns_words.specs.Reads.{UnlessMemory}
+use Rattle.dns_words.specs.Reads.{UnlessParseMemory}
 use Rattle.dns_zone_words.specs.{Forms.ZoneForm, Words.Cursor, ZoneReads.NoFirst}
 use Rattle.dns_words.proofs.Steps.{unless_map}
 use Rattle.dns_zone_words.proofs.FirstSteps.{exit_with}
@@ -14,6 +14,6 @@ none_given form written cursor h = record { none = λ octets word words cut give
 
 -- a word that has no value gives no octets
 pub exit_gives : {T : Type 0} {k : Kind} (form : ZoneForm k) (written : Value k → List ℕ) (r : Result T ParseError) (e : ParseError) (before after : List ℕ)
-    (old new : Cursor) → IsErrAnd r (λ y. y ≡ e) → UnlessMemory e (NoFirst form old) → AddsFirst (Gives form written) r before after old new
+    (old new : Cursor) → IsErrAnd r (λ y. y ≡ e) → UnlessParseMemory e (NoFirst form old) → AddsFirst (Gives form written) r before after old new
 exit_gives form written r e before after old new h none = exit_with (λ r. AddsFirst (Gives form written) r before after old new) e r h
     (unless_map e (NoFirst form old) (NoFirstGives (Gives form written) old) (none_given form written old) none)

@@ -13,7 +13,7 @@ use Rattle.dns_zone_words.specs.{Forms.ZoneForm, Forms.bare, Forms.number, Forms
 use Rattle.dns_zone_parameters.proofs.{Items.same_both, OneReading.one_reading}
 use Rattle.dns_zone_rows.specs.Mnemonics.{Named, number_named, IsNamedNumber, named_number}
 use Rattle.dns_zone_rows.specs.Rows.{FieldKind, Number, NamedNumber, Ttl, Ipv4, Ipv6, Name, String, Tag, Octets, RestKind, NoWord, SomeStrings}
-use Rattle.dns_zone_rows.specs.Rows.{SomeHex, SomeBase64, AnyTypes, AnyParameters, Row, Gives, tag, FieldGives, IsTypeNumber, RestGives, FieldsGive}
+use Rattle.dns_zone_rows.specs.Rows.{SomeHex, SomeBase64, AnyTypes, AnyParameters, RowShape, Gives, tag, FieldGives, IsTypeNumber, RestGives, FieldsGive}
 use Rattle.dns_zone_rows.specs.Rows.{RowGives}
 
 -- ---- one word
@@ -121,5 +121,5 @@ fields_once origin (field ∷ fields) rest a b (word ∷ words) x y =
     let others : x.behind ≡ y.behind = fields_once origin fields rest x.behind y.behind words x.others y.others in
     x.same ∙ ap (λ (s : List ℕ). s ++ x.behind) first ∙ ap (λ (s : List ℕ). y.front ++ s) others ∙ sym y.same
 
-pub row_once : (origin : Option DomainName) (row : Row) (a b : List ℕ) (words : List Word) → RowGives origin row a words → RowGives origin row b words → a ≡ b
+pub row_once : (origin : Option DomainName) (row : RowShape) (a b : List ℕ) (words : List Word) → RowGives origin row a words → RowGives origin row b words → a ≡ b
 row_once origin row a b words x y = fields_once origin row.fields row.rest a b words x.fields y.fields

@@ -7,7 +7,7 @@ use Rattle.std.specs.Result.{IsErrAnd}
 use Rattle.dns_fields.specs.Labels.{DomainName}
 use Rattle.dns_types.specs.declared.error.ParseError.{ParseError}
 use Rattle.dns_types.specs.declared.error.ParseError.TheVariants as parse
-use Rattle.dns_words.specs.Reads.{UnlessMemory}
+use Rattle.dns_words.specs.Reads.{UnlessParseMemory}
 use Rattle.dns_zone_words.specs.Remaining.{TookAll, NoneOfAll, ReadsAll, PutAll}
 use Rattle.dns_zone_words.specs.Words.{Word, Cursor, words_at, with_word}
 use Rattle.dns_words.proofs.Steps.{unless_map}
@@ -109,8 +109,8 @@ no_first octets (word ∷ words) cut g none = none.none g.is.front word words cu
 
 -- the first of the fields that are left has no word
 field_refused : (origin : Option DomainName) (row : ZoneRow) (field : ZoneField) (left : List ZoneField) (old now : Cursor) (before : List ℕ) (e : ParseError)
-    → FieldsSo origin row.fields.now (field ∷ left) row.rest old now before → UnlessMemory e (NoFirstGives (FieldGives origin (kind_of field)) now)
-    → UnlessMemory e (NoneOfAll (RowGives origin (row_value row)) old)
+    → FieldsSo origin row.fields.now (field ∷ left) row.rest old now before → UnlessParseMemory e (NoFirstGives (FieldGives origin (kind_of field)) now)
+    → UnlessParseMemory e (NoneOfAll (RowGives origin (row_value row)) old)
 field_refused origin row field left old now before e so none =
     unless_map e (NoFirstGives (FieldGives origin (kind_of field)) now) (NoneOfAll (RowGives origin (row_value row)) old)
     (λ no. record {
@@ -121,8 +121,8 @@ field_refused origin row field left old now before e so none =
 
 -- the words behind the fields give nothing
 rest_refused : (origin : Option DomainName) (row : ZoneRow) (old now : Cursor) (before : List ℕ) (e : ParseError)
-    → FieldsSo origin row.fields.now [] row.rest old now before → UnlessMemory e (NoneOfAll (RestGives (rest_kind_of row.rest)) now)
-    → UnlessMemory e (NoneOfAll (RowGives origin (row_value row)) old)
+    → FieldsSo origin row.fields.now [] row.rest old now before → UnlessParseMemory e (NoneOfAll (RestGives (rest_kind_of row.rest)) now)
+    → UnlessParseMemory e (NoneOfAll (RowGives origin (row_value row)) old)
 rest_refused origin row old now before e so none =
     unless_map e (NoneOfAll (RestGives (rest_kind_of row.rest)) now) (NoneOfAll (RowGives origin (row_value row)) old)
     (λ no. record {
@@ -157,7 +157,7 @@ rest_fault origin row old now before e so (inr f) = inr (record { fault = so.fau
 
 pub exit_field : {T : Type 0} (view : T → List ℕ) (r : Result T ParseError) (origin : Option DomainName) (row : ZoneRow) (at : ℕ) (old now : Cursor) (before : List ℕ)
     (d : ZoneField) (e : ParseError) → IsErrAnd r (λ y. y ≡ e) → at < length row.fields.now → RowSo origin row at old now before
-    → UnlessMemory e (NoFirstGives (FieldGives origin (kind_of (get_or row.fields.now at d))) now) → ReadsAll (RowGives origin (row_value row)) view r old
+    → UnlessParseMemory e (NoFirstGives (FieldGives origin (kind_of (get_or row.fields.now at d))) now) → ReadsAll (RowGives origin (row_value row)) view r old
 exit_field view r origin row at old now before d e h l so none = exit_with (λ r. ReadsAll (RowGives origin (row_value row)) view r old) e r h
     (field_refused origin row (get_or row.fields.now at d) (drop (suc at) row.fields.now) old now before e (here origin row at old now before d l so) none)
 
@@ -169,7 +169,7 @@ exit_field_fault r origin row at old now before d e h l so f = exit_fault (λ y.
 
 pub exit_rest : {T : Type 0} (view : T → List ℕ) (r : Result T ParseError) (origin : Option DomainName) (row : ZoneRow) (at : ℕ) (old now : Cursor) (before : List ℕ)
     (e : ParseError) → IsErrAnd r (λ y. y ≡ e) → length row.fields.now ≤ at → RowSo origin row at old now before
-    → UnlessMemory e (NoneOfAll (RestGives (rest_kind_of row.rest)) now) → ReadsAll (RowGives origin (row_value row)) view r old
+    → UnlessParseMemory e (NoneOfAll (RestGives (rest_kind_of row.rest)) now) → ReadsAll (RowGives origin (row_value row)) view r old
 exit_rest view r origin row at old now before e h l so none = exit_with (λ r. ReadsAll (RowGives origin (row_value row)) view r old) e r h
     (rest_refused origin row old now before e (over origin row at old now before l so) none)
 

@@ -5,7 +5,7 @@ use Rattle.std.proofs.{lemmas.Grind.flat_map-append, lemmas.List.append-nil, lem
 use Rattle.dns_fields.specs.Pieces.{string as string_octets}
 use Rattle.dns_types.specs.declared.error.ParseError.{ParseError}
 use Rattle.dns_types.specs.declared.error.ParseError.TheVariants as parse
-use Rattle.dns_words.specs.Reads.{UnlessMemory}
+use Rattle.dns_words.specs.Reads.{UnlessParseMemory}
 use Rattle.dns_zone_words.specs.{Forms.string, Words.Word, Words.Cursor, Words.words_at, Words.with_word, declared.words_error.WordsError.WordsError}
 use Rattle.dns_zone_words.specs.Remaining.{AreStrings, with_words, NoneOfAll, PutAll, PutsAll, AmongFault}
 use Rattle.dns_zone_words.specs.ZoneReads.{LacksFirst, NoValueOf, PutAs}
@@ -75,16 +75,16 @@ not_cut : (cursor : Cursor) (e : WordsError) → words_at cursor ≡ Err e → N
 not_cut cursor e cut = record { none = λ v all all_cut is. let both : Ok all ≡ Err e = sym all_cut ∙ cut in absurd (cc) }
 
 exit_none : {T : Type 0} (r : Result T ParseError) (e : ParseError) (before after : List ℕ) (cursor : Cursor) → IsErrAnd r (λ y. y ≡ e)
-    → UnlessMemory e (NoneOfAll (RestGives SomeStrings) cursor) → PutsAll (RestGives SomeStrings) r before after cursor
+    → UnlessParseMemory e (NoneOfAll (RestGives SomeStrings) cursor) → PutsAll (RestGives SomeStrings) r before after cursor
 exit_none r e before after cursor h none = exit_with (λ r. PutsAll (RestGives SomeStrings) r before after cursor) e r h none
 
 pub exit_first : {T : Type 0} (r : Result T ParseError) (e : ParseError) (before after : List ℕ) (old new : Cursor) (word : Word) → IsErrAnd r (λ y. y ≡ e)
-    → words_at old ≡ with_word word (words_at new) → UnlessMemory e (NoValueOf string word) → PutsAll (RestGives SomeStrings) r before after old
+    → words_at old ≡ with_word word (words_at new) → UnlessParseMemory e (NoValueOf string word) → PutsAll (RestGives SomeStrings) r before after old
 exit_first r e before after old new word h first none = exit_none r e before after old h
     (unless_map e (NoValueOf string word) (NoneOfAll (RestGives SomeStrings) old) (none_by [] word (words_at new) old first) none)
 
 pub exit_string : {T : Type 0} (r : Result T ParseError) (e : ParseError) (before mid after : List ℕ) (old now new : Cursor) (word : Word) → IsErrAnd r (λ y. y ≡ e)
-    → StringsSo old now before mid → words_at now ≡ with_word word (words_at new) → UnlessMemory e (NoValueOf string word)
+    → StringsSo old now before mid → words_at now ≡ with_word word (words_at new) → UnlessParseMemory e (NoValueOf string word)
     → PutsAll (RestGives SomeStrings) r before after old
 exit_string r e before mid after old now new word h so first none = exit_none r e before after old h
     (unless_map e (NoValueOf string word) (NoneOfAll (RestGives SomeStrings) old)

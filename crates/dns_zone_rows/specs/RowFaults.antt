@@ -3,7 +3,7 @@ use Rattle.std.specs.Prelude.{◌≡◌, ◌≢◌, ◌⊎◌, ℕ, List, [], �
 use Rattle.dns_fields.specs.Labels.{DomainName}
 use Rattle.dns_types.specs.{declared.record_type.RecordType.RecordType, declared.error.ParseError.ParseError}
 use Rattle.dns_types.specs.declared.error.ParseError.TheVariants as parse
-use Rattle.dns_words.specs.{Reads.NoValue, declared.field.Field.Field}
+use Rattle.dns_words.specs.{Reads.HoldsOfNone, declared.field.Field.Field}
 use Rattle.dns_zone_words.specs.{Forms.StringFault, Forms.TextFault, Forms.IsType, NameWords.NameFault, Remaining.AmongFault, Remaining.HexFault}
 use Rattle.dns_zone_words.specs.{Remaining.Base64Fault, Words.Word, Words.Cursor, Words.words_at, Words.with_word}
 use Rattle.dns_zone_words.specs.ZoneReads.{IsCutRefused, LacksFirst, WhyNoField, WhyFirst}
@@ -11,7 +11,7 @@ use Rattle.dns_zone_parameters.specs.Faults.{ParametersFault}
 use Rattle.dns_zone_rows.specs.{declared.row.ZoneField.ZoneField, declared.row.ZoneRest.ZoneRest, declared.row.ZoneRow.ZoneRow}
 use Rattle.dns_zone_rows.specs.Mnemonics.{cert_types, algorithms}
 use Rattle.dns_zone_rows.specs.Rows.{FieldKind, Number, NamedNumber, Ttl, Ipv4, Ipv6, Name, String, Tag, Octets, RestKind, NoWord, SomeStrings}
-use Rattle.dns_zone_rows.specs.Rows.{SomeHex, SomeBase64, AnyTypes, AnyParameters, Row, FieldGives}
+use Rattle.dns_zone_rows.specs.Rows.{SomeHex, SomeBase64, AnyTypes, AnyParameters, RowShape, FieldGives}
 use Rattle.dns_zone_rows.specs.declared.row.ZoneField.TheVariants as field
 use Rattle.dns_zone_rows.specs.declared.row.ZoneRest.TheVariants as rest
 
@@ -39,7 +39,7 @@ rest_kind_of (rest.Base64 f) = SomeBase64
 rest_kind_of (rest.Types f) = AnyTypes
 rest_kind_of rest.Parameters = AnyParameters
 
-abbrev pub row_value : ZoneRow → Row
+abbrev pub row_value : ZoneRow → RowShape
 row_value row = record { fields = map kind_of row.fields.now; rest = rest_kind_of row.rest }
 
 -- ---- faults
@@ -61,7 +61,7 @@ FieldFault origin (field.Text f) = WhyFirst (parse.MissingToken f.name) (TextFau
 
 -- the word is no type
 abbrev pub TypeFault : Field → Word → ParseError → Type 0
-TypeFault f word e = (e ≡ parse.Message f.wrong) × NoValue (λ (t : RecordType). IsType t word)
+TypeFault f word e = (e ≡ parse.Message f.wrong) × HoldsOfNone (λ (t : RecordType). IsType t word)
 
 -- a word is left
 abbrev pub SurplusFault : ParseError → Cursor → ParseError → Type 0

@@ -1,7 +1,7 @@
 -- What the code of rows does, step by step.
 use Rattle.std.specs.Prelude.{◌≡◌, List, ◌∷◌, ◌++◌, ℕ, Result, Ok, Err}
 use Rattle.dns_types.specs.declared.error.ParseError.{ParseError}
-use Rattle.dns_words.specs.Reads.{UnlessMemory}
+use Rattle.dns_words.specs.Reads.{UnlessParseMemory}
 use Rattle.dns_zone_words.specs.Words.{Word, Cursor, words_at, with_word}
 
 -- the first word was taken, and the octets that it gives stand behind the others
@@ -19,4 +19,4 @@ pub record NoFirstGives (gives : List ℕ → Word → Type 0) (cursor : Cursor)
 -- takes the first word exactly where it gives octets, and puts these behind the others
 abbrev pub AddsFirst : {T : Type 0} → (List ℕ → Word → Type 0) → Result T ParseError → List ℕ → List ℕ → Cursor → Cursor → Type 0
 AddsFirst gives (Ok x) before after old new = AddedFirst gives before after old new
-AddsFirst gives (Err e) before after old new = UnlessMemory e (NoFirstGives gives old)
+AddsFirst gives (Err e) before after old new = UnlessParseMemory e (NoFirstGives gives old)

@@ -4,13 +4,13 @@ use Rattle.dns_types.specs.declared.record_type.RecordType.{RecordType}
 use Rattle.dns_types.specs.declared.record_type.RecordType.TheVariants as types
 use Rattle.dns_zone_rows.specs.Mnemonics.{cert_types, algorithms}
 use Rattle.dns_zone_rows.specs.Rows.{FieldKind, Number, NamedNumber, Ttl, Ipv4, Ipv6, Name, String, Tag, Octets, RestKind, NoWord, SomeStrings}
-use Rattle.dns_zone_rows.specs.Rows.{SomeHex, SomeBase64, AnyTypes, AnyParameters, Row}
+use Rattle.dns_zone_rows.specs.Rows.{SomeHex, SomeBase64, AnyTypes, AnyParameters, RowShape}
 
-abbrev pub row : List FieldKind → RestKind → Option Row
+abbrev pub row : List FieldKind → RestKind → Option RowShape
 row fields rest = Some (record { fields = fields; rest = rest })
 
 -- types that are not named here have the form of unknown data alone (RFC 3597, 5)
-abbrev pub row_of : RecordType → Option Row
+abbrev pub row_of : RecordType → Option RowShape
 -- RFC 1035, 3.4.1
 row_of types.A = row (Ipv4 ∷ []) NoWord
 -- RFC 3596, 2.2

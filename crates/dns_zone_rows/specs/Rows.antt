@@ -46,7 +46,7 @@ pub data RestKind : Type 0 where
   AnyParameters : RestKind
 
 -- a record's data in words
-pub record Row : Type 0 where
+pub record RowShape : Type 0 where
   pub fields : List FieldKind
   pub rest : RestKind
 
@@ -131,5 +131,5 @@ FieldsGive origin (field ∷ fields) rest octets (word ∷ words) =
     InTwo (λ front. FieldGives origin field front word) (λ behind. FieldsGive origin fields rest behind words) octets
 
 -- the octets that the words give by the row
-pub record RowGives (origin : Option DomainName) (row : Row) (octets : List ℕ) (words : List Word) : Type 0 where
+pub record RowGives (origin : Option DomainName) (row : RowShape) (octets : List ℕ) (words : List Word) : Type 0 where
   pub fields : FieldsGive origin row.fields row.rest octets words

@@ -9,7 +9,7 @@ use Rattle.dns_fields.proofs.Runs.{wire-append, AreLabels-append}
 use Rattle.dns_types.specs.declared.error.ParseError.{ParseError}
 use Rattle.dns_types.specs.declared.error.ParseError.TheVariants as parse
 use Rattle.dns_names_wire.specs.NameValues.{root_name, joined_name, completed}
-use Rattle.dns_words.specs.Reads.{UnlessMemory}
+use Rattle.dns_words.specs.Reads.{UnlessParseMemory}
 use Rattle.dns_zone_words.specs.{Letters.escapes_stand, NameSteps.LabelsRead, Words.Word, ZoneReads.PutAs, ZoneReads.PutsAs}
 use Rattle.dns_zone_words.specs.NameWords.{labelled, is_alone, named, name, name_octets, NameFault}
 use Rattle.dns_zone_words.specs.declared.field.NameField.{NameField}
@@ -66,8 +66,8 @@ completed_none name origin h = rw h refl
 octets_same : (text : List ℕ) (mark : Bool) (octets : List ℕ) (read : LabelsRead text mark octets) → octets ≡ wire (labelled text).labels
 octets_same text mark octets read = read.same ∙ ap (λ (y : DomainName). wire y.labels) (sym read.name)
 
-memory_put : (P : Type 0) (e : ParseError) → e ≡ parse.Memory → UnlessMemory e P
-memory_put P e h = subst (λ (x : ParseError). UnlessMemory x P) (sym h) tt
+memory_put : (P : Type 0) (e : ParseError) → e ≡ parse.Memory → UnlessParseMemory e P
+memory_put P e h = subst (λ (x : ParseError). UnlessParseMemory x P) (sym h) tt
 
 -- the labels of a word that no origin completes
 pub whole_put : {T : Type 0} (origin : Option DomainName) (word : Word) (mark : Bool) (r : Result T ParseError) (before after octets : List ℕ)

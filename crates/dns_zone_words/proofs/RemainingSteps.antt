@@ -3,7 +3,7 @@ use Rattle.std.proofs.Common.{◌≡◌, ℕ, length, true, false, List, [], ◌
 use Rattle.std.proofs.{lemmas.List.append-nil, lemmas.Grind.flat_map-append}
 use Rattle.std.specs.List.{AllZip}
 use Rattle.dns_types.specs.declared.error.ParseError.{ParseError}
-use Rattle.dns_words.specs.Reads.{UnlessMemory}
+use Rattle.dns_words.specs.Reads.{UnlessParseMemory}
 use Rattle.dns_zone_words.specs.{Forms.number, ZoneReads.FirstHas, ZoneReads.NoFirst, declared.words_error.WordsError.WordsError}
 use Rattle.dns_zone_words.specs.Remaining.{AllBare, joined, AreJoined, AreUnknown, TookAll, NoneOfAll, with_words}
 use Rattle.dns_zone_words.specs.Words.{Word, Cursor, words_at, with_word}
@@ -116,5 +116,5 @@ has_length v (first ∷ words) is = (is.0, is.1)
 no_length : (old : Cursor) → NoFirst (number 2) old → NoneOfAll AreUnknown old
 no_length old h = record { none = λ v words cut is. h.none (length v) words cut (has_length v words is) }
 
-pub unknown_no_length : (e : ParseError) (old : Cursor) → UnlessMemory e (NoFirst (number 2) old) → UnlessMemory e (NoneOfAll AreUnknown old)
+pub unknown_no_length : (e : ParseError) (old : Cursor) → UnlessParseMemory e (NoFirst (number 2) old) → UnlessParseMemory e (NoneOfAll AreUnknown old)
 unknown_no_length e old h = unless_map e (NoFirst (number 2) old) (NoneOfAll AreUnknown old) (no_length old) h

@@ -8,7 +8,7 @@ use Rattle.std.proofs.lemmas.Str.{IsUtf8-from_ascii, IsUtf8-append, IsUtf8-nil}
 use Rattle.dns_text.specs.Ttl.{IsUnit, weeks, days, hours, minutes, seconds, Periods, plain, last, next}
 use Rattle.dns_types.specs.{RecordTypes.is_named, RecordTypes.type_text, RecordTypes.IsTypeText, declared.record_type.RecordType.RecordType}
 use Rattle.dns_types.specs.declared.record_type.RecordType.TheVariants as types
-use Rattle.dns_words.specs.{Forms.ttl, Forms.ipv4, Forms.ipv6, Reads.NoValue}
+use Rattle.dns_words.specs.{Forms.ttl, Forms.ipv4, Forms.ipv6, Reads.HoldsOfNone}
 use Rattle.dns_zone_words.specs.{Forms.bare, Forms.IsType, Words.Word, ZoneReads.NoValueOf}
 
 -- a word of no address is none of the form
@@ -62,5 +62,5 @@ type_utf8 : (text : List ℕ) (t : RecordType) → IsTypeText text t → IsUtf8 
 type_utf8 text t (inl is) = rw is.printed (name_utf8 t is.named)
 type_utf8 text t (inr is) = rw is.spelled (IsUtf8-append (codes "TYPE") is.digits (ascii_utf8 _ refl) (IsUtf8-from_ascii is.digits (IsAscii-from_digits is.digits is.numeral.1)))
 
-pub no_type : (word : Word) → ¬ (IsUtf8 word.octets) → NoValue (λ t. IsType t word)
+pub no_type : (word : Word) → ¬ (IsUtf8 word.octets) → HoldsOfNone (λ t. IsType t word)
 no_type word isnt = record { none = λ t is. isnt (type_utf8 word.octets t is.text) }

@@ -5,7 +5,7 @@ use Rattle.base64.specs.{Engines.standard, GeneralPurpose.decode_of as base64_of
 use Rattle.hex.specs.Hex.{decode_of as hex_of}
 use Rattle.dns_types.specs.declared.error.ParseError.{ParseError}
 use Rattle.dns_types.specs.declared.error.ParseError.TheVariants as parse
-use Rattle.dns_words.specs.{Reads.UnlessMemory, declared.field.Field.Field}
+use Rattle.dns_words.specs.{Reads.UnlessParseMemory, declared.field.Field.Field}
 use Rattle.dns_zone_words.specs.{declared.field.HexField.HexField, Forms.IsNumber, Forms.number, Forms.string, Refusals.Says, Words.Word}
 use Rattle.dns_zone_words.specs.{Words.Cursor, Words.words_at, Words.with_word, declared.words_error.WordsError.WordsError}
 use Rattle.dns_zone_words.specs.ZoneReads.{IsCutRefused, TookFirst, WhyNoField}
@@ -66,7 +66,7 @@ pub record NoneOfAll {V : Type 0} (is : V → List Word → Type 0) (cursor : Cu
 -- reads the words that are left exactly where they have a value
 abbrev pub ReadsAll : {T V : Type 0} → (V → List Word → Type 0) → (T → V) → Result T ParseError → Cursor → Type 0
 ReadsAll is view (Ok x) cursor = TookAll is (view x) cursor
-ReadsAll is view (Err e) cursor = UnlessMemory e (NoneOfAll is cursor)
+ReadsAll is view (Err e) cursor = UnlessParseMemory e (NoneOfAll is cursor)
 
 -- all words that are left give these octets, which stand behind the others
 pub record PutAll (gives : List ℕ → List Word → Type 0) (before after : List ℕ) (cursor : Cursor) : Type 0 where
@@ -79,7 +79,7 @@ pub record PutAll (gives : List ℕ → List Word → Type 0) (before after : Li
 -- takes all words exactly where they give octets, and puts these behind the others
 abbrev pub PutsAll : {T : Type 0} → (List ℕ → List Word → Type 0) → Result T ParseError → List ℕ → List ℕ → Cursor → Type 0
 PutsAll gives (Ok x) before after cursor = PutAll gives before after cursor
-PutsAll gives (Err e) before after cursor = UnlessMemory e (NoneOfAll gives cursor)
+PutsAll gives (Err e) before after cursor = UnlessParseMemory e (NoneOfAll gives cursor)
 
 -- one of the words has a fault, of which the refusal tells
 pub record OneFault (fault : Word → ParseError → Type 0) (cursor : Cursor) (e : ParseError) : Type 0 where

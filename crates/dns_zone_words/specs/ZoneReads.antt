@@ -3,7 +3,7 @@ use Rattle.std.specs.Prelude.{◌≡◌, ◌⊎◌, ℕ, List, [], ◌∷◌, �
 use Rattle.dns_types.specs.declared.error.ParseError.{ParseError}
 use Rattle.dns_types.specs.declared.error.ParseError.TheVariants as parse
 use Rattle.dns_fields.specs.Fields.{Kind, Value}
-use Rattle.dns_words.specs.{Reads.UnlessMemory, declared.field.Field.Field}
+use Rattle.dns_words.specs.{Reads.UnlessParseMemory, declared.field.Field.Field}
 use Rattle.dns_zone_words.specs.{Forms.ZoneForm, Refusals.Says, Refusals.cut_text, declared.words_error.WordsError.WordsError}
 use Rattle.dns_zone_words.specs.Words.{Word, Cursor, words_at, with_word}
 
@@ -14,7 +14,7 @@ pub record NoValueOf {k : Kind} (form : ZoneForm k) (word : Word) : Type 0 where
 -- reads a word exactly where it has the form
 abbrev pub ReadsAs : {T : Type 0} {k : Kind} → ZoneForm k → (T → Value k) → Result T ParseError → Word → Type 0
 ReadsAs form view (Ok x) word = form.is (view x) word
-ReadsAs form view (Err e) word = UnlessMemory e (NoValueOf form word)
+ReadsAs form view (Err e) word = UnlessParseMemory e (NoValueOf form word)
 
 -- a value of the word was put behind octets, as it is written
 pub record PutAs {k : Kind} (form : ZoneForm k) (written : Value k → List ℕ) (before after : List ℕ) (word : Word) : Type 0 where
@@ -25,7 +25,7 @@ pub record PutAs {k : Kind} (form : ZoneForm k) (written : Value k → List ℕ)
 -- puts a value of the word behind octets exactly where it has the form
 abbrev pub PutsAs : {T : Type 0} {k : Kind} → ZoneForm k → (Value k → List ℕ) → Result T ParseError → List ℕ → List ℕ → Word → Type 0
 PutsAs form written (Ok x) before after word = PutAs form written before after word
-PutsAs form written (Err e) before after word = UnlessMemory e (NoValueOf form word)
+PutsAs form written (Err e) before after word = UnlessParseMemory e (NoValueOf form word)
 
 -- ---- the next word
 
@@ -47,7 +47,7 @@ pub record NoFirst {k : Kind} (form : ZoneForm k) (cursor : Cursor) : Type 0 whe
 -- takes the first word exactly where it has the form
 abbrev pub ReadsFirst : {T : Type 0} {k : Kind} → ZoneForm k → (T → Value k) → Result T ParseError → Cursor → Cursor → Type 0
 ReadsFirst form view (Ok x) old new = TookFirst form (view x) old new
-ReadsFirst form view (Err e) old new = UnlessMemory e (NoFirst form old)
+ReadsFirst form view (Err e) old new = UnlessParseMemory e (NoFirst form old)
 
 -- the text is not cut into words, and the refusal says why
 abbrev pub IsCutRefused : Cursor → ParseError → Type 0

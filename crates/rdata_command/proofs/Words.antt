@@ -5,7 +5,7 @@ use Rattle.std.specs.{Result.result_ok, Str.Parse.IsNumeral, Str.Parse.digits_va
 use Rattle.std.proofs.{lemmas.Int.Digits.digits_value-lt, Math.Nat.pow-le-pow_right}
 use Rattle.dns_types.specs.{declared.error.DecodeError.DecodeError, declared.record_type.RecordType.RecordType}
 use Rattle.dns_types.specs.RecordTypes.{record_type_of, ReadsType}
-use Rattle.rdata_command.specs.Request.{IsNumberWord, IsTypeWord, IsOctetsWord, Asks, NoRequest}
+use Rattle.rdata_command.specs.Request.{IsDecimalWord, IsTypeWord, IsOctetsWord, Asks, NoRequest}
 use Rattle.rdata_command.specs.{Parsing.AsksText, Parsing.NoTextRequest, Comparing.AsksOrder, Comparing.NoOrderRequest}
 
 -- a number of five digits is below 100000
@@ -19,16 +19,16 @@ no_plus : (w : List ℕ) → (slice_index w 0 == 43) ≡ false → without_leadi
 no_plus w e = rw e refl
 
 pub number_read : {E : Type 0} (w : List ℕ) (r : Result ℕ E) → (slice_index w 0 == 43) ≡ false → length w ≤ 5 → ParsesUnsigned 32 10 w r
-    → MatchOption (result_ok r) ((n : ℕ) → ¬ (IsNumberWord w n)) (λ n. IsNumberWord w n)
+    → MatchOption (result_ok r) ((n : ℕ) → ¬ (IsDecimalWord w n)) (λ n. IsDecimalWord w n)
 number_read w (Ok n) e few p = let same = no_plus w e in
     record { numeral = subst (IsNumeral 10) same p.0.0; few = few; value = p.1 ∙ ap (digits_value 10) same }
 number_read w (Err x) e few p = λ n is. p
     (subst (λ (ds : List ℕ). IsNumeral 10 ds × (digits_value 10 ds < 2 ^ 32)) (sym (no_plus w e)) (is.numeral, few_digits w is.numeral is.few))
 
-pub type_read : (w : List ℕ) (r : Result RecordType DecodeError) → ReadsType w r → ((n : ℕ) → IsNumberWord w n → n < 65536 → ⊥)
+pub type_read : (w : List ℕ) (r : Result RecordType DecodeError) → ReadsType w r → ((n : ℕ) → IsDecimalWord w n → n < 65536 → ⊥)
     → MatchOption (result_ok r) ((t : RecordType) → ¬ (IsTypeWord w t)) (λ t. IsTypeWord w t)
 type_read w (Ok t) h none = inr h.0
-type_read w (Err e) h none = λ t is. ⊎_elim (λ (k : (n : ℕ) × IsNumberWord w n × (n < 65536) × (t ≡ record_type_of n)). none k.0 k.1 k.2) (λ k. h.1 t k) is
+type_read w (Err e) h none = λ t is. ⊎_elim (λ (k : (n : ℕ) × IsDecimalWord w n × (n < 65536) × (t ≡ record_type_of n)). none k.0 k.1 k.2) (λ k. h.1 t k) is
 
 -- three elements, four and five, each by its place
 pub three_items : {X : Type 0} (xs : List X) (a b c : X) → 3 ≤ length xs → length xs < 4 → a ≡ get_or xs 0 a → b ≡ get_or xs 1 b → c ≡ get_or xs 2 c → xs ≡ a ∷ b ∷ c ∷ []
@@ -61,11 +61,11 @@ module _ {words : List (List ℕ)} {a b c d : List ℕ} (is : ReadWords words a 
   pub no_type : ((t : RecordType) → ¬ (IsTypeWord a t)) → NoRequest words
   no_type none = record { none = λ t p n m k. none t (subst (λ (w : List ℕ). IsTypeWord w t) (same_words k).0 k.type_is) }
 
-  pub no_place : ((p : ℕ) → ¬ (IsNumberWord b p)) → NoRequest words
-  no_place none = record { none = λ t p n m k. none p (subst (λ (w : List ℕ). IsNumberWord w p) (same_words k).1 k.place_is) }
+  pub no_place : ((p : ℕ) → ¬ (IsDecimalWord b p)) → NoRequest words
+  no_place none = record { none = λ t p n m k. none p (subst (λ (w : List ℕ). IsDecimalWord w p) (same_words k).1 k.place_is) }
 
-  pub no_length : ((n : ℕ) → IsNumberWord c n → n < 65536 → ⊥) → NoRequest words
-  no_length none = record { none = λ t p n m k. none n (subst (λ (w : List ℕ). IsNumberWord w n) (same_words k).2 k.length_is) k.short }
+  pub no_length : ((n : ℕ) → IsDecimalWord c n → n < 65536 → ⊥) → NoRequest words
+  no_length none = record { none = λ t p n m k. none n (subst (λ (w : List ℕ). IsDecimalWord w n) (same_words k).2 k.length_is) k.short }
 
   pub no_octets : ((m : List ℕ) → ¬ (IsOctetsWord d m)) → NoRequest words
   no_octets none = record { none = λ t p n m k. none m (subst (λ (w : List ℕ). IsOctetsWord w m) (same_words k).3 k.octets_are) }

@@ -28,7 +28,7 @@ abbrev pub fresh : ℕ → Writing
 fresh target = record { octets = []; limit = 65535; mode = StandardRecord; target = target }
 
 -- a fresh encoder appends these octets for the value
-pub record Emits (v : RData) (octets : List ℕ) : Type 0 where
+pub record EmitsFresh (v : RData) (octets : List ℕ) : Type 0 where
   pub target : ℕ
   pub after : Writing
   pub appended : Appended (mode_for StandardRecord v) (fresh target) (fields_of v).kinds (fields_of v).values after
@@ -43,7 +43,7 @@ pub record EmitsNothing (v : RData) : Type 0 where
   pub stopped : Stopped error (fresh target) (fields_of v).kinds (fields_of v).values after
 
 abbrev pub IsEmittedText : RData → List ℕ → Type 0
-IsEmittedText v text = ((octets : List ℕ) × Emits v octets × (text ≡ octets_text octets)) ⊎ (EmitsNothing v × (text ≡ codes "none"))
+IsEmittedText v text = ((octets : List ℕ) × EmitsFresh v octets × (text ≡ octets_text octets)) ⊎ (EmitsNothing v × (text ≡ codes "none"))
 
 -- four lines: the number of the type, the value's text, its canonical octets, and its octets from a fresh encoder
 pub record IsReport (t : RecordType) (v : RData) (lines : List ℕ) : Type 0 where

@@ -8,14 +8,14 @@ abbrev pub texts : List (String Global) → List (List ℕ)
 texts words = map string_bytes words
 
 -- one to five decimal digits
-pub record IsNumberWord (word : List ℕ) (n : ℕ) : Type 0 where
+pub record IsDecimalWord (word : List ℕ) (n : ℕ) : Type 0 where
   pub numeral : IsNumeral 10 word
   pub few : length word ≤ 5
   pub value : n ≡ digits_value 10 word
 
 -- the text of a type, or the number of one
 abbrev pub IsTypeWord : List ℕ → RecordType → Type 0
-IsTypeWord word t = ((n : ℕ) × IsNumberWord word n × (n < 65536) × (t ≡ record_type_of n)) ⊎ IsTypeText word t
+IsTypeWord word t = ((n : ℕ) × IsDecimalWord word n × (n < 65536) × (t ≡ record_type_of n)) ⊎ IsTypeText word t
 
 -- two or more hexadecimal digits, evenly many, or a dash for no octets
 abbrev pub IsOctetsWord : List ℕ → List ℕ → Type 0
@@ -29,8 +29,8 @@ pub record Asks (words : List (List ℕ)) (t : RecordType) (p n : ℕ) (m : List
   pub octets_word : List ℕ
   pub spelled : words ≡ codes "read" ∷ type_word ∷ place_word ∷ length_word ∷ octets_word ∷ []
   pub type_is : IsTypeWord type_word t
-  pub place_is : IsNumberWord place_word p
-  pub length_is : IsNumberWord length_word n
+  pub place_is : IsDecimalWord place_word p
+  pub length_is : IsDecimalWord length_word n
   pub octets_are : IsOctetsWord octets_word m
   pub inside : p ≤ length m
   pub short : n < 65536

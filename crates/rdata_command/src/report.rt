@@ -5,7 +5,7 @@ ghost use Rattle.std.specs.Io.KnownBytes.{Appends};
 ghost use Rattle.dns_types.specs.declared.error.DecodeError.{DecodeError as DecodeErrorValue};
 ghost use Rattle.dns_names_wire.specs.Words.{UnlessMemory};
 ghost use Rattle.dns_rdata.specs.Data.{Fills, NoValue, data_octets};
-ghost use Rattle.rdata_command.specs.Report.{Emits, EmitsNothing, IsEmittedText, IsReport, Printed, printed_text, octets_text};
+ghost use Rattle.rdata_command.specs.Report.{EmitsFresh, EmitsNothing, IsEmittedText, IsReport, Printed, printed_text, octets_text};
 
 use crate::request::Request;
 use dns_rdata::{
@@ -50,7 +50,7 @@ pub fn read_at(
 // Writes the octets of a value to an empty vector.
 fn emit_to(alloc: Global, octets: &mut Vec<u8>, value: &RData) -> Result<(), ProtoError>
     requires { octets.old.items ≡ [] }
-    ensures ok { OnOk result (Emits value.now octets.new.items) }
+    ensures ok { OnOk result (EmitsFresh value.now octets.new.items) }
     ensures refused { IfErr result (λ e. e ≢ ProtoError.Memory → EmitsNothing value.now) }
 {
     let mut encoder = BinEncoder::new(alloc, octets);
@@ -61,7 +61,7 @@ fn emit_to(alloc: Global, octets: &mut Vec<u8>, value: &RData) -> Result<(), Pro
 
 // The octets of a value at the front of a message; none where it is refused for another cause than memory.
 fn emitted(alloc: Global, value: &RData) -> Result<Option<Vec<u8>>, AllocError>
-    ensures { IfOk result (λ found. MatchOption found (EmitsNothing value.now) (λ octets. Emits value.now octets.items)) }
+    ensures { IfOk result (λ found. MatchOption found (EmitsNothing value.now) (λ octets. EmitsFresh value.now octets.items)) }
 {
     let mut octets = Vec::new(alloc);
     match emit_to(alloc, &mut octets, value) {

@@ -1,7 +1,7 @@
 //! What the words of a command ask for.
 
 ghost use Rattle.std.specs.Prelude.{◌≡◌, ◌<◌, ◌≤◌, ℕ, List, [], ◌∷◌, codes, vec_len, IfOk, MatchOption};
-ghost use Rattle.rdata_command.specs.Request.{texts, IsNumberWord, IsTypeWord, IsOctetsWord, NotRead, Asks, NoRequest};
+ghost use Rattle.rdata_command.specs.Request.{texts, IsDecimalWord, IsTypeWord, IsOctetsWord, NotRead, Asks, NoRequest};
 
 use dns_rdata::RecordType;
 use hex::FromHexError;
@@ -22,7 +22,7 @@ pub struct Request {
 
 // The number that one to five decimal digits are.
 fn number(word: &str) -> Option<u32>
-    ensures { MatchOption result ((n : ℕ) → ¬ (IsNumberWord word.now n)) (λ n. IsNumberWord word.now n) }
+    ensures { MatchOption result ((n : ℕ) → ¬ (IsDecimalWord word.now n)) (λ n. IsDecimalWord word.now n) }
 {
     if word.len() > 5 || word.starts_with('+') {
         return None;
@@ -30,9 +30,9 @@ fn number(word: &str) -> Option<u32>
     word.parse::<u32>().ok()
 }
 
-// The same, of sixteen bits.
+// The number of sixteen bits that one to five decimal digits are.
 fn short_number(word: &str) -> Option<u16>
-    ensures { MatchOption result ((n : ℕ) → IsNumberWord word.now n → n < 65536 → ⊥) (λ n. IsNumberWord word.now n) }
+    ensures { MatchOption result ((n : ℕ) → IsDecimalWord word.now n → n < 65536 → ⊥) (λ n. IsDecimalWord word.now n) }
 {
     u16::try_from(number(word)?).ok()
 }

@@ -1,4 +1,5 @@
-use Rattle.dns_fields.proofs.Examples.{string_examples, name_examples, option_examples, parameter_examples, bitmap_examples}
+use Rattle.dns_fields.proofs.BitmapExamples.{bitmap_examples}
+use Rattle.dns_fields.proofs.Examples.{string_examples, name_examples, option_examples, parameter_examples}
 use Rattle.dns_fields.proofs.examples_hold.Goals as goal
 
 pub returns-clause-strings : goal.returns-clause-strings

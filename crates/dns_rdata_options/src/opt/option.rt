@@ -2,8 +2,7 @@
 
 ghost use Rattle.std.specs.Prelude.{◌≡◌, ◌⊎◌, ◌≤◌, ◌<◌, ◌↔◌, ℕ, [], length, IsTrue, IfOk, IfErr};
 ghost use Rattle.dns_fields.specs.Pieces.{option_octets, IsEmittableOption};
-ghost use Rattle.dns_names_wire.specs.Words.{IsMessage};
-ghost use Rattle.dns_rdata_options.specs.Words.{EmitsOctets};
+ghost use Rattle.dns_names_wire.specs.Words.{EmitsFitting, IsMessage};
 ghost use Rattle.dns_rdata_options.specs.EdnsOption.{option_value, option_len, code_of, ReadsOption};
 
 use crate::opt::code::EdnsCode;
@@ -84,7 +83,7 @@ impl EdnsOption {
 }
 
 impl BinEncodable for EdnsOption {
-    ghost emits = { λ x r old new. EmitsOctets (IsEmittableOption (option_value x)) (option_octets (option_value x)) r old new };
+    ghost emits = { λ x r old new. EmitsFitting (IsEmittableOption (option_value x)) (option_octets (option_value x)) r old new };
 
     /// Appends the octets, without code and length. A subnet is refused as there; [`Message`](ProtoError::Message)
     /// refuses no other option.
@@ -100,7 +99,7 @@ impl BinEncodable for EdnsOption {
 // Appends the octets of an option of any form.
 #[tactic(auto, unfolding(dns_fields::specs::Fields::field_octets))]
 fn emit_octets(encoder: &mut BinEncoder<'_>, octets: &[u8]) -> Result<(), ProtoError>
-    ensures { EmitsOctets (Unit {0}) octets.now result encoder.old encoder.new }
+    ensures { EmitsFitting (Unit {0}) octets.now result encoder.old encoder.new }
 {
     encoder.emit_vec(octets)?;
     Ok(())

@@ -2,8 +2,8 @@
 
 ghost use Rattle.std.specs.Prelude.{◌≡◌, ◌+◌, ◌<◌, ◌≤◌, ◌/◌, ◌⊎◌, IfSome, IfNone, Bool, false, length, drop, take, Result, IfOk, IfErr, OnErr};
 ghost use Rattle.dns_fields.specs.Pieces.{option_octets, IsEmittableOption, IsAddress, Subnet as SubnetValue};
-ghost use Rattle.dns_names_wire.specs.Words.{ReadsBy, IsMessage};
-ghost use Rattle.dns_rdata_options.specs.{Words.EmitsOctets, IpNet.masked_address};
+ghost use Rattle.dns_names_wire.specs.Words.{ReadsBy, EmitsFitting, IsMessage};
+ghost use Rattle.dns_rdata_options.specs.{IpNet.masked_address};
 ghost use Rattle.dns_rdata_options.specs.ClientSubnet.{subnet_value, SubnetAt, NoSubnet, IsSubnetRefusal, ReadsSubnet, prefix_octets, family_octets};
 ghost use Rattle.dns_rdata_options.specs.ClientSubnet.{address_of, address_octets, family_of, padded, IsFamily};
 
@@ -243,7 +243,7 @@ fn emit_parts(
     address: &[u8],
 ) -> Result<(), ProtoError>
     requires { IsFamily family × (length address.now ≡ family_octets family) }
-    ensures { EmitsOctets (IsAddress family subnet.now.source_prefix (take (prefix_octets subnet.now.source_prefix) address.now))
+    ensures { EmitsFitting (IsAddress family subnet.now.source_prefix (take (prefix_octets subnet.now.source_prefix) address.now))
         (option_octets (SubnetValue family subnet.now.source_prefix subnet.now.scope_prefix (take (prefix_octets subnet.now.source_prefix) address.now)))
         result encoder.old encoder.new }
 {
@@ -258,7 +258,7 @@ fn emit_parts(
 }
 
 impl BinEncodable for ClientSubnet {
-    ghost emits = { λ x r old new. EmitsOctets (IsEmittableOption (subnet_value x)) (option_octets (subnet_value x)) r old new };
+    ghost emits = { λ x r old new. EmitsFitting (IsEmittableOption (subnet_value x)) (option_octets (subnet_value x)) r old new };
 
     /// Appends family, prefixes, and the octets of the address that the source prefix asks for. It is refused by
     /// [`Message`](ProtoError::Message) where these are more than the address has.

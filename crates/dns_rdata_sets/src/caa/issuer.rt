@@ -9,7 +9,8 @@ ghost use Rattle.dns_types.specs.declared.error.DecodeError.TheVariants as decod
 ghost use Rattle.dns_types.specs.declared.error.ProtoError.TheVariants as proto;
 ghost use Rattle.dns_fields.specs.Labels.{DomainName};
 ghost use Rattle.dns_names_wire.specs.NameValues.{IsTextRefusal};
-ghost use Rattle.dns_rdata_sets.specs.Issuer.{Parameter, is_blank, is_key_octet, is_value_octet, is_no_semicolon, AllOf, Splits, IsKey, IsParameter};
+ghost use Rattle.dns_rdata_sets.specs.Issuer.{Parameter, is_blank, is_key_octet, is_value_octet, is_no_semicolon, IsKey, IsParameter};
+ghost use Rattle.dns_text.specs.Octets.{AllOf, Span};
 ghost use Rattle.dns_rdata_sets.specs.Issuer.{parameter_octets, AreParameters, IsIssuerName, IsNameRefusal, IsIssuer, IsIssuerRefusal, IsNamed};
 ghost use Rattle.dns_rdata_sets.specs.Issuer.{IsWritable, issuer_name_text, parameters_text, issuer_value};
 
@@ -115,7 +116,7 @@ fn is_blank_octet(octet: u8) -> bool
 
 // The blanks in front, and what stands behind them.
 fn cut_blanks(octets: &[u8]) -> (&[u8], &[u8])
-    ensures { Splits is_blank octets.now result.0.now result.1.now }
+    ensures { Span is_blank result.0.now octets.now result.1.now }
 {
     let mut len = 0;
     for octet in octets {
@@ -129,7 +130,7 @@ fn cut_blanks(octets: &[u8]) -> (&[u8], &[u8])
 
 // What stands in front of the first such octet, and from it on.
 fn cut_at(octets: &[u8], stop: u8) -> (&[u8], &[u8])
-    ensures { Splits (λ c. not (c == stop)) octets.now result.0.now result.1.now }
+    ensures { Span (λ c. not (c == stop)) result.0.now octets.now result.1.now }
 {
     let mut len = 0;
     for octet in octets {

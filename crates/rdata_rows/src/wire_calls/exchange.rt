@@ -2,7 +2,7 @@
 
 ghost use Rattle.std.specs.Prelude.{◌∷◌, []};
 ghost use Rattle.dns_fields.specs.Fields.{Number, Name as NameKind};
-ghost use Rattle.dns_names_wire.specs.Words.{ReadsIf, Emits, always};
+ghost use Rattle.dns_names_wire.specs.Words.{ReadsIf, Emits, Always};
 
 use anyhow::Context;
 use dns_names_wire::binary::{BinDecodable, BinEncodable};
@@ -21,7 +21,7 @@ pub struct Exchange {
 impl Exchange {
     /// Reads the number and the name.
     pub fn read(decoder: &mut BinDecoder<'_>) -> Result<Exchange, DecodeError>
-        ensures { ReadsIf (Number 2 ∷ NameKind ∷ []) (always (Number 2 ∷ NameKind ∷ [])) (λ x. (x.preference, (x.host, tt))) result decoder.old decoder.new }
+        ensures { ReadsIf (Number 2 ∷ NameKind ∷ []) (Always (Number 2 ∷ NameKind ∷ [])) (λ x. (x.preference, (x.host, tt))) result decoder.old decoder.new }
     {
         let preference = decoder.read_u16()?.unverified();
         let host = Name::read(decoder)?;

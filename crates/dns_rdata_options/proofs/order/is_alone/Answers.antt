@@ -1,6 +1,6 @@
 use Rattle.std.proofs.Common.{◌≡◌, arith, length, refl, sym, ap, ◌∙◌}
 use Rattle.std.proofs.lemmas.Option.{slice_get_read}
-use Rattle.dns_rdata_options.specs.{Facing.code_number, OPT.Pair}
+use Rattle.dns_rdata_options.specs.{LeastDifferences.code_number, OPT.Pair}
 use Rattle.dns_rdata_options.proofs.{Differences.still_alone, order.is_alone.Goals.else-other_code-code-via-then-other_code-code+else-i-place}
 use Rattle.dns_rdata_options.proofs.{order.is_alone.Goals.else-other_code-code-via-else-other_code-code}
 use Rattle.dns_rdata_options.proofs.order.is_alone.Goals as goal

@@ -1,4 +1,4 @@
-use Rattle.dns_rdata_options.specs.Facing.{IsAlone}
+use Rattle.dns_rdata_options.specs.LeastDifferences.{IsAlone}
 use Rattle.dns_rdata_options.proofs.order.is_alone.Given as goal
 
 abbrev pub invariant-loop-i : goal.invariant-loop-i

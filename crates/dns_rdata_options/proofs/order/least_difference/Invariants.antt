@@ -1,5 +1,5 @@
-use Rattle.dns_rdata_options.specs.Facing.{Facing}
+use Rattle.dns_rdata_options.specs.LeastDifferences.{IsLeastDifference}
 use Rattle.dns_rdata_options.proofs.order.least_difference.Given as goal
 
 abbrev pub invariant-loop-i : goal.invariant-loop-i
-invariant-loop-i l = Facing l.options l.others l.i l.least
+invariant-loop-i l = IsLeastDifference l.options l.others l.i l.least

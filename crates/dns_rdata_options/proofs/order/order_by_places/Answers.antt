@@ -1,6 +1,6 @@
 use Rattle.std.proofs.Common.{◌<◌, length, refl, sym, ◌∙◌, arith, subst}
 use Rattle.std.proofs.lemmas.Option.{slice_get_read}
-use Rattle.dns_rdata_options.specs.Facing.{Facing}
+use Rattle.dns_rdata_options.specs.LeastDifferences.{IsLeastDifference}
 use Rattle.dns_rdata_options.proofs.{ChoiceSteps.pair_at, Differences.all_alike, Differences.alike_order, Differences.least_decides}
 use Rattle.dns_rdata_options.proofs.order.order_by_places.Goals as goal
 
@@ -8,7 +8,7 @@ pub returns-in_default : goal.returns-in_default
 returns-in_default c =
     let xs = c.args.options.now in
     let ys = c.args.others.now in
-    alike_order xs ys (all_alike xs ys (omega arith) (subst (Facing xs ys (length xs)) c.in_default.is c.in_ok-place.ensures))
+    alike_order xs ys (all_alike xs ys (omega arith) (subst (IsLeastDifference xs ys (length xs)) c.in_default.is c.in_ok-place.ensures))
 
 pub returns-clause-order : goal.returns-clause-order
 returns-clause-order c =
@@ -17,7 +17,7 @@ returns-clause-order c =
     let i = c.in-Some.place in
     let p = c.index-options-place.result in
     let q = c.index-others-place.result in
-    let least = subst (Facing xs ys (length xs)) c.in-Some.is c.in_ok-place.ensures in
+    let least = subst (IsLeastDifference xs ys (length xs)) c.in-Some.is c.in_ok-place.ensures in
     let within : i < length ys = omega (arith, least.0.before) in
     least_decides xs ys (omega arith) i c.in-Some.code p q (slice_get_read xs (length xs) i p refl least.0.before c.index-options-place.is)
     (slice_get_read ys (length ys) i q refl within c.index-others-place.is) c.is_alone.ensures.small least (c.is_alone.ensures.alone c.if-not-is_alone.false)

@@ -1,13 +1,13 @@
 use Rattle.std.proofs.Common.{◌≡◌, ◌⊎◌, ◌∙◌, refl, sym}
 use Rattle.std.specs.Prelude.{IfErr}
-use Rattle.dns_words.specs.Reads.{UnlessMemory}
+use Rattle.dns_words.specs.Reads.{UnlessParseMemory}
 use Rattle.dns_rdata_zone.specs.{ZoneSteps.UnknownIsNone, ZoneFaults.BehindMarkFault}
 use Rattle.dns_types.specs.declared.error.ParseError.TheVariants as parse
 use Rattle.dns_rdata_zone.proofs.ZoneSteps.{exit_with, unknown_refused, not_whole, unknown_why, pointer_why}
 use Rattle.dns_rdata_zone.proofs.reading.from_unknown_data.Goals as goal
 
 pub returns-in_err-value-clause-refused : goal.returns-in_err-value-clause-refused
-returns-in_err-value-clause-refused c = exit_with (λ r. IfErr r (λ e. UnlessMemory e (UnknownIsNone c.args.record_type c.args.words.now))) _ c.from_residual-in_err-value.result
+returns-in_err-value-clause-refused c = exit_with (λ r. IfErr r (λ e. UnlessParseMemory e (UnknownIsNone c.args.record_type c.args.words.now))) _ c.from_residual-in_err-value.result
     c.from_residual-in_err-value.ensures.1
     (unknown_refused _ c.args.record_type c.in_ok-octets.octets c.as_slice.result.now c.args.words.now c.as_slice.ensures.value c.in_ok-octets.ensures.reads c.in_err-value.ensures.refused)
 

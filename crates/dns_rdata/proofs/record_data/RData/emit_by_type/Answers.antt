@@ -1,4 +1,4 @@
-use Rattle.std.proofs.Common.{rules}
+use Rattle.std.proofs.Common.{⊎_elim, rules}
 use Rattle.dns_rdata.specs.Data.{EmitsData}
 use Rattle.dns_rdata.proofs.record_data.RData.emit_by_type.Goals as goal
 
@@ -8,8 +8,4 @@ returns-in-Unknown c = rw c.in-Unknown.is c.emit.ensures.emits
 
 pub returns-in-Update0 : goal.returns-in-Update0
 unfolding EmitsData
-returns-in-Update0 c = rw c.in-Update0.is (search rules)
-
-pub returns-in-ZERO : goal.returns-in-ZERO
-unfolding EmitsData
-returns-in-ZERO c = rw c.in-ZERO.is (search rules)
+returns-in-Update0 c = ⊎_elim (λ h. rw h.1 (search rules)) (λ h. rw h (search rules)) c.in-Update0.is

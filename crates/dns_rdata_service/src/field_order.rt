@@ -2,7 +2,7 @@
 
 ghost use Rattle.std.specs.{Cmp.Lexicographic.slice_cmp, Prelude.◌≡◌, Prelude.map, Ordering.nat_cmp};
 ghost use Rattle.dns_fields.specs.{Equal.key_cmp, Equal.parameter_keys, Order.values_cmp};
-ghost use Rattle.dns_rdata_service.specs.{Ordering.parameter_order, Ordering.value_place, Ordering.Differ, SVCB.svcb_key_shape, SVCB.svcb_keys};
+ghost use Rattle.dns_rdata_service.specs.{ParameterOrder.parameter_order, ParameterOrder.value_place, ParameterOrder.Differ, SVCB.svcb_key_shape, SVCB.svcb_keys};
 ghost use Rattle.dns_rdata_service.specs.{SvcParamValue.key_numbers, SvcParamValue.value_key, Parameters.own_parameter};
 
 use crate::hints::hints_cmp;

@@ -18,7 +18,7 @@ pub record AtBoth (xs ys : List Pair) (n j : ℕ) (p q : Pair) : Type 0 where
   pub second : slice_get ys j ≡ Some q
 
 -- the codes have one number, and where the pairs differ it is this one or a greater one
-pub record AreAbreast (code : ℕ) (p q : Pair) : Type 0 where
+pub record AreAlikeBelow (code : ℕ) (p q : Pair) : Type 0 where
   pub same_code : code_number p ≡ code_number q
   pub alike : (p ≡ q) ⊎ (code ≤ code_number p)
 
@@ -28,9 +28,9 @@ pub record IsPlaceOf (xs : List Pair) (n i code : ℕ) : Type 0 where
   pub has : (p : Pair) → slice_get xs i ≡ Some p → code_number p ≡ code
 
 -- what is found of the pairs in front of place n: all are alike, or of those that differ none has a lesser code than this one
-abbrev pub Facing : List Pair → List Pair → ℕ → Option (ℕ × ℕ) → Type 0
-Facing xs ys n None = (j : ℕ) (p q : Pair) → AtBoth xs ys n j p q → p ≡ q
-Facing xs ys n (Some place) = IsPlaceOf xs n place.0 place.1 × ((j : ℕ) (p q : Pair) → AtBoth xs ys n j p q → AreAbreast place.1 p q)
+abbrev pub IsLeastDifference : List Pair → List Pair → ℕ → Option (ℕ × ℕ) → Type 0
+IsLeastDifference xs ys n None = (j : ℕ) (p q : Pair) → AtBoth xs ys n j p q → p ≡ q
+IsLeastDifference xs ys n (Some place) = IsPlaceOf xs n place.0 place.1 × ((j : ℕ) (p q : Pair) → AtBoth xs ys n j p q → AreAlikeBelow place.1 p q)
 
 -- another code than this one
 pub record IsOtherCode (code : ℕ) (p : Pair) : Type 0 where

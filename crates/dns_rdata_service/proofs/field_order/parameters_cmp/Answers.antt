@@ -2,7 +2,7 @@ use Rattle.std.proofs.{Common.◌∙◌, Common.map, Common.arith, lemmas.List.l
 use Rattle.dns_fields.specs.Equal.{key_cmp, parameter_key, parameter_keys}
 use Rattle.dns_rdata_service.specs.Parameters.{own_parameter}
 use Rattle.dns_rdata_service.proofs.SvcbFronts.{by_lengths}
-use Rattle.dns_rdata_service.proofs.ordering.parameters_cmp.Goals as goal
+use Rattle.dns_rdata_service.proofs.field_order.parameters_cmp.Goals as goal
 
 pub returns : goal.returns
 returns c =

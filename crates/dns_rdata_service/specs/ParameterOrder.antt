@@ -1,4 +1,4 @@
--- The order of service bindings by their fields.
+-- The orders of parameters: by their fields, and by their octets.
 use Rattle.std.specs.{Prelude.ℕ, Prelude.◌≡◌, Prelude.List, Prelude.◌++◌, Prelude.length, Ordering.nat_cmp, Ordering.ordering_then, List.flat_map}
 use Rattle.std.specs.{declared.cmp.Ordering.Ordering, Cmp.Lexicographic.slice_cmp, Int.bytes_high_first}
 use Rattle.dns_fields.specs.{Pieces.piece, Pieces.as_piece, Pieces.parameter_octets, Equal.key_cmp, Equal.parameter_key}

@@ -1,0 +1,81 @@
+//! Matches over the records.
+
+// Calls a macro with the arguments in front of the types that have a record of their own, each with its place among the
+// variants.
+macro_rules! with_records {
+    ($macro:ident, $arguments:tt) => {
+        $macro!(
+            $arguments (A 0) (AAAA 1) (ANAME 2) (CAA 3) (CERT 4) (CNAME 5) (CSYNC 6) (HINFO 7)
+            (HTTPS 8) (MX 9) (NAPTR 10) (NULL 11) (NS 12) (OPENPGPKEY 13) (OPT 14) (PTR 15)
+            (SMIMEA 16) (SOA 17) (SRV 18) (SSHFP 19) (SVCB 20) (TLSA 21) (TXT 22)
+        )
+    };
+}
+
+// Matches a value: the arms that are given first, and then one for each record, all with the same body.
+macro_rules! each {
+    (($value:expr, $x:ident => $body:expr, $($pattern:pat => $other:expr,)+) $(($record:ident $place:literal))+) => {
+        match $value {
+            $($pattern => $other,)+
+            $(RData::$record($x) => $body,)+
+        }
+    };
+    ($($arguments:tt)+) => {
+        with_records!(each, ($($arguments)+))
+    };
+}
+
+// Matches two values: the arms that are given first, and then one for two records of each type that is named. The first
+// types are compared by a call, the others in place.
+macro_rules! equal_each {
+    ($values:expr, [$($called:ident)+], [$($record:ident)+], $($pattern:pat => $other:expr),+; $last:expr) => {
+        match $values {
+            $($pattern => $other,)+
+            $((RData::$called(a), RData::$called(b)) => is_equal(a, b),)+
+            $((RData::$record(a), RData::$record(b)) => *a == *b,)+
+            _ => $last,
+        }
+    };
+}
+
+// Matches the type of the data: the arms that are given first, and then one for each record, which reads it, counts the
+// octets that were taken, and returns.
+macro_rules! read_each {
+    (
+        ($record_type:expr, $decoder:ident, $start:ident, $length:ident, $($pattern:pat => $other:expr),+; $code:ident => $last:expr)
+        $(($record:ident $place:literal))+
+    ) => {
+        match $record_type {
+            $($pattern => $other,)+
+            $(RecordType::$record => {
+                let data = $record::read_data($decoder, $length);
+                return Ok(RData::$record(by_length(data, $decoder, $start, $length)?));
+            })+
+            $code => $last,
+        }
+    };
+    ($($arguments:tt)+) => {
+        with_records!(read_each, ($($arguments)+))
+    };
+}
+
+// Copies a value: the arms that are given first, and then one for each record. Addresses are copied as they are.
+macro_rules! clone_each {
+    (($value:expr, $($pattern:pat => $other:expr,)+) (A 0) (AAAA 1) $(($record:ident $place:literal))+) => {
+        match $value {
+            $($pattern => $other,)+
+            RData::A(a) => return Ok(RData::A(*a)),
+            RData::AAAA(a) => return Ok(RData::AAAA(*a)),
+            $(RData::$record(data) => return Ok(RData::$record(data.clone()?)),)+
+        }
+    };
+    ($($arguments:tt)+) => {
+        with_records!(clone_each, ($($arguments)+))
+    };
+}
+
+pub(crate) use clone_each;
+pub(crate) use each;
+pub(crate) use equal_each;
+pub(crate) use read_each;
+pub(crate) use with_records;

@@ -1,0 +1,169 @@
+-- The text of a value, by its row or as unknown data, gives its octets, and tells them.
+use Rattle.std.proofs.Common.{◌≡◌, ◌≢◌, ◌⊎◌, ℕ, suc, ◌+◌, ◌*◌, ◌/◌, ◌%◌, ◌^◌, ◌<◌, ◌≤◌, Bool, true, false, cond, eqb, ◌&&◌, nat_le, List, [], ◌∷◌}
+use Rattle.std.proofs.Common.{◌++◌, length, take, drop, zero, replicate, rules, get_or, decimal, codes, inl, inr, lit<, Option, Some, None, Result}
+use Rattle.std.proofs.Common.{Ok, refl, sym, ◌∙◌, ap, subst, append_assoc, arith}
+use Rattle.std.specs.Prelude.{flat_map, bytes_eq, slice_index}
+use Rattle.std.specs.{Char.to_ascii_lowercase, Char.is_ascii_alphanumeric, Int.bytes_high_first, Str.str_eq_ignore_ascii_case}
+use Rattle.std.specs.{Str.str_to_ascii_lowercase, List.AllByRecursion, List.list_all, Net.Grammar.IsDotted, Net.Grammar.IsGroups}
+use Rattle.std.specs.{Net.Grammar.IsColonHex, Net.Text.ipv4_text, Net.Text.ipv6_text, Net.Text.hex_groups_text}
+use Rattle.std.specs.{declared.net.ipv4_addr.Ipv4Addr.Ipv4Addr, declared.net.ipv6_addr.Ipv6Addr.Ipv6Addr, Str.Parse.digits_value}
+use Rattle.std.specs.Net.Addr.{IsIpv4Addr, IsIpv6Addr, ipv4_octets, ipv6_octets, ipv6_segments, octets_of}
+use Rattle.std.proofs.{lemmas.Bool.Decides.nat_tests, lemmas.Fmt.decimal_is_IsNumeral, lemmas.Fmt.length-decimal-le, lemmas.List.append-nil}
+use Rattle.std.proofs.{lemmas.List.Elements.All-head, lemmas.List.Elements.All-tail, lemmas.Str.Parse.digit_at}
+use Rattle.std.proofs.NetLemmas.Alphabet.{IsDigitOrDot, IsHexOrColon, All-ipv4_text, All-hex_groups_text}
+use Rattle.std.proofs.NetLemmas.Texts.{IsDotted-ipv4_text, IsColonHex-ipv6_text, AllSegments, AllSegments-drop}
+use Rattle.dns_fields.specs.{Pieces.string as string_octets, Labels.DomainName, Labels.IsName, Octets.AreOctets, Bitmaps.block, Bitmaps.minimal}
+use Rattle.dns_types.specs.{RecordTypes.number_of, RecordTypes.record_type_of, RecordTypes.IsTypeText, declared.record_type.RecordType.RecordType}
+use Rattle.dns_types.specs.declared.record_type.RecordType.TheVariants.{ZERO, ANAME, Unknown}
+use Rattle.dns_types.proofs.RecordTypeLaws.{number_of-record_type_of}
+use Rattle.dns_words.proofs.Printed.{ipv4_back, ipv6_back}
+use Rattle.dns_zone_words.specs.{Forms.text, NameWords.name, NameWords.name_octets, Words.Word, Words.between, Words.words_from}
+use Rattle.dns_zone_words.specs.Remaining.{AreUnknown, IsUnknownMark, AreStrings, AreHex, AreBase64}
+use Rattle.dns_zone_words.specs.declared.words_error.WordsError.{WordsError}
+use Rattle.hex.specs.Hex.{encode_with, encode_lower, lower_digits, decode_of as hex_of, decode_pairs, IsBytes}
+use Rattle.hex.specs.declared.error.FromHexError.{FromHexError}
+use Rattle.hex.proofs.HexLemmas.{decode_of-encode_lower}
+use Rattle.base64.specs.{Engines.standard, Rfc4648.encode_symbols, Rfc4648.padding_len}
+use Rattle.base64.specs.GeneralPurpose.{encode_of, decode_of as base64_of}
+use Rattle.base64.proofs.EngineFacts.{decode_of-encode_of}
+use Rattle.dns_zone_rows.proofs.Once.{row_once}
+use Rattle.dns_zone_rows.specs.Mnemonics.{Named, number_named, IsNamedNumber, cert_types, algorithms}
+use Rattle.dns_zone_rows.specs.Rows.{RowShape, RowGives, IsTypeNumber, AreTypes, FieldKind, Number, NamedNumber, Ttl, Ipv4, Ipv6, Name, String, Tag}
+use Rattle.dns_zone_rows.specs.Rows.{Octets, RestKind, SomeStrings, SomeHex, SomeBase64, AnyTypes, FieldGives, RestGives, FieldsGive}
+use Rattle.dns_zone_rows.specs.RowTable.{row_of}
+use Rattle.dns_rdata_zone.specs.{Names.zone_label, Names.zone_labels, Names.zone_name, Strings.quoted, Strings.spaced, ZoneGives.GiveByRow}
+use Rattle.dns_rdata_zone.specs.{ZoneGives.AreUnmarked, ZoneGives.TextGives, Records.zone_type, Generic.generic}
+use Rattle.dns_rdata_zone.specs.Spellings.{escaped, needs_backslash, name_octet}
+use Rattle.dns_rdata_zone.proofs.Cuts.{AreCut, cut_then, bare_word, quoted_word, is_run_octet, plain_cut, bare_cut, mark_begins, AreRunOctets}
+use Rattle.dns_rdata_zone.proofs.Cuts.{run_not, run_by_index, run_all, run_both, quoted_cut, spelled_quotes, name_cut, NoneEmpty}
+use Rattle.dns_rdata_zone.proofs.Letters.{first_true, second_true}
+use Rattle.dns_rdata_zone.proofs.WordForms.{number_form, ttl_form, text_form, name_form}
+use Rattle.dns_rdata_zone.proofs.RowForms.{RowText, bytes_of, decimal_run, decimal_some}
+use Rattle.dns_rdata_zone.proofs.RestForms.{hex_form, hex_none, hex_run, hex_some}
+
+-- ---- unknown data
+
+mark_cut : AreCut (92 ∷ 35 ∷ []) (bare_word (92 ∷ 35 ∷ []) ∷ [])
+mark_cut = bare_cut (92 ∷ 35 ∷ []) mark_begins
+
+-- length and digits
+unknown_cut : (s : List ℕ) → s ≢ [] → AreOctets s → length s < 2 ^ 64
+    → AreCut (decimal (length s) ++ 32 ∷ encode_lower s) (bare_word (decimal (length s)) ∷ bare_word (encode_lower s) ∷ [])
+unknown_cut s some h small =
+    cut_then (plain_cut (decimal (length s)) (decimal_some (length s) small) (decimal_run (length s) small)) (plain_cut (encode_lower s) (hex_some s some) (hex_run s h))
+
+generic_is : (d e : List ℕ) → codes "\\# " ++ d ++ codes " " ++ e ≡ (92 ∷ 35 ∷ []) ++ 32 ∷ (d ++ 32 ∷ e)
+generic_is d e = simp append_assoc
+
+-- the words behind `\#`
+abbrev pub unknown_words : List ℕ → List Word
+unknown_words [] = bare_word (codes "0") ∷ []
+unknown_words (c ∷ s) = bare_word (decimal (length (c ∷ s))) ∷ bare_word (encode_lower (c ∷ s)) ∷ []
+
+pub generic_cut : (s : List ℕ) → AreOctets s → length s < 2 ^ 64 → AreCut (generic s) (bare_word (92 ∷ 35 ∷ []) ∷ unknown_words s)
+generic_cut [] h small = cut_then mark_cut (plain_cut (codes "0") (λ e. absurd (cc e)) (refl, tt))
+generic_cut (c ∷ s) h small =
+    subst (λ (t : List ℕ). AreCut t (bare_word (92 ∷ 35 ∷ []) ∷ unknown_words (c ∷ s))) (sym (generic_is (decimal (length (c ∷ s))) (encode_lower (c ∷ s))))
+    (cut_then mark_cut (unknown_cut (c ∷ s) (λ e. absurd (cc e)) h small))
+
+unknown_are : (s : List ℕ) → AreOctets s → length s < 2 ^ 16 → AreUnknown s (unknown_words s)
+unknown_are [] h small = (record { bare = refl; digits = (omega arith, (omega arith, tt)); value = refl }, omega arith, record { bare = tt; digits = hex_none })
+unknown_are (c ∷ s) h small = ((number_form 2 (length (c ∷ s)) (omega (arith, small)) (omega (arith, small))).0, small, hex_form (c ∷ s) h)
+
+pub unknown_text : (origin : Option DomainName) (t : RecordType) (s : List ℕ) → AreOctets s → length s < 2 ^ 16 → TextGives origin t s (generic s)
+unknown_text origin t s h small = record {
+  words = bare_word (92 ∷ 35 ∷ []) ∷ unknown_words s;
+  cut = (generic_cut s h (omega (arith, small))).last;
+  give = inl (record { bare = refl; octets = refl }, unknown_are s h small);
+}
+
+-- ---- the form of unknown data tells its octets
+
+second_octets : List Word → List ℕ
+second_octets (x ∷ y ∷ words) = y.octets
+second_octets words = []
+
+same_words : (a b : List Word) → ◌≡◌ {A = Result (List Word) WordsError} (Ok a) (Ok b) → a ≡ b
+same_words a b e = cc e
+
+both_none : (s : List ℕ) → bare_word (codes "0") ∷ [] ≡ unknown_words s → [] ≡ s
+both_none [] e = refl
+both_none (c ∷ s) e = let n : 1 ≡ 2 = ap length e in absurd (omega (arith, n))
+
+behind_same : (a b : List ℕ) → AreOctets a → AreOctets b → unknown_words a ≡ unknown_words b → a ≡ b
+unfolding second_octets
+behind_same [] b h k e = both_none b e
+behind_same (c ∷ s) [] h k e = sym (both_none (c ∷ s) (sym e))
+behind_same (c ∷ s) (d ∷ u) h k e =
+    let digits : encode_lower (c ∷ s) ≡ encode_lower (d ∷ u) = ap second_octets e in
+    same_ok (c ∷ s) (d ∷ u) (sym (decode_of-encode_lower (c ∷ s) (bytes_of (c ∷ s) h)) ∙ ap hex_of digits ∙ decode_of-encode_lower (d ∷ u) (bytes_of (d ∷ u) k)) where
+      same_ok : (x y : List ℕ) → ◌≡◌ {A = Result (List ℕ) FromHexError} (Ok x) (Ok y) → x ≡ y
+      same_ok x y f = cc f
+
+rest_of : List Word → List Word
+rest_of [] = []
+rest_of (x ∷ words) = words
+
+pub generic_same : (a b : List ℕ) → AreOctets a → AreOctets b → length a < 2 ^ 64 → length b < 2 ^ 64 → generic a ≡ generic b → a ≡ b
+unfolding rest_of
+generic_same a b h k small fits e =
+    let words = same_words _ _ (sym (generic_cut a h small).last ∙ ap (words_from (between 0 false)) e ∙ (generic_cut b k fits).last) in
+    behind_same a b h k (ap rest_of words)
+
+-- ---- a row's text
+
+-- the text is that of a row of the type, and gives these octets
+pub record OwnText (origin : Option DomainName) (t : RecordType) (text octets : List ℕ) : Type 0 where
+  pub row : RowShape
+  pub of : row_of t ≡ Some row
+  pub reads : RowText origin row.fields row.rest text octets
+
+pub own_gives : {origin : Option DomainName} {t : RecordType} {text octets : List ℕ} → OwnText origin t text octets → TextGives origin t octets text
+own_gives {origin = origin} {octets = octets} h = record {
+  words = h.reads.words;
+  cut = h.reads.cut.last;
+  give = inr (h.reads.unmarked, subst (λ (r : Option RowShape). GiveByRow origin r octets h.reads.words) (sym h.of) (record { fields = h.reads.gives }));
+}
+
+same_row : (o : Option RowShape) (a b : RowShape) → o ≡ Some a → o ≡ Some b → a ≡ b
+same_row o a b e f = cc
+
+-- two texts of a type that are the same
+pub own_same : {origin : Option DomainName} {t : RecordType} {a b x y : List ℕ} → OwnText origin t a x → OwnText origin t b y → a ≡ b → x ≡ y
+own_same {origin = origin} {t = t} {x = x} {y = y} h k e =
+    let row : k.row ≡ h.row = same_row (row_of t) k.row h.row k.of h.of in
+    let words : k.reads.words ≡ h.reads.words = same_words _ _ (sym k.reads.cut.last ∙ ap (words_from (between 0 false)) (sym e) ∙ h.reads.cut.last) in
+    let gives : RowGives origin h.row y h.reads.words =
+    subst (λ (ws : List Word). RowGives origin h.row y ws) words (subst (λ (r : RowShape). RowGives origin r y k.reads.words) row (record { fields = k.reads.gives })) in
+    row_once origin h.row x y h.reads.words (record { fields = h.reads.gives }) gives
+
+mark_not : (words rest : List Word) → words ≡ bare_word (92 ∷ 35 ∷ []) ∷ rest → AreUnmarked words → ⊥
+mark_not words rest e h = (subst AreUnmarked e h) (record { bare = refl; octets = refl })
+
+-- a text of a row is no form of unknown data
+pub own_not_generic : {origin : Option DomainName} {t : RecordType} {a x : List ℕ} (s : List ℕ) → OwnText origin t a x → AreOctets s → length s < 2 ^ 64 → a ≡ generic s → ⊥
+own_not_generic s h k small e =
+    mark_not h.reads.words (unknown_words s) (same_words _ _ (sym h.reads.cut.last ∙ ap (words_from (between 0 false)) e ∙ (generic_cut s k small).last)) h.reads.unmarked
+
+-- ---- a text of either form
+
+abbrev pub TextIs : Option DomainName → RecordType → List ℕ → List ℕ → Type 0
+TextIs origin t text octets = (text ≡ generic octets) ⊎ OwnText origin t text octets
+
+pub text_gives : {origin : Option DomainName} {t : RecordType} {text octets : List ℕ} → AreOctets octets → length octets < 2 ^ 16 → TextIs origin t text octets
+    → TextGives origin t octets text
+text_gives {origin = origin} {t = t} {octets = octets} h small (inl e) = subst (λ (s : List ℕ). TextGives origin t octets s) (sym e) (unknown_text origin t octets h small)
+text_gives h small (inr own) = own_gives own
+
+pub text_same : {origin : Option DomainName} {t : RecordType} {a b x y : List ℕ} → AreOctets x → AreOctets y → length x < 2 ^ 64 → length y < 2 ^ 64
+    → TextIs origin t a x → TextIs origin t b y → a ≡ b → x ≡ y
+text_same {x = x} {y = y} h k small fits (inl e) (inl f) same = generic_same x y h k small fits (sym e ∙ same ∙ f)
+text_same {x = x} h k small fits (inl e) (inr own) same = absurd (own_not_generic x own h small (sym same ∙ e))
+text_same {y = y} h k small fits (inr own) (inl f) same = absurd (own_not_generic y own k fits (same ∙ f))
+text_same h k small fits (inr own) (inr other) same = own_same own other same
+
+-- one of two texts
+pub one_of : {origin : Option DomainName} {t : RecordType} (b : Bool) {own other octets : List ℕ} → (b ≡ true → OwnText origin t own octets) → other ≡ generic octets
+    → TextIs origin t (cond b own other) octets
+one_of true h e = inr (h refl)
+one_of false h e = inl e

@@ -1,0 +1,272 @@
+-- What takes all words that are left, written and given back: hexadecimal, base64, strings and types.
+use Rattle.std.proofs.Common.{◌≡◌, ◌≢◌, ◌⊎◌, ℕ, suc, ◌+◌, ◌*◌, ◌/◌, ◌%◌, ◌^◌, ◌<◌, ◌≤◌, Bool, true, false, cond, eqb, ◌&&◌, nat_le, List, [], ◌∷◌}
+use Rattle.std.proofs.Common.{◌++◌, length, take, drop, zero, replicate, rules, get_or, decimal, codes, inl, inr, lit<, Option, Some, None, Result}
+use Rattle.std.proofs.Common.{Ok, refl, sym, ◌∙◌, ap, subst, append_assoc, arith}
+use Rattle.std.specs.Prelude.{flat_map, bytes_eq, slice_index}
+use Rattle.std.specs.{Char.to_ascii_lowercase, Char.is_ascii_alphanumeric, Int.bytes_high_first, Str.str_eq_ignore_ascii_case}
+use Rattle.std.specs.{Str.str_to_ascii_lowercase, List.AllByRecursion, List.list_all, Net.Grammar.IsDotted, Net.Grammar.IsGroups}
+use Rattle.std.specs.{Net.Grammar.IsColonHex, Net.Text.ipv4_text, Net.Text.ipv6_text, Net.Text.hex_groups_text}
+use Rattle.std.specs.{declared.net.ipv4_addr.Ipv4Addr.Ipv4Addr, declared.net.ipv6_addr.Ipv6Addr.Ipv6Addr, Str.Parse.digits_value}
+use Rattle.std.specs.Net.Addr.{IsIpv4Addr, IsIpv6Addr, ipv4_octets, ipv6_octets, ipv6_segments, octets_of}
+use Rattle.std.proofs.{lemmas.Bool.Decides.nat_tests, lemmas.Fmt.decimal_is_IsNumeral, lemmas.Fmt.length-decimal-le, lemmas.List.append-nil}
+use Rattle.std.proofs.{lemmas.List.Elements.All-head, lemmas.List.Elements.All-tail, lemmas.Str.Parse.digit_at}
+use Rattle.std.proofs.NetLemmas.Alphabet.{IsDigitOrDot, IsHexOrColon, All-ipv4_text, All-hex_groups_text}
+use Rattle.std.proofs.NetLemmas.Texts.{IsDotted-ipv4_text, IsColonHex-ipv6_text, AllSegments, AllSegments-drop}
+use Rattle.dns_fields.specs.{Pieces.string as string_octets, Labels.DomainName, Labels.IsName, Octets.AreOctets, Bitmaps.block, Bitmaps.minimal}
+use Rattle.dns_types.specs.{RecordTypes.number_of, RecordTypes.record_type_of, RecordTypes.IsTypeText, declared.record_type.RecordType.RecordType}
+use Rattle.dns_types.specs.declared.record_type.RecordType.TheVariants.{ZERO, ANAME, Unknown}
+use Rattle.dns_types.proofs.RecordTypeLaws.{number_of-record_type_of}
+use Rattle.dns_words.proofs.Printed.{ipv4_back, ipv6_back}
+use Rattle.dns_zone_words.specs.{Forms.text, NameWords.name, NameWords.name_octets, Words.Word, Words.between, Words.words_from}
+use Rattle.dns_zone_words.specs.Remaining.{AreUnknown, IsUnknownMark, AreStrings, AreHex, AreBase64}
+use Rattle.dns_zone_words.specs.declared.words_error.WordsError.{WordsError}
+use Rattle.hex.specs.Hex.{encode_with, encode_lower, lower_digits, decode_of as hex_of, decode_pairs, IsBytes}
+use Rattle.hex.specs.declared.error.FromHexError.{FromHexError}
+use Rattle.hex.proofs.HexLemmas.{decode_of-encode_lower}
+use Rattle.base64.specs.{Engines.standard, Rfc4648.encode_symbols, Rfc4648.padding_len}
+use Rattle.base64.specs.GeneralPurpose.{encode_of, decode_of as base64_of}
+use Rattle.base64.proofs.EngineFacts.{decode_of-encode_of}
+use Rattle.dns_zone_rows.proofs.Once.{row_once}
+use Rattle.dns_zone_rows.specs.Mnemonics.{Named, number_named, IsNamedNumber, cert_types, algorithms}
+use Rattle.dns_zone_rows.specs.Rows.{RowShape, RowGives, IsTypeNumber, AreTypes, FieldKind, Number, NamedNumber, Ttl, Ipv4, Ipv6, Name, String, Tag}
+use Rattle.dns_zone_rows.specs.Rows.{Octets, RestKind, SomeStrings, SomeHex, SomeBase64, AnyTypes, FieldGives, RestGives, FieldsGive}
+use Rattle.dns_zone_rows.specs.RowTable.{row_of}
+use Rattle.dns_rdata_zone.specs.{Names.zone_label, Names.zone_labels, Names.zone_name, Strings.quoted, Strings.spaced, ZoneGives.GiveByRow}
+use Rattle.dns_rdata_zone.specs.{ZoneGives.AreUnmarked, ZoneGives.TextGives, Records.zone_type, Generic.generic}
+use Rattle.dns_rdata_zone.specs.Spellings.{escaped, needs_backslash, name_octet}
+use Rattle.dns_rdata_zone.proofs.Cuts.{AreCut, cut_then, bare_word, quoted_word, is_run_octet, plain_cut, bare_cut, mark_begins, AreRunOctets}
+use Rattle.dns_rdata_zone.proofs.Cuts.{run_not, run_by_index, run_all, run_both, quoted_cut, spelled_quotes, name_cut, NoneEmpty}
+use Rattle.dns_rdata_zone.proofs.Letters.{first_true, second_true}
+use Rattle.dns_rdata_zone.proofs.WordForms.{number_form, ttl_form, text_form, name_form}
+use Rattle.dns_rdata_zone.proofs.RowForms.{FieldText, RowText, bare_unmarked, bytes_of, decimal_run, quoted_unmarked, row_last, row_text}
+use Rattle.dns_rdata_zone.proofs.RowForms.{row_then, run_first, wide}
+
+-- ---- what takes all words that are left
+
+-- a text of words that give these octets
+pub record RestText (rest : RestKind) (text octets : List ℕ) : Type 0 where
+  pub words : List Word
+  pub cut : AreCut text words
+  pub gives : RestGives rest octets words
+  pub unmarked : AreUnmarked words
+
+pub row_rest : {origin : Option DomainName} {rest : RestKind} {a x : List ℕ} → RestText rest a x → RowText origin [] rest a x
+row_rest h = record { words = h.words; cut = h.cut; gives = h.gives; unmarked = h.unmarked }
+
+table_run : (t : List ℕ) (k : ℕ) → list_all is_run_octet t ≡ true → k < length t → is_run_octet (slice_index t k) ≡ true
+table_run [] k h lt = absurd (omega arith)
+table_run (c ∷ t) zero h lt = first_true (is_run_octet c) (list_all is_run_octet t) h
+table_run (c ∷ t) (suc k) h lt = table_run t k (second_true (is_run_octet c) (list_all is_run_octet t) h) (omega arith)
+
+hex_digit_run : (k : ℕ) → k < 16 → is_run_octet (slice_index lower_digits k) ≡ true
+hex_digit_run k h = let sixteen : length lower_digits ≡ 16 = refl in table_run lower_digits k refl (omega (arith, sixteen))
+
+pub hex_run : (s : List ℕ) → AreOctets s → AreRunOctets (encode_lower s)
+unfolding encode_with
+hex_run [] h = tt
+hex_run (b ∷ s) h =
+    let low : b < 256 = All-head (λ x. x < 256) b s h in
+    (hex_digit_run (b / 16) (omega arith), (hex_digit_run (b % 16) (omega arith), hex_run s (All-tail (λ x. x < 256) b s h)))
+
+pub hex_some : (s : List ℕ) → s ≢ [] → encode_lower s ≢ []
+unfolding encode_with
+hex_some [] h = absurd (h refl)
+hex_some (b ∷ s) h = λ e. absurd (cc e)
+
+pub hex_none : hex_of [] ≡ Ok []
+unfolding decode_pairs
+hex_none = refl
+
+pub hex_form : (s : List ℕ) → AreOctets s → AreHex s (bare_word (encode_lower s) ∷ [])
+hex_form s h = record { bare = (refl, tt); digits = ap hex_of (append-nil (encode_lower s)) ∙ decode_of-encode_lower s (bytes_of s h) }
+
+pub hex_text : (s : List ℕ) → s ≢ [] → AreOctets s → RestText SomeHex (encode_lower s) s
+hex_text s some h = record {
+  words = bare_word (encode_lower s) ∷ [];
+  cut = plain_cut (encode_lower s) (hex_some s some) (hex_run s h);
+  gives = ((λ e. absurd (cc e)), hex_form s h);
+  unmarked = bare_unmarked (encode_lower s) (run_first (encode_lower s) (hex_some s some) (hex_run s h));
+}
+
+-- ---- base64
+
+abbrev symbols : List ℕ
+symbols = standard.encode_table
+
+symbol_run : (k : ℕ) → k < 64 → is_run_octet (slice_index symbols k) ≡ true
+symbol_run k h = let sixty_four : length symbols ≡ 64 = refl in table_run symbols k refl (omega (arith, sixty_four))
+
+padding_run : (n : ℕ) → AreRunOctets (replicate n 61)
+padding_run zero = tt
+padding_run (suc n) = (refl, padding_run n)
+
+symbols_run : (s : List ℕ) → AreOctets s → AreRunOctets (encode_symbols symbols s)
+unfolding encode_symbols
+symbols_run [] h = tt
+symbols_run (a ∷ []) h =
+    let low_a : a < 256 = All-head (λ x. x < 256) a [] h in
+    (symbol_run (a / 4) (omega arith), (symbol_run (a % 4 * 16) (omega arith), tt))
+symbols_run (a ∷ b ∷ []) h =
+    let low_a : a < 256 = All-head (λ x. x < 256) a (b ∷ []) h in
+    let low_b : b < 256 = All-head (λ x. x < 256) b [] (All-tail (λ x. x < 256) a (b ∷ []) h) in
+    (symbol_run (a / 4) (omega arith), (symbol_run (a % 4 * 16 + b / 16) (omega arith), (symbol_run (b % 16 * 4) (omega arith), tt)))
+symbols_run (a ∷ b ∷ c ∷ rest) h =
+    let behind = All-tail (λ x. x < 256) a (b ∷ c ∷ rest) h in
+    let later = All-tail (λ x. x < 256) b (c ∷ rest) behind in
+    let low_a : a < 256 = All-head (λ x. x < 256) a (b ∷ c ∷ rest) h in
+    let low_b : b < 256 = All-head (λ x. x < 256) b (c ∷ rest) behind in
+    let low_c : c < 256 = All-head (λ x. x < 256) c rest later in (
+      symbol_run (a / 4) (omega arith),
+      (
+        symbol_run (a % 4 * 16 + b / 16) (omega arith),
+        (
+          symbol_run (b % 16 * 4 + c / 64) (omega arith),
+          (
+            symbol_run (c % 64) (omega arith),
+            symbols_run rest (All-tail (λ x. x < 256) c rest later),
+          ),
+        ),
+      ),
+    )
+
+pub base64_run : (s : List ℕ) → AreOctets s → AreRunOctets (encode_of standard s)
+base64_run s h = run_both (encode_symbols symbols s) (replicate (padding_len (length s)) 61) (symbols_run s h) (padding_run (padding_len (length s)))
+
+symbols_some : (s rest : List ℕ) → s ≢ [] → encode_symbols symbols s ++ rest ≢ []
+unfolding encode_symbols
+symbols_some [] rest h = absurd (h refl)
+symbols_some (a ∷ []) rest h = λ e. absurd (cc e)
+symbols_some (a ∷ b ∷ []) rest h = λ e. absurd (cc e)
+symbols_some (a ∷ b ∷ c ∷ s) rest h = λ e. absurd (cc e)
+
+pub base64_some : (s : List ℕ) → s ≢ [] → encode_of standard s ≢ []
+base64_some s h = symbols_some s (replicate (padding_len (length s)) 61) h
+
+pub base64_form : (s : List ℕ) → AreOctets s → AreBase64 s (bare_word (encode_of standard s) ∷ [])
+base64_form s h = record {
+  bare = (refl, tt);
+  digits = ap (base64_of standard) (append-nil (encode_of standard s)) ∙ decode_of-encode_of standard s (search rules) (bytes_of s h);
+}
+
+pub base64_text : (s : List ℕ) → s ≢ [] → AreOctets s → RestText SomeBase64 (encode_of standard s) s
+base64_text s some h = record {
+  words = bare_word (encode_of standard s) ∷ [];
+  cut = plain_cut (encode_of standard s) (base64_some s some) (base64_run s h);
+  gives = ((λ e. absurd (cc e)), base64_form s h);
+  unmarked = bare_unmarked (encode_of standard s) (run_first (encode_of standard s) (base64_some s some) (base64_run s h));
+}
+
+-- ---- lists with a blank between two
+
+pub list_cut : {X : Type 0} (f : X → List ℕ) (g : X → List Word) (x : X) (xs : List X) → AllByRecursion (λ y. AreCut (f y) (g y)) (x ∷ xs)
+    → AreCut (f x ++ flat_map (λ y. codes " " ++ f y) xs) (flat_map g (x ∷ xs))
+list_cut f g x [] h = subst (λ (t : List ℕ). AreCut t (g x ++ [])) (sym (append-nil (f x))) (subst (λ (ws : List Word). AreCut (f x) ws) (sym (append-nil (g x))) h.0)
+list_cut f g x (y ∷ ys) h = cut_then h.0 (list_cut f g y ys h.1)
+
+abbrev string_word : List ℕ → List Word
+string_word s = quoted_word false (flat_map escaped s) ∷ []
+
+strings_cut : (ss : List (List ℕ)) → AllByRecursion AreOctets ss → AllByRecursion (λ s. AreCut (quoted s) (string_word s)) ss
+strings_cut [] h = tt
+strings_cut (s ∷ ss) h = (quoted_cut (flat_map escaped s) (spelled_quotes s h.0), strings_cut ss h.1)
+
+are_strings : (ss : List (List ℕ)) → AllByRecursion AreOctets ss → AllByRecursion (λ s. length s ≤ 255) ss → AreStrings ss (flat_map string_word ss)
+are_strings [] h k = tt
+are_strings (s ∷ ss) h k = ((text_form false s h.0, k.0), are_strings ss h.1 k.1)
+
+pub strings_text : (s : List ℕ) (ss : List (List ℕ)) → AllByRecursion AreOctets (s ∷ ss) → AllByRecursion (λ t. length t ≤ 255) (s ∷ ss)
+    → RestText SomeStrings (quoted s ++ spaced ss) (flat_map string_octets (s ∷ ss))
+strings_text s ss h k = record {
+  words = flat_map string_word (s ∷ ss);
+  cut = list_cut quoted string_word s ss (strings_cut (s ∷ ss) h);
+  gives = ((λ e. absurd (cc e)), record { strings = s ∷ ss; are = are_strings (s ∷ ss) h k; same = refl });
+  unmarked = quoted_unmarked false (flat_map escaped s);
+}
+
+-- ---- types
+
+typed : (n : ℕ) (t : RecordType) → n < 2 ^ 16 → t ≡ record_type_of n → IsTypeText (zone_type t) t
+typed n (Unknown m) small e =
+    let same : m ≡ n = ap number_of e ∙ number_of-record_type_of n in
+    let below : m < 2 ^ 16 = omega arith in
+    let wide : m < 2 ^ 64 = omega arith in
+    let written = decimal_is_IsNumeral m wide in
+    let read : digits_value 10 (decimal m) ≡ n = written.1 ∙ same in
+    inr (record {
+      digits = decimal m;
+      spelled = refl;
+      numeral = written.0;
+      few = length-decimal-le 5 m (lit< tt) (omega arith) wide;
+      fits = rw written.1 below;
+      value = rw read e;
+    })
+typed n ZERO small e =
+    inr (record { digits = codes "0"; spelled = refl; numeral = (omega arith, (omega arith, tt)); few = omega arith; fits = omega arith; value = refl })
+typed n ANAME small e =
+    inr (record { digits = codes "65305"; spelled = refl; numeral = (omega arith, (omega arith, (omega arith, (omega arith, (omega arith, (omega arith, tt)))))); few = omega arith; fits = omega arith; value = refl })
+typed n t small e = inl (record { named = refl; printed = refl })
+
+pub type_form : (n : ℕ) → n < 2 ^ 16 → IsTypeNumber n (bare_word (zone_type (record_type_of n)))
+type_form n small = record {
+  record_type = record_type_of n;
+  is = record { bare = refl; text = typed n (record_type_of n) small refl };
+  number = sym (number_of-record_type_of n);
+}
+
+type_some : (t : RecordType) → zone_type t ≢ []
+type_some (Unknown n) e = absurd (cc e)
+type_some t e = absurd (cc e)
+
+pub run_tested : (s : List ℕ) → list_all is_run_octet s ≡ true → AreRunOctets s
+run_tested [] h = tt
+run_tested (c ∷ s) h = (first_true (is_run_octet c) (list_all is_run_octet s) h, run_tested s (second_true (is_run_octet c) (list_all is_run_octet s) h))
+
+type_run : (t : RecordType) → number_of t < 2 ^ 64 → AreRunOctets (zone_type t)
+type_run (Unknown n) h = run_both (codes "TYPE") (decimal n) (run_tested (codes "TYPE") refl) (decimal_run n h)
+type_run t h = run_tested (zone_type t) refl
+
+abbrev type_word : ℕ → List Word
+type_word n = bare_word (zone_type (record_type_of n)) ∷ []
+
+abbrev AreNumbers : List ℕ → Type 0
+AreNumbers ns = AllByRecursion (λ n. n < 2 ^ 16) ns
+
+type_numbered : (n : ℕ) → n < 2 ^ 16 → AreRunOctets (zone_type (record_type_of n))
+type_numbered n h = let e = number_of-record_type_of n in type_run (record_type_of n) (omega (arith, e, h))
+
+types_cut : (ns : List ℕ) → AreNumbers ns → AllByRecursion (λ n. AreCut (zone_type (record_type_of n)) (type_word n)) ns
+types_cut [] h = tt
+types_cut (n ∷ ns) h = (plain_cut (zone_type (record_type_of n)) (type_some (record_type_of n)) (type_numbered n h.0), types_cut ns h.1)
+
+are_types : (ns : List ℕ) → AreNumbers ns → AreTypes ns (flat_map type_word ns)
+are_types [] h = tt
+are_types (n ∷ ns) h = (type_form n h.0, are_types ns h.1)
+
+-- what a list of texts gives, a blank between two
+abbrev pub ListText : {X : Type 0} → RestKind → (X → List ℕ) → List X → List ℕ → Type 0
+ListText rest f [] octets = RestGives rest octets []
+ListText rest f (x ∷ xs) octets = RestText rest (f x ++ flat_map (λ y. codes " " ++ f y) xs) octets
+
+pub types_text : (ns : List ℕ) → AreNumbers ns → ListText AnyTypes (λ n. zone_type (record_type_of n)) ns (flat_map block (minimal ns))
+types_text [] h = record { numbers = []; are = tt; same = refl }
+types_text (n ∷ ns) h =
+    let t = record_type_of n in
+    record {
+      words = flat_map type_word (n ∷ ns);
+      cut = list_cut (λ m. zone_type (record_type_of m)) type_word n ns (types_cut (n ∷ ns) h);
+      gives = record { numbers = n ∷ ns; are = are_types (n ∷ ns) h; same = refl };
+      unmarked = bare_unmarked (zone_type t) (run_first (zone_type t) (type_some t) (type_numbered n h.0));
+    }
+
+list_behind : (a b c d : List ℕ) → (a ++ codes " " ++ b) ++ ((codes " " ++ c) ++ d) ≡ a ++ 32 ∷ (b ++ 32 ∷ (c ++ d))
+list_behind a b c d = simp append_assoc
+
+list_alone : (a b : List ℕ) → (a ++ codes " " ++ b) ++ [] ≡ a ++ 32 ∷ b
+list_alone a b = append-nil (a ++ codes " " ++ b) ∙ append_assoc a (32 ∷ []) b
+
+-- a list behind two fields
+pub row_list : {X : Type 0} {origin : Option DomainName} {k l : FieldKind} {rest : RestKind} {a b x y : List ℕ} (f : X → List ℕ) (xs : List X) (z : List ℕ)
+    → FieldText origin k a x → FieldText origin l b y → ListText rest f xs z
+    → RowText origin (k ∷ l ∷ []) rest ((a ++ codes " " ++ b) ++ flat_map (λ w. codes " " ++ f w) xs) (x ++ (y ++ z))
+row_list {a = a} {b = b} f [] z h k e = row_text (list_alone a b) (row_then h (row_last z k e))
+row_list {a = a} {b = b} f (w ∷ ws) z h k e = row_text (list_behind a b (f w) (flat_map (λ v. codes " " ++ f v) ws)) (row_then h (row_then k (row_rest e)))
