@@ -2,4 +2,5 @@ pub mod Labels
 pub mod Reading
 pub mod Comparing
 pub mod Emission
+pub mod Messages
 pub mod Text

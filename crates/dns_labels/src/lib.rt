@@ -9,12 +9,14 @@ mod hashes;
 pub mod labels;
 pub mod laws;
 mod matching;
+pub mod message;
 pub mod places;
 pub mod reading;
 pub mod text;
 pub mod writing;
 
 use dns_types::SmallOctets;
+pub use message::MessageOctets;
 pub use error::{NameError, NameTextError, WriteError};
 pub use places::Places;
 

@@ -1,12 +1,12 @@
 //! Names written behind other octets, with a pointer in place of a tail that stands there already.
 
 ghost use Rattle.std.specs.Prelude.{◌≡◌, ◌≢◌, ℕ, ◌+◌, ◌++◌, ◌<◌, ◌≤◌, Bool, [], ◌∷◌, None, Err, length, IfOk, OnOk, OnErr};
-ghost use Rattle.std.specs.Vec.{vec_capacity, vec_len};
-ghost use Rattle.dns_fields.specs.Names.{NameWrote, pointer};
-ghost use Rattle.dns_labels.specs.{Labels.AreNameOctets, Labels.name_of, Reading.stop_octets, Emission.IsNameCut, Emission.StandsFor};
+ghost use Rattle.dns_fields.specs.{Octets.AreOctets, Names.NameWrote, Names.pointer};
+ghost use Rattle.dns_labels.specs.{Messages.StaysInVector, Labels.AreNameOctets, Labels.name_of, Reading.stop_octets, Emission.IsNameCut, Emission.StandsFor};
 
 use crate::error::WriteError;
 use crate::hashes::name_hash;
+use crate::message::MessageOctets;
 use crate::places::Places;
 use dns_fields::RDataEncoding;
 use std::alloc::AllocError;
@@ -88,12 +88,12 @@ fn stop_len(target: Option<usize>) -> usize
 
 /// Appends octets that most often are none, since all of a name stands already.
 #[inline]
-fn append_front(out: &mut Vec<u8>, front: &[u8]) -> Result<(), AllocError>
+fn append_front(out: &mut MessageOctets<'_>, front: &[u8]) -> Result<(), AllocError>
     ensures items { OnOk result (out.new.items ≡ out.old.items ++ front.now) }
     ensures err { OnErr result (out.new.items ≡ out.old.items) }
-    ensures len { OnOk result (vec_len out.new ≡ vec_len out.old + length front.now) }
-    ensures capacity { vec_capacity out.old ≤ vec_capacity out.new }
-    ensures full { OnErr result (vec_capacity out.old < vec_len out.old + length front.now) }
+    ensures stays { StaysInVector out.old out.new }
+    ensures capacity { out.old.capacity ≤ out.new.capacity }
+    ensures full { OnErr result (out.old.capacity < length out.old.before + length out.old.items + length front.now) }
 {
     if front.len() == 0 {
         return Ok(());
@@ -112,7 +112,7 @@ fn append_front(out: &mut Vec<u8>, front: &[u8]) -> Result<(), AllocError>
 #[inline(never)]
 pub fn write_name(
     places: &mut Places,
-    out: &mut Vec<u8>,
+    out: &mut MessageOctets<'_>,
     mode: RDataEncoding,
     limit: usize,
     name: &[u8],
@@ -120,6 +120,8 @@ pub fn write_name(
     requires { AreNameOctets name.now }
     ensures ok { OnOk result ((mark : Bool) → NameWrote mode out.old.items (name_of name.now mark) out.new.items) }
     ensures within { OnOk result (length out.new.items ≤ limit) }
+    ensures stays { StaysInVector out.old out.new }
+    ensures octets { AreOctets out.new.items }
     ensures err { OnErr result (out.new.items ≡ out.old.items) }
     ensures full { result ≡ Err WriteError.Buffer → limit < length out.old.items + (length name.now + 1) }
 {
@@ -132,9 +134,9 @@ pub fn write_name(
 /// The same of a name that stands at this place, which was noted, and so were its tails: the least place serves, so nothing
 /// is noted.
 #[inline]
-#[tactic(auto, using(crate::proofs::Wrote::pointer_wrote, crate::proofs::Wrote::whole_wrote))]
+#[tactic(auto, using(crate::proofs::Wrote::pointer_wrote))]
 fn write_again(
-    out: &mut Vec<u8>,
+    out: &mut MessageOctets<'_>,
     mode: RDataEncoding,
     limit: usize,
     name: &[u8],
@@ -146,6 +148,8 @@ fn write_again(
     requires stands { StandsFor out.old.items place name.now }
     ensures ok { OnOk result ((mark : Bool) → NameWrote mode out.old.items (name_of name.now mark) out.new.items) }
     ensures within { OnOk result (length out.new.items ≤ limit) }
+    ensures stays { StaysInVector out.old out.new }
+    ensures octets { AreOctets out.new.items }
     ensures err { OnErr result (out.new.items ≡ out.old.items) }
     ensures full { result ≡ Err WriteError.Buffer → limit < length out.old.items + (length name.now + 1) }
 {
@@ -175,7 +179,7 @@ fn write_again(
 #[tactic(auto, using(crate::proofs::Wrote::cut_wrote))]
 fn write_new(
     places: &mut Places,
-    out: &mut Vec<u8>,
+    out: &mut MessageOctets<'_>,
     mode: RDataEncoding,
     limit: usize,
     name: &[u8],
@@ -183,6 +187,8 @@ fn write_new(
     requires { AreNameOctets name.now }
     ensures ok { OnOk result ((mark : Bool) → NameWrote mode out.old.items (name_of name.now mark) out.new.items) }
     ensures within { OnOk result (length out.new.items ≤ limit) }
+    ensures stays { StaysInVector out.old out.new }
+    ensures octets { AreOctets out.new.items }
     ensures err { OnErr result (out.new.items ≡ out.old.items) }
     ensures full { result ≡ Err WriteError.Buffer → limit < length out.old.items + (length name.now + 1) }
 {

@@ -21,12 +21,13 @@ pub as_long : (w e : Writing) → length e.octets ≤ length w.octets → Within
 as_long w e h = λ n old limit. omega (arith, h, old)
 
 pub keeps_same : (w : Writing) → Keeps w w
-keeps_same w = record { limit = refl; mode = refl; target = refl; room = as_long w w (omega arith) }
+keeps_same w = record { before = refl; limit = refl; mode = refl; target = refl; room = as_long w w (omega arith) }
 
 pub keeps_then : {w b e : Writing} → Keeps w b → Keeps b e → Keeps w e
 keeps_then f g = record {
   limit = g.limit ∙ f.limit;
   mode = g.mode ∙ f.mode;
+  before = g.before ∙ f.before;
   target = g.target ∙ f.target;
   room = λ n old limit. g.room n (f.room n old limit) (omega (arith, limit, f.limit));
 }
@@ -110,7 +111,7 @@ octets_emit n s (Err e) old new l h =
 
 -- in another mode, and the earlier one put back
 mode_back : {mode : RDataEncoding} {old new : Writing} → Keeps (record old { mode = mode }) new → Keeps old (record new { mode = old.mode })
-mode_back h = record { limit = h.limit; mode = refl; target = h.target; room = h.room }
+mode_back h = record { before = h.before; limit = h.limit; mode = refl; target = h.target; room = h.room }
 
 in_mode : (kinds : List Kind) (vs : Values kinds) (mode : RDataEncoding) (r : Result (Unit {0}) ProtoError) (old new : Writing)
     → Emits kinds vs r (record old { mode = mode }) new → EmitsAs mode kinds vs r old (record new { mode = old.mode })

@@ -2,7 +2,7 @@
 use Rattle.std.proofs.Common.{◌≡◌, ℕ, Bool, ◌+◌, ◌<◌, ◌≤◌, length, List, [], Result, Ok, Err, ◌∙◌, ap, sym, arith, subst, refl}
 use Rattle.std.specs.Result.{OnOk, OnErr, IfErr}
 use Rattle.std.proofs.lemmas.List.{append-nil}
-use Rattle.dns_labels.specs.Labels.{AreNameOctets, name_of}
+use Rattle.dns_labels.specs.{Labels.AreNameOctets, Labels.name_of, Messages.Written, Messages.StaysInVector}
 use Rattle.dns_fields.specs.{Labels.DomainName, Names.NameWrote, Names.IsNameIn, Fields.Name, Fields.field_octets}
 use Rattle.dns_fields.specs.declared.RDataEncoding.{RDataEncoding}
 use Rattle.dns_fields.proofs.NameLaws.{lowname_length, name_inside}
@@ -17,46 +17,48 @@ unfolding field_octets
 no_room_name w octets mark n h = record { full = omega (arith, h, lowname_length (name_of octets mark), ap length n.same) }
 
 -- what an encoder shows of its fields
-abbrev pub shown : List ℕ → ℕ → RDataEncoding → ℕ → Writing
-shown octets limit mode target = record { octets = octets; limit = limit; mode = mode; target = target }
+abbrev pub shown : Written → ℕ → RDataEncoding → Writing
+shown m limit mode = record { before = m.before; octets = m.items; limit = limit; mode = mode; target = m.vector }
 
--- a name that was appended, or refused, is emitted so
-emitted_fields : (octets : List ℕ) (mark : Bool) (old new : List ℕ) (limit : ℕ) (mode : RDataEncoding) (target : ℕ) (r : Result (Unit {0}) ProtoError)
-    → AreNameOctets octets
-    → OnOk r ((m : Bool) → NameWrote mode old (name_of octets m) new) → OnOk r (length new ≤ limit) → OnErr r (new ≡ old)
-    → IfErr r (λ e. Because e (limit < length old + (length octets + 1)) ⊥)
-    → EmitsField Name (name_of octets mark) r (shown old limit mode target) (shown new limit mode target)
-emitted_fields octets mark old new limit mode target (Ok x) n wrote room same full = record {
+-- a name that was appended, or rejected, is emitted so
+emitted_fields : (a b : Written) (octets : List ℕ) (mark : Bool) (limit : ℕ) (mode : RDataEncoding) (r : Result (Unit {0}) ProtoError)
+    → AreNameOctets octets → StaysInVector a b
+    → OnOk r ((m : Bool) → NameWrote mode a.items (name_of octets m) b.items) → OnOk r (length b.items ≤ limit) → OnErr r (b.items ≡ a.items)
+    → IfErr r (λ e. Because e (limit < length a.items + (length octets + 1)) ⊥)
+    → EmitsField Name (name_of octets mark) r (shown a limit mode) (shown b limit mode)
+emitted_fields a b octets mark limit mode (Ok x) n stays wrote room same full = record {
   keeps = record {
+    before = stays.before;
     limit = refl;
     mode = refl;
-    target = refl;
-    room = within_limit (shown old limit mode target) (shown new limit mode target) room;
+    target = stays.vector;
+    room = within_limit (shown a limit mode) (shown b limit mode) room;
   };
   field = record { is = wrote mark };
 }
-emitted_fields octets mark old new limit mode target (Err e) n wrote room same full = record {
+emitted_fields a b octets mark limit mode (Err e) n stays wrote room same full = record {
   extends = record {
     keeps = record {
+      before = stays.before;
       limit = refl;
       mode = refl;
-      target = refl;
-      room = as_long (shown old limit mode target) (shown new limit mode target) (omega (arith, ap length same));
+      target = stays.vector;
+      room = as_long (shown a limit mode) (shown b limit mode) (omega (arith, ap length same));
     };
     tail = [];
-    octets = same ∙ sym (append-nil old);
+    octets = same ∙ sym (append-nil a.items);
   };
-  why = because_map e _ _ (NoRoomField (shown old limit mode target) Name (name_of octets mark)) (UnfitField Name (name_of octets mark))
-      (no_room_name (shown old limit mode target) octets mark n) absurd full;
+  why = because_map e _ _ (NoRoomField (shown a limit mode) Name (name_of octets mark)) (UnfitField Name (name_of octets mark))
+      (no_room_name (shown a limit mode) octets mark n) absurd full;
 }
 
-pub emitted_name : {w : Writing} {old : List ℕ} (new : List ℕ) {limit : ℕ} {mode : RDataEncoding} {target : ℕ} → shown old limit mode target ≡ w
-    → (octets : List ℕ) (mark : Bool) (r : Result (Unit {0}) ProtoError) → AreNameOctets octets
-    → OnOk r ((m : Bool) → NameWrote mode old (name_of octets m) new) → OnOk r (length new ≤ limit) → OnErr r (new ≡ old)
-    → IfErr r (λ e. Because e (limit < length old + (length octets + 1)) ⊥) → EmitsField Name (name_of octets mark) r w (shown new limit mode target)
-emitted_name {w} {old} new {limit} {mode} {target} v octets mark r n wrote room same full =
-    subst (λ (x : Writing). EmitsField Name (name_of octets mark) r x (shown new limit mode target)) v
-    (emitted_fields octets mark old new limit mode target r n wrote room same full)
+pub emitted_name : {w : Writing} {a : Written} (b : Written) {limit : ℕ} {mode : RDataEncoding} → shown a limit mode ≡ w → (octets : List ℕ) (mark : Bool)
+    (r : Result (Unit {0}) ProtoError) → AreNameOctets octets → StaysInVector a b
+    → OnOk r ((m : Bool) → NameWrote mode a.items (name_of octets m) b.items) → OnOk r (length b.items ≤ limit) → OnErr r (b.items ≡ a.items)
+    → IfErr r (λ e. Because e (limit < length a.items + (length octets + 1)) ⊥) → EmitsField Name (name_of octets mark) r w (shown b limit mode)
+emitted_name {w} {a} b {limit} {mode} v octets mark r n stays wrote room same full =
+    subst (λ (x : Writing). EmitsField Name (name_of octets mark) r x (shown b limit mode)) v
+    (emitted_fields a b octets mark limit mode r n stays wrote room same full)
 
 -- a name that was taken stands where the decoder was
 pub took_name : {old new : Reading} {x : DomainName} → TookField old Name x new → StaysBehind old new × IsNameIn old.message old.index x new.index

@@ -72,7 +72,7 @@ first_appended : (k : Kind) (kinds : List Kind) (vs : Values (k ∷ kinds)) (w b
 first_appended k kinds vs w b f =
     let t = all_tail w.mode kinds vs.1 f.fields.0 b.octets f.fields.2 in
     let room : WithinLimit w (record w { octets = f.fields.0 }) = λ n old limit. omega (arith, f.keeps.room n old limit, ap length t.1, length-append f.fields.0 t.0) in
-    record { keeps = record { limit = refl; mode = refl; target = refl; room = room }; field = f.fields.1 }
+    record { keeps = record { before = refl; limit = refl; mode = refl; target = refl; room = room }; field = f.fields.1 }
 
 others_appended : (k : Kind) (kinds : List Kind) (vs : Values (k ∷ kinds)) (w b : Writing) (f : Appended w.mode w (k ∷ kinds) vs b)
     → Appended w.mode (record w { octets = f.fields.0 }) kinds vs.1 b
@@ -80,7 +80,7 @@ others_appended k kinds vs w b f =
     let t = wrote_tail f.fields.1 in
     let longer : length w.octets ≤ length f.fields.0 = omega (arith, ap length t.1, length-append w.octets t.0) in
     let room : WithinLimit (record w { octets = f.fields.0 }) b = λ n old limit. f.keeps.room n (omega (arith, old, longer)) limit in
-    record { keeps = record { limit = f.keeps.limit; mode = f.keeps.mode; target = f.keeps.target; room = room }; fields = f.fields.2 }
+    record { keeps = record { before = f.keeps.before; limit = f.keeps.limit; mode = f.keeps.mode; target = f.keeps.target; room = room }; fields = f.fields.2 }
 
 -- fields are emitted, and then others
 pub emits_more : (kinds others : List Kind) (vs : Values kinds) (ws : Values others) (r : Result (Unit {0}) ProtoError) (w b n : Writing)

@@ -6,8 +6,10 @@ pub record Reading : Type 0 where
   pub message : List ℕ
   pub index : ℕ
 
--- the octets so far, how many there may be, how names are written, and which vector holds the octets
+-- the octets that precede the message in its vector, the message so far, how many octets it may have, how names are
+-- written, and which vector holds it
 pub record Writing : Type 0 where
+  pub before : List ℕ
   pub octets : List ℕ
   pub limit : ℕ
   pub mode : RDataEncoding

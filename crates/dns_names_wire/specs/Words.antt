@@ -124,8 +124,9 @@ ReadsWindow kinds condition view n (Err e) old new = RefusedWindow e old n kinds
 abbrev pub WithinLimit : Writing → Writing → Type 0
 WithinLimit old new = (n : ℕ) → length old.octets ≤ n → old.limit ≤ n → length new.octets ≤ n
 
--- the same limit, mode and vector, and no octet past the limit
+-- the same octets before the message, limit, mode and vector, and no octet past the limit
 pub record Keeps (old new : Writing) : Type 0 where
+  pub before : new.before ≡ old.before
   pub limit : new.limit ≡ old.limit
   pub mode : new.mode ≡ old.mode
   pub target : new.target ≡ old.target

@@ -1,6 +1,6 @@
 //! A message that is read from its front.
 
-ghost use Rattle.std.specs.Prelude.{◌≡◌, true, ◌+◌, ◌*◌, ◌-◌, ◌/◌, ◌^◌, ◌<◌, ◌≤◌, ◌⊎◌, ℕ, ◌↔◌, IsTrue, length, drop, slice_get, IfOk, IfErr, OnErr};
+ghost use Rattle.std.specs.Prelude.{◌≡◌, true, ◌+◌, ◌*◌, ◌-◌, ◌/◌, ◌^◌, ◌<◌, ◌≤◌, ◌⊎◌, ℕ, ◌↔◌, IsTrue, length, drop, slice_get, IfOk, IfErr, OnOk, OnErr};
 ghost use Rattle.std.specs.Int.{cast_unsigned, w32};
 ghost use Rattle.dns_fields.specs.{Fields.Number, Fields.Octets, Fields.Text, Fields.Name, Octets.AreOctets};
 ghost use Rattle.dns_names_wire.specs.Words.{TookField, LacksField, ReadsField, LacksOctets, LacksText};
@@ -54,6 +54,57 @@ impl<'a> BinDecoder<'a> {
             message,
             index: 0,
         }
+    }
+
+    /// A decoder at an offset of a message, so that a reader can go on after a record that was rejected. Values that are
+    /// read later are allocated from `alloc`; this call allocates nothing.
+    ///
+    /// # Errors
+    ///
+    /// [`InsufficientBytes`](DecodeError::InsufficientBytes): the offset is past the message's end.
+    ///
+    /// ```rust
+    /// fn read_address_at(
+    ///     alloc: Global,
+    ///     message: &[u8],
+    ///     offset: usize,
+    /// ) -> Result<RData, DecodeError> {
+    ///     let mut decoder = BinDecoder::at(alloc, message, offset)?;
+    ///     RData::read(&mut decoder, RecordType::A, Restrict::new(4))
+    /// }
+    /// ```
+    #[inline]
+    pub fn at(
+        alloc: Global,
+        message: &'a [u8],
+        offset: usize,
+    ) -> Result<BinDecoder<'a>, DecodeError>
+        ensures there { IfOk result (λ d. d ≡ record { message = message.now; index = offset }) }
+        ensures inside { OnOk result (offset ≤ length message.now) }
+        ensures outside { IfErr result (λ e. (e ≡ DecodeError.InsufficientBytes) × (length message.now < offset)) }
+    {
+        if offset > message.len() {
+            return Err(DecodeError::InsufficientBytes);
+        }
+        Ok(BinDecoder {
+            alloc,
+            message,
+            index: offset,
+        })
+    }
+
+    /// Another decoder of the same message, at this offset; this one stays where it is. Allocates nothing.
+    ///
+    /// # Errors
+    ///
+    /// [`InsufficientBytes`](DecodeError::InsufficientBytes): the offset is past the message's end.
+    #[inline]
+    pub fn clone(&self, index_at: usize) -> Result<BinDecoder<'a>, DecodeError>
+        ensures there { IfOk result (λ d. d ≡ record { message = self.now.message; index = index_at }) }
+        ensures inside { OnOk result (index_at ≤ length self.now.message) }
+        ensures outside { IfErr result (λ e. (e ≡ DecodeError.InsufficientBytes) × (length self.now.message < index_at)) }
+    {
+        BinDecoder::at(self.alloc, self.message, index_at)
     }
 
     /// What gives the memory of the values that are read.

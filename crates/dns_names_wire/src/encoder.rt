@@ -5,11 +5,11 @@ ghost use Rattle.std.specs.Prelude.{OnOk, OnErr};
 ghost use Rattle.std.specs.Int.{cast_unsigned, bytes_high_first, w32};
 ghost use Rattle.dns_fields.specs.{Fields.Number, Fields.Rest, Fields.Text, Fields.Name, Octets.AreOctets, Names.NameWrote};
 ghost use Rattle.dns_names_wire.specs.Words.{EmitsField, AppendedField, StoppedField, Keeps, Because};
-ghost use Rattle.dns_labels.specs.Labels.{AreNameOctets, name_of};
+ghost use Rattle.dns_labels.specs.{Messages.StaysInVector, Labels.AreNameOctets, Labels.name_of};
 
 use dns_fields::RDataEncoding;
 use dns_labels::writing::write_name;
-use dns_labels::{Places, WriteError};
+use dns_labels::{MessageOctets, Places, WriteError};
 use dns_types::ProtoError;
 use std::alloc::Global;
 use std::marker::Model;
@@ -43,7 +43,7 @@ const MAX_SIZE: usize = 65535;
 #[derive(Drop)]
 pub struct BinEncoder<'a> {
     alloc: Global,
-    octets: &'a mut Vec<u8>,
+    message: MessageOctets<'a>,
     limit: usize,
     mode: RDataEncoding,
     // where labels of names stand
@@ -57,9 +57,9 @@ impl<'a> Model for BinEncoder<'a> {
 
     ghost Value = { Writing };
 
-    ghost view = { λ e. record { octets = e.octets.now.items; limit = e.limit; mode = e.mode; target = e.octets.ghost_name } };
+    ghost view = { λ e. record { before = e.message.before; octets = e.message.items; limit = e.limit; mode = e.mode; target = e.message.vector } };
 
-    ghost invariant = { λ e. (e.limit ≤ 65535) × AreOctets e.octets.now.items × (length e.octets.now.items ≤ 65535) };
+    ghost invariant = { λ e. (e.limit ≤ 65535) × AreOctets e.message.items × (length e.message.items ≤ 65535) };
 }
 
 /// Where two octets stand that are still to be replaced by a number.
@@ -70,16 +70,57 @@ pub struct Place {
 }
 
 impl<'a> BinEncoder<'a> {
-    /// Without an octet, with the limit 65535, and with names as in the records of RFC 1035. What it remembers of names
-    /// takes its memory from `alloc`. The caller owes a vector without items.
+    /// An encoder of a message that begins where the vector ends. It starts without octets, with the limit 65535, and in
+    /// the mode of RFC 1035's records, which compresses names. What the vector has already, such as the two octets of a
+    /// length for TCP (RFC 1035, section 4.2.2), precedes the message: it never changes, and compression pointers do not
+    /// count it. Offsets of compressed names are kept in memory of `alloc`.
     #[inline]
     pub fn new(alloc: Global, octets: &'a mut Vec<u8>) -> BinEncoder<'a>
-        requires { octets.old.items ≡ [] }
-        ensures { result ≡ record { octets = []; limit = 65535; mode = RDataEncoding.StandardRecord; target = octets.entry.ghost_name } }
+        ensures { result ≡ record { before = octets.old.items; octets = []; limit = 65535; mode = RDataEncoding.StandardRecord; target = octets.entry.ghost_name } }
+    {
+        let start = octets.len();
+        BinEncoder::starting(alloc, start, octets)
+    }
+
+    /// An encoder of a message that begins at this offset of the vector: what the vector has from there on are the
+    /// message's first octets, as a header that was written by other means. Limit and mode are those of
+    /// [`new`](BinEncoder::new).
+    ///
+    /// # Errors
+    ///
+    /// - [`Message`](ProtoError::Message): the offset is past the vector's end.
+    /// - [`MaxBufferSizeExceeded`](ProtoError::MaxBufferSizeExceeded): the vector has more than 65535 octets from the
+    ///   offset on.
+    pub fn with_offset(
+        alloc: Global,
+        octets: &'a mut Vec<u8>,
+        offset: usize,
+    ) -> Result<BinEncoder<'a>, ProtoError>
+        ensures starts { IfOk result (λ e. e ≡ record { before = take offset octets.old.items; octets = drop offset octets.old.items; limit = 65535; mode = RDataEncoding.StandardRecord; target = octets.entry.ghost_name }) }
+        ensures inside { OnOk result ((offset ≤ length octets.old.items) × (length octets.old.items ≤ offset + 65535)) }
+        ensures why { IfErr result (λ e. Because e (offset + 65535 < length octets.old.items) (length octets.old.items < offset)) }
+        ensures memory { IfErr result (λ e. e ≢ ProtoError.Memory) }
+    {
+        let len = octets.len();
+        if offset > len {
+            return Err(ProtoError::Message("offset past the end of the vector"));
+        }
+        if len - offset > MAX_SIZE {
+            return Err(ProtoError::MaxBufferSizeExceeded);
+        }
+        Ok(BinEncoder::starting(alloc, offset, octets))
+    }
+
+    // An encoder of the message that begins at this offset of the vector.
+    #[inline]
+    fn starting(alloc: Global, start: usize, octets: &'a mut Vec<u8>) -> BinEncoder<'a>
+        requires inside { start ≤ length octets.old.items }
+        requires short { length octets.old.items ≤ start + 65535 }
+        ensures { result ≡ record { before = take start octets.old.items; octets = drop start octets.old.items; limit = 65535; mode = RDataEncoding.StandardRecord; target = octets.entry.ghost_name } }
     {
         BinEncoder {
             alloc,
-            octets,
+            message: MessageOctets::new(start, octets),
             limit: MAX_SIZE,
             mode: RDataEncoding::StandardRecord,
             places: Places::new(alloc),
@@ -90,10 +131,10 @@ impl<'a> BinEncoder<'a> {
     #[inline]
     pub fn into_bytes(self) -> &'a mut Vec<u8>
         ensures same { result.ghost_name ≡ self.entry.target }
-        ensures octets { result.now.items ≡ self.entry.octets }
+        ensures octets { result.now.items ≡ self.entry.before ++ self.entry.octets }
     {
-        let BinEncoder { octets, .. } = self;
-        octets
+        let BinEncoder { message, .. } = self;
+        message.into_vec()
     }
 
     /// What gives the memory of what it remembers of names.
@@ -110,7 +151,7 @@ impl<'a> BinEncoder<'a> {
         ensures limited { self.now.limit ≤ 65535 }
         ensures octets { AreOctets self.now.octets }
     {
-        self.octets.len()
+        self.message.len()
     }
 
     /// Whether no octet was written.
@@ -118,7 +159,7 @@ impl<'a> BinEncoder<'a> {
     pub fn is_empty(&self) -> bool
         ensures { IsTrue result ↔ (self.now.octets ≡ []) }
     {
-        self.octets.is_empty()
+        self.message.is_empty()
     }
 
     /// Sets how many octets there may be; those that are there stay.
@@ -148,10 +189,10 @@ impl<'a> BinEncoder<'a> {
         ensures room { OnOk result (length self.old.octets + length octets.now ≤ self.old.limit) }
         ensures whole { OnErr result (self.new ≡ self.old) }
     {
-        if self.octets.len() + octets.len() > self.limit {
+        if self.message.len() + octets.len() > self.limit {
             return Err(ProtoError::MaxBufferSizeExceeded);
         }
-        self.octets.extend_from_slice(octets)?;
+        self.message.extend_from_slice(octets)?;
         Ok(())
     }
 
@@ -163,11 +204,11 @@ impl<'a> BinEncoder<'a> {
         ensures room { OnOk result (length self.old.octets + (length front.now + length rest.now) ≤ self.old.limit) }
         ensures whole { OnErr result (self.new ≡ self.old) }
     {
-        let len = self.octets.len() + rest.len();
+        let len = self.message.len() + rest.len();
         if len > self.limit || front.len() > self.limit - len {
             return Err(ProtoError::MaxBufferSizeExceeded);
         }
-        append_both(self.octets, front, rest)
+        append_both(&mut self.message, front, rest)
     }
 
     /// Appends one octet.
@@ -238,10 +279,10 @@ impl<'a> BinEncoder<'a> {
         if octets.len() > 255 {
             return Err(ProtoError::Message("character data past 255 octets"));
         }
-        if self.octets.len() + 1 + octets.len() > self.limit {
+        if self.message.len() + 1 + octets.len() > self.limit {
             return Err(ProtoError::MaxBufferSizeExceeded);
         }
-        append_both(self.octets, &[octets.len() as u8], octets)
+        append_both(&mut self.message, &[octets.len() as u8], octets)
     }
 
     /// Appends the two octets of the number 0, which is to be replaced by another.
@@ -251,7 +292,7 @@ impl<'a> BinEncoder<'a> {
         ensures room { OnOk result (length self.old.octets + 2 ≤ self.old.limit) }
         ensures whole { OnErr result (self.new ≡ self.old) }
     {
-        let index = self.octets.len();
+        let index = self.message.len();
         self.emit_u16(0)?;
         Ok(Place { index })
     }
@@ -265,7 +306,13 @@ impl<'a> BinEncoder<'a> {
         ensures whole { OnErr result (self.new ≡ self.old) }
     {
         let _ = is_fqdn;
-        append_name(&mut self.places, self.octets, self.mode, self.limit, octets)
+        append_name(
+            &mut self.places,
+            &mut self.message,
+            self.mode,
+            self.limit,
+            octets,
+        )
     }
 
     /// Puts the two octets of a number, the higher one first, where the two octets were placed. The caller owes a place
@@ -275,7 +322,7 @@ impl<'a> BinEncoder<'a> {
         ensures keeps { Keeps self.old self.new }
         ensures octets { self.new.octets ≡ take place.index self.old.octets ++ (bytes_high_first 2 number ++ drop (place.index + 2) self.old.octets) }
     {
-        self.octets[place.index..place.index + 2].copy_from_slice(&number.to_be_bytes());
+        self.message.replace_u16(place.index, number);
     }
 
     /// How many octets were written behind the two that were placed. The caller owes a place of which both octets stand.
@@ -284,21 +331,22 @@ impl<'a> BinEncoder<'a> {
         ensures value { place.now.index + 2 + result ≡ length self.now.octets }
         ensures small { result < 65534 }
     {
-        self.octets.len() - place.index - 2
+        self.message.len() - place.index - 2
     }
 }
 
 // Appends octets and others behind them, or nothing.
 #[inline]
-fn append_both(out: &mut Vec<u8>, front: &[u8], rest: &[u8]) -> Result<(), ProtoError>
-    ensures ok { OnOk result (out.new.items ≡ out.old.items ++ (front.now ++ rest.now)) }
-    ensures err { OnErr result (out.new.items ≡ out.old.items) }
+fn append_both(message: &mut MessageOctets<'_>, front: &[u8], rest: &[u8]) -> Result<(), ProtoError>
+    ensures ok { OnOk result (message.new.items ≡ message.old.items ++ (front.now ++ rest.now)) }
+    ensures err { OnErr result (message.new.items ≡ message.old.items) }
+    ensures stays { StaysInVector message.old message.new }
     ensures memory { IfErr result (λ e. e ≡ ProtoError.Memory) }
 {
-    let len = out.len();
-    out.extend_from_slice(front)?;
-    if out.extend_from_slice(rest).is_err() {
-        out.truncate(len);
+    let len = message.len();
+    message.extend_from_slice(front)?;
+    if message.extend_from_slice(rest).is_err() {
+        message.truncate(len);
         return Err(ProtoError::Memory);
     }
     Ok(())
@@ -308,19 +356,20 @@ fn append_both(out: &mut Vec<u8>, front: &[u8], rest: &[u8]) -> Result<(), Proto
 #[inline(always)]
 fn append_name(
     places: &mut Places,
-    out: &mut Vec<u8>,
+    message: &mut MessageOctets<'_>,
     mode: RDataEncoding,
     limit: usize,
     name: &[u8],
 ) -> Result<(), ProtoError>
     requires { AreNameOctets name.now }
-    ensures ok { OnOk result ((mark : Bool) → NameWrote mode out.old.items (name_of name.now mark) out.new.items) }
-    ensures within { OnOk result (length out.new.items ≤ limit) }
-    ensures err { OnErr result (out.new.items ≡ out.old.items) }
-    ensures full { IfErr result (λ e. Because e (limit < length out.old.items + (length name.now + 1)) ⊥) }
-    ensures octets { AreOctets out.new.items }
+    ensures ok { OnOk result ((mark : Bool) → NameWrote mode message.old.items (name_of name.now mark) message.new.items) }
+    ensures within { OnOk result (length message.new.items ≤ limit) }
+    ensures err { OnErr result (message.new.items ≡ message.old.items) }
+    ensures stays { StaysInVector message.old message.new }
+    ensures full { IfErr result (λ e. Because e (limit < length message.old.items + (length name.now + 1)) ⊥) }
+    ensures octets { AreOctets message.new.items }
 {
-    match write_name(places, out, mode, limit, name) {
+    match write_name(places, message, mode, limit, name) {
         Ok(()) => Ok(()),
         Err(WriteError::Memory) => Err(ProtoError::Memory),
         Err(WriteError::Buffer) => Err(ProtoError::MaxBufferSizeExceeded),
