@@ -205,8 +205,9 @@ pub record NoValue (m : List ℕ) (p n : ℕ) (t : RecordType) : Type 0 where
 abbrev pub IsEmittable : RData → Type 0
 IsEmittable v = all_emittable (fields_of v).kinds (fields_of v).values ≡ true
 
--- The octets of a value in its one form for comparing: names uncompressed and in lower case (RFC 4034, 6.2). Of a value
--- that cannot be emitted there are none.
+-- The canonical octets of a value: this library's own form, for equality, order and hashing. All names are uncompressed
+-- and in lower case (those of SVCB, HTTPS and ANAME, too), options are sorted, and a set of types is in its shortest
+-- form. It is not the form of RFC 4034, section 6.2, which DNSSEC signs. A value that cannot be emitted has none.
 abbrev pub octets_of : FieldsOf → List ℕ
 octets_of f = if all_emittable f.kinds f.values then canonical f.kinds f.values else []
 

@@ -3,7 +3,7 @@ use Rattle.std.specs.Prelude.{◌≡◌, ◌↔◌, ℕ, ◌-◌, ◌<◌, IsTru
 use Rattle.std.specs.{declared.net.ip_addr.IpAddr.IpAddr, declared.net.ip_addr.IpAddr.TheVariants.V4, declared.net.ip_addr.IpAddr.TheVariants.V6}
 use Rattle.dns_types.specs.declared.record_type.RecordType.{RecordType}
 use Rattle.dns_names_wire.specs.{State.Writing, Words.Window}
-use Rattle.dns_fields.specs.Fields.{Values}
+use Rattle.dns_fields.specs.{Fields.Values, Labels.DomainName}
 use Rattle.dns_rdata.specs.{declared.record_data.RData.RData, Data.shape, Data.MeetsCondition, Data.Fills, Data.data_octets, Data.type_of, Equal.equal}
 use Rattle.dns_rdata.specs.declared.record_data.RData.TheVariants as rdata
 
@@ -41,6 +41,19 @@ abbrev pub address_of : RData → Option IpAddr
 address_of (rdata.A x) = Some (V4 x.0)
 address_of (rdata.AAAA x) = Some (V6 x.0)
 address_of v = None
+
+-- the name that the data points to: an alias's, a server's, a host's or a service's
+abbrev pub target_of : RData → Option DomainName
+target_of (rdata.ANAME x) = Some x.0
+target_of (rdata.CNAME x) = Some x.0
+target_of (rdata.HTTPS x) = Some x.0.target_name
+target_of (rdata.MX x) = Some x.exchange
+target_of (rdata.NAPTR x) = Some x.replacement
+target_of (rdata.NS x) = Some x.0
+target_of (rdata.PTR x) = Some x.0
+target_of (rdata.SRV x) = Some x.target
+target_of (rdata.SVCB x) = Some x.target_name
+target_of v = None
 
 -- no data, of a record in an update (RFC 2136, 2.4 and 2.5)
 abbrev pub IsUpdate : RData → Type 0

@@ -96,8 +96,10 @@ impl RData {
         }
     }
 
-    /// A cursor at the first of the canonical octets. Of a value that cannot be emitted, of `Update0` and of `ZERO` there
-    /// are none. Takes no memory.
+    /// A cursor at the first of the canonical octets: this library's own form, for equality, order and hashing. All
+    /// names are lowercased, options are sorted, and a set of types is in its shortest form. They are **not for DNSSEC**:
+    /// a signer starts from the uncompressed octets with case preserved, which [`emit_whole`](RData::emit_whole)
+    /// appends. Of a value that cannot be emitted, of `Update0` and of `ZERO` there are none. Allocates nothing.
     ///
     /// ```rust
     /// fn canonical_start(data: &RData, buffer: &mut [u8]) -> usize {
@@ -160,5 +162,6 @@ impl Stepped for RData {
     }
 }
 
-/// What is left of the canonical octets of a value. It keeps its place, and takes no memory.
+/// What is left of the canonical octets of a value ([`RData::canonical_octets`]). It keeps its offset, and allocates
+/// nothing.
 pub type CanonicalOctets<'a> = Cursor<'a, RData>;

@@ -3,7 +3,6 @@
 
 pub mod canonical;
 mod each;
-pub mod laws;
 pub mod order;
 pub mod record_data;
 pub mod traits;
@@ -24,7 +23,7 @@ pub use dns_rdata_certs::{CERT, HEX, SMIMEA, SSHFP, TLSA, cert, smimea, sshfp, t
 pub use dns_rdata_options::{OPT, opt};
 pub use dns_rdata_service::{HTTPS, Items, SVCB, https, items, svcb};
 pub use dns_rdata_sets::{CAA, CSYNC, RecordTypeSet, caa, csync, record_type_set};
-pub use dns_text::{Lexer, Token, lexer, parse_ttl, token, ttl};
+pub use dns_text::{Lexer, Token};
 pub use dns_types::Strings;
 pub use dns_words::{FromTokens, WordList};
 pub use record_data::RData;

@@ -8,7 +8,8 @@ ghost use Rattle.dns_names_wire.specs.{State.Writing, Words.StaysBehind, Words.U
 ghost use Rattle.dns_rdata_base.specs.NULL.{null_shape, null_fields};
 ghost use Rattle.dns_rdata.specs.Data.{Fills, NoValue, EmitsData, IsEmittable, IsNeverRead, data_octets, fields_of, mode_for, type_of};
 ghost use Rattle.dns_rdata.specs.{Equal.equal, Equal.equal_equiv, Equal.record_type_eq, Hashing.data_fed, Hashing.fed_same, Laws.ReadsBack, Laws.ReadsCanonical};
-ghost use Rattle.dns_rdata.specs.{Laws.TellsApart, Laws.address_of, Refusals.IsRefusal, Texts.HasText, Texts.data_text, WholeOctets.whole_data};
+ghost use Rattle.std.specs.Option.{option_copied};
+ghost use Rattle.dns_rdata.specs.{Laws.TellsApart, Laws.address_of, Laws.target_of, Refusals.IsRefusal, Texts.HasText, Texts.data_text, WholeOctets.whole_data};
 ghost use Rattle.dns_rdata.specs.declared.record_data.RData.TheVariants as rdata;
 
 use crate::each::{clone_each, each, equal_each, read_each, with_records};
@@ -18,7 +19,7 @@ use crate::{
     PTR, SMIMEA, SOA, SRV, SSHFP, SVCB, TLSA, TXT,
 };
 use dns_names_wire::{
-    BinDecoder, BinEncodable, BinEncoder, DecodeError, EncodesFields, ProtoError, RDataEncoding,
+    BinDecoder, BinEncodable, BinEncoder, DecodeError, EncodesFields, Name, ProtoError, RDataEncoding,
     RecordDataDecodable, RecordType, Restrict, emit_in,
 };
 use dns_rdata_base::counted::by_length;
@@ -126,6 +127,25 @@ impl RData {
         }
     }
 
+    /// The name that the data points to: that of ANAME, CNAME, NS and PTR, the exchange of MX, the target of SRV, SVCB
+    /// and HTTPS, and the replacement of NAPTR. `None` for other types. Allocates nothing.
+    pub fn target(&self) -> Option<&Name>
+        ensures { option_copied result ≡ target_of self.now }
+    {
+        match self {
+            RData::ANAME(x) => Some(&x.0),
+            RData::CNAME(x) => Some(&x.0),
+            RData::HTTPS(x) => Some(&x.0.target_name),
+            RData::MX(x) => Some(&x.exchange),
+            RData::NAPTR(x) => Some(&x.replacement),
+            RData::NS(x) => Some(&x.0),
+            RData::PTR(x) => Some(&x.0),
+            RData::SRV(x) => Some(&x.target),
+            RData::SVCB(x) => Some(&x.target_name),
+            _ => None,
+        }
+    }
+
     /// Reads the data of a record of this type, which is all of the `length` octets from the decoder's place.
     ///
     /// The first of these that holds refuses it:
@@ -195,9 +215,7 @@ impl RData {
     /// was in, refused or not.
     ///
     /// ```rust
-    /// fn octets_of(alloc: Global, data: &RData, octets: &mut Vec<u8>) -> ProtoResult<()>
-    ///     requires { octets.old.items ≡ [] }
-    /// {
+    /// fn octets_of(alloc: Global, data: &RData, octets: &mut Vec<u8>) -> ProtoResult<()> {
     ///     let mut encoder = BinEncoder::new(alloc, octets);
     ///     data.emit_whole(&mut encoder)?;
     ///     encoder.into_bytes();
@@ -296,9 +314,7 @@ impl BinEncodable for RData {
     /// mode that it was in.
     ///
     /// ```rust
-    /// fn emit_mail(alloc: Global, exchange: Name, octets: &mut Vec<u8>) -> ProtoResult<()>
-    ///     requires { octets.old.items ≡ [] }
-    /// {
+    /// fn emit_mail(alloc: Global, exchange: Name, octets: &mut Vec<u8>) -> ProtoResult<()> {
     ///     let mut encoder = BinEncoder::new(alloc, octets);
     ///     RData::MX(MX::new(10, exchange)).emit(&mut encoder)?;
     ///     encoder.into_bytes();

@@ -1,6 +1,6 @@
 //! What record data has in common, whatever its type.
 
-ghost use Rattle.std.specs.Prelude.{◌≡◌, ◌↔◌, IsTrue, Option, Some, None, option_copied};
+ghost use Rattle.std.specs.Prelude.{◌≡◌, ◌↔◌, IsTrue, IfOk, IfErr, Option, Some, None, option_copied};
 ghost use Rattle.std.proofs.Common.{rules};
 ghost use Rattle.dns_types.specs.declared.record_type.RecordType.{RecordType as RecordTypeValue};
 ghost use Rattle.dns_types.specs.declared.record_type.RecordType.TheVariants as types;
@@ -34,6 +34,12 @@ pub trait RecordData: Sized {
     fn into_rdata(self) -> RData
         ensures { result ≡ wrapped self };
 
+    /// The data of this kind, moved out of the value that holds it. A value that holds other data comes back as it is.
+    /// Allocates nothing.
+    fn from_rdata(rdata: RData) -> Result<Self, RData>
+        ensures found { IfOk result (λ x. borrowed rdata ≡ Some x) }
+        ensures other { IfErr result (λ v. (v ≡ rdata) × (borrowed rdata ≡ None)) };
+
     /// Whether it is the data of an update (RFC 2136): of `RData::Update0` alone.
     fn is_update(&self) -> bool
         ensures { IsTrue result ↔ IsUpdate (wrapped self.now) };
@@ -55,6 +61,11 @@ pub(crate) trait Variant: Sized {
     /// The record that the value holds; none where it holds other data.
     fn held_in(rdata: &RData) -> Option<&Self>
         ensures { option_copied result ≡ variant.borrowed rdata.now };
+
+    /// The record, moved out of the value that holds it; other values as they are.
+    fn moved_from(rdata: RData) -> Result<Self, RData>
+        ensures found { IfOk result (λ x. variant.borrowed rdata ≡ Some x) }
+        ensures other { IfErr result (λ v. (v ≡ rdata) × (variant.borrowed rdata ≡ None)) };
 
     /// The value that holds the record.
     fn in_value(self) -> RData
@@ -83,8 +94,22 @@ impl<T: Variant> RecordData for T {
         self.in_value()
     }
 
+    fn from_rdata(rdata: RData) -> Result<T, RData> {
+        T::moved_from(rdata)
+    }
+
     fn is_update(&self) -> bool {
         false
+    }
+}
+
+impl<T: Variant> From<T> for RData {
+    ghost from_gives = { λ x v. v ≡ T.variant.wrapped x };
+
+    /// The value that holds this record.
+    #[inline]
+    fn from(record_data: T) -> RData {
+        record_data.in_value()
     }
 }
 
@@ -94,6 +119,16 @@ macro_rules! held {
         match $rdata {
             RData::$record(data) => Some(data),
             _ => None,
+        }
+    };
+}
+
+// The same, moved out of the value.
+macro_rules! moved {
+    ($rdata:expr, $record:ident) => {
+        match $rdata {
+            RData::$record(data) => Ok(data),
+            other => Err(other),
         }
     };
 }
@@ -109,6 +144,10 @@ impl Variant for A {
 
     fn held_in(rdata: &RData) -> Option<&A> {
         held!(rdata, A)
+    }
+
+    fn moved_from(rdata: RData) -> Result<A, RData> {
+        moved!(rdata, A)
     }
 
     fn in_value(self) -> RData {
@@ -129,6 +168,10 @@ impl Variant for AAAA {
         held!(rdata, AAAA)
     }
 
+    fn moved_from(rdata: RData) -> Result<AAAA, RData> {
+        moved!(rdata, AAAA)
+    }
+
     fn in_value(self) -> RData {
         RData::AAAA(self)
     }
@@ -145,6 +188,10 @@ impl Variant for ANAME {
 
     fn held_in(rdata: &RData) -> Option<&ANAME> {
         held!(rdata, ANAME)
+    }
+
+    fn moved_from(rdata: RData) -> Result<ANAME, RData> {
+        moved!(rdata, ANAME)
     }
 
     fn in_value(self) -> RData {
@@ -165,6 +212,10 @@ impl Variant for CAA {
         held!(rdata, CAA)
     }
 
+    fn moved_from(rdata: RData) -> Result<CAA, RData> {
+        moved!(rdata, CAA)
+    }
+
     fn in_value(self) -> RData {
         RData::CAA(self)
     }
@@ -181,6 +232,10 @@ impl Variant for CERT {
 
     fn held_in(rdata: &RData) -> Option<&CERT> {
         held!(rdata, CERT)
+    }
+
+    fn moved_from(rdata: RData) -> Result<CERT, RData> {
+        moved!(rdata, CERT)
     }
 
     fn in_value(self) -> RData {
@@ -201,6 +256,10 @@ impl Variant for CNAME {
         held!(rdata, CNAME)
     }
 
+    fn moved_from(rdata: RData) -> Result<CNAME, RData> {
+        moved!(rdata, CNAME)
+    }
+
     fn in_value(self) -> RData {
         RData::CNAME(self)
     }
@@ -217,6 +276,10 @@ impl Variant for CSYNC {
 
     fn held_in(rdata: &RData) -> Option<&CSYNC> {
         held!(rdata, CSYNC)
+    }
+
+    fn moved_from(rdata: RData) -> Result<CSYNC, RData> {
+        moved!(rdata, CSYNC)
     }
 
     fn in_value(self) -> RData {
@@ -237,6 +300,10 @@ impl Variant for HINFO {
         held!(rdata, HINFO)
     }
 
+    fn moved_from(rdata: RData) -> Result<HINFO, RData> {
+        moved!(rdata, HINFO)
+    }
+
     fn in_value(self) -> RData {
         RData::HINFO(self)
     }
@@ -253,6 +320,10 @@ impl Variant for HTTPS {
 
     fn held_in(rdata: &RData) -> Option<&HTTPS> {
         held!(rdata, HTTPS)
+    }
+
+    fn moved_from(rdata: RData) -> Result<HTTPS, RData> {
+        moved!(rdata, HTTPS)
     }
 
     fn in_value(self) -> RData {
@@ -273,6 +344,10 @@ impl Variant for MX {
         held!(rdata, MX)
     }
 
+    fn moved_from(rdata: RData) -> Result<MX, RData> {
+        moved!(rdata, MX)
+    }
+
     fn in_value(self) -> RData {
         RData::MX(self)
     }
@@ -289,6 +364,10 @@ impl Variant for NAPTR {
 
     fn held_in(rdata: &RData) -> Option<&NAPTR> {
         held!(rdata, NAPTR)
+    }
+
+    fn moved_from(rdata: RData) -> Result<NAPTR, RData> {
+        moved!(rdata, NAPTR)
     }
 
     fn in_value(self) -> RData {
@@ -309,6 +388,10 @@ impl Variant for NULL {
         held!(rdata, NULL)
     }
 
+    fn moved_from(rdata: RData) -> Result<NULL, RData> {
+        moved!(rdata, NULL)
+    }
+
     fn in_value(self) -> RData {
         RData::NULL(self)
     }
@@ -325,6 +408,10 @@ impl Variant for NS {
 
     fn held_in(rdata: &RData) -> Option<&NS> {
         held!(rdata, NS)
+    }
+
+    fn moved_from(rdata: RData) -> Result<NS, RData> {
+        moved!(rdata, NS)
     }
 
     fn in_value(self) -> RData {
@@ -345,6 +432,10 @@ impl Variant for OPENPGPKEY {
         held!(rdata, OPENPGPKEY)
     }
 
+    fn moved_from(rdata: RData) -> Result<OPENPGPKEY, RData> {
+        moved!(rdata, OPENPGPKEY)
+    }
+
     fn in_value(self) -> RData {
         RData::OPENPGPKEY(self)
     }
@@ -361,6 +452,10 @@ impl Variant for OPT {
 
     fn held_in(rdata: &RData) -> Option<&OPT> {
         held!(rdata, OPT)
+    }
+
+    fn moved_from(rdata: RData) -> Result<OPT, RData> {
+        moved!(rdata, OPT)
     }
 
     fn in_value(self) -> RData {
@@ -381,6 +476,10 @@ impl Variant for PTR {
         held!(rdata, PTR)
     }
 
+    fn moved_from(rdata: RData) -> Result<PTR, RData> {
+        moved!(rdata, PTR)
+    }
+
     fn in_value(self) -> RData {
         RData::PTR(self)
     }
@@ -397,6 +496,10 @@ impl Variant for SMIMEA {
 
     fn held_in(rdata: &RData) -> Option<&SMIMEA> {
         held!(rdata, SMIMEA)
+    }
+
+    fn moved_from(rdata: RData) -> Result<SMIMEA, RData> {
+        moved!(rdata, SMIMEA)
     }
 
     fn in_value(self) -> RData {
@@ -417,6 +520,10 @@ impl Variant for SOA {
         held!(rdata, SOA)
     }
 
+    fn moved_from(rdata: RData) -> Result<SOA, RData> {
+        moved!(rdata, SOA)
+    }
+
     fn in_value(self) -> RData {
         RData::SOA(self)
     }
@@ -433,6 +540,10 @@ impl Variant for SRV {
 
     fn held_in(rdata: &RData) -> Option<&SRV> {
         held!(rdata, SRV)
+    }
+
+    fn moved_from(rdata: RData) -> Result<SRV, RData> {
+        moved!(rdata, SRV)
     }
 
     fn in_value(self) -> RData {
@@ -453,6 +564,10 @@ impl Variant for SSHFP {
         held!(rdata, SSHFP)
     }
 
+    fn moved_from(rdata: RData) -> Result<SSHFP, RData> {
+        moved!(rdata, SSHFP)
+    }
+
     fn in_value(self) -> RData {
         RData::SSHFP(self)
     }
@@ -469,6 +584,10 @@ impl Variant for SVCB {
 
     fn held_in(rdata: &RData) -> Option<&SVCB> {
         held!(rdata, SVCB)
+    }
+
+    fn moved_from(rdata: RData) -> Result<SVCB, RData> {
+        moved!(rdata, SVCB)
     }
 
     fn in_value(self) -> RData {
@@ -489,6 +608,10 @@ impl Variant for TLSA {
         held!(rdata, TLSA)
     }
 
+    fn moved_from(rdata: RData) -> Result<TLSA, RData> {
+        moved!(rdata, TLSA)
+    }
+
     fn in_value(self) -> RData {
         RData::TLSA(self)
     }
@@ -505,6 +628,10 @@ impl Variant for TXT {
 
     fn held_in(rdata: &RData) -> Option<&TXT> {
         held!(rdata, TXT)
+    }
+
+    fn moved_from(rdata: RData) -> Result<TXT, RData> {
+        moved!(rdata, TXT)
     }
 
     fn in_value(self) -> RData {
@@ -529,6 +656,10 @@ impl RecordData for RData {
 
     fn into_rdata(self) -> RData {
         self
+    }
+
+    fn from_rdata(rdata: RData) -> Result<RData, RData> {
+        Ok(rdata)
     }
 
     fn is_update(&self) -> bool {

@@ -1,7 +1,8 @@
 //! OPT: the options of EDNS (RFC 6891).
 
-ghost use Rattle.std.specs.Prelude.{◌≡◌, ◌+◌, ◌<◌, ◌++◌, ◌∷◌, [], map, slice_get, IfOk, IsTrue, OnOk, OnErr};
-ghost use Rattle.std.specs.Option.{option_copied};
+ghost use Rattle.std.specs.Prelude.{◌≡◌, ◌↔◌, ◌+◌, ◌^◌, ◌<◌, ◌++◌, ◌∷◌, [], length, map, slice_get, IfOk, IsTrue, OnOk, OnErr};
+ghost use Rattle.std.specs.{Option.option_copied, Slice.Iter.iter_rest, Iterator.Adapters.IterYieldsInOrder};
+ghost use Rattle.dns_rdata_options.specs.{declared.opt.code.EdnsCode.EdnsCode as Code, declared.opt.option.EdnsOption.EdnsOption as Content};
 ghost use Rattle.dns_fields.specs.Pieces.{piece, as_piece, option_octets, OptionFits};
 ghost use Rattle.dns_names_wire.specs.Words.{Emits, EmitsFitting};
 ghost use Rattle.dns_rdata_options.specs.{EdnsCode.edns_code_number, EdnsOption.code_of};
@@ -31,6 +32,7 @@ use std::cmp::Ordering;
 use std::fmt;
 use std::hash::{Hash, Hasher};
 use std::marker::Model;
+use std::slice;
 pub use subnet::ClientSubnet;
 
 /// The options of EDNS with their codes (RFC 6891, 6.1.2), which contracts see as the list of pairs. Each option stands
@@ -114,6 +116,37 @@ impl OPT {
         ensures err { OnErr result (self.new ≡ self.old) }
     {
         let code = EdnsCode::from(&option);
+        self.options.push((code, option))?;
+        Ok(())
+    }
+
+    /// The options with their codes, in order. Allocates nothing.
+    #[inline]
+    pub fn iter(&self) -> slice::Iter<'_, (EdnsCode, EdnsOption)>
+        ensures items { iter_rest result ≡ self.now }
+        ensures few { length (iter_rest result) < 2 ^ 64 }
+        ensures order { IterYieldsInOrder (Code × Content) }
+    {
+        self.options.as_slice().iter()
+    }
+
+    /// Whether there is an option with this code. Allocates nothing.
+    pub fn contains(&self, code: EdnsCode) -> bool
+        ensures { IsTrue result ↔ (0 < length (options_of code self.now)) }
+    {
+        self.get(code).is_some()
+    }
+
+    /// Puts an option at the end, with the code of its own, and takes out every earlier one with that code. Fails only if
+    /// an allocation fails; the options are unchanged then.
+    pub fn replace(&mut self, option: EdnsOption) -> Result<(), AllocError>
+        ensures ok { OnOk result (self.new ≡ without (code_of option) self.old ++ (code_of option, option) ∷ []) }
+        ensures err { OnErr result (self.new ≡ self.old) }
+    {
+        let code = EdnsCode::from(&option);
+        self.options.reserve(1)?;
+        self.options.retain(|pair| code != pair.0);
+        // Unreachable: the room is reserved.
         self.options.push((code, option))?;
         Ok(())
     }

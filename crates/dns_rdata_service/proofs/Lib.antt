@@ -9,3 +9,4 @@ pub mod PieceSteps
 pub mod ItemLists
 pub mod OwnValues
 pub mod SvcbFronts
+pub mod Changes

@@ -4,6 +4,7 @@ pub mod SvcParamValue
 pub mod Parameters
 pub mod ParameterWords
 pub mod SVCB
+pub mod Changing
 pub mod OwnKeys
 pub mod Hashing
 pub mod HTTPS

@@ -7,6 +7,7 @@ ghost use Rattle.dns_rdata_service.specs.SVCB.{svcb_facts, svcb_key_shape, svcb_
 ghost use Rattle.dns_rdata_service.specs.{OwnKeys.value_eq, OwnKeys.parameter_eq, SvcParamKey.key_number};
 
 mod alpn;
+mod changing;
 mod doh_path;
 mod ech_config_list;
 mod ip_hint;
@@ -151,9 +152,15 @@ impl EncodesFields for SVCB {
 
     ghost MODE = { modes.Other };
 
-    /// Appends priority, target and parameters in their order. Keys that do not strictly rise, no mandatory keys, no
-    /// protocols, a protocol of more than 255 octets, and a value of more than 65535 octets are refused by
-    /// [`Message`](ProtoError::Message).
+    /// Appends priority, target and parameters in their order.
+    ///
+    /// # Errors
+    ///
+    /// - [`Message`](ProtoError::Message): keys do not strictly rise; there are no mandatory keys, or no protocols; or a
+    ///   protocol has more than 255 octets.
+    /// - [`MaxBufferSizeExceeded`](ProtoError::MaxBufferSizeExceeded): the octets pass the encoder's limit, as those of
+    ///   a value of more than 65535 octets always do.
+    /// - [`Memory`](ProtoError::Memory): an allocation failed.
     #[tactic(auto, using(dns_names_wire::proofs::FieldWrites::writing))]
     fn emit_fields(&self, encoder: &mut BinEncoder<'_>) -> Result<(), ProtoError> {
         encoder.emit_u16(self.svc_priority)?;

@@ -16,7 +16,7 @@ use dns_names_wire::{
     BinDecoder, BinEncodable, BinEncoder, DecodeError, ProtoError, Record, RecordDataDecodable,
     Restrict, SmallOctets,
 };
-pub use issuer::{KeyValue, issuers_hold, read_iodef, read_issuer};
+pub use issuer::{KeyValue, read_iodef, read_issuer};
 use std::alloc::AllocError;
 use std::fmt;
 

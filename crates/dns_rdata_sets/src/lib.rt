@@ -3,6 +3,7 @@
 
 pub mod caa;
 pub mod csync;
+pub mod laws;
 pub mod order;
 pub mod record_type_set;
 pub mod steps;

@@ -20,7 +20,7 @@ use dns_names_wire::{
 use std::alloc::{AllocError, Global};
 use std::hash::{Hash, Hasher};
 use std::marker::Model;
-pub use windows::{Window, first_window};
+pub(crate) use windows::{Window, first_window};
 pub(crate) use writing::run_len;
 
 /// A set of record types. Contracts see the list of their numbers, each once, in rising order.

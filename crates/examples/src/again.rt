@@ -3,7 +3,7 @@
 ghost use Rattle.std.specs.Prelude.{◌≡◌, true, IfOk};
 
 use anyhow::Result;
-use dns_rdata::laws::windows_hold;
+use dns_rdata_laws::windows_hold;
 use dns_rdata::{BinDecoder, BinEncodable, BinEncoder, RData, RecordType, Restrict};
 use held_data::Held;
 use std::alloc::Global;

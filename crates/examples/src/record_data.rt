@@ -16,9 +16,7 @@ pub fn read_address(alloc: Global, message: &[u8]) -> Result<RData, DecodeError>
 }
 
 /// Emits the data of an MX record.
-pub fn emit_mail(alloc: Global, exchange: Name, octets: &mut Vec<u8>) -> ProtoResult<()>
-    requires { octets.old.items ≡ [] }
-{
+pub fn emit_mail(alloc: Global, exchange: Name, octets: &mut Vec<u8>) -> ProtoResult<()> {
     let mut encoder = BinEncoder::new(alloc, octets);
     RData::MX(MX::new(10, exchange)).emit(&mut encoder)?;
     encoder.into_bytes();
@@ -57,9 +55,7 @@ pub fn parse_mail_of(alloc: Global, origin: &Name) -> Result<RData, ParseError> 
 }
 
 /// The octets of record data, without pointers.
-pub fn octets_of(alloc: Global, data: &RData, octets: &mut Vec<u8>) -> ProtoResult<()>
-    requires { octets.old.items ≡ [] }
-{
+pub fn octets_of(alloc: Global, data: &RData, octets: &mut Vec<u8>) -> ProtoResult<()> {
     let mut encoder = BinEncoder::new(alloc, octets);
     data.emit_whole(&mut encoder)?;
     encoder.into_bytes();

@@ -11,7 +11,7 @@ use bstr::BStr;
 use dns_names_wire::{
     BinDecodable, BinDecoder, BinEncodable, BinEncoder, DecodeError, ProtoError, SmallOctets,
 };
-use std::alloc::AllocError;
+use std::alloc::{AllocError, Global};
 use std::fmt;
 
 /// The names of the protocols that a service speaks beside its scheme's own (RFC 9460, 7.1): character strings of
@@ -27,6 +27,20 @@ impl Alpn {
         let mut strings = Vec::with_capacity(*names.allocator(), names.len())?;
         for name in names {
             strings.push(SmallOctets::from_vec(name.into_bytes()))?;
+        }
+        Ok(Alpn(Items::from_vec(strings)))
+    }
+}
+
+impl Alpn {
+    /// With these names, copied: `Alpn::from_strs(alloc, &["h2", "h3"])`. Allocates once for the list, and once for each
+    /// name of more than 16 octets.
+    pub fn from_strs(alloc: Global, names: &[&str]) -> Result<Alpn, AllocError>
+        ensures { IfOk result (λ x. x.0 ≡ map (λ name. name.now) names.now) }
+    {
+        let mut strings = Vec::with_capacity(alloc, names.len())?;
+        for name in names {
+            strings.push(SmallOctets::from_slice(alloc, name.as_bytes())?)?;
         }
         Ok(Alpn(Items::from_vec(strings)))
     }

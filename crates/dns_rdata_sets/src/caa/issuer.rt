@@ -303,11 +303,3 @@ pub(super) fn issuer_octets(
     append_pairs(&mut out, pairs)?;
     Ok(out)
 }
-
-/// Octets are the value of an issuer property in at most one way, and what is written reads back.
-pub fn issuers_hold()
-    ensures one { (octets : List ℕ) (a b : Option DomainName) (xs ys : List Parameter) →
-        IsIssuer octets a xs → IsIssuer octets b ys → (a ≡ b) × (xs ≡ ys) }
-    ensures written { (name : Option DomainName) (xs : List Parameter) →
-        IsNamed name → IsWritable name → AllByRecursion IsParameter xs → IsIssuer (issuer_value name xs) name xs }
-{}

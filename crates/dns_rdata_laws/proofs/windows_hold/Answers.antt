@@ -1,5 +1,5 @@
 use Rattle.dns_rdata.proofs.DataLaws.{one_value, each_window}
-use Rattle.dns_rdata.proofs.laws.windows_hold.Goals as goal
+use Rattle.dns_rdata_laws.proofs.windows_hold.Goals as goal
 
 pub returns-clause-one : goal.returns-clause-one
 returns-clause-one c = one_value

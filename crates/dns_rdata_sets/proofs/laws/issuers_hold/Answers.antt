@@ -1,5 +1,5 @@
 use Rattle.dns_rdata_sets.proofs.Issuers.{one_issuer, issuer_written}
-use Rattle.dns_rdata_sets.proofs.caa.issuer.issuers_hold.Goals as goal
+use Rattle.dns_rdata_sets.proofs.laws.issuers_hold.Goals as goal
 
 pub returns-clause-one : goal.returns-clause-one
 returns-clause-one c = one_issuer
