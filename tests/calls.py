@@ -29,6 +29,13 @@ MODES, STARTS = ("standard", "canonical", "other"), ("fresh", "behind")
 # Memory for any text and any message, and the octets that an encoder may have.
 ROOM, SPACE = 300000, 65535
 
+# Values of which each two are ordered as here: by canonical octets, and by the type's number where those are the same.
+ORDERED = [
+    *("parse:A:0.0.0.0", "parse:AAAA:::", "parse:SRV:1 2 3 www.example.com", "parse:MX:256 n"),
+    *(f"parse:{kind}:www.example.com" for kind in ("NS", "CNAME", "PTR")),
+    *("soa:www.example.com xxx.example.com", 'parse:TXT:abcdef ghi "" j'),
+]
+
 # A call: what memory it takes, its words, and the answer that is wanted with ample memory, where one is known.
 Call = collections.namedtuple("Call", "memory name words wanted")
 
@@ -110,6 +117,12 @@ def wanted_of_pair(call, left, right):
     }.get(call)
 
 
+def wanted_in_order(call, is_less):
+    """What a call answers of two values of which the first is less, or the second."""
+    order = "Less" if is_less else "Greater"
+    return {"eq": "false", "cmp": order, "partial_cmp": f"Some({order})"}.get(call)
+
+
 def debug_text(text):
     """An ASCII text as `Debug` prints it."""
     return '"' + text.replace("\\", "\\\\").replace('"', '\\"').replace("\t", "\\t") + '"'
@@ -133,6 +146,10 @@ def calls_on(memory, name, where, types, samples):
         for (kind, text), (_, status) in samples.texts.items():
             if not types or kind in types:
                 yield Call(memory, name, (kind, text), None)
+        return
+    if where == "@ordered":
+        for left, right in itertools.permutations(range(len(ORDERED)), 2):
+            yield Call(memory, name, (ORDERED[left], ORDERED[right]), wanted_in_order(name, left < right))
         return
     if where == "@reads":
         for given, (kind, status) in samples.reads.items():

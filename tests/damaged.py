@@ -1,8 +1,9 @@
 """Runs the program on damaged messages and words, and compares each answer with what a plain table wants.
 
 The messages are those of the replayed runs (crates/rdata_rows/data): each with other lengths, cut, with an octet changed or one
-more behind it. Beside them stand pointers in the data of every type with a name, edges of the lists in records, records as long
-as they can be, and texts cut behind each word. What octets are data, and what is printed of them, says tests/plain_table.py.
+more behind it. The messages of rejected runs are among them. Beside them stand pointers in the data of every type with a name, edges of
+the lists in records, records as long as they can be, and texts truncated after each word. tests/plain_table.py says which
+octets are data and what is printed of them, and tests/plain_words.py which texts are.
 
 All runs go through one program: the built crates/rdata_rows where it is up to date, else a quick build (`rt try`), in which
 nothing is proved. The number of runs of each kind is printed. The last line is 'N as wanted, M not'.
@@ -16,15 +17,16 @@ import sys
 import tempfile
 
 import plain_table
+import plain_words
 
 TOP = pathlib.Path(__file__).resolve().parent.parent
 ROWS = TOP / "crates/rdata_rows"
 # How many of the cuts of one message are taken in front of its record and behind it, within it, and within a great one.
 FEW, MANY, OF_GREAT = 8, 1000, 5
 
-# A run: its words, and what is wanted: statuses, and for data that is read the last of the table's answers.
-Run = collections.namedtuple("Run", "kind words statuses data", defaults=[None])
-ACCEPTED, REFUSED, EITHER, USAGE = {"0"}, {"1"}, {"0", "1"}, {"2"}
+# A run: its words, and what is wanted: the status, and for data that is read or parsed what the tables print of it.
+Run = collections.namedtuple("Run", "kind words status data", defaults=[None])
+ACCEPTED, REFUSED, USAGE = "0", "1", "2"
 
 
 def thin(numbers, most):
@@ -42,19 +44,25 @@ def read_run(kind, type_word, place, length, message):
     return Run(kind, words, REFUSED if data is None else ACCEPTED, data)
 
 
+def text_run(kind, type_word, text):
+    """A run of `parse`, with what the table says of it."""
+    data = plain_words.parse(plain_table.type_number(type_word), text)
+    return Run(kind, ["parse", type_word, text], REFUSED if data is None else ACCEPTED, data)
+
+
 def stored_rows(*names):
-    """The status and the words of each replayed run of these files."""
+    """The status, the output and the words of each replayed run of these files."""
     for name in names:
         for line in (ROWS / "data" / name).read_bytes().decode().split("\n"):
             fields = [plain(field) for field in line.split("\t")]
-            if len(fields) > 3 and not line.startswith("#"):
-                yield fields[0], fields[2:]
+            if len(fields) > 1 and not line.startswith("#"):
+                yield fields[0], fields[1], fields[2:]
 
 
 def stored_messages():
-    """The type, place, length and message of each replayed run that reads."""
-    for status, words in stored_rows("rows.tsv", "real.tsv"):
-        if status == "0" and words[0] == "read":
+    """The type, place, length and message of each replayed run that reads a message, also of those that are rejected."""
+    for status, _, words in stored_rows("rows.tsv", "real.tsv"):
+        if status != USAGE and words[0] == "read":
             message = bytes.fromhex(words[4].strip("-"))
             yield words[1], int(words[2]), int(words[3]), message
 
@@ -76,9 +84,10 @@ OTHERS = [0, 1, 0x3F, 0x40, 0x80, 0xC0, 0xFF]
 
 
 def damaged_messages():
-    """Each message that reads, with other lengths, cut, with an octet changed, and with an octet more behind it."""
+    """Each message, as it is, with other lengths, cut, with an octet changed, and with an octet more behind it."""
     for word, place, length, message in stored_messages():
         most = MANY if len(message) < 4096 else OF_GREAT
+        yield read_run("message", word, place, length, message)
         for shorter in thin(range(length), most):
             yield read_run("shorter length", word, place, shorter, message)
         for longer in (length + 1, 65535):
@@ -197,54 +206,30 @@ def greatest():
         yield read_run("greatest", word, 5, 65532, room + bytes(65524))
 
 
-# How many words a type needs. The words behind those are not read, or are good where the longer list is.
-LEAST = dict.fromkeys("A AAAA ANAME CNAME NS PTR OPENPGPKEY".split(), 1)
-LEAST |= dict(MX=2, SRV=4, SOA=7, NAPTR=6, HINFO=2, TXT=0, CERT=4, SSHFP=3, TLSA=4, SMIMEA=4, CAA=3, CSYNC=2)
-LEAST |= dict(SVCB=2, HTTPS=2, ZERO=0)
-# A word is in quotes, or runs up to a blank; what has parentheses, comments or escapes is cut, but nothing is known of it.
+# A word is in quotes, or runs up to a blank.
 WORD = re.compile(r'"[^"]*"|[^ "]+')
 
 
 def cut_texts():
-    """Each text that is read, cut behind each word."""
-    for status, words in stored_rows("rows.tsv", "real.tsv"):
-        if words[0] != "parse" or status == "2":
+    """Each text that is parsed, truncated after each word and whole."""
+    for status, _, words in stored_rows("rows.tsv", "real.tsv"):
+        if words[:1] != ["parse"] or status == USAGE:
             continue
         word, text = words[1:]
-        found = list(WORD.finditer(text))
-        for count in range(len(found) + 1):
-            cut = text[: found[count - 1].end()] if count else ""
-            spaced = all(a.end() < b.start() for a, b in zip(found, found[1:]))
-            known = spaced and found and not re.search(r'[();\\\r\n\t]', text)
-            wanted = statuses_of(word, status, [x[0] for x in found], count) if known else EITHER
-            yield Run("text cut", ["parse", word, cut], wanted)
-
-
-def statuses_of(word, status, words, count):
-    """The statuses that may come for the first words of a text whose own status is known."""
-    least = LEAST.get(word)
-    if least is None:
-        return EITHER
-    if count < least:
-        return REFUSED
-    if status != "0":
-        return EITHER
-    digits = "".join(words[3:count]).replace('"', "").replace(" ", "")
-    whole = word not in ("TLSA", "SMIMEA") or (digits and len(digits) % 2 == 0)
-    return ACCEPTED if whole else REFUSED
+        for end in [0, *(found.end() for found in WORD.finditer(text)), len(text)]:
+            yield text_run("text cut", word, text[:end])
 
 
 def wrong_texts():
     """Words of parameters, and texts with an open quote or parenthesis."""
     for word in ("SVCB", "HTTPS"):
         for parameter in ("=", '"', r'"\""', r"\"", "key", "key65536=a", "alpn=,", "mandatory=key65536", "alpn="):
-            wanted = REFUSED if parameter != "alpn=" else EITHER
-            yield Run("parameter", ["parse", word, f"1 . {parameter}"], wanted)
+            yield Run("parameter", ["parse", word, f"1 . {parameter}"], ACCEPTED if parameter == "alpn=" else REFUSED)
         for parameter in ("dohpath", "dohpath=", 'dohpath="', 'dohpath=""'):
             yield Run("parameter", ["parse", word, f"1 . {parameter}"], REFUSED)
         for parameter in ("mandatory=key65535", "alpn=h2,", "key65534=a", "key7", "key7=x", "dohpath=/q{?dns}", "mandatory=dohpath"):
             yield Run("parameter", ["parse", word, f"1 . {parameter}"], ACCEPTED)
-    for word in LEAST:
+    for word in plain_words.RECORDS:
         for text in ('"', "a (", "(", "1.2.3.4 (", '1 a. "', "( a", '( "a" ', "a ( b ( c ) )"):
             yield Run("open text", ["parse", word, text], REFUSED)
 
@@ -282,8 +267,8 @@ def by_program(program, runs):
 
 def room_of(run):
     """More octets than a run and its answer have."""
-    asked = 100 + 2 * len(run.words[-1])
-    return asked + 10 * (len(run.words[-1]) * ("0" in run.statuses) if run.data is None else len(run.data[0]))
+    asked = 100 + 2 * sum(map(len, run.words))
+    return asked + 10 * (len(run.words[-1]) * (run.status == ACCEPTED) if run.data is None else len(run.data[0]))
 
 
 def parts(runs):
@@ -335,7 +320,7 @@ def is_data(number, output):
 def is_wanted(run, answer):
     """Whether a line that answers a run is the wanted one, as far as the run says."""
     status, _, output = answer.partition("\t")
-    if status not in run.statuses:
+    if status != run.status:
         return False
     if status != "0":
         return output == {"1": "refused\\n", "2": "usage\\n"}[status]

@@ -41,10 +41,12 @@ def requests_of(counter, run):
         return int(file.read() or 0), full
 
 
-def refusals(counter, run, kinds, refused):
+def refusals(counter, run, kinds, refused, wanted):
     """The counts of one run's refusals of each kind: how many are as wanted, and a text for each that is not."""
     count, full = requests_of(counter, run)
     good, bad = collections.Counter(), [] if count else [f"no request was counted of {run}"]
+    if wanted not in (None, full):
+        bad.append(f"{run}: {full} in place of {wanted}")
     for kind in kinds:
         for number in range(1, count + 2):
             name = "REQUESTS_ALONE" if kind == "alone" else "REQUESTS_REFUSE"
@@ -57,20 +59,20 @@ def refusals(counter, run, kinds, refused):
 
 
 def runs_of_rdata(program, counter):
-    """The replayed runs of the program, some of each kind with single requests refused, too."""
+    """The replayed runs of the program, one without words too, and of some of each kind with single requests refused."""
     seen = collections.Counter()
-    for _, words in stored_rows("rows.tsv"):
+    for status, output, words in stored_rows("rows.tsv"):
         seen[tuple(words[:2])] += 1
         kinds = ("from", "alone") if seen[tuple(words[:2])] <= ALONE else ("from",)
-        yield counter, ([program, *words], None), kinds, MEMORY
+        yield counter, ([program, *words], None), kinds, MEMORY, (output.encode(), int(status))
 
 
 def runs_of_zone_text(program, counter):
     """A run for each stored text, and for each record whose text is stored."""
     for number, text, _ in stored_texts():
-        yield counter, ([program, "read", ORIGIN], f"{number} {text}\n".encode()), ("of zone texts",), NOTHING
+        yield counter, ([program, "read", ORIGIN], f"{number} {text}\n".encode()), ("of zone texts",), NOTHING, None
     for line in (CRATE / "stdin").read_bytes().splitlines(keepends=True):
-        yield counter, ([program], line), ("of zone texts",), NOTHING
+        yield counter, ([program], line), ("of zone texts",), NOTHING, None
 
 
 def main(program, zone_text, counter):

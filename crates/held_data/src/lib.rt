@@ -4,7 +4,7 @@
 
 pub mod measured;
 
-use dns_rdata::{BinDecoder, DecodeError, ParseError, RData, RecordType, Restrict};
+use dns_rdata::{BinDecoder, DecodeError, Name, ParseError, RData, RecordType, Restrict};
 use std::alloc::{AllocError, Global};
 
 /// The type that a word names or gives the number of.
@@ -66,6 +66,17 @@ impl Held {
         words: &str,
     ) -> Result<Held, ParseError> {
         let value = RData::from_tokens(alloc, record_type, words.split(' '), None)?;
+        Ok(Held(value))
+    }
+
+    /// The value of words, with a blank between each two, whose relative names are completed by an origin.
+    pub fn of_words_within(
+        alloc: Global,
+        record_type: RecordType,
+        words: &str,
+        origin: &Name,
+    ) -> Result<Held, ParseError> {
+        let value = RData::from_tokens(alloc, record_type, words.split(' '), Some(origin))?;
         Ok(Held(value))
     }
 

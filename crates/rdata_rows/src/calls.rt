@@ -8,10 +8,11 @@ mod made;
 mod made_certs;
 mod made_services;
 mod made_sets;
+mod numbers;
 mod options;
 mod reading;
 mod services;
-mod values;
+pub mod values;
 
 use anyhow::{Result, bail};
 use std::alloc::Global;
@@ -41,7 +42,10 @@ fn answer_to_none(alloc: Global, command: &str) -> Result<String> {
 fn answer_to_one(alloc: Global, command: &str, word: &str) -> Result<String> {
     match command {
         "emitted" => values::emitted(alloc, word),
+        "unemitted" => values::unemitted(alloc, word),
+        "debugged" => values::debugged(alloc, word),
         "printed" => values::printed(alloc, word),
+        "displayed" => values::displayed(alloc, word),
         "told" => values::told(alloc, word),
         "canonical" => values::canonical(alloc, word),
         "naptr" => reading::naptr(alloc, word),
@@ -49,7 +53,9 @@ fn answer_to_one(alloc: Global, command: &str, word: &str) -> Result<String> {
         "base64" => made_certs::base64(alloc, word),
         "hex" => made_certs::decoded(alloc, word),
         "issuer" => made_sets::issuer_of(alloc, word),
+        "issuer-in" => made_sets::issuer_in(alloc, word),
         "url" => made_sets::url_of(alloc, word),
+        "url-in" => made_sets::url_in(alloc, word),
         "set" => made_sets::set(alloc, word),
         "shortest" => made_sets::shortest(alloc, word),
         "list" => lists::list(alloc, word),
@@ -57,9 +63,14 @@ fn answer_to_one(alloc: Global, command: &str, word: &str) -> Result<String> {
         "sorted" => lists::sorted(alloc, word),
         "numbers" => lists::numbers(alloc, word),
         "options" => options::options(alloc, word),
+        "lens" => options::lens(alloc, word),
+        "cookie" => options::cookie(alloc, word),
+        "client" => options::client(alloc, word),
         "net" => options::net(alloc, word),
+        "nets" => options::nets(alloc, word),
         "payload" => options::payload(alloc, word),
         "keys" => services::keys(alloc, word),
+        "configuration" => services::configuration(alloc, word),
         "protocols" => services::protocols(alloc, word),
         "names" => services::names(alloc, word),
         "pairs" => services::pairs(alloc, word),
@@ -73,6 +84,8 @@ fn answer_to_two(alloc: Global, command: &str, first: &str, second: &str) -> Res
         "cursors" => values::cursors(alloc, first, second),
         "octet" => values::octet(alloc, first, second),
         "refusal" => reading::refusal(alloc, first, second),
+        "own-refusal" => reading::own_refusal(alloc, first, second),
+        "variant" => numbers::variant(alloc, first, second),
         "lengths" => reading::lengths(alloc, first, second),
         "are-words" => reading::are_words(alloc, first, second),
         "is-long-text" => reading::is_long_text(alloc, first, second),
@@ -83,6 +96,8 @@ fn answer_to_two(alloc: Global, command: &str, first: &str, second: &str) -> Res
         "same-sets" => made_sets::same_sets(alloc, first, second),
         "subnet" => options::subnet(alloc, first, second),
         "order" => options::order(alloc, first, second),
+        "inserted" => options::inserted(alloc, first, second),
+        "key-order" => services::key_order(alloc, first, second),
         "found" => lists::found(alloc, first, second),
         "front" => services::front(alloc, first, second),
         "parameter" => services::parameter(alloc, first, second),

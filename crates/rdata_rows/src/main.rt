@@ -10,6 +10,7 @@
 mod answers;
 mod calls;
 mod marked;
+mod recorder;
 mod shared;
 mod wire_calls;
 

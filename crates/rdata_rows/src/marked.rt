@@ -18,7 +18,9 @@ mod changing;
 mod emitting;
 mod given;
 mod making;
+mod moving;
 mod numbers;
+mod texts;
 
 use crate::shared;
 use anyhow::{Result, bail};
@@ -83,7 +85,30 @@ fn answer_to_one(marks: &Marks<'_>, call: &str, text: &str) -> Result<String> {
         "set_subnet" => changing::set_subnet(marks, text),
         "A" | "AAAA" | "IpNet" | "ClientSubnet" => numbers::parsed(marks, call, text),
         "RecordType" | "SvcParamKey" | "ttl" | "flags" => numbers::parsed(marks, call, text),
-        _ => making::octets(marks, call, text),
+        "decode" | "encode" | "cert" | "option" | "nsid" | "subnet" => {
+            making::octets(marks, call, text)
+        }
+        _ => answer_to_text(marks, call, text),
+    }
+}
+
+fn answer_to_text(marks: &Marks<'_>, call: &str, text: &str) -> Result<String> {
+    match call {
+        "read_issuer" => texts::read_value(marks, text),
+        "value_as_issue" => texts::issuer_of(marks, text),
+        "KeyValue::clone" => texts::copy_pair(marks, text),
+        "TXT::new" | "Alpn::new" => texts::list(marks, call, text),
+        "TXT::from_bytes" => texts::octets(marks, text),
+        "Name::from_ascii" | "Name::from_str" | "Name::parse" => texts::name(marks, call, text),
+        "Name::to_ascii" | "Name::to_string" => texts::text(marks, call, text),
+        "subnet_len" => texts::subnet(marks, text),
+        "option_len" => texts::option(marks, text),
+        "NSIDPayload::new" => moving::payload(marks, text),
+        "DohPath::new" => moving::path(marks, text),
+        "SOA::new" => moving::zone(marks, text),
+        "NAPTR::new" => moving::rule(marks, text),
+        "OPT::new" => moving::options(marks, text),
+        _ => bail!("no such call"),
     }
 }
 
@@ -95,6 +120,10 @@ fn answer_to_two(marks: &Marks<'_>, call: &str, first: &str, second: &str) -> Re
         "set_iodef_value" => changing::set_url(marks, first, second),
         "make" => changing::make(marks, first, second),
         "insert" | "get_all" | "remove" => changing::options(marks, call, first, second),
+        "new" => moving::record(marks, first, second),
+        "new_machine" => moving::machine(marks, first, second),
+        "new_service" => moving::service(marks, first, second),
+        "KeyValue::new" => moving::pair(marks, first, second),
         _ => asking::ask(marks, call, first, second),
     }
 }

@@ -1,5 +1,6 @@
 //! What several of the calls begin or end with.
 
+use crate::recorder::Recorder;
 use anyhow::{Context, Result};
 use dns_rdata::caa::KeyValue;
 use dns_rdata::{
@@ -35,11 +36,19 @@ pub fn emitted_digits<T: BinEncodable>(alloc: Global, value: &T) -> Result<Strin
     Ok(hex::encode(alloc, emitted(alloc, value)?.as_slice())?)
 }
 
-/// What a hasher has of a value.
-pub fn fed<T: Hash>(value: &T) -> u64 {
+/// The number that std's hasher makes of a value.
+pub fn hashed<T: Hash>(value: &T) -> u64 {
     let mut state = DefaultHasher::new();
     value.hash(&mut state);
     state.finish()
+}
+
+/// Whether two values feed a hasher the same octets.
+pub fn feed_the_same<T: Hash>(left: &T, right: &T) -> Result<bool> {
+    let (left, right) = (Recorder::of(left), Recorder::of(right));
+    let octets = left.octets().context("more octets than are recorded")?;
+    let others = right.octets().context("more octets than are recorded")?;
+    Ok(octets == others)
 }
 
 // The pair of a text `KEY=VALUE`.

@@ -1,6 +1,6 @@
 //! Values that are made of their fields.
 
-use super::{made_certs, made_services, made_sets};
+use super::{made_certs, made_services, made_sets, options};
 use anyhow::{Context, Result};
 use dns_rdata::{
     A, BinDecodable, BinDecoder, CNAME, HINFO, MX, NULL, Name, OPENPGPKEY, RData, RecordData, SOA,
@@ -34,13 +34,19 @@ fn machine_of_octets(alloc: Global, text: &str) -> Result<Held> {
     Ok(Held(RData::HINFO(HINFO::from_bytes(cpu, os))))
 }
 
-// A string, or a key.
-fn of_one_text(alloc: Global, kind: &str, text: &str) -> Result<Held, AllocError> {
+// A key.
+fn key(alloc: Global, text: &str) -> Result<Held, AllocError> {
     let text = String::from_str(alloc, text)?;
-    Ok(Held(match kind {
-        "txt" => RData::TXT(TXT::new(vec![in alloc; text]?)?),
-        _ => RData::OPENPGPKEY(OPENPGPKEY::new(text.into_bytes())),
-    }))
+    Ok(Held(RData::OPENPGPKEY(OPENPGPKEY::new(text.into_bytes()))))
+}
+
+// Texts, with a comma between each two.
+fn texts(alloc: Global, text: &str) -> Result<Held, AllocError> {
+    let mut all = Vec::new(alloc);
+    for text in text.split(',') {
+        all.push(String::from_str(alloc, text)?)?;
+    }
+    Ok(Held(RData::TXT(TXT::new(all)?)))
 }
 
 // Strings, with a comma between each two. A dash is none.
@@ -93,12 +99,14 @@ pub fn value(alloc: Global, kind: &str, text: &str) -> Result<Held> {
         "tlsa" | "smimea" | "sshfp" => made_certs::digest(alloc, kind, text),
         "cert" => made_certs::certificate(alloc, text),
         "cert-octets" => made_certs::certificate_of_octets(alloc, text),
-        "issue" | "issuewild" => made_sets::issue(alloc, kind, text),
+        "issue" | "issue-not-critical" | "issuewild" => made_sets::issue(alloc, kind, text),
         "csync" => made_sets::synchronized(alloc, text),
         "service" => made_services::service(alloc, text),
         "hinfo" => machine(alloc, text),
         "hinfo-octets" => machine_of_octets(alloc, text),
-        "txt" | "openpgpkey" => Ok(of_one_text(alloc, kind, text)?),
+        "txt" => Ok(texts(alloc, text)?),
+        "openpgpkey" => Ok(key(alloc, text)?),
+        "opt" => options::value(alloc, text),
         "txt-octets" => Ok(strings(alloc, text)?),
         "null" => null(alloc, text),
         "mx" => mail(alloc, text),

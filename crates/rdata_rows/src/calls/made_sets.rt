@@ -1,6 +1,6 @@
 //! Issuers, synchronized types, and sets of types.
 
-use crate::shared::{emitted_digits, fed, issuer, record, types};
+use crate::shared::{emitted_digits, feed_the_same, issuer, record, types};
 use anyhow::Result;
 use dns_rdata::caa::{CAA, KeyValue, read_iodef, read_issuer};
 use dns_rdata::{BinDecoder, CSYNC, DecodeError, Name, ProtoError, RData, RecordTypeSet, Restrict};
@@ -8,13 +8,13 @@ use held_data::Held;
 use replay::octets;
 use std::alloc::{AllocError, Global};
 
-/// An issuer, critical, or one of wildcards, not critical.
+/// An issuer, critical or not, or one of wildcards, not critical.
 pub fn issue(alloc: Global, kind: &str, text: &str) -> Result<Held> {
     let (name, pairs) = issuer(alloc, text)?;
-    Ok(Held(RData::CAA(if kind == "issue" {
-        CAA::new_issue(true, name, pairs)?
-    } else {
+    Ok(Held(RData::CAA(if kind == "issuewild" {
         CAA::new_issuewild(false, name, pairs)?
+    } else {
+        CAA::new_issue(kind == "issue", name, pairs)?
     })))
 }
 
@@ -41,6 +41,21 @@ pub fn issuer_of(alloc: Global, text: &str) -> Result<String> {
         Err(_) => shown.push_str("otherwise")?,
     }
     Ok(shown)
+}
+
+/// The name and the pairs that a record of these octets has as its issuer.
+pub fn issuer_in(alloc: Global, digits: &str) -> Result<String> {
+    let record = record::<CAA>(alloc, octets(alloc, digits)?.as_slice())?;
+    let (name, pairs) = record.value_as_issue()?;
+    let mut shown = String::new(alloc);
+    show(&name, pairs.as_slice(), &mut shown)?;
+    Ok(shown)
+}
+
+/// The URL that a record of these octets has, or that it is refused.
+pub fn url_in(alloc: Global, digits: &str) -> Result<String> {
+    let record = record::<CAA>(alloc, octets(alloc, digits)?.as_slice())?;
+    Ok(String::from_str(alloc, record.value_as_iodef().unwrap_or("refused"))?)
 }
 
 /// The URL that octets are, or that they are refused.
@@ -113,6 +128,6 @@ pub fn shortest(alloc: Global, digits: &str) -> Result<String> {
 pub fn same_sets(alloc: Global, left: &str, right: &str) -> Result<String> {
     let left = set_of(alloc, left)?;
     let right = set_of(alloc, right)?;
-    let (equal, fed_same) = (left == right, fed(&left) == fed(&right));
+    let (equal, fed_same) = (left == right, feed_the_same(&left, &right)?);
     Ok(format!(in alloc; "{equal} {fed_same}")?)
 }

@@ -1,8 +1,11 @@
 //! Octets and texts that are read or refused.
 
-use crate::shared::shown;
-use anyhow::{Context, Result};
-use dns_rdata::{BinDecodable, BinDecoder, DecodeError, NAPTR, RecordType, verify_flags};
+use crate::shared::{record, shown};
+use anyhow::{Context, Result, bail};
+use dns_rdata::opt::{ClientSubnet, NSIDPayload};
+use dns_rdata::{
+    BinDecodable, BinDecoder, CERT, CSYNC, DecodeError, NAPTR, OPT, RecordType, SVCB, verify_flags,
+};
 use held_data::{Held, record_type};
 use rdata_command::run;
 use replay::octets;
@@ -68,6 +71,23 @@ pub fn lengths(alloc: Global, kind: &str, digits: &str) -> Result<String> {
         }
     }
     Ok(shown)
+}
+
+/// Why octets are refused that are read by their own type.
+pub fn own_refusal(alloc: Global, kind: &str, digits: &str) -> Result<String> {
+    let octets = octets(alloc, digits)?;
+    let octets = octets.as_slice();
+    let error = match kind {
+        "CERT" => record::<CERT>(alloc, octets).err(),
+        "CERT::try_from" => CERT::try_from(alloc, octets).err(),
+        "CSYNC" => record::<CSYNC>(alloc, octets).err(),
+        "OPT" => record::<OPT>(alloc, octets).err(),
+        "SVCB" => record::<SVCB>(alloc, octets).err(),
+        "NSIDPayload::try_from" => NSIDPayload::try_from(alloc, octets).err(),
+        "ClientSubnet::try_from" => ClientSubnet::try_from(octets).err(),
+        _ => bail!("no such type"),
+    };
+    shown(alloc, error)
 }
 
 /// Whether octets are the text of a value.

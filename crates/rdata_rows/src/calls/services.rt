@@ -7,7 +7,8 @@ use dns_rdata::svcb::{
     Alpn, DohPath, EchConfigList, IpHint, Mandatory, SvcParamKey, SvcParamValue, Unknown,
 };
 use dns_rdata::{
-    A, AAAA, BinDecodable, BinDecoder, BinEncodable, DecodeError, SVCB, TakesOctet, WordList,
+    A, AAAA, BinDecodable, BinDecoder, BinEncodable, DecodeError, Octets, SVCB, TakesOctet,
+    WordList,
 };
 use dns_rdata_service::order::svcb_front;
 use replay::octets;
@@ -63,6 +64,18 @@ pub fn parameter(alloc: Global, kind: &str, digits: &str) -> Result<String> {
     };
     anyhow::ensure!(decoder.is_empty(), "octets are left");
     Ok(shown)
+}
+
+/// A configuration of ECH as `Debug` prints it.
+pub fn configuration(alloc: Global, digits: &str) -> Result<String> {
+    let octets = Octets::from_vec(octets(alloc, digits)?);
+    shared::shown(alloc, EchConfigList(octets))
+}
+
+/// The order of two keys, and whether they are equal.
+pub fn key_order(alloc: Global, left: &str, right: &str) -> Result<String> {
+    let (left, right) = (left.parse::<SvcParamKey>()?, right.parse::<SvcParamKey>()?);
+    Ok(format!(in alloc; "{:?} {}", left.cmp(&right), left == right)?)
 }
 
 // The protocols of names with a comma between each two. A dash is none.

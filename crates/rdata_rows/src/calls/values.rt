@@ -2,19 +2,29 @@
 
 use super::made;
 use crate::shared;
-use crate::shared::fed;
+use crate::shared::feed_the_same;
 use anyhow::Result;
-use dns_rdata::{RData, RecordData};
+use dns_rdata::{Name, ProtoError, RData, RecordData, RecordType};
 use held_data::{Held, record_type};
 use replay::{octets, parts};
 use std::alloc::{AllocError, Global};
 use std::cmp::Ordering;
+use std::fmt;
+use std::fmt::Display;
+
+// The value of words behind their origin, `ORIGIN:WORDS`.
+fn within(alloc: Global, record: RecordType, text: &str) -> Result<Held> {
+    let (origin, words) = parts(text)?;
+    let origin = Name::from_ascii(alloc, origin)?;
+    Ok(Held::of_words_within(alloc, record, words, &origin)?)
+}
 
 // The value of a whole message, of a zone's text that is given or whose octets are, or of words.
 fn said(alloc: Global, kind: &str, text: &str) -> Result<Held> {
     let (record, text) = parts(text)?;
     let record = record_type(record)?;
     match kind {
+        "within" => return within(alloc, record, text),
         "parse" => return Ok(Held::parse(alloc, record, text)?),
         "words" => return Ok(Held::of_words(alloc, record, text)?),
         _ => (),
@@ -26,12 +36,12 @@ fn said(alloc: Global, kind: &str, text: &str) -> Result<Held> {
     }
 }
 
-/// The value that a word says: `read:TYPE:OCTETS`, `parse:TYPE:TEXT`, `text:TYPE:OCTETS`, `words:TYPE:WORDS`, or one that is
-/// made.
+/// The value that a word says: `read:TYPE:OCTETS`, `parse:TYPE:TEXT`, `text:TYPE:OCTETS`, `words:TYPE:WORDS`,
+/// `within:TYPE:ORIGIN:WORDS`, or one that is made.
 pub fn value(alloc: Global, word: &str) -> Result<Held> {
     let (kind, text) = parts(word)?;
     match kind {
-        "read" | "text" | "parse" | "words" => said(alloc, kind, text),
+        "read" | "text" | "parse" | "words" | "within" => said(alloc, kind, text),
         _ => made::value(alloc, kind, text),
     }
 }
@@ -60,6 +70,43 @@ pub fn printed(alloc: Global, word: &str) -> Result<String> {
     Ok(text.or(String::from_str(alloc, "none"))?)
 }
 
+/// Which error a value is not emitted for, or `emitted`.
+pub fn unemitted(alloc: Global, word: &str) -> Result<String> {
+    let value = value(alloc, word)?;
+    let case = match shared::emitted(alloc, &value.0) {
+        Ok(_) => "emitted",
+        Err(ProtoError::Message(_)) => "Message",
+        Err(ProtoError::MaxBufferSizeExceeded) => "MaxBufferSizeExceeded",
+        Err(ProtoError::Decode(_)) => "Decode",
+        Err(ProtoError::Memory) => "Memory",
+    };
+    Ok(String::from_str(alloc, case)?)
+}
+
+/// A value as `Debug` prints it.
+pub fn debugged(alloc: Global, word: &str) -> Result<String> {
+    Ok(format!(in alloc; "{:?}", value(alloc, word)?.0)?)
+}
+
+// What a value's `Display` returns, written behind what it printed.
+#[derive(Drop)]
+struct DisplayOutcome<'a>(&'a RData);
+
+impl fmt::Display for DisplayOutcome<'_> {
+    fn fmt<W: fmt::Write>(&self, f: &mut fmt::Formatter<W>) -> fmt::Result {
+        match self.0.fmt(f) {
+            Ok(()) => f.write_str(" Ok(())"),
+            Err(fmt::Error) => f.write_str(" Err(Error)"),
+        }
+    }
+}
+
+/// What a value's `Display` prints, and what it returns.
+pub fn displayed(alloc: Global, word: &str) -> Result<String> {
+    let value = value(alloc, word)?;
+    Ok(format!(in alloc; "{}", DisplayOutcome(&value.0))?)
+}
+
 /// A value's type, its address, and whether it is none of an update.
 pub fn told(alloc: Global, word: &str) -> Result<String> {
     let value = value(alloc, word)?;
@@ -72,7 +119,7 @@ pub fn compare(alloc: Global, left: &str, right: &str) -> Result<String> {
     let left = value(alloc, left)?;
     let right = value(alloc, right)?;
     let (order, equal) = (left.0.cmp(&right.0), left.0 == right.0);
-    let fed_same = fed(&left.0) == fed(&right.0);
+    let fed_same = feed_the_same(&left.0, &right.0)?;
     Ok(format!(in alloc; "{order:?} {equal} {fed_same}")?)
 }
 

@@ -2,7 +2,7 @@
 
 use crate::marked::Marks;
 use crate::marked::given::value;
-use crate::shared::fed;
+use crate::shared::hashed;
 use anyhow::Result;
 use dns_rdata::opt::EdnsCode;
 use dns_rdata::svcb::SvcParamKey;
@@ -89,7 +89,7 @@ fn ask_both(marks: &Marks<'_>, call: &str, left: &RData, right: &RData) -> Resul
         "partial_cmp" => marks.shown(left.partial_cmp(right)),
         "try_borrow" => marks.shown(lent(left)),
         "getters" => marks.shown(got(left)),
-        "hash" => marks.shown(fed(left)),
+        "hash" => marks.shown(hashed(left)),
         "compare" => marks.shown(by_cursors(left, right)),
         "record_type" => marks.shown(left.record_type()),
         "ip_addr" => marks.shown(left.ip_addr()),

@@ -1,5 +1,6 @@
 //! What words of the lines give before a call.
 
+use crate::calls::values;
 use crate::shared;
 use anyhow::{Context, Result};
 use dns_rdata::{BinDecoder, RecordDataDecodable, RecordType};
@@ -30,8 +31,11 @@ pub fn read_given(alloc: Global, text: &str) -> Result<Given> {
     })
 }
 
-/// The value of such a text.
+/// The value of such a text, or of a word as [`values::value`] reads it, which has a colon.
 pub fn value(alloc: Global, text: &str) -> Result<Held> {
+    if text.contains(':') {
+        return values::value(alloc, text);
+    }
     let given = read_given(alloc, text)?;
     let mut decoder = BinDecoder::new(alloc, given.message.as_slice());
     let _before = decoder.read_slice(given.place)?;

@@ -1,6 +1,6 @@
 //! Names as values.
 
-use crate::shared::{fed, shown};
+use crate::shared::{feed_the_same, shown};
 use anyhow::{Result, bail};
 use dns_names_wire::{Name, ProtoError, ProtoResult};
 use replay::{octets, parts};
@@ -93,7 +93,7 @@ pub fn compare(alloc: Global, left: &str, right: &str) -> Result<String> {
     let left = Name::from_ascii(alloc, left)?;
     let right = Name::from_ascii(alloc, right)?.to_lowercase()?;
     let (order, equal) = (left.partial_cmp(&right), left == right);
-    let fed_same = fed(&left) == fed(&right);
+    let fed_same = feed_the_same(&left, &right)?;
     Ok(format!(in alloc; "{order:?} {equal} {fed_same}")?)
 }
 
