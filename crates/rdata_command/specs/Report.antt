@@ -25,7 +25,7 @@ octets_text (x ∷ xs) = encode_lower (x ∷ xs)
 
 -- an encoder that has written nothing
 abbrev pub fresh : ℕ → Writing
-fresh target = record { octets = []; limit = 65535; mode = StandardRecord; target = target }
+fresh target = record { before = []; octets = []; limit = 65535; mode = StandardRecord; target = target }
 
 -- a fresh encoder appends these octets for the value
 pub record EmitsFresh (v : RData) (octets : List ℕ) : Type 0 where

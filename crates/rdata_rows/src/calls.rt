@@ -2,6 +2,7 @@
 //! is wanted, and the command's words, with a tab between each two. What a command answers is said at the function that
 //! does it.
 
+mod changing;
 mod encoder;
 mod lists;
 mod made;
@@ -31,6 +32,8 @@ pub fn answer(alloc: Global, command: &str, words: &[String]) -> Result<String> 
 fn answer_to_none(alloc: Global, command: &str) -> Result<String> {
     match command {
         "insert" => options::insert(alloc),
+        "service" => changing::service(alloc),
+        "moved" => changing::moved(alloc),
         "modes" => encoder::modes(alloc),
         "limit" => encoder::limit(alloc),
         "serials" => encoder::serials(alloc),
@@ -47,6 +50,7 @@ fn answer_to_one(alloc: Global, command: &str, word: &str) -> Result<String> {
         "printed" => values::printed(alloc, word),
         "displayed" => values::displayed(alloc, word),
         "told" => values::told(alloc, word),
+        "target" => values::target(alloc, word),
         "canonical" => values::canonical(alloc, word),
         "naptr" => reading::naptr(alloc, word),
         "flags" => reading::flags(alloc, word),
@@ -97,6 +101,10 @@ fn answer_to_two(alloc: Global, command: &str, first: &str, second: &str) -> Res
         "subnet" => options::subnet(alloc, first, second),
         "order" => options::order(alloc, first, second),
         "inserted" => options::inserted(alloc, first, second),
+        "replaced" => changing::replaced(alloc, first, second),
+        "after" => changing::after(alloc, first, second),
+        "from-offset" => changing::from_offset(alloc, first, second),
+        "at" => changing::at(alloc, first, second),
         "key-order" => services::key_order(alloc, first, second),
         "found" => lists::found(alloc, first, second),
         "front" => services::front(alloc, first, second),

@@ -70,6 +70,15 @@ pub fn printed(alloc: Global, word: &str) -> Result<String> {
     Ok(text.or(String::from_str(alloc, "none"))?)
 }
 
+/// The name that a value points to, or `none`.
+pub fn target(alloc: Global, word: &str) -> Result<String> {
+    let value = value(alloc, word)?;
+    match value.0.target() {
+        Some(name) => Ok(format!(in alloc; "{name}")?),
+        None => Ok(String::from_str(alloc, "none")?),
+    }
+}
+
 /// Which error a value is not emitted for, or `emitted`.
 pub fn unemitted(alloc: Global, word: &str) -> Result<String> {
     let value = value(alloc, word)?;

@@ -5,7 +5,7 @@ use dns_fields::RDataEncoding;
 use dns_labels::reading::read_octets;
 use dns_labels::text::{NameText, parse_octets};
 use dns_labels::writing::write_name;
-use dns_labels::{Places, WriteError};
+use dns_labels::{MessageOctets, Places, WriteError};
 use replay::{octets, parts};
 use std::alloc::Global;
 
@@ -55,7 +55,14 @@ impl Written {
         let Ok((name, _)) = parse_octets(*octets.allocator(), text.as_bytes()) else {
             bail!("not a name");
         };
-        Ok(write_name(places, octets, mode, *limit, name.as_slice()))
+        let mut message = MessageOctets::new(0, octets);
+        Ok(write_name(
+            places,
+            &mut message,
+            mode,
+            *limit,
+            name.as_slice(),
+        ))
     }
 
     // Does what one word says.
