@@ -1,6 +1,6 @@
 -- Options one after the other.
 use Rattle.std.proofs.Common.{◌≡◌, ℕ, ◌+◌, ◌≤◌, ◌<◌, ◌^◌, ◌⊎◌, inl, inr, ⊎_elim, List, [], ◌∷◌, ◌++◌, length, take, drop, refl, sym, ap, ◌∙◌, arith}
-use Rattle.std.proofs.Common.{subst, append_assoc, suc, get_or, ◌-◌, Bool, true, map}
+use Rattle.std.proofs.Common.{subst, append_assoc, zero, suc, add-one, drop-cons, get_or, ◌-◌, Bool, true, map}
 use Rattle.std.specs.Int.{bytes_high_first, from_be_bytes, w16}
 use Rattle.std.proofs.lemmas.List.{length-append, take-append-drop, take_at, take-append-le}
 use Rattle.dns_types.specs.declared.error.DecodeError.{DecodeError}
@@ -13,7 +13,7 @@ use Rattle.dns_names_wire.proofs.FieldReads.{unless_all, took_number}
 use Rattle.dns_names_wire.proofs.Strings.{at_front, at_rest, at_then}
 use Rattle.dns_rdata_options.specs.OPT.{IsPieceRefusal, IsNextRefusal, Pair, pair_value, pair_of, opt_shape, IsOptRefusal}
 use Rattle.dns_rdata_options.specs.OptionReads.{OptionsLeft, NoneLeft, TookPiece, TookCut, RefusedPiece, NoOptionValue, KeptOption}
-use Rattle.std.proofs.{lemmas.List.get_or-drop, lemmas.Nat.from_be_bytes-to_be_bytes_2, lemmas.List.map_push, lemmas.List.append-nil}
+use Rattle.std.proofs.{lemmas.List.get_or-drop, lemmas.List.length-take, lemmas.List.length-drop, lemmas.Nat.be_bytes_2, lemmas.Nat.from_be_bytes-to_be_bytes_2, lemmas.List.map_push, lemmas.List.append-nil}
 use Rattle.std.proofs.{lemmas.Grind.flat_map-append}
 use Rattle.dns_names_wire.proofs.{FieldReads.unless_map}
 use Rattle.dns_rdata_options.proofs.{Selection.all_push}
@@ -205,6 +205,63 @@ counts_all {m} {end} {count} {place} there h read a g =
     none : (rest : List (Numbered (List ℕ))) → At m place (pieces rest) end → length rest ≡ 0
     none [] b = refl
     none (y ∷ ys) b = absurd (omega (arith, b.ends, there, length-append (piece y) (pieces ys), length-piece y))
+
+-- ---- and options were there, so many
+
+-- whole options fill the octets up to a place, and this is their number
+pub record Counted (m : List ℕ) (count place : ℕ) : Type 0 where
+  pub read : List (Numbered (List ℕ))
+  pub at : At m 0 (pieces read) place
+  pub are : ArePieces read
+  pub number : count ≡ length read
+
+-- the octets that are there from p on are at p
+at_taken : (m : List ℕ) (p n q : ℕ) → q ≡ p + n → q ≤ length m → At m p (take n (drop p m)) q
+at_taken m p n q e l =
+    let len : length (take n (drop p m)) ≡ n = omega (arith, length-take n (drop p m), length-drop p m, l, e) in
+    record { ends = omega (arith, len, e); within = l; same = ap (λ k. take k (drop p m)) len }
+
+-- two octets are those of their number
+number_there : (m : List ℕ) (p : ℕ) → ((i : ℕ) → get_or m i 0 < 256) → p + 2 ≤ length m
+    → take 2 (drop p m) ≡ bytes_high_first 2 (from_be_bytes w16 (get_or m p 0 ∷ get_or m (p + 1) 0 ∷ []))
+number_there m p small l = two ∙ sym (be_bytes_2 (get_or m p 0 ∷ get_or m (p + 1) 0 ∷ []) _ refl bound refl) where
+  two : take 2 (drop p m) ≡ get_or m p 0 ∷ get_or m (p + 1) 0 ∷ []
+  two = rw add-one (ap (take 2) (drop-cons m p 0 (omega (arith, l)) ∙ ap (λ (s : List ℕ). get_or m p 0 ∷ s) (drop-cons m (suc p) 0 (omega (arith, l)))))
+  bound : (i : ℕ) → get_or (get_or m p 0 ∷ get_or m (p + 1) 0 ∷ []) i 0 < 256
+  bound zero = small p
+  bound (suc zero) = small (p + 1)
+  bound (suc (suc i)) = omega arith
+
+-- one option more
+pub counted_more : {m : List ℕ} {count place : ℕ} (f : ℕ) → ((i : ℕ) → get_or m i 0 < 256) → place + (4 + f) ≤ length m → f < 65536
+    → f ≡ from_be_bytes w16 (get_or m (place + 2) 0 ∷ get_or m (place + 3) 0 ∷ []) → Counted m count place → Counted m (count + 1) (place + (4 + f))
+counted_more {m} {count} {place} f small l fits is h =
+    let code = from_be_bytes w16 (get_or m place 0 ∷ get_or m (place + 1) 0 ∷ []) in
+    let x = take f (drop (place + 4) m) in
+    let y : Numbered (List ℕ) = (code, x) in
+    let len : length x ≡ f = omega (arith, length-take f (drop (place + 4) m), length-drop (place + 4) m, l) in
+    let three : place + 2 + 1 ≡ place + 3 = omega arith in
+    let first : take 2 (drop place m) ≡ bytes_high_first 2 code = number_there m place small (omega (arith, l)) in
+    let second : take 2 (drop (place + 2) m) ≡ bytes_high_first 2 (length x) = number_there m (place + 2) small (omega (arith, l))
+        ∙ ap (λ (k : ℕ). bytes_high_first 2 (from_be_bytes w16 (get_or m (place + 2) 0 ∷ get_or m k 0 ∷ []))) three
+        ∙ ap (bytes_high_first 2) (sym is ∙ sym len) in
+    let a = at_taken m place 2 (place + 2) refl (omega (arith, l)) in
+    let b = at_taken m (place + 2) 2 (place + 4) (omega arith) (omega (arith, l)) in
+    let d = at_taken m (place + 4) f (place + (4 + f)) (omega arith) l in
+    let here : At m place (piece y) (place + (4 + f)) =
+        subst (λ (o : List ℕ). At m place (o ++ (bytes_high_first 2 (length x) ++ x)) (place + (4 + f))) first
+        (at_then a (subst (λ (o : List ℕ). At m (place + 2) (o ++ x) (place + (4 + f))) second (at_then b d))) in
+    record {
+      read = h.read ++ y ∷ [];
+      at = subst (λ (o : List ℕ). At m 0 o (place + (4 + f))) (pieces_more h.read y) (at_then h.at here);
+      are = all_push IsPiece h.read y h.are (code_fits (get_or m place 0) (get_or m (place + 1) 0) (small place) (small (place + 1)), omega (arith, len, fits));
+      number = omega (arith, h.number, length-append h.read (y ∷ []));
+    }
+  where
+    pieces_more : (read : List (Numbered (List ℕ))) (y : Numbered (List ℕ)) → pieces read ++ piece y ≡ pieces (read ++ y ∷ [])
+    pieces_more read y = sym (flat_map-append piece read (y ∷ []) ∙ ap (λ (o : List ℕ). pieces read ++ o) (append-nil (piece y)))
+    code_fits : (a b : ℕ) → a < 256 → b < 256 → from_be_bytes w16 (a ∷ b ∷ []) < 256 ^ 2
+    code_fits a b h k = omega (arith, h, k)
 
 -- ---- options that are read up to the end of a record
 

@@ -1,6 +1,6 @@
 //! Options that are read one after the other.
 
-ghost use Rattle.std.specs.Prelude.{◌≡◌, ◌⊎◌, ◌+◌, ◌≤◌, ◌<◌, ℕ, List, Some, length as list_length, IfOk, IfErr, OnOk};
+ghost use Rattle.std.specs.Prelude.{◌≡◌, ◌⊎◌, ◌+◌, ◌≤◌, ◌<◌, ℕ, List, Some, length as list_length, IfOk, IfErr, IfSome, OnOk};
 ghost use Rattle.dns_fields.specs.{Octets.At, Pieces.Numbered, Pieces.pieces, Pieces.ArePieces};
 ghost use Rattle.dns_names_wire.specs.Words.{ReadsTo};
 ghost use Rattle.dns_rdata_options.specs.{EdnsCode.edns_code_of, EdnsOption.IsOptionRefusal, OptionReads.ReadsPiece, OptionReads.KeptOption};
@@ -15,11 +15,16 @@ use dns_names_wire::{BinDecoder, DecodeError};
 // The code of client subnets.
 const SUBNET: u16 = 8;
 
-// How many options the first `length` octets are, going by the options' lengths alone. `None` where an option goes past the
-// end.
+// How many options the first `length` octets are, going by the options' lengths alone. `None` if they are not whole options,
+// or not all there.
 pub(crate) fn count_options(octets: &[u8], length: usize) -> Option<usize>
-    ensures { (read : List (Numbered (List ℕ))) → At octets.now 0 (pieces read) length → ArePieces read → result ≡ Some (list_length read) }
+    // Whole options fill the length, and this is their number.
+    ensures there { IfSome result (λ n. (read : List (Numbered (List ℕ))) × At octets.now 0 (pieces read) length × ArePieces read × (n ≡ list_length read)) }
+    ensures counted { (read : List (Numbered (List ℕ))) → At octets.now 0 (pieces read) length → ArePieces read → result ≡ Some (list_length read) }
 {
+    if octets.len() < length {
+        return None;
+    }
     let mut count = 0;
     let mut place = 0;
     while place < length {
