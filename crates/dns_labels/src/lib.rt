@@ -16,8 +16,8 @@ pub mod text;
 pub mod writing;
 
 use dns_types::SmallOctets;
-pub use message::MessageOctets;
 pub use error::{NameError, NameTextError, WriteError};
+pub use message::MessageOctets;
 pub use places::Places;
 
 /// The octets of one name: up to 32 of them stand in the value itself.

@@ -19,8 +19,8 @@ use crate::{
     PTR, SMIMEA, SOA, SRV, SSHFP, SVCB, TLSA, TXT,
 };
 use dns_names_wire::{
-    BinDecoder, BinEncodable, BinEncoder, DecodeError, EncodesFields, Name, ProtoError, RDataEncoding,
-    RecordDataDecodable, RecordType, Restrict, emit_in,
+    BinDecoder, BinEncodable, BinEncoder, DecodeError, EncodesFields, Name, ProtoError,
+    RDataEncoding, RecordDataDecodable, RecordType, Restrict, emit_in,
 };
 use dns_rdata_base::counted::by_length;
 use dns_rdata_base::ordered::is_equal;

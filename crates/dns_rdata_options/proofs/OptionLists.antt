@@ -227,6 +227,7 @@ number_there : (m : List ℕ) (p : ℕ) → ((i : ℕ) → get_or m i 0 < 256) �
 number_there m p small l = two ∙ sym (be_bytes_2 (get_or m p 0 ∷ get_or m (p + 1) 0 ∷ []) _ refl bound refl) where
   two : take 2 (drop p m) ≡ get_or m p 0 ∷ get_or m (p + 1) 0 ∷ []
   two = rw add-one (ap (take 2) (drop-cons m p 0 (omega (arith, l)) ∙ ap (λ (s : List ℕ). get_or m p 0 ∷ s) (drop-cons m (suc p) 0 (omega (arith, l)))))
+
   bound : (i : ℕ) → get_or (get_or m p 0 ∷ get_or m (p + 1) 0 ∷ []) i 0 < 256
   bound zero = small p
   bound (suc zero) = small (p + 1)
@@ -243,14 +244,14 @@ counted_more {m} {count} {place} f small l fits is h =
     let three : place + 2 + 1 ≡ place + 3 = omega arith in
     let first : take 2 (drop place m) ≡ bytes_high_first 2 code = number_there m place small (omega (arith, l)) in
     let second : take 2 (drop (place + 2) m) ≡ bytes_high_first 2 (length x) = number_there m (place + 2) small (omega (arith, l))
-        ∙ ap (λ (k : ℕ). bytes_high_first 2 (from_be_bytes w16 (get_or m (place + 2) 0 ∷ get_or m k 0 ∷ []))) three
-        ∙ ap (bytes_high_first 2) (sym is ∙ sym len) in
+    ∙ ap (λ (k : ℕ). bytes_high_first 2 (from_be_bytes w16 (get_or m (place + 2) 0 ∷ get_or m k 0 ∷ []))) three
+    ∙ ap (bytes_high_first 2) (sym is ∙ sym len) in
     let a = at_taken m place 2 (place + 2) refl (omega (arith, l)) in
     let b = at_taken m (place + 2) 2 (place + 4) (omega arith) (omega (arith, l)) in
     let d = at_taken m (place + 4) f (place + (4 + f)) (omega arith) l in
     let here : At m place (piece y) (place + (4 + f)) =
-        subst (λ (o : List ℕ). At m place (o ++ (bytes_high_first 2 (length x) ++ x)) (place + (4 + f))) first
-        (at_then a (subst (λ (o : List ℕ). At m (place + 2) (o ++ x) (place + (4 + f))) second (at_then b d))) in
+    subst (λ (o : List ℕ). At m place (o ++ (bytes_high_first 2 (length x) ++ x)) (place + (4 + f))) first
+    (at_then a (subst (λ (o : List ℕ). At m (place + 2) (o ++ x) (place + (4 + f))) second (at_then b d))) in
     record {
       read = h.read ++ y ∷ [];
       at = subst (λ (o : List ℕ). At m 0 o (place + (4 + f))) (pieces_more h.read y) (at_then h.at here);
@@ -260,6 +261,7 @@ counted_more {m} {count} {place} f small l fits is h =
   where
     pieces_more : (read : List (Numbered (List ℕ))) (y : Numbered (List ℕ)) → pieces read ++ piece y ≡ pieces (read ++ y ∷ [])
     pieces_more read y = sym (flat_map-append piece read (y ∷ []) ∙ ap (λ (o : List ℕ). pieces read ++ o) (append-nil (piece y)))
+
     code_fits : (a b : ℕ) → a < 256 → b < 256 → from_be_bytes w16 (a ∷ b ∷ []) < 256 ^ 2
     code_fits a b h k = omega (arith, h, k)
 

@@ -29,10 +29,9 @@ use order::{hash_sorted, sorted_cmp};
 pub use payload::NSIDPayload;
 use std::alloc::{AllocError, Global};
 use std::cmp::Ordering;
-use std::fmt;
 use std::hash::{Hash, Hasher};
 use std::marker::Model;
-use std::slice;
+use std::{fmt, slice};
 pub use subnet::ClientSubnet;
 
 /// The options of EDNS with their codes (RFC 6891, 6.1.2), which contracts see as the list of pairs. Each option stands

@@ -83,9 +83,9 @@ inserted_rises p (q ∷ qs) r =
     elim (nat_lt m n) as (λ t. nat_lt m n ≡ t → RisesIn (if t then p ∷ (q ∷ qs) else (if m == n then p ∷ qs else q ∷ inserted p qs))) [
       | true ↦ λ e. ((ltb-true m n e, below_less m n qs (ltb-true m n e) r.0), r)
       | false ↦ λ e. elim (m == n) as (λ t. (m == n) ≡ t → RisesIn (if t then p ∷ qs else q ∷ inserted p qs)) [
-          | true ↦ λ f. (subst (λ (k : ℕ). Below k (map parameter_of qs)) (sym (eqb-true m n f)) r.0, r.1)
-          | false ↦ λ f. (below_inserted n p qs (apart m n (ltb-false m n e) (eqb-false m n f)) r.0, inserted_rises p qs r.1)
-        ] refl
+        | true ↦ λ f. (subst (λ (k : ℕ). Below k (map parameter_of qs)) (sym (eqb-true m n f)) r.0, r.1)
+        | false ↦ λ f. (below_inserted n p qs (apart m n (ltb-false m n e) (eqb-false m n f)) r.0, inserted_rises p qs r.1)
+      ] refl
     ] refl
   where
     apart : (a b : ℕ) → b ≤ a → (a ≡ b → ⊥) → b < a

@@ -3,8 +3,8 @@
 ghost use Rattle.std.specs.Prelude.{◌≡◌, true, IfOk};
 
 use anyhow::Result;
-use dns_rdata_laws::windows_hold;
 use dns_rdata::{BinDecoder, BinEncodable, BinEncoder, RData, RecordType, Restrict};
+use dns_rdata_laws::windows_hold;
 use held_data::Held;
 use std::alloc::Global;
 

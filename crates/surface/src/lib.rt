@@ -12,8 +12,18 @@ use dns_rdata::{A, AAAA, MX, Name, RecordType, RecordTypeSet, SVCB, TXT};
 use std::net::{Ipv4Addr, Ipv6Addr};
 
 /// The numbers of the enums of 16 bits.
-pub fn wide_numbers(cert_type: CertType, code: EdnsCode, key: SvcParamKey, record_type: RecordType) -> [u16; 4] {
-    [u16::from(cert_type), u16::from(code), u16::from(key), u16::from(record_type)]
+pub fn wide_numbers(
+    cert_type: CertType,
+    code: EdnsCode,
+    key: SvcParamKey,
+    record_type: RecordType,
+) -> [u16; 4] {
+    [
+        u16::from(cert_type),
+        u16::from(code),
+        u16::from(key),
+        u16::from(record_type),
+    ]
 }
 
 /// The numbers of the enums of 8 bits.

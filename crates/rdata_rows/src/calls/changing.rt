@@ -99,10 +99,7 @@ pub fn service(alloc: Global) -> Result<String> {
 pub fn replaced(alloc: Global, digits: &str, cookie: &str) -> Result<String> {
     let mut opt = record::<OPT>(alloc, octets(alloc, digits)?.as_slice())?;
     let cookie = octets(alloc, cookie)?;
-    opt.replace(EdnsOption::try_from(
-        alloc,
-        (EdnsCode::Cookie, cookie.as_slice()),
-    )?)?;
+    opt.replace(EdnsOption::try_from(alloc, (EdnsCode::Cookie, cookie.as_slice()))?)?;
     let (cookie, subnet) = (
         opt.contains(EdnsCode::Cookie),
         opt.contains(EdnsCode::Subnet),

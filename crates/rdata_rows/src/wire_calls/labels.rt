@@ -56,13 +56,7 @@ impl Written {
             bail!("not a name");
         };
         let mut message = MessageOctets::new(0, octets);
-        Ok(write_name(
-            places,
-            &mut message,
-            mode,
-            *limit,
-            name.as_slice(),
-        ))
+        Ok(write_name(places, &mut message, mode, *limit, name.as_slice()))
     }
 
     // Does what one word says.
