@@ -1,4 +1,5 @@
-//! A client that names `dns_rdata` alone: everything of its surface is reachable through that one crate.
+//! A client that names `dns_rdata` alone, by which the gate shows what is reachable through that one crate: the numbers
+//! of every enum, the items of every list, addresses, and contracts that name a record.
 #![tactic(auto)]
 
 ghost use Rattle.std.specs.Prelude.{◌≡◌, ℕ, length};
@@ -19,10 +20,10 @@ pub fn wide_numbers(
     record_type: RecordType,
 ) -> [u16; 4] {
     [
-        u16::from(cert_type),
-        u16::from(code),
-        u16::from(key),
-        u16::from(record_type),
+        cert_type.number(),
+        code.number(),
+        key.number(),
+        record_type.number(),
     ]
 }
 
@@ -36,29 +37,29 @@ pub fn small_numbers(
     matching: Matching,
 ) -> [u8; 6] {
     [
-        u8::from(cert),
-        u8::from(ssh),
-        u8::from(fingerprint),
-        u8::from(usage),
-        u8::from(selector),
-        u8::from(matching),
+        cert.number(),
+        ssh.number(),
+        fingerprint.number(),
+        usage.number(),
+        selector.number(),
+        matching.number(),
     ]
 }
 
 /// An IPv4 address.
 pub fn address(a: A) -> Ipv4Addr {
-    Ipv4Addr::from(a)
+    a.0
 }
 
 /// An IPv6 address.
 pub fn wide_address(a: AAAA) -> Ipv6Addr {
-    Ipv6Addr::from(a)
+    a.0
 }
 
 /// How many strings a text has that are not empty.
 pub fn strings_in(text: &TXT) -> usize {
     let mut count = 0usize;
-    for string in &text.txt_data {
+    for string in text.txt_data.as_slice() {
         if string.len() > 0 && count < 65535 {
             count += 1;
         }
@@ -69,7 +70,7 @@ pub fn strings_in(text: &TXT) -> usize {
 /// How many parameters a service has.
 pub fn parameters_in(service: &SVCB) -> usize {
     let mut count = 0usize;
-    for _parameter in &service.svc_params {
+    for _parameter in service.svc_params.as_slice() {
         if count < 65535 {
             count += 1;
         }
@@ -80,7 +81,7 @@ pub fn parameters_in(service: &SVCB) -> usize {
 /// How many protocols there are.
 pub fn protocols_in(alpn: &Alpn) -> usize {
     let mut count = 0usize;
-    for _name in &alpn.0 {
+    for _name in alpn.0.as_slice() {
         if count < 65535 {
             count += 1;
         }
