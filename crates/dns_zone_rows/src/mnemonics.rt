@@ -5,7 +5,7 @@ ghost use Rattle.std.specs.Str.{str_eq_ignore_ascii_case};
 ghost use Rattle.dns_zone_rows.specs.MnemonicViews.{named_values, IsByName, IsNotByName};
 ghost use Rattle.dns_zone_rows.specs.Mnemonics.{number_named, named_number, cert_types, algorithms};
 ghost use Rattle.dns_zone_words.specs.{Views.word_value, Words.words_at, Words.behind_first};
-ghost use Rattle.dns_zone_words.specs.ZoneReads.{ReadsAs, ReadsFirst, WhyNoField};
+ghost use Rattle.dns_zone_words.specs.ZoneReads.{ReadsAs, ReadsFirst, WhyNoField, WrongWord};
 
 use dns_types::ParseError;
 use dns_zone_words::{Field, ZoneWord, ZoneWords, some_word, u8_of, u16_of};
@@ -114,7 +114,7 @@ fn number_by_name(word: ZoneWord<'_>, names: &[Mnemonic]) -> Option<u8>
 /// [`Message`](ParseError::Message) of the text `wrong`. Takes no memory.
 pub fn cert_type_of(word: ZoneWord<'_>, wrong: &'static str) -> Result<u16, ParseError>
     ensures reads { ReadsAs (named_number 2 cert_types) (λ n. n) result (word_value word.entry) }
-    ensures why { IfErr result (λ e. e ≡ ParseError.Message wrong.entry) }
+    ensures why { IfErr result (WrongWord (named_number 2 cert_types) (ParseError.Message wrong.entry) (word_value word.entry)) }
 {
     match number_by_name(word, cert_type_names()) {
         Some(value) => Ok(value as u16),
@@ -125,7 +125,7 @@ pub fn cert_type_of(word: ZoneWord<'_>, wrong: &'static str) -> Result<u16, Pars
 /// An algorithm of keys, by its name or else by a number of 8 bits, as `cert_type_of`.
 pub fn algorithm_of(word: ZoneWord<'_>, wrong: &'static str) -> Result<u8, ParseError>
     ensures reads { ReadsAs (named_number 1 algorithms) (λ n. n) result (word_value word.entry) }
-    ensures why { IfErr result (λ e. e ≡ ParseError.Message wrong.entry) }
+    ensures why { IfErr result (WrongWord (named_number 1 algorithms) (ParseError.Message wrong.entry) (word_value word.entry)) }
 {
     match number_by_name(word, algorithm_names()) {
         Some(value) => Ok(value),
@@ -137,7 +137,7 @@ pub fn algorithm_of(word: ZoneWord<'_>, wrong: &'static str) -> Result<u8, Parse
 #[inline]
 pub fn next_cert_type(words: &mut ZoneWords<'_>, field: Field) -> Result<u16, ParseError>
     ensures reads { ReadsFirst (named_number 2 cert_types) (λ n. n) result words.old words.new }
-    ensures why { IfErr result (WhyNoField field words.old) }
+    ensures why { IfErr result (WhyNoField (named_number 2 cert_types) field words.old) }
     ensures behind { words_at words.new ≡ behind_first (words_at words.old) }
 {
     let word = some_word(words, field.name)?;
@@ -148,7 +148,7 @@ pub fn next_cert_type(words: &mut ZoneWords<'_>, field: Field) -> Result<u16, Pa
 #[inline]
 pub fn next_algorithm(words: &mut ZoneWords<'_>, field: Field) -> Result<u8, ParseError>
     ensures reads { ReadsFirst (named_number 1 algorithms) (λ n. n) result words.old words.new }
-    ensures why { IfErr result (WhyNoField field words.old) }
+    ensures why { IfErr result (WhyNoField (named_number 1 algorithms) field words.old) }
     ensures behind { words_at words.new ≡ behind_first (words_at words.old) }
 {
     let word = some_word(words, field.name)?;
