@@ -27,7 +27,8 @@ use Rattle.base64.specs.{Engines.standard, Rfc4648.encode_symbols, Rfc4648.paddi
 use Rattle.base64.specs.GeneralPurpose.{encode_of, decode_of as base64_of}
 use Rattle.base64.proofs.EngineFacts.{decode_of-encode_of}
 use Rattle.dns_zone_rows.proofs.Once.{row_once}
-use Rattle.dns_zone_rows.specs.Mnemonics.{Named, number_named, IsNamedNumber, cert_types, algorithms}
+use Rattle.dns_zone_words.specs.Mnemonics.{Named, number_named}
+use Rattle.dns_zone_rows.specs.Mnemonics.{IsNamedNumber, cert_types, algorithms}
 use Rattle.dns_zone_rows.specs.Rows.{RowShape, RowGives, IsTypeNumber, AreTypes, FieldKind, Number, NamedNumber, Ttl, Ipv4, Ipv6, Name, String, Tag}
 use Rattle.dns_zone_rows.specs.Rows.{Octets, RestKind, SomeStrings, SomeHex, SomeBase64, AnyTypes, FieldGives, RestGives, FieldsGive}
 use Rattle.dns_zone_rows.specs.RowTable.{row_of}

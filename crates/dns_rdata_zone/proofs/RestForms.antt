@@ -27,7 +27,8 @@ use Rattle.base64.specs.{Engines.standard, Rfc4648.encode_symbols, Rfc4648.paddi
 use Rattle.base64.specs.GeneralPurpose.{encode_of, decode_of as base64_of}
 use Rattle.base64.proofs.EngineFacts.{decode_of-encode_of}
 use Rattle.dns_zone_rows.proofs.Once.{row_once}
-use Rattle.dns_zone_rows.specs.Mnemonics.{Named, number_named, IsNamedNumber, cert_types, algorithms}
+use Rattle.dns_zone_words.specs.Mnemonics.{Named, number_named}
+use Rattle.dns_zone_rows.specs.Mnemonics.{IsNamedNumber, cert_types, algorithms}
 use Rattle.dns_zone_rows.specs.Rows.{RowShape, RowGives, IsTypeNumber, AreTypes, FieldKind, Number, NamedNumber, Ttl, Ipv4, Ipv6, Name, String, Tag}
 use Rattle.dns_zone_rows.specs.Rows.{Octets, RestKind, SomeStrings, SomeHex, SomeBase64, AnyTypes, FieldGives, RestGives, FieldsGive}
 use Rattle.dns_zone_rows.specs.RowTable.{row_of}
@@ -209,7 +210,7 @@ typed n t small e = inl (record { named = refl; printed = refl })
 pub type_form : (n : ℕ) → n < 2 ^ 16 → IsTypeNumber n (bare_word (zone_type (record_type_of n)))
 type_form n small = record {
   record_type = record_type_of n;
-  is = record { bare = refl; text = typed n (record_type_of n) small refl };
+  is = record { bare = refl; text = inl (typed n (record_type_of n) small refl) };
   number = sym (number_of-record_type_of n);
 }
 

@@ -1,4 +1,3 @@
-pub mod MnemonicViews
 pub mod Mnemonics
 pub mod RowFaults
 pub mod RowTable
