@@ -7,6 +7,7 @@ pub mod FirstOctet
 pub mod FilledLengths
 pub mod Joined
 pub mod Letters
+pub mod NameTexts
 pub mod OptionDigits
 pub mod ParameterForms
 pub mod ParameterValues

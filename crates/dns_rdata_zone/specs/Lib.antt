@@ -1,5 +1,6 @@
 pub mod Generic
 pub mod Lists
+pub mod NameTexts
 pub mod Names
 pub mod Options
 pub mod Parameters

@@ -6,6 +6,7 @@ mod generic;
 mod keys;
 pub mod laws;
 mod lists;
+mod name_reading;
 mod names;
 mod options;
 mod parameters;
@@ -16,7 +17,9 @@ mod spelling;
 mod strings;
 mod zone_text;
 
+pub use dns_zone_words::type_named;
 pub use generic::Generic;
+pub use name_reading::name_from_zone_text;
 pub use names::ZoneName;
 pub use parameters::{ZoneParameter, has_text};
 pub use reading::from_zone_text;

@@ -17,8 +17,8 @@
 
 use anyhow::{Result, bail};
 use dns_rdata::{BinDecoder, BinEncoder, DecodeError, Name, ParseError, RecordType};
-use dns_rdata_zone::{ZoneText, from_zone_text};
-use held_data::{Held, record_type};
+use dns_rdata_zone::{ZoneText, from_zone_text, type_named};
+use held_data::Held;
 use hex::FromHexError;
 use std::alloc::Global;
 use std::io::{BufRead, BufReader, BufWriter, Write};
@@ -40,10 +40,13 @@ fn refuse<W: Write>(out: &mut W, reason: &str) -> Result<bool> {
     Ok(true)
 }
 
-// The record type of a word.
+// The record type that a word names or gives the number of.
 fn type_of(word: &[u8]) -> Option<RecordType> {
-    let word = str::from_utf8(word).ok()?;
-    record_type(word).ok()
+    if let Some(kind) = type_named(word) {
+        return Some(kind);
+    }
+    let number = str::from_utf8(word).ok()?.parse::<u16>().ok()?;
+    Some(RecordType::from(number))
 }
 
 // The line from its first octet on that is neither a blank nor a tab.
@@ -120,6 +123,17 @@ fn write_data<W: Write>(
     }
 }
 
+// Writes why a text is refused. A type without fields here has the form of unknown data alone.
+fn refuse_text<W: Write>(out: &mut W, e: ParseError) -> Result<bool> {
+    match e {
+        ParseError::UnsupportedRecordType(_) => {
+            writeln!(out, "refused: {e}; its data is read as `\\#`, a length and octets")?
+        }
+        _ => writeln!(out, "refused: {e}")?,
+    }
+    Ok(true)
+}
+
 // Writes the result of a line `TYPE TEXT`, and returns whether it is refused.
 fn write_octets<W: Write>(
     alloc: Global,
@@ -134,10 +148,7 @@ fn write_octets<W: Write>(
     let held = match from_zone_text(alloc, kind, text, origin) {
         Ok(value) => Held(value),
         Err(ParseError::Memory) => bail!("out of memory"),
-        Err(e) => {
-            writeln!(out, "refused: {e}")?;
-            return Ok(true);
-        }
+        Err(e) => return refuse_text(out, e),
     };
     let mut octets = Vec::new(alloc);
     let mut encoder = BinEncoder::new(alloc, &mut octets);
