@@ -32,7 +32,7 @@ use Rattle.dns_zone_rows.specs.Mnemonics.{IsNamedNumber, cert_types, algorithms}
 use Rattle.dns_zone_rows.specs.Rows.{RowShape, RowGives, IsTypeNumber, AreTypes, FieldKind, Number, NamedNumber, Ttl, Ipv4, Ipv6, Name, String, Tag}
 use Rattle.dns_zone_rows.specs.Rows.{Octets, RestKind, SomeStrings, SomeHex, SomeBase64, AnyTypes, FieldGives, RestGives, FieldsGive}
 use Rattle.dns_zone_rows.specs.RowTable.{row_of}
-use Rattle.dns_rdata_zone.specs.{Names.zone_label, Names.zone_labels, Names.zone_name, Strings.quoted, Strings.spaced, ZoneGives.GiveByRow}
+use Rattle.dns_rdata_zone.specs.{Names.zone_label, Names.zone_labels, Names.zone_name, Strings.quoted, Strings.spaced, Printable.ArePrintable, ZoneGives.GiveByRow}
 use Rattle.dns_rdata_zone.specs.{ZoneGives.AreUnmarked, ZoneGives.TextGives, Records.zone_type, Generic.generic}
 use Rattle.dns_rdata_zone.specs.Spellings.{escaped, needs_backslash, name_octet}
 use Rattle.dns_rdata_zone.proofs.Cuts.{AreCut, cut_then, bare_word, quoted_word, is_run_octet, plain_cut, bare_cut, mark_begins, AreRunOctets}
@@ -45,7 +45,7 @@ use Rattle.dns_rdata_zone.proofs.RestForms.{hex_form, hex_none, hex_run, hex_som
 -- ---- unknown data
 
 mark_cut : AreCut (92 ∷ 35 ∷ []) (bare_word (92 ∷ 35 ∷ []) ∷ [])
-mark_cut = bare_cut (92 ∷ 35 ∷ []) mark_begins
+mark_cut = bare_cut (92 ∷ 35 ∷ []) mark_begins ((omega arith, omega arith), ((omega arith, omega arith), tt))
 
 -- length and digits
 unknown_cut : (s : List ℕ) → s ≢ [] → AreOctets s → length s < 2 ^ 64
@@ -162,6 +162,11 @@ text_same {x = x} {y = y} h k small fits (inl e) (inl f) same = generic_same x y
 text_same {x = x} h k small fits (inl e) (inr own) same = absurd (own_not_generic x own h small (sym same ∙ e))
 text_same {y = y} h k small fits (inr own) (inl f) same = absurd (own_not_generic y own k fits (same ∙ f))
 text_same h k small fits (inr own) (inr other) same = own_same own other same
+
+-- either is printable
+pub text_printable : {origin : Option DomainName} {t : RecordType} {text octets : List ℕ} → AreOctets octets → length octets < 2 ^ 64 → TextIs origin t text octets → ArePrintable text
+text_printable {octets = octets} h small (inl e) = subst ArePrintable (sym e) (generic_cut octets h small).printable
+text_printable h small (inr own) = own.reads.cut.printable
 
 -- one of two texts
 pub one_of : {origin : Option DomainName} {t : RecordType} (b : Bool) {own other octets : List ℕ} → (b ≡ true → OwnText origin t own octets) → other ≡ generic octets

@@ -25,13 +25,13 @@ use Rattle.dns_zone_rows.specs.RowTable.{row_of}
 use Rattle.dns_zone_rows.specs.Rows.{FieldKind, Number, RestKind, Name, String, NoWord, SomeHex, SomeBase64, SomeStrings, AnyTypes, AnyParameters}
 use Rattle.dns_rdata_zone.specs.{Generic.generic, Names.zone_name, Parameters.has_text, Parameters.zone_parameter, Records.zone_strings}
 use Rattle.dns_rdata_zone.specs.{Records.zone_tlsa, Records.zone_type, Records.has_plain_tag, Services.service_octets, Services.zone_service}
-use Rattle.dns_rdata_zone.specs.{Strings.quoted, ZoneReads.TextsGive, ZoneReads.TextsTell, ZoneTexts.zone_text, ZoneTexts.zone_octets}
+use Rattle.dns_rdata_zone.specs.{Strings.quoted, ZoneReads.TextsGive, ZoneReads.TextsPrint, ZoneReads.TextsTell, ZoneTexts.zone_text, ZoneTexts.zone_octets}
 use Rattle.dns_rdata_zone.specs.Readable.{IsString, IsWritable, IsWritableParameter, IsWritableService, IsWritableTlsa, FieldsFit}
 use Rattle.dns_rdata_zone.proofs.{Cuts.NoneEmpty, Letters.first_true, Letters.second_true, OptionDigits.options_pieces}
 use Rattle.dns_rdata_zone.proofs.ParametersGive.{some_there, parameters_text, parameters_are}
 use Rattle.dns_rdata_zone.proofs.RowForms.{FieldText, RowText, row_then, row_last, row_text}
 use Rattle.dns_rdata_zone.proofs.RestForms.{RestText, ListText, row_rest, row_list, hex_text, base64_text, strings_text, types_text}
-use Rattle.dns_rdata_zone.proofs.OwnTexts.{OwnText, TextIs, text_gives, text_same, one_of}
+use Rattle.dns_rdata_zone.proofs.OwnTexts.{OwnText, TextIs, text_gives, text_printable, text_same, one_of}
 use Rattle.dns_rdata_zone.proofs.RowForms.{short_text, cert_text, algorithm_text, ttl_text, name_text, string_text, octets_text, tag_text}
 use Rattle.dns_rdata_zone.proofs.RowForms.{ipv4_text_of, ipv6_text_of, alphanumeric_run}
 
@@ -245,6 +245,9 @@ texts_are origin rdata.ZERO h = inl refl
 
 pub texts_give : TextsGive
 texts_give origin v h small = text_gives h.octets.octets small (texts_are origin v h.fields)
+
+pub texts_print : TextsPrint
+texts_print v h = text_printable h.octets.octets h.octets.short (texts_are None v h.fields)
 
 pub texts_tell : TextsTell
 texts_tell v w h k same text = text_same h.octets.octets k.octets.octets h.octets.short k.octets.short (texts_are None v h.fields)

@@ -4,6 +4,7 @@ pub mod NameTexts
 pub mod Names
 pub mod Options
 pub mod Parameters
+pub mod Printable
 pub mod Readable
 pub mod Records
 pub mod Services

@@ -32,11 +32,8 @@ const SURPLUS: &str = "surplus word behind the record data";
 ///   octets, or has more than 255 octets in all.
 /// - [`Memory`](ParseError::Memory): an allocation fails.
 ///
-/// ```rust
-/// fn read_mail_host(alloc: Global, origin: &Name) -> Result<Name, ParseError> {
-///     name_from_zone_text(alloc, b"mail", Some(origin))
-/// }
-/// ```
+/// With the origin `example.com.` the text `mail` is `mail.example.com.`, `mail.` is `mail.`, and `a\.b` is one label and the
+/// origin.
 pub fn name_from_zone_text(
     alloc: Global,
     text: &[u8],
