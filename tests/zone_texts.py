@@ -3,6 +3,7 @@
 - The texts of zone_texts.tsv: what `zone_text read` prints must be the octets, or `refused:` with a reason.
 - Lines that the program cannot use, among others (LINES): each has its own result, and the exit status is 1.
 - 29,000 lines, each tenth of them unusable: one result a line, in the order of the lines.
+- Long data: hexadecimal digits and base64 are in tokens of 1,020 characters, and the texts read back.
 - The names of all record types (type_names.tsv, from IANA's registry) in capitals and in lower case, as a line's type and in
   CSYNC's list.
 
@@ -14,6 +15,7 @@ import os
 import pathlib
 import subprocess
 import sys
+from base64 import b64encode
 
 TOP = pathlib.Path(__file__).resolve().parent.parent
 CRATE = TOP / "crates/zone_text"
@@ -53,13 +55,13 @@ LINES = [
 ]
 
 
-def answers(lines):
-    """What the program prints for the lines, and its exit status."""
+def answers(lines, words):
+    """What the program prints for the lines, called with these words, and its exit status."""
     built = CRATE / "out/zone_text"
     check = '. tests/build.sh; is_built "$1" zone_text'
     environment = {**os.environ, "top": str(TOP)}
     is_built = subprocess.run(["bash", "-c", check, "-", str(built)], cwd=TOP, env=environment).returncode == 0
-    command = [str(built), "read", ORIGIN] if is_built else ["rt", "try", "--", "read", ORIGIN]
+    command = [str(built), *words] if is_built else ["rt", "try", "--", *words]
     source = b"".join(line + b"\n" for line in lines)
     asked = subprocess.run(command, cwd=CRATE, input=source, stdout=subprocess.PIPE, stderr=subprocess.PIPE)
     return asked.stdout.decode().split("\n")[:-1], asked.returncode
@@ -72,9 +74,9 @@ def is_wanted(wanted, answer):
     return answer == wanted or wanted.startswith("refused: ") and answer.startswith(wanted)
 
 
-def compare(name, texts):
+def compare(name, texts, words=("read", ORIGIN)):
     """The number of results that are as wanted, and of those that are not, which are printed."""
-    given, status = answers([line for line, _ in texts])
+    given, status = answers([line for line, _ in texts], words)
     bad = [f"{len(given)} results of {len(texts)} lines"] if len(given) != len(texts) else []
     for (line, wanted), answer in zip(texts, given):
         if not is_wanted(wanted, answer):
@@ -97,6 +99,33 @@ def many_lines():
         else:
             octets = bytes([10, number >> 16, number >> 8 & 255, number & 255])
             yield b"A " + ".".join(map(str, octets)).encode(), octets.hex()
+
+
+def in_tokens(digits):
+    """Digits in tokens of at most 1,020 characters."""
+    return " ".join(digits[at : at + 1020] for at in range(0, len(digits), 1020))
+
+
+def long_records():
+    """Type, RDATA and text of records with long data, around the length of a token and of several."""
+    for length in (1, 509, 510, 511, 764, 765, 766, 1019, 1020, 1021, 1530, 1531, 5000, 60000):
+        data = bytes(at * at % 251 for at in range(length))
+        base64 = in_tokens(b64encode(data).decode())
+        yield "OPENPGPKEY", data, base64
+        yield "CERT", bytes([0, 1, 0, 2, 8]) + data, "1 2 8 " + base64
+        yield "TLSA", bytes([3, 1, 1]) + data, "3 1 1 " + in_tokens(data.hex())
+        yield "SSHFP", bytes([4, 2]) + data, "4 2 " + in_tokens(data.hex())
+        size = length.to_bytes(2, "big")
+        unknown = {
+            "NULL": data,
+            # A tag with a hyphen, and a path without an octet, have no text.
+            "CAA": b"\0\3a-b" + data,
+            "SVCB": b"\0\1\1a\0\0\7\0\0\3\350" + size + data,
+            "OPT": b"\0\3" + size + data + b"\375\351\0\2ab" + b"\0\10\0\7\0\1\30\0\12\0\1",
+            "TYPE65280": data,
+        }
+        for kind, octets in unknown.items():
+            yield kind, octets, f"\\# {len(octets)} " + in_tokens(octets.hex())
 
 
 def type_lines():
@@ -122,6 +151,13 @@ def main():
     good = bad = 0
     for name, texts in (("stored texts", stored), ("unusable lines", LINES), ("many lines", list(many_lines())), ("type names", list(type_lines()))):
         more, others = compare(name, texts)
+        good, bad = good + more, bad + others
+    records = list(long_records())
+    for name, texts, words in (
+        ("long data, printed", [(f"{kind} 0 {len(octets)} {octets.hex()}".encode(), text) for kind, octets, text in records], ()),
+        ("long data, read", [(f"{kind} {text}".encode(), octets.hex()) for kind, octets, text in records], ("read", ORIGIN)),
+    ):
+        more, others = compare(name, texts, words)
         good, bad = good + more, bad + others
     print(f"{good} as wanted, {bad} not")
     return bad != 0

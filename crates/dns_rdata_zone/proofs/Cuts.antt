@@ -16,7 +16,7 @@ printable_both : (a b : List ℕ) → ArePrintable a → ArePrintable b → AreP
 printable_both [] b h k = k
 printable_both (c ∷ a) b h k = (h.0, printable_both a b h.1 k)
 
-blank_printable : (b : List ℕ) → ArePrintable b → ArePrintable (32 ∷ b)
+pub blank_printable : (b : List ℕ) → ArePrintable b → ArePrintable (32 ∷ b)
 blank_printable b h = ((omega arith, omega arith), h)
 
 quote_printable : (b : List ℕ) → ArePrintable b → ArePrintable (34 ∷ b)
@@ -190,10 +190,10 @@ pub run_both : (a b : List ℕ) → AreRunOctets a → AreRunOctets b → AreRun
 run_both [] b h k = k
 run_both (c ∷ a) b h k = (h.0, run_both a b h.1 k)
 
-run_is : (c : ℕ) → is_run_octet c ≡ true → InRun (c ∷ [])
+pub run_is : (c : ℕ) → is_run_octet c ≡ true → InRun (c ∷ [])
 run_is c h = run_one c (grind (arith, nat_tests)) (grind (arith, nat_tests))
 
-begins_is : (c : ℕ) → is_run_octet c ≡ true → BeginsRun (c ∷ [])
+pub begins_is : (c : ℕ) → is_run_octet c ≡ true → BeginsRun (c ∷ [])
 begins_is c h = begins_one c (grind (arith, nat_tests)) (grind (arith, nat_tests)) (grind (arith, nat_tests))
 
 pub run_plain : (s : List ℕ) → AreRunOctets s → InRun s
@@ -204,7 +204,7 @@ pub begins_plain : (s : List ℕ) → s ≢ [] → AreRunOctets s → BeginsRun 
 begins_plain [] some h = absurd (some refl)
 begins_plain (c ∷ s) some h = begins_append (c ∷ []) s (begins_is c h.0) (run_plain s h.1)
 
-one_printable : (c : ℕ) → is_run_octet c ≡ true → (32 ≤ c) × (c ≤ 126)
+pub one_printable : (c : ℕ) → is_run_octet c ≡ true → (32 ≤ c) × (c ≤ 126)
 one_printable c h = (grind (arith, nat_tests), grind (arith, nat_tests))
 
 pub run_printable : (s : List ℕ) → AreRunOctets s → ArePrintable s

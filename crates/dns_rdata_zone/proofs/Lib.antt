@@ -17,6 +17,8 @@ pub mod RestForms
 pub mod OwnTexts
 pub mod ServiceDigits
 pub mod TextsGive
+pub mod TokenSteps
+pub mod TokenWords
 pub mod WordForms
 pub mod ZoneOnce
 pub mod ZoneSteps

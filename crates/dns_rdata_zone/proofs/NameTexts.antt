@@ -12,7 +12,7 @@ use Rattle.dns_types.specs.declared.error.ParseError.TheVariants as parse
 use Rattle.dns_words.specs.Reads.{UnlessParseMemory}
 use Rattle.dns_words.proofs.Steps.{unless_map}
 use Rattle.dns_zone_rows.specs.{RowFaults.row_value, RowFaults.RowFault, RowTexts.row_texts, RowTexts.no_more, declared.row.ZoneRow.ZoneRow}
-use Rattle.dns_zone_rows.specs.Rows.{RowShape, RowGives}
+use Rattle.dns_zone_rows.specs.Rows.{RowGives}
 use Rattle.dns_zone_words.specs.{FieldTexts.name_called, NameWords.IsNameWord, NameWords.name_octets, Words.Word, Words.Cursor, Words.words_at, Words.zone_words}
 use Rattle.dns_zone_words.specs.Remaining.{TookAll, NoneOfAll}
 use Rattle.dns_zone_words.proofs.FirstSteps.{exit_with}

@@ -16,8 +16,8 @@ use Rattle.dns_zone_words.specs.Words.{Word, Cursor, words_at, with_word, zone_w
 use Rattle.dns_words.proofs.Steps.{unless_map}
 use Rattle.dns_rdata_zone.specs.ZoneGives.{AreUnknownData, AreUnmarked, GiveByRow, WordsGive, IsWhole, has_name, AreDataOf, GivesValue, GivesNone}
 use Rattle.dns_rdata_zone.specs.ZoneGives.{at_start}
-use Rattle.dns_rdata_zone.specs.ZoneFaults.{AreMany, AreRefused, OctetsFault, IsBehindMark, HasPointer, DataFault, BehindMarkFault, MarkedFault}
-use Rattle.dns_rdata_zone.specs.ZoneFaults.{HasNoMark, LacksRow, WordsFault, GivenFault, ByRowFault, UnmarkedFault, ZoneFault}
+use Rattle.dns_rdata_zone.specs.ZoneFaults.{OctetsFault, IsBehindMark, BehindMarkFault}
+use Rattle.dns_rdata_zone.specs.ZoneFaults.{HasNoMark, LacksRow, WordsFault, ByRowFault, ZoneFault}
 use Rattle.dns_rdata_zone.specs.ZoneSteps.{AreNoData, UnknownIs, UnknownIsNone, RowIs, RowIsNone}
 use Rattle.dns_rdata_zone.proofs.ZoneOnce.{same_words, unknown_once, by_row_once, data_one}
 

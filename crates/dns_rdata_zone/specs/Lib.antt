@@ -10,6 +10,7 @@ pub mod Records
 pub mod Services
 pub mod Spellings
 pub mod Strings
+pub mod Tokens
 pub mod ZoneFaults
 pub mod ZoneGives
 pub mod ZoneReads

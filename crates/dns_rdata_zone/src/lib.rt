@@ -15,6 +15,7 @@ mod records;
 mod services;
 mod spelling;
 mod strings;
+mod tokens;
 mod zone_text;
 
 pub use dns_zone_words::type_named;

@@ -49,18 +49,9 @@ fn type_of(word: &[u8]) -> Option<RecordType> {
     Some(RecordType::from(number))
 }
 
-// The line from its first octet on that is neither a blank nor a tab.
-fn trimmed(line: &[u8]) -> &[u8] {
-    let mut rest = line;
-    while let [b' ' | b'\t', behind @ ..] = rest {
-        rest = behind;
-    }
-    rest
-}
-
 // The first word of a line, and what follows it.
 fn first_word(line: &[u8]) -> (&[u8], &[u8]) {
-    let line = trimmed(line);
+    let line = line.trim_ascii_start();
     let len = line
         .iter()
         .position(|c| matches!(*c, b' ' | b'\t' | b'\r'))
@@ -127,7 +118,10 @@ fn write_data<W: Write>(
 fn refuse_text<W: Write>(out: &mut W, e: ParseError) -> Result<bool> {
     match e {
         ParseError::UnsupportedRecordType(_) => {
-            writeln!(out, "refused: {e}; its data is read as `\\#`, a length and octets")?
+            writeln!(
+                out,
+                "refused: {e}; its data is read as `\\#`, a length and octets"
+            )?
         }
         _ => writeln!(out, "refused: {e}")?,
     }
