@@ -1,5 +1,5 @@
 -- Words that were written are cut from their text again.
-use Rattle.std.proofs.Common.{◌≡◌, ◌≢◌, ℕ, suc, length, get_or, All, ◌+◌, ◌/◌, ◌%◌, ◌<◌, Bool, true, false, cond, eqb, ◌||◌, ◌&&◌, nat_le, List, []}
+use Rattle.std.proofs.Common.{◌≡◌, ◌≢◌, ℕ, suc, length, get_or, All, ◌+◌, ◌/◌, ◌%◌, ◌<◌, ◌≤◌, Bool, true, false, cond, eqb, ◌||◌, ◌&&◌, nat_le, List, []}
 use Rattle.std.proofs.Common.{◌∷◌, ◌++◌, Result, Ok, refl, sym, ◌∙◌, ap, append_assoc, arith}
 use Rattle.std.specs.Prelude.{flat_map, not, codes}
 use Rattle.std.specs.List.{AllByRecursion}
@@ -7,13 +7,68 @@ use Rattle.std.proofs.{lemmas.Bool.Decides.nat_tests, lemmas.List.append-nil, le
 use Rattle.dns_fields.specs.Octets.{AreOctets}
 use Rattle.dns_zone_words.specs.{Remaining.with_words, declared.words_error.WordsError.WordsError}
 use Rattle.dns_zone_words.specs.Words.{Word, is_blank, is_line_end, ends_run, begins_gap, between, run, quotes, words_from, with_word}
-use Rattle.dns_rdata_zone.specs.Names.{zone_label, zone_labels}
+use Rattle.dns_rdata_zone.specs.{Names.zone_label, Names.zone_labels, Printable.ArePrintable}
 use Rattle.dns_rdata_zone.specs.Spellings.{escaped, three_digits, needs_backslash, name_octet}
 
--- The text is cut into these words, in front of a blank and what follows it, and at the end.
+-- ---- printable texts
+
+printable_both : (a b : List ℕ) → ArePrintable a → ArePrintable b → ArePrintable (a ++ b)
+printable_both [] b h k = k
+printable_both (c ∷ a) b h k = (h.0, printable_both a b h.1 k)
+
+pub blank_printable : (b : List ℕ) → ArePrintable b → ArePrintable (32 ∷ b)
+blank_printable b h = ((omega arith, omega arith), h)
+
+quote_printable : (b : List ℕ) → ArePrintable b → ArePrintable (34 ∷ b)
+quote_printable b h = ((omega arith, omega arith), h)
+
+digits_printable : (c : ℕ) → c < 256 → ArePrintable (three_digits c)
+digits_printable c h = (
+  (omega arith, omega arith),
+  ((omega arith, omega arith), ((omega arith, omega arith), ((omega arith, omega arith), tt))),
+)
+
+printable_test : (b : Bool) (x y : List ℕ) → (b ≡ true → ArePrintable x) → (b ≡ false → ArePrintable y) → ArePrintable (cond b x y)
+printable_test true x y h k = h refl
+printable_test false x y h k = k refl
+
+backslash_printable : (c : ℕ) → needs_backslash c ≡ true → ArePrintable (92 ∷ c ∷ [])
+backslash_printable c h = ((omega arith, omega arith), ((grind (arith, nat_tests), grind (arith, nat_tests)), tt))
+
+graphic_printable : (c low : ℕ) → 32 ≤ low → nat_le low c && nat_le c 126 ≡ true → ArePrintable (c ∷ [])
+graphic_printable c low h e = ((grind (arith, nat_tests), grind (arith, nat_tests)), tt)
+
+name_octet_printable : (c : ℕ) → c < 256 → ArePrintable (name_octet c)
+name_octet_printable c h = printable_test (needs_backslash c) _ _ (backslash_printable c)
+    (λ e. printable_test (nat_le 33 c && nat_le c 126) _ _ (graphic_printable c 33 (omega arith)) (λ f. digits_printable c h))
+
+quoted_backslash : (c : ℕ) → eqb c 34 || eqb c 92 ≡ true → ArePrintable (92 ∷ c ∷ [])
+quoted_backslash c h = ((omega arith, omega arith), ((grind (arith, nat_tests), grind (arith, nat_tests)), tt))
+
+escaped_printable : (c : ℕ) → c < 256 → ArePrintable (escaped c)
+escaped_printable c h = printable_test (eqb c 34 || eqb c 92) _ _ (quoted_backslash c)
+    (λ e. printable_test (nat_le 32 c && nat_le c 126) _ _ (graphic_printable c 32 (omega arith)) (λ f. digits_printable c h))
+
+spelled_printable : (f : ℕ → List ℕ) → ((c : ℕ) → c < 256 → ArePrintable (f c)) → (s : List ℕ) → AreOctets s → ArePrintable (flat_map f s)
+spelled_printable f one [] h = tt
+spelled_printable f one (c ∷ s) h = printable_both (f c) (flat_map f s) (one c (All-head (λ x. x < 256) c s h))
+    (spelled_printable f one s (All-tail (λ x. x < 256) c s h))
+
+label_printable : (s : List ℕ) → AreOctets s → ArePrintable (zone_label s)
+label_printable s h = printable_both (flat_map name_octet s) (codes ".") (spelled_printable name_octet name_octet_printable s h)
+    ((omega arith, omega arith), tt)
+
+labels_printable : (ls : List (List ℕ)) → AllByRecursion AreOctets ls → ArePrintable (flat_map zone_label ls)
+labels_printable [] h = tt
+labels_printable (l ∷ ls) h = printable_both (zone_label l) (flat_map zone_label ls) (label_printable l h.0) (labels_printable ls h.1)
+
+-- ---- texts that are cut
+
+-- The text is cut into these words, in front of a blank and what follows it, and at the end. It is printable.
 pub record AreCut (text : List ℕ) (words : List Word) : Type 0 where
   pub then : (rest : List ℕ) → words_from (between 0 false) (text ++ 32 ∷ rest) ≡ with_words words (words_from (between 0 false) rest)
   pub last : words_from (between 0 false) text ≡ Ok words
+  pub printable : ArePrintable text
 
 -- a word without quotes, behind a blank
 abbrev pub bare_word : List ℕ → Word
@@ -42,6 +97,7 @@ cut_then {a = a} {b = b} {ws = ws} {vs = vs} h k = record {
       ∙ ap (with_words ws) (k.then rest)
       ∙ sym (words_append ws vs (words_from (between 0 false) rest));
   last = h.then b ∙ ap (with_words ws) k.last ∙ words_all ws vs;
+  printable = printable_both a (32 ∷ b) h.printable (blank_printable b k.printable);
 }
 
 -- ---- a word without quotes
@@ -56,7 +112,7 @@ BeginsRun s = (rest : List ℕ) → words_from (between 0 false) (s ++ rest) ≡
 
 -- a graphic octet that stands for itself in a word without quotes
 abbrev pub is_run_octet : ℕ → Bool
-is_run_octet c = nat_le 33 c && (not (ends_run c) && not (eqb c 92))
+is_run_octet c = nat_le 33 c && (nat_le c 126 && (not (ends_run c) && not (eqb c 92)))
 
 pub run_none : InRun []
 run_none front rest = ap (λ (f : List ℕ). words_from (run 0 false f) rest) (sym (append-nil front))
@@ -108,10 +164,11 @@ pub mark_begins : BeginsRun (92 ∷ 35 ∷ [])
 mark_begins = begins_two 35 refl
 
 -- a text that begins a word, and goes on in it to its end, is that word
-pub bare_cut : (s : List ℕ) → BeginsRun s → AreCut s (bare_word s ∷ [])
-bare_cut s h = record {
+pub bare_cut : (s : List ℕ) → BeginsRun s → ArePrintable s → AreCut s (bare_word s ∷ [])
+bare_cut s h k = record {
   then = λ rest. h (32 ∷ rest);
   last = ap (words_from (between 0 false)) (sym (append-nil s)) ∙ h [];
+  printable = k;
 }
 
 -- octets that stand for themselves
@@ -133,10 +190,10 @@ pub run_both : (a b : List ℕ) → AreRunOctets a → AreRunOctets b → AreRun
 run_both [] b h k = k
 run_both (c ∷ a) b h k = (h.0, run_both a b h.1 k)
 
-run_is : (c : ℕ) → is_run_octet c ≡ true → InRun (c ∷ [])
+pub run_is : (c : ℕ) → is_run_octet c ≡ true → InRun (c ∷ [])
 run_is c h = run_one c (grind (arith, nat_tests)) (grind (arith, nat_tests))
 
-begins_is : (c : ℕ) → is_run_octet c ≡ true → BeginsRun (c ∷ [])
+pub begins_is : (c : ℕ) → is_run_octet c ≡ true → BeginsRun (c ∷ [])
 begins_is c h = begins_one c (grind (arith, nat_tests)) (grind (arith, nat_tests)) (grind (arith, nat_tests))
 
 pub run_plain : (s : List ℕ) → AreRunOctets s → InRun s
@@ -147,8 +204,15 @@ pub begins_plain : (s : List ℕ) → s ≢ [] → AreRunOctets s → BeginsRun 
 begins_plain [] some h = absurd (some refl)
 begins_plain (c ∷ s) some h = begins_append (c ∷ []) s (begins_is c h.0) (run_plain s h.1)
 
+pub one_printable : (c : ℕ) → is_run_octet c ≡ true → (32 ≤ c) × (c ≤ 126)
+one_printable c h = (grind (arith, nat_tests), grind (arith, nat_tests))
+
+pub run_printable : (s : List ℕ) → AreRunOctets s → ArePrintable s
+run_printable [] h = tt
+run_printable (c ∷ s) h = (one_printable c h.0, run_printable s h.1)
+
 pub plain_cut : (s : List ℕ) → s ≢ [] → AreRunOctets s → AreCut s (bare_word s ∷ [])
-plain_cut s some h = bare_cut s (begins_plain s some h)
+plain_cut s some h = bare_cut s (begins_plain s some h) (run_printable s h)
 
 -- ---- labels
 
@@ -193,74 +257,91 @@ NoneEmpty [] = Unit {0}
 NoneEmpty (l ∷ ls) = (l ≢ []) × NoneEmpty ls
 
 pub name_cut : (ls : List (List ℕ)) → AllByRecursion AreOctets ls → NoneEmpty ls → AreCut (zone_labels ls) (bare_word (zone_labels ls) ∷ [])
-name_cut [] h k = bare_cut (codes ".") (begins_one 46 refl refl refl)
+name_cut [] h k = bare_cut (codes ".") (begins_one 46 refl refl refl) ((omega arith, omega arith), tt)
 name_cut (l ∷ ls) h k = bare_cut (zone_label l ++ flat_map zone_label ls)
     (begins_append (zone_label l) (flat_map zone_label ls) (label_begins l k.0 h.0) (labels_run ls h.1))
+    (labels_printable (l ∷ ls) h)
 
 -- ---- a word in quotes
 
 -- the octets are taken on within the quotes
-abbrev pub InQuotes : List ℕ → Type 0
-InQuotes s = (joined : Bool) (front rest : List ℕ) → words_from (quotes 0 joined front) (s ++ rest) ≡ words_from (quotes 0 joined (front ++ s)) rest
+abbrev TakenOn : List ℕ → Type 0
+TakenOn s = (joined : Bool) (front rest : List ℕ) → words_from (quotes 0 joined front) (s ++ rest) ≡ words_from (quotes 0 joined (front ++ s)) rest
 
-pub quotes_none : InQuotes []
+quotes_none : TakenOn []
 quotes_none joined front rest = ap (λ (f : List ℕ). words_from (quotes 0 joined f) rest) (sym (append-nil front))
 
-pub quotes_append : (a b : List ℕ) → InQuotes a → InQuotes b → InQuotes (a ++ b)
+quotes_append : (a b : List ℕ) → TakenOn a → TakenOn b → TakenOn (a ++ b)
 quotes_append a b h k joined front rest =
     ap (words_from (quotes 0 joined front)) (append_assoc a b rest) ∙ h joined front (b ++ rest) ∙ k joined (front ++ a) rest
     ∙ ap (λ (f : List ℕ). words_from (quotes 0 joined f) rest) (append_assoc front a b)
 
-quotes_one : (c : ℕ) → eqb c 34 ≡ false → eqb c 10 ≡ false → eqb c 92 ≡ false → InQuotes (c ∷ [])
+quotes_one : (c : ℕ) → eqb c 34 ≡ false → eqb c 10 ≡ false → eqb c 92 ≡ false → TakenOn (c ∷ [])
 quotes_one c h k e joined front rest = rw (h, k, e) refl
 
-quotes_two : (c : ℕ) → InQuotes (92 ∷ c ∷ [])
+quotes_two : (c : ℕ) → TakenOn (92 ∷ c ∷ [])
 quotes_two c joined front rest = ap (λ (f : List ℕ). words_from (quotes 0 joined f) rest) (append_assoc front (92 ∷ []) (c ∷ []))
 
-quotes_digit : (d : ℕ) → d < 10 → InQuotes ((48 + d) ∷ [])
+quotes_digit : (d : ℕ) → d < 10 → TakenOn ((48 + d) ∷ [])
 quotes_digit d h = quotes_one (48 + d) (grind (arith, nat_tests)) (grind (arith, nat_tests)) (grind (arith, nat_tests))
 
-quotes_digits : (c : ℕ) → c < 256 → InQuotes (three_digits c)
+quotes_digits : (c : ℕ) → c < 256 → TakenOn (three_digits c)
 quotes_digits c h = quotes_append (92 ∷ (48 + c / 100) ∷ []) _ (quotes_two (48 + c / 100))
     (quotes_append ((48 + c / 10 % 10) ∷ []) _ (quotes_digit (c / 10 % 10) (omega arith)) (quotes_digit (c % 10) (omega arith)))
 
-quotes_test : (b : Bool) (x y : List ℕ) → (b ≡ true → InQuotes x) → (b ≡ false → InQuotes y) → InQuotes (cond b x y)
+quotes_test : (b : Bool) (x y : List ℕ) → (b ≡ true → TakenOn x) → (b ≡ false → TakenOn y) → TakenOn (cond b x y)
 quotes_test true x y h k = h refl
 quotes_test false x y h k = k refl
 
-escaped_quotes : (c : ℕ) → c < 256 → InQuotes (escaped c)
+escaped_quotes : (c : ℕ) → c < 256 → TakenOn (escaped c)
 escaped_quotes c h = quotes_test (eqb c 34 || eqb c 92) _ _ (λ e. quotes_two c)
     (λ e. quotes_test (nat_le 32 c && nat_le c 126) _ _
     (λ f. quotes_one c (grind (arith, nat_tests)) (grind (arith, nat_tests)) (grind (arith, nat_tests))) (λ f. quotes_digits c h))
 
-pub spelled_quotes : (s : List ℕ) → AreOctets s → InQuotes (flat_map escaped s)
-spelled_quotes [] h = quotes_none
-spelled_quotes (c ∷ s) h = quotes_append (escaped c) (flat_map escaped s) (escaped_quotes c (All-head (λ x. x < 256) c s h))
-    (spelled_quotes s (All-tail (λ x. x < 256) c s h))
+spelled_taken : (s : List ℕ) → AreOctets s → TakenOn (flat_map escaped s)
+spelled_taken [] h = quotes_none
+spelled_taken (c ∷ s) h = quotes_append (escaped c) (flat_map escaped s) (escaped_quotes c (All-head (λ x. x < 256) c s h))
+    (spelled_taken s (All-tail (λ x. x < 256) c s h))
 
-quotes_plain_one : (c : ℕ) → is_run_octet c ≡ true → InQuotes (c ∷ [])
+quotes_plain_one : (c : ℕ) → is_run_octet c ≡ true → TakenOn (c ∷ [])
 quotes_plain_one c h = quotes_one c (grind (arith, nat_tests)) (grind (arith, nat_tests)) (grind (arith, nat_tests))
 
+plain_taken : (s : List ℕ) → AreRunOctets s → TakenOn s
+plain_taken [] h = quotes_none
+plain_taken (c ∷ s) h = quotes_append (c ∷ []) s (quotes_plain_one c h.0) (plain_taken s h.1)
+
+-- printable octets that are taken on within quotes
+pub record InQuotes (s : List ℕ) : Type 0 where
+  pub taken : TakenOn s
+  pub printable : ArePrintable s
+
+pub spelled_quotes : (s : List ℕ) → AreOctets s → InQuotes (flat_map escaped s)
+spelled_quotes s h = record { taken = spelled_taken s h; printable = spelled_printable escaped escaped_printable s h }
+
 pub plain_quotes : (s : List ℕ) → AreRunOctets s → InQuotes s
-plain_quotes [] h = quotes_none
-plain_quotes (c ∷ s) h = quotes_append (c ∷ []) s (quotes_plain_one c h.0) (plain_quotes s h.1)
+plain_quotes s h = record { taken = plain_taken s h; printable = run_printable s h }
+
+enclosed_printable : (s : List ℕ) → ArePrintable s → ArePrintable (34 ∷ (s ++ 34 ∷ []))
+enclosed_printable s h = quote_printable (s ++ 34 ∷ []) (printable_both s (34 ∷ []) h (quote_printable [] tt))
 
 -- what stands in quotes is a word
 pub quoted_cut : (s : List ℕ) → InQuotes s → AreCut (34 ∷ (s ++ 34 ∷ [])) (quoted_word false s ∷ [])
 quoted_cut s h = record {
   then = λ rest.
       ap (words_from (quotes 0 false [])) (append_assoc s (34 ∷ []) (32 ∷ rest))
-      ∙ h false [] (34 ∷ 32 ∷ rest);
-  last = h false [] (34 ∷ []);
+      ∙ h.taken false [] (34 ∷ 32 ∷ rest);
+  last = h.taken false [] (34 ∷ []);
+  printable = enclosed_printable s h.printable;
 }
 
 -- and so it is right behind a word without quotes
-pub joined_cut : (key s : List ℕ) → BeginsRun key → InQuotes s → AreCut (key ++ 34 ∷ (s ++ 34 ∷ [])) (bare_word key ∷ quoted_word true s ∷ [])
-joined_cut key s b h = record {
+pub joined_cut : (key s : List ℕ) → BeginsRun key → ArePrintable key → InQuotes s → AreCut (key ++ 34 ∷ (s ++ 34 ∷ [])) (bare_word key ∷ quoted_word true s ∷ [])
+joined_cut key s b p h = record {
   then = λ rest.
       ap (words_from (between 0 false)) (append_assoc key (34 ∷ (s ++ 34 ∷ [])) (32 ∷ rest))
       ∙ b (34 ∷ ((s ++ 34 ∷ []) ++ 32 ∷ rest))
       ∙ ap (λ (t : List ℕ). with_word (bare_word key) (words_from (quotes 0 true []) t)) (append_assoc s (34 ∷ []) (32 ∷ rest))
-      ∙ ap (with_word (bare_word key)) (h true [] (34 ∷ 32 ∷ rest));
-  last = b (34 ∷ (s ++ 34 ∷ [])) ∙ ap (with_word (bare_word key)) (h true [] (34 ∷ []));
+      ∙ ap (with_word (bare_word key)) (h.taken true [] (34 ∷ 32 ∷ rest));
+  last = b (34 ∷ (s ++ 34 ∷ [])) ∙ ap (with_word (bare_word key)) (h.taken true [] (34 ∷ []));
+  printable = printable_both key (34 ∷ (s ++ 34 ∷ [])) p (enclosed_printable s h.printable);
 }

@@ -6,7 +6,7 @@ use Rattle.std.proofs.lemmas.List.{append-nil, length-map}
 use Rattle.std.specs.Char.{to_ascii_lowercase}
 use Rattle.hex.specs.Hex.{encode_with, encode_lower, lower_digits}
 use Rattle.dns_fields.specs.Labels.{wire, lowered}
-use Rattle.dns_rdata_zone.specs.{Generic.generic, Names.zone_label}
+use Rattle.dns_rdata_zone.specs.{Generic.generic, Names.zone_label, Tokens.in_tokens}
 
 -- ---- lists that a loop writes
 
@@ -59,9 +59,9 @@ digits_all text old labels e w =
 
 -- ---- the form of unknown data
 
-pub generic_is : (s : List ℕ) (n : ℕ) → n ≡ length s → 1 ≤ n → 92 ∷ 35 ∷ 32 ∷ (decimal n ++ 32 ∷ encode_lower s) ≡ generic s
+pub generic_is : (s : List ℕ) (n : ℕ) → n ≡ length s → 1 ≤ n → 92 ∷ 35 ∷ 32 ∷ (decimal n ++ 32 ∷ in_tokens (encode_lower s)) ≡ generic s
 generic_is [] n e h = absurd (omega arith)
-generic_is (c ∷ s) n e h = rw e (ap (λ (t : List ℕ). 92 ∷ 35 ∷ 32 ∷ t) (sym (append_assoc (decimal (length (c ∷ s))) (32 ∷ []) (encode_lower (c ∷ s)))))
+generic_is (c ∷ s) n e h = rw e (ap (λ (t : List ℕ). 92 ∷ 35 ∷ 32 ∷ t) (sym (append_assoc (decimal (length (c ∷ s))) (32 ∷ []) (in_tokens (encode_lower (c ∷ s))))))
 
 pub length_low : (ls : List (List ℕ)) → length (lowered ls) ≡ length (wire ls ++ 0 ∷ [])
 length_low [] = refl

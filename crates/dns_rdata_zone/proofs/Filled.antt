@@ -23,11 +23,11 @@ use Rattle.dns_rdata_service.specs.{declared.svcb.SVCB.SVCB, declared.svcb.value
 use Rattle.dns_rdata_service.specs.SvcParamValue.{value_of, a_octets, aaaa_octets}
 use Rattle.dns_rdata_service.specs.declared.svcb.value.SvcParamValue.TheVariants.{Mandatory, Alpn, NoDefaultAlpn, Port, Ipv4Hint, EchConfigList}
 use Rattle.dns_rdata_service.specs.declared.svcb.value.SvcParamValue.TheVariants.{Ipv6Hint, DohPath, Unknown}
-use Rattle.dns_rdata_zone.specs.{ZoneGives.AreDataOf, ZoneGives.TextGives, ZoneReads.FillsGive, ZoneReads.FillsTell}
+use Rattle.dns_rdata_zone.specs.{ZoneGives.AreDataOf, ZoneGives.TextGives, ZoneReads.FillsGive, ZoneReads.FillsPrint, ZoneReads.FillsTell}
 use Rattle.dns_rdata_zone.specs.Readable.{IsString, IsWritable, IsWritableTlsa, IsWritableValue, IsWritableParameter, IsWritableService, FieldsFit}
 use Rattle.dns_rdata_zone.specs.Readable.{IsReadable}
 use Rattle.dns_rdata_zone.specs.ZoneTexts.{zone_text, zone_octets}
-use Rattle.dns_rdata_zone.proofs.{RowForms.bytes_of, Again.own_fields, Again.same_length, TextsGive.texts_give, TextsGive.texts_tell}
+use Rattle.dns_rdata_zone.proofs.{RowForms.bytes_of, Again.own_fields, Again.same_length, TextsGive.texts_give, TextsGive.texts_print, TextsGive.texts_tell}
 use Rattle.dns_rdata_zone.proofs.FilledLengths.{all_short, few_fields, body_short}
 
 -- ---- the octets of fields, names whole
@@ -261,3 +261,6 @@ fills_give origin m p n t v f small = record {
 
 pub fills_tell : FillsTell
 fills_tell m m' p p' n n' t v w f g same = texts_tell v w (readable f) (readable g) (f.value.type ∙ sym g.value.type) same
+
+pub fills_print : FillsPrint
+fills_print m p n t v f = texts_print v (readable f)

@@ -1,11 +1,11 @@
 -- The first word of a text, by the octet that it begins with.
 use Rattle.std.proofs.Common.{◌≡◌, ◌≢◌, ℕ, zero, suc, ◌<◌, Bool, true, false, List, [], ◌∷◌, ◌++◌, length, get_or, Result, Ok, Err, refl, sym, ◌∙◌}
-use Rattle.std.proofs.Common.{ap, subst, arith, append_assoc, ◌⊎◌, inl, inr}
-use Rattle.std.specs.Prelude.{◌==◌, ◌||◌}
+use Rattle.std.proofs.Common.{subst, arith, append_assoc, ◌⊎◌, inl, inr}
+use Rattle.std.specs.Prelude.{◌==◌}
 use Rattle.std.proofs.{lemmas.Bool.Decides.nat_tests, lemmas.List.append-nil}
-use Rattle.dns_zone_words.specs.{Remaining.IsUnknownMark, declared.words_error.WordsError.WordsError}
+use Rattle.dns_zone_words.specs.{declared.words_error.WordsError.WordsError}
 use Rattle.dns_zone_words.specs.Words.{Word, Spot, run, run_backslash, quotes, quotes_backslash, refused, is_line_end, ends_run, gap_on, words_from}
-use Rattle.dns_zone_words.specs.Words.{with_word, zone_words}
+use Rattle.dns_zone_words.specs.Words.{with_word}
 use Rattle.dns_zone_words.specs.declared.words_error.WordsError.TheVariants.{LineInQuotes}
 use Rattle.dns_zone_words.proofs.{RemainingSteps.word_ok, WordSteps.stays_refused}
 use Rattle.dns_rdata_zone.specs.{ZoneGives.AreUnmarked, ZoneFaults.HasNoMark}

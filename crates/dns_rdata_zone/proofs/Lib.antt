@@ -7,6 +7,7 @@ pub mod FirstOctet
 pub mod FilledLengths
 pub mod Joined
 pub mod Letters
+pub mod NameTexts
 pub mod OptionDigits
 pub mod ParameterForms
 pub mod ParameterValues
@@ -16,6 +17,8 @@ pub mod RestForms
 pub mod OwnTexts
 pub mod ServiceDigits
 pub mod TextsGive
+pub mod TokenSteps
+pub mod TokenWords
 pub mod WordForms
 pub mod ZoneOnce
 pub mod ZoneSteps

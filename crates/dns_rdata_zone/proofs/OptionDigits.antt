@@ -1,12 +1,14 @@
 -- The octets of options in hexadecimal.
-use Rattle.std.proofs.Common.{◌≡◌, ℕ, ◌%◌, ◌<◌, ◌≤◌, List, [], ◌∷◌, ◌++◌, length, map, decimal, refl, sym, ◌∙◌, ap, append_assoc, arith}
-use Rattle.std.specs.Prelude.{flat_map}
+use Rattle.std.proofs.Common.{◌≡◌, ℕ, ◌+◌, ◌*◌, ◌%◌, ◌<◌, ◌≤◌, List, [], ◌∷◌, ◌++◌, length, take, get_or, map, decimal, refl, sym, ◌∙◌, ap, append_assoc, arith}
+use Rattle.std.proofs.Common.{add-one, length-append}
 use Rattle.std.specs.Int.{bytes_high_first}
 use Rattle.hex.specs.Hex.{encode_lower}
-use Rattle.dns_fields.specs.{Fields.Number, Fields.field_octets, Fields.option_pieces, Pieces.piece, Pieces.pieces}
+use Rattle.std.proofs.{Math.Seq.take-suc, lemmas.Grind.flat_map-append, lemmas.List.append-nil}
+use Rattle.dns_fields.specs.{Fields.Number, Fields.field_octets, Fields.option_pieces, Pieces.as_piece, Pieces.option_octets, Pieces.piece, Pieces.pieces}
+use Rattle.dns_fields.proofs.Pieces.{length-piece}
 use Rattle.dns_rdata_options.specs.OPT.{Pair, pair_value}
-use Rattle.dns_rdata_zone.specs.Options.{pair_octets, option_digits, options_octets, zone_options}
-use Rattle.dns_rdata_zone.proofs.Digits.{hex_append, hex_none, generic_is}
+use Rattle.dns_rdata_zone.specs.{Options.pair_octets, Options.options_octets, Options.zone_options, Tokens.tokens_from, Tokens.in_tokens, Tokens.left_after}
+use Rattle.dns_rdata_zone.proofs.{Digits.generic_is, TokenSteps.hex_tokens, TokenSteps.after_more}
 
 -- family, source prefix, scope prefix and address, as they are put together
 pub subnet_head : (family source scope : ℕ) (address : List ℕ) → source < 256 → scope < 256
@@ -19,23 +21,46 @@ subnet_head family source scope address h k =
     rw (a, b) refl
 
 -- code, length and value
-pub pair_digits : (code len : ℕ) (value : List ℕ) → len ≡ length value
-    → encode_lower (([] ++ field_octets (Number 2) code) ++ field_octets (Number 2) len) ++ encode_lower value ≡ encode_lower (piece (code, value))
+pub pair_digits : (code len left next : ℕ) (value : List ℕ) → len ≡ length value → 2 * next ≡ left_after (2 * left) (2 * 4)
+    → tokens_from (2 * left) (encode_lower (([] ++ field_octets (Number 2) code) ++ field_octets (Number 2) len)) ++ tokens_from (2 * next) (encode_lower value)
+    ≡ tokens_from (2 * left) (encode_lower (piece (code, value)))
 unfolding field_octets
-pair_digits code len value e =
+pair_digits code len left next value e f =
     let a = bytes_high_first 2 code in
     let b = bytes_high_first 2 len in
-    sym (hex_append (a ++ b) value) ∙ ap encode_lower (append_assoc a b value)
-    ∙ ap (λ (n : ℕ). encode_lower (a ++ (bytes_high_first 2 n ++ value))) e
-
-options_digits : (pairs : List Pair) → flat_map option_digits pairs ≡ encode_lower (options_octets pairs)
-options_digits [] = sym hex_none
-options_digits (p ∷ pairs) = ap (λ (t : List ℕ). option_digits p ++ t) (options_digits pairs) ∙ sym (hex_append (pair_octets p) (options_octets pairs))
+    let first = tokens_from (2 * left) (encode_lower (a ++ b)) in
+    ap (λ (n : ℕ). first ++ tokens_from n (encode_lower value)) f
+    ∙ sym (hex_tokens (2 * left) (a ++ b) value)
+    ∙ ap (λ (s : List ℕ). tokens_from (2 * left) (encode_lower s)) (append_assoc a b value)
+    ∙ ap (λ (n : ℕ). tokens_from (2 * left) (encode_lower (a ++ (bytes_high_first 2 n ++ value)))) e
 
 pub options_generic : (pairs : List Pair) (count : ℕ) → count ≡ length (options_octets pairs) → 1 ≤ count
-    → 92 ∷ 35 ∷ 32 ∷ (decimal count ++ 32 ∷ flat_map option_digits pairs) ≡ zone_options pairs
-options_generic pairs count e h =
-    ap (λ (t : List ℕ). 92 ∷ 35 ∷ 32 ∷ (decimal count ++ 32 ∷ t)) (options_digits pairs) ∙ generic_is (options_octets pairs) count e h
+    → 92 ∷ 35 ∷ 32 ∷ (decimal count ++ 32 ∷ in_tokens (encode_lower (options_octets pairs))) ≡ zone_options pairs
+options_generic pairs count e h = generic_is (options_octets pairs) count e h
+
+-- one option more
+options_more : (pairs : List Pair) (i : ℕ) (p : Pair) → i < length pairs → p ≡ get_or pairs i p
+    → options_octets (take (i + 1) pairs) ≡ options_octets (take i pairs) ++ pair_octets p
+options_more pairs i p h e =
+    rw add-one (ap options_octets (take-suc pairs i p h) ∙ flat_map-append pair_octets (take i pairs) (get_or pairs i p ∷ [])
+    ∙ ap (λ (t : List ℕ). options_octets (take i pairs) ++ t) (append-nil (pair_octets (get_or pairs i p)) ∙ ap pair_octets (sym e)))
+
+pub option_written : (pairs : List Pair) (i left : ℕ) (p : Pair) → i < length pairs → p ≡ get_or pairs i p → 2 * left ≡ left_after 1020 (2 * length (options_octets (take i pairs)))
+    → in_tokens (encode_lower (options_octets (take i pairs))) ++ tokens_from (2 * left) (encode_lower (pair_octets p))
+    ≡ in_tokens (encode_lower (options_octets (take (i + 1) pairs)))
+option_written pairs i left p h e f =
+    let before = options_octets (take i pairs) in
+    ap (λ (n : ℕ). in_tokens (encode_lower before) ++ tokens_from n (encode_lower (pair_octets p))) f
+    ∙ sym (hex_tokens 1020 before (pair_octets p))
+    ∙ ap (λ (s : List ℕ). in_tokens (encode_lower s)) (sym (options_more pairs i p h e))
+
+pub option_left : (pairs : List Pair) (i left next len : ℕ) (p : Pair) → i < length pairs → p ≡ get_or pairs i p
+    → 2 * left ≡ left_after 1020 (2 * length (options_octets (take i pairs))) → 2 * next ≡ left_after (2 * left) (2 * (4 + len))
+    → len ≡ length (option_octets (pair_value p).1) → 2 * next ≡ left_after 1020 (2 * length (options_octets (take (i + 1) pairs)))
+option_left pairs i left next len p h e f g size =
+    let before = options_octets (take i pairs) in
+    after_more 1020 left next (length before) (4 + len) (length (options_octets (take (i + 1) pairs))) f g
+    (omega (arith, ap length (options_more pairs i p h e), length-append before (pair_octets p), length-piece (as_piece option_octets (pair_value p)), size))
 
 -- the octets of options as those of a field
 pub options_pieces : (pairs : List Pair) → options_octets pairs ≡ pieces (option_pieces (map pair_value pairs))

@@ -1,56 +1,38 @@
 -- The text of a value, by its row or as unknown data, gives its octets, and tells them.
-use Rattle.std.proofs.Common.{◌≡◌, ◌≢◌, ◌⊎◌, ℕ, suc, ◌+◌, ◌*◌, ◌/◌, ◌%◌, ◌^◌, ◌<◌, ◌≤◌, Bool, true, false, cond, eqb, ◌&&◌, nat_le, List, [], ◌∷◌}
-use Rattle.std.proofs.Common.{◌++◌, length, take, drop, zero, replicate, rules, get_or, decimal, codes, inl, inr, lit<, Option, Some, None, Result}
+use Rattle.std.proofs.Common.{◌≡◌, ◌≢◌, ◌⊎◌, ℕ, ◌^◌, ◌<◌, Bool, true, false, cond, List, [], ◌∷◌}
+use Rattle.std.proofs.Common.{◌++◌, length, decimal, codes, inl, inr, Option, Some, Result}
 use Rattle.std.proofs.Common.{Ok, refl, sym, ◌∙◌, ap, subst, append_assoc, arith}
-use Rattle.std.specs.Prelude.{flat_map, bytes_eq, slice_index}
-use Rattle.std.specs.{Char.to_ascii_lowercase, Char.is_ascii_alphanumeric, Int.bytes_high_first, Str.str_eq_ignore_ascii_case}
-use Rattle.std.specs.{Str.str_to_ascii_lowercase, List.AllByRecursion, List.list_all, Net.Grammar.IsDotted, Net.Grammar.IsGroups}
-use Rattle.std.specs.{Net.Grammar.IsColonHex, Net.Text.ipv4_text, Net.Text.ipv6_text, Net.Text.hex_groups_text}
-use Rattle.std.specs.{declared.net.ipv4_addr.Ipv4Addr.Ipv4Addr, declared.net.ipv6_addr.Ipv6Addr.Ipv6Addr, Str.Parse.digits_value}
-use Rattle.std.specs.Net.Addr.{IsIpv4Addr, IsIpv6Addr, ipv4_octets, ipv6_octets, ipv6_segments, octets_of}
-use Rattle.std.proofs.{lemmas.Bool.Decides.nat_tests, lemmas.Fmt.decimal_is_IsNumeral, lemmas.Fmt.length-decimal-le, lemmas.List.append-nil}
-use Rattle.std.proofs.{lemmas.List.Elements.All-head, lemmas.List.Elements.All-tail, lemmas.Str.Parse.digit_at}
-use Rattle.std.proofs.NetLemmas.Alphabet.{IsDigitOrDot, IsHexOrColon, All-ipv4_text, All-hex_groups_text}
-use Rattle.std.proofs.NetLemmas.Texts.{IsDotted-ipv4_text, IsColonHex-ipv6_text, AllSegments, AllSegments-drop}
-use Rattle.dns_fields.specs.{Pieces.string as string_octets, Labels.DomainName, Labels.IsName, Octets.AreOctets, Bitmaps.block, Bitmaps.minimal}
-use Rattle.dns_types.specs.{RecordTypes.number_of, RecordTypes.record_type_of, RecordTypes.IsTypeText, declared.record_type.RecordType.RecordType}
-use Rattle.dns_types.specs.declared.record_type.RecordType.TheVariants.{ZERO, ANAME, Unknown}
-use Rattle.dns_types.proofs.RecordTypeLaws.{number_of-record_type_of}
-use Rattle.dns_words.proofs.Printed.{ipv4_back, ipv6_back}
-use Rattle.dns_zone_words.specs.{Forms.text, NameWords.name, NameWords.name_octets, Words.Word, Words.between, Words.words_from}
-use Rattle.dns_zone_words.specs.Remaining.{AreUnknown, IsUnknownMark, AreStrings, AreHex, AreBase64}
+use Rattle.dns_fields.specs.{Labels.DomainName, Octets.AreOctets}
+use Rattle.dns_types.specs.{declared.record_type.RecordType.RecordType}
+use Rattle.dns_zone_words.specs.{Forms.text, Words.Word, Words.between, Words.words_from}
+use Rattle.dns_zone_words.specs.Remaining.{AreUnknown}
 use Rattle.dns_zone_words.specs.declared.words_error.WordsError.{WordsError}
-use Rattle.hex.specs.Hex.{encode_with, encode_lower, lower_digits, decode_of as hex_of, decode_pairs, IsBytes}
+use Rattle.hex.specs.Hex.{encode_lower, decode_of as hex_of}
 use Rattle.hex.specs.declared.error.FromHexError.{FromHexError}
 use Rattle.hex.proofs.HexLemmas.{decode_of-encode_lower}
-use Rattle.base64.specs.{Engines.standard, Rfc4648.encode_symbols, Rfc4648.padding_len}
-use Rattle.base64.specs.GeneralPurpose.{encode_of, decode_of as base64_of}
-use Rattle.base64.proofs.EngineFacts.{decode_of-encode_of}
 use Rattle.dns_zone_rows.proofs.Once.{row_once}
-use Rattle.dns_zone_rows.specs.Mnemonics.{Named, number_named, IsNamedNumber, cert_types, algorithms}
-use Rattle.dns_zone_rows.specs.Rows.{RowShape, RowGives, IsTypeNumber, AreTypes, FieldKind, Number, NamedNumber, Ttl, Ipv4, Ipv6, Name, String, Tag}
-use Rattle.dns_zone_rows.specs.Rows.{Octets, RestKind, SomeStrings, SomeHex, SomeBase64, AnyTypes, FieldGives, RestGives, FieldsGive}
+use Rattle.dns_zone_rows.specs.Rows.{RowShape, RowGives}
 use Rattle.dns_zone_rows.specs.RowTable.{row_of}
-use Rattle.dns_rdata_zone.specs.{Names.zone_label, Names.zone_labels, Names.zone_name, Strings.quoted, Strings.spaced, ZoneGives.GiveByRow}
-use Rattle.dns_rdata_zone.specs.{ZoneGives.AreUnmarked, ZoneGives.TextGives, Records.zone_type, Generic.generic}
-use Rattle.dns_rdata_zone.specs.Spellings.{escaped, needs_backslash, name_octet}
-use Rattle.dns_rdata_zone.proofs.Cuts.{AreCut, cut_then, bare_word, quoted_word, is_run_octet, plain_cut, bare_cut, mark_begins, AreRunOctets}
-use Rattle.dns_rdata_zone.proofs.Cuts.{run_not, run_by_index, run_all, run_both, quoted_cut, spelled_quotes, name_cut, NoneEmpty}
-use Rattle.dns_rdata_zone.proofs.Letters.{first_true, second_true}
-use Rattle.dns_rdata_zone.proofs.WordForms.{number_form, ttl_form, text_form, name_form}
+use Rattle.dns_rdata_zone.specs.{Printable.ArePrintable, ZoneGives.GiveByRow}
+use Rattle.dns_rdata_zone.specs.{ZoneGives.AreUnmarked, ZoneGives.TextGives, Generic.generic}
+use Rattle.dns_rdata_zone.proofs.Cuts.{AreCut, cut_then, bare_word, plain_cut, bare_cut, mark_begins}
+use Rattle.dns_rdata_zone.specs.Tokens.{in_tokens}
+use Rattle.dns_rdata_zone.proofs.TokenWords.{digit_words, tokens_cut, words_joined}
+use Rattle.dns_zone_words.specs.Remaining.{joined}
+use Rattle.dns_rdata_zone.proofs.WordForms.{number_form}
 use Rattle.dns_rdata_zone.proofs.RowForms.{RowText, bytes_of, decimal_run, decimal_some}
 use Rattle.dns_rdata_zone.proofs.RestForms.{hex_form, hex_none, hex_run, hex_some}
 
 -- ---- unknown data
 
 mark_cut : AreCut (92 ∷ 35 ∷ []) (bare_word (92 ∷ 35 ∷ []) ∷ [])
-mark_cut = bare_cut (92 ∷ 35 ∷ []) mark_begins
+mark_cut = bare_cut (92 ∷ 35 ∷ []) mark_begins ((omega arith, omega arith), ((omega arith, omega arith), tt))
 
 -- length and digits
 unknown_cut : (s : List ℕ) → s ≢ [] → AreOctets s → length s < 2 ^ 64
-    → AreCut (decimal (length s) ++ 32 ∷ encode_lower s) (bare_word (decimal (length s)) ∷ bare_word (encode_lower s) ∷ [])
+    → AreCut (decimal (length s) ++ 32 ∷ in_tokens (encode_lower s)) (bare_word (decimal (length s)) ∷ digit_words (encode_lower s))
 unknown_cut s some h small =
-    cut_then (plain_cut (decimal (length s)) (decimal_some (length s) small) (decimal_run (length s) small)) (plain_cut (encode_lower s) (hex_some s some) (hex_run s h))
+    cut_then (plain_cut (decimal (length s)) (decimal_some (length s) small) (decimal_run (length s) small)) (tokens_cut (encode_lower s) (hex_some s some) (hex_run s h))
 
 generic_is : (d e : List ℕ) → codes "\\# " ++ d ++ codes " " ++ e ≡ (92 ∷ 35 ∷ []) ++ 32 ∷ (d ++ 32 ∷ e)
 generic_is d e = simp append_assoc
@@ -58,12 +40,12 @@ generic_is d e = simp append_assoc
 -- the words behind `\#`
 abbrev pub unknown_words : List ℕ → List Word
 unknown_words [] = bare_word (codes "0") ∷ []
-unknown_words (c ∷ s) = bare_word (decimal (length (c ∷ s))) ∷ bare_word (encode_lower (c ∷ s)) ∷ []
+unknown_words (c ∷ s) = bare_word (decimal (length (c ∷ s))) ∷ digit_words (encode_lower (c ∷ s))
 
 pub generic_cut : (s : List ℕ) → AreOctets s → length s < 2 ^ 64 → AreCut (generic s) (bare_word (92 ∷ 35 ∷ []) ∷ unknown_words s)
 generic_cut [] h small = cut_then mark_cut (plain_cut (codes "0") (λ e. absurd (cc e)) (refl, tt))
 generic_cut (c ∷ s) h small =
-    subst (λ (t : List ℕ). AreCut t (bare_word (92 ∷ 35 ∷ []) ∷ unknown_words (c ∷ s))) (sym (generic_is (decimal (length (c ∷ s))) (encode_lower (c ∷ s))))
+    subst (λ (t : List ℕ). AreCut t (bare_word (92 ∷ 35 ∷ []) ∷ unknown_words (c ∷ s))) (sym (generic_is (decimal (length (c ∷ s))) (in_tokens (encode_lower (c ∷ s)))))
     (cut_then mark_cut (unknown_cut (c ∷ s) (λ e. absurd (cc e)) h small))
 
 unknown_are : (s : List ℕ) → AreOctets s → length s < 2 ^ 16 → AreUnknown s (unknown_words s)
@@ -79,23 +61,25 @@ unknown_text origin t s h small = record {
 
 -- ---- the form of unknown data tells its octets
 
-second_octets : List Word → List ℕ
-second_octets (x ∷ y ∷ words) = y.octets
-second_octets words = []
+-- the octets of the words behind the first, one behind the other
+behind_first : List Word → List ℕ
+behind_first [] = []
+behind_first (x ∷ words) = joined words
 
 same_words : (a b : List Word) → ◌≡◌ {A = Result (List Word) WordsError} (Ok a) (Ok b) → a ≡ b
 same_words a b e = cc e
 
 both_none : (s : List ℕ) → bare_word (codes "0") ∷ [] ≡ unknown_words s → [] ≡ s
+unfolding behind_first
 both_none [] e = refl
-both_none (c ∷ s) e = let n : 1 ≡ 2 = ap length e in absurd (omega (arith, n))
+both_none (c ∷ s) e = absurd (hex_some (c ∷ s) (λ f. absurd (cc f)) (sym (ap behind_first e ∙ words_joined (encode_lower (c ∷ s)))))
 
 behind_same : (a b : List ℕ) → AreOctets a → AreOctets b → unknown_words a ≡ unknown_words b → a ≡ b
-unfolding second_octets
+unfolding behind_first
 behind_same [] b h k e = both_none b e
 behind_same (c ∷ s) [] h k e = sym (both_none (c ∷ s) (sym e))
 behind_same (c ∷ s) (d ∷ u) h k e =
-    let digits : encode_lower (c ∷ s) ≡ encode_lower (d ∷ u) = ap second_octets e in
+    let digits : encode_lower (c ∷ s) ≡ encode_lower (d ∷ u) = sym (words_joined (encode_lower (c ∷ s))) ∙ ap behind_first e ∙ words_joined (encode_lower (d ∷ u)) in
     same_ok (c ∷ s) (d ∷ u) (sym (decode_of-encode_lower (c ∷ s) (bytes_of (c ∷ s) h)) ∙ ap hex_of digits ∙ decode_of-encode_lower (d ∷ u) (bytes_of (d ∷ u) k)) where
       same_ok : (x y : List ℕ) → ◌≡◌ {A = Result (List ℕ) FromHexError} (Ok x) (Ok y) → x ≡ y
       same_ok x y f = cc f
@@ -161,6 +145,11 @@ text_same {x = x} {y = y} h k small fits (inl e) (inl f) same = generic_same x y
 text_same {x = x} h k small fits (inl e) (inr own) same = absurd (own_not_generic x own h small (sym same ∙ e))
 text_same {y = y} h k small fits (inr own) (inl f) same = absurd (own_not_generic y own k fits (same ∙ f))
 text_same h k small fits (inr own) (inr other) same = own_same own other same
+
+-- either is printable
+pub text_printable : {origin : Option DomainName} {t : RecordType} {text octets : List ℕ} → AreOctets octets → length octets < 2 ^ 64 → TextIs origin t text octets → ArePrintable text
+text_printable {octets = octets} h small (inl e) = subst ArePrintable (sym e) (generic_cut octets h small).printable
+text_printable h small (inr own) = own.reads.cut.printable
 
 -- one of two texts
 pub one_of : {origin : Option DomainName} {t : RecordType} (b : Bool) {own other octets : List ℕ} → (b ≡ true → OwnText origin t own octets) → other ≡ generic octets

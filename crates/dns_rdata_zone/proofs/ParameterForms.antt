@@ -6,7 +6,7 @@ use Rattle.std.specs.List.{AllByRecursion, list_all, position_or_len}
 use Rattle.std.proofs.{lemmas.Bool.Decides.nat_tests, lemmas.Fmt.decimal_is_IsNumeral, lemmas.Str.Parse.digit_at}
 use Rattle.std.proofs.lemmas.List.{take_at, take_all, drop_at, drop_all}
 use Rattle.dns_rdata_zone.proofs.Letters.{first_true, second_true}
-use Rattle.dns_rdata_zone.proofs.Cuts.{AreCut, bare_word, quoted_word, AreRunOctets, run_both, begins_plain, plain_cut, InQuotes, joined_cut}
+use Rattle.dns_rdata_zone.proofs.Cuts.{AreCut, bare_word, quoted_word, AreRunOctets, run_both, run_printable, begins_plain, plain_cut, InQuotes, joined_cut}
 use Rattle.dns_rdata_zone.proofs.RowForms.{bare_unmarked, run_first, decimal_run}
 use Rattle.dns_rdata_zone.proofs.RestForms.{run_tested}
 use Rattle.dns_zone_words.specs.Words.{Word}
@@ -106,7 +106,7 @@ enclosed_text key name s octets h k v =
     record {
       words = bare_word front ∷ quoted_word true s ∷ [];
       cut = subst (λ (t : List ℕ). AreCut t (bare_word front ∷ quoted_word true s ∷ [])) (append_assoc name (61 ∷ []) (34 ∷ (s ++ 34 ∷ [])))
-          (joined_cut front s (begins_plain front (equals_some name []) run) k);
+          (joined_cut front s (begins_plain front (equals_some name []) run) (run_printable front run) k);
       is = record {
         name = name;
         value = s;

@@ -1,45 +1,37 @@
 -- What takes all words that are left, written and given back: hexadecimal, base64, strings and types.
-use Rattle.std.proofs.Common.{◌≡◌, ◌≢◌, ◌⊎◌, ℕ, suc, ◌+◌, ◌*◌, ◌/◌, ◌%◌, ◌^◌, ◌<◌, ◌≤◌, Bool, true, false, cond, eqb, ◌&&◌, nat_le, List, [], ◌∷◌}
-use Rattle.std.proofs.Common.{◌++◌, length, take, drop, zero, replicate, rules, get_or, decimal, codes, inl, inr, lit<, Option, Some, None, Result}
+use Rattle.std.proofs.Common.{◌≡◌, ◌≢◌, ℕ, suc, ◌+◌, ◌*◌, ◌/◌, ◌%◌, ◌^◌, ◌<◌, ◌≤◌, true, false, List, [], ◌∷◌}
+use Rattle.std.proofs.Common.{◌++◌, length, zero, replicate, rules, decimal, codes, inl, inr, lit<, Option}
 use Rattle.std.proofs.Common.{Ok, refl, sym, ◌∙◌, ap, subst, append_assoc, arith}
-use Rattle.std.specs.Prelude.{flat_map, bytes_eq, slice_index}
-use Rattle.std.specs.{Char.to_ascii_lowercase, Char.is_ascii_alphanumeric, Int.bytes_high_first, Str.str_eq_ignore_ascii_case}
-use Rattle.std.specs.{Str.str_to_ascii_lowercase, List.AllByRecursion, List.list_all, Net.Grammar.IsDotted, Net.Grammar.IsGroups}
-use Rattle.std.specs.{Net.Grammar.IsColonHex, Net.Text.ipv4_text, Net.Text.ipv6_text, Net.Text.hex_groups_text}
-use Rattle.std.specs.{declared.net.ipv4_addr.Ipv4Addr.Ipv4Addr, declared.net.ipv6_addr.Ipv6Addr.Ipv6Addr, Str.Parse.digits_value}
-use Rattle.std.specs.Net.Addr.{IsIpv4Addr, IsIpv6Addr, ipv4_octets, ipv6_octets, ipv6_segments, octets_of}
-use Rattle.std.proofs.{lemmas.Bool.Decides.nat_tests, lemmas.Fmt.decimal_is_IsNumeral, lemmas.Fmt.length-decimal-le, lemmas.List.append-nil}
-use Rattle.std.proofs.{lemmas.List.Elements.All-head, lemmas.List.Elements.All-tail, lemmas.Str.Parse.digit_at}
-use Rattle.std.proofs.NetLemmas.Alphabet.{IsDigitOrDot, IsHexOrColon, All-ipv4_text, All-hex_groups_text}
-use Rattle.std.proofs.NetLemmas.Texts.{IsDotted-ipv4_text, IsColonHex-ipv6_text, AllSegments, AllSegments-drop}
-use Rattle.dns_fields.specs.{Pieces.string as string_octets, Labels.DomainName, Labels.IsName, Octets.AreOctets, Bitmaps.block, Bitmaps.minimal}
+use Rattle.std.specs.Prelude.{flat_map, slice_index}
+use Rattle.std.specs.{List.AllByRecursion, List.list_all}
+use Rattle.std.specs.{Str.Parse.digits_value}
+use Rattle.std.proofs.{lemmas.Fmt.decimal_is_IsNumeral, lemmas.Fmt.length-decimal-le, lemmas.List.append-nil}
+use Rattle.std.proofs.{lemmas.List.Elements.All-head, lemmas.List.Elements.All-tail}
+use Rattle.dns_fields.specs.{Pieces.string as string_octets, Labels.DomainName, Octets.AreOctets, Bitmaps.block, Bitmaps.minimal}
 use Rattle.dns_types.specs.{RecordTypes.number_of, RecordTypes.record_type_of, RecordTypes.IsTypeText, declared.record_type.RecordType.RecordType}
 use Rattle.dns_types.specs.declared.record_type.RecordType.TheVariants.{ZERO, ANAME, Unknown}
 use Rattle.dns_types.proofs.RecordTypeLaws.{number_of-record_type_of}
-use Rattle.dns_words.proofs.Printed.{ipv4_back, ipv6_back}
-use Rattle.dns_zone_words.specs.{Forms.text, NameWords.name, NameWords.name_octets, Words.Word, Words.between, Words.words_from}
-use Rattle.dns_zone_words.specs.Remaining.{AreUnknown, IsUnknownMark, AreStrings, AreHex, AreBase64}
-use Rattle.dns_zone_words.specs.declared.words_error.WordsError.{WordsError}
-use Rattle.hex.specs.Hex.{encode_with, encode_lower, lower_digits, decode_of as hex_of, decode_pairs, IsBytes}
-use Rattle.hex.specs.declared.error.FromHexError.{FromHexError}
+use Rattle.dns_zone_words.specs.{Words.Word}
+use Rattle.dns_zone_words.specs.Remaining.{AreStrings, AreHex, AreBase64}
+use Rattle.hex.specs.Hex.{encode_with, encode_lower, lower_digits, decode_of as hex_of, decode_pairs}
 use Rattle.hex.proofs.HexLemmas.{decode_of-encode_lower}
 use Rattle.base64.specs.{Engines.standard, Rfc4648.encode_symbols, Rfc4648.padding_len}
 use Rattle.base64.specs.GeneralPurpose.{encode_of, decode_of as base64_of}
 use Rattle.base64.proofs.EngineFacts.{decode_of-encode_of}
-use Rattle.dns_zone_rows.proofs.Once.{row_once}
-use Rattle.dns_zone_rows.specs.Mnemonics.{Named, number_named, IsNamedNumber, cert_types, algorithms}
-use Rattle.dns_zone_rows.specs.Rows.{RowShape, RowGives, IsTypeNumber, AreTypes, FieldKind, Number, NamedNumber, Ttl, Ipv4, Ipv6, Name, String, Tag}
-use Rattle.dns_zone_rows.specs.Rows.{Octets, RestKind, SomeStrings, SomeHex, SomeBase64, AnyTypes, FieldGives, RestGives, FieldsGive}
-use Rattle.dns_zone_rows.specs.RowTable.{row_of}
-use Rattle.dns_rdata_zone.specs.{Names.zone_label, Names.zone_labels, Names.zone_name, Strings.quoted, Strings.spaced, ZoneGives.GiveByRow}
-use Rattle.dns_rdata_zone.specs.{ZoneGives.AreUnmarked, ZoneGives.TextGives, Records.zone_type, Generic.generic}
-use Rattle.dns_rdata_zone.specs.Spellings.{escaped, needs_backslash, name_octet}
-use Rattle.dns_rdata_zone.proofs.Cuts.{AreCut, cut_then, bare_word, quoted_word, is_run_octet, plain_cut, bare_cut, mark_begins, AreRunOctets}
-use Rattle.dns_rdata_zone.proofs.Cuts.{run_not, run_by_index, run_all, run_both, quoted_cut, spelled_quotes, name_cut, NoneEmpty}
+use Rattle.dns_zone_rows.specs.Rows.{IsTypeNumber, AreTypes, FieldKind}
+use Rattle.dns_zone_rows.specs.Rows.{RestKind, SomeStrings, SomeHex, SomeBase64, AnyTypes, RestGives}
+use Rattle.dns_rdata_zone.specs.{Strings.quoted, Strings.spaced}
+use Rattle.dns_rdata_zone.specs.{ZoneGives.AreUnmarked, Records.zone_type}
+use Rattle.dns_rdata_zone.specs.Spellings.{escaped}
+use Rattle.dns_rdata_zone.proofs.Cuts.{AreCut, cut_then, bare_word, quoted_word, is_run_octet, plain_cut, AreRunOctets}
+use Rattle.dns_rdata_zone.proofs.Cuts.{run_not, run_both, quoted_cut, spelled_quotes}
+use Rattle.dns_rdata_zone.specs.Tokens.{in_tokens}
+use Rattle.dns_rdata_zone.proofs.TokenWords.{digit_words, split_words, tokens_cut, words_bare, words_joined}
+use Rattle.dns_zone_words.specs.Remaining.{joined}
 use Rattle.dns_rdata_zone.proofs.Letters.{first_true, second_true}
-use Rattle.dns_rdata_zone.proofs.WordForms.{number_form, ttl_form, text_form, name_form}
+use Rattle.dns_rdata_zone.proofs.WordForms.{text_form}
 use Rattle.dns_rdata_zone.proofs.RowForms.{FieldText, RowText, bare_unmarked, bytes_of, decimal_run, quoted_unmarked, row_last, row_text}
-use Rattle.dns_rdata_zone.proofs.RowForms.{row_then, run_first, wide}
+use Rattle.dns_rdata_zone.proofs.RowForms.{row_then, run_first}
 
 -- ---- what takes all words that are left
 
@@ -77,15 +69,27 @@ pub hex_none : hex_of [] ≡ Ok []
 unfolding decode_pairs
 hex_none = refl
 
-pub hex_form : (s : List ℕ) → AreOctets s → AreHex s (bare_word (encode_lower s) ∷ [])
-hex_form s h = record { bare = (refl, tt); digits = ap hex_of (append-nil (encode_lower s)) ∙ decode_of-encode_lower s (bytes_of s h) }
+pub hex_form : (s : List ℕ) → AreOctets s → AreHex s (digit_words (encode_lower s))
+hex_form s h = record { bare = words_bare (encode_lower s); digits = ap hex_of (words_joined (encode_lower s)) ∙ decode_of-encode_lower s (bytes_of s h) }
 
-pub hex_text : (s : List ℕ) → s ≢ [] → AreOctets s → RestText SomeHex (encode_lower s) s
+-- digits in tokens do not begin the form of unknown data
+digits_unmarked : (s : List ℕ) → s ≢ [] → AreRunOctets s → AreUnmarked (digit_words s)
+digits_unmarked [] some h = absurd (some refl)
+digits_unmarked (c ∷ s) some h = split_unmarked 1019 c [] s (run_not c h.0) where
+  split_unmarked : (left c : ℕ) (front s : List ℕ) → c ≢ 92 → AreUnmarked (split_words left (c ∷ front) s)
+  split_unmarked left c front [] other = bare_unmarked (c ∷ front) other
+  split_unmarked zero c front (d ∷ s) other = bare_unmarked (c ∷ front) other
+  split_unmarked (suc left) c front (d ∷ s) other = split_unmarked left c (front ++ d ∷ []) s other
+
+digits_there : (s : List ℕ) → s ≢ [] → digit_words s ≢ []
+digits_there s some e = some (sym (words_joined s) ∙ ap joined e)
+
+pub hex_text : (s : List ℕ) → s ≢ [] → AreOctets s → RestText SomeHex (in_tokens (encode_lower s)) s
 hex_text s some h = record {
-  words = bare_word (encode_lower s) ∷ [];
-  cut = plain_cut (encode_lower s) (hex_some s some) (hex_run s h);
-  gives = ((λ e. absurd (cc e)), hex_form s h);
-  unmarked = bare_unmarked (encode_lower s) (run_first (encode_lower s) (hex_some s some) (hex_run s h));
+  words = digit_words (encode_lower s);
+  cut = tokens_cut (encode_lower s) (hex_some s some) (hex_run s h);
+  gives = (digits_there (encode_lower s) (hex_some s some), hex_form s h);
+  unmarked = digits_unmarked (encode_lower s) (hex_some s some) (hex_run s h);
 }
 
 -- ---- base64
@@ -142,18 +146,18 @@ symbols_some (a ∷ b ∷ c ∷ s) rest h = λ e. absurd (cc e)
 pub base64_some : (s : List ℕ) → s ≢ [] → encode_of standard s ≢ []
 base64_some s h = symbols_some s (replicate (padding_len (length s)) 61) h
 
-pub base64_form : (s : List ℕ) → AreOctets s → AreBase64 s (bare_word (encode_of standard s) ∷ [])
+pub base64_form : (s : List ℕ) → AreOctets s → AreBase64 s (digit_words (encode_of standard s))
 base64_form s h = record {
-  bare = (refl, tt);
-  digits = ap (base64_of standard) (append-nil (encode_of standard s)) ∙ decode_of-encode_of standard s (search rules) (bytes_of s h);
+  bare = words_bare (encode_of standard s);
+  digits = ap (base64_of standard) (words_joined (encode_of standard s)) ∙ decode_of-encode_of standard s (search rules) (bytes_of s h);
 }
 
-pub base64_text : (s : List ℕ) → s ≢ [] → AreOctets s → RestText SomeBase64 (encode_of standard s) s
+pub base64_text : (s : List ℕ) → s ≢ [] → AreOctets s → RestText SomeBase64 (in_tokens (encode_of standard s)) s
 base64_text s some h = record {
-  words = bare_word (encode_of standard s) ∷ [];
-  cut = plain_cut (encode_of standard s) (base64_some s some) (base64_run s h);
-  gives = ((λ e. absurd (cc e)), base64_form s h);
-  unmarked = bare_unmarked (encode_of standard s) (run_first (encode_of standard s) (base64_some s some) (base64_run s h));
+  words = digit_words (encode_of standard s);
+  cut = tokens_cut (encode_of standard s) (base64_some s some) (base64_run s h);
+  gives = (digits_there (encode_of standard s) (base64_some s some), base64_form s h);
+  unmarked = digits_unmarked (encode_of standard s) (base64_some s some) (base64_run s h);
 }
 
 -- ---- lists with a blank between two
@@ -209,7 +213,7 @@ typed n t small e = inl (record { named = refl; printed = refl })
 pub type_form : (n : ℕ) → n < 2 ^ 16 → IsTypeNumber n (bare_word (zone_type (record_type_of n)))
 type_form n small = record {
   record_type = record_type_of n;
-  is = record { bare = refl; text = typed n (record_type_of n) small refl };
+  is = record { bare = refl; text = inl (typed n (record_type_of n) small refl) };
   number = sym (number_of-record_type_of n);
 }
 

@@ -1,40 +1,30 @@
 -- Fields that were written give their octets, and so do rows of them.
-use Rattle.std.proofs.Common.{◌≡◌, ◌≢◌, ◌⊎◌, ℕ, suc, ◌+◌, ◌*◌, ◌/◌, ◌%◌, ◌^◌, ◌<◌, ◌≤◌, Bool, true, false, cond, eqb, ◌&&◌, nat_le, List, [], ◌∷◌}
-use Rattle.std.proofs.Common.{◌++◌, length, take, drop, zero, replicate, rules, get_or, decimal, codes, inl, inr, lit<, Option, Some, None, Result}
-use Rattle.std.proofs.Common.{Ok, refl, sym, ◌∙◌, ap, subst, append_assoc, arith}
-use Rattle.std.specs.Prelude.{flat_map, bytes_eq, slice_index}
+use Rattle.std.proofs.Common.{◌≡◌, ◌≢◌, ℕ, suc, ◌+◌, ◌*◌, ◌/◌, ◌%◌, ◌^◌, ◌<◌, ◌≤◌, Bool, true, false, cond, eqb, ◌&&◌, nat_le, List, [], ◌∷◌}
+use Rattle.std.proofs.Common.{◌++◌, length, take, drop, zero, get_or, decimal, codes, inl, inr, Option, None}
+use Rattle.std.proofs.Common.{refl, sym, ◌∙◌, ap, subst, append_assoc, arith}
+use Rattle.std.specs.Prelude.{flat_map, bytes_eq}
 use Rattle.std.specs.{Char.to_ascii_lowercase, Char.is_ascii_alphanumeric, Int.bytes_high_first, Str.str_eq_ignore_ascii_case}
 use Rattle.std.specs.{Str.str_to_ascii_lowercase, List.AllByRecursion, List.list_all, Net.Grammar.IsDotted, Net.Grammar.IsGroups}
 use Rattle.std.specs.{Net.Grammar.IsColonHex, Net.Text.ipv4_text, Net.Text.ipv6_text, Net.Text.hex_groups_text}
-use Rattle.std.specs.{declared.net.ipv4_addr.Ipv4Addr.Ipv4Addr, declared.net.ipv6_addr.Ipv6Addr.Ipv6Addr, Str.Parse.digits_value}
+use Rattle.std.specs.{declared.net.ipv4_addr.Ipv4Addr.Ipv4Addr, declared.net.ipv6_addr.Ipv6Addr.Ipv6Addr}
 use Rattle.std.specs.Net.Addr.{IsIpv4Addr, IsIpv6Addr, ipv4_octets, ipv6_octets, ipv6_segments, octets_of}
-use Rattle.std.proofs.{lemmas.Bool.Decides.nat_tests, lemmas.Fmt.decimal_is_IsNumeral, lemmas.Fmt.length-decimal-le, lemmas.List.append-nil}
+use Rattle.std.proofs.{lemmas.Bool.Decides.nat_tests, lemmas.Fmt.decimal_is_IsNumeral}
 use Rattle.std.proofs.{lemmas.List.Elements.All-head, lemmas.List.Elements.All-tail, lemmas.Str.Parse.digit_at}
 use Rattle.std.proofs.NetLemmas.Alphabet.{IsDigitOrDot, IsHexOrColon, All-ipv4_text, All-hex_groups_text}
 use Rattle.std.proofs.NetLemmas.Texts.{IsDotted-ipv4_text, IsColonHex-ipv6_text, AllSegments, AllSegments-drop}
-use Rattle.dns_fields.specs.{Pieces.string as string_octets, Labels.DomainName, Labels.IsName, Octets.AreOctets, Bitmaps.block, Bitmaps.minimal}
-use Rattle.dns_types.specs.{RecordTypes.number_of, RecordTypes.record_type_of, RecordTypes.IsTypeText, declared.record_type.RecordType.RecordType}
-use Rattle.dns_types.specs.declared.record_type.RecordType.TheVariants.{ZERO, ANAME, Unknown}
-use Rattle.dns_types.proofs.RecordTypeLaws.{number_of-record_type_of}
+use Rattle.dns_fields.specs.{Pieces.string as string_octets, Labels.DomainName, Labels.IsName, Octets.AreOctets}
 use Rattle.dns_words.proofs.Printed.{ipv4_back, ipv6_back}
-use Rattle.dns_zone_words.specs.{Forms.text, NameWords.name, NameWords.name_octets, Words.Word, Words.between, Words.words_from}
-use Rattle.dns_zone_words.specs.Remaining.{AreUnknown, IsUnknownMark, AreStrings, AreHex, AreBase64}
-use Rattle.dns_zone_words.specs.declared.words_error.WordsError.{WordsError}
-use Rattle.hex.specs.Hex.{encode_with, encode_lower, lower_digits, decode_of as hex_of, decode_pairs, IsBytes}
-use Rattle.hex.specs.declared.error.FromHexError.{FromHexError}
-use Rattle.hex.proofs.HexLemmas.{decode_of-encode_lower}
-use Rattle.base64.specs.{Engines.standard, Rfc4648.encode_symbols, Rfc4648.padding_len}
-use Rattle.base64.specs.GeneralPurpose.{encode_of, decode_of as base64_of}
-use Rattle.base64.proofs.EngineFacts.{decode_of-encode_of}
-use Rattle.dns_zone_rows.proofs.Once.{row_once}
-use Rattle.dns_zone_rows.specs.Mnemonics.{Named, number_named, IsNamedNumber, cert_types, algorithms}
-use Rattle.dns_zone_rows.specs.Rows.{RowShape, RowGives, IsTypeNumber, AreTypes, FieldKind, Number, NamedNumber, Ttl, Ipv4, Ipv6, Name, String, Tag}
-use Rattle.dns_zone_rows.specs.Rows.{Octets, RestKind, SomeStrings, SomeHex, SomeBase64, AnyTypes, FieldGives, RestGives, FieldsGive}
-use Rattle.dns_zone_rows.specs.RowTable.{row_of}
-use Rattle.dns_rdata_zone.specs.{Names.zone_label, Names.zone_labels, Names.zone_name, Strings.quoted, Strings.spaced, ZoneGives.GiveByRow}
-use Rattle.dns_rdata_zone.specs.{ZoneGives.AreUnmarked, ZoneGives.TextGives, Records.zone_type, Generic.generic}
+use Rattle.dns_zone_words.specs.{NameWords.name, NameWords.name_octets, Words.Word}
+use Rattle.dns_zone_words.specs.Remaining.{IsUnknownMark}
+use Rattle.hex.specs.Hex.{IsBytes}
+use Rattle.dns_zone_words.specs.Mnemonics.{Named, number_named}
+use Rattle.dns_zone_rows.specs.Mnemonics.{IsNamedNumber, cert_types, algorithms}
+use Rattle.dns_zone_rows.specs.Rows.{FieldKind, Number, NamedNumber, Ttl, Ipv4, Ipv6, Name, String, Tag}
+use Rattle.dns_zone_rows.specs.Rows.{Octets, RestKind, FieldGives, RestGives, FieldsGive}
+use Rattle.dns_rdata_zone.specs.{Names.zone_label, Names.zone_labels, Names.zone_name, Strings.quoted}
+use Rattle.dns_rdata_zone.specs.{ZoneGives.AreUnmarked}
 use Rattle.dns_rdata_zone.specs.Spellings.{escaped, needs_backslash, name_octet}
-use Rattle.dns_rdata_zone.proofs.Cuts.{AreCut, cut_then, bare_word, quoted_word, is_run_octet, plain_cut, bare_cut, mark_begins, AreRunOctets}
+use Rattle.dns_rdata_zone.proofs.Cuts.{AreCut, cut_then, bare_word, quoted_word, is_run_octet, plain_cut, AreRunOctets}
 use Rattle.dns_rdata_zone.proofs.Cuts.{run_not, run_by_index, run_all, run_both, quoted_cut, spelled_quotes, name_cut, NoneEmpty}
 use Rattle.dns_rdata_zone.proofs.Letters.{first_true, second_true}
 use Rattle.dns_rdata_zone.proofs.WordForms.{number_form, ttl_form, text_form, name_form}

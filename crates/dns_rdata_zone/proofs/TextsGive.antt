@@ -16,7 +16,7 @@ use Rattle.dns_rdata.specs.declared.record_data.RData.TheVariants as rdata
 use Rattle.dns_rdata_base.specs.{declared.naptr.NAPTR.NAPTR, declared.soa.SOA.SOA}
 use Rattle.dns_rdata_certs.specs.Enums.{cert_algorithm_number, cert_type_number, cert_usage_number, matching_number, selector_number}
 use Rattle.dns_rdata_certs.specs.Enums.{sshfp_algorithm_number, fingerprint_type_number}
-use Rattle.dns_rdata_certs.specs.{CERT.cert_data_text, TLSA.tlsa_shape, TLSA.tlsa_fields}
+use Rattle.dns_rdata_certs.specs.{TLSA.tlsa_shape, TLSA.tlsa_fields}
 use Rattle.dns_rdata_certs.specs.declared.{cert.CERT.CERT, sshfp.SSHFP.SSHFP, tlsa.TLSA.TLSA}
 use Rattle.dns_rdata_options.specs.OPT.{pair_value}
 use Rattle.dns_rdata_service.specs.{Parameters.Parameter, Parameters.parameter_of, declared.svcb.SVCB.SVCB}
@@ -25,13 +25,14 @@ use Rattle.dns_zone_rows.specs.RowTable.{row_of}
 use Rattle.dns_zone_rows.specs.Rows.{FieldKind, Number, RestKind, Name, String, NoWord, SomeHex, SomeBase64, SomeStrings, AnyTypes, AnyParameters}
 use Rattle.dns_rdata_zone.specs.{Generic.generic, Names.zone_name, Parameters.has_text, Parameters.zone_parameter, Records.zone_strings}
 use Rattle.dns_rdata_zone.specs.{Records.zone_tlsa, Records.zone_type, Records.has_plain_tag, Services.service_octets, Services.zone_service}
-use Rattle.dns_rdata_zone.specs.{Strings.quoted, ZoneReads.TextsGive, ZoneReads.TextsTell, ZoneTexts.zone_text, ZoneTexts.zone_octets}
+use Rattle.dns_rdata_zone.specs.{Strings.quoted, ZoneReads.TextsGive, ZoneReads.TextsPrint, ZoneReads.TextsTell, ZoneTexts.zone_text, ZoneTexts.zone_octets}
 use Rattle.dns_rdata_zone.specs.Readable.{IsString, IsWritable, IsWritableParameter, IsWritableService, IsWritableTlsa, FieldsFit}
+use Rattle.dns_rdata_zone.specs.Tokens.{in_tokens}
 use Rattle.dns_rdata_zone.proofs.{Cuts.NoneEmpty, Letters.first_true, Letters.second_true, OptionDigits.options_pieces}
 use Rattle.dns_rdata_zone.proofs.ParametersGive.{some_there, parameters_text, parameters_are}
 use Rattle.dns_rdata_zone.proofs.RowForms.{FieldText, RowText, row_then, row_last, row_text}
 use Rattle.dns_rdata_zone.proofs.RestForms.{RestText, ListText, row_rest, row_list, hex_text, base64_text, strings_text, types_text}
-use Rattle.dns_rdata_zone.proofs.OwnTexts.{OwnText, TextIs, text_gives, text_same, one_of}
+use Rattle.dns_rdata_zone.proofs.OwnTexts.{OwnText, TextIs, text_gives, text_printable, text_same, one_of}
 use Rattle.dns_rdata_zone.proofs.RowForms.{short_text, cert_text, algorithm_text, ttl_text, name_text, string_text, octets_text, tag_text}
 use Rattle.dns_rdata_zone.proofs.RowForms.{ipv4_text_of, ipv6_text_of, alphanumeric_run}
 
@@ -151,7 +152,7 @@ cert_law origin x k =
     let a = cert_type_number x.cert_type in
     let c = cert_algorithm_number x.algorithm in
     one_of (is_some x.cert_data)
-    (λ some. own origin types.CERT _ SomeBase64 _ _ refl (row_text (four (decimal a) (decimal x.key_tag) (decimal c) (cert_data_text x))
+    (λ some. own origin types.CERT _ SomeBase64 _ _ refl (row_text (four (decimal a) (decimal x.key_tag) (decimal c) (in_tokens (encode_of standard x.cert_data)))
     (row_then (cert_text origin a k.0)
     (row_then (short_text origin 2 x.key_tag (omega arith) k.1)
     (row_then (algorithm_text origin c k.2)
@@ -164,7 +165,7 @@ sshfp_law origin x k =
     let a = sshfp_algorithm_number x.algorithm in
     let b = fingerprint_type_number x.fingerprint_type in
     one_of (is_some x.fingerprint)
-    (λ some. own origin types.SSHFP _ SomeHex _ _ refl (row_text (three (decimal a) (decimal b) (encode_lower x.fingerprint))
+    (λ some. own origin types.SSHFP _ SomeHex _ _ refl (row_text (three (decimal a) (decimal b) (in_tokens (encode_lower x.fingerprint)))
     (row_then (short_text origin 1 a (omega arith) k.0) (row_then (short_text origin 1 b (omega arith) k.1) (all (hex_text x.fingerprint (some_there x.fingerprint some) k.2))))))
     refl
 
@@ -177,12 +178,12 @@ tlsa_law origin t e x k =
     let c = matching_number x.matching in
     one_of (is_some x.cert_data)
     (λ some. own origin t (Number 1 ∷ Number 1 ∷ Number 1 ∷ []) SomeHex _ _ e
-    (row_text (four (decimal a) (decimal b) (decimal c) (encode_lower x.cert_data))
+    (row_text (four (decimal a) (decimal b) (decimal c) (in_tokens (encode_lower x.cert_data)))
     (row_then (short_text origin 1 a (omega arith) k.0) (row_then (short_text origin 1 b (omega arith) k.1)
     (row_then (short_text origin 1 c (omega arith) k.2) (all (hex_text x.cert_data (some_there x.cert_data some) k.3)))))))
     refl
 
-key_law : (origin : Option DomainName) (s : List ℕ) → AreOctets s → TextIs origin types.OPENPGPKEY (cond (is_some s) (encode_of standard s) (generic [])) (s ++ [])
+key_law : (origin : Option DomainName) (s : List ℕ) → AreOctets s → TextIs origin types.OPENPGPKEY (cond (is_some s) (in_tokens (encode_of standard s)) (generic [])) (s ++ [])
 key_law origin [] k = inl refl
 key_law origin (c ∷ s) k = inr (own origin types.OPENPGPKEY [] SomeBase64 _ _ refl (all (base64_text (c ∷ s) (λ e. absurd (cc e)) k)))
 
@@ -245,6 +246,9 @@ texts_are origin rdata.ZERO h = inl refl
 
 pub texts_give : TextsGive
 texts_give origin v h small = text_gives h.octets.octets small (texts_are origin v h.fields)
+
+pub texts_print : TextsPrint
+texts_print v h = text_printable h.octets.octets h.octets.short (texts_are None v h.fields)
 
 pub texts_tell : TextsTell
 texts_tell v w h k same text = text_same h.octets.octets k.octets.octets h.octets.short k.octets.short (texts_are None v h.fields)

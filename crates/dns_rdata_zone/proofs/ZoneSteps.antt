@@ -10,14 +10,14 @@ use Rattle.dns_types.specs.declared.record_type.RecordType.{RecordType}
 use Rattle.dns_types.specs.declared.error.DecodeError.TheVariants as decode
 use Rattle.dns_types.specs.declared.error.ParseError.TheVariants as parse
 use Rattle.dns_words.specs.Reads.{UnlessParseMemory}
-use Rattle.dns_zone_rows.specs.{RowFaults.row_value, RowFaults.RowFault, RowTable.row_of, Rows.RowShape, declared.row.ZoneRow.ZoneRow}
+use Rattle.dns_zone_rows.specs.{RowFaults.row_value, RowFaults.RowFault, RowTable.row_of, RowTexts.row_texts, RowTexts.texts_of, declared.row.ZoneRow.ZoneRow}
 use Rattle.dns_zone_words.specs.{Refusals.Says, Remaining.AreUnknown, Remaining.TookAll, declared.words_error.WordsError.WordsError}
 use Rattle.dns_zone_words.specs.Words.{Word, Cursor, words_at, with_word, zone_words}
 use Rattle.dns_words.proofs.Steps.{unless_map}
 use Rattle.dns_rdata_zone.specs.ZoneGives.{AreUnknownData, AreUnmarked, GiveByRow, WordsGive, IsWhole, has_name, AreDataOf, GivesValue, GivesNone}
 use Rattle.dns_rdata_zone.specs.ZoneGives.{at_start}
-use Rattle.dns_rdata_zone.specs.ZoneFaults.{AreMany, AreRefused, OctetsFault, IsBehindMark, HasPointer, DataFault, BehindMarkFault, MarkedFault}
-use Rattle.dns_rdata_zone.specs.ZoneFaults.{HasNoMark, LacksRow, WordsFault, GivenFault, ByRowFault, UnmarkedFault, ZoneFault}
+use Rattle.dns_rdata_zone.specs.ZoneFaults.{OctetsFault, IsBehindMark, BehindMarkFault}
+use Rattle.dns_rdata_zone.specs.ZoneFaults.{HasNoMark, LacksRow, WordsFault, ByRowFault, ZoneFault}
 use Rattle.dns_rdata_zone.specs.ZoneSteps.{AreNoData, UnknownIs, UnknownIsNone, RowIs, RowIsNone}
 use Rattle.dns_rdata_zone.proofs.ZoneOnce.{same_words, unknown_once, by_row_once, data_one}
 
@@ -82,16 +82,24 @@ row_refused (Ok x) origin t octets s text cursor starts same took h = tt
 row_refused (Err e) origin t octets s text cursor starts same took h =
     row_none e origin t octets text cursor starts took (subst (λ (o : List ℕ). UnlessParseMemory e (AreNoData o t)) same h)
 
-same_rows : (o : Option ZoneRow) (row : ZoneRow) (r : Option RowShape) → o ≡ Some row → option_map row_value o ≡ r → r ≡ Some (row_value row)
-same_rows o row r e f = sym f ∙ ap (option_map row_value) e
+-- what is the same of the rows is the same of the one row
+same_rows : {T : Type 0} (view : ZoneRow → T) (o : Option ZoneRow) (row : ZoneRow) (r : Option T) → o ≡ Some row → option_map view o ≡ r → r ≡ Some (view row)
+same_rows view o row r e f = sym f ∙ ap (option_map view) e
 
 pub row_fault : {T : Type 0} (origin : Option DomainName) (t : RecordType) (text : List ℕ) (o : Option ZoneRow) (row : ZoneRow) (cursor : Cursor) (r : Result T ParseError)
-    → o ≡ Some row → option_map row_value o ≡ row_of t → words_at cursor ≡ zone_words text → IfErr r (λ e. (e ≡ parse.Memory) ⊎ RowFault origin row cursor e)
+    → o ≡ Some row → option_map row_value o ≡ row_of t → option_map row_texts o ≡ texts_of t → words_at cursor ≡ zone_words text → IfErr r (λ e. (e ≡ parse.Memory) ⊎ RowFault origin row cursor e)
     → IfErr r (λ e. (e ≡ parse.Memory) ⊎ LacksRow t e ⊎ WordsFault origin t text e)
-row_fault origin t text o row cursor (Ok x) e f starts h = tt
-row_fault origin t text o row cursor (Err y) e f starts (inl memory) = inl memory
-row_fault origin t text o row cursor (Err y) e f starts (inr fault) =
-    inr (inr (record { row = row; of_type = same_rows o row (row_of t) e f; cursor = cursor; starts = starts; has = fault }))
+row_fault origin t text o row cursor (Ok x) e f g starts h = tt
+row_fault origin t text o row cursor (Err y) e f g starts (inl memory) = inl memory
+row_fault origin t text o row cursor (Err y) e f g starts (inr fault) =
+    inr (inr (record {
+      row = row;
+      of_type = same_rows row_value o row (row_of t) e f;
+      texts = same_rows row_texts o row (texts_of t) e g;
+      cursor = cursor;
+      starts = starts;
+      has = fault;
+    }))
 
 -- ---- why octets are refused
 

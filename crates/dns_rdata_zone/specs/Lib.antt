@@ -1,13 +1,16 @@
 pub mod Generic
 pub mod Lists
+pub mod NameTexts
 pub mod Names
 pub mod Options
 pub mod Parameters
+pub mod Printable
 pub mod Readable
 pub mod Records
 pub mod Services
 pub mod Spellings
 pub mod Strings
+pub mod Tokens
 pub mod ZoneFaults
 pub mod ZoneGives
 pub mod ZoneReads

@@ -1,6 +1,5 @@
 -- OPT has no text of its own: its options as unknown data, in their order (RFC 6891, 6.1.2; RFC 3597, 5).
 use Rattle.std.specs.Prelude.{ℕ, List, flat_map, take}
-use Rattle.hex.specs.Hex.{encode_lower}
 use Rattle.dns_fields.specs.Pieces.{piece, as_piece, option_octets, Subnet}
 use Rattle.dns_rdata_options.specs.{ClientSubnet.prefix_octets, OPT.Pair, OPT.pair_value}
 use Rattle.dns_rdata_zone.specs.Generic.{generic}
@@ -15,9 +14,6 @@ pair_octets p = piece (as_piece option_octets (pair_value p))
 
 abbrev pub options_octets : List Pair → List ℕ
 options_octets pairs = flat_map pair_octets pairs
-
-abbrev pub option_digits : Pair → List ℕ
-option_digits p = encode_lower (pair_octets p)
 
 abbrev pub zone_options : List Pair → List ℕ
 zone_options pairs = generic (options_octets pairs)

@@ -6,7 +6,7 @@ use Rattle.dns_rdata.specs.{Refusals.IsRefusal, declared.record_data.RData.RData
 use Rattle.dns_types.specs.{Errors.decode_refusal, Errors.proto_refusal, declared.error.DecodeError.DecodeError, declared.error.ParseError.ParseError}
 use Rattle.dns_types.specs.declared.record_type.RecordType.{RecordType}
 use Rattle.dns_types.specs.declared.error.ParseError.TheVariants as parse
-use Rattle.dns_zone_rows.specs.{RowFaults.row_value, RowFaults.RowFault, RowTable.row_of, declared.row.ZoneRow.ZoneRow}
+use Rattle.dns_zone_rows.specs.{RowFaults.row_value, RowFaults.RowFault, RowTable.row_of, RowTexts.row_texts, RowTexts.texts_of, declared.row.ZoneRow.ZoneRow}
 use Rattle.dns_zone_words.specs.{Refusals.Says, Words.Word, Words.Cursor, Words.words_at, Words.with_word, Words.zone_words, ZoneReads.IsCutRefused}
 use Rattle.dns_zone_words.specs.Remaining.{AreUnknown, IsUnknownMark, TookAll, UnknownFault}
 use Rattle.dns_rdata_zone.specs.ZoneGives.{AreUnmarked, GiveByRow, AreDataOf, IsWhole, at_start}
@@ -70,10 +70,12 @@ pub record LacksRow (t : RecordType) (e : ParseError) : Type 0 where
   pub says : e ≡ parse.UnsupportedRecordType t
   pub none : row_of t ≡ None
 
--- the words give no octets by the row, and the refusal names the first field at fault
+-- The words give no octets by the row of the type, whose texts are those of the type. The error names the first field at fault,
+-- and says what is wrong with its token.
 pub record WordsFault (origin : Option DomainName) (t : RecordType) (text : List ℕ) (e : ParseError) : Type 0 where
   pub row : ZoneRow
   pub of_type : row_of t ≡ Some (row_value row)
+  pub texts : texts_of t ≡ Some (row_texts row)
   pub cursor : Cursor
   pub starts : words_at cursor ≡ zone_words text
   pub has : RowFault origin row cursor e

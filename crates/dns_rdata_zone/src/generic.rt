@@ -5,12 +5,13 @@ ghost use Rattle.hex.specs.Hex.{encode_lower};
 ghost use Rattle.dns_rdata_zone.specs.Generic.{generic};
 ghost use Rattle.dns_rdata.specs.WholeOctets.{name_octets};
 
+use crate::tokens::HexTokens;
 use dns_rdata::Name;
 use dns_rdata_certs::hexadecimal::Hexadecimal;
 use std::fmt;
 
-/// Octets in the form of unknown record data (RFC 3597, 5): `\#`, their number and their hexadecimal digits in lower
-/// case, a blank between. Takes no memory.
+/// Octets in the form of unknown record data (RFC 3597, section 5): `\#`, their number, and their hexadecimal digits in
+/// lower case, in tokens of at most 1,020 characters, with a blank between. Allocates nothing.
 #[derive(Clone, Copy)]
 pub struct Generic<'a>(pub &'a [u8]);
 
@@ -24,7 +25,7 @@ impl fmt::Display for Generic<'_> {
         if count == 0 {
             return f.write_str("\\# 0");
         }
-        let digits = Hexadecimal(octets);
+        let digits = HexTokens::new(octets);
         write!(f, "\\# {count} {digits}")
     }
 }

@@ -4,9 +4,9 @@ ghost use Rattle.std.specs.Prelude.{Some};
 ghost use Rattle.dns_rdata_zone.specs.Records.{zone_cert, zone_sshfp, zone_tlsa, zone_openpgpkey};
 
 use crate::generic::Generic;
+use crate::tokens::{Base64Tokens, HexTokens};
 use dns_pieces::Head;
 use dns_rdata::{CERT, OPENPGPKEY, SSHFP, TLSA};
-use dns_words::Base64Text;
 use std::fmt;
 
 /// CERT: numbers in decimal, and base64; where there is no certificate, the form of unknown data.
@@ -29,7 +29,7 @@ impl fmt::Display for ZoneCert<'_> {
         }
         let cert_type = x.cert_type.number();
         let algorithm = x.algorithm.number();
-        let data = Base64Text(data);
+        let data = Base64Tokens(data);
         write!(f, "{cert_type} {} {algorithm} {data}", x.key_tag)
     }
 }
@@ -50,7 +50,10 @@ impl fmt::Display for ZoneSshfp<'_> {
             head.one(x.fingerprint_type.number());
             return f.write(Generic(head.as_slice()));
         }
-        write!(f, "{x}")
+        let algorithm = x.algorithm.number();
+        let fingerprint_type = x.fingerprint_type.number();
+        let fingerprint = HexTokens::new(x.fingerprint.as_slice());
+        write!(f, "{algorithm} {fingerprint_type} {fingerprint}")
     }
 }
 
@@ -71,7 +74,11 @@ impl fmt::Display for ZoneTlsa<'_> {
             head.one(x.matching.number());
             return f.write(Generic(head.as_slice()));
         }
-        write!(f, "{x}")
+        let usage = x.cert_usage.number();
+        let selector = x.selector.number();
+        let matching = x.matching.number();
+        let data = HexTokens::new(x.cert_data.as_slice());
+        write!(f, "{usage} {selector} {matching} {data}")
     }
 }
 
@@ -87,6 +94,6 @@ impl fmt::Display for ZoneOpenpgpkey<'_> {
         if x.public_key.is_empty() {
             return f.write_str("\\# 0");
         }
-        write!(f, "{x}")
+        f.write(Base64Tokens(x.public_key.as_slice()))
     }
 }

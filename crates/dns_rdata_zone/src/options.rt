@@ -1,16 +1,17 @@
 //! Options of EDNS as data without a form of its own (RFC 3597, 5): OPT has no text in a zone file.
 
-ghost use Rattle.std.specs.Prelude.{◌≡◌, ◌+◌, ◌≤◌, Some, IfSome, flat_map, length, take};
+ghost use Rattle.std.specs.Prelude.{◌≡◌, ◌+◌, ◌*◌, ◌≤◌, Some, IfSome, length, take};
 ghost use Rattle.std.specs.Fmt.{DisplaysOnOk};
 ghost use Rattle.hex.specs.Hex.{encode_lower};
 ghost use Rattle.dns_fields.specs.Pieces.{option_octets};
 ghost use Rattle.dns_rdata_options.specs.{ClientSubnet.prefix_octets, ClientSubnet.subnet_value, EdnsOption.option_value};
-ghost use Rattle.dns_rdata_zone.specs.Options.{subnet_octets, option_digits, options_octets, zone_options};
+ghost use Rattle.dns_rdata_zone.specs.Options.{subnet_octets, pair_octets, options_octets, zone_options};
+ghost use Rattle.dns_rdata_zone.specs.Tokens.{tokens_from, in_tokens};
 
+use crate::tokens::{HEX_OCTETS, HexTokens, left_after};
 use dns_pieces::Head;
 use dns_rdata::OPT;
 use dns_rdata::opt::{ClientSubnet, EdnsCode, EdnsOption};
-use dns_rdata_certs::hexadecimal::Hexadecimal;
 use std::fmt;
 use std::net::IpAddr;
 
@@ -48,65 +49,74 @@ fn option_len(option: &EdnsOption) -> usize
     }
 }
 
-// Writes family, prefixes and the octets of the address that the source prefix asks for, in hexadecimal.
+// Writes family, prefixes and the octets of the address that the source prefix asks for, in hexadecimal. The token takes `left`
+// more octets, here and below.
 fn write_subnet<W: fmt::Write>(
     family: u16,
     source: u8,
     scope: u8,
     address: &[u8],
+    left: usize,
     f: &mut fmt::Formatter<W>,
 ) -> fmt::Result
     requires { length address.now ≤ 16 }
-    ensures { DisplaysOnOk W.write_str_gives f.old result (Some (encode_lower (subnet_octets family source scope address.now))) f.new }
+    ensures { DisplaysOnOk W.write_str_gives f.old result (Some (tokens_from (2 * left) (encode_lower (subnet_octets family source scope address.now)))) f.new }
 {
     let mut head = Head::new();
     head.two(family);
     head.one(source);
     head.one(scope);
     head.octets(asked_octets(address, source));
-    let digits = Hexadecimal(head.as_slice());
-    write!(f, "{digits}")
+    let octets = head.as_slice();
+    f.write(HexTokens { octets, left })
 }
 
 /// A subnet in hexadecimal.
 #[derive(Clone, Copy)]
-struct SubnetDigits<'a>(&'a ClientSubnet);
+struct SubnetDigits<'a>(&'a ClientSubnet, usize);
 
 impl fmt::Display for SubnetDigits<'_> {
-    ghost output = { λ s. Some (encode_lower (option_octets (subnet_value s.0.now))) };
+    ghost output = { λ s. Some (tokens_from (2 * s.1) (encode_lower (option_octets (subnet_value s.0.now)))) };
 
     fn fmt<W: fmt::Write>(&self, f: &mut fmt::Formatter<W>) -> fmt::Result {
         let source = self.0.source_prefix;
         let scope = self.0.scope_prefix;
         match self.0.address {
-            IpAddr::V4(ip) => write_subnet(1, source, scope, ip.octets().as_slice(), f),
-            IpAddr::V6(ip) => write_subnet(2, source, scope, ip.octets().as_slice(), f),
+            IpAddr::V4(ip) => write_subnet(1, source, scope, ip.octets().as_slice(), self.1, f),
+            IpAddr::V6(ip) => write_subnet(2, source, scope, ip.octets().as_slice(), self.1, f),
         }
     }
 }
 
 /// What an option holds, in hexadecimal.
 #[derive(Clone, Copy)]
-struct ValueDigits<'a>(&'a EdnsOption);
+struct ValueDigits<'a>(&'a EdnsOption, usize);
 
 impl fmt::Display for ValueDigits<'_> {
-    ghost output = { λ x. Some (encode_lower (option_octets (option_value x.0.now))) };
+    ghost output = { λ x. Some (tokens_from (2 * x.1) (encode_lower (option_octets (option_value x.0.now)))) };
 
     fn fmt<W: fmt::Write>(&self, f: &mut fmt::Formatter<W>) -> fmt::Result {
+        let left = self.1;
         match self.0 {
-            EdnsOption::Subnet(subnet) => f.write(SubnetDigits(subnet)),
-            EdnsOption::NSID(payload) => f.write(Hexadecimal(payload.as_ref())),
-            EdnsOption::Unknown(_, octets) => f.write(Hexadecimal(octets.as_slice())),
+            EdnsOption::Subnet(subnet) => f.write(SubnetDigits(subnet, left)),
+            EdnsOption::NSID(payload) => f.write(HexTokens {
+                octets: payload.as_ref(),
+                left,
+            }),
+            EdnsOption::Unknown(_, octets) => f.write(HexTokens {
+                octets: octets.as_slice(),
+                left,
+            }),
         }
     }
 }
 
 /// Code, length and octets of an option, in hexadecimal.
 #[derive(Clone, Copy)]
-struct OptionDigits<'a>(&'a (EdnsCode, EdnsOption));
+struct OptionDigits<'a>(&'a (EdnsCode, EdnsOption), usize);
 
 impl fmt::Display for OptionDigits<'_> {
-    ghost output = { λ p. Some (option_digits p.0.now) };
+    ghost output = { λ p. Some (tokens_from (2 * p.1) (encode_lower (pair_octets p.0.now))) };
 
     fn fmt<W: fmt::Write>(&self, f: &mut fmt::Formatter<W>) -> fmt::Result {
         let len = option_len(&self.0.1);
@@ -116,9 +126,11 @@ impl fmt::Display for OptionDigits<'_> {
         let mut head = Head::new();
         head.two(u16::from(self.0.0));
         head.two(len as u16);
-        let head = Hexadecimal(head.as_slice());
-        let value = ValueDigits(&self.0.1);
-        write!(f, "{head}{value}")
+        let left = self.1;
+        let value = ValueDigits(&self.0.1, left_after(left, 4));
+        let octets = head.as_slice();
+        f.write(HexTokens { octets, left })?;
+        f.write(value)
     }
 }
 
@@ -127,12 +139,18 @@ impl fmt::Display for OptionDigits<'_> {
 struct OptionsDigits<'a>(&'a [(EdnsCode, EdnsOption)]);
 
 impl fmt::Display for OptionsDigits<'_> {
-    ghost output = { λ x. Some (flat_map option_digits x.0.now) };
+    ghost output = { λ x. Some (in_tokens (encode_lower (options_octets x.0.now))) };
 
     fn fmt<W: fmt::Write>(&self, f: &mut fmt::Formatter<W>) -> fmt::Result {
         let pairs = self.0;
+        let mut left = HEX_OCTETS;
         for pair in pairs {
-            f.write(OptionDigits(pair))?;
+            let len = option_len(&pair.1);
+            if len > 65535 {
+                return Err(fmt::Error);
+            }
+            f.write(OptionDigits(pair, left))?;
+            left = left_after(left, 4 + len);
         }
         Ok(())
     }

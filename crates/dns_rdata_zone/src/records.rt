@@ -6,6 +6,7 @@ ghost use Rattle.dns_rdata_zone.specs.Records.{zone_hinfo, zone_txt, zone_naptr,
 
 use crate::names::ZoneName;
 use crate::strings::{Quoted, Spaced};
+use crate::tokens::{HEX_OCTETS, HexTokens};
 use dns_pieces::Head;
 use dns_rdata::{CAA, CSYNC, HINFO, NAPTR, RecordType, SOA, TXT};
 use dns_rdata_certs::hexadecimal::Hexadecimal;
@@ -120,8 +121,11 @@ impl fmt::Display for ZoneCaa<'_> {
         head.one(flags);
         head.one(tag.len() as u8);
         let head = Hexadecimal(head.as_slice());
+        let value = HexTokens {
+            octets: value,
+            left: HEX_OCTETS - 2 - tag.len(),
+        };
         let tag = Hexadecimal(tag);
-        let value = Hexadecimal(value);
         write!(f, "\\# {count} {head}{tag}{value}")
     }
 }

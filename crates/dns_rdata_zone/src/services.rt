@@ -1,16 +1,17 @@
 //! Service bindings as zone files have them (RFC 9460, 2.1).
 
-ghost use Rattle.std.specs.Prelude.{◌≡◌, ◌^◌, ◌≤◌, Some, IfSome, IfNone, length, drop};
+ghost use Rattle.std.specs.Prelude.{◌≡◌, ◌*◌, ◌^◌, ◌≤◌, Some, IfSome, IfNone, length, drop};
 ghost use Rattle.std.specs.Fmt.{DisplaysOnOk};
 ghost use Rattle.hex.specs.Hex.{encode_lower};
 ghost use Rattle.dns_fields.specs.Fields.{canonical};
 ghost use Rattle.dns_rdata.specs.Data.{data_octets};
 ghost use Rattle.dns_rdata_service.specs.SVCB.{svcb_shape, svcb_fields};
-ghost use Rattle.dns_rdata_zone.specs.{Generic.generic, Services.service_text, Services.service_octets, Services.zone_service};
+ghost use Rattle.dns_rdata_zone.specs.{Generic.generic, Services.service_text, Services.service_octets, Services.zone_service, Tokens.tokens_from};
 
 use crate::generic::NameDigits;
 use crate::names::ZoneName;
 use crate::parameters::{ZoneParameter, have_text};
+use crate::tokens::{HEX_OCTETS, HexTokens, left_after};
 use dns_pieces::Head;
 use dns_rdata::{CanonicalOctets, RData, SVCB};
 use dns_rdata_certs::hexadecimal::Hexadecimal;
@@ -80,17 +81,25 @@ fn octets_behind(rdata: &RData, n: usize) -> CanonicalOctets<'_>
     octets
 }
 
-// The hexadecimal digits of what is left of canonical octets.
+// The hexadecimal digits of what is left of canonical octets, in tokens, of which the first takes `left` more octets.
 fn write_digits<W: fmt::Write>(
     octets: &mut CanonicalOctets<'_>,
+    left: usize,
     f: &mut fmt::Formatter<W>,
 ) -> fmt::Result
-    ensures { DisplaysOnOk W.write_str_gives f.old result (Some (encode_lower octets.old.octets)) f.new }
+    ensures { DisplaysOnOk W.write_str_gives f.old result (Some (tokens_from (2 * left) (encode_lower octets.old.octets))) f.new }
 {
+    let mut left = left;
     'octets: loop {
         match octets.next() {
             None => return Ok(()),
-            Some(octet) => f.write(Hexadecimal(&[octet]))?,
+            Some(octet) => {
+                f.write(HexTokens {
+                    octets: &[octet],
+                    left,
+                })?;
+                left = left_after(left, 1);
+            }
         }
     }
 }
@@ -109,5 +118,5 @@ fn write_generic<W: fmt::Write>(rdata: &RData, x: &SVCB, f: &mut fmt::Formatter<
     let target = NameDigits(&x.target_name);
     write!(f, "\\# {count} {priority}{target}")?;
     let mut octets = octets_behind(rdata, x.target_name.len() + 2);
-    write_digits(&mut octets, f)
+    write_digits(&mut octets, HEX_OCTETS - 2 - x.target_name.len(), f)
 }

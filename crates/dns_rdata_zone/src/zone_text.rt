@@ -14,16 +14,17 @@ use crate::services::write_service;
 use dns_rdata::RData;
 use std::fmt;
 
-/// Record data that prints as the data of a record in a zone file, in the form that name servers read (RFC 1035, 5.1; RFC
-/// 9460, 2.1; the RFCs of the types). A value that has no such text, and each of a type that has none, prints in the form
-/// of unknown data (RFC 3597, 5). Takes no memory, whatever the value.
+/// Record data that prints as it is written in a zone file, in the form that name servers read (RFC 1035, section 5.1; RFC
+/// 9460, section 2.1; the RFCs of the types). A value that has no such text prints in the form of unknown data (RFC 3597,
+/// section 5). Printing allocates nothing, whatever the value.
 ///
-/// Names are fully qualified, with their letters; strings stand in quotes; numbers have no sign; times to live and the
-/// numbers of SOA are seconds. Everything stands in one line of printable ASCII, with one blank between two fields.
+/// Names are fully qualified, with case preserved; strings are in quotes; numbers have no sign; times to live and the
+/// numbers of SOA are seconds. The text is printable ASCII in one line, with one blank between two fields
+/// ([`zone_texts_hold`](crate::laws::zone_texts_hold)).
 ///
-/// The form of unknown data is that of NULL, OPT, ANAME, ZERO and every type without fields of its own; of TXT without
-/// strings; of CERT, SSHFP, TLSA, SMIMEA and OPENPGPKEY without data; of CAA whose tag is not one of ASCII's letters and
-/// digits alone; and of SVCB and HTTPS with a parameter that has no text ([`has_text`](crate::has_text)).
+/// The form of unknown data is that of NULL, OPT, ANAME, ZERO and every type without a format of its own; of TXT without
+/// strings; of CERT, SSHFP, TLSA, SMIMEA and OPENPGPKEY without data; of CAA whose tag has other octets than ASCII letters
+/// and digits; and of SVCB and HTTPS with a parameter that has no text ([`has_text`](crate::has_text)).
 #[derive(Clone, Copy)]
 pub struct ZoneText<'a>(pub &'a RData);
 

@@ -9,9 +9,10 @@ use Rattle.dns_types.specs.{declared.record_type.RecordType.RecordType, declared
 use Rattle.dns_types.specs.RecordTypes.{number_of, is_named, named_types, record_type_of, type_text, has_name, IsTypeName, IsNumberText, IsTypeText}
 use Rattle.dns_types.proofs.TypeTexts.{reads_name}
 use Rattle.dns_words.specs.Forms.{ttl, ipv4, ipv6}
-use Rattle.dns_zone_words.specs.{Forms.ZoneForm, Forms.bare, Forms.number, Forms.string, Forms.text, NameWords.name, Words.Word}
+use Rattle.dns_zone_words.specs.{Forms.ZoneForm, Forms.bare, Forms.number, Forms.string, Forms.text, NameWords.name, TypeNames.IsZoneType, Words.Word}
 use Rattle.dns_zone_parameters.proofs.{Items.same_both, OneReading.one_reading}
-use Rattle.dns_zone_rows.specs.Mnemonics.{Named, number_named, IsNamedNumber, named_number}
+use Rattle.dns_zone_words.specs.Mnemonics.{Named, number_named}
+use Rattle.dns_zone_rows.specs.Mnemonics.{IsNamedNumber, named_number}
 use Rattle.dns_zone_rows.specs.Rows.{FieldKind, Number, NamedNumber, Ttl, Ipv4, Ipv6, Name, String, Tag, Octets, RestKind, NoWord, SomeStrings}
 use Rattle.dns_zone_rows.specs.Rows.{SomeHex, SomeBase64, AnyTypes, AnyParameters, RowShape, Gives, tag, FieldGives, IsTypeNumber, RestGives, FieldsGive}
 use Rattle.dns_zone_rows.specs.Rows.{RowGives}
@@ -94,8 +95,17 @@ type_once octets t u (inl n) y = sym (only_name octets t u n y)
 type_once octets t u (inr n) (inl m) = only_name octets u t m (inr n)
 type_once octets t u (inr n) (inr m) = same_number octets t u n m
 
+-- a name of the registry is no text that `RecordType` reads
+zone_type_once : (octets : List ℕ) (t u : RecordType) → IsZoneType octets t → IsZoneType octets u → t ≡ u
+zone_type_once octets t u (inl a) (inl b) = type_once octets t u a b
+zone_type_once octets t u (inl a) (inr b) = absurd (b.others t a)
+zone_type_once octets t u (inr a) (inl b) = absurd (a.others u b)
+zone_type_once octets t u (inr a) (inr b) =
+    let same : a.number ≡ b.number = let e = sym a.listed ∙ b.listed in cc e in
+    a.value ∙ ap record_type_of same ∙ sym b.value
+
 number_type_once : (word : Word) (n m : ℕ) → IsTypeNumber n word → IsTypeNumber m word → n ≡ m
-number_type_once word n m x y = x.number ∙ ap number_of (type_once word.octets x.record_type y.record_type x.is.text y.is.text) ∙ sym y.number
+number_type_once word n m x y = x.number ∙ ap number_of (zone_type_once word.octets x.record_type y.record_type x.is.text y.is.text) ∙ sym y.number
 
 -- ---- all words that are left
 

@@ -1,7 +1,7 @@
-pub mod MnemonicViews
 pub mod Mnemonics
 pub mod RowFaults
 pub mod RowTable
 pub mod RowSteps
+pub mod RowTexts
 pub mod Rows
 pub mod TypeSteps

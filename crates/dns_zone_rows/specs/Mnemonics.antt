@@ -1,18 +1,7 @@
 -- Names of numbers in words: of types of certificates (RFC 4398, 2.1) and of algorithms (RFC 4034, A.1).
-use Rattle.std.specs.Prelude.{◌≡◌, ℕ, if◌then◌else◌, false, List, [], ◌∷◌, Option, Some, None, codes}
-use Rattle.std.specs.Str.{str_eq_ignore_ascii_case}
+use Rattle.std.specs.Prelude.{◌≡◌, ◌⊎◌, ℕ, true, false, List, [], ◌∷◌, Option, Some, None, codes}
 use Rattle.dns_fields.specs.Fields.{Number}
-use Rattle.dns_zone_words.specs.{Forms.ZoneForm, Forms.number, Words.Word}
-
--- a name, and the number that it stands for
-pub record Named : Type 0 where
-  pub name : List ℕ
-  pub value : ℕ
-
--- the number of the first such name, in letters of either case
-abbrev pub number_named : List Named → List ℕ → Option ℕ
-number_named [] text = None
-number_named (named ∷ table) text = if str_eq_ignore_ascii_case text named.name then Some named.value else number_named table text
+use Rattle.dns_zone_words.specs.{Forms.ZoneForm, Forms.number, Mnemonics.Named, Mnemonics.named, Mnemonics.number_named, Words.Word}
 
 -- a word without quotes that is a name is its number; any other word is a number of so many octets
 abbrev pub IsNamedNumber : ℕ → Option ℕ → ℕ → Word → Type 0
@@ -23,8 +12,18 @@ IsNamedNumber octets None n word = (number octets).is n word
 abbrev pub named_number : (octets : ℕ) → List Named → ZoneForm (Number octets)
 named_number octets table = record { is = λ n word. IsNamedNumber octets (number_named table word.octets) n word }
 
-abbrev pub named : List ℕ → ℕ → Named
-named name value = record { name = name; value = value }
+-- ---- one word
+
+-- the word, without quotes, is a name of this number
+pub record IsByName (table : List Named) (value : ℕ) (word : Word) : Type 0 where
+  pub bare : word.quoted ≡ false
+  pub listed : number_named table word.octets ≡ Some value
+
+-- the word stands in quotes, or is none of the names
+abbrev pub IsNotByName : List Named → Word → Type 0
+IsNotByName table word = (word.quoted ≡ true) ⊎ (number_named table word.octets ≡ None)
+
+-- ---- the tables
 
 -- types of certificates (RFC 4398, 2.1)
 abbrev pub cert_types : List Named

@@ -3,15 +3,15 @@ use Rattle.std.specs.Prelude.{◌≡◌, ◌≢◌, ◌⊎◌, ℕ, List, [], �
 use Rattle.dns_fields.specs.Labels.{DomainName}
 use Rattle.dns_types.specs.{declared.record_type.RecordType.RecordType, declared.error.ParseError.ParseError}
 use Rattle.dns_types.specs.declared.error.ParseError.TheVariants as parse
-use Rattle.dns_words.specs.{Reads.HoldsOfNone, declared.field.Field.Field}
-use Rattle.dns_zone_words.specs.{Forms.StringFault, Forms.TextFault, Forms.IsType, NameWords.NameFault, Remaining.AmongFault, Remaining.HexFault}
+use Rattle.dns_words.specs.{Forms.ttl, Forms.ipv4, Forms.ipv6, Reads.HoldsOfNone, declared.field.Field.Field}
+use Rattle.dns_zone_words.specs.{Forms.bare, Forms.number, Forms.StringFault, Forms.TextFault, Forms.IsType, NameWords.NameFault, Remaining.AmongFault, Remaining.HexFault}
 use Rattle.dns_zone_words.specs.{Remaining.Base64Fault, Words.Word, Words.Cursor, Words.words_at, Words.with_word}
 use Rattle.dns_zone_words.specs.ZoneReads.{IsCutRefused, LacksFirst, WhyNoField, WhyFirst}
 use Rattle.dns_zone_parameters.specs.Faults.{ParametersFault}
 use Rattle.dns_zone_rows.specs.{declared.row.ZoneField.ZoneField, declared.row.ZoneRest.ZoneRest, declared.row.ZoneRow.ZoneRow}
-use Rattle.dns_zone_rows.specs.Mnemonics.{cert_types, algorithms}
+use Rattle.dns_zone_rows.specs.Mnemonics.{named_number, cert_types, algorithms}
 use Rattle.dns_zone_rows.specs.Rows.{FieldKind, Number, NamedNumber, Ttl, Ipv4, Ipv6, Name, String, Tag, Octets, RestKind, NoWord, SomeStrings}
-use Rattle.dns_zone_rows.specs.Rows.{SomeHex, SomeBase64, AnyTypes, AnyParameters, RowShape, FieldGives}
+use Rattle.dns_zone_rows.specs.Rows.{SomeHex, SomeBase64, AnyTypes, AnyParameters, RowShape, FieldGives, tag}
 use Rattle.dns_zone_rows.specs.declared.row.ZoneField.TheVariants as field
 use Rattle.dns_zone_rows.specs.declared.row.ZoneRest.TheVariants as rest
 
@@ -46,17 +46,17 @@ row_value row = record { fields = map kind_of row.fields.now; rest = rest_kind_o
 
 -- why no first word gives octets of the field
 abbrev pub FieldFault : Option DomainName → ZoneField → Cursor → ParseError → Type 0
-FieldFault origin (field.U8 f) = WhyNoField f
-FieldFault origin (field.U16 f) = WhyNoField f
-FieldFault origin (field.U32 f) = WhyNoField f
-FieldFault origin (field.Ttl f) = WhyNoField f
-FieldFault origin (field.Ipv4 f) = WhyNoField f
-FieldFault origin (field.Ipv6 f) = WhyNoField f
+FieldFault origin (field.U8 f) = WhyNoField (number 1) f
+FieldFault origin (field.U16 f) = WhyNoField (number 2) f
+FieldFault origin (field.U32 f) = WhyNoField (number 4) f
+FieldFault origin (field.Ttl f) = WhyNoField (bare (ttl 4294967295)) f
+FieldFault origin (field.Ipv4 f) = WhyNoField (bare ipv4) f
+FieldFault origin (field.Ipv6 f) = WhyNoField (bare ipv6) f
 FieldFault origin (field.Name f) = WhyFirst (parse.MissingToken f.name) (NameFault f origin)
 FieldFault origin (field.String f) = WhyFirst (parse.MissingToken f.name) (StringFault f)
-FieldFault origin (field.Tag f) = WhyNoField f
-FieldFault origin (field.CertType f) = WhyNoField f
-FieldFault origin (field.Algorithm f) = WhyNoField f
+FieldFault origin (field.Tag f) = WhyNoField tag f
+FieldFault origin (field.CertType f) = WhyNoField (named_number 2 cert_types) f
+FieldFault origin (field.Algorithm f) = WhyNoField (named_number 1 algorithms) f
 FieldFault origin (field.Text f) = WhyFirst (parse.MissingToken f.name) (TextFault (parse.Message f.wrong))
 
 -- the word is no type

@@ -6,10 +6,10 @@ use Rattle.dns_fields.specs.{Bitmaps.block, Bitmaps.minimal, Labels.DomainName, 
 use Rattle.dns_fields.specs.Fields.{Kind, Value, Text}
 use Rattle.dns_types.specs.{RecordTypes.number_of, declared.record_type.RecordType.RecordType}
 use Rattle.dns_words.specs.Forms.{ttl, ipv4, ipv6}
-use Rattle.dns_zone_words.specs.{NameWords.name, NameWords.name_octets, Remaining.AreHex, Remaining.AreBase64, Remaining.AreStrings, Words.Word}
+use Rattle.dns_zone_words.specs.{NameWords.name, NameWords.name_octets, Mnemonics.Named, Remaining.AreHex, Remaining.AreBase64, Remaining.AreStrings, Words.Word}
 use Rattle.dns_zone_words.specs.Forms.{ZoneForm, bare, number, string, text, IsType}
 use Rattle.dns_zone_parameters.specs.Parameters.{AreParameters}
-use Rattle.dns_zone_rows.specs.Mnemonics.{Named, named_number}
+use Rattle.dns_zone_rows.specs.Mnemonics.{named_number}
 
 -- a field that is one word
 pub data FieldKind : Type 0 where

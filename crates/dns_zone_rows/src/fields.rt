@@ -5,7 +5,8 @@ ghost use Rattle.std.specs.{Int.bytes_high_first, Option.option_copied};
 ghost use Rattle.dns_fields.specs.Pieces.{string as string_octets};
 ghost use Rattle.dns_words.specs.Forms.{ttl, ipv4, ipv6};
 ghost use Rattle.dns_zone_words.specs.{NameWords.name, NameWords.name_octets, NameWords.NameFault, Views.word_value, Words.words_at};
-ghost use Rattle.dns_zone_words.specs.{Words.behind_first, ZoneReads.ReadsAs, ZoneReads.ReadsFirst, ZoneReads.WhyNoField, ZoneReads.WhyFirst};
+ghost use Rattle.dns_zone_words.specs.{Words.behind_first, ZoneReads.ReadsAs, ZoneReads.ReadsFirst};
+ghost use Rattle.dns_zone_words.specs.ZoneReads.{WhyNoField, WhyFirst, WrongWord};
 ghost use Rattle.dns_zone_words.specs.Forms.{bare, number, string, text, StringFault, TextFault};
 ghost use Rattle.dns_zone_rows.specs.{RowFaults.kind_of, RowFaults.FieldFault, RowSteps.AddsFirst, Rows.Gives, Rows.FieldGives, Rows.tag};
 ghost use Rattle.dns_zone_rows.specs.Mnemonics.{named_number, cert_types, algorithms};
@@ -48,7 +49,7 @@ pub(crate) fn add_field(
 // Takes a number of 8 bits. As `add_field`, and so are those below.
 fn add_u8(words: &mut ZoneWords<'_>, field: Field, octets: &mut Vec<u8>) -> Result<(), ParseError>
     ensures adds { AddsFirst (Gives (number 1) (bytes_high_first 1)) result octets.old.items octets.new.items words.old words.new }
-    ensures why { IfErr result (λ e. (e ≡ ParseError.Memory) ⊎ WhyNoField field words.old e) }
+    ensures why { IfErr result (λ e. (e ≡ ParseError.Memory) ⊎ WhyNoField (number 1) field words.old e) }
 {
     let value = next_u8(words, field)?;
     add_octets(octets, &value.to_be_bytes())
@@ -56,7 +57,7 @@ fn add_u8(words: &mut ZoneWords<'_>, field: Field, octets: &mut Vec<u8>) -> Resu
 
 fn add_u16(words: &mut ZoneWords<'_>, field: Field, octets: &mut Vec<u8>) -> Result<(), ParseError>
     ensures adds { AddsFirst (Gives (number 2) (bytes_high_first 2)) result octets.old.items octets.new.items words.old words.new }
-    ensures why { IfErr result (λ e. (e ≡ ParseError.Memory) ⊎ WhyNoField field words.old e) }
+    ensures why { IfErr result (λ e. (e ≡ ParseError.Memory) ⊎ WhyNoField (number 2) field words.old e) }
 {
     let value = next_u16(words, field)?;
     add_octets(octets, &value.to_be_bytes())
@@ -64,7 +65,7 @@ fn add_u16(words: &mut ZoneWords<'_>, field: Field, octets: &mut Vec<u8>) -> Res
 
 fn add_u32(words: &mut ZoneWords<'_>, field: Field, octets: &mut Vec<u8>) -> Result<(), ParseError>
     ensures adds { AddsFirst (Gives (number 4) (bytes_high_first 4)) result octets.old.items octets.new.items words.old words.new }
-    ensures why { IfErr result (λ e. (e ≡ ParseError.Memory) ⊎ WhyNoField field words.old e) }
+    ensures why { IfErr result (λ e. (e ≡ ParseError.Memory) ⊎ WhyNoField (number 4) field words.old e) }
 {
     let value = next_u32(words, field)?;
     add_octets(octets, &value.to_be_bytes())
@@ -72,7 +73,7 @@ fn add_u32(words: &mut ZoneWords<'_>, field: Field, octets: &mut Vec<u8>) -> Res
 
 fn add_ttl(words: &mut ZoneWords<'_>, field: Field, octets: &mut Vec<u8>) -> Result<(), ParseError>
     ensures adds { AddsFirst (Gives (bare (ttl 4294967295)) (bytes_high_first 4)) result octets.old.items octets.new.items words.old words.new }
-    ensures why { IfErr result (λ e. (e ≡ ParseError.Memory) ⊎ WhyNoField field words.old e) }
+    ensures why { IfErr result (λ e. (e ≡ ParseError.Memory) ⊎ WhyNoField (bare (ttl 4294967295)) field words.old e) }
 {
     let value = next_ttl(words, field)?;
     add_octets(octets, &value.to_be_bytes())
@@ -84,7 +85,7 @@ fn add_cert_type(
     octets: &mut Vec<u8>,
 ) -> Result<(), ParseError>
     ensures adds { AddsFirst (Gives (named_number 2 cert_types) (bytes_high_first 2)) result octets.old.items octets.new.items words.old words.new }
-    ensures why { IfErr result (λ e. (e ≡ ParseError.Memory) ⊎ WhyNoField field words.old e) }
+    ensures why { IfErr result (λ e. (e ≡ ParseError.Memory) ⊎ WhyNoField (named_number 2 cert_types) field words.old e) }
 {
     let value = next_cert_type(words, field)?;
     add_octets(octets, &value.to_be_bytes())
@@ -96,7 +97,7 @@ fn add_algorithm(
     octets: &mut Vec<u8>,
 ) -> Result<(), ParseError>
     ensures adds { AddsFirst (Gives (named_number 1 algorithms) (bytes_high_first 1)) result octets.old.items octets.new.items words.old words.new }
-    ensures why { IfErr result (λ e. (e ≡ ParseError.Memory) ⊎ WhyNoField field words.old e) }
+    ensures why { IfErr result (λ e. (e ≡ ParseError.Memory) ⊎ WhyNoField (named_number 1 algorithms) field words.old e) }
 {
     let value = next_algorithm(words, field)?;
     add_octets(octets, &value.to_be_bytes())
@@ -104,7 +105,7 @@ fn add_algorithm(
 
 fn add_ipv4(words: &mut ZoneWords<'_>, field: Field, octets: &mut Vec<u8>) -> Result<(), ParseError>
     ensures adds { AddsFirst (Gives (bare ipv4) (λ s. s)) result octets.old.items octets.new.items words.old words.new }
-    ensures why { IfErr result (λ e. (e ≡ ParseError.Memory) ⊎ WhyNoField field words.old e) }
+    ensures why { IfErr result (λ e. (e ≡ ParseError.Memory) ⊎ WhyNoField (bare ipv4) field words.old e) }
 {
     let value = next_ipv4(words, field)?;
     add_octets(octets, &value.octets())
@@ -112,7 +113,7 @@ fn add_ipv4(words: &mut ZoneWords<'_>, field: Field, octets: &mut Vec<u8>) -> Re
 
 fn add_ipv6(words: &mut ZoneWords<'_>, field: Field, octets: &mut Vec<u8>) -> Result<(), ParseError>
     ensures adds { AddsFirst (Gives (bare ipv6) (λ s. s)) result octets.old.items octets.new.items words.old words.new }
-    ensures why { IfErr result (λ e. (e ≡ ParseError.Memory) ⊎ WhyNoField field words.old e) }
+    ensures why { IfErr result (λ e. (e ≡ ParseError.Memory) ⊎ WhyNoField (bare ipv6) field words.old e) }
 {
     let value = next_ipv6(words, field)?;
     add_octets(octets, &value.octets())
@@ -145,7 +146,7 @@ fn add_string(
 
 fn add_tag(words: &mut ZoneWords<'_>, field: Field, octets: &mut Vec<u8>) -> Result<(), ParseError>
     ensures adds { AddsFirst (Gives tag string_octets) result octets.old.items octets.new.items words.old words.new }
-    ensures why { IfErr result (λ e. (e ≡ ParseError.Memory) ⊎ WhyNoField field words.old e) }
+    ensures why { IfErr result (λ e. (e ≡ ParseError.Memory) ⊎ WhyNoField tag field words.old e) }
 {
     let value = next_tag(words, field)?;
     add_counted(octets, value)
@@ -163,7 +164,7 @@ fn add_text(words: &mut ZoneWords<'_>, field: Field, octets: &mut Vec<u8>) -> Re
 #[inline]
 fn next_tag<'a>(words: &mut ZoneWords<'a>, field: Field) -> Result<&'a [u8], ParseError>
     ensures reads { ReadsFirst tag (λ s. s.now) result words.old words.new }
-    ensures why { IfErr result (WhyNoField field words.old) }
+    ensures why { IfErr result (WhyNoField tag field words.old) }
     ensures behind { words_at words.new ≡ behind_first (words_at words.old) }
 {
     let word = some_word(words, field.name)?;
@@ -173,7 +174,7 @@ fn next_tag<'a>(words: &mut ZoneWords<'a>, field: Field) -> Result<&'a [u8], Par
 #[inline]
 fn tag_of<'a>(word: ZoneWord<'a>, wrong: &'static str) -> Result<&'a [u8], ParseError>
     ensures reads { ReadsAs tag (λ s. s.now) result (word_value word.entry) }
-    ensures why { IfErr result (λ e. e ≡ ParseError.Message wrong.entry) }
+    ensures why { IfErr result (WrongWord tag (ParseError.Message wrong.entry) (word_value word.entry)) }
 {
     let octets = word.raw;
     if word.quoted || octets.len() == 0 || octets.len() > 255 {

@@ -10,7 +10,7 @@ pub mod row;
 pub mod table;
 mod types;
 
-pub use mnemonics::Mnemonic;
+pub use dns_zone_words::Mnemonic;
 pub use reading::row_octets;
 pub use row::{ZoneField, ZoneRest, ZoneRow};
 pub use table::row_of;

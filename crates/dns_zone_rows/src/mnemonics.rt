@@ -1,30 +1,14 @@
 //! Names of numbers in words.
 
 ghost use Rattle.std.specs.Prelude.{◌≡◌, IfErr, IfSome, IfNone};
-ghost use Rattle.std.specs.Str.{str_eq_ignore_ascii_case};
-ghost use Rattle.dns_zone_rows.specs.MnemonicViews.{named_values, IsByName, IsNotByName};
-ghost use Rattle.dns_zone_rows.specs.Mnemonics.{number_named, named_number, cert_types, algorithms};
-ghost use Rattle.dns_zone_words.specs.{Views.word_value, Words.words_at, Words.behind_first};
-ghost use Rattle.dns_zone_words.specs.ZoneReads.{ReadsAs, ReadsFirst, WhyNoField};
+ghost use Rattle.dns_zone_rows.specs.Mnemonics.{named_number, cert_types, algorithms, IsByName, IsNotByName};
+ghost use Rattle.dns_zone_words.specs.{Mnemonics.named_values, Views.word_value, Words.words_at, Words.behind_first};
+ghost use Rattle.dns_zone_words.specs.ZoneReads.{ReadsAs, ReadsFirst, WhyNoField, WrongWord};
 
 use dns_types::ParseError;
-use dns_zone_words::{Field, ZoneWord, ZoneWords, some_word, u8_of, u16_of};
-
-/// A name, and the number that it stands for.
-#[derive(Clone, Copy)]
-pub struct Mnemonic {
-    pub name: &'static str,
-    pub value: u8,
-}
-
-macro_rules! named {
-    ($name:literal = $value:literal) => {
-        Mnemonic {
-            name: $name,
-            value: $value,
-        }
-    };
-}
+use dns_zone_words::{
+    Field, Mnemonic, ZoneWord, ZoneWords, named, number_named, some_word, u8_of, u16_of,
+};
 
 static CERT_TYPES: [Mnemonic; 10] = [
     named!("PKIX" = 1),
@@ -79,28 +63,9 @@ pub fn algorithm_names() -> &'static [Mnemonic]
     &ALGORITHMS
 }
 
-/// The number of the first of the names that the text is, in letters of either case.
-pub fn number_named(names: &[Mnemonic], text: &[u8]) -> Option<u8>
-    ensures { result ≡ number_named (named_values names.now) text.now }
-{
-    for name in names {
-        if is_same_name(text, name.name.as_bytes()) {
-            return Some(name.value);
-        }
-    }
-    None
-}
-
-#[inline]
-fn is_same_name(text: &[u8], name: &[u8]) -> bool
-    ensures { result ≡ str_eq_ignore_ascii_case text.now name.now }
-{
-    text.eq_ignore_ascii_case(name)
-}
-
 // The number that a word without quotes stands for by its name.
 #[inline]
-fn number_by_name(word: ZoneWord<'_>, names: &[Mnemonic]) -> Option<u8>
+fn number_by_name(word: ZoneWord<'_>, names: &[Mnemonic]) -> Option<u16>
     ensures some { IfSome result (λ value. IsByName (named_values names.now) value (word_value word.entry)) }
     ensures none { IfNone result (IsNotByName (named_values names.now) (word_value word.entry)) }
 {
@@ -114,10 +79,10 @@ fn number_by_name(word: ZoneWord<'_>, names: &[Mnemonic]) -> Option<u8>
 /// [`Message`](ParseError::Message) of the text `wrong`. Takes no memory.
 pub fn cert_type_of(word: ZoneWord<'_>, wrong: &'static str) -> Result<u16, ParseError>
     ensures reads { ReadsAs (named_number 2 cert_types) (λ n. n) result (word_value word.entry) }
-    ensures why { IfErr result (λ e. e ≡ ParseError.Message wrong.entry) }
+    ensures why { IfErr result (WrongWord (named_number 2 cert_types) (ParseError.Message wrong.entry) (word_value word.entry)) }
 {
     match number_by_name(word, cert_type_names()) {
-        Some(value) => Ok(value as u16),
+        Some(value) => Ok(value),
         None => u16_of(word, wrong),
     }
 }
@@ -125,10 +90,10 @@ pub fn cert_type_of(word: ZoneWord<'_>, wrong: &'static str) -> Result<u16, Pars
 /// An algorithm of keys, by its name or else by a number of 8 bits, as `cert_type_of`.
 pub fn algorithm_of(word: ZoneWord<'_>, wrong: &'static str) -> Result<u8, ParseError>
     ensures reads { ReadsAs (named_number 1 algorithms) (λ n. n) result (word_value word.entry) }
-    ensures why { IfErr result (λ e. e ≡ ParseError.Message wrong.entry) }
+    ensures why { IfErr result (WrongWord (named_number 1 algorithms) (ParseError.Message wrong.entry) (word_value word.entry)) }
 {
     match number_by_name(word, algorithm_names()) {
-        Some(value) => Ok(value),
+        Some(value) => Ok(value as u8),
         None => u8_of(word, wrong),
     }
 }
@@ -137,7 +102,7 @@ pub fn algorithm_of(word: ZoneWord<'_>, wrong: &'static str) -> Result<u8, Parse
 #[inline]
 pub fn next_cert_type(words: &mut ZoneWords<'_>, field: Field) -> Result<u16, ParseError>
     ensures reads { ReadsFirst (named_number 2 cert_types) (λ n. n) result words.old words.new }
-    ensures why { IfErr result (WhyNoField field words.old) }
+    ensures why { IfErr result (WhyNoField (named_number 2 cert_types) field words.old) }
     ensures behind { words_at words.new ≡ behind_first (words_at words.old) }
 {
     let word = some_word(words, field.name)?;
@@ -148,7 +113,7 @@ pub fn next_cert_type(words: &mut ZoneWords<'_>, field: Field) -> Result<u16, Pa
 #[inline]
 pub fn next_algorithm(words: &mut ZoneWords<'_>, field: Field) -> Result<u8, ParseError>
     ensures reads { ReadsFirst (named_number 1 algorithms) (λ n. n) result words.old words.new }
-    ensures why { IfErr result (WhyNoField field words.old) }
+    ensures why { IfErr result (WhyNoField (named_number 1 algorithms) field words.old) }
     ensures behind { words_at words.new ≡ behind_first (words_at words.old) }
 {
     let word = some_word(words, field.name)?;

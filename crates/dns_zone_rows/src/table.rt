@@ -1,8 +1,9 @@
 //! The row of each type of record.
 
-ghost use Rattle.std.specs.Prelude.{◌≡◌, map};
+ghost use Rattle.std.specs.Prelude.{◌≡◌, ◌∷◌, ◌++◌, [], map, Some};
 ghost use Rattle.std.specs.Option.{option_map};
 ghost use Rattle.dns_zone_rows.specs.{RowFaults.kind_of, RowFaults.rest_kind_of, RowFaults.row_value, RowTable.row, RowTable.row_of, Rows.NoWord};
+ghost use Rattle.dns_zone_rows.specs.RowTexts.{no_more, row_texts, texts_of, texts_of_field, texts_of_rest};
 
 use crate::row::{ZoneField, ZoneRest, ZoneRow};
 use dns_types::RecordType;
@@ -121,7 +122,9 @@ static TLSA: [ZoneField; 3] = [
 
 /// The row of a type; none where a zone file has only the form of unknown data for it (RFC 3597, 5).
 pub fn row_of(record_type: RecordType) -> Option<ZoneRow>
-    ensures { option_map row_value result ≡ row_of record_type }
+    ensures rows { option_map row_value result ≡ row_of record_type }
+    // What errors say of its fields.
+    ensures texts { option_map row_texts result ≡ texts_of record_type }
 {
     match record_type {
         RecordType::A => fields_alone(&A),
@@ -151,7 +154,8 @@ pub fn row_of(record_type: RecordType) -> Option<ZoneRow>
 // The row of fields with no word behind them.
 #[inline]
 fn fields_alone(fields: &'static [ZoneField]) -> Option<ZoneRow>
-    ensures { option_map row_value result ≡ row (map kind_of fields.now) NoWord }
+    ensures rows { option_map row_value result ≡ row (map kind_of fields.now) NoWord }
+    ensures texts { option_map row_texts result ≡ Some (map texts_of_field fields.now ++ no_more ∷ []) }
 {
     fields_and(fields, ZoneRest::Nothing(SURPLUS))
 }
@@ -159,7 +163,8 @@ fn fields_alone(fields: &'static [ZoneField]) -> Option<ZoneRow>
 // The row of fields, and words behind them.
 #[inline]
 fn fields_and(fields: &'static [ZoneField], rest: ZoneRest) -> Option<ZoneRow>
-    ensures { option_map row_value result ≡ row (map kind_of fields.now) (rest_kind_of rest) }
+    ensures rows { option_map row_value result ≡ row (map kind_of fields.now) (rest_kind_of rest) }
+    ensures texts { option_map row_texts result ≡ Some (map texts_of_field fields.now ++ texts_of_rest rest ∷ []) }
 {
     Some(ZoneRow { fields, rest })
 }

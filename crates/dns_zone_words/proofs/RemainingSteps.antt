@@ -1,10 +1,12 @@
 -- Words that are left, one by one.
-use Rattle.std.proofs.Common.{◌≡◌, ℕ, length, true, false, List, [], ◌∷◌, ◌++◌, Result, Ok, Err, refl, sym, ◌∙◌, ap, subst}
+use Rattle.std.proofs.Common.{◌≡◌, ◌⊎◌, ℕ, length, true, false, List, [], ◌∷◌, ◌++◌, Result, Ok, Err, refl, sym, ◌∙◌, ap, subst, inl, inr, codes}
 use Rattle.std.proofs.{lemmas.List.append-nil, lemmas.Grind.flat_map-append}
 use Rattle.std.specs.List.{AllZip}
 use Rattle.dns_types.specs.declared.error.ParseError.{ParseError}
-use Rattle.dns_words.specs.Reads.{UnlessParseMemory}
-use Rattle.dns_zone_words.specs.{Forms.number, ZoneReads.FirstHas, ZoneReads.NoFirst, declared.words_error.WordsError.WordsError}
+use Rattle.dns_types.specs.declared.error.ParseError.TheVariants as parse
+use Rattle.dns_words.specs.{Reads.UnlessParseMemory, declared.field.Field.Field}
+use Rattle.dns_zone_words.specs.{FieldTexts.field_texts, FieldTexts.number_called, Forms.number, ZoneReads.FirstHas, ZoneReads.NoFirst, ZoneReads.WhyNoField}
+use Rattle.dns_zone_words.specs.{Remaining.UnknownFault, declared.words_error.WordsError.WordsError}
 use Rattle.dns_zone_words.specs.Remaining.{AllBare, joined, AreJoined, AreUnknown, TookAll, NoneOfAll, with_words}
 use Rattle.dns_zone_words.specs.Words.{Word, Cursor, words_at, with_word}
 use Rattle.dns_words.proofs.Steps.{unless_map}
@@ -118,3 +120,8 @@ no_length old h = record { none = λ v words cut is. h.none (length v) words cut
 
 pub unknown_no_length : (e : ParseError) (old : Cursor) → UnlessParseMemory e (NoFirst (number 2) old) → UnlessParseMemory e (NoneOfAll AreUnknown old)
 unknown_no_length e old h = unless_map e (NoFirst (number 2) old) (NoneOfAll AreUnknown old) (no_length old) h
+
+-- why there is no length
+pub length_why : (e : ParseError) (old : Cursor) (field : Field) → WhyNoField (number 2) field old e
+    → field_texts field ≡ number_called (codes "length of unknown data") → (e ≡ parse.Memory) ⊎ UnknownFault old e
+length_why e old field why called = inr (inl (record { field = field; called = called; why = why }))

@@ -1,15 +1,16 @@
 -- What is no word of a field. Texts of times to live and of record types are ASCII.
-use Rattle.std.proofs.Common.{◌≡◌, ℕ, zero, suc, ◌<◌, true, List, [], ◌∷◌, refl, arith, inl, inr}
+use Rattle.std.proofs.Common.{◌≡◌, ℕ, zero, suc, ◌<◌, true, List, [], ◌∷◌, refl, arith, inl, inr, sym, ◌∙◌, Option, Some, None}
 use Rattle.std.specs.Prelude.{codes, IsTrue, ◌&&◌, Bool, false}
 use Rattle.std.specs.{Char.is_ascii, List.list_all, Str.IsUtf8, Str.IsAscii, Net.Grammar.IsIpv4Text, Net.Grammar.IsIpv6Text}
 use Rattle.std.specs.{declared.net.ipv4_addr.Ipv4Addr.Ipv4Addr, declared.net.ipv6_addr.Ipv6Addr.Ipv6Addr}
 use Rattle.std.proofs.{lemmas.Bool.Decides.nat_tests, lemmas.Fmt.IsAscii-from_digits}
 use Rattle.std.proofs.lemmas.Str.{IsUtf8-from_ascii, IsUtf8-append, IsUtf8-nil}
 use Rattle.dns_text.specs.Ttl.{IsUnit, weeks, days, hours, minutes, seconds, Periods, plain, last, next}
-use Rattle.dns_types.specs.{RecordTypes.is_named, RecordTypes.type_text, RecordTypes.IsTypeText, declared.record_type.RecordType.RecordType}
+use Rattle.dns_types.specs.{RecordTypes.is_named, RecordTypes.type_text, RecordTypes.IsTypeText, RecordTypes.record_type_of, declared.record_type.RecordType.RecordType}
 use Rattle.dns_types.specs.declared.record_type.RecordType.TheVariants as types
 use Rattle.dns_words.specs.{Forms.ttl, Forms.ipv4, Forms.ipv6, Reads.HoldsOfNone}
-use Rattle.dns_zone_words.specs.{Forms.bare, Forms.IsType, Words.Word, ZoneReads.NoValueOf}
+use Rattle.dns_zone_words.specs.{Forms.bare, Forms.IsType, Mnemonics.number_named, TypeNames.registry, TypeNames.IsRegistered}
+use Rattle.dns_zone_words.specs.{TypeNames.IsZoneType, Words.Word, ZoneReads.NoValueOf}
 
 -- a word of no address is none of the form
 pub no_ipv4 : (word : Word) → ((a : Ipv4Addr) → ¬ (IsIpv4Text word.octets a)) → NoValueOf (bare ipv4) word
@@ -62,5 +63,19 @@ type_utf8 : (text : List ℕ) (t : RecordType) → IsTypeText text t → IsUtf8 
 type_utf8 text t (inl is) = rw is.printed (name_utf8 t is.named)
 type_utf8 text t (inr is) = rw is.spelled (IsUtf8-append (codes "TYPE") is.digits (ascii_utf8 _ refl) (IsUtf8-from_ascii is.digits (IsAscii-from_digits is.digits is.numeral.1)))
 
-pub no_type : (word : Word) → ¬ (IsUtf8 word.octets) → HoldsOfNone (λ t. IsType t word)
-no_type word isnt = record { none = λ t is. isnt (type_utf8 word.octets t is.text) }
+pub no_type : (text : List ℕ) → ¬ (IsUtf8 text) → (t : RecordType) → IsTypeText text t → ⊥
+no_type text isnt t is = isnt (type_utf8 text t is)
+
+-- a name of the registry
+pub registered : (text : List ℕ) (n : ℕ) (t : RecordType) → ((u : RecordType) → IsTypeText text u → ⊥) → Some n ≡ number_named registry text
+    → t ≡ record_type_of n → IsZoneType text t
+registered text n t others listed value = inr (record { others = others; number = n; listed = sym listed; value = value })
+
+-- no name
+pub unregistered : (text : List ℕ) → ((u : RecordType) → IsTypeText text u → ⊥) → None ≡ number_named registry text → (t : RecordType) → IsZoneType text t → ⊥
+unregistered text others listed t (inl is) = others t is
+unregistered text others listed t (inr is) = let both : None ≡ Some is.number = listed ∙ is.listed in absurd (cc both)
+
+-- no word of a type
+pub no_type_word : (word : Word) → ((t : RecordType) → IsZoneType word.octets t → ⊥) → HoldsOfNone (λ t. IsType t word)
+no_type_word word none = record { none = λ t is. none t is.text }

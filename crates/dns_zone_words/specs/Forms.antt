@@ -2,10 +2,10 @@
 use Rattle.std.specs.Prelude.{◌≡◌, ◌⊎◌, ℕ, ◌*◌, ◌^◌, ◌<◌, ◌≤◌, true, false, List, length, map}
 use Rattle.std.specs.Str.Parse.{IsNumeral, digits_value}
 use Rattle.dns_fields.specs.Fields.{Kind, Number, Text, Rest, Value}
-use Rattle.dns_types.specs.{RecordTypes.IsTypeText, declared.record_type.RecordType.RecordType, declared.error.ParseError.ParseError}
+use Rattle.dns_types.specs.{declared.record_type.RecordType.RecordType, declared.error.ParseError.ParseError}
 use Rattle.dns_types.specs.declared.error.ParseError.TheVariants as parse
 use Rattle.dns_words.specs.Forms.{Form}
-use Rattle.dns_zone_words.specs.{declared.field.StringField.StringField, Letters.letters, Letters.octet_of, Letters.escapes_stand, Words.Word}
+use Rattle.dns_zone_words.specs.{declared.field.StringField.StringField, Letters.letters, Letters.octet_of, Letters.escapes_stand, TypeNames.IsZoneType, Words.Word}
 
 -- which values of a field a word has
 pub record ZoneForm (k : Kind) : Type 1 where
@@ -51,4 +51,4 @@ text = record { is = IsText }
 -- the name or the number of a record type, without quotes
 pub record IsType (t : RecordType) (word : Word) : Type 0 where
   pub bare : word.quoted ≡ false
-  pub text : IsTypeText word.octets t
+  pub text : IsZoneType word.octets t

@@ -1,10 +1,13 @@
+pub mod FieldTexts
 pub mod Forms
 pub mod Letters
+pub mod Mnemonics
 pub mod NameSteps
 pub mod NameWords
 pub mod Quiet
 pub mod Refusals
 pub mod Remaining
+pub mod TypeNames
 pub mod Views
 pub mod WordSteps
 pub mod Words

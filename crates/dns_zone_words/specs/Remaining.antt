@@ -6,6 +6,7 @@ use Rattle.hex.specs.Hex.{decode_of as hex_of}
 use Rattle.dns_types.specs.declared.error.ParseError.{ParseError}
 use Rattle.dns_types.specs.declared.error.ParseError.TheVariants as parse
 use Rattle.dns_words.specs.{Reads.UnlessParseMemory, declared.field.Field.Field}
+use Rattle.dns_zone_words.specs.FieldTexts.{field_texts, hex_texts, number_called, hex_called}
 use Rattle.dns_zone_words.specs.{declared.field.HexField.HexField, Forms.IsNumber, Forms.number, Forms.string, Refusals.Says, Words.Word}
 use Rattle.dns_zone_words.specs.{Words.Cursor, Words.words_at, Words.with_word, declared.words_error.WordsError.WordsError}
 use Rattle.dns_zone_words.specs.ZoneReads.{IsCutRefused, TookFirst, WhyNoField}
@@ -130,13 +131,25 @@ pub record OtherNumber (n : ℕ) (cursor : Cursor) (e : ParseError) : Type 0 whe
   pub took : TookAll AreHex octets cursor
   pub other : length octets ≢ n
 
+-- no number of 16 bits comes first, and the error calls it the length of unknown data
+pub record LengthFault (cursor : Cursor) (e : ParseError) : Type 0 where
+  pub field : Field
+  pub called : field_texts field ≡ number_called (codes "length of unknown data")
+  pub why : WhyNoField (number 2) field cursor e
+
+-- the words are no hexadecimal digits, and the error says so of the unknown data
+pub record DigitsOfData (cursor : Cursor) (e : ParseError) : Type 0 where
+  pub field : HexField
+  pub called : hex_texts field ≡ hex_called (codes "unknown data")
+  pub why : HexFault field cursor e
+
 -- behind the length stand no hexadecimal digits, or they are of another number of octets
 pub record DataFault (cursor : Cursor) (e : ParseError) : Type 0 where
   pub n : ℕ
   pub behind : Cursor
   pub took : TookFirst (number 2) n cursor behind
-  pub why : ((field : HexField) × HexFault field behind e) ⊎ OtherNumber n behind e
+  pub why : DigitsOfData behind e ⊎ OtherNumber n behind e
 
--- there is no length of 16 bits, or behind it the data has a fault
+-- there is no length of 16 bits, which the error calls the length; or behind it the data has a fault
 abbrev pub UnknownFault : Cursor → ParseError → Type 0
-UnknownFault cursor e = ((field : Field) × WhyNoField field cursor e) ⊎ DataFault cursor e
+UnknownFault cursor e = LengthFault cursor e ⊎ DataFault cursor e

@@ -68,6 +68,10 @@ pub record FirstFault (fault : Word → ParseError → Type 0) (cursor : Cursor)
 abbrev pub WhyFirst : ParseError → (Word → ParseError → Type 0) → Cursor → ParseError → Type 0
 WhyFirst missing fault cursor e = LacksFirst missing cursor e ⊎ FirstFault fault cursor e
 
--- no word is left, or the refusal is of the field's text for a wrong word, and there is one
-abbrev pub WhyNoField : Field → Cursor → ParseError → Type 0
-WhyNoField field = WhyFirst (parse.MissingToken field.name) (λ word e. e ≡ parse.Message field.wrong)
+-- no value of the form has the word, and the error says so
+abbrev pub WrongWord : {k : Kind} → ZoneForm k → ParseError → Word → ParseError → Type 0
+WrongWord form wrong word e = (e ≡ wrong) × NoValueOf form word
+
+-- no word is left, or the first one has no value of the field's form; the error has the field's text for it
+abbrev pub WhyNoField : {k : Kind} → ZoneForm k → Field → Cursor → ParseError → Type 0
+WhyNoField form field = WhyFirst (parse.MissingToken field.name) (WrongWord form (parse.Message field.wrong))

@@ -37,7 +37,7 @@ pub fn some_word<'a>(
 #[inline]
 pub fn next_u8(words: &mut ZoneWords<'_>, field: Field) -> Result<u8, ParseError>
     ensures reads { ReadsFirst (number 1) (λ n. n) result words.old words.new }
-    ensures why { IfErr result (WhyNoField field words.old) }
+    ensures why { IfErr result (WhyNoField (number 1) field words.old) }
     ensures behind { words_at words.new ≡ behind_first (words_at words.old) }
 {
     let word = some_word(words, field.name)?;
@@ -48,7 +48,7 @@ pub fn next_u8(words: &mut ZoneWords<'_>, field: Field) -> Result<u8, ParseError
 #[inline]
 pub fn next_u16(words: &mut ZoneWords<'_>, field: Field) -> Result<u16, ParseError>
     ensures reads { ReadsFirst (number 2) (λ n. n) result words.old words.new }
-    ensures why { IfErr result (WhyNoField field words.old) }
+    ensures why { IfErr result (WhyNoField (number 2) field words.old) }
     ensures behind { words_at words.new ≡ behind_first (words_at words.old) }
 {
     let word = some_word(words, field.name)?;
@@ -59,7 +59,7 @@ pub fn next_u16(words: &mut ZoneWords<'_>, field: Field) -> Result<u16, ParseErr
 #[inline]
 pub fn next_u32(words: &mut ZoneWords<'_>, field: Field) -> Result<u32, ParseError>
     ensures reads { ReadsFirst (number 4) (λ n. n) result words.old words.new }
-    ensures why { IfErr result (WhyNoField field words.old) }
+    ensures why { IfErr result (WhyNoField (number 4) field words.old) }
     ensures behind { words_at words.new ≡ behind_first (words_at words.old) }
 {
     let word = some_word(words, field.name)?;
@@ -70,7 +70,7 @@ pub fn next_u32(words: &mut ZoneWords<'_>, field: Field) -> Result<u32, ParseErr
 #[inline]
 pub fn next_ttl(words: &mut ZoneWords<'_>, field: Field) -> Result<u32, ParseError>
     ensures reads { ReadsFirst (bare (ttl 4294967295)) (λ n. n) result words.old words.new }
-    ensures why { IfErr result (WhyNoField field words.old) }
+    ensures why { IfErr result (WhyNoField (bare (ttl 4294967295)) field words.old) }
     ensures behind { words_at words.new ≡ behind_first (words_at words.old) }
 {
     let word = some_word(words, field.name)?;
@@ -82,7 +82,7 @@ pub fn next_ttl(words: &mut ZoneWords<'_>, field: Field) -> Result<u32, ParseErr
 #[tactic(auto, using(crate::proofs::FirstSteps::first_read))]
 pub fn next_ipv4(words: &mut ZoneWords<'_>, field: Field) -> Result<Ipv4Addr, ParseError>
     ensures reads { ReadsFirst (bare ipv4) ipv4_octets result words.old words.new }
-    ensures why { IfErr result (WhyNoField field words.old) }
+    ensures why { IfErr result (WhyNoField (bare ipv4) field words.old) }
     ensures behind { words_at words.new ≡ behind_first (words_at words.old) }
 {
     let word = some_word(words, field.name)?;
@@ -94,7 +94,7 @@ pub fn next_ipv4(words: &mut ZoneWords<'_>, field: Field) -> Result<Ipv4Addr, Pa
 #[tactic(auto, using(crate::proofs::FirstSteps::first_read))]
 pub fn next_ipv6(words: &mut ZoneWords<'_>, field: Field) -> Result<Ipv6Addr, ParseError>
     ensures reads { ReadsFirst (bare ipv6) ipv6_octets result words.old words.new }
-    ensures why { IfErr result (WhyNoField field words.old) }
+    ensures why { IfErr result (WhyNoField (bare ipv6) field words.old) }
     ensures behind { words_at words.new ≡ behind_first (words_at words.old) }
 {
     let word = some_word(words, field.name)?;

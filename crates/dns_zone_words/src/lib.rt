@@ -4,11 +4,13 @@
 pub mod field;
 pub mod fields;
 pub mod letter;
+pub mod mnemonics;
 pub mod names;
 pub mod numbers;
 mod quiet;
 pub mod remaining;
 pub mod texts;
+pub mod type_names;
 pub mod words;
 pub mod words_error;
 
@@ -16,9 +18,11 @@ pub use dns_words::{Field, number_field};
 pub use field::{HexField, NameField, StringField};
 pub use fields::{next_ipv4, next_ipv6, next_ttl, next_u8, next_u16, next_u32, some_word};
 pub use letter::{Letter, Letters};
+pub use mnemonics::{Mnemonic, number_named};
 pub use names::{put_labels, put_name};
 pub use numbers::{u8_of, u16_of, u32_of};
 pub use remaining::{all_base64, all_hex, is_unknown_mark, no_more, unknown_data};
 pub use texts::{ipv4_of, ipv6_of, put_string, put_text, ttl_of, type_of};
+pub use type_names::type_named;
 pub use words::{ZoneWord, ZoneWords};
 pub use words_error::WordsError;

@@ -2,7 +2,7 @@
 
 ghost use Rattle.std.specs.Prelude.{◌≡◌, ◌≤◌, ◌<◌, ◌^◌, ℕ, IfSome, IfNone, IfOk, IfErr};
 ghost use Rattle.std.specs.Str.Parse.{IsNumeral, digits_value};
-ghost use Rattle.dns_zone_words.specs.{Forms.number, Forms.IsNumber, Views.word_value, ZoneReads.ReadsAs};
+ghost use Rattle.dns_zone_words.specs.{Forms.number, Forms.IsNumber, Views.word_value, ZoneReads.ReadsAs, ZoneReads.WrongWord};
 
 use crate::words::ZoneWord;
 use dns_types::ParseError;
@@ -12,7 +12,7 @@ use dns_types::ParseError;
 #[inline]
 pub fn u8_of(word: ZoneWord<'_>, wrong: &'static str) -> Result<u8, ParseError>
     ensures reads { ReadsAs (number 1) (λ n. n) result (word_value word.entry) }
-    ensures why { IfErr result (λ e. e ≡ ParseError.Message wrong.entry) }
+    ensures why { IfErr result (WrongWord (number 1) (ParseError.Message wrong.entry) (word_value word.entry)) }
 {
     match number_of(word) {
         Some(n) if n < 256 => Ok(n as u8),
@@ -24,7 +24,7 @@ pub fn u8_of(word: ZoneWord<'_>, wrong: &'static str) -> Result<u8, ParseError>
 #[inline]
 pub fn u16_of(word: ZoneWord<'_>, wrong: &'static str) -> Result<u16, ParseError>
     ensures reads { ReadsAs (number 2) (λ n. n) result (word_value word.entry) }
-    ensures why { IfErr result (λ e. e ≡ ParseError.Message wrong.entry) }
+    ensures why { IfErr result (WrongWord (number 2) (ParseError.Message wrong.entry) (word_value word.entry)) }
 {
     match number_of(word) {
         Some(n) if n < 65536 => Ok(n as u16),
@@ -36,7 +36,7 @@ pub fn u16_of(word: ZoneWord<'_>, wrong: &'static str) -> Result<u16, ParseError
 #[inline]
 pub fn u32_of(word: ZoneWord<'_>, wrong: &'static str) -> Result<u32, ParseError>
     ensures reads { ReadsAs (number 4) (λ n. n) result (word_value word.entry) }
-    ensures why { IfErr result (λ e. e ≡ ParseError.Message wrong.entry) }
+    ensures why { IfErr result (WrongWord (number 4) (ParseError.Message wrong.entry) (word_value word.entry)) }
 {
     match number_of(word) {
         Some(n) => Ok(n),

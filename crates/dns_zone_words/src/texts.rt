@@ -3,13 +3,14 @@
 ghost use Rattle.std.specs.Prelude.{◌≡◌, ◌≢◌, ◌≤◌, ◌<◌, ◌⊎◌, ℕ, false, length, slice_index, IfErr};
 ghost use Rattle.dns_fields.specs.Pieces.{string as string_octets};
 ghost use Rattle.std.specs.Net.Addr.{ipv4_octets, ipv6_octets};
-ghost use Rattle.dns_words.specs.{Forms.ttl, Forms.ipv4, Forms.ipv6, Reads.Decides};
-ghost use Rattle.dns_zone_words.specs.{Letters.escapes_stand, Views.word_value, ZoneReads.ReadsAs, ZoneReads.PutsAs};
+ghost use Rattle.dns_words.specs.{Forms.ttl, Forms.ipv4, Forms.ipv6, Reads.Decides, Reads.HoldsOfNone};
+ghost use Rattle.dns_zone_words.specs.{Letters.escapes_stand, Views.word_value, ZoneReads.ReadsAs, ZoneReads.WrongWord, ZoneReads.PutsAs};
 ghost use Rattle.dns_zone_words.specs.Forms.{bare, string, text, IsType, StringFault, TextFault};
 
 use crate::field::StringField;
 use crate::letter::first_letter;
 use crate::quiet::quiet_len;
+use crate::type_names::type_named;
 use crate::words::ZoneWord;
 use dns_types::{ParseError, RecordType};
 use dns_words::texts::ttl_of as ttl_of_text;
@@ -87,7 +88,7 @@ fn plain_len(text: &[u8]) -> usize
 #[tactic(auto, using(crate::proofs::TextSteps::no_ttl))]
 pub fn ttl_of(word: ZoneWord<'_>, wrong: &'static str) -> Result<u32, ParseError>
     ensures reads { ReadsAs (bare (ttl 4294967295)) (λ n. n) result (word_value word.entry) }
-    ensures why { IfErr result (λ e. e ≡ ParseError.Message wrong.entry) }
+    ensures why { IfErr result (WrongWord (bare (ttl 4294967295)) (ParseError.Message wrong.entry) (word_value word.entry)) }
 {
     if word.quoted {
         return Err(ParseError::Message(wrong));
@@ -103,7 +104,7 @@ pub fn ttl_of(word: ZoneWord<'_>, wrong: &'static str) -> Result<u32, ParseError
 #[tactic(auto, using(crate::proofs::TextSteps::no_ipv4))]
 pub fn ipv4_of(word: ZoneWord<'_>, wrong: &'static str) -> Result<Ipv4Addr, ParseError>
     ensures reads { ReadsAs (bare ipv4) ipv4_octets result (word_value word.entry) }
-    ensures why { IfErr result (λ e. e ≡ ParseError.Message wrong.entry) }
+    ensures why { IfErr result (WrongWord (bare ipv4) (ParseError.Message wrong.entry) (word_value word.entry)) }
 {
     if word.quoted {
         return Err(ParseError::Message(wrong));
@@ -118,7 +119,7 @@ pub fn ipv4_of(word: ZoneWord<'_>, wrong: &'static str) -> Result<Ipv4Addr, Pars
 #[tactic(auto, using(crate::proofs::TextSteps::no_ipv6))]
 pub fn ipv6_of(word: ZoneWord<'_>, wrong: &'static str) -> Result<Ipv6Addr, ParseError>
     ensures reads { ReadsAs (bare ipv6) ipv6_octets result (word_value word.entry) }
-    ensures why { IfErr result (λ e. e ≡ ParseError.Message wrong.entry) }
+    ensures why { IfErr result (WrongWord (bare ipv6) (ParseError.Message wrong.entry) (word_value word.entry)) }
 {
     if word.quoted {
         return Err(ParseError::Message(wrong));
@@ -129,20 +130,17 @@ pub fn ipv6_of(word: ZoneWord<'_>, wrong: &'static str) -> Result<Ipv6Addr, Pars
     }
 }
 
-/// A record type, without quotes: its name in capitals, or `TYPE` and one to five digits of a number of 16 bits
-/// (RFC 3597, 5). Any other word is refused by [`Message`](ParseError::Message) of the text `wrong`. Takes no memory.
+/// A record type, without quotes: its name in either case, or `TYPE` and one to five digits of a number of 16 bits
+/// ([`type_named`]). Any other word is refused by [`Message`](ParseError::Message) of the text `wrong`. Takes no memory.
 pub fn type_of(word: ZoneWord<'_>, wrong: &'static str) -> Result<RecordType, ParseError>
     ensures reads { Decides (λ t. IsType t (word_value word.entry)) (λ t. t) result }
-    ensures why { IfErr result (λ e. e ≡ ParseError.Message wrong.entry) }
+    ensures why { IfErr result (λ e. (e ≡ ParseError.Message wrong.entry) × HoldsOfNone (λ t. IsType t (word_value word.entry))) }
 {
     if word.quoted {
         return Err(ParseError::Message(wrong));
     }
-    match str::from_utf8(word.raw) {
-        Ok(text) => match text.parse::<RecordType>() {
-            Ok(record_type) => Ok(record_type),
-            Err(_) => Err(ParseError::Message(wrong)),
-        },
-        Err(_) => Err(ParseError::Message(wrong)),
+    match type_named(word.raw) {
+        Some(record_type) => Ok(record_type),
+        None => Err(ParseError::Message(wrong)),
     }
 }

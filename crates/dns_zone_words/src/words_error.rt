@@ -5,9 +5,10 @@ ghost use Rattle.dns_zone_words.specs.Refusals.{Says, cut_text};
 
 use dns_types::ParseError;
 use std::fmt;
+use thiserror::Error;
 
-/// Why a text of a zone file is not cut into words.
-#[derive(Clone, Copy, Debug, PartialEq, Eq)]
+/// Why the text of a zone file has no tokens.
+#[derive(Clone, Copy, Debug, PartialEq, Eq, Error)]
 pub enum WordsError {
     /// A `(` is not closed.
     OpenParenthesis,
@@ -17,7 +18,7 @@ pub enum WordsError {
     OpenQuotes,
     /// A line ends within quotes, without a `\` before its end.
     LineInQuotes,
-    /// Behind the end of the line stands more than blanks, line ends and comments.
+    /// After the end of the line there is more than blanks, line ends and comments.
     FurtherLine,
 }
 

@@ -1,89 +1,187 @@
 //! Texts of record data in zone files, thousands of lines a second.
 //!
-//! - Without arguments, standard input has a line `TYPE PLACE LENGTH OCTETS` for each record: TYPE is a type's name in
-//!   capitals or its number, OCTETS are the message's hexadecimal digits, or `-` for none. The answer is a line: the text of
-//!   the data of LENGTH octets at PLACE, or `refused` where there is no such data.
-//! - `read`: standard input has a line `TYPE TEXT` for each record. The answer is a line: the octets of the data in
-//!   hexadecimal digits, names whole and with their letters, `-` for none, or `refused: ` and the reason.
-//! - `read ORIGIN`: the same, names that no dot ends completed by this one.
+//! Each line of standard input is a record, and has one line of output:
 //!
-//! Where memory runs out the program ends with status 1, and the line has no answer.
+//! - Without arguments a line is `TYPE PLACE LENGTH OCTETS`, where OCTETS are the message's hexadecimal digits, or `-` for
+//!   none. Its result is the text of the RDATA, LENGTH octets at the offset PLACE.
+//! - `read`: a line is `TYPE TEXT`, with blanks or tabs between the two. TEXT is octets and need not be UTF-8. Its result
+//!   is the octets of the RDATA in hexadecimal digits, names uncompressed and with case preserved, or `-` for none.
+//! - `read ORIGIN`: the same, and relative names are completed with this origin.
+//!
+//! TYPE is the name of a type in either case, its number, or `TYPE` and its number.
+//!
+//! A line that cannot be used has the result `refused: ` and the reason, and the next line follows. At the end of the input
+//! the exit status is 1 if some line was refused, and 0 otherwise. Only if memory runs out, or if standard input or output
+//! fails, the program ends earlier: with status 1, and without a result for the line.
 #![tactic(auto)]
 
-use anyhow::{Context, Result, bail};
-use dns_rdata::{BinDecoder, BinEncoder, DecodeError, Name, ParseError};
-use dns_rdata_zone::{ZoneText, from_zone_text};
-use held_data::{Held, record_type};
+use anyhow::{Result, bail};
+use dns_rdata::{BinDecoder, BinEncoder, DecodeError, Name, ParseError, RecordType};
+use dns_rdata_zone::{ZoneText, from_zone_text, type_named};
+use held_data::Held;
+use hex::FromHexError;
 use std::alloc::Global;
 use std::io::{BufRead, BufReader, BufWriter, Write};
+use std::str;
 
-// Writes the line that answers a line of octets.
-fn write_text<W: Write>(alloc: Global, line: &str, out: &mut W) -> Result<()> {
+const NO_TYPE: &str = "no record type";
+
+const NO_PLACE: &str = "no offset of the RDATA";
+
+const NO_LENGTH: &str = "no length of 16 bits";
+
+const NO_OCTETS: &str = "no hexadecimal digits of octets";
+
+const OUTSIDE: &str = "offset after the end of the message";
+
+// Writes the result of a line that cannot be used; the value says that it was refused.
+fn refuse<W: Write>(out: &mut W, reason: &str) -> Result<bool> {
+    writeln!(out, "refused: {reason}")?;
+    Ok(true)
+}
+
+// The record type that a word names or gives the number of.
+fn type_of(word: &[u8]) -> Option<RecordType> {
+    if let Some(kind) = type_named(word) {
+        return Some(kind);
+    }
+    let number = str::from_utf8(word).ok()?.parse::<u16>().ok()?;
+    Some(RecordType::from(number))
+}
+
+// The first word of a line, and what follows it.
+fn first_word(line: &[u8]) -> (&[u8], &[u8]) {
+    let line = line.trim_ascii_start();
+    let len = line
+        .iter()
+        .position(|c| matches!(*c, b' ' | b'\t' | b'\r'))
+        .unwrap_or(line.len());
+    (&line[..len], &line[len..])
+}
+
+// Writes the result of a line `TYPE PLACE LENGTH OCTETS`, and returns whether it is refused.
+fn write_text<W: Write>(alloc: Global, line: &[u8], out: &mut W) -> Result<bool> {
+    let Ok(line) = str::from_utf8(line) else {
+        return refuse(out, "octets that are not UTF-8");
+    };
     let mut words = line.split_whitespace();
-    let kind = record_type(words.next().context("a type is missing")?)?;
-    let place = words
-        .next()
-        .context("a place is missing")?
-        .parse::<usize>()?;
-    let length = words.next().context("a length is missing")?.parse::<u16>()?;
-    let octets = words
-        .next()
-        .context("octets are missing")?
-        .trim_matches('-');
-    let message = hex::decode(alloc, octets)?;
-    let mut decoder = BinDecoder::new(alloc, message.as_slice());
+    let Some(kind) = type_of(words.next().unwrap_or("").as_bytes()) else {
+        return refuse(out, NO_TYPE);
+    };
+    let Ok(place) = words.next().unwrap_or("").parse::<usize>() else {
+        return refuse(out, NO_PLACE);
+    };
+    let Ok(length) = words.next().unwrap_or("").parse::<u16>() else {
+        return refuse(out, NO_LENGTH);
+    };
+    let Some(octets) = words.next() else {
+        return refuse(out, NO_OCTETS);
+    };
+    if words.next().is_some() {
+        return refuse(out, "surplus word after the octets");
+    }
+    let message = match hex::decode(alloc, octets.trim_matches('-')) {
+        Ok(message) => message,
+        Err(FromHexError::OutOfMemory) => bail!("out of memory"),
+        Err(_) => return refuse(out, NO_OCTETS),
+    };
+    write_data(alloc, message.as_slice(), place, kind, length, out)
+}
+
+// Writes the text of RDATA in a message, and returns whether there is none.
+fn write_data<W: Write>(
+    alloc: Global,
+    message: &[u8],
+    place: usize,
+    kind: RecordType,
+    length: u16,
+    out: &mut W,
+) -> Result<bool> {
+    let mut decoder = BinDecoder::new(alloc, message);
     if decoder.read_slice(place).is_err() {
-        return Ok(out.write_all(b"refused\n")?);
+        return refuse(out, OUTSIDE);
     }
     match Held::read(&mut decoder, kind, length) {
         Err(DecodeError::Memory) => bail!("out of memory"),
-        Err(_) => out.write_all(b"refused\n")?,
-        Ok(held) => writeln!(out, "{}", ZoneText::new(&held.0))?,
+        Err(e) => {
+            writeln!(out, "refused: {e}")?;
+            Ok(true)
+        }
+        Ok(held) => {
+            writeln!(out, "{}", ZoneText::new(&held.0))?;
+            Ok(false)
+        }
     }
-    Ok(())
 }
 
-// Writes the line that answers a line of text.
+// Writes why a text is refused. A type without fields here has the form of unknown data alone.
+fn refuse_text<W: Write>(out: &mut W, e: ParseError) -> Result<bool> {
+    match e {
+        ParseError::UnsupportedRecordType(_) => {
+            writeln!(
+                out,
+                "refused: {e}; its data is read as `\\#`, a length and octets"
+            )?
+        }
+        _ => writeln!(out, "refused: {e}")?,
+    }
+    Ok(true)
+}
+
+// Writes the result of a line `TYPE TEXT`, and returns whether it is refused.
 fn write_octets<W: Write>(
     alloc: Global,
-    line: &str,
+    line: &[u8],
     origin: Option<&Name>,
     out: &mut W,
-) -> Result<()> {
-    let (kind, text) = line.split_once(' ').context("a text is missing")?;
-    let held = match from_zone_text(alloc, record_type(kind)?, text.as_bytes(), origin) {
+) -> Result<bool> {
+    let (word, text) = first_word(line);
+    let Some(kind) = type_of(word) else {
+        return refuse(out, NO_TYPE);
+    };
+    let held = match from_zone_text(alloc, kind, text, origin) {
         Ok(value) => Held(value),
         Err(ParseError::Memory) => bail!("out of memory"),
-        Err(e) => return Ok(writeln!(out, "refused: {e}")?),
+        Err(e) => return refuse_text(out, e),
     };
     let mut octets = Vec::new(alloc);
     let mut encoder = BinEncoder::new(alloc, &mut octets);
     held.0.emit_whole(&mut encoder)?;
     encoder.into_bytes();
     if octets.is_empty() {
-        return Ok(out.write_all(b"-\n")?);
+        out.write_all(b"-\n")?;
+    } else {
+        writeln!(out, "{}", hex::encode(alloc, octets.as_slice())?)?;
     }
-    Ok(writeln!(out, "{}", hex::encode(alloc, octets.as_slice())?)?)
+    Ok(false)
 }
 
 fn main(rt: HostRuntime) -> Result<()> {
     let alloc = rt.alloc();
     let mut words = std::env::args(&rt)?.skip(1);
-    let mode = words.next();
+    let is_reading = match words.next() {
+        None => false,
+        Some(word) if word.as_str() == "read" => true,
+        Some(_) => bail!("usage: zone_text [read [ORIGIN]]"),
+    };
     let origin = match words.next() {
         Some(name) => Some(Name::from_ascii(alloc, name.as_str())?),
         None => None,
     };
     let mut out = BufWriter::new(alloc, std::io::writer(&rt))?;
-    for line in BufReader::new(alloc, rt.reader())?.lines(alloc) {
+    let mut some_refused = false;
+    for line in BufReader::new(alloc, rt.reader())?.split(alloc, b'\n') {
         let line = line?;
-        match &mode {
-            None => write_text(alloc, line.as_str(), &mut out)?,
-            Some(word) if word.as_str() == "read" => {
-                write_octets(alloc, line.as_str(), origin.as_ref(), &mut out)?
-            }
-            Some(_) => bail!("usage: zone_text [read [ORIGIN]]"),
-        }
+        let is_refused = if is_reading {
+            write_octets(alloc, line.as_slice(), origin.as_ref(), &mut out)?
+        } else {
+            write_text(alloc, line.as_slice(), &mut out)?
+        };
+        some_refused = some_refused || is_refused;
     }
-    Ok(out.flush()?)
+    out.flush()?;
+    if some_refused {
+        bail!("some lines were refused");
+    }
+    Ok(())
 }

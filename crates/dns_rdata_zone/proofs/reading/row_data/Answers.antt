@@ -4,4 +4,4 @@ use Rattle.dns_rdata_zone.proofs.reading.row_data.Goals as goal
 
 pub returns-in-Some-clause-why : goal.returns-in-Some-clause-why
 returns-in-Some-clause-why c = row_fault (option_copied c.args.origin) c.args.record_type c.args.text.now c.row_of.result c.in-Some.row c.new.result c.row_octets.result
-    c.in-Some.is c.row_of.ensures c.new.ensures.words c.row_octets.ensures.why
+    c.in-Some.is c.row_of.ensures.rows c.row_of.ensures.texts c.new.ensures.words c.row_octets.ensures.why

@@ -1,6 +1,6 @@
 use Rattle.std.proofs.Common.{◌≡◌, drop}
-use Rattle.dns_zone_rows.specs.{MnemonicViews.named_values, Mnemonics.number_named}
-use Rattle.dns_zone_rows.proofs.mnemonics.number_named.Given as goal
+use Rattle.dns_zone_words.specs.Mnemonics.{named_values, number_named}
+use Rattle.dns_zone_words.proofs.mnemonics.number_named.Given as goal
 
 -- none of the names so far is the text
 abbrev pub invariant-loop-name : goal.invariant-loop-name

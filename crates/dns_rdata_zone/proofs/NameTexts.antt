@@ -1,0 +1,96 @@
+-- Names of zone files.
+use Rattle.std.proofs.Common.{◌≡◌, ◌⊎◌, ℕ, ◌+◌, List, [], ◌∷◌, ◌++◌, length, Option, Result, Ok, Err, refl, sym, ◌∙◌, ap, subst, inl, inr, codes}
+use Rattle.std.proofs.lemmas.List.{append-nil}
+use Rattle.std.specs.Prelude.{IfOk, IfErr}
+use Rattle.std.specs.Result.{IsErrAnd}
+use Rattle.dns_fields.specs.Labels.{DomainName, IsName, full_name, wire}
+use Rattle.dns_fields.specs.Names.{IsNameIn, whole}
+use Rattle.dns_fields.proofs.NameLaws.{name_same}
+use Rattle.dns_names_wire.specs.State.{Reading}
+use Rattle.dns_types.specs.declared.error.ParseError.{ParseError}
+use Rattle.dns_types.specs.declared.error.ParseError.TheVariants as parse
+use Rattle.dns_words.specs.Reads.{UnlessParseMemory}
+use Rattle.dns_words.proofs.Steps.{unless_map}
+use Rattle.dns_zone_rows.specs.{RowFaults.row_value, RowFaults.RowFault, RowTexts.row_texts, RowTexts.no_more, declared.row.ZoneRow.ZoneRow}
+use Rattle.dns_zone_rows.specs.Rows.{RowGives}
+use Rattle.dns_zone_words.specs.{FieldTexts.name_called, NameWords.IsNameWord, NameWords.name_octets, Words.Word, Words.Cursor, Words.words_at, Words.zone_words}
+use Rattle.dns_zone_words.specs.Remaining.{TookAll, NoneOfAll}
+use Rattle.dns_zone_words.proofs.FirstSteps.{exit_with}
+use Rattle.dns_rdata_zone.specs.NameTexts.{IsZoneName, IsNoZoneName, ZoneNameFault, name_row}
+
+-- ---- uncompressed octets
+
+whole_name : (y : DomainName) → IsName y → IsNameIn (name_octets y) 0 (full_name y) (0 + length (wire y.labels) + 1)
+whole_name y is = record { stands = whole [] is.labels refl refl; fits = is.fits; qualified = refl }
+
+-- the name that is read at the front is the one whose octets they are
+pub read_whole : (octets : List ℕ) (old : Reading) (x : DomainName) (end : ℕ) → old ≡ record { message = octets; index = 0 }
+    → IsNameIn old.message old.index x end → (y : DomainName) → octets ≡ name_octets y → IsName y → x ≡ full_name y
+read_whole octets old x end start is y same name =
+    let at : IsNameIn octets 0 x end = subst (λ (o : Reading). IsNameIn o.message o.index x end) start is in
+    let there : IsNameIn (name_octets y) 0 x end = subst (λ (s : List ℕ). IsNameIn s 0 x end) same at in
+    (name_same there (whole_name y name)).0
+
+-- ---- the words of a name
+
+-- the words are one, which is the name with these octets
+pub record OneName (origin : Option DomainName) (octets : List ℕ) (words : List Word) : Type 0 where
+  pub word : Word
+  pub alone : words ≡ word ∷ []
+  pub value : DomainName
+  pub is : IsNameWord origin value word
+  pub same : octets ≡ name_octets value
+
+one_name : (origin : Option DomainName) (octets : List ℕ) (words : List Word) → RowGives origin name_row octets words → OneName origin octets words
+one_name origin octets [] g = absurd g.fields
+one_name origin octets (word ∷ words) g =
+    let f = g.fields in
+    record {
+      word = word;
+      alone = ap (λ (ws : List Word). word ∷ ws) f.others.0;
+      value = f.first.value;
+      is = f.first.is;
+      same = f.same ∙ ap (λ (s : List ℕ). f.front ++ s) f.others.1 ∙ append-nil f.front ∙ f.first.same;
+    }
+
+name_given : (origin : Option DomainName) (word : Word) (value : DomainName) → IsNameWord origin value word → RowGives origin name_row (name_octets value) (word ∷ [])
+name_given origin word value is = record {
+  fields = record { front = name_octets value; behind = []; same = sym (append-nil (name_octets value)); first = record { value = value; is = is; same = refl }; others = (refl, refl) };
+}
+
+-- ---- what is returned
+
+pub name_found : (r : Result DomainName ParseError) (origin : Option DomainName) (text octets s : List ℕ) (cursor : Cursor) → words_at cursor ≡ zone_words text → s ≡ octets
+    → TookAll (RowGives origin name_row) octets cursor → IfOk r (λ x. (y : DomainName) → s ≡ name_octets y → IsName y → x ≡ full_name y)
+    → IfOk r (IsZoneName origin text)
+name_found (Err e) origin text octets s cursor starts same took h = tt
+name_found (Ok x) origin text octets s cursor starts same took h =
+    let one = one_name origin octets took.words took.value in
+    record {
+      word = one.word;
+      cut = sym starts ∙ took.cut ∙ ap Ok one.alone;
+      value = one.value;
+      is = one.is;
+      same = h one.value (same ∙ one.same) one.is.is_name;
+    }
+
+pub name_refused : {T : Type 0} (r : Result T ParseError) (e : ParseError) (origin : Option DomainName) (text : List ℕ) (cursor : Cursor) → IsErrAnd r (λ y. y ≡ e)
+    → words_at cursor ≡ zone_words text → UnlessParseMemory e (NoneOfAll (RowGives origin name_row) cursor)
+    → IfErr r (λ e. UnlessParseMemory e (IsNoZoneName origin text))
+name_refused r e origin text cursor h starts none = exit_with (λ r. IfErr r (λ e. UnlessParseMemory e (IsNoZoneName origin text))) e r h
+    (unless_map e (NoneOfAll (RowGives origin name_row) cursor) (IsNoZoneName origin text)
+    (λ no. record { none = λ x is. no.none (name_octets is.value) (is.word ∷ []) (starts ∙ is.cut) (name_given origin is.word is.value is.is) }) none)
+
+told : (e : ParseError) (origin : Option DomainName) (text : List ℕ) (row : ZoneRow) (cursor : Cursor) → words_at cursor ≡ zone_words text → row_value row ≡ name_row
+    → row_texts row ≡ name_called (codes "name") ∷ no_more ∷ [] → (e ≡ parse.Memory) ⊎ RowFault origin row cursor e
+    → (e ≡ parse.Memory) ⊎ ZoneNameFault origin text e
+told e origin text row cursor starts shape texts (inl memory) = inl memory
+told e origin text row cursor starts shape texts (inr fault) =
+    inr (record { row = row; shape = shape; texts = texts; cursor = cursor; starts = starts; has = fault })
+
+pub name_fault : {T : Type 0} (r : Result T ParseError) (e : ParseError) (origin : Option DomainName) (text : List ℕ) (row : ZoneRow) (cursor : Cursor) → IsErrAnd r (λ y. y ≡ e)
+    → words_at cursor ≡ zone_words text → (e ≡ parse.Memory) ⊎ RowFault origin row cursor e → row_value row ≡ name_row
+    → row_texts row ≡ name_called (codes "name") ∷ no_more ∷ []
+    → IfErr r (λ e. (e ≡ parse.Memory) ⊎ ZoneNameFault origin text e)
+name_fault r e origin text row cursor h starts why shape texts =
+    exit_with (λ r. IfErr r (λ e. (e ≡ parse.Memory) ⊎ ZoneNameFault origin text e)) e r h (told e origin text row cursor starts shape texts why)

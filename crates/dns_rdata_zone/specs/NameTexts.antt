@@ -1,0 +1,33 @@
+-- Which domain name a text of a zone file is (RFC 1035, 5.1).
+use Rattle.std.specs.Prelude.{◌≡◌, ℕ, List, [], ◌∷◌, Option, Ok, codes}
+use Rattle.dns_fields.specs.Labels.{DomainName, full_name}
+use Rattle.dns_types.specs.declared.error.ParseError.{ParseError}
+use Rattle.dns_zone_rows.specs.{RowFaults.row_value, RowFaults.RowFault, RowTexts.row_texts, RowTexts.no_more, declared.row.ZoneRow.ZoneRow}
+use Rattle.dns_zone_rows.specs.Rows.{Name, NoWord, RowShape}
+use Rattle.dns_zone_words.specs.{FieldTexts.name_called, NameWords.IsNameWord, Words.Word, Words.Cursor, Words.words_at, Words.zone_words}
+
+-- The text is one token, which is the name: labels that the origin completes, `@` or a dot. The name is fully qualified, also
+-- if there is no origin and the text has no dot at its end.
+pub record IsZoneName (origin : Option DomainName) (text : List ℕ) (x : DomainName) : Type 0 where
+  pub word : Word
+  pub cut : zone_words text ≡ Ok (word ∷ [])
+  pub value : DomainName
+  pub is : IsNameWord origin value word
+  pub same : x ≡ full_name value
+
+-- the text is no name
+pub record IsNoZoneName (origin : Option DomainName) (text : List ℕ) : Type 0 where
+  pub none : (x : DomainName) → IsZoneName origin text x → ⊥
+
+-- one name, and no token after it
+abbrev pub name_row : RowShape
+name_row = record { fields = Name ∷ []; rest = NoWord }
+
+-- why the text is no name, as of record data that is one name, which errors call `name`
+pub record ZoneNameFault (origin : Option DomainName) (text : List ℕ) (e : ParseError) : Type 0 where
+  pub row : ZoneRow
+  pub shape : row_value row ≡ name_row
+  pub texts : row_texts row ≡ name_called (codes "name") ∷ no_more ∷ []
+  pub cursor : Cursor
+  pub starts : words_at cursor ≡ zone_words text
+  pub has : RowFault origin row cursor e

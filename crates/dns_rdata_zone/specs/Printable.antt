@@ -1,0 +1,7 @@
+-- Printable ASCII.
+use Rattle.std.specs.Prelude.{ℕ, ◌≤◌, List}
+use Rattle.std.specs.List.{AllByRecursion}
+
+-- each octet is a blank or a graphic character of ASCII, so none is a line end
+abbrev pub ArePrintable : List ℕ → Type 0
+ArePrintable text = AllByRecursion (λ c. (32 ≤ c) × (c ≤ 126)) text

@@ -1,0 +1,42 @@
+//! Names of numbers in words.
+
+ghost use Rattle.std.specs.Prelude.{◌≡◌};
+ghost use Rattle.std.specs.Str.{str_eq_ignore_ascii_case};
+ghost use Rattle.dns_zone_words.specs.Mnemonics.{named_values, number_named};
+
+/// A name, and the number that it stands for.
+#[derive(Clone, Copy)]
+pub struct Mnemonic {
+    pub name: &'static str,
+    pub value: u16,
+}
+
+// Which number a name stands for.
+#[macro_export]
+macro_rules! named {
+    ($name:literal = $value:literal) => {
+        $crate::Mnemonic {
+            name: $name,
+            value: $value,
+        }
+    };
+}
+
+/// The number of the first of the names that the text is, in letters of either case.
+pub fn number_named(names: &[Mnemonic], text: &[u8]) -> Option<u16>
+    ensures { result ≡ number_named (named_values names.now) text.now }
+{
+    for name in names {
+        if is_same_name(text, name.name.as_bytes()) {
+            return Some(name.value);
+        }
+    }
+    None
+}
+
+#[inline]
+fn is_same_name(text: &[u8], name: &[u8]) -> bool
+    ensures { result ≡ str_eq_ignore_ascii_case text.now name.now }
+{
+    text.eq_ignore_ascii_case(name)
+}
