@@ -69,6 +69,12 @@ class Refusal(ctypes.Structure):
     _fields_ = [("read", ctypes.c_size_t), ("len", ctypes.c_size_t), ("number", ctypes.c_uint32)]
 
 
+class Parts(ctypes.Structure):
+    """Where the next part of RDATA is: its offset in the message, and the offset where the RDATA ends."""
+
+    _fields_ = [("next", ctypes.c_size_t), ("end", ctypes.c_size_t)]
+
+
 class Refused(ValueError):
     """Why a call gives no answer: `status`, and of `check` the numbers `read` and `len` (LENGTH) or `number`."""
 
@@ -97,6 +103,8 @@ CALLS = {
     "dns_rdata_display_text": [*DATA, SHORT, *ROOM],
     "dns_rdata_name": [*DATA, SHORT, SIZE, *ROOM, COUNT],
     "dns_rdata_part": [*DATA, SHORT, SIZE, NUMBER, COUNT, COUNT],
+    "dns_rdata_parts_begin": [*DATA, SHORT, ctypes.POINTER(Parts)],
+    "dns_rdata_parts_next": [OCTETS, SIZE, ctypes.POINTER(Parts), NUMBER, COUNT, COUNT],
     "dns_rdata_compare": [*DATA, *DATA, SHORT, TELLS],
     "dns_rdata_equal": [*DATA, *DATA, SHORT, TELLS],
     "dns_rdata_compare_canonical": [OCTETS, SIZE, OCTETS, SIZE],
@@ -158,12 +166,13 @@ def check(message, place, length, type_number):
 
 
 def canonical(message, place, length, type_number):
-    """The canonical octets: data of one type is equal exactly where they are the same (RFC 4034, 6.2)."""
+    """The canonical octets: this library's own form, for equality, order and hashing. RDATA of one type is equal exactly if they are
+    the same. Not for DNSSEC: a signer starts from `wire`."""
     return _filled(_library.dns_rdata_canonical, *_data(message, place, length), _short(type_number))
 
 
 def wire(message, place, length, type_number):
-    """The octets without pointers into the message, names whole and with their letters."""
+    """The uncompressed octets, names with their case preserved. A DNSSEC signer starts from these."""
     return _filled(_library.dns_rdata_wire, *_data(message, place, length), _short(type_number))
 
 
@@ -189,13 +198,15 @@ def parts(message, place, length, type_number):
     """The options of OPT, or the parameters of SVCB and HTTPS, in the order of the message: for each its code or key, the place in
     the message of the first of its octets, and how many they are. Of other types there are none."""
     found, number, begin, count = [], ctypes.c_uint16(), ctypes.c_size_t(), ctypes.c_size_t()
-    data = (*_data(message, place, length), _short(type_number))
-    while True:
-        status = _library.dns_rdata_part(*data, len(found), ctypes.byref(number), ctypes.byref(begin), ctypes.byref(count))
-        if status == Status.ABSENT:
-            return found
+    cursor, (octets, size, *where) = Parts(), _data(message, place, length)
+    status = _library.dns_rdata_parts_begin(octets, size, *where, _short(type_number), ctypes.byref(cursor))
+    while status == Status.OK:
+        status = _library.dns_rdata_parts_next(octets, size, ctypes.byref(cursor), ctypes.byref(number), ctypes.byref(begin), ctypes.byref(count))
+        if status == Status.OK:
+            found.append((number.value, begin.value, count.value))
+    if status != Status.ABSENT:
         _want_ok(status)
-        found.append((number.value, begin.value, count.value))
+    return found
 
 
 def display_text(message, place, length, type_number):

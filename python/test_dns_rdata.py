@@ -3,6 +3,7 @@
 import doctest
 import pathlib
 import random
+import time
 import unittest
 
 import dns_rdata as lib
@@ -92,6 +93,11 @@ class Calls(unittest.TestCase):
         self.assertEqual(lib.parts(options, 0, 8, lib.OPT), [])
         self.refused(lib.Status.LENGTH, lib.parts, options, 0, 9, lib.OPT)
         self.refused(lib.Status.LENGTH, lib.names, MESSAGE, 17, 3, lib.MX)
+        self.assertEqual(lib.parts(MESSAGE, 17, 4, lib.MX), [])
+        many = b"\0\x0c\0\0" * 16000
+        start = time.process_time()
+        self.assertEqual(lib.parts(many, 0, len(many), lib.OPT), [(12, 4 * i + 4, 0) for i in range(16000)])
+        self.assertLess(time.process_time() - start, 0.5)
 
     def test_types(self):
         self.assertEqual([lib.type_text(15), lib.type_text(4711)], ["MX", "TYPE4711"])

@@ -1,7 +1,7 @@
 /*
- * The data part (RDATA) of DNS resource records: checked, compared, put into canonical and plain octets, printed and read
- * from texts. The library behind these calls is proved: for every message, place, length and type each call does what is
- * written here, reads and writes only the buffers that it is given, and ends.
+ * The RDATA of DNS resource records: checked, compared, written as canonical or as uncompressed octets, printed, and parsed from
+ * text. The library behind these calls is proved: for every message, place, length and type each call does what is written here,
+ * reads and writes only the buffers that it is given, and returns.
  *
  * What every call has in common:
  *
@@ -10,14 +10,28 @@
  *    overlaps no other buffer of the call. Lengths are in octets, true, and at most SIZE_MAX / 2.
  *  - `message` is any octets, well formed or not. `place` counts from its first octet, and may be past its end. Only the
  *    octets that the data and the pointers of its names lead to are looked at.
- *  - Values are made by malloc and freed before the call returns. Where malloc fails the answer is DNS_RDATA_MEMORY, or
- *    the right one all the same, and nothing is lost. Of some calls it is said that they take no memory.
+ *  - Calls allocate by malloc, and free everything before they return. If malloc fails, the call returns DNS_RDATA_MEMORY, or
+ *    its usual result if it can do without that memory. Calls that never allocate say so.
  *  - Calls keep no state: threads may call at the same time. Not for signal handlers.
  *  - The answer is a status, DNS_RDATA_OK or why not. From DNS_RDATA_REFUSED on, the octets are the data of no record of that
  *    type; from DNS_RDATA_NO_DATA_TEXT on, the text is of none. Neither is ever answered for octets or texts that are.
  *  - Where octets or a text do not fit into the buffer the answer is DNS_RDATA_BUFFER, and *count tells how many octets they
  *    are (of a text without the 0 behind it, as snprintf does), so the call can be made again; a buffer of length 0 asks
  *    for that number. *count is set with DNS_RDATA_OK and DNS_RDATA_BUFFER, and otherwise left as it was.
+ *  - RDATA is rejected for the first of these reasons that holds: the type is never read (DNS_RDATA_NEVER); the record takes
+ *    another number of octets than `length` (DNS_RDATA_LENGTH); the record itself has an error (the other statuses). A record stops
+ *    at its first error, mostly before the end of the RDATA. So most damaged RDATA is rejected with DNS_RDATA_LENGTH, and a status
+ *    such as DNS_RDATA_NAME is returned only if the error is found at the end of the RDATA. See dns_rdata_check.
+ *
+ * Stricter and looser than other libraries:
+ *
+ *  - Rejected here, and accepted by other libraries: a client subnet (RFC 7871) of family 0; an ALPN id that is not UTF-8 (RFC
+ *    8701 reserves some); a CAA tag of more than 15 letters and digits (RFC 6844, section 3; RFC 8659 has no limit); CSYNC flags in
+ *    the bits 2 to 7, counted from the lowest (RFC 7477 defines the bits 0 and 1).
+ *  - Accepted here: an SSHFP fingerprint of type SHA-256 that has not 32 octets.
+ *  - Type 65305 is in the range for private use, and is ANAME here.
+ *  - dns_rdata_wire and dns_rdata_text leave out octets that are read and have no meaning: those of a port (SVCB, HTTPS) after its
+ *    first two, those of a client subnet after its address, and the options of an OPT that ends inside an option.
  *
  * Types with a form of their own: A, AAAA, ANAME, CAA, CERT, CNAME, CSYNC, HINFO, HTTPS, MX, NAPTR, NULL, NS, OPENPGPKEY,
  * OPT, PTR, SMIMEA, SOA, SRV, SSHFP, SVCB, TLSA, TXT and 0. ANY, AXFR and IXFR have no data. The data of every other type is
@@ -46,7 +60,7 @@ enum {
     DNS_RDATA_OK = 0,
     DNS_RDATA_MEMORY = 1,                /* malloc failed */
     DNS_RDATA_BUFFER = 2,                /* the buffer is too small, and *count says how large it must be */
-    DNS_RDATA_TOO_LONG = 3,              /* the octets are more than 65535, with all names whole */
+    DNS_RDATA_TOO_LONG = 3,              /* more than 65535 octets with all names uncompressed (dns_rdata_parse: WRONG_WORD) */
     DNS_RDATA_NO_TEXT = 4,               /* there is no text of OPT (dns_rdata_display_text alone) */
     DNS_RDATA_UNFIT = 5,                 /* a value without octets, as of a long string (dns_rdata_parse_display_text alone) */
     DNS_RDATA_ORIGIN = 6,                /* the octets of the origin are no name */
@@ -61,7 +75,7 @@ enum {
     DNS_RDATA_NO_TYPE = 19,              /* the text is of no type (dns_rdata_type_number alone) */
     DNS_RDATA_NAME = 20,                 /* a damaged domain name: RFC 1035, 3.1 and 4.1.4 */
     DNS_RDATA_BITMAP = 21,               /* a damaged bitmap of types: RFC 4034, 4.1.2 */
-    DNS_RDATA_CAA_TAG = 22,              /* a tag that is not one to 15 letters and digits: RFC 8659, 4.1 */
+    DNS_RDATA_CAA_TAG = 22,              /* a tag that is not one to 15 letters and digits: RFC 6844, section 3 */
     DNS_RDATA_NAPTR_FLAGS = 23,          /* a flag that is no letter and no digit: RFC 3403, 4.1 */
     DNS_RDATA_CSYNC_FLAGS = 24,          /* flags that are not known: RFC 7477, 2.1.1.2 */
     DNS_RDATA_ADDRESS_FAMILY = 25,       /* a family other than those of IPv4 and IPv6: RFC 7871, 6 */
@@ -85,54 +99,102 @@ struct dns_rdata_refusal {
 };
 
 /*
- * Whether the `length` octets from `place` of the message are the data of a record of this type. DNS_RDATA_OK exactly where
- * they are (want of memory aside); else the first reason for which they are not, with its numbers in *why, which
- * DNS_RDATA_OK leaves as they were.
+ * Checks whether the `length` octets at `place` of the message are the RDATA of a record of this type. Returns DNS_RDATA_OK exactly
+ * if they are, unless memory runs out. Otherwise it returns the first reason why they are not and sets *why to the numbers of that
+ * reason; with DNS_RDATA_MEMORY all numbers are 0. DNS_RDATA_OK leaves *why as it was.
+ *
+ * The number of octets is tested before the record's own error. With DNS_RDATA_LENGTH the record usually stopped at the offset
+ * place + why->read. These give DNS_RDATA_LENGTH and not the status that one may expect:
+ *
+ *  - a message that ends inside the RDATA (not DNS_RDATA_MISSING_OCTETS);
+ *  - MX whose name has a compression pointer forward (not DNS_RDATA_NAME);
+ *  - CAA whose tag has an octet that is no letter and no digit, unless that octet ends the RDATA (not DNS_RDATA_CAA_TAG);
+ *  - CSYNC with unknown flags and a bitmap after them (not DNS_RDATA_CSYNC_FLAGS).
  */
 DNS_RDATA_NONNULL dns_rdata_status dns_rdata_check(const uint8_t *message, size_t message_length, size_t place,
                                                    uint16_t length, uint16_t type, struct dns_rdata_refusal *why);
 
 /*
- * The data's canonical octets (RFC 4034, 6.2): names whole and in lower case, options of OPT in rising order, a set of types
- * in its shortest form. Data of one type is equal exactly where they are the same, so they are a key: compare them by
- * dns_rdata_compare_canonical, and hash them by any hash. Read again (place 0, length *count), they are data that is
- * equal. With DNS_RDATA_BUFFER and DNS_RDATA_TOO_LONG what the buffer holds is left open.
+ * Writes the canonical octets of the RDATA: this library's own form, for equality, order and hashing. All names are uncompressed
+ * and lowercased (those of SVCB, HTTPS and ANAME, too), the options of OPT are sorted, and the bitmap of CSYNC is minimal. RDATA of
+ * one type is equal exactly if its canonical octets are the same, so they are a key: compare them with dns_rdata_compare_canonical,
+ * and hash them with any hash. Read again (place 0, length *count) they give equal RDATA. With DNS_RDATA_BUFFER and
+ * DNS_RDATA_TOO_LONG the buffer may hold anything.
+ *
+ * NOT for DNSSEC: this is not the canonical form of RFC 4034, section 6.2. To sign or to validate, start from dns_rdata_wire and
+ * lowercase the names of those types alone that RFC 4034 and RFC 6840, section 5.1, list.
  */
 DNS_RDATA_NONNULL dns_rdata_status dns_rdata_canonical(const uint8_t *message, size_t message_length, size_t place,
                                                        uint16_t length, uint16_t type, uint8_t *out, size_t out_length,
                                                        size_t *count);
 
 /*
- * The data's octets without pointers into the message: names whole, with their letters. The buffer is written with
- * DNS_RDATA_OK alone.
+ * Writes the uncompressed octets of the RDATA, names with their case preserved. They mean the same in every message, and a DNSSEC
+ * signer or validator starts from them. The buffer is written with DNS_RDATA_OK alone.
  */
 DNS_RDATA_NONNULL dns_rdata_status dns_rdata_wire(const uint8_t *message, size_t message_length, size_t place,
                                                   uint16_t length, uint16_t type, uint8_t *out, size_t out_length,
                                                   size_t *count);
 
 /*
- * A name in the data, whole and with its letters, and in *begin its place in the message, where it may end by a pointer. Names
- * are counted from 0 in the order of the fields; of SOA there are two. Where there is none of this number the answer is
- * DNS_RDATA_ABSENT. The buffer is written with DNS_RDATA_OK alone, and *begin where *count is; 255 octets hold any name.
+ * Writes one of the names in the RDATA, uncompressed and with its case preserved, and sets *begin to the offset of the name in the
+ * message, where it may end with a compression pointer. Names are counted from 0 in the order of the fields: SOA has two, and the
+ * other types have one or none. If there is no name with this index it returns DNS_RDATA_ABSENT. The buffer is written with DNS_RDATA_OK alone,
+ * and *begin is set if *count is; 255 octets hold any name. Each call reads all of the RDATA.
  */
 DNS_RDATA_NONNULL dns_rdata_status dns_rdata_name(const uint8_t *message, size_t message_length, size_t place,
                                                   uint16_t length, uint16_t type, size_t index, uint8_t *out,
                                                   size_t out_length, size_t *count, size_t *begin);
 
 /*
- * An option of OPT, or a parameter of SVCB and HTTPS: its code or key in *number, and in *begin the place in the message of the
- * first of its *count octets. They are counted from 0 in the order of the message. Where there is none of this number, and of every
- * other type, the answer is DNS_RDATA_ABSENT. An OPT that ends behind a code, or within the octets of an option, is data and has none.
- * The three are set with DNS_RDATA_OK alone. Takes no memory.
+ * Finds an option of OPT, or a parameter of SVCB and HTTPS: sets *number to its code or key, and *begin and *count to the offset in
+ * the message and the number of the octets of its value. Parts are counted from 0 in the order of the message. If there is no part
+ * with this index it returns DNS_RDATA_ABSENT, and so it does for every other type. An OPT that ends inside an option is valid and
+ * has no options. The three numbers are set with DNS_RDATA_OK alone. Does not allocate.
  *
- * The octets are gone over and no value is read: the numbers and lengths to the end of the data, of SVCB and HTTPS behind a priority
- * and a name, which is not followed where it ends by a pointer. So parts are found in octets that are otherwise no data of the type,
- * too; octets that are data are never refused. Refused is by DNS_RDATA_MISSING_OCTETS where the message ends before the data does, by
- * DNS_RDATA_NAME where no name stands behind the priority, and by DNS_RDATA_LENGTH where the octets end within a part.
+ * The call looks at the code and the length of every part up to the end of the RDATA, and of the parts before `index` once more. To
+ * go over all parts use dns_rdata_parts_begin: with this call it takes time in the square of their number.
+ *
+ * No value is read: for SVCB and HTTPS the call skips the priority and the labels of the name, and follows no compression pointer. So
+ * it also finds parts in octets that are otherwise not valid RDATA, and it never rejects valid RDATA. It fails with
+ * DNS_RDATA_MISSING_OCTETS if the message ends before the RDATA does, with DNS_RDATA_NAME if no name follows the priority, and
+ * with DNS_RDATA_LENGTH if the RDATA ends inside a part.
  */
 DNS_RDATA_NONNULL dns_rdata_status dns_rdata_part(const uint8_t *message, size_t message_length, size_t place,
                                                   uint16_t length, uint16_t type, size_t index, uint16_t *number,
                                                   size_t *begin, size_t *count);
+
+/* Where the next part of RDATA is. The caller holds it; dns_rdata_parts_begin sets it, and dns_rdata_parts_next moves it. */
+struct dns_rdata_parts {
+    size_t next; /* the offset of the next part in the message */
+    size_t end;  /* the offset where the RDATA ends */
+};
+
+/*
+ * Begins to go over all parts of RDATA, as in
+ *
+ *     struct dns_rdata_parts parts;
+ *     dns_rdata_status status = dns_rdata_parts_begin(message, size, place, length, type, &parts);
+ *     while (status == DNS_RDATA_OK) {
+ *         status = dns_rdata_parts_next(message, size, &parts, &number, &begin, &count);
+ *         if (status == DNS_RDATA_OK) ..
+ *     }
+ *
+ * after which the status is DNS_RDATA_ABSENT if all parts were seen. dns_rdata_parts_begin returns what dns_rdata_part returns for
+ * index 0, and fails as that does; with a status other than DNS_RDATA_OK the cursor has no parts. It looks at every code and length
+ * once. Does not allocate.
+ */
+DNS_RDATA_NONNULL dns_rdata_status dns_rdata_parts_begin(const uint8_t *message, size_t message_length, size_t place,
+                                                         uint16_t length, uint16_t type, struct dns_rdata_parts *parts);
+
+/*
+ * Returns the part at the cursor, as dns_rdata_part does, and moves the cursor to the next one. After the last part it returns
+ * DNS_RDATA_ABSENT and sets nothing. The message is the one that dns_rdata_parts_begin was given. A call looks at one code and one
+ * length. Does not allocate. A cursor with other numbers is safe: the part that is returned is always inside the message.
+ */
+DNS_RDATA_NONNULL dns_rdata_status dns_rdata_parts_next(const uint8_t *message, size_t message_length,
+                                                        struct dns_rdata_parts *parts, uint16_t *number, size_t *begin,
+                                                        size_t *count);
 
 /*
  * The order of the data of two records of one type, in two messages (or in one, twice): *order is -1, 0 or 1, the order of
@@ -158,22 +220,23 @@ DNS_RDATA_NONNULL int32_t dns_rdata_compare_canonical(const uint8_t *octets, siz
                                                       size_t other_length);
 
 /*
- * The data's text in a zone file, with a 0 behind it, in the form that every name server reads (RFC 1035, 5.1; RFC 9460, 2.1): one
- * line of printable ASCII, names fully qualified and with their letters, strings in quotes. Data of a type without a form of its
- * own, and other data that has no such text, as TXT without strings, stands in the form of unknown data, \# and octets (RFC
- * 3597, 5), and so does OPT. The buffer is written with DNS_RDATA_OK alone.
+ * Writes the zone file text of the RDATA, followed by a zero octet, in the presentation format that every name server reads (RFC
+ * 1035, section 5.1; RFC 9460, section 2.1): one line of printable ASCII, names fully qualified and with their case preserved,
+ * strings in quotes. Types without a format of their own, OPT, and RDATA that has no such text (as TXT without strings) are written
+ * as unknown RDATA, \# and hexadecimal digits (RFC 3597, section 5). The buffer is written with DNS_RDATA_OK alone. RDATA of more than
+ * 65535 octets once its names are uncompressed is rejected with DNS_RDATA_TOO_LONG, since nothing reads its text.
  */
 DNS_RDATA_NONNULL dns_rdata_status dns_rdata_text(const uint8_t *message, size_t message_length, size_t place,
                                                   uint16_t length, uint16_t type, char *out, size_t out_length,
                                                   size_t *count);
 
 /*
- * The text that hickory-proto prints of the data, with a 0 behind it. The buffer is written with DNS_RDATA_OK alone. OPT has
- * no text: DNS_RDATA_NO_TEXT.
+ * Writes the text that hickory-proto prints of the RDATA, followed by a zero octet. The buffer is written with DNS_RDATA_OK alone.
+ * OPT has no such text: DNS_RDATA_NO_TEXT.
  *
- * The text is for people; dns_rdata_text gives that of a zone file. Of addresses, names, MX, SOA, SRV, NAPTR, SSHFP, TLSA, CAA, CSYNC
- * and the like it is a zone file's. It is none of TXT and HINFO, whose strings stand without quotes, of NULL and of types without a form of their own, whose
- * octets are base64, and of SVCB and HTTPS, whose lists end with a comma.
+ * The text is for people, and is not promised to be valid in a zone file: use dns_rdata_text for that. It is not valid for TXT and
+ * HINFO, whose strings have no quotes, for NULL and types without a format of their own, whose octets are base64, and for SVCB and
+ * HTTPS, whose lists end with a comma.
  */
 DNS_RDATA_NONNULL dns_rdata_status dns_rdata_display_text(const uint8_t *message, size_t message_length, size_t place,
                                                           uint16_t length, uint16_t type, char *out, size_t out_length,
@@ -197,10 +260,11 @@ DNS_RDATA_NONNULL dns_rdata_status dns_rdata_parse_display_text(const char *text
  * with its 0 at the end, by which relative names are completed; with origin_length 0 there is none, and they stand as if they were
  * fully qualified.
  *
- * What is put into the buffer is data of the type (dns_rdata_check of it is DNS_RDATA_OK). What dns_rdata_text writes is read again,
- * whatever the origin, as the octets that dns_rdata_wire gives. The buffer is written with DNS_RDATA_OK alone. Refused is by
- * DNS_RDATA_MISSING_WORD and DNS_RDATA_WRONG_WORD, by DNS_RDATA_UNSUPPORTED_TYPE where the type has no other form than \#, and by
- * DNS_RDATA_WRONG_VALUE where the octets that the text gives are no data of the type.
+ * What is written is valid RDATA of the type (dns_rdata_check returns DNS_RDATA_OK for it). Text that dns_rdata_text wrote is read
+ * again, with any origin, as the octets that dns_rdata_wire writes. The buffer is written with DNS_RDATA_OK alone. A text is rejected
+ * with DNS_RDATA_MISSING_WORD or DNS_RDATA_WRONG_WORD; with DNS_RDATA_UNSUPPORTED_TYPE if the type is read in the form \# alone; and
+ * with DNS_RDATA_WRONG_VALUE if the octets that the text gives are not valid RDATA of the type. A text of more than 65535 octets of
+ * RDATA is rejected with DNS_RDATA_WRONG_WORD.
  */
 DNS_RDATA_NONNULL dns_rdata_status dns_rdata_parse(const char *text, size_t text_length, uint16_t type, const uint8_t *origin,
                                                    size_t origin_length, uint8_t *out, size_t out_length, size_t *count);

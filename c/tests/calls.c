@@ -4,6 +4,7 @@
 #include <stdio.h>
 #include <stdlib.h>
 #include <string.h>
+#include <time.h>
 
 static int failed;
 
@@ -39,6 +40,61 @@ struct key {
 static int by_octets(const void *a, const void *b) {
     const struct key *x = (const struct key *)a, *y = (const struct key *)b;
     return dns_rdata_compare_canonical(x->octets, x->count, y->octets, y->count);
+}
+
+/* The number of octets is tested before the record's own error, which is returned only if it is found at the end of the RDATA. */
+static void rejected(void) {
+    static const uint8_t address[] = {192, 0, 2};
+    static const uint8_t mail[] = {0, 10, 0xc0, 4, 0}; /* a compression pointer forward */
+    static const uint8_t issuer[] = {0, 5, 'i', 's', 's', 'u', '-', 'c', 'a'}; /* "-" ends the tag, and a value follows */
+    static const uint8_t sync[] = {0, 0, 0, 1, 0, 4, 0, 1, 0x40}; /* an unknown flag, then a bitmap */
+    struct dns_rdata_refusal why = {9, 9, 9};
+    want(dns_rdata_check(address, 3, 0, 4, 1, &why) == DNS_RDATA_LENGTH && why.read != 4 && why.len == 4, "the message ends inside an A");
+    want(dns_rdata_check(mail, 5, 0, 4, 15, &why) == DNS_RDATA_LENGTH && why.read != 4 && why.len == 4, "a pointer forward in MX");
+    want(dns_rdata_check(issuer, 9, 0, 9, 257, &why) == DNS_RDATA_LENGTH && why.read != 9 && why.len == 9, "a bad tag in CAA");
+    want(dns_rdata_check(sync, 9, 0, 9, 62, &why) == DNS_RDATA_LENGTH && why.read != 9 && why.len == 9, "an unknown flag in CSYNC");
+    want(dns_rdata_check(issuer, 9, 0, 7, 257, &why) == DNS_RDATA_CAA_TAG, "a bad tag at the end of CAA");
+    want(dns_rdata_check(sync, 9, 0, 6, 62, &why) == DNS_RDATA_CSYNC_FLAGS && why.number == 4, "an unknown flag at the end of CSYNC");
+    want(dns_rdata_check(address, 3, 4, 4, 1, &why) == DNS_RDATA_MISSING_OCTETS, "an offset past the end of the message");
+}
+
+/* 16,000 options without octets, in time linear in their number. */
+static void many_options(void) {
+    enum { MANY = 16000 };
+    static uint8_t octets[4 * MANY];
+    struct dns_rdata_parts parts;
+    uint16_t code = 0;
+    size_t begin = 0, count = 0, seen = 0;
+    clock_t start = clock();
+    for (size_t i = 0; i < MANY; i++)
+        octets[4 * i + 1] = 12;
+    dns_rdata_status status = dns_rdata_parts_begin(octets, sizeof octets, 0, sizeof octets, 41, &parts);
+    while (status == DNS_RDATA_OK) {
+        status = dns_rdata_parts_next(octets, sizeof octets, &parts, &code, &begin, &count);
+        if (status == DNS_RDATA_OK) {
+            want(code == 12 && count == 0 && begin == 4 * seen + 4, "an option in its order");
+            seen++;
+        }
+    }
+    want(status == DNS_RDATA_ABSENT && seen == MANY, "all options");
+    want((clock() - start) * 20 < CLOCKS_PER_SEC, "16,000 options in 50 milliseconds");
+}
+
+/* SVCB with a compressed target. Its RDATA has one octet more when it is uncompressed; past 65535 no text of it can be read. */
+static void long_text(void) {
+    static uint8_t octets[3 + 65535];
+    static char text[400000];
+    size_t count = 5;
+    uint8_t *rdata = octets + 3;
+    octets[0] = 1, octets[1] = 'x'; /* the name x. */
+    rdata[1] = 1;
+    rdata[2] = 0xc0; /* a compression pointer to it */
+    rdata[4] = 0xff, rdata[6] = 0xff, rdata[7] = 0xf7; /* key65280 with 65,527 octets */
+    want(dns_rdata_text(octets, sizeof octets, 3, 65535, 64, text, sizeof text, &count) == DNS_RDATA_TOO_LONG && count == 5, "65,536 octets uncompressed");
+    rdata[7] = 0xf6;
+    want(dns_rdata_text(octets, sizeof octets, 3, 65534, 64, text, sizeof text, &count) == DNS_RDATA_OK, "65,535 octets uncompressed");
+    static uint8_t read[65535];
+    want(dns_rdata_parse(text, count, 64, octets, 0, read, sizeof read, &count) == DNS_RDATA_OK && count == 65535, "whose text is read");
 }
 
 int main(void) {
@@ -95,6 +151,18 @@ int main(void) {
     static const uint8_t options[] = {0, 10, 0, 2, 1, 2, 0, 12, 0, 0};
     for (size_t i = 0; dns_rdata_part(options, sizeof options, 0, sizeof options, 41, i, &type, &begin, &count) == DNS_RDATA_OK; i++)
         printf("option %u, %zu octets at %zu\n", type, count, begin);
+    struct dns_rdata_parts parts;
+    for (status = dns_rdata_parts_begin(service, sizeof service, 0, sizeof service, 64, &parts); status == DNS_RDATA_OK;)
+        if ((status = dns_rdata_parts_next(service, sizeof service, &parts, &type, &begin, &count)) == DNS_RDATA_OK)
+            printf("next parameter %u, %zu octets at %zu\n", type, count, begin);
+    want(status == DNS_RDATA_ABSENT, "the end of the parameters");
+    want(dns_rdata_parts_begin(options, sizeof options, 0, 9, 41, &parts) == DNS_RDATA_LENGTH, "three octets after an option");
+    want(dns_rdata_parts_next(options, sizeof options, &parts, &type, &begin, &count) == DNS_RDATA_ABSENT, "no parts after an error");
+    want(dns_rdata_parts_begin(options, sizeof options, 0, 8, 41, &parts) == DNS_RDATA_ABSENT, "a truncated OPT has no options");
+    want(dns_rdata_parts_begin(message, sizeof message, 41, 9, 15, &parts) == DNS_RDATA_ABSENT, "MX has no parts");
+    rejected();
+    many_options();
+    long_text();
 
     want(dns_rdata_compare(message, sizeof message, 41, 9, message, sizeof message, 62, 4, 15, &order) == DNS_RDATA_OK, "cmp");
     printf("10 against 5: %d\n", order);

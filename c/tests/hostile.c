@@ -1,12 +1,16 @@
 /*
- * Random octets, places, lengths, types and buffers through every call, and what holds of their answers. Buffers are exact
- * blocks of malloc, so that an address checker sees each octet past them. ./hostile ROUNDS [SEED]
+ * Random octets, offsets, lengths, types and buffers through every call, and what holds of their results. Every buffer ends at a
+ * page that can be neither read nor written, so an access past a buffer stops the program, also one of the library, which the
+ * sanitizers do not see since it is not instrumented. ./hostile ROUNDS [SEED]
  */
+#define _DEFAULT_SOURCE
 #include "dns_rdata.h"
 
 #include <stdio.h>
 #include <stdlib.h>
 #include <string.h>
+#include <sys/mman.h>
+#include <unistd.h>
 
 static uint64_t state = 88172645463325252ull;
 
@@ -19,10 +23,33 @@ static uint64_t next(void) {
 
 static uint32_t below(uint32_t n) { return (uint32_t)(next() % n); }
 
+/* Regions that are used again, each with a page after it that cannot be touched; a buffer is the end of one. */
+enum { REGIONS = 16, ROOM = 1 << 16 };
+static uint8_t *ends[REGIONS];
+static int taken[REGIONS];
+
+static uint8_t *guarded_region(void) {
+    size_t page = (size_t)sysconf(_SC_PAGESIZE);
+    uint8_t *at = (uint8_t *)mmap(NULL, ROOM + page, PROT_READ | PROT_WRITE, MAP_PRIVATE | MAP_ANONYMOUS, -1, 0);
+    if (at == MAP_FAILED || mprotect(at + ROOM, page, PROT_NONE) != 0) exit(3);
+    return at + ROOM;
+}
+
 static void *block(size_t n) {
-    void *at = malloc(n ? n : 1);
-    if (!at) exit(3);
-    return at;
+    for (int i = 0; i < REGIONS && n <= ROOM; i++)
+        if (!taken[i]) {
+            if (ends[i] == NULL) ends[i] = guarded_region();
+            taken[i] = 1;
+            return ends[i] - n;
+        }
+    printf("no region for %zu octets\n", n);
+    exit(3);
+}
+
+static void release(void *block) {
+    uint8_t *at = (uint8_t *)block;
+    for (int i = 0; i < REGIONS; i++)
+        if (ends[i] != NULL && at >= ends[i] - ROOM && at <= ends[i]) taken[i] = 0;
 }
 
 static unsigned long round;
@@ -32,6 +59,34 @@ static unsigned long round;
 static const uint16_t types[] = {0, 1, 2, 5, 6, 10, 12, 13, 15, 16, 28, 33, 35, 37, 41, 44, 52, 53, 61, 62, 64, 65, 251, 252, 255, 257, 65305, 48, 4711};
 static const char *const words[] = {"10", "mail", "example.com.", "\"a b\"", "(", ")", ";x\n", "\\", "\"", "1.2.3.4", "::1", "0", "issue", "alpn=h2",
     "port=443", "no-default-alpn", "YWJj", "00ff", "A", "TYPE65535", "1h", "65536", "\xff", "@", ".", "\\065", "key7=x", "300", "\\#", "2", "4", "00ff0011", "alpn=\"h2,h3\"", "\\255x"};
+
+/* The cursor gives what dns_rdata_part gives, part for part. */
+static void parts_by_cursor(const uint8_t *message, size_t size, size_t place, uint16_t length, uint16_t type) {
+    struct dns_rdata_parts parts = {1, 2};
+    dns_rdata_status status = dns_rdata_parts_begin(message, size, place, length, type, &parts);
+    WANT(status == DNS_RDATA_OK || (parts.next == 0 && parts.end == 0));
+    for (size_t i = 0;; i++) {
+        uint16_t number = 1, other = 1;
+        size_t begin = 2, count = 3, other_begin = 2, other_count = 3;
+        dns_rdata_status wanted = dns_rdata_part(message, size, place, length, type, i, &other, &other_begin, &other_count);
+        if (i == 0) WANT(status == wanted);
+        if (status == DNS_RDATA_OK) status = dns_rdata_parts_next(message, size, &parts, &number, &begin, &count);
+        WANT(status == wanted && number == other && begin == other_begin && count == other_count);
+        if (status != DNS_RDATA_OK) return;
+    }
+}
+
+/* A cursor of any numbers gives a part in the message, or none and sets nothing. */
+static void any_cursor(const uint8_t *message, size_t size) {
+    struct dns_rdata_parts parts = {below(4) ? below((uint32_t)size + 2) : (size_t)next(), below(4) ? below((uint32_t)size + 2) : (size_t)next()};
+    struct dns_rdata_parts before = parts;
+    uint16_t number = 79;
+    size_t begin = 78, count = 77;
+    if (dns_rdata_parts_next(message, size, &parts, &number, &begin, &count) == DNS_RDATA_OK)
+        WANT(begin == before.next + 4 && begin + count <= before.end && before.end <= size && parts.next == begin + count && parts.end == before.end);
+    else
+        WANT(number == 79 && begin == 78 && count == 77 && parts.next == before.next && parts.end == before.end);
+}
 
 /* Each option or parameter stands behind its number and its length, and each name is data of a record with a name at its place. */
 static void parts_and_names(const uint8_t *message, size_t size, size_t place, uint16_t length, uint16_t type) {
@@ -54,7 +109,7 @@ static void parts_and_names(const uint8_t *message, size_t size, size_t place, u
         WANT(dns_rdata_name(message, size, place, length, type, i, exact, count - 1, &again, &end) == DNS_RDATA_BUFFER && again == count && end == begin);
         WANT(dns_rdata_name(message, size, place, length, type, i, exact, count, &again, &end) == DNS_RDATA_OK && again == count && end == begin);
         WANT(memcmp(exact, name, count) == 0);
-        free(exact);
+        release(exact);
         /* at its place there is data of NS with the same name, of some length up to its first pointer or its end */
         size_t at = begin;
         while (message[at] != 0 && message[at] < 0xc0) at += message[at] + 1u;
@@ -92,6 +147,8 @@ int main(int argc, char **argv) {
         size_t place = below(8) ? below((uint32_t)size + 2) : below(64) ? 0 : (size_t)next();
         uint16_t length = (uint16_t)(below(6) ? (place <= size ? size - place : 0) : below(16) ? below(32) : next());
         uint16_t type = below(16) ? types[below(sizeof types / sizeof *types)] : (uint16_t)next();
+        parts_by_cursor(message, size, place, length, type);
+        any_cursor(message, size);
         struct dns_rdata_refusal why = {1, 2, 3};
         dns_rdata_status status = dns_rdata_check(message, size, place, length, type, &why);
         size_t count = 77, again = 78, need;
@@ -108,7 +165,7 @@ int main(int argc, char **argv) {
                 WANT(dns_rdata_display_text(message, size, place, length, type, text, count, &again) == DNS_RDATA_BUFFER && again == count);
                 WANT(dns_rdata_display_text(message, size, place, length, type, text, count + 1, &again) == DNS_RDATA_OK && again == count);
                 WANT(text[count] == 0);
-                free(text);
+                release(text);
             }
             s = dns_rdata_text(message, size, place, length, type, (char *)&count, 0, &count);
             WANT(s == DNS_RDATA_BUFFER);
@@ -122,7 +179,7 @@ int main(int argc, char **argv) {
             uint8_t *read = (uint8_t *)block(4096);
             size_t read_count = 0, origin_length = below(2) ? sizeof far : 0;
             WANT(dns_rdata_parse(zone, count, type, far, origin_length, read, 4096, &read_count) == DNS_RDATA_OK);
-            free(zone);
+            release(zone);
             parts_and_names(message, size, place, length, type);
             /* canonical octets, which are data again with the same canonical octets */
             uint8_t none = 0;
@@ -152,17 +209,17 @@ int main(int argc, char **argv) {
                     WANT(equal == (order == 0));
                 }
             }
-            free(other);
+            release(other);
             /* octets without pointers: data again, equal */
             s = dns_rdata_wire(message, size, place, length, type, &none, 0, &count);
             WANT(s == DNS_RDATA_BUFFER || (s == DNS_RDATA_OK && count == 0));
             uint8_t *wire = (uint8_t *)block(count);
             WANT(dns_rdata_wire(message, size, place, length, type, wire, count, &again) == DNS_RDATA_OK && again == count);
             WANT(read_count == count && memcmp(read, wire, count) == 0);
-            free(read);
+            release(read);
             WANT(dns_rdata_compare(wire, count, 0, (uint16_t)count, octets, need, 0, (uint16_t)need, type, &order) == DNS_RDATA_OK && order == 0);
-            free(wire);
-            free(octets);
+            release(wire);
+            release(octets);
         } else {
             char text[4];
             WANT(dns_rdata_display_text(message, size, place, length, type, text, sizeof text, &count) == status && count == 77);
@@ -176,7 +233,7 @@ int main(int argc, char **argv) {
             WANT(dns_rdata_equal(message, size, place, length, message, size, place, length, type, &equal) == status && equal == 5);
             WANT(dns_rdata_compare(message, size, place, length, message, size, place, length, type, &equal) == status && equal == 5);
         }
-        free(message);
+        release(message);
 
         /* a text of words, and one of random octets */
         char line[256];
@@ -224,9 +281,9 @@ int main(int argc, char **argv) {
         WANT(dns_rdata_type_text(number, name, sizeof name, &count) == DNS_RDATA_OK);
         uint16_t back = 0;
         WANT(dns_rdata_type_number(name, count, &back) == DNS_RDATA_OK && back == number);
-        free(text);
-        free(origin);
-        free(out);
+        release(text);
+        release(origin);
+        release(out);
     }
     printf("%lu rounds, %lu data, %lu texts of a zone file, %lu others, and %lu whose octets are not read\n", rounds, accepted, zones, parsed, unread);
     return 0;

@@ -45,6 +45,7 @@ static const uint8_t service[] = {0, 1, 1, 'x', 0, 0, 1, 0, 3, 2, 'h', '2', 0, 3
 static size_t count, begin;
 static uint16_t number;
 static struct dns_rdata_refusal why;
+static struct dns_rdata_parts parts;
 static int32_t order;
 
 static dns_rdata_status call(int n) {
@@ -60,6 +61,9 @@ static dns_rdata_status call(int n) {
     case 7: return dns_rdata_text(name, length, place, 4, 15, text, sizeof text, &count);
     case 8: return dns_rdata_name(name, length, place, 4, 15, 0, out, sizeof out, &count, &begin);
     case 9: return dns_rdata_part(service, sizeof service, 0, sizeof service, 64, 1, &number, &begin, &count);
+    case 18:
+        if (dns_rdata_parts_begin(service, sizeof service, 0, sizeof service, 64, &parts) != DNS_RDATA_OK) return DNS_RDATA_MEMORY;
+        return dns_rdata_parts_next(service, sizeof service, &parts, &number, &begin, &count);
     case 10: case 11: case 12: case 13:
         return dns_rdata_parse(texts[n - 10], strlen(texts[n - 10]), kinds[n - 10], name, 73, out, sizeof out, &count);
     default: return dns_rdata_parse_display_text(texts[n - 14], strlen(texts[n - 14]), kinds[n - 14], name, 73, out, sizeof out, &count);
@@ -68,7 +72,7 @@ static dns_rdata_status call(int n) {
 
 int main(void) {
     int failed = 0;
-    for (int n = 0; n < 18; n++) {
+    for (int n = 0; n < 19; n++) {
         requests = refuse = 0;
         memset(out, 0xee, sizeof out);
         dns_rdata_status wanted = call(n);

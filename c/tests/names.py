@@ -12,17 +12,17 @@ CRATE = TOP / "crates/dns_rdata_c/src"
 IN_C = {
     "Global": [], "&[u8]": ["octets", "size_t"], "&mut [u8]": ["buffer", "size_t"], "usize": ["size_t"], "u16": ["uint16_t"],
     "&mut usize": ["size_t *"], "&mut u16": ["uint16_t *"], "&mut i32": ["int32_t *"],
-    "&mut Refusal": ["struct dns_rdata_refusal *"],
+    "&mut Refusal": ["struct dns_rdata_refusal *"], "&mut PartsCursor": ["struct dns_rdata_parts *"],
 }
 OF_C = {"const uint8_t *": "octets", "const char *": "octets", "uint8_t *": "buffer", "char *": "buffer", "dns_rdata_status": "u32", "int32_t": "i32"}
 OF_RUST = {
     "*const u8": "octets", "*mut u8": "buffer", "usize": "size_t", "u16": "uint16_t", "*mut usize": "size_t *", "*mut u16": "uint16_t *",
-    "*mut i32": "int32_t *", "*mut RawRefusal": "struct dns_rdata_refusal *",
+    "*mut i32": "int32_t *", "*mut RawRefusal": "struct dns_rdata_refusal *", "*mut RawParts": "struct dns_rdata_parts *",
 }
 OF_PYTHON = {
     "*DATA": ["octets", "size_t", "size_t", "uint16_t"], "*ROOM": ["buffer", "size_t", "size_t *"], "OCTETS": ["octets"], "SIZE": ["size_t"],
     "SHORT": ["uint16_t"], "TELLS": ["int32_t *"], "NUMBER": ["uint16_t *"], "COUNT": ["size_t *"],
-    "ctypes.POINTER(Refusal)": ["struct dns_rdata_refusal *"],
+    "ctypes.POINTER(Refusal)": ["struct dns_rdata_refusal *"], "ctypes.POINTER(Parts)": ["struct dns_rdata_parts *"],
 }
 
 wrong = 0
@@ -68,6 +68,16 @@ def python_calls(source):
     return calls
 
 
+def crate_fields(file, name):
+    body = re.search(rf"pub struct {name} \{{(.*?)\n\}}", (CRATE / file).read_text(), re.S).group(1)
+    return [(field, {"usize": "size_t", "u32": "uint32_t"}[kind]) for field, kind in re.findall(r"pub (\w+): (\w+),", body)]
+
+
+def header_fields(header, name):
+    body = re.search(rf"^struct {name} \{{(.*?)\n\}};", header, re.S | re.M).group(1)
+    return [(field, kind) for kind, field in re.findall(r"(\w+) (\w+);", body)]
+
+
 def numbers(text, pattern):
     return {name: int(number) for name, number in re.findall(pattern, text, re.M)}
 
@@ -83,10 +93,8 @@ def main():
     want_same("Python's status", {name: of_crate.get(name) for name in of_python}, of_python)
     of_rust = numbers(rust, r"^const (\w+): u32 = (\d+);")
     want_same("Rust's status", {name: of_crate.get(name) for name in of_rust}, of_rust)
-    of_crate = re.search(r"pub struct Refusal \{(.*?)\n\}", (CRATE / "check.rt").read_text(), re.S).group(1)
-    of_header = re.search(r"struct dns_rdata_refusal \{(.*?)\n\};", header, re.S).group(1)
-    fields = [(name, {"usize": "size_t", "u32": "uint32_t"}[kind]) for name, kind in re.findall(r"pub (\w+): (\w+),", of_crate)]
-    want_same("the fields of", {"a refusal": fields}, {"a refusal": [(name, kind) for kind, name in re.findall(r"(\w+) (\w+);", of_header)]})
+    for file, of_crate, of_header in [("check.rt", "Refusal", "dns_rdata_refusal"), ("parts_cursor.rt", "PartsCursor", "dns_rdata_parts")]:
+        want_same("the fields of", {of_header: crate_fields(file, of_crate)}, {of_header: header_fields(header, of_header)})
     calls = crate_calls()
     want_same("call", calls, header_calls(header))
     want_same("Rust's call", calls, rust_calls(rust))

@@ -24,6 +24,13 @@ struct RawRefusal {
     number: u32,
 }
 
+#[repr(C)]
+#[derive(Clone, Copy, Debug, Default)]
+struct RawParts {
+    next: usize,
+    end: usize,
+}
+
 extern "C" {
     fn dns_rdata_check(
         message: *const u8, message_length: usize, place: usize, length: u16, record_type: u16, why: *mut RawRefusal,
@@ -51,6 +58,12 @@ extern "C" {
     fn dns_rdata_part(
         message: *const u8, message_length: usize, place: usize, length: u16, record_type: u16, index: usize,
         number: *mut u16, begin: *mut usize, count: *mut usize,
+    ) -> u32;
+    fn dns_rdata_parts_begin(
+        message: *const u8, message_length: usize, place: usize, length: u16, record_type: u16, parts: *mut RawParts,
+    ) -> u32;
+    fn dns_rdata_parts_next(
+        message: *const u8, message_length: usize, parts: *mut RawParts, number: *mut u16, begin: *mut usize, count: *mut usize,
     ) -> u32;
     fn dns_rdata_compare(
         message: *const u8, message_length: usize, place: usize, length: u16,
@@ -311,6 +324,29 @@ pub struct Part<'a> {
     pub octets: &'a [u8],
 }
 
+/// The options of OPT, or the parameters of SVCB and HTTPS, one after the other.
+#[derive(Clone, Debug)]
+pub struct Parts<'a> {
+    message: &'a [u8],
+    left: RawParts,
+}
+
+impl<'a> Iterator for Parts<'a> {
+    type Item = Part<'a>;
+
+    fn next(&mut self) -> Option<Part<'a>> {
+        let (mut number, mut place, mut count) = (0, 0, 0);
+        // SAFETY: the message is a slice's, and the others are places for the answer.
+        let status = unsafe {
+            dns_rdata_parts_next(self.message.as_ptr(), self.message.len(), &mut self.left, &mut number, &mut place, &mut count)
+        };
+        match status {
+            OK => Some(Part { number, place, octets: self.message.get(place..place + count).unwrap_or(&[]) }),
+            _ => None,
+        }
+    }
+}
+
 /// A name in record data.
 #[derive(Clone, Debug, PartialEq, Eq)]
 pub struct FoundName {
@@ -416,7 +452,29 @@ impl<'a> Data<'a> {
         }
     }
 
-    /// The option or parameter of this number, from 0 on, in the order of the message; none where there are no more.
+    /// All options or parameters, in the order of the message. Going over all takes time linear in the length of the RDATA. Other
+    /// types have none. Does not allocate.
+    ///
+    /// ```
+    /// use dns_rdata::{Data, RecordType};
+    ///
+    /// let data = Data::whole(b"\x00\x0a\x00\x02\x01\x02\x00\x0c\x00\x00", RecordType::OPT)?;
+    /// let codes: Vec<u16> = data.parts().map(|part| part.number).collect();
+    /// assert_eq!(codes, [10, 12]);
+    /// # Ok::<(), dns_rdata::Error>(())
+    /// ```
+    pub fn parts(&self) -> Parts<'a> {
+        let mut left = RawParts::default();
+        // SAFETY: the message is a slice's, and `left` is a place for the answer. RDATA that was checked has parts or `ABSENT`,
+        // and with any status but `OK` the cursor has no parts.
+        let _status = unsafe {
+            dns_rdata_parts_begin(self.message.as_ptr(), self.message.len(), self.place, self.length, self.record_type.0, &mut left)
+        };
+        Parts { message: self.message, left }
+    }
+
+    /// The option or parameter with this index, from 0 on, in the order of the message; `None` after the last one. Each call looks
+    /// at all of them: use [`Data::parts`] to go over all.
     pub fn part(&self, index: usize) -> Result<Option<Part<'a>>, Error> {
         let (mut number, mut place, mut count) = (0, 0, 0);
         // SAFETY: the message is a slice's, and the others are places for the answer.
@@ -458,7 +516,8 @@ impl<'a> Data<'a> {
         }
     }
 
-    /// The canonical octets (RFC 4034, 6.2): equal data of one type has the same ones, and no other has.
+    /// The canonical octets: this library's own form, for equality, order and hashing. RDATA of one type is equal exactly if they
+    /// are the same. Not for DNSSEC: a signer starts from [`Data::wire`].
     pub fn canonical(&self) -> Result<CanonicalKey, Error> {
         // SAFETY: as in `to_zone_text`.
         filled(
@@ -473,7 +532,7 @@ impl<'a> Data<'a> {
         .map(|octets| CanonicalKey { record_type: self.record_type, octets })
     }
 
-    /// The octets without pointers into the message, names with their letters.
+    /// The uncompressed octets, names with their case preserved. A DNSSEC signer starts from these.
     pub fn wire(&self) -> Result<Vec<u8>, Error> {
         // SAFETY: as in `to_zone_text`.
         filled(

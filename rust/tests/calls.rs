@@ -68,10 +68,22 @@ fn names_and_parts() {
     assert_eq!(data.part(0), Ok(Some(Part { number: 10, place: 4, octets: &[1, 2] })));
     assert_eq!(data.part(1), Ok(Some(Part { number: 12, place: 10, octets: &[] })));
     assert_eq!((data.part(2), data.part(usize::MAX), data.name(0)), (Ok(None), Ok(None), Ok(None)));
+    assert_eq!(data.parts().collect::<Vec<_>>(), [data.part(0), data.part(1)].map(|part| part.unwrap().unwrap()));
+    assert_eq!(Data::whole(&options[..8], OPT).unwrap().parts().count(), 0);
+    assert_eq!(Data::check(message, 17, 4, MX).unwrap().parts().count(), 0);
     let service = b"\x00\x01\x00\x00\x03\x00\x02\x01\xbb";
     let data = Data::whole(service, RecordType::SVCB).unwrap();
     assert_eq!(data.part(0), Ok(Some(Part { number: 3, place: 7, octets: &[1, 0xbb] })));
     assert_eq!(data.name(0).unwrap().unwrap().place, 2);
+}
+
+#[test]
+fn many_parts_in_linear_time() {
+    let options = [0, 12, 0, 0].repeat(16_000);
+    let data = Data::whole(&options, OPT).unwrap();
+    let start = std::time::Instant::now();
+    assert_eq!(data.parts().filter(|part| part.number == 12 && part.octets.is_empty()).count(), 16_000);
+    assert!(start.elapsed().as_millis() < 200);
 }
 
 #[test]

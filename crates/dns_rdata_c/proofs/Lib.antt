@@ -9,6 +9,7 @@ pub mod NameWalks
 pub mod PieceWalks
 pub mod Walking
 pub mod PartWalks
+pub mod PartCursor
 pub mod NamesStand
 pub mod PartTies
 pub mod ZoneReads

@@ -1,7 +1,7 @@
 -- The octets of a name that stands in a message.
-use Rattle.std.proofs.Common.{◌≡◌, ◌∙◌, ℕ, ◌+◌, ◌-◌, ◌<◌, inl, inr, List, [], ◌∷◌, ◌++◌, length, take, drop, refl, sym, ap, subst, arith}
-use Rattle.std.proofs.Common.{append_assoc, length-append, length-take-le, Option, Some, None, MatchOption}
-use Rattle.std.proofs.lemmas.List.{take_at, take_rest, take-append-drop, length-drop}
+use Rattle.std.proofs.Common.{◌≡◌, ◌∙◌, ℕ, ◌+◌, ◌-◌, inl, inr, List, [], ◌∷◌, ◌++◌, length, take, drop, refl, sym, ap, arith}
+use Rattle.std.proofs.Common.{append_assoc, length-append, length-take-le}
+use Rattle.std.proofs.lemmas.List.{take_at, take-append-drop, length-drop}
 use Rattle.dns_fields.specs.{Labels.DomainName, Labels.wire, Names.IsNameIn, Names.LabelsStand, Names.pointer}
 use Rattle.dns_fields.specs.Names.LabelsStand.{whole, pointed}
 use Rattle.dns_fields.proofs.Stays.{end_within}

@@ -1,5 +1,5 @@
 -- The parts of octets that are the data of a value.
-use Rattle.std.proofs.Common.{◌≡◌, ◌∙◌, ◌⊎◌, ℕ, ◌+◌, ◌-◌, ◌<◌, ◌≤◌, suc, Bool, false, true≢false, inl, inr, List, [], ◌∷◌, ◌++◌, length, take, drop}
+use Rattle.std.proofs.Common.{◌≡◌, ◌∙◌, ◌⊎◌, ℕ, ◌+◌, ◌-◌, ◌<◌, ◌≤◌, suc, false, true≢false, inl, inr, List, [], ◌∷◌, ◌++◌, length, take, drop}
 use Rattle.std.proofs.Common.{map, refl, sym, ap, subst, arith, append_assoc, length-append, length-take-le}
 use Rattle.std.proofs.lemmas.List.{drop_at, take_at, drop-drop, length-drop, length-map, take-append-drop}
 use Rattle.std.proofs.Math.Seq.{take-append-add}

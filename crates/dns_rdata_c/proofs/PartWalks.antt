@@ -1,9 +1,9 @@
 -- Parts among the octets of data.
-use Rattle.std.proofs.Common.{◌≡◌, ◌∙◌, ℕ, ◌+◌, ◌-◌, ◌/◌, ◌%◌, ◌<◌, ◌≤◌, zero, suc, inl, inr, List, [], ◌∷◌, ◌++◌, length, take, drop, refl, sym, ap}
+use Rattle.std.proofs.Common.{◌≡◌, ◌∙◌, ℕ, ◌+◌, ◌/◌, ◌%◌, ◌<◌, ◌≤◌, zero, suc, inl, inr, List, [], ◌∷◌, ◌++◌, length, take, drop, refl, sym, ap}
 use Rattle.std.proofs.Common.{subst, arith, append_assoc, length-append, length-take-le, Option, Some, slice_get}
 use Rattle.std.specs.Int.{bytes_high_first}
-use Rattle.std.proofs.lemmas.List.{append-nil, drop_at, take_at, take-append-drop}
-use Rattle.dns_fields.specs.{Labels.wire, Names.pointer, Pieces.Numbered, Pieces.piece, Pieces.pieces, Pieces.ArePieces, Pieces.IsCut}
+use Rattle.std.proofs.lemmas.List.{append-nil, drop_at, take-append-drop}
+use Rattle.dns_fields.specs.{Labels.wire, Pieces.Numbered, Pieces.piece, Pieces.pieces, Pieces.ArePieces, Pieces.IsCut}
 use Rattle.dns_fields.proofs.{Numbers.length-bytes, Runs.IsStop, Runs.same_run, Unique.pointer_stop, Unique.zero_stop}
 use Rattle.dns_fields.proofs.Pieces.{parts, no_piece, cut_piece, piece_before}
 use Rattle.dns_types.specs.declared.record_type.RecordType.{RecordType}
@@ -11,7 +11,7 @@ use Rattle.dns_types.specs.declared.record_type.RecordType.TheVariants as types
 use Rattle.dns_rdata_c.specs.NameEnds.{IsLast, AreNameOctets, IsNameLength, HasNoNameEnd}
 use Rattle.dns_rdata_c.specs.Pieces.{HasNoPiece, AreCounted, IsPieceOf}
 use Rattle.dns_rdata_c.specs.Parts.{IsServiceFront, IsFront, AreParts, AreNoParts, AreCutOptions, IsPartOf}
-use Rattle.dns_rdata_c.proofs.{PieceWalks.same_split, Walking.SplitAt, Walking.split}
+use Rattle.dns_rdata_c.proofs.{PieceWalks.same_split, Walking.split}
 
 -- ---- in front of parameters
 

@@ -70,6 +70,10 @@ piece_stands s c o h f few =
     ∙ ap (λ (l : List ℕ). bytes_high_first 2 k.0 ++ (bytes_high_first 2 (length (take c t)) ++ l)) (sym (take-append-drop c t)) in
     (x, drop c t, (k.1, omega (arith, size, h)), whole ∙ sym (piece_before x (drop c t)), omega (arith, length-piece x, size))
 
+-- a piece has at least its number and its length
+pub piece_room_here : (s : List ℕ) (at n : ℕ) → IsPieceLength (drop at s) n → at + 4 ≤ length s
+piece_room_here s at n (x, rest, fit, e, many) = omega (arith, ap length e, length-append (piece x) rest, length-piece x, length-drop at s)
+
 -- ---- pieces one behind the other
 
 pub record Counting (s : List ℕ) (count end : ℕ) : Type 0 where

@@ -5,11 +5,13 @@ use Rattle.dns_fields.proofs.OctetLaws.{AreOctets-front, AreOctets-same}
 use Rattle.dns_types.specs.{declared.error.ParseError.ParseError, declared.record_type.RecordType.RecordType}
 use Rattle.dns_types.specs.declared.error.ParseError.TheVariants as parse
 use Rattle.dns_rdata.specs.{declared.record_data.RData.RData, WholeOctets.all_whole, WholeOctets.whole_data}
-use Rattle.dns_rdata.specs.Data.{FieldsOf, fields_of, shape, Fills, IsValue}
+use Rattle.dns_rdata.specs.Data.{FieldsOf, shape, Fills, IsValue}
 use Rattle.dns_words.specs.Reads.{UnlessParseMemory}
-use Rattle.dns_rdata_zone.specs.{ZoneGives.AreDataOf, ZoneGives.GivesValue, ZoneGives.GivesNone, ZoneFaults.ZoneFault, ZoneTexts.zone_text}
+use Rattle.dns_text.specs.TextWords.{NoTextWords}
+use Rattle.dns_rdata.specs.DataWords.{GivesNoneAt, HasNoWords}
+use Rattle.dns_rdata_zone.specs.{ZoneGives.AreDataOf, ZoneGives.GivesValue, ZoneGives.GivesNone, ZoneFaults.ZoneFault}
 use Rattle.dns_rdata_zone.proofs.{Again.own_fields, Filled.fills_give, ZoneOnce.one_given}
-use Rattle.dns_rdata_c.specs.{Buffers.IsPut, Calls.HasZoneData, Calls.IsNoZoneText, Calls.OfZoneText, Calls.PutsWire, Status.parse_status}
+use Rattle.dns_rdata_c.specs.{Buffers.IsPut, Calls.HasZoneData, Calls.IsNoText, Calls.IsNoZoneText, Calls.OfZoneText, Calls.PutsWire, Status.parse_status}
 
 -- ---- octets that are put
 
@@ -81,3 +83,21 @@ refused_text origin t text (parse.Message words) s told none why = not_memory or
 refused_text origin t text (parse.UnsupportedRecordType u) s told none why = not_memory origin t text (parse.UnsupportedRecordType u) s told (omega arith) none why
 refused_text origin t text parse.AddrParse s told none why = not_memory origin t text parse.AddrParse s told (omega arith) none why
 refused_text origin t text (parse.Proto inner) s told none why = not_memory origin t text (parse.Proto inner) s told (omega arith) none why
+
+-- The same of a text that `RData` reads.
+no_text : (origin : Option DomainName) (t : RecordType) (text : List ℕ) (e : ParseError) (s : ℕ) → s ≡ parse_status e → 48 ≤ parse_status e
+    → NoTextWords text ⊎ GivesNoneAt origin t text → (HasNoWords t → (e ≡ parse.UnsupportedRecordType t) ⊎ NoTextWords text)
+    → (s ≡ 1) ⊎ ((48 ≤ s) × IsNoText origin t text s)
+no_text origin t text e s told high none unsupported =
+    inr (omega (arith, told, high), record { none = none; error = e; told = told; unsupported = unsupported })
+
+pub refused_words : (origin : Option DomainName) (t : RecordType) (text : List ℕ) (e : ParseError) (s : ℕ) → s ≡ parse_status e
+    → UnlessParseMemory e (NoTextWords text ⊎ GivesNoneAt origin t text)
+    → (HasNoWords t → UnlessParseMemory e ((e ≡ parse.UnsupportedRecordType t) ⊎ NoTextWords text))
+    → (s ≡ 1) ⊎ ((48 ≤ s) × IsNoText origin t text s)
+refused_words origin t text parse.Memory s told none why = inl told
+refused_words origin t text (parse.MissingToken word) s told none why = no_text origin t text (parse.MissingToken word) s told (omega arith) none why
+refused_words origin t text (parse.Message words) s told none why = no_text origin t text (parse.Message words) s told (omega arith) none why
+refused_words origin t text (parse.UnsupportedRecordType u) s told none why = no_text origin t text (parse.UnsupportedRecordType u) s told (omega arith) none why
+refused_words origin t text parse.AddrParse s told none why = no_text origin t text parse.AddrParse s told (omega arith) none why
+refused_words origin t text (parse.Proto inner) s told none why = no_text origin t text (parse.Proto inner) s told (omega arith) none why

@@ -8,7 +8,8 @@ use Rattle.dns_types.specs.{declared.error.ProtoError.ProtoError, declared.error
 use Rattle.dns_types.specs.declared.record_type.RecordType.{RecordType}
 use Rattle.dns_text.specs.TextWords.{NoTextWords}
 use Rattle.dns_types.specs.declared.error.DecodeError.TheVariants as decode
-use Rattle.dns_rdata.specs.{declared.record_data.RData.RData, DataWords.IsDataTextAt, DataWords.GivesNoneAt, Texts.data_text, WholeOctets.whole_data}
+use Rattle.dns_types.specs.declared.error.ParseError.TheVariants as parse
+use Rattle.dns_rdata.specs.{declared.record_data.RData.RData, DataWords.IsDataTextAt, DataWords.GivesNoneAt, DataWords.HasNoWords, Texts.data_text, WholeOctets.whole_data}
 use Rattle.dns_rdata.specs.Data.{Fills, NoValue, fields_of, data_octets, IsEmittable}
 use Rattle.dns_rdata_zone.specs.{ZoneGives.GivesValue, ZoneGives.GivesNone, ZoneFaults.ZoneFault, ZoneTexts.zone_text}
 use Rattle.dns_rdata_c.specs.{declared.check.Refusal.Refusal, Reading.IsCause, Reading.HasData, Status.decode_status, Status.parse_status}
@@ -112,9 +113,13 @@ pub record HasEquality (t : RecordType) (m : List ℕ) (p n : ℕ) (m' : List �
 
 -- ---- data from a text
 
--- the text is of no value of the type
-abbrev pub IsNoText : Option DomainName → RecordType → List ℕ → Type 0
-IsNoText origin t text = NoTextWords text ⊎ GivesNoneAt origin t text
+-- The text is of no value of the type, and the status is the number of the parser's error. A type that has no display text is
+-- rejected as such, where the text has tokens at all.
+pub record IsNoText (origin : Option DomainName) (t : RecordType) (text : List ℕ) (status : ℕ) : Type 0 where
+  pub none : NoTextWords text ⊎ GivesNoneAt origin t text
+  pub error : ParseError
+  pub told : status ≡ parse_status error
+  pub unsupported : HasNoWords t → (error ≡ parse.UnsupportedRecordType t) ⊎ NoTextWords text
 
 -- ---- origins
 
@@ -135,10 +140,10 @@ pub record HasTextData (octets : List ℕ) (t : RecordType) (text : List ℕ) (P
   pub holds : P value
 
 -- the octets are an origin, and the text is of no value
-pub record IsRefusedText (octets : List ℕ) (t : RecordType) (text : List ℕ) : Type 0 where
+pub record IsRefusedText (octets : List ℕ) (t : RecordType) (text : List ℕ) (status : ℕ) : Type 0 where
   pub origin : Option DomainName
   pub is_origin : IsOrigin octets origin
-  pub none : IsNoText origin t text
+  pub why : IsNoText origin t text status
 
 -- ---- data from the text of a zone file
 

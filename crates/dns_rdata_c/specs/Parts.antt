@@ -1,6 +1,6 @@
 -- The parts of record data: the options of OPT (RFC 6891, 6.1.2) and the parameters of a service binding (RFC 9460, 2.2). What they
 -- are of octets, and what they are of a value that fills the octets.
-use Rattle.std.specs.Prelude.{◌≡◌, ℕ, ◌+◌, ◌<◌, ◌≤◌, ◌⊎◌, Bool, true, false, List, [], ◌++◌, length, map, take, drop, Some, slice_get}
+use Rattle.std.specs.Prelude.{◌≡◌, ℕ, ◌+◌, ◌≤◌, ◌⊎◌, Bool, true, false, List, [], ◌++◌, length, map, take, drop, Some, slice_get}
 use Rattle.dns_fields.specs.Octets.{At}
 use Rattle.dns_fields.specs.Pieces.{Numbered, pieces, ArePieces, AllHeld, OptionHeld, ParameterHeld, IsCut}
 use Rattle.dns_types.specs.declared.record_type.RecordType.{RecordType}
@@ -9,7 +9,7 @@ use Rattle.dns_rdata.specs.declared.record_data.RData.{RData}
 use Rattle.dns_rdata.specs.declared.record_data.RData.TheVariants as rdata
 use Rattle.dns_rdata_options.specs.OPT.{pair_value}
 use Rattle.dns_rdata_service.specs.Parameters.{parameter_of}
-use Rattle.dns_rdata_c.specs.NameEnds.{AreNameOctets}
+use Rattle.dns_rdata_c.specs.{declared.parts_cursor.PartsCursor.PartsCursor, NameEnds.AreNameOctets}
 
 -- ---- of octets
 
@@ -88,6 +88,16 @@ pub record HasPart (m : List ℕ) (p n : ℕ) (t : RecordType) (i number begin c
 -- Data of the type has no parts; or the n octets from p are i parts at most, or options of which the last is cut.
 abbrev pub LacksPart : List ℕ → ℕ → ℕ → RecordType → ℕ → Type 0
 LacksPart m p n t i = (is_partless t ≡ true) ⊎ ((p + n ≤ length m) × (AreFewParts t (take n (drop p m)) i ⊎ AreCutOptions t (take n (drop p m))))
+
+-- A cursor before part number i of the n octets from p, which are parts: at the offset where that part begins, and with the
+-- offset where the octets end.
+pub record IsBefore (m : List ℕ) (p n : ℕ) (t : RecordType) (i : ℕ) (cursor : PartsCursor) : Type 0 where
+  pub within : p + n ≤ length m
+  pub front : List ℕ
+  pub parts : List (Numbered (List ℕ))
+  pub all : AreParts t (take n (drop p m)) front parts
+  pub here : cursor.next ≡ p + (length front + length (pieces (take i parts)))
+  pub ends : cursor.end ≡ p + n
 
 -- ---- of a value
 

@@ -1,5 +1,5 @@
 -- Pieces one behind the other, each a number, a length and octets.
-use Rattle.std.specs.Prelude.{◌≡◌, ℕ, ◌+◌, ◌<◌, List, ◌++◌, length, take, Some, slice_get}
+use Rattle.std.specs.Prelude.{◌≡◌, ℕ, ◌+◌, ◌<◌, ◌⊎◌, List, ◌++◌, length, take, drop, Some, slice_get}
 use Rattle.std.specs.List.{AllByRecursion}
 use Rattle.dns_fields.specs.Pieces.{Numbered, piece, pieces, IsPiece, ArePieces}
 
@@ -37,6 +37,19 @@ pub record IsPieceOf (s : List ℕ) (i number begin count : ℕ) : Type 0 where
   pub get : slice_get read i ≡ Some (number, octets)
   pub begins : begin ≡ length (pieces (take i read)) + 4
   pub told : count ≡ length octets
+
+-- a piece is at the offset `at` and ends at the offset `end` or before it
+pub record IsPieceAt (s : List ℕ) (at end number begin count : ℕ) : Type 0 where
+  pub octets : List ℕ
+  pub fits : IsPiece (number, octets)
+  pub rest : List ℕ
+  pub is : drop at (take end s) ≡ piece (number, octets) ++ rest
+  pub begins : begin ≡ at + 4
+  pub told : count ≡ length octets
+
+-- no such piece is there, or the offsets are not in order or not in the octets
+abbrev pub LacksPieceAt : List ℕ → ℕ → ℕ → Type 0
+LacksPieceAt s at end = HasNoPiece (drop at (take end s)) ⊎ ((length s < end) ⊎ (end < at))
 
 -- each piece of this number has so many octets
 abbrev pub AreAsLong : ℕ → ℕ → List (Numbered (List ℕ)) → Type 0

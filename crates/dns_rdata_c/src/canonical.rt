@@ -1,19 +1,19 @@
-//! Record data in the one form for comparing.
+//! RDATA in the one form for comparing.
 
 ghost use Rattle.std.specs.Prelude.{◌≡◌, ◌≢◌, ◌<◌, ◌≤◌, ◌⊎◌, length as size};
 ghost use Rattle.dns_types.specs.RecordTypes.{record_type_of};
 ghost use Rattle.dns_rdata.specs.{Data.NoValue, Data.data_octets, Laws.ReadsCanonical};
-ghost use Rattle.dns_rdata_c.specs.{Reading.HasData, Buffers.IsPut};
+ghost use Rattle.dns_rdata_c.specs.{Reading.HasData, Reading.IsRejected, Buffers.IsPut};
 
 use crate::filling::put_canonical;
-use crate::reading::{decode_at, octets_at};
-use crate::status::{BUFFER, MEMORY, OK, REFUSED, TOO_LONG, status_of};
-use dns_rdata::RecordType;
+use crate::reading::{octets_at, read_at};
+use crate::status::{BUFFER, MEMORY, OK, REFUSED, TOO_LONG};
 use std::alloc::Global;
 
-/// Puts the canonical octets of record data in a message into a buffer, and tells their number: names whole and in lower
-/// case, options in rising order (RFC 4034, 6.2). Values of one type are equal exactly where these are the same, and are
-/// ordered as they are. Where they do not fit, or are too long, what is in the buffer is left open.
+/// Puts the canonical octets of the RDATA into a buffer, and sets `count` to their number. They are this library's own form, for
+/// equality, order and hashing: names uncompressed and lowercased (of SVCB, HTTPS and ANAME, too), the options of OPT sorted, the
+/// bitmap of CSYNC minimal. Values of one type are equal exactly if these octets are the same, and are ordered as they are. They are
+/// not for DNSSEC: a signer starts from `dns_rdata_wire`. With `BUFFER` and `TOO_LONG` the buffer may hold anything.
 #[unsafe(no_mangle)]
 pub extern "C" fn dns_rdata_canonical(
     alloc: Global,
@@ -30,12 +30,13 @@ pub extern "C" fn dns_rdata_canonical(
         (λ v. (size out.old < size (data_octets v)) × (count.new ≡ size (data_octets v))) }
     ensures too_long { result ≡ TOO_LONG → HasData message.now place length (record_type_of type_number) (λ v. 65535 < size (data_octets v)) }
     ensures refused { REFUSED ≤ result → NoValue message.now place length (record_type_of type_number) }
+    ensures cause { REFUSED ≤ result → IsRejected message.now place length (record_type_of type_number) result }
     ensures status { (result ≡ OK) ⊎ (result ≡ MEMORY) ⊎ (result ≡ BUFFER) ⊎ (result ≡ TOO_LONG) ⊎ (REFUSED ≤ result) }
     ensures kept { result ≢ OK → result ≢ BUFFER → result ≢ TOO_LONG → out.new ≡ out.old }
     ensures untold { result ≢ OK → result ≢ BUFFER → count.new ≡ count.old }
 {
-    match decode_at(alloc, message, place, length, RecordType::from(type_number)) {
-        Err(error) => status_of(error),
+    match read_at(alloc, message, place, length, type_number) {
+        Err(status) => status,
         Ok(value) => {
             let octets = octets_at(message, place, length);
             put_canonical(alloc, octets, &value, out, count)

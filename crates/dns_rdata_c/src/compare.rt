@@ -3,6 +3,7 @@
 ghost use Rattle.std.specs.Prelude.{◌≡◌, ◌≢◌, ◌≤◌, ◌⊎◌};
 ghost use Rattle.dns_types.specs.RecordTypes.{record_type_of};
 ghost use Rattle.dns_rdata.specs.Data.{NoValue};
+ghost use Rattle.dns_rdata_c.specs.Reading.{IsRejected};
 ghost use Rattle.dns_rdata_c.specs.Calls.{HasOrder, HasEquality, TellsEqual, order_number, octets_order};
 
 use crate::reading::read_at;
@@ -38,6 +39,8 @@ pub extern "C" fn dns_rdata_compare(
     ensures ok { result ≡ OK → HasOrder (record_type_of type_number) message.now place length other.now other_place other_length order.new }
     ensures refused { REFUSED ≤ result → NoValue message.now place length (record_type_of type_number)
         ⊎ NoValue other.now other_place other_length (record_type_of type_number) }
+    ensures cause { REFUSED ≤ result → IsRejected message.now place length (record_type_of type_number) result
+        ⊎ IsRejected other.now other_place other_length (record_type_of type_number) result }
     ensures status { (result ≡ OK) ⊎ (result ≡ MEMORY) ⊎ (REFUSED ≤ result) }
     ensures untold { result ≢ OK → order.new ≡ order.old }
 {
@@ -78,6 +81,8 @@ pub extern "C" fn dns_rdata_equal(
     ensures ok { result ≡ OK → HasEquality (record_type_of type_number) message.now place length other.now other_place other_length equal.new }
     ensures refused { REFUSED ≤ result → NoValue message.now place length (record_type_of type_number)
         ⊎ NoValue other.now other_place other_length (record_type_of type_number) }
+    ensures cause { REFUSED ≤ result → IsRejected message.now place length (record_type_of type_number) result
+        ⊎ IsRejected other.now other_place other_length (record_type_of type_number) result }
     ensures status { (result ≡ OK) ⊎ (result ≡ MEMORY) ⊎ (REFUSED ≤ result) }
     ensures untold { result ≢ OK → equal.new ≡ equal.old }
 {

@@ -3,7 +3,7 @@
 ghost use Rattle.std.specs.Prelude.{◌≡◌, ◌≢◌, ◌≤◌, ◌⊎◌, None, Some, IfOk, MatchOption, string_bytes};
 ghost use Rattle.dns_types.specs.RecordTypes.{record_type_of};
 ghost use Rattle.dns_rdata.specs.{Data.NoValue, Texts.data_text};
-ghost use Rattle.dns_rdata_c.specs.{Reading.HasData, Calls.PutsText, Calls.LacksRoomForText};
+ghost use Rattle.dns_rdata_c.specs.{Reading.HasData, Reading.IsRejected, Calls.PutsText, Calls.LacksRoomForText};
 
 use crate::putting::put_text;
 use crate::reading::read_at;
@@ -37,8 +37,8 @@ fn put_value_text(alloc: Global, value: &RData, out: &mut [u8], count: &mut usiz
     }
 }
 
-/// Puts the text that hickory-proto prints of record data in a message into a buffer, with a 0 behind it, and tells its length
-/// without the 0. It is for people: a zone file's text quotes strings, and writes octets of no known form otherwise.
+/// Puts the text that hickory-proto prints of the RDATA into a buffer, followed by a zero octet, and sets `count` to its length
+/// without that octet. It is for people and not promised to be valid in a zone file: `dns_rdata_text` is.
 #[unsafe(no_mangle)]
 pub extern "C" fn dns_rdata_display_text(
     alloc: Global,
@@ -53,6 +53,7 @@ pub extern "C" fn dns_rdata_display_text(
     ensures buffer { result ≡ BUFFER → HasData message.now place length (record_type_of type_number) (λ v. LacksRoomForText v out.old out.new count.new) }
     ensures no_text { result ≡ NO_TEXT → HasData message.now place length (record_type_of type_number) (λ v. data_text v ≡ None) }
     ensures refused { REFUSED ≤ result → NoValue message.now place length (record_type_of type_number) }
+    ensures cause { REFUSED ≤ result → IsRejected message.now place length (record_type_of type_number) result }
     ensures status { (result ≡ OK) ⊎ (result ≡ MEMORY) ⊎ (result ≡ BUFFER) ⊎ (result ≡ NO_TEXT) ⊎ (REFUSED ≤ result) }
     ensures kept { result ≢ OK → out.new ≡ out.old }
     ensures untold { result ≢ OK → result ≢ BUFFER → count.new ≡ count.old }

@@ -18,6 +18,7 @@ pub mod names;
 pub mod parse;
 pub mod parse_display_text;
 pub mod parts;
+pub mod parts_cursor;
 mod pieces;
 mod putting;
 mod reading;

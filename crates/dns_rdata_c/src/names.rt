@@ -4,7 +4,7 @@ ghost use Rattle.std.specs.Prelude.{◌≡◌, ◌≢◌, ◌<◌, ◌≤◌, �
 ghost use Rattle.dns_types.specs.RecordTypes.{record_type_of};
 ghost use Rattle.dns_fields.specs.Names.{IsNameIn};
 ghost use Rattle.dns_rdata.specs.{Data.NoValue, Data.fields_of, WholeOctets.name_octets};
-ghost use Rattle.dns_rdata_c.specs.{Reading.HasData, Buffers.IsPut, Buffers.IsTooMany};
+ghost use Rattle.dns_rdata_c.specs.{Reading.HasData, Reading.IsRejected, Buffers.IsPut, Buffers.IsTooMany};
 ghost use Rattle.dns_rdata_c.specs.Names.{HasName, IsFilledBy, IsNameAt, names_in};
 
 use crate::emitting::octets_of_name;
@@ -112,6 +112,7 @@ pub extern "C" fn dns_rdata_name(
         (λ q x. IsTooMany (name_octets x) out.old out.new count.new × (begin.new ≡ q)) }
     ensures absent { result ≡ ABSENT → HasData message.now place length (record_type_of type_number) (λ v. names_in (fields_of v).kinds ≤ index) }
     ensures refused { REFUSED ≤ result → NoValue message.now place length (record_type_of type_number) }
+    ensures cause { REFUSED ≤ result → IsRejected message.now place length (record_type_of type_number) result }
     ensures status { (result ≡ OK) ⊎ (result ≡ MEMORY) ⊎ (result ≡ BUFFER) ⊎ (result ≡ ABSENT) ⊎ (REFUSED ≤ result) }
     ensures kept { result ≢ OK → out.new ≡ out.old }
     ensures untold { result ≢ OK → result ≢ BUFFER → (count.new ≡ count.old) }

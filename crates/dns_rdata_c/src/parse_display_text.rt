@@ -79,7 +79,8 @@ pub extern "C" fn dns_rdata_parse_display_text(
     ensures unread { result ≡ UNREAD → HasTextData origin.now (record_type_of type_number) text.now (IsUnread (record_type_of type_number)) }
     ensures origin { result ≡ ORIGIN → IsNoOrigin origin.now }
     ensures not_utf8 { result ≡ NOT_UTF8 → ¬ (IsUtf8 text.now) }
-    ensures refused { NO_DATA_TEXT ≤ result → IsRefusedText origin.now (record_type_of type_number) text.now }
+    ensures utf8 { result ≢ NOT_UTF8 → IsUtf8 text.now }
+    ensures refused { NO_DATA_TEXT ≤ result → IsRefusedText origin.now (record_type_of type_number) text.now result }
     ensures status { (result ≡ OK) ⊎ (result ≡ MEMORY) ⊎ (result ≡ BUFFER) ⊎ (result ≡ TOO_LONG) ⊎ (result ≡ UNFIT) ⊎ (result ≡ ORIGIN)
         ⊎ (result ≡ NOT_UTF8) ⊎ (result ≡ UNREAD) ⊎ (NO_DATA_TEXT ≤ result) }
     ensures kept { result ≢ OK → out.new ≡ out.old }

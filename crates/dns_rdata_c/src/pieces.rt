@@ -3,7 +3,7 @@
 ghost use Rattle.std.specs.Prelude.{◌≡◌, ◌↔◌, ◌+◌, ◌≤◌, length as size, take, drop, MatchOption, IsTrue};
 ghost use Rattle.std.specs.Int.{bytes_high_first};
 ghost use Rattle.dns_fields.specs.Pieces.{IsCut};
-ghost use Rattle.dns_rdata_c.specs.Pieces.{HasNoPiece, IsPieceLength, AreCounted, HoldsPieces, IsPieceOf, HoldAsLong};
+ghost use Rattle.dns_rdata_c.specs.Pieces.{HasNoPiece, IsPieceLength, AreCounted, HoldsPieces, IsPieceOf, HoldAsLong, IsPieceAt, LacksPieceAt};
 
 /// A piece: its code or key, where its octets begin, and how many they are.
 #[derive(Clone, Copy)]
@@ -99,5 +99,27 @@ pub fn piece_of(octets: &[u8], index: usize) -> Part
         number: number_at(octets, at),
         begin: at + 4,
         count: number_at(octets, at + 2) as usize,
+    }
+}
+
+/// The piece at an offset, if one is there that ends at `end` or before it. Any offsets may be given.
+pub fn piece_at(octets: &[u8], at: usize, end: usize) -> Option<Part>
+    ensures { MatchOption result (LacksPieceAt octets.now at end)
+        (λ part. IsPieceAt octets.now at end part.number part.begin part.count) }
+{
+    if end > octets.len() || at > end {
+        return None;
+    }
+    let rest = &octets[..end];
+    match piece_length(rest, at) {
+        None => None,
+        Some(length) => {
+            let begin = at + 4;
+            Some(Part {
+                number: number_at(rest, at),
+                begin,
+                count: length - 4,
+            })
+        }
     }
 }

@@ -56,7 +56,7 @@ pub const NAME: u32 = 20;
 /// A damaged bitmap of types (RFC 4034, 4.1.2).
 pub const BITMAP: u32 = 21;
 
-/// A tag that is not 1 to 15 letters and digits (RFC 8659, 4.1).
+/// A tag that is not 1 to 15 letters and digits (RFC 6844, section 3).
 pub const CAA_TAG: u32 = 22;
 
 /// A flag that is no letter and no digit (RFC 3403, 4.1).
@@ -130,3 +130,14 @@ pub fn status_of_text(error: ParseError) -> u32
         ParseError::Proto(_) => WRONG_VALUE,
     }
 }
+
+/// The numbers of all statuses are those of `c/include/dns_rdata.h`, with which C programs are compiled.
+pub fn statuses_hold()
+    ensures calls { (OK ≡ 0) × (MEMORY ≡ 1) × (BUFFER ≡ 2) × (TOO_LONG ≡ 3) × (NO_TEXT ≡ 4) × (UNFIT ≡ 5) × (ORIGIN ≡ 6) × (NOT_UTF8 ≡ 7)
+        × (UNREAD ≡ 8) × (ABSENT ≡ 9) }
+    ensures octets { (REFUSED ≡ 16) × (MISSING_OCTETS ≡ 16) × (LENGTH ≡ 17) × (NEVER ≡ 18) × (NO_TYPE ≡ 19) × (NAME ≡ 20) × (BITMAP ≡ 21)
+        × (CAA_TAG ≡ 22) × (NAPTR_FLAGS ≡ 23) × (CSYNC_FLAGS ≡ 24) × (ADDRESS_FAMILY ≡ 25) × (MISSING_VALUE ≡ 26)
+        × (PARAMETER_ORDER ≡ 27) × (UTF8 ≡ 28) }
+    ensures texts { (NO_DATA_TEXT ≡ 48) × (MISSING_WORD ≡ 48) × (WRONG_WORD ≡ 49) × (UNSUPPORTED_TYPE ≡ 50) × (WRONG_ADDRESS ≡ 51)
+        × (WRONG_VALUE ≡ 52) }
+{}

@@ -1,14 +1,15 @@
 //! The text of record data in a zone file.
 
-ghost use Rattle.std.specs.Prelude.{◌≡◌, ◌≢◌, ◌≤◌, ◌⊎◌, IfOk, string_bytes};
+ghost use Rattle.std.specs.Prelude.{◌≡◌, ◌≢◌, ◌<◌, ◌≤◌, ◌⊎◌, length as size, IfOk, string_bytes};
 ghost use Rattle.dns_types.specs.RecordTypes.{record_type_of};
-ghost use Rattle.dns_rdata.specs.Data.{NoValue};
+ghost use Rattle.dns_rdata.specs.{Data.NoValue, Data.IsEmittable, WholeOctets.whole_data};
 ghost use Rattle.dns_rdata_zone.specs.ZoneTexts.{zone_text};
-ghost use Rattle.dns_rdata_c.specs.{Reading.HasData, Buffers.IsTextPut, Buffers.IsTextTooLong};
+ghost use Rattle.dns_rdata_c.specs.{Reading.HasData, Reading.IsRejected, Buffers.IsTextPut, Buffers.IsTextTooLong, NameSpans.AreOf};
 
 use crate::putting::put_text;
-use crate::reading::read_at;
-use crate::status::{BUFFER, MEMORY, OK, REFUSED};
+use crate::reading::{octets_at, read_at};
+use crate::status::{BUFFER, MEMORY, OK, REFUSED, TOO_LONG};
+use crate::wire::put_read;
 use dns_rdata::RData;
 use dns_rdata_zone::ZoneText;
 use std::alloc::{AllocError, Global};
@@ -20,9 +21,40 @@ fn zone_text_of(alloc: Global, value: &RData) -> Result<String, AllocError>
     ZoneText::new(value).to_string(alloc)
 }
 
-/// Puts the text of record data in a message as a zone file has it into a buffer, with a 0 behind it, and tells its length
-/// without the 0: in the form that every name server reads (RFC 1035, 5.1; RFC 9460, 2.1), and where the type has none in that
-/// of unknown data (RFC 3597, 5).
+// Whether the uncompressed RDATA of a value that was read has at most 65535 octets: OK, or the status of the error. It allocates
+// only for CSYNC, OPT, and a service binding with surplus octets in its port.
+fn fits_record(alloc: Global, octets: &[u8], value: &RData) -> u32
+    requires emittable { IsEmittable value.now }
+    requires stand { AreOf octets.now value.now }
+    requires short { size octets.now ≤ 65535 }
+    ensures ok { result ≡ OK → size (whole_data value.now) ≤ 65535 }
+    ensures too_long { result ≡ TOO_LONG → 65535 < size (whole_data value.now) }
+    ensures status { (result ≡ OK) ⊎ (result ≡ MEMORY) ⊎ (result ≡ TOO_LONG) }
+{
+    let mut room = [0; 1];
+    let mut needed = 0;
+    let status = put_read(alloc, octets, value, &mut room, &mut needed);
+    if status == BUFFER { OK } else { status }
+}
+
+// Puts the zone file text of a value into a buffer.
+fn put_zone_text(alloc: Global, value: &RData, out: &mut [u8], count: &mut usize) -> u32
+    ensures ok { result ≡ OK → IsTextPut (zone_text value.now) out.old out.new count.new }
+    ensures buffer { result ≡ BUFFER → IsTextTooLong (zone_text value.now) out.old out.new count.new }
+    ensures status { (result ≡ OK) ⊎ (result ≡ MEMORY) ⊎ (result ≡ BUFFER) }
+    ensures kept { result ≢ OK → out.new ≡ out.old }
+    ensures untold { result ≢ OK → result ≢ BUFFER → count.new ≡ count.old }
+{
+    match zone_text_of(alloc, value) {
+        Err(_) => MEMORY,
+        Ok(text) => put_text(text.as_bytes(), out, count),
+    }
+}
+
+/// Puts the zone file text of the RDATA into a buffer, followed by a zero octet, and sets `count` to its length without that
+/// octet: the presentation format that every name server reads (RFC 1035, section 5.1; RFC 9460, section 2.1), or that of unknown
+/// RDATA (RFC 3597, section 5). RDATA of more than 65535 octets once names are uncompressed is rejected with `TOO_LONG`, since no
+/// reader accepts its text.
 #[unsafe(no_mangle)]
 pub extern "C" fn dns_rdata_text(
     alloc: Global,
@@ -33,10 +65,12 @@ pub extern "C" fn dns_rdata_text(
     out: &mut [u8],
     count: &mut usize,
 ) -> u32
-    ensures ok { result ≡ OK → HasData message.now place length (record_type_of type_number) (λ v. IsTextPut (zone_text v) out.old out.new count.new) }
-    ensures buffer { result ≡ BUFFER → HasData message.now place length (record_type_of type_number) (λ v. IsTextTooLong (zone_text v) out.old out.new count.new) }
+    ensures ok { result ≡ OK → HasData message.now place length (record_type_of type_number) (λ v. (size (whole_data v) ≤ 65535) × IsTextPut (zone_text v) out.old out.new count.new) }
+    ensures buffer { result ≡ BUFFER → HasData message.now place length (record_type_of type_number) (λ v. (size (whole_data v) ≤ 65535) × IsTextTooLong (zone_text v) out.old out.new count.new) }
+    ensures too_long { result ≡ TOO_LONG → HasData message.now place length (record_type_of type_number) (λ v. 65535 < size (whole_data v)) }
     ensures refused { REFUSED ≤ result → NoValue message.now place length (record_type_of type_number) }
-    ensures status { (result ≡ OK) ⊎ (result ≡ MEMORY) ⊎ (result ≡ BUFFER) ⊎ (REFUSED ≤ result) }
+    ensures cause { REFUSED ≤ result → IsRejected message.now place length (record_type_of type_number) result }
+    ensures status { (result ≡ OK) ⊎ (result ≡ MEMORY) ⊎ (result ≡ BUFFER) ⊎ (result ≡ TOO_LONG) ⊎ (REFUSED ≤ result) }
     ensures kept { result ≢ OK → out.new ≡ out.old }
     ensures untold { result ≢ OK → result ≢ BUFFER → count.new ≡ count.old }
 {
@@ -44,8 +78,9 @@ pub extern "C" fn dns_rdata_text(
         Ok(value) => value,
         Err(status) => return status,
     };
-    match zone_text_of(alloc, &value) {
-        Err(_) => MEMORY,
-        Ok(text) => put_text(text.as_bytes(), out, count),
+    let fits = fits_record(alloc, octets_at(message, place, length), &value);
+    if fits != OK {
+        return fits;
     }
+    put_zone_text(alloc, &value, out, count)
 }

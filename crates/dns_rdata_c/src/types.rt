@@ -37,6 +37,7 @@ pub extern "C" fn dns_rdata_type_number(text: &[u8], type_number: &mut u16) -> u
     ensures ok { result ≡ OK → (t : _) × IsTypeText text.now t × (type_number.new ≡ number_of t) }
     ensures refused { result ≡ NO_TYPE → (t : _) → ¬ (IsTypeText text.now t) }
     ensures not_utf8 { result ≡ NOT_UTF8 → ¬ (IsUtf8 text.now) }
+    ensures utf8 { result ≢ NOT_UTF8 → IsUtf8 text.now }
     ensures status { (result ≡ OK) ⊎ (result ≡ NOT_UTF8) ⊎ (result ≡ NO_TYPE) }
     ensures untold { result ≢ OK → type_number.new ≡ type_number.old }
 {

@@ -58,7 +58,7 @@ pub fn read_text(
     origin: Option<&Name>,
 ) -> Result<RData, u32>
     ensures found { IfOk result (IsDataTextAt (option_copied origin.entry) record_type text.now) }
-    ensures refused { IfErr result (λ s. (s ≡ 1) ⊎ ((48 ≤ s) × IsNoText (option_copied origin.entry) record_type text.now)) }
+    ensures refused { IfErr result (λ s. (s ≡ 1) ⊎ ((48 ≤ s) × IsNoText (option_copied origin.entry) record_type text.now s)) }
 {
     match RData::try_from_str_with_origin(alloc, record_type, text, origin) {
         Ok(value) => Ok(value),

@@ -3,7 +3,7 @@
 ghost use Rattle.std.specs.Prelude.{◌≡◌, ◌≢◌, ◌<◌, ◌≤◌, ◌⊎◌, length as size};
 ghost use Rattle.dns_types.specs.RecordTypes.{record_type_of};
 ghost use Rattle.dns_rdata.specs.{Data.NoValue, Data.IsEmittable, WholeOctets.whole_data};
-ghost use Rattle.dns_rdata_c.specs.{Reading.HasData, Calls.PutsWire, Calls.LacksRoomForWire, NameSpans.AreOf};
+ghost use Rattle.dns_rdata_c.specs.{Reading.HasData, Reading.IsRejected, Calls.PutsWire, Calls.LacksRoomForWire, NameSpans.AreOf};
 
 use crate::emitting::whole_octets;
 use crate::putting::put_octets;
@@ -29,9 +29,15 @@ pub fn put_wire(alloc: Global, value: &RData, out: &mut [u8], count: &mut usize)
     }
 }
 
-// Puts the octets of a value that was read: those from which it was read, where they are at hand (`put_standing`), else those
-// that its emission appends.
-fn put_read(alloc: Global, octets: &[u8], value: &RData, out: &mut [u8], count: &mut usize) -> u32
+/// Puts the uncompressed octets of a value that was read into a buffer: those from which it was read, if they serve
+/// (`put_standing`), and otherwise those that `emit_whole` appends.
+pub fn put_read(
+    alloc: Global,
+    octets: &[u8],
+    value: &RData,
+    out: &mut [u8],
+    count: &mut usize,
+) -> u32
     requires emittable { IsEmittable value.now }
     requires stand { AreOf octets.now value.now }
     requires short { size octets.now ≤ 65535 }
@@ -48,8 +54,8 @@ fn put_read(alloc: Global, octets: &[u8], value: &RData, out: &mut [u8], count: 
     }
 }
 
-/// Puts the octets of record data in a message into a buffer, names whole and with their letters, and tells their number:
-/// the data without pointers into the message.
+/// Puts the uncompressed RDATA into a buffer, names with their case preserved, and sets `count` to the number of octets. These
+/// octets mean the same in every message. A DNSSEC signer or validator starts from them.
 #[unsafe(no_mangle)]
 pub extern "C" fn dns_rdata_wire(
     alloc: Global,
@@ -64,6 +70,7 @@ pub extern "C" fn dns_rdata_wire(
     ensures buffer { result ≡ BUFFER → HasData message.now place length (record_type_of type_number) (λ v. LacksRoomForWire v out.old out.new count.new) }
     ensures too_long { result ≡ TOO_LONG → HasData message.now place length (record_type_of type_number) (λ v. 65535 < size (whole_data v)) }
     ensures refused { REFUSED ≤ result → NoValue message.now place length (record_type_of type_number) }
+    ensures cause { REFUSED ≤ result → IsRejected message.now place length (record_type_of type_number) result }
     ensures status { (result ≡ OK) ⊎ (result ≡ MEMORY) ⊎ (result ≡ BUFFER) ⊎ (result ≡ TOO_LONG) ⊎ (REFUSED ≤ result) }
     ensures kept { result ≢ OK → out.new ≡ out.old }
     ensures untold { result ≢ OK → result ≢ BUFFER → count.new ≡ count.old }

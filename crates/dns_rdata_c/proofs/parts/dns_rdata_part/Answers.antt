@@ -1,8 +1,5 @@
-use Rattle.std.proofs.Common.{◌≡◌, ◌∙◌, ◌⊎◌, false, inl, inr, List, length, take, drop, sym, subst, ap, arith}
+use Rattle.std.proofs.Common.{◌∙◌, inl, inr, length, drop, sym, ap, arith}
 use Rattle.std.proofs.lemmas.List.{length-take-le, length-drop}
-use Rattle.dns_types.specs.RecordTypes.{record_type_of}
-use Rattle.dns_rdata.specs.Data.{NoValue}
-use Rattle.dns_rdata_c.specs.Parts.{is_partless, HasNoFront, AreNoParts, AreFewParts, AreCutOptions, IsPartOf}
 use Rattle.dns_rdata_c.proofs.{PartWalks.part_room, PartTies.same_part, PartTies.same_few, PartTies.no_value, PartTies.no_parts}
 use Rattle.dns_rdata_c.proofs.parts.dns_rdata_part.Goals as goal
 
