@@ -108,7 +108,8 @@ def in_tokens(digits):
 
 def long_records():
     """Type, RDATA and text of records with long data, around the length of a token and of several."""
-    for length in (1, 509, 510, 511, 764, 765, 766, 1019, 1020, 1021, 1530, 1531, 5000, 60000):
+    # `rt try` takes no more than 1 MiB of output.
+    for length in (1, 509, 510, 511, 764, 765, 766, 1019, 1020, 1021, 1530, 1531, 12000):
         data = bytes(at * at % 251 for at in range(length))
         base64 = in_tokens(b64encode(data).decode())
         yield "OPENPGPKEY", data, base64
@@ -118,8 +119,7 @@ def long_records():
         size = length.to_bytes(2, "big")
         unknown = {
             "NULL": data,
-            # A tag with a hyphen, and a path without an octet, have no text.
-            "CAA": b"\0\3a-b" + data,
+            # A path without an octet has no text.
             "SVCB": b"\0\1\1a\0\0\7\0\0\3\350" + size + data,
             "OPT": b"\0\3" + size + data + b"\375\351\0\2ab" + b"\0\10\0\7\0\1\30\0\12\0\1",
             "TYPE65280": data,
