@@ -12,7 +12,7 @@ TOP = pathlib.Path(__file__).resolve().parent.parent
 
 
 def plain(line):
-    return re.sub(r"^pub (\(crate\) )?", "", line.strip())
+    return re.sub(r"^pub(\(crate\))? ", "", line.strip())
 
 
 def comment_lines(text):

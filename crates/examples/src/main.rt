@@ -19,7 +19,7 @@ use messages::{print_records, write_message};
 use parts::{is_in_zone, only_issuer, port_of, server_of};
 use record_data::{
     canonical_start, emit_mail, host_of, octets_of, parse_alias, parse_mail, parse_mail_of,
-    read_address, sort_records,
+    read_address, read_address_at, sort_records,
 };
 use std::alloc::Global;
 use zone_files::{print_zone_text, read_zone_mail};
@@ -67,6 +67,9 @@ fn some_records(alloc: Global) -> Result<HeldList> {
     records.0.push(parse_mail(alloc)?)?;
     records.0.push(parse_alias(alloc, &origin)?)?;
     records.0.push(read_address(alloc, &[192, 0, 2, 1])?)?;
+    records
+        .0
+        .push(read_address_at(alloc, &[0, 192, 0, 2, 1], 1)?)?;
     records.0.push(parse_mail(alloc)?)?;
     Ok(records)
 }

@@ -15,6 +15,16 @@ pub fn read_address(alloc: Global, message: &[u8]) -> Result<RData, DecodeError>
     RData::read(&mut decoder, RecordType::A, Restrict::new(4))
 }
 
+/// The address of a record of type A that begins at an offset of a message.
+pub(crate) fn read_address_at(
+    alloc: Global,
+    message: &[u8],
+    offset: usize,
+) -> Result<RData, DecodeError> {
+    let mut decoder = BinDecoder::at(alloc, message, offset)?;
+    RData::read(&mut decoder, RecordType::A, Restrict::new(4))
+}
+
 /// Emits the data of an MX record.
 pub fn emit_mail(alloc: Global, exchange: Name, octets: &mut Vec<u8>) -> ProtoResult<()> {
     let mut encoder = BinEncoder::new(alloc, octets);
