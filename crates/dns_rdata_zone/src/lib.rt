@@ -18,6 +18,7 @@ mod strings;
 mod tokens;
 mod zone_text;
 
+pub use dns_text::parse_ttl;
 pub use dns_zone_words::type_named;
 pub use generic::Generic;
 pub use name_reading::name_from_zone_text;
