@@ -19,6 +19,7 @@ mod tokens;
 mod zone_text;
 
 pub use dns_text::parse_ttl;
+pub use dns_zone_rows::token_at_fault;
 pub use dns_zone_words::type_named;
 pub use generic::Generic;
 pub use name_reading::name_from_zone_text;

@@ -10,14 +10,15 @@
 //!
 //! TYPE is the name of a type in either case, its number, or `TYPE` and its number.
 //!
-//! A line that cannot be used has the result `refused: ` and the reason, and the next line follows. At the end of the input
-//! the exit status is 1 if some line was refused, and 0 otherwise. Only if memory runs out, or if standard input or output
-//! fails, the program ends earlier: with status 1, and without a result for the line.
+//! A line that cannot be used has the result `refused: ` and the reason, and the next line follows. If the reason is about
+//! one token of TEXT, `, at octet ` and a number follow: the offset in the line at which this token starts. At the end of the
+//! input the exit status is 1 if some line was refused, and 0 otherwise. Only if memory runs out, or if standard input or
+//! output fails, the program ends earlier: with status 1, and without a result for the line.
 #![tactic(auto)]
 
 use anyhow::{Result, bail};
 use dns_rdata::{BinDecoder, BinEncoder, DecodeError, Name, ParseError, RecordType};
-use dns_rdata_zone::{ZoneText, from_zone_text, type_named};
+use dns_rdata_zone::{ZoneText, from_zone_text, token_at_fault, type_named};
 use held_data::Held;
 use hex::FromHexError;
 use std::alloc::Global;
@@ -114,17 +115,23 @@ fn write_data<W: Write>(
     }
 }
 
-// Writes why a text is refused. A type without fields here has the form of unknown data alone.
-fn refuse_text<W: Write>(out: &mut W, e: ParseError) -> Result<bool> {
-    match e {
-        ParseError::UnsupportedRecordType(_) => {
-            writeln!(
-                out,
-                "refused: {e}; its data is read as `\\#`, a length and octets"
-            )?
-        }
-        _ => writeln!(out, "refused: {e}")?,
+// Writes why a text is refused that follows so many octets of its line. A type without fields here has the form of unknown
+// data alone.
+fn refuse_text<W: Write>(
+    out: &mut W,
+    kind: RecordType,
+    before: usize,
+    text: &[u8],
+    e: ParseError,
+) -> Result<bool> {
+    write!(out, "refused: {e}")?;
+    if let ParseError::UnsupportedRecordType(_) = e {
+        write!(out, "; its data is read as `\\#`, a length and octets")?;
     }
+    if let Some(token) = token_at_fault(kind, text, &e) {
+        write!(out, ", at octet {}", before.saturating_add(token.start))?;
+    }
+    out.write_all(b"\n")?;
     Ok(true)
 }
 
@@ -142,7 +149,10 @@ fn write_octets<W: Write>(
     let held = match from_zone_text(alloc, kind, text, origin) {
         Ok(value) => Held(value),
         Err(ParseError::Memory) => bail!("out of memory"),
-        Err(e) => return refuse_text(out, e),
+        Err(e) => {
+            let before = line.len().saturating_sub(text.len());
+            return refuse_text(out, kind, before, text, e);
+        }
     };
     let mut octets = Vec::new(alloc);
     let mut encoder = BinEncoder::new(alloc, &mut octets);

@@ -20,6 +20,12 @@ pub fn options(alloc: Global, digits: &str) -> Result<String> {
     Ok(format!(in alloc; "{count} {cookies} {cookie} {padding}")?)
 }
 
+/// The text of a record of these octets, in brackets.
+pub fn text(alloc: Global, digits: &str) -> Result<String> {
+    let opt = record::<OPT>(alloc, octets(alloc, digits)?.as_slice())?;
+    Ok(format!(in alloc; "[{opt}]")?)
+}
+
 /// How the records of these octets are ordered, where that is told without a cursor.
 pub fn order(alloc: Global, left: &str, right: &str) -> Result<String> {
     let left = record::<OPT>(alloc, octets(alloc, left)?.as_slice())?;

@@ -122,6 +122,14 @@ pub fn unread(alloc: Global, kind: &str, words: &str) -> Result<String> {
     }
 }
 
+/// The name of the field that the error about these words names, or `read`.
+pub fn field(alloc: Global, kind: &str, words: &str) -> Result<String> {
+    match Held::of_words(alloc, record_type(kind)?, words) {
+        Ok(_) => Ok(String::from_str(alloc, "read")?),
+        Err(error) => shown(alloc, error.field()),
+    }
+}
+
 /// Why NAPTR is refused that is read by its own type, and the place where reading ends.
 pub fn naptr(alloc: Global, digits: &str) -> Result<String> {
     let octets = octets(alloc, digits)?;
