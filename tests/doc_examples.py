@@ -1,8 +1,9 @@
 #!/usr/bin/env python3
-"""Compares the examples in README.md and in the comments of the crates with the crate `examples`, which is proved and run.
+"""Compares the examples in README.md, docs/GUIDE.md and the comments of the crates with the crates `examples` and `guide_*`,
+which are proved and run.
 
-Each block that is marked as Rust must stand there line by line, but for how far it is indented and for `pub`. The last
-line is 'N as wanted, M not'.
+Each block that is marked as Rust must be in one of them line by line, but for how far it is indented and for `pub`. The
+last line is 'N as wanted, M not'.
 """
 import pathlib
 import re
@@ -39,26 +40,27 @@ def blocks(lines):
 def main():
     sources = [
         [plain(line) for line in file.read_text(encoding="utf-8").splitlines()]
-        for file in sorted((TOP / "crates/examples/src").glob("*.rt"))
+        for file in [*sorted((TOP / "crates/examples/src").glob("*.rt")), *sorted(TOP.glob("crates/guide_*/src/*.rt"))]
     ]
 
-    def stands(block):
+    def is_there(block):
         size = len(block)
         return size > 0 and any(
             source[at : at + size] == block for source in sources for at in range(len(source) - size + 1)
         )
 
-    files = [(TOP / "README.md", TOP.joinpath("README.md").read_text(encoding="utf-8").splitlines())]
+    pages = [TOP / "README.md", TOP / "docs/GUIDE.md"]
+    files = [(page, page.read_text(encoding="utf-8").splitlines()) for page in pages]
     for file in sorted(TOP.glob("crates/*/src/**/*.rt")):
         files.append((file, comment_lines(file.read_text(encoding="utf-8"))))
     good = bad = 0
     for file, lines in files:
         for block in blocks(lines):
-            if stands(block):
+            if is_there(block):
                 good += 1
             else:
                 bad += 1
-                print(f"{file.relative_to(TOP)}: an example that does not stand in the crate examples: {block[0] if block else ''}")
+                print(f"{file.relative_to(TOP)}: an example that is in none of the crates examples and guide_*: {block[0] if block else ''}")
     if good == 0:
         bad += 1
         print("no example was found")

@@ -176,7 +176,7 @@ def page():
             where, line, text = specs.lines[key]
             path = where.relative_to(TOP)
             shown = f"{path.parts[1]}/{'/'.join(path.parts[3:])}"
-            out.append(f"| `{key[2]}` | [{shown}:{line}](../{path}#L{line}) | {len(text)} |")
+            out.append(f"| `{key[2]}` | [`{shown}:{line}`](../{path}#L{line}) | {len(text)} |")
         out.append("")
     head = [
         "# What one must read to believe the headline",
@@ -186,7 +186,7 @@ def page():
         "The prover checks every proof. What it cannot check is whether a contract says what its reader thinks that it says. So a",
         "reader who wants to believe the promise of README reads the clauses of four calls (`crates/dns_rdata/src/record_data.rt`,",
         "`order.rt`) and every definition that they name, directly or through other definitions. These are all of them, each in front",
-        "of what it names. [DEFINITIONS](DEFINITIONS.md) reads them aloud.",
+        "of what it names. [DEFINITIONS](dev/DEFINITIONS.md) reads them aloud.",
         "",
         f"**{total} lines in all.** Blank lines, comments and imports are not counted, nor are the types that code declares and the words",
         "of the kit's standard library.",
