@@ -58,8 +58,8 @@ impl<'a> BinDecoder<'a> {
         }
     }
 
-    /// A decoder at an offset of a message, so that a reader can go on after a record that was rejected. Values that are
-    /// read later are allocated from `alloc`; this call allocates nothing.
+    /// A decoder at an offset of a message, so that a reader can go on after a record that was rejected. Values that
+    /// are read later are allocated from `alloc`; this call allocates nothing.
     ///
     /// # Errors
     ///
@@ -327,12 +327,13 @@ impl<'a> BinDecoder<'a> {
         Ok(Restrict::new(n.cast_signed()))
     }
 
-    /// Reads a character string (RFC 1035, section 3.3): a length octet, and so many octets, which are returned as a part
-    /// of the message. Allocates nothing.
+    /// Reads a character string (RFC 1035, section 3.3): a length octet, and so many octets, which are returned as a
+    /// part of the message. Allocates nothing.
     ///
     /// # Errors
     ///
-    /// [`InsufficientBytes`](DecodeError::InsufficientBytes): octets are missing. The length octet is read if it is there.
+    /// [`InsufficientBytes`](DecodeError::InsufficientBytes): octets are missing. The length octet is read if it is
+    /// there.
     #[inline]
     pub fn read_character_data(&mut self) -> Result<Restrict<&'a [u8]>, DecodeError>
         ensures taken { ReadsField Text (λ s. s.now) result self.old self.new }

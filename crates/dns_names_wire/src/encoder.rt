@@ -20,8 +20,8 @@ const MAX_SIZE: usize = 65535;
 /// Writes a message (RFC 1035, section 4.1) to the end of a vector, up to a limit.
 ///
 /// Each call appends everything or nothing. It fails with `Memory` if an allocation fails, and with
-/// `MaxBufferSizeExceeded` exactly if the octets would pass the limit. On error the octets that were there are unchanged.
-/// Appending allocates as the vector grows.
+/// `MaxBufferSizeExceeded` exactly if the octets would pass the limit. On error the octets that were there are
+/// unchanged. Appending allocates as the vector grows.
 ///
 /// ```rust
 /// fn emit_record(
@@ -71,10 +71,10 @@ pub struct Place {
 }
 
 impl<'a> BinEncoder<'a> {
-    /// An encoder of a message that begins where the vector ends. It starts without octets, with the limit 65535, and in
-    /// the mode of RFC 1035's records, which compresses names. What the vector has already, such as the two octets of a
-    /// length for TCP (RFC 1035, section 4.2.2), precedes the message: it never changes, and compression pointers do not
-    /// count it. Offsets of compressed names are kept in memory of `alloc`.
+    /// An encoder of a message that begins where the vector ends. It starts without octets, with the limit 65535, and
+    /// in the mode of RFC 1035's records, which compresses names. What the vector has already, such as the two octets
+    /// of a length for TCP (RFC 1035, section 4.2.2), precedes the message: it never changes, and compression pointers
+    /// do not count it. Offsets of compressed names are kept in memory of `alloc`.
     #[inline]
     pub fn new(alloc: Global, octets: &'a mut Vec<u8>) -> BinEncoder<'a>
         ensures { result ≡ record { before = octets.old.items; octets = []; limit = 65535; mode = RDataEncoding.StandardRecord; target = octets.entry.ghost_name } }

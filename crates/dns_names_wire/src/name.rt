@@ -172,8 +172,8 @@ impl Name {
         }
     }
 
-    /// The labels' octets, each label behind its length, with its letters. Lowered and with a 0 behind them they are the
-    /// canonical octets. Takes no memory.
+    /// The labels' octets, each label behind its length, with its letters. Lowered and with a 0 behind them they are
+    /// the canonical octets. Takes no memory.
     #[inline]
     pub fn label_octets(&self) -> &[u8]
         ensures { lowname self.now ≡ lowered_octets result.now }
