@@ -75,6 +75,8 @@ answer() { # CRATE WORD ..
     cat "$log" >&2
     echo "$crate: the quick build gave no answer (rt try: status $status)" >&2
     ended=4
+  else
+    sed '/^interpreter: /d; /^checked: /,$d' "$log" >&2
   fi
   rm -f "$log"
   exit "$ended"
