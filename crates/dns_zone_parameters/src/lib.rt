@@ -12,9 +12,9 @@ ghost use Rattle.std.specs.Prelude.{◌≡◌, ◌⊎◌, ◌++◌, map, IfOk, I
 ghost use Rattle.dns_fields.specs.Pieces.{pieces};
 ghost use Rattle.dns_zone_words.specs.Remaining.{PutsAll};
 ghost use Rattle.dns_zone_parameters.specs.{Parameters.AreParameters, Steps.ReadsParameters, Views.parameter_value};
-ghost use Rattle.dns_zone_parameters.specs.Faults.{FaultBehind, ParametersFault};
+ghost use Rattle.dns_zone_parameters.specs.Faults.{FaultBehind, ParametersFault, twice_text};
 
-use crate::lists::is_rising;
+use crate::lists::first_fall;
 use crate::parameter::Parameter;
 use crate::written::next_parameter;
 use dns_types::ParseError;
@@ -57,11 +57,28 @@ pub fn put_parameters(
     let mut parameters = parameters_in(alloc, words)?;
     parameters.sort_unstable_by_key(|parameter| parameter.number);
     let numbers = numbers_of(alloc, parameters.as_slice())?;
-    if !is_rising(numbers.as_slice()) {
-        return Err(ParseError::Message("key of a service parameter twice"));
+    if let Some(number) = first_fall(numbers.as_slice()) {
+        return Err(ParseError::Message(twice_text(number)));
     }
     put_wire(octets, parameters.as_slice())?;
     Ok(())
+}
+
+// What is said of a key that comes twice, by its number.
+fn twice_text(key: u16) -> &'static str
+    ensures { result.now ≡ twice_text key }
+{
+    match key {
+        0 => "service parameter mandatory twice",
+        1 => "service parameter alpn twice",
+        2 => "service parameter no-default-alpn twice",
+        3 => "service parameter port twice",
+        4 => "service parameter ipv4hint twice",
+        5 => "service parameter ech twice",
+        6 => "service parameter ipv6hint twice",
+        7 => "service parameter dohpath twice",
+        _ => "key of a service parameter twice",
+    }
 }
 
 // The parameters in the order of the words.
@@ -147,9 +164,14 @@ mod tests {
     ];
 
     // Texts that are refused (RFC 9460, D.3), and what is said of them.
-    const REFUSED: [(&str, &str); 28] = [
+    const REFUSED: [(&str, &str); 30] = [
         ("key123=abc key123=def", "key of a service parameter twice"),
-        ("alpn=a key1=a", "key of a service parameter twice"),
+        ("alpn=a key1=a", "service parameter alpn twice"),
+        (
+            "port=1 key9=a key9=b port=2",
+            "service parameter port twice",
+        ),
+        ("key7=a key7=b", "service parameter dohpath twice"),
         ("mandatory", "no list of different keys in mandatory"),
         ("alpn", "no list of protocols in alpn"),
         ("port", "no number of 16 bits in port"),

@@ -1,5 +1,5 @@
 use Rattle.std.proofs.Common.{◌<◌, ◌+◌, ℕ, get_or}
-use Rattle.dns_zone_parameters.proofs.lists.is_rising.Given as goal
+use Rattle.dns_zone_parameters.proofs.lists.first_fall.Given as goal
 
 -- each number so far is below the next
 abbrev pub invariant-loop-i : goal.invariant-loop-i
