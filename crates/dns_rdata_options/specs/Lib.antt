@@ -4,6 +4,7 @@ pub mod ClientSubnet
 pub mod NetText
 pub mod EdnsOption
 pub mod OPT
+pub mod OptText
 pub mod Lent
 pub mod Order
 pub mod OrderLaws

@@ -16,6 +16,7 @@ pub(crate) mod order;
 mod payload;
 mod reading;
 mod subnet;
+mod text;
 pub(crate) mod walks;
 
 pub use code::EdnsCode;
@@ -31,7 +32,7 @@ use std::alloc::{AllocError, Global};
 use std::cmp::Ordering;
 use std::hash::{Hash, Hasher};
 use std::marker::Model;
-use std::{fmt, slice};
+use std::slice;
 pub use subnet::ClientSubnet;
 
 /// The options of EDNS with their codes (RFC 6891, 6.1.2), which contracts see as the list of pairs. Each option stands
@@ -321,16 +322,5 @@ impl Clone for OPT {
         Ok(OPT {
             options: self.options.clone()?,
         })
-    }
-}
-
-impl fmt::Display for OPT {
-    ghost use Rattle.std.specs.Prelude.{None};
-
-    ghost output = { λ _. None };
-
-    /// The text that `Debug` gives.
-    fn fmt<W: fmt::Write>(&self, f: &mut fmt::Formatter<W>) -> fmt::Result {
-        fmt::Debug::fmt(self, f)
     }
 }

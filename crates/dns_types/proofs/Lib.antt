@@ -1,3 +1,4 @@
+pub mod FieldNames
 pub mod Pieces
 pub mod RecordTypeLaws
 pub mod TypeTexts

@@ -1,6 +1,6 @@
 //! Why octets, values or texts are refused.
-ghost use Rattle.std.specs.Prelude.{◌≡◌};
-ghost use Rattle.dns_types.specs.Errors.{decode_refusal, proto_refusal};
+ghost use Rattle.std.specs.Prelude.{◌≡◌, ℕ, List, IfSome, IfNone};
+ghost use Rattle.dns_types.specs.Errors.{decode_refusal, proto_refusal, IsAbout, NamesField};
 ghost use Rattle.dns_types.specs.declared.error.DecodeError.TheVariants as decode;
 ghost use Rattle.dns_types.specs.declared.error.ProtoError.TheVariants as proto;
 ghost use Rattle.dns_types.specs.declared.error.ParseError.TheVariants as parse;
@@ -152,6 +152,40 @@ pub enum ParseError {
     /// Memory ran out.
     #[error("out of memory")]
     Memory,
+}
+
+impl ParseError {
+    /// The name of the field that the error is about, as `MX preference`. `None` if it is about no field, as when a
+    /// quote is not closed. Allocates nothing.
+    ///
+    /// [`MissingToken`](ParseError::MissingToken) has the name. A [`Message`](ParseError::Message) names a field if its
+    /// text ends with ` token`: the name is what follows the last ` in ` before that.
+    ///
+    /// ```rust
+    /// fn is_about_preference(error: &ParseError) -> bool {
+    ///     error.field() == Some("MX preference")
+    /// }
+    /// ```
+    pub fn field(&self) -> Option<&'static str>
+        ensures some { IfSome result (λ name. IsAbout self.now name.now) }
+        ensures none { IfNone result ((name : List ℕ) → IsAbout self.now name → ⊥) }
+    {
+        match self {
+            ParseError::MissingToken(name) => Some(*name),
+            ParseError::Message(text) => field_in(*text),
+            _ => None,
+        }
+    }
+}
+
+// The name of the field in a text about a token.
+fn field_in(text: &'static str) -> Option<&'static str>
+    ensures some { IfSome result (λ name. NamesField text.entry.now name.now) }
+    ensures none { IfNone result ((name : List ℕ) → NamesField text.entry.now name → ⊥) }
+{
+    let front = text.strip_suffix(" token")?;
+    let (_, name) = front.rsplit_once(" in ")?;
+    Some(name)
 }
 
 impl From<AllocError> for ParseError {

@@ -1,5 +1,5 @@
 -- All parameters, one by one.
-use Rattle.std.proofs.Common.{◌≡◌, ℕ, zero, suc, List, [], ◌∷◌, ◌++◌, map, Result, Ok, refl, sym, ◌∙◌, ap, subst, arith, append_assoc, codes}
+use Rattle.std.proofs.Common.{◌≡◌, ℕ, zero, suc, ◌+◌, ◌≤◌, List, [], ◌∷◌, ◌++◌, map, get_or, Result, Ok, refl, sym, ◌∙◌, ap, subst, arith, add-one, append_assoc}
 use Rattle.std.specs.List.Sorted.{IsPermutation, IsNonDecreasingBy, IsStrictlyIncreasing}
 use Rattle.std.proofs.{lemmas.List.append-nil, lemmas.List.map-append, lemmas.List.Sorted.IsPermutation-map, lemmas.Simd.map-map}
 use Rattle.dns_fields.specs.Pieces.{pieces, Rising}
@@ -9,8 +9,8 @@ use Rattle.dns_zone_words.specs.{Words.Word, Words.Cursor, Words.words_at, Words
 use Rattle.dns_zone_words.specs.Remaining.{with_words, NoneOfAll, TookAll, PutAll}
 use Rattle.dns_words.proofs.Steps.{unless_map}
 use Rattle.dns_zone_words.proofs.RemainingSteps.{words_more, words_ok}
-use Rattle.dns_zone_parameters.specs.{Faults.KeyTwice, Keys.key_number, Steps.BeginOnlySo, Steps.TookWritten, Steps.TookParameter}
-use Rattle.dns_zone_parameters.specs.{Steps.TookParameters, Views.parameter_value, declared.parameter.Parameter.Parameter as CodeParameter}
+use Rattle.dns_zone_parameters.specs.{Faults.KeyTwice, Faults.IsFirstTwice, Faults.twice_text, Keys.key_number, Steps.BeginOnlySo, Steps.IsFirstFall}
+use Rattle.dns_zone_parameters.specs.{Steps.TookWritten, Steps.TookParameter, Steps.TookParameters, Views.parameter_value, declared.parameter.Parameter.Parameter as CodeParameter}
 use Rattle.dns_zone_parameters.specs.Parameters.{Parameter, IsWritten, HasParameter, IsParameter, AreWritten, AreParameters}
 use Rattle.dns_zone_parameters.proofs.{KeyNames.key_once, Rises.Climbs, Rises.climbs_rising, Rises.order_once, Rises.rising_from, Rises.rising_to}
 
@@ -147,16 +147,38 @@ no_rise xs ys numbers cursor took same climbs e isnt = record {
   none = λ octets words cut is. no_order xs ys numbers same climbs e isnt is.parameters (took.only is.parameters words cut is.written ∙ numbers_of_values xs) is.order is.same is.rising;
 }
 
-pub key_twice : (xs ys : List CodeParameter) (numbers : List ℕ) (cursor : Cursor) (e : ParseError) → TookParameters (map parameter_value xs) cursor → IsPermutation xs ys
-    → IsNonDecreasingBy (λ x. x.number) ys → numbers ≡ map (λ x. x.number) ys → (IsStrictlyIncreasing numbers → ⊥) → Says (codes "key of a service parameter twice") e → KeyTwice cursor e
-key_twice xs ys numbers cursor e took same climbs f isnt says = record {
-  parameters = map parameter_value xs;
-  words = took.words;
-  cut = took.cut;
-  written = took.written;
-  none = λ order perm rising. no_order xs ys numbers same climbs f isnt (map parameter_value xs) (numbers_of_values xs) order perm rising;
-  says = says;
-}
+-- a number that is not below the next, so that the numbers do not rise
+pub falls_not_rises : {n : ℕ} {numbers : List ℕ} → IsFirstFall n numbers → IsStrictlyIncreasing numbers → ⊥
+falls_not_rises fall rises =
+    let up = rises fall.index fall.inside in
+    let down = rw fall.here at fall.falls in
+    absurd (omega (arith, up, down))
+
+first_twice : (n : ℕ) (numbers : List ℕ) → IsFirstFall n numbers → Climbs numbers → IsFirstTwice n numbers
+first_twice n numbers fall climbs =
+    let up : get_or numbers fall.index 0 ≤ get_or numbers (fall.index + 1) 0 = rw add-one (climbs fall.index (rw add-one at fall.inside)) in
+    let down : get_or numbers (fall.index + 1) 0 ≤ n = fall.falls in
+    let here : n ≡ get_or numbers fall.index 0 = fall.here in
+    record { index = fall.index; inside = fall.inside; here = sym here; again = omega (arith, up, down, here); before = fall.before }
+
+pub key_twice : (xs ys : List CodeParameter) (numbers : List ℕ) (cursor : Cursor) (n : ℕ) (e : ParseError) → TookParameters (map parameter_value xs) cursor → IsPermutation xs ys
+    → IsNonDecreasingBy (λ x. x.number) ys → numbers ≡ map (λ x. x.number) ys → IsFirstFall n numbers → Says (twice_text n) e → KeyTwice cursor e
+key_twice xs ys numbers cursor n e took same climbs f fall says =
+    let keys : numbers ≡ map (λ p. p.0) (map parameter_value ys) = f ∙ sym (numbers_of_values ys) in
+    let up : Climbs numbers = subst Climbs (sym f) (climbs_by ys climbs) in
+    record {
+      parameters = map parameter_value xs;
+      words = took.words;
+      cut = took.cut;
+      written = took.written;
+      none = λ order perm rising. no_order xs ys numbers same climbs f (falls_not_rises fall) (map parameter_value xs) (numbers_of_values xs) order perm rising;
+      order = map parameter_value ys;
+      same = IsPermutation-map parameter_value xs ys same;
+      climbs = subst Climbs keys up;
+      key = n;
+      twice = subst (IsFirstTwice n) keys (first_twice n numbers fall up);
+      says = says;
+    }
 
 pub are_parameters : (xs ys : List CodeParameter) (numbers octets : List ℕ) (cursor : Cursor) → TookParameters (map parameter_value xs) cursor → IsPermutation xs ys
     → numbers ≡ map (λ x. x.number) ys → IsStrictlyIncreasing numbers → octets ≡ pieces (map parameter_value ys) → TookAll AreParameters octets cursor

@@ -1,5 +1,6 @@
 -- Why words are no parameters, and what the refusal says.
-use Rattle.std.specs.Prelude.{◌≡◌, ◌⊎◌, ℕ, ◌<◌, true, false, List, length, map, Result, Ok, Err, IsPermutation, codes}
+use Rattle.std.specs.Prelude.{◌≡◌, ◌⊎◌, ℕ, suc, ◌+◌, ◌<◌, ◌≤◌, ◌==◌, if◌then◌else◌, true, false, List, length, map, slice_index, Result, Ok, Err, codes}
+use Rattle.std.specs.Prelude.{IsPermutation}
 use Rattle.dns_fields.specs.Pieces.{Rising}
 use Rattle.dns_types.specs.declared.error.ParseError.{ParseError}
 use Rattle.dns_words.specs.Reads.{HoldsOfNone}
@@ -82,14 +83,44 @@ pub record FaultBehind (cursor : Cursor) (e : ParseError) : Type 0 where
   pub written : AreWritten parameters front
   pub has : NextFault behind e
 
--- the words are parameters, and a key comes twice, so that they have no rising order
+-- what is said of a key that comes twice, by its number
+abbrev pub twice_text : ℕ → List ℕ
+twice_text key =
+    if key == 0 then codes "service parameter mandatory twice" else
+    if key == 1 then codes "service parameter alpn twice" else
+    if key == 2 then codes "service parameter no-default-alpn twice" else
+    if key == 3 then codes "service parameter port twice" else
+    if key == 4 then codes "service parameter ipv4hint twice" else
+    if key == 5 then codes "service parameter ech twice" else
+    if key == 6 then codes "service parameter ipv6hint twice" else
+    if key == 7 then codes "service parameter dohpath twice" else
+    codes "key of a service parameter twice"
+
+-- no key is above the next
+abbrev pub InOrder : List ℕ → Type 0
+InOrder keys = (k : ℕ) → suc k < length keys → slice_index keys k ≤ slice_index keys (suc k)
+
+-- of keys in order, this is the first that comes twice
+pub record IsFirstTwice (key : ℕ) (keys : List ℕ) : Type 0 where
+  pub index : ℕ
+  pub inside : index + 1 < length keys
+  pub here : slice_index keys index ≡ key
+  pub again : slice_index keys (index + 1) ≡ key
+  pub before : (k : ℕ) → k < index → slice_index keys k < slice_index keys (k + 1)
+
+-- the words are parameters, and a key comes twice, so that they have no rising order; the error names the first such key
 pub record KeyTwice (cursor : Cursor) (e : ParseError) : Type 0 where
   pub parameters : List Parameter
   pub words : List Word
   pub cut : words_at cursor ≡ Ok words
   pub written : AreWritten parameters words
   pub none : (order : List Parameter) → IsPermutation parameters order → Rising order → ⊥
-  pub says : Says (codes "key of a service parameter twice") e
+  pub order : List Parameter
+  pub same : IsPermutation parameters order
+  pub climbs : InOrder (map (λ p. p.0) order)
+  pub key : ℕ
+  pub twice : IsFirstTwice key (map (λ p. p.0) order)
+  pub says : Says (twice_text key) e
 
 -- a parameter has a fault, or a key comes twice
 abbrev pub ParametersFault : Cursor → ParseError → Type 0

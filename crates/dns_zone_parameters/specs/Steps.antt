@@ -1,6 +1,6 @@
 -- What the code keeps.
 use Rattle.std.specs.Prelude.{◌≡◌, ℕ, ◌+◌, ◌<◌, take, drop, map, List, [], ◌∷◌, ◌++◌, length, Result, Ok, Err, Option, Some, None, true, ◌≢◌, codes}
-use Rattle.std.specs.Prelude.{slice_index}
+use Rattle.std.specs.Prelude.{◌≤◌, slice_index}
 use Rattle.std.specs.Str.Parse.{IsNumeral, digits_value}
 use Rattle.dns_types.specs.declared.error.ParseError.{ParseError}
 use Rattle.dns_words.specs.Reads.{UnlessParseMemory, HoldsOfNone}
@@ -18,6 +18,14 @@ pub record NumberSpelled (n : ℕ) (name : List ℕ) : Type 0 where
   pub shortest : 1 < length digits → slice_index digits 0 ≢ 48
   pub value : n ≡ digits_value 10 digits
   pub below : n < 65535
+
+-- the number is the first that is not below the next
+pub record IsFirstFall (n : ℕ) (numbers : List ℕ) : Type 0 where
+  pub index : ℕ
+  pub inside : index + 1 < length numbers
+  pub here : n ≡ slice_index numbers index
+  pub falls : slice_index numbers (index + 1) ≤ n
+  pub before : (k : ℕ) → k < index → slice_index numbers k < slice_index numbers (k + 1)
 
 -- the first item of the text has so many octets
 pub record ItemTaken (text : List ℕ) (n : ℕ) : Type 0 where

@@ -4,7 +4,7 @@ ghost use Rattle.std.specs.Prelude.{◌≡◌, ◌≤◌, ◌<◌, ◌++◌, ◌
 ghost use Rattle.std.specs.{List.AllZip, Option.option_copied, List.Sorted.IsStrictlyIncreasing};
 ghost use Rattle.dns_words.specs.Reads.{Decides};
 ghost use Rattle.dns_zone_parameters.specs.Lists.{items_in, IsList, IsKeyList, IsListedKey, unescaped_from, escapes_end_from};
-ghost use Rattle.dns_zone_parameters.specs.Steps.{ItemCut, ItemTaken, PushesItem};
+ghost use Rattle.dns_zone_parameters.specs.Steps.{IsFirstFall, ItemCut, ItemTaken, PushesItem};
 
 use crate::key::ParameterKey;
 use dns_types::{Octets, ParseError};
@@ -97,15 +97,24 @@ fn listed_key(item: &[u8], wrong: &'static str) -> Result<u16, ParseError>
 }
 
 // Whether each number is below the next.
-pub(crate) fn is_rising(numbers: &[u16]) -> bool
+fn is_rising(numbers: &[u16]) -> bool
     ensures { IsTrue result ↔ IsStrictlyIncreasing numbers.now }
 {
+    first_fall(numbers).is_none()
+}
+
+/// The first number that is not below the next; `None` if each is below the next.
+pub(crate) fn first_fall(numbers: &[u16]) -> Option<u16>
+    ensures some { IfSome result (λ n. IsFirstFall n numbers.now) }
+    ensures none { IfNone result (IsStrictlyIncreasing numbers.now) }
+{
     for i in 1..numbers.len() {
-        if numbers[i - 1] >= numbers[i] {
-            return false;
+        let number = numbers[i - 1];
+        if number >= numbers[i] {
+            return Some(number);
         }
     }
-    true
+    None
 }
 
 // The first item of a list, and what stands behind its comma, if one ends it.

@@ -1,5 +1,5 @@
 -- Octets put behind others.
-use Rattle.std.proofs.Common.{◌≡◌, ℕ, List, [], ◌∷◌, Result, Ok, Err, sym, subst}
+use Rattle.std.proofs.Common.{◌≡◌, ℕ, List, ◌∷◌, Result}
 use Rattle.std.specs.Result.{IsErrAnd}
 use Rattle.dns_fields.specs.Fields.{Kind, Value}
 use Rattle.dns_types.specs.declared.error.ParseError.{ParseError}

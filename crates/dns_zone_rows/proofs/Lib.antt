@@ -1,6 +1,8 @@
+pub mod FieldNames
 pub mod Adding
 pub mod Marking
 pub mod Once
 pub mod RowLoop
+pub mod TokenFaults
 pub mod TypeWords
 pub mod StringWords

@@ -1,5 +1,5 @@
 -- Strings in the words that are left, one by one.
-use Rattle.std.proofs.Common.{◌≡◌, ◌≢◌, ℕ, List, [], ◌∷◌, ◌++◌, Result, Ok, Err, refl, sym, ◌∙◌, ap, subst, ◌⊎◌, inl, inr, append_assoc}
+use Rattle.std.proofs.Common.{◌≡◌, ◌≢◌, ℕ, List, [], ◌∷◌, ◌++◌, Result, Ok, Err, refl, sym, ◌∙◌, ap, ◌⊎◌, inl, inr, append_assoc}
 use Rattle.std.specs.{List.flat_map, Result.IsErrAnd}
 use Rattle.std.proofs.{lemmas.Grind.flat_map-append, lemmas.List.append-nil, lemmas.Slice.Zip.all_zipped_more}
 use Rattle.dns_fields.specs.Pieces.{string as string_octets}

@@ -4,4 +4,5 @@ pub mod RowTable
 pub mod RowSteps
 pub mod RowTexts
 pub mod Rows
+pub mod TokenFaults
 pub mod TypeSteps

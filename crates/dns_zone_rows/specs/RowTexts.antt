@@ -1,9 +1,9 @@
 -- What errors say of each field of each type of record: its name, and a text for each thing that may be wrong with its token.
-use Rattle.std.specs.Prelude.{ℕ, List, [], ◌∷◌, ◌++◌, map, codes, Option, Some, None}
+use Rattle.std.specs.Prelude.{◌≡◌, ◌<◌, ℕ, suc, length, slice_get, List, [], ◌∷◌, ◌++◌, map, codes, Option, Some, None}
 use Rattle.dns_types.specs.declared.record_type.RecordType.{RecordType}
 use Rattle.dns_types.specs.declared.record_type.RecordType.TheVariants as types
 use Rattle.dns_zone_words.specs.FieldTexts.{field_texts, string_texts, name_texts, hex_texts, number_called, ttl_called, address_called}
-use Rattle.dns_zone_words.specs.FieldTexts.{text_called, string_called, name_called, hex_called, named}
+use Rattle.dns_zone_words.specs.FieldTexts.{text_called, string_called, name_called, base64_called, hex_called, named}
 use Rattle.dns_zone_rows.specs.{declared.row.ZoneField.ZoneField, declared.row.ZoneRest.ZoneRest, declared.row.ZoneRow.ZoneRow}
 use Rattle.dns_zone_rows.specs.declared.row.ZoneField.TheVariants as field
 use Rattle.dns_zone_rows.specs.declared.row.ZoneRest.TheVariants as rest
@@ -37,14 +37,22 @@ texts_of_rest rest.Parameters = []
 abbrev pub row_texts : ZoneRow → List (List (List ℕ))
 row_texts row = map texts_of_field row.fields.now ++ texts_of_rest row.rest ∷ []
 
+-- the text is the first of these
+abbrev pub IsFirstOf : List ℕ → List (List ℕ) → Type 0
+IsFirstOf text [] = ⊥
+IsFirstOf text (first ∷ others) = text ≡ first
+
+-- the row's field with this index, of those that are one token, has this name, which is the first of its texts
+pub record HasFieldAt (row : ZoneRow) (name : List ℕ) (index : ℕ) : Type 0 where
+  pub field : ZoneField
+  pub at : slice_get row.fields.now index ≡ Some field
+  pub named : IsFirstOf name (texts_of_field field)
+
 -- ---- the table
 
 -- a token after the last field
 abbrev pub no_more : List (List ℕ)
 no_more = codes "surplus word behind the record data" ∷ []
-
-abbrev pub base64_called : List ℕ → List (List ℕ)
-base64_called name = name ∷ (codes "Invalid base64 " ++ name) ∷ []
 
 abbrev pub digits_called : List ℕ → List (List ℕ)
 digits_called name = name ∷ hex_called name
@@ -125,3 +133,12 @@ texts_of types.SVCB = Some service_texts
 texts_of types.TLSA = Some certificate_texts
 texts_of types.TXT = Some (string_called (codes "TXT data") ∷ [])
 texts_of record_type = None
+
+-- The type's field with this index, of those that are one token, has this name. The last texts of a type are those of the rest.
+pub record IsFieldOf (t : RecordType) (name : List ℕ) (index : ℕ) : Type 0 where
+  pub texts : List (List (List ℕ))
+  pub of_type : texts_of t ≡ Some texts
+  pub field : List (List ℕ)
+  pub at : slice_get texts index ≡ Some field
+  pub before_rest : suc index < length texts
+  pub named : IsFirstOf name field

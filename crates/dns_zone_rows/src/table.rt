@@ -7,9 +7,10 @@ ghost use Rattle.dns_zone_rows.specs.RowTexts.{no_more, row_texts, texts_of, tex
 
 use crate::row::{ZoneField, ZoneRest, ZoneRow};
 use dns_types::RecordType;
-use dns_words::{base64_field, number_field, time_field};
+use dns_words::{number_field, time_field};
 use dns_zone_words::{
-    Field, HexField, StringField, address_field, hex_field, name_field, string_field, text_field,
+    Field, HexField, StringField, address_field, base64_field, hex_field, name_field, string_field,
+    text_field,
 };
 
 const SURPLUS: &str = "surplus word behind the record data";

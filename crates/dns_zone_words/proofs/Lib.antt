@@ -6,4 +6,5 @@ pub mod NamePuts
 pub mod QuietSteps
 pub mod RemainingSteps
 pub mod TextSteps
+pub mod SpanSteps
 pub mod WordSteps

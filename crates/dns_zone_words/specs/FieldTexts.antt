@@ -60,10 +60,14 @@ name_called name =
     ∷ in_token (codes "domain name past 255 octets in ") name
     ∷ []
 
--- digits to the end of the record, in one token or more
+-- base64 to the end of the record, in one token or more
+abbrev pub base64_called : List ℕ → List (List ℕ)
+base64_called name = named name (codes "Invalid base64 in ")
+
+-- hexadecimal digits to the end of the record, in one token or more
 abbrev pub hex_called : List ℕ → List (List ℕ)
 hex_called name =
-    (codes "hexadecimal digits in quotes in " ++ name)
-    ∷ (codes "odd number of hexadecimal digits in " ++ name)
-    ∷ (codes "Invalid hexadecimal digit found in " ++ name)
+    in_token (codes "hexadecimal digits in quotes in ") name
+    ∷ in_token (codes "odd number of hexadecimal digits in ") name
+    ∷ in_token (codes "Invalid hexadecimal digit found in ") name
     ∷ []

@@ -7,6 +7,7 @@ pub mod NameWords
 pub mod Quiet
 pub mod Refusals
 pub mod Remaining
+pub mod Spans
 pub mod TypeNames
 pub mod Views
 pub mod WordSteps

@@ -1,4 +1,7 @@
-//! What refusals say of a field's word.
+//! What errors say of a field's token.
+//!
+//! Each text about a token ends with ` in `, the field's name and ` token`. So
+//! [`ParseError::field`](dns_types::ParseError::field) returns the name.
 
 /// A field that is a character string, as refusals of its words name it. All texts are static, so a refusal takes no
 /// memory.
@@ -86,9 +89,20 @@ macro_rules! name_field {
 macro_rules! hex_field {
     ($name:literal) => {
         $crate::HexField {
-            quoted: concat!("hexadecimal digits in quotes in ", $name),
-            odd: concat!("odd number of hexadecimal digits in ", $name),
-            digit: concat!("Invalid hexadecimal digit found in ", $name),
+            quoted: concat!("hexadecimal digits in quotes in ", $name, " token"),
+            odd: concat!("odd number of hexadecimal digits in ", $name, " token"),
+            digit: concat!("Invalid hexadecimal digit found in ", $name, " token"),
+        }
+    };
+}
+
+// Which field base64 is of.
+#[macro_export]
+macro_rules! base64_field {
+    ($name:literal) => {
+        $crate::Field {
+            name: $name,
+            wrong: concat!("Invalid base64 in ", $name, " token"),
         }
     };
 }

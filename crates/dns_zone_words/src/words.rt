@@ -1,7 +1,7 @@
 //! Words of a text of a zone file (RFC 1035, 5.1).
 
-ghost use Rattle.std.specs.Prelude.{◌≡◌, ℕ, ◌<◌, ◌≤◌, false, true, [], length, slice_index, Ok, Err, IfSome, IfNone, IfOk, IfErr, OnOk, OnErr};
-ghost use Rattle.dns_zone_words.specs.{Quiet.IsQuiet, Views.word_value};
+ghost use Rattle.std.specs.Prelude.{◌≡◌, ℕ, ◌<◌, ◌≤◌, ◌∷◌, false, true, [], length, slice_index, Ok, Err, IfSome, IfNone, IfOk, IfErr, OnOk, OnErr};
+ghost use Rattle.dns_zone_words.specs.{Quiet.IsQuiet, Spans.lefts_at, Spans.lefts_from, Views.word_value};
 ghost use Rattle.dns_zone_words.specs.Words.{is_blank, is_line_end, begins_gap, ends_run, between, comment, over, over_comment, words_from, words_at};
 ghost use Rattle.dns_zone_words.specs.Words.{with_word, zone_words};
 ghost use Rattle.dns_zone_words.specs.WordSteps.{NoGap, RunTaken, QuotesTaken, QuotesRefused};
@@ -67,6 +67,7 @@ impl<'a> ZoneWords<'a> {
     pub fn new(text: &'a [u8]) -> ZoneWords<'a>
         ensures words { words_at result ≡ zone_words text.now }
         ensures text { result.text ≡ text.now }
+        ensures left { lefts_at result ≡ lefts_from (between 0 false) text.now }
     {
         ZoneWords {
             rest: text,
@@ -100,6 +101,28 @@ impl<'a> ZoneWords<'a> {
         Ok(Some(word))
     }
 
+    /// Takes the next token, and returns how many octets of the text are left where it starts, its opening quote included,
+    /// and how many are left after it. `None` if no token is left, or if the text is not cut into tokens from here on.
+    pub fn next_left(&mut self) -> Option<(usize, usize)>
+        ensures some { IfSome result (λ left. lefts_at self.old ≡ left ∷ lefts_at self.new) }
+        ensures none { IfNone result (lefts_at self.old ≡ []) }
+        ensures within { IfSome result (λ left. left.0 ≤ length self.old.text) }
+        ensures after { IfSome result (λ left. left.1 ≤ left.0) }
+        ensures shorter { length self.new.text ≤ length self.old.text }
+    {
+        let at = self.again().skip_gaps().ok()?;
+        let left = at.rest.len();
+        if left == 0 {
+            return None;
+        }
+        let depth = at.depth;
+        let (_, rest) = at.first_word().ok()?;
+        self.rest = rest;
+        self.depth = depth;
+        self.joined = true;
+        Some((left, rest.len()))
+    }
+
     /// Another one, from the same place on.
     #[inline]
     pub fn again(&self) -> ZoneWords<'a>
@@ -123,6 +146,8 @@ impl<'a> ZoneWords<'a> {
     // The words that are left, from the first octet of the next one on.
     fn skip_gaps(self) -> Result<ZoneWords<'a>, WordsError>
         ensures same { IfOk result (λ w. words_at w ≡ words_at self.entry) }
+        ensures same_left { IfOk result (λ w. lefts_at w ≡ lefts_at self.entry) }
+        ensures none_left { OnErr result (lefts_at self.entry ≡ []) }
         ensures at { IfOk result (λ w. NoGap w.text) }
         ensures shorter { IfOk result (λ w. length w.text ≤ length self.entry.text) }
         ensures refused { IfErr result (λ e. words_at self.entry ≡ Err e) }
@@ -162,8 +187,10 @@ impl<'a> ZoneWords<'a> {
         requires some { 0 < length self.text }
         requires no_gap { NoGap self.text }
         ensures word { IfOk result (λ r. words_at self.entry ≡ with_word (word_value r.0) (words_from (between self.entry.depth true) r.1.now)) }
+        ensures left { IfOk result (λ r. lefts_at self.entry ≡ (length self.entry.text, length r.1.now) ∷ lefts_from (between self.entry.depth true) r.1.now) }
         ensures shorter { IfOk result (λ r. length r.1.now < length self.entry.text) }
         ensures refused { IfErr result (λ e. words_at self.entry ≡ Err e) }
+        ensures none_left { OnErr result (lefts_at self.entry ≡ []) }
     {
         let rest = self.rest;
         if rest[0] == b'"' {
@@ -219,6 +246,7 @@ fn ends_run(octet: u8) -> bool
 #[inline]
 fn behind_comment(text: &[u8]) -> &[u8]
     ensures within { (depth : ℕ) → words_from (comment depth) text.now ≡ words_from (between depth false) result.now }
+    ensures left { (depth : ℕ) → lefts_from (comment depth) text.now ≡ lefts_from (between depth false) result.now }
     ensures over { words_from over_comment text.now ≡ words_from over result.now }
     ensures shorter { length result.now ≤ length text.now }
 {
@@ -291,6 +319,7 @@ fn quiet_behind_escape(text: &[u8]) -> usize
 // Behind the line: only blanks, line ends and comments are left.
 fn line_is_over(text: &[u8]) -> Result<(), WordsError>
     ensures ok { OnOk result (words_from over text.now ≡ Ok []) }
+    ensures none_left { lefts_from over text.now ≡ [] }
     ensures refused { IfErr result (λ e. words_from over text.now ≡ Err e) }
 {
     let mut rest = text;

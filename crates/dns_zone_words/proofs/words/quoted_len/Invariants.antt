@@ -1,5 +1,5 @@
 use Rattle.std.proofs.Common.{◌≡◌, ℕ, Bool, [], length, take, drop, ◌-◌, ◌≤◌}
-use Rattle.dns_zone_words.specs.Words.{quotes, words_from}
+use Rattle.dns_zone_words.specs.{Spans.lefts_from, Words.quotes, Words.words_from}
 use Rattle.dns_zone_words.proofs.words.quoted_len.Given as goal
 
 -- the word is what was passed so far, and goes on
@@ -7,6 +7,7 @@ abbrev pub invariant-octets : goal.invariant-octets
 invariant-octets l = record {
   within : l.at ≤ length l.text;
   so : (depth : ℕ) (joined : Bool) → words_from (quotes depth joined []) l.text ≡ words_from (quotes depth joined (take l.at l.text)) (drop l.at l.text);
+  left : (depth : ℕ) (joined : Bool) → lefts_from (quotes depth joined []) l.text ≡ lefts_from (quotes depth joined (take l.at l.text)) (drop l.at l.text);
 }
 
 abbrev pub decreases-octets : goal.decreases-octets
